@@ -1,0 +1,8 @@
+-- `crossings::settle` meets its contract. Assumes nothing.
+use Rattle.crossings.specs.Cross.{settleOf}
+use Rattle.crossings.proofs.settle.Statement.{statement}
+use Rattle.crossings.proofs.settle.Tie as tie
+
+pub settle-spec : {M : Type 1} → statement M
+unfolding settleOf
+settle-spec = tie.close (tie.spec (λ c κs. tt) (λ c κs. tt) (λ c κs. tt) (λ c κs. tt) (λ c κs. tt) (λ c κs. tt) (λ c κs. tt) (λ c κs. tt) (λ c κs. tt) (λ c κs. tt) (λ c. cc))

@@ -1,0 +1,105 @@
+-- Where a line and a ray cross the box.
+use mathlib.Core.Bool.{Bool, true, false, cond, _&&_}
+use lib.Ieee.{Float, lt, le, eq}
+use Prim.Native.Nat.{ℕ}
+use Rattle.root.specs.Root.{magnitude, signum}
+use Rattle.laws.specs.Binary64.{_⊞_, _⊟_, _⊠_, _⊘_, zero, eps}
+use Rattle.utils.specs.Plane.{at}
+use Rattle.utils.specs.declared.Point.{Point}
+use Rattle.bounding_box.specs.declared.BoundingBox.{BoundingBox}
+use Rattle.crossings.specs.declared.Crossing.{Crossing}
+use Rattle.crossings.specs.declared.Crossing.the-variants.{None, One, Two}
+
+-- a point if the test holds
+abbrev pub oneIf : Bool → Float → Float → Crossing
+oneIf t x y = cond t (One x y) None
+
+abbrev pub some : Crossing → Bool
+some None = false
+some (One x y) = true
+some (Two x y u v) = true
+
+-- Option's `or`
+abbrev pub orOf : Crossing → Crossing → Crossing
+orOf None b = b
+orOf (One x y) b = One x y
+orOf (Two x y u v) b = Two x y u v
+
+-- the pair of two optional points
+abbrev pub afterOne : Float → Float → Crossing → Crossing
+afterOne x y None = One x y
+afterOne x y (One u v) = Two x y u v
+afterOne x y (Two u v w z) = Two u v w z
+
+abbrev pub joinOf : Crossing → Crossing → Crossing
+joinOf None b = b
+joinOf (One x y) b = afterOne x y b
+joinOf (Two x y u v) b = Two x y u v
+
+-- the four sides' points, each if there is one: right f, left g, top h, bottom i
+unfoldable pub rightHit : BoundingBox → Float → Float → Float → Crossing
+rightHit b cx c d = oneIf (lt eps (magnitude cx) && (le (b .top) (b .right ⊠ c ⊞ d) && le (b .right ⊠ c ⊞ d) (b .bottom))) (b .right) (b .right ⊠ c ⊞ d)
+
+unfoldable pub leftHit : BoundingBox → Float → Float → Float → Crossing
+leftHit b cx c d = oneIf (lt eps (magnitude cx) && (le (b .top) (b .left ⊠ c ⊞ d) && le (b .left ⊠ c ⊞ d) (b .bottom))) (b .left) (b .left ⊠ c ⊞ d)
+
+unfoldable pub topHit : BoundingBox → Float → Float → Float → Crossing
+topHit b cy c d = oneIf (lt eps (magnitude cy) && (le ((b .top ⊟ d) ⊘ c) (b .right) && le (b .left) ((b .top ⊟ d) ⊘ c))) ((b .top ⊟ d) ⊘ c) (b .top)
+
+unfoldable pub bottomHit : BoundingBox → Float → Float → Float → Crossing
+bottomHit b cy c d = oneIf (lt eps (magnitude cy) && (le ((b .bottom ⊟ d) ⊘ c) (b .right) && le (b .left) ((b .bottom ⊟ d) ⊘ c))) ((b .bottom ⊟ d) ⊘ c) (b .bottom)
+
+-- a line parallel to y
+unfoldable pub uprightHit : BoundingBox → Float → Crossing
+uprightHit b x = cond (le x (b .right) && le (b .left) x) (Two x (b .top) x (b .bottom)) None
+
+-- what is answered of the four, whether the line is upright, and what it then is
+unfoldable pub settleOf : Crossing → Crossing → Bool → Crossing → Crossing → Crossing → Crossing
+settleOf f g up u h i = cond (some f && some g) (joinOf f g) (cond up u (cond (some h && some i) (joinOf h i) (joinOf (orOf f g) (orOf h i))))
+
+abbrev pub lineBy : BoundingBox → Point → Float → Float → Float → Float → Crossing
+lineBy b p cx cy c d = settleOf (rightHit b cx c d) (leftHit b cx c d) (lt eps (magnitude cy) && lt (magnitude cx) eps) (uprightHit b (p .x)) (topHit b cy c d) (bottomHit b cy c d)
+
+abbrev pub lineOff : BoundingBox → Point → Float → Float → Float → Crossing
+lineOff b p cx cy c = lineBy b p cx cy c (p .y ⊟ p .x ⊠ c)
+
+unfoldable pub lineOf : BoundingBox → Point → Point → Crossing
+lineOf b p q = lineOff b p (q .x ⊟ p .x) (q .y ⊟ p .y) ((q .y ⊟ p .y) ⊘ (q .x ⊟ p .x))
+
+-- the two points in the order of the ray, those that lie behind its start left out
+abbrev pub orderPick : Bool → Bool → Bool → Float → Float → Float → Float → Crossing
+orderPick a b near x y u v = cond a (cond b (cond near (Two u v x y) (Two x y u v)) (One x y)) (cond b (One u v) None)
+
+unfoldable pub orderBy : Float → Float → Float → Float → Float → Float → Float → Crossing
+orderBy d da db x y u v = orderPick (eq (signum d) (signum da)) (eq (signum d) (signum db)) (lt (magnitude db) (magnitude da)) x y u v
+
+unfoldable pub orderOne : Point → Float → Float → Crossing
+orderOne dir x y = oneIf (eq (signum (dir .x)) (signum x) && eq (signum (dir .y)) (signum y)) x y
+
+unfoldable pub orderTwo : Point → Point → Float → Float → Float → Float → Crossing
+orderTwo p dir x y u v =
+    cond (lt (magnitude (dir .y)) (magnitude (dir .x)))
+    (orderBy (dir .x) (x ⊟ p .x) (u ⊟ p .x) x y u v)
+    (orderBy (dir .y) (y ⊟ p .y) (v ⊟ p .y) x y u v)
+
+abbrev pub orderOf : Point → Point → Crossing → Crossing
+orderOf p dir None = None
+orderOf p dir (One x y) = orderOne dir x y
+orderOf p dir (Two x y u v) = orderTwo p dir x y u v
+
+unfoldable pub rayOf : BoundingBox → Point → Point → Crossing
+rayOf b p dir = orderOf p dir (lineOf b p (at (p .x ⊞ dir .x) (p .y ⊞ dir .y)))
+
+-- the outcome as numbers
+abbrev pub countOf : Crossing → ℕ
+countOf None = 0
+countOf (One x y) = 1
+countOf (Two x y u v) = 2
+
+unfoldable pub pick4Of : Bool → Bool → Float → Float → Float → Float → Float
+pick4Of a b x y u v = cond b (cond a v u) (cond a y x)
+
+abbrev pub valueOf : Crossing → Bool → Bool → Float
+valueOf None a b = zero
+valueOf (One x y) a b = pick4Of a b x y zero zero
+valueOf (Two x y u v) a b = pick4Of a b x y u v

@@ -1,0 +1,322 @@
+// bounding_box.rs, the crossings: where a line or a ray crosses the box.
+use bounding_box::BoundingBox;
+use bounding_box::box_ok;
+use utils::Point;
+use utils::site_ok;
+ghost use mathlib.Core.Path.{_≡_};
+ghost use mathlib.Core.Bool.{Bool, cond, _&&_};
+ghost use Rattle.crossings.specs.Cross.{oneIf, some, orOf, afterOne, joinOf, lineBy, settleOf, rightHit, leftHit, topHit, bottomHit, uprightHit, lineOf, orderPick, orderBy, orderTwo, orderOne, orderOf, rayOf, countOf, pick4Of, valueOf};
+ghost use Rattle.crossings.specs.Rules.{rayAnswer};
+
+const EPS: f64 = 8.881784197001252e-16;
+
+pub enum Crossing {
+    None,
+    One(f64, f64),
+    Two(f64, f64, f64, f64),
+}
+
+fn one_if(t: bool, x: f64, y: f64) -> Crossing
+    ensures { λ r. ⌜ r ≡ oneIf t x y ⌝ }
+{
+    if t {
+        Crossing::One(x, y)
+    } else {
+        Crossing::None
+    }
+}
+
+fn right_hit(b: BoundingBox, cx: f64, c: f64, d: f64) -> Crossing
+    ensures { λ r. ⌜ r ≡ rightHit b cx c d ⌝ }
+{
+    let y = b.right * c + d;
+    one_if(
+        (root::magnitude(cx) > EPS) & ((y >= b.top) & (y <= b.bottom)),
+        b.right,
+        y,
+    )
+}
+
+fn left_hit(b: BoundingBox, cx: f64, c: f64, d: f64) -> Crossing
+    ensures { λ r. ⌜ r ≡ leftHit b cx c d ⌝ }
+{
+    let y = b.left * c + d;
+    one_if(
+        (root::magnitude(cx) > EPS) & ((y >= b.top) & (y <= b.bottom)),
+        b.left,
+        y,
+    )
+}
+
+fn top_hit(b: BoundingBox, cy: f64, c: f64, d: f64) -> Crossing
+    ensures { λ r. ⌜ r ≡ topHit b cy c d ⌝ }
+{
+    let x = (b.top - d) / c;
+    one_if(
+        (root::magnitude(cy) > EPS) & ((x <= b.right) & (x >= b.left)),
+        x,
+        b.top,
+    )
+}
+
+fn bottom_hit(b: BoundingBox, cy: f64, c: f64, d: f64) -> Crossing
+    ensures { λ r. ⌜ r ≡ bottomHit b cy c d ⌝ }
+{
+    let x = (b.bottom - d) / c;
+    one_if(
+        (root::magnitude(cy) > EPS) & ((x <= b.right) & (x >= b.left)),
+        x,
+        b.bottom,
+    )
+}
+
+fn two_if(t: bool, x: f64, y: f64, u: f64, v: f64) -> Crossing
+    ensures { λ r. ⌜ r ≡ cond t (Crossing.Two x y u v) Crossing.None ⌝ }
+{
+    if t {
+        Crossing::Two(x, y, u, v)
+    } else {
+        Crossing::None
+    }
+}
+
+fn upright_hit(b: BoundingBox, x: f64) -> Crossing
+    ensures { λ r. ⌜ r ≡ uprightHit b x ⌝ }
+{
+    two_if((x <= b.right) & (x >= b.left), x, b.top, x, b.bottom)
+}
+
+// The second of two optional points that is there, after one that is.
+fn after_one(x: f64, y: f64, b: Crossing) -> Crossing
+    ensures { λ r. ⌜ r ≡ afterOne x y b ⌝ }
+{
+    match b {
+        Crossing::None => Crossing::One(x, y),
+        Crossing::One(u, v) => Crossing::Two(x, y, u, v),
+        Crossing::Two(_, _, _, _) => b,
+    }
+}
+
+fn pair(a: Crossing, b: Crossing) -> Crossing
+    ensures { λ r. ⌜ r ≡ joinOf a b ⌝ }
+{
+    match a {
+        Crossing::None => b,
+        Crossing::One(x, y) => after_one(x, y, b),
+        Crossing::Two(_, _, _, _) => a,
+    }
+}
+
+fn or_else(a: Crossing, b: Crossing) -> Crossing
+    ensures { λ r. ⌜ r ≡ orOf a b ⌝ }
+{
+    match a {
+        Crossing::None => b,
+        Crossing::One(_, _) => a,
+        Crossing::Two(_, _, _, _) => a,
+    }
+}
+
+fn is_some(a: Crossing) -> bool
+    ensures { λ r. ⌜ r ≡ some a ⌝ }
+{
+    match a {
+        Crossing::None => false,
+        Crossing::One(_, _) => true,
+        Crossing::Two(_, _, _, _) => true,
+    }
+}
+
+fn choose(c: bool, a: Crossing, b: Crossing) -> Crossing
+    ensures { λ r. ⌜ r ≡ cond c a b ⌝ }
+{
+    if c { a } else { b }
+}
+
+// The value of the first test that holds, and the last one where none does.
+fn first_held(
+    a: bool,
+    x: Crossing,
+    b: bool,
+    y: Crossing,
+    c: bool,
+    z: Crossing,
+    w: Crossing,
+) -> Crossing
+    ensures { λ r. ⌜ r ≡ cond a x (cond b y (cond c z w)) ⌝ }
+{
+    if a {
+        x
+    } else if b {
+        y
+    } else if c {
+        z
+    } else {
+        w
+    }
+}
+
+fn settle(f: Crossing, g: Crossing, up: bool, u: Crossing, h: Crossing, i: Crossing) -> Crossing
+    ensures { λ r. ⌜ r ≡ settleOf f g up u h i ⌝ }
+{
+    first_held(
+        is_some(f) & is_some(g),
+        pair(f, g),
+        up,
+        u,
+        is_some(h) & is_some(i),
+        pair(h, i),
+        pair(or_else(f, g), or_else(h, i)),
+    )
+}
+
+pub fn intersect_line(b: BoundingBox, p: Point, q: Point) -> Crossing
+    ensures { λ r. ⌜ r ≡ lineOf b p q ⌝ }
+{
+    let cx = q.x - p.x;
+    let cy = q.y - p.y;
+    let c = cy / cx;
+    let d = p.y - p.x * c;
+    settle(
+        right_hit(b, cx, c, d),
+        left_hit(b, cx, c, d),
+        (root::magnitude(cy) > EPS) & (root::magnitude(cx) < EPS),
+        upright_hit(b, p.x),
+        top_hit(b, cy, c, d),
+        bottom_hit(b, cy, c, d),
+    )
+}
+
+fn order_pick(a: bool, b: bool, near: bool, x: f64, y: f64, u: f64, v: f64) -> Crossing
+    ensures { λ r. ⌜ r ≡ orderPick a b near x y u v ⌝ }
+{
+    if a {
+        if b {
+            if near {
+                Crossing::Two(u, v, x, y)
+            } else {
+                Crossing::Two(x, y, u, v)
+            }
+        } else {
+            Crossing::One(x, y)
+        }
+    } else if b {
+        Crossing::One(u, v)
+    } else {
+        Crossing::None
+    }
+}
+
+fn order_by(d: f64, da: f64, db: f64, x: f64, y: f64, u: f64, v: f64) -> Crossing
+    ensures { λ r. ⌜ r ≡ orderBy d da db x y u v ⌝ }
+{
+    let s = root::signum(d);
+    order_pick(
+        s == root::signum(da),
+        s == root::signum(db),
+        root::magnitude(da) > root::magnitude(db),
+        x,
+        y,
+        u,
+        v,
+    )
+}
+
+fn order_two(p: Point, dir: Point, x: f64, y: f64, u: f64, v: f64) -> Crossing
+    ensures { λ r. ⌜ r ≡ orderTwo p dir x y u v ⌝ }
+{
+    choose(
+        root::magnitude(dir.x) > root::magnitude(dir.y),
+        order_by(dir.x, x - p.x, u - p.x, x, y, u, v),
+        order_by(dir.y, y - p.y, v - p.y, x, y, u, v),
+    )
+}
+
+fn order_one(dir: Point, x: f64, y: f64) -> Crossing
+    ensures { λ r. ⌜ r ≡ orderOne dir x y ⌝ }
+{
+    one_if(
+        (root::signum(dir.x) == root::signum(x)) & (root::signum(dir.y) == root::signum(y)),
+        x,
+        y,
+    )
+}
+
+pub fn order_points_on_ray(p: Point, dir: Point, c: Crossing) -> Crossing
+    ensures { λ r. ⌜ r ≡ orderOf p dir c ⌝ }
+{
+    match c {
+        Crossing::None => Crossing::None,
+        Crossing::One(x, y) => order_one(dir, x, y),
+        Crossing::Two(x, y, u, v) => order_two(p, dir, x, y, u, v),
+    }
+}
+
+pub fn project_ray(b: BoundingBox, p: Point, dir: Point) -> Crossing
+    ensures { λ r. ⌜ r ≡ rayOf b p dir ⌝ }
+{
+    let q = Point {
+        x: p.x + dir.x,
+        y: p.y + dir.y,
+    };
+    order_points_on_ray(p, dir, intersect_line(b, p, q))
+}
+
+fn pick4(a: bool, b: bool, x: f64, y: f64, u: f64, v: f64) -> f64
+    ensures { λ r. ⌜ r ≡ pick4Of a b x y u v ⌝ }
+{
+    if b {
+        if a { v } else { u }
+    } else if a {
+        y
+    } else {
+        x
+    }
+}
+
+fn count_of(c: Crossing) -> u32
+    ensures { λ r. ⌜ r ≡ countOf c ⌝ }
+{
+    match c {
+        Crossing::None => 0,
+        Crossing::One(_, _) => 1,
+        Crossing::Two(_, _, _, _) => 2,
+    }
+}
+
+fn value_of(c: Crossing, a: bool, b: bool) -> f64
+    ensures { λ r. ⌜ r ≡ valueOf c a b ⌝ }
+{
+    match c {
+        Crossing::None => 0.0,
+        Crossing::One(x, y) => pick4(a, b, x, y, 0.0, 0.0),
+        Crossing::Two(x, y, u, v) => pick4(a, b, x, y, u, v),
+    }
+}
+
+// What a ray from p in the direction dir meets; refused 3 for the box, 6 for p or dir.
+pub enum Ray {
+    Refused(u32),
+    Met(Crossing),
+}
+
+fn ray_answer(b: bool, p: bool, c: Crossing) -> Ray
+    ensures { λ r. ⌜ r ≡ cond b (cond p (Ray.Met c) (Ray.Refused 6)) (Ray.Refused 3) ⌝ }
+{
+    if b {
+        if p { Ray::Met(c) } else { Ray::Refused(6) }
+    } else {
+        Ray::Refused(3)
+    }
+}
+
+pub fn meet(c: Point, width: f64, height: f64, p: Point, dir: Point) -> Ray
+    ensures { λ r. ⌜ r ≡ rayAnswer c width height p dir ⌝ }
+{
+    let b = bounding_box::new(c, width, height);
+    ray_answer(
+        box_ok(c, width, height),
+        site_ok(p) & site_ok(dir),
+        project_ray(b, p, dir),
+    )
+}

@@ -1,0 +1,1 @@
+// iterator.rs: walks, neighbours and paths over the lent slices.

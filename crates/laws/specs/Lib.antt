@@ -1,0 +1,4 @@
+pub mod Pick
+pub mod Decide
+pub mod Count
+pub mod Binary64

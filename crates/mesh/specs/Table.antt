@@ -1,0 +1,115 @@
+-- What the leftmost table holds.
+use mathlib.Core.Path.{_≡_, refl, sym, ap, _∙_, subst}
+use mathlib.Core.List.{List, [], _∷_, _++_}
+use mathlib.Core.Bool.{Bool, true, false}
+use mathlib.Core.Logic.{_⊎_, inl, inr, ⊎-elim, _≢_}
+use Prim.Native.Nat.{ℕ, zero, suc, _+_, _-_, _%_, _≤_, _<_}
+use native.Mathlib.Nat.{le-antisymm}
+use native.Mathlib.Omega.{arith}
+use lib.Dec.{eqb}
+use lib.ListN.{length, getD, set, replicate, length-set, length-replicate, getD-replicate}
+use lib.Seq.{getD-set-same, getD-set-other}
+use borrow.Author.Tests.{eqb-true, eqb-false, eq-eqb, ne-eqb}
+use Rattle.laws.specs.Pick.{pick}
+use Rattle.laws.specs.Decide.{lt-or-ge, eq-or-ne}
+use Rattle.mesh.specs.Mesh.{EMPTY, nextOf, endOf, pairOf, chosen, tableTo, Leftmost}
+
+module _ (tri he : List ℕ) (n s r : ℕ) (small : n < EMPTY) (g : Leftmost tri he n s r) where
+  -- half-edge n ends elsewhere
+  skip : endOf tri n ≢ s → Leftmost tri he (suc n) s r
+  skip h = record {
+    none = λ q e l p. ⊎-elim (λ u. h (rw (← u) p)) (λ u. g .none q e (omega arith) p) (eq-or-ne e n);
+    some = λ q. let p = g .some q in (omega arith, p .1);
+    last = λ e l p u. ⊎-elim (λ w. absurd (h (rw (← w) p))) (λ w. g .last e (omega arith) p u) (eq-or-ne e n);
+    lowest = λ q e l p. ⊎-elim (λ w. absurd (h (rw (← w) p))) (λ w. g .lowest q e (omega arith) p) (eq-or-ne e n);
+  }
+
+  -- it is taken: the first, or an unpaired one
+  take-it : endOf tri n ≡ s → (r ≡ EMPTY) ⊎ (pairOf he n ≡ EMPTY) → Leftmost tri he (suc n) s n
+  take-it h why = record {
+    none = λ q. absurd (omega arith);
+    some = λ _. (omega arith, h);
+    last = λ e l p u. (
+      omega arith,
+      ⊎-elim (λ z. ⊎-elim (λ w. rw (← w) u) (λ w. absurd (g .none z e (omega arith) p)) (eq-or-ne e n)) (λ z. z) why,
+    );
+    lowest = λ q e l p.
+        ⊎-elim (λ w. omega arith) (λ w. ⊎-elim (λ z. absurd (g .none z e (omega arith) p)) (λ z. absurd (q z)) why) (eq-or-ne e n);
+  }
+
+  -- it is left
+  leave : endOf tri n ≡ s → r ≢ EMPTY → pairOf he n ≢ EMPTY → Leftmost tri he (suc n) s r
+  leave h q u = record {
+    none = λ z. absurd (q z);
+    some = λ _. let p = g .some q in (omega arith, p .1);
+    last = λ e l p w. ⊎-elim (λ z. absurd (u (rw (← z) w))) (λ z. g .last e (omega arith) p w) (eq-or-ne e n);
+    lowest = λ z e l p. ⊎-elim (λ w. omega (arith, g .some q .0)) (λ w. g .lowest z e (omega arith) p) (eq-or-ne e n);
+  }
+
+chosen-cases : (old p e : ℕ) → (((old ≡ EMPTY) ⊎ (p ≡ EMPTY)) × (chosen old p e ≡ e)) ⊎ ((old ≢ EMPTY) × (p ≢ EMPTY) × (chosen old p e ≡ old))
+unfolding chosen
+chosen-cases old p e =
+    ⊎-elim
+    (λ h. inl (inl h, rw (eq-eqb old EMPTY h)))
+    (λ h. ⊎-elim
+    (λ k. inl (inr k, rw (ne-eqb old EMPTY h, eq-eqb p EMPTY k)))
+    (λ k. inr (h, k, rw (ne-eqb old EMPTY h, ne-eqb p EMPTY k)))
+    (eq-or-ne p EMPTY))
+    (eq-or-ne old EMPTY)
+
+pub table-length : (tri he : List ℕ) (w n : ℕ) → length (tableTo tri he w n) ≡ w
+unfolding tableTo
+table-length tri he w zero = length-replicate w EMPTY
+table-length tri he w (suc n) = length-set (tableTo tri he w n) _ _ ∙ table-length tri he w n
+
+module _ (tri he : List ℕ) (w n s : ℕ) where
+  table-none : s < w → getD (tableTo tri he w 0) s 0 ≡ EMPTY
+  unfolding tableTo
+  table-none l = getD-replicate w s EMPTY 0 l
+
+  table-same : endOf tri n ≡ s → s < w → getD (tableTo tri he w (suc n)) s 0 ≡ chosen (getD (tableTo tri he w n) s 0) (pairOf he n) n
+  unfolding tableTo
+  table-same q l =
+      let t = tableTo tri he w n in
+      subst (λ k. getD (set t k (chosen (getD t k 0) (pairOf he n) n)) s 0 ≡ chosen (getD t s 0) (pairOf he n) n) (sym q) (getD-set-same t s _ 0 (rw (table-length tri he w n) l))
+
+  table-other : endOf tri n ≢ s → getD (tableTo tri he w (suc n)) s 0 ≡ getD (tableTo tri he w n) s 0
+  unfolding tableTo
+  table-other q = getD-set-other (tableTo tri he w n) (endOf tri n) s _ 0 (λ z. q (sym z))
+
+-- 01's leftmost half-edge
+pub table-leftmost : (tri he : List ℕ) (w n s : ℕ) → n ≤ EMPTY → ((e : ℕ) → e < n → endOf tri e < w) → s < w → Leftmost tri he n s (getD (tableTo tri he w n) s 0)
+table-leftmost tri he w zero s small sites l =
+    rw (table-none tri he w 0 s l) (record { none = λ q e h. absurd (omega arith); some = λ q. absurd (q refl); last = λ e h. absurd (omega arith); lowest = λ q e h. absurd (omega arith) })
+table-leftmost tri he w (suc n) s small sites l =
+    let r = getD (tableTo tri he w n) s 0 in
+    let g = table-leftmost tri he w n s (omega arith) (λ e h. sites e (omega arith)) l in
+    ⊎-elim
+    (λ q. rw (table-same tri he w n s q l) (⊎-elim
+    (λ c. rw (c .1) (take-it tri he n s r (omega arith) g q (c .0)))
+    (λ c. rw (c .2) (leave tri he n s r (omega arith) g q (c .0) (c .1)))
+    (chosen-cases r (pairOf he n) n)))
+    (λ q. rw (table-other tri he w n s q) (skip tri he n s r (omega arith) g q))
+    (eq-or-ne (endOf tri n) s)
+
+-- the same in 01's words, of a site: the unpaired half-edge if there is one alone, else the lowest, else EMPTY
+module _ (tri he : List ℕ) (n s r : ℕ) (g : Leftmost tri he n s r) where
+  pub the-unpaired : (e : ℕ) → e < n → endOf tri e ≡ s → pairOf he e ≡ EMPTY → ((k : ℕ) → k < n → endOf tri k ≡ s → pairOf he k ≡ EMPTY → k ≡ e) → n < EMPTY → r ≡ e
+  the-unpaired e l h u one small =
+      ⊎-elim
+      (λ q. absurd (g .none q e l h))
+      (λ q. one r (g .some q .0) (g .some q .1) (g .last e l h u .1))
+      (eq-or-ne r EMPTY)
+
+  pub the-lowest : (e : ℕ) → e < n → endOf tri e ≡ s → ((k : ℕ) → k < n → endOf tri k ≡ s → pairOf he k ≢ EMPTY) → ((k : ℕ) → k < e → endOf tri k ≢ s) → r ≡ e
+  the-lowest e l h paired first =
+      ⊎-elim
+      (λ q. absurd (g .none q e l h))
+      (λ q. ⊎-elim
+      (λ w. absurd (first r w (g .some q .1)))
+      (λ w. le-antisymm (g .lowest (paired r (g .some q .0) (g .some q .1)) e l h) w)
+      (lt-or-ge r e))
+      (eq-or-ne r EMPTY)
+
+  pub the-none : ((k : ℕ) → k < n → endOf tri k ≢ s) → r ≡ EMPTY
+  the-none h = ⊎-elim (λ q. q) (λ q. absurd (h r (g .some q .0) (g .some q .1))) (eq-or-ne r EMPTY)

@@ -1,0 +1,5 @@
+pub mod Root
+pub mod Steps
+pub mod Bounds
+pub mod Order
+pub mod Rank

@@ -1,0 +1,3 @@
+pub mod Plane
+pub mod Rules
+pub mod Flat

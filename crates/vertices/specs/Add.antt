@@ -1,0 +1,29 @@
+-- Adding a vertex: the first near one after the circumcenters is taken again, else the point is put at the end.
+use Prim.Native.Nat.{ℕ, suc}
+use mathlib.Core.Bool.{Bool, false}
+use mathlib.Core.List.{List, [], _∷_, _++_}
+use lib.ListN.{length, drop}
+use lib.Dec.{ltb}
+use Rattle.laws.specs.Pick.{pick}
+use Rattle.utils.specs.Plane.{nearOf}
+use Rattle.utils.specs.declared.Point.{Point}
+
+unfoldable pub nearPt : Point → Point → Bool
+nearPt p q = pick (nearOf (p .x) (q .x)) (λ _. nearOf (p .y) (q .y)) (λ _. false)
+
+pub record Added : Type 0 where
+  pub at : ℕ
+  pub verts : List Point
+
+abbrev pub added : ℕ → List Point → Added
+added n vs = record { at = n; verts = vs }
+
+-- the first of vs, numbered from n, that is near p; else the number after them
+unfoldable pub findNear : Point → List Point → ℕ → ℕ
+findNear p [] n = n
+findNear p (v ∷ vs) n = pick (nearPt v p) (λ _. n) (λ _. findNear p vs (suc n))
+
+unfoldable pub addVertex : ℕ → List Point → Point → Added
+addVertex nc vs p =
+    let i = findNear p (drop nc vs) nc in
+    added i (pick (ltb i (length vs)) (λ _. vs) (λ _. vs ++ p ∷ []))
