@@ -1,5 +1,8 @@
 pub mod Root
 pub mod Steps
+pub mod Gaps
+pub mod Units
+pub mod Unique
 pub mod Sqrt
 pub mod Bounds
 pub mod Order
