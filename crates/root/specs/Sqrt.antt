@@ -16,6 +16,7 @@ use lib.Ieee.Bits.{ofBits-fits, ofBits-toBits, toBits-lt, nanBits-is}
 use Rattle.laws.specs.Pick.{pick}
 use Rattle.root.specs.Root.{sq, units, Nearest, Root, RootBits, quiet}
 use Rattle.root.specs.Steps.{Near}
+use Rattle.root.specs.Squares.{sq-mono, sq-pos, pow-sq, near-down, near-up}
 use Rattle.root.specs.Units.{odd-units, odd-plus, held-units, nearest-of}
 use Rattle.root.specs.Unique.{one-root, one-pattern}
 
@@ -46,12 +47,6 @@ sqrtOf (fin false (suc m) e) = rootOfUnits (units (fin false (suc m) e) * 2 ^ 10
 
 -- ---- the whole root, and the nearest
 
-sq-pos : (h : ℕ) → 0 < sq (2 ^ h)
-sq-pos h = mul-pos (pow-pos h) (pow-pos h)
-
-sq-mono : {a b : ℕ} → a ≤ b → sq a ≤ sq b
-sq-mono h = mul-le-mul h h
-
 -- r is the whole root of n
 pub record Whole (n r : ℕ) : Type 0 where
   pub low : sq r ≤ n
@@ -72,21 +67,6 @@ whole-root (suc k) r n h = whole-root k (pick (leb (sq (r + 2 ^ k)) n) (λ _. r 
     go : (b : Bool) → (T b → sq (r + 2 ^ k) ≤ n) → (T (not b) → n < sq (r + 2 ^ k)) → Between k (pick b (λ _. r + 2 ^ k) (λ _. r)) n
     go true y _ = (y tt, subst (λ (x : ℕ). n < sq x) (halves r k) (h .1))
     go false _ w = (h .0, w tt)
-
--- what is left of n above r * r is at most r: √n is below r + 1/2
-pub near-down : (r n : ℕ) → sq r ≤ n → n ≤ r * r + r → 0 < n → Near n r
-near-down zero n l h s = record { low = omega arith; high = omega arith }
-near-down (suc r) n l h s = record { low = subst (λ (x : ℕ). sq x < 4 * n) odd (omega arith); high = omega arith }
-  where
-    odd : 2 * r + 1 ≡ 2 * suc r - 1
-    odd = omega arith
-
--- it is more: √n is above r + 1/2
-pub near-up : (r n : ℕ) → r * r + r < n → n < sq (suc r) → Near n (r + 1)
-near-up r n h l = record { low = subst (λ (x : ℕ). sq x < 4 * n) odd (omega arith); high = omega arith }
-  where
-    odd : 2 * r + 1 ≡ 2 * (r + 1) - 1
-    odd = omega arith
 
 -- of a number of at most 106 digits
 module _ (n : ℕ) (some : 0 < n) (short : n < 2 ^ 106) where
@@ -124,9 +104,6 @@ record Scaled (n v h : ℕ) : Type 0 where
   high : v < 2 ^ 106
   room : 53 + h < 2098
 
-twice : (k h : ℕ) → 2 ^ k * sq (2 ^ h) ≡ 2 ^ (k + (h + h))
-twice k h = sym (pow-add 2 k (h + h) ∙ ap (λ (a : ℕ). 2 ^ k * a) (pow-add 2 h h))
-
 module _ (m p n : ℕ) (is : n ≡ m * 2 ^ p) (some : 0 < m) (short : m < 2 ^ 53) (least : 1074 ≤ p) (most : n < 2 ^ 3172) where
   large : 1074 < size n
   large = lt-of-not-le (λ (g : size n ≤ 1074). not-le-of-lt (size-lt n) (le-trans (pow-mono (le-trans g least)) (le-trans (le-of-eq (sym (one-mul (2 ^ p)))) (le-trans (mul-le-mul-right (2 ^ p) some) (le-of-eq (sym is))))))
@@ -140,13 +117,13 @@ module _ (m p n : ℕ) (is : n ≡ m * 2 ^ p) (some : 0 < m) (short : m < 2 ^ 53
   scaled : Scaled n (n / sq (2 ^ ((size n - 105) / 2))) ((size n - 105) / 2)
   scaled =
       let h = (size n - 105) / 2 in
-      let e : n ≡ m * 2 ^ (p - (h + h)) * sq (2 ^ h) = is ∙ ap (λ (x : ℕ). m * x) (ap (λ (x : ℕ). 2 ^ x) (sym (back p (h + h) (below (size n) p spare large))) ∙ sym (twice (p - (h + h)) h)) ∙ sym (mul-assoc m (2 ^ (p - (h + h))) (sq (2 ^ h))) in
+      let e : n ≡ m * 2 ^ (p - (h + h)) * sq (2 ^ h) = is ∙ ap (λ (x : ℕ). m * x) (ap (λ (x : ℕ). 2 ^ x) (sym (back p (h + h) (below (size n) p spare large))) ∙ sym (pow-sq (p - (h + h)) h)) ∙ sym (mul-assoc m (2 ^ (p - (h + h))) (sq (2 ^ h))) in
       let v : n / sq (2 ^ h) ≡ m * 2 ^ (p - (h + h)) = ap (λ (x : ℕ). x / sq (2 ^ h)) e ∙ mul-div-cancel (m * 2 ^ (p - (h + h))) (sq-pos h) in
       let w : n ≡ n / sq (2 ^ h) * sq (2 ^ h) = e ∙ ap (λ (x : ℕ). x * sq (2 ^ h)) (sym v) in
       record {
         value = w;
-        low = le-of-mul-le-mul-right (le-trans (le-of-eq (twice 104 h)) (le-trans (size-reaches n (104 + (h + h)) (under (size n) large)) (le-of-eq w))) (sq-pos h);
-        high = lt-of-mul-lt-mul-right (sq (2 ^ h)) (lt-of-le-of-lt (le-of-eq (sym w)) (lt-of-lt-of-le (size-lt n) (le-trans (pow-mono (over (size n))) (le-of-eq (sym (twice 106 h))))));
+        low = le-of-mul-le-mul-right (le-trans (le-of-eq (pow-sq 104 h)) (le-trans (size-reaches n (104 + (h + h)) (under (size n) large)) (le-of-eq w))) (sq-pos h);
+        high = lt-of-mul-lt-mul-right (sq (2 ^ h)) (lt-of-le-of-lt (le-of-eq (sym w)) (lt-of-lt-of-le (size-lt n) (le-trans (pow-mono (over (size n))) (le-of-eq (sym (pow-sq 106 h))))));
         room = fits-in (size n) small;
       }
     where

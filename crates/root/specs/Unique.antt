@@ -4,13 +4,13 @@ use mathlib.Core.Path.{_≡_, refl, sym, ap, _∙_, subst}
 use mathlib.Core.Logic.{⊎-elim}
 use mathlib.Core.Bool.{Bool, true, false, not, true≢false}
 use Prim.Native.Nat.{ℕ, zero, suc, _+_, _-_, _*_, _/_, _^_, _≤_, _<_}
-use native.Mathlib.Nat.{add-comm, le-of-eq, le-trans, le-antisymm, lt-irrefl, lt-of-lt-of-le, le-of-lt, mul-le-mul}
+use native.Mathlib.Nat.{add-comm, le-of-eq, le-trans, le-antisymm, lt-irrefl, lt-of-lt-of-le, le-of-lt}
 use native.Mathlib.Omega.{arith}
 use lib.Dec.{T}
 use lib.Ieee.{Float, nan, inf, fin, binary64, fits, isNan, ofBits, toBits, nanBits, size}
 use lib.Ieee.Bits.{ofBits-toBits, toBits-ofBits, nanBits-is}
 use Rattle.root.specs.Root.{units, Plus, Nearest, Root, RootBits, sq}
-use Rattle.root.specs.Gaps.{le-or-lt}
+use Rattle.root.specs.Squares.{le-or-lt, sq-mono}
 
 abbrev bitsOf : ℕ → ℕ
 bitsOf n = 0 + (size n - 53) * 2 ^ 52 + n / 2 ^ (size n - 53)
@@ -65,25 +65,19 @@ module _ {x r : Float} (a : Nearest x r) (v : Float) (f : T (fits binary64 v)) (
   at-most h = ⊎-elim (λ g. g) (λ g. absurd (no (units r) (units v) (units x * 2 ^ 1074) g h (a .below v f p g))) (le-or-lt (units r) (units v))
     where
       no : (r v n : ℕ) → v < r → n ≤ sq v → sq (r + v) < 4 * n → ⊥
-      no r v n g h l = lt-irrefl (sq (r + v)) (lt-of-lt-of-le l (le-trans (four h) (sq-le (omega arith))))
+      no r v n g h l = lt-irrefl (sq (r + v)) (lt-of-lt-of-le l (le-trans (four h) (sq-mono (omega arith))))
         where
           four : n ≤ sq v → 4 * n ≤ sq (2 * v)
           four h = omega arith
-
-          sq-le : {b c : ℕ} → b ≤ c → sq b ≤ sq c
-          sq-le g = mul-le-mul g g
 
   pub at-least : sq (units v) ≤ units x * 2 ^ 1074 → units v ≤ units r
   at-least h = ⊎-elim (λ g. g) (λ g. absurd (no (units r) (units v) (units x * 2 ^ 1074) g h (a .above v f p g))) (le-or-lt (units v) (units r))
     where
       no : (r v n : ℕ) → r < v → sq v ≤ n → 4 * n < sq (r + v) → ⊥
-      no r v n g h l = lt-irrefl (4 * n) (lt-of-lt-of-le l (le-trans (sq-le (omega arith)) (four h)))
+      no r v n g h l = lt-irrefl (4 * n) (lt-of-lt-of-le l (le-trans (sq-mono (omega arith)) (four h)))
         where
           four : sq v ≤ n → sq (2 * v) ≤ 4 * n
           four h = omega arith
-
-          sq-le : {b c : ℕ} → b ≤ c → sq b ≤ sq c
-          sq-le g = mul-le-mul g g
 
   pub exact : units x * 2 ^ 1074 ≡ sq (units v) → r ≡ v
   exact e = same-units (a .held) f (a .plus) p (le-antisymm (at-most (le-of-eq e)) (at-least (le-of-eq (sym e))))

@@ -3,7 +3,7 @@
 use mathlib.Core.Path.{_≡_, refl, sym, ap, _∙_, subst}
 use mathlib.Core.Bool.{Bool, true, false, _&&_}
 use Prim.Native.Nat.{ℕ, zero, suc, _+_, _-_, _*_, _/_, _%_, _^_, _≤_, _<_}
-use native.Mathlib.Nat.{mul-assoc, mul-one, mul-right-comm, zero-mul, zero-div, div-one, lt-irrefl, mul-div-cancel, div-lt-iff-lt-mul, mul-lt-mul-of-pos-right, lt-of-not-le, lt-of-lt-of-le, le-of-eq, le-of-suc-le-suc}
+use native.Mathlib.Nat.{mul-assoc, mul-one, mul-right-comm, zero-mul, zero-div, lt-irrefl, mul-div-cancel, div-lt-iff-lt-mul, mul-lt-mul-of-pos-right, lt-of-not-le, lt-of-lt-of-le, le-of-eq, le-of-suc-le-suc}
 use lib.Dec.{T, leb, ltb, eqb, ltb→lt, leb→le, lit<}
 use lib.IntN.{ℤ, pos, negsuc}
 use lib.Pow.{pow-pos, pow-add, pow-lt}
@@ -33,21 +33,20 @@ zero-units s e = ap (λ (x : ℕ). x * 2 ^ 1074 / down e) (zero-mul (up e)) ∙ 
 pow-le-back : (a l : ℕ) → 2 ^ a ≤ 2 ^ l → a ≤ l
 pow-le-back a l h = le-of-suc-le-suc (lt-of-not-le (λ (g : suc l ≤ a). lt-irrefl (2 ^ l) (lt-of-lt-of-le (pow-lt g) h)))
 
-shift : (m : ℕ) (e : ℤ) → down e ≤ 2 ^ 1074 → (j : ℕ) × (m * up e * 2 ^ 1074 / down e ≡ m * 2 ^ j)
-shift m (pos a) d = (a + 1074, div-one (m * 2 ^ a * 2 ^ 1074) ∙ mul-assoc m (2 ^ a) (2 ^ 1074) ∙ ap (λ (x : ℕ). m * x) (sym (pow-add 2 a 1074)))
-shift m (negsuc a) d =
-    let le : suc a ≤ 1074 = pow-le-back (suc a) 1074 d in (
-      1074 - suc a,
-      ap (λ (x : ℕ). x * 2 ^ 1074 / 2 ^ suc a) (mul-one m)
-          ∙ ap (λ (x : ℕ). m * x / 2 ^ suc a) (ap (λ (x : ℕ). 2 ^ x) (sym (back 1074 (suc a) le)) ∙ pow-add 2 (1074 - suc a) (suc a))
-          ∙ ap (λ (x : ℕ). x / 2 ^ suc a) (sym (mul-assoc m (2 ^ (1074 - suc a)) (2 ^ suc a)))
-          ∙ mul-div-cancel (m * 2 ^ (1074 - suc a)) (pow-pos (suc a)),
-    )
+shift : (m : ℕ) (e : ℤ) → down e ≤ 2 ^ 1074 → (j : ℕ) × (m * up e * 2 ^ 1074 ≡ m * 2 ^ j * down e)
+shift m (pos a) d = (a + 1074, mul-assoc m (2 ^ a) (2 ^ 1074) ∙ ap (λ (x : ℕ). m * x) (sym (pow-add 2 a 1074)) ∙ sym (mul-one (m * 2 ^ (a + 1074))))
+shift m (negsuc a) d = (
+  1074 - suc a,
+  ap (λ (x : ℕ). x * 2 ^ 1074) (mul-one m)
+      ∙ ap (λ (x : ℕ). m * x) (ap (λ (x : ℕ). 2 ^ x) (sym (back 1074 (suc a) (pow-le-back (suc a) 1074 d))) ∙ pow-add 2 (1074 - suc a) (suc a))
+      ∙ sym (mul-assoc m (2 ^ (1074 - suc a)) (2 ^ suc a)),
+)
 
 -- what binary64 holds, above 0
 pub record Held (m : ℕ) (e : ℤ) : Type 0 where
   pub zeros : ℕ
   pub value : m * up e * 2 ^ 1074 / down e ≡ m * 2 ^ zeros
+  pub exact : m * up e * 2 ^ 1074 / down e * down e ≡ m * up e * 2 ^ 1074
   pub digits : m < 2 ^ 53
   pub bound : m * up e * 2 ^ 1074 / down e < 2 ^ 2098
 
@@ -60,9 +59,11 @@ held-units s m e h =
     let D = ltb (suc m * up e) (2 ^ 1024 * down e) in
     let t = and-l (A && B && C) D h in
     let j = shift (suc m) e (leb→le (down e) (2 ^ 1074) (and-r (A && B) C t)) in
+    let v : suc m * up e * 2 ^ 1074 / down e ≡ suc m * 2 ^ j .0 = ap (λ (x : ℕ). x / down e) (j .1) ∙ mul-div-cancel (suc m * 2 ^ j .0) (down-pos e) in
     record {
       zeros = j .0;
-      value = j .1;
+      value = v;
+      exact = ap (λ (x : ℕ). x * down e) v ∙ sym (j .1);
       digits = ltb→lt (suc m) (2 ^ 53) (and-r A B (and-l (A && B) C t));
       bound = div-lt-iff-lt-mul (down-pos e) .1
           (lt-of-lt-of-le (mul-lt-mul-of-pos-right (ltb→lt (suc m * up e) (2 ^ 1024 * down e) (and-r (A && B && C) D h)) (pow-pos 1074)) (le-of-eq (mul-right-comm (2 ^ 1024) (down e) (2 ^ 1074))));
