@@ -1,15 +1,15 @@
 -- How large a result can be: sums, differences and products of values of bounded magnitude are finite, and bounded in turn.
 -- Assumes nothing.
-use mathlib.Core.Path.{_≡_, refl, sym, ap, _∙_, subst}
+use mathlib.Core.Path.{_≡_, sym, ap, _∙_, subst}
 use Prim.Native.Nat.{ℕ, zero, suc, _+_, _-_, _*_, _/_, _%_, _^_, _≤_, _<_, compare}
-use native.Mathlib.Nat.{le-trans, le-of-eq, lt-of-le-of-lt, lt-of-lt-of-le, mul-le-mul, mul-le-mul-right, mul-assoc, mul-comm, mul-left-comm, mul-right-comm, mul-one, one-mul, mul-mul-mul-comm, mul-pos, div-one, le-of-mul-le-mul-right, div-lt-iff-lt-mul, mul-lt-mul-of-pos-right, pow-suc, le-of-lt, lt-irrefl}
+use native.Mathlib.Nat.{le-trans, le-of-eq, lt-of-le-of-lt, lt-of-lt-of-le, mul-le-mul, mul-le-mul-right, mul-assoc, mul-comm, mul-right-comm, mul-one, mul-mul-mul-comm, mul-pos, div-one, le-of-mul-le-mul-right, div-lt-iff-lt-mul, mul-lt-mul-of-pos-right, pow-suc, le-of-lt, lt-irrefl}
 use native.Mathlib.Omega.{arith}
 use mathlib.Core.Bool.{Bool, true, false, not, _&&_, _||_, Bool·beq, cond}
 use lib.Dec.{T, ltb, eqb, ltb→lt, eqb→eq, lit≤, eqb·suc-zero}
 use lib.Ieee.Positive.{first-pos}
 use Rattle.laws.specs.Binary64 as R
 use lib.Pow.{pow-add, pow-pos, pow-mono, pow-lt}
-use lib.Ieee.{Float, nan, inf, fin, Format, prec, emax, low, up, down, size, nearest, units, round, neg, sum, add, sub, mul, div, lt, le, unlike, binary64, ofBits, isNan}
+use lib.Ieee.{Float, nan, inf, fin, Format, prec, emax, low, up, down, size, nearest, round, neg, sum, add, sub, mul, div, lt, le, unlike, ofBits, isNan}
 use lib.Ieee.Digits.{size-le}
 use lib.Ieee.Fits.{round-is, two, down-pos}
 use lib.Ieee.Exact.{HasValue, units-val}

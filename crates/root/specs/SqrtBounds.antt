@@ -15,7 +15,8 @@ use Rattle.root.specs.Bounds.{Bounded}
 use Rattle.root.specs.Tests.{minus-down, zero-not-above, plus-above}
 use Rattle.root.specs.Units.{held-units, zero-units}
 use Rattle.root.specs.Unique.{at-most, at-least}
-use Rattle.root.specs.Sqrt.{sqrtOf, sqrt-root}
+use Rattle.root.specs.Sqrt.{sqrtOf}
+use Rattle.root.specs.SqrtLaws.{sqrt-root}
 
 -- ---- a bound in units
 

@@ -1,7 +1,7 @@
 -- A value as a whole number of units of 2 ^ -1074: one that binary64 holds is a number of at most 53 digits with zeros after them (`held-units`, `short`).
 -- And the way from a root of whole numbers to a root of values: what is `Near` is `Nearest` (`nearest-of`).
 use mathlib.Core.Path.{_≡_, refl, sym, ap, _∙_, subst}
-use mathlib.Core.Bool.{Bool, true, false, _&&_}
+use mathlib.Core.Bool.{Bool, false, _&&_}
 use Prim.Native.Nat.{ℕ, zero, suc, _+_, _-_, _*_, _/_, _%_, _^_, _≤_, _<_}
 use native.Mathlib.Nat.{mul-assoc, mul-one, mul-right-comm, zero-mul, zero-div, lt-irrefl, mul-div-cancel, div-lt-iff-lt-mul, mul-lt-mul-of-pos-right, lt-of-not-le, lt-of-lt-of-le, le-of-eq, le-of-suc-le-suc}
 use lib.Dec.{T, leb, ltb, eqb, ltb→lt, leb→le, lit<}
