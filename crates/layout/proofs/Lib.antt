@@ -1,0 +1,2 @@
+pub mod Pasting
+pub mod Compacting
