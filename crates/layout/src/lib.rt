@@ -1,23 +1,23 @@
 // How cells share one index list: regions by site while they are built, moved together at the end, and what is left over cleared.
 ghost use mathlib.Core.Path.{_≡_};
 ghost use mathlib.Core.List.{List, _++_};
-ghost use Prim.Native.Nat.{ℕ, _+_, _-_, _≤_, _<_};
+ghost use Prim.Native.Nat.{ℕ, suc, _+_, _-_, _*_, _≤_, _<_};
 ghost use lib.ListN.{length, getD, take, drop};
 ghost use Rattle.laws.specs.Binary64.{zero};
-ghost use Rattle.mesh.specs.Mesh.{EMPTY};
 ghost use Rattle.layout.specs.Cleared.{clearedFrom};
+ghost use Rattle.layout.specs.Rooms.{Roomy, Started, Tallies, Tallied, Sums, Summed};
 ghost use Rattle.layout.specs.Regions.{Regions, Filled, Rising, Compacted};
 
 const NONE: u32 = 4294967295;
 
-// Indexes from `from` on become `EMPTY`.
-pub fn clear_from(s: &mut [u32], from: usize)
+// Indexes from `from` on become `value`.
+pub fn fill_from(s: &mut [u32], from: usize, value: u32)
     requires { ⌜ from ≤ length (now s) ⌝ }
-    ensures { λ _. ⌜ now (s .exit) ≡ clearedFrom from EMPTY (now (s .entry)) ⌝ }
+    ensures { λ _. ⌜ now (s .exit) ≡ clearedFrom from value (now (s .entry)) ⌝ }
 {
     let mut i = from;
     while i < s.len() {
-        s[i] = NONE;
+        s[i] = value;
         i += 1;
     }
 }
@@ -88,4 +88,47 @@ pub fn compact(idx: &mut [u32], off: &mut [u32], sites: usize) -> usize
     }
     off[sites] = w as u32;
     w
+}
+
+// Adds `by` at the place after each entry of the list.
+fn tally(list: &[u32], by: u32, off: &mut [u32])
+    requires { ⌜ Tallies (now list) by (now off) ⌝ }
+    ensures { λ _. ⌜ Tallied (now (list .entry)) by (now (off .entry)) (now (off .exit)) ⌝ }
+{
+    let mut i: usize = 0;
+    while i < list.len() {
+        let at = wide(list[i]) + 1;
+        off[at] = off[at] + by;
+        i += 1;
+    }
+}
+
+// Turns the numbers at places 1 to n into the sums up to each of them.
+fn sum_up(off: &mut [u32], n: usize)
+    requires { ⌜ Sums n (now off) ⌝ }
+    ensures { λ _. ⌜ Summed n (now (off .entry)) (now (off .exit)) ⌝ }
+{
+    let mut i: usize = 0;
+    while i < n {
+        off[i + 1] = off[i] + off[i + 1];
+        i += 1;
+    }
+}
+
+// Where the region of each site starts, and after them where the last one ends.
+pub fn region_starts(
+    triangles: &[u32],
+    hull: &[u32],
+    owners: [u32; 4],
+    off: &mut [u32],
+    sites: usize,
+)
+    requires { ⌜ Roomy (now triangles) (now hull) owners sites (now off) ⌝ }
+    ensures { λ _. ⌜ Started (now (triangles .entry)) (now (hull .entry)) owners sites (now (off .exit)) ⌝ }
+{
+    fill_from(off, 0, 0);
+    tally(triangles, 3, off);
+    tally(hull, 6, off);
+    tally(&owners, 1, off);
+    sum_up(off, sites);
 }

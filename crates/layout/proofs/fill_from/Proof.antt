@@ -1,18 +1,17 @@
--- `layout::clear_from` meets its contract: each turn clears one place more.
+-- `layout::fill_from` meets its contract: each turn clears one place more.
 use Prim.Native.Nat.{_-_}
 use native.Mathlib.Omega.{arith}
 use lib.ListN.{length}
 use borrow.Author.Needs.{needs}
-use Rattle.mesh.specs.Mesh.{EMPTY}
 use Rattle.layout.proofs.Pasting.{Clearing, clearing-start, clearing-step, clearing-end}
-use Rattle.layout.proofs.clear_from.Statement.{statement}
-use Rattle.layout.proofs.clear_from.Tie as tie
+use Rattle.layout.proofs.fill_from.Statement.{statement}
+use Rattle.layout.proofs.fill_from.Tie as tie
 
 abbrev Inv-loop : tie.InvT-loop
-Inv-loop s₀ from i₀ s i = Clearing s₀ EMPTY from s i
+Inv-loop s₀ from value i₀ s i = Clearing s₀ value from s i
 
 abbrev μ-loop : tie.MeasureT-loop
-μ-loop s₀ from i₀ s i = length s₀ - i
+μ-loop s₀ from value i₀ s i = length s₀ - i
 
 loop-holds : tie.Need-loop-holds Inv-loop μ-loop
 loop-holds c = clearing-start _ _ _ (c .pre)
@@ -38,5 +37,5 @@ same-length c = c .before .loop .inv .long
 returns : tie.Need-returns Inv-loop μ-loop
 returns c = clearing-end _ _ _ _ _ (c .before .loop .inv) (omega arith)
 
-pub clear-from-spec : {M : Type 1} → statement M
-clear-from-spec = tie.close (tie.spec Inv-loop μ-loop loop-holds mul-s slice-write-s add-i loop-less loop-again same-length returns)
+pub fill-from-spec : {M : Type 1} → statement M
+fill-from-spec = tie.close (tie.spec Inv-loop μ-loop loop-holds mul-s slice-write-s add-i loop-less loop-again same-length returns)
