@@ -17,7 +17,8 @@ use Rattle.crossings.specs.declared.Crossing.{Crossing}
 use Rattle.crossings.specs.declared.Crossing.the-variants.{None, One, Two}
 use Rattle.vertices.specs.Add.{Added, addVertex}
 use Rattle.mesh.specs.Mesh.{EMPTY}
-use Rattle.definition.specs.Fault.{Outcome, ok, refused, andThen, noCrossing, loneCrossing, onNoSide}
+use Rattle.definition.specs.declared.Fault.{Fault}
+use Rattle.definition.specs.Fault.{Outcome, ok, refused, andThen, atEdge}
 
 -- ---- entries
 
@@ -92,19 +93,20 @@ abbrev pub led : Bool → ℕ → Ins → Ins
 led true first i = i
 led false first i = before (entry crossing first) i
 
-unfoldable pub insertAt : ℕ → ℕ → ℕ → ℕ → ℕ → List ℕ → ℕ → ℕ → Outcome Ins
+-- 15 where one of the two is on no side
+unfoldable pub insertAt : ℕ → ℕ → ℕ → ℕ → ℕ → List ℕ → ℕ → ℕ → Outcome ℕ Ins
 insertAt nc site last first second os f s =
     pick (ltb f 4)
     (λ _. pick (ltb s 4)
     (λ _. ok (led (eqb last first) first (around nc site f s second os)))
-    (λ _. refused (onNoSide site first second)))
-    (λ _. refused (onNoSide site first second))
+    (λ _. refused 15))
+    (λ _. refused 15)
 
 abbrev pub vertexAt : List Point → ℕ → Point
 vertexAt vs i = getD vs i (at nan nan)
 
 -- insert_edge_and_wrap_around_corners; last is the cell's last entry, EMPTY if it has none
-unfoldable pub insertEdge : BoundingBox → ℕ → ℕ → List Point → List ℕ → ℕ → ℕ → ℕ → Outcome Ins
+unfoldable pub insertEdge : BoundingBox → ℕ → ℕ → List Point → List ℕ → ℕ → ℕ → ℕ → Outcome ℕ Ins
 insertEdge b nc site vs os last first second =
     insertAt nc site last first second os (whichOf b (vertexAt vs first)) (whichOf b (vertexAt vs second))
 
@@ -133,16 +135,16 @@ pub data Clip : Type 0 where
   once : Added → Clip
   twice : Added → Added → Clip
 
-unfoldable pub clipped : ℕ → List Point → Crossing → Clip
-clipped nc vs None = missed
-clipped nc vs (One x y) = once (addVertex nc vs (at x y))
-clipped nc vs (Two x y u v) =
+unfoldable pub clipWith : ℕ → List Point → Crossing → Clip
+clipWith nc vs None = missed
+clipWith nc vs (One x y) = once (addVertex nc vs (at x y))
+clipWith nc vs (Two x y u v) =
     let r = addVertex nc vs (at x y) in
     twice r (addVertex nc (r .verts) (at u v))
 
 -- clip_voronoi_edge
 unfoldable pub clipEdge : BoundingBox → ℕ → List Point → ℕ → ℕ → Clip
-clipEdge b nc vs p q = clipped nc vs (edgeCrossing b (vertexAt vs p) (vertexAt vs q))
+clipEdge b nc vs p q = clipWith nc vs (edgeCrossing b (vertexAt vs p) (vertexAt vs q))
 
 -- ---- one edge of the ring, from vertex p to vertex q
 
@@ -163,54 +165,50 @@ tookOne r = took firstCrossing r ∷ []
 abbrev pub tookTwo : Added → Added → List Took
 tookTwo r t = took firstCrossing r ∷ took secondCrossing t ∷ []
 
--- both inside
-abbrev pub stay : ℕ → List Point → List ℕ → Bool → Outcome Change
-stay p vs os opened = ok (change vs os (entry plain p ∷ []) opened [])
-
 -- from inside to outside
-unfoldable pub leave : ℕ → ℕ → ℕ → List ℕ → Clip → Outcome Change
-leave site p q os missed = refused (noCrossing site p q)
-leave site p q os (once r) = ok (change (r .verts) os (entry plain p ∷ entry crossing (r .at) ∷ []) true (tookOne r))
-leave site p q os (twice r t) = ok (change (t .verts) os (entry plain p ∷ entry crossing (r .at) ∷ []) true (tookTwo r t))
+unfoldable pub leave : ℕ → List ℕ → Clip → Outcome ℕ Change
+leave p os missed = refused 13
+leave p os (once r) = ok (change (r .verts) os (entry plain p ∷ entry crossing (r .at) ∷ []) true (tookOne r))
+leave p os (twice r t) = ok (change (t .verts) os (entry plain p ∷ entry crossing (r .at) ∷ []) true (tookTwo r t))
 
 -- from outside to inside; last is the cell's last entry
-unfoldable pub entered : BoundingBox → ℕ → ℕ → List Point → List ℕ → ℕ → ℕ → List Took → Outcome Change
-entered b nc site vs os last first ts =
+unfoldable pub enterAt : BoundingBox → ℕ → ℕ → List Point → List ℕ → ℕ → ℕ → List Took → Outcome ℕ Change
+enterAt b nc site vs os last first ts =
     andThen (insertEdge b nc site vs os last last first) λ i.
     ok (change vs (i .owners) (i .new) false ts)
 
-unfoldable pub enter : BoundingBox → ℕ → ℕ → ℕ → ℕ → List ℕ → ℕ → Clip → Outcome Change
-enter b nc site p q os last missed = refused (noCrossing site p q)
-enter b nc site p q os last (once r) = entered b nc site (r .verts) os last (r .at) (tookOne r)
-enter b nc site p q os last (twice r t) = entered b nc site (t .verts) os last (r .at) (tookTwo r t)
+unfoldable pub enter : BoundingBox → ℕ → ℕ → List ℕ → ℕ → Clip → Outcome ℕ Change
+enter b nc site os last missed = refused 13
+enter b nc site os last (once r) = enterAt b nc site (r .verts) os last (r .at) (tookOne r)
+enter b nc site os last (twice r t) = enterAt b nc site (t .verts) os last (r .at) (tookTwo r t)
 
 -- both outside: an open cell is first led from its last entry to the first crossing
-unfoldable pub linked : BoundingBox → ℕ → ℕ → List Point → List ℕ → Bool → ℕ → ℕ → Outcome Ins
-linked b nc site vs os opened last first = pick opened (λ _. insertEdge b nc site vs os last last first) (λ _. ok (ins os []))
+unfoldable pub link : BoundingBox → ℕ → ℕ → List Point → List ℕ → Bool → ℕ → ℕ → Outcome ℕ Ins
+link b nc site vs os opened last first = pick opened (λ _. insertEdge b nc site vs os last last first) (λ _. ok (ins os []))
 
-unfoldable pub crossed : BoundingBox → ℕ → ℕ → List Point → List ℕ → Bool → ℕ → ℕ → ℕ → List Took → Outcome Change
-crossed b nc site vs os opened last first second ts =
-    andThen (linked b nc site vs os opened last first) λ i.
+unfoldable pub crossAt : BoundingBox → ℕ → ℕ → List Point → List ℕ → Bool → ℕ → ℕ → ℕ → List Took → Outcome ℕ Change
+crossAt b nc site vs os opened last first second ts =
+    andThen (link b nc site vs os opened last first) λ i.
     andThen (insertEdge b nc site vs (i .owners) (lastOr last (i .new)) first second) λ j.
     ok (change vs (j .owners) (i .new ++ j .new) opened ts)
 
-unfoldable pub cross : BoundingBox → ℕ → ℕ → ℕ → ℕ → List Point → List ℕ → Bool → ℕ → Clip → Outcome Change
-cross b nc site p q vs os opened last missed = ok (change vs os [] opened [])
-cross b nc site p q vs os opened last (once r) =
-    andThen (linked b nc site (r .verts) os opened last (r .at)) λ i.
-    refused (loneCrossing site p q)
-cross b nc site p q vs os opened last (twice r t) = crossed b nc site (t .verts) os opened last (r .at) (t .at) (tookTwo r t)
+unfoldable pub cross : BoundingBox → ℕ → ℕ → List Point → List ℕ → Bool → ℕ → Clip → Outcome ℕ Change
+cross b nc site vs os opened last missed = ok (change vs os [] opened [])
+cross b nc site vs os opened last (once r) =
+    andThen (link b nc site (r .verts) os opened last (r .at)) λ i.
+    refused 14
+cross b nc site vs os opened last (twice r t) = crossAt b nc site (t .verts) os opened last (r .at) (t .at) (tookTwo r t)
 
--- pIn and qIn: whether p and q are inside
-unfoldable pub clipStep : BoundingBox → ℕ → ℕ → ℕ → Bool → ℕ → Bool → List Point → List ℕ → Bool → ℕ → Outcome Change
+-- the four cases; pIn and qIn: whether p and q are inside
+unfoldable pub clipStep : BoundingBox → ℕ → ℕ → ℕ → Bool → ℕ → Bool → List Point → List ℕ → Bool → ℕ → Outcome ℕ Change
 clipStep b nc site p pIn q qIn vs os opened last =
     pick pIn
     (λ _. pick qIn
-    (λ _. stay p vs os opened)
-    (λ _. leave site p q os (clipEdge b nc vs p q)))
+    (λ _. ok (change vs os (entry plain p ∷ []) opened []))
+    (λ _. leave p os (clipEdge b nc vs p q)))
     (λ _. pick qIn
-    (λ _. enter b nc site p q os last (clipEdge b nc vs q p))
-    (λ _. cross b nc site p q vs os opened last (clipEdge b nc vs p q)))
+    (λ _. enter b nc site os last (clipEdge b nc vs q p))
+    (λ _. cross b nc site vs os opened last (clipEdge b nc vs p q)))
 
 -- ---- the ring
 
@@ -218,39 +216,45 @@ clipStep b nc site p pIn q qIn vs os opened last =
 unfoldable pub inBox : BoundingBox → ℕ → List Point → ℕ → Bool
 inBox b nc vs i = pick (ltb i nc) (λ _. insideOf b (vertexAt vs i)) (λ _. false)
 
--- a cell so far, and what was taken to get there
-pub record Cell : Type 0 where
+-- a cell on its way: vertices and owners so far, its last entry (EMPTY if it has none), the ring's vertex p where it stands, whether that is inside, whether the cell is open
+pub record Tip : Type 0 where
   pub verts : List Point
   pub owners : List ℕ
-  pub entries : List Entry
-  pub steps : List Took
-
-abbrev pub cell : List Point → List ℕ → List Entry → List Took → Cell
-cell vs os es ts = record { verts = vs; owners = os; entries = es; steps = ts }
-
--- a cell on its way: its last vertex p, whether that is inside, whether the cell is open
-pub record Way : Type 0 where
-  pub cell : Cell
+  pub last : ℕ
   pub p : ℕ
   pub pIn : Bool
   pub opened : Bool
 
-abbrev pub way : Cell → ℕ → Bool → Bool → Way
-way c p i o = record { cell = c; p = p; pIn = i; opened = o }
+abbrev pub tip : List Point → List ℕ → ℕ → ℕ → Bool → Bool → Tip
+tip vs os l p i o = record { verts = vs; owners = os; last = l; p = p; pIn = i; opened = o }
 
-abbrev pub moved : Way → ℕ → Bool → Change → Way
-moved w q qIn d = way (cell (d .verts) (d .owners) (w .cell .entries ++ d .new) (w .cell .steps ++ d .steps)) q qIn (d .opened)
+-- where some edges of the ring lead, the entries that they add, and the points that they added or took again
+pub record Part : Type 0 where
+  pub tip : Tip
+  pub new : List Entry
+  pub steps : List Took
 
-unfoldable pub stepTo : BoundingBox → ℕ → ℕ → Way → ℕ → Outcome Way
-stepTo b nc site w q =
-    let c = w .cell in
-    let qIn = inBox b nc (c .verts) q in
-    andThen (clipStep b nc site (w .p) (w .pIn) q qIn (c .verts) (c .owners) (w .opened) (lastOr EMPTY (c .entries))) λ d.
-    ok (moved w q qIn d)
+abbrev pub part : Tip → List Entry → List Took → Part
+part t es ts = record { tip = t; new = es; steps = ts }
 
-unfoldable pub stepsTo : BoundingBox → ℕ → ℕ → List ℕ → Way → Outcome Way
-stepsTo b nc site [] w = ok w
-stepsTo b nc site (q ∷ qs) w = andThen (stepTo b nc site w q) λ u. stepsTo b nc site qs u
+abbrev pub joined : Part → Part → Part
+joined c d = part (d .tip) (c .new ++ d .new) (c .steps ++ d .steps)
+
+abbrev pub moved : Tip → ℕ → Bool → Change → Part
+moved t q qIn d = part (tip (d .verts) (d .owners) (lastOr (t .last) (d .new)) q qIn (d .opened)) (d .new) (d .steps)
+
+unfoldable pub stepTo : BoundingBox → ℕ → ℕ → Tip → ℕ → Outcome Fault Part
+stepTo b nc site t q =
+    let qIn = inBox b nc (t .verts) q in
+    andThen (atEdge site (t .p) q (clipStep b nc site (t .p) (t .pIn) q qIn (t .verts) (t .owners) (t .opened) (t .last))) λ d.
+    ok (moved t q qIn d)
+
+unfoldable pub stepsTo : BoundingBox → ℕ → ℕ → List ℕ → Tip → Outcome Fault Part
+stepsTo b nc site [] t = ok (part t [] [])
+stepsTo b nc site (q ∷ qs) t =
+    andThen (stepTo b nc site t q) λ c.
+    andThen (stepsTo b nc site qs (c .tip)) λ d.
+    ok (joined c d)
 
 -- the place of the first vertex inside, else the ring's length
 unfoldable pub firstInside : BoundingBox → ℕ → List Point → List ℕ → ℕ
@@ -261,13 +265,11 @@ firstInside b nc vs (q ∷ qs) = pick (inBox b nc vs q) (λ _. 0) (λ _. suc (fi
 unfoldable pub turned : ℕ → List ℕ → List ℕ
 turned f ring = reverse (take f ring) ++ reverse (drop f ring)
 
-unfoldable pub clipFrom : BoundingBox → ℕ → ℕ → List ℕ → List Point → List ℕ → ℕ → Bool → Outcome Cell
-clipFrom b nc site ring vs os f inside =
-    andThen (stepsTo b nc site (turned f ring) (way (cell vs os [] []) (getD ring f 0) inside false)) λ w.
-    ok (w .cell)
+unfoldable pub clipFrom : BoundingBox → ℕ → ℕ → List ℕ → List Point → List ℕ → ℕ → Bool → Outcome Fault Part
+clipFrom b nc site ring vs os f inside = stepsTo b nc site (turned f ring) (tip vs os EMPTY (getD ring f 0) inside false)
 
 -- clip_cell: from the first vertex inside, else from the first
-unfoldable pub clipCell : BoundingBox → ℕ → ℕ → List ℕ → List Point → List ℕ → Outcome Cell
+unfoldable pub clipCell : BoundingBox → ℕ → ℕ → List ℕ → List Point → List ℕ → Outcome Fault Part
 clipCell b nc site ring vs os =
     let f = firstInside b nc vs ring in
     pick (ltb f (length ring)) (λ _. clipFrom b nc site ring vs os f true) (λ _. clipFrom b nc site ring vs os 0 false)
