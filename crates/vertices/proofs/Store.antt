@@ -9,7 +9,6 @@ use native.Mathlib.Nat.{add-zero}
 use lib.Ieee.{Float}
 use lib.ListN.{length, getD, take, drop, set, length-set, length-append}
 use lib.Seq.{take-suc, take-all}
-use borrow.Author.Tests.{eq-eqb, ne-eqb}
 use Rattle.utils.specs.declared.Point.{Point}
 use Rattle.utils.specs.Flat.{points, pointsFrom, pour}
 use Rattle.vertices.specs.Add.{Added, findNear, addVertex, added}
@@ -59,7 +58,7 @@ module _ (nc limit n : ℕ) (p : Point) (v : List Float) (ix : List ℕ) (h : Ho
       × Leaves nc limit (addVertex nc (points n v) p .verts) v ix n v ix
   reused k =
       rw (add-old v nc n i p (h .centers) k e) (
-        record { at = refl; fresh = sym (ne-eqb i n (λ z. omega arith)); below = k; low = omega arith; high = omega arith },
+        record { at = refl; fresh = refl; below = k; low = omega arith; high = omega arith },
         record { verts = poured-none n v (h .room); body = refl; holds = h },
       )
 
@@ -71,7 +70,7 @@ module _ (nc limit n : ℕ) (p : Point) (v : List Float) (ix : List ℕ) (h : Ho
   appended k r =
       let c = h .centers in
       rw (add-new v nc n i p (h .centers) k e) (
-        record { at = refl; fresh = sym (eq-eqb n n refl); below = omega arith; low = omega arith; high = omega arith },
+        record { at = refl; fresh = refl; below = omega arith; low = omega arith; high = omega arith },
         record {
           verts = poured-snoc p (poured-none n v (h .room)) r;
           body = refl;

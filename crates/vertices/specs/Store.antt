@@ -4,7 +4,6 @@
 use Prim.Native.Nat.{ℕ, _+_, _*_, _≤_, _<_}
 use mathlib.Core.Path.{_≡_}
 use mathlib.Core.List.{List, _++_}
-use lib.Dec.{eqb}
 use lib.Ieee.{Float}
 use lib.ListN.{length, take, drop}
 use Rattle.utils.specs.Flat.{points, pour}
@@ -28,10 +27,10 @@ pub record Leaves (nc limit : ℕ) (vs : List Point) (v : List Float) (ix : List
   pub body : take limit ix₁ ≡ take limit ix
   pub holds : Holds nc count₁ v₁ (drop limit ix₁)
 
--- the answer to adding a point to count vertices, by the definition's a: its number, whether it was added (or an old one reused), the count
+-- the answer to adding a point to count vertices, by the definition's a: its number, whether it was added or an old one reused, the count
 pub record Answers (count : ℕ) (a : Added) (r : Placed) : Type 0 where
   pub at : r .at ≡ a .at
-  pub fresh : r .fresh ≡ eqb (a .at) count
+  pub fresh : r .fresh ≡ a .fresh
   pub below : r .at < r .count
   pub low : count ≤ r .count
   pub high : r .count ≤ count + 1
