@@ -1,3 +1,5 @@
 pub mod Plane
 pub mod Rules
 pub mod Flat
+pub mod Sites
+pub mod Centroid
