@@ -13,14 +13,14 @@ ghost use Rattle.mesh.specs.Mesh.{EMPTY, nextOf, endOf, chosen, tableTo,
 
 const NONE: u32 = 4294967295;
 
-fn wide(x: u32) -> usize
+pub fn wide(x: u32) -> usize
     ensures { λ r. ⌜ r ≡ x ⌝ }
 {
     x as usize
 }
 
 // The next half-edge of the same triangle.
-fn next_halfedge(e: usize) -> usize
+pub fn next_halfedge(e: usize) -> usize
     requires { ⌜ e < 2305843009213693952 ⌝ }
     ensures { λ r. ⌜ r ≡ nextOf e ⌝ }
 {
@@ -31,7 +31,7 @@ fn next_halfedge(e: usize) -> usize
 }
 
 // The site that half-edge e ends at.
-fn end_site(triangles: &[u32], e: usize) -> u32
+pub fn end_site(triangles: &[u32], e: usize) -> u32
     requires { ⌜ (length (now triangles) % 3 ≡ 0) × (e < length (now triangles)) ⌝ }
     ensures { λ r. ⌜ r ≡ endOf (now (triangles .entry)) e ⌝ }
 {
@@ -176,7 +176,7 @@ fn check_pairs(triangles: &[u32], halfedges: &[u32]) -> usize
 }
 
 // One step of the walk that started at s.
-fn turn(halfedges: &[u32], s: u32, e: usize) -> u32
+pub fn turn(halfedges: &[u32], s: u32, e: usize) -> u32
     requires { ⌜ (length (now halfedges) % 3 ≡ 0) × (e < length (now halfedges)) ⌝ }
     ensures { λ r. ⌜ r ≡ turnOf (now (halfedges .entry)) s e ⌝ }
 {
@@ -193,7 +193,7 @@ pub struct Walked {
 }
 
 // The walk that starts at s, up to the slice's length.
-fn walk(halfedges: &[u32], s: u32, out: &mut [u32]) -> Walked
+pub fn walk(halfedges: &[u32], s: u32, out: &mut [u32]) -> Walked
     requires { ⌜ length (now halfedges) % 3 ≡ 0 ⌝ }
     ensures { λ r. ⌜ Walks (now (halfedges .entry)) s (now (out .entry)) (now (out .exit)) (r .count) (r .ended) ⌝ }
 {
