@@ -101,10 +101,6 @@ weigh-le : (u : ℕ → ℕ) (m : ℕ) (l : List ℕ) → ((v : ℕ) → occ v l
 weigh-le u zero l h = omega arith
 weigh-le u (suc m) l h = omega (arith, weigh-le u m l h, h m)
 
--- no number oftener than u says, and none from m on: at most as many entries as u counts below m
-pub weighed-le : (u : ℕ → ℕ) (m : ℕ) (l : List ℕ) → ((v : ℕ) → 0 < occ v l → v < m) → ((v : ℕ) → occ v l ≤ u v) → length l ≤ sumTo u m
-weighed-le u m l below h = omega (arith, occs-length m l below, weigh-le u m l h)
-
 weigh-all : (u : ℕ → ℕ) (m : ℕ) (l : List ℕ) → ((v : ℕ) → occ v l ≤ u v) → occs m l ≡ sumTo u m → (v : ℕ) → v < m → occ v l ≡ u v
 weigh-all u zero l h e v p = absurd (omega arith)
 weigh-all u (suc m) l h e v p =
