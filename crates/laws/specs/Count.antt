@@ -111,3 +111,14 @@ weigh-all u (suc m) l h e v p =
 
 pub all-weighed : (u : ℕ → ℕ) (m : ℕ) (l : List ℕ) → ((v : ℕ) → 0 < occ v l → v < m) → ((v : ℕ) → occ v l ≤ u v) → length l ≡ sumTo u m → (v : ℕ) → v < m → occ v l ≡ u v
 all-weighed u m l below h e = weigh-all u m l h (occs-length m l below ∙ e)
+
+weigh-same : (u : ℕ → ℕ) (m : ℕ) (l : List ℕ) → ((v : ℕ) → v < m → occ v l ≡ u v) → occs m l ≡ sumTo u m
+weigh-same u zero l h = refl
+weigh-same u (suc m) l h = omega (arith, weigh-same u m l (λ v p. h v (omega arith)), h m (omega arith))
+
+-- and so the other way round: each number as often as u says, or no oftener
+pub weighed : (u : ℕ → ℕ) (m : ℕ) (l : List ℕ) → ((v : ℕ) → 0 < occ v l → v < m) → ((v : ℕ) → v < m → occ v l ≡ u v) → length l ≡ sumTo u m
+weighed u m l below h = sym (occs-length m l below) ∙ weigh-same u m l h
+
+pub weighed-le : (u : ℕ → ℕ) (m : ℕ) (l : List ℕ) → ((v : ℕ) → 0 < occ v l → v < m) → ((v : ℕ) → occ v l ≤ u v) → length l ≤ sumTo u m
+weighed-le u m l below h = rw (← occs-length m l below) (weigh-le u m l h)

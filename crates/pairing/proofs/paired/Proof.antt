@@ -1,8 +1,9 @@
+-- An unpaired half-edge is right; of another the answer is that of `mates`.
 use mathlib.Core.Logic.{inl}
 use borrow.Author.Needs.{needs}
 use Rattle.laws.specs.Decide.{says-or}
-use Rattle.mesh.proofs.paired.Statement.{statement}
-use Rattle.mesh.proofs.paired.Tie as tie
+use Rattle.pairing.proofs.paired.Statement.{statement}
+use Rattle.pairing.proofs.paired.Tie as tie
 
 mul-p : tie.Need-mul-p
 mul-p c = search needs

@@ -1,11 +1,12 @@
+-- All triangles below t are sound; the first that is not is the answer.
 use Rattle.laws.specs.Decide.{refused, granted}
 use Rattle.mesh.specs.Mesh.{SoundAt}
 use borrow.Author.Count.{below-none, below-more}
 use Prim.Native.Nat.{ℕ, _≤_, _<_, _-_}
 use native.Mathlib.Omega.{arith}
 use borrow.Author.Needs.{needs}
-use Rattle.mesh.proofs.check_triangles.Statement.{statement}
-use Rattle.mesh.proofs.check_triangles.Tie as tie
+use Rattle.pairing.proofs.check_triangles.Statement.{statement}
+use Rattle.pairing.proofs.check_triangles.Tie as tie
 
 abbrev Inv-loop : tie.InvT-loop
 Inv-loop triangles sites count t₀ t = (t ≤ count) × ((k : ℕ) → k < t → SoundAt triangles sites k)

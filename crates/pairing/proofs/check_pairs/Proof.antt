@@ -1,12 +1,13 @@
+-- All half-edges below e are right; the first that is not is the answer.
 use Rattle.laws.specs.Decide.{refused, granted}
 use Rattle.mesh.specs.Mesh.{PairedAt}
 use borrow.Author.Count.{below-none, below-more}
 use lib.ListN.{length}
 use Prim.Native.Nat.{ℕ, _≤_, _<_, _-_}
 use native.Mathlib.Omega.{arith}
 use borrow.Author.Needs.{needs}
-use Rattle.mesh.proofs.check_pairs.Statement.{statement}
-use Rattle.mesh.proofs.check_pairs.Tie as tie
+use Rattle.pairing.proofs.check_pairs.Statement.{statement}
+use Rattle.pairing.proofs.check_pairs.Tie as tie
 
 abbrev Inv-loop : tie.InvT-loop
 Inv-loop triangles halfedges e₀ e = (e ≤ length triangles) × ((k : ℕ) → k < e → PairedAt triangles halfedges k)

@@ -1,25 +1,19 @@
--- Walks on a mesh whose pairing is right: they end, list no half-edge twice, and are all the half-edges together exactly where the fan is whole.
-use mathlib.Core.Path.{_≡_, refl, sym, ap, _∙_, subst}
-use mathlib.Core.List.{List, [], _∷_, _++_}
+-- Walks on a mesh whose pairing is right: they end, list no half-edge twice, stay at one site, and list what is reached.
+use mathlib.Core.Path.{_≡_, refl, sym, ap, _∙_}
+use mathlib.Core.List.{List, [], _∷_}
 use mathlib.Core.Bool.{Bool, true, false}
 use mathlib.Core.Logic.{_⊎_, inl, inr, ⊎-elim, _≢_}
-use Prim.Native.Nat.{ℕ, zero, suc, _+_, _-_, _%_, _≤_, _<_}
-use native.Mathlib.Nat.{zero-add, sub-zero}
+use Prim.Native.Nat.{ℕ, zero, suc, _+_, _-_, _≤_, _<_}
+use native.Mathlib.Nat.{add-zero}
 use native.Mathlib.Omega.{arith}
 use lib.Dec.{eqb}
-use lib.ListN.{length, getD, length-append}
+use lib.ListN.{length}
 use borrow.Author.Tests.{eqb-true, eqb-false}
 use Rattle.laws.specs.Pick.{pick}
 use Rattle.laws.specs.Decide.{lt-or-ge}
-use Rattle.mesh.specs.Mesh.{EMPTY, nextOf, startOf, endOf, pairOf, Mates, PairedAt, around, turnOf, walkOf, Reached, here, onward, Fan, wholeOf, totalTo}
+use Rattle.laws.specs.Count.{occ, same-cases, pigeonhole}
+use Rattle.mesh.specs.Mesh.{EMPTY, nextOf, endOf, pairOf, Mates, around, turnOf, walkOf, Reached, here, onward, wholeOf, Paired}
 use Rattle.mesh.specs.Laws.{next-lt, next-inj, walk-go, walk-done}
-use Rattle.laws.specs.Count.{same, occ, same-cases, occ-append, pigeonhole, all-there, all-counted}
-
--- a mesh whose pairing is right
-pub record Paired (tri he : List ℕ) : Type 0 where
-  pub threes : length he % 3 ≡ 0
-  pub small : length he < EMPTY
-  pub pairs : (e : ℕ) → e < length he → PairedAt tri he e
 
 pub turn-cases : (he : List ℕ) (s e : ℕ) → ((around he e ≡ s) × (turnOf he s e ≡ EMPTY)) ⊎ ((around he e ≢ s) × (turnOf he s e ≡ around he e))
 unfolding turnOf
@@ -39,21 +33,21 @@ module _ (tri he : List ℕ) (ok : Paired tri he) where
       next-inj (sym (mate a la n .back) ∙ ap (pairOf he) q ∙ mate b lb (λ z. n (q ∙ z)) .back)
 
   -- a step of the walk: it stays at the site, it is injective, and it does not come to the start
-  turn-there : (s e : ℕ) → turnOf he s e < length he → turnOf he s e ≡ around he e
+  pub turn-there : (s e : ℕ) → turnOf he s e < length he → turnOf he s e ≡ around he e
   turn-there s e l = ⊎-elim (λ w. absurd (omega (arith, ok .small, w .1))) (λ w. w .1) (turn-cases he s e)
 
-  turn-end : (s e : ℕ) → e < length he → turnOf he s e < length he → endOf tri (turnOf he s e) ≡ endOf tri e
+  pub turn-end : (s e : ℕ) → e < length he → turnOf he s e < length he → endOf tri (turnOf he s e) ≡ endOf tri e
   turn-end s e le l =
       let q = turn-there s e l in
       rw q (mate e le (omega (arith, ok .small)) .to)
 
-  turn-inj : (s a b : ℕ) → a < length he → b < length he → turnOf he s a < length he → turnOf he s a ≡ turnOf he s b → a ≡ b
+  pub turn-inj : (s a b : ℕ) → a < length he → b < length he → turnOf he s a < length he → turnOf he s a ≡ turnOf he s b → a ≡ b
   turn-inj s a b la lb l q =
       let p = turn-there s a l in
       let r = turn-there s b (omega arith) in
       around-inj a b la lb (omega (arith, ok .small)) (cc)
 
-  turn-start : (s e : ℕ) → s < length he → turnOf he s e ≢ s
+  pub turn-start : (s e : ℕ) → s < length he → turnOf he s e ≢ s
   turn-start s e l q = ⊎-elim (λ w. omega (arith, ok .small)) (λ w. w .0 (sym (w .1) ∙ q)) (turn-cases he s e)
 
 -- the half-edge after k steps
@@ -119,12 +113,12 @@ module _ (tri he : List ℕ) (ok : Paired tri he) (s : ℕ) (in-mesh : s < lengt
 
 -- what a walk lists is in the mesh, ends where the walk's first half-edge ends, and is reached
 module _ (tri he : List ℕ) (ok : Paired tri he) (s : ℕ) where
-  walk-in : (n e v : ℕ) → 0 < occ v (walkOf he s n e) → e < length he
+  pub walk-in : (n e v : ℕ) → 0 < occ v (walkOf he s n e) → e < length he
   unfolding walkOf
   walk-in zero e v h = absurd (omega arith)
   walk-in (suc n) e v h = ⊎-elim (λ w. w .0) (λ w. absurd (omega (arith, ap (occ v) (w .1)))) (walk-cases he s n e)
 
-  walk-ends : (n e v : ℕ) → 0 < occ v (walkOf he s n e) → (v < length he) × (endOf tri v ≡ endOf tri e)
+  pub walk-ends : (n e v : ℕ) → 0 < occ v (walkOf he s n e) → (v < length he) × (endOf tri v ≡ endOf tri e)
   unfolding walkOf
   walk-ends zero e v h = absurd (omega arith)
   walk-ends (suc n) e v h =
@@ -139,7 +133,7 @@ module _ (tri he : List ℕ) (ok : Paired tri he) (s : ℕ) where
       (λ w. absurd (omega (arith, ap (occ v) (w .1))))
       (walk-cases he s n e)
 
-  walk-reached : (n e v : ℕ) → Reached he s e → 0 < occ v (walkOf he s n e) → Reached he s v
+  pub walk-reached : (n e v : ℕ) → Reached he s e → 0 < occ v (walkOf he s n e) → Reached he s v
   unfolding walkOf
   walk-reached zero e v r h = absurd (omega arith)
   walk-reached (suc n) e v r h =
@@ -175,8 +169,23 @@ module _ (tri he : List ℕ) (ok : Paired tri he) (s : ℕ) where
     pub walk-whole : walkOf he s (suc (length he)) s ≡ wholeOf he s
     walk-whole = walk-more he s (length he) s (walk-short (suc (length he)))
 
+    more-fuel : (j : ℕ) → walkOf he s (length he + j) s ≡ wholeOf he s
+    more-fuel zero = rw add-zero
+    more-fuel (suc j) =
+        let q : length he + suc j ≡ suc (length he + j) = omega arith in
+        rw q (walk-more he s (length he + j) s (omega (arith, walk-short (suc (length he + j)))) ∙ more-fuel j)
+
+  -- the whole walk stops by its own rule: more fuel gives the same list
+  pub walk-fuel : (k : ℕ) → length he ≤ k → walkOf he s k s ≡ wholeOf he s
+  walk-fuel k h =
+      let q : k ≡ length he + (k - length he) = omega arith in
+      ⊎-elim
+      (λ l. rw q (more-fuel l (k - length he)))
+      (λ l. walk-done he s k s l ∙ sym (walk-done he s (length he) s l))
+      (lt-or-ge s (length he))
+
   -- what is reached is in the walk
-  reached-walk : {v : ℕ} → Reached he s v → v < length he → 0 < occ v (wholeOf he s)
+  pub reached-walk : {v : ℕ} → Reached he s v → v < length he → 0 < occ v (wholeOf he s)
   reached-walk here l = rw (← walk-whole l) (walk-first (length he) s l)
   reached-walk (onward {e} le r) l =
       let p = reached-walk r le in
@@ -186,120 +195,11 @@ module _ (tri he : List ℕ) (ok : Paired tri he) (s : ℕ) where
       (λ w. rw (← w .1, ← walk-whole m) (walk-next (length he) s e (rw (w .1) l) p))
       (turn-cases he s e)
 
--- the walks from the first n entries of a table, one after the other
-allOf : List ℕ → List ℕ → ℕ → List ℕ
-allOf he tab zero = []
-allOf he tab (suc n) = allOf he tab n ++ wholeOf he (getD tab n 0)
-
--- a table that holds at each site nothing of the mesh, or a half-edge that ends there
-pub record Ends (tri he tab : List ℕ) : Type 0 where
-  pub sites : (e : ℕ) → e < length he → endOf tri e < length tab
-  pub ends : (n : ℕ) → n < length tab → getD tab n 0 < length he → endOf tri (getD tab n 0) ≡ n
-
-module _ (tri he tab : List ℕ) (ok : Paired tri he) (t : Ends tri he tab) where
-  -- a half-edge is in no walk but that of the site where it ends
-  elsewhere : (n v : ℕ) → n < length tab → endOf tri v ≢ n → occ v (wholeOf he (getD tab n 0)) ≡ 0
-  elsewhere n v l h =
-      let s : ℕ = getD tab n 0 in
-      ⊎-elim
-      (λ p. absurd (h (walk-ends tri he ok s (length he) s v p .1 ∙ t .ends n l (walk-in tri he ok s (length he) s v p))))
-      (λ p. omega arith)
-      (lt-or-ge 0 (occ v (wholeOf he s)))
-
-  not-yet : (n v : ℕ) → n ≤ length tab → n ≤ endOf tri v → occ v (allOf he tab n) ≡ 0
-  unfolding allOf
-  not-yet zero v l h = refl
-  not-yet (suc n) v l h =
-      rw (occ-append v (allOf he tab n)) (omega (arith, not-yet n v (omega arith) (omega arith), elsewhere n v l (omega arith)))
-
-  in-all : (n v : ℕ) → n ≤ length tab → endOf tri v < n → occ v (allOf he tab n) ≡ occ v (wholeOf he (getD tab (endOf tri v) 0))
-  unfolding allOf
-  in-all zero v l h = absurd (omega arith)
-  in-all (suc n) v l h =
-      rw (occ-append v (allOf he tab n)) (⊎-elim
-      (λ u. rw (u .0) (omega (arith, not-yet n v (omega arith) (omega (arith, u .0)))))
-      (λ u. omega (arith, in-all n v (omega arith) (omega (arith, u .0)), elsewhere n v l (u .0)))
-      (same-cases (endOf tri v) n))
-
-  all-below : (n v : ℕ) → 0 < occ v (allOf he tab n) → v < length he
-  unfolding allOf
-  all-below zero v h = absurd (omega arith)
-  all-below (suc n) v h =
-      let s : ℕ = getD tab n 0 in
-      ⊎-elim
-      (λ p. all-below n v p)
-      (λ p. walk-ends tri he ok s (length he) s v (omega (arith, occ-append v (allOf he tab n) (wholeOf he s))) .0)
-      (lt-or-ge 0 (occ v (allOf he tab n)))
-
-  all-length : (n : ℕ) → length (allOf he tab n) ≡ totalTo he tab n
-  unfolding allOf totalTo
-  all-length zero = refl
-  all-length (suc n) = omega (arith, all-length n, length-append (allOf he tab n) (wholeOf he (getD tab n 0)))
-
-  pub whole-once : (s v : ℕ) → occ v (wholeOf he s) ≤ 1
+  -- no half-edge is in the whole walk twice
+  pub whole-once : (v : ℕ) → occ v (wholeOf he s) ≤ 1
   unfolding posOf
-  whole-once s v =
+  whole-once v =
       ⊎-elim
       (λ l. once tri he ok s l (length he) 0 v (λ k h. absurd (omega arith)))
       (λ l. rw (walk-done he s (length he) s l) (omega arith))
       (lt-or-ge s (length he))
-
-  all-once : (v : ℕ) → occ v (allOf he tab (length tab)) ≤ 1
-  all-once v =
-      ⊎-elim
-      (λ l. rw (in-all (length tab) v (omega arith) l) (whole-once _ v))
-      (λ l. rw (not-yet (length tab) v (omega arith) l) (omega arith))
-      (lt-or-ge (endOf tri v) (length tab))
-
-  -- the fan is whole exactly where the walks have as many entries as there are half-edges
-  pub fan-total : Fan tri he tab → totalTo he tab (length tab) ≡ length he
-  fan-total f =
-      sym (all-length (length tab)) ∙ all-counted (length he) (allOf he tab (length tab)) (all-below (length tab)) (λ v l.
-      let s : ℕ = getD tab (endOf tri v) 0 in
-      omega (arith, in-all (length tab) v (omega arith) (t .sites v l), reached-walk tri he ok s (f v l) l, whole-once s v))
-
-  -- and then the walk of a site lists each half-edge that ends there exactly once
-  pub total-each : totalTo he tab (length tab) ≡ length he → (e : ℕ) → e < length he → occ e (wholeOf he (getD tab (endOf tri e) 0)) ≡ 1
-  total-each q e l =
-      sym (in-all (length tab) e (omega arith) (t .sites e l)) ∙ all-there (length he) (allOf he tab (length tab)) (all-below (length tab)) all-once (all-length (length tab) ∙ q) e l
-
-  pub total-fan : totalTo he tab (length tab) ≡ length he → Fan tri he tab
-  total-fan q e l =
-      let s : ℕ = getD tab (endOf tri e) 0 in
-      walk-reached tri he ok s (length he) s e here (omega (arith, total-each q e l))
-
-  -- the walks together take no more steps than there are half-edges
-  pub total-le : totalTo he tab (length tab) ≤ length he
-  total-le = rw (← all-length (length tab)) (pigeonhole (length he) (allOf he tab (length tab)) (all-below (length tab)) all-once)
-
-  pub walk-at-site : (n v : ℕ) → n < length tab → 0 < occ v (wholeOf he (getD tab n 0)) → (v < length he) × (endOf tri v ≡ n)
-  walk-at-site n v l p =
-      let s : ℕ = getD tab n 0 in
-      let r = walk-ends tri he ok s (length he) s v p in
-      (r .0, r .1 ∙ t .ends n l (walk-in tri he ok s (length he) s v p))
-
--- a walk with no budget, on a mesh whose pairing is right: after n steps it is at e
-pub record Walking (he : List ℕ) (s e n : ℕ) : Type 0 where
-  pub room : n ≤ length he
-  pub sum : n + length (walkOf he s (suc (length he) - n) e) ≡ length (walkOf he s (suc (length he)) s)
-
-module _ (tri he : List ℕ) (ok : Paired tri he) (s : ℕ) (in-mesh : s < length he) where
-  pub walking-start : Walking he s s 0
-  walking-start = record { room = omega arith; sum = rw (zero-add, sub-zero) }
-
-  walking-sum : (e n : ℕ) → Walking he s e n → e < length he → n + suc (length (walkOf he s (length he - n) (turnOf he s e))) ≡ length (walkOf he s (suc (length he)) s)
-  walking-sum e n g l =
-      let k : suc (length he) - n ≡ suc (length he - n) = omega (arith, g .room) in
-      rw (k, walk-go he s (length he - n) e l) at (g .sum)
-
-  -- so there is a next step within the count of the half-edges: the measure
-  pub walking-room : (e n : ℕ) → Walking he s e n → e < length he → n < length he
-  walking-room e n g l = omega (arith, walking-sum e n g l, walk-short tri he ok s in-mesh (suc (length he)))
-
-  pub walking-step : (e n x : ℕ) → Walking he s e n → e < length he → x ≡ turnOf he s e → Walking he s x (n + 1)
-  walking-step e n x g l q =
-      let k : suc (length he) - (n + 1) ≡ length he - n = omega arith in
-      record { room = omega (arith, walking-room e n g l); sum = rw (k, q) (omega (arith, walking-sum e n g l)) }
-
-  pub walking-done : (e n : ℕ) → Walking he s e n → length he ≤ e → n ≡ length (wholeOf he s)
-  walking-done e n g l = rw (← walk-whole tri he ok s in-mesh) (omega (arith, g .sum, ap length (walk-done he s (suc (length he) - n) e l)))
