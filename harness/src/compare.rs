@@ -1,9 +1,8 @@
 //! One case put to the Rust, to the second reading of 01 and to the proved library: any difference is told in words.
 
-use crate::archive;
-use crate::archive::walks::{Out, Question};
 use crate::cases::Case;
 use crate::expect::{self, Accepted, Beside, Facts, Slices};
+use crate::library::{Call, Difference, Library};
 use crate::mesh::{Area, Mesh, Pt, EMPTY};
 use crate::reference;
 use crate::rust;
@@ -49,12 +48,27 @@ pub fn build_both(m: &Mesh, lent: &rust::Lent, clip: Option<&Area>, tally: &mut 
     Ok(ours)
 }
 
-pub fn run(c: &Case, tally: &mut Tally) -> Told {
+/// A call with the whole mesh as its first arguments.
+fn on_mesh(name: &'static str, number: u32, m: &Mesh) -> Call {
+    Call::new(name).gives(number).floats(&m.sites).indexes(&m.triangles).indexes(&m.halfedges).indexes(&m.hull)
+}
+
+/// One case put to all sides. The library's answers may be compared later, when enough calls are gathered.
+pub fn run(index: u64, c: &Case, library: &mut Library, tally: &mut Tally) -> Result<(), Difference> {
+    let mut calls = Vec::new();
+    ask(c, &mut calls, tally).map_err(|words| Difference { case: index, words })?;
+    for call in calls {
+        library.put(index, call)?;
+    }
+    Ok(())
+}
+
+fn ask(c: &Case, calls: &mut Vec<Call>, tally: &mut Tally) -> Told {
     let m = &c.mesh;
     let facts = Facts::of(m);
     tally.cases += 1;
 
-    check(c, &facts, tally)?;
+    check(c, &facts, calls, tally);
     let lent = facts.accepted().then(|| rust::Lent::new(m));
     let mut clipped: Outcome = Err(0);
     let mut whole: Outcome = Err(0);
@@ -65,33 +79,28 @@ pub fn run(c: &Case, tally: &mut Tally) -> Told {
         }
         whole = build_both(m, lent, None, tally)?;
     }
-    build(c, &facts, Some(&c.area), &clipped, tally)?;
-    build(c, &facts, None, &whole, tally)?;
+    build(c, &facts, Some(&c.area), &clipped, calls, tally)?;
+    build(c, &facts, None, &whole, calls, tally)?;
 
     let cells = match (&clipped, &whole) {
         (Ok(b), _) | (_, Ok(b)) => b.plain(),
         _ => (0..m.count() as u32).map(|s| vec![s / 2, s / 2 + 1, s / 3]).collect(),
     };
     let diagram = lent.as_ref().map(|l| rust::diagram(l, &cells));
-    walks(c, &facts, &cells, diagram.as_ref(), tally)?;
-    cell_questions(c, &cells, diagram.as_ref(), tally)
+    walks(c, &facts, &cells, diagram.as_ref(), calls, tally)?;
+    cell_questions(c, &cells, diagram.as_ref(), calls, tally)
 }
 
-fn check(c: &Case, facts: &Facts, tally: &mut Tally) -> Told {
+fn check(c: &Case, facts: &Facts, calls: &mut Vec<Call>, tally: &mut Tally) {
     let beside = Beside { room: c.work >= c.mesh.count(), area: None, site: None, to: None };
     let number = expect::mesh_number(&c.mesh, facts, &beside);
     tally.number("check", number);
-    let entry = vec![0xa5a5a5a5; c.work];
-    let mut work = entry.clone();
-    if let Some(given) = archive::checker::check(&c.mesh, &mut work) {
-        tally.compared += 1;
-        equal("check", &number, &given)?;
-        equal("check: work", &expect::work_after(number, &entry, &facts.leftmost), &work)?;
-    }
-    Ok(())
+    let work = vec![0xa5a5a5a5; c.work];
+    let after = expect::work_after(number, &work, &facts.leftmost);
+    calls.push(on_mesh("check", number, &c.mesh).lent_indexes(&work, &after));
 }
 
-fn build(c: &Case, facts: &Facts, area: Option<&Area>, outcome: &Outcome, tally: &mut Tally) -> Told {
+fn build(c: &Case, facts: &Facts, area: Option<&Area>, outcome: &Outcome, calls: &mut Vec<Call>, tally: &mut Tally) -> Told {
     let name = if area.is_some() { "build" } else { "build_unclipped" };
     let beside = Beside { room: c.lengths.suffice(&c.mesh), area, site: None, to: None };
     let mut number = expect::mesh_number(&c.mesh, facts, &beside);
@@ -99,63 +108,71 @@ fn build(c: &Case, facts: &Facts, area: Option<&Area>, outcome: &Outcome, tally:
         number = *outcome.as_ref().err().unwrap_or(&0);
     }
     tally.number(name, number);
-    if let (0, Ok(b)) = (number, outcome) {
-        let exact = expect::Lengths::exact(&c.mesh);
-        let entries: usize = b.cells.iter().map(|c| c.len()).sum();
-        let (vertices, entries) = (b.vertices.len() as f64 / (exact.floats / 2) as f64, entries as f64 / exact.indexes as f64);
-        tally.most_vertices = tally.most_vertices.max(vertices);
-        tally.most_entries = tally.most_entries.max(entries);
-        if vertices > 1.0 || entries > 1.0 {
-            return Err(format!("{name}: the room does not suffice"));
-        }
-    }
     let entry = Slices::fresh(&c.lengths);
-    let mut exit = entry.clone();
-    if let Some(given) = archive::builds::build(&c.mesh, area, &mut exit) {
-        tally.compared += 1;
-        equal(name, &number, &given)?;
-        let owed = match (number, outcome) {
-            (0, Ok(b)) => {
-                let cells = b.plain();
-                let a = Accepted {
-                    leftmost: &b.leftmost,
-                    vertices: &b.vertices,
-                    cells: &cells,
-                    owners: &b.owners,
-                    lost: b.lost,
-                };
-                expect::built(0, Some(&a), &entry)
+    let exit = match (number, outcome) {
+        (0, Ok(b)) => {
+            let exact = expect::Lengths::exact(&c.mesh);
+            let entries: usize = b.cells.iter().map(|c| c.len()).sum();
+            let vertices = b.vertices.len() as f64 / (exact.floats / 2) as f64;
+            let entries = entries as f64 / exact.indexes as f64;
+            tally.most_vertices = tally.most_vertices.max(vertices);
+            tally.most_entries = tally.most_entries.max(entries);
+            if vertices > 1.0 || entries > 1.0 {
+                return Err(format!("{name}: the room does not suffice"));
             }
-            _ => expect::built(number, None, &entry),
-        };
-        if !owed.same(&exit) {
-            return Err(format!("{name}: lent slices:\n  owed  {owed:?}\n  given {exit:?}"));
+            let cells = b.plain();
+            let (leftmost, vertices, cells, owners) = (&b.leftmost[..], &b.vertices[..], &cells[..], &b.owners[..]);
+            expect::built(0, Some(&Accepted { leftmost, vertices, cells, owners, lost: b.lost }), &entry)
         }
-    }
+        _ => expect::built(number, None, &entry),
+    };
+    let m = &c.mesh;
+    let call = match area {
+        Some(a) => Call::new(name).gives(number).float(a.x).float(a.y).float(a.width).float(a.height),
+        None => Call::new(name).gives(number),
+    };
+    calls.push(
+        call.floats(&m.sites)
+            .indexes(&m.triangles)
+            .indexes(&m.halfedges)
+            .indexes(&m.hull)
+            .lent_indexes(&entry.work, &exit.work)
+            .lent_floats(&entry.floats, &exit.floats)
+            .lent_indexes(&entry.indexes, &exit.indexes)
+            .lent_indexes(&entry.offsets, &exit.offsets)
+            .lent_indexes(&entry.counts, &exit.counts),
+    );
     Ok(())
 }
 
-/// One list handed out, and what the archive says to the same question.
-fn hand(c: &Case, facts: &Facts, number: u32, whole: &[u32], q: Question, which: usize, tally: &mut Tally) -> Told {
-    let name = ["walk", "neighbours", "clipped_neighbours", "path"][which];
+/// The names of the lists that are handed out, each with its own allowance.
+const LISTS: [&str; 4] = ["walk", "neighbours", "clipped_neighbours", "path"];
+
+/// One list handed out: `question` adds what is asked, between the mesh and the lent slices.
+fn hand(
+    c: &Case, facts: &Facts, which: usize, number: u32, whole: &[u32], question: impl FnOnce(Call) -> Call,
+    calls: &mut Vec<Call>, tally: &mut Tally,
+) {
+    let name = LISTS[which];
     let length = c.allowances[which].length(whole.len());
     tally.number(name, number);
     if number == 0 {
         tally.allowance(length, whole.len());
     }
-    let (work_entry, out_entry) = (vec![0xa5a5a5a5; c.work], vec![0x5a5a5a5a; length]);
-    let owed = expect::handed(number, whole, &work_entry, &facts.leftmost, &out_entry);
-    let (mut work, mut out) = (work_entry, out_entry);
-    let mut o = Out { work: &mut work, out: &mut out, count: 77, ended: 77 };
-    if let Some(given) = archive::walks::ask(&c.mesh, q, &mut o) {
-        tally.compared += 1;
-        let (count, ended) = (o.count, o.ended);
-        equal(name, &owed, &expect::Handed { number: given, count, ended, work, out })?;
-    }
-    Ok(())
+    let (work, out) = (vec![0xa5a5a5a5; c.work], vec![0x5a5a5a5a; length]);
+    let owed = expect::handed(number, whole, &work, &facts.leftmost, &out);
+    calls.push(
+        question(on_mesh(name, number, &c.mesh))
+            .lent_indexes(&work, &owed.work)
+            .lent_indexes(&out, &owed.out)
+            .gives(owed.count)
+            .gives(owed.ended),
+    );
 }
 
-fn walks(c: &Case, facts: &Facts, cells: &[Vec<u32>], diagram: Option<&Voronoi>, tally: &mut Tally) -> Told {
+fn walks(
+    c: &Case, facts: &Facts, cells: &[Vec<u32>], diagram: Option<&Voronoi>, calls: &mut Vec<Call>, tally: &mut Tally,
+) -> Told {
     let m = &c.mesh;
     let left = &facts.leftmost;
     if let Some(v) = diagram {
@@ -182,18 +199,19 @@ fn walks(c: &Case, facts: &Facts, cells: &[Vec<u32>], diagram: Option<&Voronoi>,
     let s = c.site as usize;
     let asked = (number == 0).then_some(diagram).flatten();
     let list = |f: &dyn Fn(&Voronoi) -> Vec<u32>| asked.map(f).unwrap_or_default();
-    hand(c, facts, number, &list(&|v| rust::walk(v, s)), Question::Walk(c.site), 0, tally)?;
-    hand(c, facts, number, &list(&|v| rust::neighbours(v, s)), Question::Neighbours(c.site), 1, tally)?;
+    hand(c, facts, 0, number, &list(&|v| rust::walk(v, s)), |q| q.number(c.site), calls, tally);
+    hand(c, facts, 1, number, &list(&|v| rust::neighbours(v, s)), |q| q.number(c.site), calls, tally);
 
     let (offsets, entries) = c.lent_offsets(cells);
     let sound = offsets.len() == m.count() + 1 && expect::offsets_sound(&offsets, entries.len());
     let after = if number == 0 && !sound { 16 } else { number };
     let kept = if after == 0 { list(&|v| rust::clipped_neighbours(v, s)) } else { Vec::new() };
-    hand(c, facts, after, &kept, Question::Clipped(c.site, &offsets, &entries), 2, tally)?;
+    let question = |q: Call| q.indexes(&offsets).indexes(&entries).number(c.site);
+    hand(c, facts, 2, after, &kept, question, calls, tally);
 
-    let to = expect::mesh_number(m, facts, &Beside { to: Some(c.to), ..beside });
-    let path = if to == 0 { list(&|v| rust::path(v, s, c.to)) } else { Vec::new() };
-    hand(c, facts, to, &path, Question::Path(c.site, c.to), 3, tally)?;
+    let number = expect::mesh_number(m, facts, &Beside { to: Some(c.to), ..beside });
+    let path = if number == 0 { list(&|v| rust::path(v, s, c.to)) } else { Vec::new() };
+    hand(c, facts, 3, number, &path, |q| q.number(c.site).float(c.to.x).float(c.to.y), calls, tally);
 
     let number = expect::mesh_number(m, facts, &Beside { site: None, ..beside });
     let (a, b) = c.pair;
@@ -205,42 +223,30 @@ fn walks(c: &Case, facts: &Facts, cells: &[Vec<u32>], diagram: Option<&Voronoi>,
         equal("shared edge", &owed, &reference::shared_edge(m, a, b))?;
     }
     tally.number("shared_edge", number);
-    let entry = vec![0xa5a5a5a5; c.work];
-    let mut work = entry.clone();
-    if let Some(given) = archive::walks::shared_edge(m, a, b, &mut work) {
-        tally.compared += 1;
-        equal("shared_edge", &(number, owed), &given)?;
-        equal("shared_edge: work", &expect::work_after(number, &entry, left), &work)?;
-    }
+    let work = vec![0xa5a5a5a5; c.work];
+    let exit = expect::work_after(number, &work, left);
+    calls.push(on_mesh("shared_edge", number, m).number(a).number(b).lent_indexes(&work, &exit).gives(owed));
     Ok(())
 }
 
-fn cell_questions(c: &Case, cells: &[Vec<u32>], diagram: Option<&Voronoi>, tally: &mut Tally) -> Told {
+fn cell_questions(
+    c: &Case, cells: &[Vec<u32>], diagram: Option<&Voronoi>, calls: &mut Vec<Call>, tally: &mut Tally,
+) -> Told {
     let (offsets, entries) = c.lent_offsets(cells);
     let number = expect::cell_number(&offsets, entries.len(), &[c.site, c.other]);
     tally.number("cells_share_edge", number);
-    // The Rust is asked about the cells as they are read through the lent offsets.
     let part = |s: u32| &entries[offsets[s as usize] as usize..offsets[s as usize + 1] as usize];
     let yes = number == 0 && reference::shared_entries(part(c.site), part(c.other)) >= 2;
     if let (0, Some(v), crate::cases::Offsets::Sound) = (number, diagram, c.offsets) {
         equal("cells share an edge", &rust::cells_share(v, c.site as usize, c.other as usize), &yes)?;
     }
-    if let Some(given) = archive::walks::cells_share_edge(&offsets, &entries, c.site, c.other) {
-        tally.compared += 1;
-        equal("cells_share_edge", &(number, yes as u32), &given)?;
-    }
+    let ask = |name, number| Call::new(name).gives(number).indexes(&offsets).indexes(&entries).number(c.site);
+    calls.push(ask("cells_share_edge", number).number(c.other).gives(yes as u32));
 
     let number = expect::cell_number(&offsets, entries.len(), &[c.site]);
     tally.number("cell", number);
-    let (start, length) = if number == 0 {
-        let s = c.site as usize;
-        (offsets[s], offsets[s + 1] - offsets[s])
-    } else {
-        (0, 0)
-    };
-    if let Some(given) = archive::builds::cell(&offsets, &entries, c.site) {
-        tally.compared += 1;
-        equal("cell", &(number, start, length), &given)?;
-    }
+    let s = c.site as usize;
+    let (start, length) = if number == 0 { (offsets[s], offsets[s + 1] - offsets[s]) } else { (0, 0) };
+    calls.push(ask("cell", number).gives(start).gives(length));
     Ok(())
 }

@@ -29,11 +29,9 @@ const NUMBERS: usize = 18;
 #[derive(Default)]
 pub struct Tally {
     pub cases: u64,
-    /// Comparisons with the archive.
-    pub compared: u64,
     pub numbers: Vec<[u64; NUMBERS]>,
     pub branches: Counts,
-    /// Branches that the runs on meshes needn't reach.
+    /// How long the lent slice was against the list: 0, shorter, as long, longer.
     pub allowances: [u64; 4],
     pub most_vertices: f64,
     pub most_entries: f64,

@@ -1,11 +1,15 @@
 //! Puts cases to the Rust, to document 01 read a second time and to the proved library, and tells the first difference.
 //!
-//!     compare [--cases N] [--seed S] [--from I]     (default 20,000 cases)
-//!     compare --case I [--seed S]                    one case alone, with its mesh
+//!     compare [--cases N] [--plane N] [--roots N] [--seed S] [--from I]
+//!     compare --case I [--seed S]      one mesh case alone, with its mesh
+//!
+//! By default 20,000 meshes, 100,000 inputs to each plane function and 10,000 patterns of each class to the roots.
+//! The library is served by the command in VORONOI_SERVER (harness/serve.sh makes it).
 
 use harness::cases::Case;
-use harness::tally::Tally;
-use harness::{archive, compare, rust, text};
+use harness::library::{Difference, Library};
+use harness::tally::{Tally, CALLS};
+use harness::{compare, plane, roots, rust, text};
 use std::time::{Duration, Instant};
 
 fn main() {
@@ -17,54 +21,83 @@ fn main() {
     };
     let seed = option("--seed").unwrap_or(1);
     rust::quiet();
-    let mut tally = Tally::new();
+    let mut library = Library::start().unwrap_or_else(|e| stop(&e));
 
     if let Some(i) = option("--case") {
         let case = Case::random(seed, i);
         print!("{}", text::write(&case.mesh, Some(&case.area)));
         println!("{:?}", Case { mesh: Default::default(), ..case.clone() });
-        match compare::run(&case, &mut tally) {
+        let told = compare::run(i, &case, &mut library, &mut Tally::new()).and_then(|()| library.flush());
+        match told {
             Ok(()) => println!("no difference"),
-            Err(words) => stop(&words),
+            Err(d) => stop(&d.words),
         }
         return;
     }
 
-    let (cases, from) = (option("--cases").unwrap_or(20_000), option("--from").unwrap_or(0));
-    for (part, linked) in archive::parts() {
-        println!("{part}: {}", if linked { "the library is compared" } else { "NOT in the library's archive, only the Rust and 01 are compared" });
+    match library.names() {
+        [] => println!("NO LIBRARY: only the Rust and document 01 are compared"),
+        names => println!("The library is asked: {}", names.join(" ")),
     }
-    let start = Instant::now();
-    for (name, case) in Case::limits(seed) {
-        if let Err(words) = compare::run(&case, &mut tally) {
-            stop(&format!("DIFFERENCE in the limit case \"{name}\" of seed {seed}\n{}", shortened(&words)));
-        }
+    let cases = option("--cases").unwrap_or(20_000);
+    let mut holes = Vec::new();
+    if cases > 0 {
+        holes.extend(meshes(seed, option("--from").unwrap_or(0), cases, &mut library));
     }
-    let mut told = Instant::now();
-    for i in from..from + cases {
-        let case = Case::random(seed, i);
-        if let Err(words) = compare::run(&case, &mut tally) {
-            print!("{}", text::write(&case.mesh, Some(&case.area)));
-            stop(&format!("DIFFERENCE in case {i} of seed {seed} (compare --case {i} --seed {seed})\n{words}"));
-        }
-        if told.elapsed() > Duration::from_secs(10) {
-            told = Instant::now();
-            let done = i - from + 1;
-            eprintln!("{done} of {cases} cases, {} comparisons with the library, no difference, {:.0} s", tally.compared, start.elapsed().as_secs_f64());
-        }
+    let n = option("--plane").unwrap_or(100_000);
+    if n > 0 {
+        let before = library.compared;
+        let seen = plane::run(seed, n, &mut library).unwrap_or_else(|d| tell("plane", seed, &d));
+        holes.extend(plane::report(&seen));
+        println!("\n{n} inputs to each plane function, {} calls of the library compared, 0 differences", library.compared - before);
     }
-    let holes = tally.report();
-    println!(
-        "\n{} cases, {} comparisons with the library, 0 differences, {:.1} s",
-        tally.cases, tally.compared, start.elapsed().as_secs_f64()
-    );
+    let n = option("--roots").unwrap_or(10_000);
+    if n > 0 && library.has("root_bits") {
+        let before = library.compared;
+        roots::run(seed, n, &mut library).unwrap_or_else(|d| tell("root", seed, &d));
+        println!("\nRoots: {n} patterns of each class ({}), {} calls compared, 0 differences", roots::CLASSES.join(", "), library.compared - before);
+    }
     if !holes.is_empty() {
         stop(&format!("never came up: {}", holes.join(", ")));
     }
 }
 
-fn shortened(words: &str) -> String {
-    words.chars().take(2000).collect()
+/// The limits, then the random cases; gives what never came up.
+fn meshes(seed: u64, from: u64, cases: u64, library: &mut Library) -> Vec<String> {
+    let mut tally = Tally::new();
+    let start = Instant::now();
+    for (name, case) in Case::limits(seed) {
+        let told = compare::run(0, &case, library, &mut tally).and_then(|()| library.flush());
+        told.unwrap_or_else(|d| stop(&format!("DIFFERENCE in the limit case \"{name}\" of seed {seed}\n{}", d.words)));
+    }
+    let mut told = Instant::now();
+    for i in from..from + cases {
+        compare::run(i, &Case::random(seed, i), library, &mut tally).unwrap_or_else(|d| differs(seed, &d));
+        if told.elapsed() > Duration::from_secs(10) {
+            told = Instant::now();
+            let done = i - from + 1;
+            let seconds = start.elapsed().as_secs_f64();
+            eprintln!("{done} of {cases} cases, {} calls of the library compared, no difference, {seconds:.0} s", library.compared);
+        }
+    }
+    library.flush().unwrap_or_else(|d| differs(seed, &d));
+    let holes = tally.report();
+    let asked = CALLS.iter().filter(|c| library.has(c.name)).count();
+    println!(
+        "\n{} mesh cases, {} calls of the library ({asked} of {} functions on meshes) compared, 0 differences, {:.1} s",
+        tally.cases, library.compared, CALLS.len(), start.elapsed().as_secs_f64()
+    );
+    holes
+}
+
+fn differs(seed: u64, d: &Difference) -> ! {
+    let case = Case::random(seed, d.case);
+    print!("{}", text::write(&case.mesh, Some(&case.area)));
+    stop(&format!("DIFFERENCE in case {0} of seed {seed} (again: compare --case {0} --seed {seed})\n{1}", d.case, d.words))
+}
+
+fn tell<T>(what: &str, seed: u64, d: &Difference) -> T {
+    stop(&format!("DIFFERENCE in a {what} function, input {} of seed {seed}\n{}", d.case, d.words))
 }
 
 fn stop(words: &str) -> ! {

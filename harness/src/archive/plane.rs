@@ -1,1 +1,0 @@
-//! Not linked yet.
