@@ -18,6 +18,9 @@ for file in utils bounding_box iterator cell_builder; do
 done
 export VORONOI_SOURCE
 (cd "$here" && cargo build --release --offline --quiet)
+made=$root/target/harness/release
+"$made/oracle" --check "$here"/meshes/*.txt
+"$made/stored" check "$here/stored/answers.bin" "$here"/meshes/*.txt
 VORONOI_SERVER=$("$here/serve.sh")
 export VORONOI_SERVER
-exec "$root/target/harness/release/compare" "$@"
+exec "$made/compare" "$@"

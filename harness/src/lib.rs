@@ -10,5 +10,6 @@ pub mod plane;
 pub mod reference;
 pub mod roots;
 pub mod rust;
+pub mod stored;
 pub mod tally;
 pub mod text;
