@@ -7,7 +7,7 @@ use lib.Dec.{T}
 use lib.ListN.{length, getD}
 use lib.Ieee.{Float, isNan}
 use Rattle.mesh.specs.Mesh.{endOf}
-use Rattle.mesh.specs.Fan.{Paired}
+use Rattle.mesh.specs.Mesh.{Paired}
 use Rattle.utils.specs.declared.Point.{Point}
 use Rattle.iterator.specs.Path.{distOf}
 
