@@ -7,3 +7,4 @@ pub mod Answers
 pub mod RowsBuilt
 pub mod RowsRefused
 pub mod RowsUnclipped
+pub mod Gives
