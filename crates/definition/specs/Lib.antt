@@ -8,3 +8,5 @@ pub mod RowsBuilt
 pub mod RowsRefused
 pub mod RowsUnclipped
 pub mod Gives
+pub mod Puts
+pub mod Edge
