@@ -20,7 +20,7 @@ use Rattle.vertices.specs.Add.{Added, nearPt, findNear, addVertex}
 use Rattle.mesh.specs.Mesh.{EMPTY}
 use Rattle.definition.specs.Fault.{Outcome, ok, refused, andThen}
 use Rattle.definition.specs.Cell.{Mark, plain, crossing, wrapped, Entry, entry, lastOr, Took, took, firstCrossing, secondCrossing, Ins, ins, around, led, insertAt, insertEdge, vertexAt, Clip, missed, once, twice, clipWith, edgeCrossing, clipEdge, Change, change, tookOne, tookTwo, leave, enterAt, enter, link, crossAt, cross, clipStep}
-use Rattle.definition.specs.Gives.{Gives, gives-then, picked}
+use Rattle.definition.specs.Gives.{Gives, gives-then, gives-next, picked}
 use Rattle.definition.specs.Puts.{Puts, puts-none, puts-more, puts-then, puts-plain, puts-crossing, puts-around}
 
 -- ---- vertices
@@ -244,3 +244,29 @@ module _ (P : ℕ → Type 0) (b : BoundingBox) (nc site : ℕ) (real : site ≢
   clip-step p true q false vs os opened last room four h = leave-edge p vs os opened _ (h refl .0) (h refl .1) (clip-edge b nc vs p q room)
   clip-step p false q true vs os opened last room four h = enter-edge vs os opened last _ four (clip-edge b nc vs q p room)
   clip-step p false q false vs os opened last room four h = cross-edge vs os opened last _ four (clip-edge b nc vs p q room)
+
+-- an edge that ends outside leaves the cell open, where it began inside or the cell was open
+module _ (b : BoundingBox) (nc site : ℕ) where
+  abbrev Open : Change → Type 0
+  Open d = d .opened ≡ true
+
+  leave-open : (p : ℕ) (os : List ℕ) (k : Clip) → Gives Open (leave p os k)
+  unfolding leave
+  leave-open p os missed = tt
+  leave-open p os (once r) = refl
+  leave-open p os (twice r t) = refl
+
+  cross-open : (vs : List Point) (os : List ℕ) (opened : Bool) (last : ℕ) (k : Clip) → opened ≡ true → Gives Open (cross b nc site vs os opened last k)
+  unfolding cross crossAt
+  cross-open vs os opened last missed h = h
+  cross-open vs os opened last (once r) h = gives-next Open (link b nc site (r .verts) os opened last (r .at)) _ (λ i. tt)
+  cross-open vs os opened last (twice r t) h =
+      gives-next Open (link b nc site (t .verts) os opened last (r .at)) _
+      (λ i. gives-next Open (insertEdge b nc site (t .verts) (i .owners) (lastOr last (i .new)) (r .at) (t .at)) _ (λ j. h))
+
+  pub stays-open : (p : ℕ) (pIn : Bool) (q : ℕ) (qIn : Bool) (vs : List Point) (os : List ℕ) (opened : Bool) (last : ℕ) → qIn ≡ false → (pIn ≡ false → opened ≡ true) → Gives Open (clipStep b nc site p pIn q qIn vs os opened last)
+  unfolding clipStep
+  stays-open p true q true vs os opened last out h = let z : _≡_ {A = ℕ} 0 1 = cc in absurd (omega arith)
+  stays-open p true q false vs os opened last out h = leave-open p os _
+  stays-open p false q true vs os opened last out h = let z : _≡_ {A = ℕ} 0 1 = cc in absurd (omega arith)
+  stays-open p false q false vs os opened last out h = cross-open vs os opened last _ (h refl)

@@ -10,3 +10,4 @@ pub mod RowsUnclipped
 pub mod Gives
 pub mod Puts
 pub mod Edge
+pub mod Ring
