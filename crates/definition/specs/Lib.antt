@@ -7,3 +7,7 @@ pub mod Answers
 pub mod RowsBuilt
 pub mod RowsRefused
 pub mod RowsUnclipped
+pub mod Gives
+pub mod Puts
+pub mod Edge
+pub mod Ring
