@@ -1,6 +1,7 @@
 #!/bin/sh
 # C programs over libvoronoi.a, run from anywhere in the repository.
 #
+#   tests/archive.sh make                     the archive, where it is missing or older than the crates
 #   tests/archive.sh build PROGRAM FILE.c..   the archive, made where it is missing or older than the crates, and a program linked with it
 #   tests/archive.sh run PROGRAM WORD..       runs it
 #
@@ -10,10 +11,11 @@ set -eu
 root=$(cd "$(dirname "$0")/.." && pwd)
 kit=${RATTLE_HOME:-$(dirname "$(dirname "$(readlink -f "$(command -v rt)")")")}
 tools=$kit/on/$(uname -m)/toolchain
-archive=$root/target/staticlib/libvoronoi.a
-flags="-std=c11 -O2 -ffreestanding -fno-math-errno -Wall -Wextra -Werror"
+archive=${ARCHIVE:-$root/target/staticlib/libvoronoi.a}
+flags="-std=c11 -O2 -ffreestanding -fno-math-errno -Wall -Wextra -Werror ${MORE_FLAGS-}"
 
 make_archive() {
+    if [ -n "${ARCHIVE-}" ]; then return; fi
     if [ ! -f "$archive" ] || [ -n "$(find "$root/crates" "$root/crates.txt" -newer "$archive" | head -n 1)" ]; then
         mkdir -p "$root/target/log"
         (cd "$root" && rt staticlib voronoi) >"$root/target/log/archive.say" 2>&1 || {
@@ -47,6 +49,9 @@ build() {
 }
 
 case ${1-} in
+make)
+    make_archive
+    ;;
 build)
     shift
     make_archive
@@ -58,7 +63,7 @@ run)
     exec "$tools/bin/qemu-x86_64" "$tools/lib/ld-linux-x86-64.so.2" --library-path "$tools/lib" "$@"
     ;;
 *)
-    sed -n '2,5s/^# \{0,1\}//p' "$0"
+    sed -n '2,6s/^# \{0,1\}//p' "$0"
     exit 2
     ;;
 esac

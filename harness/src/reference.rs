@@ -295,7 +295,6 @@ pub enum Branch {
     WrapFirstOne,
     WrapFirstTwo,
     WrapFirstThree,
-    WrapSecondNone,
     WrapSecondOne,
     WrapSecondTwo,
     WrapSecondThree,
@@ -689,7 +688,8 @@ impl Builder<'_> {
         } else if self.left_to_wrap[second] == site {
             cell.push(crossing(c));
             let n = self.wrap(cell, site, second, first);
-            self.counts.at([Branch::WrapSecondNone, Branch::WrapSecondOne, Branch::WrapSecondTwo, Branch::WrapSecondThree][n]);
+            // Never 0: the second side is not the first here.
+            self.counts.at([Branch::WrapSecondOne, Branch::WrapSecondTwo, Branch::WrapSecondThree][n - 1]);
         } else {
             self.counts.at(Branch::WrapNotOwned);
             cell.push(crossing(c));

@@ -7,6 +7,7 @@
 //!     triangle A B C  P Q R       sites, then the pair of each half-edge (E: none)
 //!     hull S ...
 //!     path SITE X Y               a question beside the mesh, any number of them
+//!     answer ...                  a line that the oracle must print, any number of them
 //!
 //! A float is decimal, a bit pattern 0x.., a power 2^-50 or a sum such as .5+2^-50.
 
@@ -17,6 +18,7 @@ pub struct Input {
     pub clip: Option<Area>,
     pub mesh: Mesh,
     pub paths: Vec<(usize, Pt)>,
+    pub answers: Vec<String>,
 }
 
 fn term(t: &str) -> Option<f64> {
@@ -94,6 +96,7 @@ pub fn read(text: &str) -> Result<Input, String> {
                 input.mesh.halfedges.extend(&i[3..]);
             }
             ("hull", _) => input.mesh.hull.extend(indexes(&rest).ok_or_else(|| wrong("no index"))?),
+            ("answer", _) => input.answers.push(rest.join(" ")),
             ("path", 3) => {
                 let f = floats(&rest[1..]).ok_or_else(|| wrong("no number"))?;
                 let s = rest[0].parse().map_err(|_| wrong("no site"))?;

@@ -61,7 +61,7 @@ wholePath sites tri he tab p s = pathOf sites tri he tab p (length sites) s
 abbrev pub lastOf : List ℕ → ℕ
 lastOf l = getD l (length l - 1) 0
 
-last-cons : (x : ℕ) (l : List ℕ) → 0 < length l → lastOf (x ∷ l) ≡ lastOf l
+pub last-cons : (x : ℕ) (l : List ℕ) → 0 < length l → lastOf (x ∷ l) ≡ lastOf l
 last-cons x l h =
     let q : length (x ∷ l) - 1 ≡ suc (length l - 1) = omega arith in
     rw q

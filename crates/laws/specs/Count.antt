@@ -101,10 +101,6 @@ weigh-le : (u : ℕ → ℕ) (m : ℕ) (l : List ℕ) → ((v : ℕ) → occ v l
 weigh-le u zero l h = omega arith
 weigh-le u (suc m) l h = omega (arith, weigh-le u m l h, h m)
 
--- no number oftener than u says, and none from m on: at most as many entries as u counts below m
-pub weighed-le : (u : ℕ → ℕ) (m : ℕ) (l : List ℕ) → ((v : ℕ) → 0 < occ v l → v < m) → ((v : ℕ) → occ v l ≤ u v) → length l ≤ sumTo u m
-weighed-le u m l below h = omega (arith, occs-length m l below, weigh-le u m l h)
-
 weigh-all : (u : ℕ → ℕ) (m : ℕ) (l : List ℕ) → ((v : ℕ) → occ v l ≤ u v) → occs m l ≡ sumTo u m → (v : ℕ) → v < m → occ v l ≡ u v
 weigh-all u zero l h e v p = absurd (omega arith)
 weigh-all u (suc m) l h e v p =
@@ -116,13 +112,20 @@ weigh-all u (suc m) l h e v p =
 pub all-weighed : (u : ℕ → ℕ) (m : ℕ) (l : List ℕ) → ((v : ℕ) → 0 < occ v l → v < m) → ((v : ℕ) → occ v l ≤ u v) → length l ≡ sumTo u m → (v : ℕ) → v < m → occ v l ≡ u v
 all-weighed u m l below h e = weigh-all u m l h (occs-length m l below ∙ e)
 
+weigh-same : (u : ℕ → ℕ) (m : ℕ) (l : List ℕ) → ((v : ℕ) → v < m → occ v l ≡ u v) → occs m l ≡ sumTo u m
+weigh-same u zero l h = refl
+weigh-same u (suc m) l h = omega (arith, weigh-same u m l (λ v p. h v (omega arith)), h m (omega arith))
+
+-- and so the other way round: each number as often as u says, or no oftener
+pub weighed : (u : ℕ → ℕ) (m : ℕ) (l : List ℕ) → ((v : ℕ) → 0 < occ v l → v < m) → ((v : ℕ) → v < m → occ v l ≡ u v) → length l ≡ sumTo u m
+weighed u m l below h = sym (occs-length m l below) ∙ weigh-same u m l h
+
+pub weighed-le : (u : ℕ → ℕ) (m : ℕ) (l : List ℕ) → ((v : ℕ) → 0 < occ v l → v < m) → ((v : ℕ) → occ v l ≤ u v) → length l ≤ sumTo u m
+weighed-le u m l below h = rw (← occs-length m l below) (weigh-le u m l h)
+
 -- a list's entries, counted number by number, are all of them
 pub occ-sum : (m : ℕ) (l : List ℕ) → ((v : ℕ) → 0 < occ v l → v < m) → sumTo (λ v. occ v l) m ≡ length l
-occ-sum m l below = go m ∙ occs-length m l below
-  where
-    go : (m : ℕ) → sumTo (λ v. occ v l) m ≡ occs m l
-    go zero = refl
-    go (suc m) = omega (arith, go m)
+occ-sum m l below = sym (weighed (λ v. occ v l) m l below (λ v p. refl))
 
 -- what holds of every entry holds of every number that stands in the list
 pub below-occ : (l : List ℕ) (m : ℕ) → ((k : ℕ) → k < length l → getD l k 0 < m) → (v : ℕ) → 0 < occ v l → v < m

@@ -3,3 +3,4 @@ pub mod Rules
 pub mod Flat
 pub mod Sites
 pub mod Centroid
+pub mod Finite

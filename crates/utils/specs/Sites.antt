@@ -7,6 +7,7 @@ use Prim.Native.Nat.{ℕ, zero, suc, _≤_, _<_}
 use native.Mathlib.Omega.{arith}
 use lib.Ieee.{Float}
 use Rattle.laws.specs.Decide.{First, first-all, eq-or-ne}
+use Rattle.laws.specs.And.{and-left, and-right, and-both}
 use Rattle.utils.specs.Flat.{pointAt}
 use Rattle.utils.specs.Rules.{okSite}
 use Rattle.utils.specs.declared.Point.{Point}
@@ -40,27 +41,16 @@ module _ {p q : Point} {b : Bool} (e : p ≡ q) (t : b ≡ okSite p) where
       no false e h = false≢true e
 
 -- ---- all, and each
-left : (a b : Bool) → (a && b) ≡ true → a ≡ true
-left true b h = refl
-left false b h = h
-
-right : (a b : Bool) → (a && b) ≡ true → b ≡ true
-right true b h = h
-right false b h = absurd (false≢true h)
-
-both : (a b : Bool) → a ≡ true → b ≡ true → (a && b) ≡ true
-both a b h g = rw (h, g)
-
 pub all-kept : (n : ℕ) (l : List Float) → okSites n l ≡ true → (k : ℕ) → k < n → KeptAt l k
 unfolding okSites
 all-kept zero l h k b = absurd (omega arith)
 all-kept (suc n) l h k b =
-    ⊎-elim (λ e. rw e (right (okSites n l) _ h)) (λ e. all-kept n l (left (okSites n l) _ h) k (omega arith)) (eq-or-ne k n)
+    ⊎-elim (λ e. rw e (and-right (okSites n l) (okSite (pointAt l n)) h)) (λ e. all-kept n l (and-left (okSites n l) (okSite (pointAt l n)) h) k (omega arith)) (eq-or-ne k n)
 
 pub kept-all : (n : ℕ) (l : List Float) → ((k : ℕ) → k < n → KeptAt l k) → okSites n l ≡ true
 unfolding okSites
 kept-all zero l h = refl
-kept-all (suc n) l h = both (okSites n l) _ (kept-all n l (λ k b. h k (omega arith))) (h n (omega arith))
+kept-all (suc n) l h = and-both (okSites n l) (okSite (pointAt l n)) (kept-all n l (λ k b. h k (omega arith))) (h n (omega arith))
 
 -- ---- from the lowest offender
 module _ (l : List Float) {n r : ℕ} (f : First (KeptAt l) n r) where
