@@ -13,8 +13,7 @@ use Rattle.laws.specs.Pick.{pick}
 use native.Mathlib.Nat.{add-zero, sub-zero, zero-add}
 use lib.Ieee.{Float, nan}
 use Rattle.utils.specs.declared.Point.{Point}
-use Rattle.vertices.specs.Add.{nearPt}
-use Rattle.vertices.specs.Add.{findNear, addVertex, added}
+use Rattle.vertices.specs.Add.{nearPt, findNear, addVertex, added}
 use Rattle.utils.specs.Flat.{pointAt, pointsFrom, points, flat, pour}
 
 pub points-more : (l : List Float) (i n : ℕ) → i < n → pointsFrom l i (n - i) ≡ pointAt l i ∷ pointsFrom l (i + 1) (n - (i + 1))
