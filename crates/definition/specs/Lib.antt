@@ -11,3 +11,5 @@ pub mod Gives
 pub mod Puts
 pub mod Edge
 pub mod Ring
+pub mod Weigh
+pub mod Held
