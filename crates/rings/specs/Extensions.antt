@@ -1,7 +1,7 @@
 -- What the pass over the hull's edges answers, by the definition's outcome.
 use mathlib.Core.Path.{_≡_, refl}
 use mathlib.Core.List.{List}
-use Prim.Native.Nat.{ℕ, _+_, _*_, _/_, _<_}
+use Prim.Native.Nat.{ℕ, _+_, _*_, _/_, _^_, _≤_, _<_}
 use lib.Ieee.{Float}
 use lib.ListN.{length, getD, take, drop}
 use lib.Seq.{paste}
@@ -41,6 +41,16 @@ pub record Extends (sites : List Float) (tri hull table : List ℕ) (nc : ℕ) :
   pub threes : length tri ≡ 3 * nc
   pub hulled : Hulled hull table
   pub edges : (i : ℕ) → i < length hull → getD table (getD hull i 0) 0 < length tri
+
+-- and of the two lent lists: count vertices with room for one more for each hull place, and a place for each number before the store's part
+pub record ExtendsInto (sites : List Float) (tri hull table : List ℕ) (nc count limit at : ℕ) (v : List Float) (ix : List ℕ) : Type 0 where
+  pub extends : Extends sites tri hull table nc
+  pub holds : Holds nc count v (drop limit ix)
+  pub room-v : 2 * (count + length hull) ≤ length v
+  pub small : count + length hull < 2 ^ 32
+  pub room-ix : at + length hull ≤ limit
+  pub limited : limit ≤ length ix
+  pub small-ix : limit < 2 ^ 32
 
 -- all extensions are there: their vertices, and from `at` on their numbers; the index list before `limit` is else as it was
 pub record Extended (nc limit at : ℕ) (x : Extensions) (v : List Float) (ix : List ℕ) (r : Passed) (v₁ : List Float) (ix₁ : List ℕ) : Type 0 where

@@ -9,13 +9,12 @@ ghost use mathlib.Core.Path.{_≡_};
 ghost use mathlib.Core.Bool.{_&&_};
 ghost use mathlib.Core.List.{[]};
 ghost use Prim.Native.Nat.{ℕ, _+_, _*_, _/_, _%_, _≤_, _<_};
-ghost use lib.ListN.{length, getD, drop};
+ghost use lib.ListN.{length, getD};
 ghost use Rattle.utils.specs.Flat.{points};
-ghost use Rattle.vertices.specs.Store.{Holds};
 ghost use Rattle.mesh.specs.Hull.{afterOf, nextSite};
 ghost use Rattle.definition.specs.Build.{finite, extended, extensions, extendFrom};
 ghost use Rattle.rings.specs.Centers.{Named};
-ghost use Rattle.rings.specs.Extensions.{projectedOf, Hulled, Extends, ExtendedBy};
+ghost use Rattle.rings.specs.Extensions.{projectedOf, Hulled, ExtendsInto, ExtendedBy};
 
 const VORONOI_INFINITY: f64 = 10000000000.0;
 
@@ -103,9 +102,7 @@ pub fn extend_hull(
     centers: usize,
     count: usize,
 ) -> Passed
-    requires { ⌜ Extends (now sites) (now triangles) (now hull) (now table) centers ⌝ }
-    requires { ⌜ Holds centers count (now v) (drop limit (now ix)) ⌝ }
-    requires { ⌜ (2 * (count + length (now hull)) ≤ length (now v)) × (count + length (now hull) < 4294967295) × (at + length (now hull) ≤ limit) × (limit ≤ length (now ix)) ⌝ }
+    requires { ⌜ ExtendsInto (now sites) (now triangles) (now hull) (now table) centers count limit at (now v) (now ix) ⌝ }
     ensures { λ r. ⌜ ExtendedBy (extendFrom (now (sites .entry)) (now (triangles .entry)) (now (hull .entry)) (now (table .entry)) centers 0 (length (now (hull .entry))) (extensions (points count (now (v .entry))) [] [])) (length (now (hull .entry))) centers limit at (now (v .entry)) (now (ix .entry)) r (now (v .exit)) (now (ix .exit)) ⌝ }
 {
     let mut n = count;
