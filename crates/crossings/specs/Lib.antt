@@ -1,2 +1,4 @@
 pub mod Cross
 pub mod Rules
+pub mod Own
+pub mod Rows

@@ -6,8 +6,7 @@ use Prim.Native.Nat.{ℕ, _+_, _*_, _≤_, _<_}
 use lib.Dec.{T}
 use lib.ListN.{length, getD}
 use lib.Ieee.{Float, isNan}
-use Rattle.mesh.specs.Mesh.{endOf}
-use Rattle.mesh.specs.Fan.{Paired}
+use Rattle.mesh.specs.Mesh.{endOf, Paired}
 use Rattle.shared.specs.Cells.{Cells}
 use Rattle.utils.specs.declared.Point.{Point}
 use Rattle.iterator.specs.Path.{distOf}

@@ -8,7 +8,7 @@ ghost use lib.ListN.{length, getD};
 ghost use lib.Ieee.{lt};
 ghost use Rattle.laws.specs.Pick.{pick};
 ghost use Rattle.mesh.specs.Mesh.{EMPTY, wholeOf};
-ghost use Rattle.mesh.specs.Fan.{Paired};
+ghost use Rattle.mesh.specs.Mesh.{Paired};
 ghost use Rattle.iterator.specs.Neighbours.{startsOf, neighboursOf};
 ghost use Rattle.iterator.specs.Path.{distOf, hopOf};
 ghost use Rattle.iterator.specs.Cursor.{lastStep, stepOf, isEnd, Sound};

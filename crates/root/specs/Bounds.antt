@@ -1,15 +1,16 @@
 -- How large a result can be: sums, differences and products of values of bounded magnitude are finite, and bounded in turn.
 -- Assumes nothing.
-use mathlib.Core.Path.{_≡_, refl, sym, ap, _∙_, subst}
+use mathlib.Core.Path.{_≡_, sym, ap, _∙_, subst}
 use Prim.Native.Nat.{ℕ, zero, suc, _+_, _-_, _*_, _/_, _%_, _^_, _≤_, _<_, compare}
-use native.Mathlib.Nat.{le-trans, le-of-eq, lt-of-le-of-lt, lt-of-lt-of-le, mul-le-mul, mul-le-mul-right, mul-assoc, mul-comm, mul-left-comm, mul-right-comm, mul-one, one-mul, mul-mul-mul-comm, mul-pos, div-one, le-of-mul-le-mul-right, div-lt-iff-lt-mul, mul-lt-mul-of-pos-right, pow-suc, le-of-lt, lt-irrefl}
+use native.Mathlib.Nat.{le-trans, le-of-eq, lt-of-le-of-lt, lt-of-lt-of-le, mul-le-mul, mul-le-mul-right, mul-assoc, mul-comm, mul-right-comm, mul-one, one-mul, mul-mul-mul-comm, mul-pos, div-one, le-of-mul-le-mul-right, div-lt-iff-lt-mul, mul-lt-mul-of-pos-right, pow-suc, le-of-lt, lt-irrefl}
 use native.Mathlib.Omega.{arith}
 use mathlib.Core.Bool.{Bool, true, false, not, _&&_, _||_, Bool·beq, cond}
 use lib.Dec.{T, ltb, eqb, ltb→lt, eqb→eq, lit≤, eqb·suc-zero}
 use lib.Ieee.Positive.{first-pos}
 use Rattle.laws.specs.Binary64 as R
+use lib.IntN.{ℤ, pos}
 use lib.Pow.{pow-add, pow-pos, pow-mono, pow-lt}
-use lib.Ieee.{Float, nan, inf, fin, Format, prec, emax, low, up, down, size, nearest, units, round, neg, sum, add, sub, mul, div, lt, le, unlike, binary64, ofBits, isNan}
+use lib.Ieee.{Float, nan, inf, fin, Format, prec, emax, low, up, down, size, nearest, round, neg, sum, add, sub, mul, div, lt, le, unlike, ofBits, isNan}
 use lib.Ieee.Digits.{size-le}
 use lib.Ieee.Fits.{round-is, two, down-pos}
 use lib.Ieee.Exact.{HasValue, units-val}
@@ -17,7 +18,6 @@ use lib.Ieee.Nearest.{closest, closest-mono}
 use lib.Ieee.Order.{drop, kept}
 use lib.Ieee.Scale.{grid, finite}
 use Rattle.root.specs.Root.{magnitude}
-use Rattle.laws.specs.Binary64.{large}
 
 -- finite, and of magnitude at most 2 ^ k
 abbrev pub Bounded : ℕ → Float → Type 0
@@ -137,7 +137,7 @@ finite-no-nan nan b = b
 finite-no-nan (inf s) b = tt
 finite-no-nan (fin s m e) b = tt
 
--- ---- document 01's rule on a coordinate: at most 2 ^ 100, by the test that the code makes
+-- ---- a test against 2 ^ k
 at-most : (a b : ℕ) → T (ltb a b || (eqb a b && true)) → a ≤ b
 at-most a b t = go (ltb a b) (eqb a b) (ltb→lt a b) (eqb→eq a b) t
   where
@@ -146,11 +146,29 @@ at-most a b t = go (ltb a b) (eqb a b) (ltb→lt a b) (eqb→eq a b) t
     go false true h g t = le-of-eq (g tt)
     go false false h g t = absurd t
 
-pub coord-bound : (x : Float) → T (le (magnitude x) large) → Bounded 100 x
-unfolding le ofBits
-coord-bound nan t = absurd t
-coord-bound (inf s) t = absurd t
-coord-bound (fin s m e) t = le-trans (le-of-eq (sym (mul-one (m * up e)))) (at-most (m * up e * 1) (2 ^ 100 * down e) t)
+abbrev pub power : ℕ → Float
+power k = fin false 1 (pos k)
+
+passed : (m k : ℕ) (e : ℤ) → T (le (fin false m e) (power k)) → m * up e ≤ 2 ^ k * down e
+unfolding le
+passed m k e t =
+    le-trans (le-of-eq (sym (mul-one (m * up e))))
+    (le-trans (at-most (m * up e * 1) (1 * 2 ^ k * down e) t) (le-of-eq (ap (λ (x : ℕ). x * down e) (one-mul (2 ^ k)))))
+
+pub le-bound : (x : Float) (k : ℕ) → T (le (magnitude x) (power k)) → Bounded k x
+unfolding le
+le-bound nan k t = absurd t
+le-bound (inf s) k t = absurd t
+le-bound (fin s m e) k t = passed m k e t
+
+-- above 0, and at most 2 ^ k
+pub plus-bound : (x : Float) (k : ℕ) → T (lt R.zero x) → T (le x (power k)) → Bounded k x
+unfolding lt le ofBits
+plus-bound nan k p t = absurd p
+plus-bound (inf true) k p t = absurd p
+plus-bound (inf false) k p t = absurd t
+plus-bound (fin true m e) k p t = absurd p
+plus-bound (fin false m e) k p t = passed m k e t
 
 -- ---- a quotient by a number of magnitude 1 at least
 abbrev pub OneOrMore : Float → Type 0
@@ -177,12 +195,3 @@ div-bound f (fin s m e) (fin t n d) k h a b =
 pub two-more : OneOrMore R.two
 unfolding ofBits
 two-more = lit≤ tt
-
--- a width: above 0, and at most 2 ^ 100
-pub width-bound : (x : Float) → T (lt R.zero x) → T (le x large) → Bounded 100 x
-unfolding lt le ofBits
-width-bound nan p t = absurd p
-width-bound (inf true) p t = absurd p
-width-bound (inf false) p t = absurd t
-width-bound (fin true m e) p t = absurd p
-width-bound (fin false m e) p t = le-trans (le-of-eq (sym (mul-one (m * up e)))) (at-most (m * up e * 1) (2 ^ 100 * down e) t)
