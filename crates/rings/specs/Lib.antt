@@ -1,1 +1,2 @@
 pub mod Centers
+pub mod Staging

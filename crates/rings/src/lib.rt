@@ -1,2 +1,3 @@
 // What stands ready before a cell is clipped: the circumcenters, the hull's extensions, and the ring of a site.
 pub mod centers;
+pub mod staging;
