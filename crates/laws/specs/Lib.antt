@@ -2,3 +2,4 @@ pub mod Pick
 pub mod Decide
 pub mod Count
 pub mod Binary64
+pub mod Stores
