@@ -1,5 +1,6 @@
 //! The Rust's answers, document 01's answers, and the meshes that both are asked about.
 
+pub mod bench;
 pub mod cases;
 pub mod compare;
 pub mod expect;

@@ -2,7 +2,7 @@
 -- Assumes nothing.
 use mathlib.Core.Path.{_≡_, sym, ap, _∙_, subst}
 use Prim.Native.Nat.{ℕ, zero, suc, _+_, _-_, _*_, _/_, _%_, _^_, _≤_, _<_, compare}
-use native.Mathlib.Nat.{le-trans, le-of-eq, lt-of-le-of-lt, lt-of-lt-of-le, mul-le-mul, mul-le-mul-right, mul-assoc, mul-comm, mul-right-comm, mul-one, mul-mul-mul-comm, mul-pos, div-one, le-of-mul-le-mul-right, div-lt-iff-lt-mul, mul-lt-mul-of-pos-right, pow-suc, le-of-lt, lt-irrefl, one-mul}
+use native.Mathlib.Nat.{le-trans, le-of-eq, lt-of-le-of-lt, lt-of-lt-of-le, mul-le-mul, mul-le-mul-right, mul-assoc, mul-comm, mul-right-comm, mul-one, one-mul, mul-mul-mul-comm, mul-pos, div-one, le-of-mul-le-mul-right, div-lt-iff-lt-mul, mul-lt-mul-of-pos-right, pow-suc, le-of-lt, lt-irrefl}
 use native.Mathlib.Omega.{arith}
 use mathlib.Core.Bool.{Bool, true, false, not, _&&_, _||_, Bool·beq, cond}
 use lib.Dec.{T, ltb, eqb, ltb→lt, eqb→eq, lit≤, eqb·suc-zero}
