@@ -1,2 +1,14 @@
 pub mod Neighbours
 pub mod Path
+pub mod Nearest
+pub mod Used
+pub mod Ready
+pub mod Whole
+pub mod Rest
+pub mod Fills
+pub mod Cursor
+pub mod Handing
+pub mod Hopping
+pub mod Pathing
+pub mod Walking
+pub mod Square

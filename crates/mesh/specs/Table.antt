@@ -7,8 +7,8 @@ use Prim.Native.Nat.{ℕ, zero, suc, _+_, _-_, _%_, _≤_, _<_}
 use native.Mathlib.Nat.{le-antisymm}
 use native.Mathlib.Omega.{arith}
 use lib.Dec.{eqb}
-use lib.ListN.{length, getD, set, replicate, length-set, length-replicate, getD-replicate}
-use lib.Seq.{getD-set-same, getD-set-other}
+use lib.ListN.{length, getD, set, replicate, length-set, length-replicate, getD-replicate, replicate-append-replicate, List·getD-append}
+use lib.Seq.{getD-set-same, getD-set-other, set-append-left}
 use borrow.Author.Tests.{eqb-true, eqb-false, eq-eqb, ne-eqb}
 use Rattle.laws.specs.Pick.{pick}
 use Rattle.laws.specs.Decide.{lt-or-ge, eq-or-ne}
@@ -91,6 +91,15 @@ table-leftmost tri he w (suc n) s small sites l =
     (chosen-cases r (pairOf he n) n)))
     (λ q. rw (table-other tri he w n s q) (skip tri he n s r (omega arith) g q))
     (eq-or-ne (endOf tri n) s)
+
+-- a longer table is the same, and EMPTY at the places that are no sites
+pub table-longer : (tri he : List ℕ) (sites more n : ℕ) → ((e : ℕ) → e < n → endOf tri e < sites) → tableTo tri he (sites + more) n ≡ tableTo tri he sites n ++ replicate more EMPTY
+unfolding tableTo
+table-longer tri he sites more zero ends = sym (replicate-append-replicate sites more EMPTY)
+table-longer tri he sites more (suc n) ends =
+    let t = tableTo tri he sites n in
+    let l : endOf tri n < length t = rw (table-length tri he sites n) (ends n (omega arith)) in
+    rw (table-longer tri he sites more n (λ e h. ends e (omega arith)), List·getD-append t (replicate more EMPTY) 0 (endOf tri n) l) (set-append-left t (replicate more EMPTY) (endOf tri n) _ l)
 
 -- the same in 01's words, of a site: the unpaired half-edge if there is one alone, else the lowest, else EMPTY
 module _ (tri he : List ℕ) (n s r : ℕ) (g : Leftmost tri he n s r) where

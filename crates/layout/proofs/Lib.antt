@@ -1,0 +1,3 @@
+pub mod Pasting
+pub mod Compacting
+pub mod Tallying

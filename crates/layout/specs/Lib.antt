@@ -1,0 +1,3 @@
+pub mod Cleared
+pub mod Regions
+pub mod Rooms

@@ -1,0 +1,2 @@
+// What stands ready before a cell is clipped: the circumcenters, the hull's extensions, and the ring of a site.
+pub mod centers;
