@@ -7,7 +7,7 @@ use mathlib.Core.Logic.{_⊎_, inl, inr, ⊎-elim, _≢_}
 use Prim.Native.Nat.{ℕ, zero, suc, _+_, _-_, _*_, _/_, _≤_, _<_}
 use native.Mathlib.Omega.{arith}
 use lib.Dec.{eqb}
-use lib.ListN.{length, getD, replicate, length-map, length-append, length-replicate}
+use lib.ListN.{length, getD, set, replicate, length-map, length-append, length-replicate}
 use Rattle.laws.specs.Pick.{pick}
 use Rattle.laws.specs.Decide.{lt-or-ge}
 use Rattle.laws.specs.Count.{same, occ, same-cases, sumTo, weighed-le}
@@ -20,7 +20,7 @@ use Rattle.mesh.specs.Walks.{walk-ends, walk-in, whole-once}
 use Rattle.iterator.specs.Used.{occ-there}
 use Rattle.definition.specs.declared.Fault.{Fault}
 use Rattle.definition.specs.Fault.{Outcome, ok, refused, andThen}
-use Rattle.definition.specs.Cell.{Entry, Took}
+use Rattle.definition.specs.Cell.{plain, Entry, entry, Took}
 use Rattle.definition.specs.Build.{ringFrom, hullRing, Extensions, Cells, cellsOf, clipInto, clipHull, isEmpty, clipRest, clipAll, wrappedIn, allWrapped}
 use Rattle.definition.specs.Gives.{Gives, gives-map, gives-then, picked}
 use Rattle.definition.specs.Edge.{fresh, grown-none}
@@ -87,6 +87,12 @@ is-empty (e ∷ es) h = let z : _≡_ {A = ℕ} 0 1 = cc in absurd (omega arith)
 module _ {tri he hull : List ℕ} {n : ℕ} (top : Topology tri he hull n) (few : n < EMPTY) (b : BoundingBox) (nc : ℕ) (vs : List Point) (found : List ℕ) (begun : ℕ) (room : nc + 4 ≤ length vs) where
   abbrev Good : Cells → Type 0
   Good s = Held b nc n (shareOf tri hull) vs found begun s
+
+  -- before each try there is room for two vertices for each vertex of its ring
+  pub spare : (s : Cells) (site : ℕ) → Good s → site < n → getD (s .cells) site [] ≡ [] → length (s .verts) + 2 * shareOf tri hull site ≤ length vs + 2 * (length tri + 2 * length hull)
+  spare s site h l empty =
+      let e = entry plain 0 ∷ [] in
+      omega (arith, h .grown .longer, h .twos, weigh-put (filled (shareOf tri hull)) (s .cells) site e (rw (h .width) l) empty refl, all-filled tri hull (set (s .cells) site e))
 
   module _ (xs : List ℕ) where
     hull-loop : (k i : ℕ) (s : Cells) → i + k ≡ length hull → Good s → ((j : ℕ) → i ≤ j → j < length hull → getD (s .cells) (getD hull j 0) [] ≡ []) → Gives Good (clipHull b nc he hull (leftmostOf tri he n) xs i k s)
