@@ -80,7 +80,7 @@ module _ {tri he hull : List ℕ} {n : ℕ} (top : Topology tri he hull n) where
 
 -- ---- the loops
 
-is-empty : (c : List Entry) → isEmpty c ≡ true → c ≡ []
+pub is-empty : (c : List Entry) → isEmpty c ≡ true → c ≡ []
 is-empty [] h = refl
 is-empty (e ∷ es) h = let z : _≡_ {A = ℕ} 0 1 = cc in absurd (omega arith)
 
@@ -125,12 +125,12 @@ module _ {tri he hull : List ℕ} {n : ℕ} (top : Topology tri he hull n) (few 
 
 -- ---- the start
 
-no-cell : (n k : ℕ) → _≡_ {A = List Entry} (getD (replicate n []) k []) []
+pub no-cell : (n k : ℕ) → _≡_ {A = List Entry} (getD (replicate n []) k []) []
 no-cell zero k = refl
 no-cell (suc n) zero = refl
 no-cell (suc n) (suc k) = no-cell n k
 
-no-weight : (w : ℕ → List Entry → ℕ) (n i : ℕ) → ((j : ℕ) → w j [] ≡ 0) → weigh w i (replicate n []) ≡ 0
+pub no-weight : (w : ℕ → List Entry → ℕ) (n i : ℕ) → ((j : ℕ) → w j [] ≡ 0) → weigh w i (replicate n []) ≡ 0
 no-weight w zero i z = refl
 no-weight w (suc n) i z = omega (arith, z i, no-weight w n (suc i) z)
 
