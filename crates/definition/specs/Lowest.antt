@@ -10,6 +10,7 @@ use lib.ListN.{length, getD, set, replicate, length-set, length-map, length-reve
 use lib.Seq.{getD-set-same, getD-set-other}
 use Rattle.laws.specs.Pick.{pick}
 use Rattle.laws.specs.Decide.{eq-or-ne}
+use Rattle.laws.specs.Count.{occ}
 use Rattle.mesh.specs.Mesh.{endOf, wholeOf, walkOf, turnOf}
 use Rattle.mesh.specs.Laws.{walk-go}
 use Rattle.mesh.specs.Rules.{Topology}
@@ -20,14 +21,14 @@ use Rattle.definition.specs.Unclipped.{ringCell, ringsFrom}
 use Rattle.definition.specs.Gives.{picked}
 use Rattle.definition.specs.Weigh.{weigh, weigh-put}
 use Rattle.definition.specs.Held.{filled}
-use Rattle.definition.specs.All.{degree, ring-share, is-empty, no-cell, no-weight}
+use Rattle.definition.specs.All.{ring-share, is-empty, no-cell, no-weight}
 
 -- the cells after the half-edges below m
 pub record Lowest (tri he : List ℕ) (n m : ℕ) (cells : List (List Entry)) : Type 0 where
   pub width : length cells ≡ n
   pub none : (s : ℕ) → ((e : ℕ) → e < m → endOf tri e ≢ s) → getD cells s [] ≡ []
   pub some : (s e : ℕ) → e < m → endOf tri e ≡ s → ((d : ℕ) → d < e → endOf tri d ≢ s) → getD cells s [] ≡ ringCell he e
-  pub total : weigh (λ s c. length c) 0 cells ≤ weigh (filled (degree tri)) 0 cells
+  pub total : weigh (λ s c. length c) 0 cells ≤ weigh (filled (λ s. occ s tri)) 0 cells
 
 ring-length : (he : List ℕ) (e : ℕ) → length (ringCell he e) ≡ length (ringFrom he e)
 ring-length he e = length-map (reverse (ringFrom he e)) (entry plain) ∙ length-reverse (ringFrom he e)
@@ -69,7 +70,7 @@ module _ {tri he hull : List ℕ} {n : ℕ} (top : Topology tri he hull n) where
               (eq-or-ne e m))
               (λ z. getD-set-other cells site s (ringCell he m) [] z ∙ h .some s e (below e g (λ y. z (sym q ∙ ap (endOf tri) y))) q low)
               (eq-or-ne s site);
-          total = omega (arith, h .total, ring-length he m, weigh-put (λ s c. length c) cells site (ringCell he m) in-cells empty refl, weigh-put (filled (degree tri)) cells site (ringCell he m) in-cells empty refl, some-filled (degree tri) site (ringCell he m) r, ring-share top site m (λ z. refl));
+          total = omega (arith, h .total, ring-length he m, weigh-put (λ s c. length c) cells site (ringCell he m) in-cells empty refl, weigh-put (filled (λ s. occ s tri)) cells site (ringCell he m) in-cells empty refl, some-filled (λ s. occ s tri) site (ringCell he m) r, ring-share top site m (λ z. refl));
         }
       where
         below : (e : ℕ) → e < suc m → e ≢ m → e < m
