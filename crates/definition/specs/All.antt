@@ -39,7 +39,7 @@ pub shares : (tri hull : List ℕ) (cs : List (List Entry)) → weigh (share (sh
 shares tri hull cs =
     omega (arith, share-double (λ s. occ s tri) (λ s. occ s hull) 0 cs, share-occ tri 0 cs, share-occ hull 0 cs)
 
-filled-le : (u : ℕ → ℕ) (i : ℕ) (c : List Entry) → filled u i c ≤ u i
+pub filled-le : (u : ℕ → ℕ) (i : ℕ) (c : List Entry) → filled u i c ≤ u i
 filled-le u i [] = omega arith
 filled-le u i (e ∷ es) = omega arith
 

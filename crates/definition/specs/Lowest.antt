@@ -19,9 +19,9 @@ use Rattle.definition.specs.Cell.{Entry, entry, plain}
 use Rattle.definition.specs.Build.{ringFrom, isEmpty}
 use Rattle.definition.specs.Unclipped.{ringCell, ringsFrom}
 use Rattle.definition.specs.Gives.{picked}
-use Rattle.definition.specs.Weigh.{weigh, weigh-put}
+use Rattle.definition.specs.Weigh.{weigh, weigh-le, weigh-put, share, share-occ}
 use Rattle.definition.specs.Held.{filled}
-use Rattle.definition.specs.All.{ring-share, is-empty, no-cell, no-weight}
+use Rattle.definition.specs.All.{filled-le, ring-share, is-empty, no-cell, no-weight}
 
 -- the cells after the half-edges below m
 pub record Lowest (tri he : List ℕ) (n m : ℕ) (cells : List (List Entry)) : Type 0 where
@@ -101,3 +101,10 @@ module _ {tri he hull : List ℕ} {n : ℕ} (top : Topology tri he hull n) where
   lowest =
       rings-loop (length tri) 0 (replicate n []) (omega (arith, top .same))
       (record { width = length-replicate n []; none = λ s f. no-cell n s; some = λ s e g. absurd (omega arith); total = omega (arith, no-weight (λ s c. length c) n 0 (λ j. refl)) })
+
+  -- no more entries than half-edges
+  pub few-entries : weigh (λ s c. length c) 0 (ringsFrom tri he 0 (length tri) (replicate n [])) ≤ length tri
+  few-entries =
+      let cells = ringsFrom tri he 0 (length tri) (replicate n []) in
+      let u : ℕ → ℕ = λ s. occ s tri in
+      omega (arith, lowest .total, weigh-le (filled u) (share u) 0 cells (filled-le u), share-occ tri 0 cells)

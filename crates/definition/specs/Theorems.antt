@@ -25,7 +25,7 @@ use Rattle.definition.specs.declared.Fault.{Fault}
 use Rattle.definition.specs.Fault.{Outcome, ok, refused, andThen}
 use Rattle.definition.specs.Cell.{Mark, plain, crossing, wrapped, Entry, inBox}
 use Rattle.definition.specs.Build.{centresFrom, ownersFrom, Extensions, extensions, extendFrom, Cells, clipAll, ifWrapped, wrappedIn, allWrapped, lostFrom, Built, build}
-use Rattle.definition.specs.Gives.{Gives, gives-map, gives-then}
+use Rattle.definition.specs.Gives.{Gives, gives-ok, gives-map, gives-then}
 use Rattle.definition.specs.Puts.{occ-le, Placed, AllPlaced, all-turned}
 use Rattle.definition.specs.Edge.{fresh, Grown}
 use Rattle.definition.specs.Ring.{in-grown}
@@ -160,3 +160,10 @@ module _ {sites : List Float} {tri he hull : List ℕ} (a : Accepted sites tri h
       (λ x e. gives-then (Held b nc (siteCount sites) (shareOf tri hull) (x .verts) found (fresh (x .steps))) Good (clipAll b nc tri he hull left (siteCount sites) found x) _
       (clip-all (topology a) (omega (arith, a .counts .few-sites)) b nc found x (omega (arith, e .grown .longer)) four-found)
       (λ s h. finish x (omega (arith, e .grown .longer, e .added)) (omega (arith, e .added, e .few)) s h)))
+
+  -- the same of a build's answer
+  pub wrapping : {r : Built} → build sites tri he hull b ≡ ok r → Wrapping sites tri he hull b r
+  wrapping e = gives-ok Good built e .0
+
+  pub room : {r : Built} → build sites tri he hull b ≡ ok r → Room tri hull b r
+  room e = gives-ok Good built e .1
