@@ -17,7 +17,8 @@ use Rattle.utils.specs.declared.Point.{Point}
 use Rattle.bounding_box.specs.Box.{cornersOf}
 use Rattle.bounding_box.specs.declared.BoundingBox.{BoundingBox}
 use Rattle.vertices.specs.Add.{addVertex}
-use Rattle.mesh.specs.Mesh.{nextOf, startOf, endOf, tableTo, wholeOf}
+use Rattle.mesh.specs.Mesh.{startOf, endOf, leftmostOf, wholeOf}
+use Rattle.mesh.specs.Accepted.{siteCount}
 use Rattle.mesh.specs.Hull.{nextSite}
 use Rattle.iterator.specs.Path.{pathEnd}
 use Rattle.definition.specs.declared.Fault.{Fault}
@@ -170,9 +171,9 @@ clipAll b nc tri he hull left n owners x =
 -- owners: as found, before wrapping
 unfoldable pub build : List Float → List ℕ → List ℕ → List ℕ → BoundingBox → Outcome Fault Built
 build sites tri he hull b =
-    let n = length sites / 2 in
+    let n = siteCount sites in
     let nc = length tri / 3 in
-    let left = tableTo tri he n (length tri) in
+    let left = leftmostOf tri he n in
     let owners = ownersFrom sites tri he left n (getD hull 0 0) (cornersOf b) in
     andThen (centresFrom sites tri 0 nc []) λ centres.
     andThen (extendFrom sites tri hull left nc 0 (length hull) (extensions (centres ++ cornersOf b) [] [])) λ x.

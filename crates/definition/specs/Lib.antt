@@ -7,3 +7,13 @@ pub mod Answers
 pub mod RowsBuilt
 pub mod RowsRefused
 pub mod RowsUnclipped
+pub mod Gives
+pub mod Puts
+pub mod Edge
+pub mod Ring
+pub mod Weigh
+pub mod Held
+pub mod Owners
+pub mod All
+pub mod Start
+pub mod Theorems

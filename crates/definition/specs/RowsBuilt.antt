@@ -11,8 +11,8 @@ use Rattle.root.specs.Sqrt.{wholeRoot, nearestRoot, rootOfUnits, sqrtOf}
 use Rattle.utils.specs.Plane.{nearOf, dist2Of, centreOf}
 use Rattle.utils.specs.Flat.{flat}
 use Rattle.utils.specs.Rules.{okCentre}
-use Rattle.bounding_box.specs.Box.{madeOf, cornersOf, insideOf, whichOf}
-use Rattle.crossings.specs.Cross.{rightHit, leftHit, topHit, bottomHit, uprightHit, settleOf, lineOf, orderBy, orderOne, orderTwo, rayOf}
+use Rattle.bounding_box.specs.Box.{madeOf, cornersOf, insideOf, firstSide, whichOf}
+use Rattle.crossings.specs.Cross.{oneIf, twoIf, firstHeld, orderPick, eitherOf, rightHit, leftHit, topHit, bottomHit, uprightHit, settleOf, lineOf, orderBy, orderOne, orderTwo, rayOf}
 use Rattle.vertices.specs.Add.{nearPt, findNear, addVertex}
 use Rattle.mesh.specs.Hull.{afterOf}
 use Rattle.iterator.specs.Neighbours.{lastEnd, startsOf, neighboursOf}
@@ -48,5 +48,5 @@ pub rows :
     × (answer (build (floats (0xc000000000000000 ∷ 0x3ff0000000000000 ∷ 0x3ff0000000000000 ∷ 0x4000000000000000 ∷ 0x4000000000000000 ∷ 0x3ff0000000000000 ∷ [])) (2 ∷ 0 ∷ 1 ∷ []) (EMPTY ∷ EMPTY ∷ EMPTY ∷ []) (1 ∷ 2 ∷ 0 ∷ []) (box 0xbfd0000000000000 0x3fd0000000000000 0x3fe0000000000000 0x3fe8000000000000)) ≡ ok (record { vertices = floats (0 ∷ 0 ∷ 0xbfe0000000000000 ∷ 0xbfc0000000000000 ∷ 0xbfe0000000000000 ∷ 0x3fe4000000000000 ∷ 0 ∷ 0x3fe4000000000000 ∷ 0 ∷ 0xbfc0000000000000 ∷ 0x41fa577eea3dd8fc ∷ 0x41fa577eea3dd8fc ∷ 0 ∷ 0xc202a05f20000000 ∷ 0xc1e78f90e385635d ∷ 0x4201abacaaa40a86 ∷ 0 ∷ 0 ∷ 0xbfcaaaaaaaaaaaab ∷ 0x3fe4000000000000 ∷ []); cells = (t 0 ∷ x 4 ∷ w 1 ∷ w 2 ∷ x 8 ∷ []) ∷ (t 0 ∷ x 8 ∷ x 8 ∷ []) ∷ (t 0 ∷ x 8 ∷ x 4 ∷ []) ∷ []; owners = 0 ∷ 0 ∷ 1 ∷ 0 ∷ []; lost = 2 }))
     -- "square" with a fifth, unused site
     × (answer (build (floats (0xbfe0000000000000 ∷ 0xbfe0000000000000 ∷ 0xbfe0000000000000 ∷ 0x3fe0000000000000 ∷ 0x3fe0000000000000 ∷ 0x3fe0000000000000 ∷ 0x3fe0000000000000 ∷ 0xbfe0000000000000 ∷ 0x4008000000000000 ∷ 0x4008000000000000 ∷ [])) (0 ∷ 1 ∷ 2 ∷ 0 ∷ 2 ∷ 3 ∷ []) (EMPTY ∷ EMPTY ∷ 3 ∷ 2 ∷ EMPTY ∷ EMPTY ∷ []) (0 ∷ 1 ∷ 2 ∷ 3 ∷ []) (box 0 0 0x4000000000000000 0x4000000000000000)) ≡ ok (record { vertices = floats (0 ∷ 0 ∷ 0 ∷ 0 ∷ 0xbff0000000000000 ∷ 0xbff0000000000000 ∷ 0xbff0000000000000 ∷ 0x3ff0000000000000 ∷ 0x3ff0000000000000 ∷ 0x3ff0000000000000 ∷ 0x3ff0000000000000 ∷ 0xbff0000000000000 ∷ 0xc202a05f20000000 ∷ 0 ∷ 0 ∷ 0x4202a05f20000000 ∷ 0x4202a05f20000000 ∷ 0 ∷ 0 ∷ 0xc202a05f20000000 ∷ 0 ∷ 0xbff0000000000000 ∷ 0xbff0000000000000 ∷ 0 ∷ 0 ∷ 0x3ff0000000000000 ∷ 0x3ff0000000000000 ∷ 0 ∷ []); cells = (t 1 ∷ x 10 ∷ w 2 ∷ x 11 ∷ t 0 ∷ []) ∷ (t 0 ∷ x 11 ∷ w 3 ∷ x 12 ∷ []) ∷ (t 0 ∷ x 12 ∷ w 4 ∷ x 13 ∷ t 1 ∷ []) ∷ (t 1 ∷ x 13 ∷ w 5 ∷ x 10 ∷ []) ∷ ([]) ∷ []; owners = 0 ∷ 1 ∷ 2 ∷ 3 ∷ []; lost = 0 }))
-unfolding trailingZeros ofBits add sub mul div lt le eq neg sum round units odd size span climb same wholeRoot nearestRoot rootOfUnits sqrtOf nearOf dist2Of centreOf flat okCentre madeOf cornersOf insideOf whichOf rightHit leftHit topHit bottomHit uprightHit settleOf lineOf orderBy orderOne orderTwo rayOf nearPt findNear addVertex nextOf chosen tableTo turnOf walkOf afterOf lastEnd startsOf neighboursOf distOf nearestOf hopOf pathEnd andThen atEdge wraps around insertAt insertEdge edgeCrossing clipWith clipEdge leave enterAt enter link crossAt cross clipStep inBox stepTo stepsTo firstInside turned clipFrom clipCell centreAt centresFrom ownersFrom extended extendFrom hullRing clipInto clipHull clipRest wrappedIn allWrapped lostFrom clipAll build ringsFrom unclipped answer
+unfolding trailingZeros ofBits add sub mul div lt le eq neg sum round units odd size span climb same wholeRoot nearestRoot rootOfUnits sqrtOf nearOf dist2Of centreOf flat okCentre madeOf cornersOf insideOf firstSide whichOf oneIf twoIf firstHeld orderPick eitherOf rightHit leftHit topHit bottomHit uprightHit settleOf lineOf orderBy orderOne orderTwo rayOf nearPt findNear addVertex nextOf chosen tableTo turnOf walkOf afterOf lastEnd startsOf neighboursOf distOf nearestOf hopOf pathEnd andThen atEdge wraps around insertAt insertEdge edgeCrossing clipWith clipEdge leave enterAt enter link crossAt cross clipStep inBox stepTo stepsTo firstInside turned clipFrom clipCell centreAt centresFrom ownersFrom extended extendFrom hullRing clipInto clipHull clipRest wrappedIn allWrapped lostFrom clipAll build ringsFrom unclipped answer
 rows = (refl, refl, refl, refl, refl, refl, refl, refl, refl, refl, refl, refl, refl)

@@ -5,6 +5,7 @@ use lib.ListN.{length, getD, set, replicate}
 use lib.Ieee.{Float}
 use Rattle.laws.specs.Pick.{pick}
 use Rattle.mesh.specs.Mesh.{EMPTY, endOf}
+use Rattle.mesh.specs.Accepted.{siteCount}
 use Rattle.definition.specs.declared.Fault.{Fault}
 use Rattle.definition.specs.Fault.{Outcome, ok, andThen}
 use Rattle.definition.specs.Cell.{Entry, entry, plain}
@@ -26,7 +27,7 @@ unclipped sites tri he =
     andThen (centresFrom sites tri 0 (length tri / 3) []) λ centres.
     ok (record {
       verts = centres;
-      cells = ringsFrom tri he 0 (length tri) (replicate (length sites / 2) []);
+      cells = ringsFrom tri he 0 (length tri) (replicate (siteCount sites) []);
       owners = replicate 4 EMPTY;
       lost = 0;
       steps = [];

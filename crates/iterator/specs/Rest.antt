@@ -9,7 +9,8 @@ use lib.ListN.{length}
 use Rattle.laws.specs.Decide.{lt-or-ge}
 use Rattle.mesh.specs.Mesh.{turnOf, walkOf, wholeOf}
 use Rattle.mesh.specs.Laws.{walk-go, walk-done}
-use Rattle.mesh.specs.Fan.{Paired, walk-whole}
+use Rattle.mesh.specs.Mesh.{Paired}
+use Rattle.mesh.specs.Walks.{walk-whole}
 
 -- the walk that began at s, from e on
 abbrev pub restOf : List ℕ → ℕ → ℕ → List ℕ

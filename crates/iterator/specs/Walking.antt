@@ -12,8 +12,8 @@ use lib.Seq.{take-all, length-take-le}
 use borrow.Author.Tests.{le-leb, lt-leb}
 use Rattle.laws.specs.Decide.{lt-or-ge}
 use Rattle.mesh.specs.Mesh.{walkOf, wholeOf, Walks}
-use Rattle.mesh.specs.Fan.{Paired}
-use Rattle.mesh.specs.Check.{walk-take}
+use Rattle.mesh.specs.Mesh.{Paired}
+use Rattle.mesh.specs.Laws.{walk-take}
 use Rattle.iterator.specs.Rest.{settled-start, walk-enough}
 use Rattle.iterator.specs.Fills.{Fills}
 

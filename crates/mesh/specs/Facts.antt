@@ -1,20 +1,20 @@
 -- What holds on every mesh that rules 7 to 10 accept: its numbers are in range, the table holds 01's leftmost half-edges, and the walk of a
 -- site lists each half-edge that ends there exactly once.
-use mathlib.Core.Path.{_≡_, refl, sym, ap, _∙_, subst}
-use mathlib.Core.List.{List, _++_}
+use mathlib.Core.Path.{_≡_, refl, sym, ap, _∙_}
+use mathlib.Core.List.{List}
 use mathlib.Core.Logic.{_⊎_, inl, inr, ⊎-elim, _≢_}
-use Prim.Native.Nat.{ℕ, _+_, _-_, _*_, _/_, _%_, _≤_, _<_}
+use Prim.Native.Nat.{ℕ, _+_, _*_, _/_, _%_, _≤_, _<_}
 use native.Mathlib.Omega.{arith}
-use lib.ListN.{length, getD, replicate}
+use lib.ListN.{length, getD}
 use lib.Ieee.{Float}
 use Rattle.laws.specs.Decide.{lt-or-ge, eq-or-ne}
 use Rattle.laws.specs.Count.{occ}
-use Rattle.mesh.specs.Mesh.{EMPTY, nextOf, startOf, endOf, pairOf, Used, AllSound, tableTo, leftmostOf, Leftmost, walkOf, wholeOf, Paired}
+use Rattle.mesh.specs.Mesh.{EMPTY, nextOf, startOf, endOf, pairOf, Used, AllSound, leftmostOf, Leftmost, walkOf, wholeOf, Paired}
 use Rattle.mesh.specs.Rules.{Topology}
 use Rattle.mesh.specs.Accepted.{Accepted, siteCount}
 use Rattle.mesh.specs.Laws.{next-sum, next-lt, next-thrice}
 use Rattle.mesh.specs.Walks.{walk-ends, walk-in, whole-once, reached-walk, walk-fuel}
-use Rattle.mesh.specs.Table.{table-length, table-longer, table-leftmost, the-unpaired, the-lowest, the-none}
+use Rattle.mesh.specs.Table.{table-length, table-leftmost, the-unpaired, the-lowest, the-none}
 use Rattle.mesh.specs.Border.{open-one}
 
 pub topology : {sites : List Float} {tri he hull : List ℕ} → Accepted sites tri he hull → Topology tri he hull (siteCount sites)
@@ -88,12 +88,6 @@ module _ {tri he hull : List ℕ} {sites : ℕ} (ok : Topology tri he hull sites
   -- the table: EMPTY at a site where no half-edge ends, else such a half-edge, the unpaired one if there is one, else the lowest
   pub tab-length : length (leftmostOf tri he sites) ≡ sites
   tab-length = table-length tri he sites (length tri)
-
-  -- in a longer work slice the table is followed by EMPTY
-  pub tab-longer : (w : ℕ) → sites ≤ w → tableTo tri he w (length tri) ≡ leftmostOf tri he sites ++ replicate (w - sites) EMPTY
-  tab-longer w l =
-      let q : w ≡ sites + (w - sites) = omega arith in
-      subst (λ k. tableTo tri he k (length tri) ≡ leftmostOf tri he sites ++ replicate (w - sites) EMPTY) (sym q) (table-longer tri he sites (w - sites) (length tri) (λ e h. end-site e (rw (ok .same) h)))
 
   module _ (s : ℕ) (l : s < sites) where
     tab-at : Leftmost tri he (length tri) s (getD (leftmostOf tri he sites) s 0)

@@ -40,6 +40,10 @@ tableTo tri he w (suc e) =
 abbrev pub leftmostOf : List ℕ → List ℕ → ℕ → List ℕ
 leftmostOf tri he sites = tableTo tri he sites (length tri)
 
+-- a work slice of w entries after an accepted call: the leftmost table, then EMPTY
+abbrev pub leftmostIn : List ℕ → List ℕ → ℕ → ℕ → List ℕ
+leftmostIn tri he sites w = leftmostOf tri he sites ++ replicate (w - sites) EMPTY
+
 -- of the half-edges below n that end at site s, r is the last unpaired one if there is one, else the lowest; and EMPTY if there is none at all
 pub record Leftmost (tri he : List ℕ) (n s r : ℕ) : Type 0 where
   pub none : r ≡ EMPTY → (e : ℕ) → e < n → endOf tri e ≢ s
