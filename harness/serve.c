@@ -35,6 +35,30 @@ static void signum_bits(argument *a) { B(0) = voronoi_signum_bits(B(1)); }
 static void signum(argument *a) { X(0) = voronoi_signum(X(1)); }
 #endif
 
+#ifdef HAS_builds
+#define BOX(i) X(i), X(i + 1), X(i + 2), X(i + 3)
+#define LENT(i) U(i), F(i + 1), U(i + 2), U(i + 3), U(i + 4)
+static void build(argument *a) { N(0) = voronoi_build(BOX(1), MESH(5), LENT(9)); }
+static void build_unclipped(argument *a) { N(0) = voronoi_build_unclipped(MESH(1), LENT(5)); }
+static void cell(argument *a) { N(0) = voronoi_cell(U(1), U(2), N(3), PU(4), PU(5)); }
+
+struct instant {
+    int64_t seconds, nanoseconds;
+};
+int clock_gettime(int clock, struct instant *now);
+enum { CPU_TIME_OF_THREAD = 3 };
+
+/* A build by itself, its processor time in nanoseconds as the result. */
+static void time_build(argument *a)
+{
+    struct instant start, end;
+    clock_gettime(CPU_TIME_OF_THREAD, &start);
+    uint32_t number = voronoi_build(BOX(1), MESH(5), LENT(9));
+    clock_gettime(CPU_TIME_OF_THREAD, &end);
+    B(0) = number ? 0 : (uint64_t)((end.seconds - start.seconds) * 1000000000 + end.nanoseconds - start.nanoseconds);
+}
+#endif
+
 static const struct {
     const char *name;
     void (*call)(argument *);
@@ -42,6 +66,9 @@ static const struct {
 #ifdef HAS_roots
     {"root_bits", root_bits}, {"root", root}, {"magnitude_bits", magnitude_bits}, {"magnitude", magnitude},
     {"signum_bits", signum_bits}, {"signum", signum},
+#endif
+#ifdef HAS_builds
+    {"build", build}, {"build_unclipped", build_unclipped}, {"cell", cell}, {"time_build", time_build},
 #endif
 };
 

@@ -11,3 +11,9 @@ pub mod Gives
 pub mod Puts
 pub mod Edge
 pub mod Ring
+pub mod Weigh
+pub mod Held
+pub mod Owners
+pub mod All
+pub mod Start
+pub mod Theorems

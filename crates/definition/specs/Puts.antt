@@ -37,6 +37,8 @@ pub record Puts (P : ℕ → Type 0) (nc site n k : ℕ) (os : List ℕ) (es : L
   pub placed : AllPlaced P nc n es
   pub corner : (c : ℕ) → c < 4 → Struck nc site c es (getD os c 0) (getD ws c 0)
   pub counted : length (wrappedIn es) + occ site ws ≡ occ site os
+  pub struck : length (wrappedIn es) + occ EMPTY os ≡ occ EMPTY ws
+  pub others : (s : ℕ) → s ≢ EMPTY → occ s ws ≤ occ s os
   pub rest : length es ≡ k + length (wrappedIn es)
 
 -- ---- lists
@@ -72,18 +74,27 @@ module _ (P : ℕ → Type 0) (nc site : ℕ) where
   placed-more n m l crossing v h = (h .0, omega (arith, h .1))
   placed-more n m l wrapped v h = h
 
-  all-more : (n m : ℕ) → n ≤ m → (es : List Entry) → AllPlaced P nc n es → AllPlaced P nc m es
+  pub all-more : (n m : ℕ) → n ≤ m → (es : List Entry) → AllPlaced P nc n es → AllPlaced P nc m es
   all-more n m l [] h = tt
   all-more n m l (e ∷ es) h = (placed-more n m l (e .mark) (e .at) (h .0), all-more n m l es (h .1))
+
+  pub all-turned : (Q : ℕ → Type 0) (n : ℕ) → ((v : ℕ) → P v → Q v) → (es : List Entry) → AllPlaced P nc n es → AllPlaced Q nc n es
+  all-turned Q n f [] h = tt
+  all-turned Q n f (e ∷ es) h = (by (e .mark) (e .at) (h .0), all-turned Q n f es (h .1))
+    where
+      by : (k : Mark) (v : ℕ) → Placed P nc n k v → Placed Q nc n k v
+      by plain v g = (f v (g .0), g .1)
+      by crossing v g = g
+      by wrapped v g = g
 
   -- ---- steps after each other
 
   pub puts-none : (n : ℕ) (os : List ℕ) → Puts P nc site n 0 os [] os
   unfolding wrappedIn
-  puts-none n os = record { owners = refl; placed = tt; corner = λ c h. inl (refl, refl); counted = omega arith; rest = refl }
+  puts-none n os = record { owners = refl; placed = tt; corner = λ c h. inl (refl, refl); counted = omega arith; struck = omega arith; others = λ s h. omega arith; rest = refl }
 
   pub puts-more : {n m k : ℕ} {os ws : List ℕ} {es : List Entry} → n ≤ m → Puts P nc site n k os es ws → Puts P nc site m k os es ws
-  puts-more {n} {m} {es} l h = record { owners = h .owners; placed = all-more n m l es (h .placed); corner = h .corner; counted = h .counted; rest = h .rest }
+  puts-more {n} {m} {es} l h = record { owners = h .owners; placed = all-more n m l es (h .placed); corner = h .corner; counted = h .counted; struck = h .struck; others = h .others; rest = h .rest }
 
   module _ (real : site ≢ EMPTY) where
     struck-then : (c : ℕ) (es fs : List Entry) (o u w : ℕ) → Struck nc site c es o u → Struck nc site c fs u w → Struck nc site c (es ++ fs) o w
@@ -108,6 +119,8 @@ module _ (P : ℕ → Type 0) (nc site : ℕ) where
           placed = placed-append n es fs (h .placed) (g .placed);
           corner = λ c l. struck-then c es fs _ _ _ (h .corner c l) (g .corner c l);
           counted = omega (arith, e, h .counted, g .counted);
+          struck = omega (arith, e, h .struck, g .struck);
+          others = λ s z. omega (arith, h .others s z, g .others s z);
           rest = omega (arith, e, length-append es fs, h .rest, g .rest);
         }
 
@@ -115,11 +128,11 @@ module _ (P : ℕ → Type 0) (nc site : ℕ) where
 
   pub puts-plain : (n v : ℕ) (os : List ℕ) → P v → v < nc → Puts P nc site n 1 os (entry plain v ∷ []) os
   unfolding wrappedIn
-  puts-plain n v os h l = record { owners = refl; placed = ((h, l), tt); corner = λ c g. inl (refl, refl); counted = omega arith; rest = refl }
+  puts-plain n v os h l = record { owners = refl; placed = ((h, l), tt); corner = λ c g. inl (refl, refl); counted = omega arith; struck = omega arith; others = λ s z. omega arith; rest = refl }
 
   pub puts-crossing : (n v : ℕ) (os : List ℕ) → nc ≤ v → v < n → Puts P nc site n 1 os (entry crossing v ∷ []) os
   unfolding wrappedIn
-  puts-crossing n v os h l = record { owners = refl; placed = ((h, l), tt); corner = λ c g. inl (refl, refl); counted = omega arith; rest = refl }
+  puts-crossing n v os h l = record { owners = refl; placed = ((h, l), tt); corner = λ c g. inl (refl, refl); counted = omega arith; struck = omega arith; others = λ s z. omega arith; rest = refl }
 
   module _ (real : site ≢ EMPTY) (n : ℕ) where
     pub puts-corner : (c : ℕ) (os : List ℕ) → length os ≡ 4 → c < 4 → getD os c 0 ≡ site → Puts P nc site n 0 os (entry wrapped (nc + c) ∷ []) (set os c EMPTY)
@@ -139,6 +152,12 @@ module _ (P : ℕ → Type 0) (nc site : ℕ) where
               let f : same site (getD os c 0) ≡ 1 = rw own (same-self site) in
               let g = same-other site EMPTY real in
               omega arith;
+          struck =
+              let e = occ-set EMPTY os c EMPTY l in
+              let f : same EMPTY (getD os c 0) ≡ 0 = rw own (same-other EMPTY site (λ z. real (sym z))) in
+              let g = same-self EMPTY in
+              omega arith;
+          others = λ s z. omega (arith, occ-set s os c EMPTY l, same-other s EMPTY z);
           rest = omega arith;
         }
 

@@ -35,7 +35,7 @@ fn attempt(r: &mut Rng, m: &Mesh) -> Area {
     let (w, h) = (high.x - low.x, high.y - low.y);
     let (cx, cy) = (low.x + w / 2.0, low.y + h / 2.0);
     let place = |r: &mut Rng| pt(low.x + w * r.unit(), low.y + h * r.unit());
-    match r.weighted(&[6, 6, 4, 4, 4, 3, 3, 2, 2, 2, 3, 3, 1, 1]) {
+    match r.weighted(&[6, 6, 4, 4, 4, 3, 3, 2, 2, 2, 3, 3, 1, 1, 2]) {
         0 => area(0.0, 0.0, 2.0, 2.0),
         1 => {
             let k = 0.5 + 2.0 * r.unit();
@@ -69,7 +69,9 @@ fn attempt(r: &mut Rng, m: &Mesh) -> Area {
             area(cx + k, cy, w, h)
         }
         12 => area(0.0, 0.0, power(r.range(-60, 0) as i32), power(r.range(-60, 0) as i32)),
-        _ => corner_on_extension(r, m),
+        13 => corner_on_extension(r, m),
+        // Among the extensions, where the edges between two of them cross the box as well.
+        _ => area(r.signed() * 1e10, r.signed() * 1e10, r.unit() * 2e10, r.unit() * 2e10),
     }
 }
 

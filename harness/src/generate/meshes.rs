@@ -152,9 +152,21 @@ fn grown_mesh(r: &mut Rng) -> (Topology, Vec<f64>) {
     (t, sites)
 }
 
+/// One to three triangles: the fullest use of the room is here.
+fn tiny_mesh(r: &mut Rng) -> (Topology, Vec<f64>) {
+    let steps = r.below(3);
+    let (t, n) = topology::grow(r, topology::single(), 3, steps, 2);
+    let sites = (0..2 * n).map(|_| r.signed()).collect();
+    (t, sites)
+}
+
 /// A sound mesh of 3 to some 60 sites. All rules up to 10 hold; circumcenters may be anything.
 pub fn sound(r: &mut Rng) -> Mesh {
-    let (mut t, mut sites) = if r.chance(3, 4) { delaunay_mesh(r) } else { grown_mesh(r) };
+    let (mut t, mut sites) = match r.weighted(&[15, 5, 2]) {
+        0 => delaunay_mesh(r),
+        1 => grown_mesh(r),
+        _ => tiny_mesh(r),
+    };
 
     if r.chance(1, 6) {
         for _ in 0..1 + r.below(6) {
