@@ -13,3 +13,7 @@ pub mod Edge
 pub mod Ring
 pub mod Weigh
 pub mod Held
+pub mod Owners
+pub mod All
+pub mod Start
+pub mod Theorems

@@ -47,7 +47,7 @@ module _ (idx₀ idx : List ℕ) (a b e : ℕ) (c : List ℕ) (same : drop a idx
       let q : a + k ≡ e = omega (arith, f .low) in
       absurd (r .real k (omega (arith, f .low)) (sym (r .entries k (omega (arith, f .low))) ∙ sym (ahead k) ∙ rw q (f .ended (omega (arith, r .fits))))))
       (λ h. ⊎-elim
-      (λ g. absurd (f .real (a + length c) (omega arith) g (ahead (length c) ∙ r .after (omega (arith, f .high)))))
+      (λ g. absurd (f .real (a + length c) (omega arith) g (ahead (length c) ∙ r .after (a + length c) (omega arith) (omega (arith, f .high)))))
       (λ g. omega arith)
       (lt-or-ge (a + length c) e))
       (lt-or-ge e (a + length c))
@@ -157,7 +157,12 @@ module _ (idx₀ off₀ idx off : List ℕ) (n w from s to : ℕ) (g : Going idx
             rw (add-one, ts, append-assoc, m .starts, drop-cons off₀ s 0 (omega (arith, r .long)))
             (set-at p (getD off₀ s 0) (drop (suc s) off₀) w s lp)
 
--- what is written ends within the list
+-- what is written ends before the regions do, and so within the list
+pub going-below : (idx₀ off₀ idx off : List ℕ) (n w from s : ℕ) → Going idx₀ off₀ idx off n w from s → Rising off₀ n (length idx₀) → w ≤ getD off₀ n 0
+going-below idx₀ off₀ idx off n w from s g r =
+    let last : Rising off₀ n (getD off₀ n 0) = record { long = r .long; rise = r .rise; within = omega arith } in
+    omega (arith, g .low, g .place, rising-all off₀ n (getD off₀ n 0) s last (g .within))
+
 pub going-within : (idx₀ off₀ idx off : List ℕ) (n w from s : ℕ) → Going idx₀ off₀ idx off n w from s → Rising off₀ n (length idx₀) → w ≤ length idx₀
 going-within idx₀ off₀ idx off n w from s g r = omega (arith, g .low, g .place, rising-all off₀ n (length idx₀) s r (g .within))
 

@@ -7,14 +7,12 @@ use native.Mathlib.Nat.{mul-zero, mul-le-mul-left, sub-zero}
 use native.Mathlib.Numerals.{add-one}
 use native.Mathlib.Omega.{arith}
 use lib.ListN.{length, getD, set, take, replicate, length-set, length-replicate, getD-replicate, List·getD-eq-default}
-use lib.Seq.{take-suc, take-length, getD-set-same, getD-set-other, length-take-le}
+use lib.Seq.{take-length, getD-set-same, getD-set-other, length-take-le}
 use Rattle.laws.specs.Decide.{eq-or-ne, lt-or-ge}
-use Rattle.laws.specs.Count.{same, occ, same-cases, occ-append, occ-length, sumTo, sum-mono, sum-same}
+use Rattle.laws.specs.Count.{same, occ, same-cases, occ-length, sumTo, sum-mono, sum-same}
 use Rattle.layout.specs.Cleared.{clearedFrom}
+use Rattle.layout.specs.Degree.{occ-next}
 use Rattle.layout.specs.Rooms.{roomOf, startOf, Tallies, Tallied, Sums, Summed, Roomy, Started, start-end}
-
-occ-next : (s i : ℕ) (l : List ℕ) → i < length l → occ s (take (i + 1) l) ≡ occ s (take i l) + same s (getD l i 0)
-occ-next s i l h = rw (add-one, take-suc l i 0 h, occ-append) (omega arith)
 
 module _ (l : List ℕ) (by : ℕ) (old : List ℕ) where
   pub tallied-none : Tallied (take 0 l) by old old

@@ -16,18 +16,25 @@ unfoldable pub offsetsFrom : ℕ → List (List ℕ) → List ℕ
 offsetsFrom n [] = n ∷ []
 offsetsFrom n (c ∷ cs) = n ∷ offsetsFrom (n + length c) cs
 
--- the region of idx from a to b begins with the cell c; EMPTY, which is no entry, follows where there is room left
+-- the region of idx from a to b begins with the cell c; EMPTY, which is no entry, fills the rest of it
 pub record Region (idx : List ℕ) (a b : ℕ) (c : List ℕ) : Type 0 where
   pub fits : a + length c ≤ b
   pub entries : (i : ℕ) → i < length c → getD idx (a + i) 0 ≡ getD c i 0
   pub real : (i : ℕ) → i < length c → getD c i 0 ≢ EMPTY
-  pub after : a + length c < b → getD idx (a + length c) 0 ≡ EMPTY
+  pub after : (k : ℕ) → a + length c ≤ k → k < b → getD idx k 0 ≡ EMPTY
 
 -- the cells stand in the regions that start at the first entries of `starts`; one entry more is the end of all
 pub record Regions (idx starts : List ℕ) (cells : List (List ℕ)) : Type 0 where
   pub one-more : suc (length cells) ≤ length starts
   pub within : getD starts (length cells) 0 ≤ length idx
   pub each : (s : ℕ) → s < length cells → Region idx (getD starts s 0) (getD starts (suc s) 0) (getD cells s [])
+
+-- c written over idx from `at` on
+pub record Written (idx : List ℕ) (at : ℕ) (c new : List ℕ) : Type 0 where
+  pub long : length new ≡ length idx
+  pub before : (k : ℕ) → k < at → getD new k 0 ≡ getD idx k 0
+  pub entries : (i : ℕ) → i < length c → getD new (at + i) 0 ≡ getD c i 0
+  pub behind : (k : ℕ) → at + length c ≤ k → getD new k 0 ≡ getD idx k 0
 
 -- from..r holds entries alone, and at r the region from..to has EMPTY or its end
 pub record Filled (idx : List ℕ) (from to r : ℕ) : Type 0 where

@@ -71,7 +71,7 @@ fn wide(x: u32) -> usize
 
 // Moves the cells of all sites together and turns the starts of their regions into offsets. Answers how many entries there are.
 pub fn compact(idx: &mut [u32], off: &mut [u32], sites: usize) -> usize
-    requires { ⌜ Rising (now off) sites (length (now idx)) × (length (now idx) < 4294967295) ⌝ }
+    requires { ⌜ Rising (now off) sites (length (now idx)) × (getD (now off) sites 0 < 4294967295) ⌝ }
     ensures { λ r. ⌜ (r ≤ length (now (idx .entry))) × ((cells : List (List ℕ)) → length cells ≡ sites → Regions (now (idx .entry)) (now (off .entry)) cells → Compacted (now (idx .entry)) (now (off .entry)) cells (now (idx .exit)) (now (off .exit)) r) ⌝ }
 {
     let mut w: usize = 0;

@@ -1,1 +1,3 @@
 pub mod Centring
+pub mod StagingLaws
+pub mod Extending

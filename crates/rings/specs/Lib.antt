@@ -1,1 +1,3 @@
 pub mod Centers
+pub mod Staging
+pub mod Extensions

@@ -1,2 +1,4 @@
 // What stands ready before a cell is clipped: the circumcenters, the hull's extensions, and the ring of a site.
 pub mod centers;
+pub mod extensions;
+pub mod staging;

@@ -11,3 +11,6 @@ pub mod Bounds
 pub mod SqrtBounds
 pub mod Order
 pub mod Rank
+pub mod Rounding
+pub mod Sizes
+pub mod Tested

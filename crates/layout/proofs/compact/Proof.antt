@@ -6,7 +6,7 @@ use native.Mathlib.Omega.{arith}
 use lib.ListN.{length, getD, length-set}
 use borrow.Author.Needs.{needs}
 use Rattle.layout.specs.Regions.{Regions}
-use Rattle.layout.proofs.Compacting.{Going, Moved, going-start, moved-start, going-step, moved-step, moved-end, region-within, going-within}
+use Rattle.layout.proofs.Compacting.{Going, Moved, going-start, moved-start, going-step, moved-step, moved-end, region-within, going-below, going-within}
 use Rattle.layout.proofs.compact.Statement.{statement}
 use Rattle.layout.proofs.compact.Tie as tie
 
@@ -54,7 +54,7 @@ move-down-requires c κs =
     (c .before .before .before .before .before .before .loop .inv .0 .low, f .low, omega (arith, f .high, inside (c .before .before .before) .1))
 
 cast-off : tie.Need-cast-off Inv-loop μ-loop
-cast-off c = let d = c .before .before .before .before .before .before in omega (arith, inside d, d .before .before .before .loop .inv .0 .low, d .before .before .before .loop .inv .0 .long-idx)
+cast-off c = let l = c .before .before .before .before .before .before .before .before .before in omega (arith, going-below _ _ _ _ _ _ _ _ (l .loop .inv .0) (Entry l .pre .0), Entry l .pre .1)
 
 mul-off : tie.Need-mul-off Inv-loop μ-loop
 mul-off c = let l = c .before .before .before .before .before .before .before .before .before in omega (arith, l .loop .inv .0 .long-off, Entry l .pre .0 .long)
@@ -89,7 +89,7 @@ loop-again c =
     )
 
 cast-off-2 : tie.Need-cast-off-2 Inv-loop μ-loop
-cast-off-2 c = omega (arith, going-within _ _ _ _ _ _ _ _ (c .before .loop .inv .0) (Entry (c .before) .pre .0))
+cast-off-2 c = omega (arith, going-below _ _ _ _ _ _ _ _ (c .before .loop .inv .0) (Entry (c .before) .pre .0), Entry (c .before) .pre .1)
 
 mul-off-2 : tie.Need-mul-off-2 Inv-loop μ-loop
 mul-off-2 c = let l = c .before in omega (arith, l .loop .inv .0 .long-off, Entry l .pre .0 .long)
