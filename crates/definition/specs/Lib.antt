@@ -2,6 +2,7 @@
 pub mod Fault
 pub mod Cell
 pub mod Build
+pub mod Reached
 pub mod Unclipped
 pub mod Answers
 pub mod RowsBuilt
