@@ -17,3 +17,4 @@ pub mod Owners
 pub mod All
 pub mod Start
 pub mod Theorems
+pub mod Lowest

@@ -23,9 +23,9 @@ pub record Handing (tri he : List ℕ) (keeps : ℕ → Bool) (whole old new : L
   pub sound : Sound he c
 
 -- a step tells whether any is left
-pub step-over : (tri he : List ℕ) (keeps : ℕ → Bool) (left : List ℕ) (r : Stepped) → Takes tri he keeps left r → isEnd r ≡ eqb (length left) 0
-step-over tri he keeps left (Site x d) t = sym (ne-eqb (length left) 0 (λ z. omega (arith, ap length (t .0))))
-step-over tri he keeps left End t = sym (eq-eqb (length left) 0 (ap length t))
+pub step-over : (tri he : List ℕ) (keeps : ℕ → Bool) (c : Cursor) (r : Stepped) → Takes tri he keeps (clippedLeft tri he keeps c) r → isEnd r ≡ eqb (length (clippedLeft tri he keeps c)) 0
+step-over tri he keeps c (Site x d) t = sym (ne-eqb (length (clippedLeft tri he keeps c)) 0 (λ z. omega (arith, ap length (t .0))))
+step-over tri he keeps c End t = sym (eq-eqb (length (clippedLeft tri he keeps c)) 0 (ap length t))
 
 module _ (tri he old : List ℕ) (keeps : ℕ → Bool) where
   pub handing-start : length he ≤ EMPTY → (s : ℕ) → Settled he s s → Handing tri he keeps (clippedOf tri he keeps (wholeOf he s)) old old (fresh s) 0

@@ -17,3 +17,5 @@ pub mod Coming
 pub mod Clippable
 pub mod ClippedHanding
 pub mod Square
+pub mod ClippedRows
+pub mod OnMesh

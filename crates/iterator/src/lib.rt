@@ -185,21 +185,18 @@ pub fn path(
     ensures { λ r. ⌜ Fills (wholePath (now (sites .entry)) (now (triangles .entry)) (now (halfedges .entry)) (now (table .entry)) p s) (now (out .entry)) (now (out .exit)) (r .count) (r .ended) ⌝ }
 {
     let mut at = s;
-    let mut n = 0;
-    while n < out.len() {
-        out[n] = at;
-        n += 1;
+    let mut count = 0;
+    while count < out.len() {
+        out[count] = at;
+        count += 1;
         let next = hop(sites, triangles, halfedges, table, at, p);
         if next == at {
-            return Walked {
-                count: n,
-                ended: true,
-            };
+            return Walked { count, ended: true };
         }
         at = next;
     }
     Walked {
-        count: n,
+        count,
         ended: false,
     }
 }

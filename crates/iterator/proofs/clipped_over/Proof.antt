@@ -18,10 +18,10 @@ enum-told-2 : tie.Need-enum-told-2
 enum-told-2 c = search needs
 
 returns : tie.Need-returns
-returns c = let a = c .before .before .before .before .before .before .before .args in ap isEnd (sym (c .enum-told .given .1)) ∙ step-over (now (a .triangles)) (now (a .halfedges)) (shareEdgeOf (now (a .offsets)) (now (a .cells)) (a .s)) _ (c .before .before .clipped-step .result) (c .before .before .clipped-step .ensures)
+returns c = let a = c .before .before .before .before .before .before .before .args in ap isEnd (sym (c .enum-told .given .1)) ∙ step-over (now (a .triangles)) (now (a .halfedges)) (shareEdgeOf (now (a .offsets)) (now (a .cells)) (a .s)) (a .c) (c .before .before .clipped-step .result) (c .before .before .clipped-step .ensures)
 
 returns-2 : tie.Need-returns-2
-returns-2 c = let a = c .before .before .before .before .before .before .before .args in ap isEnd (sym (c .enum-told2 .given .1)) ∙ step-over (now (a .triangles)) (now (a .halfedges)) (shareEdgeOf (now (a .offsets)) (now (a .cells)) (a .s)) _ (c .before .before .clipped-step .result) (c .before .before .clipped-step .ensures)
+returns-2 c = let a = c .before .before .before .before .before .before .before .args in ap isEnd (sym (c .enum-told2 .given .1)) ∙ step-over (now (a .triangles)) (now (a .halfedges)) (shareEdgeOf (now (a .offsets)) (now (a .cells)) (a .s)) (a .c) (c .before .before .clipped-step .result) (c .before .before .clipped-step .ensures)
 
 pub clipped-over-spec : {M : Type 1} → statement M
 clipped-over-spec =
