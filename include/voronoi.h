@@ -105,6 +105,16 @@ uint32_t voronoi_intersect_line(double cx, double cy, double width, double heigh
 uint32_t voronoi_project_ray(double cx, double cy, double width, double height, double px, double py, double dx, double dy,
     uint32_t *count, double *x, double *y, double *u, double *v);
 
+/* ---- the check of a mesh
+ * sites: x and y of each, in turn. triangles: three sites each. halfedges: the pair of each half-edge, or VORONOI_EMPTY; half-edge e runs
+ * from triangles[e] to the next site of its triangle. hull: the sites round the border, in order. work: room for as many entries as sites.
+ *
+ * Answers 0, or the first of 1, 2, 6, 7, 8, 9, 10 whose rule is broken. After 0, work holds for each site its leftmost half-edge (of those
+ * that end there the unpaired one if there is one, else the lowest; VORONOI_EMPTY where none ends), then VORONOI_EMPTY to its end. After 1,
+ * 2 and 6 work is unchanged; after 7 to 10 it holds VORONOI_EMPTY over its whole length. */
+uint32_t voronoi_check(const double *sites, size_t sites_len, const uint32_t *triangles, size_t triangles_len, const uint32_t *halfedges,
+                       size_t halfedges_len, const uint32_t *hull, size_t hull_len, uint32_t *work, size_t work_len);
+
 #ifdef __cplusplus
 }
 #endif
