@@ -13,8 +13,7 @@ use Rattle.laws.specs.Pick.{pick}
 use native.Mathlib.Nat.{add-zero, sub-zero, zero-add}
 use lib.Ieee.{Float, nan}
 use Rattle.utils.specs.declared.Point.{Point}
-use Rattle.vertices.specs.Add.{nearPt}
-use Rattle.vertices.specs.Add.{findNear, addVertex, added}
+use Rattle.vertices.specs.Add.{nearPt, findNear, addVertex, added}
 use Rattle.utils.specs.Flat.{pointAt, pointsFrom, points, flat, pour}
 
 pub points-more : (l : List Float) (i n : ℕ) → i < n → pointsFrom l i (n - i) ≡ pointAt l i ∷ pointsFrom l (i + 1) (n - (i + 1))
@@ -136,14 +135,14 @@ pour-pour vs ws l h g =
 pub add-old :
     (l : List Float) (nc n i : ℕ) (p : Point)
     → nc ≤ n → i < n → i ≡ findNear p (pointsFrom l nc (n - nc)) nc
-    → addVertex nc (points n l) p ≡ added i (points n l)
+    → addVertex nc (points n l) p ≡ added false i (points n l)
 unfolding addVertex
 add-old l nc n i p h k e = rw (drop-points l nc 0 n h, zero-add nc, ← e, length-points l 0 n, lt-ltb i n k)
 
 pub add-new :
     (l : List Float) (nc n i : ℕ) (p : Point)
     → nc ≤ n → i ≡ n → i ≡ findNear p (pointsFrom l nc (n - nc)) nc
-    → addVertex nc (points n l) p ≡ added n (points n l ++ p ∷ [])
+    → addVertex nc (points n l) p ≡ added true n (points n l ++ p ∷ [])
 unfolding addVertex
 add-new l nc n i p h k e = rw (drop-points l nc 0 n h, zero-add nc, ← e, length-points l 0 n, k, le-ltb n n (omega arith))
 

@@ -1,6 +1,6 @@
--- Adding a vertex: the first near one after the circumcenters is taken again, else the point is put at the end.
+-- Adding a vertex (the Rust's add_new_vertex): the first near one after the circumcenters is taken again, else the point is put at the end.
 use Prim.Native.Nat.{ℕ, suc}
-use mathlib.Core.Bool.{Bool, false}
+use mathlib.Core.Bool.{Bool, false, not}
 use mathlib.Core.List.{List, [], _∷_, _++_}
 use lib.ListN.{length, drop}
 use lib.Dec.{ltb}
@@ -11,12 +11,14 @@ use Rattle.utils.specs.declared.Point.{Point}
 unfoldable pub nearPt : Point → Point → Bool
 nearPt p q = pick (nearOf (p .x) (q .x)) (λ _. nearOf (p .y) (q .y)) (λ _. false)
 
+-- the point's place, all vertices afterwards, and whether the point is new among them
 pub record Added : Type 0 where
   pub at : ℕ
   pub verts : List Point
+  pub fresh : Bool
 
-abbrev pub added : ℕ → List Point → Added
-added n vs = record { at = n; verts = vs }
+abbrev pub added : Bool → ℕ → List Point → Added
+added new n vs = record { at = n; verts = vs; fresh = new }
 
 -- the first of vs, numbered from n, that is near p; else the number after them
 unfoldable pub findNear : Point → List Point → ℕ → ℕ
@@ -26,4 +28,5 @@ findNear p (v ∷ vs) n = pick (nearPt v p) (λ _. n) (λ _. findNear p vs (suc 
 unfoldable pub addVertex : ℕ → List Point → Point → Added
 addVertex nc vs p =
     let i = findNear p (drop nc vs) nc in
-    added i (pick (ltb i (length vs)) (λ _. vs) (λ _. vs ++ p ∷ []))
+    let old = ltb i (length vs) in
+    added (not old) i (pick old (λ _. vs) (λ _. vs ++ p ∷ []))

@@ -1,9 +1,9 @@
+-- `vertices::find_near` meets its contract: what the search finds from place i on is what it finds from the start, as nothing before i is near.
 use Prim.Native.Nat.{ℕ, _+_, _-_, _≤_, _<_}
 use mathlib.Core.Path.{_≡_, refl, sym, ap, _∙_}
 use native.Mathlib.Omega.{arith}
 use borrow.Author.Needs.{needs}
-use Rattle.vertices.specs.Add.{findNear}
-use Rattle.vertices.specs.Add.{nearPt}
+use Rattle.vertices.specs.Add.{nearPt, findNear}
 use Rattle.utils.specs.Flat.{pointsFrom}
 use Rattle.vertices.proofs.Laws.{near-hit, near-miss, near-end}
 use Rattle.vertices.proofs.find_near.Statement.{statement}

@@ -1,0 +1,275 @@
+-- One cell (the Rust's clip_cell and what it calls): the ring of a site clipped to the box, each entry marked with the step that put it there.
+-- b is the box, nc the number of circumcenters, vs the vertices, os the four corners' owners: a corner that was wrapped has EMPTY.
+use Prim.Native.Nat.{ℕ, zero, suc, _+_, _%_}
+use mathlib.Core.Bool.{Bool, true, false, _&&_}
+use mathlib.Core.List.{List, [], _∷_, _++_, map, reverse}
+use lib.ListN.{length, getD, set, take, drop}
+use lib.Dec.{ltb, eqb}
+use lib.Ieee.{Float, nan, eq}
+use Rattle.laws.specs.Pick.{pick}
+use Rattle.laws.specs.Binary64.{_⊟_}
+use Rattle.utils.specs.Plane.{at}
+use Rattle.utils.specs.declared.Point.{Point}
+use Rattle.bounding_box.specs.Box.{insideOf, whichOf}
+use Rattle.bounding_box.specs.declared.BoundingBox.{BoundingBox}
+use Rattle.crossings.specs.Cross.{orderOf, rayOf}
+use Rattle.crossings.specs.declared.Crossing.{Crossing}
+use Rattle.crossings.specs.declared.Crossing.the-variants.{None, One, Two}
+use Rattle.vertices.specs.Add.{Added, addVertex}
+use Rattle.mesh.specs.Mesh.{EMPTY}
+use Rattle.definition.specs.declared.Fault.{Fault}
+use Rattle.definition.specs.Fault.{Outcome, ok, refused, andThen, atEdge}
+
+-- ---- entries
+
+-- a circumcenter inside the box, a clipped vertex, a corner that was wrapped
+pub data Mark : Type 0 where
+  plain crossing wrapped : Mark
+
+pub record Entry : Type 0 where
+  pub mark : Mark
+  pub at : ℕ
+
+abbrev pub entry : Mark → ℕ → Entry
+entry m v = record { mark = m; at = v }
+
+-- the last entry's vertex, n where there is none
+abbrev pub lastOr : ℕ → List Entry → ℕ
+lastOr n [] = n
+lastOr n (e ∷ es) = lastOr (e .at) es
+
+-- ---- steps that add a point
+
+pub data Kind : Type 0 where
+  extension firstCrossing secondCrossing : Kind
+
+-- such a step: its kind, and whether the point was new or a vertex was taken again
+pub record Took : Type 0 where
+  pub kind : Kind
+  pub fresh : Bool
+
+abbrev pub took : Kind → Added → Took
+took k a = record { kind = k; fresh = a .fresh }
+
+-- ---- wrapping
+
+-- what a step puts into a cell: the owners left and the new entries
+pub record Ins : Type 0 where
+  pub owners : List ℕ
+  pub new : List Entry
+
+abbrev pub ins : List ℕ → List Entry → Ins
+ins os es = record { owners = os; new = es }
+
+abbrev pub before : Entry → Ins → Ins
+before e i = ins (i .owners) (e ∷ i .new)
+
+abbrev pub after : Ins → Entry → Ins
+after i e = ins (i .owners) (i .new ++ e ∷ [])
+
+-- whether corner c is next: it is not the last side's, and the site owns it
+abbrev pub goes : ℕ → ℕ → ℕ → List ℕ → Bool
+goes site stop c os = pick (eqb c stop) (λ _. false) (λ _. eqb (getD os c 0) site)
+
+-- the corners from c on, counter-clockwise, at most k of them
+unfoldable pub wraps : ℕ → ℕ → ℕ → ℕ → ℕ → List ℕ → Ins
+wraps zero nc site stop c os = ins os []
+wraps (suc k) nc site stop c os =
+    pick (goes site stop c os)
+    (λ _. before (entry wrapped (nc + c)) (wraps k nc site stop ((c + 1) % 4) (set os c EMPTY)))
+    (λ _. ins os [])
+
+-- the second clipped vertex, with the corners before it or after it; the clipped vertices are on the sides f and s
+unfoldable pub around : ℕ → ℕ → ℕ → ℕ → ℕ → List ℕ → Ins
+around nc site f s second os =
+    pick (eqb (getD os f 0) site)
+    (λ _. after (wraps 4 nc site s f os) (entry crossing second))
+    (λ _. pick (eqb (getD os s 0) site)
+    (λ _. before (entry crossing second) (wraps 4 nc site f s os))
+    (λ _. ins os (entry crossing second ∷ [])))
+
+-- the first clipped vertex too, unless it is the last entry already
+abbrev pub led : Bool → ℕ → Ins → Ins
+led true first i = i
+led false first i = before (entry crossing first) i
+
+-- 15 where one of the two is on no side
+unfoldable pub insertAt : ℕ → ℕ → ℕ → ℕ → ℕ → List ℕ → ℕ → ℕ → Outcome ℕ Ins
+insertAt nc site last first second os f s =
+    pick (ltb f 4)
+    (λ _. pick (ltb s 4)
+    (λ _. ok (led (eqb last first) first (around nc site f s second os)))
+    (λ _. refused 15))
+    (λ _. refused 15)
+
+abbrev pub vertexAt : List Point → ℕ → Point
+vertexAt vs i = getD vs i (at nan nan)
+
+-- insert_edge_and_wrap_around_corners; last is the cell's last entry, EMPTY if it has none
+unfoldable pub insertEdge : BoundingBox → ℕ → ℕ → List Point → List ℕ → ℕ → ℕ → ℕ → Outcome ℕ Ins
+insertEdge b nc site vs os last first second =
+    insertAt nc site last first second os (whichOf b (vertexAt vs first)) (whichOf b (vertexAt vs second))
+
+-- ---- clipping an edge
+
+-- whether the first point of an ordered crossing is (x, y), as floats compare
+abbrev pub firstIs : Crossing → Float → Float → Bool
+firstIs None x y = false
+firstIs (One u v) x y = eq u x && eq v y
+firstIs (Two u v w z) x y = eq u x && eq v y
+
+-- of the crossings of the ray from p, those of the edge from p to q: of two, neither where they come after q
+abbrev pub onEdge : Point → Point → Point → Crossing → Crossing
+onEdge p q d None = None
+onEdge p q d (One x y) = One x y
+onEdge p q d (Two x y u v) = pick (firstIs (orderOf p d (Two (q .x) (q .y) x y)) x y) (λ _. Two x y u v) (λ _. None)
+
+unfoldable pub edgeCrossing : BoundingBox → Point → Point → Crossing
+edgeCrossing b p q =
+    let d = at (q .x ⊟ p .x) (q .y ⊟ p .y) in
+    onEdge p q d (rayOf b p d)
+
+-- the crossings as vertices: at most two are added
+pub data Clip : Type 0 where
+  missed : Clip
+  once : Added → Clip
+  twice : Added → Added → Clip
+
+unfoldable pub clipWith : ℕ → List Point → Crossing → Clip
+clipWith nc vs None = missed
+clipWith nc vs (One x y) = once (addVertex nc vs (at x y))
+clipWith nc vs (Two x y u v) =
+    let r = addVertex nc vs (at x y) in
+    twice r (addVertex nc (r .verts) (at u v))
+
+-- clip_voronoi_edge
+unfoldable pub clipEdge : BoundingBox → ℕ → List Point → ℕ → ℕ → Clip
+clipEdge b nc vs p q = clipWith nc vs (edgeCrossing b (vertexAt vs p) (vertexAt vs q))
+
+-- ---- one edge of the ring, from vertex p to vertex q
+
+-- what it does: the vertices afterwards, the owners left, the new entries, whether the cell is left open, the points it added or took again
+pub record Change : Type 0 where
+  pub verts : List Point
+  pub owners : List ℕ
+  pub new : List Entry
+  pub opened : Bool
+  pub steps : List Took
+
+abbrev pub change : List Point → List ℕ → List Entry → Bool → List Took → Change
+change vs os es o ts = record { verts = vs; owners = os; new = es; opened = o; steps = ts }
+
+abbrev pub tookOne : Added → List Took
+tookOne r = took firstCrossing r ∷ []
+
+abbrev pub tookTwo : Added → Added → List Took
+tookTwo r t = took firstCrossing r ∷ took secondCrossing t ∷ []
+
+-- from inside to outside
+unfoldable pub leave : ℕ → List ℕ → Clip → Outcome ℕ Change
+leave p os missed = refused 13
+leave p os (once r) = ok (change (r .verts) os (entry plain p ∷ entry crossing (r .at) ∷ []) true (tookOne r))
+leave p os (twice r t) = ok (change (t .verts) os (entry plain p ∷ entry crossing (r .at) ∷ []) true (tookTwo r t))
+
+-- from outside to inside; last is the cell's last entry
+unfoldable pub enterAt : BoundingBox → ℕ → ℕ → List Point → List ℕ → ℕ → ℕ → List Took → Outcome ℕ Change
+enterAt b nc site vs os last first ts =
+    andThen (insertEdge b nc site vs os last last first) λ i.
+    ok (change vs (i .owners) (i .new) false ts)
+
+unfoldable pub enter : BoundingBox → ℕ → ℕ → List ℕ → ℕ → Clip → Outcome ℕ Change
+enter b nc site os last missed = refused 13
+enter b nc site os last (once r) = enterAt b nc site (r .verts) os last (r .at) (tookOne r)
+enter b nc site os last (twice r t) = enterAt b nc site (t .verts) os last (r .at) (tookTwo r t)
+
+-- both outside: an open cell is first led from its last entry to the first crossing
+unfoldable pub link : BoundingBox → ℕ → ℕ → List Point → List ℕ → Bool → ℕ → ℕ → Outcome ℕ Ins
+link b nc site vs os opened last first = pick opened (λ _. insertEdge b nc site vs os last last first) (λ _. ok (ins os []))
+
+unfoldable pub crossAt : BoundingBox → ℕ → ℕ → List Point → List ℕ → Bool → ℕ → ℕ → ℕ → List Took → Outcome ℕ Change
+crossAt b nc site vs os opened last first second ts =
+    andThen (link b nc site vs os opened last first) λ i.
+    andThen (insertEdge b nc site vs (i .owners) (lastOr last (i .new)) first second) λ j.
+    ok (change vs (j .owners) (i .new ++ j .new) opened ts)
+
+unfoldable pub cross : BoundingBox → ℕ → ℕ → List Point → List ℕ → Bool → ℕ → Clip → Outcome ℕ Change
+cross b nc site vs os opened last missed = ok (change vs os [] opened [])
+cross b nc site vs os opened last (once r) =
+    andThen (link b nc site (r .verts) os opened last (r .at)) λ i.
+    refused 14
+cross b nc site vs os opened last (twice r t) = crossAt b nc site (t .verts) os opened last (r .at) (t .at) (tookTwo r t)
+
+-- the four cases; pIn and qIn: whether p and q are inside
+unfoldable pub clipStep : BoundingBox → ℕ → ℕ → ℕ → Bool → ℕ → Bool → List Point → List ℕ → Bool → ℕ → Outcome ℕ Change
+clipStep b nc site p pIn q qIn vs os opened last =
+    pick pIn
+    (λ _. pick qIn
+    (λ _. ok (change vs os (entry plain p ∷ []) opened []))
+    (λ _. leave p os (clipEdge b nc vs p q)))
+    (λ _. pick qIn
+    (λ _. enter b nc site os last (clipEdge b nc vs q p))
+    (λ _. cross b nc site vs os opened last (clipEdge b nc vs p q)))
+
+-- ---- the ring
+
+-- only circumcenters can be inside
+unfoldable pub inBox : BoundingBox → ℕ → List Point → ℕ → Bool
+inBox b nc vs i = pick (ltb i nc) (λ _. insideOf b (vertexAt vs i)) (λ _. false)
+
+-- a cell on its way: vertices and owners so far, its last entry (EMPTY if it has none), the ring's vertex p where it stands, whether that is inside, whether the cell is open
+pub record Tip : Type 0 where
+  pub verts : List Point
+  pub owners : List ℕ
+  pub last : ℕ
+  pub p : ℕ
+  pub pIn : Bool
+  pub opened : Bool
+
+abbrev pub tip : List Point → List ℕ → ℕ → ℕ → Bool → Bool → Tip
+tip vs os l p i o = record { verts = vs; owners = os; last = l; p = p; pIn = i; opened = o }
+
+-- where some edges of the ring lead, the entries that they add, and the points that they added or took again
+pub record Part : Type 0 where
+  pub tip : Tip
+  pub new : List Entry
+  pub steps : List Took
+
+abbrev pub part : Tip → List Entry → List Took → Part
+part t es ts = record { tip = t; new = es; steps = ts }
+
+abbrev pub joined : Part → Part → Part
+joined c d = part (d .tip) (c .new ++ d .new) (c .steps ++ d .steps)
+
+abbrev pub moved : Tip → ℕ → Bool → Change → Part
+moved t q qIn d = part (tip (d .verts) (d .owners) (lastOr (t .last) (d .new)) q qIn (d .opened)) (d .new) (d .steps)
+
+unfoldable pub stepTo : BoundingBox → ℕ → ℕ → Tip → ℕ → Outcome Fault Part
+stepTo b nc site t q =
+    let qIn = inBox b nc (t .verts) q in
+    andThen (atEdge site (t .p) q (clipStep b nc site (t .p) (t .pIn) q qIn (t .verts) (t .owners) (t .opened) (t .last))) λ d.
+    ok (moved t q qIn d)
+
+unfoldable pub stepsTo : BoundingBox → ℕ → ℕ → List ℕ → Tip → Outcome Fault Part
+stepsTo b nc site [] t = ok (part t [] [])
+stepsTo b nc site (q ∷ qs) t =
+    andThen (stepTo b nc site t q) λ c.
+    andThen (stepsTo b nc site qs (c .tip)) λ d.
+    ok (joined c d)
+
+-- the place of the first vertex inside, else the ring's length
+unfoldable pub firstInside : BoundingBox → ℕ → List Point → List ℕ → ℕ
+firstInside b nc vs [] = 0
+firstInside b nc vs (q ∷ qs) = pick (inBox b nc vs q) (λ _. 0) (λ _. suc (firstInside b nc vs qs))
+
+-- the ring reversed and cyclic: from the vertex before place f round to place f
+unfoldable pub turned : ℕ → List ℕ → List ℕ
+turned f ring = reverse (take f ring) ++ reverse (drop f ring)
+
+unfoldable pub clipFrom : BoundingBox → ℕ → ℕ → List ℕ → List Point → List ℕ → ℕ → Bool → Outcome Fault Part
+clipFrom b nc site ring vs os f inside = stepsTo b nc site (turned f ring) (tip vs os EMPTY (getD ring f 0) inside false)
+
+-- clip_cell: from the first vertex inside, else from the first
+unfoldable pub clipCell : BoundingBox → ℕ → ℕ → List ℕ → List Point → List ℕ → Outcome Fault Part
+clipCell b nc site ring vs os =
+    let f = firstInside b nc vs ring in
+    pick (ltb f (length ring)) (λ _. clipFrom b nc site ring vs os f true) (λ _. clipFrom b nc site ring vs os 0 false)

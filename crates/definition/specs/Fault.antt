@@ -1,0 +1,27 @@
+-- Outcomes of the builder's steps: a value, or a refusal. Within one edge that is document 01's number alone, outside it is a fault: the number and the place.
+use Prim.Native.Nat.{ℕ}
+use Rattle.definition.specs.declared.Fault.{Fault}
+
+pub data Outcome (F A : Type 0) : Type 0 where
+  ok : A → Outcome F A
+  refused : F → Outcome F A
+
+unfoldable pub andThen : {F A B : Type 0} → Outcome F A → (A → Outcome F B) → Outcome F B
+andThen (ok a) k = k a
+andThen (refused f) k = refused f
+
+abbrev pub fault : ℕ → ℕ → ℕ → ℕ → Fault
+fault n place from to = record { number = n; place = place; from = from; to = to }
+
+-- 11: the circumcenter of triangle t breaks its rule
+abbrev pub badCentre : ℕ → Fault
+badCentre t = fault 11 t 0 0
+
+-- 12: the extension over the hull edge from hull place i to the next one is not finite
+abbrev pub notFinite : ℕ → Fault
+notFinite i = fault 12 i 0 0
+
+-- 13 to 15: met in the cell of a site, at the edge from vertex p to vertex q
+unfoldable pub atEdge : {A : Type 0} → ℕ → ℕ → ℕ → Outcome ℕ A → Outcome Fault A
+atEdge site p q (ok a) = ok a
+atEdge site p q (refused n) = refused (fault n site p q)
