@@ -1,3 +1,4 @@
 pub mod Entries
 pub mod Wrapping
 pub mod Clips
+pub mod Changes

@@ -36,7 +36,7 @@ abbrev pub places : Bool → ℕ
 places true = 1
 places false = 2
 
--- the definition's outcome, as the code gives it; refused, it has written nothing. The last entry is one of count vertices.
-abbrev pub Inserts : ℕ → ℕ → ℕ → Outcome ℕ Ins → Cell → List ℕ → Inserted → List ℕ → Type 0
-Inserts site most count (ok i) cell ix r ix₁ = (r .refusal ≡ 0) × Puts site most i cell ix (r .cell) ix₁ × (r .cell .last < count)
-Inserts site most count (refused k) cell ix r ix₁ = (r .refusal ≡ k) × (0 < k) × (ix₁ ≡ ix)
+-- the definition's outcome, as the code gives it; refused, it has written nothing
+abbrev pub Inserts : ℕ → ℕ → Outcome ℕ Ins → Cell → List ℕ → Inserted → List ℕ → Type 0
+Inserts site most (ok i) cell ix r ix₁ = (r .refusal ≡ 0) × Puts site most i cell ix (r .cell) ix₁
+Inserts site most (refused k) cell ix r ix₁ = (r .refusal ≡ k) × (0 < k) × (ix₁ ≡ ix)

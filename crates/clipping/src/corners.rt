@@ -144,7 +144,8 @@ pub fn insert_edge(
 ) -> Inserted
     requires { ⌜ Fits (env .site) 2 cell (length (now ix)) ⌝ }
     requires { ⌜ (2 * count ≤ length (now v)) × (first < count) × (second < count) × (env .centers + 4 ≤ count) × (count ≤ 2 ^ 32) ⌝ }
-    ensures { λ r. ⌜ Inserts (env .site) (places (eqb (cell .last) first)) count (Def.insertEdge (env .bounds) (env .centers) (env .site) (points count (now (v .entry))) (cell .owners) (cell .last) first second) cell (now (ix .entry)) r (now (ix .exit)) ⌝ }
+    ensures inserts { λ r. ⌜ Inserts (env .site) (places (eqb (cell .last) first)) (Def.insertEdge (env .bounds) (env .centers) (env .site) (points count (now (v .entry))) (cell .owners) (cell .last) first second) cell (now (ix .entry)) r (now (ix .exit)) ⌝ }
+    ensures low { λ r. ⌜ (r .refusal ≡ 0 → r .cell .last < count) ⌝ }
 {
     let bounds = env.bounds;
     let f = side_of(v, count, bounds, first);

@@ -4,6 +4,7 @@ use definition::Fault;
 
 pub mod corners; // corners.rt: insert_edge_and_wrap_around_corners
 pub mod edge; // edge.rt: clip_voronoi_edge
+pub mod step; // step.rt: one edge of the ring
 
 pub const EMPTY: u32 = 4294967295;
 
@@ -39,7 +40,7 @@ pub enum Clipped {
 pub struct Changed {
     pub refusal: u32,
     pub count: usize,
-    pub open: bool,
+    pub opened: bool,
     pub cell: Cell,
 }
 
@@ -49,7 +50,7 @@ pub struct Tip {
     pub count: usize,
     pub vertex: u32,
     pub inside: bool,
-    pub open: bool,
+    pub opened: bool,
 }
 
 // Where some edges of the ring lead; its fault's number is 0 where they refuse nothing.

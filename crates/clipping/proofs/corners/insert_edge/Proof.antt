@@ -20,14 +20,14 @@ returns c =
     let m = c .before in
     let a = m .before .before .before .before .before .args in
     rw (insert-first-off (a .env .bounds) (a .env .centers) (a .env .site) (points (a .count) (now (a .v))) (a .cell .owners) (a .cell .last) (a .first) (a .second) _ _ (m .before .side-of .ensures) (m .side-of2 .ensures) (c .if1 .taken))
-    (refl, omega arith, refl)
+    ((refl, omega arith, refl), λ e. absurd (omega arith))
 
 returns-2 : tie.Need-returns-2
 returns-2 c =
     let m = c .before .before in
     let a = m .before .before .before .before .before .args in
     rw (insert-second-off (a .env .bounds) (a .env .centers) (a .env .site) (points (a .count) (now (a .v))) (a .cell .owners) (a .cell .last) (a .first) (a .second) _ _ (m .before .side-of .ensures) (m .side-of2 .ensures) (c .before .if1 .left) (c .if2 .taken))
-    (refl, omega arith, refl)
+    ((refl, omega arith, refl), λ e. absurd (omega arith))
 
 insert-sides-requires : tie.Need-insert-sides-requires
 insert-sides-requires c κs = search needs
@@ -41,7 +41,7 @@ returns-3 c =
     let a = m .before .before .before .before .before .args in
     let w = c .before .before .insert-sides .ensures in
     rw (insert-on (a .env .bounds) (a .env .centers) (a .env .site) (points (a .count) (now (a .v))) (a .cell .owners) (a .cell .last) (a .first) (a .second) _ _ (m .before .side-of .ensures) (m .side-of2 .ensures) (c .before .before .before .before .before .if1 .left) (c .before .before .before .before .if2 .left))
-    (refl, w .0, w .1 (a .count) (omega arith) (omega arith))
+    ((refl, w .0), λ e. w .1 (a .count) (omega arith) (omega arith))
 
 pub insert-edge-spec : {M : Type 1} → statement M
 insert-edge-spec =
