@@ -65,7 +65,7 @@ pub did :
     → Leaves (env .centers) (env .limit) vs v ix n v₁ ix₁
     → Puts (env .site) 3 i cell ix₁ cell₁ ix₂
     → Fits (env .site) 3 cell (env .limit)
-    → Did env vs i cell v ix n cell₁ v₁ ix₂
+    → Did env 3 vs i cell v ix n cell₁ v₁ ix₂
 did env l p f =
     record {
       verts = l .verts;
@@ -77,7 +77,7 @@ pub changes :
     (env : Env) (count : ℕ) (r : Changed) (ix₂ : List ℕ) (o : Outcome ℕ Change) {vs : List Point} {cell : Cell} {v v₁ : List Float} {ix ix₁ : List ℕ} {n : ℕ}
     → Fits (env .site) 3 cell (env .limit)
     → Leaves (env .centers) (env .limit) vs v ix n v₁ ix₁
-    → Grown count n
+    → Grown 2 count n v v₁
     → Alters (env .site) vs o n cell ix₁ r ix₂
     → Changes env count o cell v ix r v₁ ix₂
 changes env count r ix₂ (ok d) f l g a = rw (a .1, a .3) (a .0, a .2, a .4, g, did env l (a .5) f)
@@ -86,8 +86,8 @@ changes env count r ix₂ (refused k) f l g a = a
 pub leaves-none : {nc limit count : ℕ} {v : List Float} {ix : List ℕ} → Holds nc count v (drop limit ix) → Leaves nc limit (points count v) v ix count v ix
 leaves-none {nc} {limit} {count} {v} h = record { verts = poured-none count v (h .room); body = refl; holds = h }
 
-pub grown-none : (n : ℕ) → Grown n n
-grown-none n = record { low = omega arith; high = omega arith }
+pub grown-none : (most n : ℕ) (v : List Float) → Grown most n n v v
+grown-none most n v = record { low = omega arith; high = omega arith; kept = refl }
 
 -- ---- leaving, entering, crossing
 
@@ -186,13 +186,13 @@ pub cross-missed :
 unfolding cross
 cross-missed env b count cell v ix v₁ ix₁ opened f h low missed c =
     rw (c .0, c .1)
-    (refl, refl, low, grown-none count, did env (leaves-none h) (puts-more 3 (omega arith) (puts-none (env .site) cell ix (f .four))) f)
+    (refl, refl, low, grown-none 2 count v, did env (leaves-none h) (puts-more 3 (omega arith) (puts-none (env .site) cell ix (f .four))) f)
 cross-missed env b count cell v ix v₁ ix₁ opened f h low (once a) c = absurd c
 cross-missed env b count cell v ix v₁ ix₁ opened f h low (twice a t) c = absurd c
 
 -- ---- edges along the box, as outcomes of a step
 
-never : {A : Type 0} → false ≡ true → A
+pub never : {A : Type 0} → false ≡ true → A
 never e = let z : _≡_ {A = ℕ} 0 1 = cc in absurd (omega arith)
 
 few : (t : Bool) → 1 + places t ≤ 3
@@ -281,12 +281,12 @@ fits-up n f h =
     record { four = f .four; real = f .real; room = omega arith }
 
 module _ (nc limit count : ℕ) (v : List Float) (ix : List ℕ) (v₁ : List Float) (ix₁ : List ℕ) where
-  pub once-below : (k : Clip) (f n : ℕ) → Clips nc limit count k v ix (Once f n) v₁ ix₁ → (f < n) × Grown count n × Holds nc n v₁ (drop limit ix₁)
+  pub once-below : (k : Clip) (f n : ℕ) → Clips nc limit count k v ix (Once f n) v₁ ix₁ → (f < n) × Grown 2 count n v v₁ × Holds nc n v₁ (drop limit ix₁)
   once-below missed f n c = absurd c
   once-below (once a) f n c = (c .1, c .2, c .3 .holds)
   once-below (twice a t) f n c = absurd c
 
-  pub twice-below : (k : Clip) (f s n : ℕ) → Clips nc limit count k v ix (Twice f s n) v₁ ix₁ → (f < n) × (s < n) × Grown count n × Holds nc n v₁ (drop limit ix₁)
+  pub twice-below : (k : Clip) (f s n : ℕ) → Clips nc limit count k v ix (Twice f s n) v₁ ix₁ → (f < n) × (s < n) × Grown 2 count n v v₁ × Holds nc n v₁ (drop limit ix₁)
   twice-below missed f s n c = absurd c
   twice-below (once a) f s n c = absurd c
   twice-below (twice a t) f s n c = (c .2, c .3, c .4, c .5 .holds)

@@ -6,6 +6,7 @@ use mathlib.Core.List.{List}
 use native.Mathlib.Omega.{arith}
 use lib.Ieee.{Float}
 use lib.ListN.{length, take}
+use lib.Seq.{take-take}
 use Rattle.utils.specs.declared.Point.{Point}
 use Rattle.utils.specs.Plane.{at}
 use Rattle.utils.specs.Flat.{points}
@@ -16,7 +17,7 @@ use Rattle.crossings.specs.declared.Crossing.the-variants.{None, One, Two}
 use Rattle.vertices.specs.Add.{addVertex}
 use Rattle.vertices.specs.Store.{Poured, Leaves, Answers}
 use Rattle.vertices.specs.declared.Placed.{Placed}
-use Rattle.vertices.proofs.Store.{poured-points, poured-then}
+use Rattle.vertices.proofs.Store.{poured-points, poured-then, added-kept}
 use Rattle.definition.specs.Cell.{firstIs, onEdge, Clip, missed, once, twice, clipWith, clipEdge, edgeCrossing, vertexAt}
 use Rattle.clipping.specs.Clips.{Clips, Grown}
 use Rattle.clipping.specs.declared.Clipped.the-variants.{Missed, Once, Twice}
@@ -32,6 +33,26 @@ module _ (p q d : Point) (x y u v : Float) (o : Crossing) (t : Bool) (e : o ≡ 
 
 -- ---- the crossings added
 
+pub grown-then :
+    (a b count n m : ℕ) (v v₁ v₂ : List Float)
+    → Grown a count n v v₁
+    → Grown b n m v₁ v₂
+    → Grown (a + b) count m v v₂
+grown-then a b count n m v v₁ v₂ g h =
+    let p = g .low in
+    let q = g .high in
+    let r = h .low in
+    let s = h .high in
+    record {
+      low = omega arith;
+      high = omega arith;
+      kept =
+          sym (take-take (2 * count) (2 * n) v₂ (omega arith))
+          ∙ ap (take (2 * count)) (h .kept)
+          ∙ take-take (2 * count) (2 * n) v₁ (omega arith)
+          ∙ g .kept;
+    }
+
 pub leaves-then :
     {nc limit n m : ℕ} {vs ws : List Point} {v v₁ v₂ : List Float} {ix ix₁ ix₂ : List ℕ}
     → Leaves nc limit vs v ix n v₁ ix₁
@@ -45,12 +66,13 @@ module _ (nc limit count : ℕ) (x y : Float) (v : List Float) (ix : List ℕ) (
   pub clips-once :
       Answers count (addVertex nc (points count v) (at x y)) r
       → Leaves nc limit (addVertex nc (points count v) (at x y) .verts) v ix (r .count) v₁ ix₁
+      → 2 * (count + 2) ≤ length v
       → Clips nc limit count (clipWith nc (points count v) (One x y)) v ix (Once (r .at) (r .count)) v₁ ix₁
   unfolding clipWith
-  clips-once a l =
+  clips-once a l f =
       let h = a .low in
       let k = a .high in
-      (a .at, a .below, record { low = h; high = omega arith }, l)
+      (a .at, a .below, record { low = h; high = omega arith; kept = added-kept nc count (at x y) v v₁ (r .count) (l .verts) (omega arith) }, l)
 
   module _ (z w : Float) (s : Placed) (v₂ : List Float) (ix₂ : List ℕ) where
     pub clips-twice :
@@ -72,7 +94,9 @@ module _ (nc limit count : ℕ) (x y : Float) (v : List Float) (ix : List ℕ) (
           b .at ∙ ap (λ (vs : List Point). addVertex nc vs (at z w) .at) e,
           omega arith,
           b .below,
-          record { low = omega arith; high = omega arith },
+          grown-then 1 1 count (r .count) (s .count) v v₁ v₂
+              (record { low = h; high = k; kept = added-kept nc count (at x y) v v₁ (r .count) (l .verts) (omega arith) })
+              (record { low = i; high = j; kept = added-kept nc (r .count) (at z w) v₁ v₂ (s .count) (m .verts) (l .holds .room) }),
           leaves-then l (rw e at m) (omega arith) (omega arith),
         )
 

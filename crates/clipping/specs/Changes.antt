@@ -36,10 +36,10 @@ Alters site vs (ok d) count cell ix r ix₁ =
 Alters site vs (refused k) count cell ix r ix₁ = (r .refusal ≡ k) × (0 < k)
 
 -- the vertices vs over v, and the entries and owners i written before the store's part of the index list
-pub record Did (env : Env) (vs : List Point) (i : Ins) (cell : Cell) (v : List Float) (ix : List ℕ) (count₁ : ℕ) (cell₁ : Cell) (v₁ : List Float) (ix₁ : List ℕ) : Type 0 where
+pub record Did (env : Env) (most : ℕ) (vs : List Point) (i : Ins) (cell : Cell) (v : List Float) (ix : List ℕ) (count₁ : ℕ) (cell₁ : Cell) (v₁ : List Float) (ix₁ : List ℕ) : Type 0 where
   pub verts : Poured vs v count₁ v₁
   pub holds : Holds (env .centers) count₁ v₁ (drop (env .limit) ix₁)
-  pub puts : Puts (env .site) 3 i cell (take (env .limit) ix) cell₁ (take (env .limit) ix₁)
+  pub puts : Puts (env .site) most i cell (take (env .limit) ix) cell₁ (take (env .limit) ix₁)
 
 -- the definition's outcome; refused, the slices keep their lengths only
 abbrev pub Changes : Env → ℕ → Outcome ℕ Change → Cell → List Float → List ℕ → Changed → List Float → List ℕ → Type 0
@@ -47,6 +47,6 @@ Changes env count (ok d) cell v ix r v₁ ix₁ =
     (r .refusal ≡ 0)
     × (r .opened ≡ d .opened)
     × (r .opened ≡ true → r .cell .last < r .count)
-    × Grown count (r .count)
-    × Did env (d .verts) (ins (d .owners) (d .new)) cell v ix (r .count) (r .cell) v₁ ix₁
+    × Grown 2 count (r .count) v v₁
+    × Did env 3 (d .verts) (ins (d .owners) (d .new)) cell v ix (r .count) (r .cell) v₁ ix₁
 Changes env count (refused k) cell v ix r v₁ ix₁ = (r .refusal ≡ k) × (0 < k)

@@ -5,6 +5,7 @@ use definition::Fault;
 pub mod corners; // corners.rt: insert_edge_and_wrap_around_corners
 pub mod edge; // edge.rt: clip_voronoi_edge
 pub mod step; // step.rt: one edge of the ring
+pub mod ring; // ring.rt: the whole ring
 
 pub const EMPTY: u32 = 4294967295;
 

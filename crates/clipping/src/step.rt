@@ -4,6 +4,7 @@ use crate::Changed;
 use crate::Clipped;
 use crate::Env;
 use crate::Inserted;
+use crate::Tip;
 use crate::corners::insert_edge;
 use crate::corners::push;
 use crate::edge::clip_voronoi_edge;
@@ -18,6 +19,7 @@ ghost use Rattle.definition.specs.Fault.{ok, refused, andThen};
 ghost use Rattle.definition.specs.Cell as Def;
 ghost use Rattle.clipping.specs.Entries.{Fits, Inserts};
 ghost use Rattle.clipping.specs.Changes.{Ready, Alters, Changes};
+ghost use Rattle.clipping.specs.Steps.{Stands};
 
 // Both inside: p goes in.
 fn stay(ix: &mut [u32], env: Env, count: usize, cell: Cell, opened: bool, p: u32) -> Changed
@@ -231,4 +233,26 @@ fn cross(
         Clipped::Once(first, n) => cross_once(v, ix, env, n, cell, opened, first),
         Clipped::Twice(first, second, n) => cross_at(v, ix, env, n, cell, opened, first, second),
     }
+}
+
+// The four cases: whether the walk's vertex and q are inside.
+pub fn clip_step(v: &mut [f64], ix: &mut [u32], env: Env, tip: Tip, q: u32, q_in: bool) -> Changed
+    requires { ⌜ Ready env (tip .count) (tip .cell) (now v) (now ix) ⌝ }
+    requires { ⌜ Stands tip ⌝ }
+    requires { ⌜ (q < tip .count) × (tip .inside ≡ false → q_in ≡ true → tip .cell .last < tip .count) ⌝ }
+    ensures { λ r. ⌜ Changes env (tip .count) (Def.clipStep (env .bounds) (env .centers) (env .site) (tip .vertex) (tip .inside) q q_in (points (tip .count) (now (v .entry))) (tip .cell .owners) (tip .opened) (tip .cell .last)) (tip .cell) (now (v .entry)) (now (ix .entry)) r (now (v .exit)) (now (ix .exit)) ⌝ }
+{
+    let cell = tip.cell;
+    let count = tip.count;
+    let p = tip.vertex;
+    if tip.inside {
+        if q_in {
+            return stay(ix, env, count, cell, tip.opened, p);
+        }
+        return leave(v, ix, env, count, cell, p, q);
+    }
+    if q_in {
+        return enter(v, ix, env, count, cell, p, q);
+    }
+    cross(v, ix, env, count, cell, tip.opened, p, q)
 }

@@ -21,7 +21,7 @@ returns : tie.Need-returns
 returns c =
     let a = c .before .before .before .before .before .before .before .before .before .before .args in
     let g = c .before .before .before .before .before .add-new-vertex .ensures in
-    clips-once (a .env .centers) (a .env .limit) (a .count) (a .x) (a .y) (now (a .v)) (now (a .ix)) _ _ _ (g .0) (g .1)
+    clips-once (a .env .centers) (a .env .limit) (a .count) (a .x) (a .y) (now (a .v)) (now (a .ix)) _ _ _ (g .0) (g .1) (c .before .before .before .before .before .before .before .before .before .before .pre .1 .0)
 
 pub clip-once-spec : {M : Type 1} → statement M
 clip-once-spec =
