@@ -1,2 +1,3 @@
 pub mod Box
 pub mod Rules
+pub mod Finite

@@ -3,13 +3,11 @@ use utils::Point;
 use utils::abs_diff_eq;
 use utils::site_ok;
 ghost use mathlib.Core.Path.{_≡_};
-ghost use mathlib.Core.Bool.{Bool, cond, _&&_};
 ghost use Prim.Native.Nat.{_<_};
 ghost use lib.ListN.{getD};
 ghost use lib.Ieee.{nan};
-ghost use Rattle.utils.specs.Plane.{at, nearOf};
-ghost use Rattle.utils.specs.Rules.{okSite};
-ghost use Rattle.bounding_box.specs.Box.{madeOf, cornersOf, insideOf, whichOf};
+ghost use Rattle.utils.specs.Plane.{at};
+ghost use Rattle.bounding_box.specs.Box.{madeOf, widthOf, heightOf, cornersOf, insideOf, firstSide, whichOf, exclusiveOf};
 ghost use Rattle.bounding_box.specs.Rules.{okBox};
 
 pub struct BoundingBox {
@@ -43,6 +41,18 @@ pub fn box_ok(c: Point, width: f64, height: f64) -> bool
     site_ok(c) & w & h & ((b.left < b.right) & (b.top < b.bottom))
 }
 
+pub fn width(b: BoundingBox) -> f64
+    ensures { λ r. ⌜ r ≡ widthOf b ⌝ }
+{
+    b.right - b.left
+}
+
+pub fn height(b: BoundingBox) -> f64
+    ensures { λ r. ⌜ r ≡ heightOf b ⌝ }
+{
+    b.bottom - b.top
+}
+
 // Top left, bottom left, bottom right, top right.
 pub fn corners(b: BoundingBox) -> [Point; 4]
     ensures { λ r. ⌜ r ≡ cornersOf b ⌝ }
@@ -65,31 +75,41 @@ pub fn is_inside(b: BoundingBox, p: Point) -> bool
     (p.x >= b.left) & (p.x <= b.right) & ((p.y >= b.top) & (p.y <= b.bottom))
 }
 
-fn first_of(t: bool, b: bool, r: bool, l: bool) -> u32
-    ensures { λ x. ⌜ x ≡ cond t 0 (cond b 2 (cond r 3 (cond l 1 4))) ⌝ }
+// No side.
+pub const NONE: u32 = 4;
+
+fn first_side(top: bool, bottom: bool, right: bool, left: bool) -> u32
+    ensures { λ r. ⌜ r ≡ firstSide top bottom right left ⌝ }
 {
-    if t {
+    if top {
         0
-    } else if b {
+    } else if bottom {
         2
-    } else if r {
+    } else if right {
         3
-    } else if l {
+    } else if left {
         1
     } else {
-        4
+        NONE
     }
 }
 
 pub fn which_edge(b: BoundingBox, p: Point) -> u32
     ensures { λ r. ⌜ r ≡ whichOf b p ⌝ }
 {
-    first_of(
+    first_side(
         abs_diff_eq(p.y, b.top),
         abs_diff_eq(p.y, b.bottom),
         abs_diff_eq(p.x, b.right),
         abs_diff_eq(p.x, b.left),
     )
+}
+
+// Inside, and on no side.
+pub fn is_exclusively_inside(b: BoundingBox, p: Point) -> bool
+    ensures { λ r. ⌜ r ≡ exclusiveOf b p ⌝ }
+{
+    is_inside(b, p) & (which_edge(b, p) == NONE)
 }
 
 // The corner of a side, 0 to 3.

@@ -1,8 +1,10 @@
 -- Where a line and a ray cross the box.
-use mathlib.Core.Bool.{Bool, true, false, cond, _&&_}
+use mathlib.Core.Bool.{Bool, true, false, _&&_}
+use mathlib.Core.List.{List, [], _∷_}
 use lib.Ieee.{Float, lt, le, eq}
 use Prim.Native.Nat.{ℕ}
 use Rattle.root.specs.Root.{magnitude, signum}
+use Rattle.laws.specs.Pick.{pick}
 use Rattle.laws.specs.Binary64.{_⊞_, _⊟_, _⊠_, _⊘_, zero, eps}
 use Rattle.utils.specs.Plane.{at}
 use Rattle.utils.specs.declared.Point.{Point}
@@ -10,9 +12,12 @@ use Rattle.bounding_box.specs.declared.BoundingBox.{BoundingBox}
 use Rattle.crossings.specs.declared.Crossing.{Crossing}
 use Rattle.crossings.specs.declared.Crossing.the-variants.{None, One, Two}
 
--- a point if the test holds
-abbrev pub oneIf : Bool → Float → Float → Crossing
-oneIf t x y = cond t (One x y) None
+-- the points if the test holds
+unfoldable pub oneIf : Bool → Float → Float → Crossing
+oneIf t x y = pick t (λ _. One x y) (λ _. None)
+
+unfoldable pub twoIf : Bool → Float → Float → Float → Float → Crossing
+twoIf t x y u v = pick t (λ _. Two x y u v) (λ _. None)
 
 abbrev pub some : Crossing → Bool
 some None = false
@@ -51,11 +56,15 @@ bottomHit b cy c d = oneIf (lt eps (magnitude cy) && (le ((b .bottom ⊟ d) ⊘ 
 
 -- a line parallel to y
 unfoldable pub uprightHit : BoundingBox → Float → Crossing
-uprightHit b x = cond (le x (b .right) && le (b .left) x) (Two x (b .top) x (b .bottom)) None
+uprightHit b x = twoIf (le x (b .right) && le (b .left) x) x (b .top) x (b .bottom)
+
+-- the first whose test holds, else the last
+unfoldable pub firstHeld : Bool → Crossing → Bool → Crossing → Bool → Crossing → Crossing → Crossing
+firstHeld a x b y c z w = pick a (λ _. x) (λ _. pick b (λ _. y) (λ _. pick c (λ _. z) (λ _. w)))
 
 -- what is answered of the four, whether the line is upright, and what it then is
 unfoldable pub settleOf : Crossing → Crossing → Bool → Crossing → Crossing → Crossing → Crossing
-settleOf f g up u h i = cond (some f && some g) (joinOf f g) (cond up u (cond (some h && some i) (joinOf h i) (joinOf (orOf f g) (orOf h i))))
+settleOf f g up u h i = firstHeld (some f && some g) (joinOf f g) up u (some h && some i) (joinOf h i) (joinOf (orOf f g) (orOf h i))
 
 abbrev pub lineBy : BoundingBox → Point → Float → Float → Float → Float → Crossing
 lineBy b p cx cy c d = settleOf (rightHit b cx c d) (leftHit b cx c d) (lt eps (magnitude cy) && lt (magnitude cx) eps) (uprightHit b (p .x)) (topHit b cy c d) (bottomHit b cy c d)
@@ -67,8 +76,9 @@ unfoldable pub lineOf : BoundingBox → Point → Point → Crossing
 lineOf b p q = lineOff b p (q .x ⊟ p .x) (q .y ⊟ p .y) ((q .y ⊟ p .y) ⊘ (q .x ⊟ p .x))
 
 -- the two points in the order of the ray, those that lie behind its start left out
-abbrev pub orderPick : Bool → Bool → Bool → Float → Float → Float → Float → Crossing
-orderPick a b near x y u v = cond a (cond b (cond near (Two u v x y) (Two x y u v)) (One x y)) (cond b (One u v) None)
+unfoldable pub orderPick : Bool → Bool → Bool → Float → Float → Float → Float → Crossing
+orderPick a b near x y u v =
+    pick a (λ _. pick b (λ _. pick near (λ _. Two u v x y) (λ _. Two x y u v)) (λ _. One x y)) (λ _. pick b (λ _. One u v) (λ _. None))
 
 unfoldable pub orderBy : Float → Float → Float → Float → Float → Float → Float → Crossing
 orderBy d da db x y u v = orderPick (eq (signum d) (signum da)) (eq (signum d) (signum db)) (lt (magnitude db) (magnitude da)) x y u v
@@ -76,9 +86,12 @@ orderBy d da db x y u v = orderPick (eq (signum d) (signum da)) (eq (signum d) (
 unfoldable pub orderOne : Point → Float → Float → Crossing
 orderOne dir x y = oneIf (eq (signum (dir .x)) (signum x) && eq (signum (dir .y)) (signum y)) x y
 
+unfoldable pub eitherOf : Bool → Crossing → Crossing → Crossing
+eitherOf t a b = pick t (λ _. a) (λ _. b)
+
 unfoldable pub orderTwo : Point → Point → Float → Float → Float → Float → Crossing
 orderTwo p dir x y u v =
-    cond (lt (magnitude (dir .y)) (magnitude (dir .x)))
+    eitherOf (lt (magnitude (dir .y)) (magnitude (dir .x)))
     (orderBy (dir .x) (x ⊟ p .x) (u ⊟ p .x) x y u v)
     (orderBy (dir .y) (y ⊟ p .y) (v ⊟ p .y) x y u v)
 
@@ -90,16 +103,13 @@ orderOf p dir (Two x y u v) = orderTwo p dir x y u v
 unfoldable pub rayOf : BoundingBox → Point → Point → Crossing
 rayOf b p dir = orderOf p dir (lineOf b p (at (p .x ⊞ dir .x) (p .y ⊞ dir .y)))
 
--- the outcome as numbers
+-- the outcome as numbers: how many points, and four coordinates, zeros where there is none
 abbrev pub countOf : Crossing → ℕ
 countOf None = 0
 countOf (One x y) = 1
 countOf (Two x y u v) = 2
 
-unfoldable pub pick4Of : Bool → Bool → Float → Float → Float → Float → Float
-pick4Of a b x y u v = cond b (cond a v u) (cond a y x)
-
-abbrev pub valueOf : Crossing → Bool → Bool → Float
-valueOf None a b = zero
-valueOf (One x y) a b = pick4Of a b x y zero zero
-valueOf (Two x y u v) a b = pick4Of a b x y u v
+abbrev pub valuesOf : Crossing → List Float
+valuesOf None = zero ∷ zero ∷ zero ∷ zero ∷ []
+valuesOf (One x y) = x ∷ y ∷ zero ∷ zero ∷ []
+valuesOf (Two x y u v) = x ∷ y ∷ u ∷ v ∷ []

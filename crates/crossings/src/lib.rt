@@ -4,9 +4,8 @@ use bounding_box::box_ok;
 use utils::Point;
 use utils::site_ok;
 ghost use mathlib.Core.Path.{_≡_};
-ghost use mathlib.Core.Bool.{Bool, cond, _&&_};
-ghost use Rattle.crossings.specs.Cross.{oneIf, some, orOf, afterOne, joinOf, lineBy, settleOf, rightHit, leftHit, topHit, bottomHit, uprightHit, lineOf, orderPick, orderBy, orderTwo, orderOne, orderOf, rayOf, countOf, pick4Of, valueOf};
-ghost use Rattle.crossings.specs.Rules.{rayAnswer};
+ghost use Rattle.crossings.specs.Cross.{oneIf, twoIf, some, orOf, afterOne, joinOf, firstHeld, eitherOf, settleOf, rightHit, leftHit, topHit, bottomHit, uprightHit, lineOf, orderPick, orderBy, orderTwo, orderOne, orderOf, rayOf, countOf, valuesOf};
+ghost use Rattle.crossings.specs.Rules.{metBy, lineAnswer, rayAnswer, numberOf, pointsOf};
 
 const EPS: f64 = 8.881784197001252e-16;
 
@@ -71,7 +70,7 @@ fn bottom_hit(b: BoundingBox, cy: f64, c: f64, d: f64) -> Crossing
 }
 
 fn two_if(t: bool, x: f64, y: f64, u: f64, v: f64) -> Crossing
-    ensures { λ r. ⌜ r ≡ cond t (Crossing.Two x y u v) Crossing.None ⌝ }
+    ensures { λ r. ⌜ r ≡ twoIf t x y u v ⌝ }
 {
     if t {
         Crossing::Two(x, y, u, v)
@@ -127,10 +126,10 @@ fn is_some(a: Crossing) -> bool
     }
 }
 
-fn choose(c: bool, a: Crossing, b: Crossing) -> Crossing
-    ensures { λ r. ⌜ r ≡ cond c a b ⌝ }
+fn either(t: bool, a: Crossing, b: Crossing) -> Crossing
+    ensures { λ r. ⌜ r ≡ eitherOf t a b ⌝ }
 {
-    if c { a } else { b }
+    if t { a } else { b }
 }
 
 // The value of the first test that holds, and the last one where none does.
@@ -143,7 +142,7 @@ fn first_held(
     z: Crossing,
     w: Crossing,
 ) -> Crossing
-    ensures { λ r. ⌜ r ≡ cond a x (cond b y (cond c z w)) ⌝ }
+    ensures { λ r. ⌜ r ≡ firstHeld a x b y c z w ⌝ }
 {
     if a {
         x
@@ -225,7 +224,7 @@ fn order_by(d: f64, da: f64, db: f64, x: f64, y: f64, u: f64, v: f64) -> Crossin
 fn order_two(p: Point, dir: Point, x: f64, y: f64, u: f64, v: f64) -> Crossing
     ensures { λ r. ⌜ r ≡ orderTwo p dir x y u v ⌝ }
 {
-    choose(
+    either(
         root::magnitude(dir.x) > root::magnitude(dir.y),
         order_by(dir.x, x - p.x, u - p.x, x, y, u, v),
         order_by(dir.y, y - p.y, v - p.y, x, y, u, v),
@@ -262,18 +261,7 @@ pub fn project_ray(b: BoundingBox, p: Point, dir: Point) -> Crossing
     order_points_on_ray(p, dir, intersect_line(b, p, q))
 }
 
-fn pick4(a: bool, b: bool, x: f64, y: f64, u: f64, v: f64) -> f64
-    ensures { λ r. ⌜ r ≡ pick4Of a b x y u v ⌝ }
-{
-    if b {
-        if a { v } else { u }
-    } else if a {
-        y
-    } else {
-        x
-    }
-}
-
+// How many points, and their coordinates: zeros where there is none.
 fn count_of(c: Crossing) -> u32
     ensures { λ r. ⌜ r ≡ countOf c ⌝ }
 {
@@ -284,39 +272,87 @@ fn count_of(c: Crossing) -> u32
     }
 }
 
-fn value_of(c: Crossing, a: bool, b: bool) -> f64
-    ensures { λ r. ⌜ r ≡ valueOf c a b ⌝ }
+fn values_of(c: Crossing) -> [f64; 4]
+    ensures { λ r. ⌜ r ≡ valuesOf c ⌝ }
 {
     match c {
-        Crossing::None => 0.0,
-        Crossing::One(x, y) => pick4(a, b, x, y, 0.0, 0.0),
-        Crossing::Two(x, y, u, v) => pick4(a, b, x, y, u, v),
+        Crossing::None => [0.0, 0.0, 0.0, 0.0],
+        Crossing::One(x, y) => [x, y, 0.0, 0.0],
+        Crossing::Two(x, y, u, v) => [x, y, u, v],
     }
 }
 
-// What a ray from p in the direction dir meets; refused 3 for the box, 6 for p or dir.
-pub enum Ray {
+// What a line or a ray meets, or the number of a refusal: 3 for the box, 6 for a point.
+pub enum Meeting {
     Refused(u32),
     Met(Crossing),
 }
 
-fn ray_answer(b: bool, p: bool, c: Crossing) -> Ray
-    ensures { λ r. ⌜ r ≡ cond b (cond p (Ray.Met c) (Ray.Refused 6)) (Ray.Refused 3) ⌝ }
+fn answer(frame: bool, points: bool, c: Crossing) -> Meeting
+    ensures { λ r. ⌜ r ≡ metBy frame points c ⌝ }
 {
-    if b {
-        if p { Ray::Met(c) } else { Ray::Refused(6) }
+    if frame {
+        if points {
+            Meeting::Met(c)
+        } else {
+            Meeting::Refused(6)
+        }
     } else {
-        Ray::Refused(3)
+        Meeting::Refused(3)
     }
 }
 
-pub fn meet(c: Point, width: f64, height: f64, p: Point, dir: Point) -> Ray
+// The line through p and q.
+pub fn meet_line(c: Point, width: f64, height: f64, p: Point, q: Point) -> Meeting
+    ensures { λ r. ⌜ r ≡ lineAnswer c width height p q ⌝ }
+{
+    let b = bounding_box::new(c, width, height);
+    answer(
+        box_ok(c, width, height),
+        site_ok(p) & site_ok(q),
+        intersect_line(b, p, q),
+    )
+}
+
+// The ray from p in the direction dir.
+pub fn meet_ray(c: Point, width: f64, height: f64, p: Point, dir: Point) -> Meeting
     ensures { λ r. ⌜ r ≡ rayAnswer c width height p dir ⌝ }
 {
     let b = bounding_box::new(c, width, height);
-    ray_answer(
+    answer(
         box_ok(c, width, height),
         site_ok(p) & site_ok(dir),
         project_ray(b, p, dir),
     )
+}
+
+// The number of a meeting, 0 where it is answered, and its points; of a refusal none.
+pub fn number_of(m: Meeting) -> u32
+    ensures { λ r. ⌜ r ≡ numberOf m ⌝ }
+{
+    match m {
+        Meeting::Refused(n) => n,
+        Meeting::Met(_) => 0,
+    }
+}
+
+fn points_of(m: Meeting) -> Crossing
+    ensures { λ r. ⌜ r ≡ pointsOf m ⌝ }
+{
+    match m {
+        Meeting::Refused(_) => Crossing::None,
+        Meeting::Met(c) => c,
+    }
+}
+
+pub fn met_count(m: Meeting) -> u32
+    ensures { λ r. ⌜ r ≡ countOf (pointsOf m) ⌝ }
+{
+    count_of(points_of(m))
+}
+
+pub fn met_values(m: Meeting) -> [f64; 4]
+    ensures { λ r. ⌜ r ≡ valuesOf (pointsOf m) ⌝ }
+{
+    values_of(points_of(m))
 }

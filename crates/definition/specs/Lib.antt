@@ -1,2 +1,20 @@
+-- The root of the crate's definitions.
 pub mod Fault
 pub mod Cell
+pub mod Build
+pub mod Unclipped
+pub mod Answers
+pub mod RowsBuilt
+pub mod RowsRefused
+pub mod RowsUnclipped
+pub mod Gives
+pub mod Puts
+pub mod Edge
+pub mod Ring
+pub mod Weigh
+pub mod Held
+pub mod Owners
+pub mod All
+pub mod Start
+pub mod Theorems
+pub mod Lowest

@@ -7,7 +7,7 @@ use mathlib.Core.Logic.{_⊎_, inl, inr, ⊎-elim, _≢_}
 use Prim.Native.Nat.{ℕ, zero, suc, _+_, _≤_, _<_}
 use native.Mathlib.Omega.{arith}
 use lib.Dec.{eqb}
-use lib.ListN.{length}
+use lib.ListN.{length, getD}
 use borrow.Author.Tests.{eqb-true, eqb-false}
 use Rattle.laws.specs.Pick.{pick}
 
@@ -111,3 +111,36 @@ weigh-all u (suc m) l h e v p =
 
 pub all-weighed : (u : ℕ → ℕ) (m : ℕ) (l : List ℕ) → ((v : ℕ) → 0 < occ v l → v < m) → ((v : ℕ) → occ v l ≤ u v) → length l ≡ sumTo u m → (v : ℕ) → v < m → occ v l ≡ u v
 all-weighed u m l below h e = weigh-all u m l h (occs-length m l below ∙ e)
+
+weigh-same : (u : ℕ → ℕ) (m : ℕ) (l : List ℕ) → ((v : ℕ) → v < m → occ v l ≡ u v) → occs m l ≡ sumTo u m
+weigh-same u zero l h = refl
+weigh-same u (suc m) l h = omega (arith, weigh-same u m l (λ v p. h v (omega arith)), h m (omega arith))
+
+-- and so the other way round: each number as often as u says, or no oftener
+pub weighed : (u : ℕ → ℕ) (m : ℕ) (l : List ℕ) → ((v : ℕ) → 0 < occ v l → v < m) → ((v : ℕ) → v < m → occ v l ≡ u v) → length l ≡ sumTo u m
+weighed u m l below h = sym (occs-length m l below) ∙ weigh-same u m l h
+
+pub weighed-le : (u : ℕ → ℕ) (m : ℕ) (l : List ℕ) → ((v : ℕ) → 0 < occ v l → v < m) → ((v : ℕ) → occ v l ≤ u v) → length l ≤ sumTo u m
+weighed-le u m l below h = rw (← occs-length m l below) (weigh-le u m l h)
+
+-- a list's entries, counted number by number, are all of them
+pub occ-sum : (m : ℕ) (l : List ℕ) → ((v : ℕ) → 0 < occ v l → v < m) → sumTo (λ v. occ v l) m ≡ length l
+occ-sum m l below = sym (weighed (λ v. occ v l) m l below (λ v p. refl))
+
+-- what holds of every entry holds of every number that stands in the list
+pub below-occ : (l : List ℕ) (m : ℕ) → ((k : ℕ) → k < length l → getD l k 0 < m) → (v : ℕ) → 0 < occ v l → v < m
+below-occ [] m h v p = absurd (omega arith)
+below-occ (x ∷ l) m h v p = ⊎-elim (λ w. rw (w .0) (h 0 (omega arith))) (λ w. below-occ l m (λ k q. h (suc k) (omega arith)) v (omega arith)) (same-cases v x)
+
+pub occ-length : (v : ℕ) (l : List ℕ) → occ v l ≤ length l
+occ-length v [] = omega arith
+occ-length v (x ∷ l) = ⊎-elim (λ w. omega (arith, occ-length v l)) (λ w. omega (arith, occ-length v l)) (same-cases v x)
+
+-- sums of equal numbers are equal, and a sum of more numbers is no less
+pub sum-same : (u w : ℕ → ℕ) (n : ℕ) → ((k : ℕ) → k < n → u k ≡ w k) → sumTo u n ≡ sumTo w n
+sum-same u w zero h = refl
+sum-same u w (suc n) h = omega (arith, sum-same u w n (λ k p. h k (omega arith)), h n (omega arith))
+
+pub sum-mono : (u : ℕ → ℕ) (i j : ℕ) → i ≤ j → sumTo u i ≤ sumTo u j
+sum-mono u i zero h = let z : i ≡ 0 = omega arith in rw z (omega arith)
+sum-mono u i (suc j) h = ⊎-elim (λ w. rw (w .0) (omega arith)) (λ w. omega (arith, sum-mono u i j (omega (arith, w .0)))) (same-cases i (suc j))

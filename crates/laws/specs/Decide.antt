@@ -52,3 +52,11 @@ first-all f h k l = f .before k (omega arith)
 
 pub first-not : {P : ℕ → Type 0} {n r : ℕ} → First P n r → r < n → ((k : ℕ) → k < n → P k) → ⊥
 first-not {P} {n} {r} f h all = f .at h (all r h)
+
+-- there is one first offender
+pub first-one : {P : ℕ → Type 0} {n r q : ℕ} → First P n r → First P n q → r ≡ q
+first-one {P} {n} {r} {q} f g =
+    ⊎-elim
+    (λ h. absurd (f .at (omega (arith, g .within)) (g .before r h)))
+    (λ h. ⊎-elim (λ k. absurd (g .at (omega (arith, f .within)) (f .before q k))) (λ k. omega arith) (lt-or-ge q r))
+    (lt-or-ge r q)

@@ -12,7 +12,8 @@ use lib.ListN.{length, getD, set, replicate, take, drop, length-append, length-t
 use lib.Seq.{take-suc-set, drop-set-lt, length-take-le, drop-drop}
 use borrow.Author.Tests.{eqb-true, eqb-false, lt-ltb, le-ltb, le-leb, lt-leb, leb-true, leb-false, ne-eqb}
 use Rattle.laws.specs.Pick.{pick}
-use Rattle.mesh.specs.Mesh.{EMPTY, nextOf, endOf, pairOf, chosen, tableTo, turnOf, walkOf, wholeOf, totalTo, Walks}
+use Rattle.laws.specs.Decide.{lt-or-ge, eq-or-ne}
+use Rattle.mesh.specs.Mesh.{EMPTY, nextOf, endOf, pairOf, chosen, tableTo, turnOf, walkOf, wholeOf, Walks}
 
 -- the next half-edge, as one sum
 pub next-sum : (e : ℕ) → nextOf e ≡ e + 1 - 3 * (e % 3 / 2)
@@ -29,6 +30,22 @@ next-lt {e} {n} d h = omega (arith, next-sum e)
 pub next-inj : {a b : ℕ} → nextOf a ≡ nextOf b → a ≡ b
 next-inj {a} {b} h = omega (arith, next-sum a, next-sum b)
 
+next-on : (e : ℕ) → e % 3 ≢ 2 → nextOf e ≡ e + 1
+next-on e h = omega (arith, next-sum e)
+
+next-back : (e : ℕ) → e % 3 ≡ 2 → nextOf e ≡ e - 2
+next-back e h = omega (arith, next-sum e)
+
+pub next-thrice : (e : ℕ) → nextOf (nextOf (nextOf e)) ≡ e
+next-thrice e =
+    ⊎-elim
+    (λ h. rw (next-on e (omega arith), next-on (e + 1) (omega arith), next-back (e + 1 + 1) (omega arith)) (omega arith))
+    (λ g. ⊎-elim
+    (λ h. rw (next-on e (omega arith), next-back (e + 1) (omega arith), next-on (e + 1 - 2) (omega arith)) (omega arith))
+    (λ h. rw (next-back e (omega arith), next-on (e - 2) (omega arith), next-on (e - 2 + 1) (omega arith)) (omega arith))
+    (eq-or-ne (e % 3) 1))
+    (eq-or-ne (e % 3) 0)
+
 -- a turn of the loop that fills the table
 pub table-step : (tri he work : List ℕ) (w e s s′ v : ℕ) → work ≡ tableTo tri he w e → s ≡ s′ → s′ ≡ endOf tri e → v ≡ chosen (getD work s 0) (pairOf he e) e → set work s v ≡ tableTo tri he w (e + 1)
 unfolding tableTo
@@ -43,6 +60,17 @@ pub walk-done : (he : List ℕ) (s j e : ℕ) → length he ≤ e → walkOf he 
 unfolding walkOf
 walk-done he s zero e h = refl
 walk-done he s (suc j) e h = simp (le-ltb _ _ h)
+
+-- a walk with an allowance is the beginning of the whole one
+pub walk-take : (he : List ℕ) (s k j e : ℕ) → walkOf he s k e ≡ take k (walkOf he s (k + j) e)
+unfolding walkOf
+walk-take he s zero j e = refl
+walk-take he s (suc k) j e =
+    let q : suc k + j ≡ suc (k + j) = omega arith in
+    rw q (⊎-elim
+    (λ l. rw (walk-go he s k e l, walk-go he s (k + j) e l, ← walk-take he s k j (turnOf he s e)))
+    (λ l. rw (walk-done he s (suc k) e l, walk-done he s (suc (k + j)) e l))
+    (lt-or-ge e (length he)))
 
 -- the walk from s stands written below n, and goes on at e
 pub record Going (he : List ℕ) (s : ℕ) (old new : List ℕ) (e n : ℕ) : Type 0 where
@@ -122,23 +150,3 @@ unfolding walkOf
 counting-full he s e n g h =
     let k : length he - n ≡ 0 = omega arith in
     omega (arith, rw k at (g .sum))
-
-pub total-more : (he tab : List ℕ) (n : ℕ) → totalTo he tab (n + 1) ≡ totalTo he tab n + length (wholeOf he (getD tab n 0))
-unfolding totalTo
-total-more he tab n = rw add-one
-
-pub total-mono : (he tab : List ℕ) (n k : ℕ) → totalTo he tab n ≤ totalTo he tab (n + k)
-total-mono he tab n zero = rw add-zero (le-refl _)
-total-mono he tab n (suc k) =
-    let q : n + suc k ≡ n + k + 1 = omega arith in
-    rw (q, total-more) (omega (arith, total-mono he tab n k))
-
--- a turn of the loop that adds the lengths
-pub total-turn : (he tab : List ℕ) (n total x : ℕ) → total ≡ totalTo he tab n → x ≡ length (wholeOf he (getD tab n 0)) → total + x ≡ totalTo he tab (n + 1)
-total-turn he tab n total x p q = rw (total-more, p, q)
-
--- more than the half-edges already: not as many in the end
-pub total-over : (he tab : List ℕ) (n k : ℕ) → n ≤ length tab → k ≡ totalTo he tab n → length he < k → false ≡ eqb (totalTo he tab (length tab)) (length he)
-total-over he tab n k l e h =
-    let q : length tab ≡ n + (length tab - n) = omega arith in
-    sym (ne-eqb (totalTo he tab (length tab)) (length he) (λ z. omega (arith, rw (← q) at (total-mono he tab n (length tab - n)))))

@@ -1,10 +1,12 @@
 -- The root of the crate's definitions.
 pub mod Mesh
-pub mod Laws
-pub mod Fan
-pub mod Table
-pub mod Check
-pub mod Square
 pub mod Hull
-pub mod Verdict
-pub mod Unique
+pub mod Rules
+pub mod Accepted
+pub mod Laws
+pub mod Walks
+pub mod Table
+pub mod Border
+pub mod Verdicts
+pub mod Facts
+pub mod Square

@@ -36,6 +36,14 @@ tableTo tri he w (suc e) =
     let t : List ℕ = tableTo tri he w e in
     set t (endOf tri e) (chosen (getD t (endOf tri e) 0) (pairOf he e) e)
 
+-- the leftmost half-edge of each site
+abbrev pub leftmostOf : List ℕ → List ℕ → ℕ → List ℕ
+leftmostOf tri he sites = tableTo tri he sites (length tri)
+
+-- a work slice of w entries after an accepted call: the leftmost table, then EMPTY
+abbrev pub leftmostIn : List ℕ → List ℕ → ℕ → ℕ → List ℕ
+leftmostIn tri he sites w = leftmostOf tri he sites ++ replicate (w - sites) EMPTY
+
 -- of the half-edges below n that end at site s, r is the last unpaired one if there is one, else the lowest; and EMPTY if there is none at all
 pub record Leftmost (tri he : List ℕ) (n s r : ℕ) : Type 0 where
   pub none : r ≡ EMPTY → (e : ℕ) → e < n → endOf tri e ≢ s
@@ -54,6 +62,10 @@ pub record Sound (n a b c : ℕ) : Type 0 where
 
 abbrev pub SoundAt : List ℕ → ℕ → ℕ → Type 0
 SoundAt tri n t = Sound n (getD tri (3 * t) 0) (getD tri (3 * t + 1) 0) (getD tri (3 * t + 2) 0)
+
+-- a site in use stands in a triangle
+abbrev pub Used : List ℕ → ℕ → Type 0
+Used tri s = (k : ℕ) × (k < length tri) × (getD tri k 0 ≡ s)
 
 -- half-edge e is unpaired, or names one that names it back and runs the other way between the same sites
 pub record Mates (tri he : List ℕ) (e p : ℕ) : Type 0 where
@@ -83,6 +95,10 @@ pub data Reached (he : List ℕ) (s : ℕ) : ℕ → Type 0 where
   here : Reached he s s
   onward : {e : ℕ} → e < length he → Reached he s e → Reached he s (around he e)
 
+-- the half-edges that end at site s are all reached from what the table holds of it
+abbrev pub FanAt : List ℕ → List ℕ → List ℕ → ℕ → Type 0
+FanAt tri he tab s = (e : ℕ) → e < length he → endOf tri e ≡ s → Reached he (getD tab s 0) e
+
 -- every half-edge is reached from what the table holds of the site where it ends
 abbrev pub Fan : List ℕ → List ℕ → List ℕ → Type 0
 Fan tri he tab = (e : ℕ) → e < length he → Reached he (getD tab (endOf tri e) 0) e
@@ -90,11 +106,6 @@ Fan tri he tab = (e : ℕ) → e < length he → Reached he (getD tab (endOf tri
 -- the whole walk from s
 abbrev pub wholeOf : List ℕ → ℕ → List ℕ
 wholeOf he s = walkOf he s (length he) s
-
--- the lengths of the walks from the table's first n entries, together
-unfoldable pub totalTo : List ℕ → List ℕ → ℕ → ℕ
-totalTo he tab zero = 0
-totalTo he tab (suc n) = totalTo he tab n + length (wholeOf he (getD tab n 0))
 
 -- what a walk from s leaves in a lent list: its beginning, up to the list's length, then what was there; and whether that is all of it
 pub record Walks (he : List ℕ) (s : ℕ) (old new : List ℕ) (count : ℕ) (ended : Bool) : Type 0 where
@@ -107,3 +118,9 @@ AllSound tri sites = (t : ℕ) → t < length tri / 3 → SoundAt tri sites t
 
 abbrev pub AllPaired : List ℕ → List ℕ → Type 0
 AllPaired tri he = (e : ℕ) → e < length tri → PairedAt tri he e
+
+-- a mesh whose pairing is right
+pub record Paired (tri he : List ℕ) : Type 0 where
+  pub threes : length he % 3 ≡ 0
+  pub small : length he < EMPTY
+  pub pairs : (e : ℕ) → e < length he → PairedAt tri he e

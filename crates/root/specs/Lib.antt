@@ -1,6 +1,16 @@
 pub mod Root
-pub mod Steps
 pub mod Sqrt
+pub mod Steps
+pub mod Tests
+pub mod Squares
+pub mod Gaps
+pub mod Units
+pub mod Unique
+pub mod SqrtLaws
 pub mod Bounds
+pub mod SqrtBounds
 pub mod Order
 pub mod Rank
+pub mod Rounding
+pub mod Sizes
+pub mod Tested

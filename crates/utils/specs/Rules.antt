@@ -1,13 +1,14 @@
--- Document 01's rules 6 and 11 on points, as tests.
-use mathlib.Core.Bool.{Bool, cond, _&&_}
+-- Document 01's rules 6 and 11 on points, as tests, and the public circumcenter's answer.
+use mathlib.Core.Bool.{Bool, _&&_}
 use lib.Ieee.{Float, le}
 use Prim.Native.Nat.{ℕ}
 use Rattle.root.specs.Root.{magnitude}
-use Rattle.laws.specs.Binary64.{large, huge}
+use Rattle.laws.specs.Pick.{pick}
+use Rattle.laws.specs.Binary64.{zero, large, huge}
 use Rattle.utils.specs.Plane.{centreOf}
 use Rattle.utils.specs.declared.Point.{Point}
 use Rattle.utils.specs.declared.Centre.{Centre}
-use Rattle.utils.specs.declared.Centre.the-variants.{BadSite, BadCentre, At}
+use Rattle.utils.specs.declared.Centre.the-variants.{Refused, At}
 
 -- finite, and of magnitude at most 2^100: a NaN and an infinity fail the test too
 unfoldable pub okCoord : Float → Bool
@@ -19,22 +20,22 @@ okSite p = okCoord (p .x) && okCoord (p .y)
 unfoldable pub okCentre : Point → Bool
 okCentre p = le (magnitude (p .x)) huge && le (magnitude (p .y)) huge
 
--- the public circumcenter: refusal 6, refusal 11, or the point
-unfoldable pub centreAnswer : Point → Point → Point → Centre
-centreAnswer a b c = cond (okSite a && okSite b && okSite c) (cond (okCentre (centreOf a b c)) (At (centreOf a b c)) BadCentre) BadSite
+-- the circumcenter: refusal 6, refusal 11, or the point
+unfoldable pub centreBy : Bool → Bool → Point → Centre
+centreBy sites centre p = pick sites (λ _. pick centre (λ _. At p) (λ _. Refused 11)) (λ _. Refused 6)
 
--- document 01's number and values for each case
+unfoldable pub centreAnswer : Point → Point → Point → Centre
+centreAnswer a b c = centreBy (okSite a && okSite b && okSite c) (okCentre (centreOf a b c)) (centreOf a b c)
+
+-- the number and the coordinates of an answer: 0 and the point's, or the refusal's and 0
 abbrev pub numberOf : Centre → ℕ
-numberOf BadSite = 6
-numberOf BadCentre = 11
+numberOf (Refused n) = n
 numberOf (At p) = 0
 
-abbrev pub xOr : Float → Centre → Float
-xOr d BadSite = d
-xOr d BadCentre = d
-xOr d (At p) = p .x
+abbrev pub xOf : Centre → Float
+xOf (Refused n) = zero
+xOf (At p) = p .x
 
-abbrev pub yOr : Float → Centre → Float
-yOr d BadSite = d
-yOr d BadCentre = d
-yOr d (At p) = p .y
+abbrev pub yOf : Centre → Float
+yOf (Refused n) = zero
+yOf (At p) = p .y

@@ -1,20 +1,23 @@
-// The plane part of utils.rs: the tolerance test, the squared distance, the circumcenter, and document 01's rules on points.
+// The plane part of utils.rs: the tolerance test, the squared distance, the circumcenter, the centroid, and document 01's rules on points.
 ghost use mathlib.Core.Path.{_≡_};
 ghost use mathlib.Core.Bool.{Bool, cond, _&&_};
-ghost use Rattle.utils.specs.Plane.{at, nearOf, dist2Of, centreOf};
-ghost use Prim.Native.Nat.{_+_, _*_, _<_};
+ghost use Prim.Native.Nat.{_+_, _*_, _/_, _<_, _≤_};
 ghost use lib.ListN.{length};
+ghost use Rattle.laws.specs.Decide.{First};
+ghost use Rattle.utils.specs.Plane.{nearOf, dist2Of, centreOf};
 ghost use Rattle.utils.specs.Flat.{pointAt};
-ghost use Rattle.utils.specs.Rules.{okCoord, okSite, okCentre, centreAnswer, numberOf, xOr, yOr};
+ghost use Rattle.utils.specs.Rules.{okCoord, okSite, okCentre, centreBy, centreAnswer, numberOf, xOf, yOf};
+ghost use Rattle.utils.specs.Sites.{KeptAt};
+ghost use Rattle.utils.specs.Centroid.{sumTo, meanOf, centroidAnswer};
 
 pub struct Point {
     pub x: f64,
     pub y: f64,
 }
 
+// A point, or the number of a refusal.
 pub enum Centre {
-    BadSite,
-    BadCentre,
+    Refused(u32),
     At(Point),
 }
 
@@ -31,7 +34,7 @@ pub fn point_at(v: &[f64], i: usize) -> Point
 
 const EPS: f64 = 8.881784197001252e-16;
 
-fn pick(c: bool, x: f64, y: f64) -> f64
+fn choose(c: bool, x: f64, y: f64) -> f64
     ensures { λ r. ⌜ r ≡ cond c x y ⌝ }
 {
     if c { x } else { y }
@@ -40,7 +43,7 @@ fn pick(c: bool, x: f64, y: f64) -> f64
 pub fn abs_diff_eq(a: f64, b: f64) -> bool
     ensures { λ r. ⌜ r ≡ nearOf a b ⌝ }
 {
-    pick(a > b, a - b, b - a) <= EPS
+    choose(a > b, a - b, b - a) <= EPS
 }
 
 pub fn dist2(a: Point, b: Point) -> f64
@@ -91,16 +94,16 @@ pub fn centre_ok(p: Point) -> bool
 }
 
 fn answer(sites: bool, centre: bool, p: Point) -> Centre
-    ensures { λ r. ⌜ r ≡ cond sites (cond centre (Centre.At p) Centre.BadCentre) Centre.BadSite ⌝ }
+    ensures { λ r. ⌜ r ≡ centreBy sites centre p ⌝ }
 {
     if sites {
         if centre {
             Centre::At(p)
         } else {
-            Centre::BadCentre
+            Centre::Refused(11)
         }
     } else {
-        Centre::BadSite
+        Centre::Refused(6)
     }
 }
 
@@ -112,34 +115,92 @@ pub fn circumcenter(a: Point, b: Point, c: Point) -> Centre
     answer(site_ok(a) & site_ok(b) & site_ok(c), centre_ok(p), p)
 }
 
-// The C interface of the differential runs: the answer's number, 0 for a point, which goes to x and y.
-#[no_mangle]
-pub extern "C" fn box_circumcenter(
-    ax: f64,
-    ay: f64,
-    bx: f64,
-    by: f64,
-    cx: f64,
-    cy: f64,
-    x: &mut f64,
-    y: &mut f64,
-) -> u32
-    ensures { λ r. ⌜ r ≡ numberOf (centreAnswer (at ax ay) (at bx by) (at cx cy)) ⌝ }
-    ensures { λ _. ⌜ now (x .exit) ≡ xOr (now (x .entry)) (centreAnswer (at ax ay) (at bx by) (at cx cy)) ⌝ }
-    ensures { λ _. ⌜ now (y .exit) ≡ yOr (now (y .entry)) (centreAnswer (at ax ay) (at bx by) (at cx cy)) ⌝ }
+// Rule 6 over a list of sites: the lowest one that breaks it, or their number.
+pub fn first_bad_site(sites: &[f64]) -> usize
+    ensures { λ r. ⌜ First (KeptAt (now (sites .entry))) (length (now (sites .entry)) / 2) r ⌝ }
 {
-    let r = circumcenter(
-        Point { x: ax, y: ay },
-        Point { x: bx, y: by },
-        Point { x: cx, y: cy },
-    );
-    match r {
-        Centre::BadSite => 6,
-        Centre::BadCentre => 11,
-        Centre::At(p) => {
-            *x = p.x;
-            *y = p.y;
-            0
+    let count = sites.len() / 2;
+    let mut i = 0;
+    while i < count {
+        if !site_ok(point_at(sites, i)) {
+            return i;
         }
+        i += 1;
     }
+    i
+}
+
+// An answer's number, 0 for a point, and its coordinates, 0 where it is refused.
+pub fn number_of(c: Centre) -> u32
+    ensures { λ r. ⌜ r ≡ numberOf c ⌝ }
+{
+    match c {
+        Centre::Refused(n) => n,
+        Centre::At(_) => 0,
+    }
+}
+
+pub fn x_of(c: Centre) -> f64
+    ensures { λ r. ⌜ r ≡ xOf c ⌝ }
+{
+    match c {
+        Centre::Refused(_) => 0.0,
+        Centre::At(p) => p.x,
+    }
+}
+
+pub fn y_of(c: Centre) -> f64
+    ensures { λ r. ⌜ r ≡ yOf c ⌝ }
+{
+    match c {
+        Centre::Refused(_) => 0.0,
+        Centre::At(p) => p.y,
+    }
+}
+
+fn sum_of(points: &[f64], count: usize) -> Point
+    requires { ⌜ 2 * count ≤ length (now points) ⌝ }
+    ensures { λ r. ⌜ r ≡ sumTo (now (points .entry)) count ⌝ }
+{
+    let mut x = 0.0;
+    let mut y = 0.0;
+    let mut i = 0;
+    while i < count {
+        x = x + points[2 * i];
+        y = y + points[2 * i + 1];
+        i += 1;
+    }
+    Point { x, y }
+}
+
+fn centroid_of(points: &[f64], count: usize) -> Point
+    requires { ⌜ (2 * count ≤ length (now points)) × (count ≤ 65536) ⌝ }
+    ensures { λ r. ⌜ r ≡ meanOf (now (points .entry)) count ⌝ }
+{
+    let r = sum_of(points, count);
+    let n = count as f64;
+    Point {
+        x: r.x / n,
+        y: r.y / n,
+    }
+}
+
+// The centroid of 1 to 65,536 points, or refusal 1 (their count) or 6 (a coordinate).
+pub fn centroid(points: &[f64]) -> Centre
+    ensures { λ r. ⌜ r ≡ centroidAnswer (now (points .entry)) ⌝ }
+{
+    let count = points.len() / 2;
+    if points.len() != 2 * count {
+        return Centre::Refused(1);
+    }
+    if count == 0 {
+        return Centre::Refused(1);
+    }
+    if 65536 < count {
+        return Centre::Refused(1);
+    }
+    if first_bad_site(points) < count {
+        return Centre::Refused(6);
+    }
+    Centre::At(centroid_of(points, count))
 }

@@ -53,7 +53,8 @@ fn find_near(v: &[f64], from: usize, count: usize, p: Point) -> usize
     i
 }
 
-fn put(v: &mut [f64], i: usize, p: Point)
+// Writes p as vertex i.
+pub fn put(v: &mut [f64], i: usize, p: Point)
     requires { ⌜ 2 * i + 1 < length (now v) ⌝ }
     ensures { λ _. ⌜ now (v .exit) ≡ set (set (now (v .entry)) (2 * i) (p .x)) (2 * i + 1) (p .y) ⌝ }
 {

@@ -1,0 +1,8 @@
+-- `crossings::answer`: each answer by the tests that lead to it. Assumes nothing.
+use Rattle.crossings.specs.Rules.{metBy}
+use Rattle.crossings.proofs.answer.Statement.{statement}
+use Rattle.crossings.proofs.answer.Tie as tie
+
+pub answer-spec : {M : Type 1} → statement M
+unfolding metBy
+answer-spec = tie.close (tie.spec (λ c. cc) (λ c. cc) (λ c. cc))

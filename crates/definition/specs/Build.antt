@@ -1,0 +1,181 @@
+-- The clipped build (the Rust's CellBuilder with ClipBehavior::Clip) on an accepted mesh: vertices, marked cells, corner owners, lost corners, or the first refusal of 11 to 15.
+-- sites are numbers x and y in turn, tri and he the triangles and half-edges, hull the hull's sites, left the leftmost table.
+use Prim.Native.Nat.{ℕ, zero, suc, _+_, _-_, _*_, _/_}
+use mathlib.Core.Bool.{Bool, true, false, _&&_}
+use mathlib.Core.List.{List, [], _∷_, _++_, map}
+use lib.ListN.{length, getD, set, replicate}
+use lib.Dec.{eqb}
+use lib.Ieee.{Float, nan, inf, fin, binary64, ofBits}
+use Rattle.laws.specs.Pick.{pick}
+use Rattle.laws.specs.Binary64.{_⊞_, _⊟_, _⊠_, _⊘_, one}
+use Rattle.laws.specs.Count.{occ}
+use Rattle.root.specs.Sqrt.{sqrtOf}
+use Rattle.utils.specs.Plane.{at, centreOf}
+use Rattle.utils.specs.Rules.{okCentre}
+use Rattle.utils.specs.Flat.{pointAt}
+use Rattle.utils.specs.declared.Point.{Point}
+use Rattle.bounding_box.specs.Box.{cornersOf}
+use Rattle.bounding_box.specs.declared.BoundingBox.{BoundingBox}
+use Rattle.vertices.specs.Add.{addVertex}
+use Rattle.mesh.specs.Mesh.{startOf, endOf, leftmostOf, wholeOf}
+use Rattle.mesh.specs.Accepted.{siteCount}
+use Rattle.mesh.specs.Hull.{nextSite}
+use Rattle.iterator.specs.Path.{pathEnd}
+use Rattle.definition.specs.declared.Fault.{Fault}
+use Rattle.definition.specs.Fault.{Outcome, ok, refused, andThen, badCentre, notFinite}
+use Rattle.definition.specs.Cell.{Mark, plain, crossing, wrapped, Entry, Took, took, extension, vertexAt, clipCell}
+
+-- ---- vertices and owners to begin with
+
+unfoldable pub centreAt : List Float → List ℕ → ℕ → Point
+centreAt sites tri t =
+    centreOf (pointAt sites (getD tri (3 * t) 0)) (pointAt sites (getD tri (3 * t + 1) 0)) (pointAt sites (getD tri (3 * t + 2) 0))
+
+-- the circumcenters of k triangles from t on, after vs; 11 at the first that breaks its rule
+unfoldable pub centresFrom : List Float → List ℕ → ℕ → ℕ → List Point → Outcome Fault (List Point)
+centresFrom sites tri t zero vs = ok vs
+centresFrom sites tri t (suc k) vs =
+    let c = centreAt sites tri t in
+    pick (okCentre c) (λ _. centresFrom sites tri (suc t) k (vs ++ c ∷ [])) (λ _. refused (badCentre t))
+
+-- calculate_corner_ownership: a corner's owner is where the path to it ends, begun at the owner before; n is the number of sites, more than any path's hops
+unfoldable pub ownersFrom : List Float → List ℕ → List ℕ → List ℕ → ℕ → ℕ → List Point → List ℕ
+ownersFrom sites tri he left n s [] = []
+ownersFrom sites tri he left n s (corner ∷ corners) =
+    let o = pathEnd sites tri he left corner n s in
+    o ∷ ownersFrom sites tri he left n o corners
+
+-- ---- hull extensions
+
+abbrev pub finite : Float → Bool
+finite nan = false
+finite (inf s) = false
+finite (fin s m e) = true
+
+-- VORONOI_INFINITY: 1e10
+abbrev pub infinity : Float
+infinity = ofBits binary64 0x4202_a05f_2000_0000
+
+-- extend_voronoi_vertex: from the circumcenter of the hull edge e, orthogonal to it
+unfoldable pub extended : List Float → List ℕ → List Point → ℕ → Point
+extended sites tri vs e =
+    let c = vertexAt vs (e / 3) in
+    let a = pointAt sites (startOf tri e) in
+    let b = pointAt sites (endOf tri e) in
+    let x = a .y ⊟ b .y in
+    let y = b .x ⊟ a .x in
+    let k = one ⊘ sqrtOf (x ⊠ x ⊞ y ⊠ y) in
+    at (c .x ⊞ x ⊠ k ⊠ infinity) (c .y ⊞ y ⊠ k ⊠ infinity)
+
+-- the vertices, and the extension over the edge from each hull place to the next
+pub record Extensions : Type 0 where
+  pub verts : List Point
+  pub at : List ℕ
+  pub steps : List Took
+
+abbrev pub extensions : List Point → List ℕ → List Took → Extensions
+extensions vs xs ts = record { verts = vs; at = xs; steps = ts }
+
+-- k hull places from i on; 12 at the first extension that is not finite
+unfoldable pub extendFrom : List Float → List ℕ → List ℕ → List ℕ → ℕ → ℕ → ℕ → Extensions → Outcome Fault Extensions
+extendFrom sites tri hull left nc i zero x = ok x
+extendFrom sites tri hull left nc i (suc k) x =
+    let p = extended sites tri (x .verts) (getD left (nextSite hull i) 0) in
+    let r = addVertex nc (x .verts) p in
+    pick (finite (p .x) && finite (p .y))
+    (λ _. extendFrom sites tri hull left nc (suc i) k (extensions (r .verts) (x .at ++ r .at ∷ []) (x .steps ++ took extension r ∷ [])))
+    (λ _. refused (notFinite i))
+
+-- ---- all cells
+
+-- the circumcenters round a site, along the walk from e
+abbrev pub ringFrom : List ℕ → ℕ → List ℕ
+ringFrom he e = map (λ f. f / 3) (wholeOf he e)
+
+-- of the site at hull place i: between the extensions before and after it; the first one's ring is turned by one, since its extension after comes first
+unfoldable pub hullRing : List ℕ → List ℕ → List ℕ → List ℕ → ℕ → List ℕ
+hullRing he hull left xs i =
+    let ring = ringFrom he (getD left (getD hull i 0) 0) in
+    pick (eqb i 0)
+    (λ _. getD xs 0 0 ∷ getD xs (length hull - 1) 0 ∷ ring)
+    (λ _. getD xs (i - 1) 0 ∷ ring ++ getD xs i 0 ∷ [])
+
+pub record Cells : Type 0 where
+  pub verts : List Point
+  pub owners : List ℕ
+  pub cells : List (List Entry)
+  pub steps : List Took
+
+abbrev pub cellsOf : List Point → List ℕ → List (List Entry) → List Took → Cells
+cellsOf vs os cs ts = record { verts = vs; owners = os; cells = cs; steps = ts }
+
+unfoldable pub clipInto : BoundingBox → ℕ → ℕ → List ℕ → Cells → Outcome Fault Cells
+clipInto b nc site ring s =
+    andThen (clipCell b nc site ring (s .verts) (s .owners)) λ c.
+    ok (cellsOf (c .tip .verts) (c .tip .owners) (set (s .cells) site (c .new)) (s .steps ++ c .steps))
+
+-- the sites at k hull places from i on
+unfoldable pub clipHull : BoundingBox → ℕ → List ℕ → List ℕ → List ℕ → List ℕ → ℕ → ℕ → Cells → Outcome Fault Cells
+clipHull b nc he hull left xs i zero s = ok s
+clipHull b nc he hull left xs i (suc k) s =
+    andThen (clipInto b nc (getD hull i 0) (hullRing he hull left xs i) s) λ r.
+    clipHull b nc he hull left xs (suc i) k r
+
+abbrev pub isEmpty : List Entry → Bool
+isEmpty [] = true
+isEmpty (e ∷ es) = false
+
+-- k half-edges from e on: the cell of the site where one ends is clipped from there if it is still empty
+unfoldable pub clipRest : BoundingBox → ℕ → List ℕ → List ℕ → ℕ → ℕ → Cells → Outcome Fault Cells
+clipRest b nc tri he e zero s = ok s
+clipRest b nc tri he e (suc k) s =
+    let site = endOf tri e in
+    andThen (pick (isEmpty (getD (s .cells) site [])) (λ _. clipInto b nc site (ringFrom he e) s) (λ _. ok s)) λ r.
+    clipRest b nc tri he (suc e) k r
+
+-- ---- lost corners, told by the marks
+
+abbrev pub ifWrapped : Mark → ℕ → List ℕ
+ifWrapped plain v = []
+ifWrapped crossing v = []
+ifWrapped wrapped v = v ∷ []
+
+-- the vertices that a cell took by wrapping, and all cells together
+unfoldable pub wrappedIn : List Entry → List ℕ
+wrappedIn [] = []
+wrappedIn (e ∷ es) = ifWrapped (e .mark) (e .at) ++ wrappedIn es
+
+unfoldable pub allWrapped : List (List Entry) → List ℕ
+allWrapped [] = []
+allWrapped (c ∷ cs) = wrappedIn c ++ allWrapped cs
+
+-- how many of the k corners from vertex v on no cell took by wrapping
+unfoldable pub lostFrom : ℕ → ℕ → List (List Entry) → ℕ
+lostFrom v zero cells = 0
+lostFrom v (suc k) cells = pick (eqb (occ v (allWrapped cells)) 0) (λ _. 1) (λ _. 0) + lostFrom (suc v) k cells
+
+-- ---- the build
+
+pub record Built : Type 0 where
+  pub verts : List Point
+  pub cells : List (List Entry)
+  pub owners : List ℕ
+  pub lost : ℕ
+  pub steps : List Took
+
+unfoldable pub clipAll : BoundingBox → ℕ → List ℕ → List ℕ → List ℕ → List ℕ → ℕ → List ℕ → Extensions → Outcome Fault Cells
+clipAll b nc tri he hull left n owners x =
+    andThen (clipHull b nc he hull left (x .at) 0 (length hull) (cellsOf (x .verts) owners (replicate n []) (x .steps))) λ s.
+    clipRest b nc tri he 0 (length tri) s
+
+-- owners: as found, before wrapping
+unfoldable pub build : List Float → List ℕ → List ℕ → List ℕ → BoundingBox → Outcome Fault Built
+build sites tri he hull b =
+    let n = siteCount sites in
+    let nc = length tri / 3 in
+    let left = leftmostOf tri he n in
+    let owners = ownersFrom sites tri he left n (getD hull 0 0) (cornersOf b) in
+    andThen (centresFrom sites tri 0 nc []) λ centres.
+    andThen (extendFrom sites tri hull left nc 0 (length hull) (extensions (centres ++ cornersOf b) [] [])) λ x.
+    andThen (clipAll b nc tri he hull left n owners x) λ s.
+    ok (record { verts = s .verts; cells = s .cells; owners = owners; lost = lostFrom nc 4 (s .cells); steps = s .steps })

@@ -1,0 +1,272 @@
+-- What one edge of a ring does to a cell: it adds at most two vertices and at most three entries beside the corners, and without an entry no vertex.
+use mathlib.Core.Path.{_≡_, refl, sym, ap, _∙_, subst}
+use mathlib.Core.Bool.{Bool, true, false, not}
+use mathlib.Core.List.{List, [], _∷_, _++_}
+use mathlib.Core.Logic.{_⊎_, inl, inr, ⊎-elim, _≢_}
+use Prim.Native.Nat.{ℕ, zero, suc, _+_, _-_, _*_, _≤_, _<_}
+use native.Mathlib.Omega.{arith}
+use lib.Dec.{ltb, eqb}
+use lib.ListN.{length, getD, drop, length-append, length-drop, List·getD-append}
+use lib.Ieee.{nan}
+use borrow.Author.Tests.{ltb-true, ltb-false, eq-eqb}
+use Rattle.laws.specs.Pick.{pick}
+use Rattle.utils.specs.Plane.{at}
+use Rattle.utils.specs.declared.Point.{Point}
+use Rattle.bounding_box.specs.Box.{whichOf}
+use Rattle.bounding_box.specs.declared.BoundingBox.{BoundingBox}
+use Rattle.crossings.specs.declared.Crossing.{Crossing}
+use Rattle.crossings.specs.declared.Crossing.the-variants.{None, One, Two}
+use Rattle.vertices.specs.Add.{Added, nearPt, findNear, addVertex}
+use Rattle.mesh.specs.Mesh.{EMPTY}
+use Rattle.definition.specs.Fault.{Outcome, ok, refused, andThen}
+use Rattle.definition.specs.Cell.{Mark, plain, crossing, wrapped, Entry, entry, lastOr, Took, took, firstCrossing, secondCrossing, Ins, ins, around, led, insertAt, insertEdge, vertexAt, Clip, missed, once, twice, clipWith, edgeCrossing, clipEdge, Change, change, tookOne, tookTwo, leave, enterAt, enter, link, crossAt, cross, clipStep}
+use Rattle.definition.specs.Gives.{Gives, gives-then, gives-next, picked}
+use Rattle.definition.specs.Puts.{Puts, puts-none, puts-more, puts-then, puts-plain, puts-crossing, puts-around}
+
+-- ---- vertices
+
+-- how many points were new
+abbrev pub one : Bool → ℕ
+one true = 1
+one false = 0
+
+abbrev pub fresh : List Took → ℕ
+fresh [] = 0
+fresh (t ∷ ts) = one (t .fresh) + fresh ts
+
+pub fresh-append : (ts us : List Took) → fresh (ts ++ us) ≡ fresh ts + fresh us
+fresh-append [] us = omega arith
+fresh-append (t ∷ ts) us = omega (arith, fresh-append ts us)
+
+one-le : (b : Bool) → one b ≤ 1
+one-le true = omega arith
+one-le false = omega arith
+
+pub fresh-le : (ts : List Took) → fresh ts ≤ length ts
+fresh-le [] = omega arith
+fresh-le (t ∷ ts) = omega (arith, one-le (t .fresh), fresh-le ts)
+
+-- ws are the vertices vs, and m more
+pub record Grown (vs : List Point) (m : ℕ) (ws : List Point) : Type 0 where
+  pub longer : length ws ≡ length vs + m
+  pub kept : (i : ℕ) → i < length vs → vertexAt ws i ≡ vertexAt vs i
+
+pub grown-none : (vs : List Point) → Grown vs 0 vs
+grown-none vs = record { longer = omega arith; kept = λ i h. refl }
+
+pub grown-then : {vs us ws : List Point} {m k : ℕ} → Grown vs m us → Grown us k ws → Grown vs (m + k) ws
+grown-then h g = record { longer = omega (arith, h .longer, g .longer); kept = λ i l. g .kept i (omega (arith, h .longer)) ∙ h .kept i l }
+
+find-bounds : (p : Point) (vs : List Point) (n : ℕ) → (n ≤ findNear p vs n) × (findNear p vs n ≤ n + length vs)
+unfolding findNear
+find-bounds p [] n = omega arith
+find-bounds p (v ∷ vs) n =
+    picked (λ (k : ℕ). (n ≤ k) × (k ≤ n + suc (length vs))) (nearPt v p) _ _
+    (λ t. omega arith)
+    (λ t. omega (arith, find-bounds p vs (suc n)))
+
+-- adding a point: its place is after the circumcenters
+pub record AddedTo (nc : ℕ) (vs : List Point) (r : Added) : Type 0 where
+  pub grown : Grown vs (one (r .fresh)) (r .verts)
+  pub after : nc ≤ r .at
+  pub below : r .at < length (r .verts)
+
+pub add-vertex : (nc : ℕ) (vs : List Point) (p : Point) → nc ≤ length vs → AddedTo nc vs (addVertex nc vs p)
+unfolding addVertex
+add-vertex nc vs p h = by (ltb i (length vs)) refl
+  where
+    i : ℕ
+    i = findNear p (drop nc vs) nc
+
+    low : nc ≤ i
+    low = find-bounds p (drop nc vs) nc .0
+
+    high : i ≤ length vs
+    high = omega (arith, find-bounds p (drop nc vs) nc .1, length-drop nc vs)
+
+    by : (t : Bool) → ltb i (length vs) ≡ t → AddedTo nc vs (record { at = i; verts = pick t (λ _. vs) (λ _. vs ++ p ∷ []); fresh = not t })
+    by true e = record { grown = grown-none vs; after = low; below = ltb-true i (length vs) e }
+    by false e = record {
+      grown = record { longer = length-append vs (p ∷ []); kept = λ j l. List·getD-append vs (p ∷ []) (at nan nan) j l };
+      after = low;
+      below = rw (length-append vs (p ∷ [])) (omega (arith, high));
+    }
+
+-- clipping an edge
+abbrev pub ClippedTo : ℕ → List Point → Clip → Type 0
+ClippedTo nc vs missed = Unit {0}
+ClippedTo nc vs (once r) = AddedTo nc vs r
+ClippedTo nc vs (twice r t) = AddedTo nc vs r × AddedTo nc (r .verts) t
+
+clip-with : (nc : ℕ) (vs : List Point) (x : Crossing) → nc ≤ length vs → ClippedTo nc vs (clipWith nc vs x)
+unfolding clipWith
+clip-with nc vs None h = tt
+clip-with nc vs (One x y) h = add-vertex nc vs (at x y) h
+clip-with nc vs (Two x y u v) h =
+    let r = add-vertex nc vs (at x y) h in
+    (r, add-vertex nc _ (at u v) (omega (arith, r .grown .longer)))
+
+pub clip-edge : (b : BoundingBox) (nc : ℕ) (vs : List Point) (p q : ℕ) → nc ≤ length vs → ClippedTo nc vs (clipEdge b nc vs p q)
+unfolding clipEdge
+clip-edge b nc vs p q h = clip-with nc vs _ h
+
+-- ---- one edge
+
+pub record Edge (P : ℕ → Type 0) (nc site : ℕ) (vs : List Point) (os : List ℕ) (opened : Bool) (d : Change) : Type 0 where
+  pub grown : Grown vs (fresh (d .steps)) (d .verts)
+  pub two : length (d .steps) ≤ 2
+  pub plain-or-crossing : ℕ
+  pub three : plain-or-crossing ≤ 3
+  pub puts : Puts P nc site (length (d .verts)) plain-or-crossing os (d .new) (d .owners)
+  -- a point is added only with an entry
+  pub idle : (1 ≤ plain-or-crossing) ⊎ (d .steps ≡ [])
+  -- a cell is opened only with an entry
+  pub entered : d .opened ≡ true → (1 ≤ plain-or-crossing) ⊎ (opened ≡ true)
+
+module _ (P : ℕ → Type 0) (b : BoundingBox) (nc site : ℕ) (real : site ≢ EMPTY) where
+  -- an inserted edge: one entry beside the corners, or two where the first is not the last entry
+  module _ (vs : List Point) (os : List ℕ) (four : length os ≡ 4) where
+    abbrev Insert : ℕ → Ins → Type 0
+    Insert k i = Puts P nc site (length vs) k os (i .new) (i .owners)
+
+    insert-sides : (last first second f s : ℕ) → nc ≤ second → second < length vs → (eqb last first ≡ false → (nc ≤ first) × (first < length vs)) → Gives (Insert (pick (eqb last first) (λ _. 1) (λ _. 2))) (insertAt nc site last first second os f s)
+    unfolding insertAt
+    insert-sides last first second f s lo hi lead =
+        picked (Gives (Insert (pick (eqb last first) (λ _. 1) (λ _. 2)))) (ltb f 4) _ _
+        (λ x. picked (Gives (Insert (pick (eqb last first) (λ _. 1) (λ _. 2)))) (ltb s 4) _ _
+        (λ y. by (eqb last first) lead (puts-around P nc site real (length vs) f s second os four (ltb-true f 4 x) (ltb-true s 4 y) lo hi))
+        (λ y. tt))
+        (λ x. tt)
+      where
+        by : (t : Bool) → (t ≡ false → (nc ≤ first) × (first < length vs)) → Insert 1 (around nc site f s second os) → Insert (pick t (λ _. 1) (λ _. 2)) (led t first (around nc site f s second os))
+        by true l h = h
+        by false l h = puts-then P nc site real (puts-crossing P nc site (length vs) first os (l refl .0) (l refl .1)) h
+
+    -- from the last entry
+    insert-on : (last second : ℕ) → nc ≤ second → second < length vs → Gives (Insert 1) (insertEdge b nc site vs os last last second)
+    unfolding insertEdge
+    insert-on last second lo hi =
+        let e = eq-eqb last last refl in
+        subst (λ (t : Bool). Gives (Insert (pick t (λ _. 1) (λ _. 2))) (insertAt nc site last last second os (whichOf b (vertexAt vs last)) (whichOf b (vertexAt vs second)))) e
+        (insert-sides last last second _ _ lo hi (λ z. let y : _≡_ {A = ℕ} 0 1 = cc in absurd (omega arith)))
+
+    insert-new : (last first second : ℕ) → nc ≤ first → first < length vs → nc ≤ second → second < length vs → Gives (λ (i : Ins). (k : ℕ) × (1 ≤ k) × (k ≤ 2) × Insert k i) (insertEdge b nc site vs os last first second)
+    unfolding insertEdge
+    insert-new last first second lo hi lo₂ hi₂ = by (eqb last first) (insertEdge b nc site vs os last first second) (insert-sides last first second (whichOf b (vertexAt vs first)) (whichOf b (vertexAt vs second)) lo₂ hi₂ (λ z. (lo, hi)))
+      where
+        by : (t : Bool) (o : Outcome ℕ Ins) → Gives (Insert (pick t (λ _. 1) (λ _. 2))) o → Gives (λ (i : Ins). (k : ℕ) × (1 ≤ k) × (k ≤ 2) × Insert k i) o
+        by true (ok i) h = (1, omega arith, omega arith, h)
+        by false (ok i) h = (2, omega arith, omega arith, h)
+        by t (refused n) h = tt
+
+  -- the three kinds of edge that meet the box's border
+  leave-edge : (p : ℕ) (vs : List Point) (os : List ℕ) (opened : Bool) (k : Clip) → P p → p < nc → ClippedTo nc vs k → Gives (Edge P nc site vs os opened) (leave p os k)
+  unfolding leave
+  leave-edge p vs os opened missed h l c = tt
+  leave-edge p vs os opened (once r) h l c = record {
+    grown = grown-then (c .grown) (grown-none _);
+    two = omega arith;
+    plain-or-crossing = 2;
+    three = omega arith;
+    puts = puts-then P nc site real (puts-plain P nc site _ p os h l) (puts-crossing P nc site _ (r .at) os (c .after) (c .below));
+    idle = inl (omega arith);
+    entered = λ z. inl (omega arith);
+  }
+  leave-edge p vs os opened (twice r t) h l c = record {
+    grown = grown-then (c .0 .grown) (grown-then (c .1 .grown) (grown-none _));
+    two = omega arith;
+    plain-or-crossing = 2;
+    three = omega arith;
+    puts = puts-then P nc site real (puts-plain P nc site _ p os h l) (puts-crossing P nc site _ (r .at) os (c .0 .after) (omega (arith, c .0 .below, c .1 .grown .longer)));
+    idle = inl (omega arith);
+    entered = λ z. inl (omega arith);
+  }
+
+  enter-at : (vs ws : List Point) (os : List ℕ) (opened : Bool) (last first : ℕ) (ts : List Took) → length os ≡ 4 → Grown vs (fresh ts) ws → length ts ≤ 2 → nc ≤ first → first < length ws → Gives (Edge P nc site vs os opened) (enterAt b nc site ws os last first ts)
+  unfolding enterAt
+  enter-at vs ws os opened last first ts four g two lo hi =
+      gives-then (λ (i : Ins). Puts P nc site (length ws) 1 os (i .new) (i .owners)) (Edge P nc site vs os opened) (insertEdge b nc site ws os last last first) _ (insert-on ws os four last first lo hi)
+      (λ i h. record { grown = g; two = two; plain-or-crossing = 1; three = omega arith; puts = h; idle = inl (omega arith); entered = λ z. inl (omega arith) })
+
+  enter-edge : (vs : List Point) (os : List ℕ) (opened : Bool) (last : ℕ) (k : Clip) → length os ≡ 4 → ClippedTo nc vs k → Gives (Edge P nc site vs os opened) (enter b nc site os last k)
+  unfolding enter
+  enter-edge vs os opened last missed four c = tt
+  enter-edge vs os opened last (once r) four c = enter-at vs (r .verts) os opened last (r .at) (tookOne r) four (grown-then (c .grown) (grown-none _)) (omega arith) (c .after) (c .below)
+  enter-edge vs os opened last (twice r t) four c =
+      enter-at vs (t .verts) os opened last (r .at) (tookTwo r t) four (grown-then (c .0 .grown) (grown-then (c .1 .grown) (grown-none _))) (omega arith) (c .0 .after) (omega (arith, c .0 .below, c .1 .grown .longer))
+
+  link-edge : (vs : List Point) (os : List ℕ) (opened : Bool) (last first : ℕ) → length os ≡ 4 → nc ≤ first → first < length vs → Gives (λ (i : Ins). (k : ℕ) × (k ≤ 1) × Puts P nc site (length vs) k os (i .new) (i .owners)) (link b nc site vs os opened last first)
+  unfolding link
+  link-edge vs os true last first four lo hi = by (insertEdge b nc site vs os last last first) (insert-on vs os four last first lo hi)
+    where
+      by : (o : Outcome ℕ Ins) → Gives (λ (i : Ins). Puts P nc site (length vs) 1 os (i .new) (i .owners)) o → Gives (λ (i : Ins). (k : ℕ) × (k ≤ 1) × Puts P nc site (length vs) k os (i .new) (i .owners)) o
+      by (ok i) h = (1, omega arith, h)
+      by (refused n) h = tt
+  link-edge vs os false last first four lo hi = (0, omega arith, puts-none P nc site (length vs) os)
+
+  cross-at : (vs ws : List Point) (os : List ℕ) (opened : Bool) (last first second : ℕ) (ts : List Took) → length os ≡ 4 → Grown vs (fresh ts) ws → length ts ≤ 2 → nc ≤ first → first < length ws → nc ≤ second → second < length ws → Gives (Edge P nc site vs os opened) (crossAt b nc site ws os opened last first second ts)
+  unfolding crossAt
+  cross-at vs ws os opened last first second ts four g two lo hi lo₂ hi₂ =
+      gives-then (λ (i : Ins). (k : ℕ) × (k ≤ 1) × Puts P nc site (length ws) k os (i .new) (i .owners)) (Edge P nc site vs os opened) (link b nc site ws os opened last first) _ (link-edge ws os opened last first four lo hi)
+      (λ i h. gives-then (λ (j : Ins). (k : ℕ) × (1 ≤ k) × (k ≤ 2) × Puts P nc site (length ws) k (i .owners) (j .new) (j .owners)) (Edge P nc site vs os opened) (insertEdge b nc site ws (i .owners) (lastOr last (i .new)) first second) _ (insert-new ws (i .owners) (h .2 .owners ∙ four) _ first second lo hi lo₂ hi₂)
+      (λ j w. record {
+        grown = g;
+        two = two;
+        plain-or-crossing = h .0 + w .0;
+        three = omega (arith, h .1, w .2);
+        puts = puts-then P nc site real (h .2) (w .3);
+        idle = inl (omega (arith, w .1));
+        entered = λ z. inr z;
+      }))
+
+  cross-edge : (vs : List Point) (os : List ℕ) (opened : Bool) (last : ℕ) (k : Clip) → length os ≡ 4 → ClippedTo nc vs k → Gives (Edge P nc site vs os opened) (cross b nc site vs os opened last k)
+  unfolding cross andThen
+  cross-edge vs os opened last missed four c = record { grown = grown-none vs; two = omega arith; plain-or-crossing = 0; three = omega arith; puts = puts-none P nc site (length vs) os; idle = inr refl; entered = λ z. inr z }
+  cross-edge vs os opened last (once r) four c = by (link b nc site (r .verts) os opened last (r .at))
+    where
+      by : (o : Outcome ℕ Ins) → Gives (Edge P nc site vs os opened) (andThen o (λ i. refused 14))
+      by (ok i) = tt
+      by (refused n) = tt
+  cross-edge vs os opened last (twice r t) four c =
+      cross-at vs (t .verts) os opened last (r .at) (t .at) (tookTwo r t) four (grown-then (c .0 .grown) (grown-then (c .1 .grown) (grown-none _))) (omega arith) (c .0 .after) (omega (arith, c .0 .below, c .1 .grown .longer)) (c .1 .after) (c .1 .below)
+
+  pub clip-step : (p : ℕ) (pIn : Bool) (q : ℕ) (qIn : Bool) (vs : List Point) (os : List ℕ) (opened : Bool) (last : ℕ) → nc ≤ length vs → length os ≡ 4 → (pIn ≡ true → P p × (p < nc)) → Gives (Edge P nc site vs os opened) (clipStep b nc site p pIn q qIn vs os opened last)
+  unfolding clipStep
+  clip-step p true q true vs os opened last room four h = record {
+    grown = grown-none vs;
+    two = omega arith;
+    plain-or-crossing = 1;
+    three = omega arith;
+    puts = puts-plain P nc site _ p os (h refl .0) (h refl .1);
+    idle = inr refl;
+    entered = λ z. inr z;
+  }
+  clip-step p true q false vs os opened last room four h = leave-edge p vs os opened _ (h refl .0) (h refl .1) (clip-edge b nc vs p q room)
+  clip-step p false q true vs os opened last room four h = enter-edge vs os opened last _ four (clip-edge b nc vs q p room)
+  clip-step p false q false vs os opened last room four h = cross-edge vs os opened last _ four (clip-edge b nc vs p q room)
+
+-- an edge that ends outside leaves the cell open, where it began inside or the cell was open
+module _ (b : BoundingBox) (nc site : ℕ) where
+  abbrev Open : Change → Type 0
+  Open d = d .opened ≡ true
+
+  leave-open : (p : ℕ) (os : List ℕ) (k : Clip) → Gives Open (leave p os k)
+  unfolding leave
+  leave-open p os missed = tt
+  leave-open p os (once r) = refl
+  leave-open p os (twice r t) = refl
+
+  cross-open : (vs : List Point) (os : List ℕ) (opened : Bool) (last : ℕ) (k : Clip) → opened ≡ true → Gives Open (cross b nc site vs os opened last k)
+  unfolding cross crossAt
+  cross-open vs os opened last missed h = h
+  cross-open vs os opened last (once r) h = gives-next Open (link b nc site (r .verts) os opened last (r .at)) _ (λ i. tt)
+  cross-open vs os opened last (twice r t) h =
+      gives-next Open (link b nc site (t .verts) os opened last (r .at)) _
+      (λ i. gives-next Open (insertEdge b nc site (t .verts) (i .owners) (lastOr last (i .new)) (r .at) (t .at)) _ (λ j. h))
+
+  pub stays-open : (p : ℕ) (pIn : Bool) (q : ℕ) (qIn : Bool) (vs : List Point) (os : List ℕ) (opened : Bool) (last : ℕ) → qIn ≡ false → (pIn ≡ false → opened ≡ true) → Gives Open (clipStep b nc site p pIn q qIn vs os opened last)
+  unfolding clipStep
+  stays-open p true q true vs os opened last out h = let z : _≡_ {A = ℕ} 0 1 = cc in absurd (omega arith)
+  stays-open p true q false vs os opened last out h = leave-open p os _
+  stays-open p false q true vs os opened last out h = let z : _≡_ {A = ℕ} 0 1 = cc in absurd (omega arith)
+  stays-open p false q false vs os opened last out h = cross-open vs os opened last _ (h refl)

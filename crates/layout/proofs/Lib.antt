@@ -1,0 +1,4 @@
+pub mod Pasting
+pub mod Compacting
+pub mod Tallying
+pub mod Filling

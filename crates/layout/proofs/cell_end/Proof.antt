@@ -1,0 +1,48 @@
+-- `layout::cell_end` meets its contract: what was passed is no EMPTY.
+use mathlib.Core.Path.{_≡_}
+use Prim.Native.Nat.{ℕ, _-_, _≤_, _<_}
+use mathlib.Core.Logic.{_≢_, ⊎-elim}
+use native.Mathlib.Omega.{arith}
+use lib.ListN.{getD}
+use borrow.Author.Needs.{needs}
+use Rattle.laws.specs.Decide.{eq-or-ne}
+use Rattle.mesh.specs.Mesh.{EMPTY}
+use Rattle.layout.proofs.cell_end.Statement.{statement}
+use Rattle.layout.proofs.cell_end.Tie as tie
+
+abbrev Inv-loop : tie.InvT-loop
+Inv-loop idx from to i₀ i = (from ≤ i) × (i ≤ to) × ((k : ℕ) → from ≤ k → k < i → getD idx k 0 ≢ EMPTY)
+
+abbrev μ-loop : tie.MeasureT-loop
+μ-loop idx from to i₀ i = to - i
+
+loop-holds : tie.Need-loop-holds Inv-loop μ-loop
+loop-holds c = (omega arith, omega arith, λ k l h. absurd (omega arith))
+
+mul-if1 : tie.Need-mul-if1 Inv-loop μ-loop
+mul-if1 c = search needs
+
+shared-slice-read-if1 : tie.Need-shared-slice-read-if1 Inv-loop μ-loop
+shared-slice-read-if1 c = omega arith
+
+returns : tie.Need-returns Inv-loop μ-loop
+returns c =
+    let l = c .before .before .before .loop in
+    record { low = l .inv .0; high = l .inv .1; real = l .inv .2; ended = λ _. c .if1 .taken }
+
+add-i : tie.Need-add-i Inv-loop μ-loop
+add-i c = search needs
+
+loop-less : tie.Need-loop-less Inv-loop μ-loop
+loop-less c = omega arith
+
+loop-again : tie.Need-loop-again Inv-loop μ-loop
+loop-again c =
+    let l = c .before .before .before .loop in
+    (omega arith, omega arith, λ k h j. ⊎-elim (λ e. rw e (c .if1 .left)) (λ n. l .inv .2 k h (omega arith)) (eq-or-ne k (l .i)))
+
+returns-2 : tie.Need-returns-2 Inv-loop μ-loop
+returns-2 c = let l = c .before .loop in record { low = l .inv .0; high = l .inv .1; real = l .inv .2; ended = λ h. absurd (omega arith) }
+
+pub cell-end-spec : {M : Type 1} → statement M
+cell-end-spec = tie.close (tie.spec Inv-loop μ-loop loop-holds mul-if1 shared-slice-read-if1 returns add-i loop-less loop-again returns-2)

@@ -1,0 +1,54 @@
+-- `layout::move_down` meets its contract: the place that is read lies at or after the place that is written, so it still holds what it did.
+use mathlib.Core.Path.{_≡_, refl}
+use Prim.Native.Nat.{_-_, _≤_}
+use native.Mathlib.Omega.{arith}
+use lib.ListN.{length}
+use borrow.Author.Needs.{needs}
+use Rattle.layout.proofs.Pasting.{Moving, moving-start, moving-step}
+use Rattle.layout.proofs.move_down.Statement.{statement}
+use Rattle.layout.proofs.move_down.Tie as tie
+
+abbrev Inv-loop : tie.InvT-loop
+Inv-loop idx₀ at from to i₀ w₀ idx i w = Moving idx₀ at from idx i w × (i ≤ to)
+
+abbrev μ-loop : tie.MeasureT-loop
+μ-loop idx₀ at from to i₀ w₀ idx i w = to - i
+
+loop-holds : tie.Need-loop-holds Inv-loop μ-loop
+loop-holds c = (moving-start _ _ _, omega arith)
+
+mul-idx : tie.Need-mul-idx Inv-loop μ-loop
+mul-idx c = search needs
+
+slice-read-idx : tie.Need-slice-read-idx Inv-loop μ-loop
+slice-read-idx c = omega (arith, c .before .before .loop .inv .0 .long)
+
+mul-idx-2 : tie.Need-mul-idx-2 Inv-loop μ-loop
+mul-idx-2 c = omega (arith, c .before .before .loop .inv .0 .long, c .before .before .loop .inv .0 .place)
+
+slice-write-idx : tie.Need-slice-write-idx Inv-loop μ-loop
+slice-write-idx c = omega (arith, c .before .before .loop .inv .0 .long, c .before .before .loop .inv .0 .place)
+
+add-w : tie.Need-add-w Inv-loop μ-loop
+add-w c = omega (arith, c .before .before .loop .inv .0 .place)
+
+add-i : tie.Need-add-i Inv-loop μ-loop
+add-i c = omega arith
+
+loop-less : tie.Need-loop-less Inv-loop μ-loop
+loop-less c = omega arith
+
+loop-again : tie.Need-loop-again Inv-loop μ-loop
+loop-again c = (moving-step _ _ _ _ _ _ (c .before .before .loop .inv .0) (omega arith) (omega arith) 0 _ refl, omega arith)
+
+same-length : tie.Need-same-length Inv-loop μ-loop
+same-length c = c .before .loop .inv .0 .long
+
+returns : tie.Need-returns Inv-loop μ-loop
+returns c =
+    let q : c .before .loop .i ≡ c .before .before .args .to = omega arith in
+    rw (← q) (c .before .loop .inv .0 .so-far)
+
+pub move-down-spec : {M : Type 1} → statement M
+move-down-spec =
+    tie.close (tie.spec Inv-loop μ-loop loop-holds mul-idx slice-read-idx mul-idx-2 slice-write-idx add-w add-i loop-less loop-again same-length returns)

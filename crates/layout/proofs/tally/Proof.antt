@@ -1,0 +1,92 @@
+-- `layout::tally` meets its contract: after i turns the first i entries are counted.
+use mathlib.Core.Path.{_≡_, refl}
+use Prim.Native.Nat.{_+_, _-_, _≤_, _<_}
+use native.Mathlib.Omega.{arith}
+use lib.ListN.{length, take}
+use borrow.Author.Needs.{needs}
+use Rattle.layout.specs.Rooms.{Tallied}
+use Rattle.layout.proofs.Tallying.{tallied-none, tallied-all, tally-place, tally-fits, tally-step}
+use Rattle.layout.proofs.tally.Statement.{statement}
+use Rattle.layout.proofs.tally.Tie as tie
+
+abbrev Inv-loop : tie.InvT-loop
+Inv-loop list by off₀ i₀ off i = (i ≤ length list) × Tallied (take i list) by off₀ off
+
+abbrev μ-loop : tie.MeasureT-loop
+μ-loop list by off₀ i₀ off i = length list - i
+
+abbrev Entry : tie.At-loop Inv-loop μ-loop → tie.Start Inv-loop μ-loop
+Entry l = l .before .before .before
+
+loop-holds : tie.Need-loop-holds Inv-loop μ-loop
+loop-holds c = (omega arith, tallied-none (c .before .before .args .list .now) _ _)
+
+mul-wide : tie.Need-mul-wide Inv-loop μ-loop
+mul-wide c = search needs
+
+shared-slice-read-wide : tie.Need-shared-slice-read-wide Inv-loop μ-loop
+shared-slice-read-wide c = search needs
+
+wide-requires : tie.Need-wide-requires Inv-loop μ-loop
+wide-requires c κs = search needs
+
+-- the place that is written
+place : (c : tie.After-wide Inv-loop μ-loop) → c .wide .result + 1 < length (c .before .before .before .loop .off)
+place c = let l = c .before .before .before in tally-place _ _ _ _ _ _ (Entry l .pre) (l .loop .inv .1) (omega arith) (c .wide .ensures)
+
+add-at : tie.Need-add-at Inv-loop μ-loop
+add-at c = omega (arith, place c)
+
+mul-off : tie.Need-mul-off Inv-loop μ-loop
+mul-off c = omega (arith, place c)
+
+slice-read-off : tie.Need-slice-read-off Inv-loop μ-loop
+slice-read-off c = omega (arith, place (c .before))
+
+add-off : tie.Need-add-off Inv-loop μ-loop
+add-off c = let l = c .before .before .before .before in omega (arith, tally-fits _ _ _ _ _ _ (Entry l .pre) (l .loop .inv .1) (omega arith) (c .before .wide .ensures))
+
+mul-off-2 : tie.Need-mul-off-2 Inv-loop μ-loop
+mul-off-2 c = omega (arith, place (c .before))
+
+slice-write-off : tie.Need-slice-write-off Inv-loop μ-loop
+slice-write-off c = omega (arith, place (c .before))
+
+add-i : tie.Need-add-i Inv-loop μ-loop
+add-i c = search needs
+
+loop-less : tie.Need-loop-less Inv-loop μ-loop
+loop-less c = omega arith
+
+loop-again : tie.Need-loop-again Inv-loop μ-loop
+loop-again c =
+    let l = c .before .before .before .before in
+    (omega arith, tally-step _ _ _ _ _ _ (Entry l .pre) (l .loop .inv .1) (omega arith) (c .before .wide .ensures) _ refl)
+
+same-length : tie.Need-same-length Inv-loop μ-loop
+same-length c = c .before .loop .inv .1 .long
+
+returns : tie.Need-returns Inv-loop μ-loop
+returns c = let l = c .before .loop in tallied-all _ _ _ _ (l .i) (l .inv .0) (omega arith) (l .inv .1)
+
+pub tally-spec : {M : Type 1} → statement M
+tally-spec =
+    tie.close
+    (tie.spec
+    Inv-loop
+    μ-loop
+    loop-holds
+    mul-wide
+    shared-slice-read-wide
+    wide-requires
+    add-at
+    mul-off
+    slice-read-off
+    add-off
+    mul-off-2
+    slice-write-off
+    add-i
+    loop-less
+    loop-again
+    same-length
+    returns)

@@ -1,0 +1,8 @@
+-- A lent slice cleared from a place on.
+use Prim.Native.Nat.{ℕ, _-_}
+use mathlib.Core.List.{List, _++_}
+use lib.ListN.{length, take, replicate}
+
+-- the first n entries of l, then a up to its length
+abbrev pub clearedFrom : {A : Type 0} → ℕ → A → List A → List A
+clearedFrom n a l = take n l ++ replicate (length l - n) a

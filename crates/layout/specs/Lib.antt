@@ -1,0 +1,4 @@
+pub mod Cleared
+pub mod Regions
+pub mod Rooms
+pub mod Degree

@@ -1,0 +1,71 @@
+-- `utils::sum_of`: before each turn x and y are the sum of the points passed. Assumes nothing.
+use mathlib.Core.Path.{_≡_, refl, ap, _∙_}
+use Prim.Native.Nat.{_-_, _≤_}
+use native.Mathlib.Nat.{le-antisymm}
+use native.Mathlib.Omega.{arith}
+use Rattle.utils.specs.Plane.{at}
+use Rattle.utils.specs.Centroid.{sumTo, sum-more}
+use Rattle.utils.proofs.sum_of.Statement.{statement}
+use Rattle.utils.proofs.sum_of.Tie as tie
+
+abbrev Inv-loop : tie.InvT-loop
+Inv-loop points count x₀ y₀ i₀ x y i = (i ≤ count) × (at x y ≡ sumTo points i)
+
+abbrev μ-loop : tie.MeasureT-loop
+μ-loop points count x₀ y₀ i₀ x y i = count - i
+
+loop-holds : tie.Need-loop-holds Inv-loop μ-loop
+unfolding sumTo
+loop-holds c = (omega arith, refl)
+
+mul-x : tie.Need-mul-x Inv-loop μ-loop
+mul-x c = omega arith
+
+mul-x-2 : tie.Need-mul-x-2 Inv-loop μ-loop
+mul-x-2 c = omega arith
+
+shared-slice-read-x : tie.Need-shared-slice-read-x Inv-loop μ-loop
+shared-slice-read-x c = omega arith
+
+mul-y : tie.Need-mul-y Inv-loop μ-loop
+mul-y c = omega arith
+
+add-y : tie.Need-add-y Inv-loop μ-loop
+add-y c = omega arith
+
+mul-y-2 : tie.Need-mul-y-2 Inv-loop μ-loop
+mul-y-2 c = omega arith
+
+shared-slice-read-y : tie.Need-shared-slice-read-y Inv-loop μ-loop
+shared-slice-read-y c = omega arith
+
+add-i : tie.Need-add-i Inv-loop μ-loop
+add-i c = omega arith
+
+loop-less : tie.Need-loop-less Inv-loop μ-loop
+loop-less c = omega arith
+
+loop-again : tie.Need-loop-again Inv-loop μ-loop
+loop-again c = (omega arith, sum-more _ (c .before .before .before .loop .i) (c .before .before .before .loop .inv .1))
+
+returns : tie.Need-returns Inv-loop μ-loop
+returns c = c .before .loop .inv .1 ∙ ap (sumTo _) (omega arith)
+
+pub sum-of-spec : {M : Type 1} → statement M
+sum-of-spec =
+    tie.close
+    (tie.spec
+    Inv-loop
+    μ-loop
+    loop-holds
+    mul-x
+    mul-x-2
+    shared-slice-read-x
+    mul-y
+    add-y
+    mul-y-2
+    shared-slice-read-y
+    add-i
+    loop-less
+    loop-again
+    returns)

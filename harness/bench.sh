@@ -1,0 +1,16 @@
+#!/bin/sh
+# Times the Rust and the library on the same meshes, in turn: harness/bench.sh [--rounds N] [--traps] [--full].
+# On x86-64 the library is its archive. On another machine, where the archive would run under an emulator and its time
+# say nothing, the module that the toolchain hands to its own compiler is compiled for this machine instead.
+set -eu
+here=$(cd "$(dirname "$0")" && pwd)
+root=$(cd "$here/.." && pwd)
+export VORONOI_SOURCE="${VORONOI_SOURCE:-$root/../shared/docs/src}"
+(cd "$here" && cargo build --release --offline --quiet)
+if [ "$(uname -m)" = x86_64 ]; then
+    VORONOI_SERVER=$("$here/serve.sh")
+else
+    VORONOI_SERVER=$("$here/native.sh")
+fi
+export VORONOI_SERVER
+exec "$root/target/harness/release/bench" "$@"

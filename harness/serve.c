@@ -1,0 +1,172 @@
+/* Serves the library's C interface over standard input and output, so that a program on any machine can ask it.
+ *
+ * First one line with the names of the calls there are, in order. Then frames, each answered by the same frame with the
+ * calls made: 8 bytes of length, then bodies. A body is the call's number and its count of arguments (u32 each), then
+ * for each argument its element size and count (u32 each) and its elements, padded to 8 bytes. Argument 0 is the result.
+ * harness/serve.sh defines HAS_.. for each part that the archive has. No header of the C library is used. */
+#include "voronoi.h"
+
+long read(int from, void *at, size_t length);
+long write(int to, const void *at, size_t length);
+void *malloc(size_t length);
+void free(void *at);
+
+typedef struct {
+    uint32_t size, count;
+    void *at;
+} argument;
+
+/* Argument i as a slice of floats or indexes, a pointer to one, or the number itself. */
+#define F(i) (double *)a[i].at, (size_t)a[i].count
+#define U(i) (uint32_t *)a[i].at, (size_t)a[i].count
+#define PF(i) ((double *)a[i].at)
+#define PU(i) ((uint32_t *)a[i].at)
+#define X(i) (*(double *)a[i].at)
+#define N(i) (*(uint32_t *)a[i].at)
+#define B(i) (*(uint64_t *)a[i].at)
+#define MESH(i) F(i), U(i + 1), U(i + 2), U(i + 3)
+
+#ifdef HAS_roots
+static void root_bits(argument *a) { B(0) = voronoi_root_bits(B(1)); }
+static void root(argument *a) { X(0) = voronoi_root(X(1)); }
+static void magnitude_bits(argument *a) { B(0) = voronoi_magnitude_bits(B(1)); }
+static void magnitude(argument *a) { X(0) = voronoi_magnitude(X(1)); }
+static void signum_bits(argument *a) { B(0) = voronoi_signum_bits(B(1)); }
+static void signum(argument *a) { X(0) = voronoi_signum(X(1)); }
+#endif
+
+#define BOX(i) X(i), X(i + 1), X(i + 2), X(i + 3)
+
+#ifdef HAS_plane
+static void abs_diff_eq(argument *a) { N(0) = voronoi_abs_diff_eq(X(1), X(2)); }
+static void dist2(argument *a) { N(0) = voronoi_dist2(X(1), X(2), X(3), X(4), PF(5)); }
+static void circumcenter(argument *a) { N(0) = voronoi_circumcenter(X(1), X(2), X(3), X(4), X(5), X(6), PF(7), PF(8)); }
+static void centroid(argument *a) { N(0) = voronoi_centroid(F(1), PF(2), PF(3)); }
+static void box(argument *a) { N(0) = voronoi_box(BOX(1), PF(5), PF(6), PF(7), PF(8), PF(9), PF(10)); }
+static void corners(argument *a) { N(0) = voronoi_corners(BOX(1), F(5)); }
+static void is_inside(argument *a) { N(0) = voronoi_is_inside(BOX(1), X(5), X(6), PU(7)); }
+static void is_exclusively_inside(argument *a) { N(0) = voronoi_is_exclusively_inside(BOX(1), X(5), X(6), PU(7)); }
+static void which_edge(argument *a) { N(0) = voronoi_which_edge(BOX(1), X(5), X(6), PU(7)); }
+static void intersect_line(argument *a)
+{
+    N(0) = voronoi_intersect_line(BOX(1), X(5), X(6), X(7), X(8), PU(9), PF(10), PF(11), PF(12), PF(13));
+}
+static void project_ray(argument *a)
+{
+    N(0) = voronoi_project_ray(BOX(1), X(5), X(6), X(7), X(8), PU(9), PF(10), PF(11), PF(12), PF(13));
+}
+#endif
+
+#ifdef HAS_builds
+#define LENT(i) U(i), F(i + 1), U(i + 2), U(i + 3), U(i + 4)
+static void build(argument *a) { N(0) = voronoi_build(BOX(1), MESH(5), LENT(9)); }
+static void build_unclipped(argument *a) { N(0) = voronoi_build_unclipped(MESH(1), LENT(5)); }
+static void cell(argument *a) { N(0) = voronoi_cell(U(1), U(2), N(3), PU(4), PU(5)); }
+
+struct instant {
+    int64_t seconds, nanoseconds;
+};
+int clock_gettime(int clock, struct instant *now);
+enum { CPU_TIME_OF_THREAD = 3 };
+
+/* A build by itself, its processor time in nanoseconds as the result. */
+static void time_build(argument *a)
+{
+    struct instant start, end;
+    clock_gettime(CPU_TIME_OF_THREAD, &start);
+    uint32_t number = voronoi_build(BOX(1), MESH(5), LENT(9));
+    clock_gettime(CPU_TIME_OF_THREAD, &end);
+    B(0) = number ? 0 : (uint64_t)((end.seconds - start.seconds) * 1000000000 + end.nanoseconds - start.nanoseconds);
+}
+#endif
+
+static const struct {
+    const char *name;
+    void (*call)(argument *);
+} calls[] = {
+#ifdef HAS_roots
+    {"root_bits", root_bits}, {"root", root}, {"magnitude_bits", magnitude_bits}, {"magnitude", magnitude},
+    {"signum_bits", signum_bits}, {"signum", signum},
+#endif
+#ifdef HAS_plane
+    {"abs_diff_eq", abs_diff_eq}, {"dist2", dist2}, {"circumcenter", circumcenter}, {"centroid", centroid}, {"box", box},
+    {"corners", corners}, {"is_inside", is_inside}, {"is_exclusively_inside", is_exclusively_inside},
+    {"which_edge", which_edge}, {"intersect_line", intersect_line}, {"project_ray", project_ray},
+#endif
+#ifdef HAS_builds
+    {"build", build}, {"build_unclipped", build_unclipped}, {"cell", cell}, {"time_build", time_build},
+#endif
+};
+
+enum { CALLS = sizeof calls / sizeof calls[0], MOST = 32 };
+
+static int take(void *at, size_t length)
+{
+    for (size_t done = 0; done < length;) {
+        long n = read(0, (char *)at + done, length - done);
+        if (n <= 0) return 0;
+        done += (size_t)n;
+    }
+    return 1;
+}
+
+static int give(const void *at, size_t length)
+{
+    for (size_t done = 0; done < length;) {
+        long n = write(1, (const char *)at + done, length - done);
+        if (n <= 0) return 0;
+        done += (size_t)n;
+    }
+    return 1;
+}
+
+static int announce(void)
+{
+    for (size_t i = 0; i < CALLS; i++) {
+        size_t n = 0;
+        while (calls[i].name[n]) n++;
+        if (!give(calls[i].name, n) || !give(" ", 1)) return 0;
+    }
+    return give("\n", 1);
+}
+
+/* Makes the call of the body at `at` and gives its length, or 0 where it is no body. */
+static size_t serve(unsigned char *at)
+{
+    uint32_t *head = (uint32_t *)at;
+    argument a[MOST];
+    if (head[0] >= CALLS || head[1] > MOST) return 0;
+    size_t length = 8;
+    for (uint32_t i = 0; i < head[1]; i++) {
+        uint32_t *shape = (uint32_t *)(at + length);
+        a[i].size = shape[0];
+        a[i].count = shape[1];
+        a[i].at = at + length + 8;
+        length += 8 + (((size_t)shape[0] * shape[1] + 7) & ~(size_t)7);
+    }
+    calls[head[0]].call(a);
+    return length;
+}
+
+int main(void)
+{
+    unsigned char *frame = 0;
+    uint64_t room = 0, length;
+    if (!announce()) return 1;
+    while (take(&length, sizeof length)) {
+        if (length > room) {
+            free(frame);
+            frame = malloc(length);
+            room = length;
+            if (!frame) return 1;
+        }
+        if (!take(frame, length)) return 1;
+        for (uint64_t at = 0; at < length;) {
+            size_t n = serve(frame + at);
+            if (n == 0) return 1;
+            at += n;
+        }
+        if (!give(&length, sizeof length) || !give(frame, length)) return 1;
+    }
+    return 0;
+}

@@ -1,0 +1,106 @@
+//! Puts cases to the Rust, to document 01 read a second time and to the proved library, and tells the first difference.
+//!
+//!     compare [--cases N] [--plane N] [--roots N] [--seed S] [--from I]
+//!     compare --case I [--seed S]      one mesh case alone, with its mesh
+//!
+//! By default 20,000 meshes, 100,000 inputs to each plane function and 10,000 patterns of each class to the roots.
+//! The library is served by the command in VORONOI_SERVER (harness/serve.sh makes it).
+
+use harness::cases::Case;
+use harness::library::{Difference, Library};
+use harness::tally::{Tally, CALLS};
+use harness::{compare, plane, roots, rust, text};
+use std::time::{Duration, Instant};
+
+fn main() {
+    let args: Vec<String> = std::env::args().skip(1).collect();
+    let option = |name: &str| {
+        let at = args.iter().position(|a| a == name)?;
+        let word = args.get(at + 1).unwrap_or_else(|| stop(&format!("{name} wants a number")));
+        Some(word.replace([',', '_'], "").parse::<u64>().unwrap_or_else(|_| stop(&format!("{name} wants a number"))))
+    };
+    let seed = option("--seed").unwrap_or(1);
+    rust::quiet();
+    let mut library = Library::start().unwrap_or_else(|e| stop(&e));
+
+    if let Some(i) = option("--case") {
+        let case = Case::random(seed, i);
+        print!("{}", text::write(&case.mesh, Some(&case.area)));
+        println!("{:?}", Case { mesh: Default::default(), ..case.clone() });
+        let told = compare::run(i, &case, &mut library, &mut Tally::new()).and_then(|()| library.flush());
+        match told {
+            Ok(()) => println!("no difference"),
+            Err(d) => stop(&d.words),
+        }
+        return;
+    }
+
+    match library.names() {
+        [] => println!("NO LIBRARY: only the Rust and document 01 are compared"),
+        names => println!("The library is asked: {}", names.join(" ")),
+    }
+    let cases = option("--cases").unwrap_or(20_000);
+    let mut holes = Vec::new();
+    if cases > 0 {
+        holes.extend(meshes(seed, option("--from").unwrap_or(0), cases, &mut library));
+    }
+    let n = option("--plane").unwrap_or(100_000);
+    if n > 0 {
+        let before = library.compared;
+        let seen = plane::run(seed, n, &mut library).unwrap_or_else(|d| tell("plane", seed, &d));
+        holes.extend(plane::report(&seen));
+        println!("\n{n} inputs to each plane function, {} calls of the library compared, 0 differences", library.compared - before);
+    }
+    let n = option("--roots").unwrap_or(10_000);
+    if n > 0 && library.has("root_bits") {
+        let before = library.compared;
+        roots::run(seed, n, &mut library).unwrap_or_else(|d| tell("root", seed, &d));
+        println!("\nRoots: {n} patterns of each class ({}), {} calls compared, 0 differences", roots::CLASSES.join(", "), library.compared - before);
+    }
+    if !holes.is_empty() {
+        stop(&format!("never came up: {}", holes.join(", ")));
+    }
+}
+
+/// The limits, then the random cases; gives what never came up.
+fn meshes(seed: u64, from: u64, cases: u64, library: &mut Library) -> Vec<String> {
+    let mut tally = Tally::new();
+    let start = Instant::now();
+    for (name, case) in Case::limits(seed) {
+        let told = compare::run(0, &case, library, &mut tally).and_then(|()| library.flush());
+        told.unwrap_or_else(|d| stop(&format!("DIFFERENCE in the limit case \"{name}\" of seed {seed}\n{}", d.words)));
+    }
+    let mut told = Instant::now();
+    for i in from..from + cases {
+        compare::run(i, &Case::random(seed, i), library, &mut tally).unwrap_or_else(|d| differs(seed, &d));
+        if told.elapsed() > Duration::from_secs(10) {
+            told = Instant::now();
+            let done = i - from + 1;
+            let seconds = start.elapsed().as_secs_f64();
+            eprintln!("{done} of {cases} cases, {} calls of the library compared, no difference, {seconds:.0} s", library.compared);
+        }
+    }
+    library.flush().unwrap_or_else(|d| differs(seed, &d));
+    let holes = tally.report();
+    let asked = CALLS.iter().filter(|c| library.has(c.name)).count();
+    println!(
+        "\n{} mesh cases, {} calls of the library ({asked} of {} functions on meshes) compared, 0 differences, {:.1} s",
+        tally.cases, library.compared, CALLS.len(), start.elapsed().as_secs_f64()
+    );
+    holes
+}
+
+fn differs(seed: u64, d: &Difference) -> ! {
+    let case = Case::random(seed, d.case);
+    print!("{}", text::write(&case.mesh, Some(&case.area)));
+    stop(&format!("DIFFERENCE in case {0} of seed {seed} (again: compare --case {0} --seed {seed})\n{1}", d.case, d.words))
+}
+
+fn tell<T>(what: &str, seed: u64, d: &Difference) -> T {
+    stop(&format!("DIFFERENCE in a {what} function, input {} of seed {seed}\n{}", d.case, d.words))
+}
+
+fn stop(words: &str) -> ! {
+    eprintln!("{words}");
+    std::process::exit(1)
+}

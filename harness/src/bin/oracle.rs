@@ -1,0 +1,164 @@
+//! Reads a text mesh (see src/text.rs) from the named file or standard input and prints what the Rust's release
+//! build answers, with the marks and refusals that document 01 adds beside it.
+//!
+//!     oracle [FILE]            one mesh
+//!     oracle --check FILE..    only whether each file's `answer` lines are among what would be printed
+//!     oracle --form FILE       the mesh as the program `cells` reads it, on standard output
+//!     oracle --listing FILE    what the program `cells` must print for it
+
+use harness::mesh::{Mesh, Pt};
+use harness::reference::{self, Counts, Mark};
+use harness::text::{self, row, show};
+use harness::{form, rust};
+use std::io::{Read, Write};
+
+fn main() {
+    rust::quiet();
+    let args: Vec<String> = std::env::args().skip(1).collect();
+    let open = |file: &String| std::fs::read_to_string(file).unwrap_or_else(|e| stop(&format!("{file}: {e}")));
+    if args.first().is_some_and(|a| a == "--check") {
+        let mut answers = 0;
+        for file in &args[1..] {
+            let input = text::read(&open(file)).unwrap_or_else(|e| stop(&format!("{file}: {e}")));
+            let lines = listing(&input);
+            if input.answers.is_empty() {
+                stop(&format!("{file}: no answer is stored"));
+            }
+            for a in &input.answers {
+                if !lines.iter().any(|l| l == a) {
+                    stop(&format!("{file}: not answered: {a}\n{}", lines.join("\n")));
+                }
+                answers += 1;
+            }
+        }
+        println!("{} meshes with {answers} stored lines: all answered", args.len() - 1);
+        return;
+    }
+    if let [verb @ ("--form" | "--listing"), file] = &args.iter().map(String::as_str).collect::<Vec<_>>()[..] {
+        let input = text::read(&open(&file.to_string())).unwrap_or_else(|e| stop(&format!("{file}: {e}")));
+        if *verb == "--form" {
+            std::io::stdout().write_all(&form::bytes(&input.mesh, input.clip.as_ref())).unwrap();
+        } else {
+            print!("{}", form::listing(&input.mesh, input.clip.as_ref()).unwrap_or_else(|e| stop(&e)));
+        }
+        return;
+    }
+    let text = match args.first() {
+        Some(file) => open(file),
+        None => {
+            let mut text = String::new();
+            std::io::stdin().read_to_string(&mut text).unwrap_or_else(|e| stop(&e.to_string()));
+            text
+        }
+    };
+    let input = text::read(&text).unwrap_or_else(|e| stop(&e));
+    for line in listing(&input) {
+        println!("{line}");
+    }
+}
+
+fn stop(words: &str) -> ! {
+    eprintln!("{words}");
+    std::process::exit(2)
+}
+
+/// The refusals up to 10 and 11, 12 are document 01's, before the Rust is asked; 13 to 15 are its panics.
+fn listing(input: &text::Input) -> Vec<String> {
+    let m = &input.mesh;
+    let number = if !reference::counts_sound(m) {
+        1
+    } else if input.clip.is_some_and(|a| !reference::box_sound(&a)) {
+        3
+    } else if !reference::coordinates_sound(&m.sites) {
+        6
+    } else {
+        reference::topology(m)
+    };
+    if number != 0 {
+        return vec![format!("refused {number}")];
+    }
+    let lent = rust::Lent::new(m);
+    let mut lines = vec![row("leftmost", &lent.leftmost())];
+    let ours = reference::build(m, input.clip.as_ref(), &mut Counts::default());
+    let cells = match ours {
+        Err(n @ (11 | 12)) => {
+            lines.push(format!("refused {n}"));
+            None
+        }
+        _ => match (&ours, rust::build(&lent, input.clip.as_ref())) {
+            (Err(n), Err(Ok(k))) if *n == k => {
+                lines.push(format!("refused {n}"));
+                None
+            }
+            (Ok(o), Ok(t)) if same(o, &t) => {
+                lines.extend(built(o, input.clip.is_some()));
+                Some(t.cells)
+            }
+            (o, t) => stop(&format!("DIFFERENCE between the Rust and the reading of 01:\nRust {t:?}\n01   {o:?}")),
+        },
+    };
+    lines.extend(questions(m, &lent, cells, &input.paths));
+    lines
+}
+
+fn bits(list: &[Pt]) -> Vec<(u64, u64)> {
+    list.iter().map(|p| (p.x.to_bits(), p.y.to_bits())).collect()
+}
+
+fn same(o: &reference::Build, t: &rust::Built) -> bool {
+    o.leftmost == t.leftmost && o.owners == t.owners && o.plain() == t.cells && bits(&o.vertices) == bits(&t.vertices)
+}
+
+fn built(b: &reference::Build, clipped: bool) -> Vec<String> {
+    let mut lines = vec![format!("vertices {}", b.vertices.len())];
+    for (i, v) in b.vertices.iter().enumerate() {
+        lines.push(format!("vertex {i}: {:#018x} {:#018x}   {} {}", v.x.to_bits(), v.y.to_bits(), show(v.x), show(v.y)));
+    }
+    for (s, cell) in b.plain().iter().enumerate() {
+        lines.push(row(&format!("cell {s}"), cell));
+    }
+    for (s, cell) in b.cells.iter().enumerate() {
+        let words = cell.iter().map(|e| {
+            let mark = match e.mark {
+                Mark::Circumcenter => 't',
+                Mark::Crossing => 'x',
+                Mark::Wrapped => 'w',
+            };
+            format!(" {}{mark}", e.vertex)
+        });
+        lines.push(format!("marks {s}:{}", words.collect::<String>()));
+    }
+    if clipped {
+        lines.push(format!("{} lost {}", row("corners", &b.owners), b.lost));
+    }
+    lines
+}
+
+fn questions(m: &Mesh, lent: &rust::Lent, cells: Option<Vec<Vec<u32>>>, paths: &[(usize, Pt)]) -> Vec<String> {
+    let mut lines = Vec::new();
+    let built = cells.is_some();
+    let v = rust::diagram(lent, &cells.unwrap_or_else(|| vec![Vec::new(); m.count()]));
+    let left = reference::leftmost(m);
+    for s in 0..m.count() {
+        let (w, n) = (rust::walk(&v, s), rust::neighbours(&v, s));
+        assert!(w == reference::walk(m, &left, s) && n == reference::neighbours(m, &left, s));
+        lines.push(row(&format!("walk {s}"), &w));
+        lines.push(row(&format!("neighbours {s}"), &n));
+        if built {
+            lines.push(row(&format!("clipped neighbours {s}"), &rust::clipped_neighbours(&v, s)));
+        }
+    }
+    for &(s, to) in paths {
+        let head = format!("path {s} to {} {}", show(to.x), show(to.y));
+        if s >= m.count() {
+            lines.push(format!("{head}: refused 4"));
+        } else if !(reference::ordinary(to.x) && reference::ordinary(to.y)) {
+            lines.push(format!("{head}: refused 5"));
+        } else {
+            let p = rust::path(&v, s, to);
+            assert!(p == reference::path(m, &left, s, to));
+            lines.push(row(&head, &p));
+        }
+    }
+    lines
+}

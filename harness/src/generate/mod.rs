@@ -1,0 +1,9 @@
+//! Meshes, boxes and questions to ask both sides.
+
+pub mod areas;
+pub mod damage;
+pub mod delaunay;
+pub mod floats;
+pub mod meshes;
+pub mod rng;
+pub mod topology;

@@ -1,0 +1,17 @@
+//! The Rust's answers, document 01's answers, and the meshes that both are asked about.
+
+pub mod bench;
+pub mod cases;
+pub mod compare;
+pub mod expect;
+pub mod form;
+pub mod generate;
+pub mod library;
+pub mod mesh;
+pub mod plane;
+pub mod reference;
+pub mod roots;
+pub mod rust;
+pub mod stored;
+pub mod tally;
+pub mod text;

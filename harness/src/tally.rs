@@ -1,0 +1,110 @@
+//! How often each refusal of each call and each branch of the build came up; a case that never comes up is a hole.
+
+use crate::reference::{Counts, BRANCHES};
+
+pub struct Call {
+    pub name: &'static str,
+    /// The numbers that this call can answer.
+    pub numbers: &'static [u32],
+}
+
+const MESH: &[u32] = &[0, 1, 2, 6, 7, 8, 9, 10];
+const AT_SITE: &[u32] = &[0, 1, 2, 4, 6, 7, 8, 9, 10];
+
+pub const CALLS: &[Call] = &[
+    Call { name: "check", numbers: MESH },
+    Call { name: "walk", numbers: AT_SITE },
+    Call { name: "neighbours", numbers: AT_SITE },
+    Call { name: "clipped_neighbours", numbers: &[0, 1, 2, 4, 6, 7, 8, 9, 10, 16] },
+    Call { name: "path", numbers: &[0, 1, 2, 4, 5, 6, 7, 8, 9, 10] },
+    Call { name: "shared_edge", numbers: MESH },
+    Call { name: "cells_share_edge", numbers: &[0, 4, 16] },
+    Call { name: "cell", numbers: &[0, 4, 16] },
+    Call { name: "build", numbers: &[0, 1, 2, 3, 6, 7, 8, 9, 10, 11, 12, 13, 14] },
+    Call { name: "build_unclipped", numbers: &[0, 1, 2, 6, 7, 8, 9, 10, 11] },
+];
+
+const NUMBERS: usize = 18;
+
+#[derive(Default)]
+pub struct Tally {
+    pub cases: u64,
+    pub numbers: Vec<[u64; NUMBERS]>,
+    pub branches: Counts,
+    /// How long the lent slice was against the list: 0, shorter, as long, longer.
+    pub allowances: [u64; 4],
+    pub most_vertices: f64,
+    pub most_entries: f64,
+}
+
+impl Tally {
+    pub fn new() -> Tally {
+        Tally { numbers: vec![[0; NUMBERS]; CALLS.len()], ..Tally::default() }
+    }
+
+    pub fn number(&mut self, call: &str, number: u32) {
+        let i = CALLS.iter().position(|c| c.name == call).unwrap();
+        self.numbers[i][number as usize] += 1;
+    }
+
+    /// Allowance 0, below the whole, the whole, more.
+    pub fn allowance(&mut self, given: usize, whole: usize) {
+        let i = match given {
+            0 => 0,
+            g if g < whole => 1,
+            g if g == whole => 2,
+            _ => 3,
+        };
+        self.allowances[i] += 1;
+    }
+
+    /// Prints the table and gives the names of what never came up.
+    pub fn report(&self) -> Vec<String> {
+        let mut holes = Vec::new();
+        println!("\nHow often each call answered each number (0: accepted)\n");
+        print!("{:20}", "");
+        for n in 0..NUMBERS - 1 {
+            print!("{n:>9}");
+        }
+        println!();
+        for (call, row) in CALLS.iter().zip(&self.numbers) {
+            print!("{:20}", call.name);
+            for n in 0..NUMBERS - 1 {
+                let count = row[n];
+                if call.numbers.contains(&(n as u32)) {
+                    print!("{count:>9}");
+                    if count == 0 {
+                        holes.push(format!("{} {n}", call.name));
+                    }
+                } else if count > 0 {
+                    print!("{:>9}", format!("{count}!"));
+                    holes.push(format!("{} {n} is no answer of that call", call.name));
+                } else {
+                    print!("{:>9}", "");
+                }
+            }
+            println!();
+        }
+        println!("\nAllowances: 0 {}, short {}, exact {}, more {}", self.allowances[0], self.allowances[1], self.allowances[2], self.allowances[3]);
+        for (i, name) in ["0", "short", "exact", "more"].iter().enumerate() {
+            if self.allowances[i] == 0 {
+                holes.push(format!("allowance {name}"));
+            }
+        }
+        println!("\nHow often each branch of the build was taken\n");
+        let column = (BRANCHES + 2) / 3;
+        for i in 0..column {
+            for j in (i..BRANCHES).step_by(column) {
+                print!("{:34}{:>12}   ", Counts::name(j), self.branches.0[j]);
+            }
+            println!();
+        }
+        for i in 0..BRANCHES {
+            if self.branches.0[i] == 0 {
+                holes.push(Counts::name(i));
+            }
+        }
+        println!("\nRoom used at most: vertices {:.3}, entries {:.3}", self.most_vertices, self.most_entries);
+        holes
+    }
+}

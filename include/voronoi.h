@@ -1,0 +1,112 @@
+/* The C interface of libvoronoi.a (rt staticlib voronoi; x86-64 Linux).
+ *
+ * A call that can refuse answers a number, 0 where it accepts. A slice is a pointer and a length in elements; one of length 0
+ * may have any pointer but NULL. Lent slices must not overlap. No call has another precondition, and each ends on every input.
+ * In C as in Rust, a slice must be as long as is said, and what a `const` pointer shows must not change during the call. */
+#ifndef VORONOI_H
+#define VORONOI_H
+
+#include <stddef.h>
+#include <stdint.h>
+
+#ifdef __cplusplus
+extern "C" {
+#endif
+
+/* ---- numbers */
+
+/* An index that is none: an unpaired half-edge, a cleared entry. */
+#define VORONOI_EMPTY UINT32_C(4294967295)
+
+/* What is accepted. */
+#define VORONOI_LEAST_SITES 3
+#define VORONOI_MOST_SITES 65536
+#define VORONOI_LEAST_TRIANGLES 1
+#define VORONOI_MOST_TRIANGLES 131072
+
+/* What a build must be lent, for T triangles, H hull sites and N sites: vertices (two floats each), indexes, offsets, work. */
+#define VORONOI_VERTEX_ROOM(T, H) (7 * (size_t)(T) + 5 * (size_t)(H) + 4)
+#define VORONOI_INDEX_ROOM(T, H) (12 * (size_t)(T) + 8 * (size_t)(H) + 4)
+#define VORONOI_OFFSET_ROOM(N) ((size_t)(N) + 1)
+#define VORONOI_WORK_ROOM(N) ((size_t)(N))
+
+/* ---- refusals, in the order in which they are tried */
+
+#define VORONOI_ACCEPTED 0
+#define VORONOI_COUNT 1        /* a count breaks its limit, an odd site list, triangles not in threes, half-edges not as many */
+#define VORONOI_ROOM 2         /* a lent output or work slice is below its room */
+#define VORONOI_BOX 3          /* the box breaks its rule */
+#define VORONOI_SITE 4         /* a site number is not below the site count */
+#define VORONOI_DESTINATION 5  /* the destination breaks its rule */
+#define VORONOI_COORDINATE 6   /* a coordinate breaks its rule */
+#define VORONOI_TRIANGLE 7     /* a triangle names no site, or one twice */
+#define VORONOI_PAIRING 8      /* pairing broken */
+#define VORONOI_HULL 9         /* hull broken */
+#define VORONOI_FAN 10         /* fan broken */
+#define VORONOI_CIRCUMCENTER 11 /* a circumcenter breaks its rule */
+#define VORONOI_EXTENSION 12   /* an extended point is not finite */
+#define VORONOI_NO_CROSSING 13 /* an edge with one end inside finds no crossing */
+#define VORONOI_ONE_CROSSING 14 /* an edge with both ends outside finds exactly one crossing */
+#define VORONOI_NO_SIDE 15     /* a clipped vertex lies on no side */
+#define VORONOI_OFFSETS 16     /* cell offsets not one more than sites, not from 0, falling, or past the list's end */
+#define VORONOI_FORM 17        /* the form is broken (the program `cells` alone) */
+
+/* ---- roots: none refuses
+ * On patterns (`_bits`): the 64 bits of an f64. A NaN is answered as 0x7FF8000000000000, and every answer is one pattern only.
+ * On f64: the same values. That a NaN has that pattern too is tested on the archive and not proved. */
+
+/* The square root, to the nearest f64, ties to even: IEEE 754-2019's squareRoot. Of -0 it is -0, of a NaN or below 0 a NaN. */
+uint64_t voronoi_root_bits(uint64_t b);
+double voronoi_root(double x);
+
+/* The sign bit cleared. On patterns a NaN keeps its other bits. */
+uint64_t voronoi_magnitude_bits(uint64_t b);
+double voronoi_magnitude(double x);
+
+/* 1 with the sign of the argument: 1 for +0, -1 for -0. Of a NaN it is a NaN. */
+uint64_t voronoi_signum_bits(uint64_t b);
+double voronoi_signum(double x);
+
+/* ---- points and the box
+ * A box is its centre (cx, cy), width and height. 3 is tried on it first, then 6 on each point, a ray's direction included.
+ * A number lent by pointer is always written: 0 where the call refuses, EMPTY for a side. */
+
+/* Whether a and b are within 2^-50, by the computed difference: 1 or 0. Refuses nothing; a NaN is within no tolerance. */
+uint32_t voronoi_abs_diff_eq(double a, double b);
+
+/* The squared distance of (ax, ay) and (bx, by). 6. */
+uint32_t voronoi_dist2(double ax, double ay, double bx, double by, double *d);
+
+/* The circumcenter of three points. 6, then 11. */
+uint32_t voronoi_circumcenter(double ax, double ay, double bx, double by, double cx, double cy, double *x, double *y);
+
+/* The centroid of 1 to 65,536 points, x and y in turn: `length` counts numbers. 1 (also for an odd length), then 6. */
+uint32_t voronoi_centroid(const double *points, size_t length, double *x, double *y);
+
+/* The box's edges, then its width and height recomputed from them. 3. */
+uint32_t voronoi_box(double cx, double cy, double width, double height,
+    double *left, double *top, double *right, double *bottom, double *across, double *down);
+
+/* Its corners, x and y each: top left, bottom left, bottom right, top right. 2 below 8 numbers of room, then 3; both leave the
+ * slice as it was. What is past the corners is cleared. */
+uint32_t voronoi_corners(double cx, double cy, double width, double height, double *out, size_t length);
+
+/* Whether (x, y) is inside the box or on its edges, and whether it is inside and on no side: 1 or 0. 3, then 6. */
+uint32_t voronoi_is_inside(double cx, double cy, double width, double height, double x, double y, uint32_t *inside);
+uint32_t voronoi_is_exclusively_inside(double cx, double cy, double width, double height, double x, double y, uint32_t *inside);
+
+/* The side whose line (x, y) is on within 2^-50, the first of top 0, bottom 2, right 3, left 1; EMPTY for none. 3, then 6. */
+uint32_t voronoi_which_edge(double cx, double cy, double width, double height, double x, double y, uint32_t *side);
+
+/* Where the line through (px, py) and (qx, qy) meets the box, or the ray from (px, py) in the direction (dx, dy), the nearer point
+ * first: how many points, 0 to 2, then the first's and the second's coordinates, 0 where there is none. 3, then 6. */
+uint32_t voronoi_intersect_line(double cx, double cy, double width, double height, double px, double py, double qx, double qy,
+    uint32_t *count, double *x, double *y, double *u, double *v);
+uint32_t voronoi_project_ray(double cx, double cy, double width, double height, double px, double py, double dx, double dy,
+    uint32_t *count, double *x, double *y, double *u, double *v);
+
+#ifdef __cplusplus
+}
+#endif
+
+#endif

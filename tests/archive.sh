@@ -1,0 +1,69 @@
+#!/bin/sh
+# C programs over libvoronoi.a, run from anywhere in the repository.
+#
+#   tests/archive.sh make                     the archive, where it is missing or older than the crates
+#   tests/archive.sh build PROGRAM FILE.c..   the archive, made where it is missing or older than the crates, and a program linked with it
+#   tests/archive.sh run PROGRAM WORD..       runs it
+#
+# The archive is for x86-64. On such a machine gcc builds the program; on another the toolchain's own clang, C library and emulator do.
+# The toolchain has no headers of its C library, so the C files use none but stddef.h and stdint.h, and declare what they call.
+set -eu
+root=$(cd "$(dirname "$0")/.." && pwd)
+kit=${RATTLE_HOME:-$(dirname "$(dirname "$(readlink -f "$(command -v rt)")")")}
+tools=$kit/on/$(uname -m)/toolchain
+archive=${ARCHIVE:-$root/target/staticlib/libvoronoi.a}
+flags="-std=c11 -O2 -ffreestanding -fno-math-errno -Wall -Wextra -Werror ${MORE_FLAGS-}"
+
+make_archive() {
+    if [ -n "${ARCHIVE-}" ]; then return; fi
+    if [ ! -f "$archive" ] || [ -n "$(find "$root/crates" "$root/crates.txt" -newer "$archive" | head -n 1)" ]; then
+        mkdir -p "$root/target/log"
+        (cd "$root" && rt staticlib voronoi) >"$root/target/log/archive.say" 2>&1 || {
+            cat "$root/target/log/archive.say"
+            exit 1
+        }
+        touch "$archive"
+    fi
+}
+
+build() {
+    program=$1
+    shift
+    mkdir -p "$(dirname "$program")"
+    if [ "$(uname -m)" = x86_64 ]; then
+        # shellcheck disable=SC2086
+        gcc $flags -I "$root/include" -o "$program" "$@" "$archive"
+        return
+    fi
+    objects=
+    for file in "$@"; do
+        object=$program.$(basename "$file" .c).o
+        # shellcheck disable=SC2086
+        "$tools/bin/clang" --target=x86_64-linux-gnu $flags -fPIE -nostdinc -isystem "$(gcc -print-file-name=include)" -I "$root/include" -c "$file" -o "$object"
+        objects="$objects $object"
+    done
+    lib=$tools/lib
+    # shellcheck disable=SC2086
+    "$tools/bin/ld.lld" -pie -dynamic-linker "$lib/ld-linux-x86-64.so.2" -o "$program" "$lib/Scrt1.o" "$lib/crti.o" "$lib/crtbeginS.o" \
+        $objects "$archive" "$lib/libc.so.6" "$lib/libc_nonshared.a" "$lib/libgcc.a" "$lib/crtendS.o" "$lib/crtn.o"
+}
+
+case ${1-} in
+make)
+    make_archive
+    ;;
+build)
+    shift
+    make_archive
+    build "$@"
+    ;;
+run)
+    shift
+    if [ "$(uname -m)" = x86_64 ]; then exec "$@"; fi
+    exec "$tools/bin/qemu-x86_64" "$tools/lib/ld-linux-x86-64.so.2" --library-path "$tools/lib" "$@"
+    ;;
+*)
+    sed -n '2,6s/^# \{0,1\}//p' "$0"
+    exit 2
+    ;;
+esac
