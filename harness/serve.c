@@ -57,6 +57,10 @@ static void project_ray(argument *a)
 }
 #endif
 
+#ifdef HAS_checker
+static void check(argument *a) { N(0) = voronoi_check(MESH(1), U(5)); }
+#endif
+
 #ifdef HAS_builds
 #define LENT(i) U(i), F(i + 1), U(i + 2), U(i + 3), U(i + 4)
 static void build(argument *a) { N(0) = voronoi_build(BOX(1), MESH(5), LENT(9)); }
@@ -92,6 +96,9 @@ static const struct {
     {"abs_diff_eq", abs_diff_eq}, {"dist2", dist2}, {"circumcenter", circumcenter}, {"centroid", centroid}, {"box", box},
     {"corners", corners}, {"is_inside", is_inside}, {"is_exclusively_inside", is_exclusively_inside},
     {"which_edge", which_edge}, {"intersect_line", intersect_line}, {"project_ray", project_ray},
+#endif
+#ifdef HAS_checker
+    {"check", check},
 #endif
 #ifdef HAS_builds
     {"build", build}, {"build_unclipped", build_unclipped}, {"cell", cell}, {"time_build", time_build},

@@ -126,8 +126,7 @@ pub fn run(seed: u64, count: u64, library: &mut Library) -> Result<Seen, Differe
     let mut calls = Vec::new();
     for i in 0..count {
         let r = &mut Rng::new(seed, 1 << 41 | i);
-        let told = one(r, &mut calls, &mut seen);
-        let told = if i % 16 == 0 { told.and_then(|()| centroid(r, &mut calls, &mut seen)) } else { told };
+        let told = one(r, &mut calls, &mut seen).and_then(|()| centroid(r, &mut calls, &mut seen));
         told.map_err(|words| Difference { case: i, words })?;
         for call in calls.drain(..) {
             library.put(i, call)?;
@@ -248,7 +247,7 @@ fn boxed(given: &Area, a: Pt, b: Pt, words: impl Fn() -> String + Copy, calls: &
 }
 
 fn centroid(r: &mut Rng, calls: &mut Vec<Call>, seen: &mut Seen) -> Told {
-    let n = if r.chance(1, 4) { 0 } else { 1 + r.below(12) };
+    let n = if r.chance(1, 8) { r.below(13) } else { 1 + r.below(3) };
     let mut floats: Vec<f64> = (0..2 * n).map(|_| floats::admitted(r)).collect();
     match r.below(12) {
         0 => floats.push(0.0),
@@ -256,8 +255,8 @@ fn centroid(r: &mut Rng, calls: &mut Vec<Call>, seen: &mut Seen) -> Told {
             let i = r.below(2 * n);
             floats[i] = floats::refused(r);
         }
-        2 if r.chance(1, 2000) => floats = vec![r.signed(); 2 * 65_536],
-        3 if r.chance(1, 2000) => floats = vec![1.0; 2 * 65_537],
+        2 if r.chance(1, 10_000) => floats = vec![r.signed(); 2 * 65_536],
+        3 if r.chance(1, 10_000) => floats = vec![1.0; 2 * 65_537],
         _ => {}
     }
     let n = floats.len() / 2;
