@@ -109,6 +109,14 @@ fn now() -> u64 {
     t[0] as u64 * 1_000_000_000 + t[1] as u64
 }
 
+/// One build by the Rust with nothing round it, for a count of instructions.
+#[no_mangle]
+#[inline(never)]
+pub fn rust_build(lent: &rust::Lent, area: &Area) -> usize {
+    let centers = lent.circumcenters();
+    CellBuilder::new(&lent.mesh, &lent.sites, centers, rust::area(area), ClipBehavior::Clip).build().vertices.len()
+}
+
 /// Nanoseconds of the Rust's circumcenters and of its whole build, circumcenters included, without any check.
 pub fn rust_once(lent: &rust::Lent, area: &Area) -> (u64, u64) {
     let bounds = rust::area(area);

@@ -166,13 +166,14 @@ impl Case {
 
     /// Cases at the limits of the counts, named.
     pub fn limits(seed: u64) -> Vec<(&'static str, Case)> {
+        use Offsets::Sound;
         let r = &mut Rng::new(seed, u64::MAX);
         let mut list = Vec::new();
         let mut ask = |name, mesh: Mesh| {
             let r = &mut Rng::new(seed, list.len() as u64);
             let mut case = Case::about(r, mesh);
             case.area = Area { x: 0.1, y: -0.2, width: 1.5, height: 1.25 };
-            case.site = 5;
+            (case.site, case.other, case.offsets) = (5, 6, Sound);
             case.work = case.mesh.count();
             case.lengths = Lengths::exact(&case.mesh);
             list.push((name, case));

@@ -4,6 +4,7 @@ pub mod bench;
 pub mod cases;
 pub mod compare;
 pub mod expect;
+pub mod form;
 pub mod generate;
 pub mod library;
 pub mod mesh;

@@ -10,7 +10,8 @@ use lib.Ieee.{Float, nan, binary64, ofBits, lt, le}
 use Rattle.laws.specs.And.{and-left, and-right, holds}
 use Rattle.laws.specs.Binary64 as R
 use Rattle.laws.specs.Binary64.{_⊘_, two, large}
-use Rattle.root.specs.Bounds.{Bounded, plus-bound, div-bound, two-more, sub-bound, add-bound}
+use Rattle.root.specs.Bounds.{Bounded, div-bound, two-more, sub-bound, add-bound}
+use Rattle.root.specs.Tested.{plus-bound}
 use Rattle.utils.specs.Plane.{at, dist2Of}
 use Rattle.utils.specs.Rules.{okSite}
 use Rattle.utils.specs.Finite.{BoundedPoint, point-weaken, site-bounded, dist2-bounded}

@@ -1,4 +1,5 @@
 pub mod Cross
 pub mod Rules
 pub mod Own
+pub mod Finite
 pub mod Rows

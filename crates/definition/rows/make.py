@@ -38,8 +38,8 @@ Rattle.root.specs.Sqrt: wholeRoot nearestRoot rootOfUnits sqrtOf
 Rattle.utils.specs.Plane: nearOf dist2Of centreOf
 Rattle.utils.specs.Flat: flat
 Rattle.utils.specs.Rules: okCentre
-Rattle.bounding_box.specs.Box: madeOf cornersOf insideOf whichOf
-Rattle.crossings.specs.Cross: rightHit leftHit topHit bottomHit uprightHit settleOf lineOf orderBy orderOne orderTwo rayOf
+Rattle.bounding_box.specs.Box: madeOf cornersOf insideOf firstSide whichOf
+Rattle.crossings.specs.Cross: oneIf twoIf firstHeld orderPick eitherOf rightHit leftHit topHit bottomHit uprightHit settleOf lineOf orderBy orderOne orderTwo rayOf
 Rattle.vertices.specs.Add: nearPt findNear addVertex
 Rattle.mesh.specs.Mesh: nextOf chosen tableTo turnOf walkOf
 Rattle.mesh.specs.Hull: afterOf

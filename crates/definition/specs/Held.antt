@@ -130,9 +130,10 @@ module _ (b : BoundingBox) (nc n : ℕ) (u : ℕ → ℕ) (vs : List Point) (fou
               (set-cases (s .cells) site k (c .new) in-cells);
         }
 
-    pub clip-into : Gives (Held b nc n u vs found begun) (clipInto b nc site ring s)
+    -- the cells of other sites stay
+    pub clip-into : Gives (λ (r : Cells). Held b nc n u vs found begun r × ((k : ℕ) → k ≢ site → getD (r .cells) k [] ≡ getD (s .cells) k [])) (clipInto b nc site ring s)
     unfolding clipInto
     clip-into =
-        gives-then C (Held b nc n u vs found begun) (clipCell b nc site ring (s .verts) (s .owners)) _
+        gives-then C (λ (r : Cells). Held b nc n u vs found begun r × ((k : ℕ) → k ≢ site → getD (r .cells) k [] ≡ getD (s .cells) k [])) (clipCell b nc site ring (s .verts) (s .owners)) _
         (clip-cell b nc site real (s .verts) (omega (arith, h .grown .longer)) ring (s .owners) (h .four))
-        held-after
+        (λ c g. (held-after c g, λ k q. getD-set-other (s .cells) site k (c .new) [] q))

@@ -11,7 +11,7 @@ use Rattle.root.specs.Sqrt.{wholeRoot, nearestRoot, rootOfUnits, sqrtOf}
 use Rattle.utils.specs.Plane.{nearOf, dist2Of, centreOf}
 use Rattle.utils.specs.Flat.{flat}
 use Rattle.utils.specs.Rules.{okCentre}
-use Rattle.bounding_box.specs.Box.{firstSide, madeOf, cornersOf, insideOf, whichOf}
+use Rattle.bounding_box.specs.Box.{madeOf, cornersOf, insideOf, firstSide, whichOf}
 use Rattle.crossings.specs.Cross.{oneIf, twoIf, firstHeld, orderPick, eitherOf, rightHit, leftHit, topHit, bottomHit, uprightHit, settleOf, lineOf, orderBy, orderOne, orderTwo, rayOf}
 use Rattle.vertices.specs.Add.{nearPt, findNear, addVertex}
 use Rattle.mesh.specs.Hull.{afterOf}

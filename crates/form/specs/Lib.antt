@@ -1,6 +1,16 @@
 pub mod Bytes
+pub mod Form
 pub mod Reader
 pub mod Holds
 pub mod StepLaws
 pub mod FillLaws
 pub mod FeedLaws
+pub mod WordLaws
+pub mod RunLaws
+pub mod MeshLaws
+pub mod CutLaws
+pub mod TailLaws
+pub mod Exact
+pub mod Place
+pub mod Promise
+pub mod Square

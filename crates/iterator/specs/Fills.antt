@@ -8,10 +8,10 @@ use Prim.Native.Nat.{ℕ, suc, _+_, _≤_, _<_}
 use native.Mathlib.Nat.{add-zero}
 use native.Mathlib.Numerals.{add-one}
 use native.Mathlib.Omega.{arith}
-use lib.Dec.{leb}
+use lib.Dec.{leb, eqb}
 use lib.ListN.{length, set, take, drop, length-append, length-set, take-append-drop}
 use lib.Seq.{take-all, take-at, take-suc-set, drop-set-lt, length-take-le, drop-drop}
-use borrow.Author.Tests.{le-leb, lt-leb}
+use borrow.Author.Tests.{le-leb, lt-leb, eqb-true, eqb-false, ne-eqb}
 
 -- the beginning of the whole, up to the slice's length, then what was there; how many that is, and whether it is all
 pub record Fills (whole old new : List ℕ) (count : ℕ) (ended : Bool) : Type 0 where
@@ -65,10 +65,14 @@ module _ {whole rest old new : List ℕ} {n : ℕ} (g : Filling whole rest old n
       so-far true (take-all (length old) whole z ∙ sym all) (sym (le-leb (length whole) (length old) z))
 
   -- the room is full
-  filling-full : (b : Bool) → length old ≤ n → b ≡ leb (length whole) (length old) → Fills whole old new n b
+  pub filling-full : (b : Bool) → length old ≤ n → b ≡ eqb (length rest) 0 → Fills whole old new n b
   filling-full b h o =
       let z : length old ≡ n = omega (arith, g .room) in
-      so-far b (rw (z, ← g .split) (take-at (take n new) rest n written)) o
+      so-far b (rw (z, ← g .split) (take-at (take n new) rest n written)) (o ∙ go (eqb (length rest) 0) refl)
+    where
+      go : (t : Bool) → eqb (length rest) 0 ≡ t → t ≡ leb (length whole) (length old)
+      go true q = sym (le-leb (length whole) (length old) (omega (arith, whole-length, eqb-true (length rest) 0 q, g .room)))
+      go false q = sym (lt-leb (length whole) (length old) (omega (arith, whole-length, eqb-false (length rest) 0 q)))
 
   pub filling-more : (x : ℕ) (more : List ℕ) → length old ≤ n → rest ≡ x ∷ more → Fills whole old new n false
-  filling-more x more h q = filling-full false h (sym (lt-leb (length whole) (length old) (omega (arith, whole-length, ap length q))))
+  filling-more x more h q = filling-full false h (sym (ne-eqb (length rest) 0 (λ z. omega (arith, ap length q))))

@@ -8,7 +8,6 @@ use native.Mathlib.Omega.{arith}
 use lib.ListN.{length, getD}
 use lib.Ieee.{Float, lt}
 use Rattle.laws.specs.Pick.{pick}
-use Rattle.laws.specs.Count.{occ}
 use Rattle.mesh.specs.Mesh.{EMPTY, wholeOf}
 use Rattle.utils.specs.declared.Point.{Point}
 use Rattle.iterator.specs.declared.Best.{Best}
@@ -17,9 +16,10 @@ use Rattle.iterator.specs.declared.Stepped.{Stepped}
 use Rattle.iterator.specs.declared.Stepped.the-variants.{Site, End}
 use Rattle.iterator.specs.Neighbours.{startsOf, neighboursOf}
 use Rattle.iterator.specs.Path.{distOf, nearestOf, hopOf}
-use Rattle.iterator.specs.Used.{InUse, occ-below, neighbours-used}
+use Rattle.iterator.specs.Used.{occ-below}
 use Rattle.iterator.specs.Ready.{Ready}
 use Rattle.iterator.specs.Rest.{settled-start}
+use Rattle.iterator.specs.Coming.{coming-used}
 use Rattle.iterator.specs.Cursor.{fresh, stepOf, leftOf, Sound, Took, step-took, left-fresh}
 
 unfoldable pub nearerOf : Best → ℕ → Float → Best
@@ -29,7 +29,6 @@ pub record Nearing (sites : List Float) (tri he : List ℕ) (p : Point) (n goal 
   pub sound : Sound he c
   pub dist : b .dist ≡ distOf sites p (b .site)
   pub below : b .site < n
-  pub used : InUse tri (leftOf tri he c)
   pub same : nearestOf sites p (leftOf tri he c) (b .site) ≡ goal
 
 module _ (sites : List Float) (tri he tab : List ℕ) (p : Point) (n : ℕ) (m : Ready tri he tab n) where
@@ -44,7 +43,6 @@ module _ (sites : List Float) (tri he tab : List ℕ) (p : Point) (n : ℕ) (m :
         sound = settled-start tri he (m .paired) x;
         dist = e;
         below = l;
-        used = subst (InUse tri) (sym all) (neighbours-used tri he (m .paired .threes) (m .even) tab s);
         same = ap (λ k. nearestOf sites p k s) all;
       }
 
@@ -60,7 +58,7 @@ module _ (sites : List Float) (tri he tab : List ℕ) (p : Point) (n : ℕ) (m :
       nearing-less = omega (arith, ap length takes)
 
       pub nearing-below : x < n
-      nearing-below = occ-below tri n x (m .named) (subst (InUse tri) takes (g .used) 0 (omega arith))
+      nearing-below = occ-below tri n x (m .named) (coming-used tri he (m .paired .threes) (m .even) small c d x (g .sound) q)
 
       pub nearing-site : (y : Float) → y ≡ distOf sites p x → Nearing sites tri he p n goal d (nearerOf b x y)
       unfolding nearerOf nearestOf
@@ -69,14 +67,11 @@ module _ (sites : List Float) (tri he tab : List ℕ) (p : Point) (n : ℕ) (m :
           was : pick (lt (distOf sites p x) (distOf sites p (b .site))) (λ _. nearestOf sites p (leftOf tri he d) x) (λ _. nearestOf sites p (leftOf tri he d) (b .site)) ≡ goal
           was = ap (λ k. nearestOf sites p k (b .site)) (sym takes) ∙ g .same
 
-          rest : InUse tri (leftOf tri he d)
-          rest k l = subst (InUse tri) takes (g .used) (suc k) (omega arith)
-
           go : (t : Bool) → lt (distOf sites p x) (distOf sites p (b .site)) ≡ t → Nearing sites tri he p n goal d (pick (lt y (b .dist)) (λ _. record { site = x; dist = y }) (λ _. b))
           go true h =
-              rw (e, g .dist, h) (record { sound = took (Site x d) q .1; dist = refl; below = nearing-below; used = rest; same = rw h at was })
+              rw (e, g .dist, h) (record { sound = took (Site x d) q .1; dist = refl; below = nearing-below; same = rw h at was })
           go false h =
-              rw (e, g .dist, h) (record { sound = took (Site x d) q .1; dist = refl; below = g .below; used = rest; same = rw h at was })
+              rw (e, g .dist, h) (record { sound = took (Site x d) q .1; dist = refl; below = g .below; same = rw h at was })
 
     pub nearing-end : End ≡ stepOf tri he c → (b .site ≡ goal) × (b .site < n)
     unfolding nearestOf

@@ -11,4 +11,11 @@ pub mod Handing
 pub mod Hopping
 pub mod Pathing
 pub mod Walking
+pub mod Clipped
+pub mod ClippedStep
+pub mod Coming
+pub mod Clippable
+pub mod ClippedHanding
 pub mod Square
+pub mod ClippedRows
+pub mod OnMesh

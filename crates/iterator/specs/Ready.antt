@@ -2,12 +2,12 @@
 use mathlib.Core.Path.{_≡_}
 use mathlib.Core.List.{List}
 use mathlib.Core.Bool.{not}
-use Prim.Native.Nat.{ℕ, _*_, _≤_, _<_}
+use Prim.Native.Nat.{ℕ, _+_, _*_, _≤_, _<_}
 use lib.Dec.{T}
 use lib.ListN.{length, getD}
 use lib.Ieee.{Float, isNan}
-use Rattle.mesh.specs.Mesh.{endOf}
-use Rattle.mesh.specs.Mesh.{Paired}
+use Rattle.mesh.specs.Mesh.{endOf, Paired}
+use Rattle.shared.specs.Cells.{Cells}
 use Rattle.utils.specs.declared.Point.{Point}
 use Rattle.iterator.specs.Path.{distOf}
 
@@ -23,3 +23,10 @@ pub record Ready (tri he tab : List ℕ) (n : ℕ) : Type 0 where
 pub record Towards (sites : List Float) (p : Point) (n : ℕ) : Type 0 where
   pub room : 2 * n ≤ length sites
   pub numbers : (s : ℕ) → s < n → T (not (isNan (distOf sites p s)))
+
+-- the cells of all sites, cut from idx by offs
+pub record Clippable (tri he offs idx : List ℕ) : Type 0 where
+  pub paired : Paired tri he
+  pub even : length he ≡ length tri
+  pub named : (e : ℕ) → e < length tri → getD tri e 0 + 1 < length offs
+  pub cells : Cells offs (length idx)

@@ -9,19 +9,19 @@ use Rattle.utils.specs.Plane.{at, dist2Of}
 use Rattle.iterator.specs.Neighbours.{lastEnd, startsOf, neighboursOf}
 use Rattle.iterator.specs.Path.{distOf, nearestOf, hopOf, pathOf, pathEnd}
 
-abbrev half : Float
+abbrev pub half : Float
 half = ofBits binary64 0x3fe0_0000_0000_0000
 
-abbrev sites : List Float
+abbrev pub sites : List Float
 sites = neg half ∷ neg half ∷ neg half ∷ half ∷ half ∷ half ∷ half ∷ neg half ∷ []
 
-abbrev tri : List ℕ
+abbrev pub tri : List ℕ
 tri = 0 ∷ 1 ∷ 2 ∷ 0 ∷ 2 ∷ 3 ∷ []
 
-abbrev he : List ℕ
+abbrev pub he : List ℕ
 he = EMPTY ∷ EMPTY ∷ 3 ∷ 2 ∷ EMPTY ∷ EMPTY ∷ []
 
-abbrev tab : List ℕ
+abbrev pub tab : List ℕ
 tab = tableTo tri he 4 6
 
 pub rows :

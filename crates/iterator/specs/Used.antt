@@ -73,7 +73,7 @@ module _ (tri he : List ℕ) (threes : length he % 3 ≡ 0) (even : length he �
       go true = both tri _ [] (occ-there tri (nextOf (nextOf e)) (rw (← even) (next-lt threes (next-lt threes l)))) (λ k h. absurd (omega arith))
       go false = λ k h. absurd (omega arith)
 
-  walk-used : (s k e l : ℕ) → l < length he → InUse tri (sitesFrom tri he l (walkOf he s k e))
+  pub walk-used : (s k e l : ℕ) → l < length he → InUse tri (sitesFrom tri he l (walkOf he s k e))
   unfolding walkOf sitesFrom
   walk-used s zero e l h = last-used l h
   walk-used s (suc k) e l h =
@@ -82,7 +82,7 @@ module _ (tri he : List ℕ) (threes : length he % 3 ≡ 0) (even : length he �
       (λ w. rw (walk-done he s (suc k) e w) (last-used l h))
       (lt-or-ge e (length he))
 
-  starts-used : (s k e : ℕ) → InUse tri (startsOf tri he (walkOf he s k e))
+  pub starts-used : (s k e : ℕ) → InUse tri (startsOf tri he (walkOf he s k e))
   unfolding walkOf startsOf
   starts-used s zero e = λ k h. absurd (omega arith)
   starts-used s (suc k) e =

@@ -241,7 +241,7 @@ module _ (sites : List Float) (tri he tab : List ℕ) (p : Point) where
     unfolding hopOf nearestOf
     alone-stays s q = rw q
 
-    used-some : (s : ℕ) → 0 < occ s tri → 0 < usedOf tri n
+    pub used-some : (s : ℕ) → 0 < occ s tri → 0 < usedOf tri n
     used-some s u =
         ⊎-elim
         (λ e. omega (arith, path-short 1 s u, ap length (path-stop zero s e)))

@@ -3,6 +3,7 @@ use mesh::Walked;
 use utils::Point;
 ghost use mathlib.Core.Path.{_≡_};
 ghost use Prim.Native.Nat.{ℕ, _+_, _*_, _/_, _%_, _<_, _≤_};
+ghost use lib.Dec.{eqb};
 ghost use lib.ListN.{length, getD};
 ghost use lib.Ieee.{lt};
 ghost use Rattle.laws.specs.Pick.{pick};
@@ -10,12 +11,15 @@ ghost use Rattle.mesh.specs.Mesh.{EMPTY, wholeOf};
 ghost use Rattle.mesh.specs.Mesh.{Paired};
 ghost use Rattle.iterator.specs.Neighbours.{startsOf, neighboursOf};
 ghost use Rattle.iterator.specs.Path.{distOf, hopOf};
-ghost use Rattle.iterator.specs.Cursor.{lastStep, stepOf, isEnd};
+ghost use Rattle.iterator.specs.Cursor.{lastStep, stepOf, isEnd, Sound};
 ghost use Rattle.iterator.specs.Fills.{Fills};
-ghost use Rattle.iterator.specs.Ready.{Ready, Towards};
+ghost use Rattle.iterator.specs.Ready.{Ready, Towards, Clippable};
 ghost use Rattle.iterator.specs.Hopping.{nearerOf};
 ghost use Rattle.iterator.specs.Whole.{wholePath};
 ghost use Rattle.iterator.specs.Pathing.{EndsAt};
+ghost use Rattle.shared.specs.Cells.{Cells, shareEdgeOf};
+ghost use Rattle.iterator.specs.Clipped.{clippedOf};
+ghost use Rattle.iterator.specs.ClippedStep.{judgeOf, clippedLeft, Takes};
 
 const NONE: u32 = 4294967295;
 
@@ -181,21 +185,18 @@ pub fn path(
     ensures { λ r. ⌜ Fills (wholePath (now (sites .entry)) (now (triangles .entry)) (now (halfedges .entry)) (now (table .entry)) p s) (now (out .entry)) (now (out .exit)) (r .count) (r .ended) ⌝ }
 {
     let mut at = s;
-    let mut n = 0;
-    while n < out.len() {
-        out[n] = at;
-        n += 1;
+    let mut count = 0;
+    while count < out.len() {
+        out[count] = at;
+        count += 1;
         let next = hop(sites, triangles, halfedges, table, at, p);
         if next == at {
-            return Walked {
-                count: n,
-                ended: true,
-            };
+            return Walked { count, ended: true };
         }
         at = next;
     }
     Walked {
-        count: n,
+        count,
         ended: false,
     }
 }
@@ -219,5 +220,128 @@ pub fn path_end(
             return at;
         }
         at = next;
+    }
+}
+
+// How a neighbour that comes is judged: it counts; it is the first and dropped, so the next is asked for; it is the last and dropped.
+enum Judged {
+    Counts,
+    Dropped,
+    Ends,
+}
+
+fn if_shared(offsets: &[u32], cells: &[u32], s: u32, x: u32, other: Judged) -> Judged
+    requires { ⌜ Cells (now offsets) (length (now cells)) × (s + 1 < length (now offsets)) × (x + 1 < length (now offsets)) ⌝ }
+    ensures { λ r. ⌜ r ≡ pick (shareEdgeOf (now (offsets .entry)) (now (cells .entry)) s x) (λ _. Judged.Counts) (λ _. other) ⌝ }
+{
+    if shared::share_edge(offsets, cells, mesh::wide(s), mesh::wide(x)) {
+        return Judged::Counts;
+    }
+    other
+}
+
+// Judges neighbour x of site s: half-edge `passed` was the walk's last before it came, and `last` is now.
+fn judge(
+    halfedges: &[u32],
+    offsets: &[u32],
+    cells: &[u32],
+    s: u32,
+    x: u32,
+    passed: u32,
+    last: u32,
+) -> Judged
+    requires { ⌜ Cells (now offsets) (length (now cells)) × (s + 1 < length (now offsets)) × (x + 1 < length (now offsets)) ⌝ }
+    ensures { λ r. ⌜ r ≡ judgeOf (now (halfedges .entry)) (shareEdgeOf (now (offsets .entry)) (now (cells .entry)) s x) passed last ⌝ }
+{
+    let at = mesh::wide(last);
+    if halfedges.len() <= at {
+        return if_shared(offsets, cells, s, x, Judged::Ends);
+    }
+    if mesh::wide(passed) < halfedges.len() {
+        return Judged::Counts;
+    }
+    if halfedges[at] != NONE {
+        return Judged::Counts;
+    }
+    if_shared(offsets, cells, s, x, Judged::Dropped)
+}
+
+// The next neighbour of site s after clipping.
+pub fn clipped_step(
+    triangles: &[u32],
+    halfedges: &[u32],
+    offsets: &[u32],
+    cells: &[u32],
+    s: u32,
+    c: Cursor,
+) -> Stepped
+    requires { ⌜ Clippable (now triangles) (now halfedges) (now offsets) (now cells) × (s + 1 < length (now offsets)) × Sound (now halfedges) c ⌝ }
+    ensures { λ r. ⌜ Takes (now (triangles .entry)) (now (halfedges .entry)) (shareEdgeOf (now (offsets .entry)) (now (cells .entry)) s) (clippedLeft (now (triangles .entry)) (now (halfedges .entry)) (shareEdgeOf (now (offsets .entry)) (now (cells .entry)) s) c) r ⌝ }
+{
+    match step(triangles, halfedges, c) {
+        Stepped::Site(x, d) => match judge(halfedges, offsets, cells, s, x, c.last, d.last) {
+            Judged::Counts => Stepped::Site(x, d),
+            Judged::Dropped => clipped_step(triangles, halfedges, offsets, cells, s, d),
+            Judged::Ends => Stepped::End,
+        },
+        Stepped::End => Stepped::End,
+    }
+}
+
+// Whether no neighbour is left after clipping.
+fn clipped_over(
+    triangles: &[u32],
+    halfedges: &[u32],
+    offsets: &[u32],
+    cells: &[u32],
+    s: u32,
+    c: Cursor,
+) -> bool
+    requires { ⌜ Clippable (now triangles) (now halfedges) (now offsets) (now cells) × (s + 1 < length (now offsets)) × Sound (now halfedges) c ⌝ }
+    ensures { λ r. ⌜ r ≡ eqb (length (clippedLeft (now (triangles .entry)) (now (halfedges .entry)) (shareEdgeOf (now (offsets .entry)) (now (cells .entry)) s) c)) 0 ⌝ }
+{
+    match clipped_step(triangles, halfedges, offsets, cells, s, c) {
+        Stepped::Site(_, _) => false,
+        Stepped::End => true,
+    }
+}
+
+// The neighbours of site s after clipping, up to the slice's length; `start` is its leftmost half-edge.
+pub fn clipped_neighbours(
+    triangles: &[u32],
+    halfedges: &[u32],
+    offsets: &[u32],
+    cells: &[u32],
+    s: u32,
+    start: u32,
+    out: &mut [u32],
+) -> Walked
+    requires { ⌜ Clippable (now triangles) (now halfedges) (now offsets) (now cells) × (s + 1 < length (now offsets)) ⌝ }
+    ensures { λ r. ⌜ Fills (clippedOf (now (triangles .entry)) (now (halfedges .entry)) (shareEdgeOf (now (offsets .entry)) (now (cells .entry)) s) (wholeOf (now (halfedges .entry)) start)) (now (out .entry)) (now (out .exit)) (r .count) (r .ended) ⌝ }
+{
+    let mut c = Cursor {
+        start,
+        next: start,
+        last: NONE,
+    };
+    let mut n = 0;
+    while n < out.len() {
+        match clipped_step(triangles, halfedges, offsets, cells, s, c) {
+            Stepped::Site(x, d) => {
+                out[n] = x;
+                n += 1;
+                c = d;
+            }
+            Stepped::End => {
+                return Walked {
+                    count: n,
+                    ended: true,
+                };
+            }
+        }
+    }
+    Walked {
+        count: n,
+        ended: clipped_over(triangles, halfedges, offsets, cells, s, c),
     }
 }

@@ -3,3 +3,4 @@ pub mod Decide
 pub mod Count
 pub mod Binary64
 pub mod And
+pub mod Stores

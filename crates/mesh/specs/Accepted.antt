@@ -1,12 +1,10 @@
 -- A mesh that is accepted: document 01's limits on the counts, its rule on coordinates, and its rules on triangles, pairing, hull and fan.
 use mathlib.Core.Path.{_≡_}
-use mathlib.Core.Bool.{true}
 use mathlib.Core.List.{List}
 use Prim.Native.Nat.{ℕ, _/_, _%_, _≤_, _<_}
 use lib.ListN.{length}
 use lib.Ieee.{Float}
-use Rattle.utils.specs.Flat.{pointAt}
-use Rattle.utils.specs.Rules.{okSite}
+use Rattle.utils.specs.Sites.{KeptAt}
 use Rattle.mesh.specs.Mesh.{AllSound, AllPaired, leftmostOf, Fan}
 use Rattle.mesh.specs.Hull.{Hull}
 
@@ -26,12 +24,9 @@ pub record Counted (coordinates entries halfedges hull : ℕ) : Type 0 where
 abbrev pub siteCount : List Float → ℕ
 siteCount sites = length sites / 2
 
-abbrev pub PlacedAt : List Float → ℕ → Type 0
-PlacedAt sites s = okSite (pointAt sites s) ≡ true
-
 pub record Accepted (sites : List Float) (tri he ring : List ℕ) : Type 0 where
   pub counts : Counted (length sites) (length tri) (length he) (length ring)
-  pub coordinates : (s : ℕ) → s < siteCount sites → PlacedAt sites s
+  pub coordinates : (s : ℕ) → s < siteCount sites → KeptAt sites s
   pub sound : AllSound tri (siteCount sites)
   pub pairs : AllPaired tri he
   pub hull : Hull tri he ring (siteCount sites)

@@ -9,24 +9,35 @@ use lib.ListN.{length, getD}
 use lib.Ieee.{Float}
 use Rattle.laws.specs.Decide.{lt-or-ge, eq-or-ne}
 use Rattle.laws.specs.Count.{occ}
+use Rattle.utils.specs.Sites.{KeptAt}
 use Rattle.mesh.specs.Mesh.{EMPTY, nextOf, startOf, endOf, pairOf, Used, AllSound, leftmostOf, Leftmost, walkOf, wholeOf, Paired}
 use Rattle.mesh.specs.Rules.{Topology}
-use Rattle.mesh.specs.Accepted.{Accepted, siteCount}
+use Rattle.mesh.specs.Accepted.{Counted, Accepted, siteCount}
 use Rattle.mesh.specs.Laws.{next-sum, next-lt, next-thrice}
 use Rattle.mesh.specs.Walks.{walk-ends, walk-in, whole-once, reached-walk, walk-fuel}
 use Rattle.mesh.specs.Table.{table-length, table-leftmost, the-unpaired, the-lowest, the-none}
 use Rattle.mesh.specs.Border.{open-one}
 
+-- the limits of the counts
+pub few-entries : {c t e h : ℕ} → Counted c t e h → t < EMPTY
+few-entries n = omega (arith, n .few-triangles, n .threes)
+
+pub few-on-hull : {c t e h : ℕ} → Counted c t e h → h < EMPTY
+few-on-hull n = omega (arith, n .hull-of-sites, n .few-sites)
+
 pub topology : {sites : List Float} {tri he hull : List ℕ} → Accepted sites tri he hull → Topology tri he hull (siteCount sites)
 topology a = record {
   threes = a .counts .threes;
   same = a .counts .same;
-  small = omega (arith, a .counts .few-triangles, a .counts .threes);
+  small = few-entries (a .counts);
   sound = a .sound;
   pairs = a .pairs;
   hull = a .hull;
   fan = a .fan;
 }
+
+pub accepted : {sites : List Float} {tri he hull : List ℕ} → Counted (length sites) (length tri) (length he) (length hull) → ((s : ℕ) → s < siteCount sites → KeptAt sites s) → Topology tri he hull (siteCount sites) → Accepted sites tri he hull
+accepted c k t = record { counts = c; coordinates = k; sound = t .sound; pairs = t .pairs; hull = t .hull; fan = t .fan }
 
 -- sound triangles name sites, and a half-edge joins two of them
 module _ (tri : List ℕ) (sites : ℕ) (threes : length tri % 3 ≡ 0) (all : AllSound tri sites) (k : ℕ) (l : k < length tri) where

@@ -1,13 +1,15 @@
--- There is one verdict on a mesh.
+-- There is one verdict on a mesh, and it has the number 0 exactly where rules 7 to 10 accept.
 use mathlib.Core.Path.{_≡_, refl, ap}
 use mathlib.Core.List.{List}
-use Prim.Native.Nat.{ℕ, _<_}
+use mathlib.Core.Logic.{_≢_}
+use Prim.Native.Nat.{ℕ, _≤_, _<_}
+use native.Mathlib.Omega.{arith}
 use lib.ListN.{length}
 use Rattle.laws.specs.Decide.{First, first-one, first-not}
 use Rattle.mesh.specs.declared.Fault.{Fault}
 use Rattle.mesh.specs.declared.Fault.the-variants.{Triangle, Pairing, HullPlace, HullEdge, BrokenFan}
 use Rattle.mesh.specs.Mesh.{endOf}
-use Rattle.mesh.specs.Rules.{Verdict, no-fault, bad-triangle, bad-pairing, bad-place, bad-edge, bad-fan}
+use Rattle.mesh.specs.Rules.{numberOf, Topology, Verdict, no-fault, bad-triangle, bad-pairing, bad-place, bad-edge, bad-fan}
 use Rattle.mesh.specs.Border.{hull-places, hull-border}
 
 module _ {tri he hull : List ℕ} {sites : ℕ} where
@@ -48,3 +50,20 @@ module _ {tri he hull : List ℕ} {sites : ℕ} where
   verdict-one (bad-fan s p h f l) (bad-place t q g m) = absurd (first-not g m (hull-places tri he hull sites h))
   verdict-one (bad-fan s p h f l) (bad-edge t q i g m) = absurd (first-not g m (hull-border tri he hull sites h))
   verdict-one (bad-fan s p h f l) (bad-fan t q i g m) = ap BrokenFan (first-one f g)
+
+  pub verdict-none : {f : Fault} → Verdict tri he hull sites f → numberOf f ≡ 0 → Topology tri he hull sites
+  verdict-none (no-fault t) h = t
+  verdict-none (bad-triangle f l) h = absurd (omega arith)
+  verdict-none (bad-pairing s f l) h = absurd (omega arith)
+  verdict-none (bad-place s p f l) h = absurd (omega arith)
+  verdict-none (bad-edge s p b f l) h = absurd (omega arith)
+  verdict-none (bad-fan s p b f l) h = absurd (omega arith)
+
+  -- a verdict that refuses has a number from 7 on
+  pub verdict-late : {f : Fault} → Verdict tri he hull sites f → numberOf f ≢ 0 → 7 ≤ numberOf f
+  verdict-late (no-fault t) n = absurd (n refl)
+  verdict-late (bad-triangle f l) n = omega arith
+  verdict-late (bad-pairing s f l) n = omega arith
+  verdict-late (bad-place s p f l) n = omega arith
+  verdict-late (bad-edge s p h f l) n = omega arith
+  verdict-late (bad-fan s p h f l) n = omega arith

@@ -11,3 +11,8 @@ pub mod Bounds
 pub mod SqrtBounds
 pub mod Order
 pub mod Rank
+pub mod Rounding
+pub mod Sizes
+pub mod Tested
+pub mod SqrtSizes
+pub mod SquareSums

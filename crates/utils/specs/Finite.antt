@@ -1,18 +1,26 @@
--- Document 01's limits keep points and squared distances finite, so comparing distances is total. Assumes nothing.
-use mathlib.Core.Path.{_≡_}
-use mathlib.Core.Bool.{true, not}
+-- Document 01's limits keep points, squared distances and centroids finite, so comparing distances is total. Assumes nothing.
+use mathlib.Core.Path.{_≡_, sym, subst}
+use mathlib.Core.Bool.{true, false, not}
+use mathlib.Core.List.{List}
 use Prim.{tt}
-use Prim.Native.Nat.{ℕ, suc, _+_, _≤_}
+use Prim.Native.Nat.{ℕ, zero, suc, _+_, _*_, _^_, _≤_, _<_}
+use native.Mathlib.Nat.{suc-mul, le-trans, lt-of-le-of-lt}
 use native.Mathlib.Omega.{arith}
-use lib.Dec.{T, lit≤}
-use lib.Ieee.{Float, binary64, isNan, ofBits, lt, le}
+use lib.Dec.{T, lit<, lit≤}
+use lib.Ieee.{Float, binary64, isNan, ofBits, ofInt, lt, le}
+use lib.Ieee.Back.{round-whole}
 use Rattle.root.specs.Root.{magnitude}
-use Rattle.root.specs.Bounds.{Bounded, le-bound, weaken, sub-bound, mul-bound, add-bound, bounded-finite, finite-no-nan}
+use Rattle.root.specs.Bounds.{Bounded, weaken, sub-bound, mul-bound, add-bound, bounded-finite, finite-no-nan}
+use Rattle.root.specs.Sizes.{AtMost, Held, whole-held, add-most, most-of-bounded, mean-bound}
+use Rattle.root.specs.Tested.{le-bound}
 use Rattle.root.specs.Order.{not-lt}
 use Rattle.laws.specs.And.{and-left, and-right, holds}
-use Rattle.laws.specs.Binary64.{_⊟_, _⊠_, huge}
+use Rattle.laws.specs.Binary64.{_⊞_, _⊟_, _⊠_, huge}
 use Rattle.utils.specs.Plane.{dist2Of}
+use Rattle.utils.specs.Flat.{pointAt}
 use Rattle.utils.specs.Rules.{okCoord, okSite, okCentre}
+use Rattle.utils.specs.Sites.{KeptAt, okSites, all-kept}
+use Rattle.utils.specs.Centroid.{sumTo, meanOf}
 use Rattle.utils.specs.declared.Point.{Point}
 
 -- both coordinates finite, and of magnitude at most 2 ^ k
@@ -59,3 +67,28 @@ module _ (k : ℕ) (room : suc k + suc k + 1 ≤ 1023) where
 -- of two sites, or a site and a destination
 pub site-dist2 : (a b : Point) → okSite a ≡ true → okSite b ≡ true → Bounded 203 (dist2Of a b)
 site-dist2 a b p q = dist2-bounded 100 (lit≤ tt) a b (site-bounded a p) (site-bounded b q)
+
+-- ---- the centroid: a sum of n coordinates is at most n * 2 ^ 100, and their mean at most 2 ^ 100
+sum-step : (n : ℕ) (s x : Float) → suc n ≤ 65536 → AtMost (n * 2 ^ 100) 0 s → Bounded 100 x → AtMost (suc n * 2 ^ 100) 0 (s ⊞ x)
+sum-step n s x h a b =
+    let e : suc n * 2 ^ 100 ≡ n * 2 ^ 100 + 2 ^ 100 = suc-mul n (2 ^ 100) in
+    subst (λ (a : ℕ). AtMost a 0 (s ⊞ x)) (sym e)
+    (add-most s x (n * 2 ^ 100) (2 ^ 100) 0 (subst (λ (a : ℕ). Held a 0) e (whole-held (suc n) 100 (lt-of-le-of-lt h (lit< tt)) (lit≤ tt))) a (most-of-bounded x 100 b))
+
+abbrev Summed : ℕ → Point → Type 0
+Summed n p = AtMost (n * 2 ^ 100) 0 (p .x) × AtMost (n * 2 ^ 100) 0 (p .y)
+
+sum-bounded : (l : List Float) (n : ℕ) → n ≤ 65536 → ((k : ℕ) → k < n → KeptAt l k) → Summed n (sumTo l n)
+unfolding sumTo ofBits
+sum-bounded l zero h b = (lit≤ tt, lit≤ tt)
+sum-bounded l (suc n) h b =
+    let s = sum-bounded l n (omega arith) (λ k g. b k (omega arith)) in
+    let p = site-bounded (pointAt l n) (b n (omega arith)) in
+    (sum-step n (sumTo l n .x) (pointAt l n .x) h (s .0) (p .x), sum-step n (sumTo l n .y) (pointAt l n .y) h (s .1) (p .y))
+
+pub mean-bounded : (l : List Float) (n : ℕ) → 0 < n → n ≤ 65536 → okSites n l ≡ true → BoundedPoint 100 (meanOf l n)
+unfolding meanOf ofInt
+mean-bounded l n h g e =
+    let s = sum-bounded l n g (all-kept n l e) in
+    let v = round-whole binary64 false n (le-trans g (lit≤ tt)) in
+    record { x = mean-bound (sumTo l n .x) _ n 100 (lit≤ tt) h (s .0) v; y = mean-bound (sumTo l n .y) _ n 100 (lit≤ tt) h (s .1) v }

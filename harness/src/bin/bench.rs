@@ -2,6 +2,9 @@
 //!
 //!     bench [--rounds N] [--traps] [--full]
 //!
+//!     bench --once SITES       one build by each side on uniform sites, for harness/count.sh
+//!     bench --has              the library's calls
+//!
 //! Without words: uniform sites and the other shapes. `--traps` adds the two traps of the source at 4,000 and 16,000
 //! sites, `--full` at 65,536 too (the Rust needs minutes there). Times are nanoseconds a site, the best and the median
 //! of the rounds; a ratio is the library's time over the Rust's. The Rust's time is its circumcenters and CellBuilder, with
@@ -22,6 +25,18 @@ fn main() {
         eprintln!("{e}");
         std::process::exit(1)
     });
+    if has("--has") {
+        println!("{}", library.names().join(" "));
+        return;
+    }
+    if let Some(i) = args.iter().position(|a| a == "--once") {
+        let m = uniform(args[i + 1].parse().expect("a count"), false);
+        rust_build(&rust::Lent::new(&m), &wide_box());
+        if library.has("time_build") {
+            library_once(&m, &wide_box(), &mut library);
+        }
+        return;
+    }
     if !library.has("time_build") {
         println!("NO LIBRARY with a build to time: the Rust alone");
     }

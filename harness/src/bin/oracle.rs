@@ -3,12 +3,14 @@
 //!
 //!     oracle [FILE]            one mesh
 //!     oracle --check FILE..    only whether each file's `answer` lines are among what would be printed
+//!     oracle --form FILE       the mesh as the program `cells` reads it, on standard output
+//!     oracle --listing FILE    what the program `cells` must print for it
 
 use harness::mesh::{Mesh, Pt};
 use harness::reference::{self, Counts, Mark};
-use harness::rust;
 use harness::text::{self, row, show};
-use std::io::Read;
+use harness::{form, rust};
+use std::io::{Read, Write};
 
 fn main() {
     rust::quiet();
@@ -30,6 +32,15 @@ fn main() {
             }
         }
         println!("{} meshes with {answers} stored lines: all answered", args.len() - 1);
+        return;
+    }
+    if let [verb @ ("--form" | "--listing"), file] = &args.iter().map(String::as_str).collect::<Vec<_>>()[..] {
+        let input = text::read(&open(&file.to_string())).unwrap_or_else(|e| stop(&format!("{file}: {e}")));
+        if *verb == "--form" {
+            std::io::stdout().write_all(&form::bytes(&input.mesh, input.clip.as_ref())).unwrap();
+        } else {
+            print!("{}", form::listing(&input.mesh, input.clip.as_ref()).unwrap_or_else(|e| stop(&e)));
+        }
         return;
     }
     let text = match args.first() {

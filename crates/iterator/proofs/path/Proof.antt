@@ -9,10 +9,10 @@ use Rattle.iterator.proofs.path.Statement.{statement}
 use Rattle.iterator.proofs.path.Tie as tie
 
 abbrev Inv-loop : tie.InvT-loop
-Inv-loop sites triangles halfedges table s p out₀ at₀ n₀ out at n = Writing sites triangles halfedges table p s out₀ out at n
+Inv-loop sites triangles halfedges table s p out₀ at₀ count₀ out at count = Writing sites triangles halfedges table p s out₀ out at count
 
 abbrev μ-loop : tie.MeasureT-loop
-μ-loop sites triangles halfedges table s p out₀ at₀ n₀ out at n = length out₀ - n
+μ-loop sites triangles halfedges table s p out₀ at₀ count₀ out at count = length out₀ - count
 
 loop-holds : tie.Need-loop-holds Inv-loop μ-loop
 loop-holds c = writing-start _ _ _ _ _ (c .before .before .before .before .before .pre .0) (c .before .before .before .before .before .pre .1) _ _ (c .before .before .before .before .before .pre .2)
@@ -23,8 +23,8 @@ mul-out c = search needs
 slice-write-out : tie.Need-slice-write-out Inv-loop μ-loop
 slice-write-out c = search needs
 
-add-n : tie.Need-add-n Inv-loop μ-loop
-add-n c = search needs
+add-count : tie.Need-add-count Inv-loop μ-loop
+add-count c = search needs
 
 hop-requires : tie.Need-hop-requires Inv-loop μ-loop
 hop-requires c κs = (c .before .before .before .before .before .before .before .pre .0, c .before .loop .inv .below)
@@ -56,7 +56,7 @@ path-spec =
     loop-holds
     mul-out
     slice-write-out
-    add-n
+    add-count
     hop-requires
     same-length
     returns

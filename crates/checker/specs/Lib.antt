@@ -1,0 +1,4 @@
+-- The root of the crate's definitions.
+pub mod Answers
+pub mod Laws
+pub mod Steps

@@ -1,0 +1,114 @@
+-- The form as 01 has it: a mesh written record by record. Definitions only.
+use mathlib.Core.Bool.{Bool, true, false}
+use mathlib.Core.List.{List, [], _∷_, _++_, map}
+use mathlib.Core.Path.{_≡_}
+use Prim.Native.Nat.{ℕ, _^_, _≤_, _<_}
+use lib.Ieee.{Float, binary64, ofBits}
+use lib.ListN.{length}
+use Rattle.form.specs.Bytes.{le}
+
+-- floats are given by their patterns
+pub data Clip : Type 0 where
+  box : (x y width height : ℕ) → Clip
+  unclipped : Clip
+
+pub record Site : Type 0 where
+  pub x : ℕ
+  pub y : ℕ
+
+-- three sites, and the pair of each half-edge that starts there
+pub record Triangle : Type 0 where
+  pub a : ℕ
+  pub b : ℕ
+  pub c : ℕ
+  pub pair-a : ℕ
+  pub pair-b : ℕ
+  pub pair-c : ℕ
+
+pub record Mesh : Type 0 where
+  pub clip : Clip
+  pub sites : List Site
+  pub triangles : List Triangle
+  pub hull : List ℕ
+
+-- ---- its bytes
+
+abbrev pub each : {A : Type 0} → (A → List ℕ) → List A → List ℕ
+each f [] = []
+each f (a ∷ l) = f a ++ each f l
+
+abbrev pub clipBytes : Clip → List ℕ
+clipBytes (box x y width height) = 1 ∷ le 8 x ++ le 8 y ++ le 8 width ++ le 8 height
+clipBytes unclipped = 6 ∷ []
+
+abbrev pub siteBytes : Site → List ℕ
+siteBytes s = 2 ∷ le 8 (s .x) ++ le 8 (s .y)
+
+abbrev pub triangleBytes : Triangle → List ℕ
+triangleBytes t = 3 ∷ le 4 (t .a) ++ le 4 (t .b) ++ le 4 (t .c) ++ le 4 (t .pair-a) ++ le 4 (t .pair-b) ++ le 4 (t .pair-c)
+
+abbrev pub hullBytes : ℕ → List ℕ
+hullBytes h = 4 ∷ le 4 h
+
+unfoldable pub formOf : Mesh → List ℕ
+formOf m = clipBytes (m .clip) ++ each siteBytes (m .sites) ++ each triangleBytes (m .triangles) ++ each hullBytes (m .hull) ++ 5 ∷ []
+
+-- ---- the meshes that have a form
+
+abbrev pub All : {A : Type 0} → (A → Type 0) → List A → Type 0
+All P [] = Unit {0}
+All P (a ∷ l) = P a × All P l
+
+abbrev pub ClipFits : Clip → Type 0
+ClipFits (box x y width height) = (x < 2 ^ 64) × (y < 2 ^ 64) × (width < 2 ^ 64) × (height < 2 ^ 64)
+ClipFits unclipped = Unit {0}
+
+abbrev pub SiteFits : Site → Type 0
+SiteFits s = (s .x < 2 ^ 64) × (s .y < 2 ^ 64)
+
+abbrev pub TriangleFits : Triangle → Type 0
+TriangleFits t = (t .a < 2 ^ 32) × (t .b < 2 ^ 32) × (t .c < 2 ^ 32) × (t .pair-a < 2 ^ 32) × (t .pair-b < 2 ^ 32) × (t .pair-c < 2 ^ 32)
+
+abbrev pub HullFits : ℕ → Type 0
+HullFits h = h < 2 ^ 32
+
+pub record Fits (m : Mesh) : Type 0 where
+  pub clip : ClipFits (m .clip)
+  pub sites : All SiteFits (m .sites)
+  pub triangles : All TriangleFits (m .triangles)
+  pub hull : All HullFits (m .hull)
+  pub few-sites : length (m .sites) ≤ 96
+  pub few-triangles : length (m .triangles) ≤ 192
+  pub few-hull : length (m .hull) ≤ 96
+
+-- a sound form
+pub record IsForm (s : List ℕ) : Type 0 where
+  pub mesh : Mesh
+  pub fits : Fits mesh
+  pub bytes : s ≡ formOf mesh
+
+-- ---- its numbers, as the lists hold them
+
+abbrev pub numbers : {A B : Type 0} → (A → List B) → List A → List B
+numbers f [] = []
+numbers f (a ∷ l) = f a ++ numbers f l
+
+abbrev pub float : ℕ → Float
+float p = ofBits binary64 p
+
+abbrev pub clipFloats : Clip → List Float
+clipFloats (box x y width height) = float x ∷ float y ∷ float width ∷ float height ∷ []
+clipFloats unclipped = []
+
+abbrev pub siteFloats : Site → List Float
+siteFloats s = float (s .x) ∷ float (s .y) ∷ []
+
+abbrev pub triangleSites : Triangle → List ℕ
+triangleSites t = t .a ∷ t .b ∷ t .c ∷ []
+
+abbrev pub trianglePairs : Triangle → List ℕ
+trianglePairs t = t .pair-a ∷ t .pair-b ∷ t .pair-c ∷ []
+
+abbrev pub isUnclipped : Clip → Bool
+isUnclipped (box x y width height) = false
+isUnclipped unclipped = true

@@ -1,0 +1,23 @@
+-- The test on the two cells decides.
+use borrow.Author.Needs.{needs}
+use Rattle.iterator.proofs.if_shared.Statement.{statement}
+use Rattle.iterator.proofs.if_shared.Tie as tie
+
+wide-requires : tie.Need-wide-requires
+wide-requires c κs = search needs
+
+wide-requires-2 : tie.Need-wide-requires-2
+wide-requires-2 c κs = search needs
+
+share-edge-requires : tie.Need-share-edge-requires
+share-edge-requires c κs = search needs
+
+returns : tie.Need-returns
+returns c = rw (← c .before .before .before .wide .ensures, ← c .before .before .wide2 .ensures, ← c .before .share-edge .ensures, c .if1 .taken)
+
+returns-2 : tie.Need-returns-2
+returns-2 c = rw (← c .before .before .before .wide .ensures, ← c .before .before .wide2 .ensures, ← c .before .share-edge .ensures, c .if1 .left)
+
+pub if-shared-spec : {M : Type 1} → statement M
+if-shared-spec =
+    tie.close (tie.spec wide-requires wide-requires-2 share-edge-requires returns returns-2)

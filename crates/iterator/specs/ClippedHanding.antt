@@ -1,0 +1,44 @@
+-- A loop that writes a site's neighbours after clipping into a lent slice, a step at a time.
+use mathlib.Core.Path.{_≡_, refl, sym, ap, subst}
+use mathlib.Core.Bool.{Bool, true, false}
+use mathlib.Core.List.{List, [], _∷_}
+use Prim.Native.Nat.{ℕ, _+_, _≤_, _<_}
+use native.Mathlib.Omega.{arith}
+use lib.Dec.{eqb}
+use lib.ListN.{length, set}
+use borrow.Author.Tests.{eq-eqb, ne-eqb}
+use Rattle.mesh.specs.Mesh.{EMPTY, wholeOf}
+use Rattle.iterator.specs.declared.Cursor.{Cursor}
+use Rattle.iterator.specs.declared.Stepped.{Stepped}
+use Rattle.iterator.specs.declared.Stepped.the-variants.{Site, End}
+use Rattle.iterator.specs.Rest.{Settled}
+use Rattle.iterator.specs.Cursor.{fresh, isEnd, Sound}
+use Rattle.iterator.specs.Clipped.{clippedOf}
+use Rattle.iterator.specs.ClippedStep.{clippedLeft, Takes, clipped-fresh}
+use Rattle.iterator.specs.Fills.{Fills, Filling, filling-start, filling-step, filling-done, filling-full}
+
+-- n of the whole list are written, and the cursor stands before the others
+pub record Handing (tri he : List ℕ) (keeps : ℕ → Bool) (whole old new : List ℕ) (c : Cursor) (n : ℕ) : Type 0 where
+  pub filling : Filling whole (clippedLeft tri he keeps c) old new n
+  pub sound : Sound he c
+
+-- a step tells whether any is left
+pub step-over : (tri he : List ℕ) (keeps : ℕ → Bool) (c : Cursor) (r : Stepped) → Takes tri he keeps (clippedLeft tri he keeps c) r → isEnd r ≡ eqb (length (clippedLeft tri he keeps c)) 0
+step-over tri he keeps c (Site x d) t = sym (ne-eqb (length (clippedLeft tri he keeps c)) 0 (λ z. omega (arith, ap length (t .0))))
+step-over tri he keeps c End t = sym (eq-eqb (length (clippedLeft tri he keeps c)) 0 (ap length t))
+
+module _ (tri he old : List ℕ) (keeps : ℕ → Bool) where
+  pub handing-start : length he ≤ EMPTY → (s : ℕ) → Settled he s s → Handing tri he keeps (clippedOf tri he keeps (wholeOf he s)) old old (fresh s) 0
+  handing-start small s ok = record { filling = rw (clipped-fresh tri he keeps small s) (filling-start _ old); sound = ok }
+
+  module _ {whole new : List ℕ} {c : Cursor} {n : ℕ} (g : Handing tri he keeps whole old new c n) (r : Stepped) (t : Takes tri he keeps (clippedLeft tri he keeps c) r) where
+    pub handing-site : (x : ℕ) (d : Cursor) → n < length old → r ≡ Site x d → Handing tri he keeps whole old (set new n x) d (n + 1)
+    handing-site x d l q =
+        let u = subst (Takes tri he keeps (clippedLeft tri he keeps c)) q t in
+        record { filling = filling-step (g .filling) x (clippedLeft tri he keeps d) l (u .0); sound = u .1 }
+
+    pub handing-end : r ≡ End → Fills whole old new n true
+    handing-end q = filling-done (g .filling) (subst (Takes tri he keeps (clippedLeft tri he keeps c)) q t)
+
+  pub handing-full : {whole new : List ℕ} {c : Cursor} {n : ℕ} → Handing tri he keeps whole old new c n → length old ≤ n → (b : Bool) → b ≡ eqb (length (clippedLeft tri he keeps c)) 0 → Fills whole old new n b
+  handing-full g l b q = filling-full (g .filling) b l q

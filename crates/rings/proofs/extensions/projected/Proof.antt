@@ -1,0 +1,18 @@
+-- `rings::extensions::projected` meets its contract: the operations are the definition's, and the root of what fits is the one that computes.
+use lib.Ieee.{binary64}
+use lib.Ieee.Fits.{add-fits}
+use Rattle.root.specs.SqrtLaws.{root-is-sqrt}
+use Rattle.rings.specs.Extensions.{projectedOf}
+use borrow.Author.Needs.{needs}
+use Rattle.rings.proofs.extensions.projected.Statement.{statement}
+use Rattle.rings.proofs.extensions.projected.Tie as tie
+
+root-requires : tie.Need-root-requires
+root-requires c κs = search needs
+
+returns : tie.Need-returns
+unfolding projectedOf
+returns c = cc (root-is-sqrt _ _ (add-fits binary64 _ _) (c .before .before .root .ensures))
+
+pub projected-spec : {M : Type 1} → statement M
+projected-spec = tie.close (tie.spec root-requires returns)

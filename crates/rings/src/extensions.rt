@@ -1,0 +1,111 @@
+// The hull's extensions (extend_voronoi_vertex): far beyond the box, from a circumcenter orthogonally to its hull edge; rule 12.
+use hull::after;
+use mesh::end_site;
+use mesh::wide;
+use utils::Point;
+use utils::point_at;
+use vertices::add_new_vertex;
+use vertices::vertex;
+ghost use mathlib.Core.Path.{_≡_};
+ghost use mathlib.Core.Bool.{_&&_};
+ghost use mathlib.Core.List.{[]};
+ghost use Prim.Native.Nat.{ℕ, _+_, _*_, _/_, _%_, _≤_, _<_};
+ghost use lib.ListN.{length, getD};
+ghost use Rattle.utils.specs.Flat.{points};
+ghost use Rattle.mesh.specs.Hull.{nextSite};
+ghost use Rattle.definition.specs.Build.{finite, extended, extensions, extendFrom};
+ghost use Rattle.rings.specs.Centers.{Named};
+ghost use Rattle.rings.specs.Extensions.{projectedOf, Hulled, ExtendsInto, ExtendedBy};
+
+const VORONOI_INFINITY: f64 = 10000000000.0;
+
+const INFINITE: u64 = 0x7FF0_0000_0000_0000;
+
+fn is_finite(x: f64) -> bool
+    ensures { λ r. ⌜ r ≡ finite x ⌝ }
+{
+    root::magnitude(x) < f64::from_bits(INFINITE)
+}
+
+fn finite_point(p: Point) -> bool
+    ensures { λ r. ⌜ r ≡ (finite (p .x) && finite (p .y)) ⌝ }
+{
+    is_finite(p.x) & is_finite(p.y)
+}
+
+// From c, orthogonally to the edge from a to b.
+fn projected(c: Point, a: Point, b: Point) -> Point
+    ensures { λ r. ⌜ r ≡ projectedOf c a b ⌝ }
+{
+    let x = a.y - b.y;
+    let y = b.x - a.x;
+    let k = 1.0 / root::root(x * x + y * y);
+    Point {
+        x: c.x + x * k * VORONOI_INFINITY,
+        y: c.y + y * k * VORONOI_INFINITY,
+    }
+}
+
+// The extension over half-edge e.
+fn extend_voronoi_vertex(
+    sites: &[f64],
+    triangles: &[u32],
+    v: &[f64],
+    count: usize,
+    e: usize,
+) -> Point
+    requires { ⌜ Named (now sites) (now triangles) × (length (now triangles) % 3 ≡ 0) × (e < length (now triangles)) × (2 * count ≤ length (now v)) × (e / 3 < count) ⌝ }
+    ensures { λ r. ⌜ r ≡ extended (now (sites .entry)) (now (triangles .entry)) (points count (now (v .entry))) e ⌝ }
+{
+    projected(
+        vertex(v, count, e / 3),
+        point_at(sites, wide(triangles[e])),
+        point_at(sites, wide(end_site(triangles, e))),
+    )
+}
+
+// The half-edge over which hull place i is extended: the leftmost one of the site at the next place.
+fn hull_edge(hull: &[u32], table: &[u32], i: usize) -> usize
+    requires { ⌜ (i < length (now hull)) × Hulled (now hull) (now table) ⌝ }
+    ensures { λ r. ⌜ r ≡ getD (now (table .entry)) (nextSite (now (hull .entry)) i) 0 ⌝ }
+{
+    let b = wide(hull[after(hull.len(), i)]);
+    wide(table[b])
+}
+
+// Where the pass over the hull stopped, and how many vertices there are then.
+pub struct Passed {
+    pub place: usize,
+    pub count: usize,
+}
+
+// Extends every hull edge. The vertices' numbers go to the index list, from `at` on, which lies before the store's part of it.
+pub fn extend_hull(
+    sites: &[f64],
+    triangles: &[u32],
+    hull: &[u32],
+    table: &[u32],
+    v: &mut [f64],
+    ix: &mut [u32],
+    at: usize,
+    limit: usize,
+    centers: usize,
+    count: usize,
+) -> Passed
+    requires { ⌜ ExtendsInto (now sites) (now triangles) (now hull) (now table) centers count limit at (now v) (now ix) ⌝ }
+    ensures { λ r. ⌜ ExtendedBy (extendFrom (now (sites .entry)) (now (triangles .entry)) (now (hull .entry)) (now (table .entry)) centers 0 (length (now (hull .entry))) (extensions (points count (now (v .entry))) [] [])) (length (now (hull .entry))) centers limit at (now (v .entry)) (now (ix .entry)) r (now (v .exit)) (now (ix .exit)) ⌝ }
+{
+    let mut n = count;
+    let mut i: usize = 0;
+    while i < hull.len() {
+        let p = extend_voronoi_vertex(sites, triangles, v, n, hull_edge(hull, table, i));
+        if !finite_point(p) {
+            return Passed { place: i, count: n };
+        }
+        let r = add_new_vertex(v, ix, limit, centers, n, p);
+        ix[at + i] = r.at as u32;
+        n = r.count;
+        i += 1;
+    }
+    Passed { place: i, count: n }
+}

@@ -1,0 +1,61 @@
+-- Each entry passed is counted once where the other list holds it.
+use Prim.Native.Nat.{_-_}
+use lib.ListN.{length}
+use Rattle.shared.specs.Laws.{Counting, counting-start, counting-step, counting-done}
+use native.Mathlib.Omega.{arith}
+use borrow.Author.Needs.{needs}
+use Rattle.shared.proofs.shared_entries.Statement.{statement}
+use Rattle.shared.proofs.shared_entries.Tie as tie
+
+abbrev Inv-loop : tie.InvT-loop
+Inv-loop a b n₀ i₀ n i = Counting a b i n
+
+abbrev μ-loop : tie.MeasureT-loop
+μ-loop a b n₀ i₀ n i = length a - i
+
+loop-holds : tie.Need-loop-holds Inv-loop μ-loop
+loop-holds c = counting-start _ _
+
+mul-holds : tie.Need-mul-holds Inv-loop μ-loop
+mul-holds c = search needs
+
+shared-slice-read-holds : tie.Need-shared-slice-read-holds Inv-loop μ-loop
+shared-slice-read-holds c = search needs
+
+holds-requires : tie.Need-holds-requires Inv-loop μ-loop
+holds-requires c κs = search needs
+
+one-if-requires : tie.Need-one-if-requires Inv-loop μ-loop
+one-if-requires c κs = search needs
+
+add-n : tie.Need-add-n Inv-loop μ-loop
+add-n c = search needs
+
+add-i : tie.Need-add-i Inv-loop μ-loop
+add-i c = search needs
+
+loop-less : tie.Need-loop-less Inv-loop μ-loop
+loop-less c = search needs
+
+loop-again : tie.Need-loop-again Inv-loop μ-loop
+loop-again c = counting-step _ _ _ _ (c .before .before .before .before .loop .inv) _ _ (omega arith) (c .before .holds .ensures) (c .one-if .ensures .0) (c .one-if .ensures .1)
+
+returns : tie.Need-returns Inv-loop μ-loop
+returns c = counting-done _ _ _ _ (c .before .loop .inv) (omega arith)
+
+pub shared-entries-spec : {M : Type 1} → statement M
+shared-entries-spec =
+    tie.close
+    (tie.spec
+    Inv-loop
+    μ-loop
+    loop-holds
+    mul-holds
+    shared-slice-read-holds
+    holds-requires
+    one-if-requires
+    add-n
+    add-i
+    loop-less
+    loop-again
+    returns)

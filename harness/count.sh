@@ -1,0 +1,21 @@
+#!/bin/sh
+# Instructions of one build of uniform sites by each side, under valgrind: harness/count.sh [SITES]. They repeat exactly.
+set -eu
+here=$(cd "$(dirname "$0")" && pwd)
+root=$(cd "$here/.." && pwd)
+sites=${1:-10000}
+export VORONOI_SOURCE="${VORONOI_SOURCE:-$root/../shared/docs/src}"
+(cd "$here" && cargo build --release --offline --quiet)
+if [ "$(uname -m)" = x86_64 ]; then "$here/serve.sh" >/dev/null; server=$root/target/harness/serve; else server=$("$here/native.sh"); fi
+bench=$root/target/harness/release/bench
+count() { # NAME FUNCTION COMMAND..
+    name=$1 function=$2
+    shift 2
+    "$@" 2>"$root/target/harness/count.say" || { cat "$root/target/harness/count.say"; exit 1; }
+    sed -n "s/.*Collected : \([0-9]*\).*/$name: \1 instructions in $function on $sites uniform sites/p" "$root/target/harness/count.say"
+}
+grind="valgrind --tool=callgrind --callgrind-out-file=/dev/null"
+# shellcheck disable=SC2086
+count "the Rust" rust_build env -u VORONOI_SERVER $grind --toggle-collect=rust_build "$bench" --once "$sites"
+case $(env VORONOI_SERVER="$server" "$bench" --has) in *time_build*) ;; *) echo "the library: no build yet"; exit ;; esac
+count "the library" voronoi_build env VORONOI_SERVER="$grind --toggle-collect=voronoi_build $server" "$bench" --once "$sites"

@@ -1,0 +1,57 @@
+//! The program's form and its listing, from document 01.
+
+use crate::compare::build_both;
+use crate::expect::{mesh_number, Beside, Facts};
+use crate::mesh::{Area, Mesh};
+use crate::rust;
+use crate::tally::Tally;
+use crate::text::{list, row};
+
+/// The records of a mesh: one byte of kind, then little-endian numbers.
+pub fn bytes(m: &Mesh, clip: Option<&Area>) -> Vec<u8> {
+    let mut out = Vec::new();
+    match clip {
+        Some(a) => {
+            out.push(1);
+            [a.x, a.y, a.width, a.height].iter().for_each(|x| out.extend(x.to_le_bytes()));
+        }
+        None => out.push(6),
+    }
+    for c in m.sites.chunks_exact(2) {
+        out.push(2);
+        c.iter().for_each(|x| out.extend(x.to_le_bytes()));
+    }
+    for (t, p) in m.triangles.chunks_exact(3).zip(m.halfedges.chunks_exact(3)) {
+        out.push(3);
+        t.iter().chain(p).for_each(|i| out.extend(i.to_le_bytes()));
+    }
+    for s in &m.hull {
+        out.push(4);
+        out.extend(s.to_le_bytes());
+    }
+    out.push(5);
+    out
+}
+
+/// What the program prints for a sound form: the Rust's answers, or the refusal.
+pub fn listing(m: &Mesh, clip: Option<&Area>) -> Result<String, String> {
+    if m.count() > 96 || m.triangle_count() > 192 || m.hull.len() > 96 {
+        return Ok("refused 17\n".to_string());
+    }
+    let number = mesh_number(m, &Facts::of(m), &Beside { room: true, area: clip, site: None, to: None });
+    if number != 0 {
+        return Ok(format!("refused {number}\n"));
+    }
+    let b = match build_both(m, &rust::Lent::new(m), clip, &mut Tally::new())? {
+        Ok(b) => b,
+        Err(n) => return Ok(format!("refused {n}\n")),
+    };
+    let mut out = format!("sites {} triangles {} vertices {}\n", m.count(), m.triangle_count(), b.vertices.len());
+    for (s, cell) in b.plain().iter().enumerate() {
+        out += &format!("{}\n", row(&format!("cell {s}"), cell));
+    }
+    if clip.is_some() {
+        out += &format!("corners {} lost {}\n", list(&b.owners), b.lost);
+    }
+    Ok(out)
+}
