@@ -35,8 +35,33 @@ static void signum_bits(argument *a) { B(0) = voronoi_signum_bits(B(1)); }
 static void signum(argument *a) { X(0) = voronoi_signum(X(1)); }
 #endif
 
-#ifdef HAS_builds
 #define BOX(i) X(i), X(i + 1), X(i + 2), X(i + 3)
+
+#ifdef HAS_plane
+static void abs_diff_eq(argument *a) { N(0) = voronoi_abs_diff_eq(X(1), X(2)); }
+static void dist2(argument *a) { N(0) = voronoi_dist2(X(1), X(2), X(3), X(4), PF(5)); }
+static void circumcenter(argument *a) { N(0) = voronoi_circumcenter(X(1), X(2), X(3), X(4), X(5), X(6), PF(7), PF(8)); }
+static void centroid(argument *a) { N(0) = voronoi_centroid(F(1), PF(2), PF(3)); }
+static void box(argument *a) { N(0) = voronoi_box(BOX(1), PF(5), PF(6), PF(7), PF(8), PF(9), PF(10)); }
+static void corners(argument *a) { N(0) = voronoi_corners(BOX(1), F(5)); }
+static void is_inside(argument *a) { N(0) = voronoi_is_inside(BOX(1), X(5), X(6), PU(7)); }
+static void is_exclusively_inside(argument *a) { N(0) = voronoi_is_exclusively_inside(BOX(1), X(5), X(6), PU(7)); }
+static void which_edge(argument *a) { N(0) = voronoi_which_edge(BOX(1), X(5), X(6), PU(7)); }
+static void intersect_line(argument *a)
+{
+    N(0) = voronoi_intersect_line(BOX(1), X(5), X(6), X(7), X(8), PU(9), PF(10), PF(11), PF(12), PF(13));
+}
+static void project_ray(argument *a)
+{
+    N(0) = voronoi_project_ray(BOX(1), X(5), X(6), X(7), X(8), PU(9), PF(10), PF(11), PF(12), PF(13));
+}
+#endif
+
+#ifdef HAS_checker
+static void check(argument *a) { N(0) = voronoi_check(MESH(1), U(5)); }
+#endif
+
+#ifdef HAS_builds
 #define LENT(i) U(i), F(i + 1), U(i + 2), U(i + 3), U(i + 4)
 static void build(argument *a) { N(0) = voronoi_build(BOX(1), MESH(5), LENT(9)); }
 static void build_unclipped(argument *a) { N(0) = voronoi_build_unclipped(MESH(1), LENT(5)); }
@@ -66,6 +91,14 @@ static const struct {
 #ifdef HAS_roots
     {"root_bits", root_bits}, {"root", root}, {"magnitude_bits", magnitude_bits}, {"magnitude", magnitude},
     {"signum_bits", signum_bits}, {"signum", signum},
+#endif
+#ifdef HAS_plane
+    {"abs_diff_eq", abs_diff_eq}, {"dist2", dist2}, {"circumcenter", circumcenter}, {"centroid", centroid}, {"box", box},
+    {"corners", corners}, {"is_inside", is_inside}, {"is_exclusively_inside", is_exclusively_inside},
+    {"which_edge", which_edge}, {"intersect_line", intersect_line}, {"project_ray", project_ray},
+#endif
+#ifdef HAS_checker
+    {"check", check},
 #endif
 #ifdef HAS_builds
     {"build", build}, {"build_unclipped", build_unclipped}, {"cell", cell}, {"time_build", time_build},

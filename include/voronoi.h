@@ -67,6 +67,54 @@ double voronoi_magnitude(double x);
 uint64_t voronoi_signum_bits(uint64_t b);
 double voronoi_signum(double x);
 
+/* ---- points and the box
+ * A box is its centre (cx, cy), width and height. 3 is tried on it first, then 6 on each point, a ray's direction included.
+ * A number lent by pointer is always written: 0 where the call refuses, EMPTY for a side. */
+
+/* Whether a and b are within 2^-50, by the computed difference: 1 or 0. Refuses nothing; a NaN is within no tolerance. */
+uint32_t voronoi_abs_diff_eq(double a, double b);
+
+/* The squared distance of (ax, ay) and (bx, by). 6. */
+uint32_t voronoi_dist2(double ax, double ay, double bx, double by, double *d);
+
+/* The circumcenter of three points. 6, then 11. */
+uint32_t voronoi_circumcenter(double ax, double ay, double bx, double by, double cx, double cy, double *x, double *y);
+
+/* The centroid of 1 to 65,536 points, x and y in turn: `length` counts numbers. 1 (also for an odd length), then 6. */
+uint32_t voronoi_centroid(const double *points, size_t length, double *x, double *y);
+
+/* The box's edges, then its width and height recomputed from them. 3. */
+uint32_t voronoi_box(double cx, double cy, double width, double height,
+    double *left, double *top, double *right, double *bottom, double *across, double *down);
+
+/* Its corners, x and y each: top left, bottom left, bottom right, top right. 2 below 8 numbers of room, then 3; both leave the
+ * slice as it was. What is past the corners is cleared. */
+uint32_t voronoi_corners(double cx, double cy, double width, double height, double *out, size_t length);
+
+/* Whether (x, y) is inside the box or on its edges, and whether it is inside and on no side: 1 or 0. 3, then 6. */
+uint32_t voronoi_is_inside(double cx, double cy, double width, double height, double x, double y, uint32_t *inside);
+uint32_t voronoi_is_exclusively_inside(double cx, double cy, double width, double height, double x, double y, uint32_t *inside);
+
+/* The side whose line (x, y) is on within 2^-50, the first of top 0, bottom 2, right 3, left 1; EMPTY for none. 3, then 6. */
+uint32_t voronoi_which_edge(double cx, double cy, double width, double height, double x, double y, uint32_t *side);
+
+/* Where the line through (px, py) and (qx, qy) meets the box, or the ray from (px, py) in the direction (dx, dy), the nearer point
+ * first: how many points, 0 to 2, then the first's and the second's coordinates, 0 where there is none. 3, then 6. */
+uint32_t voronoi_intersect_line(double cx, double cy, double width, double height, double px, double py, double qx, double qy,
+    uint32_t *count, double *x, double *y, double *u, double *v);
+uint32_t voronoi_project_ray(double cx, double cy, double width, double height, double px, double py, double dx, double dy,
+    uint32_t *count, double *x, double *y, double *u, double *v);
+
+/* ---- the check of a mesh
+ * sites: x and y of each, in turn. triangles: three sites each. halfedges: the pair of each half-edge, or VORONOI_EMPTY; half-edge e runs
+ * from triangles[e] to the next site of its triangle. hull: the sites round the border, in order. work: room for as many entries as sites.
+ *
+ * Answers 0, or the first of 1, 2, 6, 7, 8, 9, 10 whose rule is broken. After 0, work holds for each site its leftmost half-edge (of those
+ * that end there the unpaired one if there is one, else the lowest; VORONOI_EMPTY where none ends), then VORONOI_EMPTY to its end. After 1,
+ * 2 and 6 work is unchanged; after 7 to 10 it holds VORONOI_EMPTY over its whole length. */
+uint32_t voronoi_check(const double *sites, size_t sites_len, const uint32_t *triangles, size_t triangles_len, const uint32_t *halfedges,
+                       size_t halfedges_len, const uint32_t *hull, size_t hull_len, uint32_t *work, size_t work_len);
+
 #ifdef __cplusplus
 }
 #endif

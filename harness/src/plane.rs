@@ -126,8 +126,7 @@ pub fn run(seed: u64, count: u64, library: &mut Library) -> Result<Seen, Differe
     let mut calls = Vec::new();
     for i in 0..count {
         let r = &mut Rng::new(seed, 1 << 41 | i);
-        let told = one(r, &mut calls, &mut seen);
-        let told = if i % 16 == 0 { told.and_then(|()| centroid(r, &mut calls, &mut seen)) } else { told };
+        let told = one(r, &mut calls, &mut seen).and_then(|()| centroid(r, &mut calls, &mut seen));
         told.map_err(|words| Difference { case: i, words })?;
         for call in calls.drain(..) {
             library.put(i, call)?;
@@ -151,7 +150,7 @@ fn one(r: &mut Rng, calls: &mut Vec<Call>, seen: &mut Seen) -> Told {
     let near = utils::abs_diff_eq(x, y, utils::TOLERANCE);
     same("tolerance", words, near, reference::near(x, y))?;
     seen.near[near as usize] += 1;
-    calls.push(Call::new("near").gives(near as u32).float(x).float(y));
+    calls.push(Call::new("abs_diff_eq").gives(near as u32).float(x).float(y));
 
     let number = seen.answer("dist2", if points[..2].iter().all(|&p| sound(p)) { 0 } else { 6 });
     let mut owed = 0.0;
@@ -187,12 +186,25 @@ fn boxed(given: &Area, a: Pt, b: Pt, words: impl Fn() -> String + Copy, calls: &
     seen.answer("box", number);
     let theirs = area(given);
     let e = reference::edges(given);
+    let mut edges = [0.0; 6];
+    // A slice of 7 floats is too short for the corners; what is past the eighth is cleared.
+    let room = [7, 8, 11][(a.x.to_bits() % 3) as usize];
+    let lent = vec![-4321.0; room];
+    let mut corners = lent.clone();
     if number == 0 {
-        let t = [theirs.left(), theirs.top(), theirs.right(), theirs.bottom(), theirs.width(), theirs.height()];
-        let o = [e.left, e.top, e.right, e.bottom, e.right - e.left, e.bottom - e.top];
-        same("edges", words, t.map(f64::to_bits), o.map(f64::to_bits))?;
-        same("corners", words, theirs.corners().map(|p| bits(back(&p))), reference::corners(&e).map(bits))?;
+        edges = [theirs.left(), theirs.top(), theirs.right(), theirs.bottom(), theirs.width(), theirs.height()];
+        let ours = [e.left, e.top, e.right, e.bottom, e.right - e.left, e.bottom - e.top];
+        same("edges", words, edges.map(f64::to_bits), ours.map(f64::to_bits))?;
+        let four = theirs.corners();
+        same("corners", words, four.clone().map(|p| bits(back(&p))), reference::corners(&e).map(bits))?;
+        if room >= 8 {
+            corners = four.iter().flat_map(|p| [p.x, p.y]).collect();
+            corners.resize(room, 0.0);
+        }
     }
+    calls.push(edges.into_iter().fold(on_box("box", number, given), Call::gives_float));
+    let number = seen.answer("corners", if room < 8 { 2 } else { number });
+    calls.push(on_box("corners", number, given).lent_floats(&lent, &corners));
 
     seen.answer("inside", one);
     let (mut side, mut within, mut strictly) = (None, false, false);
@@ -207,16 +219,24 @@ fn boxed(given: &Area, a: Pt, b: Pt, words: impl Fn() -> String + Copy, calls: &
         seen.inside[within as usize + strictly as usize] += 1;
     }
     let side = side.map_or(EMPTY, |s| s as u32);
-    for (name, owed) in [("inside", within as u32), ("exclusively_inside", strictly as u32), ("which_edge", side)] {
+    for (name, owed) in [("is_inside", within as u32), ("is_exclusively_inside", strictly as u32), ("which_edge", side)] {
         calls.push(on_box(name, one, given).float(a.x).float(a.y).gives(owed));
     }
 
     seen.answer("crossings", two);
+    let (mut line, mut ray) = ((None, None), (None, None));
+    if two == 0 {
+        line = open::intersect_line(&theirs, &point(a), &point(b));
+        ray = open::project_ray(&theirs, &point(a), &point(b));
+    }
+    for (name, found) in [("intersect_line", options(&line)), ("project_ray", options(&ray))] {
+        let call = on_box(name, two, given).float(a.x).float(a.y).float(b.x).float(b.y).gives(found.len() as u32);
+        let four = found.iter().flatten().map(|&x| f64::from_bits(x)).chain([0.0; 4]).take(4);
+        calls.push(four.fold(call, Call::gives_float));
+    }
     if two != 0 {
         return Ok(());
     }
-    let line = open::intersect_line(&theirs, &point(a), &point(b));
-    let ray = open::project_ray(&theirs, &point(a), &point(b));
     same("intersect_line", words, options(&line), list(&reference::intersect_line(&e, a, b, &mut seen.counts)))?;
     same("project_ray", words, options(&ray), list(&reference::project_ray(&e, a, b, &mut seen.counts)))?;
     // The inner ordering, on a lone point too.
@@ -227,7 +247,7 @@ fn boxed(given: &Area, a: Pt, b: Pt, words: impl Fn() -> String + Copy, calls: &
 }
 
 fn centroid(r: &mut Rng, calls: &mut Vec<Call>, seen: &mut Seen) -> Told {
-    let n = if r.chance(1, 4) { 0 } else { 1 + r.below(12) };
+    let n = if r.chance(1, 8) { r.below(13) } else { 1 + r.below(3) };
     let mut floats: Vec<f64> = (0..2 * n).map(|_| floats::admitted(r)).collect();
     match r.below(12) {
         0 => floats.push(0.0),
@@ -235,8 +255,8 @@ fn centroid(r: &mut Rng, calls: &mut Vec<Call>, seen: &mut Seen) -> Told {
             let i = r.below(2 * n);
             floats[i] = floats::refused(r);
         }
-        2 if r.chance(1, 2000) => floats = vec![r.signed(); 2 * 65_536],
-        3 if r.chance(1, 2000) => floats = vec![1.0; 2 * 65_537],
+        2 if r.chance(1, 10_000) => floats = vec![r.signed(); 2 * 65_536],
+        3 if r.chance(1, 10_000) => floats = vec![1.0; 2 * 65_537],
         _ => {}
     }
     let n = floats.len() / 2;
@@ -268,6 +288,7 @@ const ANSWERS: &[(&str, &[u32])] = &[
     ("circumcenter", &[0, 6, 11]),
     ("centroid", &[0, 1, 6]),
     ("box", &[0, 3]),
+    ("corners", &[0, 2, 3]),
     ("inside", &[0, 3, 6]),
     ("crossings", &[0, 3, 6]),
 ];

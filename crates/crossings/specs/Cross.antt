@@ -1,5 +1,6 @@
 -- Where a line and a ray cross the box.
 use mathlib.Core.Bool.{Bool, true, false, _&&_}
+use mathlib.Core.List.{List, [], _∷_}
 use lib.Ieee.{Float, lt, le, eq}
 use Prim.Native.Nat.{ℕ}
 use Rattle.root.specs.Root.{magnitude, signum}
@@ -102,16 +103,13 @@ orderOf p dir (Two x y u v) = orderTwo p dir x y u v
 unfoldable pub rayOf : BoundingBox → Point → Point → Crossing
 rayOf b p dir = orderOf p dir (lineOf b p (at (p .x ⊞ dir .x) (p .y ⊞ dir .y)))
 
--- the outcome as numbers
+-- the outcome as numbers: how many points, and four coordinates, zeros where there is none
 abbrev pub countOf : Crossing → ℕ
 countOf None = 0
 countOf (One x y) = 1
 countOf (Two x y u v) = 2
 
-unfoldable pub pick4Of : Bool → Bool → Float → Float → Float → Float → Float
-pick4Of a b x y u v = pick b (λ _. pick a (λ _. v) (λ _. u)) (λ _. pick a (λ _. y) (λ _. x))
-
-abbrev pub valueOf : Crossing → Bool → Bool → Float
-valueOf None a b = zero
-valueOf (One x y) a b = pick4Of a b x y zero zero
-valueOf (Two x y u v) a b = pick4Of a b x y u v
+abbrev pub valuesOf : Crossing → List Float
+valuesOf None = zero ∷ zero ∷ zero ∷ zero ∷ []
+valuesOf (One x y) = x ∷ y ∷ zero ∷ zero ∷ []
+valuesOf (Two x y u v) = x ∷ y ∷ u ∷ v ∷ []

@@ -2,14 +2,14 @@
 use mathlib.Core.Bool.{Bool, _&&_}
 use Prim.Native.Nat.{ℕ}
 use lib.Ieee.{Float}
-use Rattle.laws.specs.Binary64.{zero}
 use Rattle.laws.specs.Pick.{pick}
 use Rattle.utils.specs.Rules.{okSite}
 use Rattle.utils.specs.declared.Point.{Point}
 use Rattle.bounding_box.specs.Box.{madeOf}
 use Rattle.bounding_box.specs.Rules.{okBox}
-use Rattle.crossings.specs.Cross.{lineOf, rayOf, countOf, valueOf}
+use Rattle.crossings.specs.Cross.{lineOf, rayOf}
 use Rattle.crossings.specs.declared.Crossing.{Crossing}
+use Rattle.crossings.specs.declared.Crossing.the-variants.{None}
 use Rattle.crossings.specs.declared.Meeting.{Meeting}
 use Rattle.crossings.specs.declared.Meeting.the-variants.{Refused, Met}
 
@@ -22,15 +22,11 @@ lineAnswer c w h p q = metBy (okBox c w h) (okSite p && okSite q) (lineOf (madeO
 unfoldable pub rayAnswer : Point → Float → Float → Point → Point → Meeting
 rayAnswer c w h p dir = metBy (okBox c w h) (okSite p && okSite dir) (rayOf (madeOf c w h) p dir)
 
--- document 01's number, the count of points and their coordinates: of a refusal 0 and zeros
+-- document 01's number, and the points: of a refusal none
 abbrev pub numberOf : Meeting → ℕ
 numberOf (Refused n) = n
 numberOf (Met c) = 0
 
-abbrev pub metCount : Meeting → ℕ
-metCount (Refused n) = 0
-metCount (Met c) = countOf c
-
-abbrev pub metValue : Meeting → Bool → Bool → Float
-metValue (Refused n) a b = zero
-metValue (Met c) a b = valueOf c a b
+abbrev pub pointsOf : Meeting → Crossing
+pointsOf (Refused n) = None
+pointsOf (Met c) = c

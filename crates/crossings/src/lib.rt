@@ -4,8 +4,8 @@ use bounding_box::box_ok;
 use utils::Point;
 use utils::site_ok;
 ghost use mathlib.Core.Path.{_≡_};
-ghost use Rattle.crossings.specs.Cross.{oneIf, twoIf, some, orOf, afterOne, joinOf, firstHeld, eitherOf, settleOf, rightHit, leftHit, topHit, bottomHit, uprightHit, lineOf, orderPick, orderBy, orderTwo, orderOne, orderOf, rayOf, countOf, pick4Of, valueOf};
-ghost use Rattle.crossings.specs.Rules.{metBy, lineAnswer, rayAnswer};
+ghost use Rattle.crossings.specs.Cross.{oneIf, twoIf, some, orOf, afterOne, joinOf, firstHeld, eitherOf, settleOf, rightHit, leftHit, topHit, bottomHit, uprightHit, lineOf, orderPick, orderBy, orderTwo, orderOne, orderOf, rayOf, countOf, valuesOf};
+ghost use Rattle.crossings.specs.Rules.{metBy, lineAnswer, rayAnswer, numberOf, pointsOf};
 
 const EPS: f64 = 8.881784197001252e-16;
 
@@ -261,19 +261,8 @@ pub fn project_ray(b: BoundingBox, p: Point, dir: Point) -> Crossing
     order_points_on_ray(p, dir, intersect_line(b, p, q))
 }
 
-fn pick4(a: bool, b: bool, x: f64, y: f64, u: f64, v: f64) -> f64
-    ensures { λ r. ⌜ r ≡ pick4Of a b x y u v ⌝ }
-{
-    if b {
-        if a { v } else { u }
-    } else if a {
-        y
-    } else {
-        x
-    }
-}
-
-pub fn count_of(c: Crossing) -> u32
+// How many points, and their coordinates: zeros where there is none.
+fn count_of(c: Crossing) -> u32
     ensures { λ r. ⌜ r ≡ countOf c ⌝ }
 {
     match c {
@@ -283,13 +272,13 @@ pub fn count_of(c: Crossing) -> u32
     }
 }
 
-pub fn value_of(c: Crossing, a: bool, b: bool) -> f64
-    ensures { λ r. ⌜ r ≡ valueOf c a b ⌝ }
+fn values_of(c: Crossing) -> [f64; 4]
+    ensures { λ r. ⌜ r ≡ valuesOf c ⌝ }
 {
     match c {
-        Crossing::None => 0.0,
-        Crossing::One(x, y) => pick4(a, b, x, y, 0.0, 0.0),
-        Crossing::Two(x, y, u, v) => pick4(a, b, x, y, u, v),
+        Crossing::None => [0.0, 0.0, 0.0, 0.0],
+        Crossing::One(x, y) => [x, y, 0.0, 0.0],
+        Crossing::Two(x, y, u, v) => [x, y, u, v],
     }
 }
 
@@ -335,4 +324,35 @@ pub fn meet_ray(c: Point, width: f64, height: f64, p: Point, dir: Point) -> Meet
         site_ok(p) & site_ok(dir),
         project_ray(b, p, dir),
     )
+}
+
+// The number of a meeting, 0 where it is answered, and its points; of a refusal none.
+pub fn number_of(m: Meeting) -> u32
+    ensures { λ r. ⌜ r ≡ numberOf m ⌝ }
+{
+    match m {
+        Meeting::Refused(n) => n,
+        Meeting::Met(_) => 0,
+    }
+}
+
+fn points_of(m: Meeting) -> Crossing
+    ensures { λ r. ⌜ r ≡ pointsOf m ⌝ }
+{
+    match m {
+        Meeting::Refused(_) => Crossing::None,
+        Meeting::Met(c) => c,
+    }
+}
+
+pub fn met_count(m: Meeting) -> u32
+    ensures { λ r. ⌜ r ≡ countOf (pointsOf m) ⌝ }
+{
+    count_of(points_of(m))
+}
+
+pub fn met_values(m: Meeting) -> [f64; 4]
+    ensures { λ r. ⌜ r ≡ valuesOf (pointsOf m) ⌝ }
+{
+    values_of(points_of(m))
 }

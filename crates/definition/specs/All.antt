@@ -7,41 +7,39 @@ use mathlib.Core.Logic.{_⊎_, inl, inr, ⊎-elim, _≢_}
 use Prim.Native.Nat.{ℕ, zero, suc, _+_, _-_, _*_, _/_, _≤_, _<_}
 use native.Mathlib.Omega.{arith}
 use lib.Dec.{eqb}
-use lib.ListN.{length, getD, replicate, length-map, length-append, length-replicate}
+use lib.ListN.{length, getD, set, replicate, length-map, length-append, length-replicate}
 use Rattle.laws.specs.Pick.{pick}
 use Rattle.laws.specs.Decide.{lt-or-ge}
-use Rattle.laws.specs.Count.{same, occ, same-cases, sumTo, weighed-le}
+use Rattle.laws.specs.Count.{occ}
 use Rattle.utils.specs.declared.Point.{Point}
 use Rattle.bounding_box.specs.declared.BoundingBox.{BoundingBox}
 use Rattle.mesh.specs.Mesh.{EMPTY, endOf, leftmostOf, wholeOf}
 use Rattle.mesh.specs.Rules.{Topology}
 use Rattle.mesh.specs.Facts.{paired, end-site, tab-cases}
-use Rattle.mesh.specs.Walks.{walk-ends, walk-in, whole-once}
+use Rattle.mesh.specs.Laws.{walk-done}
+use Rattle.layout.specs.Degree.{walk-degree}
 use Rattle.iterator.specs.Used.{occ-there}
 use Rattle.definition.specs.declared.Fault.{Fault}
 use Rattle.definition.specs.Fault.{Outcome, ok, refused, andThen}
-use Rattle.definition.specs.Cell.{Entry, Took}
+use Rattle.definition.specs.Cell.{plain, Entry, entry, Took}
 use Rattle.definition.specs.Build.{ringFrom, hullRing, Extensions, Cells, cellsOf, clipInto, clipHull, isEmpty, clipRest, clipAll, wrappedIn, allWrapped}
 use Rattle.definition.specs.Gives.{Gives, gives-map, gives-then, picked}
 use Rattle.definition.specs.Edge.{fresh, grown-none}
-use Rattle.definition.specs.Weigh.{weigh, weigh-le, weigh-put, share, share-occ, share-count, share-double}
+use Rattle.definition.specs.Weigh.{weigh, weigh-le, weigh-put, share, share-occ, share-double}
 use Rattle.definition.specs.Held.{filled, Held, clip-into}
 
 -- ---- shares
 
--- how many half-edges end at site s
-abbrev pub degree : List ℕ → ℕ → ℕ
-degree tri s = sumTo (λ e. same s (endOf tri e)) (length tri)
-
+-- as many as half-edges end at site s, which is as often as the triangles name it, and two more on the hull
 abbrev pub shareOf : List ℕ → List ℕ → ℕ → ℕ
-shareOf tri hull s = degree tri s + 2 * occ s hull
+shareOf tri hull s = occ s tri + 2 * occ s hull
 
 -- together they are at most 3T + 2H
 pub shares : (tri hull : List ℕ) (cs : List (List Entry)) → weigh (share (shareOf tri hull)) 0 cs ≤ length tri + 2 * length hull
 shares tri hull cs =
-    omega (arith, share-double (degree tri) (λ s. occ s hull) 0 cs, share-count (endOf tri) (length tri) 0 cs, share-occ hull 0 cs)
+    omega (arith, share-double (λ s. occ s tri) (λ s. occ s hull) 0 cs, share-occ tri 0 cs, share-occ hull 0 cs)
 
-filled-le : (u : ℕ → ℕ) (i : ℕ) (c : List Entry) → filled u i c ≤ u i
+pub filled-le : (u : ℕ → ℕ) (i : ℕ) (c : List Entry) → filled u i c ≤ u i
 filled-le u i [] = omega arith
 filled-le u i (e ∷ es) = omega arith
 
@@ -50,22 +48,13 @@ all-filled tri hull cs = omega (arith, weigh-le (filled (shareOf tri hull)) (sha
 
 module _ {tri he hull : List ℕ} {n : ℕ} (top : Topology tri he hull n) where
   -- a ring at a site has no more vertices than half-edges end there
-  pub ring-share : (s e : ℕ) → (e < length he → endOf tri e ≡ s) → length (ringFrom he e) ≤ degree tri s
+  pub ring-share : (s e : ℕ) → (e < length he → endOf tri e ≡ s) → length (ringFrom he e) ≤ occ s tri
   ring-share s e h =
-      let l = wholeOf he e in
-      omega (
-        arith,
-        length-map l (λ f. f / 3),
-        weighed-le (λ v. same s (endOf tri v)) (length tri) l
-            (λ v o. rw (← top .same) (walk-ends tri he (paired top) e (length he) e v o .0))
-            (λ v. ⊎-elim
-            (λ o. ⊎-elim
-            (λ w. omega (arith, w .1, whole-once tri he (paired top) e v))
-            (λ w. absurd (w .0 (sym (walk-ends tri he (paired top) e (length he) e v o .1 ∙ h (walk-in tri he (paired top) e (length he) e v o)))))
-            (same-cases s (endOf tri v)))
-            (λ o. omega arith)
-            (lt-or-ge 0 (occ v l))),
-      )
+      let q = length-map (wholeOf he e) (λ f. f / 3) in
+      ⊎-elim
+      (λ l. rw (← h l) (omega (arith, walk-degree tri he (paired top) (top .same) e)))
+      (λ l. omega (arith, ap length (walk-done he e (length he) e l)))
+      (lt-or-ge e (length he))
 
   pub hull-share : (xs : List ℕ) (i : ℕ) → i < length hull → length (hullRing he hull (leftmostOf tri he n) xs i) ≤ shareOf tri hull (getD hull i 0)
   unfolding hullRing
@@ -80,13 +69,19 @@ module _ {tri he hull : List ℕ} {n : ℕ} (top : Topology tri he hull n) where
 
 -- ---- the loops
 
-is-empty : (c : List Entry) → isEmpty c ≡ true → c ≡ []
+pub is-empty : (c : List Entry) → isEmpty c ≡ true → c ≡ []
 is-empty [] h = refl
 is-empty (e ∷ es) h = let z : _≡_ {A = ℕ} 0 1 = cc in absurd (omega arith)
 
 module _ {tri he hull : List ℕ} {n : ℕ} (top : Topology tri he hull n) (few : n < EMPTY) (b : BoundingBox) (nc : ℕ) (vs : List Point) (found : List ℕ) (begun : ℕ) (room : nc + 4 ≤ length vs) where
   abbrev Good : Cells → Type 0
   Good s = Held b nc n (shareOf tri hull) vs found begun s
+
+  -- before each try there is room for two vertices for each vertex of its ring
+  pub spare : (s : Cells) (site : ℕ) → Good s → site < n → getD (s .cells) site [] ≡ [] → length (s .verts) + 2 * shareOf tri hull site ≤ length vs + 2 * (length tri + 2 * length hull)
+  spare s site h l empty =
+      let e = entry plain 0 ∷ [] in
+      omega (arith, h .grown .longer, h .twos, weigh-put (filled (shareOf tri hull)) (s .cells) site e (rw (h .width) l) empty refl, all-filled tri hull (set (s .cells) site e))
 
   module _ (xs : List ℕ) where
     hull-loop : (k i : ℕ) (s : Cells) → i + k ≡ length hull → Good s → ((j : ℕ) → i ≤ j → j < length hull → getD (s .cells) (getD hull j 0) [] ≡ []) → Gives Good (clipHull b nc he hull (leftmostOf tri he n) xs i k s)
@@ -119,12 +114,12 @@ module _ {tri he hull : List ℕ} {n : ℕ} (top : Topology tri he hull n) (few 
 
 -- ---- the start
 
-no-cell : (n k : ℕ) → _≡_ {A = List Entry} (getD (replicate n []) k []) []
+pub no-cell : (n k : ℕ) → _≡_ {A = List Entry} (getD (replicate n []) k []) []
 no-cell zero k = refl
 no-cell (suc n) zero = refl
 no-cell (suc n) (suc k) = no-cell n k
 
-no-weight : (w : ℕ → List Entry → ℕ) (n i : ℕ) → ((j : ℕ) → w j [] ≡ 0) → weigh w i (replicate n []) ≡ 0
+pub no-weight : (w : ℕ → List Entry → ℕ) (n i : ℕ) → ((j : ℕ) → w j [] ≡ 0) → weigh w i (replicate n []) ≡ 0
 no-weight w zero i z = refl
 no-weight w (suc n) i z = omega (arith, z i, no-weight w n (suc i) z)
 

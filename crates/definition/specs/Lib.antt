@@ -2,6 +2,7 @@
 pub mod Fault
 pub mod Cell
 pub mod Build
+pub mod Reached
 pub mod Unclipped
 pub mod Answers
 pub mod RowsBuilt
@@ -17,3 +18,4 @@ pub mod Owners
 pub mod All
 pub mod Start
 pub mod Theorems
+pub mod Lowest

@@ -58,6 +58,15 @@ occ-set v [] i x h = absurd (omega arith)
 occ-set v (y ∷ l) zero x h = omega arith
 occ-set v (y ∷ l) (suc i) x h = omega (arith, occ-set v l i x (omega arith))
 
+pub occ-le : (v : ℕ) (l : List ℕ) → occ v l ≤ length l
+occ-le v [] = omega arith
+occ-le v (x ∷ l) = ⊎-elim (λ w. omega (arith, w .1, occ-le v l)) (λ w. omega (arith, w .1, occ-le v l)) (same-cases v x)
+
+occ-read : (v : ℕ) (l : List ℕ) (i : ℕ) → i < length l → getD l i 0 ≡ v → 0 < occ v l
+occ-read v [] i h e = absurd (omega arith)
+occ-read v (x ∷ l) zero h e = ⊎-elim (λ w. omega (arith, w .1)) (λ w. absurd (w .0 (sym e))) (same-cases v x)
+occ-read v (x ∷ l) (suc i) h e = omega (arith, occ-read v l i (omega arith) e)
+
 same-self : (v : ℕ) → same v v ≡ 1
 same-self v = ⊎-elim (λ w. w .1) (λ w. absurd (w .0 refl)) (same-cases v v)
 
@@ -184,3 +193,31 @@ module _ (P : ℕ → Type 0) (nc site : ℕ) where
         (λ t. picked (λ (i : Ins). Puts P nc site n 1 os (i .new) (i .owners)) (eqb (getD os s 0) site) _ _
         (λ u. puts-then real (puts-crossing n second os lo hi) (puts-wraps 4 f s os four hs))
         (λ u. puts-crossing n second os lo hi))
+
+    -- wrapping stops by its own rule: each corner that is taken is one fewer of the site's, so with fuel for these more changes nothing
+    stops : (stop c : ℕ) (os : List ℕ) → c < length os → occ site os ≡ 0 → goes site stop c os ≡ false
+    stops stop c os h z = by (goes site stop c os) refl
+      where
+        by : (t : Bool) → goes site stop c os ≡ t → t ≡ false
+        by true e = absurd (omega (arith, occ-read site os c h (goes-own stop c os e)))
+        by false e = refl
+
+    further : (k stop c : ℕ) (os : List ℕ) (t : Bool) → (t ≡ true → wraps (suc k) nc site stop ((c + 1) % 4) (set os c EMPTY) ≡ wraps k nc site stop ((c + 1) % 4) (set os c EMPTY)) → pick t (λ _. before (entry wrapped (nc + c)) (wraps (suc k) nc site stop ((c + 1) % 4) (set os c EMPTY))) (λ _. ins os []) ≡ pick t (λ _. before (entry wrapped (nc + c)) (wraps k nc site stop ((c + 1) % 4) (set os c EMPTY))) (λ _. ins os [])
+    further k stop c os true h = ap (before (entry wrapped (nc + c))) (h refl)
+    further k stop c os false h = refl
+
+    one-fewer : (stop c : ℕ) (os : List ℕ) → length os ≡ 4 → c < 4 → goes site stop c os ≡ true → occ site (set os c EMPTY) + 1 ≡ occ site os
+    unfolding wrappedIn
+    one-fewer stop c os four h e = omega (arith, puts-corner c os four h (goes-own stop c os e) .counted)
+
+    wraps-more : (k stop c : ℕ) (os : List ℕ) → length os ≡ 4 → c < 4 → occ site os ≤ k → wraps (suc k) nc site stop c os ≡ wraps k nc site stop c os
+    unfolding wraps
+    wraps-more zero stop c os four h few = rw (stops stop c os (omega arith) (omega arith))
+    wraps-more (suc k) stop c os four h few =
+        further k stop c os (goes site stop c os) (λ e. wraps-more k stop ((c + 1) % 4) (set os c EMPTY) (length-set os c EMPTY ∙ four) (omega arith) (omega (arith, one-fewer stop c os four h e)))
+
+    pub wraps-enough : (j stop c : ℕ) (os : List ℕ) → length os ≡ 4 → c < 4 → wraps (j + 4) nc site stop c os ≡ wraps 4 nc site stop c os
+    wraps-enough zero stop c os four h = refl
+    wraps-enough (suc j) stop c os four h =
+        let q : suc j + 4 ≡ suc (j + 4) = omega arith in
+        rw q (wraps-more (j + 4) stop c os four h (omega (arith, occ-le site os)) ∙ wraps-enough j stop c os four h)

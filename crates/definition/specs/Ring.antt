@@ -184,6 +184,16 @@ first-inside b nc vs (q ∷ qs) h = by (inBox b nc vs q) refl (first-inside b nc
     by true e k l = e
     by false e k l = k (omega arith)
 
+pub none-inside : (b : BoundingBox) (nc : ℕ) (vs : List Point) (ring : List ℕ) → length ring ≤ firstInside b nc vs ring → (i : ℕ) → i < length ring → inBox b nc vs (getD ring i 0) ≡ false
+unfolding firstInside
+none-inside b nc vs [] h i l = absurd (omega arith)
+none-inside b nc vs (q ∷ qs) h i l = by (inBox b nc vs q) refl (none-inside b nc vs qs) h i l
+  where
+    by : (t : Bool) → inBox b nc vs q ≡ t → (length qs ≤ firstInside b nc vs qs → (i : ℕ) → i < length qs → inBox b nc vs (getD qs i 0) ≡ false) → suc (length qs) ≤ pick t (λ _. 0) (λ _. suc (firstInside b nc vs qs)) → (i : ℕ) → i < suc (length qs) → inBox b nc vs (getD (q ∷ qs) i 0) ≡ false
+    by true e k h i l = absurd (omega arith)
+    by false e k h zero l = e
+    by false e k h (suc i) l = k (omega arith) i (omega arith)
+
 -- what the try at a ring of m vertices gives: the vertices and owners it leaves, the cell's entries
 pub record Clipped (b : BoundingBox) (nc site : ℕ) (vs : List Point) (os : List ℕ) (m : ℕ) (r : Part) : Type 0 where
   pub grown : Grown vs (fresh (r .steps)) (r .tip .verts)

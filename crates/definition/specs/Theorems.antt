@@ -25,8 +25,8 @@ use Rattle.definition.specs.declared.Fault.{Fault}
 use Rattle.definition.specs.Fault.{Outcome, ok, refused, andThen}
 use Rattle.definition.specs.Cell.{Mark, plain, crossing, wrapped, Entry, inBox}
 use Rattle.definition.specs.Build.{centresFrom, ownersFrom, Extensions, extensions, extendFrom, Cells, clipAll, ifWrapped, wrappedIn, allWrapped, lostFrom, Built, build}
-use Rattle.definition.specs.Gives.{Gives, gives-map, gives-then}
-use Rattle.definition.specs.Puts.{Placed, AllPlaced, all-turned}
+use Rattle.definition.specs.Gives.{Gives, gives-ok, gives-map, gives-then}
+use Rattle.definition.specs.Puts.{occ-le, Placed, AllPlaced, all-turned}
 use Rattle.definition.specs.Edge.{fresh, Grown}
 use Rattle.definition.specs.Ring.{in-grown}
 use Rattle.definition.specs.Weigh.{weigh}
@@ -78,10 +78,6 @@ module _ (nc : ℕ) (cells : List (List Entry)) where
       (λ w. rw (ne-eqb (occ (nc + i) (allWrapped cells)) 0 (omega (arith, w .1)), eq-eqb o EMPTY (w .0)) (ap (λ (m : ℕ). 0 + m) rest₁))
       (rw (add-zero i) at (h 0 (omega arith)))
 
-occ-le : (v : ℕ) (l : List ℕ) → occ v l ≤ length l
-occ-le v [] = omega arith
-occ-le v (x ∷ l) = ⊎-elim (λ w. omega (arith, w .1, occ-le v l)) (λ w. omega (arith, w .1, occ-le v l)) (same-cases v x)
-
 -- a wrapped entry is a corner
 wrapped-placed : (P : ℕ → Type 0) (nc n v : ℕ) (es : List Entry) → AllPlaced P nc n es → 0 < occ v (wrappedIn es) → (nc ≤ v) × (v < nc + 4)
 unfolding wrappedIn
@@ -125,6 +121,10 @@ module _ {sites : List Float} {tri he hull : List ℕ} (a : Accepted sites tri h
       (h .corner c (omega (arith, h .four))))) in
       rw (add-zero nc, h .four) at q
 
+  pub lost-told : (x : Extensions) → length tri / 3 + 4 ≤ length (x .verts) → Gives (λ (s : Cells). lostFrom (length tri / 3) 4 (s .cells) ≡ leftOf (s .owners)) (clipAll b (length tri / 3) tri he hull left (siteCount sites) found x)
+  lost-told x room =
+      gives-map _ _ (clipAll b (length tri / 3) tri he hull left (siteCount sites) found x) (clip-all (topology a) (omega (arith, a .counts .few-sites)) b (length tri / 3) found x room four-found) (lost-is-left _ _ _)
+
   abbrev Good : Built → Type 0
   Good r = Wrapping sites tri he hull b r × Room tri hull b r
 
@@ -160,3 +160,10 @@ module _ {sites : List Float} {tri he hull : List ℕ} (a : Accepted sites tri h
       (λ x e. gives-then (Held b nc (siteCount sites) (shareOf tri hull) (x .verts) found (fresh (x .steps))) Good (clipAll b nc tri he hull left (siteCount sites) found x) _
       (clip-all (topology a) (omega (arith, a .counts .few-sites)) b nc found x (omega (arith, e .grown .longer)) four-found)
       (λ s h. finish x (omega (arith, e .grown .longer, e .added)) (omega (arith, e .added, e .few)) s h)))
+
+  -- the same of a build's answer
+  pub wrapping : {r : Built} → build sites tri he hull b ≡ ok r → Wrapping sites tri he hull b r
+  wrapping e = gives-ok Good built e .0
+
+  pub room : {r : Built} → build sites tri he hull b ≡ ok r → Room tri hull b r
+  room e = gives-ok Good built e .1

@@ -1,4 +1,4 @@
--- Sums over all cells: what they are when one cell is set, and that the sites' shares of the half-edges and of the hull are no more than those.
+-- Sums over all cells: what they are when one cell is set, and that the sites' shares of a list are no more than its entries.
 use mathlib.Core.Path.{_≡_, refl, sym, ap, _∙_, subst}
 use mathlib.Core.List.{List, [], _∷_, _++_}
 use mathlib.Core.Logic.{_⊎_, inl, inr, ⊎-elim, _≢_}
@@ -6,7 +6,7 @@ use Prim.Native.Nat.{ℕ, zero, suc, _+_, _*_, _≤_, _<_}
 use native.Mathlib.Omega.{arith}
 use native.Mathlib.Nat.{add-zero, zero-add}
 use lib.ListN.{length, getD, set, length-append}
-use Rattle.laws.specs.Count.{same, occ, same-cases, occ-append, sumTo}
+use Rattle.laws.specs.Count.{same, occ, same-cases, occ-append}
 use Rattle.definition.specs.Cell.{Entry}
 use Rattle.definition.specs.Build.{wrappedIn, allWrapped}
 
@@ -60,10 +60,6 @@ share-one s i (c ∷ cs) = ⊎-elim (λ w. omega (arith, w .1, passed s (suc i) 
 pub share-occ : (l : List ℕ) (i : ℕ) (cs : List (List Entry)) → weigh (share (λ j. occ j l)) i cs ≤ length l
 share-occ [] i cs = omega (arith, share-zero i cs)
 share-occ (x ∷ l) i cs = omega (arith, share-sum (λ j. same j x) (λ j. occ j l) i cs, share-one x i cs, share-occ l i cs)
-
-pub share-count : (f : ℕ → ℕ) (m i : ℕ) (cs : List (List Entry)) → weigh (share (λ j. sumTo (λ e. same j (f e)) m)) i cs ≤ m
-share-count f zero i cs = omega (arith, share-zero i cs)
-share-count f (suc m) i cs = omega (arith, share-sum (λ j. sumTo (λ e. same j (f e)) m) (λ j. same j (f m)) i cs, share-one (f m) i cs, share-count f m i cs)
 
 -- twice as much, and a sum of two
 pub share-double : (u w : ℕ → ℕ) (i : ℕ) (cs : List (List Entry)) → weigh (share (λ j. u j + 2 * w j)) i cs ≡ weigh (share u) i cs + 2 * weigh (share w) i cs

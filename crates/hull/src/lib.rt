@@ -13,7 +13,7 @@ use mesh::Fault;
 use mesh::NONE;
 
 // The place after place i.
-fn after(h: usize, i: usize) -> usize
+pub fn after(h: usize, i: usize) -> usize
     requires { ⌜ i < h ⌝ }
     ensures { λ r. ⌜ (r ≡ afterOf h i) × (r < h) ⌝ }
 {

@@ -1,4 +1,5 @@
 // How cells share one index list: regions by site while they are built, moved together at the end, and what is left over cleared.
+use mesh::wide;
 ghost use mathlib.Core.Path.{_≡_};
 ghost use mathlib.Core.List.{List, _++_};
 ghost use Prim.Native.Nat.{ℕ, suc, _+_, _-_, _*_, _≤_, _<_};
@@ -61,12 +62,6 @@ pub fn move_down(idx: &mut [u32], at: usize, from: usize, to: usize)
         w += 1;
         i += 1;
     }
-}
-
-fn wide(x: u32) -> usize
-    ensures { λ r. ⌜ r ≡ x ⌝ }
-{
-    x as usize
 }
 
 // Moves the cells of all sites together and turns the starts of their regions into offsets. Answers how many entries there are.

@@ -1,6 +1,6 @@
 // Half-edge steps, the table of leftmost half-edges, and walks round a site, over lent triangles and half-edges.
 ghost use mathlib.Core.Path.{_≡_};
-ghost use Prim.Native.Nat.{ℕ, _%_, _<_, _≤_};
+ghost use Prim.Native.Nat.{ℕ, _/_, _%_, _<_, _≤_};
 ghost use lib.ListN.{length, getD, replicate};
 ghost use Rattle.mesh.specs.Mesh.{EMPTY, nextOf, endOf, chosen, tableTo, turnOf, wholeOf, Walks};
 
@@ -34,6 +34,13 @@ pub fn next_halfedge(e: usize) -> usize
         return e - 2;
     }
     e + 1
+}
+
+// The triangle of half-edge e.
+pub fn triangle_of_edge(e: usize) -> usize
+    ensures { λ r. ⌜ r ≡ e / 3 ⌝ }
+{
+    e / 3
 }
 
 // The site that half-edge e ends at.

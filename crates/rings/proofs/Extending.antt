@@ -25,7 +25,7 @@ use Rattle.rings.specs.Extensions.{Extended, ExtendedBy, ExtendsInto}
 use Rattle.rings.specs.declared.extensions.Passed.{Passed}
 
 -- one number more is pasted
-paste-snoc : (d : List ℕ) (at : ℕ) (xs : List ℕ) (y : ℕ) → at + length xs < length d → set (paste d at xs (length xs)) (at + length xs) y ≡ paste d at (xs ++ y ∷ []) (length (xs ++ y ∷ []))
+pub paste-snoc : (d : List ℕ) (at : ℕ) (xs : List ℕ) (y : ℕ) → at + length xs < length d → set (paste d at xs (length xs)) (at + length xs) y ≡ paste d at (xs ++ y ∷ []) (length (xs ++ y ∷ []))
 paste-snoc d at xs y h =
     let i = length xs in
     let l : length (xs ++ y ∷ []) ≡ suc i = length-append xs (y ∷ []) ∙ omega arith in

@@ -54,6 +54,9 @@ module _ (tri he : List ℕ) (s at : ℕ) (old : List ℕ) where
       (λ l. omega (arith, ap length (walk-done he s (length he) s l)))
       (lt-or-ge s (length he))
 
+  pub ring-room : Paired tri he → length (ringFrom he s) ≤ length he
+  ring-room ok = omega (arith, length-map (λ f. f / 3) (wholeOf he s), walk-room ok)
+
   module _ (new : List ℕ) (e n : ℕ) (g : Staging new e n) (h : e < length he) where
     next-entry : (n - at < length (wholeOf he s)) × (getD (wholeOf he s) (n - at) 0 ≡ e) × (drop (suc (n - at)) (wholeOf he s) ≡ restOf he s (turnOf he s e))
     next-entry = drop-head (wholeOf he s) (n - at) e (restOf he s (turnOf he s e)) (g .rest ∙ rest-step he s e (g .settled) h)

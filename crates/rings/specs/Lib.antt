@@ -1,3 +1,4 @@
 pub mod Centers
 pub mod Staging
 pub mod Extensions
+pub mod Ownership

@@ -1,4 +1,5 @@
 // The circumcenters of all triangles, with rule 11.
+use mesh::wide;
 use utils::Point;
 use utils::centre_ok;
 use utils::circumcenter_of;
@@ -10,12 +11,6 @@ ghost use Prim.Native.Nat.{_+_, _*_, _/_, _≤_, _<_};
 ghost use lib.ListN.{length};
 ghost use Rattle.definition.specs.Build.{centreAt, centresFrom};
 ghost use Rattle.rings.specs.Centers.{Named, Centred};
-
-fn wide(x: u32) -> usize
-    ensures { λ r. ⌜ r ≡ x ⌝ }
-{
-    x as usize
-}
 
 // The circumcenter of triangle t.
 fn center_at(sites: &[f64], triangles: &[u32], t: usize) -> Point

@@ -1,4 +1,5 @@
 // The hull's extensions (extend_voronoi_vertex): far beyond the box, from a circumcenter orthogonally to its hull edge; rule 12.
+use hull::after;
 use mesh::end_site;
 use mesh::wide;
 use utils::Point;
@@ -11,7 +12,7 @@ ghost use mathlib.Core.List.{[]};
 ghost use Prim.Native.Nat.{ℕ, _+_, _*_, _/_, _%_, _≤_, _<_};
 ghost use lib.ListN.{length, getD};
 ghost use Rattle.utils.specs.Flat.{points};
-ghost use Rattle.mesh.specs.Hull.{afterOf, nextSite};
+ghost use Rattle.mesh.specs.Hull.{nextSite};
 ghost use Rattle.definition.specs.Build.{finite, extended, extensions, extendFrom};
 ghost use Rattle.rings.specs.Centers.{Named};
 ghost use Rattle.rings.specs.Extensions.{projectedOf, Hulled, ExtendsInto, ExtendedBy};
@@ -61,17 +62,6 @@ fn extend_voronoi_vertex(
         point_at(sites, wide(triangles[e])),
         point_at(sites, wide(end_site(triangles, e))),
     )
-}
-
-// The place after place i of h.
-fn after(h: usize, i: usize) -> usize
-    requires { ⌜ i < h ⌝ }
-    ensures { λ r. ⌜ (r ≡ afterOf h i) × (r < h) ⌝ }
-{
-    if i + 1 == h {
-        return 0;
-    }
-    i + 1
 }
 
 // The half-edge over which hull place i is extended: the leftmost one of the site at the next place.

@@ -1,4 +1,5 @@
-// What stands ready before a cell is clipped: the circumcenters, the hull's extensions, and the ring of a site.
+// What stands ready before a cell is clipped: the circumcenters, the corners' owners, the hull's extensions, and the ring of a site.
 pub mod centers;
 pub mod extensions;
+pub mod ownership;
 pub mod staging;

@@ -2,11 +2,12 @@
 use mesh::turn;
 use mesh::wide;
 ghost use mathlib.Core.Path.{_≡_};
+ghost use mathlib.Core.List.{[], _∷_, _++_};
 ghost use Prim.Native.Nat.{_+_, _≤_};
-ghost use lib.ListN.{length};
+ghost use lib.ListN.{length, drop};
 ghost use Rattle.mesh.specs.Mesh.{Paired};
-ghost use Rattle.definition.specs.Build.{ringFrom};
-ghost use Rattle.rings.specs.Staging.{Staged};
+ghost use Rattle.definition.specs.Build.{ringFrom, hullRing};
+ghost use Rattle.rings.specs.Staging.{Staged, Stages};
 
 // Writes the triangles along the walk from half-edge s, from `at` on. Answers the place after them.
 pub fn stage_ring(triangles: &[u32], halfedges: &[u32], s: u32, ix: &mut [u32], at: usize) -> usize
@@ -21,4 +22,66 @@ pub fn stage_ring(triangles: &[u32], halfedges: &[u32], s: u32, ix: &mut [u32], 
         e = wide(turn(halfedges, s, e));
     }
     n
+}
+
+// The ring of the first hull site: the extension after it, the one before it, then the walk.
+fn stage_first(
+    triangles: &[u32],
+    halfedges: &[u32],
+    e: u32,
+    ix: &mut [u32],
+    at: usize,
+    after: u32,
+    before: u32,
+) -> usize
+    requires { ⌜ Paired (now triangles) (now halfedges) × (at + length (now halfedges) + 2 ≤ length (now ix)) ⌝ }
+    ensures { λ r. ⌜ Staged (after ∷ before ∷ ringFrom (now (halfedges .entry)) e) at (now (ix .entry)) (now (ix .exit)) r ⌝ }
+{
+    ix[at] = after;
+    ix[at + 1] = before;
+    stage_ring(triangles, halfedges, e, ix, at + 2)
+}
+
+// The ring of another hull site: the extension before it, the walk, the one after it.
+fn stage_later(
+    triangles: &[u32],
+    halfedges: &[u32],
+    e: u32,
+    ix: &mut [u32],
+    at: usize,
+    before: u32,
+    after: u32,
+) -> usize
+    requires { ⌜ Paired (now triangles) (now halfedges) × (at + length (now halfedges) + 2 ≤ length (now ix)) ⌝ }
+    ensures { λ r. ⌜ Staged (before ∷ ringFrom (now (halfedges .entry)) e ++ after ∷ []) at (now (ix .entry)) (now (ix .exit)) r ⌝ }
+{
+    ix[at] = before;
+    let end = stage_ring(triangles, halfedges, e, ix, at + 1);
+    ix[end] = after;
+    end + 1
+}
+
+// The ring of the site at hull place i, whose extensions' numbers stand from `xs` on, after the stage.
+pub fn stage_hull_ring(
+    triangles: &[u32],
+    halfedges: &[u32],
+    hull: &[u32],
+    table: &[u32],
+    ix: &mut [u32],
+    at: usize,
+    xs: usize,
+    i: usize,
+) -> usize
+    requires { ⌜ Stages (now triangles) (now halfedges) (now hull) (now table) (now ix) at xs i ⌝ }
+    ensures { λ r. ⌜ Staged (hullRing (now (halfedges .entry)) (now (hull .entry)) (now (table .entry)) (drop xs (now (ix .entry))) i) at (now (ix .entry)) (now (ix .exit)) r ⌝ }
+{
+    let e = table[wide(hull[i])];
+    if i == 0 {
+        let after = ix[xs];
+        let before = ix[xs + (hull.len() - 1)];
+        return stage_first(triangles, halfedges, e, ix, at, after, before);
+    }
+    let before = ix[xs + (i - 1)];
+    let after = ix[xs + i];
+    stage_later(triangles, halfedges, e, ix, at, before, after)
 }

@@ -14,3 +14,5 @@ pub mod Rank
 pub mod Rounding
 pub mod Sizes
 pub mod Tested
+pub mod SqrtSizes
+pub mod SquareSums

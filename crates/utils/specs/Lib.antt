@@ -4,3 +4,4 @@ pub mod Flat
 pub mod Sites
 pub mod Centroid
 pub mod Finite
+pub mod Reach

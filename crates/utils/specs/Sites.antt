@@ -5,6 +5,7 @@ use mathlib.Core.List.{List}
 use mathlib.Core.Logic.{⊎-elim}
 use Prim.Native.Nat.{ℕ, zero, suc, _≤_, _<_}
 use native.Mathlib.Omega.{arith}
+use borrow.Author.Tests.{not-true, not-false}
 use lib.Ieee.{Float}
 use Rattle.laws.specs.Decide.{First, first-all, eq-or-ne}
 use Rattle.laws.specs.And.{and-left, and-right, and-both}
@@ -23,22 +24,14 @@ okSites (suc n) l = okSites n l && okSite (pointAt l n)
 
 -- ---- what a test of the point that was read tells
 module _ {p q : Point} {b : Bool} (e : p ≡ q) (t : b ≡ okSite p) where
-  told : b ≡ okSite q
+  told : okSite q ≡ b
   told = cc
 
   pub kept-if : not b ≡ false → okSite q ≡ true
-  kept-if h = sym told ∙ yes b h
-    where
-      yes : (b : Bool) → not b ≡ false → b ≡ true
-      yes true h = refl
-      yes false h = sym h
+  kept-if h = told ∙ not-false b h
 
   pub broken-if : not b ≡ true → okSite q ≡ true → ⊥
-  broken-if h k = no b (told ∙ k) h
-    where
-      no : (b : Bool) → b ≡ true → not b ≡ true → ⊥
-      no true e h = false≢true h
-      no false e h = false≢true e
+  broken-if h k = false≢true (sym (told ∙ not-true b h) ∙ k)
 
 -- ---- all, and each
 pub all-kept : (n : ℕ) (l : List Float) → okSites n l ≡ true → (k : ℕ) → k < n → KeptAt l k

@@ -6,7 +6,7 @@ ghost use lib.ListN.{length};
 ghost use Rattle.laws.specs.Decide.{First};
 ghost use Rattle.utils.specs.Plane.{nearOf, dist2Of, centreOf};
 ghost use Rattle.utils.specs.Flat.{pointAt};
-ghost use Rattle.utils.specs.Rules.{okCoord, okSite, okCentre, centreBy, centreAnswer};
+ghost use Rattle.utils.specs.Rules.{okCoord, okSite, okCentre, centreBy, centreAnswer, numberOf, xOf, yOf};
 ghost use Rattle.utils.specs.Sites.{KeptAt};
 ghost use Rattle.utils.specs.Centroid.{sumTo, meanOf, centroidAnswer};
 
@@ -128,6 +128,34 @@ pub fn first_bad_site(sites: &[f64]) -> usize
         i += 1;
     }
     i
+}
+
+// An answer's number, 0 for a point, and its coordinates, 0 where it is refused.
+pub fn number_of(c: Centre) -> u32
+    ensures { λ r. ⌜ r ≡ numberOf c ⌝ }
+{
+    match c {
+        Centre::Refused(n) => n,
+        Centre::At(_) => 0,
+    }
+}
+
+pub fn x_of(c: Centre) -> f64
+    ensures { λ r. ⌜ r ≡ xOf c ⌝ }
+{
+    match c {
+        Centre::Refused(_) => 0.0,
+        Centre::At(p) => p.x,
+    }
+}
+
+pub fn y_of(c: Centre) -> f64
+    ensures { λ r. ⌜ r ≡ yOf c ⌝ }
+{
+    match c {
+        Centre::Refused(_) => 0.0,
+        Centre::At(p) => p.y,
+    }
 }
 
 fn sum_of(points: &[f64], count: usize) -> Point

@@ -1,20 +1,24 @@
--- The store's laws: what is poured is held, and pouring goes on from where it was; what a reused and an added vertex leave.
+-- The store's laws: what is poured is held, and pouring goes on from where it was; the vertices that were there stay; what a reused and an added
+-- vertex leave.
 use Prim.Native.Nat.{ℕ, zero, suc, _+_, _-_, _*_, _≤_, _<_}
 use mathlib.Core.Path.{_≡_, refl, sym, ap, _∙_}
-use mathlib.Core.Bool.{true, false}
+use mathlib.Core.Bool.{Bool, true, false}
 use mathlib.Core.List.{List, [], _∷_, _++_, append-nil, append-assoc}
 use native.Mathlib.Omega.{arith}
 use native.Mathlib.Numerals.{add-one}
 use native.Mathlib.Nat.{add-zero}
-use lib.Ieee.{Float}
+use lib.Dec.{ltb}
+use lib.Ieee.{Float, nan}
 use lib.ListN.{length, getD, take, drop, set, length-set, length-append}
-use lib.Seq.{take-suc, take-all}
+use lib.Seq.{take-suc, take-all, take-at, getD-take, length-take-le}
+use Rattle.laws.specs.Pick.{pick}
+use Rattle.utils.specs.Plane.{at}
 use Rattle.utils.specs.declared.Point.{Point}
-use Rattle.utils.specs.Flat.{points, pointsFrom, pour}
+use Rattle.utils.specs.Flat.{points, pointsFrom, flat, pour}
 use Rattle.vertices.specs.Add.{Added, findNear, addVertex, added}
 use Rattle.vertices.specs.Store.{Holds, Poured, Leaves, Answers}
 use Rattle.vertices.specs.declared.Placed.{Placed}
-use Rattle.vertices.proofs.Laws.{add-old, add-new, length-points, points-pour, pour-points, pour-pour, pour-snoc, length-pour}
+use Rattle.vertices.proofs.Laws.{add-old, add-new, length-points, points-pour, pour-points, pour-pour, pour-snoc, length-pour, flat-append, flat-points, getD-points}
 
 -- ---- poured vertices
 
@@ -48,6 +52,33 @@ poured-snoc {vs} {v} {v₁} {n} p a h =
       counted = rw (length-append vs (p ∷ [])) (omega arith);
     } in
     poured-then a one (omega arith) (omega arith)
+
+-- ---- what is kept
+
+pub poured-kept : (ws : List Point) (v v₁ : List Float) (m n : ℕ) → Poured (points n v ++ ws) v m v₁ → 2 * n ≤ length v → take (2 * n) v₁ ≡ take (2 * n) v
+unfolding pour
+poured-kept ws v v₁ m n h k =
+    rw (h .slice, flat-append (points n v) ws, flat-points v 0 n (omega arith), append-assoc (take (2 * n) v) (flat ws) _)
+    (take-at (take (2 * n) v) _ (2 * n) (length-take-le (2 * n) v k))
+
+pub added-kept : (nc n : ℕ) (p : Point) (v v₁ : List Float) (m : ℕ) → Poured (addVertex nc (points n v) p .verts) v m v₁ → 2 * n ≤ length v → take (2 * n) v₁ ≡ take (2 * n) v
+unfolding addVertex
+added-kept nc n p v v₁ m = go (ltb (findNear p (drop nc (points n v)) nc) (length (points n v)))
+  where
+    go : (old : Bool) → Poured (pick old (λ _. points n v) (λ _. points n v ++ p ∷ [])) v m v₁ → 2 * n ≤ length v → take (2 * n) v₁ ≡ take (2 * n) v
+    go true h k = poured-kept [] v v₁ m n (rw (append-nil (points n v)) h) k
+    go false h k = poured-kept (p ∷ []) v v₁ m n h k
+
+kept-at : (v v₁ : List Float) (n i : ℕ) → take (2 * n) v₁ ≡ take (2 * n) v → i < 2 * n → getD v₁ i nan ≡ getD v i nan
+kept-at v v₁ n i e h = sym (getD-take (2 * n) v₁ i nan h) ∙ ap (λ (l : List Float). getD l i nan) e ∙ getD-take (2 * n) v i nan h
+
+-- a vertex that is kept, among more of them
+pub kept-vertex : (v v₁ : List Float) (n m i : ℕ) (d : Point) → take (2 * n) v₁ ≡ take (2 * n) v → n ≤ m → i < n → getD (points m v₁) i d ≡ getD (points n v) i d
+kept-vertex v v₁ n m i d e h k =
+    getD-points v₁ m i d (omega arith)
+    ∙ ap (λ (x : Float). at x (getD v₁ (2 * i + 1) nan)) (kept-at v v₁ n (2 * i) e (omega arith))
+    ∙ ap (λ (y : Float). at (getD v (2 * i) nan) y) (kept-at v v₁ n (2 * i + 1) e (omega arith))
+    ∙ sym (getD-points v n i d (omega arith))
 
 -- ---- one point added
 

@@ -1,1 +1,4 @@
 pub mod Roots
+pub mod Meshes
+pub mod Plane
+pub mod PlaneOne

@@ -1,0 +1,25 @@
+-- `clipping::edge::before_end` meets its contract: it asks the definition's question.
+use Rattle.clipping.proofs.Clips.{comes-before, comes-after}
+use borrow.Author.Needs.{needs}
+use Rattle.clipping.proofs.edge.before_end.Statement.{statement}
+use Rattle.clipping.proofs.edge.before_end.Tie as tie
+
+order-points-on-ray-requires : tie.Need-order-points-on-ray-requires
+order-points-on-ray-requires c κs = search needs
+
+first-is-requires : tie.Need-first-is-requires
+first-is-requires c κs = search needs
+
+returns : tie.Need-returns
+returns c =
+    let a = c .before .before .before .args in
+    comes-before (a .p) (a .q) (a .d) (a .x) (a .y) (a .u) (a .v) _ _ (c .before .before .order-points-on-ray .ensures) (c .before .first-is .ensures) (c .if1 .taken)
+
+returns-2 : tie.Need-returns-2
+returns-2 c =
+    let a = c .before .before .before .args in
+    comes-after (a .p) (a .q) (a .d) (a .x) (a .y) (a .u) (a .v) _ _ (c .before .before .order-points-on-ray .ensures) (c .before .first-is .ensures) (c .if1 .left)
+
+pub before-end-spec : {M : Type 1} → statement M
+before-end-spec =
+    tie.close (tie.spec order-points-on-ray-requires first-is-requires returns returns-2)

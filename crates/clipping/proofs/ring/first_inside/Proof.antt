@@ -1,0 +1,92 @@
+-- `clipping::ring::first_inside` meets its contract: the first vertex inside of the whole ring is the first of the rest, as none before is inside.
+use Prim.Native.Nat.{ℕ, _+_, _-_, _≤_, _<_}
+use mathlib.Core.Path.{_≡_, refl, sym, ap, _∙_}
+use native.Mathlib.Omega.{arith}
+use native.Mathlib.Nat.{zero-add}
+use lib.ListN.{length, getD, drop}
+use denote.Ref.{now}
+use Rattle.utils.specs.Flat.{points}
+use Rattle.definition.specs.Cell.{firstInside, inBox}
+use Rattle.clipping.specs.Steps.{ringOf}
+use Rattle.clipping.proofs.Rounds.{first-hit, first-miss, first-none, length-ring, getD-ring}
+use Rattle.clipping.proofs.ring.first_inside.Statement.{statement}
+use Rattle.clipping.proofs.ring.first_inside.Tie as tie
+
+abbrev Inv-loop : tie.InvT-loop
+Inv-loop v ix env count ring len bounds k₀ k =
+    (k ≤ len)
+    × (firstInside (env .bounds) (env .centers) (points count v) (ringOf ix ring len)
+    ≡ k + firstInside (env .bounds) (env .centers) (points count v) (drop k (ringOf ix ring len)))
+
+abbrev μ-loop : tie.MeasureT-loop
+μ-loop v ix env count ring len bounds k₀ k = len - k
+
+loop-holds : tie.Need-loop-holds Inv-loop μ-loop
+loop-holds c = (omega arith, sym (zero-add _))
+
+add-at : tie.Need-add-at Inv-loop μ-loop
+add-at c = omega arith
+
+mul-in-box : tie.Need-mul-in-box Inv-loop μ-loop
+mul-in-box c = omega arith
+
+shared-slice-read-in-box : tie.Need-shared-slice-read-in-box Inv-loop μ-loop
+shared-slice-read-in-box c = omega arith
+
+in-box-requires : tie.Need-in-box-requires Inv-loop μ-loop
+in-box-requires c κs =
+    let s = c .before .before .before .before .before .before in
+    (s .pre .0, s .pre .2 (c .before .before .loop .k) (c .before .loop-test .taken))
+
+returns : tie.Need-returns Inv-loop μ-loop
+returns c =
+    let s = c .before .before .before .before .before .before .before .before in
+    let a = s .args in
+    let l = c .before .before .before .before .loop in
+    let vs = points (a .count) (now (a .v)) in
+    let h = c .before .before .before .loop-test .taken in
+    let n = length-ring (now (a .ix)) (a .ring) (a .len) (s .pre .1) in
+    let e = ap (inBox (a .env .bounds) (a .env .centers) vs) (getD-ring (now (a .ix)) (a .ring) (a .len) (l .k) h) ∙ sym (c .before .in-box .ensures) ∙ c .if1 .taken in
+    (sym (l .inv .1 ∙ first-hit (a .env .bounds) (a .env .centers) vs (ringOf (now (a .ix)) (a .ring) (a .len)) (l .k) (rw n h) e), omega arith)
+
+add-k : tie.Need-add-k Inv-loop μ-loop
+add-k c = omega arith
+
+loop-less : tie.Need-loop-less Inv-loop μ-loop
+loop-less c = omega arith
+
+loop-again : tie.Need-loop-again Inv-loop μ-loop
+loop-again c =
+    let s = c .before .before .before .before .before .before .before .before in
+    let a = s .args in
+    let l = c .before .before .before .before .loop in
+    let vs = points (a .count) (now (a .v)) in
+    let h = c .before .before .before .loop-test .taken in
+    let n = length-ring (now (a .ix)) (a .ring) (a .len) (s .pre .1) in
+    let e = ap (inBox (a .env .bounds) (a .env .centers) vs) (getD-ring (now (a .ix)) (a .ring) (a .len) (l .k) h) ∙ sym (c .before .in-box .ensures) ∙ c .if1 .left in
+    (omega arith, l .inv .1 ∙ first-miss (a .env .bounds) (a .env .centers) vs (ringOf (now (a .ix)) (a .ring) (a .len)) (l .k) (rw n h) e)
+
+returns-2 : tie.Need-returns-2 Inv-loop μ-loop
+returns-2 c =
+    let s = c .before .before .before .before .before in
+    let a = s .args in
+    let l = c .before .loop in
+    let n = length-ring (now (a .ix)) (a .ring) (a .len) (s .pre .1) in
+    (sym (l .inv .1 ∙ first-none (a .env .bounds) (a .env .centers) (points (a .count) (now (a .v))) (ringOf (now (a .ix)) (a .ring) (a .len)) (l .k) (rw n (c .loop-test .left))), l .inv .0)
+
+pub first-inside-spec : {M : Type 1} → statement M
+first-inside-spec =
+    tie.close
+    (tie.spec
+    Inv-loop
+    μ-loop
+    loop-holds
+    add-at
+    mul-in-box
+    shared-slice-read-in-box
+    in-box-requires
+    returns
+    add-k
+    loop-less
+    loop-again
+    returns-2)

@@ -1,0 +1,30 @@
+-- `clipping::ring::in_box` meets its contract: below the circumcenters' number it asks the box, else it says no.
+use mathlib.Core.Path.{sym, ap, _∙_}
+use denote.Ref.{now}
+use Rattle.utils.specs.Flat.{points}
+use Rattle.bounding_box.specs.Box.{insideOf}
+use Rattle.clipping.proofs.Steps.{in-center, in-none}
+use borrow.Author.Needs.{needs}
+use Rattle.clipping.proofs.ring.in_box.Statement.{statement}
+use Rattle.clipping.proofs.ring.in_box.Tie as tie
+
+vertex-requires : tie.Need-vertex-requires
+vertex-requires c κs = search needs
+
+is-inside-requires : tie.Need-is-inside-requires
+is-inside-requires c κs = search needs
+
+returns : tie.Need-returns
+returns c =
+    let a = c .before .before .before .before .args in
+    c .is-inside .ensures
+    ∙ ap (insideOf (a .bounds)) (c .before .vertex .ensures)
+    ∙ sym (in-center (a .bounds) (a .centers) (points (a .count) (now (a .v))) (a .i) (c .before .before .if1 .taken))
+
+returns-2 : tie.Need-returns-2
+returns-2 c =
+    let a = c .before .before .args in
+    sym (in-none (a .bounds) (a .centers) (points (a .count) (now (a .v))) (a .i) (c .if1 .left))
+
+pub in-box-spec : {M : Type 1} → statement M
+in-box-spec = tie.close (tie.spec vertex-requires is-inside-requires returns returns-2)

@@ -1,0 +1,29 @@
+-- `clipping::step::enter_at` meets its contract: the edge from the cell's last entry to the crossing, outcome by outcome.
+use mathlib.Core.Path.{refl}
+use denote.Ref.{now}
+use borrow.Author.Tests.{eq-eqb}
+use Rattle.utils.specs.Flat.{points}
+use Rattle.definition.specs.Cell.{insertEdge, enterAt}
+use Rattle.clipping.proofs.Changes.{alters-enter}
+use borrow.Author.Needs.{needs}
+use Rattle.clipping.proofs.step.enter_at.Statement.{statement}
+use Rattle.clipping.proofs.step.enter_at.Tie as tie
+
+insert-edge-requires : tie.Need-insert-edge-requires
+insert-edge-requires c κs = search needs
+
+same-length : tie.Need-same-length
+same-length c = search needs
+
+returns : tie.Need-returns
+unfolding enterAt
+returns c =
+    let a = c .before .before .before .before .before .before .before .args in
+    let g = c .before .before .before .insert-edge in
+    let vs = points (a .count) (now (a .v)) in
+    λ ts. alters-enter (a .env .site) (a .count) vs (a .cell) (now (a .ix)) (g .result) _ ts
+    (insertEdge (a .env .bounds) (a .env .centers) (a .env .site) vs (a .cell .owners) (a .cell .last) (a .cell .last) (a .first))
+    (rw (eq-eqb (a .cell .last) (a .cell .last) refl) at (g .ensures .0))
+
+pub enter-at-spec : {M : Type 1} → statement M
+enter-at-spec = tie.close (tie.spec insert-edge-requires same-length returns)

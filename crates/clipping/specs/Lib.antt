@@ -1,0 +1,4 @@
+pub mod Entries
+pub mod Clips
+pub mod Changes
+pub mod Steps

@@ -1,0 +1,119 @@
+// clip_voronoi_edge: where an edge crosses the box, as vertices.
+use crate::Clipped;
+use crate::Env;
+use bounding_box::BoundingBox;
+use crossings::Crossing;
+use crossings::order_points_on_ray;
+use crossings::project_ray;
+use utils::Point;
+use vertices::add_new_vertex;
+use vertices::vertex;
+ghost use mathlib.Core.Path.{_≡_};
+ghost use Prim.Native.Nat.{_+_, _*_, _≤_, _<_, _^_};
+ghost use lib.ListN.{length, drop};
+ghost use Rattle.utils.specs.Plane.{at};
+ghost use Rattle.utils.specs.Flat.{points};
+ghost use Rattle.vertices.specs.Store.{Holds};
+ghost use Rattle.definition.specs.Cell as Def;
+ghost use Rattle.clipping.specs.Clips.{Clips};
+
+// Whether the first point of an ordered crossing is (x, y).
+fn first_is(c: Crossing, x: f64, y: f64) -> bool
+    ensures { λ r. ⌜ r ≡ Def.firstIs c x y ⌝ }
+{
+    match c {
+        Crossing::None => false,
+        Crossing::One(u, v) => (u == x) & (v == y),
+        Crossing::Two(u, v, _, _) => (u == x) & (v == y),
+    }
+}
+
+// Two crossings of the ray from p in the direction d, if the first comes before q.
+fn before_end(p: Point, q: Point, d: Point, x: f64, y: f64, u: f64, v: f64) -> Crossing
+    ensures { λ r. ⌜ r ≡ Def.onEdge p q d (Crossing.Two x y u v) ⌝ }
+{
+    let ordered = order_points_on_ray(p, d, Crossing::Two(q.x, q.y, x, y));
+    if first_is(ordered, x, y) {
+        return Crossing::Two(x, y, u, v);
+    }
+    Crossing::None
+}
+
+fn on_edge(p: Point, q: Point, d: Point, c: Crossing) -> Crossing
+    ensures { λ r. ⌜ r ≡ Def.onEdge p q d c ⌝ }
+{
+    match c {
+        Crossing::None => Crossing::None,
+        Crossing::One(x, y) => Crossing::One(x, y),
+        Crossing::Two(x, y, u, v) => before_end(p, q, d, x, y, u, v),
+    }
+}
+
+fn edge_crossing(bounds: BoundingBox, p: Point, q: Point) -> Crossing
+    ensures { λ r. ⌜ r ≡ Def.edgeCrossing bounds p q ⌝ }
+{
+    let d = Point {
+        x: q.x - p.x,
+        y: q.y - p.y,
+    };
+    on_edge(p, q, d, project_ray(bounds, p, d))
+}
+
+fn crossing_between(v: &[f64], count: usize, bounds: BoundingBox, p: u32, q: u32) -> Crossing
+    requires { ⌜ (2 * count ≤ length (now v)) × (p < count) × (q < count) ⌝ }
+    ensures { λ r. ⌜ r ≡ Def.edgeCrossing bounds (Def.vertexAt (points count (now (v .entry))) p) (Def.vertexAt (points count (now (v .entry))) q) ⌝ }
+{
+    let from = vertex(v, count, p as usize);
+    let to = vertex(v, count, q as usize);
+    edge_crossing(bounds, from, to)
+}
+
+fn clip_once(v: &mut [f64], ix: &mut [u32], env: Env, count: usize, x: f64, y: f64) -> Clipped
+    requires { ⌜ Holds (env .centers) count (now v) (drop (env .limit) (now ix)) ⌝ }
+    requires { ⌜ (2 * (count + 2) ≤ length (now v)) × (count + 2 ≤ 2 ^ 32) ⌝ }
+    ensures { λ r. ⌜ Clips (env .centers) (env .limit) count (Def.clipWith (env .centers) (points count (now (v .entry))) (Crossing.One x y)) (now (v .entry)) (now (ix .entry)) r (now (v .exit)) (now (ix .exit)) ⌝ }
+{
+    let a = add_new_vertex(v, ix, env.limit, env.centers, count, Point { x: x, y: y });
+    Clipped::Once(a.at as u32, a.count)
+}
+
+fn clip_twice(
+    v: &mut [f64],
+    ix: &mut [u32],
+    env: Env,
+    count: usize,
+    x: f64,
+    y: f64,
+    z: f64,
+    w: f64,
+) -> Clipped
+    requires { ⌜ Holds (env .centers) count (now v) (drop (env .limit) (now ix)) ⌝ }
+    requires { ⌜ (2 * (count + 2) ≤ length (now v)) × (count + 2 ≤ 2 ^ 32) ⌝ }
+    ensures { λ r. ⌜ Clips (env .centers) (env .limit) count (Def.clipWith (env .centers) (points count (now (v .entry))) (Crossing.Two x y z w)) (now (v .entry)) (now (ix .entry)) r (now (v .exit)) (now (ix .exit)) ⌝ }
+{
+    let a = add_new_vertex(v, ix, env.limit, env.centers, count, Point { x: x, y: y });
+    let b = add_new_vertex(v, ix, env.limit, env.centers, a.count, Point { x: z, y: w });
+    Clipped::Twice(a.at as u32, b.at as u32, b.count)
+}
+
+// The crossings of the edge from vertex p to vertex q, at most two vertices.
+pub fn clip_voronoi_edge(
+    v: &mut [f64],
+    ix: &mut [u32],
+    env: Env,
+    count: usize,
+    p: u32,
+    q: u32,
+) -> Clipped
+    requires { ⌜ Holds (env .centers) count (now v) (drop (env .limit) (now ix)) ⌝ }
+    requires { ⌜ (2 * (count + 2) ≤ length (now v)) × (count + 2 ≤ 2 ^ 32) × (p < count) × (q < count) ⌝ }
+    ensures { λ r. ⌜ Clips (env .centers) (env .limit) count (Def.clipEdge (env .bounds) (env .centers) (points count (now (v .entry))) p q) (now (v .entry)) (now (ix .entry)) r (now (v .exit)) (now (ix .exit)) ⌝ }
+{
+    let bounds = env.bounds;
+    let c = crossing_between(v, count, bounds, p, q);
+    match c {
+        Crossing::None => Clipped::Missed,
+        Crossing::One(x, y) => clip_once(v, ix, env, count, x, y),
+        Crossing::Two(x, y, z, w) => clip_twice(v, ix, env, count, x, y, z, w),
+    }
+}

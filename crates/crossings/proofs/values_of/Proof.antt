@@ -1,0 +1,26 @@
+-- `crossings::values_of`: each arm is the definition at its variant. Assumes nothing.
+use borrow.Author.Needs.{needs}
+use Rattle.crossings.proofs.values_of.Statement.{statement}
+use Rattle.crossings.proofs.values_of.Tie as tie
+
+enum-told : tie.Need-enum-told
+enum-told c = search needs
+
+enum-known-c : tie.Need-enum-known-c
+enum-known-c c = search needs
+
+enum-known-c-2 : tie.Need-enum-known-c-2
+enum-known-c-2 c = search needs
+
+returns : tie.Need-returns
+returns c = rw (c .enum-told .given .1)
+
+returns-2 : tie.Need-returns-2
+returns-2 c = rw (c .before .c .given .1)
+
+returns-3 : tie.Need-returns-3
+returns-3 c = rw (c .before .c2 .given .1)
+
+pub values-of-spec : {M : Type 1} → statement M
+values-of-spec =
+    tie.close (tie.spec enum-told enum-known-c enum-known-c-2 returns returns-2 returns-3)

@@ -1,0 +1,155 @@
+// Writes the program's listing into a lent slice of bytes: each function writes its text from a place on and answers the place after it.
+ghost use mathlib.Core.Path.{_≡_};
+ghost use mathlib.Core.List.{[], _∷_, _++_};
+ghost use Rattle.listing.specs.Text.{decimal};
+ghost use Rattle.listing.specs.Listing.{entries, labelled, counts, cellLine, cellLines, unclippedListing, corners, listing, refusal, Layout};
+ghost use Rattle.listing.specs.Wrote.{Wrote, Fits};
+
+fn put(out: &mut [u8], at: usize, text: &[u8]) -> usize
+    requires { ⌜ Fits (now out) at (now text) ⌝ }
+    ensures { λ r. ⌜ Wrote (now (out .entry)) (now (out .exit)) at r (now (text .entry)) ⌝ }
+{
+    let mut i = 0;
+    while i < text.len() {
+        out[at + i] = text[i];
+        i += 1;
+    }
+    at + i
+}
+
+fn decimal(out: &mut [u8], at: usize, n: u32) -> usize
+    requires { ⌜ Fits (now out) at (decimal n) ⌝ }
+    ensures { λ r. ⌜ Wrote (now (out .entry)) (now (out .exit)) at r (decimal n) ⌝ }
+{
+    if n < 10 {
+        out[at] = 48 + n as u8;
+        return at + 1;
+    }
+    let last = decimal(out, at, n / 10);
+    out[last] = 48 + (n % 10) as u8;
+    last + 1
+}
+
+fn entry(out: &mut [u8], at: usize, n: u32) -> usize
+    requires { ⌜ Fits (now out) at (entries (n ∷ [])) ⌝ }
+    ensures { λ r. ⌜ Wrote (now (out .entry)) (now (out .exit)) at r (entries (n ∷ [])) ⌝ }
+{
+    out[at] = b' ';
+    decimal(out, at + 1, n)
+}
+
+fn entries(out: &mut [u8], at: usize, list: &[u32]) -> usize
+    requires { ⌜ Fits (now out) at (entries (now list)) ⌝ }
+    ensures { λ r. ⌜ Wrote (now (out .entry)) (now (out .exit)) at r (entries (now (list .entry))) ⌝ }
+{
+    let mut end = at;
+    let mut i = 0;
+    while i < list.len() {
+        end = entry(out, end, list[i]);
+        i += 1;
+    }
+    end
+}
+
+// A label and a number.
+fn labelled(out: &mut [u8], at: usize, label: &[u8], n: u32) -> usize
+    requires { ⌜ Fits (now out) at (now label ++ entries (n ∷ [])) ⌝ }
+    ensures { λ r. ⌜ Wrote (now (out .entry)) (now (out .exit)) at r (now (label .entry) ++ entries (n ∷ [])) ⌝ }
+{
+    let end = put(out, at, label);
+    entry(out, end, n)
+}
+
+fn counts(out: &mut [u8], sites: u32, triangles: u32, vertices: u32) -> usize
+    requires { ⌜ Fits (now out) 0 (counts sites triangles vertices) ⌝ }
+    ensures { λ r. ⌜ Wrote (now (out .entry)) (now (out .exit)) 0 r (counts sites triangles vertices) ⌝ }
+{
+    let a = labelled(out, 0, b"sites", sites);
+    let b = labelled(out, a, b" triangles", triangles);
+    let c = labelled(out, b, b" vertices", vertices);
+    put(out, c, b"\n")
+}
+
+fn cell_line(out: &mut [u8], at: usize, i: u32, cell: &[u32]) -> usize
+    requires { ⌜ Fits (now out) at (cellLine i (now cell)) ⌝ }
+    ensures { λ r. ⌜ Wrote (now (out .entry)) (now (out .exit)) at r (cellLine i (now (cell .entry))) ⌝ }
+{
+    let a = labelled(out, at, b"cell", i);
+    let b = put(out, a, b":");
+    let c = entries(out, b, cell);
+    put(out, c, b"\n")
+}
+
+fn wide(x: u32) -> usize
+    ensures { λ r. ⌜ r ≡ x ⌝ }
+{
+    x as usize
+}
+
+fn cell_lines(out: &mut [u8], at: usize, sites: usize, offsets: &[u32], cells: &[u32]) -> usize
+    requires { ⌜ (Layout (now offsets) (now cells) sites) × (Fits (now out) at (cellLines (now offsets) (now cells) 0 sites)) ⌝ }
+    ensures { λ r. ⌜ Wrote (now (out .entry)) (now (out .exit)) at r (cellLines (now (offsets .entry)) (now (cells .entry)) 0 sites) ⌝ }
+{
+    let mut end = at;
+    let mut i: usize = 0;
+    while i < sites {
+        let from = wide(offsets[i]);
+        let to = wide(offsets[i + 1]);
+        end = cell_line(out, end, i as u32, &cells[from..to]);
+        i += 1;
+    }
+    end
+}
+
+// The listing of a mesh without a box.
+pub fn unclipped_listing(
+    out: &mut [u8],
+    sites: u32,
+    triangles: u32,
+    vertices: u32,
+    offsets: &[u32],
+    cells: &[u32],
+) -> usize
+    requires { ⌜ (Layout (now offsets) (now cells) sites) × (Fits (now out) 0 (unclippedListing sites triangles vertices (now offsets) (now cells))) ⌝ }
+    ensures { λ r. ⌜ Wrote (now (out .entry)) (now (out .exit)) 0 r (unclippedListing sites triangles vertices (now (offsets .entry)) (now (cells .entry))) ⌝ }
+{
+    let end = counts(out, sites, triangles, vertices);
+    cell_lines(out, end, wide(sites), offsets, cells)
+}
+
+fn corners(out: &mut [u8], at: usize, owners: [u32; 4], lost: u32) -> usize
+    requires { ⌜ Fits (now out) at (corners owners lost) ⌝ }
+    ensures { λ r. ⌜ Wrote (now (out .entry)) (now (out .exit)) at r (corners owners lost) ⌝ }
+{
+    let a = put(out, at, b"corners");
+    let b = entries(out, a, &owners);
+    let c = labelled(out, b, b" lost", lost);
+    put(out, c, b"\n")
+}
+
+// The listing of a mesh in its box.
+pub fn listing(
+    out: &mut [u8],
+    sites: u32,
+    triangles: u32,
+    vertices: u32,
+    offsets: &[u32],
+    cells: &[u32],
+    owners: [u32; 4],
+    lost: u32,
+) -> usize
+    requires { ⌜ (Layout (now offsets) (now cells) sites) × (Fits (now out) 0 (listing sites triangles vertices (now offsets) (now cells) owners lost)) ⌝ }
+    ensures { λ r. ⌜ Wrote (now (out .entry)) (now (out .exit)) 0 r (listing sites triangles vertices (now (offsets .entry)) (now (cells .entry)) owners lost) ⌝ }
+{
+    let end = unclipped_listing(out, sites, triangles, vertices, offsets, cells);
+    corners(out, end, owners, lost)
+}
+
+// The line of a refusal.
+pub fn refusal(out: &mut [u8], number: u32) -> usize
+    requires { ⌜ Fits (now out) 0 (refusal number) ⌝ }
+    ensures { λ r. ⌜ Wrote (now (out .entry)) (now (out .exit)) 0 r (refusal number) ⌝ }
+{
+    let end = labelled(out, 0, b"refused", number);
+    put(out, end, b"\n")
+}

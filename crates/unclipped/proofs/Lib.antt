@@ -1,0 +1,4 @@
+pub mod Reversing
+pub mod Rings
+pub mod Drawing
+pub mod Outcome

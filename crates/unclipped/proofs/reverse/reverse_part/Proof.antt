@@ -1,0 +1,89 @@
+-- `unclipped::reverse::reverse_part` meets its contract: each turn swaps the two ends of what is left to be turned round.
+use Prim.Native.Nat.{_+_, _-_, _≤_, _<_}
+use native.Mathlib.Omega.{arith}
+use lib.ListN.{length, length-set}
+use borrow.Author.Needs.{needs}
+use Rattle.unclipped.proofs.Reversing.{Reversing, reversing-start, reversing-step, reversing-end}
+use Rattle.unclipped.proofs.reverse.reverse_part.Statement.{statement}
+use Rattle.unclipped.proofs.reverse.reverse_part.Tie as tie
+
+abbrev Inv-loop : tie.InvT-loop
+Inv-loop ix₀ from to i₀ j₀ ix i j = Reversing from to ix₀ ix i j
+
+abbrev μ-loop : tie.MeasureT-loop
+μ-loop ix₀ from to i₀ j₀ ix i j = j - i
+
+-- both ends lie within the list
+inside : (l : tie.At-loop Inv-loop μ-loop) → l .loop .j ≤ length (l .loop .ix)
+inside l = omega (arith, l .loop .inv .low, l .loop .inv .sum, l .loop .inv .long, l .before .pre)
+
+loop-holds : tie.Need-loop-holds Inv-loop μ-loop
+loop-holds c = reversing-start _ _ _ (c .pre .0)
+
+add-loop : tie.Need-add-loop Inv-loop μ-loop
+add-loop c = omega (arith, inside c)
+
+sub-j : tie.Need-sub-j Inv-loop μ-loop
+sub-j c = omega arith
+
+mul-x : tie.Need-mul-x Inv-loop μ-loop
+mul-x c = omega (arith, inside (c .before))
+
+slice-read-x : tie.Need-slice-read-x Inv-loop μ-loop
+slice-read-x c = omega (arith, inside (c .before .before))
+
+mul-ix : tie.Need-mul-ix Inv-loop μ-loop
+mul-ix c = omega (arith, inside (c .before .before))
+
+slice-read-ix : tie.Need-slice-read-ix Inv-loop μ-loop
+slice-read-ix c = omega (arith, inside (c .before .before .before))
+
+mul-ix-2 : tie.Need-mul-ix-2 Inv-loop μ-loop
+mul-ix-2 c = omega (arith, inside (c .before .before .before))
+
+slice-write-ix : tie.Need-slice-write-ix Inv-loop μ-loop
+slice-write-ix c = omega (arith, inside (c .before .before .before))
+
+mul-ix-3 : tie.Need-mul-ix-3 Inv-loop μ-loop
+mul-ix-3 c = omega (arith, inside (c .before .before .before))
+
+slice-write-ix-2 : tie.Need-slice-write-ix-2 Inv-loop μ-loop
+slice-write-ix-2 c = simp length-set (omega (arith, inside (c .before .before .before)))
+
+add-i : tie.Need-add-i Inv-loop μ-loop
+add-i c = omega (arith, inside (c .before .before .before))
+
+loop-less : tie.Need-loop-less Inv-loop μ-loop
+loop-less c = omega arith
+
+loop-again : tie.Need-loop-again Inv-loop μ-loop
+loop-again c = let l = c .before .before .before in reversing-step _ _ _ _ _ _ (l .loop .inv) (l .before .pre .1) (c .before .before .loop-test .taken)
+
+same-length : tie.Need-same-length Inv-loop μ-loop
+same-length c = c .before .loop .inv .long
+
+returns : tie.Need-returns Inv-loop μ-loop
+returns c = reversing-end _ _ _ _ _ _ (c .before .loop .inv) (c .loop-test .left)
+
+pub reverse-part-spec : {M : Type 1} → statement M
+reverse-part-spec =
+    tie.close
+    (tie.spec
+    Inv-loop
+    μ-loop
+    loop-holds
+    add-loop
+    sub-j
+    mul-x
+    slice-read-x
+    mul-ix
+    slice-read-ix
+    mul-ix-2
+    slice-write-ix
+    mul-ix-3
+    slice-write-ix-2
+    add-i
+    loop-less
+    loop-again
+    same-length
+    returns)

@@ -1,0 +1,23 @@
+-- `voronoi::plane::voronoi_corners`: each answer by the tests that lead to it; accepted, the corners and then zeros. Assumes nothing.
+use borrow.Author.Needs.{needs}
+use mathlib.Core.Path.{sym, _∙_}
+use borrow.Author.Tests.{not-true, not-false}
+use Rattle.voronoi.proofs.PlaneLaws.{too-short, no-box, put}
+use Rattle.voronoi.proofs.plane.voronoi_corners.Statement.{statement}
+use Rattle.voronoi.proofs.plane.voronoi_corners.Tie as tie
+
+returns : tie.Need-returns
+returns c = too-short _ _ _ _ (c .if1 .taken)
+
+returns-2 : tie.Need-returns-2
+returns-2 c = no-box _ _ _ _ (c .before .before .if1 .left) (sym (c .before .box-ok .ensures) ∙ not-true _ (c .if2 .taken))
+
+returns-3 : tie.Need-returns-3
+returns-3 c =
+    let d = c .before .before .before .before .before .before in
+    let b = d .before .before in
+    put _ _ _ _ (b .before .before .before .if1 .left) (sym (b .before .before .box-ok .ensures) ∙ not-false _ (b .before .if2 .left))
+    (b .new .ensures) (d .put-corners .ensures) (c .before .before .clear-floats-from .ensures)
+
+pub voronoi-corners-spec : {M : Type 1} → statement M
+voronoi-corners-spec = tie.close (tie.spec returns (λ c κs. tt) returns-2 (λ c κs. tt) (λ c κs. search needs) (λ c κs. search needs) (λ c. search needs) returns-3)

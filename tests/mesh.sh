@@ -1,0 +1,7 @@
+#!/bin/sh
+# The check of a mesh through the C interface: tests/mesh.sh [COUNT [SEED]].
+set -eu
+here=$(cd "$(dirname "$0")" && pwd)
+program=$here/../target/tests/mesh
+"$here/archive.sh" build "$program" "$here/mesh.c"
+exec "$here/archive.sh" run "$program" "${1:-20000}" ${2+"$2"}
