@@ -2,12 +2,11 @@
 -- 2 ^ 485; and a crossing lies within the box's own bounds. Assumes nothing.
 use mathlib.Core.Path.{_≡_, sym, subst}
 use mathlib.Core.Bool.{true, false}
-use mathlib.Core.Logic.{_⊎_, inl, inr, ⊎-elim}
+use mathlib.Core.Logic.{_⊎_, ⊎-elim}
 use Prim.{tt}
 use Prim.Native.Nat.{ℕ, suc, _+_, _≤_}
 use native.Mathlib.Omega.{arith}
-use lib.Dec.{T}
-use lib.Ieee.{Float, binary64, lt, le}
+use lib.Ieee.{Float, binary64, lt}
 use Rattle.root.specs.Root.{magnitude}
 use Rattle.root.specs.Bounds.{Bounded, OneOrMore, weaken, add-bound, sub-bound, mul-bound, div-bound, bounded-finite}
 use Rattle.root.specs.Sizes.{AtLeast, quotient-bound, quotient-least}

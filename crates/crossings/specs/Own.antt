@@ -10,8 +10,12 @@ use Rattle.laws.specs.And.{and-left, and-right}
 use Rattle.laws.specs.Binary64.{_⊞_, _⊟_, _⊠_, _⊘_, eps}
 use Rattle.utils.specs.Plane.{at}
 use Rattle.utils.specs.declared.Point.{Point}
+use Rattle.utils.specs.Rules.{okSite}
+use Rattle.bounding_box.specs.Box.{madeOf}
+use Rattle.bounding_box.specs.Rules.{okBox}
 use Rattle.bounding_box.specs.declared.BoundingBox.{BoundingBox}
 use Rattle.crossings.specs.Cross.{oneIf, twoIf, some, orOf, joinOf, firstHeld, settleOf, rightHit, leftHit, topHit, bottomHit, uprightHit, lineOf, orderPick, eitherOf, orderBy, orderOne, orderTwo, orderOf, rayOf}
+use Rattle.crossings.specs.Rules.{metBy, lineAnswer, rayAnswer, pointsOf}
 use Rattle.crossings.specs.declared.Crossing.{Crossing}
 use Rattle.crossings.specs.declared.Crossing.the-variants.{None, One, Two}
 
@@ -144,3 +148,18 @@ module _ (b : BoundingBox) where
   pub ray-own : (p dir : Point) → OnBox b (rayOf b p dir)
   unfolding rayOf
   ray-own p dir = let q = at (p .x ⊞ dir .x) (p .y ⊞ dir .y) in order-own p dir (lineOf b p q) (line-own p q)
+
+-- ---- with the refusals
+met-own : (b : BoundingBox) (r s : Bool) (c : Crossing) → OnBox b c → OnBox b (pointsOf (metBy r s c))
+unfolding metBy
+met-own b true true c h = h
+met-own b true false c h = tt
+met-own b false s c h = tt
+
+pub line-answer-own : (c : Point) (w h : Float) (p q : Point) → OnBox (madeOf c w h) (pointsOf (lineAnswer c w h p q))
+unfolding lineAnswer
+line-answer-own c w h p q = met-own (madeOf c w h) (okBox c w h) (okSite p && okSite q) (lineOf (madeOf c w h) p q) (line-own (madeOf c w h) p q)
+
+pub ray-answer-own : (c : Point) (w h : Float) (p dir : Point) → OnBox (madeOf c w h) (pointsOf (rayAnswer c w h p dir))
+unfolding rayAnswer
+ray-answer-own c w h p dir = met-own (madeOf c w h) (okBox c w h) (okSite p && okSite dir) (rayOf (madeOf c w h) p dir) (ray-own (madeOf c w h) p dir)

@@ -1,14 +1,12 @@
 -- Document 01's checked examples on the plane, as rows under one claim: the sides of five points of the box 0 0 2 2, the circumcenter of triangle 0 of
 -- "square", and both lone-point cases. Proved by computation.
 use mathlib.Core.Path.{_≡_, refl}
-use Prim.Native.Nat.{ℕ}
 use lib.Ieee.{Float, binary64, ofBits, neg, add, sub, mul, div, lt, le, eq}
 use Rattle.laws.specs.Binary64.{zero, one, minusOne, two}
 use Rattle.utils.specs.Plane.{at, nearOf, centreOf}
 use Rattle.bounding_box.specs.Box.{madeOf, firstSide, whichOf}
 use Rattle.bounding_box.specs.declared.BoundingBox.{BoundingBox}
 use Rattle.crossings.specs.Cross.{oneIf, orderOne, orderOf}
-use Rattle.crossings.specs.declared.Crossing.{Crossing}
 use Rattle.crossings.specs.declared.Crossing.the-variants.{None, One}
 
 abbrev half : Float

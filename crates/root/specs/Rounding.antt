@@ -1,6 +1,6 @@
 -- One rounding against a bound that the format holds, q * 2 ^ t of its smallest values with q of no more digits than it keeps:
 -- what is at most (at least) the bound rounds to at most (at least) the bound. Assumes nothing.
-use mathlib.Core.Path.{_≡_, refl, sym, ap, _∙_, subst}
+use mathlib.Core.Path.{_≡_, sym, ap, _∙_, subst}
 use mathlib.Core.Logic.{⊎-elim}
 use mathlib.Core.Bool.{Bool, true, false, cond}
 use Prim.{tt}
@@ -9,7 +9,7 @@ use native.Mathlib.Nat.{le-trans, le-of-eq, le-of-lt, lt-of-le-of-lt, lt-of-lt-o
 use native.Mathlib.Omega.{arith}
 use lib.Dec.{T, ltb, ltb→lt}
 use lib.Pow.{pow-add, pow-pos, pow-mono, shl-lt}
-use lib.Ieee.{Float, nan, inf, fin, Format, prec, emax, low, size, nearest, units, odd, round}
+use lib.Ieee.{Float, inf, Format, prec, low, size, nearest, units, odd, round}
 use lib.Ieee.Digits.{size-le, size-reaches}
 use lib.Ieee.Exact.{HasValue, units-val}
 use lib.Ieee.Fits.{round-is}

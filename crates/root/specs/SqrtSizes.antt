@@ -1,14 +1,13 @@
 -- How small a root can be: that of 2 ^ (2 t) / 2 ^ 1074 or more is 2 ^ t / 2 ^ 537 at least, since a root falls nowhere. Assumes nothing.
-use mathlib.Core.Path.{_≡_, refl, sym, ap, _∙_, subst}
-use mathlib.Core.Bool.{Bool, true, false, true≢false}
+use mathlib.Core.Path.{_≡_, sym, ap, _∙_, subst}
+use mathlib.Core.Bool.{true, false, true≢false}
 use Prim.{tt}
 use Prim.Native.Nat.{ℕ, zero, suc, _+_, _*_, _/_, _^_, _≤_, _<_}
-use native.Mathlib.Nat.{le-trans, le-of-eq, lt-irrefl, lt-of-lt-of-le, mul-assoc, mul-comm, mul-left-comm, mul-right-comm, one-mul, zero-mul, mul-pos, mul-div-cancel, mul-le-mul-right, le-of-mul-le-mul-right, le-div-iff-mul-le}
+use native.Mathlib.Nat.{le-trans, le-of-eq, lt-irrefl, lt-of-lt-of-le, mul-assoc, mul-right-comm, one-mul, zero-mul, mul-pos, mul-div-cancel, mul-le-mul-right, le-of-mul-le-mul-right, le-div-iff-mul-le}
 use native.Mathlib.Omega.{arith}
-use lib.Dec.{T, lit<}
+use lib.Dec.{lit<}
 use lib.Pow.{pow-add, pow-pos, pow-lt}
-use lib.IntN.{ℤ}
-use lib.Ieee.{Float, nan, inf, fin, binary64, up, down, fits, round}
+use lib.Ieee.{Float, nan, inf, fin, binary64, up, down, round}
 use lib.Ieee.Exact.{HasValue, round-exact}
 use lib.Ieee.Fits.{down-pos, round-fits}
 use Rattle.root.specs.Root.{sq, units, Plus, Nearest, Root}

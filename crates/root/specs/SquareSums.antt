@@ -1,6 +1,6 @@
 -- Squares and sums of them are not below 0, and a sum is as large as each of its parts, where that is a value's size. Assumes nothing.
 use mathlib.Core.Path.{_≡_, sym, ap, _∙_}
-use mathlib.Core.Bool.{Bool, true, false, true≢false}
+use mathlib.Core.Bool.{true, false, true≢false}
 use Prim.Native.Nat.{ℕ, _+_, _*_, _^_, _≤_}
 use native.Mathlib.Nat.{le-trans, le-of-eq, mul-le-mul-right, add-comm, mul-assoc, mul-comm, mul-right-comm, mul-pos}
 use native.Mathlib.Omega.{arith}

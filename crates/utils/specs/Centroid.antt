@@ -1,5 +1,5 @@
 -- The centroid, with the source's operations in its order, and its refusals: 1 for the count, 6 for a coordinate.
-use mathlib.Core.Path.{_≡_, refl, sym, ap, _∙_}
+use mathlib.Core.Path.{_≡_, sym, ap, _∙_}
 use mathlib.Core.Bool.{Bool, true, false, _&&_}
 use mathlib.Core.List.{List}
 use mathlib.Core.Logic.{_≢_}

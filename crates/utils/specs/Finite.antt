@@ -1,6 +1,6 @@
 -- Document 01's limits keep points, squared distances and centroids finite, so comparing distances is total. Assumes nothing.
 use mathlib.Core.Path.{_≡_, sym, subst}
-use mathlib.Core.Bool.{true, false, not}
+use mathlib.Core.Bool.{Bool, true, false, not, cond}
 use mathlib.Core.List.{List}
 use Prim.{tt}
 use Prim.Native.Nat.{ℕ, zero, suc, _+_, _*_, _^_, _≤_, _<_}
@@ -46,6 +46,14 @@ centre-bounded p e =
     let a = le (magnitude (p .x)) huge in
     let b = le (magnitude (p .y)) huge in
     record { x = le-bound (p .x) 400 (holds (and-left a b e)); y = le-bound (p .y) 400 (holds (and-right a b e)) }
+
+-- ---- the difference that the tolerance test makes
+pub gap-bounded : (k : ℕ) (a b : Float) → suc k ≤ 1023 → Bounded k a → Bounded k b → Bounded (suc k) (cond (lt b a) (a ⊟ b) (b ⊟ a))
+gap-bounded k a b h p q = go (lt b a)
+  where
+    go : (t : Bool) → Bounded (suc k) (cond t (a ⊟ b) (b ⊟ a))
+    go true = sub-bound binary64 a b k h p q
+    go false = sub-bound binary64 b a k h q p
 
 -- ---- squared distances
 module _ (k : ℕ) (room : suc k + suc k + 1 ≤ 1023) where

@@ -24,7 +24,7 @@ use Rattle.root.specs.Tests.{zero-not-above, plus-above}
 use Rattle.root.specs.SqrtLaws.{sqrt-root}
 use Rattle.root.specs.SquareSums.{square-plus, sum-plus, sum-least, sum-comm}
 use Rattle.root.specs.Bounds.{Bounded, weaken, mul-bound, add-bound, bounded-finite}
-use Rattle.root.specs.Sizes.{AtMost, AtLeast, Held, power-held, mul-most, mul-least, div-most, most-of-bounded, bounded-of-most}
+use Rattle.root.specs.Sizes.{AtMost, AtLeast, Held, power-held, mul-most, mul-least, div-most, bounded-of-most}
 use Rattle.root.specs.SqrtSizes.{root-least}
 
 -- ---- how large a value is, by powers of two over 2 ^ 537

@@ -1,6 +1,6 @@
 // The plane part of utils.rs: the tolerance test, the squared distance, the circumcenter, the centroid, and document 01's rules on points.
 ghost use mathlib.Core.Path.{_≡_};
-ghost use mathlib.Core.Bool.{Bool, cond, _&&_};
+ghost use mathlib.Core.Bool.{cond};
 ghost use Prim.Native.Nat.{_+_, _*_, _/_, _<_, _≤_};
 ghost use lib.ListN.{length};
 ghost use Rattle.laws.specs.Decide.{First};

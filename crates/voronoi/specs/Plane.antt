@@ -18,7 +18,6 @@ use Rattle.utils.specs.declared.Point.{Point}
 use Rattle.utils.specs.declared.Centre.{Centre}
 use Rattle.bounding_box.specs.Box.{madeOf, widthOf, heightOf, cornersOf, insideOf, exclusiveOf, whichOf}
 use Rattle.bounding_box.specs.Rules.{okBox}
-use Rattle.bounding_box.specs.declared.BoundingBox.{BoundingBox}
 use Rattle.crossings.specs.Cross.{countOf, valuesOf}
 use Rattle.crossings.specs.Rules.{numberOf, pointsOf}
 use Rattle.crossings.specs.declared.Meeting.{Meeting}

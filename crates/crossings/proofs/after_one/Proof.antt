@@ -1,4 +1,4 @@
--- Assumes nothing.
+-- `crossings::after_one`: each arm is the definition at its variant. Assumes nothing.
 use borrow.Author.Needs.{needs}
 use Rattle.crossings.proofs.after_one.Statement.{statement}
 use Rattle.crossings.proofs.after_one.Tie as tie

@@ -1,4 +1,4 @@
--- `crossings::bottom_hit` meets its contract. Assumes nothing.
+-- `crossings::bottom_hit`: the crossing's coordinate and its tests are the definition's. Assumes nothing.
 use Rattle.crossings.specs.Cross.{bottomHit}
 use Rattle.crossings.proofs.bottom_hit.Statement.{statement}
 use Rattle.crossings.proofs.bottom_hit.Tie as tie

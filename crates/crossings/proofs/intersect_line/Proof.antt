@@ -1,4 +1,4 @@
--- `crossings::intersect_line` meets its contract. Assumes nothing.
+-- `crossings::intersect_line`: slope and offset are the definition's, and so are the four sides' points that it settles between. Assumes nothing.
 use Rattle.crossings.specs.Cross.{lineOf}
 use Rattle.crossings.proofs.intersect_line.Statement.{statement}
 use Rattle.crossings.proofs.intersect_line.Tie as tie

@@ -1,4 +1,4 @@
--- `crossings::left_hit` meets its contract. Assumes nothing.
+-- `crossings::left_hit`: the crossing's coordinate and its tests are the definition's. Assumes nothing.
 use Rattle.crossings.specs.Cross.{leftHit}
 use Rattle.crossings.proofs.left_hit.Statement.{statement}
 use Rattle.crossings.proofs.left_hit.Tie as tie

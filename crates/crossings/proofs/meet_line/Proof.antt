@@ -1,4 +1,4 @@
--- `crossings::meet_line` meets its contract. Assumes nothing.
+-- `crossings::meet_line`: the tests and the crossing are handed on to `answer`, as the definition does. Assumes nothing.
 use Rattle.crossings.specs.Rules.{lineAnswer}
 use Rattle.crossings.proofs.meet_line.Statement.{statement}
 use Rattle.crossings.proofs.meet_line.Tie as tie

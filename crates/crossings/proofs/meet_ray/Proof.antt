@@ -1,4 +1,4 @@
--- `crossings::meet_ray` meets its contract. Assumes nothing.
+-- `crossings::meet_ray`: the tests and the crossing are handed on to `answer`, as the definition does. Assumes nothing.
 use Rattle.crossings.specs.Rules.{rayAnswer}
 use Rattle.crossings.proofs.meet_ray.Statement.{statement}
 use Rattle.crossings.proofs.meet_ray.Tie as tie

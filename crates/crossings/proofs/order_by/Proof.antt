@@ -1,4 +1,4 @@
--- `crossings::order_by` meets its contract. Assumes nothing.
+-- `crossings::order_by`: the signs and magnitudes that it compares are the definition's. Assumes nothing.
 use Rattle.crossings.specs.Cross.{orderBy}
 use Rattle.crossings.proofs.order_by.Statement.{statement}
 use Rattle.crossings.proofs.order_by.Tie as tie

@@ -1,4 +1,4 @@
--- `crossings::order_one` meets its contract. Assumes nothing.
+-- `crossings::order_one`: the signs of the point's own coordinates are compared, as in the definition. Assumes nothing.
 use Rattle.crossings.specs.Cross.{orderOne}
 use Rattle.crossings.proofs.order_one.Statement.{statement}
 use Rattle.crossings.proofs.order_one.Tie as tie

@@ -1,4 +1,4 @@
--- Assumes nothing.
+-- `crossings::order_points_on_ray`: each arm is the definition at its variant. Assumes nothing.
 use borrow.Author.Needs.{needs}
 use Rattle.crossings.proofs.order_points_on_ray.Statement.{statement}
 use Rattle.crossings.proofs.order_points_on_ray.Tie as tie

@@ -1,4 +1,4 @@
--- `crossings::order_two` meets its contract. Assumes nothing.
+-- `crossings::order_two`: the larger component of the direction decides, as in the definition. Assumes nothing.
 use Rattle.crossings.specs.Cross.{orderTwo}
 use Rattle.crossings.proofs.order_two.Statement.{statement}
 use Rattle.crossings.proofs.order_two.Tie as tie

@@ -1,4 +1,4 @@
--- Assumes nothing.
+-- `crossings::pair`: each arm is the definition at its variant. Assumes nothing.
 use borrow.Author.Needs.{needs}
 use Rattle.crossings.proofs.pair.Statement.{statement}
 use Rattle.crossings.proofs.pair.Tie as tie

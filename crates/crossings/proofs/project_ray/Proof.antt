@@ -1,4 +1,4 @@
--- `crossings::project_ray` meets its contract. Assumes nothing.
+-- `crossings::project_ray`: the line through the start and the rounded second point, then its order on the ray. Assumes nothing.
 use Rattle.crossings.specs.Cross.{rayOf}
 use Rattle.crossings.proofs.project_ray.Statement.{statement}
 use Rattle.crossings.proofs.project_ray.Tie as tie

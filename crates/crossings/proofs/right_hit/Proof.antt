@@ -1,4 +1,4 @@
--- `crossings::right_hit` meets its contract. Assumes nothing.
+-- `crossings::right_hit`: the crossing's coordinate and its tests are the definition's. Assumes nothing.
 use Rattle.crossings.specs.Cross.{rightHit}
 use Rattle.crossings.proofs.right_hit.Statement.{statement}
 use Rattle.crossings.proofs.right_hit.Tie as tie

@@ -1,4 +1,4 @@
--- `crossings::settle` meets its contract. Assumes nothing.
+-- `crossings::settle`: what it hands on to `first_held` is what the definition chooses from. Assumes nothing.
 use Rattle.crossings.specs.Cross.{settleOf}
 use Rattle.crossings.proofs.settle.Statement.{statement}
 use Rattle.crossings.proofs.settle.Tie as tie

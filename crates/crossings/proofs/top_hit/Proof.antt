@@ -1,4 +1,4 @@
--- `crossings::top_hit` meets its contract. Assumes nothing.
+-- `crossings::top_hit`: the crossing's coordinate and its tests are the definition's. Assumes nothing.
 use Rattle.crossings.specs.Cross.{topHit}
 use Rattle.crossings.proofs.top_hit.Statement.{statement}
 use Rattle.crossings.proofs.top_hit.Tie as tie

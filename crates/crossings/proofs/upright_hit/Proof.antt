@@ -1,4 +1,4 @@
--- `crossings::upright_hit` meets its contract. Assumes nothing.
+-- `crossings::upright_hit`: the tests and the two points are the definition's. Assumes nothing.
 use Rattle.crossings.specs.Cross.{uprightHit}
 use Rattle.crossings.proofs.upright_hit.Statement.{statement}
 use Rattle.crossings.proofs.upright_hit.Tie as tie

@@ -1,7 +1,6 @@
 -- `utils::centroid`: each answer by the way that leads to it; rule 6 from the lowest site that breaks it. Assumes nothing.
-use mathlib.Core.Path.{_≡_, sym, ap, _∙_}
+use mathlib.Core.Path.{sym, ap, _∙_}
 use borrow.Author.Needs.{needs}
-use native.Mathlib.Omega.{arith}
 use Rattle.utils.specs.Sites.{sites-kept, site-broken}
 use Rattle.utils.specs.Centroid.{odd-length, no-points, too-many, broken-site, sound}
 use Rattle.utils.specs.declared.Centre.the-variants.{At}

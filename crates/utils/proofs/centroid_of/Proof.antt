@@ -1,5 +1,4 @@
 -- `utils::centroid_of`: the sum over the count, which an f64 holds exactly. Assumes nothing.
-use mathlib.Core.Path.{refl}
 use Prim.Native.Nat.{_^_}
 use borrow.Author.Needs.{needs}
 use lib.Dec.{le→leb}

@@ -1,7 +1,6 @@
 -- `utils::sum_of`: before each turn x and y are the sum of the points passed. Assumes nothing.
 use mathlib.Core.Path.{_≡_, refl, ap, _∙_}
 use Prim.Native.Nat.{_-_, _≤_}
-use native.Mathlib.Nat.{le-antisymm}
 use native.Mathlib.Omega.{arith}
 use Rattle.utils.specs.Plane.{at}
 use Rattle.utils.specs.Centroid.{sumTo, sum-more}

@@ -1,5 +1,4 @@
 -- `voronoi::plane::voronoi_circumcenter`: the answer taken apart. Assumes nothing.
-use borrow.Author.Needs.{needs}
 use Rattle.voronoi.proofs.PlaneLaws.{answered}
 use Rattle.voronoi.proofs.plane.voronoi_circumcenter.Statement.{statement}
 use Rattle.voronoi.proofs.plane.voronoi_circumcenter.Tie as tie
