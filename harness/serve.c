@@ -61,6 +61,18 @@ static void project_ray(argument *a)
 static void check(argument *a) { N(0) = voronoi_check(MESH(1), U(5)); }
 #endif
 
+#ifdef HAS_walks
+static void walk(argument *a) { N(0) = voronoi_walk(MESH(1), N(5), U(6), U(7), PU(8), PU(9)); }
+static void neighbours(argument *a) { N(0) = voronoi_neighbours(MESH(1), N(5), U(6), U(7), PU(8), PU(9)); }
+static void clipped_neighbours(argument *a)
+{
+    N(0) = voronoi_clipped_neighbours(MESH(1), U(5), U(6), N(7), U(8), U(9), PU(10), PU(11));
+}
+static void path(argument *a) { N(0) = voronoi_path(MESH(1), N(5), X(6), X(7), U(8), U(9), PU(10), PU(11)); }
+static void shared_edge(argument *a) { N(0) = voronoi_shared_edge(MESH(1), N(5), N(6), U(7), PU(8)); }
+static void cells_share_edge(argument *a) { N(0) = voronoi_cells_share_edge(U(1), U(2), N(3), N(4), PU(5)); }
+#endif
+
 #ifdef HAS_builds
 #define LENT(i) U(i), F(i + 1), U(i + 2), U(i + 3), U(i + 4)
 static void build(argument *a) { N(0) = voronoi_build(BOX(1), MESH(5), LENT(9)); }
@@ -99,6 +111,10 @@ static const struct {
 #endif
 #ifdef HAS_checker
     {"check", check},
+#endif
+#ifdef HAS_walks
+    {"walk", walk}, {"neighbours", neighbours}, {"clipped_neighbours", clipped_neighbours}, {"path", path},
+    {"shared_edge", shared_edge}, {"cells_share_edge", cells_share_edge},
 #endif
 #ifdef HAS_builds
     {"build", build}, {"build_unclipped", build_unclipped}, {"cell", cell}, {"time_build", time_build},
