@@ -115,6 +115,49 @@ uint32_t voronoi_project_ray(double cx, double cy, double width, double height, 
 uint32_t voronoi_check(const double *sites, size_t sites_len, const uint32_t *triangles, size_t triangles_len, const uint32_t *halfedges,
                        size_t halfedges_len, const uint32_t *hull, size_t hull_len, uint32_t *work, size_t work_len);
 
+/* ---- walks, neighbours, paths, and what triangles and cells share
+ * Every mesh query tries 1, 2, then its own arguments (4 on a site, 5 on a destination), 6, 7 to 10, and 16 where it takes cells.
+ * `work` holds at least one entry for each site: after 0 the leftmost table and then EMPTY, after 1 to 6 what it held, after 7 to 10
+ * and after 16 EMPTY throughout. A list is written into `out` up to its length, which is its allowance: *count says how many entries
+ * were written, *ended is 1 where the last one written ends the list (an empty list is ended, also at length 0; a path is never
+ * empty), and further entries stay as they were. After 7 to 10 `out` is EMPTY throughout, after every other refusal as it was; then
+ * *count and *ended are 0. A site in no triangle has an empty walk, no neighbours and a path of itself alone. */
+
+/* The half-edges that end at the site, from its leftmost one on: each exactly once. */
+uint32_t voronoi_walk(const double *sites, size_t sites_len, const uint32_t *triangles, size_t triangles_len, const uint32_t *halfedges,
+                      size_t halfedges_len, const uint32_t *hull, size_t hull_len, uint32_t site, uint32_t *work, size_t work_len,
+                      uint32_t *out, size_t out_len, uint32_t *count, uint32_t *ended);
+
+/* The sites where they start, in that order; a site on the hull adds the last end. */
+uint32_t voronoi_neighbours(const double *sites, size_t sites_len, const uint32_t *triangles, size_t triangles_len,
+                            const uint32_t *halfedges, size_t halfedges_len, const uint32_t *hull, size_t hull_len, uint32_t site,
+                            uint32_t *work, size_t work_len, uint32_t *out, size_t out_len, uint32_t *count, uint32_t *ended);
+
+/* The same, but on the hull the first and the last count only where the two cells share at least two vertices, counted per entry of
+ * the site's cell. The cells: `offsets`, one more than sites, cut `indexes`. */
+uint32_t voronoi_clipped_neighbours(const double *sites, size_t sites_len, const uint32_t *triangles, size_t triangles_len,
+                                    const uint32_t *halfedges, size_t halfedges_len, const uint32_t *hull, size_t hull_len,
+                                    const uint32_t *offsets, size_t offsets_len, const uint32_t *indexes, size_t indexes_len,
+                                    uint32_t site, uint32_t *work, size_t work_len, uint32_t *out, size_t out_len, uint32_t *count,
+                                    uint32_t *ended);
+
+/* The path from the site towards (x, y): each hop to the first of the neighbours nearest by squared distance, while that is strictly
+ * nearer; so it stops exactly where no neighbour is strictly nearer, lists no site twice and has no more entries than sites in use. */
+uint32_t voronoi_path(const double *sites, size_t sites_len, const uint32_t *triangles, size_t triangles_len, const uint32_t *halfedges,
+                      size_t halfedges_len, const uint32_t *hull, size_t hull_len, uint32_t site, double x, double y, uint32_t *work,
+                      size_t work_len, uint32_t *out, size_t out_len, uint32_t *count, uint32_t *ended);
+
+/* The first half-edge of triangle a that a half-edge of triangle b names as its pair, or EMPTY; so too where there is no such triangle.
+ * *edge is EMPTY after a refusal. */
+uint32_t voronoi_shared_edge(const double *sites, size_t sites_len, const uint32_t *triangles, size_t triangles_len,
+                             const uint32_t *halfedges, size_t halfedges_len, const uint32_t *hull, size_t hull_len, uint32_t a,
+                             uint32_t b, uint32_t *work, size_t work_len, uint32_t *edge);
+
+/* Whether the cells of sites a and b share at least two entries, counted per entry of a's: *yes is 1 or 0, and 0 after a refusal.
+ * There is a site less than offsets, at least none. 4 on either site, then 16. */
+uint32_t voronoi_cells_share_edge(const uint32_t *offsets, size_t offsets_len, const uint32_t *indexes, size_t indexes_len, uint32_t a,
+                                  uint32_t b, uint32_t *yes);
+
 #ifdef __cplusplus
 }
 #endif

@@ -122,7 +122,7 @@ edge-one {sites} {tri} {he} {a = a} {b} {w} {r = r} {s} x y =
     let e : r .edge ≡ s .edge = x .edge ∙ ap (λ k. pick (eqb k 0) (λ _. sharedEdgeOf he a b) (λ _. EMPTY)) q ∙ sym (y .edge) in
     (λ i. record { number = q i; edge = e i }, x .work ∙ ap (workAfter tri he (siteCount sites) w) q ∙ sym (y .work))
 
-shares-number : {offs idx : List ℕ} {a b m n : ℕ} → Shares offs idx a b m → Shares offs idx a b n → m ≡ n
+pub shares-number : {offs idx : List ℕ} {a b m n : ℕ} → Shares offs idx a b m → Shares offs idx a b n → m ≡ n
 shares-number (no-site x) (no-site y) = refl
 shares-number (no-site x) (no-cells y _) = absurd (x y)
 shares-number (no-site x) (sound y _) = absurd (x y)

@@ -2,3 +2,4 @@ pub mod Roots
 pub mod Meshes
 pub mod Plane
 pub mod PlaneOne
+pub mod Walks

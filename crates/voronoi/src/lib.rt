@@ -3,3 +3,4 @@
 pub mod meshes;
 pub mod plane;
 pub mod roots;
+pub mod walks;

@@ -1,0 +1,24 @@
+-- The query's answer, its count and its end in the lent numbers.
+use Rattle.voronoi.specs.Walks.{handed}
+use borrow.Author.Needs.{needs}
+use Rattle.voronoi.proofs.walks.voronoi_walk.Statement.{statement}
+use Rattle.voronoi.proofs.walks.voronoi_walk.Tie as tie
+
+walk-requires : tie.Need-walk-requires
+walk-requires c κs = search needs
+
+flag-requires : tie.Need-flag-requires
+flag-requires c κs = search needs
+
+same-length : tie.Need-same-length
+same-length c = search needs
+
+same-length-2 : tie.Need-same-length-2
+same-length-2 c = search needs
+
+returns : tie.Need-returns
+returns c = handed (c .before .before .before .before .before .walk .ensures) _ (c .flag .ensures)
+
+pub voronoi-walk-spec : {M : Type 1} → statement M
+voronoi-walk-spec =
+    tie.close (tie.spec walk-requires flag-requires same-length same-length-2 returns)
