@@ -21,6 +21,7 @@ export VORONOI_SOURCE
 made=$root/target/harness/release
 "$made/oracle" --check "$here"/meshes/*.txt
 "$made/stored" check "$here/stored/answers.bin" "$here"/meshes/*.txt
+"$made/rings" check "$root/crates/clip_rings/stdin" "$root/crates/clip_rings/stdout"
 VORONOI_SERVER=$("$here/serve.sh")
 export VORONOI_SERVER
 exec "$made/compare" "$@"
