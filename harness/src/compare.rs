@@ -205,7 +205,16 @@ fn walks(
     let (offsets, entries) = c.lent_offsets(cells);
     let sound = offsets.len() == m.count() + 1 && expect::offsets_sound(&offsets, entries.len());
     let after = if number == 0 && !sound { 16 } else { number };
-    let kept = if after == 0 { list(&|v| rust::clipped_neighbours(v, s)) } else { Vec::new() };
+    // Moved offsets can still be sound: then the neighbours are those of the cells as they are lent.
+    let kept = match (after, c.offsets) {
+        (0, crate::cases::Offsets::Sound) => list(&|v| rust::clipped_neighbours(v, s)),
+        (0, _) => {
+            let part = |w: &[u32]| entries[w[0] as usize..w[1] as usize].to_vec();
+            let lent: Vec<Vec<u32>> = offsets.windows(2).map(part).collect();
+            reference::clipped_neighbours(m, left, &lent, s)
+        }
+        _ => Vec::new(),
+    };
     let question = |q: Call| q.indexes(&offsets).indexes(&entries).number(c.site);
     hand(c, facts, 2, after, &kept, question, calls, tally);
 
