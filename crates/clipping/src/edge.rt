@@ -74,7 +74,8 @@ fn clip_once(v: &mut [f64], ix: &mut [u32], env: Env, count: usize, x: f64, y: f
     ensures { λ r. ⌜ Clips (env .centers) (env .limit) count (Def.clipWith (env .centers) (points count (now (v .entry))) (Crossing.One x y)) (now (v .entry)) (now (ix .entry)) r (now (v .exit)) (now (ix .exit)) ⌝ }
 {
     let a = add_new_vertex(v, ix, env.limit, env.centers, count, Point { x: x, y: y });
-    Clipped::Once(a.at as u32, a.count)
+    let at = a.at as u32;
+    Clipped::Once(at, a.count)
 }
 
 fn clip_twice(

@@ -8,8 +8,8 @@ use Rattle.clipping.proofs.edge.clip_once.Tie as tie
 add-new-vertex-requires : tie.Need-add-new-vertex-requires
 add-new-vertex-requires c κs = search needs
 
-cast-t13 : tie.Need-cast-t13
-cast-t13 c = search needs
+cast-at : tie.Need-cast-at
+cast-at c = search needs
 
 same-length : tie.Need-same-length
 same-length c = search needs
@@ -25,4 +25,4 @@ returns c =
 
 pub clip-once-spec : {M : Type 1} → statement M
 clip-once-spec =
-    tie.close (tie.spec add-new-vertex-requires cast-t13 same-length same-length-2 returns)
+    tie.close (tie.spec add-new-vertex-requires cast-at same-length same-length-2 returns)

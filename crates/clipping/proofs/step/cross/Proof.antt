@@ -43,7 +43,7 @@ cross-at-requires c κs =
     let h = twice-below (a .env .centers) (a .env .limit) (a .count) (now (a .v)) (now (a .ix)) _ _ k _ _ _ (rw (m .clip2 .given .1) at (g .ensures)) in
     let kept = g .kept in
     let r = s .pre in
-    (fits-up _ (s .pre .0 .fits) (omega arith), (omega arith, h .0, h .1, λ e. (let l = s .pre .1 .2 e in omega arith), omega arith, omega arith))
+    (fits-up _ (s .pre .0 .fits) (omega arith), (omega arith, omega arith, omega arith, λ e. (let l = s .pre .1 .2 e in omega arith), omega arith, omega arith))
 
 same-length : tie.Need-same-length
 same-length c = search needs
