@@ -1,0 +1,4 @@
+-- The root of the crate's definitions.
+pub mod Standing
+pub mod Tries
+pub mod Answer
