@@ -3,3 +3,4 @@ pub mod Rooming
 pub mod Admitting
 pub mod Counting
 pub mod Outcome
+pub mod Parts

@@ -34,4 +34,3 @@ pub record PlaceAnswer (offs idx : List ℕ) (s start long r : ℕ) : Type 0 whe
   pub number : CellNumber offs idx s r
   pub from : start ≡ startAfter offs s r
   pub many : long ≡ lengthAfter offs s r
-

@@ -18,7 +18,7 @@ same-length-2 : tie.Need-same-length-2
 same-length-2 c = search needs
 
 returns : tie.Need-returns
-returns c = 
+returns c =
     let t = c .before .before .before .before .before .before .before .before in
     let n = ne-eqb _ 0 (t .if1 .taken) in
     record { work = rw n (c .before .before .before .before .before .before .clear .ensures); counts = rw n (c .before .before .clear2 .ensures) }
@@ -30,7 +30,7 @@ same-length-3 : tie.Need-same-length-3
 same-length-3 c = search needs
 
 returns-2 : tie.Need-returns-2
-returns-2 c = 
+returns-2 c =
     let n = eq-eqb _ 0 (c .before .before .before .before .if1 .left) in
     record { work = rw n; counts = rw n (c .before .before .put-counts .ensures) }
 

@@ -1,35 +1,26 @@
+-- `building::cells::cell` meets its contract: the part between the two offsets where the site has a cell, the empty part where it is refused.
+use Rattle.building.proofs.Parts.{part-refused, part-asks, part-given}
 use borrow.Author.Needs.{needs}
-use Rattle.building.proofs.cells.cell.Statement.{statement}
 use Rattle.building.proofs.cells.cell.Tie as tie
-use Rattle.building.proofs.cells.cell.Reads as reads
-use Rattle.building.proofs.cells.cell.Lts as lts
-use Rattle.building.proofs.cells.ask_cell.Reads as ask-cell-reads
-use Rattle.mesh.proofs.wide.Reads as wide-reads
-use Rattle.shared.proofs.cell.Reads as cell-reads
+use Rattle.building.proofs.cells.cell.Statement.{statement}
 
--- src/cells.rt:26:9
 ask-cell-requires : tie.Need-ask-cell-requires
 ask-cell-requires c κs = search needs
 
--- src/cells.rt:29:9
 slice-aggregate-result : tie.Need-slice-aggregate-result
 slice-aggregate-result c = search needs
 
--- src/cells.rt:29:9
 returns : tie.Need-returns
-returns c = ?
+returns c = part-refused _ _ _ _ (c .before .before .ask-cell .ensures) (c .before .if1 .taken)
 
--- src/cells.rt:31:36
 wide-requires : tie.Need-wide-requires
 wide-requires c κs = search needs
 
--- src/cells.rt:31:5
 cell-requires : tie.Need-cell-requires
-cell-requires c κs = ?
+cell-requires c κs = part-asks _ _ _ _ (c .before .before .ask-cell .ensures) (c .before .if1 .left) _ (c .wide .ensures)
 
--- src/cells.rt:23:1
 returns-2 : tie.Need-returns-2
-returns-2 c = ?
+returns-2 c = part-given _ _ _ _ (c .before .before .before .ask-cell .ensures) (c .before .before .if1 .left) _ (c .before .wide .ensures) _ (c .cell .ensures)
 
 pub cell-spec : {M : Type 1} → statement M
 cell-spec =
