@@ -3,4 +3,5 @@ pub mod Rooming
 pub mod Admitting
 pub mod Counting
 pub mod Outcome
+pub mod Clipping
 pub mod Parts

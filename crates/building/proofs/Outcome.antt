@@ -127,40 +127,6 @@ module _ {sites : List Float} {tri he hull : List ℕ} {asked : ℕ} {old new : 
       pub answers-built : (o : Outcome Fault Built) → Refuses Numbered o → (f : Fault) → f ≡ faultOf o → Lent o (new .vertices) (new .indexes) (new .offsets) v ix off → Finished (f .number) made (new .work) (new .counts) w c → (faultOf o .number ≡ 0 → made ≡ countNumbers o) → Answers sites tri he hull asked o old (slices w v ix off c) (f .number)
       answers-built o late f e l d q = rw e (go o late l (rw e at d) q)
 
--- ---- the clipped build
-module _ (o : Outcome Fault Built) (x : Answer) (q : x ≡ answerOf o) where
-  pub answer-fault : x .fault ≡ faultOf o
-  answer-fault = rw q (go o)
-    where
-      go : (o : Outcome Fault Built) → answerOf o .fault ≡ faultOf o
-      go (ok b) = refl
-      go (refused e) = refl
-
-  pub answer-counts : Refuses Numbered o → faultOf o .number ≡ 0 → countsOf (x .count) (x .owners) (x .lost) ≡ countNumbers o
-  unfolding countNumbers
-  answer-counts late z = rw q (go o late z)
-    where
-      go : (o : Outcome Fault Built) → Refuses Numbered o → faultOf o .number ≡ 0 → countsOf (answerOf o .count) (answerOf o .owners) (answerOf o .lost) ≡ countNumbers o
-      go (ok b) l e = refl
-      go (refused f) l e = absurd (omega (arith, l .least))
-
-  -- so many vertices that their number fits
-  pub answer-few : (m : ℕ) → Gives (λ (b : Built). length (b .verts) ≤ m) o → x .count ≤ m
-  answer-few m g = rw q (go o g)
-    where
-      go : (o : Outcome Fault Built) → Gives (λ (b : Built). length (b .verts) ≤ m) o → answerOf o .count ≤ m
-      go (ok b) h = h
-      go (refused f) h = omega arith
-
--- ---- rule 3
-pub box-admitted : (c : Point) (w h : Float) → boxAsk c w h ≡ 0 → BoundedBox 101 (madeOf c w h)
-unfolding boxAsk
-box-admitted c w h e = box-bounded c w h (go (okBox c w h) e)
-  where
-    go : (t : Bool) → pick {A = ℕ} t (λ _. 0) (λ _. 3) ≡ 0 → t ≡ true
-    go true q = refl
-    go false q = absurd (omega arith)
-
 -- ---- the unclipped build: a vertex for each triangle
 pub unclipped-counts : (sites : List Float) (tri he : List ℕ) → faultOf (unclipped sites tri he) .number ≡ 0 → countsOf (length tri / 3) (replicate 4 EMPTY) 0 ≡ countNumbers (unclipped sites tri he)
 unfolding unclipped andThen countNumbers

@@ -1,93 +1,101 @@
+-- `building::build` meets its contract: refused by the rules up to 10, or the outcome of the clipped definition decides.
+use mathlib.Core.Path.{sym, _∙_}
+use native.Mathlib.Omega.{arith}
+use lib.ListN.{length-take}
+use Rattle.building.proofs.Outcome.{table-fits, six-of}
+use Rattle.building.proofs.Clipping.{clipped-early, clipped-asks, count-fits, clipped-built}
 use borrow.Author.Needs.{needs}
-use Rattle.building.proofs.build.Statement.{statement}
 use Rattle.building.proofs.build.Tie as tie
-use Rattle.building.proofs.build.Reads as reads
-use Rattle.building.proofs.build.Lts as lts
-use Rattle.bounding_box.proofs.new.Reads as new-reads
-use Rattle.building.proofs.admit_build.Reads as admit-build-reads
-use Rattle.building.proofs.ask_box.Reads as ask-box-reads
-use Rattle.building.proofs.finish.Reads as finish-reads
-use Rattle.cell_builder.proofs.build_cells.Reads as build-cells-reads
+use Rattle.building.proofs.build.Statement.{statement}
 
--- src/lib.rt:144:9
+abbrev Asked : tie.After-admit-build → tie.After-ask-box
+Asked c = c .before .before .before .before .before .before
+
+abbrev Admit : tie.After-slice-known10 → tie.After-admit-build
+Admit c = c .before .before .before .before .before .before .before .before .before .before
+
+abbrev Made : tie.After-slice-known13 → tie.After-build-cells
+Made c = c .before .before .before .before .before .before
+
+abbrev Accepts : tie.After-build-cells → tie.Else1
+Accepts c = c .before .before .before .before .before .before
+
 ask-box-requires : tie.Need-ask-box-requires
 ask-box-requires c κs = search needs
 
--- src/lib.rt:145:9
 admit-build-requires : tie.Need-admit-build-requires
 admit-build-requires c κs = search needs
 
--- src/lib.rt:158:9
 same-length : tie.Need-same-length
 same-length c = search needs
 
--- src/lib.rt:158:9
 same-length-2 : tie.Need-same-length-2
 same-length-2 c = search needs
 
--- src/lib.rt:158:9
 same-length-3 : tie.Need-same-length-3
 same-length-3 c = search needs
 
--- src/lib.rt:158:9
 same-length-4 : tie.Need-same-length-4
 same-length-4 c = search needs
 
--- src/lib.rt:158:9
 same-length-5 : tie.Need-same-length-5
 same-length-5 c = search needs
 
--- src/lib.rt:158:9
 returns : tie.Need-returns
-returns c = ?
+returns c =
+    let a = Admit (c .before) in
+    clipped-early (a .admit-build .ensures) _ _ _ (Asked a .ask-box .ensures .0) (c .if1 .taken)
 
--- src/lib.rt:160:9
 new-requires : tie.Need-new-requires
 new-requires c κs = search needs
 
--- src/lib.rt:167:9
 slice-reshare-prefix-build-cells : tie.Need-slice-reshare-prefix-build-cells
-slice-reshare-prefix-build-cells c = ?
+slice-reshare-prefix-build-cells c = table-fits (Admit (c .before .before) .admit-build .ensures) (c .before .if1 .left)
 
--- src/lib.rt:167:9
 slice-aggregate-build-cells : tie.Need-slice-aggregate-build-cells
-slice-aggregate-build-cells c = ?
+slice-aggregate-build-cells c = sym (simp length-take (omega (arith, table-fits (Admit (c .before .before .before) .admit-build .ensures) (c .before .before .if1 .left))))
 
--- src/lib.rt:162:9
 build-cells-requires : tie.Need-build-cells-requires
-build-cells-requires c κs = ?
+build-cells-requires c κs =
+    let e = c .before .before .before .before .before in
+    let a = Admit (e .before) in
+    clipped-asks (a .admit-build .ensures) _ _ _ (Asked a .ask-box .ensures .0) (e .if1 .left) _ (c .before .before .before .before .new .ensures)
 
--- src/lib.rt:175:26
 cast-finish : tie.Need-cast-finish
-cast-finish c = ?
+cast-finish c =
+    let m = Made (c .before .before .before) in
+    let e = Accepts m in
+    let a = Admit (e .before) in
+    omega (arith, count-fits (a .admit-build .ensures) _ _ _ (Asked a .ask-box .ensures .0) (e .if1 .left) _ (m .before .before .before .before .before .new .ensures) _ (m .build-cells .ensures .0))
 
--- src/lib.rt:175:5
 finish-requires : tie.Need-finish-requires
-finish-requires c κs = ?
+finish-requires c κs =
+    let e = Accepts (Made (c .before .before .before .before .before)) in
+    six-of (Admit (e .before) .admit-build .ensures) (e .if1 .left)
 
--- src/lib.rt:128:1
 same-length-6 : tie.Need-same-length-6
-same-length-6 c = ?
+same-length-6 c = c .before .before .before .work2 .given ∙ c .before .before .before .before .before .before .before .before .before .before .before .before .before .before .before .before .before .before .before .before .before .before .before .before .before .before .before .before .before .before .before .before .work .given
 
--- src/lib.rt:128:1
 same-length-7 : tie.Need-same-length-7
-same-length-7 c = ?
+same-length-7 c = c .before .before .before .before .before .before .before .before .before .before .before .before .before .before .before .v2 .given ∙ c .before .before .before .before .before .before .before .before .before .before .before .before .before .before .before .before .before .before .before .before .before .before .before .before .before .before .before .before .before .before .v .given
 
--- src/lib.rt:128:1
 same-length-8 : tie.Need-same-length-8
-same-length-8 c = ?
+same-length-8 c = c .before .before .before .before .before .before .before .before .before .before .before .before .before .ix2 .given ∙ c .before .before .before .before .before .before .before .before .before .before .before .before .before .before .before .before .before .before .before .before .before .before .before .before .before .before .before .before .ix .given
 
--- src/lib.rt:128:1
 same-length-9 : tie.Need-same-length-9
-same-length-9 c = ?
+same-length-9 c = c .before .before .before .before .before .before .before .before .before .before .before .off2 .given ∙ c .before .before .before .before .before .before .before .before .before .before .before .before .before .before .before .before .before .before .before .before .before .before .before .before .before .before .off .given
 
--- src/lib.rt:128:1
 same-length-10 : tie.Need-same-length-10
-same-length-10 c = ?
+same-length-10 c = c .before .counts2 .given ∙ c .before .before .before .before .before .before .before .before .before .before .before .before .before .before .before .before .before .before .before .before .before .before .before .before .counts .given
 
--- src/lib.rt:128:1
 returns-2 : tie.Need-returns-2
-returns-2 c = ?
+returns-2 c =
+    let f = c .before .before .before .before in
+    let m = Made (f .before .before .before .before .before .before) in
+    let e = Accepts m in
+    let a = Admit (e .before) in
+    let b = m .build-cells .ensures in
+    clipped-built (a .admit-build .ensures) _ _ _ (Asked a .ask-box .ensures .0) (e .if1 .left) _ (m .before .before .before .before .before .new .ensures) _ (b .0) (b .1) (f .finish .ensures)
 
 pub build-spec : {M : Type 1} → statement M
 build-spec =
