@@ -1,0 +1,4 @@
+pub mod Agree
+pub mod Trying
+pub mod Rings
+pub mod TwoKinds
