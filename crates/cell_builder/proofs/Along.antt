@@ -53,6 +53,11 @@ others-stay b nc site ring s =
     gives-next (λ (t : Cells). (k : ℕ) → k ≢ site → getD (t .cells) k [] ≡ getD (s .cells) k []) (clipCell b nc site ring (s .verts) (s .owners)) _
     (λ c k q. getD-set-other (s .cells) site k (c .new) [] q)
 
+-- at first: whatever cells the slices hold, those of the hull empty
+abbrev pub AtFirst : List ℕ → List ℕ → List ℕ → Frame → List ℕ → Progress → List Float → List ℕ → (Ground → Cells → Type 0) → Type 0
+AtFirst tri he hull f off p v ix P =
+    (g : Ground) (s : Cells) → g .hull ≡ hull → ((j : ℕ) → j < length hull → getD (s .cells) (getD hull j 0) [] ≡ []) → Amid tri he f off g s p v ix → P g s
+
 -- from hull place i on, cells are empty
 abbrev pub BlankFrom : List ℕ → ℕ → Cells → Type 0
 BlankFrom hull i s = (j : ℕ) → i ≤ j → j < length hull → getD (s .cells) (getD hull j 0) [] ≡ []
@@ -79,47 +84,45 @@ module _ (tri he table : List ℕ) (f : Frame) (g : Ground) where
       gives-map _ (BlankFrom hull (i + 1)) (hullTry tri he table f g i s) (others-stay (f .bounds) (length tri / 3) (getD (g .hull) i 0) _ s)
       (λ r stay j lo hi. stay (getD hull j 0) (λ z. t .hull .fresh j hi .1 i (omega arith) (sym (rw q at z))) ∙ blank j (omega arith) hi)
 
-module _ (tri he hull table : List ℕ) (f : Frame) (off : List ℕ) where
-  -- before hull place i
-  abbrev pub HullAlong : Ground → Outcome Fault Cells → ℕ → Progress → List Float → List ℕ → Type 0
-  HullAlong g whole i p v ix = Along tri he f off g (hullsFrom tri he table f g i) (BlankFrom hull i) whole p v ix
+-- before hull place i
+abbrev pub HullAlong : List ℕ → List ℕ → List ℕ → List ℕ → Frame → List ℕ → Ground → Outcome Fault Cells → ℕ → Progress → List Float → List ℕ → Type 0
+HullAlong tri he hull table f off g whole i p v ix = Along tri he f off g (hullsFrom tri he table f g i) (BlankFrom hull i) whole p v ix
 
-  module _ (p₀ : Progress) (v₀ : List Float) (ix₀ : List ℕ) where
-    abbrev pub HullsAlong : ℕ → Progress → List Float → List ℕ → Type 0
-    HullsAlong i p v ix =
-        (g : Ground) (s : Cells) → g .hull ≡ hull → ((j : ℕ) → j < length hull → getD (s .cells) (getD hull j 0) [] ≡ []) → Amid tri he f off g s p₀ v₀ ix₀ → HullAlong g (hullTries tri he table f g s) i p v ix
+module _ (tri he hull table : List ℕ) (f : Frame) (off : List ℕ) (p₀ : Progress) (v₀ : List Float) (ix₀ : List ℕ) where
+  abbrev pub HullsAlong : ℕ → Progress → List Float → List ℕ → Type 0
+  HullsAlong i p v ix = AtFirst tri he hull f off p₀ v₀ ix₀ (λ g s. HullAlong tri he hull table f off g (hullTries tri he table f g s) i p v ix)
 
-    pub hulls-start : HullsAlong 0 p₀ v₀ ix₀
-    hulls-start g s q blank a = record { cells = s; amid = a; fit = λ j lo hi. blank j hi; makes = rw sub-zero }
+  pub hulls-start : HullsAlong 0 p₀ v₀ ix₀
+  hulls-start g s q blank a = record { cells = s; amid = a; fit = λ j lo hi. blank j hi; makes = rw sub-zero }
 
-    module _ (i : ℕ) (p : Progress) (v : List Float) (ix : List ℕ) (along : HullsAlong i p v ix) where
-      pub hulls-amid : HullsAmid tri he hull table f off p₀ v₀ ix₀ → i < length hull → HullAmid tri he hull table f off p v ix i
-      hulls-amid h l =
-          let a = along (h .g) (h .s) (h .is) (h .blank) (h .amid) in
-          record { g = h .g; s = a .cells; is = h .is; amid = a .amid; table-is = h .table-is; place = l; blank = a .fit i (omega arith) l }
+  module _ (i : ℕ) (p : Progress) (v : List Float) (ix : List ℕ) (along : HullsAlong i p v ix) where
+    pub hulls-amid : HullsAmid tri he hull table f off p₀ v₀ ix₀ → i < length hull → HullAmid tri he hull table f off p v ix i
+    hulls-amid h l =
+        let a = along (h .g) (h .s) (h .is) (h .blank) (h .amid) in
+        record { g = h .g; s = a .cells; is = h .is; amid = a .amid; table-is = h .table-is; place = l; blank = a .fit i (omega arith) l }
 
-      pub hulls-end : length hull ≤ i → (g : Ground) (s : Cells) → g .hull ≡ hull → ((j : ℕ) → j < length hull → getD (s .cells) (getD hull j 0) [] ≡ []) → Amid tri he f off g s p₀ v₀ ix₀ → Does tri he f off g (hullTries tri he table f g s) p v ix
-      hulls-end l g s q blank am =
+    pub hulls-end : length hull ≤ i → AtFirst tri he hull f off p₀ v₀ ix₀ (λ g s. Does tri he f off g (hullTries tri he table f g s) p v ix)
+    hulls-end l g s q blank am =
+        let a = along g s q blank am in
+        let w : hullTries tri he table f g s ≡ ok (a .cells) = sym (a .makes) ∙ hull-last tri he table f g i (a .cells) (rw q l) in
+        rw w (a .amid)
+
+    module _ (l : i < length hull) (r : Progress) (v₁ : List Float) (ix₁ : List ℕ) (try : (g : Ground) (s : Cells) → g .hull ≡ hull → getD (s .cells) (getD hull i 0) [] ≡ [] → Amid tri he f off g s p v ix → Does tri he f off g (hullTry tri he table f g i s) r v₁ ix₁) where
+      tried : (g : Ground) (whole : Outcome Fault Cells) → g .hull ≡ hull → (a : HullAlong tri he hull table f off g whole i p v ix) → Does tri he f off g (hullTry tri he table f g i (a .cells)) r v₁ ix₁
+      tried g whole q a = try g (a .cells) q (a .fit i (omega arith) l) (a .amid)
+
+      next : (g : Ground) (whole : Outcome Fault Cells) → g .hull ≡ hull → (a : HullAlong tri he hull table f off g whole i p v ix) → andThen (hullTry tri he table f g i (a .cells)) (hullsFrom tri he table f g (i + 1)) ≡ whole
+      next g whole q a = hull-next tri he table f g i (a .cells) (rw q l) ∙ a .makes
+
+      pub hulls-step : r .fault .number ≡ 0 → HullsAlong (i + 1) r v₁ ix₁
+      hulls-step z g s q blank am =
           let a = along g s q blank am in
-          let w : hullTries tri he table f g s ≡ ok (a .cells) = sym (a .makes) ∙ hull-last tri he table f g i (a .cells) (rw q l) in
-          rw w (a .amid)
+          passed tri he f off g _ _ r v₁ ix₁ _ (hullTry tri he table f g i (a .cells)) (blank-next tri he table f g i (a .cells) (a .amid .on .mesh) q l (a .fit)) (next g _ q a) (tried g _ q a) z
 
-      module _ (l : i < length hull) (r : Progress) (v₁ : List Float) (ix₁ : List ℕ) (try : (g : Ground) (s : Cells) → g .hull ≡ hull → getD (s .cells) (getD hull i 0) [] ≡ [] → Amid tri he f off g s p v ix → Does tri he f off g (hullTry tri he table f g i s) r v₁ ix₁) where
-        tried : (g : Ground) (whole : Outcome Fault Cells) → g .hull ≡ hull → (a : HullAlong g whole i p v ix) → Does tri he f off g (hullTry tri he table f g i (a .cells)) r v₁ ix₁
-        tried g whole q a = try g (a .cells) q (a .fit i (omega arith) l) (a .amid)
-
-        next : (g : Ground) (whole : Outcome Fault Cells) → g .hull ≡ hull → (a : HullAlong g whole i p v ix) → andThen (hullTry tri he table f g i (a .cells)) (hullsFrom tri he table f g (i + 1)) ≡ whole
-        next g whole q a = hull-next tri he table f g i (a .cells) (rw q l) ∙ a .makes
-
-        pub hulls-step : r .fault .number ≡ 0 → HullsAlong (i + 1) r v₁ ix₁
-        hulls-step z g s q blank am =
-            let a = along g s q blank am in
-            passed tri he f off g _ _ r v₁ ix₁ _ (hullTry tri he table f g i (a .cells)) (blank-next tri he table f g i (a .cells) (a .amid .on .mesh) q l (a .fit)) (next g _ q a) (tried g _ q a) z
-
-        pub hulls-refused : r .fault .number ≢ 0 → (g : Ground) (s : Cells) → g .hull ≡ hull → ((j : ℕ) → j < length hull → getD (s .cells) (getD hull j 0) [] ≡ []) → Amid tri he f off g s p₀ v₀ ix₀ → Does tri he f off g (hullTries tri he table f g s) r v₁ ix₁
-        hulls-refused z g s q blank am =
-            let a = along g s q blank am in
-            stopped tri he f off g _ _ r v₁ ix₁ (hullTry tri he table f g i (a .cells)) (next g _ q a) (tried g _ q a) z
+      pub hulls-refused : r .fault .number ≢ 0 → AtFirst tri he hull f off p₀ v₀ ix₀ (λ g s. Does tri he f off g (hullTries tri he table f g s) r v₁ ix₁)
+      hulls-refused z g s q blank am =
+          let a = along g s q blank am in
+          stopped tri he f off g _ _ r v₁ ix₁ (hullTry tri he table f g i (a .cells)) (next g _ q a) (tried g _ q a) z
 
 -- ---- the rest
 
@@ -177,3 +180,27 @@ module _ (tri he : List ℕ) (f : Frame) (off : List ℕ) (p₀ : Progress) (v�
       edges-refused z g s am =
           let a = along g s am in
           stopped tri he f off g _ _ r v₁ ix₁ (edgeTry tri he f e (a .cells)) (edge-next tri he f e (a .cells) l ∙ a .makes) (try g (a .cells) (a .amid)) z
+
+-- ---- the hull, then the rest
+
+module _ (tri he hull table : List ℕ) (f : Frame) (off : List ℕ) (p₀ : Progress) (v₀ : List Float) (ix₀ : List ℕ) where
+  abbrev allTries : Ground → Cells → Outcome Fault Cells
+  allTries g s = andThen (hullTries tri he table f g s) (λ t. edgeTries tri he f t)
+
+  module _ (r : Progress) (v : List Float) (ix : List ℕ) (hulls : AtFirst tri he hull f off p₀ v₀ ix₀ (λ g s. Does tri he f off g (hullTries tri he table f g s) r v ix)) where
+    pub cells-refused : r .fault .number ≢ 0 → AtFirst tri he hull f off p₀ v₀ ix₀ (λ g s. Does tri he f off g (allTries g s) r v ix)
+    cells-refused z g s q blank am = stopped tri he f off g _ _ r v ix (hullTries tri he table f g s) refl (hulls g s q blank am) z
+
+    module _ (z : r .fault .number ≡ 0) where
+      between : AtFirst tri he hull f off p₀ v₀ ix₀ (λ g s. Along tri he f off g (edgeTries tri he f) Any (allTries g s) r v ix)
+      between g s q blank am = let o = hullTries tri he table f g s in passed tri he f off g _ _ r v ix Any o (gives-any o) refl (hulls g s q blank am) z
+
+      pub cells-amid : HullsAmid tri he hull table f off p₀ v₀ ix₀ → EdgesAmid tri he f off r v ix
+      cells-amid h =
+          let a = between (h .g) (h .s) (h .is) (h .blank) (h .amid) in
+          record { g = h .g; s = a .cells; amid = a .amid }
+
+      pub cells-end : (r₁ : Progress) (v₁ : List Float) (ix₁ : List ℕ) → ((g : Ground) (s : Cells) → Amid tri he f off g s r v ix → Does tri he f off g (edgeTries tri he f s) r₁ v₁ ix₁) → AtFirst tri he hull f off p₀ v₀ ix₀ (λ g s. Does tri he f off g (allTries g s) r₁ v₁ ix₁)
+      cells-end r₁ v₁ ix₁ edges g s q blank am =
+          let a = between g s q blank am in
+          rw (← a .makes) (edges g (a .cells) (a .amid))

@@ -1,6 +1,6 @@
 -- `cell_builder::loops::clip_hull` meets its contract: before hull place i the definition on the places left makes the whole, and their cells are empty.
 use mathlib.Core.Path.{_≡_, refl, ap, _∙_}
-use Prim.Native.Nat.{_-_, _<_}
+use Prim.Native.Nat.{_-_}
 use native.Mathlib.Omega.{arith}
 use lib.ListN.{length}
 use Rattle.cell_builder.proofs.Along.{HullsAlong, hulls-start, hulls-amid, hulls-step, hulls-refused, hulls-end}

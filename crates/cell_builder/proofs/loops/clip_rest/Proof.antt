@@ -1,6 +1,6 @@
 -- `cell_builder::loops::clip_rest` meets its contract: before half-edge e the definition on the half-edges left makes the whole.
 use mathlib.Core.Path.{_≡_, refl, _∙_}
-use Prim.Native.Nat.{_-_, _<_}
+use Prim.Native.Nat.{_-_}
 use native.Mathlib.Omega.{arith}
 use lib.ListN.{length}
 use Rattle.cell_builder.proofs.Along.{EdgesAlong, edges-start, edges-amid, edges-step, edges-refused, edges-end}
