@@ -1,4 +1,6 @@
+-- The root of the crate's laws.
 pub mod Agree
 pub mod Trying
 pub mod Rings
 pub mod TwoKinds
+pub mod Along
