@@ -4,3 +4,5 @@ pub mod Trying
 pub mod Rings
 pub mod TwoKinds
 pub mod Along
+pub mod Finishing
+pub mod LeftOver
