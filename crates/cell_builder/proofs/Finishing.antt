@@ -15,7 +15,6 @@ use Rattle.bounding_box.specs.declared.BoundingBox.{BoundingBox}
 use Rattle.vertices.proofs.Laws.{length-points, points-pour, pour-points}
 use Rattle.mesh.specs.Mesh.{EMPTY, leftmostOf}
 use Rattle.mesh.specs.Accepted.{Accepted, siteCount}
-use Rattle.mesh.specs.Facts.{topology, entry-site}
 use Rattle.layout.specs.Cleared.{clearedFrom}
 use Rattle.layout.specs.Regions.{Regions}
 use Rattle.layout.proofs.Filling.{regions-rising}
@@ -24,7 +23,7 @@ use Rattle.definition.specs.Fault.{Outcome, ok, refused, andThen, fault, badCen
 use Rattle.definition.specs.Build.{Built, centresFrom, ownersFrom, Extensions, extensions, extendFrom, Cells, clipAll, lostFrom, build}
 use Rattle.definition.specs.Theorems.{leftOf, owner-of, lost-is-left}
 use Rattle.definition.specs.Owners.{owners-length, ready, towards-corner}
-use Rattle.rings.specs.Centers.{Named, Centred}
+use Rattle.rings.specs.Centers.{Centred}
 use Rattle.rings.specs.Ownership.{Owned}
 use Rattle.outputs.specs.Lent.{padded, unmarked, vertexNumbers, indexNumbers, offsetNumbers, Lent}
 use Rattle.outputs.proofs.Gathering.{poured-cleared}
@@ -74,9 +73,6 @@ module _ {sites : List Float} {tri he hull table : List ℕ} {b : BoundingBox} {
   })
 
   -- ---- the circumcenters
-
-  pub named : Named sites tri
-  named k h = omega (arith, entry-site (topology (m .mesh)) k h, m .mesh .counts .even)
 
   abbrev outcome : Cells → Built
   outcome s = record { verts = s .verts; cells = s .cells; owners = found; lost = lostFrom T 4 (s .cells); steps = s .steps }

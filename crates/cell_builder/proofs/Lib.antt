@@ -4,5 +4,6 @@ pub mod Trying
 pub mod Rings
 pub mod TwoKinds
 pub mod Along
+pub mod Starting
 pub mod Finishing
 pub mod LeftOver
