@@ -84,13 +84,6 @@ module _ {sites : List Float} {tri he hull table : List ℕ} {b : BoundingBox} {
   centresThen centres = andThen (extendFrom sites tri hull (leftmostOf tri he n) T 0 (length hull) (extensions (centres ++ cornersOf b) [] [])) cellsThen
 
   module _ (t : ℕ) (v v₁ : List Float) (c : Centred (centresFrom sites tri 0 T []) T t v v₁) where
-    pub few : t ≤ T
-    few = go (centresFrom sites tri 0 T []) c
-      where
-        go : (o : Outcome Fault (List Point)) → Centred o T t v v₁ → t ≤ T
-        go (ok vs) k = omega (arith, k .0)
-        go (refused f) k = omega (arith, k .1)
-
     offends : t < T → build sites tri he hull b ≡ refused (badCentre t)
     unfolding build andThen
     offends h = go (centresFrom sites tri 0 T []) c

@@ -37,6 +37,7 @@ use Rattle.outputs.proofs.Marks.{none-unmarked}
 use Rattle.cell_builder.specs.declared.Frame.{Frame}
 use Rattle.cell_builder.specs.declared.Progress.{Progress}
 use Rattle.cell_builder.specs.Standing.{Ground, ground, frameOf, Grounded, Amid, Does, hullTries, edgeTries, HullsAmid}
+use Rattle.cell_builder.specs.Answer.{Admitted}
 use Rattle.cell_builder.specs.Start.{extendedOf, Extendable, Begun, Begins, Makeable, Makes}
 use Rattle.cell_builder.proofs.Agree.{regions-agree}
 
@@ -91,6 +92,9 @@ module _ {sites : List Float} {tri hull table : List ℕ} {f : Frame} {v : List 
 
 -- ---- the regions, and the beginning of all cells
 
+pub named : {sites : List Float} {tri he hull table : List ℕ} {b : BoundingBox} {numbers indexes offsets : ℕ} → Admitted sites tri he hull table b numbers indexes offsets → Named sites tri
+named a k h = omega (arith, entry-site (topology (a .mesh)) k h, a .mesh .counts .even)
+
 module _ {sites : List Float} {tri he hull table : List ℕ} {b : BoundingBox} {owners : List ℕ} {numbers indexes offsets : ℕ} (m : Makeable sites tri he hull table b owners numbers indexes offsets) where
   abbrev n : ℕ
   n = siteCount sites
@@ -122,6 +126,9 @@ module _ {sites : List Float} {tri he hull table : List ℕ} {b : BoundingBox} {
   pub rooms-fit : 3 * length tri + 6 * length hull + length owners ≤ indexes
   rooms-fit = omega (arith, m .admitted .rooms .entries, whole-triangles, m .four)
 
+  pub regions-end : (off : List ℕ) → length off ≡ offsets → Started tri hull owners n off → getD off n 0 ≡ 3 * length tri + 6 * length hull + 4
+  regions-end off q st = st n (omega arith) ∙ start-end tri hull owners n off (roomy off q) ∙ rw (m .four)
+
   -- a hull site has a half-edge that ends there, and so the table has one
   hull-edge : (i : ℕ) → i < length hull → getD table (getD hull i 0) 0 < length tri
   hull-edge i h =
@@ -133,7 +140,7 @@ module _ {sites : List Float} {tri he hull table : List ℕ} {b : BoundingBox} {
   pub extendable : (f : Frame) → f ≡ frameOf b (length tri) (length hull) → (len-v len-ix : ℕ) → len-v ≡ numbers → len-ix ≡ indexes → Extendable sites tri hull table f len-v len-ix
   extendable f q len-v len-ix qv qi = rw (q, qv, qi) (record {
     extends = record {
-      named = λ k h. omega (arith, entry-site (topology (m .admitted .mesh)) k h, m .admitted .mesh .counts .even);
+      named = named (m .admitted);
       threes = whole-triangles;
       hulled = λ i h. rw (m .admitted .table-is, tab-length (topology (m .admitted .mesh))) (m .admitted .mesh .hull .fresh i h .0);
       edges = hull-edge;
@@ -189,7 +196,7 @@ module _ {sites : List Float} {tri he hull table : List ℕ} {b : BoundingBox} {
     blank-still : (x : Extensions) → Begun (length hull) F owners x ix p v₁ ix₁ → Regions ix₁ off (map unmarked (replicate n []))
     blank-still x g =
         let s : getD off (length (replicate {A = List ℕ} n [])) 0 ≡ 3 * length tri + 6 * length hull + 4 =
-        rw (length-replicate {A = List ℕ} n []) (laid .started n (omega arith) ∙ start-end tri hull owners n off (roomy off lo) ∙ rw (m .four)) in
+        rw (length-replicate {A = List ℕ} n []) (regions-end off lo (laid .started)) in
         rw (none-unmarked n)
         (regions-agree (laid .regions) (omega (arith, s, m .admitted .rooms .entries, whole-triangles)) (λ k h. g .before k (omega (arith, s))))
 

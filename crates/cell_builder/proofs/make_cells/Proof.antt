@@ -36,7 +36,7 @@ same-length-3 : tie.Need-same-length-3
 same-length-3 c = search needs
 
 returns : tie.Need-returns
-returns c = 
+returns c =
     let i = c .before .before .before .before in
     let x = i .before .before .before in
     let o = x .before .before .before .before in
@@ -44,7 +44,7 @@ returns c =
     made-not (Entry f .pre) _ _ _ (o .off .given) (LaidOut o .lay-out .ensures) _ _ (i .before .before .v .given) (i .ix2 .given ∙ o .before .before .ix .given) _ _ (f .frame .ensures) (x .extend .ensures) (c .if1 .taken)
 
 clip-cells-requires : tie.Need-clip-cells-requires
-clip-cells-requires c κs = 
+clip-cells-requires c κs =
     let e = c .before .before .before in
     let i = e .before .before .before .before in
     let x = i .before .before .before in
