@@ -1,12 +1,10 @@
--- The regions end where the last one does, so they stand in every list that agrees up to there; and what was written into two lists that agree, agrees.
+-- The regions end where the last one does, so they stand in every list that agrees up to there; and what was written is read again.
 use mathlib.Core.Path.{_≡_, refl, sym, ap, _∙_}
 use mathlib.Core.List.{List, []}
-use mathlib.Core.Logic.{⊎-elim}
 use Prim.Native.Nat.{ℕ, zero, suc, _+_, _-_, _≤_, _<_}
 use native.Mathlib.Omega.{arith}
 use lib.ListN.{length, getD, take, drop, length-drop}
 use lib.Seq.{getD-take, getD-drop, ext-getD, length-take-le}
-use Rattle.laws.specs.Decide.{lt-or-ge}
 use Rattle.layout.specs.Regions.{Region, Regions, Written}
 use Rattle.layout.proofs.Filling.{regions-rising}
 
@@ -35,24 +33,6 @@ regions-agree {idx} {new} {starts} {cells} r l same = record {
         after = λ k a b. same k (omega arith) ∙ g .after k a b;
       };
 }
-
--- c written from `at` on, over two lists that agree below n
-pub written-agree :
-    {a b c new-a new-b : List ℕ} {at : ℕ} (n : ℕ)
-    → Written a at c new-a
-    → Written b at c new-b
-    → ((k : ℕ) → k < n → getD a k 0 ≡ getD b k 0)
-    → (k : ℕ) → k < n → getD new-a k 0 ≡ getD new-b k 0
-written-agree {c = c} {new-a = na} {new-b = nb} {at = at} n wa wb same k l =
-    ⊎-elim
-    (λ h. wa .before k h ∙ same k l ∙ sym (wb .before k h))
-    (λ h. ⊎-elim
-    (λ j.
-    let q : k ≡ at + (k - at) = omega arith in
-    ap (λ (m : ℕ). getD na m 0) q ∙ wa .entries (k - at) (omega arith) ∙ sym (wb .entries (k - at) (omega arith)) ∙ ap (λ (m : ℕ). getD nb m 0) (sym q))
-    (λ j. wa .behind k j ∙ same k l ∙ sym (wb .behind k j))
-    (lt-or-ge k (at + length c)))
-    (lt-or-ge k at)
 
 -- what was written, read again
 pub written-there : {idx c new : List ℕ} {at : ℕ} → Written idx at c new → at + length c ≤ length idx → take (length c) (drop at new) ≡ c

@@ -6,7 +6,7 @@ use Prim.Native.Nat.{ℕ, zero, suc, _+_, _-_, _*_, _/_, _^_, _≤_, _<_}
 use native.Mathlib.Omega.{arith}
 use lib.Ieee.{Float}
 use lib.ListN.{length, getD, set, take, drop, length-map}
-use lib.Seq.{getD-set-same, sets, paste, getD-take, length-take-le, drop-paste, drop-drop}
+use lib.Seq.{getD-set-same, sets, getD-take, length-take-le}
 use Rattle.laws.specs.Count.{occ, occ-length, sumTo, sum-mono}
 use Rattle.utils.specs.Flat.{points}
 use Rattle.vertices.proofs.Laws.{length-points}
@@ -28,13 +28,14 @@ use Rattle.definition.specs.All.{shareOf, all-filled, spare}
 use Rattle.rings.specs.Staging.{Staged}
 use Rattle.clipping.specs.Steps.{Steps, ringOf, emptyAt, Room}
 use Rattle.clipping.specs.declared.Stepped.{Stepped}
+use Rattle.interior.proofs.Agreeing.{written-agree, written-past}
 use Rattle.outputs.specs.Lent.{unmarked}
 use Rattle.outputs.proofs.Marks.{cell-set}
 use Rattle.cell_builder.specs.Standing.{Ground, Grounded, Amid, Does}
 use Rattle.cell_builder.specs.Tries.{envOf, progressOf, Ringed, Tried}
 use Rattle.cell_builder.specs.declared.Frame.{Frame}
 use Rattle.cell_builder.specs.declared.Progress.{Progress}
-use Rattle.cell_builder.proofs.Agree.{regions-agree, written-agree, written-there}
+use Rattle.cell_builder.proofs.Agree.{regions-agree, written-there}
 
 -- an entry of a cell is a vertex
 placed-below : (P : ℕ → Type 0) (nc n : ℕ) (m : Mark) (v : ℕ) → nc + 4 ≤ n → Placed P nc n m v → v < n
@@ -110,12 +111,7 @@ module _ {tri he : List ℕ} {f : Frame} {off : List ℕ} {g : Ground} {s : Cell
     ring-is = rw size (written-there staged within)
 
     tail-kept : drop (f .limit) ix₁ ≡ drop (f .limit) ix
-    tail-kept =
-        let k = f .stage + length ring in
-        let q : f .limit ≡ k + (f .limit - k) = omega (arith, before-numbers) in
-        rw q (sym (drop-drop (f .limit - k) k ix₁)
-        ∙ ap (drop (f .limit - k)) (ap (drop k) (st .written) ∙ drop-paste ix (f .stage) ring (length ring) (omega (arith, within)) (omega arith))
-        ∙ drop-drop (f .limit - k) k ix)
+    tail-kept = written-past (f .limit) staged (omega (arith, before-numbers))
 
     pub ringed : Ringed f site p end v ix₁ off
     ringed =

@@ -3,6 +3,9 @@ use crate::Frame;
 use crate::Progress;
 use clipping::Env;
 use clipping::ring::clip_cell;
+use definition::Fault;
+use interior::all_inside;
+use interior::copy_ring;
 use mesh::end_site;
 use mesh::wide;
 use rings::staging::stage_hull_ring;
@@ -17,7 +20,7 @@ ghost use Rattle.cell_builder.specs.Tries.{Ringed, Tried};
 
 const NONE: u32 = 4294967295;
 
-// Clips the ring that is staged up to `end`.
+// Clips the ring that is staged up to `end`; one that lies inside whole is its own cell.
 fn clip_staged(
     v: &mut [f64],
     ix: &mut [u32],
@@ -31,15 +34,29 @@ fn clip_staged(
     ensures { λ r. ⌜ Tried f site p end (now (v .entry)) (now (ix .entry)) (now (off .entry)) r (now (v .exit)) (now (ix .exit)) ⌝ }
 {
     let bounds = f.bounds;
+    let owners = p.owners;
+    let base = wide(off[wide(site)]);
+    let len = end - f.stage;
+    if all_inside(v, ix, bounds, f.centers, p.count, f.stage, len) {
+        copy_ring(ix, base, f.stage, len);
+        return Progress {
+            fault: Fault {
+                number: 0,
+                place: 0,
+                from: 0,
+                to: 0,
+            },
+            count: p.count,
+            owners: owners,
+        };
+    }
     let env = Env {
         site: site,
         bounds: bounds,
         centers: f.centers,
         limit: f.limit,
     };
-    let owners = p.owners;
-    let base = wide(off[wide(site)]);
-    let s = clip_cell(v, ix, env, p.count, owners, base, f.stage, end - f.stage);
+    let s = clip_cell(v, ix, env, p.count, owners, base, f.stage, len);
     let fault = s.fault;
     let tip = s.tip;
     let cell = tip.cell;

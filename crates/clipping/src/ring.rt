@@ -21,7 +21,7 @@ ghost use Rattle.clipping.specs.Changes.{Ready};
 ghost use Rattle.clipping.specs.Steps.{tipOf, Stands, Steps, ringOf, emptyAt, Room};
 
 // Only circumcenters can be inside.
-fn in_box(v: &[f64], count: usize, bounds: BoundingBox, centers: usize, i: u32) -> bool
+pub fn in_box(v: &[f64], count: usize, bounds: BoundingBox, centers: usize, i: u32) -> bool
     requires { ⌜ (2 * count ≤ length (now v)) × (i < count) ⌝ }
     ensures { λ r. ⌜ r ≡ Def.inBox bounds centers (points count (now (v .entry))) i ⌝ }
 {

@@ -1,0 +1,4 @@
+pub mod Agreeing
+pub mod Scanning
+pub mod Copying
+pub mod Staying
