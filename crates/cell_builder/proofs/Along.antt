@@ -1,6 +1,7 @@
 -- The loops over tries. Before each try the definition on what is left, from the cells so far, is the whole, so a refusal there is the whole's. Hull sites are distinct:
 -- a try sets the cell of its own site only, and those still to come stay empty.
 use mathlib.Core.Path.{_≡_, refl, sym, ap, _∙_}
+use mathlib.Core.Bool.{Bool, true}
 use mathlib.Core.List.{List, []}
 use mathlib.Core.Logic.{_≢_}
 use Prim.Native.Nat.{ℕ, suc, _+_, _-_, _/_, _≤_, _<_}
@@ -11,6 +12,7 @@ use lib.Ieee.{Float}
 use lib.ListN.{length, getD}
 use lib.Seq.{getD-set-other}
 use Rattle.bounding_box.specs.declared.BoundingBox.{BoundingBox}
+use Rattle.mesh.specs.Mesh.{leftmostOf}
 use Rattle.mesh.specs.Rules.{Topology}
 use Rattle.definition.specs.declared.Fault.{Fault}
 use Rattle.definition.specs.Fault.{Outcome, ok, refused, andThen}
@@ -19,7 +21,8 @@ use Rattle.definition.specs.Build.{Cells, clipInto, clipHull, clipRest}
 use Rattle.definition.specs.Gives.{Gives, gives-map, gives-next}
 use Rattle.cell_builder.specs.declared.Frame.{Frame}
 use Rattle.cell_builder.specs.declared.Progress.{Progress}
-use Rattle.cell_builder.specs.Standing.{Ground, Amid, Does, hullTry, edgeTry, hullTries, edgeTries, HullAmid, HullsAmid, EdgesAmid}
+use Rattle.cell_builder.specs.Standing.{Ground, Amid, Does, hullTry, edgeTry, hullTries, edgeTries, HullAmid, HullsAmid}
+use Rattle.cell_builder.specs.Turns.{FullBefore, RestAmid, TurnAmid, Turned}
 
 -- ---- one step
 
@@ -47,11 +50,13 @@ module _ (tri he : List ℕ) (f : Frame) (off : List ℕ) (g : Ground) where
 -- ---- the hull
 
 -- the cells of other sites stay
-others-stay : (b : BoundingBox) (nc site : ℕ) (ring : List ℕ) (s : Cells) → Gives (λ (t : Cells). (k : ℕ) → k ≢ site → getD (t .cells) k [] ≡ getD (s .cells) k []) (clipInto b nc site ring s)
+abbrev pub OthersStay : ℕ → Cells → Cells → Type 0
+OthersStay site s t = (k : ℕ) → k ≢ site → getD (t .cells) k [] ≡ getD (s .cells) k []
+
+pub others-stay : (b : BoundingBox) (nc site : ℕ) (ring : List ℕ) (s : Cells) → Gives (OthersStay site s) (clipInto b nc site ring s)
 unfolding clipInto
 others-stay b nc site ring s =
-    gives-next (λ (t : Cells). (k : ℕ) → k ≢ site → getD (t .cells) k [] ≡ getD (s .cells) k []) (clipCell b nc site ring (s .verts) (s .owners)) _
-    (λ c k q. getD-set-other (s .cells) site k (c .new) [] q)
+    gives-next (OthersStay site s) (clipCell b nc site ring (s .verts) (s .owners)) _ (λ c k q. getD-set-other (s .cells) site k (c .new) [] q)
 
 -- at first: whatever cells the slices hold, those of the hull empty
 abbrev pub AtFirst : List ℕ → List ℕ → List ℕ → Frame → List ℕ → Progress → List Float → List ℕ → (Ground → Cells → Type 0) → Type 0
@@ -141,66 +146,74 @@ edge-last tri he f e s l =
     let z : length tri - e ≡ 0 = omega arith in
     rw z
 
+module _ (tri he table : List ℕ) (f : Frame) (off : List ℕ) (p₀ : Progress) (v₀ : List Float) (ix₀ : List ℕ) where
+  -- at first: whatever cells the slices hold, on sites that the table is of
+  abbrev pub AtRest : (Ground → Cells → Type 0) → Type 0
+  AtRest P = (g : Ground) (s : Cells) → Amid tri he f off g s p₀ v₀ ix₀ → table ≡ leftmostOf tri he (g .sites) → P g s
+
+  -- before half-edge e
+  abbrev pub EdgesAlong : Bool → ℕ → Progress → List Float → List ℕ → Type 0
+  EdgesAlong full e p v ix = AtRest (λ g s. Along tri he f off g (edgesFrom tri he f e) (FullBefore table (g .sites) full e) (edgeTries tri he f s) p v ix)
+
+  pub edges-start : EdgesAlong true 0 p₀ v₀ ix₀
+  edges-start g s a t = record { cells = s; amid = a; fit = λ w k l m. absurd (omega arith); makes = rw sub-zero }
+
+  module _ (full : Bool) (e : ℕ) (p : Progress) (v : List Float) (ix : List ℕ) (along : EdgesAlong full e p v ix) where
+    pub edges-amid : RestAmid tri he table f off p₀ v₀ ix₀ → e < length tri → TurnAmid tri he table f off p full v ix e
+    edges-amid h l =
+        let a = along (h .g) (h .s) (h .amid) (h .table-is) in
+        record { g = h .g; s = a .cells; amid = a .amid; table-is = h .table-is; full-before = a .fit; place = l }
+
+    pub edges-end : length tri ≤ e → AtRest (λ g s. Does tri he f off g (edgeTries tri he f s) p v ix)
+    edges-end l g s am t =
+        let a = along g s am t in
+        let w : edgeTries tri he f s ≡ ok (a .cells) = sym (a .makes) ∙ edge-last tri he f e (a .cells) l in
+        rw w (a .amid)
+
+    module _ (l : e < length tri) (r : Progress) (full₁ : Bool) (v₁ : List Float) (ix₁ : List ℕ) (turn : (g : Ground) (s : Cells) → Amid tri he f off g s p v ix → table ≡ leftmostOf tri he (g .sites) → FullBefore table (g .sites) full e s → Turned tri he table f off g s e r full₁ v₁ ix₁) where
+      pub edges-step : r .fault .number ≡ 0 → EdgesAlong full₁ (e + 1) r v₁ ix₁
+      edges-step z g s am t =
+          let a = along g s am t in
+          let d = turn g (a .cells) (a .amid) t (a .fit) in
+          passed tri he f off g _ _ r v₁ ix₁ _ (edgeTry tri he f e (a .cells)) (d .full-before) (edge-next tri he f e (a .cells) l ∙ a .makes) (d .does) z
+
+      pub edges-refused : r .fault .number ≢ 0 → AtRest (λ g s. Does tri he f off g (edgeTries tri he f s) r v₁ ix₁)
+      edges-refused z g s am t =
+          let a = along g s am t in
+          stopped tri he f off g _ _ r v₁ ix₁ (edgeTry tri he f e (a .cells)) (edge-next tri he f e (a .cells) l ∙ a .makes) (turn g (a .cells) (a .amid) t (a .fit) .does) z
+
+-- ---- the hull, then the rest
+
 -- fit for the rest are any cells
-abbrev pub Any : Cells → Type 0
+abbrev Any : Cells → Type 0
 Any s = Unit {0}
 
 gives-any : (o : Outcome Fault Cells) → Gives Any o
 gives-any (ok s) = tt
 gives-any (refused e) = tt
 
-module _ (tri he : List ℕ) (f : Frame) (off : List ℕ) (p₀ : Progress) (v₀ : List Float) (ix₀ : List ℕ) where
-  -- before half-edge e
-  abbrev pub EdgesAlong : ℕ → Progress → List Float → List ℕ → Type 0
-  EdgesAlong e p v ix = (g : Ground) (s : Cells) → Amid tri he f off g s p₀ v₀ ix₀ → Along tri he f off g (edgesFrom tri he f e) Any (edgeTries tri he f s) p v ix
-
-  pub edges-start : EdgesAlong 0 p₀ v₀ ix₀
-  edges-start g s a = record { cells = s; amid = a; fit = tt; makes = rw sub-zero }
-
-  module _ (e : ℕ) (p : Progress) (v : List Float) (ix : List ℕ) (along : EdgesAlong e p v ix) where
-    pub edges-amid : EdgesAmid tri he f off p₀ v₀ ix₀ → EdgesAmid tri he f off p v ix
-    edges-amid h =
-        let a = along (h .g) (h .s) (h .amid) in
-        record { g = h .g; s = a .cells; amid = a .amid }
-
-    pub edges-end : length tri ≤ e → (g : Ground) (s : Cells) → Amid tri he f off g s p₀ v₀ ix₀ → Does tri he f off g (edgeTries tri he f s) p v ix
-    edges-end l g s am =
-        let a = along g s am in
-        let w : edgeTries tri he f s ≡ ok (a .cells) = sym (a .makes) ∙ edge-last tri he f e (a .cells) l in
-        rw w (a .amid)
-
-    module _ (l : e < length tri) (r : Progress) (v₁ : List Float) (ix₁ : List ℕ) (try : (g : Ground) (s : Cells) → Amid tri he f off g s p v ix → Does tri he f off g (edgeTry tri he f e s) r v₁ ix₁) where
-      pub edges-step : r .fault .number ≡ 0 → EdgesAlong (e + 1) r v₁ ix₁
-      edges-step z g s am =
-          let a = along g s am in
-          let o = edgeTry tri he f e (a .cells) in
-          passed tri he f off g _ _ r v₁ ix₁ Any o (gives-any o) (edge-next tri he f e (a .cells) l ∙ a .makes) (try g (a .cells) (a .amid)) z
-
-      pub edges-refused : r .fault .number ≢ 0 → (g : Ground) (s : Cells) → Amid tri he f off g s p₀ v₀ ix₀ → Does tri he f off g (edgeTries tri he f s) r v₁ ix₁
-      edges-refused z g s am =
-          let a = along g s am in
-          stopped tri he f off g _ _ r v₁ ix₁ (edgeTry tri he f e (a .cells)) (edge-next tri he f e (a .cells) l ∙ a .makes) (try g (a .cells) (a .amid)) z
-
--- ---- the hull, then the rest
-
 module _ (tri he hull table : List ℕ) (f : Frame) (off : List ℕ) (p₀ : Progress) (v₀ : List Float) (ix₀ : List ℕ) where
   abbrev allTries : Ground → Cells → Outcome Fault Cells
   allTries g s = andThen (hullTries tri he table f g s) (λ t. edgeTries tri he f t)
 
+  -- at first, on sites that the table is of, all tries come to p, v and ix
+  abbrev pub AllDone : Progress → List Float → List ℕ → Type 0
+  AllDone p v ix = AtFirst tri he hull f off p₀ v₀ ix₀ (λ g s. table ≡ leftmostOf tri he (g .sites) → Does tri he f off g (allTries g s) p v ix)
+
   module _ (r : Progress) (v : List Float) (ix : List ℕ) (hulls : AtFirst tri he hull f off p₀ v₀ ix₀ (λ g s. Does tri he f off g (hullTries tri he table f g s) r v ix)) where
-    pub cells-refused : r .fault .number ≢ 0 → AtFirst tri he hull f off p₀ v₀ ix₀ (λ g s. Does tri he f off g (allTries g s) r v ix)
-    cells-refused z g s q blank am = stopped tri he f off g _ _ r v ix (hullTries tri he table f g s) refl (hulls g s q blank am) z
+    pub cells-refused : r .fault .number ≢ 0 → AllDone r v ix
+    cells-refused z g s q blank am t = stopped tri he f off g _ _ r v ix (hullTries tri he table f g s) refl (hulls g s q blank am) z
 
     module _ (z : r .fault .number ≡ 0) where
       between : AtFirst tri he hull f off p₀ v₀ ix₀ (λ g s. Along tri he f off g (edgeTries tri he f) Any (allTries g s) r v ix)
       between g s q blank am = let o = hullTries tri he table f g s in passed tri he f off g _ _ r v ix Any o (gives-any o) refl (hulls g s q blank am) z
 
-      pub cells-amid : HullsAmid tri he hull table f off p₀ v₀ ix₀ → EdgesAmid tri he f off r v ix
+      pub cells-amid : HullsAmid tri he hull table f off p₀ v₀ ix₀ → RestAmid tri he table f off r v ix
       cells-amid h =
           let a = between (h .g) (h .s) (h .is) (h .blank) (h .amid) in
-          record { g = h .g; s = a .cells; amid = a .amid }
+          record { g = h .g; s = a .cells; amid = a .amid; table-is = h .table-is }
 
-      pub cells-end : (r₁ : Progress) (v₁ : List Float) (ix₁ : List ℕ) → ((g : Ground) (s : Cells) → Amid tri he f off g s r v ix → Does tri he f off g (edgeTries tri he f s) r₁ v₁ ix₁) → AtFirst tri he hull f off p₀ v₀ ix₀ (λ g s. Does tri he f off g (allTries g s) r₁ v₁ ix₁)
-      cells-end r₁ v₁ ix₁ edges g s q blank am =
+      pub cells-end : (r₁ : Progress) (v₁ : List Float) (ix₁ : List ℕ) → AtRest tri he table f off r v ix (λ g s. Does tri he f off g (edgeTries tri he f s) r₁ v₁ ix₁) → AllDone r₁ v₁ ix₁
+      cells-end r₁ v₁ ix₁ edges g s q blank am t =
           let a = between g s q blank am in
-          rw (← a .makes) (edges g (a .cells) (a .amid))
+          rw (← a .makes) (edges g (a .cells) (a .amid) t)

@@ -4,6 +4,7 @@ pub mod Trying
 pub mod Rings
 pub mod TwoKinds
 pub mod Along
+pub mod Turning
 pub mod Starting
 pub mod Finishing
 pub mod LeftOver

@@ -245,14 +245,14 @@ module _ {sites : List Float} {tri he hull table : List ℕ} {b : BoundingBox} {
       -- all cells are clipped
       pub made-all :
           p .fault .number ≡ 0 → (r : Progress) (v₂ : List Float) (ix₂ : List ℕ)
-          → ((g : Ground) (s : Cells) → g .hull ≡ hull → ((i : ℕ) → i < length hull → getD (s .cells) (getD hull i 0) [] ≡ []) → Amid tri he f off g s p v₁ ix₁ → Does tri he f off g (andThen (hullTries tri he table f g s) (λ t. edgeTries tri he f t)) r v₂ ix₂)
+          → ((g : Ground) (s : Cells) → g .hull ≡ hull → ((i : ℕ) → i < length hull → getD (s .cells) (getD hull i 0) [] ≡ []) → Amid tri he f off g s p v₁ ix₁ → table ≡ leftmostOf tri he (g .sites) → Does tri he f off g (andThen (hullTries tri he table f g s) (λ t. edgeTries tri he f t)) r v₂ ix₂)
           → Makes sites tri he hull table b owners (extendedOf sites tri hull table b nc v) r v₂ ix₂ off
       unfolding clipAll
       made-all z r v₂ ix₂ clip = go (extendedOf sites tri hull table b nc v) refl on-frame
         where
-          clipped : (g : Ground) (s : Cells) → g .hull ≡ hull → ((i : ℕ) → i < length hull → getD (s .cells) (getD hull i 0) [] ≡ []) → Amid tri he F off g s p v₁ ix₁ → Does tri he F off g (andThen (hullTries tri he table F g s) (λ t. edgeTries tri he F t)) r v₂ ix₂
+          clipped : (g : Ground) (s : Cells) → g .hull ≡ hull → ((i : ℕ) → i < length hull → getD (s .cells) (getD hull i 0) [] ≡ []) → Amid tri he F off g s p v₁ ix₁ → table ≡ leftmostOf tri he (g .sites) → Does tri he F off g (andThen (hullTries tri he table F g s) (λ t. edgeTries tri he F t)) r v₂ ix₂
           clipped = rw fq at clip
 
           go : (o : Outcome Fault Extensions) → extendedOf sites tri hull table b nc v ≡ o → Begins (length hull) F owners o ix p v₁ ix₁ → Makes sites tri he hull table b owners o r v₂ ix₂ off
-          go (ok x) q k = clipped (ground hull n owners x) (none x) refl (λ i h. no-cell n (getD hull i 0)) (standing x q k)
+          go (ok x) q k = clipped (ground hull n owners x) (none x) refl (λ i h. no-cell n (getD hull i 0)) (standing x q k) (m .admitted .table-is)
           go (refused e) q k = absurd (omega (arith, rw (k .0) at z, k .1))

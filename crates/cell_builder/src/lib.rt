@@ -1,5 +1,6 @@
 // The clipped build (CellBuilder with ClipBehavior::Clip) over lent slices: circumcenters, owners, extensions, the hull's cells, the rest, then all moved together.
 pub mod tries; // tries.rt: one try
+pub mod turns; // turns.rt: one half-edge of the rest
 pub mod loops; // loops.rt: all of them
 pub mod start; // start.rt: what they begin with
 
