@@ -3,3 +3,4 @@ pub mod Meshes
 pub mod Plane
 pub mod PlaneOne
 pub mod Walks
+pub mod Examples
