@@ -14,7 +14,7 @@ ghost use Rattle.laws.specs.Decide.{Says};
 ghost use Rattle.queries.specs.Lists.{listedOf, ListAdmission};
 
 // Rule 4.
-fn ask_site(sites: usize, site: u32) -> u32
+pub fn ask_site(sites: usize, site: u32) -> u32
     ensures { λ r. ⌜ (r ≡ siteAsk sites site) × (r < 7) ⌝ }
 {
     if mesh::wide(site) < sites {
@@ -204,7 +204,7 @@ pub fn path(
 }
 
 // Rule 16.
-fn cells_ok(offsets: &[u32], indexes: &[u32], sites: usize) -> bool
+pub fn cells_ok(offsets: &[u32], indexes: &[u32], sites: usize) -> bool
     ensures { λ r. ⌜ Says r (CellsOf (now (offsets .entry)) (now (indexes .entry)) sites) ⌝ }
 {
     if offsets.len() == 0 {
@@ -295,7 +295,7 @@ fn denied(number: u32) -> Told
 }
 
 // The sites that so many offsets have cells for.
-fn cell_count(offsets: usize) -> usize
+pub fn cell_count(offsets: usize) -> usize
     ensures { λ r. ⌜ r ≡ offsets - 1 ⌝ }
 {
     if offsets == 0 {

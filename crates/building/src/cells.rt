@@ -1,0 +1,53 @@
+// One cell of a build, as the part of the index list between two offsets. There is a site less than offsets; 4, then 16.
+use queries::ask_site;
+use queries::cell_count;
+use queries::cells_ok;
+
+// The number; 0 where the site has a cell.
+fn ask_cell(offsets: &[u32], indexes: &[u32], site: u32) -> u32 {
+    let count = cell_count(offsets.len());
+    let asked = ask_site(count, site);
+    if asked != 0 {
+        return asked;
+    }
+    if !cells_ok(offsets, indexes, count) {
+        return 16;
+    }
+    0
+}
+
+// The cell itself; refused, the empty part.
+pub fn cell<'a>(offsets: &[u32], indexes: &'a [u32], site: u32, number: &mut u32) -> &'a [u32] {
+    let r = ask_cell(offsets, indexes, site);
+    *number = r;
+    if r != 0 {
+        return &indexes[..0];
+    }
+    shared::cell(offsets, indexes, mesh::wide(site))
+}
+
+// Where the cell stands: a number, where it starts and how long it is, 0 and 0 where it is refused.
+pub struct Placed {
+    pub number: u32,
+    pub start: u32,
+    pub length: u32,
+}
+
+pub fn place(offsets: &[u32], indexes: &[u32], site: u32) -> Placed {
+    let r = ask_cell(offsets, indexes, site);
+    if r != 0 {
+        return Placed {
+            number: r,
+            start: 0,
+            length: 0,
+        };
+    }
+    let s = mesh::wide(site);
+    let from = offsets[s];
+    let to = offsets[s + 1];
+    Placed {
+        number: 0,
+        start: from,
+        length: to - from,
+    }
+}

@@ -1,0 +1,83 @@
+// The builds, and the cells that they leave. After 1 to 6 nothing lent changes, after 7 to 15 every lent slice is cleared over its whole length
+// (indexes EMPTY, floats +0); after 0 each holds what the build made, then EMPTY or +0 to its end.
+use utils::Point;
+
+// The cells of all sites, clipped to the box of the centre (cx, cy), width and height.
+#[no_mangle]
+pub extern "C" fn voronoi_build(
+    cx: f64,
+    cy: f64,
+    width: f64,
+    height: f64,
+    sites: &[f64],
+    triangles: &[u32],
+    halfedges: &[u32],
+    hull: &[u32],
+    work: &mut [u32],
+    vertices: &mut [f64],
+    indexes: &mut [u32],
+    offsets: &mut [u32],
+    counts: &mut [u32],
+) -> u32 {
+    let c = Point { x: cx, y: cy };
+    building::build(
+        c,
+        width,
+        height,
+        sites,
+        triangles,
+        halfedges,
+        hull,
+        work,
+        vertices,
+        indexes,
+        offsets,
+        counts,
+    )
+}
+
+// The cells of all sites, not clipped: circumcenters alone.
+#[no_mangle]
+pub extern "C" fn voronoi_build_unclipped(
+    sites: &[f64],
+    triangles: &[u32],
+    halfedges: &[u32],
+    hull: &[u32],
+    work: &mut [u32],
+    vertices: &mut [f64],
+    indexes: &mut [u32],
+    offsets: &mut [u32],
+    counts: &mut [u32],
+) -> u32 {
+    building::build_unclipped(
+        sites,
+        triangles,
+        halfedges,
+        hull,
+        work,
+        vertices,
+        indexes,
+        offsets,
+        counts,
+    )
+}
+
+// The cell of a site: the part of the index list between its two offsets, empty where it is refused; 4, then 16.
+pub fn cell<'a>(offsets: &[u32], indexes: &'a [u32], site: u32, number: &mut u32) -> &'a [u32] {
+    building::cells::cell(offsets, indexes, site, number)
+}
+
+// The same as numbers: where the cell starts in the index list, and its length.
+#[no_mangle]
+pub extern "C" fn voronoi_cell(
+    offsets: &[u32],
+    indexes: &[u32],
+    site: u32,
+    start: &mut u32,
+    length: &mut u32,
+) -> u32 {
+    let p = building::cells::place(offsets, indexes, site);
+    *start = p.start;
+    *length = p.length;
+    p.number
+}
