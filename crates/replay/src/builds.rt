@@ -1,4 +1,5 @@
 // One stored build: made again with every room exact, then held to the stored answer.
+use crate::words::after;
 use crate::words::float;
 use crate::words::holds;
 use crate::words::holds_floats;
@@ -71,11 +72,12 @@ pub fn accepted(
 ) -> usize {
     let n = work.len();
     let v = index(b, k);
-    let table = k + 6;
-    let points = table + n;
-    let starts = points + 4 * v;
-    let entries = starts + n + 1;
-    let last = index(b, starts + n);
+    let table = after(k, 6);
+    let points = after(table, n);
+    let starts = after(points, 4 * v);
+    let end = after(starts, n);
+    let entries = after(end, 1);
+    let last = index(b, end);
     if !holds(counts, b, k, 6, EMPTY) {
         return 0;
     }
@@ -85,13 +87,13 @@ pub fn accepted(
     if !holds_floats(vertices, b, points, 2 * v, 0) {
         return 0;
     }
-    if !holds(offsets, b, starts, n + 1, EMPTY) {
+    if !holds(offsets, b, starts, offsets.len(), EMPTY) {
         return 0;
     }
     if !holds(indexes, b, entries, last, EMPTY) {
         return 0;
     }
-    entries + last
+    after(entries, last)
 }
 
 // After a refusal every slice is as before (1 to 6) or cleared.

@@ -8,8 +8,12 @@ use builds::BEFORE;
 use builds::BEFORE_FLOAT;
 use libc::STDIN_FILENO;
 use libc::STDOUT_FILENO;
+use words::after;
 use words::index;
 use words::word;
+ghost use mathlib.Core.Path.{_≡_};
+ghost use Prim.Native.Nat.{_+_, _≤_, _<_};
+ghost use lib.ListN.{length};
 
 // A mesh's answers: as stored, built or refused; or different.
 const BUILT: u32 = 0;
@@ -43,7 +47,7 @@ fn judge(
         return DIFFERENT;
     }
     if number == 0 {
-        let q = builds::accepted(b, k + 1, work, vertices, indexes, offsets, counts);
+        let q = builds::accepted(b, after(k, 1), work, vertices, indexes, offsets, counts);
         if q == 0 {
             return DIFFERENT;
         }
@@ -71,7 +75,7 @@ fn judge(
     }
     if walks::lists(
         b,
-        k + 1,
+        after(k, 1),
         false,
         sites,
         triangles,
@@ -135,7 +139,9 @@ fn replay(
     triangles: &[u32],
     halfedges: &[u32],
     hull: &[u32],
-) -> u32 {
+) -> u32
+    requires { ⌜ (length (now sites) ≤ 128) × (length (now triangles) ≤ 128) × (length (now hull) ≤ 64) ⌝ }
+{
     let mut work = [BEFORE; 64];
     let mut vertices = [BEFORE_FLOAT; 1300];
     let mut indexes = [BEFORE; 1100];
@@ -160,24 +166,47 @@ fn replay(
     )
 }
 
-// The mesh of the record, whose lists have these lengths.
-fn mesh(b: &[u8], s: usize, t: usize, e: usize, h: usize) -> u32 {
+// The mesh stored from word 13 on, read into slices as long as its lists, then its answers.
+fn mesh(
+    b: &[u8],
+    sites: &mut [f64],
+    triangles: &mut [u32],
+    halfedges: &mut [u32],
+    hull: &mut [u32],
+) -> u32
+    requires { ⌜ (length (now sites) ≤ 128) × (length (now triangles) ≤ 128) × (length (now hull) ≤ 64) ⌝ }
+{
+    let from = after(13, 2 * sites.len());
+    let pairs = after(from, triangles.len());
+    let border = after(pairs, halfedges.len());
+    words::load_floats(b, 13, sites);
+    words::load(b, from, triangles);
+    words::load(b, pairs, halfedges);
+    words::load(b, border, hull);
+    replay(
+        b,
+        after(border, hull.len()),
+        sites,
+        triangles,
+        halfedges,
+        hull,
+    )
+}
+
+// With lists of these lengths.
+fn sized(b: &[u8], s: usize, t: usize, e: usize, h: usize) -> u32
+    requires { ⌜ (s ≤ 128) × (t ≤ 128) × (e ≤ 128) × (h ≤ 64) ⌝ }
+{
     let mut sites = [0.0f64; 128];
     let mut triangles = [0u32; 128];
     let mut halfedges = [0u32; 128];
     let mut hull = [0u32; 64];
-    let from = 13 + 2 * s;
-    words::load_floats(b, 13, &mut sites[..s]);
-    words::load(b, from, &mut triangles[..t]);
-    words::load(b, from + t, &mut halfedges[..e]);
-    words::load(b, from + t + e, &mut hull[..h]);
-    replay(
+    mesh(
         b,
-        from + t + e + h,
-        &sites[..s],
-        &triangles[..t],
-        &halfedges[..e],
-        &hull[..h],
+        &mut sites[..s],
+        &mut triangles[..t],
+        &mut halfedges[..e],
+        &mut hull[..h],
     )
 }
 
@@ -198,10 +227,13 @@ fn record(b: &[u8]) -> u32 {
     if 64 < h {
         return DIFFERENT;
     }
-    mesh(b, s, t, e, h)
+    sized(b, s, t, e, h)
 }
 
-fn tallied(all: Tally, verdict: u32) -> Tally {
+fn tallied(all: Tally, verdict: u32) -> Tally
+    requires { ⌜ all .built + all .refused + all .different < 4294967295 ⌝ }
+    ensures { λ r. ⌜ r .built + r .refused + r .different ≡ all .built + all .refused + all .different + 1 ⌝ }
+{
     let mut n = all;
     if verdict == BUILT {
         n.built += 1;
@@ -220,6 +252,7 @@ fn say(n: u32, what: &[u8]) {
     io::write_all(STDOUT_FILENO, what);
 }
 
+// A record's bytes, as many as the slice has.
 fn body(b: &mut [u8]) -> u32 {
     let got = io::read_full(STDIN_FILENO, b);
     if got < b.len() {
@@ -243,10 +276,16 @@ fn next() -> u32 {
     body(&mut b[..end])
 }
 
-fn main() {
-    let mut head = [0u8; 8];
-    io::read_full(STDIN_FILENO, &mut head);
-    let count = word(&head, 1);
+// The next record, which is number i.
+fn one(i: u32) -> u32 {
+    let verdict = next();
+    if verdict == DIFFERENT {
+        say(i, b" differs\n");
+    }
+    verdict
+}
+
+fn each(count: u32) -> Tally {
     let mut all = Tally {
         built: 0,
         refused: 0,
@@ -254,13 +293,17 @@ fn main() {
     };
     let mut i = 0;
     while i < count {
-        let verdict = next();
-        if verdict == DIFFERENT {
-            say(i, b" differs\n");
-        }
-        all = tallied(all, verdict);
+        all = tallied(all, one(i));
         i += 1;
     }
+    all
+}
+
+fn main() {
+    let mut head = [0u8; 8];
+    io::read_full(STDIN_FILENO, &mut head);
+    let count = word(&head, 1);
+    let all = each(count);
     say(count, b" meshes: ");
     say(all.built, b" built, ");
     say(all.refused, b" refused, ");

@@ -1,5 +1,6 @@
 // The stored walk, neighbours, clipped neighbours and path of one site, asked again of the public calls.
 use crate::builds::BEFORE;
+use crate::words::after;
 use crate::words::float;
 use crate::words::holds;
 use crate::words::index;
@@ -8,6 +9,11 @@ use voronoi::walks::voronoi_clipped_neighbours;
 use voronoi::walks::voronoi_neighbours;
 use voronoi::walks::voronoi_path;
 use voronoi::walks::voronoi_walk;
+
+// The place after the list whose length stands at word q.
+fn after_list(b: &[u8], q: usize) -> usize {
+    after(after(q, 1), index(b, q))
+}
 
 // Whether the call was accepted and wrote the list stored from word q on, its length and its entries, to its end.
 fn same(out: &[u32], b: &[u8], q: usize, number: u32, count: u32, ended: u32) -> bool {
@@ -20,7 +26,7 @@ fn same(out: &[u32], b: &[u8], q: usize, number: u32, count: u32, ended: u32) ->
     if count != word(b, q) {
         return false;
     }
-    holds(out, b, q + 1, index(b, q), BEFORE)
+    holds(out, b, after(q, 1), index(b, q), BEFORE)
 }
 
 fn walk(
@@ -77,9 +83,11 @@ fn neighbours(
     same(&out, b, q, number, count, ended)
 }
 
+// Asked only where the build was accepted.
 fn clipped_neighbours(
     b: &[u8],
     q: usize,
+    built: bool,
     site: u32,
     sites: &[f64],
     triangles: &[u32],
@@ -89,6 +97,9 @@ fn clipped_neighbours(
     indexes: &[u32],
     work: &mut [u32],
 ) -> bool {
+    if !built {
+        return true;
+    }
     let mut out = [BEFORE; 128];
     let mut count = 0;
     let mut ended = 0;
@@ -139,7 +150,7 @@ fn path(
     same(&out, b, q, number, count, ended)
 }
 
-// The four lists of the site at word q; the clipped neighbours where the build was accepted.
+// The four lists of the site at word q.
 pub fn lists(
     b: &[u8],
     q: usize,
@@ -153,34 +164,33 @@ pub fn lists(
     work: &mut [u32],
 ) -> bool {
     let site = word(b, q);
-    let first = q + 5;
-    let second = first + 1 + index(b, first);
-    let third = second + 1 + index(b, second);
-    let fourth = third + 1 + index(b, third);
+    let first = after(q, 5);
+    let second = after_list(b, first);
+    let third = after_list(b, second);
+    let fourth = after_list(b, third);
     if !walk(b, first, site, sites, triangles, halfedges, hull, work) {
         return false;
     }
     if !neighbours(b, second, site, sites, triangles, halfedges, hull, work) {
         return false;
     }
-    if built {
-        if !clipped_neighbours(
-            b,
-            third,
-            site,
-            sites,
-            triangles,
-            halfedges,
-            hull,
-            offsets,
-            indexes,
-            work,
-        ) {
-            return false;
-        }
+    if !clipped_neighbours(
+        b,
+        third,
+        built,
+        site,
+        sites,
+        triangles,
+        halfedges,
+        hull,
+        offsets,
+        indexes,
+        work,
+    ) {
+        return false;
     }
-    let x = float(b, q + 1);
-    let y = float(b, q + 3);
+    let x = float(b, after(q, 1));
+    let y = float(b, after(q, 3));
     path(
         b,
         fourth,

@@ -1,7 +1,6 @@
 // A record's words, little-endian, and lent slices held to them. A word past the record's end is 0.
 ghost use mathlib.Core.Path.{_≡_};
 ghost use Prim.Native.Nat.{_<_};
-ghost use lib.ListN.{length};
 
 const SIGN: u64 = 0x8000_0000_0000_0000;
 
@@ -24,8 +23,11 @@ fn wide(x: u32) -> u64
     x as u64
 }
 
+// A record has at most so many words.
+pub const WORDS: usize = 1024;
+
 pub fn word(b: &[u8], k: usize) -> u32 {
-    if b.len() / 4 <= k {
+    if WORDS <= k {
         return 0;
     }
     let at = 4 * k;
@@ -38,21 +40,31 @@ pub fn index(b: &[u8], k: usize) -> usize
     word(b, k) as usize
 }
 
-// The pattern of words k and k + 1.
-fn pattern(b: &[u8], k: usize) -> u64
-    requires { ⌜ k < 1000000000000 ⌝ }
-{
-    wide(word(b, k)) + wide(word(b, k + 1)) * 4294967296
+// The place n words after k, or the end.
+pub fn after(k: usize, n: usize) -> usize {
+    if WORDS <= k {
+        return WORDS;
+    }
+    if WORDS <= n {
+        return WORDS;
+    }
+    k + n
 }
 
-pub fn float(b: &[u8], k: usize) -> f64
-    requires { ⌜ k < 1000000000000 ⌝ }
-{
-    let bits = pattern(b, k);
+// The pattern of words k and the next.
+fn pattern(b: &[u8], k: usize) -> u64 {
+    wide(word(b, k)) + wide(word(b, after(k, 1))) * 4294967296
+}
+
+fn float_of(bits: u64) -> f64 {
     if INFINITY < bits % SIGN {
         return 0.0 / 0.0;
     }
     f64::from_bits(bits)
+}
+
+pub fn float(b: &[u8], k: usize) -> f64 {
+    float_of(pattern(b, k))
 }
 
 fn bits_of(x: f64) -> u64 {
@@ -62,49 +74,40 @@ fn bits_of(x: f64) -> u64 {
     f64::to_bits(x)
 }
 
-pub fn load(b: &[u8], k: usize, l: &mut [u32])
-    requires { ⌜ (k < 100000) × (length (now l) < 100000) ⌝ }
-{
+// Fills l with the words from k on.
+pub fn load(b: &[u8], k: usize, l: &mut [u32]) {
     let mut i = 0;
     while i < l.len() {
-        l[i] = word(b, k + i);
+        l[i] = word(b, after(k, i));
         i += 1;
     }
 }
 
-pub fn load_floats(b: &[u8], k: usize, l: &mut [f64])
-    requires { ⌜ (k < 100000) × (length (now l) < 100000) ⌝ }
-{
+pub fn load_floats(b: &[u8], k: usize, l: &mut [f64]) {
     let mut i = 0;
     while i < l.len() {
-        l[i] = float(b, k + 2 * i);
+        l[i] = float(b, after(after(k, i), i));
         i += 1;
     }
 }
 
-// Word k + i for each place i below n, and from there on `rest`.
-fn expected(b: &[u8], k: usize, n: usize, i: usize, rest: u32) -> u32
-    requires { ⌜ (k < 100000000000) × (i < 100000) ⌝ }
-{
+// What stands at place i of a slice that has the n words from k on, then `rest`.
+fn expected(b: &[u8], k: usize, n: usize, i: usize, rest: u32) -> u32 {
     if i < n {
-        return word(b, k + i);
+        return word(b, after(k, i));
     }
     rest
 }
 
-fn expected_bits(b: &[u8], k: usize, n: usize, i: usize, rest: u64) -> u64
-    requires { ⌜ (k < 100000000000) × (i < 100000) ⌝ }
-{
+fn expected_bits(b: &[u8], k: usize, n: usize, i: usize, rest: u64) -> u64 {
     if i < n {
-        return pattern(b, k + 2 * i);
+        return pattern(b, after(after(k, i), i));
     }
     rest
 }
 
 // Whether l has the n words from k on, then `rest` to its end.
-pub fn holds(l: &[u32], b: &[u8], k: usize, n: usize, rest: u32) -> bool
-    requires { ⌜ (k < 100000000000) × (length (now l) < 100000) ⌝ }
-{
+pub fn holds(l: &[u32], b: &[u8], k: usize, n: usize, rest: u32) -> bool {
     if l.len() < n {
         return false;
     }
@@ -118,10 +121,8 @@ pub fn holds(l: &[u32], b: &[u8], k: usize, n: usize, rest: u32) -> bool
     true
 }
 
-// Whether l has the n floats from word k on, then `rest` to its end, pattern by pattern.
-pub fn holds_floats(l: &[f64], b: &[u8], k: usize, n: usize, rest: u64) -> bool
-    requires { ⌜ (k < 100000000000) × (length (now l) < 100000) ⌝ }
-{
+// The same of floats, pattern by pattern.
+pub fn holds_floats(l: &[f64], b: &[u8], k: usize, n: usize, rest: u64) -> bool {
     if l.len() < n {
         return false;
     }
