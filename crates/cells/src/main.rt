@@ -4,9 +4,67 @@ use libc::STDIN_FILENO;
 use libc::STDOUT_FILENO;
 use voronoi::builds::voronoi_build;
 use voronoi::builds::voronoi_build_unclipped;
+ghost use mathlib.Core.Path.{_≡_};
+ghost use Prim.Native.Nat.{_/_, _<_, _≤_};
+ghost use lib.Ieee.{nan};
+ghost use lib.ListN.{length, getD, take};
+ghost use Rattle.utils.specs.Plane.{at};
+ghost use Rattle.form.specs.Holds.{Room, Few};
+ghost use Rattle.cells.specs.Printed.{InBox, WithoutBox, Prints};
+ghost use Rattle.cells.specs.Shown.{Sized, Laid, Holds, shown, boxLines, unclippedLines, ByMode, ByForm};
 
-fn short(n: usize) -> u32 {
+fn narrow(n: usize) -> u32
+    requires { ⌜ n < 4294967296 ⌝ }
+    ensures { λ r. ⌜ r ≡ n ⌝ }
+{
     n as u32
+}
+
+// The text of a build in a box that was answered by this number, put at the beginning of `out`; how many bytes it has.
+fn show_in_box(
+    out: &mut [u8],
+    number: u32,
+    sites: u32,
+    triangles: u32,
+    offsets: &[u32],
+    indexes: &[u32],
+    counts: &[u32],
+) -> usize
+    requires { ⌜ (number ≡ 0 → Laid sites (now offsets) (now indexes) (length (now out))) × (6 ≤ length (now counts)) × (65536 ≤ length (now out)) ⌝ }
+    ensures { λ r. ⌜ Holds (shown (boxLines sites triangles (now (offsets .entry)) (now (indexes .entry)) (now (counts .entry))) number) (now (out .exit)) (length (now (out .entry))) r ⌝ }
+{
+    if number != 0 {
+        return listing::refusal(out, number);
+    }
+    let owners = [counts[1], counts[2], counts[3], counts[4]];
+    listing::listing(
+        out,
+        sites,
+        triangles,
+        counts[0],
+        offsets,
+        indexes,
+        owners,
+        counts[5],
+    )
+}
+
+fn show_without_box(
+    out: &mut [u8],
+    number: u32,
+    sites: u32,
+    triangles: u32,
+    offsets: &[u32],
+    indexes: &[u32],
+    counts: &[u32],
+) -> usize
+    requires { ⌜ (number ≡ 0 → Laid sites (now offsets) (now indexes) (length (now out))) × (6 ≤ length (now counts)) × (65536 ≤ length (now out)) ⌝ }
+    ensures { λ r. ⌜ Holds (shown (unclippedLines sites triangles (now (offsets .entry)) (now (indexes .entry)) (now (counts .entry))) number) (now (out .exit)) (length (now (out .entry))) r ⌝ }
+{
+    if number != 0 {
+        return listing::refusal(out, number);
+    }
+    listing::unclipped_listing(out, sites, triangles, counts[0], offsets, indexes)
 }
 
 fn in_box(
@@ -16,7 +74,10 @@ fn in_box(
     triangles: &[u32],
     halfedges: &[u32],
     hull: &[u32],
-) -> usize {
+) -> usize
+    requires { ⌜ Sized (length (now sites)) (length (now triangles)) (length (now hull)) (length (now out)) ⌝ }
+    ensures { λ r. ⌜ InBox (now (sites .entry)) (now (triangles .entry)) (now (halfedges .entry)) (now (hull .entry)) (at (getD bounds 0 nan) (getD bounds 1 nan)) (getD bounds 2 nan) (getD bounds 3 nan) (take r (now (out .exit))) × (r ≤ length (now (out .entry))) ⌝ }
+{
     let mut work = [0u32; 96];
     let mut vertices = [0.0f64; 3656];
     let mut indexes = [0u32; 3076];
@@ -37,20 +98,9 @@ fn in_box(
         &mut offsets,
         &mut counts,
     );
-    if number != 0 {
-        return listing::refusal(out, number);
-    }
-    let owners = [counts[1], counts[2], counts[3], counts[4]];
-    listing::listing(
-        out,
-        short(sites.len() / 2),
-        short(triangles.len() / 3),
-        counts[0],
-        &offsets,
-        &indexes,
-        owners,
-        counts[5],
-    )
+    let n = narrow(sites.len() / 2);
+    let t = narrow(triangles.len() / 3);
+    show_in_box(out, number, n, t, &offsets, &indexes, &counts)
 }
 
 fn without_box(
@@ -59,7 +109,10 @@ fn without_box(
     triangles: &[u32],
     halfedges: &[u32],
     hull: &[u32],
-) -> usize {
+) -> usize
+    requires { ⌜ Sized (length (now sites)) (length (now triangles)) (length (now hull)) (length (now out)) ⌝ }
+    ensures { λ r. ⌜ WithoutBox (now (sites .entry)) (now (triangles .entry)) (now (halfedges .entry)) (now (hull .entry)) (take r (now (out .exit))) × (r ≤ length (now (out .entry))) ⌝ }
+{
     let mut work = [0u32; 96];
     let mut vertices = [0.0f64; 3656];
     let mut indexes = [0u32; 3076];
@@ -76,21 +129,69 @@ fn without_box(
         &mut offsets,
         &mut counts,
     );
-    if number != 0 {
-        return listing::refusal(out, number);
+    let n = narrow(sites.len() / 2);
+    let t = narrow(triangles.len() / 3);
+    show_without_box(out, number, n, t, &offsets, &indexes, &counts)
+}
+
+fn of_mesh(
+    out: &mut [u8],
+    unclipped: bool,
+    bounds: [f64; 4],
+    sites: &[f64],
+    triangles: &[u32],
+    halfedges: &[u32],
+    hull: &[u32],
+) -> usize
+    requires { ⌜ Sized (length (now sites)) (length (now triangles)) (length (now hull)) (length (now out)) ⌝ }
+    ensures { λ r. ⌜ ByMode unclipped bounds (now (sites .entry)) (now (triangles .entry)) (now (halfedges .entry)) (now (hull .entry)) (take r (now (out .exit))) × (r ≤ length (now (out .entry))) ⌝ }
+{
+    if unclipped {
+        return without_box(out, sites, triangles, halfedges, hull);
     }
-    listing::unclipped_listing(
+    in_box(out, bounds, sites, triangles, halfedges, hull)
+}
+
+// What is printed for a form that was read into these lists.
+fn of_form(
+    out: &mut [u8],
+    form: Form,
+    bounds: [f64; 4],
+    sites: &[f64],
+    triangles: &[u32],
+    halfedges: &[u32],
+    hull: &[u32],
+) -> usize
+    requires { ⌜ Room bounds (now sites) (now triangles) (now halfedges) (now hull) × Few form × (65536 ≤ length (now out)) ⌝ }
+    ensures { λ r. ⌜ ByForm form bounds (now (sites .entry)) (now (triangles .entry)) (now (halfedges .entry)) (now (hull .entry)) (take r (now (out .exit))) × (r ≤ length (now (out .entry))) ⌝ }
+{
+    let Form::Sound {
+        sites: n,
+        triangles: t,
+        hull: h,
+        unclipped,
+    } = form
+    else {
+        return listing::refusal(out, 17);
+    };
+    let numbers = 2 * n;
+    let links = 3 * t;
+    of_mesh(
         out,
-        short(sites.len() / 2),
-        short(triangles.len() / 3),
-        counts[0],
-        &offsets,
-        &indexes,
+        unclipped,
+        bounds,
+        &sites[..numbers],
+        &triangles[..links],
+        &halfedges[..links],
+        &hull[..h],
     )
 }
 
-// What is printed for these bytes, put at the beginning of `out`; how many bytes it has.
-fn answer(bytes: &[u8], out: &mut [u8]) -> usize {
+// What is printed for a form's bytes.
+fn answer(bytes: &[u8], out: &mut [u8]) -> usize
+    requires { ⌜ 65536 ≤ length (now out) ⌝ }
+    ensures { λ r. ⌜ Prints (now (bytes .entry)) (take r (now (out .exit))) × (r ≤ length (now (out .entry))) ⌝ }
+{
     let mut bounds = [0.0f64; 4];
     let mut sites = [0.0f64; 192];
     let mut triangles = [0u32; 576];
@@ -104,34 +205,7 @@ fn answer(bytes: &[u8], out: &mut [u8]) -> usize {
         &mut halfedges,
         &mut hull,
     );
-    let Form::Sound {
-        sites: s,
-        triangles: t,
-        hull: h,
-        unclipped,
-    } = form
-    else {
-        return listing::refusal(out, 17);
-    };
-    let numbers = 2 * s;
-    let links = 3 * t;
-    if unclipped {
-        return without_box(
-            out,
-            &sites[..numbers],
-            &triangles[..links],
-            &halfedges[..links],
-            &hull[..h],
-        );
-    }
-    in_box(
-        out,
-        bounds,
-        &sites[..numbers],
-        &triangles[..links],
-        &halfedges[..links],
-        &hull[..h],
-    )
+    of_form(out, form, bounds, &sites, &triangles, &halfedges, &hull)
 }
 
 fn main() {
