@@ -30,6 +30,12 @@ extern "C" {
 #define VORONOI_OFFSET_ROOM(N) ((size_t)(N) + 1)
 #define VORONOI_WORK_ROOM(N) ((size_t)(N))
 
+/* The places of a build's counts: the number of vertices, the owners of the four corners, the lost corners; how many they are. */
+#define VORONOI_COUNT_VERTICES 0
+#define VORONOI_COUNT_OWNERS 1
+#define VORONOI_COUNT_LOST 5
+#define VORONOI_COUNTS 6
+
 /* ---- refusals, in the order in which they are tried */
 
 #define VORONOI_ACCEPTED 0
@@ -157,6 +163,37 @@ uint32_t voronoi_shared_edge(const double *sites, size_t sites_len, const uint32
  * There is a site less than offsets, at least none. 4 on either site, then 16. */
 uint32_t voronoi_cells_share_edge(const uint32_t *offsets, size_t offsets_len, const uint32_t *indexes, size_t indexes_len, uint32_t a,
                                   uint32_t b, uint32_t *yes);
+
+/* ---- the builds
+ * work, vertices, indexes, offsets and counts are lent; what each must be long at least is above (vertices_len counts numbers, two for
+ * each vertex; VORONOI_COUNTS for counts). After 1 to 6 all five are as they were. After 7 to 15 all five are cleared over their whole
+ * lengths: VORONOI_EMPTY, and +0 in vertices. After 0 each holds what follows, then VORONOI_EMPTY or +0 to its end:
+ *
+ *   work      the leftmost half-edge of each site, as after voronoi_check
+ *   vertices  x and y of each vertex: the circumcenters in the triangles' order; of a clipped build then the four corners (top left,
+ *             bottom left, bottom right, top right) and the points added
+ *   indexes   the cells of all sites one after the other, each by its vertices' numbers
+ *   offsets   where each site's cell begins in indexes, and where the last one ends
+ *   counts    the number of vertices; the owners of the four corners as they were found; how many corners no cell took by wrapping */
+
+/* The cells clipped to the box of centre (cx, cy), width and height. Tries 1, 2, 3, 6, 7 to 10, 11, and 12 to 15 as the builder meets them. */
+uint32_t voronoi_build(double cx, double cy, double width, double height, const double *sites, size_t sites_len,
+                       const uint32_t *triangles, size_t triangles_len, const uint32_t *halfedges, size_t halfedges_len,
+                       const uint32_t *hull, size_t hull_len, uint32_t *work, size_t work_len, double *vertices, size_t vertices_len,
+                       uint32_t *indexes, size_t indexes_len, uint32_t *offsets, size_t offsets_len, uint32_t *counts,
+                       size_t counts_len);
+
+/* The cells not clipped: each the walk from the lowest half-edge that ends at its site, reversed, by its triangles' numbers. Tries 1, 2,
+ * 6, 7 to 10, 11. The vertices are the circumcenters; the owners are VORONOI_EMPTY, no corner is lost. */
+uint32_t voronoi_build_unclipped(const double *sites, size_t sites_len, const uint32_t *triangles, size_t triangles_len,
+                                 const uint32_t *halfedges, size_t halfedges_len, const uint32_t *hull, size_t hull_len,
+                                 uint32_t *work, size_t work_len, double *vertices, size_t vertices_len, uint32_t *indexes,
+                                 size_t indexes_len, uint32_t *offsets, size_t offsets_len, uint32_t *counts, size_t counts_len);
+
+/* The cell of a site: indexes[*start] and the *length - 1 entries after it. There is a site less than offsets, at least none: lend the
+ * offsets of a build without their cleared tail. 4, then 16 on all of them. Refused, *start and *length are 0. */
+uint32_t voronoi_cell(const uint32_t *offsets, size_t offsets_len, const uint32_t *indexes, size_t indexes_len, uint32_t site,
+                      uint32_t *start, uint32_t *length);
 
 #ifdef __cplusplus
 }

@@ -2,9 +2,12 @@
 use queries::ask_site;
 use queries::cell_count;
 use queries::cells_ok;
+ghost use Rattle.building.specs.Cells.{CellNumber, CellAnswer, PlaceAnswer};
 
 // The number; 0 where the site has a cell.
-fn ask_cell(offsets: &[u32], indexes: &[u32], site: u32) -> u32 {
+fn ask_cell(offsets: &[u32], indexes: &[u32], site: u32) -> u32
+    ensures { λ r. ⌜ CellNumber (now (offsets .entry)) (now (indexes .entry)) site r ⌝ }
+{
     let count = cell_count(offsets.len());
     let asked = ask_site(count, site);
     if asked != 0 {
@@ -17,7 +20,9 @@ fn ask_cell(offsets: &[u32], indexes: &[u32], site: u32) -> u32 {
 }
 
 // The cell itself; refused, the empty part.
-pub fn cell<'a>(offsets: &[u32], indexes: &'a [u32], site: u32, number: &mut u32) -> &'a [u32] {
+pub fn cell<'a>(offsets: &[u32], indexes: &'a [u32], site: u32, number: &mut u32) -> &'a [u32]
+    ensures { λ r. ⌜ CellAnswer (now (offsets .entry)) (now (indexes .entry)) site (now r) (now (number .exit)) ⌝ }
+{
     let r = ask_cell(offsets, indexes, site);
     *number = r;
     if r != 0 {
@@ -33,7 +38,9 @@ pub struct Placed {
     pub length: u32,
 }
 
-pub fn place(offsets: &[u32], indexes: &[u32], site: u32) -> Placed {
+pub fn place(offsets: &[u32], indexes: &[u32], site: u32) -> Placed
+    ensures { λ r. ⌜ PlaceAnswer (now (offsets .entry)) (now (indexes .entry)) site (r .start) (r .length) (r .number) ⌝ }
+{
     let r = ask_cell(offsets, indexes, site);
     if r != 0 {
         return Placed {

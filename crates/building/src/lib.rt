@@ -7,6 +7,13 @@ use layout::fill_from;
 use outputs::clear_all;
 use outputs::rooms_ok;
 use utils::Point;
+ghost use mathlib.Core.Path.{_≡_};
+ghost use Prim.Native.Nat.{ℕ, _/_, _≤_, _<_};
+ghost use lib.ListN.{length};
+ghost use Rattle.mesh.specs.Mesh.{EMPTY};
+ghost use Rattle.outputs.specs.Lent.{padded};
+ghost use Rattle.building.specs.Promise.{slices, boxAsk, Clipped, Unclipped};
+ghost use Rattle.building.specs.Steps.{RoomAnswer, BuildAdmission, countsOf, Finished};
 
 const NONE: u32 = 4294967295;
 
@@ -21,7 +28,9 @@ fn room_for(
     indexes: usize,
     offsets: usize,
     counts: usize,
-) -> bool {
+) -> bool
+    ensures { λ r. ⌜ RoomAnswer coordinates entries halfedges hull work numbers indexes offsets counts r ⌝ }
+{
     if !checker::counts_ok(coordinates, entries, halfedges, hull) {
         return false;
     }
@@ -36,7 +45,9 @@ fn room_for(
 }
 
 // Rule 3.
-fn ask_box(c: Point, width: f64, height: f64) -> u32 {
+fn ask_box(c: Point, width: f64, height: f64) -> u32
+    ensures { λ r. ⌜ (r ≡ boxAsk c width height) × (r < 7) ⌝ }
+{
     if box_ok(c, width, height) {
         return 0;
     }
@@ -55,7 +66,10 @@ fn admit_build(
     ix: &mut [u32],
     off: &mut [u32],
     counts: &mut [u32],
-) -> u32 {
+) -> u32
+    requires { ⌜ asked < 7 ⌝ }
+    ensures { λ r. ⌜ BuildAdmission (now (sites .entry)) (now (triangles .entry)) (now (halfedges .entry)) (now (hull .entry)) asked (slices (now (work .entry)) (now (v .entry)) (now (ix .entry)) (now (off .entry)) (now (counts .entry))) (slices (now (work .exit)) (now (v .exit)) (now (ix .exit)) (now (off .exit)) (now (counts .exit))) r ⌝ }
+{
     let roomy = room_for(
         sites.len(),
         triangles.len(),
@@ -77,7 +91,10 @@ fn admit_build(
 }
 
 // The number of vertices, the corners' owners and the lost corners, then `EMPTY`.
-fn put_counts(vertices: u32, owners: [u32; 4], lost: u32, counts: &mut [u32]) {
+fn put_counts(vertices: u32, owners: [u32; 4], lost: u32, counts: &mut [u32])
+    requires { ⌜ 6 ≤ length (now counts) ⌝ }
+    ensures { λ _. ⌜ now (counts .exit) ≡ padded (length (now (counts .entry))) EMPTY (countsOf vertices owners lost) ⌝ }
+{
     counts[0] = vertices;
     counts[1] = owners[0];
     counts[2] = owners[1];
@@ -95,7 +112,10 @@ fn finish(
     lost: u32,
     work: &mut [u32],
     counts: &mut [u32],
-) {
+)
+    requires { ⌜ 6 ≤ length (now counts) ⌝ }
+    ensures { λ _. ⌜ Finished number (countsOf vertices owners lost) (now (work .entry)) (now (counts .entry)) (now (work .exit)) (now (counts .exit)) ⌝ }
+{
     if number != 0 {
         mesh::clear(work);
         mesh::clear(counts);
@@ -118,7 +138,9 @@ pub fn build(
     ix: &mut [u32],
     off: &mut [u32],
     counts: &mut [u32],
-) -> u32 {
+) -> u32
+    ensures { λ r. ⌜ Clipped (now (sites .entry)) (now (triangles .entry)) (now (halfedges .entry)) (now (hull .entry)) c width height (slices (now (work .entry)) (now (v .entry)) (now (ix .entry)) (now (off .entry)) (now (counts .entry))) (slices (now (work .exit)) (now (v .exit)) (now (ix .exit)) (now (off .exit)) (now (counts .exit))) r ⌝ }
+{
     let asked = ask_box(c, width, height);
     let r = admit_build(
         sites,
@@ -165,7 +187,9 @@ pub fn build_unclipped(
     ix: &mut [u32],
     off: &mut [u32],
     counts: &mut [u32],
-) -> u32 {
+) -> u32
+    ensures { λ r. ⌜ Unclipped (now (sites .entry)) (now (triangles .entry)) (now (halfedges .entry)) (now (hull .entry)) (slices (now (work .entry)) (now (v .entry)) (now (ix .entry)) (now (off .entry)) (now (counts .entry))) (slices (now (work .exit)) (now (v .exit)) (now (ix .exit)) (now (off .exit)) (now (counts .exit))) r ⌝ }
+{
     let r = admit_build(
         sites,
         triangles,

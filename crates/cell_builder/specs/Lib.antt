@@ -2,3 +2,4 @@
 pub mod Standing
 pub mod Tries
 pub mod Answer
+pub mod Start

@@ -7,7 +7,6 @@ use bounding_box::BoundingBox;
 use definition::Fault;
 use layout::clear_floats_from;
 use loops::clip_cells;
-use mesh::wide;
 use outputs::clear_all;
 use outputs::gather;
 use outputs::lay_out;
@@ -16,11 +15,16 @@ use rings::ownership::calculate_corner_ownership;
 use start::extend;
 use start::frame;
 ghost use mathlib.Core.Path.{_≡_};
+ghost use mathlib.Core.List.{[], _∷_};
+ghost use Prim.Native.Nat.{_/_, _≤_};
 ghost use lib.ListN.{length};
+ghost use Rattle.mesh.specs.Accepted.{siteCount};
+ghost use Rattle.definition.specs.Fault.{refused as refusal};
 ghost use Rattle.definition.specs.Build.{build};
 ghost use Rattle.definition.specs.Theorems.{leftOf};
 ghost use Rattle.outputs.specs.Lent.{Lent};
 ghost use Rattle.cell_builder.specs.Answer.{Admitted, answerOf};
+ghost use Rattle.cell_builder.specs.Start.{extendedOf, Makeable, Makes, Emptied, Finishable, Finished};
 
 const NONE: u32 = 4294967295;
 
@@ -48,6 +52,16 @@ pub struct Answer {
     pub lost: u32,
 }
 
+// 1 where a corner is still with its owner.
+fn still(owner: u32) -> u32
+    ensures { λ r. ⌜ (r ≡ leftOf (owner ∷ [])) × (r ≤ 1) ⌝ }
+{
+    if owner == NONE {
+        return 0;
+    }
+    1
+}
+
 // How many corners are still with their owners.
 fn left_over(owners: [u32; 4]) -> u32
     ensures { λ r. ⌜ r ≡ leftOf owners ⌝ }
@@ -55,15 +69,17 @@ fn left_over(owners: [u32; 4]) -> u32
     let mut n: u32 = 0;
     let mut k: usize = 0;
     while k < 4 {
-        if owners[k] != NONE {
-            n += 1;
-        }
+        n += still(owners[k]);
         k += 1;
     }
     n
 }
 
-fn refused(fault: Fault) -> Answer {
+// The slices cleared, and a refusal's answer.
+fn refuse(v: &mut [f64], ix: &mut [u32], off: &mut [u32], fault: Fault) -> Answer
+    ensures { λ r. ⌜ (r ≡ answerOf (refusal fault)) × Emptied (now (v .entry)) (now (ix .entry)) (now (off .entry)) (now (v .exit)) (now (ix .exit)) (now (off .exit)) ⌝ }
+{
+    clear_all(v, ix, off);
     Answer {
         fault: fault,
         count: 0,
@@ -84,7 +100,10 @@ fn make_cells(
     v: &mut [f64],
     ix: &mut [u32],
     off: &mut [u32],
-) -> Progress {
+) -> Progress
+    requires { ⌜ Makeable (now sites) (now triangles) (now halfedges) (now hull) (now table) b owners (length (now v)) (length (now ix)) (length (now off)) ⌝ }
+    ensures { λ r. ⌜ Makes (now (sites .entry)) (now (triangles .entry)) (now (halfedges .entry)) (now (hull .entry)) (now (table .entry)) b owners (extendedOf (now (sites .entry)) (now (triangles .entry)) (now (hull .entry)) (now (table .entry)) b (length (now (triangles .entry)) / 3) (now (v .entry))) r (now (v .exit)) (now (ix .exit)) (now (off .exit)) ⌝ }
+{
     let f = frame(b, triangles.len(), hull.len());
     lay_out(triangles, hull, owners, ix, off, sites.len() / 2);
     let p = extend(sites, triangles, hull, table, v, ix, f, owners);
@@ -93,6 +112,30 @@ fn make_cells(
         return p;
     }
     clip_cells(triangles, halfedges, hull, table, v, ix, off, f, p)
+}
+
+// The cells moved together, the vertices cleared past their count, and the answer with the owners as found.
+fn finish(
+    v: &mut [f64],
+    ix: &mut [u32],
+    off: &mut [u32],
+    sites: usize,
+    p: Progress,
+    owners: [u32; 4],
+) -> Answer
+    requires { ⌜ Finishable sites (p .count) (length (now v)) (now ix) (now off) ⌝ }
+    ensures { λ r. ⌜ Finished sites p owners (now (v .entry)) (now (ix .entry)) (now (off .entry)) r (now (v .exit)) (now (ix .exit)) (now (off .exit)) ⌝ }
+{
+    gather(ix, off, sites);
+    clear_floats_from(v, 2 * p.count);
+    let fault = p.fault;
+    let left = p.owners;
+    Answer {
+        fault: fault,
+        count: p.count,
+        owners: owners,
+        lost: left_over(left),
+    }
 }
 
 // On an accepted mesh and slices with room. Refused, all three slices are cleared.
@@ -112,13 +155,17 @@ pub fn build_cells(
 {
     let t = calculate_circumcenters(sites, triangles, v);
     if t < triangles.len() / 3 {
-        clear_all(v, ix, off);
-        return refused(Fault {
-            number: 11,
-            place: t as u32,
-            from: 0,
-            to: 0,
-        });
+        return refuse(
+            v,
+            ix,
+            off,
+            Fault {
+                number: 11,
+                place: t as u32,
+                from: 0,
+                to: 0,
+            },
+        );
     }
     let owners = calculate_corner_ownership(sites, triangles, halfedges, table, b, hull[0]);
     let p = make_cells(
@@ -135,16 +182,7 @@ pub fn build_cells(
     );
     let fault = p.fault;
     if fault.number != 0 {
-        clear_all(v, ix, off);
-        return refused(fault);
+        return refuse(v, ix, off, fault);
     }
-    gather(ix, off, sites.len() / 2);
-    clear_floats_from(v, 2 * p.count);
-    let left = p.owners;
-    Answer {
-        fault: fault,
-        count: p.count,
-        owners: owners,
-        lost: left_over(left),
-    }
+    finish(v, ix, off, sites.len() / 2, p, owners)
 }

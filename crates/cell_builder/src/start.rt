@@ -8,7 +8,9 @@ use rings::extensions::extend_hull;
 use vertices::calculate_corners;
 ghost use mathlib.Core.Path.{_≡_};
 ghost use Prim.Native.Nat.{_≤_};
+ghost use lib.ListN.{length};
 ghost use Rattle.cell_builder.specs.Standing.{frameOf};
+ghost use Rattle.cell_builder.specs.Start.{extendedOf, Extendable, Begins};
 
 // For so many entries of the triangle list and so many hull sites.
 pub fn frame(b: BoundingBox, entries: usize, hull: usize) -> Frame
@@ -33,7 +35,10 @@ pub fn extend(
     ix: &mut [u32],
     f: Frame,
     owners: [u32; 4],
-) -> Progress {
+) -> Progress
+    requires { ⌜ Extendable (now sites) (now triangles) (now hull) (now table) f (length (now v)) (length (now ix)) ⌝ }
+    ensures { λ r. ⌜ Begins (length (now (hull .entry))) f owners (extendedOf (now (sites .entry)) (now (triangles .entry)) (now (hull .entry)) (now (table .entry)) (f .bounds) (f .centers) (now (v .entry))) (now (ix .entry)) r (now (v .exit)) (now (ix .exit)) ⌝ }
+{
     let bounds = f.bounds;
     let count = calculate_corners(v, ix, f.limit, f.centers, corners(bounds));
     let numbers = f.limit - hull.len();

@@ -3,4 +3,5 @@ pub mod Meshes
 pub mod Plane
 pub mod PlaneOne
 pub mod Walks
+pub mod Builds
 pub mod Examples

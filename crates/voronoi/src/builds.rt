@@ -1,6 +1,9 @@
 // The builds, and the cells that they leave. After 1 to 6 nothing lent changes, after 7 to 15 every lent slice is cleared over its whole length
 // (indexes EMPTY, floats +0); after 0 each holds what the build made, then EMPTY or +0 to its end.
 use utils::Point;
+ghost use Rattle.utils.specs.Plane.{at};
+ghost use Rattle.building.specs.Promise.{slices};
+ghost use Rattle.voronoi.specs.Builds.{Build, BuildUnclipped, Cell, CellPart};
 
 // The cells of all sites, clipped to the box of the centre (cx, cy), width and height.
 #[no_mangle]
@@ -18,7 +21,9 @@ pub extern "C" fn voronoi_build(
     indexes: &mut [u32],
     offsets: &mut [u32],
     counts: &mut [u32],
-) -> u32 {
+) -> u32
+    ensures { λ r. ⌜ Build (now (sites .entry)) (now (triangles .entry)) (now (halfedges .entry)) (now (hull .entry)) (at cx cy) width height (slices (now (work .entry)) (now (vertices .entry)) (now (indexes .entry)) (now (offsets .entry)) (now (counts .entry))) (slices (now (work .exit)) (now (vertices .exit)) (now (indexes .exit)) (now (offsets .exit)) (now (counts .exit))) r ⌝ }
+{
     let c = Point { x: cx, y: cy };
     building::build(
         c,
@@ -48,7 +53,9 @@ pub extern "C" fn voronoi_build_unclipped(
     indexes: &mut [u32],
     offsets: &mut [u32],
     counts: &mut [u32],
-) -> u32 {
+) -> u32
+    ensures { λ r. ⌜ BuildUnclipped (now (sites .entry)) (now (triangles .entry)) (now (halfedges .entry)) (now (hull .entry)) (slices (now (work .entry)) (now (vertices .entry)) (now (indexes .entry)) (now (offsets .entry)) (now (counts .entry))) (slices (now (work .exit)) (now (vertices .exit)) (now (indexes .exit)) (now (offsets .exit)) (now (counts .exit))) r ⌝ }
+{
     building::build_unclipped(
         sites,
         triangles,
@@ -63,7 +70,9 @@ pub extern "C" fn voronoi_build_unclipped(
 }
 
 // The cell of a site: the part of the index list between its two offsets, empty where it is refused; 4, then 16.
-pub fn cell<'a>(offsets: &[u32], indexes: &'a [u32], site: u32, number: &mut u32) -> &'a [u32] {
+pub fn cell<'a>(offsets: &[u32], indexes: &'a [u32], site: u32, number: &mut u32) -> &'a [u32]
+    ensures { λ r. ⌜ CellPart (now (offsets .entry)) (now (indexes .entry)) site (now r) (now (number .exit)) ⌝ }
+{
     building::cells::cell(offsets, indexes, site, number)
 }
 
@@ -75,7 +84,9 @@ pub extern "C" fn voronoi_cell(
     site: u32,
     start: &mut u32,
     length: &mut u32,
-) -> u32 {
+) -> u32
+    ensures { λ r. ⌜ Cell (now (offsets .entry)) (now (indexes .entry)) site (now (start .exit)) (now (length .exit)) r ⌝ }
+{
     let p = building::cells::place(offsets, indexes, site);
     *start = p.start;
     *length = p.length;

@@ -1,0 +1,5 @@
+-- The root of the crate's definitions.
+pub mod Promise
+pub mod Refusals
+pub mod Cells
+pub mod Steps

@@ -1,0 +1,62 @@
+-- `cell_builder::left_over` meets its contract: those counted and those still to come are all that are left.
+use mathlib.Core.Path.{_≡_, refl, sym, ap, _∙_}
+use Prim.Native.Nat.{_+_, _-_, _≤_, _<_}
+use native.Mathlib.Omega.{arith}
+use lib.ListN.{length, getD, drop}
+use borrow.Author.Needs.{needs}
+use Rattle.definition.specs.Theorems.{leftOf}
+use Rattle.cell_builder.proofs.LeftOver.{left-step, left-all}
+use Rattle.cell_builder.proofs.left_over.Statement.{statement}
+use Rattle.cell_builder.proofs.left_over.Tie as tie
+
+abbrev Inv-loop : tie.InvT-loop
+Inv-loop owners n₀ k₀ n k = (length owners ≡ 4) × (n ≤ k) × (k ≤ 4) × (n + leftOf (drop k owners) ≡ leftOf owners)
+
+abbrev μ-loop : tie.MeasureT-loop
+μ-loop owners n₀ k₀ n k = 4 - k
+
+loop-holds : tie.Need-loop-holds Inv-loop μ-loop
+loop-holds c = (search needs, omega arith, omega arith, omega arith)
+
+mul-still : tie.Need-mul-still Inv-loop μ-loop
+mul-still c = omega arith
+
+array-read-still : tie.Need-array-read-still Inv-loop μ-loop
+array-read-still c = omega arith
+
+still-requires : tie.Need-still-requires Inv-loop μ-loop
+still-requires c κs = search needs
+
+add-n : tie.Need-add-n Inv-loop μ-loop
+add-n c = omega (arith, c .still .ensures .1)
+
+add-k : tie.Need-add-k Inv-loop μ-loop
+add-k c = omega arith
+
+loop-less : tie.Need-loop-less Inv-loop μ-loop
+loop-less c = omega arith
+
+loop-again : tie.Need-loop-again Inv-loop μ-loop
+loop-again c =
+    let l = c .before .before in
+    let i = l .loop .inv in
+    (i .0, omega (arith, c .still .ensures .1), omega arith, left-step (l .before .args .t1) (l .loop .k) (l .loop .n) _ (omega (arith, i .0)) (i .3) (c .still .ensures .0))
+
+returns : tie.Need-returns Inv-loop μ-loop
+returns c = let l = c .before in let i = l .loop .inv in left-all (l .before .args .t1) (l .loop .k) _ (omega (arith, i .0)) (i .3)
+
+pub left-over-spec : {M : Type 1} → statement M
+left-over-spec =
+    tie.close
+    (tie.spec
+    Inv-loop
+    μ-loop
+    loop-holds
+    mul-still
+    array-read-still
+    still-requires
+    add-n
+    add-k
+    loop-less
+    loop-again
+    returns)
