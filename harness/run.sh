@@ -20,7 +20,10 @@ export VORONOI_SOURCE
 (cd "$here" && cargo build --release --offline --quiet)
 made=$root/target/harness/release
 "$made/oracle" --check "$here"/meshes/*.txt
-"$made/stored" check "$here/stored/answers.bin" "$here"/meshes/*.txt
+for text in "$root"/examples/*.txt "$here"/meshes/*.txt "$root"/tests/cells/*.txt; do
+    "$made/oracle" --listing "$text" | cmp - "$root/tests/cells/$(basename "$text" .txt).out"
+done
+"$made/stored" check "$root/crates/replay/stdin" "$here"/meshes/*.txt
 "$made/rings" check "$root/crates/clip_rings/stdin" "$root/crates/clip_rings/stdout"
 VORONOI_SERVER=$("$here/serve.sh")
 export VORONOI_SERVER

@@ -4,3 +4,4 @@ pub mod Plane
 pub mod PlaneOne
 pub mod Walks
 pub mod Builds
+pub mod Examples

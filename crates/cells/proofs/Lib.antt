@@ -1,0 +1,5 @@
+pub mod Laying
+pub mod Whole
+pub mod Answered
+pub mod Showing
+pub mod Forming

@@ -1,0 +1,5 @@
+pub mod Printed
+pub mod Shown
+pub mod Mesh
+pub mod One
+pub mod Enough

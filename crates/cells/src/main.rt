@@ -1,0 +1,217 @@
+// Reads a mesh's form on standard input and prints the listing of its cells, or `refused N`.
+use form::Form;
+use libc::STDIN_FILENO;
+use libc::STDOUT_FILENO;
+use voronoi::builds::voronoi_build;
+use voronoi::builds::voronoi_build_unclipped;
+ghost use mathlib.Core.Path.{_≡_};
+ghost use Prim.Native.Nat.{_/_, _<_, _≤_};
+ghost use lib.Ieee.{nan};
+ghost use lib.ListN.{length, getD, take};
+ghost use Rattle.utils.specs.Plane.{at};
+ghost use Rattle.form.specs.Holds.{Room, Few};
+ghost use Rattle.cells.specs.Printed.{InBox, WithoutBox, Prints};
+ghost use Rattle.cells.specs.Shown.{Sized, Laid, Holds, shown, boxLines, unclippedLines, ByMode, ByForm};
+
+fn narrow(n: usize) -> u32
+    requires { ⌜ n < 4294967296 ⌝ }
+    ensures { λ r. ⌜ r ≡ n ⌝ }
+{
+    n as u32
+}
+
+// The text of a build in a box that was answered by this number, put at the beginning of `out`; how many bytes it has.
+fn show_in_box(
+    out: &mut [u8],
+    number: u32,
+    sites: u32,
+    triangles: u32,
+    offsets: &[u32],
+    indexes: &[u32],
+    counts: &[u32],
+) -> usize
+    requires { ⌜ (number ≡ 0 → Laid sites (now offsets) (now indexes) (length (now out))) × (6 ≤ length (now counts)) × (65536 ≤ length (now out)) ⌝ }
+    ensures { λ r. ⌜ Holds (shown (boxLines sites triangles (now (offsets .entry)) (now (indexes .entry)) (now (counts .entry))) number) (now (out .exit)) (length (now (out .entry))) r ⌝ }
+{
+    if number != 0 {
+        return listing::refusal(out, number);
+    }
+    let owners = [counts[1], counts[2], counts[3], counts[4]];
+    listing::listing(
+        out,
+        sites,
+        triangles,
+        counts[0],
+        offsets,
+        indexes,
+        owners,
+        counts[5],
+    )
+}
+
+fn show_without_box(
+    out: &mut [u8],
+    number: u32,
+    sites: u32,
+    triangles: u32,
+    offsets: &[u32],
+    indexes: &[u32],
+    counts: &[u32],
+) -> usize
+    requires { ⌜ (number ≡ 0 → Laid sites (now offsets) (now indexes) (length (now out))) × (6 ≤ length (now counts)) × (65536 ≤ length (now out)) ⌝ }
+    ensures { λ r. ⌜ Holds (shown (unclippedLines sites triangles (now (offsets .entry)) (now (indexes .entry)) (now (counts .entry))) number) (now (out .exit)) (length (now (out .entry))) r ⌝ }
+{
+    if number != 0 {
+        return listing::refusal(out, number);
+    }
+    listing::unclipped_listing(out, sites, triangles, counts[0], offsets, indexes)
+}
+
+fn in_box(
+    out: &mut [u8],
+    bounds: [f64; 4],
+    sites: &[f64],
+    triangles: &[u32],
+    halfedges: &[u32],
+    hull: &[u32],
+) -> usize
+    requires { ⌜ Sized (length (now sites)) (length (now triangles)) (length (now hull)) (length (now out)) ⌝ }
+    ensures { λ r. ⌜ InBox (now (sites .entry)) (now (triangles .entry)) (now (halfedges .entry)) (now (hull .entry)) (at (getD bounds 0 nan) (getD bounds 1 nan)) (getD bounds 2 nan) (getD bounds 3 nan) (take r (now (out .exit))) × (r ≤ length (now (out .entry))) ⌝ }
+{
+    let mut work = [0u32; 96];
+    let mut vertices = [0.0f64; 3656];
+    let mut indexes = [0u32; 3076];
+    let mut offsets = [0u32; 97];
+    let mut counts = [0u32; 6];
+    let number = voronoi_build(
+        bounds[0],
+        bounds[1],
+        bounds[2],
+        bounds[3],
+        sites,
+        triangles,
+        halfedges,
+        hull,
+        &mut work,
+        &mut vertices,
+        &mut indexes,
+        &mut offsets,
+        &mut counts,
+    );
+    let n = narrow(sites.len() / 2);
+    let t = narrow(triangles.len() / 3);
+    show_in_box(out, number, n, t, &offsets, &indexes, &counts)
+}
+
+fn without_box(
+    out: &mut [u8],
+    sites: &[f64],
+    triangles: &[u32],
+    halfedges: &[u32],
+    hull: &[u32],
+) -> usize
+    requires { ⌜ Sized (length (now sites)) (length (now triangles)) (length (now hull)) (length (now out)) ⌝ }
+    ensures { λ r. ⌜ WithoutBox (now (sites .entry)) (now (triangles .entry)) (now (halfedges .entry)) (now (hull .entry)) (take r (now (out .exit))) × (r ≤ length (now (out .entry))) ⌝ }
+{
+    let mut work = [0u32; 96];
+    let mut vertices = [0.0f64; 3656];
+    let mut indexes = [0u32; 3076];
+    let mut offsets = [0u32; 97];
+    let mut counts = [0u32; 6];
+    let number = voronoi_build_unclipped(
+        sites,
+        triangles,
+        halfedges,
+        hull,
+        &mut work,
+        &mut vertices,
+        &mut indexes,
+        &mut offsets,
+        &mut counts,
+    );
+    let n = narrow(sites.len() / 2);
+    let t = narrow(triangles.len() / 3);
+    show_without_box(out, number, n, t, &offsets, &indexes, &counts)
+}
+
+fn of_mesh(
+    out: &mut [u8],
+    unclipped: bool,
+    bounds: [f64; 4],
+    sites: &[f64],
+    triangles: &[u32],
+    halfedges: &[u32],
+    hull: &[u32],
+) -> usize
+    requires { ⌜ Sized (length (now sites)) (length (now triangles)) (length (now hull)) (length (now out)) ⌝ }
+    ensures { λ r. ⌜ ByMode unclipped bounds (now (sites .entry)) (now (triangles .entry)) (now (halfedges .entry)) (now (hull .entry)) (take r (now (out .exit))) × (r ≤ length (now (out .entry))) ⌝ }
+{
+    if unclipped {
+        return without_box(out, sites, triangles, halfedges, hull);
+    }
+    in_box(out, bounds, sites, triangles, halfedges, hull)
+}
+
+// What is printed for a form that was read into these lists.
+fn of_form(
+    out: &mut [u8],
+    form: Form,
+    bounds: [f64; 4],
+    sites: &[f64],
+    triangles: &[u32],
+    halfedges: &[u32],
+    hull: &[u32],
+) -> usize
+    requires { ⌜ Room bounds (now sites) (now triangles) (now halfedges) (now hull) × Few form × (65536 ≤ length (now out)) ⌝ }
+    ensures { λ r. ⌜ ByForm form bounds (now (sites .entry)) (now (triangles .entry)) (now (halfedges .entry)) (now (hull .entry)) (take r (now (out .exit))) × (r ≤ length (now (out .entry))) ⌝ }
+{
+    let Form::Sound {
+        sites: n,
+        triangles: t,
+        hull: h,
+        unclipped,
+    } = form
+    else {
+        return listing::refusal(out, 17);
+    };
+    let numbers = 2 * n;
+    let links = 3 * t;
+    of_mesh(
+        out,
+        unclipped,
+        bounds,
+        &sites[..numbers],
+        &triangles[..links],
+        &halfedges[..links],
+        &hull[..h],
+    )
+}
+
+// What is printed for a form's bytes.
+fn answer(bytes: &[u8], out: &mut [u8]) -> usize
+    requires { ⌜ 65536 ≤ length (now out) ⌝ }
+    ensures { λ r. ⌜ Prints (now (bytes .entry)) (take r (now (out .exit))) × (r ≤ length (now (out .entry))) ⌝ }
+{
+    let mut bounds = [0.0f64; 4];
+    let mut sites = [0.0f64; 192];
+    let mut triangles = [0u32; 576];
+    let mut halfedges = [0u32; 576];
+    let mut hull = [0u32; 96];
+    let form = form::read(
+        bytes,
+        &mut bounds,
+        &mut sites,
+        &mut triangles,
+        &mut halfedges,
+        &mut hull,
+    );
+    of_form(out, form, bounds, &sites, &triangles, &halfedges, &hull)
+}
+
+fn main() {
+    let mut bytes = [0u8; 6947];
+    let mut out = io::large_buffer();
+    let n = io::read_full(STDIN_FILENO, &mut bytes);
+    let m = answer(&bytes[..n], &mut out);
+    io::write_all(STDOUT_FILENO, &out[..m]);
+}

@@ -1,0 +1,59 @@
+-- `replay::words::holds` is safe and ends: the measure is what is left of the slice.
+use native.Mathlib.Omega.{arith}
+use Prim.Native.Nat.{_≤_, _-_}
+use lib.ListN.{length}
+use Rattle.replay.proofs.words.holds.Statement.{statement}
+use Rattle.replay.proofs.words.holds.Tie as tie
+
+abbrev Inv-loop : tie.InvT-loop
+Inv-loop l b k n rest i₀ i = i ≤ length l
+
+abbrev μ-loop : tie.MeasureT-loop
+μ-loop l b k n rest i₀ i = length l - i
+
+returns : tie.Need-returns Inv-loop μ-loop
+returns c = omega arith
+
+loop-holds : tie.Need-loop-holds Inv-loop μ-loop
+loop-holds c = omega arith
+
+mul-if2 : tie.Need-mul-if2 Inv-loop μ-loop
+mul-if2 c = omega arith
+
+shared-slice-read-if2 : tie.Need-shared-slice-read-if2 Inv-loop μ-loop
+shared-slice-read-if2 c = omega arith
+
+expected-requires : tie.Need-expected-requires Inv-loop μ-loop
+expected-requires c κs = omega arith
+
+returns-2 : tie.Need-returns-2 Inv-loop μ-loop
+returns-2 c = omega arith
+
+add-i : tie.Need-add-i Inv-loop μ-loop
+add-i c = omega arith
+
+loop-less : tie.Need-loop-less Inv-loop μ-loop
+loop-less c = omega arith
+
+loop-again : tie.Need-loop-again Inv-loop μ-loop
+loop-again c = omega arith
+
+returns-3 : tie.Need-returns-3 Inv-loop μ-loop
+returns-3 c = omega arith
+
+pub holds-spec : {M : Type 1} → statement M
+holds-spec =
+    tie.close
+    (tie.spec
+    Inv-loop
+    μ-loop
+    returns
+    loop-holds
+    mul-if2
+    shared-slice-read-if2
+    expected-requires
+    returns-2
+    add-i
+    loop-less
+    loop-again
+    returns-3)

@@ -1,0 +1,206 @@
+// The stored walk, neighbours, clipped neighbours and path of one site, asked again of the public calls.
+use crate::builds::BEFORE;
+use crate::words::after;
+use crate::words::float;
+use crate::words::holds;
+use crate::words::index;
+use crate::words::word;
+use voronoi::walks::voronoi_clipped_neighbours;
+use voronoi::walks::voronoi_neighbours;
+use voronoi::walks::voronoi_path;
+use voronoi::walks::voronoi_walk;
+
+// The place after the list whose length stands at word q.
+fn after_list(b: &[u8], q: usize) -> usize {
+    after(after(q, 1), index(b, q))
+}
+
+// Whether the call was accepted and wrote the list stored from word q on, its length and its entries, to its end.
+fn same(out: &[u32], b: &[u8], q: usize, number: u32, count: u32, ended: u32) -> bool {
+    if number != 0 {
+        return false;
+    }
+    if ended != 1 {
+        return false;
+    }
+    if count != word(b, q) {
+        return false;
+    }
+    holds(out, b, after(q, 1), index(b, q), BEFORE)
+}
+
+fn walk(
+    b: &[u8],
+    q: usize,
+    site: u32,
+    sites: &[f64],
+    triangles: &[u32],
+    halfedges: &[u32],
+    hull: &[u32],
+    work: &mut [u32],
+) -> bool {
+    let mut out = [BEFORE; 128];
+    let mut count = 0;
+    let mut ended = 0;
+    let number = voronoi_walk(
+        sites,
+        triangles,
+        halfedges,
+        hull,
+        site,
+        work,
+        &mut out,
+        &mut count,
+        &mut ended,
+    );
+    same(&out, b, q, number, count, ended)
+}
+
+fn neighbours(
+    b: &[u8],
+    q: usize,
+    site: u32,
+    sites: &[f64],
+    triangles: &[u32],
+    halfedges: &[u32],
+    hull: &[u32],
+    work: &mut [u32],
+) -> bool {
+    let mut out = [BEFORE; 128];
+    let mut count = 0;
+    let mut ended = 0;
+    let number = voronoi_neighbours(
+        sites,
+        triangles,
+        halfedges,
+        hull,
+        site,
+        work,
+        &mut out,
+        &mut count,
+        &mut ended,
+    );
+    same(&out, b, q, number, count, ended)
+}
+
+// Asked only where the build was accepted.
+fn clipped_neighbours(
+    b: &[u8],
+    q: usize,
+    built: bool,
+    site: u32,
+    sites: &[f64],
+    triangles: &[u32],
+    halfedges: &[u32],
+    hull: &[u32],
+    offsets: &[u32],
+    indexes: &[u32],
+    work: &mut [u32],
+) -> bool {
+    if !built {
+        return true;
+    }
+    let mut out = [BEFORE; 128];
+    let mut count = 0;
+    let mut ended = 0;
+    let number = voronoi_clipped_neighbours(
+        sites,
+        triangles,
+        halfedges,
+        hull,
+        offsets,
+        indexes,
+        site,
+        work,
+        &mut out,
+        &mut count,
+        &mut ended,
+    );
+    same(&out, b, q, number, count, ended)
+}
+
+fn path(
+    b: &[u8],
+    q: usize,
+    site: u32,
+    x: f64,
+    y: f64,
+    sites: &[f64],
+    triangles: &[u32],
+    halfedges: &[u32],
+    hull: &[u32],
+    work: &mut [u32],
+) -> bool {
+    let mut out = [BEFORE; 128];
+    let mut count = 0;
+    let mut ended = 0;
+    let number = voronoi_path(
+        sites,
+        triangles,
+        halfedges,
+        hull,
+        site,
+        x,
+        y,
+        work,
+        &mut out,
+        &mut count,
+        &mut ended,
+    );
+    same(&out, b, q, number, count, ended)
+}
+
+// The four lists of the site at word q.
+pub fn lists(
+    b: &[u8],
+    q: usize,
+    built: bool,
+    sites: &[f64],
+    triangles: &[u32],
+    halfedges: &[u32],
+    hull: &[u32],
+    offsets: &[u32],
+    indexes: &[u32],
+    work: &mut [u32],
+) -> bool {
+    let site = word(b, q);
+    let first = after(q, 5);
+    let second = after_list(b, first);
+    let third = after_list(b, second);
+    let fourth = after_list(b, third);
+    if !walk(b, first, site, sites, triangles, halfedges, hull, work) {
+        return false;
+    }
+    if !neighbours(b, second, site, sites, triangles, halfedges, hull, work) {
+        return false;
+    }
+    if !clipped_neighbours(
+        b,
+        third,
+        built,
+        site,
+        sites,
+        triangles,
+        halfedges,
+        hull,
+        offsets,
+        indexes,
+        work,
+    ) {
+        return false;
+    }
+    let x = float(b, after(q, 1));
+    let y = float(b, after(q, 3));
+    path(
+        b,
+        fourth,
+        site,
+        x,
+        y,
+        sites,
+        triangles,
+        halfedges,
+        hull,
+        work,
+    )
+}

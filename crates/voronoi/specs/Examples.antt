@@ -1,0 +1,73 @@
+-- Document 01's checked examples, as rows under one claim: each says what the definition that a public call is held to gives, on "square" where a mesh is meant.
+-- By computation.
+use mathlib.Core.Path.{_≡_, refl}
+use mathlib.Core.List.{List, [], _∷_}
+use Prim.Native.Nat.{ℕ}
+use lib.Ieee.{Float, binary64, ofBits, neg, add, sub, mul, div, lt, le, eq}
+use lib.ListN.{getD}
+use Rattle.laws.specs.Binary64.{zero, one, minusOne, two}
+use Rattle.root.specs.Sqrt.{sqrtOf}
+use Rattle.root.specs.SqrtLaws.{least-root}
+use Rattle.utils.specs.Flat.{pointAt}
+use Rattle.utils.specs.Plane.{at, nearOf, dist2Of, centreOf}
+use Rattle.bounding_box.specs.Box.{madeOf, firstSide, whichOf}
+use Rattle.bounding_box.specs.declared.BoundingBox.{BoundingBox}
+use Rattle.crossings.specs.Cross.{orderOf}
+use Rattle.crossings.specs.Rows as crossings
+use Rattle.crossings.specs.declared.Crossing.the-variants.{None, One}
+use Rattle.mesh.specs.Mesh.{nextOf, chosen, tableTo, leftmostOf, turnOf, walkOf, wholeOf}
+use Rattle.mesh.specs.Square.{sites, tri, he}
+use Rattle.mesh.specs.Square as mesh
+use Rattle.iterator.specs.Neighbours.{lastEnd, startsOf, neighboursOf}
+use Rattle.iterator.specs.Path.{distOf, nearestOf, hopOf, pathOf}
+use Rattle.iterator.specs.Whole.{wholePath}
+
+abbrev pub table : List ℕ
+table = leftmostOf tri he 4
+
+abbrev pub box : BoundingBox
+box = madeOf (at zero zero) two two
+
+abbrev pub five : Float
+five = ofBits binary64 0x4014_0000_0000_0000
+
+pub record Examples : Type 0 where
+  pub leftmost : table ≡ 5 ∷ 0 ∷ 1 ∷ 4 ∷ []
+  pub walk-of-0 : wholeOf he (getD table 0 0) ≡ 5 ∷ 2 ∷ []
+  pub neighbours-of-0 : neighboursOf tri he table 0 ≡ 3 ∷ 2 ∷ 1 ∷ []
+  pub path-from-0 : wholePath sites tri he table (at minusOne one) 0 ≡ 0 ∷ 1 ∷ []
+  pub path-that-stays : wholePath sites tri he table (at zero zero) 0 ≡ 0 ∷ []
+  pub path-from-3 : wholePath sites tri he table (at minusOne one) 3 ≡ 3 ∷ 2 ∷ 1 ∷ []
+  pub top-side : whichOf box (at minusOne minusOne) ≡ 0
+  pub bottom-side : whichOf box (at one one) ≡ 2
+  pub right-side : whichOf box (at one zero) ≡ 3
+  pub left-side : whichOf box (at minusOne zero) ≡ 1
+  -- 4 is none
+  pub no-side : whichOf box (at zero zero) ≡ 4
+  pub circumcenter : centreOf (pointAt sites (getD tri 0 0)) (pointAt sites (getD tri 1 0)) (pointAt sites (getD tri 2 0)) ≡ at zero zero
+  -- of 2^-1074 it is 2^-537
+  pub least-root : sqrtOf (ofBits binary64 1) ≡ ofBits binary64 0x1E60_0000_0000_0000
+  pub lone-behind : orderOf (at five five) (at minusOne minusOne) (One one one) ≡ None
+  pub lone-ahead : orderOf (at five five) (at one one) (One one one) ≡ One one one
+
+pub examples : Examples
+unfolding nextOf chosen tableTo turnOf walkOf lastEnd startsOf neighboursOf distOf nearestOf hopOf pathOf dist2Of madeOf whichOf firstSide nearOf centreOf ofBits neg add sub mul div lt le eq
+examples =
+    let plane = crossings.rows in
+    record {
+      leftmost = mesh.rows .0;
+      walk-of-0 = mesh.rows .1;
+      neighbours-of-0 = refl;
+      path-from-0 = refl;
+      path-that-stays = refl;
+      path-from-3 = refl;
+      top-side = plane .top-side;
+      bottom-side = plane .bottom-side;
+      right-side = plane .right-side;
+      left-side = plane .left-side;
+      no-side = plane .no-side;
+      circumcenter = refl;
+      least-root = least-root;
+      lone-behind = plane .lone-behind;
+      lone-ahead = plane .lone-ahead;
+    }

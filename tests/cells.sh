@@ -1,0 +1,18 @@
+#!/bin/sh
+# The program `cells`: on each mesh of examples/, harness/meshes/ and tests/cells/ it prints tests/cells/NAME.out, which harness/run.sh holds to the Rust;
+# and it refuses with 17 exactly the forms that are broken: cut at each byte, in a wrong order, with a record too many or bytes after the end.
+set -eu
+cd "$(dirname "$0")/.."
+mkdir -p target/log
+rt check cells >target/log/cells.test 2>&1 || {
+    cat target/log/cells.test
+    exit 1
+}
+meshes=0
+for text in examples/*.txt harness/meshes/*.txt tests/cells/*.txt; do
+    name=$(basename "$text" .txt)
+    python3 tools/mesh encode <"$text" | sh tests/archive.sh run target/bin/cells | cmp - "tests/cells/$name.out"
+    meshes=$((meshes + 1))
+done
+echo "cells: $meshes meshes are listed or refused as stored"
+python3 tests/cells/forms.py sh tests/archive.sh run target/bin/cells
