@@ -16,7 +16,7 @@ use Rattle.mesh.specs.Mesh.{EMPTY, endOf, leftmostOf}
 use Rattle.mesh.specs.Facts.{tab-cases, tab-length}
 use Rattle.definition.specs.declared.Fault.{Fault}
 use Rattle.definition.specs.Fault.{Outcome, ok, refused}
-use Rattle.definition.specs.Build.{Cells, ringFrom, isEmpty, clipInto}
+use Rattle.definition.specs.Build.{Cells, ringFrom, isEmpty}
 use Rattle.definition.specs.Gives.{Gives, picked}
 use Rattle.outputs.proofs.Marks.{full-already}
 use Rattle.cell_builder.specs.declared.Frame.{Frame}
@@ -27,7 +27,7 @@ use Rattle.cell_builder.proofs.TwoKinds.{edge-site, region-some}
 use Rattle.cell_builder.proofs.Along.{OthersStay, others-stay}
 
 -- the cell of the site where e ends is there
-pub edge-full : {tri he : List ℕ} {f : Frame} {off : List ℕ} {g : Ground} {s : Cells} {p : Progress} {v : List Float} {ix : List ℕ} → Amid tri he f off g s p v ix → (e site : ℕ) → e < length tri → site ≡ endOf tri e → getD ix (getD off site 0) 0 ≢ EMPTY → isEmpty (getD (s .cells) site []) ≡ false
+edge-full : {tri he : List ℕ} {f : Frame} {off : List ℕ} {g : Ground} {s : Cells} {p : Progress} {v : List Float} {ix : List ℕ} → Amid tri he f off g s p v ix → (e site : ℕ) → e < length tri → site ≡ endOf tri e → getD ix (getD off site 0) 0 ≢ EMPTY → isEmpty (getD (s .cells) site []) ≡ false
 edge-full {off = off} {s = s} {ix = ix} a e site h q n = full-already ix off (s .cells) (a .regions) site (rw (a .held .width) (edge-site a e site h q)) (region-some a e site h q) n
 
 module _ {tri he table : List ℕ} {f : Frame} {off : List ℕ} {g : Ground} {s : Cells} {p : Progress} {v : List Float} {ix : List ℕ} (a : Amid tri he f off g s p v ix) (t : table ≡ leftmostOf tri he (g .sites)) {full : Bool} {e site : ℕ} (b : FullBefore table (g .sites) full e s) (h : e < length tri) (q : site ≡ endOf tri e) where

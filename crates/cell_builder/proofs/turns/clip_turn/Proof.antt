@@ -1,6 +1,6 @@
 -- `cell_builder::turns::clip_turn` meets its contract: a site with an entry below e has its cell while the flag is set, so its try changes nothing; any other try is made, and
 -- the first entry of the site's region then tells whether the cell is there.
-use mathlib.Core.Path.{_≡_, refl, sym, ap, _∙_}
+use mathlib.Core.Path.{_≡_, _∙_}
 use Prim.Native.Nat.{_<_}
 use native.Mathlib.Omega.{arith}
 use lib.ListN.{length, getD}
