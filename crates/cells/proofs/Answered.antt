@@ -1,15 +1,13 @@
 -- A build's answer and its lent slices give the text that is promised: a refusal's line by its number, or the listing of what was built.
-use mathlib.Core.Path.{_≡_, refl, sym, ap, _∙_, subst}
-use mathlib.Core.Bool.{Bool, true, _&&_}
+use mathlib.Core.Path.{_≡_, refl, ap, _∙_}
+use mathlib.Core.Bool.{true}
 use mathlib.Core.List.{List, [], _∷_, _++_, map}
 use mathlib.Core.Logic.{_≢_}
-use Prim.Native.Nat.{ℕ, suc, _+_, _-_, _*_, _/_, _≤_, _<_}
+use Prim.Native.Nat.{ℕ, _+_, _-_, _*_, _/_, _≤_}
 use native.Mathlib.Omega.{arith}
-use lib.Dec.{eqb, leb, ltb}
 use lib.Ieee.{Float}
 use lib.ListN.{length, getD, replicate, length-map}
-use borrow.Author.Tests.{eq-eqb, ne-eqb, le-leb, lt-ltb}
-use Rattle.laws.specs.Pick.{pick}
+use borrow.Author.Tests.{ne-eqb, le-leb, lt-ltb}
 use Rattle.utils.specs.declared.Point.{Point}
 use Rattle.bounding_box.specs.Box.{madeOf}
 use Rattle.mesh.specs.Mesh.{EMPTY}
@@ -20,7 +18,7 @@ use Rattle.definition.specs.declared.Fault.{Fault}
 use Rattle.definition.specs.Fault.{Outcome, ok, refused}
 use Rattle.definition.specs.Gives.{Gives, gives-ok}
 use Rattle.definition.specs.Build.{Built, build}
-use Rattle.outputs.specs.Lent.{padded, unmarked, indexNumbers, offsetNumbers, countNumbers}
+use Rattle.outputs.specs.Lent.{unmarked, indexNumbers, offsetNumbers, countNumbers}
 use Rattle.building.specs.Promise.{Slices, roomFor, roomOf, Builds, early, built, after, BuildAnswer, Answers, Clipped, Unclipped}
 use Rattle.building.specs.Refusals.{Refuses, Numbered, build-late, unclipped-late}
 use Rattle.listing.specs.Listing.{unclippedListing, listing, cellLines}
