@@ -2,7 +2,7 @@
 use mathlib.Core.Path.{_≡_, sym, _∙_}
 use mathlib.Core.Bool.{Bool}
 use mathlib.Core.List.{List, []}
-use Prim.Native.Nat.{ℕ, _/_, _≤_, _<_}
+use Prim.Native.Nat.{ℕ, _≤_, _<_}
 use native.Mathlib.Nat.{sub-zero}
 use lib.Ieee.{Float}
 use lib.ListN.{length, replicate}
@@ -12,7 +12,7 @@ use Rattle.mesh.specs.Mesh.{EMPTY}
 use Rattle.mesh.specs.Accepted.{Counted}
 use Rattle.queries.specs.Admits.{Early, counts, room, arguments, coordinate, sound, Admits, before, judged, Admission}
 use Rattle.outputs.specs.Lent.{padded}
-use Rattle.building.specs.Promise.{slices, roomFor}
+use Rattle.building.specs.Promise.{slices}
 use Rattle.building.specs.Steps.{RoomAnswer, BuildAdmission}
 
 module _ (sites : List Float) (tri he hull : List ℕ) {given right : Bool} {asked : ℕ} (q : Counted (length sites) (length tri) (length he) (length hull) → given ≡ right) where

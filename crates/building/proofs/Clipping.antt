@@ -1,30 +1,27 @@
 -- The clipped build: what rule 3 and the rules up to 10 give the cell builder, and the promise from its answer.
 use mathlib.Core.Path.{_≡_, refl, sym, _∙_}
-use mathlib.Core.Bool.{Bool, true, false}
 use mathlib.Core.List.{List}
 use mathlib.Core.Logic.{_≢_}
 use Prim.Native.Nat.{ℕ, _+_, _*_, _/_, _≤_, _<_}
 use native.Mathlib.Omega.{arith}
 use lib.Ieee.{Float}
 use lib.ListN.{length, take}
-use Rattle.laws.specs.Pick.{pick}
 use Rattle.utils.specs.declared.Point.{Point}
 use Rattle.bounding_box.specs.Box.{madeOf}
-use Rattle.bounding_box.specs.Finite.{BoundedBox, box-bounded}
-use Rattle.bounding_box.specs.Rules.{okBox}
+use Rattle.bounding_box.specs.Finite.{BoundedBox}
 use Rattle.bounding_box.specs.declared.BoundingBox.{BoundingBox}
-use Rattle.mesh.specs.Accepted.{Accepted, siteCount}
+use Rattle.mesh.specs.Accepted.{siteCount}
 use Rattle.definition.specs.declared.Fault.{Fault}
 use Rattle.definition.specs.Fault.{Outcome, ok, refused}
 use Rattle.definition.specs.Build.{Built, build}
 use Rattle.definition.specs.Gives.{Gives, gives-map}
-use Rattle.definition.specs.Theorems.{Room, Wrapping}
 use Rattle.definition.specs.Theorems as theorems
 use Rattle.outputs.specs.Lent.{countNumbers, faultOf, Lent}
 use Rattle.cell_builder.specs.declared.Answer.{Answer}
 use Rattle.cell_builder.specs.Answer.{Admitted, answerOf}
 use Rattle.building.specs.Promise.{Slices, slices, boxAsk, Clipped}
 use Rattle.building.specs.Refusals.{Refuses, Numbered, build-late}
+use Rattle.building.specs.Success.{box-admitted}
 use Rattle.building.specs.Steps.{BuildAdmission, countsOf, Finished}
 use Rattle.building.proofs.Outcome.{answers-early, mesh-of, fit-of, rooms-of, table-is, answers-built}
 
@@ -52,15 +49,6 @@ module _ (o : Outcome Fault Built) (x : Answer) (q : x ≡ answerOf o) where
       go : (o : Outcome Fault Built) → Gives (λ (b : Built). length (b .verts) ≤ m) o → answerOf o .count ≤ m
       go (ok b) h = h
       go (refused f) h = omega arith
-
--- ---- rule 3
-box-admitted : (c : Point) (w h : Float) → boxAsk c w h ≡ 0 → BoundedBox 101 (madeOf c w h)
-unfolding boxAsk
-box-admitted c w h e = box-bounded c w h (go (okBox c w h) e)
-  where
-    go : (t : Bool) → pick {A = ℕ} t (λ _. 0) (λ _. 3) ≡ 0 → t ≡ true
-    go true q = refl
-    go false q = absurd (omega arith)
 
 -- ---- the whole
 module _ {sites : List Float} {tri he hull : List ℕ} {asked : ℕ} {old new : Slices} {r : ℕ} (a : BuildAdmission sites tri he hull asked old new r) (c : Point) (w h : Float) (ask : asked ≡ boxAsk c w h) where

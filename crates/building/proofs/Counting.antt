@@ -1,7 +1,7 @@
 -- Six stores at the beginning of a slice, and the rest cleared.
-use mathlib.Core.Path.{_≡_, refl, ap, _∙_}
-use mathlib.Core.List.{List, [], _∷_, _++_}
-use Prim.Native.Nat.{ℕ, suc, _-_, _≤_}
+use mathlib.Core.Path.{_≡_, refl, _∙_}
+use mathlib.Core.List.{List, [], _∷_}
+use Prim.Native.Nat.{ℕ, _-_, _≤_}
 use native.Mathlib.Omega.{arith}
 use lib.ListN.{length, getD, set, drop, replicate, length-set}
 use Rattle.layout.specs.Cleared.{clearedFrom}
@@ -22,15 +22,6 @@ six (p ∷ q ∷ r ∷ s ∷ t ∷ u ∷ l) a b c d e f h = refl
 
 six-long : (l : List ℕ) (a b c d e f : ℕ) → length (sixIn l a b c d e f) ≡ length l
 six-long l a b c d e f = simp length-set
-
--- four owners, one by one
-four : (os : List ℕ) → length os ≡ 4 → os ≡ getD os 0 0 ∷ getD os 1 0 ∷ getD os 2 0 ∷ getD os 3 0 ∷ []
-four [] h = absurd (omega arith)
-four (a ∷ []) h = absurd (omega arith)
-four (a ∷ b ∷ []) h = absurd (omega arith)
-four (a ∷ b ∷ c ∷ []) h = absurd (omega arith)
-four (a ∷ b ∷ c ∷ d ∷ []) h = refl
-four (a ∷ b ∷ c ∷ d ∷ e ∷ l) h = absurd (omega arith)
 
 pub counted : (l : List ℕ) (vertices : ℕ) (owners : List ℕ) (lost : ℕ) (l′ : List ℕ) → 6 ≤ length l → length owners ≡ 4 → l′ ≡ clearedFrom 6 4294967295 (sixIn l vertices (getD owners 0 0) (getD owners 1 0) (getD owners 2 0) (getD owners 3 0) lost) → l′ ≡ padded (length l) 4294967295 (countsOf vertices owners lost)
 counted l vertices owners lost l′ h n q =

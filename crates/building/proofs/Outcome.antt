@@ -1,41 +1,32 @@
 -- From the rules up to 10 and the build's outcome to the promise: refused early; refused by the build, all is cleared; or built.
-use mathlib.Core.Path.{_≡_, refl, sym, ap, _∙_}
-use mathlib.Core.Bool.{Bool, true, false}
-use mathlib.Core.List.{List, [], _∷_, _++_}
+use mathlib.Core.Path.{_≡_, refl, ap, _∙_}
+use mathlib.Core.Bool.{true}
+use mathlib.Core.List.{List, []}
 use mathlib.Core.Logic.{_≢_}
-use Prim.Native.Nat.{ℕ, _+_, _-_, _*_, _/_, _≤_, _<_}
+use Prim.Native.Nat.{ℕ, _+_, _/_, _≤_}
 use native.Mathlib.Omega.{arith}
 use native.Mathlib.Nat.{sub-zero, zero-add}
-use lib.Dec.{eqb, ltb}
+use lib.Dec.{ltb}
 use lib.Ieee.{Float}
 use lib.ListN.{length, take, replicate}
 use borrow.Author.Tests.{eq-eqb, ne-eqb, lt-ltb, le-ltb}
-use Rattle.laws.specs.Pick.{pick}
 use Rattle.laws.specs.Binary64.{zero}
 use Rattle.utils.specs.declared.Point.{Point}
-use Rattle.bounding_box.specs.Box.{madeOf}
-use Rattle.bounding_box.specs.Finite.{BoundedBox, box-bounded}
-use Rattle.bounding_box.specs.Rules.{okBox}
-use Rattle.bounding_box.specs.declared.BoundingBox.{BoundingBox}
 use Rattle.mesh.specs.Mesh.{EMPTY, leftmostOf, leftmostIn}
 use Rattle.mesh.specs.Accepted.{Accepted, siteCount}
 use Rattle.mesh.specs.Facts.{topology, tab-length}
 use Rattle.checker.specs.Answers.{workAfter}
-use Rattle.queries.specs.Admits.{Admits, admitted}
+use Rattle.queries.specs.Admits.{admitted}
 use Rattle.queries.specs.Lists.{table-long, table-part}
 use Rattle.definition.specs.declared.Fault.{Fault}
-use Rattle.definition.specs.Fault.{Outcome, ok, refused, andThen, fault}
+use Rattle.definition.specs.Fault.{Outcome, ok, refused, andThen}
 use Rattle.definition.specs.Build.{Built, centresFrom, build}
 use Rattle.definition.specs.Unclipped.{unclipped, ringsFrom}
 use Rattle.definition.specs.Start.{centres-from}
 use Rattle.definition.specs.Gives.{Gives}
-use Rattle.definition.specs.Theorems.{Room, room}
-use Rattle.outputs.specs.Lent.{padded, Rooms, vertexNumbers, indexNumbers, offsetNumbers, countNumbers, faultOf, Lent}
-use Rattle.cell_builder.specs.declared.Answer.{Answer}
-use Rattle.cell_builder.specs.Answer.{answerOf}
-use Rattle.cell_builder.specs.Answer as builder
-use Rattle.building.specs.Promise.{Slices, slices, boxAsk, roomOf, Builds, early, built, after, BuildAnswer, Answers}
-use Rattle.building.specs.Refusals.{Refuses, Late, Numbered, unclipped-late}
+use Rattle.outputs.specs.Lent.{Rooms, vertexNumbers, indexNumbers, offsetNumbers, countNumbers, faultOf, Lent}
+use Rattle.building.specs.Promise.{Slices, slices, early, built, after, Answers}
+use Rattle.building.specs.Refusals.{Refuses, Numbered, unclipped-late}
 use Rattle.building.specs.Steps.{BuildAdmission, countsOf, Finished}
 use Rattle.building.proofs.Rooming.{Granted, granted}
 

@@ -1,5 +1,5 @@
 -- The query for one cell: its number by the tests made, and the part of the index list that an admitted one has.
-use mathlib.Core.Path.{_≡_, refl, sym, ap, _∙_}
+use mathlib.Core.Path.{_≡_, sym, ap, _∙_}
 use mathlib.Core.List.{List, []}
 use mathlib.Core.Logic.{_≢_}
 use Prim.Native.Nat.{ℕ, _+_, _-_, _≤_, _<_}
@@ -8,7 +8,7 @@ use lib.ListN.{length, getD}
 use borrow.Author.Tests.{eq-eqb, ne-eqb}
 use Rattle.shared.specs.Cells.{Cells, cellOf}
 use Rattle.queries.specs.Admits.{siteAsk}
-use Rattle.queries.specs.Answers.{CellsOf, Offers, refused, bad-cells, offered}
+use Rattle.queries.specs.Answers.{CellsOf, refused, bad-cells, offered}
 use Rattle.queries.specs.Given.{site-below}
 use Rattle.building.specs.Cells.{CellNumber, partAfter, startAfter, lengthAfter, CellAnswer, PlaceAnswer}
 

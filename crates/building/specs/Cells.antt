@@ -1,5 +1,5 @@
 -- What the query for one cell promises: rule 4 on its site, rule 16 on the offsets, and the part of the index list between its two offsets, empty where it is refused.
-use mathlib.Core.Path.{_≡_, sym, ap, _∙_}
+use mathlib.Core.Path.{_≡_, sym, _∙_}
 use mathlib.Core.List.{List, []}
 use Prim.Native.Nat.{ℕ, _+_, _-_}
 use lib.Dec.{eqb}

@@ -3,3 +3,5 @@ pub mod Promise
 pub mod Refusals
 pub mod Cells
 pub mod Steps
+pub mod Success
+pub mod ReadBack

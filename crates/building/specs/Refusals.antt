@@ -1,24 +1,22 @@
 -- A build is refused with a number from 11 to 15, so that no refusal is taken for an earlier one or for none.
-use mathlib.Core.Path.{_≡_, refl}
 use mathlib.Core.Bool.{Bool, true, false, _&&_}
 use mathlib.Core.List.{List, [], _∷_, _++_}
-use Prim.Native.Nat.{ℕ, zero, suc, _+_, _*_, _/_, _≤_, _<_}
+use Prim.Native.Nat.{ℕ, zero, suc, _/_, _≤_}
 use native.Mathlib.Omega.{arith}
-use lib.Dec.{ltb, eqb}
+use lib.Dec.{ltb}
 use lib.Ieee.{Float}
 use lib.ListN.{length, getD, replicate}
 use Rattle.laws.specs.Pick.{pick}
 use Rattle.utils.specs.Rules.{okCentre}
 use Rattle.utils.specs.declared.Point.{Point}
-use Rattle.bounding_box.specs.Box.{cornersOf, whichOf}
+use Rattle.bounding_box.specs.Box.{cornersOf}
 use Rattle.bounding_box.specs.declared.BoundingBox.{BoundingBox}
-use Rattle.mesh.specs.Mesh.{EMPTY, endOf, leftmostOf}
+use Rattle.mesh.specs.Mesh.{endOf, leftmostOf}
 use Rattle.mesh.specs.Accepted.{siteCount}
 use Rattle.definition.specs.declared.Fault.{Fault}
-use Rattle.definition.specs.Fault.{Outcome, ok, refused, andThen, atEdge, fault}
-use Rattle.definition.specs.Gives.{picked}
-use Rattle.definition.specs.Cell.{Clip, missed, once, twice, Ins, Tip, Part, Took, vertexAt, insertAt, insertEdge, leave, enterAt, enter, link, crossAt, cross, clipEdge, clipStep, inBox, stepTo, stepsTo, clipFrom, firstInside, clipCell}
-use Rattle.definition.specs.Build.{Built, Cells, Extensions, centreAt, centresFrom, extended, extensions, extendFrom, finite, hullRing, ringFrom, cellsOf, clipInto, clipHull, isEmpty, clipRest, clipAll, build}
+use Rattle.definition.specs.Fault.{Outcome, ok, refused, andThen, atEdge}
+use Rattle.definition.specs.Cell.{Clip, missed, once, twice, Tip, Took, insertAt, insertEdge, leave, enterAt, enter, link, crossAt, cross, clipStep, stepTo, stepsTo, clipFrom, firstInside, clipCell}
+use Rattle.definition.specs.Build.{Cells, Extensions, centreAt, centresFrom, extended, extensions, extendFrom, finite, hullRing, ringFrom, cellsOf, clipInto, clipHull, isEmpty, clipRest, clipAll, build}
 use Rattle.definition.specs.Unclipped.{unclipped}
 
 -- what holds of a refusal, where there is one

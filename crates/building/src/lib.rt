@@ -8,7 +8,7 @@ use outputs::clear_all;
 use outputs::rooms_ok;
 use utils::Point;
 ghost use mathlib.Core.Path.{_≡_};
-ghost use Prim.Native.Nat.{ℕ, _/_, _≤_, _<_};
+ghost use Prim.Native.Nat.{_/_, _≤_, _<_};
 ghost use lib.ListN.{length};
 ghost use Rattle.mesh.specs.Mesh.{EMPTY};
 ghost use Rattle.outputs.specs.Lent.{padded};

@@ -1,5 +1,4 @@
 -- `building::finish` meets its contract: both slices are cleared, or the counts are put.
-use mathlib.Core.Path.{refl}
 use borrow.Author.Tests.{eq-eqb, ne-eqb}
 use borrow.Author.Needs.{needs}
 use Rattle.building.proofs.finish.Statement.{statement}

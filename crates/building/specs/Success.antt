@@ -1,0 +1,68 @@
+-- When a build answers 0: on an accepted mesh with room, in a box that rule 3 admits, exactly where the definition refuses nothing; and demand 3 then.
+use mathlib.Core.Path.{_≡_, refl, ap, _∙_}
+use mathlib.Core.Bool.{Bool, true, false}
+use mathlib.Core.List.{List, []}
+use Prim.Native.Nat.{ℕ}
+use native.Mathlib.Omega.{arith}
+use lib.Ieee.{Float}
+use Rattle.laws.specs.Pick.{pick}
+use Rattle.utils.specs.declared.Point.{Point}
+use Rattle.bounding_box.specs.Box.{madeOf}
+use Rattle.bounding_box.specs.Finite.{BoundedBox, box-bounded}
+use Rattle.bounding_box.specs.Rules.{okBox}
+use Rattle.bounding_box.specs.declared.BoundingBox.{BoundingBox}
+use Rattle.queries.specs.Admits.{Admits, Admitted, admitted, admits, admits-one}
+use Rattle.definition.specs.declared.Fault.{Fault}
+use Rattle.definition.specs.Fault.{Outcome, ok, refused}
+use Rattle.definition.specs.Build.{Built, build}
+use Rattle.definition.specs.Theorems.{Wrapping, Room, wrapping, room}
+use Rattle.outputs.specs.Lent.{faultOf}
+use Rattle.building.specs.Promise.{Slices, roomOf, boxAsk, Builds, early, built, builds-one, Answers, Clipped}
+use Rattle.building.specs.Refusals.{Refuses, Numbered, build-late}
+
+-- ---- 0
+
+-- the definition refuses nothing
+pub record Value (o : Outcome Fault Built) : Type 0 where
+  pub value : Built
+  pub is : o ≡ ok value
+
+value-of : (o : Outcome Fault Built) → Refuses Numbered o → faultOf o .number ≡ 0 → Value o
+value-of (ok b) late z = record { value = b; is = refl }
+value-of (refused f) late z = absurd (omega (arith, late .least))
+
+pub record Succeeds (sites : List Float) (tri he hull : List ℕ) (asked : ℕ) (o : Outcome Fault Built) (old : Slices) : Type 0 where
+  pub admission : Admitted sites tri he hull (roomOf sites tri hull old) asked
+  pub outcome : Value o
+
+module _ {sites : List Float} {tri he hull : List ℕ} {asked : ℕ} {o : Outcome Fault Built} {old new : Slices} {r : ℕ} where
+  pub zero-succeeds : Refuses Numbered o → Answers sites tri he hull asked o old new r → r ≡ 0 → Succeeds sites tri he hull asked o old
+  zero-succeeds late a z = go (a .number) z
+    where
+      go : {s : ℕ} → Builds (Admits sites tri he hull (roomOf sites tri hull old) asked) o s → s ≡ 0 → Succeeds sites tri he hull asked o old
+      go (early x n) q = absurd (n q)
+      go (built x) q = record { admission = admitted x refl; outcome = value-of o late q }
+
+  pub succeeds-zero : Succeeds sites tri he hull asked o old → Answers sites tri he hull asked o old new r → r ≡ 0
+  succeeds-zero s a = builds-one (λ x y. admits-one) (a .number) (built (admits (s .admission))) ∙ ap (λ p. faultOf p .number) (s .outcome .is)
+
+-- ---- demand 3 on an accepted clipped build
+pub box-admitted : (c : Point) (w h : Float) → boxAsk c w h ≡ 0 → BoundedBox 101 (madeOf c w h)
+unfolding boxAsk
+box-admitted c w h e = box-bounded c w h (go (okBox c w h) e)
+  where
+    go : (t : Bool) → pick {A = ℕ} t (λ _. 0) (λ _. 3) ≡ 0 → t ≡ true
+    go true q = refl
+    go false q = absurd (omega arith)
+
+-- each corner is wrapped at most once, by its owner; and what is built fits its room
+pub record Sound (sites : List Float) (tri he hull : List ℕ) (b : BoundingBox) : Type 0 where
+  pub outcome : Value (build sites tri he hull b)
+  pub wraps : Wrapping sites tri he hull b (outcome .value)
+  pub fits : Room tri hull b (outcome .value)
+
+pub clipped-sound : {sites : List Float} {tri he hull : List ℕ} (c : Point) (w h : Float) {old new : Slices} {r : ℕ} → Clipped sites tri he hull c w h old new r → r ≡ 0 → Sound sites tri he hull (madeOf c w h)
+clipped-sound {sites} {tri} {he} {hull} c w h a z =
+    let s = zero-succeeds (build-late sites tri he hull (madeOf c w h)) a z in
+    let box = box-admitted c w h (s .admission .fit) in
+    record { outcome = s .outcome; wraps = wrapping (s .admission .accepted) box (s .outcome .is); fits = room (s .admission .accepted) box (s .outcome .is) }
