@@ -21,6 +21,7 @@ use Rattle.definition.specs.Build.{Built, build}
 use Rattle.outputs.specs.Lent.{unmarked, indexNumbers, offsetNumbers, countNumbers}
 use Rattle.building.specs.Promise.{Slices, roomFor, roomOf, Builds, early, built, after, BuildAnswer, Answers, Clipped, Unclipped}
 use Rattle.building.specs.Refusals.{Refuses, Numbered, build-late, unclipped-late}
+use Rattle.building.specs.Success.{zero-succeeds}
 use Rattle.listing.specs.Listing.{unclippedListing, listing, cellLines}
 use Rattle.cells.specs.Printed.{Shows, linesOf, unclippedText, boxText, InBox, WithoutBox}
 use Rattle.cells.specs.Printed as printed
@@ -44,12 +45,6 @@ module _ (Rules : ℕ → Type 0) (text : Built → List ℕ) where
   shows {o = refused e} t (built p) late f =
       let q : e .number ≢ 0 = λ z. omega (arith, late .least) in
       rw (ne-eqb (e .number) 0 q) (printed.late p)
-
--- only what was built has the number 0
-none-refused : {Rules : ℕ → Type 0} {o : Outcome Fault Built} {r : ℕ} → Builds Rules o r → Refuses Numbered o → r ≡ 0 → (b : Built) × (o ≡ ok b)
-none-refused (early p q) late z = absurd (q z)
-none-refused {o = ok b} (built p) late z = (b, refl)
-none-refused {o = refused e} (built p) late z = absurd (omega (arith, late .least))
 
 -- the counts: a number, the four owners, another number
 owners-at : (v l : ℕ) (os tail : List ℕ) → length os ≡ 4 → _≡_ {A = List ℕ} (getD ((v ∷ os ++ l ∷ []) ++ tail) 1 0 ∷ getD ((v ∷ os ++ l ∷ []) ++ tail) 2 0 ∷ getD ((v ∷ os ++ l ∷ []) ++ tail) 3 0 ∷ getD ((v ∷ os ++ l ∷ []) ++ tail) 4 0 ∷ []) os
@@ -134,8 +129,8 @@ module _ (sites : List Float) (tri he hull : List ℕ) (space : ℕ) (m : Sized 
 
     layout : length (new .indexes) ≡ 3076 → r ≡ 0 → Laid (siteCount sites) (new .offsets) (new .indexes) space
     layout short z =
-        let (b, e) = none-refused rules late z in
-        laid-out a long b (gives-ok (Whole (siteCount sites)) whole e) e z space (omega (arith, m .few-sites)) short (m .room)
+        let b = zero-succeeds late a z .outcome in
+        laid-out a long (b .value) (gives-ok (Whole (siteCount sites)) whole (b .is)) (b .is) z space (omega (arith, m .few-sites)) short (m .room)
 
     text-of : (text : Built → List ℕ) (t : List ℕ) → ((b : Built) → Whole (siteCount sites) b → o ≡ ok b → r ≡ 0 → t ≡ text b) → Shows (Admits sites tri he hull true asked) text o (shown t r)
     text-of text t f = shows _ text t rules late (λ b e z. f b (gives-ok (Whole (siteCount sites)) whole e) e z)
