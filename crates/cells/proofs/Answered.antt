@@ -1,15 +1,13 @@
 -- A build's answer and its lent slices give the text that is promised: a refusal's line by its number, or the listing of what was built.
-use mathlib.Core.Path.{_≡_, refl, sym, ap, _∙_, subst}
-use mathlib.Core.Bool.{Bool, true, _&&_}
+use mathlib.Core.Path.{_≡_, refl, ap, _∙_}
+use mathlib.Core.Bool.{true}
 use mathlib.Core.List.{List, [], _∷_, _++_, map}
 use mathlib.Core.Logic.{_≢_}
-use Prim.Native.Nat.{ℕ, suc, _+_, _-_, _*_, _/_, _≤_, _<_}
+use Prim.Native.Nat.{ℕ, _+_, _-_, _*_, _/_, _≤_}
 use native.Mathlib.Omega.{arith}
-use lib.Dec.{eqb, leb, ltb}
 use lib.Ieee.{Float}
 use lib.ListN.{length, getD, replicate, length-map}
-use borrow.Author.Tests.{eq-eqb, ne-eqb, le-leb, lt-ltb}
-use Rattle.laws.specs.Pick.{pick}
+use borrow.Author.Tests.{ne-eqb, le-leb, lt-ltb}
 use Rattle.utils.specs.declared.Point.{Point}
 use Rattle.bounding_box.specs.Box.{madeOf}
 use Rattle.mesh.specs.Mesh.{EMPTY}
@@ -20,9 +18,10 @@ use Rattle.definition.specs.declared.Fault.{Fault}
 use Rattle.definition.specs.Fault.{Outcome, ok, refused}
 use Rattle.definition.specs.Gives.{Gives, gives-ok}
 use Rattle.definition.specs.Build.{Built, build}
-use Rattle.outputs.specs.Lent.{padded, unmarked, indexNumbers, offsetNumbers, countNumbers}
+use Rattle.outputs.specs.Lent.{unmarked, indexNumbers, offsetNumbers, countNumbers}
 use Rattle.building.specs.Promise.{Slices, roomFor, roomOf, Builds, early, built, after, BuildAnswer, Answers, Clipped, Unclipped}
 use Rattle.building.specs.Refusals.{Refuses, Numbered, build-late, unclipped-late}
+use Rattle.building.specs.Success.{zero-succeeds}
 use Rattle.listing.specs.Listing.{unclippedListing, listing, cellLines}
 use Rattle.cells.specs.Printed.{Shows, linesOf, unclippedText, boxText, InBox, WithoutBox}
 use Rattle.cells.specs.Printed as printed
@@ -46,12 +45,6 @@ module _ (Rules : ℕ → Type 0) (text : Built → List ℕ) where
   shows {o = refused e} t (built p) late f =
       let q : e .number ≢ 0 = λ z. omega (arith, late .least) in
       rw (ne-eqb (e .number) 0 q) (printed.late p)
-
--- only what was built has the number 0
-none-refused : {Rules : ℕ → Type 0} {o : Outcome Fault Built} {r : ℕ} → Builds Rules o r → Refuses Numbered o → r ≡ 0 → (b : Built) × (o ≡ ok b)
-none-refused (early p q) late z = absurd (q z)
-none-refused {o = ok b} (built p) late z = (b, refl)
-none-refused {o = refused e} (built p) late z = absurd (omega (arith, late .least))
 
 -- the counts: a number, the four owners, another number
 owners-at : (v l : ℕ) (os tail : List ℕ) → length os ≡ 4 → _≡_ {A = List ℕ} (getD ((v ∷ os ++ l ∷ []) ++ tail) 1 0 ∷ getD ((v ∷ os ++ l ∷ []) ++ tail) 2 0 ∷ getD ((v ∷ os ++ l ∷ []) ++ tail) 3 0 ∷ getD ((v ∷ os ++ l ∷ []) ++ tail) 4 0 ∷ []) os
@@ -136,8 +129,8 @@ module _ (sites : List Float) (tri he hull : List ℕ) (space : ℕ) (m : Sized 
 
     layout : length (new .indexes) ≡ 3076 → r ≡ 0 → Laid (siteCount sites) (new .offsets) (new .indexes) space
     layout short z =
-        let (b, e) = none-refused rules late z in
-        laid-out a long b (gives-ok (Whole (siteCount sites)) whole e) e z space (omega (arith, m .few-sites)) short (m .room)
+        let b = zero-succeeds late a z .outcome in
+        laid-out a long (b .value) (gives-ok (Whole (siteCount sites)) whole (b .is)) (b .is) z space (omega (arith, m .few-sites)) short (m .room)
 
     text-of : (text : Built → List ℕ) (t : List ℕ) → ((b : Built) → Whole (siteCount sites) b → o ≡ ok b → r ≡ 0 → t ≡ text b) → Shows (Admits sites tri he hull true asked) text o (shown t r)
     text-of text t f = shows _ text t rules late (λ b e z. f b (gives-ok (Whole (siteCount sites)) whole e) e z)

@@ -1,14 +1,14 @@
 -- Cells that stand one after the other in an index list, with their offsets: a listing that goes by the offsets writes the line of each of them.
-use mathlib.Core.Path.{_≡_, refl, sym, ap, _∙_, subst}
+use mathlib.Core.Path.{_≡_, refl, ap, _∙_, subst}
 use mathlib.Core.List.{List, [], _∷_, _++_, append-assoc}
-use Prim.Native.Nat.{ℕ, zero, suc, _+_, _-_, _^_, _≤_, _<_}
+use Prim.Native.Nat.{ℕ, zero, suc, _+_, _-_, _≤_, _<_}
 use native.Mathlib.Omega.{arith}
 use native.Mathlib.Nat.{add-zero}
 use lib.ListN.{length, getD, take, drop, length-append}
 use lib.Seq.{take-suc, take-all, drop-append-seam, take-append-seam}
 use Rattle.layout.specs.Regions.{joined, offsetsFrom}
 use Rattle.layout.proofs.Compacting.{joined-snoc, offsets-length}
-use Rattle.listing.specs.Listing.{cellLine, cellLines, cellOf, Layout}
+use Rattle.listing.specs.Listing.{cellLine, cellLines, cellOf}
 use Rattle.cells.specs.Printed.{linesOf}
 use Rattle.cells.specs.Shown.{Laid}
 

@@ -1,19 +1,16 @@
 -- A build that is not refused has a cell for each site and an owner for each corner: cells are only ever set.
 use mathlib.Core.Path.{_≡_, refl, _∙_}
-use mathlib.Core.Bool.{Bool, true, false}
-use mathlib.Core.List.{List, [], _∷_}
+use mathlib.Core.List.{List, []}
 use Prim.Native.Nat.{ℕ, zero, suc, _/_}
 use lib.Ieee.{Float}
 use lib.ListN.{length, getD, set, replicate, length-set, length-replicate}
-use Rattle.laws.specs.Pick.{pick}
 use Rattle.bounding_box.specs.Box.{cornersOf}
 use Rattle.bounding_box.specs.declared.BoundingBox.{BoundingBox}
 use Rattle.mesh.specs.Mesh.{leftmostOf, endOf}
 use Rattle.mesh.specs.Accepted.{siteCount}
-use Rattle.definition.specs.Fault.{ok}
 use Rattle.definition.specs.Gives.{Gives, gives-then, gives-next, picked}
 use Rattle.definition.specs.Cell.{Entry}
-use Rattle.definition.specs.Build.{Built, Cells, cellsOf, Extensions, extensions, clipInto, isEmpty, clipHull, clipRest, clipAll, build}
+use Rattle.definition.specs.Build.{Built, Cells, Extensions, clipInto, isEmpty, clipHull, clipRest, clipAll, build}
 use Rattle.definition.specs.Unclipped.{ringsFrom, ringCell, unclipped}
 use Rattle.definition.specs.Owners.{owners-length}
 

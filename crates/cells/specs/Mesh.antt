@@ -1,6 +1,6 @@
 -- The lists that a form is read into have its mesh at their beginnings, so that what is printed by them is what is printed for the mesh, and the other way round.
 use mathlib.Core.Path.{_≡_, refl}
-use mathlib.Core.List.{List, [], _∷_, _++_}
+use mathlib.Core.List.{List, [], _∷_}
 use Prim.Native.Nat.{ℕ, _*_, _≤_}
 use native.Mathlib.Omega.{arith}
 use lib.Ieee.{Float}

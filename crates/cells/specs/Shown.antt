@@ -5,7 +5,7 @@ use mathlib.Core.Bool.{Bool, true, false}
 use Prim.Native.Nat.{ℕ, _*_, _≤_}
 use lib.Dec.{eqb}
 use lib.Ieee.{Float, nan}
-use lib.ListN.{length, getD, take}
+use lib.ListN.{getD, take}
 use Rattle.laws.specs.Pick.{pick}
 use Rattle.utils.specs.Plane.{at}
 use Rattle.form.specs.declared.Form.{Form}

@@ -1,13 +1,14 @@
--- Document 01's checked examples, as rows under one claim: each says what the definition that a public call is held to gives, on "square" where a mesh is meant.
--- By computation.
-use mathlib.Core.Path.{_≡_, refl}
+-- Document 01's checked examples, as rows under one claim, on "square" where a mesh is meant: what the definitions that the public calls are held to give, and for
+-- the two lone points that of order_points_on_ray, where a lone point is judged. By computation.
+use mathlib.Core.Path.{_≡_, refl, _∙_}
 use mathlib.Core.List.{List, [], _∷_}
 use Prim.Native.Nat.{ℕ}
 use lib.Ieee.{Float, binary64, ofBits, neg, add, sub, mul, div, lt, le, eq}
+use lib.Ieee.Bits.{ofBits-fits}
 use lib.ListN.{getD}
 use Rattle.laws.specs.Binary64.{zero, one, minusOne, two}
-use Rattle.root.specs.Sqrt.{sqrtOf}
-use Rattle.root.specs.SqrtLaws.{least-root}
+use Rattle.root.specs.Root.{Root}
+use Rattle.root.specs.SqrtLaws.{root-is-sqrt, least-root}
 use Rattle.utils.specs.Flat.{pointAt}
 use Rattle.utils.specs.Plane.{at, nearOf, dist2Of, centreOf}
 use Rattle.bounding_box.specs.Box.{madeOf, firstSide, whichOf}
@@ -46,7 +47,7 @@ pub record Examples : Type 0 where
   pub no-side : whichOf box (at zero zero) ≡ 4
   pub circumcenter : centreOf (pointAt sites (getD tri 0 0)) (pointAt sites (getD tri 1 0)) (pointAt sites (getD tri 2 0)) ≡ at zero zero
   -- of 2^-1074 it is 2^-537
-  pub least-root : sqrtOf (ofBits binary64 1) ≡ ofBits binary64 0x1E60_0000_0000_0000
+  pub least-root : (r : Float) → Root (ofBits binary64 1) r → r ≡ ofBits binary64 0x1E60_0000_0000_0000
   pub lone-behind : orderOf (at five five) (at minusOne minusOne) (One one one) ≡ None
   pub lone-ahead : orderOf (at five five) (at one one) (One one one) ≡ One one one
 
@@ -67,7 +68,7 @@ examples =
       left-side = plane .left-side;
       no-side = plane .no-side;
       circumcenter = refl;
-      least-root = least-root;
+      least-root = λ r h. root-is-sqrt (ofBits binary64 1) r (ofBits-fits binary64 1) h ∙ least-root;
       lone-behind = plane .lone-behind;
       lone-ahead = plane .lone-ahead;
     }
