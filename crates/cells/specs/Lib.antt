@@ -3,3 +3,4 @@ pub mod Shown
 pub mod Mesh
 pub mod One
 pub mod Enough
+pub mod Square
