@@ -1,6 +1,9 @@
 // A record's words, little-endian, and lent slices held to them. A word past the record's end is 0.
 ghost use mathlib.Core.Path.{_≡_};
 ghost use Prim.Native.Nat.{_<_};
+ghost use lib.ListN.{getD};
+ghost use Rattle.laws.specs.Decide.{Says};
+ghost use Rattle.replay.specs.Words.{wordOf, afterOf, expectedOf, Has, Loaded};
 
 const SIGN: u64 = 0x8000_0000_0000_0000;
 
@@ -9,7 +12,7 @@ const INFINITY: u64 = 0x7FF0_0000_0000_0000;
 const NAN: u64 = 0x7FF8_0000_0000_0000;
 
 fn byte(b: &[u8], at: usize) -> u32
-    ensures { λ r. ⌜ r < 256 ⌝ }
+    ensures { λ r. ⌜ (r ≡ getD (now (b .entry)) at 0) × (r < 256) ⌝ }
 {
     if at < b.len() {
         return b[at] as u32;
@@ -26,7 +29,10 @@ fn wide(x: u32) -> u64
 // A record has at most so many words.
 pub const WORDS: usize = 1024;
 
-pub fn word(b: &[u8], k: usize) -> u32 {
+// Word k.
+pub fn word(b: &[u8], k: usize) -> u32
+    ensures { λ r. ⌜ r ≡ wordOf (now (b .entry)) k ⌝ }
+{
     if WORDS <= k {
         return 0;
     }
@@ -35,13 +41,15 @@ pub fn word(b: &[u8], k: usize) -> u32 {
 }
 
 pub fn index(b: &[u8], k: usize) -> usize
-    ensures { λ r. ⌜ r < 4294967296 ⌝ }
+    ensures { λ r. ⌜ (r ≡ wordOf (now (b .entry)) k) × (r < 4294967296) ⌝ }
 {
     word(b, k) as usize
 }
 
 // The place n words after k, or the end.
-pub fn after(k: usize, n: usize) -> usize {
+pub fn after(k: usize, n: usize) -> usize
+    ensures { λ r. ⌜ r ≡ afterOf k n ⌝ }
+{
     if WORDS <= k {
         return WORDS;
     }
@@ -75,7 +83,9 @@ fn bits_of(x: f64) -> u64 {
 }
 
 // Fills l with the words from k on.
-pub fn load(b: &[u8], k: usize, l: &mut [u32]) {
+pub fn load(b: &[u8], k: usize, l: &mut [u32])
+    ensures { λ _. ⌜ Loaded (now (b .entry)) k (now (l .entry)) (now (l .exit)) ⌝ }
+{
     let mut i = 0;
     while i < l.len() {
         l[i] = word(b, after(k, i));
@@ -92,7 +102,9 @@ pub fn load_floats(b: &[u8], k: usize, l: &mut [f64]) {
 }
 
 // What stands at place i of a slice that has the n words from k on, then `rest`.
-fn expected(b: &[u8], k: usize, n: usize, i: usize, rest: u32) -> u32 {
+fn expected(b: &[u8], k: usize, n: usize, i: usize, rest: u32) -> u32
+    ensures { λ r. ⌜ r ≡ expectedOf (now (b .entry)) k n i rest ⌝ }
+{
     if i < n {
         return word(b, after(k, i));
     }
@@ -107,7 +119,9 @@ fn expected_bits(b: &[u8], k: usize, n: usize, i: usize, rest: u64) -> u64 {
 }
 
 // Whether l has the n words from k on, then `rest` to its end.
-pub fn holds(l: &[u32], b: &[u8], k: usize, n: usize, rest: u32) -> bool {
+pub fn holds(l: &[u32], b: &[u8], k: usize, n: usize, rest: u32) -> bool
+    ensures { λ r. ⌜ Says r (Has (now (l .entry)) (now (b .entry)) k n rest) ⌝ }
+{
     if l.len() < n {
         return false;
     }

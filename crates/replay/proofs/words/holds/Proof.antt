@@ -1,21 +1,22 @@
--- `replay::words::holds` is safe and ends: the measure is what is left of the slice.
+-- `replay::words::holds` meets its contract: all places before i are as they must be; the first that is not denies it.
 use native.Mathlib.Omega.{arith}
 use Prim.Native.Nat.{_≤_, _-_}
 use lib.ListN.{length}
+use Rattle.replay.proofs.Reading.{Same, same-next, same-not, too-short}
 use Rattle.replay.proofs.words.holds.Statement.{statement}
 use Rattle.replay.proofs.words.holds.Tie as tie
 
 abbrev Inv-loop : tie.InvT-loop
-Inv-loop l b k n rest i₀ i = i ≤ length l
+Inv-loop l b k n rest i₀ i = (i ≤ length l) × Same l b k n rest i
 
 abbrev μ-loop : tie.MeasureT-loop
 μ-loop l b k n rest i₀ i = length l - i
 
 returns : tie.Need-returns Inv-loop μ-loop
-returns c = omega arith
+returns c = too-short _ _ _ _ _ (c .if1 .taken)
 
 loop-holds : tie.Need-loop-holds Inv-loop μ-loop
-loop-holds c = omega arith
+loop-holds c = (omega arith, λ j h. absurd (omega arith))
 
 mul-if2 : tie.Need-mul-if2 Inv-loop μ-loop
 mul-if2 c = omega arith
@@ -27,7 +28,10 @@ expected-requires : tie.Need-expected-requires Inv-loop μ-loop
 expected-requires c κs = omega arith
 
 returns-2 : tie.Need-returns-2 Inv-loop μ-loop
-returns-2 c = omega arith
+returns-2 c =
+    let l = c .before .before .before .before in
+    let a = l .before .before .before .before .args in
+    same-not (a .l .now) _ _ _ _ (l .loop .i) _ (c .before .before .before .loop-test .taken) (c .before .expected .ensures) (c .if2 .taken)
 
 add-i : tie.Need-add-i Inv-loop μ-loop
 add-i c = omega arith
@@ -36,10 +40,15 @@ loop-less : tie.Need-loop-less Inv-loop μ-loop
 loop-less c = omega arith
 
 loop-again : tie.Need-loop-again Inv-loop μ-loop
-loop-again c = omega arith
+loop-again c =
+    let l = c .before .before .before .before in
+    let a = l .before .before .before .before .args in
+    (omega arith, same-next (a .l .now) _ _ _ _ (l .loop .i) _ (l .loop .inv .1) (c .before .expected .ensures) (c .if2 .left))
 
 returns-3 : tie.Need-returns-3 Inv-loop μ-loop
-returns-3 c = omega arith
+returns-3 c =
+    let l = c .before in
+    record { room = l .before .if1 .left; each = λ j h. l .loop .inv .1 j (omega arith) }
 
 pub holds-spec : {M : Type 1} → statement M
 holds-spec =
