@@ -1,9 +1,10 @@
 // A record's words, little-endian, and lent slices held to them. A word past the record's end is 0.
 ghost use mathlib.Core.Path.{_≡_};
 ghost use Prim.Native.Nat.{_<_};
-ghost use lib.ListN.{getD};
+ghost use lib.Ieee.{nan};
+ghost use lib.ListN.{length, getD};
 ghost use Rattle.laws.specs.Decide.{Says};
-ghost use Rattle.replay.specs.Words.{wordOf, afterOf, expectedOf, Has, Loaded};
+ghost use Rattle.replay.specs.Words.{wordOf, afterOf, expectedOf, patternOf, floatOf, bitsOf, placeOf, expectedBitsOf, Has, Loaded};
 
 const SIGN: u64 = 0x8000_0000_0000_0000;
 
@@ -60,22 +61,30 @@ pub fn after(k: usize, n: usize) -> usize
 }
 
 // The pattern of words k and the next.
-fn pattern(b: &[u8], k: usize) -> u64 {
+fn pattern(b: &[u8], k: usize) -> u64
+    ensures { λ r. ⌜ r ≡ patternOf (now (b .entry)) k ⌝ }
+{
     wide(word(b, k)) + wide(word(b, after(k, 1))) * 4294967296
 }
 
-fn float_of(bits: u64) -> f64 {
+fn float_of(bits: u64) -> f64
+    ensures { λ r. ⌜ r ≡ floatOf bits ⌝ }
+{
     if INFINITY < bits % SIGN {
         return 0.0 / 0.0;
     }
     f64::from_bits(bits)
 }
 
-pub fn float(b: &[u8], k: usize) -> f64 {
+pub fn float(b: &[u8], k: usize) -> f64
+    ensures { λ r. ⌜ r ≡ floatOf (patternOf (now (b .entry)) k) ⌝ }
+{
     float_of(pattern(b, k))
 }
 
-fn bits_of(x: f64) -> u64 {
+fn bits_of(x: f64) -> u64
+    ensures { λ r. ⌜ r ≡ bitsOf x ⌝ }
+{
     if x != x {
         return NAN;
     }
@@ -84,7 +93,7 @@ fn bits_of(x: f64) -> u64 {
 
 // Fills l with the words from k on.
 pub fn load(b: &[u8], k: usize, l: &mut [u32])
-    ensures { λ _. ⌜ Loaded (now (b .entry)) k (now (l .entry)) (now (l .exit)) ⌝ }
+    ensures { λ _. ⌜ Loaded 0 (λ i. wordOf (now (b .entry)) (afterOf k i)) (now (l .entry)) (now (l .exit)) ⌝ }
 {
     let mut i = 0;
     while i < l.len() {
@@ -93,7 +102,9 @@ pub fn load(b: &[u8], k: usize, l: &mut [u32])
     }
 }
 
-pub fn load_floats(b: &[u8], k: usize, l: &mut [f64]) {
+pub fn load_floats(b: &[u8], k: usize, l: &mut [f64])
+    ensures { λ _. ⌜ Loaded nan (λ i. floatOf (patternOf (now (b .entry)) (placeOf k i))) (now (l .entry)) (now (l .exit)) ⌝ }
+{
     let mut i = 0;
     while i < l.len() {
         l[i] = float(b, after(after(k, i), i));
@@ -111,7 +122,9 @@ fn expected(b: &[u8], k: usize, n: usize, i: usize, rest: u32) -> u32
     rest
 }
 
-fn expected_bits(b: &[u8], k: usize, n: usize, i: usize, rest: u64) -> u64 {
+fn expected_bits(b: &[u8], k: usize, n: usize, i: usize, rest: u64) -> u64
+    ensures { λ r. ⌜ r ≡ expectedBitsOf (now (b .entry)) k n i rest ⌝ }
+{
     if i < n {
         return pattern(b, after(after(k, i), i));
     }
@@ -120,7 +133,7 @@ fn expected_bits(b: &[u8], k: usize, n: usize, i: usize, rest: u64) -> u64 {
 
 // Whether l has the n words from k on, then `rest` to its end.
 pub fn holds(l: &[u32], b: &[u8], k: usize, n: usize, rest: u32) -> bool
-    ensures { λ r. ⌜ Says r (Has (now (l .entry)) (now (b .entry)) k n rest) ⌝ }
+    ensures { λ r. ⌜ Says r (Has (length (now (l .entry))) (λ i. getD (now (l .entry)) i 0) (λ i. expectedOf (now (b .entry)) k n i rest) n) ⌝ }
 {
     if l.len() < n {
         return false;
@@ -136,7 +149,9 @@ pub fn holds(l: &[u32], b: &[u8], k: usize, n: usize, rest: u32) -> bool
 }
 
 // The same of floats, pattern by pattern.
-pub fn holds_floats(l: &[f64], b: &[u8], k: usize, n: usize, rest: u64) -> bool {
+pub fn holds_floats(l: &[f64], b: &[u8], k: usize, n: usize, rest: u64) -> bool
+    ensures { λ r. ⌜ Says r (Has (length (now (l .entry))) (λ i. bitsOf (getD (now (l .entry)) i nan)) (λ i. expectedBitsOf (now (b .entry)) k n i rest) n) ⌝ }
+{
     if l.len() < n {
         return false;
     }

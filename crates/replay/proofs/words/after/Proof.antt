@@ -1,3 +1,4 @@
+-- `replay::words::after` meets its contract.
 use borrow.Author.Needs.{needs}
 use Rattle.replay.proofs.Reading.{after-end, after-far, after-near}
 use Rattle.replay.proofs.words.after.Statement.{statement}

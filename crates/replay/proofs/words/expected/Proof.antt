@@ -1,3 +1,4 @@
+-- `replay::words::expected` meets its contract.
 use borrow.Author.Needs.{needs}
 use Rattle.replay.proofs.Reading.{expected-word, expected-rest}
 use Rattle.replay.proofs.words.expected.Statement.{statement}

@@ -5,11 +5,12 @@ use borrow.Author.Needs.{needs}
 use Rattle.replay.proofs.Reading.{Loading, loading-next}
 use Prim.Native.Nat.{_≤_, _-_}
 use lib.ListN.{length, length-set}
+use Rattle.replay.specs.Words.{wordOf, afterOf}
 use Rattle.replay.proofs.words.load.Statement.{statement}
 use Rattle.replay.proofs.words.load.Tie as tie
 
 abbrev Inv-loop : tie.InvT-loop
-Inv-loop b k l₀ i₀ l i = Loading b k l₀ l i
+Inv-loop b k l₀ i₀ l i = Loading 0 (λ j. wordOf b (afterOf k j)) l₀ l i
 
 abbrev μ-loop : tie.MeasureT-loop
 μ-loop b k l₀ i₀ l i = length l - i
@@ -39,7 +40,7 @@ loop-again : tie.Need-loop-again Inv-loop μ-loop
 loop-again c =
     let t = c .before .before in
     let l = t .before in
-    loading-next _ _ _ _ (l .loop .i) _ _ (t .loop-test .taken) (l .loop .inv) (c .before .after .ensures) (c .word .ensures)
+    loading-next 0 _ _ _ (l .loop .i) _ (t .loop-test .taken) (l .loop .inv) (rw (← c .before .after .ensures) (c .word .ensures))
 
 same-length : tie.Need-same-length Inv-loop μ-loop
 same-length c = c .before .loop .inv .long

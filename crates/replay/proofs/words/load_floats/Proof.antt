@@ -1,19 +1,23 @@
--- `replay::words::load_floats` is safe and ends: the slice keeps its length, and the measure is what is left of it.
+-- `replay::words::load_floats` meets its contract: the first i places hold their floats.
 use native.Mathlib.Omega.{arith}
-use mathlib.Core.Path.{_≡_}
+use mathlib.Core.Path.{_≡_, refl}
+use borrow.Author.Needs.{needs}
+use lib.Ieee.{nan}
+use Rattle.replay.specs.Words.{floatOf, patternOf, placeOf}
 use Prim.Native.Nat.{_≤_, _-_}
 use lib.ListN.{length, length-set}
+use Rattle.replay.proofs.Reading.{Loading, loading-next}
 use Rattle.replay.proofs.words.load_floats.Statement.{statement}
 use Rattle.replay.proofs.words.load_floats.Tie as tie
 
 abbrev Inv-loop : tie.InvT-loop
-Inv-loop b k l₀ i₀ l i = (i ≤ length l) × (length l ≡ length l₀)
+Inv-loop b k l₀ i₀ l i = Loading nan (λ j. floatOf (patternOf b (placeOf k j))) l₀ l i
 
 abbrev μ-loop : tie.MeasureT-loop
 μ-loop b k l₀ i₀ l i = length l - i
 
 loop-holds : tie.Need-loop-holds Inv-loop μ-loop
-loop-holds c = omega arith
+loop-holds c = record { few = omega arith; long = refl; each = λ j h. absurd (omega arith) }
 
 after-requires : tie.Need-after-requires Inv-loop μ-loop
 after-requires c κs = omega arith
@@ -28,7 +32,7 @@ mul-l : tie.Need-mul-l Inv-loop μ-loop
 mul-l c = omega arith
 
 slice-write-l : tie.Need-slice-write-l Inv-loop μ-loop
-slice-write-l c = omega arith
+slice-write-l c = search needs
 
 add-i : tie.Need-add-i Inv-loop μ-loop
 add-i c = omega arith
@@ -37,13 +41,16 @@ loop-less : tie.Need-loop-less Inv-loop μ-loop
 loop-less c = simp length-set (omega arith)
 
 loop-again : tie.Need-loop-again Inv-loop μ-loop
-loop-again c = simp length-set (omega arith)
+loop-again c =
+    let t = c .before .before .before in
+    let l = t .before in
+    loading-next nan _ _ _ (l .loop .i) _ (t .loop-test .taken) (l .loop .inv) (rw (← c .before .before .after .ensures, ← c .before .after2 .ensures) (c .float .ensures))
 
 same-length : tie.Need-same-length Inv-loop μ-loop
-same-length c = omega arith
+same-length c = c .before .loop .inv .long
 
 returns : tie.Need-returns Inv-loop μ-loop
-returns c = omega arith
+returns c = let i = c .before .loop .inv in record { long = i .long; each = λ j h. i .each j (omega arith) }
 
 pub load-floats-spec : {M : Type 1} → statement M
 load-floats-spec =

@@ -1,3 +1,4 @@
+-- `replay::words::word` meets its contract: four bytes make it.
 use borrow.Author.Needs.{needs}
 use Rattle.replay.proofs.Reading.{word-none, word-some}
 use Rattle.replay.proofs.words.word.Statement.{statement}
