@@ -1,7 +1,7 @@
 -- The rules up to 10 with a build's own rule 2, and the lent slices after them.
 use mathlib.Core.Path.{_≡_, sym, _∙_}
-use mathlib.Core.Bool.{Bool}
-use mathlib.Core.List.{List, []}
+use mathlib.Core.Bool.{Bool, true}
+use mathlib.Core.List.{List, [], _∷_, _++_}
 use Prim.Native.Nat.{ℕ, _≤_, _<_}
 use native.Mathlib.Nat.{sub-zero}
 use lib.Ieee.{Float}
@@ -9,24 +9,23 @@ use lib.ListN.{length, replicate}
 use borrow.Author.Tests.{lt-ltb, le-ltb}
 use Rattle.laws.specs.Binary64.{zero}
 use Rattle.mesh.specs.Mesh.{EMPTY}
-use Rattle.mesh.specs.Accepted.{Counted}
-use Rattle.queries.specs.Admits.{Early, counts, room, arguments, coordinate, sound, Admits, before, judged, Admission}
+use Rattle.mesh.specs.Accepted.{Counted, siteCount}
+use Rattle.mesh.specs.Rules.{numberOf, coordinateRules, topologyRules}
+use Rattle.laws.specs.Refusals.{once, reads, finds-instead}
+use Rattle.queries.specs.Admits.{askedRules, Admits, Admission}
 use Rattle.outputs.specs.Lent.{padded}
 use Rattle.building.specs.Promise.{slices}
 use Rattle.building.specs.Steps.{RoomAnswer, BuildAdmission}
 
 module _ (sites : List Float) (tri he hull : List ℕ) {given right : Bool} {asked : ℕ} (q : Counted (length sites) (length tri) (length he) (length hull) → given ≡ right) where
   -- where rule 1 is broken, rule 2 is not tried: its answer counts only after that
-  early-by : {r : ℕ} → Early sites (length tri) (length he) (length hull) given asked r → Early sites (length tri) (length he) (length hull) right asked r
-  early-by (counts n) = counts n
-  early-by (room c f) = room c (sym (q c) ∙ f)
-  early-by (arguments c t n) = arguments c (sym (q c) ∙ t) n
-  early-by (coordinate c t z k) = coordinate c (sym (q c) ∙ t) z k
-  early-by (sound c t z k) = sound c (sym (q c) ∙ t) z k
-
   admits-by : {r : ℕ} → Admits sites tri he hull given asked r → Admits sites tri he hull right asked r
-  admits-by (before e n) = before (early-by e) n
-  admits-by (judged e v) = judged (early-by e) v
+  admits-by x = record {
+    found =
+        finds-instead (once 1 (Counted (length sites) (length tri) (length he) (length hull)) ∷ []) 2 (given ≡ true) (right ≡ true)
+        (askedRules asked ++ reads numberOf (coordinateRules sites ++ topologyRules tri he hull (siteCount sites)))
+        (λ k. (λ e. sym (q (k .0)) ∙ e, λ e. q (k .0) ∙ e)) (x .found);
+  }
 
   pub admission-by : {old new : List ℕ} {r : ℕ} → Admission sites tri he hull given asked old new r → Admission sites tri he hull right asked old new r
   admission-by a = record { number = admits-by (a .number); work = a .work }

@@ -1,6 +1,6 @@
 -- The query for one cell: its number by the tests made, and the part of the index list that an admitted one has.
 use mathlib.Core.Path.{_≡_, sym, ap, _∙_}
-use mathlib.Core.List.{List, []}
+use mathlib.Core.List.{List, [], _∷_}
 use mathlib.Core.Logic.{_≢_}
 use Prim.Native.Nat.{ℕ, _+_, _-_, _≤_, _<_}
 use native.Mathlib.Omega.{arith}
@@ -8,23 +8,27 @@ use lib.ListN.{length, getD}
 use borrow.Author.Tests.{eq-eqb, ne-eqb}
 use Rattle.shared.specs.Cells.{Cells, cellOf}
 use Rattle.queries.specs.Admits.{siteAsk}
-use Rattle.queries.specs.Answers.{CellsOf, refused, bad-cells, offered}
-use Rattle.queries.specs.Given.{site-below}
+use Rattle.queries.specs.Answers.{CellsOf}
+use Rattle.queries.specs.Given.{site-below, site-asked}
+use Rattle.laws.specs.Refusals.{once, Finds, breaks, keeps, nothing, finds-first, finds-keep}
+use borrow.Author.Needs.{needs}
 use Rattle.building.specs.Cells.{CellNumber, partAfter, startAfter, lengthAfter, CellAnswer, PlaceAnswer}
 
 -- n is the number of sites, a what rule 4 says
 module _ (offs idx : List ℕ) (s n a : ℕ) (count : n ≡ length offs - 1) (ask : a ≡ siteAsk n s) where
-  asked : a ≡ siteAsk (length offs - 1) s
-  asked = ask ∙ ap (λ m. siteAsk m s) count
-
   pub no-site : a ≢ 0 → CellNumber offs idx s a
-  no-site q = refused asked q
+  no-site q =
+      let f : Finds (once 4 (s < length offs - 1) ∷ []) 0 a = rw (ask, count) (site-asked (length offs - 1) s) in
+      record { found = finds-first (once 16 (CellsOf offs idx (length offs - 1)) ∷ []) q f }
+
+  below : a ≡ 0 → s < length offs - 1
+  below z = rw (← count) (site-below n s (sym ask ∙ z))
 
   pub not-cut : a ≡ 0 → (CellsOf offs idx n → ⊥) → CellNumber offs idx s 16
-  not-cut z c = bad-cells (sym z ∙ asked) (λ x. c (rw count x))
+  not-cut z c = record { found = keeps (below z) (breaks (λ x. c (rw count x))) }
 
   pub cut : a ≡ 0 → CellsOf offs idx n → CellNumber offs idx s 0
-  cut z c = offered (sym z ∙ asked) (rw count at c)
+  cut z c = record { found = keeps (below z) (keeps (rw count at c) nothing) }
 
 -- what an admitted site has
 pub record Held (offs idx : List ℕ) (s : ℕ) : Type 0 where
@@ -32,9 +36,9 @@ pub record Held (offs idx : List ℕ) (s : ℕ) : Type 0 where
   pub below : s + 1 < length offs
 
 pub held : {offs idx : List ℕ} {r : ℕ} (s : ℕ) → CellNumber offs idx s r → r ≡ 0 → Held offs idx s
-held s (refused x q) z = absurd (q z)
-held s (bad-cells x c) z = absurd (omega arith)
-held {offs} s (offered x c) z = record { cells = c .cut; below = omega (arith, site-below (length offs - 1) s (sym x)) }
+held s x z =
+    let k = finds-keep (λ r. r ≡ 0) (search needs) z (x .found) in
+    record { cells = k .1 .0 .cut; below = omega (arith, k .0) }
 
 module _ (offs idx : List ℕ) (s r : ℕ) (a : CellNumber offs idx s r) where
   pub part-refused : r ≢ 0 → CellAnswer offs idx s [] r

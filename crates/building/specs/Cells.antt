@@ -1,20 +1,20 @@
 -- What the query for one cell promises: rule 4 on its site, rule 16 on the offsets, and the part of the index list between its two offsets, empty where it is refused.
-use mathlib.Core.Path.{_≡_, sym, _∙_}
-use mathlib.Core.List.{List, []}
-use Prim.Native.Nat.{ℕ, _+_, _-_}
+use mathlib.Core.Path.{_≡_}
+use mathlib.Core.List.{List, [], _∷_}
+use Prim.Native.Nat.{ℕ, _+_, _-_, _<_}
 use lib.Dec.{eqb}
 use lib.ListN.{length, getD}
 use Rattle.laws.specs.Pick.{pick}
 use Rattle.shared.specs.Cells.{cellOf}
-use Rattle.queries.specs.Admits.{siteAsk}
-use Rattle.queries.specs.Answers.{Offers, offers-one}
+use Rattle.laws.specs.Refusals.{once, Finds, finds-one}
+use Rattle.queries.specs.Answers.{CellsOf}
 
 -- 4, then 16; there is a site less than offsets, at least none
-abbrev pub CellNumber : List ℕ → List ℕ → ℕ → ℕ → Type 0
-CellNumber offs idx s = Offers (λ r. r ≡ siteAsk (length offs - 1) s) offs idx (length offs - 1)
+pub record CellNumber (offs idx : List ℕ) (s r : ℕ) : Type 0 where
+  pub found : Finds (once 4 (s < length offs - 1) ∷ once 16 (CellsOf offs idx (length offs - 1)) ∷ []) 0 r
 
 pub cell-number : (offs idx : List ℕ) (s : ℕ) {a b : ℕ} → CellNumber offs idx s a → CellNumber offs idx s b → a ≡ b
-cell-number offs idx s = offers-one (λ a b p q. p ∙ sym q)
+cell-number offs idx s x y = finds-one (x .found) (y .found)
 
 -- the cell after the number r: as a list, and by where it starts and how long it is
 unfoldable pub partAfter : List ℕ → List ℕ → ℕ → ℕ → List ℕ

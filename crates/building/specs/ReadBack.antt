@@ -6,12 +6,11 @@ use native.Mathlib.Omega.{arith}
 use native.Mathlib.Numerals.{add-one}
 use lib.ListN.{length, getD, length-append}
 use lib.Seq.{take-at, drop-at}
-use borrow.Author.Tests.{eq-eqb, lt-ltb}
+use borrow.Author.Tests.{eq-eqb}
 use Rattle.layout.specs.Regions.{joined, offsetsFrom}
 use Rattle.layout.proofs.Compacting.{offsets-length}
 use Rattle.shared.specs.Cells.{Cells, cellOf}
-use Rattle.queries.specs.Admits.{siteAsk}
-use Rattle.queries.specs.Answers.{offered}
+use Rattle.laws.specs.Refusals.{keeps, nothing}
 use Rattle.building.specs.Cells.{cell-number, partAfter, CellAnswer}
 
 first-offset : (m : ℕ) (cells : List (List ℕ)) → getD (offsetsFrom m cells) 0 0 ≡ m
@@ -59,12 +58,12 @@ cut cells room h = record {
 
 -- the offsets of some cells, and an index list that begins with them
 pub read-back : (cells : List (List ℕ)) (spare : List ℕ) (s : ℕ) {part : List ℕ} {r : ℕ} → s < length cells → CellAnswer (offsetsFrom 0 cells) (joined cells ++ spare) s part r → (r ≡ 0) × (part ≡ getD cells s [])
-unfolding partAfter siteAsk
+unfolding partAfter
 read-back cells spare s {part} {r} h a =
     let offs = offsetsFrom 0 cells in
     let idx = joined cells ++ spare in
     let n : s < length offs - 1 = omega (arith, offsets-length 0 cells) in
     let m : length offs ≡ length offs - 1 + 1 = omega (arith, offsets-length 0 cells) in
     let fits : length (joined cells) ≤ length idx = omega (arith, length-append (joined cells) spare) in
-    let z : r ≡ 0 = cell-number offs idx s (a .number) (offered (rw (lt-ltb s (length offs - 1) n)) (record { many = m; cut = cut cells (length idx) fits })) in
+    let z : r ≡ 0 = cell-number offs idx s (a .number) (record { found = keeps n (keeps (record { many = m; cut = cut cells (length idx) fits }) nothing) }) in
     (z, a .entries ∙ rw (eq-eqb r 0 z) (read-from [] spare cells s h))

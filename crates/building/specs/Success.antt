@@ -1,5 +1,6 @@
 -- When a build answers 0: on an accepted mesh with room, in a box that rule 3 admits, exactly where the definition refuses nothing; and demand 3 then.
-use mathlib.Core.Path.{_≡_, refl, ap, _∙_}
+use mathlib.Core.Path.{_≡_, refl, sym, ap, _∙_}
+use mathlib.Core.Logic.{⊎-elim}
 use mathlib.Core.Bool.{Bool, true, false}
 use mathlib.Core.List.{List, []}
 use Prim.Native.Nat.{ℕ}
@@ -11,13 +12,13 @@ use Rattle.bounding_box.specs.Box.{madeOf}
 use Rattle.bounding_box.specs.Finite.{BoundedBox, box-bounded}
 use Rattle.bounding_box.specs.Rules.{okBox}
 use Rattle.bounding_box.specs.declared.BoundingBox.{BoundingBox}
-use Rattle.queries.specs.Admits.{Admits, Admitted, admitted, admits, admits-one}
+use Rattle.queries.specs.Admits.{Admitted, admitted, admits}
 use Rattle.definition.specs.declared.Fault.{Fault}
 use Rattle.definition.specs.Fault.{Outcome, ok, refused}
 use Rattle.definition.specs.Build.{Built, build}
 use Rattle.definition.specs.Theorems.{Wrapping, Room, wrapping, room}
 use Rattle.outputs.specs.Lent.{faultOf}
-use Rattle.building.specs.Promise.{Slices, roomOf, boxAsk, Builds, early, built, builds-one, Answers, Clipped}
+use Rattle.building.specs.Promise.{Slices, roomOf, boxAsk, built, builds-one, builds-cases, Answers, Clipped}
 use Rattle.building.specs.Refusals.{Refuses, Numbered, build-late}
 
 -- ---- 0
@@ -37,14 +38,14 @@ pub record Succeeds (sites : List Float) (tri he hull : List ℕ) (asked : ℕ) 
 
 module _ {sites : List Float} {tri he hull : List ℕ} {asked : ℕ} {o : Outcome Fault Built} {old new : Slices} {r : ℕ} where
   pub zero-succeeds : Refuses Numbered o → Answers sites tri he hull asked o old new r → r ≡ 0 → Succeeds sites tri he hull asked o old
-  zero-succeeds late a z = go (a .number) z
-    where
-      go : {s : ℕ} → Builds (Admits sites tri he hull (roomOf sites tri hull old) asked) o s → s ≡ 0 → Succeeds sites tri he hull asked o old
-      go (early x n) q = absurd (n q)
-      go (built x) q = record { admission = admitted x refl; outcome = value-of o late q }
+  zero-succeeds late a z =
+      ⊎-elim
+      (λ x. absurd (x .1 z))
+      (λ x. record { admission = admitted (x .0) refl; outcome = value-of o late (sym (x .1) ∙ z) })
+      (builds-cases (a .number))
 
   pub succeeds-zero : Succeeds sites tri he hull asked o old → Answers sites tri he hull asked o old new r → r ≡ 0
-  succeeds-zero s a = builds-one (λ x y. admits-one) (a .number) (built (admits (s .admission))) ∙ ap (λ p. faultOf p .number) (s .outcome .is)
+  succeeds-zero s a = builds-one (a .number) (built (admits (s .admission))) ∙ ap (λ p. faultOf p .number) (s .outcome .is)
 
 -- ---- demand 3 on an accepted clipped build
 pub box-admitted : (c : Point) (w h : Float) → boxAsk c w h ≡ 0 → BoundedBox 101 (madeOf c w h)

@@ -1,8 +1,8 @@
 -- A build's answer and its lent slices give the text that is promised: a refusal's line by its number, or the listing of what was built.
 use mathlib.Core.Path.{_≡_, refl, ap, _∙_}
-use mathlib.Core.Bool.{true}
+use mathlib.Core.Bool.{Bool, true}
 use mathlib.Core.List.{List, [], _∷_, _++_, map}
-use mathlib.Core.Logic.{_≢_}
+use mathlib.Core.Logic.{⊎-elim, _≢_}
 use Prim.Native.Nat.{ℕ, _+_, _-_, _*_, _/_, _≤_}
 use native.Mathlib.Omega.{arith}
 use lib.Ieee.{Float}
@@ -18,8 +18,8 @@ use Rattle.definition.specs.declared.Fault.{Fault}
 use Rattle.definition.specs.Fault.{Outcome, ok, refused}
 use Rattle.definition.specs.Gives.{Gives, gives-ok}
 use Rattle.definition.specs.Build.{Built, build}
-use Rattle.outputs.specs.Lent.{unmarked, indexNumbers, offsetNumbers, countNumbers}
-use Rattle.building.specs.Promise.{Slices, roomFor, roomOf, Builds, early, built, after, BuildAnswer, Answers, Clipped, Unclipped}
+use Rattle.outputs.specs.Lent.{unmarked, indexNumbers, offsetNumbers, countNumbers, faultOf}
+use Rattle.building.specs.Promise.{Slices, roomFor, roomOf, Builds, builds-cases, after, BuildAnswer, Answers, Clipped, Unclipped}
 use Rattle.building.specs.Refusals.{Refuses, Numbered, build-late, unclipped-late}
 use Rattle.building.specs.Success.{zero-succeeds}
 use Rattle.listing.specs.Listing.{unclippedListing, listing, cellLines}
@@ -37,14 +37,20 @@ pub record Lengths (s : Slices) : Type 0 where
   pub offsets : length (s .offsets) ≡ 97
   pub counts : length (s .counts) ≡ 6
 
+-- the text by the number, where the listing is that of what was built
 module _ (Rules : ℕ → Type 0) (text : Built → List ℕ) where
-  -- the text by the number, where the listing is that of what was built
-  shows : {o : Outcome Fault Built} {r : ℕ} (t : List ℕ) → Builds Rules o r → Refuses Numbered o → ((b : Built) → o ≡ ok b → r ≡ 0 → t ≡ text b) → Shows Rules text o (shown t r)
-  shows t (early p q) late f = rw (ne-eqb _ 0 q) (printed.early p q)
-  shows {o = ok b} t (built p) late f = rw (f b refl refl) (printed.built p)
-  shows {o = refused e} t (built p) late f =
+  shows-built : {o : Outcome Fault Built} (t : List ℕ) → Rules 0 → Refuses Numbered o → ((b : Built) → o ≡ ok b → faultOf o .number ≡ 0 → t ≡ text b) → Shows Rules text o (shown t (faultOf o .number))
+  shows-built {o = ok b} t p late f = rw (f b refl refl) (printed.built p)
+  shows-built {o = refused e} t p late f =
       let q : e .number ≢ 0 = λ z. omega (arith, late .least) in
       rw (ne-eqb (e .number) 0 q) (printed.late p)
+
+shows : {sites : List Float} {tri he hull : List ℕ} {roomy : Bool} {asked : ℕ} {o : Outcome Fault Built} {r : ℕ} (text : Built → List ℕ) (t : List ℕ) → Builds sites tri he hull roomy asked o r → Refuses Numbered o → ((b : Built) → o ≡ ok b → r ≡ 0 → t ≡ text b) → Shows (Admits sites tri he hull roomy asked) text o (shown t r)
+shows text t x late f =
+    ⊎-elim
+    (λ y. rw (ne-eqb _ 0 (y .1)) (printed.early (y .0) (y .1)))
+    (λ y. rw (y .1) (shows-built _ text t (y .0) late (λ b e z. f b e (y .1 ∙ z))))
+    (builds-cases x)
 
 -- the counts: a number, the four owners, another number
 owners-at : (v l : ℕ) (os tail : List ℕ) → length os ≡ 4 → _≡_ {A = List ℕ} (getD ((v ∷ os ++ l ∷ []) ++ tail) 1 0 ∷ getD ((v ∷ os ++ l ∷ []) ++ tail) 2 0 ∷ getD ((v ∷ os ++ l ∷ []) ++ tail) 3 0 ∷ getD ((v ∷ os ++ l ∷ []) ++ tail) 4 0 ∷ []) os
@@ -124,7 +130,7 @@ module _ (sites : List Float) (tri he hull : List ℕ) (space : ℕ) (m : Sized 
       ))
 
   module _ {asked : ℕ} {o : Outcome Fault Built} (whole : Gives (Whole (siteCount sites)) o) (late : Refuses Numbered o) (a : Answers sites tri he hull asked o old new r) where
-    rules : Builds (Admits sites tri he hull true asked) o r
+    rules : Builds sites tri he hull true asked o r
     rules = rw roomy at (a .number)
 
     layout : length (new .indexes) ≡ 3076 → r ≡ 0 → Laid (siteCount sites) (new .offsets) (new .indexes) space
@@ -133,7 +139,7 @@ module _ (sites : List Float) (tri he hull : List ℕ) (space : ℕ) (m : Sized 
         laid-out a long (b .value) (gives-ok (Whole (siteCount sites)) whole (b .is)) (b .is) z space (omega (arith, m .few-sites)) short (m .room)
 
     text-of : (text : Built → List ℕ) (t : List ℕ) → ((b : Built) → Whole (siteCount sites) b → o ≡ ok b → r ≡ 0 → t ≡ text b) → Shows (Admits sites tri he hull true asked) text o (shown t r)
-    text-of text t f = shows _ text t rules late (λ b e z. f b (gives-ok (Whole (siteCount sites)) whole e) e z)
+    text-of text t f = shows text t rules late (λ b e z. f b (gives-ok (Whole (siteCount sites)) whole e) e z)
 
   module _ (c : Point) (w h : Float) (a : Clipped sites tri he hull c w h old new r) where
     abbrev whole-in : Gives (Whole (siteCount sites)) (build sites tri he hull (madeOf c w h))

@@ -9,9 +9,9 @@ use lib.ListN.{length, getD}
 use Rattle.laws.specs.Decide.{First, lt-or-ge, eq-or-ne, first-all}
 use Rattle.mesh.specs.Mesh.{EMPTY, startOf, endOf, pairOf}
 use Rattle.mesh.specs.Hull.{nextSite, FreshAt, EdgeAt, PlaceAt, BorderAt, Hull}
-use Rattle.mesh.specs.Border.{places-hull}
 use Rattle.mesh.specs.declared.Fault.the-variants.{None, HullPlace, HullEdge}
-use Rattle.hull.specs.Answer.{HullAnswer, right, place, edge}
+use Rattle.hull.specs.Answer.{HullAnswer}
+use Rattle.laws.specs.Refusals.{offends, all-keep, nothing}
 use Rattle.hull.specs.Marks.{marksTo, leftTo, TakesAt, LeftAt, marked, marks-at, marks-length, left-at, left-same}
 
 -- the site at place i has lost its mark
@@ -86,10 +86,10 @@ module _ (tri he hull : List ℕ) (sites w n r e : ℕ) (u : Unmarked tri he hul
       }
 
   pub answer-place : r < length hull → HullAnswer tri he hull sites (HullPlace r)
-  answer-place l = place places l
+  answer-place l = offends places l
 
   pub answer-edge : length hull ≤ r → e < length he → HullAnswer tri he hull sites (HullEdge e)
-  answer-edge l h = edge (first-all places l) (borders l) h
+  answer-edge l h = all-keep (first-all places l) (offends (borders l) h)
 
   pub answer-right : length hull ≤ r → length he ≤ e → HullAnswer tri he hull sites None
-  answer-right l h = right (places-hull tri he hull sites (first-all places l) (first-all (borders l) h))
+  answer-right l h = all-keep (first-all places l) (all-keep (first-all (borders l) h) nothing)

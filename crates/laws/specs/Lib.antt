@@ -4,3 +4,4 @@ pub mod Count
 pub mod Binary64
 pub mod And
 pub mod Stores
+pub mod Refusals

@@ -1,69 +1,46 @@
--- There is one verdict on a mesh, and it has the number 0 exactly where rules 7 to 10 accept.
-use mathlib.Core.Path.{_≡_, refl, ap}
+-- What it tells that no rule is broken: rules 7 to 10 are `Topology`, and all of them are `Accepted`.
+use mathlib.Core.Path.{_≡_, refl}
 use mathlib.Core.List.{List}
 use mathlib.Core.Logic.{_≢_}
-use Prim.Native.Nat.{ℕ, _≤_, _<_}
+use Prim.Native.Nat.{ℕ, _%_, _≤_, _<_}
 use native.Mathlib.Omega.{arith}
+use lib.Ieee.{Float}
 use lib.ListN.{length}
-use Rattle.laws.specs.Decide.{First, first-one, first-not}
+use Rattle.laws.specs.Refusals.{Keep, Finds, finds-answers}
 use Rattle.mesh.specs.declared.Fault.{Fault}
-use Rattle.mesh.specs.declared.Fault.the-variants.{Triangle, Pairing, HullPlace, HullEdge, BrokenFan}
-use Rattle.mesh.specs.Mesh.{endOf}
-use Rattle.mesh.specs.Rules.{numberOf, Topology, Verdict, no-fault, bad-triangle, bad-pairing, bad-place, bad-edge, bad-fan}
-use Rattle.mesh.specs.Border.{hull-places, hull-border}
+use Rattle.mesh.specs.declared.Fault.the-variants.{None}
+use Rattle.mesh.specs.Mesh.{EMPTY, nextOf, endOf}
+use Rattle.mesh.specs.Accepted.{Accepted, siteCount}
+use Rattle.mesh.specs.Rules.{numberOf, Topology, topologyRules, meshRules}
+use Rattle.mesh.specs.Laws.{next-lt}
+use Rattle.mesh.specs.Facts.{topology, accepted, few-entries, sound-site}
+use Rattle.mesh.specs.Border.{places-hull, hull-places, hull-border}
 
-module _ {tri he hull : List ℕ} {sites : ℕ} where
-  pub verdict-one : {f g : Fault} → Verdict tri he hull sites f → Verdict tri he hull sites g → f ≡ g
-  verdict-one (no-fault w) (no-fault v) = refl
-  verdict-one (no-fault w) (bad-triangle f l) = absurd (first-not f l (w .sound))
-  verdict-one (no-fault w) (bad-pairing s f l) = absurd (first-not f l (w .pairs))
-  verdict-one (no-fault w) (bad-place s p f l) = absurd (first-not f l (hull-places tri he hull sites (w .hull)))
-  verdict-one (no-fault w) (bad-edge s p h f l) = absurd (first-not f l (hull-border tri he hull sites (w .hull)))
-  verdict-one (no-fault w) (bad-fan s p h f l) = absurd (first-not f l (λ k _ e le q. rw (← q) (w .fan e le)))
-  verdict-one (bad-triangle f l) (no-fault w) = absurd (first-not f l (w .sound))
-  verdict-one (bad-triangle f l) (bad-triangle g m) = ap Triangle (first-one f g)
-  verdict-one (bad-triangle f l) (bad-pairing s g m) = absurd (first-not f l s)
-  verdict-one (bad-triangle f l) (bad-place s p g m) = absurd (first-not f l s)
-  verdict-one (bad-triangle f l) (bad-edge s p h g m) = absurd (first-not f l s)
-  verdict-one (bad-triangle f l) (bad-fan s p h g m) = absurd (first-not f l s)
-  verdict-one (bad-pairing s f l) (no-fault w) = absurd (first-not f l (w .pairs))
-  verdict-one (bad-pairing s f l) (bad-triangle g m) = absurd (first-not g m s)
-  verdict-one (bad-pairing s f l) (bad-pairing t g m) = ap Pairing (first-one f g)
-  verdict-one (bad-pairing s f l) (bad-place t p g m) = absurd (first-not f l p)
-  verdict-one (bad-pairing s f l) (bad-edge t p h g m) = absurd (first-not f l p)
-  verdict-one (bad-pairing s f l) (bad-fan t p h g m) = absurd (first-not f l p)
-  verdict-one (bad-place s p f l) (no-fault w) = absurd (first-not f l (hull-places tri he hull sites (w .hull)))
-  verdict-one (bad-place s p f l) (bad-triangle g m) = absurd (first-not g m s)
-  verdict-one (bad-place s p f l) (bad-pairing t g m) = absurd (first-not g m p)
-  verdict-one (bad-place s p f l) (bad-place t q g m) = ap HullPlace (first-one f g)
-  verdict-one (bad-place s p f l) (bad-edge t q h g m) = absurd (first-not f l h)
-  verdict-one (bad-place s p f l) (bad-fan t q h g m) = absurd (first-not f l (hull-places tri he hull sites h))
-  verdict-one (bad-edge s p h f l) (no-fault w) = absurd (first-not f l (hull-border tri he hull sites (w .hull)))
-  verdict-one (bad-edge s p h f l) (bad-triangle g m) = absurd (first-not g m s)
-  verdict-one (bad-edge s p h f l) (bad-pairing t g m) = absurd (first-not g m p)
-  verdict-one (bad-edge s p h f l) (bad-place t q g m) = absurd (first-not g m h)
-  verdict-one (bad-edge s p h f l) (bad-edge t q i g m) = ap HullEdge (first-one f g)
-  verdict-one (bad-edge s p h f l) (bad-fan t q i g m) = absurd (first-not f l (hull-border tri he hull sites i))
-  verdict-one (bad-fan s p h f l) (no-fault w) = absurd (first-not f l (λ k _ e le q. rw (← q) (w .fan e le)))
-  verdict-one (bad-fan s p h f l) (bad-triangle g m) = absurd (first-not g m s)
-  verdict-one (bad-fan s p h f l) (bad-pairing t g m) = absurd (first-not g m p)
-  verdict-one (bad-fan s p h f l) (bad-place t q g m) = absurd (first-not g m (hull-places tri he hull sites h))
-  verdict-one (bad-fan s p h f l) (bad-edge t q i g m) = absurd (first-not g m (hull-border tri he hull sites h))
-  verdict-one (bad-fan s p h f l) (bad-fan t q i g m) = ap BrokenFan (first-one f g)
+module _ (tri he hull : List ℕ) (sites : ℕ) where
+  pub topology-keep : Topology tri he hull sites → Keep (topologyRules tri he hull sites)
+  topology-keep t =
+      (t .sound, (t .pairs, (hull-places tri he hull sites (t .hull), (hull-border tri he hull sites (t .hull), (λ s _ e l q. rw (← q) (t .fan e l), tt)))))
 
-  pub verdict-none : {f : Fault} → Verdict tri he hull sites f → numberOf f ≡ 0 → Topology tri he hull sites
-  verdict-none (no-fault t) h = t
-  verdict-none (bad-triangle f l) h = absurd (omega arith)
-  verdict-none (bad-pairing s f l) h = absurd (omega arith)
-  verdict-none (bad-place s p f l) h = absurd (omega arith)
-  verdict-none (bad-edge s p b f l) h = absurd (omega arith)
-  verdict-none (bad-fan s p b f l) h = absurd (omega arith)
+  pub keep-topology : length tri % 3 ≡ 0 → length he ≡ length tri → length tri < EMPTY → Keep (topologyRules tri he hull sites) → Topology tri he hull sites
+  keep-topology threes same small k = record {
+    threes = threes;
+    same = same;
+    small = small;
+    sound = k .0;
+    pairs = k .1 .0;
+    hull = places-hull tri he hull sites (k .1 .1 .0) (k .1 .1 .1 .0);
+    fan = λ e l. k .1 .1 .1 .1 .0 (endOf tri e) (sound-site tri sites threes (k .0) (nextOf e) (next-lt threes (rw (← same) l))) e l refl;
+  }
 
-  -- a verdict that refuses has a number from 7 on
-  pub verdict-late : {f : Fault} → Verdict tri he hull sites f → numberOf f ≢ 0 → 7 ≤ numberOf f
-  verdict-late (no-fault t) n = absurd (n refl)
-  verdict-late (bad-triangle f l) n = omega arith
-  verdict-late (bad-pairing s f l) n = omega arith
-  verdict-late (bad-place s p f l) n = omega arith
-  verdict-late (bad-edge s p h f l) n = omega arith
-  verdict-late (bad-fan s p h f l) n = omega arith
+  -- a refusal has a number from 7 on
+  pub topology-late : {f : Fault} → Finds (topologyRules tri he hull sites) None f → numberOf f ≢ 0 → 7 ≤ numberOf f
+  topology-late =
+      finds-answers (λ f. numberOf f ≢ 0 → 7 ≤ numberOf f) (λ n. absurd (n refl))
+      (λ k n. omega arith, (λ k n. omega arith, (λ k n. omega arith, (λ k n. omega arith, (λ k n. omega arith, tt)))))
+
+module _ (sites : List Float) (tri he hull : List ℕ) (room : Type 0) where
+  pub accepted-keep : Accepted sites tri he hull → room → Keep (meshRules sites tri he hull room)
+  accepted-keep a l = (a .counts, (l, (a .coordinates, topology-keep tri he hull (siteCount sites) (topology a))))
+
+  pub keep-accepted : Keep (meshRules sites tri he hull room) → Accepted sites tri he hull
+  keep-accepted k = accepted (k .0) (k .1 .1 .0) (keep-topology tri he hull (siteCount sites) (k .0 .threes) (k .0 .same) (few-entries (k .0)) (k .1 .1 .1))

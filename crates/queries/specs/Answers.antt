@@ -1,13 +1,15 @@
 -- What each query promises: its number, its values and every lent slice at exit; and that no two outcomes are allowed for one input.
 use mathlib.Core.Path.{_≡_, refl, sym, ap, _∙_, subst}
 use mathlib.Core.Bool.{Bool, true, false}
-use mathlib.Core.List.{List, _++_}
+use mathlib.Core.List.{List, [], _∷_, _++_}
 use mathlib.Core.Logic.{_≢_}
 use Prim.Native.Nat.{ℕ, _+_, _-_, _≤_, _<_}
 use lib.Dec.{leb, ltb, eqb}
 use lib.Ieee.{Float}
 use lib.ListN.{length, getD, take, drop, replicate}
 use Rattle.laws.specs.Pick.{pick}
+use Rattle.laws.specs.Refusals.{once, Finds, finds-one}
+use Rattle.mesh.specs.Rules.{callRules}
 use Rattle.mesh.specs.Mesh.{EMPTY, leftmostOf, wholeOf}
 use Rattle.mesh.specs.Accepted.{siteCount}
 use Rattle.checker.specs.Answers.{workAfter}
@@ -20,7 +22,7 @@ use Rattle.iterator.specs.Whole.{wholePath}
 use Rattle.queries.specs.declared.Listed.{Listed}
 use Rattle.queries.specs.declared.Found.{Found}
 use Rattle.queries.specs.declared.Told.{Told}
-use Rattle.queries.specs.Admits.{siteAsk, pathAsk, Admits, admits-one}
+use Rattle.queries.specs.Admits.{siteAsk, pathAsk, askedRules, Admits, admits-one}
 
 -- an output slice of `old` after the number r: the beginning of the whole list and then what was there; what was there; or EMPTY throughout
 unfoldable pub outAfter : List ℕ → List ℕ → ℕ → List ℕ
@@ -65,15 +67,13 @@ pub record CellsOf (offs idx : List ℕ) (n : ℕ) : Type 0 where
   pub many : length offs ≡ n + 1
   pub cut : Cells offs (length idx)
 
--- rule 16 after a mesh that is admitted
-pub data Offers (Number : ℕ → Type 0) (offs idx : List ℕ) (n : ℕ) : ℕ → Type 0 where
-  refused : {r : ℕ} → Number r → r ≢ 0 → Offers Number offs idx n r
-  bad-cells : Number 0 → (CellsOf offs idx n → ⊥) → Offers Number offs idx n 16
-  offered : Number 0 → CellsOf offs idx n → Offers Number offs idx n 0
+-- rule 16 after those on the mesh
+pub record Offers (sites : List Float) (tri he hull : List ℕ) (roomy : Bool) (asked : ℕ) (offs idx : List ℕ) (r : ℕ) : Type 0 where
+  pub found : Finds (callRules sites tri he hull (roomy ≡ true) (askedRules asked) ++ once 16 (CellsOf offs idx (siteCount sites)) ∷ []) 0 r
 
 abbrev pub ClippedAnswer : List Float → List ℕ → List ℕ → List ℕ → List ℕ → List ℕ → ℕ → List ℕ → List ℕ → List ℕ → List ℕ → Listed → Type 0
 ClippedAnswer sites tri he hull offs idx s work work′ out out′ r =
-    ListAnswer (Offers (Admits sites tri he hull (roomyOf sites work) (siteAsk (siteCount sites) s)) offs idx (siteCount sites)) tri he (siteCount sites) (clippedNeighboursOf tri he (leftmostOf tri he (siteCount sites)) offs idx s) work work′ out out′ r
+    ListAnswer (Offers sites tri he hull (roomyOf sites work) (siteAsk (siteCount sites) s) offs idx) tri he (siteCount sites) (clippedNeighboursOf tri he (leftmostOf tri he (siteCount sites)) offs idx s) work work′ out out′ r
 
 abbrev pub foundOf : ℕ → ℕ → Found
 foundOf number edge = record { number = number; edge = edge }
@@ -88,26 +88,16 @@ abbrev pub toldOf : ℕ → Bool → Told
 toldOf number b = record { number = number; yes = b }
 
 -- rule 4 on either site, then rule 16
-pub data Shares (offs idx : List ℕ) (a b : ℕ) : ℕ → Type 0 where
-  no-site : ((a < length offs - 1) × (b < length offs - 1) → ⊥) → Shares offs idx a b 4
-  no-cells : (a < length offs - 1) × (b < length offs - 1) → (CellsOf offs idx (length offs - 1) → ⊥) → Shares offs idx a b 16
-  sound : (a < length offs - 1) × (b < length offs - 1) → CellsOf offs idx (length offs - 1) → Shares offs idx a b 0
+pub record Shares (offs idx : List ℕ) (a b r : ℕ) : Type 0 where
+  pub found : Finds (once 4 ((a < length offs - 1) × (b < length offs - 1)) ∷ once 16 (CellsOf offs idx (length offs - 1)) ∷ []) 0 r
 
 pub record SharesAnswer (offs idx : List ℕ) (a b : ℕ) (r : Told) : Type 0 where
   pub number : Shares offs idx a b (r .number)
   pub yes : r .yes ≡ pick (eqb (r .number) 0) (λ _. shareEdgeOf offs idx a b) (λ _. false)
 
 -- ---- one outcome
-pub offers-one : {Number : ℕ → Type 0} {offs idx : List ℕ} {n a b : ℕ} → ((a b : ℕ) → Number a → Number b → a ≡ b) → Offers Number offs idx n a → Offers Number offs idx n b → a ≡ b
-offers-one one (refused x p) (refused y q) = one _ _ x y
-offers-one one (refused x p) (bad-cells y m) = absurd (p (one _ _ x y))
-offers-one one (refused x p) (offered y c) = absurd (p (one _ _ x y))
-offers-one one (bad-cells x m) (refused y q) = absurd (q (one _ _ y x))
-offers-one one (bad-cells x m) (bad-cells y n) = refl
-offers-one one (bad-cells x m) (offered y c) = absurd (m c)
-offers-one one (offered x c) (refused y q) = absurd (q (one _ _ y x))
-offers-one one (offered x c) (bad-cells y m) = absurd (m c)
-offers-one one (offered x c) (offered y d) = refl
+pub offers-one : {sites : List Float} {tri he hull : List ℕ} {roomy : Bool} {asked : ℕ} {offs idx : List ℕ} {a b : ℕ} → Offers sites tri he hull roomy asked offs idx a → Offers sites tri he hull roomy asked offs idx b → a ≡ b
+offers-one x y = finds-one (x .found) (y .found)
 
 pub list-one : {Number : ℕ → Type 0} {tri he : List ℕ} {n : ℕ} {whole work w x out o p : List ℕ} {r s : Listed} → ((a b : ℕ) → Number a → Number b → a ≡ b) → ListAnswer Number tri he n whole work w out o r → ListAnswer Number tri he n whole work x out p s → (r ≡ s) × (w ≡ x) × (o ≡ p)
 list-one {tri = tri} {he} {n} {whole} {work} {out = out} {r = r} {s} one a b =
@@ -123,15 +113,7 @@ edge-one {sites} {tri} {he} {a = a} {b} {w} {r = r} {s} x y =
     (λ i. record { number = q i; edge = e i }, x .work ∙ ap (workAfter tri he (siteCount sites) w) q ∙ sym (y .work))
 
 pub shares-number : {offs idx : List ℕ} {a b m n : ℕ} → Shares offs idx a b m → Shares offs idx a b n → m ≡ n
-shares-number (no-site x) (no-site y) = refl
-shares-number (no-site x) (no-cells y _) = absurd (x y)
-shares-number (no-site x) (sound y _) = absurd (x y)
-shares-number (no-cells x n) (no-site y) = absurd (y x)
-shares-number (no-cells x n) (no-cells y m) = refl
-shares-number (no-cells x n) (sound y c) = absurd (n c)
-shares-number (sound x c) (no-site y) = absurd (y x)
-shares-number (sound x c) (no-cells y n) = absurd (n c)
-shares-number (sound x c) (sound y d) = refl
+shares-number x y = finds-one (x .found) (y .found)
 
 pub shares-one : {offs idx : List ℕ} {a b : ℕ} {r s : Told} → SharesAnswer offs idx a b r → SharesAnswer offs idx a b s → r ≡ s
 shares-one {offs} {idx} {a} {b} {r} {s} x y =

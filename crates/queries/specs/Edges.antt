@@ -11,6 +11,7 @@ use lib.ListN.{length}
 use borrow.Author.Tests.{eq-eqb, ne-eqb}
 use Rattle.laws.specs.Pick.{pick}
 use Rattle.laws.specs.Decide.{Says}
+use Rattle.laws.specs.Refusals.{breaks, keeps, nothing}
 use Rattle.mesh.specs.Mesh.{EMPTY}
 use Rattle.mesh.specs.Accepted.{siteCount}
 use Rattle.checker.specs.Answers.{workAfter}
@@ -19,7 +20,7 @@ use Rattle.shared.specs.Edge.{sharedEdgeOf}
 use Rattle.queries.specs.declared.Found.{Found}
 use Rattle.queries.specs.declared.Told.{Told}
 use Rattle.queries.specs.Admits.{Admission, admitted}
-use Rattle.queries.specs.Answers.{roomyOf, CellsOf, foundOf, EdgeAnswer, toldOf, no-site, no-cells, sound, SharesAnswer}
+use Rattle.queries.specs.Answers.{roomyOf, CellsOf, foundOf, EdgeAnswer, toldOf, SharesAnswer}
 
 module _ {sites : List Float} {tri he hull : List ℕ} {w w′ : List ℕ} {r : ℕ} (a : Admission sites tri he hull (roomyOf sites w) 0 w w′ r) where
   pub edge-refused : (p q : ℕ) (x : Found) → r ≢ 0 → x ≡ foundOf r EMPTY → EdgeAnswer sites tri he hull p q w w′ x
@@ -45,20 +46,20 @@ cells-says offs idx n false some q c = λ x. c (x .cut)
 -- two cells: n is the count, s and t the sites as the code has them
 module _ (offs idx : List ℕ) (a b n s t : ℕ) (count : n ≡ length offs - 1) (p : s ≡ a) (q : t ≡ b) where
   pub no-first : (x : Told) → n ≤ s → x ≡ toldOf 4 false → SharesAnswer offs idx a b x
-  no-first x l e = rw e (record { number = no-site (λ y. omega (arith, y .0)); yes = refl })
+  no-first x l e = rw e (record { number = record { found = breaks (λ y. omega (arith, y .0)) }; yes = refl })
 
   pub no-second : (x : Told) → n ≤ t → x ≡ toldOf 4 false → SharesAnswer offs idx a b x
-  no-second x l e = rw e (record { number = no-site (λ y. omega (arith, y .1)); yes = refl })
+  no-second x l e = rw e (record { number = record { found = breaks (λ y. omega (arith, y .1)) }; yes = refl })
 
   module _ (l : s < n) (m : t < n) where
     below : (a < length offs - 1) × (b < length offs - 1)
     below = omega arith
 
     pub none-cut : (x : Told) → (CellsOf offs idx n → ⊥) → x ≡ toldOf 16 false → SharesAnswer offs idx a b x
-    none-cut x c e = rw e (record { number = no-cells below (λ y. c (rw count y)); yes = refl })
+    none-cut x c e = rw e (record { number = record { found = keeps below (breaks (λ y. c (rw count y))) }; yes = refl })
 
     pub shares-asks : CellsOf offs idx n → Cells offs (length idx) × (s + 1 < length offs) × (t + 1 < length offs)
     shares-asks c = (c .cut, omega (arith, c .many), omega (arith, c .many))
 
     pub shares-told : (y : Bool) → CellsOf offs idx n → y ≡ shareEdgeOf offs idx s t → SharesAnswer offs idx a b (toldOf 0 y)
-    shares-told y c e = record { number = sound below (rw (← count) c); yes = e ∙ rw (p, q) }
+    shares-told y c e = record { number = record { found = keeps below (keeps (rw (← count) c) nothing) }; yes = e ∙ rw (p, q) }

@@ -1,6 +1,6 @@
 -- On an admitted mesh each list that is handed out is the query's answer; and no list is longer than a count can say.
 use mathlib.Core.Path.{_≡_, refl, sym, ap, _∙_, subst}
-use mathlib.Core.Bool.{Bool, true, false}
+use mathlib.Core.Bool.{Bool, true, false, false≢true}
 use mathlib.Core.List.{List, [], _∷_, _++_}
 use mathlib.Core.Logic.{⊎-elim, _≢_}
 use Prim.Native.Nat.{ℕ, zero, suc, _+_, _*_, _/_, _%_, _≤_, _<_}
@@ -8,9 +8,11 @@ use native.Mathlib.Omega.{arith}
 use lib.Dec.{eqb, ltb}
 use lib.Ieee.{Float}
 use lib.ListN.{length, getD, take, replicate, length-take, length-append}
-use borrow.Author.Tests.{ltb-true}
+use borrow.Author.Tests.{ltb-true, lt-ltb, le-ltb}
 use Rattle.laws.specs.Pick.{pick}
 use Rattle.laws.specs.Decide.{lt-or-ge, eq-or-ne}
+use Rattle.laws.specs.Refusals.{once, Finds, breaks, keeps, nothing, finds-first, finds-after}
+use Rattle.mesh.specs.Rules.{callRules}
 use Rattle.utils.specs.Rules.{okSite}
 use Rattle.utils.specs.declared.Point.{Point}
 use Rattle.mesh.specs.Mesh.{EMPTY, startOf, pairOf, endOf, nextOf, around, leftmostOf, leftmostIn, turnOf, walkOf, wholeOf, Walks, Paired}
@@ -28,8 +30,8 @@ use Rattle.iterator.specs.Clipped.{keptOf, clippedFrom, firstOf, clippedOf, cli
 use Rattle.iterator.specs.Ready.{Ready, Towards, Clippable}
 use Rattle.iterator.specs.OnMesh.{ready, clippable, towards}
 use Rattle.queries.specs.declared.Listed.{Listed}
-use Rattle.queries.specs.Admits.{siteAsk, pathAsk, Admits}
-use Rattle.queries.specs.Answers.{outAfter, countAfter, endedAfter, ListAnswer, roomyOf, CellsOf, refused, bad-cells, offered, ClippedAnswer}
+use Rattle.queries.specs.Admits.{siteAsk, pathAsk, askedRules, Admits, admits-keep}
+use Rattle.queries.specs.Answers.{outAfter, countAfter, endedAfter, ListAnswer, roomyOf, CellsOf, Offers, ClippedAnswer}
 use Rattle.queries.specs.Lists.{ListAdmission, listedOf, list-refused, list-mesh, list-fit, list-room, list-table, list-out, filled, table-long, table-at, table-part}
 
 -- ---- what sound arguments tell
@@ -40,6 +42,19 @@ ask-small n s = go (ltb s n)
     go : (b : Bool) → pick {A = ℕ} b (λ _. 0) (λ _. 4) < 7
     go true = omega arith
     go false = omega arith
+
+-- the rules that the numbers stand for
+pub site-asked : (n s : ℕ) → Finds (once 4 (s < n) ∷ []) 0 (siteAsk n s)
+unfolding siteAsk
+site-asked n s = ⊎-elim (λ l. rw (lt-ltb s n l) (keeps l nothing)) (λ l. rw (le-ltb s n l) (breaks (λ h. omega arith))) (lt-or-ge s n)
+
+pub path-asked : (n s : ℕ) (p : Point) → Finds (once 4 (s < n) ∷ once 5 (okSite p ≡ true) ∷ []) 0 (pathAsk n s p)
+unfolding pathAsk
+path-asked n s p = ⊎-elim (λ l. rw (lt-ltb s n l) (keeps l (go (okSite p) refl))) (λ l. rw (le-ltb s n l) (breaks (λ h. omega arith))) (lt-or-ge s n)
+  where
+    go : (b : Bool) → okSite p ≡ b → Finds {A = ℕ} (once 5 (okSite p ≡ true) ∷ []) 0 (pick b (λ _. 0) (λ _. 5))
+    go true h = keeps h nothing
+    go false h = breaks (λ y. false≢true (sym h ∙ y))
 
 pub site-below : (n s : ℕ) → siteAsk n s ≡ 0 → s < n
 unfolding siteAsk
@@ -193,22 +208,22 @@ module _ {sites : List Float} {tri he hull : List ℕ} {k : ℕ} {w w′ o o′ 
   pub clipped-refused : (x : Listed) → k < 7 → r ≢ 0 → x ≡ listedOf r 0 false → ClippedAnswer sites tri he hull offs idx s w w′ o o′ x
   clipped-refused x l n q =
       let y = list-refused a (clippedNeighboursOf tri he (leftmostOf tri he (siteCount sites)) offs idx s) l n in
-      rw (q, ← e) (record { number = refused (y .number) n; work = y .work; out = y .out; count = y .count; ended = y .ended })
+      rw (q, ← e) (record { number = record { found = finds-first (once 16 (CellsOf offs idx (siteCount sites)) ∷ []) n (y .number .found) }; work = y .work; out = y .out; count = y .count; ended = y .ended })
 
   module _ (z : r ≡ 0) where
-    zero-number : Admits sites tri he hull (roomyOf sites w) (siteAsk (siteCount sites) s) 0
-    zero-number = rw (z, e) at (a .admission .number)
+    then-cells : {x : ℕ} → Finds (once 16 (CellsOf offs idx (siteCount sites)) ∷ []) 0 x → Offers sites tri he hull (roomyOf sites w) (siteAsk (siteCount sites) s) offs idx x
+    then-cells f = rw (← e) (record { found = finds-after (callRules sites tri he hull (roomyOf sites w ≡ true) (askedRules k)) (admits-keep (a .admission .number) z) f })
 
     pub clipped-denied : (w″ : List ℕ) (x : Listed) → (CellsOf offs idx (siteCount sites) → ⊥) → w″ ≡ replicate (length w′) EMPTY → x ≡ listedOf 16 0 false → ClippedAnswer sites tri he hull offs idx s w w″ o o′ x
     unfolding workAfter outAfter countAfter endedAfter
     clipped-denied w″ x n c q =
         let long : length w′ ≡ length w = ap length (list-table a z) ∙ table-long tri he hull (siteCount sites) (topology (list-mesh a z)) (length w) (list-room a z) in
-        rw q (record { number = bad-cells zero-number n; work = c ∙ ap (λ m. replicate m EMPTY) long; out = list-out a z; count = refl; ended = refl })
+        rw q (record { number = then-cells (breaks n); work = c ∙ ap (λ m. replicate m EMPTY) long; out = list-out a z; count = refl; ended = refl })
 
     pub clipped-gives : (o″ : List ℕ) (c : ℕ) (b : Bool) (x : Listed) → CellsOf offs idx (siteCount sites) → Fills (clippedNeighboursOf tri he (leftmostOf tri he (siteCount sites)) offs idx s) o o″ c b → x ≡ listedOf 0 c b → ClippedAnswer sites tri he hull offs idx s w w′ o o″ x
     clipped-gives o″ c b x ok f q =
         let y = filled a z (clippedNeighboursOf tri he (leftmostOf tri he (siteCount sites)) offs idx s) o″ c b f in
-        rw q (record { number = offered zero-number ok; work = y .work; out = y .out; count = y .count; ended = y .ended })
+        rw q (record { number = then-cells (keeps ok nothing); work = y .work; out = y .out; count = y .count; ended = y .ended })
 
 kept-length : (keeps : ℕ → Bool) (l : List ℕ) → length (keptOf keeps l) ≤ length l
 unfolding keptOf

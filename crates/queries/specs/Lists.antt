@@ -12,17 +12,14 @@ use lib.Seq.{take-at}
 use borrow.Author.Tests.{eq-eqb, ne-eqb, lt-ltb, le-ltb, leb-true}
 use Rattle.laws.specs.Pick.{pick}
 use Rattle.laws.specs.Decide.{lt-or-ge}
-use Rattle.mesh.specs.declared.Fault.{Fault}
-use Rattle.mesh.specs.declared.Fault.the-variants.{None, Counts, Room, Coordinate, Triangle, Pairing, HullPlace, HullEdge, BrokenFan}
 use Rattle.mesh.specs.Mesh.{EMPTY, leftmostOf, leftmostIn}
-use Rattle.mesh.specs.Rules.{numberOf, Topology}
+use Rattle.mesh.specs.Rules.{Topology}
 use Rattle.mesh.specs.Accepted.{Accepted, siteCount}
 use Rattle.mesh.specs.Facts.{topology, tab-length}
 use Rattle.checker.specs.Answers.{workAfter}
 use Rattle.iterator.specs.Fills.{Fills}
 use Rattle.queries.specs.declared.Listed.{Listed}
-use Rattle.queries.specs.Admits.{Early, Admits, before, judged, Admission, admitted}
-use Rattle.queries.specs.Early.{early-small}
+use Rattle.queries.specs.Admits.{Admits, Admission, admitted, admits-few}
 use Rattle.queries.specs.Answers.{outAfter, countAfter, endedAfter, ListAnswer, roomyOf}
 
 abbrev pub listedOf : ℕ → ℕ → Bool → Listed
@@ -35,22 +32,6 @@ heldOut o r = pick (ltb r 7) (λ _. o) (λ _. replicate (length o) EMPTY)
 pub record ListAdmission (sites : List Float) (tri he hull : List ℕ) (asked : ℕ) (w w′ o o′ : List ℕ) (r : ℕ) : Type 0 where
   pub admission : Admission sites tri he hull (roomyOf sites w) asked w w′ r
   pub out : o′ ≡ heldOut o r
-
-number-few : (f : Fault) → numberOf f ≤ 10
-number-few None = omega arith
-number-few Counts = omega arith
-number-few Room = omega arith
-number-few (Coordinate s) = omega arith
-number-few (Triangle t) = omega arith
-number-few (Pairing e) = omega arith
-number-few (HullPlace i) = omega arith
-number-few (HullEdge e) = omega arith
-number-few (BrokenFan s) = omega arith
-
--- the numbers up to 10, so that 16 is not among them
-admits-few : {sites : List Float} {tri he hull : List ℕ} {roomy : Bool} {asked r : ℕ} → asked < 7 → Admits sites tri he hull roomy asked r → r ≤ 10
-admits-few l (before e n) = omega (arith, early-small l e)
-admits-few l (judged {f = f} e v) = number-few f
 
 module _ {sites : List Float} {tri he hull : List ℕ} {asked : ℕ} {w w′ o o′ : List ℕ} {r : ℕ} (a : ListAdmission sites tri he hull asked w w′ o o′ r) where
   pub list-refused : (whole : List ℕ) → asked < 7 → r ≢ 0 → ListAnswer (Admits sites tri he hull (roomyOf sites w) asked) tri he (siteCount sites) whole w w′ o o′ (listedOf r 0 false)

@@ -10,7 +10,8 @@ use Rattle.mesh.specs.Mesh.{leftmostIn}
 use Rattle.mesh.specs.Rules.{numberOf}
 use Rattle.mesh.specs.Accepted.{Accepted, siteCount}
 use Rattle.checker.specs.Answers.{Finding, MeshAnswer, workAfter}
-use Rattle.checker.specs.Laws.{finding-one, found-none, none-found}
+use Rattle.checker.specs.Laws.{found-none, none-found}
+use Rattle.laws.specs.Refusals.{finds-one}
 use Rattle.checker.specs.Steps.{work-table}
 
 -- r is the number of what is found, and new what the work slice holds then, old what it held before
@@ -26,13 +27,13 @@ module _ (sites : List Float) (tri he hull old : List ℕ) where
 
   pub one-check : (new other : List ℕ) (r s : ℕ) → Check sites tri he hull old new r → Check sites tri he hull old other s → (r ≡ s) × (new ≡ other)
   one-check new other r s a b =
-      let q = a .number ∙ ap numberOf (finding-one (a .finding) (b .finding)) ∙ sym (b .number) in
+      let q = a .number ∙ ap numberOf (finds-one (a .finding) (b .finding)) ∙ sym (b .number) in
       (q, a .work ∙ ap (workAfter tri he (siteCount sites) old) q ∙ sym (b .work))
 
   -- 0: the mesh is accepted, and the slice holds its leftmost table, then EMPTY
   pub checked-accepted : (new : List ℕ) → Check sites tri he hull old new 0 → Accepted sites tri he hull × (new ≡ leftmostIn tri he (siteCount sites) (length old))
   checked-accepted new c =
-      (found-none (c .finding) (sym (c .number)), c .work ∙ work-table tri he (siteCount sites) old 0 refl)
+      (found-none sites tri he hull (length old) (c .finding) (sym (c .number)), c .work ∙ work-table tri he (siteCount sites) old 0 refl)
 
   pub accepted-checked : (new : List ℕ) (r : ℕ) → Accepted sites tri he hull → siteCount sites ≤ length old → Check sites tri he hull old new r → r ≡ 0
-  accepted-checked new r a l c = c .number ∙ ap numberOf (finding-one (c .finding) (none-found a l))
+  accepted-checked new r a l c = c .number ∙ ap numberOf (finds-one (c .finding) (none-found sites tri he hull (length old) a l))

@@ -1,7 +1,9 @@
 -- Each answer follows the tests that led to it.
 use borrow.Author.Tests.{not-true, not-false}
-use Rattle.laws.specs.Decide.{granted, refused, first-all, first-not}
-use Rattle.queries.specs.Admits.{counts, room, arguments, coordinate, sound}
+use Rattle.laws.specs.Decide.{granted, refused, first-all}
+use Rattle.laws.specs.Refusals.{breaks, offends, keeps, all-keep, nothing}
+use mathlib.Core.Path.{sym, _∙_}
+use mathlib.Core.Bool.{false≢true}
 use borrow.Author.Needs.{needs}
 use Rattle.queries.proofs.early.Statement.{statement}
 use Rattle.queries.proofs.early.Tie as tie
@@ -10,22 +12,32 @@ counts-ok-requires : tie.Need-counts-ok-requires
 counts-ok-requires c κs = search needs
 
 returns : tie.Need-returns
-returns c = counts (refused (c .before .counts-ok .result) (c .if1 .taken) (c .before .counts-ok .ensures))
+returns c = record { found = breaks (refused (c .before .counts-ok .result) (c .if1 .taken) (c .before .counts-ok .ensures)) }
 
 returns-2 : tie.Need-returns-2
-returns-2 c = room (granted (c .before .before .counts-ok .result) (c .before .if1 .left) (c .before .before .counts-ok .ensures)) (not-true _ (c .if2 .taken))
+returns-2 c =
+    let b = c .before in
+    record { found = keeps (granted (b .before .counts-ok .result) (b .if1 .left) (b .before .counts-ok .ensures)) (breaks (λ y. false≢true (sym (not-true _ (c .if2 .taken)) ∙ y))) }
 
 returns-3 : tie.Need-returns-3
-returns-3 c = arguments (granted (c .before .before .before .counts-ok .result) (c .before .before .if1 .left) (c .before .before .before .counts-ok .ensures)) (not-false _ (c .before .if2 .left)) (c .if3 .taken)
+returns-3 c =
+    let b = c .before .before in
+    record { found = keeps (granted (b .before .counts-ok .result) (b .if1 .left) (b .before .counts-ok .ensures)) (keeps (not-false _ (c .before .if2 .left)) (breaks (c .if3 .taken))) }
 
 first-bad-site-requires : tie.Need-first-bad-site-requires
 first-bad-site-requires c κs = search needs
 
 returns-4 : tie.Need-returns-4
-returns-4 c = coordinate (granted (c .before .before .before .before .before .counts-ok .result) (c .before .before .before .before .if1 .left) (c .before .before .before .before .before .counts-ok .ensures)) (not-false _ (c .before .before .before .if2 .left)) (c .before .before .if3 .left) (first-not (c .before .first-bad-site .ensures) (c .if4 .taken))
+returns-4 c =
+    let b = c .before .before .before .before in
+    let s = c .before .first-bad-site .ensures in
+    record { found = keeps (granted (b .before .counts-ok .result) (b .if1 .left) (b .before .counts-ok .ensures)) (keeps (not-false _ (c .before .before .before .if2 .left)) (keeps (c .before .before .if3 .left) (offends s (c .if4 .taken)))) }
 
 returns-5 : tie.Need-returns-5
-returns-5 c = sound (granted (c .before .before .before .before .before .counts-ok .result) (c .before .before .before .before .if1 .left) (c .before .before .before .before .before .counts-ok .ensures)) (not-false _ (c .before .before .before .if2 .left)) (c .before .before .if3 .left) (first-all (c .before .first-bad-site .ensures) (c .if4 .left))
+returns-5 c =
+    let b = c .before .before .before .before in
+    let s = first-all (c .before .first-bad-site .ensures) (c .if4 .left) in
+    record { found = keeps (granted (b .before .counts-ok .result) (b .if1 .left) (b .before .counts-ok .ensures)) (keeps (not-false _ (c .before .before .before .if2 .left)) (keeps (c .before .before .if3 .left) (all-keep s nothing))) }
 
 pub early-spec : {M : Type 1} → statement M
 early-spec =

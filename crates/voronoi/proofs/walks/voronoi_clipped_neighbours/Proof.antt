@@ -1,5 +1,5 @@
 -- The query's answer, its count and its end in the lent numbers.
-use Rattle.voronoi.specs.Walks.{handed}
+use Rattle.voronoi.specs.Walks.{clipped}
 use borrow.Author.Needs.{needs}
 use Rattle.voronoi.proofs.walks.voronoi_clipped_neighbours.Statement.{statement}
 use Rattle.voronoi.proofs.walks.voronoi_clipped_neighbours.Tie as tie
@@ -17,7 +17,7 @@ same-length-2 : tie.Need-same-length-2
 same-length-2 c = search needs
 
 returns : tie.Need-returns
-returns c = handed (c .before .before .before .before .before .clipped-neighbours .ensures) _ (c .flag .ensures)
+returns c = clipped _ _ _ _ _ _ _ _ _ _ (c .flag .ensures) _ _ _ (c .before .before .before .before .before .clipped-neighbours .ensures)
 
 pub voronoi-clipped-neighbours-spec : {M : Type 1} → statement M
 voronoi-clipped-neighbours-spec =

@@ -1,5 +1,5 @@
 -- The query's answer, its count and its end in the lent numbers.
-use Rattle.voronoi.specs.Walks.{handed}
+use Rattle.voronoi.specs.Walks.{walked}
 use borrow.Author.Needs.{needs}
 use Rattle.voronoi.proofs.walks.voronoi_walk.Statement.{statement}
 use Rattle.voronoi.proofs.walks.voronoi_walk.Tie as tie
@@ -17,7 +17,7 @@ same-length-2 : tie.Need-same-length-2
 same-length-2 c = search needs
 
 returns : tie.Need-returns
-returns c = handed (c .before .before .before .before .before .walk .ensures) _ (c .flag .ensures)
+returns c = walked _ _ _ _ _ _ _ _ _ _ (c .flag .ensures) _ (c .before .before .before .before .before .walk .ensures)
 
 pub voronoi-walk-spec : {M : Type 1} → statement M
 voronoi-walk-spec =
