@@ -1,11 +1,10 @@
--- The regions end where the last one does, so they stand in every list that agrees up to there; and what was written is read again.
+-- The regions end where the last one does, so they stand in every list that agrees up to there.
 use mathlib.Core.Path.{_≡_, refl, sym, ap, _∙_}
 use mathlib.Core.List.{List, []}
 use Prim.Native.Nat.{ℕ, zero, suc, _+_, _-_, _≤_, _<_}
 use native.Mathlib.Omega.{arith}
-use lib.ListN.{length, getD, take, drop, length-drop}
-use lib.Seq.{getD-take, getD-drop, ext-getD, length-take-le}
-use Rattle.layout.specs.Regions.{Region, Regions, Written}
+use lib.ListN.{length, getD}
+use Rattle.layout.specs.Regions.{Region, Regions}
 use Rattle.layout.proofs.Filling.{regions-rising}
 
 -- where a region ends, all of them have not ended before
@@ -33,10 +32,3 @@ regions-agree {idx} {new} {starts} {cells} r l same = record {
         after = λ k a b. same k (omega arith) ∙ g .after k a b;
       };
 }
-
--- what was written, read again
-pub written-there : {idx c new : List ℕ} {at : ℕ} → Written idx at c new → at + length c ≤ length idx → take (length c) (drop at new) ≡ c
-written-there {idx} {c} {new} {at} w room =
-    let size : length (take (length c) (drop at new)) ≡ length c = length-take-le (length c) (drop at new) (omega (arith, w .long, length-drop at new)) in
-    ext-getD 0 (take (length c) (drop at new)) c size
-    (λ i l. getD-take (length c) (drop at new) i 0 (omega arith) ∙ getD-drop at new i 0 ∙ w .entries i (omega arith))

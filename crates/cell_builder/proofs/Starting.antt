@@ -7,7 +7,8 @@ use Prim.Native.Nat.{ℕ, zero, suc, _+_, _-_, _*_, _/_, _^_, _≤_, _<_}
 use native.Mathlib.Omega.{arith}
 use lib.Ieee.{Float}
 use lib.ListN.{length, getD, take, drop, replicate, length-replicate, length-append}
-use lib.Seq.{paste, getD-take, length-take-le}
+use lib.Seq.{sets, getD-take, length-take-le}
+use Rattle.laws.specs.Stores.{sets-in, sets-before}
 use Rattle.utils.specs.Flat.{points}
 use Rattle.utils.specs.declared.Point.{Point}
 use Rattle.bounding_box.specs.Box.{cornersOf}
@@ -18,9 +19,8 @@ use Rattle.vertices.proofs.Store.{poured-points}
 use Rattle.mesh.specs.Mesh.{leftmostOf}
 use Rattle.mesh.specs.Accepted.{siteCount}
 use Rattle.mesh.specs.Facts.{topology, entry-site, start-used, tab-length, tab-used}
-use Rattle.layout.specs.Regions.{Regions, Written}
+use Rattle.layout.specs.Regions.{Regions}
 use Rattle.layout.specs.Rooms.{Roomy, Started, start-end}
-use Rattle.layout.proofs.Filling.{paste-written}
 use Rattle.definition.specs.declared.Fault.{Fault}
 use Rattle.definition.specs.Fault.{Outcome, ok, refused, andThen, fault, notFinite}
 use Rattle.definition.specs.Cell.{Entry}
@@ -46,21 +46,19 @@ use Rattle.cell_builder.proofs.Agree.{regions-agree}
 -- a pass over h hull places that stopped at r
 module _ (h : ℕ) (f : Frame) (found : List ℕ) (v₁ : List Float) (ix ix₁ : List ℕ) (r : Passed) (v₂ : List Float) (ix₂ : List ℕ) (fits : h ≤ f .limit) (within : f .limit ≤ length ix₁) (body : take (f .limit) ix₁ ≡ take (f .limit) ix) where
   -- among the extensions' numbers and before them
-  numbers-written : (xs : List ℕ) → length xs ≡ h → take (f .limit) ix₂ ≡ paste (take (f .limit) ix₁) (f .limit - h) xs (length xs) → Written (take (f .limit) ix) (f .limit - h) xs (take (f .limit) ix₂)
-  numbers-written xs long q =
-      let room : f .limit - h + length xs ≤ length (take (f .limit) ix₁) = rw (length-take-le (f .limit) ix₁ within) (omega arith) in
-      rw (q, ← body) (paste-written xs (take (f .limit) ix₁) (f .limit - h) room)
+  room : (xs : List ℕ) → length xs ≡ h → f .limit - h + length xs ≤ length (take (f .limit) ix)
+  room xs long = rw (← body, length-take-le (f .limit) ix₁ within) (omega arith)
 
   passed-all : (o : Outcome Fault Extensions) → ExtendedBy o h (f .centers) (f .limit) (f .limit - h) v₁ ix₁ r v₂ ix₂ → h ≤ r .place → Begins h f found o ix (record { fault = fault 0 0 0 0; count = r .count; owners = found }) v₂ ix₂
   passed-all (ok x) e l =
-      let w = numbers-written (x .at) (e .1) (e .2 .numbers) in
+      let w : take (f .limit) ix₂ ≡ sets (take (f .limit) ix) (f .limit - h) (x .at) = rw (← body) (e .2 .numbers) in
       record {
         fine = refl;
         verts = sym (poured-points (e .2 .verts));
         owners = refl;
         holds = e .2 .holds;
-        numbers = λ i k. sym (getD-take (f .limit) ix₂ (f .limit - h + i) 0 (omega arith)) ∙ w .entries i (omega (arith, e .1));
-        before = λ k g. sym (getD-take (f .limit) ix₂ k 0 (omega arith)) ∙ w .before k g ∙ getD-take (f .limit) ix k 0 (omega arith);
+        numbers = λ i k. sym (getD-take (f .limit) ix₂ (f .limit - h + i) 0 (omega arith)) ∙ rw w (sets-in (x .at) (take (f .limit) ix) (f .limit - h) i 0 (room (x .at) (e .1)) (omega (arith, e .1)));
+        before = λ k g. sym (getD-take (f .limit) ix₂ k 0 (omega arith)) ∙ rw w (sets-before (x .at) (take (f .limit) ix) (f .limit - h) k 0 g) ∙ getD-take (f .limit) ix k 0 (omega arith);
       }
   passed-all (refused g) e l = absurd (omega (arith, e .1))
 

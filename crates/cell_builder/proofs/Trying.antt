@@ -6,15 +6,15 @@ use Prim.Native.Nat.{ℕ, zero, suc, _+_, _-_, _*_, _/_, _^_, _≤_, _<_}
 use native.Mathlib.Omega.{arith}
 use lib.Ieee.{Float}
 use lib.ListN.{length, getD, set, take, drop, length-map}
-use lib.Seq.{getD-set-same, sets, getD-take, length-take-le}
+use lib.Seq.{getD-set-same, sets, length-sets, getD-take, take-take}
+use Rattle.laws.specs.Stores.{sets-in, sets-behind, sets-there, take-sets, take-sets-le, drop-sets}
 use Rattle.laws.specs.Count.{occ, occ-length, sumTo, sum-mono}
 use Rattle.utils.specs.Flat.{points}
 use Rattle.vertices.proofs.Laws.{length-points}
 use Rattle.mesh.specs.Mesh.{EMPTY}
 use Rattle.mesh.specs.Facts.{entry-site}
-use Rattle.layout.specs.Regions.{Regions, Written}
+use Rattle.layout.specs.Regions.{Regions}
 use Rattle.layout.specs.Rooms.{roomOf, startOf, Roomy, start-end}
-use Rattle.layout.proofs.Filling.{sets-written, paste-written}
 use Rattle.definition.specs.declared.Fault.{Fault}
 use Rattle.definition.specs.Fault.{Outcome, ok, refused, andThen}
 use Rattle.definition.specs.Cell as Def
@@ -28,14 +28,13 @@ use Rattle.definition.specs.All.{shareOf, all-filled, spare}
 use Rattle.rings.specs.Staging.{Staged}
 use Rattle.clipping.specs.Steps.{Steps, ringOf, emptyAt, Room}
 use Rattle.clipping.specs.declared.Stepped.{Stepped}
-use Rattle.interior.proofs.Agreeing.{written-agree, written-past}
 use Rattle.outputs.specs.Lent.{unmarked}
 use Rattle.outputs.proofs.Marks.{cell-set}
 use Rattle.cell_builder.specs.Standing.{Ground, Grounded, Amid, Does}
 use Rattle.cell_builder.specs.Tries.{envOf, progressOf, Ringed, Tried}
 use Rattle.cell_builder.specs.declared.Frame.{Frame}
 use Rattle.cell_builder.specs.declared.Progress.{Progress}
-use Rattle.cell_builder.proofs.Agree.{regions-agree, written-there}
+use Rattle.cell_builder.proofs.Agree.{regions-agree}
 
 -- an entry of a cell is a vertex
 placed-below : (P : ℕ → Type 0) (nc n : ℕ) (m : Mark) (v : ℕ) → nc + 4 ≤ n → Placed P nc n m v → v < n
@@ -101,17 +100,17 @@ module _ {tri he : List ℕ} {f : Frame} {off : List ℕ} {g : Ground} {s : Cell
     within : f .stage + length ring ≤ length ix
     within = omega (arith, before-numbers, a .on .room-ix)
 
-    staged : Written ix (f .stage) ring ix₁
-    staged = rw (st .written) (paste-written ring ix (f .stage) within)
+    same-long : length ix₁ ≡ length ix
+    same-long = ap length (st .written) ∙ length-sets ix (f .stage) ring
 
     size : end - f .stage ≡ length ring
     size = omega (arith, st .ended)
 
     pub ring-is : ringOf ix₁ (f .stage) (end - f .stage) ≡ ring
-    ring-is = rw size (written-there staged within)
+    ring-is = rw (size, st .written) (sets-there ring ix (f .stage) within)
 
     tail-kept : drop (f .limit) ix₁ ≡ drop (f .limit) ix
-    tail-kept = written-past (f .limit) staged (omega (arith, before-numbers))
+    tail-kept = ap (drop (f .limit)) (st .written) ∙ drop-sets (f .limit) ring ix (f .stage) (omega (arith, before-numbers))
 
     pub ringed : Ringed f site p end v ix₁ off
     ringed =
@@ -122,7 +121,7 @@ module _ {tri he : List ℕ} {f : Frame} {off : List ℕ} {g : Ground} {s : Cell
           some = omega (arith, st .ended);
           room = rw size (record {
             holds = rw tail-kept (a .holds);
-            list = omega (arith, staged .long, on .room-ix);
+            list = omega (arith, same-long, on .room-ix);
             ends = omega (arith, before-numbers);
             fits = record {
               four = sym (ap length (a .owners)) ∙ a .held .four;
@@ -132,7 +131,7 @@ module _ {tri he : List ℕ} {f : Frame} {off : List ℕ} {g : Ground} {s : Cell
             verts = omega (arith, room, on .room-v);
             small = omega (arith, room, on .few-entries, on .few-on-hull, threes on);
             corners = omega (arith, corners-in, on .centers);
-            below = λ j h. rw (staged .entries j h) (below j h);
+            below = λ j h. rw (st .written, sets-in ring ix (f .stage) j 0 within h) (below j h);
           });
         }
 
@@ -150,18 +149,14 @@ module _ {tri he : List ℕ} {f : Frame} {off : List ℕ} {g : Ground} {s : Cell
       before-limit : f .stage ≤ f .limit
       before-limit = omega (arith, a .on .stage, a .on .limit)
 
-      size-taken : length (take (f .limit) ix₁) ≡ f .limit
-      size-taken = length-take-le (f .limit) ix₁ (omega (arith, staged .long, a .on .room-ix))
-
-      written : Written (take (f .limit) ix₁) (getD off site 0) (unmarked (c .new)) (take (f .limit) ix₂)
-      written = rw slice (sets-written (unmarked (c .new)) (take (f .limit) ix₁) (getD off site 0) (omega (arith, size-taken, region-fits, region-within (a .on) (suc site) l, before-limit)))
-
-      -- before the stage the list of the beginning and the one that was staged agree
-      taken-same : (k : ℕ) → k < f .stage → getD (take (f .limit) ix₁) k 0 ≡ getD ix k 0
-      taken-same k h = getD-take (f .limit) ix₁ k 0 (omega (arith, before-limit)) ∙ staged .before k h
-
-      over : Written ix (getD off site 0) (unmarked (c .new)) (sets ix (getD off site 0) (unmarked (c .new)))
-      over = sets-written (unmarked (c .new)) ix (getD off site 0) (omega (arith, region-fits, region-within (a .on) (suc site) l, within))
+      -- before the stage nothing but the cell has been written
+      cell-written : take (f .stage) ix₂ ≡ take (f .stage) (sets ix (getD off site 0) (unmarked (c .new)))
+      cell-written =
+          sym (take-take (f .stage) (f .limit) ix₂ before-limit)
+          ∙ ap (take (f .stage)) slice
+          ∙ take-sets (f .stage) (unmarked (c .new)) (take (f .limit) ix₁) (getD off site 0)
+          ∙ ap (λ (x : List ℕ). sets x (getD off site 0) (unmarked (c .new))) (take-take (f .stage) (f .limit) ix₁ before-limit ∙ ap (take (f .stage)) (st .written) ∙ take-sets-le (f .stage) ring ix (f .stage) (omega arith))
+          ∙ sym (take-sets (f .stage) (unmarked (c .new)) ix (getD off site 0))
 
       entries-real : (i : ℕ) → i < length (unmarked (c .new)) → getD (unmarked (c .new)) i 0 ≢ EMPTY
       entries-real i h =
@@ -171,12 +166,12 @@ module _ {tri he : List ℕ} {f : Frame} {off : List ℕ} {g : Ground} {s : Cell
       regions-after : Regions ix₂ off (map unmarked (after c .cells))
       regions-after =
           let wide : length (map unmarked (after c .cells)) ≡ g .sites = length-map (after c .cells) unmarked ∙ held .width in
-          let r = cell-set ix off (s .cells) (a .regions) site (rw (a .held .width) l) (sets ix (getD off site 0) (unmarked (c .new))) (c .new) blank region-fits entries-real over in
+          let r = cell-set ix off (s .cells) (a .regions) site (rw (a .held .width) l) (sets ix (getD off site 0) (unmarked (c .new))) (c .new) blank region-fits entries-real refl in
           regions-agree r
-          (rw (wide, last-start (a .on)) (omega (arith, long-ix, staged .long, within)))
+          (rw (wide, last-start (a .on)) (omega (arith, long-ix, same-long, within)))
           (λ k h.
           let j : k < f .stage = rw (wide, last-start (a .on)) at h in
-          sym (getD-take (f .limit) ix₂ k 0 (omega (arith, before-limit))) ∙ written-agree (f .stage) written over taken-same k j)
+          sym (getD-take (f .stage) ix₂ k 0 j) ∙ ap (λ (x : List ℕ). getD x k 0) cell-written ∙ getD-take (f .stage) (sets ix (getD off site 0) (unmarked (c .new))) k 0 j)
 
       numbers-after : (i : ℕ) → i < length (g .hull) → getD ix₂ (f .limit - length (g .hull) + i) 0 ≡ getD (g .x .at) i 0
       numbers-after i h =
@@ -184,9 +179,9 @@ module _ {tri he : List ℕ} {f : Frame} {off : List ℕ} {g : Ground} {s : Cell
           let low : f .stage + length ring ≤ k = omega (arith, before-numbers) in
           let high : k < f .limit = omega (arith, a .on .limit) in
           sym (getD-take (f .limit) ix₂ k 0 high)
-          ∙ written .behind k (omega (arith, low, region-fits, region-within (a .on) (suc site) l))
+          ∙ rw slice (sets-behind (unmarked (c .new)) (take (f .limit) ix₁) (getD off site 0) k 0 (omega (arith, low, region-fits, region-within (a .on) (suc site) l)))
           ∙ getD-take (f .limit) ix₁ k 0 high
-          ∙ staged .behind k low
+          ∙ rw (st .written) (sets-behind ring ix (f .stage) k 0 low)
           ∙ a .numbers i h
 
     pub tried : {r : Progress} {v₂ : List Float} {ix₂ : List ℕ} → length v₂ ≡ length v → length ix₂ ≡ length ix₁ → Tried f site p end v ix₁ off r v₂ ix₂ → Does tri he f off g (clipInto (f .bounds) (length tri / 3) site ring s) r v₂ ix₂
@@ -203,7 +198,7 @@ module _ {tri he : List ℕ} {f : Frame} {off : List ℕ} {g : Ground} {s : Cell
         go : (o : Outcome Fault Part) → Gives (λ (q : Cells). Good q × ((k : ℕ) → k ≢ site → getD (q .cells) k [] ≡ getD (s .cells) k [])) (andThen o (λ c. ok (after c))) → Steps (envOf f site) (end - f .stage) o (p .count) (emptyAt (p .owners) (getD off site 0)) v ix₁ (t .stepped) v₂ ix₂ → Does tri he f off g (andThen o (λ c. ok (after c))) r v₂ ix₂
         go (ok c) h q =
             rw (t .is) (record {
-              on = rw (long-v, long-ix, staged .long) (a .on);
+              on = rw (long-v, long-ix, same-long) (a .on);
               held = h .0;
               fine = q .0;
               verts = ap (λ (x : Def.Tip). x .verts) (q .1);

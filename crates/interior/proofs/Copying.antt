@@ -6,8 +6,8 @@ use native.Mathlib.Omega.{arith}
 use native.Mathlib.Nat.{add-zero}
 use native.Mathlib.Numerals.{add-one}
 use lib.ListN.{length, getD, set, take, drop, length-set}
-use lib.Seq.{sets, sets-eq, paste, paste-zero, paste-suc, length-paste, getD-take, length-take-le, take-length, take-take}
-use Rattle.layout.proofs.Filling.{paste-written}
+use lib.Seq.{sets, getD-take, length-take-le, take-all}
+use Rattle.laws.specs.Stores.{sets-more, sets-behind}
 use Rattle.definition.specs.Cell.{turned}
 use Rattle.clipping.specs.Steps.{ringOf}
 use Rattle.clipping.proofs.Rounds.{length-ring, getD-ring}
@@ -32,7 +32,7 @@ module _ (ring : List ℕ) where
 -- ---- the loop: k entries are copied, and entry k stands at place `at` of the ring
 pub record Copied (old : List ℕ) (base ring len : ℕ) (new : List ℕ) (k at : ℕ) : Type 0 where
   pub few : k ≤ len
-  pub written : new ≡ paste old base (ringCell (ringOf old ring len)) k
+  pub written : new ≡ sets old base (take k (ringCell (ringOf old ring len)))
   pub long : length new ≡ length old
   pub next : k < len → (at < len) × (getD (ringCell (ringOf old ring len)) k 0 ≡ getD (ringOf old ring len) at 0)
 
@@ -50,14 +50,12 @@ module _ (old : List ℕ) (base ring len : ℕ) (apart : base + len ≤ ring) (w
   kept : (new : List ℕ) (k at j : ℕ) → Copied old base ring len new k at → j < len → getD new (ring + j) 0 ≡ getD (ringOf old ring len) j 0
   kept new k at j c h =
       let t : length (take k cell) ≡ k = length-take-le k cell (omega (arith, cell-size, c .few)) in
-      let w = paste-written (take k cell) old base (omega (arith, t, c .few)) in
-      let q : paste old base (take k cell) (length (take k cell)) ≡ new = rw t (rw (take-take k k cell (omega arith)) (sym (c .written))) in
-      ap (λ (l : List ℕ). getD l (ring + j) 0) (sym q) ∙ w .behind (ring + j) (omega (arith, t, c .few)) ∙ sym (getD-ring old ring len j h)
+      rw (c .written) (sets-behind (take k cell) old base (ring + j) 0 (omega (arith, t, c .few))) ∙ sym (getD-ring old ring len j h)
 
   pub copied-none : Copied old base ring len old 0 0
   copied-none = record {
     few = omega arith;
-    written = paste-zero old base cell;
+    written = refl;
     long = refl;
     next = λ h. (h, cell-first (ringOf old ring len) (rw size h));
   }
@@ -67,12 +65,11 @@ module _ (old : List ℕ) (base ring len : ℕ) (apart : base + len ≤ ring) (w
       let r : getD cell k 0 ≡ x = c .next h .1 ∙ sym (kept new k at at c (c .next h .0)) ∙ sym q in
       record {
         few = omega arith;
-        written = rw (← r, c .written, add-one k) (paste-suc old base cell k 0 (omega arith) (rw cell-size h));
+        written = rw (← r, c .written, add-one k) (sets-more cell old base k 0 (rw cell-size h));
         long = length-set new (base + k) x ∙ c .long;
         next = λ l. (omega arith, cell-later (ringOf old ring len) (k + 1) (omega arith) (rw size l) ∙ ap (λ (m : ℕ). getD (ringOf old ring len) (m - (k + 1)) 0) size);
       }
 
   pub copied-all : (new : List ℕ) (k at : ℕ) → len ≤ k → Copied old base ring len new k at → new ≡ sets old base cell
   copied-all new k at h c =
-      let q : k ≡ length cell = omega (arith, cell-size, c .few) in
-      c .written ∙ rw (q, take-length cell) (sym (sets-eq cell old base (omega (arith, cell-size))))
+      c .written ∙ ap (sets old base) (take-all k cell (omega (arith, cell-size, c .few)))

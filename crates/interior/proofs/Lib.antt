@@ -1,4 +1,3 @@
-pub mod Agreeing
 pub mod Scanning
 pub mod Copying
 pub mod Staying

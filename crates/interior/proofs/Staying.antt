@@ -6,15 +6,14 @@ use Prim.Native.Nat.{ℕ, zero, suc, _+_, _-_, _*_, _≤_, _<_}
 use native.Mathlib.Omega.{arith}
 use lib.Ieee.{Float}
 use lib.ListN.{length, getD, take, drop, length-map}
-use lib.Seq.{sets, getD-take, length-take-le, ext-getD}
+use lib.Seq.{sets}
+use Rattle.laws.specs.Stores.{take-sets, drop-sets}
 use borrow.Author.Tests.{lt-ltb}
 use Rattle.laws.specs.Count.{occ}
 use Rattle.utils.specs.declared.Point.{Point}
 use Rattle.utils.specs.Flat.{points}
 use Rattle.bounding_box.specs.declared.BoundingBox.{BoundingBox}
 use Rattle.vertices.proofs.Store.{poured-none}
-use Rattle.layout.specs.Regions.{Written}
-use Rattle.layout.proofs.Filling.{sets-written}
 use Rattle.mesh.specs.Mesh.{EMPTY}
 use Rattle.definition.specs.Fault.{Outcome, ok, refused, andThen, fault, atEdge}
 use Rattle.definition.specs.declared.Fault.{Fault}
@@ -29,7 +28,6 @@ use Rattle.clipping.proofs.Steps.{step-stay}
 use Rattle.clipping.proofs.Rounds.{length-ring, getD-ring, cell-inside}
 use Rattle.clipping.proofs.Turning.{length-turned, turned-back}
 use Rattle.interior.specs.Interior.{AllInside, ringCell}
-use Rattle.interior.proofs.Agreeing.{written-agree, written-past}
 
 -- the entries of a walk from p along qs, and where it ends
 abbrev pub plains : ℕ → List ℕ → List Entry
@@ -124,26 +122,12 @@ module _ (env : Env) (count : ℕ) (owners : List ℕ) (base ring len : ℕ) (v 
     copied : ix₁ ≡ sets ix base (off entries)
     copied = rw written-off q
 
-    over : Written ix base (off entries) ix₁
-    over = rw copied (sets-written (off entries) ix base (omega (arith, fits, m .list)))
-
-    part-size : length (take (env .limit) ix) ≡ env .limit
-    part-size = length-take-le (env .limit) ix (m .list)
-
-    over-part : Written (take (env .limit) ix) base (off entries) (sets (take (env .limit) ix) base (off entries))
-    over-part = sets-written (off entries) (take (env .limit) ix) base (omega (arith, fits, part-size))
-
-    -- before the store's part
+    -- before the store's part, and there
     body : take (env .limit) ix₁ ≡ sets (take (env .limit) ix) base (off entries)
-    body =
-        let l : length (take (env .limit) ix₁) ≡ env .limit = length-take-le (env .limit) ix₁ (omega (arith, over .long, m .list)) in
-        ext-getD 0 (take (env .limit) ix₁) (sets (take (env .limit) ix) base (off entries)) (l ∙ sym (over-part .long ∙ part-size))
-        (λ i h.
-        let j : i < env .limit = rw l at h in
-        getD-take (env .limit) ix₁ i 0 j ∙ written-agree (env .limit) over over-part (λ k g. sym (getD-take (env .limit) ix k 0 g)) i j)
+    body = ap (take (env .limit)) copied ∙ take-sets (env .limit) (off entries) ix base
 
     tail : drop (env .limit) ix₁ ≡ drop (env .limit) ix
-    tail = written-past (env .limit) over fits
+    tail = ap (drop (env .limit)) copied ∙ drop-sets (env .limit) (off entries) ix base fits
 
     pub stays : Steps env len (clipCell (env .bounds) (env .centers) (env .site) around (points count v) owners) count (emptyAt owners base) v ix answer v ix₁
     stays = rw outcome (

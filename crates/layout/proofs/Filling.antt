@@ -7,33 +7,13 @@ use native.Mathlib.Nat.{add-zero}
 use native.Mathlib.Numerals.{add-one}
 use native.Mathlib.Omega.{arith}
 use lib.ListN.{length, getD, set, take, drop, replicate, length-set, length-replicate, getD-replicate}
-use lib.Seq.{getD-set-same, getD-set-other, sets, sets-eq, paste, take-length}
+use lib.Seq.{getD-set-same, getD-set-other, sets, length-sets}
 use Rattle.laws.specs.Decide.{lt-or-ge, eq-or-ne}
+use Rattle.laws.specs.Stores.{sets-in, sets-before, sets-behind}
 use Rattle.laws.specs.Count.{sumTo, sum-mono}
 use Rattle.mesh.specs.Mesh.{EMPTY}
-use Rattle.layout.specs.Regions.{Region, Regions, Rising, Written}
+use Rattle.layout.specs.Regions.{Region, Regions, Rising}
 use Rattle.layout.specs.Rooms.{startOf, Started}
-
--- ---- a list written over another
-written-next : (x : ℕ) (c idx new : List ℕ) (at : ℕ) → at < length idx → Written (set idx at x) (suc at) c new → Written idx at (x ∷ c) new
-written-next x c idx new at h w = record {
-  long = w .long ∙ length-set idx at x;
-  before = λ k l. w .before k (omega arith) ∙ getD-set-other idx at k x 0 (λ q. omega arith);
-  entries = at-each;
-  behind = λ k l. w .behind k (omega arith) ∙ getD-set-other idx at k x 0 (λ q. omega arith);
-}
-  where
-    at-each : (i : ℕ) → i < suc (length c) → getD new (at + i) 0 ≡ getD (x ∷ c) i 0
-    at-each zero l = rw (add-zero at) (w .before at (omega arith) ∙ getD-set-same idx at x 0 h)
-    at-each (suc i) l = let q : at + suc i ≡ suc at + i = omega arith in rw q (w .entries i (omega arith))
-
-pub sets-written : (c idx : List ℕ) (at : ℕ) → at + length c ≤ length idx → Written idx at c (sets idx at c)
-sets-written [] idx at h = record { long = refl; before = λ k l. refl; entries = λ i l. absurd (omega arith); behind = λ k l. refl }
-sets-written (x ∷ c) idx at h =
-    written-next x c idx (sets idx at (x ∷ c)) at (omega arith) (sets-written c (set idx at x) (suc at) (rw (length-set idx at x) (omega arith)))
-
-pub paste-written : (c idx : List ℕ) (at : ℕ) → at + length c ≤ length idx → Written idx at c (paste idx at c (length c))
-paste-written c idx at h = rw (take-length c, ← sets-eq c idx at h) (sets-written c idx at h)
 
 -- ---- one region
 region-same : {idx : List ℕ} (new : List ℕ) {a b : ℕ} {c : List ℕ} → Region idx a b c → ((k : ℕ) → a ≤ k → k < b → getD new k 0 ≡ getD idx k 0) → Region new a b c
@@ -69,25 +49,31 @@ module _ (idx starts : List ℕ) (cells : List (List ℕ)) (r : Regions idx star
   pub regions-rising : Rising starts (length cells) (length idx)
   regions-rising = record { long = r .one-more; rise = λ s h. starts-order s (s + 1) (omega arith) (omega arith); within = r .within }
 
-  module _ (new : List ℕ) (s : ℕ) (c : List ℕ) (l : s < length cells) (blank : getD cells s [] ≡ []) (room : getD starts s 0 + length c ≤ getD starts (suc s) 0) (real : (i : ℕ) → i < length c → getD c i 0 ≢ EMPTY) (w : Written idx (getD starts s 0) c new) where
+  module _ (new : List ℕ) (s : ℕ) (c : List ℕ) (l : s < length cells) (blank : getD cells s [] ≡ []) (room : getD starts s 0 + length c ≤ getD starts (suc s) 0) (real : (i : ℕ) → i < length c → getD c i 0 ≢ EMPTY) (w : new ≡ sets idx (getD starts s 0) c) where
+    fits : getD starts s 0 + length c ≤ length idx
+    fits = omega (arith, region-ends s l)
+
+    long : length new ≡ length idx
+    long = ap length w ∙ length-sets idx (getD starts s 0) c
+
     filled : Region new (getD starts s 0) (getD starts (suc s) 0) c
     filled = record {
       fits = room;
-      entries = w .entries;
+      entries = λ i h. rw w (sets-in c idx (getD starts s 0) i 0 fits h);
       real = real;
-      after = λ k h g. w .behind k h ∙ r .each s l .after k (omega (arith, ap length blank)) g;
+      after = λ k h g. rw w (sets-behind c idx (getD starts s 0) k 0 h) ∙ r .each s l .after k (omega (arith, ap length blank)) g;
     }
 
     other : (t : ℕ) → t < length cells → t ≢ s → (k : ℕ) → getD starts t 0 ≤ k → k < getD starts (suc t) 0 → getD new k 0 ≡ getD idx k 0
     other t lt ne k a b =
         ⊎-elim
-        (λ h. w .before k (omega (arith, starts-order (suc t) s h (omega arith))))
-        (λ h. w .behind k (omega (arith, starts-order (suc s) t (omega arith) (omega arith))))
+        (λ h. rw w (sets-before c idx (getD starts s 0) k 0 (omega (arith, starts-order (suc t) s h (omega arith)))))
+        (λ h. rw w (sets-behind c idx (getD starts s 0) k 0 (omega (arith, starts-order (suc s) t (omega arith) (omega arith)))))
         (lt-or-ge t s)
 
     -- the cell of site s, empty so far, is written into its region
     pub regions-set : Regions new starts (set cells s c)
-    regions-set = record { one-more = rw (length-set cells s c) (r .one-more); within = rw (length-set cells s c, w .long) (r .within); each = each }
+    regions-set = record { one-more = rw (length-set cells s c) (r .one-more); within = rw (length-set cells s c, long) (r .within); each = each }
       where
         each : (t : ℕ) → t < length (set cells s c) → Region new (getD starts t 0) (getD starts (suc t) 0) (getD (set cells s c) t [])
         each t h =

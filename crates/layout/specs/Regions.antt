@@ -29,13 +29,6 @@ pub record Regions (idx starts : List ℕ) (cells : List (List ℕ)) : Type 0 wh
   pub within : getD starts (length cells) 0 ≤ length idx
   pub each : (s : ℕ) → s < length cells → Region idx (getD starts s 0) (getD starts (suc s) 0) (getD cells s [])
 
--- c written over idx from `at` on
-pub record Written (idx : List ℕ) (at : ℕ) (c new : List ℕ) : Type 0 where
-  pub long : length new ≡ length idx
-  pub before : (k : ℕ) → k < at → getD new k 0 ≡ getD idx k 0
-  pub entries : (i : ℕ) → i < length c → getD new (at + i) 0 ≡ getD c i 0
-  pub behind : (k : ℕ) → at + length c ≤ k → getD new k 0 ≡ getD idx k 0
-
 -- from..r holds entries alone, and at r the region from..to has EMPTY or its end
 pub record Filled (idx : List ℕ) (from to r : ℕ) : Type 0 where
   pub low : from ≤ r

@@ -7,7 +7,8 @@ use Prim.Native.Nat.{ℕ, zero, suc, _+_, _≤_, _<_}
 use native.Mathlib.Omega.{arith}
 use lib.ListN.{length, getD, set, replicate, length-map, List·getD-map}
 use Rattle.mesh.specs.Mesh.{EMPTY}
-use Rattle.layout.specs.Regions.{Region, Regions, Written}
+use lib.Seq.{sets}
+use Rattle.layout.specs.Regions.{Region, Regions}
 use Rattle.layout.proofs.Filling.{begins-empty, begins-full, regions-set}
 use Rattle.definition.specs.Cell.{Entry}
 use Rattle.definition.specs.Build.{isEmpty}
@@ -50,7 +51,7 @@ module _ (ix starts : List ℕ) (cells : List (List Entry)) (r : Regions ix star
       → getD cells s [] ≡ []
       → getD starts s 0 + length (unmarked c) ≤ getD starts (suc s) 0
       → ((i : ℕ) → i < length (unmarked c) → getD (unmarked c) i 0 ≢ EMPTY)
-      → Written ix (getD starts s 0) (unmarked c) new
+      → new ≡ sets ix (getD starts s 0) (unmarked c)
       → Regions new starts (map unmarked (set cells s c))
   cell-set new c blank room real w =
       rw (set-unmarked cells s c) (regions-set ix starts (map unmarked cells) r new s (unmarked c) in-cells (at-site ∙ ap unmarked blank) room real w)

@@ -8,7 +8,8 @@ use native.Mathlib.Numerals.{add-one}
 use native.Mathlib.Omega.{arith}
 use lib.Ieee.{Float}
 use lib.ListN.{length, getD, set, take, drop, length-set, length-append}
-use lib.Seq.{paste, paste-zero, paste-suc, take-set-lt, drop-set-lt, take-append-le, getD-append-seam, length-take-le, take-all}
+use lib.Seq.{sets, take-set-lt, drop-set-lt}
+use Rattle.laws.specs.Stores.{sets-join}
 use Rattle.utils.specs.Flat.{points}
 use Rattle.utils.specs.declared.Point.{Point}
 use Rattle.vertices.specs.Add.{addVertex}
@@ -24,16 +25,6 @@ use Rattle.definition.specs.Build.{finite, extended, Extensions, extensions, ex
 use Rattle.rings.specs.Extensions.{Extended, ExtendedBy, ExtendsInto}
 use Rattle.rings.specs.declared.extensions.Passed.{Passed}
 
--- one number more is pasted
-pub paste-snoc : (d : List ℕ) (at : ℕ) (xs : List ℕ) (y : ℕ) → at + length xs < length d → set (paste d at xs (length xs)) (at + length xs) y ≡ paste d at (xs ++ y ∷ []) (length (xs ++ y ∷ []))
-paste-snoc d at xs y h =
-    let i = length xs in
-    let l : length (xs ++ y ∷ []) ≡ suc i = length-append xs (y ∷ []) ∙ omega arith in
-    let t : take i (xs ++ y ∷ []) ≡ take i xs = take-append-le i xs (y ∷ []) (omega arith) in
-    let g : getD (xs ++ y ∷ []) i 0 ≡ y = getD-append-seam xs y [] 0 in
-    let s : set (paste d at (xs ++ y ∷ []) i) (at + i) (getD (xs ++ y ∷ []) i 0) ≡ paste d at (xs ++ y ∷ []) (suc i) = paste-suc d at (xs ++ y ∷ []) i 0 h (omega (arith, l)) in
-    cc
-
 module _ (sites : List Float) (tri hull table : List ℕ) (nc limit at count : ℕ) (v₀ : List Float) (ix₀ : List ℕ) where
   pub record Extending (v : List Float) (ix : List ℕ) (n i : ℕ) : Type 0 where
     pub within : i ≤ length hull
@@ -44,7 +35,7 @@ module _ (sites : List Float) (tri hull table : List ℕ) (nc limit at count : �
         extendFrom sites tri hull table nc 0 (length hull) (extensions (points count v₀) [] [])
         ≡ extendFrom sites tri hull table nc i (length hull - i) (extensions (points n v) xs ts)
     pub verts : Poured (points n v) v₀ n v
-    pub numbers : take limit ix ≡ paste (take limit ix₀) at xs (length xs)
+    pub numbers : take limit ix ≡ sets (take limit ix₀) at xs
     pub holds : Holds nc n v (drop limit ix)
     pub grown : n ≤ count + i
     pub long-v : length v ≡ length v₀
@@ -58,7 +49,7 @@ module _ (sites : List Float) (tri hull table : List ℕ) (nc limit at count : �
     xs-long = refl;
     whole = rw sub-zero;
     verts = poured-none count v₀ (h .room);
-    numbers = paste-zero (take limit ix₀) at [];
+    numbers = refl;
     holds = h;
     grown = omega arith;
     long-v = refl;
@@ -106,11 +97,9 @@ module _ (sites : List Float) (tri hull table : List ℕ) (nc limit at count : �
           rest ∙ rw (← q, b) in
           rw (stand, a .at) (subst (λ k. extendFrom sites tri hull table nc 0 (length hull) (extensions (points count v₀) [] []) ≡ extendFrom sites tri hull table nc k (length hull - (i + 1)) (extensions (addVertex nc (points n v) p .verts) (g .xs ++ addVertex nc (points n v) p .at ∷ []) (g .ts ++ took extension (addVertex nc (points n v) p) ∷ []))) (sym (add-one i)) more)
 
-      step-numbers : take limit (set ix₁ (at + i) (r .at)) ≡ paste (take limit ix₀) at (g .xs ++ r .at ∷ []) (length (g .xs ++ r .at ∷ []))
+      step-numbers : take limit (set ix₁ (at + i) (r .at)) ≡ sets (take limit ix₀) at (g .xs ++ r .at ∷ [])
       step-numbers =
-          let e : length (g .xs) ≡ i = g .xs-long in
-          let t : length (take limit ix₀) ≡ limit = length-take-le limit ix₀ (x .limited) in
-          let s = paste-snoc (take limit ix₀) at (g .xs) (r .at) (omega (arith, t, e, x .room-ix)) in
+          let s : set (sets (take limit ix₀) at (g .xs)) (at + i) (r .at) ≡ sets (take limit ix₀) at (g .xs ++ r .at ∷ []) = sets-join (g .xs) (r .at ∷ []) (take limit ix₀) at (at + i) (omega (arith, g .xs-long)) in
           take-set-lt limit ix₁ (at + i) (r .at) (omega (arith, x .room-ix)) ∙ cc (l .body, g .numbers)
 
       pub extending-step : (y : ℕ) → y ≡ r .at → Extending v₁ (set ix₁ (at + i) y) (r .count) (i + 1)

@@ -6,34 +6,27 @@ use Prim.Native.Nat.{ℕ, zero, suc, _+_, _-_, _≤_, _<_}
 use native.Mathlib.Omega.{arith}
 use native.Mathlib.Nat.{add-zero}
 use lib.ListN.{length, getD, set, take, drop, length-set, length-append}
-use lib.Seq.{paste, take-suc-set, drop-set-lt, length-paste, getD-drop}
+use lib.Seq.{sets, length-sets, getD-drop}
+use native.Mathlib.Numerals.{add-one}
+use Rattle.laws.specs.Stores.{sets-join}
 use borrow.Author.Tests.{eq-eqb, ne-eqb}
 use Rattle.definition.specs.Build.{ringFrom, hullRing}
 use Rattle.rings.specs.Staging.{Staged, Stages}
-use Rattle.rings.proofs.Extending.{paste-snoc}
 
 -- a store, then a list right after it
-paste-cons : (d : List ℕ) (at y : ℕ) (l : List ℕ) (n : ℕ) → at < length d → paste (set d at y) (at + 1) l n ≡ paste d at (y ∷ l) (suc n)
-paste-cons d at y l n h =
-    let t : take (suc at) (set d at y) ≡ take at d ++ (y ∷ []) = take-suc-set d at y h in
-    let r : drop (at + suc n) (set d at y) ≡ drop (at + suc n) d = drop-set-lt (at + suc n) d at y (omega arith) in
-    let k : at + 1 + n ≡ at + suc n = omega arith in
-    let s : at + 1 ≡ suc at = omega arith in
-    rw (k, r) (subst (λ j. take j (set d at y) ++ take n l ++ drop (at + suc n) d ≡ take at d ++ take (suc n) (y ∷ l) ++ drop (at + suc n) d) (sym s) (rw (t, append-assoc (take at d) (y ∷ []) (take n l))))
-
 pub staged-cons : (l : List ℕ) (at y : ℕ) (old new : List ℕ) (end : ℕ) → at < length old → Staged l (at + 1) (set old at y) new end → Staged (y ∷ l) at old new end
 staged-cons l at y old new end h s = record {
   ended = omega (arith, s .ended);
-  written = s .written ∙ paste-cons old at y l (length l) h;
+  written = s .written ∙ ap (λ (k : ℕ). sets (set old at y) k l) (add-one at);
 }
 
 pub staged-long : (l : List ℕ) (at : ℕ) (old new : List ℕ) (end : ℕ) → at + length l ≤ length old → Staged l at old new end → length new ≡ length old
-staged-long l at old new end h s = ap length (s .written) ∙ length-paste old at l (length l) h (omega arith)
+staged-long l at old new end h s = ap length (s .written) ∙ length-sets old at l
 
 pub staged-snoc : (l : List ℕ) (at y : ℕ) (old new : List ℕ) (end : ℕ) → at + length l < length old → Staged l at old new end → Staged (l ++ y ∷ []) at old (set new end y) (end + 1)
 staged-snoc l at y old new end h s = record {
   ended = omega (arith, s .ended, length-append l (y ∷ []));
-  written = rw (s .ended, s .written) (paste-snoc old at l y h);
+  written = rw (s .ended, s .written) (sets-join l (y ∷ []) old at (at + length l) refl);
 }
 
 -- the ring of a hull place is what the two functions stage

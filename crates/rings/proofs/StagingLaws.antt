@@ -6,7 +6,8 @@ use Prim.Native.Nat.{ℕ, zero, suc, _+_, _-_, _/_, _≤_, _<_}
 use native.Mathlib.Omega.{arith}
 use native.Mathlib.Nat.{add-zero}
 use lib.ListN.{length, getD, set, drop, take, length-set, length-drop, List·getD-map}
-use lib.Seq.{paste, paste-zero, paste-suc, length-paste, drop-drop, getD-drop, drop-length}
+use lib.Seq.{sets, take-all, drop-drop, getD-drop, drop-length}
+use Rattle.laws.specs.Stores.{sets-more}
 use Rattle.laws.specs.Decide.{lt-or-ge}
 use Rattle.mesh.specs.Mesh.{turnOf, wholeOf, Paired}
 use Rattle.mesh.specs.Laws.{walk-done}
@@ -32,7 +33,7 @@ module _ (tri he : List ℕ) (s at : ℕ) (old : List ℕ) where
     pub rest : drop (n - at) (wholeOf he s) ≡ restOf he s e
     pub settled : Settled he s e
     pub reach : n - at ≤ length (wholeOf he s)
-    pub written : new ≡ paste old at (ringFrom he s) (n - at)
+    pub written : new ≡ sets old at (take (n - at) (ringFrom he s))
     pub long : length new ≡ length old
 
   pub staging-start : Paired tri he → (e : ℕ) → e ≡ s → Staging old e at
@@ -43,7 +44,7 @@ module _ (tri he : List ℕ) (s at : ℕ) (old : List ℕ) where
         rest = rw z;
         settled = settled-start tri he ok s;
         reach = omega arith;
-        written = rw z (paste-zero old at (ringFrom he s));
+        written = rw z refl;
         long = refl;
       })
 
@@ -74,8 +75,8 @@ module _ (tri he : List ℕ) (s at : ℕ) (old : List ℕ) where
     staging-step room v x qv qx =
         let k : n + 1 - at ≡ suc (n - at) = omega (arith, g .low) in
         let p : at + (n - at) ≡ n = omega (arith, g .low) in
-        let w : set (paste old at (ringFrom he s) (n - at)) (at + (n - at)) (getD (ringFrom he s) (n - at) 0) ≡ paste old at (ringFrom he s) (suc (n - at)) =
-        paste-suc old at (ringFrom he s) (n - at) 0 (omega (arith, next-entry .0)) (rw (length-map (λ f. f / 3) (wholeOf he s)) (next-entry .0)) in
+        let w : set (sets old at (take (n - at) (ringFrom he s))) (at + (n - at)) (getD (ringFrom he s) (n - at) 0) ≡ sets old at (take (suc (n - at)) (ringFrom he s)) =
+        sets-more (ringFrom he s) old at (n - at) 0 (rw (length-map (λ f. f / 3) (wholeOf he s)) (next-entry .0)) in
         rw qx (record {
           low = omega (arith, g .low);
           rest = rw k (next-entry .2);
@@ -89,4 +90,4 @@ module _ (tri he : List ℕ) (s at : ℕ) (old : List ℕ) where
   staging-end new e n g h =
       let all : n - at ≡ length (wholeOf he s) = omega (arith, g .reach, length-drop (n - at) (wholeOf he s), ap length (g .rest ∙ rest-done he s e h)) in
       let long : length (ringFrom he s) ≡ n - at = length-map (λ f. f / 3) (wholeOf he s) ∙ sym all in
-      record { ended = omega (arith, long, g .low); written = rw long (g .written) }
+      record { ended = omega (arith, long, g .low); written = g .written ∙ ap (sets old at) (take-all (n - at) (ringFrom he s) (omega (arith, long))) }

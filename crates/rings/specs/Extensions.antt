@@ -4,7 +4,7 @@ use mathlib.Core.List.{List}
 use Prim.Native.Nat.{ℕ, _+_, _*_, _/_, _^_, _≤_, _<_}
 use lib.Ieee.{Float}
 use lib.ListN.{length, getD, take, drop}
-use lib.Seq.{paste}
+use lib.Seq.{sets}
 use Rattle.laws.specs.Binary64.{_⊞_, _⊟_, _⊠_, _⊘_, one}
 use Rattle.root.specs.Sqrt.{sqrtOf}
 use Rattle.utils.specs.Plane.{at}
@@ -55,7 +55,7 @@ pub record ExtendsInto (sites : List Float) (tri hull table : List ℕ) (nc coun
 -- all extensions are there: their vertices, and from `at` on their numbers; the index list before `limit` is else as it was
 pub record Extended (nc limit at : ℕ) (x : Extensions) (v : List Float) (ix : List ℕ) (r : Passed) (v₁ : List Float) (ix₁ : List ℕ) : Type 0 where
   pub verts : Poured (x .verts) v (r .count) v₁
-  pub numbers : take limit ix₁ ≡ paste (take limit ix) at (x .at) (length (x .at))
+  pub numbers : take limit ix₁ ≡ sets (take limit ix) at (x .at)
   pub holds : Holds nc (r .count) v₁ (drop limit ix₁)
 
 -- of h hull places: all of them, or the lowest whose extension is not finite

@@ -3,13 +3,13 @@ use mathlib.Core.Path.{_≡_}
 use mathlib.Core.List.{List}
 use Prim.Native.Nat.{ℕ, _+_, _≤_, _<_}
 use lib.ListN.{length, getD}
-use lib.Seq.{paste}
+use lib.Seq.{sets}
 use Rattle.mesh.specs.Mesh.{Paired}
 
 -- l stands from `at` on, `end` is the place after it, and nothing else has changed
 pub record Staged (l : List ℕ) (at : ℕ) (old new : List ℕ) (end : ℕ) : Type 0 where
   pub ended : end ≡ at + length l
-  pub written : new ≡ paste old at l (length l)
+  pub written : new ≡ sets old at l
 
 -- what staging the ring of hull place i needs: the stage before the extensions' numbers, and those within the list
 pub record Stages (tri he hull table ix : List ℕ) (at xs i : ℕ) : Type 0 where

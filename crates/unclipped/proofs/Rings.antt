@@ -11,14 +11,15 @@ use native.Mathlib.Omega.{arith}
 use lib.ListN.{length, getD, set, length-set, length-map, length-reverse, List·getD-map}
 use Rattle.laws.specs.Pick.{pick}
 use Rattle.laws.specs.Decide.{lt-or-ge}
+use lib.Seq.{sets, length-sets}
+use Rattle.laws.specs.Stores.{sets-in, sets-before, sets-behind, sets-ext}
 use Rattle.laws.specs.Count.{occ, occ-length}
 use Rattle.mesh.specs.Mesh.{EMPTY, endOf, turnOf, walkOf, wholeOf}
 use Rattle.mesh.specs.Laws.{walk-go}
 use Rattle.mesh.specs.Walks.{walk-ends}
 use Rattle.iterator.specs.Used.{occ-there}
 use Rattle.layout.specs.Degree.{walk-degree}
-use Rattle.layout.specs.Regions.{Regions, Written}
-use Rattle.layout.proofs.Filling.{paste-written}
+use Rattle.layout.specs.Regions.{Regions}
 use Rattle.definition.specs.Cell.{Entry, entry, plain}
 use Rattle.definition.specs.Build.{ringFrom, isEmpty}
 use Rattle.definition.specs.Unclipped.{ringCell, ringsFrom}
@@ -30,19 +31,15 @@ use Rattle.unclipped.specs.Fills.{Ready, withRing, withRings}
 use Rattle.unclipped.proofs.Reversing.{getD-reverse}
 
 -- staged and then turned round: the reverse is written
-reversed-written : (l ix ix₁ ix₂ : List ℕ) (at end : ℕ) → at + length l ≤ length ix → Staged l at ix ix₁ end → Reversed at end ix₁ ix₂ → Written ix at (reverse l) ix₂
-reversed-written l ix ix₁ ix₂ at end room s r = record {
-  long = r .long ∙ w .long;
-  before = λ k h. r .outside k (inl h) ∙ w .before k h;
-  entries = λ i h.
-      let li : i < length l = rw (length-reverse l) at h in
-      let q : at + end - suc (at + i) ≡ at + (length l - suc i) = omega (arith, s .ended) in
-      r .inside (at + i) (omega arith) (omega (arith, s .ended)) ∙ rw q (w .entries (length l - suc i) (omega arith)) ∙ sym (getD-reverse l i li);
-  behind = λ k h. r .outside k (inr (omega (arith, s .ended, length-reverse l))) ∙ w .behind k (omega (arith, length-reverse l));
-}
-  where
-    w : Written ix at l ix₁
-    w = rw (s .written) (paste-written l ix at room)
+reversed-written : (l ix ix₁ ix₂ : List ℕ) (at end : ℕ) → at + length l ≤ length ix → Staged l at ix ix₁ end → Reversed at end ix₁ ix₂ → ix₂ ≡ sets ix at (reverse l)
+reversed-written l ix ix₁ ix₂ at end room s r =
+    sets-ext 0 (reverse l) ix ix₂ at (rw (length-reverse l) room) (r .long ∙ ap length (s .written) ∙ length-sets ix at l)
+    (λ k h. r .outside k (inl h) ∙ rw (s .written) (sets-before l ix at k 0 h))
+    (λ i h.
+    let li : i < length l = rw (length-reverse l) at h in
+    let q : at + end - suc (at + i) ≡ at + (length l - suc i) = omega (arith, s .ended) in
+    r .inside (at + i) (omega arith) (omega (arith, s .ended)) ∙ rw (q, s .written) (sets-in l ix at (length l - suc i) 0 room (omega arith)) ∙ sym (getD-reverse l i li))
+    (λ k h. r .outside k (inr (omega (arith, s .ended, length-reverse l))) ∙ rw (s .written) (sets-behind l ix at k 0 (omega (arith, length-reverse l))))
 
 unmark-plain : (l : List ℕ) → unmarked (map (entry plain) l) ≡ l
 unmark-plain [] = refl
@@ -87,7 +84,7 @@ module _ (tri he starts : List ℕ) (n len : ℕ) (g : Ready tri he starts n len
 
     pub staged-place : (ix ix₁ : List ℕ) (end : ℕ) → len ≡ length ix → Staged (ringFrom he e) at ix ix₁ end → (at ≤ end) × (end ≤ length ix₁)
     staged-place ix ix₁ end long st =
-        let w : length ix₁ ≡ length ix = ap length (st .written) ∙ paste-written (ringFrom he e) ix at (omega (arith, ring-place)) .long in
+        let w : length ix₁ ≡ length ix = ap length (st .written) ∙ length-sets ix at (ringFrom he e) in
         (omega (arith, st .ended), omega (arith, st .ended, ring-place))
 
     roomy : getD starts s 0 < getD starts (suc s) 0
