@@ -10,10 +10,11 @@ use lib.ListN.{length, replicate}
 use Rattle.laws.specs.Pick.{pick}
 use Rattle.laws.specs.Refusals.{Finds, finds-one, finds-none, finds-first, finds-after, finds-split}
 use Rattle.laws.specs.Binary64.{zero}
+use Rattle.numbers.specs.Numbers.{EMPTY}
 use Rattle.utils.specs.declared.Point.{Point}
 use Rattle.bounding_box.specs.Box.{madeOf}
 use Rattle.bounding_box.specs.Rules.{okBox}
-use Rattle.mesh.specs.Mesh.{EMPTY, leftmostOf}
+use Rattle.mesh.specs.Mesh.{leftmostOf}
 use Rattle.mesh.specs.Accepted.{siteCount}
 use Rattle.mesh.specs.Rules.{callRules}
 use Rattle.queries.specs.Admits.{askedRules, finds-asked, asked-finds, call-answers, Admits, admits-keep}

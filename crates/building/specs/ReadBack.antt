@@ -8,7 +8,7 @@ use lib.ListN.{length, getD, length-append}
 use lib.Seq.{take-at, drop-at}
 use borrow.Author.Tests.{eq-eqb}
 use Rattle.layout.specs.Regions.{joined, offsetsFrom}
-use Rattle.layout.proofs.Compacting.{offsets-length}
+use Rattle.layout.specs.laws.Compacting.{offsets-length}
 use Rattle.shared.specs.Cells.{Cells, cellOf}
 use Rattle.laws.specs.Refusals.{keeps, nothing}
 use Rattle.building.specs.Cells.{cell-number, partAfter, CellAnswer}

@@ -5,11 +5,11 @@ use Prim.Native.Nat.{ℕ, _+_, _-_, _*_, _/_, _^_, _≤_, _<_}
 use lib.Ieee.{Float}
 use lib.ListN.{length, getD, drop}
 use Rattle.laws.specs.Binary64.{zero}
+use Rattle.numbers.specs.Numbers.{EMPTY}
 use Rattle.utils.specs.Flat.{points}
 use Rattle.bounding_box.specs.Box.{cornersOf}
 use Rattle.bounding_box.specs.declared.BoundingBox.{BoundingBox}
 use Rattle.vertices.specs.Store.{Holds}
-use Rattle.mesh.specs.Mesh.{EMPTY}
 use Rattle.mesh.specs.Accepted.{siteCount}
 use Rattle.layout.specs.Cleared.{clearedFrom}
 use Rattle.layout.specs.Regions.{Regions, Rising}

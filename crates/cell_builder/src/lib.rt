@@ -1,4 +1,6 @@
 // The clipped build (CellBuilder with ClipBehavior::Clip) over lent slices: circumcenters, owners, extensions, the hull's cells, the rest, then all moved together.
+use numbers::EMPTY;
+
 pub mod tries; // tries.rt: one try
 pub mod turns; // turns.rt: one half-edge of the rest
 pub mod loops; // loops.rt: all of them
@@ -26,8 +28,6 @@ ghost use Rattle.definition.specs.Theorems.{leftOf};
 ghost use Rattle.outputs.specs.Lent.{Lent};
 ghost use Rattle.cell_builder.specs.Answer.{Admitted, answerOf};
 ghost use Rattle.cell_builder.specs.Start.{extendedOf, Makeable, Makes, Emptied, Finishable, Finished};
-
-const NONE: u32 = 4294967295;
 
 // What stays while the cells are clipped: the box, the number of circumcenters, and in the index list where a ring is staged and where the store's part begins.
 // Just before that stand the numbers of the hull's extensions.
@@ -57,7 +57,7 @@ pub struct Answer {
 fn still(owner: u32) -> u32
     ensures { λ r. ⌜ (r ≡ leftOf (owner ∷ [])) × (r ≤ 1) ⌝ }
 {
-    if owner == NONE {
+    if owner == EMPTY {
         return 0;
     }
     1
@@ -84,7 +84,7 @@ fn refuse(v: &mut [f64], ix: &mut [u32], off: &mut [u32], fault: Fault) -> Answe
     Answer {
         fault: fault,
         count: 0,
-        owners: [NONE; 4],
+        owners: [EMPTY; 4],
         lost: 0,
     }
 }
@@ -161,7 +161,7 @@ pub fn build_cells(
             ix,
             off,
             Fault {
-                number: 11,
+                number: numbers::REFUSED_CIRCUMCENTER,
                 place: t as u32,
                 from: 0,
                 to: 0,

@@ -57,7 +57,7 @@ pub fn extend(
     if passed.place < hull.len() {
         return Progress {
             fault: Fault {
-                number: 12,
+                number: numbers::REFUSED_EXTENSION,
                 place: passed.place as u32,
                 from: 0,
                 to: 0,

@@ -7,7 +7,8 @@ use definition::Fault;
 use interior::all_inside;
 use interior::copy_ring;
 use mesh::end_site;
-use mesh::wide;
+use numbers::EMPTY;
+use numbers::wide;
 use rings::staging::stage_hull_ring;
 use rings::staging::stage_ring;
 ghost use mathlib.Core.Path.{_≡_};
@@ -17,8 +18,6 @@ ghost use lib.ListN.{length, getD};
 ghost use Rattle.definition.specs.Build.{Cells};
 ghost use Rattle.cell_builder.specs.Standing.{Ground, Amid, Does, hullTry, edgeTry, HullAmid, EdgesAmid};
 ghost use Rattle.cell_builder.specs.Tries.{Ringed, Tried};
-
-const NONE: u32 = 4294967295;
 
 // Clips the ring that is staged up to `end`; one that lies inside whole is its own cell.
 fn clip_staged(
@@ -106,7 +105,7 @@ pub fn clip_at_edge(
 {
     let site = end_site(triangles, e);
     let base = wide(off[wide(site)]);
-    if ix[base] != NONE {
+    if ix[base] != EMPTY {
         return p;
     }
     let end = stage_ring(triangles, halfedges, e as u32, ix, f.stage);

@@ -3,14 +3,13 @@ use crate::Frame;
 use crate::Progress;
 use crate::tries::clip_at_edge;
 use mesh::end_site;
-use mesh::wide;
+use numbers::EMPTY;
+use numbers::wide;
 ghost use mathlib.Core.Path.{_≡_};
 ghost use Rattle.mesh.specs.Mesh.{leftmostOf};
 ghost use Rattle.definition.specs.Build.{Cells};
 ghost use Rattle.cell_builder.specs.Standing.{Ground, Amid};
 ghost use Rattle.cell_builder.specs.Turns.{FullBefore, TurnAmid, Turned};
-
-const NONE: u32 = 4294967295;
 
 // How far the build is, and whether every try so far has made its cell.
 pub struct Turn {
@@ -45,6 +44,6 @@ pub fn clip_turn(
     let base = wide(off[site]);
     Turn {
         progress: r,
-        full: full & (ix[base] != NONE),
+        full: full & (ix[base] != EMPTY),
     }
 }

@@ -4,3 +4,4 @@ pub mod Mesh
 pub mod One
 pub mod Enough
 pub mod Square
+pub mod laws

@@ -1,7 +1,7 @@
 -- 01's "square", from its 172 bytes to its listing: the bytes are the form of its mesh, and the text of that mesh's build is 01's. By computation.
 use mathlib.Core.Path.{_≡_, refl}
 use mathlib.Core.List.{List, [], _∷_}
-use Rattle.mesh.specs.Mesh.{EMPTY, nextOf, chosen, tableTo, turnOf, walkOf}
+use Rattle.mesh.specs.Mesh.{nextOf, chosen, tableTo, turnOf, walkOf}
 use Rattle.definition.specs.Fault.{Outcome, ok, refused, andThen, atEdge}
 use lib.Count.{trailingZeros}
 use lib.Ieee.{Float, binary64, ofBits, add, sub, mul, div, lt, le, eq, neg, sum, round, units, odd, size, span, climb}
@@ -19,6 +19,7 @@ use Rattle.definition.specs.Cell.{wraps, around, insertAt, insertEdge, edgeCros
 use Rattle.definition.specs.Build.{Built, centreAt, centresFrom, ownersFrom, extended, extendFrom, hullRing, clipInto, clipHull, clipRest, wrappedIn, allWrapped, lostFrom, clipAll, build}
 use Prim.Native.Nat.{ℕ}
 use lib.ListN.{length}
+use Rattle.numbers.specs.Numbers.{EMPTY}
 use Rattle.definition.specs.declared.Fault.{Fault}
 use Rattle.form.specs.Form.{formOf, numbers, float, siteFloats, triangleSites, trianglePairs}
 use Rattle.form.specs.Square.{square, squareBytes, two-is}

@@ -172,7 +172,7 @@ fn of_form(
         unclipped,
     } = form
     else {
-        return listing::refusal(out, 17);
+        return listing::refusal(out, numbers::REFUSED_FORM);
     };
     let numbers = 2 * n;
     let links = 3 * t;

@@ -1,10 +1,10 @@
 // insert_edge_and_wrap_around_corners: an edge along the box put into the cell, with the corners that are the site's.
 use crate::Cell;
-use crate::EMPTY;
 use crate::Env;
 use crate::Inserted;
 use bounding_box::BoundingBox;
 use bounding_box::which_edge;
+use numbers::EMPTY;
 use vertices::vertex;
 ghost use mathlib.Core.Path.{_≡_};
 ghost use Prim.Native.Nat.{ℕ, _+_, _*_, _≤_, _<_, _^_};
@@ -152,13 +152,13 @@ pub fn insert_edge(
     let s = side_of(v, count, bounds, second);
     if 4 <= f {
         return Inserted {
-            refusal: 15,
+            refusal: numbers::REFUSED_NO_SIDE,
             cell: cell,
         };
     }
     if 4 <= s {
         return Inserted {
-            refusal: 15,
+            refusal: numbers::REFUSED_NO_SIDE,
             cell: cell,
         };
     }

@@ -1,6 +1,5 @@
 // clip_cell: the ring walked reversed and cyclic from its first vertex inside, edge by edge.
 use crate::Cell;
-use crate::EMPTY;
 use crate::Env;
 use crate::Stepped;
 use crate::Tip;
@@ -8,6 +7,7 @@ use crate::step::clip_step;
 use bounding_box::BoundingBox;
 use bounding_box::is_inside;
 use definition::Fault;
+use numbers::EMPTY;
 use vertices::vertex;
 ghost use mathlib.Core.Path.{_≡_};
 ghost use mathlib.Core.Bool.{true, false};

@@ -66,7 +66,7 @@ fn leave(
     let clip = clip_voronoi_edge(v, ix, env, count, p, q);
     match clip {
         Clipped::Missed => Changed {
-            refusal: 13,
+            refusal: numbers::REFUSED_NO_CROSSING,
             count: count,
             opened: false,
             cell: cell,
@@ -108,7 +108,7 @@ fn enter(
     let clip = clip_voronoi_edge(v, ix, env, count, q, p);
     match clip {
         Clipped::Missed => Changed {
-            refusal: 13,
+            refusal: numbers::REFUSED_NO_CROSSING,
             count: count,
             opened: false,
             cell: cell,
@@ -166,7 +166,7 @@ fn cross_once(
         };
     }
     Changed {
-        refusal: 14,
+        refusal: numbers::REFUSED_ONE_CROSSING,
         count: count,
         opened: opened,
         cell: done,

@@ -7,8 +7,6 @@ ghost use mathlib.Core.Path.{_≡_};
 ghost use Rattle.crossings.specs.Cross.{oneIf, twoIf, some, orOf, afterOne, joinOf, firstHeld, eitherOf, settleOf, rightHit, leftHit, topHit, bottomHit, uprightHit, lineOf, orderPick, orderBy, orderTwo, orderOne, orderOf, rayOf, countOf, valuesOf};
 ghost use Rattle.crossings.specs.Rules.{metBy, lineAnswer, rayAnswer, numberOf, pointsOf};
 
-const EPS: f64 = 8.881784197001252e-16;
-
 pub enum Crossing {
     None,
     One(f64, f64),
@@ -295,10 +293,10 @@ fn answer(frame: bool, points: bool, c: Crossing) -> Meeting
         if points {
             Meeting::Met(c)
         } else {
-            Meeting::Refused(6)
+            Meeting::Refused(numbers::REFUSED_COORDINATE)
         }
     } else {
-        Meeting::Refused(3)
+        Meeting::Refused(numbers::REFUSED_BOX)
     }
 }
 

@@ -11,9 +11,10 @@ use lib.ListN.{length, getD, set, replicate, length-map, length-append, length-r
 use Rattle.laws.specs.Pick.{pick}
 use Rattle.laws.specs.Decide.{lt-or-ge}
 use Rattle.laws.specs.Count.{occ}
+use Rattle.numbers.specs.Numbers.{EMPTY}
 use Rattle.utils.specs.declared.Point.{Point}
 use Rattle.bounding_box.specs.declared.BoundingBox.{BoundingBox}
-use Rattle.mesh.specs.Mesh.{EMPTY, endOf, leftmostOf, wholeOf}
+use Rattle.mesh.specs.Mesh.{endOf, leftmostOf, wholeOf}
 use Rattle.mesh.specs.Rules.{Topology}
 use Rattle.mesh.specs.Facts.{paired, end-site, tab-cases}
 use Rattle.mesh.specs.Laws.{walk-done}

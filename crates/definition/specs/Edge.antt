@@ -10,6 +10,7 @@ use lib.ListN.{length, getD, drop, length-append, length-drop, List·getD-append
 use lib.Ieee.{nan}
 use borrow.Author.Tests.{ltb-true, ltb-false, eq-eqb}
 use Rattle.laws.specs.Pick.{pick}
+use Rattle.numbers.specs.Numbers.{EMPTY}
 use Rattle.utils.specs.Plane.{at}
 use Rattle.utils.specs.declared.Point.{Point}
 use Rattle.bounding_box.specs.Box.{whichOf}
@@ -17,7 +18,6 @@ use Rattle.bounding_box.specs.declared.BoundingBox.{BoundingBox}
 use Rattle.crossings.specs.declared.Crossing.{Crossing}
 use Rattle.crossings.specs.declared.Crossing.the-variants.{None, One, Two}
 use Rattle.vertices.specs.Add.{Added, nearPt, findNear, addVertex}
-use Rattle.mesh.specs.Mesh.{EMPTY}
 use Rattle.definition.specs.Fault.{Outcome, ok, refused, andThen}
 use Rattle.definition.specs.Cell.{Mark, plain, crossing, wrapped, Entry, entry, lastOr, Took, took, firstCrossing, secondCrossing, Ins, ins, around, led, insertAt, insertEdge, vertexAt, Clip, missed, once, twice, clipWith, edgeCrossing, clipEdge, Change, change, tookOne, tookTwo, leave, enterAt, enter, link, crossAt, cross, clipStep}
 use Rattle.definition.specs.Gives.{Gives, gives-then, gives-next, picked}

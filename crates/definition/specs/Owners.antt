@@ -10,6 +10,7 @@ use lib.Dec.{eqb, lit≤}
 use lib.Ieee.{Float, nan}
 use lib.ListN.{length, getD}
 use Rattle.laws.specs.Decide.{eq-or-ne}
+use Rattle.numbers.specs.Numbers.{EMPTY}
 use Rattle.utils.specs.Plane.{at}
 use Rattle.utils.specs.Flat.{pointAt}
 use Rattle.utils.specs.Finite.{point-weaken, site-bounded, dist2-no-nan}
@@ -17,7 +18,7 @@ use Rattle.utils.specs.declared.Point.{Point}
 use Rattle.bounding_box.specs.Box.{cornersOf}
 use Rattle.bounding_box.specs.Finite.{BoundedBox, corner-bounded}
 use Rattle.bounding_box.specs.declared.BoundingBox.{BoundingBox}
-use Rattle.mesh.specs.Mesh.{EMPTY, endOf, leftmostOf}
+use Rattle.mesh.specs.Mesh.{endOf, leftmostOf}
 use Rattle.mesh.specs.Accepted.{Accepted, siteCount}
 use Rattle.mesh.specs.Rules.{Topology}
 use Rattle.mesh.specs.Facts.{topology, paired, entry-site, tab-length, tab-cases}

@@ -12,7 +12,7 @@ use borrow.Author.Tests.{eqb-true, eqb-false}
 use Rattle.laws.specs.Pick.{pick}
 use Rattle.laws.specs.Decide.{eq-or-ne}
 use Rattle.laws.specs.Count.{same, occ, same-cases, occ-append}
-use Rattle.mesh.specs.Mesh.{EMPTY}
+use Rattle.numbers.specs.Numbers.{EMPTY}
 use Rattle.definition.specs.Cell.{Mark, plain, crossing, wrapped, Entry, entry, Ins, ins, before, after, goes, wraps, around, led}
 use Rattle.definition.specs.Build.{ifWrapped, wrappedIn}
 use Rattle.definition.specs.Gives.{picked}

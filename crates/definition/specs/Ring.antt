@@ -10,10 +10,10 @@ use lib.Dec.{ltb}
 use lib.ListN.{length, getD, take, drop, length-append, length-reverse, take-append-drop}
 use borrow.Author.Tests.{ltb-true, ltb-false}
 use Rattle.laws.specs.Pick.{pick}
+use Rattle.numbers.specs.Numbers.{EMPTY}
 use Rattle.utils.specs.declared.Point.{Point}
 use Rattle.bounding_box.specs.Box.{insideOf}
 use Rattle.bounding_box.specs.declared.BoundingBox.{BoundingBox}
-use Rattle.mesh.specs.Mesh.{EMPTY}
 use Rattle.definition.specs.declared.Fault.{Fault}
 use Rattle.definition.specs.Fault.{Outcome, ok, refused, andThen, atEdge}
 use Rattle.definition.specs.Cell.{Mark, plain, crossing, wrapped, Entry, lastOr, Took, vertexAt, Change, clipStep, inBox, Tip, tip, Part, part, joined, moved, stepTo, stepsTo, firstInside, turned, clipFrom, clipCell}

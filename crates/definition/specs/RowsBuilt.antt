@@ -1,12 +1,13 @@
 -- Meshes that the Rust builds: vertices to the last bit, marked cells, owners, lost corners. Written by rows/make.py from what the Rust answered; not by hand.
 use mathlib.Core.Path.{_≡_, refl}
 use mathlib.Core.List.{[], _∷_}
-use Rattle.mesh.specs.Mesh.{EMPTY, nextOf, chosen, tableTo, turnOf, walkOf}
+use Rattle.mesh.specs.Mesh.{nextOf, chosen, tableTo, turnOf, walkOf}
 use Rattle.definition.specs.Fault.{ok, refused, andThen, atEdge}
 use Rattle.definition.specs.Answers.{floats, box, t, x, w, answer}
 use lib.Count.{trailingZeros}
 use lib.Ieee.{ofBits, add, sub, mul, div, lt, le, eq, neg, sum, round, units, odd, size, span, climb}
 use Rattle.laws.specs.Count.{same}
+use Rattle.numbers.specs.Numbers.{EMPTY}
 use Rattle.root.specs.Sqrt.{wholeRoot, nearestRoot, rootOfUnits, sqrtOf}
 use Rattle.utils.specs.Plane.{nearOf, dist2Of, centreOf}
 use Rattle.utils.specs.Flat.{flat}

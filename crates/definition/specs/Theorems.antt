@@ -12,11 +12,12 @@ use lib.ListN.{length, getD, length-append}
 use borrow.Author.Tests.{eq-eqb, ne-eqb}
 use Rattle.laws.specs.Pick.{pick}
 use Rattle.laws.specs.Count.{same, occ, same-cases, occ-append}
+use Rattle.numbers.specs.Numbers.{EMPTY}
 use Rattle.utils.specs.declared.Point.{Point}
 use Rattle.bounding_box.specs.Box.{cornersOf}
 use Rattle.bounding_box.specs.Finite.{BoundedBox}
 use Rattle.bounding_box.specs.declared.BoundingBox.{BoundingBox}
-use Rattle.mesh.specs.Mesh.{EMPTY, leftmostOf}
+use Rattle.mesh.specs.Mesh.{leftmostOf}
 use Rattle.mesh.specs.Accepted.{Accepted, siteCount}
 use Rattle.mesh.specs.Rules.{Topology}
 use Rattle.mesh.specs.Facts.{topology}

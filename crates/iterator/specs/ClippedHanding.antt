@@ -7,7 +7,8 @@ use native.Mathlib.Omega.{arith}
 use lib.Dec.{eqb}
 use lib.ListN.{length, set}
 use borrow.Author.Tests.{eq-eqb, ne-eqb}
-use Rattle.mesh.specs.Mesh.{EMPTY, wholeOf}
+use Rattle.numbers.specs.Numbers.{EMPTY}
+use Rattle.mesh.specs.Mesh.{wholeOf}
 use Rattle.iterator.specs.declared.Cursor.{Cursor}
 use Rattle.iterator.specs.declared.Stepped.{Stepped}
 use Rattle.iterator.specs.declared.Stepped.the-variants.{Site, End}

@@ -10,7 +10,8 @@ use lib.ListN.{length, getD}
 use borrow.Author.Tests.{lt-ltb, le-ltb, eq-eqb, ne-eqb}
 use Rattle.laws.specs.Pick.{pick}
 use Rattle.laws.specs.Decide.{lt-or-ge}
-use Rattle.mesh.specs.Mesh.{EMPTY, nextOf, startOf, endOf, pairOf, around, turnOf, wholeOf}
+use Rattle.numbers.specs.Numbers.{EMPTY}
+use Rattle.mesh.specs.Mesh.{nextOf, startOf, endOf, pairOf, around, turnOf, wholeOf}
 use Rattle.mesh.specs.Laws.{walk-done}
 use Rattle.iterator.specs.declared.Cursor.{Cursor}
 use Rattle.iterator.specs.declared.Stepped.{Stepped}

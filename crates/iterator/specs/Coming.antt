@@ -9,7 +9,7 @@ use lib.ListN.{length, getD}
 use borrow.Author.Tests.{lt-ltb, le-ltb}
 use Rattle.laws.specs.Decide.{lt-or-ge}
 use Rattle.laws.specs.Count.{occ}
-use Rattle.mesh.specs.Mesh.{EMPTY}
+use Rattle.numbers.specs.Numbers.{EMPTY}
 use Rattle.iterator.specs.declared.Cursor.{Cursor}
 use Rattle.iterator.specs.declared.Stepped.{Stepped}
 use Rattle.iterator.specs.declared.Stepped.the-variants.{Site}

@@ -8,7 +8,8 @@ use native.Mathlib.Omega.{arith}
 use lib.ListN.{length, getD}
 use lib.Ieee.{Float, lt}
 use Rattle.laws.specs.Pick.{pick}
-use Rattle.mesh.specs.Mesh.{EMPTY, wholeOf}
+use Rattle.numbers.specs.Numbers.{EMPTY}
+use Rattle.mesh.specs.Mesh.{wholeOf}
 use Rattle.utils.specs.declared.Point.{Point}
 use Rattle.iterator.specs.declared.Best.{Best}
 use Rattle.iterator.specs.declared.Cursor.{Cursor}

@@ -11,7 +11,8 @@ use borrow.Author.Tests.{eqb-true, eqb-false}
 use Rattle.laws.specs.Pick.{pick}
 use Rattle.laws.specs.Decide.{lt-or-ge}
 use Rattle.laws.specs.Count.{same, occ, same-cases, sumTo}
-use Rattle.mesh.specs.Mesh.{EMPTY, nextOf, around, turnOf, walkOf}
+use Rattle.numbers.specs.Numbers.{EMPTY}
+use Rattle.mesh.specs.Mesh.{nextOf, around, turnOf, walkOf}
 use Rattle.mesh.specs.Laws.{next-lt, walk-go, walk-done}
 use Rattle.iterator.specs.Neighbours.{lastEnd, startsOf, sitesFrom, starts-cons, neighboursOf}
 

@@ -1,5 +1,6 @@
 // How cells share one index list: regions by site while they are built, moved together at the end, and what is left over cleared.
-use mesh::wide;
+use numbers::EMPTY;
+use numbers::wide;
 ghost use mathlib.Core.Path.{_≡_};
 ghost use mathlib.Core.List.{List, _++_};
 ghost use Prim.Native.Nat.{ℕ, suc, _+_, _-_, _*_, _≤_, _<_};
@@ -8,8 +9,6 @@ ghost use Rattle.laws.specs.Binary64.{zero};
 ghost use Rattle.layout.specs.Cleared.{clearedFrom};
 ghost use Rattle.layout.specs.Rooms.{Roomy, Started, Tallies, Tallied, Sums, Summed};
 ghost use Rattle.layout.specs.Regions.{Regions, Filled, Rising, Compacted};
-
-const NONE: u32 = 4294967295;
 
 // Indexes from `from` on become `value`.
 pub fn fill_from(s: &mut [u32], from: usize, value: u32)
@@ -42,7 +41,7 @@ pub fn cell_end(idx: &[u32], from: usize, to: usize) -> usize
 {
     let mut i = from;
     while i < to {
-        if idx[i] == NONE {
+        if idx[i] == EMPTY {
             return i;
         }
         i += 1;

@@ -1,4 +1,5 @@
 // Writes the program's listing into a lent slice of bytes: each function writes its text from a place on and answers the place after it.
+use numbers::wide;
 ghost use mathlib.Core.Path.{_≡_};
 ghost use mathlib.Core.List.{[], _∷_, _++_};
 ghost use Rattle.listing.specs.Text.{decimal};
@@ -78,12 +79,6 @@ fn cell_line(out: &mut [u8], at: usize, i: u32, cell: &[u32]) -> usize
     let b = put(out, a, b":");
     let c = entries(out, b, cell);
     put(out, c, b"\n")
-}
-
-fn wide(x: u32) -> usize
-    ensures { λ r. ⌜ r ≡ x ⌝ }
-{
-    x as usize
 }
 
 fn cell_lines(out: &mut [u8], at: usize, sites: usize, offsets: &[u32], cells: &[u32]) -> usize

@@ -8,7 +8,8 @@ use lib.ListN.{length, getD}
 use borrow.Author.Tests.{eq-eqb, ne-eqb}
 use Rattle.laws.specs.Decide.{lt-or-ge, eq-or-ne}
 use Rattle.laws.specs.Count.{same, occ, same-cases, sumTo, all-weighed, weighed}
-use Rattle.mesh.specs.Mesh.{EMPTY, startOf, endOf, pairOf}
+use Rattle.numbers.specs.Numbers.{EMPTY}
+use Rattle.mesh.specs.Mesh.{startOf, endOf, pairOf}
 use Rattle.mesh.specs.Hull.{afterOf, nextSite, openTo, Hull, PlaceAt, OnHull, BorderAt}
 
 pub after-cases : (h i : ℕ) → ((i + 1 ≡ h) × (afterOf h i ≡ 0)) ⊎ ((i + 1 ≢ h) × (afterOf h i ≡ i + 1))

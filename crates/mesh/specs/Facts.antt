@@ -9,8 +9,9 @@ use lib.ListN.{length, getD}
 use lib.Ieee.{Float}
 use Rattle.laws.specs.Decide.{lt-or-ge, eq-or-ne}
 use Rattle.laws.specs.Count.{occ}
+use Rattle.numbers.specs.Numbers.{EMPTY}
 use Rattle.utils.specs.Sites.{KeptAt}
-use Rattle.mesh.specs.Mesh.{EMPTY, nextOf, startOf, endOf, pairOf, Used, AllSound, leftmostOf, Leftmost, walkOf, wholeOf, Paired}
+use Rattle.mesh.specs.Mesh.{nextOf, startOf, endOf, pairOf, Used, AllSound, leftmostOf, Leftmost, walkOf, wholeOf, Paired}
 use Rattle.mesh.specs.Rules.{Topology}
 use Rattle.mesh.specs.Accepted.{Counted, Accepted, siteCount}
 use Rattle.mesh.specs.Laws.{next-sum, next-lt, next-thrice}

@@ -13,7 +13,8 @@ use lib.Seq.{take-suc-set, drop-set-lt, length-take-le, drop-drop}
 use borrow.Author.Tests.{eqb-true, eqb-false, lt-ltb, le-ltb, le-leb, lt-leb, leb-true, leb-false, ne-eqb}
 use Rattle.laws.specs.Pick.{pick}
 use Rattle.laws.specs.Decide.{lt-or-ge, eq-or-ne}
-use Rattle.mesh.specs.Mesh.{EMPTY, nextOf, endOf, pairOf, chosen, tableTo, turnOf, walkOf, wholeOf, Walks}
+use Rattle.numbers.specs.Numbers.{EMPTY}
+use Rattle.mesh.specs.Mesh.{nextOf, endOf, pairOf, chosen, tableTo, turnOf, walkOf, wholeOf, Walks}
 
 -- the next half-edge, as one sum
 pub next-sum : (e : ℕ) → nextOf e ≡ e + 1 - 3 * (e % 3 / 2)

@@ -12,7 +12,8 @@ use lib.Seq.{getD-set-same, getD-set-other, set-append-left}
 use borrow.Author.Tests.{eqb-true, eqb-false, eq-eqb, ne-eqb}
 use Rattle.laws.specs.Pick.{pick}
 use Rattle.laws.specs.Decide.{lt-or-ge, eq-or-ne}
-use Rattle.mesh.specs.Mesh.{EMPTY, nextOf, endOf, pairOf, chosen, tableTo, leftmostOf, leftmostIn, Leftmost}
+use Rattle.numbers.specs.Numbers.{EMPTY}
+use Rattle.mesh.specs.Mesh.{nextOf, endOf, pairOf, chosen, tableTo, leftmostOf, leftmostIn, Leftmost}
 
 module _ (tri he : List ℕ) (n s r : ℕ) (small : n < EMPTY) (g : Leftmost tri he n s r) where
   -- half-edge n ends elsewhere

@@ -9,10 +9,11 @@ use lib.Ieee.{Float}
 use lib.ListN.{length, getD, take, drop, replicate}
 use Rattle.laws.specs.Pick.{pick}
 use Rattle.laws.specs.Refusals.{once, Finds, finds-one}
+use Rattle.numbers.specs.Numbers.{EMPTY}
 use Rattle.mesh.specs.Rules.{callRules}
-use Rattle.mesh.specs.Mesh.{EMPTY, leftmostOf, wholeOf}
+use Rattle.mesh.specs.Mesh.{leftmostOf, wholeOf}
 use Rattle.mesh.specs.Accepted.{siteCount}
-use Rattle.checker.specs.Answers.{workAfter}
+use Rattle.check_mesh.specs.Answers.{workAfter}
 use Rattle.shared.specs.Cells.{Cells, shareEdgeOf}
 use Rattle.shared.specs.Edge.{sharedEdgeOf}
 use Rattle.utils.specs.declared.Point.{Point}

@@ -12,11 +12,11 @@ use borrow.Author.Tests.{ne-eqb, lt-ltb}
 use borrow.Author.Needs.{needs}
 use Rattle.laws.specs.Pick.{pick}
 use Rattle.laws.specs.Refusals.{reads, Keep, finds-keep, finds-answers, finds-first, finds-after, finds-reads}
+use Rattle.numbers.specs.Numbers.{EMPTY}
 use Rattle.mesh.specs.declared.Fault.{Fault}
-use Rattle.mesh.specs.Mesh.{EMPTY}
 use Rattle.mesh.specs.Rules.{numberOf, topologyRules}
 use Rattle.mesh.specs.Accepted.{siteCount}
-use Rattle.checker.specs.Answers.{TopologyAnswer, workAfter}
+use Rattle.check_mesh.specs.Answers.{TopologyAnswer, workAfter}
 use Rattle.queries.specs.Admits.{earlyRules, Early, Admission}
 
 -- what rules 7 to 10 are told

@@ -12,9 +12,9 @@ use borrow.Author.Tests.{eq-eqb, ne-eqb}
 use Rattle.laws.specs.Pick.{pick}
 use Rattle.laws.specs.Decide.{Says}
 use Rattle.laws.specs.Refusals.{breaks, keeps, nothing}
-use Rattle.mesh.specs.Mesh.{EMPTY}
+use Rattle.numbers.specs.Numbers.{EMPTY}
 use Rattle.mesh.specs.Accepted.{siteCount}
-use Rattle.checker.specs.Answers.{workAfter}
+use Rattle.check_mesh.specs.Answers.{workAfter}
 use Rattle.shared.specs.Cells.{Cells, shareEdgeOf}
 use Rattle.shared.specs.Edge.{sharedEdgeOf}
 use Rattle.queries.specs.declared.Found.{Found}

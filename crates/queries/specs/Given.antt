@@ -12,10 +12,11 @@ use borrow.Author.Tests.{ltb-true, lt-ltb, le-ltb}
 use Rattle.laws.specs.Pick.{pick}
 use Rattle.laws.specs.Decide.{lt-or-ge, eq-or-ne}
 use Rattle.laws.specs.Refusals.{once, Finds, breaks, keeps, nothing, finds-first, finds-after}
+use Rattle.numbers.specs.Numbers.{EMPTY}
 use Rattle.mesh.specs.Rules.{callRules}
 use Rattle.utils.specs.Rules.{okSite}
 use Rattle.utils.specs.declared.Point.{Point}
-use Rattle.mesh.specs.Mesh.{EMPTY, startOf, pairOf, endOf, nextOf, around, leftmostOf, leftmostIn, turnOf, walkOf, wholeOf, Walks, Paired}
+use Rattle.mesh.specs.Mesh.{startOf, pairOf, endOf, nextOf, around, leftmostOf, leftmostIn, turnOf, walkOf, wholeOf, Walks, Paired}
 use Rattle.mesh.specs.Accepted.{Accepted, siteCount}
 use Rattle.mesh.specs.Facts.{topology, paired}
 use Rattle.mesh.specs.Laws.{walk-go, walk-done}
@@ -25,7 +26,7 @@ use Rattle.iterator.specs.Whole.{wholePath, path-stop, path-go}
 use Rattle.iterator.specs.Fills.{Fills}
 use Rattle.iterator.specs.Walking.{walks-fill}
 use Rattle.shared.specs.Cells.{shareEdgeOf}
-use Rattle.checker.specs.Answers.{workAfter}
+use Rattle.check_mesh.specs.Answers.{workAfter}
 use Rattle.iterator.specs.Clipped.{keptOf, clippedFrom, firstOf, clippedOf, clippedNeighboursOf}
 use Rattle.iterator.specs.Ready.{Ready, Towards, Clippable}
 use Rattle.iterator.specs.OnMesh.{ready, clippable, towards}

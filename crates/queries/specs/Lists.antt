@@ -12,11 +12,12 @@ use lib.Seq.{take-at}
 use borrow.Author.Tests.{eq-eqb, ne-eqb, lt-ltb, le-ltb, leb-true}
 use Rattle.laws.specs.Pick.{pick}
 use Rattle.laws.specs.Decide.{lt-or-ge}
-use Rattle.mesh.specs.Mesh.{EMPTY, leftmostOf, leftmostIn}
+use Rattle.numbers.specs.Numbers.{EMPTY}
+use Rattle.mesh.specs.Mesh.{leftmostOf, leftmostIn}
 use Rattle.mesh.specs.Rules.{Topology}
 use Rattle.mesh.specs.Accepted.{Accepted, siteCount}
 use Rattle.mesh.specs.Facts.{topology, tab-length}
-use Rattle.checker.specs.Answers.{workAfter}
+use Rattle.check_mesh.specs.Answers.{workAfter}
 use Rattle.iterator.specs.Fills.{Fills}
 use Rattle.queries.specs.declared.Listed.{Listed}
 use Rattle.queries.specs.Admits.{Admits, Admission, admitted, admits-few}

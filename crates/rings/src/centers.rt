@@ -1,5 +1,5 @@
 // The circumcenters of all triangles, with rule 11.
-use mesh::wide;
+use numbers::wide;
 use utils::Point;
 use utils::centre_ok;
 use utils::circumcenter_of;

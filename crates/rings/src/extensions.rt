@@ -1,7 +1,7 @@
 // The hull's extensions (extend_voronoi_vertex): far beyond the box, from a circumcenter orthogonally to its hull edge; rule 12.
-use hull::after;
+use check_hull::after;
 use mesh::end_site;
-use mesh::wide;
+use numbers::wide;
 use utils::Point;
 use utils::point_at;
 use vertices::add_new_vertex;

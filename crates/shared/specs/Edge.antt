@@ -7,7 +7,8 @@ use lib.Dec.{ltb, eqb}
 use lib.ListN.{length}
 use borrow.Author.Tests.{lt-ltb, le-ltb}
 use Rattle.laws.specs.Pick.{pick}
-use Rattle.mesh.specs.Mesh.{EMPTY, pairOf}
+use Rattle.numbers.specs.Numbers.{EMPTY}
+use Rattle.mesh.specs.Mesh.{pairOf}
 
 -- a half-edge of the triangle whose first is f names e as its pair
 unfoldable pub namesOf : List ℕ → ℕ → ℕ → Bool

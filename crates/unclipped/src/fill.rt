@@ -1,7 +1,8 @@
 // Cells filled along the half-edges, rising: the first half-edge that ends at a site gives its cell.
 use crate::reverse::reverse_part;
 use mesh::end_site;
-use mesh::wide;
+use numbers::EMPTY;
+use numbers::wide;
 use rings::staging::stage_ring;
 ghost use mathlib.Core.Path.{_≡_};
 ghost use mathlib.Core.List.{List, map};
@@ -11,8 +12,6 @@ ghost use Rattle.layout.specs.Regions.{Regions};
 ghost use Rattle.definition.specs.Cell.{Entry};
 ghost use Rattle.outputs.specs.Lent.{unmarked};
 ghost use Rattle.unclipped.specs.Fills.{Ready, withRing, withRings};
-
-const NONE: u32 = 4294967295;
 
 // If the cell of the site where half-edge e ends is still empty: the walk from e, reversed.
 fn fill_ring(
@@ -28,7 +27,7 @@ fn fill_ring(
 {
     let s = wide(end_site(triangles, e));
     let at = wide(off[s]);
-    if ix[at] != NONE {
+    if ix[at] != EMPTY {
         return;
     }
     let end = stage_ring(triangles, halfedges, e as u32, ix, at);

@@ -52,7 +52,7 @@ pub fn build_unclipped(
     if t < triangles.len() / 3 {
         clear_all(v, ix, off);
         return Fault {
-            number: 11,
+            number: numbers::REFUSED_CIRCUMCENTER,
             place: t as u32,
             from: 0,
             to: 0,

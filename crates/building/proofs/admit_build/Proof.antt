@@ -1,5 +1,5 @@
 -- `building::admit_build` meets its contract: the rules up to 10 with rule 2 of a build; from 7 on the outputs are cleared.
-use Rattle.building.proofs.Admitting.{left-alone, all-cleared}
+use Rattle.building.specs.laws.Admitting.{left-alone, all-cleared}
 use borrow.Author.Needs.{needs}
 use Rattle.building.proofs.admit_build.Statement.{statement}
 use Rattle.building.proofs.admit_build.Tie as tie

@@ -1,7 +1,7 @@
 -- `building::build_unclipped` meets its contract: refused by the rules up to 10, or the outcome of the unclipped definition decides.
 use native.Mathlib.Omega.{arith}
 use Rattle.building.specs.Refusals.{unclipped-late}
-use Rattle.building.proofs.Outcome.{answers-early, mesh-of, rooms-of, six-of, answers-built, unclipped-counts}
+use Rattle.building.specs.laws.Outcome.{answers-early, mesh-of, rooms-of, six-of, answers-built, unclipped-counts}
 use borrow.Author.Needs.{needs}
 use Rattle.building.proofs.build_unclipped.Tie as tie
 use Rattle.building.proofs.build_unclipped.Statement.{statement}

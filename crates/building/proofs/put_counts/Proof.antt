@@ -2,7 +2,7 @@
 use mathlib.Core.Path.{_≡_, _∙_}
 use native.Mathlib.Omega.{arith}
 use lib.ListN.{length, length-set}
-use Rattle.building.proofs.Counting.{counted}
+use Rattle.building.specs.laws.Counting.{counted}
 use borrow.Author.Needs.{needs}
 use Rattle.building.proofs.put_counts.Statement.{statement}
 use Rattle.building.proofs.put_counts.Tie as tie

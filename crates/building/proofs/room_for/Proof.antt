@@ -2,7 +2,7 @@
 use borrow.Author.Needs.{needs}
 use native.Mathlib.Omega.{arith}
 use Rattle.laws.specs.Decide.{refused, granted}
-use Rattle.building.proofs.Rooming.{no-counts, no-table, no-six, by-outputs}
+use Rattle.building.specs.laws.Rooming.{no-counts, no-table, no-six, by-outputs}
 use Rattle.building.proofs.room_for.Statement.{statement}
 use Rattle.building.proofs.room_for.Tie as tie
 

@@ -4,8 +4,8 @@ use Prim.Native.Nat.{_*_, _/_, _≤_, _<_}
 use native.Mathlib.Omega.{arith}
 use lib.ListN.{length}
 use borrow.Author.Needs.{needs}
-use Rattle.cell_builder.proofs.Starting.{named}
-use Rattle.cell_builder.proofs.Finishing.{owned, owners-are, makeable, finishable, refused-first, refused-later, built-with}
+use Rattle.cell_builder.specs.laws.Starting.{named}
+use Rattle.cell_builder.specs.laws.Finishing.{owned, owners-are, makeable, finishable, refused-first, refused-later, built-with}
 use Rattle.cell_builder.proofs.build_cells.Statement.{statement}
 use Rattle.cell_builder.proofs.build_cells.Tie as tie
 

@@ -5,7 +5,7 @@ use native.Mathlib.Omega.{arith}
 use lib.ListN.{length, getD, drop}
 use borrow.Author.Needs.{needs}
 use Rattle.definition.specs.Theorems.{leftOf}
-use Rattle.cell_builder.proofs.LeftOver.{left-step, left-all}
+use Rattle.cell_builder.specs.laws.LeftOver.{left-step, left-all}
 use Rattle.cell_builder.proofs.left_over.Statement.{statement}
 use Rattle.cell_builder.proofs.left_over.Tie as tie
 

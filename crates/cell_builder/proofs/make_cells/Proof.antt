@@ -1,7 +1,7 @@
 -- `cell_builder::make_cells` meets its contract: laid out and extended, the slices hold the definition's cells at their beginning, and all of them are clipped from there.
 use mathlib.Core.Path.{refl, _∙_}
 use borrow.Author.Needs.{needs}
-use Rattle.cell_builder.proofs.Starting.{frame-fits, roomy, rooms-fit, extendable, can-clip, made-not, made-all}
+use Rattle.cell_builder.specs.laws.Starting.{frame-fits, roomy, rooms-fit, extendable, can-clip, made-not, made-all}
 use Rattle.cell_builder.proofs.make_cells.Statement.{statement}
 use Rattle.cell_builder.proofs.make_cells.Tie as tie
 

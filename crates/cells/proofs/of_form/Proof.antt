@@ -4,7 +4,7 @@ use native.Mathlib.Omega.{arith}
 use lib.Seq.{length-take-le}
 use lib.ListN.{length-take}
 use Rattle.listing.specs.ListingLaws.{refusal-short}
-use Rattle.cells.proofs.Showing.{line-held}
+use Rattle.cells.specs.laws.Showing.{line-held}
 use borrow.Author.Needs.{needs}
 use Rattle.cells.proofs.of_form.Statement.{statement}
 use Rattle.cells.proofs.of_form.Tie as tie

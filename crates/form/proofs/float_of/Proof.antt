@@ -4,7 +4,7 @@ use mathlib.Core.Bool.{Bool, not}
 use lib.Dec.{T}
 use lib.Ieee.{binary64}
 use lib.Ieee.Bits.{nanBits-is}
-use Rattle.root.proofs.Signs.{above-nan, up-to-no-nan, no-quotient}
+use Rattle.root.specs.laws.Signs.{above-nan, up-to-no-nan, no-quotient}
 use borrow.Author.Needs.{needs}
 use Rattle.form.proofs.float_of.Statement.{statement}
 use Rattle.form.proofs.float_of.Tie as tie

@@ -6,7 +6,7 @@ use lib.ListN.{length, getD}
 use borrow.Author.Needs.{needs}
 use Rattle.utils.specs.Flat.{points}
 use Rattle.interior.specs.Interior.{AllInside}
-use Rattle.interior.proofs.Scanning.{inside-next, inside-not}
+use Rattle.interior.specs.laws.Scanning.{inside-next, inside-not}
 use Rattle.interior.proofs.all_inside.Statement.{statement}
 use Rattle.interior.proofs.all_inside.Tie as tie
 

@@ -4,7 +4,7 @@ use mathlib.Core.Path.{_≡_, refl, sym, _∙_}
 use native.Mathlib.Omega.{arith}
 use lib.ListN.{length, getD}
 use borrow.Author.Needs.{needs}
-use Rattle.interior.proofs.Copying.{Copied, copied-none, copied-more, copied-all}
+use Rattle.interior.specs.laws.Copying.{Copied, copied-none, copied-more, copied-all}
 use Rattle.interior.proofs.copy_ring.Statement.{statement}
 use Rattle.interior.proofs.copy_ring.Tie as tie
 

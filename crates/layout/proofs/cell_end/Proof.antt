@@ -6,7 +6,7 @@ use native.Mathlib.Omega.{arith}
 use lib.ListN.{getD}
 use borrow.Author.Needs.{needs}
 use Rattle.laws.specs.Decide.{eq-or-ne}
-use Rattle.mesh.specs.Mesh.{EMPTY}
+use Rattle.numbers.specs.Numbers.{EMPTY}
 use Rattle.layout.proofs.cell_end.Statement.{statement}
 use Rattle.layout.proofs.cell_end.Tie as tie
 

@@ -6,7 +6,7 @@ use native.Mathlib.Omega.{arith}
 use lib.ListN.{length, getD, length-set}
 use borrow.Author.Needs.{needs}
 use Rattle.layout.specs.Regions.{Regions}
-use Rattle.layout.proofs.Compacting.{Going, Moved, going-start, moved-start, going-step, moved-step, moved-end, region-within, going-below, going-within}
+use Rattle.layout.specs.laws.Compacting.{Going, Moved, going-start, moved-start, going-step, moved-step, moved-end, region-within, going-below, going-within}
 use Rattle.layout.proofs.compact.Statement.{statement}
 use Rattle.layout.proofs.compact.Tie as tie
 

@@ -4,7 +4,7 @@ use Prim.Native.Nat.{_-_, _≤_}
 use native.Mathlib.Omega.{arith}
 use lib.ListN.{length}
 use borrow.Author.Needs.{needs}
-use Rattle.layout.proofs.Pasting.{Moving, moving-start, moving-step}
+use Rattle.layout.specs.laws.Pasting.{Moving, moving-start, moving-step}
 use Rattle.layout.proofs.move_down.Statement.{statement}
 use Rattle.layout.proofs.move_down.Tie as tie
 

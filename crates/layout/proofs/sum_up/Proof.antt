@@ -4,7 +4,7 @@ use Prim.Native.Nat.{_-_}
 use native.Mathlib.Omega.{arith}
 use lib.ListN.{length}
 use borrow.Author.Needs.{needs}
-use Rattle.layout.proofs.Tallying.{Adding, adding-start, add-fits, adding-step, adding-end}
+use Rattle.layout.specs.laws.Tallying.{Adding, adding-start, add-fits, adding-step, adding-end}
 use Rattle.layout.proofs.sum_up.Statement.{statement}
 use Rattle.layout.proofs.sum_up.Tie as tie
 

@@ -5,7 +5,7 @@ use native.Mathlib.Omega.{arith}
 use lib.ListN.{length, take}
 use borrow.Author.Needs.{needs}
 use Rattle.layout.specs.Rooms.{Tallied}
-use Rattle.layout.proofs.Tallying.{tallied-none, tallied-all, tally-place, tally-fits, tally-step}
+use Rattle.layout.specs.laws.Tallying.{tallied-none, tallied-all, tally-place, tally-fits, tally-step}
 use Rattle.layout.proofs.tally.Statement.{statement}
 use Rattle.layout.proofs.tally.Tie as tie
 

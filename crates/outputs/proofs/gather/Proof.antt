@@ -1,6 +1,6 @@
 -- `outputs::gather` meets its contract: the cells moved together stand at the beginning of the list, their offsets at the beginning of the starts.
 use borrow.Author.Needs.{needs}
-use Rattle.outputs.proofs.Gathering.{gathered}
+use Rattle.outputs.specs.laws.Gathering.{gathered}
 use Rattle.outputs.proofs.gather.Statement.{statement}
 use Rattle.outputs.proofs.gather.Tie as tie
 

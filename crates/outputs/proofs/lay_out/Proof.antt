@@ -1,6 +1,6 @@
 -- `outputs::lay_out` meets its contract: the regions start where the rooms add up to, and the list that they cut is EMPTY throughout.
 use borrow.Author.Needs.{needs}
-use Rattle.outputs.proofs.Gathering.{laid-out}
+use Rattle.outputs.specs.laws.Gathering.{laid-out}
 use Rattle.outputs.proofs.lay_out.Statement.{statement}
 use Rattle.outputs.proofs.lay_out.Tie as tie
 

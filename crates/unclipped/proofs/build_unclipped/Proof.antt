@@ -4,8 +4,8 @@ use Prim.Native.Nat.{_*_, _/_, _≤_}
 use native.Mathlib.Omega.{arith}
 use lib.ListN.{length}
 use borrow.Author.Needs.{needs}
-use Rattle.unclipped.proofs.Drawing.{named, draws}
-use Rattle.unclipped.proofs.Outcome.{centred-below, refused-all, built-all}
+use Rattle.unclipped.specs.laws.Drawing.{named, draws}
+use Rattle.unclipped.specs.laws.Outcome.{centred-below, refused-all, built-all}
 use Rattle.unclipped.proofs.build_unclipped.Statement.{statement}
 use Rattle.unclipped.proofs.build_unclipped.Tie as tie
 

@@ -3,7 +3,7 @@ use mathlib.Core.Path.{_≡_, _∙_}
 use mathlib.Core.List.{[]}
 use lib.ListN.{replicate, length-replicate}
 use borrow.Author.Needs.{needs}
-use Rattle.unclipped.proofs.Drawing.{cells-width, roomy, rooms-fit, ready, rising, ends-small, gathered-over, blank-regions}
+use Rattle.unclipped.specs.laws.Drawing.{cells-width, roomy, rooms-fit, ready, rising, ends-small, gathered-over, blank-regions}
 use Rattle.unclipped.proofs.draw_cells.Statement.{statement}
 use Rattle.unclipped.proofs.draw_cells.Tie as tie
 

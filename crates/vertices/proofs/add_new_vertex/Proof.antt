@@ -1,7 +1,7 @@
 -- `vertices::add_new_vertex` meets its contract: the search finds the definition's place, and where that is past the vertices the point is put there.
 use native.Mathlib.Omega.{arith}
 use denote.Ref.{now}
-use Rattle.vertices.proofs.Store.{reused, appended}
+use Rattle.vertices.specs.laws.Store.{reused, appended}
 use borrow.Author.Needs.{needs}
 use Rattle.vertices.proofs.add_new_vertex.Statement.{statement}
 use Rattle.vertices.proofs.add_new_vertex.Tie as tie

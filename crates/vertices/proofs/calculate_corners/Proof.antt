@@ -7,7 +7,7 @@ use denote.Ref.{now}
 use lib.ListN.{length, take}
 use Rattle.utils.specs.Flat.{points}
 use Rattle.vertices.specs.Store.{Poured}
-use Rattle.vertices.proofs.Store.{corner-none, corner-more, corner-all}
+use Rattle.vertices.specs.laws.Store.{corner-none, corner-more, corner-all}
 use Rattle.vertices.proofs.calculate_corners.Statement.{statement}
 use Rattle.vertices.proofs.calculate_corners.Tie as tie
 

@@ -3,7 +3,7 @@ use mathlib.Core.Path.{sym, _∙_}
 use native.Mathlib.Omega.{arith}
 use lib.Ieee.{nan}
 use Rattle.utils.specs.Plane.{at}
-use Rattle.vertices.proofs.Laws.{getD-points}
+use Rattle.vertices.specs.laws.Laws.{getD-points}
 use borrow.Author.Needs.{needs}
 use Rattle.vertices.proofs.vertex.Statement.{statement}
 use Rattle.vertices.proofs.vertex.Tie as tie

@@ -1,6 +1,6 @@
 -- `building::cells::ask_cell` meets its contract: rule 4 on the site, then rule 16 on the offsets.
 use Rattle.laws.specs.Decide as decide
-use Rattle.building.proofs.Parts.{no-site, not-cut, cut}
+use Rattle.building.specs.laws.Parts.{no-site, not-cut, cut}
 use borrow.Author.Needs.{needs}
 use Rattle.building.proofs.cells.ask_cell.Tie as tie
 use Rattle.building.proofs.cells.ask_cell.Statement.{statement}

@@ -1,5 +1,5 @@
 -- `building::cells::cell` meets its contract: the part between the two offsets where the site has a cell, the empty part where it is refused.
-use Rattle.building.proofs.Parts.{part-refused, part-asks, part-given}
+use Rattle.building.specs.laws.Parts.{part-refused, part-asks, part-given}
 use borrow.Author.Needs.{needs}
 use Rattle.building.proofs.cells.cell.Tie as tie
 use Rattle.building.proofs.cells.cell.Statement.{statement}

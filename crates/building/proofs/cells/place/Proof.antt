@@ -1,6 +1,6 @@
 -- `building::cells::place` meets its contract: the first offset and the distance to the second, or zeros.
 use native.Mathlib.Omega.{arith}
-use Rattle.building.proofs.Parts.{place-refused, part-asks, in-order, place-given}
+use Rattle.building.specs.laws.Parts.{place-refused, part-asks, in-order, place-given}
 use borrow.Author.Needs.{needs}
 use Rattle.building.proofs.cells.place.Tie as tie
 use Rattle.building.proofs.cells.place.Statement.{statement}

@@ -1,6 +1,6 @@
 -- `cell_builder::loops::clip_cells` meets its contract: the hull's refusal is the whole's, else the rest goes on from the cells that the hull's tries gave.
 use borrow.Author.Needs.{needs}
-use Rattle.cell_builder.proofs.Along.{cells-refused, cells-amid, cells-end}
+use Rattle.cell_builder.specs.laws.Along.{cells-refused, cells-amid, cells-end}
 use Rattle.cell_builder.proofs.loops.clip_cells.Statement.{statement}
 use Rattle.cell_builder.proofs.loops.clip_cells.Tie as tie
 

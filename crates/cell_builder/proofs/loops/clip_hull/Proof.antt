@@ -3,7 +3,7 @@ use mathlib.Core.Path.{_≡_, refl, ap, _∙_}
 use Prim.Native.Nat.{_-_}
 use native.Mathlib.Omega.{arith}
 use lib.ListN.{length}
-use Rattle.cell_builder.proofs.Along.{HullsAlong, hulls-start, hulls-amid, hulls-step, hulls-refused, hulls-end}
+use Rattle.cell_builder.specs.laws.Along.{HullsAlong, hulls-start, hulls-amid, hulls-step, hulls-refused, hulls-end}
 use Rattle.cell_builder.proofs.loops.clip_hull.Statement.{statement}
 use Rattle.cell_builder.proofs.loops.clip_hull.Tie as tie
 

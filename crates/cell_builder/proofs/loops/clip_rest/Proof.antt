@@ -3,7 +3,7 @@ use mathlib.Core.Path.{_≡_, refl, _∙_}
 use Prim.Native.Nat.{_-_}
 use native.Mathlib.Omega.{arith}
 use lib.ListN.{length}
-use Rattle.cell_builder.proofs.Along.{EdgesAlong, edges-start, edges-amid, edges-step, edges-refused, edges-end}
+use Rattle.cell_builder.specs.laws.Along.{EdgesAlong, edges-start, edges-amid, edges-step, edges-refused, edges-end}
 use Rattle.cell_builder.proofs.loops.clip_rest.Statement.{statement}
 use Rattle.cell_builder.proofs.loops.clip_rest.Tie as tie
 

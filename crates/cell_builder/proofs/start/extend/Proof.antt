@@ -2,7 +2,7 @@
 use Prim.Native.Nat.{_<_}
 use native.Mathlib.Omega.{arith}
 use borrow.Author.Needs.{needs}
-use Rattle.cell_builder.proofs.Starting.{extends-into, extended-all, extended-not}
+use Rattle.cell_builder.specs.laws.Starting.{extends-into, extended-all, extended-not}
 use Rattle.cell_builder.proofs.start.extend.Statement.{statement}
 use Rattle.cell_builder.proofs.start.extend.Tie as tie
 

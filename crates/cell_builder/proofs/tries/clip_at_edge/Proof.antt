@@ -6,7 +6,7 @@ use lib.ListN.{length, getD}
 use borrow.Author.Needs.{needs}
 use Rattle.mesh.specs.Mesh.{endOf}
 use Rattle.mesh.specs.Facts.{paired}
-use Rattle.cell_builder.proofs.TwoKinds.{edge-site, region-place, edge-kept, stage-room, edge-ringed, edge-tried}
+use Rattle.cell_builder.specs.laws.TwoKinds.{edge-site, region-place, edge-kept, stage-room, edge-ringed, edge-tried}
 use Rattle.cell_builder.proofs.tries.clip_at_edge.Statement.{statement}
 use Rattle.cell_builder.proofs.tries.clip_at_edge.Tie as tie
 

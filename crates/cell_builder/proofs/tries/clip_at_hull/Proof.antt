@@ -4,7 +4,7 @@ use Prim.Native.Nat.{_-_, _<_}
 use native.Mathlib.Omega.{arith}
 use lib.ListN.{length, getD}
 use borrow.Author.Needs.{needs}
-use Rattle.cell_builder.proofs.TwoKinds.{numbers-before, hull-stages, hull-paid, hull-ringed, hull-tried}
+use Rattle.cell_builder.specs.laws.TwoKinds.{numbers-before, hull-stages, hull-paid, hull-ringed, hull-tried}
 use Rattle.cell_builder.proofs.tries.clip_at_hull.Statement.{statement}
 use Rattle.cell_builder.proofs.tries.clip_at_hull.Tie as tie
 

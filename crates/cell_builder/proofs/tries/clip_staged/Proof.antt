@@ -4,7 +4,7 @@ use Prim.Native.Nat.{_+_, _-_, _<_}
 use native.Mathlib.Omega.{arith}
 use lib.ListN.{length, getD}
 use borrow.Author.Needs.{needs}
-use Rattle.interior.proofs.Staying.{answer, stays}
+use Rattle.interior.specs.laws.Staying.{answer, stays}
 use Rattle.cell_builder.specs.Tries.{envOf}
 use Rattle.cell_builder.proofs.tries.clip_staged.Statement.{statement}
 use Rattle.cell_builder.proofs.tries.clip_staged.Tie as tie

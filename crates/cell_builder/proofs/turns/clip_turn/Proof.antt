@@ -8,8 +8,8 @@ use borrow.Author.Needs.{needs}
 use borrow.Author.Tests.{ltb-true}
 use Rattle.laws.specs.And.{and-left, and-right}
 use Rattle.mesh.specs.Mesh.{endOf}
-use Rattle.cell_builder.proofs.TwoKinds.{edge-site, region-place}
-use Rattle.cell_builder.proofs.Turning.{table-place, turn-skipped, turn-tried}
+use Rattle.cell_builder.specs.laws.TwoKinds.{edge-site, region-place}
+use Rattle.cell_builder.specs.laws.Turning.{table-place, turn-skipped, turn-tried}
 use Rattle.cell_builder.proofs.turns.clip_turn.Statement.{statement}
 use Rattle.cell_builder.proofs.turns.clip_turn.Tie as tie
 

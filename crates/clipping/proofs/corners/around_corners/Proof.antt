@@ -4,7 +4,7 @@ use mathlib.Core.Path.{sym, _∙_, subst}
 use denote.Ref.{now}
 use Prim.Native.Nat.{ℕ, _<_}
 use Rattle.definition.specs.Cell.{crossing}
-use Rattle.clipping.proofs.Wrapping.{corners-first, corners-after, corners-none}
+use Rattle.clipping.specs.laws.Wrapping.{corners-first, corners-after, corners-none}
 use borrow.Author.Needs.{needs}
 use Rattle.clipping.proofs.corners.around_corners.Statement.{statement}
 use Rattle.clipping.proofs.corners.around_corners.Tie as tie

@@ -1,7 +1,7 @@
 -- `clipping::corners::goes` meets its contract: it asks the definition's two questions in their order.
 use borrow.Author.Needs.{needs}
 use mathlib.Core.Path.{sym}
-use Rattle.clipping.proofs.Wrapping.{goes-stop, goes-on}
+use Rattle.clipping.specs.laws.Wrapping.{goes-stop, goes-on}
 use Rattle.clipping.proofs.corners.goes.Statement.{statement}
 use Rattle.clipping.proofs.corners.goes.Tie as tie
 

@@ -4,7 +4,7 @@ use mathlib.Core.Path.{refl}
 use native.Mathlib.Omega.{arith}
 use denote.Ref.{now}
 use Rattle.utils.specs.Flat.{points}
-use Rattle.clipping.proofs.Wrapping.{insert-first-off, insert-second-off, insert-on}
+use Rattle.clipping.specs.laws.Wrapping.{insert-first-off, insert-second-off, insert-on}
 use borrow.Author.Needs.{needs}
 use Rattle.clipping.proofs.corners.insert_edge.Statement.{statement}
 use Rattle.clipping.proofs.corners.insert_edge.Tie as tie

@@ -2,7 +2,7 @@
 use native.Mathlib.Omega.{arith}
 use denote.Ref.{now}
 use Rattle.definition.specs.Cell.{crossing}
-use Rattle.clipping.proofs.Wrapping.{led-yes, led-not}
+use Rattle.clipping.specs.laws.Wrapping.{led-yes, led-not}
 use borrow.Author.Needs.{needs}
 use Rattle.clipping.proofs.corners.insert_sides.Statement.{statement}
 use Rattle.clipping.proofs.corners.insert_sides.Tie as tie

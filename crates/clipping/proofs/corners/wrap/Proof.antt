@@ -5,10 +5,10 @@ use mathlib.Core.Path.{_≡_, refl, sym, ap, _∙_}
 use native.Mathlib.Omega.{arith}
 use lib.ListN.{length, set, length-set}
 use Rattle.laws.specs.Count.{occ}
-use Rattle.mesh.specs.Mesh.{EMPTY}
+use Rattle.numbers.specs.Numbers.{EMPTY}
 use Rattle.definition.specs.Cell.{wraps, Ins, before, entry, wrapped}
-use Rattle.clipping.proofs.Entries.{occ-set, occ-le}
-use Rattle.clipping.proofs.Wrapping.{Going, going-start, going-on, going-end, goes-owns, wraps-go, wraps-stop}
+use Rattle.clipping.specs.laws.Entries.{occ-set, occ-le}
+use Rattle.clipping.specs.laws.Wrapping.{Going, going-start, going-on, going-end, goes-owns, wraps-go, wraps-stop}
 use Rattle.clipping.proofs.corners.wrap.Statement.{statement}
 use Rattle.clipping.proofs.corners.wrap.Tie as tie
 

@@ -1,5 +1,5 @@
 -- `clipping::edge::before_end` meets its contract: it asks the definition's question.
-use Rattle.clipping.proofs.Clips.{comes-before, comes-after}
+use Rattle.clipping.specs.laws.Clips.{comes-before, comes-after}
 use borrow.Author.Needs.{needs}
 use Rattle.clipping.proofs.edge.before_end.Statement.{statement}
 use Rattle.clipping.proofs.edge.before_end.Tie as tie

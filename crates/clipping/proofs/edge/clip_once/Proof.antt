@@ -1,6 +1,6 @@
 -- `clipping::edge::clip_once` meets its contract: the crossing is added as the store adds a point.
 use denote.Ref.{now}
-use Rattle.clipping.proofs.Clips.{clips-once}
+use Rattle.clipping.specs.laws.Clips.{clips-once}
 use borrow.Author.Needs.{needs}
 use Rattle.clipping.proofs.edge.clip_once.Statement.{statement}
 use Rattle.clipping.proofs.edge.clip_once.Tie as tie

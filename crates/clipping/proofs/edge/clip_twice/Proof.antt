@@ -1,7 +1,7 @@
 -- `clipping::edge::clip_twice` meets its contract: the second crossing is added to the vertices with the first.
 use native.Mathlib.Omega.{arith}
 use denote.Ref.{now}
-use Rattle.clipping.proofs.Clips.{clips-twice}
+use Rattle.clipping.specs.laws.Clips.{clips-twice}
 use borrow.Author.Needs.{needs}
 use Rattle.clipping.proofs.edge.clip_twice.Statement.{statement}
 use Rattle.clipping.proofs.edge.clip_twice.Tie as tie

@@ -2,7 +2,7 @@
 use mathlib.Core.Path.{sym, _∙_, refl}
 use denote.Ref.{now}
 use Rattle.utils.specs.Flat.{points}
-use Rattle.clipping.proofs.Clips.{clip-is, with-none}
+use Rattle.clipping.specs.laws.Clips.{clip-is, with-none}
 use borrow.Author.Needs.{needs}
 use Rattle.clipping.proofs.edge.clip_voronoi_edge.Statement.{statement}
 use Rattle.clipping.proofs.edge.clip_voronoi_edge.Tie as tie

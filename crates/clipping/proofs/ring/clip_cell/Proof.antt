@@ -6,8 +6,8 @@ use denote.Ref.{now}
 use Rattle.utils.specs.Flat.{points}
 use Rattle.definition.specs.Cell.{inBox}
 use Rattle.clipping.specs.Steps.{ringOf}
-use Rattle.clipping.proofs.Rounds.{length-ring, getD-ring, first-all, cell-inside, cell-outside}
-use Rattle.clipping.proofs.Steps.{never}
+use Rattle.clipping.specs.laws.Rounds.{length-ring, getD-ring, first-all, cell-inside, cell-outside}
+use Rattle.clipping.specs.laws.Steps.{never}
 use borrow.Author.Needs.{needs}
 use Rattle.clipping.proofs.ring.clip_cell.Statement.{statement}
 use Rattle.clipping.proofs.ring.clip_cell.Tie as tie

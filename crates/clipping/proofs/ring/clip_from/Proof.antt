@@ -3,8 +3,8 @@ use Prim.Native.Nat.{ℕ}
 use mathlib.Core.Path.{_≡_}
 use native.Mathlib.Omega.{arith}
 use denote.Ref.{now}
-use Rattle.clipping.proofs.Rounds.{getD-ring}
-use Rattle.clipping.proofs.Changes.{never}
+use Rattle.clipping.specs.laws.Rounds.{getD-ring}
+use Rattle.clipping.specs.laws.Changes.{never}
 use borrow.Author.Needs.{needs}
 use Rattle.clipping.proofs.ring.clip_from.Statement.{statement}
 use Rattle.clipping.proofs.ring.clip_from.Tie as tie

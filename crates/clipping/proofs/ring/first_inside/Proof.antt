@@ -8,7 +8,7 @@ use denote.Ref.{now}
 use Rattle.utils.specs.Flat.{points}
 use Rattle.definition.specs.Cell.{firstInside, inBox}
 use Rattle.clipping.specs.Steps.{ringOf}
-use Rattle.clipping.proofs.Rounds.{first-hit, first-miss, first-none, length-ring, getD-ring}
+use Rattle.clipping.specs.laws.Rounds.{first-hit, first-miss, first-none, length-ring, getD-ring}
 use Rattle.clipping.proofs.ring.first_inside.Statement.{statement}
 use Rattle.clipping.proofs.ring.first_inside.Tie as tie
 

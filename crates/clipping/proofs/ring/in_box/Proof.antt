@@ -3,7 +3,7 @@ use mathlib.Core.Path.{sym, ap, _∙_}
 use denote.Ref.{now}
 use Rattle.utils.specs.Flat.{points}
 use Rattle.bounding_box.specs.Box.{insideOf}
-use Rattle.clipping.proofs.Steps.{in-center, in-none}
+use Rattle.clipping.specs.laws.Steps.{in-center, in-none}
 use borrow.Author.Needs.{needs}
 use Rattle.clipping.proofs.ring.in_box.Statement.{statement}
 use Rattle.clipping.proofs.ring.in_box.Tie as tie

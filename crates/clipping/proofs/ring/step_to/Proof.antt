@@ -4,7 +4,7 @@ use mathlib.Core.Path.{refl, sym, _∙_}
 use denote.Ref.{now}
 use Rattle.utils.specs.Flat.{points}
 use Rattle.definition.specs.Cell.{clipStep}
-use Rattle.clipping.proofs.Steps.{step-refused, step-done, changes-low, changes-out, clip-out}
+use Rattle.clipping.specs.laws.Steps.{step-refused, step-done, changes-low, changes-out, clip-out}
 use borrow.Author.Needs.{needs}
 use Rattle.clipping.proofs.ring.step_to.Statement.{statement}
 use Rattle.clipping.proofs.ring.step_to.Tie as tie

@@ -7,7 +7,7 @@ use lib.ListN.{length, getD}
 use denote.Ref.{now}
 use Rattle.definition.specs.Cell as Def
 use Rattle.clipping.specs.Steps.{ringOf}
-use Rattle.clipping.proofs.Rounds.{Round, round-start, round-ready, round-last, round-next, round-stop, round-end, ring-same, length-ring, getD-ring}
+use Rattle.clipping.specs.laws.Rounds.{Round, round-start, round-ready, round-last, round-next, round-stop, round-end, ring-same, length-ring, getD-ring}
 use Rattle.clipping.proofs.ring.walk_ring.Statement.{statement}
 use Rattle.clipping.proofs.ring.walk_ring.Tie as tie
 

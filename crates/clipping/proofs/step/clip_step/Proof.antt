@@ -5,8 +5,8 @@ use denote.Ref.{now}
 use Rattle.utils.specs.Flat.{points}
 use Rattle.definition.specs.Fault.{ok}
 use Rattle.definition.specs.Cell.{entry, plain, change}
-use Rattle.clipping.proofs.Changes.{changes, leaves-none, grown-none}
-use Rattle.clipping.proofs.Steps.{step-stay, step-leave, step-enter, step-cross}
+use Rattle.clipping.specs.laws.Changes.{changes, leaves-none, grown-none}
+use Rattle.clipping.specs.laws.Steps.{step-stay, step-leave, step-enter, step-cross}
 use borrow.Author.Needs.{needs}
 use Rattle.clipping.proofs.step.clip_step.Statement.{statement}
 use Rattle.clipping.proofs.step.clip_step.Tie as tie

@@ -4,7 +4,7 @@ use mathlib.Core.Path.{refl}
 use denote.Ref.{now}
 use Rattle.utils.specs.Flat.{points}
 use Rattle.definition.specs.Cell.{clipEdge}
-use Rattle.clipping.proofs.Changes.{cross-missed, cross-once, cross-twice, once-below, twice-below, fits-up}
+use Rattle.clipping.specs.laws.Changes.{cross-missed, cross-once, cross-twice, once-below, twice-below, fits-up}
 use borrow.Author.Needs.{needs}
 use Rattle.clipping.proofs.step.cross.Statement.{statement}
 use Rattle.clipping.proofs.step.cross.Tie as tie

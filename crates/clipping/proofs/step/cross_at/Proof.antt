@@ -6,7 +6,7 @@ use denote.Ref.{now}
 use Rattle.utils.specs.Flat.{points}
 use Rattle.definition.specs.Fault.{ok, refused, andThen}
 use Rattle.definition.specs.Cell.{Ins, change, lastOr, insertEdge, link, crossAt}
-use Rattle.clipping.proofs.Changes.{alters-refused, alters-cross, linked}
+use Rattle.clipping.specs.laws.Changes.{alters-refused, alters-cross, linked}
 use borrow.Author.Needs.{needs}
 use Rattle.clipping.proofs.step.cross_at.Statement.{statement}
 use Rattle.clipping.proofs.step.cross_at.Tie as tie

@@ -4,7 +4,7 @@ use denote.Ref.{now}
 use Rattle.utils.specs.Flat.{points}
 use Rattle.definition.specs.Fault.{refused}
 use Rattle.definition.specs.Cell.{Ins, link}
-use Rattle.clipping.proofs.Changes.{alters-refused, alters-lone}
+use Rattle.clipping.specs.laws.Changes.{alters-refused, alters-lone}
 use borrow.Author.Needs.{needs}
 use Rattle.clipping.proofs.step.cross_once.Statement.{statement}
 use Rattle.clipping.proofs.step.cross_once.Tie as tie

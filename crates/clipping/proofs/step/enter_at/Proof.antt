@@ -4,7 +4,7 @@ use denote.Ref.{now}
 use borrow.Author.Tests.{eq-eqb}
 use Rattle.utils.specs.Flat.{points}
 use Rattle.definition.specs.Cell.{insertEdge, enterAt}
-use Rattle.clipping.proofs.Changes.{alters-enter}
+use Rattle.clipping.specs.laws.Changes.{alters-enter}
 use borrow.Author.Needs.{needs}
 use Rattle.clipping.proofs.step.enter_at.Statement.{statement}
 use Rattle.clipping.proofs.step.enter_at.Tie as tie

@@ -2,7 +2,7 @@
 use native.Mathlib.Omega.{arith}
 use denote.Ref.{now}
 use Rattle.utils.specs.Flat.{points}
-use Rattle.clipping.proofs.Changes.{link-opened, link-closed}
+use Rattle.clipping.specs.laws.Changes.{link-opened, link-closed}
 use borrow.Author.Needs.{needs}
 use Rattle.clipping.proofs.step.link.Statement.{statement}
 use Rattle.clipping.proofs.step.link.Tie as tie

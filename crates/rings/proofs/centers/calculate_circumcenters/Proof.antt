@@ -5,7 +5,7 @@ use native.Mathlib.Omega.{arith}
 use lib.ListN.{length}
 use borrow.Author.Needs.{needs}
 use borrow.Author.Tests.{not-true, not-false}
-use Rattle.rings.proofs.Centring.{Centring, centring-start, centring-bad, centring-step, centring-end}
+use Rattle.rings.specs.laws.Centring.{Centring, centring-start, centring-bad, centring-step, centring-end}
 use Rattle.rings.proofs.centers.calculate_circumcenters.Statement.{statement}
 use Rattle.rings.proofs.centers.calculate_circumcenters.Tie as tie
 

@@ -5,7 +5,7 @@ use native.Mathlib.Omega.{arith}
 use lib.ListN.{length, getD, length-set}
 use borrow.Author.Needs.{needs}
 use borrow.Author.Tests.{not-true, not-false}
-use Rattle.rings.proofs.Extending.{Extending, extending-start, extending-bad, extending-step, extending-end, turn-edge, turn-centre, turn-room}
+use Rattle.rings.specs.laws.Extending.{Extending, extending-start, extending-bad, extending-step, extending-end, turn-edge, turn-centre, turn-room}
 use Rattle.rings.proofs.extensions.extend_hull.Statement.{statement}
 use Rattle.rings.proofs.extensions.extend_hull.Tie as tie
 

@@ -3,7 +3,7 @@ use mathlib.Core.Path.{_≡_, _∙_}
 use Prim.Native.Nat.{_+_}
 use native.Mathlib.Omega.{arith}
 use lib.ListN.{length, length-set}
-use Rattle.rings.proofs.HullStaging.{staged-cons}
+use Rattle.rings.specs.laws.HullStaging.{staged-cons}
 use borrow.Author.Needs.{needs}
 use Rattle.rings.proofs.staging.stage_first.Statement.{statement}
 use Rattle.rings.proofs.staging.stage_first.Tie as tie

@@ -2,7 +2,7 @@
 use mathlib.Core.Path.{_≡_, refl, ap}
 use native.Mathlib.Omega.{arith}
 use lib.ListN.{length, getD}
-use Rattle.rings.proofs.HullStaging.{stage-room, first-ring, later-ring}
+use Rattle.rings.specs.laws.HullStaging.{stage-room, first-ring, later-ring}
 use borrow.Author.Needs.{needs}
 use Rattle.rings.proofs.staging.stage_hull_ring.Statement.{statement}
 use Rattle.rings.proofs.staging.stage_hull_ring.Tie as tie

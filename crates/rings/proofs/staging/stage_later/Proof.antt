@@ -4,8 +4,8 @@ use native.Mathlib.Omega.{arith}
 use lib.ListN.{length, length-set}
 use Prim.Native.Nat.{_+_, _≤_, _<_}
 use Rattle.definition.specs.Build.{ringFrom}
-use Rattle.rings.proofs.StagingLaws.{ring-room}
-use Rattle.rings.proofs.HullStaging.{staged-cons, staged-snoc}
+use Rattle.rings.specs.laws.StagingLaws.{ring-room}
+use Rattle.rings.specs.laws.HullStaging.{staged-cons, staged-snoc}
 use borrow.Author.Needs.{needs}
 use Rattle.rings.proofs.staging.stage_later.Statement.{statement}
 use Rattle.rings.proofs.staging.stage_later.Tie as tie

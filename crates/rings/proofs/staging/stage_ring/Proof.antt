@@ -5,7 +5,7 @@ use native.Mathlib.Omega.{arith}
 use lib.ListN.{length}
 use borrow.Author.Needs.{needs}
 use Rattle.mesh.specs.Mesh.{wholeOf}
-use Rattle.rings.proofs.StagingLaws.{Staging, staging-start, walk-room, staging-place, staging-less, staging-step, staging-end}
+use Rattle.rings.specs.laws.StagingLaws.{Staging, staging-start, walk-room, staging-place, staging-less, staging-step, staging-end}
 use Rattle.rings.proofs.staging.stage_ring.Statement.{statement}
 use Rattle.rings.proofs.staging.stage_ring.Tie as tie
 

@@ -5,7 +5,7 @@ use native.Mathlib.Omega.{arith}
 use lib.ListN.{length, getD}
 use borrow.Author.Needs.{needs}
 use Rattle.mesh.specs.Mesh.{endOf}
-use Rattle.unclipped.proofs.Rings.{site-place, start-place, walk-place, staged-place, ring-kept, ring-drawn}
+use Rattle.unclipped.specs.laws.Rings.{site-place, start-place, walk-place, staged-place, ring-kept, ring-drawn}
 use Rattle.unclipped.proofs.fill.fill_ring.Statement.{statement}
 use Rattle.unclipped.proofs.fill.fill_ring.Tie as tie
 

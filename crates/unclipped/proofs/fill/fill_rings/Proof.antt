@@ -9,7 +9,7 @@ use Rattle.layout.specs.Regions.{Regions}
 use Rattle.definition.specs.Cell.{Entry}
 use Rattle.outputs.specs.Lent.{unmarked}
 use Rattle.unclipped.specs.Fills.{Ready}
-use Rattle.unclipped.proofs.Rings.{Along, along-start, along-step, along-end}
+use Rattle.unclipped.specs.laws.Rings.{Along, along-start, along-step, along-end}
 use Rattle.unclipped.proofs.fill.fill_rings.Statement.{statement}
 use Rattle.unclipped.proofs.fill.fill_rings.Tie as tie
 

@@ -3,7 +3,7 @@ use Prim.Native.Nat.{_+_, _-_, _≤_, _<_}
 use native.Mathlib.Omega.{arith}
 use lib.ListN.{length, length-set}
 use borrow.Author.Needs.{needs}
-use Rattle.unclipped.proofs.Reversing.{Reversing, reversing-start, reversing-step, reversing-end}
+use Rattle.unclipped.specs.laws.Reversing.{Reversing, reversing-start, reversing-step, reversing-end}
 use Rattle.unclipped.proofs.reverse.reverse_part.Statement.{statement}
 use Rattle.unclipped.proofs.reverse.reverse_part.Tie as tie
 

@@ -4,7 +4,7 @@ use lib.ListN.{length-set}
 use Rattle.utils.specs.Flat.{flat, pour}
 use Rattle.bounding_box.specs.Box.{cornersOf}
 use borrow.Author.Needs.{needs}
-use Rattle.voronoi.proofs.PlaneLaws.{eight}
+use Rattle.voronoi.specs.laws.PlaneLaws.{eight}
 use Rattle.voronoi.proofs.plane.put_corners.Statement.{statement}
 use Rattle.voronoi.proofs.plane.put_corners.Tie as tie
 

@@ -1,5 +1,5 @@
 -- `voronoi::plane::voronoi_box`: each value where the box keeps rule 3. Assumes nothing.
-use Rattle.voronoi.proofs.PlaneLaws.{edges}
+use Rattle.voronoi.specs.laws.PlaneLaws.{edges}
 use Rattle.voronoi.proofs.plane.voronoi_box.Statement.{statement}
 use Rattle.voronoi.proofs.plane.voronoi_box.Tie as tie
 

@@ -1,6 +1,6 @@
 -- `voronoi::plane::voronoi_intersect_line`: the answer taken apart. Assumes nothing.
 use borrow.Author.Needs.{needs}
-use Rattle.voronoi.proofs.PlaneLaws.{meets}
+use Rattle.voronoi.specs.laws.PlaneLaws.{meets}
 use Rattle.voronoi.proofs.plane.voronoi_intersect_line.Statement.{statement}
 use Rattle.voronoi.proofs.plane.voronoi_intersect_line.Tie as tie
 

@@ -1,0 +1,6 @@
+-- Laws that only proofs use.
+pub mod Answered
+pub mod Forming
+pub mod Laying
+pub mod Showing
+pub mod Whole
