@@ -4,9 +4,6 @@ use utils::abs_diff_eq;
 use utils::site_ok;
 ghost use mathlib.Core.Path.{_≡_};
 ghost use Prim.Native.Nat.{_<_};
-ghost use lib.ListN.{getD};
-ghost use lib.Ieee.{nan};
-ghost use Rattle.utils.specs.Plane.{at};
 ghost use Rattle.bounding_box.specs.Box.{madeOf, widthOf, heightOf, cornersOf, insideOf, firstSide, whichOf, exclusiveOf};
 ghost use Rattle.bounding_box.specs.Rules.{okBox};
 

@@ -68,7 +68,9 @@ fn admit_build(
     counts: &mut [u32],
 ) -> u32
     requires { ⌜ asked < 7 ⌝ }
-    ensures { λ r. ⌜ BuildAdmission (now (sites .entry)) (now (triangles .entry)) (now (halfedges .entry)) (now (hull .entry)) asked (slices (now (work .entry)) (now (v .entry)) (now (ix .entry)) (now (off .entry)) (now (counts .entry))) (slices (now (work .exit)) (now (v .exit)) (now (ix .exit)) (now (off .exit)) (now (counts .exit))) r ⌝ }
+    ensures { λ r. ⌜ BuildAdmission (now (sites .entry)) (now (triangles .entry)) (now (halfedges .entry)) (now (hull .entry)) asked
+        (slices (now (work .entry)) (now (v .entry)) (now (ix .entry)) (now (off .entry)) (now (counts .entry)))
+        (slices (now (work .exit)) (now (v .exit)) (now (ix .exit)) (now (off .exit)) (now (counts .exit))) r ⌝ }
 {
     let roomy = room_for(
         sites.len(),
@@ -139,7 +141,9 @@ pub fn build(
     off: &mut [u32],
     counts: &mut [u32],
 ) -> u32
-    ensures { λ r. ⌜ Clipped (now (sites .entry)) (now (triangles .entry)) (now (halfedges .entry)) (now (hull .entry)) c width height (slices (now (work .entry)) (now (v .entry)) (now (ix .entry)) (now (off .entry)) (now (counts .entry))) (slices (now (work .exit)) (now (v .exit)) (now (ix .exit)) (now (off .exit)) (now (counts .exit))) r ⌝ }
+    ensures { λ r. ⌜ Clipped (now (sites .entry)) (now (triangles .entry)) (now (halfedges .entry)) (now (hull .entry)) c width height
+        (slices (now (work .entry)) (now (v .entry)) (now (ix .entry)) (now (off .entry)) (now (counts .entry)))
+        (slices (now (work .exit)) (now (v .exit)) (now (ix .exit)) (now (off .exit)) (now (counts .exit))) r ⌝ }
 {
     let asked = ask_box(c, width, height);
     let r = admit_build(
@@ -188,7 +192,9 @@ pub fn build_unclipped(
     off: &mut [u32],
     counts: &mut [u32],
 ) -> u32
-    ensures { λ r. ⌜ Unclipped (now (sites .entry)) (now (triangles .entry)) (now (halfedges .entry)) (now (hull .entry)) (slices (now (work .entry)) (now (v .entry)) (now (ix .entry)) (now (off .entry)) (now (counts .entry))) (slices (now (work .exit)) (now (v .exit)) (now (ix .exit)) (now (off .exit)) (now (counts .exit))) r ⌝ }
+    ensures { λ r. ⌜ Unclipped (now (sites .entry)) (now (triangles .entry)) (now (halfedges .entry)) (now (hull .entry))
+        (slices (now (work .entry)) (now (v .entry)) (now (ix .entry)) (now (off .entry)) (now (counts .entry)))
+        (slices (now (work .exit)) (now (v .exit)) (now (ix .exit)) (now (off .exit)) (now (counts .exit))) r ⌝ }
 {
     let r = admit_build(
         sites,

@@ -21,7 +21,6 @@ ghost use mathlib.Core.Path.{_≡_};
 ghost use mathlib.Core.List.{[], _∷_};
 ghost use Prim.Native.Nat.{_/_, _≤_};
 ghost use lib.ListN.{length};
-ghost use Rattle.mesh.specs.Accepted.{siteCount};
 ghost use Rattle.definition.specs.Fault.{refused as refusal};
 ghost use Rattle.definition.specs.Build.{build};
 ghost use Rattle.definition.specs.Theorems.{leftOf};
@@ -103,7 +102,9 @@ fn make_cells(
     off: &mut [u32],
 ) -> Progress
     requires { ⌜ Makeable (now sites) (now triangles) (now halfedges) (now hull) (now table) b owners (length (now v)) (length (now ix)) (length (now off)) ⌝ }
-    ensures { λ r. ⌜ Makes (now (sites .entry)) (now (triangles .entry)) (now (halfedges .entry)) (now (hull .entry)) (now (table .entry)) b owners (extendedOf (now (sites .entry)) (now (triangles .entry)) (now (hull .entry)) (now (table .entry)) b (length (now (triangles .entry)) / 3) (now (v .entry))) r (now (v .exit)) (now (ix .exit)) (now (off .exit)) ⌝ }
+    ensures { λ r. ⌜ Makes (now (sites .entry)) (now (triangles .entry)) (now (halfedges .entry)) (now (hull .entry)) (now (table .entry)) b owners
+        (extendedOf (now (sites .entry)) (now (triangles .entry)) (now (hull .entry)) (now (table .entry)) b (length (now (triangles .entry)) / 3)
+        (now (v .entry))) r (now (v .exit)) (now (ix .exit)) (now (off .exit)) ⌝ }
 {
     let f = frame(b, triangles.len(), hull.len());
     lay_out(triangles, hull, owners, ix, off, sites.len() / 2);
@@ -152,7 +153,9 @@ pub fn build_cells(
     off: &mut [u32],
 ) -> Answer
     requires { ⌜ Admitted (now sites) (now triangles) (now halfedges) (now hull) (now table) b (length (now v)) (length (now ix)) (length (now off)) ⌝ }
-    ensures { λ r. ⌜ (r ≡ answerOf (build (now (sites .entry)) (now (triangles .entry)) (now (halfedges .entry)) (now (hull .entry)) b)) × Lent (build (now (sites .entry)) (now (triangles .entry)) (now (halfedges .entry)) (now (hull .entry)) b) (now (v .entry)) (now (ix .entry)) (now (off .entry)) (now (v .exit)) (now (ix .exit)) (now (off .exit)) ⌝ }
+    ensures { λ r. ⌜ (r ≡ answerOf (build (now (sites .entry)) (now (triangles .entry)) (now (halfedges .entry)) (now (hull .entry)) b))
+        × Lent (build (now (sites .entry)) (now (triangles .entry)) (now (halfedges .entry)) (now (hull .entry)) b) (now (v .entry))
+        (now (ix .entry)) (now (off .entry)) (now (v .exit)) (now (ix .exit)) (now (off .exit)) ⌝ }
 {
     let t = calculate_circumcenters(sites, triangles, v);
     if t < triangles.len() / 3 {

@@ -81,7 +81,10 @@ pub fn clip_at_hull(
     i: usize,
 ) -> Progress
     requires { ⌜ HullAmid (now triangles) (now halfedges) (now hull) (now table) f (now off) p (now v) (now ix) i ⌝ }
-    ensures { λ r. ⌜ ((g : Ground) (s : Cells) → g .hull ≡ now (hull .entry) → getD (s .cells) (getD (now (hull .entry)) i 0) [] ≡ [] → Amid (now (triangles .entry)) (now (halfedges .entry)) f (now (off .entry)) g s p (now (v .entry)) (now (ix .entry)) → Does (now (triangles .entry)) (now (halfedges .entry)) f (now (off .entry)) g (hullTry (now (triangles .entry)) (now (halfedges .entry)) (now (table .entry)) f g i s) r (now (v .exit)) (now (ix .exit))) ⌝ }
+    ensures { λ r. ⌜ ((g : Ground) (s : Cells) → g .hull ≡ now (hull .entry) → getD (s .cells) (getD (now (hull .entry)) i 0) [] ≡ []
+        → Amid (now (triangles .entry)) (now (halfedges .entry)) f (now (off .entry)) g s p (now (v .entry)) (now (ix .entry))
+        → Does (now (triangles .entry)) (now (halfedges .entry)) f (now (off .entry)) g
+        (hullTry (now (triangles .entry)) (now (halfedges .entry)) (now (table .entry)) f g i s) r (now (v .exit)) (now (ix .exit))) ⌝ }
 {
     let site = hull[i];
     let numbers = f.limit - hull.len();
@@ -101,7 +104,9 @@ pub fn clip_at_edge(
     e: usize,
 ) -> Progress
     requires { ⌜ EdgesAmid (now triangles) (now halfedges) f (now off) p (now v) (now ix) × (e < length (now triangles)) ⌝ }
-    ensures { λ r. ⌜ ((g : Ground) (s : Cells) → Amid (now (triangles .entry)) (now (halfedges .entry)) f (now (off .entry)) g s p (now (v .entry)) (now (ix .entry)) → Does (now (triangles .entry)) (now (halfedges .entry)) f (now (off .entry)) g (edgeTry (now (triangles .entry)) (now (halfedges .entry)) f e s) r (now (v .exit)) (now (ix .exit))) ⌝ }
+    ensures { λ r. ⌜ ((g : Ground) (s : Cells) → Amid (now (triangles .entry)) (now (halfedges .entry)) f (now (off .entry)) g s p (now (v .entry))
+        (now (ix .entry)) → Does (now (triangles .entry)) (now (halfedges .entry)) f (now (off .entry)) g
+        (edgeTry (now (triangles .entry)) (now (halfedges .entry)) f e s) r (now (v .exit)) (now (ix .exit))) ⌝ }
 {
     let site = end_site(triangles, e);
     let base = wide(off[wide(site)]);

@@ -31,7 +31,10 @@ pub fn clip_turn(
     e: usize,
 ) -> Turn
     requires { ⌜ TurnAmid (now triangles) (now halfedges) (now table) f (now off) p full (now v) (now ix) e ⌝ }
-    ensures { λ r. ⌜ ((g : Ground) (s : Cells) → Amid (now (triangles .entry)) (now (halfedges .entry)) f (now (off .entry)) g s p (now (v .entry)) (now (ix .entry)) → now (table .entry) ≡ leftmostOf (now (triangles .entry)) (now (halfedges .entry)) (g .sites) → FullBefore (now (table .entry)) (g .sites) full e s → Turned (now (triangles .entry)) (now (halfedges .entry)) (now (table .entry)) f (now (off .entry)) g s e (r .progress) (r .full) (now (v .exit)) (now (ix .exit))) ⌝ }
+    ensures { λ r. ⌜ ((g : Ground) (s : Cells) → Amid (now (triangles .entry)) (now (halfedges .entry)) f (now (off .entry)) g s p (now (v .entry))
+        (now (ix .entry)) → now (table .entry) ≡ leftmostOf (now (triangles .entry)) (now (halfedges .entry)) (g .sites)
+        → FullBefore (now (table .entry)) (g .sites) full e s
+        → Turned (now (triangles .entry)) (now (halfedges .entry)) (now (table .entry)) f (now (off .entry)) g s e (r .progress) (r .full) (now (v .exit)) (now (ix .exit))) ⌝ }
 {
     let site = wide(end_site(triangles, e));
     if full & (wide(table[site]) < e) {

@@ -39,7 +39,8 @@ module _ (bs bs′ : List Float) (room : 4 ≤ length bs) (ss : List Float) (ts 
   to-mode (box x y w h) e q = rw (e, sets-all (clipFloats (box x y w h)) bs room) q
   to-mode unclipped e q = q
 
-module _ (m : Mesh) (f : Fits m) (bs ss : List Float) (ts es hs : List ℕ) (room : Room bs ss ts es hs) (bs′ ss′ : List Float) (ts′ es′ hs′ : List ℕ) (p : Put m bs ss ts es hs bs′ ss′ ts′ es′ hs′) (text : List ℕ) where
+module _ (m : Mesh) (f : Fits m) (bs ss : List Float) (ts es hs : List ℕ) (room : Room bs ss ts es hs) (bs′ ss′ : List Float) (ts′ es′ hs′ : List ℕ)
+    (p : Put m bs ss ts es hs bs′ ss′ ts′ es′ hs′) (text : List ℕ) where
   sites-are : take (2 * length (m .sites)) ss′ ≡ numbers siteFloats (m .sites)
   sites-are = rw (p .sites) (put _ ss _ (numbers-length siteFloats 2 (λ _. refl) (m .sites)) (omega (arith, f .few-sites, room .sites)))
 
@@ -53,7 +54,8 @@ module _ (m : Mesh) (f : Fits m) (bs ss : List Float) (ts es hs : List ℕ) (roo
   hull-is = rw (p .hull) (put (m .hull) hs _ refl (omega (arith, f .few-hull, room .hull)))
 
   pub to-mesh : ByForm (Sound (length (m .sites)) (length (m .triangles)) (length (m .hull)) (isUnclipped (m .clip))) bs′ ss′ ts′ es′ hs′ text → OfMesh m text
-  to-mesh q = rw (sites-are, tri-is, he-is, hull-is) at (to-clip bs bs′ (room .bounds) (take (2 * length (m .sites)) ss′) (take (3 * length (m .triangles)) ts′) (take (3 * length (m .triangles)) es′) (take (length (m .hull)) hs′) text (m .clip) (p .bounds) q)
+  to-mesh q = rw (sites-are, tri-is, he-is, hull-is) at (to-clip bs bs′ (room .bounds) (take (2 * length (m .sites)) ss′)
+      (take (3 * length (m .triangles)) ts′) (take (3 * length (m .triangles)) es′) (take (length (m .hull)) hs′) text (m .clip) (p .bounds) q)
 
   pub to-form : OfMesh m text → ByForm (Sound (length (m .sites)) (length (m .triangles)) (length (m .hull)) (isUnclipped (m .clip))) bs′ ss′ ts′ es′ hs′ text
   to-form q = rw (sites-are, tri-is, he-is, hull-is) (to-mode bs bs′ (room .bounds) _ _ _ _ text (m .clip) (p .bounds) q)

@@ -47,11 +47,20 @@ links n = replicate n 0
 abbrev read : List ℕ → Lent
 read s = takes (lent start (floats 4) (floats 192) (links 576) (links 576) (links 96)) s
 
-by-reader : (s text : List ℕ) (m : Mesh) → Fits m → s ≡ formOf m → OfMesh m text → ByForm (answer (read s .reader)) (read s .bounds) (read s .sites) (read s .triangles) (read s .halfedges) (read s .hull) text
+by-reader : (s text : List ℕ) (m : Mesh) → Fits m → s ≡ formOf m → OfMesh m text
+    → ByForm (answer (read s .reader)) (read s .bounds) (read s .sites) (read s .triangles) (read s .halfedges) (read s .hull) text
 by-reader s text m f e q =
     let w : Whole m (floats 4) (floats 192) (links 576) (links 576) (links 96) (read s) = rw e (complete (floats 4) (floats 192) (links 576) (links 576) (links 96) m f) in
-    let room : Room (floats 4) (floats 192) (links 576) (links 576) (links 96) = record { bounds = omega (arith, length-replicate 4 B.zero); sites = omega (arith, length-replicate 192 B.zero); triangles = omega (arith, length-replicate {A = ℕ} 576 0); halfedges = omega (arith, length-replicate {A = ℕ} 576 0); hull = omega (arith, length-replicate {A = ℕ} 96 0) } in
-    rw (w .answer) (to-form m f (floats 4) (floats 192) (links 576) (links 576) (links 96) room (read s .bounds) (read s .sites) (read s .triangles) (read s .halfedges) (read s .hull) (record { bounds = w .bounds; sites = w .sites; triangles = w .triangles; halfedges = w .halfedges; hull = w .hull }) text q)
+    let room : Room (floats 4) (floats 192) (links 576) (links 576)
+    (links 96) = record {
+      bounds = omega (arith, length-replicate 4 B.zero);
+      sites = omega (arith, length-replicate 192 B.zero);
+      triangles = omega (arith, length-replicate {A = ℕ} 576 0);
+      halfedges = omega (arith, length-replicate {A = ℕ} 576 0);
+      hull = omega (arith, length-replicate {A = ℕ} 96 0);
+    } in
+    rw (w .answer) (to-form m f (floats 4) (floats 192) (links 576) (links 576) (links 96) room (read s .bounds) (read s .sites) (read s .triangles)
+    (read s .halfedges) (read s .hull) (record { bounds = w .bounds; sites = w .sites; triangles = w .triangles; halfedges = w .halfedges; hull = w .hull }) text q)
 
 pub prints-one : {s a b : List ℕ} → Prints s a → Prints s b → a ≡ b
 prints-one {s} {a} {b} (sound m f e p) (sound n g d q) =

@@ -5,7 +5,7 @@ use libc::STDOUT_FILENO;
 use voronoi::builds::voronoi_build;
 use voronoi::builds::voronoi_build_unclipped;
 ghost use mathlib.Core.Path.{_≡_};
-ghost use Prim.Native.Nat.{_/_, _<_, _≤_};
+ghost use Prim.Native.Nat.{_<_, _≤_};
 ghost use lib.Ieee.{nan};
 ghost use lib.ListN.{length, getD, take};
 ghost use Rattle.utils.specs.Plane.{at};
@@ -76,7 +76,8 @@ fn in_box(
     hull: &[u32],
 ) -> usize
     requires { ⌜ Sized (length (now sites)) (length (now triangles)) (length (now hull)) (length (now out)) ⌝ }
-    ensures { λ r. ⌜ InBox (now (sites .entry)) (now (triangles .entry)) (now (halfedges .entry)) (now (hull .entry)) (at (getD bounds 0 nan) (getD bounds 1 nan)) (getD bounds 2 nan) (getD bounds 3 nan) (take r (now (out .exit))) × (r ≤ length (now (out .entry))) ⌝ }
+    ensures { λ r. ⌜ InBox (now (sites .entry)) (now (triangles .entry)) (now (halfedges .entry)) (now (hull .entry))
+        (at (getD bounds 0 nan) (getD bounds 1 nan)) (getD bounds 2 nan) (getD bounds 3 nan) (take r (now (out .exit))) × (r ≤ length (now (out .entry))) ⌝ }
 {
     let mut work = [0u32; 96];
     let mut vertices = [0.0f64; 3656];
@@ -144,7 +145,8 @@ fn of_mesh(
     hull: &[u32],
 ) -> usize
     requires { ⌜ Sized (length (now sites)) (length (now triangles)) (length (now hull)) (length (now out)) ⌝ }
-    ensures { λ r. ⌜ ByMode unclipped bounds (now (sites .entry)) (now (triangles .entry)) (now (halfedges .entry)) (now (hull .entry)) (take r (now (out .exit))) × (r ≤ length (now (out .entry))) ⌝ }
+    ensures { λ r. ⌜ ByMode unclipped bounds (now (sites .entry)) (now (triangles .entry)) (now (halfedges .entry)) (now (hull .entry))
+        (take r (now (out .exit))) × (r ≤ length (now (out .entry))) ⌝ }
 {
     if unclipped {
         return without_box(out, sites, triangles, halfedges, hull);
@@ -163,7 +165,8 @@ fn of_form(
     hull: &[u32],
 ) -> usize
     requires { ⌜ Room bounds (now sites) (now triangles) (now halfedges) (now hull) × Few form × (65536 ≤ length (now out)) ⌝ }
-    ensures { λ r. ⌜ ByForm form bounds (now (sites .entry)) (now (triangles .entry)) (now (halfedges .entry)) (now (hull .entry)) (take r (now (out .exit))) × (r ≤ length (now (out .entry))) ⌝ }
+    ensures { λ r. ⌜ ByForm form bounds (now (sites .entry)) (now (triangles .entry)) (now (halfedges .entry)) (now (hull .entry))
+        (take r (now (out .exit))) × (r ≤ length (now (out .entry))) ⌝ }
 {
     let Form::Sound {
         sites: n,

@@ -1,9 +1,9 @@
 -- The loops of rule 10: what each keeps from turn to turn, and how the answer comes out.
-use mathlib.Core.Path.{_≡_, refl, sym, ap, _∙_, subst}
+use mathlib.Core.Path.{_≡_, refl, sym, ap, _∙_}
 use mathlib.Core.Bool.{Bool, true, false}
 use mathlib.Core.List.{List}
 use mathlib.Core.Logic.{⊎-elim, _≢_}
-use Prim.Native.Nat.{ℕ, _+_, _%_, _≤_, _<_}
+use Prim.Native.Nat.{ℕ, _+_, _≤_, _<_}
 use native.Mathlib.Omega.{arith}
 use native.Mathlib.Numerals.{add-one}
 use lib.Dec.{eqb}
@@ -50,7 +50,8 @@ pub measuring-done : (he old new : List ℕ) (n : ℕ) → Measuring he old new 
 measuring-done he old new n g l = record { long = g .long; at = λ s h. g .done s (omega arith) }
 
 -- a turn of the loop that counts off
-pub owed-next : (tri t work : List ℕ) (e s s′ v : ℕ) → work ≡ owedTo tri t e → s ≡ s′ → s′ ≡ endOf tri e → v ≡ lessOf (getD work s 0) → set work s v ≡ owedTo tri t (e + 1)
+pub owed-next : (tri t work : List ℕ) (e s s′ v : ℕ) → work ≡ owedTo tri t e → s ≡ s′ → s′ ≡ endOf tri e → v ≡ lessOf (getD work s 0)
+    → set work s v ≡ owedTo tri t (e + 1)
 unfolding owedTo
 owed-next tri t work e s s′ v p q r h = rw add-one (cc)
 
@@ -65,7 +66,8 @@ module _ (tri he : List ℕ) (sites w : ℕ) (same : length he ≡ length tri) (
   at : (s : ℕ) → s < sites → getD (tableTo tri he w (length tri)) s 0 ≡ getD (leftmostOf tri he sites) s 0
   at s l = ap (λ t. getD t s 0) (table-longer tri he sites w fits ends) ∙ longer-at tri he sites w fits ends s l
 
-  leftmost-ends : (n s : ℕ) → s < n → ((e : ℕ) → e < length tri → endOf tri e < n) → getD (tableTo tri he n (length tri)) s 0 < length he → endOf tri (getD (tableTo tri he n (length tri)) s 0) ≡ s
+  leftmost-ends : (n s : ℕ) → s < n → ((e : ℕ) → e < length tri → endOf tri e < n) → getD (tableTo tri he n (length tri)) s 0 < length he
+      → endOf tri (getD (tableTo tri he n (length tri)) s 0) ≡ s
   leftmost-ends n s l h t = table-leftmost tri he n (length tri) s (omega (arith, ok .small)) h l .some (omega (arith, ok .small)) .1
 
   short : (t : ℕ) → length (wholeOf he t) < EMPTY
@@ -76,10 +78,12 @@ module _ (tri he : List ℕ) (sites w : ℕ) (same : length he ≡ length tri) (
       (lt-or-ge t (length he))
 
   -- the lowest site in debt is the lowest with a broken fan
-  pub broken-first : (tab lens owed : List ℕ) (r : ℕ) → tab ≡ tableTo tri he w (length tri) → Lengths he tab lens → owed ≡ owedTo tri lens (length tri) → First (λ s. getD owed s 0 ≢ EMPTY) sites r → First (FanAt tri he (leftmostOf tri he sites)) sites r
+  pub broken-first : (tab lens owed : List ℕ) (r : ℕ) → tab ≡ tableTo tri he w (length tri) → Lengths he tab lens
+      → owed ≡ owedTo tri lens (length tri) → First (λ s. getD owed s 0 ≢ EMPTY) sites r → First (FanAt tri he (leftmostOf tri he sites)) sites r
   broken-first tab lens owed r qt g qo f =
       first-same
-      (λ s l p e le q. all-reached tri he ok (getD (leftmostOf tri he sites) s 0) s (leftmost-ends sites s l ends) (omega (arith, spent-paid _ _ (λ z. p (count s l ∙ z)), long s l, ap (endsTo tri s) same)) e le q)
+      (λ s l p e le q. all-reached tri he ok (getD (leftmostOf tri he sites) s 0) s (leftmost-ends sites s l ends)
+      (omega (arith, spent-paid _ _ (λ z. p (count s l ∙ z)), long s l, ap (endsTo tri s) same)) e le q)
       (λ s l p z.
       let h = spent-debt _ _ (rw (long s l) (short _)) (sym (count s l) ∙ z) in
       omega (arith, h, long s l, ap (endsTo tri s) same, enough tri he ok (getD (leftmostOf tri he sites) s 0) s (leftmost-ends sites s l ends) p))
@@ -107,7 +111,8 @@ module _ (tri he : List ℕ) (sites w : ℕ) (same : length he ≡ length tri) (
   table-fan : (tab : List ℕ) → tab ≡ tableTo tri he w (length tri) → Fan tri he tab → (s : ℕ) → s < sites → FanAt tri he (leftmostOf tri he sites) s
   table-fan tab q f s l e le p = rw (← at s l, ← q, ← p) (f e le)
 
-module _ (tri he : List ℕ) (sites : ℕ) (old tab : List ℕ) (same : length he ≡ length tri) (ok : Paired tri he) (fits : sites ≤ length old) (named : (k : ℕ) → k < length tri → getD tri k 0 < sites) (q : tab ≡ tableTo tri he (length old) (length tri)) (b : Bool) (h : b ≡ eqb (totalTo he tab (length tab)) (length he)) where
+module _ (tri he : List ℕ) (sites : ℕ) (old tab : List ℕ) (same : length he ≡ length tri) (ok : Paired tri he) (fits : sites ≤ length old)
+    (named : (k : ℕ) → k < length tri → getD tri k 0 < sites) (q : tab ≡ tableTo tri he (length old) (length tri)) (b : Bool) (h : b ≡ eqb (totalTo he tab (length tab)) (length he)) where
   decided : Says b (Fan tri he tab)
   decided = total-says tri he tab ok (rw q (table-ends tri he sites (length old) same ok fits named)) b h
 

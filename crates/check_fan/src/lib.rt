@@ -87,7 +87,8 @@ fn first_owing(work: &[u32], n: usize) -> usize
 
 // The lowest site whose walk, of the table in the work slice, is shorter than its half-edges are many, or the number of sites.
 fn first_broken(triangles: &[u32], halfedges: &[u32], sites: usize, work: &mut [u32]) -> usize
-    requires { ⌜ (length (now halfedges) ≡ length (now triangles)) × Paired (now triangles) (now halfedges) × (sites ≤ length (now work)) × ((k : ℕ) → k < length (now triangles) → getD (now triangles) k 0 < sites) × (now work ≡ tableTo (now triangles) (now halfedges) (length (now work)) (length (now triangles))) ⌝ }
+    requires { ⌜ (length (now halfedges) ≡ length (now triangles)) × Paired (now triangles) (now halfedges) × (sites ≤ length (now work))
+        × ((k : ℕ) → k < length (now triangles) → getD (now triangles) k 0 < sites) × (now work ≡ tableTo (now triangles) (now halfedges) (length (now work)) (length (now triangles))) ⌝ }
     ensures { λ r. ⌜ First (FanAt (now (triangles .entry)) (now (halfedges .entry)) (leftmostOf (now (triangles .entry)) (now (halfedges .entry)) sites)) sites r ⌝ }
 {
     lengths(halfedges, work);
@@ -97,7 +98,8 @@ fn first_broken(triangles: &[u32], halfedges: &[u32], sites: usize, work: &mut [
 
 // Rule 10, with the leftmost table left in the work slice if it holds.
 pub fn check_fan(triangles: &[u32], halfedges: &[u32], sites: usize, work: &mut [u32]) -> usize
-    requires { ⌜ (length (now halfedges) ≡ length (now triangles)) × Paired (now triangles) (now halfedges) × (sites ≤ length (now work)) × ((k : ℕ) → k < length (now triangles) → getD (now triangles) k 0 < sites) ⌝ }
+    requires { ⌜ (length (now halfedges) ≡ length (now triangles)) × Paired (now triangles) (now halfedges) × (sites ≤ length (now work))
+        × ((k : ℕ) → k < length (now triangles) → getD (now triangles) k 0 < sites) ⌝ }
     ensures { λ r. ⌜ FanAnswer (now (triangles .entry)) (now (halfedges .entry)) sites (now (work .entry)) (now (work .exit)) r ⌝ }
 {
     mesh::leftmost(triangles, halfedges, work);

@@ -1,8 +1,8 @@
 -- The loops of rule 9: what each keeps from turn to turn, and how its answer comes out.
-use mathlib.Core.Path.{_≡_, refl, sym, ap, _∙_}
+use mathlib.Core.Path.{_≡_, refl, _∙_}
 use mathlib.Core.Bool.{Bool, true, false}
 use mathlib.Core.List.{List}
-use mathlib.Core.Logic.{_⊎_, inl, inr, ⊎-elim, _≢_}
+use mathlib.Core.Logic.{⊎-elim, _≢_}
 use Prim.Native.Nat.{ℕ, _+_, _≤_, _<_}
 use native.Mathlib.Omega.{arith}
 use native.Mathlib.Numerals.{add-one}
@@ -13,7 +13,6 @@ use borrow.Author.Tests.{lt-ltb, le-ltb}
 use Rattle.laws.specs.Pick.{pick}
 use Rattle.laws.specs.Decide.{First, Says, lt-or-ge, eq-or-ne}
 use Rattle.numbers.specs.Numbers.{EMPTY}
-use Rattle.mesh.specs.Mesh.{startOf}
 use Rattle.mesh.specs.Hull.{FreshAt}
 use Rattle.mesh.specs.declared.Fault.{Fault}
 use Rattle.mesh.specs.declared.Fault.the-variants.{None, HullPlace, HullEdge}
@@ -36,7 +35,8 @@ marks-next : (hull : List ℕ) (w n h : ℕ) (work : List ℕ) → work ≡ mark
 unfolding marksTo
 marks-next hull w n h work p q = rw add-one (cc)
 
-module _ (hull : List ℕ) (sites : ℕ) (old work : List ℕ) (i h : ℕ) (g : Marking hull sites old work i) (in-hull : i < length hull) (small : length hull < EMPTY) (fits : sites ≤ length old) (q : h ≡ getD hull i 0) where
+module _ (hull : List ℕ) (sites : ℕ) (old work : List ℕ) (i h : ℕ) (g : Marking hull sites old work i) (in-hull : i < length hull)
+    (small : length hull < EMPTY) (fits : sites ≤ length old) (q : h ≡ getD hull i 0) where
   pub no-site : sites ≤ h → First (FreshAt hull sites) (length hull) i
   no-site l = record { within = omega arith; before = g .fresh; at = λ _ f. omega (arith, f .0) }
 
@@ -80,7 +80,8 @@ left-next : (tri he hull t : List ℕ) (e : ℕ) (work new : List ℕ) → work 
 unfolding leftTo
 left-next tri he hull t e work new p q = rw add-one (cc)
 
-module _ (tri he hull t work new : List ℕ) (e stray : ℕ) (g : Unmarking tri he hull t work e stray) (l : e < length tri) (long : length new ≡ length work) (q : new ≡ unmarkAt tri he hull work e) where
+module _ (tri he hull t work new : List ℕ) (e stray : ℕ) (g : Unmarking tri he hull t work e stray) (l : e < length tri)
+    (long : length new ≡ length work) (q : new ≡ unmarkAt tri he hull work e) where
   pub unmarking-step : (sound : Bool) (r : ℕ) → Says sound (TakesAt tri he hull work e) → r ≡ lowestOf stray e sound → Unmarking tri he hull t new (e + 1) r
   unfolding lowestOf
   unmarking-step true r s z =
@@ -113,7 +114,8 @@ module _ (tri he hull t work new : List ℕ) (e stray : ℕ) (g : Unmarking tri 
       })
       (lt-or-ge e stray)
 
-pub unmarking-done : (tri he hull t work : List ℕ) (e stray : ℕ) → Unmarking tri he hull t work e stray → length tri ≤ e → (work ≡ leftTo tri he hull t (length tri)) × First (λ d. TakesAt tri he hull (leftTo tri he hull t d) d) (length tri) stray
+pub unmarking-done : (tri he hull t work : List ℕ) (e stray : ℕ) → Unmarking tri he hull t work e stray → length tri ≤ e
+    → (work ≡ leftTo tri he hull t (length tri)) × First (λ d. TakesAt tri he hull (leftTo tri he hull t d) d) (length tri) stray
 unmarking-done tri he hull t work e stray g l =
     let q : e ≡ length tri = omega (arith, g .room) in
     (rw (← q) (g .left), record { within = g .within; before = λ k h. g .before k (omega (arith, g .within)) h; at = λ h. g .at h .1 })
@@ -134,7 +136,10 @@ answers tri he hull sites w n r e u =
     (lt-or-ge r (length hull))
 
 -- the whole of rule 9: marks are the marks, work what is left of them
-pub checked : (tri he hull : List ℕ) (sites w n stray r : ℕ) (marks work : List ℕ) (f : Fault) → length he ≡ length tri → sites ≤ w → length hull < EMPTY → ((k : ℕ) → k < length tri → getD tri k 0 < w) → First (FreshAt hull sites) (length hull) n → marks ≡ marksTo hull w n → work ≡ leftTo tri he hull marks (length tri) → First (λ e. TakesAt tri he hull (leftTo tri he hull marks e) e) (length tri) stray → First (GoneAt hull work) n r → f ≡ answerOf r (length hull) stray (length tri) → HullAnswer tri he hull sites f
+pub checked : (tri he hull : List ℕ) (sites w n stray r : ℕ) (marks work : List ℕ) (f : Fault) → length he ≡ length tri → sites ≤ w
+    → length hull < EMPTY → ((k : ℕ) → k < length tri → getD tri k 0 < w) → First (FreshAt hull sites) (length hull) n → marks ≡ marksTo hull w n
+    → work ≡ leftTo tri he hull marks (length tri) → First (λ e. TakesAt tri he hull (leftTo tri he hull marks e) e) (length tri) stray
+    → First (GoneAt hull work) n r → f ≡ answerOf r (length hull) stray (length tri) → HullAnswer tri he hull sites f
 checked tri he hull sites w n stray r marks work f same fits small named fresh qm qw taken kept qf =
     rw (qf, ← same) (answers tri he hull sites w n r stray (record {
       fits = fits;

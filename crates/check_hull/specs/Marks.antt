@@ -4,7 +4,7 @@ use mathlib.Core.Path.{_≡_, refl, sym, ap, _∙_}
 use mathlib.Core.List.{List}
 use mathlib.Core.Bool.{Bool, true, false, not}
 use mathlib.Core.Logic.{_⊎_, inl, inr, ⊎-elim, _≢_}
-use Prim.Native.Nat.{ℕ, zero, suc, _+_, _≤_, _<_}
+use Prim.Native.Nat.{ℕ, zero, suc, _≤_, _<_}
 use native.Mathlib.Nat.{le-antisymm}
 use native.Mathlib.Omega.{arith}
 use lib.Dec.{ltb, eqb}
@@ -70,7 +70,8 @@ marks-at hull w (suc n) s small l =
     (eq-or-ne (getD hull n 0) s)
 
 -- fresh sites keep their own places
-pub marked : (hull : List ℕ) (sites w n : ℕ) → sites ≤ w → n ≤ EMPTY → ((i : ℕ) → i < n → FreshAt hull sites i) → (i : ℕ) → i < n → getD (marksTo hull w n) (getD hull i 0) 0 ≡ i
+pub marked : (hull : List ℕ) (sites w n : ℕ) → sites ≤ w → n ≤ EMPTY → ((i : ℕ) → i < n → FreshAt hull sites i) → (i : ℕ) → i < n
+    → getD (marksTo hull w n) (getD hull i 0) 0 ≡ i
 marked hull sites w n fits small fresh i l =
     let r : ℕ = getD (marksTo hull w n) (getD hull i 0) 0 in
     let g = marks-at hull w n (getD hull i 0) small (omega (arith, fresh i l .0)) in
@@ -93,7 +94,8 @@ leads-cases hull m b =
     (λ k. inr (λ z. omega (arith, z .0), rw (le-ltb m (length hull) k)))
     (lt-or-ge m (length hull))
 
-pub unmark-cases : (tri he hull t : List ℕ) (e : ℕ) → ((pairOf he e ≡ EMPTY) × Leads hull (getD t (startOf tri e) 0) (endOf tri e) × (unmarkAt tri he hull t e ≡ set t (startOf tri e) EMPTY)) ⊎ ((pairOf he e ≡ EMPTY → Leads hull (getD t (startOf tri e) 0) (endOf tri e) → ⊥) × (unmarkAt tri he hull t e ≡ t))
+pub unmark-cases : (tri he hull t : List ℕ) (e : ℕ) → ((pairOf he e ≡ EMPTY) × Leads hull (getD t (startOf tri e) 0) (endOf tri e)
+    × (unmarkAt tri he hull t e ≡ set t (startOf tri e) EMPTY)) ⊎ ((pairOf he e ≡ EMPTY → Leads hull (getD t (startOf tri e) 0) (endOf tri e) → ⊥) × (unmarkAt tri he hull t e ≡ t))
 unfolding unmarkAt
 unmark-cases tri he hull t e =
     ⊎-elim
@@ -119,7 +121,8 @@ module _ (tri he hull t : List ℕ) (e : ℕ) where
     unmark-stray n =
         let f = here ∙ not-true r n in (
           rw (eq-eqb (pairOf he e) EMPTY p, f),
-          λ k. ⊎-elim (λ g. let z : _≡_ {A = Bool} true false = sym (g .1) ∙ f in let y : _≡_ {A = ℕ} 0 1 = cc in omega arith) (λ g. g .0 (k p)) (leads-cases hull (getD t (startOf tri e) 0) (endOf tri e)),
+          λ k. ⊎-elim (λ g. let z : _≡_ {A = Bool} true false = sym (g .1) ∙ f in let y : _≡_ {A = ℕ} 0 1 = cc in omega arith) (λ g. g .0 (k p))
+              (leads-cases hull (getD t (startOf tri e) 0) (endOf tri e)),
         )
 
     pub unmark-taken : not r ≡ false → (set t a EMPTY ≡ unmarkAt tri he hull t e) × TakesAt tri he hull t e
@@ -127,7 +130,8 @@ module _ (tri he hull t : List ℕ) (e : ℕ) where
     unmark-taken n =
         let f = here ∙ not-false r n in (
           rw (eq-eqb (pairOf he e) EMPTY p, f, qa),
-          λ _. ⊎-elim (λ g. g .0) (λ g. let z : _≡_ {A = Bool} true false = sym f ∙ g .1 in let y : _≡_ {A = ℕ} 0 1 = cc in absurd (omega arith)) (leads-cases hull (getD t (startOf tri e) 0) (endOf tri e)),
+          λ _. ⊎-elim (λ g. g .0) (λ g. let z : _≡_ {A = Bool} true false = sym f ∙ g .1 in let y : _≡_ {A = ℕ} 0 1 = cc in absurd (omega arith))
+              (leads-cases hull (getD t (startOf tri e) 0) (endOf tri e)),
         )
 
 pub left-length : (tri he hull t : List ℕ) (n : ℕ) → length (leftTo tri he hull t n) ≡ length t
@@ -168,7 +172,8 @@ module _ (tri he hull t : List ℕ) (a i : ℕ) (la : a < length t) (li : i < le
   more n o = (o .0, omega (arith, o .1), o .2, o .3, o .4)
 
   -- one more half-edge, which is no such one
-  pass : (n r : ℕ) → (r ≢ EMPTY → r ≡ i → (pairOf he n ≡ EMPTY) → (startOf tri n ≡ a) → (endOf tri n ≡ nextSite hull i) → ⊥) → LeftAt tri he n a (nextSite hull i) i r → LeftAt tri he (suc n) a (nextSite hull i) i r
+  pass : (n r : ℕ) → (r ≢ EMPTY → r ≡ i → (pairOf he n ≡ EMPTY) → (startOf tri n ≡ a) → (endOf tri n ≡ nextSite hull i) → ⊥)
+      → LeftAt tri he n a (nextSite hull i) i r → LeftAt tri he (suc n) a (nextSite hull i) i r
   pass n r h g = record {
     gone = λ z. more n (g .gone z);
     kept = λ z. (
@@ -193,7 +198,17 @@ module _ (tri he hull t : List ℕ) (a i : ℕ) (la : a < length t) (li : i < le
       (λ h.
       let k = set-hit u (startOf tri n) EMPTY a h (rw (left-length tri he hull t n) la) in
       let there : r ≢ EMPTY = λ z. omega (arith, w .1 .0, ap (λ s. getD u s 0) h) in
-      rw (w .2, k) (record { gone = λ _. (n, omega arith, w .0, h, sym (w .1 .1) ∙ ap (λ s. nextSite hull (getD u s 0)) h ∙ ap (nextSite hull) (g .kept there .0)); kept = λ z. absurd (z refl) }))
+      rw (w .2, k) (record {
+        gone = λ _. (
+          n,
+          omega arith,
+          w .0,
+          h,
+          sym (w .1 .1) ∙ ap (λ s. nextSite hull (getD u s 0)) h
+              ∙ ap (nextSite hull) (g .kept there .0),
+        );
+        kept = λ z. absurd (z refl);
+      }))
       (λ h. rw (w .2, getD-set-other u (startOf tri n) a EMPTY 0 (λ z. h (sym z))) (pass n r (λ _ _ _ s _. h s) g))
       (eq-or-ne (startOf tri n) a))
       (λ w. rw (w .1) (pass n r (λ _ e p s b. w .0 p (rw (s, e) li, rw (s, e) (sym b))) g))

@@ -1,14 +1,14 @@
 -- The marks that are left decide rule 9: the lowest place that kept its mark, and the lowest unpaired half-edge that took none off, are the
 -- lowest offenders.
-use mathlib.Core.Path.{_≡_, refl, sym, ap, _∙_}
+use mathlib.Core.Path.{_≡_, sym, ap, _∙_}
 use mathlib.Core.List.{List}
-use mathlib.Core.Logic.{_⊎_, inl, inr, ⊎-elim, _≢_}
+use mathlib.Core.Logic.{⊎-elim, _≢_}
 use Prim.Native.Nat.{ℕ, _≤_, _<_}
 use native.Mathlib.Omega.{arith}
 use lib.ListN.{length, getD}
 use Rattle.laws.specs.Decide.{First, lt-or-ge, eq-or-ne, first-all}
-use Rattle.mesh.specs.Mesh.{startOf, endOf, pairOf}
-use Rattle.mesh.specs.Hull.{nextSite, FreshAt, EdgeAt, PlaceAt, BorderAt, Hull}
+use Rattle.mesh.specs.Mesh.{startOf}
+use Rattle.mesh.specs.Hull.{nextSite, FreshAt, EdgeAt, PlaceAt, BorderAt}
 use Rattle.mesh.specs.declared.Fault.the-variants.{None, HullPlace, HullEdge}
 use Rattle.check_hull.specs.Answer.{HullAnswer}
 use Rattle.laws.specs.Refusals.{offends, all-keep, nothing}
@@ -22,7 +22,8 @@ GoneAt hull t i = getD t (getD hull i 0) 0 ≡ EMPTY
 -- the places below n are fresh and were marked
 module _ (tri he hull : List ℕ) (sites w n : ℕ) (fits : sites ≤ w) (small : length hull < EMPTY) (all : n ≤ length hull) (fresh : (i : ℕ) → i < n → FreshAt hull sites i) where
   left : (i : ℕ) → i < n → (k : ℕ) → LeftAt tri he k (getD hull i 0) (nextSite hull i) i (getD (leftTo tri he hull (marksTo hull w n) k) (getD hull i 0) 0)
-  left i l = left-at tri he hull (marksTo hull w n) (getD hull i 0) i (rw (marks-length hull w n) (omega (arith, fresh i l .0))) (omega arith) small (marked hull sites w n fits (omega arith) fresh i l)
+  left i l = left-at tri he hull (marksTo hull w n) (getD hull i 0) i (rw (marks-length hull w n) (omega (arith, fresh i l .0))) (omega arith) small
+      (marked hull sites w n fits (omega arith) fresh i l)
 
   gone-edge : (i : ℕ) → i < n → GoneAt hull (leftTo tri he hull (marksTo hull w n) (length he)) i → EdgeAt tri he hull i
   gone-edge i l q = left i l (length he) .gone q
@@ -69,7 +70,11 @@ module _ (tri he hull : List ℕ) (sites w n r e : ℕ) (u : Unmarked tri he hul
   places : First (PlaceAt tri he hull sites) (length hull) r
   places = record {
     within = omega (arith, u .fresh .within, u .kept .within);
-    before = λ i l. (u .fresh .before i (omega (arith, u .kept .within)), gone-edge tri he hull sites w n (u .fits) (u .small) (u .fresh .within) (u .fresh .before) i (omega (arith, u .kept .within)) (u .kept .before i l));
+    before = λ i l. (
+      u .fresh .before i (omega (arith, u .kept .within)),
+      gone-edge tri he hull sites w n (u .fits) (u .small) (u .fresh .within)
+          (u .fresh .before) i (omega (arith, u .kept .within)) (u .kept .before i l),
+    );
     at = λ l p.
         ⊎-elim
         (λ h. u .kept .at h (edge-gone tri he hull sites w n (u .fits) (u .small) (u .fresh .within) (u .fresh .before) r h (p .1)))

@@ -65,7 +65,8 @@ fn unmark_one(
     e: usize,
 ) -> bool
     requires { ⌜ (length (now triangles) % 3 ≡ 0) × (length (now halfedges) ≡ length (now triangles)) × (e < length (now triangles)) × (startOf (now triangles) e < length (now work)) ⌝ }
-    ensures { λ r. ⌜ (now (work .exit) ≡ unmarkAt (now (triangles .entry)) (now (halfedges .entry)) (now (hull .entry)) (now (work .entry)) e) × Says r (TakesAt (now (triangles .entry)) (now (halfedges .entry)) (now (hull .entry)) (now (work .entry)) e) ⌝ }
+    ensures { λ r. ⌜ (now (work .exit) ≡ unmarkAt (now (triangles .entry)) (now (halfedges .entry)) (now (hull .entry)) (now (work .entry)) e)
+        × Says r (TakesAt (now (triangles .entry)) (now (halfedges .entry)) (now (hull .entry)) (now (work .entry)) e) ⌝ }
 {
     let p = halfedges[e];
     if p != EMPTY {
@@ -97,8 +98,11 @@ fn lowest(old: usize, e: usize, sound: bool) -> usize
 // Takes the mark off each site that has an unpaired half-edge to the next site of the hull. Answers the lowest unpaired half-edge that took
 // no mark off, or the number of half-edges.
 fn unmark(triangles: &[u32], halfedges: &[u32], hull: &[u32], work: &mut [u32]) -> usize
-    requires { ⌜ (length (now triangles) % 3 ≡ 0) × (length (now halfedges) ≡ length (now triangles)) × ((k : ℕ) → k < length (now triangles) → getD (now triangles) k 0 < length (now work)) ⌝ }
-    ensures { λ r. ⌜ (now (work .exit) ≡ leftTo (now (triangles .entry)) (now (halfedges .entry)) (now (hull .entry)) (now (work .entry)) (length (now (triangles .entry)))) × First (λ e. TakesAt (now (triangles .entry)) (now (halfedges .entry)) (now (hull .entry)) (leftTo (now (triangles .entry)) (now (halfedges .entry)) (now (hull .entry)) (now (work .entry)) e) e) (length (now (triangles .entry))) r ⌝ }
+    requires { ⌜ (length (now triangles) % 3 ≡ 0) × (length (now halfedges) ≡ length (now triangles))
+        × ((k : ℕ) → k < length (now triangles) → getD (now triangles) k 0 < length (now work)) ⌝ }
+    ensures { λ r. ⌜ (now (work .exit) ≡ leftTo (now (triangles .entry)) (now (halfedges .entry)) (now (hull .entry)) (now (work .entry))
+        (length (now (triangles .entry)))) × First (λ e. TakesAt (now (triangles .entry)) (now (halfedges .entry)) (now (hull .entry))
+        (leftTo (now (triangles .entry)) (now (halfedges .entry)) (now (hull .entry)) (now (work .entry)) e) e) (length (now (triangles .entry))) r ⌝ }
 {
     let mut stray = triangles.len();
     let mut e: usize = 0;
@@ -146,7 +150,8 @@ pub fn check_hull(
     sites: usize,
     work: &mut [u32],
 ) -> Fault
-    requires { ⌜ (length (now triangles) % 3 ≡ 0) × (length (now halfedges) ≡ length (now triangles)) × (sites ≤ length (now work)) × (length (now hull) < 4294967295) × ((k : ℕ) → k < length (now triangles) → getD (now triangles) k 0 < length (now work)) ⌝ }
+    requires { ⌜ (length (now triangles) % 3 ≡ 0) × (length (now halfedges) ≡ length (now triangles)) × (sites ≤ length (now work))
+        × (length (now hull) < 4294967295) × ((k : ℕ) → k < length (now triangles) → getD (now triangles) k 0 < length (now work)) ⌝ }
     ensures { λ r. ⌜ HullAnswer (now (triangles .entry)) (now (halfedges .entry)) (now (hull .entry)) sites r ⌝ }
 {
     let fresh = mark_hull(hull, sites, work);

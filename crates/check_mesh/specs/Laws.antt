@@ -2,7 +2,6 @@
 use mathlib.Core.Path.{_≡_, sym, ap, _∙_}
 use mathlib.Core.List.{List}
 use Prim.Native.Nat.{ℕ, _≤_}
-use native.Mathlib.Omega.{arith}
 use lib.Ieee.{Float}
 use borrow.Author.Needs.{needs}
 use Rattle.laws.specs.Refusals.{finds-one, finds-keep, finds-none}
@@ -21,7 +20,8 @@ module _ (sites : List Float) (tri he hull : List ℕ) (w : ℕ) where
   pub none-found : Accepted sites tri he hull → siteCount sites ≤ w → Finding sites tri he hull w None
   none-found a l = finds-none (accepted-keep sites tri he hull (siteCount sites ≤ w) a l)
 
-pub answer-one : (sites : List Float) (tri he hull old new other : List ℕ) (f g : Fault) → MeshAnswer sites tri he hull old new f → MeshAnswer sites tri he hull old other g → (f ≡ g) × (new ≡ other)
+pub answer-one : (sites : List Float) (tri he hull old new other : List ℕ) (f g : Fault) → MeshAnswer sites tri he hull old new f
+    → MeshAnswer sites tri he hull old other g → (f ≡ g) × (new ≡ other)
 answer-one sites tri he hull old new other f g a b =
     let q = finds-one (a .finding) (b .finding) in
     (q, a .work ∙ ap (λ k. workAfter tri he (siteCount sites) old (numberOf k)) q ∙ sym (b .work))

@@ -16,5 +16,6 @@ pub record Rounds (tri he : List ℕ) (s t : ℕ) : Type 0 where
   pub only : (e : ℕ) → 0 < occ e (wholeOf he t) → (e < length he) × (endOf tri e ≡ s)
   pub stops : (fuel : ℕ) → length he ≤ fuel → walkOf he t fuel t ≡ wholeOf he t
 
-pub accepted-rounds : {sites : List Float} {tri he hull : List ℕ} → Accepted sites tri he hull → (s : ℕ) → s < siteCount sites → Rounds tri he s (getD (leftmostOf tri he (siteCount sites)) s 0)
+pub accepted-rounds : {sites : List Float} {tri he hull : List ℕ} → Accepted sites tri he hull → (s : ℕ) → s < siteCount sites
+    → Rounds tri he s (getD (leftmostOf tri he (siteCount sites)) s 0)
 accepted-rounds a s l = record { each = walk-each (topology a) s l; only = walk-only (topology a) s l; stops = walk-stops (topology a) s l }

@@ -1,16 +1,13 @@
 -- How the answers of single rules come together.
-use mathlib.Core.Path.{_≡_, refl, sym, ap, _∙_}
-use mathlib.Core.Bool.{Bool, true, false, not}
+use mathlib.Core.Path.{_≡_, sym, ap, _∙_}
 use mathlib.Core.List.{List, _++_}
 use mathlib.Core.Logic.{_≢_}
 use Prim.Native.Nat.{ℕ, _%_, _≤_, _<_}
 use native.Mathlib.Omega.{arith}
-use lib.Dec.{ltb, eqb}
 use lib.Ieee.{Float}
 use lib.ListN.{length, getD, replicate}
 use borrow.Author.Tests.{eq-eqb, ne-eqb, lt-ltb, le-ltb}
 use borrow.Author.Needs.{needs}
-use Rattle.laws.specs.Pick.{pick}
 use Rattle.laws.specs.Decide.{First, first-all}
 use Rattle.laws.specs.Refusals.{Keep, Finds, breaks, offends, keeps, all-keep, nothing, finds-keep, finds-first, finds-after}
 use Rattle.numbers.specs.Numbers.{EMPTY}
@@ -70,7 +67,8 @@ module _ (tri he hull : List ℕ) (sites : ℕ) (old : List ℕ) where
       }
 
   -- rules 7 to 10
-  topology-cleared : (new : List ℕ) (f : Fault) → Finds (topologyRules tri he hull sites) None f → numberOf f ≢ 0 → new ≡ replicate (length old) EMPTY → TopologyAnswer tri he hull sites old new f
+  topology-cleared : (new : List ℕ) (f : Fault) → Finds (topologyRules tri he hull sites) None f → numberOf f ≢ 0
+      → new ≡ replicate (length old) EMPTY → TopologyAnswer tri he hull sites old new f
   topology-cleared new f v n e = record { verdict = v; work = e ∙ sym (work-cleared tri he sites old (numberOf f) (topology-late tri he hull sites v n)) }
 
   module _ (f : Fault) (k : ℕ) (a : ShapeAnswer tri he sites f) (q : k ≡ numberOf f) where

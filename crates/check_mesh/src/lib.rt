@@ -1,9 +1,9 @@
 // The checker: rule 1 on counts, rule 2 on the work slice, rule 6 on coordinates, and rules 7 to 10, each tried where the earlier ones hold.
 ghost use mathlib.Core.Path.{_≡_};
-ghost use Prim.Native.Nat.{ℕ, _%_, _<_, _≤_};
-ghost use lib.ListN.{length, getD};
+ghost use Prim.Native.Nat.{_%_, _<_, _≤_};
+ghost use lib.ListN.{length};
 ghost use Rattle.laws.specs.Decide.{Says};
-ghost use Rattle.mesh.specs.Mesh.{leftmostIn, AllSound, AllPaired};
+ghost use Rattle.mesh.specs.Mesh.{AllSound, AllPaired};
 ghost use Rattle.mesh.specs.Rules.{numberOf};
 ghost use Rattle.mesh.specs.Accepted.{Counted};
 ghost use Rattle.check_mesh.specs.Answers.{ShapeAnswer, BorderAnswer, TopologyAnswer, MeshAnswer};
@@ -84,7 +84,8 @@ fn check_border(
     sites: usize,
     work: &mut [u32],
 ) -> Fault
-    requires { ⌜ (length (now triangles) % 3 ≡ 0) × (length (now halfedges) ≡ length (now triangles)) × (length (now triangles) < 4294967295) × (length (now hull) < 4294967295) × (sites ≤ length (now work)) × AllSound (now triangles) sites × AllPaired (now triangles) (now halfedges) ⌝ }
+    requires { ⌜ (length (now triangles) % 3 ≡ 0) × (length (now halfedges) ≡ length (now triangles)) × (length (now triangles) < 4294967295)
+        × (length (now hull) < 4294967295) × (sites ≤ length (now work)) × AllSound (now triangles) sites × AllPaired (now triangles) (now halfedges) ⌝ }
     ensures { λ r. ⌜ BorderAnswer (now (triangles .entry)) (now (halfedges .entry)) (now (hull .entry)) sites (now (work .entry)) (now (work .exit)) r ⌝ }
 {
     let f = check_hull::check_hull(triangles, halfedges, hull, sites, work);
@@ -106,7 +107,8 @@ pub fn check_topology(
     sites: usize,
     work: &mut [u32],
 ) -> Fault
-    requires { ⌜ (length (now triangles) % 3 ≡ 0) × (length (now halfedges) ≡ length (now triangles)) × (length (now triangles) < 4294967295) × (length (now hull) < 4294967295) × (sites ≤ length (now work)) ⌝ }
+    requires { ⌜ (length (now triangles) % 3 ≡ 0) × (length (now halfedges) ≡ length (now triangles)) × (length (now triangles) < 4294967295)
+        × (length (now hull) < 4294967295) × (sites ≤ length (now work)) ⌝ }
     ensures { λ r. ⌜ TopologyAnswer (now (triangles .entry)) (now (halfedges .entry)) (now (hull .entry)) sites (now (work .entry)) (now (work .exit)) r ⌝ }
 {
     let f = check_shape(triangles, halfedges, sites);

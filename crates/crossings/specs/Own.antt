@@ -15,7 +15,8 @@ use Rattle.utils.specs.Rules.{okSite}
 use Rattle.bounding_box.specs.Box.{madeOf}
 use Rattle.bounding_box.specs.Rules.{okBox}
 use Rattle.bounding_box.specs.declared.BoundingBox.{BoundingBox}
-use Rattle.crossings.specs.Cross.{oneIf, twoIf, some, orOf, joinOf, firstHeld, settleOf, rightHit, leftHit, topHit, bottomHit, uprightHit, lineOf, orderPick, eitherOf, orderBy, orderOne, orderTwo, orderOf, rayOf}
+use Rattle.crossings.specs.Cross.{oneIf, twoIf, some, orOf, joinOf, firstHeld, settleOf, rightHit, leftHit, topHit, bottomHit, uprightHit}
+use Rattle.crossings.specs.Cross.{lineOf, orderPick, eitherOf, orderBy, orderOne, orderTwo, orderOf, rayOf}
 use Rattle.crossings.specs.Rules.{metBy, lineAnswer, rayAnswer, pointsOf}
 use Rattle.crossings.specs.declared.Crossing.{Crossing}
 use Rattle.crossings.specs.declared.Crossing.the-variants.{None, One, Two}

@@ -2,7 +2,7 @@
 -- b is the box, nc the number of circumcenters, vs the vertices, os the four corners' owners: a corner that was wrapped has EMPTY.
 use Prim.Native.Nat.{ℕ, zero, suc, _+_, _%_}
 use mathlib.Core.Bool.{Bool, true, false, _&&_}
-use mathlib.Core.List.{List, [], _∷_, _++_, map, reverse}
+use mathlib.Core.List.{List, [], _∷_, _++_, reverse}
 use lib.ListN.{length, getD, set, take, drop}
 use lib.Dec.{ltb, eqb}
 use lib.Ieee.{Float, nan, eq}

@@ -1,6 +1,6 @@
 -- The unclipped build (ClipBehavior::None): a cell is the walk from the lowest half-edge that ends at its site, reversed, even where that cuts a hull fan.
 use Prim.Native.Nat.{ℕ, zero, suc, _/_}
-use mathlib.Core.List.{List, [], _∷_, map, reverse}
+use mathlib.Core.List.{List, [], map, reverse}
 use lib.ListN.{length, getD, set, replicate}
 use lib.Ieee.{Float}
 use Rattle.laws.specs.Pick.{pick}

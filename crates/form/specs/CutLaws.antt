@@ -1,20 +1,18 @@
 -- Runs of bytes that a record cuts: a body is there whole, or the form does not end; and its bytes are those of one record.
 use mathlib.Core.Path.{_≡_, refl, sym, ap, _∙_, subst}
-use mathlib.Core.Bool.{Bool, true, false}
+use mathlib.Core.Bool.{true, false}
 use mathlib.Core.List.{List, [], _∷_, _++_}
-use mathlib.Core.Logic.{_⊎_, inl, inr, ⊎-elim, _≢_}
-use Prim.Native.Nat.{ℕ, zero, suc, _+_, _-_, _*_, _^_, _≤_, _<_}
+use mathlib.Core.Logic.{⊎-elim, _≢_}
+use Prim.Native.Nat.{ℕ, zero, suc, _+_, _^_, _≤_, _<_}
 use native.Mathlib.Omega.{arith}
 use lib.ListN.{length, take, drop, take-append-drop, length-drop}
 use lib.Seq.{length-take-le}
 use Rattle.laws.specs.Decide.{lt-or-ge}
-use Rattle.laws.specs.Pick.{pick}
 use Rattle.form.specs.Bytes.{Bytes, word, le}
-use Rattle.form.specs.Form.{Clip, box, unclipped, Site, Triangle, ClipFits, SiteFits, TriangleFits, HullFits, clipBytes, siteBytes, triangleBytes, hullBytes}
-use Rattle.form.specs.Reader.{sizeOf, follows, refused, begun, inside, outside, step, steps, Lent, lent, takes}
-use Rattle.form.specs.StepLaws.{Kind, site, triangle, hull, end, follows-cases, step-broken, step-outside, step-inside}
+use Rattle.form.specs.Form.{box, ClipFits, SiteFits, TriangleFits, HullFits, clipBytes, siteBytes, triangleBytes, hullBytes}
+use Rattle.form.specs.Reader.{inside, step, steps}
+use Rattle.form.specs.StepLaws.{step-broken, step-inside}
 use Rattle.form.specs.WordLaws.{le-word, word-small}
-use Rattle.form.specs.RunLaws.{Ready, Ran, Goes, takes-reader, site-run, triangle-run, hull-run}
 use Rattle.form.specs.declared.Reader.{Reader}
 
 pub record Ended (r : Reader) : Type 0 where

@@ -2,26 +2,22 @@
 use mathlib.Core.Path.{_≡_, refl, sym, ap, _∙_, subst}
 use mathlib.Core.Bool.{Bool, true, false}
 use mathlib.Core.List.{List, [], _∷_, _++_, append-assoc}
-use mathlib.Core.Logic.{_⊎_, inl, inr, ⊎-elim, _≢_}
-use Prim.Native.Nat.{ℕ, zero, suc, _+_, _-_, _≤_, _<_}
+use mathlib.Core.Logic.{_⊎_, ⊎-elim}
+use Prim.Native.Nat.{ℕ}
 use native.Mathlib.Omega.{arith}
-use native.Mathlib.Numerals.{add-one}
-use lib.Dec.{eqb, ltb}
-use lib.ListN.{length, take, drop, replicate, length-replicate, take-append-drop}
-use lib.Seq.{take-take, take-length}
-use borrow.Author.Tests.{eqb-true, eqb-false, lt-ltb}
-use Rattle.laws.specs.Decide.{lt-or-ge, eq-or-ne}
+use lib.Dec.{eqb}
+use lib.ListN.{length}
+use borrow.Author.Tests.{eqb-true}
 use Rattle.laws.specs.Pick.{pick}
 use Rattle.form.specs.Bytes.{Bytes}
-use Rattle.form.specs.Form.{Mesh, Clip, box, unclipped, Fits, IsForm, ClipFits, each, clipBytes, siteBytes, triangleBytes, hullBytes, formOf}
-use Rattle.form.specs.Reader.{sizeOf, opens, roomFor, follows, start, refused, begun, inside, outside, step, steps, answer, Lent, lent, takes}
-use Rattle.form.specs.StepLaws.{follows-cases, opens-cases, step-outside}
-use Rattle.form.specs.RunLaws.{Opens, Opening, ready-up, kind-follows, takes-reader, opening}
-use Rattle.form.specs.MeshLaws.{Whole, complete}
-use Rattle.form.specs.CutLaws.{Ended, CutOff, Partway, steps-append, steps-broken, true-false, partway, body-there, cut-box}
+use Rattle.form.specs.Form.{Clip, unclipped, IsForm, ClipFits, each, clipBytes, siteBytes, triangleBytes, hullBytes, formOf}
+use Rattle.form.specs.Reader.{sizeOf, opens, follows, start, refused, begun, outside, step, steps, answer, Lent, lent, takes}
+use Rattle.form.specs.StepLaws.{follows-cases, step-outside}
+use Rattle.form.specs.RunLaws.{Opens, ready-up, takes-reader, opening}
+use Rattle.form.specs.MeshLaws.{complete}
+use Rattle.form.specs.CutLaws.{Ended, CutOff, steps-append, body-there, cut-box}
 use Rattle.form.specs.TailLaws.{Few, Tail, tail, refused-ends}
 use Rattle.form.specs.declared.Reader.{Reader}
-use Rattle.form.specs.declared.Form.{Form}
 use Rattle.form.specs.declared.Form.the-variants.{Sound, Broken}
 
 -- ---- accepted

@@ -1,6 +1,6 @@
 -- What one byte leaves in the lent lists, by the state it comes to.
-use mathlib.Core.Path.{_≡_, refl, sym, ap, _∙_}
-use mathlib.Core.Bool.{Bool, true, false}
+use mathlib.Core.Path.{_≡_, sym, ap, _∙_}
+use mathlib.Core.Bool.{true, false}
 use mathlib.Core.List.{List}
 use Prim.Native.Nat.{ℕ, _+_, _-_, _*_, _<_}
 use lib.Dec.{eqb, ltb}
@@ -8,7 +8,7 @@ use lib.Ieee.{Float}
 use borrow.Author.Tests.{ne-eqb}
 use Rattle.laws.specs.Pick.{pick}
 use Rattle.form.specs.Bytes.{shift}
-use Rattle.form.specs.Reader.{step, inside, outside, within, putFloat, putLink, boundsBy, sitesBy, trianglesBy, halfedgesBy, hullBy, Lent, lent, filled, take}
+use Rattle.form.specs.Reader.{inside, outside, within, putFloat, putLink, boundsBy, sitesBy, trianglesBy, halfedgesBy, hullBy, Lent, lent, filled, take}
 use Rattle.form.specs.StepLaws.{step-broken, step-outside, step-inside, within-is, within-broken, within-outside}
 use Rattle.form.specs.declared.Reader.{Reader}
 

@@ -1,6 +1,6 @@
 -- The form as 01 has it: a mesh written record by record. Definitions only.
 use mathlib.Core.Bool.{Bool, true, false}
-use mathlib.Core.List.{List, [], _∷_, _++_, map}
+use mathlib.Core.List.{List, [], _∷_, _++_}
 use mathlib.Core.Path.{_≡_}
 use Prim.Native.Nat.{ℕ, _^_, _≤_, _<_}
 use lib.Ieee.{Float, binary64, ofBits}

@@ -1,11 +1,10 @@
 -- What the functions ask of a state and of the lent lists, and what they promise of them.
-use mathlib.Core.Bool.{Bool, true, false}
 use mathlib.Core.List.{List}
 use mathlib.Core.Path.{_≡_}
-use Prim.Native.Nat.{ℕ, _+_, _*_, _≤_, _<_}
+use Prim.Native.Nat.{ℕ, _≤_, _<_}
 use lib.Ieee.{Float}
 use lib.ListN.{length}
-use Rattle.form.specs.Reader.{Lent, lent, start, takes, answer}
+use Rattle.form.specs.Reader.{Lent, takes, answer}
 use Rattle.form.specs.declared.Reader.{Reader}
 use Rattle.form.specs.declared.Form.{Form}
 use Rattle.form.specs.declared.Form.the-variants.{Sound, Broken}

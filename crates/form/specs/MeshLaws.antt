@@ -1,8 +1,8 @@
 -- Every mesh that has a form is read back from it: sound forms are accepted, with their numbers.
-use mathlib.Core.Path.{_≡_, refl, sym, ap, _∙_, subst}
-use mathlib.Core.Bool.{Bool, true, false}
+use mathlib.Core.Path.{_≡_, refl, ap, _∙_, subst}
+use mathlib.Core.Bool.{Bool}
 use mathlib.Core.List.{List, [], _∷_, _++_, append-assoc}
-use Prim.Native.Nat.{ℕ, zero, suc, _+_, _*_, _≤_, _<_}
+use Prim.Native.Nat.{ℕ, suc, _+_, _*_, _≤_}
 use native.Mathlib.Omega.{arith}
 use native.Mathlib.Nat.{mul-suc}
 use lib.Ieee.{Float}
@@ -10,11 +10,12 @@ use lib.ListN.{length}
 use lib.Seq.{sets}
 use borrow.Author.Tests.{lt-ltb}
 use Rattle.laws.specs.Stores.{sets-join}
-use Rattle.form.specs.Form.{Mesh, Site, Triangle, Fits, All, SiteFits, TriangleFits, HullFits, each, clipBytes, siteBytes, triangleBytes, hullBytes, formOf, numbers, clipFloats, siteFloats, triangleSites, trianglePairs, isUnclipped}
-use Rattle.form.specs.Reader.{sizeOf, roomFor, start, begun, Lent, lent, takes, answer}
-use Rattle.form.specs.RunLaws.{Ready, Ran, Goes, Opening, ready-up, takes-append, kind-follows, kind-run, site-run, triangle-run, hull-run, opening}
+use Rattle.form.specs.Form.{Mesh, Site, Triangle, Fits, All, SiteFits, TriangleFits, HullFits, each, clipBytes, siteBytes, triangleBytes}
+use Rattle.form.specs.Form.{hullBytes, formOf, numbers, clipFloats, siteFloats, triangleSites, trianglePairs, isUnclipped}
+use Rattle.form.specs.Reader.{roomFor, start, begun, Lent, lent, takes, answer}
+use Rattle.form.specs.RunLaws.{Ready, Goes, Opening, ready-up, takes-append, kind-follows, kind-run, site-run, triangle-run, hull-run, opening}
 use Rattle.form.specs.declared.Reader.{Reader}
-use Rattle.form.specs.declared.Form.the-variants.{Sound, Broken}
+use Rattle.form.specs.declared.Form.the-variants.{Sound}
 
 -- ---- runs, one after the other
 
@@ -75,13 +76,15 @@ module _
     Runs l =
         (r : Reader) (bs ss : List Float) (ts es hs : List ℕ)
         → All P l → Ready r k → r .sites + i * length l ≤ 96 → r .triangles + j * length l ≤ 192 → r .hull + h * length l ≤ 96
-        → Goes r k (i * length l) (j * length l) (h * length l) bs ss ts es hs bs (sets ss (2 * r .sites) (numbers fs l)) (sets ts (3 * r .triangles) (numbers ft l)) (sets es (3 * r .triangles) (numbers fe l)) (sets hs (r .hull) (numbers fh l)) (each f l)
+        → Goes r k (i * length l) (j * length l) (h * length l) bs ss ts es hs bs (sets ss (2 * r .sites) (numbers fs l))
+        (sets ts (3 * r .triangles) (numbers ft l)) (sets es (3 * r .triangles) (numbers fe l)) (sets hs (r .hull) (numbers fh l)) (each f l)
 
     more :
         (x : A) (l : List A) → Runs l → (r : Reader) (bs ss : List Float) (ts es hs : List ℕ)
         → All P l → r .sites + i * suc (length l) ≤ 96 → r .triangles + j * suc (length l) ≤ 192 → r .hull + h * suc (length l) ≤ 96
         → Goes r k i j h bs ss ts es hs bs (sets ss (2 * r .sites) (fs x)) (sets ts (3 * r .triangles) (ft x)) (sets es (3 * r .triangles) (fe x)) (sets hs (r .hull) (fh x)) (f x)
-        → Goes r k (i * suc (length l)) (j * suc (length l)) (h * suc (length l)) bs ss ts es hs bs (sets ss (2 * r .sites) (numbers fs (x ∷ l))) (sets ts (3 * r .triangles) (numbers ft (x ∷ l))) (sets es (3 * r .triangles) (numbers fe (x ∷ l))) (sets hs (r .hull) (numbers fh (x ∷ l))) (each f (x ∷ l))
+        → Goes r k (i * suc (length l)) (j * suc (length l)) (h * suc (length l)) bs ss ts es hs bs (sets ss (2 * r .sites) (numbers fs (x ∷ l)))
+        (sets ts (3 * r .triangles) (numbers ft (x ∷ l))) (sets es (3 * r .triangles) (numbers fe (x ∷ l))) (sets hs (r .hull) (numbers fh (x ∷ l))) (each f (x ∷ l))
     more x l runs r bs ss ts es hs p a b c g =
         let i' : i * suc (length l) ≡ i * length l + i = mul-suc i (length l) in
         let j' : j * suc (length l) ≡ j * length l + j = mul-suc j (length l) in
@@ -205,7 +208,8 @@ closed m bs ss ts es hs ss' ts' es' hs' s o g es₁ et ee eh =
     }
 
 module _ (m : Mesh) (fit : Fits m) (bs ss : List Float) (ts es hs : List ℕ) where
-  sites-part : (r : Reader) → Ready r 1 → r .sites ≡ 0 → r .triangles ≡ 0 → r .hull ≡ 0 → Goes r 2 (length (m .sites)) 0 0 bs ss ts es hs bs (sets ss 0 (numbers siteFloats (m .sites))) ts es hs (each siteBytes (m .sites))
+  sites-part : (r : Reader) → Ready r 1 → r .sites ≡ 0 → r .triangles ≡ 0 → r .hull ≡ 0
+      → Goes r 2 (length (m .sites)) 0 0 bs ss ts es hs bs (sets ss 0 (numbers siteFloats (m .sites))) ts es hs (each siteBytes (m .sites))
   sites-part r q zs zt zh =
       let z : 2 * r .sites ≡ 0 = omega arith in
       goes-as (sites-run r bs ss ts es hs (m .sites) (fit .sites) (ready-up 2 (omega arith) q) (omega (arith, fit .few-sites)) (omega arith) (omega arith))
@@ -213,13 +217,15 @@ module _ (m : Mesh) (fit : Fits m) (bs ss : List Float) (ts es hs : List ℕ) wh
 
   triangles-part :
       (r : Reader) → Ready r 2 → r .sites ≤ 96 → r .triangles ≡ 0 → r .hull ≡ 0
-      → Goes r 3 0 (length (m .triangles)) 0 bs ss ts es hs bs ss (sets ts 0 (numbers triangleSites (m .triangles))) (sets es 0 (numbers trianglePairs (m .triangles))) hs (each triangleBytes (m .triangles))
+      → Goes r 3 0 (length (m .triangles)) 0 bs ss ts es hs bs ss (sets ts 0 (numbers triangleSites (m .triangles)))
+      (sets es 0 (numbers trianglePairs (m .triangles))) hs (each triangleBytes (m .triangles))
   triangles-part r q ls zt zh =
       let z : 3 * r .triangles ≡ 0 = omega arith in
       goes-as (triangles-run r bs ss ts es hs (m .triangles) (fit .triangles) (ready-up 3 (omega arith) q) ls (omega (arith, fit .few-triangles)) (omega arith))
       refl refl refl refl (ap (λ (i : ℕ). sets ts i (numbers triangleSites (m .triangles))) z) (ap (λ (i : ℕ). sets es i (numbers trianglePairs (m .triangles))) z) refl
 
-  hull-part : (r : Reader) → Ready r 3 → r .sites ≤ 96 → r .triangles ≤ 192 → r .hull ≡ 0 → Goes r 4 0 0 (length (m .hull)) bs ss ts es hs bs ss ts es (sets hs 0 (m .hull)) (each hullBytes (m .hull))
+  hull-part : (r : Reader) → Ready r 3 → r .sites ≤ 96 → r .triangles ≤ 192 → r .hull ≡ 0
+      → Goes r 4 0 0 (length (m .hull)) bs ss ts es hs bs ss ts es (sets hs 0 (m .hull)) (each hullBytes (m .hull))
   hull-part r q ls lt zh =
       goes-as (hulls-run r bs ss ts es hs (m .hull) (fit .hull) (ready-up 4 (omega arith) q) ls lt (omega (arith, fit .few-hull)))
       refl refl refl refl refl refl (ap (λ (i : ℕ). sets hs i (m .hull)) zh)
@@ -235,7 +241,8 @@ module _ (m : Mesh) (fit : Fits m) (bs ss : List Float) (ts es hs : List ℕ) wh
       let ls : g .to .sites ≤ 96 = omega (arith, fit .few-sites, g .ran .sites) in
       let h = goes-both g (triangles-part m fit bs _ ts es hs (g .to) (g .ran .ready) ls (omega (arith, g .ran .triangles)) (omega (arith, g .ran .hull))) in
       goes-as
-      (goes-both h (hull-part m fit bs _ _ _ hs (h .to) (h .ran .ready) (omega (arith, fit .few-sites, h .ran .sites)) (omega (arith, fit .few-triangles, h .ran .triangles)) (omega (arith, h .ran .hull))))
+      (goes-both h (hull-part m fit bs _ _ _ hs (h .to) (h .ran .ready) (omega (arith, fit .few-sites, h .ran .sites))
+      (omega (arith, fit .few-triangles, h .ran .triangles)) (omega (arith, h .ran .hull))))
       (omega arith) (omega arith) (omega arith) refl refl refl refl
 
 regroup : (a b c d e : List ℕ) → a ++ (b ++ c ++ d) ++ e ≡ a ++ b ++ c ++ d ++ e

@@ -3,24 +3,23 @@ use mathlib.Core.Path.{_≡_, refl, sym, ap, _∙_, subst}
 use mathlib.Core.Bool.{Bool, true, false}
 use mathlib.Core.List.{List, [], _∷_, _++_, append-assoc}
 use mathlib.Core.Logic.{_⊎_, inl, inr, ⊎-elim, _≢_}
-use Prim.Native.Nat.{ℕ, zero, suc, _+_, _-_, _≤_, _<_}
+use Prim.Native.Nat.{ℕ, zero, suc, _+_, _≤_, _<_}
 use native.Mathlib.Omega.{arith}
 use native.Mathlib.Numerals.{add-one}
 use lib.Dec.{eqb}
 use lib.ListN.{length, take, drop, replicate, length-replicate, take-append-drop}
 use lib.Seq.{take-take, take-length}
 use borrow.Author.Tests.{eqb-false, lt-ltb}
-use Rattle.laws.specs.Decide.{lt-or-ge, eq-or-ne}
+use Rattle.laws.specs.Decide.{eq-or-ne}
 use Rattle.laws.specs.Pick.{pick}
 use Rattle.form.specs.Bytes.{Bytes}
 use Rattle.form.specs.Form.{IsForm}
 use Rattle.form.specs.Reader.{sizeOf, opens, roomFor, follows, start, refused, begun, inside, outside, step, steps, answer}
 use Rattle.form.specs.StepLaws.{Kind, site, triangle, hull, end, follows-cases, step-outside}
 use Rattle.form.specs.RunLaws.{kind-follows}
-use Rattle.form.specs.CutLaws.{Ended, Partway, bytes-take, steps-append, steps-broken, true-false, partway}
+use Rattle.form.specs.CutLaws.{Ended, bytes-take, steps-append, steps-broken, true-false, partway}
 use Rattle.form.specs.Exact.{sound-broken, accepts, only-forms}
 use Rattle.form.specs.declared.Reader.{Reader}
-use Rattle.form.specs.declared.Form.{Form}
 use Rattle.form.specs.declared.Form.the-variants.{Sound, Broken}
 
 -- some sound form begins so
@@ -106,7 +105,8 @@ shape-begun : (r : Reader) (b : ℕ) → follows r b ≡ true → Shape (begun r
 unfolding begun
 shape-begun r b f =
     ⊎-elim
-    (λ v. ⊎-elim (λ e. rw e (record { low = λ z. absurd (omega arith); high = omega arith; last = λ z. absurd (omega arith) })) (λ e. rw e (record { low = λ z. absurd (omega arith); high = omega arith; last = λ z. absurd (omega arith) })) (v .1))
+    (λ v. ⊎-elim (λ e. rw e (record { low = λ z. absurd (omega arith); high = omega arith; last = λ z. absurd (omega arith) }))
+    (λ e. rw e (record { low = λ z. absurd (omega arith); high = omega arith; last = λ z. absurd (omega arith) })) (v .1))
     (λ v. let w = stage-at-most r b (v .2) in
     record { low = λ z. absurd (omega (arith, w .0, w .3)); high = omega (arith, w .1, w .3); last = λ z. w .2 (omega (arith, w .3)) })
     (follows-cases r b f)
@@ -230,7 +230,8 @@ refused-at s h k e = go (steps start s .broken) (eqb (steps start s .stage) 5) r
   where
     go :
         (t u : Bool) → steps start s .broken ≡ t → eqb (steps start s .stage) 5 ≡ u
-        → pick t (λ _. Broken (steps start s .at)) (λ _. pick u (λ _. Sound (steps start s .sites) (steps start s .triangles) (steps start s .hull) (steps start s .unclipped)) (λ _. Broken (steps start s .at))) ≡ Broken k
+        → pick t (λ _. Broken (steps start s .at)) (λ _. pick u
+        (λ _. Sound (steps start s .sites) (steps start s .triangles) (steps start s .hull) (steps start s .unclipped)) (λ _. Broken (steps start s .at))) ≡ Broken k
         → Place s k
     go true u p q f = subst (Place s) (broken-at _ _ f) (refused-place s h p)
     go false true p q f = sound-broken (sym f)

@@ -1,6 +1,5 @@
 -- What `read` promises, said of forms: the mesh of a sound form with its numbers from the beginning of each list, and 17 with its byte for every other byte string.
 use mathlib.Core.Path.{_≡_, refl, sym, ap, _∙_, subst}
-use mathlib.Core.Bool.{Bool, true, false}
 use mathlib.Core.List.{List}
 use mathlib.Core.Logic.{_⊎_, inl, inr}
 use Prim.Native.Nat.{ℕ}

@@ -2,17 +2,17 @@
 use mathlib.Core.Path.{_≡_, refl, sym, ap, ap₂, _∙_}
 use mathlib.Core.Bool.{Bool, true, false}
 use mathlib.Core.List.{List, [], _∷_, _++_}
-use Prim.Native.Nat.{ℕ, zero, suc, _+_, _-_, _*_, _/_, _^_, _≤_, _<_}
+use Prim.Native.Nat.{ℕ, _+_, _-_, _*_, _/_, _^_, _≤_, _<_}
 use native.Mathlib.Omega.{arith}
-use lib.Dec.{eqb, ltb}
 use lib.Ieee.{Float, binary64, ofBits}
-use lib.ListN.{length, set}
+use lib.ListN.{set}
 use lib.Seq.{sets}
 use borrow.Author.Tests.{ne-eqb, le-ltb, lt-ltb}
-use Rattle.laws.specs.Pick.{pick}
-use Rattle.form.specs.Bytes.{Bytes, le, shift, shifts}
-use Rattle.form.specs.Form.{Clip, box, unclipped, Site, Triangle, clipBytes, siteBytes, triangleBytes, hullBytes, ClipFits, SiteFits, TriangleFits, HullFits, clipFloats, siteFloats, triangleSites, trianglePairs, isUnclipped}
-use Rattle.form.specs.Reader.{sizeOf, opens, roomFor, follows, start, begun, tally, inside, outside, step, steps, within, putFloat, putLink, boundsBy, sitesBy, trianglesBy, halfedgesBy, hullBy, Lent, lent, take, takes}
+use Rattle.form.specs.Bytes.{le, shifts}
+use Rattle.form.specs.Form.{Clip, box, unclipped, Site, Triangle, clipBytes, siteBytes, triangleBytes, hullBytes, ClipFits, SiteFits}
+use Rattle.form.specs.Form.{TriangleFits, HullFits, clipFloats, siteFloats, triangleSites, trianglePairs, isUnclipped}
+use Rattle.form.specs.Reader.{sizeOf, opens, roomFor, follows, start, begun, tally, inside, outside, step, steps, within, putFloat, putLink}
+use Rattle.form.specs.Reader.{boundsBy, sitesBy, trianglesBy, halfedgesBy, hullBy, Lent, lent, take, takes}
 use Rattle.form.specs.FillLaws.{take-outside}
 use Rattle.form.specs.WordLaws.{bytes-le, shifts-small, last-eight, last-four}
 use Rattle.form.specs.declared.Reader.{Reader}

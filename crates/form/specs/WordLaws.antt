@@ -1,9 +1,9 @@
 -- A number and its bytes, both ways, and that the register holds the number of the bytes that came last.
-use mathlib.Core.Path.{_≡_, refl, sym, ap, ap₂, _∙_}
-use mathlib.Core.List.{List, [], _∷_, _++_}
-use Prim.Native.Nat.{ℕ, zero, suc, _+_, _*_, _/_, _%_, _^_, _≤_, _<_}
+use mathlib.Core.Path.{_≡_, refl, sym, ap, _∙_}
+use mathlib.Core.List.{List, [], _∷_}
+use Prim.Native.Nat.{ℕ, zero, suc, _+_, _*_, _/_, _%_, _^_, _<_}
 use native.Mathlib.Omega.{arith}
-use native.Mathlib.Nat.{pow-suc, add-mul-div-left, div-div-eq-div-mul, mul-comm, div-one}
+use native.Mathlib.Nat.{pow-suc, div-div-eq-div-mul, mul-comm, div-one}
 use lib.ListN.{length}
 use Rattle.form.specs.Bytes.{Bytes, word, le, shift, shifts}
 

@@ -1,8 +1,8 @@
 // Reads the program's form: one byte at a time by a state that is passed by value, each number stored as soon as its last byte has come.
 ghost use mathlib.Core.Path.{_≡_};
-ghost use Prim.Native.Nat.{ℕ, _+_, _-_, _*_, _/_, _^_, _≤_, _<_};
+ghost use Prim.Native.Nat.{_+_, _-_, _*_, _/_, _^_, _≤_, _<_};
 ghost use lib.Ieee.{binary64, ofBits};
-ghost use mathlib.Core.Bool.{Bool, true, false};
+ghost use mathlib.Core.Bool.{false};
 ghost use lib.Dec.{ltb};
 ghost use lib.ListN.{length};
 ghost use Rattle.laws.specs.Pick.{pick};
@@ -248,7 +248,8 @@ fn fill(
     hull: &mut [u32],
 )
     requires { ⌜ (Ok r) × (r .broken ≡ false) × (0 < r .left) × (Room (now bounds) (now sites) (now triangles) (now halfedges) (now hull)) ⌝ }
-    ensures { λ _. ⌜ lent r (now (bounds .exit)) (now (sites .exit)) (now (triangles .exit)) (now (halfedges .exit)) (now (hull .exit)) ≡ filled r b (now (bounds .entry)) (now (sites .entry)) (now (triangles .entry)) (now (halfedges .entry)) (now (hull .entry)) ⌝ }
+    ensures { λ _. ⌜ lent r (now (bounds .exit)) (now (sites .exit)) (now (triangles .exit)) (now (halfedges .exit)) (now (hull .exit)) ≡ filled r b
+        (now (bounds .entry)) (now (sites .entry)) (now (triangles .entry)) (now (halfedges .entry)) (now (hull .entry)) ⌝ }
 {
     let left = r.left - 1;
     let word = shifted(r.word, b);
@@ -280,7 +281,8 @@ pub fn take(
     hull: &mut [u32],
 ) -> Reader
     requires { ⌜ (Ok r) × (r .at + 1 < 2 ^ 64) × (Room (now bounds) (now sites) (now triangles) (now halfedges) (now hull)) ⌝ }
-    ensures all { λ n. ⌜ lent n (now (bounds .exit)) (now (sites .exit)) (now (triangles .exit)) (now (halfedges .exit)) (now (hull .exit)) ≡ take (lent r (now (bounds .entry)) (now (sites .entry)) (now (triangles .entry)) (now (halfedges .entry)) (now (hull .entry))) b ⌝ }
+    ensures all { λ n. ⌜ lent n (now (bounds .exit)) (now (sites .exit)) (now (triangles .exit)) (now (halfedges .exit)) (now (hull .exit)) ≡ take
+        (lent r (now (bounds .entry)) (now (sites .entry)) (now (triangles .entry)) (now (halfedges .entry)) (now (hull .entry))) b ⌝ }
 {
     if r.broken {
         return r;
@@ -303,7 +305,8 @@ pub fn feed(
     hull: &mut [u32],
 ) -> Reader
     requires { ⌜ (Ok r) × (r .at + length (now bytes) < 2 ^ 64) × (Room (now bounds) (now sites) (now triangles) (now halfedges) (now hull)) ⌝ }
-    ensures all { λ n. ⌜ lent n (now (bounds .exit)) (now (sites .exit)) (now (triangles .exit)) (now (halfedges .exit)) (now (hull .exit)) ≡ takes (lent r (now (bounds .entry)) (now (sites .entry)) (now (triangles .entry)) (now (halfedges .entry)) (now (hull .entry))) (now (bytes .entry)) ⌝ }
+    ensures all { λ n. ⌜ lent n (now (bounds .exit)) (now (sites .exit)) (now (triangles .exit)) (now (halfedges .exit)) (now (hull .exit)) ≡ takes
+        (lent r (now (bounds .entry)) (now (sites .entry)) (now (triangles .entry)) (now (halfedges .entry)) (now (hull .entry))) (now (bytes .entry)) ⌝ }
     ensures ok { λ n. ⌜ Ok n ⌝ }
 {
     let mut n = r;
@@ -343,7 +346,8 @@ pub fn read(
     hull: &mut [u32],
 ) -> Form
     requires { ⌜ Room (now bounds) (now sites) (now triangles) (now halfedges) (now hull) ⌝ }
-    ensures { λ a. ⌜ Reads (now (bytes .entry)) (lent start (now (bounds .entry)) (now (sites .entry)) (now (triangles .entry)) (now (halfedges .entry)) (now (hull .entry))) a (now (bounds .exit)) (now (sites .exit)) (now (triangles .exit)) (now (halfedges .exit)) (now (hull .exit)) ⌝ }
+    ensures { λ a. ⌜ Reads (now (bytes .entry)) (lent start (now (bounds .entry)) (now (sites .entry)) (now (triangles .entry))
+        (now (halfedges .entry)) (now (hull .entry))) a (now (bounds .exit)) (now (sites .exit)) (now (triangles .exit)) (now (halfedges .exit)) (now (hull .exit)) ⌝ }
 {
     let r = feed(start(), bytes, bounds, sites, triangles, halfedges, hull);
     finish(r)

@@ -3,15 +3,14 @@ use mesh::Walked;
 use numbers::EMPTY;
 use utils::Point;
 ghost use mathlib.Core.Path.{_≡_};
-ghost use Prim.Native.Nat.{ℕ, _+_, _*_, _/_, _%_, _<_, _≤_};
+ghost use Prim.Native.Nat.{_+_, _/_, _%_, _<_};
 ghost use lib.Dec.{eqb};
-ghost use lib.ListN.{length, getD};
-ghost use lib.Ieee.{lt};
+ghost use lib.ListN.{length};
 ghost use Rattle.laws.specs.Pick.{pick};
 ghost use Rattle.numbers.specs.Numbers.{EMPTY};
 ghost use Rattle.mesh.specs.Mesh.{wholeOf};
 ghost use Rattle.mesh.specs.Mesh.{Paired};
-ghost use Rattle.iterator.specs.Neighbours.{startsOf, neighboursOf};
+ghost use Rattle.iterator.specs.Neighbours.{startsOf};
 ghost use Rattle.iterator.specs.Path.{distOf, hopOf};
 ghost use Rattle.iterator.specs.Cursor.{lastStep, stepOf, isEnd, Sound};
 ghost use Rattle.iterator.specs.Fills.{Fills};
@@ -182,7 +181,8 @@ pub fn path(
     out: &mut [u32],
 ) -> Walked
     requires { ⌜ Ready (now triangles) (now halfedges) (now table) (length (now sites) / 2) × Towards (now sites) p (length (now sites) / 2) × (s < length (now sites) / 2) ⌝ }
-    ensures { λ r. ⌜ Fills (wholePath (now (sites .entry)) (now (triangles .entry)) (now (halfedges .entry)) (now (table .entry)) p s) (now (out .entry)) (now (out .exit)) (r .count) (r .ended) ⌝ }
+    ensures { λ r. ⌜ Fills (wholePath (now (sites .entry)) (now (triangles .entry)) (now (halfedges .entry)) (now (table .entry)) p s)
+        (now (out .entry)) (now (out .exit)) (r .count) (r .ended) ⌝ }
 {
     let mut at = s;
     let mut count = 0;
@@ -276,7 +276,8 @@ pub fn clipped_step(
     c: Cursor,
 ) -> Stepped
     requires { ⌜ Clippable (now triangles) (now halfedges) (now offsets) (now cells) × (s + 1 < length (now offsets)) × Sound (now halfedges) c ⌝ }
-    ensures { λ r. ⌜ Takes (now (triangles .entry)) (now (halfedges .entry)) (shareEdgeOf (now (offsets .entry)) (now (cells .entry)) s) (clippedLeft (now (triangles .entry)) (now (halfedges .entry)) (shareEdgeOf (now (offsets .entry)) (now (cells .entry)) s) c) r ⌝ }
+    ensures { λ r. ⌜ Takes (now (triangles .entry)) (now (halfedges .entry)) (shareEdgeOf (now (offsets .entry)) (now (cells .entry)) s)
+        (clippedLeft (now (triangles .entry)) (now (halfedges .entry)) (shareEdgeOf (now (offsets .entry)) (now (cells .entry)) s) c) r ⌝ }
 {
     match step(triangles, halfedges, c) {
         Stepped::Site(x, d) => match judge(halfedges, offsets, cells, s, x, c.last, d.last) {
@@ -317,7 +318,8 @@ pub fn clipped_neighbours(
     out: &mut [u32],
 ) -> Walked
     requires { ⌜ Clippable (now triangles) (now halfedges) (now offsets) (now cells) × (s + 1 < length (now offsets)) ⌝ }
-    ensures { λ r. ⌜ Fills (clippedOf (now (triangles .entry)) (now (halfedges .entry)) (shareEdgeOf (now (offsets .entry)) (now (cells .entry)) s) (wholeOf (now (halfedges .entry)) start)) (now (out .entry)) (now (out .exit)) (r .count) (r .ended) ⌝ }
+    ensures { λ r. ⌜ Fills (clippedOf (now (triangles .entry)) (now (halfedges .entry)) (shareEdgeOf (now (offsets .entry)) (now (cells .entry)) s)
+        (wholeOf (now (halfedges .entry)) start)) (now (out .entry)) (now (out .exit)) (r .count) (r .ended) ⌝ }
 {
     let mut c = Cursor {
         start,

@@ -1,5 +1,5 @@
 -- A number's digits: what one more division gives, that they are digits, that their value is the number, and that they begin with no idle zero.
-use mathlib.Core.Path.{_≡_, refl, sym, ap, _∙_, subst}
+use mathlib.Core.Path.{_≡_, refl, sym, ap, _∙_}
 use mathlib.Core.List.{List, [], _∷_, _++_}
 use mathlib.Core.Logic.{⊎-elim}
 use Prim.Native.Nat.{ℕ, zero, suc, _+_, _-_, _*_, _/_, _%_, _^_, _≤_, _<_}
@@ -57,7 +57,8 @@ no-digits n = omega arith
 digits-short : (k n : ℕ) → length (digits k n) ≤ k
 digits-short zero n = no-digits n
 digits-short (suc k) n =
-    ⊎-elim (λ o. rw (digits-one k n o) (omega arith)) (λ m. rw (digits-more k n m) (omega (arith, length-append (digits k (n / 10)) ((48 + n % 10) ∷ []), digits-short k (n / 10)))) (lt-or-ge n 10)
+    ⊎-elim (λ o. rw (digits-one k n o) (omega arith)) (λ m. rw (digits-more k n m)
+    (omega (arith, length-append (digits k (n / 10)) ((48 + n % 10) ∷ []), digits-short k (n / 10)))) (lt-or-ge n 10)
 
 pub decimal-short : (n : ℕ) → length (decimal n) ≤ 10
 unfolding decimal

@@ -1,9 +1,8 @@
 // Writes the program's listing into a lent slice of bytes: each function writes its text from a place on and answers the place after it.
 use numbers::wide;
-ghost use mathlib.Core.Path.{_≡_};
 ghost use mathlib.Core.List.{[], _∷_, _++_};
 ghost use Rattle.listing.specs.Text.{decimal};
-ghost use Rattle.listing.specs.Listing.{entries, labelled, counts, cellLine, cellLines, unclippedListing, corners, listing, refusal, Layout};
+ghost use Rattle.listing.specs.Listing.{entries, counts, cellLine, cellLines, unclippedListing, corners, listing, refusal, Layout};
 ghost use Rattle.listing.specs.Wrote.{Wrote, Fits};
 
 fn put(out: &mut [u8], at: usize, text: &[u8]) -> usize

@@ -20,7 +20,8 @@ pub turn-cases : (he : List ℕ) (s e : ℕ) → ((around he e ≡ s) × (turnOf
 unfolding turnOf
 turn-cases he s e = go (eqb (around he e) s) refl
   where
-    go : (b : Bool) → eqb (around he e) s ≡ b → ((around he e ≡ s) × (pick b (λ _. EMPTY) (λ _. around he e) ≡ EMPTY)) ⊎ ((around he e ≢ s) × (pick b (λ _. EMPTY) (λ _. around he e) ≡ around he e))
+    go : (b : Bool) → eqb (around he e) s ≡ b → ((around he e ≡ s) × (pick b (λ _. EMPTY) (λ _. around he e) ≡ EMPTY)) ⊎
+        ((around he e ≢ s) × (pick b (λ _. EMPTY) (λ _. around he e) ≡ around he e))
     go true h = inl (eqb-true _ _ h, refl)
     go false h = inr (eqb-false _ _ h, refl)
 

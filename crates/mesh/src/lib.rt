@@ -2,7 +2,7 @@
 use numbers::EMPTY;
 use numbers::wide;
 ghost use mathlib.Core.Path.{_≡_};
-ghost use Prim.Native.Nat.{ℕ, _/_, _%_, _<_, _≤_};
+ghost use Prim.Native.Nat.{ℕ, _%_, _<_, _≤_};
 ghost use lib.ListN.{length, getD, replicate};
 ghost use Rattle.numbers.specs.Numbers.{EMPTY};
 ghost use Rattle.mesh.specs.Mesh.{nextOf, endOf, chosen, tableTo, turnOf, wholeOf, Walks};
@@ -65,7 +65,8 @@ fn choose(old: u32, p: u32, e: u32) -> u32
 
 // Fills the table of leftmost half-edges.
 pub fn leftmost(triangles: &[u32], halfedges: &[u32], work: &mut [u32])
-    requires { ⌜ (length (now triangles) % 3 ≡ 0) × (length (now halfedges) ≡ length (now triangles)) × (length (now triangles) < 4294967295) × ((k : ℕ) → k < length (now triangles) → getD (now triangles) k 0 < length (now work)) ⌝ }
+    requires { ⌜ (length (now triangles) % 3 ≡ 0) × (length (now halfedges) ≡ length (now triangles)) × (length (now triangles) < 4294967295)
+        × ((k : ℕ) → k < length (now triangles) → getD (now triangles) k 0 < length (now work)) ⌝ }
     ensures { λ _. ⌜ now (work .exit) ≡ tableTo (now (triangles .entry)) (now (halfedges .entry)) (length (now (work .entry))) (length (now (triangles .entry))) ⌝ }
 {
     clear(work);

@@ -58,7 +58,8 @@ pub fn lay_out(
 // Moves the cells together, turns the starts of their regions into offsets, and clears what is left over of both slices.
 pub fn gather(ix: &mut [u32], off: &mut [u32], sites: usize)
     requires { ⌜ Rising (now off) sites (length (now ix)) × (getD (now off) sites 0 < 4294967295) ⌝ }
-    ensures { λ _. ⌜ ((cells : List (List ℕ)) → length cells ≡ sites → Regions (now (ix .entry)) (now (off .entry)) cells → Gathered cells (now (ix .entry)) (now (off .entry)) (now (ix .exit)) (now (off .exit))) ⌝ }
+    ensures { λ _. ⌜ ((cells : List (List ℕ)) → length cells ≡ sites → Regions (now (ix .entry)) (now (off .entry)) cells
+        → Gathered cells (now (ix .entry)) (now (off .entry)) (now (ix .exit)) (now (off .exit))) ⌝ }
 {
     let used = compact(ix, off, sites);
     fill_from(ix, used, EMPTY);
@@ -67,7 +68,8 @@ pub fn gather(ix: &mut [u32], off: &mut [u32], sites: usize)
 
 // Clears the three slices whole.
 pub fn clear_all(v: &mut [f64], ix: &mut [u32], off: &mut [u32])
-    ensures { λ _. ⌜ (now (v .exit) ≡ padded (length (now (v .entry))) zero []) × (now (ix .exit) ≡ padded (length (now (ix .entry))) EMPTY []) × (now (off .exit) ≡ padded (length (now (off .entry))) EMPTY []) ⌝ }
+    ensures { λ _. ⌜ (now (v .exit) ≡ padded (length (now (v .entry))) zero []) × (now (ix .exit) ≡ padded (length (now (ix .entry))) EMPTY [])
+        × (now (off .exit) ≡ padded (length (now (off .entry))) EMPTY []) ⌝ }
 {
     clear_floats_from(v, 0);
     fill_from(ix, 0, EMPTY);

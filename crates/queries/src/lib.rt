@@ -3,10 +3,8 @@ use mesh::Walked;
 use utils::Point;
 ghost use mathlib.Core.Path.{_≡_};
 ghost use mathlib.Core.Bool.{true, false};
-ghost use Prim.Native.Nat.{ℕ, _+_, _-_, _*_, _/_, _%_, _<_, _≤_};
-ghost use lib.Dec.{ltb};
-ghost use lib.ListN.{length, getD, replicate};
-ghost use Rattle.laws.specs.Pick.{pick};
+ghost use Prim.Native.Nat.{_-_, _/_, _<_, _≤_};
+ghost use lib.ListN.{length};
 ghost use Rattle.queries.specs.Admits.{siteAsk, pathAsk, Early, Admission};
 ghost use Rattle.queries.specs.Answers.{WalkAnswer, NeighboursAnswer, PathAnswer, CellsOf, ClippedAnswer, foundOf, EdgeAnswer, toldOf, SharesAnswer};
 ghost use Rattle.laws.specs.Decide.{Says};
@@ -134,7 +132,8 @@ fn admit_list(
     out: &mut [u32],
 ) -> u32
     requires { ⌜ asked < 7 ⌝ }
-    ensures { λ r. ⌜ ListAdmission (now (sites .entry)) (now (triangles .entry)) (now (halfedges .entry)) (now (hull .entry)) asked (now (work .entry)) (now (work .exit)) (now (out .entry)) (now (out .exit)) r ⌝ }
+    ensures { λ r. ⌜ ListAdmission (now (sites .entry)) (now (triangles .entry)) (now (halfedges .entry)) (now (hull .entry)) asked
+        (now (work .entry)) (now (work .exit)) (now (out .entry)) (now (out .exit)) r ⌝ }
 {
     let roomy = sites.len() / 2 <= work.len();
     let r = admit(sites, triangles, halfedges, hull, roomy, asked, work);
@@ -155,7 +154,8 @@ pub fn walk(
     work: &mut [u32],
     out: &mut [u32],
 ) -> Listed
-    ensures { λ r. ⌜ WalkAnswer (now (sites .entry)) (now (triangles .entry)) (now (halfedges .entry)) (now (hull .entry)) site (now (work .entry)) (now (work .exit)) (now (out .entry)) (now (out .exit)) r ⌝ }
+    ensures { λ r. ⌜ WalkAnswer (now (sites .entry)) (now (triangles .entry)) (now (halfedges .entry)) (now (hull .entry)) site (now (work .entry))
+        (now (work .exit)) (now (out .entry)) (now (out .exit)) r ⌝ }
 {
     let asked = ask_site(sites.len() / 2, site);
     let r = admit_list(sites, triangles, halfedges, hull, asked, work, out);
@@ -176,7 +176,8 @@ pub fn neighbours(
     work: &mut [u32],
     out: &mut [u32],
 ) -> Listed
-    ensures { λ r. ⌜ NeighboursAnswer (now (sites .entry)) (now (triangles .entry)) (now (halfedges .entry)) (now (hull .entry)) site (now (work .entry)) (now (work .exit)) (now (out .entry)) (now (out .exit)) r ⌝ }
+    ensures { λ r. ⌜ NeighboursAnswer (now (sites .entry)) (now (triangles .entry)) (now (halfedges .entry)) (now (hull .entry)) site
+        (now (work .entry)) (now (work .exit)) (now (out .entry)) (now (out .exit)) r ⌝ }
 {
     let asked = ask_site(sites.len() / 2, site);
     let r = admit_list(sites, triangles, halfedges, hull, asked, work, out);
@@ -198,7 +199,8 @@ pub fn path(
     work: &mut [u32],
     out: &mut [u32],
 ) -> Listed
-    ensures { λ r. ⌜ PathAnswer (now (sites .entry)) (now (triangles .entry)) (now (halfedges .entry)) (now (hull .entry)) site (now (work .entry)) (now (work .exit)) (now (out .entry)) (now (out .exit)) r p ⌝ }
+    ensures { λ r. ⌜ PathAnswer (now (sites .entry)) (now (triangles .entry)) (now (halfedges .entry)) (now (hull .entry)) site (now (work .entry))
+        (now (work .exit)) (now (out .entry)) (now (out .exit)) r p ⌝ }
 {
     let count = sites.len() / 2;
     let asked = ask_path(count, site, p);
@@ -234,7 +236,8 @@ pub fn clipped_neighbours(
     work: &mut [u32],
     out: &mut [u32],
 ) -> Listed
-    ensures { λ r. ⌜ ClippedAnswer (now (sites .entry)) (now (triangles .entry)) (now (halfedges .entry)) (now (hull .entry)) (now (offsets .entry)) (now (indexes .entry)) site (now (work .entry)) (now (work .exit)) (now (out .entry)) (now (out .exit)) r ⌝ }
+    ensures { λ r. ⌜ ClippedAnswer (now (sites .entry)) (now (triangles .entry)) (now (halfedges .entry)) (now (hull .entry)) (now (offsets .entry))
+        (now (indexes .entry)) site (now (work .entry)) (now (work .exit)) (now (out .entry)) (now (out .exit)) r ⌝ }
 {
     let count = sites.len() / 2;
     let asked = ask_site(count, site);

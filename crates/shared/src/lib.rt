@@ -1,11 +1,10 @@
 // What two cells share, and what two triangles share: the tests of utils.rs on lent slices.
 use numbers::EMPTY;
 ghost use mathlib.Core.Path.{_≡_};
-ghost use Prim.Native.Nat.{ℕ, _+_, _*_, _%_, _<_, _≤_};
-ghost use lib.ListN.{length, getD};
+ghost use Prim.Native.Nat.{_+_, _%_, _<_, _≤_};
+ghost use lib.ListN.{length};
 ghost use Rattle.laws.specs.Decide.{Says};
 ghost use Rattle.laws.specs.Pick.{pick};
-ghost use Rattle.numbers.specs.Numbers.{EMPTY};
 ghost use Rattle.shared.specs.Cells.{Cells, cellOf, holdsOf, sharedOf, shareEdgeOf};
 ghost use Rattle.shared.specs.Edge.{namesOf, firstOf, sharedEdgeOf};
 

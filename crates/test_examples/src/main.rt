@@ -2,7 +2,7 @@
 use libc::STDOUT_FILENO;
 use numbers::EMPTY;
 use voronoi::builds::voronoi_build;
-ghost use Prim.Native.Nat.{_*_, _≤_};
+ghost use Prim.Native.Nat.{_≤_};
 
 fn print(text: &[u8]) {
     io::write_all(STDOUT_FILENO, text);

@@ -44,7 +44,8 @@ module _ (sites : List Float) (tri he hull : List ℕ) (asked : ℕ) (w w′ : L
   }
 
   -- from 7 on all are cleared
-  pub all-cleared : 7 ≤ r → (v′ : List Float) (ix′ off′ c′ : List ℕ) → v′ ≡ padded (length v) zero [] → ix′ ≡ padded (length ix) EMPTY [] → off′ ≡ padded (length off) EMPTY [] → c′ ≡ replicate (length c) EMPTY → BuildAdmission sites tri he hull asked (slices w v ix off c) (slices w′ v′ ix′ off′ c′) r
+  pub all-cleared : 7 ≤ r → (v′ : List Float) (ix′ off′ c′ : List ℕ) → v′ ≡ padded (length v) zero [] → ix′ ≡ padded (length ix) EMPTY []
+      → off′ ≡ padded (length off) EMPTY [] → c′ ≡ replicate (length c) EMPTY → BuildAdmission sites tri he hull asked (slices w v ix off c) (slices w′ v′ ix′ off′ c′) r
   all-cleared l v′ ix′ off′ c′ qv qi qo qc = record {
     admission = admission-by sites tri he hull (room .right) a;
     vertices = rw (le-ltb r 7 l) (qv ∙ rw sub-zero);

@@ -51,7 +51,8 @@ module _ (o : Outcome Fault Built) (x : Answer) (q : x ≡ answerOf o) where
       go (refused f) h = omega arith
 
 -- ---- the whole
-module _ {sites : List Float} {tri he hull : List ℕ} {asked : ℕ} {old new : Slices} {r : ℕ} (a : BuildAdmission sites tri he hull asked old new r) (c : Point) (w h : Float) (ask : asked ≡ boxAsk c w h) where
+module _ {sites : List Float} {tri he hull : List ℕ} {asked : ℕ} {old new : Slices} {r : ℕ} (a : BuildAdmission sites tri he hull asked old new r)
+    (c : Point) (w h : Float) (ask : asked ≡ boxAsk c w h) where
   pub clipped-early : r ≢ 0 → Clipped sites tri he hull c w h old new r
   clipped-early n = rw (← ask) (answers-early a (build sites tri he hull (madeOf c w h)) n)
 
@@ -66,10 +67,14 @@ module _ {sites : List Float} {tri he hull : List ℕ} {asked : ℕ} {old new : 
       pub count-fits : x .count < 4294967296
       count-fits =
           let k = mesh-of a z .counts in
-          let few = answer-few (build sites tri he hull b) x q (7 * (length tri / 3) + 5 * length hull + 4) (gives-map _ _ (build sites tri he hull b) (theorems.built (mesh-of a z) bounded) (λ g o. o .1 .vertices)) in
+          let few = answer-few (build sites tri he hull b) x q (7 * (length tri / 3) + 5 * length hull + 4)
+          (gives-map _ _ (build sites tri he hull b) (theorems.built (mesh-of a z) bounded) (λ g o. o .1 .vertices)) in
           omega (arith, few, k .few-triangles, k .hull-of-sites, k .few-sites)
 
-      pub clipped-built : {v : List Float} {ix off w₂ c₂ : List ℕ} → Lent (build sites tri he hull b) (new .vertices) (new .indexes) (new .offsets) v ix off → Finished (x .fault .number) (countsOf (x .count) (x .owners) (x .lost)) (new .work) (new .counts) w₂ c₂ → Clipped sites tri he hull c w h old (slices w₂ v ix off c₂) (x .fault .number)
+      pub clipped-built : {v : List Float} {ix off w₂ c₂ : List ℕ}
+          → Lent (build sites tri he hull b) (new .vertices) (new .indexes) (new .offsets) v ix off
+          → Finished (x .fault .number) (countsOf (x .count) (x .owners) (x .lost)) (new .work) (new .counts) w₂ c₂
+          → Clipped sites tri he hull c w h old (slices w₂ v ix off c₂) (x .fault .number)
       clipped-built l f =
           let o = build sites tri he hull b in
           let late = build-late sites tri he hull b in

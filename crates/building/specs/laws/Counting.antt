@@ -23,11 +23,18 @@ six (p ∷ q ∷ r ∷ s ∷ t ∷ u ∷ l) a b c d e f h = refl
 six-long : (l : List ℕ) (a b c d e f : ℕ) → length (sixIn l a b c d e f) ≡ length l
 six-long l a b c d e f = simp length-set
 
-pub counted : (l : List ℕ) (vertices : ℕ) (owners : List ℕ) (lost : ℕ) (l′ : List ℕ) → 6 ≤ length l → length owners ≡ 4 → l′ ≡ clearedFrom 6 4294967295 (sixIn l vertices (getD owners 0 0) (getD owners 1 0) (getD owners 2 0) (getD owners 3 0) lost) → l′ ≡ padded (length l) 4294967295 (countsOf vertices owners lost)
+pub counted : (l : List ℕ) (vertices : ℕ) (owners : List ℕ) (lost : ℕ) (l′ : List ℕ) → 6 ≤ length l → length owners ≡ 4
+    → l′ ≡ clearedFrom 6 4294967295 (sixIn l vertices (getD owners 0 0) (getD owners 1 0) (getD owners 2 0) (getD owners 3 0) lost)
+    → l′ ≡ padded (length l) 4294967295 (countsOf vertices owners lost)
 counted l vertices owners lost l′ h n q =
-    q ∙ rw (six-long l vertices (getD owners 0 0) (getD owners 1 0) (getD owners 2 0) (getD owners 3 0) lost, six l vertices (getD owners 0 0) (getD owners 1 0) (getD owners 2 0) (getD owners 3 0) lost h) (whole owners n)
+    q ∙ rw (
+      six-long l vertices (getD owners 0 0) (getD owners 1 0) (getD owners 2 0) (getD owners 3 0) lost,
+      six l vertices (getD owners 0 0)
+          (getD owners 1 0) (getD owners 2 0) (getD owners 3 0) lost h,
+    ) (whole owners n)
   where
-    whole : (os : List ℕ) → length os ≡ 4 → vertices ∷ getD os 0 0 ∷ getD os 1 0 ∷ getD os 2 0 ∷ getD os 3 0 ∷ lost ∷ replicate (length l - 6) 4294967295 ≡ padded (length l) 4294967295 (countsOf vertices os lost)
+    whole : (os : List ℕ) → length os ≡ 4 → vertices ∷ getD os 0 0 ∷ getD os 1 0 ∷ getD os 2 0 ∷ getD os 3 0 ∷ lost ∷ replicate
+        (length l - 6) 4294967295 ≡ padded (length l) 4294967295 (countsOf vertices os lost)
     whole [] e = absurd (omega arith)
     whole (a ∷ []) e = absurd (omega arith)
     whole (a ∷ b ∷ []) e = absurd (omega arith)

@@ -21,7 +21,7 @@ use Rattle.queries.specs.Admits.{admitted}
 use Rattle.queries.specs.Lists.{table-long, table-part}
 use Rattle.definition.specs.declared.Fault.{Fault}
 use Rattle.definition.specs.Fault.{Outcome, ok, refused, andThen}
-use Rattle.definition.specs.Build.{Built, centresFrom, build}
+use Rattle.definition.specs.Build.{Built, centresFrom}
 use Rattle.definition.specs.Unclipped.{unclipped, ringsFrom}
 use Rattle.definition.specs.Start.{centres-from}
 use Rattle.definition.specs.Gives.{Gives}
@@ -94,7 +94,9 @@ module _ {sites : List Float} {tri he hull : List ℕ} {asked : ℕ} {old new : 
     table-is = ap (take (siteCount sites)) table-of ∙ table-part tri he hull (siteCount sites) (topology mesh-of) (length (old .work)) (granted-of .table)
 
     module _ {v : List Float} {ix off w c made : List ℕ} where
-      go : (o : Outcome Fault Built) → Refuses Numbered o → Lent o (new .vertices) (new .indexes) (new .offsets) v ix off → Finished (faultOf o .number) made (new .work) (new .counts) w c → (faultOf o .number ≡ 0 → made ≡ countNumbers o) → Answers sites tri he hull asked o old (slices w v ix off c) (faultOf o .number)
+      go : (o : Outcome Fault Built) → Refuses Numbered o → Lent o (new .vertices) (new .indexes) (new .offsets) v ix off
+          → Finished (faultOf o .number) made (new .work) (new .counts) w c → (faultOf o .number ≡ 0 → made ≡ countNumbers o)
+          → Answers sites tri he hull asked o old (slices w v ix off c) (faultOf o .number)
       unfolding after vertexNumbers indexNumbers offsetNumbers countNumbers
       go (ok b) late l f q = record {
         number = built (rw z at (a .admission .number));
@@ -116,17 +118,21 @@ module _ {sites : List Float} {tri he hull : List ℕ} {asked : ℕ} {old new : 
             counts = (rw (ne-eqb (e .number) 0 n) at (f .counts)) ∙ blanked EMPTY [] (new .counts) (old .counts) (e .number) m (ap length same-counts);
           }
 
-      pub answers-built : (o : Outcome Fault Built) → Refuses Numbered o → (f : Fault) → f ≡ faultOf o → Lent o (new .vertices) (new .indexes) (new .offsets) v ix off → Finished (f .number) made (new .work) (new .counts) w c → (faultOf o .number ≡ 0 → made ≡ countNumbers o) → Answers sites tri he hull asked o old (slices w v ix off c) (f .number)
+      pub answers-built : (o : Outcome Fault Built) → Refuses Numbered o → (f : Fault) → f ≡ faultOf o
+          → Lent o (new .vertices) (new .indexes) (new .offsets) v ix off → Finished (f .number) made (new .work) (new .counts) w c
+          → (faultOf o .number ≡ 0 → made ≡ countNumbers o) → Answers sites tri he hull asked o old (slices w v ix off c) (f .number)
       answers-built o late f e l d q = rw e (go o late l (rw e at d) q)
 
 -- ---- the unclipped build: a vertex for each triangle
-pub unclipped-counts : (sites : List Float) (tri he : List ℕ) → faultOf (unclipped sites tri he) .number ≡ 0 → countsOf (length tri / 3) (replicate 4 EMPTY) 0 ≡ countNumbers (unclipped sites tri he)
+pub unclipped-counts : (sites : List Float) (tri he : List ℕ) → faultOf (unclipped sites tri he) .number ≡ 0
+    → countsOf (length tri / 3) (replicate 4 EMPTY) 0 ≡ countNumbers (unclipped sites tri he)
 unfolding unclipped andThen countNumbers
 unclipped-counts sites tri he z = go (centresFrom sites tri 0 (length tri / 3) []) (centres-from sites tri 0 (length tri / 3) []) (unclipped-late sites tri he) z
   where
     rest : List Point → Outcome Fault Built
     rest centres = ok (record { verts = centres; cells = ringsFrom tri he 0 (length tri) (replicate (siteCount sites) []); owners = replicate 4 EMPTY; lost = 0; steps = [] })
 
-    go : (o : Outcome Fault (List Point)) → Gives (λ (vs : List Point). length vs ≡ 0 + length tri / 3) o → Refuses Numbered (andThen o rest) → faultOf (andThen o rest) .number ≡ 0 → countsOf (length tri / 3) (replicate 4 EMPTY) 0 ≡ countNumbers (andThen o rest)
+    go : (o : Outcome Fault (List Point)) → Gives (λ (vs : List Point). length vs ≡ 0 + length tri / 3) o → Refuses Numbered (andThen o rest)
+        → faultOf (andThen o rest) .number ≡ 0 → countsOf (length tri / 3) (replicate 4 EMPTY) 0 ≡ countNumbers (andThen o rest)
     go (ok vs) n l e = rw n (rw zero-add)
     go (refused f) n l e = absurd (omega (arith, l .least))

@@ -1,10 +1,10 @@
 -- The regions end where the last one does, so they stand in every list that agrees up to there.
-use mathlib.Core.Path.{_≡_, refl, sym, ap, _∙_}
-use mathlib.Core.List.{List, []}
+use mathlib.Core.Path.{_≡_, _∙_}
+use mathlib.Core.List.{List}
 use Prim.Native.Nat.{ℕ, zero, suc, _+_, _-_, _≤_, _<_}
 use native.Mathlib.Omega.{arith}
 use lib.ListN.{length, getD}
-use Rattle.layout.specs.Regions.{Region, Regions}
+use Rattle.layout.specs.Regions.{Regions}
 use Rattle.layout.specs.laws.Filling.{regions-rising}
 
 -- where a region ends, all of them have not ended before

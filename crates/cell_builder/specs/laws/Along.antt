@@ -36,7 +36,8 @@ module _ (tri he : List ℕ) (f : Frame) (off : List ℕ) (g : Ground) where
 
   module _ (left : Cells → Outcome Fault Cells) (whole : Outcome Fault Cells) (r : Progress) (v : List Float) (ix : List ℕ) where
     -- fault number 0: the step has given cells
-    pub passed : (Fit : Cells → Type 0) (o : Outcome Fault Cells) → Gives Fit o → andThen o left ≡ whole → Does tri he f off g o r v ix → r .fault .number ≡ 0 → Along left Fit whole r v ix
+    pub passed : (Fit : Cells → Type 0) (o : Outcome Fault Cells) → Gives Fit o → andThen o left ≡ whole → Does tri he f off g o r v ix
+        → r .fault .number ≡ 0 → Along left Fit whole r v ix
     unfolding andThen
     passed Fit (ok s) h q d z = record { cells = s; amid = d; fit = h; makes = q }
     passed Fit (refused e) h q d z = absurd (omega (arith, d .1, rw (d .0) at z))
@@ -83,7 +84,8 @@ module _ (tri he table : List ℕ) (f : Frame) (g : Ground) where
       let z : length (g .hull) - i ≡ 0 = omega arith in
       rw z
 
-  blank-next : {n : ℕ} {hull : List ℕ} (i : ℕ) (s : Cells) → Topology tri he (g .hull) n → g .hull ≡ hull → i < length hull → BlankFrom hull i s → Gives (BlankFrom hull (i + 1)) (hullTry tri he table f g i s)
+  blank-next : {n : ℕ} {hull : List ℕ} (i : ℕ) (s : Cells) → Topology tri he (g .hull) n → g .hull ≡ hull → i < length hull → BlankFrom hull i s
+      → Gives (BlankFrom hull (i + 1)) (hullTry tri he table f g i s)
   blank-next {n} {hull} i s top q l blank =
       let t : Topology tri he hull n = rw q at top in
       gives-map _ (BlankFrom hull (i + 1)) (hullTry tri he table f g i s) (others-stay (f .bounds) (length tri / 3) (getD (g .hull) i 0) _ s)
@@ -112,11 +114,15 @@ module _ (tri he hull table : List ℕ) (f : Frame) (off : List ℕ) (p₀ : Pro
         let w : hullTries tri he table f g s ≡ ok (a .cells) = sym (a .makes) ∙ hull-last tri he table f g i (a .cells) (rw q l) in
         rw w (a .amid)
 
-    module _ (l : i < length hull) (r : Progress) (v₁ : List Float) (ix₁ : List ℕ) (try : (g : Ground) (s : Cells) → g .hull ≡ hull → getD (s .cells) (getD hull i 0) [] ≡ [] → Amid tri he f off g s p v ix → Does tri he f off g (hullTry tri he table f g i s) r v₁ ix₁) where
-      tried : (g : Ground) (whole : Outcome Fault Cells) → g .hull ≡ hull → (a : HullAlong tri he hull table f off g whole i p v ix) → Does tri he f off g (hullTry tri he table f g i (a .cells)) r v₁ ix₁
+    module _ (l : i < length hull) (r : Progress) (v₁ : List Float) (ix₁ : List ℕ)
+        (try : (g : Ground) (s : Cells) → g .hull ≡ hull → getD (s .cells) (getD hull i 0) [] ≡ [] → Amid tri he f off g s p v ix
+        → Does tri he f off g (hullTry tri he table f g i s) r v₁ ix₁) where
+      tried : (g : Ground) (whole : Outcome Fault Cells) → g .hull ≡ hull → (a : HullAlong tri he hull table f off g whole i p v ix)
+          → Does tri he f off g (hullTry tri he table f g i (a .cells)) r v₁ ix₁
       tried g whole q a = try g (a .cells) q (a .fit i (omega arith) l) (a .amid)
 
-      next : (g : Ground) (whole : Outcome Fault Cells) → g .hull ≡ hull → (a : HullAlong tri he hull table f off g whole i p v ix) → andThen (hullTry tri he table f g i (a .cells)) (hullsFrom tri he table f g (i + 1)) ≡ whole
+      next : (g : Ground) (whole : Outcome Fault Cells) → g .hull ≡ hull → (a : HullAlong tri he hull table f off g whole i p v ix)
+          → andThen (hullTry tri he table f g i (a .cells)) (hullsFrom tri he table f g (i + 1)) ≡ whole
       next g whole q a = hull-next tri he table f g i (a .cells) (rw q l) ∙ a .makes
 
       pub hulls-step : r .fault .number ≡ 0 → HullsAlong (i + 1) r v₁ ix₁
@@ -170,7 +176,9 @@ module _ (tri he table : List ℕ) (f : Frame) (off : List ℕ) (p₀ : Progress
         let w : edgeTries tri he f s ≡ ok (a .cells) = sym (a .makes) ∙ edge-last tri he f e (a .cells) l in
         rw w (a .amid)
 
-    module _ (l : e < length tri) (r : Progress) (full₁ : Bool) (v₁ : List Float) (ix₁ : List ℕ) (turn : (g : Ground) (s : Cells) → Amid tri he f off g s p v ix → table ≡ leftmostOf tri he (g .sites) → FullBefore table (g .sites) full e s → Turned tri he table f off g s e r full₁ v₁ ix₁) where
+    module _ (l : e < length tri) (r : Progress) (full₁ : Bool) (v₁ : List Float) (ix₁ : List ℕ)
+        (turn : (g : Ground) (s : Cells) → Amid tri he f off g s p v ix → table ≡ leftmostOf tri he (g .sites) → FullBefore table (g .sites) full e s
+        → Turned tri he table f off g s e r full₁ v₁ ix₁) where
       pub edges-step : r .fault .number ≡ 0 → EdgesAlong full₁ (e + 1) r v₁ ix₁
       edges-step z g s am t =
           let a = along g s am t in
@@ -213,7 +221,8 @@ module _ (tri he hull table : List ℕ) (f : Frame) (off : List ℕ) (p₀ : Pro
           let a = between (h .g) (h .s) (h .is) (h .blank) (h .amid) in
           record { g = h .g; s = a .cells; amid = a .amid; table-is = h .table-is }
 
-      pub cells-end : (r₁ : Progress) (v₁ : List Float) (ix₁ : List ℕ) → AtRest tri he table f off r v ix (λ g s. Does tri he f off g (edgeTries tri he f s) r₁ v₁ ix₁) → AllDone r₁ v₁ ix₁
+      pub cells-end : (r₁ : Progress) (v₁ : List Float) (ix₁ : List ℕ)
+          → AtRest tri he table f off r v ix (λ g s. Does tri he f off g (edgeTries tri he f s) r₁ v₁ ix₁) → AllDone r₁ v₁ ix₁
       cells-end r₁ v₁ ix₁ edges g s q blank am t =
           let a = between g s q blank am in
           rw (← a .makes) (edges g (a .cells) (a .amid) t)

@@ -1,34 +1,29 @@
 -- From the outcomes of the circumcenters, the extensions and the cells to the build's: refused, all slices are cleared; else vertices and cells stand at their beginnings,
 -- and the corners still with their owners are those lost.
-use mathlib.Core.Path.{_≡_, refl, sym, ap, _∙_, subst}
-use mathlib.Core.List.{List, [], _∷_, _++_, map}
+use mathlib.Core.Path.{_≡_, refl, sym, ap, _∙_}
+use mathlib.Core.List.{List, [], _++_, map}
 use mathlib.Core.Logic.{_⊎_, inl, inr, ⊎-elim, _≢_}
-use Prim.Native.Nat.{ℕ, zero, suc, _+_, _-_, _*_, _/_, _≤_, _<_}
+use Prim.Native.Nat.{ℕ, _/_, _≤_, _<_}
 use native.Mathlib.Omega.{arith}
 use lib.Ieee.{Float}
 use lib.ListN.{length, getD, length-map}
-use Rattle.laws.specs.Binary64 as float
-use Rattle.numbers.specs.Numbers.{EMPTY}
-use Rattle.utils.specs.Flat.{points, pour}
+use Rattle.utils.specs.Flat.{points}
 use Rattle.utils.specs.declared.Point.{Point}
 use Rattle.bounding_box.specs.Box.{cornersOf}
 use Rattle.bounding_box.specs.declared.BoundingBox.{BoundingBox}
 use Rattle.vertices.specs.laws.Laws.{length-points, points-pour, pour-points}
 use Rattle.mesh.specs.Mesh.{leftmostOf}
-use Rattle.mesh.specs.Accepted.{Accepted, siteCount}
-use Rattle.layout.specs.Cleared.{clearedFrom}
-use Rattle.layout.specs.Regions.{Regions}
+use Rattle.mesh.specs.Accepted.{siteCount}
 use Rattle.layout.specs.laws.Filling.{regions-rising}
 use Rattle.definition.specs.declared.Fault.{Fault}
-use Rattle.definition.specs.Fault.{Outcome, ok, refused, andThen, fault, badCentre}
+use Rattle.definition.specs.Fault.{Outcome, ok, refused, andThen, badCentre}
 use Rattle.definition.specs.Build.{Built, centresFrom, ownersFrom, Extensions, extensions, extendFrom, Cells, clipAll, lostFrom, build}
 use Rattle.definition.specs.Theorems.{leftOf, owner-of, lost-is-left}
 use Rattle.definition.specs.Owners.{owners-length, ready, towards-corner}
 use Rattle.rings.specs.Centers.{Centred}
 use Rattle.rings.specs.Ownership.{Owned}
-use Rattle.outputs.specs.Lent.{padded, unmarked, vertexNumbers, indexNumbers, offsetNumbers, Lent}
+use Rattle.outputs.specs.Lent.{unmarked, vertexNumbers, indexNumbers, offsetNumbers, Lent}
 use Rattle.outputs.specs.laws.Gathering.{poured-cleared}
-use Rattle.cell_builder.specs.declared.Frame.{Frame}
 use Rattle.cell_builder.specs.declared.Progress.{Progress}
 use Rattle.cell_builder.specs.declared.Answer.{Answer}
 use Rattle.cell_builder.specs.Standing.{ground, frameOf, Amid, Does}
@@ -36,7 +31,8 @@ use Rattle.cell_builder.specs.Answer.{Admitted, answerOf}
 use Rattle.cell_builder.specs.Start.{extendedOf, Makeable, Makes, Emptied, Finishable, Finished}
 use Rattle.cell_builder.specs.laws.Trying.{count-is, last-start}
 
-answer-same : {f g : Fault} {c d : ℕ} {o w : List ℕ} {l k : ℕ} → f ≡ g → c ≡ d → o ≡ w → l ≡ k → _≡_ {A = Answer} (record { fault = f; count = c; owners = o; lost = l }) (record { fault = g; count = d; owners = w; lost = k })
+answer-same : {f g : Fault} {c d : ℕ} {o w : List ℕ} {l k : ℕ} → f ≡ g → c ≡ d → o ≡ w → l ≡ k
+    → _≡_ {A = Answer} (record { fault = f; count = c; owners = o; lost = l }) (record { fault = g; count = d; owners = w; lost = k })
 answer-same p q r s = rw (p, q, r, s)
 
 module _ {sites : List Float} {tri he hull table : List ℕ} {b : BoundingBox} {numbers indexes offsets : ℕ} (m : Admitted sites tri he hull table b numbers indexes offsets) where
@@ -112,11 +108,14 @@ module _ {sites : List Float} {tri he hull table : List ℕ} {b : BoundingBox} {
     abbrev Builds : Outcome Fault Built → Type 0
     Builds o = (x : Extensions) × (s : Cells) × (o ≡ ok (outcome s)) × Amid tri he (frameOf b (length tri) (length hull)) off₂ (ground hull n found x) s p v₂ ix₂
 
-    told : Makes sites tri he hull table b owners (extendedOf sites tri hull table b T v₁) p v₂ ix₂ off₂ → Refuses (andThen (extendedOf sites tri hull table b T v₁) cellsThen) ⊎ Builds (andThen (extendedOf sites tri hull table b T v₁) cellsThen)
+    told : Makes sites tri he hull table b owners (extendedOf sites tri hull table b T v₁) p v₂ ix₂ off₂
+        → Refuses (andThen (extendedOf sites tri hull table b T v₁) cellsThen) ⊎ Builds (andThen (extendedOf sites tri hull table b T v₁) cellsThen)
     unfolding andThen
     told k = by (extendedOf sites tri hull table b T v₁) (rw qo at k)
       where
-        cells-by : (x : Extensions) (o : Outcome Fault Cells) → Does tri he (frameOf b (length tri) (length hull)) off₂ (ground hull n found x) o p v₂ ix₂ → Refuses (andThen o (λ s. ok (outcome s))) ⊎ Builds (andThen o (λ s. ok (outcome s)))
+        cells-by : (x : Extensions) (o : Outcome Fault Cells)
+            → Does tri he (frameOf b (length tri) (length hull)) off₂ (ground hull n found x) o p v₂ ix₂
+            → Refuses (andThen o (λ s. ok (outcome s))) ⊎ Builds (andThen o (λ s. ok (outcome s)))
         cells-by x (ok s) d = inr (x, s, refl, d)
         cells-by x (refused e) d = inl (e, refl, d .0, d .1)
 
@@ -149,15 +148,20 @@ module _ {sites : List Float} {tri he hull table : List ℕ} {b : BoundingBox} {
     abbrev With : Outcome Fault Built → Type 0
     With o = (r ≡ answerOf o) × Lent o v ix off v₃ ix₃ off₃
 
-    emptied-with : (e : Fault) (v₂ : List Float) (ix₂ off₂ : List ℕ) → length v₂ ≡ length v → length ix₂ ≡ length ix → length off₂ ≡ length off → r ≡ answerOf (refused e) → Emptied v₂ ix₂ off₂ v₃ ix₃ off₃ → With (refused e)
+    emptied-with : (e : Fault) (v₂ : List Float) (ix₂ off₂ : List ℕ) → length v₂ ≡ length v → length ix₂ ≡ length ix → length off₂ ≡ length off
+        → r ≡ answerOf (refused e) → Emptied v₂ ix₂ off₂ v₃ ix₃ off₃ → With (refused e)
     unfolding vertexNumbers indexNumbers offsetNumbers
     emptied-with e v₂ ix₂ off₂ qv qi qo q z = (q, record { vertices = rw (← qv) (z .vertices); indexes = rw (← qi) (z .indexes); offsets = rw (← qo) (z .offsets) })
 
     -- a triangle offends
-    pub refused-first : (t : ℕ) (v₁ : List Float) → Centred (centresFrom sites tri 0 T []) T t v v₁ → t < T → length v₁ ≡ length v → r ≡ answerOf (refused (badCentre t)) → Emptied v₁ ix off v₃ ix₃ off₃ → With (build sites tri he hull b)
+    pub refused-first : (t : ℕ) (v₁ : List Float) → Centred (centresFrom sites tri 0 T []) T t v v₁ → t < T → length v₁ ≡ length v
+        → r ≡ answerOf (refused (badCentre t)) → Emptied v₁ ix off v₃ ix₃ off₃ → With (build sites tri he hull b)
     refused-first t v₁ c h qv q z = rw (offends t v v₁ c h) (emptied-with (badCentre t) v₁ ix off qv refl refl q z)
 
-    module _ (t : ℕ) (v₁ : List Float) (c : Centred (centresFrom sites tri 0 T []) T t v v₁) (h : T ≤ t) (owners : List ℕ) (qo : owners ≡ found) (p : Progress) (v₂ : List Float) (ix₂ off₂ : List ℕ) (k : Makes sites tri he hull table b owners (extendedOf sites tri hull table b T v₁) p v₂ ix₂ off₂) (long-v : length v₂ ≡ length v) (long-ix : length ix₂ ≡ length ix) (long-off : length off₂ ≡ length off) where
+    module _ (t : ℕ) (v₁ : List Float) (c : Centred (centresFrom sites tri 0 T []) T t v v₁) (h : T ≤ t) (owners : List ℕ) (qo : owners ≡ found)
+        (p : Progress) (v₂ : List Float) (ix₂ off₂ : List ℕ)
+        (k : Makes sites tri he hull table b owners (extendedOf sites tri hull table b T v₁) p v₂ ix₂ off₂) (long-v : length v₂ ≡ length v)
+        (long-ix : length ix₂ ≡ length ix) (long-off : length off₂ ≡ length off) where
       -- an extension or a cell is refused
       pub refused-later : p .fault .number ≢ 0 → r ≡ answerOf (refused (p .fault)) → Emptied v₂ ix₂ off₂ v₃ ix₃ off₃ → With (build sites tri he hull b)
       refused-later q a z = rw (goes-on t v v₁ c h ∙ stopped owners qo p v₁ v₂ ix₂ off₂ k q) (emptied-with (p .fault) v₂ ix₂ off₂ long-v long-ix long-off a z)
@@ -174,7 +178,8 @@ module _ {sites : List Float} {tri he hull table : List ℕ} {b : BoundingBox} {
           rw (goes-on t v v₁ c h ∙ w .2) (
             z .answer ∙ answer-same (a .fine) (count-is a) qo lost,
             record {
-              vertices = rw (a .verts, ← long-v) (poured-cleared (points (p .count) v₂) (p .count) v₂ v₂ v₃ (length-points v₂ 0 (p .count)) (a .holds .room) (sym (pour-points v₂ (p .count) (a .holds .room))) (z .vertices));
+              vertices = rw (a .verts, ← long-v) (poured-cleared (points (p .count) v₂) (p .count) v₂ v₂ v₃ (length-points v₂ 0 (p .count))
+                  (a .holds .room) (sym (pour-points v₂ (p .count) (a .holds .room))) (z .vertices));
               indexes = rw (← long-ix) (g .indexes);
               offsets = rw (← long-off) (g .offsets);
             },

@@ -1,5 +1,5 @@
 -- Counting the owners that are left: those counted and those still to come are all of them.
-use mathlib.Core.Path.{_≡_, refl, sym, ap, _∙_}
+use mathlib.Core.Path.{_≡_, refl, ap}
 use mathlib.Core.List.{List, [], _∷_}
 use mathlib.Core.Logic.{_≢_}
 use Prim.Native.Nat.{ℕ, suc, _+_, _≤_, _<_}
@@ -20,7 +20,8 @@ left-still o q = rw (ne-eqb o EMPTY q) (refl, omega arith)
 left-cons : (o : ℕ) (os : List ℕ) → leftOf (o ∷ os) ≡ leftOf (o ∷ []) + leftOf os
 left-cons o os = omega arith
 
-pub left-step : (owners : List ℕ) (k n r : ℕ) → k < length owners → n + leftOf (drop k owners) ≡ leftOf owners → r ≡ leftOf (getD owners k 0 ∷ []) → n + r + leftOf (drop (k + 1) owners) ≡ leftOf owners
+pub left-step : (owners : List ℕ) (k n r : ℕ) → k < length owners → n + leftOf (drop k owners) ≡ leftOf owners → r ≡ leftOf (getD owners k 0 ∷ [])
+    → n + r + leftOf (drop (k + 1) owners) ≡ leftOf owners
 left-step owners k n r l h q = rw (add-one k) (omega (arith, h, q, ap leftOf (drop-cons owners k 0 l), left-cons (getD owners k 0) (drop (suc k) owners)))
 
 none : (l : List ℕ) → length l ≡ 0 → leftOf l ≡ 0

@@ -1,24 +1,17 @@
 -- The rings that are tried: each has a vertex, no more of them than its site's share, and all of them are vertices already, circumcenters or extensions.
-use mathlib.Core.Path.{_≡_, refl, sym, ap, _∙_, subst}
-use mathlib.Core.List.{List, [], _∷_, _++_, map}
-use mathlib.Core.Logic.{⊎-elim}
-use Prim.Native.Nat.{ℕ, zero, suc, _+_, _-_, _*_, _/_, _≤_, _<_}
+use mathlib.Core.Path.{_≡_, sym, subst}
+use mathlib.Core.List.{List, [], _∷_, _++_}
+use Prim.Native.Nat.{ℕ, zero, suc, _+_, _-_, _/_, _≤_, _<_}
 use native.Mathlib.Omega.{arith}
 use lib.Dec.{eqb}
-use lib.ListN.{length, getD, drop, length-map, length-append, List·getD-map, List·getD-append}
-use lib.Seq.{getD-at, getD-drop}
-use Rattle.laws.specs.Decide.{lt-or-ge}
-use Rattle.laws.specs.Count.{occ, occ-length}
-use Rattle.mesh.specs.Mesh.{endOf, walkOf, wholeOf, leftmostOf, Paired}
-use Rattle.mesh.specs.Rules.{Topology}
-use Rattle.mesh.specs.Facts.{paired, tab-length}
+use lib.ListN.{length, getD, length-map, length-append, List·getD-map}
+use Rattle.mesh.specs.Mesh.{walkOf, wholeOf, Paired}
 use Rattle.mesh.specs.Laws.{walk-go}
 use Rattle.mesh.specs.Walks.{walk-ends}
 use Rattle.iterator.specs.Used.{occ-there}
 use Rattle.definition.specs.Build.{ringFrom, hullRing, Extensions}
 use Rattle.definition.specs.Gives.{picked}
 use Rattle.definition.specs.Start.{Beyond}
-use Rattle.definition.specs.All.{ring-share}
 use Rattle.rings.specs.laws.StagingLaws.{ring-room}
 
 -- of a walk
@@ -55,15 +48,18 @@ module _ (tri he hull table : List ℕ) (x : Extensions) (i : ℕ) where
   unfolding hullRing
   hull-some = picked (λ (l : List ℕ). 0 < length l) (eqb i 0) _ _ (λ t. omega arith) (λ t. omega arith)
 
-  pub hull-below : Paired tri he → length he ≡ length tri → Beyond (length tri / 3) x → length (x .at) ≡ length hull → length tri / 3 ≤ length (x .verts) → i < length hull → Below (length (x .verts)) (hullRing he hull table (x .at) i)
+  pub hull-below : Paired tri he → length he ≡ length tri → Beyond (length tri / 3) x → length (x .at) ≡ length hull
+      → length tri / 3 ≤ length (x .verts) → i < length hull → Below (length (x .verts)) (hullRing he hull table (x .at) i)
   unfolding hullRing
   hull-below ok same beyond counted low h =
       let ring = ringFrom he (getD table (getD hull i 0) 0) in
       let n = length (x .verts) in
       let r : Below n ring = λ j l. omega (arith, ring-below ok _ j l, same) in
       picked (Below n) (eqb i 0) _ _
-      (λ t. below-cons n (getD (x .at) 0 0) (getD (x .at) (length hull - 1) 0 ∷ ring) (beyond 0 (omega (arith, counted)) .1) (below-cons n (getD (x .at) (length hull - 1) 0) ring (beyond (length hull - 1) (omega (arith, counted)) .1) r))
-      (λ t. below-append n (getD (x .at) (i - 1) 0 ∷ ring) (getD (x .at) i 0 ∷ []) (below-cons n (getD (x .at) (i - 1) 0) ring (beyond (i - 1) (omega (arith, counted)) .1) r) (below-one n (getD (x .at) i 0) (beyond i (omega (arith, counted)) .1)))
+      (λ t. below-cons n (getD (x .at) 0 0) (getD (x .at) (length hull - 1) 0 ∷ ring) (beyond 0 (omega (arith, counted)) .1)
+      (below-cons n (getD (x .at) (length hull - 1) 0) ring (beyond (length hull - 1) (omega (arith, counted)) .1) r))
+      (λ t. below-append n (getD (x .at) (i - 1) 0 ∷ ring) (getD (x .at) i 0 ∷ [])
+      (below-cons n (getD (x .at) (i - 1) 0) ring (beyond (i - 1) (omega (arith, counted)) .1) r) (below-one n (getD (x .at) i 0) (beyond i (omega (arith, counted)) .1)))
 
   pub hull-short : Paired tri he → length he ≡ length tri → length (hullRing he hull table (x .at) i) ≤ length tri + 2
   unfolding hullRing

@@ -1,12 +1,12 @@
 -- From the circumcenters to the first try. Corners and extensions follow the definition, and since their numbers are written after all regions, the regions stay blank;
 -- so the slices hold the definition's cells at their beginning.
-use mathlib.Core.Path.{_≡_, refl, sym, ap, _∙_, subst}
-use mathlib.Core.List.{List, [], _∷_, _++_, map}
+use mathlib.Core.Path.{_≡_, refl, sym, _∙_}
+use mathlib.Core.List.{List, [], _++_, map}
 use mathlib.Core.Logic.{_≢_}
-use Prim.Native.Nat.{ℕ, zero, suc, _+_, _-_, _*_, _/_, _^_, _≤_, _<_}
+use Prim.Native.Nat.{ℕ, _+_, _-_, _*_, _/_, _≤_, _<_}
 use native.Mathlib.Omega.{arith}
 use lib.Ieee.{Float}
-use lib.ListN.{length, getD, take, drop, replicate, length-replicate, length-append}
+use lib.ListN.{length, getD, take, replicate, length-replicate, length-append}
 use lib.Seq.{sets, getD-take, length-take-le}
 use Rattle.laws.specs.Stores.{sets-in, sets-before}
 use Rattle.utils.specs.Flat.{points}
@@ -23,10 +23,8 @@ use Rattle.layout.specs.Regions.{Regions}
 use Rattle.layout.specs.Rooms.{Roomy, Started, start-end}
 use Rattle.definition.specs.declared.Fault.{Fault}
 use Rattle.definition.specs.Fault.{Outcome, ok, refused, andThen, fault, notFinite}
-use Rattle.definition.specs.Cell.{Entry}
 use Rattle.definition.specs.Build.{Extensions, extensions, extendFrom, Cells, cellsOf, clipAll}
 use Rattle.definition.specs.Gives.{gives-ok}
-use Rattle.definition.specs.Edge.{fresh}
 use Rattle.definition.specs.Start.{Extended, extend-from}
 use Rattle.definition.specs.All.{shareOf, no-cell, begin}
 use Rattle.rings.specs.Centers.{Named}
@@ -44,12 +42,14 @@ use Rattle.cell_builder.specs.laws.Agree.{regions-agree}
 -- ---- corners and extensions
 
 -- a pass over h hull places that stopped at r
-module _ (h : ℕ) (f : Frame) (found : List ℕ) (v₁ : List Float) (ix ix₁ : List ℕ) (r : Passed) (v₂ : List Float) (ix₂ : List ℕ) (fits : h ≤ f .limit) (within : f .limit ≤ length ix₁) (body : take (f .limit) ix₁ ≡ take (f .limit) ix) where
+module _ (h : ℕ) (f : Frame) (found : List ℕ) (v₁ : List Float) (ix ix₁ : List ℕ) (r : Passed) (v₂ : List Float) (ix₂ : List ℕ) (fits : h ≤ f .limit)
+    (within : f .limit ≤ length ix₁) (body : take (f .limit) ix₁ ≡ take (f .limit) ix) where
   -- among the extensions' numbers and before them
   room : (xs : List ℕ) → length xs ≡ h → f .limit - h + length xs ≤ length (take (f .limit) ix)
   room xs long = rw (← body, length-take-le (f .limit) ix₁ within) (omega arith)
 
-  passed-all : (o : Outcome Fault Extensions) → ExtendedBy o h (f .centers) (f .limit) (f .limit - h) v₁ ix₁ r v₂ ix₂ → h ≤ r .place → Begins h f found o ix (record { fault = fault 0 0 0 0; count = r .count; owners = found }) v₂ ix₂
+  passed-all : (o : Outcome Fault Extensions) → ExtendedBy o h (f .centers) (f .limit) (f .limit - h) v₁ ix₁ r v₂ ix₂ → h ≤ r .place
+      → Begins h f found o ix (record { fault = fault 0 0 0 0; count = r .count; owners = found }) v₂ ix₂
   passed-all (ok x) e l =
       let w : take (f .limit) ix₂ ≡ sets (take (f .limit) ix) (f .limit - h) (x .at) = rw (← body) (e .2 .numbers) in
       record {
@@ -57,16 +57,21 @@ module _ (h : ℕ) (f : Frame) (found : List ℕ) (v₁ : List Float) (ix ix₁ 
         verts = sym (poured-points (e .2 .verts));
         owners = refl;
         holds = e .2 .holds;
-        numbers = λ i k. sym (getD-take (f .limit) ix₂ (f .limit - h + i) 0 (omega arith)) ∙ rw w (sets-in (x .at) (take (f .limit) ix) (f .limit - h) i 0 (room (x .at) (e .1)) (omega (arith, e .1)));
+        numbers = λ i k. sym (getD-take (f .limit) ix₂ (f .limit - h + i) 0 (omega arith))
+            ∙ rw w (sets-in (x .at) (take (f .limit) ix) (f .limit - h) i 0 (room (x .at) (e .1)) (omega (arith, e .1)));
         before = λ k g. sym (getD-take (f .limit) ix₂ k 0 (omega arith)) ∙ rw w (sets-before (x .at) (take (f .limit) ix) (f .limit - h) k 0 g) ∙ getD-take (f .limit) ix k 0 (omega arith);
       }
   passed-all (refused g) e l = absurd (omega (arith, e .1))
 
-  stopped-at : (o : Outcome Fault Extensions) → ExtendedBy o h (f .centers) (f .limit) (f .limit - h) v₁ ix₁ r v₂ ix₂ → r .place < h → Begins h f found o ix (record { fault = notFinite (r .place); count = r .count; owners = found }) v₂ ix₂
+  stopped-at : (o : Outcome Fault Extensions) → ExtendedBy o h (f .centers) (f .limit) (f .limit - h) v₁ ix₁ r v₂ ix₂ → r .place < h
+      → Begins h f found o ix (record { fault = notFinite (r .place); count = r .count; owners = found }) v₂ ix₂
   stopped-at (ok x) e l = absurd (omega (arith, e .0))
   stopped-at (refused g) e l = (sym (e .0), rw (e .0) (omega arith))
 
-module _ {sites : List Float} {tri hull table : List ℕ} {f : Frame} {v : List Float} {ix : List ℕ} (g : Extendable sites tri hull table f (length v) (length ix)) {cs : List Point} (cq : cs ≡ cornersOf (f .bounds)) {count : ℕ} (nq : count ≡ f .centers + 4) {v₁ : List Float} {ix₁ : List ℕ} (l : Leaves (f .centers) (f .limit) (points (f .centers) v ++ cs) v ix count v₁ ix₁) (lv : length v₁ ≡ length v) (li : length ix₁ ≡ length ix) where
+module _ {sites : List Float} {tri hull table : List ℕ} {f : Frame} {v : List Float} {ix : List ℕ}
+    (g : Extendable sites tri hull table f (length v) (length ix)) {cs : List Point} (cq : cs ≡ cornersOf (f .bounds)) {count : ℕ}
+    (nq : count ≡ f .centers + 4) {v₁ : List Float} {ix₁ : List ℕ}
+    (l : Leaves (f .centers) (f .limit) (points (f .centers) v ++ cs) v ix count v₁ ix₁) (lv : length v₁ ≡ length v) (li : length ix₁ ≡ length ix) where
   pub extends-into : ExtendsInto sites tri hull table (f .centers) count (f .limit) (f .limit - length hull) v₁ ix₁
   extends-into = record {
     extends = g .extends;
@@ -78,22 +83,29 @@ module _ {sites : List Float} {tri hull table : List ℕ} {f : Frame} {v : List 
     small-ix = g .small-ix;
   }
 
-  module _ (found : List ℕ) (r : Passed) (v₂ : List Float) (ix₂ : List ℕ) (e : ExtendedBy (extendFrom sites tri hull table (f .centers) 0 (length hull) (extensions (points count v₁) [] [])) (length hull) (f .centers) (f .limit) (f .limit - length hull) v₁ ix₁ r v₂ ix₂) where
+  module _ (found : List ℕ) (r : Passed) (v₂ : List Float) (ix₂ : List ℕ)
+      (e : ExtendedBy (extendFrom sites tri hull table (f .centers) 0 (length hull) (extensions (points count v₁) [] [])) (length hull) (f .centers)
+      (f .limit) (f .limit - length hull) v₁ ix₁ r v₂ ix₂) where
     from-corners : ExtendedBy (extendedOf sites tri hull table (f .bounds) (f .centers) v) (length hull) (f .centers) (f .limit) (f .limit - length hull) v₁ ix₁ r v₂ ix₂
     from-corners = rw (poured-points (l .verts), cq) at e
 
-    pub extended-all : length hull ≤ r .place → Begins (length hull) f found (extendedOf sites tri hull table (f .bounds) (f .centers) v) ix (record { fault = fault 0 0 0 0; count = r .count; owners = found }) v₂ ix₂
-    extended-all = passed-all (length hull) f found v₁ ix ix₁ r v₂ ix₂ (g .after-numbers) (omega (arith, g .room-ix)) (l .body) (extendedOf sites tri hull table (f .bounds) (f .centers) v) from-corners
+    pub extended-all : length hull ≤ r .place → Begins (length hull) f found (extendedOf sites tri hull table (f .bounds) (f .centers) v) ix
+        (record { fault = fault 0 0 0 0; count = r .count; owners = found }) v₂ ix₂
+    extended-all = passed-all (length hull) f found v₁ ix ix₁ r v₂ ix₂ (g .after-numbers) (omega (arith, g .room-ix)) (l .body)
+        (extendedOf sites tri hull table (f .bounds) (f .centers) v) from-corners
 
-    pub extended-not : r .place < length hull → Begins (length hull) f found (extendedOf sites tri hull table (f .bounds) (f .centers) v) ix (record { fault = notFinite (r .place); count = r .count; owners = found }) v₂ ix₂
-    extended-not = stopped-at (length hull) f found v₁ ix ix₁ r v₂ ix₂ (g .after-numbers) (omega (arith, g .room-ix)) (l .body) (extendedOf sites tri hull table (f .bounds) (f .centers) v) from-corners
+    pub extended-not : r .place < length hull → Begins (length hull) f found (extendedOf sites tri hull table (f .bounds) (f .centers) v) ix
+        (record { fault = notFinite (r .place); count = r .count; owners = found }) v₂ ix₂
+    extended-not = stopped-at (length hull) f found v₁ ix ix₁ r v₂ ix₂ (g .after-numbers) (omega (arith, g .room-ix)) (l .body)
+        (extendedOf sites tri hull table (f .bounds) (f .centers) v) from-corners
 
 -- ---- the regions, and the beginning of all cells
 
 pub named : {sites : List Float} {tri he hull table : List ℕ} {b : BoundingBox} {numbers indexes offsets : ℕ} → Admitted sites tri he hull table b numbers indexes offsets → Named sites tri
 named a k h = omega (arith, entry-site (topology (a .mesh)) k h, a .mesh .counts .even)
 
-module _ {sites : List Float} {tri he hull table : List ℕ} {b : BoundingBox} {owners : List ℕ} {numbers indexes offsets : ℕ} (m : Makeable sites tri he hull table b owners numbers indexes offsets) where
+module _ {sites : List Float} {tri he hull table : List ℕ} {b : BoundingBox} {owners : List ℕ} {numbers indexes offsets : ℕ}
+    (m : Makeable sites tri he hull table b owners numbers indexes offsets) where
   abbrev n : ℕ
   n = siteCount sites
 
@@ -150,7 +162,8 @@ module _ {sites : List Float} {tri he hull table : List ℕ} {b : BoundingBox} {
     small-ix = omega (arith, few-entries, few-on-hull);
   })
 
-  module _ (v : List Float) (ix : List ℕ) (off : List ℕ) (lo : length off ≡ offsets) (laid : LaidOut tri hull owners n ix off) (v₁ : List Float) (ix₁ : List ℕ) (lv : length v₁ ≡ numbers) (li : length ix₁ ≡ indexes) (p : Progress) where
+  module _ (v : List Float) (ix : List ℕ) (off : List ℕ) (lo : length off ≡ offsets) (laid : LaidOut tri hull owners n ix off) (v₁ : List Float)
+      (ix₁ : List ℕ) (lv : length v₁ ≡ numbers) (li : length ix₁ ≡ indexes) (p : Progress) where
     abbrev F : Frame
     F = frameOf b (length tri) (length hull)
 
@@ -165,7 +178,8 @@ module _ {sites : List Float} {tri he hull table : List ℕ} {b : BoundingBox} {
     grounded : (x : Extensions) → extendedOf sites tri hull table b nc v ≡ ok x → Grounded tri he F off (ground hull n owners x) (length v₁) (length ix₁)
     grounded x q =
         let a = m .admitted .mesh in
-        let e : Extended nc (length hull) before x = gives-ok (Extended nc (length hull) before) (extend-from sites tri hull table nc 0 (length hull) before (omega (arith, four-more)) (λ i h. absurd (omega arith))) q in
+        let e : Extended nc (length hull) before x = gives-ok (Extended nc (length hull) before)
+        (extend-from sites tri hull table nc 0 (length hull) before (omega (arith, four-more)) (λ i h. absurd (omega arith))) q in
         record {
           mesh = topology a;
           few-sites = a .counts .few-sites;
@@ -198,7 +212,8 @@ module _ {sites : List Float} {tri he hull table : List ℕ} {b : BoundingBox} {
         rw (none-unmarked n)
         (regions-agree (laid .regions) (omega (arith, s, m .admitted .rooms .entries, whole-triangles)) (λ k h. g .before k (omega (arith, s))))
 
-    standing : (x : Extensions) → extendedOf sites tri hull table b nc v ≡ ok x → Begun (length hull) F owners x ix p v₁ ix₁ → Amid tri he F off (ground hull n owners x) (none x) p v₁ ix₁
+    standing : (x : Extensions) → extendedOf sites tri hull table b nc v ≡ ok x → Begun (length hull) F owners x ix p v₁ ix₁
+        → Amid tri he F off (ground hull n owners x) (none x) p v₁ ix₁
     standing x q g = record {
       on = grounded x q;
       held = begin b nc n (shareOf tri hull) (x .verts) owners (x .steps) (m .four);
@@ -214,7 +229,8 @@ module _ {sites : List Float} {tri he hull table : List ℕ} {b : BoundingBox} {
     no-fault q = rw q
 
     -- all cells can be clipped
-    hulls-amid : (o : Outcome Fault Extensions) → extendedOf sites tri hull table b nc v ≡ o → Begins (length hull) F owners o ix p v₁ ix₁ → p .fault .number ≡ 0 → HullsAmid tri he hull table F off p v₁ ix₁
+    hulls-amid : (o : Outcome Fault Extensions) → extendedOf sites tri hull table b nc v ≡ o → Begins (length hull) F owners o ix p v₁ ix₁
+        → p .fault .number ≡ 0 → HullsAmid tri he hull table F off p v₁ ix₁
     hulls-amid (ok x) q g z = record {
       g = ground hull n owners x;
       s = none x;
@@ -243,14 +259,18 @@ module _ {sites : List Float} {tri he hull table : List ℕ} {b : BoundingBox} {
       -- all cells are clipped
       pub made-all :
           p .fault .number ≡ 0 → (r : Progress) (v₂ : List Float) (ix₂ : List ℕ)
-          → ((g : Ground) (s : Cells) → g .hull ≡ hull → ((i : ℕ) → i < length hull → getD (s .cells) (getD hull i 0) [] ≡ []) → Amid tri he f off g s p v₁ ix₁ → table ≡ leftmostOf tri he (g .sites) → Does tri he f off g (andThen (hullTries tri he table f g s) (λ t. edgeTries tri he f t)) r v₂ ix₂)
+          → ((g : Ground) (s : Cells) → g .hull ≡ hull → ((i : ℕ) → i < length hull → getD (s .cells) (getD hull i 0) [] ≡ [])
+          → Amid tri he f off g s p v₁ ix₁ → table ≡ leftmostOf tri he (g .sites) → Does tri he f off g (andThen (hullTries tri he table f g s) (λ t. edgeTries tri he f t)) r v₂ ix₂)
           → Makes sites tri he hull table b owners (extendedOf sites tri hull table b nc v) r v₂ ix₂ off
       unfolding clipAll
       made-all z r v₂ ix₂ clip = go (extendedOf sites tri hull table b nc v) refl on-frame
         where
-          clipped : (g : Ground) (s : Cells) → g .hull ≡ hull → ((i : ℕ) → i < length hull → getD (s .cells) (getD hull i 0) [] ≡ []) → Amid tri he F off g s p v₁ ix₁ → table ≡ leftmostOf tri he (g .sites) → Does tri he F off g (andThen (hullTries tri he table F g s) (λ t. edgeTries tri he F t)) r v₂ ix₂
+          clipped : (g : Ground) (s : Cells) → g .hull ≡ hull → ((i : ℕ) → i < length hull → getD (s .cells) (getD hull i 0) [] ≡ [])
+              → Amid tri he F off g s p v₁ ix₁ → table ≡ leftmostOf tri he (g .sites)
+              → Does tri he F off g (andThen (hullTries tri he table F g s) (λ t. edgeTries tri he F t)) r v₂ ix₂
           clipped = rw fq at clip
 
-          go : (o : Outcome Fault Extensions) → extendedOf sites tri hull table b nc v ≡ o → Begins (length hull) F owners o ix p v₁ ix₁ → Makes sites tri he hull table b owners o r v₂ ix₂ off
+          go : (o : Outcome Fault Extensions) → extendedOf sites tri hull table b nc v ≡ o → Begins (length hull) F owners o ix p v₁ ix₁
+              → Makes sites tri he hull table b owners o r v₂ ix₂ off
           go (ok x) q k = clipped (ground hull n owners x) (none x) refl (λ i h. no-cell n (getD hull i 0)) (standing x q k) (m .admitted .table-is)
           go (refused e) q k = absurd (omega (arith, rw (k .0) at z, k .1))

@@ -1,14 +1,14 @@
 -- One try: a ring staged after all regions leaves what stands before and after the stage as it was; the site's region has room for its cell; and the cell written there is the definition's.
 use mathlib.Core.Path.{_≡_, refl, sym, ap, _∙_, subst}
 use mathlib.Core.List.{List, [], _∷_, _++_, map}
-use mathlib.Core.Logic.{⊎-elim, _≢_}
-use Prim.Native.Nat.{ℕ, zero, suc, _+_, _-_, _*_, _/_, _^_, _≤_, _<_}
+use mathlib.Core.Logic.{_≢_}
+use Prim.Native.Nat.{ℕ, zero, suc, _+_, _-_, _*_, _/_, _≤_, _<_}
 use native.Mathlib.Omega.{arith}
 use lib.Ieee.{Float}
 use lib.ListN.{length, getD, set, take, drop, length-map}
 use lib.Seq.{getD-set-same, sets, length-sets, getD-take, take-take}
 use Rattle.laws.specs.Stores.{sets-in, sets-behind, sets-there, take-sets, take-sets-le, drop-sets}
-use Rattle.laws.specs.Count.{occ, occ-length, sumTo, sum-mono}
+use Rattle.laws.specs.Count.{occ, occ-length, sum-mono}
 use Rattle.numbers.specs.Numbers.{EMPTY}
 use Rattle.utils.specs.Flat.{points}
 use Rattle.vertices.specs.laws.Laws.{length-points}
@@ -26,12 +26,11 @@ use Rattle.definition.specs.Puts.{Placed, AllPlaced}
 use Rattle.definition.specs.Held.{Held, clip-into}
 use Rattle.definition.specs.All.{shareOf, all-filled, spare}
 use Rattle.rings.specs.Staging.{Staged}
-use Rattle.clipping.specs.Steps.{Steps, ringOf, emptyAt, Room}
-use Rattle.clipping.specs.declared.Stepped.{Stepped}
+use Rattle.clipping.specs.Steps.{Steps, ringOf, emptyAt}
 use Rattle.outputs.specs.Lent.{unmarked}
 use Rattle.outputs.specs.laws.Marks.{cell-set}
 use Rattle.cell_builder.specs.Standing.{Ground, Grounded, Amid, Does}
-use Rattle.cell_builder.specs.Tries.{envOf, progressOf, Ringed, Tried}
+use Rattle.cell_builder.specs.Tries.{envOf, Ringed, Tried}
 use Rattle.cell_builder.specs.declared.Frame.{Frame}
 use Rattle.cell_builder.specs.declared.Progress.{Progress}
 use Rattle.cell_builder.specs.laws.Agree.{regions-agree}
@@ -93,7 +92,9 @@ module _ {tri he : List ℕ} {f : Frame} {off : List ℕ} {g : Ground} {s : Cell
   pub corners-in : length tri / 3 + 4 ≤ p .count
   corners-in = omega (arith, count-is, a .held .grown .longer, a .on .low)
 
-  module _ {site : ℕ} (l : site < g .sites) (blank : getD (s .cells) site [] ≡ []) {ring : List ℕ} (some : 0 < length ring) (paid : length ring ≤ shareOf tri (g .hull) site) (short : length ring ≤ length tri + 2) (below : (j : ℕ) → j < length ring → getD ring j 0 < p .count) {ix₁ : List ℕ} {end : ℕ} (st : Staged ring (f .stage) ix ix₁ end) where
+  module _ {site : ℕ} (l : site < g .sites) (blank : getD (s .cells) site [] ≡ []) {ring : List ℕ} (some : 0 < length ring)
+      (paid : length ring ≤ shareOf tri (g .hull) site) (short : length ring ≤ length tri + 2)
+      (below : (j : ℕ) → j < length ring → getD ring j 0 < p .count) {ix₁ : List ℕ} {end : ℕ} (st : Staged ring (f .stage) ix ix₁ end) where
     before-numbers : f .stage + length ring ≤ f .limit - length (g .hull)
     before-numbers = let on = a .on in omega (arith, on .stage, on .limit, on .three-on-hull)
 
@@ -141,7 +142,8 @@ module _ {tri he : List ℕ} {f : Frame} {off : List ℕ} {g : Ground} {s : Cell
     abbrev Good : Cells → Type 0
     Good t = Held (f .bounds) (length tri / 3) (g .sites) (shareOf tri (g .hull)) (g .x .verts) (g .found) (fresh (g .x .steps)) t
 
-    module _ (ix₂ : List ℕ) (long-ix : length ix₂ ≡ length ix₁) (c : Part) (held : Good (after c)) (slice : take (f .limit) ix₂ ≡ sets (take (f .limit) ix₁) (getD off site 0) (unmarked (c .new))) where
+    module _ (ix₂ : List ℕ) (long-ix : length ix₂ ≡ length ix₁) (c : Part) (held : Good (after c))
+        (slice : take (f .limit) ix₂ ≡ sets (take (f .limit) ix₁) (getD off site 0) (unmarked (c .new))) where
       region-fits : getD off site 0 + length (unmarked (c .new)) ≤ getD off (suc site) 0
       region-fits =
           omega (arith, length-map (c .new) (λ (e : Entry). e .at), region-room (a .on) site l, rw (getD-set-same (s .cells) site (c .new) [] (rw (a .held .width) l)) at (held .region site l))
@@ -155,7 +157,8 @@ module _ {tri he : List ℕ} {f : Frame} {off : List ℕ} {g : Ground} {s : Cell
           sym (take-take (f .stage) (f .limit) ix₂ before-limit)
           ∙ ap (take (f .stage)) slice
           ∙ take-sets (f .stage) (unmarked (c .new)) (take (f .limit) ix₁) (getD off site 0)
-          ∙ ap (λ (x : List ℕ). sets x (getD off site 0) (unmarked (c .new))) (take-take (f .stage) (f .limit) ix₁ before-limit ∙ ap (take (f .stage)) (st .written) ∙ take-sets-le (f .stage) ring ix (f .stage) (omega arith))
+          ∙ ap (λ (x : List ℕ). sets x (getD off site 0) (unmarked (c .new)))
+          (take-take (f .stage) (f .limit) ix₁ before-limit ∙ ap (take (f .stage)) (st .written) ∙ take-sets-le (f .stage) ring ix (f .stage) (omega arith))
           ∙ sym (take-sets (f .stage) (unmarked (c .new)) ix (getD off site 0))
 
       entries-real : (i : ℕ) → i < length (unmarked (c .new)) → getD (unmarked (c .new)) i 0 ≢ EMPTY
@@ -184,18 +187,23 @@ module _ {tri he : List ℕ} {f : Frame} {off : List ℕ} {g : Ground} {s : Cell
           ∙ rw (st .written) (sets-behind ring ix (f .stage) k 0 low)
           ∙ a .numbers i h
 
-    pub tried : {r : Progress} {v₂ : List Float} {ix₂ : List ℕ} → length v₂ ≡ length v → length ix₂ ≡ length ix₁ → Tried f site p end v ix₁ off r v₂ ix₂ → Does tri he f off g (clipInto (f .bounds) (length tri / 3) site ring s) r v₂ ix₂
+    pub tried : {r : Progress} {v₂ : List Float} {ix₂ : List ℕ} → length v₂ ≡ length v → length ix₂ ≡ length ix₁
+        → Tried f site p end v ix₁ off r v₂ ix₂ → Does tri he f off g (clipInto (f .bounds) (length tri / 3) site ring s) r v₂ ix₂
     unfolding clipInto andThen
     tried {r} {v₂} {ix₂} long-v long-ix t =
         let on = a .on in
         go (Def.clipCell (f .bounds) (length tri / 3) site ring (s .verts) (s .owners))
-        (clip-into (f .bounds) (length tri / 3) (g .sites) (shareOf tri (g .hull)) (g .x .verts) (g .found) (fresh (g .x .steps)) (on .low) site (omega (arith, on .few-sites)) l ring paid s (a .held) blank)
+        (clip-into (f .bounds) (length tri / 3) (g .sites) (shareOf tri (g .hull)) (g .x .verts) (g .found) (fresh (g .x .steps)) (on .low) site
+        (omega (arith, on .few-sites)) l ring paid s (a .held) blank)
         (subst (λ (o : Outcome Fault Part). Steps (envOf f site) (end - f .stage) o (p .count) (emptyAt (p .owners) (getD off site 0)) v ix₁ (t .stepped) v₂ ix₂) same (t .steps))
       where
-        same : Def.clipCell (f .bounds) (f .centers) site (ringOf ix₁ (f .stage) (end - f .stage)) (points (p .count) v) (p .owners) ≡ Def.clipCell (f .bounds) (length tri / 3) site ring (s .verts) (s .owners)
+        same : Def.clipCell (f .bounds) (f .centers) site (ringOf ix₁ (f .stage) (end - f .stage)) (points (p .count) v) (p .owners) ≡ Def.clipCell
+            (f .bounds) (length tri / 3) site ring (s .verts) (s .owners)
         same = rw (ring-is, a .on .centers, a .verts, a .owners)
 
-        go : (o : Outcome Fault Part) → Gives (λ (q : Cells). Good q × ((k : ℕ) → k ≢ site → getD (q .cells) k [] ≡ getD (s .cells) k [])) (andThen o (λ c. ok (after c))) → Steps (envOf f site) (end - f .stage) o (p .count) (emptyAt (p .owners) (getD off site 0)) v ix₁ (t .stepped) v₂ ix₂ → Does tri he f off g (andThen o (λ c. ok (after c))) r v₂ ix₂
+        go : (o : Outcome Fault Part) → Gives (λ (q : Cells). Good q × ((k : ℕ) → k ≢ site → getD (q .cells) k [] ≡ getD (s .cells) k []))
+            (andThen o (λ c. ok (after c))) → Steps (envOf f site) (end - f .stage) o (p .count) (emptyAt (p .owners) (getD off site 0)) v ix₁
+            (t .stepped) v₂ ix₂ → Does tri he f off g (andThen o (λ c. ok (after c))) r v₂ ix₂
         go (ok c) h q =
             rw (t .is) (record {
               on = rw (long-v, long-ix, same-long) (a .on);

@@ -28,10 +28,13 @@ use Rattle.cell_builder.specs.laws.TwoKinds.{edge-site, region-some}
 use Rattle.cell_builder.specs.laws.Along.{OthersStay, others-stay}
 
 -- the cell of the site where e ends is there
-edge-full : {tri he : List ℕ} {f : Frame} {off : List ℕ} {g : Ground} {s : Cells} {p : Progress} {v : List Float} {ix : List ℕ} → Amid tri he f off g s p v ix → (e site : ℕ) → e < length tri → site ≡ endOf tri e → getD ix (getD off site 0) 0 ≢ EMPTY → isEmpty (getD (s .cells) site []) ≡ false
+edge-full : {tri he : List ℕ} {f : Frame} {off : List ℕ} {g : Ground} {s : Cells} {p : Progress} {v : List Float} {ix : List ℕ}
+    → Amid tri he f off g s p v ix → (e site : ℕ) → e < length tri → site ≡ endOf tri e → getD ix (getD off site 0) 0 ≢ EMPTY → isEmpty (getD (s .cells) site []) ≡ false
 edge-full {off = off} {s = s} {ix = ix} a e site h q n = full-already ix off (s .cells) (a .regions) site (rw (a .held .width) (edge-site a e site h q)) (region-some a e site h q) n
 
-module _ {tri he table : List ℕ} {f : Frame} {off : List ℕ} {g : Ground} {s : Cells} {p : Progress} {v : List Float} {ix : List ℕ} (a : Amid tri he f off g s p v ix) (t : table ≡ leftmostOf tri he (g .sites)) {full : Bool} {e site : ℕ} (b : FullBefore table (g .sites) full e s) (h : e < length tri) (q : site ≡ endOf tri e) where
+module _ {tri he table : List ℕ} {f : Frame} {off : List ℕ} {g : Ground} {s : Cells} {p : Progress} {v : List Float} {ix : List ℕ}
+    (a : Amid tri he f off g s p v ix) (t : table ≡ leftmostOf tri he (g .sites)) {full : Bool} {e site : ℕ}
+    (b : FullBefore table (g .sites) full e s) (h : e < length tri) (q : site ≡ endOf tri e) where
   pub table-place : site < length table
   table-place = rw (t, tab-length (a .on .mesh)) (edge-site a e site h q)
 

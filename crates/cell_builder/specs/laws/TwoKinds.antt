@@ -1,9 +1,8 @@
 -- The two kinds of tries: at a hull place, from its ring with extensions, and at a half-edge, from the walk that starts there, where the cell is still empty.
-use mathlib.Core.Path.{_≡_, refl, sym, ap, _∙_, subst}
-use mathlib.Core.Bool.{true, false}
-use mathlib.Core.List.{List, [], _∷_, map}
+use mathlib.Core.Path.{_≡_, sym, _∙_, subst}
+use mathlib.Core.List.{List, []}
 use mathlib.Core.Logic.{_≢_}
-use Prim.Native.Nat.{ℕ, suc, _+_, _-_, _*_, _/_, _≤_, _<_}
+use Prim.Native.Nat.{ℕ, suc, _+_, _-_, _/_, _≤_, _<_}
 use native.Mathlib.Omega.{arith}
 use lib.Ieee.{Float}
 use lib.ListN.{length, getD, drop}
@@ -11,17 +10,17 @@ use lib.Seq.{getD-drop}
 use Rattle.numbers.specs.Numbers.{EMPTY}
 use Rattle.mesh.specs.Mesh.{endOf, leftmostOf}
 use Rattle.mesh.specs.Facts.{paired, tab-length, end-site}
-use Rattle.definition.specs.Build.{Cells, ringFrom, hullRing, isEmpty, clipInto}
+use Rattle.definition.specs.Build.{Cells, ringFrom, hullRing, clipInto}
 use Rattle.definition.specs.All.{shareOf, ring-share, hull-share}
 use Rattle.rings.specs.Staging.{Staged, Stages}
 use Rattle.rings.specs.laws.StagingLaws.{ring-room}
 use Rattle.outputs.specs.laws.Marks.{empty-still, full-already}
-use Rattle.cell_builder.specs.Standing.{Ground, Grounded, Amid, Does, hullTry, edgeTry}
+use Rattle.cell_builder.specs.Standing.{Ground, Amid, Does, hullTry, edgeTry}
 use Rattle.cell_builder.specs.Tries.{Ringed, Tried}
 use Rattle.cell_builder.specs.declared.Frame.{Frame}
 use Rattle.cell_builder.specs.declared.Progress.{Progress}
 use Rattle.cell_builder.specs.laws.Rings.{ring-below, ring-some, Below, hull-some, hull-below, hull-short, hull-same}
-use Rattle.cell_builder.specs.laws.Trying.{threes, region-room, region-within, count-is, corners-in, ringed, tried}
+use Rattle.cell_builder.specs.laws.Trying.{region-room, region-within, count-is, corners-in, ringed, tried}
 
 module _ {tri he : List ℕ} {f : Frame} {off : List ℕ} {g : Ground} {s : Cells} {p : Progress} {v : List Float} {ix : List ℕ} (a : Amid tri he f off g s p v ix) where
   begun : length (g .x .verts) ≤ p .count
@@ -51,7 +50,8 @@ module _ {tri he : List ℕ} {f : Frame} {off : List ℕ} {g : Ground} {s : Cell
     ring-now : hullRing he hull table (drop (f .limit - length hull) ix) i ≡ hullRing he hull table (g .x .at) i
     ring-now = hull-same tri he hull table (g .x) i (drop (f .limit - length hull) ix) place (λ j h. getD-drop (f .limit - length hull) ix j 0 ∙ rw (← is) (a .numbers j (rw is h)))
 
-    module _ (paid : length (hullRing he hull table (g .x .at) i) ≤ shareOf tri hull (getD hull i 0)) (blank : getD (s .cells) (getD hull i 0) [] ≡ []) {ix₁ : List ℕ} {end : ℕ} (st : Staged (hullRing he hull table (drop (f .limit - length hull) ix) i) (f .stage) ix ix₁ end) where
+    module _ (paid : length (hullRing he hull table (g .x .at) i) ≤ shareOf tri hull (getD hull i 0))
+        (blank : getD (s .cells) (getD hull i 0) [] ≡ []) {ix₁ : List ℕ} {end : ℕ} (st : Staged (hullRing he hull table (drop (f .limit - length hull) ix) i) (f .stage) ix ix₁ end) where
       staged : Staged (hullRing he hull table (g .x .at) i) (f .stage) ix ix₁ end
       staged = rw ring-now at st
 
@@ -59,12 +59,18 @@ module _ {tri he : List ℕ} {f : Frame} {off : List ℕ} {g : Ground} {s : Cell
       short = hull-short tri he hull table (g .x) i (paired (a .on .mesh)) (a .on .mesh .same)
 
       below : Below (p .count) (hullRing he hull table (g .x .at) i)
-      below j l = let on = a .on in omega (arith, begun, hull-below tri he hull table (g .x) i (paired (on .mesh)) (on .mesh .same) (on .beyond) (rw is at (on .counted)) (omega (arith, on .low)) place j l)
+      below j l = let on = a .on in omega (
+        arith,
+        begun,
+        hull-below tri he hull table (g .x) i (paired (on .mesh)) (on .mesh .same) (on .beyond)
+            (rw is at (on .counted)) (omega (arith, on .low)) place j l,
+      )
 
       pub hull-ringed : Ringed f (getD hull i 0) p end v ix₁ off
       hull-ringed = ringed a hull-site blank (hull-some tri he hull table (g .x) i) (rw is paid) short below staged
 
-      pub hull-tried : {r : Progress} {v₂ : List Float} {ix₂ : List ℕ} → length v₂ ≡ length v → length ix₂ ≡ length ix₁ → Tried f (getD hull i 0) p end v ix₁ off r v₂ ix₂ → Does tri he f off g (hullTry tri he table f g i s) r v₂ ix₂
+      pub hull-tried : {r : Progress} {v₂ : List Float} {ix₂ : List ℕ} → length v₂ ≡ length v → length ix₂ ≡ length ix₁
+          → Tried f (getD hull i 0) p end v ix₁ off r v₂ ix₂ → Does tri he f off g (hullTry tri he table f g i s) r v₂ ix₂
       hull-tried {r} {v₂} {ix₂} lv li d =
           subst (λ (h : List ℕ). Does tri he f off g (clipInto (f .bounds) (length tri / 3) (getD h i 0) (hullRing he h table (g .x .at) i) s) r v₂ ix₂) (sym is)
           (tried a hull-site blank (hull-some tri he hull table (g .x) i) (rw is paid) short below staged lv li d)
@@ -109,5 +115,6 @@ module _ {tri he : List ℕ} {f : Frame} {off : List ℕ} {g : Ground} {s : Cell
       pub edge-ringed : Ringed f site p end v ix₁ off
       edge-ringed = ringed a edge-site blank-edge (ring-some {tri = tri} (paired (a .on .mesh)) e in-mesh) paid-edge short-edge below-edge st
 
-      pub edge-tried : {r : Progress} {v₂ : List Float} {ix₂ : List ℕ} → length v₂ ≡ length v → length ix₂ ≡ length ix₁ → Tried f site p end v ix₁ off r v₂ ix₂ → Does tri he f off g (edgeTry tri he f e s) r v₂ ix₂
+      pub edge-tried : {r : Progress} {v₂ : List Float} {ix₂ : List ℕ} → length v₂ ≡ length v → length ix₂ ≡ length ix₁
+          → Tried f site p end v ix₁ off r v₂ ix₂ → Does tri he f off g (edgeTry tri he f e s) r v₂ ix₂
       edge-tried lv li d = rw (← q, blank-edge) (tried a edge-site blank-edge (ring-some {tri = tri} (paired (a .on .mesh)) e in-mesh) paid-edge short-edge below-edge st lv li d)

@@ -39,13 +39,16 @@ pub record Lengths (s : Slices) : Type 0 where
 
 -- the text by the number, where the listing is that of what was built
 module _ (Rules : ℕ → Type 0) (text : Built → List ℕ) where
-  shows-built : {o : Outcome Fault Built} (t : List ℕ) → Rules 0 → Refuses Numbered o → ((b : Built) → o ≡ ok b → faultOf o .number ≡ 0 → t ≡ text b) → Shows Rules text o (shown t (faultOf o .number))
+  shows-built : {o : Outcome Fault Built} (t : List ℕ) → Rules 0 → Refuses Numbered o
+      → ((b : Built) → o ≡ ok b → faultOf o .number ≡ 0 → t ≡ text b) → Shows Rules text o (shown t (faultOf o .number))
   shows-built {o = ok b} t p late f = rw (f b refl refl) (printed.built p)
   shows-built {o = refused e} t p late f =
       let q : e .number ≢ 0 = λ z. omega (arith, late .least) in
       rw (ne-eqb (e .number) 0 q) (printed.late p)
 
-shows : {sites : List Float} {tri he hull : List ℕ} {roomy : Bool} {asked : ℕ} {o : Outcome Fault Built} {r : ℕ} (text : Built → List ℕ) (t : List ℕ) → Builds sites tri he hull roomy asked o r → Refuses Numbered o → ((b : Built) → o ≡ ok b → r ≡ 0 → t ≡ text b) → Shows (Admits sites tri he hull roomy asked) text o (shown t r)
+shows : {sites : List Float} {tri he hull : List ℕ} {roomy : Bool} {asked : ℕ} {o : Outcome Fault Built} {r : ℕ} (text : Built → List ℕ) (t : List ℕ)
+    → Builds sites tri he hull roomy asked o r → Refuses Numbered o → ((b : Built) → o ≡ ok b → r ≡ 0 → t ≡ text b)
+    → Shows (Admits sites tri he hull roomy asked) text o (shown t r)
 shows text t x late f =
     ⊎-elim
     (λ y. rw (ne-eqb _ 0 (y .1)) (printed.early (y .0) (y .1)))
@@ -53,7 +56,8 @@ shows text t x late f =
     (builds-cases x)
 
 -- the counts: a number, the four owners, another number
-owners-at : (v l : ℕ) (os tail : List ℕ) → length os ≡ 4 → _≡_ {A = List ℕ} (getD ((v ∷ os ++ l ∷ []) ++ tail) 1 0 ∷ getD ((v ∷ os ++ l ∷ []) ++ tail) 2 0 ∷ getD ((v ∷ os ++ l ∷ []) ++ tail) 3 0 ∷ getD ((v ∷ os ++ l ∷ []) ++ tail) 4 0 ∷ []) os
+owners-at : (v l : ℕ) (os tail : List ℕ) → length os ≡ 4 → _≡_ {A = List ℕ}
+    (getD ((v ∷ os ++ l ∷ []) ++ tail) 1 0 ∷ getD ((v ∷ os ++ l ∷ []) ++ tail) 2 0 ∷ getD ((v ∷ os ++ l ∷ []) ++ tail) 3 0 ∷ getD ((v ∷ os ++ l ∷ []) ++ tail) 4 0 ∷ []) os
 owners-at v l [] tail h = absurd (omega arith)
 owners-at v l (a ∷ []) tail h = absurd (omega arith)
 owners-at v l (a ∷ b ∷ []) tail h = absurd (omega arith)
@@ -70,7 +74,8 @@ last-at v l (a ∷ b ∷ c ∷ d ∷ []) tail h = refl
 last-at v l (a ∷ b ∷ c ∷ d ∷ e ∷ os) tail h = absurd (omega arith)
 
 -- ---- the slices after the number 0
-module _ {Rules : ℕ → Type 0} {table : List ℕ} {o : Outcome Fault Built} {old new : Slices} {r n : ℕ} (a : BuildAnswer Rules table o old new r) (long : Lengths old) (b : Built) (w : Whole n b) (e : o ≡ ok b) (z : r ≡ 0) where
+module _ {Rules : ℕ → Type 0} {table : List ℕ} {o : Outcome Fault Built} {old new : Slices} {r n : ℕ} (a : BuildAnswer Rules table o old new r)
+    (long : Lengths old) (b : Built) (w : Whole n b) (e : o ≡ ok b) (z : r ≡ 0) where
   abbrev cells : List (List ℕ)
   cells = map unmarked (b .cells)
 
@@ -138,7 +143,8 @@ module _ (sites : List Float) (tri he hull : List ℕ) (space : ℕ) (m : Sized 
         let b = zero-succeeds late a z .outcome in
         laid-out a long (b .value) (gives-ok (Whole (siteCount sites)) whole (b .is)) (b .is) z space (omega (arith, m .few-sites)) short (m .room)
 
-    text-of : (text : Built → List ℕ) (t : List ℕ) → ((b : Built) → Whole (siteCount sites) b → o ≡ ok b → r ≡ 0 → t ≡ text b) → Shows (Admits sites tri he hull true asked) text o (shown t r)
+    text-of : (text : Built → List ℕ) (t : List ℕ) → ((b : Built) → Whole (siteCount sites) b → o ≡ ok b → r ≡ 0 → t ≡ text b)
+        → Shows (Admits sites tri he hull true asked) text o (shown t r)
     text-of text t f = shows text t rules late (λ b e z. f b (gives-ok (Whole (siteCount sites)) whole e) e z)
 
   module _ (c : Point) (w h : Float) (a : Clipped sites tri he hull c w h old new r) where
@@ -156,4 +162,5 @@ module _ (sites : List Float) (tri he hull : List ℕ) (space : ℕ) (m : Sized 
     laid-without-box = layout (whole-without-box sites tri he) (unclipped-late sites tri he) a
 
     pub text-without-box : WithoutBox sites tri he hull (shown (unclippedLines (siteCount sites) (length tri / 3) (new .offsets) (new .indexes) (new .counts)) r)
-    text-without-box = text-of (whole-without-box sites tri he) (unclipped-late sites tri he) a (unclippedText (siteCount sites) (length tri / 3)) _ (λ b q e z. unclipped-lines a long b q e z (length tri / 3))
+    text-without-box = text-of (whole-without-box sites tri he) (unclipped-late sites tri he) a (unclippedText (siteCount sites) (length tri / 3)) _
+        (λ b q e z. unclipped-lines a long b q e z (length tri / 3))

@@ -24,7 +24,8 @@ module _ (s : List ℕ) (bs ss : List Float) (ts es hs : List ℕ) (bs′ ss′ 
   by-mesh : {a : Form} → Accepted s bs ss ts es hs a bs′ ss′ ts′ es′ hs′ → ByForm a bs′ ss′ ts′ es′ hs′ text → Prints s text
   by-mesh p q =
       sound (p .mesh) (p .fits) (p .form)
-      (to-mesh (p .mesh) (p .fits) bs ss ts es hs room bs′ ss′ ts′ es′ hs′ (record { bounds = p .bounds; sites = p .sites; triangles = p .triangles; halfedges = p .halfedges; hull = p .hull }) text (rw (p .answer) at q))
+      (to-mesh (p .mesh) (p .fits) bs ss ts es hs room bs′ ss′ ts′ es′ hs′
+      (record { bounds = p .bounds; sites = p .sites; triangles = p .triangles; halfedges = p .halfedges; hull = p .hull }) text (rw (p .answer) at q))
 
   by-refusal : {a : Form} → Refused s bs ss ts es hs a → ByForm a bs′ ss′ ts′ es′ hs′ text → Prints s text
   by-refusal p q =

@@ -78,7 +78,14 @@ module _ (cs : List (List ℕ)) (more rest : List ℕ) where
           long = omega (arith, length-append (offsetsFrom 0 cs) more, offsets-length 0 cs);
           few = omega arith;
           rise = λ i h. omega (arith, offset-at i (omega arith), next-at i h);
-          within = λ i h. omega (arith, next-at i h, ap length (joined-split cs i h), length-append (joined (take i cs) ++ getD cs i []) (joined (drop (suc i) cs)), length-append (joined (take i cs)) (getD cs i []));
+          within = λ i h. omega (
+            arith,
+            next-at i h,
+            ap length (joined-split cs i h),
+            length-append (joined (take i cs) ++ getD cs i [])
+                (joined (drop (suc i) cs)),
+            length-append (joined (take i cs)) (getD cs i []),
+          );
         };
         short = omega (arith, total);
         room = room;

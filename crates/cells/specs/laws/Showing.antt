@@ -29,4 +29,11 @@ module _ (T : ℕ) (counts : List ℕ) {n : ℕ} {offs idx : List ℕ} {space : 
   unclipped-fits = omega (arith, unclipped-short n T (getD counts 0 0) offs idx (p .layout), p .few, p .short, p .room)
 
   pub box-fits : length (boxLines n T offs idx counts) ≤ space
-  box-fits = omega (arith, listing-short n T (getD counts 0 0) offs idx (p .layout) (getD counts 1 0 ∷ getD counts 2 0 ∷ getD counts 3 0 ∷ getD counts 4 0 ∷ []) (getD counts 5 0) refl, p .few, p .short, p .room)
+  box-fits = omega (
+    arith,
+    listing-short n T (getD counts 0 0) offs idx (p .layout)
+        (getD counts 1 0 ∷ getD counts 2 0 ∷ getD counts 3 0 ∷ getD counts 4 0 ∷ []) (getD counts 5 0) refl,
+    p .few,
+    p .short,
+    p .room,
+  )

@@ -59,7 +59,8 @@ unfolding ringsFrom
 rings tri he zero e cells = refl
 rings tri he (suc k) e cells =
     rings tri he k (suc e) _
-    ∙ picked (λ (l : List (List Entry)). length l ≡ length cells) (isEmpty (getD cells (endOf tri e) [])) (λ _. set cells (endOf tri e) (ringCell he e)) (λ _. cells) (λ _. length-set cells _ _) (λ _. refl)
+    ∙ picked (λ (l : List (List Entry)). length l ≡ length cells) (isEmpty (getD cells (endOf tri e) []))
+    (λ _. set cells (endOf tri e) (ringCell he e)) (λ _. cells) (λ _. length-set cells _ _) (λ _. refl)
 
 pub whole-without-box : (sites : List Float) (tri he : List ℕ) → Gives (Whole (siteCount sites)) (unclipped sites tri he)
 unfolding unclipped

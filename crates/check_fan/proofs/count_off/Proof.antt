@@ -28,40 +28,17 @@ loop-holds : tie.Need-loop-holds Inv-loop μ-loop
 unfolding owedTo
 loop-holds c = (search needs, refl, refl)
 
-end-site-requires : tie.Need-end-site-requires Inv-loop μ-loop
-end-site-requires c κs = search needs
-
-wide-requires : tie.Need-wide-requires Inv-loop μ-loop
-wide-requires c κs = search needs
-
-mul-less : tie.Need-mul-less Inv-loop μ-loop
-mul-less c = search needs
-
 slice-read-less : tie.Need-slice-read-less Inv-loop μ-loop
 slice-read-less c = omega (arith, in-work (c .before .before .before))
-
-less-requires : tie.Need-less-requires Inv-loop μ-loop
-less-requires c κs = search needs
-
-mul-work : tie.Need-mul-work Inv-loop μ-loop
-mul-work c = search needs
 
 slice-write-work : tie.Need-slice-write-work Inv-loop μ-loop
 slice-write-work c = omega (arith, in-work (c .before .before .before .before))
 
-add-e : tie.Need-add-e Inv-loop μ-loop
-add-e c = search needs
-
-loop-less : tie.Need-loop-less Inv-loop μ-loop
-loop-less c = search needs
-
 loop-again : tie.Need-loop-again Inv-loop μ-loop
 loop-again c =
-    let l = c .before .before .before .before .before .loop in
+    let at-loop = c .before .before .before .before .before in
+    let l = at-loop .loop in
     (omega arith, length-set (l .work) _ _ ∙ l .inv .1, owed-next _ _ _ _ _ _ _ (l .inv .2) (c .before .before .wide .ensures) (c .before .before .before .end-site .ensures) (c .less .ensures))
-
-same-length : tie.Need-same-length Inv-loop μ-loop
-same-length c = search needs
 
 returns : tie.Need-returns Inv-loop μ-loop
 returns c =
@@ -71,19 +48,6 @@ returns c =
 pub count-off-spec : {M : Type 1} → statement M
 count-off-spec =
     tie.close
-    (tie.spec
-    Inv-loop
-    μ-loop
-    loop-holds
-    end-site-requires
-    wide-requires
-    mul-less
-    slice-read-less
-    less-requires
-    mul-work
-    slice-write-work
-    add-e
-    loop-less
-    loop-again
-    same-length
-    returns)
+    (tie.spec Inv-loop μ-loop loop-holds (λ c κs. search needs) (λ c κs. search needs) (λ c. search needs)
+    slice-read-less (λ c κs. search needs) (λ c. search needs) slice-write-work (λ c. search needs) (λ c. search needs)
+    loop-again (λ c. search needs) returns)

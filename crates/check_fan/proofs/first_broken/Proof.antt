@@ -6,26 +6,19 @@ use borrow.Author.Needs.{needs}
 use Rattle.check_fan.proofs.first_broken.Statement.{statement}
 use Rattle.check_fan.proofs.first_broken.Tie as tie
 
-lengths-requires : tie.Need-lengths-requires
-lengths-requires c κs = search needs
-
 count-off-requires : tie.Need-count-off-requires
 count-off-requires c κs =
     let s = c .before .before .before .before .before .before .before .before in
     (rw (← s .pre .0) (s .pre .1 .threes), λ k l. rw (c .before .before .before .lengths .kept .1 .0) (lt-of-lt-of-le (s .pre .3 k l) (s .pre .2)))
 
-first-owing-requires : tie.Need-first-owing-requires
-first-owing-requires c κs = search needs
-
-same-length : tie.Need-same-length
-same-length c = search needs
-
 returns : tie.Need-returns
 returns c =
+    let at-lengths = c .before .before .before .before .before .before .before .before in
     let s = c .before .before .before .before .before .before .before .before .before .before .before .before .before in
-    broken-first _ _ _ _ (s .pre .0) (s .pre .1) (s .pre .2) (s .pre .3) _ _ _ _ (s .pre .4) (c .before .before .before .before .before .before .before .before .lengths .ensures) (c .before .before .before .before .count-off .ensures) (c .first-owing .ensures)
+    broken-first _ _ _ _ (s .pre .0) (s .pre .1) (s .pre .2) (s .pre .3) _ _ _ _ (s .pre .4) (at-lengths .lengths .ensures)
+    (c .before .before .before .before .count-off .ensures) (c .first-owing .ensures)
 
 pub first-broken-spec : {M : Type 1} → statement M
 first-broken-spec =
     tie.close
-    (tie.spec lengths-requires count-off-requires first-owing-requires same-length returns)
+    (tie.spec (λ c κs. search needs) count-off-requires (λ c κs. search needs) (λ c. search needs) returns)

@@ -19,28 +19,10 @@ loop-holds : tie.Need-loop-holds Inv-loop μ-loop
 unfolding totalTo
 loop-holds c = (search needs, refl, search needs)
 
-mul-walk-length : tie.Need-mul-walk-length Inv-loop μ-loop
-mul-walk-length c = search needs
-
-shared-slice-read-walk-length : tie.Need-shared-slice-read-walk-length Inv-loop μ-loop
-shared-slice-read-walk-length c = search needs
-
-walk-length-requires : tie.Need-walk-length-requires Inv-loop μ-loop
-walk-length-requires c κs = search needs
-
-add-total : tie.Need-add-total Inv-loop μ-loop
-add-total c = search needs
-
 returns : tie.Need-returns Inv-loop μ-loop
 returns c =
     let l = c .before .before .before .before .loop in
     total-over _ _ _ _ (omega arith) (total-turn _ _ _ _ _ (l .inv .1) (c .before .walk-length .ensures .0)) (c .if1 .taken)
-
-add-s : tie.Need-add-s Inv-loop μ-loop
-add-s c = search needs
-
-loop-less : tie.Need-loop-less Inv-loop μ-loop
-loop-less c = search needs
 
 loop-again : tie.Need-loop-again Inv-loop μ-loop
 loop-again c =
@@ -55,16 +37,5 @@ returns-2 c =
 pub walks-cover-spec : {M : Type 1} → statement M
 walks-cover-spec =
     tie.close
-    (tie.spec
-    Inv-loop
-    μ-loop
-    loop-holds
-    mul-walk-length
-    shared-slice-read-walk-length
-    walk-length-requires
-    add-total
-    returns
-    add-s
-    loop-less
-    loop-again
-    returns-2)
+    (tie.spec Inv-loop μ-loop loop-holds (λ c. search needs) (λ c. search needs) (λ c κs. search needs)
+    (λ c. search needs) returns (λ c. search needs) (λ c. search needs) loop-again returns-2)

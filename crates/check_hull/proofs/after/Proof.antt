@@ -6,19 +6,13 @@ use borrow.Author.Needs.{needs}
 use Rattle.check_hull.proofs.after.Statement.{statement}
 use Rattle.check_hull.proofs.after.Tie as tie
 
-add-if1 : tie.Need-add-if1
-add-if1 c = search needs
-
 returns : tie.Need-returns
 unfolding afterOf
 returns c = (simp (eq-eqb _ _ (c .if1 .taken)), omega arith)
-
-add-result : tie.Need-add-result
-add-result c = search needs
 
 returns-2 : tie.Need-returns-2
 unfolding afterOf
 returns-2 c = (simp (ne-eqb _ _ (c .if1 .left)), omega arith)
 
 pub after-spec : {M : Type 1} → statement M
-after-spec = tie.close (tie.spec add-if1 returns add-result returns-2)
+after-spec = tie.close (tie.spec (λ c. search needs) returns (λ c. search needs) returns-2)

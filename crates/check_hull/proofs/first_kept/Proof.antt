@@ -16,50 +16,28 @@ abbrev μ-loop : tie.MeasureT-loop
 loop-holds : tie.Need-loop-holds Inv-loop μ-loop
 loop-holds c = (search needs, below-none _)
 
-mul-wide : tie.Need-mul-wide Inv-loop μ-loop
-mul-wide c = search needs
-
-shared-slice-read-wide : tie.Need-shared-slice-read-wide Inv-loop μ-loop
-shared-slice-read-wide c = search needs
-
-wide-requires : tie.Need-wide-requires Inv-loop μ-loop
-wide-requires c κs = search needs
-
 mul-m : tie.Need-mul-m Inv-loop μ-loop
-mul-m c = record { fits = omega (arith, c .before .before .before .before .before .before .pre .1 (c .before .before .before .loop .i) (omega arith)) }
+mul-m c =
+    let at-start = c .before .before .before .before .before .before in
+    record { fits = omega (arith, at-start .pre .1 (c .before .before .before .loop .i) (omega arith)) }
 
 shared-slice-read-m : tie.Need-shared-slice-read-m Inv-loop μ-loop
-shared-slice-read-m c = omega (arith, c .before .before .before .before .before .before .before .pre .1 (c .before .before .before .before .loop .i) (omega arith))
+shared-slice-read-m c =
+    let at-start = c .before .before .before .before .before .before .before in
+    omega (arith, at-start .pre .1 (c .before .before .before .before .loop .i) (omega arith))
 
 returns : tie.Need-returns Inv-loop μ-loop
-returns c = record { within = omega arith; before = c .before .before .before .before .before .loop .inv .1; at = λ _. rw (← c .before .before .wide .ensures) (c .if1 .taken) }
-
-add-i : tie.Need-add-i Inv-loop μ-loop
-add-i c = search needs
-
-loop-less : tie.Need-loop-less Inv-loop μ-loop
-loop-less c = search needs
+returns c =
+    let at-loop = c .before .before .before .before .before in
+    record { within = omega arith; before = at-loop .loop .inv .1; at = λ _. rw (← c .before .before .wide .ensures) (c .if1 .taken) }
 
 loop-again : tie.Need-loop-again Inv-loop μ-loop
-loop-again c = (omega arith, below-more _ _ (c .before .before .before .before .before .loop .inv .1) (rw (← c .before .before .wide .ensures) (c .if1 .left)))
-
-returns-2 : tie.Need-returns-2 Inv-loop μ-loop
-returns-2 c = search needs
+loop-again c =
+    let at-loop = c .before .before .before .before .before in
+    (omega arith, below-more _ _ (at-loop .loop .inv .1) (rw (← c .before .before .wide .ensures) (c .if1 .left)))
 
 pub first-kept-spec : {M : Type 1} → statement M
 first-kept-spec =
     tie.close
-    (tie.spec
-    Inv-loop
-    μ-loop
-    loop-holds
-    mul-wide
-    shared-slice-read-wide
-    wide-requires
-    mul-m
-    shared-slice-read-m
-    returns
-    add-i
-    loop-less
-    loop-again
-    returns-2)
+    (tie.spec Inv-loop μ-loop loop-holds (λ c. search needs) (λ c. search needs) (λ c κs. search needs) mul-m
+    shared-slice-read-m returns (λ c. search needs) (λ c. search needs) loop-again (λ c. search needs))

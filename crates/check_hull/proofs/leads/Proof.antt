@@ -9,19 +9,10 @@ returns : tie.Need-returns
 unfolding leadsOf
 returns c = simp (le-ltb _ _ (c .if1 .taken))
 
-after-requires : tie.Need-after-requires
-after-requires c κs = search needs
-
-mul-result : tie.Need-mul-result
-mul-result c = search needs
-
-shared-slice-read-result : tie.Need-shared-slice-read-result
-shared-slice-read-result c = search needs
-
 returns-2 : tie.Need-returns-2
 unfolding leadsOf
 returns-2 c = simp (lt-ltb _ _ (c .before .before .if1 .left), ← c .before .after .ensures .0)
 
 pub leads-spec : {M : Type 1} → statement M
 leads-spec =
-    tie.close (tie.spec returns after-requires mul-result shared-slice-read-result returns-2)
+    tie.close (tie.spec returns (λ c κs. search needs) (λ c. search needs) (λ c. search needs) returns-2)

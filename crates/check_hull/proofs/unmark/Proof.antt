@@ -22,22 +22,11 @@ unmark-one-requires c κs =
     let l = c .before .before .loop in
     (s .pre .0, s .pre .1, omega arith, rw (l .inv .long) (s .pre .2 (l .e) (omega arith)))
 
-lowest-requires : tie.Need-lowest-requires Inv-loop μ-loop
-lowest-requires c κs = search needs
-
-add-e : tie.Need-add-e Inv-loop μ-loop
-add-e c = search needs
-
-loop-less : tie.Need-loop-less Inv-loop μ-loop
-loop-less c = search needs
-
 loop-again : tie.Need-loop-again Inv-loop μ-loop
 loop-again c =
+    let at-loop = c .before .before .before .before .before .before in
     let u = c .before .before .before .unmark-one in
-    unmarking-step _ _ _ _ _ _ _ _ (c .before .before .before .before .before .before .loop .inv) (omega arith) (u .kept .1 .1 .1 .0) (u .ensures .0) _ _ (u .ensures .1) (c .lowest .ensures)
-
-same-length : tie.Need-same-length Inv-loop μ-loop
-same-length c = search needs
+    unmarking-step _ _ _ _ _ _ _ _ (at-loop .loop .inv) (omega arith) (u .kept .1 .1 .1 .0) (u .ensures .0) _ _ (u .ensures .1) (c .lowest .ensures)
 
 returns : tie.Need-returns Inv-loop μ-loop
 returns c = unmarking-done _ _ _ _ _ _ _ (c .before .loop .inv) (c .loop-test .left)
@@ -45,14 +34,5 @@ returns c = unmarking-done _ _ _ _ _ _ _ (c .before .loop .inv) (c .loop-test .l
 pub unmark-spec : {M : Type 1} → statement M
 unmark-spec =
     tie.close
-    (tie.spec
-    Inv-loop
-    μ-loop
-    loop-holds
-    unmark-one-requires
-    lowest-requires
-    add-e
-    loop-less
-    loop-again
-    same-length
-    returns)
+    (tie.spec Inv-loop μ-loop loop-holds unmark-one-requires (λ c κs. search needs) (λ c. search needs)
+    (λ c. search needs) loop-again (λ c. search needs) returns)

@@ -11,48 +11,36 @@ check-hull-requires c κs =
     let s = c .before .before .before .before .before in
     (s .pre .0, s .pre .1, s .pre .4, s .pre .3, λ k l. lt-of-lt-of-le (named _ _ _ (s .pre .0) (s .pre .5) (s .pre .6) k l) (s .pre .4))
 
-number-requires : tie.Need-number-requires
-number-requires c κs = search needs
-
-same-length : tie.Need-same-length
-same-length c = search needs
-
 returns : tie.Need-returns
 returns c = border-hull _ _ _ _ _ _ _ (c .before .before .before .before .check-hull .ensures) (c .before .number .ensures) _ (c .if1 .taken)
 
 check-fan-requires : tie.Need-check-fan-requires
 check-fan-requires c κs =
+    let at-check-hull = c .before .before .before .before .before in
     let s = c .before .before .before .before .before .before .before .before .before .before .before in (
       s .pre .1,
       paired _ _ (s .pre .0) (s .pre .1) (s .pre .2) (s .pre .6),
-      rw (c .before .before .before .before .before .check-hull .kept .1 .1 .1 .1 .0) (s .pre .4),
+      rw (at-check-hull .check-hull .kept .1 .1 .1 .1 .0) (s .pre .4),
       named _ _ _ (s .pre .0) (s .pre .5) (s .pre .6),
     )
 
-same-length-2 : tie.Need-same-length-2
-same-length-2 c = search needs
-
 returns-2 : tie.Need-returns-2
 returns-2 c =
-    border-fan _ _ _ _ _ _ _ (c .before .before .before .before .before .before .before .before .before .check-hull .ensures) (c .before .before .before .before .before .before .number .ensures) (c .before .before .before .before .before .if1 .left) _ _ _ (c .before .before .before .check-fan .ensures) (c .if2 .taken)
-
-same-length-3 : tie.Need-same-length-3
-same-length-3 c = search needs
+    let at-if1 = c .before .before .before .before .before in
+    let at-number = at-if1 .before in
+    let at-check-hull = at-number .before .before .before in
+    border-fan _ _ _ _ _ _ _ (at-check-hull .check-hull .ensures) (at-number .number .ensures) (at-if1 .if1 .left) _ _ _ (c .before .before .before .check-fan .ensures) (c .if2 .taken)
 
 returns-3 : tie.Need-returns-3
 returns-3 c =
-    border-whole _ _ _ _ _ _ _ (c .before .before .before .before .before .before .before .before .before .check-hull .ensures) (c .before .before .before .before .before .before .number .ensures) (c .before .before .before .before .before .if1 .left) _ _ _ (c .before .before .before .check-fan .ensures) (c .if2 .left) (c .before .before .before .before .before .before .before .before .before .check-hull .kept .1 .1 .1 .1 .0)
+    let at-if1 = c .before .before .before .before .before in
+    let at-number = at-if1 .before in
+    let at-check-hull = at-number .before .before .before in
+    border-whole _ _ _ _ _ _ _ (at-check-hull .check-hull .ensures) (at-number .number .ensures) (at-if1 .if1 .left) _ _ _
+    (c .before .before .before .check-fan .ensures) (c .if2 .left) (at-check-hull .check-hull .kept .1 .1 .1 .1 .0)
 
 pub check-border-spec : {M : Type 1} → statement M
 check-border-spec =
     tie.close
-    (tie.spec
-    check-hull-requires
-    number-requires
-    same-length
-    returns
-    check-fan-requires
-    same-length-2
-    returns-2
-    same-length-3
-    returns-3)
+    (tie.spec check-hull-requires (λ c κs. search needs) (λ c. search needs) returns check-fan-requires
+    (λ c. search needs) returns-2 (λ c. search needs) returns-3)

@@ -6,14 +6,8 @@ use borrow.Author.Needs.{needs}
 use Rattle.check_mesh.proofs.check_shape.Statement.{statement}
 use Rattle.check_mesh.proofs.check_shape.Tie as tie
 
-check-triangles-requires : tie.Need-check-triangles-requires
-check-triangles-requires c κs = search needs
-
 returns : tie.Need-returns
 returns c = offends (c .before .check-triangles .ensures) (c .if1 .taken)
-
-check-pairs-requires : tie.Need-check-pairs-requires
-check-pairs-requires c κs = search needs
 
 returns-2 : tie.Need-returns-2
 returns-2 c = all-keep (first-all (c .before .before .before .check-triangles .ensures) (c .before .before .if1 .left)) (offends (c .before .check-pairs .ensures) (c .if2 .taken))
@@ -23,4 +17,4 @@ returns-3 c = all-keep (first-all (c .before .before .before .check-triangles .e
 
 pub check-shape-spec : {M : Type 1} → statement M
 check-shape-spec =
-    tie.close (tie.spec check-triangles-requires returns check-pairs-requires returns-2 returns-3)
+    tie.close (tie.spec (λ c κs. search needs) returns (λ c κs. search needs) returns-2 returns-3)

@@ -5,20 +5,11 @@ use Rattle.laws.specs.Decide.{says-or}
 use Rattle.check_pairing.proofs.paired.Statement.{statement}
 use Rattle.check_pairing.proofs.paired.Tie as tie
 
-mul-p : tie.Need-mul-p
-mul-p c = search needs
-
-shared-slice-read-p : tie.Need-shared-slice-read-p
-shared-slice-read-p c = search needs
-
 returns : tie.Need-returns
 returns c = inl (c .if1 .taken)
-
-mates-requires : tie.Need-mates-requires
-mates-requires c κs = search needs
 
 returns-2 : tie.Need-returns-2
 returns-2 c = says-or _ (c .mates .result) (c .before .if1 .left) (c .mates .ensures)
 
 pub paired-spec : {M : Type 1} → statement M
-paired-spec = tie.close (tie.spec mul-p shared-slice-read-p returns mates-requires returns-2)
+paired-spec = tie.close (tie.spec (λ c. search needs) (λ c. search needs) returns (λ c κs. search needs) returns-2)

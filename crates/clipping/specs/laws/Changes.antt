@@ -1,6 +1,6 @@
 -- One edge of the ring: what the store left, then the entries after it.
-use Prim.Native.Nat.{ℕ, zero, suc, _+_, _*_, _≤_, _<_}
-use mathlib.Core.Path.{_≡_, refl, sym, ap, _∙_, subst}
+use Prim.Native.Nat.{ℕ, suc, _+_, _≤_, _<_}
+use mathlib.Core.Path.{_≡_, refl, ap, _∙_, subst}
 use mathlib.Core.Bool.{Bool, true, false}
 use mathlib.Core.List.{List, [], _∷_, _++_}
 use native.Mathlib.Omega.{arith}
@@ -16,7 +16,7 @@ use Rattle.bounding_box.specs.declared.BoundingBox.{BoundingBox}
 use Rattle.vertices.specs.Store.{Holds, Leaves}
 use Rattle.vertices.specs.laws.Store.{poured-points, poured-none}
 use Rattle.definition.specs.Fault.{Outcome, ok, refused, andThen}
-use Rattle.definition.specs.Cell.{Entry, entry, plain, crossing, Took, Ins, ins, lastOr, insertEdge, Change, change, Clip, missed, once, twice, tookOne, tookTwo, leave, enterAt, enter, link, crossAt, cross}
+use Rattle.definition.specs.Cell.{entry, plain, crossing, Took, Ins, lastOr, insertEdge, Change, change, Clip, missed, once, twice, tookOne, tookTwo, leave, enterAt, enter, link, crossAt, cross}
 use Rattle.clipping.specs.Entries.{off, Fits, Puts, Inserts, places}
 use Rattle.clipping.specs.Clips.{Clips, Grown}
 use Rattle.clipping.specs.Changes.{Alters, Did, Changes}
@@ -141,7 +141,8 @@ module _ (env : Env) (count : ℕ) (cell : Cell) (v : List Float) (ix : List ℕ
         → Changes env count (enter b (env .centers) (env .site) (cell .owners) (cell .last) k) cell v ix r v₁ ix₂
     unfolding enter
     enter-once missed f n c h = absurd c
-    enter-once (once a) f n c h = changes env count r ix₂ (enter b (env .centers) (env .site) (cell .owners) (cell .last) (once a)) fits (c .3) (c .2) (rw (c .0, poured-points (c .3 .verts)) at (h (tookOne a)))
+    enter-once (once a) f n c h = changes env count r ix₂ (enter b (env .centers) (env .site) (cell .owners) (cell .last) (once a)) fits (c .3)
+        (c .2) (rw (c .0, poured-points (c .3 .verts)) at (h (tookOne a)))
     enter-once (twice a t) f n c h = absurd c
 
     pub enter-twice :
@@ -152,7 +153,8 @@ module _ (env : Env) (count : ℕ) (cell : Cell) (v : List Float) (ix : List ℕ
     unfolding enter
     enter-twice missed f s n c h = absurd c
     enter-twice (once a) f s n c h = absurd c
-    enter-twice (twice a t) f s n c h = changes env count r ix₂ (enter b (env .centers) (env .site) (cell .owners) (cell .last) (twice a t)) fits (c .5) (c .4) (rw (c .0, poured-points (c .5 .verts)) at (h (tookTwo a t)))
+    enter-twice (twice a t) f s n c h = changes env count r ix₂ (enter b (env .centers) (env .site) (cell .owners) (cell .last) (twice a t)) fits
+        (c .5) (c .4) (rw (c .0, poured-points (c .5 .verts)) at (h (tookTwo a t)))
 
     module _ (opened : Bool) where
       pub cross-once :
@@ -162,7 +164,8 @@ module _ (env : Env) (count : ℕ) (cell : Cell) (v : List Float) (ix : List ℕ
           → Changes env count (cross b (env .centers) (env .site) vs (cell .owners) opened (cell .last) k) cell v ix r v₁ ix₂
       unfolding cross
       cross-once missed f n vs c h = absurd c
-      cross-once (once a) f n vs c h = changes env count r ix₂ (cross b (env .centers) (env .site) vs (cell .owners) opened (cell .last) (once a)) fits (c .3) (c .2) (rw (c .0, poured-points (c .3 .verts)) at h)
+      cross-once (once a) f n vs c h = changes env count r ix₂
+          (cross b (env .centers) (env .site) vs (cell .owners) opened (cell .last) (once a)) fits (c .3) (c .2) (rw (c .0, poured-points (c .3 .verts)) at h)
       cross-once (twice a t) f n vs c h = absurd c
 
       pub cross-twice :
@@ -173,7 +176,8 @@ module _ (env : Env) (count : ℕ) (cell : Cell) (v : List Float) (ix : List ℕ
       unfolding cross
       cross-twice missed f s n vs c h = absurd c
       cross-twice (once a) f s n vs c h = absurd c
-      cross-twice (twice a t) f s n vs c h = changes env count r ix₂ (cross b (env .centers) (env .site) vs (cell .owners) opened (cell .last) (twice a t)) fits (c .5) (c .4) (rw (c .0, c .1, poured-points (c .5 .verts)) at (h (tookTwo a t)))
+      cross-twice (twice a t) f s n vs c h = changes env count r ix₂
+          (cross b (env .centers) (env .site) vs (cell .owners) opened (cell .last) (twice a t)) fits (c .5) (c .4) (rw (c .0, c .1, poured-points (c .5 .verts)) at (h (tookTwo a t)))
 
 pub cross-missed :
     (env : Env) (b : BoundingBox) (count : ℕ) (cell : Cell) (v : List Float) (ix : List ℕ) (v₁ : List Float) (ix₁ : List ℕ) (opened : Bool)
@@ -182,7 +186,8 @@ pub cross-missed :
     → (opened ≡ true → cell .last < count)
     → (k : Clip)
     → Clips (env .centers) (env .limit) count k v ix Missed v₁ ix₁
-    → Changes env count (cross b (env .centers) (env .site) (points count v) (cell .owners) opened (cell .last) k) cell v ix (record { refusal = 0; count = count; opened = opened; cell = cell }) v₁ ix₁
+    → Changes env count (cross b (env .centers) (env .site) (points count v) (cell .owners) opened (cell .last) k) cell v ix
+    (record { refusal = 0; count = count; opened = opened; cell = cell }) v₁ ix₁
 unfolding cross
 cross-missed env b count cell v ix v₁ ix₁ opened f h low missed c =
     rw (c .0, c .1)
@@ -251,7 +256,8 @@ module _ (site count : ℕ) (vs : List Point) (cell : Cell) (ix : List ℕ) (i :
         go :
             (o : Outcome ℕ Ins)
             → Inserts site (places t) o (i .cell) ix₁ j ix₂
-            → Alters site vs (andThen o (λ (y : Ins). ok (change vs (y .owners) (x .new ++ y .new) opened ts))) count cell ix (record { refusal = j .refusal; count = count; opened = opened; cell = j .cell }) ix₂
+            → Alters site vs (andThen o (λ (y : Ins). ok (change vs (y .owners) (x .new ++ y .new) opened ts))) count cell ix
+            (record { refusal = j .refusal; count = count; opened = opened; cell = j .cell }) ix₂
         go (ok y) u = (u .0, refl, refl, refl, λ e. low (u .0), puts-more 3 (few t) (puts-then (h .1) (u .1)))
         go (refused k) u = (u .0, u .1)
 

@@ -1,6 +1,6 @@
 -- The crossings of an edge added as vertices: one, or two one after the other.
-use Prim.Native.Nat.{ℕ, _+_, _*_, _≤_, _<_}
-use mathlib.Core.Path.{_≡_, refl, sym, ap, _∙_, subst}
+use Prim.Native.Nat.{ℕ, _+_, _*_, _≤_}
+use mathlib.Core.Path.{_≡_, refl, sym, ap, _∙_}
 use mathlib.Core.Bool.{Bool, true, false}
 use mathlib.Core.List.{List}
 use native.Mathlib.Omega.{arith}
@@ -15,12 +15,12 @@ use Rattle.crossings.specs.Cross.{orderOf}
 use Rattle.crossings.specs.declared.Crossing.{Crossing}
 use Rattle.crossings.specs.declared.Crossing.the-variants.{None, One, Two}
 use Rattle.vertices.specs.Add.{addVertex}
-use Rattle.vertices.specs.Store.{Poured, Leaves, Answers}
+use Rattle.vertices.specs.Store.{Leaves, Answers}
 use Rattle.vertices.specs.declared.Placed.{Placed}
 use Rattle.vertices.specs.laws.Store.{poured-points, poured-then, added-kept}
-use Rattle.definition.specs.Cell.{firstIs, onEdge, Clip, missed, once, twice, clipWith, clipEdge, edgeCrossing, vertexAt}
+use Rattle.definition.specs.Cell.{firstIs, onEdge, missed, clipWith, clipEdge, edgeCrossing, vertexAt}
 use Rattle.clipping.specs.Clips.{Clips, Grown}
-use Rattle.clipping.specs.declared.Clipped.the-variants.{Missed, Once, Twice}
+use Rattle.clipping.specs.declared.Clipped.the-variants.{Once, Twice}
 
 -- ---- which crossings are on the edge
 

@@ -1,16 +1,15 @@
 -- Entries put one after another, and the corners of a site struck out one by one.
-use Prim.Native.Nat.{ℕ, zero, suc, _+_, _-_, _≤_, _<_}
+use Prim.Native.Nat.{ℕ, zero, suc, _+_, _≤_, _<_}
 use mathlib.Core.Path.{_≡_, refl, sym, ap, _∙_}
-use mathlib.Core.List.{List, [], _∷_, _++_, append-nil}
+use mathlib.Core.List.{List, [], _∷_, _++_}
 use mathlib.Core.Logic.{⊎-elim}
 use native.Mathlib.Omega.{arith}
-use native.Mathlib.Numerals.{add-one}
 use native.Mathlib.Nat.{add-zero}
 use lib.ListN.{length, getD, set, length-append}
 use lib.Seq.{sets}
-use Rattle.laws.specs.Count.{same, same-cases, occ}
+use Rattle.laws.specs.Count.{same-cases, occ}
 use Rattle.definition.specs.Cell.{Entry, Mark, entry, Ins, ins, lastOr}
-use Rattle.clipping.specs.Entries.{off, Fits, Puts}
+use Rattle.clipping.specs.Entries.{off, Puts}
 use Rattle.clipping.specs.declared.Cell.{Cell}
 
 -- ---- a number struck out of a list

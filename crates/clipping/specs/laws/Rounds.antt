@@ -19,8 +19,8 @@ use Rattle.vertices.specs.laws.Store.{poured-then, poured-none}
 use Rattle.definition.specs.Fault.{Outcome, ok, refused, andThen, fault}
 use Rattle.definition.specs.declared.Fault.{Fault}
 use Rattle.definition.specs.Cell as Def
-use Rattle.definition.specs.Cell.{Entry, Took, Ins, ins, Part, part, joined, inBox, firstInside, stepTo, stepsTo, turned, clipFrom, clipCell}
-use Rattle.clipping.specs.Entries.{off, Fits, Puts}
+use Rattle.definition.specs.Cell.{Entry, Ins, ins, Part, part, joined, inBox, firstInside, stepTo, stepsTo, turned, clipFrom, clipCell}
+use Rattle.clipping.specs.Entries.{off}
 use Rattle.clipping.specs.Clips.{Grown}
 use Rattle.clipping.specs.Changes.{Ready, Did}
 use Rattle.clipping.specs.Steps.{tipOf, Stands, Steps, ringOf, Room}
@@ -28,7 +28,7 @@ use Rattle.clipping.specs.declared.Env.{Env}
 use Rattle.clipping.specs.declared.Cell.{Cell}
 use Rattle.clipping.specs.declared.Tip.{Tip}
 use Rattle.clipping.specs.declared.Stepped.{Stepped}
-use Rattle.clipping.specs.laws.Entries.{length-off, puts-then, puts-more, puts-none}
+use Rattle.clipping.specs.laws.Entries.{length-off, puts-then, puts-none}
 use Rattle.clipping.specs.laws.Clips.{grown-then}
 use Rattle.clipping.specs.laws.Steps.{in-kept}
 use Rattle.clipping.specs.laws.Turning.{length-turned}
@@ -295,7 +295,8 @@ module _ (b : BoundingBox) (nc : ℕ) (vs : List Point) (ring : List ℕ) (k : �
   first-none h = rw (drop-of-length-le ring {i = k} h, add-zero k)
 
 -- where no place is the first, none is inside
-pub first-all : (b : BoundingBox) (nc : ℕ) (vs : List Point) (ring : List ℕ) → length ring ≤ firstInside b nc vs ring → (j : ℕ) → j < length ring → inBox b nc vs (getD ring j 0) ≡ false
+pub first-all : (b : BoundingBox) (nc : ℕ) (vs : List Point) (ring : List ℕ) → length ring ≤ firstInside b nc vs ring → (j : ℕ)
+    → j < length ring → inBox b nc vs (getD ring j 0) ≡ false
 unfolding firstInside
 first-all b nc vs [] h j l = absurd (omega arith)
 first-all b nc vs (q ∷ ring) h j l = go (inBox b nc vs q) refl (first-all b nc vs ring) h j l

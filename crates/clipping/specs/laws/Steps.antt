@@ -1,5 +1,5 @@
 -- One edge of the ring as the definition has it: the four cases, the refusal's place, the walk's next state.
-use Prim.Native.Nat.{ℕ, _+_, _*_, _≤_, _<_}
+use Prim.Native.Nat.{ℕ, _*_, _≤_, _<_}
 use mathlib.Core.Path.{_≡_, refl, sym, ap, _∙_}
 use mathlib.Core.Bool.{Bool, true, false}
 use mathlib.Core.List.{List, [], _∷_, _++_}
@@ -18,9 +18,10 @@ use Rattle.vertices.specs.laws.Store.{poured-points, kept-vertex}
 use Rattle.definition.specs.Fault.{Outcome, ok, refused, andThen, fault, atEdge}
 use Rattle.definition.specs.declared.Fault.{Fault}
 use Rattle.definition.specs.Cell as Def
-use Rattle.definition.specs.Cell.{entry, plain, Took, tookTwo, Ins, lastOr, insertEdge, Clip, missed, once, twice, Change, change, clipStep, clipEdge, leave, enter, link, crossAt, cross, inBox, vertexAt, moved, stepTo}
+use Rattle.definition.specs.Cell.{entry, plain, Took, tookTwo, Ins, lastOr, insertEdge, Clip, missed, once, twice, Change, change, clipStep, clipEdge}
+use Rattle.definition.specs.Cell.{leave, enter, link, crossAt, cross, inBox, vertexAt, moved, stepTo}
 use Rattle.clipping.specs.Changes.{Changes}
-use Rattle.clipping.specs.Steps.{tipOf, Steps, Stands}
+use Rattle.clipping.specs.Steps.{tipOf, Steps}
 use Rattle.clipping.specs.declared.Env.{Env}
 use Rattle.clipping.specs.declared.Cell.{Cell}
 use Rattle.clipping.specs.declared.Changed.{Changed}

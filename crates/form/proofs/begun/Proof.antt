@@ -1,16 +1,9 @@
 -- `form::begun` meets its contract, field by field; kind 6 stands where a box would and has no body.
-use mathlib.Core.Path.{sym}
 use borrow.Author.Tests.{ne-eqb}
-use Rattle.form.specs.Reader.{begun, sizeOf}
+use Rattle.form.specs.Reader.{begun}
 use borrow.Author.Needs.{needs}
 use Rattle.form.proofs.begun.Statement.{statement}
 use Rattle.form.proofs.begun.Tie as tie
-
-size-requires : tie.Need-size-requires
-size-requires c κs = search needs
-
-add-n : tie.Need-add-n
-add-n c = search needs
 
 returns : tie.Need-returns
 unfolding begun
@@ -21,4 +14,4 @@ unfolding begun
 returns-2 c = rw (c .before .before .size .ensures, ne-eqb _ _ (c .if1 .left))
 
 pub begun-spec : {M : Type 1} → statement M
-begun-spec = tie.close (tie.spec size-requires add-n returns returns-2)
+begun-spec = tie.close (tie.spec (λ c κs. search needs) (λ c. search needs) returns returns-2)

@@ -1,11 +1,9 @@
 -- `form::feed` meets its contract: the invariant is `Feeding`, and what is left of the bytes is the measure.
-use mathlib.Core.Path.{_≡_, refl, sym, ap, _∙_}
-use Prim.Native.Nat.{ℕ, _+_, _-_, _≤_, _<_}
+use Prim.Native.Nat.{_-_}
 use native.Mathlib.Omega.{arith}
 use lib.ListN.{length}
 use denote.Ref.{now}
-use borrow.Author.Needs.{needs}
-use Rattle.form.specs.Reader.{Lent, lent}
+use Rattle.form.specs.Reader.{lent}
 use Rattle.form.specs.FeedLaws.{Feeding, feeding-start, feeding-step, feeding-end, room-same}
 use Rattle.form.proofs.feed.Statement.{statement}
 use Rattle.form.proofs.feed.Tie as tie
@@ -23,19 +21,10 @@ loop-holds c = let s = c .before .before .before .before .before .before in
     let a = s .args in
     feeding-start (now (a .bytes)) (lent (a .r) (now (a .bounds)) (now (a .sites)) (now (a .triangles)) (now (a .halfedges)) (now (a .hull))) (s .pre .0) (s .pre .1)
 
-shared-slice-read-take : tie.Need-shared-slice-read-take Inv-loop μ-loop
-shared-slice-read-take c = omega arith
-
 take-requires : tie.Need-take-requires Inv-loop μ-loop
 take-requires c κs = let l = c .before .before .before .before .before .before .before in
     let s = l .before .before .before .before .before .before .before in
     (l .loop .inv .ok, omega (arith, l .loop .inv .at, l .loop .inv .within), room-same (s .pre .2) (l .loop .inv .same))
-
-add-i : tie.Need-add-i Inv-loop μ-loop
-add-i c = omega arith
-
-loop-less : tie.Need-loop-less Inv-loop μ-loop
-loop-less c = omega arith
 
 loop-again : tie.Need-loop-again Inv-loop μ-loop
 loop-again c = let t = c .before .before .before .before .before .before .before .before .before .before in
@@ -65,18 +54,5 @@ returns c = (feeding-end (c .before .loop .inv) (c .loop-test .left), c .before 
 pub feed-spec : {M : Type 1} → statement M
 feed-spec =
     tie.close
-    (tie.spec
-    Inv-loop
-    μ-loop
-    loop-holds
-    shared-slice-read-take
-    take-requires
-    add-i
-    loop-less
-    loop-again
-    same-length
-    same-length-2
-    same-length-3
-    same-length-4
-    same-length-5
-    returns)
+    (tie.spec Inv-loop μ-loop loop-holds (λ c. omega arith) take-requires (λ c. omega arith) (λ c. omega arith)
+    loop-again same-length same-length-2 same-length-3 same-length-4 same-length-5 returns)

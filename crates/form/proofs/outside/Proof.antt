@@ -5,18 +5,9 @@ use borrow.Author.Needs.{needs}
 use Rattle.form.proofs.outside.Statement.{statement}
 use Rattle.form.proofs.outside.Tie as tie
 
-follows-requires : tie.Need-follows-requires
-follows-requires c κs = search needs
-
-begun-requires : tie.Need-begun-requires
-begun-requires c κs = search needs
-
 returns : tie.Need-returns
 unfolding outside
 returns c = rw (sym (c .before .before .follows .ensures) ∙ c .before .if1 .taken) (c .begun .ensures)
-
-refused-requires : tie.Need-refused-requires
-refused-requires c κs = search needs
 
 returns-2 : tie.Need-returns-2
 unfolding outside
@@ -24,4 +15,4 @@ returns-2 c = rw (sym (c .before .before .follows .ensures) ∙ c .before .if1 .
 
 pub outside-spec : {M : Type 1} → statement M
 outside-spec =
-    tie.close (tie.spec follows-requires begun-requires returns refused-requires returns-2)
+    tie.close (tie.spec (λ c κs. search needs) (λ c κs. search needs) returns (λ c κs. search needs) returns-2)

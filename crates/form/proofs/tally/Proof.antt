@@ -13,12 +13,9 @@ returns-2 : tie.Need-returns-2
 unfolding tally
 returns-2 c = rw (eq-eqb _ _ (c .before .before .if1 .left), ne-eqb _ _ (c .if2 .taken))
 
-add-result : tie.Need-add-result
-add-result c = search needs
-
 returns-3 : tie.Need-returns-3
 unfolding tally
 returns-3 c = rw (eq-eqb _ _ (c .before .before .if1 .left), c .if2 .left)
 
 pub tally-spec : {M : Type 1} → statement M
-tally-spec = tie.close (tie.spec returns returns-2 add-result returns-3)
+tally-spec = tie.close (tie.spec returns returns-2 (λ c. search needs) returns-3)

@@ -1,11 +1,10 @@
 -- The cell of a ring, entry by entry, and the loop that copies it: the entries behind the cell are the ring's still.
-use mathlib.Core.Path.{_≡_, refl, sym, ap, _∙_, subst}
+use mathlib.Core.Path.{_≡_, refl, sym, ap, _∙_}
 use mathlib.Core.List.{List, _∷_}
 use Prim.Native.Nat.{ℕ, zero, suc, _+_, _-_, _≤_, _<_}
 use native.Mathlib.Omega.{arith}
-use native.Mathlib.Nat.{add-zero}
 use native.Mathlib.Numerals.{add-one}
-use lib.ListN.{length, getD, set, take, drop, length-set}
+use lib.ListN.{length, getD, set, take, length-set}
 use lib.Seq.{sets, getD-take, length-take-le, take-all}
 use Rattle.laws.specs.Stores.{sets-more, sets-behind}
 use Rattle.definition.specs.Cell.{turned}
@@ -60,7 +59,8 @@ module _ (old : List ℕ) (base ring len : ℕ) (apart : base + len ≤ ring) (w
     next = λ h. (h, cell-first (ringOf old ring len) (rw size h));
   }
 
-  pub copied-more : (new : List ℕ) (k at x : ℕ) → k < len → Copied old base ring len new k at → x ≡ getD new (ring + at) 0 → Copied old base ring len (set new (base + k) x) (k + 1) (len - (k + 1))
+  pub copied-more : (new : List ℕ) (k at x : ℕ) → k < len → Copied old base ring len new k at → x ≡ getD new (ring + at) 0
+      → Copied old base ring len (set new (base + k) x) (k + 1) (len - (k + 1))
   copied-more new k at x h c q =
       let r : getD cell k 0 ≡ x = c .next h .1 ∙ sym (kept new k at at c (c .next h .0)) ∙ sym q in
       record {

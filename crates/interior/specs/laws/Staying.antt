@@ -1,28 +1,23 @@
 -- A walk that stays inside: each edge puts its first vertex into the cell, adds no vertex and takes no corner. So a ring wholly inside, copied, is the cell that clipping gives.
-use mathlib.Core.Path.{_≡_, refl, sym, ap, _∙_, subst}
-use mathlib.Core.Bool.{Bool, true, false}
-use mathlib.Core.List.{List, [], _∷_, _++_, map}
-use Prim.Native.Nat.{ℕ, zero, suc, _+_, _-_, _*_, _≤_, _<_}
+use mathlib.Core.Path.{_≡_, refl, sym, ap, _∙_}
+use mathlib.Core.Bool.{true, false}
+use mathlib.Core.List.{List, [], _∷_}
+use Prim.Native.Nat.{ℕ, suc, _+_, _-_, _≤_, _<_}
 use native.Mathlib.Omega.{arith}
 use lib.Ieee.{Float}
 use lib.ListN.{length, getD, take, drop, length-map}
 use lib.Seq.{sets}
 use Rattle.laws.specs.Stores.{take-sets, drop-sets}
-use borrow.Author.Tests.{lt-ltb}
-use Rattle.laws.specs.Count.{occ}
 use Rattle.numbers.specs.Numbers.{EMPTY}
 use Rattle.utils.specs.declared.Point.{Point}
 use Rattle.utils.specs.Flat.{points}
 use Rattle.bounding_box.specs.declared.BoundingBox.{BoundingBox}
 use Rattle.vertices.specs.laws.Store.{poured-none}
-use Rattle.definition.specs.Fault.{Outcome, ok, refused, andThen, fault, atEdge}
-use Rattle.definition.specs.declared.Fault.{Fault}
-use Rattle.definition.specs.Cell as Def
-use Rattle.definition.specs.Cell.{Entry, entry, plain, lastOr, Part, part, Tip, tip, inBox, firstInside, stepTo, stepsTo, turned, clipFrom, clipCell}
-use Rattle.clipping.specs.Entries.{off, Puts}
+use Rattle.definition.specs.Fault.{ok, andThen, fault, atEdge}
+use Rattle.definition.specs.Cell.{Entry, entry, plain, lastOr, part, tip, inBox, firstInside, stepTo, stepsTo, turned, clipCell}
+use Rattle.clipping.specs.Entries.{off}
 use Rattle.clipping.specs.Steps.{Steps, ringOf, emptyAt, Room}
 use Rattle.clipping.specs.declared.Env.{Env}
-use Rattle.clipping.specs.declared.Cell.{Cell}
 use Rattle.clipping.specs.declared.Stepped.{Stepped}
 use Rattle.clipping.specs.laws.Steps.{step-stay}
 use Rattle.clipping.specs.laws.Rounds.{length-ring, getD-ring, cell-inside}
@@ -51,14 +46,16 @@ module _ (b : BoundingBox) (nc site : ℕ) (vs : List Point) (os : List ℕ) whe
   unfolding stepTo andThen atEdge
   stay-one l p q h = rw (h, step-stay b nc site p true q true vs os false l refl refl)
 
-  stay-all : (qs : List ℕ) (l p : ℕ) → ((j : ℕ) → j < length qs → inBox b nc vs (getD qs j 0) ≡ true) → stepsTo b nc site qs (tip vs os l p true false) ≡ ok (part (tip vs os (lastOr l (plains p qs)) (endsAt p qs) true false) (plains p qs) [])
+  stay-all : (qs : List ℕ) (l p : ℕ) → ((j : ℕ) → j < length qs → inBox b nc vs (getD qs j 0) ≡ true)
+      → stepsTo b nc site qs (tip vs os l p true false) ≡ ok (part (tip vs os (lastOr l (plains p qs)) (endsAt p qs) true false) (plains p qs) [])
   unfolding stepsTo andThen
   stay-all [] l p h = refl
   stay-all (q ∷ qs) l p h = rw (stay-one l p q (h 0 (omega arith)), stay-all qs p q (λ j k. h (suc j) (omega arith)))
 
 -- ---- the whole ring
 
-module _ (env : Env) (count : ℕ) (owners : List ℕ) (base ring len : ℕ) (v : List Float) (ix : List ℕ) (m : Room env count (emptyAt owners base) ring len len v ix) (some : 0 < len) (inside : AllInside (env .bounds) (env .centers) (points count v) ix ring len) where
+module _ (env : Env) (count : ℕ) (owners : List ℕ) (base ring len : ℕ) (v : List Float) (ix : List ℕ)
+    (m : Room env count (emptyAt owners base) ring len len v ix) (some : 0 < len) (inside : AllInside (env .bounds) (env .centers) (points count v) ix ring len) where
   abbrev around : List ℕ
   around = ringOf ix ring len
 
@@ -87,11 +84,13 @@ module _ (env : Env) (count : ℕ) (owners : List ℕ) (base ring len : ℕ) (v 
   unfolding firstInside
   first-place = go around size around-inside
     where
-      go : (l : List ℕ) → length l ≡ len → ((j : ℕ) → j < length l → inBox (env .bounds) (env .centers) (points count v) (getD l j 0) ≡ true) → firstInside (env .bounds) (env .centers) (points count v) l ≡ 0
+      go : (l : List ℕ) → length l ≡ len → ((j : ℕ) → j < length l → inBox (env .bounds) (env .centers) (points count v) (getD l j 0) ≡ true)
+          → firstInside (env .bounds) (env .centers) (points count v) l ≡ 0
       go [] q h = refl
       go (x ∷ l) q h = rw (h 0 (omega arith))
 
-  outcome : clipCell (env .bounds) (env .centers) (env .site) around (points count v) owners ≡ ok (part (tip (points count v) owners (lastOr EMPTY entries) (endsAt first (turned 0 around)) true false) entries [])
+  outcome : clipCell (env .bounds) (env .centers) (env .site) around (points count v) owners ≡ ok
+      (part (tip (points count v) owners (lastOr EMPTY entries) (endsAt first (turned 0 around)) true false) entries [])
   outcome =
       cell-inside (env .bounds) (env .centers) (env .site) around (points count v) owners 0 (sym first-place) (omega (arith, size))
       ∙ stay-all (env .bounds) (env .centers) (env .site) (points count v) owners (turned 0 around) EMPTY first turned-inside

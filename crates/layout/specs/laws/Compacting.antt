@@ -1,15 +1,14 @@
 -- The loop that moves cells together. What is read lies at or after what is written, so each region still holds its cell when its turn comes.
 use mathlib.Core.Path.{_≡_, refl, sym, ap, _∙_, subst}
 use mathlib.Core.List.{List, [], _∷_, _++_, append-nil, append-assoc}
-use mathlib.Core.Logic.{_⊎_, inl, inr, ⊎-elim, _≢_}
+use mathlib.Core.Logic.{⊎-elim}
 use Prim.Native.Nat.{ℕ, zero, suc, _+_, _-_, _≤_, _<_}
 use native.Mathlib.Nat.{add-zero, zero-add}
 use native.Mathlib.Numerals.{add-one}
 use native.Mathlib.Omega.{arith}
-use lib.ListN.{length, getD, set, take, drop, length-append, length-take, length-drop, length-set, take-append-drop}
-use lib.Seq.{ext-getD, getD-take, getD-drop, take-suc, drop-cons, drop-drop, length-take-le, paste, take-paste, drop-paste, length-paste, set-at, take-all, take-length, drop-set-lt}
+use lib.ListN.{length, getD, set, take, drop, length-append, length-drop, length-set}
+use lib.Seq.{ext-getD, getD-take, getD-drop, take-suc, drop-cons, drop-drop, length-take-le, paste, take-paste, drop-paste, length-paste, set-at, take-all, drop-set-lt}
 use Rattle.laws.specs.Decide.{lt-or-ge}
-use Rattle.numbers.specs.Numbers.{EMPTY}
 use Rattle.layout.specs.Regions.{joined, offsetsFrom, Region, Regions, Filled, Rising, Compacted}
 
 -- ---- cells and their offsets
@@ -107,7 +106,8 @@ module _ (idx₀ off₀ idx off : List ℕ) (n w from s to : ℕ) (g : Going idx
     place = to-is;
     low = omega (arith, g .low, f .low, f .high);
     within = omega arith;
-    long-idx = ap length q ∙ length-paste idx w (drop from idx) (e - from) (omega (arith, g .low, f .low, f .high, g .long-idx, to-within)) (rw (length-drop from idx) (omega (arith, f .high, g .long-idx, to-within))) ∙ g .long-idx;
+    long-idx = ap length q ∙ length-paste idx w (drop from idx) (e - from) (omega (arith, g .low, f .low, f .high, g .long-idx, to-within))
+        (rw (length-drop from idx) (omega (arith, f .high, g .long-idx, to-within))) ∙ g .long-idx;
     long-off = length-set off s w ∙ g .long-off;
     left = drop-off;
   }
@@ -167,7 +167,8 @@ pub going-within : (idx₀ off₀ idx off : List ℕ) (n w from s : ℕ) → Goi
 going-within idx₀ off₀ idx off n w from s g r = omega (arith, g .low, g .place, rising-all off₀ n (length idx₀) s r (g .within))
 
 -- the last offset
-module _ (idx₀ off₀ idx off : List ℕ) (n w from s : ℕ) (g : Going idx₀ off₀ idx off n w from s) (h : n ≤ s) (r : Rising off₀ n (length idx₀)) (cells : List (List ℕ)) (all : length cells ≡ n) (m : Moved idx₀ off₀ idx off cells w from s) where
+module _ (idx₀ off₀ idx off : List ℕ) (n w from s : ℕ) (g : Going idx₀ off₀ idx off n w from s) (h : n ≤ s) (r : Rising off₀ n (length idx₀))
+    (cells : List (List ℕ)) (all : length cells ≡ n) (m : Moved idx₀ off₀ idx off cells w from s) where
   whole : take s cells ≡ cells
   whole = take-all s cells (omega arith)
 

@@ -1,16 +1,15 @@
 -- Cells written into their regions one at a time. Regions do not overlap, so one that is filled leaves all others as they were; at first all of them are blank.
-use mathlib.Core.Path.{_≡_, refl, sym, ap, _∙_, subst}
+use mathlib.Core.Path.{_≡_, refl, sym, ap, _∙_}
 use mathlib.Core.List.{List, [], _∷_}
 use mathlib.Core.Logic.{⊎-elim, _≢_}
 use Prim.Native.Nat.{ℕ, zero, suc, _+_, _-_, _≤_, _<_}
 use native.Mathlib.Nat.{add-zero}
-use native.Mathlib.Numerals.{add-one}
 use native.Mathlib.Omega.{arith}
-use lib.ListN.{length, getD, set, take, drop, replicate, length-set, length-replicate, getD-replicate}
+use lib.ListN.{length, getD, set, replicate, length-set, length-replicate, getD-replicate}
 use lib.Seq.{getD-set-same, getD-set-other, sets, length-sets}
 use Rattle.laws.specs.Decide.{lt-or-ge, eq-or-ne}
 use Rattle.laws.specs.Stores.{sets-in, sets-before, sets-behind}
-use Rattle.laws.specs.Count.{sumTo, sum-mono}
+use Rattle.laws.specs.Count.{sum-mono}
 use Rattle.numbers.specs.Numbers.{EMPTY}
 use Rattle.layout.specs.Regions.{Region, Regions, Rising}
 use Rattle.layout.specs.Rooms.{startOf, Started}
@@ -49,7 +48,8 @@ module _ (idx starts : List ℕ) (cells : List (List ℕ)) (r : Regions idx star
   pub regions-rising : Rising starts (length cells) (length idx)
   regions-rising = record { long = r .one-more; rise = λ s h. starts-order s (s + 1) (omega arith) (omega arith); within = r .within }
 
-  module _ (new : List ℕ) (s : ℕ) (c : List ℕ) (l : s < length cells) (blank : getD cells s [] ≡ []) (room : getD starts s 0 + length c ≤ getD starts (suc s) 0) (real : (i : ℕ) → i < length c → getD c i 0 ≢ EMPTY) (w : new ≡ sets idx (getD starts s 0) c) where
+  module _ (new : List ℕ) (s : ℕ) (c : List ℕ) (l : s < length cells) (blank : getD cells s [] ≡ [])
+      (room : getD starts s 0 + length c ≤ getD starts (suc s) 0) (real : (i : ℕ) → i < length c → getD c i 0 ≢ EMPTY) (w : new ≡ sets idx (getD starts s 0) c) where
     fits : getD starts s 0 + length c ≤ length idx
     fits = omega (arith, region-ends s l)
 

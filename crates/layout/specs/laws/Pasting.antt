@@ -1,10 +1,10 @@
 -- Loops that overwrite a list from a place on, one store a turn, as `paste` of lib.Seq: a clearing pastes copies of one value, a move down pastes the list's own later part.
 use mathlib.Core.Path.{_≡_, refl, sym, ap, _∙_, subst}
-use mathlib.Core.List.{List, [], _∷_, _++_, append-nil, append-assoc}
+use mathlib.Core.List.{List, _++_, append-nil}
 use Prim.Native.Nat.{ℕ, suc, _+_, _-_, _≤_, _<_}
 use native.Mathlib.Omega.{arith}
 use lib.ListN.{length, getD, set, take, drop, replicate, length-replicate, getD-replicate, length-drop, length-set}
-use lib.Seq.{paste, paste-suc, paste-zero, length-paste, length-paste-head, getD-append-add, getD-drop, drop-length, take-length}
+use lib.Seq.{paste, paste-suc, paste-zero, length-paste-head, getD-append-add, getD-drop, drop-length, take-length}
 use Rattle.layout.specs.Cleared.{clearedFrom}
 
 module _ {A : Type 0} (old : List A) (a : A) (from : ℕ) where
@@ -61,7 +61,8 @@ module _ {A : Type 0} (old : List A) (at from : ℕ) where
         let lp : length p ≡ at + j = length-paste-head old at (drop from old) j (omega (arith, g .low)) (rw (length-drop from old) (omega (arith, g .low))) in
         let q : i ≡ length p + (from - at) = omega (arith, g .low, lp) in
         let k : at + j + (from - at) ≡ from + j = omega (arith, g .low) in
-        rw (g .so-far, getD-drop from old j z) (subst (λ n. getD (p ++ drop (at + j) old) n z ≡ getD old (from + j) z) (sym q) (getD-append-add p (drop (at + j) old) (from - at) z ∙ getD-drop (at + j) old (from - at) z ∙ ap (λ n. getD old n z) k))
+        rw (g .so-far, getD-drop from old j z) (subst (λ n. getD (p ++ drop (at + j) old) n z ≡ getD old (from + j) z) (sym q)
+        (getD-append-add p (drop (at + j) old) (from - at) z ∙ getD-drop (at + j) old (from - at) z ∙ ap (λ n. getD old n z) k))
 
     pub moving-step : (v : A) → v ≡ getD new i z → Moving (set new w v) (i + 1) (w + 1)
     moving-step v e =

@@ -1,14 +1,14 @@
 -- The proof of `listing::decimal`, which calls itself on what is left of the number without its last digit. The number is the measure.
 -- One digit is a store; of more, the digits before the last are written by the call and the last one after them.
-use mathlib.Core.Path.{_≡_, sym, ap, subst}
-use mathlib.Core.List.{List, [], _∷_, _++_}
+use mathlib.Core.Path.{sym, ap, subst}
+use mathlib.Core.List.{[], _∷_}
 use Prim.Native.Nat.{_+_, _/_, _%_}
 use native.Mathlib.Omega.{arith}
-use lib.ListN.{length, length-set, length-append}
+use lib.ListN.{length, length-set}
 use denote.Ref.{now}
 use Rattle.listing.specs.Text.{decimal as digitsOf}
 use Rattle.listing.specs.TextLaws.{decimal-one, decimal-more}
-use Rattle.listing.specs.Wrote.{Wrote, Fits, wrote-one, wrote-then, wrote-as, wrote-length, fits-left, fits-then}
+use Rattle.listing.specs.Wrote.{Fits, wrote-one, wrote-then, wrote-as, fits-left, fits-then}
 use Prim.Native.Nat.{ℕ, _<_}
 use borrow.Fn.Kinds.{In}
 use borrow.Fn.PlainCycle.{Measures, is, falls, and}
@@ -94,7 +94,9 @@ decimal-slice-write-out-2 t c = omega (arith, room t c)
 decimal-add-result-2 :
     (t : ℕ) →
     decimal-lts.Need-add-result-2 (decimal-below t, decimal.Post) (decimal-at t) decimal.Post
-decimal-add-result-2 t c = omega (arith, room t c, c .before .before .decimal .kept .0, c .before .before .before .before .before .before .good .0 .0)
+decimal-add-result-2 t c =
+    let at-good = c .before .before .before .before .before .before in
+    omega (arith, room t c, c .before .before .decimal .kept .0, at-good .good .0 .0)
 
 decimal-same-length-2 :
     (t : ℕ) →

@@ -1,13 +1,12 @@
 -- `listing::cell_lines` meets its contract: the invariant is that the lines so far are written; each turn writes one more, of the part between two offsets.
-use mathlib.Core.Path.{_≡_, refl, sym, ap, ap₂, _∙_, subst}
+use mathlib.Core.Path.{_≡_, sym, ap, ap₂, _∙_, subst}
 use mathlib.Core.List.{List}
 use Prim.Native.Nat.{ℕ, suc, _+_, _-_, _≤_, _<_}
 use native.Mathlib.Omega.{arith}
 use native.Mathlib.Numerals.{add-one}
 use lib.ListN.{length, getD, take, drop}
 use denote.Ref.{now}
-use borrow.Author.Needs.{needs}
-use Rattle.listing.specs.Listing.{cellLine, cellOf, cellLines, Layout}
+use Rattle.listing.specs.Listing.{cellLine, cellOf, cellLines}
 use Rattle.listing.specs.ListingLaws.{lines-none, lines-more, lines-split}
 use Rattle.listing.specs.Wrote.{Fits, Wrote, Lined, lined-start, lined-fits, lined-step, lined-end, wrote-length}
 use Rattle.listing.proofs.cell_lines.Statement.{statement}
@@ -25,7 +24,9 @@ abbrev begin : tie.After-wide2 Inv-loop μ-loop → tie.Start Inv-loop μ-loop
 begin c = c .before .before .before .before .before .before .before .before .before
 
 abbrev number : tie.After-wide2 Inv-loop μ-loop → ℕ
-number c = c .before .before .before .before .before .loop .i
+number c =
+    let at-loop = c .before .before .before .before .before in
+    at-loop .loop .i
 
 turn : (c : tie.After-wide2 Inv-loop μ-loop) → number c < begin c .args .sites
 turn c = c .before .before .before .before .loop-test .taken
@@ -44,7 +45,8 @@ bounds c =
 
 part-is :
     (c : tie.After-wide2 Inv-loop μ-loop)
-    → take (c .wide2 .result - c .before .before .wide .result) (drop (c .before .before .wide .result) (now (begin c .args .cells))) ≡ cellOf (now (begin c .args .offsets)) (now (begin c .args .cells)) (number c)
+    → take (c .wide2 .result - c .before .before .wide .result) (drop (c .before .before .wide .result) (now (begin c .args .cells))) ≡ cellOf
+    (now (begin c .args .offsets)) (now (begin c .args .cells)) (number c)
 part-is c = ap₂ (λ (f t : ℕ). take (t - f) (drop f (now (begin c .args .cells)))) (from-is c) (to-is c)
 
 loop-holds : tie.Need-loop-holds Inv-loop μ-loop
@@ -94,7 +96,8 @@ cell-line-requires c κs = let w = c .before .before in
     let i = number w in
     let l = w .before .before .before .before .before in
     subst (λ (z : List ℕ). Fits (l .loop .out) (l .loop .end) (cellLine i z)) (sym (part-is w))
-    (lined-fits (l .loop .inv) (cellLine i (cellOf os cs i)) (cellLines os cs (i + 1) (s .args .sites - (i + 1))) (lines-more os cs i) (lines-split os cs (i + 1) (s .args .sites) (omega (arith, turn w))) (s .pre .1))
+    (lined-fits (l .loop .inv) (cellLine i (cellOf os cs i)) (cellLines os cs (i + 1) (s .args .sites - (i + 1))) (lines-more os cs i)
+    (lines-split os cs (i + 1) (s .args .sites) (omega (arith, turn w))) (s .pre .1))
 
 add-i : tie.Need-add-i Inv-loop μ-loop
 add-i c = let w = c .before .before .before .before .before in let s = begin w in omega (arith, s .pre .0 .few, turn w)

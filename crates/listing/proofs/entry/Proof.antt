@@ -1,7 +1,6 @@
 -- `listing::entry` meets its contract: the blank is one store, and the digits come after it.
 use mathlib.Core.Path.{sym, ap, subst, _∙_}
 use mathlib.Core.List.{[], _∷_}
-use Prim.Native.Nat.{_+_}
 use native.Mathlib.Omega.{arith}
 use lib.ListN.{length, length-set}
 use denote.Ref.{now}
@@ -15,9 +14,6 @@ use Rattle.listing.proofs.entry.Tie as tie
 slice-write-out : tie.Need-slice-write-out
 slice-write-out c = let s = c .before in omega (arith, s .pre, ap length (entries-one (s .args .n)))
 
-add-decimal : tie.Need-add-decimal
-add-decimal c = search needs
-
 decimal-requires : tie.Need-decimal-requires
 decimal-requires c κs = let s = c .before .before in
     let a = s .args in
@@ -27,8 +23,10 @@ same-length : tie.Need-same-length
 same-length c = c .before .before .decimal .kept .0 ∙ simp length-set
 
 returns : tie.Need-returns
-returns c = let a = c .before .before .before .before .before .args in
+returns c =
+    let at-start = c .before .before .before .before .before in
+    let a = at-start .args in
     wrote-as (wrote-then (wrote-one (now (a .out)) (a .at) 32) (c .before .before .decimal .ensures)) (sym (entries-one (a .n)))
 
 pub entry-spec : {M : Type 1} → statement M
-entry-spec = tie.close (tie.spec slice-write-out add-decimal decimal-requires same-length returns)
+entry-spec = tie.close (tie.spec slice-write-out (λ c. search needs) decimal-requires same-length returns)

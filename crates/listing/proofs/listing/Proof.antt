@@ -17,12 +17,9 @@ corners-requires c κs = let w = c .before .before .before in
     let s = w .before .before .before .before .before in let a = s .args in
     fits-then (unclippedListing (a .sites) (a .triangles) (a .vertices) (now (a .offsets)) (now (a .cells))) (cornersOf (a .owners) (a .lost)) (w .unclipped-listing .ensures) (s .pre .1)
 
-same-length : tie.Need-same-length
-same-length c = search needs
-
 returns : tie.Need-returns
 unfolding listingOf
 returns c = let l = c .before .before in wrote-then (l .before .before .before .before .unclipped-listing .ensures) (l .corners .ensures)
 
 pub listing-spec : {M : Type 1} → statement M
-listing-spec = tie.close (tie.spec unclipped-listing-requires corners-requires same-length returns)
+listing-spec = tie.close (tie.spec unclipped-listing-requires corners-requires (λ c. search needs) returns)

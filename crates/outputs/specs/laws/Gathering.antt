@@ -1,7 +1,7 @@
 -- What is written at the beginning of a slice, and the rest of it cleared: blank regions, cells moved together, poured vertices.
-use mathlib.Core.Path.{_≡_, refl, sym, ap, _∙_}
-use mathlib.Core.List.{List, _++_}
-use Prim.Native.Nat.{ℕ, suc, _+_, _-_, _*_, _≤_}
+use mathlib.Core.Path.{_≡_, ap, _∙_}
+use mathlib.Core.List.{List}
+use Prim.Native.Nat.{ℕ, suc, _+_, _*_, _≤_}
 use native.Mathlib.Omega.{arith}
 use native.Mathlib.Nat.{sub-zero}
 use lib.Ieee.{Float}
@@ -20,7 +20,9 @@ use Rattle.layout.specs.laws.Filling.{regions-none, started-rising}
 use Rattle.outputs.specs.Lent.{padded, LaidOut, Gathered}
 
 -- ---- the beginning
-pub laid-out : (tri hull owners : List ℕ) (n : ℕ) (ix ix₁ off off₁ : List ℕ) → Roomy tri hull owners n off → 3 * length tri + 6 * length hull + length owners ≤ length ix → ix₁ ≡ clearedFrom 0 EMPTY ix → length off₁ ≡ length off → Started tri hull owners n off₁ → LaidOut tri hull owners n ix₁ off₁
+pub laid-out : (tri hull owners : List ℕ) (n : ℕ) (ix ix₁ off off₁ : List ℕ) → Roomy tri hull owners n off
+    → 3 * length tri + 6 * length hull + length owners ≤ length ix → ix₁ ≡ clearedFrom 0 EMPTY ix → length off₁ ≡ length off
+    → Started tri hull owners n off₁ → LaidOut tri hull owners n ix₁ off₁
 laid-out tri hull owners n ix ix₁ off off₁ r room q long st = record {
   started = st;
   regions = regions-none ix₁ off₁ n
@@ -35,7 +37,8 @@ laid-out tri hull owners n ix ix₁ off off₁ r room q long st = record {
     size = ap length blank ∙ length-replicate (length ix) EMPTY
 
 -- ---- the end
-pub poured-cleared : (vs : List Point) (t : ℕ) (v v₁ v₂ : List Float) → length vs ≡ t → 2 * t ≤ length v → v₁ ≡ pour vs v → v₂ ≡ clearedFrom (2 * t) zero v₁ → v₂ ≡ padded (length v) zero (flat vs)
+pub poured-cleared : (vs : List Point) (t : ℕ) (v v₁ v₂ : List Float) → length vs ≡ t → 2 * t ≤ length v → v₁ ≡ pour vs v
+    → v₂ ≡ clearedFrom (2 * t) zero v₁ → v₂ ≡ padded (length v) zero (flat vs)
 unfolding pour
 poured-cleared vs t v v₁ v₂ n room p q =
     let size : length (flat vs) ≡ 2 * t = length-flat vs ∙ rw n in
@@ -53,5 +56,6 @@ module _ (cells : List (List ℕ)) (ix off ix₁ off₁ : List ℕ) (w sites : �
       let t : take (sites + 1) off₁ ≡ offsetsFrom 0 cells = ap (take (sites + 1)) (c .offsets) ∙ take-at (offsetsFrom 0 cells) (drop (suc (length cells)) off) (sites + 1) n in
       q ∙ rw (t, long, n)
 
-  pub gathered : (ix₂ off₂ : List ℕ) → length ix₁ ≡ length ix → length off₁ ≡ length off → ix₂ ≡ clearedFrom w EMPTY ix₁ → off₂ ≡ clearedFrom (sites + 1) EMPTY off₁ → Gathered cells ix off ix₂ off₂
+  pub gathered : (ix₂ off₂ : List ℕ) → length ix₁ ≡ length ix → length off₁ ≡ length off → ix₂ ≡ clearedFrom w EMPTY ix₁
+      → off₂ ≡ clearedFrom (sites + 1) EMPTY off₁ → Gathered cells ix off ix₂ off₂
   gathered ix₂ off₂ li lo qi qo = record { indexes = indexes ix₂ li qi; offsets = offsets off₂ lo qo }

@@ -1,6 +1,6 @@
 -- The definition's marked cells in their regions: what the index list holds is the cells with the marks taken off.
 use mathlib.Core.Path.{_≡_, refl, sym, ap, _∙_}
-use mathlib.Core.Bool.{true, false}
+use mathlib.Core.Bool.{false}
 use mathlib.Core.List.{List, [], _∷_, map}
 use mathlib.Core.Logic.{_≢_}
 use Prim.Native.Nat.{ℕ, zero, suc, _+_, _≤_, _<_}
@@ -8,7 +8,7 @@ use native.Mathlib.Omega.{arith}
 use lib.ListN.{length, getD, set, replicate, length-map, List·getD-map}
 use lib.Seq.{sets}
 use Rattle.numbers.specs.Numbers.{EMPTY}
-use Rattle.layout.specs.Regions.{Region, Regions}
+use Rattle.layout.specs.Regions.{Regions}
 use Rattle.layout.specs.laws.Filling.{begins-empty, begins-full, regions-set}
 use Rattle.definition.specs.Cell.{Entry}
 use Rattle.definition.specs.Build.{isEmpty}

@@ -1,19 +1,17 @@
 -- The loop over the triangles follows the definition: what is left of it, from the vertices that stand, is the whole.
-use mathlib.Core.Path.{_≡_, refl, sym, ap, _∙_, subst}
-use mathlib.Core.Bool.{Bool, true, false}
+use mathlib.Core.Path.{_≡_, refl, sym, ap, _∙_}
+use mathlib.Core.Bool.{true, false}
 use mathlib.Core.List.{List, [], _∷_, _++_}
-use Prim.Native.Nat.{ℕ, zero, suc, _+_, _-_, _*_, _≤_, _<_}
+use Prim.Native.Nat.{ℕ, suc, _+_, _-_, _*_, _≤_, _<_}
 use native.Mathlib.Nat.{sub-zero}
 use native.Mathlib.Numerals.{add-one}
 use native.Mathlib.Omega.{arith}
 use lib.Ieee.{Float}
-use lib.ListN.{length, set, length-set, length-append}
+use lib.ListN.{length, set, length-append}
 use Rattle.utils.specs.Flat.{points, pointsFrom, flat, pour}
 use Rattle.utils.specs.Rules.{okCentre}
 use Rattle.utils.specs.declared.Point.{Point}
-use Rattle.vertices.specs.laws.Laws.{length-points, length-pour, points-pour, pour-points, pour-snoc, pour-pour}
-use Rattle.definition.specs.declared.Fault.{Fault}
-use Rattle.definition.specs.Fault.{Outcome, ok, refused, badCentre}
+use Rattle.vertices.specs.laws.Laws.{length-points, length-pour, points-pour, pour-snoc, pour-pour}
 use Rattle.definition.specs.Build.{centreAt, centresFrom}
 use Rattle.rings.specs.Centers.{Centred}
 
@@ -51,7 +49,8 @@ module _ (sites : List Float) (tri : List ℕ) (n : ℕ) (v₀ : List Float) whe
 
       step-poured : w ≡ pour (points (t + 1) w) v₀
       step-poured =
-          rw stand (poured-once ∙ ap (pour (points t v ++ c ∷ [])) (g .poured) ∙ pour-pour (points t v) (points t v ++ c ∷ []) v₀ (omega (arith, vs-long, length-points v 0 t)) (omega (arith, length-points v 0 t)))
+          rw stand (poured-once ∙ ap (pour (points t v ++ c ∷ [])) (g .poured)
+          ∙ pour-pour (points t v) (points t v ++ c ∷ []) v₀ (omega (arith, vs-long, length-points v 0 t)) (omega (arith, length-points v 0 t)))
 
       step-whole : c ≡ centreAt sites tri t → okCentre c ≡ true → centresFrom sites tri 0 n [] ≡ centresFrom sites tri (t + 1) (n - (t + 1)) (points (t + 1) w)
       unfolding centresFrom

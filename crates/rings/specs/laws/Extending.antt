@@ -1,9 +1,9 @@
 -- The loop over the hull's edges follows the definition: what is left of it, from the vertices and numbers that stand, is the whole.
-use mathlib.Core.Path.{_≡_, refl, sym, ap, _∙_, subst}
-use mathlib.Core.Bool.{Bool, true, false, _&&_}
+use mathlib.Core.Path.{_≡_, refl, sym, _∙_, subst}
+use mathlib.Core.Bool.{true, false, _&&_}
 use mathlib.Core.List.{List, [], _∷_, _++_}
-use Prim.Native.Nat.{ℕ, zero, suc, _+_, _-_, _*_, _/_, _≤_, _<_}
-use native.Mathlib.Nat.{sub-zero, add-zero}
+use Prim.Native.Nat.{ℕ, suc, _+_, _-_, _*_, _/_, _≤_, _<_}
+use native.Mathlib.Nat.{sub-zero}
 use native.Mathlib.Numerals.{add-one}
 use native.Mathlib.Omega.{arith}
 use lib.Ieee.{Float}
@@ -18,11 +18,9 @@ use Rattle.vertices.specs.declared.Placed.{Placed}
 use Rattle.vertices.specs.laws.Store.{poured-points, poured-none, poured-then}
 use Rattle.mesh.specs.Hull.{afterOf, nextSite}
 use Rattle.mesh.specs.Border.{after-lt}
-use Rattle.definition.specs.declared.Fault.{Fault}
-use Rattle.definition.specs.Fault.{Outcome, ok, refused, notFinite}
 use Rattle.definition.specs.Cell.{Took, took, extension}
-use Rattle.definition.specs.Build.{finite, extended, Extensions, extensions, extendFrom}
-use Rattle.rings.specs.Extensions.{Extended, ExtendedBy, ExtendsInto}
+use Rattle.definition.specs.Build.{finite, extended, extensions, extendFrom}
+use Rattle.rings.specs.Extensions.{ExtendedBy, ExtendsInto}
 use Rattle.rings.specs.declared.extensions.Passed.{Passed}
 
 module _ (sites : List Float) (tri hull table : List ℕ) (nc limit at count : ℕ) (v₀ : List Float) (ix₀ : List ℕ) where
@@ -67,7 +65,8 @@ module _ (sites : List Float) (tri hull table : List ℕ) (nc limit at count : �
     pub turn-room : 2 * n + 2 ≤ length v
     turn-room = omega (arith, x .room-v, g .grown, g .long-v)
 
-  module _ (v : List Float) (ix : List ℕ) (n i : ℕ) (g : Extending v ix n i) (h : i < length hull) (p : Point) (e : ℕ) (qe : e ≡ getD table (nextSite hull i) 0) (qp : p ≡ extended sites tri (points n v) e) where
+  module _ (v : List Float) (ix : List ℕ) (n i : ℕ) (g : Extending v ix n i) (h : i < length hull) (p : Point) (e : ℕ)
+      (qe : e ≡ getD table (nextSite hull i) 0) (qp : p ≡ extended sites tri (points n v) e) where
     q : p ≡ extended sites tri (points n v) (getD table (nextSite hull i) 0)
     q = rw (← qe) qp
 
@@ -82,24 +81,31 @@ module _ (sites : List Float) (tri hull table : List ℕ) (nc limit at count : �
     unfolding extendFrom
     extending-bad b r e v₁ ix₁ = rw (rest, ← q, b, e) (refl, h)
 
-    module _ (b : (finite (p .x) && finite (p .y)) ≡ true) (x : ExtendsInto sites tri hull table nc count limit at v₀ ix₀) (r : Placed) (v₁ : List Float) (ix₁ : List ℕ) (same-v : length v₁ ≡ length v) (same-ix : length ix₁ ≡ length ix) (a : Answers n (addVertex nc (points n v) p) r) (l : Leaves nc limit (addVertex nc (points n v) p .verts) v ix (r .count) v₁ ix₁) where
+    module _ (b : (finite (p .x) && finite (p .y)) ≡ true) (x : ExtendsInto sites tri hull table nc count limit at v₀ ix₀) (r : Placed)
+        (v₁ : List Float) (ix₁ : List ℕ) (same-v : length v₁ ≡ length v) (same-ix : length ix₁ ≡ length ix)
+        (a : Answers n (addVertex nc (points n v) p) r) (l : Leaves nc limit (addVertex nc (points n v) p .verts) v ix (r .count) v₁ ix₁) where
       stand : points (r .count) v₁ ≡ addVertex nc (points n v) p .verts
       stand = poured-points (l .verts)
 
       step-whole :
           extendFrom sites tri hull table nc 0 (length hull) (extensions (points count v₀) [] [])
-          ≡ extendFrom sites tri hull table nc (i + 1) (length hull - (i + 1)) (extensions (points (r .count) v₁) (g .xs ++ r .at ∷ []) (g .ts ++ took extension (addVertex nc (points n v) p) ∷ []))
+          ≡ extendFrom sites tri hull table nc (i + 1) (length hull - (i + 1))
+          (extensions (points (r .count) v₁) (g .xs ++ r .at ∷ []) (g .ts ++ took extension (addVertex nc (points n v) p) ∷ []))
       unfolding extendFrom
       step-whole =
           let more :
           extendFrom sites tri hull table nc 0 (length hull) (extensions (points count v₀) [] [])
-          ≡ extendFrom sites tri hull table nc (suc i) (length hull - (i + 1)) (extensions (addVertex nc (points n v) p .verts) (g .xs ++ addVertex nc (points n v) p .at ∷ []) (g .ts ++ took extension (addVertex nc (points n v) p) ∷ [])) =
+          ≡ extendFrom sites tri hull table nc (suc i) (length hull - (i + 1))
+          (extensions (addVertex nc (points n v) p .verts) (g .xs ++ addVertex nc (points n v) p .at ∷ []) (g .ts ++ took extension (addVertex nc (points n v) p) ∷ [])) =
           rest ∙ rw (← q, b) in
-          rw (stand, a .at) (subst (λ k. extendFrom sites tri hull table nc 0 (length hull) (extensions (points count v₀) [] []) ≡ extendFrom sites tri hull table nc k (length hull - (i + 1)) (extensions (addVertex nc (points n v) p .verts) (g .xs ++ addVertex nc (points n v) p .at ∷ []) (g .ts ++ took extension (addVertex nc (points n v) p) ∷ []))) (sym (add-one i)) more)
+          rw (stand, a .at) (subst (λ k. extendFrom sites tri hull table nc 0 (length hull)
+          (extensions (points count v₀) [] []) ≡ extendFrom sites tri hull table nc k (length hull - (i + 1))
+          (extensions (addVertex nc (points n v) p .verts) (g .xs ++ addVertex nc (points n v) p .at ∷ []) (g .ts ++ took extension (addVertex nc (points n v) p) ∷ []))) (sym (add-one i)) more)
 
       step-numbers : take limit (set ix₁ (at + i) (r .at)) ≡ sets (take limit ix₀) at (g .xs ++ r .at ∷ [])
       step-numbers =
-          let s : set (sets (take limit ix₀) at (g .xs)) (at + i) (r .at) ≡ sets (take limit ix₀) at (g .xs ++ r .at ∷ []) = sets-join (g .xs) (r .at ∷ []) (take limit ix₀) at (at + i) (omega (arith, g .xs-long)) in
+          let s : set (sets (take limit ix₀) at (g .xs)) (at + i) (r .at) ≡ sets (take limit ix₀) at (g .xs ++ r .at ∷ []) = sets-join (g .xs)
+          (r .at ∷ []) (take limit ix₀) at (at + i) (omega (arith, g .xs-long)) in
           take-set-lt limit ix₁ (at + i) (r .at) (omega (arith, x .room-ix)) ∙ cc (l .body, g .numbers)
 
       pub extending-step : (y : ℕ) → y ≡ r .at → Extending v₁ (set ix₁ (at + i) y) (r .count) (i + 1)

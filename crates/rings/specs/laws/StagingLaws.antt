@@ -1,12 +1,11 @@
 -- The loop that stages a ring: what is left of the walk is what is left to be written.
-use mathlib.Core.Path.{_≡_, refl, sym, ap, _∙_, subst}
-use mathlib.Core.List.{List, [], _∷_, _++_, map, append-nil}
+use mathlib.Core.Path.{_≡_, refl, sym, ap, _∙_}
+use mathlib.Core.List.{List, [], _∷_, map}
 use mathlib.Core.Logic.{⊎-elim}
 use Prim.Native.Nat.{ℕ, zero, suc, _+_, _-_, _/_, _≤_, _<_}
 use native.Mathlib.Omega.{arith}
-use native.Mathlib.Nat.{add-zero}
 use lib.ListN.{length, getD, set, drop, take, length-set, length-drop, List·getD-map}
-use lib.Seq.{sets, take-all, drop-drop, getD-drop, drop-length}
+use lib.Seq.{sets, take-all}
 use Rattle.laws.specs.Stores.{sets-more}
 use Rattle.laws.specs.Decide.{lt-or-ge}
 use Rattle.mesh.specs.Mesh.{turnOf, wholeOf, Paired}

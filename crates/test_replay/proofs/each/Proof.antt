@@ -11,37 +11,8 @@ Inv-loop count all₀ i₀ all i = (i ≤ count) × (all .built + all .refused +
 abbrev μ-loop : tie.MeasureT-loop
 μ-loop count all₀ i₀ all i = count - i
 
-loop-holds : tie.Need-loop-holds Inv-loop μ-loop
-loop-holds c = omega arith
-
-one-requires : tie.Need-one-requires Inv-loop μ-loop
-one-requires c κs = omega arith
-
-tallied-requires : tie.Need-tallied-requires Inv-loop μ-loop
-tallied-requires c κs = omega arith
-
-add-i : tie.Need-add-i Inv-loop μ-loop
-add-i c = omega arith
-
-loop-less : tie.Need-loop-less Inv-loop μ-loop
-loop-less c = omega arith
-
-loop-again : tie.Need-loop-again Inv-loop μ-loop
-loop-again c = omega arith
-
-returns : tie.Need-returns Inv-loop μ-loop
-returns c = omega arith
-
 pub each-spec : {M : Type 1} → statement M
 each-spec =
     tie.close
-    (tie.spec
-    Inv-loop
-    μ-loop
-    loop-holds
-    one-requires
-    tallied-requires
-    add-i
-    loop-less
-    loop-again
-    returns)
+    (tie.spec Inv-loop μ-loop (λ c. omega arith) (λ c κs. omega arith) (λ c κs. omega arith) (λ c. omega arith)
+    (λ c. omega arith) (λ c. omega arith) (λ c. omega arith))

@@ -1,5 +1,5 @@
 -- Stored words as the code reads them, and the loops that compare and load them: all places before i are as they must be.
-use mathlib.Core.Path.{_≡_, refl, sym, ap, _∙_}
+use mathlib.Core.Path.{_≡_, refl, ap, _∙_}
 use mathlib.Core.List.{List, [], _∷_}
 use mathlib.Core.Logic.{_≢_, ⊎-elim}
 use mathlib.Core.Bool.{true, false}
@@ -10,7 +10,7 @@ use lib.ListN.{length, getD, set, length-set}
 use lib.Seq.{getD-set-same, getD-set-other}
 use borrow.Author.Tests.{le-leb, lt-leb, lt-ltb, le-ltb}
 use Rattle.laws.specs.Decide.{lt-or-ge, eq-or-ne}
-use Rattle.test_replay.specs.Words.{wordOf, afterOf, expectedOf, patternOf, floatOf, bitsOf, placeOf, expectedBitsOf, Has, Loaded}
+use Rattle.test_replay.specs.Words.{wordOf, afterOf, expectedOf, patternOf, floatOf, bitsOf, placeOf, expectedBitsOf, Has}
 
 pub past-end : (b : List ℕ) (at : ℕ) → length b ≤ at → 0 ≡ getD b at 0
 past-end [] zero h = refl
@@ -22,7 +22,8 @@ pub word-none : (b : List ℕ) (k : ℕ) → 1024 ≤ k → 0 ≡ wordOf b k
 unfolding wordOf
 word-none b k h = rw (le-leb 1024 k h)
 
-pub word-some : (b : List ℕ) (k x y z w : ℕ) → k < 1024 → x ≡ getD b (4 * k) 0 → y ≡ getD b (4 * k + 1) 0 → z ≡ getD b (4 * k + 2) 0 → w ≡ getD b (4 * k + 3) 0 → x + y * 256 + z * 65536 + w * 16777216 ≡ wordOf b k
+pub word-some : (b : List ℕ) (k x y z w : ℕ) → k < 1024 → x ≡ getD b (4 * k) 0 → y ≡ getD b (4 * k + 1) 0 → z ≡ getD b (4 * k + 2) 0
+    → w ≡ getD b (4 * k + 3) 0 → x + y * 256 + z * 65536 + w * 16777216 ≡ wordOf b k
 unfolding wordOf
 word-some b k x y z w h p q r s = rw (lt-leb 1024 k h, p, q, r, s)
 

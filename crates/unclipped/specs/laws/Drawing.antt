@@ -75,7 +75,8 @@ module _ (tri he hull : List ℕ) (n indexes : ℕ) (off : List ℕ) (d : Draws 
     pub ends-small : getD off₁ n 0 < 4294967295
     ends-small = omega (arith, before-end n (omega arith), d .few-entries, d .few-on-hull)
 
-pub gathered-over : (cells : List (List ℕ)) (ix ix′ off off′ ix₁ off₁ : List ℕ) → length ix′ ≡ length ix → length off′ ≡ length off → Gathered cells ix′ off′ ix₁ off₁ → Gathered cells ix off ix₁ off₁
+pub gathered-over : (cells : List (List ℕ)) (ix ix′ off off′ ix₁ off₁ : List ℕ) → length ix′ ≡ length ix → length off′ ≡ length off
+    → Gathered cells ix′ off′ ix₁ off₁ → Gathered cells ix off ix₁ off₁
 gathered-over cells ix ix′ off off′ ix₁ off₁ p q g = record { indexes = rw (← p) (g .indexes); offsets = rw (← q) (g .offsets) }
 
 pub blank-regions : (ix off : List ℕ) (n : ℕ) → Regions ix off (replicate n []) → Regions ix off (map unmarked (replicate n []))

@@ -27,7 +27,8 @@ below (refused f) n t v v₁ c = omega (arith, c .1)
 pub centred-below : (sites : List Float) (tri : List ℕ) (t : ℕ) (v v₁ : List Float) → Centred (centresFrom sites tri 0 (length tri / 3) []) (length tri / 3) t v v₁ → t ≤ length tri / 3
 centred-below sites tri t v v₁ c = below (centresFrom sites tri 0 (length tri / 3) []) (length tri / 3) t v v₁ c
 
-module _ (sites : List Float) (tri he : List ℕ) (t : ℕ) (v v₁ : List Float) (c : Centred (centresFrom sites tri 0 (length tri / 3) []) (length tri / 3) t v v₁) (ix off : List ℕ) (v₂ : List Float) (ix₂ off₂ : List ℕ) where
+module _ (sites : List Float) (tri he : List ℕ) (t : ℕ) (v v₁ : List Float)
+    (c : Centred (centresFrom sites tri 0 (length tri / 3) []) (length tri / 3) t v v₁) (ix off : List ℕ) (v₂ : List Float) (ix₂ off₂ : List ℕ) where
   abbrev With : Outcome Fault Built → Fault → Type 0
   With o r = (r ≡ faultOf o) × Lent o v ix off v₂ ix₂ off₂
 
@@ -35,7 +36,8 @@ module _ (sites : List Float) (tri he : List ℕ) (t : ℕ) (v v₁ : List Float
   rest centres = ok (record { verts = centres; cells = withRings tri he (replicate (siteCount sites) []); owners = replicate 4 EMPTY; lost = 0; steps = [] })
 
   -- a triangle offends: all is cleared
-  pub refused-all : t < length tri / 3 → (r : Fault) → r ≡ badCentre t → length v₁ ≡ length v → v₂ ≡ padded (length v₁) zero [] → ix₂ ≡ padded (length ix) EMPTY [] → off₂ ≡ padded (length off) EMPTY [] → With (unclipped sites tri he) r
+  pub refused-all : t < length tri / 3 → (r : Fault) → r ≡ badCentre t → length v₁ ≡ length v → v₂ ≡ padded (length v₁) zero []
+      → ix₂ ≡ padded (length ix) EMPTY [] → off₂ ≡ padded (length off) EMPTY [] → With (unclipped sites tri he) r
   unfolding unclipped andThen vertexNumbers indexNumbers offsetNumbers
   refused-all h r q long qv qi qo = go (centresFrom sites tri 0 (length tri / 3) []) c
     where
@@ -44,7 +46,8 @@ module _ (sites : List Float) (tri he : List ℕ) (t : ℕ) (v v₁ : List Float
       go (refused f) g = (q ∙ sym (g .0), record { vertices = rw (← long) qv; indexes = qi; offsets = qo })
 
   -- none does: the vertices and the cells
-  pub built-all : length tri / 3 ≤ t → 2 * t ≤ length v → (r : Fault) → r ≡ fault 0 0 0 0 → v₂ ≡ clearedFrom (2 * t) zero v₁ → Gathered (map unmarked (withRings tri he (replicate (siteCount sites) []))) ix off ix₂ off₂ → With (unclipped sites tri he) r
+  pub built-all : length tri / 3 ≤ t → 2 * t ≤ length v → (r : Fault) → r ≡ fault 0 0 0 0 → v₂ ≡ clearedFrom (2 * t) zero v₁
+      → Gathered (map unmarked (withRings tri he (replicate (siteCount sites) []))) ix off ix₂ off₂ → With (unclipped sites tri he) r
   unfolding unclipped andThen vertexNumbers indexNumbers offsetNumbers
   built-all h room r q qv g = go (centresFrom sites tri 0 (length tri / 3) []) c
     where

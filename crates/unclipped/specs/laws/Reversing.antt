@@ -1,8 +1,8 @@
 -- The loop that turns a part round: what lies outside i..j is in its new place, what lies between is as it was.
-use mathlib.Core.Path.{_≡_, refl, sym, ap, _∙_, subst}
-use mathlib.Core.List.{List, [], _∷_, _++_, reverse, reverse-cons}
+use mathlib.Core.Path.{_≡_, refl, _∙_}
+use mathlib.Core.List.{List, [], _∷_, reverse, reverse-cons}
 use mathlib.Core.Logic.{_⊎_, inl, inr, ⊎-elim, _≢_}
-use Prim.Native.Nat.{ℕ, zero, suc, _+_, _-_, _≤_, _<_}
+use Prim.Native.Nat.{ℕ, suc, _+_, _-_, _≤_, _<_}
 use native.Mathlib.Omega.{arith}
 use lib.ListN.{length, getD, set, length-set, length-reverse, List·getD-append}
 use lib.Seq.{getD-set-same, getD-set-other, getD-at}
@@ -69,7 +69,8 @@ module _ (from to : ℕ) (old : List ℕ) where
       long = length-set (set new i (getD new (j - 1) 0)) (j - 1) (getD new i 0) ∙ length-set new i (getD new (j - 1) 0) ∙ g .long;
       turned = turned-more;
       between = λ k a b. else-where k (λ q. omega arith) (λ q. omega arith) ∙ g .between k (omega arith) (omega arith);
-      outside = λ k a. else-where k (λ q. ⊎-elim (λ l. omega (arith, g .low)) (λ l. omega (arith, g .low, g .sum)) a) (λ q. ⊎-elim (λ l. omega (arith, g .low)) (λ l. omega (arith, g .low, g .sum)) a) ∙ g .outside k a;
+      outside = λ k a. else-where k (λ q. ⊎-elim (λ l. omega (arith, g .low)) (λ l. omega (arith, g .low, g .sum)) a)
+          (λ q. ⊎-elim (λ l. omega (arith, g .low)) (λ l. omega (arith, g .low, g .sum)) a) ∙ g .outside k a;
     }
 
   pub reversing-end : (new : List ℕ) (i j : ℕ) → Reversing new i j → j ≤ i + 1 → Reversed from to old new

@@ -3,19 +3,18 @@
 use mathlib.Core.Path.{_≡_, refl, sym, ap, _∙_, subst}
 use mathlib.Core.Bool.{Bool, true, false}
 use mathlib.Core.List.{List, [], _∷_, map, reverse}
-use mathlib.Core.Logic.{_⊎_, inl, inr, ⊎-elim, _≢_}
-use Prim.Native.Nat.{ℕ, zero, suc, _+_, _-_, _/_, _≤_, _<_}
+use mathlib.Core.Logic.{inl, inr, _≢_}
+use Prim.Native.Nat.{ℕ, suc, _+_, _-_, _/_, _≤_, _<_}
 use native.Mathlib.Nat.{sub-zero}
 use native.Mathlib.Numerals.{add-one}
 use native.Mathlib.Omega.{arith}
 use lib.ListN.{length, getD, set, length-set, length-map, length-reverse, List·getD-map}
 use Rattle.laws.specs.Pick.{pick}
-use Rattle.laws.specs.Decide.{lt-or-ge}
 use lib.Seq.{sets, length-sets}
 use Rattle.laws.specs.Stores.{sets-in, sets-before, sets-behind, sets-ext}
 use Rattle.laws.specs.Count.{occ, occ-length}
 use Rattle.numbers.specs.Numbers.{EMPTY}
-use Rattle.mesh.specs.Mesh.{endOf, turnOf, walkOf, wholeOf}
+use Rattle.mesh.specs.Mesh.{endOf, walkOf, wholeOf}
 use Rattle.mesh.specs.Laws.{walk-go}
 use Rattle.mesh.specs.Walks.{walk-ends}
 use Rattle.iterator.specs.Used.{occ-there}
@@ -100,7 +99,8 @@ module _ (tri he starts : List ℕ) (n len : ℕ) (g : Ready tri he starts n len
       ring-kept m = let f = full-already ix starts cells r s in-cells roomy (rw (← qa) m) in rw (← qs, f) r
 
       -- it is the ring, reversed
-      pub ring-drawn : len ≡ length ix → getD ix at 0 ≡ EMPTY → (ix₁ ix₂ : List ℕ) (end : ℕ) → Staged (ringFrom he e) at ix ix₁ end → Reversed at end ix₁ ix₂ → Regions ix₂ starts (map unmarked (withRing tri he e cells))
+      pub ring-drawn : len ≡ length ix → getD ix at 0 ≡ EMPTY → (ix₁ ix₂ : List ℕ) (end : ℕ) → Staged (ringFrom he e) at ix ix₁ end
+          → Reversed at end ix₁ ix₂ → Regions ix₂ starts (map unmarked (withRing tri he e cells))
       ring-drawn long m ix₁ ix₂ end st rv =
           let blank = empty-still ix starts cells r s in-cells (rw (← qa) m) in
           let cell : unmarked (ringCell he e) ≡ reverse (ringFrom he e) = unmark-plain (reverse (ringFrom he e)) in
@@ -132,7 +132,9 @@ module _ (tri he starts : List ℕ) (n : ℕ) (ix₀ : List ℕ) where
   pub along-start : (first : List (List Entry)) → length first ≡ n → Regions ix₀ starts (map unmarked first) → Along first ix₀ 0
   along-start first q r = record { cells = first; width = q; whole = rw sub-zero; regions = r }
 
-  pub along-step : (first : List (List Entry)) (ix ix₁ : List ℕ) (e : ℕ) → e < length tri → Along first ix e → ((cells : List (List Entry)) → length cells ≡ n → Regions ix starts (map unmarked cells) → Regions ix₁ starts (map unmarked (withRing tri he e cells))) → Along first ix₁ (e + 1)
+  pub along-step : (first : List (List Entry)) (ix ix₁ : List ℕ) (e : ℕ) → e < length tri → Along first ix e
+      → ((cells : List (List Entry)) → length cells ≡ n → Regions ix starts (map unmarked cells)
+      → Regions ix₁ starts (map unmarked (withRing tri he e cells))) → Along first ix₁ (e + 1)
   unfolding ringsFrom
   along-step first ix ix₁ e l a step = record {
     cells = withRing tri he e (a .cells);

@@ -8,13 +8,10 @@ use borrow.Author.Needs.{needs}
 use Rattle.vertices.proofs.vertex.Statement.{statement}
 use Rattle.vertices.proofs.vertex.Tie as tie
 
-point-at-requires : tie.Need-point-at-requires
-point-at-requires c κs = search needs
-
 returns : tie.Need-returns
 returns c =
     let a = c .before .before .args in
     c .point-at .ensures ∙ sym (getD-points (a .v .now) (a .count) (a .i) (at nan nan) (omega arith))
 
 pub vertex-spec : {M : Type 1} → statement M
-vertex-spec = tie.close (tie.spec point-at-requires returns)
+vertex-spec = tie.close (tie.spec (λ c κs. search needs) returns)

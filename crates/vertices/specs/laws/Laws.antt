@@ -6,7 +6,7 @@ use mathlib.Core.List.{List, [], _∷_, _++_}
 use native.Mathlib.Omega.{arith}
 use native.Mathlib.Numerals.{add-one}
 use lib.ListN.{length, getD, drop, take, set, take-append-drop, length-append, length-drop}
-use lib.Seq.{drop-cons, sets, sets-eq, getD-drop, drop-drop, drop-append-add}
+use lib.Seq.{drop-cons, sets-eq, getD-drop, drop-drop, drop-append-add}
 use lib.Dec.{ltb}
 use borrow.Author.Tests.{lt-ltb, le-ltb}
 use Rattle.laws.specs.Pick.{pick}

@@ -1,6 +1,6 @@
 -- The store's laws: what is poured is held, and pouring goes on from where it was; the vertices that were there stay; what a reused and an added
 -- vertex leave.
-use Prim.Native.Nat.{ℕ, zero, suc, _+_, _-_, _*_, _≤_, _<_}
+use Prim.Native.Nat.{ℕ, _+_, _-_, _*_, _≤_, _<_}
 use mathlib.Core.Path.{_≡_, refl, sym, ap, _∙_}
 use mathlib.Core.Bool.{Bool, true, false}
 use mathlib.Core.List.{List, [], _∷_, _++_, append-nil, append-assoc}
@@ -15,9 +15,8 @@ use Rattle.laws.specs.Pick.{pick}
 use Rattle.utils.specs.Plane.{at}
 use Rattle.utils.specs.declared.Point.{Point}
 use Rattle.utils.specs.Flat.{points, pointsFrom, flat, pour}
-use Rattle.vertices.specs.Add.{Added, findNear, addVertex, added}
+use Rattle.vertices.specs.Add.{findNear, addVertex}
 use Rattle.vertices.specs.Store.{Holds, Poured, Leaves, Answers}
-use Rattle.vertices.specs.declared.Placed.{Placed}
 use Rattle.vertices.specs.laws.Laws.{add-old, add-new, length-points, points-pour, pour-points, pour-pour, pour-snoc, length-pour, flat-append, flat-points, getD-points}
 
 -- ---- poured vertices

@@ -24,7 +24,8 @@ use Rattle.crossings.specs.declared.Meeting.{Meeting}
 use Rattle.layout.specs.Cleared.{clearedFrom}
 use Rattle.voronoi.specs.Plane.{EMPTY, bit, numberBy, valueIf, sideIf, cornersNumber, cornersLeft, Dist2, Answered, Edges, Corners, Inside, ExclusivelyInside, WhichEdge, Meets}
 
-pub distance : {a b : Point} {s t : Bool} {d v : Float} {n : ℕ} → s ≡ okSite a → t ≡ okSite b → d ≡ dist2Of a b → v ≡ valueIf (s && t) d → n ≡ numberBy true (s && t) → Dist2 a b n v
+pub distance : {a b : Point} {s t : Bool} {d v : Float} {n : ℕ} → s ≡ okSite a → t ≡ okSite b → d ≡ dist2Of a b → v ≡ valueIf (s && t) d
+    → n ≡ numberBy true (s && t) → Dist2 a b n v
 distance s t d v n = record { refusal = cc; value = cc }
 
 pub answered : {r s : Centre} {n : ℕ} {x y : Float} → s ≡ r → x ≡ centre.xOf s → y ≡ centre.yOf s → n ≡ centre.numberOf s → Answered r n x y
@@ -87,7 +88,8 @@ module _ (c : Point) (w h : Float) (l : List Float) where
         let e : length (flat (cornersOf b) ++ drop 8 l) - 8 ≡ length l - 8 = omega (arith, length-drop 8 l) in
         ap (λ n. flat (cornersOf b) ++ replicate n zero) e
 
-    pub put : {after poured : List Float} {b : BoundingBox} → okBox c w h ≡ true → b ≡ madeOf c w h → poured ≡ pour (cornersOf b) l → after ≡ clearedFrom 8 zero poured → Corners c w h l 0 after
+    pub put : {after poured : List Float} {b : BoundingBox} → okBox c w h ≡ true → b ≡ madeOf c w h → poured ≡ pour (cornersOf b) l
+        → after ≡ clearedFrom 8 zero poured → Corners c w h l 0 after
     unfolding cornersNumber cornersLeft numberBy
     put f e p a =
         record {

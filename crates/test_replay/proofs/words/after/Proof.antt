@@ -10,11 +10,8 @@ returns c = after-end _ _ (c .if1 .taken)
 returns-2 : tie.Need-returns-2
 returns-2 c = after-far _ _ (c .before .if1 .left) (c .if2 .taken)
 
-add-result : tie.Need-add-result
-add-result c = search needs
-
 returns-3 : tie.Need-returns-3
 returns-3 c = after-near _ _ (c .before .if1 .left) (c .if2 .left)
 
 pub after-spec : {M : Type 1} → statement M
-after-spec = tie.close (tie.spec returns returns-2 add-result returns-3)
+after-spec = tie.close (tie.spec returns returns-2 (λ c. search needs) returns-3)

@@ -6,9 +6,6 @@ use Rattle.test_replay.specs.laws.Reading.{past-end}
 use Rattle.test_replay.proofs.words.byte.Statement.{statement}
 use Rattle.test_replay.proofs.words.byte.Tie as tie
 
-shared-slice-read-result : tie.Need-shared-slice-read-result
-shared-slice-read-result c = search needs
-
 cast-result : tie.Need-cast-result
 cast-result c = omega (arith, c .shared-slice-known .given (c .before .before .args .at))
 
@@ -19,4 +16,4 @@ returns-2 : tie.Need-returns-2
 returns-2 c = (past-end (c .before .args .b .now) (c .before .args .at) (c .if1 .left), omega arith)
 
 pub byte-spec : {M : Type 1} → statement M
-byte-spec = tie.close (tie.spec shared-slice-read-result cast-result returns returns-2)
+byte-spec = tie.close (tie.spec (λ c. search needs) cast-result returns returns-2)

@@ -4,15 +4,6 @@ use Rattle.test_replay.specs.laws.Reading.{expected-pattern, expected-bi
 use Rattle.test_replay.proofs.words.expected_bits.Statement.{statement}
 use Rattle.test_replay.proofs.words.expected_bits.Tie as tie
 
-after-requires : tie.Need-after-requires
-after-requires c κs = search needs
-
-after-requires-2 : tie.Need-after-requires-2
-after-requires-2 c κs = search needs
-
-pattern-requires : tie.Need-pattern-requires
-pattern-requires c κs = search needs
-
 returns : tie.Need-returns
 returns c = expected-pattern _ _ _ _ _ _ (c .before .before .before .if1 .taken) (rw (← c .before .before .after .ensures, ← c .before .after2 .ensures) (c .pattern .ensures))
 
@@ -21,4 +12,4 @@ returns-2 c = expected-bits-rest _ _ _ _ _ (c .if1 .left)
 
 pub expected-bits-spec : {M : Type 1} → statement M
 expected-bits-spec =
-    tie.close (tie.spec after-requires after-requires-2 pattern-requires returns returns-2)
+    tie.close (tie.spec (λ c κs. search needs) (λ c κs. search needs) (λ c κs. search needs) returns returns-2)

@@ -5,14 +5,8 @@ use Rattle.test_replay.specs.Words.{floatOf}
 use Rattle.test_replay.proofs.words.float.Statement.{statement}
 use Rattle.test_replay.proofs.words.float.Tie as tie
 
-pattern-requires : tie.Need-pattern-requires
-pattern-requires c κs = search needs
-
-float-of-requires : tie.Need-float-of-requires
-float-of-requires c κs = search needs
-
 returns : tie.Need-returns
 returns c = c .float-of .ensures ∙ ap floatOf (c .before .pattern .ensures)
 
 pub float-spec : {M : Type 1} → statement M
-float-spec = tie.close (tie.spec pattern-requires float-of-requires returns)
+float-spec = tie.close (tie.spec (λ c κs. search needs) (λ c κs. search needs) returns)

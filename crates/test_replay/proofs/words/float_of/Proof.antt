@@ -5,7 +5,6 @@ use lib.Dec.{T}
 use lib.Ieee.{binary64}
 use lib.Ieee.Bits.{nanBits-is}
 use Rattle.root.specs.laws.Signs.{no-quotient, up-to-no-nan}
-use borrow.Author.Needs.{needs}
 use Rattle.test_replay.specs.laws.Reading.{float-nan, float-number}
 use Rattle.test_replay.proofs.words.float_of.Statement.{statement}
 use Rattle.test_replay.proofs.words.float_of.Tie as tie

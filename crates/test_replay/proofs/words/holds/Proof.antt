@@ -20,32 +20,21 @@ returns c = too-short _ _ _ _ (c .if1 .taken)
 loop-holds : tie.Need-loop-holds Inv-loop μ-loop
 loop-holds c = (omega arith, λ j h. absurd (omega arith))
 
-mul-if2 : tie.Need-mul-if2 Inv-loop μ-loop
-mul-if2 c = omega arith
-
-shared-slice-read-if2 : tie.Need-shared-slice-read-if2 Inv-loop μ-loop
-shared-slice-read-if2 c = omega arith
-
-expected-requires : tie.Need-expected-requires Inv-loop μ-loop
-expected-requires c κs = omega arith
-
 returns-2 : tie.Need-returns-2 Inv-loop μ-loop
 returns-2 c =
     let l = c .before .before .before .before in
     let a = l .before .before .before .before .args in
-    same-not _ (λ j. getD (a .l .now) j 0) (λ j. expectedOf (a .b .now) (a .k) (a .n) j (a .rest)) (a .n) (l .loop .i) (c .before .before .before .loop-test .taken) (λ q. c .if2 .taken (q ∙ sym (c .before .expected .ensures)))
-
-add-i : tie.Need-add-i Inv-loop μ-loop
-add-i c = omega arith
-
-loop-less : tie.Need-loop-less Inv-loop μ-loop
-loop-less c = omega arith
+    same-not _ (λ j. getD (a .l .now) j 0) (λ j. expectedOf (a .b .now) (a .k) (a .n) j (a .rest)) (a .n) (l .loop .i)
+    (c .before .before .before .loop-test .taken) (λ q. c .if2 .taken (q ∙ sym (c .before .expected .ensures)))
 
 loop-again : tie.Need-loop-again Inv-loop μ-loop
 loop-again c =
     let l = c .before .before .before .before in
-    let a = l .before .before .before .before .args in
-    (omega arith, same-next (length (a .l .now)) (λ j. getD (a .l .now) j 0) (λ j. expectedOf (a .b .now) (a .k) (a .n) j (a .rest)) (a .n) (l .loop .i) (l .loop .inv .1) (c .if2 .left ∙ c .before .expected .ensures))
+    let a = l .before .before .before .before .args in (
+      omega arith,
+      same-next (length (a .l .now)) (λ j. getD (a .l .now) j 0) (λ j. expectedOf (a .b .now) (a .k) (a .n) j (a .rest)) (a .n)
+          (l .loop .i) (l .loop .inv .1) (c .if2 .left ∙ c .before .expected .ensures),
+    )
 
 returns-3 : tie.Need-returns-3 Inv-loop μ-loop
 returns-3 c =
@@ -55,16 +44,5 @@ returns-3 c =
 pub holds-spec : {M : Type 1} → statement M
 holds-spec =
     tie.close
-    (tie.spec
-    Inv-loop
-    μ-loop
-    returns
-    loop-holds
-    mul-if2
-    shared-slice-read-if2
-    expected-requires
-    returns-2
-    add-i
-    loop-less
-    loop-again
-    returns-3)
+    (tie.spec Inv-loop μ-loop returns loop-holds (λ c. omega arith) (λ c. omega arith) (λ c κs. omega arith) returns-2
+    (λ c. omega arith) (λ c. omega arith) loop-again returns-3)

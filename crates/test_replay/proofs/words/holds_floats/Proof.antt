@@ -21,35 +21,21 @@ returns c = too-short _ _ _ _ (c .if1 .taken)
 loop-holds : tie.Need-loop-holds Inv-loop μ-loop
 loop-holds c = (omega arith, λ j h. absurd (omega arith))
 
-mul-bits-of : tie.Need-mul-bits-of Inv-loop μ-loop
-mul-bits-of c = omega arith
-
-shared-slice-read-bits-of : tie.Need-shared-slice-read-bits-of Inv-loop μ-loop
-shared-slice-read-bits-of c = omega arith
-
-bits-of-requires : tie.Need-bits-of-requires Inv-loop μ-loop
-bits-of-requires c κs = omega arith
-
-expected-bits-requires : tie.Need-expected-bits-requires Inv-loop μ-loop
-expected-bits-requires c κs = omega arith
-
 returns-2 : tie.Need-returns-2 Inv-loop μ-loop
 returns-2 c =
     let l = c .before .before .before .before .before in
     let a = l .before .before .before .before .args in
-    same-not _ (λ j. bitsOf (getD (a .l .now) j nan)) (λ j. expectedBitsOf (a .b .now) (a .k) (a .n) j (a .rest)) (a .n) (l .loop .i) (c .before .before .before .before .loop-test .taken) (λ q. c .if2 .taken (c .before .before .bits-of .ensures ∙ q ∙ sym (c .before .expected-bits .ensures)))
-
-add-i : tie.Need-add-i Inv-loop μ-loop
-add-i c = omega arith
-
-loop-less : tie.Need-loop-less Inv-loop μ-loop
-loop-less c = omega arith
+    same-not _ (λ j. bitsOf (getD (a .l .now) j nan)) (λ j. expectedBitsOf (a .b .now) (a .k) (a .n) j (a .rest)) (a .n) (l .loop .i)
+    (c .before .before .before .before .loop-test .taken) (λ q. c .if2 .taken (c .before .before .bits-of .ensures ∙ q ∙ sym (c .before .expected-bits .ensures)))
 
 loop-again : tie.Need-loop-again Inv-loop μ-loop
 loop-again c =
     let l = c .before .before .before .before .before in
-    let a = l .before .before .before .before .args in
-    (omega arith, same-next (length (a .l .now)) (λ j. bitsOf (getD (a .l .now) j nan)) (λ j. expectedBitsOf (a .b .now) (a .k) (a .n) j (a .rest)) (a .n) (l .loop .i) (l .loop .inv .1) (sym (c .before .before .bits-of .ensures) ∙ c .if2 .left ∙ c .before .expected-bits .ensures))
+    let a = l .before .before .before .before .args in (
+      omega arith,
+      same-next (length (a .l .now)) (λ j. bitsOf (getD (a .l .now) j nan)) (λ j. expectedBitsOf (a .b .now) (a .k) (a .n) j (a .rest))
+          (a .n) (l .loop .i) (l .loop .inv .1) (sym (c .before .before .bits-of .ensures) ∙ c .if2 .left ∙ c .before .expected-bits .ensures),
+    )
 
 returns-3 : tie.Need-returns-3 Inv-loop μ-loop
 returns-3 c =
@@ -59,17 +45,5 @@ returns-3 c =
 pub holds-floats-spec : {M : Type 1} → statement M
 holds-floats-spec =
     tie.close
-    (tie.spec
-    Inv-loop
-    μ-loop
-    returns
-    loop-holds
-    mul-bits-of
-    shared-slice-read-bits-of
-    bits-of-requires
-    expected-bits-requires
-    returns-2
-    add-i
-    loop-less
-    loop-again
-    returns-3)
+    (tie.spec Inv-loop μ-loop returns loop-holds (λ c. omega arith) (λ c. omega arith) (λ c κs. omega arith)
+    (λ c κs. omega arith) returns-2 (λ c. omega arith) (λ c. omega arith) loop-again returns-3)
