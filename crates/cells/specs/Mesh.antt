@@ -8,8 +8,8 @@ use lib.ListN.{length, take, drop, length-append}
 use lib.Seq.{sets, take-append-seam}
 use Rattle.laws.specs.Stores.{sets-all}
 use Rattle.form.specs.Form.{Clip, box, unclipped, Mesh, Fits, isUnclipped, numbers, clipFloats, siteFloats, triangleSites, trianglePairs}
-use Rattle.form.specs.Holds.{Room}
-use Rattle.form.specs.declared.Form.the-variants.{Sound}
+use Rattle.form_step.specs.Holds.{Room}
+use Rattle.form_step.specs.declared.Form.the-variants.{Sound}
 use Rattle.cells.specs.Printed.{ByClip, OfMesh}
 use Rattle.cells.specs.Shown.{ByMode, ByForm}
 

@@ -12,11 +12,11 @@ use Rattle.definition.specs.declared.Fault.{Fault}
 use Rattle.definition.specs.Fault.{Outcome}
 use Rattle.definition.specs.Build.{Built}
 use Rattle.form.specs.Form.{Mesh, Fits, formOf}
-use Rattle.form.specs.Reader.{answer, start, lent, takes, Lent}
-use Rattle.form.specs.Holds.{Room}
-use Rattle.form.specs.MeshLaws.{Whole, complete}
-use Rattle.form.specs.declared.Form.{Form}
-use Rattle.form.specs.declared.Form.the-variants.{Sound, Broken}
+use Rattle.form_step.specs.Reader.{answer, start, lent, takes, Lent}
+use Rattle.form_step.specs.Holds.{Room}
+use Rattle.form.specs.laws.Mesh.{Whole, complete}
+use Rattle.form_step.specs.declared.Form.{Form}
+use Rattle.form_step.specs.declared.Form.the-variants.{Sound, Broken}
 use Rattle.listing.specs.Listing.{refusal}
 use Rattle.cells.specs.Printed.{Shows, early, late, built, OfMesh, Prints, sound, broken}
 use Rattle.cells.specs.Shown.{ByForm}

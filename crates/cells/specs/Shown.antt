@@ -8,8 +8,8 @@ use lib.Ieee.{Float, nan}
 use lib.ListN.{getD, take}
 use Rattle.laws.specs.Pick.{pick}
 use Rattle.utils.specs.Plane.{at}
-use Rattle.form.specs.declared.Form.{Form}
-use Rattle.form.specs.declared.Form.the-variants.{Sound, Broken}
+use Rattle.form_step.specs.declared.Form.{Form}
+use Rattle.form_step.specs.declared.Form.the-variants.{Sound, Broken}
 use Rattle.listing.specs.Listing.{unclippedListing, listing, refusal, Layout}
 use Rattle.cells.specs.Printed.{InBox, WithoutBox}
 

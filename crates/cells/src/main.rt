@@ -1,5 +1,5 @@
 // Reads a mesh's form on standard input and prints the listing of its cells, or `refused N`.
-use form::Form;
+use form_step::Form;
 use libc::STDIN_FILENO;
 use libc::STDOUT_FILENO;
 use voronoi::builds::voronoi_build;
@@ -9,7 +9,7 @@ ghost use Prim.Native.Nat.{_<_, _≤_};
 ghost use lib.Ieee.{nan};
 ghost use lib.ListN.{length, getD, take};
 ghost use Rattle.utils.specs.Plane.{at};
-ghost use Rattle.form.specs.Holds.{Room, Few};
+ghost use Rattle.form_step.specs.Holds.{Room, Few};
 ghost use Rattle.cells.specs.Printed.{InBox, WithoutBox, Prints};
 ghost use Rattle.cells.specs.Shown.{Sized, Laid, Holds, shown, boxLines, unclippedLines, ByMode, ByForm};
 

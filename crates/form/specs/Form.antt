@@ -5,7 +5,7 @@ use mathlib.Core.Path.{_≡_}
 use Prim.Native.Nat.{ℕ, _^_, _≤_, _<_}
 use lib.Ieee.{Float, binary64, ofBits}
 use lib.ListN.{length}
-use Rattle.form.specs.Bytes.{le}
+use Rattle.form_step.specs.Bytes.{le}
 
 -- floats are given by their patterns
 pub data Clip : Type 0 where

@@ -12,15 +12,15 @@ use lib.Seq.{take-take, take-length}
 use borrow.Author.Tests.{eqb-false, lt-ltb}
 use Rattle.laws.specs.Decide.{eq-or-ne}
 use Rattle.laws.specs.Pick.{pick}
-use Rattle.form.specs.Bytes.{Bytes}
+use Rattle.form_step.specs.Bytes.{Bytes}
 use Rattle.form.specs.Form.{IsForm}
-use Rattle.form.specs.Reader.{sizeOf, opens, roomFor, follows, start, refused, begun, inside, outside, step, steps, answer}
-use Rattle.form.specs.StepLaws.{Kind, site, triangle, hull, end, follows-cases, step-outside}
-use Rattle.form.specs.RunLaws.{kind-follows}
-use Rattle.form.specs.CutLaws.{Ended, bytes-take, steps-append, steps-broken, true-false, partway}
-use Rattle.form.specs.Exact.{sound-broken, accepts, only-forms}
-use Rattle.form.specs.declared.Reader.{Reader}
-use Rattle.form.specs.declared.Form.the-variants.{Sound, Broken}
+use Rattle.form_step.specs.Reader.{sizeOf, opens, roomFor, follows, start, refused, begun, inside, outside, step, steps, answer}
+use Rattle.form_step.specs.laws.Steps.{Kind, site, triangle, hull, end, follows-cases, step-outside}
+use Rattle.form.specs.laws.Run.{kind-follows}
+use Rattle.form.specs.laws.Cut.{Ended, bytes-take, steps-append, steps-broken, true-false, partway}
+use Rattle.form.specs.laws.Exact.{sound-broken, accepts, only-forms}
+use Rattle.form_step.specs.declared.Reader.{Reader}
+use Rattle.form_step.specs.declared.Form.the-variants.{Sound, Broken}
 
 -- some sound form begins so
 pub record Begins (s : List ℕ) : Type 0 where

@@ -6,16 +6,16 @@ use Prim.Native.Nat.{ℕ}
 use lib.Ieee.{Float}
 use lib.ListN.{length}
 use lib.Seq.{sets}
-use Rattle.form.specs.Bytes.{Bytes}
+use Rattle.form_step.specs.Bytes.{Bytes}
 use Rattle.form.specs.Form.{Mesh, Fits, IsForm, formOf, isUnclipped, numbers, clipFloats, siteFloats, triangleSites, trianglePairs}
-use Rattle.form.specs.Reader.{start, steps, answer, Lent, lent, takes}
-use Rattle.form.specs.Holds.{Reads}
-use Rattle.form.specs.RunLaws.{takes-reader}
-use Rattle.form.specs.MeshLaws.{Whole, complete}
-use Rattle.form.specs.Exact.{sound-broken, ended-of, answer-ended, accepts, only-forms}
+use Rattle.form_step.specs.Reader.{start, steps, answer, Lent, lent, takes}
+use Rattle.form_step.specs.Holds.{Reads}
+use Rattle.form.specs.laws.Run.{takes-reader}
+use Rattle.form.specs.laws.Mesh.{Whole, complete}
+use Rattle.form.specs.laws.Exact.{sound-broken, ended-of, answer-ended, accepts, only-forms}
 use Rattle.form.specs.Place.{Place, refused-at}
-use Rattle.form.specs.declared.Form.{Form}
-use Rattle.form.specs.declared.Form.the-variants.{Sound, Broken}
+use Rattle.form_step.specs.declared.Form.{Form}
+use Rattle.form_step.specs.declared.Form.the-variants.{Sound, Broken}
 
 -- 01's number of an answer
 abbrev pub number : Form → ℕ

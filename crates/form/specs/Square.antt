@@ -7,9 +7,9 @@ use lib.Ieee.{Float, binary64, ofBits}
 use lib.ListN.{length, replicate}
 use Rattle.laws.specs.Binary64.{zero, two}
 use Rattle.form.specs.Form.{Mesh, box, formOf}
-use Rattle.form.specs.Reader.{sizeOf, opens, roomFor, follows, start, begun, tally, inside, outside, step, within, putFloat, putLink, boundsBy}
-use Rattle.form.specs.Reader.{sitesBy, trianglesBy, halfedgesBy, hullBy, Lent, lent, take, takes, answer}
-use Rattle.form.specs.declared.Form.the-variants.{Sound}
+use Rattle.form_step.specs.Reader.{sizeOf, opens, roomFor, follows, start, begun, tally, inside, outside, step, within, putFloat, putLink, boundsBy}
+use Rattle.form_step.specs.Reader.{sitesBy, trianglesBy, halfedgesBy, hullBy, Lent, lent, take, takes, answer}
+use Rattle.form_step.specs.declared.Form.the-variants.{Sound}
 
 unfoldable pub squareBytes : List ℕ
 squareBytes =

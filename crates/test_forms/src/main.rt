@@ -1,5 +1,5 @@
 // Prints what the form's reader says of each case on standard input, which is two bytes of length and as many bytes.
-use form::Form;
+use form_step::Form;
 use libc::STDIN_FILENO;
 use libc::STDOUT_FILENO;
 ghost use Prim.Native.Nat.{_<_};

@@ -5,11 +5,11 @@ use mathlib.Core.Logic.{⊎-elim}
 use Prim.Native.Nat.{ℕ, suc, _<_}
 use lib.Ieee.{Float}
 use lib.ListN.{getD}
-use Rattle.form.specs.Bytes.{Bytes}
-use Rattle.form.specs.Reader.{start, lent}
-use Rattle.form.specs.Holds.{Room, Reads}
+use Rattle.form_step.specs.Bytes.{Bytes}
+use Rattle.form_step.specs.Reader.{start, lent}
+use Rattle.form_step.specs.Holds.{Room, Reads}
 use Rattle.form.specs.Promise.{Accepted, Refused, exact}
-use Rattle.form.specs.declared.Form.{Form}
+use Rattle.form_step.specs.declared.Form.{Form}
 use Rattle.listing.specs.Listing.{refusal}
 use Rattle.cells.specs.Printed.{Prints, sound, broken}
 use Rattle.cells.specs.Shown.{ByForm}

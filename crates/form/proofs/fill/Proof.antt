@@ -5,9 +5,9 @@ use native.Mathlib.Omega.{arith}
 use denote.Ref.{now}
 use lib.Dec.{ltb}
 use Rattle.laws.specs.Pick.{pick}
-use Rattle.form.specs.Bytes.{shift}
-use Rattle.form.specs.Reader.{lent, putFloat, putLink}
-use Rattle.form.specs.FillLaws.{fill-box, fill-site, fill-triangle, fill-hull, fill-none}
+use Rattle.form_step.specs.Bytes.{shift}
+use Rattle.form_step.specs.Reader.{lent, putFloat, putLink}
+use Rattle.form.specs.laws.Fill.{fill-box, fill-site, fill-triangle, fill-hull, fill-none}
 use borrow.Author.Needs.{needs}
 use Rattle.form.proofs.fill.Statement.{statement}
 use Rattle.form.proofs.fill.Tie as tie

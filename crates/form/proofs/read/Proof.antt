@@ -1,8 +1,8 @@
 -- `form::read` meets its contract: it is `feed` from the start, and `finish`.
 use native.Mathlib.Omega.{arith}
 use denote.Ref.{now}
-use Rattle.form.specs.StepLaws.{ok-start}
-use Rattle.form.specs.FeedLaws.{reads-all}
+use Rattle.form_step.specs.laws.Steps.{ok-start}
+use Rattle.form.specs.laws.Feed.{reads-all}
 use borrow.Author.Needs.{needs}
 use Rattle.form.proofs.read.Statement.{statement}
 use Rattle.form.proofs.read.Tie as tie
