@@ -14,7 +14,7 @@ use Rattle.listing.specs.Listing.{unclippedListing, listing, refusal, Layout}
 use Rattle.cells.specs.Printed.{InBox, WithoutBox}
 
 -- the lists of a form, and room for its text
-pub record Sized (coordinates entries hull space : ℕ) : Type 0 where
+pub record SheetSized (coordinates entries hull space : ℕ) : Type 0 where
   pub few-sites : coordinates ≤ 192
   pub few-triangles : entries ≤ 576
   pub few-on-hull : hull ≤ 96
@@ -39,7 +39,7 @@ abbrev pub shown : List ℕ → ℕ → List ℕ
 shown text r = pick (eqb r 0) (λ _. text) (λ _. refusal r)
 
 -- the first r bytes of a slice of this length are the text
-pub record Holds (text out : List ℕ) (space r : ℕ) : Type 0 where
+pub record ShownIn (text out : List ℕ) (space r : ℕ) : Type 0 where
   pub first : take r out ≡ text
   pub within : r ≤ space
 

@@ -1,6 +1,7 @@
 -- Laws that only proofs use.
-pub mod Answered
-pub mod Forming
-pub mod Laying
-pub mod Showing
-pub mod Whole
+pub mod BuildText
+pub mod CellsInIndexes
+pub mod FormLists
+pub mod ReadForm
+pub mod TextRoom
+pub mod WholeBuild

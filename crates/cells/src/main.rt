@@ -9,9 +9,9 @@ ghost use Prim.Native.Nat.{_<_, _≤_};
 ghost use lib.Ieee.{nan};
 ghost use lib.ListN.{length, getD, take};
 ghost use Rattle.utils.specs.Plane.{at};
-ghost use Rattle.form_step.specs.Holds.{Room, Few};
+ghost use Rattle.form_step.specs.Holds.{ListRoom, Few};
 ghost use Rattle.cells.specs.Printed.{InBox, WithoutBox, Prints};
-ghost use Rattle.cells.specs.Shown.{Sized, Laid, Holds, shown, boxLines, unclippedLines, ByMode, ByForm};
+ghost use Rattle.cells.specs.Shown.{SheetSized, Laid, ShownIn, shown, boxLines, unclippedLines, ByMode, ByForm};
 
 fn narrow(n: usize) -> u32
     requires { ⌜ n < 4294967296 ⌝ }
@@ -31,7 +31,7 @@ fn show_in_box(
     counts: &[u32],
 ) -> usize
     requires { ⌜ (number ≡ 0 → Laid sites (now offsets) (now indexes) (length (now out))) × (6 ≤ length (now counts)) × (65536 ≤ length (now out)) ⌝ }
-    ensures { λ r. ⌜ Holds (shown (boxLines sites triangles (now (offsets .entry)) (now (indexes .entry)) (now (counts .entry))) number) (now (out .exit)) (length (now (out .entry))) r ⌝ }
+    ensures { λ r. ⌜ ShownIn (shown (boxLines sites triangles (now (offsets .entry)) (now (indexes .entry)) (now (counts .entry))) number) (now (out .exit)) (length (now (out .entry))) r ⌝ }
 {
     if number != 0 {
         return listing::refusal(out, number);
@@ -59,7 +59,7 @@ fn show_without_box(
     counts: &[u32],
 ) -> usize
     requires { ⌜ (number ≡ 0 → Laid sites (now offsets) (now indexes) (length (now out))) × (6 ≤ length (now counts)) × (65536 ≤ length (now out)) ⌝ }
-    ensures { λ r. ⌜ Holds (shown (unclippedLines sites triangles (now (offsets .entry)) (now (indexes .entry)) (now (counts .entry))) number) (now (out .exit)) (length (now (out .entry))) r ⌝ }
+    ensures { λ r. ⌜ ShownIn (shown (unclippedLines sites triangles (now (offsets .entry)) (now (indexes .entry)) (now (counts .entry))) number) (now (out .exit)) (length (now (out .entry))) r ⌝ }
 {
     if number != 0 {
         return listing::refusal(out, number);
@@ -75,7 +75,7 @@ fn in_box(
     halfedges: &[u32],
     hull: &[u32],
 ) -> usize
-    requires { ⌜ Sized (length (now sites)) (length (now triangles)) (length (now hull)) (length (now out)) ⌝ }
+    requires { ⌜ SheetSized (length (now sites)) (length (now triangles)) (length (now hull)) (length (now out)) ⌝ }
     ensures { λ r. ⌜ InBox (now (sites .entry)) (now (triangles .entry)) (now (halfedges .entry)) (now (hull .entry))
         (at (getD bounds 0 nan) (getD bounds 1 nan)) (getD bounds 2 nan) (getD bounds 3 nan) (take r (now (out .exit))) × (r ≤ length (now (out .entry))) ⌝ }
 {
@@ -111,7 +111,7 @@ fn without_box(
     halfedges: &[u32],
     hull: &[u32],
 ) -> usize
-    requires { ⌜ Sized (length (now sites)) (length (now triangles)) (length (now hull)) (length (now out)) ⌝ }
+    requires { ⌜ SheetSized (length (now sites)) (length (now triangles)) (length (now hull)) (length (now out)) ⌝ }
     ensures { λ r. ⌜ WithoutBox (now (sites .entry)) (now (triangles .entry)) (now (halfedges .entry)) (now (hull .entry)) (take r (now (out .exit))) × (r ≤ length (now (out .entry))) ⌝ }
 {
     let mut work = [0u32; 96];
@@ -144,7 +144,7 @@ fn of_mesh(
     halfedges: &[u32],
     hull: &[u32],
 ) -> usize
-    requires { ⌜ Sized (length (now sites)) (length (now triangles)) (length (now hull)) (length (now out)) ⌝ }
+    requires { ⌜ SheetSized (length (now sites)) (length (now triangles)) (length (now hull)) (length (now out)) ⌝ }
     ensures { λ r. ⌜ ByMode unclipped bounds (now (sites .entry)) (now (triangles .entry)) (now (halfedges .entry)) (now (hull .entry))
         (take r (now (out .exit))) × (r ≤ length (now (out .entry))) ⌝ }
 {
@@ -164,7 +164,7 @@ fn of_form(
     halfedges: &[u32],
     hull: &[u32],
 ) -> usize
-    requires { ⌜ Room bounds (now sites) (now triangles) (now halfedges) (now hull) × Few form × (65536 ≤ length (now out)) ⌝ }
+    requires { ⌜ ListRoom bounds (now sites) (now triangles) (now halfedges) (now hull) × Few form × (65536 ≤ length (now out)) ⌝ }
     ensures { λ r. ⌜ ByForm form bounds (now (sites .entry)) (now (triangles .entry)) (now (halfedges .entry)) (now (hull .entry))
         (take r (now (out .exit))) × (r ≤ length (now (out .entry))) ⌝ }
 {

@@ -7,3 +7,4 @@ pub mod Mesh
 pub mod Cut
 pub mod Tail
 pub mod Exact
+pub mod Place

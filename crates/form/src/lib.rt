@@ -13,8 +13,8 @@ ghost use mathlib.Core.Bool.{false};
 ghost use lib.Dec.{ltb};
 ghost use lib.ListN.{length};
 ghost use Rattle.laws.specs.Pick.{pick};
-ghost use Rattle.form_step.specs.Reader.{start, putFloat, putLink, lent, filled, take, takes};
-ghost use Rattle.form_step.specs.Holds.{Ok, Room, Reads};
+ghost use Rattle.form_step.specs.Reader.{start, putFloat, putLink, reading, filledBy, take, takes};
+ghost use Rattle.form_step.specs.Holds.{Ok, ListRoom, Reads};
 
 const INFINITY: u64 = 0x7FF0_0000_0000_0000;
 
@@ -75,8 +75,8 @@ fn fill(
     halfedges: &mut [u32],
     hull: &mut [u32],
 )
-    requires { ⌜ (Ok r) × (r .broken ≡ false) × (0 < r .left) × (Room (now bounds) (now sites) (now triangles) (now halfedges) (now hull)) ⌝ }
-    ensures { λ _. ⌜ lent r (now (bounds .exit)) (now (sites .exit)) (now (triangles .exit)) (now (halfedges .exit)) (now (hull .exit)) ≡ filled r b
+    requires { ⌜ (Ok r) × (r .broken ≡ false) × (0 < r .left) × (ListRoom (now bounds) (now sites) (now triangles) (now halfedges) (now hull)) ⌝ }
+    ensures { λ _. ⌜ reading r (now (bounds .exit)) (now (sites .exit)) (now (triangles .exit)) (now (halfedges .exit)) (now (hull .exit)) ≡ filledBy r b
         (now (bounds .entry)) (now (sites .entry)) (now (triangles .entry)) (now (halfedges .entry)) (now (hull .entry)) ⌝ }
 {
     let left = r.left - 1;
@@ -108,9 +108,9 @@ pub fn take(
     halfedges: &mut [u32],
     hull: &mut [u32],
 ) -> Reader
-    requires { ⌜ (Ok r) × (r .at + 1 < 2 ^ 64) × (Room (now bounds) (now sites) (now triangles) (now halfedges) (now hull)) ⌝ }
-    ensures all { λ n. ⌜ lent n (now (bounds .exit)) (now (sites .exit)) (now (triangles .exit)) (now (halfedges .exit)) (now (hull .exit)) ≡ take
-        (lent r (now (bounds .entry)) (now (sites .entry)) (now (triangles .entry)) (now (halfedges .entry)) (now (hull .entry))) b ⌝ }
+    requires { ⌜ (Ok r) × (r .at + 1 < 2 ^ 64) × (ListRoom (now bounds) (now sites) (now triangles) (now halfedges) (now hull)) ⌝ }
+    ensures all { λ n. ⌜ reading n (now (bounds .exit)) (now (sites .exit)) (now (triangles .exit)) (now (halfedges .exit)) (now (hull .exit)) ≡ take
+        (reading r (now (bounds .entry)) (now (sites .entry)) (now (triangles .entry)) (now (halfedges .entry)) (now (hull .entry))) b ⌝ }
 {
     if r.broken {
         return r;
@@ -132,9 +132,9 @@ pub fn feed(
     halfedges: &mut [u32],
     hull: &mut [u32],
 ) -> Reader
-    requires { ⌜ (Ok r) × (r .at + length (now bytes) < 2 ^ 64) × (Room (now bounds) (now sites) (now triangles) (now halfedges) (now hull)) ⌝ }
-    ensures all { λ n. ⌜ lent n (now (bounds .exit)) (now (sites .exit)) (now (triangles .exit)) (now (halfedges .exit)) (now (hull .exit)) ≡ takes
-        (lent r (now (bounds .entry)) (now (sites .entry)) (now (triangles .entry)) (now (halfedges .entry)) (now (hull .entry))) (now (bytes .entry)) ⌝ }
+    requires { ⌜ (Ok r) × (r .at + length (now bytes) < 2 ^ 64) × (ListRoom (now bounds) (now sites) (now triangles) (now halfedges) (now hull)) ⌝ }
+    ensures all { λ n. ⌜ reading n (now (bounds .exit)) (now (sites .exit)) (now (triangles .exit)) (now (halfedges .exit)) (now (hull .exit)) ≡ takes
+        (reading r (now (bounds .entry)) (now (sites .entry)) (now (triangles .entry)) (now (halfedges .entry)) (now (hull .entry))) (now (bytes .entry)) ⌝ }
     ensures ok { λ n. ⌜ Ok n ⌝ }
 {
     let mut n = r;
@@ -155,8 +155,8 @@ pub fn read(
     halfedges: &mut [u32],
     hull: &mut [u32],
 ) -> Form
-    requires { ⌜ Room (now bounds) (now sites) (now triangles) (now halfedges) (now hull) ⌝ }
-    ensures { λ a. ⌜ Reads (now (bytes .entry)) (lent start (now (bounds .entry)) (now (sites .entry)) (now (triangles .entry))
+    requires { ⌜ ListRoom (now bounds) (now sites) (now triangles) (now halfedges) (now hull) ⌝ }
+    ensures { λ a. ⌜ Reads (now (bytes .entry)) (reading start (now (bounds .entry)) (now (sites .entry)) (now (triangles .entry))
         (now (halfedges .entry)) (now (hull .entry))) a (now (bounds .exit)) (now (sites .exit)) (now (triangles .exit)) (now (halfedges .exit)) (now (hull .exit)) ⌝ }
 {
     let r = feed(start(), bytes, bounds, sites, triangles, halfedges, hull);

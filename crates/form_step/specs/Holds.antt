@@ -4,7 +4,7 @@ use mathlib.Core.Path.{_≡_}
 use Prim.Native.Nat.{ℕ, _≤_, _<_}
 use lib.Ieee.{Float}
 use lib.ListN.{length}
-use Rattle.form_step.specs.Reader.{Lent, takes, answer}
+use Rattle.form_step.specs.Reader.{Reading, takes, verdict}
 use Rattle.form_step.specs.declared.Reader.{Reader}
 use Rattle.form_step.specs.declared.Form.{Form}
 use Rattle.form_step.specs.declared.Form.the-variants.{Sound, Broken}
@@ -19,7 +19,7 @@ pub record Ok (r : Reader) : Type 0 where
   pub in-triangle : r .stage ≡ 3 → 0 < r .left → (r .left ≤ 24) × (r .triangles < 192)
   pub in-hull : r .stage ≡ 4 → 0 < r .left → (r .left ≤ 4) × (r .hull < 96)
 
-pub record Room (bs ss : List Float) (ts es hs : List ℕ) : Type 0 where
+pub record ListRoom (bs ss : List Float) (ts es hs : List ℕ) : Type 0 where
   pub bounds : 4 ≤ length bs
   pub sites : 192 ≤ length ss
   pub triangles : 576 ≤ length ts
@@ -32,8 +32,8 @@ Few (Sound ss ts hs u) = (ss ≤ 96) × (ts ≤ 192) × (hs ≤ 96)
 Few (Broken k) = Unit {0}
 
 -- `read`'s promise: its answer, and each list as the whole form leaves it
-pub record Reads (s : List ℕ) (d : Lent) (a : Form) (bs ss : List Float) (ts es hs : List ℕ) : Type 0 where
-  pub answer : a ≡ answer (takes d s .reader)
+pub record Reads (s : List ℕ) (d : Reading) (a : Form) (bs ss : List Float) (ts es hs : List ℕ) : Type 0 where
+  pub answer : a ≡ verdict (takes d s .reader)
   pub bounds : bs ≡ takes d s .bounds
   pub sites : ss ≡ takes d s .sites
   pub triangles : ts ≡ takes d s .triangles

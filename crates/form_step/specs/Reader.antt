@@ -26,8 +26,8 @@ unfoldable pub opens : ℕ → Bool
 opens k = pick (eqb k 1) (λ _. true) (λ _. eqb k 6)
 
 -- after that: sites, triangles, hull sites within their limits, and one end
-unfoldable pub roomFor : Reader → ℕ → Bool
-roomFor r k =
+unfoldable pub roomLeft : Reader → ℕ → Bool
+roomLeft r k =
     pick (eqb k 2) (λ _. ltb (r .sites) 96)
     (λ _. pick (eqb k 3) (λ _. ltb (r .triangles) 192)
     (λ _. pick (eqb k 4) (λ _. ltb (r .hull) 96)
@@ -37,7 +37,7 @@ roomFor r k =
 unfoldable pub follows : Reader → ℕ → Bool
 follows r k =
     pick (eqb (r .stage) 0) (λ _. opens k)
-    (λ _. pick (ltb k (r .stage)) (λ _. false) (λ _. roomFor r k))
+    (λ _. pick (ltb k (r .stage)) (λ _. false) (λ _. roomLeft r k))
 
 -- ---- the state
 
@@ -113,8 +113,8 @@ steps r [] = r
 steps r (b ∷ s) = steps (step r b) s
 
 -- a form that has not ended is refused at its length
-unfoldable pub answer : Reader → Form
-answer r =
+unfoldable pub verdict : Reader → Form
+verdict r =
     pick (r .broken) (λ _. Broken (r .at))
     (λ _. pick (eqb (r .stage) 5) (λ _. Sound (r .sites) (r .triangles) (r .hull) (r .unclipped)) (λ _. Broken (r .at)))
 
@@ -155,7 +155,7 @@ unfoldable pub hullBy : Reader → ℕ → List ℕ → List ℕ
 hullBy r b l = pick (within r 4) (λ _. putLink l (r .hull) (r .left - 1) (shift (r .word) b)) (λ _. l)
 
 -- the state with the lists
-pub record Lent : Type 0 where
+pub record Reading : Type 0 where
   pub reader : Reader
   pub bounds : List Float
   pub sites : List Float
@@ -163,8 +163,8 @@ pub record Lent : Type 0 where
   pub halfedges : List ℕ
   pub hull : List ℕ
 
-abbrev pub lent : Reader → List Float → List Float → List ℕ → List ℕ → List ℕ → Lent
-lent r bs ss ts es hs =
+abbrev pub reading : Reader → List Float → List Float → List ℕ → List ℕ → List ℕ → Reading
+reading r bs ss ts es hs =
     record {
       reader = r;
       bounds = bs;
@@ -175,14 +175,14 @@ lent r bs ss ts es hs =
     }
 
 -- the lists alone
-abbrev pub filled : Reader → ℕ → List Float → List Float → List ℕ → List ℕ → List ℕ → Lent
-filled r b bs ss ts es hs = lent r (boundsBy r b bs) (sitesBy r b ss) (trianglesBy r b ts) (halfedgesBy r b es) (hullBy r b hs)
+abbrev pub filledBy : Reader → ℕ → List Float → List Float → List ℕ → List ℕ → List ℕ → Reading
+filledBy r b bs ss ts es hs = reading r (boundsBy r b bs) (sitesBy r b ss) (trianglesBy r b ts) (halfedgesBy r b es) (hullBy r b hs)
 
-unfoldable pub take : Lent → ℕ → Lent
+unfoldable pub take : Reading → ℕ → Reading
 take d b =
     let r = d .reader in
-    lent (step r b) (boundsBy r b (d .bounds)) (sitesBy r b (d .sites)) (trianglesBy r b (d .triangles)) (halfedgesBy r b (d .halfedges)) (hullBy r b (d .hull))
+    reading (step r b) (boundsBy r b (d .bounds)) (sitesBy r b (d .sites)) (trianglesBy r b (d .triangles)) (halfedgesBy r b (d .halfedges)) (hullBy r b (d .hull))
 
-unfoldable pub takes : Lent → List ℕ → Lent
+unfoldable pub takes : Reading → List ℕ → Reading
 takes d [] = d
 takes d (b ∷ s) = takes (take d b) s

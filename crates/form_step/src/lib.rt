@@ -3,7 +3,7 @@ ghost use mathlib.Core.Path.{_≡_};
 ghost use Prim.Native.Nat.{_+_, _*_, _^_, _<_};
 ghost use mathlib.Core.Bool.{false};
 ghost use Rattle.form_step.specs.Bytes.{shift};
-ghost use Rattle.form_step.specs.Reader.{sizeOf, opens, roomFor, follows, start, refused, begun, tally, inside, outside, answer};
+ghost use Rattle.form_step.specs.Reader.{sizeOf, opens, roomLeft, follows, start, refused, begun, tally, inside, outside, verdict};
 ghost use Rattle.form_step.specs.Holds.{Ok};
 
 const TOP_BYTE: u64 = 0x100_0000_0000_0000;
@@ -67,7 +67,7 @@ fn opens(kind: u8) -> bool
 }
 
 fn room_for(r: Reader, kind: u8) -> bool
-    ensures { λ a. ⌜ a ≡ roomFor r kind ⌝ }
+    ensures { λ a. ⌜ a ≡ roomLeft r kind ⌝ }
 {
     if kind == 2 {
         return r.sites < 96;
@@ -186,7 +186,7 @@ pub fn inside(r: Reader, b: u8) -> Reader
 
 // What the bytes taken so far are if no more come.
 pub fn finish(r: Reader) -> Form
-    ensures { λ a. ⌜ a ≡ answer r ⌝ }
+    ensures { λ a. ⌜ a ≡ verdict r ⌝ }
 {
     if r.broken {
         return Form::Broken { at: r.at };

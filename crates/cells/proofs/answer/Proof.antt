@@ -1,6 +1,6 @@
 -- `cells::answer` prints what is promised: the form was read, and its answer tells what its bytes are.
 use native.Mathlib.Omega.{arith}
-use Rattle.cells.specs.laws.Forming.{bytes, printed}
+use Rattle.cells.specs.laws.ReadForm.{bytes, printed}
 use borrow.Author.Needs.{needs}
 use Rattle.cells.proofs.answer.Statement.{statement}
 use Rattle.cells.proofs.answer.Tie as tie

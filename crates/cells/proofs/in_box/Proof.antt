@@ -1,7 +1,7 @@
 -- `cells::in_box`: the build has room, so its answer is by the other rules alone, and its slices hold what the listing goes by.
 use native.Mathlib.Omega.{arith}
 use mathlib.Core.Path.{refl}
-use Rattle.cells.specs.laws.Answered.{laid-in-box, text-in-box}
+use Rattle.cells.specs.laws.BuildText.{laid-in-box, text-in-box}
 use borrow.Author.Needs.{needs}
 use Rattle.cells.proofs.in_box.Statement.{statement}
 use Rattle.cells.proofs.in_box.Tie as tie

@@ -3,8 +3,8 @@ use mathlib.Core.Path.{sym}
 use native.Mathlib.Omega.{arith}
 use lib.Seq.{length-take-le}
 use lib.ListN.{length-take}
-use Rattle.listing.specs.ListingLaws.{refusal-short}
-use Rattle.cells.specs.laws.Showing.{line-held}
+use Rattle.listing.specs.laws.Listing.{refusal-short}
+use Rattle.cells.specs.laws.TextRoom.{line-held}
 use borrow.Author.Needs.{needs}
 use Rattle.cells.proofs.of_form.Statement.{statement}
 use Rattle.cells.proofs.of_form.Tie as tie

@@ -1,7 +1,7 @@
 -- `cells::show_in_box` puts its text at the beginning of the output: there is room for a refusal, and for the listing of cells that are laid out.
 use native.Mathlib.Omega.{arith}
-use Rattle.listing.specs.ListingLaws.{refusal-short}
-use Rattle.cells.specs.laws.Showing.{refusal-held, listing-held, box-fits}
+use Rattle.listing.specs.laws.Listing.{refusal-short}
+use Rattle.cells.specs.laws.TextRoom.{refusal-held, listing-held, box-fits}
 use borrow.Author.Needs.{needs}
 use Rattle.cells.proofs.show_in_box.Statement.{statement}
 use Rattle.cells.proofs.show_in_box.Tie as tie

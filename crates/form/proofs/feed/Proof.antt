@@ -3,14 +3,14 @@ use Prim.Native.Nat.{_-_}
 use native.Mathlib.Omega.{arith}
 use lib.ListN.{length}
 use denote.Ref.{now}
-use Rattle.form_step.specs.Reader.{lent}
+use Rattle.form_step.specs.Reader.{reading}
 use Rattle.form.specs.laws.Feed.{Feeding, feeding-start, feeding-step, feeding-end, room-same}
 use Rattle.form.proofs.feed.Statement.{statement}
 use Rattle.form.proofs.feed.Tie as tie
 
 abbrev Inv-loop : tie.InvT-loop
 Inv-loop bytes bounds₀ sites₀ triangles₀ halfedges₀ hull₀ n₀ i₀ bounds sites triangles halfedges hull n i =
-    Feeding bytes (lent n₀ bounds₀ sites₀ triangles₀ halfedges₀ hull₀) (lent n bounds sites triangles halfedges hull) i
+    Feeding bytes (reading n₀ bounds₀ sites₀ triangles₀ halfedges₀ hull₀) (reading n bounds sites triangles halfedges hull) i
 
 abbrev μ-loop : tie.MeasureT-loop
 μ-loop bytes bounds₀ sites₀ triangles₀ halfedges₀ hull₀ n₀ i₀ bounds sites triangles halfedges hull n i =
@@ -19,7 +19,7 @@ abbrev μ-loop : tie.MeasureT-loop
 loop-holds : tie.Need-loop-holds Inv-loop μ-loop
 loop-holds c = let s = c .before .before .before .before .before .before in
     let a = s .args in
-    feeding-start (now (a .bytes)) (lent (a .r) (now (a .bounds)) (now (a .sites)) (now (a .triangles)) (now (a .halfedges)) (now (a .hull))) (s .pre .0) (s .pre .1)
+    feeding-start (now (a .bytes)) (reading (a .r) (now (a .bounds)) (now (a .sites)) (now (a .triangles)) (now (a .halfedges)) (now (a .hull))) (s .pre .0) (s .pre .1)
 
 take-requires : tie.Need-take-requires Inv-loop μ-loop
 take-requires c κs = let l = c .before .before .before .before .before .before .before in

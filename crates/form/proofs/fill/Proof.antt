@@ -6,7 +6,7 @@ use denote.Ref.{now}
 use lib.Dec.{ltb}
 use Rattle.laws.specs.Pick.{pick}
 use Rattle.form_step.specs.Bytes.{shift}
-use Rattle.form_step.specs.Reader.{lent, putFloat, putLink}
+use Rattle.form_step.specs.Reader.{reading, putFloat, putLink}
 use Rattle.form.specs.laws.Fill.{fill-box, fill-site, fill-triangle, fill-hull, fill-none}
 use borrow.Author.Needs.{needs}
 use Rattle.form.proofs.fill.Statement.{statement}
@@ -22,7 +22,7 @@ returns : tie.Need-returns
 returns c = let w = c .before .before .before .before .before .before in
     let s = begin w in
     let a = s .args in
-    ap (λ l. lent (a .r) l (now (a .sites)) (now (a .triangles)) (now (a .halfedges)) (now (a .hull)))
+    ap (λ l. reading (a .r) l (now (a .sites)) (now (a .triangles)) (now (a .halfedges)) (now (a .hull)))
     (c .before .before .put-float .ensures ∙ ap (λ v. putFloat (now (a .bounds)) 3 (a .r .left - 1) v) (w .shifted .ensures))
     ∙ fill-box (a .r) (a .b) (now (a .bounds)) (now (a .sites)) (now (a .triangles)) (now (a .halfedges)) (now (a .hull)) (s .pre .1) (s .pre .2) (c .before .before .before .before .if1 .taken)
 
@@ -35,7 +35,7 @@ returns-2 c =
     let w = c .before .before .before .before .before .before .before .before .before in
     let s = begin w in
     let a = s .args in
-    ap (λ l. lent (a .r) (now (a .bounds)) l (now (a .triangles)) (now (a .halfedges)) (now (a .hull)))
+    ap (λ l. reading (a .r) (now (a .bounds)) l (now (a .triangles)) (now (a .halfedges)) (now (a .hull)))
     (c .before .before .put-float2 .ensures ∙ ap (λ v. putFloat (now (a .sites)) (2 * a .r .sites + 1) (a .r .left - 1) v) (w .shifted .ensures))
     ∙ fill-site (a .r) (a .b) (now (a .bounds)) (now (a .sites)) (now (a .triangles)) (now (a .halfedges)) (now (a .hull)) (s .pre .1) (s .pre .2) (at-if2 .if2 .taken)
 
@@ -50,9 +50,9 @@ returns-3 c =
     let s = begin w in
     let a = s .args in
     let e = c .before .before .before .before .put-triangle .ensures in
-    ap (λ l. lent (a .r) (now (a .bounds)) (now (a .sites)) l (c .before .before .before .before .put-triangle .last .1 .0) (now (a .hull)))
+    ap (λ l. reading (a .r) (now (a .bounds)) (now (a .sites)) l (c .before .before .before .before .put-triangle .last .1 .0) (now (a .hull)))
     (e .0 ∙ ap (λ v. pick (ltb (a .r .left - 1) 12) (λ _. now (a .triangles)) (λ _. putLink (now (a .triangles)) (3 * a .r .triangles + 2) (a .r .left - 1 - 12) v)) (w .shifted .ensures))
-    ∙ ap (λ l. lent (a .r) (now (a .bounds)) (now (a .sites))
+    ∙ ap (λ l. reading (a .r) (now (a .bounds)) (now (a .sites))
     (pick (ltb (a .r .left - 1) 12) (λ _. now (a .triangles)) (λ _. putLink (now (a .triangles)) (3 * a .r .triangles + 2) (a .r .left - 1 - 12) (shift (a .r .word) (a .b)))) l (now (a .hull)))
     (e .1 ∙ ap (λ v. pick (ltb (a .r .left - 1) 12) (λ _. putLink (now (a .halfedges)) (3 * a .r .triangles + 2) (a .r .left - 1) v) (λ _. now (a .halfedges))) (w .shifted .ensures))
     ∙ fill-triangle (a .r) (a .b) (now (a .bounds)) (now (a .sites)) (now (a .triangles)) (now (a .halfedges)) (now (a .hull)) (s .pre .1) (s .pre .2) (at-if3 .if3 .taken)
@@ -64,7 +64,7 @@ returns-4 : tie.Need-returns-4
 returns-4 c = let w = c .before .before .before .before .before .before .before .before .before .before .before .before in
     let s = begin w in
     let a = s .args in
-    ap (λ l. lent (a .r) (now (a .bounds)) (now (a .sites)) (now (a .triangles)) (now (a .halfedges)) l)
+    ap (λ l. reading (a .r) (now (a .bounds)) (now (a .sites)) (now (a .triangles)) (now (a .halfedges)) l)
     (c .before .before .put-link .ensures ∙ ap (λ v. putLink (now (a .hull)) (a .r .hull) (a .r .left - 1) v) (w .shifted .ensures))
     ∙ fill-hull (a .r) (a .b) (now (a .bounds)) (now (a .sites)) (now (a .triangles)) (now (a .halfedges)) (now (a .hull)) (s .pre .1) (s .pre .2) (c .before .before .before .before .if4 .taken)
 

@@ -3,7 +3,7 @@ use Rattle.form.specs.laws.Fill.{take-inside}
 use native.Mathlib.Nat.{pos-of-ne-zero}
 use mathlib.Core.Path.{ap, _∙_}
 use denote.Ref.{now}
-use Rattle.form_step.specs.Reader.{lent}
+use Rattle.form_step.specs.Reader.{reading}
 use Rattle.form.specs.laws.Fill.{take-broken, take-outside}
 use borrow.Author.Needs.{needs}
 use Rattle.form.proofs.take.Statement.{statement}
@@ -19,7 +19,7 @@ returns-2 : tie.Need-returns-2
 returns-2 c =
     let at-start = c .before .before .before .before .before .before .before .before .before in
     let a = at-start .args in
-    ap (λ n. lent n (now (a .bounds)) (now (a .sites)) (now (a .triangles)) (now (a .halfedges)) (now (a .hull))) (c .outside .ensures)
+    ap (λ n. reading n (now (a .bounds)) (now (a .sites)) (now (a .triangles)) (now (a .halfedges)) (now (a .hull))) (c .outside .ensures)
     ∙ take-outside (a .r) (a .b) (now (a .bounds)) (now (a .sites)) (now (a .triangles)) (now (a .halfedges)) (now (a .hull)) (c .before .before .before .if1 .left) (c .before .if2 .taken)
 
 inside-requires : tie.Need-inside-requires

@@ -9,7 +9,7 @@ use lib.ListN.{length, take, drop, take-append-drop, length-drop}
 use lib.Seq.{length-take-le}
 use Rattle.laws.specs.Decide.{lt-or-ge}
 use Rattle.form_step.specs.Bytes.{Bytes, word, le}
-use Rattle.form.specs.Form.{box, ClipFits, SiteFits, TriangleFits, HullFits, clipBytes, siteBytes, triangleBytes, hullBytes}
+use Rattle.form.specs.Form.{box, OutlineFits, SiteFits, TriangleFits, HullFits, outlineBytes, siteBytes, triangleBytes, hullBytes}
 use Rattle.form_step.specs.Reader.{inside, step, steps}
 use Rattle.form_step.specs.laws.Steps.{step-broken, step-inside}
 use Rattle.form.specs.laws.Word.{le-word, word-small}
@@ -137,10 +137,10 @@ cut-site t h l = go (two 8 t h l)
           shorter = omega (arith, p .long);
         }
 
-pub cut-box : (t : List ℕ) → Bytes t → 32 ≤ length t → CutOff clipBytes ClipFits 1 t
+pub cut-box : (t : List ℕ) → Bytes t → 32 ≤ length t → CutOff outlineBytes OutlineFits 1 t
 cut-box t h l = go (two 8 t h (omega arith))
   where
-    on : (p : Two 8 t) → Two 8 (p .rest) → CutOff clipBytes ClipFits 1 t
+    on : (p : Two 8 t) → Two 8 (p .rest) → CutOff outlineBytes OutlineFits 1 t
     on p q =
         record {
           value = box (p .a) (p .b) (q .a) (q .b);
@@ -151,7 +151,7 @@ cut-box t h l = go (two 8 t h (omega arith))
           shorter = omega (arith, p .long, q .long);
         }
 
-    go : Two 8 t → CutOff clipBytes ClipFits 1 t
+    go : Two 8 t → CutOff outlineBytes OutlineFits 1 t
     go p = on p (two 8 (p .rest) (p .bytes) (omega (arith, p .long)))
 
 pub cut-triangle : (t : List ℕ) → Bytes t → 24 ≤ length t → CutOff triangleBytes TriangleFits 3 t

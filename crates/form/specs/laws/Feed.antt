@@ -10,25 +10,25 @@ use lib.Seq.{drop-cons, drop-length}
 use lib.Dec.{eqb}
 use lib.Ieee.{Float}
 use Rattle.laws.specs.Pick.{pick}
-use Rattle.form_step.specs.Reader.{Lent, lent, start, step, take, takes, answer}
-use Rattle.form_step.specs.Holds.{Ok, Room, Few, Reads}
+use Rattle.form_step.specs.Reader.{Reading, reading, start, step, take, takes, verdict}
+use Rattle.form_step.specs.Holds.{Ok, ListRoom, Few, Reads}
 use Rattle.form_step.specs.laws.Steps.{ok-step, at-step}
 use Rattle.form_step.specs.declared.Reader.{Reader}
 use Rattle.form_step.specs.declared.Form.{Form}
 use Rattle.form_step.specs.declared.Form.the-variants.{Sound, Broken}
 
-abbrev pub RoomIn : Lent → Type 0
-RoomIn d = Room (d .bounds) (d .sites) (d .triangles) (d .halfedges) (d .hull)
+abbrev pub RoomIn : Reading → Type 0
+RoomIn d = ListRoom (d .bounds) (d .sites) (d .triangles) (d .halfedges) (d .hull)
 
 -- the lists are as long as they were
-pub record Same (d e : Lent) : Type 0 where
+pub record SameLists (d e : Reading) : Type 0 where
   pub bounds : length (e .bounds) ≡ length (d .bounds)
   pub sites : length (e .sites) ≡ length (d .sites)
   pub triangles : length (e .triangles) ≡ length (d .triangles)
   pub halfedges : length (e .halfedges) ≡ length (d .halfedges)
   pub hull : length (e .hull) ≡ length (d .hull)
 
-pub room-same : {d e : Lent} → RoomIn d → Same d e → RoomIn e
+pub room-same : {d e : Reading} → RoomIn d → SameLists d e → RoomIn e
 room-same r s =
     record {
       bounds = rw (s .bounds) (r .bounds);
@@ -38,7 +38,7 @@ room-same r s =
       hull = rw (s .hull) (r .hull);
     }
 
-pub same-same : {d e f : Lent} → Same d e → Same e f → Same d f
+pub same-same : {d e f : Reading} → SameLists d e → SameLists e f → SameLists d f
 same-same s t =
     record {
       bounds = t .bounds ∙ s .bounds;
@@ -48,14 +48,14 @@ same-same s t =
       hull = t .hull ∙ s .hull;
     }
 
-pub record Feeding (s : List ℕ) (d e : Lent) (i : ℕ) : Type 0 where
+pub record Feeding (s : List ℕ) (d e : Reading) (i : ℕ) : Type 0 where
   pub within : i ≤ length s
   pub ok : Ok (e .reader)
   pub at : e .reader .at + (length s - i) < 2 ^ 64
-  pub same : Same d e
+  pub same : SameLists d e
   pub rest : takes e (drop i s) ≡ takes d s
 
-pub feeding-start : (s : List ℕ) (d : Lent) → Ok (d .reader) → d .reader .at + length s < 2 ^ 64 → Feeding s d d 0
+pub feeding-start : (s : List ℕ) (d : Reading) → Ok (d .reader) → d .reader .at + length s < 2 ^ 64 → Feeding s d d 0
 feeding-start s d o a =
     record {
       within = omega arith;
@@ -65,22 +65,22 @@ feeding-start s d o a =
       rest = refl;
     }
 
-reader-take : (d : Lent) (b : ℕ) → take d b .reader ≡ step (d .reader) b
+reader-take : (d : Reading) (b : ℕ) → take d b .reader ≡ step (d .reader) b
 unfolding take
 reader-take d b = refl
 
-takes-more : (d : Lent) (b : ℕ) (s : List ℕ) → takes d (b ∷ s) ≡ takes (take d b) s
+takes-more : (d : Reading) (b : ℕ) (s : List ℕ) → takes d (b ∷ s) ≡ takes (take d b) s
 unfolding takes
 takes-more d b s = refl
 
-pub takes-none : (d : Lent) → takes d [] ≡ d
+pub takes-none : (d : Reading) → takes d [] ≡ d
 unfolding takes
 takes-none d = refl
 
-module _ {s : List ℕ} {d e : Lent} {i : ℕ} (h : Feeding s d e i) where
-  pub feeding-step : (f : Lent) → i < length s → f ≡ take e (getD s i 0) → Same e f → Feeding s d f (i + 1)
+module _ {s : List ℕ} {d e : Reading} {i : ℕ} (h : Feeding s d e i) where
+  pub feeding-step : (f : Reading) → i < length s → f ≡ take e (getD s i 0) → SameLists e f → Feeding s d f (i + 1)
   feeding-step f l t m =
-      let q : f .reader ≡ step (e .reader) (getD s i 0) = ap (λ (x : Lent). x .reader) t ∙ reader-take e (getD s i 0) in
+      let q : f .reader ≡ step (e .reader) (getD s i 0) = ap (λ (x : Reading). x .reader) t ∙ reader-take e (getD s i 0) in
       let a = at-step (e .reader) (getD s i 0) in
       record {
         within = omega arith;
@@ -89,7 +89,7 @@ module _ {s : List ℕ} {d e : Lent} {i : ℕ} (h : Feeding s d e i) where
         same = same-same (h .same) m;
         rest =
             ap (λ (k : ℕ). takes f (drop k s)) (add-one i)
-            ∙ ap (λ (x : Lent). takes x (drop (suc i) s)) t
+            ∙ ap (λ (x : Reading). takes x (drop (suc i) s)) t
             ∙ sym (takes-more e (getD s i 0) (drop (suc i) s))
             ∙ sym (ap (takes e) (drop-cons s i 0 l))
             ∙ h .rest;
@@ -102,8 +102,8 @@ module _ {s : List ℕ} {d e : Lent} {i : ℕ} (h : Feeding s d e i) where
 
 -- ---- a whole form
 
-few-answer : (r : Reader) → Ok r → Few (answer r)
-unfolding answer
+few-answer : (r : Reader) → Ok r → Few (verdict r)
+unfolding verdict
 few-answer r o = go (r .broken) (eqb (r .stage) 5)
   where
     go : (t u : Bool) → Few (pick t (λ _. Broken (r .at)) (λ _. pick u (λ _. Sound (r .sites) (r .triangles) (r .hull) (r .unclipped)) (λ _. Broken (r .at))))
@@ -114,18 +114,18 @@ few-answer r o = go (r .broken) (eqb (r .stage) 5)
 pub reads-all :
     (s : List ℕ) (r n : Reader) (bs ss : List Float) (ts es hs : List ℕ) (bs' ss' : List Float) (ts' es' hs' : List ℕ) (a : Form)
     → r ≡ start
-    → lent n bs' ss' ts' es' hs' ≡ takes (lent r bs ss ts es hs) s
+    → reading n bs' ss' ts' es' hs' ≡ takes (reading r bs ss ts es hs) s
     → Ok n
-    → a ≡ answer n
-    → Reads s (lent start bs ss ts es hs) a bs' ss' ts' es' hs'
+    → a ≡ verdict n
+    → Reads s (reading start bs ss ts es hs) a bs' ss' ts' es' hs'
 reads-all s r n bs ss ts es hs bs' ss' ts' es' hs' a b e o f =
-    let g : lent n bs' ss' ts' es' hs' ≡ takes (lent start bs ss ts es hs) s = e ∙ ap (λ (x : Reader). takes (lent x bs ss ts es hs) s) b in
+    let g : reading n bs' ss' ts' es' hs' ≡ takes (reading start bs ss ts es hs) s = e ∙ ap (λ (x : Reader). takes (reading x bs ss ts es hs) s) b in
     record {
-      answer = f ∙ ap (λ (d : Lent). answer (d .reader)) g;
-      bounds = ap (λ (d : Lent). d .bounds) g;
-      sites = ap (λ (d : Lent). d .sites) g;
-      triangles = ap (λ (d : Lent). d .triangles) g;
-      halfedges = ap (λ (d : Lent). d .halfedges) g;
-      hull = ap (λ (d : Lent). d .hull) g;
+      answer = f ∙ ap (λ (d : Reading). verdict (d .reader)) g;
+      bounds = ap (λ (d : Reading). d .bounds) g;
+      sites = ap (λ (d : Reading). d .sites) g;
+      triangles = ap (λ (d : Reading). d .triangles) g;
+      halfedges = ap (λ (d : Reading). d .halfedges) g;
+      hull = ap (λ (d : Reading). d .hull) g;
       few = rw f (few-answer n o);
     }

@@ -8,9 +8,9 @@ use native.Mathlib.Omega.{arith}
 use lib.ListN.{length}
 use Rattle.form_step.specs.Bytes.{Bytes}
 use Rattle.form.specs.Form.{Site, Triangle, All, SiteFits, TriangleFits, HullFits, each, siteBytes, triangleBytes, hullBytes}
-use Rattle.form_step.specs.Reader.{sizeOf, follows, refused, begun, outside, step, steps, Lent, lent}
-use Rattle.form_step.specs.laws.Steps.{Kind, site, triangle, hull, end, follows-cases, step-outside}
-use Rattle.form.specs.laws.Run.{Ready, Ran, Goes, ready-up, takes-reader, site-run, triangle-run, hull-run}
+use Rattle.form_step.specs.Reader.{sizeOf, follows, refused, begun, outside, step, steps, Reading, reading}
+use Rattle.form_step.specs.laws.Steps.{RecordKind, site, triangle, hull, end, follows-cases, step-outside}
+use Rattle.form.specs.laws.Run.{AtRecord, Ran, Goes, ready-up, takes-reader, site-run, triangle-run, hull-run}
 use Rattle.form.specs.laws.Cut.{Ended, CutOff, steps-append, steps-broken, true-false, partway, body-there, cut-site, cut-triangle, cut-hull}
 use Rattle.form_step.specs.declared.Reader.{Reader}
 
@@ -41,12 +41,12 @@ few-on v l m o = record { sites = omega (arith, v .sites); triangles = omega (ar
 -- the state after a record's bytes
 module _ {r : Reader} {k a b c : ℕ} (s : List ℕ) (g : Goes r k a b c [] [] [] [] [] [] [] [] [] [] s) where
   goes-to : steps r s ≡ g .to
-  goes-to = sym (takes-reader s (lent r [] [] [] [] [])) ∙ ap (λ (d : Lent). d .reader) (g .lists)
+  goes-to = sym (takes-reader s (reading r [] [] [] [] [])) ∙ ap (λ (d : Reading). d .reader) (g .lists)
 
   then-on : (t : List ℕ) → Ended (steps r (s ++ t)) → Ended (steps (g .to) t)
   then-on t e = subst Ended (steps-append s t r ∙ ap (λ (n : Reader). steps n t) goes-to) e
 
-module _ (r : Reader) (k : ℕ) (q : Ready r 4) (f : follows r k ≡ true) where
+module _ (r : Reader) (k : ℕ) (q : AtRecord r 4) (f : follows r k ≡ true) where
   begins : (t : List ℕ) → steps r (k ∷ t) ≡ steps (begun r k) t
   unfolding steps outside
   begins t = ap (λ (n : Reader). steps n t) (step-outside r k (q .broken) (q .left) ∙ rw f)
@@ -57,7 +57,7 @@ module _ (r : Reader) (k : ℕ) (q : Ready r 4) (f : follows r k ≡ true) where
 
 -- the same of the fewer bytes that are left
 abbrev Below : ℕ → Type 0
-Below n = (r : Reader) (t : List ℕ) → length t ≤ n → Bytes t → Ready r 4 → Few r → Ended (steps r t) → Tail r t
+Below n = (r : Reader) (t : List ℕ) → length t ≤ n → Bytes t → AtRecord r 4 → Few r → Ended (steps r t) → Tail r t
 
 module _ (r : Reader) (t : List ℕ) (w : Few r) where
   site-before : (x : CutOff siteBytes SiteFits 2 t) (n : Reader) → Ran r n 2 1 0 0 → r .stage ≤ 2 → Tail n (x .rest) → Tail r (2 ∷ t)
@@ -122,7 +122,7 @@ module _ (r : Reader) (t : List ℕ) (w : Few r) where
         few-hull = omega (arith, v .hull, u .few-hull);
       }
 
-module _ (n : ℕ) (below : Below n) (r : Reader) (t : List ℕ) (l : length t ≤ n) (h : Bytes t) (q : Ready r 4) (w : Few r) where
+module _ (n : ℕ) (below : Below n) (r : Reader) (t : List ℕ) (l : length t ≤ n) (h : Bytes t) (q : AtRecord r 4) (w : Few r) where
   whole-body : (k : ℕ) → follows r k ≡ true → (begun r k .stage ≡ 5 → ⊥) → Ended (steps r (k ∷ t)) → begun r k .left ≤ length t
   unfolding begun
   whole-body k f d e = body-there t (begun r k) refl d (subst Ended (begins r k q f t) e)
@@ -167,7 +167,7 @@ module _ (n : ℕ) (below : Below n) (r : Reader) (t : List ℕ) (l : length t �
 
 -- ---- the end
 
-no-kind : (r : Reader) (k : ℕ) → Kind r k → r .stage ≡ 5 → r .stage ≤ k → ⊥
+no-kind : (r : Reader) (k : ℕ) → RecordKind r k → r .stage ≡ 5 → r .stage ≤ k → ⊥
 no-kind r k (site p) e h = omega arith
 no-kind r k (triangle p) e h = omega arith
 no-kind r k (hull p) e h = omega arith
@@ -185,7 +185,7 @@ pub refused-ends : (r : Reader) (t : List ℕ) → Ended (steps (refused r) t) �
 unfolding refused
 refused-ends r t e = true-false (sym (ap (λ (n : Reader). n .broken) (steps-broken t (refused r) refl)) ∙ e .broken)
 
-end-tail : (r : Reader) (t : List ℕ) → Ready r 4 → Few r → follows r 5 ≡ true → Ended (steps r (5 ∷ t)) → Tail r (5 ∷ t)
+end-tail : (r : Reader) (t : List ℕ) → AtRecord r 4 → Few r → follows r 5 ≡ true → Ended (steps r (5 ∷ t)) → Tail r (5 ∷ t)
 unfolding steps begun sizeOf outside
 end-tail r [] q w f e =
     record {
@@ -208,14 +208,14 @@ end-tail r (c ∷ t) q w f e =
     absurd (refused-ends (begun r 5) t (subst (λ (n : Reader). Ended (steps n t)) i e'))
 
 by-kind :
-    (n : ℕ) → Below n → (r : Reader) (t : List ℕ) → length t ≤ n → Bytes t → Ready r 4 → Few r
-    → (k : ℕ) → Kind r k → r .stage ≤ k → follows r k ≡ true → Ended (steps r (k ∷ t)) → Tail r (k ∷ t)
+    (n : ℕ) → Below n → (r : Reader) (t : List ℕ) → length t ≤ n → Bytes t → AtRecord r 4 → Few r
+    → (k : ℕ) → RecordKind r k → r .stage ≤ k → follows r k ≡ true → Ended (steps r (k ∷ t)) → Tail r (k ∷ t)
 by-kind n below r t l h q w k (site p) o f e = site-tail n below r t l h q w f o p e
 by-kind n below r t l h q w k (triangle p) o f e = triangle-tail n below r t l h q w f o p e
 by-kind n below r t l h q w k (hull p) o f e = hull-tail n below r t l h q w f p e
 by-kind n below r t l h q w k (end p) o f e = end-tail r t q w f e
 
-one-more : (n : ℕ) → Below n → (r : Reader) (b : ℕ) (t : List ℕ) → length t ≤ n → Bytes t → Ready r 4 → Few r → Ended (steps r (b ∷ t)) → Tail r (b ∷ t)
+one-more : (n : ℕ) → Below n → (r : Reader) (b : ℕ) (t : List ℕ) → length t ≤ n → Bytes t → AtRecord r 4 → Few r → Ended (steps r (b ∷ t)) → Tail r (b ∷ t)
 unfolding steps outside
 one-more n below r b t l h q w e = go (follows r b) refl
   where

@@ -7,7 +7,7 @@ use native.Mathlib.Omega.{arith}
 use lib.Dec.{eqb, ltb}
 use borrow.Author.Tests.{eqb-true, eqb-false, ltb-true, ltb-false, ne-eqb}
 use Rattle.laws.specs.Pick.{pick}
-use Rattle.form_step.specs.Reader.{sizeOf, opens, roomFor, follows, refused, begun, tally, inside, outside, step, within, start}
+use Rattle.form_step.specs.Reader.{sizeOf, opens, roomLeft, follows, refused, begun, tally, inside, outside, step, within, start}
 use Rattle.form_step.specs.Holds.{Ok}
 use Rattle.form_step.specs.declared.Reader.{Reader}
 
@@ -23,14 +23,14 @@ unfolding opens
 opens-cases k e = ⊎-elim (λ w. inl (eqb-true k 1 (w .0))) (λ w. inr (eqb-true k 6 (w .1))) (by-test (eqb k 1) true (eqb k 6) e)
 
 -- a kind that there is room for
-pub data Kind (r : Reader) : ℕ → Type 0 where
-  site : r .sites < 96 → Kind r 2
-  triangle : r .triangles < 192 → Kind r 3
-  hull : r .hull < 96 → Kind r 4
-  end : r .stage < 5 → Kind r 5
+pub data RecordKind (r : Reader) : ℕ → Type 0 where
+  site : r .sites < 96 → RecordKind r 2
+  triangle : r .triangles < 192 → RecordKind r 3
+  hull : r .hull < 96 → RecordKind r 4
+  end : r .stage < 5 → RecordKind r 5
 
-pub room-cases : (r : Reader) (k : ℕ) → roomFor r k ≡ true → Kind r k
-unfolding roomFor
+pub room-cases : (r : Reader) (k : ℕ) → roomLeft r k ≡ true → RecordKind r k
+unfolding roomLeft
 room-cases r k e =
     ⊎-elim (λ w. rw (eqb-true k 2 (w .0)) (site (ltb-true _ _ (w .1))))
     (λ v. ⊎-elim (λ w. rw (eqb-true k 3 (w .0)) (triangle (ltb-true _ _ (w .1))))
@@ -40,7 +40,7 @@ room-cases r k e =
     (by-test (eqb k 3) _ _ (v .1)))
     (by-test (eqb k 2) _ _ e)
 
-pub follows-cases : (r : Reader) (k : ℕ) → follows r k ≡ true → ((r .stage ≡ 0) × ((k ≡ 1) ⊎ (k ≡ 6))) ⊎ ((r .stage ≢ 0) × (r .stage ≤ k) × Kind r k)
+pub follows-cases : (r : Reader) (k : ℕ) → follows r k ≡ true → ((r .stage ≡ 0) × ((k ≡ 1) ⊎ (k ≡ 6))) ⊎ ((r .stage ≢ 0) × (r .stage ≤ k) × RecordKind r k)
 unfolding follows
 follows-cases r k e =
     ⊎-elim (λ w. inl (eqb-true _ _ (w .0), opens-cases k (w .1)))
@@ -102,17 +102,17 @@ size-box k e = go (eqb k 6) refl e
     go false s f = rw f (omega arith)
 
 module _ (r : Reader) (k : ℕ) (f : follows r k ≡ true) where
-  room-of : (n : ℕ) → n ≢ 1 → n ≢ 6 → k ≡ n → Kind r n
+  room-of : (n : ℕ) → n ≢ 1 → n ≢ 6 → k ≡ n → RecordKind r n
   room-of n p q e =
-      ⊎-elim (λ w. ⊎-elim (λ v. absurd (p (sym e ∙ v))) (λ v. absurd (q (sym e ∙ v))) (w .1)) (λ w. subst (Kind r) e (w .2)) (follows-cases r k f)
+      ⊎-elim (λ w. ⊎-elim (λ v. absurd (p (sym e ∙ v))) (λ v. absurd (q (sym e ∙ v))) (w .1)) (λ w. subst (RecordKind r) e (w .2)) (follows-cases r k f)
 
-site-room : {r : Reader} → Kind r 2 → r .sites < 96
+site-room : {r : Reader} → RecordKind r 2 → r .sites < 96
 site-room (site h) = h
 
-triangle-room : {r : Reader} → Kind r 3 → r .triangles < 192
+triangle-room : {r : Reader} → RecordKind r 3 → r .triangles < 192
 triangle-room (triangle h) = h
 
-hull-room : {r : Reader} → Kind r 4 → r .hull < 96
+hull-room : {r : Reader} → RecordKind r 4 → r .hull < 96
 hull-room (hull h) = h
 
 ok-begun : (r : Reader) (k : ℕ) → Ok r → follows r k ≡ true → Ok (begun r k)

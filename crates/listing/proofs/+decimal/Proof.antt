@@ -7,8 +7,9 @@ use native.Mathlib.Omega.{arith}
 use lib.ListN.{length, length-set}
 use denote.Ref.{now}
 use Rattle.listing.specs.Text.{decimal as digitsOf}
-use Rattle.listing.specs.TextLaws.{decimal-one, decimal-more}
-use Rattle.listing.specs.Wrote.{Fits, wrote-one, wrote-then, wrote-as, fits-left, fits-then}
+use Rattle.listing.specs.laws.Decimal.{decimal-one, decimal-more}
+use Rattle.listing.specs.Wrote.{HasRoom}
+use Rattle.listing.specs.laws.Wrote.{wrote-one, wrote-then, wrote-as, fits-left, fits-then}
 use Prim.Native.Nat.{ℕ, _<_}
 use borrow.Fn.Kinds.{In}
 use borrow.Fn.PlainCycle.{Measures, is, falls, and}
@@ -30,12 +31,12 @@ decimal-below t = and 1 decimal-kinds.ps (falls 1 decimal-kinds.ps _<_ μ-decima
 -- the digit after those that the call wrote has room
 room :
     (t : ℕ) (c : decimal-lts.After-slice-known2 (decimal-below t, decimal.Post) (decimal-at t) decimal.Post)
-    → Fits (c .before .before .decimal .last .0) (c .before .before .decimal .result) ((48 + c .before .before .before .before .before .before .args .n % 10) ∷ [])
+    → HasRoom (c .before .before .decimal .last .0) (c .before .before .decimal .result) ((48 + c .before .before .before .before .before .before .args .n % 10) ∷ [])
 room t c =
     let s = c .before .before .before .before .before .before in
     let n = s .args .n in
     fits-then (digitsOf (n / 10)) ((48 + n % 10) ∷ []) (c .before .before .decimal .ensures)
-    (subst (Fits (now (s .args .out)) (s .args .at)) (decimal-more n (c .before .before .before .before .if1 .left) (s .fits .n .fits)) (s .pre .1))
+    (subst (HasRoom (now (s .args .out)) (s .args .at)) (decimal-more n (c .before .before .before .before .if1 .left) (s .fits .n .fits)) (s .pre .1))
 
 decimal-cast-out :
     (t : ℕ) →
@@ -73,7 +74,7 @@ decimal-decimal-requires : (t : ℕ) → decimal-lts.Need-decimal-requires (
 decimal-decimal-requires t c κs = let s = c .before .before .before in
     let n = s .args .n in
     let e = decimal-more n (c .before .if1 .left) (s .fits .n .fits) in
-    (omega (arith, s .pre .0), fits-left (now (s .args .out)) (s .args .at) (digitsOf (n / 10)) ((48 + n % 10) ∷ []) (subst (Fits (now (s .args .out)) (s .args .at)) e (s .pre .1)))
+    (omega (arith, s .pre .0), fits-left (now (s .args .out)) (s .args .at) (digitsOf (n / 10)) ((48 + n % 10) ∷ []) (subst (HasRoom (now (s .args .out)) (s .args .at)) e (s .pre .1)))
 
 decimal-cast-out-2 :
     (t : ℕ) →

@@ -7,8 +7,10 @@ use lib.ListN.{length, getD, take, drop}
 use lib.Seq.{take-length}
 use denote.Ref.{now}
 use Rattle.listing.specs.Listing.{entries}
-use Rattle.listing.specs.ListingLaws.{entries-none, entries-more, entries-whole}
-use Rattle.listing.specs.Wrote.{Fits, Lined, lined-start, lined-fits, lined-step, lined-end, wrote-length, wrote-as}
+use Rattle.listing.specs.laws.Listing.{entries-none, entries-more, entries-whole}
+use Rattle.listing.specs.Wrote.{HasRoom}
+use Rattle.listing.specs.laws.Wrote.{lined-fits}
+use Rattle.listing.specs.laws.Wrote.{Lined, lined-start, lined-step, lined-end, wrote-length, wrote-as}
 use Rattle.listing.proofs.entries.Statement.{statement}
 use Rattle.listing.proofs.entries.Tie as tie
 
@@ -32,7 +34,7 @@ entry-requires c κs = let l = c .before .before .before in
     let list = now (s .args .list) in
     let i = l .loop .i in
     lined-fits (l .loop .inv) (entries (getD list i 0 ∷ [])) (entries (drop (i + 1) list))
-    (entries-more list i (c .before .before .loop-test .taken)) (entries-whole list (i + 1)) (subst (Fits (now (s .args .out)) (s .args .at)) (ap entries (sym (take-length list))) (s .pre))
+    (entries-more list i (c .before .before .loop-test .taken)) (entries-whole list (i + 1)) (subst (HasRoom (now (s .args .out)) (s .args .at)) (ap entries (sym (take-length list))) (s .pre))
 
 loop-again : tie.Need-loop-again Inv-loop μ-loop
 loop-again c = let e = c .before .before in

@@ -5,8 +5,9 @@ use native.Mathlib.Omega.{arith}
 use lib.ListN.{length, length-set}
 use denote.Ref.{now}
 use Rattle.listing.specs.Text.{decimal}
-use Rattle.listing.specs.ListingLaws.{entries-one}
-use Rattle.listing.specs.Wrote.{Fits, wrote-one, wrote-then, wrote-as, fits-then}
+use Rattle.listing.specs.laws.Listing.{entries-one}
+use Rattle.listing.specs.Wrote.{HasRoom}
+use Rattle.listing.specs.laws.Wrote.{wrote-one, wrote-then, wrote-as, fits-then}
 use borrow.Author.Needs.{needs}
 use Rattle.listing.proofs.entry.Statement.{statement}
 use Rattle.listing.proofs.entry.Tie as tie
@@ -17,7 +18,7 @@ slice-write-out c = let s = c .before in omega (arith, s .pre, ap length (entrie
 decimal-requires : tie.Need-decimal-requires
 decimal-requires c κs = let s = c .before .before in
     let a = s .args in
-    fits-then (32 ∷ []) (decimal (a .n)) (wrote-one (now (a .out)) (a .at) 32) (subst (Fits (now (a .out)) (a .at)) (entries-one (a .n)) (s .pre))
+    fits-then (32 ∷ []) (decimal (a .n)) (wrote-one (now (a .out)) (a .at) 32) (subst (HasRoom (now (a .out)) (a .at)) (entries-one (a .n)) (s .pre))
 
 same-length : tie.Need-same-length
 same-length c = c .before .before .decimal .kept .0 ∙ simp length-set

@@ -2,7 +2,7 @@
 use Prim.Native.Nat.{_-_}
 use native.Mathlib.Omega.{arith}
 use lib.ListN.{length}
-use Rattle.listing.specs.Wrote.{Putting, putting-start, putting-step, putting-end, wrote-length}
+use Rattle.listing.specs.laws.Wrote.{Putting, putting-start, putting-step, putting-end, wrote-length}
 use Rattle.listing.proofs.put.Statement.{statement}
 use Rattle.listing.proofs.put.Tie as tie
 

@@ -3,7 +3,8 @@ use mathlib.Core.Path.{sym, subst}
 use Prim.Native.Nat.{ℕ}
 use denote.Ref.{now}
 use Rattle.listing.specs.Listing.{counts as countsOf, cellLines, unclippedListing, Layout}
-use Rattle.listing.specs.Wrote.{Fits, Wrote, fits-left, fits-then, wrote-then}
+use Rattle.listing.specs.Wrote.{HasRoom, Wrote}
+use Rattle.listing.specs.laws.Wrote.{fits-left, fits-then, wrote-then}
 use borrow.Author.Needs.{needs}
 use Rattle.listing.proofs.unclipped_listing.Statement.{statement}
 use Rattle.listing.proofs.unclipped_listing.Tie as tie
@@ -17,7 +18,7 @@ cell-lines-requires : tie.Need-cell-lines-requires
 unfolding unclippedListing
 cell-lines-requires c κs = let w = c .before .before .before .before in
     let s = w .before .before .before .before .before in let a = s .args in
-    subst (λ (n : ℕ). Layout (now (a .offsets)) (now (a .cells)) n × Fits (w .counts .last .0) (w .counts .result) (cellLines (now (a .offsets)) (now (a .cells)) 0 n)) (sym (c .wide .ensures))
+    subst (λ (n : ℕ). Layout (now (a .offsets)) (now (a .cells)) n × HasRoom (w .counts .last .0) (w .counts .result) (cellLines (now (a .offsets)) (now (a .cells)) 0 n)) (sym (c .wide .ensures))
     (s .pre .0, fits-then (countsOf (a .sites) (a .triangles) (a .vertices)) (cellLines (now (a .offsets)) (now (a .cells)) 0 (a .sites)) (w .counts .ensures) (s .pre .1))
 
 returns : tie.Need-returns

@@ -9,8 +9,8 @@ use Prim.Native.String.{String}
 use lib.ListN.{length, getD, take, drop, length-append, length-drop, take-append-drop}
 use lib.Seq.{take-suc, take-length, length-take-le}
 use Rattle.listing.specs.Text.{ascii, decimal}
-use Rattle.listing.specs.TextLaws.{decimal-short}
-use Rattle.listing.specs.Listing.{entries, labelled, counts, cellLine, cellOf, cellLines, unclippedListing, corners, listing, refusal, Layout}
+use Rattle.listing.specs.laws.Decimal.{decimal-short}
+use Rattle.listing.specs.Listing.{entries, labelled, counts, cellLine, listedCell, cellLines, unclippedListing, corners, listing, refusal, Layout}
 
 -- ---- entries
 
@@ -41,7 +41,7 @@ module _ (os cs : List ℕ) where
   lines-append zero n i = rw (zero-add n, add-zero i)
   lines-append (suc m) n i =
       let e : suc i + m ≡ i + suc m = omega arith in
-      let c = cellLine i (cellOf os cs i) in
+      let c = cellLine i (listedCell os cs i) in
       rw (suc-add m n)
       (ap (λ (t : List ℕ). c ++ t) (lines-append m n (suc i) ∙ ap (λ (k : ℕ). cellLines os cs (suc i) m ++ cellLines os cs k n) e)
       ∙ sym (append-assoc c (cellLines os cs (suc i) m) (cellLines os cs (i + suc m) n)))
@@ -50,12 +50,12 @@ module _ (os cs : List ℕ) where
   unfolding cellLines
   lines-none = refl
 
-  pub lines-more : (n : ℕ) → cellLines os cs 0 (n + 1) ≡ cellLines os cs 0 n ++ cellLine n (cellOf os cs n)
+  pub lines-more : (n : ℕ) → cellLines os cs 0 (n + 1) ≡ cellLines os cs 0 n ++ cellLine n (listedCell os cs n)
   unfolding cellLines
   lines-more n =
       lines-append n 1 0
       ∙ ap (λ (k : ℕ). cellLines os cs 0 n ++ cellLines os cs k 1) (zero-add n)
-      ∙ ap (λ (t : List ℕ). cellLines os cs 0 n ++ t) (append-nil (cellLine n (cellOf os cs n)))
+      ∙ ap (λ (t : List ℕ). cellLines os cs 0 n ++ t) (append-nil (cellLine n (listedCell os cs n)))
 
   pub lines-split : (m n : ℕ) → m ≤ n → cellLines os cs 0 n ≡ cellLines os cs 0 m ++ cellLines os cs m (n - m)
   lines-split m n h =
@@ -81,7 +81,7 @@ line-short i c =
     omega (arith, length-append (b ++ entries c) (ascii "\n"), length-append b (entries c), length-append a (ascii ":"), labelled-short "cell" i, entries-short c)
 
 module _ (os cs : List ℕ) (n : ℕ) (lay : Layout os cs n) where
-  cell-length : (i : ℕ) → i < n → length (cellOf os cs i) ≡ getD os (suc i) 0 - getD os i 0
+  cell-length : (i : ℕ) → i < n → length (listedCell os cs i) ≡ getD os (suc i) 0 - getD os i 0
   cell-length i h =
       length-take-le (getD os (suc i) 0 - getD os i 0) (drop (getD os i 0) cs) (omega (arith, length-drop (getD os i 0) cs, lay .rise i h, lay .within i h))
 
@@ -90,7 +90,7 @@ module _ (os cs : List ℕ) (n : ℕ) (lay : Layout os cs n) where
   lines-short zero i h = rw (add-zero i) (omega arith)
   lines-short (suc m) i h =
       let e : suc i + m ≡ i + suc m = omega arith in
-      let c = cellOf os cs i in
+      let c = listedCell os cs i in
       let q = lines-short m (suc i) (omega arith) in
       let q' : length (cellLines os cs (suc i) m) + 11 * getD os (suc i) 0 ≤ 17 * m + 11 * getD os (i + suc m) 0 = rw e at q in
       omega (arith, length-append (cellLine i c) (cellLines os cs (suc i) m), line-short i c, cell-length i (omega arith), lay .rise i (omega arith))

@@ -8,7 +8,7 @@ use lib.ListN.{length, getD, take, drop, length-append}
 use lib.Seq.{take-suc, take-all, drop-append-seam, take-append-seam}
 use Rattle.layout.specs.Regions.{joined, offsetsFrom}
 use Rattle.layout.specs.laws.Compacting.{joined-snoc, offsets-length}
-use Rattle.listing.specs.Listing.{cellLine, cellLines, cellOf}
+use Rattle.listing.specs.Listing.{cellLine, cellLines, listedCell}
 use Rattle.cells.specs.Printed.{linesOf}
 use Rattle.cells.specs.Shown.{Laid}
 
@@ -47,7 +47,7 @@ module _ (cs : List (List ℕ)) (more rest : List ℕ) where
   next-at : (k : ℕ) → k < length cs → getD offs (suc k) 0 ≡ length (joined (take k cs)) + length (getD cs k [])
   next-at k h = offset-at (suc k) h ∙ ap length (ap joined (take-suc cs k [] h) ∙ joined-snoc (take k cs) (getD cs k [])) ∙ length-append (joined (take k cs)) (getD cs k [])
 
-  cell-at : (k : ℕ) → k < length cs → cellOf offs idx k ≡ getD cs k []
+  cell-at : (k : ℕ) → k < length cs → listedCell offs idx k ≡ getD cs k []
   cell-at k h =
       let a = joined (take k cs) in
       let b = getD cs k [] in
@@ -55,11 +55,11 @@ module _ (cs : List (List ℕ)) (more rest : List ℕ) where
       let q : idx ≡ a ++ (b ++ (c ++ rest)) = ap (λ (l : List ℕ). l ++ rest) (joined-split cs k h) ∙ append-assoc (a ++ b) c rest ∙ append-assoc a b (c ++ rest) in
       rw q (part a b (c ++ rest) (getD offs k 0) (getD offs (suc k) 0) (offset-at k (omega arith)) (next-at k h))
 
-  lines-by : (ds : List (List ℕ)) (i : ℕ) → ((k : ℕ) → k < length ds → cellOf offs idx (i + k) ≡ getD ds k []) → cellLines offs idx i (length ds) ≡ linesOf i ds
+  lines-by : (ds : List (List ℕ)) (i : ℕ) → ((k : ℕ) → k < length ds → listedCell offs idx (i + k) ≡ getD ds k []) → cellLines offs idx i (length ds) ≡ linesOf i ds
   unfolding cellLines linesOf
   lines-by [] i h = refl
   lines-by (d ∷ ds) i h =
-      let q : cellOf offs idx i ≡ d = subst (λ (j : ℕ). cellOf offs idx j ≡ d) (add-zero i) (h 0 (omega arith)) in
+      let q : listedCell offs idx i ≡ d = subst (λ (j : ℕ). listedCell offs idx j ≡ d) (add-zero i) (h 0 (omega arith)) in
       rw q (ap (λ (l : List ℕ). cellLine i d ++ l) (lines-by ds (suc i) (λ k l. let e : suc i + k ≡ i + suc k = omega arith in rw e (h (suc k) (omega arith)))))
 
   pub lines-are : cellLines offs idx 0 (length cs) ≡ linesOf 0 cs

@@ -25,9 +25,9 @@ use Rattle.building.specs.Success.{zero-succeeds}
 use Rattle.listing.specs.Listing.{unclippedListing, listing, cellLines}
 use Rattle.cells.specs.Printed.{Shows, linesOf, unclippedText, boxText, InBox, WithoutBox}
 use Rattle.cells.specs.Printed as printed
-use Rattle.cells.specs.Shown.{Sized, Laid, shown, boxLines, unclippedLines}
-use Rattle.cells.specs.laws.Laying.{lines-are, laid}
-use Rattle.cells.specs.laws.Whole.{Whole, whole-in-box, whole-without-box}
+use Rattle.cells.specs.Shown.{SheetSized, Laid, shown, boxLines, unclippedLines}
+use Rattle.cells.specs.laws.CellsInIndexes.{lines-are, laid}
+use Rattle.cells.specs.laws.WholeBuild.{Whole, whole-in-box, whole-without-box}
 
 -- slices as long as those of `cells`
 pub record Lengths (s : Slices) : Type 0 where
@@ -122,7 +122,7 @@ module _ {Rules : ℕ → Type 0} {table : List ℕ} {o : Outcome Fault Built} {
       rw (counts-are, owners-at (length (b .verts)) (b .lost) (b .owners) tail (w .owners), last-at (length (b .verts)) (b .lost) (b .owners) tail (w .owners), lines)
 
 -- ---- both builds on lists within the form's limits, with slices of these lengths
-module _ (sites : List Float) (tri he hull : List ℕ) (space : ℕ) (m : Sized (length sites) (length tri) (length hull) space) (old new : Slices) (long : Lengths old) (r : ℕ) where
+module _ (sites : List Float) (tri he hull : List ℕ) (space : ℕ) (m : SheetSized (length sites) (length tri) (length hull) space) (old new : Slices) (long : Lengths old) (r : ℕ) where
   roomy : roomOf sites tri hull old ≡ true
   unfolding roomFor
   roomy =

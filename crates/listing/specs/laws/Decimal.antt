@@ -8,7 +8,7 @@ use native.Mathlib.Nat.{pow-suc}
 use lib.ListN.{length, getD, length-append, List·getD-append}
 use borrow.Author.Tests.{lt-ltb, le-ltb}
 use Rattle.laws.specs.Decide.{lt-or-ge}
-use Rattle.listing.specs.Text.{digits, decimal}
+use Rattle.listing.specs.Text.{Digits, value, Decimal, digits, decimal}
 
 digits-one : (k n : ℕ) → n < 10 → digits (suc k) n ≡ (48 + n) ∷ []
 unfolding digits
@@ -65,22 +65,6 @@ unfolding decimal
 decimal-short n = digits-short 10 n
 
 -- ---- what the digits are
-
-abbrev pub Digits : List ℕ → Type 0
-Digits [] = Unit {0}
-Digits (c ∷ s) = (48 ≤ c) × (c ≤ 57) × Digits s
-
--- read from the left
-abbrev pub value : ℕ → List ℕ → ℕ
-value v [] = v
-value v (c ∷ s) = value (v * 10 + (c - 48)) s
-
-pub record Decimal (n : ℕ) (s : List ℕ) : Type 0 where
-  pub digits : Digits s
-  pub value : value 0 s ≡ n
-  pub lead : 10 ≤ n → 48 < getD s 0 0
-  pub some : 0 < length s
-  pub few : length s ≤ 10
 
 digits-append : (s t : List ℕ) → Digits s → Digits t → Digits (s ++ t)
 digits-append [] t p q = q
