@@ -6,6 +6,7 @@ use mathlib.Core.Logic.{_≢_}
 use Prim.Native.Nat.{ℕ, suc, _/_}
 use lib.Ieee.{Float}
 use lib.ListN.{length}
+use Rattle.numbers.specs.Numbers.{refusedForm}
 use Rattle.utils.specs.Plane.{at}
 use Rattle.utils.specs.declared.Point.{Point}
 use Rattle.bounding_box.specs.Box.{madeOf}
@@ -57,4 +58,4 @@ OfMesh m = ByClip (numbersOf siteFloats (m .sites)) (numbersOf triangleSites (m 
 
 pub data Prints (s : List ℕ) : List ℕ → Type 0 where
   sound : {text : List ℕ} (m : FormMesh) → MeshFits m → s ≡ formOf m → OfMesh m text → Prints s text
-  broken : (IsForm s → ⊥) → Prints s (refusal 17)
+  broken : (IsForm s → ⊥) → Prints s (refusal refusedForm)

@@ -6,6 +6,7 @@ use Prim.Native.Nat.{ℕ, _*_, _≤_}
 use lib.Dec.{eqb}
 use lib.Ieee.{Float, nan}
 use lib.ListN.{getD, take}
+use Rattle.numbers.specs.Numbers.{refusedForm}
 use Rattle.laws.specs.Pick.{pick}
 use Rattle.utils.specs.Plane.{at}
 use Rattle.form_step.specs.declared.Form.{Form}
@@ -50,5 +51,5 @@ ByMode false bs ss ts es hs text = InBox ss ts es hs (at (getD bs 0 nan) (getD b
 
 -- the text of a form that was read into these lists
 abbrev pub ByForm : Form → List Float → List Float → List ℕ → List ℕ → List ℕ → List ℕ → Type 0
-ByForm (Broken k) bs ss ts es hs text = text ≡ refusal 17
+ByForm (Broken k) bs ss ts es hs text = text ≡ refusal refusedForm
 ByForm (Sound s t h u) bs ss ts es hs text = ByMode u bs (take (2 * s) ss) (take (3 * t) ts) (take (3 * t) es) (take h hs) text

@@ -1,4 +1,4 @@
--- 01's "square", from its 172 bytes to its listing: the bytes are the form of its mesh, and the text of that mesh's build is 01's. By computation.
+-- "square" (docs/RULES.md), from its 172 bytes to its listing: the bytes are the form of its mesh, and the text of that mesh's build is the one there. By computation.
 use mathlib.Core.Path.{_≡_, refl}
 use mathlib.Core.List.{List}
 use Rattle.mesh.specs.Mesh.{nextOf, chosen, tableTo, turnOf, walkOf}

@@ -59,7 +59,8 @@ fn show_without_box(
     counts: &[u32],
 ) -> usize
     requires { ⌜ (number ≡ 0 → Laid sites (now offsets) (now indexes) (length (now out))) × (6 ≤ length (now counts)) × (65536 ≤ length (now out)) ⌝ }
-    ensures { λ r. ⌜ ShownIn (shown (unclippedLines sites triangles (now (offsets .entry)) (now (indexes .entry)) (now (counts .entry))) number) (now (out .exit)) (length (now (out .entry))) r ⌝ }
+    ensures { λ r. ⌜ ShownIn (shown (unclippedLines sites triangles (now (offsets .entry)) (now (indexes .entry)) (now (counts .entry)))
+        number) (now (out .exit)) (length (now (out .entry))) r ⌝ }
 {
     if number != 0 {
         return listing::refusal(out, number);

@@ -6,6 +6,7 @@ use Prim.Native.Nat.{ℕ}
 use lib.Ieee.{Float}
 use lib.ListN.{length}
 use lib.Seq.{sets}
+use Rattle.numbers.specs.Numbers.{refusedForm}
 use Rattle.form_step.specs.Bytes.{Bytes}
 use Rattle.form.specs.Form.{FormMesh, MeshFits, IsForm, formOf, isUnclipped, numbersOf, outlineFloats, siteFloats, triangleSites, trianglePairs}
 use Rattle.form_step.specs.Reader.{start, steps, verdict, Reading, reading, takes}
@@ -18,10 +19,10 @@ use Rattle.form.specs.laws.Place.{refused-at}
 use Rattle.form_step.specs.declared.Form.{Form}
 use Rattle.form_step.specs.declared.Form.the-variants.{Sound, Broken}
 
--- 01's number of an answer
+-- the number of an answer
 abbrev pub verdictNumber : Form → ℕ
 verdictNumber (Sound a b c u) = 0
-verdictNumber (Broken k) = 17
+verdictNumber (Broken k) = refusedForm
 
 module _ (s : List ℕ) (bs ss : List Float) (ts es hs : List ℕ) where
   pub record ReadSound (a : Form) (bs' ss' : List Float) (ts' es' hs' : List ℕ) : Type 0 where

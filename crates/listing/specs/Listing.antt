@@ -1,4 +1,4 @@
--- The listing as 01 has it, line by line, and the line of a refusal. Definitions only.
+-- The listing of docs/RULES.md, line by line, and the line of a refusal. Definitions only.
 use mathlib.Core.List.{List, [], _∷_, _++_}
 use Prim.Native.Nat.{ℕ, zero, suc, _-_, _^_, _≤_, _<_}
 use Prim.Native.String.{String}

@@ -1,4 +1,4 @@
-// Document 01's run-only examples through the public build: "square" with more and with less room, and with one thing wrong at a time.
+// The run-only examples of docs/RULES.md through the public build: "square" with more and with less room, and with one thing wrong at a time.
 use libc::STDOUT_FILENO;
 use numbers::EMPTY;
 use voronoi::builds::voronoi_build;

@@ -24,7 +24,8 @@ returns c =
     let at-narrow2 = c .before .before .before .before .before .before .before in
     let at-narrow = at-narrow2 .before in
     let at-voronoi-build = at-narrow .before .before .before .before .before .before in
-    let s = c .before .before .before .before .before .before .before .before .before .before .before .before .before .before .before .before .before .before .before .before .before .before .before .before .before
+    let half = c .before .before .before .before .before .before .before .before .before .before .before .before in
+    let s = half .before .before .before .before .before .before .before .before .before .before .before .before .before
     in
     let b = at-voronoi-build .voronoi-build in
     let h = c .before .before .show-in-box .ensures in (

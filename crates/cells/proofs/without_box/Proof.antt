@@ -23,7 +23,8 @@ returns c =
     let at-narrow2 = c .before .before .before .before .before .before .before in
     let at-narrow = at-narrow2 .before in
     let at-voronoi-build-unclipped = at-narrow .before .before .before .before .before .before in
-    let s = c .before .before .before .before .before .before .before .before .before .before .before .before .before .before .before .before .before .before .before .before .before .before .before .before .before
+    let half = c .before .before .before .before .before .before .before .before .before .before .before .before in
+    let s = half .before .before .before .before .before .before .before .before .before .before .before .before .before
     in
     let b = at-voronoi-build-unclipped .voronoi-build-unclipped in
     let h = c .before .before .show-without-box .ensures in (

@@ -5,6 +5,7 @@ use mathlib.Core.Logic.{⊎-elim}
 use Prim.Native.Nat.{ℕ, suc, _<_}
 use lib.Ieee.{Float}
 use lib.ListN.{getD}
+use Rattle.numbers.specs.Numbers.{refusedForm}
 use Rattle.form_step.specs.Bytes.{Bytes}
 use Rattle.form_step.specs.Reader.{start, reading}
 use Rattle.form_step.specs.Holds.{ListRoom, Reads}
@@ -29,7 +30,7 @@ module _ (s : List ℕ) (bs ss : List Float) (ts es hs : List ℕ) (bs′ ss′ 
 
   by-refusal : {a : Form} → Refused s bs ss ts es hs a → ByForm a bs′ ss′ ts′ es′ hs′ text → Prints s text
   by-refusal p q =
-      let e : text ≡ refusal 17 = rw (p .answer) at q in
+      let e : text ≡ refusal refusedForm = rw (p .answer) at q in
       rw e (broken (p .no-form))
 
   by-answer : {a : Form} → Bytes s → Reads s (reading start bs ss ts es hs) a bs′ ss′ ts′ es′ hs′ → ByForm a bs′ ss′ ts′ es′ hs′ text → Prints s text

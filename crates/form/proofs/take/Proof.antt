@@ -25,7 +25,8 @@ returns-2 c =
 inside-requires : tie.Need-inside-requires
 inside-requires c κs =
     let at-if2 = c .before .before .before .before .before .before .before .before .before .before .before .before .before .before .before .before in
-    let s = c .before .before .before .before .before .before .before .before .before .before .before .before .before .before .before .before .before .before .before .before .before .before .before .before
+    let half = c .before .before .before .before .before .before .before .before .before .before .before .before in
+    let s = half .before .before .before .before .before .before .before .before .before .before .before .before
     in
     let z = at-if2 .if2 .left in
     (s .pre .0, pos-of-ne-zero z, s .pre .1)

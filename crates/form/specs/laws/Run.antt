@@ -150,7 +150,8 @@ there r k w at n m h a b c l e p q s =
     }
 
 module _ (r : Reader) (bs ss : List Float) (ts es hs : List ℕ) where
-  pub kind-run : (k : ℕ) (s : List ℕ) → r .broken ≡ false → r .left ≡ 0 → follows r k ≡ true → takes (reading r bs ss ts es hs) (k ∷ s) ≡ takes (reading (begun r k) bs ss ts es hs) s
+  pub kind-run : (k : ℕ) (s : List ℕ) → r .broken ≡ false → r .left ≡ 0 → follows r k ≡ true
+      → takes (reading r bs ss ts es hs) (k ∷ s) ≡ takes (reading (begun r k) bs ss ts es hs) s
   unfolding takes outside
   kind-run k s e z f =
       ap (λ (d : Reading). takes d s) (sym (take-outside r k bs ss ts es hs e z) ∙ ap (λ (n : Reader). reading n bs ss ts es hs) (rw f))
