@@ -9,7 +9,8 @@ use lib.ListN.{getD}
 use lib.Ieee.{Float, nan, binary64, ofBits, lt, le}
 use Rattle.laws.specs.And.{and-left, and-right, holds}
 use Rattle.laws.specs.Binary64 as R
-use Rattle.laws.specs.Binary64.{_⊘_, two, large}
+use Rattle.laws.specs.Binary64.{_⊘_, two}
+use Rattle.numbers.specs.Numbers.{large}
 use Rattle.root.specs.Bounds.{Bounded, div-bound, two-more, sub-bound, add-bound}
 use Rattle.root.specs.Tested.{plus-bound}
 use Rattle.utils.specs.Plane.{at, dist2Of}

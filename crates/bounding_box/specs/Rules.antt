@@ -1,7 +1,8 @@
 -- Document 01's rule 3 on the box as given.
 use mathlib.Core.Bool.{Bool, _&&_}
 use lib.Ieee.{Float, lt, le}
-use Rattle.laws.specs.Binary64.{zero, large}
+use Rattle.laws.specs.Binary64.{zero}
+use Rattle.numbers.specs.Numbers.{large}
 use Rattle.utils.specs.Rules.{okSite}
 use Rattle.utils.specs.declared.Point.{Point}
 use Rattle.bounding_box.specs.Box.{madeOf}

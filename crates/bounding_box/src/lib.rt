@@ -4,9 +4,6 @@ use utils::abs_diff_eq;
 use utils::site_ok;
 ghost use mathlib.Core.Path.{_≡_};
 ghost use Prim.Native.Nat.{_<_};
-ghost use lib.ListN.{getD};
-ghost use lib.Ieee.{nan};
-ghost use Rattle.utils.specs.Plane.{at};
 ghost use Rattle.bounding_box.specs.Box.{madeOf, widthOf, heightOf, cornersOf, insideOf, firstSide, whichOf, exclusiveOf};
 ghost use Rattle.bounding_box.specs.Rules.{okBox};
 
@@ -76,7 +73,7 @@ pub fn is_inside(b: BoundingBox, p: Point) -> bool
 }
 
 // No side.
-pub const NONE: u32 = 4;
+pub const NO_SIDE: u32 = 4;
 
 fn first_side(top: bool, bottom: bool, right: bool, left: bool) -> u32
     ensures { λ r. ⌜ r ≡ firstSide top bottom right left ⌝ }
@@ -90,7 +87,7 @@ fn first_side(top: bool, bottom: bool, right: bool, left: bool) -> u32
     } else if left {
         1
     } else {
-        NONE
+        NO_SIDE
     }
 }
 
@@ -109,14 +106,5 @@ pub fn which_edge(b: BoundingBox, p: Point) -> u32
 pub fn is_exclusively_inside(b: BoundingBox, p: Point) -> bool
     ensures { λ r. ⌜ r ≡ exclusiveOf b p ⌝ }
 {
-    is_inside(b, p) & (which_edge(b, p) == NONE)
-}
-
-// The corner of a side, 0 to 3.
-pub fn corner(b: BoundingBox, k: usize) -> Point
-    requires { ⌜ k < 4 ⌝ }
-    ensures { λ r. ⌜ r ≡ getD (cornersOf b) k (at nan nan) ⌝ }
-{
-    let c = corners(b);
-    c[k]
+    is_inside(b, p) & (which_edge(b, p) == NO_SIDE)
 }

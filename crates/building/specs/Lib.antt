@@ -5,3 +5,4 @@ pub mod Cells
 pub mod Steps
 pub mod Success
 pub mod ReadBack
+pub mod laws

@@ -10,10 +10,11 @@ use lib.ListN.{length, replicate}
 use Rattle.laws.specs.Pick.{pick}
 use Rattle.laws.specs.Refusals.{Finds, finds-one, finds-none, finds-first, finds-after, finds-split}
 use Rattle.laws.specs.Binary64.{zero}
+use Rattle.numbers.specs.Numbers.{EMPTY}
 use Rattle.utils.specs.declared.Point.{Point}
 use Rattle.bounding_box.specs.Box.{madeOf}
 use Rattle.bounding_box.specs.Rules.{okBox}
-use Rattle.mesh.specs.Mesh.{EMPTY, leftmostOf}
+use Rattle.mesh.specs.Mesh.{leftmostOf}
 use Rattle.mesh.specs.Accepted.{siteCount}
 use Rattle.mesh.specs.Rules.{callRules}
 use Rattle.queries.specs.Admits.{askedRules, finds-asked, asked-finds, call-answers, Admits, admits-keep}
@@ -90,14 +91,16 @@ module _ {sites : List Float} {tri he hull : List ℕ} {roomy : Bool} {asked : �
   built x = record { found = finds-after (callRules sites tri he hull (roomy ≡ true) (askedRules asked)) (admits-keep x refl) (finds-asked (faultOf o .number)) }
 
   -- refused before the build, or the build's
-  pub builds-cases : {r : ℕ} → Builds sites tri he hull roomy asked o r → (Admits sites tri he hull roomy asked r × (r ≢ 0)) ⊎ (Admits sites tri he hull roomy asked 0 × (r ≡ faultOf o .number))
+  pub builds-cases : {r : ℕ} → Builds sites tri he hull roomy asked o r
+      → (Admits sites tri he hull roomy asked r × (r ≢ 0)) ⊎ (Admits sites tri he hull roomy asked 0 × (r ≡ faultOf o .number))
   builds-cases x =
       ⊎-elim
       (λ y. inl (record { found = y .0 }, y .1))
       (λ y. inr (record { found = finds-none (y .0) }, asked-finds (faultOf o .number) (y .1)))
       (finds-split (callRules sites tri he hull (roomy ≡ true) (askedRules asked)) (askedRules (faultOf o .number)) (call-answers sites tri he hull (roomy ≡ true) asked) (x .found))
 
-pub answer-one : {Number : ℕ → Type 0} {table : List ℕ} {o : Outcome Fault Built} {old new other : Slices} {r s : ℕ} → ((a b : ℕ) → Number a → Number b → a ≡ b) → BuildAnswer Number table o old new r → BuildAnswer Number table o old other s → (r ≡ s) × (new ≡ other)
+pub answer-one : {Number : ℕ → Type 0} {table : List ℕ} {o : Outcome Fault Built} {old new other : Slices} {r s : ℕ}
+    → ((a b : ℕ) → Number a → Number b → a ≡ b) → BuildAnswer Number table o old new r → BuildAnswer Number table o old other s → (r ≡ s) × (new ≡ other)
 answer-one {table = table} {o} {old} {new} {other} {r} {s} one a b =
     let q : r ≡ s = one r s (a .number) (b .number) in
     let w : new .work ≡ other .work = a .work ∙ ap (after EMPTY table (old .work)) q ∙ sym (b .work) in
@@ -107,5 +110,6 @@ answer-one {table = table} {o} {old} {new} {other} {r} {s} one a b =
     let c : new .counts ≡ other .counts = a .counts ∙ ap (after EMPTY (countNumbers o) (old .counts)) q ∙ sym (b .counts) in
     (q, λ i. slices (w i) (v i) (x i) (f i) (c i))
 
-pub answers-one : {sites : List Float} {tri he hull : List ℕ} {asked : ℕ} {o : Outcome Fault Built} {old new other : Slices} {r s : ℕ} → Answers sites tri he hull asked o old new r → Answers sites tri he hull asked o old other s → (r ≡ s) × (new ≡ other)
+pub answers-one : {sites : List Float} {tri he hull : List ℕ} {asked : ℕ} {o : Outcome Fault Built} {old new other : Slices} {r s : ℕ}
+    → Answers sites tri he hull asked o old new r → Answers sites tri he hull asked o old other s → (r ≡ s) × (new ≡ other)
 answers-one = answer-one (λ a b. builds-one)

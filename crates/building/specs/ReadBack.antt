@@ -8,7 +8,7 @@ use lib.ListN.{length, getD, length-append}
 use lib.Seq.{take-at, drop-at}
 use borrow.Author.Tests.{eq-eqb}
 use Rattle.layout.specs.Regions.{joined, offsetsFrom}
-use Rattle.layout.proofs.Compacting.{offsets-length}
+use Rattle.layout.specs.laws.Compacting.{offsets-length}
 use Rattle.shared.specs.Cells.{Cells, cellOf}
 use Rattle.laws.specs.Refusals.{keeps, nothing}
 use Rattle.building.specs.Cells.{cell-number, partAfter, CellAnswer}
@@ -28,9 +28,16 @@ unfolding offsetsFrom joined cellOf
 read-from before rest [] s h = absurd (omega arith)
 read-from before rest (c ∷ cells) zero h =
     let n : getD (offsetsFrom (length before + length c) cells) 0 0 - length before ≡ length c = rw (first-offset (length before + length c) cells) (omega arith) in
-    rw (n, append-assoc before (c ++ joined cells) rest, drop-at before ((c ++ joined cells) ++ rest) (length before) refl, append-assoc c (joined cells) rest) (take-at c (joined cells ++ rest) (length c) refl)
+    rw (
+      n,
+      append-assoc before (c ++ joined cells) rest,
+      drop-at before ((c ++ joined cells) ++ rest) (length before) refl,
+      append-assoc c
+          (joined cells) rest,
+    ) (take-at c (joined cells ++ rest) (length c) refl)
 read-from before rest (c ∷ cells) (suc s) h =
-    shift (length before) (offsetsFrom (length before + length c) cells) (before ++ (c ++ joined cells) ++ rest) s ∙ rw (← append-assoc before c (joined cells), ← length-append before c) (read-from (before ++ c) rest cells s (omega arith))
+    shift (length before) (offsetsFrom (length before + length c) cells) (before ++ (c ++ joined cells) ++ rest) s
+    ∙ rw (← append-assoc before c (joined cells), ← length-append before c) (read-from (before ++ c) rest cells s (omega arith))
 
 -- offsets that count from m do not fall and stay within the entries
 bounds : (m : ℕ) (cells : List (List ℕ)) (i : ℕ) → i < length (offsetsFrom m cells) → (m ≤ getD (offsetsFrom m cells) i 0) × (getD (offsetsFrom m cells) i 0 ≤ m + length (joined cells))
@@ -57,7 +64,8 @@ cut cells room h = record {
 }
 
 -- the offsets of some cells, and an index list that begins with them
-pub read-back : (cells : List (List ℕ)) (spare : List ℕ) (s : ℕ) {part : List ℕ} {r : ℕ} → s < length cells → CellAnswer (offsetsFrom 0 cells) (joined cells ++ spare) s part r → (r ≡ 0) × (part ≡ getD cells s [])
+pub read-back : (cells : List (List ℕ)) (spare : List ℕ) (s : ℕ) {part : List ℕ} {r : ℕ} → s < length cells
+    → CellAnswer (offsetsFrom 0 cells) (joined cells ++ spare) s part r → (r ≡ 0) × (part ≡ getD cells s [])
 unfolding partAfter
 read-back cells spare s {part} {r} h a =
     let offs = offsetsFrom 0 cells in

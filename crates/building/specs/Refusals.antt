@@ -16,7 +16,8 @@ use Rattle.mesh.specs.Accepted.{siteCount}
 use Rattle.definition.specs.declared.Fault.{Fault}
 use Rattle.definition.specs.Fault.{Outcome, ok, refused, andThen, atEdge}
 use Rattle.definition.specs.Cell.{Clip, missed, once, twice, Tip, Took, insertAt, insertEdge, leave, enterAt, enter, link, crossAt, cross, clipStep, stepTo, stepsTo, clipFrom, firstInside, clipCell}
-use Rattle.definition.specs.Build.{Cells, Extensions, centreAt, centresFrom, extended, extensions, extendFrom, finite, hullRing, ringFrom, cellsOf, clipInto, clipHull, isEmpty, clipRest, clipAll, build}
+use Rattle.definition.specs.Build.{Cells, Extensions, centreAt, centresFrom, extended, extensions, extendFrom, finite, hullRing, ringFrom, cellsOf}
+use Rattle.definition.specs.Build.{clipInto, clipHull, isEmpty, clipRest, clipAll, build}
 use Rattle.definition.specs.Unclipped.{unclipped}
 
 -- what holds of a refusal, where there is one
@@ -147,7 +148,8 @@ module _ (sites : List Float) (tri he hull : List ℕ) (b : BoundingBox) where
   all-cells : (left : List ℕ) (n : ℕ) (owners : List ℕ) (x : Extensions) → Refuses Numbered (clipAll b (length tri / 3) tri he hull left n owners x)
   unfolding clipAll
   all-cells left n owners x =
-      late-then Numbered (clipHull b (length tri / 3) he hull left (x .at) 0 (length hull) (cellsOf (x .verts) owners (replicate n []) (x .steps))) (λ s. clipRest b (length tri / 3) tri he 0 (length tri) s)
+      late-then Numbered (clipHull b (length tri / 3) he hull left (x .at) 0 (length hull) (cellsOf (x .verts) owners (replicate n []) (x .steps)))
+      (λ s. clipRest b (length tri / 3) tri he 0 (length tri) s)
       (on-hull b (length tri / 3) he hull left (x .at) 0 (length hull) _)
       (λ s. on-rest b (length tri / 3) tri he 0 (length tri) s)
 
@@ -155,8 +157,10 @@ module _ (sites : List Float) (tri he hull : List ℕ) (b : BoundingBox) where
   unfolding build
   build-late =
       late-then Numbered (centresFrom sites tri 0 (length tri / 3) []) _ (centres sites tri 0 (length tri / 3) []) λ c.
-      late-then Numbered (extendFrom sites tri hull (leftmostOf tri he (siteCount sites)) (length tri / 3) 0 (length hull) (extensions (c ++ cornersOf b) [] [])) _ (extends sites tri hull (leftmostOf tri he (siteCount sites)) (length tri / 3) 0 (length hull) _) λ x.
-      late-then Numbered (clipAll b (length tri / 3) tri he hull (leftmostOf tri he (siteCount sites)) (siteCount sites) _ x) _ (all-cells (leftmostOf tri he (siteCount sites)) (siteCount sites) _ x) (λ s. tt)
+      late-then Numbered (extendFrom sites tri hull (leftmostOf tri he (siteCount sites)) (length tri / 3) 0 (length hull)
+      (extensions (c ++ cornersOf b) [] [])) _ (extends sites tri hull (leftmostOf tri he (siteCount sites)) (length tri / 3) 0 (length hull) _) λ x.
+      late-then Numbered (clipAll b (length tri / 3) tri he hull (leftmostOf tri he (siteCount sites)) (siteCount sites) _ x) _
+      (all-cells (leftmostOf tri he (siteCount sites)) (siteCount sites) _ x) (λ s. tt)
 
 pub unclipped-late : (sites : List Float) (tri he : List ℕ) → Refuses Numbered (unclipped sites tri he)
 unfolding unclipped

@@ -8,7 +8,7 @@ use lib.Ieee.{Float}
 use lib.ListN.{length, replicate}
 use Rattle.laws.specs.Pick.{pick}
 use Rattle.laws.specs.Binary64.{zero}
-use Rattle.mesh.specs.Mesh.{EMPTY}
+use Rattle.numbers.specs.Numbers.{EMPTY}
 use Rattle.mesh.specs.Accepted.{Counted}
 use Rattle.queries.specs.Admits.{Admission}
 use Rattle.outputs.specs.Lent.{padded}

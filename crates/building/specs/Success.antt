@@ -2,7 +2,7 @@
 use mathlib.Core.Path.{_≡_, refl, sym, ap, _∙_}
 use mathlib.Core.Logic.{⊎-elim}
 use mathlib.Core.Bool.{Bool, true, false}
-use mathlib.Core.List.{List, []}
+use mathlib.Core.List.{List}
 use Prim.Native.Nat.{ℕ}
 use native.Mathlib.Omega.{arith}
 use lib.Ieee.{Float}
@@ -62,7 +62,8 @@ pub record Sound (sites : List Float) (tri he hull : List ℕ) (b : BoundingBox)
   pub wraps : Wrapping sites tri he hull b (outcome .value)
   pub fits : Room tri hull b (outcome .value)
 
-pub clipped-sound : {sites : List Float} {tri he hull : List ℕ} (c : Point) (w h : Float) {old new : Slices} {r : ℕ} → Clipped sites tri he hull c w h old new r → r ≡ 0 → Sound sites tri he hull (madeOf c w h)
+pub clipped-sound : {sites : List Float} {tri he hull : List ℕ} (c : Point) (w h : Float) {old new : Slices} {r : ℕ}
+    → Clipped sites tri he hull c w h old new r → r ≡ 0 → Sound sites tri he hull (madeOf c w h)
 clipped-sound {sites} {tri} {he} {hull} c w h a z =
     let s = zero-succeeds (build-late sites tri he hull (madeOf c w h)) a z in
     let box = box-admitted c w h (s .admission .fit) in

@@ -14,7 +14,7 @@ fn ask_cell(offsets: &[u32], indexes: &[u32], site: u32) -> u32
         return asked;
     }
     if !cells_ok(offsets, indexes, count) {
-        return 16;
+        return numbers::REFUSED_OFFSETS;
     }
     0
 }
@@ -28,7 +28,7 @@ pub fn cell<'a>(offsets: &[u32], indexes: &'a [u32], site: u32, number: &mut u32
     if r != 0 {
         return &indexes[..0];
     }
-    shared::cell(offsets, indexes, mesh::wide(site))
+    shared::cell(offsets, indexes, numbers::wide(site))
 }
 
 // Where the cell stands: a number, where it starts and how long it is, 0 and 0 where it is refused.
@@ -49,7 +49,7 @@ pub fn place(offsets: &[u32], indexes: &[u32], site: u32) -> Placed
             length: 0,
         };
     }
-    let s = mesh::wide(site);
+    let s = numbers::wide(site);
     let from = offsets[s];
     let to = offsets[s + 1];
     Placed {

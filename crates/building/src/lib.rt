@@ -1,4 +1,6 @@
 // The builds on a whole lent mesh, each with its refusals and every lent slice at exit; the query for one cell is in cells.rt.
+use numbers::EMPTY;
+
 pub mod cells;
 
 use bounding_box::box_ok;
@@ -10,12 +12,10 @@ use utils::Point;
 ghost use mathlib.Core.Path.{_≡_};
 ghost use Prim.Native.Nat.{_/_, _≤_, _<_};
 ghost use lib.ListN.{length};
-ghost use Rattle.mesh.specs.Mesh.{EMPTY};
+ghost use Rattle.numbers.specs.Numbers.{EMPTY};
 ghost use Rattle.outputs.specs.Lent.{padded};
 ghost use Rattle.building.specs.Promise.{slices, boxAsk, Clipped, Unclipped};
 ghost use Rattle.building.specs.Steps.{RoomAnswer, BuildAdmission, countsOf, Finished};
-
-const NONE: u32 = 4294967295;
 
 // Rule 2 on all that a build is lent, by the lengths of its slices; no where rule 1 is broken.
 fn room_for(
@@ -31,7 +31,7 @@ fn room_for(
 ) -> bool
     ensures { λ r. ⌜ RoomAnswer coordinates entries halfedges hull work numbers indexes offsets counts r ⌝ }
 {
-    if !checker::counts_ok(coordinates, entries, halfedges, hull) {
+    if !check_mesh::counts_ok(coordinates, entries, halfedges, hull) {
         return false;
     }
     let sites = coordinates / 2;
@@ -51,7 +51,7 @@ fn ask_box(c: Point, width: f64, height: f64) -> u32
     if box_ok(c, width, height) {
         return 0;
     }
-    3
+    numbers::REFUSED_BOX
 }
 
 // The rules up to 10. After 7 to 10 every lent slice is cleared.
@@ -68,7 +68,9 @@ fn admit_build(
     counts: &mut [u32],
 ) -> u32
     requires { ⌜ asked < 7 ⌝ }
-    ensures { λ r. ⌜ BuildAdmission (now (sites .entry)) (now (triangles .entry)) (now (halfedges .entry)) (now (hull .entry)) asked (slices (now (work .entry)) (now (v .entry)) (now (ix .entry)) (now (off .entry)) (now (counts .entry))) (slices (now (work .exit)) (now (v .exit)) (now (ix .exit)) (now (off .exit)) (now (counts .exit))) r ⌝ }
+    ensures { λ r. ⌜ BuildAdmission (now (sites .entry)) (now (triangles .entry)) (now (halfedges .entry)) (now (hull .entry)) asked
+        (slices (now (work .entry)) (now (v .entry)) (now (ix .entry)) (now (off .entry)) (now (counts .entry)))
+        (slices (now (work .exit)) (now (v .exit)) (now (ix .exit)) (now (off .exit)) (now (counts .exit))) r ⌝ }
 {
     let roomy = room_for(
         sites.len(),
@@ -82,7 +84,7 @@ fn admit_build(
         counts.len(),
     );
     let r = queries::admit(sites, triangles, halfedges, hull, roomy, asked, work);
-    if r < 7 {
+    if r < numbers::REFUSED_TRIANGLE {
         return r;
     }
     clear_all(v, ix, off);
@@ -101,7 +103,7 @@ fn put_counts(vertices: u32, owners: [u32; 4], lost: u32, counts: &mut [u32])
     counts[3] = owners[2];
     counts[4] = owners[3];
     counts[5] = lost;
-    fill_from(counts, 6, NONE);
+    fill_from(counts, 6, EMPTY);
 }
 
 // The counts of a build with this number; refused, they and the work slice are cleared.
@@ -139,7 +141,9 @@ pub fn build(
     off: &mut [u32],
     counts: &mut [u32],
 ) -> u32
-    ensures { λ r. ⌜ Clipped (now (sites .entry)) (now (triangles .entry)) (now (halfedges .entry)) (now (hull .entry)) c width height (slices (now (work .entry)) (now (v .entry)) (now (ix .entry)) (now (off .entry)) (now (counts .entry))) (slices (now (work .exit)) (now (v .exit)) (now (ix .exit)) (now (off .exit)) (now (counts .exit))) r ⌝ }
+    ensures { λ r. ⌜ Clipped (now (sites .entry)) (now (triangles .entry)) (now (halfedges .entry)) (now (hull .entry)) c width height
+        (slices (now (work .entry)) (now (v .entry)) (now (ix .entry)) (now (off .entry)) (now (counts .entry)))
+        (slices (now (work .exit)) (now (v .exit)) (now (ix .exit)) (now (off .exit)) (now (counts .exit))) r ⌝ }
 {
     let asked = ask_box(c, width, height);
     let r = admit_build(
@@ -188,7 +192,9 @@ pub fn build_unclipped(
     off: &mut [u32],
     counts: &mut [u32],
 ) -> u32
-    ensures { λ r. ⌜ Unclipped (now (sites .entry)) (now (triangles .entry)) (now (halfedges .entry)) (now (hull .entry)) (slices (now (work .entry)) (now (v .entry)) (now (ix .entry)) (now (off .entry)) (now (counts .entry))) (slices (now (work .exit)) (now (v .exit)) (now (ix .exit)) (now (off .exit)) (now (counts .exit))) r ⌝ }
+    ensures { λ r. ⌜ Unclipped (now (sites .entry)) (now (triangles .entry)) (now (halfedges .entry)) (now (hull .entry))
+        (slices (now (work .entry)) (now (v .entry)) (now (ix .entry)) (now (off .entry)) (now (counts .entry)))
+        (slices (now (work .exit)) (now (v .exit)) (now (ix .exit)) (now (off .exit)) (now (counts .exit))) r ⌝ }
 {
     let r = admit_build(
         sites,
@@ -207,6 +213,6 @@ pub fn build_unclipped(
     }
     let fault = unclipped::build_unclipped(sites, triangles, halfedges, hull, v, ix, off);
     let vertices = triangles.len() / 3;
-    finish(fault.number, vertices as u32, [NONE; 4], 0, work, counts);
+    finish(fault.number, vertices as u32, [EMPTY; 4], 0, work, counts);
     fault.number
 }

@@ -4,9 +4,10 @@ use mathlib.Core.List.{List}
 use Prim.Native.Nat.{ℕ, _/_}
 use lib.Ieee.{Float}
 use lib.ListN.{length, replicate}
+use Rattle.numbers.specs.Numbers.{EMPTY}
 use Rattle.bounding_box.specs.Finite.{BoundedBox}
 use Rattle.bounding_box.specs.declared.BoundingBox.{BoundingBox}
-use Rattle.mesh.specs.Mesh.{EMPTY, leftmostOf}
+use Rattle.mesh.specs.Mesh.{leftmostOf}
 use Rattle.mesh.specs.Accepted.{Accepted, siteCount}
 use Rattle.definition.specs.declared.Fault.{Fault}
 use Rattle.definition.specs.Fault.{Outcome, ok, refused, fault}

@@ -4,3 +4,4 @@ pub mod Tries
 pub mod Turns
 pub mod Answer
 pub mod Start
+pub mod laws

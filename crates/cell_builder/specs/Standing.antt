@@ -4,7 +4,7 @@ use mathlib.Core.Path.{_≡_}
 use mathlib.Core.List.{List, [], map}
 use Prim.Native.Nat.{ℕ, _+_, _-_, _*_, _/_, _≤_, _<_}
 use lib.Ieee.{Float}
-use lib.ListN.{length, getD, drop, replicate}
+use lib.ListN.{length, getD, drop}
 use Rattle.laws.specs.Pick.{pick}
 use Rattle.utils.specs.Flat.{points}
 use Rattle.bounding_box.specs.declared.BoundingBox.{BoundingBox}
@@ -14,8 +14,8 @@ use Rattle.mesh.specs.Rules.{Topology}
 use Rattle.layout.specs.Regions.{Regions}
 use Rattle.layout.specs.Rooms.{Started}
 use Rattle.definition.specs.declared.Fault.{Fault}
-use Rattle.definition.specs.Fault.{Outcome, ok, refused, andThen, fault}
-use Rattle.definition.specs.Build.{ringFrom, hullRing, Extensions, Cells, cellsOf, clipInto, clipHull, clipRest, isEmpty}
+use Rattle.definition.specs.Fault.{Outcome, ok, refused, fault}
+use Rattle.definition.specs.Build.{ringFrom, hullRing, Extensions, Cells, clipInto, clipHull, clipRest, isEmpty}
 use Rattle.definition.specs.Edge.{fresh}
 use Rattle.definition.specs.Start.{Beyond}
 use Rattle.definition.specs.Held.{Held}

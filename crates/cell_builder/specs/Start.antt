@@ -5,11 +5,11 @@ use Prim.Native.Nat.{ℕ, _+_, _-_, _*_, _/_, _^_, _≤_, _<_}
 use lib.Ieee.{Float}
 use lib.ListN.{length, getD, drop}
 use Rattle.laws.specs.Binary64.{zero}
+use Rattle.numbers.specs.Numbers.{EMPTY}
 use Rattle.utils.specs.Flat.{points}
 use Rattle.bounding_box.specs.Box.{cornersOf}
 use Rattle.bounding_box.specs.declared.BoundingBox.{BoundingBox}
 use Rattle.vertices.specs.Store.{Holds}
-use Rattle.mesh.specs.Mesh.{EMPTY}
 use Rattle.mesh.specs.Accepted.{siteCount}
 use Rattle.layout.specs.Cleared.{clearedFrom}
 use Rattle.layout.specs.Regions.{Regions, Rising}
@@ -23,7 +23,7 @@ use Rattle.cell_builder.specs.declared.Frame.{Frame}
 use Rattle.cell_builder.specs.declared.Progress.{Progress}
 use Rattle.cell_builder.specs.declared.Answer.{Answer}
 use Rattle.cell_builder.specs.Standing.{ground, frameOf, Does}
-use Rattle.cell_builder.specs.Answer.{Admitted, answerOf}
+use Rattle.cell_builder.specs.Answer.{Admitted}
 
 -- ---- corners and extensions
 
@@ -62,7 +62,8 @@ pub record Makeable (sites : List Float) (tri he hull table : List ℕ) (b : Bou
   pub owner-sites : (k : ℕ) → k < 4 → getD owners k 0 < siteCount sites
 
 -- by the outcome of the extensions: all cells on them, or their refusal
-abbrev pub Makes : List Float → List ℕ → List ℕ → List ℕ → List ℕ → BoundingBox → List ℕ → Outcome Fault Extensions → Progress → List Float → List ℕ → List ℕ → Type 0
+abbrev pub Makes : List Float → List ℕ → List ℕ → List ℕ → List ℕ → BoundingBox → List ℕ → Outcome Fault Extensions → Progress → List Float
+    → List ℕ → List ℕ → Type 0
 Makes sites tri he hull table b owners (ok x) p v₁ ix₁ off₁ =
     Does tri he (frameOf b (length tri) (length hull)) off₁ (ground hull (siteCount sites) owners x) (clipAll b (length tri / 3) tri he hull table (siteCount sites) owners x) p v₁ ix₁
 Makes sites tri he hull table b owners (refused e) p v₁ ix₁ off₁ = (p .fault ≡ e) × (0 < e .number)

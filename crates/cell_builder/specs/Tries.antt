@@ -28,4 +28,5 @@ pub record Ringed (f : Frame) (site : ℕ) (p : Progress) (end : ℕ) (v : List 
 pub record Tried (f : Frame) (site : ℕ) (p : Progress) (end : ℕ) (v : List Float) (ix off : List ℕ) (r : Progress) (v₁ : List Float) (ix₁ : List ℕ) : Type 0 where
   pub stepped : Stepped
   pub is : r ≡ progressOf stepped
-  pub steps : Steps (envOf f site) (end - f .stage) (Def.clipCell (f .bounds) (f .centers) site (ringOf ix (f .stage) (end - f .stage)) (points (p .count) v) (p .owners)) (p .count) (emptyAt (p .owners) (getD off site 0)) v ix stepped v₁ ix₁
+  pub steps : Steps (envOf f site) (end - f .stage) (Def.clipCell (f .bounds) (f .centers) site (ringOf ix (f .stage) (end - f .stage))
+      (points (p .count) v) (p .owners)) (p .count) (emptyAt (p .owners) (getD off site 0)) v ix stepped v₁ ix₁

@@ -1,4 +1,6 @@
 // The clipped build (CellBuilder with ClipBehavior::Clip) over lent slices: circumcenters, owners, extensions, the hull's cells, the rest, then all moved together.
+use numbers::EMPTY;
+
 pub mod tries; // tries.rt: one try
 pub mod turns; // turns.rt: one half-edge of the rest
 pub mod loops; // loops.rt: all of them
@@ -19,15 +21,12 @@ ghost use mathlib.Core.Path.{_≡_};
 ghost use mathlib.Core.List.{[], _∷_};
 ghost use Prim.Native.Nat.{_/_, _≤_};
 ghost use lib.ListN.{length};
-ghost use Rattle.mesh.specs.Accepted.{siteCount};
 ghost use Rattle.definition.specs.Fault.{refused as refusal};
 ghost use Rattle.definition.specs.Build.{build};
 ghost use Rattle.definition.specs.Theorems.{leftOf};
 ghost use Rattle.outputs.specs.Lent.{Lent};
 ghost use Rattle.cell_builder.specs.Answer.{Admitted, answerOf};
 ghost use Rattle.cell_builder.specs.Start.{extendedOf, Makeable, Makes, Emptied, Finishable, Finished};
-
-const NONE: u32 = 4294967295;
 
 // What stays while the cells are clipped: the box, the number of circumcenters, and in the index list where a ring is staged and where the store's part begins.
 // Just before that stand the numbers of the hull's extensions.
@@ -57,7 +56,7 @@ pub struct Answer {
 fn still(owner: u32) -> u32
     ensures { λ r. ⌜ (r ≡ leftOf (owner ∷ [])) × (r ≤ 1) ⌝ }
 {
-    if owner == NONE {
+    if owner == EMPTY {
         return 0;
     }
     1
@@ -84,7 +83,7 @@ fn refuse(v: &mut [f64], ix: &mut [u32], off: &mut [u32], fault: Fault) -> Answe
     Answer {
         fault: fault,
         count: 0,
-        owners: [NONE; 4],
+        owners: [EMPTY; 4],
         lost: 0,
     }
 }
@@ -103,7 +102,9 @@ fn make_cells(
     off: &mut [u32],
 ) -> Progress
     requires { ⌜ Makeable (now sites) (now triangles) (now halfedges) (now hull) (now table) b owners (length (now v)) (length (now ix)) (length (now off)) ⌝ }
-    ensures { λ r. ⌜ Makes (now (sites .entry)) (now (triangles .entry)) (now (halfedges .entry)) (now (hull .entry)) (now (table .entry)) b owners (extendedOf (now (sites .entry)) (now (triangles .entry)) (now (hull .entry)) (now (table .entry)) b (length (now (triangles .entry)) / 3) (now (v .entry))) r (now (v .exit)) (now (ix .exit)) (now (off .exit)) ⌝ }
+    ensures { λ r. ⌜ Makes (now (sites .entry)) (now (triangles .entry)) (now (halfedges .entry)) (now (hull .entry)) (now (table .entry)) b owners
+        (extendedOf (now (sites .entry)) (now (triangles .entry)) (now (hull .entry)) (now (table .entry)) b (length (now (triangles .entry)) / 3)
+        (now (v .entry))) r (now (v .exit)) (now (ix .exit)) (now (off .exit)) ⌝ }
 {
     let f = frame(b, triangles.len(), hull.len());
     lay_out(triangles, hull, owners, ix, off, sites.len() / 2);
@@ -152,7 +153,9 @@ pub fn build_cells(
     off: &mut [u32],
 ) -> Answer
     requires { ⌜ Admitted (now sites) (now triangles) (now halfedges) (now hull) (now table) b (length (now v)) (length (now ix)) (length (now off)) ⌝ }
-    ensures { λ r. ⌜ (r ≡ answerOf (build (now (sites .entry)) (now (triangles .entry)) (now (halfedges .entry)) (now (hull .entry)) b)) × Lent (build (now (sites .entry)) (now (triangles .entry)) (now (halfedges .entry)) (now (hull .entry)) b) (now (v .entry)) (now (ix .entry)) (now (off .entry)) (now (v .exit)) (now (ix .exit)) (now (off .exit)) ⌝ }
+    ensures { λ r. ⌜ (r ≡ answerOf (build (now (sites .entry)) (now (triangles .entry)) (now (halfedges .entry)) (now (hull .entry)) b))
+        × Lent (build (now (sites .entry)) (now (triangles .entry)) (now (halfedges .entry)) (now (hull .entry)) b) (now (v .entry))
+        (now (ix .entry)) (now (off .entry)) (now (v .exit)) (now (ix .exit)) (now (off .exit)) ⌝ }
 {
     let t = calculate_circumcenters(sites, triangles, v);
     if t < triangles.len() / 3 {
@@ -161,7 +164,7 @@ pub fn build_cells(
             ix,
             off,
             Fault {
-                number: 11,
+                number: numbers::REFUSED_CIRCUMCENTER,
                 place: t as u32,
                 from: 0,
                 to: 0,

@@ -26,7 +26,11 @@ fn clip_hull(
     p: Progress,
 ) -> Progress
     requires { ⌜ HullsAmid (now triangles) (now halfedges) (now hull) (now table) f (now off) p (now v) (now ix) ⌝ }
-    ensures { λ r. ⌜ ((g : Ground) (s : Cells) → g .hull ≡ now (hull .entry) → ((i : ℕ) → i < length (now (hull .entry)) → getD (s .cells) (getD (now (hull .entry)) i 0) [] ≡ []) → Amid (now (triangles .entry)) (now (halfedges .entry)) f (now (off .entry)) g s p (now (v .entry)) (now (ix .entry)) → Does (now (triangles .entry)) (now (halfedges .entry)) f (now (off .entry)) g (hullTries (now (triangles .entry)) (now (halfedges .entry)) (now (table .entry)) f g s) r (now (v .exit)) (now (ix .exit))) ⌝ }
+    ensures { λ r. ⌜ ((g : Ground) (s : Cells) → g .hull ≡ now (hull .entry)
+        → ((i : ℕ) → i < length (now (hull .entry)) → getD (s .cells) (getD (now (hull .entry)) i 0) [] ≡ [])
+        → Amid (now (triangles .entry)) (now (halfedges .entry)) f (now (off .entry)) g s p (now (v .entry)) (now (ix .entry))
+        → Does (now (triangles .entry)) (now (halfedges .entry)) f (now (off .entry)) g
+        (hullTries (now (triangles .entry)) (now (halfedges .entry)) (now (table .entry)) f g s) r (now (v .exit)) (now (ix .exit))) ⌝ }
 {
     let mut at = p;
     let mut i: usize = 0;
@@ -54,7 +58,9 @@ fn clip_rest(
     p: Progress,
 ) -> Progress
     requires { ⌜ RestAmid (now triangles) (now halfedges) (now table) f (now off) p (now v) (now ix) ⌝ }
-    ensures { λ r. ⌜ ((g : Ground) (s : Cells) → Amid (now (triangles .entry)) (now (halfedges .entry)) f (now (off .entry)) g s p (now (v .entry)) (now (ix .entry)) → now (table .entry) ≡ leftmostOf (now (triangles .entry)) (now (halfedges .entry)) (g .sites) → Does (now (triangles .entry)) (now (halfedges .entry)) f (now (off .entry)) g (edgeTries (now (triangles .entry)) (now (halfedges .entry)) f s) r (now (v .exit)) (now (ix .exit))) ⌝ }
+    ensures { λ r. ⌜ ((g : Ground) (s : Cells) → Amid (now (triangles .entry)) (now (halfedges .entry)) f (now (off .entry)) g s p (now (v .entry))
+        (now (ix .entry)) → now (table .entry) ≡ leftmostOf (now (triangles .entry)) (now (halfedges .entry)) (g .sites)
+        → Does (now (triangles .entry)) (now (halfedges .entry)) f (now (off .entry)) g (edgeTries (now (triangles .entry)) (now (halfedges .entry)) f s) r (now (v .exit)) (now (ix .exit))) ⌝ }
 {
     let mut at = p;
     let mut full = true;
@@ -86,7 +92,13 @@ pub fn clip_cells(
     p: Progress,
 ) -> Progress
     requires { ⌜ HullsAmid (now triangles) (now halfedges) (now hull) (now table) f (now off) p (now v) (now ix) ⌝ }
-    ensures { λ r. ⌜ ((g : Ground) (s : Cells) → g .hull ≡ now (hull .entry) → ((i : ℕ) → i < length (now (hull .entry)) → getD (s .cells) (getD (now (hull .entry)) i 0) [] ≡ []) → Amid (now (triangles .entry)) (now (halfedges .entry)) f (now (off .entry)) g s p (now (v .entry)) (now (ix .entry)) → now (table .entry) ≡ leftmostOf (now (triangles .entry)) (now (halfedges .entry)) (g .sites) → Does (now (triangles .entry)) (now (halfedges .entry)) f (now (off .entry)) g (andThen (hullTries (now (triangles .entry)) (now (halfedges .entry)) (now (table .entry)) f g s) (λ t. edgeTries (now (triangles .entry)) (now (halfedges .entry)) f t)) r (now (v .exit)) (now (ix .exit))) ⌝ }
+    ensures { λ r. ⌜ ((g : Ground) (s : Cells) → g .hull ≡ now (hull .entry)
+        → ((i : ℕ) → i < length (now (hull .entry)) → getD (s .cells) (getD (now (hull .entry)) i 0) [] ≡ [])
+        → Amid (now (triangles .entry)) (now (halfedges .entry)) f (now (off .entry)) g s p (now (v .entry)) (now (ix .entry))
+        → now (table .entry) ≡ leftmostOf (now (triangles .entry)) (now (halfedges .entry)) (g .sites)
+        → Does (now (triangles .entry)) (now (halfedges .entry)) f (now (off .entry)) g
+        (andThen (hullTries (now (triangles .entry)) (now (halfedges .entry)) (now (table .entry)) f g s)
+        (λ t. edgeTries (now (triangles .entry)) (now (halfedges .entry)) f t)) r (now (v .exit)) (now (ix .exit))) ⌝ }
 {
     let r = clip_hull(triangles, halfedges, hull, table, v, ix, off, f, p);
     let fault = r.fault;

@@ -37,7 +37,9 @@ pub fn extend(
     owners: [u32; 4],
 ) -> Progress
     requires { ⌜ Extendable (now sites) (now triangles) (now hull) (now table) f (length (now v)) (length (now ix)) ⌝ }
-    ensures { λ r. ⌜ Begins (length (now (hull .entry))) f owners (extendedOf (now (sites .entry)) (now (triangles .entry)) (now (hull .entry)) (now (table .entry)) (f .bounds) (f .centers) (now (v .entry))) (now (ix .entry)) r (now (v .exit)) (now (ix .exit)) ⌝ }
+    ensures { λ r. ⌜ Begins (length (now (hull .entry))) f owners
+        (extendedOf (now (sites .entry)) (now (triangles .entry)) (now (hull .entry)) (now (table .entry)) (f .bounds) (f .centers) (now (v .entry)))
+        (now (ix .entry)) r (now (v .exit)) (now (ix .exit)) ⌝ }
 {
     let bounds = f.bounds;
     let count = calculate_corners(v, ix, f.limit, f.centers, corners(bounds));
@@ -57,7 +59,7 @@ pub fn extend(
     if passed.place < hull.len() {
         return Progress {
             fault: Fault {
-                number: 12,
+                number: numbers::REFUSED_EXTENSION,
                 place: passed.place as u32,
                 from: 0,
                 to: 0,

@@ -7,7 +7,8 @@ use definition::Fault;
 use interior::all_inside;
 use interior::copy_ring;
 use mesh::end_site;
-use mesh::wide;
+use numbers::EMPTY;
+use numbers::wide;
 use rings::staging::stage_hull_ring;
 use rings::staging::stage_ring;
 ghost use mathlib.Core.Path.{_≡_};
@@ -17,8 +18,6 @@ ghost use lib.ListN.{length, getD};
 ghost use Rattle.definition.specs.Build.{Cells};
 ghost use Rattle.cell_builder.specs.Standing.{Ground, Amid, Does, hullTry, edgeTry, HullAmid, EdgesAmid};
 ghost use Rattle.cell_builder.specs.Tries.{Ringed, Tried};
-
-const NONE: u32 = 4294967295;
 
 // Clips the ring that is staged up to `end`; one that lies inside whole is its own cell.
 fn clip_staged(
@@ -82,7 +81,10 @@ pub fn clip_at_hull(
     i: usize,
 ) -> Progress
     requires { ⌜ HullAmid (now triangles) (now halfedges) (now hull) (now table) f (now off) p (now v) (now ix) i ⌝ }
-    ensures { λ r. ⌜ ((g : Ground) (s : Cells) → g .hull ≡ now (hull .entry) → getD (s .cells) (getD (now (hull .entry)) i 0) [] ≡ [] → Amid (now (triangles .entry)) (now (halfedges .entry)) f (now (off .entry)) g s p (now (v .entry)) (now (ix .entry)) → Does (now (triangles .entry)) (now (halfedges .entry)) f (now (off .entry)) g (hullTry (now (triangles .entry)) (now (halfedges .entry)) (now (table .entry)) f g i s) r (now (v .exit)) (now (ix .exit))) ⌝ }
+    ensures { λ r. ⌜ ((g : Ground) (s : Cells) → g .hull ≡ now (hull .entry) → getD (s .cells) (getD (now (hull .entry)) i 0) [] ≡ []
+        → Amid (now (triangles .entry)) (now (halfedges .entry)) f (now (off .entry)) g s p (now (v .entry)) (now (ix .entry))
+        → Does (now (triangles .entry)) (now (halfedges .entry)) f (now (off .entry)) g
+        (hullTry (now (triangles .entry)) (now (halfedges .entry)) (now (table .entry)) f g i s) r (now (v .exit)) (now (ix .exit))) ⌝ }
 {
     let site = hull[i];
     let numbers = f.limit - hull.len();
@@ -102,11 +104,13 @@ pub fn clip_at_edge(
     e: usize,
 ) -> Progress
     requires { ⌜ EdgesAmid (now triangles) (now halfedges) f (now off) p (now v) (now ix) × (e < length (now triangles)) ⌝ }
-    ensures { λ r. ⌜ ((g : Ground) (s : Cells) → Amid (now (triangles .entry)) (now (halfedges .entry)) f (now (off .entry)) g s p (now (v .entry)) (now (ix .entry)) → Does (now (triangles .entry)) (now (halfedges .entry)) f (now (off .entry)) g (edgeTry (now (triangles .entry)) (now (halfedges .entry)) f e s) r (now (v .exit)) (now (ix .exit))) ⌝ }
+    ensures { λ r. ⌜ ((g : Ground) (s : Cells) → Amid (now (triangles .entry)) (now (halfedges .entry)) f (now (off .entry)) g s p (now (v .entry))
+        (now (ix .entry)) → Does (now (triangles .entry)) (now (halfedges .entry)) f (now (off .entry)) g
+        (edgeTry (now (triangles .entry)) (now (halfedges .entry)) f e s) r (now (v .exit)) (now (ix .exit))) ⌝ }
 {
     let site = end_site(triangles, e);
     let base = wide(off[wide(site)]);
-    if ix[base] != NONE {
+    if ix[base] != EMPTY {
         return p;
     }
     let end = stage_ring(triangles, halfedges, e as u32, ix, f.stage);

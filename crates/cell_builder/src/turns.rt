@@ -3,14 +3,13 @@ use crate::Frame;
 use crate::Progress;
 use crate::tries::clip_at_edge;
 use mesh::end_site;
-use mesh::wide;
+use numbers::EMPTY;
+use numbers::wide;
 ghost use mathlib.Core.Path.{_≡_};
 ghost use Rattle.mesh.specs.Mesh.{leftmostOf};
 ghost use Rattle.definition.specs.Build.{Cells};
 ghost use Rattle.cell_builder.specs.Standing.{Ground, Amid};
 ghost use Rattle.cell_builder.specs.Turns.{FullBefore, TurnAmid, Turned};
-
-const NONE: u32 = 4294967295;
 
 // How far the build is, and whether every try so far has made its cell.
 pub struct Turn {
@@ -32,7 +31,10 @@ pub fn clip_turn(
     e: usize,
 ) -> Turn
     requires { ⌜ TurnAmid (now triangles) (now halfedges) (now table) f (now off) p full (now v) (now ix) e ⌝ }
-    ensures { λ r. ⌜ ((g : Ground) (s : Cells) → Amid (now (triangles .entry)) (now (halfedges .entry)) f (now (off .entry)) g s p (now (v .entry)) (now (ix .entry)) → now (table .entry) ≡ leftmostOf (now (triangles .entry)) (now (halfedges .entry)) (g .sites) → FullBefore (now (table .entry)) (g .sites) full e s → Turned (now (triangles .entry)) (now (halfedges .entry)) (now (table .entry)) f (now (off .entry)) g s e (r .progress) (r .full) (now (v .exit)) (now (ix .exit))) ⌝ }
+    ensures { λ r. ⌜ ((g : Ground) (s : Cells) → Amid (now (triangles .entry)) (now (halfedges .entry)) f (now (off .entry)) g s p (now (v .entry))
+        (now (ix .entry)) → now (table .entry) ≡ leftmostOf (now (triangles .entry)) (now (halfedges .entry)) (g .sites)
+        → FullBefore (now (table .entry)) (g .sites) full e s
+        → Turned (now (triangles .entry)) (now (halfedges .entry)) (now (table .entry)) f (now (off .entry)) g s e (r .progress) (r .full) (now (v .exit)) (now (ix .exit))) ⌝ }
 {
     let site = wide(end_site(triangles, e));
     if full & (wide(table[site]) < e) {
@@ -45,6 +47,6 @@ pub fn clip_turn(
     let base = wide(off[site]);
     Turn {
         progress: r,
-        full: full & (ix[base] != NONE),
+        full: full & (ix[base] != EMPTY),
     }
 }

@@ -2,30 +2,30 @@
 use mathlib.Core.Path.{_≡_, refl, ap, _∙_, subst}
 use mathlib.Core.List.{List, [], _∷_, _++_}
 use mathlib.Core.Logic.{⊎-elim}
-use Prim.Native.Nat.{ℕ, _+_, _*_, _≤_, _<_}
+use Prim.Native.Nat.{ℕ, _*_, _≤_, _<_}
 use native.Mathlib.Omega.{arith}
 use lib.ListN.{length, take, length-append}
 use lib.Seq.{take-all, length-take-le}
 use Rattle.laws.specs.Decide.{lt-or-ge}
-use Rattle.form.specs.Form.{Clip, box, unclipped, Mesh, Fits, IsForm, formOf, each, numbers, clipBytes, siteBytes, triangleBytes, hullBytes}
+use Rattle.form.specs.Form.{Outline, box, unclipped, FormMesh, MeshFits, IsForm, formOf, each, numbersOf, outlineBytes, siteBytes, triangleBytes, hullBytes}
 use Rattle.cells.specs.Printed.{Prints, sound, broken}
-use Rattle.cells.specs.Mesh.{numbers-length}
+use Rattle.cells.specs.laws.FormLists.{numbers-length}
 
-each-numbers : {A : Type 0} (f : A → List ℕ) (l : List A) → each f l ≡ numbers f l
+each-numbers : {A : Type 0} (f : A → List ℕ) (l : List A) → each f l ≡ numbersOf f l
 each-numbers f [] = refl
 each-numbers f (a ∷ l) = ap (λ (m : List ℕ). f a ++ m) (each-numbers f l)
 
 each-length : {A : Type 0} (f : A → List ℕ) (k : ℕ) → ((a : A) → length (f a) ≡ k) → (l : List A) → length (each f l) ≡ k * length l
 each-length f k h l = ap length (each-numbers f l) ∙ numbers-length f k h l
 
-clip-short : (c : Clip) → length (clipBytes c) ≤ 33
+clip-short : (c : Outline) → length (outlineBytes c) ≤ 33
 clip-short (box x y w h) = omega arith
 clip-short unclipped = omega arith
 
-pub form-short : (m : Mesh) → Fits m → length (formOf m) ≤ 6946
+pub form-short : (m : FormMesh) → MeshFits m → length (formOf m) ≤ 6946
 unfolding formOf
 form-short m f =
-    let a = clipBytes (m .clip) in
+    let a = outlineBytes (m .clip) in
     let b = each siteBytes (m .sites) in
     let c = each triangleBytes (m .triangles) in
     let d = each hullBytes (m .hull) in

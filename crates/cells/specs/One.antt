@@ -11,16 +11,16 @@ use Rattle.queries.specs.Admits.{admits-one}
 use Rattle.definition.specs.declared.Fault.{Fault}
 use Rattle.definition.specs.Fault.{Outcome}
 use Rattle.definition.specs.Build.{Built}
-use Rattle.form.specs.Form.{Mesh, Fits, formOf}
-use Rattle.form.specs.Reader.{answer, start, lent, takes, Lent}
-use Rattle.form.specs.Holds.{Room}
-use Rattle.form.specs.MeshLaws.{Whole, complete}
-use Rattle.form.specs.declared.Form.{Form}
-use Rattle.form.specs.declared.Form.the-variants.{Sound, Broken}
+use Rattle.form.specs.Form.{FormMesh, MeshFits, formOf}
+use Rattle.form_step.specs.Reader.{verdict, start, reading, takes, Reading}
+use Rattle.form_step.specs.Holds.{ListRoom}
+use Rattle.form.specs.laws.Mesh.{WholeRead, complete}
+use Rattle.form_step.specs.declared.Form.{Form}
+use Rattle.form_step.specs.declared.Form.the-variants.{Sound, Broken}
 use Rattle.listing.specs.Listing.{refusal}
 use Rattle.cells.specs.Printed.{Shows, early, late, built, OfMesh, Prints, sound, broken}
 use Rattle.cells.specs.Shown.{ByForm}
-use Rattle.cells.specs.Mesh.{to-form}
+use Rattle.cells.specs.laws.FormLists.{to-form}
 
 module _ {Rules : ℕ → Type 0} {text : Built → List ℕ} (one : (a b : ℕ) → Rules a → Rules b → a ≡ b) where
   shows-one : {o : Outcome Fault Built} {a b : List ℕ} → Shows Rules text o a → Shows Rules text o b → a ≡ b
@@ -44,18 +44,27 @@ floats n = replicate n B.zero
 abbrev links : ℕ → List ℕ
 links n = replicate n 0
 
-abbrev read : List ℕ → Lent
-read s = takes (lent start (floats 4) (floats 192) (links 576) (links 576) (links 96)) s
+abbrev read : List ℕ → Reading
+read s = takes (reading start (floats 4) (floats 192) (links 576) (links 576) (links 96)) s
 
-by-reader : (s text : List ℕ) (m : Mesh) → Fits m → s ≡ formOf m → OfMesh m text → ByForm (answer (read s .reader)) (read s .bounds) (read s .sites) (read s .triangles) (read s .halfedges) (read s .hull) text
+by-reader : (s text : List ℕ) (m : FormMesh) → MeshFits m → s ≡ formOf m → OfMesh m text
+    → ByForm (verdict (read s .reader)) (read s .bounds) (read s .sites) (read s .triangles) (read s .halfedges) (read s .hull) text
 by-reader s text m f e q =
-    let w : Whole m (floats 4) (floats 192) (links 576) (links 576) (links 96) (read s) = rw e (complete (floats 4) (floats 192) (links 576) (links 576) (links 96) m f) in
-    let room : Room (floats 4) (floats 192) (links 576) (links 576) (links 96) = record { bounds = omega (arith, length-replicate 4 B.zero); sites = omega (arith, length-replicate 192 B.zero); triangles = omega (arith, length-replicate {A = ℕ} 576 0); halfedges = omega (arith, length-replicate {A = ℕ} 576 0); hull = omega (arith, length-replicate {A = ℕ} 96 0) } in
-    rw (w .answer) (to-form m f (floats 4) (floats 192) (links 576) (links 576) (links 96) room (read s .bounds) (read s .sites) (read s .triangles) (read s .halfedges) (read s .hull) (record { bounds = w .bounds; sites = w .sites; triangles = w .triangles; halfedges = w .halfedges; hull = w .hull }) text q)
+    let w : WholeRead m (floats 4) (floats 192) (links 576) (links 576) (links 96) (read s) = rw e (complete (floats 4) (floats 192) (links 576) (links 576) (links 96) m f) in
+    let room : ListRoom (floats 4) (floats 192) (links 576) (links 576)
+    (links 96) = record {
+      bounds = omega (arith, length-replicate 4 B.zero);
+      sites = omega (arith, length-replicate 192 B.zero);
+      triangles = omega (arith, length-replicate {A = ℕ} 576 0);
+      halfedges = omega (arith, length-replicate {A = ℕ} 576 0);
+      hull = omega (arith, length-replicate {A = ℕ} 96 0);
+    } in
+    rw (w .answer) (to-form m f (floats 4) (floats 192) (links 576) (links 576) (links 96) room (read s .bounds) (read s .sites) (read s .triangles)
+    (read s .halfedges) (read s .hull) (record { bounds = w .bounds; sites = w .sites; triangles = w .triangles; halfedges = w .halfedges; hull = w .hull }) text q)
 
 pub prints-one : {s a b : List ℕ} → Prints s a → Prints s b → a ≡ b
 prints-one {s} {a} {b} (sound m f e p) (sound n g d q) =
-    form-one (answer (read s .reader)) (read s .bounds) (read s .sites) (read s .triangles) (read s .halfedges) (read s .hull) a b (by-reader s a m f e p) (by-reader s b n g d q)
+    form-one (verdict (read s .reader)) (read s .bounds) (read s .sites) (read s .triangles) (read s .halfedges) (read s .hull) a b (by-reader s a m f e p) (by-reader s b n g d q)
 prints-one (sound m f e p) (broken n) = absurd (n (record { mesh = m; fits = f; bytes = e }))
 prints-one (broken n) (sound m f e p) = absurd (n (record { mesh = m; fits = f; bytes = e }))
 prints-one (broken n) (broken k) = refl

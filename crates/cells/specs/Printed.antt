@@ -6,6 +6,7 @@ use mathlib.Core.Logic.{_≢_}
 use Prim.Native.Nat.{ℕ, suc, _/_}
 use lib.Ieee.{Float}
 use lib.ListN.{length}
+use Rattle.numbers.specs.Numbers.{refusedForm}
 use Rattle.utils.specs.Plane.{at}
 use Rattle.utils.specs.declared.Point.{Point}
 use Rattle.bounding_box.specs.Box.{madeOf}
@@ -17,7 +18,7 @@ use Rattle.definition.specs.Build.{Built, build}
 use Rattle.definition.specs.Unclipped as definition
 use Rattle.outputs.specs.Lent.{unmarked}
 use Rattle.building.specs.Promise.{boxAsk}
-use Rattle.form.specs.Form.{Clip, box, unclipped, Mesh, Fits, IsForm, formOf, numbers, float, siteFloats, triangleSites, trianglePairs}
+use Rattle.form.specs.Form.{Outline, box, unclipped, FormMesh, MeshFits, IsForm, formOf, numbersOf, float, siteFloats, triangleSites, trianglePairs}
 use Rattle.listing.specs.Listing.{counts, cellLine, corners, refusal}
 
 -- ---- the text of a build of n sites and T triangles
@@ -46,15 +47,15 @@ module _ (sites : List Float) (tri he hull : List ℕ) where
   abbrev pub WithoutBox : List ℕ → Type 0
   WithoutBox = Shows (Admits sites tri he hull true 0) (unclippedText (siteCount sites) (length tri / 3)) (definition.unclipped sites tri he)
 
-  abbrev pub ByClip : Clip → List ℕ → Type 0
+  abbrev pub ByClip : Outline → List ℕ → Type 0
   ByClip (box x y w h) = InBox (at (float x) (float y)) (float w) (float h)
   ByClip unclipped = WithoutBox
 
 -- ---- the text of an input
 
-abbrev pub OfMesh : Mesh → List ℕ → Type 0
-OfMesh m = ByClip (numbers siteFloats (m .sites)) (numbers triangleSites (m .triangles)) (numbers trianglePairs (m .triangles)) (m .hull) (m .clip)
+abbrev pub OfMesh : FormMesh → List ℕ → Type 0
+OfMesh m = ByClip (numbersOf siteFloats (m .sites)) (numbersOf triangleSites (m .triangles)) (numbersOf trianglePairs (m .triangles)) (m .hull) (m .clip)
 
 pub data Prints (s : List ℕ) : List ℕ → Type 0 where
-  sound : {text : List ℕ} (m : Mesh) → Fits m → s ≡ formOf m → OfMesh m text → Prints s text
-  broken : (IsForm s → ⊥) → Prints s (refusal 17)
+  sound : {text : List ℕ} (m : FormMesh) → MeshFits m → s ≡ formOf m → OfMesh m text → Prints s text
+  broken : (IsForm s → ⊥) → Prints s (refusal refusedForm)

@@ -6,15 +6,16 @@ use Prim.Native.Nat.{ℕ, _*_, _≤_}
 use lib.Dec.{eqb}
 use lib.Ieee.{Float, nan}
 use lib.ListN.{getD, take}
+use Rattle.numbers.specs.Numbers.{refusedForm}
 use Rattle.laws.specs.Pick.{pick}
 use Rattle.utils.specs.Plane.{at}
-use Rattle.form.specs.declared.Form.{Form}
-use Rattle.form.specs.declared.Form.the-variants.{Sound, Broken}
+use Rattle.form_step.specs.declared.Form.{Form}
+use Rattle.form_step.specs.declared.Form.the-variants.{Sound, Broken}
 use Rattle.listing.specs.Listing.{unclippedListing, listing, refusal, Layout}
 use Rattle.cells.specs.Printed.{InBox, WithoutBox}
 
 -- the lists of a form, and room for its text
-pub record Sized (coordinates entries hull space : ℕ) : Type 0 where
+pub record SheetSized (coordinates entries hull space : ℕ) : Type 0 where
   pub few-sites : coordinates ≤ 192
   pub few-triangles : entries ≤ 576
   pub few-on-hull : hull ≤ 96
@@ -39,7 +40,7 @@ abbrev pub shown : List ℕ → ℕ → List ℕ
 shown text r = pick (eqb r 0) (λ _. text) (λ _. refusal r)
 
 -- the first r bytes of a slice of this length are the text
-pub record Holds (text out : List ℕ) (space r : ℕ) : Type 0 where
+pub record ShownIn (text out : List ℕ) (space r : ℕ) : Type 0 where
   pub first : take r out ≡ text
   pub within : r ≤ space
 
@@ -50,5 +51,5 @@ ByMode false bs ss ts es hs text = InBox ss ts es hs (at (getD bs 0 nan) (getD b
 
 -- the text of a form that was read into these lists
 abbrev pub ByForm : Form → List Float → List Float → List ℕ → List ℕ → List ℕ → List ℕ → Type 0
-ByForm (Broken k) bs ss ts es hs text = text ≡ refusal 17
+ByForm (Broken k) bs ss ts es hs text = text ≡ refusal refusedForm
 ByForm (Sound s t h u) bs ss ts es hs text = ByMode u bs (take (2 * s) ss) (take (3 * t) ts) (take (3 * t) es) (take h hs) text

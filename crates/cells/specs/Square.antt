@@ -1,10 +1,10 @@
--- 01's "square", from its 172 bytes to its listing: the bytes are the form of its mesh, and the text of that mesh's build is 01's. By computation.
+-- "square" (docs/RULES.md), from its 172 bytes to its listing: the bytes are the form of its mesh, and the text of that mesh's build is the one there. By computation.
 use mathlib.Core.Path.{_≡_, refl}
-use mathlib.Core.List.{List, [], _∷_}
-use Rattle.mesh.specs.Mesh.{EMPTY, nextOf, chosen, tableTo, turnOf, walkOf}
+use mathlib.Core.List.{List}
+use Rattle.mesh.specs.Mesh.{nextOf, chosen, tableTo, turnOf, walkOf}
 use Rattle.definition.specs.Fault.{Outcome, ok, refused, andThen, atEdge}
 use lib.Count.{trailingZeros}
-use lib.Ieee.{Float, binary64, ofBits, add, sub, mul, div, lt, le, eq, neg, sum, round, units, odd, size, span, climb}
+use lib.Ieee.{ofBits, add, sub, mul, div, lt, le, eq, neg, sum, round, units, odd, size, span, climb}
 use Rattle.laws.specs.Count.{same}
 use Rattle.root.specs.Sqrt.{wholeRoot, nearestRoot, rootOfUnits, sqrtOf}
 use Rattle.utils.specs.Plane.{at, nearOf, dist2Of, centreOf}
@@ -15,12 +15,13 @@ use Rattle.vertices.specs.Add.{nearPt, findNear, addVertex}
 use Rattle.mesh.specs.Hull.{afterOf}
 use Rattle.iterator.specs.Neighbours.{lastEnd, startsOf, neighboursOf}
 use Rattle.iterator.specs.Path.{distOf, nearestOf, hopOf, pathEnd}
-use Rattle.definition.specs.Cell.{wraps, around, insertAt, insertEdge, edgeCrossing, clipWith, clipEdge, leave, enterAt, enter, link, crossAt, cross, clipStep, inBox, stepTo, stepsTo, firstInside, turned, clipFrom, clipCell}
+use Rattle.definition.specs.Cell.{wraps, around, insertAt, insertEdge, edgeCrossing, clipWith, clipEdge, leave, enterAt, enter, link, crossAt, cross}
+use Rattle.definition.specs.Cell.{clipStep, inBox, stepTo, stepsTo, firstInside, turned, clipFrom, clipCell}
 use Rattle.definition.specs.Build.{Built, centreAt, centresFrom, ownersFrom, extended, extendFrom, hullRing, clipInto, clipHull, clipRest, wrappedIn, allWrapped, lostFrom, clipAll, build}
 use Prim.Native.Nat.{ℕ}
 use lib.ListN.{length}
 use Rattle.definition.specs.declared.Fault.{Fault}
-use Rattle.form.specs.Form.{formOf, numbers, float, siteFloats, triangleSites, trianglePairs}
+use Rattle.form.specs.Form.{formOf, numbersOf, float, siteFloats, triangleSites, trianglePairs}
 use Rattle.form.specs.Square.{square, squareBytes, two-is}
 use Rattle.listing.specs.Text.{ascii, digits, decimal}
 use Rattle.listing.specs.Listing.{entries, labelled, counts, cellLine, corners}
@@ -34,7 +35,14 @@ texted n T (refused f) = refused f
 pub rows :
     (length squareBytes ≡ 172)
     × (formOf square ≡ squareBytes)
-    × (texted 4 2 (build (numbers siteFloats (square .sites)) (numbers triangleSites (square .triangles)) (numbers trianglePairs (square .triangles)) (square .hull) (madeOf (at (float 0) (float 0)) (float two-is) (float two-is)))
+    × (texted 4 2 (build (numbersOf siteFloats (square .sites)) (numbersOf triangleSites (square .triangles)) (numbersOf trianglePairs (square .triangles))
+    (square .hull) (madeOf (at (float 0) (float 0)) (float two-is) (float two-is)))
     ≡ ok (ascii "sites 4 triangles 2 vertices 14\ncell 0: 1 10 2 11 0\ncell 1: 0 11 3 12\ncell 2: 0 12 4 13 1\ncell 3: 1 13 5 10\ncorners 0 1 2 3 lost 0\n"))
-unfolding trailingZeros ofBits add sub mul div lt le eq neg sum round units odd size span climb same wholeRoot nearestRoot rootOfUnits sqrtOf nearOf dist2Of centreOf okCentre madeOf cornersOf insideOf firstSide whichOf oneIf twoIf firstHeld orderPick eitherOf rightHit leftHit topHit bottomHit uprightHit settleOf lineOf orderBy orderOne orderTwo rayOf nearPt findNear addVertex nextOf chosen tableTo turnOf walkOf afterOf lastEnd startsOf neighboursOf distOf nearestOf hopOf pathEnd andThen atEdge wraps around insertAt insertEdge edgeCrossing clipWith clipEdge leave enterAt enter link crossAt cross clipStep inBox stepTo stepsTo firstInside turned clipFrom clipCell centreAt centresFrom ownersFrom extended extendFrom hullRing clipInto clipHull clipRest wrappedIn allWrapped lostFrom clipAll build formOf squareBytes linesOf digits decimal entries labelled counts cellLine corners
+unfolding trailingZeros ofBits add sub mul div lt le eq neg sum round units odd size span climb same wholeRoot nearestRoot rootOfUnits sqrtOf nearOf
+    dist2Of centreOf okCentre madeOf cornersOf insideOf firstSide whichOf oneIf twoIf firstHeld orderPick eitherOf rightHit leftHit topHit bottomHit
+    uprightHit settleOf lineOf orderBy orderOne orderTwo rayOf nearPt findNear addVertex nextOf chosen tableTo turnOf walkOf afterOf lastEnd startsOf
+    neighboursOf distOf nearestOf hopOf pathEnd andThen atEdge wraps around insertAt insertEdge edgeCrossing clipWith clipEdge leave enterAt enter
+    link crossAt cross clipStep inBox stepTo stepsTo firstInside turned clipFrom clipCell centreAt centresFrom ownersFrom extended extendFrom hullRing
+    clipInto clipHull clipRest wrappedIn allWrapped lostFrom clipAll build formOf squareBytes linesOf digits decimal entries labelled counts cellLine
+    corners
 rows = (refl, refl, refl)

@@ -1,17 +1,17 @@
 // Reads a mesh's form on standard input and prints the listing of its cells, or `refused N`.
-use form::Form;
+use form_step::Form;
 use libc::STDIN_FILENO;
 use libc::STDOUT_FILENO;
 use voronoi::builds::voronoi_build;
 use voronoi::builds::voronoi_build_unclipped;
 ghost use mathlib.Core.Path.{_≡_};
-ghost use Prim.Native.Nat.{_/_, _<_, _≤_};
+ghost use Prim.Native.Nat.{_<_, _≤_};
 ghost use lib.Ieee.{nan};
 ghost use lib.ListN.{length, getD, take};
 ghost use Rattle.utils.specs.Plane.{at};
-ghost use Rattle.form.specs.Holds.{Room, Few};
+ghost use Rattle.form_step.specs.Holds.{ListRoom, Few};
 ghost use Rattle.cells.specs.Printed.{InBox, WithoutBox, Prints};
-ghost use Rattle.cells.specs.Shown.{Sized, Laid, Holds, shown, boxLines, unclippedLines, ByMode, ByForm};
+ghost use Rattle.cells.specs.Shown.{SheetSized, Laid, ShownIn, shown, boxLines, unclippedLines, ByMode, ByForm};
 
 fn narrow(n: usize) -> u32
     requires { ⌜ n < 4294967296 ⌝ }
@@ -31,7 +31,7 @@ fn show_in_box(
     counts: &[u32],
 ) -> usize
     requires { ⌜ (number ≡ 0 → Laid sites (now offsets) (now indexes) (length (now out))) × (6 ≤ length (now counts)) × (65536 ≤ length (now out)) ⌝ }
-    ensures { λ r. ⌜ Holds (shown (boxLines sites triangles (now (offsets .entry)) (now (indexes .entry)) (now (counts .entry))) number) (now (out .exit)) (length (now (out .entry))) r ⌝ }
+    ensures { λ r. ⌜ ShownIn (shown (boxLines sites triangles (now (offsets .entry)) (now (indexes .entry)) (now (counts .entry))) number) (now (out .exit)) (length (now (out .entry))) r ⌝ }
 {
     if number != 0 {
         return listing::refusal(out, number);
@@ -59,7 +59,8 @@ fn show_without_box(
     counts: &[u32],
 ) -> usize
     requires { ⌜ (number ≡ 0 → Laid sites (now offsets) (now indexes) (length (now out))) × (6 ≤ length (now counts)) × (65536 ≤ length (now out)) ⌝ }
-    ensures { λ r. ⌜ Holds (shown (unclippedLines sites triangles (now (offsets .entry)) (now (indexes .entry)) (now (counts .entry))) number) (now (out .exit)) (length (now (out .entry))) r ⌝ }
+    ensures { λ r. ⌜ ShownIn (shown (unclippedLines sites triangles (now (offsets .entry)) (now (indexes .entry)) (now (counts .entry)))
+        number) (now (out .exit)) (length (now (out .entry))) r ⌝ }
 {
     if number != 0 {
         return listing::refusal(out, number);
@@ -75,8 +76,9 @@ fn in_box(
     halfedges: &[u32],
     hull: &[u32],
 ) -> usize
-    requires { ⌜ Sized (length (now sites)) (length (now triangles)) (length (now hull)) (length (now out)) ⌝ }
-    ensures { λ r. ⌜ InBox (now (sites .entry)) (now (triangles .entry)) (now (halfedges .entry)) (now (hull .entry)) (at (getD bounds 0 nan) (getD bounds 1 nan)) (getD bounds 2 nan) (getD bounds 3 nan) (take r (now (out .exit))) × (r ≤ length (now (out .entry))) ⌝ }
+    requires { ⌜ SheetSized (length (now sites)) (length (now triangles)) (length (now hull)) (length (now out)) ⌝ }
+    ensures { λ r. ⌜ InBox (now (sites .entry)) (now (triangles .entry)) (now (halfedges .entry)) (now (hull .entry))
+        (at (getD bounds 0 nan) (getD bounds 1 nan)) (getD bounds 2 nan) (getD bounds 3 nan) (take r (now (out .exit))) × (r ≤ length (now (out .entry))) ⌝ }
 {
     let mut work = [0u32; 96];
     let mut vertices = [0.0f64; 3656];
@@ -110,7 +112,7 @@ fn without_box(
     halfedges: &[u32],
     hull: &[u32],
 ) -> usize
-    requires { ⌜ Sized (length (now sites)) (length (now triangles)) (length (now hull)) (length (now out)) ⌝ }
+    requires { ⌜ SheetSized (length (now sites)) (length (now triangles)) (length (now hull)) (length (now out)) ⌝ }
     ensures { λ r. ⌜ WithoutBox (now (sites .entry)) (now (triangles .entry)) (now (halfedges .entry)) (now (hull .entry)) (take r (now (out .exit))) × (r ≤ length (now (out .entry))) ⌝ }
 {
     let mut work = [0u32; 96];
@@ -143,8 +145,9 @@ fn of_mesh(
     halfedges: &[u32],
     hull: &[u32],
 ) -> usize
-    requires { ⌜ Sized (length (now sites)) (length (now triangles)) (length (now hull)) (length (now out)) ⌝ }
-    ensures { λ r. ⌜ ByMode unclipped bounds (now (sites .entry)) (now (triangles .entry)) (now (halfedges .entry)) (now (hull .entry)) (take r (now (out .exit))) × (r ≤ length (now (out .entry))) ⌝ }
+    requires { ⌜ SheetSized (length (now sites)) (length (now triangles)) (length (now hull)) (length (now out)) ⌝ }
+    ensures { λ r. ⌜ ByMode unclipped bounds (now (sites .entry)) (now (triangles .entry)) (now (halfedges .entry)) (now (hull .entry))
+        (take r (now (out .exit))) × (r ≤ length (now (out .entry))) ⌝ }
 {
     if unclipped {
         return without_box(out, sites, triangles, halfedges, hull);
@@ -162,8 +165,9 @@ fn of_form(
     halfedges: &[u32],
     hull: &[u32],
 ) -> usize
-    requires { ⌜ Room bounds (now sites) (now triangles) (now halfedges) (now hull) × Few form × (65536 ≤ length (now out)) ⌝ }
-    ensures { λ r. ⌜ ByForm form bounds (now (sites .entry)) (now (triangles .entry)) (now (halfedges .entry)) (now (hull .entry)) (take r (now (out .exit))) × (r ≤ length (now (out .entry))) ⌝ }
+    requires { ⌜ ListRoom bounds (now sites) (now triangles) (now halfedges) (now hull) × Few form × (65536 ≤ length (now out)) ⌝ }
+    ensures { λ r. ⌜ ByForm form bounds (now (sites .entry)) (now (triangles .entry)) (now (halfedges .entry)) (now (hull .entry))
+        (take r (now (out .exit))) × (r ≤ length (now (out .entry))) ⌝ }
 {
     let Form::Sound {
         sites: n,
@@ -172,7 +176,7 @@ fn of_form(
         unclipped,
     } = form
     else {
-        return listing::refusal(out, 17);
+        return listing::refusal(out, numbers::REFUSED_FORM);
     };
     let numbers = 2 * n;
     let links = 3 * t;

@@ -36,7 +36,8 @@ Alters site vs (ok d) count cell ix r ix₁ =
 Alters site vs (refused k) count cell ix r ix₁ = (r .refusal ≡ k) × (0 < k)
 
 -- the vertices vs over v, and the entries and owners i written before the store's part of the index list
-pub record Did (env : Env) (most : ℕ) (vs : List Point) (i : Ins) (cell : Cell) (v : List Float) (ix : List ℕ) (count₁ : ℕ) (cell₁ : Cell) (v₁ : List Float) (ix₁ : List ℕ) : Type 0 where
+pub record Did (env : Env) (most : ℕ) (vs : List Point) (i : Ins) (cell : Cell) (v : List Float) (ix : List ℕ) (count₁ : ℕ) (cell₁ : Cell)
+    (v₁ : List Float) (ix₁ : List ℕ) : Type 0 where
   pub verts : Poured vs v count₁ v₁
   pub holds : Holds (env .centers) count₁ v₁ (drop (env .limit) ix₁)
   pub puts : Puts (env .site) most i cell (take (env .limit) ix) cell₁ (take (env .limit) ix₁)

@@ -6,7 +6,7 @@ use mathlib.Core.List.{List, map}
 use lib.ListN.{length}
 use lib.Seq.{sets}
 use Rattle.laws.specs.Count.{occ}
-use Rattle.mesh.specs.Mesh.{EMPTY}
+use Rattle.numbers.specs.Numbers.{EMPTY}
 use Rattle.definition.specs.Fault.{Outcome, ok, refused}
 use Rattle.definition.specs.Cell.{Entry, Ins, lastOr}
 use Rattle.clipping.specs.declared.Cell.{Cell}

@@ -5,8 +5,8 @@ use mathlib.Core.Bool.{true}
 use mathlib.Core.List.{List}
 use lib.Ieee.{Float}
 use lib.ListN.{length, getD, take, drop}
+use Rattle.numbers.specs.Numbers.{EMPTY}
 use Rattle.utils.specs.Flat.{points}
-use Rattle.mesh.specs.Mesh.{EMPTY}
 use Rattle.vertices.specs.Store.{Holds}
 use Rattle.definition.specs.Fault.{Outcome, ok, refused, fault}
 use Rattle.definition.specs.declared.Fault.{Fault}

@@ -1,10 +1,10 @@
 // insert_edge_and_wrap_around_corners: an edge along the box put into the cell, with the corners that are the site's.
 use crate::Cell;
-use crate::EMPTY;
 use crate::Env;
 use crate::Inserted;
 use bounding_box::BoundingBox;
 use bounding_box::which_edge;
+use numbers::EMPTY;
 use vertices::vertex;
 ghost use mathlib.Core.Path.{_≡_};
 ghost use Prim.Native.Nat.{ℕ, _+_, _*_, _≤_, _<_, _^_};
@@ -115,7 +115,8 @@ fn insert_sides(
 ) -> Cell
     requires { ⌜ Fits site 2 cell (length (now ix)) ⌝ }
     requires { ⌜ (f < 4) × (s < 4) × (centers + 4 ≤ 2 ^ 32) ⌝ }
-    ensures puts { λ r. ⌜ Puts site (places (eqb (cell .last) first)) (Def.led (eqb (cell .last) first) first (Def.around centers site f s second (cell .owners))) cell (now (ix .entry)) r (now (ix .exit)) ⌝ }
+    ensures puts { λ r. ⌜ Puts site (places (eqb (cell .last) first))
+        (Def.led (eqb (cell .last) first) first (Def.around centers site f s second (cell .owners))) cell (now (ix .entry)) r (now (ix .exit)) ⌝ }
     ensures low { λ r. ⌜ ((n : ℕ) → centers + 4 ≤ n → second < n → r .last < n) ⌝ }
 {
     if cell.last == first {
@@ -144,7 +145,8 @@ pub fn insert_edge(
 ) -> Inserted
     requires { ⌜ Fits (env .site) 2 cell (length (now ix)) ⌝ }
     requires { ⌜ (2 * count ≤ length (now v)) × (first < count) × (second < count) × (env .centers + 4 ≤ count) × (count ≤ 2 ^ 32) ⌝ }
-    ensures inserts { λ r. ⌜ Inserts (env .site) (places (eqb (cell .last) first)) (Def.insertEdge (env .bounds) (env .centers) (env .site) (points count (now (v .entry))) (cell .owners) (cell .last) first second) cell (now (ix .entry)) r (now (ix .exit)) ⌝ }
+    ensures inserts { λ r. ⌜ Inserts (env .site) (places (eqb (cell .last) first))
+        (Def.insertEdge (env .bounds) (env .centers) (env .site) (points count (now (v .entry))) (cell .owners) (cell .last) first second) cell (now (ix .entry)) r (now (ix .exit)) ⌝ }
     ensures low { λ r. ⌜ (r .refusal ≡ 0 → r .cell .last < count) ⌝ }
 {
     let bounds = env.bounds;
@@ -152,13 +154,13 @@ pub fn insert_edge(
     let s = side_of(v, count, bounds, second);
     if 4 <= f {
         return Inserted {
-            refusal: 15,
+            refusal: numbers::REFUSED_NO_SIDE,
             cell: cell,
         };
     }
     if 4 <= s {
         return Inserted {
-            refusal: 15,
+            refusal: numbers::REFUSED_NO_SIDE,
             cell: cell,
         };
     }

@@ -71,7 +71,8 @@ fn crossing_between(v: &[f64], count: usize, bounds: BoundingBox, p: u32, q: u32
 fn clip_once(v: &mut [f64], ix: &mut [u32], env: Env, count: usize, x: f64, y: f64) -> Clipped
     requires { ⌜ Holds (env .centers) count (now v) (drop (env .limit) (now ix)) ⌝ }
     requires { ⌜ (2 * (count + 2) ≤ length (now v)) × (count + 2 ≤ 2 ^ 32) ⌝ }
-    ensures { λ r. ⌜ Clips (env .centers) (env .limit) count (Def.clipWith (env .centers) (points count (now (v .entry))) (Crossing.One x y)) (now (v .entry)) (now (ix .entry)) r (now (v .exit)) (now (ix .exit)) ⌝ }
+    ensures { λ r. ⌜ Clips (env .centers) (env .limit) count (Def.clipWith (env .centers) (points count (now (v .entry))) (Crossing.One x y))
+        (now (v .entry)) (now (ix .entry)) r (now (v .exit)) (now (ix .exit)) ⌝ }
 {
     let a = add_new_vertex(v, ix, env.limit, env.centers, count, Point { x: x, y: y });
     let at = a.at as u32;
@@ -90,7 +91,8 @@ fn clip_twice(
 ) -> Clipped
     requires { ⌜ Holds (env .centers) count (now v) (drop (env .limit) (now ix)) ⌝ }
     requires { ⌜ (2 * (count + 2) ≤ length (now v)) × (count + 2 ≤ 2 ^ 32) ⌝ }
-    ensures { λ r. ⌜ Clips (env .centers) (env .limit) count (Def.clipWith (env .centers) (points count (now (v .entry))) (Crossing.Two x y z w)) (now (v .entry)) (now (ix .entry)) r (now (v .exit)) (now (ix .exit)) ⌝ }
+    ensures { λ r. ⌜ Clips (env .centers) (env .limit) count (Def.clipWith (env .centers) (points count (now (v .entry))) (Crossing.Two x y z w))
+        (now (v .entry)) (now (ix .entry)) r (now (v .exit)) (now (ix .exit)) ⌝ }
 {
     let a = add_new_vertex(v, ix, env.limit, env.centers, count, Point { x: x, y: y });
     let b = add_new_vertex(v, ix, env.limit, env.centers, a.count, Point { x: z, y: w });
@@ -108,7 +110,8 @@ pub fn clip_voronoi_edge(
 ) -> Clipped
     requires { ⌜ Holds (env .centers) count (now v) (drop (env .limit) (now ix)) ⌝ }
     requires { ⌜ (2 * (count + 2) ≤ length (now v)) × (count + 2 ≤ 2 ^ 32) × (p < count) × (q < count) ⌝ }
-    ensures { λ r. ⌜ Clips (env .centers) (env .limit) count (Def.clipEdge (env .bounds) (env .centers) (points count (now (v .entry))) p q) (now (v .entry)) (now (ix .entry)) r (now (v .exit)) (now (ix .exit)) ⌝ }
+    ensures { λ r. ⌜ Clips (env .centers) (env .limit) count (Def.clipEdge (env .bounds) (env .centers) (points count (now (v .entry))) p q)
+        (now (v .entry)) (now (ix .entry)) r (now (v .exit)) (now (ix .exit)) ⌝ }
 {
     let bounds = env.bounds;
     let c = crossing_between(v, count, bounds, p, q);

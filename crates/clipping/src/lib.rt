@@ -7,8 +7,6 @@ pub mod edge; // edge.rt: clip_voronoi_edge
 pub mod step; // step.rt: one edge of the ring
 pub mod ring; // ring.rt: the whole ring
 
-pub const EMPTY: u32 = 4294967295;
-
 // What stays while one cell is clipped: its site, the box, the number of circumcenters, and where the store's part of the index list begins.
 pub struct Env {
     pub site: u32,

@@ -1,6 +1,5 @@
 // clip_cell: the ring walked reversed and cyclic from its first vertex inside, edge by edge.
 use crate::Cell;
-use crate::EMPTY;
 use crate::Env;
 use crate::Stepped;
 use crate::Tip;
@@ -8,6 +7,7 @@ use crate::step::clip_step;
 use bounding_box::BoundingBox;
 use bounding_box::is_inside;
 use definition::Fault;
+use numbers::EMPTY;
 use vertices::vertex;
 ghost use mathlib.Core.Path.{_≡_};
 ghost use mathlib.Core.Bool.{true, false};
@@ -16,7 +16,6 @@ ghost use Prim.Native.Nat.{ℕ, _+_, _*_, _≤_, _<_};
 ghost use lib.ListN.{length, getD};
 ghost use Rattle.utils.specs.Flat.{points};
 ghost use Rattle.definition.specs.Cell as Def;
-ghost use Rattle.clipping.specs.Clips.{Grown};
 ghost use Rattle.clipping.specs.Changes.{Ready};
 ghost use Rattle.clipping.specs.Steps.{tipOf, Stands, Steps, ringOf, emptyAt, Room};
 
@@ -37,7 +36,8 @@ fn step_to(v: &mut [f64], ix: &mut [u32], env: Env, tip: Tip, q: u32) -> Stepped
     requires { ⌜ Ready env (tip .count) (tip .cell) (now v) (now ix) ⌝ }
     requires { ⌜ Stands tip ⌝ }
     requires { ⌜ (q < tip .count) × (tip .inside ≡ false → Def.inBox (env .bounds) (env .centers) (points (tip .count) (now v)) q ≡ true → tip .cell .last < tip .count) ⌝ }
-    ensures steps { λ r. ⌜ Steps env 1 (Def.stepTo (env .bounds) (env .centers) (env .site) (tipOf tip (now (v .entry))) q) (tip .count) (tip .cell) (now (v .entry)) (now (ix .entry)) r (now (v .exit)) (now (ix .exit)) ⌝ }
+    ensures steps { λ r. ⌜ Steps env 1 (Def.stepTo (env .bounds) (env .centers) (env .site) (tipOf tip (now (v .entry))) q) (tip .count) (tip .cell)
+        (now (v .entry)) (now (ix .entry)) r (now (v .exit)) (now (ix .exit)) ⌝ }
     ensures stands { λ r. ⌜ (r .fault .number ≡ 0 → Stands (r .tip) × (r .tip .inside ≡ false → r .tip .opened ≡ false → (tip .inside ≡ false) × (tip .opened ≡ false))) ⌝ }
 {
     let bounds = env.bounds;
@@ -97,8 +97,10 @@ fn walk_ring(
 ) -> Stepped
     requires { ⌜ Room env (tip .count) (tip .cell) ring len len (now v) (now ix) ⌝ }
     requires { ⌜ Stands tip ⌝ }
-    requires { ⌜ (f ≤ len) × (tip .inside ≡ false → (j : ℕ) → j < len → Def.inBox (env .bounds) (env .centers) (points (tip .count) (now v)) (getD (now ix) (ring + j) 0) ≡ false) ⌝ }
-    ensures { λ r. ⌜ Steps env len (Def.stepsTo (env .bounds) (env .centers) (env .site) (Def.turned f (ringOf (now (ix .entry)) ring len)) (tipOf tip (now (v .entry)))) (tip .count) (tip .cell) (now (v .entry)) (now (ix .entry)) r (now (v .exit)) (now (ix .exit)) ⌝ }
+    requires { ⌜ (f ≤ len) × (tip .inside ≡ false → (j : ℕ) → j < len
+        → Def.inBox (env .bounds) (env .centers) (points (tip .count) (now v)) (getD (now ix) (ring + j) 0) ≡ false) ⌝ }
+    ensures { λ r. ⌜ Steps env len (Def.stepsTo (env .bounds) (env .centers) (env .site) (Def.turned f (ringOf (now (ix .entry)) ring len))
+        (tipOf tip (now (v .entry)))) (tip .count) (tip .cell) (now (v .entry)) (now (ix .entry)) r (now (v .exit)) (now (ix .exit)) ⌝ }
 {
     let mut at = tip;
     let mut k = 0;
@@ -157,7 +159,9 @@ fn clip_from(
 ) -> Stepped
     requires { ⌜ Room env count cell ring len len (now v) (now ix) ⌝ }
     requires { ⌜ (f < len) × (inside ≡ false → (j : ℕ) → j < len → Def.inBox (env .bounds) (env .centers) (points count (now v)) (getD (now ix) (ring + j) 0) ≡ false) ⌝ }
-    ensures { λ r. ⌜ Steps env len (Def.stepsTo (env .bounds) (env .centers) (env .site) (Def.turned f (ringOf (now (ix .entry)) ring len)) (Def.tip (points count (now (v .entry))) (cell .owners) (cell .last) (getD (ringOf (now (ix .entry)) ring len) f 0) inside false)) count cell (now (v .entry)) (now (ix .entry)) r (now (v .exit)) (now (ix .exit)) ⌝ }
+    ensures { λ r. ⌜ Steps env len (Def.stepsTo (env .bounds) (env .centers) (env .site) (Def.turned f (ringOf (now (ix .entry)) ring len))
+        (Def.tip (points count (now (v .entry))) (cell .owners) (cell .last) (getD (ringOf (now (ix .entry)) ring len) f 0) inside false)) count cell
+        (now (v .entry)) (now (ix .entry)) r (now (v .exit)) (now (ix .exit)) ⌝ }
 {
     let place = ring + f;
     let tip = Tip {
@@ -183,7 +187,8 @@ pub fn clip_cell(
 ) -> Stepped
     requires { ⌜ Room env count (emptyAt owners base) ring len len (now v) (now ix) ⌝ }
     requires { ⌜ 0 < len ⌝ }
-    ensures { λ r. ⌜ Steps env len (Def.clipCell (env .bounds) (env .centers) (env .site) (ringOf (now (ix .entry)) ring len) (points count (now (v .entry))) owners) count (emptyAt owners base) (now (v .entry)) (now (ix .entry)) r (now (v .exit)) (now (ix .exit)) ⌝ }
+    ensures { λ r. ⌜ Steps env len (Def.clipCell (env .bounds) (env .centers) (env .site) (ringOf (now (ix .entry)) ring len)
+        (points count (now (v .entry))) owners) count (emptyAt owners base) (now (v .entry)) (now (ix .entry)) r (now (v .exit)) (now (ix .exit)) ⌝ }
 {
     let cell = Cell {
         owners: owners,

@@ -38,7 +38,8 @@ fn stay(ix: &mut [u32], env: Env, count: usize, cell: Cell, opened: bool, p: u32
 // From inside to outside: p and the crossing go in, and the cell is open.
 fn leave_at(ix: &mut [u32], env: Env, count: usize, cell: Cell, p: u32, first: u32) -> Changed
     requires { ⌜ (Fits (env .site) 3 cell (length (now ix))) × (first < count) ⌝ }
-    ensures { λ r. ⌜ ((vs : List Point) (ts : List Def.Took) → Alters (env .site) vs (ok (Def.change vs (cell .owners) (Def.entry Def.plain p ∷ Def.entry Def.crossing first ∷ []) true ts)) count cell (now (ix .entry)) r (now (ix .exit))) ⌝ }
+    ensures { λ r. ⌜ ((vs : List Point) (ts : List Def.Took)
+        → Alters (env .site) vs (ok (Def.change vs (cell .owners) (Def.entry Def.plain p ∷ Def.entry Def.crossing first ∷ []) true ts)) count cell (now (ix .entry)) r (now (ix .exit))) ⌝ }
 {
     let one = push(ix, cell, env.site, p);
     let two = push(ix, one, env.site, first);
@@ -61,12 +62,13 @@ fn leave(
 ) -> Changed
     requires { ⌜ Ready env count cell (now v) (now ix) ⌝ }
     requires { ⌜ (p < count) × (q < count) ⌝ }
-    ensures { λ r. ⌜ Changes env count (Def.leave p (cell .owners) (Def.clipEdge (env .bounds) (env .centers) (points count (now (v .entry))) p q)) cell (now (v .entry)) (now (ix .entry)) r (now (v .exit)) (now (ix .exit)) ⌝ }
+    ensures { λ r. ⌜ Changes env count (Def.leave p (cell .owners) (Def.clipEdge (env .bounds) (env .centers) (points count (now (v .entry))) p q))
+        cell (now (v .entry)) (now (ix .entry)) r (now (v .exit)) (now (ix .exit)) ⌝ }
 {
     let clip = clip_voronoi_edge(v, ix, env, count, p, q);
     match clip {
         Clipped::Missed => Changed {
-            refusal: 13,
+            refusal: numbers::REFUSED_NO_CROSSING,
             count: count,
             opened: false,
             cell: cell,
@@ -80,7 +82,8 @@ fn leave(
 fn enter_at(v: &[f64], ix: &mut [u32], env: Env, count: usize, cell: Cell, first: u32) -> Changed
     requires { ⌜ Fits (env .site) 3 cell (length (now ix)) ⌝ }
     requires { ⌜ (2 * count ≤ length (now v)) × (first < count) × (cell .last < count) × (env .centers + 4 ≤ count) × (count ≤ 2 ^ 32) ⌝ }
-    ensures { λ r. ⌜ ((ts : List Def.Took) → Alters (env .site) (points count (now (v .entry))) (Def.enterAt (env .bounds) (env .centers) (env .site) (points count (now (v .entry))) (cell .owners) (cell .last) first ts) count cell (now (ix .entry)) r (now (ix .exit))) ⌝ }
+    ensures { λ r. ⌜ ((ts : List Def.Took) → Alters (env .site) (points count (now (v .entry)))
+        (Def.enterAt (env .bounds) (env .centers) (env .site) (points count (now (v .entry))) (cell .owners) (cell .last) first ts) count cell (now (ix .entry)) r (now (ix .exit))) ⌝ }
 {
     let i = insert_edge(v, ix, env, count, cell, cell.last, first);
     let done = i.cell;
@@ -103,12 +106,13 @@ fn enter(
 ) -> Changed
     requires { ⌜ Ready env count cell (now v) (now ix) ⌝ }
     requires { ⌜ (p < count) × (q < count) × (cell .last < count) ⌝ }
-    ensures { λ r. ⌜ Changes env count (Def.enter (env .bounds) (env .centers) (env .site) (cell .owners) (cell .last) (Def.clipEdge (env .bounds) (env .centers) (points count (now (v .entry))) q p)) cell (now (v .entry)) (now (ix .entry)) r (now (v .exit)) (now (ix .exit)) ⌝ }
+    ensures { λ r. ⌜ Changes env count (Def.enter (env .bounds) (env .centers) (env .site) (cell .owners) (cell .last)
+        (Def.clipEdge (env .bounds) (env .centers) (points count (now (v .entry))) q p)) cell (now (v .entry)) (now (ix .entry)) r (now (v .exit)) (now (ix .exit)) ⌝ }
 {
     let clip = clip_voronoi_edge(v, ix, env, count, q, p);
     match clip {
         Clipped::Missed => Changed {
-            refusal: 13,
+            refusal: numbers::REFUSED_NO_CROSSING,
             count: count,
             opened: false,
             cell: cell,
@@ -130,7 +134,8 @@ fn link(
 ) -> Inserted
     requires { ⌜ Fits (env .site) 3 cell (length (now ix)) ⌝ }
     requires { ⌜ (2 * count ≤ length (now v)) × (first < count) × (opened ≡ true → cell .last < count) × (env .centers + 4 ≤ count) × (count ≤ 2 ^ 32) ⌝ }
-    ensures { λ r. ⌜ Inserts (env .site) 1 (Def.link (env .bounds) (env .centers) (env .site) (points count (now (v .entry))) (cell .owners) opened (cell .last) first) cell (now (ix .entry)) r (now (ix .exit)) ⌝ }
+    ensures { λ r. ⌜ Inserts (env .site) 1 (Def.link (env .bounds) (env .centers) (env .site) (points count (now (v .entry))) (cell .owners) opened
+        (cell .last) first) cell (now (ix .entry)) r (now (ix .exit)) ⌝ }
 {
     if opened {
         return insert_edge(v, ix, env, count, cell, cell.last, first);
@@ -153,7 +158,9 @@ fn cross_once(
 ) -> Changed
     requires { ⌜ Fits (env .site) 3 cell (length (now ix)) ⌝ }
     requires { ⌜ (2 * count ≤ length (now v)) × (first < count) × (opened ≡ true → cell .last < count) × (env .centers + 4 ≤ count) × (count ≤ 2 ^ 32) ⌝ }
-    ensures { λ r. ⌜ Alters (env .site) (points count (now (v .entry))) (andThen (Def.link (env .bounds) (env .centers) (env .site) (points count (now (v .entry))) (cell .owners) opened (cell .last) first) (λ (i : Def.Ins). refused 14)) count cell (now (ix .entry)) r (now (ix .exit)) ⌝ }
+    ensures { λ r. ⌜ Alters (env .site) (points count (now (v .entry)))
+        (andThen (Def.link (env .bounds) (env .centers) (env .site) (points count (now (v .entry))) (cell .owners) opened (cell .last) first)
+        (λ (i : Def.Ins). refused 14)) count cell (now (ix .entry)) r (now (ix .exit)) ⌝ }
 {
     let i = link(v, ix, env, count, cell, opened, first);
     let done = i.cell;
@@ -166,7 +173,7 @@ fn cross_once(
         };
     }
     Changed {
-        refusal: 14,
+        refusal: numbers::REFUSED_ONE_CROSSING,
         count: count,
         opened: opened,
         cell: done,
@@ -186,7 +193,8 @@ fn cross_at(
 ) -> Changed
     requires { ⌜ Fits (env .site) 3 cell (length (now ix)) ⌝ }
     requires { ⌜ (2 * count ≤ length (now v)) × (first < count) × (second < count) × (opened ≡ true → cell .last < count) × (env .centers + 4 ≤ count) × (count ≤ 2 ^ 32) ⌝ }
-    ensures { λ r. ⌜ ((ts : List Def.Took) → Alters (env .site) (points count (now (v .entry))) (Def.crossAt (env .bounds) (env .centers) (env .site) (points count (now (v .entry))) (cell .owners) opened (cell .last) first second ts) count cell (now (ix .entry)) r (now (ix .exit))) ⌝ }
+    ensures { λ r. ⌜ ((ts : List Def.Took) → Alters (env .site) (points count (now (v .entry)))
+        (Def.crossAt (env .bounds) (env .centers) (env .site) (points count (now (v .entry))) (cell .owners) opened (cell .last) first second ts) count cell (now (ix .entry)) r (now (ix .exit))) ⌝ }
 {
     let i = link(v, ix, env, count, cell, opened, first);
     let led = i.cell;
@@ -220,7 +228,8 @@ fn cross(
 ) -> Changed
     requires { ⌜ Ready env count cell (now v) (now ix) ⌝ }
     requires { ⌜ (p < count) × (q < count) × (opened ≡ true → cell .last < count) ⌝ }
-    ensures { λ r. ⌜ Changes env count (Def.cross (env .bounds) (env .centers) (env .site) (points count (now (v .entry))) (cell .owners) opened (cell .last) (Def.clipEdge (env .bounds) (env .centers) (points count (now (v .entry))) p q)) cell (now (v .entry)) (now (ix .entry)) r (now (v .exit)) (now (ix .exit)) ⌝ }
+    ensures { λ r. ⌜ Changes env count (Def.cross (env .bounds) (env .centers) (env .site) (points count (now (v .entry))) (cell .owners) opened
+        (cell .last) (Def.clipEdge (env .bounds) (env .centers) (points count (now (v .entry))) p q)) cell (now (v .entry)) (now (ix .entry)) r (now (v .exit)) (now (ix .exit)) ⌝ }
 {
     let clip = clip_voronoi_edge(v, ix, env, count, p, q);
     match clip {
@@ -240,7 +249,8 @@ pub fn clip_step(v: &mut [f64], ix: &mut [u32], env: Env, tip: Tip, q: u32, q_in
     requires { ⌜ Ready env (tip .count) (tip .cell) (now v) (now ix) ⌝ }
     requires { ⌜ Stands tip ⌝ }
     requires { ⌜ (q < tip .count) × (tip .inside ≡ false → q_in ≡ true → tip .cell .last < tip .count) ⌝ }
-    ensures { λ r. ⌜ Changes env (tip .count) (Def.clipStep (env .bounds) (env .centers) (env .site) (tip .vertex) (tip .inside) q q_in (points (tip .count) (now (v .entry))) (tip .cell .owners) (tip .opened) (tip .cell .last)) (tip .cell) (now (v .entry)) (now (ix .entry)) r (now (v .exit)) (now (ix .exit)) ⌝ }
+    ensures { λ r. ⌜ Changes env (tip .count) (Def.clipStep (env .bounds) (env .centers) (env .site) (tip .vertex) (tip .inside) q q_in
+        (points (tip .count) (now (v .entry))) (tip .cell .owners) (tip .opened) (tip .cell .last)) (tip .cell) (now (v .entry)) (now (ix .entry)) r (now (v .exit)) (now (ix .exit)) ⌝ }
 {
     let cell = tip.cell;
     let count = tip.count;

@@ -5,7 +5,8 @@ use lib.Ieee.{Float, lt, le, eq}
 use Prim.Native.Nat.{ℕ}
 use Rattle.root.specs.Root.{magnitude, signum}
 use Rattle.laws.specs.Pick.{pick}
-use Rattle.laws.specs.Binary64.{_⊞_, _⊟_, _⊠_, _⊘_, zero, eps}
+use Rattle.laws.specs.Binary64.{_⊞_, _⊟_, _⊠_, _⊘_, zero}
+use Rattle.numbers.specs.Numbers.{tolerance}
 use Rattle.utils.specs.Plane.{at}
 use Rattle.utils.specs.declared.Point.{Point}
 use Rattle.bounding_box.specs.declared.BoundingBox.{BoundingBox}
@@ -43,16 +44,16 @@ joinOf (Two x y u v) b = Two x y u v
 
 -- the four sides' points, each if there is one: right f, left g, top h, bottom i
 unfoldable pub rightHit : BoundingBox → Float → Float → Float → Crossing
-rightHit b cx c d = oneIf (lt eps (magnitude cx) && (le (b .top) (b .right ⊠ c ⊞ d) && le (b .right ⊠ c ⊞ d) (b .bottom))) (b .right) (b .right ⊠ c ⊞ d)
+rightHit b cx c d = oneIf (lt tolerance (magnitude cx) && (le (b .top) (b .right ⊠ c ⊞ d) && le (b .right ⊠ c ⊞ d) (b .bottom))) (b .right) (b .right ⊠ c ⊞ d)
 
 unfoldable pub leftHit : BoundingBox → Float → Float → Float → Crossing
-leftHit b cx c d = oneIf (lt eps (magnitude cx) && (le (b .top) (b .left ⊠ c ⊞ d) && le (b .left ⊠ c ⊞ d) (b .bottom))) (b .left) (b .left ⊠ c ⊞ d)
+leftHit b cx c d = oneIf (lt tolerance (magnitude cx) && (le (b .top) (b .left ⊠ c ⊞ d) && le (b .left ⊠ c ⊞ d) (b .bottom))) (b .left) (b .left ⊠ c ⊞ d)
 
 unfoldable pub topHit : BoundingBox → Float → Float → Float → Crossing
-topHit b cy c d = oneIf (lt eps (magnitude cy) && (le ((b .top ⊟ d) ⊘ c) (b .right) && le (b .left) ((b .top ⊟ d) ⊘ c))) ((b .top ⊟ d) ⊘ c) (b .top)
+topHit b cy c d = oneIf (lt tolerance (magnitude cy) && (le ((b .top ⊟ d) ⊘ c) (b .right) && le (b .left) ((b .top ⊟ d) ⊘ c))) ((b .top ⊟ d) ⊘ c) (b .top)
 
 unfoldable pub bottomHit : BoundingBox → Float → Float → Float → Crossing
-bottomHit b cy c d = oneIf (lt eps (magnitude cy) && (le ((b .bottom ⊟ d) ⊘ c) (b .right) && le (b .left) ((b .bottom ⊟ d) ⊘ c))) ((b .bottom ⊟ d) ⊘ c) (b .bottom)
+bottomHit b cy c d = oneIf (lt tolerance (magnitude cy) && (le ((b .bottom ⊟ d) ⊘ c) (b .right) && le (b .left) ((b .bottom ⊟ d) ⊘ c))) ((b .bottom ⊟ d) ⊘ c) (b .bottom)
 
 -- a line parallel to y
 unfoldable pub uprightHit : BoundingBox → Float → Crossing
@@ -67,7 +68,7 @@ unfoldable pub settleOf : Crossing → Crossing → Bool → Crossing → Crossi
 settleOf f g up u h i = firstHeld (some f && some g) (joinOf f g) up u (some h && some i) (joinOf h i) (joinOf (orOf f g) (orOf h i))
 
 abbrev pub lineBy : BoundingBox → Point → Float → Float → Float → Float → Crossing
-lineBy b p cx cy c d = settleOf (rightHit b cx c d) (leftHit b cx c d) (lt eps (magnitude cy) && lt (magnitude cx) eps) (uprightHit b (p .x)) (topHit b cy c d) (bottomHit b cy c d)
+lineBy b p cx cy c d = settleOf (rightHit b cx c d) (leftHit b cx c d) (lt tolerance (magnitude cy) && lt (magnitude cx) tolerance) (uprightHit b (p .x)) (topHit b cy c d) (bottomHit b cy c d)
 
 abbrev pub lineOff : BoundingBox → Point → Float → Float → Float → Crossing
 lineOff b p cx cy c = lineBy b p cx cy c (p .y ⊟ p .x ⊠ c)

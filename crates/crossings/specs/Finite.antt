@@ -12,7 +12,8 @@ use Rattle.root.specs.Bounds.{Bounded, OneOrMore, weaken, add-bound, sub-bound,
 use Rattle.root.specs.Sizes.{AtLeast, quotient-bound, quotient-least}
 use Rattle.root.specs.Tested.{above-eps, from-eps, one-or-more, between-bounded}
 use Rattle.laws.specs.And.{holds}
-use Rattle.laws.specs.Binary64.{_⊞_, _⊟_, _⊠_, _⊘_, eps}
+use Rattle.laws.specs.Binary64.{_⊞_, _⊟_, _⊠_, _⊘_}
+use Rattle.numbers.specs.Numbers.{tolerance}
 use Rattle.utils.specs.Plane.{at}
 use Rattle.utils.specs.Finite.{BoundedPoint}
 use Rattle.utils.specs.declared.Point.{Point}
@@ -92,10 +93,10 @@ module _ (k : ℕ) (room : k + k + 53 ≤ 1023) (p q : Point) (P : BoundedPoint 
             (div-bound binary64 (y ⊟ offsetOf p q) (slopeOf p q) (suc (suc (k + (k + 51)))) (omega arith) (less-by (k + 51) (omega arith) slope-bounded y b) s)
 
   -- ---- inside the branches: left and right, then top and bottom
-  pub sides-finite : lt eps (magnitude (dxOf p q)) ≡ true → (x : Float) → Bounded k x → Bounded (k + k + 53) (yAt p q x)
+  pub sides-finite : lt tolerance (magnitude (dxOf p q)) ≡ true → (x : Float) → Bounded k x → Bounded (k + k + 53) (yAt p q x)
   sides-finite h = y-bounded (above-eps (dxOf p q) (suc k) dx-bounded h)
 
-  pub levels-finite : lt eps (magnitude (dyOf p q)) ≡ true → lt (magnitude (dxOf p q)) eps ≡ false → (y : Float) → Bounded k y → Bounded (k + k + 53) (xAt p q y)
+  pub levels-finite : lt tolerance (magnitude (dyOf p q)) ≡ true → lt (magnitude (dxOf p q)) tolerance ≡ false → (y : Float) → Bounded k y → Bounded (k + k + 53) (xAt p q y)
   levels-finite h g = x-bounded (from-eps (dxOf p q) (suc k) dx-bounded g) (above-eps (dyOf p q) (suc k) dy-bounded h)
 
 -- the ray's second point

@@ -7,14 +7,16 @@ use Prim.{tt}
 use lib.Ieee.{Float, lt, le, eq}
 use Rattle.root.specs.Root.{magnitude, signum}
 use Rattle.laws.specs.And.{and-left, and-right}
-use Rattle.laws.specs.Binary64.{_⊞_, _⊟_, _⊠_, _⊘_, eps}
+use Rattle.laws.specs.Binary64.{_⊞_, _⊟_, _⊠_, _⊘_}
+use Rattle.numbers.specs.Numbers.{tolerance}
 use Rattle.utils.specs.Plane.{at}
 use Rattle.utils.specs.declared.Point.{Point}
 use Rattle.utils.specs.Rules.{okSite}
 use Rattle.bounding_box.specs.Box.{madeOf}
 use Rattle.bounding_box.specs.Rules.{okBox}
 use Rattle.bounding_box.specs.declared.BoundingBox.{BoundingBox}
-use Rattle.crossings.specs.Cross.{oneIf, twoIf, some, orOf, joinOf, firstHeld, settleOf, rightHit, leftHit, topHit, bottomHit, uprightHit, lineOf, orderPick, eitherOf, orderBy, orderOne, orderTwo, orderOf, rayOf}
+use Rattle.crossings.specs.Cross.{oneIf, twoIf, some, orOf, joinOf, firstHeld, settleOf, rightHit, leftHit, topHit, bottomHit, uprightHit}
+use Rattle.crossings.specs.Cross.{lineOf, orderPick, eitherOf, orderBy, orderOne, orderTwo, orderOf, rayOf}
 use Rattle.crossings.specs.Rules.{metBy, lineAnswer, rayAnswer, pointsOf}
 use Rattle.crossings.specs.declared.Crossing.{Crossing}
 use Rattle.crossings.specs.declared.Crossing.the-variants.{None, One, Two}
@@ -79,19 +81,19 @@ module _ (b : BoundingBox) where
 
   right-own : (cx c d : Float) → OnBox b (rightHit b cx c d)
   unfolding rightHit
-  right-own cx c d = upright (lt eps (magnitude cx)) (b .right) (b .right ⊠ c ⊞ d) (inr refl)
+  right-own cx c d = upright (lt tolerance (magnitude cx)) (b .right) (b .right ⊠ c ⊞ d) (inr refl)
 
   left-own : (cx c d : Float) → OnBox b (leftHit b cx c d)
   unfolding leftHit
-  left-own cx c d = upright (lt eps (magnitude cx)) (b .left) (b .left ⊠ c ⊞ d) (inl refl)
+  left-own cx c d = upright (lt tolerance (magnitude cx)) (b .left) (b .left ⊠ c ⊞ d) (inl refl)
 
   top-own : (cy c d : Float) → OnBox b (topHit b cy c d)
   unfolding topHit
-  top-own cy c d = flat (lt eps (magnitude cy)) ((b .top ⊟ d) ⊘ c) (b .top) (inl refl)
+  top-own cy c d = flat (lt tolerance (magnitude cy)) ((b .top ⊟ d) ⊘ c) (b .top) (inl refl)
 
   bottom-own : (cy c d : Float) → OnBox b (bottomHit b cy c d)
   unfolding bottomHit
-  bottom-own cy c d = flat (lt eps (magnitude cy)) ((b .bottom ⊟ d) ⊘ c) (b .bottom) (inr refl)
+  bottom-own cy c d = flat (lt tolerance (magnitude cy)) ((b .bottom ⊟ d) ⊘ c) (b .bottom) (inr refl)
 
   upright-own : (x : Float) → OnBox b (uprightHit b x)
   unfolding uprightHit
@@ -115,7 +117,7 @@ module _ (b : BoundingBox) where
       let cy = q .y ⊟ p .y in
       let c = cy ⊘ cx in
       let d = p .y ⊟ p .x ⊠ c in
-      settle-own (rightHit b cx c d) (leftHit b cx c d) (lt eps (magnitude cy) && lt (magnitude cx) eps) (uprightHit b (p .x)) (topHit b cy c d) (bottomHit b cy c d)
+      settle-own (rightHit b cx c d) (leftHit b cx c d) (lt tolerance (magnitude cy) && lt (magnitude cx) tolerance) (uprightHit b (p .x)) (topHit b cy c d) (bottomHit b cy c d)
       (right-own cx c d) (left-own cx c d) (upright-own (p .x)) (top-own cy c d) (bottom-own cy c d)
 
   -- ---- the ray: points of the line, some left out

@@ -4,10 +4,9 @@ use bounding_box::box_ok;
 use utils::Point;
 use utils::site_ok;
 ghost use mathlib.Core.Path.{_≡_};
-ghost use Rattle.crossings.specs.Cross.{oneIf, twoIf, some, orOf, afterOne, joinOf, firstHeld, eitherOf, settleOf, rightHit, leftHit, topHit, bottomHit, uprightHit, lineOf, orderPick, orderBy, orderTwo, orderOne, orderOf, rayOf, countOf, valuesOf};
+ghost use Rattle.crossings.specs.Cross.{oneIf, twoIf, some, orOf, afterOne, joinOf, firstHeld, eitherOf, settleOf, rightHit, leftHit, topHit};
+ghost use Rattle.crossings.specs.Cross.{bottomHit, uprightHit, lineOf, orderPick, orderBy, orderTwo, orderOne, orderOf, rayOf, countOf, valuesOf};
 ghost use Rattle.crossings.specs.Rules.{metBy, lineAnswer, rayAnswer, numberOf, pointsOf};
-
-const EPS: f64 = 8.881784197001252e-16;
 
 pub enum Crossing {
     None,
@@ -30,7 +29,7 @@ fn right_hit(b: BoundingBox, cx: f64, c: f64, d: f64) -> Crossing
 {
     let y = b.right * c + d;
     one_if(
-        (root::magnitude(cx) > EPS) & ((y >= b.top) & (y <= b.bottom)),
+        (root::magnitude(cx) > numbers::TOLERANCE) & ((y >= b.top) & (y <= b.bottom)),
         b.right,
         y,
     )
@@ -41,7 +40,7 @@ fn left_hit(b: BoundingBox, cx: f64, c: f64, d: f64) -> Crossing
 {
     let y = b.left * c + d;
     one_if(
-        (root::magnitude(cx) > EPS) & ((y >= b.top) & (y <= b.bottom)),
+        (root::magnitude(cx) > numbers::TOLERANCE) & ((y >= b.top) & (y <= b.bottom)),
         b.left,
         y,
     )
@@ -52,7 +51,7 @@ fn top_hit(b: BoundingBox, cy: f64, c: f64, d: f64) -> Crossing
 {
     let x = (b.top - d) / c;
     one_if(
-        (root::magnitude(cy) > EPS) & ((x <= b.right) & (x >= b.left)),
+        (root::magnitude(cy) > numbers::TOLERANCE) & ((x <= b.right) & (x >= b.left)),
         x,
         b.top,
     )
@@ -63,7 +62,7 @@ fn bottom_hit(b: BoundingBox, cy: f64, c: f64, d: f64) -> Crossing
 {
     let x = (b.bottom - d) / c;
     one_if(
-        (root::magnitude(cy) > EPS) & ((x <= b.right) & (x >= b.left)),
+        (root::magnitude(cy) > numbers::TOLERANCE) & ((x <= b.right) & (x >= b.left)),
         x,
         b.bottom,
     )
@@ -179,7 +178,7 @@ pub fn intersect_line(b: BoundingBox, p: Point, q: Point) -> Crossing
     settle(
         right_hit(b, cx, c, d),
         left_hit(b, cx, c, d),
-        (root::magnitude(cy) > EPS) & (root::magnitude(cx) < EPS),
+        (root::magnitude(cy) > numbers::TOLERANCE) & (root::magnitude(cx) < numbers::TOLERANCE),
         upright_hit(b, p.x),
         top_hit(b, cy, c, d),
         bottom_hit(b, cy, c, d),
@@ -295,10 +294,10 @@ fn answer(frame: bool, points: bool, c: Crossing) -> Meeting
         if points {
             Meeting::Met(c)
         } else {
-            Meeting::Refused(6)
+            Meeting::Refused(numbers::REFUSED_COORDINATE)
         }
     } else {
-        Meeting::Refused(3)
+        Meeting::Refused(numbers::REFUSED_BOX)
     }
 }
 

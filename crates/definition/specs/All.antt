@@ -1,26 +1,26 @@
 -- All cells of a mesh that rules 7 to 10 accept: hull sites are distinct, so each is tried with an empty cell, and a ring has no more vertices than its site's share,
 -- the half-edges that end there and two more on the hull. So what Held says holds from the start to the end of the build.
-use mathlib.Core.Path.{_≡_, refl, sym, ap, _∙_, subst}
-use mathlib.Core.Bool.{Bool, true, false}
-use mathlib.Core.List.{List, [], _∷_, _++_, map}
-use mathlib.Core.Logic.{_⊎_, inl, inr, ⊎-elim, _≢_}
-use Prim.Native.Nat.{ℕ, zero, suc, _+_, _-_, _*_, _/_, _≤_, _<_}
+use mathlib.Core.Path.{_≡_, refl, sym, ap, _∙_}
+use mathlib.Core.Bool.{true}
+use mathlib.Core.List.{List, [], _∷_}
+use mathlib.Core.Logic.{inl, ⊎-elim, _≢_}
+use Prim.Native.Nat.{ℕ, zero, suc, _+_, _*_, _/_, _≤_, _<_}
 use native.Mathlib.Omega.{arith}
 use lib.Dec.{eqb}
 use lib.ListN.{length, getD, set, replicate, length-map, length-append, length-replicate}
 use Rattle.laws.specs.Pick.{pick}
 use Rattle.laws.specs.Decide.{lt-or-ge}
 use Rattle.laws.specs.Count.{occ}
+use Rattle.numbers.specs.Numbers.{EMPTY}
 use Rattle.utils.specs.declared.Point.{Point}
 use Rattle.bounding_box.specs.declared.BoundingBox.{BoundingBox}
-use Rattle.mesh.specs.Mesh.{EMPTY, endOf, leftmostOf, wholeOf}
+use Rattle.mesh.specs.Mesh.{endOf, leftmostOf, wholeOf}
 use Rattle.mesh.specs.Rules.{Topology}
 use Rattle.mesh.specs.Facts.{paired, end-site, tab-cases}
 use Rattle.mesh.specs.Laws.{walk-done}
 use Rattle.layout.specs.Degree.{walk-degree}
 use Rattle.iterator.specs.Used.{occ-there}
-use Rattle.definition.specs.declared.Fault.{Fault}
-use Rattle.definition.specs.Fault.{Outcome, ok, refused, andThen}
+use Rattle.definition.specs.Fault.{ok, andThen}
 use Rattle.definition.specs.Cell.{plain, Entry, entry, Took}
 use Rattle.definition.specs.Build.{ringFrom, hullRing, Extensions, Cells, cellsOf, clipInto, clipHull, isEmpty, clipRest, clipAll, wrappedIn, allWrapped}
 use Rattle.definition.specs.Gives.{Gives, gives-map, gives-then, picked}
@@ -73,7 +73,8 @@ pub is-empty : (c : List Entry) → isEmpty c ≡ true → c ≡ []
 is-empty [] h = refl
 is-empty (e ∷ es) h = let z : _≡_ {A = ℕ} 0 1 = cc in absurd (omega arith)
 
-module _ {tri he hull : List ℕ} {n : ℕ} (top : Topology tri he hull n) (few : n < EMPTY) (b : BoundingBox) (nc : ℕ) (vs : List Point) (found : List ℕ) (begun : ℕ) (room : nc + 4 ≤ length vs) where
+module _ {tri he hull : List ℕ} {n : ℕ} (top : Topology tri he hull n) (few : n < EMPTY) (b : BoundingBox) (nc : ℕ) (vs : List Point)
+    (found : List ℕ) (begun : ℕ) (room : nc + 4 ≤ length vs) where
   abbrev Good : Cells → Type 0
   Good s = Held b nc n (shareOf tri hull) vs found begun s
 
@@ -84,14 +85,16 @@ module _ {tri he hull : List ℕ} {n : ℕ} (top : Topology tri he hull n) (few 
       omega (arith, h .grown .longer, h .twos, weigh-put (filled (shareOf tri hull)) (s .cells) site e (rw (h .width) l) empty refl, all-filled tri hull (set (s .cells) site e))
 
   module _ (xs : List ℕ) where
-    hull-loop : (k i : ℕ) (s : Cells) → i + k ≡ length hull → Good s → ((j : ℕ) → i ≤ j → j < length hull → getD (s .cells) (getD hull j 0) [] ≡ []) → Gives Good (clipHull b nc he hull (leftmostOf tri he n) xs i k s)
+    hull-loop : (k i : ℕ) (s : Cells) → i + k ≡ length hull → Good s → ((j : ℕ) → i ≤ j → j < length hull → getD (s .cells) (getD hull j 0) [] ≡ [])
+        → Gives Good (clipHull b nc he hull (leftmostOf tri he n) xs i k s)
     unfolding clipHull
     hull-loop zero i s q h empty = h
     hull-loop (suc k) i s q h empty =
         let site = getD hull i 0 in
         let f = top .hull .fresh i (omega arith) in
         gives-then (λ (r : Cells). Good r × ((k : ℕ) → k ≢ site → getD (r .cells) k [] ≡ getD (s .cells) k [])) Good (clipInto b nc site (hullRing he hull (leftmostOf tri he n) xs i) s) _
-        (clip-into b nc n (shareOf tri hull) vs found begun room site (omega (arith, f .0)) (f .0) (hullRing he hull (leftmostOf tri he n) xs i) (hull-share top xs i (omega arith)) s h (empty i (omega arith) (omega arith)))
+        (clip-into b nc n (shareOf tri hull) vs found begun room site (omega (arith, f .0)) (f .0) (hullRing he hull (leftmostOf tri he n) xs i)
+        (hull-share top xs i (omega arith)) s h (empty i (omega arith) (omega arith)))
         (λ r w. hull-loop k (suc i) r (omega arith) (w .0) (λ j lo hi. w .1 (getD hull j 0) (λ z. top .hull .fresh j hi .1 i lo (sym z)) ∙ empty j (omega arith) hi))
 
   rest-loop : (k e : ℕ) (s : Cells) → e + k ≡ length tri → Good s → Gives Good (clipRest b nc tri he e k s)
@@ -102,11 +105,13 @@ module _ {tri he hull : List ℕ} {n : ℕ} (top : Topology tri he hull n) (few 
       let l : site < n = end-site top e (omega (arith, top .same)) in
       gives-then Good Good (pick (isEmpty (getD (s .cells) site [])) (λ _. clipInto b nc site (ringFrom he e) s) (λ _. ok s)) _
       (picked (Gives Good) (isEmpty (getD (s .cells) site [])) (λ _. clipInto b nc site (ringFrom he e) s) (λ _. ok s)
-      (λ t. gives-map _ Good (clipInto b nc site (ringFrom he e) s) (clip-into b nc n (shareOf tri hull) vs found begun room site (omega arith) l (ringFrom he e) (omega (arith, ring-share top site e (λ z. refl))) s h (is-empty _ t)) (λ r w. w .0))
+      (λ t. gives-map _ Good (clipInto b nc site (ringFrom he e) s)
+      (clip-into b nc n (shareOf tri hull) vs found begun room site (omega arith) l (ringFrom he e) (omega (arith, ring-share top site e (λ z. refl))) s h (is-empty _ t)) (λ r w. w .0))
       (λ t. h))
       (λ r w. rest-loop k (suc e) r (omega arith) w)
 
-  all-loop : (x : Extensions) (s : Cells) → Good s → ((k : ℕ) → getD (s .cells) k [] ≡ []) → Gives Good (andThen (clipHull b nc he hull (leftmostOf tri he n) (x .at) 0 (length hull) s) (λ r. clipRest b nc tri he 0 (length tri) r))
+  all-loop : (x : Extensions) (s : Cells) → Good s → ((k : ℕ) → getD (s .cells) k [] ≡ [])
+      → Gives Good (andThen (clipHull b nc he hull (leftmostOf tri he n) (x .at) 0 (length hull) s) (λ r. clipRest b nc tri he 0 (length tri) r))
   all-loop x s h empty =
       gives-then Good Good (clipHull b nc he hull (leftmostOf tri he n) (x .at) 0 (length hull) s) _
       (hull-loop (x .at) (length hull) 0 s (omega arith) h (λ j lo hi. empty (getD hull j 0)))
@@ -128,7 +133,8 @@ unfolding allWrapped wrappedIn
 none-wrapped zero = refl
 none-wrapped (suc n) = none-wrapped n
 
-pub begin : (b : BoundingBox) (nc n : ℕ) (u : ℕ → ℕ) (vs : List Point) (found : List ℕ) (ts : List Took) → length found ≡ 4 → Held b nc n u vs found (fresh ts) (cellsOf vs found (replicate n []) ts)
+pub begin : (b : BoundingBox) (nc n : ℕ) (u : ℕ → ℕ) (vs : List Point) (found : List ℕ) (ts : List Took) → length found ≡ 4
+    → Held b nc n u vs found (fresh ts) (cellsOf vs found (replicate n []) ts)
 unfolding wrappedIn
 begin b nc n u vs found ts four = record {
   width = length-replicate n [];
@@ -147,7 +153,9 @@ begin b nc n u vs found ts four = record {
 }
 
 -- what holds at the end
-pub clip-all : {tri he hull : List ℕ} {n : ℕ} → Topology tri he hull n → n < EMPTY → (b : BoundingBox) (nc : ℕ) (found : List ℕ) (x : Extensions) → nc + 4 ≤ length (x .verts) → length found ≡ 4 → Gives (Held b nc n (shareOf tri hull) (x .verts) found (fresh (x .steps))) (clipAll b nc tri he hull (leftmostOf tri he n) n found x)
+pub clip-all : {tri he hull : List ℕ} {n : ℕ} → Topology tri he hull n → n < EMPTY → (b : BoundingBox) (nc : ℕ) (found : List ℕ) (x : Extensions)
+    → nc + 4 ≤ length (x .verts) → length found ≡ 4 → Gives (Held b nc n (shareOf tri hull) (x .verts) found (fresh (x .steps))) (clipAll b nc tri he hull (leftmostOf tri he n) n found x)
 unfolding clipAll
 clip-all {tri} {he} {hull} {n} top few b nc found x room four =
-    all-loop top few b nc (x .verts) found (fresh (x .steps)) room x (cellsOf (x .verts) found (replicate n []) (x .steps)) (begin b nc n (shareOf tri hull) (x .verts) found (x .steps) four) (no-cell n)
+    all-loop top few b nc (x .verts) found (fresh (x .steps)) room x (cellsOf (x .verts) found (replicate n []) (x .steps))
+    (begin b nc n (shareOf tri hull) (x .verts) found (x .steps) four) (no-cell n)

@@ -2,12 +2,13 @@
 -- b is the box, nc the number of circumcenters, vs the vertices, os the four corners' owners: a corner that was wrapped has EMPTY.
 use Prim.Native.Nat.{ℕ, zero, suc, _+_, _%_}
 use mathlib.Core.Bool.{Bool, true, false, _&&_}
-use mathlib.Core.List.{List, [], _∷_, _++_, map, reverse}
+use mathlib.Core.List.{List, [], _∷_, _++_, reverse}
 use lib.ListN.{length, getD, set, take, drop}
 use lib.Dec.{ltb, eqb}
 use lib.Ieee.{Float, nan, eq}
 use Rattle.laws.specs.Pick.{pick}
 use Rattle.laws.specs.Binary64.{_⊟_}
+use Rattle.numbers.specs.Numbers.{EMPTY}
 use Rattle.utils.specs.Plane.{at}
 use Rattle.utils.specs.declared.Point.{Point}
 use Rattle.bounding_box.specs.Box.{insideOf, whichOf}
@@ -16,7 +17,6 @@ use Rattle.crossings.specs.Cross.{orderOf, rayOf}
 use Rattle.crossings.specs.declared.Crossing.{Crossing}
 use Rattle.crossings.specs.declared.Crossing.the-variants.{None, One, Two}
 use Rattle.vertices.specs.Add.{Added, addVertex}
-use Rattle.mesh.specs.Mesh.{EMPTY}
 use Rattle.definition.specs.declared.Fault.{Fault}
 use Rattle.definition.specs.Fault.{Outcome, ok, refused, andThen, atEdge}
 

@@ -1,15 +1,16 @@
 -- What one edge of a ring does to a cell: it adds at most two vertices and at most three entries beside the corners, and without an entry no vertex.
-use mathlib.Core.Path.{_≡_, refl, sym, ap, _∙_, subst}
+use mathlib.Core.Path.{_≡_, refl, _∙_, subst}
 use mathlib.Core.Bool.{Bool, true, false, not}
 use mathlib.Core.List.{List, [], _∷_, _++_}
-use mathlib.Core.Logic.{_⊎_, inl, inr, ⊎-elim, _≢_}
-use Prim.Native.Nat.{ℕ, zero, suc, _+_, _-_, _*_, _≤_, _<_}
+use mathlib.Core.Logic.{_⊎_, inl, inr, _≢_}
+use Prim.Native.Nat.{ℕ, suc, _+_, _≤_, _<_}
 use native.Mathlib.Omega.{arith}
 use lib.Dec.{ltb, eqb}
-use lib.ListN.{length, getD, drop, length-append, length-drop, List·getD-append}
+use lib.ListN.{length, drop, length-append, length-drop, List·getD-append}
 use lib.Ieee.{nan}
-use borrow.Author.Tests.{ltb-true, ltb-false, eq-eqb}
+use borrow.Author.Tests.{ltb-true, eq-eqb}
 use Rattle.laws.specs.Pick.{pick}
+use Rattle.numbers.specs.Numbers.{EMPTY}
 use Rattle.utils.specs.Plane.{at}
 use Rattle.utils.specs.declared.Point.{Point}
 use Rattle.bounding_box.specs.Box.{whichOf}
@@ -17,11 +18,11 @@ use Rattle.bounding_box.specs.declared.BoundingBox.{BoundingBox}
 use Rattle.crossings.specs.declared.Crossing.{Crossing}
 use Rattle.crossings.specs.declared.Crossing.the-variants.{None, One, Two}
 use Rattle.vertices.specs.Add.{Added, nearPt, findNear, addVertex}
-use Rattle.mesh.specs.Mesh.{EMPTY}
 use Rattle.definition.specs.Fault.{Outcome, ok, refused, andThen}
-use Rattle.definition.specs.Cell.{Mark, plain, crossing, wrapped, Entry, entry, lastOr, Took, took, firstCrossing, secondCrossing, Ins, ins, around, led, insertAt, insertEdge, vertexAt, Clip, missed, once, twice, clipWith, edgeCrossing, clipEdge, Change, change, tookOne, tookTwo, leave, enterAt, enter, link, crossAt, cross, clipStep}
+use Rattle.definition.specs.Cell.{lastOr, Took, Ins, around, led, insertAt, insertEdge, vertexAt, Clip, missed, once, twice, clipWith, clipEdge}
+use Rattle.definition.specs.Cell.{Change, tookOne, tookTwo, leave, enterAt, enter, link, crossAt, cross, clipStep}
 use Rattle.definition.specs.Gives.{Gives, gives-then, gives-next, picked}
-use Rattle.definition.specs.Puts.{Puts, puts-none, puts-more, puts-then, puts-plain, puts-crossing, puts-around}
+use Rattle.definition.specs.Puts.{Puts, puts-none, puts-then, puts-plain, puts-crossing, puts-around}
 
 -- ---- vertices
 
@@ -129,7 +130,8 @@ module _ (P : ℕ → Type 0) (b : BoundingBox) (nc site : ℕ) (real : site ≢
     abbrev Insert : ℕ → Ins → Type 0
     Insert k i = Puts P nc site (length vs) k os (i .new) (i .owners)
 
-    insert-sides : (last first second f s : ℕ) → nc ≤ second → second < length vs → (eqb last first ≡ false → (nc ≤ first) × (first < length vs)) → Gives (Insert (pick (eqb last first) (λ _. 1) (λ _. 2))) (insertAt nc site last first second os f s)
+    insert-sides : (last first second f s : ℕ) → nc ≤ second → second < length vs → (eqb last first ≡ false → (nc ≤ first) × (first < length vs))
+        → Gives (Insert (pick (eqb last first) (λ _. 1) (λ _. 2))) (insertAt nc site last first second os f s)
     unfolding insertAt
     insert-sides last first second f s lo hi lead =
         picked (Gives (Insert (pick (eqb last first) (λ _. 1) (λ _. 2)))) (ltb f 4) _ _
@@ -138,7 +140,8 @@ module _ (P : ℕ → Type 0) (b : BoundingBox) (nc site : ℕ) (real : site ≢
         (λ y. tt))
         (λ x. tt)
       where
-        by : (t : Bool) → (t ≡ false → (nc ≤ first) × (first < length vs)) → Insert 1 (around nc site f s second os) → Insert (pick t (λ _. 1) (λ _. 2)) (led t first (around nc site f s second os))
+        by : (t : Bool) → (t ≡ false → (nc ≤ first) × (first < length vs)) → Insert 1 (around nc site f s second os)
+            → Insert (pick t (λ _. 1) (λ _. 2)) (led t first (around nc site f s second os))
         by true l h = h
         by false l h = puts-then P nc site real (puts-crossing P nc site (length vs) first os (l refl .0) (l refl .1)) h
 
@@ -150,9 +153,11 @@ module _ (P : ℕ → Type 0) (b : BoundingBox) (nc site : ℕ) (real : site ≢
         subst (λ (t : Bool). Gives (Insert (pick t (λ _. 1) (λ _. 2))) (insertAt nc site last last second os (whichOf b (vertexAt vs last)) (whichOf b (vertexAt vs second)))) e
         (insert-sides last last second _ _ lo hi (λ z. let y : _≡_ {A = ℕ} 0 1 = cc in absurd (omega arith)))
 
-    insert-new : (last first second : ℕ) → nc ≤ first → first < length vs → nc ≤ second → second < length vs → Gives (λ (i : Ins). (k : ℕ) × (1 ≤ k) × (k ≤ 2) × Insert k i) (insertEdge b nc site vs os last first second)
+    insert-new : (last first second : ℕ) → nc ≤ first → first < length vs → nc ≤ second → second < length vs
+        → Gives (λ (i : Ins). (k : ℕ) × (1 ≤ k) × (k ≤ 2) × Insert k i) (insertEdge b nc site vs os last first second)
     unfolding insertEdge
-    insert-new last first second lo hi lo₂ hi₂ = by (eqb last first) (insertEdge b nc site vs os last first second) (insert-sides last first second (whichOf b (vertexAt vs first)) (whichOf b (vertexAt vs second)) lo₂ hi₂ (λ z. (lo, hi)))
+    insert-new last first second lo hi lo₂ hi₂ = by (eqb last first) (insertEdge b nc site vs os last first second)
+        (insert-sides last first second (whichOf b (vertexAt vs first)) (whichOf b (vertexAt vs second)) lo₂ hi₂ (λ z. (lo, hi)))
       where
         by : (t : Bool) (o : Outcome ℕ Ins) → Gives (Insert (pick t (λ _. 1) (λ _. 2))) o → Gives (λ (i : Ins). (k : ℕ) × (1 ≤ k) × (k ≤ 2) × Insert k i) o
         by true (ok i) h = (1, omega arith, omega arith, h)
@@ -182,10 +187,12 @@ module _ (P : ℕ → Type 0) (b : BoundingBox) (nc site : ℕ) (real : site ≢
     entered = λ z. inl (omega arith);
   }
 
-  enter-at : (vs ws : List Point) (os : List ℕ) (opened : Bool) (last first : ℕ) (ts : List Took) → length os ≡ 4 → Grown vs (fresh ts) ws → length ts ≤ 2 → nc ≤ first → first < length ws → Gives (Edge P nc site vs os opened) (enterAt b nc site ws os last first ts)
+  enter-at : (vs ws : List Point) (os : List ℕ) (opened : Bool) (last first : ℕ) (ts : List Took) → length os ≡ 4 → Grown vs (fresh ts) ws
+      → length ts ≤ 2 → nc ≤ first → first < length ws → Gives (Edge P nc site vs os opened) (enterAt b nc site ws os last first ts)
   unfolding enterAt
   enter-at vs ws os opened last first ts four g two lo hi =
-      gives-then (λ (i : Ins). Puts P nc site (length ws) 1 os (i .new) (i .owners)) (Edge P nc site vs os opened) (insertEdge b nc site ws os last last first) _ (insert-on ws os four last first lo hi)
+      gives-then (λ (i : Ins). Puts P nc site (length ws) 1 os (i .new) (i .owners)) (Edge P nc site vs os opened)
+      (insertEdge b nc site ws os last last first) _ (insert-on ws os four last first lo hi)
       (λ i h. record { grown = g; two = two; plain-or-crossing = 1; three = omega arith; puts = h; idle = inl (omega arith); entered = λ z. inl (omega arith) })
 
   enter-edge : (vs : List Point) (os : List ℕ) (opened : Bool) (last : ℕ) (k : Clip) → length os ≡ 4 → ClippedTo nc vs k → Gives (Edge P nc site vs os opened) (enter b nc site os last k)
@@ -193,22 +200,28 @@ module _ (P : ℕ → Type 0) (b : BoundingBox) (nc site : ℕ) (real : site ≢
   enter-edge vs os opened last missed four c = tt
   enter-edge vs os opened last (once r) four c = enter-at vs (r .verts) os opened last (r .at) (tookOne r) four (grown-then (c .grown) (grown-none _)) (omega arith) (c .after) (c .below)
   enter-edge vs os opened last (twice r t) four c =
-      enter-at vs (t .verts) os opened last (r .at) (tookTwo r t) four (grown-then (c .0 .grown) (grown-then (c .1 .grown) (grown-none _))) (omega arith) (c .0 .after) (omega (arith, c .0 .below, c .1 .grown .longer))
+      enter-at vs (t .verts) os opened last (r .at) (tookTwo r t) four (grown-then (c .0 .grown) (grown-then (c .1 .grown) (grown-none _)))
+      (omega arith) (c .0 .after) (omega (arith, c .0 .below, c .1 .grown .longer))
 
-  link-edge : (vs : List Point) (os : List ℕ) (opened : Bool) (last first : ℕ) → length os ≡ 4 → nc ≤ first → first < length vs → Gives (λ (i : Ins). (k : ℕ) × (k ≤ 1) × Puts P nc site (length vs) k os (i .new) (i .owners)) (link b nc site vs os opened last first)
+  link-edge : (vs : List Point) (os : List ℕ) (opened : Bool) (last first : ℕ) → length os ≡ 4 → nc ≤ first → first < length vs
+      → Gives (λ (i : Ins). (k : ℕ) × (k ≤ 1) × Puts P nc site (length vs) k os (i .new) (i .owners)) (link b nc site vs os opened last first)
   unfolding link
   link-edge vs os true last first four lo hi = by (insertEdge b nc site vs os last last first) (insert-on vs os four last first lo hi)
     where
-      by : (o : Outcome ℕ Ins) → Gives (λ (i : Ins). Puts P nc site (length vs) 1 os (i .new) (i .owners)) o → Gives (λ (i : Ins). (k : ℕ) × (k ≤ 1) × Puts P nc site (length vs) k os (i .new) (i .owners)) o
+      by : (o : Outcome ℕ Ins) → Gives (λ (i : Ins). Puts P nc site (length vs) 1 os (i .new) (i .owners)) o
+          → Gives (λ (i : Ins). (k : ℕ) × (k ≤ 1) × Puts P nc site (length vs) k os (i .new) (i .owners)) o
       by (ok i) h = (1, omega arith, h)
       by (refused n) h = tt
   link-edge vs os false last first four lo hi = (0, omega arith, puts-none P nc site (length vs) os)
 
-  cross-at : (vs ws : List Point) (os : List ℕ) (opened : Bool) (last first second : ℕ) (ts : List Took) → length os ≡ 4 → Grown vs (fresh ts) ws → length ts ≤ 2 → nc ≤ first → first < length ws → nc ≤ second → second < length ws → Gives (Edge P nc site vs os opened) (crossAt b nc site ws os opened last first second ts)
+  cross-at : (vs ws : List Point) (os : List ℕ) (opened : Bool) (last first second : ℕ) (ts : List Took) → length os ≡ 4 → Grown vs (fresh ts) ws
+      → length ts ≤ 2 → nc ≤ first → first < length ws → nc ≤ second → second < length ws → Gives (Edge P nc site vs os opened) (crossAt b nc site ws os opened last first second ts)
   unfolding crossAt
   cross-at vs ws os opened last first second ts four g two lo hi lo₂ hi₂ =
-      gives-then (λ (i : Ins). (k : ℕ) × (k ≤ 1) × Puts P nc site (length ws) k os (i .new) (i .owners)) (Edge P nc site vs os opened) (link b nc site ws os opened last first) _ (link-edge ws os opened last first four lo hi)
-      (λ i h. gives-then (λ (j : Ins). (k : ℕ) × (1 ≤ k) × (k ≤ 2) × Puts P nc site (length ws) k (i .owners) (j .new) (j .owners)) (Edge P nc site vs os opened) (insertEdge b nc site ws (i .owners) (lastOr last (i .new)) first second) _ (insert-new ws (i .owners) (h .2 .owners ∙ four) _ first second lo hi lo₂ hi₂)
+      gives-then (λ (i : Ins). (k : ℕ) × (k ≤ 1) × Puts P nc site (length ws) k os (i .new) (i .owners)) (Edge P nc site vs os opened)
+      (link b nc site ws os opened last first) _ (link-edge ws os opened last first four lo hi)
+      (λ i h. gives-then (λ (j : Ins). (k : ℕ) × (1 ≤ k) × (k ≤ 2) × Puts P nc site (length ws) k (i .owners) (j .new) (j .owners))
+      (Edge P nc site vs os opened) (insertEdge b nc site ws (i .owners) (lastOr last (i .new)) first second) _ (insert-new ws (i .owners) (h .2 .owners ∙ four) _ first second lo hi lo₂ hi₂)
       (λ j w. record {
         grown = g;
         two = two;
@@ -219,18 +232,29 @@ module _ (P : ℕ → Type 0) (b : BoundingBox) (nc site : ℕ) (real : site ≢
         entered = λ z. inr z;
       }))
 
-  cross-edge : (vs : List Point) (os : List ℕ) (opened : Bool) (last : ℕ) (k : Clip) → length os ≡ 4 → ClippedTo nc vs k → Gives (Edge P nc site vs os opened) (cross b nc site vs os opened last k)
+  cross-edge : (vs : List Point) (os : List ℕ) (opened : Bool) (last : ℕ) (k : Clip) → length os ≡ 4 → ClippedTo nc vs k
+      → Gives (Edge P nc site vs os opened) (cross b nc site vs os opened last k)
   unfolding cross andThen
-  cross-edge vs os opened last missed four c = record { grown = grown-none vs; two = omega arith; plain-or-crossing = 0; three = omega arith; puts = puts-none P nc site (length vs) os; idle = inr refl; entered = λ z. inr z }
+  cross-edge vs os opened last missed four c = record {
+    grown = grown-none vs;
+    two = omega arith;
+    plain-or-crossing = 0;
+    three = omega arith;
+    puts = puts-none P nc site (length vs) os;
+    idle = inr refl;
+    entered = λ z. inr z;
+  }
   cross-edge vs os opened last (once r) four c = by (link b nc site (r .verts) os opened last (r .at))
     where
       by : (o : Outcome ℕ Ins) → Gives (Edge P nc site vs os opened) (andThen o (λ i. refused 14))
       by (ok i) = tt
       by (refused n) = tt
   cross-edge vs os opened last (twice r t) four c =
-      cross-at vs (t .verts) os opened last (r .at) (t .at) (tookTwo r t) four (grown-then (c .0 .grown) (grown-then (c .1 .grown) (grown-none _))) (omega arith) (c .0 .after) (omega (arith, c .0 .below, c .1 .grown .longer)) (c .1 .after) (c .1 .below)
+      cross-at vs (t .verts) os opened last (r .at) (t .at) (tookTwo r t) four (grown-then (c .0 .grown) (grown-then (c .1 .grown) (grown-none _)))
+      (omega arith) (c .0 .after) (omega (arith, c .0 .below, c .1 .grown .longer)) (c .1 .after) (c .1 .below)
 
-  pub clip-step : (p : ℕ) (pIn : Bool) (q : ℕ) (qIn : Bool) (vs : List Point) (os : List ℕ) (opened : Bool) (last : ℕ) → nc ≤ length vs → length os ≡ 4 → (pIn ≡ true → P p × (p < nc)) → Gives (Edge P nc site vs os opened) (clipStep b nc site p pIn q qIn vs os opened last)
+  pub clip-step : (p : ℕ) (pIn : Bool) (q : ℕ) (qIn : Bool) (vs : List Point) (os : List ℕ) (opened : Bool) (last : ℕ) → nc ≤ length vs
+      → length os ≡ 4 → (pIn ≡ true → P p × (p < nc)) → Gives (Edge P nc site vs os opened) (clipStep b nc site p pIn q qIn vs os opened last)
   unfolding clipStep
   clip-step p true q true vs os opened last room four h = record {
     grown = grown-none vs;
@@ -264,7 +288,8 @@ module _ (b : BoundingBox) (nc site : ℕ) where
       gives-next Open (link b nc site (t .verts) os opened last (r .at)) _
       (λ i. gives-next Open (insertEdge b nc site (t .verts) (i .owners) (lastOr last (i .new)) (r .at) (t .at)) _ (λ j. h))
 
-  pub stays-open : (p : ℕ) (pIn : Bool) (q : ℕ) (qIn : Bool) (vs : List Point) (os : List ℕ) (opened : Bool) (last : ℕ) → qIn ≡ false → (pIn ≡ false → opened ≡ true) → Gives Open (clipStep b nc site p pIn q qIn vs os opened last)
+  pub stays-open : (p : ℕ) (pIn : Bool) (q : ℕ) (qIn : Bool) (vs : List Point) (os : List ℕ) (opened : Bool) (last : ℕ) → qIn ≡ false
+      → (pIn ≡ false → opened ≡ true) → Gives Open (clipStep b nc site p pIn q qIn vs os opened last)
   unfolding clipStep
   stays-open p true q true vs os opened last out h = let z : _≡_ {A = ℕ} 0 1 = cc in absurd (omega arith)
   stays-open p true q false vs os opened last out h = leave-open p os _

@@ -1,20 +1,18 @@
 -- What holds of the cells at each point of the build, and that a further try keeps it. Wrapping: a corner stands in no cell and is with its owner as found, or it is
 -- struck out and stands once, in that owner's cell. Room: what was added is paid for by the sites whose cells are filled, each once, by its share u.
-use mathlib.Core.Path.{_≡_, refl, sym, ap, _∙_, subst}
-use mathlib.Core.Bool.{Bool, true, false}
+use mathlib.Core.Path.{_≡_, refl, sym, ap, _∙_}
+use mathlib.Core.Bool.{true}
 use mathlib.Core.List.{List, [], _∷_, _++_}
 use mathlib.Core.Logic.{_⊎_, inl, inr, ⊎-elim, _≢_}
-use Prim.Native.Nat.{ℕ, zero, suc, _+_, _*_, _≤_, _<_}
+use Prim.Native.Nat.{ℕ, _+_, _*_, _≤_, _<_}
 use native.Mathlib.Omega.{arith}
 use lib.ListN.{length, getD, set, length-set}
 use lib.Seq.{getD-set-same, getD-set-other}
 use Rattle.laws.specs.Decide.{eq-or-ne}
 use Rattle.laws.specs.Count.{occ}
+use Rattle.numbers.specs.Numbers.{EMPTY}
 use Rattle.utils.specs.declared.Point.{Point}
 use Rattle.bounding_box.specs.declared.BoundingBox.{BoundingBox}
-use Rattle.mesh.specs.Mesh.{EMPTY}
-use Rattle.definition.specs.declared.Fault.{Fault}
-use Rattle.definition.specs.Fault.{Outcome, ok, refused, andThen}
 use Rattle.definition.specs.Cell.{Entry, Took, inBox, Part, clipCell}
 use Rattle.definition.specs.Build.{wrappedIn, allWrapped, Cells, cellsOf, clipInto}
 use Rattle.definition.specs.Gives.{Gives, gives-then}
@@ -44,11 +42,13 @@ pub record Held (b : BoundingBox) (nc n : ℕ) (u : ℕ → ℕ) (vs : List Poin
   -- corners
   pub owned : (k : ℕ) → k ≢ EMPTY → occ k (s .owners) ≤ occ k found
   pub struck : length (allWrapped (s .cells)) + occ EMPTY found ≡ occ EMPTY (s .owners)
-  pub corner : (c : ℕ) → c < 4 → ((getD (s .owners) c 0 ≡ getD found c 0) × (occ (nc + c) (allWrapped (s .cells)) ≡ 0)) ⊎ ((getD (s .owners) c 0 ≡ EMPTY) × (occ (nc + c) (allWrapped (s .cells)) ≡ 1))
+  pub corner : (c : ℕ) → c < 4 → ((getD (s .owners) c 0 ≡ getD found c 0) × (occ (nc + c) (allWrapped (s .cells)) ≡ 0)) ⊎
+      ((getD (s .owners) c 0 ≡ EMPTY) × (occ (nc + c) (allWrapped (s .cells)) ≡ 1))
   pub taken : (c k : ℕ) → c < 4 → 0 < occ (nc + c) (wrappedIn (getD (s .cells) k [])) → k ≡ getD found c 0
 
 -- an empty try costs nothing, another one its site's share
-two-for : (u : ℕ → ℕ) (k m : ℕ) (es : List Entry) (ts : List Took) → m ≤ u k → length ts ≤ 2 * m → fresh ts ≤ length ts → (es ≡ [] → ts ≡ []) → fresh ts ≤ 2 * filled u k es
+two-for : (u : ℕ → ℕ) (k m : ℕ) (es : List Entry) (ts : List Took) → m ≤ u k → length ts ≤ 2 * m → fresh ts ≤ length ts
+    → (es ≡ [] → ts ≡ []) → fresh ts ≤ 2 * filled u k es
 two-for u k m [] ts h g f e = omega (arith, ap fresh (e refl))
 two-for u k m (x ∷ es) ts h g f e = omega arith
 
@@ -61,7 +61,8 @@ set-cases : (cs : List (List Entry)) (s k : ℕ) (c : List Entry) → s < length
 set-cases cs s k c h = ⊎-elim (λ q. inl (q, rw q (getD-set-same cs s c [] h))) (λ q. inr (q, getD-set-other cs s k c [] q)) (eq-or-ne k s)
 
 module _ (b : BoundingBox) (nc n : ℕ) (u : ℕ → ℕ) (vs : List Point) (found : List ℕ) (begun : ℕ) (room : nc + 4 ≤ length vs) where
-  module _ (site : ℕ) (real : site ≢ EMPTY) (l : site < n) (ring : List ℕ) (paid : length ring ≤ u site) (s : Cells) (h : Held b nc n u vs found begun s) (empty : getD (s .cells) site [] ≡ []) where
+  module _ (site : ℕ) (real : site ≢ EMPTY) (l : site < n) (ring : List ℕ) (paid : length ring ≤ u site) (s : Cells)
+      (h : Held b nc n u vs found begun s) (empty : getD (s .cells) site [] ≡ []) where
     abbrev C : Part → Type 0
     C = Clipped b nc site (s .verts) (s .owners) (length ring)
 
@@ -103,7 +104,8 @@ module _ (b : BoundingBox) (nc n : ℕ) (u : ℕ → ℕ) (vs : List Point) (fou
               (set-cases (s .cells) site k (c .new) in-cells);
           placed = λ k.
               ⊎-elim
-              (λ q. rw (q .1) (all-turned (λ v. inBox b nc (s .verts) v ≡ true) nc site (λ v. inBox b nc vs v ≡ true) _ (λ v i. sym (in-grown b nc vs (s .verts) (h .more) v (omega arith) (h .grown)) ∙ i) (c .new) (g .puts .placed)))
+              (λ q. rw (q .1) (all-turned (λ v. inBox b nc (s .verts) v ≡ true) nc site (λ v. inBox b nc vs v ≡ true) _
+              (λ v i. sym (in-grown b nc vs (s .verts) (h .more) v (omega arith) (h .grown)) ∙ i) (c .new) (g .puts .placed)))
               (λ q. rw (q .1) (all-more (λ v. inBox b nc vs v ≡ true) nc site (length (s .verts)) (length (c .tip .verts)) (omega (arith, g .grown .longer)) (getD (s .cells) k []) (h .placed k)))
               (set-cases (s .cells) site k (c .new) in-cells);
           owned = λ k z. omega (arith, g .puts .others k z, h .owned k z);

@@ -1,14 +1,13 @@
 -- The unclipped cells in document 01's words: of each site the walk from the lowest half-edge that ends there, reversed; empty where none does.
 -- The loop meets that half-edge first, and a walk is never empty, so no later one changes the cell.
-use mathlib.Core.Path.{_≡_, refl, sym, ap, _∙_, subst}
-use mathlib.Core.Bool.{Bool, true, false}
-use mathlib.Core.List.{List, [], _∷_, map, reverse}
-use mathlib.Core.Logic.{_⊎_, inl, inr, ⊎-elim, _≢_}
+use mathlib.Core.Path.{_≡_, refl, sym, ap, _∙_}
+use mathlib.Core.Bool.{true, false}
+use mathlib.Core.List.{List, [], _∷_, reverse}
+use mathlib.Core.Logic.{⊎-elim, _≢_}
 use Prim.Native.Nat.{ℕ, zero, suc, _+_, _-_, _/_, _≤_, _<_}
 use native.Mathlib.Omega.{arith}
 use lib.ListN.{length, getD, set, replicate, length-set, length-map, length-reverse, length-replicate}
 use lib.Seq.{getD-set-same, getD-set-other}
-use Rattle.laws.specs.Pick.{pick}
 use Rattle.laws.specs.Decide.{eq-or-ne}
 use Rattle.laws.specs.Count.{occ}
 use Rattle.mesh.specs.Mesh.{endOf, wholeOf, walkOf, turnOf}
@@ -70,7 +69,16 @@ module _ {tri he hull : List ℕ} {n : ℕ} (top : Topology tri he hull n) where
               (eq-or-ne e m))
               (λ z. getD-set-other cells site s (ringCell he m) [] z ∙ h .some s e (below e g (λ y. z (sym q ∙ ap (endOf tri) y))) q low)
               (eq-or-ne s site);
-          total = omega (arith, h .total, ring-length he m, weigh-put (λ s c. length c) cells site (ringCell he m) in-cells empty refl, weigh-put (filled (λ s. occ s tri)) cells site (ringCell he m) in-cells empty refl, some-filled (λ s. occ s tri) site (ringCell he m) r, ring-share top site m (λ z. refl));
+          total = omega (
+            arith,
+            h .total,
+            ring-length he m,
+            weigh-put (λ s c. length c) cells site (ringCell he m) in-cells empty refl,
+            weigh-put
+                (filled (λ s. occ s tri)) cells site (ringCell he m) in-cells empty refl,
+            some-filled (λ s. occ s tri) site (ringCell he m) r,
+            ring-share top site m (λ z. refl),
+          );
         }
       where
         below : (e : ℕ) → e < suc m → e ≢ m → e < m

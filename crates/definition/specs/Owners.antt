@@ -1,10 +1,9 @@
 -- Corner owners by paths: a corner's owner is the last entry of the whole path to it, begun where the path to the corner before ended.
-use mathlib.Core.Path.{_≡_, refl, sym, ap, _∙_, subst}
-use mathlib.Core.Bool.{Bool, true, false}
+use mathlib.Core.Path.{_≡_, refl, ap, subst}
 use mathlib.Core.List.{List, [], _∷_}
-use mathlib.Core.Logic.{_⊎_, inl, inr, ⊎-elim, _≢_}
+use mathlib.Core.Logic.{⊎-elim}
 use Prim.{tt}
-use Prim.Native.Nat.{ℕ, zero, suc, _+_, _*_, _/_, _≤_, _<_}
+use Prim.Native.Nat.{ℕ, zero, suc, _<_}
 use native.Mathlib.Omega.{arith}
 use lib.Dec.{eqb, lit≤}
 use lib.Ieee.{Float, nan}
@@ -17,9 +16,8 @@ use Rattle.utils.specs.declared.Point.{Point}
 use Rattle.bounding_box.specs.Box.{cornersOf}
 use Rattle.bounding_box.specs.Finite.{BoundedBox, corner-bounded}
 use Rattle.bounding_box.specs.declared.BoundingBox.{BoundingBox}
-use Rattle.mesh.specs.Mesh.{EMPTY, endOf, leftmostOf}
+use Rattle.mesh.specs.Mesh.{leftmostOf}
 use Rattle.mesh.specs.Accepted.{Accepted, siteCount}
-use Rattle.mesh.specs.Rules.{Topology}
 use Rattle.mesh.specs.Facts.{topology, paired, entry-site, tab-length, tab-cases}
 use Rattle.iterator.specs.Path.{distOf, hopOf, pathEnd}
 use Rattle.iterator.specs.Ready.{Ready, Towards}
@@ -56,7 +54,9 @@ module _ (sites : List Float) (tri he left : List ℕ) (n : ℕ) (m : Ready tri 
       (λ e. l)
       (λ e. end-below p k (hopOf sites tri he left p s) t (hop-below p s t l))
 
-  pub owner : (corners : List Point) (s : ℕ) → s < n → ((c : ℕ) → c < length corners → Towards sites (getD corners c (at nan nan)) n) → (c : ℕ) → c < length corners → (getD (ownersFrom sites tri he left n s corners) c 0 ≡ lastOf (getD (cornerPaths sites tri he left s corners) c [])) × (getD (ownersFrom sites tri he left n s corners) c 0 < n)
+  pub owner : (corners : List Point) (s : ℕ) → s < n → ((c : ℕ) → c < length corners → Towards sites (getD corners c (at nan nan)) n) → (c : ℕ)
+      → c < length corners → (getD (ownersFrom sites tri he left n s corners) c 0 ≡ lastOf (getD (cornerPaths sites tri he left s corners) c []))
+      × (getD (ownersFrom sites tri he left n s corners) c 0 < n)
   unfolding ownersFrom cornerPaths
   owner [] s l t c h = absurd (omega arith)
   owner (p ∷ ps) s l t zero h = (whole-end sites tri he left p n m (t 0 (omega arith)) n s l (omega (arith, used-sum tri n)), end-below p n s (t 0 (omega arith)) l)
@@ -83,5 +83,6 @@ module _ {sites : List Float} {tri he hull : List ℕ} (a : Accepted sites tri h
   unfolding distOf
   towards-corner {b} h c l = record {
     room = omega arith;
-    numbers = λ s k. dist2-no-nan 101 (lit≤ tt) (pointAt sites s) (getD (cornersOf b) c (at nan nan)) (point-weaken (lit≤ tt) (site-bounded (pointAt sites s) (a .coordinates s k))) (corner-bounded h c l);
+    numbers = λ s k. dist2-no-nan 101 (lit≤ tt) (pointAt sites s) (getD (cornersOf b) c (at nan nan))
+        (point-weaken (lit≤ tt) (site-bounded (pointAt sites s) (a .coordinates s k))) (corner-bounded h c l);
   }

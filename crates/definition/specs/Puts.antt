@@ -1,5 +1,5 @@
 -- What a step puts into the cell of a site: entries for vertices that there are, and of the corners that the site owns some, each struck out as it is taken.
-use mathlib.Core.Path.{_≡_, refl, sym, ap, _∙_, subst}
+use mathlib.Core.Path.{_≡_, refl, sym, ap, _∙_}
 use mathlib.Core.Bool.{Bool, true, false}
 use mathlib.Core.List.{List, [], _∷_, _++_}
 use mathlib.Core.Logic.{_⊎_, inl, inr, ⊎-elim, _≢_}
@@ -8,12 +8,12 @@ use native.Mathlib.Omega.{arith}
 use lib.Dec.{eqb}
 use lib.ListN.{length, getD, set, length-append, length-set}
 use lib.Seq.{getD-set-same, getD-set-other}
-use borrow.Author.Tests.{eqb-true, eqb-false}
+use borrow.Author.Tests.{eqb-true}
 use Rattle.laws.specs.Pick.{pick}
 use Rattle.laws.specs.Decide.{eq-or-ne}
 use Rattle.laws.specs.Count.{same, occ, same-cases, occ-append}
-use Rattle.mesh.specs.Mesh.{EMPTY}
-use Rattle.definition.specs.Cell.{Mark, plain, crossing, wrapped, Entry, entry, Ins, ins, before, after, goes, wraps, around, led}
+use Rattle.numbers.specs.Numbers.{EMPTY}
+use Rattle.definition.specs.Cell.{Mark, plain, crossing, wrapped, Entry, entry, Ins, ins, before, goes, wraps, around}
 use Rattle.definition.specs.Build.{ifWrapped, wrappedIn}
 use Rattle.definition.specs.Gives.{picked}
 
@@ -108,7 +108,8 @@ module _ (P : ℕ → Type 0) (nc site : ℕ) where
   module _ (real : site ≢ EMPTY) where
     struck-then : (c : ℕ) (es fs : List Entry) (o u w : ℕ) → Struck nc site c es o u → Struck nc site c fs u w → Struck nc site c (es ++ fs) o w
     struck-then c es fs o u w h g =
-        let e : occ (nc + c) (wrappedIn (es ++ fs)) ≡ occ (nc + c) (wrappedIn es) + occ (nc + c) (wrappedIn fs) = ap (occ (nc + c)) (wrapped-append es fs) ∙ occ-append (nc + c) (wrappedIn es) (wrappedIn fs) in
+        let e : occ (nc + c) (wrappedIn (es ++ fs)) ≡ occ (nc + c) (wrappedIn es) + occ (nc + c) (wrappedIn fs) = ap (occ (nc + c))
+        (wrapped-append es fs) ∙ occ-append (nc + c) (wrappedIn es) (wrappedIn fs) in
         ⊎-elim
         (λ x. ⊎-elim
         (λ y. inl (y .0 ∙ x .0, omega (arith, e, x .1, y .1)))
@@ -185,7 +186,8 @@ module _ (P : ℕ → Type 0) (nc site : ℕ) where
         (λ t. puts-then real (puts-corner c os four h (goes-own stop c os t)) (puts-wraps k stop ((c + 1) % 4) (set os c EMPTY) (length-set os c EMPTY ∙ four) (omega arith)))
         (λ t. puts-none n os)
 
-    pub puts-around : (f s second : ℕ) (os : List ℕ) → length os ≡ 4 → f < 4 → s < 4 → nc ≤ second → second < n → Puts P nc site n 1 os (around nc site f s second os .new) (around nc site f s second os .owners)
+    pub puts-around : (f s second : ℕ) (os : List ℕ) → length os ≡ 4 → f < 4 → s < 4 → nc ≤ second → second < n
+        → Puts P nc site n 1 os (around nc site f s second os .new) (around nc site f s second os .owners)
     unfolding around
     puts-around f s second os four hf hs lo hi =
         picked (λ (i : Ins). Puts P nc site n 1 os (i .new) (i .owners)) (eqb (getD os f 0) site) _ _
@@ -202,7 +204,10 @@ module _ (P : ℕ → Type 0) (nc site : ℕ) where
         by true e = absurd (omega (arith, occ-read site os c h (goes-own stop c os e)))
         by false e = refl
 
-    further : (k stop c : ℕ) (os : List ℕ) (t : Bool) → (t ≡ true → wraps (suc k) nc site stop ((c + 1) % 4) (set os c EMPTY) ≡ wraps k nc site stop ((c + 1) % 4) (set os c EMPTY)) → pick t (λ _. before (entry wrapped (nc + c)) (wraps (suc k) nc site stop ((c + 1) % 4) (set os c EMPTY))) (λ _. ins os []) ≡ pick t (λ _. before (entry wrapped (nc + c)) (wraps k nc site stop ((c + 1) % 4) (set os c EMPTY))) (λ _. ins os [])
+    further : (k stop c : ℕ) (os : List ℕ) (t : Bool) → (t ≡ true
+        → wraps (suc k) nc site stop ((c + 1) % 4) (set os c EMPTY) ≡ wraps k nc site stop ((c + 1) % 4) (set os c EMPTY))
+        → pick t (λ _. before (entry wrapped (nc + c)) (wraps (suc k) nc site stop ((c + 1) % 4) (set os c EMPTY))) (λ _. ins os []) ≡ pick t
+        (λ _. before (entry wrapped (nc + c)) (wraps k nc site stop ((c + 1) % 4) (set os c EMPTY))) (λ _. ins os [])
     further k stop c os true h = ap (before (entry wrapped (nc + c))) (h refl)
     further k stop c os false h = refl
 

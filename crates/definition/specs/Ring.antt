@@ -8,16 +8,15 @@ use Prim.Native.Nat.{ℕ, zero, suc, _+_, _*_, _≤_, _<_}
 use native.Mathlib.Omega.{arith}
 use lib.Dec.{ltb}
 use lib.ListN.{length, getD, take, drop, length-append, length-reverse, take-append-drop}
-use borrow.Author.Tests.{ltb-true, ltb-false}
+use borrow.Author.Tests.{ltb-true}
 use Rattle.laws.specs.Pick.{pick}
+use Rattle.numbers.specs.Numbers.{EMPTY}
 use Rattle.utils.specs.declared.Point.{Point}
 use Rattle.bounding_box.specs.Box.{insideOf}
 use Rattle.bounding_box.specs.declared.BoundingBox.{BoundingBox}
-use Rattle.mesh.specs.Mesh.{EMPTY}
-use Rattle.definition.specs.declared.Fault.{Fault}
-use Rattle.definition.specs.Fault.{Outcome, ok, refused, andThen, atEdge}
-use Rattle.definition.specs.Cell.{Mark, plain, crossing, wrapped, Entry, lastOr, Took, vertexAt, Change, clipStep, inBox, Tip, tip, Part, part, joined, moved, stepTo, stepsTo, firstInside, turned, clipFrom, clipCell}
-use Rattle.definition.specs.Build.{wrappedIn}
+use Rattle.definition.specs.Fault.{atEdge}
+use Rattle.definition.specs.Cell.{Mark, plain, crossing, wrapped, Entry, lastOr, Took, vertexAt, Change, clipStep, inBox, Tip, tip, Part, joined}
+use Rattle.definition.specs.Cell.{stepTo, stepsTo, firstInside, turned, clipFrom, clipCell}
 use Rattle.definition.specs.Gives.{Gives, gives-both, gives-given, gives-map, gives-then, gives-at, picked}
 use Rattle.definition.specs.Puts.{Placed, AllPlaced, Puts, puts-none, puts-more, puts-then}
 use Rattle.definition.specs.Edge.{fresh, fresh-append, Grown, grown-none, grown-then, Edge, clip-step, stays-open}
@@ -102,8 +101,10 @@ module _ (b : BoundingBox) (nc site : ℕ) (real : site ≢ EMPTY) (vs : List Po
   did t q h =
       let o = clipStep b nc site (t .p) (t .pIn) q (inBox b nc (t .verts) q) (t .verts) (t .owners) (t .opened) (t .last) in
       gives-both _ _ o
-      (clip-step Inside b nc site real (t .p) (t .pIn) q _ (t .verts) (t .owners) (t .opened) (t .last) (omega (arith, h .grown .longer)) (h .four) (λ e. (h .inside e, in-centre b nc vs (t .p) (h .inside e))))
-      (gives-given (started ≡ true) _ o (λ s. gives-given (inBox b nc (t .verts) q ≡ false) _ o (λ out. stays-open b nc site (t .p) (t .pIn) q _ (t .verts) (t .owners) (t .opened) (t .last) out (h .out s))))
+      (clip-step Inside b nc site real (t .p) (t .pIn) q _ (t .verts) (t .owners) (t .opened) (t .last) (omega (arith, h .grown .longer)) (h .four)
+      (λ e. (h .inside e, in-centre b nc vs (t .p) (h .inside e))))
+      (gives-given (started ≡ true) _ o (λ s. gives-given (inBox b nc (t .verts) q ≡ false) _ o
+      (λ out. stays-open b nc site (t .p) (t .pIn) q _ (t .verts) (t .owners) (t .opened) (t .last) out (h .out s))))
 
   pub step-to : (t : Tip) (q : ℕ) → Ready b nc vs started t → Gives (After t) (stepTo b nc site t q)
   unfolding stepTo
@@ -145,7 +146,15 @@ module _ (b : BoundingBox) (nc site : ℕ) (real : site ≢ EMPTY) (vs : List Po
 
   pub steps-to : (qs : List ℕ) (t : Tip) → Ready b nc vs started t → Gives (Ring Inside nc site t (length qs)) (stepsTo b nc site qs t)
   unfolding stepsTo
-  steps-to [] t h = record { grown = grown-none (t .verts); twos = omega arith; plain-or-crossing = 0; threes = omega arith; puts = puts-none Inside nc site _ (t .owners); idle = inr refl; entered = λ e. inr e }
+  steps-to [] t h = record {
+    grown = grown-none (t .verts);
+    twos = omega arith;
+    plain-or-crossing = 0;
+    threes = omega arith;
+    puts = puts-none Inside nc site _ (t .owners);
+    idle = inr refl;
+    entered = λ e. inr e;
+  }
   steps-to (q ∷ qs) t h =
       gives-then (After t) (Ring Inside nc site t (suc (length qs))) (stepTo b nc site t q) _ (step-to t q h)
       (λ c x. gives-then (Ring Inside nc site (c .tip) (length qs)) (Ring Inside nc site t (suc (length qs))) (stepsTo b nc site qs (c .tip)) _ (steps-to qs (c .tip) (x .1))
@@ -162,12 +171,15 @@ module _ (b : BoundingBox) (nc site : ℕ) (real : site ≢ EMPTY) (vs : List Po
   }
 
   -- an open cell is never empty, wherever on its way
-  pub open-some : (qs os : List ℕ) (p : ℕ) → length os ≡ 4 → (started ≡ true → Inside p) → Gives (λ (r : Part). r .tip .opened ≡ true → 1 ≤ length (r .new)) (stepsTo b nc site qs (tip vs os EMPTY p started false))
+  pub open-some : (qs os : List ℕ) (p : ℕ) → length os ≡ 4 → (started ≡ true → Inside p)
+      → Gives (λ (r : Part). r .tip .opened ≡ true → 1 ≤ length (r .new)) (stepsTo b nc site qs (tip vs os EMPTY p started false))
   open-some qs os p four h =
-      gives-map (Ring Inside nc site (tip vs os EMPTY p started false) (length qs)) _ (stepsTo b nc site qs (tip vs os EMPTY p started false)) (steps-to qs (tip vs os EMPTY p started false) (begin os p four h))
+      gives-map (Ring Inside nc site (tip vs os EMPTY p started false) (length qs)) _ (stepsTo b nc site qs (tip vs os EMPTY p started false))
+      (steps-to qs (tip vs os EMPTY p started false) (begin os p four h))
       (λ r g e. ⊎-elim (λ x. omega (arith, g .puts .rest)) (λ x. let y : _≡_ {A = ℕ} 0 1 = cc in absurd (omega arith)) (g .entered e))
 
-  clip-from : (ring os : List ℕ) (f : ℕ) → length os ≡ 4 → (started ≡ true → Inside (getD ring f 0)) → Gives (Ring Inside nc site (tip vs os EMPTY (getD ring f 0) started false) (length ring)) (clipFrom b nc site ring vs os f started)
+  clip-from : (ring os : List ℕ) (f : ℕ) → length os ≡ 4 → (started ≡ true → Inside (getD ring f 0))
+      → Gives (Ring Inside nc site (tip vs os EMPTY (getD ring f 0) started false) (length ring)) (clipFrom b nc site ring vs os f started)
   unfolding clipFrom
   clip-from ring os f four h =
       let t = tip vs os EMPTY (getD ring f 0) started false in
@@ -180,16 +192,19 @@ unfolding firstInside
 first-inside b nc vs [] h = absurd (omega arith)
 first-inside b nc vs (q ∷ qs) h = by (inBox b nc vs q) refl (first-inside b nc vs qs) h
   where
-    by : (t : Bool) → inBox b nc vs q ≡ t → (firstInside b nc vs qs < length qs → inBox b nc vs (getD qs (firstInside b nc vs qs) 0) ≡ true) → pick t (λ _. 0) (λ _. suc (firstInside b nc vs qs)) < suc (length qs) → inBox b nc vs (getD (q ∷ qs) (pick t (λ _. 0) (λ _. suc (firstInside b nc vs qs))) 0) ≡ true
+    by : (t : Bool) → inBox b nc vs q ≡ t → (firstInside b nc vs qs < length qs → inBox b nc vs (getD qs (firstInside b nc vs qs) 0) ≡ true)
+        → pick t (λ _. 0) (λ _. suc (firstInside b nc vs qs)) < suc (length qs) → inBox b nc vs (getD (q ∷ qs) (pick t (λ _. 0) (λ _. suc (firstInside b nc vs qs))) 0) ≡ true
     by true e k l = e
     by false e k l = k (omega arith)
 
-pub none-inside : (b : BoundingBox) (nc : ℕ) (vs : List Point) (ring : List ℕ) → length ring ≤ firstInside b nc vs ring → (i : ℕ) → i < length ring → inBox b nc vs (getD ring i 0) ≡ false
+pub none-inside : (b : BoundingBox) (nc : ℕ) (vs : List Point) (ring : List ℕ) → length ring ≤ firstInside b nc vs ring → (i : ℕ)
+    → i < length ring → inBox b nc vs (getD ring i 0) ≡ false
 unfolding firstInside
 none-inside b nc vs [] h i l = absurd (omega arith)
 none-inside b nc vs (q ∷ qs) h i l = by (inBox b nc vs q) refl (none-inside b nc vs qs) h i l
   where
-    by : (t : Bool) → inBox b nc vs q ≡ t → (length qs ≤ firstInside b nc vs qs → (i : ℕ) → i < length qs → inBox b nc vs (getD qs i 0) ≡ false) → suc (length qs) ≤ pick t (λ _. 0) (λ _. suc (firstInside b nc vs qs)) → (i : ℕ) → i < suc (length qs) → inBox b nc vs (getD (q ∷ qs) i 0) ≡ false
+    by : (t : Bool) → inBox b nc vs q ≡ t → (length qs ≤ firstInside b nc vs qs → (i : ℕ) → i < length qs → inBox b nc vs (getD qs i 0) ≡ false)
+        → suc (length qs) ≤ pick t (λ _. 0) (λ _. suc (firstInside b nc vs qs)) → (i : ℕ) → i < suc (length qs) → inBox b nc vs (getD (q ∷ qs) i 0) ≡ false
     by true e k h i l = absurd (omega arith)
     by false e k h zero l = e
     by false e k h (suc i) l = k (omega arith) i (omega arith)

@@ -1,25 +1,22 @@
 -- What the cells begin with: T circumcenters, four corners, and an extension for each of the H hull places, each a vertex after the circumcenters.
-use mathlib.Core.Path.{_≡_, refl, sym, ap, _∙_, subst}
+use mathlib.Core.Path.{_≡_, _∙_, subst}
 use mathlib.Core.Bool.{Bool, true, false, _&&_}
 use mathlib.Core.List.{List, [], _∷_, _++_}
-use mathlib.Core.Logic.{_⊎_, inl, inr, ⊎-elim}
+use mathlib.Core.Logic.{⊎-elim}
 use Prim.Native.Nat.{ℕ, zero, suc, _+_, _≤_, _<_}
 use native.Mathlib.Omega.{arith}
 use lib.Ieee.{Float}
 use lib.ListN.{length, getD, length-append, List·getD-append}
 use lib.Seq.{getD-at}
-use Rattle.laws.specs.Pick.{pick}
 use Rattle.laws.specs.Decide.{lt-or-ge}
 use Rattle.utils.specs.declared.Point.{Point}
 use Rattle.utils.specs.Rules.{okCentre}
 use Rattle.mesh.specs.Hull.{nextSite}
-use Rattle.vertices.specs.Add.{Added, addVertex}
-use Rattle.definition.specs.declared.Fault.{Fault}
-use Rattle.definition.specs.Fault.{Outcome, ok, refused, badCentre, notFinite}
-use Rattle.definition.specs.Cell.{Took, took, extension}
+use Rattle.vertices.specs.Add.{addVertex}
+use Rattle.definition.specs.Cell.{took, extension}
 use Rattle.definition.specs.Build.{centreAt, centresFrom, finite, extended, Extensions, extensions, extendFrom}
 use Rattle.definition.specs.Gives.{Gives, gives-map, picked}
-use Rattle.definition.specs.Edge.{one, fresh, fresh-append, Grown, grown-none, grown-then, AddedTo, add-vertex}
+use Rattle.definition.specs.Edge.{one, fresh, fresh-append, Grown, grown-none, grown-then, add-vertex}
 
 pub centres-from : (sites : List Float) (tri : List ℕ) (t k : ℕ) (vs : List Point) → Gives (λ (ws : List Point). length ws ≡ length vs + k) (centresFrom sites tri t k vs)
 unfolding centresFrom
@@ -77,12 +74,14 @@ extended-then h g = record {
   beyond = g .beyond;
 }
 
-pub extend-from : (sites : List Float) (tri hull left : List ℕ) (nc i k : ℕ) (x : Extensions) → nc ≤ length (x .verts) → Beyond nc x → Gives (Extended nc k x) (extendFrom sites tri hull left nc i k x)
+pub extend-from : (sites : List Float) (tri hull left : List ℕ) (nc i k : ℕ) (x : Extensions) → nc ≤ length (x .verts) → Beyond nc x
+    → Gives (Extended nc k x) (extendFrom sites tri hull left nc i k x)
 unfolding extendFrom
 extend-from sites tri hull left nc i zero x h g = record { more = 0; few = omega arith; grown = grown-none (x .verts); added = omega arith; counted = omega arith; beyond = g }
 extend-from sites tri hull left nc i (suc k) x h g =
     let p = extended sites tri (x .verts) (getD left (nextSite hull i) 0) in
     let e = extend-one nc x h g p in
     picked (Gives (Extended nc (suc k) x)) (finite (p .x) && finite (p .y)) _ _
-    (λ t. gives-map _ _ (extendFrom sites tri hull left nc (suc i) k (next nc x h g p)) (extend-from sites tri hull left nc (suc i) k (next nc x h g p) (omega (arith, e .grown .longer)) (e .beyond)) (λ y w. subst (λ (m : ℕ). Extended nc m x y) (omega arith) (extended-then e w)))
+    (λ t. gives-map _ _ (extendFrom sites tri hull left nc (suc i) k (next nc x h g p))
+    (extend-from sites tri hull left nc (suc i) k (next nc x h g p) (omega (arith, e .grown .longer)) (e .beyond)) (λ y w. subst (λ (m : ℕ). Extended nc m x y) (omega arith) (extended-then e w)))
     (λ t. tt)

@@ -1,9 +1,9 @@
 -- What holds of every build that is not refused, on an accepted mesh and a box that rule 3 admits.
-use mathlib.Core.Path.{_≡_, refl, sym, ap, _∙_, subst}
-use mathlib.Core.Bool.{Bool, true, false}
+use mathlib.Core.Path.{_≡_, refl, ap, _∙_}
+use mathlib.Core.Bool.{true}
 use mathlib.Core.List.{List, [], _∷_, _++_}
 use mathlib.Core.Logic.{_⊎_, inl, inr, ⊎-elim, _≢_}
-use Prim.Native.Nat.{ℕ, zero, suc, _+_, _*_, _/_, _%_, _≤_, _<_}
+use Prim.Native.Nat.{ℕ, suc, _+_, _*_, _/_, _≤_, _<_}
 use native.Mathlib.Omega.{arith}
 use native.Mathlib.Nat.{add-zero}
 use lib.Dec.{eqb}
@@ -11,29 +11,28 @@ use lib.Ieee.{Float}
 use lib.ListN.{length, getD, length-append}
 use borrow.Author.Tests.{eq-eqb, ne-eqb}
 use Rattle.laws.specs.Pick.{pick}
-use Rattle.laws.specs.Count.{same, occ, same-cases, occ-append}
+use Rattle.laws.specs.Count.{occ, same-cases}
+use Rattle.numbers.specs.Numbers.{EMPTY}
 use Rattle.utils.specs.declared.Point.{Point}
 use Rattle.bounding_box.specs.Box.{cornersOf}
 use Rattle.bounding_box.specs.Finite.{BoundedBox}
 use Rattle.bounding_box.specs.declared.BoundingBox.{BoundingBox}
-use Rattle.mesh.specs.Mesh.{EMPTY, leftmostOf}
+use Rattle.mesh.specs.Mesh.{leftmostOf}
 use Rattle.mesh.specs.Accepted.{Accepted, siteCount}
-use Rattle.mesh.specs.Rules.{Topology}
 use Rattle.mesh.specs.Facts.{topology}
 use Rattle.iterator.specs.Whole.{lastOf}
-use Rattle.definition.specs.declared.Fault.{Fault}
-use Rattle.definition.specs.Fault.{Outcome, ok, refused, andThen}
+use Rattle.definition.specs.Fault.{ok}
 use Rattle.definition.specs.Cell.{Mark, plain, crossing, wrapped, Entry, inBox}
 use Rattle.definition.specs.Build.{centresFrom, ownersFrom, Extensions, extensions, extendFrom, Cells, clipAll, ifWrapped, wrappedIn, allWrapped, lostFrom, Built, build}
 use Rattle.definition.specs.Gives.{Gives, gives-ok, gives-map, gives-then}
 use Rattle.definition.specs.Puts.{occ-le, Placed, AllPlaced, all-turned}
-use Rattle.definition.specs.Edge.{fresh, Grown}
+use Rattle.definition.specs.Edge.{fresh}
 use Rattle.definition.specs.Ring.{in-grown}
 use Rattle.definition.specs.Weigh.{weigh}
-use Rattle.definition.specs.Held.{filled, Held}
+use Rattle.definition.specs.Held.{Held}
 use Rattle.definition.specs.Owners.{cornerPaths, owners-length, owner, ready, towards-corner}
 use Rattle.definition.specs.All.{shareOf, all-filled, clip-all}
-use Rattle.definition.specs.Start.{centres-from, Beyond, Extended, extend-from}
+use Rattle.definition.specs.Start.{centres-from, Extended, extend-from}
 
 -- the path to corner c, which is vertex T + c
 abbrev pub pathTo : List Float → List ℕ → List ℕ → List ℕ → BoundingBox → ℕ → List ℕ
@@ -111,7 +110,8 @@ module _ {sites : List Float} {tri he hull : List ℕ} (a : Accepted sites tri h
       owner sites tri he left (siteCount sites) (ready a) (cornersOf b) (getD hull 0 0) first-site (λ d k. towards-corner a box d (rw four-corners at k)) c (rw four-corners l)
 
   -- the lost corners, told by the marks, are those whose owners are left
-  pub lost-is-left : (u : ℕ → ℕ) (vs : List Point) (begun : ℕ) (s : Cells) → Held b (length tri / 3) (siteCount sites) u vs found begun s → lostFrom (length tri / 3) 4 (s .cells) ≡ leftOf (s .owners)
+  pub lost-is-left : (u : ℕ → ℕ) (vs : List Point) (begun : ℕ) (s : Cells) → Held b (length tri / 3) (siteCount sites) u vs found begun s
+      → lostFrom (length tri / 3) 4 (s .cells) ≡ leftOf (s .owners)
   lost-is-left u vs begun s h =
       let nc = length tri / 3 in
       let q : lostFrom (nc + 0) (length (s .owners)) (s .cells) ≡ leftOf (s .owners) =
@@ -121,14 +121,18 @@ module _ {sites : List Float} {tri he hull : List ℕ} (a : Accepted sites tri h
       (h .corner c (omega (arith, h .four))))) in
       rw (add-zero nc, h .four) at q
 
-  pub lost-told : (x : Extensions) → length tri / 3 + 4 ≤ length (x .verts) → Gives (λ (s : Cells). lostFrom (length tri / 3) 4 (s .cells) ≡ leftOf (s .owners)) (clipAll b (length tri / 3) tri he hull left (siteCount sites) found x)
+  pub lost-told : (x : Extensions) → length tri / 3 + 4 ≤ length (x .verts)
+      → Gives (λ (s : Cells). lostFrom (length tri / 3) 4 (s .cells) ≡ leftOf (s .owners)) (clipAll b (length tri / 3) tri he hull left (siteCount sites) found x)
   lost-told x room =
-      gives-map _ _ (clipAll b (length tri / 3) tri he hull left (siteCount sites) found x) (clip-all (topology a) (omega (arith, a .counts .few-sites)) b (length tri / 3) found x room four-found) (lost-is-left _ _ _)
+      gives-map _ _ (clipAll b (length tri / 3) tri he hull left (siteCount sites) found x)
+      (clip-all (topology a) (omega (arith, a .counts .few-sites)) b (length tri / 3) found x room four-found) (lost-is-left _ _ _)
 
   abbrev Good : Built → Type 0
   Good r = Wrapping sites tri he hull b r × Room tri hull b r
 
-  finish : (x : Extensions) → length (x .verts) ≡ length tri / 3 + 4 + fresh (x .steps) → fresh (x .steps) ≤ length hull → (s : Cells) → Held b (length tri / 3) (siteCount sites) (shareOf tri hull) (x .verts) found (fresh (x .steps)) s → Good (record { verts = s .verts; cells = s .cells; owners = found; lost = lostFrom (length tri / 3) 4 (s .cells); steps = s .steps })
+  finish : (x : Extensions) → length (x .verts) ≡ length tri / 3 + 4 + fresh (x .steps) → fresh (x .steps) ≤ length hull → (s : Cells)
+      → Held b (length tri / 3) (siteCount sites) (shareOf tri hull) (x .verts) found (fresh (x .steps)) s
+      → Good (record { verts = s .verts; cells = s .cells; owners = found; lost = lostFrom (length tri / 3) 4 (s .cells); steps = s .steps })
   finish x lx few s h =
       let nc = length tri / 3 in
       let threes : 3 * nc ≡ length tri = omega (arith, a .counts .threes) in
@@ -144,7 +148,8 @@ module _ {sites : List Float} {tri he hull : List ℕ} (a : Accepted sites tri h
           added = omega (arith, h .grown .longer, h .added);
           entries = omega (arith, h .threes, h .struck, occ-le EMPTY (s .owners), h .four);
           region = λ t l. h .region t (omega (arith, h .width));
-          placed = λ t. all-turned (λ v. inBox b nc (x .verts) v ≡ true) nc 0 (λ v. inBox b nc (s .verts) v ≡ true) (length (s .verts)) (λ v e. in-grown b nc (x .verts) (s .verts) (h .more) v (omega arith) (h .grown) ∙ e) (getD (s .cells) t []) (h .placed t);
+          placed = λ t. all-turned (λ v. inBox b nc (x .verts) v ≡ true) nc 0 (λ v. inBox b nc (s .verts) v ≡ true) (length (s .verts))
+              (λ v e. in-grown b nc (x .verts) (s .verts) (h .more) v (omega arith) (h .grown) ∙ e) (getD (s .cells) t []) (h .placed t);
         },
       )
 

@@ -1,10 +1,11 @@
 -- The unclipped build (ClipBehavior::None): a cell is the walk from the lowest half-edge that ends at its site, reversed, even where that cuts a hull fan.
 use Prim.Native.Nat.{ℕ, zero, suc, _/_}
-use mathlib.Core.List.{List, [], _∷_, map, reverse}
+use mathlib.Core.List.{List, [], map, reverse}
 use lib.ListN.{length, getD, set, replicate}
 use lib.Ieee.{Float}
 use Rattle.laws.specs.Pick.{pick}
-use Rattle.mesh.specs.Mesh.{EMPTY, endOf}
+use Rattle.numbers.specs.Numbers.{EMPTY}
+use Rattle.mesh.specs.Mesh.{endOf}
 use Rattle.mesh.specs.Accepted.{siteCount}
 use Rattle.definition.specs.declared.Fault.{Fault}
 use Rattle.definition.specs.Fault.{Outcome, ok, andThen}

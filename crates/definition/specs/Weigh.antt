@@ -1,7 +1,7 @@
 -- Sums over all cells: what they are when one cell is set, and that the sites' shares of a list are no more than its entries.
-use mathlib.Core.Path.{_≡_, refl, sym, ap, _∙_, subst}
-use mathlib.Core.List.{List, [], _∷_, _++_}
-use mathlib.Core.Logic.{_⊎_, inl, inr, ⊎-elim, _≢_}
+use mathlib.Core.Path.{_≡_, refl, ap, _∙_, subst}
+use mathlib.Core.List.{List, [], _∷_}
+use mathlib.Core.Logic.{⊎-elim}
 use Prim.Native.Nat.{ℕ, zero, suc, _+_, _*_, _≤_, _<_}
 use native.Mathlib.Omega.{arith}
 use native.Mathlib.Nat.{add-zero, zero-add}
@@ -18,16 +18,19 @@ weigh w i (c ∷ cs) = w i c + weigh w (suc i) cs
 at-next : (w : ℕ → List Entry → ℕ) (i k : ℕ) (c : List Entry) → w (suc i + k) c ≡ w (i + suc k) c
 at-next w i k c = let q : suc i + k ≡ i + suc k = omega arith in ap (λ (n : ℕ). w n c) q
 
-pub weigh-set : (w : ℕ → List Entry → ℕ) (i : ℕ) (cs : List (List Entry)) (k : ℕ) (c : List Entry) → k < length cs → weigh w i (set cs k c) + w (i + k) (getD cs k []) ≡ weigh w i cs + w (i + k) c
+pub weigh-set : (w : ℕ → List Entry → ℕ) (i : ℕ) (cs : List (List Entry)) (k : ℕ) (c : List Entry) → k < length cs
+    → weigh w i (set cs k c) + w (i + k) (getD cs k []) ≡ weigh w i cs + w (i + k) c
 weigh-set w i [] k c h = absurd (omega arith)
 weigh-set w i (d ∷ cs) zero c h = rw (add-zero i) (omega arith)
 weigh-set w i (d ∷ cs) (suc k) c h =
     omega (arith, weigh-set w (suc i) cs k c (omega arith), at-next w i k c, at-next w i k (getD cs k []))
 
 -- an empty cell, filled
-pub weigh-put : (w : ℕ → List Entry → ℕ) (cs : List (List Entry)) (k : ℕ) (c : List Entry) → k < length cs → getD cs k [] ≡ [] → w k [] ≡ 0 → weigh w 0 (set cs k c) ≡ weigh w 0 cs + w k c
+pub weigh-put : (w : ℕ → List Entry → ℕ) (cs : List (List Entry)) (k : ℕ) (c : List Entry) → k < length cs → getD cs k [] ≡ [] → w k [] ≡ 0
+    → weigh w 0 (set cs k c) ≡ weigh w 0 cs + w k c
 weigh-put w cs k c h e z =
-    let g : weigh w 0 (set cs k c) + w k (getD cs k []) ≡ weigh w 0 cs + w k c = subst (λ (n : ℕ). weigh w 0 (set cs k c) + w n (getD cs k []) ≡ weigh w 0 cs + w n c) (zero-add k) (weigh-set w 0 cs k c h) in
+    let g : weigh w 0 (set cs k c) + w k (getD cs k []) ≡ weigh w 0 cs + w k c = subst
+    (λ (n : ℕ). weigh w 0 (set cs k c) + w n (getD cs k []) ≡ weigh w 0 cs + w n c) (zero-add k) (weigh-set w 0 cs k c h) in
     let f : w k (getD cs k []) ≡ 0 = rw e z in
     omega arith
 

@@ -1,16 +1,16 @@
--- The form as 01 has it: a mesh written record by record. Definitions only.
+-- The form of docs/RULES.md: a mesh written record by record. Definitions only.
 use mathlib.Core.Bool.{Bool, true, false}
-use mathlib.Core.List.{List, [], _∷_, _++_, map}
+use mathlib.Core.List.{List, [], _∷_, _++_}
 use mathlib.Core.Path.{_≡_}
 use Prim.Native.Nat.{ℕ, _^_, _≤_, _<_}
 use lib.Ieee.{Float, binary64, ofBits}
 use lib.ListN.{length}
-use Rattle.form.specs.Bytes.{le}
+use Rattle.form_step.specs.Bytes.{le}
 
 -- floats are given by their patterns
-pub data Clip : Type 0 where
-  box : (x y width height : ℕ) → Clip
-  unclipped : Clip
+pub data Outline : Type 0 where
+  box : (x y width height : ℕ) → Outline
+  unclipped : Outline
 
 pub record Site : Type 0 where
   pub x : ℕ
@@ -25,8 +25,8 @@ pub record Triangle : Type 0 where
   pub pair-b : ℕ
   pub pair-c : ℕ
 
-pub record Mesh : Type 0 where
-  pub clip : Clip
+pub record FormMesh : Type 0 where
+  pub clip : Outline
   pub sites : List Site
   pub triangles : List Triangle
   pub hull : List ℕ
@@ -37,9 +37,9 @@ abbrev pub each : {A : Type 0} → (A → List ℕ) → List A → List ℕ
 each f [] = []
 each f (a ∷ l) = f a ++ each f l
 
-abbrev pub clipBytes : Clip → List ℕ
-clipBytes (box x y width height) = 1 ∷ le 8 x ++ le 8 y ++ le 8 width ++ le 8 height
-clipBytes unclipped = 6 ∷ []
+abbrev pub outlineBytes : Outline → List ℕ
+outlineBytes (box x y width height) = 1 ∷ le 8 x ++ le 8 y ++ le 8 width ++ le 8 height
+outlineBytes unclipped = 6 ∷ []
 
 abbrev pub siteBytes : Site → List ℕ
 siteBytes s = 2 ∷ le 8 (s .x) ++ le 8 (s .y)
@@ -50,8 +50,8 @@ triangleBytes t = 3 ∷ le 4 (t .a) ++ le 4 (t .b) ++ le 4 (t .c) ++ le 4 (t .pa
 abbrev pub hullBytes : ℕ → List ℕ
 hullBytes h = 4 ∷ le 4 h
 
-unfoldable pub formOf : Mesh → List ℕ
-formOf m = clipBytes (m .clip) ++ each siteBytes (m .sites) ++ each triangleBytes (m .triangles) ++ each hullBytes (m .hull) ++ 5 ∷ []
+unfoldable pub formOf : FormMesh → List ℕ
+formOf m = outlineBytes (m .clip) ++ each siteBytes (m .sites) ++ each triangleBytes (m .triangles) ++ each hullBytes (m .hull) ++ 5 ∷ []
 
 -- ---- the meshes that have a form
 
@@ -59,9 +59,9 @@ abbrev pub All : {A : Type 0} → (A → Type 0) → List A → Type 0
 All P [] = Unit {0}
 All P (a ∷ l) = P a × All P l
 
-abbrev pub ClipFits : Clip → Type 0
-ClipFits (box x y width height) = (x < 2 ^ 64) × (y < 2 ^ 64) × (width < 2 ^ 64) × (height < 2 ^ 64)
-ClipFits unclipped = Unit {0}
+abbrev pub OutlineFits : Outline → Type 0
+OutlineFits (box x y width height) = (x < 2 ^ 64) × (y < 2 ^ 64) × (width < 2 ^ 64) × (height < 2 ^ 64)
+OutlineFits unclipped = Unit {0}
 
 abbrev pub SiteFits : Site → Type 0
 SiteFits s = (s .x < 2 ^ 64) × (s .y < 2 ^ 64)
@@ -72,8 +72,8 @@ TriangleFits t = (t .a < 2 ^ 32) × (t .b < 2 ^ 32) × (t .c < 2 ^ 32) × (t .pa
 abbrev pub HullFits : ℕ → Type 0
 HullFits h = h < 2 ^ 32
 
-pub record Fits (m : Mesh) : Type 0 where
-  pub clip : ClipFits (m .clip)
+pub record MeshFits (m : FormMesh) : Type 0 where
+  pub clip : OutlineFits (m .clip)
   pub sites : All SiteFits (m .sites)
   pub triangles : All TriangleFits (m .triangles)
   pub hull : All HullFits (m .hull)
@@ -83,22 +83,22 @@ pub record Fits (m : Mesh) : Type 0 where
 
 -- a sound form
 pub record IsForm (s : List ℕ) : Type 0 where
-  pub mesh : Mesh
-  pub fits : Fits mesh
+  pub mesh : FormMesh
+  pub fits : MeshFits mesh
   pub bytes : s ≡ formOf mesh
 
 -- ---- its numbers, as the lists hold them
 
-abbrev pub numbers : {A B : Type 0} → (A → List B) → List A → List B
-numbers f [] = []
-numbers f (a ∷ l) = f a ++ numbers f l
+abbrev pub numbersOf : {A B : Type 0} → (A → List B) → List A → List B
+numbersOf f [] = []
+numbersOf f (a ∷ l) = f a ++ numbersOf f l
 
 abbrev pub float : ℕ → Float
 float p = ofBits binary64 p
 
-abbrev pub clipFloats : Clip → List Float
-clipFloats (box x y width height) = float x ∷ float y ∷ float width ∷ float height ∷ []
-clipFloats unclipped = []
+abbrev pub outlineFloats : Outline → List Float
+outlineFloats (box x y width height) = float x ∷ float y ∷ float width ∷ float height ∷ []
+outlineFloats unclipped = []
 
 abbrev pub siteFloats : Site → List Float
 siteFloats s = float (s .x) ∷ float (s .y) ∷ []
@@ -109,6 +109,6 @@ triangleSites t = t .a ∷ t .b ∷ t .c ∷ []
 abbrev pub trianglePairs : Triangle → List ℕ
 trianglePairs t = t .pair-a ∷ t .pair-b ∷ t .pair-c ∷ []
 
-abbrev pub isUnclipped : Clip → Bool
+abbrev pub isUnclipped : Outline → Bool
 isUnclipped (box x y width height) = false
 isUnclipped unclipped = true

@@ -1,16 +1,6 @@
-pub mod Bytes
+-- The root of the crate's definitions.
 pub mod Form
-pub mod Reader
-pub mod Holds
-pub mod StepLaws
-pub mod FillLaws
-pub mod FeedLaws
-pub mod WordLaws
-pub mod RunLaws
-pub mod MeshLaws
-pub mod CutLaws
-pub mod TailLaws
-pub mod Exact
 pub mod Place
 pub mod Promise
 pub mod Square
+pub mod laws

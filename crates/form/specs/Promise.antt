@@ -1,38 +1,39 @@
 -- What `read` promises, said of forms: the mesh of a sound form with its numbers from the beginning of each list, and 17 with its byte for every other byte string.
 use mathlib.Core.Path.{_≡_, refl, sym, ap, _∙_, subst}
-use mathlib.Core.Bool.{Bool, true, false}
 use mathlib.Core.List.{List}
 use mathlib.Core.Logic.{_⊎_, inl, inr}
 use Prim.Native.Nat.{ℕ}
 use lib.Ieee.{Float}
 use lib.ListN.{length}
 use lib.Seq.{sets}
-use Rattle.form.specs.Bytes.{Bytes}
-use Rattle.form.specs.Form.{Mesh, Fits, IsForm, formOf, isUnclipped, numbers, clipFloats, siteFloats, triangleSites, trianglePairs}
-use Rattle.form.specs.Reader.{start, steps, answer, Lent, lent, takes}
-use Rattle.form.specs.Holds.{Reads}
-use Rattle.form.specs.RunLaws.{takes-reader}
-use Rattle.form.specs.MeshLaws.{Whole, complete}
-use Rattle.form.specs.Exact.{sound-broken, ended-of, answer-ended, accepts, only-forms}
-use Rattle.form.specs.Place.{Place, refused-at}
-use Rattle.form.specs.declared.Form.{Form}
-use Rattle.form.specs.declared.Form.the-variants.{Sound, Broken}
+use Rattle.numbers.specs.Numbers.{refusedForm}
+use Rattle.form_step.specs.Bytes.{Bytes}
+use Rattle.form.specs.Form.{FormMesh, MeshFits, IsForm, formOf, isUnclipped, numbersOf, outlineFloats, siteFloats, triangleSites, trianglePairs}
+use Rattle.form_step.specs.Reader.{start, steps, verdict, Reading, reading, takes}
+use Rattle.form_step.specs.Holds.{Reads}
+use Rattle.form.specs.laws.Run.{takes-reader}
+use Rattle.form.specs.laws.Mesh.{WholeRead, complete}
+use Rattle.form.specs.laws.Exact.{sound-broken, ended-of, answer-ended, accepts, only-forms}
+use Rattle.form.specs.Place.{Place}
+use Rattle.form.specs.laws.Place.{refused-at}
+use Rattle.form_step.specs.declared.Form.{Form}
+use Rattle.form_step.specs.declared.Form.the-variants.{Sound, Broken}
 
--- 01's number of an answer
-abbrev pub number : Form → ℕ
-number (Sound a b c u) = 0
-number (Broken k) = 17
+-- the number of an answer
+abbrev pub verdictNumber : Form → ℕ
+verdictNumber (Sound a b c u) = 0
+verdictNumber (Broken k) = refusedForm
 
 module _ (s : List ℕ) (bs ss : List Float) (ts es hs : List ℕ) where
-  pub record Accepted (a : Form) (bs' ss' : List Float) (ts' es' hs' : List ℕ) : Type 0 where
-    pub mesh : Mesh
-    pub fits : Fits mesh
+  pub record ReadSound (a : Form) (bs' ss' : List Float) (ts' es' hs' : List ℕ) : Type 0 where
+    pub mesh : FormMesh
+    pub fits : MeshFits mesh
     pub form : s ≡ formOf mesh
     pub answer : a ≡ Sound (length (mesh .sites)) (length (mesh .triangles)) (length (mesh .hull)) (isUnclipped (mesh .clip))
-    pub bounds : bs' ≡ sets bs 0 (clipFloats (mesh .clip))
-    pub sites : ss' ≡ sets ss 0 (numbers siteFloats (mesh .sites))
-    pub triangles : ts' ≡ sets ts 0 (numbers triangleSites (mesh .triangles))
-    pub halfedges : es' ≡ sets es 0 (numbers trianglePairs (mesh .triangles))
+    pub bounds : bs' ≡ sets bs 0 (outlineFloats (mesh .clip))
+    pub sites : ss' ≡ sets ss 0 (numbersOf siteFloats (mesh .sites))
+    pub triangles : ts' ≡ sets ts 0 (numbersOf triangleSites (mesh .triangles))
+    pub halfedges : es' ≡ sets es 0 (numbersOf trianglePairs (mesh .triangles))
     pub hull : hs' ≡ sets hs 0 (mesh .hull)
 
   pub record Refused (a : Form) : Type 0 where
@@ -41,15 +42,15 @@ module _ (s : List ℕ) (bs ss : List Float) (ts es hs : List ℕ) where
     pub first : Place s place
     pub no-form : IsForm s → ⊥
 
-  module _ (a : Form) (bs' ss' : List Float) (ts' es' hs' : List ℕ) (r : Reads s (lent start bs ss ts es hs) a bs' ss' ts' es' hs') where
-    answers : answer (steps start s) ≡ a
-    answers = sym (r .answer ∙ ap answer (takes-reader s (lent start bs ss ts es hs)))
+  module _ (a : Form) (bs' ss' : List Float) (ts' es' hs' : List ℕ) (r : Reads s (reading start bs ss ts es hs) a bs' ss' ts' es' hs') where
+    answers : verdict (steps start s) ≡ a
+    answers = sym (r .answer ∙ ap verdict (takes-reader s (reading start bs ss ts es hs)))
 
-    of-form : IsForm s → Accepted a bs' ss' ts' es' hs'
+    of-form : IsForm s → ReadSound a bs' ss' ts' es' hs'
     of-form f =
         let m = f .mesh in
-        let d = lent start bs ss ts es hs in
-        let w : Whole m bs ss ts es hs (takes d s) = subst (λ (z : List ℕ). Whole m bs ss ts es hs (takes d z)) (sym (f .bytes)) (complete bs ss ts es hs m (f .fits)) in
+        let d = reading start bs ss ts es hs in
+        let w : WholeRead m bs ss ts es hs (takes d s) = subst (λ (z : List ℕ). WholeRead m bs ss ts es hs (takes d z)) (sym (f .bytes)) (complete bs ss ts es hs m (f .fits)) in
         record {
           mesh = m;
           fits = f .fits;
@@ -62,10 +63,10 @@ module _ (s : List ℕ) (bs ss : List Float) (ts es hs : List ℕ) where
           hull = r .hull ∙ w .hull;
         }
 
-    pub exact : Bytes s → Accepted a bs' ss' ts' es' hs' ⊎ Refused a
+    pub exact : Bytes s → ReadSound a bs' ss' ts' es' hs' ⊎ Refused a
     exact h = go a answers refl
       where
-        go : (b : Form) → answer (steps start s) ≡ b → a ≡ b → Accepted a bs' ss' ts' es' hs' ⊎ Refused a
+        go : (b : Form) → verdict (steps start s) ≡ b → a ≡ b → ReadSound a bs' ss' ts' es' hs' ⊎ Refused a
         go (Sound x y z u) e f = inl (of-form (only-forms s h (ended-of (steps start s) x y z u e)))
         go (Broken k) e f =
             let p = refused-at s h k e in
@@ -73,7 +74,7 @@ module _ (s : List ℕ) (bs ss : List Float) (ts es hs : List ℕ) where
 
 -- any two results that the promise allows are equal
 pub reads-same :
-    {s : List ℕ} {d : Lent} {a a' : Form} {bs ss bs' ss' : List Float} {ts es hs ts' es' hs' : List ℕ}
+    {s : List ℕ} {d : Reading} {a a' : Form} {bs ss bs' ss' : List Float} {ts es hs ts' es' hs' : List ℕ}
     → Reads s d a bs ss ts es hs
     → Reads s d a' bs' ss' ts' es' hs'
     → (a ≡ a') × (bs ≡ bs') × (ss ≡ ss') × (ts ≡ ts') × (es ≡ es') × (hs ≡ hs')

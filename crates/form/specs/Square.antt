@@ -1,4 +1,4 @@
--- 01's input "square": its 172 bytes, that they are the form of its mesh, and that they are read as that mesh. By computation.
+-- The input "square" of docs/RULES.md: its 172 bytes, that they are the form of its mesh, and that they are read as that mesh. By computation.
 use mathlib.Core.Path.{_≡_, refl}
 use mathlib.Core.Bool.{false}
 use mathlib.Core.List.{List, [], _∷_}
@@ -6,13 +6,15 @@ use Prim.Native.Nat.{ℕ}
 use lib.Ieee.{Float, binary64, ofBits}
 use lib.ListN.{length, replicate}
 use Rattle.laws.specs.Binary64.{zero, two}
-use Rattle.form.specs.Form.{Mesh, box, Site, Triangle, formOf}
-use Rattle.form.specs.Reader.{sizeOf, opens, roomFor, follows, start, begun, tally, inside, outside, step, within, putFloat, putLink, boundsBy, sitesBy, trianglesBy, halfedgesBy, hullBy, Lent, lent, take, takes, answer}
-use Rattle.form.specs.declared.Form.the-variants.{Sound}
+use Rattle.form.specs.Form.{FormMesh, box, formOf}
+use Rattle.form_step.specs.Reader.{sizeOf, opens, roomLeft, follows, start, begun, tally, inside, outside, step, within, putFloat, putLink, boundsBy}
+use Rattle.form_step.specs.Reader.{sitesBy, trianglesBy, halfedgesBy, hullBy, Reading, reading, take, takes, verdict}
+use Rattle.form_step.specs.declared.Form.the-variants.{Sound}
 
 unfoldable pub squareBytes : List ℕ
 squareBytes =
-    1 ∷ 0 ∷ 0 ∷ 0 ∷ 0 ∷ 0 ∷ 0 ∷ 0 ∷ 0 ∷ 0 ∷ 0 ∷ 0 ∷ 0 ∷ 0 ∷ 0 ∷ 0 ∷ 0 ∷ 0 ∷ 0 ∷ 0 ∷ 0 ∷ 0 ∷ 0 ∷ 0 ∷ 64 ∷ 0 ∷ 0 ∷ 0 ∷ 0 ∷ 0 ∷ 0 ∷ 0 ∷ 64 ∷
+    1 ∷ 0 ∷ 0 ∷ 0 ∷ 0 ∷ 0 ∷ 0 ∷ 0 ∷ 0 ∷ 0 ∷ 0 ∷ 0 ∷ 0 ∷ 0 ∷ 0 ∷ 0 ∷ 0 ∷ 0 ∷ 0 ∷ 0 ∷ 0 ∷ 0 ∷ 0 ∷ 0 ∷ 64 ∷
+    0 ∷ 0 ∷ 0 ∷ 0 ∷ 0 ∷ 0 ∷ 0 ∷ 64 ∷
     2 ∷ 0 ∷ 0 ∷ 0 ∷ 0 ∷ 0 ∷ 0 ∷ 224 ∷ 191 ∷ 0 ∷ 0 ∷ 0 ∷ 0 ∷ 0 ∷ 0 ∷ 224 ∷ 191 ∷
     2 ∷ 0 ∷ 0 ∷ 0 ∷ 0 ∷ 0 ∷ 0 ∷ 224 ∷ 191 ∷ 0 ∷ 0 ∷ 0 ∷ 0 ∷ 0 ∷ 0 ∷ 224 ∷ 63 ∷
     2 ∷ 0 ∷ 0 ∷ 0 ∷ 0 ∷ 0 ∷ 0 ∷ 224 ∷ 63 ∷ 0 ∷ 0 ∷ 0 ∷ 0 ∷ 0 ∷ 0 ∷ 224 ∷ 63 ∷
@@ -39,7 +41,7 @@ minus-half-is = 0xbfe0_0000_0000_0000
 abbrev pub E : ℕ
 E = 4294967295
 
-abbrev pub square : Mesh
+abbrev pub square : FormMesh
 square =
     record {
       clip = box 0 0 two-is two-is;
@@ -63,17 +65,17 @@ abbrev pub minus-half : Float
 minus-half = ofBits binary64 minus-half-is
 
 -- read into lists of exactly its numbers
-abbrev pub read-square : Lent
-read-square = takes (lent start (replicate 4 zero) (replicate 8 zero) (replicate 6 0) (replicate 6 0) (replicate 4 0)) squareBytes
+abbrev pub read-square : Reading
+read-square = takes (reading start (replicate 4 zero) (replicate 8 zero) (replicate 6 0) (replicate 6 0) (replicate 4 0)) squareBytes
 
 pub rows :
     (length squareBytes ≡ 172)
     × (formOf square ≡ squareBytes)
-    × (answer (read-square .reader) ≡ Sound 4 2 4 false)
+    × (verdict (read-square .reader) ≡ Sound 4 2 4 false)
     × (read-square .bounds ≡ zero ∷ zero ∷ two ∷ two ∷ [])
     × (read-square .sites ≡ minus-half ∷ minus-half ∷ minus-half ∷ half ∷ half ∷ half ∷ half ∷ minus-half ∷ [])
     × (read-square .triangles ≡ 0 ∷ 1 ∷ 2 ∷ 0 ∷ 2 ∷ 3 ∷ [])
     × (read-square .halfedges ≡ E ∷ E ∷ 3 ∷ 2 ∷ E ∷ E ∷ [])
     × (read-square .hull ≡ 0 ∷ 1 ∷ 2 ∷ 3 ∷ [])
-unfolding squareBytes formOf takes take step inside outside tally follows opens roomFor begun sizeOf within putFloat putLink boundsBy sitesBy trianglesBy halfedgesBy hullBy answer
+unfolding squareBytes formOf takes take step inside outside tally follows opens roomLeft begun sizeOf within putFloat putLink boundsBy sitesBy trianglesBy halfedgesBy hullBy verdict
 rows = (refl, refl, refl, refl, refl, refl, refl, refl)

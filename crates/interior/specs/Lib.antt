@@ -1,1 +1,2 @@
 pub mod Interior
+pub mod laws

@@ -1,10 +1,10 @@
 -- A neighbour of site s that comes: it has a cell, and what its judgement tells of the neighbours that are left after clipping.
 use mathlib.Core.Path.{_≡_, sym, subst}
-use mathlib.Core.List.{List, []}
+use mathlib.Core.List.{List}
 use Prim.Native.Nat.{ℕ, _+_, _-_, _≤_, _<_}
 use native.Mathlib.Omega.{arith}
-use lib.ListN.{length, getD}
-use Rattle.mesh.specs.Mesh.{EMPTY}
+use lib.ListN.{length}
+use Rattle.numbers.specs.Numbers.{EMPTY}
 use Rattle.shared.specs.Cells.{shareEdgeOf}
 use Rattle.iterator.specs.declared.Cursor.{Cursor}
 use Rattle.iterator.specs.declared.Stepped.{Stepped}
@@ -41,7 +41,8 @@ module _ {tri he offs idx : List ℕ} (g : Clippable tri he offs idx) (c : Curso
         pub dropped-less : {t : ℕ} → length (restOf he (c .start) (c .next)) ≡ t → length (restOf he (d .start) (d .next)) < t
         dropped-less p = omega (arith, came tri he (shareEdgeOf offs idx s) small c ok x d Dropped q e .2)
 
-        pub dropped-takes : (r : Stepped) → Takes tri he (shareEdgeOf offs idx s) (clippedLeft tri he (shareEdgeOf offs idx s) d) r → Takes tri he (shareEdgeOf offs idx s) (clippedLeft tri he (shareEdgeOf offs idx s) c) r
+        pub dropped-takes : (r : Stepped) → Takes tri he (shareEdgeOf offs idx s) (clippedLeft tri he (shareEdgeOf offs idx s) d) r
+            → Takes tri he (shareEdgeOf offs idx s) (clippedLeft tri he (shareEdgeOf offs idx s) c) r
         dropped-takes r =
             subst (λ l. Takes tri he (shareEdgeOf offs idx s) l r) (sym (came tri he (shareEdgeOf offs idx s) small c ok x d Dropped q e .0))
 

@@ -5,7 +5,8 @@ use Prim.Native.Nat.{ℕ}
 use lib.Dec.{eqb}
 use lib.ListN.{getD}
 use Rattle.laws.specs.Pick.{pick}
-use Rattle.mesh.specs.Mesh.{EMPTY, startOf, pairOf, wholeOf}
+use Rattle.numbers.specs.Numbers.{EMPTY}
+use Rattle.mesh.specs.Mesh.{startOf, pairOf, wholeOf}
 use Rattle.shared.specs.Cells.{shareEdgeOf}
 use Rattle.iterator.specs.Neighbours.{lastEnd}
 

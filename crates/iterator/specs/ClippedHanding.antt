@@ -1,13 +1,14 @@
 -- A loop that writes a site's neighbours after clipping into a lent slice, a step at a time.
-use mathlib.Core.Path.{_≡_, refl, sym, ap, subst}
-use mathlib.Core.Bool.{Bool, true, false}
-use mathlib.Core.List.{List, [], _∷_}
+use mathlib.Core.Path.{_≡_, sym, ap, subst}
+use mathlib.Core.Bool.{Bool, true}
+use mathlib.Core.List.{List}
 use Prim.Native.Nat.{ℕ, _+_, _≤_, _<_}
 use native.Mathlib.Omega.{arith}
 use lib.Dec.{eqb}
 use lib.ListN.{length, set}
 use borrow.Author.Tests.{eq-eqb, ne-eqb}
-use Rattle.mesh.specs.Mesh.{EMPTY, wholeOf}
+use Rattle.numbers.specs.Numbers.{EMPTY}
+use Rattle.mesh.specs.Mesh.{wholeOf}
 use Rattle.iterator.specs.declared.Cursor.{Cursor}
 use Rattle.iterator.specs.declared.Stepped.{Stepped}
 use Rattle.iterator.specs.declared.Stepped.the-variants.{Site, End}
@@ -40,5 +41,6 @@ module _ (tri he old : List ℕ) (keeps : ℕ → Bool) where
     pub handing-end : r ≡ End → Fills whole old new n true
     handing-end q = filling-done (g .filling) (subst (Takes tri he keeps (clippedLeft tri he keeps c)) q t)
 
-  pub handing-full : {whole new : List ℕ} {c : Cursor} {n : ℕ} → Handing tri he keeps whole old new c n → length old ≤ n → (b : Bool) → b ≡ eqb (length (clippedLeft tri he keeps c)) 0 → Fills whole old new n b
+  pub handing-full : {whole new : List ℕ} {c : Cursor} {n : ℕ} → Handing tri he keeps whole old new c n → length old ≤ n → (b : Bool)
+      → b ≡ eqb (length (clippedLeft tri he keeps c)) 0 → Fills whole old new n b
   handing-full g l b q = filling-full (g .filling) b l q

@@ -4,7 +4,8 @@ use mathlib.Core.Path.{_≡_, refl}
 use mathlib.Core.List.{List, [], _∷_}
 use Prim.Native.Nat.{ℕ}
 use Rattle.laws.specs.Count.{same}
-use Rattle.mesh.specs.Mesh.{EMPTY, nextOf, chosen, tableTo, turnOf, walkOf}
+use Rattle.numbers.specs.Numbers.{EMPTY}
+use Rattle.mesh.specs.Mesh.{nextOf, chosen, tableTo, turnOf, walkOf}
 use Rattle.shared.specs.Cells.{cellOf, sharedOf, shareEdgeOf}
 use Rattle.iterator.specs.Neighbours.{lastEnd}
 use Rattle.iterator.specs.Clipped.{keptOf, clippedFrom, firstOf, clippedOf, clippedNeighboursOf}

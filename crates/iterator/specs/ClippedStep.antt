@@ -1,16 +1,17 @@
 -- A step over the clipped neighbours: how the neighbour that comes is judged, and what that tells of what is left.
 use mathlib.Core.Path.{_≡_, refl, sym, ap, _∙_, subst}
 use mathlib.Core.List.{List, [], _∷_, _++_}
-use mathlib.Core.Logic.{_⊎_, inl, inr, ⊎-elim}
+use mathlib.Core.Logic.{⊎-elim}
 use mathlib.Core.Bool.{Bool, true, false}
-use Prim.Native.Nat.{ℕ, zero, suc, _≤_, _<_}
+use Prim.Native.Nat.{ℕ, suc, _≤_, _<_}
 use native.Mathlib.Omega.{arith}
 use lib.Dec.{ltb, eqb}
 use lib.ListN.{length, getD}
 use borrow.Author.Tests.{lt-ltb, le-ltb, eq-eqb, ne-eqb}
 use Rattle.laws.specs.Pick.{pick}
 use Rattle.laws.specs.Decide.{lt-or-ge}
-use Rattle.mesh.specs.Mesh.{EMPTY, nextOf, startOf, endOf, pairOf, around, turnOf, wholeOf}
+use Rattle.numbers.specs.Numbers.{EMPTY}
+use Rattle.mesh.specs.Mesh.{nextOf, startOf, endOf, pairOf, around, turnOf, wholeOf}
 use Rattle.mesh.specs.Laws.{walk-done}
 use Rattle.iterator.specs.declared.Cursor.{Cursor}
 use Rattle.iterator.specs.declared.Stepped.{Stepped}

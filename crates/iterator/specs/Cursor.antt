@@ -1,22 +1,22 @@
 -- The cursor over a site's neighbours, its step, and what is left of the neighbours at a cursor: each step takes the first of them.
-use mathlib.Core.Path.{_≡_, refl, sym, ap, _∙_, subst}
+use mathlib.Core.Path.{_≡_, refl, sym, ap, _∙_}
 use mathlib.Core.List.{List, [], _∷_}
-use mathlib.Core.Logic.{_⊎_, inl, inr, ⊎-elim, _≢_}
+use mathlib.Core.Logic.{⊎-elim}
 use mathlib.Core.Bool.{Bool, true, false}
-use Prim.Native.Nat.{ℕ, zero, suc, _≤_, _<_}
-use native.Mathlib.Omega.{arith}
+use Prim.Native.Nat.{ℕ, suc, _≤_, _<_}
 use lib.Dec.{ltb, eqb}
-use lib.ListN.{length, getD}
+use lib.ListN.{length}
 use borrow.Author.Tests.{lt-ltb, le-ltb}
 use Rattle.laws.specs.Pick.{pick}
 use Rattle.laws.specs.Decide.{lt-or-ge}
-use Rattle.mesh.specs.Mesh.{EMPTY, nextOf, startOf, endOf, around, turnOf, wholeOf}
+use Rattle.numbers.specs.Numbers.{EMPTY}
+use Rattle.mesh.specs.Mesh.{nextOf, startOf, endOf, around, turnOf, wholeOf}
 use Rattle.mesh.specs.Laws.{walk-done}
 use Rattle.iterator.specs.declared.Cursor.{Cursor}
 use Rattle.iterator.specs.declared.Stepped.{Stepped}
 use Rattle.iterator.specs.declared.Stepped.the-variants.{Site, End}
 use Rattle.iterator.specs.Neighbours.{lastEnd, startsOf, sitesFrom, starts-cons}
-use Rattle.iterator.specs.Rest.{restOf, Settled, rest-done, rest-step, rest-settled, settled-start}
+use Rattle.iterator.specs.Rest.{restOf, Settled, rest-done, rest-step, rest-settled}
 
 abbrev pub cursor : ℕ → ℕ → ℕ → Cursor
 cursor s e l = record { start = s; next = e; last = l }

@@ -1,10 +1,11 @@
 -- A loop that writes a site's neighbours into a lent slice, a step at a time.
-use mathlib.Core.Path.{_≡_, refl, sym, subst}
+use mathlib.Core.Path.{_≡_, refl}
 use mathlib.Core.List.{List}
 use Prim.Native.Nat.{ℕ, _+_, _≤_, _<_}
 use lib.ListN.{length, set}
-use mathlib.Core.Bool.{Bool, true, false}
-use Rattle.mesh.specs.Mesh.{EMPTY, wholeOf}
+use mathlib.Core.Bool.{Bool, true}
+use Rattle.numbers.specs.Numbers.{EMPTY}
+use Rattle.mesh.specs.Mesh.{wholeOf}
 use Rattle.iterator.specs.declared.Cursor.{Cursor}
 use Rattle.iterator.specs.declared.Stepped.{Stepped}
 use Rattle.iterator.specs.declared.Stepped.the-variants.{Site, End}

@@ -1,14 +1,14 @@
 -- The loop that looks for the nearest neighbour: the running minimum over what it has seen, then over what is left, is the hop.
-use mathlib.Core.Path.{_≡_, refl, sym, ap, _∙_, subst}
-use mathlib.Core.List.{List, [], _∷_}
-use mathlib.Core.Logic.{_⊎_, inl, inr, ⊎-elim}
+use mathlib.Core.Path.{_≡_, refl, sym, ap, _∙_}
+use mathlib.Core.List.{List, _∷_}
 use mathlib.Core.Bool.{Bool, true, false}
-use Prim.Native.Nat.{ℕ, zero, suc, _≤_, _<_}
+use Prim.Native.Nat.{ℕ, _≤_, _<_}
 use native.Mathlib.Omega.{arith}
 use lib.ListN.{length, getD}
 use lib.Ieee.{Float, lt}
 use Rattle.laws.specs.Pick.{pick}
-use Rattle.mesh.specs.Mesh.{EMPTY, wholeOf}
+use Rattle.numbers.specs.Numbers.{EMPTY}
+use Rattle.mesh.specs.Mesh.{wholeOf}
 use Rattle.utils.specs.declared.Point.{Point}
 use Rattle.iterator.specs.declared.Best.{Best}
 use Rattle.iterator.specs.declared.Cursor.{Cursor}
@@ -35,7 +35,8 @@ module _ (sites : List Float) (tri he tab : List ℕ) (p : Point) (n : ℕ) (m :
   small : length he ≤ EMPTY
   small = omega (arith, m .paired .small)
 
-  pub nearing-start : (s x : ℕ) (d : Float) → s < n → x ≡ getD tab s 0 → d ≡ distOf sites p s → Nearing sites tri he p n (hopOf sites tri he tab p s) (fresh x) (record { site = s; dist = d })
+  pub nearing-start : (s x : ℕ) (d : Float) → s < n → x ≡ getD tab s 0 → d ≡ distOf sites p s
+      → Nearing sites tri he p n (hopOf sites tri he tab p s) (fresh x) (record { site = s; dist = d })
   unfolding hopOf neighboursOf
   nearing-start s x d l q e =
       let all : leftOf tri he (fresh x) ≡ startsOf tri he (wholeOf he (getD tab s 0)) = left-fresh tri he small x ∙ ap (λ k. startsOf tri he (wholeOf he k)) q in

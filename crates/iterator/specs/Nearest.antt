@@ -2,9 +2,9 @@
 -- because the order of computed distances that are no NaN is total.
 use mathlib.Core.Path.{_≡_, refl, sym, ap, _∙_, subst}
 use mathlib.Core.List.{List, [], _∷_}
-use mathlib.Core.Logic.{_⊎_, inl, inr, ⊎-elim, _≢_}
-use mathlib.Core.Bool.{Bool, true, false, not}
-use Prim.Native.Nat.{ℕ, zero, suc, _≤_, _<_}
+use mathlib.Core.Logic.{⊎-elim, _≢_}
+use mathlib.Core.Bool.{not}
+use Prim.Native.Nat.{ℕ, zero, suc, _<_}
 use native.Mathlib.Omega.{arith}
 use lib.Dec.{T, not-T}
 use lib.ListN.{length, getD}
@@ -78,7 +78,8 @@ module _ (d : ℕ → Float) (n : ℕ) (ns : List ℕ) (s : ℕ) (ok-n : T (not 
   hop-past ok-s h (moves {n = r} g l) = moves (placed-later g (lt-past (d r) (d s) (d n) ok-n l h) (its-number g)) l
 
 module _ (sites : List Float) (p : Point) where
-  pub nearest-hop : (ns : List ℕ) (s : ℕ) → T (not (isNan (distOf sites p s))) → ((k : ℕ) → k < length ns → T (not (isNan (distOf sites p (getD ns k 0))))) → Hop (distOf sites p) ns s (nearestOf sites p ns s)
+  pub nearest-hop : (ns : List ℕ) (s : ℕ) → T (not (isNan (distOf sites p s)))
+      → ((k : ℕ) → k < length ns → T (not (isNan (distOf sites p (getD ns k 0))))) → Hop (distOf sites p) ns s (nearestOf sites p ns s)
   unfolding nearestOf
   nearest-hop [] s ok-s ok = stays (λ k l. absurd (omega arith))
   nearest-hop (n ∷ ns) s ok-s ok =

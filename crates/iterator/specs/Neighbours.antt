@@ -5,7 +5,8 @@ use mathlib.Core.List.{List, [], _∷_}
 use lib.Dec.{eqb}
 use lib.ListN.{getD}
 use Rattle.laws.specs.Pick.{pick}
-use Rattle.mesh.specs.Mesh.{EMPTY, nextOf, startOf, endOf, around, wholeOf}
+use Rattle.numbers.specs.Numbers.{EMPTY}
+use Rattle.mesh.specs.Mesh.{nextOf, startOf, endOf, around, wholeOf}
 
 -- after the walk's last half-edge: where the next one is unpaired, its end
 unfoldable pub lastEnd : List ℕ → List ℕ → ℕ → List ℕ

@@ -1,13 +1,13 @@
 -- Document 01's demand on paths, of every accepted mesh, every site in use and every admitted destination.
-use mathlib.Core.Path.{_≡_, refl, subst}
+use mathlib.Core.Path.{_≡_}
 use mathlib.Core.Bool.{true}
-use mathlib.Core.List.{List, [], _∷_, _++_}
+use mathlib.Core.List.{List, _∷_, _++_}
 use mathlib.Core.Logic.{⊎-elim}
-use Prim.Native.Nat.{ℕ, suc, _+_, _*_, _/_, _≤_, _<_}
+use Prim.Native.Nat.{ℕ, suc, _+_, _≤_, _<_}
 use native.Mathlib.Nat.{le-refl}
 use native.Mathlib.Omega.{arith}
 use lib.Dec.{lit≤}
-use lib.ListN.{length, getD, take}
+use lib.ListN.{length, take}
 use lib.Ieee.{Float}
 use Rattle.laws.specs.Count.{occ}
 use Rattle.utils.specs.Flat.{pointAt}
@@ -39,7 +39,8 @@ pub clippable : {tri he hull offs idx : List ℕ} {n : ℕ} → Topology tri he 
 clippable t q c = record { paired = paired t; even = t .same; named = λ e l. omega (arith, entry-site t e l); cells = c }
 
 -- no distance is a NaN where sites and goal are bounded
-pub towards-within : (k : ℕ) → suc k + suc k + 1 ≤ 1023 → (sites : List Float) (p : Point) → ((s : ℕ) → s < siteCount sites → BoundedPoint k (pointAt sites s)) → BoundedPoint k p → Towards sites p (siteCount sites)
+pub towards-within : (k : ℕ) → suc k + suc k + 1 ≤ 1023 → (sites : List Float) (p : Point)
+    → ((s : ℕ) → s < siteCount sites → BoundedPoint k (pointAt sites s)) → BoundedPoint k p → Towards sites p (siteCount sites)
 unfolding distOf
 towards-within k room sites p ok to = record { room = omega arith; numbers = λ s l. dist2-no-nan k room (pointAt sites s) p (ok s l) to }
 
@@ -57,7 +58,8 @@ pub record PathHolds (sites : List Float) (tri he : List ℕ) (p : Point) (s : �
   pub begins : (k : ℕ) → pathOf sites tri he (leftmostOf tri he (siteCount sites)) p k s ≡ take k l
   pub rest : (a b : List ℕ) (v : ℕ) → l ≡ a ++ (v ∷ b) → wholePath sites tri he (leftmostOf tri he (siteCount sites)) p v ≡ v ∷ b
 
-pub path-holds : {sites : List Float} {tri he hull : List ℕ} → Accepted sites tri he hull → (p : Point) → okSite p ≡ true → (s : ℕ) → Used tri s → PathHolds sites tri he p s (wholePath sites tri he (leftmostOf tri he (siteCount sites)) p s)
+pub path-holds : {sites : List Float} {tri he hull : List ℕ} → Accepted sites tri he hull → (p : Point) → okSite p ≡ true → (s : ℕ) → Used tri s
+    → PathHolds sites tri he p s (wholePath sites tri he (leftmostOf tri he (siteCount sites)) p s)
 path-holds {sites} {tri} {he} a p to s (k, l, q) =
     let n = siteCount sites in
     let tab = leftmostOf tri he n in

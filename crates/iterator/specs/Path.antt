@@ -1,6 +1,5 @@
 -- The path from a site towards a point: each hop goes to the first of the nearest neighbours, while that is strictly nearer.
 use Prim.Native.Nat.{ℕ, zero, suc}
-use mathlib.Core.Bool.{Bool}
 use mathlib.Core.List.{List, [], _∷_}
 use lib.Dec.{eqb}
 use lib.Ieee.{Float, lt}

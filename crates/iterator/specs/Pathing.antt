@@ -1,16 +1,16 @@
 -- The loops that follow a path: what is left of it is the whole path from the present site.
-use mathlib.Core.Path.{_≡_, refl, sym, ap, _∙_, subst}
+use mathlib.Core.Path.{_≡_, refl, sym, ap, _∙_}
 use mathlib.Core.List.{List, [], _∷_}
-use mathlib.Core.Logic.{_⊎_, inl, inr, ⊎-elim, _≢_}
-use mathlib.Core.Bool.{Bool, true, false}
-use Prim.Native.Nat.{ℕ, zero, suc, _+_, _*_, _/_, _≤_, _<_}
+use mathlib.Core.Logic.{⊎-elim, _≢_}
+use mathlib.Core.Bool.{true, false}
+use Prim.Native.Nat.{ℕ, suc, _+_, _/_, _≤_, _<_}
 use native.Mathlib.Omega.{arith}
 use lib.ListN.{length, set}
 use lib.Ieee.{Float}
 use Rattle.laws.specs.Decide.{eq-or-ne}
 use Rattle.utils.specs.declared.Point.{Point}
 use Rattle.iterator.specs.Path.{hopOf, pathOf, pathEnd}
-use Rattle.iterator.specs.Used.{usedOf, used-sum}
+use Rattle.iterator.specs.Used.{used-sum}
 use Rattle.iterator.specs.Ready.{Ready, Towards}
 use Rattle.iterator.specs.Whole.{wholePath, lastOf, last-cons, path-stop, path-go, whole-same, whole-end}
 use Rattle.iterator.specs.Fills.{Fills, Filling, filling-start, filling-step, filling-done, filling-more}

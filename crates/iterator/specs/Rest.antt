@@ -1,5 +1,5 @@
 -- What is left of a walk at each of its half-edges, where the walk ends by its own rule.
-use mathlib.Core.Path.{_≡_, refl, sym, ap, _∙_, subst}
+use mathlib.Core.Path.{_≡_, sym, ap, _∙_, subst}
 use mathlib.Core.List.{List, [], _∷_}
 use mathlib.Core.Logic.{⊎-elim}
 use Prim.Native.Nat.{ℕ, zero, suc, _+_, _-_, _≤_, _<_}
@@ -7,7 +7,7 @@ use native.Mathlib.Nat.{add-zero}
 use native.Mathlib.Omega.{arith}
 use lib.ListN.{length}
 use Rattle.laws.specs.Decide.{lt-or-ge}
-use Rattle.mesh.specs.Mesh.{turnOf, walkOf, wholeOf}
+use Rattle.mesh.specs.Mesh.{turnOf, walkOf}
 use Rattle.mesh.specs.Laws.{walk-go, walk-done}
 use Rattle.mesh.specs.Mesh.{Paired}
 use Rattle.mesh.specs.Walks.{walk-whole}
@@ -32,7 +32,8 @@ settled-more he s zero e h =
     (lt-or-ge e (length he))
 settled-more he s (suc k) e h =
     ⊎-elim
-    (λ l. walk-go he s (suc (suc k)) e l ∙ ap (λ r. e ∷ r) (settled-more he s k (turnOf he s e) (tail-same (sym (walk-go he s (suc k) e l) ∙ h ∙ walk-go he s k e l))) ∙ sym (walk-go he s (suc k) e l))
+    (λ l. walk-go he s (suc (suc k)) e l ∙ ap (λ r. e ∷ r) (settled-more he s k (turnOf he s e)
+    (tail-same (sym (walk-go he s (suc k) e l) ∙ h ∙ walk-go he s k e l))) ∙ sym (walk-go he s (suc k) e l))
     (λ l. walk-done he s (suc (suc (suc k))) e l ∙ sym (walk-done he s (suc (suc k)) e l))
     (lt-or-ge e (length he))
 

@@ -4,7 +4,8 @@ use mathlib.Core.List.{List, [], _∷_}
 use Prim.Native.Nat.{ℕ}
 use lib.Ieee.{Float, binary64, ofBits, neg, add, sub, mul, lt}
 use Rattle.laws.specs.Binary64.{zero, one, minusOne}
-use Rattle.mesh.specs.Mesh.{EMPTY, nextOf, chosen, tableTo, turnOf, walkOf}
+use Rattle.numbers.specs.Numbers.{EMPTY}
+use Rattle.mesh.specs.Mesh.{nextOf, chosen, tableTo, turnOf, walkOf}
 use Rattle.utils.specs.Plane.{at, dist2Of}
 use Rattle.iterator.specs.Neighbours.{lastEnd, startsOf, neighboursOf}
 use Rattle.iterator.specs.Path.{distOf, nearestOf, hopOf, pathOf, pathEnd}

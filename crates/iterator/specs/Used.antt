@@ -1,17 +1,18 @@
 -- The sites in use are those that stand in a triangle; a site's neighbours are among them.
-use mathlib.Core.Path.{_≡_, refl, sym, ap, _∙_, subst}
+use mathlib.Core.Path.{_≡_, refl}
 use mathlib.Core.List.{List, [], _∷_}
-use mathlib.Core.Logic.{_⊎_, inl, inr, ⊎-elim}
+use mathlib.Core.Logic.{⊎-elim}
 use mathlib.Core.Bool.{Bool, true, false}
-use Prim.Native.Nat.{ℕ, zero, suc, _+_, _%_, _≤_, _<_}
+use Prim.Native.Nat.{ℕ, zero, suc, _%_, _≤_, _<_}
 use native.Mathlib.Omega.{arith}
 use lib.Dec.{eqb}
 use lib.ListN.{length, getD}
-use borrow.Author.Tests.{eqb-true, eqb-false}
+use borrow.Author.Tests.{eqb-true}
 use Rattle.laws.specs.Pick.{pick}
 use Rattle.laws.specs.Decide.{lt-or-ge}
-use Rattle.laws.specs.Count.{same, occ, same-cases, sumTo}
-use Rattle.mesh.specs.Mesh.{EMPTY, nextOf, around, turnOf, walkOf}
+use Rattle.laws.specs.Count.{occ, same-cases, sumTo}
+use Rattle.numbers.specs.Numbers.{EMPTY}
+use Rattle.mesh.specs.Mesh.{nextOf, around, turnOf, walkOf}
 use Rattle.mesh.specs.Laws.{next-lt, walk-go, walk-done}
 use Rattle.iterator.specs.Neighbours.{lastEnd, startsOf, sitesFrom, starts-cons, neighboursOf}
 
@@ -87,7 +88,8 @@ module _ (tri he : List ℕ) (threes : length he % 3 ≡ 0) (even : length he �
   starts-used s zero e = λ k h. absurd (omega arith)
   starts-used s (suc k) e =
       ⊎-elim
-      (λ w. rw (walk-go he s k e w, starts-cons tri he e (walkOf he s k (turnOf he s e))) (both tri (getD tri e 0) (sitesFrom tri he e (walkOf he s k (turnOf he s e))) (occ-there tri e (rw (← even) w)) (walk-used s k (turnOf he s e) e w)))
+      (λ w. rw (walk-go he s k e w, starts-cons tri he e (walkOf he s k (turnOf he s e)))
+      (both tri (getD tri e 0) (sitesFrom tri he e (walkOf he s k (turnOf he s e))) (occ-there tri e (rw (← even) w)) (walk-used s k (turnOf he s e) e w)))
       (λ w. rw (walk-done he s (suc k) e w) (λ i h. absurd (omega arith)))
       (lt-or-ge e (length he))
 

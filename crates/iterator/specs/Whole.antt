@@ -3,20 +3,17 @@
 use mathlib.Core.Path.{_≡_, refl, sym, ap, _∙_, subst}
 use mathlib.Core.List.{List, [], _∷_, _++_}
 use mathlib.Core.Logic.{_⊎_, inl, inr, ⊎-elim, _≢_}
-use mathlib.Core.Bool.{Bool, true, false}
-use Prim.Native.Nat.{ℕ, zero, suc, _+_, _-_, _*_, _≤_, _<_}
-use native.Mathlib.Nat.{add-zero}
+use Prim.Native.Nat.{ℕ, zero, suc, _+_, _-_, _≤_, _<_}
 use native.Mathlib.Omega.{arith}
-use lib.Dec.{T, eqb}
+use lib.Dec.{T}
 use lib.ListN.{length, getD, take, length-append}
-use lib.Seq.{take-all, take-nil}
+use lib.Seq.{take-nil}
 use lib.Ieee.{Float, lt}
 use borrow.Author.Tests.{eq-eqb, ne-eqb}
-use Rattle.laws.specs.Pick.{pick}
 use Rattle.laws.specs.Decide.{lt-or-ge, eq-or-ne}
 use Rattle.laws.specs.Count.{same, occ, same-cases, occ-append, weighed-le}
 use Rattle.root.specs.Order.{lt-never, lt-trans}
-use Rattle.mesh.specs.Mesh.{nextOf, walkOf}
+use Rattle.mesh.specs.Mesh.{nextOf}
 use Rattle.mesh.specs.Laws.{next-lt, walk-done}
 use Rattle.utils.specs.declared.Point.{Point}
 use Rattle.iterator.specs.Neighbours.{startsOf, neighboursOf}
@@ -137,7 +134,8 @@ module _ (sites : List Float) (tri he tab : List ℕ) (p : Point) where
     unfolding hopOf
     hop-is s l = nearest-hop sites p (neighboursOf tri he tab s) s (t .numbers s l) (λ k h. t .numbers _ (used-below _ (next-used s k h)))
 
-    goes : (s : ℕ) → s < n → hopOf sites tri he tab p s ≢ s → Nearest (distOf sites p) (neighboursOf tri he tab s) (hopOf sites tri he tab p s) × T (lt (distOf sites p (hopOf sites tri he tab p s)) (distOf sites p s))
+    goes : (s : ℕ) → s < n → hopOf sites tri he tab p s ≢ s → Nearest (distOf sites p) (neighboursOf tri he tab s) (hopOf sites tri he tab p s)
+        × T (lt (distOf sites p (hopOf sites tri he tab p s)) (distOf sites p s))
     goes s l e = hop-moves (hop-is s l) e
 
     pub goes-used : (s : ℕ) → s < n → hopOf sites tri he tab p s ≢ s → 0 < occ (hopOf sites tri he tab p s) tri
@@ -268,7 +266,8 @@ module _ (sites : List Float) (tri he tab : List ℕ) (p : Point) where
         let z = length sites in
         ⊎-elim
         (λ w. let q : z ≡ k + (z - k) = omega arith in sym (subst (λ x. pathOf sites tri he tab p x s ≡ pathOf sites tri he tab p k s) (sym q) (path-more k (z - k) s (enough k s l some h))))
-        (λ w. let q : k ≡ z + (k - z) = omega arith in subst (λ x. pathOf sites tri he tab p x s ≡ pathOf sites tri he tab p z s) (sym q) (path-more z (k - z) s (enough z s l (omega (arith, t .room)) (room-enough s l))))
+        (λ w. let q : k ≡ z + (k - z) = omega arith in subst (λ x. pathOf sites tri he tab p x s ≡ pathOf sites tri he tab p z s) (sym q)
+        (path-more z (k - z) s (enough z s l (omega (arith, t .room)) (room-enough s l))))
         (lt-or-ge k z)
 
     -- with an allowance: its beginning

@@ -1,15 +1,16 @@
 // iterator.rs: walks, neighbours and paths over the lent slices.
 use mesh::Walked;
+use numbers::EMPTY;
 use utils::Point;
 ghost use mathlib.Core.Path.{_≡_};
-ghost use Prim.Native.Nat.{ℕ, _+_, _*_, _/_, _%_, _<_, _≤_};
+ghost use Prim.Native.Nat.{_+_, _/_, _%_, _<_};
 ghost use lib.Dec.{eqb};
-ghost use lib.ListN.{length, getD};
-ghost use lib.Ieee.{lt};
+ghost use lib.ListN.{length};
 ghost use Rattle.laws.specs.Pick.{pick};
-ghost use Rattle.mesh.specs.Mesh.{EMPTY, wholeOf};
+ghost use Rattle.numbers.specs.Numbers.{EMPTY};
+ghost use Rattle.mesh.specs.Mesh.{wholeOf};
 ghost use Rattle.mesh.specs.Mesh.{Paired};
-ghost use Rattle.iterator.specs.Neighbours.{startsOf, neighboursOf};
+ghost use Rattle.iterator.specs.Neighbours.{startsOf};
 ghost use Rattle.iterator.specs.Path.{distOf, hopOf};
 ghost use Rattle.iterator.specs.Cursor.{lastStep, stepOf, isEnd, Sound};
 ghost use Rattle.iterator.specs.Fills.{Fills};
@@ -20,8 +21,6 @@ ghost use Rattle.iterator.specs.Pathing.{EndsAt};
 ghost use Rattle.shared.specs.Cells.{Cells, shareEdgeOf};
 ghost use Rattle.iterator.specs.Clipped.{clippedOf};
 ghost use Rattle.iterator.specs.ClippedStep.{judgeOf, clippedLeft, Takes};
-
-const NONE: u32 = 4294967295;
 
 // Where the walk round a site stands: the half-edge that it began with, the one that comes next, the one that it passed last.
 pub struct Cursor {
@@ -41,13 +40,13 @@ fn last_step(triangles: &[u32], halfedges: &[u32], s: u32, e: usize) -> Stepped
     ensures { λ r. ⌜ r ≡ lastStep (now (triangles .entry)) (now (halfedges .entry)) s e ⌝ }
 {
     let o = mesh::next_halfedge(e);
-    if halfedges[o] == NONE {
+    if halfedges[o] == EMPTY {
         return Stepped::Site(
             mesh::end_site(triangles, o),
             Cursor {
                 start: s,
-                next: NONE,
-                last: NONE,
+                next: EMPTY,
+                last: EMPTY,
             },
         );
     }
@@ -59,7 +58,7 @@ pub fn step(triangles: &[u32], halfedges: &[u32], c: Cursor) -> Stepped
     requires { ⌜ (length (now halfedges) % 3 ≡ 0) × (length (now halfedges) ≡ length (now triangles)) ⌝ }
     ensures { λ r. ⌜ r ≡ stepOf (now (triangles .entry)) (now (halfedges .entry)) c ⌝ }
 {
-    let next = mesh::wide(c.next);
+    let next = numbers::wide(c.next);
     if next < halfedges.len() {
         return Stepped::Site(
             triangles[next],
@@ -70,7 +69,7 @@ pub fn step(triangles: &[u32], halfedges: &[u32], c: Cursor) -> Stepped
             },
         );
     }
-    let last = mesh::wide(c.last);
+    let last = numbers::wide(c.last);
     if last < halfedges.len() {
         return last_step(triangles, halfedges, c.start, last);
     }
@@ -96,7 +95,7 @@ pub fn neighbours(triangles: &[u32], halfedges: &[u32], s: u32, out: &mut [u32])
     let mut c = Cursor {
         start: s,
         next: s,
-        last: NONE,
+        last: EMPTY,
     };
     let mut n = 0;
     while n < out.len() {
@@ -125,7 +124,7 @@ fn distance(sites: &[f64], s: u32, p: Point) -> f64
     requires { ⌜ s < length (now sites) / 2 ⌝ }
     ensures { λ r. ⌜ r ≡ distOf (now (sites .entry)) p s ⌝ }
 {
-    utils::dist2(utils::point_at(sites, mesh::wide(s)), p)
+    utils::dist2(utils::point_at(sites, numbers::wide(s)), p)
 }
 
 // The nearest site so far, and its distance.
@@ -148,11 +147,11 @@ fn hop(sites: &[f64], triangles: &[u32], halfedges: &[u32], table: &[u32], s: u3
     requires { ⌜ Ready (now triangles) (now halfedges) (now table) (length (now sites) / 2) × (s < length (now sites) / 2) ⌝ }
     ensures { λ r. ⌜ (r ≡ hopOf (now (sites .entry)) (now (triangles .entry)) (now (halfedges .entry)) (now (table .entry)) p s) × (r < length (now (sites .entry)) / 2) ⌝ }
 {
-    let start = table[mesh::wide(s)];
+    let start = table[numbers::wide(s)];
     let mut c = Cursor {
         start,
         next: start,
-        last: NONE,
+        last: EMPTY,
     };
     let mut best = Best {
         site: s,
@@ -182,7 +181,8 @@ pub fn path(
     out: &mut [u32],
 ) -> Walked
     requires { ⌜ Ready (now triangles) (now halfedges) (now table) (length (now sites) / 2) × Towards (now sites) p (length (now sites) / 2) × (s < length (now sites) / 2) ⌝ }
-    ensures { λ r. ⌜ Fills (wholePath (now (sites .entry)) (now (triangles .entry)) (now (halfedges .entry)) (now (table .entry)) p s) (now (out .entry)) (now (out .exit)) (r .count) (r .ended) ⌝ }
+    ensures { λ r. ⌜ Fills (wholePath (now (sites .entry)) (now (triangles .entry)) (now (halfedges .entry)) (now (table .entry)) p s)
+        (now (out .entry)) (now (out .exit)) (r .count) (r .ended) ⌝ }
 {
     let mut at = s;
     let mut count = 0;
@@ -234,7 +234,7 @@ fn if_shared(offsets: &[u32], cells: &[u32], s: u32, x: u32, other: Judged) -> J
     requires { ⌜ Cells (now offsets) (length (now cells)) × (s + 1 < length (now offsets)) × (x + 1 < length (now offsets)) ⌝ }
     ensures { λ r. ⌜ r ≡ pick (shareEdgeOf (now (offsets .entry)) (now (cells .entry)) s x) (λ _. Judged.Counts) (λ _. other) ⌝ }
 {
-    if shared::share_edge(offsets, cells, mesh::wide(s), mesh::wide(x)) {
+    if shared::share_edge(offsets, cells, numbers::wide(s), numbers::wide(x)) {
         return Judged::Counts;
     }
     other
@@ -253,14 +253,14 @@ fn judge(
     requires { ⌜ Cells (now offsets) (length (now cells)) × (s + 1 < length (now offsets)) × (x + 1 < length (now offsets)) ⌝ }
     ensures { λ r. ⌜ r ≡ judgeOf (now (halfedges .entry)) (shareEdgeOf (now (offsets .entry)) (now (cells .entry)) s x) passed last ⌝ }
 {
-    let at = mesh::wide(last);
+    let at = numbers::wide(last);
     if halfedges.len() <= at {
         return if_shared(offsets, cells, s, x, Judged::Ends);
     }
-    if mesh::wide(passed) < halfedges.len() {
+    if numbers::wide(passed) < halfedges.len() {
         return Judged::Counts;
     }
-    if halfedges[at] != NONE {
+    if halfedges[at] != EMPTY {
         return Judged::Counts;
     }
     if_shared(offsets, cells, s, x, Judged::Dropped)
@@ -276,7 +276,8 @@ pub fn clipped_step(
     c: Cursor,
 ) -> Stepped
     requires { ⌜ Clippable (now triangles) (now halfedges) (now offsets) (now cells) × (s + 1 < length (now offsets)) × Sound (now halfedges) c ⌝ }
-    ensures { λ r. ⌜ Takes (now (triangles .entry)) (now (halfedges .entry)) (shareEdgeOf (now (offsets .entry)) (now (cells .entry)) s) (clippedLeft (now (triangles .entry)) (now (halfedges .entry)) (shareEdgeOf (now (offsets .entry)) (now (cells .entry)) s) c) r ⌝ }
+    ensures { λ r. ⌜ Takes (now (triangles .entry)) (now (halfedges .entry)) (shareEdgeOf (now (offsets .entry)) (now (cells .entry)) s)
+        (clippedLeft (now (triangles .entry)) (now (halfedges .entry)) (shareEdgeOf (now (offsets .entry)) (now (cells .entry)) s) c) r ⌝ }
 {
     match step(triangles, halfedges, c) {
         Stepped::Site(x, d) => match judge(halfedges, offsets, cells, s, x, c.last, d.last) {
@@ -317,12 +318,13 @@ pub fn clipped_neighbours(
     out: &mut [u32],
 ) -> Walked
     requires { ⌜ Clippable (now triangles) (now halfedges) (now offsets) (now cells) × (s + 1 < length (now offsets)) ⌝ }
-    ensures { λ r. ⌜ Fills (clippedOf (now (triangles .entry)) (now (halfedges .entry)) (shareEdgeOf (now (offsets .entry)) (now (cells .entry)) s) (wholeOf (now (halfedges .entry)) start)) (now (out .entry)) (now (out .exit)) (r .count) (r .ended) ⌝ }
+    ensures { λ r. ⌜ Fills (clippedOf (now (triangles .entry)) (now (halfedges .entry)) (shareEdgeOf (now (offsets .entry)) (now (cells .entry)) s)
+        (wholeOf (now (halfedges .entry)) start)) (now (out .entry)) (now (out .exit)) (r .count) (r .ended) ⌝ }
 {
     let mut c = Cursor {
         start,
         next: start,
-        last: NONE,
+        last: EMPTY,
     };
     let mut n = 0;
     while n < out.len() {

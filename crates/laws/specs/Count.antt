@@ -1,6 +1,6 @@
 -- How often a number stands in a list of numbers. A list that holds no number twice, and none but those below m, has m entries at most
 -- (the pigeonhole principle), and m exactly where it holds each of them.
-use mathlib.Core.Path.{_≡_, refl, sym, ap, _∙_, subst}
+use mathlib.Core.Path.{_≡_, refl, sym, _∙_}
 use mathlib.Core.List.{List, [], _∷_, _++_}
 use mathlib.Core.Bool.{Bool, true, false}
 use mathlib.Core.Logic.{_⊎_, inl, inr, ⊎-elim, _≢_}
@@ -109,7 +109,8 @@ weigh-all u (suc m) l h e v p =
     (λ w. weigh-all u m l h (omega (arith, weigh-le u m l h, h m)) v (omega arith))
     (same-cases v m)
 
-pub all-weighed : (u : ℕ → ℕ) (m : ℕ) (l : List ℕ) → ((v : ℕ) → 0 < occ v l → v < m) → ((v : ℕ) → occ v l ≤ u v) → length l ≡ sumTo u m → (v : ℕ) → v < m → occ v l ≡ u v
+pub all-weighed : (u : ℕ → ℕ) (m : ℕ) (l : List ℕ) → ((v : ℕ) → 0 < occ v l → v < m) → ((v : ℕ) → occ v l ≤ u v) → length l ≡ sumTo u m
+    → (v : ℕ) → v < m → occ v l ≡ u v
 all-weighed u m l below h e = weigh-all u m l h (occs-length m l below ∙ e)
 
 weigh-same : (u : ℕ → ℕ) (m : ℕ) (l : List ℕ) → ((v : ℕ) → v < m → occ v l ≡ u v) → occs m l ≡ sumTo u m

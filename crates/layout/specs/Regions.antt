@@ -4,7 +4,7 @@ use mathlib.Core.List.{List, [], _∷_, _++_}
 use mathlib.Core.Logic.{_≢_}
 use Prim.Native.Nat.{ℕ, suc, _+_, _≤_, _<_}
 use lib.ListN.{length, getD, take, drop}
-use Rattle.mesh.specs.Mesh.{EMPTY}
+use Rattle.numbers.specs.Numbers.{EMPTY}
 
 -- the cells one after the other
 unfoldable pub joined : List (List ℕ) → List ℕ

@@ -1,15 +1,14 @@
 // How cells share one index list: regions by site while they are built, moved together at the end, and what is left over cleared.
-use mesh::wide;
+use numbers::EMPTY;
+use numbers::wide;
 ghost use mathlib.Core.Path.{_≡_};
 ghost use mathlib.Core.List.{List, _++_};
-ghost use Prim.Native.Nat.{ℕ, suc, _+_, _-_, _*_, _≤_, _<_};
+ghost use Prim.Native.Nat.{ℕ, _+_, _-_, _≤_, _<_};
 ghost use lib.ListN.{length, getD, take, drop};
 ghost use Rattle.laws.specs.Binary64.{zero};
 ghost use Rattle.layout.specs.Cleared.{clearedFrom};
 ghost use Rattle.layout.specs.Rooms.{Roomy, Started, Tallies, Tallied, Sums, Summed};
 ghost use Rattle.layout.specs.Regions.{Regions, Filled, Rising, Compacted};
-
-const NONE: u32 = 4294967295;
 
 // Indexes from `from` on become `value`.
 pub fn fill_from(s: &mut [u32], from: usize, value: u32)
@@ -42,7 +41,7 @@ pub fn cell_end(idx: &[u32], from: usize, to: usize) -> usize
 {
     let mut i = from;
     while i < to {
-        if idx[i] == NONE {
+        if idx[i] == EMPTY {
             return i;
         }
         i += 1;
@@ -67,7 +66,8 @@ pub fn move_down(idx: &mut [u32], at: usize, from: usize, to: usize)
 // Moves the cells of all sites together and turns the starts of their regions into offsets. Answers how many entries there are.
 pub fn compact(idx: &mut [u32], off: &mut [u32], sites: usize) -> usize
     requires { ⌜ Rising (now off) sites (length (now idx)) × (getD (now off) sites 0 < 4294967295) ⌝ }
-    ensures { λ r. ⌜ (r ≤ length (now (idx .entry))) × ((cells : List (List ℕ)) → length cells ≡ sites → Regions (now (idx .entry)) (now (off .entry)) cells → Compacted (now (idx .entry)) (now (off .entry)) cells (now (idx .exit)) (now (off .exit)) r) ⌝ }
+    ensures { λ r. ⌜ (r ≤ length (now (idx .entry))) × ((cells : List (List ℕ)) → length cells ≡ sites
+        → Regions (now (idx .entry)) (now (off .entry)) cells → Compacted (now (idx .entry)) (now (off .entry)) cells (now (idx .exit)) (now (off .exit)) r) ⌝ }
 {
     let mut w: usize = 0;
     let mut from = wide(off[0]);

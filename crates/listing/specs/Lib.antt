@@ -1,6 +1,6 @@
+-- The root of the crate's definitions.
 pub mod Text
 pub mod Listing
 pub mod Wrote
-pub mod TextLaws
-pub mod ListingLaws
 pub mod Square
+pub mod laws

@@ -1,4 +1,4 @@
--- The listing as 01 has it, line by line, and the line of a refusal. Definitions only.
+-- The listing of docs/RULES.md, line by line, and the line of a refusal. Definitions only.
 use mathlib.Core.List.{List, [], _∷_, _++_}
 use Prim.Native.Nat.{ℕ, zero, suc, _-_, _^_, _≤_, _<_}
 use Prim.Native.String.{String}
@@ -21,13 +21,13 @@ unfoldable pub cellLine : ℕ → List ℕ → List ℕ
 cellLine i cell = labelled "cell" i ++ ascii ":" ++ entries cell ++ ascii "\n"
 
 -- cell i is the part of the index list from offset i to the next
-abbrev pub cellOf : List ℕ → List ℕ → ℕ → List ℕ
-cellOf offsets cells i = take (getD offsets (suc i) 0 - getD offsets i 0) (drop (getD offsets i 0) cells)
+abbrev pub listedCell : List ℕ → List ℕ → ℕ → List ℕ
+listedCell offsets cells i = take (getD offsets (suc i) 0 - getD offsets i 0) (drop (getD offsets i 0) cells)
 
 -- the lines of n cells from cell i on
 unfoldable pub cellLines : List ℕ → List ℕ → ℕ → ℕ → List ℕ
 cellLines offsets cells i zero = []
-cellLines offsets cells i (suc n) = cellLine i (cellOf offsets cells i) ++ cellLines offsets cells (suc i) n
+cellLines offsets cells i (suc n) = cellLine i (listedCell offsets cells i) ++ cellLines offsets cells (suc i) n
 
 -- for kind 6 this is all
 unfoldable pub unclippedListing : ℕ → ℕ → ℕ → List ℕ → List ℕ → List ℕ

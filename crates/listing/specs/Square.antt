@@ -1,4 +1,4 @@
--- 01's listing of "square", byte for byte, with an empty cell's line, a refusal's, and the least and the largest number. By computation.
+-- The listing of "square" (docs/RULES.md), byte for byte, with an empty cell's line, a refusal's, and the least and the largest number. By computation.
 use mathlib.Core.Path.{_≡_, refl}
 use mathlib.Core.List.{List, [], _∷_}
 use Prim.Native.Nat.{ℕ}

@@ -1,12 +1,12 @@
 // Writes the program's listing into a lent slice of bytes: each function writes its text from a place on and answers the place after it.
-ghost use mathlib.Core.Path.{_≡_};
+use numbers::wide;
 ghost use mathlib.Core.List.{[], _∷_, _++_};
 ghost use Rattle.listing.specs.Text.{decimal};
-ghost use Rattle.listing.specs.Listing.{entries, labelled, counts, cellLine, cellLines, unclippedListing, corners, listing, refusal, Layout};
-ghost use Rattle.listing.specs.Wrote.{Wrote, Fits};
+ghost use Rattle.listing.specs.Listing.{entries, counts, cellLine, cellLines, unclippedListing, corners, listing, refusal, Layout};
+ghost use Rattle.listing.specs.Wrote.{Wrote, HasRoom};
 
 fn put(out: &mut [u8], at: usize, text: &[u8]) -> usize
-    requires { ⌜ Fits (now out) at (now text) ⌝ }
+    requires { ⌜ HasRoom (now out) at (now text) ⌝ }
     ensures { λ r. ⌜ Wrote (now (out .entry)) (now (out .exit)) at r (now (text .entry)) ⌝ }
 {
     let mut i = 0;
@@ -18,7 +18,7 @@ fn put(out: &mut [u8], at: usize, text: &[u8]) -> usize
 }
 
 fn decimal(out: &mut [u8], at: usize, n: u32) -> usize
-    requires { ⌜ Fits (now out) at (decimal n) ⌝ }
+    requires { ⌜ HasRoom (now out) at (decimal n) ⌝ }
     ensures { λ r. ⌜ Wrote (now (out .entry)) (now (out .exit)) at r (decimal n) ⌝ }
 {
     if n < 10 {
@@ -31,7 +31,7 @@ fn decimal(out: &mut [u8], at: usize, n: u32) -> usize
 }
 
 fn entry(out: &mut [u8], at: usize, n: u32) -> usize
-    requires { ⌜ Fits (now out) at (entries (n ∷ [])) ⌝ }
+    requires { ⌜ HasRoom (now out) at (entries (n ∷ [])) ⌝ }
     ensures { λ r. ⌜ Wrote (now (out .entry)) (now (out .exit)) at r (entries (n ∷ [])) ⌝ }
 {
     out[at] = b' ';
@@ -39,7 +39,7 @@ fn entry(out: &mut [u8], at: usize, n: u32) -> usize
 }
 
 fn entries(out: &mut [u8], at: usize, list: &[u32]) -> usize
-    requires { ⌜ Fits (now out) at (entries (now list)) ⌝ }
+    requires { ⌜ HasRoom (now out) at (entries (now list)) ⌝ }
     ensures { λ r. ⌜ Wrote (now (out .entry)) (now (out .exit)) at r (entries (now (list .entry))) ⌝ }
 {
     let mut end = at;
@@ -53,7 +53,7 @@ fn entries(out: &mut [u8], at: usize, list: &[u32]) -> usize
 
 // A label and a number.
 fn labelled(out: &mut [u8], at: usize, label: &[u8], n: u32) -> usize
-    requires { ⌜ Fits (now out) at (now label ++ entries (n ∷ [])) ⌝ }
+    requires { ⌜ HasRoom (now out) at (now label ++ entries (n ∷ [])) ⌝ }
     ensures { λ r. ⌜ Wrote (now (out .entry)) (now (out .exit)) at r (now (label .entry) ++ entries (n ∷ [])) ⌝ }
 {
     let end = put(out, at, label);
@@ -61,7 +61,7 @@ fn labelled(out: &mut [u8], at: usize, label: &[u8], n: u32) -> usize
 }
 
 fn counts(out: &mut [u8], sites: u32, triangles: u32, vertices: u32) -> usize
-    requires { ⌜ Fits (now out) 0 (counts sites triangles vertices) ⌝ }
+    requires { ⌜ HasRoom (now out) 0 (counts sites triangles vertices) ⌝ }
     ensures { λ r. ⌜ Wrote (now (out .entry)) (now (out .exit)) 0 r (counts sites triangles vertices) ⌝ }
 {
     let a = labelled(out, 0, b"sites", sites);
@@ -71,7 +71,7 @@ fn counts(out: &mut [u8], sites: u32, triangles: u32, vertices: u32) -> usize
 }
 
 fn cell_line(out: &mut [u8], at: usize, i: u32, cell: &[u32]) -> usize
-    requires { ⌜ Fits (now out) at (cellLine i (now cell)) ⌝ }
+    requires { ⌜ HasRoom (now out) at (cellLine i (now cell)) ⌝ }
     ensures { λ r. ⌜ Wrote (now (out .entry)) (now (out .exit)) at r (cellLine i (now (cell .entry))) ⌝ }
 {
     let a = labelled(out, at, b"cell", i);
@@ -80,14 +80,8 @@ fn cell_line(out: &mut [u8], at: usize, i: u32, cell: &[u32]) -> usize
     put(out, c, b"\n")
 }
 
-fn wide(x: u32) -> usize
-    ensures { λ r. ⌜ r ≡ x ⌝ }
-{
-    x as usize
-}
-
 fn cell_lines(out: &mut [u8], at: usize, sites: usize, offsets: &[u32], cells: &[u32]) -> usize
-    requires { ⌜ (Layout (now offsets) (now cells) sites) × (Fits (now out) at (cellLines (now offsets) (now cells) 0 sites)) ⌝ }
+    requires { ⌜ (Layout (now offsets) (now cells) sites) × (HasRoom (now out) at (cellLines (now offsets) (now cells) 0 sites)) ⌝ }
     ensures { λ r. ⌜ Wrote (now (out .entry)) (now (out .exit)) at r (cellLines (now (offsets .entry)) (now (cells .entry)) 0 sites) ⌝ }
 {
     let mut end = at;
@@ -110,7 +104,7 @@ pub fn unclipped_listing(
     offsets: &[u32],
     cells: &[u32],
 ) -> usize
-    requires { ⌜ (Layout (now offsets) (now cells) sites) × (Fits (now out) 0 (unclippedListing sites triangles vertices (now offsets) (now cells))) ⌝ }
+    requires { ⌜ (Layout (now offsets) (now cells) sites) × (HasRoom (now out) 0 (unclippedListing sites triangles vertices (now offsets) (now cells))) ⌝ }
     ensures { λ r. ⌜ Wrote (now (out .entry)) (now (out .exit)) 0 r (unclippedListing sites triangles vertices (now (offsets .entry)) (now (cells .entry))) ⌝ }
 {
     let end = counts(out, sites, triangles, vertices);
@@ -118,7 +112,7 @@ pub fn unclipped_listing(
 }
 
 fn corners(out: &mut [u8], at: usize, owners: [u32; 4], lost: u32) -> usize
-    requires { ⌜ Fits (now out) at (corners owners lost) ⌝ }
+    requires { ⌜ HasRoom (now out) at (corners owners lost) ⌝ }
     ensures { λ r. ⌜ Wrote (now (out .entry)) (now (out .exit)) at r (corners owners lost) ⌝ }
 {
     let a = put(out, at, b"corners");
@@ -138,7 +132,7 @@ pub fn listing(
     owners: [u32; 4],
     lost: u32,
 ) -> usize
-    requires { ⌜ (Layout (now offsets) (now cells) sites) × (Fits (now out) 0 (listing sites triangles vertices (now offsets) (now cells) owners lost)) ⌝ }
+    requires { ⌜ (Layout (now offsets) (now cells) sites) × (HasRoom (now out) 0 (listing sites triangles vertices (now offsets) (now cells) owners lost)) ⌝ }
     ensures { λ r. ⌜ Wrote (now (out .entry)) (now (out .exit)) 0 r (listing sites triangles vertices (now (offsets .entry)) (now (cells .entry)) owners lost) ⌝ }
 {
     let end = unclipped_listing(out, sites, triangles, vertices, offsets, cells);
@@ -147,7 +141,7 @@ pub fn listing(
 
 // The line of a refusal.
 pub fn refusal(out: &mut [u8], number: u32) -> usize
-    requires { ⌜ Fits (now out) 0 (refusal number) ⌝ }
+    requires { ⌜ HasRoom (now out) 0 (refusal number) ⌝ }
     ensures { λ r. ⌜ Wrote (now (out .entry)) (now (out .exit)) 0 r (refusal number) ⌝ }
 {
     let end = labelled(out, 0, b"refused", number);

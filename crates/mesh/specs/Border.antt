@@ -8,8 +8,9 @@ use lib.ListN.{length, getD}
 use borrow.Author.Tests.{eq-eqb, ne-eqb}
 use Rattle.laws.specs.Decide.{lt-or-ge, eq-or-ne}
 use Rattle.laws.specs.Count.{same, occ, same-cases, sumTo, all-weighed, weighed}
-use Rattle.mesh.specs.Mesh.{EMPTY, startOf, endOf, pairOf}
-use Rattle.mesh.specs.Hull.{afterOf, nextSite, openTo, Hull, PlaceAt, OnHull, BorderAt}
+use Rattle.numbers.specs.Numbers.{EMPTY}
+use Rattle.mesh.specs.Mesh.{startOf, endOf, pairOf}
+use Rattle.mesh.specs.Hull.{afterOf, nextSite, openTo, Hull, PlaceAt, BorderAt}
 
 pub after-cases : (h i : ℕ) → ((i + 1 ≡ h) × (afterOf h i ≡ 0)) ⊎ ((i + 1 ≢ h) × (afterOf h i ≡ i + 1))
 unfolding afterOf
@@ -142,7 +143,8 @@ module _ (tri he hull : List ℕ) (sites : ℕ) (ok : (i : ℕ) → i < length h
         (same-cases (pairOf he v) EMPTY))) ∙ edges-length (length hull)
 
 -- all places and all half-edges are sound exactly where the hull is right
-pub places-hull : (tri he hull : List ℕ) (sites : ℕ) → ((i : ℕ) → i < length hull → PlaceAt tri he hull sites i) → ((e : ℕ) → e < length he → BorderAt tri he hull e) → Hull tri he hull sites
+pub places-hull : (tri he hull : List ℕ) (sites : ℕ) → ((i : ℕ) → i < length hull → PlaceAt tri he hull sites i)
+    → ((e : ℕ) → e < length he → BorderAt tri he hull e) → Hull tri he hull sites
 places-hull tri he hull sites places border =
     record { fresh = λ i l. places i l .0; edges = λ i l. places i l .1; count = border-count tri he hull sites places border }
 

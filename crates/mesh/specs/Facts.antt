@@ -1,16 +1,17 @@
 -- What holds on every mesh that rules 7 to 10 accept: its numbers are in range, the table holds 01's leftmost half-edges, and the walk of a
 -- site lists each half-edge that ends there exactly once.
-use mathlib.Core.Path.{_≡_, refl, sym, ap, _∙_}
+use mathlib.Core.Path.{_≡_, refl, sym, _∙_}
 use mathlib.Core.List.{List}
 use mathlib.Core.Logic.{_⊎_, inl, inr, ⊎-elim, _≢_}
 use Prim.Native.Nat.{ℕ, _+_, _*_, _/_, _%_, _≤_, _<_}
 use native.Mathlib.Omega.{arith}
 use lib.ListN.{length, getD}
 use lib.Ieee.{Float}
-use Rattle.laws.specs.Decide.{lt-or-ge, eq-or-ne}
+use Rattle.laws.specs.Decide.{eq-or-ne}
 use Rattle.laws.specs.Count.{occ}
+use Rattle.numbers.specs.Numbers.{EMPTY}
 use Rattle.utils.specs.Sites.{KeptAt}
-use Rattle.mesh.specs.Mesh.{EMPTY, nextOf, startOf, endOf, pairOf, Used, AllSound, leftmostOf, Leftmost, walkOf, wholeOf, Paired}
+use Rattle.mesh.specs.Mesh.{nextOf, startOf, endOf, pairOf, Used, AllSound, leftmostOf, Leftmost, walkOf, wholeOf, Paired}
 use Rattle.mesh.specs.Rules.{Topology}
 use Rattle.mesh.specs.Accepted.{Counted, Accepted, siteCount}
 use Rattle.mesh.specs.Laws.{next-sum, next-lt, next-thrice}
@@ -36,7 +37,8 @@ topology a = record {
   fan = a .fan;
 }
 
-pub accepted : {sites : List Float} {tri he hull : List ℕ} → Counted (length sites) (length tri) (length he) (length hull) → ((s : ℕ) → s < siteCount sites → KeptAt sites s) → Topology tri he hull (siteCount sites) → Accepted sites tri he hull
+pub accepted : {sites : List Float} {tri he hull : List ℕ} → Counted (length sites) (length tri) (length he) (length hull)
+    → ((s : ℕ) → s < siteCount sites → KeptAt sites s) → Topology tri he hull (siteCount sites) → Accepted sites tri he hull
 accepted c k t = record { counts = c; coordinates = k; sound = t .sound; pairs = t .pairs; hull = t .hull; fan = t .fan }
 
 -- sound triangles name sites, and a half-edge joins two of them
@@ -127,7 +129,8 @@ module _ {tri he hull : List ℕ} {sites : ℕ} (ok : Topology tri he hull sites
     leftmost-unpaired e h q u =
         the-unpaired tri he (length tri) s _ tab-at e (rw (← ok .same) h) q u (λ k lk qk uk. open-one tri he hull sites (ok .hull) k e (rw (ok .same) lk) h uk u (qk ∙ sym q)) (ok .small)
 
-    pub leftmost-lowest : (e : ℕ) → e < length he → endOf tri e ≡ s → ((k : ℕ) → k < length he → endOf tri k ≡ s → pairOf he k ≢ EMPTY) → ((k : ℕ) → k < e → endOf tri k ≢ s) → getD (leftmostOf tri he sites) s 0 ≡ e
+    pub leftmost-lowest : (e : ℕ) → e < length he → endOf tri e ≡ s → ((k : ℕ) → k < length he → endOf tri k ≡ s → pairOf he k ≢ EMPTY)
+        → ((k : ℕ) → k < e → endOf tri k ≢ s) → getD (leftmostOf tri he sites) s 0 ≡ e
     leftmost-lowest e h q p = the-lowest tri he (length tri) s _ tab-at e (rw (← ok .same) h) q (λ k lk. p k (rw (ok .same) lk))
 
     -- demand 3: the walk lists each half-edge that ends at the site exactly once, and no other

@@ -7,7 +7,8 @@ use lib.Dec.{eqb}
 use lib.ListN.{length, getD}
 use Rattle.laws.specs.Pick.{pick}
 use Rattle.laws.specs.Count.{same}
-use Rattle.mesh.specs.Mesh.{EMPTY, startOf, endOf, pairOf}
+use Rattle.numbers.specs.Numbers.{EMPTY}
+use Rattle.mesh.specs.Mesh.{startOf, endOf, pairOf}
 
 -- the place after place i, cyclically
 unfoldable pub afterOf : ℕ → ℕ → ℕ

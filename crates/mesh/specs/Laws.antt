@@ -1,19 +1,19 @@
 -- Laws of the mesh's definitions.
-use mathlib.Core.Path.{_≡_, refl, sym, ap, _∙_, subst}
+use mathlib.Core.Path.{_≡_, refl, sym, ap, _∙_}
 use mathlib.Core.List.{List, [], _∷_, _++_, append-nil, append-assoc}
-use mathlib.Core.Bool.{Bool, true, false, not}
-use mathlib.Core.Logic.{_⊎_, inl, inr, ⊎-elim, _≢_}
+use mathlib.Core.Bool.{Bool, true, false}
+use mathlib.Core.Logic.{⊎-elim, _≢_}
 use Prim.Native.Nat.{ℕ, zero, suc, _+_, _-_, _*_, _/_, _%_, _≤_, _<_}
-use native.Mathlib.Nat.{zero-add, add-zero, sub-zero, le-refl}
+use native.Mathlib.Nat.{zero-add, sub-zero}
 use native.Mathlib.Numerals.{add-one}
 use native.Mathlib.Omega.{arith}
-use lib.Dec.{leb, ltb, eqb}
-use lib.ListN.{length, getD, set, replicate, take, drop, length-append, length-take, take-append-drop, length-set}
+use lib.Dec.{leb, eqb}
+use lib.ListN.{length, getD, set, take, drop, length-append, take-append-drop, length-set}
 use lib.Seq.{take-suc-set, drop-set-lt, length-take-le, drop-drop}
-use borrow.Author.Tests.{eqb-true, eqb-false, lt-ltb, le-ltb, le-leb, lt-leb, leb-true, leb-false, ne-eqb}
+use borrow.Author.Tests.{eqb-true, eqb-false, lt-ltb, le-ltb, le-leb, lt-leb, leb-true, leb-false}
 use Rattle.laws.specs.Pick.{pick}
 use Rattle.laws.specs.Decide.{lt-or-ge, eq-or-ne}
-use Rattle.mesh.specs.Mesh.{EMPTY, nextOf, endOf, pairOf, chosen, tableTo, turnOf, walkOf, wholeOf, Walks}
+use Rattle.mesh.specs.Mesh.{nextOf, endOf, pairOf, chosen, tableTo, turnOf, walkOf, wholeOf, Walks}
 
 -- the next half-edge, as one sum
 pub next-sum : (e : ℕ) → nextOf e ≡ e + 1 - 3 * (e % 3 / 2)
@@ -47,7 +47,8 @@ next-thrice e =
     (eq-or-ne (e % 3) 0)
 
 -- a turn of the loop that fills the table
-pub table-step : (tri he work : List ℕ) (w e s s′ v : ℕ) → work ≡ tableTo tri he w e → s ≡ s′ → s′ ≡ endOf tri e → v ≡ chosen (getD work s 0) (pairOf he e) e → set work s v ≡ tableTo tri he w (e + 1)
+pub table-step : (tri he work : List ℕ) (w e s s′ v : ℕ) → work ≡ tableTo tri he w e → s ≡ s′ → s′ ≡ endOf tri e
+    → v ≡ chosen (getD work s 0) (pairOf he e) e → set work s v ≡ tableTo tri he w (e + 1)
 unfolding tableTo
 table-step tri he work w e s s′ v p q r h = rw add-one (cc)
 

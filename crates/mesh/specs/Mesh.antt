@@ -7,9 +7,7 @@ use Prim.Native.Nat.{ℕ, zero, suc, _+_, _-_, _*_, _/_, _%_, _≤_, _<_}
 use lib.Dec.{leb, ltb, eqb}
 use lib.ListN.{length, getD, set, replicate, drop}
 use Rattle.laws.specs.Pick.{pick}
-
-abbrev pub EMPTY : ℕ
-EMPTY = 4294967295
+use Rattle.numbers.specs.Numbers.{EMPTY}
 
 -- the next half-edge of the same triangle: e + 1, or e - 2 where e mod 3 = 2
 unfoldable pub nextOf : ℕ → ℕ

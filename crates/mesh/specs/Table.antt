@@ -1,18 +1,16 @@
 -- What the leftmost table holds.
-use mathlib.Core.Path.{_≡_, refl, sym, ap, _∙_, subst}
-use mathlib.Core.List.{List, [], _∷_, _++_}
-use mathlib.Core.Bool.{Bool, true, false}
+use mathlib.Core.Path.{_≡_, refl, sym, _∙_, subst}
+use mathlib.Core.List.{List, _++_}
 use mathlib.Core.Logic.{_⊎_, inl, inr, ⊎-elim, _≢_}
-use Prim.Native.Nat.{ℕ, zero, suc, _+_, _-_, _%_, _≤_, _<_}
+use Prim.Native.Nat.{ℕ, zero, suc, _+_, _-_, _≤_, _<_}
 use native.Mathlib.Nat.{le-antisymm}
 use native.Mathlib.Omega.{arith}
-use lib.Dec.{eqb}
 use lib.ListN.{length, getD, set, replicate, length-set, length-replicate, getD-replicate, replicate-append-replicate, List·getD-append}
 use lib.Seq.{getD-set-same, getD-set-other, set-append-left}
-use borrow.Author.Tests.{eqb-true, eqb-false, eq-eqb, ne-eqb}
-use Rattle.laws.specs.Pick.{pick}
+use borrow.Author.Tests.{eq-eqb, ne-eqb}
 use Rattle.laws.specs.Decide.{lt-or-ge, eq-or-ne}
-use Rattle.mesh.specs.Mesh.{EMPTY, nextOf, endOf, pairOf, chosen, tableTo, leftmostOf, leftmostIn, Leftmost}
+use Rattle.numbers.specs.Numbers.{EMPTY}
+use Rattle.mesh.specs.Mesh.{endOf, pairOf, chosen, tableTo, leftmostOf, leftmostIn, Leftmost}
 
 module _ (tri he : List ℕ) (n s r : ℕ) (small : n < EMPTY) (g : Leftmost tri he n s r) where
   -- half-edge n ends elsewhere

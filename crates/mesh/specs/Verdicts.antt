@@ -7,9 +7,10 @@ use native.Mathlib.Omega.{arith}
 use lib.Ieee.{Float}
 use lib.ListN.{length}
 use Rattle.laws.specs.Refusals.{Keep, Finds, finds-answers}
+use Rattle.numbers.specs.Numbers.{EMPTY}
 use Rattle.mesh.specs.declared.Fault.{Fault}
 use Rattle.mesh.specs.declared.Fault.the-variants.{None}
-use Rattle.mesh.specs.Mesh.{EMPTY, nextOf, endOf}
+use Rattle.mesh.specs.Mesh.{nextOf, endOf}
 use Rattle.mesh.specs.Accepted.{Accepted, siteCount}
 use Rattle.mesh.specs.Rules.{numberOf, Topology, topologyRules, meshRules}
 use Rattle.mesh.specs.Laws.{next-lt}

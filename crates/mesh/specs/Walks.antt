@@ -12,14 +12,16 @@ use borrow.Author.Tests.{eqb-true, eqb-false}
 use Rattle.laws.specs.Pick.{pick}
 use Rattle.laws.specs.Decide.{lt-or-ge}
 use Rattle.laws.specs.Count.{occ, same-cases, pigeonhole}
-use Rattle.mesh.specs.Mesh.{EMPTY, nextOf, endOf, pairOf, Mates, around, turnOf, walkOf, Reached, here, onward, wholeOf, Paired}
+use Rattle.numbers.specs.Numbers.{EMPTY}
+use Rattle.mesh.specs.Mesh.{nextOf, endOf, pairOf, Mates, around, turnOf, walkOf, Reached, here, onward, wholeOf, Paired}
 use Rattle.mesh.specs.Laws.{next-lt, next-inj, walk-go, walk-done}
 
 pub turn-cases : (he : List ℕ) (s e : ℕ) → ((around he e ≡ s) × (turnOf he s e ≡ EMPTY)) ⊎ ((around he e ≢ s) × (turnOf he s e ≡ around he e))
 unfolding turnOf
 turn-cases he s e = go (eqb (around he e) s) refl
   where
-    go : (b : Bool) → eqb (around he e) s ≡ b → ((around he e ≡ s) × (pick b (λ _. EMPTY) (λ _. around he e) ≡ EMPTY)) ⊎ ((around he e ≢ s) × (pick b (λ _. EMPTY) (λ _. around he e) ≡ around he e))
+    go : (b : Bool) → eqb (around he e) s ≡ b → ((around he e ≡ s) × (pick b (λ _. EMPTY) (λ _. around he e) ≡ EMPTY)) ⊎
+        ((around he e ≢ s) × (pick b (λ _. EMPTY) (λ _. around he e) ≡ around he e))
     go true h = inl (eqb-true _ _ h, refl)
     go false h = inr (eqb-false _ _ h, refl)
 

@@ -1,10 +1,11 @@
 // Half-edge steps, the table of leftmost half-edges, and walks round a site, over lent triangles and half-edges.
+use numbers::EMPTY;
+use numbers::wide;
 ghost use mathlib.Core.Path.{_≡_};
-ghost use Prim.Native.Nat.{ℕ, _/_, _%_, _<_, _≤_};
+ghost use Prim.Native.Nat.{ℕ, _%_, _<_, _≤_};
 ghost use lib.ListN.{length, getD, replicate};
-ghost use Rattle.mesh.specs.Mesh.{EMPTY, nextOf, endOf, chosen, tableTo, turnOf, wholeOf, Walks};
-
-pub const NONE: u32 = 4294967295;
+ghost use Rattle.numbers.specs.Numbers.{EMPTY};
+ghost use Rattle.mesh.specs.Mesh.{nextOf, endOf, chosen, tableTo, turnOf, wholeOf, Walks};
 
 // What a check finds wrong with a mesh, and the lowest site, triangle, half-edge or hull place that has the fault.
 pub enum Fault {
@@ -19,12 +20,6 @@ pub enum Fault {
     BrokenFan(usize),
 }
 
-pub fn wide(x: u32) -> usize
-    ensures { λ r. ⌜ r ≡ x ⌝ }
-{
-    x as usize
-}
-
 // The next half-edge of the same triangle.
 pub fn next_halfedge(e: usize) -> usize
     requires { ⌜ e < 2305843009213693952 ⌝ }
@@ -34,13 +29,6 @@ pub fn next_halfedge(e: usize) -> usize
         return e - 2;
     }
     e + 1
-}
-
-// The triangle of half-edge e.
-pub fn triangle_of_edge(e: usize) -> usize
-    ensures { λ r. ⌜ r ≡ e / 3 ⌝ }
-{
-    e / 3
 }
 
 // The site that half-edge e ends at.
@@ -58,7 +46,7 @@ pub fn clear(work: &mut [u32])
 {
     let mut i = 0;
     while i < work.len() {
-        work[i] = NONE;
+        work[i] = EMPTY;
         i += 1;
     }
 }
@@ -66,10 +54,10 @@ pub fn clear(work: &mut [u32])
 fn choose(old: u32, p: u32, e: u32) -> u32
     ensures { λ r. ⌜ r ≡ chosen old p e ⌝ }
 {
-    if old == NONE {
+    if old == EMPTY {
         return e;
     }
-    if p == NONE {
+    if p == EMPTY {
         return e;
     }
     old
@@ -77,7 +65,8 @@ fn choose(old: u32, p: u32, e: u32) -> u32
 
 // Fills the table of leftmost half-edges.
 pub fn leftmost(triangles: &[u32], halfedges: &[u32], work: &mut [u32])
-    requires { ⌜ (length (now triangles) % 3 ≡ 0) × (length (now halfedges) ≡ length (now triangles)) × (length (now triangles) < 4294967295) × ((k : ℕ) → k < length (now triangles) → getD (now triangles) k 0 < length (now work)) ⌝ }
+    requires { ⌜ (length (now triangles) % 3 ≡ 0) × (length (now halfedges) ≡ length (now triangles)) × (length (now triangles) < 4294967295)
+        × ((k : ℕ) → k < length (now triangles) → getD (now triangles) k 0 < length (now work)) ⌝ }
     ensures { λ _. ⌜ now (work .exit) ≡ tableTo (now (triangles .entry)) (now (halfedges .entry)) (length (now (work .entry))) (length (now (triangles .entry))) ⌝ }
 {
     clear(work);
@@ -96,7 +85,7 @@ pub fn turn(halfedges: &[u32], s: u32, e: usize) -> u32
 {
     let p = halfedges[next_halfedge(e)];
     if p == s {
-        return NONE;
+        return EMPTY;
     }
     p
 }

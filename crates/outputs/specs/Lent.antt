@@ -5,8 +5,8 @@ use Prim.Native.Nat.{ℕ, _+_, _-_, _*_, _/_, _≤_, _<_}
 use lib.Ieee.{Float}
 use lib.ListN.{length, replicate}
 use Rattle.laws.specs.Binary64.{zero}
+use Rattle.numbers.specs.Numbers.{EMPTY}
 use Rattle.utils.specs.Flat.{flat}
-use Rattle.mesh.specs.Mesh.{EMPTY}
 use Rattle.layout.specs.Regions.{joined, offsetsFrom, Regions}
 use Rattle.layout.specs.Rooms.{Started}
 use Rattle.definition.specs.declared.Fault.{Fault}

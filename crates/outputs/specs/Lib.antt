@@ -1,2 +1,3 @@
 -- The root of the crate's definitions.
 pub mod Lent
+pub mod laws

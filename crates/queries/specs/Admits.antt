@@ -17,7 +17,7 @@ use Rattle.utils.specs.declared.Point.{Point}
 use Rattle.mesh.specs.Rules.{numberOf, startRules, coordinateRules, callRules}
 use Rattle.mesh.specs.Accepted.{Accepted, siteCount}
 use Rattle.mesh.specs.Verdicts.{accepted-keep, keep-accepted}
-use Rattle.checker.specs.Answers.{workAfter}
+use Rattle.check_mesh.specs.Answers.{workAfter}
 
 -- rule 4 on a site, and rule 5 on a destination after it
 unfoldable pub siteAsk : ℕ → ℕ → ℕ

@@ -1,18 +1,18 @@
 -- What each query promises: its number, its values and every lent slice at exit; and that no two outcomes are allowed for one input.
-use mathlib.Core.Path.{_≡_, refl, sym, ap, _∙_, subst}
+use mathlib.Core.Path.{_≡_, sym, ap, _∙_}
 use mathlib.Core.Bool.{Bool, true, false}
 use mathlib.Core.List.{List, [], _∷_, _++_}
-use mathlib.Core.Logic.{_≢_}
-use Prim.Native.Nat.{ℕ, _+_, _-_, _≤_, _<_}
+use Prim.Native.Nat.{ℕ, _+_, _-_, _<_}
 use lib.Dec.{leb, ltb, eqb}
 use lib.Ieee.{Float}
 use lib.ListN.{length, getD, take, drop, replicate}
 use Rattle.laws.specs.Pick.{pick}
 use Rattle.laws.specs.Refusals.{once, Finds, finds-one}
+use Rattle.numbers.specs.Numbers.{EMPTY}
 use Rattle.mesh.specs.Rules.{callRules}
-use Rattle.mesh.specs.Mesh.{EMPTY, leftmostOf, wholeOf}
+use Rattle.mesh.specs.Mesh.{leftmostOf, wholeOf}
 use Rattle.mesh.specs.Accepted.{siteCount}
-use Rattle.checker.specs.Answers.{workAfter}
+use Rattle.check_mesh.specs.Answers.{workAfter}
 use Rattle.shared.specs.Cells.{Cells, shareEdgeOf}
 use Rattle.shared.specs.Edge.{sharedEdgeOf}
 use Rattle.utils.specs.declared.Point.{Point}
@@ -52,15 +52,18 @@ roomyOf sites work = leb (siteCount sites) (length work)
 module _ (sites : List Float) (tri he hull : List ℕ) (s : ℕ) (work work′ out out′ : List ℕ) (r : Listed) where
   abbrev pub WalkAnswer : Type 0
   WalkAnswer =
-      ListAnswer (Admits sites tri he hull (roomyOf sites work) (siteAsk (siteCount sites) s)) tri he (siteCount sites) (wholeOf he (getD (leftmostOf tri he (siteCount sites)) s 0)) work work′ out out′ r
+      ListAnswer (Admits sites tri he hull (roomyOf sites work) (siteAsk (siteCount sites) s)) tri he (siteCount sites)
+      (wholeOf he (getD (leftmostOf tri he (siteCount sites)) s 0)) work work′ out out′ r
 
   abbrev pub NeighboursAnswer : Type 0
   NeighboursAnswer =
-      ListAnswer (Admits sites tri he hull (roomyOf sites work) (siteAsk (siteCount sites) s)) tri he (siteCount sites) (neighboursOf tri he (leftmostOf tri he (siteCount sites)) s) work work′ out out′ r
+      ListAnswer (Admits sites tri he hull (roomyOf sites work) (siteAsk (siteCount sites) s)) tri he (siteCount sites)
+      (neighboursOf tri he (leftmostOf tri he (siteCount sites)) s) work work′ out out′ r
 
   abbrev pub PathAnswer : Point → Type 0
   PathAnswer p =
-      ListAnswer (Admits sites tri he hull (roomyOf sites work) (pathAsk (siteCount sites) s p)) tri he (siteCount sites) (wholePath sites tri he (leftmostOf tri he (siteCount sites)) p s) work work′ out out′ r
+      ListAnswer (Admits sites tri he hull (roomyOf sites work) (pathAsk (siteCount sites) s p)) tri he (siteCount sites)
+      (wholePath sites tri he (leftmostOf tri he (siteCount sites)) p s) work work′ out out′ r
 
 -- the offsets cut the index list into a cell for each of n sites
 pub record CellsOf (offs idx : List ℕ) (n : ℕ) : Type 0 where
@@ -73,7 +76,8 @@ pub record Offers (sites : List Float) (tri he hull : List ℕ) (roomy : Bool) (
 
 abbrev pub ClippedAnswer : List Float → List ℕ → List ℕ → List ℕ → List ℕ → List ℕ → ℕ → List ℕ → List ℕ → List ℕ → List ℕ → Listed → Type 0
 ClippedAnswer sites tri he hull offs idx s work work′ out out′ r =
-    ListAnswer (Offers sites tri he hull (roomyOf sites work) (siteAsk (siteCount sites) s) offs idx) tri he (siteCount sites) (clippedNeighboursOf tri he (leftmostOf tri he (siteCount sites)) offs idx s) work work′ out out′ r
+    ListAnswer (Offers sites tri he hull (roomyOf sites work) (siteAsk (siteCount sites) s) offs idx) tri he (siteCount sites)
+    (clippedNeighboursOf tri he (leftmostOf tri he (siteCount sites)) offs idx s) work work′ out out′ r
 
 abbrev pub foundOf : ℕ → ℕ → Found
 foundOf number edge = record { number = number; edge = edge }
@@ -96,17 +100,21 @@ pub record SharesAnswer (offs idx : List ℕ) (a b : ℕ) (r : Told) : Type 0 wh
   pub yes : r .yes ≡ pick (eqb (r .number) 0) (λ _. shareEdgeOf offs idx a b) (λ _. false)
 
 -- ---- one outcome
-pub offers-one : {sites : List Float} {tri he hull : List ℕ} {roomy : Bool} {asked : ℕ} {offs idx : List ℕ} {a b : ℕ} → Offers sites tri he hull roomy asked offs idx a → Offers sites tri he hull roomy asked offs idx b → a ≡ b
+pub offers-one : {sites : List Float} {tri he hull : List ℕ} {roomy : Bool} {asked : ℕ} {offs idx : List ℕ} {a b : ℕ}
+    → Offers sites tri he hull roomy asked offs idx a → Offers sites tri he hull roomy asked offs idx b → a ≡ b
 offers-one x y = finds-one (x .found) (y .found)
 
-pub list-one : {Number : ℕ → Type 0} {tri he : List ℕ} {n : ℕ} {whole work w x out o p : List ℕ} {r s : Listed} → ((a b : ℕ) → Number a → Number b → a ≡ b) → ListAnswer Number tri he n whole work w out o r → ListAnswer Number tri he n whole work x out p s → (r ≡ s) × (w ≡ x) × (o ≡ p)
+pub list-one : {Number : ℕ → Type 0} {tri he : List ℕ} {n : ℕ} {whole work w x out o p : List ℕ} {r s : Listed}
+    → ((a b : ℕ) → Number a → Number b → a ≡ b) → ListAnswer Number tri he n whole work w out o r
+    → ListAnswer Number tri he n whole work x out p s → (r ≡ s) × (w ≡ x) × (o ≡ p)
 list-one {tri = tri} {he} {n} {whole} {work} {out = out} {r = r} {s} one a b =
     let q : r .number ≡ s .number = one _ _ (a .number) (b .number) in
     let c : r .count ≡ s .count = a .count ∙ ap (countAfter whole out) q ∙ sym (b .count) in
     let e : r .ended ≡ s .ended = a .ended ∙ ap (endedAfter whole out) q ∙ sym (b .ended) in
     (λ i. record { number = q i; count = c i; ended = e i }, a .work ∙ ap (workAfter tri he n work) q ∙ sym (b .work), a .out ∙ ap (outAfter whole out) q ∙ sym (b .out))
 
-pub edge-one : {sites : List Float} {tri he hull : List ℕ} {a b : ℕ} {w w′ w″ : List ℕ} {r s : Found} → EdgeAnswer sites tri he hull a b w w′ r → EdgeAnswer sites tri he hull a b w w″ s → (r ≡ s) × (w′ ≡ w″)
+pub edge-one : {sites : List Float} {tri he hull : List ℕ} {a b : ℕ} {w w′ w″ : List ℕ} {r s : Found} → EdgeAnswer sites tri he hull a b w w′ r
+    → EdgeAnswer sites tri he hull a b w w″ s → (r ≡ s) × (w′ ≡ w″)
 edge-one {sites} {tri} {he} {a = a} {b} {w} {r = r} {s} x y =
     let q : r .number ≡ s .number = admits-one (x .number) (y .number) in
     let e : r .edge ≡ s .edge = x .edge ∙ ap (λ k. pick (eqb k 0) (λ _. sharedEdgeOf he a b) (λ _. EMPTY)) q ∙ sym (y .edge) in

@@ -1,20 +1,18 @@
 -- The answers about the edge that two triangles or two cells share, from the tests that the code makes.
-use mathlib.Core.Path.{_≡_, refl, sym, ap, _∙_}
+use mathlib.Core.Path.{_≡_, refl, ap, _∙_}
 use mathlib.Core.Bool.{Bool, true, false}
 use mathlib.Core.List.{List}
 use mathlib.Core.Logic.{_≢_}
 use Prim.Native.Nat.{ℕ, _+_, _-_, _%_, _≤_, _<_}
 use native.Mathlib.Omega.{arith}
-use lib.Dec.{eqb}
 use lib.Ieee.{Float}
 use lib.ListN.{length}
-use borrow.Author.Tests.{eq-eqb, ne-eqb}
-use Rattle.laws.specs.Pick.{pick}
+use borrow.Author.Tests.{ne-eqb}
 use Rattle.laws.specs.Decide.{Says}
 use Rattle.laws.specs.Refusals.{breaks, keeps, nothing}
-use Rattle.mesh.specs.Mesh.{EMPTY}
+use Rattle.numbers.specs.Numbers.{EMPTY}
 use Rattle.mesh.specs.Accepted.{siteCount}
-use Rattle.checker.specs.Answers.{workAfter}
+use Rattle.check_mesh.specs.Answers.{workAfter}
 use Rattle.shared.specs.Cells.{Cells, shareEdgeOf}
 use Rattle.shared.specs.Edge.{sharedEdgeOf}
 use Rattle.queries.specs.declared.Found.{Found}

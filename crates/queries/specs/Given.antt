@@ -1,9 +1,9 @@
 -- On an admitted mesh each list that is handed out is the query's answer; and no list is longer than a count can say.
-use mathlib.Core.Path.{_≡_, refl, sym, ap, _∙_, subst}
+use mathlib.Core.Path.{_≡_, refl, sym, ap, _∙_}
 use mathlib.Core.Bool.{Bool, true, false, false≢true}
-use mathlib.Core.List.{List, [], _∷_, _++_}
+use mathlib.Core.List.{List, [], _∷_}
 use mathlib.Core.Logic.{⊎-elim, _≢_}
-use Prim.Native.Nat.{ℕ, zero, suc, _+_, _*_, _/_, _%_, _≤_, _<_}
+use Prim.Native.Nat.{ℕ, zero, suc, _+_, _≤_, _<_}
 use native.Mathlib.Omega.{arith}
 use lib.Dec.{eqb, ltb}
 use lib.Ieee.{Float}
@@ -12,10 +12,11 @@ use borrow.Author.Tests.{ltb-true, lt-ltb, le-ltb}
 use Rattle.laws.specs.Pick.{pick}
 use Rattle.laws.specs.Decide.{lt-or-ge, eq-or-ne}
 use Rattle.laws.specs.Refusals.{once, Finds, breaks, keeps, nothing, finds-first, finds-after}
+use Rattle.numbers.specs.Numbers.{EMPTY}
 use Rattle.mesh.specs.Rules.{callRules}
 use Rattle.utils.specs.Rules.{okSite}
 use Rattle.utils.specs.declared.Point.{Point}
-use Rattle.mesh.specs.Mesh.{EMPTY, startOf, pairOf, endOf, nextOf, around, leftmostOf, leftmostIn, turnOf, walkOf, wholeOf, Walks, Paired}
+use Rattle.mesh.specs.Mesh.{startOf, pairOf, endOf, nextOf, around, leftmostOf, turnOf, walkOf, wholeOf, Walks}
 use Rattle.mesh.specs.Accepted.{Accepted, siteCount}
 use Rattle.mesh.specs.Facts.{topology, paired}
 use Rattle.mesh.specs.Laws.{walk-go, walk-done}
@@ -25,7 +26,7 @@ use Rattle.iterator.specs.Whole.{wholePath, path-stop, path-go}
 use Rattle.iterator.specs.Fills.{Fills}
 use Rattle.iterator.specs.Walking.{walks-fill}
 use Rattle.shared.specs.Cells.{shareEdgeOf}
-use Rattle.checker.specs.Answers.{workAfter}
+use Rattle.check_mesh.specs.Answers.{workAfter}
 use Rattle.iterator.specs.Clipped.{keptOf, clippedFrom, firstOf, clippedOf, clippedNeighboursOf}
 use Rattle.iterator.specs.Ready.{Ready, Towards, Clippable}
 use Rattle.iterator.specs.OnMesh.{ready, clippable, towards}
@@ -161,10 +162,12 @@ module _ {sites : List Float} {tri he hull : List ℕ} {k : ℕ} {w w′ o o′ 
   open-kept s p e z = path-headed (siteCount sites) s p (sym e ∙ list-fit a z) .kept
 
   -- the answer: refused, or a list handed out
-  pub refuses : (ask : ℕ) (whole : List ℕ) (x : Listed) → k ≡ ask → k < 7 → r ≢ 0 → x ≡ listedOf r 0 false → ListAnswer (Admits sites tri he hull (roomyOf sites w) ask) tri he (siteCount sites) whole w w′ o o′ x
+  pub refuses : (ask : ℕ) (whole : List ℕ) (x : Listed) → k ≡ ask → k < 7 → r ≢ 0 → x ≡ listedOf r 0 false
+      → ListAnswer (Admits sites tri he hull (roomyOf sites w) ask) tri he (siteCount sites) whole w w′ o o′ x
   refuses ask whole x e l n q = rw (q, ← e) (list-refused a whole l n)
 
-  pub gives : (ask : ℕ) (whole o″ : List ℕ) (c : ℕ) (b : Bool) (x : Listed) → k ≡ ask → r ≡ 0 → Fills whole o o″ c b → x ≡ listedOf 0 c b → ListAnswer (Admits sites tri he hull (roomyOf sites w) ask) tri he (siteCount sites) whole w w′ o o″ x
+  pub gives : (ask : ℕ) (whole o″ : List ℕ) (c : ℕ) (b : Bool) (x : Listed) → k ≡ ask → r ≡ 0 → Fills whole o o″ c b → x ≡ listedOf 0 c b
+      → ListAnswer (Admits sites tri he hull (roomyOf sites w) ask) tri he (siteCount sites) whole w w′ o o″ x
   gives ask whole o″ c b x e z f q = rw (q, ← e) (filled a z whole o″ c b f)
 
 -- ---- the lists as they are handed out: the definition's, and short enough for a count
@@ -182,7 +185,8 @@ module _ {sites : List Float} {tri he hull : List ℕ} {s : ℕ} {w′ o o′ : 
     pub walk-few : {o″ : List ℕ} {c : ℕ} {b : Bool} → Walks he e o′ o″ c b → c < 4294967296
     walk-few x = omega (arith, he-few, few (walk-fills x) (length he) (walk-length he _ (length he) _))
 
-    pub neighbours-fill : {o″ : List ℕ} {c : ℕ} {b : Bool} → Fills (startsOf tri he (wholeOf he e)) o′ o″ c b → Fills (neighboursOf tri he (leftmostOf tri he (siteCount sites)) s) o o″ c b
+    pub neighbours-fill : {o″ : List ℕ} {c : ℕ} {b : Bool} → Fills (startsOf tri he (wholeOf he e)) o′ o″ c b
+        → Fills (neighboursOf tri he (leftmostOf tri he (siteCount sites)) s) o o″ c b
     unfolding neighboursOf
     neighbours-fill x = rw (← leftmost, ← u .out) x
 
@@ -197,30 +201,40 @@ module _ {sites : List Float} {tri he hull : List ℕ} {s : ℕ} {w′ o o′ : 
     pub path-towards : Towards sites p (siteCount sites)
     path-towards = towards sites p (u .mesh .coordinates) to
 
-  pub path-fills : (p : Point) {o″ : List ℕ} {c : ℕ} {b : Bool} → Fills (wholePath sites tri he (take (siteCount sites) w′) p s) o′ o″ c b → Fills (wholePath sites tri he (leftmostOf tri he (siteCount sites)) p s) o o″ c b
+  pub path-fills : (p : Point) {o″ : List ℕ} {c : ℕ} {b : Bool} → Fills (wholePath sites tri he (take (siteCount sites) w′) p s) o′ o″ c b
+      → Fills (wholePath sites tri he (leftmostOf tri he (siteCount sites)) p s) o o″ c b
   path-fills p x = rw (← u .table, ← u .out) x
 
   pub path-few : (p : Point) {o″ : List ℕ} {c : ℕ} {b : Bool} → Fills (wholePath sites tri he (take (siteCount sites) w′) p s) o′ o″ c b → c < 4294967296
   path-few p x = omega (arith, few x (length sites) (path-length sites tri he (take (siteCount sites) w′) p (length sites) s), u .mesh .counts .few-sites)
 
 -- ---- after clipping: rule 16 comes after the mesh
-module _ {sites : List Float} {tri he hull : List ℕ} {k : ℕ} {w w′ o o′ : List ℕ} {r : ℕ} (a : ListAdmission sites tri he hull k w w′ o o′ r) (offs idx : List ℕ) (s : ℕ) (e : k ≡ siteAsk (siteCount sites) s) where
+module _ {sites : List Float} {tri he hull : List ℕ} {k : ℕ} {w w′ o o′ : List ℕ} {r : ℕ} (a : ListAdmission sites tri he hull k w w′ o o′ r)
+    (offs idx : List ℕ) (s : ℕ) (e : k ≡ siteAsk (siteCount sites) s) where
   pub clipped-refused : (x : Listed) → k < 7 → r ≢ 0 → x ≡ listedOf r 0 false → ClippedAnswer sites tri he hull offs idx s w w′ o o′ x
   clipped-refused x l n q =
       let y = list-refused a (clippedNeighboursOf tri he (leftmostOf tri he (siteCount sites)) offs idx s) l n in
-      rw (q, ← e) (record { number = record { found = finds-first (once 16 (CellsOf offs idx (siteCount sites)) ∷ []) n (y .number .found) }; work = y .work; out = y .out; count = y .count; ended = y .ended })
+      rw (q, ← e) (record {
+        number = record { found = finds-first (once 16 (CellsOf offs idx (siteCount sites)) ∷ []) n (y .number .found) };
+        work = y .work;
+        out = y .out;
+        count = y .count;
+        ended = y .ended;
+      })
 
   module _ (z : r ≡ 0) where
     then-cells : {x : ℕ} → Finds (once 16 (CellsOf offs idx (siteCount sites)) ∷ []) 0 x → Offers sites tri he hull (roomyOf sites w) (siteAsk (siteCount sites) s) offs idx x
     then-cells f = rw (← e) (record { found = finds-after (callRules sites tri he hull (roomyOf sites w ≡ true) (askedRules k)) (admits-keep (a .admission .number) z) f })
 
-    pub clipped-denied : (w″ : List ℕ) (x : Listed) → (CellsOf offs idx (siteCount sites) → ⊥) → w″ ≡ replicate (length w′) EMPTY → x ≡ listedOf 16 0 false → ClippedAnswer sites tri he hull offs idx s w w″ o o′ x
+    pub clipped-denied : (w″ : List ℕ) (x : Listed) → (CellsOf offs idx (siteCount sites) → ⊥) → w″ ≡ replicate (length w′) EMPTY
+        → x ≡ listedOf 16 0 false → ClippedAnswer sites tri he hull offs idx s w w″ o o′ x
     unfolding workAfter outAfter countAfter endedAfter
     clipped-denied w″ x n c q =
         let long : length w′ ≡ length w = ap length (list-table a z) ∙ table-long tri he hull (siteCount sites) (topology (list-mesh a z)) (length w) (list-room a z) in
         rw q (record { number = then-cells (breaks n); work = c ∙ ap (λ m. replicate m EMPTY) long; out = list-out a z; count = refl; ended = refl })
 
-    pub clipped-gives : (o″ : List ℕ) (c : ℕ) (b : Bool) (x : Listed) → CellsOf offs idx (siteCount sites) → Fills (clippedNeighboursOf tri he (leftmostOf tri he (siteCount sites)) offs idx s) o o″ c b → x ≡ listedOf 0 c b → ClippedAnswer sites tri he hull offs idx s w w′ o o″ x
+    pub clipped-gives : (o″ : List ℕ) (c : ℕ) (b : Bool) (x : Listed) → CellsOf offs idx (siteCount sites)
+        → Fills (clippedNeighboursOf tri he (leftmostOf tri he (siteCount sites)) offs idx s) o o″ c b → x ≡ listedOf 0 c b → ClippedAnswer sites tri he hull offs idx s w w′ o o″ x
     clipped-gives o″ c b x ok f q =
         let y = filled a z (clippedNeighboursOf tri he (leftmostOf tri he (siteCount sites)) offs idx s) o″ c b f in
         rw q (record { number = then-cells (keeps ok nothing); work = y .work; out = y .out; count = y .count; ended = y .ended })
@@ -252,7 +266,8 @@ unfolding clippedOf
 clipped-length tri he keeps [] = omega arith
 clipped-length tri he keeps (e ∷ es) = omega (arith, length-append (firstOf tri he keeps e) (clippedFrom tri he keeps e es), first-length tri he keeps e, from-length tri he keeps e es)
 
-module _ {sites : List Float} {tri he hull : List ℕ} {s : ℕ} {w′ o o′ : List ℕ} (u : Open sites tri he hull s w′ o o′) {offs idx : List ℕ} (ok : CellsOf offs idx (siteCount sites)) where
+module _ {sites : List Float} {tri he hull : List ℕ} {s : ℕ} {w′ o o′ : List ℕ} (u : Open sites tri he hull s w′ o o′) {offs idx : List ℕ}
+    (ok : CellsOf offs idx (siteCount sites)) where
   pub clipped-ready : Clippable tri he offs idx
   clipped-ready = clippable (topology (u .mesh)) (ok .many) (ok .cut)
 
@@ -260,7 +275,8 @@ module _ {sites : List Float} {tri he hull : List ℕ} {s : ℕ} {w′ o o′ : 
   clipped-site = omega (arith, ok .many, u .below)
 
   module _ (e : ℕ) (q : e ≡ getD w′ s 0) where
-    pub clipped-fills : {o″ : List ℕ} {c : ℕ} {b : Bool} → Fills (clippedOf tri he (shareEdgeOf offs idx s) (wholeOf he e)) o′ o″ c b → Fills (clippedNeighboursOf tri he (leftmostOf tri he (siteCount sites)) offs idx s) o o″ c b
+    pub clipped-fills : {o″ : List ℕ} {c : ℕ} {b : Bool} → Fills (clippedOf tri he (shareEdgeOf offs idx s) (wholeOf he e)) o′ o″ c b
+        → Fills (clippedNeighboursOf tri he (leftmostOf tri he (siteCount sites)) offs idx s) o o″ c b
     unfolding clippedNeighboursOf
     clipped-fills x = rw (← leftmost u e q, ← u .out) x
 

@@ -1,22 +1,22 @@
 -- From the admission of a mesh to the answer of a query that hands out a list.
-use mathlib.Core.Path.{_≡_, refl, sym, ap, _∙_, subst}
-use mathlib.Core.Bool.{Bool, true, false}
+use mathlib.Core.Path.{_≡_, ap, _∙_}
+use mathlib.Core.Bool.{Bool, false}
 use mathlib.Core.List.{List, _++_}
-use mathlib.Core.Logic.{⊎-elim, _≢_}
-use Prim.Native.Nat.{ℕ, _+_, _-_, _≤_, _<_}
+use mathlib.Core.Logic.{_≢_}
+use Prim.Native.Nat.{ℕ, _-_, _≤_, _<_}
 use native.Mathlib.Omega.{arith}
-use lib.Dec.{leb, ltb, eqb}
+use lib.Dec.{ltb}
 use lib.Ieee.{Float}
 use lib.ListN.{length, getD, take, drop, replicate, length-append, length-replicate, List·getD-append}
 use lib.Seq.{take-at}
 use borrow.Author.Tests.{eq-eqb, ne-eqb, lt-ltb, le-ltb, leb-true}
 use Rattle.laws.specs.Pick.{pick}
-use Rattle.laws.specs.Decide.{lt-or-ge}
-use Rattle.mesh.specs.Mesh.{EMPTY, leftmostOf, leftmostIn}
+use Rattle.numbers.specs.Numbers.{EMPTY}
+use Rattle.mesh.specs.Mesh.{leftmostOf, leftmostIn}
 use Rattle.mesh.specs.Rules.{Topology}
 use Rattle.mesh.specs.Accepted.{Accepted, siteCount}
-use Rattle.mesh.specs.Facts.{topology, tab-length}
-use Rattle.checker.specs.Answers.{workAfter}
+use Rattle.mesh.specs.Facts.{tab-length}
+use Rattle.check_mesh.specs.Answers.{workAfter}
 use Rattle.iterator.specs.Fills.{Fills}
 use Rattle.queries.specs.declared.Listed.{Listed}
 use Rattle.queries.specs.Admits.{Admits, Admission, admitted, admits-few}
@@ -64,7 +64,8 @@ module _ {sites : List Float} {tri he hull : List ℕ} {asked : ℕ} {w w′ o o
     pub list-out : o′ ≡ o
     list-out = a .out ∙ rw (lt-ltb r 7 (omega arith))
 
-    pub filled : (whole o″ : List ℕ) (k : ℕ) (b : Bool) → Fills whole o o″ k b → ListAnswer (Admits sites tri he hull (roomyOf sites w) asked) tri he (siteCount sites) whole w w′ o o″ (listedOf 0 k b)
+    pub filled : (whole o″ : List ℕ) (k : ℕ) (b : Bool) → Fills whole o o″ k b
+        → ListAnswer (Admits sites tri he hull (roomyOf sites w) asked) tri he (siteCount sites) whole w w′ o o″ (listedOf 0 k b)
     unfolding outAfter countAfter endedAfter
     filled whole o″ k b f = record {
       number = rw z at (a .admission .number);

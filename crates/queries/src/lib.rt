@@ -3,37 +3,35 @@ use mesh::Walked;
 use utils::Point;
 ghost use mathlib.Core.Path.{_≡_};
 ghost use mathlib.Core.Bool.{true, false};
-ghost use Prim.Native.Nat.{ℕ, _+_, _-_, _*_, _/_, _%_, _<_, _≤_};
-ghost use lib.Dec.{ltb};
-ghost use lib.ListN.{length, getD, replicate};
-ghost use Rattle.laws.specs.Pick.{pick};
-ghost use Rattle.mesh.specs.Mesh.{EMPTY};
+ghost use Prim.Native.Nat.{_-_, _/_, _<_, _≤_};
+ghost use lib.ListN.{length};
 ghost use Rattle.queries.specs.Admits.{siteAsk, pathAsk, Early, Admission};
 ghost use Rattle.queries.specs.Answers.{WalkAnswer, NeighboursAnswer, PathAnswer, CellsOf, ClippedAnswer, foundOf, EdgeAnswer, toldOf, SharesAnswer};
 ghost use Rattle.laws.specs.Decide.{Says};
+ghost use Rattle.numbers.specs.Numbers.{EMPTY};
 ghost use Rattle.queries.specs.Lists.{listedOf, ListAdmission};
 
 // Rule 4.
 pub fn ask_site(sites: usize, site: u32) -> u32
     ensures { λ r. ⌜ (r ≡ siteAsk sites site) × (r < 7) ⌝ }
 {
-    if mesh::wide(site) < sites {
+    if numbers::wide(site) < sites {
         return 0;
     }
-    4
+    numbers::REFUSED_SITE
 }
 
 // Rules 4 and 5.
 fn ask_path(sites: usize, site: u32, p: Point) -> u32
     ensures { λ r. ⌜ (r ≡ pathAsk sites site p) × (r < 7) ⌝ }
 {
-    if sites <= mesh::wide(site) {
-        return 4;
+    if sites <= numbers::wide(site) {
+        return numbers::REFUSED_SITE;
     }
     if utils::site_ok(p) {
         return 0;
     }
-    5
+    numbers::REFUSED_DESTINATION
 }
 
 // Rules 1, 2, what the call asks of its own arguments, and 6; 0 where all hold.
@@ -47,17 +45,17 @@ fn early(
 ) -> u32
     ensures { λ r. ⌜ Early (now (sites .entry)) entries halfedges hull roomy asked r ⌝ }
 {
-    if !checker::counts_ok(sites.len(), entries, halfedges, hull) {
-        return 1;
+    if !check_mesh::counts_ok(sites.len(), entries, halfedges, hull) {
+        return numbers::REFUSED_COUNT;
     }
     if !roomy {
-        return 2;
+        return numbers::REFUSED_ROOM;
     }
     if asked != 0 {
         return asked;
     }
     if utils::first_bad_site(sites) < sites.len() / 2 {
-        return 6;
+        return numbers::REFUSED_COORDINATE;
     }
     0
 }
@@ -86,7 +84,13 @@ pub fn admit(
     if e != 0 {
         return e;
     }
-    checker::number(checker::check_topology(triangles, halfedges, hull, sites.len() / 2, work))
+    check_mesh::number(check_mesh::check_topology(
+        triangles,
+        halfedges,
+        hull,
+        sites.len() / 2,
+        work,
+    ))
 }
 
 // A number; how many entries of a list were written; whether the last one written ends it.
@@ -128,11 +132,12 @@ fn admit_list(
     out: &mut [u32],
 ) -> u32
     requires { ⌜ asked < 7 ⌝ }
-    ensures { λ r. ⌜ ListAdmission (now (sites .entry)) (now (triangles .entry)) (now (halfedges .entry)) (now (hull .entry)) asked (now (work .entry)) (now (work .exit)) (now (out .entry)) (now (out .exit)) r ⌝ }
+    ensures { λ r. ⌜ ListAdmission (now (sites .entry)) (now (triangles .entry)) (now (halfedges .entry)) (now (hull .entry)) asked
+        (now (work .entry)) (now (work .exit)) (now (out .entry)) (now (out .exit)) r ⌝ }
 {
     let roomy = sites.len() / 2 <= work.len();
     let r = admit(sites, triangles, halfedges, hull, roomy, asked, work);
-    if r < 7 {
+    if r < numbers::REFUSED_TRIANGLE {
         return r;
     }
     mesh::clear(out);
@@ -149,14 +154,15 @@ pub fn walk(
     work: &mut [u32],
     out: &mut [u32],
 ) -> Listed
-    ensures { λ r. ⌜ WalkAnswer (now (sites .entry)) (now (triangles .entry)) (now (halfedges .entry)) (now (hull .entry)) site (now (work .entry)) (now (work .exit)) (now (out .entry)) (now (out .exit)) r ⌝ }
+    ensures { λ r. ⌜ WalkAnswer (now (sites .entry)) (now (triangles .entry)) (now (halfedges .entry)) (now (hull .entry)) site (now (work .entry))
+        (now (work .exit)) (now (out .entry)) (now (out .exit)) r ⌝ }
 {
     let asked = ask_site(sites.len() / 2, site);
     let r = admit_list(sites, triangles, halfedges, hull, asked, work, out);
     if r != 0 {
         return refused(r);
     }
-    let start = work[mesh::wide(site)];
+    let start = work[numbers::wide(site)];
     given(mesh::walk(halfedges, start, out))
 }
 
@@ -170,14 +176,15 @@ pub fn neighbours(
     work: &mut [u32],
     out: &mut [u32],
 ) -> Listed
-    ensures { λ r. ⌜ NeighboursAnswer (now (sites .entry)) (now (triangles .entry)) (now (halfedges .entry)) (now (hull .entry)) site (now (work .entry)) (now (work .exit)) (now (out .entry)) (now (out .exit)) r ⌝ }
+    ensures { λ r. ⌜ NeighboursAnswer (now (sites .entry)) (now (triangles .entry)) (now (halfedges .entry)) (now (hull .entry)) site
+        (now (work .entry)) (now (work .exit)) (now (out .entry)) (now (out .exit)) r ⌝ }
 {
     let asked = ask_site(sites.len() / 2, site);
     let r = admit_list(sites, triangles, halfedges, hull, asked, work, out);
     if r != 0 {
         return refused(r);
     }
-    let start = work[mesh::wide(site)];
+    let start = work[numbers::wide(site)];
     given(iterator::neighbours(triangles, halfedges, start, out))
 }
 
@@ -192,7 +199,8 @@ pub fn path(
     work: &mut [u32],
     out: &mut [u32],
 ) -> Listed
-    ensures { λ r. ⌜ PathAnswer (now (sites .entry)) (now (triangles .entry)) (now (halfedges .entry)) (now (hull .entry)) site (now (work .entry)) (now (work .exit)) (now (out .entry)) (now (out .exit)) r p ⌝ }
+    ensures { λ r. ⌜ PathAnswer (now (sites .entry)) (now (triangles .entry)) (now (halfedges .entry)) (now (hull .entry)) site (now (work .entry))
+        (now (work .exit)) (now (out .entry)) (now (out .exit)) r p ⌝ }
 {
     let count = sites.len() / 2;
     let asked = ask_path(count, site, p);
@@ -228,7 +236,8 @@ pub fn clipped_neighbours(
     work: &mut [u32],
     out: &mut [u32],
 ) -> Listed
-    ensures { λ r. ⌜ ClippedAnswer (now (sites .entry)) (now (triangles .entry)) (now (halfedges .entry)) (now (hull .entry)) (now (offsets .entry)) (now (indexes .entry)) site (now (work .entry)) (now (work .exit)) (now (out .entry)) (now (out .exit)) r ⌝ }
+    ensures { λ r. ⌜ ClippedAnswer (now (sites .entry)) (now (triangles .entry)) (now (halfedges .entry)) (now (hull .entry)) (now (offsets .entry))
+        (now (indexes .entry)) site (now (work .entry)) (now (work .exit)) (now (out .entry)) (now (out .exit)) r ⌝ }
 {
     let count = sites.len() / 2;
     let asked = ask_site(count, site);
@@ -238,9 +247,9 @@ pub fn clipped_neighbours(
     }
     if !cells_ok(offsets, indexes, count) {
         mesh::clear(work);
-        return refused(16);
+        return refused(numbers::REFUSED_OFFSETS);
     }
-    let start = work[mesh::wide(site)];
+    let start = work[numbers::wide(site)];
     given(iterator::clipped_neighbours(triangles, halfedges, offsets, indexes, site, start, out))
 }
 
@@ -255,7 +264,7 @@ fn no_edge(number: u32) -> Found
 {
     Found {
         number,
-        edge: 4294967295,
+        edge: numbers::EMPTY,
     }
 }
 
@@ -309,8 +318,8 @@ pub fn cells_share_edge(offsets: &[u32], indexes: &[u32], a: u32, b: u32) -> Tol
     ensures { λ r. ⌜ SharesAnswer (now (offsets .entry)) (now (indexes .entry)) a b r ⌝ }
 {
     let count = cell_count(offsets.len());
-    let s = mesh::wide(a);
-    let t = mesh::wide(b);
+    let s = numbers::wide(a);
+    let t = numbers::wide(b);
     if count <= s {
         return denied(4);
     }

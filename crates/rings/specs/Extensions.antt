@@ -27,7 +27,8 @@ projectedOf c a b =
     let k = one ⊘ sqrtOf (x ⊠ x ⊞ y ⊠ y) in
     at (c .x ⊞ x ⊠ k ⊠ infinity) (c .y ⊞ y ⊠ k ⊠ infinity)
 
-pub extended-is : (sites : List Float) (tri : List ℕ) (vs : List Point) (e : ℕ) → extended sites tri vs e ≡ projectedOf (vertexAt vs (e / 3)) (pointAt sites (startOf tri e)) (pointAt sites (endOf tri e))
+pub extended-is : (sites : List Float) (tri : List ℕ) (vs : List Point) (e : ℕ)
+    → extended sites tri vs e ≡ projectedOf (vertexAt vs (e / 3)) (pointAt sites (startOf tri e)) (pointAt sites (endOf tri e))
 unfolding extended projectedOf
 extended-is sites tri vs e = refl
 

@@ -1,5 +1,5 @@
 // The circumcenters of all triangles, with rule 11.
-use mesh::wide;
+use numbers::wide;
 use utils::Point;
 use utils::centre_ok;
 use utils::circumcenter_of;
@@ -27,7 +27,8 @@ fn center_at(sites: &[f64], triangles: &[u32], t: usize) -> Point
 // Answers the lowest triangle whose circumcenter breaks its rule, or their number.
 pub fn calculate_circumcenters(sites: &[f64], triangles: &[u32], v: &mut [f64]) -> usize
     requires { ⌜ Named (now sites) (now triangles) × (2 * (length (now triangles) / 3) ≤ length (now v)) ⌝ }
-    ensures { λ r. ⌜ Centred (centresFrom (now (sites .entry)) (now (triangles .entry)) 0 (length (now (triangles .entry)) / 3) []) (length (now (triangles .entry)) / 3) r (now (v .entry)) (now (v .exit)) ⌝ }
+    ensures { λ r. ⌜ Centred (centresFrom (now (sites .entry)) (now (triangles .entry)) 0 (length (now (triangles .entry)) / 3) [])
+        (length (now (triangles .entry)) / 3) r (now (v .entry)) (now (v .exit)) ⌝ }
 {
     let count = triangles.len() / 3;
     let mut t: usize = 0;

@@ -1,7 +1,7 @@
 // The hull's extensions (extend_voronoi_vertex): far beyond the box, from a circumcenter orthogonally to its hull edge; rule 12.
-use hull::after;
+use check_hull::after;
 use mesh::end_site;
-use mesh::wide;
+use numbers::wide;
 use utils::Point;
 use utils::point_at;
 use vertices::add_new_vertex;
@@ -9,7 +9,7 @@ use vertices::vertex;
 ghost use mathlib.Core.Path.{_≡_};
 ghost use mathlib.Core.Bool.{_&&_};
 ghost use mathlib.Core.List.{[]};
-ghost use Prim.Native.Nat.{ℕ, _+_, _*_, _/_, _%_, _≤_, _<_};
+ghost use Prim.Native.Nat.{_*_, _/_, _%_, _≤_, _<_};
 ghost use lib.ListN.{length, getD};
 ghost use Rattle.utils.specs.Flat.{points};
 ghost use Rattle.mesh.specs.Hull.{nextSite};
@@ -93,7 +93,9 @@ pub fn extend_hull(
     count: usize,
 ) -> Passed
     requires { ⌜ ExtendsInto (now sites) (now triangles) (now hull) (now table) centers count limit at (now v) (now ix) ⌝ }
-    ensures { λ r. ⌜ ExtendedBy (extendFrom (now (sites .entry)) (now (triangles .entry)) (now (hull .entry)) (now (table .entry)) centers 0 (length (now (hull .entry))) (extensions (points count (now (v .entry))) [] [])) (length (now (hull .entry))) centers limit at (now (v .entry)) (now (ix .entry)) r (now (v .exit)) (now (ix .exit)) ⌝ }
+    ensures { λ r. ⌜ ExtendedBy (extendFrom (now (sites .entry)) (now (triangles .entry)) (now (hull .entry)) (now (table .entry)) centers 0
+        (length (now (hull .entry))) (extensions (points count (now (v .entry))) [] [])) (length (now (hull .entry))) centers limit at
+        (now (v .entry)) (now (ix .entry)) r (now (v .exit)) (now (ix .exit)) ⌝ }
 {
     let mut n = count;
     let mut i: usize = 0;

@@ -1,7 +1,6 @@
 // The ring of a site, staged in the index list: the triangles along a walk.
 use mesh::turn;
-use mesh::wide;
-ghost use mathlib.Core.Path.{_≡_};
+use numbers::wide;
 ghost use mathlib.Core.List.{[], _∷_, _++_};
 ghost use Prim.Native.Nat.{_+_, _≤_};
 ghost use lib.ListN.{length, drop};

@@ -2,7 +2,8 @@
 -- Assumes nothing.
 use mathlib.Core.Path.{_≡_, sym, ap, _∙_, subst}
 use Prim.Native.Nat.{ℕ, zero, suc, _+_, _-_, _*_, _^_, _≤_, _<_}
-use native.Mathlib.Nat.{le-trans, le-of-eq, lt-of-le-of-lt, lt-of-lt-of-le, mul-le-mul, mul-le-mul-right, mul-assoc, mul-comm, mul-right-comm, one-mul, mul-mul-mul-comm, mul-pos, le-of-mul-le-mul-right, pow-suc, lt-irrefl}
+use native.Mathlib.Nat.{le-trans, le-of-eq, lt-of-le-of-lt, lt-of-lt-of-le, mul-le-mul, mul-le-mul-right, mul-assoc, mul-comm, mul-right-comm, one-mul}
+use native.Mathlib.Nat.{mul-mul-mul-comm, mul-pos, le-of-mul-le-mul-right, pow-suc, lt-irrefl}
 use native.Mathlib.Omega.{arith}
 use mathlib.Core.Bool.{Bool, true, false, not, _&&_, Bool·beq, cond}
 use lib.Dec.{T, ltb, eqb, lit≤, eqb·suc-zero}
@@ -86,7 +87,8 @@ add-bound f (fin s m e) nan k h a b = absurd b
 add-bound f (fin s m e) (inf t) k h a b = absurd b
 add-bound f (fin s m e) (fin t n d) k h a b =
     let u : m * up e * down d ≤ 2 ^ k * (down e * down d) = le-trans (mul-le-mul-right (down d) a) (le-of-eq (mul-assoc (2 ^ k) (down e) (down d))) in
-    let v : n * up d * down e ≤ 2 ^ k * (down e * down d) = le-trans (mul-le-mul-right (down e) b) (le-of-eq (mul-assoc (2 ^ k) (down d) (down e) ∙ ap (λ (x : ℕ). 2 ^ k * x) (mul-comm (down d) (down e)))) in
+    let v : n * up d * down e ≤ 2 ^ k * (down e * down d) = le-trans (mul-le-mul-right (down e) b)
+    (le-of-eq (mul-assoc (2 ^ k) (down d) (down e) ∙ ap (λ (x : ℕ). 2 ^ k * x) (mul-comm (down d) (down e)))) in
     let w : m * up e * down d + n * up d * down e ≤ 2 ^ suc k * (down e * down d) =
     le-trans (twice _ _ _ u v) (le-of-eq (mul-right-comm (2 ^ k) (down e * down d) 2 ∙ ap (λ (x : ℕ). x * (down e * down d)) (sym (pow-suc 2 k)))) in
     sum-by f s (m * up e * down d) t (n * up d * down e) (down e * down d) (Bounded (suc k))

@@ -16,3 +16,4 @@ pub mod Sizes
 pub mod Tested
 pub mod SqrtSizes
 pub mod SquareSums
+pub mod laws

@@ -5,7 +5,8 @@ use mathlib.Core.Logic.{⊎-elim}
 use mathlib.Core.Bool.{Bool, true, false, cond}
 use Prim.{tt}
 use Prim.Native.Nat.{ℕ, suc, _+_, _-_, _*_, _/_, _%_, _^_, _≤_, _<_, compare}
-use native.Mathlib.Nat.{le-trans, le-of-eq, le-of-lt, lt-of-le-of-lt, lt-of-lt-of-le, mul-le-mul-right, mul-assoc, mul-comm, mul-left-comm, mul-one, mul-pos, div-one, div-lt-iff-lt-mul, le-div-iff-mul-le, mul-lt-mul-of-pos-right}
+use native.Mathlib.Nat.{le-trans, le-of-eq, le-of-lt, lt-of-le-of-lt, lt-of-lt-of-le, mul-le-mul-right, mul-assoc, mul-comm, mul-left-comm, mul-one}
+use native.Mathlib.Nat.{mul-pos, div-one, div-lt-iff-lt-mul, le-div-iff-mul-le, mul-lt-mul-of-pos-right}
 use native.Mathlib.Omega.{arith}
 use lib.Dec.{T, ltb, ltb→lt}
 use lib.Pow.{pow-add, pow-pos, pow-mono, shl-lt}

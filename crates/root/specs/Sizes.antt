@@ -4,7 +4,8 @@ use mathlib.Core.Path.{_≡_, sym, ap, _∙_, subst}
 use mathlib.Core.Bool.{Bool, true, false, cond}
 use Prim.{tt}
 use Prim.Native.Nat.{ℕ, zero, suc, _+_, _-_, _*_, _^_, _≤_, _<_}
-use native.Mathlib.Nat.{le-trans, le-of-eq, lt-of-le-of-lt, lt-of-lt-of-le, mul-le-mul, mul-le-mul-right, mul-assoc, mul-comm, mul-left-comm, mul-right-comm, mul-one, one-mul, mul-mul-mul-comm, mul-pos, zero-lt-suc, add-mul, add-le-add, le-of-mul-le-mul-right}
+use native.Mathlib.Nat.{le-trans, le-of-eq, lt-of-le-of-lt, lt-of-lt-of-le, mul-le-mul, mul-le-mul-right, mul-assoc, mul-comm, mul-left-comm}
+use native.Mathlib.Nat.{mul-right-comm, mul-one, one-mul, mul-mul-mul-comm, mul-pos, zero-lt-suc, add-mul, add-le-add, le-of-mul-le-mul-right}
 use native.Mathlib.Omega.{arith}
 use lib.Dec.{T, lit<, eqb}
 use lib.Pow.{pow-add, pow-pos, pow-mono, pow-lt, shl-lt}
@@ -139,9 +140,11 @@ add-most (fin s m e) (fin t n d) a b j v h g =
 
     both : (m * up e * down d + n * up d * down e) * 2 ^ j ≤ (a + b) * (down e * down d)
     both =
-        let u : m * up e * down d * 2 ^ j ≤ a * (down e * down d) = le-trans (le-of-eq (spread (m * up e) (down d) (2 ^ j))) (le-trans (mul-le-mul-right (down d) h) (le-of-eq (mul-assoc a (down e) (down d)))) in
+        let u : m * up e * down d * 2 ^ j ≤ a * (down e * down d) = le-trans (le-of-eq (spread (m * up e) (down d) (2 ^ j)))
+        (le-trans (mul-le-mul-right (down d) h) (le-of-eq (mul-assoc a (down e) (down d)))) in
         let w : n * up d * down e * 2 ^ j ≤ b * (down e * down d) =
-        le-trans (le-of-eq (spread (n * up d) (down e) (2 ^ j))) (le-trans (mul-le-mul-right (down e) g) (le-of-eq (mul-assoc b (down d) (down e) ∙ ap (λ (x : ℕ). b * x) (mul-comm (down d) (down e))))) in
+        le-trans (le-of-eq (spread (n * up d) (down e) (2 ^ j)))
+        (le-trans (mul-le-mul-right (down e) g) (le-of-eq (mul-assoc b (down d) (down e) ∙ ap (λ (x : ℕ). b * x) (mul-comm (down d) (down e))))) in
         le-trans (le-of-eq (add-mul (m * up e * down d) (n * up d * down e) (2 ^ j))) (le-trans (add-le-add u w) (le-of-eq (sym (add-mul a b (down e * down d)))))
 
 -- with powers of two: products and quotients

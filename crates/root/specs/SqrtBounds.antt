@@ -3,7 +3,8 @@
 use mathlib.Core.Path.{_≡_, refl, sym, ap, _∙_, subst}
 use mathlib.Core.Bool.{Bool, true, false, true≢false}
 use Prim.Native.Nat.{ℕ, zero, suc, _+_, _*_, _^_, _≤_, _<_, zero-le}
-use native.Mathlib.Nat.{le-trans, le-of-eq, lt-irrefl, lt-of-lt-of-le, lt-of-le-of-lt, mul-le-mul-right, mul-right-comm, mul-comm, one-mul, zero-mul, div-one, mul-pos, zero-lt-suc, div-le-of-le-mul, le-of-mul-le-mul-right}
+use native.Mathlib.Nat.{le-trans, le-of-eq, lt-irrefl, lt-of-lt-of-le, lt-of-le-of-lt, mul-le-mul-right, mul-right-comm, mul-comm, one-mul, zero-mul}
+use native.Mathlib.Nat.{div-one, mul-pos, zero-lt-suc, div-le-of-le-mul, le-of-mul-le-mul-right}
 use native.Mathlib.Omega.{arith}
 use lib.Dec.{T, lt→ltb}
 use lib.IntN.{ℤ, pos, negsuc}

@@ -2,7 +2,8 @@
 use mathlib.Core.Path.{_≡_, refl, sym, ap, _∙_, subst}
 use mathlib.Core.Bool.{Bool, true, false, not}
 use Prim.Native.Nat.{ℕ, zero, suc, _+_, _-_, _*_, _/_, _^_, _≤_, _<_}
-use native.Mathlib.Nat.{mul-assoc, mul-div-cancel, mul-le-mul-right, le-trans, le-of-eq, lt-of-lt-of-le, lt-of-le-of-lt, lt-of-not-le, not-le-of-lt, lt-of-mul-lt-mul-right, le-of-mul-le-mul-right, zero-lt-suc, one-mul, pow-suc, mul-lt-mul-of-pos-right, le-add-left}
+use native.Mathlib.Nat.{mul-assoc, mul-div-cancel, mul-le-mul-right, le-trans, le-of-eq, lt-of-lt-of-le, lt-of-le-of-lt, lt-of-not-le, not-le-of-lt}
+use native.Mathlib.Nat.{lt-of-mul-lt-mul-right, le-of-mul-le-mul-right, zero-lt-suc, one-mul, pow-suc, mul-lt-mul-of-pos-right, le-add-left}
 use native.Mathlib.Omega.{arith}
 use lib.Dec.{T, leb, ltb, leb→le, nleb→lt, ltb→lt, nltb→le, lit<}
 use lib.Pow.{pow-add, pow-pos, pow-mono, pow-lt, shl-lt}
@@ -80,7 +81,8 @@ record Scaled (n v h : ℕ) : Type 0 where
 
 module _ (m p n : ℕ) (is : n ≡ m * 2 ^ p) (some : 0 < m) (short : m < 2 ^ 53) (least : 1074 ≤ p) (most : n < 2 ^ 3172) where
   large : 1074 < size n
-  large = lt-of-not-le (λ (g : size n ≤ 1074). not-le-of-lt (size-lt n) (le-trans (pow-mono (le-trans g least)) (le-trans (le-of-eq (sym (one-mul (2 ^ p)))) (le-trans (mul-le-mul-right (2 ^ p) some) (le-of-eq (sym is))))))
+  large = lt-of-not-le (λ (g : size n ≤ 1074). not-le-of-lt (size-lt n)
+      (le-trans (pow-mono (le-trans g least)) (le-trans (le-of-eq (sym (one-mul (2 ^ p)))) (le-trans (mul-le-mul-right (2 ^ p) some) (le-of-eq (sym is))))))
 
   small : size n ≤ 3172
   small = size-le n 3172 most
@@ -91,7 +93,8 @@ module _ (m p n : ℕ) (is : n ≡ m * 2 ^ p) (some : 0 < m) (short : m < 2 ^ 53
   scaled : Scaled n (n / sq (2 ^ ((size n - 105) / 2))) ((size n - 105) / 2)
   scaled =
       let h = (size n - 105) / 2 in
-      let e : n ≡ m * 2 ^ (p - (h + h)) * sq (2 ^ h) = is ∙ ap (λ (x : ℕ). m * x) (ap (λ (x : ℕ). 2 ^ x) (sym (back p (h + h) (below (size n) p spare large))) ∙ sym (pow-sq (p - (h + h)) h)) ∙ sym (mul-assoc m (2 ^ (p - (h + h))) (sq (2 ^ h))) in
+      let e : n ≡ m * 2 ^ (p - (h + h)) * sq (2 ^ h) = is ∙ ap (λ (x : ℕ). m * x)
+      (ap (λ (x : ℕ). 2 ^ x) (sym (back p (h + h) (below (size n) p spare large))) ∙ sym (pow-sq (p - (h + h)) h)) ∙ sym (mul-assoc m (2 ^ (p - (h + h))) (sq (2 ^ h))) in
       let v : n / sq (2 ^ h) ≡ m * 2 ^ (p - (h + h)) = ap (λ (x : ℕ). x / sq (2 ^ h)) e ∙ mul-div-cancel (m * 2 ^ (p - (h + h))) (sq-pos h) in
       let w : n ≡ n / sq (2 ^ h) * sq (2 ^ h) = e ∙ ap (λ (x : ℕ). x * sq (2 ^ h)) (sym v) in
       record {
@@ -122,7 +125,8 @@ root-of-scaled x n h e s =
     let some : 0 < v = lt-of-lt-of-le (pow-pos 104) (s .low) in
     let d : q ≤ 2 ^ 53 = digits v some (s .high) in
     nearest-of x (odd 54 false q h 1074) v q h
-    (odd-fits binary64 54 false q h (lt-of-le-of-lt d (pow-lt {i = 53} {j = 54} (lit< tt))) d (lt-of-le-of-lt (mul-le-mul-right (2 ^ h) d) (lt-of-le-of-lt (le-of-eq (sym (pow-add 2 53 h))) (pow-lt (s .room)))))
+    (odd-fits binary64 54 false q h (lt-of-le-of-lt d (pow-lt {i = 53} {j = 54} (lit< tt))) d
+    (lt-of-le-of-lt (mul-le-mul-right (2 ^ h) d) (lt-of-le-of-lt (le-of-eq (sym (pow-add 2 53 h))) (pow-lt (s .room)))))
     (odd-plus 54 q h 1074)
     (odd-units 54 false q h)
     (sym e ∙ s .value)

@@ -10,8 +10,9 @@ use lib.IntN.{ℤ, pos}
 use lib.Ieee.{Float, nan, inf, fin, up, down, lt, le, ofBits}
 use lib.Ieee.Fits.{down-pos}
 use Rattle.laws.specs.And.{holds, fails}
-use Rattle.laws.specs.Binary64.{zero, eps}
+use Rattle.laws.specs.Binary64.{zero}
 use Rattle.laws.specs.Decide.{lt-or-ge}
+use Rattle.numbers.specs.Numbers.{tolerance}
 use Rattle.root.specs.Root.{magnitude}
 use Rattle.root.specs.Bounds.{Bounded, OneOrMore}
 use Rattle.root.specs.Sizes.{AtLeast}
@@ -72,13 +73,13 @@ plus-bound (fin true m e) k p t = absurd p
 plus-bound (fin false m e) k p t = passed m k e t
 
 -- ---- against the tolerance: above it, or not below it
-pub above-eps : (x : Float) (k : ℕ) → Bounded k x → lt eps (magnitude x) ≡ true → AtLeast 1 50 x
+pub above-eps : (x : Float) (k : ℕ) → Bounded k x → lt tolerance (magnitude x) ≡ true → AtLeast 1 50 x
 unfolding lt ofBits
 above-eps nan k b h = b
 above-eps (inf s) k b h = b
 above-eps (fin s m e) k b h = le-of-lt (ltb→lt (1 * down e) (m * up e * 2 ^ 50) (holds h))
 
-pub from-eps : (x : Float) (k : ℕ) → Bounded k x → lt (magnitude x) eps ≡ false → AtLeast 1 50 x
+pub from-eps : (x : Float) (k : ℕ) → Bounded k x → lt (magnitude x) tolerance ≡ false → AtLeast 1 50 x
 unfolding lt ofBits
 from-eps nan k b h = b
 from-eps (inf s) k b h = b

@@ -32,7 +32,8 @@ no-less {x} {r} {s} a b l =
     (lt-of-lt-of-le (a .above s (b .held) (b .plus) l) (le-of-lt (subst (λ (n : ℕ). sq n < 4 * (units x * 2 ^ 1074)) (add-comm (units s) (units r)) (b .below r (a .held) (a .plus) l))))
 
 one-nearest : {x r s : Float} → Nearest x r → Nearest x s → r ≡ s
-one-nearest {x} {r} {s} a b = same-units (a .held) (b .held) (a .plus) (b .plus) (⊎-elim (λ g. ⊎-elim (λ h. le-antisymm g h) (λ h. absurd (no-less a b h)) (le-or-lt (units s) (units r))) (λ h. absurd (no-less b a h)) (le-or-lt (units r) (units s)))
+one-nearest {x} {r} {s} a b = same-units (a .held) (b .held) (a .plus) (b .plus)
+    (⊎-elim (λ g. ⊎-elim (λ h. le-antisymm g h) (λ h. absurd (no-less a b h)) (le-or-lt (units s) (units r))) (λ h. absurd (no-less b a h)) (le-or-lt (units r) (units s)))
 
 pub one-root : (x r s : Float) → Root x r → Root x s → r ≡ s
 one-root nan r s a b = a ∙ sym b

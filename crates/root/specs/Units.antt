@@ -3,7 +3,8 @@
 use mathlib.Core.Path.{_≡_, refl, sym, ap, _∙_, subst}
 use mathlib.Core.Bool.{Bool, false, _&&_}
 use Prim.Native.Nat.{ℕ, zero, suc, _+_, _-_, _*_, _/_, _%_, _^_, _≤_, _<_}
-use native.Mathlib.Nat.{mul-assoc, mul-one, mul-right-comm, zero-mul, zero-div, lt-irrefl, mul-div-cancel, div-lt-iff-lt-mul, mul-lt-mul-of-pos-right, lt-of-not-le, lt-of-lt-of-le, le-of-eq, le-of-suc-le-suc}
+use native.Mathlib.Nat.{mul-assoc, mul-one, mul-right-comm, zero-mul, zero-div, lt-irrefl, mul-div-cancel, div-lt-iff-lt-mul, mul-lt-mul-of-pos-right}
+use native.Mathlib.Nat.{lt-of-not-le, lt-of-lt-of-le, le-of-eq, le-of-suc-le-suc}
 use lib.Dec.{T, leb, ltb, eqb, ltb→lt, leb→le, lit<}
 use lib.IntN.{ℤ, pos, negsuc}
 use lib.Pow.{pow-pos, pow-add, pow-lt}

@@ -1,5 +1,5 @@
 -- The edge that two triangles share.
-use mathlib.Core.Path.{_≡_, refl}
+use mathlib.Core.Path.{_≡_}
 use mathlib.Core.Bool.{Bool, _||_}
 use mathlib.Core.List.{List}
 use Prim.Native.Nat.{ℕ, _+_, _*_, _≤_, _<_}
@@ -7,7 +7,8 @@ use lib.Dec.{ltb, eqb}
 use lib.ListN.{length}
 use borrow.Author.Tests.{lt-ltb, le-ltb}
 use Rattle.laws.specs.Pick.{pick}
-use Rattle.mesh.specs.Mesh.{EMPTY, pairOf}
+use Rattle.numbers.specs.Numbers.{EMPTY}
+use Rattle.mesh.specs.Mesh.{pairOf}
 
 -- a half-edge of the triangle whose first is f names e as its pair
 unfoldable pub namesOf : List ℕ → ℕ → ℕ → Bool
@@ -32,6 +33,7 @@ module _ (he : List ℕ) (a b : ℕ) where
   unfolding sharedEdgeOf
   no-second x f y q l p e h = rw (← q, ← p, ← e, lt-ltb (3 * x) (length he) l, le-ltb f (length he) h)
 
-  pub both-there : (x f y : ℕ) → x ≡ a → 3 * x < length he → y ≡ b → f ≡ 3 * y → f < length he → firstOf (3 * a) (namesOf he f (3 * a)) (namesOf he f (3 * a + 1)) (namesOf he f (3 * a + 2)) ≡ sharedEdgeOf he a b
+  pub both-there : (x f y : ℕ) → x ≡ a → 3 * x < length he → y ≡ b → f ≡ 3 * y → f < length he
+      → firstOf (3 * a) (namesOf he f (3 * a)) (namesOf he f (3 * a + 1)) (namesOf he f (3 * a + 2)) ≡ sharedEdgeOf he a b
   unfolding sharedEdgeOf
   both-there x f y q l p e h = rw (← q, ← p, ← e, lt-ltb (3 * x) (length he) l, lt-ltb f (length he) h)

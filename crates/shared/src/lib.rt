@@ -1,14 +1,12 @@
 // What two cells share, and what two triangles share: the tests of utils.rs on lent slices.
+use numbers::EMPTY;
 ghost use mathlib.Core.Path.{_≡_};
-ghost use Prim.Native.Nat.{ℕ, _+_, _*_, _%_, _<_, _≤_};
-ghost use lib.ListN.{length, getD};
+ghost use Prim.Native.Nat.{_+_, _%_, _<_, _≤_};
+ghost use lib.ListN.{length};
 ghost use Rattle.laws.specs.Decide.{Says};
 ghost use Rattle.laws.specs.Pick.{pick};
-ghost use Rattle.mesh.specs.Mesh.{EMPTY};
 ghost use Rattle.shared.specs.Cells.{Cells, cellOf, holdsOf, sharedOf, shareEdgeOf};
 ghost use Rattle.shared.specs.Edge.{namesOf, firstOf, sharedEdgeOf};
-
-const NONE: u32 = 4294967295;
 
 // Whether the offsets cut a list of `room` entries into cells.
 pub fn check_cells(offsets: &[u32], room: usize) -> bool
@@ -27,7 +25,7 @@ pub fn check_cells(offsets: &[u32], room: usize) -> bool
         }
         i += 1;
     }
-    mesh::wide(offsets[i - 1]) <= room
+    numbers::wide(offsets[i - 1]) <= room
 }
 
 // The cell of site s.
@@ -35,8 +33,8 @@ pub fn cell<'a>(offsets: &[u32], cells: &'a [u32], s: usize) -> &'a [u32]
     requires { ⌜ Cells (now offsets) (length (now cells)) × (s + 1 < length (now offsets)) ⌝ }
     ensures { λ r. ⌜ now r ≡ cellOf (now (offsets .entry)) (now (cells .entry)) s ⌝ }
 {
-    let from = mesh::wide(offsets[s]);
-    let to = mesh::wide(offsets[s + 1]);
+    let from = numbers::wide(offsets[s]);
+    let to = numbers::wide(offsets[s + 1]);
     &cells[from..to]
 }
 
@@ -105,7 +103,7 @@ fn first_of(e: u32, zero: bool, one: bool, two: bool) -> u32
     if two {
         return e + 2;
     }
-    NONE
+    EMPTY
 }
 
 // The half-edge of triangle a on the edge that it shares with triangle b, or `EMPTY`.
@@ -113,12 +111,12 @@ pub fn shared_edge(halfedges: &[u32], a: u32, b: u32) -> u32
     requires { ⌜ (length (now halfedges) % 3 ≡ 0) × (length (now halfedges) ≤ 4294967295) ⌝ }
     ensures { λ r. ⌜ r ≡ sharedEdgeOf (now (halfedges .entry)) a b ⌝ }
 {
-    if halfedges.len() <= 3 * mesh::wide(a) {
-        return NONE;
+    if halfedges.len() <= 3 * numbers::wide(a) {
+        return EMPTY;
     }
-    let f = 3 * mesh::wide(b);
+    let f = 3 * numbers::wide(b);
     if halfedges.len() <= f {
-        return NONE;
+        return EMPTY;
     }
     let e = 3 * a;
     first_of(

@@ -28,7 +28,8 @@ fn draw_cells(
     sites: usize,
 )
     requires { ⌜ Draws (now triangles) (now halfedges) (now hull) sites (length (now ix)) (length (now off)) ⌝ }
-    ensures { λ _. ⌜ Gathered (map unmarked (withRings (now (triangles .entry)) (now (halfedges .entry)) (replicate sites []))) (now (ix .entry)) (now (off .entry)) (now (ix .exit)) (now (off .exit)) ⌝ }
+    ensures { λ _. ⌜ Gathered (map unmarked (withRings (now (triangles .entry)) (now (halfedges .entry)) (replicate sites []))) (now (ix .entry))
+        (now (off .entry)) (now (ix .exit)) (now (off .exit)) ⌝ }
 {
     lay_out(triangles, hull, [0; 4], ix, off, sites);
     fill_rings(triangles, halfedges, ix, off, sites);
@@ -45,14 +46,17 @@ pub fn build_unclipped(
     ix: &mut [u32],
     off: &mut [u32],
 ) -> Fault
-    requires { ⌜ Accepted (now sites) (now triangles) (now halfedges) (now hull) × Rooms (length (now triangles) / 3) (length (now hull)) (siteCount (now sites)) (length (now v)) (length (now ix)) (length (now off)) ⌝ }
-    ensures { λ r. ⌜ (r ≡ faultOf (unclipped (now (sites .entry)) (now (triangles .entry)) (now (halfedges .entry)))) × Lent (unclipped (now (sites .entry)) (now (triangles .entry)) (now (halfedges .entry))) (now (v .entry)) (now (ix .entry)) (now (off .entry)) (now (v .exit)) (now (ix .exit)) (now (off .exit)) ⌝ }
+    requires { ⌜ Accepted (now sites) (now triangles) (now halfedges) (now hull)
+        × Rooms (length (now triangles) / 3) (length (now hull)) (siteCount (now sites)) (length (now v)) (length (now ix)) (length (now off)) ⌝ }
+    ensures { λ r. ⌜ (r ≡ faultOf (unclipped (now (sites .entry)) (now (triangles .entry)) (now (halfedges .entry))))
+        × Lent (unclipped (now (sites .entry)) (now (triangles .entry)) (now (halfedges .entry))) (now (v .entry)) (now (ix .entry))
+        (now (off .entry)) (now (v .exit)) (now (ix .exit)) (now (off .exit)) ⌝ }
 {
     let t = calculate_circumcenters(sites, triangles, v);
     if t < triangles.len() / 3 {
         clear_all(v, ix, off);
         return Fault {
-            number: 11,
+            number: numbers::REFUSED_CIRCUMCENTER,
             place: t as u32,
             from: 0,
             to: 0,

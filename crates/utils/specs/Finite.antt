@@ -15,7 +15,8 @@ use Rattle.root.specs.Sizes.{AtMost, Held, whole-held, add-most, most-of-bounde
 use Rattle.root.specs.Tested.{le-bound}
 use Rattle.root.specs.Order.{not-lt}
 use Rattle.laws.specs.And.{and-left, and-right, holds}
-use Rattle.laws.specs.Binary64.{_⊞_, _⊟_, _⊠_, huge}
+use Rattle.laws.specs.Binary64.{_⊞_, _⊟_, _⊠_}
+use Rattle.numbers.specs.Numbers.{huge}
 use Rattle.utils.specs.Plane.{dist2Of}
 use Rattle.utils.specs.Flat.{pointAt}
 use Rattle.utils.specs.Rules.{okCoord, okSite, okCentre}

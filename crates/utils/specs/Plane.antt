@@ -1,7 +1,8 @@
 -- The tolerance test, the squared distance and the circumcenter.
 use mathlib.Core.Bool.{Bool, cond}
 use lib.Ieee.{Float, lt, le}
-use Rattle.laws.specs.Binary64.{_⊞_, _⊟_, _⊠_, _⊘_, one, two, eps}
+use Rattle.laws.specs.Binary64.{_⊞_, _⊟_, _⊠_, _⊘_, one, two}
+use Rattle.numbers.specs.Numbers.{tolerance}
 use Rattle.utils.specs.declared.Point.{Point}
 
 abbrev pub at : Float → Float → Point
@@ -9,7 +10,7 @@ at x y = record { x = x; y = y }
 
 -- within 2^-50, by the computed difference
 unfoldable pub nearOf : Float → Float → Bool
-nearOf a b = le (cond (lt b a) (a ⊟ b) (b ⊟ a)) eps
+nearOf a b = le (cond (lt b a) (a ⊟ b) (b ⊟ a)) tolerance
 
 unfoldable pub dist2Of : Point → Point → Float
 dist2Of a b = (a .x ⊟ b .x) ⊠ (a .x ⊟ b .x) ⊞ (a .y ⊟ b .y) ⊠ (a .y ⊟ b .y)

@@ -5,7 +5,8 @@ use mathlib.Core.Bool.{Bool, true, false, true≢false, cond, _&&_, Bool·beq}
 use mathlib.Core.Logic.{⊎-elim}
 use Prim.{tt}
 use Prim.Native.Nat.{ℕ, zero, suc, _+_, _-_, _*_, _/_, _%_, _^_, _≤_, _<_}
-use native.Mathlib.Nat.{le-trans, le-of-eq, le-of-lt, lt-irrefl, lt-of-lt-of-le, mul-le-mul-right, mul-right-comm, one-mul, mul-pos, zero-lt-suc, le-div-iff-mul-le, div-lt-iff-lt-mul, div-mul-le-self, lt-of-le-of-lt, mul-lt-mul-of-pos-right}
+use native.Mathlib.Nat.{le-trans, le-of-eq, le-of-lt, lt-irrefl, lt-of-lt-of-le, mul-le-mul-right, mul-right-comm, one-mul, mul-pos, zero-lt-suc}
+use native.Mathlib.Nat.{le-div-iff-mul-le, div-lt-iff-lt-mul, div-mul-le-self, lt-of-le-of-lt, mul-lt-mul-of-pos-right}
 use native.Mathlib.Omega.{arith}
 use lib.Dec.{T, T-not, lit<, lit≤, eqb, ltb, leb, leb→le}
 use lib.IntN.{ℤ}
@@ -85,7 +86,8 @@ module _ (z s : Float) (Z : Bounded 101 z) (P : Plus s) (F : T (fits binary64 s)
       let r = root-of t (h .small) (S (2 ^ (t + t)) 1074 (power-held (t + t) 1074 (omega arith) (omega (arith, h .small))) q) in
       bounded-of-most (z ⊠ k) (suc t + 537) (537 + (0 + t)) 1 (omega arith) (mul-most (suc t) 537 537 (0 + t) (omega arith) (omega arith) z k (h .most) (over t (h .small) r))
 
-unit-one : (z s : Float) → Bounded 101 z → Plus s → T (fits binary64 s) → ((n j : ℕ) → Held n j → AtLeast n j (z ⊠ z) → AtLeast n j s) → AtLeast 1 1074 s → Bounded 1 (z ⊠ (one ⊘ sqrtOf s))
+unit-one : (z s : Float) → Bounded 101 z → Plus s → T (fits binary64 s) → ((n j : ℕ) → Held n j → AtLeast n j (z ⊠ z) → AtLeast n j s)
+    → AtLeast 1 1074 s → Bounded 1 (z ⊠ (one ⊘ sqrtOf s))
 unit-one nan s Z P F S some = absurd Z
 unit-one (inf u) s Z P F S some = absurd Z
 unit-one (fin u m e) s Z P F S some =

@@ -4,7 +4,8 @@ use lib.Ieee.{Float, le}
 use Prim.Native.Nat.{ℕ}
 use Rattle.root.specs.Root.{magnitude}
 use Rattle.laws.specs.Pick.{pick}
-use Rattle.laws.specs.Binary64.{zero, large, huge}
+use Rattle.laws.specs.Binary64.{zero}
+use Rattle.numbers.specs.Numbers.{large, huge}
 use Rattle.utils.specs.Plane.{centreOf}
 use Rattle.utils.specs.declared.Point.{Point}
 use Rattle.utils.specs.declared.Centre.{Centre}

@@ -32,8 +32,6 @@ pub fn point_at(v: &[f64], i: usize) -> Point
     }
 }
 
-const EPS: f64 = 8.881784197001252e-16;
-
 fn choose(c: bool, x: f64, y: f64) -> f64
     ensures { λ r. ⌜ r ≡ cond c x y ⌝ }
 {
@@ -43,7 +41,7 @@ fn choose(c: bool, x: f64, y: f64) -> f64
 pub fn abs_diff_eq(a: f64, b: f64) -> bool
     ensures { λ r. ⌜ r ≡ nearOf a b ⌝ }
 {
-    choose(a > b, a - b, b - a) <= EPS
+    choose(a > b, a - b, b - a) <= numbers::TOLERANCE
 }
 
 pub fn dist2(a: Point, b: Point) -> f64
@@ -100,10 +98,10 @@ fn answer(sites: bool, centre: bool, p: Point) -> Centre
         if centre {
             Centre::At(p)
         } else {
-            Centre::Refused(11)
+            Centre::Refused(numbers::REFUSED_CIRCUMCENTER)
         }
     } else {
-        Centre::Refused(6)
+        Centre::Refused(numbers::REFUSED_COORDINATE)
     }
 }
 
@@ -191,16 +189,16 @@ pub fn centroid(points: &[f64]) -> Centre
 {
     let count = points.len() / 2;
     if points.len() != 2 * count {
-        return Centre::Refused(1);
+        return Centre::Refused(numbers::REFUSED_COUNT);
     }
     if count == 0 {
-        return Centre::Refused(1);
+        return Centre::Refused(numbers::REFUSED_COUNT);
     }
     if 65536 < count {
-        return Centre::Refused(1);
+        return Centre::Refused(numbers::REFUSED_COUNT);
     }
     if first_bad_site(points) < count {
-        return Centre::Refused(6);
+        return Centre::Refused(numbers::REFUSED_COORDINATE);
     }
     Centre::At(centroid_of(points, count))
 }

@@ -3,10 +3,10 @@
 -- before the tail, since only the tail stands in it. How a near vertex is found is the store's own affair.
 use Prim.Native.Nat.{ℕ, _+_, _*_, _≤_, _<_}
 use mathlib.Core.Path.{_≡_}
-use mathlib.Core.List.{List, _++_}
+use mathlib.Core.List.{List}
 use lib.Ieee.{Float}
 use lib.ListN.{length, take, drop}
-use Rattle.utils.specs.Flat.{points, pour}
+use Rattle.utils.specs.Flat.{pour}
 use Rattle.utils.specs.declared.Point.{Point}
 use Rattle.vertices.specs.Add.{Added}
 use Rattle.vertices.specs.declared.Placed.{Placed}

@@ -5,3 +5,4 @@ pub mod PlaneOne
 pub mod Walks
 pub mod Builds
 pub mod Examples
+pub mod laws

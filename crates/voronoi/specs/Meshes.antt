@@ -9,10 +9,10 @@ use Rattle.mesh.specs.declared.Fault.{Fault}
 use Rattle.mesh.specs.Mesh.{leftmostIn}
 use Rattle.mesh.specs.Rules.{numberOf}
 use Rattle.mesh.specs.Accepted.{Accepted, siteCount}
-use Rattle.checker.specs.Answers.{Finding, MeshAnswer, workAfter}
-use Rattle.checker.specs.Laws.{found-none, none-found}
+use Rattle.check_mesh.specs.Answers.{Finding, MeshAnswer, workAfter}
+use Rattle.check_mesh.specs.Laws.{found-none, none-found}
 use Rattle.laws.specs.Refusals.{finds-one}
-use Rattle.checker.specs.Steps.{work-table}
+use Rattle.check_mesh.specs.Steps.{work-table}
 
 -- r is the number of what is found, and new what the work slice holds then, old what it held before
 pub record Check (sites : List Float) (tri he hull old new : List ℕ) (r : ℕ) : Type 0 where

@@ -9,6 +9,7 @@ use lib.ListN.{length, getD, replicate}
 use lib.Ieee.{Float, nan}
 use Rattle.laws.specs.Binary64.{zero}
 use Rattle.laws.specs.Pick.{pick}
+use Rattle.numbers.specs.Numbers.{EMPTY}
 use Rattle.utils.specs.Plane.{nearOf, dist2Of}
 use Rattle.utils.specs.Flat.{flat}
 use Rattle.utils.specs.Rules as centre
@@ -32,9 +33,6 @@ numberBy frame points = pick frame (λ _. pick points (λ _. 0) (λ _. 6)) (λ _
 
 unfoldable pub valueIf : Bool → Float → Float
 valueIf ok x = pick ok (λ _. x) (λ _. zero)
-
-abbrev pub EMPTY : ℕ
-EMPTY = 4294967295
 
 unfoldable pub sideIf : Bool → ℕ → ℕ
 sideIf ok side = pick ok (λ _. pick (eqb side 4) (λ _. EMPTY) (λ _. side)) (λ _. EMPTY)

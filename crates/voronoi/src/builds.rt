@@ -22,7 +22,9 @@ pub extern "C" fn voronoi_build(
     offsets: &mut [u32],
     counts: &mut [u32],
 ) -> u32
-    ensures { λ r. ⌜ Build (now (sites .entry)) (now (triangles .entry)) (now (halfedges .entry)) (now (hull .entry)) (at cx cy) width height (slices (now (work .entry)) (now (vertices .entry)) (now (indexes .entry)) (now (offsets .entry)) (now (counts .entry))) (slices (now (work .exit)) (now (vertices .exit)) (now (indexes .exit)) (now (offsets .exit)) (now (counts .exit))) r ⌝ }
+    ensures { λ r. ⌜ Build (now (sites .entry)) (now (triangles .entry)) (now (halfedges .entry)) (now (hull .entry)) (at cx cy) width height
+        (slices (now (work .entry)) (now (vertices .entry)) (now (indexes .entry)) (now (offsets .entry)) (now (counts .entry)))
+        (slices (now (work .exit)) (now (vertices .exit)) (now (indexes .exit)) (now (offsets .exit)) (now (counts .exit))) r ⌝ }
 {
     let c = Point { x: cx, y: cy };
     building::build(
@@ -54,7 +56,9 @@ pub extern "C" fn voronoi_build_unclipped(
     offsets: &mut [u32],
     counts: &mut [u32],
 ) -> u32
-    ensures { λ r. ⌜ BuildUnclipped (now (sites .entry)) (now (triangles .entry)) (now (halfedges .entry)) (now (hull .entry)) (slices (now (work .entry)) (now (vertices .entry)) (now (indexes .entry)) (now (offsets .entry)) (now (counts .entry))) (slices (now (work .exit)) (now (vertices .exit)) (now (indexes .exit)) (now (offsets .exit)) (now (counts .exit))) r ⌝ }
+    ensures { λ r. ⌜ BuildUnclipped (now (sites .entry)) (now (triangles .entry)) (now (halfedges .entry)) (now (hull .entry))
+        (slices (now (work .entry)) (now (vertices .entry)) (now (indexes .entry)) (now (offsets .entry)) (now (counts .entry)))
+        (slices (now (work .exit)) (now (vertices .exit)) (now (indexes .exit)) (now (offsets .exit)) (now (counts .exit))) r ⌝ }
 {
     building::build_unclipped(
         sites,

@@ -12,6 +12,6 @@ pub extern "C" fn voronoi_check(
 ) -> u32
     ensures { λ r. ⌜ Check (now (sites .entry)) (now (triangles .entry)) (now (halfedges .entry)) (now (hull .entry)) (now (work .entry)) (now (work .exit)) r ⌝ }
 {
-    let f = checker::check_mesh(sites, triangles, halfedges, hull, work);
-    checker::number(f)
+    let f = check_mesh::check_mesh(sites, triangles, halfedges, hull, work);
+    check_mesh::number(f)
 }

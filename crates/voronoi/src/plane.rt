@@ -1,4 +1,5 @@
 // Points and the box. A box is its centre, width and height; 3 is tried on it, then 6 on each point. A lent number is always written: 0 (a side: EMPTY) where the call refuses.
+use numbers::EMPTY;
 use utils::Point;
 ghost use mathlib.Core.Path.{_≡_};
 ghost use Prim.Native.Nat.{_≤_};
@@ -8,8 +9,6 @@ ghost use Rattle.utils.specs.Flat.{pour};
 ghost use Rattle.bounding_box.specs.Box.{cornersOf};
 ghost use Rattle.crossings.specs.Rules.{lineAnswer, rayAnswer};
 ghost use Rattle.voronoi.specs.Plane.{bit, numberBy, valueIf, sideIf, Near, Dist2, Circumcenter, Centroid, Edges, Corners, Inside, ExclusivelyInside, WhichEdge, Meets};
-
-const EMPTY: u32 = 4294967295;
 
 fn yes(b: bool) -> u32
     ensures { λ r. ⌜ r ≡ bit b ⌝ }
@@ -33,7 +32,7 @@ fn side_if(ok: bool, side: u32) -> u32
     ensures { λ r. ⌜ r ≡ sideIf ok side ⌝ }
 {
     if ok {
-        if side == bounding_box::NONE {
+        if side == bounding_box::NO_SIDE {
             EMPTY
         } else {
             side
@@ -146,11 +145,11 @@ pub extern "C" fn voronoi_corners(cx: f64, cy: f64, width: f64, height: f64, out
     ensures { λ r. ⌜ Corners (at cx cy) width height (now (out .entry)) r (now (out .exit)) ⌝ }
 {
     if out.len() < 8 {
-        return 2;
+        return numbers::REFUSED_ROOM;
     }
     let c = Point { x: cx, y: cy };
     if !bounding_box::box_ok(c, width, height) {
-        return 3;
+        return numbers::REFUSED_BOX;
     }
     put_corners(bounding_box::new(c, width, height), out);
     layout::clear_floats_from(out, 8);

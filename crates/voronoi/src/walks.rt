@@ -25,7 +25,8 @@ pub extern "C" fn voronoi_walk(
     count: &mut u32,
     ended: &mut u32,
 ) -> u32
-    ensures { λ r. ⌜ Walk (now (sites .entry)) (now (triangles .entry)) (now (halfedges .entry)) (now (hull .entry)) site (now (work .entry)) (now (work .exit)) (now (out .entry)) (now (out .exit)) (now (count .exit)) (now (ended .exit)) r ⌝ }
+    ensures { λ r. ⌜ Walk (now (sites .entry)) (now (triangles .entry)) (now (halfedges .entry)) (now (hull .entry)) site (now (work .entry))
+        (now (work .exit)) (now (out .entry)) (now (out .exit)) (now (count .exit)) (now (ended .exit)) r ⌝ }
 {
     let r = queries::walk(sites, triangles, halfedges, hull, site, work, out);
     *count = r.count;
@@ -46,7 +47,8 @@ pub extern "C" fn voronoi_neighbours(
     count: &mut u32,
     ended: &mut u32,
 ) -> u32
-    ensures { λ r. ⌜ Neighbours (now (sites .entry)) (now (triangles .entry)) (now (halfedges .entry)) (now (hull .entry)) site (now (work .entry)) (now (work .exit)) (now (out .entry)) (now (out .exit)) (now (count .exit)) (now (ended .exit)) r ⌝ }
+    ensures { λ r. ⌜ Neighbours (now (sites .entry)) (now (triangles .entry)) (now (halfedges .entry)) (now (hull .entry)) site (now (work .entry))
+        (now (work .exit)) (now (out .entry)) (now (out .exit)) (now (count .exit)) (now (ended .exit)) r ⌝ }
 {
     let r = queries::neighbours(sites, triangles, halfedges, hull, site, work, out);
     *count = r.count;
@@ -69,7 +71,8 @@ pub extern "C" fn voronoi_clipped_neighbours(
     count: &mut u32,
     ended: &mut u32,
 ) -> u32
-    ensures { λ r. ⌜ ClippedNeighbours (now (sites .entry)) (now (triangles .entry)) (now (halfedges .entry)) (now (hull .entry)) (now (offsets .entry)) (now (indexes .entry)) site (now (work .entry)) (now (work .exit)) (now (out .entry)) (now (out .exit)) (now (count .exit)) (now (ended .exit)) r ⌝ }
+    ensures { λ r. ⌜ ClippedNeighbours (now (sites .entry)) (now (triangles .entry)) (now (halfedges .entry)) (now (hull .entry))
+        (now (offsets .entry)) (now (indexes .entry)) site (now (work .entry)) (now (work .exit)) (now (out .entry)) (now (out .exit)) (now (count .exit)) (now (ended .exit)) r ⌝ }
 {
     let r = queries::clipped_neighbours(
         sites,
@@ -102,7 +105,8 @@ pub extern "C" fn voronoi_path(
     count: &mut u32,
     ended: &mut u32,
 ) -> u32
-    ensures { λ r. ⌜ Path (now (sites .entry)) (now (triangles .entry)) (now (halfedges .entry)) (now (hull .entry)) site (at x y) (now (work .entry)) (now (work .exit)) (now (out .entry)) (now (out .exit)) (now (count .exit)) (now (ended .exit)) r ⌝ }
+    ensures { λ r. ⌜ Path (now (sites .entry)) (now (triangles .entry)) (now (halfedges .entry)) (now (hull .entry)) site (at x y)
+        (now (work .entry)) (now (work .exit)) (now (out .entry)) (now (out .exit)) (now (count .exit)) (now (ended .exit)) r ⌝ }
 {
     let p = Point { x, y };
     let r = queries::path(sites, triangles, halfedges, hull, site, p, work, out);

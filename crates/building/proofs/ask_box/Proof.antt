@@ -6,9 +6,6 @@ use Rattle.building.specs.Promise.{boxAsk}
 use Rattle.building.proofs.ask_box.Statement.{statement}
 use Rattle.building.proofs.ask_box.Tie as tie
 
-box-ok-requires : tie.Need-box-ok-requires
-box-ok-requires c κs = search needs
-
 returns : tie.Need-returns
 unfolding boxAsk
 returns c = (rw (sym (c .before .box-ok .ensures) ∙ c .if1 .taken), omega arith)
@@ -18,4 +15,4 @@ unfolding boxAsk
 returns-2 c = (rw (sym (c .before .box-ok .ensures) ∙ c .if1 .left), omega arith)
 
 pub ask-box-spec : {M : Type 1} → statement M
-ask-box-spec = tie.close (tie.spec box-ok-requires returns returns-2)
+ask-box-spec = tie.close (tie.spec (λ c κs. search needs) returns returns-2)

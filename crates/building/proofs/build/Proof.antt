@@ -2,8 +2,8 @@
 use mathlib.Core.Path.{sym, _∙_}
 use native.Mathlib.Omega.{arith}
 use lib.ListN.{length-take}
-use Rattle.building.proofs.Outcome.{table-fits, six-of}
-use Rattle.building.proofs.Clipping.{clipped-early, clipped-asks, count-fits, clipped-built}
+use Rattle.building.specs.laws.Outcome.{table-fits, six-of}
+use Rattle.building.specs.laws.Clipping.{clipped-early, clipped-asks, count-fits, clipped-built}
 use borrow.Author.Needs.{needs}
 use Rattle.building.proofs.build.Tie as tie
 use Rattle.building.proofs.build.Statement.{statement}
@@ -20,34 +20,10 @@ Made c = c .before .before .before .before .before .before
 abbrev Accepts : tie.After-build-cells → tie.Else1
 Accepts c = c .before .before .before .before .before .before
 
-ask-box-requires : tie.Need-ask-box-requires
-ask-box-requires c κs = search needs
-
-admit-build-requires : tie.Need-admit-build-requires
-admit-build-requires c κs = search needs
-
-same-length : tie.Need-same-length
-same-length c = search needs
-
-same-length-2 : tie.Need-same-length-2
-same-length-2 c = search needs
-
-same-length-3 : tie.Need-same-length-3
-same-length-3 c = search needs
-
-same-length-4 : tie.Need-same-length-4
-same-length-4 c = search needs
-
-same-length-5 : tie.Need-same-length-5
-same-length-5 c = search needs
-
 returns : tie.Need-returns
 returns c =
     let a = Admit (c .before) in
     clipped-early (a .admit-build .ensures) _ _ _ (Asked a .ask-box .ensures .0) (c .if1 .taken)
-
-new-requires : tie.Need-new-requires
-new-requires c κs = search needs
 
 slice-reshare-prefix-build-cells : tie.Need-slice-reshare-prefix-build-cells
 slice-reshare-prefix-build-cells c = table-fits (Admit (c .before .before) .admit-build .ensures) (c .before .if1 .left)
@@ -74,19 +50,34 @@ finish-requires c κs =
     six-of (Admit (e .before) .admit-build .ensures) (e .if1 .left)
 
 same-length-6 : tie.Need-same-length-6
-same-length-6 c = c .before .before .before .work2 .given ∙ c .before .before .before .before .before .before .before .before .before .before .before .before .before .before .before .before .before .before .before .before .before .before .before .before .before .before .before .before .before .before .before .before .work .given
+same-length-6 c =
+    let back = c .before .before .before .before .before .before .before .before .before .before .before .before .before .before .before in
+    let at-work = back .before .before .before .before .before .before .before .before .before .before .before .before .before .before .before .before .before in
+    c .before .before .before .work2 .given ∙ at-work .work .given
 
 same-length-7 : tie.Need-same-length-7
-same-length-7 c = c .before .before .before .before .before .before .before .before .before .before .before .before .before .before .before .v2 .given ∙ c .before .before .before .before .before .before .before .before .before .before .before .before .before .before .before .before .before .before .before .before .before .before .before .before .before .before .before .before .before .before .v .given
+same-length-7 c =
+    let at-v2 = c .before .before .before .before .before .before .before .before .before .before .before .before .before .before .before in
+    let at-v = at-v2 .before .before .before .before .before .before .before .before .before .before .before .before .before .before .before in
+    at-v2 .v2 .given ∙ at-v .v .given
 
 same-length-8 : tie.Need-same-length-8
-same-length-8 c = c .before .before .before .before .before .before .before .before .before .before .before .before .before .ix2 .given ∙ c .before .before .before .before .before .before .before .before .before .before .before .before .before .before .before .before .before .before .before .before .before .before .before .before .before .before .before .before .ix .given
+same-length-8 c =
+    let at-ix2 = c .before .before .before .before .before .before .before .before .before .before .before .before .before in
+    let at-ix = at-ix2 .before .before .before .before .before .before .before .before .before .before .before .before .before .before .before in
+    at-ix2 .ix2 .given ∙ at-ix .ix .given
 
 same-length-9 : tie.Need-same-length-9
-same-length-9 c = c .before .before .before .before .before .before .before .before .before .before .before .off2 .given ∙ c .before .before .before .before .before .before .before .before .before .before .before .before .before .before .before .before .before .before .before .before .before .before .before .before .before .before .off .given
+same-length-9 c =
+    let at-off2 = c .before .before .before .before .before .before .before .before .before .before .before in
+    let at-off = at-off2 .before .before .before .before .before .before .before .before .before .before .before .before .before .before .before in
+    at-off2 .off2 .given ∙ at-off .off .given
 
 same-length-10 : tie.Need-same-length-10
-same-length-10 c = c .before .counts2 .given ∙ c .before .before .before .before .before .before .before .before .before .before .before .before .before .before .before .before .before .before .before .before .before .before .before .before .counts .given
+same-length-10 c =
+    let back = c .before .before .before .before .before .before .before .before .before .before .before .before .before .before .before in
+    let at-counts = back .before .before .before .before .before .before .before .before .before in
+    c .before .counts2 .given ∙ at-counts .counts .given
 
 returns-2 : tie.Need-returns-2
 returns-2 c =
@@ -100,24 +91,7 @@ returns-2 c =
 pub build-spec : {M : Type 1} → statement M
 build-spec =
     tie.close
-    (tie.spec
-    ask-box-requires
-    admit-build-requires
-    same-length
-    same-length-2
-    same-length-3
-    same-length-4
-    same-length-5
-    returns
-    new-requires
-    slice-reshare-prefix-build-cells
-    slice-aggregate-build-cells
-    build-cells-requires
-    cast-finish
-    finish-requires
-    same-length-6
-    same-length-7
-    same-length-8
-    same-length-9
-    same-length-10
-    returns-2)
+    (tie.spec (λ c κs. search needs) (λ c κs. search needs) (λ c. search needs) (λ c. search needs) (λ c. search needs)
+    (λ c. search needs) (λ c. search needs) returns (λ c κs. search needs) slice-reshare-prefix-build-cells
+    slice-aggregate-build-cells build-cells-requires cast-finish finish-requires same-length-6 same-length-7
+    same-length-8 same-length-9 same-length-10 returns-2)

@@ -1,7 +1,7 @@
 -- `building::build_unclipped` meets its contract: refused by the rules up to 10, or the outcome of the unclipped definition decides.
 use native.Mathlib.Omega.{arith}
 use Rattle.building.specs.Refusals.{unclipped-late}
-use Rattle.building.proofs.Outcome.{answers-early, mesh-of, rooms-of, six-of, answers-built, unclipped-counts}
+use Rattle.building.specs.laws.Outcome.{answers-early, mesh-of, rooms-of, six-of, answers-built, unclipped-counts}
 use borrow.Author.Needs.{needs}
 use Rattle.building.proofs.build_unclipped.Tie as tie
 use Rattle.building.proofs.build_unclipped.Statement.{statement}
@@ -14,24 +14,6 @@ Made c = c .before .before .before .before .before .before
 
 abbrev Accepts : tie.After-build-unclipped → tie.Else1
 Accepts c = c .before .before .before .before
-
-admit-build-requires : tie.Need-admit-build-requires
-admit-build-requires c κs = search needs
-
-same-length : tie.Need-same-length
-same-length c = search needs
-
-same-length-2 : tie.Need-same-length-2
-same-length-2 c = search needs
-
-same-length-3 : tie.Need-same-length-3
-same-length-3 c = search needs
-
-same-length-4 : tie.Need-same-length-4
-same-length-4 c = search needs
-
-same-length-5 : tie.Need-same-length-5
-same-length-5 c = search needs
 
 returns : tie.Need-returns
 returns c = answers-early (Admit (c .before) .admit-build .ensures) _ (c .if1 .taken)
@@ -53,21 +35,6 @@ finish-requires c κs =
     let e = Accepts (Made (c .before .before)) in
     six-of (Admit (e .before) .admit-build .ensures) (e .if1 .left)
 
-same-length-6 : tie.Need-same-length-6
-same-length-6 c = search needs
-
-same-length-7 : tie.Need-same-length-7
-same-length-7 c = search needs
-
-same-length-8 : tie.Need-same-length-8
-same-length-8 c = search needs
-
-same-length-9 : tie.Need-same-length-9
-same-length-9 c = search needs
-
-same-length-10 : tie.Need-same-length-10
-same-length-10 c = search needs
-
 returns-2 : tie.Need-returns-2
 returns-2 c =
     let f = c .before .before .before .before in
@@ -79,20 +46,6 @@ returns-2 c =
 pub build-unclipped-spec : {M : Type 1} → statement M
 build-unclipped-spec =
     tie.close
-    (tie.spec
-    admit-build-requires
-    same-length
-    same-length-2
-    same-length-3
-    same-length-4
-    same-length-5
-    returns
-    build-unclipped-requires
-    cast-finish
-    finish-requires
-    same-length-6
-    same-length-7
-    same-length-8
-    same-length-9
-    same-length-10
-    returns-2)
+    (tie.spec (λ c κs. search needs) (λ c. search needs) (λ c. search needs) (λ c. search needs) (λ c. search needs)
+    (λ c. search needs) returns build-unclipped-requires cast-finish finish-requires (λ c. search needs)
+    (λ c. search needs) (λ c. search needs) (λ c. search needs) (λ c. search needs) returns-2)

@@ -4,29 +4,12 @@ use borrow.Author.Needs.{needs}
 use Rattle.building.proofs.finish.Statement.{statement}
 use Rattle.building.proofs.finish.Tie as tie
 
-clear-requires : tie.Need-clear-requires
-clear-requires c κs = search needs
-
-clear-requires-2 : tie.Need-clear-requires-2
-clear-requires-2 c κs = search needs
-
-same-length : tie.Need-same-length
-same-length c = search needs
-
-same-length-2 : tie.Need-same-length-2
-same-length-2 c = search needs
-
 returns : tie.Need-returns
 returns c =
+    let at-clear = c .before .before .before .before .before .before in
     let t = c .before .before .before .before .before .before .before .before in
     let n = ne-eqb _ 0 (t .if1 .taken) in
-    record { work = rw n (c .before .before .before .before .before .before .clear .ensures); counts = rw n (c .before .before .clear2 .ensures) }
-
-put-counts-requires : tie.Need-put-counts-requires
-put-counts-requires c κs = search needs
-
-same-length-3 : tie.Need-same-length-3
-same-length-3 c = search needs
+    record { work = rw n (at-clear .clear .ensures); counts = rw n (c .before .before .clear2 .ensures) }
 
 returns-2 : tie.Need-returns-2
 returns-2 c =
@@ -36,12 +19,5 @@ returns-2 c =
 pub finish-spec : {M : Type 1} → statement M
 finish-spec =
     tie.close
-    (tie.spec
-    clear-requires
-    clear-requires-2
-    same-length
-    same-length-2
-    returns
-    put-counts-requires
-    same-length-3
-    returns-2)
+    (tie.spec (λ c κs. search needs) (λ c κs. search needs) (λ c. search needs) (λ c. search needs) returns
+    (λ c κs. search needs) (λ c. search needs) returns-2)

@@ -2,34 +2,19 @@
 use mathlib.Core.Path.{_≡_, _∙_}
 use native.Mathlib.Omega.{arith}
 use lib.ListN.{length, length-set}
-use Rattle.building.proofs.Counting.{counted}
+use Rattle.building.specs.laws.Counting.{counted}
 use borrow.Author.Needs.{needs}
 use Rattle.building.proofs.put_counts.Statement.{statement}
 use Rattle.building.proofs.put_counts.Tie as tie
 
-slice-write-counts : tie.Need-slice-write-counts
-slice-write-counts c = search needs
-
-array-read-counts : tie.Need-array-read-counts
-array-read-counts c = search needs
-
 slice-write-counts-2 : tie.Need-slice-write-counts-2
 slice-write-counts-2 c = simp length-set (omega arith)
-
-array-read-counts-2 : tie.Need-array-read-counts-2
-array-read-counts-2 c = search needs
 
 slice-write-counts-3 : tie.Need-slice-write-counts-3
 slice-write-counts-3 c = simp length-set (omega arith)
 
-array-read-counts-3 : tie.Need-array-read-counts-3
-array-read-counts-3 c = search needs
-
 slice-write-counts-4 : tie.Need-slice-write-counts-4
 slice-write-counts-4 c = simp length-set (omega arith)
-
-array-read-counts-4 : tie.Need-array-read-counts-4
-array-read-counts-4 c = search needs
 
 slice-write-counts-5 : tie.Need-slice-write-counts-5
 slice-write-counts-5 c = simp length-set (omega arith)
@@ -52,17 +37,6 @@ returns c =
 pub put-counts-spec : {M : Type 1} → statement M
 put-counts-spec =
     tie.close
-    (tie.spec
-    slice-write-counts
-    array-read-counts
-    slice-write-counts-2
-    array-read-counts-2
-    slice-write-counts-3
-    array-read-counts-3
-    slice-write-counts-4
-    array-read-counts-4
-    slice-write-counts-5
-    slice-write-counts-6
-    fill-from-requires
-    same-length
-    returns)
+    (tie.spec (λ c. search needs) (λ c. search needs) slice-write-counts-2 (λ c. search needs) slice-write-counts-3
+    (λ c. search needs) slice-write-counts-4 (λ c. search needs) slice-write-counts-5 slice-write-counts-6
+    fill-from-requires same-length returns)

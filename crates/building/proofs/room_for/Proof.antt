@@ -2,12 +2,9 @@
 use borrow.Author.Needs.{needs}
 use native.Mathlib.Omega.{arith}
 use Rattle.laws.specs.Decide.{refused, granted}
-use Rattle.building.proofs.Rooming.{no-counts, no-table, no-six, by-outputs}
+use Rattle.building.specs.laws.Rooming.{no-counts, no-table, no-six, by-outputs}
 use Rattle.building.proofs.room_for.Statement.{statement}
 use Rattle.building.proofs.room_for.Tie as tie
-
-counts-ok-requires : tie.Need-counts-ok-requires
-counts-ok-requires c κs = search needs
 
 returns : tie.Need-returns
 returns c = no-counts _ _ _ _ _ _ _ _ _ (refused (c .before .counts-ok .result) (c .if1 .taken) (c .before .counts-ok .ensures))
@@ -28,6 +25,4 @@ returns-4 : tie.Need-returns-4
 returns-4 c = by-outputs _ _ _ _ _ _ _ _ _ (c .before .before .if2 .left) (c .before .if3 .left) (c .rooms-ok .result) (c .rooms-ok .ensures)
 
 pub room-for-spec : {M : Type 1} → statement M
-room-for-spec =
-    tie.close
-    (tie.spec counts-ok-requires returns returns-2 returns-3 rooms-ok-requires returns-4)
+room-for-spec = tie.close (tie.spec (λ c κs. search needs) returns returns-2 returns-3 rooms-ok-requires returns-4)

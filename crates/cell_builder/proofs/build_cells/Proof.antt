@@ -1,11 +1,9 @@
 -- `cell_builder::build_cells` meets its contract: the circumcenters decide, then extensions and cells; refused, all is cleared, else the cells are moved together.
-use mathlib.Core.Path.{_≡_, refl, _∙_}
-use Prim.Native.Nat.{_*_, _/_, _≤_, _<_}
+use mathlib.Core.Path.{_∙_}
 use native.Mathlib.Omega.{arith}
-use lib.ListN.{length}
 use borrow.Author.Needs.{needs}
-use Rattle.cell_builder.proofs.Starting.{named}
-use Rattle.cell_builder.proofs.Finishing.{owned, owners-are, makeable, finishable, refused-first, refused-later, built-with}
+use Rattle.cell_builder.specs.laws.Starting.{named}
+use Rattle.cell_builder.specs.laws.Finishing.{owned, owners-are, makeable, finishable, refused-first, refused-later, built-with}
 use Rattle.cell_builder.proofs.build_cells.Statement.{statement}
 use Rattle.cell_builder.proofs.build_cells.Tie as tie
 
@@ -29,21 +27,6 @@ Made c = c .before .before .before .before .before .before .before .before
 calculate-circumcenters-requires : tie.Need-calculate-circumcenters-requires
 calculate-circumcenters-requires c κs = let e = Entry c in (named (e .pre), omega (arith, e .pre .rooms .vertices))
 
-cast-t25 : tie.Need-cast-t25
-cast-t25 c = search needs
-
-refuse-requires : tie.Need-refuse-requires
-refuse-requires c κs = search needs
-
-same-length : tie.Need-same-length
-same-length c = search needs
-
-same-length-2 : tie.Need-same-length-2
-same-length-2 c = search needs
-
-same-length-3 : tie.Need-same-length-3
-same-length-3 c = search needs
-
 returns : tie.Need-returns
 returns c =
     let k = c .before .before .before .before .before .before in
@@ -52,10 +35,6 @@ returns c =
     let t = w .before in
     let e = Entry (t .before) in
     refused-first (e .pre) _ _ _ _ _ _ _ _ _ (t .calculate-circumcenters .ensures) (i .if1 .taken) (w .v .given) (k .refuse .ensures .0) (k .refuse .ensures .1)
-
-shared-slice-read-calculate-corner-ownership :
-    tie.Need-shared-slice-read-calculate-corner-ownership
-shared-slice-read-calculate-corner-ownership c = search needs
 
 calculate-corner-ownership-requires : tie.Need-calculate-corner-ownership-requires
 calculate-corner-ownership-requires c κs = let e = Entry (Centres (c .before) .before) in owned (e .pre)
@@ -67,17 +46,11 @@ make-cells-requires c κs =
     let e = Entry (t .before) in
     makeable (e .pre) _ _ (owners-are (e .pre) (o .calculate-corner-ownership .ensures)) (Tested o .before .before .v .given)
 
-refuse-requires-2 : tie.Need-refuse-requires-2
-refuse-requires-2 c κs = search needs
-
 same-length-4 : tie.Need-same-length-4
-same-length-4 c = let s = c .before .before .before .before .before .before .before .before .before .before .before in c .before .before .before .before .before .v4 .given ∙ s .before .before .before .before .before .before .before .v3 .given ∙ Tested (Found (Made s)) .before .before .v .given
-
-same-length-5 : tie.Need-same-length-5
-same-length-5 c = search needs
-
-same-length-6 : tie.Need-same-length-6
-same-length-6 c = search needs
+same-length-4 c =
+    let at-v4 = c .before .before .before .before .before in
+    let s = c .before .before .before .before .before .before .before .before .before .before .before in at-v4 .v4 .given
+    ∙ s .before .before .before .before .before .before .before .v3 .given ∙ Tested (Found (Made s)) .before .before .v .given
 
 returns-2 : tie.Need-returns-2
 returns-2 c =
@@ -104,13 +77,10 @@ finish-requires c κs =
     finishable (e .pre) _ (owners-are (e .pre) (o .calculate-corner-ownership .ensures)) _ _ _ _ _ (m .make-cells .ensures) (i .if2 .left)
 
 same-length-7 : tie.Need-same-length-7
-same-length-7 c = let s = c .before .before .before .before .before .before .before .before .before .before .before in c .before .before .before .before .before .v5 .given ∙ s .before .before .before .before .before .before .before .v3 .given ∙ Tested (Found (Made s)) .before .before .v .given
-
-same-length-8 : tie.Need-same-length-8
-same-length-8 c = search needs
-
-same-length-9 : tie.Need-same-length-9
-same-length-9 c = search needs
+same-length-7 c =
+    let at-v5 = c .before .before .before .before .before in
+    let s = c .before .before .before .before .before .before .before .before .before .before .before in at-v5 .v5 .given
+    ∙ s .before .before .before .before .before .before .before .v3 .given ∙ Tested (Found (Made s)) .before .before .v .given
 
 returns-3 : tie.Need-returns-3
 returns-3 c =
@@ -131,24 +101,7 @@ returns-3 c =
 pub build-cells-spec : {M : Type 1} → statement M
 build-cells-spec =
     tie.close
-    (tie.spec
-    calculate-circumcenters-requires
-    cast-t25
-    refuse-requires
-    same-length
-    same-length-2
-    same-length-3
-    returns
-    shared-slice-read-calculate-corner-ownership
-    calculate-corner-ownership-requires
-    make-cells-requires
-    refuse-requires-2
-    same-length-4
-    same-length-5
-    same-length-6
-    returns-2
-    finish-requires
-    same-length-7
-    same-length-8
-    same-length-9
-    returns-3)
+    (tie.spec calculate-circumcenters-requires (λ c. search needs) (λ c κs. search needs) (λ c. search needs)
+    (λ c. search needs) (λ c. search needs) returns (λ c. search needs) calculate-corner-ownership-requires
+    make-cells-requires (λ c κs. search needs) same-length-4 (λ c. search needs) (λ c. search needs) returns-2
+    finish-requires same-length-7 (λ c. search needs) (λ c. search needs) returns-3)

@@ -1,11 +1,6 @@
 use borrow.Author.Needs.{needs}
 use Rattle.cell_builder.proofs.finish.Statement.{statement}
 use Rattle.cell_builder.proofs.finish.Tie as tie
-use Rattle.cell_builder.proofs.finish.Reads as reads
-use Rattle.cell_builder.proofs.finish.Lts as lts
-use Rattle.cell_builder.proofs.left_over.Reads as left-over-reads
-use Rattle.layout.proofs.clear_floats_from.Reads as clear-floats-from-reads
-use Rattle.outputs.proofs.gather.Reads as gather-reads
 
 -- src/lib.rt:120:5
 gather-requires : tie.Need-gather-requires

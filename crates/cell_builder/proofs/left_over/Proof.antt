@@ -1,11 +1,11 @@
 -- `cell_builder::left_over` meets its contract: those counted and those still to come are all that are left.
-use mathlib.Core.Path.{_≡_, refl, sym, ap, _∙_}
-use Prim.Native.Nat.{_+_, _-_, _≤_, _<_}
+use mathlib.Core.Path.{_≡_}
+use Prim.Native.Nat.{_+_, _-_, _≤_}
 use native.Mathlib.Omega.{arith}
-use lib.ListN.{length, getD, drop}
+use lib.ListN.{length, drop}
 use borrow.Author.Needs.{needs}
 use Rattle.definition.specs.Theorems.{leftOf}
-use Rattle.cell_builder.proofs.LeftOver.{left-step, left-all}
+use Rattle.cell_builder.specs.laws.LeftOver.{left-step, left-all}
 use Rattle.cell_builder.proofs.left_over.Statement.{statement}
 use Rattle.cell_builder.proofs.left_over.Tie as tie
 
@@ -18,23 +18,8 @@ abbrev μ-loop : tie.MeasureT-loop
 loop-holds : tie.Need-loop-holds Inv-loop μ-loop
 loop-holds c = (search needs, omega arith, omega arith, omega arith)
 
-mul-still : tie.Need-mul-still Inv-loop μ-loop
-mul-still c = omega arith
-
-array-read-still : tie.Need-array-read-still Inv-loop μ-loop
-array-read-still c = omega arith
-
-still-requires : tie.Need-still-requires Inv-loop μ-loop
-still-requires c κs = search needs
-
 add-n : tie.Need-add-n Inv-loop μ-loop
 add-n c = omega (arith, c .still .ensures .1)
-
-add-k : tie.Need-add-k Inv-loop μ-loop
-add-k c = omega arith
-
-loop-less : tie.Need-loop-less Inv-loop μ-loop
-loop-less c = omega arith
 
 loop-again : tie.Need-loop-again Inv-loop μ-loop
 loop-again c =
@@ -48,15 +33,5 @@ returns c = let l = c .before in let i = l .loop .inv in left-all (l .before .ar
 pub left-over-spec : {M : Type 1} → statement M
 left-over-spec =
     tie.close
-    (tie.spec
-    Inv-loop
-    μ-loop
-    loop-holds
-    mul-still
-    array-read-still
-    still-requires
-    add-n
-    add-k
-    loop-less
-    loop-again
-    returns)
+    (tie.spec Inv-loop μ-loop loop-holds (λ c. omega arith) (λ c. omega arith) (λ c κs. search needs) add-n
+    (λ c. omega arith) (λ c. omega arith) loop-again returns)

@@ -1,7 +1,7 @@
 -- `cell_builder::make_cells` meets its contract: laid out and extended, the slices hold the definition's cells at their beginning, and all of them are clipped from there.
 use mathlib.Core.Path.{refl, _∙_}
 use borrow.Author.Needs.{needs}
-use Rattle.cell_builder.proofs.Starting.{frame-fits, roomy, rooms-fit, extendable, can-clip, made-not, made-all}
+use Rattle.cell_builder.specs.laws.Starting.{roomy, rooms-fit, extendable, can-clip, made-not, made-all}
 use Rattle.cell_builder.proofs.make_cells.Statement.{statement}
 use Rattle.cell_builder.proofs.make_cells.Tie as tie
 
@@ -14,9 +14,6 @@ Framed o = LaidOut o .before .before .before
 abbrev Entry : tie.After-frame → tie.Start
 Entry f = f .before .before .before .before .before .before .before .before .before
 
-frame-requires : tie.Need-frame-requires
-frame-requires c κs = search needs
-
 lay-out-requires : tie.Need-lay-out-requires
 lay-out-requires c κs = let e = Entry (c .before .before) in (roomy (e .pre) _ refl, rooms-fit (e .pre))
 
@@ -26,22 +23,14 @@ extend-requires c κs =
     let f = Framed o in
     extendable (Entry f .pre) _ (f .frame .ensures) _ _ refl (o .before .before .ix .given)
 
-same-length : tie.Need-same-length
-same-length c = search needs
-
-same-length-2 : tie.Need-same-length-2
-same-length-2 c = search needs
-
-same-length-3 : tie.Need-same-length-3
-same-length-3 c = search needs
-
 returns : tie.Need-returns
 returns c =
     let i = c .before .before .before .before in
     let x = i .before .before .before in
     let o = x .before .before .before .before in
     let f = Framed o in
-    made-not (Entry f .pre) _ _ _ (o .off .given) (LaidOut o .lay-out .ensures) _ _ (i .before .before .v .given) (i .ix2 .given ∙ o .before .before .ix .given) _ _ (f .frame .ensures) (x .extend .ensures) (c .if1 .taken)
+    made-not (Entry f .pre) _ _ _ (o .off .given) (LaidOut o .lay-out .ensures) _ _ (i .before .before .v .given)
+    (i .ix2 .given ∙ o .before .before .ix .given) _ _ (f .frame .ensures) (x .extend .ensures) (c .if1 .taken)
 
 clip-cells-requires : tie.Need-clip-cells-requires
 clip-cells-requires c κs =
@@ -50,19 +39,14 @@ clip-cells-requires c κs =
     let x = i .before .before .before in
     let o = x .before .before .before .before in
     let f = Framed o in
-    can-clip (Entry f .pre) _ _ _ (o .off .given) (LaidOut o .lay-out .ensures) _ _ (i .before .before .v .given) (i .ix2 .given ∙ o .before .before .ix .given) _ _ (f .frame .ensures) (x .extend .ensures) (e .if1 .left)
-
-same-length-4 : tie.Need-same-length-4
-same-length-4 c = search needs
+    can-clip (Entry f .pre) _ _ _ (o .off .given) (LaidOut o .lay-out .ensures) _ _ (i .before .before .v .given)
+    (i .ix2 .given ∙ o .before .before .ix .given) _ _ (f .frame .ensures) (x .extend .ensures) (e .if1 .left)
 
 same-length-5 : tie.Need-same-length-5
 same-length-5 c =
     let i = c .before .before .before .before .before .before .before .before .before .before .before .before in
     let o = i .before .before .before .before .before .before .before in
     c .before .ix3 .given ∙ i .ix2 .given ∙ o .before .before .ix .given
-
-same-length-6 : tie.Need-same-length-6
-same-length-6 c = search needs
 
 returns-2 : tie.Need-returns-2
 returns-2 c =
@@ -72,21 +56,11 @@ returns-2 c =
     let x = i .before .before .before in
     let o = x .before .before .before .before in
     let f = Framed o in
-    made-all (Entry f .pre) _ _ _ (o .off .given) (LaidOut o .lay-out .ensures) _ _ (i .before .before .v .given) (i .ix2 .given ∙ o .before .before .ix .given) _ _ (f .frame .ensures) (x .extend .ensures) (e .if1 .left) _ _ _ (k .clip-cells .ensures)
+    made-all (Entry f .pre) _ _ _ (o .off .given) (LaidOut o .lay-out .ensures) _ _ (i .before .before .v .given)
+    (i .ix2 .given ∙ o .before .before .ix .given) _ _ (f .frame .ensures) (x .extend .ensures) (e .if1 .left) _ _ _ (k .clip-cells .ensures)
 
 pub make-cells-spec : {M : Type 1} → statement M
 make-cells-spec =
     tie.close
-    (tie.spec
-    frame-requires
-    lay-out-requires
-    extend-requires
-    same-length
-    same-length-2
-    same-length-3
-    returns
-    clip-cells-requires
-    same-length-4
-    same-length-5
-    same-length-6
-    returns-2)
+    (tie.spec (λ c κs. search needs) lay-out-requires extend-requires (λ c. search needs) (λ c. search needs)
+    (λ c. search needs) returns clip-cells-requires (λ c. search needs) same-length-5 (λ c. search needs) returns-2)

@@ -1,5 +1,5 @@
 -- `cell_builder::still` meets its contract.
-use Rattle.cell_builder.proofs.LeftOver.{left-not, left-still}
+use Rattle.cell_builder.specs.laws.LeftOver.{left-not, left-still}
 use Rattle.cell_builder.proofs.still.Statement.{statement}
 use Rattle.cell_builder.proofs.still.Tie as tie
 

@@ -3,15 +3,6 @@ use borrow.Author.Needs.{needs}
 use Rattle.crossings.proofs.values_of.Statement.{statement}
 use Rattle.crossings.proofs.values_of.Tie as tie
 
-enum-told : tie.Need-enum-told
-enum-told c = search needs
-
-enum-known-c : tie.Need-enum-known-c
-enum-known-c c = search needs
-
-enum-known-c-2 : tie.Need-enum-known-c-2
-enum-known-c-2 c = search needs
-
 returns : tie.Need-returns
 returns c = rw (c .enum-told .given .1)
 
@@ -23,4 +14,4 @@ returns-3 c = rw (c .before .c2 .given .1)
 
 pub values-of-spec : {M : Type 1} → statement M
 values-of-spec =
-    tie.close (tie.spec enum-told enum-known-c enum-known-c-2 returns returns-2 returns-3)
+    tie.close (tie.spec (λ c. search needs) (λ c. search needs) (λ c. search needs) returns returns-2 returns-3)

@@ -1,18 +1,16 @@
 -- `form::feed` meets its contract: the invariant is `Feeding`, and what is left of the bytes is the measure.
-use mathlib.Core.Path.{_≡_, refl, sym, ap, _∙_}
-use Prim.Native.Nat.{ℕ, _+_, _-_, _≤_, _<_}
+use Prim.Native.Nat.{_-_}
 use native.Mathlib.Omega.{arith}
 use lib.ListN.{length}
 use denote.Ref.{now}
-use borrow.Author.Needs.{needs}
-use Rattle.form.specs.Reader.{Lent, lent}
-use Rattle.form.specs.FeedLaws.{Feeding, feeding-start, feeding-step, feeding-end, room-same}
+use Rattle.form_step.specs.Reader.{reading}
+use Rattle.form.specs.laws.Feed.{Feeding, feeding-start, feeding-step, feeding-end, room-same}
 use Rattle.form.proofs.feed.Statement.{statement}
 use Rattle.form.proofs.feed.Tie as tie
 
 abbrev Inv-loop : tie.InvT-loop
 Inv-loop bytes bounds₀ sites₀ triangles₀ halfedges₀ hull₀ n₀ i₀ bounds sites triangles halfedges hull n i =
-    Feeding bytes (lent n₀ bounds₀ sites₀ triangles₀ halfedges₀ hull₀) (lent n bounds sites triangles halfedges hull) i
+    Feeding bytes (reading n₀ bounds₀ sites₀ triangles₀ halfedges₀ hull₀) (reading n bounds sites triangles halfedges hull) i
 
 abbrev μ-loop : tie.MeasureT-loop
 μ-loop bytes bounds₀ sites₀ triangles₀ halfedges₀ hull₀ n₀ i₀ bounds sites triangles halfedges hull n i =
@@ -21,21 +19,12 @@ abbrev μ-loop : tie.MeasureT-loop
 loop-holds : tie.Need-loop-holds Inv-loop μ-loop
 loop-holds c = let s = c .before .before .before .before .before .before in
     let a = s .args in
-    feeding-start (now (a .bytes)) (lent (a .r) (now (a .bounds)) (now (a .sites)) (now (a .triangles)) (now (a .halfedges)) (now (a .hull))) (s .pre .0) (s .pre .1)
-
-shared-slice-read-take : tie.Need-shared-slice-read-take Inv-loop μ-loop
-shared-slice-read-take c = omega arith
+    feeding-start (now (a .bytes)) (reading (a .r) (now (a .bounds)) (now (a .sites)) (now (a .triangles)) (now (a .halfedges)) (now (a .hull))) (s .pre .0) (s .pre .1)
 
 take-requires : tie.Need-take-requires Inv-loop μ-loop
 take-requires c κs = let l = c .before .before .before .before .before .before .before in
     let s = l .before .before .before .before .before .before .before in
     (l .loop .inv .ok, omega (arith, l .loop .inv .at, l .loop .inv .within), room-same (s .pre .2) (l .loop .inv .same))
-
-add-i : tie.Need-add-i Inv-loop μ-loop
-add-i c = omega arith
-
-loop-less : tie.Need-loop-less Inv-loop μ-loop
-loop-less c = omega arith
 
 loop-again : tie.Need-loop-again Inv-loop μ-loop
 loop-again c = let t = c .before .before .before .before .before .before .before .before .before .before in
@@ -65,18 +54,5 @@ returns c = (feeding-end (c .before .loop .inv) (c .loop-test .left), c .before 
 pub feed-spec : {M : Type 1} → statement M
 feed-spec =
     tie.close
-    (tie.spec
-    Inv-loop
-    μ-loop
-    loop-holds
-    shared-slice-read-take
-    take-requires
-    add-i
-    loop-less
-    loop-again
-    same-length
-    same-length-2
-    same-length-3
-    same-length-4
-    same-length-5
-    returns)
+    (tie.spec Inv-loop μ-loop loop-holds (λ c. omega arith) take-requires (λ c. omega arith) (λ c. omega arith)
+    loop-again same-length same-length-2 same-length-3 same-length-4 same-length-5 returns)

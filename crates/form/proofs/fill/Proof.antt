@@ -1,15 +1,13 @@
 -- `form::fill` meets its contract: each stage's store is the definition's, and the state's limits keep its place within the list.
-use mathlib.Core.Path.{_≡_, ap, _∙_}
-use mathlib.Core.Bool.{false}
-use Prim.Native.Nat.{ℕ, _+_, _-_, _*_, _<_}
+use mathlib.Core.Path.{ap, _∙_}
+use Prim.Native.Nat.{_+_, _-_, _*_}
 use native.Mathlib.Omega.{arith}
 use denote.Ref.{now}
 use lib.Dec.{ltb}
 use Rattle.laws.specs.Pick.{pick}
-use Rattle.form.specs.Bytes.{shift}
-use Rattle.form.specs.Holds.{Ok}
-use Rattle.form.specs.Reader.{lent, putFloat, putLink}
-use Rattle.form.specs.FillLaws.{fill-box, fill-site, fill-triangle, fill-hull, fill-none}
+use Rattle.form_step.specs.Bytes.{shift}
+use Rattle.form_step.specs.Reader.{reading, putFloat, putLink}
+use Rattle.form.specs.laws.Fill.{fill-box, fill-site, fill-triangle, fill-hull, fill-none}
 use borrow.Author.Needs.{needs}
 use Rattle.form.proofs.fill.Statement.{statement}
 use Rattle.form.proofs.fill.Tie as tie
@@ -17,113 +15,71 @@ use Rattle.form.proofs.fill.Tie as tie
 abbrev begin : tie.After-shifted → tie.Start
 begin c = c .before .before .before .before .before .before .before
 
-sub-left : tie.Need-sub-left
-sub-left c = search needs
-
-shifted-requires : tie.Need-shifted-requires
-shifted-requires c κs = search needs
-
 put-float-requires : tie.Need-put-float-requires
 put-float-requires c κs = let s = begin (c .before .before .before) in omega (arith, s .pre .0 .in-box (c .before .if1 .taken), s .pre .3)
-
-same-length : tie.Need-same-length
-same-length c = search needs
 
 returns : tie.Need-returns
 returns c = let w = c .before .before .before .before .before .before in
     let s = begin w in
     let a = s .args in
-    ap (λ l. lent (a .r) l (now (a .sites)) (now (a .triangles)) (now (a .halfedges)) (now (a .hull)))
+    ap (λ l. reading (a .r) l (now (a .sites)) (now (a .triangles)) (now (a .halfedges)) (now (a .hull)))
     (c .before .before .put-float .ensures ∙ ap (λ v. putFloat (now (a .bounds)) 3 (a .r .left - 1) v) (w .shifted .ensures))
     ∙ fill-box (a .r) (a .b) (now (a .bounds)) (now (a .sites)) (now (a .triangles)) (now (a .halfedges)) (now (a .hull)) (s .pre .1) (s .pre .2) (c .before .before .before .before .if1 .taken)
-
-mul-put-float : tie.Need-mul-put-float
-mul-put-float c = search needs
-
-add-put-float : tie.Need-add-put-float
-add-put-float c = search needs
 
 put-float-requires-2 : tie.Need-put-float-requires-2
 put-float-requires-2 c κs = let s = begin (c .before .before .before .before .before .before) in omega (arith, s .pre .0 .in-site (c .before .before .if2 .taken) (s .pre .2), s .pre .3)
 
-same-length-2 : tie.Need-same-length-2
-same-length-2 c = search needs
-
 returns-2 : tie.Need-returns-2
-returns-2 c = let w = c .before .before .before .before .before .before .before .before .before in
+returns-2 c =
+    let at-if2 = c .before .before .before .before .before in
+    let w = c .before .before .before .before .before .before .before .before .before in
     let s = begin w in
     let a = s .args in
-    ap (λ l. lent (a .r) (now (a .bounds)) l (now (a .triangles)) (now (a .halfedges)) (now (a .hull)))
+    ap (λ l. reading (a .r) (now (a .bounds)) l (now (a .triangles)) (now (a .halfedges)) (now (a .hull)))
     (c .before .before .put-float2 .ensures ∙ ap (λ v. putFloat (now (a .sites)) (2 * a .r .sites + 1) (a .r .left - 1) v) (w .shifted .ensures))
-    ∙ fill-site (a .r) (a .b) (now (a .bounds)) (now (a .sites)) (now (a .triangles)) (now (a .halfedges)) (now (a .hull)) (s .pre .1) (s .pre .2) (c .before .before .before .before .before .if2 .taken)
-
-mul-put-triangle : tie.Need-mul-put-triangle
-mul-put-triangle c = search needs
-
-add-put-triangle : tie.Need-add-put-triangle
-add-put-triangle c = search needs
+    ∙ fill-site (a .r) (a .b) (now (a .bounds)) (now (a .sites)) (now (a .triangles)) (now (a .halfedges)) (now (a .hull)) (s .pre .1) (s .pre .2) (at-if2 .if2 .taken)
 
 put-triangle-requires : tie.Need-put-triangle-requires
-put-triangle-requires c κs = let s = begin (c .before .before .before .before .before .before .before .before .before) in omega (arith, s .pre .0 .in-triangle (c .before .before .before .if3 .taken) (s .pre .2), s .pre .3)
-
-same-length-3 : tie.Need-same-length-3
-same-length-3 c = search needs
-
-same-length-4 : tie.Need-same-length-4
-same-length-4 c = search needs
+put-triangle-requires c κs = let s = begin (c .before .before .before .before .before .before .before .before .before) in
+    omega (arith, s .pre .0 .in-triangle (c .before .before .before .if3 .taken) (s .pre .2), s .pre .3)
 
 returns-3 : tie.Need-returns-3
-returns-3 c = let w = c .before .before .before .before .before .before .before .before .before .before .before .before .before .before in
+returns-3 c =
+    let at-if3 = c .before .before .before .before .before .before .before .before in
+    let w = c .before .before .before .before .before .before .before .before .before .before .before .before .before .before in
     let s = begin w in
     let a = s .args in
     let e = c .before .before .before .before .put-triangle .ensures in
-    ap (λ l. lent (a .r) (now (a .bounds)) (now (a .sites)) l (c .before .before .before .before .put-triangle .last .1 .0) (now (a .hull)))
+    ap (λ l. reading (a .r) (now (a .bounds)) (now (a .sites)) l (c .before .before .before .before .put-triangle .last .1 .0) (now (a .hull)))
     (e .0 ∙ ap (λ v. pick (ltb (a .r .left - 1) 12) (λ _. now (a .triangles)) (λ _. putLink (now (a .triangles)) (3 * a .r .triangles + 2) (a .r .left - 1 - 12) v)) (w .shifted .ensures))
-    ∙ ap (λ l. lent (a .r) (now (a .bounds)) (now (a .sites)) (pick (ltb (a .r .left - 1) 12) (λ _. now (a .triangles)) (λ _. putLink (now (a .triangles)) (3 * a .r .triangles + 2) (a .r .left - 1 - 12) (shift (a .r .word) (a .b)))) l (now (a .hull)))
+    ∙ ap (λ l. reading (a .r) (now (a .bounds)) (now (a .sites))
+    (pick (ltb (a .r .left - 1) 12) (λ _. now (a .triangles)) (λ _. putLink (now (a .triangles)) (3 * a .r .triangles + 2) (a .r .left - 1 - 12) (shift (a .r .word) (a .b)))) l (now (a .hull)))
     (e .1 ∙ ap (λ v. pick (ltb (a .r .left - 1) 12) (λ _. putLink (now (a .halfedges)) (3 * a .r .triangles + 2) (a .r .left - 1) v) (λ _. now (a .halfedges))) (w .shifted .ensures))
-    ∙ fill-triangle (a .r) (a .b) (now (a .bounds)) (now (a .sites)) (now (a .triangles)) (now (a .halfedges)) (now (a .hull)) (s .pre .1) (s .pre .2) (c .before .before .before .before .before .before .before .before .if3 .taken)
+    ∙ fill-triangle (a .r) (a .b) (now (a .bounds)) (now (a .sites)) (now (a .triangles)) (now (a .halfedges)) (now (a .hull)) (s .pre .1) (s .pre .2) (at-if3 .if3 .taken)
 
 put-link-requires : tie.Need-put-link-requires
 put-link-requires c κs = let s = begin (c .before .before .before .before .before .before .before .before .before) in omega (arith, s .pre .0 .in-hull (c .before .if4 .taken) (s .pre .2), s .pre .3)
-
-same-length-5 : tie.Need-same-length-5
-same-length-5 c = search needs
 
 returns-4 : tie.Need-returns-4
 returns-4 c = let w = c .before .before .before .before .before .before .before .before .before .before .before .before in
     let s = begin w in
     let a = s .args in
-    ap (λ l. lent (a .r) (now (a .bounds)) (now (a .sites)) (now (a .triangles)) (now (a .halfedges)) l)
+    ap (λ l. reading (a .r) (now (a .bounds)) (now (a .sites)) (now (a .triangles)) (now (a .halfedges)) l)
     (c .before .before .put-link .ensures ∙ ap (λ v. putLink (now (a .hull)) (a .r .hull) (a .r .left - 1) v) (w .shifted .ensures))
     ∙ fill-hull (a .r) (a .b) (now (a .bounds)) (now (a .sites)) (now (a .triangles)) (now (a .halfedges)) (now (a .hull)) (s .pre .1) (s .pre .2) (c .before .before .before .before .if4 .taken)
 
 returns-5 : tie.Need-returns-5
-returns-5 c = let s = begin (c .before .before .before .before .before .before .before .before) in
+returns-5 c =
+    let at-if1 = c .before .before .before .before .before .before in
+    let s = begin (c .before .before .before .before .before .before .before .before) in
     let a = s .args in
     fill-none (a .r) (a .b) (now (a .bounds)) (now (a .sites)) (now (a .triangles)) (now (a .halfedges)) (now (a .hull)) (s .pre .1) (s .pre .2)
-    (c .before .before .before .before .before .before .if1 .left) (c .before .before .before .before .if2 .left) (c .before .before .if3 .left) (c .if4 .left)
+    (at-if1 .if1 .left) (c .before .before .before .before .if2 .left) (c .before .before .if3 .left) (c .if4 .left)
 
 pub fill-spec : {M : Type 1} → statement M
 fill-spec =
     tie.close
-    (tie.spec
-    sub-left
-    shifted-requires
-    put-float-requires
-    same-length
-    returns
-    mul-put-float
-    add-put-float
-    put-float-requires-2
-    same-length-2
-    returns-2
-    mul-put-triangle
-    add-put-triangle
-    put-triangle-requires
-    same-length-3
-    same-length-4
-    returns-3
-    put-link-requires
-    same-length-5
-    returns-4
-    returns-5)
+    (tie.spec (λ c. search needs) (λ c κs. search needs) put-float-requires (λ c. search needs) returns
+    (λ c. search needs) (λ c. search needs) put-float-requires-2 (λ c. search needs) returns-2 (λ c. search needs)
+    (λ c. search needs) put-triangle-requires (λ c. search needs) (λ c. search needs) returns-3 put-link-requires
+    (λ c. search needs) returns-4 returns-5)

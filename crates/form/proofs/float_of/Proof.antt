@@ -4,7 +4,7 @@ use mathlib.Core.Bool.{Bool, not}
 use lib.Dec.{T}
 use lib.Ieee.{binary64}
 use lib.Ieee.Bits.{nanBits-is}
-use Rattle.root.proofs.Signs.{above-nan, up-to-no-nan, no-quotient}
+use Rattle.root.specs.laws.Signs.{above-nan, up-to-no-nan, no-quotient}
 use borrow.Author.Needs.{needs}
 use Rattle.form.proofs.float_of.Statement.{statement}
 use Rattle.form.proofs.float_of.Tie as tie
@@ -15,8 +15,5 @@ returns c = no-quotient ∙ sym (above-nan (c .before .args .bits) (c .if1 .take
 float-from-bits-result : tie.Need-float-from-bits-result
 float-from-bits-result c = subst (λ (b : Bool). T (not b)) (sym (nanBits-is binary64 (c .before .args .bits))) (up-to-no-nan (c .before .args .bits) (c .if1 .left))
 
-returns-2 : tie.Need-returns-2
-returns-2 c = search needs
-
 pub float-of-spec : {M : Type 1} → statement M
-float-of-spec = tie.close (tie.spec returns float-from-bits-result returns-2)
+float-of-spec = tie.close (tie.spec returns float-from-bits-result (λ c. search needs))

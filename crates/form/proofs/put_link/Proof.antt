@@ -1,6 +1,6 @@
 -- `form::put_link` meets its contract: the store is the definition's, at a place that the contract's bounds keep in range.
 use borrow.Author.Tests.{ne-eqb, eq-eqb}
-use Rattle.form.specs.Reader.{putLink}
+use Rattle.form_step.specs.Reader.{putLink}
 use borrow.Author.Needs.{needs}
 use Rattle.form.proofs.put_link.Statement.{statement}
 use Rattle.form.proofs.put_link.Tie as tie
@@ -9,24 +9,12 @@ returns : tie.Need-returns
 unfolding putLink
 returns c = rw (ne-eqb _ _ (c .if1 .taken))
 
-cast-l : tie.Need-cast-l
-cast-l c = search needs
-
-sub-l : tie.Need-sub-l
-sub-l c = search needs
-
-mul-l : tie.Need-mul-l
-mul-l c = search needs
-
-slice-write-l : tie.Need-slice-write-l
-slice-write-l c = search needs
-
-same-length : tie.Need-same-length
-same-length c = search needs
-
 returns-2 : tie.Need-returns-2
 unfolding putLink
 returns-2 c = rw (eq-eqb _ _ (c .if1 .left))
 
 pub put-link-spec : {M : Type 1} → statement M
-put-link-spec = tie.close (tie.spec returns cast-l sub-l mul-l slice-write-l same-length returns-2)
+put-link-spec =
+    tie.close
+    (tie.spec returns (λ c. search needs) (λ c. search needs) (λ c. search needs) (λ c. search needs)
+    (λ c. search needs) returns-2)

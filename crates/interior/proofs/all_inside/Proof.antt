@@ -1,12 +1,9 @@
 -- `interior::all_inside` meets its contract: all vertices before place k are inside.
-use Prim.Native.Nat.{_+_, _-_, _≤_, _<_}
-use mathlib.Core.Path.{_≡_, refl, sym, _∙_}
+use Prim.Native.Nat.{_-_, _≤_}
 use native.Mathlib.Omega.{arith}
-use lib.ListN.{length, getD}
-use borrow.Author.Needs.{needs}
 use Rattle.utils.specs.Flat.{points}
 use Rattle.interior.specs.Interior.{AllInside}
-use Rattle.interior.proofs.Scanning.{inside-next, inside-not}
+use Rattle.interior.specs.laws.Scanning.{inside-next, inside-not}
 use Rattle.interior.proofs.all_inside.Statement.{statement}
 use Rattle.interior.proofs.all_inside.Tie as tie
 
@@ -19,15 +16,6 @@ abbrev μ-loop : tie.MeasureT-loop
 loop-holds : tie.Need-loop-holds Inv-loop μ-loop
 loop-holds c = (omega arith, λ j l. absurd (omega arith))
 
-add-in-box : tie.Need-add-in-box Inv-loop μ-loop
-add-in-box c = omega arith
-
-mul-in-box : tie.Need-mul-in-box Inv-loop μ-loop
-mul-in-box c = omega arith
-
-shared-slice-read-in-box : tie.Need-shared-slice-read-in-box Inv-loop μ-loop
-shared-slice-read-in-box c = omega arith
-
 in-box-requires : tie.Need-in-box-requires Inv-loop μ-loop
 in-box-requires c κs = let s = c .before .before .before .before .before in (s .pre .0, s .pre .2 (c .before .before .loop .k) (c .before .loop-test .taken))
 
@@ -36,12 +24,6 @@ returns c =
     let l = c .before .before .before .before in
     let a = l .before .before .before .args in
     inside-not _ _ _ (a .ix .now) (a .ring) (l .loop .k) _ _ (c .before .before .before .loop-test .taken) (c .before .in-box .ensures) (c .if1 .taken)
-
-add-k : tie.Need-add-k Inv-loop μ-loop
-add-k c = omega arith
-
-loop-less : tie.Need-loop-less Inv-loop μ-loop
-loop-less c = omega arith
 
 loop-again : tie.Need-loop-again Inv-loop μ-loop
 loop-again c =
@@ -55,16 +37,5 @@ returns-2 c = let l = c .before in λ j h. l .loop .inv .1 j (omega arith)
 pub all-inside-spec : {M : Type 1} → statement M
 all-inside-spec =
     tie.close
-    (tie.spec
-    Inv-loop
-    μ-loop
-    loop-holds
-    add-in-box
-    mul-in-box
-    shared-slice-read-in-box
-    in-box-requires
-    returns
-    add-k
-    loop-less
-    loop-again
-    returns-2)
+    (tie.spec Inv-loop μ-loop loop-holds (λ c. omega arith) (λ c. omega arith) (λ c. omega arith) in-box-requires
+    returns (λ c. omega arith) (λ c. omega arith) loop-again returns-2)

@@ -1,10 +1,8 @@
 -- `interior::copy_ring` meets its contract: k entries of the cell are written, and the ring stands behind the cell as it was.
-use Prim.Native.Nat.{_+_, _-_, _≤_, _<_}
-use mathlib.Core.Path.{_≡_, refl, sym, _∙_}
+use Prim.Native.Nat.{_-_}
+use mathlib.Core.Path.{refl}
 use native.Mathlib.Omega.{arith}
-use lib.ListN.{length, getD}
-use borrow.Author.Needs.{needs}
-use Rattle.interior.proofs.Copying.{Copied, copied-none, copied-more, copied-all}
+use Rattle.interior.specs.laws.Copying.{Copied, copied-none, copied-more, copied-all}
 use Rattle.interior.proofs.copy_ring.Statement.{statement}
 use Rattle.interior.proofs.copy_ring.Tie as tie
 
@@ -26,23 +24,8 @@ mul-ix c = let i = c .before .loop .inv in omega (arith, i .next (c .loop-test .
 slice-read-ix : tie.Need-slice-read-ix Inv-loop μ-loop
 slice-read-ix c = let i = c .before .before .loop .inv in omega (arith, i .next (c .before .loop-test .taken) .0, i .long)
 
-add-ix-2 : tie.Need-add-ix-2 Inv-loop μ-loop
-add-ix-2 c = omega arith
-
-mul-ix-2 : tie.Need-mul-ix-2 Inv-loop μ-loop
-mul-ix-2 c = omega arith
-
 slice-write-ix : tie.Need-slice-write-ix Inv-loop μ-loop
 slice-write-ix c = omega (arith, c .before .before .loop .inv .long)
-
-add-k : tie.Need-add-k Inv-loop μ-loop
-add-k c = omega arith
-
-sub-at : tie.Need-sub-at Inv-loop μ-loop
-sub-at c = omega arith
-
-loop-less : tie.Need-loop-less Inv-loop μ-loop
-loop-less c = omega arith
 
 loop-again : tie.Need-loop-again Inv-loop μ-loop
 loop-again c = let l = c .before .before in let s = l .before in copied-more _ _ _ _ (s .pre .0) (s .pre .1) _ (l .loop .k) (l .loop .at) _ (c .before .loop-test .taken) (l .loop .inv) refl
@@ -56,19 +39,5 @@ returns c = let l = c .before in let s = l .before in copied-all _ _ _ _ (s .pre
 pub copy-ring-spec : {M : Type 1} → statement M
 copy-ring-spec =
     tie.close
-    (tie.spec
-    Inv-loop
-    μ-loop
-    loop-holds
-    add-ix
-    mul-ix
-    slice-read-ix
-    add-ix-2
-    mul-ix-2
-    slice-write-ix
-    add-k
-    sub-at
-    loop-less
-    loop-again
-    same-length
-    returns)
+    (tie.spec Inv-loop μ-loop loop-holds add-ix mul-ix slice-read-ix (λ c. omega arith) (λ c. omega arith)
+    slice-write-ix (λ c. omega arith) (λ c. omega arith) (λ c. omega arith) loop-again same-length returns)

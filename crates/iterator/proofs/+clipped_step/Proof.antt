@@ -1,6 +1,6 @@
 -- The neighbour that comes counts, or ends the list, or was the first and is dropped: then the step is asked again past it. It ends because
 -- fewer half-edges of the fan remain each time.
-use mathlib.Core.Path.{_≡_, sym, _∙_}
+use mathlib.Core.Path.{sym, _∙_}
 use lib.ListN.{length}
 use borrow.Author.Needs.{needs}
 use Rattle.iterator.specs.Rest.{restOf}
@@ -59,7 +59,9 @@ clipped-step-judge-requires : (t : ℕ) → clipped-step-lts.Need-judge-requires
   clipped-step-below t,
   clipped-step.Post,
 ) (clipped-step-at t) clipped-step.Post
-clipped-step-judge-requires t c κs = (c .before .before .before .before .before .before .before .before .pre .1 .0 .cells, c .before .before .before .before .before .before .before .before .pre .1 .1, coming-cell (c .before .before .before .before .before .before .before .before .pre .1 .0) _ (c .before .before .before .before .before .before .before .before .pre .1 .2) (sym (c .before .x .given .1) ∙ c .before .before .before .step .ensures))
+clipped-step-judge-requires t c κs =
+    let at-start = c .before .before .before .before .before .before .before .before in
+    (at-start .pre .1 .0 .cells, at-start .pre .1 .1, coming-cell (at-start .pre .1 .0) _ (at-start .pre .1 .2) (sym (c .before .x .given .1) ∙ c .before .before .before .step .ensures))
 
 clipped-step-enum-told : (t : ℕ) → clipped-step-lts.Need-enum-told (
   step-reads.Asked,
@@ -89,7 +91,18 @@ clipped-step-clipped-step-requires : (t : ℕ) → clipped-step-lts.Need-clipped
   clipped-step-below t,
   clipped-step.Post,
 ) (clipped-step-at t) clipped-step.Post
-clipped-step-clipped-step-requires t c κs = (dropped-less (c .before .before .before .before .before .before .before .before .before .before .before .pre .1 .0) _ (c .before .before .before .before .before .before .before .before .before .before .before .pre .1 .2) (sym (c .before .before .before .before .x .given .1) ∙ c .before .before .before .before .before .before .step .ensures) _ (sym (c .enum-told2 .given .1) ∙ c .before .before .judge .ensures) (c .before .before .before .before .before .before .before .before .before .before .before .pre .0), (c .before .before .before .before .before .before .before .before .before .before .before .pre .1 .0, c .before .before .before .before .before .before .before .before .before .before .before .pre .1 .1, dropped-sound (c .before .before .before .before .before .before .before .before .before .before .before .pre .1 .0) _ (c .before .before .before .before .before .before .before .before .before .before .before .pre .1 .2) (sym (c .before .before .before .before .x .given .1) ∙ c .before .before .before .before .before .before .step .ensures) _ (sym (c .enum-told2 .given .1) ∙ c .before .before .judge .ensures)))
+clipped-step-clipped-step-requires t c κs =
+    let at-step = c .before .before .before .before .before .before in
+    let at-start = at-step .before .before .before .before .before in (
+      dropped-less (at-start .pre .1 .0) _ (at-start .pre .1 .2) (sym (c .before .before .before .before .x .given .1) ∙ at-step .step .ensures) _
+          (sym (c .enum-told2 .given .1) ∙ c .before .before .judge .ensures) (at-start .pre .0),
+      (
+        at-start .pre .1 .0,
+        at-start .pre .1 .1,
+        dropped-sound (at-start .pre .1 .0) _ (at-start .pre .1 .2)
+            (sym (c .before .before .before .before .x .given .1) ∙ at-step .step .ensures) _ (sym (c .enum-told2 .given .1) ∙ c .before .before .judge .ensures),
+      ),
+    )
 
 clipped-step-enum-told-3 : (t : ℕ) → clipped-step-lts.Need-enum-told-3 (
   step-reads.Asked,
@@ -119,7 +132,11 @@ clipped-step-returns : (t : ℕ) → clipped-step-lts.Need-returns (
   clipped-step-below t,
   clipped-step.Post,
 ) (clipped-step-at t) clipped-step.Post
-clipped-step-returns t c = counts (c .before .before .before .before .before .before .before .before .before .before .before .pre .1 .0) _ (c .before .before .before .before .before .before .before .before .before .before .before .pre .1 .2) (sym (c .before .before .before .before .x .given .1) ∙ c .before .before .before .before .before .before .step .ensures) _ (sym (c .enum-told .given .1) ∙ c .before .before .judge .ensures)
+clipped-step-returns t c =
+    let at-step = c .before .before .before .before .before .before in
+    let at-start = at-step .before .before .before .before .before in
+    counts (at-start .pre .1 .0) _ (at-start .pre .1 .2) (sym (c .before .before .before .before .x .given .1) ∙ at-step .step .ensures) _
+    (sym (c .enum-told .given .1) ∙ c .before .before .judge .ensures)
 
 clipped-step-returns-2 : (t : ℕ) → clipped-step-lts.Need-returns-2 (
   step-reads.Asked,
@@ -129,7 +146,12 @@ clipped-step-returns-2 : (t : ℕ) → clipped-step-lts.Need-returns-2 (
   clipped-step-below t,
   clipped-step.Post,
 ) (clipped-step-at t) clipped-step.Post
-clipped-step-returns-2 t c = dropped-takes (c .before .before .before .before .before .before .before .before .before .before .before .before .pre .1 .0) _ (c .before .before .before .before .before .before .before .before .before .before .before .before .pre .1 .2) (sym (c .before .before .before .before .before .x .given .1) ∙ c .before .before .before .before .before .before .before .step .ensures) _ (sym (c .before .enum-told2 .given .1) ∙ c .before .before .before .judge .ensures) (c .clipped-step .result) (c .clipped-step .ensures)
+clipped-step-returns-2 t c =
+    let at-x = c .before .before .before .before .before in
+    let at-step = at-x .before .before in
+    let at-start = at-step .before .before .before .before .before in
+    dropped-takes (at-start .pre .1 .0) _ (at-start .pre .1 .2) (sym (at-x .x .given .1) ∙ at-step .step .ensures) _
+    (sym (c .before .enum-told2 .given .1) ∙ c .before .before .before .judge .ensures) (c .clipped-step .result) (c .clipped-step .ensures)
 
 clipped-step-returns-3 : (t : ℕ) → clipped-step-lts.Need-returns-3 (
   step-reads.Asked,
@@ -139,7 +161,11 @@ clipped-step-returns-3 : (t : ℕ) → clipped-step-lts.Need-returns-3 (
   clipped-step-below t,
   clipped-step.Post,
 ) (clipped-step-at t) clipped-step.Post
-clipped-step-returns-3 t c = ends (c .before .before .before .before .before .before .before .before .before .before .before .pre .1 .0) _ (c .before .before .before .before .before .before .before .before .before .before .before .pre .1 .2) (sym (c .before .before .before .before .x .given .1) ∙ c .before .before .before .before .before .before .step .ensures) _ (sym (c .enum-told3 .given .1) ∙ c .before .before .judge .ensures)
+clipped-step-returns-3 t c =
+    let at-step = c .before .before .before .before .before .before in
+    let at-start = at-step .before .before .before .before .before in
+    ends (at-start .pre .1 .0) _ (at-start .pre .1 .2) (sym (c .before .before .before .before .x .given .1) ∙ at-step .step .ensures) _
+    (sym (c .enum-told3 .given .1) ∙ c .before .before .judge .ensures)
 
 clipped-step-returns-4 : (t : ℕ) → clipped-step-lts.Need-returns-4 (
   step-reads.Asked,
@@ -149,7 +175,9 @@ clipped-step-returns-4 : (t : ℕ) → clipped-step-lts.Need-returns-4 (
   clipped-step-below t,
   clipped-step.Post,
 ) (clipped-step-at t) clipped-step.Post
-clipped-step-returns-4 t c = nothing-left (c .before .before .before .before .before .before .before .pre .1 .0) _ (c .before .before .before .before .before .before .before .pre .1 .2) _ (sym (c .enum-told4 .given .1) ∙ c .before .before .step .ensures)
+clipped-step-returns-4 t c =
+    let at-start = c .before .before .before .before .before .before .before in
+    nothing-left (at-start .pre .1 .0) _ (at-start .pre .1 .2) _ (sym (c .enum-told4 .given .1) ∙ c .before .before .step .ensures)
 
 pub +clipped-step-spec : {M : Type 1} → statement M
 +clipped-step-spec = close μ-clipped-step λ t. clipped-step-lts.spec (

@@ -1,5 +1,4 @@
 -- Each turn writes the first of the neighbours that are left after clipping.
-use mathlib.Core.Path.{sym, ap, _∙_}
 use Prim.Native.Nat.{_-_}
 use lib.ListN.{length}
 use denote.Ref.{now}
@@ -14,70 +13,50 @@ use Rattle.iterator.proofs.clipped_neighbours.Statement.{statement}
 use Rattle.iterator.proofs.clipped_neighbours.Tie as tie
 
 abbrev Inv-loop : tie.InvT-loop
-Inv-loop triangles halfedges offsets cells s start out₀ c₀ n₀ out c n = Handing triangles halfedges (shareEdgeOf offsets cells s) (clippedOf triangles halfedges (shareEdgeOf offsets cells s) (wholeOf halfedges start)) out₀ out c n
+Inv-loop triangles halfedges offsets cells s start out₀ c₀ n₀ out c n = Handing triangles halfedges (shareEdgeOf offsets cells s)
+    (clippedOf triangles halfedges (shareEdgeOf offsets cells s) (wholeOf halfedges start)) out₀ out c n
 
 abbrev μ-loop : tie.MeasureT-loop
 μ-loop triangles halfedges offsets cells s start out₀ c₀ n₀ out c n = length out₀ - n
 
 loop-holds : tie.Need-loop-holds Inv-loop μ-loop
-loop-holds c = let a = c .before .before .before .before .before .args in handing-start (now (a .triangles)) (now (a .halfedges)) _ (shareEdgeOf (now (a .offsets)) (now (a .cells)) (a .s)) (omega (arith, c .before .before .before .before .before .pre .0 .paired .small)) _ (settled-start _ _ (c .before .before .before .before .before .pre .0 .paired) _)
+loop-holds c =
+    let at-start = c .before .before .before .before .before in
+    let a = at-start .args in handing-start (now (a .triangles)) (now (a .halfedges)) _ (shareEdgeOf (now (a .offsets)) (now (a .cells)) (a .s))
+    (omega (arith, at-start .pre .0 .paired .small)) _ (settled-start _ _ (at-start .pre .0 .paired) _)
 
 clipped-step-requires : tie.Need-clipped-step-requires Inv-loop μ-loop
-clipped-step-requires c κs = (c .before .before .before .before .before .before .before .pre .0, c .before .before .before .before .before .before .before .pre .1, c .before .loop .inv .sound)
-
-enum-known-x : tie.Need-enum-known-x Inv-loop μ-loop
-enum-known-x c = search needs
-
-mul-out : tie.Need-mul-out Inv-loop μ-loop
-mul-out c = search needs
-
-slice-write-out : tie.Need-slice-write-out Inv-loop μ-loop
-slice-write-out c = search needs
-
-add-n : tie.Need-add-n Inv-loop μ-loop
-add-n c = search needs
-
-loop-less : tie.Need-loop-less Inv-loop μ-loop
-loop-less c = search needs
+clipped-step-requires c κs =
+    let at-start = c .before .before .before .before .before .before .before in
+    (at-start .pre .0, at-start .pre .1, c .before .loop .inv .sound)
 
 loop-again : tie.Need-loop-again Inv-loop μ-loop
-loop-again c = let a = c .before .before .before .before .before .before .before .before .before .before .before .args in handing-site (now (a .triangles)) (now (a .halfedges)) _ (shareEdgeOf (now (a .offsets)) (now (a .cells)) (a .s)) (c .before .before .before .before .before .loop .inv) (c .before .before .before .clipped-step .result) (c .before .before .before .clipped-step .ensures) _ _ (omega arith) (c .before .x .given .1)
-
-enum-told : tie.Need-enum-told Inv-loop μ-loop
-enum-told c = search needs
-
-same-length : tie.Need-same-length Inv-loop μ-loop
-same-length c = search needs
+loop-again c =
+    let at-loop = c .before .before .before .before .before in
+    let at-start = at-loop .before .before .before .before .before .before in
+    let a = at-start .args in handing-site (now (a .triangles)) (now (a .halfedges)) _ (shareEdgeOf (now (a .offsets)) (now (a .cells)) (a .s))
+    (at-loop .loop .inv) (c .before .before .before .clipped-step .result) (c .before .before .before .clipped-step .ensures) _ _ (omega arith) (c .before .x .given .1)
 
 returns : tie.Need-returns Inv-loop μ-loop
-returns c = let a = c .before .before .before .before .before .before .before .before .before .before .args in handing-end (now (a .triangles)) (now (a .halfedges)) _ (shareEdgeOf (now (a .offsets)) (now (a .cells)) (a .s)) (c .before .before .before .before .loop .inv) (c .before .before .clipped-step .result) (c .before .before .clipped-step .ensures) (c .enum-told .given .1)
+returns c =
+    let at-start = c .before .before .before .before .before .before .before .before .before .before in
+    let a = at-start .args in handing-end (now (a .triangles)) (now (a .halfedges)) _ (shareEdgeOf (now (a .offsets)) (now (a .cells)) (a .s))
+    (c .before .before .before .before .loop .inv) (c .before .before .clipped-step .result) (c .before .before .clipped-step .ensures) (c .enum-told .given .1)
 
 clipped-over-requires : tie.Need-clipped-over-requires Inv-loop μ-loop
-clipped-over-requires c κs = (c .before .before .before .before .before .before .before .pre .0, c .before .before .before .before .before .before .before .pre .1, c .before .loop .inv .sound)
-
-same-length-2 : tie.Need-same-length-2 Inv-loop μ-loop
-same-length-2 c = search needs
+clipped-over-requires c κs =
+    let at-start = c .before .before .before .before .before .before .before in
+    (at-start .pre .0, at-start .pre .1, c .before .loop .inv .sound)
 
 returns-2 : tie.Need-returns-2 Inv-loop μ-loop
-returns-2 c = let a = c .before .before .before .before .before .before .before .before .args in handing-full (now (a .triangles)) (now (a .halfedges)) _ (shareEdgeOf (now (a .offsets)) (now (a .cells)) (a .s)) (c .before .before .loop .inv) (omega arith) _ (c .clipped-over .ensures)
+returns-2 c =
+    let at-start = c .before .before .before .before .before .before .before .before in
+    let a = at-start .args in handing-full (now (a .triangles)) (now (a .halfedges)) _ (shareEdgeOf (now (a .offsets)) (now (a .cells)) (a .s))
+    (c .before .before .loop .inv) (omega arith) _ (c .clipped-over .ensures)
 
 pub clipped-neighbours-spec : {M : Type 1} → statement M
 clipped-neighbours-spec =
     tie.close
-    (tie.spec
-    Inv-loop
-    μ-loop
-    loop-holds
-    clipped-step-requires
-    enum-known-x
-    mul-out
-    slice-write-out
-    add-n
-    loop-less
-    loop-again
-    enum-told
-    same-length
-    returns
-    clipped-over-requires
-    same-length-2
-    returns-2)
+    (tie.spec Inv-loop μ-loop loop-holds clipped-step-requires (λ c. search needs) (λ c. search needs)
+    (λ c. search needs) (λ c. search needs) (λ c. search needs) loop-again (λ c. search needs) (λ c. search needs)
+    returns clipped-over-requires (λ c. search needs) returns-2)

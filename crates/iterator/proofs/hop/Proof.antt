@@ -1,7 +1,6 @@
 -- Each neighbour is weighed against the best so far, so what the running minimum makes of the rest stays the hop.
-use mathlib.Core.Path.{_≡_, refl, sym, ap, _∙_}
-use Prim.Native.Nat.{_/_, _<_}
-use native.Mathlib.Omega.{arith}
+use mathlib.Core.Path.{sym, _∙_}
+use Prim.Native.Nat.{_/_}
 use lib.ListN.{length}
 use borrow.Author.Needs.{needs}
 use Rattle.iterator.specs.Path.{hopOf}
@@ -17,66 +16,39 @@ Inv-loop sites triangles halfedges table s p start c₀ best₀ c best =
 abbrev μ-loop : tie.MeasureT-loop
 μ-loop sites triangles halfedges table s p start c₀ best₀ c best = length (leftOf triangles halfedges c)
 
-wide-requires : tie.Need-wide-requires Inv-loop μ-loop
-wide-requires c κs = search needs
-
-mul-start : tie.Need-mul-start Inv-loop μ-loop
-mul-start c = search needs
-
-shared-slice-read-start : tie.Need-shared-slice-read-start Inv-loop μ-loop
-shared-slice-read-start c = search needs
-
-distance-requires : tie.Need-distance-requires Inv-loop μ-loop
-distance-requires c κs = search needs
-
 loop-holds : tie.Need-loop-holds Inv-loop μ-loop
 loop-holds c =
-    nearing-start _ _ _ _ _ _ (c .before .before .before .before .before .before .before .pre .0) _ _ _ (c .before .before .before .before .before .before .before .pre .1) (rw (c .before .before .wide .ensures)) (c .distance .ensures)
-
-step-requires : tie.Need-step-requires Inv-loop μ-loop
-step-requires c κs = search needs
-
-enum-known-n : tie.Need-enum-known-n Inv-loop μ-loop
-enum-known-n c = search needs
+    let at-start = c .before .before .before .before .before .before .before in
+    nearing-start _ _ _ _ _ _ (at-start .pre .0) _ _ _ (at-start .pre .1) (rw (c .before .before .wide .ensures)) (c .distance .ensures)
 
 distance-requires-2 : tie.Need-distance-requires-2 Inv-loop μ-loop
 distance-requires-2 c κs =
-    nearing-below _ _ _ _ _ _ (c .before .before .before .before .before .before .before .before .before .before .before .before .pre .0) (c .before .before .before .before .loop .inv) _ _ (sym (c .before .n .given .1) ∙ c .before .before .before .step .ensures)
-
-nearer-requires : tie.Need-nearer-requires Inv-loop μ-loop
-nearer-requires c κs = search needs
+    let at-start = c .before .before .before .before .before .before .before .before .before .before .before .before in
+    nearing-below _ _ _ _ _ _ (at-start .pre .0) (c .before .before .before .before .loop .inv) _ _ (sym (c .before .n .given .1) ∙ c .before .before .before .step .ensures)
 
 loop-less : tie.Need-loop-less Inv-loop μ-loop
 loop-less c =
-    nearing-less _ _ _ _ _ _ (c .before .before .before .before .before .before .before .before .before .before .before .before .before .before .pre .0) (c .before .before .before .before .before .before .loop .inv) _ _ (sym (c .before .before .before .n .given .1) ∙ c .before .before .before .before .before .step .ensures)
+    let at-step = c .before .before .before .before .before in
+    let at-loop = at-step .before in
+    let at-start = at-loop .before .before .before .before .before .before .before .before in
+    nearing-less _ _ _ _ _ _ (at-start .pre .0) (at-loop .loop .inv) _ _ (sym (c .before .before .before .n .given .1) ∙ at-step .step .ensures)
 
 loop-again : tie.Need-loop-again Inv-loop μ-loop
 loop-again c =
-    rw (c .nearer .ensures) (nearing-site _ _ _ _ _ _ (c .before .before .before .before .before .before .before .before .before .before .before .before .before .before .pre .0) (c .before .before .before .before .before .before .loop .inv) _ _ (sym (c .before .before .before .n .given .1) ∙ c .before .before .before .before .before .step .ensures) _ (c .before .distance2 .ensures))
-
-enum-told : tie.Need-enum-told Inv-loop μ-loop
-enum-told c = search needs
+    let at-step = c .before .before .before .before .before in
+    let at-loop = at-step .before in
+    let at-start = at-loop .before .before .before .before .before .before .before .before in
+    rw (c .nearer .ensures) (nearing-site _ _ _ _ _ _ (at-start .pre .0) (at-loop .loop .inv) _ _
+    (sym (c .before .before .before .n .given .1) ∙ at-step .step .ensures) _ (c .before .distance2 .ensures))
 
 returns : tie.Need-returns Inv-loop μ-loop
 returns c =
-    nearing-end _ _ _ _ _ _ (c .before .before .before .before .before .before .before .before .before .before .before .pre .0) (c .before .before .before .loop .inv) (sym (c .enum-told .given .1) ∙ c .before .before .step .ensures)
+    let at-start = c .before .before .before .before .before .before .before .before .before .before .before in
+    nearing-end _ _ _ _ _ _ (at-start .pre .0) (c .before .before .before .loop .inv) (sym (c .enum-told .given .1) ∙ c .before .before .step .ensures)
 
 pub hop-spec : {M : Type 1} → statement M
 hop-spec =
     tie.close
-    (tie.spec
-    Inv-loop
-    μ-loop
-    wide-requires
-    mul-start
-    shared-slice-read-start
-    distance-requires
-    loop-holds
-    step-requires
-    enum-known-n
-    distance-requires-2
-    nearer-requires
-    loop-less
-    loop-again
-    enum-told
-    returns)
+    (tie.spec Inv-loop μ-loop (λ c κs. search needs) (λ c. search needs) (λ c. search needs) (λ c κs. search needs)
+    loop-holds (λ c κs. search needs) (λ c. search needs) distance-requires-2 (λ c κs. search needs) loop-less
+    loop-again (λ c. search needs) returns)

@@ -3,15 +3,6 @@ use borrow.Author.Needs.{needs}
 use Rattle.iterator.proofs.if_shared.Statement.{statement}
 use Rattle.iterator.proofs.if_shared.Tie as tie
 
-wide-requires : tie.Need-wide-requires
-wide-requires c κs = search needs
-
-wide-requires-2 : tie.Need-wide-requires-2
-wide-requires-2 c κs = search needs
-
-share-edge-requires : tie.Need-share-edge-requires
-share-edge-requires c κs = search needs
-
 returns : tie.Need-returns
 returns c = rw (← c .before .before .before .wide .ensures, ← c .before .before .wide2 .ensures, ← c .before .share-edge .ensures, c .if1 .taken)
 
@@ -20,4 +11,4 @@ returns-2 c = rw (← c .before .before .before .wide .ensures, ← c .before .b
 
 pub if-shared-spec : {M : Type 1} → statement M
 if-shared-spec =
-    tie.close (tie.spec wide-requires wide-requires-2 share-edge-requires returns returns-2)
+    tie.close (tie.spec (λ c κs. search needs) (λ c κs. search needs) (λ c κs. search needs) returns returns-2)

@@ -5,47 +5,26 @@ use borrow.Author.Needs.{needs}
 use Rattle.iterator.proofs.judge.Statement.{statement}
 use Rattle.iterator.proofs.judge.Tie as tie
 
-wide-requires : tie.Need-wide-requires
-wide-requires c κs = search needs
-
-if-shared-requires : tie.Need-if-shared-requires
-if-shared-requires c κs = search needs
-
 returns : tie.Need-returns
 returns c = c .if-shared .ensures ∙ judge-last _ _ _ _ _ _ (c .before .before .wide .ensures) refl (c .before .if1 .taken)
-
-wide-requires-2 : tie.Need-wide-requires-2
-wide-requires-2 c κs = search needs
 
 returns-2 : tie.Need-returns-2
 returns-2 c = judge-later _ _ _ _ _ _ (c .before .before .before .wide .ensures) (c .before .wide2 .ensures) (c .before .before .if1 .left) (c .if2 .taken)
 
-mul-if3 : tie.Need-mul-if3
-mul-if3 c = search needs
-
-shared-slice-read-if3 : tie.Need-shared-slice-read-if3
-shared-slice-read-if3 c = search needs
-
 returns-3 : tie.Need-returns-3
-returns-3 c = judge-inner _ _ _ _ _ _ (c .before .before .before .before .before .wide .ensures) (c .before .before .before .wide2 .ensures) (c .before .before .before .before .if1 .left) (c .before .before .if2 .left) (c .if3 .taken)
-
-if-shared-requires-2 : tie.Need-if-shared-requires-2
-if-shared-requires-2 c κs = search needs
+returns-3 c =
+    let at-wide = c .before .before .before .before .before in
+    judge-inner _ _ _ _ _ _ (at-wide .wide .ensures) (c .before .before .before .wide2 .ensures) (c .before .before .before .before .if1 .left) (c .before .before .if2 .left) (c .if3 .taken)
 
 returns-4 : tie.Need-returns-4
-returns-4 c = c .if-shared2 .ensures ∙ judge-first _ _ _ _ _ _ (c .before .before .before .before .before .before .wide .ensures) (c .before .before .before .before .wide2 .ensures) (c .before .before .before .before .before .if1 .left) (c .before .before .before .if2 .left) (c .before .if3 .left)
+returns-4 c =
+    let at-if1 = c .before .before .before .before .before in
+    let at-wide = at-if1 .before in
+    c .if-shared2 .ensures ∙ judge-first _ _ _ _ _ _ (at-wide .wide .ensures) (c .before .before .before .before .wide2 .ensures) (at-if1 .if1 .left)
+    (c .before .before .before .if2 .left) (c .before .if3 .left)
 
 pub judge-spec : {M : Type 1} → statement M
 judge-spec =
     tie.close
-    (tie.spec
-    wide-requires
-    if-shared-requires
-    returns
-    wide-requires-2
-    returns-2
-    mul-if3
-    shared-slice-read-if3
-    returns-3
-    if-shared-requires-2
-    returns-4)
+    (tie.spec (λ c κs. search needs) (λ c κs. search needs) returns (λ c κs. search needs) returns-2
+    (λ c. search needs) (λ c. search needs) returns-3 (λ c κs. search needs) returns-4)

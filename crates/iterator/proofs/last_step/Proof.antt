@@ -7,9 +7,6 @@ use Rattle.iterator.specs.Cursor.{lastStep}
 use Rattle.iterator.proofs.last_step.Statement.{statement}
 use Rattle.iterator.proofs.last_step.Tie as tie
 
-next-halfedge-requires : tie.Need-next-halfedge-requires
-next-halfedge-requires c κs = search needs
-
 mul-if1 : tie.Need-mul-if1
 mul-if1 c = record { fits = omega (arith, next-sum (c .before .before .before .args .e)) }
 
@@ -17,7 +14,9 @@ shared-slice-read-if1 : tie.Need-shared-slice-read-if1
 shared-slice-read-if1 c = omega (arith, next-sum (c .before .before .before .before .args .e))
 
 end-site-requires : tie.Need-end-site-requires
-end-site-requires c κs = omega (arith, next-sum (c .before .before .before .before .before .args .e))
+end-site-requires c κs =
+    let at-start = c .before .before .before .before .before in
+    omega (arith, next-sum (at-start .args .e))
 
 returns : tie.Need-returns
 unfolding lastStep
@@ -29,4 +28,4 @@ returns-2 c = simp (← c .before .before .next-halfedge .ensures, ne-eqb _ _ (c
 
 pub last-step-spec : {M : Type 1} → statement M
 last-step-spec =
-    tie.close (tie.spec next-halfedge-requires mul-if1 shared-slice-read-if1 end-site-requires returns returns-2)
+    tie.close (tie.spec (λ c κs. search needs) mul-if1 shared-slice-read-if1 end-site-requires returns returns-2)

@@ -20,64 +20,25 @@ abbrev μ-loop : tie.MeasureT-loop
 loop-holds : tie.Need-loop-holds Inv-loop μ-loop
 loop-holds c = handing-start _ _ _ (omega (arith, c .before .before .before .pre .0 .small)) _ (settled-start _ _ (c .before .before .before .pre .0) _)
 
-step-requires : tie.Need-step-requires Inv-loop μ-loop
-step-requires c κs = search needs
-
-enum-known-x : tie.Need-enum-known-x Inv-loop μ-loop
-enum-known-x c = search needs
-
-mul-out : tie.Need-mul-out Inv-loop μ-loop
-mul-out c = search needs
-
-slice-write-out : tie.Need-slice-write-out Inv-loop μ-loop
-slice-write-out c = search needs
-
-add-n : tie.Need-add-n Inv-loop μ-loop
-add-n c = search needs
-
-loop-less : tie.Need-loop-less Inv-loop μ-loop
-loop-less c = search needs
-
 loop-again : tie.Need-loop-again Inv-loop μ-loop
 loop-again c =
-    handing-site _ _ _ (omega (arith, c .before .before .before .before .before .before .before .before .before .pre .0 .small)) (c .before .before .before .before .before .loop .inv) _ _ (omega arith) (sym (c .before .x .given .1) ∙ c .before .before .before .step .ensures)
-
-enum-told : tie.Need-enum-told Inv-loop μ-loop
-enum-told c = search needs
-
-same-length : tie.Need-same-length Inv-loop μ-loop
-same-length c = search needs
+    let at-loop = c .before .before .before .before .before in
+    let at-start = at-loop .before .before .before .before in
+    handing-site _ _ _ (omega (arith, at-start .pre .0 .small)) (at-loop .loop .inv) _ _ (omega arith) (sym (c .before .x .given .1) ∙ c .before .before .before .step .ensures)
 
 returns : tie.Need-returns Inv-loop μ-loop
 returns c =
-    handing-end _ _ _ (omega (arith, c .before .before .before .before .before .before .before .before .pre .0 .small)) (c .before .before .before .before .loop .inv) (sym (c .enum-told .given .1) ∙ c .before .before .step .ensures)
-
-over-requires : tie.Need-over-requires Inv-loop μ-loop
-over-requires c κs = search needs
-
-same-length-2 : tie.Need-same-length-2 Inv-loop μ-loop
-same-length-2 c = search needs
+    let at-start = c .before .before .before .before .before .before .before .before in
+    handing-end _ _ _ (omega (arith, at-start .pre .0 .small)) (c .before .before .before .before .loop .inv) (sym (c .enum-told .given .1) ∙ c .before .before .step .ensures)
 
 returns-2 : tie.Need-returns-2 Inv-loop μ-loop
-returns-2 c = handing-full _ _ _ (omega (arith, c .before .before .before .before .before .before .pre .0 .small)) (c .before .before .loop .inv) (omega arith) _ (c .over .ensures)
+returns-2 c =
+    let at-start = c .before .before .before .before .before .before in
+    handing-full _ _ _ (omega (arith, at-start .pre .0 .small)) (c .before .before .loop .inv) (omega arith) _ (c .over .ensures)
 
 pub neighbours-spec : {M : Type 1} → statement M
 neighbours-spec =
     tie.close
-    (tie.spec
-    Inv-loop
-    μ-loop
-    loop-holds
-    step-requires
-    enum-known-x
-    mul-out
-    slice-write-out
-    add-n
-    loop-less
-    loop-again
-    enum-told
-    same-length
-    returns
-    over-requires
-    same-length-2
-    returns-2)
+    (tie.spec Inv-loop μ-loop loop-holds (λ c κs. search needs) (λ c. search needs) (λ c. search needs)
+    (λ c. search needs) (λ c. search needs) (λ c. search needs) loop-again (λ c. search needs) (λ c. search needs)
+    returns (λ c κs. search needs) (λ c. search needs) returns-2)

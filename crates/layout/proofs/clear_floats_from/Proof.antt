@@ -4,7 +4,7 @@ use native.Mathlib.Omega.{arith}
 use lib.ListN.{length}
 use borrow.Author.Needs.{needs}
 use Rattle.laws.specs.Binary64.{zero}
-use Rattle.layout.proofs.Pasting.{Clearing, clearing-start, clearing-step, clearing-end}
+use Rattle.layout.specs.laws.Pasting.{Clearing, clearing-start, clearing-step, clearing-end}
 use Rattle.layout.proofs.clear_floats_from.Statement.{statement}
 use Rattle.layout.proofs.clear_floats_from.Tie as tie
 
@@ -17,18 +17,6 @@ abbrev μ-loop : tie.MeasureT-loop
 loop-holds : tie.Need-loop-holds Inv-loop μ-loop
 loop-holds c = clearing-start _ _ _ (c .pre)
 
-mul-v : tie.Need-mul-v Inv-loop μ-loop
-mul-v c = search needs
-
-slice-write-v : tie.Need-slice-write-v Inv-loop μ-loop
-slice-write-v c = search needs
-
-add-i : tie.Need-add-i Inv-loop μ-loop
-add-i c = search needs
-
-loop-less : tie.Need-loop-less Inv-loop μ-loop
-loop-less c = omega arith
-
 loop-again : tie.Need-loop-again Inv-loop μ-loop
 loop-again c = clearing-step _ _ _ _ _ (c .before .loop .inv) (omega arith)
 
@@ -39,4 +27,7 @@ returns : tie.Need-returns Inv-loop μ-loop
 returns c = clearing-end _ _ _ _ _ (c .before .loop .inv) (omega arith)
 
 pub clear-floats-from-spec : {M : Type 1} → statement M
-clear-floats-from-spec = tie.close (tie.spec Inv-loop μ-loop loop-holds mul-v slice-write-v add-i loop-less loop-again same-length returns)
+clear-floats-from-spec =
+    tie.close
+    (tie.spec Inv-loop μ-loop loop-holds (λ c. search needs) (λ c. search needs) (λ c. search needs) (λ c. omega arith)
+    loop-again same-length returns)

@@ -1,12 +1,12 @@
 -- `layout::compact` meets its contract: after s turns the first s cells stand together, what lies ahead is untouched, and the starts passed are offsets.
-use mathlib.Core.Path.{_≡_, refl, sym, _∙_}
+use mathlib.Core.Path.{_≡_}
 use mathlib.Core.List.{List}
-use Prim.Native.Nat.{ℕ, _+_, _-_, _≤_, _<_}
+use Prim.Native.Nat.{ℕ, _-_, _≤_}
 use native.Mathlib.Omega.{arith}
-use lib.ListN.{length, getD, length-set}
+use lib.ListN.{length, length-set}
 use borrow.Author.Needs.{needs}
 use Rattle.layout.specs.Regions.{Regions}
-use Rattle.layout.proofs.Compacting.{Going, Moved, going-start, moved-start, going-step, moved-step, moved-end, region-within, going-below, going-within}
+use Rattle.layout.specs.laws.Compacting.{Going, Moved, going-start, moved-start, going-step, moved-step, moved-end, region-within, going-below, going-within}
 use Rattle.layout.proofs.compact.Statement.{statement}
 use Rattle.layout.proofs.compact.Tie as tie
 
@@ -27,14 +27,8 @@ inside c = let l = c .before .before .before in region-within _ _ _ _ _ _ _ _ _ 
 slice-read-wide : tie.Need-slice-read-wide Inv-loop μ-loop
 slice-read-wide c = omega (arith, c .before .before .before .pre .0 .long)
 
-wide-requires : tie.Need-wide-requires Inv-loop μ-loop
-wide-requires c κs = search needs
-
 loop-holds : tie.Need-loop-holds Inv-loop μ-loop
 loop-holds c = (going-start _ _ _ _ (c .wide .ensures), λ cells q r. moved-start _ _ _ _)
-
-add-wide : tie.Need-add-wide Inv-loop μ-loop
-add-wide c = search needs
 
 mul-wide : tie.Need-mul-wide Inv-loop μ-loop
 mul-wide c = omega (arith, c .before .loop .inv .0 .long-off, Entry (c .before) .pre .0 .long)
@@ -42,16 +36,14 @@ mul-wide c = omega (arith, c .before .loop .inv .0 .long-off, Entry (c .before) 
 slice-read-wide-2 : tie.Need-slice-read-wide-2 Inv-loop μ-loop
 slice-read-wide-2 c = omega (arith, c .before .before .loop .inv .0 .long-off, Entry (c .before .before) .pre .0 .long)
 
-wide-requires-2 : tie.Need-wide-requires-2 Inv-loop μ-loop
-wide-requires-2 c κs = search needs
-
 cell-end-requires : tie.Need-cell-end-requires Inv-loop μ-loop
 cell-end-requires c κs = inside (c .before)
 
 move-down-requires : tie.Need-move-down-requires Inv-loop μ-loop
 move-down-requires c κs =
+    let at-loop = c .before .before .before .before .before .before in
     let f = c .before .cell-end .ensures in
-    (c .before .before .before .before .before .before .loop .inv .0 .low, f .low, omega (arith, f .high, inside (c .before .before .before) .1))
+    (at-loop .loop .inv .0 .low, f .low, omega (arith, f .high, inside (c .before .before .before) .1))
 
 cast-off : tie.Need-cast-off Inv-loop μ-loop
 cast-off c = let l = c .before .before .before .before .before .before .before .before .before in omega (arith, going-below _ _ _ _ _ _ _ _ (l .loop .inv .0) (Entry l .pre .0), Entry l .pre .1)
@@ -70,12 +62,6 @@ add-w c =
     let d = c .before .before .before .before .before .before in
     let f = c .before .before .before .before .cell-end .ensures in
     omega (arith, inside d, d .before .before .before .loop .inv .0 .low, f .low, f .high)
-
-add-s : tie.Need-add-s Inv-loop μ-loop
-add-s c = search needs
-
-loop-less : tie.Need-loop-less Inv-loop μ-loop
-loop-less c = omega arith
 
 loop-again : tie.Need-loop-again Inv-loop μ-loop
 loop-again c =
@@ -113,29 +99,7 @@ returns c =
 pub compact-spec : {M : Type 1} → statement M
 compact-spec =
     tie.close
-    (tie.spec
-    Inv-loop
-    μ-loop
-    slice-read-wide
-    wide-requires
-    loop-holds
-    add-wide
-    mul-wide
-    slice-read-wide-2
-    wide-requires-2
-    cell-end-requires
-    move-down-requires
-    cast-off
-    mul-off
-    slice-write-off
-    sub-w
-    add-w
-    add-s
-    loop-less
-    loop-again
-    cast-off-2
-    mul-off-2
-    slice-write-off-2
-    same-length
-    same-length-2
-    returns)
+    (tie.spec Inv-loop μ-loop slice-read-wide (λ c κs. search needs) loop-holds (λ c. search needs) mul-wide
+    slice-read-wide-2 (λ c κs. search needs) cell-end-requires move-down-requires cast-off mul-off slice-write-off
+    sub-w add-w (λ c. search needs) (λ c. omega arith) loop-again cast-off-2 mul-off-2 slice-write-off-2 same-length
+    same-length-2 returns)

@@ -3,7 +3,7 @@ use Prim.Native.Nat.{_-_}
 use native.Mathlib.Omega.{arith}
 use lib.ListN.{length}
 use borrow.Author.Needs.{needs}
-use Rattle.layout.proofs.Pasting.{Clearing, clearing-start, clearing-step, clearing-end}
+use Rattle.layout.specs.laws.Pasting.{Clearing, clearing-start, clearing-step, clearing-end}
 use Rattle.layout.proofs.fill_from.Statement.{statement}
 use Rattle.layout.proofs.fill_from.Tie as tie
 
@@ -16,18 +16,6 @@ abbrev μ-loop : tie.MeasureT-loop
 loop-holds : tie.Need-loop-holds Inv-loop μ-loop
 loop-holds c = clearing-start _ _ _ (c .pre)
 
-mul-s : tie.Need-mul-s Inv-loop μ-loop
-mul-s c = search needs
-
-slice-write-s : tie.Need-slice-write-s Inv-loop μ-loop
-slice-write-s c = search needs
-
-add-i : tie.Need-add-i Inv-loop μ-loop
-add-i c = search needs
-
-loop-less : tie.Need-loop-less Inv-loop μ-loop
-loop-less c = omega arith
-
 loop-again : tie.Need-loop-again Inv-loop μ-loop
 loop-again c = clearing-step _ _ _ _ _ (c .before .loop .inv) (omega arith)
 
@@ -38,4 +26,7 @@ returns : tie.Need-returns Inv-loop μ-loop
 returns c = clearing-end _ _ _ _ _ (c .before .loop .inv) (omega arith)
 
 pub fill-from-spec : {M : Type 1} → statement M
-fill-from-spec = tie.close (tie.spec Inv-loop μ-loop loop-holds mul-s slice-write-s add-i loop-less loop-again same-length returns)
+fill-from-spec =
+    tie.close
+    (tie.spec Inv-loop μ-loop loop-holds (λ c. search needs) (λ c. search needs) (λ c. search needs) (λ c. omega arith)
+    loop-again same-length returns)

@@ -2,9 +2,8 @@
 use mathlib.Core.Path.{_≡_, refl}
 use Prim.Native.Nat.{_-_, _≤_}
 use native.Mathlib.Omega.{arith}
-use lib.ListN.{length}
 use borrow.Author.Needs.{needs}
-use Rattle.layout.proofs.Pasting.{Moving, moving-start, moving-step}
+use Rattle.layout.specs.laws.Pasting.{Moving, moving-start, moving-step}
 use Rattle.layout.proofs.move_down.Statement.{statement}
 use Rattle.layout.proofs.move_down.Tie as tie
 
@@ -17,9 +16,6 @@ abbrev μ-loop : tie.MeasureT-loop
 loop-holds : tie.Need-loop-holds Inv-loop μ-loop
 loop-holds c = (moving-start _ _ _, omega arith)
 
-mul-idx : tie.Need-mul-idx Inv-loop μ-loop
-mul-idx c = search needs
-
 slice-read-idx : tie.Need-slice-read-idx Inv-loop μ-loop
 slice-read-idx c = omega (arith, c .before .before .loop .inv .0 .long)
 
@@ -31,12 +27,6 @@ slice-write-idx c = omega (arith, c .before .before .loop .inv .0 .long, c .befo
 
 add-w : tie.Need-add-w Inv-loop μ-loop
 add-w c = omega (arith, c .before .before .loop .inv .0 .place)
-
-add-i : tie.Need-add-i Inv-loop μ-loop
-add-i c = omega arith
-
-loop-less : tie.Need-loop-less Inv-loop μ-loop
-loop-less c = omega arith
 
 loop-again : tie.Need-loop-again Inv-loop μ-loop
 loop-again c = (moving-step _ _ _ _ _ _ (c .before .before .loop .inv .0) (omega arith) (omega arith) 0 _ refl, omega arith)
@@ -51,4 +41,5 @@ returns c =
 
 pub move-down-spec : {M : Type 1} → statement M
 move-down-spec =
-    tie.close (tie.spec Inv-loop μ-loop loop-holds mul-idx slice-read-idx mul-idx-2 slice-write-idx add-w add-i loop-less loop-again same-length returns)
+    tie.close (tie.spec Inv-loop μ-loop loop-holds (λ c. search needs) slice-read-idx mul-idx-2 slice-write-idx add-w
+    (λ c. omega arith) (λ c. omega arith) loop-again same-length returns)

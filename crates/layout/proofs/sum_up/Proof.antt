@@ -1,10 +1,9 @@
 -- `layout::sum_up` meets its contract: after i turns the first i sums stand.
-use mathlib.Core.Path.{_≡_, refl}
+use mathlib.Core.Path.{refl}
 use Prim.Native.Nat.{_-_}
 use native.Mathlib.Omega.{arith}
-use lib.ListN.{length}
 use borrow.Author.Needs.{needs}
-use Rattle.layout.proofs.Tallying.{Adding, adding-start, add-fits, adding-step, adding-end}
+use Rattle.layout.specs.laws.Tallying.{Adding, adding-start, add-fits, adding-step, adding-end}
 use Rattle.layout.proofs.sum_up.Statement.{statement}
 use Rattle.layout.proofs.sum_up.Tie as tie
 
@@ -23,9 +22,6 @@ mul-off c = omega (arith, c .before .loop .inv .long, c .before .before .pre .pl
 slice-read-off : tie.Need-slice-read-off Inv-loop μ-loop
 slice-read-off c = omega (arith, c .before .before .loop .inv .long, c .before .before .before .pre .places)
 
-add-off : tie.Need-add-off Inv-loop μ-loop
-add-off c = search needs
-
 mul-off-2 : tie.Need-mul-off-2 Inv-loop μ-loop
 mul-off-2 c = omega (arith, c .before .before .loop .inv .long, c .before .before .before .pre .places)
 
@@ -35,20 +31,11 @@ slice-read-off-2 c = omega (arith, c .before .before .before .loop .inv .long, c
 add-off-2 : tie.Need-add-off-2 Inv-loop μ-loop
 add-off-2 c = let l = c .before .before .before in omega (arith, add-fits _ _ _ _ (l .before .pre) (l .loop .inv) (omega arith))
 
-add-off-3 : tie.Need-add-off-3 Inv-loop μ-loop
-add-off-3 c = search needs
-
 mul-off-3 : tie.Need-mul-off-3 Inv-loop μ-loop
 mul-off-3 c = omega (arith, c .before .before .before .loop .inv .long, c .before .before .before .before .pre .places)
 
 slice-write-off : tie.Need-slice-write-off Inv-loop μ-loop
 slice-write-off c = omega (arith, c .before .before .before .loop .inv .long, c .before .before .before .before .pre .places)
-
-add-i : tie.Need-add-i Inv-loop μ-loop
-add-i c = search needs
-
-loop-less : tie.Need-loop-less Inv-loop μ-loop
-loop-less c = omega arith
 
 loop-again : tie.Need-loop-again Inv-loop μ-loop
 loop-again c = let l = c .before .before .before in adding-step _ _ _ _ (l .before .pre) (l .loop .inv) (omega arith) _ refl
@@ -62,21 +49,6 @@ returns c = let l = c .before .loop in adding-end _ _ _ (l .i) (omega arith) (l 
 pub sum-up-spec : {M : Type 1} → statement M
 sum-up-spec =
     tie.close
-    (tie.spec
-    Inv-loop
-    μ-loop
-    loop-holds
-    mul-off
-    slice-read-off
-    add-off
-    mul-off-2
-    slice-read-off-2
-    add-off-2
-    add-off-3
-    mul-off-3
-    slice-write-off
-    add-i
-    loop-less
-    loop-again
-    same-length
-    returns)
+    (tie.spec Inv-loop μ-loop loop-holds mul-off slice-read-off (λ c. search needs) mul-off-2 slice-read-off-2
+    add-off-2 (λ c. search needs) mul-off-3 slice-write-off (λ c. search needs) (λ c. omega arith) loop-again
+    same-length returns)

@@ -1,11 +1,11 @@
 -- `layout::tally` meets its contract: after i turns the first i entries are counted.
-use mathlib.Core.Path.{_≡_, refl}
+use mathlib.Core.Path.{refl}
 use Prim.Native.Nat.{_+_, _-_, _≤_, _<_}
 use native.Mathlib.Omega.{arith}
 use lib.ListN.{length, take}
 use borrow.Author.Needs.{needs}
 use Rattle.layout.specs.Rooms.{Tallied}
-use Rattle.layout.proofs.Tallying.{tallied-none, tallied-all, tally-place, tally-fits, tally-step}
+use Rattle.layout.specs.laws.Tallying.{tallied-none, tallied-all, tally-place, tally-fits, tally-step}
 use Rattle.layout.proofs.tally.Statement.{statement}
 use Rattle.layout.proofs.tally.Tie as tie
 
@@ -20,15 +20,6 @@ Entry l = l .before .before .before
 
 loop-holds : tie.Need-loop-holds Inv-loop μ-loop
 loop-holds c = (omega arith, tallied-none (c .before .before .args .list .now) _ _)
-
-mul-wide : tie.Need-mul-wide Inv-loop μ-loop
-mul-wide c = search needs
-
-shared-slice-read-wide : tie.Need-shared-slice-read-wide Inv-loop μ-loop
-shared-slice-read-wide c = search needs
-
-wide-requires : tie.Need-wide-requires Inv-loop μ-loop
-wide-requires c κs = search needs
 
 -- the place that is written
 place : (c : tie.After-wide Inv-loop μ-loop) → c .wide .result + 1 < length (c .before .before .before .loop .off)
@@ -52,12 +43,6 @@ mul-off-2 c = omega (arith, place (c .before))
 slice-write-off : tie.Need-slice-write-off Inv-loop μ-loop
 slice-write-off c = omega (arith, place (c .before))
 
-add-i : tie.Need-add-i Inv-loop μ-loop
-add-i c = search needs
-
-loop-less : tie.Need-loop-less Inv-loop μ-loop
-loop-less c = omega arith
-
 loop-again : tie.Need-loop-again Inv-loop μ-loop
 loop-again c =
     let l = c .before .before .before .before in
@@ -72,21 +57,6 @@ returns c = let l = c .before .loop in tallied-all _ _ _ _ (l .i) (l .inv .0) (o
 pub tally-spec : {M : Type 1} → statement M
 tally-spec =
     tie.close
-    (tie.spec
-    Inv-loop
-    μ-loop
-    loop-holds
-    mul-wide
-    shared-slice-read-wide
-    wide-requires
-    add-at
-    mul-off
-    slice-read-off
-    add-off
-    mul-off-2
-    slice-write-off
-    add-i
-    loop-less
-    loop-again
-    same-length
+    (tie.spec Inv-loop μ-loop loop-holds (λ c. search needs) (λ c. search needs) (λ c κs. search needs) add-at mul-off
+    slice-read-off add-off mul-off-2 slice-write-off (λ c. search needs) (λ c. omega arith) loop-again same-length
     returns)

@@ -2,21 +2,15 @@
 use denote.Ref.{now}
 use Rattle.listing.specs.Text.{ascii}
 use Rattle.listing.specs.Listing.{entries as entriesOf, labelled as labelledOf, cellLine}
-use Rattle.listing.specs.Wrote.{fits-first, fits-second, fits-third, fits-fourth, wrote-four}
+use Rattle.listing.specs.laws.Wrote.{fits-first, fits-second, fits-third, fits-fourth, wrote-four}
 use borrow.Author.Needs.{needs}
 use Rattle.listing.proofs.cell_line.Statement.{statement}
 use Rattle.listing.proofs.cell_line.Tie as tie
-
-slice-aggregate-labelled : tie.Need-slice-aggregate-labelled
-slice-aggregate-labelled c = search needs
 
 labelled-requires : tie.Need-labelled-requires
 unfolding cellLine labelledOf
 labelled-requires c κs = let s = c .before .before .before .before in let a = s .args in
     fits-first (now (a .out)) (a .at) (labelledOf "cell" (a .i)) (ascii ":") (entriesOf (now (a .cell))) (ascii "\n") (s .pre)
-
-slice-aggregate-put : tie.Need-slice-aggregate-put
-slice-aggregate-put c = search needs
 
 put-requires : tie.Need-put-requires
 unfolding cellLine labelledOf
@@ -31,9 +25,6 @@ entries-requires c κs = let v = c .before .before .before in
     let s = w .before .before .before .before .before in let a = s .args in
     fits-third (now (a .out)) (a .at) (labelledOf "cell" (a .i)) (ascii ":") (entriesOf (now (a .cell))) (ascii "\n") (s .pre) (w .labelled .ensures) (v .put .ensures)
 
-slice-aggregate-put-2 : tie.Need-slice-aggregate-put-2
-slice-aggregate-put-2 c = search needs
-
 put-requires-2 : tie.Need-put-requires-2
 unfolding cellLine labelledOf
 put-requires-2 c κs = let u = c .before .before .before .before in
@@ -42,9 +33,6 @@ put-requires-2 c κs = let u = c .before .before .before .before in
     let s = w .before .before .before .before .before in let a = s .args in
     fits-fourth (now (a .out)) (a .at) (labelledOf "cell" (a .i)) (ascii ":") (entriesOf (now (a .cell))) (ascii "\n") (s .pre) (w .labelled .ensures) (v .put .ensures) (u .entries .ensures)
 
-same-length : tie.Need-same-length
-same-length c = search needs
-
 returns : tie.Need-returns
 unfolding cellLine labelledOf
 returns c = let p = c .before .before in
@@ -52,18 +40,11 @@ returns c = let p = c .before .before in
     let v = u .before .before .before .before in
     let w = v .before .before .before .before .before in
     let s = w .before .before .before .before .before in let a = s .args in
-    wrote-four (now (a .out)) (a .at) (labelledOf "cell" (a .i)) (ascii ":") (entriesOf (now (a .cell))) (ascii "\n") (s .pre) (w .labelled .ensures) (v .put .ensures) (u .entries .ensures) (p .put2 .ensures)
+    wrote-four (now (a .out)) (a .at) (labelledOf "cell" (a .i)) (ascii ":") (entriesOf (now (a .cell))) (ascii "\n") (s .pre) (w .labelled .ensures)
+    (v .put .ensures) (u .entries .ensures) (p .put2 .ensures)
 
 pub cell-line-spec : {M : Type 1} → statement M
 cell-line-spec =
     tie.close
-    (tie.spec
-    slice-aggregate-labelled
-    labelled-requires
-    slice-aggregate-put
-    put-requires
-    entries-requires
-    slice-aggregate-put-2
-    put-requires-2
-    same-length
-    returns)
+    (tie.spec (λ c. search needs) labelled-requires (λ c. search needs) put-requires entries-requires
+    (λ c. search needs) put-requires-2 (λ c. search needs) returns)

@@ -1,15 +1,16 @@
 -- `listing::cell_lines` meets its contract: the invariant is that the lines so far are written; each turn writes one more, of the part between two offsets.
-use mathlib.Core.Path.{_≡_, refl, sym, ap, ap₂, _∙_, subst}
+use mathlib.Core.Path.{_≡_, sym, ap, ap₂, _∙_, subst}
 use mathlib.Core.List.{List}
 use Prim.Native.Nat.{ℕ, suc, _+_, _-_, _≤_, _<_}
 use native.Mathlib.Omega.{arith}
 use native.Mathlib.Numerals.{add-one}
 use lib.ListN.{length, getD, take, drop}
 use denote.Ref.{now}
-use borrow.Author.Needs.{needs}
-use Rattle.listing.specs.Listing.{cellLine, cellOf, cellLines, Layout}
-use Rattle.listing.specs.ListingLaws.{lines-none, lines-more, lines-split}
-use Rattle.listing.specs.Wrote.{Fits, Wrote, Lined, lined-start, lined-fits, lined-step, lined-end, wrote-length}
+use Rattle.listing.specs.Listing.{cellLine, listedCell, cellLines}
+use Rattle.listing.specs.laws.Listing.{lines-none, lines-more, lines-split}
+use Rattle.listing.specs.Wrote.{HasRoom, Wrote}
+use Rattle.listing.specs.laws.Wrote.{lined-fits}
+use Rattle.listing.specs.laws.Wrote.{Lined, lined-start, lined-step, lined-end, wrote-length}
 use Rattle.listing.proofs.cell_lines.Statement.{statement}
 use Rattle.listing.proofs.cell_lines.Tie as tie
 
@@ -25,7 +26,9 @@ abbrev begin : tie.After-wide2 Inv-loop μ-loop → tie.Start Inv-loop μ-loop
 begin c = c .before .before .before .before .before .before .before .before .before
 
 abbrev number : tie.After-wide2 Inv-loop μ-loop → ℕ
-number c = c .before .before .before .before .before .loop .i
+number c =
+    let at-loop = c .before .before .before .before .before in
+    at-loop .loop .i
 
 turn : (c : tie.After-wide2 Inv-loop μ-loop) → number c < begin c .args .sites
 turn c = c .before .before .before .before .loop-test .taken
@@ -44,7 +47,8 @@ bounds c =
 
 part-is :
     (c : tie.After-wide2 Inv-loop μ-loop)
-    → take (c .wide2 .result - c .before .before .wide .result) (drop (c .before .before .wide .result) (now (begin c .args .cells))) ≡ cellOf (now (begin c .args .offsets)) (now (begin c .args .cells)) (number c)
+    → take (c .wide2 .result - c .before .before .wide .result) (drop (c .before .before .wide .result) (now (begin c .args .cells))) ≡ listedCell
+    (now (begin c .args .offsets)) (now (begin c .args .cells)) (number c)
 part-is c = ap₂ (λ (f t : ℕ). take (t - f) (drop f (now (begin c .args .cells)))) (from-is c) (to-is c)
 
 loop-holds : tie.Need-loop-holds Inv-loop μ-loop
@@ -93,8 +97,9 @@ cell-line-requires c κs = let w = c .before .before in
     let cs = now (s .args .cells) in
     let i = number w in
     let l = w .before .before .before .before .before in
-    subst (λ (z : List ℕ). Fits (l .loop .out) (l .loop .end) (cellLine i z)) (sym (part-is w))
-    (lined-fits (l .loop .inv) (cellLine i (cellOf os cs i)) (cellLines os cs (i + 1) (s .args .sites - (i + 1))) (lines-more os cs i) (lines-split os cs (i + 1) (s .args .sites) (omega (arith, turn w))) (s .pre .1))
+    subst (λ (z : List ℕ). HasRoom (l .loop .out) (l .loop .end) (cellLine i z)) (sym (part-is w))
+    (lined-fits (l .loop .inv) (cellLine i (listedCell os cs i)) (cellLines os cs (i + 1) (s .args .sites - (i + 1))) (lines-more os cs i)
+    (lines-split os cs (i + 1) (s .args .sites) (omega (arith, turn w))) (s .pre .1))
 
 add-i : tie.Need-add-i Inv-loop μ-loop
 add-i c = let w = c .before .before .before .before .before in let s = begin w in omega (arith, s .pre .0 .few, turn w)
@@ -108,7 +113,7 @@ loop-again c = let r = c .before .before in
     let s = begin w in
     let i = number w in
     let l = w .before .before .before .before .before in
-    lined-step (l .loop .inv) (cellLine i (cellOf (now (s .args .offsets)) (now (s .args .cells)) i)) (turn w) (lines-more (now (s .args .offsets)) (now (s .args .cells)) i)
+    lined-step (l .loop .inv) (cellLine i (listedCell (now (s .args .offsets)) (now (s .args .cells)) i)) (turn w) (lines-more (now (s .args .offsets)) (now (s .args .cells)) i)
     (subst (λ (z : List ℕ). Wrote (l .loop .out) (r .cell-line .last .0) (l .loop .end) (r .cell-line .result) (cellLine i z)) (part-is w) (r .cell-line .ensures))
 
 same-length : tie.Need-same-length Inv-loop μ-loop

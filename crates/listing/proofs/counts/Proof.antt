@@ -2,21 +2,15 @@
 use denote.Ref.{now}
 use Rattle.listing.specs.Text.{ascii}
 use Rattle.listing.specs.Listing.{labelled as labelledOf, counts as countsOf}
-use Rattle.listing.specs.Wrote.{fits-first, fits-second, fits-third, fits-fourth, wrote-four}
+use Rattle.listing.specs.laws.Wrote.{fits-first, fits-second, fits-third, fits-fourth, wrote-four}
 use borrow.Author.Needs.{needs}
 use Rattle.listing.proofs.counts.Statement.{statement}
 use Rattle.listing.proofs.counts.Tie as tie
-
-slice-aggregate-labelled : tie.Need-slice-aggregate-labelled
-slice-aggregate-labelled c = search needs
 
 labelled-requires : tie.Need-labelled-requires
 unfolding countsOf labelledOf
 labelled-requires c κs = let s = c .before .before .before in let a = s .args in
     fits-first (now (a .out)) 0 (labelledOf "sites" (a .sites)) (labelledOf " triangles" (a .triangles)) (labelledOf " vertices" (a .vertices)) (ascii "\n") (s .pre)
-
-slice-aggregate-labelled-2 : tie.Need-slice-aggregate-labelled-2
-slice-aggregate-labelled-2 c = search needs
 
 labelled-requires-2 : tie.Need-labelled-requires-2
 unfolding countsOf labelledOf
@@ -24,18 +18,13 @@ labelled-requires-2 c κs = let w = c .before .before .before .before in
     let s = w .before .before .before .before in let a = s .args in
     fits-second (now (a .out)) 0 (labelledOf "sites" (a .sites)) (labelledOf " triangles" (a .triangles)) (labelledOf " vertices" (a .vertices)) (ascii "\n") (s .pre) (w .labelled .ensures)
 
-slice-aggregate-labelled-3 : tie.Need-slice-aggregate-labelled-3
-slice-aggregate-labelled-3 c = search needs
-
 labelled-requires-3 : tie.Need-labelled-requires-3
 unfolding countsOf labelledOf
 labelled-requires-3 c κs = let v = c .before .before .before .before in
     let w = v .before .before .before .before .before in
     let s = w .before .before .before .before in let a = s .args in
-    fits-third (now (a .out)) 0 (labelledOf "sites" (a .sites)) (labelledOf " triangles" (a .triangles)) (labelledOf " vertices" (a .vertices)) (ascii "\n") (s .pre) (w .labelled .ensures) (v .labelled2 .ensures)
-
-slice-aggregate-put : tie.Need-slice-aggregate-put
-slice-aggregate-put c = search needs
+    fits-third (now (a .out)) 0 (labelledOf "sites" (a .sites)) (labelledOf " triangles" (a .triangles)) (labelledOf " vertices" (a .vertices))
+    (ascii "\n") (s .pre) (w .labelled .ensures) (v .labelled2 .ensures)
 
 put-requires : tie.Need-put-requires
 unfolding countsOf labelledOf
@@ -43,10 +32,8 @@ put-requires c κs = let u = c .before .before .before .before in
     let v = u .before .before .before .before .before in
     let w = v .before .before .before .before .before in
     let s = w .before .before .before .before in let a = s .args in
-    fits-fourth (now (a .out)) 0 (labelledOf "sites" (a .sites)) (labelledOf " triangles" (a .triangles)) (labelledOf " vertices" (a .vertices)) (ascii "\n") (s .pre) (w .labelled .ensures) (v .labelled2 .ensures) (u .labelled3 .ensures)
-
-same-length : tie.Need-same-length
-same-length c = search needs
+    fits-fourth (now (a .out)) 0 (labelledOf "sites" (a .sites)) (labelledOf " triangles" (a .triangles)) (labelledOf " vertices" (a .vertices))
+    (ascii "\n") (s .pre) (w .labelled .ensures) (v .labelled2 .ensures) (u .labelled3 .ensures)
 
 returns : tie.Need-returns
 unfolding countsOf labelledOf
@@ -55,19 +42,11 @@ returns c = let p = c .before .before in
     let v = u .before .before .before .before .before in
     let w = v .before .before .before .before .before in
     let s = w .before .before .before .before in let a = s .args in
-    wrote-four (now (a .out)) 0 (labelledOf "sites" (a .sites)) (labelledOf " triangles" (a .triangles)) (labelledOf " vertices" (a .vertices)) (ascii "\n") (s .pre) (w .labelled .ensures) (v .labelled2 .ensures) (u .labelled3 .ensures) (p .put .ensures)
+    wrote-four (now (a .out)) 0 (labelledOf "sites" (a .sites)) (labelledOf " triangles" (a .triangles)) (labelledOf " vertices" (a .vertices))
+    (ascii "\n") (s .pre) (w .labelled .ensures) (v .labelled2 .ensures) (u .labelled3 .ensures) (p .put .ensures)
 
 pub counts-spec : {M : Type 1} → statement M
 counts-spec =
     tie.close
-    (tie.spec
-    slice-aggregate-labelled
-    labelled-requires
-    slice-aggregate-labelled-2
-    labelled-requires-2
-    slice-aggregate-labelled-3
-    labelled-requires-3
-    slice-aggregate-put
-    put-requires
-    same-length
-    returns)
+    (tie.spec (λ c. search needs) labelled-requires (λ c. search needs) labelled-requires-2 (λ c. search needs)
+    labelled-requires-3 (λ c. search needs) put-requires (λ c. search needs) returns)

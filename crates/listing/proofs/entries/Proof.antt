@@ -1,5 +1,5 @@
 -- `listing::entries` meets its contract: the invariant is that the entries so far are written; each turn writes one more.
-use mathlib.Core.Path.{_≡_, refl, sym, ap, subst}
+use mathlib.Core.Path.{sym, ap, subst}
 use mathlib.Core.List.{[], _∷_}
 use Prim.Native.Nat.{_+_, _-_}
 use native.Mathlib.Omega.{arith}
@@ -7,8 +7,10 @@ use lib.ListN.{length, getD, take, drop}
 use lib.Seq.{take-length}
 use denote.Ref.{now}
 use Rattle.listing.specs.Listing.{entries}
-use Rattle.listing.specs.ListingLaws.{entries-none, entries-more, entries-whole}
-use Rattle.listing.specs.Wrote.{Fits, Wrote, Lined, lined-start, lined-fits, lined-step, lined-end, wrote-length, wrote-as}
+use Rattle.listing.specs.laws.Listing.{entries-none, entries-more, entries-whole}
+use Rattle.listing.specs.Wrote.{HasRoom}
+use Rattle.listing.specs.laws.Wrote.{lined-fits}
+use Rattle.listing.specs.laws.Wrote.{Lined, lined-start, lined-step, lined-end, wrote-length, wrote-as}
 use Rattle.listing.proofs.entries.Statement.{statement}
 use Rattle.listing.proofs.entries.Tie as tie
 
@@ -22,23 +24,17 @@ loop-holds : tie.Need-loop-holds Inv-loop μ-loop
 loop-holds c = let a = c .before .before .args in lined-start _ (length (now (a .list))) (now (a .out)) (a .at) (entries-none (now (a .list)))
 
 mul-entry : tie.Need-mul-entry Inv-loop μ-loop
-mul-entry c = omega (arith, c .before .before .before .before .before .good .1 .1 .0)
-
-shared-slice-read-entry : tie.Need-shared-slice-read-entry Inv-loop μ-loop
-shared-slice-read-entry c = omega arith
+mul-entry c =
+    let at-good = c .before .before .before .before .before in
+    omega (arith, at-good .good .1 .1 .0)
 
 entry-requires : tie.Need-entry-requires Inv-loop μ-loop
 entry-requires c κs = let l = c .before .before .before in
     let s = l .before .before .before in
     let list = now (s .args .list) in
     let i = l .loop .i in
-    lined-fits (l .loop .inv) (entries (getD list i 0 ∷ [])) (entries (drop (i + 1) list)) (entries-more list i (c .before .before .loop-test .taken)) (entries-whole list (i + 1)) (subst (Fits (now (s .args .out)) (s .args .at)) (ap entries (sym (take-length list))) (s .pre))
-
-add-i : tie.Need-add-i Inv-loop μ-loop
-add-i c = omega arith
-
-loop-less : tie.Need-loop-less Inv-loop μ-loop
-loop-less c = omega arith
+    lined-fits (l .loop .inv) (entries (getD list i 0 ∷ [])) (entries (drop (i + 1) list))
+    (entries-more list i (c .before .before .loop-test .taken)) (entries-whole list (i + 1)) (subst (HasRoom (now (s .args .out)) (s .args .at)) (ap entries (sym (take-length list))) (s .pre))
 
 loop-again : tie.Need-loop-again Inv-loop μ-loop
 loop-again c = let e = c .before .before in
@@ -56,15 +52,5 @@ returns c = wrote-as (lined-end (c .before .loop .inv) (c .loop-test .left)) (ap
 pub entries-spec : {M : Type 1} → statement M
 entries-spec =
     tie.close
-    (tie.spec
-    Inv-loop
-    μ-loop
-    loop-holds
-    mul-entry
-    shared-slice-read-entry
-    entry-requires
-    add-i
-    loop-less
-    loop-again
-    same-length
-    returns)
+    (tie.spec Inv-loop μ-loop loop-holds mul-entry (λ c. omega arith) entry-requires (λ c. omega arith)
+    (λ c. omega arith) loop-again same-length returns)

@@ -1,7 +1,7 @@
 -- `listing::listing` meets its contract: the lines of a mesh without a box, then that of the corners.
 use denote.Ref.{now}
 use Rattle.listing.specs.Listing.{unclippedListing, corners as cornersOf, listing as listingOf}
-use Rattle.listing.specs.Wrote.{fits-left, fits-then, wrote-then}
+use Rattle.listing.specs.laws.Wrote.{fits-left, fits-then, wrote-then}
 use borrow.Author.Needs.{needs}
 use Rattle.listing.proofs.listing.Statement.{statement}
 use Rattle.listing.proofs.listing.Tie as tie
@@ -17,12 +17,9 @@ corners-requires c κs = let w = c .before .before .before in
     let s = w .before .before .before .before .before in let a = s .args in
     fits-then (unclippedListing (a .sites) (a .triangles) (a .vertices) (now (a .offsets)) (now (a .cells))) (cornersOf (a .owners) (a .lost)) (w .unclipped-listing .ensures) (s .pre .1)
 
-same-length : tie.Need-same-length
-same-length c = search needs
-
 returns : tie.Need-returns
 unfolding listingOf
 returns c = let l = c .before .before in wrote-then (l .before .before .before .before .unclipped-listing .ensures) (l .corners .ensures)
 
 pub listing-spec : {M : Type 1} → statement M
-listing-spec = tie.close (tie.spec unclipped-listing-requires corners-requires same-length returns)
+listing-spec = tie.close (tie.spec unclipped-listing-requires corners-requires (λ c. search needs) returns)

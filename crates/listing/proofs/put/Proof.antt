@@ -1,10 +1,8 @@
 -- `listing::put` meets its contract: the invariant is `Putting`, which each byte carries one further.
-use Prim.Native.Nat.{_+_, _-_}
+use Prim.Native.Nat.{_-_}
 use native.Mathlib.Omega.{arith}
-use lib.ListN.{length, take, length-set}
-use lib.Seq.{length-take-le}
-use Rattle.listing.specs.Wrote.{Putting, putting-start, putting-step, putting-end, wrote-length}
-use denote.Ref.{now}
+use lib.ListN.{length}
+use Rattle.listing.specs.laws.Wrote.{Putting, putting-start, putting-step, putting-end, wrote-length}
 use Rattle.listing.proofs.put.Statement.{statement}
 use Rattle.listing.proofs.put.Tie as tie
 
@@ -17,20 +15,11 @@ abbrev μ-loop : tie.MeasureT-loop
 loop-holds : tie.Need-loop-holds Inv-loop μ-loop
 loop-holds c = putting-start _ _ _
 
-shared-slice-read-out : tie.Need-shared-slice-read-out Inv-loop μ-loop
-shared-slice-read-out c = omega arith
-
 add-out : tie.Need-add-out Inv-loop μ-loop
 add-out c = let l = c .before .before in omega (arith, l .loop .inv .within, l .before .pre)
 
 slice-write-out : tie.Need-slice-write-out Inv-loop μ-loop
 slice-write-out c = let l = c .before .before in omega (arith, l .loop .inv .within, l .before .pre, wrote-length (l .loop .inv .wrote))
-
-add-i : tie.Need-add-i Inv-loop μ-loop
-add-i c = omega arith
-
-loop-less : tie.Need-loop-less Inv-loop μ-loop
-loop-less c = omega arith
 
 loop-again : tie.Need-loop-again Inv-loop μ-loop
 loop-again c = putting-step (c .before .before .loop .inv) (c .before .loop-test .taken)
@@ -47,16 +36,5 @@ returns c = putting-end (c .before .loop .inv) (c .loop-test .left)
 pub put-spec : {M : Type 1} → statement M
 put-spec =
     tie.close
-    (tie.spec
-    Inv-loop
-    μ-loop
-    loop-holds
-    shared-slice-read-out
-    add-out
-    slice-write-out
-    add-i
-    loop-less
-    loop-again
-    add-result
-    same-length
-    returns)
+    (tie.spec Inv-loop μ-loop loop-holds (λ c. omega arith) add-out slice-write-out (λ c. omega arith)
+    (λ c. omega arith) loop-again add-result same-length returns)

@@ -2,29 +2,20 @@
 use denote.Ref.{now}
 use Rattle.listing.specs.Text.{ascii}
 use Rattle.listing.specs.Listing.{labelled as labelledOf, refusal as refusalOf}
-use Rattle.listing.specs.Wrote.{fits-left, fits-then, wrote-then}
+use Rattle.listing.specs.laws.Wrote.{fits-left, fits-then, wrote-then}
 use borrow.Author.Needs.{needs}
 use Rattle.listing.proofs.refusal.Statement.{statement}
 use Rattle.listing.proofs.refusal.Tie as tie
 
-slice-aggregate-labelled : tie.Need-slice-aggregate-labelled
-slice-aggregate-labelled c = search needs
-
 labelled-requires : tie.Need-labelled-requires
 unfolding refusalOf labelledOf
 labelled-requires c κs = let s = c .before .before .before in fits-left (now (s .args .out)) 0 (labelledOf "refused" (s .args .number)) (ascii "\n") (s .pre)
-
-slice-aggregate-put : tie.Need-slice-aggregate-put
-slice-aggregate-put c = search needs
 
 put-requires : tie.Need-put-requires
 unfolding refusalOf labelledOf
 put-requires c κs = let w = c .before .before .before .before in
     let s = w .before .before .before .before in
     fits-then (labelledOf "refused" (s .args .number)) (ascii "\n") (w .labelled .ensures) (s .pre)
-
-same-length : tie.Need-same-length
-same-length c = search needs
 
 returns : tie.Need-returns
 unfolding refusalOf labelledOf
@@ -33,10 +24,4 @@ returns c = let p = c .before .before in wrote-then (p .before .before .before .
 pub refusal-spec : {M : Type 1} → statement M
 refusal-spec =
     tie.close
-    (tie.spec
-    slice-aggregate-labelled
-    labelled-requires
-    slice-aggregate-put
-    put-requires
-    same-length
-    returns)
+    (tie.spec (λ c. search needs) labelled-requires (λ c. search needs) put-requires (λ c. search needs) returns)

@@ -1,20 +1,8 @@
 -- `outputs::lay_out` meets its contract: the regions start where the rooms add up to, and the list that they cut is EMPTY throughout.
 use borrow.Author.Needs.{needs}
-use Rattle.outputs.proofs.Gathering.{laid-out}
+use Rattle.outputs.specs.laws.Gathering.{laid-out}
 use Rattle.outputs.proofs.lay_out.Statement.{statement}
 use Rattle.outputs.proofs.lay_out.Tie as tie
-
-fill-from-requires : tie.Need-fill-from-requires
-fill-from-requires c κs = search needs
-
-region-starts-requires : tie.Need-region-starts-requires
-region-starts-requires c κs = search needs
-
-same-length : tie.Need-same-length
-same-length c = search needs
-
-same-length-2 : tie.Need-same-length-2
-same-length-2 c = search needs
 
 returns : tie.Need-returns
 returns c =
@@ -25,4 +13,4 @@ returns c =
 pub lay-out-spec : {M : Type 1} → statement M
 lay-out-spec =
     tie.close
-    (tie.spec fill-from-requires region-starts-requires same-length same-length-2 returns)
+    (tie.spec (λ c κs. search needs) (λ c κs. search needs) (λ c. search needs) (λ c. search needs) returns)

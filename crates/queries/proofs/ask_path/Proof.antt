@@ -6,15 +6,9 @@ use borrow.Author.Needs.{needs}
 use Rattle.queries.proofs.ask_path.Statement.{statement}
 use Rattle.queries.proofs.ask_path.Tie as tie
 
-wide-requires : tie.Need-wide-requires
-wide-requires c κs = search needs
-
 returns : tie.Need-returns
 unfolding pathAsk
 returns c = (rw (← c .before .wide .ensures, le-ltb _ _ (c .if1 .taken)), omega arith)
-
-site-ok-requires : tie.Need-site-ok-requires
-site-ok-requires c κs = search needs
 
 returns-2 : tie.Need-returns-2
 unfolding pathAsk
@@ -25,4 +19,4 @@ unfolding pathAsk
 returns-3 c = (rw (← c .before .before .before .wide .ensures, lt-ltb _ _ (c .before .before .if1 .left), ← c .before .site-ok .ensures, c .if2 .left), omega arith)
 
 pub ask-path-spec : {M : Type 1} → statement M
-ask-path-spec = tie.close (tie.spec wide-requires returns site-ok-requires returns-2 returns-3)
+ask-path-spec = tie.close (tie.spec (λ c κs. search needs) returns (λ c κs. search needs) returns-2 returns-3)

@@ -6,9 +6,6 @@ use borrow.Author.Needs.{needs}
 use Rattle.queries.proofs.ask_site.Statement.{statement}
 use Rattle.queries.proofs.ask_site.Tie as tie
 
-wide-requires : tie.Need-wide-requires
-wide-requires c κs = search needs
-
 returns : tie.Need-returns
 unfolding siteAsk
 returns c = (rw (← c .before .wide .ensures, lt-ltb _ _ (c .if1 .taken)), omega arith)
@@ -18,4 +15,4 @@ unfolding siteAsk
 returns-2 c = (rw (← c .before .wide .ensures, le-ltb _ _ (c .if1 .left)), omega arith)
 
 pub ask-site-spec : {M : Type 1} → statement M
-ask-site-spec = tie.close (tie.spec wide-requires returns returns-2)
+ask-site-spec = tie.close (tie.spec (λ c κs. search needs) returns returns-2)

@@ -9,17 +9,13 @@ use Rattle.queries.proofs.cells_ok.Tie as tie
 returns : tie.Need-returns
 returns c = λ x. omega (arith, x .many)
 
-sub-if2 : tie.Need-sub-if2
-sub-if2 c = search needs
-
 returns-2 : tie.Need-returns-2
 returns-2 c = λ x. c .if2 .taken (omega (arith, x .many))
 
-check-cells-requires : tie.Need-check-cells-requires
-check-cells-requires c κs = search needs
-
 returns-3 : tie.Need-returns-3
-returns-3 c = let a = c .before .before .before .before .before .args in cells-says (now (a .offsets)) (now (a .indexes)) _ (c .check-cells .result) (c .before .before .if1 .left) (c .before .if2 .left) (c .check-cells .ensures)
+returns-3 c =
+    let at-start = c .before .before .before .before .before in
+    let a = at-start .args in cells-says (now (a .offsets)) (now (a .indexes)) _ (c .check-cells .result) (c .before .before .if1 .left) (c .before .if2 .left) (c .check-cells .ensures)
 
 pub cells-ok-spec : {M : Type 1} → statement M
-cells-ok-spec = tie.close (tie.spec returns sub-if2 returns-2 check-cells-requires returns-3)
+cells-ok-spec = tie.close (tie.spec returns (λ c. search needs) returns-2 (λ c κs. search needs) returns-3)

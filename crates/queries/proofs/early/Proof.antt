@@ -8,9 +8,6 @@ use borrow.Author.Needs.{needs}
 use Rattle.queries.proofs.early.Statement.{statement}
 use Rattle.queries.proofs.early.Tie as tie
 
-counts-ok-requires : tie.Need-counts-ok-requires
-counts-ok-requires c κs = search needs
-
 returns : tie.Need-returns
 returns c = record { found = breaks (refused (c .before .counts-ok .result) (c .if1 .taken) (c .before .counts-ok .ensures)) }
 
@@ -24,29 +21,25 @@ returns-3 c =
     let b = c .before .before in
     record { found = keeps (granted (b .before .counts-ok .result) (b .if1 .left) (b .before .counts-ok .ensures)) (keeps (not-false _ (c .before .if2 .left)) (breaks (c .if3 .taken))) }
 
-first-bad-site-requires : tie.Need-first-bad-site-requires
-first-bad-site-requires c κs = search needs
-
 returns-4 : tie.Need-returns-4
 returns-4 c =
     let b = c .before .before .before .before in
     let s = c .before .first-bad-site .ensures in
-    record { found = keeps (granted (b .before .counts-ok .result) (b .if1 .left) (b .before .counts-ok .ensures)) (keeps (not-false _ (c .before .before .before .if2 .left)) (keeps (c .before .before .if3 .left) (offends s (c .if4 .taken)))) }
+    record {
+      found = keeps (granted (b .before .counts-ok .result) (b .if1 .left) (b .before .counts-ok .ensures))
+          (keeps (not-false _ (c .before .before .before .if2 .left)) (keeps (c .before .before .if3 .left) (offends s (c .if4 .taken))));
+    }
 
 returns-5 : tie.Need-returns-5
 returns-5 c =
     let b = c .before .before .before .before in
     let s = first-all (c .before .first-bad-site .ensures) (c .if4 .left) in
-    record { found = keeps (granted (b .before .counts-ok .result) (b .if1 .left) (b .before .counts-ok .ensures)) (keeps (not-false _ (c .before .before .before .if2 .left)) (keeps (c .before .before .if3 .left) (all-keep s nothing))) }
+    record {
+      found = keeps (granted (b .before .counts-ok .result) (b .if1 .left) (b .before .counts-ok .ensures))
+          (keeps (not-false _ (c .before .before .before .if2 .left)) (keeps (c .before .before .if3 .left) (all-keep s nothing)));
+    }
 
 pub early-spec : {M : Type 1} → statement M
 early-spec =
     tie.close
-    (tie.spec
-    counts-ok-requires
-    returns
-    returns-2
-    returns-3
-    first-bad-site-requires
-    returns-4
-    returns-5)
+    (tie.spec (λ c κs. search needs) returns returns-2 returns-3 (λ c κs. search needs) returns-4 returns-5)

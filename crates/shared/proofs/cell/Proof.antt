@@ -6,38 +6,25 @@ use borrow.Author.Needs.{needs}
 use Rattle.shared.proofs.cell.Statement.{statement}
 use Rattle.shared.proofs.cell.Tie as tie
 
-mul-wide : tie.Need-mul-wide
-mul-wide c = search needs
-
-shared-slice-read-wide : tie.Need-shared-slice-read-wide
-shared-slice-read-wide c = search needs
-
-wide-requires : tie.Need-wide-requires
-wide-requires c κs = search needs
-
-add-wide : tie.Need-add-wide
-add-wide c = search needs
-
-mul-wide-2 : tie.Need-mul-wide-2
-mul-wide-2 c = search needs
-
-shared-slice-read-wide-2 : tie.Need-shared-slice-read-wide-2
-shared-slice-read-wide-2 c = search needs
-
-wide-requires-2 : tie.Need-wide-requires-2
-wide-requires-2 c κs = search needs
-
 mul-result : tie.Need-mul-result
-mul-result c = let b = between _ _ _ _ _ (c .before .before .before .before .before .before .pre .0) (c .before .before .before .before .before .before .pre .1) (c .before .before .wide .ensures) (c .wide2 .ensures) in record { fits = omega arith }
+mul-result c =
+    let at-start = c .before .before .before .before .before .before in
+    let b = between _ _ _ _ _ (at-start .pre .0) (at-start .pre .1) (c .before .before .wide .ensures) (c .wide2 .ensures) in record { fits = omega arith }
 
 sub-result : tie.Need-sub-result
-sub-result c = between _ _ _ _ _ (c .before .before .before .before .before .before .pre .0) (c .before .before .before .before .before .before .pre .1) (c .before .before .wide .ensures) (c .wide2 .ensures) .order
+sub-result c =
+    let at-start = c .before .before .before .before .before .before in
+    between _ _ _ _ _ (at-start .pre .0) (at-start .pre .1) (c .before .before .wide .ensures) (c .wide2 .ensures) .order
 
 part-result-start : tie.Need-part-result-start
-part-result-start c = between _ _ _ _ _ (c .before .before .before .before .before .before .pre .0) (c .before .before .before .before .before .before .pre .1) (c .before .before .wide .ensures) (c .wide2 .ensures) .order
+part-result-start c =
+    let at-start = c .before .before .before .before .before .before in
+    between _ _ _ _ _ (at-start .pre .0) (at-start .pre .1) (c .before .before .wide .ensures) (c .wide2 .ensures) .order
 
 part-result-end : tie.Need-part-result-end
-part-result-end c = between _ _ _ _ _ (c .before .before .before .before .before .before .pre .0) (c .before .before .before .before .before .before .pre .1) (c .before .before .wide .ensures) (c .wide2 .ensures) .within
+part-result-end c =
+    let at-start = c .before .before .before .before .before .before in
+    between _ _ _ _ _ (at-start .pre .0) (at-start .pre .1) (c .before .before .wide .ensures) (c .wide2 .ensures) .within
 
 returns : tie.Need-returns
 unfolding cellOf
@@ -46,16 +33,5 @@ returns c = rw (c .before .wide2 .ensures, c .before .before .before .wide .ensu
 pub cell-spec : {M : Type 1} → statement M
 cell-spec =
     tie.close
-    (tie.spec
-    mul-wide
-    shared-slice-read-wide
-    wide-requires
-    add-wide
-    mul-wide-2
-    shared-slice-read-wide-2
-    wide-requires-2
-    mul-result
-    sub-result
-    part-result-start
-    part-result-end
-    returns)
+    (tie.spec (λ c. search needs) (λ c. search needs) (λ c κs. search needs) (λ c. search needs) (λ c. search needs)
+    (λ c. search needs) (λ c κs. search needs) mul-result sub-result part-result-start part-result-end returns)

@@ -16,53 +16,17 @@ abbrev μ-loop : tie.MeasureT-loop
 returns : tie.Need-returns Inv-loop μ-loop
 returns c = λ ok. omega (arith, ok .some)
 
-shared-slice-read-if2 : tie.Need-shared-slice-read-if2 Inv-loop μ-loop
-shared-slice-read-if2 c = search needs
-
 returns-2 : tie.Need-returns-2 Inv-loop μ-loop
 returns-2 c = λ ok. c .if2 .taken (ok .start)
 
 loop-holds : tie.Need-loop-holds Inv-loop μ-loop
 loop-holds c = rising-start _ (omega arith) (c .if2 .left)
 
-mul-if3 : tie.Need-mul-if3 Inv-loop μ-loop
-mul-if3 c = search needs
-
-shared-slice-read-if3 : tie.Need-shared-slice-read-if3 Inv-loop μ-loop
-shared-slice-read-if3 c = search needs
-
-sub-if3 : tie.Need-sub-if3 Inv-loop μ-loop
-sub-if3 c = search needs
-
-mul-if3-2 : tie.Need-mul-if3-2 Inv-loop μ-loop
-mul-if3-2 c = search needs
-
-shared-slice-read-if3-2 : tie.Need-shared-slice-read-if3-2 Inv-loop μ-loop
-shared-slice-read-if3-2 c = search needs
-
 returns-3 : tie.Need-returns-3 Inv-loop μ-loop
 returns-3 c = falls-not _ _ _ (omega arith) (omega arith) (c .if3 .taken)
 
-add-i : tie.Need-add-i Inv-loop μ-loop
-add-i c = search needs
-
-loop-less : tie.Need-loop-less Inv-loop μ-loop
-loop-less c = search needs
-
 loop-again : tie.Need-loop-again Inv-loop μ-loop
 loop-again c = rising-step _ _ (c .before .before .before .before .loop .inv) (omega arith) (omega arith)
-
-sub-wide : tie.Need-sub-wide Inv-loop μ-loop
-sub-wide c = search needs
-
-mul-wide : tie.Need-mul-wide Inv-loop μ-loop
-mul-wide c = search needs
-
-shared-slice-read-wide : tie.Need-shared-slice-read-wide Inv-loop μ-loop
-shared-slice-read-wide c = search needs
-
-wide-requires : tie.Need-wide-requires Inv-loop μ-loop
-wide-requires c κs = search needs
 
 returns-4 : tie.Need-returns-4 Inv-loop μ-loop
 returns-4 c = rising-says _ _ (c .before .before .before .loop .inv) _ _ (omega arith) (c .wide .ensures)
@@ -70,24 +34,6 @@ returns-4 c = rising-says _ _ (c .before .before .before .loop .inv) _ _ (omega 
 pub check-cells-spec : {M : Type 1} → statement M
 check-cells-spec =
     tie.close
-    (tie.spec
-    Inv-loop
-    μ-loop
-    returns
-    shared-slice-read-if2
-    returns-2
-    loop-holds
-    mul-if3
-    shared-slice-read-if3
-    sub-if3
-    mul-if3-2
-    shared-slice-read-if3-2
-    returns-3
-    add-i
-    loop-less
-    loop-again
-    sub-wide
-    mul-wide
-    shared-slice-read-wide
-    wide-requires
-    returns-4)
+    (tie.spec Inv-loop μ-loop returns (λ c. search needs) returns-2 loop-holds (λ c. search needs) (λ c. search needs)
+    (λ c. search needs) (λ c. search needs) (λ c. search needs) returns-3 (λ c. search needs) (λ c. search needs)
+    loop-again (λ c. search needs) (λ c. search needs) (λ c. search needs) (λ c κs. search needs) returns-4)

@@ -8,15 +8,9 @@ returns : tie.Need-returns
 unfolding firstOf
 returns c = rw (c .if1 .taken)
 
-add-result : tie.Need-add-result
-add-result c = search needs
-
 returns-2 : tie.Need-returns-2
 unfolding firstOf
 returns-2 c = rw (c .before .if1 .left, c .if2 .taken)
-
-add-result-2 : tie.Need-add-result-2
-add-result-2 c = search needs
 
 returns-3 : tie.Need-returns-3
 unfolding firstOf
@@ -27,4 +21,4 @@ unfolding firstOf
 returns-4 c = rw (c .before .before .if1 .left, c .before .if2 .left, c .if3 .left)
 
 pub first-of-spec : {M : Type 1} → statement M
-first-of-spec = tie.close (tie.spec returns add-result returns-2 add-result-2 returns-3 returns-4)
+first-of-spec = tie.close (tie.spec returns (λ c. search needs) returns-2 (λ c. search needs) returns-3 returns-4)

@@ -4,19 +4,10 @@ use borrow.Author.Needs.{needs}
 use Rattle.shared.proofs.share_edge.Statement.{statement}
 use Rattle.shared.proofs.share_edge.Tie as tie
 
-cell-requires : tie.Need-cell-requires
-cell-requires c κs = search needs
-
-cell-requires-2 : tie.Need-cell-requires-2
-cell-requires-2 c κs = search needs
-
-shared-entries-requires : tie.Need-shared-entries-requires
-shared-entries-requires c κs = search needs
-
 returns : tie.Need-returns
 unfolding shareEdgeOf
 returns c = rw (c .shared-entries .ensures, c .before .before .cell .ensures, c .before .cell2 .ensures)
 
 pub share-edge-spec : {M : Type 1} → statement M
 share-edge-spec =
-    tie.close (tie.spec cell-requires cell-requires-2 shared-entries-requires returns)
+    tie.close (tie.spec (λ c κs. search needs) (λ c κs. search needs) (λ c κs. search needs) returns)

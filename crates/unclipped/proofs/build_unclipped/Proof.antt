@@ -1,11 +1,11 @@
 -- `unclipped::build_unclipped` meets its contract: the circumcenters decide; then all is cleared, or the cells are drawn and the rest of the vertex slice is cleared.
-use mathlib.Core.Path.{_≡_, refl, _∙_}
+use mathlib.Core.Path.{refl}
 use Prim.Native.Nat.{_*_, _/_, _≤_}
 use native.Mathlib.Omega.{arith}
 use lib.ListN.{length}
 use borrow.Author.Needs.{needs}
-use Rattle.unclipped.proofs.Drawing.{named, draws}
-use Rattle.unclipped.proofs.Outcome.{centred-below, refused-all, built-all}
+use Rattle.unclipped.specs.laws.Drawing.{named, draws}
+use Rattle.unclipped.specs.laws.Outcome.{centred-below, refused-all, built-all}
 use Rattle.unclipped.proofs.build_unclipped.Statement.{statement}
 use Rattle.unclipped.proofs.build_unclipped.Tie as tie
 
@@ -13,29 +13,16 @@ abbrev Entry : tie.After-calculate-circumcenters-arg → tie.Start
 Entry a = a .before .before .before .before .before .before .before .before
 
 -- the triangles passed, and the room that their circumcenters take
-few : (c : tie.After-calculate-circumcenters) → (c .calculate-circumcenters .result ≤ length (Entry (c .before) .args .triangles .now) / 3) × (2 * c .calculate-circumcenters .result ≤ length (Entry (c .before) .args .v .now))
+few : (c : tie.After-calculate-circumcenters) → (c .calculate-circumcenters .result ≤ length (Entry (c .before) .args .triangles .now) / 3)
+    × (2 * c .calculate-circumcenters .result ≤ length (Entry (c .before) .args .v .now))
 few c =
     let e = Entry (c .before) in
-    let t : c .calculate-circumcenters .result ≤ length (e .args .triangles .now) / 3 = centred-below (e .args .sites .now) (e .args .triangles .now) _ (e .args .v .now) (c .calculate-circumcenters .last .1 .1 .0) (c .calculate-circumcenters .ensures) in
+    let t : c .calculate-circumcenters .result ≤ length (e .args .triangles .now) / 3 = centred-below (e .args .sites .now)
+    (e .args .triangles .now) _ (e .args .v .now) (c .calculate-circumcenters .last .1 .1 .0) (c .calculate-circumcenters .ensures) in
     (t, omega (arith, e .pre .1 .vertices))
 
 calculate-circumcenters-requires : tie.Need-calculate-circumcenters-requires
 calculate-circumcenters-requires c κs = let e = Entry c in (named _ _ _ _ (e .pre .0), omega (arith, e .pre .1 .vertices))
-
-clear-all-requires : tie.Need-clear-all-requires
-clear-all-requires c κs = search needs
-
-cast-t21 : tie.Need-cast-t21
-cast-t21 c = search needs
-
-same-length : tie.Need-same-length
-same-length c = search needs
-
-same-length-2 : tie.Need-same-length-2
-same-length-2 c = search needs
-
-same-length-3 : tie.Need-same-length-3
-same-length-3 c = search needs
 
 returns : tie.Need-returns
 returns c =
@@ -55,15 +42,6 @@ mul-clear-floats-from c = omega (arith, few (c .before .before .before .before .
 clear-floats-from-requires : tie.Need-clear-floats-from-requires
 clear-floats-from-requires c κs = let v = c .before .before .before .before .before .before .before .before .before .before in rw (v .v .given) (few (v .before) .1)
 
-same-length-4 : tie.Need-same-length-4
-same-length-4 c = search needs
-
-same-length-5 : tie.Need-same-length-5
-same-length-5 c = search needs
-
-same-length-6 : tie.Need-same-length-6
-same-length-6 c = search needs
-
 returns-2 : tie.Need-returns-2
 returns-2 c =
     let d = c .before .before .before .before .before .before .before .before in
@@ -74,18 +52,6 @@ returns-2 c =
 pub build-unclipped-spec : {M : Type 1} → statement M
 build-unclipped-spec =
     tie.close
-    (tie.spec
-    calculate-circumcenters-requires
-    clear-all-requires
-    cast-t21
-    same-length
-    same-length-2
-    same-length-3
-    returns
-    draw-cells-requires
-    mul-clear-floats-from
-    clear-floats-from-requires
-    same-length-4
-    same-length-5
-    same-length-6
-    returns-2)
+    (tie.spec calculate-circumcenters-requires (λ c κs. search needs) (λ c. search needs) (λ c. search needs)
+    (λ c. search needs) (λ c. search needs) returns draw-cells-requires mul-clear-floats-from
+    clear-floats-from-requires (λ c. search needs) (λ c. search needs) (λ c. search needs) returns-2)

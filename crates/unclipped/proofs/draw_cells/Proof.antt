@@ -1,9 +1,9 @@
 -- `unclipped::draw_cells` meets its contract: regions are laid out, filled along the half-edges, and moved together.
-use mathlib.Core.Path.{_≡_, _∙_}
+use mathlib.Core.Path.{_∙_}
 use mathlib.Core.List.{[]}
 use lib.ListN.{replicate, length-replicate}
 use borrow.Author.Needs.{needs}
-use Rattle.unclipped.proofs.Drawing.{cells-width, roomy, rooms-fit, ready, rising, ends-small, gathered-over, blank-regions}
+use Rattle.unclipped.specs.laws.Drawing.{cells-width, roomy, rooms-fit, ready, rising, ends-small, gathered-over, blank-regions}
 use Rattle.unclipped.proofs.draw_cells.Statement.{statement}
 use Rattle.unclipped.proofs.draw_cells.Tie as tie
 
@@ -31,12 +31,6 @@ gather-requires c κs =
       ends-small _ _ _ _ _ (e .args .off .now) (e .pre) (l .lay-out .last .1 .1 .1 .1 .0) (o .off .given) (l .lay-out .ensures .started),
     )
 
-same-length : tie.Need-same-length
-same-length c = search needs
-
-same-length-2 : tie.Need-same-length-2
-same-length-2 c = search needs
-
 returns : tie.Need-returns
 returns c =
     let g = c .before .before .before .before in
@@ -51,10 +45,4 @@ returns c =
 pub draw-cells-spec : {M : Type 1} → statement M
 draw-cells-spec =
     tie.close
-    (tie.spec
-    lay-out-requires
-    fill-rings-requires
-    gather-requires
-    same-length
-    same-length-2
-    returns)
+    (tie.spec lay-out-requires fill-rings-requires gather-requires (λ c. search needs) (λ c. search needs) returns)

@@ -7,9 +7,6 @@ use Rattle.utils.specs.declared.Centre.the-variants.{At}
 use Rattle.utils.proofs.centroid.Statement.{statement}
 use Rattle.utils.proofs.centroid.Tie as tie
 
-mul-if1 : tie.Need-mul-if1
-mul-if1 c = search needs
-
 returns : tie.Need-returns
 returns c = sym (odd-length _ (c .if1 .taken))
 
@@ -19,16 +16,10 @@ returns-2 c = sym (no-points _ (c .before .if1 .left) (c .if2 .taken))
 returns-3 : tie.Need-returns-3
 returns-3 c = sym (too-many _ (c .before .before .if1 .left) (c .before .if2 .left) (c .if3 .taken))
 
-first-bad-site-requires : tie.Need-first-bad-site-requires
-first-bad-site-requires c κs = search needs
-
 returns-4 : tie.Need-returns-4
 returns-4 c =
     let e = c .before .before in
     sym (broken-site _ (e .before .before .if1 .left) (e .before .if2 .left) (e .if3 .left) (site-broken _ (c .before .first-bad-site .ensures) (c .if4 .taken)))
-
-centroid-of-requires : tie.Need-centroid-of-requires
-centroid-of-requires c κs = search needs
 
 returns-5 : tie.Need-returns-5
 returns-5 c =
@@ -39,12 +30,5 @@ returns-5 c =
 pub centroid-spec : {M : Type 1} → statement M
 centroid-spec =
     tie.close
-    (tie.spec
-    mul-if1
-    returns
-    returns-2
-    returns-3
-    first-bad-site-requires
-    returns-4
-    centroid-of-requires
+    (tie.spec (λ c. search needs) returns returns-2 returns-3 (λ c κs. search needs) returns-4 (λ c κs. search needs)
     returns-5)

@@ -8,9 +8,6 @@ use Rattle.utils.specs.Centroid.{meanOf}
 use Rattle.utils.proofs.centroid_of.Statement.{statement}
 use Rattle.utils.proofs.centroid_of.Tie as tie
 
-sum-of-requires : tie.Need-sum-of-requires
-sum-of-requires c κs = search needs
-
 int-to-float-n : tie.Need-int-to-float-n
 unfolding inFloat
 int-to-float-n c = le→leb (c .before .before .before .args .count) (2 ^ 53) (omega arith)
@@ -20,4 +17,4 @@ unfolding meanOf
 returns c = rw (← c .before .before .before .sum-of .ensures)
 
 pub centroid-of-spec : {M : Type 1} → statement M
-centroid-of-spec = tie.close (tie.spec sum-of-requires int-to-float-n returns)
+centroid-of-spec = tie.close (tie.spec (λ c κs. search needs) int-to-float-n returns)

@@ -15,9 +15,6 @@ abbrev μ-loop : tie.MeasureT-loop
 loop-holds : tie.Need-loop-holds Inv-loop μ-loop
 loop-holds c = (omega arith, below-none _)
 
-point-at-requires : tie.Need-point-at-requires Inv-loop μ-loop
-point-at-requires c κs = omega arith
-
 site-ok-requires : tie.Need-site-ok-requires Inv-loop μ-loop
 site-ok-requires c κs = tt
 
@@ -29,12 +26,6 @@ returns c =
       at = λ _. broken-if (c .before .before .point-at .ensures) (c .before .site-ok .ensures) (c .if1 .taken);
     }
 
-add-i : tie.Need-add-i Inv-loop μ-loop
-add-i c = omega arith
-
-loop-less : tie.Need-loop-less Inv-loop μ-loop
-loop-less c = omega arith
-
 loop-again : tie.Need-loop-again Inv-loop μ-loop
 loop-again c = (omega arith, below-more _ _ (c .before .before .before .before .loop .inv .1) (kept-if (c .before .before .point-at .ensures) (c .before .site-ok .ensures) (c .if1 .left)))
 
@@ -44,14 +35,5 @@ returns-2 c = record { within = omega arith; before = c .before .loop .inv .1; a
 pub first-bad-site-spec : {M : Type 1} → statement M
 first-bad-site-spec =
     tie.close
-    (tie.spec
-    Inv-loop
-    μ-loop
-    loop-holds
-    point-at-requires
-    site-ok-requires
-    returns
-    add-i
-    loop-less
-    loop-again
-    returns-2)
+    (tie.spec Inv-loop μ-loop loop-holds (λ c κs. omega arith) site-ok-requires returns (λ c. omega arith)
+    (λ c. omega arith) loop-again returns-2)

@@ -1,13 +1,13 @@
 -- `vertices::calculate_corners` meets its contract. After k turns the vertices are the circumcenters and the first k corners.
-use Prim.Native.Nat.{ℕ, _+_, _-_, _*_, _≤_}
-use mathlib.Core.Path.{_≡_, refl, sym, ap, _∙_}
-use mathlib.Core.List.{List, _++_}
+use Prim.Native.Nat.{_+_, _-_, _≤_}
+use mathlib.Core.Path.{_≡_, refl}
+use mathlib.Core.List.{_++_}
 use native.Mathlib.Omega.{arith}
 use denote.Ref.{now}
 use lib.ListN.{length, take}
 use Rattle.utils.specs.Flat.{points}
 use Rattle.vertices.specs.Store.{Poured}
-use Rattle.vertices.proofs.Store.{corner-none, corner-more, corner-all}
+use Rattle.vertices.specs.laws.Store.{corner-none, corner-more, corner-all}
 use Rattle.vertices.proofs.calculate_corners.Statement.{statement}
 use Rattle.vertices.proofs.calculate_corners.Tie as tie
 
@@ -23,38 +23,15 @@ loop-holds c =
     let a = c .before .before .args in
     (omega arith, refl, corner-none (a .centers) (now (a .v)) (a .t5) (omega arith))
 
-add-put : tie.Need-add-put Inv-loop μ-loop
-add-put c = omega arith
-
-mul-put : tie.Need-mul-put Inv-loop μ-loop
-mul-put c = omega arith
-
-array-copy-out-put : tie.Need-array-copy-out-put Inv-loop μ-loop
-array-copy-out-put c = omega arith
-
-put-requires : tie.Need-put-requires Inv-loop μ-loop
-put-requires c κs = omega arith
-
-add-k : tie.Need-add-k Inv-loop μ-loop
-add-k c = omega arith
-
-loop-less : tie.Need-loop-less Inv-loop μ-loop
-loop-less c = omega arith
-
 loop-again : tie.Need-loop-again Inv-loop μ-loop
 loop-again c =
+    let at-loop = c .before .before .before .before .before .before in
     let e = c .before .before .put .ensures in
     let q = c .before .before .before .before .before .before .before .before .before in
     let g : length (q .args .t5) ≡ 4 = q .good .1 .1 .1 .1 .0 .1 .0 .1 in
     let a = q .args in
-    let l = c .before .before .before .before .before .before .loop in
+    let l = at-loop .loop in
     (omega arith, omega arith, rw e (corner-more (a .centers) (now (a .v)) (a .t5) (l .k) (l .v) _ (l .inv .2) (omega arith) (omega arith)))
-
-add-result : tie.Need-add-result Inv-loop μ-loop
-add-result c = omega arith
-
-same-length : tie.Need-same-length Inv-loop μ-loop
-same-length c = omega arith
 
 returns : tie.Need-returns Inv-loop μ-loop
 returns c =
@@ -68,17 +45,5 @@ returns c =
 pub calculate-corners-spec : {M : Type 1} → statement M
 calculate-corners-spec =
     tie.close
-    (tie.spec
-    Inv-loop
-    μ-loop
-    loop-holds
-    add-put
-    mul-put
-    array-copy-out-put
-    put-requires
-    add-k
-    loop-less
-    loop-again
-    add-result
-    same-length
-    returns)
+    (tie.spec Inv-loop μ-loop loop-holds (λ c. omega arith) (λ c. omega arith) (λ c. omega arith) (λ c κs. omega arith)
+    (λ c. omega arith) (λ c. omega arith) loop-again (λ c. omega arith) (λ c. omega arith) returns)

@@ -1,17 +1,13 @@
 -- `vertices::find_near` meets its contract: what the search finds from place i on is what it finds from the start, as nothing before i is near.
-use Prim.Native.Nat.{ℕ, _+_, _-_, _≤_, _<_}
+use Prim.Native.Nat.{_-_, _≤_}
 use mathlib.Core.Path.{_≡_, refl, sym, ap, _∙_}
 use native.Mathlib.Omega.{arith}
 use borrow.Author.Needs.{needs}
 use Rattle.vertices.specs.Add.{nearPt, findNear}
 use Rattle.utils.specs.Flat.{pointsFrom}
-use Rattle.vertices.proofs.Laws.{near-hit, near-miss, near-end}
+use Rattle.vertices.specs.laws.Laws.{near-hit, near-miss, near-end}
 use Rattle.vertices.proofs.find_near.Statement.{statement}
 use Rattle.vertices.proofs.find_near.Tie as tie
-use Rattle.vertices.proofs.find_near.Reads as reads
-use Rattle.vertices.proofs.find_near.Lts as lts
-use Rattle.vertices.proofs.near_point.Reads as near-point-reads
-use Rattle.utils.proofs.point_at.Reads as point-at-reads
 
 abbrev Inv-loop : tie.InvT-loop
 Inv-loop v from count p i₀ i =
@@ -23,24 +19,12 @@ abbrev μ-loop : tie.MeasureT-loop
 loop-holds : tie.Need-loop-holds Inv-loop μ-loop
 loop-holds c = (omega arith, refl)
 
-point-at-requires : tie.Need-point-at-requires Inv-loop μ-loop
-point-at-requires c κs = omega arith
-
-near-point-requires : tie.Need-near-point-requires Inv-loop μ-loop
-near-point-requires c κs = search needs
-
 returns : tie.Need-returns Inv-loop μ-loop
 returns c =
     let s = c .before .before .before .before .before .before in
     let l = c .before .before .before .before in
     let e = ap (λ q. nearPt q (s .args .p)) (c .before .before .point-at .ensures) in
     (sym (l .loop .inv .1 ∙ near-hit _ _ _ _ (omega arith) (sym e ∙ sym (c .before .near-point .ensures) ∙ c .if1 .taken)), omega arith)
-
-add-i : tie.Need-add-i Inv-loop μ-loop
-add-i c = omega arith
-
-loop-less : tie.Need-loop-less Inv-loop μ-loop
-loop-less c = omega arith
 
 loop-again : tie.Need-loop-again Inv-loop μ-loop
 loop-again c =
@@ -55,14 +39,5 @@ returns-2 c = (sym (c .before .loop .inv .1 ∙ near-end _ _ _ _ (omega arith)),
 pub find-near-spec : {M : Type 1} → statement M
 find-near-spec =
     tie.close
-    (tie.spec
-    Inv-loop
-    μ-loop
-    loop-holds
-    point-at-requires
-    near-point-requires
-    returns
-    add-i
-    loop-less
-    loop-again
-    returns-2)
+    (tie.spec Inv-loop μ-loop loop-holds (λ c κs. omega arith) (λ c κs. search needs) returns (λ c. omega arith)
+    (λ c. omega arith) loop-again returns-2)

@@ -3,13 +3,10 @@ use mathlib.Core.Path.{sym, _∙_}
 use native.Mathlib.Omega.{arith}
 use lib.Ieee.{nan}
 use Rattle.utils.specs.Plane.{at}
-use Rattle.vertices.proofs.Laws.{getD-points}
+use Rattle.vertices.specs.laws.Laws.{getD-points}
 use borrow.Author.Needs.{needs}
 use Rattle.vertices.proofs.vertex.Statement.{statement}
 use Rattle.vertices.proofs.vertex.Tie as tie
-
-point-at-requires : tie.Need-point-at-requires
-point-at-requires c κs = search needs
 
 returns : tie.Need-returns
 returns c =
@@ -17,4 +14,4 @@ returns c =
     c .point-at .ensures ∙ sym (getD-points (a .v .now) (a .count) (a .i) (at nan nan) (omega arith))
 
 pub vertex-spec : {M : Type 1} → statement M
-vertex-spec = tie.close (tie.spec point-at-requires returns)
+vertex-spec = tie.close (tie.spec (λ c κs. search needs) returns)

@@ -1,26 +1,18 @@
 -- `building::cells::ask_cell` meets its contract: rule 4 on the site, then rule 16 on the offsets.
 use Rattle.laws.specs.Decide as decide
-use Rattle.building.proofs.Parts.{no-site, not-cut, cut}
+use Rattle.building.specs.laws.Parts.{no-site, not-cut, cut}
 use borrow.Author.Needs.{needs}
 use Rattle.building.proofs.cells.ask_cell.Tie as tie
 use Rattle.building.proofs.cells.ask_cell.Statement.{statement}
 
-cell-count-requires : tie.Need-cell-count-requires
-cell-count-requires c κs = search needs
-
-ask-site-requires : tie.Need-ask-site-requires
-ask-site-requires c κs = search needs
-
 returns : tie.Need-returns
 returns c = no-site _ _ _ _ _ (c .before .before .cell-count .ensures) (c .before .ask-site .ensures .0) (c .if1 .taken)
-
-cells-ok-requires : tie.Need-cells-ok-requires
-cells-ok-requires c κs = search needs
 
 returns-2 : tie.Need-returns-2
 returns-2 c =
     let e = c .before .before in
-    not-cut _ _ _ _ _ (e .before .before .cell-count .ensures) (e .before .ask-site .ensures .0) (e .if1 .left) (decide.refused (c .before .cells-ok .result) (c .if2 .taken) (c .before .cells-ok .ensures))
+    not-cut _ _ _ _ _ (e .before .before .cell-count .ensures) (e .before .ask-site .ensures .0) (e .if1 .left)
+    (decide.refused (c .before .cells-ok .result) (c .if2 .taken) (c .before .cells-ok .ensures))
 
 returns-3 : tie.Need-returns-3
 returns-3 c =
@@ -30,4 +22,4 @@ returns-3 c =
 pub ask-cell-spec : {M : Type 1} → statement M
 ask-cell-spec =
     tie.close
-    (tie.spec cell-count-requires ask-site-requires returns cells-ok-requires returns-2 returns-3)
+    (tie.spec (λ c κs. search needs) (λ c κs. search needs) returns (λ c κs. search needs) returns-2 returns-3)

@@ -1,30 +1,15 @@
 -- `building::cells::place` meets its contract: the first offset and the distance to the second, or zeros.
 use native.Mathlib.Omega.{arith}
-use Rattle.building.proofs.Parts.{place-refused, part-asks, in-order, place-given}
+use Rattle.building.specs.laws.Parts.{place-refused, part-asks, in-order, place-given}
 use borrow.Author.Needs.{needs}
 use Rattle.building.proofs.cells.place.Tie as tie
 use Rattle.building.proofs.cells.place.Statement.{statement}
 
-ask-cell-requires : tie.Need-ask-cell-requires
-ask-cell-requires c κs = search needs
-
 returns : tie.Need-returns
 returns c = place-refused _ _ _ _ (c .before .ask-cell .ensures) (c .if1 .taken)
 
-wide-requires : tie.Need-wide-requires
-wide-requires c κs = search needs
-
-mul-from : tie.Need-mul-from
-mul-from c = search needs
-
 shared-slice-read-from : tie.Need-shared-slice-read-from
 shared-slice-read-from c = omega (arith, part-asks _ _ _ _ (c .before .before .before .ask-cell .ensures) (c .before .before .if1 .left) _ (c .before .wide .ensures) .1)
-
-add-to : tie.Need-add-to
-add-to c = search needs
-
-mul-to : tie.Need-mul-to
-mul-to c = search needs
 
 shared-slice-read-to : tie.Need-shared-slice-read-to
 shared-slice-read-to c = part-asks _ _ _ _ (c .before .before .before .before .ask-cell .ensures) (c .before .before .before .if1 .left) _ (c .before .before .wide .ensures) .1
@@ -38,14 +23,5 @@ returns-2 c = place-given _ _ _ _ (c .before .before .before .before .ask-cell .
 pub place-spec : {M : Type 1} → statement M
 place-spec =
     tie.close
-    (tie.spec
-    ask-cell-requires
-    returns
-    wide-requires
-    mul-from
-    shared-slice-read-from
-    add-to
-    mul-to
-    shared-slice-read-to
-    sub-t11
-    returns-2)
+    (tie.spec (λ c κs. search needs) returns (λ c κs. search needs) (λ c. search needs) shared-slice-read-from
+    (λ c. search needs) (λ c. search needs) shared-slice-read-to sub-t11 returns-2)

@@ -1,20 +1,11 @@
 -- `cell_builder::loops::clip_cells` meets its contract: the hull's refusal is the whole's, else the rest goes on from the cells that the hull's tries gave.
 use borrow.Author.Needs.{needs}
-use Rattle.cell_builder.proofs.Along.{cells-refused, cells-amid, cells-end}
+use Rattle.cell_builder.specs.laws.Along.{cells-refused, cells-amid, cells-end}
 use Rattle.cell_builder.proofs.loops.clip_cells.Statement.{statement}
 use Rattle.cell_builder.proofs.loops.clip_cells.Tie as tie
 
 abbrev Entry : tie.After-clip-hull → tie.Start
 Entry h = h .before .before .before .before .before .before .before .before .before .before
-
-clip-hull-requires : tie.Need-clip-hull-requires
-clip-hull-requires c κs = search needs
-
-same-length : tie.Need-same-length
-same-length c = search needs
-
-same-length-2 : tie.Need-same-length-2
-same-length-2 c = search needs
 
 returns : tie.Need-returns
 returns c =
@@ -27,12 +18,6 @@ clip-rest-requires c κs =
     let h = e .before .before .before .before .before .before .before in
     cells-amid _ _ _ _ _ _ _ _ _ _ _ _ (h .clip-hull .ensures) (e .if1 .left) (Entry h .pre)
 
-same-length-3 : tie.Need-same-length-3
-same-length-3 c = search needs
-
-same-length-4 : tie.Need-same-length-4
-same-length-4 c = search needs
-
 returns-2 : tie.Need-returns-2
 returns-2 c =
     let t = c .before .before .before .before in
@@ -43,12 +28,5 @@ returns-2 c =
 pub clip-cells-spec : {M : Type 1} → statement M
 clip-cells-spec =
     tie.close
-    (tie.spec
-    clip-hull-requires
-    same-length
-    same-length-2
-    returns
-    clip-rest-requires
-    same-length-3
-    same-length-4
-    returns-2)
+    (tie.spec (λ c κs. search needs) (λ c. search needs) (λ c. search needs) returns clip-rest-requires
+    (λ c. search needs) (λ c. search needs) returns-2)

@@ -3,7 +3,7 @@ use mathlib.Core.Path.{_≡_, refl, ap, _∙_}
 use Prim.Native.Nat.{_-_}
 use native.Mathlib.Omega.{arith}
 use lib.ListN.{length}
-use Rattle.cell_builder.proofs.Along.{HullsAlong, hulls-start, hulls-amid, hulls-step, hulls-refused, hulls-end}
+use Rattle.cell_builder.specs.laws.Along.{HullsAlong, hulls-start, hulls-amid, hulls-step, hulls-refused, hulls-end}
 use Rattle.cell_builder.proofs.loops.clip_hull.Statement.{statement}
 use Rattle.cell_builder.proofs.loops.clip_hull.Tie as tie
 
@@ -42,9 +42,6 @@ add-i c =
     let l = Loop (c .before .before .before .before .before .before .before) in
     omega (arith, ap length (Entry l .pre .is), Entry l .pre .amid .on .few-on-hull)
 
-loop-less : tie.Need-loop-less Inv-loop μ-loop
-loop-less c = omega arith
-
 loop-again : tie.Need-loop-again Inv-loop μ-loop
 loop-again c =
     let x = c .before .before .before .before in
@@ -68,17 +65,5 @@ returns-2 c = let l = c .before in hulls-end _ _ _ _ _ _ _ _ _ _ _ _ _ (l .loop 
 pub clip-hull-spec : {M : Type 1} → statement M
 clip-hull-spec =
     tie.close
-    (tie.spec
-    Inv-loop
-    μ-loop
-    loop-holds
-    clip-at-hull-requires
-    same-length
-    same-length-2
-    returns
-    add-i
-    loop-less
-    loop-again
-    same-length-3
-    same-length-4
-    returns-2)
+    (tie.spec Inv-loop μ-loop loop-holds clip-at-hull-requires same-length same-length-2 returns add-i
+    (λ c. omega arith) loop-again same-length-3 same-length-4 returns-2)

@@ -1,9 +1,10 @@
--- `cell_builder::loops::clip_rest` meets its contract: before half-edge e the definition on the half-edges left makes the whole, and while the flag is set, sites with table entries below e have their cells.
+-- `cell_builder::loops::clip_rest` meets its contract: before half-edge e the definition on the half-edges left makes the whole, and while the flag
+-- is set, sites with table entries below e have their cells.
 use mathlib.Core.Path.{_≡_, refl, _∙_}
 use Prim.Native.Nat.{_-_}
 use native.Mathlib.Omega.{arith}
 use lib.ListN.{length}
-use Rattle.cell_builder.proofs.Along.{EdgesAlong, edges-start, edges-amid, edges-step, edges-refused, edges-end}
+use Rattle.cell_builder.specs.laws.Along.{EdgesAlong, edges-start, edges-amid, edges-step, edges-refused, edges-end}
 use Rattle.cell_builder.proofs.loops.clip_rest.Statement.{statement}
 use Rattle.cell_builder.proofs.loops.clip_rest.Tie as tie
 
@@ -42,9 +43,6 @@ add-e c =
     let l = Loop (c .before .before .before .before .before .before .before .before) in
     omega (arith, Entry l .pre .amid .on .few-entries)
 
-loop-less : tie.Need-loop-less Inv-loop μ-loop
-loop-less c = omega arith
-
 loop-again : tie.Need-loop-again Inv-loop μ-loop
 loop-again c =
     let x = c .before .before .before .before .before in
@@ -68,17 +66,5 @@ returns-2 c = let l = c .before in edges-end _ _ _ _ _ _ _ _ _ _ _ _ _ (l .loop 
 pub clip-rest-spec : {M : Type 1} → statement M
 clip-rest-spec =
     tie.close
-    (tie.spec
-    Inv-loop
-    μ-loop
-    loop-holds
-    clip-turn-requires
-    same-length
-    same-length-2
-    returns
-    add-e
-    loop-less
-    loop-again
-    same-length-3
-    same-length-4
-    returns-2)
+    (tie.spec Inv-loop μ-loop loop-holds clip-turn-requires same-length same-length-2 returns add-e (λ c. omega arith)
+    loop-again same-length-3 same-length-4 returns-2)

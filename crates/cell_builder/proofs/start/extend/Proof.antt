@@ -1,8 +1,7 @@
 -- `cell_builder::start::extend` meets its contract: the pass over the hull begins with the circumcenters and the corners, and its outcome is the definition's.
-use Prim.Native.Nat.{_<_}
 use native.Mathlib.Omega.{arith}
 use borrow.Author.Needs.{needs}
-use Rattle.cell_builder.proofs.Starting.{extends-into, extended-all, extended-not}
+use Rattle.cell_builder.specs.laws.Starting.{extends-into, extended-all, extended-not}
 use Rattle.cell_builder.proofs.start.extend.Statement.{statement}
 use Rattle.cell_builder.proofs.start.extend.Tie as tie
 
@@ -11,15 +10,6 @@ Cornered i = i .before .before .before
 
 abbrev Entry : tie.After-ix → tie.Start
 Entry i = Cornered i .before .before .before .before .before .before .before .before .before .before .before
-
-corners-requires : tie.Need-corners-requires
-corners-requires c κs = search needs
-
-calculate-corners-requires : tie.Need-calculate-corners-requires
-calculate-corners-requires c κs = search needs
-
-sub-numbers : tie.Need-sub-numbers
-sub-numbers c = search needs
 
 extend-hull-requires : tie.Need-extend-hull-requires
 extend-hull-requires c κs =
@@ -32,44 +22,24 @@ cast-t24 c =
     let x = c .before .before .before .before .before .before .before in
     omega (arith, c .before .if1 .taken, Entry (x .before .before .before .before .before) .pre .small)
 
-same-length : tie.Need-same-length
-same-length c = search needs
-
-same-length-2 : tie.Need-same-length-2
-same-length-2 c = search needs
-
 returns : tie.Need-returns
 returns c =
     let x = c .before .before .before .before .before .before .before in
     let i = x .before .before .before .before .before in
     let k = Cornered i in
-    extended-not (Entry i .pre) (k .before .corners .ensures) (k .calculate-corners .ensures .0) (k .calculate-corners .ensures .1) (i .before .before .v .given) (i .ix .given) _ _ _ _ (x .extend-hull .ensures) (c .before .if1 .taken)
-
-same-length-3 : tie.Need-same-length-3
-same-length-3 c = search needs
-
-same-length-4 : tie.Need-same-length-4
-same-length-4 c = search needs
+    extended-not (Entry i .pre) (k .before .corners .ensures) (k .calculate-corners .ensures .0) (k .calculate-corners .ensures .1)
+    (i .before .before .v .given) (i .ix .given) _ _ _ _ (x .extend-hull .ensures) (c .before .if1 .taken)
 
 returns-2 : tie.Need-returns-2
 returns-2 c =
     let x = c .before .before .before .before .before .before in
     let i = x .before .before .before .before .before in
     let k = Cornered i in
-    extended-all (Entry i .pre) (k .before .corners .ensures) (k .calculate-corners .ensures .0) (k .calculate-corners .ensures .1) (i .before .before .v .given) (i .ix .given) _ _ _ _ (x .extend-hull .ensures) (c .if1 .left)
+    extended-all (Entry i .pre) (k .before .corners .ensures) (k .calculate-corners .ensures .0) (k .calculate-corners .ensures .1)
+    (i .before .before .v .given) (i .ix .given) _ _ _ _ (x .extend-hull .ensures) (c .if1 .left)
 
 pub extend-spec : {M : Type 1} → statement M
 extend-spec =
     tie.close
-    (tie.spec
-    corners-requires
-    calculate-corners-requires
-    sub-numbers
-    extend-hull-requires
-    cast-t24
-    same-length
-    same-length-2
-    returns
-    same-length-3
-    same-length-4
-    returns-2)
+    (tie.spec (λ c κs. search needs) (λ c κs. search needs) (λ c. search needs) extend-hull-requires cast-t24
+    (λ c. search needs) (λ c. search needs) returns (λ c. search needs) (λ c. search needs) returns-2)

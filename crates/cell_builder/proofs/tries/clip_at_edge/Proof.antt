@@ -1,12 +1,11 @@
 -- `cell_builder::tries::clip_at_edge` meets its contract: the first entry of the site's region tells whether its cell is still empty; if so the staged walk is clipped as the definition does.
-use mathlib.Core.Path.{_≡_, refl, sym, ap, _∙_, subst}
-use Prim.Native.Nat.{_+_, _*_, _-_, _<_, _≤_}
+use mathlib.Core.Path.{_≡_, ap, _∙_}
+use Prim.Native.Nat.{_<_}
 use native.Mathlib.Omega.{arith}
 use lib.ListN.{length, getD}
 use borrow.Author.Needs.{needs}
-use Rattle.mesh.specs.Mesh.{endOf}
 use Rattle.mesh.specs.Facts.{paired}
-use Rattle.cell_builder.proofs.TwoKinds.{edge-site, region-place, edge-kept, stage-room, edge-ringed, edge-tried}
+use Rattle.cell_builder.specs.laws.TwoKinds.{edge-site, region-place, edge-kept, stage-room, edge-ringed, edge-tried}
 use Rattle.cell_builder.proofs.tries.clip_at_edge.Statement.{statement}
 use Rattle.cell_builder.proofs.tries.clip_at_edge.Tie as tie
 
@@ -26,20 +25,11 @@ in-list c = let e = Site c in let i = Entry e in omega (arith, base c, region-pl
 end-site-requires : tie.Need-end-site-requires
 end-site-requires c κs = let i = c .before .before .before .before .before in (i .pre .0 .amid .on .mesh .threes, i .pre .1)
 
-wide-requires : tie.Need-wide-requires
-wide-requires c κs = search needs
-
-mul-wide : tie.Need-mul-wide
-mul-wide c = search needs
-
 shared-slice-read-wide : tie.Need-shared-slice-read-wide
 shared-slice-read-wide c =
     let e = c .before .before in
     let i = Entry e in
     rw (c .before .wide .ensures) (omega (arith, edge-site (i .pre .0 .amid) _ _ (i .pre .1) (e .end-site .ensures), i .pre .0 .amid .on .places))
-
-wide-requires-2 : tie.Need-wide-requires-2
-wide-requires-2 c κs = search needs
 
 mul-if1 : tie.Need-mul-if1
 mul-if1 c = omega (arith, in-list c)
@@ -53,9 +43,6 @@ returns c =
     let e = Site w in
     let i = Entry e in
     λ g s a. edge-kept a _ _ (i .pre .1) (e .end-site .ensures) (rw (base w) at (c .if1 .taken))
-
-cast-stage-ring : tie.Need-cast-stage-ring
-cast-stage-ring c = search needs
 
 stage-ring-requires : tie.Need-stage-ring-requires
 stage-ring-requires c κs =
@@ -72,12 +59,6 @@ clip-staged-requires c κs =
     let i = Entry e in
     edge-ringed (i .pre .0 .amid) _ _ (i .pre .1) (e .end-site .ensures) (rw (base w) at (r .before .before .if1 .left)) (r .stage-ring .ensures)
 
-same-length : tie.Need-same-length
-same-length c = search needs
-
-same-length-2 : tie.Need-same-length-2
-same-length-2 c = search needs
-
 returns-2 : tie.Need-returns-2
 returns-2 c =
     let t = c .before .before .before .before in
@@ -85,23 +66,12 @@ returns-2 c =
     let w = r .before .before .before .before in
     let e = Site w in
     let i = Entry e in
-    λ g s a. edge-tried a _ _ (i .pre .1) (e .end-site .ensures) (rw (base w) at (r .before .before .if1 .left)) (r .stage-ring .ensures) (c .before .before .before .v .given) (c .before .ix2 .given) (t .clip-staged .ensures)
+    λ g s a. edge-tried a _ _ (i .pre .1) (e .end-site .ensures) (rw (base w) at (r .before .before .if1 .left)) (r .stage-ring .ensures)
+    (c .before .before .before .v .given) (c .before .ix2 .given) (t .clip-staged .ensures)
 
 pub clip-at-edge-spec : {M : Type 1} → statement M
 clip-at-edge-spec =
     tie.close
-    (tie.spec
-    end-site-requires
-    wide-requires
-    mul-wide
-    shared-slice-read-wide
-    wide-requires-2
-    mul-if1
-    slice-read-if1
-    returns
-    cast-stage-ring
-    stage-ring-requires
-    clip-staged-requires
-    same-length
-    same-length-2
-    returns-2)
+    (tie.spec end-site-requires (λ c κs. search needs) (λ c. search needs) shared-slice-read-wide
+    (λ c κs. search needs) mul-if1 slice-read-if1 returns (λ c. search needs) stage-ring-requires clip-staged-requires
+    (λ c. search needs) (λ c. search needs) returns-2)

@@ -1,21 +1,11 @@
 -- `cell_builder::tries::clip_at_hull` meets its contract: the staged ring is the definition's, the site's region has room for it, and its try is the definition's.
-use mathlib.Core.Path.{_≡_, refl, sym, ap, _∙_, subst}
-use Prim.Native.Nat.{_-_, _<_}
-use native.Mathlib.Omega.{arith}
-use lib.ListN.{length, getD}
 use borrow.Author.Needs.{needs}
-use Rattle.cell_builder.proofs.TwoKinds.{numbers-before, hull-stages, hull-paid, hull-ringed, hull-tried}
+use Rattle.cell_builder.specs.laws.TwoKinds.{numbers-before, hull-stages, hull-paid, hull-ringed, hull-tried}
 use Rattle.cell_builder.proofs.tries.clip_at_hull.Statement.{statement}
 use Rattle.cell_builder.proofs.tries.clip_at_hull.Tie as tie
 
 abbrev Entry : tie.After-struct-known → tie.Start
 Entry c = c .before .before .before .before .before .before .before .before .before
-
-mul-site : tie.Need-mul-site
-mul-site c = search needs
-
-shared-slice-read-site : tie.Need-shared-slice-read-site
-shared-slice-read-site c = search needs
 
 sub-numbers : tie.Need-sub-numbers
 sub-numbers c = let i = Entry c in let h = i .pre in numbers-before (h .amid) _ (i .args .table .now) (h .is) _ (h .place)
@@ -30,12 +20,6 @@ clip-staged-requires c κs =
     let h = i .pre in
     hull-ringed (h .amid) _ _ (h .is) _ (h .place) (hull-paid (h .amid) _ _ (h .is) _ (h .place) (h .table-is) _) (h .blank) (r .stage-hull-ring .ensures)
 
-same-length : tie.Need-same-length
-same-length c = search needs
-
-same-length-2 : tie.Need-same-length-2
-same-length-2 c = search needs
-
 returns : tie.Need-returns
 returns c =
     let t = c .before .before .before .before in
@@ -43,17 +27,11 @@ returns c =
     let i = Entry (r .before .before) in
     let h = i .pre in
     λ g s is blank a.
-    hull-tried a _ _ is _ (h .place) (hull-paid (h .amid) _ _ (h .is) _ (h .place) (h .table-is) _) blank (r .stage-hull-ring .ensures) (c .before .before .before .v .given) (c .before .ix2 .given) (t .clip-staged .ensures)
+    hull-tried a _ _ is _ (h .place) (hull-paid (h .amid) _ _ (h .is) _ (h .place) (h .table-is) _) blank (r .stage-hull-ring .ensures)
+    (c .before .before .before .v .given) (c .before .ix2 .given) (t .clip-staged .ensures)
 
 pub clip-at-hull-spec : {M : Type 1} → statement M
 clip-at-hull-spec =
     tie.close
-    (tie.spec
-    mul-site
-    shared-slice-read-site
-    sub-numbers
-    stage-hull-ring-requires
-    clip-staged-requires
-    same-length
-    same-length-2
-    returns)
+    (tie.spec (λ c. search needs) (λ c. search needs) sub-numbers stage-hull-ring-requires clip-staged-requires
+    (λ c. search needs) (λ c. search needs) returns)

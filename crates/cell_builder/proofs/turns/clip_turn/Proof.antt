@@ -8,8 +8,8 @@ use borrow.Author.Needs.{needs}
 use borrow.Author.Tests.{ltb-true}
 use Rattle.laws.specs.And.{and-left, and-right}
 use Rattle.mesh.specs.Mesh.{endOf}
-use Rattle.cell_builder.proofs.TwoKinds.{edge-site, region-place}
-use Rattle.cell_builder.proofs.Turning.{table-place, turn-skipped, turn-tried}
+use Rattle.cell_builder.specs.laws.TwoKinds.{edge-site, region-place}
+use Rattle.cell_builder.specs.laws.Turning.{table-place, turn-skipped, turn-tried}
 use Rattle.cell_builder.proofs.turns.clip_turn.Statement.{statement}
 use Rattle.cell_builder.proofs.turns.clip_turn.Tie as tie
 
@@ -39,17 +39,8 @@ in-list c = let w = Ended c in let i = Entry (w .before) in omega (arith, base c
 end-site-requires : tie.Need-end-site-requires
 end-site-requires c κs = let i = c .before .before .before .before .before .before in (i .pre .amid .on .mesh .threes, i .pre .place)
 
-wide-requires : tie.Need-wide-requires
-wide-requires c κs = search needs
-
-mul-wide : tie.Need-mul-wide
-mul-wide c = search needs
-
 shared-slice-read-wide : tie.Need-shared-slice-read-wide
 shared-slice-read-wide c = let w = c .before in let i = Entry (w .before) in table-place (i .pre .amid) (i .pre .table-is) (i .pre .full-before) (i .pre .place) (ends w)
-
-wide-requires-2 : tie.Need-wide-requires-2
-wide-requires-2 c κs = search needs
 
 returns : tie.Need-returns
 returns c =
@@ -64,29 +55,17 @@ clip-at-edge-requires c κs =
     let i = Entry (Site (c .before .before .before) .before) in
     (record { g = i .pre .g; s = i .pre .s; amid = i .pre .amid }, i .pre .place)
 
-mul-wide-2 : tie.Need-mul-wide-2
-mul-wide-2 c = search needs
-
 shared-slice-read-wide-2 : tie.Need-shared-slice-read-wide-2
 shared-slice-read-wide-2 c =
     let w = Site (Tried c .before .before .before .before) in
     let i = Entry (w .before) in
     omega (arith, edge-site (i .pre .amid) _ _ (i .pre .place) (ends w), i .pre .amid .on .places)
 
-wide-requires-3 : tie.Need-wide-requires-3
-wide-requires-3 c κs = search needs
-
 mul-t16 : tie.Need-mul-t16
 mul-t16 c = omega (arith, in-list c, Entry (Ended c .before) .good .1 .1 .1 .1 .0 .1)
 
 slice-read-t14 : tie.Need-slice-read-t14
 slice-read-t14 c = omega (arith, in-list (c .before), c .before .before .before .before .ix .given)
-
-same-length : tie.Need-same-length
-same-length c = search needs
-
-same-length-2 : tie.Need-same-length-2
-same-length-2 c = search needs
 
 returns-2 : tie.Need-returns-2
 returns-2 c =
@@ -98,19 +77,6 @@ returns-2 c =
 pub clip-turn-spec : {M : Type 1} → statement M
 clip-turn-spec =
     tie.close
-    (tie.spec
-    end-site-requires
-    wide-requires
-    mul-wide
-    shared-slice-read-wide
-    wide-requires-2
-    returns
-    clip-at-edge-requires
-    mul-wide-2
-    shared-slice-read-wide-2
-    wide-requires-3
-    mul-t16
-    slice-read-t14
-    same-length
-    same-length-2
-    returns-2)
+    (tie.spec end-site-requires (λ c κs. search needs) (λ c. search needs) shared-slice-read-wide
+    (λ c κs. search needs) returns clip-at-edge-requires (λ c. search needs) shared-slice-read-wide-2
+    (λ c κs. search needs) mul-t16 slice-read-t14 (λ c. search needs) (λ c. search needs) returns-2)

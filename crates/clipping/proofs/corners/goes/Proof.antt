@@ -1,7 +1,7 @@
 -- `clipping::corners::goes` meets its contract: it asks the definition's two questions in their order.
 use borrow.Author.Needs.{needs}
 use mathlib.Core.Path.{sym}
-use Rattle.clipping.proofs.Wrapping.{goes-stop, goes-on}
+use Rattle.clipping.specs.laws.Wrapping.{goes-stop, goes-on}
 use Rattle.clipping.proofs.corners.goes.Statement.{statement}
 use Rattle.clipping.proofs.corners.goes.Tie as tie
 
@@ -10,16 +10,10 @@ returns c =
     let a = c .before .args in
     sym (goes-stop (a .site) (a .stop) (a .c) (a .t1) (c .if1 .taken))
 
-mul-result : tie.Need-mul-result
-mul-result c = search needs
-
-array-read-result : tie.Need-array-read-result
-array-read-result c = search needs
-
 returns-2 : tie.Need-returns-2
 returns-2 c =
     let a = c .before .args in
     sym (goes-on (a .site) (a .stop) (a .c) (a .t1) (c .if1 .left))
 
 pub goes-spec : {M : Type 1} → statement M
-goes-spec = tie.close (tie.spec returns mul-result array-read-result returns-2)
+goes-spec = tie.close (tie.spec returns (λ c. search needs) (λ c. search needs) returns-2)

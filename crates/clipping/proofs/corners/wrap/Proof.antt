@@ -1,14 +1,14 @@
 -- `clipping::corners::wrap` meets its contract. What the definition still puts from corner c on, after the entries written, is the whole wrap;
 -- each corner taken strikes out an owner, so that at most four are and the loop ends.
 use Prim.Native.Nat.{ℕ, _+_, _-_, _≤_, _<_}
-use mathlib.Core.Path.{_≡_, refl, sym, ap, _∙_}
+use mathlib.Core.Path.{_≡_, refl, sym, _∙_}
 use native.Mathlib.Omega.{arith}
 use lib.ListN.{length, set, length-set}
 use Rattle.laws.specs.Count.{occ}
-use Rattle.mesh.specs.Mesh.{EMPTY}
-use Rattle.definition.specs.Cell.{wraps, Ins, before, entry, wrapped}
-use Rattle.clipping.proofs.Entries.{occ-set, occ-le}
-use Rattle.clipping.proofs.Wrapping.{Going, going-start, going-on, going-end, goes-owns, wraps-go, wraps-stop}
+use Rattle.numbers.specs.Numbers.{EMPTY}
+use Rattle.definition.specs.Cell.{wraps}
+use Rattle.clipping.specs.laws.Entries.{occ-set, occ-le}
+use Rattle.clipping.specs.laws.Wrapping.{Going, going-start, going-on, going-end, goes-owns, wraps-go, wraps-stop}
 use Rattle.clipping.proofs.corners.wrap.Statement.{statement}
 use Rattle.clipping.proofs.corners.wrap.Tie as tie
 
@@ -37,20 +37,12 @@ struck :
     → occ (c .before .before .before .before .before .args .site) (set (c .before .before .loop .owners) (c .before .before .loop .c) EMPTY) + 1
     ≡ occ (c .before .before .before .before .before .args .site) (c .before .before .loop .owners)
 struck c =
-    let a = c .before .before .before .before .before .args in
+    let at-start = c .before .before .before .before .before in
+    let a = at-start .args in
     let l = c .before .before .loop in
     occ-set (a .site) EMPTY (l .owners) (l .c) (omega arith)
     (goes-owns (a .site) (a .stop) (l .c) (l .owners) (sym (c .before .goes .ensures) ∙ c .if1 .taken))
     (λ e. omega arith)
-
-goes-requires : tie.Need-goes-requires Inv-loop μ-loop
-goes-requires c κs = omega arith
-
-add-last : tie.Need-add-last Inv-loop μ-loop
-add-last c = omega arith
-
-cast-last : tie.Need-cast-last Inv-loop μ-loop
-cast-last c = omega arith
 
 mul-ix : tie.Need-mul-ix Inv-loop μ-loop
 mul-ix c = omega (arith, struck c)
@@ -58,24 +50,16 @@ mul-ix c = omega (arith, struck c)
 slice-write-ix : tie.Need-slice-write-ix Inv-loop μ-loop
 slice-write-ix c = omega (arith, struck c)
 
-mul-owners : tie.Need-mul-owners Inv-loop μ-loop
-mul-owners c = omega arith
-
-array-write-owners : tie.Need-array-write-owners Inv-loop μ-loop
-array-write-owners c = omega arith
-
 add-end : tie.Need-add-end Inv-loop μ-loop
 add-end c = omega (arith, struck c)
-
-add-c : tie.Need-add-c Inv-loop μ-loop
-add-c c = omega arith
 
 loop-less : tie.Need-loop-less Inv-loop μ-loop
 loop-less c = omega (arith, struck c)
 
 loop-again : tie.Need-loop-again Inv-loop μ-loop
 loop-again c =
-    let a = c .before .before .before .before .before .args in
+    let at-start = c .before .before .before .before .before in
+    let a = at-start .args in
     let l = c .before .before .loop in
     let few : occ (a .site) (a .cell .owners) ≤ length (a .cell .owners) = occ-le (a .site) (a .cell .owners) in
     let one = struck c in
@@ -89,12 +73,10 @@ loop-again c =
       λ n h k. omega arith,
     )
 
-same-length : tie.Need-same-length Inv-loop μ-loop
-same-length c = omega arith
-
 returns : tie.Need-returns Inv-loop μ-loop
 returns c =
-    let a = c .before .before .before .before .before .args in
+    let at-start = c .before .before .before .before .before in
+    let a = at-start .args in
     let l = c .before .before .loop in (
       going-end (l .inv .5) (a .site) (l .owners) (wraps-stop _ _ _ _ _ _ (sym (c .before .goes .ensures) ∙ c .if1 .left)) (a .cell) _ refl refl refl refl refl (l .inv .1) (omega arith),
       l .inv .6,
@@ -103,20 +85,6 @@ returns c =
 pub wrap-spec : {M : Type 1} → statement M
 wrap-spec =
     tie.close
-    (tie.spec
-    Inv-loop
-    μ-loop
-    loop-holds
-    goes-requires
-    add-last
-    cast-last
-    mul-ix
-    slice-write-ix
-    mul-owners
-    array-write-owners
-    add-end
-    add-c
-    loop-less
-    loop-again
-    same-length
-    returns)
+    (tie.spec Inv-loop μ-loop loop-holds (λ c κs. omega arith) (λ c. omega arith) (λ c. omega arith) mul-ix
+    slice-write-ix (λ c. omega arith) (λ c. omega arith) add-end (λ c. omega arith) loop-less loop-again
+    (λ c. omega arith) returns)

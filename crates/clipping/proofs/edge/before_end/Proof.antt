@@ -1,14 +1,8 @@
 -- `clipping::edge::before_end` meets its contract: it asks the definition's question.
-use Rattle.clipping.proofs.Clips.{comes-before, comes-after}
+use Rattle.clipping.specs.laws.Clips.{comes-before, comes-after}
 use borrow.Author.Needs.{needs}
 use Rattle.clipping.proofs.edge.before_end.Statement.{statement}
 use Rattle.clipping.proofs.edge.before_end.Tie as tie
-
-order-points-on-ray-requires : tie.Need-order-points-on-ray-requires
-order-points-on-ray-requires c κs = search needs
-
-first-is-requires : tie.Need-first-is-requires
-first-is-requires c κs = search needs
 
 returns : tie.Need-returns
 returns c =
@@ -22,4 +16,4 @@ returns-2 c =
 
 pub before-end-spec : {M : Type 1} → statement M
 before-end-spec =
-    tie.close (tie.spec order-points-on-ray-requires first-is-requires returns returns-2)
+    tie.close (tie.spec (λ c κs. search needs) (λ c κs. search needs) returns returns-2)

@@ -4,15 +4,9 @@ use borrow.Author.Needs.{needs}
 use Rattle.clipping.proofs.edge.edge_crossing.Statement.{statement}
 use Rattle.clipping.proofs.edge.edge_crossing.Tie as tie
 
-project-ray-requires : tie.Need-project-ray-requires
-project-ray-requires c κs = search needs
-
-on-edge-requires : tie.Need-on-edge-requires
-on-edge-requires c κs = search needs
-
 returns : tie.Need-returns
 unfolding edgeCrossing
 returns c = cc
 
 pub edge-crossing-spec : {M : Type 1} → statement M
-edge-crossing-spec = tie.close (tie.spec project-ray-requires on-edge-requires returns)
+edge-crossing-spec = tie.close (tie.spec (λ c κs. search needs) (λ c κs. search needs) returns)

@@ -3,18 +3,6 @@ use borrow.Author.Needs.{needs}
 use Rattle.clipping.proofs.edge.first_is.Statement.{statement}
 use Rattle.clipping.proofs.edge.first_is.Tie as tie
 
-enum-told : tie.Need-enum-told
-enum-told c = search needs
-
-enum-known-c : tie.Need-enum-known-c
-enum-known-c c = search needs
-
-enum-known-c-2 : tie.Need-enum-known-c-2
-enum-known-c-2 c = search needs
-
-returns : tie.Need-returns
-returns c = search needs
-
 returns-2 : tie.Need-returns-2
 returns-2 c = rw (c .before .c .given .1)
 
@@ -23,4 +11,5 @@ returns-3 c = rw (c .before .c2 .given .1)
 
 pub first-is-spec : {M : Type 1} → statement M
 first-is-spec =
-    tie.close (tie.spec enum-told enum-known-c enum-known-c-2 returns returns-2 returns-3)
+    tie.close (tie.spec (λ c. search needs) (λ c. search needs) (λ c. search needs) (λ c. search needs) returns-2
+    returns-3)

@@ -1,13 +1,12 @@
 -- `clipping::ring::clip_cell` meets its contract: it starts at the first vertex inside, and at the first where none is.
-use Prim.Native.Nat.{ℕ}
-use mathlib.Core.Path.{_≡_, sym, ap, _∙_}
+use mathlib.Core.Path.{sym, ap, _∙_}
 use native.Mathlib.Omega.{arith}
 use denote.Ref.{now}
 use Rattle.utils.specs.Flat.{points}
 use Rattle.definition.specs.Cell.{inBox}
 use Rattle.clipping.specs.Steps.{ringOf}
-use Rattle.clipping.proofs.Rounds.{length-ring, getD-ring, first-all, cell-inside, cell-outside}
-use Rattle.clipping.proofs.Steps.{never}
+use Rattle.clipping.specs.laws.Rounds.{length-ring, getD-ring, first-all, cell-inside, cell-outside}
+use Rattle.clipping.specs.laws.Steps.{never}
 use borrow.Author.Needs.{needs}
 use Rattle.clipping.proofs.ring.clip_cell.Statement.{statement}
 use Rattle.clipping.proofs.ring.clip_cell.Tie as tie
@@ -25,21 +24,18 @@ clip-from-requires c κs =
     let s = c .before .before .before .before .before .before .before .before in
     (s .pre .0, (c .before .before .if1 .taken, never))
 
-same-length : tie.Need-same-length
-same-length c = search needs
-
-same-length-2 : tie.Need-same-length-2
-same-length-2 c = search needs
-
 returns : tie.Need-returns
 returns c =
+    let at-if1 = c .before .before .before .before .before .before .before in
+    let at-first-inside = at-if1 .before in
     let s = c .before .before .before .before .before .before .before .before .before .before .before .before .before in
     let a = s .args in
     let m = s .pre .0 in
     let ends = m .ends in
     let list = m .list in
     let n = length-ring (now (a .ix)) (a .ring) (a .len) (omega arith) in
-    rw (cell-inside (a .env .bounds) (a .env .centers) (a .env .site) (ringOf (now (a .ix)) (a .ring) (a .len)) (points (a .count) (now (a .v))) (a .owners) _ (c .before .before .before .before .before .before .before .before .first-inside .ensures .0) (rw n (c .before .before .before .before .before .before .before .if1 .taken)))
+    rw (cell-inside (a .env .bounds) (a .env .centers) (a .env .site) (ringOf (now (a .ix)) (a .ring) (a .len)) (points (a .count) (now (a .v)))
+    (a .owners) _ (at-first-inside .first-inside .ensures .0) (rw n (at-if1 .if1 .taken)))
     (c .before .before .before .before .clip-from .ensures)
 
 clip-from-requires-2 : tie.Need-clip-from-requires-2
@@ -62,33 +58,22 @@ clip-from-requires-2 c κs =
       ),
     )
 
-same-length-3 : tie.Need-same-length-3
-same-length-3 c = search needs
-
-same-length-4 : tie.Need-same-length-4
-same-length-4 c = search needs
-
 returns-2 : tie.Need-returns-2
 returns-2 c =
+    let at-if1 = c .before .before .before .before .before .before .before in
+    let at-first-inside = at-if1 .before in
     let s = c .before .before .before .before .before .before .before .before .before .before .before .before .before in
     let a = s .args in
     let m = s .pre .0 in
     let ends = m .ends in
     let list = m .list in
     let n = length-ring (now (a .ix)) (a .ring) (a .len) (omega arith) in
-    rw (cell-outside (a .env .bounds) (a .env .centers) (a .env .site) (ringOf (now (a .ix)) (a .ring) (a .len)) (points (a .count) (now (a .v))) (a .owners) _ (c .before .before .before .before .before .before .before .before .first-inside .ensures .0) (rw n (c .before .before .before .before .before .before .before .if1 .left)))
+    rw (cell-outside (a .env .bounds) (a .env .centers) (a .env .site) (ringOf (now (a .ix)) (a .ring) (a .len)) (points (a .count) (now (a .v)))
+    (a .owners) _ (at-first-inside .first-inside .ensures .0) (rw n (at-if1 .if1 .left)))
     (c .before .before .before .before .clip-from2 .ensures)
 
 pub clip-cell-spec : {M : Type 1} → statement M
 clip-cell-spec =
     tie.close
-    (tie.spec
-    first-inside-requires
-    clip-from-requires
-    same-length
-    same-length-2
-    returns
-    clip-from-requires-2
-    same-length-3
-    same-length-4
-    returns-2)
+    (tie.spec first-inside-requires clip-from-requires (λ c. search needs) (λ c. search needs) returns
+    clip-from-requires-2 (λ c. search needs) (λ c. search needs) returns-2)

@@ -1,14 +1,14 @@
 -- `clipping::ring::first_inside` meets its contract: the first vertex inside of the whole ring is the first of the rest, as none before is inside.
-use Prim.Native.Nat.{ℕ, _+_, _-_, _≤_, _<_}
-use mathlib.Core.Path.{_≡_, refl, sym, ap, _∙_}
+use Prim.Native.Nat.{_+_, _-_, _≤_}
+use mathlib.Core.Path.{_≡_, sym, ap, _∙_}
 use native.Mathlib.Omega.{arith}
 use native.Mathlib.Nat.{zero-add}
-use lib.ListN.{length, getD, drop}
+use lib.ListN.{drop}
 use denote.Ref.{now}
 use Rattle.utils.specs.Flat.{points}
 use Rattle.definition.specs.Cell.{firstInside, inBox}
 use Rattle.clipping.specs.Steps.{ringOf}
-use Rattle.clipping.proofs.Rounds.{first-hit, first-miss, first-none, length-ring, getD-ring}
+use Rattle.clipping.specs.laws.Rounds.{first-hit, first-miss, first-none, length-ring, getD-ring}
 use Rattle.clipping.proofs.ring.first_inside.Statement.{statement}
 use Rattle.clipping.proofs.ring.first_inside.Tie as tie
 
@@ -23,15 +23,6 @@ abbrev μ-loop : tie.MeasureT-loop
 
 loop-holds : tie.Need-loop-holds Inv-loop μ-loop
 loop-holds c = (omega arith, sym (zero-add _))
-
-add-at : tie.Need-add-at Inv-loop μ-loop
-add-at c = omega arith
-
-mul-in-box : tie.Need-mul-in-box Inv-loop μ-loop
-mul-in-box c = omega arith
-
-shared-slice-read-in-box : tie.Need-shared-slice-read-in-box Inv-loop μ-loop
-shared-slice-read-in-box c = omega arith
 
 in-box-requires : tie.Need-in-box-requires Inv-loop μ-loop
 in-box-requires c κs =
@@ -48,12 +39,6 @@ returns c =
     let n = length-ring (now (a .ix)) (a .ring) (a .len) (s .pre .1) in
     let e = ap (inBox (a .env .bounds) (a .env .centers) vs) (getD-ring (now (a .ix)) (a .ring) (a .len) (l .k) h) ∙ sym (c .before .in-box .ensures) ∙ c .if1 .taken in
     (sym (l .inv .1 ∙ first-hit (a .env .bounds) (a .env .centers) vs (ringOf (now (a .ix)) (a .ring) (a .len)) (l .k) (rw n h) e), omega arith)
-
-add-k : tie.Need-add-k Inv-loop μ-loop
-add-k c = omega arith
-
-loop-less : tie.Need-loop-less Inv-loop μ-loop
-loop-less c = omega arith
 
 loop-again : tie.Need-loop-again Inv-loop μ-loop
 loop-again c =
@@ -77,16 +62,5 @@ returns-2 c =
 pub first-inside-spec : {M : Type 1} → statement M
 first-inside-spec =
     tie.close
-    (tie.spec
-    Inv-loop
-    μ-loop
-    loop-holds
-    add-at
-    mul-in-box
-    shared-slice-read-in-box
-    in-box-requires
-    returns
-    add-k
-    loop-less
-    loop-again
-    returns-2)
+    (tie.spec Inv-loop μ-loop loop-holds (λ c. omega arith) (λ c. omega arith) (λ c. omega arith) in-box-requires
+    returns (λ c. omega arith) (λ c. omega arith) loop-again returns-2)

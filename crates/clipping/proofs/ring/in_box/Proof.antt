@@ -3,16 +3,10 @@ use mathlib.Core.Path.{sym, ap, _∙_}
 use denote.Ref.{now}
 use Rattle.utils.specs.Flat.{points}
 use Rattle.bounding_box.specs.Box.{insideOf}
-use Rattle.clipping.proofs.Steps.{in-center, in-none}
+use Rattle.clipping.specs.laws.Steps.{in-center, in-none}
 use borrow.Author.Needs.{needs}
 use Rattle.clipping.proofs.ring.in_box.Statement.{statement}
 use Rattle.clipping.proofs.ring.in_box.Tie as tie
-
-vertex-requires : tie.Need-vertex-requires
-vertex-requires c κs = search needs
-
-is-inside-requires : tie.Need-is-inside-requires
-is-inside-requires c κs = search needs
 
 returns : tie.Need-returns
 returns c =
@@ -27,4 +21,4 @@ returns-2 c =
     sym (in-none (a .bounds) (a .centers) (points (a .count) (now (a .v))) (a .i) (c .if1 .left))
 
 pub in-box-spec : {M : Type 1} → statement M
-in-box-spec = tie.close (tie.spec vertex-requires is-inside-requires returns returns-2)
+in-box-spec = tie.close (tie.spec (λ c κs. search needs) (λ c κs. search needs) returns returns-2)

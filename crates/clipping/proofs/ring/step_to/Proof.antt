@@ -4,13 +4,10 @@ use mathlib.Core.Path.{refl, sym, _∙_}
 use denote.Ref.{now}
 use Rattle.utils.specs.Flat.{points}
 use Rattle.definition.specs.Cell.{clipStep}
-use Rattle.clipping.proofs.Steps.{step-refused, step-done, changes-low, changes-out, clip-out}
+use Rattle.clipping.specs.laws.Steps.{step-refused, step-done, changes-low, changes-out, clip-out}
 use borrow.Author.Needs.{needs}
 use Rattle.clipping.proofs.ring.step_to.Statement.{statement}
 use Rattle.clipping.proofs.ring.step_to.Tie as tie
-
-in-box-requires : tie.Need-in-box-requires
-in-box-requires c κs = search needs
 
 clip-step-requires : tie.Need-clip-step-requires
 clip-step-requires c κs =
@@ -18,41 +15,36 @@ clip-step-requires c κs =
     let i = c .before .before .in-box in
     (s .pre .0, (s .pre .1 .0, (s .pre .1 .1 .0, λ e f. s .pre .1 .1 .1 e (sym (i .ensures) ∙ f))))
 
-same-length : tie.Need-same-length
-same-length c = search needs
-
-same-length-2 : tie.Need-same-length-2
-same-length-2 c = search needs
-
 returns : tie.Need-returns
 returns c =
+    let at-clip-step = c .before .before .before .before .before .before in
+    let at-in-box = at-clip-step .before .before .before in
     let s = c .before .before .before .before .before .before .before .before .before .before .before .before .before .before in
     let a = s .args in (
-      step-refused (a .env) (a .tip) (a .q) _ (now (a .v)) (now (a .ix)) _ _ _ (c .before .before .before .before .before .before .before .before .before .in-box .ensures) (c .before .before .before .before .before .before .clip-step .ensures) (c .if1 .taken) _ refl,
+      step-refused (a .env) (a .tip) (a .q) _ (now (a .v)) (now (a .ix)) _ _ _ (at-in-box .in-box .ensures) (at-clip-step .clip-step .ensures) (c .if1 .taken) _ refl,
       λ e. absurd (c .if1 .taken e),
     )
 
-same-length-3 : tie.Need-same-length-3
-same-length-3 c = search needs
-
-same-length-4 : tie.Need-same-length-4
-same-length-4 c = search needs
-
 returns-2 : tie.Need-returns-2
 returns-2 c =
+    let at-clip-step = c .before .before .before .before .before .before .before in
+    let at-in-box = at-clip-step .before .before .before in
     let s = c .before .before .before .before .before .before .before .before .before .before .before .before .before .before .before in
     let a = s .args in
     let t = a .tip in
-    let g = c .before .before .before .before .before .before .before .clip-step in
+    let g = at-clip-step .clip-step in
     let l = changes-low (a .env) (t .count) (t .cell) (now (a .v)) (now (a .ix)) (g .result) _ _
-    (clipStep (a .env .bounds) (a .env .centers) (a .env .site) (t .vertex) (t .inside) (a .q) (c .before .before .before .before .before .before .before .before .before .before .in-box .result) (points (t .count) (now (a .v))) (t .cell .owners) (t .opened) (t .cell .last))
+    (clipStep (a .env .bounds) (a .env .centers) (a .env .site) (t .vertex) (t .inside) (a .q) (at-in-box .in-box .result)
+    (points (t .count) (now (a .v))) (t .cell .owners) (t .opened) (t .cell .last))
     (g .ensures) (c .before .if1 .left) in (
-      step-done (a .env) (a .tip) (a .q) _ (now (a .v)) (now (a .ix)) _ _ _ (c .before .before .before .before .before .before .before .before .before .before .in-box .ensures) (g .ensures) (c .before .if1 .left),
+      step-done (a .env) (a .tip) (a .q) _ (now (a .v)) (now (a .ix)) _ _ _ (at-in-box .in-box .ensures) (g .ensures) (c .before .if1 .left),
       λ e. (
         record { vertex = omega arith; low = l .1 },
         λ i o. changes-out (a .env) (t .count) (t .cell) (now (a .v)) (now (a .ix)) (g .result) _ _ (t .inside) (t .opened)
-            (clipStep (a .env .bounds) (a .env .centers) (a .env .site) (t .vertex) (t .inside) (a .q) (c .before .before .before .before .before .before .before .before .before .before .in-box .result) (points (t .count) (now (a .v))) (t .cell .owners) (t .opened) (t .cell .last))
-            (clip-out (a .env .bounds) (a .env .centers) (a .env .site) (points (t .count) (now (a .v))) (t .cell .owners) (t .opened) (t .cell .last) (t .vertex) (t .inside) (a .q) (c .before .before .before .before .before .before .before .before .before .before .in-box .result) i)
+            (clipStep (a .env .bounds) (a .env .centers) (a .env .site) (t .vertex) (t .inside) (a .q) (at-in-box .in-box .result)
+            (points (t .count) (now (a .v))) (t .cell .owners) (t .opened) (t .cell .last))
+            (clip-out (a .env .bounds) (a .env .centers) (a .env .site) (points (t .count) (now (a .v))) (t .cell .owners) (t .opened)
+            (t .cell .last) (t .vertex) (t .inside) (a .q) (at-in-box .in-box .result) i)
             (g .ensures) (c .before .if1 .left) o,
       ),
     )
@@ -60,12 +52,5 @@ returns-2 c =
 pub step-to-spec : {M : Type 1} → statement M
 step-to-spec =
     tie.close
-    (tie.spec
-    in-box-requires
-    clip-step-requires
-    same-length
-    same-length-2
-    returns
-    same-length-3
-    same-length-4
-    returns-2)
+    (tie.spec (λ c κs. search needs) clip-step-requires (λ c. search needs) (λ c. search needs) returns
+    (λ c. search needs) (λ c. search needs) returns-2)

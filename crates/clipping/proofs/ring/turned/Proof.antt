@@ -1,29 +1,17 @@
 -- `clipping::ring::turned` meets its contract: the front of the turned ring is the part before f reversed, its back the rest reversed.
 use Prim.Native.Nat.{ℕ, _-_}
-use mathlib.Core.Path.{_≡_, sym, ap, _∙_}
+use mathlib.Core.Path.{ap, _∙_}
 use native.Mathlib.Omega.{arith}
-use lib.ListN.{length, getD}
-use Rattle.clipping.proofs.Turning.{turned-front, turned-back}
+use lib.ListN.{getD}
+use Rattle.clipping.specs.laws.Turning.{turned-front, turned-back}
 use borrow.Author.Needs.{needs}
 use Rattle.clipping.proofs.ring.turned.Statement.{statement}
 use Rattle.clipping.proofs.ring.turned.Tie as tie
-
-sub-result : tie.Need-sub-result
-sub-result c = search needs
-
-sub-result-2 : tie.Need-sub-result-2
-sub-result-2 c = search needs
 
 returns : tie.Need-returns
 returns c =
     let a = c .before .args in
     (omega arith, λ ring e. turned-front (a .f) ring (omega arith) (a .k) (c .if1 .taken))
-
-sub-result-3 : tie.Need-sub-result-3
-sub-result-3 c = search needs
-
-sub-result-4 : tie.Need-sub-result-4
-sub-result-4 c = search needs
 
 returns-2 : tie.Need-returns-2
 returns-2 c =
@@ -32,4 +20,5 @@ returns-2 c =
 
 pub turned-spec : {M : Type 1} → statement M
 turned-spec =
-    tie.close (tie.spec sub-result sub-result-2 returns sub-result-3 sub-result-4 returns-2)
+    tie.close (tie.spec (λ c. search needs) (λ c. search needs) returns (λ c. search needs) (λ c. search needs)
+    returns-2)

@@ -1,47 +1,36 @@
 -- `clipping::step::clip_step` meets its contract: by the two tests it takes the definition's case.
-use native.Mathlib.Omega.{arith}
 use mathlib.Core.List.{[], _∷_}
 use denote.Ref.{now}
 use Rattle.utils.specs.Flat.{points}
 use Rattle.definition.specs.Fault.{ok}
 use Rattle.definition.specs.Cell.{entry, plain, change}
-use Rattle.clipping.proofs.Changes.{changes, leaves-none, grown-none}
-use Rattle.clipping.proofs.Steps.{step-stay, step-leave, step-enter, step-cross}
+use Rattle.clipping.specs.laws.Changes.{changes, leaves-none, grown-none}
+use Rattle.clipping.specs.laws.Steps.{step-stay, step-leave, step-enter, step-cross}
 use borrow.Author.Needs.{needs}
 use Rattle.clipping.proofs.step.clip_step.Statement.{statement}
 use Rattle.clipping.proofs.step.clip_step.Tie as tie
 
-stay-requires : tie.Need-stay-requires
-stay-requires c κs = search needs
-
-same-length : tie.Need-same-length
-same-length c = search needs
-
 returns : tie.Need-returns
 returns c =
+    let at-if1 = c .before .before .before .before .before in
     let s = c .before .before .before .before .before .before .before .before .before in
     let a = s .args in
     let t = a .tip in
     let vs = points (t .count) (now (a .v)) in
-    rw (step-stay (a .env .bounds) (a .env .centers) (a .env .site) (t .vertex) (t .inside) (a .q) (a .q-in) vs (t .cell .owners) (t .opened) (t .cell .last) (c .before .before .before .before .before .if1 .taken) (c .before .before .before .before .if2 .taken))
-    (changes (a .env) (t .count) _ _ (ok (change vs (t .cell .owners) (entry plain (t .vertex) ∷ []) (t .opened) [])) (s .pre .0 .fits) (leaves-none (s .pre .0 .holds)) (grown-none 2 (t .count) (now (a .v))) (c .before .before .stay .ensures vs))
-
-leave-requires : tie.Need-leave-requires
-leave-requires c κs = search needs
-
-same-length-2 : tie.Need-same-length-2
-same-length-2 c = search needs
-
-same-length-3 : tie.Need-same-length-3
-same-length-3 c = search needs
+    rw (step-stay (a .env .bounds) (a .env .centers) (a .env .site) (t .vertex) (t .inside) (a .q) (a .q-in) vs (t .cell .owners) (t .opened)
+    (t .cell .last) (at-if1 .if1 .taken) (c .before .before .before .before .if2 .taken))
+    (changes (a .env) (t .count) _ _ (ok (change vs (t .cell .owners) (entry plain (t .vertex) ∷ []) (t .opened) [])) (s .pre .0 .fits)
+    (leaves-none (s .pre .0 .holds)) (grown-none 2 (t .count) (now (a .v))) (c .before .before .stay .ensures vs))
 
 returns-2 : tie.Need-returns-2
 returns-2 c =
+    let at-if2 = c .before .before .before .before .before .before .before in
+    let at-if1 = at-if2 .before in
     let s = c .before .before .before .before .before .before .before .before .before .before .before .before in
     let a = s .args in
     let t = a .tip in
     let vs = points (t .count) (now (a .v)) in
-    rw (step-leave (a .env .bounds) (a .env .centers) (a .env .site) (t .vertex) (t .inside) (a .q) (a .q-in) vs (t .cell .owners) (t .opened) (t .cell .last) (c .before .before .before .before .before .before .before .before .if1 .taken) (c .before .before .before .before .before .before .before .if2 .left))
+    rw (step-leave (a .env .bounds) (a .env .centers) (a .env .site) (t .vertex) (t .inside) (a .q) (a .q-in) vs (t .cell .owners) (t .opened) (t .cell .last) (at-if1 .if1 .taken) (at-if2 .if2 .left))
     (c .before .before .before .before .leave .ensures)
 
 enter-requires : tie.Need-enter-requires
@@ -49,55 +38,31 @@ enter-requires c κs =
     let s = c .before .before .before .before .before .before .before in
     (s .pre .0, (s .pre .1 .0 .vertex, s .pre .1 .1 .0, s .pre .1 .1 .1 (c .before .before .before .if1 .left) (c .before .before .if3 .taken)))
 
-same-length-4 : tie.Need-same-length-4
-same-length-4 c = search needs
-
-same-length-5 : tie.Need-same-length-5
-same-length-5 c = search needs
-
 returns-3 : tie.Need-returns-3
 returns-3 c =
+    let at-if3 = c .before .before .before .before .before .before .before in
+    let at-if1 = at-if3 .before in
     let s = c .before .before .before .before .before .before .before .before .before .before .before .before in
     let a = s .args in
     let t = a .tip in
     let vs = points (t .count) (now (a .v)) in
-    rw (step-enter (a .env .bounds) (a .env .centers) (a .env .site) (t .vertex) (t .inside) (a .q) (a .q-in) vs (t .cell .owners) (t .opened) (t .cell .last) (c .before .before .before .before .before .before .before .before .if1 .left) (c .before .before .before .before .before .before .before .if3 .taken))
+    rw (step-enter (a .env .bounds) (a .env .centers) (a .env .site) (t .vertex) (t .inside) (a .q) (a .q-in) vs (t .cell .owners) (t .opened) (t .cell .last) (at-if1 .if1 .left) (at-if3 .if3 .taken))
     (c .before .before .before .before .enter .ensures)
-
-cross-requires : tie.Need-cross-requires
-cross-requires c κs = search needs
-
-same-length-6 : tie.Need-same-length-6
-same-length-6 c = search needs
-
-same-length-7 : tie.Need-same-length-7
-same-length-7 c = search needs
 
 returns-4 : tie.Need-returns-4
 returns-4 c =
+    let at-if3 = c .before .before .before .before .before .before .before in
+    let at-if1 = at-if3 .before in
     let s = c .before .before .before .before .before .before .before .before .before .before .before .before in
     let a = s .args in
     let t = a .tip in
     let vs = points (t .count) (now (a .v)) in
-    rw (step-cross (a .env .bounds) (a .env .centers) (a .env .site) (t .vertex) (t .inside) (a .q) (a .q-in) vs (t .cell .owners) (t .opened) (t .cell .last) (c .before .before .before .before .before .before .before .before .if1 .left) (c .before .before .before .before .before .before .before .if3 .left))
+    rw (step-cross (a .env .bounds) (a .env .centers) (a .env .site) (t .vertex) (t .inside) (a .q) (a .q-in) vs (t .cell .owners) (t .opened) (t .cell .last) (at-if1 .if1 .left) (at-if3 .if3 .left))
     (c .before .before .before .before .cross .ensures)
 
 pub clip-step-spec : {M : Type 1} → statement M
 clip-step-spec =
     tie.close
-    (tie.spec
-    stay-requires
-    same-length
-    returns
-    leave-requires
-    same-length-2
-    same-length-3
-    returns-2
-    enter-requires
-    same-length-4
-    same-length-5
-    returns-3
-    cross-requires
-    same-length-6
-    same-length-7
-    returns-4)
+    (tie.spec (λ c κs. search needs) (λ c. search needs) returns (λ c κs. search needs) (λ c. search needs)
+    (λ c. search needs) returns-2 enter-requires (λ c. search needs) (λ c. search needs) returns-3
+    (λ c κs. search needs) (λ c. search needs) (λ c. search needs) returns-4)

@@ -1,22 +1,12 @@
 -- `clipping::step::cross` meets its contract: the crossings as the store has them, then the edges along the box, case by case.
 use native.Mathlib.Omega.{arith}
-use mathlib.Core.Path.{refl}
 use denote.Ref.{now}
 use Rattle.utils.specs.Flat.{points}
 use Rattle.definition.specs.Cell.{clipEdge}
-use Rattle.clipping.proofs.Changes.{cross-missed, cross-once, cross-twice, once-below, twice-below, fits-up}
+use Rattle.clipping.specs.laws.Changes.{cross-missed, cross-once, cross-twice, once-below, twice-below, fits-up}
 use borrow.Author.Needs.{needs}
 use Rattle.clipping.proofs.step.cross.Statement.{statement}
 use Rattle.clipping.proofs.step.cross.Tie as tie
-
-clip-voronoi-edge-requires : tie.Need-clip-voronoi-edge-requires
-clip-voronoi-edge-requires c κs = search needs
-
-enum-told : tie.Need-enum-told
-enum-told c = search needs
-
-enum-known-clip : tie.Need-enum-known-clip
-enum-known-clip c = search needs
 
 cross-once-requires : tie.Need-cross-once-requires
 cross-once-requires c κs =
@@ -30,9 +20,6 @@ cross-once-requires c κs =
     let r = s .pre in
     (fits-up _ (s .pre .0 .fits) (omega arith), (omega arith, h .0, λ e. (let l = s .pre .1 .2 e in omega arith), omega arith, omega arith))
 
-enum-known-clip-2 : tie.Need-enum-known-clip-2
-enum-known-clip-2 c = search needs
-
 cross-at-requires : tie.Need-cross-at-requires
 cross-at-requires c κs =
     let m = c .before .before .before in
@@ -45,25 +32,15 @@ cross-at-requires c κs =
     let r = s .pre in
     (fits-up _ (s .pre .0 .fits) (omega arith), (omega arith, omega arith, omega arith, λ e. (let l = s .pre .1 .2 e in omega arith), omega arith, omega arith))
 
-same-length : tie.Need-same-length
-same-length c = search needs
-
-same-length-2 : tie.Need-same-length-2
-same-length-2 c = search needs
-
 returns : tie.Need-returns
 returns c =
-    let g = c .before .before .before .before .before .before .clip-voronoi-edge in
+    let at-clip-voronoi-edge = c .before .before .before .before .before .before in
+    let g = at-clip-voronoi-edge .clip-voronoi-edge in
     let s = c .before .before .before .before .before .before .before .before .before .before .before in
     let a = s .args in
     let k = clipEdge (a .env .bounds) (a .env .centers) (points (a .count) (now (a .v))) (a .p) (a .q) in
-    cross-missed (a .env) (a .env .bounds) (a .count) (a .cell) (now (a .v)) (now (a .ix)) _ _ (a .opened) (s .pre .0 .fits) (s .pre .0 .holds) (s .pre .1 .2) k (rw (c .enum-told .given .1) at (g .ensures))
-
-same-length-3 : tie.Need-same-length-3
-same-length-3 c = search needs
-
-same-length-4 : tie.Need-same-length-4
-same-length-4 c = search needs
+    cross-missed (a .env) (a .env .bounds) (a .count) (a .cell) (now (a .v)) (now (a .ix)) _ _ (a .opened) (s .pre .0 .fits) (s .pre .0 .holds)
+    (s .pre .1 .2) k (rw (c .enum-told .given .1) at (g .ensures))
 
 returns-2 : tie.Need-returns-2
 returns-2 c =
@@ -73,13 +50,8 @@ returns-2 c =
     let a = s .args in
     let vs = points (a .count) (now (a .v)) in
     let k = clipEdge (a .env .bounds) (a .env .centers) vs (a .p) (a .q) in
-    cross-once (a .env) (a .count) (a .cell) (now (a .v)) (now (a .ix)) _ _ _ _ (s .pre .0 .fits) (a .env .bounds) (a .opened) k _ _ vs (rw (m .clip .given .1) at (g .ensures)) (c .before .before .cross-once .ensures)
-
-same-length-5 : tie.Need-same-length-5
-same-length-5 c = search needs
-
-same-length-6 : tie.Need-same-length-6
-same-length-6 c = search needs
+    cross-once (a .env) (a .count) (a .cell) (now (a .v)) (now (a .ix)) _ _ _ _ (s .pre .0 .fits) (a .env .bounds) (a .opened) k _ _ vs
+    (rw (m .clip .given .1) at (g .ensures)) (c .before .before .cross-once .ensures)
 
 returns-3 : tie.Need-returns-3
 returns-3 c =
@@ -89,24 +61,12 @@ returns-3 c =
     let a = s .args in
     let vs = points (a .count) (now (a .v)) in
     let k = clipEdge (a .env .bounds) (a .env .centers) vs (a .p) (a .q) in
-    cross-twice (a .env) (a .count) (a .cell) (now (a .v)) (now (a .ix)) _ _ _ _ (s .pre .0 .fits) (a .env .bounds) (a .opened) k _ _ _ vs (rw (m .clip2 .given .1) at (g .ensures)) (c .before .before .cross-at .ensures)
+    cross-twice (a .env) (a .count) (a .cell) (now (a .v)) (now (a .ix)) _ _ _ _ (s .pre .0 .fits) (a .env .bounds) (a .opened) k _ _ _ vs
+    (rw (m .clip2 .given .1) at (g .ensures)) (c .before .before .cross-at .ensures)
 
 pub cross-spec : {M : Type 1} → statement M
 cross-spec =
     tie.close
-    (tie.spec
-    clip-voronoi-edge-requires
-    enum-told
-    enum-known-clip
-    cross-once-requires
-    enum-known-clip-2
-    cross-at-requires
-    same-length
-    same-length-2
-    returns
-    same-length-3
-    same-length-4
-    returns-2
-    same-length-5
-    same-length-6
-    returns-3)
+    (tie.spec (λ c κs. search needs) (λ c. search needs) (λ c. search needs) cross-once-requires (λ c. search needs)
+    cross-at-requires (λ c. search needs) (λ c. search needs) returns (λ c. search needs) (λ c. search needs) returns-2
+    (λ c. search needs) (λ c. search needs) returns-3)

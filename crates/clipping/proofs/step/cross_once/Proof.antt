@@ -4,37 +4,32 @@ use denote.Ref.{now}
 use Rattle.utils.specs.Flat.{points}
 use Rattle.definition.specs.Fault.{refused}
 use Rattle.definition.specs.Cell.{Ins, link}
-use Rattle.clipping.proofs.Changes.{alters-refused, alters-lone}
+use Rattle.clipping.specs.laws.Changes.{alters-refused, alters-lone}
 use borrow.Author.Needs.{needs}
 use Rattle.clipping.proofs.step.cross_once.Statement.{statement}
 use Rattle.clipping.proofs.step.cross_once.Tie as tie
 
-link-requires : tie.Need-link-requires
-link-requires c κs = search needs
-
-same-length : tie.Need-same-length
-same-length c = search needs
-
 returns : tie.Need-returns
 returns c =
-    let a = c .before .before .before .before .before .before .before .before .before .args in
-    let g = c .before .before .before .before .before .link in
+    let at-link = c .before .before .before .before .before in
+    let at-start = at-link .before .before .before .before in
+    let a = at-start .args in
+    let g = at-link .link in
     let vs = points (a .count) (now (a .v)) in
     alters-refused (a .env .site) (a .count) vs (a .cell) (now (a .ix)) (g .result) _ (λ (i : Ins). refused 14) _ _
     (link (a .env .bounds) (a .env .centers) (a .env .site) vs (a .cell .owners) (a .opened) (a .cell .last) (a .first))
     (g .ensures) (c .if1 .taken) refl
 
-same-length-2 : tie.Need-same-length-2
-same-length-2 c = search needs
-
 returns-2 : tie.Need-returns-2
 returns-2 c =
-    let a = c .before .before .before .before .before .before .before .before .before .args in
-    let g = c .before .before .before .before .before .link in
+    let at-link = c .before .before .before .before .before in
+    let at-start = at-link .before .before .before .before in
+    let a = at-start .args in
+    let g = at-link .link in
     let vs = points (a .count) (now (a .v)) in
     alters-lone (a .env .site) (a .count) vs (a .cell) (now (a .ix)) (g .result) _ _ _
     (link (a .env .bounds) (a .env .centers) (a .env .site) vs (a .cell .owners) (a .opened) (a .cell .last) (a .first))
     (g .ensures) (c .if1 .left) refl
 
 pub cross-once-spec : {M : Type 1} → statement M
-cross-once-spec = tie.close (tie.spec link-requires same-length returns same-length-2 returns-2)
+cross-once-spec = tie.close (tie.spec (λ c κs. search needs) (λ c. search needs) returns (λ c. search needs) returns-2)

@@ -4,19 +4,10 @@ use mathlib.Core.Path.{refl}
 use denote.Ref.{now}
 use Rattle.utils.specs.Flat.{points}
 use Rattle.definition.specs.Cell.{clipEdge}
-use Rattle.clipping.proofs.Changes.{enter-missed, enter-once, enter-twice, once-below, twice-below, fits-up}
+use Rattle.clipping.specs.laws.Changes.{enter-missed, enter-once, enter-twice, once-below, twice-below, fits-up}
 use borrow.Author.Needs.{needs}
 use Rattle.clipping.proofs.step.enter.Statement.{statement}
 use Rattle.clipping.proofs.step.enter.Tie as tie
-
-clip-voronoi-edge-requires : tie.Need-clip-voronoi-edge-requires
-clip-voronoi-edge-requires c κs = search needs
-
-enum-told : tie.Need-enum-told
-enum-told c = search needs
-
-enum-known-clip : tie.Need-enum-known-clip
-enum-known-clip c = search needs
 
 enter-at-requires : tie.Need-enter-at-requires
 enter-at-requires c κs =
@@ -30,9 +21,6 @@ enter-at-requires c κs =
     let r = s .pre in
     (fits-up _ (s .pre .0 .fits) (omega arith), omega arith)
 
-enum-known-clip-2 : tie.Need-enum-known-clip-2
-enum-known-clip-2 c = search needs
-
 enter-at-requires-2 : tie.Need-enter-at-requires-2
 enter-at-requires-2 c κs =
     let m = c .before .before .before in
@@ -45,25 +33,14 @@ enter-at-requires-2 c κs =
     let r = s .pre in
     (fits-up _ (s .pre .0 .fits) (omega arith), omega arith)
 
-same-length : tie.Need-same-length
-same-length c = search needs
-
-same-length-2 : tie.Need-same-length-2
-same-length-2 c = search needs
-
 returns : tie.Need-returns
 returns c =
-    let g = c .before .before .before .before .before .before .clip-voronoi-edge in
+    let at-clip-voronoi-edge = c .before .before .before .before .before .before in
+    let g = at-clip-voronoi-edge .clip-voronoi-edge in
     let s = c .before .before .before .before .before .before .before .before .before .before .before in
     let a = s .args in
     let k = clipEdge (a .env .bounds) (a .env .centers) (points (a .count) (now (a .v))) (a .q) (a .p) in
     enter-missed (a .env) (a .count) (a .cell) (now (a .v)) (now (a .ix)) _ _ _ _ (s .pre .0 .fits) (a .env .bounds) k (rw (c .enum-told .given .1) at (g .ensures)) refl
-
-same-length-3 : tie.Need-same-length-3
-same-length-3 c = search needs
-
-same-length-4 : tie.Need-same-length-4
-same-length-4 c = search needs
 
 returns-2 : tie.Need-returns-2
 returns-2 c =
@@ -74,12 +51,6 @@ returns-2 c =
     let k = clipEdge (a .env .bounds) (a .env .centers) (points (a .count) (now (a .v))) (a .q) (a .p) in
     enter-once (a .env) (a .count) (a .cell) (now (a .v)) (now (a .ix)) _ _ _ _ (s .pre .0 .fits) (a .env .bounds) k _ _ (rw (m .clip .given .1) at (g .ensures)) (c .before .before .enter-at .ensures)
 
-same-length-5 : tie.Need-same-length-5
-same-length-5 c = search needs
-
-same-length-6 : tie.Need-same-length-6
-same-length-6 c = search needs
-
 returns-3 : tie.Need-returns-3
 returns-3 c =
     let m = c .before .before .before .before .before .before in
@@ -87,24 +58,12 @@ returns-3 c =
     let s = m .before .before .before .before .before .before .before .before .before .before .before in
     let a = s .args in
     let k = clipEdge (a .env .bounds) (a .env .centers) (points (a .count) (now (a .v))) (a .q) (a .p) in
-    enter-twice (a .env) (a .count) (a .cell) (now (a .v)) (now (a .ix)) _ _ _ _ (s .pre .0 .fits) (a .env .bounds) k _ _ _ (rw (m .clip2 .given .1) at (g .ensures)) (c .before .before .enter-at2 .ensures)
+    enter-twice (a .env) (a .count) (a .cell) (now (a .v)) (now (a .ix)) _ _ _ _ (s .pre .0 .fits) (a .env .bounds) k _ _ _
+    (rw (m .clip2 .given .1) at (g .ensures)) (c .before .before .enter-at2 .ensures)
 
 pub enter-spec : {M : Type 1} → statement M
 enter-spec =
     tie.close
-    (tie.spec
-    clip-voronoi-edge-requires
-    enum-told
-    enum-known-clip
-    enter-at-requires
-    enum-known-clip-2
-    enter-at-requires-2
-    same-length
-    same-length-2
-    returns
-    same-length-3
-    same-length-4
-    returns-2
-    same-length-5
-    same-length-6
-    returns-3)
+    (tie.spec (λ c κs. search needs) (λ c. search needs) (λ c. search needs) enter-at-requires (λ c. search needs)
+    enter-at-requires-2 (λ c. search needs) (λ c. search needs) returns (λ c. search needs) (λ c. search needs)
+    returns-2 (λ c. search needs) (λ c. search needs) returns-3)

@@ -4,21 +4,16 @@ use denote.Ref.{now}
 use borrow.Author.Tests.{eq-eqb}
 use Rattle.utils.specs.Flat.{points}
 use Rattle.definition.specs.Cell.{insertEdge, enterAt}
-use Rattle.clipping.proofs.Changes.{alters-enter}
+use Rattle.clipping.specs.laws.Changes.{alters-enter}
 use borrow.Author.Needs.{needs}
 use Rattle.clipping.proofs.step.enter_at.Statement.{statement}
 use Rattle.clipping.proofs.step.enter_at.Tie as tie
 
-insert-edge-requires : tie.Need-insert-edge-requires
-insert-edge-requires c κs = search needs
-
-same-length : tie.Need-same-length
-same-length c = search needs
-
 returns : tie.Need-returns
 unfolding enterAt
 returns c =
-    let a = c .before .before .before .before .before .before .before .args in
+    let at-start = c .before .before .before .before .before .before .before in
+    let a = at-start .args in
     let g = c .before .before .before .insert-edge in
     let vs = points (a .count) (now (a .v)) in
     λ ts. alters-enter (a .env .site) (a .count) vs (a .cell) (now (a .ix)) (g .result) _ ts
@@ -26,4 +21,4 @@ returns c =
     (rw (eq-eqb (a .cell .last) (a .cell .last) refl) at (g .ensures .0))
 
 pub enter-at-spec : {M : Type 1} → statement M
-enter-at-spec = tie.close (tie.spec insert-edge-requires same-length returns)
+enter-at-spec = tie.close (tie.spec (λ c κs. search needs) (λ c. search needs) returns)

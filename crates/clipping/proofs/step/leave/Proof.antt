@@ -4,19 +4,10 @@ use mathlib.Core.Path.{refl}
 use denote.Ref.{now}
 use Rattle.utils.specs.Flat.{points}
 use Rattle.definition.specs.Cell.{clipEdge}
-use Rattle.clipping.proofs.Changes.{leave-missed, leave-once, leave-twice, once-below, twice-below, fits-up}
+use Rattle.clipping.specs.laws.Changes.{leave-missed, leave-once, leave-twice, once-below, twice-below, fits-up}
 use borrow.Author.Needs.{needs}
 use Rattle.clipping.proofs.step.leave.Statement.{statement}
 use Rattle.clipping.proofs.step.leave.Tie as tie
-
-clip-voronoi-edge-requires : tie.Need-clip-voronoi-edge-requires
-clip-voronoi-edge-requires c κs = search needs
-
-enum-told : tie.Need-enum-told
-enum-told c = search needs
-
-enum-known-clip : tie.Need-enum-known-clip
-enum-known-clip c = search needs
 
 leave-at-requires : tie.Need-leave-at-requires
 leave-at-requires c κs =
@@ -28,9 +19,6 @@ leave-at-requires c κs =
     let h = once-below (a .env .centers) (a .env .limit) (a .count) (now (a .v)) (now (a .ix)) _ _ k _ _ (rw (m .clip .given .1) at (g .ensures)) in
     (fits-up _ (s .pre .0 .fits) (let l = s .pre .0 .list in let kept = g .kept in omega arith), h .0)
 
-enum-known-clip-2 : tie.Need-enum-known-clip-2
-enum-known-clip-2 c = search needs
-
 leave-at-requires-2 : tie.Need-leave-at-requires-2
 leave-at-requires-2 c κs =
     let m = c .before .before in
@@ -41,25 +29,14 @@ leave-at-requires-2 c κs =
     let h = twice-below (a .env .centers) (a .env .limit) (a .count) (now (a .v)) (now (a .ix)) _ _ k _ _ _ (rw (m .clip2 .given .1) at (g .ensures)) in
     (fits-up _ (s .pre .0 .fits) (let l = s .pre .0 .list in let kept = g .kept in omega arith), h .0)
 
-same-length : tie.Need-same-length
-same-length c = search needs
-
-same-length-2 : tie.Need-same-length-2
-same-length-2 c = search needs
-
 returns : tie.Need-returns
 returns c =
-    let g = c .before .before .before .before .before .before .clip-voronoi-edge in
+    let at-clip-voronoi-edge = c .before .before .before .before .before .before in
+    let g = at-clip-voronoi-edge .clip-voronoi-edge in
     let s = c .before .before .before .before .before .before .before .before .before .before .before in
     let a = s .args in
     let k = clipEdge (a .env .bounds) (a .env .centers) (points (a .count) (now (a .v))) (a .p) (a .q) in
     leave-missed (a .env) (a .count) (a .cell) (now (a .v)) (now (a .ix)) _ _ _ _ (s .pre .0 .fits) (a .p) k (rw (c .enum-told .given .1) at (g .ensures)) refl
-
-same-length-3 : tie.Need-same-length-3
-same-length-3 c = search needs
-
-same-length-4 : tie.Need-same-length-4
-same-length-4 c = search needs
 
 returns-2 : tie.Need-returns-2
 returns-2 c =
@@ -69,12 +46,6 @@ returns-2 c =
     let a = s .args in
     let k = clipEdge (a .env .bounds) (a .env .centers) (points (a .count) (now (a .v))) (a .p) (a .q) in
     leave-once (a .env) (a .count) (a .cell) (now (a .v)) (now (a .ix)) _ _ _ _ (s .pre .0 .fits) (a .p) k _ _ (rw (m .clip .given .1) at (g .ensures)) (c .before .before .leave-at .ensures)
-
-same-length-5 : tie.Need-same-length-5
-same-length-5 c = search needs
-
-same-length-6 : tie.Need-same-length-6
-same-length-6 c = search needs
 
 returns-3 : tie.Need-returns-3
 returns-3 c =
@@ -88,19 +59,6 @@ returns-3 c =
 pub leave-spec : {M : Type 1} → statement M
 leave-spec =
     tie.close
-    (tie.spec
-    clip-voronoi-edge-requires
-    enum-told
-    enum-known-clip
-    leave-at-requires
-    enum-known-clip-2
-    leave-at-requires-2
-    same-length
-    same-length-2
-    returns
-    same-length-3
-    same-length-4
-    returns-2
-    same-length-5
-    same-length-6
-    returns-3)
+    (tie.spec (λ c κs. search needs) (λ c. search needs) (λ c. search needs) leave-at-requires (λ c. search needs)
+    leave-at-requires-2 (λ c. search needs) (λ c. search needs) returns (λ c. search needs) (λ c. search needs)
+    returns-2 (λ c. search needs) (λ c. search needs) returns-3)

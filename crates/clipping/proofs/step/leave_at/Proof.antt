@@ -2,13 +2,10 @@
 use native.Mathlib.Omega.{arith}
 use mathlib.Core.Path.{refl}
 use Rattle.definition.specs.Cell.{plain, crossing}
-use Rattle.clipping.proofs.Entries.{puts-more, puts-then}
+use Rattle.clipping.specs.laws.Entries.{puts-more, puts-then}
 use borrow.Author.Needs.{needs}
 use Rattle.clipping.proofs.step.leave_at.Statement.{statement}
 use Rattle.clipping.proofs.step.leave_at.Tie as tie
-
-push-requires : tie.Need-push-requires
-push-requires c κs = search needs
 
 push-requires-2 : tie.Need-push-requires-2
 push-requires-2 c κs =
@@ -17,15 +14,13 @@ push-requires-2 c κs =
     let k = p .kept in
     record { four = q .four; real = omega arith; room = omega arith }
 
-same-length : tie.Need-same-length
-same-length c = search needs
-
 returns : tie.Need-returns
 returns c =
-    let p = c .before .before .before .before .before .before .push in
+    let at-push = c .before .before .before .before .before .before in
+    let p = at-push .push in
     let q = c .before .before .push2 in
     let h = p .ensures .0 plain in
     λ vs ts. (refl, refl, refl, refl, λ e. (let g = q .ensures .1 in omega arith), puts-more 3 (omega arith) (rw (h .owners) at (puts-then h (q .ensures .0 crossing))))
 
 pub leave-at-spec : {M : Type 1} → statement M
-leave-at-spec = tie.close (tie.spec push-requires push-requires-2 same-length returns)
+leave-at-spec = tie.close (tie.spec (λ c κs. search needs) push-requires-2 (λ c. search needs) returns)

@@ -2,16 +2,10 @@
 use native.Mathlib.Omega.{arith}
 use mathlib.Core.Path.{refl}
 use Rattle.definition.specs.Cell.{plain}
-use Rattle.clipping.proofs.Entries.{puts-more}
+use Rattle.clipping.specs.laws.Entries.{puts-more}
 use borrow.Author.Needs.{needs}
 use Rattle.clipping.proofs.step.stay.Statement.{statement}
 use Rattle.clipping.proofs.step.stay.Tie as tie
-
-push-requires : tie.Need-push-requires
-push-requires c κs = search needs
-
-same-length : tie.Need-same-length
-same-length c = search needs
 
 returns : tie.Need-returns
 returns c =
@@ -19,4 +13,4 @@ returns c =
     λ vs. (refl, refl, refl, refl, λ e. (let h = p .ensures .1 in omega arith), puts-more 3 (omega arith) (p .ensures .0 plain))
 
 pub stay-spec : {M : Type 1} → statement M
-stay-spec = tie.close (tie.spec push-requires same-length returns)
+stay-spec = tie.close (tie.spec (λ c κs. search needs) (λ c. search needs) returns)

@@ -1,11 +1,10 @@
 -- `rings::centers::calculate_circumcenters` meets its contract: the loop follows the definition triangle by triangle.
-use mathlib.Core.Path.{_≡_, refl, sym, _∙_}
-use Prim.Native.Nat.{_+_, _-_, _*_, _/_, _≤_, _<_}
+use mathlib.Core.Path.{sym, _∙_}
+use Prim.Native.Nat.{_-_}
 use native.Mathlib.Omega.{arith}
-use lib.ListN.{length}
 use borrow.Author.Needs.{needs}
 use borrow.Author.Tests.{not-true, not-false}
-use Rattle.rings.proofs.Centring.{Centring, centring-start, centring-bad, centring-step, centring-end}
+use Rattle.rings.specs.laws.Centring.{Centring, centring-start, centring-bad, centring-step, centring-end}
 use Rattle.rings.proofs.centers.calculate_circumcenters.Statement.{statement}
 use Rattle.rings.proofs.centers.calculate_circumcenters.Tie as tie
 
@@ -19,10 +18,9 @@ loop-holds : tie.Need-loop-holds Inv-loop μ-loop
 loop-holds c = centring-start _ _ _ _
 
 center-at-requires : tie.Need-center-at-requires Inv-loop μ-loop
-center-at-requires c κs = (c .before .before .before .before .before .pre .0, omega arith)
-
-centre-ok-requires : tie.Need-centre-ok-requires Inv-loop μ-loop
-centre-ok-requires c κs = search needs
+center-at-requires c κs =
+    let at-start = c .before .before .before .before .before in
+    (at-start .pre .0, omega arith)
 
 same-length : tie.Need-same-length Inv-loop μ-loop
 same-length c = c .before .before .before .before .loop .inv .long
@@ -35,16 +33,13 @@ returns c =
 put-requires : tie.Need-put-requires Inv-loop μ-loop
 put-requires c κs = let l = c .before .before .before .before .before in omega (arith, l .loop .inv .long, l .before .before .before .before .pre .1)
 
-add-t : tie.Need-add-t Inv-loop μ-loop
-add-t c = search needs
-
-loop-less : tie.Need-loop-less Inv-loop μ-loop
-loop-less c = omega arith
-
 loop-again : tie.Need-loop-again Inv-loop μ-loop
 loop-again c =
+    let at-centre-ok = c .before .before .before .before .before in
+    let at-center-at = at-centre-ok .before in
     let l = c .before .before .before .before .before .before .before .before in
-    centring-step _ _ _ _ _ _ (l .loop .inv) (omega arith) (l .before .before .before .before .pre .1) _ _ (c .before .before .put .ensures) (c .before .before .before .before .before .before .center-at .ensures) (sym (c .before .before .before .before .before .centre-ok .ensures) ∙ not-false _ (c .before .before .before .before .if1 .left))
+    centring-step _ _ _ _ _ _ (l .loop .inv) (omega arith) (l .before .before .before .before .pre .1) _ _ (c .before .before .put .ensures)
+    (at-center-at .center-at .ensures) (sym (at-centre-ok .centre-ok .ensures) ∙ not-false _ (c .before .before .before .before .if1 .left))
 
 same-length-2 : tie.Need-same-length-2 Inv-loop μ-loop
 same-length-2 c = c .before .loop .inv .long
@@ -55,17 +50,5 @@ returns-2 c = centring-end _ _ _ _ _ _ (c .before .loop .inv) (omega arith)
 pub calculate-circumcenters-spec : {M : Type 1} → statement M
 calculate-circumcenters-spec =
     tie.close
-    (tie.spec
-    Inv-loop
-    μ-loop
-    loop-holds
-    center-at-requires
-    centre-ok-requires
-    same-length
-    returns
-    put-requires
-    add-t
-    loop-less
-    loop-again
-    same-length-2
-    returns-2)
+    (tie.spec Inv-loop μ-loop loop-holds center-at-requires (λ c κs. search needs) same-length returns put-requires
+    (λ c. search needs) (λ c. omega arith) loop-again same-length-2 returns-2)

@@ -1,11 +1,11 @@
 -- `rings::extensions::extend_hull` meets its contract: the loop follows the definition hull place by hull place.
-use mathlib.Core.Path.{_≡_, refl, sym, ap, _∙_}
-use Prim.Native.Nat.{ℕ, _+_, _-_, _*_, _/_, _≤_, _<_}
+use mathlib.Core.Path.{refl, sym, _∙_}
+use Prim.Native.Nat.{_-_}
 use native.Mathlib.Omega.{arith}
-use lib.ListN.{length, getD, length-set}
+use lib.ListN.{length}
 use borrow.Author.Needs.{needs}
 use borrow.Author.Tests.{not-true, not-false}
-use Rattle.rings.proofs.Extending.{Extending, extending-start, extending-bad, extending-step, extending-end, turn-edge, turn-centre, turn-room}
+use Rattle.rings.specs.laws.Extending.{Extending, extending-start, extending-bad, extending-step, extending-end, turn-edge, turn-centre, turn-room}
 use Rattle.rings.proofs.extensions.extend_hull.Statement.{statement}
 use Rattle.rings.proofs.extensions.extend_hull.Tie as tie
 
@@ -19,7 +19,9 @@ abbrev Entry : tie.At-loop Inv-loop μ-loop → tie.Start Inv-loop μ-loop
 Entry l = l .before .before .before .before .before .before .before
 
 loop-holds : tie.Need-loop-holds Inv-loop μ-loop
-loop-holds c = extending-start _ _ _ _ _ _ _ _ _ _ (c .before .before .before .before .before .before .pre .holds)
+loop-holds c =
+    let at-start = c .before .before .before .before .before .before in
+    extending-start _ _ _ _ _ _ _ _ _ _ (at-start .pre .holds)
 
 hull-edge-requires : tie.Need-hull-edge-requires Inv-loop μ-loop
 hull-edge-requires c κs = (c .before .loop-test .taken, Entry (c .before .before) .pre .extends .hulled)
@@ -28,48 +30,82 @@ extend-voronoi-vertex-requires : tie.Need-extend-voronoi-vertex-requires Inv-loo
 extend-voronoi-vertex-requires c κs =
     let l = c .before .before .before in
     let x = Entry l .pre in
-    let e = c .hull-edge .ensures in
-    (x .extends .named, omega (arith, x .extends .threes), rw e (turn-edge _ _ _ _ _ _ _ _ _ _ (Entry (c .before .before .before) .pre) _ _ _ _ (c .before .before .before .loop .inv) (c .before .before .loop-test .taken)), l .loop .inv .holds .room, rw e (turn-centre _ _ _ _ _ _ _ _ _ _ (Entry (c .before .before .before) .pre) _ _ _ _ (c .before .before .before .loop .inv) (c .before .before .loop-test .taken)))
-
-finite-point-requires : tie.Need-finite-point-requires Inv-loop μ-loop
-finite-point-requires c κs = search needs
+    let e = c .hull-edge .ensures in (
+      x .extends .named,
+      omega (arith, x .extends .threes),
+      rw e
+          (turn-edge _ _ _ _ _ _ _ _ _ _ (Entry (c .before .before .before) .pre) _ _ _ _ (c .before .before .before .loop .inv)
+          (c .before .before .loop-test .taken)),
+      l .loop .inv .holds .room,
+      rw e
+          (turn-centre _ _ _ _ _ _ _ _ _ _ (Entry (c .before .before .before) .pre) _ _ _ _ (c .before .before .before .loop .inv) (c .before .before .loop-test .taken)),
+    )
 
 same-length : tie.Need-same-length Inv-loop μ-loop
-same-length c = c .before .before .before .before .before .before .loop .inv .long-v
+same-length c =
+    let at-loop = c .before .before .before .before .before .before in
+    at-loop .loop .inv .long-v
 
 same-length-2 : tie.Need-same-length-2 Inv-loop μ-loop
-same-length-2 c = c .before .before .before .before .before .before .loop .inv .long-ix
+same-length-2 c =
+    let at-loop = c .before .before .before .before .before .before in
+    at-loop .loop .inv .long-ix
 
 returns : tie.Need-returns Inv-loop μ-loop
 returns c =
+    let at-loop-test = c .before .before .before .before .before in
     let l = c .before .before .before .before .before .before in
-    extending-bad _ _ _ _ _ _ _ _ _ _ _ _ _ _ (l .loop .inv) (c .before .before .before .before .before .loop-test .taken) _ _ (c .before .before .before .hull-edge .ensures) (c .before .before .extend-voronoi-vertex .ensures) (sym (c .before .finite-point .ensures) ∙ not-true _ (c .if1 .taken)) _ refl _ _
+    extending-bad _ _ _ _ _ _ _ _ _ _ _ _ _ _ (l .loop .inv) (at-loop-test .loop-test .taken) _ _ (c .before .before .before .hull-edge .ensures)
+    (c .before .before .extend-voronoi-vertex .ensures) (sym (c .before .finite-point .ensures) ∙ not-true _ (c .if1 .taken)) _ refl _ _
 
 add-new-vertex-requires : tie.Need-add-new-vertex-requires Inv-loop μ-loop
-add-new-vertex-requires c κs = (c .before .before .before .before .before .before .before .before .loop .inv .holds, turn-room _ _ _ _ _ _ _ _ _ _ (Entry (c .before .before .before .before .before .before .before .before) .pre) _ _ _ _ (c .before .before .before .before .before .before .before .before .loop .inv) (c .before .before .before .before .before .before .before .loop-test .taken))
+add-new-vertex-requires c κs =
+    let at-loop-test = c .before .before .before .before .before .before .before in
+    let at-loop = at-loop-test .before in
+    (at-loop .loop .inv .holds, turn-room _ _ _ _ _ _ _ _ _ _ (Entry (at-loop) .pre) _ _ _ _ (at-loop .loop .inv) (at-loop-test .loop-test .taken))
 
 cast-ix : tie.Need-cast-ix Inv-loop μ-loop
-cast-ix c = let l = c .before .before .before .before .before .before .before .before .before .before .before .before .before .before in let a = c .before .before .before .before .before .add-new-vertex .ensures .0 in omega (arith, a .below, a .high, l .loop .inv .grown, c .before .before .before .before .before .before .before .before .before .before .before .before .before .loop-test .taken, Entry l .pre .small)
+cast-ix c =
+    let at-add-new-vertex = c .before .before .before .before .before in
+    let at-loop-test = at-add-new-vertex .before .before .before .before .before .before .before .before in
+    let l = c .before .before .before .before .before .before .before .before .before .before .before .before .before .before in
+    let a = at-add-new-vertex .add-new-vertex .ensures .0 in omega (arith, a .below, a .high, l .loop .inv .grown, at-loop-test .loop-test .taken, Entry l .pre .small)
 
 add-ix : tie.Need-add-ix Inv-loop μ-loop
-add-ix c = let l = c .before .before .before .before .before .before .before .before .before .before .before .before .before .before in let x = Entry l .pre in omega (arith, c .before .before .before .before .before .before .before .before .before .before .before .before .before .loop-test .taken, x .room-ix, x .limited, l .loop .inv .long-ix, c .before .before .before .before .before .add-new-vertex .kept .1 .0)
+add-ix c =
+    let at-add-new-vertex = c .before .before .before .before .before in
+    let at-loop-test = at-add-new-vertex .before .before .before .before .before .before .before .before in
+    let l = c .before .before .before .before .before .before .before .before .before .before .before .before .before .before in
+    let x = Entry l .pre in omega (arith, at-loop-test .loop-test .taken, x .room-ix, x .limited, l .loop .inv .long-ix, at-add-new-vertex .add-new-vertex .kept .1 .0)
 
 mul-ix : tie.Need-mul-ix Inv-loop μ-loop
-mul-ix c = let l = c .before .before .before .before .before .before .before .before .before .before .before .before .before .before in let x = Entry l .pre in omega (arith, c .before .before .before .before .before .before .before .before .before .before .before .before .before .loop-test .taken, x .room-ix, x .limited, l .loop .inv .long-ix, c .before .before .before .before .before .add-new-vertex .kept .1 .0, x .small-ix)
+mul-ix c =
+    let at-add-new-vertex = c .before .before .before .before .before in
+    let at-loop-test = at-add-new-vertex .before .before .before .before .before .before .before .before in
+    let l = c .before .before .before .before .before .before .before .before .before .before .before .before .before .before in
+    let x = Entry l .pre in omega (arith, at-loop-test .loop-test .taken, x .room-ix, x .limited, l .loop .inv .long-ix, at-add-new-vertex .add-new-vertex .kept .1 .0, x .small-ix)
 
 slice-write-ix : tie.Need-slice-write-ix Inv-loop μ-loop
-slice-write-ix c = let l = c .before .before .before .before .before .before .before .before .before .before .before .before .before .before in let x = Entry l .pre in omega (arith, c .before .before .before .before .before .before .before .before .before .before .before .before .before .loop-test .taken, x .room-ix, x .limited, l .loop .inv .long-ix, c .before .before .before .before .before .add-new-vertex .kept .1 .0)
-
-add-i : tie.Need-add-i Inv-loop μ-loop
-add-i c = omega arith
-
-loop-less : tie.Need-loop-less Inv-loop μ-loop
-loop-less c = omega arith
+slice-write-ix c =
+    let at-add-new-vertex = c .before .before .before .before .before in
+    let at-loop-test = at-add-new-vertex .before .before .before .before .before .before .before .before in
+    let l = c .before .before .before .before .before .before .before .before .before .before .before .before .before .before in
+    let x = Entry l .pre in omega (arith, at-loop-test .loop-test .taken, x .room-ix, x .limited, l .loop .inv .long-ix, at-add-new-vertex .add-new-vertex .kept .1 .0)
 
 loop-again : tie.Need-loop-again Inv-loop μ-loop
 loop-again c =
+    let at-add-new-vertex = c .before .before .before .before .before in
+    let at-if1 = at-add-new-vertex .before .before .before in
+    let at-finite-point = at-if1 .before in
+    let at-extend-voronoi-vertex = at-finite-point .before in
+    let at-hull-edge = at-extend-voronoi-vertex .before in
+    let at-loop-test = at-hull-edge .before .before in
     let l = c .before .before .before .before .before .before .before .before .before .before .before .before .before .before in
-    extending-step _ _ _ _ _ _ _ _ _ _ _ _ _ _ (l .loop .inv) (c .before .before .before .before .before .before .before .before .before .before .before .before .before .loop-test .taken) _ _ (c .before .before .before .before .before .before .before .before .before .before .before .hull-edge .ensures) (c .before .before .before .before .before .before .before .before .before .before .extend-voronoi-vertex .ensures) (sym (c .before .before .before .before .before .before .before .before .before .finite-point .ensures) ∙ not-false _ (c .before .before .before .before .before .before .before .before .if1 .left)) (Entry l .pre) (c .before .before .before .before .before .add-new-vertex .result) (c .before .before .before .before .before .add-new-vertex .last .0) (c .before .before .before .before .before .add-new-vertex .last .1 .0) (c .before .before .before .before .before .add-new-vertex .kept .0) (c .before .before .before .before .before .add-new-vertex .kept .1 .0) (c .before .before .before .before .before .add-new-vertex .ensures .0) (c .before .before .before .before .before .add-new-vertex .ensures .1) _ refl
+    extending-step _ _ _ _ _ _ _ _ _ _ _ _ _ _ (l .loop .inv) (at-loop-test .loop-test .taken) _ _ (at-hull-edge .hull-edge .ensures)
+    (at-extend-voronoi-vertex .extend-voronoi-vertex .ensures) (sym (at-finite-point .finite-point .ensures) ∙ not-false _ (at-if1 .if1 .left))
+    (Entry l .pre) (at-add-new-vertex .add-new-vertex .result) (at-add-new-vertex .add-new-vertex .last .0)
+    (at-add-new-vertex .add-new-vertex .last .1 .0) (at-add-new-vertex .add-new-vertex .kept .0) (at-add-new-vertex .add-new-vertex .kept .1 .0)
+    (at-add-new-vertex .add-new-vertex .ensures .0) (at-add-new-vertex .add-new-vertex .ensures .1) _ refl
 
 same-length-3 : tie.Need-same-length-3 Inv-loop μ-loop
 same-length-3 c = c .before .loop .inv .long-v
@@ -83,24 +119,6 @@ returns-2 c = extending-end _ _ _ _ _ _ _ _ _ _ _ _ _ _ (c .before .loop .inv) (
 pub extend-hull-spec : {M : Type 1} → statement M
 extend-hull-spec =
     tie.close
-    (tie.spec
-    Inv-loop
-    μ-loop
-    loop-holds
-    hull-edge-requires
-    extend-voronoi-vertex-requires
-    finite-point-requires
-    same-length
-    same-length-2
-    returns
-    add-new-vertex-requires
-    cast-ix
-    add-ix
-    mul-ix
-    slice-write-ix
-    add-i
-    loop-less
-    loop-again
-    same-length-3
-    same-length-4
-    returns-2)
+    (tie.spec Inv-loop μ-loop loop-holds hull-edge-requires extend-voronoi-vertex-requires (λ c κs. search needs)
+    same-length same-length-2 returns add-new-vertex-requires cast-ix add-ix mul-ix slice-write-ix (λ c. omega arith)
+    (λ c. omega arith) loop-again same-length-3 same-length-4 returns-2)

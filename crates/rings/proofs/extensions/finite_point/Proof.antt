@@ -3,14 +3,8 @@ use borrow.Author.Needs.{needs}
 use Rattle.rings.proofs.extensions.finite_point.Statement.{statement}
 use Rattle.rings.proofs.extensions.finite_point.Tie as tie
 
-is-finite-requires : tie.Need-is-finite-requires
-is-finite-requires c κs = search needs
-
-is-finite-requires-2 : tie.Need-is-finite-requires-2
-is-finite-requires-2 c κs = search needs
-
 returns : tie.Need-returns
 returns c = cc (c .before .is-finite .ensures, c .is-finite2 .ensures)
 
 pub finite-point-spec : {M : Type 1} → statement M
-finite-point-spec = tie.close (tie.spec is-finite-requires is-finite-requires-2 returns)
+finite-point-spec = tie.close (tie.spec (λ c κs. search needs) (λ c κs. search needs) returns)

@@ -7,9 +7,6 @@ use borrow.Author.Needs.{needs}
 use Rattle.rings.proofs.extensions.is_finite.Statement.{statement}
 use Rattle.rings.proofs.extensions.is_finite.Tie as tie
 
-magnitude-requires : tie.Need-magnitude-requires
-magnitude-requires c κs = search needs
-
 below : (x : Float) → lt (magnitude x) (ofBits binary64 0x7FF0_0000_0000_0000) ≡ finite x
 unfolding lt ofBits
 below nan = refl
@@ -24,4 +21,4 @@ returns : tie.Need-returns
 returns c = rw (c .magnitude .ensures) (below (c .before .args .x))
 
 pub is-finite-spec : {M : Type 1} → statement M
-is-finite-spec = tie.close (tie.spec magnitude-requires float-from-bits-result returns)
+is-finite-spec = tie.close (tie.spec (λ c κs. search needs) float-from-bits-result returns)

@@ -7,12 +7,9 @@ use borrow.Author.Needs.{needs}
 use Rattle.rings.proofs.extensions.projected.Statement.{statement}
 use Rattle.rings.proofs.extensions.projected.Tie as tie
 
-root-requires : tie.Need-root-requires
-root-requires c κs = search needs
-
 returns : tie.Need-returns
 unfolding projectedOf
 returns c = cc (root-is-sqrt _ _ (add-fits binary64 _ _) (c .before .before .root .ensures))
 
 pub projected-spec : {M : Type 1} → statement M
-projected-spec = tie.close (tie.spec root-requires returns)
+projected-spec = tie.close (tie.spec (λ c κs. search needs) returns)

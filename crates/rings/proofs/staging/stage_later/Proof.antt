@@ -1,23 +1,13 @@
 -- `rings::staging::stage_later` meets its contract: a store, the walk right after it, and a store at its end.
-use mathlib.Core.Path.{_≡_, _∙_}
+use mathlib.Core.Path.{_∙_}
 use native.Mathlib.Omega.{arith}
 use lib.ListN.{length, length-set}
-use Prim.Native.Nat.{_+_, _≤_, _<_}
-use Rattle.definition.specs.Build.{ringFrom}
-use Rattle.rings.proofs.StagingLaws.{ring-room}
-use Rattle.rings.proofs.HullStaging.{staged-cons, staged-snoc}
+use Prim.Native.Nat.{_<_}
+use Rattle.rings.specs.laws.StagingLaws.{ring-room}
+use Rattle.rings.specs.laws.HullStaging.{staged-cons, staged-snoc}
 use borrow.Author.Needs.{needs}
 use Rattle.rings.proofs.staging.stage_later.Statement.{statement}
 use Rattle.rings.proofs.staging.stage_later.Tie as tie
-
-mul-ix : tie.Need-mul-ix
-mul-ix c = search needs
-
-slice-write-ix : tie.Need-slice-write-ix
-slice-write-ix c = search needs
-
-add-stage-ring : tie.Need-add-stage-ring
-add-stage-ring c = search needs
 
 stage-ring-requires : tie.Need-stage-ring-requires
 stage-ring-requires c κs = (c .before .before .before .before .pre .0, simp length-set (omega (arith, c .before .before .before .before .pre .1)))
@@ -49,13 +39,5 @@ returns c =
 pub stage-later-spec : {M : Type 1} → statement M
 stage-later-spec =
     tie.close
-    (tie.spec
-    mul-ix
-    slice-write-ix
-    add-stage-ring
-    stage-ring-requires
-    mul-ix-2
-    slice-write-ix-2
-    add-result
-    same-length
-    returns)
+    (tie.spec (λ c. search needs) (λ c. search needs) (λ c. search needs) stage-ring-requires mul-ix-2 slice-write-ix-2
+    add-result same-length returns)

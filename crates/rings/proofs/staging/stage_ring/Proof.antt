@@ -1,11 +1,11 @@
 -- `rings::staging::stage_ring` meets its contract: each turn writes the next half-edge's triangle, and the walk ends by its own rule.
-use mathlib.Core.Path.{_≡_, refl, _∙_}
+use mathlib.Core.Path.{refl, _∙_}
 use Prim.Native.Nat.{_+_, _-_, _≤_, _<_}
 use native.Mathlib.Omega.{arith}
 use lib.ListN.{length}
 use borrow.Author.Needs.{needs}
 use Rattle.mesh.specs.Mesh.{wholeOf}
-use Rattle.rings.proofs.StagingLaws.{Staging, staging-start, walk-room, staging-place, staging-less, staging-step, staging-end}
+use Rattle.rings.specs.laws.StagingLaws.{Staging, staging-start, walk-room, staging-place, staging-less, staging-step, staging-end}
 use Rattle.rings.proofs.staging.stage_ring.Statement.{statement}
 use Rattle.rings.proofs.staging.stage_ring.Tie as tie
 
@@ -25,9 +25,6 @@ room l = omega (arith, walk-room (Entry l .args .triangles .now) (Entry l .args 
 place : (c : tie.In-loop Inv-loop μ-loop) → c .before .loop .n < length (c .before .loop .ix)
 place c = staging-place _ _ _ _ _ _ _ _ (c .before .loop .inv) (c .loop-test .taken) (room (c .before))
 
-wide-requires : tie.Need-wide-requires Inv-loop μ-loop
-wide-requires c κs = search needs
-
 loop-holds : tie.Need-loop-holds Inv-loop μ-loop
 loop-holds c = staging-start _ _ _ _ _ (c .before .before .before .before .pre .0) _ (c .wide .ensures)
 
@@ -46,9 +43,6 @@ add-n c = omega (arith, place c)
 turn-requires : tie.Need-turn-requires Inv-loop μ-loop
 turn-requires c κs = (Entry (c .before) .pre .0 .threes, c .loop-test .taken)
 
-wide-requires-2 : tie.Need-wide-requires-2 Inv-loop μ-loop
-wide-requires-2 c κs = search needs
-
 loop-less : tie.Need-loop-less Inv-loop μ-loop
 loop-less c = let l = c .before .before .before in staging-less _ _ _ _ _ _ _ _ (l .loop .inv) (c .before .before .loop-test .taken)
 
@@ -66,18 +60,5 @@ returns c = staging-end _ _ _ _ _ _ _ _ (c .before .loop .inv) (omega arith)
 pub stage-ring-spec : {M : Type 1} → statement M
 stage-ring-spec =
     tie.close
-    (tie.spec
-    Inv-loop
-    μ-loop
-    wide-requires
-    loop-holds
-    cast-ix
-    mul-ix
-    slice-write-ix
-    add-n
-    turn-requires
-    wide-requires-2
-    loop-less
-    loop-again
-    same-length
-    returns)
+    (tie.spec Inv-loop μ-loop (λ c κs. search needs) loop-holds cast-ix mul-ix slice-write-ix add-n turn-requires
+    (λ c κs. search needs) loop-less loop-again same-length returns)

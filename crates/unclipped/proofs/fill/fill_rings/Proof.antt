@@ -1,21 +1,21 @@
 -- `unclipped::fill::fill_rings` meets its contract: before half-edge e the definition's cells so far stand in their regions.
 use mathlib.Core.Path.{_≡_, refl, _∙_}
 use mathlib.Core.List.{List, map}
-use Prim.Native.Nat.{_+_, _-_, _≤_, _<_}
+use Prim.Native.Nat.{_-_, _≤_}
 use native.Mathlib.Omega.{arith}
 use lib.ListN.{length}
 use borrow.Author.Needs.{needs}
 use Rattle.layout.specs.Regions.{Regions}
 use Rattle.definition.specs.Cell.{Entry}
 use Rattle.outputs.specs.Lent.{unmarked}
-use Rattle.unclipped.specs.Fills.{Ready}
-use Rattle.unclipped.proofs.Rings.{Along, along-start, along-step, along-end}
+use Rattle.unclipped.specs.laws.Rings.{Along, along-start, along-step, along-end}
 use Rattle.unclipped.proofs.fill.fill_rings.Statement.{statement}
 use Rattle.unclipped.proofs.fill.fill_rings.Tie as tie
 
 abbrev Inv-loop : tie.InvT-loop
 Inv-loop triangles halfedges ix₀ off sites e₀ ix e =
-    (length ix ≡ length ix₀) × (e ≤ length triangles) × ((cells : List (List Entry)) → length cells ≡ sites → Regions ix₀ off (map unmarked cells) → Along triangles halfedges off sites ix₀ cells ix e)
+    (length ix ≡ length ix₀) × (e ≤ length triangles) × ((cells : List (List Entry)) → length cells ≡ sites
+    → Regions ix₀ off (map unmarked cells) → Along triangles halfedges off sites ix₀ cells ix e)
 
 abbrev μ-loop : tie.MeasureT-loop
 μ-loop triangles halfedges ix₀ off sites e₀ ix e = length triangles - e
@@ -25,12 +25,6 @@ loop-holds c = (refl, omega arith, λ cells q r. along-start _ _ _ _ _ cells q r
 
 fill-ring-requires : tie.Need-fill-ring-requires Inv-loop μ-loop
 fill-ring-requires c κs = let l = c .before .before in (rw (l .loop .inv .0) (l .before .before .before .before .before .pre), c .before .loop-test .taken)
-
-add-e : tie.Need-add-e Inv-loop μ-loop
-add-e c = search needs
-
-loop-less : tie.Need-loop-less Inv-loop μ-loop
-loop-less c = omega arith
 
 loop-again : tie.Need-loop-again Inv-loop μ-loop
 loop-again c =
@@ -49,13 +43,5 @@ returns c = let l = c .before in λ cells q r. along-end _ _ _ _ _ cells _ _ (c 
 pub fill-rings-spec : {M : Type 1} → statement M
 fill-rings-spec =
     tie.close
-    (tie.spec
-    Inv-loop
-    μ-loop
-    loop-holds
-    fill-ring-requires
-    add-e
-    loop-less
-    loop-again
-    same-length
-    returns)
+    (tie.spec Inv-loop μ-loop loop-holds fill-ring-requires (λ c. search needs) (λ c. omega arith) loop-again
+    same-length returns)

@@ -1,9 +1,8 @@
 -- `unclipped::reverse::reverse_part` meets its contract: each turn swaps the two ends of what is left to be turned round.
-use Prim.Native.Nat.{_+_, _-_, _≤_, _<_}
+use Prim.Native.Nat.{_-_, _≤_}
 use native.Mathlib.Omega.{arith}
 use lib.ListN.{length, length-set}
-use borrow.Author.Needs.{needs}
-use Rattle.unclipped.proofs.Reversing.{Reversing, reversing-start, reversing-step, reversing-end}
+use Rattle.unclipped.specs.laws.Reversing.{Reversing, reversing-start, reversing-step, reversing-end}
 use Rattle.unclipped.proofs.reverse.reverse_part.Statement.{statement}
 use Rattle.unclipped.proofs.reverse.reverse_part.Tie as tie
 
@@ -22,9 +21,6 @@ loop-holds c = reversing-start _ _ _ (c .pre .0)
 
 add-loop : tie.Need-add-loop Inv-loop μ-loop
 add-loop c = omega (arith, inside c)
-
-sub-j : tie.Need-sub-j Inv-loop μ-loop
-sub-j c = omega arith
 
 mul-x : tie.Need-mul-x Inv-loop μ-loop
 mul-x c = omega (arith, inside (c .before))
@@ -53,9 +49,6 @@ slice-write-ix-2 c = simp length-set (omega (arith, inside (c .before .before .b
 add-i : tie.Need-add-i Inv-loop μ-loop
 add-i c = omega (arith, inside (c .before .before .before))
 
-loop-less : tie.Need-loop-less Inv-loop μ-loop
-loop-less c = omega arith
-
 loop-again : tie.Need-loop-again Inv-loop μ-loop
 loop-again c = let l = c .before .before .before in reversing-step _ _ _ _ _ _ (l .loop .inv) (l .before .pre .1) (c .before .before .loop-test .taken)
 
@@ -68,22 +61,5 @@ returns c = reversing-end _ _ _ _ _ _ (c .before .loop .inv) (c .loop-test .left
 pub reverse-part-spec : {M : Type 1} → statement M
 reverse-part-spec =
     tie.close
-    (tie.spec
-    Inv-loop
-    μ-loop
-    loop-holds
-    add-loop
-    sub-j
-    mul-x
-    slice-read-x
-    mul-ix
-    slice-read-ix
-    mul-ix-2
-    slice-write-ix
-    mul-ix-3
-    slice-write-ix-2
-    add-i
-    loop-less
-    loop-again
-    same-length
-    returns)
+    (tie.spec Inv-loop μ-loop loop-holds add-loop (λ c. omega arith) mul-x slice-read-x mul-ix slice-read-ix mul-ix-2
+    slice-write-ix mul-ix-3 slice-write-ix-2 add-i (λ c. omega arith) loop-again same-length returns)

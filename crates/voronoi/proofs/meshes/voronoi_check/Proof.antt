@@ -4,17 +4,8 @@ use Rattle.voronoi.specs.Meshes.{numbered}
 use Rattle.voronoi.proofs.meshes.voronoi_check.Statement.{statement}
 use Rattle.voronoi.proofs.meshes.voronoi_check.Tie as tie
 
-check-mesh-requires : tie.Need-check-mesh-requires
-check-mesh-requires c κs = search needs
-
-number-requires : tie.Need-number-requires
-number-requires c κs = search needs
-
-same-length : tie.Need-same-length
-same-length c = search needs
-
 returns : tie.Need-returns
 returns c = numbered _ _ _ _ _ _ _ _ (c .before .before .before .check-mesh .ensures) (c .number .ensures)
 
 pub voronoi-check-spec : {M : Type 1} → statement M
-voronoi-check-spec = tie.close (tie.spec check-mesh-requires number-requires same-length returns)
+voronoi-check-spec = tie.close (tie.spec (λ c κs. search needs) (λ c κs. search needs) (λ c. search needs) returns)

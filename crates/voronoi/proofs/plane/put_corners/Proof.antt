@@ -4,7 +4,7 @@ use lib.ListN.{length-set}
 use Rattle.utils.specs.Flat.{flat, pour}
 use Rattle.bounding_box.specs.Box.{cornersOf}
 use borrow.Author.Needs.{needs}
-use Rattle.voronoi.proofs.PlaneLaws.{eight}
+use Rattle.voronoi.specs.laws.PlaneLaws.{eight}
 use Rattle.voronoi.proofs.plane.put_corners.Statement.{statement}
 use Rattle.voronoi.proofs.plane.put_corners.Tie as tie
 
@@ -13,4 +13,6 @@ unfolding pour flat cornersOf
 returns c = eight (c .args .out .now) _ _ _ _ _ _ _ _ (c .pre)
 
 pub put-corners-spec : {M : Type 1} → statement M
-put-corners-spec = tie.close (tie.spec (λ c. search needs) (λ c. simp length-set (omega arith)) (λ c. simp length-set (omega arith)) (λ c. simp length-set (omega arith)) (λ c. simp length-set (omega arith)) (λ c. simp length-set (omega arith)) (λ c. simp length-set (omega arith)) (λ c. simp length-set (omega arith)) (λ c. simp length-set) returns)
+put-corners-spec = tie.close (tie.spec (λ c. search needs) (λ c. simp length-set (omega arith)) (λ c. simp length-set (omega arith))
+    (λ c. simp length-set (omega arith)) (λ c. simp length-set (omega arith)) (λ c. simp length-set (omega arith))
+    (λ c. simp length-set (omega arith)) (λ c. simp length-set (omega arith)) (λ c. simp length-set) returns)

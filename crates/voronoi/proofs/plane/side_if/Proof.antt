@@ -1,5 +1,5 @@
 -- `voronoi::plane::side_if`: each answer by the tests that lead to it. Assumes nothing.
-use Rattle.voronoi.proofs.PlaneLaws.{on-none, on-side, refused-side}
+use Rattle.voronoi.specs.laws.PlaneLaws.{on-none, on-side, refused-side}
 use Rattle.voronoi.proofs.plane.side_if.Statement.{statement}
 use Rattle.voronoi.proofs.plane.side_if.Tie as tie
 

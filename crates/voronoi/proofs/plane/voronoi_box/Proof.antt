@@ -1,5 +1,5 @@
 -- `voronoi::plane::voronoi_box`: each value where the box keeps rule 3. Assumes nothing.
-use Rattle.voronoi.proofs.PlaneLaws.{edges}
+use Rattle.voronoi.specs.laws.PlaneLaws.{edges}
 use Rattle.voronoi.proofs.plane.voronoi_box.Statement.{statement}
 use Rattle.voronoi.proofs.plane.voronoi_box.Tie as tie
 
@@ -13,4 +13,5 @@ returns c =
     (c .before .before .height .ensures) (c .before .value-if6 .ensures) (c .number .ensures)
 
 pub voronoi-box-spec : {M : Type 1} → statement M
-voronoi-box-spec = tie.close (tie.spec (λ c κs. tt) (λ c κs. tt) (λ c κs. tt) (λ c κs. tt) (λ c κs. tt) (λ c κs. tt) (λ c κs. tt) (λ c κs. tt) (λ c κs. tt) (λ c κs. tt) (λ c κs. tt) returns)
+voronoi-box-spec = tie.close (tie.spec (λ c κs. tt) (λ c κs. tt) (λ c κs. tt) (λ c κs. tt) (λ c κs. tt) (λ c κs. tt) (λ c κs. tt)
+    (λ c κs. tt) (λ c κs. tt) (λ c κs. tt) (λ c κs. tt) returns)

@@ -1,5 +1,5 @@
 -- `voronoi::plane::voronoi_centroid`: the answer taken apart. Assumes nothing.
-use Rattle.voronoi.proofs.PlaneLaws.{answered}
+use Rattle.voronoi.specs.laws.PlaneLaws.{answered}
 use Rattle.voronoi.proofs.plane.voronoi_centroid.Statement.{statement}
 use Rattle.voronoi.proofs.plane.voronoi_centroid.Tie as tie
 

@@ -2,7 +2,7 @@
 use borrow.Author.Needs.{needs}
 use mathlib.Core.Path.{sym, _∙_}
 use borrow.Author.Tests.{not-true, not-false}
-use Rattle.voronoi.proofs.PlaneLaws.{too-short, no-box, put}
+use Rattle.voronoi.specs.laws.PlaneLaws.{too-short, no-box, put}
 use Rattle.voronoi.proofs.plane.voronoi_corners.Statement.{statement}
 use Rattle.voronoi.proofs.plane.voronoi_corners.Tie as tie
 

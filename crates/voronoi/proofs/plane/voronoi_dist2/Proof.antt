@@ -1,5 +1,5 @@
 -- `voronoi::plane::voronoi_dist2`: the distance where both sites keep rule 6. Assumes nothing.
-use Rattle.voronoi.proofs.PlaneLaws.{distance}
+use Rattle.voronoi.specs.laws.PlaneLaws.{distance}
 use Rattle.voronoi.proofs.plane.voronoi_dist2.Statement.{statement}
 use Rattle.voronoi.proofs.plane.voronoi_dist2.Tie as tie
 

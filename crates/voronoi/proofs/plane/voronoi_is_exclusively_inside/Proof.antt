@@ -1,5 +1,5 @@
 -- `voronoi::plane::voronoi_is_exclusively_inside`: the answer where box and point keep their rules. Assumes nothing.
-use Rattle.voronoi.proofs.PlaneLaws.{exclusively}
+use Rattle.voronoi.specs.laws.PlaneLaws.{exclusively}
 use Rattle.voronoi.proofs.plane.voronoi_is_exclusively_inside.Statement.{statement}
 use Rattle.voronoi.proofs.plane.voronoi_is_exclusively_inside.Tie as tie
 

@@ -1,6 +1,6 @@
 -- `voronoi::plane::voronoi_project_ray`: the answer taken apart. Assumes nothing.
 use borrow.Author.Needs.{needs}
-use Rattle.voronoi.proofs.PlaneLaws.{meets}
+use Rattle.voronoi.specs.laws.PlaneLaws.{meets}
 use Rattle.voronoi.proofs.plane.voronoi_project_ray.Statement.{statement}
 use Rattle.voronoi.proofs.plane.voronoi_project_ray.Tie as tie
 

@@ -1,5 +1,5 @@
 -- `voronoi::plane::voronoi_which_edge`: the answer where box and point keep their rules. Assumes nothing.
-use Rattle.voronoi.proofs.PlaneLaws.{side}
+use Rattle.voronoi.specs.laws.PlaneLaws.{side}
 use Rattle.voronoi.proofs.plane.voronoi_which_edge.Statement.{statement}
 use Rattle.voronoi.proofs.plane.voronoi_which_edge.Tie as tie
 

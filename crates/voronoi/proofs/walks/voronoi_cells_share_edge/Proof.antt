@@ -4,15 +4,9 @@ use borrow.Author.Needs.{needs}
 use Rattle.voronoi.proofs.walks.voronoi_cells_share_edge.Statement.{statement}
 use Rattle.voronoi.proofs.walks.voronoi_cells_share_edge.Tie as tie
 
-cells-share-edge-requires : tie.Need-cells-share-edge-requires
-cells-share-edge-requires c κs = search needs
-
-flag-requires : tie.Need-flag-requires
-flag-requires c κs = search needs
-
 returns : tie.Need-returns
 returns c = told (c .before .cells-share-edge .ensures) _ (c .flag .ensures)
 
 pub voronoi-cells-share-edge-spec : {M : Type 1} → statement M
 voronoi-cells-share-edge-spec =
-    tie.close (tie.spec cells-share-edge-requires flag-requires returns)
+    tie.close (tie.spec (λ c κs. search needs) (λ c κs. search needs) returns)

@@ -4,21 +4,11 @@ use borrow.Author.Needs.{needs}
 use Rattle.voronoi.proofs.walks.voronoi_path.Statement.{statement}
 use Rattle.voronoi.proofs.walks.voronoi_path.Tie as tie
 
-path-requires : tie.Need-path-requires
-path-requires c κs = search needs
-
-flag-requires : tie.Need-flag-requires
-flag-requires c κs = search needs
-
-same-length : tie.Need-same-length
-same-length c = search needs
-
-same-length-2 : tie.Need-same-length-2
-same-length-2 c = search needs
-
 returns : tie.Need-returns
-returns c = pathed _ _ _ _ _ _ _ _ _ _ (c .flag .ensures) _ _ (c .before .before .before .before .before .path .ensures)
+returns c =
+    let at-path = c .before .before .before .before .before in
+    pathed _ _ _ _ _ _ _ _ _ _ (c .flag .ensures) _ _ (at-path .path .ensures)
 
 pub voronoi-path-spec : {M : Type 1} → statement M
 voronoi-path-spec =
-    tie.close (tie.spec path-requires flag-requires same-length same-length-2 returns)
+    tie.close (tie.spec (λ c κs. search needs) (λ c κs. search needs) (λ c. search needs) (λ c. search needs) returns)

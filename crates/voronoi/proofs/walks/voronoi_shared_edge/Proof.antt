@@ -4,14 +4,8 @@ use Rattle.voronoi.specs.Walks.{found}
 use Rattle.voronoi.proofs.walks.voronoi_shared_edge.Statement.{statement}
 use Rattle.voronoi.proofs.walks.voronoi_shared_edge.Tie as tie
 
-shared-edge-requires : tie.Need-shared-edge-requires
-shared-edge-requires c κs = search needs
-
-same-length : tie.Need-same-length
-same-length c = search needs
-
 returns : tie.Need-returns
 returns c = found (c .before .before .shared-edge .ensures)
 
 pub voronoi-shared-edge-spec : {M : Type 1} → statement M
-voronoi-shared-edge-spec = tie.close (tie.spec shared-edge-requires same-length returns)
+voronoi-shared-edge-spec = tie.close (tie.spec (λ c κs. search needs) (λ c. search needs) returns)

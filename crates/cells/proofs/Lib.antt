@@ -1,5 +1,0 @@
-pub mod Laying
-pub mod Whole
-pub mod Answered
-pub mod Showing
-pub mod Forming

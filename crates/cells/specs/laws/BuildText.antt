@@ -1,0 +1,166 @@
+-- A build's answer and its lent slices give the text that is promised: a refusal's line by its number, or the listing of what was built.
+use mathlib.Core.Path.{_≡_, refl, ap, _∙_}
+use mathlib.Core.Bool.{Bool, true}
+use mathlib.Core.List.{List, [], _∷_, _++_, map}
+use mathlib.Core.Logic.{⊎-elim, _≢_}
+use Prim.Native.Nat.{ℕ, _+_, _-_, _*_, _/_, _≤_}
+use native.Mathlib.Omega.{arith}
+use lib.Ieee.{Float}
+use lib.ListN.{length, getD, replicate, length-map}
+use borrow.Author.Tests.{ne-eqb, le-leb, lt-ltb}
+use Rattle.numbers.specs.Numbers.{EMPTY}
+use Rattle.utils.specs.declared.Point.{Point}
+use Rattle.bounding_box.specs.Box.{madeOf}
+use Rattle.mesh.specs.Accepted.{siteCount}
+use Rattle.queries.specs.Admits.{Admits}
+use Rattle.layout.specs.Regions.{joined, offsetsFrom}
+use Rattle.definition.specs.declared.Fault.{Fault}
+use Rattle.definition.specs.Fault.{Outcome, ok, refused}
+use Rattle.definition.specs.Gives.{Gives, gives-ok}
+use Rattle.definition.specs.Build.{Built, build}
+use Rattle.outputs.specs.Lent.{unmarked, indexNumbers, offsetNumbers, countNumbers, faultOf}
+use Rattle.building.specs.Promise.{Slices, roomFor, roomOf, Builds, builds-cases, after, BuildAnswer, Answers, Clipped, Unclipped}
+use Rattle.building.specs.Refusals.{Refuses, Numbered, build-late, unclipped-late}
+use Rattle.building.specs.Success.{zero-succeeds}
+use Rattle.listing.specs.Listing.{unclippedListing, listing, cellLines}
+use Rattle.cells.specs.Printed.{Shows, linesOf, unclippedText, boxText, InBox, WithoutBox}
+use Rattle.cells.specs.Printed as printed
+use Rattle.cells.specs.Shown.{SheetSized, Laid, shown, boxLines, unclippedLines}
+use Rattle.cells.specs.laws.CellsInIndexes.{lines-are, laid}
+use Rattle.cells.specs.laws.WholeBuild.{Whole, whole-in-box, whole-without-box}
+
+-- slices as long as those of `cells`
+pub record Lengths (s : Slices) : Type 0 where
+  pub work : length (s .work) ≡ 96
+  pub vertices : length (s .vertices) ≡ 3656
+  pub indexes : length (s .indexes) ≡ 3076
+  pub offsets : length (s .offsets) ≡ 97
+  pub counts : length (s .counts) ≡ 6
+
+-- the text by the number, where the listing is that of what was built
+module _ (Rules : ℕ → Type 0) (text : Built → List ℕ) where
+  shows-built : {o : Outcome Fault Built} (t : List ℕ) → Rules 0 → Refuses Numbered o
+      → ((b : Built) → o ≡ ok b → faultOf o .number ≡ 0 → t ≡ text b) → Shows Rules text o (shown t (faultOf o .number))
+  shows-built {o = ok b} t p late f = rw (f b refl refl) (printed.built p)
+  shows-built {o = refused e} t p late f =
+      let q : e .number ≢ 0 = λ z. omega (arith, late .least) in
+      rw (ne-eqb (e .number) 0 q) (printed.late p)
+
+shows : {sites : List Float} {tri he hull : List ℕ} {roomy : Bool} {asked : ℕ} {o : Outcome Fault Built} {r : ℕ} (text : Built → List ℕ) (t : List ℕ)
+    → Builds sites tri he hull roomy asked o r → Refuses Numbered o → ((b : Built) → o ≡ ok b → r ≡ 0 → t ≡ text b)
+    → Shows (Admits sites tri he hull roomy asked) text o (shown t r)
+shows text t x late f =
+    ⊎-elim
+    (λ y. rw (ne-eqb _ 0 (y .1)) (printed.early (y .0) (y .1)))
+    (λ y. rw (y .1) (shows-built _ text t (y .0) late (λ b e z. f b e (y .1 ∙ z))))
+    (builds-cases x)
+
+-- the counts: a number, the four owners, another number
+owners-at : (v l : ℕ) (os tail : List ℕ) → length os ≡ 4 → _≡_ {A = List ℕ}
+    (getD ((v ∷ os ++ l ∷ []) ++ tail) 1 0 ∷ getD ((v ∷ os ++ l ∷ []) ++ tail) 2 0 ∷ getD ((v ∷ os ++ l ∷ []) ++ tail) 3 0 ∷ getD ((v ∷ os ++ l ∷ []) ++ tail) 4 0 ∷ []) os
+owners-at v l [] tail h = absurd (omega arith)
+owners-at v l (a ∷ []) tail h = absurd (omega arith)
+owners-at v l (a ∷ b ∷ []) tail h = absurd (omega arith)
+owners-at v l (a ∷ b ∷ c ∷ []) tail h = absurd (omega arith)
+owners-at v l (a ∷ b ∷ c ∷ d ∷ []) tail h = refl
+owners-at v l (a ∷ b ∷ c ∷ d ∷ e ∷ os) tail h = absurd (omega arith)
+
+last-at : (v l : ℕ) (os tail : List ℕ) → length os ≡ 4 → getD ((v ∷ os ++ l ∷ []) ++ tail) 5 0 ≡ l
+last-at v l [] tail h = absurd (omega arith)
+last-at v l (a ∷ []) tail h = absurd (omega arith)
+last-at v l (a ∷ b ∷ []) tail h = absurd (omega arith)
+last-at v l (a ∷ b ∷ c ∷ []) tail h = absurd (omega arith)
+last-at v l (a ∷ b ∷ c ∷ d ∷ []) tail h = refl
+last-at v l (a ∷ b ∷ c ∷ d ∷ e ∷ os) tail h = absurd (omega arith)
+
+-- ---- the slices after the number 0
+module _ {Rules : ℕ → Type 0} {table : List ℕ} {o : Outcome Fault Built} {old new : Slices} {r n : ℕ} (a : BuildAnswer Rules table o old new r)
+    (long : Lengths old) (b : Built) (w : Whole n b) (e : o ≡ ok b) (z : r ≡ 0) where
+  abbrev cells : List (List ℕ)
+  cells = map unmarked (b .cells)
+
+  abbrev more : List ℕ
+  more = replicate (length (old .offsets) - length (offsetsFrom 0 cells)) EMPTY
+
+  abbrev rest : List ℕ
+  rest = replicate (length (old .indexes) - length (joined cells)) EMPTY
+
+  offsets-are : new .offsets ≡ offsetsFrom 0 cells ++ more
+  unfolding after offsetNumbers
+  offsets-are = rw (z, e) at (a .offsets)
+
+  indexes-are : new .indexes ≡ joined cells ++ rest
+  unfolding after indexNumbers
+  indexes-are = rw (z, e) at (a .indexes)
+
+  counts-are : new .counts ≡ (length (b .verts) ∷ b .owners ++ b .lost ∷ []) ++ replicate (length (old .counts) - length (length (b .verts) ∷ b .owners ++ b .lost ∷ [])) EMPTY
+  unfolding after countNumbers
+  counts-are = rw (z, e) at (a .counts)
+
+  cells-are : length cells ≡ n
+  cells-are = length-map (b .cells) unmarked ∙ w .cells
+
+  pub laid-out : (space : ℕ) → n ≤ 96 → length (new .indexes) ≡ 3076 → 65536 ≤ space → Laid n (new .offsets) (new .indexes) space
+  laid-out space few short room =
+      let q : length (joined cells ++ rest) ≤ 3076 = omega (arith, ap length indexes-are) in
+      rw (offsets-are, indexes-are, ← cells-are) (laid cells more rest space (omega (arith, cells-are)) q room)
+
+  lines : cellLines (new .offsets) (new .indexes) 0 n ≡ linesOf 0 cells
+  lines = rw (offsets-are, indexes-are, ← cells-are) (lines-are cells more rest)
+
+  vertices-are : getD (new .counts) 0 0 ≡ length (b .verts)
+  vertices-are = rw counts-are
+
+  pub unclipped-lines : (T : ℕ) → unclippedLines n T (new .offsets) (new .indexes) (new .counts) ≡ unclippedText n T b
+  unfolding unclippedListing
+  unclipped-lines T = rw (vertices-are, lines)
+
+  pub box-lines : (T : ℕ) → boxLines n T (new .offsets) (new .indexes) (new .counts) ≡ boxText n T b
+  unfolding unclippedListing listing
+  box-lines T =
+      let tail = replicate (length (old .counts) - length (length (b .verts) ∷ b .owners ++ b .lost ∷ [])) EMPTY in
+      rw (counts-are, owners-at (length (b .verts)) (b .lost) (b .owners) tail (w .owners), last-at (length (b .verts)) (b .lost) (b .owners) tail (w .owners), lines)
+
+-- ---- both builds on lists within the form's limits, with slices of these lengths
+module _ (sites : List Float) (tri he hull : List ℕ) (space : ℕ) (m : SheetSized (length sites) (length tri) (length hull) space) (old new : Slices) (long : Lengths old) (r : ℕ) where
+  roomy : roomOf sites tri hull old ≡ true
+  unfolding roomFor
+  roomy =
+      rw (long .work, long .vertices, long .indexes, long .offsets, long .counts)
+      (rw (
+        le-leb (siteCount sites) 96 (omega (arith, m .few-sites)),
+        le-leb (7 * (length tri / 3) + 5 * length hull + 4) 1828 (omega (arith, m .few-triangles, m .few-on-hull)),
+        le-leb (12 * (length tri / 3) + 8 * length hull + 4) 3076 (omega (arith, m .few-triangles, m .few-on-hull)),
+        lt-ltb (siteCount sites) 97 (omega (arith, m .few-sites)),
+      ))
+
+  module _ {asked : ℕ} {o : Outcome Fault Built} (whole : Gives (Whole (siteCount sites)) o) (late : Refuses Numbered o) (a : Answers sites tri he hull asked o old new r) where
+    rules : Builds sites tri he hull true asked o r
+    rules = rw roomy at (a .number)
+
+    layout : length (new .indexes) ≡ 3076 → r ≡ 0 → Laid (siteCount sites) (new .offsets) (new .indexes) space
+    layout short z =
+        let b = zero-succeeds late a z .outcome in
+        laid-out a long (b .value) (gives-ok (Whole (siteCount sites)) whole (b .is)) (b .is) z space (omega (arith, m .few-sites)) short (m .room)
+
+    text-of : (text : Built → List ℕ) (t : List ℕ) → ((b : Built) → Whole (siteCount sites) b → o ≡ ok b → r ≡ 0 → t ≡ text b)
+        → Shows (Admits sites tri he hull true asked) text o (shown t r)
+    text-of text t f = shows text t rules late (λ b e z. f b (gives-ok (Whole (siteCount sites)) whole e) e z)
+
+  module _ (c : Point) (w h : Float) (a : Clipped sites tri he hull c w h old new r) where
+    abbrev whole-in : Gives (Whole (siteCount sites)) (build sites tri he hull (madeOf c w h))
+    whole-in = whole-in-box sites tri he hull (madeOf c w h)
+
+    pub laid-in-box : length (new .indexes) ≡ 3076 → r ≡ 0 → Laid (siteCount sites) (new .offsets) (new .indexes) space
+    laid-in-box = layout whole-in (build-late sites tri he hull (madeOf c w h)) a
+
+    pub text-in-box : InBox sites tri he hull c w h (shown (boxLines (siteCount sites) (length tri / 3) (new .offsets) (new .indexes) (new .counts)) r)
+    text-in-box = text-of whole-in (build-late sites tri he hull (madeOf c w h)) a (boxText (siteCount sites) (length tri / 3)) _ (λ b q e z. box-lines a long b q e z (length tri / 3))
+
+  module _ (a : Unclipped sites tri he hull old new r) where
+    pub laid-without-box : length (new .indexes) ≡ 3076 → r ≡ 0 → Laid (siteCount sites) (new .offsets) (new .indexes) space
+    laid-without-box = layout (whole-without-box sites tri he) (unclipped-late sites tri he) a
+
+    pub text-without-box : WithoutBox sites tri he hull (shown (unclippedLines (siteCount sites) (length tri / 3) (new .offsets) (new .indexes) (new .counts)) r)
+    text-without-box = text-of (whole-without-box sites tri he) (unclipped-late sites tri he) a (unclippedText (siteCount sites) (length tri / 3)) _
+        (λ b q e z. unclipped-lines a long b q e z (length tri / 3))

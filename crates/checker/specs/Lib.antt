@@ -1,5 +1,0 @@
--- The root of the crate's definitions.
-pub mod Answers
-pub mod Laws
-pub mod Rounds
-pub mod Steps

@@ -1,0 +1,10 @@
+-- Laws that only proofs use.
+pub mod Fill
+pub mod Feed
+pub mod Word
+pub mod Run
+pub mod Mesh
+pub mod Cut
+pub mod Tail
+pub mod Exact
+pub mod Place

@@ -1,0 +1,278 @@
+-- What reading one whole record does: it is one record more, and its numbers stand in their lists.
+use mathlib.Core.Path.{_≡_, refl, sym, ap, ap₂, _∙_}
+use mathlib.Core.Bool.{Bool, true, false}
+use mathlib.Core.List.{List, [], _∷_, _++_}
+use Prim.Native.Nat.{ℕ, _+_, _-_, _*_, _/_, _^_, _≤_, _<_}
+use native.Mathlib.Omega.{arith}
+use lib.Ieee.{Float, binary64, ofBits}
+use lib.ListN.{set}
+use lib.Seq.{sets}
+use borrow.Author.Tests.{ne-eqb, le-ltb, lt-ltb}
+use Rattle.form_step.specs.Bytes.{le, shifts}
+use Rattle.form.specs.Form.{Outline, box, unclipped, Site, Triangle, outlineBytes, siteBytes, triangleBytes, hullBytes, OutlineFits, SiteFits}
+use Rattle.form.specs.Form.{TriangleFits, HullFits, outlineFloats, siteFloats, triangleSites, trianglePairs, isUnclipped}
+use Rattle.form_step.specs.Reader.{sizeOf, opens, roomLeft, follows, start, begun, tally, inside, outside, step, steps, within, putFloat, putLink}
+use Rattle.form_step.specs.Reader.{boundsBy, sitesBy, trianglesBy, halfedgesBy, hullBy, Reading, reading, take, takes}
+use Rattle.form.specs.laws.Fill.{take-outside}
+use Rattle.form.specs.laws.Word.{bytes-le, shifts-small, last-eight, last-four}
+use Rattle.form_step.specs.declared.Reader.{Reader}
+
+pub takes-append : (s t : List ℕ) (d : Reading) → takes d (s ++ t) ≡ takes (takes d s) t
+unfolding takes
+takes-append [] t d = refl
+takes-append (b ∷ s) t d = takes-append s t (take d b)
+
+pub takes-reader : (s : List ℕ) (d : Reading) → takes d s .reader ≡ steps (d .reader) s
+unfolding takes take steps
+takes-reader [] d = refl
+takes-reader (b ∷ s) d = takes-reader s (take d b)
+
+-- ---- bodies, by computation
+
+-- the state in a record of this kind, with so much of it to come
+abbrev amid : ℕ → ℕ → ℕ → ℕ → Bool → ℕ → ℕ → ℕ → Reader
+amid stage left w at u n m h =
+    record {
+      stage = stage;
+      left = left;
+      word = w;
+      at = at;
+      broken = false;
+      unclipped = u;
+      sites = n;
+      triangles = m;
+      hull = h;
+    }
+
+module _ (w at : ℕ) (u : Bool) (n m h : ℕ) (bs ss : List Float) (ts es hs : List ℕ) where
+  box-body : (x y width height : ℕ) →
+      let body = le 8 x ++ le 8 y ++ le 8 width ++ le 8 height in
+      let w₁ = shifts w (le 8 x) in
+      let w₂ = shifts w₁ (le 8 y) in
+      let w₃ = shifts w₂ (le 8 width) in
+      let w₄ = shifts w₃ (le 8 height) in
+      takes (reading (amid 1 32 w at u n m h) bs ss ts es hs) body
+      ≡ reading (amid 1 0 w₄ (steps (amid 1 32 w at u n m h) body .at) u n m h)
+      (sets bs 0 (ofBits binary64 w₁ ∷ ofBits binary64 w₂ ∷ ofBits binary64 w₃ ∷ ofBits binary64 w₄ ∷ []))
+      ss ts es hs
+  unfolding takes take steps step inside tally within putFloat putLink boundsBy sitesBy trianglesBy halfedgesBy hullBy
+  box-body x y width height = refl
+
+  site-body : (x y : ℕ) →
+      let body = le 8 x ++ le 8 y in
+      let w₁ = shifts w (le 8 x) in
+      let w₂ = shifts w₁ (le 8 y) in
+      takes (reading (amid 2 16 w at u n m h) bs ss ts es hs) body
+      ≡ reading (amid 2 0 w₂ (steps (amid 2 16 w at u n m h) body .at) u (n + 1) m h) bs
+      (set (set ss (2 * n + 1 - 1) (ofBits binary64 w₁)) (2 * n + 1 - 0) (ofBits binary64 w₂))
+      ts es hs
+  unfolding takes take steps step inside tally within putFloat putLink boundsBy sitesBy trianglesBy halfedgesBy hullBy
+  site-body x y = refl
+
+  triangle-body : (a b c pa pb pc : ℕ) →
+      let body = le 4 a ++ le 4 b ++ le 4 c ++ le 4 pa ++ le 4 pb ++ le 4 pc in
+      let w₁ = shifts w (le 4 a) in
+      let w₂ = shifts w₁ (le 4 b) in
+      let w₃ = shifts w₂ (le 4 c) in
+      let w₄ = shifts w₃ (le 4 pa) in
+      let w₅ = shifts w₄ (le 4 pb) in
+      let w₆ = shifts w₅ (le 4 pc) in
+      takes (reading (amid 3 24 w at u n m h) bs ss ts es hs) body
+      ≡ reading (amid 3 0 w₆ (steps (amid 3 24 w at u n m h) body .at) u n (m + 1) h) bs ss
+      (set (set (set ts (3 * m + 2 - 2) (w₁ / 2 ^ 32)) (3 * m + 2 - 1) (w₂ / 2 ^ 32)) (3 * m + 2 - 0) (w₃ / 2 ^ 32))
+      (set (set (set es (3 * m + 2 - 2) (w₄ / 2 ^ 32)) (3 * m + 2 - 1) (w₅ / 2 ^ 32)) (3 * m + 2 - 0) (w₆ / 2 ^ 32))
+      hs
+  unfolding takes take steps step inside tally within putFloat putLink boundsBy sitesBy trianglesBy halfedgesBy hullBy
+  triangle-body a b c pa pb pc = refl
+
+  hull-body : (s : ℕ) →
+      let w₁ = shifts w (le 4 s) in
+      takes (reading (amid 4 4 w at u n m h) bs ss ts es hs) (le 4 s)
+      ≡ reading (amid 4 0 w₁ (steps (amid 4 4 w at u n m h) (le 4 s) .at) u n m (h + 1)) bs ss ts es (set hs (h - 0) (w₁ / 2 ^ 32))
+  unfolding takes take steps step inside tally within putFloat putLink boundsBy sitesBy trianglesBy halfedgesBy hullBy
+  hull-body s = refl
+
+-- ---- whole records
+
+-- between two records, the last of which was at most of kind k
+pub record AtRecord (r : Reader) (k : ℕ) : Type 0 where
+  pub broken : r .broken ≡ false
+  pub left : r .left ≡ 0
+  pub low : 1 ≤ r .stage
+  pub high : r .stage ≤ k
+  pub word : r .word < 2 ^ 64
+
+pub ready-up : {r : Reader} {k : ℕ} (n : ℕ) → k ≤ n → AtRecord r k → AtRecord r n
+ready-up n l q = record { broken = q .broken; left = q .left; low = q .low; high = omega (arith, q .high); word = q .word }
+
+-- n is that after a sites, b triangles and c hull sites more
+pub record Ran (r n : Reader) (k a b c : ℕ) : Type 0 where
+  pub ready : AtRecord n k
+  pub unclipped : n .unclipped ≡ r .unclipped
+  pub sites : n .sites ≡ r .sites + a
+  pub triangles : n .triangles ≡ r .triangles + b
+  pub hull : n .hull ≡ r .hull + c
+
+-- the bytes s take the state r with its lists there
+pub record Goes (r : Reader) (k a b c : ℕ) (bs ss : List Float) (ts es hs : List ℕ) (bs' ss' : List Float) (ts' es' hs' : List ℕ) (s : List ℕ) : Type 0 where
+  pub to : Reader
+  pub ran : Ran r to k a b c
+  pub lists : takes (reading r bs ss ts es hs) s ≡ reading to bs' ss' ts' es' hs'
+
+set-two : {A : Type 0} (l : List A) {i i' j j' : ℕ} {a a' b b' : A} → i ≡ i' → a ≡ a' → j ≡ j' → b ≡ b' → set (set l i a) j b ≡ set (set l i' a') j' b'
+set-two l p q r s = cc
+
+set-three :
+    {A : Type 0} (l : List A) {i i' j j' k k' : ℕ} {a a' b b' c c' : A}
+    → i ≡ i' → a ≡ a' → j ≡ j' → b ≡ b' → k ≡ k' → c ≡ c'
+    → set (set (set l i a) j b) k c ≡ set (set (set l i' a') j' b') k' c'
+set-three l p q r s t u = cc
+
+pub kind-follows : (r : Reader) (k : ℕ) → 1 ≤ r .stage → r .stage ≤ k → roomLeft r k ≡ true → follows r k ≡ true
+unfolding follows
+kind-follows r k l h e = rw (ne-eqb (r .stage) 0 (λ z. omega arith), le-ltb k (r .stage) h, e)
+
+there :
+    (r : Reader) (k w at n m h a b c : ℕ)
+    → 1 ≤ k
+    → w < 2 ^ 64
+    → n ≡ r .sites + a
+    → m ≡ r .triangles + b
+    → h ≡ r .hull + c
+    → Ran r (amid k 0 w at (r .unclipped) n m h) k a b c
+there r k w at n m h a b c l e p q s =
+    record {
+      ready = record { broken = refl; left = refl; low = l; high = omega arith; word = e };
+      unclipped = refl;
+      sites = p;
+      triangles = q;
+      hull = s;
+    }
+
+module _ (r : Reader) (bs ss : List Float) (ts es hs : List ℕ) where
+  pub kind-run : (k : ℕ) (s : List ℕ) → r .broken ≡ false → r .left ≡ 0 → follows r k ≡ true
+      → takes (reading r bs ss ts es hs) (k ∷ s) ≡ takes (reading (begun r k) bs ss ts es hs) s
+  unfolding takes outside
+  kind-run k s e z f =
+      ap (λ (d : Reading). takes d s) (sym (take-outside r k bs ss ts es hs e z) ∙ ap (λ (n : Reader). reading n bs ss ts es hs) (rw f))
+
+  pub site-run : (s : Site) → SiteFits s → AtRecord r 2 → r .sites < 96 → Goes r 2 1 0 0 bs ss ts es hs bs (sets ss (2 * r .sites) (siteFloats s)) ts es hs (siteBytes s)
+  unfolding begun sizeOf roomLeft
+  site-run s fit q l =
+      let w = r .word in
+      let n = r .sites in
+      let x = s .x in
+      let y = s .y in
+      let e₁ : shifts w (le 8 x) ≡ x = last-eight w (q .word) x (fit .0) in
+      let e₂ : shifts (shifts w (le 8 x)) (le 8 y) ≡ y = ap (λ (v : ℕ). shifts v (le 8 y)) e₁ ∙ last-eight x (fit .0) y (fit .1) in
+      let at = steps (amid 2 16 w (r .at + 1) (r .unclipped) n (r .triangles) (r .hull)) (le 8 x ++ le 8 y) .at in
+      let to : Reader = amid 2 0 (shifts (shifts w (le 8 x)) (le 8 y)) at (r .unclipped) (n + 1) (r .triangles) (r .hull) in
+      record {
+        to = to;
+        ran = there r 2 (shifts (shifts w (le 8 x)) (le 8 y)) at (n + 1) (r .triangles) (r .hull) 1 0 0 (omega arith) (rw e₂ (fit .1)) refl (omega arith) (omega arith);
+        lists =
+            kind-run 2 _ (q .broken) (q .left) (kind-follows r 2 (q .low) (q .high) (lt-ltb n 96 l))
+            ∙ site-body w (r .at + 1) (r .unclipped) n (r .triangles) (r .hull) bs ss ts es hs x y
+            ∙ ap (λ (z : List Float). reading to bs z ts es hs) (set-two ss (omega arith) (ap (ofBits binary64) e₁) (omega arith) (ap (ofBits binary64) e₂));
+      }
+
+  pub triangle-run :
+      (t : Triangle) → TriangleFits t → AtRecord r 3 → r .triangles < 192
+      → Goes r 3 0 1 0 bs ss ts es hs bs ss (sets ts (3 * r .triangles) (triangleSites t)) (sets es (3 * r .triangles) (trianglePairs t)) hs (triangleBytes t)
+  unfolding begun sizeOf roomLeft
+  triangle-run t fit q l =
+      let m = r .triangles in
+      let w₁ = shifts (r .word) (le 4 (t .a)) in
+      let w₂ = shifts w₁ (le 4 (t .b)) in
+      let w₃ = shifts w₂ (le 4 (t .c)) in
+      let w₄ = shifts w₃ (le 4 (t .pair-a)) in
+      let w₅ = shifts w₄ (le 4 (t .pair-b)) in
+      let w₆ = shifts w₅ (le 4 (t .pair-c)) in
+      let s₁ : w₁ < 2 ^ 64 = shifts-small (le 4 (t .a)) (r .word) (q .word) (bytes-le 4 (t .a)) in
+      let s₂ : w₂ < 2 ^ 64 = shifts-small (le 4 (t .b)) w₁ s₁ (bytes-le 4 (t .b)) in
+      let s₃ : w₃ < 2 ^ 64 = shifts-small (le 4 (t .c)) w₂ s₂ (bytes-le 4 (t .c)) in
+      let s₄ : w₄ < 2 ^ 64 = shifts-small (le 4 (t .pair-a)) w₃ s₃ (bytes-le 4 (t .pair-a)) in
+      let s₅ : w₅ < 2 ^ 64 = shifts-small (le 4 (t .pair-b)) w₄ s₄ (bytes-le 4 (t .pair-b)) in
+      let s₆ : w₆ < 2 ^ 64 = shifts-small (le 4 (t .pair-c)) w₅ s₅ (bytes-le 4 (t .pair-c)) in
+      let body = le 4 (t .a) ++ le 4 (t .b) ++ le 4 (t .c) ++ le 4 (t .pair-a) ++ le 4 (t .pair-b) ++ le 4 (t .pair-c) in
+      let at = steps (amid 3 24 (r .word) (r .at + 1) (r .unclipped) (r .sites) m (r .hull)) body .at in
+      let to : Reader = amid 3 0 w₆ at (r .unclipped) (r .sites) (m + 1) (r .hull) in
+      record {
+        to = to;
+        ran = there r 3 w₆ at (r .sites) (m + 1) (r .hull) 0 1 0 (omega arith) s₆ (omega arith) refl (omega arith);
+        lists =
+            kind-run 3 _ (q .broken) (q .left) (kind-follows r 3 (q .low) (q .high) (lt-ltb m 192 l))
+            ∙ triangle-body (r .word) (r .at + 1) (r .unclipped) (r .sites) m (r .hull) bs ss ts es hs (t .a) (t .b) (t .c) (t .pair-a) (t .pair-b) (t .pair-c)
+            ∙ ap₂ (λ (z z' : List ℕ). reading to bs ss z z' hs)
+            (set-three ts (omega arith) (last-four (r .word) (q .word) (t .a) (fit .0)) (omega arith) (last-four w₁ s₁ (t .b) (fit .1)) (omega arith) (last-four w₂ s₂ (t .c) (fit .2)))
+            (set-three es (omega arith) (last-four w₃ s₃ (t .pair-a) (fit .3)) (omega arith) (last-four w₄ s₄ (t .pair-b) (fit .4)) (omega arith) (last-four w₅ s₅ (t .pair-c) (fit .5)));
+      }
+
+  pub hull-run : (v : ℕ) → HullFits v → AtRecord r 4 → r .hull < 96 → Goes r 4 0 0 1 bs ss ts es hs bs ss ts es (sets hs (r .hull) (v ∷ [])) (hullBytes v)
+  unfolding begun sizeOf roomLeft
+  hull-run v fit q l =
+      let h = r .hull in
+      let w₁ = shifts (r .word) (le 4 v) in
+      let s₁ : w₁ < 2 ^ 64 = shifts-small (le 4 v) (r .word) (q .word) (bytes-le 4 v) in
+      let at = steps (amid 4 4 (r .word) (r .at + 1) (r .unclipped) (r .sites) (r .triangles) h) (le 4 v) .at in
+      let to : Reader = amid 4 0 w₁ at (r .unclipped) (r .sites) (r .triangles) (h + 1) in
+      record {
+        to = to;
+        ran = there r 4 w₁ at (r .sites) (r .triangles) (h + 1) 0 0 1 (omega arith) s₁ (omega arith) (omega arith) refl;
+        lists =
+            kind-run 4 _ (q .broken) (q .left) (kind-follows r 4 (q .low) (q .high) (lt-ltb h 96 l))
+            ∙ hull-body (r .word) (r .at + 1) (r .unclipped) (r .sites) (r .triangles) h bs ss ts es hs v
+            ∙ ap₂ (λ (i x : ℕ). reading to bs ss ts es (set hs i x)) (omega arith) (last-four (r .word) (q .word) v fit);
+      }
+
+-- the first record
+pub record Opens (r : Reader) (c : Outline) : Type 0 where
+  pub ready : AtRecord r 1
+  pub unclipped : r .unclipped ≡ isUnclipped c
+  pub sites : r .sites ≡ 0
+  pub triangles : r .triangles ≡ 0
+  pub hull : r .hull ≡ 0
+
+pub record Opening (c : Outline) (bs ss : List Float) (ts es hs : List ℕ) : Type 0 where
+  pub to : Reader
+  pub opens : Opens to c
+  pub lists : takes (reading start bs ss ts es hs) (outlineBytes c) ≡ reading to (sets bs 0 (outlineFloats c)) ss ts es hs
+
+opened : (c : Outline) (w at : ℕ) → w < 2 ^ 64 → Opens (amid 1 0 w at (isUnclipped c) 0 0 0) c
+opened c w at h =
+    record {
+      ready = record { broken = refl; left = refl; low = omega arith; high = omega arith; word = h };
+      unclipped = refl;
+      sites = refl;
+      triangles = refl;
+      hull = refl;
+    }
+
+set-four :
+    {A : Type 0} (l : List A) {a a' b b' c c' d d' : A}
+    → a ≡ a' → b ≡ b' → c ≡ c' → d ≡ d'
+    → sets l 0 (a ∷ b ∷ c ∷ d ∷ []) ≡ sets l 0 (a' ∷ b' ∷ c' ∷ d' ∷ [])
+set-four l p q r s = cc
+
+pub opening : (c : Outline) → OutlineFits c → (bs ss : List Float) (ts es hs : List ℕ) → Opening c bs ss ts es hs
+unfolding begun sizeOf follows opens takes take step outside within boundsBy sitesBy trianglesBy halfedgesBy hullBy
+opening unclipped fit bs ss ts es hs = record { to = _; opens = opened unclipped 0 1 (omega arith); lists = refl }
+opening (box x y width height) fit bs ss ts es hs =
+    let w₁ = shifts 0 (le 8 x) in
+    let w₂ = shifts w₁ (le 8 y) in
+    let w₃ = shifts w₂ (le 8 width) in
+    let w₄ = shifts w₃ (le 8 height) in
+    let e₁ : w₁ ≡ x = last-eight 0 (omega arith) x (fit .0) in
+    let e₂ : w₂ ≡ y = ap (λ (v : ℕ). shifts v (le 8 y)) e₁ ∙ last-eight x (fit .0) y (fit .1) in
+    let e₃ : w₃ ≡ width = ap (λ (v : ℕ). shifts v (le 8 width)) e₂ ∙ last-eight y (fit .1) width (fit .2) in
+    let e₄ : w₄ ≡ height = ap (λ (v : ℕ). shifts v (le 8 height)) e₃ ∙ last-eight width (fit .2) height (fit .3) in
+    let at = steps (amid 1 32 0 1 false 0 0 0) (le 8 x ++ le 8 y ++ le 8 width ++ le 8 height) .at in
+    let to : Reader = amid 1 0 w₄ at false 0 0 0 in
+    record {
+      to = to;
+      opens = opened (box x y width height) w₄ at (rw e₄ (fit .3));
+      lists =
+          box-body 0 1 false 0 0 0 bs ss ts es hs x y width height
+          ∙ ap (λ (z : List Float). reading to z ss ts es hs)
+          (set-four bs (ap (ofBits binary64) e₁) (ap (ofBits binary64) e₂) (ap (ofBits binary64) e₃) (ap (ofBits binary64) e₄));
+    }

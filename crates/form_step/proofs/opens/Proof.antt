@@ -1,0 +1,16 @@
+-- `form::opens` meets its contract: 1 opens, and else the test is the definition's.
+use Rattle.form_step.specs.Reader.{opens}
+use borrow.Author.Tests.{ne-eqb}
+use Rattle.form_step.proofs.opens.Statement.{statement}
+use Rattle.form_step.proofs.opens.Tie as tie
+
+returns : tie.Need-returns
+unfolding opens
+returns c = rw (c .if1 .taken)
+
+returns-2 : tie.Need-returns-2
+unfolding opens
+returns-2 c = rw (ne-eqb _ _ (c .if1 .left))
+
+pub opens-spec : {M : Type 1} → statement M
+opens-spec = tie.close (tie.spec returns returns-2)

@@ -1,0 +1,18 @@
+-- `form::outside` meets its contract: what `follows` answers chooses.
+use mathlib.Core.Path.{sym, _∙_}
+use Rattle.form_step.specs.Reader.{outside}
+use borrow.Author.Needs.{needs}
+use Rattle.form_step.proofs.outside.Statement.{statement}
+use Rattle.form_step.proofs.outside.Tie as tie
+
+returns : tie.Need-returns
+unfolding outside
+returns c = rw (sym (c .before .before .follows .ensures) ∙ c .before .if1 .taken) (c .begun .ensures)
+
+returns-2 : tie.Need-returns-2
+unfolding outside
+returns-2 c = rw (sym (c .before .before .follows .ensures) ∙ c .before .if1 .left) (c .refused .ensures)
+
+pub outside-spec : {M : Type 1} → statement M
+outside-spec =
+    tie.close (tie.spec (λ c κs. search needs) (λ c κs. search needs) returns (λ c κs. search needs) returns-2)

@@ -1,3 +1,0 @@
-pub mod Scanning
-pub mod Copying
-pub mod Staying

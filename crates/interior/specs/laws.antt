@@ -1,0 +1,4 @@
+-- Laws that only proofs use.
+pub mod Copying
+pub mod Scanning
+pub mod Staying

@@ -1,4 +1,0 @@
-pub mod Pasting
-pub mod Compacting
-pub mod Tallying
-pub mod Filling

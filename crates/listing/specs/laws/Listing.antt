@@ -1,0 +1,132 @@
+-- The listing grows at its end by an entry or a line, and its length is bounded by the numbers it prints.
+use mathlib.Core.Path.{_≡_, refl, sym, ap, _∙_}
+use mathlib.Core.List.{List, [], _∷_, _++_, append-assoc, append-nil}
+use Prim.Native.Nat.{ℕ, zero, suc, _+_, _-_, _*_, _≤_, _<_}
+use native.Mathlib.Omega.{arith}
+use native.Mathlib.Numerals.{add-one}
+use native.Mathlib.Nat.{add-zero, zero-add, suc-add}
+use Prim.Native.String.{String}
+use lib.ListN.{length, getD, take, drop, length-append, length-drop, take-append-drop}
+use lib.Seq.{take-suc, take-length, length-take-le}
+use Rattle.listing.specs.Text.{ascii, decimal}
+use Rattle.listing.specs.laws.Decimal.{decimal-short}
+use Rattle.listing.specs.Listing.{entries, labelled, counts, cellLine, listedCell, cellLines, unclippedListing, corners, listing, refusal, Layout}
+
+-- ---- entries
+
+entries-append : (k l : List ℕ) → entries (k ++ l) ≡ entries k ++ entries l
+unfolding entries
+entries-append [] l = refl
+entries-append (v ∷ k) l = ap (λ (t : List ℕ). 32 ∷ decimal v ++ t) (entries-append k l) ∙ sym (append-assoc (32 ∷ decimal v) (entries k) (entries l))
+
+pub entries-more : (l : List ℕ) (i : ℕ) → i < length l → entries (take (i + 1) l) ≡ entries (take i l) ++ entries (getD l i 0 ∷ [])
+entries-more l i h = ap (λ (k : ℕ). entries (take k l)) (add-one i) ∙ ap entries (take-suc l i 0 h) ∙ entries-append (take i l) (getD l i 0 ∷ [])
+
+pub entries-whole : (l : List ℕ) (i : ℕ) → entries (take (length l) l) ≡ entries (take i l) ++ entries (drop i l)
+entries-whole l i = ap entries (take-length l ∙ sym (take-append-drop i l)) ∙ entries-append (take i l) (drop i l)
+
+pub entries-none : (l : List ℕ) → entries (take 0 l) ≡ []
+unfolding entries
+entries-none l = refl
+
+pub entries-one : (v : ℕ) → entries (v ∷ []) ≡ 32 ∷ decimal v
+unfolding entries
+entries-one v = append-nil (32 ∷ decimal v)
+
+-- ---- lines
+
+module _ (os cs : List ℕ) where
+  lines-append : (m n i : ℕ) → cellLines os cs i (m + n) ≡ cellLines os cs i m ++ cellLines os cs (i + m) n
+  unfolding cellLines
+  lines-append zero n i = rw (zero-add n, add-zero i)
+  lines-append (suc m) n i =
+      let e : suc i + m ≡ i + suc m = omega arith in
+      let c = cellLine i (listedCell os cs i) in
+      rw (suc-add m n)
+      (ap (λ (t : List ℕ). c ++ t) (lines-append m n (suc i) ∙ ap (λ (k : ℕ). cellLines os cs (suc i) m ++ cellLines os cs k n) e)
+      ∙ sym (append-assoc c (cellLines os cs (suc i) m) (cellLines os cs (i + suc m) n)))
+
+  pub lines-none : cellLines os cs 0 0 ≡ []
+  unfolding cellLines
+  lines-none = refl
+
+  pub lines-more : (n : ℕ) → cellLines os cs 0 (n + 1) ≡ cellLines os cs 0 n ++ cellLine n (listedCell os cs n)
+  unfolding cellLines
+  lines-more n =
+      lines-append n 1 0
+      ∙ ap (λ (k : ℕ). cellLines os cs 0 n ++ cellLines os cs k 1) (zero-add n)
+      ∙ ap (λ (t : List ℕ). cellLines os cs 0 n ++ t) (append-nil (cellLine n (listedCell os cs n)))
+
+  pub lines-split : (m n : ℕ) → m ≤ n → cellLines os cs 0 n ≡ cellLines os cs 0 m ++ cellLines os cs m (n - m)
+  lines-split m n h =
+      let e : n ≡ m + (n - m) = omega arith in
+      ap (cellLines os cs 0) e ∙ lines-append m (n - m) 0 ∙ ap (λ (k : ℕ). cellLines os cs 0 m ++ cellLines os cs k (n - m)) (zero-add m)
+
+-- ---- lengths
+
+entries-short : (l : List ℕ) → length (entries l) ≤ 11 * length l
+unfolding entries
+entries-short [] = omega arith
+entries-short (v ∷ l) = omega (arith, length-append (decimal v) (entries l), decimal-short v, entries-short l)
+
+labelled-short : (label : String) (n : ℕ) → length (labelled label n) ≤ length (ascii label) + 11
+unfolding labelled
+labelled-short label n = omega (arith, length-append (ascii label) (entries (n ∷ [])), entries-short (n ∷ []))
+
+line-short : (i : ℕ) (c : List ℕ) → length (cellLine i c) ≤ 17 + 11 * length c
+unfolding cellLine
+line-short i c =
+    let a = labelled "cell" i in
+    let b = a ++ ascii ":" in
+    omega (arith, length-append (b ++ entries c) (ascii "\n"), length-append b (entries c), length-append a (ascii ":"), labelled-short "cell" i, entries-short c)
+
+module _ (os cs : List ℕ) (n : ℕ) (lay : Layout os cs n) where
+  cell-length : (i : ℕ) → i < n → length (listedCell os cs i) ≡ getD os (suc i) 0 - getD os i 0
+  cell-length i h =
+      length-take-le (getD os (suc i) 0 - getD os i 0) (drop (getD os i 0) cs) (omega (arith, length-drop (getD os i 0) cs, lay .rise i h, lay .within i h))
+
+  lines-short : (m i : ℕ) → i + m ≤ n → length (cellLines os cs i m) + 11 * getD os i 0 ≤ 17 * m + 11 * getD os (i + m) 0
+  unfolding cellLines
+  lines-short zero i h = rw (add-zero i) (omega arith)
+  lines-short (suc m) i h =
+      let e : suc i + m ≡ i + suc m = omega arith in
+      let c = listedCell os cs i in
+      let q = lines-short m (suc i) (omega arith) in
+      let q' : length (cellLines os cs (suc i) m) + 11 * getD os (suc i) 0 ≤ 17 * m + 11 * getD os (i + suc m) 0 = rw e at q in
+      omega (arith, length-append (cellLine i c) (cellLines os cs (suc i) m), line-short i c, cell-length i (omega arith), lay .rise i (omega arith))
+
+counts-short : (a b c : ℕ) → length (counts a b c) ≤ 58
+unfolding counts
+counts-short a b c =
+    let x = labelled "sites" a in
+    let y = labelled " triangles" b in
+    let z = labelled " vertices" c in
+    omega
+    (arith, length-append (x ++ y ++ z) (ascii "\n"), length-append (x ++ y) z, length-append x y, labelled-short "sites" a, labelled-short " triangles" b, labelled-short " vertices" c)
+
+corners-short : (owners : List ℕ) (lost : ℕ) → length owners ≡ 4 → length (corners owners lost) ≤ 68
+unfolding corners
+corners-short owners lost h =
+    let x = ascii "corners" ++ entries owners in
+    let y = labelled " lost" lost in
+    omega (arith, length-append (x ++ y) (ascii "\n"), length-append x y, length-append (ascii "corners") (entries owners), labelled-short " lost" lost, entries-short owners)
+
+-- what a listing of n cells and so many entries needs
+module _ (a t v : ℕ) (os cs : List ℕ) (lay : Layout os cs a) where
+  all-lines : length (cellLines os cs 0 a) ≤ 17 * a + 11 * getD os a 0
+  all-lines =
+      let q = lines-short os cs a lay a 0 (omega arith) in
+      let q' : length (cellLines os cs 0 a) + 11 * getD os 0 0 ≤ 17 * a + 11 * getD os a 0 = rw (zero-add a) at q in
+      omega arith
+
+  pub unclipped-short : length (unclippedListing a t v os cs) ≤ 58 + 17 * a + 11 * getD os a 0
+  unfolding unclippedListing
+  unclipped-short = omega (arith, length-append (counts a t v) (cellLines os cs 0 a), counts-short a t v, all-lines)
+
+  pub listing-short : (owners : List ℕ) (lost : ℕ) → length owners ≡ 4 → length (listing a t v os cs owners lost) ≤ 126 + 17 * a + 11 * getD os a 0
+  unfolding listing
+  listing-short owners lost h = omega (arith, length-append (unclippedListing a t v os cs) (corners owners lost), corners-short owners lost h, unclipped-short)
+
+pub refusal-short : (n : ℕ) → length (refusal n) ≤ 19
+unfolding refusal
+refusal-short n = omega (arith, length-append (labelled "refused" n) (ascii "\n"), labelled-short "refused" n)

@@ -1,0 +1,50 @@
+// The numbers that have a name: the index that is none, the refusals in the order in which they are tried, the tolerance; and an index as a length.
+ghost use mathlib.Core.Path.{_≡_};
+
+// An unpaired half-edge, a cleared entry, a site without half-edges.
+pub const EMPTY: u32 = 4294967295;
+
+// 2^-50, inclusive, on the computed difference.
+pub const TOLERANCE: f64 = 8.881784197001252e-16;
+
+// docs/RULES.md says when each is given.
+pub const REFUSED_COUNT: u32 = 1;
+
+pub const REFUSED_ROOM: u32 = 2;
+
+pub const REFUSED_BOX: u32 = 3;
+
+pub const REFUSED_SITE: u32 = 4;
+
+pub const REFUSED_DESTINATION: u32 = 5;
+
+pub const REFUSED_COORDINATE: u32 = 6;
+
+pub const REFUSED_TRIANGLE: u32 = 7;
+
+pub const REFUSED_PAIRING: u32 = 8;
+
+pub const REFUSED_HULL: u32 = 9;
+
+pub const REFUSED_FAN: u32 = 10;
+
+pub const REFUSED_CIRCUMCENTER: u32 = 11;
+
+pub const REFUSED_EXTENSION: u32 = 12;
+
+pub const REFUSED_NO_CROSSING: u32 = 13;
+
+pub const REFUSED_ONE_CROSSING: u32 = 14;
+
+pub const REFUSED_NO_SIDE: u32 = 15;
+
+pub const REFUSED_OFFSETS: u32 = 16;
+
+pub const REFUSED_FORM: u32 = 17;
+
+// An index as a length: of 64 bits, nothing is lost.
+pub fn wide(x: u32) -> usize
+    ensures { λ r. ⌜ r ≡ x ⌝ }
+{
+    x as usize
+}

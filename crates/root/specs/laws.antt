@@ -1,0 +1,5 @@
+-- Laws that only proofs use.
+pub mod Digits
+pub mod Moving
+pub mod Patterns
+pub mod Signs

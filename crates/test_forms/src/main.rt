@@ -1,0 +1,88 @@
+// Prints what the form's reader says of each case on standard input, which is two bytes of length and as many bytes.
+use form_step::Form;
+use libc::STDIN_FILENO;
+use libc::STDOUT_FILENO;
+ghost use Prim.Native.Nat.{_<_};
+
+fn number(n: usize) {
+    io::write_all(STDOUT_FILENO, b" ");
+    io::print_decimal(STDOUT_FILENO, n as u64);
+}
+
+fn refused(at: usize) {
+    io::write_all(STDOUT_FILENO, b"refused 17 at");
+    number(at);
+}
+
+fn sound(sites: usize, triangles: usize, hull: usize) {
+    io::write_all(STDOUT_FILENO, b"sound");
+    number(sites);
+    number(triangles);
+    number(hull);
+}
+
+fn say(form: Form) {
+    match form {
+        Form::Broken { at } => refused(at),
+        Form::Sound {
+            sites,
+            triangles,
+            hull,
+            unclipped,
+        } => {
+            sound(sites, triangles, hull);
+            if unclipped {
+                io::write_all(STDOUT_FILENO, b" unclipped");
+            }
+        }
+    }
+    io::write_all(STDOUT_FILENO, b"\n");
+}
+
+fn verdict(bytes: &[u8]) {
+    let mut bounds = [0.0f64; 4];
+    let mut sites = [0.0f64; 192];
+    let mut triangles = [0u32; 576];
+    let mut halfedges = [0u32; 576];
+    let mut hull = [0u32; 96];
+    let form = form::read(
+        bytes,
+        &mut bounds,
+        &mut sites,
+        &mut triangles,
+        &mut halfedges,
+        &mut hull,
+    );
+    say(form);
+}
+
+fn wide(x: u8) -> usize
+    ensures { λ r. ⌜ r < 256 ⌝ }
+{
+    x as usize
+}
+
+// Reads a case's bytes, as many as the slice has, and answers how many came.
+fn body(bytes: &mut [u8]) -> usize {
+    let got = io::read_full(STDIN_FILENO, bytes);
+    verdict(&bytes[..got]);
+    got
+}
+
+// One case, and whether it was there whole.
+fn case() -> bool {
+    let mut head = [0u8; 2];
+    if io::read_full(STDIN_FILENO, &mut head) < 2 {
+        return false;
+    }
+    let n = wide(head[0]) + 256 * wide(head[1]);
+    let mut bytes = io::large_buffer();
+    body(&mut bytes[..n]) == n
+}
+
+fn main() {
+    let mut turns: u32 = 100000;
+    while turns > 0 && case() {
+        turns -= 1;
+    }
+}

@@ -1,4 +1,0 @@
-pub mod Reversing
-pub mod Rings
-pub mod Drawing
-pub mod Outcome
