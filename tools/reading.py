@@ -74,6 +74,7 @@ QUOTED = re.compile(r'"(?:[^"\\\n]|\\.)*"')
 NAME = re.compile(r"(«[^»]*»|" + ATOM + r")(\.(?=[^\s.]))?")
 
 
+TOKEN = re.compile(r"(\.*)(«[^»]*»|" + ATOM + r")((?:\." + ATOM + r")*)(?=(\s*=(?![^\s(){}.;,]))?)")
 TAIL = re.compile(r"(?:" + ATOM + r"\.)*(" + ATOM + ")")
 EQUALS = re.compile(r"\s*=(?![^\s(){}.;,])")
 
@@ -102,18 +103,16 @@ def tokens(text):
     """(the names that stand free, the names before a dot, the pairs `M.x`) of a text of antt. A field `r .f` is no name.
     The label of a field (`record { f = .. }`) or of an implicit argument (`{A = ..}`) is no use of that name."""
     free, heads, dotted = set(), set(), set()
-    for m in NAME.finditer(text):
-        before = text[max(0, m.start() - 2) : m.start()]
-        if before.endswith(".") and before != "..":
-            continue  # a field, or a name of a module
-        if is_label(text, m):
-            continue
-        free.add(m.group(1))
-        if m.group(2):
-            heads.add(m.group(1))
-            n = TAIL.match(text, m.end())
-            if n:
-                dotted.add((m.group(1), n.group(1)))
+    for m in TOKEN.finditer(text):
+        dots, word, tail, equals = m.groups()
+        if dots == ".":
+            continue  # a field
+        if equals and text[max(0, m.start() - 80) : m.start()].rstrip()[-1:] in ("{", ";"):
+            continue  # a label
+        free.add(word)
+        if tail:
+            heads.add(word)
+            dotted.add((word, tail.rpartition(".")[2]))
     return free, heads, dotted
 
 
