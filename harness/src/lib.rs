@@ -15,3 +15,4 @@ pub mod rust;
 pub mod stored;
 pub mod tally;
 pub mod text;
+pub mod words;

@@ -12,9 +12,23 @@ use harness::text::{self, row, show};
 use harness::{form, rust};
 use std::io::{Read, Write};
 
+const USAGE: &str = "oracle [FILE]            one mesh, from a text: what the Rust answers
+oracle --check FILE..    only whether each file's `answer` lines are among what would be printed
+oracle --form FILE       the mesh as the program `cells` reads it, on standard output
+oracle --listing FILE    what the program `cells` must print for it";
+
 fn main() {
     rust::quiet();
     let args: Vec<String> = std::env::args().skip(1).collect();
+    const VERBS: [&str; 3] = ["--check", "--form", "--listing"];
+    if args.iter().any(|a| a == "--help" || a == "-h") {
+        println!("{USAGE}");
+        return;
+    }
+    let verb = args.first().is_some_and(|a| VERBS.contains(&a.as_str()));
+    if args[usize::from(verb)..].iter().any(|a| a.starts_with('-')) || (!verb && args.len() > 1) {
+        stop(&format!("unknown words: {}\n{USAGE}", args.join(" ")));
+    }
     let open = |file: &String| std::fs::read_to_string(file).unwrap_or_else(|e| stop(&format!("{file}: {e}")));
     if args.first().is_some_and(|a| a == "--check") {
         let mut answers = 0;
