@@ -50,7 +50,7 @@ for number, words in numbers.items():
         continue
     if not entry:
         wrong.append(f"docs/RULES.md has no rule {number}")
-    elif words not in entry[0]:
+    elif f"*{words[0].upper()}{words[1:]}.*" not in entry[0]:
         wrong.append(f"docs/RULES.md, rule {number}, has not the header's words: {words}")
     elif "What to do:" not in entry[0]:
         wrong.append(f"docs/RULES.md, rule {number}, does not say what to do")
