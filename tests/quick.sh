@@ -46,6 +46,7 @@ fi
 if [ -f tools/house ]; then check tools/house python3 tools/house; else passed_over tools/house "it is not there"; fi
 if [ -f tools/believed ]; then check tools/believed python3 tools/believed --check; else passed_over tools/believed "it is not there"; fi
 check "scripts are run" scripts_run
+check "the Rust to compare with, where it is a must" sh harness/run.sh missing
 check tests/papers.sh sh tests/papers.sh
 check tests/missing.sh sh tests/missing.sh
 check tests/texts.sh sh tests/texts.sh
