@@ -13,7 +13,7 @@ folder=$(mktemp -d)
 trap 'rm -rf "$folder"' EXIT
 bin=$folder/bin
 mkdir "$bin"
-for program in sh cat sed awk head tail tr od cmp cut mktemp rm mkdir dirname basename readlink getconf printf env uname find touch; do
+for program in sh cat sed awk head tail tr od cmp cut grep mktemp rm mkdir dirname basename readlink getconf printf env uname find touch; do
     ln -s "$(command -v "$program")" "$bin/$program"
 done
 
@@ -49,14 +49,19 @@ case $1 in
 version) cat toolchain ;;
 *)
     echo "rt: laws proved (1 s)"
-    echo "fn root::root: proved"
-    echo "crates/root/src/lib.rt:12:5: error: the postcondition is not proved"
-    echo "rt: root refused (9 s)"
+    echo "fn root::magnitude: proved"
+    echo "crates/root/proofs/root/Proof.antt:40:13: error: the two types differ"
+    echo "fn root::root: not proved"
+    echo "rt: root NOT PROVED (exit 1, 9 s)"
+    echo "rt: listing proved (unchanged since it was last proved)"
+    echo "rt: utils NOT PROVED: its dependency root is not proved"
+    echo "rt: FAILED: root utils"
     exit 1
     ;;
 esac
 END
-must 2 "error: the postcondition is not proved" ./yelmuzard cells examples/square.form
+must 2 "root/Proof.antt:40:13: error: the two types differ" ./yelmuzard cells examples/square.form
+must 2 "1 of [0-9]* proved: laws (1 s)" ./yelmuzard cells examples/square.form
 must 2 "cells could not be proved and built" ./yelmuzard cells examples/square.form
 must 2 "Debian package python3" ./yelmuzard cells examples/square.txt
 must 2 "gcc is missing (Debian package gcc)" ./yelmuzard link "$folder/program" examples/areas.c

@@ -49,8 +49,10 @@ log=target/log/$1-$2.say
         esac
     done
     [ "$status" = 0 ] || {
-        echo "rt $1 $2 failed (status $status). Its last words, from $log:" >&2
-        sed '/^status /d' "$log" | awk '{ line[NR] = $0 } / proved \(/ { last = NR } END { from = NR - 40 > last ? NR - 40 : last; for (i = from + 1; i <= NR; i++) print "  " line[i] }' | cut -c 1-400 >&2
+        echo "rt $1 $2 failed (status $status). Its words (the whole is in $log):" >&2
+        # without what is proved, and without the crates that only wait for the one that is not
+        grep -vE '^(fn|struct|enum|const) .*: proved$|^library |^logic|^rt: .* proved \(|NOT PROVED: its dependency|^status ' "$log" |
+            head -n 40 | cut -c 1-400 | sed 's/^/  /' >&2
     }
     exit "$status"
 }
