@@ -1,8 +1,8 @@
-/* The check of a mesh through the C interface: 01's inputs by name, a check of its own beside it on damaged meshes, and the time of the largest mesh.
+/* The check of a mesh through the C interface: the checked inputs of docs/RULES.md by name, a check of its own beside it on damaged meshes, and the time of the largest mesh.
  *
  *   mesh COUNT [SEED]    compares COUNT damaged meshes; exit status 1 where a number or a work slice differs, or a number never came up
  *
- * Every number is held against `expected`, written from 01's sentences with no regard to cost, and every work slice to its last entry.
+ * Every number is held against `expected`, written from the sentences of docs/RULES.md with no regard to cost, and every work slice to its last entry.
  * The C library's headers are not used (tests/archive.sh says why). */
 #include "number.h"
 #include "voronoi.h"

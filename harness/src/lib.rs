@@ -1,4 +1,4 @@
-//! The Rust's answers, document 01's answers, and the meshes that both are asked about.
+//! The Rust's answers, the rules' answers (docs/RULES.md), and the meshes that both are asked about.
 
 pub mod bench;
 pub mod cases;

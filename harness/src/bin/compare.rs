@@ -1,4 +1,4 @@
-//! Puts cases to the Rust, to document 01 read a second time and to the proved library, and tells the first difference.
+//! Puts cases to the Rust, to the rules (docs/RULES.md) read a second time and to the proved library, and tells the first difference.
 //!
 //!     compare [--cases N] [--plane N] [--roots N] [--seed S] [--from I]
 //!     compare --case I [--seed S]      one mesh case alone, with its mesh
@@ -37,7 +37,7 @@ fn main() {
     }
 
     match library.names() {
-        [] => println!("NO LIBRARY: only the Rust and document 01 are compared"),
+        [] => println!("NO LIBRARY: only the Rust and the rules are compared"),
         names => println!("The library is asked: {}", names.join(" ")),
     }
     let cases = option("--cases").unwrap_or(20_000);

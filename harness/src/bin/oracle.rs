@@ -1,5 +1,5 @@
 //! Reads a text mesh (see src/text.rs) from the named file or standard input and prints what the Rust's release
-//! build answers, with the marks and refusals that document 01 adds beside it.
+//! build answers, with the marks and refusals that the rules (docs/RULES.md) add beside it.
 //!
 //!     oracle [FILE]            one mesh
 //!     oracle --check FILE..    only whether each file's `answer` lines are among what would be printed
@@ -76,7 +76,7 @@ fn stop(words: &str) -> ! {
     std::process::exit(2)
 }
 
-/// The refusals up to 10 and 11, 12 are document 01's, before the Rust is asked; 13 to 15 are its panics.
+/// The refusals up to 10 and 11, 12 are the rules', before the Rust is asked; 13 to 15 are its panics.
 fn listing(input: &text::Input) -> Vec<String> {
     let m = &input.mesh;
     let number = if !reference::counts_sound(m) {
@@ -108,7 +108,7 @@ fn listing(input: &text::Input) -> Vec<String> {
                 lines.extend(built(o, input.clip.is_some()));
                 Some(t.cells)
             }
-            (o, t) => stop(&format!("DIFFERENCE between the Rust and the reading of 01:\nRust {t:?}\n01   {o:?}")),
+            (o, t) => stop(&format!("DIFFERENCE between the Rust and the reading of the rules:\nRust {t:?}\nrules {o:?}")),
         },
     };
     lines.extend(questions(m, &lent, cells, &input.paths));
