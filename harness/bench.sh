@@ -5,7 +5,15 @@
 set -eu
 here=$(cd "$(dirname "$0")" && pwd)
 root=$(cd "$here/.." && pwd)
-export VORONOI_SOURCE="${VORONOI_SOURCE:-$root/../shared/docs/src}"
+case ${1-} in
+--help | -h)
+    sed -n '2,/^[^#]/s/^# \{0,1\}//p' "$0"
+    exit 0
+    ;;
+esac
+# shellcheck source=harness/source.sh
+. "$here/source.sh"
+need_source harness/bench.sh
 (cd "$here" && cargo build --release --offline --quiet)
 if [ "$(uname -m)" = x86_64 ]; then
     VORONOI_SERVER=$("$here/serve.sh")

@@ -3,10 +3,27 @@
 set -eu
 here=$(cd "$(dirname "$0")" && pwd)
 root=$(cd "$here/.." && pwd)
-sites=${1:-10000}
-export VORONOI_SOURCE="${VORONOI_SOURCE:-$root/../shared/docs/src}"
+case ${1-} in
+--help | -h)
+    sed -n '2,/^[^#]/s/^# \{0,1\}//p' "$0"
+    exit 0
+    ;;
+'' | *[0-9]) ;;
+*)
+    echo "harness/count.sh takes a number of sites, not $1" >&2
+    exit 2
+    ;;
+esac
+sites=$(printf '%s' "${1:-10000}" | tr -d ',_')
+# shellcheck source=harness/source.sh
+. "$here/source.sh"
+need_source harness/count.sh
+command -v valgrind >/dev/null || {
+    echo "harness/count.sh: valgrind is missing (Debian package valgrind)" >&2
+    exit 2
+}
 (cd "$here" && cargo build --release --offline --quiet)
-if [ "$(uname -m)" = x86_64 ]; then "$here/serve.sh" >/dev/null; server=$root/target/harness/serve; else server=$("$here/native.sh"); fi
+if [ "$(uname -m)" = x86_64 ]; then "$here/serve.sh" >/dev/null; server="'$root/target/harness/serve'"; else server=$("$here/native.sh"); fi
 bench=$root/target/harness/release/bench
 count() { # NAME FUNCTION COMMAND..
     name=$1 function=$2

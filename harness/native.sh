@@ -4,6 +4,12 @@
 #
 # The toolchain is seen through a folder of links in which clang is a script that also keeps its input, the module.
 set -eu
+case ${1-} in
+--help | -h)
+    sed -n '2,/^[^#]/s/^# \{0,1\}//p' "$0"
+    exit 0
+    ;;
+esac
 here=$(cd "$(dirname "$0")" && pwd)
 root=$(cd "$here/.." && pwd)
 kit=${RATTLE_HOME:-$(dirname "$(dirname "$(readlink -f "$(command -v rt)")")")}
@@ -45,4 +51,4 @@ ar rcs "$made/libvoronoi.a" "$made/voronoi.o"
 has=$("$here/serve.sh" parts "$made/libvoronoi.a")
 # shellcheck disable=SC2086
 gcc -std=c11 -O2 -Wall -Wextra $has -I "$root/include" -o "$made/serve" "$here/serve.c" "$made/libvoronoi.a"
-echo "$made/serve"
+echo "'$made/serve'"

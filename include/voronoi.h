@@ -1,8 +1,29 @@
-/* The C interface of libvoronoi.a (rt staticlib voronoi; x86-64 Linux).
+/* The C interface of libvoronoi.a (`./yelmuzard archive` makes it; x86-64 Linux). README.md shows a whole call, docs/RULES.md has the
+ * meaning of every number, limit and term, docs/PUBLIC.md what is promised of each call.
  *
  * A call that can refuse answers a number, 0 where it accepts. A slice is a pointer and a length in elements; one of length 0
  * may have any pointer but NULL. Lent slices must not overlap. No call has another precondition, and each ends on every input.
- * In C as in Rust, a slice must be as long as is said, and what a `const` pointer shows must not change during the call. */
+ * In C as in Rust, a slice must be as long as is said, and what a `const` pointer shows must not change during the call.
+ *
+ * Threads: a call reads and writes what it is lent and nothing else; it keeps no state, allocates nothing, and sets no flag or errno.
+ * Calls may run at the same time wherever none is lent to be written what another is lent at all.
+ * Stack: 2.3 kB at most as measured, on four sites as on 3,000: nothing recurses with the mesh.
+ *
+ * Cost, for N sites, T triangles and H hull sites: every call on a mesh checks the whole mesh first, N + T steps (some 5 ms at 65,536
+ * sites), so ask for many things at once rather than often. On top of that, at worst:
+ *
+ *   roots, points, the box   a fixed number of steps; the centroid one for each point
+ *   voronoi_check            none: it is the check
+ *   walk, neighbours         the site's triangles
+ *   clipped_neighbours       N, and twice the product of the lengths of two cells
+ *   path                     the triangles at the sites that it passes, at most 3T
+ *   shared_edge              a fixed number
+ *   cells_share_edge         the offsets, and the product of the lengths of the two cells; no mesh, so no check
+ *   cell                     the offsets; no mesh, so no check
+ *   build                    usually N + T (0.3 to 0.9 microseconds a site). At worst the square of N: an added point is searched for among
+ *                            all those added before (65,536 sites on a circle: 20 s), and a cell that stays empty is tried again from each
+ *                            of its half-edges (one site with 65,535 neighbours: 5 minutes). docs/SPEED.md has the times.
+ *   build_unclipped          N + T */
 #ifndef VORONOI_H
 #define VORONOI_H
 
@@ -12,6 +33,13 @@
 #ifdef __cplusplus
 extern "C" {
 #endif
+
+/* ---- the version (the file VERSION; CHANGELOG.md says what changed) */
+
+#define VORONOI_VERSION "0.1.0"
+#define VORONOI_VERSION_MAJOR 0
+#define VORONOI_VERSION_MINOR 1
+#define VORONOI_VERSION_PATCH 0
 
 /* ---- numbers */
 
@@ -24,8 +52,10 @@ extern "C" {
 #define VORONOI_LEAST_TRIANGLES 1
 #define VORONOI_MOST_TRIANGLES 131072
 
-/* What a build must be lent, for T triangles, H hull sites and N sites: vertices (two floats each), indexes, offsets, work. */
+/* What a build must be lent, for T triangles, H hull sites and N sites. Vertices are counted in vertices; the slice of vertices has two
+ * numbers for each, so its length is at least VORONOI_VERTEX_NUMBERS. Then indexes, offsets, work. */
 #define VORONOI_VERTEX_ROOM(T, H) (7 * (size_t)(T) + 5 * (size_t)(H) + 4)
+#define VORONOI_VERTEX_NUMBERS(T, H) (2 * VORONOI_VERTEX_ROOM(T, H))
 #define VORONOI_INDEX_ROOM(T, H) (12 * (size_t)(T) + 8 * (size_t)(H) + 4)
 #define VORONOI_OFFSET_ROOM(N) ((size_t)(N) + 1)
 #define VORONOI_WORK_ROOM(N) ((size_t)(N))
@@ -36,26 +66,52 @@ extern "C" {
 #define VORONOI_COUNT_LOST 5
 #define VORONOI_COUNTS 6
 
-/* ---- refusals, in the order in which they are tried */
+/* ---- refusals, in the order in which they are tried (16 after 10, 17 first); docs/RULES.md says of each what to do about it */
 
 #define VORONOI_ACCEPTED 0
-#define VORONOI_COUNT 1        /* a count breaks its limit, an odd site list, triangles not in threes, half-edges not as many */
-#define VORONOI_ROOM 2         /* a lent output or work slice is below its room */
-#define VORONOI_BOX 3          /* the box breaks its rule */
-#define VORONOI_SITE 4         /* a site number is not below the site count */
-#define VORONOI_DESTINATION 5  /* the destination breaks its rule */
-#define VORONOI_COORDINATE 6   /* a coordinate breaks its rule */
-#define VORONOI_TRIANGLE 7     /* a triangle names no site, or one twice */
-#define VORONOI_PAIRING 8      /* pairing broken */
-#define VORONOI_HULL 9         /* hull broken */
-#define VORONOI_FAN 10         /* fan broken */
-#define VORONOI_CIRCUMCENTER 11 /* a circumcenter breaks its rule */
-#define VORONOI_EXTENSION 12   /* an extended point is not finite */
-#define VORONOI_NO_CROSSING 13 /* an edge with one end inside finds no crossing */
-#define VORONOI_ONE_CROSSING 14 /* an edge with both ends outside finds exactly one crossing */
-#define VORONOI_NO_SIDE 15     /* a clipped vertex lies on no side */
-#define VORONOI_OFFSETS 16     /* cell offsets not one more than sites, not from 0, falling, or past the list's end */
-#define VORONOI_FORM 17        /* the form is broken (the program `cells` alone) */
+#define VORONOI_REFUSED_COUNT 1         /* a count breaks its limit, an odd site list, triangles not in threes, half-edges not as many */
+#define VORONOI_REFUSED_ROOM 2          /* a lent output or work slice is below its room */
+#define VORONOI_REFUSED_BOX 3           /* the box breaks its rule */
+#define VORONOI_REFUSED_SITE 4          /* a site number is not below the site count */
+#define VORONOI_REFUSED_DESTINATION 5   /* the destination breaks its rule */
+#define VORONOI_REFUSED_COORDINATE 6    /* a coordinate breaks its rule */
+#define VORONOI_REFUSED_TRIANGLE 7      /* a triangle names no site, or one twice */
+#define VORONOI_REFUSED_PAIRING 8       /* pairing broken */
+#define VORONOI_REFUSED_HULL 9          /* hull broken */
+#define VORONOI_REFUSED_FAN 10          /* fan broken */
+#define VORONOI_REFUSED_CIRCUMCENTER 11 /* a circumcenter breaks its rule */
+#define VORONOI_REFUSED_EXTENSION 12    /* an extended point is not finite */
+#define VORONOI_REFUSED_NO_CROSSING 13  /* an edge with one end inside finds no crossing */
+#define VORONOI_REFUSED_ONE_CROSSING 14 /* an edge with both ends outside finds exactly one crossing */
+#define VORONOI_REFUSED_NO_SIDE 15      /* a clipped vertex lies on no side */
+#define VORONOI_REFUSED_OFFSETS 16      /* cell offsets not one more than sites, not from 0, falling, or past the list's end */
+#define VORONOI_REFUSED_FORM 17         /* the form is broken (the program `cells` alone) */
+
+/* A sentence for each number, with no full stop; "no such number" for any other. It is never NULL. */
+static inline const char *voronoi_words(uint32_t number)
+{
+    switch (number) {
+    case VORONOI_ACCEPTED: return "accepted";
+    case VORONOI_REFUSED_COUNT: return "the sites, triangles or hull sites are too few or too many, or a list's length does not fit";
+    case VORONOI_REFUSED_ROOM: return "a lent slice is shorter than its room";
+    case VORONOI_REFUSED_BOX: return "the box has a size that is not above 0, or a number that is too large or not finite";
+    case VORONOI_REFUSED_SITE: return "there is no site of that number";
+    case VORONOI_REFUSED_DESTINATION: return "the destination has a coordinate above 2^100 or not finite";
+    case VORONOI_REFUSED_COORDINATE: return "a point has a coordinate above 2^100 or not finite";
+    case VORONOI_REFUSED_TRIANGLE: return "a triangle names a site that is not there, or one site twice";
+    case VORONOI_REFUSED_PAIRING: return "two half-edges that should be each other's pair are not";
+    case VORONOI_REFUSED_HULL: return "the hull is not the round of all unpaired half-edges";
+    case VORONOI_REFUSED_FAN: return "the triangles at a site are not one connected fan";
+    case VORONOI_REFUSED_CIRCUMCENTER: return "a triangle is so flat that its circumcenter is not finite or is above 2^400";
+    case VORONOI_REFUSED_EXTENSION: return "a hull edge is so short that it has no direction";
+    case VORONOI_REFUSED_NO_CROSSING: return "an edge that leaves the box was not found to cross it";
+    case VORONOI_REFUSED_ONE_CROSSING: return "an edge with both ends outside the box was found to cross it once";
+    case VORONOI_REFUSED_NO_SIDE: return "a point cut off at the box was found on none of its sides";
+    case VORONOI_REFUSED_OFFSETS: return "the cells' offsets do not cut the list of indexes";
+    case VORONOI_REFUSED_FORM: return "the form is broken: a record cut, out of order, or one too many";
+    default: return "no such number";
+    }
+}
 
 /* ---- roots: none refuses
  * On patterns (`_bits`): the 64 bits of an f64. A NaN is answered as 0x7FF8000000000000, and every answer is one pattern only.
@@ -74,8 +130,8 @@ uint64_t voronoi_signum_bits(uint64_t b);
 double voronoi_signum(double x);
 
 /* ---- points and the box
- * A box is its centre (cx, cy), width and height. 3 is tried on it first, then 6 on each point, a ray's direction included.
- * A number lent by pointer is always written: 0 where the call refuses, EMPTY for a side. */
+ * y points down: the top of a box is its least y. A box is its centre (cx, cy), width and height. 3 is tried on it first, then 6 on each
+ * point, a ray's direction included. A number lent by pointer is always written: 0 where the call refuses, EMPTY for a side. */
 
 /* Whether a and b are within 2^-50, by the computed difference: 1 or 0. Refuses nothing; a NaN is within no tolerance. */
 uint32_t voronoi_abs_diff_eq(double a, double b);
@@ -114,6 +170,12 @@ uint32_t voronoi_project_ray(double cx, double cy, double width, double height, 
 /* ---- the check of a mesh
  * sites: x and y of each, in turn. triangles: three sites each. halfedges: the pair of each half-edge, or VORONOI_EMPTY; half-edge e runs
  * from triangles[e] to the next site of its triangle. hull: the sites round the border, in order. work: room for as many entries as sites.
+ *
+ * Winding: triangles and hull run counter-clockwise as seen with y downward, so that for each triangle a, b, c
+ * (bx - ax) * (cy - ay) - (by - ay) * (cx - ax) is below 0. The arrays of delaunator (Rust, JavaScript) are so and fit as they are. Where y
+ * points up this is clockwise: the triangles of SciPy, CGAL and others that run counter-clockwise there must be turned, or y be negated.
+ * THE WINDING IS NOT CHECKED. A mesh wound the other way is accepted, and a clipped build of it answers 0 with wrong cells, often with no
+ * corner lost. `tools/mesh` warns of it; docs/RULES.md, "Terms", shows how to turn a mesh.
  *
  * Answers 0, or the first of 1, 2, 6, 7, 8, 9, 10 whose rule is broken. After 0, work holds for each site its leftmost half-edge (of those
  * that end there the unpaired one if there is one, else the lowest; VORONOI_EMPTY where none ends), then VORONOI_EMPTY to its end. After 1,

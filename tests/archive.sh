@@ -7,6 +7,7 @@
 #
 # The archive is for x86-64. On such a machine gcc builds the program; on another the toolchain's own clang, C library and emulator do.
 # The toolchain has no headers of its C library, so the C files use none but stddef.h and stdint.h, and declare what they call.
+# A program that runs under the emulator is compiled with -DEMULATED. Another archive is taken where ARCHIVE names it; MORE_FLAGS has more words for the compiler.
 set -eu
 root=$(cd "$(dirname "$0")/.." && pwd)
 kit=${RATTLE_HOME:-$(dirname "$(dirname "$(readlink -f "$(command -v rt)")")")}
@@ -17,53 +18,58 @@ flags="-std=c11 -O2 -ffreestanding -fno-math-errno -Wall -Wextra -Werror ${MORE_
 make_archive() {
     if [ -n "${ARCHIVE-}" ]; then return; fi
     if [ ! -f "$archive" ] || [ -n "$(find "$root/crates" "$root/crates.txt" -newer "$archive" | head -n 1)" ]; then
-        mkdir -p "$root/target/log"
-        (cd "$root" && rt staticlib voronoi) >"$root/target/log/archive.say" 2>&1 || {
-            cat "$root/target/log/archive.say"
-            exit 1
-        }
+        sh "$root/tests/prove.sh" staticlib voronoi
         touch "$archive"
     fi
 }
 
-build() {
-    program=$1
-    shift
-    mkdir -p "$(dirname "$program")"
-    if [ "$(uname -m)" = x86_64 ]; then
-        # shellcheck disable=SC2086
-        gcc $flags -I "$root/include" -o "$program" "$@" "$archive"
-        return
-    fi
-    objects=
+native() {
+    # shellcheck disable=SC2086
+    gcc $flags -I "$root/include" -o "$program" "$@" "$archive"
+}
+
+compile() { # FILE OBJECT
+    # shellcheck disable=SC2086
+    "$tools/bin/clang" --target=x86_64-linux-gnu $flags -fPIE -DEMULATED -nostdinc -isystem "$(gcc -print-file-name=include)" -I "$root/include" -c "$1" -o "$2"
+}
+
+foreign() { # the words become the objects one by one, so that blanks in their names stay
+    lib=$tools/lib
     for file in "$@"; do
         object=$program.$(basename "$file" .c).o
-        # shellcheck disable=SC2086
-        "$tools/bin/clang" --target=x86_64-linux-gnu $flags -fPIE -nostdinc -isystem "$(gcc -print-file-name=include)" -I "$root/include" -c "$file" -o "$object"
-        objects="$objects $object"
+        compile "$file" "$object"
+        shift
+        set -- "$@" "$object"
     done
-    lib=$tools/lib
-    # shellcheck disable=SC2086
     "$tools/bin/ld.lld" -pie -dynamic-linker "$lib/ld-linux-x86-64.so.2" -o "$program" "$lib/Scrt1.o" "$lib/crti.o" "$lib/crtbeginS.o" \
-        $objects "$archive" "$lib/libc.so.6" "$lib/libc_nonshared.a" "$lib/libgcc.a" "$lib/crtendS.o" "$lib/crtn.o"
+        "$@" "$archive" "$lib/libc.so.6" "$lib/libc_nonshared.a" "$lib/libgcc.a" "$lib/crtendS.o" "$lib/crtn.o"
+    rm -f "$@"
 }
+
+usage() { sed -n '2,/^[^#]/s/^# \{0,1\}//p' "$0"; }
 
 case ${1-} in
 make)
+    [ $# = 1 ] || { usage >&2 && exit 2; }
     make_archive
     ;;
 build)
-    shift
+    [ $# -ge 3 ] || { usage >&2 && exit 2; }
+    program=$2
+    shift 2
     make_archive
-    build "$@"
+    mkdir -p "$(dirname "$program")"
+    if [ "$(uname -m)" = x86_64 ]; then native "$@"; else foreign "$@"; fi
     ;;
 run)
+    [ $# -ge 2 ] || { usage >&2 && exit 2; }
     shift
     if [ "$(uname -m)" = x86_64 ]; then exec "$@"; fi
     exec "$tools/bin/qemu-x86_64" "$tools/lib/ld-linux-x86-64.so.2" --library-path "$tools/lib" "$@"
     ;;
+--help | -h) usage ;;
 *)
-    sed -n '2,6s/^# \{0,1\}//p' "$0"
+    usage >&2
     exit 2
     ;;
 esac

@@ -1,4 +1,4 @@
-/* The builds and the cell query through the C interface: 01's listing of "square", its rooms, every number from 1 to 14 and 16, and each lent slice
+/* The builds and the cell query through the C interface: the listing of "square" (docs/RULES.md), its rooms, every number from 1 to 14 and 16, and each lent slice
  * to its last element and beyond. Exit status 1 where something differs.
  *
  * The inputs of 11 to 14 are those of harness/meshes; 15 cannot be had. The C library's headers are not used (tests/archive.sh says why). */
@@ -181,7 +181,7 @@ static void must_build(const char *what, const uint32_t *starts, const uint32_t 
     tell(what, got, 0, right);
 }
 
-/* ---- accepted: 01's listing, a fifth site, the unclipped mode, lost corners, empty cells */
+/* ---- accepted: the listing of docs/RULES.md, a fifth site, the unclipped mode, lost corners, empty cells */
 
 static const double five_points[] = {-.5, -.5, -.5, .5, .5, .5, .5, -.5, 7, 7};
 

@@ -1,6 +1,12 @@
 #!/bin/sh
 # The builds and the cell query through the C interface.
 set -eu
+case ${1-} in
+--help | -h)
+    sed -n '2,/^[^#]/s/^# \{0,1\}//p' "$0"
+    exit 0
+    ;;
+esac
 here=$(cd "$(dirname "$0")" && pwd)
 program=$here/../target/tests/builds
 "$here/archive.sh" build "$program" "$here/builds.c"

@@ -2,16 +2,18 @@
 # The program `cells`: on each mesh of examples/, harness/meshes/ and tests/cells/ it prints tests/cells/NAME.out, which harness/run.sh holds to the Rust;
 # and it refuses with 17 exactly the forms that are broken: cut at each byte, in a wrong order, with a record too many or bytes after the end.
 set -eu
+case ${1-} in
+--help | -h)
+    sed -n '2,/^[^#]/s/^# \{0,1\}//p' "$0"
+    exit 0
+    ;;
+esac
 cd "$(dirname "$0")/.."
-mkdir -p target/log
-rt check cells >target/log/cells.test 2>&1 || {
-    cat target/log/cells.test
-    exit 1
-}
+sh tests/prove.sh check cells
 meshes=0
 for text in examples/*.txt harness/meshes/*.txt tests/cells/*.txt; do
     name=$(basename "$text" .txt)
-    python3 tools/mesh encode <"$text" | sh tests/archive.sh run target/bin/cells | cmp - "tests/cells/$name.out"
+    tools/mesh encode "$text" 2>/dev/null | sh tests/archive.sh run target/bin/cells | cmp - "tests/cells/$name.out"
     meshes=$((meshes + 1))
 done
 echo "cells: $meshes meshes are listed or refused as stored"

@@ -4,10 +4,10 @@
  *
  * Every positive root is also held to the exact inequality of a nearest root in whole numbers, so that an emulated processor is not trusted alone.
  * The C library's headers are not used (tests/archive.sh says why). */
+#include "number.h"
 #include "voronoi.h"
 
 int printf(const char *format, ...);
-unsigned long long strtoull(const char *text, char **end, int base);
 
 #define SIGN (UINT64_C(1) << 63)
 #define LEAD (UINT64_C(1) << 52)
@@ -170,11 +170,11 @@ static void nan_of(uint64_t payload)
 
 int main(int count, char **words)
 {
-    if (count < 2) {
-        printf("usage: roots COUNT [SEED]\n");
+    uint64_t most = 0, seed = 754;
+    if (count < 2 || count > 3 || !number_of(words[1], &most) || (count > 2 && !number_of(words[2], &seed))) {
+        printf("usage: roots COUNT [SEED], whole numbers such as 20,000,000\n");
         return 2;
     }
-    uint64_t most = strtoull(words[1], 0, 10), seed = count > 2 ? strtoull(words[2], 0, 10) : 754;
     state = seed;
 
     corners();

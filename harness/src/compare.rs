@@ -1,4 +1,4 @@
-//! One case put to the Rust, to the second reading of 01 and to the proved library: any difference is told in words.
+//! One case put to the Rust, to the second reading of the rules and to the proved library: any difference is told in words.
 
 use crate::cases::Case;
 use crate::expect::{self, Accepted, Beside, Facts, Slices};
@@ -27,7 +27,7 @@ fn equal<T: PartialEq + std::fmt::Debug>(what: &str, theirs: &T, ours: &T) -> To
 /// An accepted build with its cells, or its number.
 type Outcome = Result<reference::Build, u32>;
 
-/// Builds with the Rust and by 01, which must agree; 11 and 12 come before the Rust is asked.
+/// Builds with the Rust and by the rules, which must agree; 11 and 12 come before the Rust is asked.
 pub fn build_both(m: &Mesh, lent: &rust::Lent, clip: Option<&Area>, tally: &mut Tally) -> Result<Outcome, String> {
     let ours = reference::build(m, clip, &mut tally.branches);
     if let Err(11 | 12) = ours {
@@ -41,8 +41,8 @@ pub fn build_both(m: &Mesh, lent: &rust::Lent, clip: Option<&Area>, tally: &mut 
             equal("cells", &t.cells, &o.plain())?;
         }
         (Err(n), Err(Ok(k))) => equal("refusal", &k, n)?,
-        (Ok(_), Err(k)) => return Err(format!("the Rust panics ({k:?}), 01 accepts")),
-        (Err(n), Ok(_)) => return Err(format!("the Rust builds, 01 refuses {n}")),
+        (Ok(_), Err(k)) => return Err(format!("the Rust panics ({k:?}), the rules accept")),
+        (Err(n), Ok(_)) => return Err(format!("the Rust builds, the rules refuse {n}")),
         (_, Err(Err(words))) => return Err(format!("the Rust panics with no number: {words}")),
     }
     Ok(ours)
@@ -182,7 +182,7 @@ fn walks(
         if seen.iter().any(|&k| k != 1) {
             return Err("walks: a half-edge is missed or repeated on an accepted mesh".to_string());
         }
-        // Every site of a small mesh, some of a large one, by the Rust and by 01.
+        // Every site of a small mesh, some of a large one, by the Rust and by the rules.
         for s in (0..m.count()).step_by(1 + m.count() / 64) {
             equal("walk", &rust::walk(v, s), &reference::walk(m, left, s))?;
             equal("neighbours", &rust::neighbours(v, s), &reference::neighbours(m, left, s))?;

@@ -1,10 +1,10 @@
-//! What each public call owes by document 01: its number, its values and every lent slice at exit.
+//! What each public call owes by the rules (docs/RULES.md): its number, its values and every lent slice at exit.
 //! Where the call is accepted the values are the Rust's own, handed in by the caller.
 
 use crate::mesh::{index_room, vertex_room, Area, Mesh, Pt, EMPTY};
 use crate::reference;
 
-/// What 01 says about a mesh before any question, worked out once.
+/// What the rules say about a mesh before any question, worked out once.
 #[derive(Clone, Debug)]
 pub struct Facts {
     pub counts: bool,

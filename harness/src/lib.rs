@@ -1,4 +1,4 @@
-//! The Rust's answers, document 01's answers, and the meshes that both are asked about.
+//! The Rust's answers, the rules' answers (docs/RULES.md), and the meshes that both are asked about.
 
 pub mod bench;
 pub mod cases;
@@ -15,3 +15,4 @@ pub mod rust;
 pub mod stored;
 pub mod tally;
 pub mod text;
+pub mod words;

@@ -141,13 +141,12 @@ impl Library {
         Library { process: None, names: Vec::new(), frame: Vec::new(), waiting: Vec::new(), compared: 0 }
     }
 
-    /// Starts the command that `VORONOI_SERVER` holds; without it there is no library to compare with.
+    /// Starts the command that `VORONOI_SERVER` holds, as a shell reads it; without it there is no library to compare with.
+    /// A server that has no call is an error.
     pub fn start() -> Result<Library, String> {
         let Ok(command) = std::env::var("VORONOI_SERVER") else { return Ok(Library::none()) };
-        let mut parts = command.split_whitespace();
-        let program = parts.next().ok_or("VORONOI_SERVER is empty")?;
-        let mut child = Command::new(program)
-            .args(parts)
+        let mut child = Command::new("sh")
+            .args(["-c", &format!("exec {command}")])
             .stdin(Stdio::piped())
             .stdout(Stdio::piped())
             .spawn()
@@ -161,6 +160,9 @@ impl Library {
         }
         let mut library = Library::none();
         library.names = line.split_whitespace().map(str::to_string).collect();
+        if library.names.is_empty() {
+            return Err(format!("{command}: the archive has none of the functions that are to be compared"));
+        }
         library.process = Some(Process { child, to, from });
         Ok(library)
     }

@@ -120,23 +120,6 @@ pub fn build(lent: &Lent, clip: Option<&Area>) -> Result<Built, Result<u32, Stri
     outcome.map_err(|message| panic_number(&message))
 }
 
-/// What the source makes of one ring alone: the cell, the vertices and the owners left.
-pub struct Ringed {
-    pub cell: Vec<u32>,
-    pub vertices: Vec<Pt>,
-    pub owners: Vec<u32>,
-}
-
-pub fn clip_ring(a: &Area, centers: &[Pt], added: &[Pt], owners: &[u32], site: u32, ring: &[u32]) -> Result<Ringed, Result<u32, String>> {
-    let points = |l: &[Pt]| l.iter().map(|&p| point(p)).collect::<Vec<_>>();
-    let outcome = caught(|| {
-        let (cell, vertices, left) =
-            source::cell_builder::open::clip_ring(&area(a), &points(centers), &points(added), &wide(owners), site as usize, &wide(ring));
-        Ringed { cell: narrow(&cell), vertices: vertices.iter().map(back).collect(), owners: narrow(&left) }
-    });
-    outcome.map_err(|message| panic_number(&message))
-}
-
 /// A mesh with its leftmost table and cells, as the source's iterators want it.
 pub fn diagram(lent: &Lent, cells: &[Vec<u32>]) -> Voronoi {
     Voronoi {

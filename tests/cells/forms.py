@@ -1,11 +1,11 @@
-"""Runs a program, given by its words, on each form stored for the program `forms`: it must print `refused 17` where `forms` says so, and only there.
+"""Runs a program, given by its words, on each form stored for the program `test_forms`: it must print `refused 17` where that says so, and only there.
 An input that goes on after the longest form is refused too."""
 import pathlib
 import struct
 import subprocess
 import sys
 
-forms = pathlib.Path(__file__).parents[2] / "crates/forms"
+forms = pathlib.Path(__file__).parents[2] / "crates/test_forms"
 data, verdicts = (forms / "stdin").read_bytes(), (forms / "stdout").read_text().splitlines()
 cases, at = [], 0
 for verdict in verdicts:

@@ -49,32 +49,6 @@ pub mod cell_builder {
         pub fn owners(builder: &CellBuilder) -> Vec<usize> {
             builder.corner_ownership.clone()
         }
-
-        /// A ring clipped alone: circumcenters, then the box's corners, then added points, as `build` would have them.
-        /// Answers the cell, the vertices and the owners left.
-        pub fn clip_ring(area: &BoundingBox, centers: &[Point], added: &[Point], owners: &[usize], site: usize, ring: &[usize]) -> (Vec<usize>, Vec<Point>, Vec<usize>) {
-            let mesh = Triangulation { triangles: vec![], halfedges: vec![], hull: vec![] };
-            let sites = vec![];
-            let mut builder = CellBuilder {
-                triangulation: &mesh,
-                sites: &sites,
-                vertices: centers.to_vec(),
-                site_to_incoming_leftmost_halfedge: vec![],
-                corner_ownership: owners.to_vec(),
-                is_vertex_inside_bounding_box: centers.iter().map(|c| area.is_inside(c)).collect(),
-                bounding_box: area.clone(),
-                clip_behavior: ClipBehavior::Clip,
-                first_corner_index: 0,
-                number_of_circumcenters: centers.len(),
-            };
-            builder.calculate_corners();
-            for p in added {
-                builder.add_new_vertex(p.clone());
-            }
-            let mut cell = vec![];
-            builder.clip_cell(&ring.to_vec(), &mut cell, site);
-            (cell, builder.vertices, builder.corner_ownership)
-        }
     }
 }
 

@@ -16,11 +16,16 @@ use harness::expect::{Facts, Lengths, Slices};
 use harness::library::{Call, Library};
 use harness::mesh::{Area, Mesh};
 use harness::rust;
+use harness::words::Words;
+
+const USAGE: &str = "bench [--rounds N] [--traps] [--full]
+bench --once SITES       one build by each side on uniform sites, for harness/count.sh
+bench --has              the library's calls";
 
 fn main() {
-    let args: Vec<String> = std::env::args().skip(1).collect();
-    let has = |name: &str| args.iter().any(|a| a == name);
-    let rounds = args.iter().position(|a| a == "--rounds").map(|i| args[i + 1].parse::<usize>().expect("a count"));
+    let words = Words::read(USAGE, &["--rounds", "--once"], &["--traps", "--full", "--has"]);
+    let has = |name: &str| words.has(name);
+    let rounds = words.number("--rounds").map(|n| n as usize);
     let mut library = Library::start().unwrap_or_else(|e| {
         eprintln!("{e}");
         std::process::exit(1)
@@ -29,8 +34,8 @@ fn main() {
         println!("{}", library.names().join(" "));
         return;
     }
-    if let Some(i) = args.iter().position(|a| a == "--once") {
-        let m = uniform(args[i + 1].parse().expect("a count"), false);
+    if let Some(sites) = words.number("--once") {
+        let m = uniform(sites as usize, false);
         rust_build(&rust::Lent::new(&m), &wide_box());
         if library.has("time_build") {
             library_once(&m, &wide_box(), &mut library);

@@ -1,4 +1,4 @@
-//! Puts cases to the Rust, to document 01 read a second time and to the proved library, and tells the first difference.
+//! Puts cases to the Rust, to the rules (docs/RULES.md) read a second time and to the proved library, and tells the first difference.
 //!
 //!     compare [--cases N] [--plane N] [--roots N] [--seed S] [--from I]
 //!     compare --case I [--seed S]      one mesh case alone, with its mesh
@@ -9,16 +9,17 @@
 use harness::cases::Case;
 use harness::library::{Difference, Library};
 use harness::tally::{Tally, CALLS};
+use harness::words::Words;
 use harness::{compare, plane, roots, rust, text};
 use std::time::{Duration, Instant};
 
+const USAGE: &str = "compare [--cases N] [--plane N] [--roots N] [--seed S] [--from I]
+compare --case I [--seed S]      one mesh case alone, with its mesh
+By default 20,000 meshes, 100,000 inputs to each plane function and 10,000 patterns of each class to the roots; 0 leaves a part out.";
+
 fn main() {
-    let args: Vec<String> = std::env::args().skip(1).collect();
-    let option = |name: &str| {
-        let at = args.iter().position(|a| a == name)?;
-        let word = args.get(at + 1).unwrap_or_else(|| stop(&format!("{name} wants a number")));
-        Some(word.replace([',', '_'], "").parse::<u64>().unwrap_or_else(|_| stop(&format!("{name} wants a number"))))
-    };
+    let words = Words::read(USAGE, &["--cases", "--plane", "--roots", "--seed", "--from", "--case"], &[]);
+    let option = |name: &str| words.number(name);
     let seed = option("--seed").unwrap_or(1);
     rust::quiet();
     let mut library = Library::start().unwrap_or_else(|e| stop(&e));
@@ -36,7 +37,7 @@ fn main() {
     }
 
     match library.names() {
-        [] => println!("NO LIBRARY: only the Rust and document 01 are compared"),
+        [] => println!("NO LIBRARY: only the Rust and the rules are compared"),
         names => println!("The library is asked: {}", names.join(" ")),
     }
     let cases = option("--cases").unwrap_or(20_000);

@@ -1,5 +1,5 @@
 //! Reads a text mesh (see src/text.rs) from the named file or standard input and prints what the Rust's release
-//! build answers, with the marks and refusals that document 01 adds beside it.
+//! build answers, with the marks and refusals that the rules (docs/RULES.md) add beside it.
 //!
 //!     oracle [FILE]            one mesh
 //!     oracle --check FILE..    only whether each file's `answer` lines are among what would be printed
@@ -12,9 +12,23 @@ use harness::text::{self, row, show};
 use harness::{form, rust};
 use std::io::{Read, Write};
 
+const USAGE: &str = "oracle [FILE]            one mesh, from a text: what the Rust answers
+oracle --check FILE..    only whether each file's `answer` lines are among what would be printed
+oracle --form FILE       the mesh as the program `cells` reads it, on standard output
+oracle --listing FILE    what the program `cells` must print for it";
+
 fn main() {
     rust::quiet();
     let args: Vec<String> = std::env::args().skip(1).collect();
+    const VERBS: [&str; 3] = ["--check", "--form", "--listing"];
+    if args.iter().any(|a| a == "--help" || a == "-h") {
+        println!("{USAGE}");
+        return;
+    }
+    let verb = args.first().is_some_and(|a| VERBS.contains(&a.as_str()));
+    if args[usize::from(verb)..].iter().any(|a| a.starts_with('-')) || (!verb && args.len() > 1) {
+        stop(&format!("unknown words: {}\n{USAGE}", args.join(" ")));
+    }
     let open = |file: &String| std::fs::read_to_string(file).unwrap_or_else(|e| stop(&format!("{file}: {e}")));
     if args.first().is_some_and(|a| a == "--check") {
         let mut answers = 0;
@@ -62,7 +76,7 @@ fn stop(words: &str) -> ! {
     std::process::exit(2)
 }
 
-/// The refusals up to 10 and 11, 12 are document 01's, before the Rust is asked; 13 to 15 are its panics.
+/// The refusals up to 10 and 11, 12 are the rules', before the Rust is asked; 13 to 15 are its panics.
 fn listing(input: &text::Input) -> Vec<String> {
     let m = &input.mesh;
     let number = if !reference::counts_sound(m) {
@@ -94,7 +108,7 @@ fn listing(input: &text::Input) -> Vec<String> {
                 lines.extend(built(o, input.clip.is_some()));
                 Some(t.cells)
             }
-            (o, t) => stop(&format!("DIFFERENCE between the Rust and the reading of 01:\nRust {t:?}\n01   {o:?}")),
+            (o, t) => stop(&format!("DIFFERENCE between the Rust and the reading of the rules:\nRust {t:?}\nrules {o:?}")),
         },
     };
     lines.extend(questions(m, &lent, cells, &input.paths));

@@ -1,4 +1,4 @@
-//! Sound meshes: real Delaunay ones and stranger ones that 01 accepts too.
+//! Sound meshes: real Delaunay ones and stranger ones that the rules accept too.
 
 use super::delaunay::{triangulate, Whole};
 use super::floats;

@@ -1,0 +1,54 @@
+/* The area of each gauge's piece, and their total: reads a mesh as text, such as examples/thirty.txt, from standard input. */
+#include "voronoi.h"
+int printf(const char *format, ...); /* declared here, so that it builds without the C library's headers too */
+int scanf(const char *format, ...);
+
+enum { N = 1000, T = 2000, H = 1000 }; /* room for sites, triangles and hull sites; up to 65536, 131072, 65536 */
+static double box[4], sites[2 * N], vertices[VORONOI_VERTEX_NUMBERS(T, H)];
+static uint32_t triangles[3 * T], halfedges[3 * T], hull[H], work[VORONOI_WORK_ROOM(N)], indexes[VORONOI_INDEX_ROOM(T, H)];
+static uint32_t offsets[VORONOI_OFFSET_ROOM(N)], counts[VORONOI_COUNTS];
+static size_t n, t, h; /* how many there are */
+
+static void read_mesh(void)
+{
+    char word[9];
+    uint32_t a;
+    while (n < N && t < T && h < H && scanf("%8s", word) == 1)
+        if (word[0] == 'b') /* box X Y WIDTH HEIGHT */
+            scanf("%lf%lf%lf%lf", &box[0], &box[1], &box[2], &box[3]);
+        else if (word[0] == 's') /* site X Y: y points down */
+            n += scanf("%lf%lf", &sites[2 * n], &sites[2 * n + 1]) == 2;
+        else if (word[0] == 't') { /* triangle A B C P Q R: counter-clockwise; the pairs are numbers or E */
+            scanf("%u%u%u", &triangles[3 * t], &triangles[3 * t + 1], &triangles[3 * t + 2]);
+            for (size_t e = 3 * t; e < 3 * t + 3; e++)
+                if (scanf("%u", &halfedges[e]) != 1)
+                    halfedges[e] = VORONOI_EMPTY, scanf(" E");
+            t++;
+        } else if (word[0] == 'h') /* hull A .. */
+            while (h < H && scanf("%u", &a) == 1)
+                hull[h++] = a;
+        else /* a comment */
+            scanf("%*[^\n]");
+}
+
+int main(void)
+{
+    read_mesh();
+    uint32_t refused = voronoi_build(box[0], box[1], box[2], box[3], sites, 2 * n, triangles, 3 * t, halfedges, 3 * t, hull, h, work, n,
+        vertices, VORONOI_VERTEX_NUMBERS(t, h), indexes, VORONOI_INDEX_ROOM(t, h), offsets, n + 1, counts, VORONOI_COUNTS);
+    if (refused)
+        return printf("refused %u: %s\n", refused, voronoi_words(refused)), 1;
+    double total = 0;
+    for (size_t site = 0; site < n; site++) {
+        double area = 0; /* by the shoelace formula, seen from the site; counter-clockwise with y downward */
+        for (uint32_t i = offsets[site]; i < offsets[site + 1]; i++) {
+            const double *a = vertices + 2 * indexes[i], *b = vertices + 2 * indexes[i + 1 < offsets[site + 1] ? i + 1 : offsets[site]];
+            double x = sites[2 * site], y = sites[2 * site + 1];
+            area += ((b[0] - x) * (a[1] - y) - (a[0] - x) * (b[1] - y)) / 2;
+        }
+        printf("site %u: area %.6f\n", (unsigned)site, area);
+        total += area;
+    }
+    printf("total %.6f, the box %.6f, corners lost %u\n", total, box[2] * box[3], counts[VORONOI_COUNT_LOST]);
+    return 0;
+}

@@ -1,0 +1,57 @@
+#!/bin/sh
+# The checks that take seconds and need no proof: tests/all runs them before the long one.
+# A check whose tool is not there (shellcheck, tools/house, tools/believed) is passed over, and said so. All are run, whatever the first says.
+set -eu
+case ${1-} in
+--help | -h)
+    sed -n '2,/^[^#]/s/^# \{0,1\}//p' "$0"
+    exit 0
+    ;;
+esac
+cd "$(dirname "$0")/.."
+said=$(mktemp)
+trap 'rm -f "$said"' EXIT
+failed=0
+
+check() { # NAME COMMAND WORD ..
+    name=$1
+    shift
+    if "$@" >"$said" 2>&1; then
+        echo "  $name: passed"
+    else
+        echo "  $name: FAILED"
+        sed 's/^/    /' "$said"
+        failed=$((failed + 1))
+    fi
+}
+
+passed_over() { echo "  $1: passed over, $2"; }
+
+# every script of tests/ is run by this file or by tests/all, or is there for others
+scripts_run() {
+    for script in tests/*.sh; do
+        grep -q "$script" tests/all tests/quick.sh || case $script in
+        tests/prove.sh) ;;
+        *) echo "$script is run by nothing" && return 1 ;;
+        esac
+    done
+}
+
+check "rt fmt" rt fmt --check
+if command -v shellcheck >/dev/null; then
+    check shellcheck shellcheck -x yelmuzard .ci/run tests/all tests/*.sh harness/*.sh
+else
+    passed_over shellcheck "it is not installed"
+fi
+if [ -f tools/house ]; then check tools/house python3 tools/house; else passed_over tools/house "it is not there"; fi
+if [ -f tools/believed ]; then check tools/believed python3 tools/believed --check; else passed_over tools/believed "it is not there"; fi
+check "scripts are run" scripts_run
+check "the Rust to compare with, where it is a must" sh harness/run.sh missing
+check tests/papers.sh sh tests/papers.sh
+check tests/missing.sh sh tests/missing.sh
+check tests/texts.sh sh tests/texts.sh
+check tests/forms.sh sh tests/forms.sh
+[ $failed = 0 ] || {
+    echo "quick checks: $failed failed"
+    exit 1
+}

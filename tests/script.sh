@@ -1,0 +1,60 @@
+#!/bin/sh
+# ./yelmuzard cells on what is built: a listing, refusals, output that fails, a mesh wound the wrong way; the words and the status of each.
+set -eu
+case ${1-} in
+--help | -h)
+    sed -n '2,/^[^#]/s/^# \{0,1\}//p' "$0"
+    exit 0
+    ;;
+esac
+cd "$(dirname "$0")/.."
+folder=$(mktemp -d)
+trap 'rm -rf "$folder"' EXIT
+
+must() { # STATUS WORDS FILE: the status, and the words on standard error
+    status=0
+    ./yelmuzard cells "$3" >"$folder/out" 2>"$folder/err" </dev/null || status=$?
+    if [ "$status" != "$1" ] || ! grep -q -- "$2" "$folder/err"; then
+        echo "yelmuzard cells $3: status $status, must be $1 with '$2'"
+        cat "$folder/out" "$folder/err"
+        exit 1
+    fi
+}
+
+for name in square thirty; do
+    for kind in form txt; do
+        ./yelmuzard cells "examples/$name.$kind" | cmp - "tests/cells/$name.out"
+    done
+done
+./yelmuzard cells - <examples/square.form | cmp - tests/cells/square.out
+./yelmuzard cells harness/meshes/square_unclipped.txt | cmp - tests/cells/square_unclipped.out
+
+must 1 "rule 13, says what to do" harness/meshes/refused_13_lone.txt
+cmp "$folder/out" tests/cells/refused_13_lone.out
+mkdir "$folder/a b"
+head -c 100 examples/square.form >"$folder/a b/cut"
+must 1 "the form is broken" "$folder/a b/cut"
+echo "box 0 0 2 2^99999" >"$folder/far.txt"
+must 2 "powers go from 2^-1074 to 2^1023" "$folder/far.txt"
+
+# square with its triangles and hull turned: built, with a warning, as a text and as a form
+sed -e 's/^triangle 0 1 2 .*/triangle 0 2 1  5 E E/; s/^triangle 0 2 3 .*/triangle 0 3 2  E E 0/' -e '/^hull/d' examples/square.txt >"$folder/turned.txt"
+echo "hull 3 2 1 0" >>"$folder/turned.txt"
+must 0 "warning: 2 of 2 triangles turn the wrong way" "$folder/turned.txt"
+python3 tools/mesh encode "$folder/turned.txt" >"$folder/turned" 2>/dev/null
+must 0 "warning: 2 of 2 triangles turn the wrong way" "$folder/turned"
+
+# output that cannot be written, and no place for what comes between
+for broken in 'examples/square.form >/dev/full' 'harness/meshes/refused_13_lone.txt >/dev/full'; do
+    status=0
+    sh -c "./yelmuzard cells $broken" 2>"$folder/err" || status=$?
+    if [ "$status" != 2 ] || ! grep -q "could not be written" "$folder/err"; then
+        echo "yelmuzard cells $broken: status $status"
+        cat "$folder/err"
+        exit 1
+    fi
+done
+status=0
+TMPDIR=$folder/none ./yelmuzard cells examples/square.form >/dev/null 2>"$folder/err" || status=$?
+[ "$status" = 2 ] || { echo "no folder: status $status" && exit 1; }
+echo "script: listings, refusals and failed output have their words and status"

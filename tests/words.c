@@ -1,0 +1,23 @@
+/* The header alone, with no archive: every number has its words, and the macros are what docs/RULES.md says. */
+#include "voronoi.h"
+
+int printf(const char *format, ...);
+
+static int same(const char *a, const char *b)
+{
+    for (; *a && *a == *b; a++, b++)
+        ;
+    return *a == *b;
+}
+
+int main(void)
+{
+    for (uint32_t a = 0; a <= VORONOI_REFUSED_FORM; a++) {
+        printf("%u %s\n", a, voronoi_words(a));
+        for (uint32_t b = a + 1; b <= VORONOI_REFUSED_FORM + 1; b++)
+            if (same(voronoi_words(a), voronoi_words(b)))
+                return 1;
+    }
+    return !same(voronoi_words(18), "no such number") || !same(voronoi_words(VORONOI_EMPTY), "no such number") ||
+           VORONOI_VERTEX_NUMBERS(2, 4) != 76 || VORONOI_INDEX_ROOM(2, 4) != 60;
+}
