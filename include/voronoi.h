@@ -2,7 +2,8 @@
  * meaning of every number, limit and term, docs/PUBLIC.md what is promised of each call.
  *
  * A call that can refuse answers a number, 0 where it accepts. A slice is a pointer and a length in elements; one of length 0
- * may have any pointer but NULL. Lent slices must not overlap. No call has another precondition, and each ends on every input.
+ * may have any pointer but NULL. Lent slices must not overlap; numbers lent by pointer must be distinct, and none may be NULL. No call has
+ * another precondition, and each ends on every input.
  * In C as in Rust, a slice must be as long as is said, and what a `const` pointer shows must not change during the call.
  *
  * Threads: a call reads and writes what it is lent and nothing else; it keeps no state, allocates nothing, and sets no flag or errno.

@@ -1,4 +1,4 @@
--- The box from centre and size, its corners and its size recomputed, what is inside it, and the side that a point is on.
+-- The box from center and size, its corners and its size recomputed, what is inside it, and the side that a point is on.
 use mathlib.Core.Bool.{Bool, _&&_}
 use mathlib.Core.List.{List, [], _∷_}
 use Prim.Native.Nat.{ℕ}

@@ -1,4 +1,4 @@
--- A box that keeps rule 3 has finite edges, corners and size, and its corners' squared distances to sites are finite. Assumes nothing.
+-- Theorem: a box that keeps rule 3 has finite edges, corners and size, and its corners' squared distances to sites are finite.
 use mathlib.Core.Path.{_≡_}
 use mathlib.Core.Bool.{true, _&&_}
 use Prim.{tt}
@@ -7,12 +7,13 @@ use native.Mathlib.Omega.{arith}
 use lib.Dec.{lit≤}
 use lib.ListN.{getD}
 use lib.Ieee.{Float, nan, binary64, ofBits, lt, le}
-use Rattle.laws.specs.And.{and-left, and-right, holds}
+use Rattle.laws.specs.laws.And.{and-left, and-right, holds}
 use Rattle.laws.specs.Binary64 as R
 use Rattle.laws.specs.Binary64.{_⊘_, two}
 use Rattle.numbers.specs.Numbers.{large}
-use Rattle.root.specs.Bounds.{Bounded, div-bound, two-more, sub-bound, add-bound}
-use Rattle.root.specs.Tested.{plus-bound}
+use Rattle.root.specs.laws.Bounds.{div-bound, two-more, sub-bound, add-bound}
+use Rattle.root.specs.Bounded.{Bounded}
+use Rattle.root.specs.laws.Tested.{plus-bound}
 use Rattle.utils.specs.Plane.{at, dist2Of}
 use Rattle.utils.specs.Rules.{okSite}
 use Rattle.utils.specs.Finite.{BoundedPoint, point-weaken, site-bounded, dist2-bounded}

@@ -1,4 +1,4 @@
--- Document 01's rule 3 on the box as given.
+-- Rule 3 on the box as given.
 use mathlib.Core.Bool.{Bool, _&&_}
 use lib.Ieee.{Float, lt, le}
 use Rattle.laws.specs.Binary64.{zero}

@@ -1,4 +1,4 @@
-// bounding_box.rs, the box: its sides and corners, what is inside it, and document 01's rule on it.
+// bounding_box.rs, the box: its sides and corners, what is inside it, and the rule on it.
 use utils::Point;
 use utils::abs_diff_eq;
 use utils::site_ok;
@@ -15,8 +15,6 @@ pub struct BoundingBox {
     pub bottom: f64,
 }
 
-const LARGE: f64 = 1267650600228229401496703205376.0;
-
 pub fn new(center: Point, width: f64, height: f64) -> BoundingBox
     ensures { λ r. ⌜ r ≡ madeOf center width height ⌝ }
 {
@@ -29,13 +27,13 @@ pub fn new(center: Point, width: f64, height: f64) -> BoundingBox
     }
 }
 
-pub fn box_ok(c: Point, width: f64, height: f64) -> bool
-    ensures { λ r. ⌜ r ≡ okBox c width height ⌝ }
+pub fn box_ok(center: Point, width: f64, height: f64) -> bool
+    ensures { λ r. ⌜ r ≡ okBox center width height ⌝ }
 {
-    let b = new(c, width, height);
-    let w = (width > 0.0) & (width <= LARGE);
-    let h = (height > 0.0) & (height <= LARGE);
-    site_ok(c) & w & h & ((b.left < b.right) & (b.top < b.bottom))
+    let b = new(center, width, height);
+    let w = (width > 0.0) & (width <= numbers::LARGE);
+    let h = (height > 0.0) & (height <= numbers::LARGE);
+    site_ok(center) & w & h & ((b.left < b.right) & (b.top < b.bottom))
 }
 
 pub fn width(b: BoundingBox) -> f64

@@ -1,4 +1,4 @@
--- When a build answers 0: on an accepted mesh with room, in a box that rule 3 admits, exactly where the definition refuses nothing; and demand 3 then.
+-- Theorem: when a build answers 0. On an accepted mesh with room, in a box that rule 3 admits, exactly where the definition refuses nothing; and demand 3 then.
 use mathlib.Core.Path.{_≡_, refl, sym, ap, _∙_}
 use mathlib.Core.Logic.{⊎-elim}
 use mathlib.Core.Bool.{Bool, true, false}
@@ -7,19 +7,26 @@ use Prim.Native.Nat.{ℕ}
 use native.Mathlib.Omega.{arith}
 use lib.Ieee.{Float}
 use Rattle.laws.specs.Pick.{pick}
+use Rattle.numbers.specs.Numbers.{refusedBox}
 use Rattle.utils.specs.declared.Point.{Point}
 use Rattle.bounding_box.specs.Box.{madeOf}
 use Rattle.bounding_box.specs.Finite.{BoundedBox, box-bounded}
 use Rattle.bounding_box.specs.Rules.{okBox}
 use Rattle.bounding_box.specs.declared.BoundingBox.{BoundingBox}
-use Rattle.queries.specs.Admits.{Admitted, admitted, admits}
+use Rattle.admission.specs.Asks.{boxAsk}
+use Rattle.admission.specs.Admits.{Admitted}
+use Rattle.admission.specs.Slices.{Slices, roomOf}
+use Rattle.admission.specs.laws.Admits.{admitted, admits}
 use Rattle.definition.specs.declared.Fault.{Fault}
 use Rattle.definition.specs.Fault.{Outcome, ok, refused}
 use Rattle.definition.specs.Build.{Built, build}
-use Rattle.definition.specs.Theorems.{Wrapping, Room, wrapping, room}
-use Rattle.outputs.specs.Lent.{faultOf}
-use Rattle.building.specs.Promise.{Slices, roomOf, boxAsk, built, builds-one, builds-cases, Answers, Clipped}
-use Rattle.building.specs.Refusals.{Refuses, Numbered, build-late}
+use Rattle.definition.specs.Theorems.{wrapping, room}
+use Rattle.definition.specs.Wrapping.{Wrapping}
+use Rattle.definition.specs.Measures.{Room}
+use Rattle.layout.specs.Outputs.{faultOf}
+use Rattle.building.specs.Promise.{BuildAnswers, ClippedBuild}
+use Rattle.building.specs.laws.Promise.{built, builds-one, builds-cases}
+use Rattle.building.specs.LateRefusals.{Refuses, Numbered, build-late}
 
 -- ---- 0
 
@@ -37,14 +44,14 @@ pub record Succeeds (sites : List Float) (tri he hull : List ℕ) (asked : ℕ) 
   pub outcome : Value o
 
 module _ {sites : List Float} {tri he hull : List ℕ} {asked : ℕ} {o : Outcome Fault Built} {old new : Slices} {r : ℕ} where
-  pub zero-succeeds : Refuses Numbered o → Answers sites tri he hull asked o old new r → r ≡ 0 → Succeeds sites tri he hull asked o old
+  pub zero-succeeds : Refuses Numbered o → BuildAnswers sites tri he hull asked o old new r → r ≡ 0 → Succeeds sites tri he hull asked o old
   zero-succeeds late a z =
       ⊎-elim
       (λ x. absurd (x .1 z))
       (λ x. record { admission = admitted (x .0) refl; outcome = value-of o late (sym (x .1) ∙ z) })
       (builds-cases (a .number))
 
-  pub succeeds-zero : Succeeds sites tri he hull asked o old → Answers sites tri he hull asked o old new r → r ≡ 0
+  pub succeeds-zero : Succeeds sites tri he hull asked o old → BuildAnswers sites tri he hull asked o old new r → r ≡ 0
   succeeds-zero s a = builds-one (a .number) (built (admits (s .admission))) ∙ ap (λ p. faultOf p .number) (s .outcome .is)
 
 -- ---- demand 3 on an accepted clipped build
@@ -52,18 +59,18 @@ pub box-admitted : (c : Point) (w h : Float) → boxAsk c w h ≡ 0 → BoundedB
 unfolding boxAsk
 box-admitted c w h e = box-bounded c w h (go (okBox c w h) e)
   where
-    go : (t : Bool) → pick {A = ℕ} t (λ _. 0) (λ _. 3) ≡ 0 → t ≡ true
+    go : (t : Bool) → pick {A = ℕ} t (λ _. 0) (λ _. refusedBox) ≡ 0 → t ≡ true
     go true q = refl
     go false q = absurd (omega arith)
 
 -- each corner is wrapped at most once, by its owner; and what is built fits its room
-pub record Sound (sites : List Float) (tri he hull : List ℕ) (b : BoundingBox) : Type 0 where
+pub record SoundBuild (sites : List Float) (tri he hull : List ℕ) (b : BoundingBox) : Type 0 where
   pub outcome : Value (build sites tri he hull b)
   pub wraps : Wrapping sites tri he hull b (outcome .value)
   pub fits : Room tri hull b (outcome .value)
 
 pub clipped-sound : {sites : List Float} {tri he hull : List ℕ} (c : Point) (w h : Float) {old new : Slices} {r : ℕ}
-    → Clipped sites tri he hull c w h old new r → r ≡ 0 → Sound sites tri he hull (madeOf c w h)
+    → ClippedBuild sites tri he hull c w h old new r → r ≡ 0 → SoundBuild sites tri he hull (madeOf c w h)
 clipped-sound {sites} {tri} {he} {hull} c w h a z =
     let s = zero-succeeds (build-late sites tri he hull (madeOf c w h)) a z in
     let box = box-admitted c w h (s .admission .fit) in

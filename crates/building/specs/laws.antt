@@ -1,7 +1,4 @@
 -- Laws that only proofs use.
-pub mod Admitting
-pub mod Clipping
-pub mod Counting
-pub mod Outcome
-pub mod Parts
-pub mod Rooming
+pub mod Promise
+pub mod BuildAnswer
+pub mod ClippedBuild

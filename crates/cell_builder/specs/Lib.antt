@@ -1,7 +1,4 @@
 -- The root of the crate's definitions.
-pub mod Standing
-pub mod Tries
-pub mod Turns
-pub mod Answer
+pub mod AdmittedBuild
 pub mod Start
 pub mod laws

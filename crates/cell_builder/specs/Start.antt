@@ -1,29 +1,25 @@
--- What the cells begin with, and what all of them come to: the functions' needs, and what the slices hold by the definition's outcome.
+-- What the cells begin with, and what all of them come to, by the definition's outcome.
 use mathlib.Core.Path.{_≡_}
 use mathlib.Core.List.{List, [], _++_}
 use Prim.Native.Nat.{ℕ, _+_, _-_, _*_, _/_, _^_, _≤_, _<_}
 use lib.Ieee.{Float}
 use lib.ListN.{length, getD, drop}
-use Rattle.laws.specs.Binary64.{zero}
-use Rattle.numbers.specs.Numbers.{EMPTY}
 use Rattle.utils.specs.Flat.{points}
 use Rattle.bounding_box.specs.Box.{cornersOf}
 use Rattle.bounding_box.specs.declared.BoundingBox.{BoundingBox}
 use Rattle.vertices.specs.Store.{Holds}
 use Rattle.mesh.specs.Accepted.{siteCount}
-use Rattle.layout.specs.Cleared.{clearedFrom}
-use Rattle.layout.specs.Regions.{Regions, Rising}
 use Rattle.definition.specs.declared.Fault.{Fault}
 use Rattle.definition.specs.Fault.{Outcome, ok, refused, fault}
-use Rattle.definition.specs.Build.{Extensions, extensions, extendFrom, clipAll}
-use Rattle.definition.specs.Theorems.{leftOf}
+use Rattle.definition.specs.Build.{Built, Extensions, extensions, extendFrom, clipAll}
 use Rattle.rings.specs.Extensions.{Extends}
-use Rattle.outputs.specs.Lent.{padded, Gathered}
-use Rattle.cell_builder.specs.declared.Frame.{Frame}
-use Rattle.cell_builder.specs.declared.Progress.{Progress}
-use Rattle.cell_builder.specs.declared.Answer.{Answer}
-use Rattle.cell_builder.specs.Standing.{ground, frameOf, Does}
-use Rattle.cell_builder.specs.Answer.{Admitted}
+use Rattle.cell_tries.specs.declared.Frame.{Frame}
+use Rattle.cell_finish.specs.declared.CellsAnswer.{CellsAnswer}
+use Rattle.cell_finish.specs.Finish.{outcomeAnswer, SettledCells}
+use Rattle.layout.specs.Outputs.{BuiltInto}
+use Rattle.cell_finish.specs.declared.Progress.{Progress}
+use Rattle.cell_tries.specs.CellsInSlices.{ground, frameOf, Does}
+use Rattle.cell_builder.specs.AdmittedBuild.{AdmittedBuild}
 
 -- ---- corners and extensions
 
@@ -49,15 +45,15 @@ pub record Begun (h : ℕ) (f : Frame) (found : List ℕ) (x : Extensions) (ix :
   pub numbers : (i : ℕ) → i < h → getD ix₁ (f .limit - h + i) 0 ≡ getD (x .at) i 0
   pub before : (k : ℕ) → k < f .limit - h → getD ix₁ k 0 ≡ getD ix k 0
 
-abbrev pub Begins : ℕ → Frame → List ℕ → Outcome Fault Extensions → List ℕ → Progress → List Float → List ℕ → Type 0
-Begins h f found (ok x) ix p v₁ ix₁ = Begun h f found x ix p v₁ ix₁
-Begins h f found (refused e) ix p v₁ ix₁ = (p .fault ≡ e) × (0 < e .number)
+abbrev pub BegunBy : ℕ → Frame → List ℕ → Outcome Fault Extensions → List ℕ → Progress → List Float → List ℕ → Type 0
+BegunBy h f found (ok x) ix p v₁ ix₁ = Begun h f found x ix p v₁ ix₁
+BegunBy h f found (refused e) ix p v₁ ix₁ = (p .fault ≡ e) × (0 < e .number)
 
 -- ---- all cells
 
 -- owners that are sites of the mesh
 pub record Makeable (sites : List Float) (tri he hull table : List ℕ) (b : BoundingBox) (owners : List ℕ) (numbers indexes offsets : ℕ) : Type 0 where
-  pub admitted : Admitted sites tri he hull table b numbers indexes offsets
+  pub admitted : AdmittedBuild sites tri he hull table b numbers indexes offsets
   pub four : length owners ≡ 4
   pub owner-sites : (k : ℕ) → k < 4 → getD owners k 0 < siteCount sites
 
@@ -68,22 +64,26 @@ Makes sites tri he hull table b owners (ok x) p v₁ ix₁ off₁ =
     Does tri he (frameOf b (length tri) (length hull)) off₁ (ground hull (siteCount sites) owners x) (clipAll b (length tri / 3) tri he hull table (siteCount sites) owners x) p v₁ ix₁
 Makes sites tri he hull table b owners (refused e) p v₁ ix₁ off₁ = (p .fault ≡ e) × (0 < e .number)
 
--- ---- the end
+-- on the circumcenters that stand in v
+abbrev pub MadeCells : List Float → List ℕ → List ℕ → List ℕ → List ℕ → BoundingBox → List ℕ → List Float → Progress → List Float → List ℕ → List ℕ → Type 0
+MadeCells sites tri he hull table b owners v p v₁ ix₁ off₁ =
+    Makes sites tri he hull table b owners (extendedOf sites tri hull table b (length tri / 3) v) p v₁ ix₁ off₁
 
--- all three slices cleared
-pub record Emptied (v : List Float) (ix off : List ℕ) (v₁ : List Float) (ix₁ off₁ : List ℕ) : Type 0 where
-  pub vertices : v₁ ≡ padded (length v) zero []
-  pub indexes : ix₁ ≡ padded (length ix) EMPTY []
-  pub offsets : off₁ ≡ padded (length off) EMPTY []
+-- ---- all cells, and the answer
 
--- regions of n sites that can be moved together, and a count of vertices that the slice of so many numbers holds
-pub record Finishable (n count numbers : ℕ) (ix off : List ℕ) : Type 0 where
-  pub rising : Rising off n (length ix)
-  pub small : getD off n 0 < EMPTY
-  pub room : 2 * count ≤ numbers
+-- the answer by the definition's outcome, and what the slices hold
+abbrev pub AnsweredBuild : Outcome Fault Built → List Float → List ℕ → List ℕ → CellsAnswer → List Float → List ℕ → List ℕ → Type 0
+AnsweredBuild o v ix off r v₁ ix₁ off₁ = (r ≡ outcomeAnswer o) × BuiltInto o v ix off v₁ ix₁ off₁
 
--- the cells that stood in the regions moved together, the vertices after the count cleared
-pub record Finished (n : ℕ) (p : Progress) (found : List ℕ) (v : List Float) (ix off : List ℕ) (r : Answer) (v₁ : List Float) (ix₁ off₁ : List ℕ) : Type 0 where
-  pub answer : r ≡ record { fault = p .fault; count = p .count; owners = found; lost = leftOf (p .owners) }
-  pub vertices : v₁ ≡ clearedFrom (2 * p .count) zero v
-  pub gathered : (cells : List (List ℕ)) → length cells ≡ n → Regions ix off cells → Gathered cells ix off ix₁ off₁
+-- all cells made, by the outcome of the extensions, and settled from there
+pub record BuiltCells (sites : List Float) (tri he hull table : List ℕ) (b : BoundingBox) (owners : List ℕ) (v : List Float) (ix off : List ℕ)
+    (r : CellsAnswer) (v₁ : List Float) (ix₁ off₁ : List ℕ) : Type 0 where
+  pub progress : Progress
+  pub made-v : List Float
+  pub made-ix : List ℕ
+  pub made-off : List ℕ
+  pub makes : MadeCells sites tri he hull table b owners v progress made-v made-ix made-off
+  pub settled : SettledCells (siteCount sites) progress owners made-v made-ix made-off r v₁ ix₁ off₁
+  pub long-v : length made-v ≡ length v
+  pub long-ix : length made-ix ≡ length ix
+  pub long-off : length made-off ≡ length off

@@ -1,10 +1,3 @@
 -- Laws that only proofs use.
-pub mod Agree
-pub mod Along
-pub mod Finishing
-pub mod LeftOver
-pub mod Rings
-pub mod Starting
-pub mod Trying
-pub mod Turning
-pub mod TwoKinds
+pub mod BuildOutcome
+pub mod FirstCells

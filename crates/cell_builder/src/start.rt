@@ -1,24 +1,24 @@
 // What the cells begin with: the frame of the index list, the box's corners, the hull's extensions.
-use crate::Frame;
-use crate::Progress;
 use bounding_box::BoundingBox;
 use bounding_box::corners;
+use cell_finish::Progress;
+use cell_tries::Frame;
 use definition::Fault;
 use rings::extensions::extend_hull;
 use vertices::calculate_corners;
 ghost use mathlib.Core.Path.{_≡_};
 ghost use Prim.Native.Nat.{_≤_};
 ghost use lib.ListN.{length};
-ghost use Rattle.cell_builder.specs.Standing.{frameOf};
-ghost use Rattle.cell_builder.specs.Start.{extendedOf, Extendable, Begins};
+ghost use Rattle.cell_tries.specs.CellsInSlices.{frameOf};
+ghost use Rattle.cell_builder.specs.Start.{extendedOf, Extendable, BegunBy};
 
 // For so many entries of the triangle list and so many hull sites.
-pub fn frame(b: BoundingBox, entries: usize, hull: usize) -> Frame
+pub fn frame(bounds: BoundingBox, entries: usize, hull: usize) -> Frame
     requires { ⌜ (entries ≤ 393216) × (hull ≤ 65536) ⌝ }
-    ensures { λ r. ⌜ r ≡ frameOf b entries hull ⌝ }
+    ensures { λ r. ⌜ r ≡ frameOf bounds entries hull ⌝ }
 {
     Frame {
-        bounds: b,
+        bounds: bounds,
         centers: entries / 3,
         stage: 3 * entries + 6 * hull + 4,
         limit: 4 * entries + 8 * hull + 4,
@@ -31,26 +31,26 @@ pub fn extend(
     triangles: &[u32],
     hull: &[u32],
     table: &[u32],
-    v: &mut [f64],
-    ix: &mut [u32],
+    vertices: &mut [f64],
+    indexes: &mut [u32],
     f: Frame,
     owners: [u32; 4],
 ) -> Progress
-    requires { ⌜ Extendable (now sites) (now triangles) (now hull) (now table) f (length (now v)) (length (now ix)) ⌝ }
-    ensures { λ r. ⌜ Begins (length (now (hull .entry))) f owners
-        (extendedOf (now (sites .entry)) (now (triangles .entry)) (now (hull .entry)) (now (table .entry)) (f .bounds) (f .centers) (now (v .entry)))
-        (now (ix .entry)) r (now (v .exit)) (now (ix .exit)) ⌝ }
+    requires { ⌜ Extendable (now sites) (now triangles) (now hull) (now table) f (length (now vertices)) (length (now indexes)) ⌝ }
+    ensures { λ r. ⌜ BegunBy (length (now (hull .entry))) f owners
+        (extendedOf (now (sites .entry)) (now (triangles .entry)) (now (hull .entry)) (now (table .entry)) (f .bounds) (f .centers) (now (vertices .entry)))
+        (now (indexes .entry)) r (now (vertices .exit)) (now (indexes .exit)) ⌝ }
 {
     let bounds = f.bounds;
-    let count = calculate_corners(v, ix, f.limit, f.centers, corners(bounds));
+    let count = calculate_corners(vertices, indexes, f.limit, f.centers, corners(bounds));
     let numbers = f.limit - hull.len();
     let passed = extend_hull(
         sites,
         triangles,
         hull,
         table,
-        v,
-        ix,
+        vertices,
+        indexes,
         numbers,
         f.limit,
         f.centers,

@@ -1,4 +1,4 @@
--- No form has more than 6,946 bytes. So 6,947 bytes of an input decide what is printed for it, however long it is.
+-- Theorem: no form has more than 6,946 bytes. So 6,947 bytes of an input decide what is printed for it, however long it is.
 use mathlib.Core.Path.{_≡_, refl, ap, _∙_, subst}
 use mathlib.Core.List.{List, [], _∷_, _++_}
 use mathlib.Core.Logic.{⊎-elim}
@@ -6,7 +6,7 @@ use Prim.Native.Nat.{ℕ, _*_, _≤_, _<_}
 use native.Mathlib.Omega.{arith}
 use lib.ListN.{length, take, length-append}
 use lib.Seq.{take-all, length-take-le}
-use Rattle.laws.specs.Decide.{lt-or-ge}
+use Rattle.laws.specs.laws.Decide.{lt-or-ge}
 use Rattle.form.specs.Form.{Outline, box, unclipped, FormMesh, MeshFits, IsForm, formOf, each, numbersOf, outlineBytes, siteBytes, triangleBytes, hullBytes}
 use Rattle.cells.specs.Printed.{Prints, sound, broken}
 use Rattle.cells.specs.laws.FormLists.{numbers-length}

@@ -1,4 +1,4 @@
--- No two texts may be printed for one input.
+-- Theorem: no two texts may be printed for one input.
 use mathlib.Core.Path.{_≡_, refl, sym, ap, _∙_}
 use mathlib.Core.Bool.{true, false}
 use mathlib.Core.List.{List}
@@ -7,7 +7,7 @@ use native.Mathlib.Omega.{arith}
 use lib.Ieee.{Float}
 use lib.ListN.{replicate, length-replicate}
 use Rattle.laws.specs.Binary64 as B
-use Rattle.queries.specs.Admits.{admits-one}
+use Rattle.admission.specs.laws.Admits.{admits-one}
 use Rattle.definition.specs.declared.Fault.{Fault}
 use Rattle.definition.specs.Fault.{Outcome}
 use Rattle.definition.specs.Build.{Built}

@@ -11,13 +11,13 @@ use Rattle.utils.specs.Plane.{at}
 use Rattle.utils.specs.declared.Point.{Point}
 use Rattle.bounding_box.specs.Box.{madeOf}
 use Rattle.mesh.specs.Accepted.{siteCount}
-use Rattle.queries.specs.Admits.{Admits}
+use Rattle.admission.specs.Admits.{Admits}
 use Rattle.definition.specs.declared.Fault.{Fault}
 use Rattle.definition.specs.Fault.{Outcome, ok, refused}
 use Rattle.definition.specs.Build.{Built, build}
 use Rattle.definition.specs.Unclipped as definition
-use Rattle.outputs.specs.Lent.{unmarked}
-use Rattle.building.specs.Promise.{boxAsk}
+use Rattle.definition.specs.Cell.{unmarked}
+use Rattle.admission.specs.Asks.{boxAsk}
 use Rattle.form.specs.Form.{Outline, box, unclipped, FormMesh, MeshFits, IsForm, formOf, numbersOf, float, siteFloats, triangleSites, trianglePairs}
 use Rattle.listing.specs.Listing.{counts, cellLine, corners, refusal}
 

@@ -1,4 +1,4 @@
--- "square" (docs/RULES.md), from its 172 bytes to its listing: the bytes are the form of its mesh, and the text of that mesh's build is the one there. By computation.
+-- Rows: "square" (docs/RULES.md), from its 172 bytes to its listing: the bytes are the form of its mesh, and the text of that mesh's build is the one there. By computation.
 use mathlib.Core.Path.{_≡_, refl}
 use mathlib.Core.List.{List}
 use Rattle.mesh.specs.Mesh.{nextOf, chosen, tableTo, turnOf, walkOf}
@@ -7,17 +7,18 @@ use lib.Count.{trailingZeros}
 use lib.Ieee.{ofBits, add, sub, mul, div, lt, le, eq, neg, sum, round, units, odd, size, span, climb}
 use Rattle.laws.specs.Count.{same}
 use Rattle.root.specs.Sqrt.{wholeRoot, nearestRoot, rootOfUnits, sqrtOf}
-use Rattle.utils.specs.Plane.{at, nearOf, dist2Of, centreOf}
-use Rattle.utils.specs.Rules.{okCentre}
+use Rattle.utils.specs.Plane.{at, nearOf, dist2Of, centerOf}
+use Rattle.utils.specs.Rules.{okCenter}
 use Rattle.bounding_box.specs.Box.{madeOf, cornersOf, insideOf, firstSide, whichOf}
-use Rattle.crossings.specs.Cross.{oneIf, twoIf, firstHeld, orderPick, eitherOf, rightHit, leftHit, topHit, bottomHit, uprightHit, settleOf, lineOf, orderBy, orderOne, orderTwo, rayOf}
+use Rattle.crossings.specs.Ray.{orderPick, eitherOf, orderBy, orderOne, orderTwo, rayOf}
+use Rattle.line_crossings.specs.Line.{oneIf, twoIf, firstHeld, rightHit, leftHit, topHit, bottomHit, uprightHit, settleOf, lineOf}
 use Rattle.vertices.specs.Add.{nearPt, findNear, addVertex}
-use Rattle.mesh.specs.Hull.{afterOf}
+use Rattle.mesh.specs.Hull.{nextPlace}
 use Rattle.iterator.specs.Neighbours.{lastEnd, startsOf, neighboursOf}
-use Rattle.iterator.specs.Path.{distOf, nearestOf, hopOf, pathEnd}
-use Rattle.definition.specs.Cell.{wraps, around, insertAt, insertEdge, edgeCrossing, clipWith, clipEdge, leave, enterAt, enter, link, crossAt, cross}
+use Rattle.paths.specs.Path.{distOf, nearestOf, hopOf, pathEnd}
+use Rattle.definition.specs.Cell.{wraps, withCorners, insertAt, insertEdge, edgeCrossing, clipWith, clipEdge, leave, enterAt, enter, link, crossAt, cross}
 use Rattle.definition.specs.Cell.{clipStep, inBox, stepTo, stepsTo, firstInside, turned, clipFrom, clipCell}
-use Rattle.definition.specs.Build.{Built, centreAt, centresFrom, ownersFrom, extended, extendFrom, hullRing, clipInto, clipHull, clipRest, wrappedIn, allWrapped, lostFrom, clipAll, build}
+use Rattle.definition.specs.Build.{Built, centerAt, centersFrom, ownersFrom, extended, extendFrom, hullRing, clipInto, clipHull, clipRest, wrappedIn, allWrapped, lostFrom, clipAll, build}
 use Prim.Native.Nat.{ℕ}
 use lib.ListN.{length}
 use Rattle.definition.specs.declared.Fault.{Fault}
@@ -28,7 +29,7 @@ use Rattle.listing.specs.Listing.{entries, labelled, counts, cellLine, corners}
 use Rattle.cells.specs.Printed.{linesOf, boxText}
 
 -- the text of a build of n sites and T triangles, where it is not refused
-abbrev texted : ℕ → ℕ → Outcome Fault Built → Outcome Fault (List ℕ)
+abbrev pub texted : ℕ → ℕ → Outcome Fault Built → Outcome Fault (List ℕ)
 texted n T (ok b) = ok (boxText n T b)
 texted n T (refused f) = refused f
 
@@ -39,10 +40,10 @@ pub rows :
     (square .hull) (madeOf (at (float 0) (float 0)) (float two-is) (float two-is)))
     ≡ ok (ascii "sites 4 triangles 2 vertices 14\ncell 0: 1 10 2 11 0\ncell 1: 0 11 3 12\ncell 2: 0 12 4 13 1\ncell 3: 1 13 5 10\ncorners 0 1 2 3 lost 0\n"))
 unfolding trailingZeros ofBits add sub mul div lt le eq neg sum round units odd size span climb same wholeRoot nearestRoot rootOfUnits sqrtOf nearOf
-    dist2Of centreOf okCentre madeOf cornersOf insideOf firstSide whichOf oneIf twoIf firstHeld orderPick eitherOf rightHit leftHit topHit bottomHit
-    uprightHit settleOf lineOf orderBy orderOne orderTwo rayOf nearPt findNear addVertex nextOf chosen tableTo turnOf walkOf afterOf lastEnd startsOf
-    neighboursOf distOf nearestOf hopOf pathEnd andThen atEdge wraps around insertAt insertEdge edgeCrossing clipWith clipEdge leave enterAt enter
-    link crossAt cross clipStep inBox stepTo stepsTo firstInside turned clipFrom clipCell centreAt centresFrom ownersFrom extended extendFrom hullRing
+    dist2Of centerOf okCenter madeOf cornersOf insideOf firstSide whichOf oneIf twoIf firstHeld orderPick eitherOf rightHit leftHit topHit bottomHit
+    uprightHit settleOf lineOf orderBy orderOne orderTwo rayOf nearPt findNear addVertex nextOf chosen tableTo turnOf walkOf nextPlace lastEnd startsOf
+    neighboursOf distOf nearestOf hopOf pathEnd andThen atEdge wraps withCorners insertAt insertEdge edgeCrossing clipWith clipEdge leave enterAt enter
+    link crossAt cross clipStep inBox stepTo stepsTo firstInside turned clipFrom clipCell centerAt centersFrom ownersFrom extended extendFrom hullRing
     clipInto clipHull clipRest wrappedIn allWrapped lostFrom clipAll build formOf squareBytes linesOf digits decimal entries labelled counts cellLine
     corners
 rows = (refl, refl, refl)

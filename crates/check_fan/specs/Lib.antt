@@ -1,5 +1,4 @@
 -- The root of the crate's definitions.
+pub mod Counts
 pub mod Answer
-pub mod Total
-pub mod Owed
-pub mod Loops
+pub mod laws

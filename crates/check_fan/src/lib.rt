@@ -9,9 +9,7 @@ ghost use Rattle.laws.specs.Decide.{First};
 ghost use Rattle.numbers.specs.Numbers.{EMPTY};
 ghost use Rattle.mesh.specs.Mesh.{leftmostOf, tableTo, FanAt, Paired};
 ghost use Rattle.check_fan.specs.Answer.{FanAnswer};
-ghost use Rattle.check_fan.specs.Total.{totalTo};
-ghost use Rattle.check_fan.specs.Owed.{lessOf, owedTo};
-ghost use Rattle.check_fan.specs.Loops.{Lengths};
+ghost use Rattle.check_fan.specs.Counts.{totalTo, lessOf, owedTo, WalkLengths, CountedDown};
 
 // Whether the walks from the table's entries have as many entries together as there are half-edges.
 fn walks_cover(halfedges: &[u32], table: &[u32]) -> bool
@@ -32,8 +30,8 @@ fn walks_cover(halfedges: &[u32], table: &[u32]) -> bool
 
 // Each entry of the table becomes the length of the walk that starts there.
 fn lengths(halfedges: &[u32], work: &mut [u32])
-    requires { ⌜ (length (now halfedges) % 3 ≡ 0) × (length (now halfedges) < 4294967295) ⌝ }
-    ensures { λ _. ⌜ Lengths (now (halfedges .entry)) (now (work .entry)) (now (work .exit)) ⌝ }
+    requires { ⌜ (length (now halfedges) % 3 ≡ 0) × (length (now halfedges) < EMPTY) ⌝ }
+    ensures { λ _. ⌜ WalkLengths (now (halfedges .entry)) (now (work .entry)) (now (work .exit)) ⌝ }
 {
     let mut s = 0;
     while s < work.len() {
@@ -89,14 +87,15 @@ fn first_owing(work: &[u32], n: usize) -> usize
 fn first_broken(triangles: &[u32], halfedges: &[u32], sites: usize, work: &mut [u32]) -> usize
     requires { ⌜ (length (now halfedges) ≡ length (now triangles)) × Paired (now triangles) (now halfedges) × (sites ≤ length (now work))
         × ((k : ℕ) → k < length (now triangles) → getD (now triangles) k 0 < sites) × (now work ≡ tableTo (now triangles) (now halfedges) (length (now work)) (length (now triangles))) ⌝ }
-    ensures { λ r. ⌜ First (FanAt (now (triangles .entry)) (now (halfedges .entry)) (leftmostOf (now (triangles .entry)) (now (halfedges .entry)) sites)) sites r ⌝ }
+    ensures { λ r. ⌜ First (FanAt (now (triangles .entry)) (now (halfedges .entry)) (leftmostOf (now (triangles .entry)) (now (halfedges .entry)) sites)) sites r
+        × CountedDown (now (triangles .entry)) (now (halfedges .entry)) (now (work .entry)) (now (work .exit)) ⌝ }
 {
     lengths(halfedges, work);
     count_off(triangles, work);
     first_owing(work, sites)
 }
 
-// Rule 10, with the leftmost table left in the work slice if it holds.
+// Rule 10, with the leftmost table left in the work slice if it holds, else what counting down has left of it.
 pub fn check_fan(triangles: &[u32], halfedges: &[u32], sites: usize, work: &mut [u32]) -> usize
     requires { ⌜ (length (now halfedges) ≡ length (now triangles)) × Paired (now triangles) (now halfedges) × (sites ≤ length (now work))
         × ((k : ℕ) → k < length (now triangles) → getD (now triangles) k 0 < sites) ⌝ }

@@ -3,25 +3,13 @@ use numbers::EMPTY;
 ghost use mathlib.Core.Path.{_≡_};
 ghost use Prim.Native.Nat.{ℕ, _%_, _<_, _≤_};
 ghost use lib.ListN.{length, getD};
+ghost use Rattle.numbers.specs.Numbers.{EMPTY};
 ghost use Rattle.laws.specs.Decide.{Says, First};
 ghost use Rattle.mesh.specs.Mesh.{startOf};
-ghost use Rattle.mesh.specs.Hull.{afterOf, FreshAt};
-ghost use Rattle.check_hull.specs.Answer.{HullAnswer};
-ghost use Rattle.check_hull.specs.Marks.{marksTo, leadsOf, unmarkAt, leftTo, TakesAt};
-ghost use Rattle.check_hull.specs.Unmarked.{GoneAt};
-ghost use Rattle.check_hull.specs.Loops.{lowestOf, answerOf};
-use mesh::Fault;
-
-// The place after place i.
-pub fn after(h: usize, i: usize) -> usize
-    requires { ⌜ i < h ⌝ }
-    ensures { λ r. ⌜ (r ≡ afterOf h i) × (r < h) ⌝ }
-{
-    if i + 1 == h {
-        return 0;
-    }
-    i + 1
-}
+ghost use Rattle.mesh.specs.Hull.{FreshAt};
+ghost use Rattle.check_hull.specs.Answer.{HullAnswer, MarksLeft};
+ghost use Rattle.check_hull.specs.Marks.{marksTo, leadsOf, unmarkAt, leftTo, TakesAt, GoneAt, lowestOf, hullFaultOf};
+use mesh::MeshFault;
 
 // Whether m is a place, and site b stands at the place after it.
 fn leads(hull: &[u32], m: usize, b: u32) -> bool
@@ -30,13 +18,13 @@ fn leads(hull: &[u32], m: usize, b: u32) -> bool
     if hull.len() <= m {
         return false;
     }
-    let next = after(hull.len(), m);
+    let next = mesh::next_place(hull.len(), m);
     hull[next] == b
 }
 
 // Marks each hull site with its place. Answers the lowest place whose site is none or stands earlier too, or the number of places.
 fn mark_hull(hull: &[u32], sites: usize, work: &mut [u32]) -> usize
-    requires { ⌜ (sites ≤ length (now work)) × (length (now hull) < 4294967295) ⌝ }
+    requires { ⌜ (sites ≤ length (now work)) × (length (now hull) < EMPTY) ⌝ }
     ensures { λ r. ⌜ First (FreshAt (now (hull .entry)) sites) (length (now (hull .entry))) r × (now (work .exit) ≡ marksTo (now (hull .entry)) (length (now (work .entry))) r) ⌝ }
 {
     mesh::clear(work);
@@ -130,32 +118,33 @@ fn first_kept(hull: &[u32], work: &[u32], n: usize) -> usize
     i
 }
 
-fn answer(kept: usize, places: usize, stray: usize, edges: usize) -> Fault
-    ensures { λ r. ⌜ r ≡ answerOf kept places stray edges ⌝ }
+fn hull_fault(kept: usize, places: usize, stray: usize, edges: usize) -> MeshFault
+    ensures { λ r. ⌜ r ≡ hullFaultOf kept places stray edges ⌝ }
 {
     if kept < places {
-        return Fault::HullPlace(kept);
+        return MeshFault::HullPlace(kept);
     }
     if stray < edges {
-        return Fault::HullEdge(stray);
+        return MeshFault::HullEdge(stray);
     }
-    Fault::None
+    MeshFault::None
 }
 
-// Rule 9. The work slice holds nothing of use then.
+// Rule 9. The work slice holds the marks that are left.
 pub fn check_hull(
     triangles: &[u32],
     halfedges: &[u32],
     hull: &[u32],
     sites: usize,
     work: &mut [u32],
-) -> Fault
+) -> MeshFault
     requires { ⌜ (length (now triangles) % 3 ≡ 0) × (length (now halfedges) ≡ length (now triangles)) × (sites ≤ length (now work))
-        × (length (now hull) < 4294967295) × ((k : ℕ) → k < length (now triangles) → getD (now triangles) k 0 < length (now work)) ⌝ }
-    ensures { λ r. ⌜ HullAnswer (now (triangles .entry)) (now (halfedges .entry)) (now (hull .entry)) sites r ⌝ }
+        × (length (now hull) < EMPTY) × ((k : ℕ) → k < length (now triangles) → getD (now triangles) k 0 < length (now work)) ⌝ }
+    ensures { λ r. ⌜ HullAnswer (now (triangles .entry)) (now (halfedges .entry)) (now (hull .entry)) sites r
+        × MarksLeft (now (triangles .entry)) (now (halfedges .entry)) (now (hull .entry)) sites (now (work .entry)) (now (work .exit)) ⌝ }
 {
     let fresh = mark_hull(hull, sites, work);
     let stray = unmark(triangles, halfedges, hull, work);
     let kept = first_kept(hull, work, fresh);
-    answer(kept, hull.len(), stray, triangles.len())
+    hull_fault(kept, hull.len(), stray, triangles.len())
 }

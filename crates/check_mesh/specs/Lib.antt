@@ -1,6 +1,5 @@
 -- The root of the crate's definitions.
 pub mod AtExit
 pub mod Answers
-pub mod Laws
-pub mod Rounds
-pub mod Steps
+pub mod Verdict
+pub mod laws

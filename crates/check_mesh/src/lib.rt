@@ -2,27 +2,28 @@
 ghost use mathlib.Core.Path.{_≡_};
 ghost use Prim.Native.Nat.{_%_, _<_, _≤_};
 ghost use lib.ListN.{length};
+ghost use Rattle.numbers.specs.Numbers.{EMPTY};
 ghost use Rattle.laws.specs.Decide.{Says};
 ghost use Rattle.mesh.specs.Mesh.{AllSound, AllPaired};
 ghost use Rattle.mesh.specs.Rules.{numberOf};
 ghost use Rattle.mesh.specs.Accepted.{Counted};
 ghost use Rattle.check_mesh.specs.Answers.{ShapeAnswer, BorderAnswer, TopologyAnswer, MeshAnswer};
-use mesh::Fault;
+use mesh::MeshFault;
 
-// 01's number.
-pub fn number(f: Fault) -> u32
+// The number of a fault (docs/RULES.md).
+pub fn number(f: MeshFault) -> u32
     ensures { λ r. ⌜ r ≡ numberOf f ⌝ }
 {
     match f {
-        Fault::None => 0,
-        Fault::Counts => numbers::REFUSED_COUNT,
-        Fault::Room => numbers::REFUSED_ROOM,
-        Fault::Coordinate(_) => numbers::REFUSED_COORDINATE,
-        Fault::Triangle(_) => numbers::REFUSED_TRIANGLE,
-        Fault::Pairing(_) => numbers::REFUSED_PAIRING,
-        Fault::HullPlace(_) => numbers::REFUSED_HULL,
-        Fault::HullEdge(_) => numbers::REFUSED_HULL,
-        Fault::BrokenFan(_) => numbers::REFUSED_FAN,
+        MeshFault::None => 0,
+        MeshFault::Counts => numbers::REFUSED_COUNT,
+        MeshFault::Room => numbers::REFUSED_ROOM,
+        MeshFault::Coordinate(_) => numbers::REFUSED_COORDINATE,
+        MeshFault::Triangle(_) => numbers::REFUSED_TRIANGLE,
+        MeshFault::Pairing(_) => numbers::REFUSED_PAIRING,
+        MeshFault::HullPlace(_) => numbers::REFUSED_HULL,
+        MeshFault::HullEdge(_) => numbers::REFUSED_HULL,
+        MeshFault::BrokenFan(_) => numbers::REFUSED_FAN,
     }
 }
 
@@ -61,19 +62,19 @@ pub fn counts_ok(coordinates: usize, entries: usize, halfedges: usize, hull: usi
 }
 
 // Rules 7 and 8.
-fn check_shape(triangles: &[u32], halfedges: &[u32], sites: usize) -> Fault
+fn check_shape(triangles: &[u32], halfedges: &[u32], sites: usize) -> MeshFault
     requires { ⌜ (length (now triangles) % 3 ≡ 0) × (length (now halfedges) ≡ length (now triangles)) ⌝ }
     ensures { λ r. ⌜ ShapeAnswer (now (triangles .entry)) (now (halfedges .entry)) sites r ⌝ }
 {
     let t = check_pairing::check_triangles(triangles, sites);
     if t < triangles.len() / 3 {
-        return Fault::Triangle(t);
+        return MeshFault::Triangle(t);
     }
     let e = check_pairing::check_pairs(triangles, halfedges);
     if e < triangles.len() {
-        return Fault::Pairing(e);
+        return MeshFault::Pairing(e);
     }
-    Fault::None
+    MeshFault::None
 }
 
 // Rules 9 and 10. If they hold, the work slice holds the leftmost table, then `EMPTY`.
@@ -83,9 +84,9 @@ fn check_border(
     hull: &[u32],
     sites: usize,
     work: &mut [u32],
-) -> Fault
-    requires { ⌜ (length (now triangles) % 3 ≡ 0) × (length (now halfedges) ≡ length (now triangles)) × (length (now triangles) < 4294967295)
-        × (length (now hull) < 4294967295) × (sites ≤ length (now work)) × AllSound (now triangles) sites × AllPaired (now triangles) (now halfedges) ⌝ }
+) -> MeshFault
+    requires { ⌜ (length (now triangles) % 3 ≡ 0) × (length (now halfedges) ≡ length (now triangles)) × (length (now triangles) < EMPTY)
+        × (length (now hull) < EMPTY) × (sites ≤ length (now work)) × AllSound (now triangles) sites × AllPaired (now triangles) (now halfedges) ⌝ }
     ensures { λ r. ⌜ BorderAnswer (now (triangles .entry)) (now (halfedges .entry)) (now (hull .entry)) sites (now (work .entry)) (now (work .exit)) r ⌝ }
 {
     let f = check_hull::check_hull(triangles, halfedges, hull, sites, work);
@@ -94,9 +95,9 @@ fn check_border(
     }
     let s = check_fan::check_fan(triangles, halfedges, sites, work);
     if s < sites {
-        return Fault::BrokenFan(s);
+        return MeshFault::BrokenFan(s);
     }
-    Fault::None
+    MeshFault::None
 }
 
 // Rules 7 to 10. The work slice then holds the leftmost table and then `EMPTY`, and `EMPTY` throughout after a refusal.
@@ -106,9 +107,9 @@ pub fn check_topology(
     hull: &[u32],
     sites: usize,
     work: &mut [u32],
-) -> Fault
-    requires { ⌜ (length (now triangles) % 3 ≡ 0) × (length (now halfedges) ≡ length (now triangles)) × (length (now triangles) < 4294967295)
-        × (length (now hull) < 4294967295) × (sites ≤ length (now work)) ⌝ }
+) -> MeshFault
+    requires { ⌜ (length (now triangles) % 3 ≡ 0) × (length (now halfedges) ≡ length (now triangles)) × (length (now triangles) < EMPTY)
+        × (length (now hull) < EMPTY) × (sites ≤ length (now work)) ⌝ }
     ensures { λ r. ⌜ TopologyAnswer (now (triangles .entry)) (now (halfedges .entry)) (now (hull .entry)) sites (now (work .entry)) (now (work .exit)) r ⌝ }
 {
     let f = check_shape(triangles, halfedges, sites);
@@ -131,19 +132,19 @@ pub fn check_mesh(
     halfedges: &[u32],
     hull: &[u32],
     work: &mut [u32],
-) -> Fault
+) -> MeshFault
     ensures { λ r. ⌜ MeshAnswer (now (sites .entry)) (now (triangles .entry)) (now (halfedges .entry)) (now (hull .entry)) (now (work .entry)) (now (work .exit)) r ⌝ }
 {
     if !counts_ok(sites.len(), triangles.len(), halfedges.len(), hull.len()) {
-        return Fault::Counts;
+        return MeshFault::Counts;
     }
     let count = sites.len() / 2;
     if work.len() < count {
-        return Fault::Room;
+        return MeshFault::Room;
     }
     let s = utils::first_bad_site(sites);
     if s < count {
-        return Fault::Coordinate(s);
+        return MeshFault::Coordinate(s);
     }
     check_topology(triangles, halfedges, hull, count, work)
 }

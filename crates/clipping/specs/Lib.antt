@@ -1,5 +1,3 @@
-pub mod Entries
-pub mod Clips
-pub mod Changes
-pub mod Steps
+pub mod EdgeOutcome
+pub mod RingWalk
 pub mod laws

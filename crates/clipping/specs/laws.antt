@@ -1,8 +1,5 @@
 -- Laws that only proofs use.
-pub mod Changes
-pub mod Clips
-pub mod Entries
-pub mod Rounds
-pub mod Steps
-pub mod Turning
-pub mod Wrapping
+pub mod EdgeCases
+pub mod EdgeOutcome
+pub mod ReversedRing
+pub mod RingWalk

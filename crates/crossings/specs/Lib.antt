@@ -1,5 +1,6 @@
-pub mod Cross
+pub mod Ray
 pub mod Rules
-pub mod Own
+pub mod OnBox
 pub mod Finite
 pub mod Rows
+pub mod laws

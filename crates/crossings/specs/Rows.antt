@@ -1,13 +1,14 @@
--- Document 01's checked examples on the plane, as rows under one claim: the sides of five points of the box 0 0 2 2, the circumcenter of triangle 0 of
+-- Rows: the checked examples on the plane, as rows under one claim: the sides of five points of the box 0 0 2 2, the circumcenter of triangle 0 of
 -- "square", and both lone-point cases. Proved by computation.
 use mathlib.Core.Path.{_≡_, refl}
 use lib.Ieee.{Float, binary64, ofBits, neg, add, sub, mul, div, lt, le, eq}
 use Rattle.laws.specs.Binary64.{zero, one, minusOne, two}
-use Rattle.utils.specs.Plane.{at, nearOf, centreOf}
+use Rattle.utils.specs.Plane.{at, nearOf, centerOf}
 use Rattle.bounding_box.specs.Box.{madeOf, firstSide, whichOf}
 use Rattle.bounding_box.specs.declared.BoundingBox.{BoundingBox}
-use Rattle.crossings.specs.Cross.{oneIf, orderOne, orderOf}
-use Rattle.crossings.specs.declared.Crossing.the-variants.{None, One}
+use Rattle.crossings.specs.Ray.{orderOne, orderOf}
+use Rattle.line_crossings.specs.Line.{oneIf}
+use Rattle.line_crossings.specs.declared.Crossing.the-variants.{None, One}
 
 abbrev half : Float
 half = ofBits binary64 0x3fe0_0000_0000_0000
@@ -24,12 +25,12 @@ pub record Rows : Type 0 where
   pub right-side : whichOf square (at one zero) ≡ 3
   pub left-side : whichOf square (at minusOne zero) ≡ 1
   pub no-side : whichOf square (at zero zero) ≡ 4
-  pub centre : centreOf (at (neg half) (neg half)) (at (neg half) half) (at half half) ≡ at zero zero
+  pub center : centerOf (at (neg half) (neg half)) (at (neg half) half) (at half half) ≡ at zero zero
   pub lone-behind : orderOf (at five five) (at minusOne minusOne) (One one one) ≡ None
   pub lone-ahead : orderOf (at five five) (at one one) (One one one) ≡ One one one
 
 pub rows : Rows
-unfolding madeOf whichOf firstSide nearOf centreOf oneIf orderOne ofBits neg add sub mul div lt le eq
+unfolding madeOf whichOf firstSide nearOf centerOf oneIf orderOne ofBits neg add sub mul div lt le eq
 rows =
     record {
       top-side = refl;
@@ -37,7 +38,7 @@ rows =
       right-side = refl;
       left-side = refl;
       no-side = refl;
-      centre = refl;
+      center = refl;
       lone-behind = refl;
       lone-ahead = refl;
     }

@@ -1,10 +1,11 @@
 #!/usr/bin/env python3
-"""Write specs/Rows*.antt: the meshes of this folder, each with what the Rust's release build answers for it.
+"""Write the rows of specs/Rows*.antt: the meshes of this folder, each with what the Rust's release build answers for it.
 
   make.py ORACLE      ORACLE is the harness's program `oracle`
 
 A file's first line, a comment, becomes the row's. The vertices (bit for bit), cells, owners and the numbers 13 and 14
-are the Rust's; marks, lost corners, 11 and 12 are the harness's reading of document 01, as `oracle` prints them.
+are the Rust's; marks, lost corners, 11 and 12 are the harness's reading of docs/RULES.md, as `oracle` prints them.
+A file's imports and the names that its rows unfold stay as they stand there. No line has more than 200 bytes, and `rt fmt` leaves the files as they are written here.
 """
 import os
 import re
@@ -16,45 +17,13 @@ HERE = os.path.dirname(os.path.abspath(__file__))
 SPECS = os.path.join(HERE, "..", "specs")
 EMPTY = 4294967295
 
-SUBJECTS = {
-    "built": "Meshes that the Rust builds: vertices to the last bit, marked cells, owners, lost corners",
-    "refused": "Meshes that are refused: where the Rust panics (13, 14), and where document 01 refuses before it is asked (11, 12)",
-    "unclipped": "The unclipped mode",
+REFUSED = {
+    "11": "refusedCircumcenter",
+    "12": "refusedExtension",
+    "13": "refusedNoCrossing",
+    "14": "refusedOneCrossing",
+    "15": "refusedNoSide",
 }
-
-# where each name comes from: those that rows need and those that they unfold
-USED = """
-mathlib.Core.Path: _≡_ refl
-mathlib.Core.List: [] _∷_
-Rattle.mesh.specs.Mesh: EMPTY
-Rattle.definition.specs.Fault: ok refused
-Rattle.definition.specs.Answers: floats box t x w
-"""
-UNFOLDED = """
-lib.Count: trailingZeros
-lib.Ieee: ofBits add sub mul div lt le eq neg sum round units odd size span climb
-Rattle.laws.specs.Count: same
-Rattle.root.specs.Sqrt: wholeRoot nearestRoot rootOfUnits sqrtOf
-Rattle.utils.specs.Plane: nearOf dist2Of centreOf
-Rattle.utils.specs.Flat: flat
-Rattle.utils.specs.Rules: okCentre
-Rattle.bounding_box.specs.Box: madeOf cornersOf insideOf firstSide whichOf
-Rattle.crossings.specs.Cross: oneIf twoIf firstHeld orderPick eitherOf rightHit leftHit topHit bottomHit uprightHit settleOf lineOf orderBy orderOne orderTwo rayOf
-Rattle.vertices.specs.Add: nearPt findNear addVertex
-Rattle.mesh.specs.Mesh: nextOf chosen tableTo turnOf walkOf
-Rattle.mesh.specs.Hull: afterOf
-Rattle.iterator.specs.Neighbours: lastEnd startsOf neighboursOf
-Rattle.iterator.specs.Path: distOf nearestOf hopOf pathEnd
-Rattle.definition.specs.Fault: andThen atEdge
-Rattle.definition.specs.Cell: wraps around insertAt insertEdge edgeCrossing clipWith clipEdge leave enterAt enter link crossAt cross clipStep inBox stepTo stepsTo firstInside turned clipFrom clipCell
-Rattle.definition.specs.Build: centreAt centresFrom ownersFrom extended extendFrom hullRing clipInto clipHull clipRest wrappedIn allWrapped lostFrom clipAll build
-Rattle.definition.specs.Unclipped: ringsFrom unclipped
-Rattle.definition.specs.Answers: answer
-"""
-
-
-def table(text):
-    return [(m, names.split()) for m, names in (line.split(": ") for line in text.strip().split("\n"))]
 
 
 def number(word):
@@ -80,6 +49,18 @@ def chain(items):
     return " ∷ ".join(list(items) + ["[]"])
 
 
+def broken(text, indent, room=180):
+    """A chain over lines of at most so many bytes, each but the last ending in a ∷."""
+    lines, line = [], ""
+    for part in text.split(" ∷ "):
+        more = part if not line else line + " ∷ " + part
+        if line and len(more.encode()) > room:
+            lines.append(line + " ∷")
+            more = part
+        line = more
+    return ("\n" + indent).join(lines + [line])
+
+
 def index(n):
     return "EMPTY" if n == EMPTY else str(n)
 
@@ -99,11 +80,11 @@ def read(path):
             he += [EMPTY if w == "E" else int(w) for w in rest[3:]]
         elif kind == "hull":
             hull += [int(w) for w in rest]
-    mesh = [f"floats ({chain(sites)})"] + [chain(index(n) for n in l) for l in (tri, he, hull)]
+    mesh = [f"(floats\n    ({broken(chain(sites), '    ')}))"] + [f"({broken(chain(index(n) for n in l), '    ')})" for l in (tri, he, hull)]
     if box is None:
-        call = "unclipped " + " ".join(f"({a})" for a in mesh[:3])
+        call = "\n    ".join(["unclipped"] + mesh[:3])
     else:
-        call = "build " + " ".join(f"({a})" for a in mesh) + f" (box {' '.join(box)})"
+        call = "\n    ".join(["build"] + mesh + [f"(rowBox {' '.join(box)})"])
     return call, lines[0].lstrip("# ")
 
 
@@ -111,41 +92,37 @@ def told(out):
     """The oracle's answer as an Outcome."""
     refused = re.search(r"^refused (\d+)", out, re.M)
     if refused:
-        return f"refused {refused.group(1)}"
+        return f"refused {REFUSED[refused.group(1)]}"
     numbers = [bits(number(v)) for p in re.findall(r"^vertex \d+: (0x\w+) (0x\w+)", out, re.M) for v in p]
     cells = [chain(f"{e[-1]} {e[:-1]}" for e in c.split()) for c in re.findall(r"^marks \d+:(.*)$", out, re.M)]
     corners = re.search(r"^corners:(.*) lost (\d+)$", out, re.M)
     owners = [int(w) for w in corners.group(1).split()] if corners else [EMPTY] * 4
     lost = corners.group(2) if corners else "0"
     parts = {
-        "vertices": f"floats ({chain(numbers)})",
-        "cells": chain(f"({c})" for c in cells),
+        "vertices": f"floats\n          ({broken(chain(numbers), ' ' * 10)})",
+        "cells": broken(chain(f"({c})" for c in cells), " " * 10),
         "owners": chain(index(n) for n in owners),
         "lost": lost,
     }
-    return "ok (record { " + "; ".join(f"{k} = {v}" for k, v in parts.items()) + " })"
+    return "ok (record {\n" + "".join(f"      {k} = {v};\n" for k, v in parts.items()) + "    })"
 
 
 def main():
     oracle = sys.argv[1]
-    for group, subject in SUBJECTS.items():
+    for group in ("built", "refused", "unclipped"):
         rows = []
         for name in sorted(f for f in os.listdir(HERE) if f.startswith(group + "_")):
             path = os.path.join(HERE, name)
             call, comment = read(path)
             out = subprocess.run([oracle, path], capture_output=True, text=True, check=True).stdout
             times = "× " if rows else ""
-            rows.append(f"    -- {comment}\n    {times}(answer ({call}) ≡ {told(out)})")
-        uses = {}
-        for module, names in table(USED) + table(UNFOLDED):
-            uses.setdefault(module, []).extend(names)
-        with open(os.path.join(SPECS, f"Rows{group.capitalize()}.antt"), "w", encoding="utf-8") as o:
-            o.write(f"-- {subject}. Written by rows/make.py from what the Rust answered; not by hand.\n")
-            for module, names in uses.items():
-                o.write(f"use {module}.{{{', '.join(names)}}}\n")
-            o.write("\npub rows :\n" + "\n".join(rows) + "\n")
-            o.write("unfolding " + " ".join(n for _, names in table(UNFOLDED) for n in names) + "\n")
-            o.write("rows = (" + ", ".join(["refl"] * len(rows)) + ")\n")
+            rows.append(f"    -- {comment}\n    {times}(rowOf\n    ({call})\n    ≡ {told(out)})")
+        path = os.path.join(SPECS, f"Rows{group.capitalize()}.antt")
+        old = open(path, encoding="utf-8").read()
+        head, unfolded = old[: old.index("pub rows :\n")], old[old.index("\nunfolding ") : old.index("\nrows = ")]
+        with open(path, "w", encoding="utf-8") as o:
+            o.write(head + "pub rows :\n" + "\n".join(rows) + unfolded)
+            o.write("\nrows = (" + ", ".join(["refl"] * len(rows)) + ")\n")
 
 
 if __name__ == "__main__":

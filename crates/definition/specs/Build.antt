@@ -1,5 +1,5 @@
 -- The clipped build (the Rust's CellBuilder with ClipBehavior::Clip) on an accepted mesh: vertices, marked cells, corner owners, lost corners, or the first refusal of 11 to 15.
--- sites are numbers x and y in turn, tri and he the triangles and half-edges, hull the hull's sites, left the leftmost table.
+-- sites are numbers x and y in turn, tri and he the triangles and half-edges, hull the hull's sites, table the leftmost table.
 use Prim.Native.Nat.{ℕ, zero, suc, _+_, _-_, _*_, _/_}
 use mathlib.Core.Bool.{Bool, true, false, _&&_}
 use mathlib.Core.List.{List, [], _∷_, _++_, map}
@@ -10,8 +10,8 @@ use Rattle.laws.specs.Pick.{pick}
 use Rattle.laws.specs.Binary64.{_⊞_, _⊟_, _⊠_, _⊘_, one}
 use Rattle.laws.specs.Count.{occ}
 use Rattle.root.specs.Sqrt.{sqrtOf}
-use Rattle.utils.specs.Plane.{at, centreOf}
-use Rattle.utils.specs.Rules.{okCentre}
+use Rattle.utils.specs.Plane.{at, centerOf}
+use Rattle.utils.specs.Rules.{okCenter}
 use Rattle.utils.specs.Flat.{pointAt}
 use Rattle.utils.specs.declared.Point.{Point}
 use Rattle.bounding_box.specs.Box.{cornersOf}
@@ -20,30 +20,30 @@ use Rattle.vertices.specs.Add.{addVertex}
 use Rattle.mesh.specs.Mesh.{startOf, endOf, leftmostOf, wholeOf}
 use Rattle.mesh.specs.Accepted.{siteCount}
 use Rattle.mesh.specs.Hull.{nextSite}
-use Rattle.iterator.specs.Path.{pathEnd}
+use Rattle.paths.specs.Path.{pathEnd}
 use Rattle.definition.specs.declared.Fault.{Fault}
-use Rattle.definition.specs.Fault.{Outcome, ok, refused, andThen, badCentre, notFinite}
-use Rattle.definition.specs.Cell.{Mark, plain, crossing, wrapped, Entry, Took, took, extension, vertexAt, clipCell}
+use Rattle.definition.specs.Fault.{Outcome, ok, refused, andThen, badCenter, notFinite}
+use Rattle.definition.specs.Cell.{Mark, plain, crossing, wrapped, Entry, Taken, took, extension, vertexAt, clipCell}
 
 -- ---- vertices and owners to begin with
 
-unfoldable pub centreAt : List Float → List ℕ → ℕ → Point
-centreAt sites tri t =
-    centreOf (pointAt sites (getD tri (3 * t) 0)) (pointAt sites (getD tri (3 * t + 1) 0)) (pointAt sites (getD tri (3 * t + 2) 0))
+unfoldable pub centerAt : List Float → List ℕ → ℕ → Point
+centerAt sites tri t =
+    centerOf (pointAt sites (getD tri (3 * t) 0)) (pointAt sites (getD tri (3 * t + 1) 0)) (pointAt sites (getD tri (3 * t + 2) 0))
 
 -- the circumcenters of k triangles from t on, after vs; 11 at the first that breaks its rule
-unfoldable pub centresFrom : List Float → List ℕ → ℕ → ℕ → List Point → Outcome Fault (List Point)
-centresFrom sites tri t zero vs = ok vs
-centresFrom sites tri t (suc k) vs =
-    let c = centreAt sites tri t in
-    pick (okCentre c) (λ _. centresFrom sites tri (suc t) k (vs ++ c ∷ [])) (λ _. refused (badCentre t))
+unfoldable pub centersFrom : List Float → List ℕ → ℕ → ℕ → List Point → Outcome Fault (List Point)
+centersFrom sites tri t zero vs = ok vs
+centersFrom sites tri t (suc k) vs =
+    let c = centerAt sites tri t in
+    pick (okCenter c) (λ _. centersFrom sites tri (suc t) k (vs ++ c ∷ [])) (λ _. refused (badCenter t))
 
 -- calculate_corner_ownership: a corner's owner is where the path to it ends, begun at the owner before; n is the number of sites, more than any path's hops
 unfoldable pub ownersFrom : List Float → List ℕ → List ℕ → List ℕ → ℕ → ℕ → List Point → List ℕ
-ownersFrom sites tri he left n s [] = []
-ownersFrom sites tri he left n s (corner ∷ corners) =
-    let o = pathEnd sites tri he left corner n s in
-    o ∷ ownersFrom sites tri he left n o corners
+ownersFrom sites tri he table n s [] = []
+ownersFrom sites tri he table n s (corner ∷ corners) =
+    let o = pathEnd sites tri he table corner n s in
+    o ∷ ownersFrom sites tri he table n o corners
 
 -- ---- hull extensions
 
@@ -71,19 +71,19 @@ extended sites tri vs e =
 pub record Extensions : Type 0 where
   pub verts : List Point
   pub at : List ℕ
-  pub steps : List Took
+  pub steps : List Taken
 
-abbrev pub extensions : List Point → List ℕ → List Took → Extensions
+abbrev pub extensions : List Point → List ℕ → List Taken → Extensions
 extensions vs xs ts = record { verts = vs; at = xs; steps = ts }
 
 -- k hull places from i on; 12 at the first extension that is not finite
 unfoldable pub extendFrom : List Float → List ℕ → List ℕ → List ℕ → ℕ → ℕ → ℕ → Extensions → Outcome Fault Extensions
-extendFrom sites tri hull left nc i zero x = ok x
-extendFrom sites tri hull left nc i (suc k) x =
-    let p = extended sites tri (x .verts) (getD left (nextSite hull i) 0) in
+extendFrom sites tri hull table nc i zero x = ok x
+extendFrom sites tri hull table nc i (suc k) x =
+    let p = extended sites tri (x .verts) (getD table (nextSite hull i) 0) in
     let r = addVertex nc (x .verts) p in
     pick (finite (p .x) && finite (p .y))
-    (λ _. extendFrom sites tri hull left nc (suc i) k (extensions (r .verts) (x .at ++ r .at ∷ []) (x .steps ++ took extension r ∷ [])))
+    (λ _. extendFrom sites tri hull table nc (suc i) k (extensions (r .verts) (x .at ++ r .at ∷ []) (x .steps ++ took extension r ∷ [])))
     (λ _. refused (notFinite i))
 
 -- ---- all cells
@@ -94,39 +94,39 @@ ringFrom he e = map (λ f. f / 3) (wholeOf he e)
 
 -- of the site at hull place i: between the extensions before and after it; the first one's ring is turned by one, since its extension after comes first
 unfoldable pub hullRing : List ℕ → List ℕ → List ℕ → List ℕ → ℕ → List ℕ
-hullRing he hull left xs i =
-    let ring = ringFrom he (getD left (getD hull i 0) 0) in
+hullRing he hull table xs i =
+    let ring = ringFrom he (getD table (getD hull i 0) 0) in
     pick (eqb i 0)
     (λ _. getD xs 0 0 ∷ getD xs (length hull - 1) 0 ∷ ring)
     (λ _. getD xs (i - 1) 0 ∷ ring ++ getD xs i 0 ∷ [])
 
-pub record Cells : Type 0 where
+pub record CellState : Type 0 where
   pub verts : List Point
   pub owners : List ℕ
   pub cells : List (List Entry)
-  pub steps : List Took
+  pub steps : List Taken
 
-abbrev pub cellsOf : List Point → List ℕ → List (List Entry) → List Took → Cells
-cellsOf vs os cs ts = record { verts = vs; owners = os; cells = cs; steps = ts }
+abbrev pub cellState : List Point → List ℕ → List (List Entry) → List Taken → CellState
+cellState vs os cs ts = record { verts = vs; owners = os; cells = cs; steps = ts }
 
-unfoldable pub clipInto : BoundingBox → ℕ → ℕ → List ℕ → Cells → Outcome Fault Cells
+unfoldable pub clipInto : BoundingBox → ℕ → ℕ → List ℕ → CellState → Outcome Fault CellState
 clipInto b nc site ring s =
     andThen (clipCell b nc site ring (s .verts) (s .owners)) λ c.
-    ok (cellsOf (c .tip .verts) (c .tip .owners) (set (s .cells) site (c .new)) (s .steps ++ c .steps))
+    ok (cellState (c .tip .verts) (c .tip .owners) (set (s .cells) site (c .new)) (s .steps ++ c .steps))
 
 -- the sites at k hull places from i on
-unfoldable pub clipHull : BoundingBox → ℕ → List ℕ → List ℕ → List ℕ → List ℕ → ℕ → ℕ → Cells → Outcome Fault Cells
-clipHull b nc he hull left xs i zero s = ok s
-clipHull b nc he hull left xs i (suc k) s =
-    andThen (clipInto b nc (getD hull i 0) (hullRing he hull left xs i) s) λ r.
-    clipHull b nc he hull left xs (suc i) k r
+unfoldable pub clipHull : BoundingBox → ℕ → List ℕ → List ℕ → List ℕ → List ℕ → ℕ → ℕ → CellState → Outcome Fault CellState
+clipHull b nc he hull table xs i zero s = ok s
+clipHull b nc he hull table xs i (suc k) s =
+    andThen (clipInto b nc (getD hull i 0) (hullRing he hull table xs i) s) λ r.
+    clipHull b nc he hull table xs (suc i) k r
 
 abbrev pub isEmpty : List Entry → Bool
 isEmpty [] = true
 isEmpty (e ∷ es) = false
 
 -- k half-edges from e on: the cell of the site where one ends is clipped from there if it is still empty
-unfoldable pub clipRest : BoundingBox → ℕ → List ℕ → List ℕ → ℕ → ℕ → Cells → Outcome Fault Cells
+unfoldable pub clipRest : BoundingBox → ℕ → List ℕ → List ℕ → ℕ → ℕ → CellState → Outcome Fault CellState
 clipRest b nc tri he e zero s = ok s
 clipRest b nc tri he e (suc k) s =
     let site = endOf tri e in
@@ -161,11 +161,11 @@ pub record Built : Type 0 where
   pub cells : List (List Entry)
   pub owners : List ℕ
   pub lost : ℕ
-  pub steps : List Took
+  pub steps : List Taken
 
-unfoldable pub clipAll : BoundingBox → ℕ → List ℕ → List ℕ → List ℕ → List ℕ → ℕ → List ℕ → Extensions → Outcome Fault Cells
-clipAll b nc tri he hull left n owners x =
-    andThen (clipHull b nc he hull left (x .at) 0 (length hull) (cellsOf (x .verts) owners (replicate n []) (x .steps))) λ s.
+unfoldable pub clipAll : BoundingBox → ℕ → List ℕ → List ℕ → List ℕ → List ℕ → ℕ → List ℕ → Extensions → Outcome Fault CellState
+clipAll b nc tri he hull table n owners x =
+    andThen (clipHull b nc he hull table (x .at) 0 (length hull) (cellState (x .verts) owners (replicate n []) (x .steps))) λ s.
     clipRest b nc tri he 0 (length tri) s
 
 -- owners: as found, before wrapping
@@ -173,9 +173,9 @@ unfoldable pub build : List Float → List ℕ → List ℕ → List ℕ → Bou
 build sites tri he hull b =
     let n = siteCount sites in
     let nc = length tri / 3 in
-    let left = leftmostOf tri he n in
-    let owners = ownersFrom sites tri he left n (getD hull 0 0) (cornersOf b) in
-    andThen (centresFrom sites tri 0 nc []) λ centres.
-    andThen (extendFrom sites tri hull left nc 0 (length hull) (extensions (centres ++ cornersOf b) [] [])) λ x.
-    andThen (clipAll b nc tri he hull left n owners x) λ s.
+    let table = leftmostOf tri he n in
+    let owners = ownersFrom sites tri he table n (getD hull 0 0) (cornersOf b) in
+    andThen (centersFrom sites tri 0 nc []) λ centers.
+    andThen (extendFrom sites tri hull table nc 0 (length hull) (extensions (centers ++ cornersOf b) [] [])) λ x.
+    andThen (clipAll b nc tri he hull table n owners x) λ s.
     ok (record { verts = s .verts; cells = s .cells; owners = owners; lost = lostFrom nc 4 (s .cells); steps = s .steps })

@@ -2,20 +2,20 @@
 -- b is the box, nc the number of circumcenters, vs the vertices, os the four corners' owners: a corner that was wrapped has EMPTY.
 use Prim.Native.Nat.{ℕ, zero, suc, _+_, _%_}
 use mathlib.Core.Bool.{Bool, true, false, _&&_}
-use mathlib.Core.List.{List, [], _∷_, _++_, reverse}
+use mathlib.Core.List.{List, [], _∷_, _++_, map, reverse}
 use lib.ListN.{length, getD, set, take, drop}
 use lib.Dec.{ltb, eqb}
 use lib.Ieee.{Float, nan, eq}
 use Rattle.laws.specs.Pick.{pick}
 use Rattle.laws.specs.Binary64.{_⊟_}
-use Rattle.numbers.specs.Numbers.{EMPTY}
+use Rattle.numbers.specs.Numbers.{EMPTY, refusedNoCrossing, refusedOneCrossing, refusedNoSide}
 use Rattle.utils.specs.Plane.{at}
 use Rattle.utils.specs.declared.Point.{Point}
 use Rattle.bounding_box.specs.Box.{insideOf, whichOf}
 use Rattle.bounding_box.specs.declared.BoundingBox.{BoundingBox}
-use Rattle.crossings.specs.Cross.{orderOf, rayOf}
-use Rattle.crossings.specs.declared.Crossing.{Crossing}
-use Rattle.crossings.specs.declared.Crossing.the-variants.{None, One, Two}
+use Rattle.crossings.specs.Ray.{orderOf, rayOf}
+use Rattle.line_crossings.specs.declared.Crossing.{Crossing}
+use Rattle.line_crossings.specs.declared.Crossing.the-variants.{None, One, Two}
 use Rattle.vertices.specs.Add.{Added, addVertex}
 use Rattle.definition.specs.declared.Fault.{Fault}
 use Rattle.definition.specs.Fault.{Outcome, ok, refused, andThen, atEdge}
@@ -38,17 +38,21 @@ abbrev pub lastOr : ℕ → List Entry → ℕ
 lastOr n [] = n
 lastOr n (e ∷ es) = lastOr (e .at) es
 
+-- a cell with its marks taken off
+abbrev pub unmarked : List Entry → List ℕ
+unmarked es = map (λ (e : Entry). e .at) es
+
 -- ---- steps that add a point
 
-pub data Kind : Type 0 where
-  extension firstCrossing secondCrossing : Kind
+pub data StepKind : Type 0 where
+  extension firstCrossing secondCrossing : StepKind
 
 -- such a step: its kind, and whether the point was new or a vertex was taken again
-pub record Took : Type 0 where
-  pub kind : Kind
+pub record Taken : Type 0 where
+  pub kind : StepKind
   pub fresh : Bool
 
-abbrev pub took : Kind → Added → Took
+abbrev pub took : StepKind → Added → Taken
 took k a = record { kind = k; fresh = a .fresh }
 
 -- ---- wrapping
@@ -64,8 +68,8 @@ ins os es = record { owners = os; new = es }
 abbrev pub before : Entry → Ins → Ins
 before e i = ins (i .owners) (e ∷ i .new)
 
-abbrev pub after : Ins → Entry → Ins
-after i e = ins (i .owners) (i .new ++ e ∷ [])
+abbrev pub followedBy : Ins → Entry → Ins
+followedBy i e = ins (i .owners) (i .new ++ e ∷ [])
 
 -- whether corner c is next: it is not the last side's, and the site owns it
 abbrev pub goes : ℕ → ℕ → ℕ → List ℕ → Bool
@@ -80,10 +84,10 @@ wraps (suc k) nc site stop c os =
     (λ _. ins os [])
 
 -- the second clipped vertex, with the corners before it or after it; the clipped vertices are on the sides f and s
-unfoldable pub around : ℕ → ℕ → ℕ → ℕ → ℕ → List ℕ → Ins
-around nc site f s second os =
+unfoldable pub withCorners : ℕ → ℕ → ℕ → ℕ → ℕ → List ℕ → Ins
+withCorners nc site f s second os =
     pick (eqb (getD os f 0) site)
-    (λ _. after (wraps 4 nc site s f os) (entry crossing second))
+    (λ _. followedBy (wraps 4 nc site s f os) (entry crossing second))
     (λ _. pick (eqb (getD os s 0) site)
     (λ _. before (entry crossing second) (wraps 4 nc site f s os))
     (λ _. ins os (entry crossing second ∷ [])))
@@ -93,14 +97,14 @@ abbrev pub led : Bool → ℕ → Ins → Ins
 led true first i = i
 led false first i = before (entry crossing first) i
 
--- 15 where one of the two is on no side
+-- refused where one of the two is on no side
 unfoldable pub insertAt : ℕ → ℕ → ℕ → ℕ → ℕ → List ℕ → ℕ → ℕ → Outcome ℕ Ins
 insertAt nc site last first second os f s =
     pick (ltb f 4)
     (λ _. pick (ltb s 4)
-    (λ _. ok (led (eqb last first) first (around nc site f s second os)))
-    (λ _. refused 15))
-    (λ _. refused 15)
+    (λ _. ok (led (eqb last first) first (withCorners nc site f s second os)))
+    (λ _. refused refusedNoSide))
+    (λ _. refused refusedNoSide)
 
 abbrev pub vertexAt : List Point → ℕ → Point
 vertexAt vs i = getD vs i (at nan nan)
@@ -130,12 +134,12 @@ edgeCrossing b p q =
     onEdge p q d (rayOf b p d)
 
 -- the crossings as vertices: at most two are added
-pub data Clip : Type 0 where
-  missed : Clip
-  once : Added → Clip
-  twice : Added → Added → Clip
+pub data EdgeClip : Type 0 where
+  missed : EdgeClip
+  once : Added → EdgeClip
+  twice : Added → Added → EdgeClip
 
-unfoldable pub clipWith : ℕ → List Point → Crossing → Clip
+unfoldable pub clipWith : ℕ → List Point → Crossing → EdgeClip
 clipWith nc vs None = missed
 clipWith nc vs (One x y) = once (addVertex nc vs (at x y))
 clipWith nc vs (Two x y u v) =
@@ -143,7 +147,7 @@ clipWith nc vs (Two x y u v) =
     twice r (addVertex nc (r .verts) (at u v))
 
 -- clip_voronoi_edge
-unfoldable pub clipEdge : BoundingBox → ℕ → List Point → ℕ → ℕ → Clip
+unfoldable pub clipEdge : BoundingBox → ℕ → List Point → ℕ → ℕ → EdgeClip
 clipEdge b nc vs p q = clipWith nc vs (edgeCrossing b (vertexAt vs p) (vertexAt vs q))
 
 -- ---- one edge of the ring, from vertex p to vertex q
@@ -154,31 +158,31 @@ pub record Change : Type 0 where
   pub owners : List ℕ
   pub new : List Entry
   pub opened : Bool
-  pub steps : List Took
+  pub steps : List Taken
 
-abbrev pub change : List Point → List ℕ → List Entry → Bool → List Took → Change
+abbrev pub change : List Point → List ℕ → List Entry → Bool → List Taken → Change
 change vs os es o ts = record { verts = vs; owners = os; new = es; opened = o; steps = ts }
 
-abbrev pub tookOne : Added → List Took
+abbrev pub tookOne : Added → List Taken
 tookOne r = took firstCrossing r ∷ []
 
-abbrev pub tookTwo : Added → Added → List Took
+abbrev pub tookTwo : Added → Added → List Taken
 tookTwo r t = took firstCrossing r ∷ took secondCrossing t ∷ []
 
 -- from inside to outside
-unfoldable pub leave : ℕ → List ℕ → Clip → Outcome ℕ Change
-leave p os missed = refused 13
+unfoldable pub leave : ℕ → List ℕ → EdgeClip → Outcome ℕ Change
+leave p os missed = refused refusedNoCrossing
 leave p os (once r) = ok (change (r .verts) os (entry plain p ∷ entry crossing (r .at) ∷ []) true (tookOne r))
 leave p os (twice r t) = ok (change (t .verts) os (entry plain p ∷ entry crossing (r .at) ∷ []) true (tookTwo r t))
 
 -- from outside to inside; last is the cell's last entry
-unfoldable pub enterAt : BoundingBox → ℕ → ℕ → List Point → List ℕ → ℕ → ℕ → List Took → Outcome ℕ Change
+unfoldable pub enterAt : BoundingBox → ℕ → ℕ → List Point → List ℕ → ℕ → ℕ → List Taken → Outcome ℕ Change
 enterAt b nc site vs os last first ts =
     andThen (insertEdge b nc site vs os last last first) λ i.
     ok (change vs (i .owners) (i .new) false ts)
 
-unfoldable pub enter : BoundingBox → ℕ → ℕ → List ℕ → ℕ → Clip → Outcome ℕ Change
-enter b nc site os last missed = refused 13
+unfoldable pub enter : BoundingBox → ℕ → ℕ → List ℕ → ℕ → EdgeClip → Outcome ℕ Change
+enter b nc site os last missed = refused refusedNoCrossing
 enter b nc site os last (once r) = enterAt b nc site (r .verts) os last (r .at) (tookOne r)
 enter b nc site os last (twice r t) = enterAt b nc site (t .verts) os last (r .at) (tookTwo r t)
 
@@ -186,17 +190,17 @@ enter b nc site os last (twice r t) = enterAt b nc site (t .verts) os last (r .a
 unfoldable pub link : BoundingBox → ℕ → ℕ → List Point → List ℕ → Bool → ℕ → ℕ → Outcome ℕ Ins
 link b nc site vs os opened last first = pick opened (λ _. insertEdge b nc site vs os last last first) (λ _. ok (ins os []))
 
-unfoldable pub crossAt : BoundingBox → ℕ → ℕ → List Point → List ℕ → Bool → ℕ → ℕ → ℕ → List Took → Outcome ℕ Change
+unfoldable pub crossAt : BoundingBox → ℕ → ℕ → List Point → List ℕ → Bool → ℕ → ℕ → ℕ → List Taken → Outcome ℕ Change
 crossAt b nc site vs os opened last first second ts =
     andThen (link b nc site vs os opened last first) λ i.
     andThen (insertEdge b nc site vs (i .owners) (lastOr last (i .new)) first second) λ j.
     ok (change vs (j .owners) (i .new ++ j .new) opened ts)
 
-unfoldable pub cross : BoundingBox → ℕ → ℕ → List Point → List ℕ → Bool → ℕ → Clip → Outcome ℕ Change
+unfoldable pub cross : BoundingBox → ℕ → ℕ → List Point → List ℕ → Bool → ℕ → EdgeClip → Outcome ℕ Change
 cross b nc site vs os opened last missed = ok (change vs os [] opened [])
 cross b nc site vs os opened last (once r) =
     andThen (link b nc site (r .verts) os opened last (r .at)) λ i.
-    refused 14
+    refused refusedOneCrossing
 cross b nc site vs os opened last (twice r t) = crossAt b nc site (t .verts) os opened last (r .at) (t .at) (tookTwo r t)
 
 -- the four cases; pIn and qIn: whether p and q are inside
@@ -229,32 +233,32 @@ abbrev pub tip : List Point → List ℕ → ℕ → ℕ → Bool → Bool → T
 tip vs os l p i o = record { verts = vs; owners = os; last = l; p = p; pIn = i; opened = o }
 
 -- where some edges of the ring lead, the entries that they add, and the points that they added or took again
-pub record Part : Type 0 where
+pub record RingPart : Type 0 where
   pub tip : Tip
   pub new : List Entry
-  pub steps : List Took
+  pub steps : List Taken
 
-abbrev pub part : Tip → List Entry → List Took → Part
+abbrev pub part : Tip → List Entry → List Taken → RingPart
 part t es ts = record { tip = t; new = es; steps = ts }
 
-abbrev pub joined : Part → Part → Part
-joined c d = part (d .tip) (c .new ++ d .new) (c .steps ++ d .steps)
+abbrev pub partsJoined : RingPart → RingPart → RingPart
+partsJoined c d = part (d .tip) (c .new ++ d .new) (c .steps ++ d .steps)
 
-abbrev pub moved : Tip → ℕ → Bool → Change → Part
+abbrev pub moved : Tip → ℕ → Bool → Change → RingPart
 moved t q qIn d = part (tip (d .verts) (d .owners) (lastOr (t .last) (d .new)) q qIn (d .opened)) (d .new) (d .steps)
 
-unfoldable pub stepTo : BoundingBox → ℕ → ℕ → Tip → ℕ → Outcome Fault Part
+unfoldable pub stepTo : BoundingBox → ℕ → ℕ → Tip → ℕ → Outcome Fault RingPart
 stepTo b nc site t q =
     let qIn = inBox b nc (t .verts) q in
     andThen (atEdge site (t .p) q (clipStep b nc site (t .p) (t .pIn) q qIn (t .verts) (t .owners) (t .opened) (t .last))) λ d.
     ok (moved t q qIn d)
 
-unfoldable pub stepsTo : BoundingBox → ℕ → ℕ → List ℕ → Tip → Outcome Fault Part
+unfoldable pub stepsTo : BoundingBox → ℕ → ℕ → List ℕ → Tip → Outcome Fault RingPart
 stepsTo b nc site [] t = ok (part t [] [])
 stepsTo b nc site (q ∷ qs) t =
     andThen (stepTo b nc site t q) λ c.
     andThen (stepsTo b nc site qs (c .tip)) λ d.
-    ok (joined c d)
+    ok (partsJoined c d)
 
 -- the place of the first vertex inside, else the ring's length
 unfoldable pub firstInside : BoundingBox → ℕ → List Point → List ℕ → ℕ
@@ -265,11 +269,11 @@ firstInside b nc vs (q ∷ qs) = pick (inBox b nc vs q) (λ _. 0) (λ _. suc (fi
 unfoldable pub turned : ℕ → List ℕ → List ℕ
 turned f ring = reverse (take f ring) ++ reverse (drop f ring)
 
-unfoldable pub clipFrom : BoundingBox → ℕ → ℕ → List ℕ → List Point → List ℕ → ℕ → Bool → Outcome Fault Part
+unfoldable pub clipFrom : BoundingBox → ℕ → ℕ → List ℕ → List Point → List ℕ → ℕ → Bool → Outcome Fault RingPart
 clipFrom b nc site ring vs os f inside = stepsTo b nc site (turned f ring) (tip vs os EMPTY (getD ring f 0) inside false)
 
 -- clip_cell: from the first vertex inside, else from the first
-unfoldable pub clipCell : BoundingBox → ℕ → ℕ → List ℕ → List Point → List ℕ → Outcome Fault Part
+unfoldable pub clipCell : BoundingBox → ℕ → ℕ → List ℕ → List Point → List ℕ → Outcome Fault RingPart
 clipCell b nc site ring vs os =
     let f = firstInside b nc vs ring in
     pick (ltb f (length ring)) (λ _. clipFrom b nc site ring vs os f true) (λ _. clipFrom b nc site ring vs os 0 false)

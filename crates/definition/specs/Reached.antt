@@ -1,5 +1,5 @@
--- The hull's extension is at most 2 ^ 401, from sites that keep rule 6 and circumcenters that keep rule 11, exactly where the computed squared length of the
--- hull edge is not 0; where it is 0 the extension is not finite, and refusal 12 comes. Assumes nothing.
+-- Theorem: the hull's extension is at most 2 ^ 401, from sites that keep rule 6 and circumcenters that keep rule 11, exactly where the computed squared length of the
+-- hull edge is not 0; where it is 0 the extension is not finite, and refusal 12 comes.
 use mathlib.Core.Path.{_≡_}
 use mathlib.Core.Bool.{true, false}
 use mathlib.Core.List.{List}
@@ -8,11 +8,12 @@ use Prim.Native.Nat.{ℕ, _/_}
 use lib.Dec.{lit≤}
 use lib.Ieee.{Float, binary64, lt, ofBits}
 use Rattle.laws.specs.Binary64.{_⊟_, zero}
-use Rattle.root.specs.Bounds.{Bounded, sub-bound}
+use Rattle.root.specs.laws.Bounds.{sub-bound}
+use Rattle.root.specs.Bounded.{Bounded}
 use Rattle.utils.specs.Flat.{pointAt}
 use Rattle.utils.specs.Rules.{okSite}
 use Rattle.utils.specs.Finite.{BoundedPoint, site-bounded}
-use Rattle.utils.specs.Reach.{squares, unit-x, unit-y, reach-bounded, not-reached}
+use Rattle.utils.specs.laws.Extension.{squares, unit-x, unit-y, reach-bounded, not-reached}
 use Rattle.utils.specs.declared.Point.{Point}
 use Rattle.mesh.specs.Mesh.{startOf, endOf}
 use Rattle.definition.specs.Cell.{vertexAt}

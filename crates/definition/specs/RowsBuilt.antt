@@ -1,183 +1,280 @@
--- Meshes that the Rust builds: vertices to the last bit, marked cells, owners, lost corners. Written by rows/make.py from what the Rust answered; not by hand.
+-- Rows: meshes that the Rust builds: vertices to the last bit, marked cells, owners, lost corners. Written by rows/make.py from what the Rust answered; not by hand.
 use mathlib.Core.Path.{_≡_, refl}
 use mathlib.Core.List.{[], _∷_}
-use Rattle.mesh.specs.Mesh.{nextOf, chosen, tableTo, turnOf, walkOf}
-use Rattle.definition.specs.Fault.{ok, andThen, atEdge}
-use Rattle.definition.specs.Answers.{floats, box, t, x, w, answer}
+use Rattle.numbers.specs.Numbers.{EMPTY}
 use lib.Count.{trailingZeros}
 use lib.Ieee.{ofBits, add, sub, mul, div, lt, le, eq, neg, sum, round, units, odd, size, span, climb}
 use Rattle.laws.specs.Count.{same}
-use Rattle.numbers.specs.Numbers.{EMPTY}
 use Rattle.root.specs.Sqrt.{wholeRoot, nearestRoot, rootOfUnits, sqrtOf}
-use Rattle.utils.specs.Plane.{nearOf, dist2Of, centreOf}
+use Rattle.utils.specs.Plane.{nearOf, dist2Of, centerOf}
 use Rattle.utils.specs.Flat.{flat}
-use Rattle.utils.specs.Rules.{okCentre}
+use Rattle.utils.specs.Rules.{okCenter}
 use Rattle.bounding_box.specs.Box.{madeOf, cornersOf, insideOf, firstSide, whichOf}
-use Rattle.crossings.specs.Cross.{oneIf, twoIf, firstHeld, orderPick, eitherOf, rightHit, leftHit, topHit, bottomHit, uprightHit, settleOf, lineOf, orderBy, orderOne, orderTwo, rayOf}
+use Rattle.crossings.specs.Ray.{orderPick, eitherOf, orderBy, orderOne, orderTwo, rayOf}
+use Rattle.line_crossings.specs.Line.{oneIf, twoIf, firstHeld, rightHit, leftHit, topHit, bottomHit, uprightHit, settleOf, lineOf}
 use Rattle.vertices.specs.Add.{nearPt, findNear, addVertex}
-use Rattle.mesh.specs.Hull.{afterOf}
+use Rattle.mesh.specs.Mesh.{nextOf, chosen, tableTo, turnOf, walkOf}
+use Rattle.mesh.specs.Hull.{nextPlace}
 use Rattle.iterator.specs.Neighbours.{lastEnd, startsOf, neighboursOf}
-use Rattle.iterator.specs.Path.{distOf, nearestOf, hopOf, pathEnd}
-use Rattle.definition.specs.Cell.{wraps, around, insertAt, insertEdge, edgeCrossing, clipWith, clipEdge, leave, enterAt, enter, link, crossAt}
-use Rattle.definition.specs.Cell.{cross, clipStep, inBox, stepTo, stepsTo, firstInside, turned, clipFrom, clipCell}
-use Rattle.definition.specs.Build.{centreAt, centresFrom, ownersFrom, extended, extendFrom, hullRing, clipInto, clipHull, clipRest, wrappedIn, allWrapped, lostFrom, clipAll, build}
+use Rattle.paths.specs.Path.{distOf, nearestOf, hopOf, pathEnd}
+use Rattle.definition.specs.Fault.{ok, andThen, atEdge}
+use Rattle.definition.specs.Rows.{floats, rowBox, t, x, w, rowOf}
+use Rattle.definition.specs.Cell.{wraps, withCorners, insertAt, insertEdge, edgeCrossing, clipWith, clipEdge, leave, enterAt, enter, link, crossAt, cross, clipStep, inBox, stepTo}
+use Rattle.definition.specs.Cell.{stepsTo, firstInside, turned, clipFrom, clipCell}
+use Rattle.definition.specs.Build.{centerAt, centersFrom, ownersFrom, extended, extendFrom, hullRing, clipInto, clipHull, clipRest, wrappedIn, allWrapped, lostFrom, clipAll, build}
 use Rattle.definition.specs.Unclipped.{ringsFrom, unclipped}
 
 pub rows :
     -- an edge clipped from both its ends gives two crossings, so that the two cells share no vertex
-    (answer (build (floats (0x3fd6800000000000 ∷ 0 ∷ 0x3fe6000000000000 ∷ 0xbfdb800000000000 ∷ 0 ∷ 0x3fd4000000000000 ∷ [])) (2 ∷ 0 ∷ 1 ∷ [])
-    (EMPTY ∷ EMPTY ∷ EMPTY ∷ []) (1 ∷ 2 ∷ 0 ∷ []) (box 0 0 0x4000000000000000 0x4000000000000000)) ≡ ok
-    (record {
+    (rowOf
+    (build
+    (floats
+    (0x3fd6800000000000 ∷ 0 ∷ 0x3fe6000000000000 ∷ 0xbfdb800000000000 ∷ 0 ∷ 0x3fd4000000000000 ∷ []))
+    (2 ∷ 0 ∷ 1 ∷ [])
+    (EMPTY ∷ EMPTY ∷ EMPTY ∷ [])
+    (1 ∷ 2 ∷ 0 ∷ [])
+    (rowBox 0 0 0x4000000000000000 0x4000000000000000))
+    ≡ ok (record {
       vertices = floats
-          (0xbffb04c4a9895313 ∷ 0xbfff0f5d3eba7d74 ∷ 0xbff0000000000000 ∷ 0xbff0000000000000 ∷ 0xbff0000000000000 ∷ 0x3ff0000000000000 ∷ 0x3ff0000000000000 ∷ 0x3ff0000000000000 ∷ 0x3ff0000000000000 ∷ 0xbff0000000000000 ∷ 0xc1fb5453c0e3db68 ∷ 0xc1f950ceedfc21a3 ∷ 0x41f8bfde0729c4bf ∷ 0x41fbd7d9c80e5356 ∷ 0x41fd591d56d89236 ∷ 0x41f6f1e3bce08bea ∷ 0xbfdf05f417d05f4a ∷ 0xbff0000000000000 ∷ 0x3ff0000000000000 ∷ 0x3fc494f2094f20a4 ∷ 0x3fed9ffe38e38e3b ∷ 0x3ff0000000000000 ∷ 0xbfeb439000000002 ∷ 0xbff0000000000000 ∷ 0x3ff0000000000000 ∷ 0x3fc494f64129e414 ∷ 0xbfdf05f6ca6b29ac ∷ 0xbff0000000000000 ∷ 0xbfeb438e38e38e3a ∷ 0xbff0000000000000 ∷ 0x3feda00000000002 ∷ 0x3ff0000000000000 ∷ []);
+          (0xbffb04c4a9895313 ∷ 0xbfff0f5d3eba7d74 ∷ 0xbff0000000000000 ∷ 0xbff0000000000000 ∷ 0xbff0000000000000 ∷ 0x3ff0000000000000 ∷ 0x3ff0000000000000 ∷ 0x3ff0000000000000 ∷
+          0x3ff0000000000000 ∷ 0xbff0000000000000 ∷ 0xc1fb5453c0e3db68 ∷ 0xc1f950ceedfc21a3 ∷ 0x41f8bfde0729c4bf ∷ 0x41fbd7d9c80e5356 ∷ 0x41fd591d56d89236 ∷ 0x41f6f1e3bce08bea ∷
+          0xbfdf05f417d05f4a ∷ 0xbff0000000000000 ∷ 0x3ff0000000000000 ∷ 0x3fc494f2094f20a4 ∷ 0x3fed9ffe38e38e3b ∷ 0x3ff0000000000000 ∷ 0xbfeb439000000002 ∷ 0xbff0000000000000 ∷
+          0x3ff0000000000000 ∷ 0x3fc494f64129e414 ∷ 0xbfdf05f6ca6b29ac ∷ 0xbff0000000000000 ∷ 0xbfeb438e38e38e3a ∷ 0xbff0000000000000 ∷ 0x3feda00000000002 ∷ 0x3ff0000000000000 ∷
+          []);
       cells = (x 12 ∷ x 13 ∷ x 14 ∷ x 15 ∷ w 3 ∷ []) ∷ (x 8 ∷ x 9 ∷ w 4 ∷ []) ∷ (x 10 ∷ x 11 ∷ w 1 ∷ w 2 ∷ []) ∷ [];
       owners = 2 ∷ 2 ∷ 0 ∷ 1 ∷ [];
       lost = 0;
     }))
     -- empty hull cells are clipped again, from a half-edge that is not the leftmost
-    × (answer (build (floats
-    (0xbfe0000000000000 ∷ 0xbff8000000000000 ∷ 0x3fe0000000000000 ∷ 0xbff0000000000000 ∷ 0x3ff0000000000000 ∷ 0x3fe0000000000000 ∷ 0x3ff8000000000000 ∷ 0xbfe0000000000000 ∷ 0xbff0000000000000 ∷ 0x3fe0000000000000 ∷ []))
-    (2 ∷ 1 ∷ 4 ∷ 0 ∷ 4 ∷ 1 ∷ 3 ∷ 1 ∷ 2 ∷ []) (7 ∷ 4 ∷ EMPTY ∷ EMPTY ∷ 1 ∷ EMPTY ∷ EMPTY ∷ 0 ∷ EMPTY ∷ []) (4 ∷ 2 ∷ 3 ∷ 1 ∷ 0 ∷ [])
-    (box 0 0xbfd0000000000000 0x3fd0000000000000 0x3fd0000000000000)) ≡ ok
-    (record {
+    × (rowOf
+    (build
+    (floats
+    (0xbfe0000000000000 ∷ 0xbff8000000000000 ∷ 0x3fe0000000000000 ∷ 0xbff0000000000000 ∷ 0x3ff0000000000000 ∷ 0x3fe0000000000000 ∷ 0x3ff8000000000000 ∷ 0xbfe0000000000000 ∷
+    0xbff0000000000000 ∷ 0x3fe0000000000000 ∷ []))
+    (2 ∷ 1 ∷ 4 ∷ 0 ∷ 4 ∷ 1 ∷ 3 ∷ 1 ∷ 2 ∷ [])
+    (7 ∷ 4 ∷ EMPTY ∷ EMPTY ∷ 1 ∷ EMPTY ∷ EMPTY ∷ 0 ∷ EMPTY ∷ [])
+    (4 ∷ 2 ∷ 3 ∷ 1 ∷ 0 ∷ [])
+    (rowBox 0 0xbfd0000000000000 0x3fd0000000000000 0x3fd0000000000000))
+    ≡ ok (record {
       vertices = floats
-          (0 ∷ 0 ∷ 0xbfdaaaaaaaaaaaab ∷ 0xbfdaaaaaaaaaaaac ∷ 0x3fe8000000000000 ∷ 0xbfd0000000000000 ∷ 0xbfc0000000000000 ∷ 0xbfd8000000000000 ∷ 0xbfc0000000000000 ∷ 0xbfc0000000000000 ∷ 0x3fc0000000000000 ∷ 0xbfc0000000000000 ∷ 0x3fc0000000000000 ∷ 0xbfd8000000000000 ∷ 0 ∷ 0x4202a05f20000000 ∷ 0x4200a8f61135fe47 ∷ 0x41f0a8f6112bfe47 ∷ 0x41f0a8f6113bfe47 ∷ 0xc200a8f61131fe47 ∷ 0x41f0a8f61129539c ∷ 0xc200a8f61133539c ∷ 0xc20211fffb4ef5bb ∷ 0xc1e211fffb58f5bb ∷ []);
+          (0 ∷ 0 ∷ 0xbfdaaaaaaaaaaaab ∷ 0xbfdaaaaaaaaaaaac ∷ 0x3fe8000000000000 ∷ 0xbfd0000000000000 ∷ 0xbfc0000000000000 ∷ 0xbfd8000000000000 ∷ 0xbfc0000000000000 ∷
+          0xbfc0000000000000 ∷ 0x3fc0000000000000 ∷ 0xbfc0000000000000 ∷ 0x3fc0000000000000 ∷ 0xbfd8000000000000 ∷ 0 ∷ 0x4202a05f20000000 ∷ 0x4200a8f61135fe47 ∷
+          0x41f0a8f6112bfe47 ∷ 0x41f0a8f6113bfe47 ∷ 0xc200a8f61131fe47 ∷ 0x41f0a8f61129539c ∷ 0xc200a8f61133539c ∷ 0xc20211fffb4ef5bb ∷ 0xc1e211fffb58f5bb ∷ []);
       cells = ([]) ∷ (x 4 ∷ x 4 ∷ []) ∷ ([]) ∷ ([]) ∷ (x 4 ∷ x 4 ∷ []) ∷ [];
       owners = 1 ∷ 1 ∷ 1 ∷ 1 ∷ [];
       lost = 4;
     }))
     -- a cell that covers the whole box is empty, and all corners are lost
-    × (answer (build (floats
-    (0xbfe0000000000000 ∷ 0xbfe0000000000000 ∷ 0xbfe0000000000000 ∷ 0x3fe0000000000000 ∷ 0x3fe0000000000000 ∷ 0x3fe0000000000000 ∷ 0x3fe0000000000000 ∷ 0xbfe0000000000000 ∷ []))
-    (0 ∷ 1 ∷ 2 ∷ 0 ∷ 2 ∷ 3 ∷ []) (EMPTY ∷ EMPTY ∷ 3 ∷ 2 ∷ EMPTY ∷ EMPTY ∷ []) (0 ∷ 1 ∷ 2 ∷ 3 ∷ [])
-    (box 0xbfe0000000000000 0xbfe0000000000000 0x3fc0000000000000 0x3fc0000000000000)) ≡ ok
-    (record {
+    × (rowOf
+    (build
+    (floats
+    (0xbfe0000000000000 ∷ 0xbfe0000000000000 ∷ 0xbfe0000000000000 ∷ 0x3fe0000000000000 ∷ 0x3fe0000000000000 ∷ 0x3fe0000000000000 ∷ 0x3fe0000000000000 ∷ 0xbfe0000000000000 ∷
+    []))
+    (0 ∷ 1 ∷ 2 ∷ 0 ∷ 2 ∷ 3 ∷ [])
+    (EMPTY ∷ EMPTY ∷ 3 ∷ 2 ∷ EMPTY ∷ EMPTY ∷ [])
+    (0 ∷ 1 ∷ 2 ∷ 3 ∷ [])
+    (rowBox 0xbfe0000000000000 0xbfe0000000000000 0x3fc0000000000000 0x3fc0000000000000))
+    ≡ ok (record {
       vertices = floats
-          (0 ∷ 0 ∷ 0 ∷ 0 ∷ 0xbfe2000000000000 ∷ 0xbfe2000000000000 ∷ 0xbfe2000000000000 ∷ 0xbfdc000000000000 ∷ 0xbfdc000000000000 ∷ 0xbfdc000000000000 ∷ 0xbfdc000000000000 ∷ 0xbfe2000000000000 ∷ 0xc202a05f20000000 ∷ 0 ∷ 0 ∷ 0x4202a05f20000000 ∷ 0x4202a05f20000000 ∷ 0 ∷ 0 ∷ 0xc202a05f20000000 ∷ []);
+          (0 ∷ 0 ∷ 0 ∷ 0 ∷ 0xbfe2000000000000 ∷ 0xbfe2000000000000 ∷ 0xbfe2000000000000 ∷ 0xbfdc000000000000 ∷ 0xbfdc000000000000 ∷ 0xbfdc000000000000 ∷ 0xbfdc000000000000 ∷
+          0xbfe2000000000000 ∷ 0xc202a05f20000000 ∷ 0 ∷ 0 ∷ 0x4202a05f20000000 ∷ 0x4202a05f20000000 ∷ 0 ∷ 0 ∷ 0xc202a05f20000000 ∷ []);
       cells = ([]) ∷ ([]) ∷ ([]) ∷ ([]) ∷ [];
       owners = 0 ∷ 0 ∷ 0 ∷ 0 ∷ [];
       lost = 4;
     }))
     -- a site inside: its cell is its ring of circumcenters
-    × (answer (build (floats
-    (0xbfe8000000000000 ∷ 0xbfe8000000000000 ∷ 0xbfe8000000000000 ∷ 0x3fe8000000000000 ∷ 0x3fe8000000000000 ∷ 0x3fe8000000000000 ∷ 0x3fe8000000000000 ∷ 0xbfe8000000000000 ∷ 0x3fc0000000000000 ∷ 0 ∷ []))
-    (0 ∷ 1 ∷ 4 ∷ 1 ∷ 2 ∷ 4 ∷ 2 ∷ 3 ∷ 4 ∷ 3 ∷ 0 ∷ 4 ∷ []) (EMPTY ∷ 5 ∷ 10 ∷ EMPTY ∷ 8 ∷ 1 ∷ EMPTY ∷ 11 ∷ 4 ∷ EMPTY ∷ 2 ∷ 7 ∷ [])
-    (0 ∷ 1 ∷ 2 ∷ 3 ∷ []) (box 0 0 0x4000000000000000 0x4000000000000000)) ≡ ok
-    (record {
+    × (rowOf
+    (build
+    (floats
+    (0xbfe8000000000000 ∷ 0xbfe8000000000000 ∷ 0xbfe8000000000000 ∷ 0x3fe8000000000000 ∷ 0x3fe8000000000000 ∷ 0x3fe8000000000000 ∷ 0x3fe8000000000000 ∷ 0xbfe8000000000000 ∷
+    0x3fc0000000000000 ∷ 0 ∷ []))
+    (0 ∷ 1 ∷ 4 ∷ 1 ∷ 2 ∷ 4 ∷ 2 ∷ 3 ∷ 4 ∷ 3 ∷ 0 ∷ 4 ∷ [])
+    (EMPTY ∷ 5 ∷ 10 ∷ EMPTY ∷ 8 ∷ 1 ∷ EMPTY ∷ 11 ∷ 4 ∷ EMPTY ∷ 2 ∷ 7 ∷ [])
+    (0 ∷ 1 ∷ 2 ∷ 3 ∷ [])
+    (rowBox 0 0 0x4000000000000000 0x4000000000000000))
+    ≡ ok (record {
       vertices = floats
-          (0xbfe4492492492492 ∷ 0 ∷ 0 ∷ 0x3fe7aaaaaaaaaaab ∷ 0x3fec666666666666 ∷ 0 ∷ 0 ∷ 0xbfe7aaaaaaaaaaab ∷ 0xbff0000000000000 ∷ 0xbff0000000000000 ∷ 0xbff0000000000000 ∷ 0x3ff0000000000000 ∷ 0x3ff0000000000000 ∷ 0x3ff0000000000000 ∷ 0x3ff0000000000000 ∷ 0xbff0000000000000 ∷ 0xc202a05f20051249 ∷ 0 ∷ 0 ∷ 0x4202a05f2005eaab ∷ 0x4202a05f2007199a ∷ 0 ∷ 0 ∷ 0xc202a05f2005eaab ∷ 0 ∷ 0xbff0000000000000 ∷ 0xbff0000000000000 ∷ 0 ∷ 0 ∷ 0x3ff0000000000000 ∷ 0x3ff0000000000000 ∷ 0 ∷ []);
-      cells = (t 3 ∷ x 12 ∷ w 4 ∷ x 13 ∷ t 0 ∷ []) ∷ (t 0 ∷ x 13 ∷ w 5 ∷ x 14 ∷ t 1 ∷ []) ∷ (t 1 ∷ x 14 ∷ w 6 ∷ x 15 ∷ t 2 ∷ []) ∷ (t 2 ∷ x 15 ∷ w
-          7 ∷ x 12 ∷ t 3 ∷ []) ∷ (t 0 ∷ t 1 ∷ t 2 ∷ t 3 ∷ []) ∷ [];
+          (0xbfe4492492492492 ∷ 0 ∷ 0 ∷ 0x3fe7aaaaaaaaaaab ∷ 0x3fec666666666666 ∷ 0 ∷ 0 ∷ 0xbfe7aaaaaaaaaaab ∷ 0xbff0000000000000 ∷ 0xbff0000000000000 ∷ 0xbff0000000000000 ∷
+          0x3ff0000000000000 ∷ 0x3ff0000000000000 ∷ 0x3ff0000000000000 ∷ 0x3ff0000000000000 ∷ 0xbff0000000000000 ∷ 0xc202a05f20051249 ∷ 0 ∷ 0 ∷ 0x4202a05f2005eaab ∷
+          0x4202a05f2007199a ∷ 0 ∷ 0 ∷ 0xc202a05f2005eaab ∷ 0 ∷ 0xbff0000000000000 ∷ 0xbff0000000000000 ∷ 0 ∷ 0 ∷ 0x3ff0000000000000 ∷ 0x3ff0000000000000 ∷ 0 ∷ []);
+      cells = (t 3 ∷ x 12 ∷ w 4 ∷ x 13 ∷ t 0 ∷ []) ∷ (t 0 ∷ x 13 ∷ w 5 ∷ x 14 ∷ t 1 ∷ []) ∷ (t 1 ∷ x 14 ∷ w 6 ∷ x 15 ∷ t 2 ∷ []) ∷ (t 2 ∷ x 15 ∷ w 7 ∷
+          x 12 ∷ t 3 ∷ []) ∷ (t 0 ∷ t 1 ∷ t 2 ∷ t 3 ∷ []) ∷ [];
       owners = 0 ∷ 1 ∷ 2 ∷ 3 ∷ [];
       lost = 0;
     }))
     -- a hull edge just long enough: see refused_short-edge
-    × (answer (build (floats (0 ∷ 0 ∷ 0x1e60000000000000 ∷ 0 ∷ 0 ∷ 0x3ff0000000000000 ∷ [])) (0 ∷ 1 ∷ 2 ∷ []) (EMPTY ∷ EMPTY ∷ EMPTY ∷ [])
-    (0 ∷ 1 ∷ 2 ∷ []) (box 0 0 0x4000000000000000 0x4000000000000000)) ≡ ok
-    (record {
+    × (rowOf
+    (build
+    (floats
+    (0 ∷ 0 ∷ 0x1e60000000000000 ∷ 0 ∷ 0 ∷ 0x3ff0000000000000 ∷ []))
+    (0 ∷ 1 ∷ 2 ∷ [])
+    (EMPTY ∷ EMPTY ∷ EMPTY ∷ [])
+    (0 ∷ 1 ∷ 2 ∷ [])
+    (rowBox 0 0 0x4000000000000000 0x4000000000000000))
+    ≡ ok (record {
       vertices = floats
-          (0x1e50000000000000 ∷ 0x3fe0000000000000 ∷ 0xbff0000000000000 ∷ 0xbff0000000000000 ∷ 0xbff0000000000000 ∷ 0x3ff0000000000000 ∷ 0x3ff0000000000000 ∷ 0x3ff0000000000000 ∷ 0x3ff0000000000000 ∷ 0xbff0000000000000 ∷ 0x1e50000000000000 ∷ 0x4202a05f20040000 ∷ 0xc202a05f20000000 ∷ 0x3fe0000000000000 ∷ 0x4202a05f20000000 ∷ 0x3fe0000000000000 ∷ 0x3ff0000000000000 ∷ 0x3fe0000000000000 ∷ 0x1e50000000000000 ∷ 0x3ff0000000000000 ∷ 0xbff0000000000000 ∷ 0x3fe0000000000000 ∷ []);
+          (0x1e50000000000000 ∷ 0x3fe0000000000000 ∷ 0xbff0000000000000 ∷ 0xbff0000000000000 ∷ 0xbff0000000000000 ∷ 0x3ff0000000000000 ∷ 0x3ff0000000000000 ∷ 0x3ff0000000000000 ∷
+          0x3ff0000000000000 ∷ 0xbff0000000000000 ∷ 0x1e50000000000000 ∷ 0x4202a05f20040000 ∷ 0xc202a05f20000000 ∷ 0x3fe0000000000000 ∷ 0x4202a05f20000000 ∷ 0x3fe0000000000000 ∷
+          0x3ff0000000000000 ∷ 0x3fe0000000000000 ∷ 0x1e50000000000000 ∷ 0x3ff0000000000000 ∷ 0xbff0000000000000 ∷ 0x3fe0000000000000 ∷ []);
       cells = (t 0 ∷ x 8 ∷ x 9 ∷ []) ∷ (t 0 ∷ x 9 ∷ x 10 ∷ []) ∷ (t 0 ∷ x 10 ∷ x 10 ∷ w 2 ∷ w 3 ∷ x 8 ∷ x 8 ∷ []) ∷ [];
       owners = 0 ∷ 2 ∷ 2 ∷ 1 ∷ [];
       lost = 2;
     }))
     -- corners that are lost on sound input
-    × (answer (build (floats (0 ∷ 0x3fe0000000000000 ∷ 0x3fe0000000000000 ∷ 0x3fe0000000000000 ∷ 0x3fe0000000000000 ∷ 0 ∷ [])) (0 ∷ 1 ∷ 2 ∷ [])
-    (EMPTY ∷ EMPTY ∷ EMPTY ∷ []) (2 ∷ 0 ∷ 1 ∷ []) (box 0 0 0x4000000000000000 0x4000000000000000)) ≡ ok
-    (record {
+    × (rowOf
+    (build
+    (floats
+    (0 ∷ 0x3fe0000000000000 ∷ 0x3fe0000000000000 ∷ 0x3fe0000000000000 ∷ 0x3fe0000000000000 ∷ 0 ∷ []))
+    (0 ∷ 1 ∷ 2 ∷ [])
+    (EMPTY ∷ EMPTY ∷ EMPTY ∷ [])
+    (2 ∷ 0 ∷ 1 ∷ [])
+    (rowBox 0 0 0x4000000000000000 0x4000000000000000))
+    ≡ ok (record {
       vertices = floats
-          (0x3fd0000000000000 ∷ 0x3fd0000000000000 ∷ 0xbff0000000000000 ∷ 0xbff0000000000000 ∷ 0xbff0000000000000 ∷ 0x3ff0000000000000 ∷ 0x3ff0000000000000 ∷ 0x3ff0000000000000 ∷ 0x3ff0000000000000 ∷ 0xbff0000000000000 ∷ 0xc1fa577eea39d8fc ∷ 0xc1fa577eea39d8fc ∷ 0x3fd0000000000000 ∷ 0x4202a05f20020000 ∷ 0x4202a05f20020000 ∷ 0x3fd0000000000000 ∷ 0x3ff0000000000000 ∷ 0x3fd0000000000000 ∷ 0x3fd0000000000000 ∷ 0x3ff0000000000000 ∷ []);
+          (0x3fd0000000000000 ∷ 0x3fd0000000000000 ∷ 0xbff0000000000000 ∷ 0xbff0000000000000 ∷ 0xbff0000000000000 ∷ 0x3ff0000000000000 ∷ 0x3ff0000000000000 ∷ 0x3ff0000000000000 ∷
+          0x3ff0000000000000 ∷ 0xbff0000000000000 ∷ 0xc1fa577eea39d8fc ∷ 0xc1fa577eea39d8fc ∷ 0x3fd0000000000000 ∷ 0x4202a05f20020000 ∷ 0x4202a05f20020000 ∷ 0x3fd0000000000000 ∷
+          0x3ff0000000000000 ∷ 0x3fd0000000000000 ∷ 0x3fd0000000000000 ∷ 0x3ff0000000000000 ∷ []);
       cells = (t 0 ∷ x 1 ∷ x 9 ∷ []) ∷ (t 0 ∷ x 9 ∷ w 3 ∷ x 8 ∷ []) ∷ (t 0 ∷ x 8 ∷ w 4 ∷ x 1 ∷ []) ∷ [];
       owners = 2 ∷ 0 ∷ 1 ∷ 2 ∷ [];
       lost = 2;
     }))
     -- the marks: of the three 2s of cell 0 one is wrapped, two are crossings that reuse the corner
-    × (answer (build (floats
-    (0xbfe0000000000000 ∷ 0xbfe0000000000000 ∷ 0xbfe0000000000000 ∷ 0x3fe0000000000000 ∷ 0x3fe0000000000000 ∷ 0x3fe0000000000000 ∷ 0x3fe0000000000000 ∷ 0xbfe0000000000000 ∷ []))
-    (0 ∷ 1 ∷ 2 ∷ 0 ∷ 2 ∷ 3 ∷ []) (EMPTY ∷ EMPTY ∷ 3 ∷ 2 ∷ EMPTY ∷ EMPTY ∷ []) (0 ∷ 1 ∷ 2 ∷ 3 ∷ [])
-    (box 0 0 0x4202a05f20000000 0x4202a05f20000000)) ≡ ok
-    (record {
+    × (rowOf
+    (build
+    (floats
+    (0xbfe0000000000000 ∷ 0xbfe0000000000000 ∷ 0xbfe0000000000000 ∷ 0x3fe0000000000000 ∷ 0x3fe0000000000000 ∷ 0x3fe0000000000000 ∷ 0x3fe0000000000000 ∷ 0xbfe0000000000000 ∷
+    []))
+    (0 ∷ 1 ∷ 2 ∷ 0 ∷ 2 ∷ 3 ∷ [])
+    (EMPTY ∷ EMPTY ∷ 3 ∷ 2 ∷ EMPTY ∷ EMPTY ∷ [])
+    (0 ∷ 1 ∷ 2 ∷ 3 ∷ [])
+    (rowBox 0 0 0x4202a05f20000000 0x4202a05f20000000))
+    ≡ ok (record {
       vertices = floats
-          (0 ∷ 0 ∷ 0 ∷ 0 ∷ 0xc1f2a05f20000000 ∷ 0xc1f2a05f20000000 ∷ 0xc1f2a05f20000000 ∷ 0x41f2a05f20000000 ∷ 0x41f2a05f20000000 ∷ 0x41f2a05f20000000 ∷ 0x41f2a05f20000000 ∷ 0xc1f2a05f20000000 ∷ 0xc202a05f20000000 ∷ 0 ∷ 0 ∷ 0x4202a05f20000000 ∷ 0x4202a05f20000000 ∷ 0 ∷ 0 ∷ 0xc202a05f20000000 ∷ 0 ∷ 0xc1f2a05f20000000 ∷ 0xc1f2a05f20000000 ∷ 0 ∷ 0 ∷ 0x41f2a05f20000000 ∷ 0x41f2a05f20000000 ∷ 0 ∷ []);
-      cells = (t 1 ∷ x 10 ∷ x 2 ∷ x 2 ∷ w 2 ∷ x 11 ∷ t 0 ∷ []) ∷ (t 0 ∷ x 11 ∷ w 3 ∷ x 3 ∷ x 3 ∷ x 12 ∷ []) ∷ (t 0 ∷ x 12 ∷ x 4 ∷ x 4 ∷ w 4 ∷ x
-          13 ∷ t 1 ∷ []) ∷ (t 1 ∷ x 13 ∷ w 5 ∷ x 5 ∷ x 5 ∷ x 10 ∷ []) ∷ [];
+          (0 ∷ 0 ∷ 0 ∷ 0 ∷ 0xc1f2a05f20000000 ∷ 0xc1f2a05f20000000 ∷ 0xc1f2a05f20000000 ∷ 0x41f2a05f20000000 ∷ 0x41f2a05f20000000 ∷ 0x41f2a05f20000000 ∷ 0x41f2a05f20000000 ∷
+          0xc1f2a05f20000000 ∷ 0xc202a05f20000000 ∷ 0 ∷ 0 ∷ 0x4202a05f20000000 ∷ 0x4202a05f20000000 ∷ 0 ∷ 0 ∷ 0xc202a05f20000000 ∷ 0 ∷ 0xc1f2a05f20000000 ∷
+          0xc1f2a05f20000000 ∷ 0 ∷ 0 ∷ 0x41f2a05f20000000 ∷ 0x41f2a05f20000000 ∷ 0 ∷ []);
+      cells = (t 1 ∷ x 10 ∷ x 2 ∷ x 2 ∷ w 2 ∷ x 11 ∷ t 0 ∷ []) ∷ (t 0 ∷ x 11 ∷ w 3 ∷ x 3 ∷ x 3 ∷ x 12 ∷ []) ∷ (t 0 ∷ x 12 ∷ x 4 ∷ x 4 ∷ w 4 ∷ x 13 ∷ t 1 ∷
+          []) ∷ (t 1 ∷ x 13 ∷ w 5 ∷ x 5 ∷ x 5 ∷ x 10 ∷ []) ∷ [];
       owners = 0 ∷ 1 ∷ 2 ∷ 3 ∷ [];
       lost = 0;
     }))
     -- a circumcenter on the right side: the crossing there is a vertex of its own, no circumcenter is taken again
-    × (answer (build (floats (0x4000000000000000 ∷ 0xbff0000000000000 ∷ 0 ∷ 0xbff0000000000000 ∷ 0x3ff0000000000000 ∷ 0x3ff0000000000000 ∷ []))
-    (2 ∷ 0 ∷ 1 ∷ []) (EMPTY ∷ EMPTY ∷ EMPTY ∷ []) (2 ∷ 0 ∷ 1 ∷ []) (box 0 0 0x4000000000000000 0x4000000000000000)) ≡ ok
-    (record {
+    × (rowOf
+    (build
+    (floats
+    (0x4000000000000000 ∷ 0xbff0000000000000 ∷ 0 ∷ 0xbff0000000000000 ∷ 0x3ff0000000000000 ∷ 0x3ff0000000000000 ∷ []))
+    (2 ∷ 0 ∷ 1 ∷ [])
+    (EMPTY ∷ EMPTY ∷ EMPTY ∷ [])
+    (2 ∷ 0 ∷ 1 ∷ [])
+    (rowBox 0 0 0x4000000000000000 0x4000000000000000))
+    ≡ ok (record {
       vertices = floats
-          (0x3ff0000000000000 ∷ 0xbfd0000000000000 ∷ 0xbff0000000000000 ∷ 0xbff0000000000000 ∷ 0xbff0000000000000 ∷ 0x3ff0000000000000 ∷ 0x3ff0000000000000 ∷ 0x3ff0000000000000 ∷ 0x3ff0000000000000 ∷ 0xbff0000000000000 ∷ 0x4200a8f61137fe47 ∷ 0x41f0a8f6112bfe47 ∷ 0x3ff0000000000000 ∷ 0xc202a05f20020000 ∷ 0xc200a8f61127fe47 ∷ 0x41f0a8f6112bfe47 ∷ 0xbff0000000000000 ∷ 0x3fe8000000000000 ∷ 0x3ff0000000000000 ∷ 0xbfd0000000000000 ∷ []);
+          (0x3ff0000000000000 ∷ 0xbfd0000000000000 ∷ 0xbff0000000000000 ∷ 0xbff0000000000000 ∷ 0xbff0000000000000 ∷ 0x3ff0000000000000 ∷ 0x3ff0000000000000 ∷ 0x3ff0000000000000 ∷
+          0x3ff0000000000000 ∷ 0xbff0000000000000 ∷ 0x4200a8f61137fe47 ∷ 0x41f0a8f6112bfe47 ∷ 0x3ff0000000000000 ∷ 0xc202a05f20020000 ∷ 0xc200a8f61127fe47 ∷ 0x41f0a8f6112bfe47 ∷
+          0xbff0000000000000 ∷ 0x3fe8000000000000 ∷ 0x3ff0000000000000 ∷ 0xbfd0000000000000 ∷ []);
       cells = (t 0 ∷ x 9 ∷ x 4 ∷ []) ∷ (t 0 ∷ x 4 ∷ w 1 ∷ x 8 ∷ []) ∷ (t 0 ∷ x 8 ∷ w 2 ∷ w 3 ∷ x 9 ∷ []) ∷ [];
       owners = 1 ∷ 2 ∷ 2 ∷ 1 ∷ [];
       lost = 1;
     }))
     -- the first hull cell has no vertex inside, and its walk begins at the extension after it
-    × (answer (build (floats
+    × (rowOf
+    (build
+    (floats
     (0xbff0000000000000 ∷ 0x4000000000000000 ∷ 0x3ff0000000000000 ∷ 0x3ff0000000000000 ∷ 0x4000000000000000 ∷ 0xc000000000000000 ∷ []))
-    (1 ∷ 2 ∷ 0 ∷ []) (EMPTY ∷ EMPTY ∷ EMPTY ∷ []) (2 ∷ 0 ∷ 1 ∷ [])
-    (box 0xc1bdcd6500000000 0xc1cdcd6500000000 0x41bdcd6500000000 0x41ddcd6500000000)) ≡ ok
-    (record {
+    (1 ∷ 2 ∷ 0 ∷ [])
+    (EMPTY ∷ EMPTY ∷ EMPTY ∷ [])
+    (2 ∷ 0 ∷ 1 ∷ [])
+    (rowBox 0xc1bdcd6500000000 0xc1cdcd6500000000 0x41bdcd6500000000 0x41ddcd6500000000))
+    ≡ ok (record {
       vertices = floats
-          (0xbff8000000000000 ∷ 0xbff8000000000000 ∷ 0xc1c65a0bc0000000 ∷ 0xc1ddcd6500000000 ∷ 0xc1c65a0bc0000000 ∷ 0 ∷ 0xc1adcd6500000000 ∷ 0 ∷ 0xc1adcd6500000000 ∷ 0xc1ddcd6500000000 ∷ 0xc1fdcd6500180000 ∷ 0xc1f65a0bc0180001 ∷ 0x41f0a8f61117fe47 ∷ 0x4200a8f61123fe47 ∷ 0x4201abacaa980a86 ∷ 0x41e78f90e355635d ∷ 0xc1c65a0bc0000000 ∷ 0xc1c0c388d0300001 ∷ 0xc1adcd6500000000 ∷ 0xc1a65a0bc0c00001 ∷ 0xc1adcd6500000000 ∷ 0xc1dce616cee14575 ∷ 0xc1b5cc8bd34d19ed ∷ 0xc1ddcd6500000000 ∷ []);
+          (0xbff8000000000000 ∷ 0xbff8000000000000 ∷ 0xc1c65a0bc0000000 ∷ 0xc1ddcd6500000000 ∷ 0xc1c65a0bc0000000 ∷ 0 ∷ 0xc1adcd6500000000 ∷ 0 ∷ 0xc1adcd6500000000 ∷
+          0xc1ddcd6500000000 ∷ 0xc1fdcd6500180000 ∷ 0xc1f65a0bc0180001 ∷ 0x41f0a8f61117fe47 ∷ 0x4200a8f61123fe47 ∷ 0x4201abacaa980a86 ∷ 0x41e78f90e355635d ∷ 0xc1c65a0bc0000000 ∷
+          0xc1c0c388d0300001 ∷ 0xc1adcd6500000000 ∷ 0xc1a65a0bc0c00001 ∷ 0xc1adcd6500000000 ∷ 0xc1dce616cee14575 ∷ 0xc1b5cc8bd34d19ed ∷ 0xc1ddcd6500000000 ∷ []);
       cells = (x 9 ∷ x 8 ∷ w 2 ∷ w 3 ∷ []) ∷ ([]) ∷ (x 8 ∷ x 9 ∷ w 4 ∷ w 1 ∷ x 10 ∷ x 11 ∷ []) ∷ [];
       owners = 2 ∷ 0 ∷ 0 ∷ 2 ∷ [];
       lost = 0;
     }))
-    -- "square" of document 01
-    × (answer (build (floats
-    (0xbfe0000000000000 ∷ 0xbfe0000000000000 ∷ 0xbfe0000000000000 ∷ 0x3fe0000000000000 ∷ 0x3fe0000000000000 ∷ 0x3fe0000000000000 ∷ 0x3fe0000000000000 ∷ 0xbfe0000000000000 ∷ []))
-    (0 ∷ 1 ∷ 2 ∷ 0 ∷ 2 ∷ 3 ∷ []) (EMPTY ∷ EMPTY ∷ 3 ∷ 2 ∷ EMPTY ∷ EMPTY ∷ []) (0 ∷ 1 ∷ 2 ∷ 3 ∷ [])
-    (box 0 0 0x4000000000000000 0x4000000000000000)) ≡ ok
-    (record {
+    -- "square" of docs/RULES.md
+    × (rowOf
+    (build
+    (floats
+    (0xbfe0000000000000 ∷ 0xbfe0000000000000 ∷ 0xbfe0000000000000 ∷ 0x3fe0000000000000 ∷ 0x3fe0000000000000 ∷ 0x3fe0000000000000 ∷ 0x3fe0000000000000 ∷ 0xbfe0000000000000 ∷
+    []))
+    (0 ∷ 1 ∷ 2 ∷ 0 ∷ 2 ∷ 3 ∷ [])
+    (EMPTY ∷ EMPTY ∷ 3 ∷ 2 ∷ EMPTY ∷ EMPTY ∷ [])
+    (0 ∷ 1 ∷ 2 ∷ 3 ∷ [])
+    (rowBox 0 0 0x4000000000000000 0x4000000000000000))
+    ≡ ok (record {
       vertices = floats
-          (0 ∷ 0 ∷ 0 ∷ 0 ∷ 0xbff0000000000000 ∷ 0xbff0000000000000 ∷ 0xbff0000000000000 ∷ 0x3ff0000000000000 ∷ 0x3ff0000000000000 ∷ 0x3ff0000000000000 ∷ 0x3ff0000000000000 ∷ 0xbff0000000000000 ∷ 0xc202a05f20000000 ∷ 0 ∷ 0 ∷ 0x4202a05f20000000 ∷ 0x4202a05f20000000 ∷ 0 ∷ 0 ∷ 0xc202a05f20000000 ∷ 0 ∷ 0xbff0000000000000 ∷ 0xbff0000000000000 ∷ 0 ∷ 0 ∷ 0x3ff0000000000000 ∷ 0x3ff0000000000000 ∷ 0 ∷ []);
-      cells = (t 1 ∷ x 10 ∷ w 2 ∷ x 11 ∷ t 0 ∷ []) ∷ (t 0 ∷ x 11 ∷ w 3 ∷ x 12 ∷ []) ∷ (t 0 ∷ x 12 ∷ w 4 ∷ x 13 ∷ t 1 ∷ []) ∷ (t 1 ∷ x 13 ∷ w 5 ∷ x
-          10 ∷ []) ∷ [];
+          (0 ∷ 0 ∷ 0 ∷ 0 ∷ 0xbff0000000000000 ∷ 0xbff0000000000000 ∷ 0xbff0000000000000 ∷ 0x3ff0000000000000 ∷ 0x3ff0000000000000 ∷ 0x3ff0000000000000 ∷ 0x3ff0000000000000 ∷
+          0xbff0000000000000 ∷ 0xc202a05f20000000 ∷ 0 ∷ 0 ∷ 0x4202a05f20000000 ∷ 0x4202a05f20000000 ∷ 0 ∷ 0 ∷ 0xc202a05f20000000 ∷ 0 ∷ 0xbff0000000000000 ∷
+          0xbff0000000000000 ∷ 0 ∷ 0 ∷ 0x3ff0000000000000 ∷ 0x3ff0000000000000 ∷ 0 ∷ []);
+      cells = (t 1 ∷ x 10 ∷ w 2 ∷ x 11 ∷ t 0 ∷ []) ∷ (t 0 ∷ x 11 ∷ w 3 ∷ x 12 ∷ []) ∷ (t 0 ∷ x 12 ∷ w 4 ∷ x 13 ∷ t 1 ∷ []) ∷ (t 1 ∷ x 13 ∷ w 5 ∷ x 10 ∷
+          []) ∷ [];
       owners = 0 ∷ 1 ∷ 2 ∷ 3 ∷ [];
       lost = 0;
     }))
     -- a cell passes the corners that it has wrapped once more
-    × (answer (build (floats (0xbfe0000000000000 ∷ 0 ∷ 0xbff8000000000000 ∷ 0 ∷ 0x3fe0000000000000 ∷ 0xbfe0000000000000 ∷ [])) (0 ∷ 2 ∷ 1 ∷ [])
-    (EMPTY ∷ EMPTY ∷ EMPTY ∷ []) (0 ∷ 2 ∷ 1 ∷ []) (box 0 0 0x4000000000000000 0x4000000000000000)) ≡ ok
-    (record {
+    × (rowOf
+    (build
+    (floats
+    (0xbfe0000000000000 ∷ 0 ∷ 0xbff8000000000000 ∷ 0 ∷ 0x3fe0000000000000 ∷ 0xbfe0000000000000 ∷ []))
+    (0 ∷ 2 ∷ 1 ∷ [])
+    (EMPTY ∷ EMPTY ∷ EMPTY ∷ [])
+    (0 ∷ 2 ∷ 1 ∷ [])
+    (rowBox 0 0 0x4000000000000000 0x4000000000000000))
+    ≡ ok (record {
       vertices = floats
-          (0xbff0000000000000 ∷ 0xc002000000000000 ∷ 0xbff0000000000000 ∷ 0xbff0000000000000 ∷ 0xbff0000000000000 ∷ 0x3ff0000000000000 ∷ 0x3ff0000000000000 ∷ 0x3ff0000000000000 ∷ 0x3ff0000000000000 ∷ 0xbff0000000000000 ∷ 0x41f0a8f6111ffe47 ∷ 0x4200a8f6111dfe47 ∷ 0xc1e211fffb6ba066 ∷ 0xc20211fffb5da066 ∷ 0xbff0000000000000 ∷ 0x4202a05f1fee0000 ∷ 0x3fe4000000000000 ∷ 0x3ff0000000000000 ∷ 0xbfd8000000000000 ∷ 0xbff0000000000000 ∷ []);
+          (0xbff0000000000000 ∷ 0xc002000000000000 ∷ 0xbff0000000000000 ∷ 0xbff0000000000000 ∷ 0xbff0000000000000 ∷ 0x3ff0000000000000 ∷ 0x3ff0000000000000 ∷ 0x3ff0000000000000 ∷
+          0x3ff0000000000000 ∷ 0xbff0000000000000 ∷ 0x41f0a8f6111ffe47 ∷ 0x4200a8f6111dfe47 ∷ 0xc1e211fffb6ba066 ∷ 0xc20211fffb5da066 ∷ 0xbff0000000000000 ∷ 0x4202a05f1fee0000 ∷
+          0x3fe4000000000000 ∷ 0x3ff0000000000000 ∷ 0xbfd8000000000000 ∷ 0xbff0000000000000 ∷ []);
       cells = (x 8 ∷ x 9 ∷ w 1 ∷ w 2 ∷ x 1 ∷ x 2 ∷ []) ∷ (x 2 ∷ x 1 ∷ []) ∷ (x 9 ∷ x 8 ∷ w 3 ∷ w 4 ∷ []) ∷ [];
       owners = 0 ∷ 0 ∷ 2 ∷ 2 ∷ [];
       lost = 0;
     }))
     -- an edge with one end inside finds two crossings; the second is added or reused, and stands in no cell for that
-    × (answer (build (floats
+    × (rowOf
+    (build
+    (floats
     (0xc000000000000000 ∷ 0x3ff0000000000000 ∷ 0x3ff0000000000000 ∷ 0x4000000000000000 ∷ 0x4000000000000000 ∷ 0x3ff0000000000000 ∷ []))
-    (2 ∷ 0 ∷ 1 ∷ []) (EMPTY ∷ EMPTY ∷ EMPTY ∷ []) (1 ∷ 2 ∷ 0 ∷ [])
-    (box 0xbfd0000000000000 0x3fd0000000000000 0x3fe0000000000000 0x3fe8000000000000)) ≡ ok
-    (record {
+    (2 ∷ 0 ∷ 1 ∷ [])
+    (EMPTY ∷ EMPTY ∷ EMPTY ∷ [])
+    (1 ∷ 2 ∷ 0 ∷ [])
+    (rowBox 0xbfd0000000000000 0x3fd0000000000000 0x3fe0000000000000 0x3fe8000000000000))
+    ≡ ok (record {
       vertices = floats
-          (0 ∷ 0 ∷ 0xbfe0000000000000 ∷ 0xbfc0000000000000 ∷ 0xbfe0000000000000 ∷ 0x3fe4000000000000 ∷ 0 ∷ 0x3fe4000000000000 ∷ 0 ∷ 0xbfc0000000000000 ∷ 0x41fa577eea3dd8fc ∷ 0x41fa577eea3dd8fc ∷ 0 ∷ 0xc202a05f20000000 ∷ 0xc1e78f90e385635d ∷ 0x4201abacaaa40a86 ∷ 0 ∷ 0 ∷ 0xbfcaaaaaaaaaaaab ∷ 0x3fe4000000000000 ∷ []);
+          (0 ∷ 0 ∷ 0xbfe0000000000000 ∷ 0xbfc0000000000000 ∷ 0xbfe0000000000000 ∷ 0x3fe4000000000000 ∷ 0 ∷ 0x3fe4000000000000 ∷ 0 ∷ 0xbfc0000000000000 ∷ 0x41fa577eea3dd8fc ∷
+          0x41fa577eea3dd8fc ∷ 0 ∷ 0xc202a05f20000000 ∷ 0xc1e78f90e385635d ∷ 0x4201abacaaa40a86 ∷ 0 ∷ 0 ∷ 0xbfcaaaaaaaaaaaab ∷ 0x3fe4000000000000 ∷ []);
       cells = (t 0 ∷ x 4 ∷ w 1 ∷ w 2 ∷ x 8 ∷ []) ∷ (t 0 ∷ x 8 ∷ x 8 ∷ []) ∷ (t 0 ∷ x 8 ∷ x 4 ∷ []) ∷ [];
       owners = 0 ∷ 0 ∷ 1 ∷ 0 ∷ [];
       lost = 2;
     }))
     -- "square" with a fifth, unused site
-    × (answer (build (floats
-    (0xbfe0000000000000 ∷ 0xbfe0000000000000 ∷ 0xbfe0000000000000 ∷ 0x3fe0000000000000 ∷ 0x3fe0000000000000 ∷ 0x3fe0000000000000 ∷ 0x3fe0000000000000 ∷ 0xbfe0000000000000 ∷ 0x4008000000000000 ∷ 0x4008000000000000 ∷ []))
-    (0 ∷ 1 ∷ 2 ∷ 0 ∷ 2 ∷ 3 ∷ []) (EMPTY ∷ EMPTY ∷ 3 ∷ 2 ∷ EMPTY ∷ EMPTY ∷ []) (0 ∷ 1 ∷ 2 ∷ 3 ∷ [])
-    (box 0 0 0x4000000000000000 0x4000000000000000)) ≡ ok
-    (record {
+    × (rowOf
+    (build
+    (floats
+    (0xbfe0000000000000 ∷ 0xbfe0000000000000 ∷ 0xbfe0000000000000 ∷ 0x3fe0000000000000 ∷ 0x3fe0000000000000 ∷ 0x3fe0000000000000 ∷ 0x3fe0000000000000 ∷ 0xbfe0000000000000 ∷
+    0x4008000000000000 ∷ 0x4008000000000000 ∷ []))
+    (0 ∷ 1 ∷ 2 ∷ 0 ∷ 2 ∷ 3 ∷ [])
+    (EMPTY ∷ EMPTY ∷ 3 ∷ 2 ∷ EMPTY ∷ EMPTY ∷ [])
+    (0 ∷ 1 ∷ 2 ∷ 3 ∷ [])
+    (rowBox 0 0 0x4000000000000000 0x4000000000000000))
+    ≡ ok (record {
       vertices = floats
-          (0 ∷ 0 ∷ 0 ∷ 0 ∷ 0xbff0000000000000 ∷ 0xbff0000000000000 ∷ 0xbff0000000000000 ∷ 0x3ff0000000000000 ∷ 0x3ff0000000000000 ∷ 0x3ff0000000000000 ∷ 0x3ff0000000000000 ∷ 0xbff0000000000000 ∷ 0xc202a05f20000000 ∷ 0 ∷ 0 ∷ 0x4202a05f20000000 ∷ 0x4202a05f20000000 ∷ 0 ∷ 0 ∷ 0xc202a05f20000000 ∷ 0 ∷ 0xbff0000000000000 ∷ 0xbff0000000000000 ∷ 0 ∷ 0 ∷ 0x3ff0000000000000 ∷ 0x3ff0000000000000 ∷ 0 ∷ []);
-      cells = (t 1 ∷ x 10 ∷ w 2 ∷ x 11 ∷ t 0 ∷ []) ∷ (t 0 ∷ x 11 ∷ w 3 ∷ x 12 ∷ []) ∷ (t 0 ∷ x 12 ∷ w 4 ∷ x 13 ∷ t 1 ∷ []) ∷ (t 1 ∷ x 13 ∷ w 5 ∷ x
-          10 ∷ []) ∷ ([]) ∷ [];
+          (0 ∷ 0 ∷ 0 ∷ 0 ∷ 0xbff0000000000000 ∷ 0xbff0000000000000 ∷ 0xbff0000000000000 ∷ 0x3ff0000000000000 ∷ 0x3ff0000000000000 ∷ 0x3ff0000000000000 ∷ 0x3ff0000000000000 ∷
+          0xbff0000000000000 ∷ 0xc202a05f20000000 ∷ 0 ∷ 0 ∷ 0x4202a05f20000000 ∷ 0x4202a05f20000000 ∷ 0 ∷ 0 ∷ 0xc202a05f20000000 ∷ 0 ∷ 0xbff0000000000000 ∷
+          0xbff0000000000000 ∷ 0 ∷ 0 ∷ 0x3ff0000000000000 ∷ 0x3ff0000000000000 ∷ 0 ∷ []);
+      cells = (t 1 ∷ x 10 ∷ w 2 ∷ x 11 ∷ t 0 ∷ []) ∷ (t 0 ∷ x 11 ∷ w 3 ∷ x 12 ∷ []) ∷ (t 0 ∷ x 12 ∷ w 4 ∷ x 13 ∷ t 1 ∷ []) ∷ (t 1 ∷ x 13 ∷ w 5 ∷ x 10 ∷
+          []) ∷ ([]) ∷ [];
       owners = 0 ∷ 1 ∷ 2 ∷ 3 ∷ [];
       lost = 0;
     }))
-unfolding trailingZeros ofBits add sub mul div lt le eq neg sum round units odd size span climb same wholeRoot nearestRoot rootOfUnits sqrtOf nearOf
-    dist2Of centreOf flat okCentre madeOf cornersOf insideOf firstSide whichOf oneIf twoIf firstHeld orderPick eitherOf rightHit leftHit topHit
-    bottomHit uprightHit settleOf lineOf orderBy orderOne orderTwo rayOf nearPt findNear addVertex nextOf chosen tableTo turnOf walkOf afterOf lastEnd
-    startsOf neighboursOf distOf nearestOf hopOf pathEnd andThen atEdge wraps around insertAt insertEdge edgeCrossing clipWith clipEdge leave enterAt
-    enter link crossAt cross clipStep inBox stepTo stepsTo firstInside turned clipFrom clipCell centreAt centresFrom ownersFrom extended extendFrom
-    hullRing clipInto clipHull clipRest wrappedIn allWrapped lostFrom clipAll build ringsFrom unclipped answer
+unfolding trailingZeros ofBits add sub mul div lt le eq neg sum round units odd size span climb same wholeRoot
+    nearestRoot rootOfUnits sqrtOf nearOf dist2Of centerOf flat okCenter madeOf cornersOf insideOf firstSide
+    whichOf oneIf twoIf firstHeld orderPick eitherOf rightHit leftHit topHit bottomHit uprightHit settleOf lineOf
+    orderBy orderOne orderTwo rayOf nearPt findNear addVertex nextOf chosen tableTo turnOf walkOf nextPlace lastEnd
+    startsOf neighboursOf distOf nearestOf hopOf pathEnd andThen atEdge wraps withCorners insertAt insertEdge
+    edgeCrossing clipWith clipEdge leave enterAt enter link crossAt cross clipStep inBox stepTo stepsTo
+    firstInside turned clipFrom clipCell centerAt centersFrom ownersFrom extended extendFrom hullRing clipInto
+    clipHull clipRest wrappedIn allWrapped lostFrom clipAll build ringsFrom unclipped rowOf
 rows = (refl, refl, refl, refl, refl, refl, refl, refl, refl, refl, refl, refl, refl)

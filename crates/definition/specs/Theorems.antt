@@ -1,174 +1,52 @@
--- What holds of every build that is not refused, on an accepted mesh and a box that rule 3 admits.
-use mathlib.Core.Path.{_≡_, refl, ap, _∙_}
-use mathlib.Core.Bool.{true}
-use mathlib.Core.List.{List, [], _∷_, _++_}
-use mathlib.Core.Logic.{_⊎_, inl, inr, ⊎-elim, _≢_}
-use Prim.Native.Nat.{ℕ, suc, _+_, _*_, _/_, _≤_, _<_}
+-- Theorems: what holds of every build that is not refused, on an accepted mesh and a box that rule 3 admits; of every unclipped build; of wrapping.
+use mathlib.Core.Path.{_≡_}
+use mathlib.Core.List.{List, []}
+use mathlib.Core.Logic.{_≢_}
+use Prim.Native.Nat.{ℕ, _+_, _≤_, _<_}
 use native.Mathlib.Omega.{arith}
-use native.Mathlib.Nat.{add-zero}
-use lib.Dec.{eqb}
 use lib.Ieee.{Float}
-use lib.ListN.{length, getD, length-append}
-use borrow.Author.Tests.{eq-eqb, ne-eqb}
-use Rattle.laws.specs.Pick.{pick}
-use Rattle.laws.specs.Count.{occ, same-cases}
+use lib.ListN.{length, replicate}
+use Rattle.laws.specs.Count.{occ}
 use Rattle.numbers.specs.Numbers.{EMPTY}
-use Rattle.utils.specs.declared.Point.{Point}
-use Rattle.bounding_box.specs.Box.{cornersOf}
 use Rattle.bounding_box.specs.Finite.{BoundedBox}
 use Rattle.bounding_box.specs.declared.BoundingBox.{BoundingBox}
-use Rattle.mesh.specs.Mesh.{leftmostOf}
-use Rattle.mesh.specs.Accepted.{Accepted, siteCount}
-use Rattle.mesh.specs.Facts.{topology}
-use Rattle.iterator.specs.Whole.{lastOf}
+use Rattle.mesh.specs.Accepted.{Accepted}
+use Rattle.mesh.specs.Accepted.{Topology}
 use Rattle.definition.specs.Fault.{ok}
-use Rattle.definition.specs.Cell.{Mark, plain, crossing, wrapped, Entry, inBox}
-use Rattle.definition.specs.Build.{centresFrom, ownersFrom, Extensions, extensions, extendFrom, Cells, clipAll, ifWrapped, wrappedIn, allWrapped, lostFrom, Built, build}
-use Rattle.definition.specs.Gives.{Gives, gives-ok, gives-map, gives-then}
-use Rattle.definition.specs.Puts.{occ-le, Placed, AllPlaced, all-turned}
-use Rattle.definition.specs.Edge.{fresh}
-use Rattle.definition.specs.Ring.{in-grown}
-use Rattle.definition.specs.Weigh.{weigh}
-use Rattle.definition.specs.Held.{Held}
-use Rattle.definition.specs.Owners.{cornerPaths, owners-length, owner, ready, towards-corner}
-use Rattle.definition.specs.All.{shareOf, all-filled, clip-all}
-use Rattle.definition.specs.Start.{centres-from, Extended, extend-from}
-
--- the path to corner c, which is vertex T + c
-abbrev pub pathTo : List Float → List ℕ → List ℕ → List ℕ → BoundingBox → ℕ → List ℕ
-pathTo sites tri he hull b c = getD (cornerPaths sites tri he (leftmostOf tri he (siteCount sites)) (getD hull 0 0) (cornersOf b)) c []
-
--- each corner is wrapped at most once over all cells, and only in the cell of the site that is the last entry of its path; and nothing else is wrapped
-pub record Wrapping (sites : List Float) (tri he hull : List ℕ) (b : BoundingBox) (r : Built) : Type 0 where
-  pub once : (c : ℕ) → c < 4 → occ (length tri / 3 + c) (allWrapped (r .cells)) ≤ 1
-  pub there : (c s : ℕ) → c < 4 → 0 < occ (length tri / 3 + c) (wrappedIn (getD (r .cells) s [])) → s ≡ lastOf (pathTo sites tri he hull b c)
-  pub corners : (v s : ℕ) → 0 < occ v (wrappedIn (getD (r .cells) s [])) → (length tri / 3 ≤ v) × (v < length tri / 3 + 4)
-  pub owners : (c : ℕ) → c < 4 → getD (r .owners) c 0 ≡ lastOf (pathTo sites tri he hull b c)
-
--- T triangles, H hull places: at most 7T + 5H + 4 vertices and 9T + 6H + 4 entries, and each entry is a vertex: plain ones circumcenters inside the box,
--- crossings after the circumcenters
-pub record Room (tri hull : List ℕ) (b : BoundingBox) (r : Built) : Type 0 where
-  pub vertices : length (r .verts) ≤ 7 * (length tri / 3) + 5 * length hull + 4
-  pub added : length (r .verts) ≡ length tri / 3 + 4 + fresh (r .steps)
-  pub entries : weigh (λ s c. length c) 0 (r .cells) ≤ 9 * (length tri / 3) + 6 * length hull + 4
-  pub region : (s : ℕ) → s < length (r .cells) → length (getD (r .cells) s []) ≤ 3 * shareOf tri hull s + occ s (r .owners)
-  pub placed : (s : ℕ) → AllPlaced (λ v. inBox b (length tri / 3) (r .verts) v ≡ true) (length tri / 3) (length (r .verts)) (getD (r .cells) s [])
-
--- ---- lost corners
-
--- how many owners are left
-abbrev pub leftOf : List ℕ → ℕ
-leftOf [] = 0
-leftOf (o ∷ os) = pick (eqb o EMPTY) (λ _. 0) (λ _. 1) + leftOf os
-
-module _ (nc : ℕ) (cells : List (List Entry)) where
-  abbrev Told : ℕ → ℕ → Type 0
-  Told i o = ((o ≢ EMPTY) × (occ (nc + i) (allWrapped cells) ≡ 0)) ⊎ ((o ≡ EMPTY) × (occ (nc + i) (allWrapped cells) ≡ 1))
-
-  lost-left : (os : List ℕ) (i : ℕ) → ((c : ℕ) → c < length os → Told (i + c) (getD os c 0)) → lostFrom (nc + i) (length os) cells ≡ leftOf os
-  unfolding lostFrom
-  lost-left [] i h = refl
-  lost-left (o ∷ os) i h =
-      let rest : lostFrom (nc + suc i) (length os) cells ≡ leftOf os = lost-left os (suc i) (λ c l. let q : suc i + c ≡ i + suc c = omega arith in rw q (h (suc c) (omega arith))) in
-      let q : nc + suc i ≡ suc (nc + i) = omega arith in
-      let rest₁ : lostFrom (suc (nc + i)) (length os) cells ≡ leftOf os = rw q at rest in
-      ⊎-elim
-      (λ w. rw (eq-eqb (occ (nc + i) (allWrapped cells)) 0 (w .1), ne-eqb o EMPTY (w .0)) (ap (λ (m : ℕ). 1 + m) rest₁))
-      (λ w. rw (ne-eqb (occ (nc + i) (allWrapped cells)) 0 (omega (arith, w .1)), eq-eqb o EMPTY (w .0)) (ap (λ (m : ℕ). 0 + m) rest₁))
-      (rw (add-zero i) at (h 0 (omega arith)))
-
--- a wrapped entry is a corner
-wrapped-placed : (P : ℕ → Type 0) (nc n v : ℕ) (es : List Entry) → AllPlaced P nc n es → 0 < occ v (wrappedIn es) → (nc ≤ v) × (v < nc + 4)
-unfolding wrappedIn
-wrapped-placed P nc n v [] h o = absurd (omega arith)
-wrapped-placed P nc n v (e ∷ es) h o = by (e .mark) (e .at) (h .0) (wrapped-placed P nc n v es (h .1)) o
-  where
-    by : (m : Mark) (w : ℕ) → Placed P nc n m w → (0 < occ v (wrappedIn es) → (nc ≤ v) × (v < nc + 4)) → 0 < occ v (ifWrapped m w ++ wrappedIn es) → (nc ≤ v) × (v < nc + 4)
-    by plain w p k l = k l
-    by crossing w p k l = k l
-    by wrapped w p k l = ⊎-elim (λ q. rw (q .0) p) (λ q. k (omega (arith, q .1))) (same-cases v w)
+use Rattle.definition.specs.Build.{Built, build}
+use Rattle.definition.specs.laws.Gives.{gives-ok}
+use Rattle.definition.specs.Measures.{weigh, Room}
+use Rattle.definition.specs.Unclipped.{ringsFrom}
+use Rattle.definition.specs.laws.Weigh.{weigh-le, share, share-occ}
+use Rattle.definition.specs.laws.CellsSoFar.{filledShare}
+use Rattle.definition.specs.laws.AllCells.{filled-le}
+use Rattle.definition.specs.Wrapping.{Wrapping}
+use Rattle.definition.specs.laws.Built.{Good, built}
+use Rattle.definition.specs.Lowest.{Lowest}
+use Rattle.definition.specs.laws.Lowest.{all-paid}
+use Rattle.definition.specs.Cell.{wraps}
+use Rattle.definition.specs.laws.Wraps.{wraps-enough}
 
 module _ {sites : List Float} {tri he hull : List ℕ} (a : Accepted sites tri he hull) {b : BoundingBox} (box : BoundedBox 101 b) where
-  abbrev left : List ℕ
-  left = leftmostOf tri he (siteCount sites)
-
-  abbrev found : List ℕ
-  found = ownersFrom sites tri he left (siteCount sites) (getD hull 0 0) (cornersOf b)
-
-  four-corners : length (cornersOf b) ≡ 4
-  unfolding cornersOf
-  four-corners = refl
-
-  four-found : length found ≡ 4
-  four-found = owners-length sites tri he left (siteCount sites) (getD hull 0 0) (cornersOf b) ∙ four-corners
-
-  first-site : getD hull 0 0 < siteCount sites
-  first-site = a .hull .fresh 0 (omega (arith, a .counts .three-on-hull)) .0
-
-  pub owner-of : (c : ℕ) → c < 4 → (getD found c 0 ≡ lastOf (pathTo sites tri he hull b c)) × (getD found c 0 < siteCount sites)
-  owner-of c l =
-      owner sites tri he left (siteCount sites) (ready a) (cornersOf b) (getD hull 0 0) first-site (λ d k. towards-corner a box d (rw four-corners at k)) c (rw four-corners l)
-
-  -- the lost corners, told by the marks, are those whose owners are left
-  pub lost-is-left : (u : ℕ → ℕ) (vs : List Point) (begun : ℕ) (s : Cells) → Held b (length tri / 3) (siteCount sites) u vs found begun s
-      → lostFrom (length tri / 3) 4 (s .cells) ≡ leftOf (s .owners)
-  lost-is-left u vs begun s h =
-      let nc = length tri / 3 in
-      let q : lostFrom (nc + 0) (length (s .owners)) (s .cells) ≡ leftOf (s .owners) =
-      lost-left nc (s .cells) (s .owners) 0 (λ c l. let z : 0 + c ≡ c = omega arith in rw z (⊎-elim
-      (λ x. inl (omega (arith, x .0, owner-of c (omega (arith, h .four)) .1, a .counts .few-sites), x .1))
-      (λ x. inr x)
-      (h .corner c (omega (arith, h .four))))) in
-      rw (add-zero nc, h .four) at q
-
-  pub lost-told : (x : Extensions) → length tri / 3 + 4 ≤ length (x .verts)
-      → Gives (λ (s : Cells). lostFrom (length tri / 3) 4 (s .cells) ≡ leftOf (s .owners)) (clipAll b (length tri / 3) tri he hull left (siteCount sites) found x)
-  lost-told x room =
-      gives-map _ _ (clipAll b (length tri / 3) tri he hull left (siteCount sites) found x)
-      (clip-all (topology a) (omega (arith, a .counts .few-sites)) b (length tri / 3) found x room four-found) (lost-is-left _ _ _)
-
-  abbrev Good : Built → Type 0
-  Good r = Wrapping sites tri he hull b r × Room tri hull b r
-
-  finish : (x : Extensions) → length (x .verts) ≡ length tri / 3 + 4 + fresh (x .steps) → fresh (x .steps) ≤ length hull → (s : Cells)
-      → Held b (length tri / 3) (siteCount sites) (shareOf tri hull) (x .verts) found (fresh (x .steps)) s
-      → Good (record { verts = s .verts; cells = s .cells; owners = found; lost = lostFrom (length tri / 3) 4 (s .cells); steps = s .steps })
-  finish x lx few s h =
-      let nc = length tri / 3 in
-      let threes : 3 * nc ≡ length tri = omega (arith, a .counts .threes) in
-      let all = all-filled tri hull (s .cells) in (
-        record {
-          once = λ c l. ⊎-elim (λ w. omega (arith, w .1)) (λ w. omega (arith, w .1)) (h .corner c l);
-          there = λ c t l o. h .taken c t l o ∙ owner-of c l .0;
-          corners = λ v t o. wrapped-placed _ nc (length (s .verts)) v (getD (s .cells) t []) (h .placed t) o;
-          owners = λ c l. owner-of c l .0;
-        },
-        record {
-          vertices = omega (arith, h .grown .longer, h .twos);
-          added = omega (arith, h .grown .longer, h .added);
-          entries = omega (arith, h .threes, h .struck, occ-le EMPTY (s .owners), h .four);
-          region = λ t l. h .region t (omega (arith, h .width));
-          placed = λ t. all-turned (λ v. inBox b nc (x .verts) v ≡ true) nc 0 (λ v. inBox b nc (s .verts) v ≡ true) (length (s .verts))
-              (λ v e. in-grown b nc (x .verts) (s .verts) (h .more) v (omega arith) (h .grown) ∙ e) (getD (s .cells) t []) (h .placed t);
-        },
-      )
-
-  pub built : Gives Good (build sites tri he hull b)
-  unfolding build
-  built =
-      let nc = length tri / 3 in
-      gives-then (λ (vs : List Point). length vs ≡ 0 + nc) Good (centresFrom sites tri 0 nc []) _ (centres-from sites tri 0 nc [])
-      (λ cs lc.
-      let lv : length (cs ++ cornersOf b) ≡ nc + 4 = length-append cs (cornersOf b) ∙ omega (arith, four-corners) in
-      gives-then (Extended nc (length hull) (extensions (cs ++ cornersOf b) [] [])) Good (extendFrom sites tri hull left nc 0 (length hull) (extensions (cs ++ cornersOf b) [] [])) _
-      (extend-from sites tri hull left nc 0 (length hull) (extensions (cs ++ cornersOf b) [] []) (omega arith) (λ i l. absurd (omega arith)))
-      (λ x e. gives-then (Held b nc (siteCount sites) (shareOf tri hull) (x .verts) found (fresh (x .steps))) Good (clipAll b nc tri he hull left (siteCount sites) found x) _
-      (clip-all (topology a) (omega (arith, a .counts .few-sites)) b nc found x (omega (arith, e .grown .longer)) four-found)
-      (λ s h. finish x (omega (arith, e .grown .longer, e .added)) (omega (arith, e .added, e .few)) s h)))
-
-  -- the same of a build's answer
+  -- each corner is wrapped at most once, by its owner, and a build keeps to its room
   pub wrapping : {r : Built} → build sites tri he hull b ≡ ok r → Wrapping sites tri he hull b r
-  wrapping e = gives-ok Good built e .0
+  wrapping e = gives-ok (Good a box) (built a box) e .0
 
   pub room : {r : Built} → build sites tri he hull b ≡ ok r → Room tri hull b r
-  room e = gives-ok Good built e .1
+  room e = gives-ok (Good a box) (built a box) e .1
+
+module _ {tri he hull : List ℕ} {n : ℕ} (top : Topology tri he hull n) where
+  -- the unclipped cells are the walks from the lowest half-edges
+  pub lowest : Lowest tri he n (length he) (ringsFrom tri he 0 (length tri) (replicate n []))
+  lowest = all-paid top .lowest
+
+  -- with no more entries than half-edges
+  pub few-entries : weigh (λ s c. length c) 0 (ringsFrom tri he 0 (length tri) (replicate n [])) ≤ length tri
+  few-entries =
+      let cells = ringsFrom tri he 0 (length tri) (replicate n []) in
+      let u : ℕ → ℕ = λ s. occ s tri in
+      omega (arith, all-paid top .total, weigh-le (filledShare u) (share u) 0 cells (filled-le u), share-occ tri 0 cells)
+
+-- the definition's fuel of 4 corners is enough: with more, wrapping goes no further
+pub wraps-all : (nc site : ℕ) → site ≢ EMPTY → (j stop c : ℕ) (os : List ℕ) → length os ≡ 4 → c < 4 → wraps (j + 4) nc site stop c os ≡ wraps 4 nc site stop c os
+wraps-all nc site real = wraps-enough nc site real

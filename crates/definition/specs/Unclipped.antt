@@ -10,7 +10,7 @@ use Rattle.mesh.specs.Accepted.{siteCount}
 use Rattle.definition.specs.declared.Fault.{Fault}
 use Rattle.definition.specs.Fault.{Outcome, ok, andThen}
 use Rattle.definition.specs.Cell.{Entry, entry, plain}
-use Rattle.definition.specs.Build.{Built, centresFrom, ringFrom, isEmpty}
+use Rattle.definition.specs.Build.{Built, centersFrom, ringFrom, isEmpty}
 
 abbrev pub ringCell : List ℕ → ℕ → List Entry
 ringCell he e = map (entry plain) (reverse (ringFrom he e))
@@ -25,9 +25,9 @@ ringsFrom tri he e (suc k) cells =
 -- no corners: the owners are EMPTY, none is lost
 unfoldable pub unclipped : List Float → List ℕ → List ℕ → Outcome Fault Built
 unclipped sites tri he =
-    andThen (centresFrom sites tri 0 (length tri / 3) []) λ centres.
+    andThen (centersFrom sites tri 0 (length tri / 3) []) λ centers.
     ok (record {
-      verts = centres;
+      verts = centers;
       cells = ringsFrom tri he 0 (length tri) (replicate (siteCount sites) []);
       owners = replicate 4 EMPTY;
       lost = 0;

@@ -1,4 +1,4 @@
--- What `read` promises, said of forms: the mesh of a sound form with its numbers from the beginning of each list, and 17 with its byte for every other byte string.
+-- Theorem: what `read` promises, said of forms: the mesh of a sound form with its numbers from the beginning of each list, and 17 with its byte for every other byte string.
 use mathlib.Core.Path.{_≡_, refl, sym, ap, _∙_, subst}
 use mathlib.Core.List.{List}
 use mathlib.Core.Logic.{_⊎_, inl, inr}
@@ -6,7 +6,6 @@ use Prim.Native.Nat.{ℕ}
 use lib.Ieee.{Float}
 use lib.ListN.{length}
 use lib.Seq.{sets}
-use Rattle.numbers.specs.Numbers.{refusedForm}
 use Rattle.form_step.specs.Bytes.{Bytes}
 use Rattle.form.specs.Form.{FormMesh, MeshFits, IsForm, formOf, isUnclipped, numbersOf, outlineFloats, siteFloats, triangleSites, trianglePairs}
 use Rattle.form_step.specs.Reader.{start, steps, verdict, Reading, reading, takes}
@@ -18,11 +17,6 @@ use Rattle.form.specs.Place.{Place}
 use Rattle.form.specs.laws.Place.{refused-at}
 use Rattle.form_step.specs.declared.Form.{Form}
 use Rattle.form_step.specs.declared.Form.the-variants.{Sound, Broken}
-
--- the number of an answer
-abbrev pub verdictNumber : Form → ℕ
-verdictNumber (Sound a b c u) = 0
-verdictNumber (Broken k) = refusedForm
 
 module _ (s : List ℕ) (bs ss : List Float) (ts es hs : List ℕ) where
   pub record ReadSound (a : Form) (bs' ss' : List Float) (ts' es' hs' : List ℕ) : Type 0 where

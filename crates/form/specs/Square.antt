@@ -1,10 +1,11 @@
--- The input "square" of docs/RULES.md: its 172 bytes, that they are the form of its mesh, and that they are read as that mesh. By computation.
+-- Rows: the input "square" of docs/RULES.md: its 172 bytes, that they are the form of its mesh, and that they are read as that mesh. By computation.
 use mathlib.Core.Path.{_≡_, refl}
 use mathlib.Core.Bool.{false}
 use mathlib.Core.List.{List, [], _∷_}
 use Prim.Native.Nat.{ℕ}
 use lib.Ieee.{Float, binary64, ofBits}
 use lib.ListN.{length, replicate}
+use Rattle.numbers.specs.Numbers.{EMPTY}
 use Rattle.laws.specs.Binary64.{zero, two}
 use Rattle.form.specs.Form.{FormMesh, box, formOf}
 use Rattle.form_step.specs.Reader.{sizeOf, opens, roomLeft, follows, start, begun, tally, inside, outside, step, within, putFloat, putLink, boundsBy}
@@ -38,9 +39,6 @@ half-is = 0x3fe0_0000_0000_0000
 abbrev pub minus-half-is : ℕ
 minus-half-is = 0xbfe0_0000_0000_0000
 
-abbrev pub E : ℕ
-E = 4294967295
-
 abbrev pub square : FormMesh
 square =
     record {
@@ -52,8 +50,8 @@ square =
           ∷ record { x = half-is; y = minus-half-is }
           ∷ [];
       triangles =
-          record { a = 0; b = 1; c = 2; pair-a = E; pair-b = E; pair-c = 3 }
-          ∷ record { a = 0; b = 2; c = 3; pair-a = 2; pair-b = E; pair-c = E }
+          record { a = 0; b = 1; c = 2; pair-a = EMPTY; pair-b = EMPTY; pair-c = 3 }
+          ∷ record { a = 0; b = 2; c = 3; pair-a = 2; pair-b = EMPTY; pair-c = EMPTY }
           ∷ [];
       hull = 0 ∷ 1 ∷ 2 ∷ 3 ∷ [];
     }
@@ -75,7 +73,7 @@ pub rows :
     × (read-square .bounds ≡ zero ∷ zero ∷ two ∷ two ∷ [])
     × (read-square .sites ≡ minus-half ∷ minus-half ∷ minus-half ∷ half ∷ half ∷ half ∷ half ∷ minus-half ∷ [])
     × (read-square .triangles ≡ 0 ∷ 1 ∷ 2 ∷ 0 ∷ 2 ∷ 3 ∷ [])
-    × (read-square .halfedges ≡ E ∷ E ∷ 3 ∷ 2 ∷ E ∷ E ∷ [])
+    × (read-square .halfedges ≡ EMPTY ∷ EMPTY ∷ 3 ∷ 2 ∷ EMPTY ∷ EMPTY ∷ [])
     × (read-square .hull ≡ 0 ∷ 1 ∷ 2 ∷ 3 ∷ [])
 unfolding squareBytes formOf takes take step inside outside tally follows opens roomLeft begun sizeOf within putFloat putLink boundsBy sitesBy trianglesBy halfedgesBy hullBy verdict
 rows = (refl, refl, refl, refl, refl, refl, refl, refl)

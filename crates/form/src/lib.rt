@@ -6,6 +6,8 @@ use form_step::inside;
 use form_step::outside;
 use form_step::shifted;
 use form_step::start;
+use root::INFINITY;
+use root::SIGN;
 ghost use mathlib.Core.Path.{_≡_};
 ghost use Prim.Native.Nat.{_+_, _-_, _/_, _^_, _≤_, _<_};
 ghost use lib.Ieee.{binary64, ofBits};
@@ -15,10 +17,6 @@ ghost use lib.ListN.{length};
 ghost use Rattle.laws.specs.Pick.{pick};
 ghost use Rattle.form_step.specs.Reader.{start, putFloat, putLink, reading, filledBy, take, takes};
 ghost use Rattle.form_step.specs.Holds.{Ok, ListRoom, Reads};
-
-const INFINITY: u64 = 0x7FF0_0000_0000_0000;
-
-const SIGN: u64 = 0x8000_0000_0000_0000;
 
 const TOP_LINK: u64 = 0x1_0000_0000;
 

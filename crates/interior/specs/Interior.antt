@@ -13,5 +13,5 @@ abbrev pub AllInside : BoundingBox → ℕ → List Point → List ℕ → ℕ �
 AllInside b nc vs ix ring len = (j : ℕ) → j < len → inBox b nc vs (getD ix (ring + j) 0) ≡ true
 
 -- the vertices in the order walked: the first, then round and back towards it
-abbrev pub ringCell : List ℕ → List ℕ
-ringCell ring = take (length ring) (getD ring 0 0 ∷ turned 0 ring)
+abbrev pub insideCell : List ℕ → List ℕ
+insideCell ring = take (length ring) (getD ring 0 0 ∷ turned 0 ring)

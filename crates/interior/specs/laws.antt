@@ -1,4 +1,4 @@
 -- Laws that only proofs use.
-pub mod Copying
-pub mod Scanning
-pub mod Staying
+pub mod InsideScan
+pub mod InsideWalk
+pub mod RingCopy

@@ -7,25 +7,25 @@ ghost use lib.ListN.{length, getD};
 ghost use lib.Seq.{sets};
 ghost use Rattle.laws.specs.Decide.{Says};
 ghost use Rattle.utils.specs.Flat.{points};
-ghost use Rattle.clipping.specs.Steps.{ringOf};
-ghost use Rattle.interior.specs.Interior.{AllInside, ringCell};
+ghost use Rattle.clipping.specs.RingWalk.{ringOf};
+ghost use Rattle.interior.specs.Interior.{AllInside, insideCell};
 
 // Whether each of the `len` vertices from place `ring` on is a circumcenter inside the box.
 pub fn all_inside(
-    v: &[f64],
-    ix: &[u32],
+    vertices: &[f64],
+    indexes: &[u32],
     bounds: BoundingBox,
     centers: usize,
     count: usize,
     ring: usize,
     len: usize,
 ) -> bool
-    requires { ⌜ (2 * count ≤ length (now v)) × (ring + len ≤ length (now ix)) × ((j : ℕ) → j < len → getD (now ix) (ring + j) 0 < count) ⌝ }
-    ensures { λ r. ⌜ Says r (AllInside bounds centers (points count (now (v .entry))) (now (ix .entry)) ring len) ⌝ }
+    requires { ⌜ (2 * count ≤ length (now vertices)) × (ring + len ≤ length (now indexes)) × ((j : ℕ) → j < len → getD (now indexes) (ring + j) 0 < count) ⌝ }
+    ensures { λ r. ⌜ Says r (AllInside bounds centers (points count (now (vertices .entry))) (now (indexes .entry)) ring len) ⌝ }
 {
     let mut k: usize = 0;
     while k < len {
-        if !in_box(v, count, bounds, centers, ix[ring + k]) {
+        if !in_box(vertices, count, bounds, centers, indexes[ring + k]) {
             return false;
         }
         k += 1;
@@ -34,14 +34,14 @@ pub fn all_inside(
 }
 
 // Writes the cell of the ring of `len` vertices at place `ring` from place `base` on.
-pub fn copy_ring(ix: &mut [u32], base: usize, ring: usize, len: usize)
-    requires { ⌜ (base + len ≤ ring) × (ring + len ≤ length (now ix)) ⌝ }
-    ensures { λ _. ⌜ now (ix .exit) ≡ sets (now (ix .entry)) base (ringCell (ringOf (now (ix .entry)) ring len)) ⌝ }
+pub fn copy_ring(indexes: &mut [u32], base: usize, ring: usize, len: usize)
+    requires { ⌜ (base + len ≤ ring) × (ring + len ≤ length (now indexes)) ⌝ }
+    ensures { λ _. ⌜ now (indexes .exit) ≡ sets (now (indexes .entry)) base (insideCell (ringOf (now (indexes .entry)) ring len)) ⌝ }
 {
     let mut k: usize = 0;
     let mut at: usize = 0;
     while k < len {
-        ix[base + k] = ix[ring + at];
+        indexes[base + k] = indexes[ring + at];
         k += 1;
         at = len - k;
     }

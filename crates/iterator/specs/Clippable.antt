@@ -1,50 +1,14 @@
--- A neighbour of site s that comes: it has a cell, and what its judgement tells of the neighbours that are left after clipping.
-use mathlib.Core.Path.{_≡_, sym, subst}
+-- What neighbours after clipping need of a mesh and of the cells of its sites.
+use mathlib.Core.Path.{_≡_}
 use mathlib.Core.List.{List}
-use Prim.Native.Nat.{ℕ, _+_, _-_, _≤_, _<_}
-use native.Mathlib.Omega.{arith}
-use lib.ListN.{length}
-use Rattle.numbers.specs.Numbers.{EMPTY}
-use Rattle.shared.specs.Cells.{shareEdgeOf}
-use Rattle.iterator.specs.declared.Cursor.{Cursor}
-use Rattle.iterator.specs.declared.Stepped.{Stepped}
-use Rattle.iterator.specs.declared.Stepped.the-variants.{Site, End}
-use Rattle.iterator.specs.declared.Judged.the-variants.{Counts, Dropped, Ends}
-use Rattle.iterator.specs.Used.{occ-below}
-use Rattle.iterator.specs.Ready.{Clippable}
-use Rattle.iterator.specs.Rest.{restOf}
-use Rattle.iterator.specs.Cursor.{stepOf, Sound}
-use Rattle.iterator.specs.Coming.{coming-used}
-use Rattle.iterator.specs.ClippedStep.{judgeOf, clippedLeft, Takes, came, none-came}
+use Prim.Native.Nat.{ℕ, _+_, _<_}
+use lib.ListN.{length, getD}
+use Rattle.mesh.specs.Mesh.{Paired}
+use Rattle.shared.specs.Cells.{Cells}
 
-module _ {tri he offs idx : List ℕ} (g : Clippable tri he offs idx) (c : Cursor) (ok : Sound he c) where
-  small : length he ≤ EMPTY
-  small = omega (arith, g .paired .small)
-
-  module _ {d : Cursor} {x : ℕ} (q : Stepped.Site x d ≡ stepOf tri he c) where
-    pub coming-cell : x + 1 < length offs
-    coming-cell =
-        let below : x < length offs - 1 = occ-below tri (length offs - 1) x (λ e l. omega (arith, g .named e l)) (coming-used tri he (g .paired .threes) (g .even) small c d x ok q) in
-        omega arith
-
-    module _ (s : ℕ) where
-      pub counts : Counts ≡ judgeOf he (shareEdgeOf offs idx s x) (c .last) (d .last) → Takes tri he (shareEdgeOf offs idx s) (clippedLeft tri he (shareEdgeOf offs idx s) c) (Site x d)
-      counts e = came tri he (shareEdgeOf offs idx s) small c ok x d Counts q e
-
-      pub ends : Ends ≡ judgeOf he (shareEdgeOf offs idx s x) (c .last) (d .last) → Takes tri he (shareEdgeOf offs idx s) (clippedLeft tri he (shareEdgeOf offs idx s) c) End
-      ends e = came tri he (shareEdgeOf offs idx s) small c ok x d Ends q e
-
-      module _ (e : Dropped ≡ judgeOf he (shareEdgeOf offs idx s x) (c .last) (d .last)) where
-        pub dropped-sound : Sound he d
-        dropped-sound = came tri he (shareEdgeOf offs idx s) small c ok x d Dropped q e .1
-
-        pub dropped-less : {t : ℕ} → length (restOf he (c .start) (c .next)) ≡ t → length (restOf he (d .start) (d .next)) < t
-        dropped-less p = omega (arith, came tri he (shareEdgeOf offs idx s) small c ok x d Dropped q e .2)
-
-        pub dropped-takes : (r : Stepped) → Takes tri he (shareEdgeOf offs idx s) (clippedLeft tri he (shareEdgeOf offs idx s) d) r
-            → Takes tri he (shareEdgeOf offs idx s) (clippedLeft tri he (shareEdgeOf offs idx s) c) r
-        dropped-takes r =
-            subst (λ l. Takes tri he (shareEdgeOf offs idx s) l r) (sym (came tri he (shareEdgeOf offs idx s) small c ok x d Dropped q e .0))
-
-  pub nothing-left : (s : ℕ) → End ≡ stepOf tri he c → Takes tri he (shareEdgeOf offs idx s) (clippedLeft tri he (shareEdgeOf offs idx s) c) End
-  nothing-left s q = none-came tri he (shareEdgeOf offs idx s) small c ok q
+-- the cells of all sites, cut from ix by off
+pub record Clippable (tri he off ix : List ℕ) : Type 0 where
+  pub paired : Paired tri he
+  pub even : length he ≡ length tri
+  pub named : (e : ℕ) → e < length tri → getD tri e 0 + 1 < length off
+  pub cells : Cells off (length ix)

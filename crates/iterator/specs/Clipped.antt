@@ -20,13 +20,13 @@ clippedFrom tri he keeps l [] = keptOf keeps (lastEnd tri he l)
 clippedFrom tri he keeps l (e ∷ es) = startOf tri e ∷ clippedFrom tri he keeps e es
 
 -- the first is judged where its half-edge is unpaired
-unfoldable pub firstOf : List ℕ → List ℕ → (ℕ → Bool) → ℕ → List ℕ
-firstOf tri he keeps e = pick (eqb (pairOf he e) EMPTY) (λ _. keptOf keeps (startOf tri e ∷ [])) (λ _. startOf tri e ∷ [])
+unfoldable pub clippedFirst : List ℕ → List ℕ → (ℕ → Bool) → ℕ → List ℕ
+clippedFirst tri he keeps e = pick (eqb (pairOf he e) EMPTY) (λ _. keptOf keeps (startOf tri e ∷ [])) (λ _. startOf tri e ∷ [])
 
 unfoldable pub clippedOf : List ℕ → List ℕ → (ℕ → Bool) → List ℕ → List ℕ
 clippedOf tri he keeps [] = []
-clippedOf tri he keeps (e ∷ es) = firstOf tri he keeps e ++ clippedFrom tri he keeps e es
+clippedOf tri he keeps (e ∷ es) = clippedFirst tri he keeps e ++ clippedFrom tri he keeps e es
 
--- the neighbours of site s after clipping, its cell and its neighbours' cut from idx by offs
+-- the neighbours of site s after clipping, its cell and its neighbours' cut from ix by off
 unfoldable pub clippedNeighboursOf : List ℕ → List ℕ → List ℕ → List ℕ → List ℕ → ℕ → List ℕ
-clippedNeighboursOf tri he tab offs idx s = clippedOf tri he (shareEdgeOf offs idx s) (wholeOf he (getD tab s 0))
+clippedNeighboursOf tri he table off ix s = clippedOf tri he (shareEdgeOf off ix s) (wholeOf he (getD table s 0))

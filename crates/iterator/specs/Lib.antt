@@ -1,21 +1,9 @@
+-- The root of the crate's definitions.
 pub mod Neighbours
-pub mod Path
-pub mod Nearest
-pub mod Used
-pub mod Ready
-pub mod Whole
-pub mod Rest
-pub mod Fills
-pub mod Cursor
-pub mod Handing
-pub mod Hopping
-pub mod Pathing
-pub mod Walking
 pub mod Clipped
-pub mod ClippedStep
-pub mod Coming
 pub mod Clippable
-pub mod ClippedHanding
+pub mod Cursor
+pub mod ClippedCursor
+pub mod Fills
 pub mod Square
-pub mod ClippedRows
-pub mod OnMesh
+pub mod laws

@@ -1,5 +1,4 @@
 -- The neighbours of a site: the start sites along its walk, and on the hull the last end too.
-use mathlib.Core.Path.{_≡_, refl, ap}
 use Prim.Native.Nat.{ℕ}
 use mathlib.Core.List.{List, [], _∷_}
 use lib.Dec.{eqb}
@@ -17,16 +16,6 @@ startsOf tri he [] = []
 startsOf tri he (e ∷ []) = startOf tri e ∷ lastEnd tri he e
 startsOf tri he (e ∷ f ∷ es) = startOf tri e ∷ startsOf tri he (f ∷ es)
 
--- tab is the leftmost table; a site in no triangle has EMPTY there, an empty walk and no neighbour
+-- table is the leftmost table; a site in no triangle has EMPTY there, an empty walk and no neighbour
 unfoldable pub neighboursOf : List ℕ → List ℕ → List ℕ → ℕ → List ℕ
-neighboursOf tri he tab s = startsOf tri he (wholeOf he (getD tab s 0))
-
--- what is left of them where the walk has passed l, and es is still to come
-unfoldable pub sitesFrom : List ℕ → List ℕ → ℕ → List ℕ → List ℕ
-sitesFrom tri he l [] = lastEnd tri he l
-sitesFrom tri he l (e ∷ es) = startOf tri e ∷ sitesFrom tri he e es
-
-pub starts-cons : (tri he : List ℕ) (e : ℕ) (es : List ℕ) → startsOf tri he (e ∷ es) ≡ startOf tri e ∷ sitesFrom tri he e es
-unfolding startsOf sitesFrom
-starts-cons tri he e [] = refl
-starts-cons tri he e (f ∷ es) = ap (λ l. startOf tri e ∷ l) (starts-cons tri he f es)
+neighboursOf tri he table s = startsOf tri he (wholeOf he (getD table s 0))

@@ -2,6 +2,5 @@ pub mod Pick
 pub mod Decide
 pub mod Count
 pub mod Binary64
-pub mod And
-pub mod Stores
 pub mod Refusals
+pub mod laws

@@ -1,5 +1,6 @@
+-- The root of the crate's definitions.
 pub mod Cleared
 pub mod Regions
 pub mod Rooms
-pub mod Degree
+pub mod Outputs
 pub mod laws

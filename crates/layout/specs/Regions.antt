@@ -16,34 +16,34 @@ unfoldable pub offsetsFrom : ℕ → List (List ℕ) → List ℕ
 offsetsFrom n [] = n ∷ []
 offsetsFrom n (c ∷ cs) = n ∷ offsetsFrom (n + length c) cs
 
--- the region of idx from a to b begins with the cell c; EMPTY, which is no entry, fills the rest of it
-pub record Region (idx : List ℕ) (a b : ℕ) (c : List ℕ) : Type 0 where
+-- the region of ix from a to b begins with the cell c; EMPTY, which is no entry, fills the rest of it
+pub record Region (ix : List ℕ) (a b : ℕ) (c : List ℕ) : Type 0 where
   pub fits : a + length c ≤ b
-  pub entries : (i : ℕ) → i < length c → getD idx (a + i) 0 ≡ getD c i 0
+  pub entries : (i : ℕ) → i < length c → getD ix (a + i) 0 ≡ getD c i 0
   pub real : (i : ℕ) → i < length c → getD c i 0 ≢ EMPTY
-  pub after : (k : ℕ) → a + length c ≤ k → k < b → getD idx k 0 ≡ EMPTY
+  pub after : (k : ℕ) → a + length c ≤ k → k < b → getD ix k 0 ≡ EMPTY
 
 -- the cells stand in the regions that start at the first entries of `starts`; one entry more is the end of all
-pub record Regions (idx starts : List ℕ) (cells : List (List ℕ)) : Type 0 where
+pub record Regions (ix starts : List ℕ) (cells : List (List ℕ)) : Type 0 where
   pub one-more : suc (length cells) ≤ length starts
-  pub within : getD starts (length cells) 0 ≤ length idx
-  pub each : (s : ℕ) → s < length cells → Region idx (getD starts s 0) (getD starts (suc s) 0) (getD cells s [])
+  pub within : getD starts (length cells) 0 ≤ length ix
+  pub each : (s : ℕ) → s < length cells → Region ix (getD starts s 0) (getD starts (suc s) 0) (getD cells s [])
 
 -- from..r holds entries alone, and at r the region from..to has EMPTY or its end
-pub record Filled (idx : List ℕ) (from to r : ℕ) : Type 0 where
+pub record Filled (ix : List ℕ) (from to r : ℕ) : Type 0 where
   pub low : from ≤ r
   pub high : r ≤ to
-  pub real : (i : ℕ) → from ≤ i → i < r → getD idx i 0 ≢ EMPTY
-  pub ended : r < to → getD idx r 0 ≡ EMPTY
+  pub real : (i : ℕ) → from ≤ i → i < r → getD ix i 0 ≢ EMPTY
+  pub ended : r < to → getD ix r 0 ≡ EMPTY
 
 -- the first n regions do not overlap, and end within the list
-pub record Rising (starts : List ℕ) (n len : ℕ) : Type 0 where
+pub record StartsRise (starts : List ℕ) (n len : ℕ) : Type 0 where
   pub long : n < length starts
   pub rise : (s : ℕ) → s < n → getD starts s 0 ≤ getD starts (s + 1) 0
   pub within : getD starts n 0 ≤ len
 
 -- the cells moved together: w entries in all, then their offsets over the starts
-pub record Compacted (idx off : List ℕ) (cells : List (List ℕ)) (new-idx new-off : List ℕ) (w : ℕ) : Type 0 where
+pub record Compacted (ix off : List ℕ) (cells : List (List ℕ)) (ix₁ off₁ : List ℕ) (w : ℕ) : Type 0 where
   pub counted : w ≡ length (joined cells)
-  pub moved : take w new-idx ≡ joined cells
-  pub offsets : new-off ≡ offsetsFrom 0 cells ++ drop (suc (length cells)) off
+  pub moved : take w ix₁ ≡ joined cells
+  pub offsets : off₁ ≡ offsetsFrom 0 cells ++ drop (suc (length cells)) off

@@ -1,18 +1,17 @@
 -- How much of the index list each site gets: 3 entries for each of its half-edges, 6 more for each place on the hull, 1 for each corner that it owns.
 -- A site is named by the triangle list once for each half-edge that ends there.
-use mathlib.Core.Path.{_≡_, refl, _∙_}
+use mathlib.Core.Path.{_≡_}
 use mathlib.Core.List.{List}
-use Prim.Native.Nat.{ℕ, zero, suc, _+_, _*_, _^_, _≤_, _<_}
+use Prim.Native.Nat.{ℕ, suc, _+_, _*_, _^_, _≤_, _<_}
 use lib.ListN.{length, getD}
-use native.Mathlib.Omega.{arith}
-use Rattle.laws.specs.Count.{occ, sumTo, occ-sum, below-occ}
+use Rattle.laws.specs.Count.{occ, sumTo}
 
-unfoldable pub roomOf : List ℕ → List ℕ → List ℕ → ℕ → ℕ
-roomOf tri hull owners s = 3 * occ s tri + 6 * occ s hull + occ s owners
+unfoldable pub regionRoom : List ℕ → List ℕ → List ℕ → ℕ → ℕ
+regionRoom tri hull owners s = 3 * occ s tri + 6 * occ s hull + occ s owners
 
 -- where the region of site s starts, and where that of the last of s sites ends
-unfoldable pub startOf : List ℕ → List ℕ → List ℕ → ℕ → ℕ
-startOf tri hull owners s = sumTo (roomOf tri hull owners) s
+unfoldable pub regionStart : List ℕ → List ℕ → List ℕ → ℕ → ℕ
+regionStart tri hull owners s = sumTo (regionRoom tri hull owners) s
 
 -- each entry of l has a place after it in old, and no sum can pass 32 bits
 pub record Tallies (l : List ℕ) (by : ℕ) (old : List ℕ) : Type 0 where
@@ -46,15 +45,4 @@ pub record Roomy (tri hull owners : List ℕ) (n : ℕ) (off : List ℕ) : Type 
 
 -- the starts stand at the first places, the end of all after them
 abbrev pub Started : List ℕ → List ℕ → List ℕ → ℕ → List ℕ → Type 0
-Started tri hull owners n off = (s : ℕ) → s ≤ n → getD off s 0 ≡ startOf tri hull owners s
-
-sum-rooms : (a b c : ℕ → ℕ) (n : ℕ) → sumTo (λ s. 3 * a s + 6 * b s + c s) n ≡ 3 * sumTo a n + 6 * sumTo b n + sumTo c n
-sum-rooms a b c zero = refl
-sum-rooms a b c (suc n) = omega (arith, sum-rooms a b c n)
-
--- all regions together
-pub start-end : (tri hull owners : List ℕ) (n : ℕ) (off : List ℕ) → Roomy tri hull owners n off → startOf tri hull owners n ≡ 3 * length tri + 6 * length hull + length owners
-unfolding startOf roomOf
-start-end tri hull owners n off r =
-    sum-rooms (λ s. occ s tri) (λ s. occ s hull) (λ s. occ s owners) n
-    ∙ rw (occ-sum n tri (below-occ tri n (r .tri-sites)), occ-sum n hull (below-occ hull n (r .hull-sites)), occ-sum n owners (below-occ owners n (r .owner-sites)))
+Started tri hull owners n off = (s : ℕ) → s ≤ n → getD off s 0 ≡ regionStart tri hull owners s

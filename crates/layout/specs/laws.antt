@@ -1,5 +1,7 @@
 -- Laws that only proofs use.
-pub mod Compacting
-pub mod Filling
-pub mod Pasting
-pub mod Tallying
+pub mod Compacted
+pub mod Marks
+pub mod Overwritten
+pub mod Padded
+pub mod Regions
+pub mod Rooms

@@ -1,4 +1,4 @@
--- The listing of "square" (docs/RULES.md), byte for byte, with an empty cell's line, a refusal's, and the least and the largest number. By computation.
+-- Rows: the listing of "square" (docs/RULES.md), byte for byte, with an empty cell's line, a refusal's, and the least and the largest number. By computation.
 use mathlib.Core.Path.{_≡_, refl}
 use mathlib.Core.List.{List, [], _∷_}
 use Prim.Native.Nat.{ℕ}

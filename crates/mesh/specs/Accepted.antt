@@ -1,10 +1,11 @@
--- A mesh that is accepted: document 01's limits on the counts, its rule on coordinates, and its rules on triangles, pairing, hull and fan.
+-- A mesh that is accepted: the limits on the counts, the rule on coordinates, and the rules on triangles, pairing, hull and fan (docs/RULES.md).
 use mathlib.Core.Path.{_≡_}
 use mathlib.Core.List.{List}
 use Prim.Native.Nat.{ℕ, _/_, _%_, _≤_, _<_}
 use lib.ListN.{length}
 use lib.Ieee.{Float}
 use Rattle.utils.specs.Sites.{KeptAt}
+use Rattle.numbers.specs.Numbers.{EMPTY}
 use Rattle.mesh.specs.Mesh.{AllSound, AllPaired, leftmostOf, Fan}
 use Rattle.mesh.specs.Hull.{Hull}
 
@@ -24,10 +25,18 @@ pub record Counted (coordinates entries halfedges hull : ℕ) : Type 0 where
 abbrev pub siteCount : List Float → ℕ
 siteCount sites = length sites / 2
 
-pub record Accepted (sites : List Float) (tri he ring : List ℕ) : Type 0 where
-  pub counts : Counted (length sites) (length tri) (length he) (length ring)
-  pub coordinates : (s : ℕ) → s < siteCount sites → KeptAt sites s
-  pub sound : AllSound tri (siteCount sites)
+-- a mesh that rules 7 to 10 accept; its lists are of fitting lengths
+pub record Topology (tri he hull : List ℕ) (sites : ℕ) : Type 0 where
+  pub threes : length tri % 3 ≡ 0
+  pub same : length he ≡ length tri
+  pub small : length tri < EMPTY
+  pub sound : AllSound tri sites
   pub pairs : AllPaired tri he
-  pub hull : Hull tri he ring (siteCount sites)
-  pub fan : Fan tri he (leftmostOf tri he (siteCount sites))
+  pub border : Hull tri he hull sites
+  pub fan : Fan tri he (leftmostOf tri he sites)
+
+-- rules 1, 6 and 7 to 10
+pub record Accepted (sites : List Float) (tri he hull : List ℕ) : Type 0 where
+  pub counts : Counted (length sites) (length tri) (length he) (length hull)
+  pub coordinates : (s : ℕ) → s < siteCount sites → KeptAt sites s
+  pub topology : Topology tri he hull (siteCount sites)

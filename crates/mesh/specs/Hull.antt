@@ -11,16 +11,16 @@ use Rattle.numbers.specs.Numbers.{EMPTY}
 use Rattle.mesh.specs.Mesh.{startOf, endOf, pairOf}
 
 -- the place after place i, cyclically
-unfoldable pub afterOf : ℕ → ℕ → ℕ
-afterOf h i = pick (eqb (i + 1) h) (λ _. 0) (λ _. i + 1)
+unfoldable pub nextPlace : ℕ → ℕ → ℕ
+nextPlace h i = pick (eqb (i + 1) h) (λ _. 0) (λ _. i + 1)
 
 -- the site at the place after place i
 abbrev pub nextSite : List ℕ → ℕ → ℕ
-nextSite hull i = getD hull (afterOf (length hull) i) 0
+nextSite hull i = getD hull (nextPlace (length hull) i) 0
 
 -- an unpaired half-edge below n from site a to site b
-abbrev pub Open : List ℕ → List ℕ → ℕ → ℕ → ℕ → Type 0
-Open tri he n a b = (e : ℕ) × (e < n) × (pairOf he e ≡ EMPTY) × (startOf tri e ≡ a) × (endOf tri e ≡ b)
+abbrev pub OpenEdge : List ℕ → List ℕ → ℕ → ℕ → ℕ → Type 0
+OpenEdge tri he n a b = (e : ℕ) × (e < n) × (pairOf he e ≡ EMPTY) × (startOf tri e ≡ a) × (endOf tri e ≡ b)
 
 -- how many of the half-edges below n are unpaired
 unfoldable pub openTo : List ℕ → ℕ → ℕ
@@ -32,7 +32,7 @@ abbrev pub FreshAt : List ℕ → ℕ → ℕ → Type 0
 FreshAt hull sites i = (getD hull i 0 < sites) × ((j : ℕ) → j < i → getD hull j 0 ≢ getD hull i 0)
 
 abbrev pub EdgeAt : List ℕ → List ℕ → List ℕ → ℕ → Type 0
-EdgeAt tri he hull i = Open tri he (length he) (getD hull i 0) (nextSite hull i)
+EdgeAt tri he hull i = OpenEdge tri he (length he) (getD hull i 0) (nextSite hull i)
 
 pub record Hull (tri he hull : List ℕ) (sites : ℕ) : Type 0 where
   pub fresh : (i : ℕ) → i < length hull → FreshAt hull sites i

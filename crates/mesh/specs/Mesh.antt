@@ -1,4 +1,4 @@
--- The mesh: triangles and half-edges as lists of numbers.
+-- The mesh: triangles and half-edges as lists of numbers, the leftmost table, walks.
 use mathlib.Core.Path.{_≡_}
 use mathlib.Core.List.{List, [], _∷_, _++_}
 use mathlib.Core.Bool.{Bool}
@@ -95,11 +95,11 @@ pub data Reached (he : List ℕ) (s : ℕ) : ℕ → Type 0 where
 
 -- the half-edges that end at site s are all reached from what the table holds of it
 abbrev pub FanAt : List ℕ → List ℕ → List ℕ → ℕ → Type 0
-FanAt tri he tab s = (e : ℕ) → e < length he → endOf tri e ≡ s → Reached he (getD tab s 0) e
+FanAt tri he table s = (e : ℕ) → e < length he → endOf tri e ≡ s → Reached he (getD table s 0) e
 
 -- every half-edge is reached from what the table holds of the site where it ends
 abbrev pub Fan : List ℕ → List ℕ → List ℕ → Type 0
-Fan tri he tab = (e : ℕ) → e < length he → Reached he (getD tab (endOf tri e) 0) e
+Fan tri he table = (e : ℕ) → e < length he → Reached he (getD table (endOf tri e) 0) e
 
 -- the whole walk from s
 abbrev pub wholeOf : List ℕ → ℕ → List ℕ

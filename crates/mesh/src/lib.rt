@@ -5,10 +5,11 @@ ghost use mathlib.Core.Path.{_≡_};
 ghost use Prim.Native.Nat.{ℕ, _%_, _<_, _≤_};
 ghost use lib.ListN.{length, getD, replicate};
 ghost use Rattle.numbers.specs.Numbers.{EMPTY};
+ghost use Rattle.mesh.specs.Hull.{nextPlace};
 ghost use Rattle.mesh.specs.Mesh.{nextOf, endOf, chosen, tableTo, turnOf, wholeOf, Walks};
 
 // What a check finds wrong with a mesh, and the lowest site, triangle, half-edge or hull place that has the fault.
-pub enum Fault {
+pub enum MeshFault {
     None,
     Counts,
     Room,
@@ -40,6 +41,17 @@ pub fn end_site(triangles: &[u32], e: usize) -> u32
     triangles[o]
 }
 
+// The place after place i of a hull of h places, cyclically.
+pub fn next_place(h: usize, i: usize) -> usize
+    requires { ⌜ i < h ⌝ }
+    ensures { λ r. ⌜ (r ≡ nextPlace h i) × (r < h) ⌝ }
+{
+    if i + 1 == h {
+        return 0;
+    }
+    i + 1
+}
+
 // Each entry of the slice becomes `EMPTY`.
 pub fn clear(work: &mut [u32])
     ensures { λ _. ⌜ now (work .exit) ≡ replicate (length (now (work .entry))) EMPTY ⌝ }
@@ -65,7 +77,7 @@ fn choose(old: u32, p: u32, e: u32) -> u32
 
 // Fills the table of leftmost half-edges.
 pub fn leftmost(triangles: &[u32], halfedges: &[u32], work: &mut [u32])
-    requires { ⌜ (length (now triangles) % 3 ≡ 0) × (length (now halfedges) ≡ length (now triangles)) × (length (now triangles) < 4294967295)
+    requires { ⌜ (length (now triangles) % 3 ≡ 0) × (length (now halfedges) ≡ length (now triangles)) × (length (now triangles) < EMPTY)
         × ((k : ℕ) → k < length (now triangles) → getD (now triangles) k 0 < length (now work)) ⌝ }
     ensures { λ _. ⌜ now (work .exit) ≡ tableTo (now (triangles .entry)) (now (halfedges .entry)) (length (now (work .entry))) (length (now (triangles .entry))) ⌝ }
 {

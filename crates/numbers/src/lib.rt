@@ -1,4 +1,4 @@
-// The numbers that have a name: the index that is none, the refusals in the order in which they are tried, the tolerance; and an index as a length.
+// The numbers that have a name: the index that is none, the refusals in the order in which they are tried, the tolerance and the limits; and an index as a length.
 ghost use mathlib.Core.Path.{_≡_};
 
 // An unpaired half-edge, a cleared entry, a site without half-edges.
@@ -6,6 +6,13 @@ pub const EMPTY: u32 = 4294967295;
 
 // 2^-50, inclusive, on the computed difference.
 pub const TOLERANCE: f64 = 8.881784197001252e-16;
+
+// The limit of a coordinate and of a box's size, 2^100.
+pub const LARGE: f64 = 1267650600228229401496703205376.0;
+
+// The limit of a circumcenter's coordinate, 2^400.
+pub const HUGE: f64 =
+    2582249878086908589655919172003011874329705792829223512830659356540647622016841194629645353280137831435903171972747493376.0;
 
 // docs/RULES.md says when each is given.
 pub const REFUSED_COUNT: u32 = 1;

@@ -1,21 +1,18 @@
 -- What the pass over the hull's edges answers, by the definition's outcome.
-use mathlib.Core.Path.{_≡_, refl}
+use mathlib.Core.Path.{_≡_}
 use mathlib.Core.List.{List}
-use Prim.Native.Nat.{ℕ, _+_, _*_, _/_, _^_, _≤_, _<_}
+use Prim.Native.Nat.{ℕ, _+_, _*_, _^_, _≤_, _<_}
 use lib.Ieee.{Float}
 use lib.ListN.{length, getD, take, drop}
 use lib.Seq.{sets}
 use Rattle.laws.specs.Binary64.{_⊞_, _⊟_, _⊠_, _⊘_, one}
 use Rattle.root.specs.Sqrt.{sqrtOf}
 use Rattle.utils.specs.Plane.{at}
-use Rattle.utils.specs.Flat.{pointAt}
 use Rattle.utils.specs.declared.Point.{Point}
-use Rattle.mesh.specs.Mesh.{startOf, endOf}
-use Rattle.definition.specs.Cell.{vertexAt}
 use Rattle.vertices.specs.Store.{Holds, Poured}
 use Rattle.definition.specs.declared.Fault.{Fault}
 use Rattle.definition.specs.Fault.{Outcome, ok, refused, notFinite}
-use Rattle.definition.specs.Build.{infinity, extended, Extensions}
+use Rattle.definition.specs.Build.{infinity, Extensions}
 use Rattle.rings.specs.Centers.{Named}
 use Rattle.rings.specs.declared.extensions.Passed.{Passed}
 
@@ -26,11 +23,6 @@ projectedOf c a b =
     let y = b .x ⊟ a .x in
     let k = one ⊘ sqrtOf (x ⊠ x ⊞ y ⊠ y) in
     at (c .x ⊞ x ⊠ k ⊠ infinity) (c .y ⊞ y ⊠ k ⊠ infinity)
-
-pub extended-is : (sites : List Float) (tri : List ℕ) (vs : List Point) (e : ℕ)
-    → extended sites tri vs e ≡ projectedOf (vertexAt vs (e / 3)) (pointAt sites (startOf tri e)) (pointAt sites (endOf tri e))
-unfolding extended projectedOf
-extended-is sites tri vs e = refl
 
 -- each hull site has an entry in the table
 abbrev pub Hulled : List ℕ → List ℕ → Type 0
@@ -54,12 +46,12 @@ pub record ExtendsInto (sites : List Float) (tri hull table : List ℕ) (nc coun
   pub small-ix : limit < 2 ^ 32
 
 -- all extensions are there: their vertices, and from `at` on their numbers; the index list before `limit` is else as it was
-pub record Extended (nc limit at : ℕ) (x : Extensions) (v : List Float) (ix : List ℕ) (r : Passed) (v₁ : List Float) (ix₁ : List ℕ) : Type 0 where
+pub record ExtensionsPut (nc limit at : ℕ) (x : Extensions) (v : List Float) (ix : List ℕ) (r : Passed) (v₁ : List Float) (ix₁ : List ℕ) : Type 0 where
   pub verts : Poured (x .verts) v (r .count) v₁
   pub numbers : take limit ix₁ ≡ sets (take limit ix) at (x .at)
   pub holds : Holds nc (r .count) v₁ (drop limit ix₁)
 
 -- of h hull places: all of them, or the lowest whose extension is not finite
 abbrev pub ExtendedBy : Outcome Fault Extensions → ℕ → ℕ → ℕ → ℕ → List Float → List ℕ → Passed → List Float → List ℕ → Type 0
-ExtendedBy (ok x) h nc limit at v ix r v₁ ix₁ = (r .place ≡ h) × (length (x .at) ≡ h) × Extended nc limit at x v ix r v₁ ix₁
+ExtendedBy (ok x) h nc limit at v ix r v₁ ix₁ = (r .place ≡ h) × (length (x .at) ≡ h) × ExtensionsPut nc limit at x v ix r v₁ ix₁
 ExtendedBy (refused f) h nc limit at v ix r v₁ ix₁ = (f ≡ notFinite (r .place)) × (r .place < h)

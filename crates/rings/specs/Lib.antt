@@ -1,5 +1,5 @@
+-- The root of the crate's definitions.
 pub mod Centers
-pub mod Staging
 pub mod Extensions
 pub mod Ownership
 pub mod laws

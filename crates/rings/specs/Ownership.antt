@@ -6,10 +6,10 @@ use lib.ListN.{length, getD}
 use Rattle.utils.specs.Plane.{at}
 use Rattle.bounding_box.specs.Box.{cornersOf}
 use Rattle.bounding_box.specs.declared.BoundingBox.{BoundingBox}
-use Rattle.iterator.specs.Ready.{Ready, Towards}
+use Rattle.paths.specs.PathNeeds.{Walkable, Towards}
 
 -- a mesh that paths can follow, a site to begin at, and corners whose distance from each site is a number
 pub record Owned (sites : List Float) (tri he table : List ℕ) (b : BoundingBox) (first : ℕ) : Type 0 where
-  pub ready : Ready tri he table (length sites / 2)
+  pub ready : Walkable tri he table (length sites / 2)
   pub begun : first < length sites / 2
   pub towards : (k : ℕ) → k < 4 → Towards sites (getD (cornersOf b) k (at nan nan)) (length sites / 2)

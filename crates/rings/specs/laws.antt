@@ -1,6 +1,4 @@
 -- Laws that only proofs use.
-pub mod Centring
-pub mod Extending
-pub mod HullStaging
-pub mod Owning
-pub mod StagingLaws
+pub mod Centers
+pub mod Extensions
+pub mod Ownership

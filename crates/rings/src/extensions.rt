@@ -1,6 +1,6 @@
 // The hull's extensions (extend_voronoi_vertex): far beyond the box, from a circumcenter orthogonally to its hull edge; rule 12.
-use check_hull::after;
 use mesh::end_site;
+use mesh::next_place;
 use numbers::wide;
 use utils::Point;
 use utils::point_at;
@@ -50,15 +50,15 @@ fn projected(c: Point, a: Point, b: Point) -> Point
 fn extend_voronoi_vertex(
     sites: &[f64],
     triangles: &[u32],
-    v: &[f64],
+    vertices: &[f64],
     count: usize,
     e: usize,
 ) -> Point
-    requires { ⌜ Named (now sites) (now triangles) × (length (now triangles) % 3 ≡ 0) × (e < length (now triangles)) × (2 * count ≤ length (now v)) × (e / 3 < count) ⌝ }
-    ensures { λ r. ⌜ r ≡ extended (now (sites .entry)) (now (triangles .entry)) (points count (now (v .entry))) e ⌝ }
+    requires { ⌜ Named (now sites) (now triangles) × (length (now triangles) % 3 ≡ 0) × (e < length (now triangles)) × (2 * count ≤ length (now vertices)) × (e / 3 < count) ⌝ }
+    ensures { λ r. ⌜ r ≡ extended (now (sites .entry)) (now (triangles .entry)) (points count (now (vertices .entry))) e ⌝ }
 {
     projected(
-        vertex(v, count, e / 3),
+        vertex(vertices, count, e / 3),
         point_at(sites, wide(triangles[e])),
         point_at(sites, wide(end_site(triangles, e))),
     )
@@ -69,7 +69,7 @@ fn hull_edge(hull: &[u32], table: &[u32], i: usize) -> usize
     requires { ⌜ (i < length (now hull)) × Hulled (now hull) (now table) ⌝ }
     ensures { λ r. ⌜ r ≡ getD (now (table .entry)) (nextSite (now (hull .entry)) i) 0 ⌝ }
 {
-    let b = wide(hull[after(hull.len(), i)]);
+    let b = wide(hull[next_place(hull.len(), i)]);
     wide(table[b])
 }
 
@@ -85,27 +85,27 @@ pub fn extend_hull(
     triangles: &[u32],
     hull: &[u32],
     table: &[u32],
-    v: &mut [f64],
-    ix: &mut [u32],
+    vertices: &mut [f64],
+    indexes: &mut [u32],
     at: usize,
     limit: usize,
     centers: usize,
     count: usize,
 ) -> Passed
-    requires { ⌜ ExtendsInto (now sites) (now triangles) (now hull) (now table) centers count limit at (now v) (now ix) ⌝ }
+    requires { ⌜ ExtendsInto (now sites) (now triangles) (now hull) (now table) centers count limit at (now vertices) (now indexes) ⌝ }
     ensures { λ r. ⌜ ExtendedBy (extendFrom (now (sites .entry)) (now (triangles .entry)) (now (hull .entry)) (now (table .entry)) centers 0
-        (length (now (hull .entry))) (extensions (points count (now (v .entry))) [] [])) (length (now (hull .entry))) centers limit at
-        (now (v .entry)) (now (ix .entry)) r (now (v .exit)) (now (ix .exit)) ⌝ }
+        (length (now (hull .entry))) (extensions (points count (now (vertices .entry))) [] [])) (length (now (hull .entry))) centers limit at
+        (now (vertices .entry)) (now (indexes .entry)) r (now (vertices .exit)) (now (indexes .exit)) ⌝ }
 {
     let mut n = count;
     let mut i: usize = 0;
     while i < hull.len() {
-        let p = extend_voronoi_vertex(sites, triangles, v, n, hull_edge(hull, table, i));
+        let p = extend_voronoi_vertex(sites, triangles, vertices, n, hull_edge(hull, table, i));
         if !finite_point(p) {
             return Passed { place: i, count: n };
         }
-        let r = add_new_vertex(v, ix, limit, centers, n, p);
-        ix[at + i] = r.at as u32;
+        let r = add_new_vertex(vertices, indexes, limit, centers, n, p);
+        indexes[at + i] = r.at as u32;
         n = r.count;
         i += 1;
     }

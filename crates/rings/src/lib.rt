@@ -1,5 +1,4 @@
-// What stands ready before a cell is clipped: the circumcenters, the corners' owners, the hull's extensions, and the ring of a site.
+// What stands ready before a cell is clipped: the circumcenters, the corners' owners, the hull's extensions.
 pub mod centers;
 pub mod extensions;
 pub mod ownership;
-pub mod staging;

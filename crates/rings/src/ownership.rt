@@ -1,7 +1,7 @@
 // The corners' owners (calculate_corner_ownership): where the path to each corner ends, begun at the owner before.
 use bounding_box::BoundingBox;
 use bounding_box::corners;
-use iterator::path_end;
+use paths::path_end;
 ghost use mathlib.Core.Path.{_≡_};
 ghost use Prim.Native.Nat.{_/_};
 ghost use lib.ListN.{length};
@@ -14,13 +14,13 @@ pub fn calculate_corner_ownership(
     triangles: &[u32],
     halfedges: &[u32],
     table: &[u32],
-    b: BoundingBox,
+    bounds: BoundingBox,
     first: u32,
 ) -> [u32; 4]
-    requires { ⌜ Owned (now sites) (now triangles) (now halfedges) (now table) b first ⌝ }
-    ensures { λ r. ⌜ r ≡ ownersFrom (now (sites .entry)) (now (triangles .entry)) (now (halfedges .entry)) (now (table .entry)) (length (now (sites .entry)) / 2) first (cornersOf b) ⌝ }
+    requires { ⌜ Owned (now sites) (now triangles) (now halfedges) (now table) bounds first ⌝ }
+    ensures { λ r. ⌜ r ≡ ownersFrom (now (sites .entry)) (now (triangles .entry)) (now (halfedges .entry)) (now (table .entry)) (length (now (sites .entry)) / 2) first (cornersOf bounds) ⌝ }
 {
-    let c = corners(b);
+    let c = corners(bounds);
     let o0 = path_end(sites, triangles, halfedges, table, first, c[0]);
     let o1 = path_end(sites, triangles, halfedges, table, o0, c[1]);
     let o2 = path_end(sites, triangles, halfedges, table, o1, c[2]);

@@ -1,4 +1,4 @@
--- A square root that computes: to the nearest value, from the whole root of the magnitude, found digit by digit. `SqrtLaws` has that it is the root of the definition.
+-- A square root that computes: to the nearest value, from the whole root of the magnitude, found digit by digit. `SqrtIsRoot` has that it is the root of the definition.
 -- In units of 2 ^ -1074, √x is √n with n = units x * 2 ^ 1074. A square 4 ^ h is taken out of n so that what is left has 105 or 106 binary digits, and its root 53.
 -- Definitions only.
 use mathlib.Core.Bool.{true, false}

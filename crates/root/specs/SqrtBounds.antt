@@ -1,5 +1,5 @@
--- What callers need of a root: that of a bounded value is bounded, by half the exponent, and that of a value above 0 is above 0.
--- Each is said of every root of the definition (`root-..`), and of the one that computes (`sqrt-..`). Assumes nothing.
+-- Theorem: the root of a bounded value is bounded, by half the exponent, and that of a value above 0 is above 0.
+-- Each is said of every root of the definition (`root-..`), and of the one that computes (`sqrt-..`).
 use mathlib.Core.Path.{_≡_, refl, sym, ap, _∙_, subst}
 use mathlib.Core.Bool.{Bool, true, false, true≢false}
 use Prim.Native.Nat.{ℕ, zero, suc, _+_, _*_, _^_, _≤_, _<_, zero-le}
@@ -12,12 +12,12 @@ use lib.Pow.{pow-add, pow-pos, pow-lt}
 use lib.Ieee.{Float, nan, inf, fin, binary64, up, down, fits, lt, le, ofBits}
 use Rattle.laws.specs.Binary64 as B
 use Rattle.root.specs.Root.{sq, units, Plus, Root}
-use Rattle.root.specs.Bounds.{Bounded}
-use Rattle.root.specs.Tests.{minus-down, zero-not-above, plus-above}
-use Rattle.root.specs.Units.{held-units, zero-units}
+use Rattle.root.specs.Bounded.{Bounded}
+use Rattle.root.specs.laws.Tests.{minus-down, zero-not-above, plus-above}
+use Rattle.root.specs.laws.Units.{held-units, zero-units}
 use Rattle.root.specs.Unique.{at-most, at-least}
 use Rattle.root.specs.Sqrt.{sqrtOf}
-use Rattle.root.specs.SqrtLaws.{sqrt-root}
+use Rattle.root.specs.SqrtIsRoot.{sqrt-root}
 
 -- ---- a bound in units
 

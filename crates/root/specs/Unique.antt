@@ -1,5 +1,5 @@
--- What the definition of the root says by itself: a value has at most one root (`one-root`), and a pattern at most one pattern of a root (`one-pattern`).
--- Bounds of a root by a value whose square is a bound, and the root of a square. Assumes nothing.
+-- Theorem: a value has at most one root (`one-root`), and a pattern at most one pattern of a root (`one-pattern`), by the definition alone.
+-- Bounds of a root by a value whose square is a bound, and the root of a square.
 use mathlib.Core.Path.{_≡_, refl, sym, ap, _∙_, subst}
 use mathlib.Core.Logic.{⊎-elim}
 use mathlib.Core.Bool.{Bool, true, false, not, true≢false}
@@ -9,8 +9,8 @@ use native.Mathlib.Omega.{arith}
 use lib.Dec.{T}
 use lib.Ieee.{Float, nan, inf, fin, binary64, fits, isNan, ofBits, toBits, nanBits, size}
 use lib.Ieee.Bits.{ofBits-toBits, toBits-ofBits, nanBits-is}
-use Rattle.root.specs.Root.{units, Plus, Nearest, Root, RootBits, sq}
-use Rattle.root.specs.Squares.{le-or-lt, sq-mono}
+use Rattle.root.specs.Root.{units, Plus, NearestRoot, Root, RootBits, sq}
+use Rattle.root.specs.laws.Squares.{le-or-lt, sq-mono}
 
 abbrev bitsOf : ℕ → ℕ
 bitsOf n = 0 + (size n - 53) * 2 ^ 52 + n / 2 ^ (size n - 53)
@@ -26,12 +26,12 @@ same-units : {v w : Float} → T (fits binary64 v) → T (fits binary64 w) → P
 same-units {v} {w} f g p q e =
     sym (ofBits-toBits binary64 v f) ∙ ap (ofBits binary64) (toBits-units v p ∙ ap bitsOf e ∙ sym (toBits-units w q)) ∙ ofBits-toBits binary64 w g
 
-no-less : {x r s : Float} → Nearest x r → Nearest x s → units r < units s → ⊥
+no-less : {x r s : Float} → NearestRoot x r → NearestRoot x s → units r < units s → ⊥
 no-less {x} {r} {s} a b l =
     lt-irrefl (4 * (units x * 2 ^ 1074))
     (lt-of-lt-of-le (a .above s (b .held) (b .plus) l) (le-of-lt (subst (λ (n : ℕ). sq n < 4 * (units x * 2 ^ 1074)) (add-comm (units s) (units r)) (b .below r (a .held) (a .plus) l))))
 
-one-nearest : {x r s : Float} → Nearest x r → Nearest x s → r ≡ s
+one-nearest : {x r s : Float} → NearestRoot x r → NearestRoot x s → r ≡ s
 one-nearest {x} {r} {s} a b = same-units (a .held) (b .held) (a .plus) (b .plus)
     (⊎-elim (λ g. ⊎-elim (λ h. le-antisymm g h) (λ h. absurd (no-less a b h)) (le-or-lt (units s) (units r))) (λ h. absurd (no-less b a h)) (le-or-lt (units r) (units s)))
 
@@ -61,7 +61,7 @@ one-pattern b r s f g x y = go (isNan (ofBits binary64 r)) refl (ap isNan same)
 
 -- ---- what callers want: bounds by a value whose square is a bound, and the root of a square
 
-module _ {x r : Float} (a : Nearest x r) (v : Float) (f : T (fits binary64 v)) (p : Plus v) where
+module _ {x r : Float} (a : NearestRoot x r) (v : Float) (f : T (fits binary64 v)) (p : Plus v) where
   pub at-most : units x * 2 ^ 1074 ≤ sq (units v) → units r ≤ units v
   at-most h = ⊎-elim (λ g. g) (λ g. absurd (no (units r) (units v) (units x * 2 ^ 1074) g h (a .below v f p g))) (le-or-lt (units r) (units v))
     where

@@ -9,15 +9,15 @@ use Rattle.laws.specs.Pick.{pick}
 use Rattle.laws.specs.Count.{occ}
 
 -- offsets start at 0, do not fall, and do not pass the list's end
-pub record Cells (offs : List ℕ) (room : ℕ) : Type 0 where
-  pub some : 0 < length offs
-  pub start : getD offs 0 0 ≡ 0
-  pub rising : (i : ℕ) → i + 1 < length offs → getD offs i 0 ≤ getD offs (i + 1) 0
-  pub within : (i : ℕ) → i < length offs → getD offs i 0 ≤ room
+pub record Cells (off : List ℕ) (room : ℕ) : Type 0 where
+  pub some : 0 < length off
+  pub start : getD off 0 0 ≡ 0
+  pub rising : (i : ℕ) → i + 1 < length off → getD off i 0 ≤ getD off (i + 1) 0
+  pub within : (i : ℕ) → i < length off → getD off i 0 ≤ room
 
 -- the cell of site s: the entries between its two offsets
 unfoldable pub cellOf : List ℕ → List ℕ → ℕ → List ℕ
-cellOf offs idx s = take (getD offs (s + 1) 0 - getD offs s 0) (drop (getD offs s 0) idx)
+cellOf off ix s = take (getD off (s + 1) 0 - getD off s 0) (drop (getD off s 0) ix)
 
 -- whether x stands in the list
 abbrev pub holdsOf : List ℕ → ℕ → Bool
@@ -30,4 +30,4 @@ sharedOf (x ∷ a) b = pick (holdsOf b x) (λ _. 1) (λ _. 0) + sharedOf a b
 
 -- the cells of sites s and t share an edge: two entries
 unfoldable pub shareEdgeOf : List ℕ → List ℕ → ℕ → ℕ → Bool
-shareEdgeOf offs idx s t = leb 2 (sharedOf (cellOf offs idx s) (cellOf offs idx t))
+shareEdgeOf off ix s t = leb 2 (sharedOf (cellOf off ix s) (cellOf off ix t))

@@ -1,3 +1,4 @@
+-- The root of the crate's definitions.
 pub mod Cells
 pub mod Edge
-pub mod Laws
+pub mod laws

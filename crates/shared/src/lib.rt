@@ -3,6 +3,7 @@ use numbers::EMPTY;
 ghost use mathlib.Core.Path.{_≡_};
 ghost use Prim.Native.Nat.{_+_, _%_, _<_, _≤_};
 ghost use lib.ListN.{length};
+ghost use Rattle.numbers.specs.Numbers.{EMPTY};
 ghost use Rattle.laws.specs.Decide.{Says};
 ghost use Rattle.laws.specs.Pick.{pick};
 ghost use Rattle.shared.specs.Cells.{Cells, cellOf, holdsOf, sharedOf, shareEdgeOf};
@@ -29,13 +30,13 @@ pub fn check_cells(offsets: &[u32], room: usize) -> bool
 }
 
 // The cell of site s.
-pub fn cell<'a>(offsets: &[u32], cells: &'a [u32], s: usize) -> &'a [u32]
-    requires { ⌜ Cells (now offsets) (length (now cells)) × (s + 1 < length (now offsets)) ⌝ }
-    ensures { λ r. ⌜ now r ≡ cellOf (now (offsets .entry)) (now (cells .entry)) s ⌝ }
+pub fn cell<'a>(offsets: &[u32], indexes: &'a [u32], s: usize) -> &'a [u32]
+    requires { ⌜ Cells (now offsets) (length (now indexes)) × (s + 1 < length (now offsets)) ⌝ }
+    ensures { λ r. ⌜ now r ≡ cellOf (now (offsets .entry)) (now (indexes .entry)) s ⌝ }
 {
     let from = numbers::wide(offsets[s]);
     let to = numbers::wide(offsets[s + 1]);
-    &cells[from..to]
+    &indexes[from..to]
 }
 
 fn holds(b: &[u32], x: u32) -> bool
@@ -74,11 +75,11 @@ pub fn shared_entries(a: &[u32], b: &[u32]) -> usize
 }
 
 // Whether the cells of sites s and t share an edge.
-pub fn share_edge(offsets: &[u32], cells: &[u32], s: usize, t: usize) -> bool
-    requires { ⌜ Cells (now offsets) (length (now cells)) × (s + 1 < length (now offsets)) × (t + 1 < length (now offsets)) ⌝ }
-    ensures { λ r. ⌜ r ≡ shareEdgeOf (now (offsets .entry)) (now (cells .entry)) s t ⌝ }
+pub fn share_edge(offsets: &[u32], indexes: &[u32], s: usize, t: usize) -> bool
+    requires { ⌜ Cells (now offsets) (length (now indexes)) × (s + 1 < length (now offsets)) × (t + 1 < length (now offsets)) ⌝ }
+    ensures { λ r. ⌜ r ≡ shareEdgeOf (now (offsets .entry)) (now (indexes .entry)) s t ⌝ }
 {
-    shared_entries(cell(offsets, cells, s), cell(offsets, cells, t)) >= 2
+    shared_entries(cell(offsets, indexes, s), cell(offsets, indexes, t)) >= 2
 }
 
 // Whether a half-edge of the triangle whose first is f names e.
@@ -108,7 +109,7 @@ fn first_of(e: u32, zero: bool, one: bool, two: bool) -> u32
 
 // The half-edge of triangle a on the edge that it shares with triangle b, or `EMPTY`.
 pub fn shared_edge(halfedges: &[u32], a: u32, b: u32) -> u32
-    requires { ⌜ (length (now halfedges) % 3 ≡ 0) × (length (now halfedges) ≤ 4294967295) ⌝ }
+    requires { ⌜ (length (now halfedges) % 3 ≡ 0) × (length (now halfedges) ≤ EMPTY) ⌝ }
     ensures { λ r. ⌜ r ≡ sharedEdgeOf (now (halfedges .entry)) a b ⌝ }
 {
     if halfedges.len() <= 3 * numbers::wide(a) {

@@ -1,14 +1,12 @@
 // A record's words, little-endian, and lent slices held to them. A word past the record's end is 0.
+use root::INFINITY;
+use root::SIGN;
 ghost use mathlib.Core.Path.{_≡_};
 ghost use Prim.Native.Nat.{_<_};
 ghost use lib.Ieee.{nan};
 ghost use lib.ListN.{length, getD};
 ghost use Rattle.laws.specs.Decide.{Says};
 ghost use Rattle.test_replay.specs.Words.{wordOf, afterOf, expectedOf, patternOf, floatOf, bitsOf, placeOf, expectedBitsOf, Has, Loaded};
-
-const SIGN: u64 = 0x8000_0000_0000_0000;
-
-const INFINITY: u64 = 0x7FF0_0000_0000_0000;
 
 const NAN: u64 = 0x7FF8_0000_0000_0000;
 

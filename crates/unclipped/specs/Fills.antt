@@ -6,7 +6,7 @@ use lib.ListN.{length, getD, set}
 use Rattle.laws.specs.Pick.{pick}
 use Rattle.laws.specs.Count.{occ}
 use Rattle.mesh.specs.Mesh.{endOf, Paired}
-use Rattle.mesh.specs.Rules.{Topology}
+use Rattle.mesh.specs.Accepted.{Topology}
 use Rattle.definition.specs.Cell.{Entry}
 use Rattle.definition.specs.Build.{isEmpty}
 use Rattle.definition.specs.Unclipped.{ringCell, ringsFrom}
@@ -20,7 +20,7 @@ abbrev pub withRings : List ℕ → List ℕ → List (List Entry) → List (Lis
 withRings tri he cells = ringsFrom tri he 0 (length tri) cells
 
 -- every region, of n sites in a list of len entries, has room for its site's walk, and any walk can be written from its start
-pub record Ready (tri he starts : List ℕ) (n len : ℕ) : Type 0 where
+pub record Fillable (tri he starts : List ℕ) (n len : ℕ) : Type 0 where
   pub paired : Paired tri he
   pub same : length he ≡ length tri
   pub sites : (e : ℕ) → e < length tri → endOf tri e < n

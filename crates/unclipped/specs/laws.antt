@@ -1,5 +1,5 @@
 -- Laws that only proofs use.
-pub mod Drawing
+pub mod Draws
+pub mod Fills
 pub mod Outcome
-pub mod Reversing
-pub mod Rings
+pub mod Reversed

@@ -1,7 +1,7 @@
 pub mod Plane
-pub mod Rules
 pub mod Flat
+pub mod Rules
 pub mod Sites
 pub mod Centroid
 pub mod Finite
-pub mod Reach
+pub mod laws

@@ -16,11 +16,11 @@ unfoldable pub dist2Of : Point → Point → Float
 dist2Of a b = (a .x ⊟ b .x) ⊠ (a .x ⊟ b .x) ⊞ (a .y ⊟ b .y) ⊠ (a .y ⊟ b .y)
 
 -- the circumcenter of a, b, c; first from the offsets of b and c from a, their squared lengths and the factor d
-abbrev pub centreBy : Point → Float → Float → Float → Float → Float → Float → Float → Point
-centreBy a bx by cx cy bb cc d = at (a .x ⊞ d ⊠ (cy ⊠ bb ⊟ by ⊠ cc)) (a .y ⊞ d ⊠ (bx ⊠ cc ⊟ cx ⊠ bb))
+abbrev pub centerBy : Point → Float → Float → Float → Float → Float → Float → Float → Point
+centerBy a bx by cx cy bb cc d = at (a .x ⊞ d ⊠ (cy ⊠ bb ⊟ by ⊠ cc)) (a .y ⊞ d ⊠ (bx ⊠ cc ⊟ cx ⊠ bb))
 
-abbrev pub centreOff : Point → Float → Float → Float → Float → Point
-centreOff a bx by cx cy = centreBy a bx by cx cy (bx ⊠ bx ⊞ by ⊠ by) (cx ⊠ cx ⊞ cy ⊠ cy) (one ⊘ (two ⊠ (bx ⊠ cy ⊟ by ⊠ cx)))
+abbrev pub centerOff : Point → Float → Float → Float → Float → Point
+centerOff a bx by cx cy = centerBy a bx by cx cy (bx ⊠ bx ⊞ by ⊠ by) (cx ⊠ cx ⊞ cy ⊠ cy) (one ⊘ (two ⊠ (bx ⊠ cy ⊟ by ⊠ cx)))
 
-unfoldable pub centreOf : Point → Point → Point → Point
-centreOf a b c = centreOff a (b .x ⊟ a .x) (b .y ⊟ a .y) (c .x ⊟ a .x) (c .y ⊟ a .y)
+unfoldable pub centerOf : Point → Point → Point → Point
+centerOf a b c = centerOff a (b .x ⊟ a .x) (b .y ⊟ a .y) (c .x ⊟ a .x) (c .y ⊟ a .y)

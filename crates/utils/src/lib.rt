@@ -1,14 +1,14 @@
-// The plane part of utils.rs: the tolerance test, the squared distance, the circumcenter, the centroid, and document 01's rules on points.
+// The plane part of utils.rs: the tolerance test, the squared distance, the circumcenter, the centroid, and the rules on points.
 ghost use mathlib.Core.Path.{_≡_};
 ghost use mathlib.Core.Bool.{cond};
 ghost use Prim.Native.Nat.{_+_, _*_, _/_, _<_, _≤_};
 ghost use lib.ListN.{length};
 ghost use Rattle.laws.specs.Decide.{First};
-ghost use Rattle.utils.specs.Plane.{nearOf, dist2Of, centreOf};
+ghost use Rattle.utils.specs.Plane.{nearOf, dist2Of, centerOf};
 ghost use Rattle.utils.specs.Flat.{pointAt};
-ghost use Rattle.utils.specs.Rules.{okCoord, okSite, okCentre, centreBy, centreAnswer, numberOf, xOf, yOf};
+ghost use Rattle.utils.specs.Rules.{okCoord, okSite, okCenter, centerIf, centerAnswer, centerNumber, xOf, yOf};
 ghost use Rattle.utils.specs.Sites.{KeptAt};
-ghost use Rattle.utils.specs.Centroid.{sumTo, meanOf, centroidAnswer};
+ghost use Rattle.utils.specs.Centroid.{pointSum, meanOf, centroidAnswer};
 
 pub struct Point {
     pub x: f64,
@@ -16,19 +16,19 @@ pub struct Point {
 }
 
 // A point, or the number of a refusal.
-pub enum Centre {
+pub enum Center {
     Refused(u32),
     At(Point),
 }
 
 // The point at place i.
-pub fn point_at(v: &[f64], i: usize) -> Point
-    requires { ⌜ 2 * i + 1 < length (now v) ⌝ }
-    ensures { λ r. ⌜ r ≡ pointAt (now (v .entry)) i ⌝ }
+pub fn point_at(points: &[f64], i: usize) -> Point
+    requires { ⌜ 2 * i + 1 < length (now points) ⌝ }
+    ensures { λ r. ⌜ r ≡ pointAt (now (points .entry)) i ⌝ }
 {
     Point {
-        x: v[2 * i],
-        y: v[2 * i + 1],
+        x: points[2 * i],
+        y: points[2 * i + 1],
     }
 }
 
@@ -53,7 +53,7 @@ pub fn dist2(a: Point, b: Point) -> f64
 }
 
 pub fn circumcenter_of(a: Point, b: Point, c: Point) -> Point
-    ensures { λ r. ⌜ r ≡ centreOf a b c ⌝ }
+    ensures { λ r. ⌜ r ≡ centerOf a b c ⌝ }
 {
     let b_x = b.x - a.x;
     let b_y = b.y - a.y;
@@ -68,15 +68,10 @@ pub fn circumcenter_of(a: Point, b: Point, c: Point) -> Point
     }
 }
 
-pub const LARGE: f64 = 1267650600228229401496703205376.0;
-
-const HUGE: f64 =
-    2582249878086908589655919172003011874329705792829223512830659356540647622016841194629645353280137831435903171972747493376.0;
-
 pub fn coordinate_ok(x: f64) -> bool
     ensures { λ r. ⌜ r ≡ okCoord x ⌝ }
 {
-    root::magnitude(x) <= LARGE
+    root::magnitude(x) <= numbers::LARGE
 }
 
 pub fn site_ok(p: Point) -> bool
@@ -85,32 +80,32 @@ pub fn site_ok(p: Point) -> bool
     coordinate_ok(p.x) & coordinate_ok(p.y)
 }
 
-pub fn centre_ok(p: Point) -> bool
-    ensures { λ r. ⌜ r ≡ okCentre p ⌝ }
+pub fn center_ok(p: Point) -> bool
+    ensures { λ r. ⌜ r ≡ okCenter p ⌝ }
 {
-    (root::magnitude(p.x) <= HUGE) & (root::magnitude(p.y) <= HUGE)
+    (root::magnitude(p.x) <= numbers::HUGE) & (root::magnitude(p.y) <= numbers::HUGE)
 }
 
-fn answer(sites: bool, centre: bool, p: Point) -> Centre
-    ensures { λ r. ⌜ r ≡ centreBy sites centre p ⌝ }
+fn answer(sites: bool, center: bool, p: Point) -> Center
+    ensures { λ r. ⌜ r ≡ centerIf sites center p ⌝ }
 {
     if sites {
-        if centre {
-            Centre::At(p)
+        if center {
+            Center::At(p)
         } else {
-            Centre::Refused(numbers::REFUSED_CIRCUMCENTER)
+            Center::Refused(numbers::REFUSED_CIRCUMCENTER)
         }
     } else {
-        Centre::Refused(numbers::REFUSED_COORDINATE)
+        Center::Refused(numbers::REFUSED_COORDINATE)
     }
 }
 
 // The circumcenter, or refusal 6 (a coordinate) or 11 (the circumcenter).
-pub fn circumcenter(a: Point, b: Point, c: Point) -> Centre
-    ensures { λ r. ⌜ r ≡ centreAnswer a b c ⌝ }
+pub fn circumcenter(a: Point, b: Point, c: Point) -> Center
+    ensures { λ r. ⌜ r ≡ centerAnswer a b c ⌝ }
 {
     let p = circumcenter_of(a, b, c);
-    answer(site_ok(a) & site_ok(b) & site_ok(c), centre_ok(p), p)
+    answer(site_ok(a) & site_ok(b) & site_ok(c), center_ok(p), p)
 }
 
 // Rule 6 over a list of sites: the lowest one that breaks it, or their number.
@@ -129,36 +124,36 @@ pub fn first_bad_site(sites: &[f64]) -> usize
 }
 
 // An answer's number, 0 for a point, and its coordinates, 0 where it is refused.
-pub fn number_of(c: Centre) -> u32
-    ensures { λ r. ⌜ r ≡ numberOf c ⌝ }
+pub fn number_of(c: Center) -> u32
+    ensures { λ r. ⌜ r ≡ centerNumber c ⌝ }
 {
     match c {
-        Centre::Refused(n) => n,
-        Centre::At(_) => 0,
+        Center::Refused(n) => n,
+        Center::At(_) => 0,
     }
 }
 
-pub fn x_of(c: Centre) -> f64
+pub fn x_of(c: Center) -> f64
     ensures { λ r. ⌜ r ≡ xOf c ⌝ }
 {
     match c {
-        Centre::Refused(_) => 0.0,
-        Centre::At(p) => p.x,
+        Center::Refused(_) => 0.0,
+        Center::At(p) => p.x,
     }
 }
 
-pub fn y_of(c: Centre) -> f64
+pub fn y_of(c: Center) -> f64
     ensures { λ r. ⌜ r ≡ yOf c ⌝ }
 {
     match c {
-        Centre::Refused(_) => 0.0,
-        Centre::At(p) => p.y,
+        Center::Refused(_) => 0.0,
+        Center::At(p) => p.y,
     }
 }
 
 fn sum_of(points: &[f64], count: usize) -> Point
     requires { ⌜ 2 * count ≤ length (now points) ⌝ }
-    ensures { λ r. ⌜ r ≡ sumTo (now (points .entry)) count ⌝ }
+    ensures { λ r. ⌜ r ≡ pointSum (now (points .entry)) count ⌝ }
 {
     let mut x = 0.0;
     let mut y = 0.0;
@@ -184,21 +179,21 @@ fn centroid_of(points: &[f64], count: usize) -> Point
 }
 
 // The centroid of 1 to 65,536 points, or refusal 1 (their count) or 6 (a coordinate).
-pub fn centroid(points: &[f64]) -> Centre
+pub fn centroid(points: &[f64]) -> Center
     ensures { λ r. ⌜ r ≡ centroidAnswer (now (points .entry)) ⌝ }
 {
     let count = points.len() / 2;
     if points.len() != 2 * count {
-        return Centre::Refused(numbers::REFUSED_COUNT);
+        return Center::Refused(numbers::REFUSED_COUNT);
     }
     if count == 0 {
-        return Centre::Refused(numbers::REFUSED_COUNT);
+        return Center::Refused(numbers::REFUSED_COUNT);
     }
     if 65536 < count {
-        return Centre::Refused(numbers::REFUSED_COUNT);
+        return Center::Refused(numbers::REFUSED_COUNT);
     }
     if first_bad_site(points) < count {
-        return Centre::Refused(numbers::REFUSED_COORDINATE);
+        return Center::Refused(numbers::REFUSED_COORDINATE);
     }
-    Centre::At(centroid_of(points, count))
+    Center::At(centroid_of(points, count))
 }

@@ -28,7 +28,7 @@ pub record Leaves (nc limit : ℕ) (vs : List Point) (v : List Float) (ix : List
   pub holds : Holds nc count₁ v₁ (drop limit ix₁)
 
 -- the answer to adding a point to count vertices, by the definition's a: its number, whether it was added or an old one reused, the count
-pub record Answers (count : ℕ) (a : Added) (r : Placed) : Type 0 where
+pub record PlacedAs (count : ℕ) (a : Added) (r : Placed) : Type 0 where
   pub at : r .at ≡ a .at
   pub fresh : r .fresh ≡ a .fresh
   pub below : r .at < r .count

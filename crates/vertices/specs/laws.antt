@@ -1,3 +1,3 @@
 -- Laws that only proofs use.
-pub mod Laws
+pub mod Points
 pub mod Store

@@ -10,7 +10,7 @@ ghost use lib.ListN.{length, getD, set, drop};
 ghost use Rattle.utils.specs.Plane.{at};
 ghost use Rattle.utils.specs.Flat.{points, pointsFrom};
 ghost use Rattle.vertices.specs.Add.{nearPt, findNear, addVertex};
-ghost use Rattle.vertices.specs.Store.{Holds, Leaves, Answers};
+ghost use Rattle.vertices.specs.Store.{Holds, Leaves, PlacedAs};
 
 // Where a point stands among the vertices, whether it was added there, and how many vertices there are now.
 pub struct Placed {
@@ -20,11 +20,11 @@ pub struct Placed {
 }
 
 // Vertex i.
-pub fn vertex(v: &[f64], count: usize, i: usize) -> Point
-    requires { ⌜ (2 * count ≤ length (now v)) × (i < count) ⌝ }
-    ensures { λ r. ⌜ r ≡ getD (points count (now (v .entry))) i (at nan nan) ⌝ }
+pub fn vertex(vertices: &[f64], count: usize, i: usize) -> Point
+    requires { ⌜ (2 * count ≤ length (now vertices)) × (i < count) ⌝ }
+    ensures { λ r. ⌜ r ≡ getD (points count (now (vertices .entry))) i (at nan nan) ⌝ }
 {
-    point_at(v, i)
+    point_at(vertices, i)
 }
 
 fn near_point(p: Point, q: Point) -> bool
@@ -37,14 +37,14 @@ fn near_point(p: Point, q: Point) -> bool
 }
 
 // The first of the vertices from `from` on that is near p, else `count`.
-fn find_near(v: &[f64], from: usize, count: usize, p: Point) -> usize
-    requires { ⌜ (from ≤ count) × (2 * count ≤ length (now v)) ⌝ }
-    ensures { λ r. ⌜ r ≡ findNear p (pointsFrom (now (v .entry)) from (count - from)) from ⌝ }
+fn find_near(vertices: &[f64], from: usize, count: usize, p: Point) -> usize
+    requires { ⌜ (from ≤ count) × (2 * count ≤ length (now vertices)) ⌝ }
+    ensures { λ r. ⌜ r ≡ findNear p (pointsFrom (now (vertices .entry)) from (count - from)) from ⌝ }
     ensures { λ r. ⌜ r ≤ count ⌝ }
 {
     let mut i = from;
     while i < count {
-        let q = point_at(v, i);
+        let q = point_at(vertices, i);
         if near_point(q, p) {
             return i;
         }
@@ -54,30 +54,31 @@ fn find_near(v: &[f64], from: usize, count: usize, p: Point) -> usize
 }
 
 // Writes p as vertex i.
-pub fn put(v: &mut [f64], i: usize, p: Point)
-    requires { ⌜ 2 * i + 1 < length (now v) ⌝ }
-    ensures { λ _. ⌜ now (v .exit) ≡ set (set (now (v .entry)) (2 * i) (p .x)) (2 * i + 1) (p .y) ⌝ }
+pub fn put(vertices: &mut [f64], i: usize, p: Point)
+    requires { ⌜ 2 * i + 1 < length (now vertices) ⌝ }
+    ensures { λ _. ⌜ now (vertices .exit) ≡ set (set (now (vertices .entry)) (2 * i) (p .x)) (2 * i + 1) (p .y) ⌝ }
 {
-    v[2 * i] = p.x;
-    v[2 * i + 1] = p.y;
+    vertices[2 * i] = p.x;
+    vertices[2 * i + 1] = p.y;
 }
 
 // p's place among the vertices: the first near one after the circumcenters, else a new one.
 // The index list from `limit` on belongs to the store.
 pub fn add_new_vertex(
-    v: &mut [f64],
-    ix: &mut [u32],
+    vertices: &mut [f64],
+    indexes: &mut [u32],
     limit: usize,
     centers: usize,
     count: usize,
     p: Point,
 ) -> Placed
-    requires { ⌜ Holds centers count (now v) (drop limit (now ix)) ⌝ }
-    requires { ⌜ 2 * count + 2 ≤ length (now v) ⌝ }
-    ensures placed { λ r. ⌜ Answers count (addVertex centers (points count (now (v .entry))) p) r ⌝ }
-    ensures slices { λ r. ⌜ Leaves centers limit (addVertex centers (points count (now (v .entry))) p .verts) (now (v .entry)) (now (ix .entry)) (r .count) (now (v .exit)) (now (ix .exit)) ⌝ }
+    requires { ⌜ Holds centers count (now vertices) (drop limit (now indexes)) ⌝ }
+    requires { ⌜ 2 * count + 2 ≤ length (now vertices) ⌝ }
+    ensures placed { λ r. ⌜ PlacedAs count (addVertex centers (points count (now (vertices .entry))) p) r ⌝ }
+    ensures slices { λ r. ⌜ Leaves centers limit (addVertex centers (points count (now (vertices .entry))) p .verts)
+        (now (vertices .entry)) (now (indexes .entry)) (r .count) (now (vertices .exit)) (now (indexes .exit)) ⌝ }
 {
-    let i = find_near(v, centers, count, p);
+    let i = find_near(vertices, centers, count, p);
     if i < count {
         return Placed {
             at: i,
@@ -85,7 +86,7 @@ pub fn add_new_vertex(
             count: count,
         };
     }
-    put(v, count, p);
+    put(vertices, count, p);
     Placed {
         at: count,
         fresh: true,
@@ -95,19 +96,20 @@ pub fn add_new_vertex(
 
 // The box's corners after the circumcenters: with them the store begins.
 pub fn calculate_corners(
-    v: &mut [f64],
-    ix: &mut [u32],
+    vertices: &mut [f64],
+    indexes: &mut [u32],
     limit: usize,
     centers: usize,
     corners: [Point; 4],
 ) -> usize
-    requires { ⌜ 2 * centers + 8 ≤ length (now v) ⌝ }
+    requires { ⌜ 2 * centers + 8 ≤ length (now vertices) ⌝ }
     ensures count { λ r. ⌜ r ≡ centers + 4 ⌝ }
-    ensures slices { λ r. ⌜ Leaves centers limit (points centers (now (v .entry)) ++ corners) (now (v .entry)) (now (ix .entry)) r (now (v .exit)) (now (ix .exit)) ⌝ }
+    ensures slices { λ r. ⌜ Leaves centers limit (points centers (now (vertices .entry)) ++ corners) (now (vertices .entry))
+        (now (indexes .entry)) r (now (vertices .exit)) (now (indexes .exit)) ⌝ }
 {
     let mut k = 0;
     while k < 4 {
-        put(v, centers + k, corners[k]);
+        put(vertices, centers + k, corners[k]);
         k += 1;
     }
     centers + 4

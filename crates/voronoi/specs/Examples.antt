@@ -1,30 +1,26 @@
--- Document 01's checked examples, as rows under one claim, on "square" where a mesh is meant: what the definitions that the public calls are held to give, and for
+-- Rows: the checked examples, as rows under one claim, on "square" where a mesh is meant: what the definitions that the public calls are held to give, and for
 -- the two lone points that of order_points_on_ray, where a lone point is judged. By computation.
 use mathlib.Core.Path.{_≡_, refl, _∙_}
-use mathlib.Core.List.{List, [], _∷_}
-use Prim.Native.Nat.{ℕ}
+use mathlib.Core.List.{[], _∷_}
 use lib.Ieee.{Float, binary64, ofBits, neg, add, sub, mul, div, lt, le, eq}
 use lib.Ieee.Bits.{ofBits-fits}
 use lib.ListN.{getD}
 use Rattle.laws.specs.Binary64.{zero, one, minusOne, two}
 use Rattle.root.specs.Root.{Root}
-use Rattle.root.specs.SqrtLaws.{root-is-sqrt, least-root}
+use Rattle.root.specs.SqrtIsRoot.{root-is-sqrt, least-root}
 use Rattle.utils.specs.Flat.{pointAt}
-use Rattle.utils.specs.Plane.{at, nearOf, dist2Of, centreOf}
+use Rattle.utils.specs.Plane.{at, nearOf, dist2Of, centerOf}
 use Rattle.bounding_box.specs.Box.{madeOf, firstSide, whichOf}
 use Rattle.bounding_box.specs.declared.BoundingBox.{BoundingBox}
-use Rattle.crossings.specs.Cross.{orderOf}
+use Rattle.crossings.specs.Ray.{orderOf}
 use Rattle.crossings.specs.Rows as crossings
-use Rattle.crossings.specs.declared.Crossing.the-variants.{None, One}
-use Rattle.mesh.specs.Mesh.{nextOf, chosen, tableTo, leftmostOf, turnOf, walkOf, wholeOf}
-use Rattle.mesh.specs.Square.{sites, tri, he}
+use Rattle.line_crossings.specs.declared.Crossing.the-variants.{None, One}
+use Rattle.mesh.specs.Mesh.{nextOf, chosen, tableTo, turnOf, walkOf, wholeOf}
+use Rattle.mesh.specs.Square.{sites, tri, he, table}
 use Rattle.mesh.specs.Square as mesh
 use Rattle.iterator.specs.Neighbours.{lastEnd, startsOf, neighboursOf}
-use Rattle.iterator.specs.Path.{distOf, nearestOf, hopOf, pathOf}
-use Rattle.iterator.specs.Whole.{wholePath}
-
-abbrev pub table : List ℕ
-table = leftmostOf tri he 4
+use Rattle.paths.specs.Path.{distOf, nearestOf, hopOf, pathOf}
+use Rattle.paths.specs.Path.{wholePath}
 
 abbrev pub box : BoundingBox
 box = madeOf (at zero zero) two two
@@ -45,14 +41,14 @@ pub record Examples : Type 0 where
   pub left-side : whichOf box (at minusOne zero) ≡ 1
   -- 4 is none
   pub no-side : whichOf box (at zero zero) ≡ 4
-  pub circumcenter : centreOf (pointAt sites (getD tri 0 0)) (pointAt sites (getD tri 1 0)) (pointAt sites (getD tri 2 0)) ≡ at zero zero
+  pub circumcenter : centerOf (pointAt sites (getD tri 0 0)) (pointAt sites (getD tri 1 0)) (pointAt sites (getD tri 2 0)) ≡ at zero zero
   -- of 2^-1074 it is 2^-537
   pub least-root : (r : Float) → Root (ofBits binary64 1) r → r ≡ ofBits binary64 0x1E60_0000_0000_0000
   pub lone-behind : orderOf (at five five) (at minusOne minusOne) (One one one) ≡ None
   pub lone-ahead : orderOf (at five five) (at one one) (One one one) ≡ One one one
 
 pub examples : Examples
-unfolding nextOf chosen tableTo turnOf walkOf lastEnd startsOf neighboursOf distOf nearestOf hopOf pathOf dist2Of madeOf whichOf firstSide nearOf centreOf ofBits neg add sub mul div lt le eq
+unfolding nextOf chosen tableTo turnOf walkOf lastEnd startsOf neighboursOf distOf nearestOf hopOf pathOf dist2Of madeOf whichOf firstSide nearOf centerOf ofBits neg add sub mul div lt le eq
 examples =
     let plane = crossings.rows in
     record {

@@ -1,8 +1,9 @@
 pub mod Roots
-pub mod Meshes
 pub mod Plane
-pub mod PlaneOne
+pub mod Meshes
 pub mod Walks
 pub mod Builds
+pub mod One
+pub mod Accepted
 pub mod Examples
 pub mod laws

@@ -1,2 +1,3 @@
 -- Laws that only proofs use.
-pub mod PlaneLaws
+pub mod Meshes
+pub mod Walks

@@ -2,10 +2,10 @@
 // (indexes EMPTY, floats +0); after 0 each holds what the build made, then EMPTY or +0 to its end.
 use utils::Point;
 ghost use Rattle.utils.specs.Plane.{at};
-ghost use Rattle.building.specs.Promise.{slices};
+ghost use Rattle.admission.specs.Slices.{slices};
 ghost use Rattle.voronoi.specs.Builds.{Build, BuildUnclipped, Cell, CellPart};
 
-// The cells of all sites, clipped to the box of the centre (cx, cy), width and height.
+// The cells of all sites, clipped to the box of the center (cx, cy), width and height.
 #[no_mangle]
 pub extern "C" fn voronoi_build(
     cx: f64,
@@ -26,9 +26,9 @@ pub extern "C" fn voronoi_build(
         (slices (now (work .entry)) (now (vertices .entry)) (now (indexes .entry)) (now (offsets .entry)) (now (counts .entry)))
         (slices (now (work .exit)) (now (vertices .exit)) (now (indexes .exit)) (now (offsets .exit)) (now (counts .exit))) r ⌝ }
 {
-    let c = Point { x: cx, y: cy };
+    let center = Point { x: cx, y: cy };
     building::build(
-        c,
+        center,
         width,
         height,
         sites,
@@ -77,7 +77,7 @@ pub extern "C" fn voronoi_build_unclipped(
 pub fn cell<'a>(offsets: &[u32], indexes: &'a [u32], site: u32, number: &mut u32) -> &'a [u32]
     ensures { λ r. ⌜ CellPart (now (offsets .entry)) (now (indexes .entry)) site (now r) (now (number .exit)) ⌝ }
 {
-    building::cells::cell(offsets, indexes, site, number)
+    cell_query::cell(offsets, indexes, site, number)
 }
 
 // The same as numbers: where the cell starts in the index list, and its length.
@@ -91,7 +91,7 @@ pub extern "C" fn voronoi_cell(
 ) -> u32
     ensures { λ r. ⌜ Cell (now (offsets .entry)) (now (indexes .entry)) site (now (start .exit)) (now (length .exit)) r ⌝ }
 {
-    let p = building::cells::place(offsets, indexes, site);
+    let p = cell_query::place(offsets, indexes, site);
     *start = p.start;
     *length = p.length;
     p.number

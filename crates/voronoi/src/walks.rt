@@ -1,16 +1,8 @@
 // Walks, neighbours and paths on a mesh, and what triangles and cells share. Every mesh query checks the mesh. A list is written up to the output's
 // length; `count` is how many entries were written and `ended` 1 where the last one written ends the list. A lent number is always written.
 use utils::Point;
-ghost use mathlib.Core.Path.{_≡_};
 ghost use Rattle.utils.specs.Plane.{at};
-ghost use Rattle.voronoi.specs.Plane.{bit};
 ghost use Rattle.voronoi.specs.Walks.{Walk, Neighbours, ClippedNeighbours, Path, SharedEdge, CellsShareEdge};
-
-fn flag(b: bool) -> u32
-    ensures { λ r. ⌜ r ≡ bit b ⌝ }
-{
-    if b { 1 } else { 0 }
-}
 
 // The half-edges that end at a site, from its leftmost one on.
 #[no_mangle]
@@ -30,7 +22,7 @@ pub extern "C" fn voronoi_walk(
 {
     let r = queries::walk(sites, triangles, halfedges, hull, site, work, out);
     *count = r.count;
-    *ended = flag(r.ended);
+    *ended = plane_calls::yes(r.ended);
     r.number
 }
 
@@ -52,7 +44,7 @@ pub extern "C" fn voronoi_neighbours(
 {
     let r = queries::neighbours(sites, triangles, halfedges, hull, site, work, out);
     *count = r.count;
-    *ended = flag(r.ended);
+    *ended = plane_calls::yes(r.ended);
     r.number
 }
 
@@ -72,7 +64,8 @@ pub extern "C" fn voronoi_clipped_neighbours(
     ended: &mut u32,
 ) -> u32
     ensures { λ r. ⌜ ClippedNeighbours (now (sites .entry)) (now (triangles .entry)) (now (halfedges .entry)) (now (hull .entry))
-        (now (offsets .entry)) (now (indexes .entry)) site (now (work .entry)) (now (work .exit)) (now (out .entry)) (now (out .exit)) (now (count .exit)) (now (ended .exit)) r ⌝ }
+        (now (offsets .entry)) (now (indexes .entry)) site
+        (now (work .entry)) (now (work .exit)) (now (out .entry)) (now (out .exit)) (now (count .exit)) (now (ended .exit)) r ⌝ }
 {
     let r = queries::clipped_neighbours(
         sites,
@@ -86,7 +79,7 @@ pub extern "C" fn voronoi_clipped_neighbours(
         out,
     );
     *count = r.count;
-    *ended = flag(r.ended);
+    *ended = plane_calls::yes(r.ended);
     r.number
 }
 
@@ -111,7 +104,7 @@ pub extern "C" fn voronoi_path(
     let p = Point { x, y };
     let r = queries::path(sites, triangles, halfedges, hull, site, p, work, out);
     *count = r.count;
-    *ended = flag(r.ended);
+    *ended = plane_calls::yes(r.ended);
     r.number
 }
 
@@ -127,7 +120,8 @@ pub extern "C" fn voronoi_shared_edge(
     work: &mut [u32],
     edge: &mut u32,
 ) -> u32
-    ensures { λ r. ⌜ SharedEdge (now (sites .entry)) (now (triangles .entry)) (now (halfedges .entry)) (now (hull .entry)) a b (now (work .entry)) (now (work .exit)) (now (edge .exit)) r ⌝ }
+    ensures { λ r. ⌜ SharedEdge (now (sites .entry)) (now (triangles .entry)) (now (halfedges .entry)) (now (hull .entry)) a b
+        (now (work .entry)) (now (work .exit)) (now (edge .exit)) r ⌝ }
 {
     let r = queries::shared_edge(sites, triangles, halfedges, hull, a, b, work);
     *edge = r.edge;
@@ -145,7 +139,7 @@ pub extern "C" fn voronoi_cells_share_edge(
 ) -> u32
     ensures { λ r. ⌜ CellsShareEdge (now (offsets .entry)) (now (indexes .entry)) a b (now (yes .exit)) r ⌝ }
 {
-    let r = queries::cells_share_edge(offsets, indexes, a, b);
-    *yes = flag(r.yes);
+    let r = cell_query::cells_share_edge(offsets, indexes, a, b);
+    *yes = plane_calls::yes(r.yes);
     r.number
 }

@@ -1,4 +1,4 @@
--- `bounding_box::first_side`: each answer by the tests that lead to it. Assumes nothing.
+-- `bounding_box::first_side`: each answer by the tests that lead to it.
 use Rattle.bounding_box.specs.Box.{firstSide}
 use Rattle.bounding_box.proofs.first_side.Statement.{statement}
 use Rattle.bounding_box.proofs.first_side.Tie as tie

@@ -1,4 +1,4 @@
--- `bounding_box::height` is the definition's difference. Assumes nothing.
+-- `bounding_box::height` is the definition's difference.
 use Rattle.bounding_box.specs.Box.{heightOf}
 use Rattle.bounding_box.proofs.height.Statement.{statement}
 use Rattle.bounding_box.proofs.height.Tie as tie

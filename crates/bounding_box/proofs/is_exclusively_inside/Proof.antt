@@ -1,4 +1,4 @@
--- `bounding_box::is_exclusively_inside`: the two tests are those of the definition. Assumes nothing.
+-- `bounding_box::is_exclusively_inside`: the two tests are those of the definition.
 use Rattle.bounding_box.specs.Box.{exclusiveOf}
 use Rattle.bounding_box.proofs.is_exclusively_inside.Statement.{statement}
 use Rattle.bounding_box.proofs.is_exclusively_inside.Tie as tie

@@ -1,4 +1,4 @@
--- `bounding_box::width` is the definition's difference. Assumes nothing.
+-- `bounding_box::width` is the definition's difference.
 use Rattle.bounding_box.specs.Box.{widthOf}
 use Rattle.bounding_box.proofs.width.Statement.{statement}
 use Rattle.bounding_box.proofs.width.Tie as tie

@@ -2,8 +2,8 @@
 use mathlib.Core.Path.{sym, _∙_}
 use native.Mathlib.Omega.{arith}
 use lib.ListN.{length-take}
-use Rattle.building.specs.laws.Outcome.{table-fits, six-of}
-use Rattle.building.specs.laws.Clipping.{clipped-early, clipped-asks, count-fits, clipped-built}
+use Rattle.building.specs.laws.BuildAnswer.{table-fits, six-of}
+use Rattle.building.specs.laws.ClippedBuild.{clipped-early, clipped-asks, count-fits, clipped-built}
 use borrow.Author.Needs.{needs}
 use Rattle.building.proofs.build.Tie as tie
 use Rattle.building.proofs.build.Statement.{statement}
@@ -19,6 +19,12 @@ Made c = c .before .before .before .before .before .before
 
 abbrev Accepts : tie.After-build-cells → tie.Else1
 Accepts c = c .before .before .before .before .before .before
+
+abbrev Ends : tie.After-slice-known15 → tie.After-slice-known13
+Ends c = c .before .before .before .before .before .before .before .before
+
+abbrev Known : tie.After-slice-known15 → tie.After-slice-known10
+Known c = Accepts (Made (Ends c)) .before
 
 returns : tie.Need-returns
 returns c =
@@ -37,61 +43,48 @@ build-cells-requires c κs =
     let a = Admit (e .before) in
     clipped-asks (a .admit-build .ensures) _ _ _ (Asked a .ask-box .ensures .0) (e .if1 .left) _ (c .before .before .before .before .new .ensures)
 
-cast-finish : tie.Need-cast-finish
-cast-finish c =
+finish-clipped-requires : tie.Need-finish-clipped-requires
+finish-clipped-requires c κs =
     let m = Made (c .before .before .before) in
     let e = Accepts m in
     let a = Admit (e .before) in
-    omega (arith, count-fits (a .admit-build .ensures) _ _ _ (Asked a .ask-box .ensures .0) (e .if1 .left) _ (m .before .before .before .before .before .new .ensures) _ (m .build-cells .ensures .0))
-
-finish-requires : tie.Need-finish-requires
-finish-requires c κs =
-    let e = Accepts (Made (c .before .before .before .before .before)) in
-    six-of (Admit (e .before) .admit-build .ensures) (e .if1 .left)
+    let n = m .before .before .before .before .before .new .ensures in (
+      count-fits (a .admit-build .ensures) _ _ _ (Asked a .ask-box .ensures .0) (e .if1 .left) _ n _ (m .build-cells .ensures .0),
+      six-of (a .admit-build .ensures) (e .if1 .left),
+    )
 
 same-length-6 : tie.Need-same-length-6
 same-length-6 c =
-    let back = c .before .before .before .before .before .before .before .before .before .before .before .before .before .before .before in
-    let at-work = back .before .before .before .before .before .before .before .before .before .before .before .before .before .before .before .before .before in
-    c .before .before .before .work2 .given ∙ at-work .work .given
+    let k = Known c .before .before .before .before .before .before .before .before .before in
+    c .before .before .before .work2 .given ∙ k .work .given
 
 same-length-7 : tie.Need-same-length-7
 same-length-7 c =
-    let at-v2 = c .before .before .before .before .before .before .before .before .before .before .before .before .before .before .before in
-    let at-v = at-v2 .before .before .before .before .before .before .before .before .before .before .before .before .before .before .before in
-    at-v2 .v2 .given ∙ at-v .v .given
+    let k = Known c .before .before .before .before .before .before .before in
+    Ends c .before .before .before .before .before .vertices2 .given ∙ k .vertices .given
 
 same-length-8 : tie.Need-same-length-8
-same-length-8 c =
-    let at-ix2 = c .before .before .before .before .before .before .before .before .before .before .before .before .before in
-    let at-ix = at-ix2 .before .before .before .before .before .before .before .before .before .before .before .before .before .before .before in
-    at-ix2 .ix2 .given ∙ at-ix .ix .given
+same-length-8 c = Ends c .before .before .before .indexes2 .given ∙ Known c .before .before .before .before .before .indexes .given
 
 same-length-9 : tie.Need-same-length-9
-same-length-9 c =
-    let at-off2 = c .before .before .before .before .before .before .before .before .before .before .before in
-    let at-off = at-off2 .before .before .before .before .before .before .before .before .before .before .before .before .before .before .before in
-    at-off2 .off2 .given ∙ at-off .off .given
+same-length-9 c = Ends c .before .offsets2 .given ∙ Known c .before .before .before .offsets .given
 
 same-length-10 : tie.Need-same-length-10
-same-length-10 c =
-    let back = c .before .before .before .before .before .before .before .before .before .before .before .before .before .before .before in
-    let at-counts = back .before .before .before .before .before .before .before .before .before in
-    c .before .counts2 .given ∙ at-counts .counts .given
+same-length-10 c = c .before .counts2 .given ∙ Known c .before .counts .given
 
 returns-2 : tie.Need-returns-2
 returns-2 c =
-    let f = c .before .before .before .before in
-    let m = Made (f .before .before .before .before .before .before) in
+    let m = Made (Ends c) in
     let e = Accepts m in
     let a = Admit (e .before) in
     let b = m .build-cells .ensures in
-    clipped-built (a .admit-build .ensures) _ _ _ (Asked a .ask-box .ensures .0) (e .if1 .left) _ (m .before .before .before .before .before .new .ensures) _ (b .0) (b .1) (f .finish .ensures)
+    let f = c .before .before .before .before .finish-clipped .ensures in
+    clipped-built (a .admit-build .ensures) _ _ _ (Asked a .ask-box .ensures .0) (e .if1 .left) _ (m .before .before .before .before .before .new .ensures) _ (b .0) (b .1) f
 
 pub build-spec : {M : Type 1} → statement M
 build-spec =
     tie.close
     (tie.spec (λ c κs. search needs) (λ c κs. search needs) (λ c. search needs) (λ c. search needs) (λ c. search needs)
     (λ c. search needs) (λ c. search needs) returns (λ c κs. search needs) slice-reshare-prefix-build-cells
-    slice-aggregate-build-cells build-cells-requires cast-finish finish-requires same-length-6 same-length-7
+    slice-aggregate-build-cells build-cells-requires finish-clipped-requires same-length-6 same-length-7
     same-length-8 same-length-9 same-length-10 returns-2)

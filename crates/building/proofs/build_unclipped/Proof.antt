@@ -1,7 +1,7 @@
 -- `building::build_unclipped` meets its contract: refused by the rules up to 10, or the outcome of the unclipped definition decides.
 use native.Mathlib.Omega.{arith}
-use Rattle.building.specs.Refusals.{unclipped-late}
-use Rattle.building.specs.laws.Outcome.{answers-early, mesh-of, rooms-of, six-of, answers-built, unclipped-counts}
+use Rattle.building.specs.LateRefusals.{unclipped-late}
+use Rattle.building.specs.laws.BuildAnswer.{answers-early, mesh-of, rooms-of, six-of, answers-built, unclipped-counts}
 use borrow.Author.Needs.{needs}
 use Rattle.building.proofs.build_unclipped.Tie as tie
 use Rattle.building.proofs.build_unclipped.Statement.{statement}
@@ -24,16 +24,12 @@ build-unclipped-requires c κs =
     let a = Admit (e .before) .admit-build .ensures in
     (mesh-of a (e .if1 .left), rooms-of a (e .if1 .left))
 
-cast-finish : tie.Need-cast-finish
-cast-finish c =
-    let e = Accepts (Made c) in
-    let k = mesh-of (Admit (e .before) .admit-build .ensures) (e .if1 .left) .counts in
-    omega (arith, k .few-triangles)
-
-finish-requires : tie.Need-finish-requires
-finish-requires c κs =
+finish-unclipped-requires : tie.Need-finish-unclipped-requires
+finish-unclipped-requires c κs =
     let e = Accepts (Made (c .before .before)) in
-    six-of (Admit (e .before) .admit-build .ensures) (e .if1 .left)
+    let a = Admit (e .before) .admit-build .ensures in
+    let k = mesh-of a (e .if1 .left) .counts in
+    (omega (arith, k .few-triangles, k .threes), six-of a (e .if1 .left))
 
 returns-2 : tie.Need-returns-2
 returns-2 c =
@@ -41,11 +37,11 @@ returns-2 c =
     let m = Made (f .before .before .before) in
     let e = Accepts m in
     let b = m .build-unclipped .ensures in
-    answers-built (Admit (e .before) .admit-build .ensures) (e .if1 .left) _ (unclipped-late _ _ _) _ (b .0) (b .1) (f .finish .ensures) (unclipped-counts _ _ _)
+    answers-built (Admit (e .before) .admit-build .ensures) (e .if1 .left) _ (unclipped-late _ _ _) _ (b .0) (b .1) (f .finish-unclipped .ensures) (unclipped-counts _ _ _)
 
 pub build-unclipped-spec : {M : Type 1} → statement M
 build-unclipped-spec =
     tie.close
     (tie.spec (λ c κs. search needs) (λ c. search needs) (λ c. search needs) (λ c. search needs) (λ c. search needs)
-    (λ c. search needs) returns build-unclipped-requires cast-finish finish-requires (λ c. search needs)
+    (λ c. search needs) returns build-unclipped-requires finish-unclipped-requires (λ c. search needs)
     (λ c. search needs) (λ c. search needs) (λ c. search needs) (λ c. search needs) returns-2)

@@ -1,14 +1,14 @@
 -- `cell_builder::make_cells` meets its contract: laid out and extended, the slices hold the definition's cells at their beginning, and all of them are clipped from there.
 use mathlib.Core.Path.{refl, _∙_}
 use borrow.Author.Needs.{needs}
-use Rattle.cell_builder.specs.laws.Starting.{roomy, rooms-fit, extendable, can-clip, made-not, made-all}
+use Rattle.cell_builder.specs.laws.FirstCells.{roomy, rooms-fit, extendable, can-clip, made-not, made-all}
 use Rattle.cell_builder.proofs.make_cells.Statement.{statement}
 use Rattle.cell_builder.proofs.make_cells.Tie as tie
 
-abbrev LaidOut : tie.After-off → tie.After-lay-out
+abbrev LaidOut : tie.After-offsets → tie.After-lay-out
 LaidOut o = o .before .before .before
 
-abbrev Framed : tie.After-off → tie.After-frame
+abbrev Framed : tie.After-offsets → tie.After-frame
 Framed o = LaidOut o .before .before .before
 
 abbrev Entry : tie.After-frame → tie.Start
@@ -21,7 +21,7 @@ extend-requires : tie.Need-extend-requires
 extend-requires c κs =
     let o = c .before .before .before in
     let f = Framed o in
-    extendable (Entry f .pre) _ (f .frame .ensures) _ _ refl (o .before .before .ix .given)
+    extendable (Entry f .pre) _ (f .frame .ensures) _ _ refl (o .before .before .indexes .given)
 
 returns : tie.Need-returns
 returns c =
@@ -29,8 +29,8 @@ returns c =
     let x = i .before .before .before in
     let o = x .before .before .before .before in
     let f = Framed o in
-    made-not (Entry f .pre) _ _ _ (o .off .given) (LaidOut o .lay-out .ensures) _ _ (i .before .before .v .given)
-    (i .ix2 .given ∙ o .before .before .ix .given) _ _ (f .frame .ensures) (x .extend .ensures) (c .if1 .taken)
+    made-not (Entry f .pre) _ _ _ (o .offsets .given) (LaidOut o .lay-out .ensures) _ _ (i .before .before .vertices .given)
+    (i .indexes2 .given ∙ o .before .before .indexes .given) _ _ (f .frame .ensures) (x .extend .ensures) (c .if1 .taken)
 
 clip-cells-requires : tie.Need-clip-cells-requires
 clip-cells-requires c κs =
@@ -39,14 +39,14 @@ clip-cells-requires c κs =
     let x = i .before .before .before in
     let o = x .before .before .before .before in
     let f = Framed o in
-    can-clip (Entry f .pre) _ _ _ (o .off .given) (LaidOut o .lay-out .ensures) _ _ (i .before .before .v .given)
-    (i .ix2 .given ∙ o .before .before .ix .given) _ _ (f .frame .ensures) (x .extend .ensures) (e .if1 .left)
+    can-clip (Entry f .pre) _ _ _ (o .offsets .given) (LaidOut o .lay-out .ensures) _ _ (i .before .before .vertices .given)
+    (i .indexes2 .given ∙ o .before .before .indexes .given) _ _ (f .frame .ensures) (x .extend .ensures) (e .if1 .left)
 
 same-length-5 : tie.Need-same-length-5
 same-length-5 c =
     let i = c .before .before .before .before .before .before .before .before .before .before .before .before in
     let o = i .before .before .before .before .before .before .before in
-    c .before .ix3 .given ∙ i .ix2 .given ∙ o .before .before .ix .given
+    c .before .indexes3 .given ∙ i .indexes2 .given ∙ o .before .before .indexes .given
 
 returns-2 : tie.Need-returns-2
 returns-2 c =
@@ -56,8 +56,8 @@ returns-2 c =
     let x = i .before .before .before in
     let o = x .before .before .before .before in
     let f = Framed o in
-    made-all (Entry f .pre) _ _ _ (o .off .given) (LaidOut o .lay-out .ensures) _ _ (i .before .before .v .given)
-    (i .ix2 .given ∙ o .before .before .ix .given) _ _ (f .frame .ensures) (x .extend .ensures) (e .if1 .left) _ _ _ (k .clip-cells .ensures)
+    made-all (Entry f .pre) _ _ _ (o .offsets .given) (LaidOut o .lay-out .ensures) _ _ (i .before .before .vertices .given)
+    (i .indexes2 .given ∙ o .before .before .indexes .given) _ _ (f .frame .ensures) (x .extend .ensures) (e .if1 .left) _ _ _ (k .clip-cells .ensures)
 
 pub make-cells-spec : {M : Type 1} → statement M
 make-cells-spec =

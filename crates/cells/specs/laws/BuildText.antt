@@ -12,15 +12,19 @@ use Rattle.numbers.specs.Numbers.{EMPTY}
 use Rattle.utils.specs.declared.Point.{Point}
 use Rattle.bounding_box.specs.Box.{madeOf}
 use Rattle.mesh.specs.Accepted.{siteCount}
-use Rattle.queries.specs.Admits.{Admits}
+use Rattle.admission.specs.Admits.{Admits}
 use Rattle.layout.specs.Regions.{joined, offsetsFrom}
 use Rattle.definition.specs.declared.Fault.{Fault}
 use Rattle.definition.specs.Fault.{Outcome, ok, refused}
-use Rattle.definition.specs.Gives.{Gives, gives-ok}
+use Rattle.definition.specs.laws.Gives.{Gives, gives-ok}
 use Rattle.definition.specs.Build.{Built, build}
-use Rattle.outputs.specs.Lent.{unmarked, indexNumbers, offsetNumbers, countNumbers, faultOf}
-use Rattle.building.specs.Promise.{Slices, roomFor, roomOf, Builds, builds-cases, after, BuildAnswer, Answers, Clipped, Unclipped}
-use Rattle.building.specs.Refusals.{Refuses, Numbered, build-late, unclipped-late}
+use Rattle.layout.specs.Outputs.{indexNumbers, offsetNumbers, countNumbers, faultOf}
+use Rattle.definition.specs.Cell.{unmarked}
+use Rattle.building.specs.Promise.{Builds, BuildAnswer, BuildAnswers, ClippedBuild, UnclippedBuild}
+use Rattle.building.specs.laws.Promise.{builds-cases}
+use Rattle.check_mesh.specs.AtExit.{atExit}
+use Rattle.admission.specs.Slices.{Slices, roomFor, roomOf}
+use Rattle.building.specs.LateRefusals.{Refuses, Numbered, build-late, unclipped-late}
 use Rattle.building.specs.Success.{zero-succeeds}
 use Rattle.listing.specs.Listing.{unclippedListing, listing, cellLines}
 use Rattle.cells.specs.Printed.{Shows, linesOf, unclippedText, boxText, InBox, WithoutBox}
@@ -86,15 +90,15 @@ module _ {Rules : ℕ → Type 0} {table : List ℕ} {o : Outcome Fault Built} {
   rest = replicate (length (old .indexes) - length (joined cells)) EMPTY
 
   offsets-are : new .offsets ≡ offsetsFrom 0 cells ++ more
-  unfolding after offsetNumbers
+  unfolding atExit offsetNumbers
   offsets-are = rw (z, e) at (a .offsets)
 
   indexes-are : new .indexes ≡ joined cells ++ rest
-  unfolding after indexNumbers
+  unfolding atExit indexNumbers
   indexes-are = rw (z, e) at (a .indexes)
 
   counts-are : new .counts ≡ (length (b .verts) ∷ b .owners ++ b .lost ∷ []) ++ replicate (length (old .counts) - length (length (b .verts) ∷ b .owners ++ b .lost ∷ [])) EMPTY
-  unfolding after countNumbers
+  unfolding atExit countNumbers
   counts-are = rw (z, e) at (a .counts)
 
   cells-are : length cells ≡ n
@@ -134,7 +138,7 @@ module _ (sites : List Float) (tri he hull : List ℕ) (space : ℕ) (m : SheetS
         lt-ltb (siteCount sites) 97 (omega (arith, m .few-sites)),
       ))
 
-  module _ {asked : ℕ} {o : Outcome Fault Built} (whole : Gives (Whole (siteCount sites)) o) (late : Refuses Numbered o) (a : Answers sites tri he hull asked o old new r) where
+  module _ {asked : ℕ} {o : Outcome Fault Built} (whole : Gives (Whole (siteCount sites)) o) (late : Refuses Numbered o) (a : BuildAnswers sites tri he hull asked o old new r) where
     rules : Builds sites tri he hull true asked o r
     rules = rw roomy at (a .number)
 
@@ -147,7 +151,7 @@ module _ (sites : List Float) (tri he hull : List ℕ) (space : ℕ) (m : SheetS
         → Shows (Admits sites tri he hull true asked) text o (shown t r)
     text-of text t f = shows text t rules late (λ b e z. f b (gives-ok (Whole (siteCount sites)) whole e) e z)
 
-  module _ (c : Point) (w h : Float) (a : Clipped sites tri he hull c w h old new r) where
+  module _ (c : Point) (w h : Float) (a : ClippedBuild sites tri he hull c w h old new r) where
     abbrev whole-in : Gives (Whole (siteCount sites)) (build sites tri he hull (madeOf c w h))
     whole-in = whole-in-box sites tri he hull (madeOf c w h)
 
@@ -157,7 +161,7 @@ module _ (sites : List Float) (tri he hull : List ℕ) (space : ℕ) (m : SheetS
     pub text-in-box : InBox sites tri he hull c w h (shown (boxLines (siteCount sites) (length tri / 3) (new .offsets) (new .indexes) (new .counts)) r)
     text-in-box = text-of whole-in (build-late sites tri he hull (madeOf c w h)) a (boxText (siteCount sites) (length tri / 3)) _ (λ b q e z. box-lines a long b q e z (length tri / 3))
 
-  module _ (a : Unclipped sites tri he hull old new r) where
+  module _ (a : UnclippedBuild sites tri he hull old new r) where
     pub laid-without-box : length (new .indexes) ≡ 3076 → r ≡ 0 → Laid (siteCount sites) (new .offsets) (new .indexes) space
     laid-without-box = layout (whole-without-box sites tri he) (unclipped-late sites tri he) a
 

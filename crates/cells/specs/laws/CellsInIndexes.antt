@@ -7,7 +7,7 @@ use native.Mathlib.Nat.{add-zero}
 use lib.ListN.{length, getD, take, drop, length-append}
 use lib.Seq.{take-suc, take-all, drop-append-seam, take-append-seam}
 use Rattle.layout.specs.Regions.{joined, offsetsFrom}
-use Rattle.layout.specs.laws.Compacting.{joined-snoc, offsets-length}
+use Rattle.layout.specs.laws.Compacted.{joined-snoc, offsets-length}
 use Rattle.listing.specs.Listing.{cellLine, cellLines, listedCell}
 use Rattle.cells.specs.Printed.{linesOf}
 use Rattle.cells.specs.Shown.{Laid}

@@ -6,7 +6,7 @@ use native.Mathlib.Omega.{arith}
 use lib.Ieee.{Float}
 use lib.ListN.{length, take, drop, length-append}
 use lib.Seq.{sets, take-append-seam}
-use Rattle.laws.specs.Stores.{sets-all}
+use Rattle.laws.specs.laws.Stores.{sets-all}
 use Rattle.form.specs.Form.{Outline, box, unclipped, FormMesh, MeshFits, isUnclipped, numbersOf, outlineFloats, siteFloats, triangleSites, trianglePairs}
 use Rattle.form_step.specs.Holds.{ListRoom}
 use Rattle.form_step.specs.declared.Form.the-variants.{Sound}

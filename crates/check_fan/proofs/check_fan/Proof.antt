@@ -1,7 +1,7 @@
 -- The sum of the lengths decides whether a fan is broken; if so, the lowest is searched for.
 use native.Mathlib.Nat.{lt-of-lt-of-le}
 use borrow.Author.Needs.{needs}
-use Rattle.check_fan.specs.Loops.{fan-whole, fan-broken}
+use Rattle.check_fan.specs.laws.Loops.{fan-whole, fan-broken}
 use borrow.Author.Needs.{needs}
 use Rattle.check_fan.proofs.check_fan.Statement.{statement}
 use Rattle.check_fan.proofs.check_fan.Tie as tie
@@ -30,7 +30,7 @@ returns-2 c =
     let at-leftmost = at-walks-cover .before .before .before .before in
     let s = c .before .before .before .before .before .before .before .before .before .before .before .before .before .before in
     fan-broken _ _ _ _ _ (s .pre .0) (s .pre .1) (s .pre .2) (s .pre .3) (at-leftmost .leftmost .ensures) _
-    (at-walks-cover .walks-cover .ensures) _ _ (c .before .before .before .before .if1 .left) (c .before .before .first-broken .ensures)
+    (at-walks-cover .walks-cover .ensures) _ _ (c .before .before .before .before .if1 .left) (c .before .before .first-broken .ensures .0) (c .before .before .first-broken .ensures .1)
 
 pub check-fan-spec : {M : Type 1} → statement M
 check-fan-spec =

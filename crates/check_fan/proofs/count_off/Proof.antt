@@ -5,9 +5,9 @@ use Prim.Native.Nat.{_-_, _≤_, _<_}
 use native.Mathlib.Omega.{arith}
 use lib.ListN.{length, length-set}
 use Rattle.mesh.specs.Mesh.{nextOf, endOf}
-use Rattle.mesh.specs.Laws.{next-lt}
-use Rattle.check_fan.specs.Owed.{owedTo}
-use Rattle.check_fan.specs.Loops.{owed-next}
+use Rattle.mesh.specs.laws.Next.{next-lt}
+use Rattle.check_fan.specs.Counts.{owedTo}
+use Rattle.check_fan.specs.laws.Loops.{owed-next}
 use Rattle.check_fan.proofs.count_off.Statement.{statement}
 use Rattle.check_fan.proofs.count_off.Tie as tie
 

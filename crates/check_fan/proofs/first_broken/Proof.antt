@@ -1,7 +1,7 @@
 -- A site is in debt exactly where its walk is shorter than its half-edges are many, and that is where one of them is not reached.
 use native.Mathlib.Nat.{lt-of-lt-of-le}
 use borrow.Author.Needs.{needs}
-use Rattle.check_fan.specs.Loops.{broken-first}
+use Rattle.check_fan.specs.laws.Loops.{broken-first}
 use borrow.Author.Needs.{needs}
 use Rattle.check_fan.proofs.first_broken.Statement.{statement}
 use Rattle.check_fan.proofs.first_broken.Tie as tie
@@ -15,8 +15,11 @@ returns : tie.Need-returns
 returns c =
     let at-lengths = c .before .before .before .before .before .before .before .before in
     let s = c .before .before .before .before .before .before .before .before .before .before .before .before .before in
-    broken-first _ _ _ _ (s .pre .0) (s .pre .1) (s .pre .2) (s .pre .3) _ _ _ _ (s .pre .4) (at-lengths .lengths .ensures)
-    (c .before .before .before .before .count-off .ensures) (c .first-owing .ensures)
+    let counted = c .before .before .before .before .count-off .ensures in (
+      broken-first _ _ _ _ (s .pre .0) (s .pre .1) (s .pre .2) (s .pre .3) _ _ _ _ (s .pre .4) (at-lengths .lengths .ensures)
+          counted (c .first-owing .ensures),
+      (_, at-lengths .lengths .ensures, counted),
+    )
 
 pub first-broken-spec : {M : Type 1} → statement M
 first-broken-spec =

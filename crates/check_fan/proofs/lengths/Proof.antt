@@ -3,7 +3,7 @@ use borrow.Author.Needs.{needs}
 use Prim.Native.Nat.{_-_}
 use native.Mathlib.Omega.{arith}
 use lib.ListN.{length}
-use Rattle.check_fan.specs.Loops.{Measuring, measuring-start, measuring-step, measuring-done}
+use Rattle.check_fan.specs.laws.Loops.{Measuring, measuring-start, measuring-step, measuring-done}
 use Rattle.check_fan.proofs.lengths.Statement.{statement}
 use Rattle.check_fan.proofs.lengths.Tie as tie
 

@@ -1,6 +1,6 @@
 -- The three answers are the cases of `lessOf`, by its two tests.
 use borrow.Author.Tests.{eq-eqb, ne-eqb}
-use Rattle.check_fan.specs.Owed.{lessOf}
+use Rattle.check_fan.specs.Counts.{lessOf}
 use borrow.Author.Needs.{needs}
 use Rattle.check_fan.proofs.less.Statement.{statement}
 use Rattle.check_fan.proofs.less.Tie as tie

@@ -1,6 +1,6 @@
 -- The sum so far is `totalTo` at s; once it passes the number of half-edges it can no longer be that number.
-use Rattle.check_fan.specs.Total.{total-turn, total-over}
-use Rattle.check_fan.specs.Total.{totalTo}
+use Rattle.check_fan.specs.laws.Total.{total-turn, total-over}
+use Rattle.check_fan.specs.Counts.{totalTo}
 use lib.ListN.{length}
 use Prim.Native.Nat.{_≤_, _-_}
 use native.Mathlib.Omega.{arith}

@@ -1,7 +1,7 @@
 -- The marks are those of the places before the first that is not fresh; what is left of them decides (`answers`).
 use native.Mathlib.Nat.{lt-of-lt-of-le}
 use borrow.Author.Needs.{needs}
-use Rattle.check_hull.specs.Loops.{checked}
+use Rattle.check_hull.specs.laws.Loops.{checked, marks-left}
 use Rattle.check_hull.proofs.check_hull.Statement.{statement}
 use Rattle.check_hull.proofs.check_hull.Tie as tie
 
@@ -23,8 +23,11 @@ returns c =
     let at-mark-hull = at-unmark .before .before .before .before in
     let s = c .before .before .before .before .before .before .before .before .before .before .before .before .before .before .before in
     let m = at-mark-hull .mark-hull in
-    let u = at-unmark .unmark in
-    checked _ _ _ _ _ _ _ _ _ _ _ (s .pre .1) (s .pre .2) (s .pre .3) (s .pre .4) (m .ensures .0) (m .ensures .1) (u .ensures .0) (u .ensures .1) (c .before .first-kept .ensures) (c .answer .ensures)
+    let u = at-unmark .unmark in (
+      checked _ _ _ _ _ _ _ _ _ _ _ (s .pre .1) (s .pre .2) (s .pre .3) (s .pre .4) (m .ensures .0) (m .ensures .1) (u .ensures .0) (u .ensures .1)
+          (c .before .first-kept .ensures) (c .hull-fault .ensures),
+      marks-left _ _ _ _ (s .args .work .now) _ _ _ (m .ensures .0) (m .ensures .1) (u .ensures .0),
+    )
 
 pub check-hull-spec : {M : Type 1} → statement M
 check-hull-spec =

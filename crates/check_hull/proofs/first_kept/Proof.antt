@@ -3,7 +3,7 @@ use borrow.Author.Needs.{needs}
 use Prim.Native.Nat.{ℕ, _-_, _≤_, _<_}
 use native.Mathlib.Omega.{arith}
 use borrow.Author.Count.{below-none, below-more}
-use Rattle.check_hull.specs.Unmarked.{GoneAt}
+use Rattle.check_hull.specs.Marks.{GoneAt}
 use Rattle.check_hull.proofs.first_kept.Statement.{statement}
 use Rattle.check_hull.proofs.first_kept.Tie as tie
 

@@ -11,7 +11,7 @@ returns c = simp (le-ltb _ _ (c .if1 .taken))
 
 returns-2 : tie.Need-returns-2
 unfolding leadsOf
-returns-2 c = simp (lt-ltb _ _ (c .before .before .if1 .left), ← c .before .after .ensures .0)
+returns-2 c = simp (lt-ltb _ _ (c .before .before .if1 .left), ← c .before .next-place .ensures .0)
 
 pub leads-spec : {M : Type 1} → statement M
 leads-spec =

@@ -1,6 +1,6 @@
 -- The three answers are the cases of `lowestOf`, by its two tests.
 use borrow.Author.Tests.{lt-ltb, le-ltb}
-use Rattle.check_hull.specs.Loops.{lowestOf}
+use Rattle.check_hull.specs.Marks.{lowestOf}
 use Rattle.check_hull.proofs.lowest.Statement.{statement}
 use Rattle.check_hull.proofs.lowest.Tie as tie
 

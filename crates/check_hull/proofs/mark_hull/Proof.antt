@@ -1,5 +1,5 @@
 -- The loop keeps `Marking`: the places below i are fresh and marked. A place whose site is none, or has a mark already, is the first that is not fresh.
-use Rattle.check_hull.specs.Loops.{Marking, marking-start, no-site, twice, marking-step, all-marked}
+use Rattle.check_hull.specs.laws.Loops.{Marking, marking-start, no-site, twice, marking-step, all-marked}
 use lib.ListN.{length}
 use Prim.Native.Nat.{_-_}
 use native.Mathlib.Omega.{arith}

@@ -3,7 +3,7 @@ use borrow.Author.Needs.{needs}
 use Prim.Native.Nat.{_-_}
 use native.Mathlib.Omega.{arith}
 use lib.ListN.{length}
-use Rattle.check_hull.specs.Loops.{Unmarking, unmarking-start, unmarking-step, unmarking-done}
+use Rattle.check_hull.specs.laws.Loops.{Unmarking, unmarking-start, unmarking-step, unmarking-done}
 use Rattle.check_hull.proofs.unmark.Statement.{statement}
 use Rattle.check_hull.proofs.unmark.Tie as tie
 

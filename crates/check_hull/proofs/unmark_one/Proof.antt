@@ -1,5 +1,5 @@
 -- Its three answers are the three laws of a half-edge: paired, no mark to take off, or one taken off.
-use Rattle.check_hull.specs.Marks.{unmark-paired, unmark-stray, unmark-taken}
+use Rattle.check_hull.specs.laws.Marks.{unmark-paired, unmark-stray, unmark-taken}
 use borrow.Author.Needs.{needs}
 use Rattle.check_hull.proofs.unmark_one.Statement.{statement}
 use Rattle.check_hull.proofs.unmark_one.Tie as tie

@@ -1,7 +1,7 @@
 -- A rule whose first offender is at the end holds of all; the other answers name the offender.
 use borrow.Author.Needs.{needs}
-use Rattle.laws.specs.Decide.{first-all}
-use Rattle.laws.specs.Refusals.{offends, all-keep, nothing}
+use Rattle.laws.specs.laws.Decide.{first-all}
+use Rattle.laws.specs.laws.Refusals.{offends, all-keep, nothing}
 use borrow.Author.Needs.{needs}
 use Rattle.check_mesh.proofs.check_shape.Statement.{statement}
 use Rattle.check_mesh.proofs.check_shape.Tie as tie

@@ -1,7 +1,7 @@
 -- A refusal clears the slice; where no rule refuses it holds what rule 10 left there.
 use mathlib.Core.Path.{sym, _∙_}
 use borrow.Author.Needs.{needs}
-use Rattle.check_mesh.specs.Steps.{shape-keep, topology-shape, topology-border, topology-whole}
+use Rattle.check_mesh.specs.laws.Steps.{shape-keep, topology-shape, topology-border, topology-whole}
 use borrow.Author.Needs.{needs}
 use Rattle.check_mesh.proofs.check_topology.Statement.{statement}
 use Rattle.check_mesh.proofs.check_topology.Tie as tie

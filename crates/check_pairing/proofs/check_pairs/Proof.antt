@@ -1,5 +1,5 @@
 -- All half-edges below e are right; the first that is not is the answer.
-use Rattle.laws.specs.Decide.{refused, granted}
+use Rattle.laws.specs.laws.Decide.{refused, granted}
 use Rattle.mesh.specs.Mesh.{PairedAt}
 use borrow.Author.Count.{below-none, below-more}
 use lib.ListN.{length}

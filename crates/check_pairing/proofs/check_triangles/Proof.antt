@@ -1,5 +1,5 @@
 -- All triangles below t are sound; the first that is not is the answer.
-use Rattle.laws.specs.Decide.{refused, granted}
+use Rattle.laws.specs.laws.Decide.{refused, granted}
 use Rattle.mesh.specs.Mesh.{SoundAt}
 use borrow.Author.Count.{below-none, below-more}
 use Prim.Native.Nat.{ℕ, _≤_, _<_, _-_}

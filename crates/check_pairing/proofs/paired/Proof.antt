@@ -1,7 +1,7 @@
 -- An unpaired half-edge is right; of another the answer is that of `mates`.
 use mathlib.Core.Logic.{inl}
 use borrow.Author.Needs.{needs}
-use Rattle.laws.specs.Decide.{says-or}
+use Rattle.laws.specs.laws.Decide.{says-or}
 use Rattle.check_pairing.proofs.paired.Statement.{statement}
 use Rattle.check_pairing.proofs.paired.Tie as tie
 

@@ -1,5 +1,5 @@
--- `crossings::either`: each answer by the test. Assumes nothing.
-use Rattle.crossings.specs.Cross.{eitherOf}
+-- `crossings::either`: each answer by the test.
+use Rattle.crossings.specs.Ray.{eitherOf}
 use Rattle.crossings.proofs.either.Statement.{statement}
 use Rattle.crossings.proofs.either.Tie as tie
 

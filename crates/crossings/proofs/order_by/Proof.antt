@@ -1,8 +1,13 @@
--- `crossings::order_by`: the signs and magnitudes that it compares are the definition's. Assumes nothing.
-use Rattle.crossings.specs.Cross.{orderBy}
+-- `crossings::order_by`: the signs and magnitudes that it compares are the definition's.
+use Rattle.crossings.specs.laws.Calls.{by-calls}
 use Rattle.crossings.proofs.order_by.Statement.{statement}
 use Rattle.crossings.proofs.order_by.Tie as tie
 
+returns : tie.Need-returns
+returns c =
+    let m = c .before .before in
+    let s = m .before .before in
+    by-calls _ _ _ _ _ _ _ (s .before .signum .ensures) (s .signum2 .ensures) (m .before .signum3 .ensures) (m .magnitude .ensures) (c .before .magnitude2 .ensures) (c .order-pick .ensures)
+
 pub order-by-spec : {M : Type 1} → statement M
-unfolding orderBy
-order-by-spec = tie.close (tie.spec (λ c κs. tt) (λ c κs. tt) (λ c κs. tt) (λ c κs. tt) (λ c κs. tt) (λ c κs. tt) (λ c. cc))
+order-by-spec = tie.close (tie.spec (λ c κs. tt) (λ c κs. tt) (λ c κs. tt) (λ c κs. tt) (λ c κs. tt) (λ c κs. tt) returns)

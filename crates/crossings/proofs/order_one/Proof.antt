@@ -1,8 +1,12 @@
--- `crossings::order_one`: the signs of the point's own coordinates are compared, as in the definition. Assumes nothing.
-use Rattle.crossings.specs.Cross.{orderOne}
+-- `crossings::order_one`: the signs of the point's own coordinates are compared, as in the definition.
+use Rattle.crossings.specs.laws.Calls.{one-calls}
 use Rattle.crossings.proofs.order_one.Statement.{statement}
 use Rattle.crossings.proofs.order_one.Tie as tie
 
+returns : tie.Need-returns
+returns c =
+    let s = c .before .before in
+    one-calls _ _ _ (s .before .before .signum .ensures) (s .before .signum2 .ensures) (s .signum3 .ensures) (c .before .signum4 .ensures) (c .one-if .ensures)
+
 pub order-one-spec : {M : Type 1} → statement M
-unfolding orderOne
-order-one-spec = tie.close (tie.spec (λ c κs. tt) (λ c κs. tt) (λ c κs. tt) (λ c κs. tt) (λ c κs. tt) (λ c. cc))
+order-one-spec = tie.close (tie.spec (λ c κs. tt) (λ c κs. tt) (λ c κs. tt) (λ c κs. tt) (λ c κs. tt) returns)

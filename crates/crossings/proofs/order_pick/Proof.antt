@@ -1,5 +1,5 @@
--- `crossings::order_pick`: each answer by the tests that lead to it. Assumes nothing.
-use Rattle.crossings.specs.Cross.{orderPick}
+-- `crossings::order_pick`: each answer by the tests that lead to it.
+use Rattle.crossings.specs.Ray.{orderPick}
 use Rattle.crossings.proofs.order_pick.Statement.{statement}
 use Rattle.crossings.proofs.order_pick.Tie as tie
 

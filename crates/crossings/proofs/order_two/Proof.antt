@@ -1,8 +1,14 @@
--- `crossings::order_two`: the larger component of the direction decides, as in the definition. Assumes nothing.
-use Rattle.crossings.specs.Cross.{orderTwo}
+-- `crossings::order_two`: the larger component of the direction decides, as in the definition.
+use Rattle.crossings.specs.laws.Calls.{two-calls}
 use Rattle.crossings.proofs.order_two.Statement.{statement}
 use Rattle.crossings.proofs.order_two.Tie as tie
 
+returns : tie.Need-returns
+returns c =
+    let b = c .before in
+    let a = b .before .before .before in
+    let m = a .before .before .before in
+    two-calls _ _ _ _ _ _ (m .before .magnitude .ensures) (m .magnitude2 .ensures) (a .order-by .ensures) (b .order-by2 .ensures) (c .either .ensures)
+
 pub order-two-spec : {M : Type 1} → statement M
-unfolding orderTwo
-order-two-spec = tie.close (tie.spec (λ c κs. tt) (λ c κs. tt) (λ c κs. tt) (λ c κs. tt) (λ c κs. tt) (λ c. cc))
+order-two-spec = tie.close (tie.spec (λ c κs. tt) (λ c κs. tt) (λ c κs. tt) (λ c κs. tt) (λ c κs. tt) returns)

@@ -1,8 +1,7 @@
--- `crossings::project_ray`: the line through the start and the rounded second point, then its order on the ray. Assumes nothing.
-use Rattle.crossings.specs.Cross.{rayOf}
+-- `crossings::project_ray`: the line through the start and the rounded second point, then its order on the ray.
+use Rattle.crossings.specs.laws.Calls.{ray-calls}
 use Rattle.crossings.proofs.project_ray.Statement.{statement}
 use Rattle.crossings.proofs.project_ray.Tie as tie
 
 pub project-ray-spec : {M : Type 1} → statement M
-unfolding rayOf
-project-ray-spec = tie.close (tie.spec (λ c κs. tt) (λ c κs. tt) (λ c. cc))
+project-ray-spec = tie.close (tie.spec (λ c κs. tt) (λ c κs. tt) (λ c. ray-calls _ _ _ (c .before .intersect-line .ensures) (c .order-points-on-ray .ensures)))

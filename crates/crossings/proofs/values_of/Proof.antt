@@ -1,4 +1,4 @@
--- `crossings::values_of`: each arm is the definition at its variant. Assumes nothing.
+-- `crossings::values_of`: each arm is the definition at its variant.
 use borrow.Author.Needs.{needs}
 use Rattle.crossings.proofs.values_of.Statement.{statement}
 use Rattle.crossings.proofs.values_of.Tie as tie

@@ -7,7 +7,7 @@ use Prim.Native.Nat.{ℕ, zero, suc, _+_, _^_, _≤_, _<_}
 use native.Mathlib.Omega.{arith}
 use lib.ListN.{length, take, drop, take-append-drop, length-drop}
 use lib.Seq.{length-take-le}
-use Rattle.laws.specs.Decide.{lt-or-ge}
+use Rattle.laws.specs.laws.Decide.{lt-or-ge}
 use Rattle.form_step.specs.Bytes.{Bytes, word, le}
 use Rattle.form.specs.Form.{box, OutlineFits, SiteFits, TriangleFits, HullFits, outlineBytes, siteBytes, triangleBytes, hullBytes}
 use Rattle.form_step.specs.Reader.{inside, step, steps}

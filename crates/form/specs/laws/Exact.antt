@@ -16,7 +16,7 @@ use Rattle.form_step.specs.laws.Steps.{follows-cases, step-outside}
 use Rattle.form.specs.laws.Run.{Opens, ready-up, takes-reader, opening}
 use Rattle.form.specs.laws.Mesh.{complete}
 use Rattle.form.specs.laws.Cut.{Ended, CutOff, steps-append, body-there, cut-box}
-use Rattle.form.specs.laws.Tail.{Few, Tail, tail, refused-ends}
+use Rattle.form.specs.laws.Tail.{FewRecords, Tail, tail, refused-ends}
 use Rattle.form_step.specs.declared.Reader.{Reader}
 use Rattle.form_step.specs.declared.Form.the-variants.{Sound, Broken}
 
@@ -51,7 +51,7 @@ accepts s f =
 
 -- ---- and nothing else
 
-few-opened : {r : Reader} {c : Outline} → Opens r c → Few r
+few-opened : {r : Reader} {c : Outline} → Opens r c → FewRecords r
 few-opened o = record { sites = omega (arith, o .sites); triangles = omega (arith, o .triangles); hull = omega (arith, o .hull) }
 
 regroup : (a b c d e : List ℕ) → a ++ (b ++ c ++ d ++ e) ≡ a ++ b ++ c ++ d ++ e

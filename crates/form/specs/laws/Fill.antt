@@ -13,10 +13,6 @@ use Rattle.form_step.specs.laws.Steps.{step-broken, step-outside, step-inside, 
 use Rattle.form_step.specs.declared.Reader.{Reader}
 
 module _ (r : Reader) (b : ℕ) (bs ss : List Float) (ts es hs : List ℕ) where
-  nothing-to : ((k : ℕ) → within r k ≡ false) → filledBy r b bs ss ts es hs ≡ reading r bs ss ts es hs
-  unfolding boundsBy sitesBy trianglesBy halfedgesBy hullBy
-  nothing-to n = rw (n 1, n 2, n 3, n 4)
-
   module _ (e : r .broken ≡ false) (p : 0 < r .left) where
     at-stage : (k n : ℕ) → r .stage ≡ k → within r n ≡ eqb k n
     at-stage k n s = within-is r n e p ∙ ap (λ m. eqb m n) s

@@ -10,7 +10,7 @@ use lib.Dec.{eqb}
 use lib.ListN.{length, take, drop, replicate, length-replicate, take-append-drop}
 use lib.Seq.{take-take, take-length}
 use borrow.Author.Tests.{eqb-false, lt-ltb}
-use Rattle.laws.specs.Decide.{eq-or-ne}
+use Rattle.laws.specs.laws.Decide.{eq-or-ne}
 use Rattle.laws.specs.Pick.{pick}
 use Rattle.form_step.specs.Bytes.{Bytes}
 use Rattle.form.specs.Form.{IsForm}

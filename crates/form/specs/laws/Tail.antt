@@ -14,7 +14,7 @@ use Rattle.form.specs.laws.Run.{AtRecord, Ran, Goes, ready-up, takes-rea
 use Rattle.form.specs.laws.Cut.{Ended, CutOff, steps-append, steps-broken, true-false, partway, body-there, cut-site, cut-triangle, cut-hull}
 use Rattle.form_step.specs.declared.Reader.{Reader}
 
-pub record Few (r : Reader) : Type 0 where
+pub record FewRecords (r : Reader) : Type 0 where
   pub sites : r .sites ≤ 96
   pub triangles : r .triangles ≤ 192
   pub hull : r .hull ≤ 96
@@ -33,7 +33,7 @@ pub record Tail (r : Reader) (t : List ℕ) : Type 0 where
   pub few-triangles : r .triangles + length triangles ≤ 192
   pub few-hull : r .hull + length hull ≤ 96
 
-few-on : {r n : Reader} {k a b c : ℕ} → Ran r n k a b c → r .sites + a ≤ 96 → r .triangles + b ≤ 192 → r .hull + c ≤ 96 → Few n
+few-on : {r n : Reader} {k a b c : ℕ} → Ran r n k a b c → r .sites + a ≤ 96 → r .triangles + b ≤ 192 → r .hull + c ≤ 96 → FewRecords n
 few-on v l m o = record { sites = omega (arith, v .sites); triangles = omega (arith, v .triangles); hull = omega (arith, v .hull) }
 
 -- ---- a record, and what follows it
@@ -57,9 +57,9 @@ module _ (r : Reader) (k : ℕ) (q : AtRecord r 4) (f : follows r k ≡ true) wh
 
 -- the same of the fewer bytes that are left
 abbrev Below : ℕ → Type 0
-Below n = (r : Reader) (t : List ℕ) → length t ≤ n → Bytes t → AtRecord r 4 → Few r → Ended (steps r t) → Tail r t
+Below n = (r : Reader) (t : List ℕ) → length t ≤ n → Bytes t → AtRecord r 4 → FewRecords r → Ended (steps r t) → Tail r t
 
-module _ (r : Reader) (t : List ℕ) (w : Few r) where
+module _ (r : Reader) (t : List ℕ) (w : FewRecords r) where
   site-before : (x : CutOff siteBytes SiteFits 2 t) (n : Reader) → Ran r n 2 1 0 0 → r .stage ≤ 2 → Tail n (x .rest) → Tail r (2 ∷ t)
   site-before x n v o u =
       record {
@@ -122,7 +122,7 @@ module _ (r : Reader) (t : List ℕ) (w : Few r) where
         few-hull = omega (arith, v .hull, u .few-hull);
       }
 
-module _ (n : ℕ) (below : Below n) (r : Reader) (t : List ℕ) (l : length t ≤ n) (h : Bytes t) (q : AtRecord r 4) (w : Few r) where
+module _ (n : ℕ) (below : Below n) (r : Reader) (t : List ℕ) (l : length t ≤ n) (h : Bytes t) (q : AtRecord r 4) (w : FewRecords r) where
   whole-body : (k : ℕ) → follows r k ≡ true → (begun r k .stage ≡ 5 → ⊥) → Ended (steps r (k ∷ t)) → begun r k .left ≤ length t
   unfolding begun
   whole-body k f d e = body-there t (begun r k) refl d (subst Ended (begins r k q f t) e)
@@ -185,7 +185,7 @@ pub refused-ends : (r : Reader) (t : List ℕ) → Ended (steps (refused r) t) �
 unfolding refused
 refused-ends r t e = true-false (sym (ap (λ (n : Reader). n .broken) (steps-broken t (refused r) refl)) ∙ e .broken)
 
-end-tail : (r : Reader) (t : List ℕ) → AtRecord r 4 → Few r → follows r 5 ≡ true → Ended (steps r (5 ∷ t)) → Tail r (5 ∷ t)
+end-tail : (r : Reader) (t : List ℕ) → AtRecord r 4 → FewRecords r → follows r 5 ≡ true → Ended (steps r (5 ∷ t)) → Tail r (5 ∷ t)
 unfolding steps begun sizeOf outside
 end-tail r [] q w f e =
     record {
@@ -208,14 +208,14 @@ end-tail r (c ∷ t) q w f e =
     absurd (refused-ends (begun r 5) t (subst (λ (n : Reader). Ended (steps n t)) i e'))
 
 by-kind :
-    (n : ℕ) → Below n → (r : Reader) (t : List ℕ) → length t ≤ n → Bytes t → AtRecord r 4 → Few r
+    (n : ℕ) → Below n → (r : Reader) (t : List ℕ) → length t ≤ n → Bytes t → AtRecord r 4 → FewRecords r
     → (k : ℕ) → RecordKind r k → r .stage ≤ k → follows r k ≡ true → Ended (steps r (k ∷ t)) → Tail r (k ∷ t)
 by-kind n below r t l h q w k (site p) o f e = site-tail n below r t l h q w f o p e
 by-kind n below r t l h q w k (triangle p) o f e = triangle-tail n below r t l h q w f o p e
 by-kind n below r t l h q w k (hull p) o f e = hull-tail n below r t l h q w f p e
 by-kind n below r t l h q w k (end p) o f e = end-tail r t q w f e
 
-one-more : (n : ℕ) → Below n → (r : Reader) (b : ℕ) (t : List ℕ) → length t ≤ n → Bytes t → AtRecord r 4 → Few r → Ended (steps r (b ∷ t)) → Tail r (b ∷ t)
+one-more : (n : ℕ) → Below n → (r : Reader) (b : ℕ) (t : List ℕ) → length t ≤ n → Bytes t → AtRecord r 4 → FewRecords r → Ended (steps r (b ∷ t)) → Tail r (b ∷ t)
 unfolding steps outside
 one-more n below r b t l h q w e = go (follows r b) refl
   where

@@ -7,10 +7,6 @@ use native.Mathlib.Nat.{pow-suc, div-div-eq-div-mul, mul-comm, div-one}
 use lib.ListN.{length}
 use Rattle.form_step.specs.Bytes.{Bytes, word, le, shift, shifts}
 
-pub length-le : (n x : ℕ) → length (le n x) ≡ n
-length-le zero x = refl
-length-le (suc n) x = ap suc (length-le n (x / 256))
-
 pub bytes-le : (n x : ℕ) → Bytes (le n x)
 bytes-le zero x = tt
 bytes-le (suc n) x = (omega arith, bytes-le n (x / 256))

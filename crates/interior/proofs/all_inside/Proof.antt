@@ -3,7 +3,7 @@ use Prim.Native.Nat.{_-_, _≤_}
 use native.Mathlib.Omega.{arith}
 use Rattle.utils.specs.Flat.{points}
 use Rattle.interior.specs.Interior.{AllInside}
-use Rattle.interior.specs.laws.Scanning.{inside-next, inside-not}
+use Rattle.interior.specs.laws.InsideScan.{inside-next, inside-not}
 use Rattle.interior.proofs.all_inside.Statement.{statement}
 use Rattle.interior.proofs.all_inside.Tie as tie
 
@@ -23,13 +23,13 @@ returns : tie.Need-returns Inv-loop μ-loop
 returns c =
     let l = c .before .before .before .before in
     let a = l .before .before .before .args in
-    inside-not _ _ _ (a .ix .now) (a .ring) (l .loop .k) _ _ (c .before .before .before .loop-test .taken) (c .before .in-box .ensures) (c .if1 .taken)
+    inside-not _ _ _ (a .indexes .now) (a .ring) (l .loop .k) _ _ (c .before .before .before .loop-test .taken) (c .before .in-box .ensures) (c .if1 .taken)
 
 loop-again : tie.Need-loop-again Inv-loop μ-loop
 loop-again c =
     let l = c .before .before .before .before in
     let a = l .before .before .before .args in
-    (omega arith, inside-next _ _ _ (a .ix .now) (a .ring) (l .loop .k) _ (l .loop .inv .1) (c .before .in-box .ensures) (c .if1 .left))
+    (omega arith, inside-next _ _ _ (a .indexes .now) (a .ring) (l .loop .k) _ (l .loop .inv .1) (c .before .in-box .ensures) (c .if1 .left))
 
 returns-2 : tie.Need-returns-2 Inv-loop μ-loop
 returns-2 c = let l = c .before in λ j h. l .loop .inv .1 j (omega arith)

@@ -2,7 +2,7 @@
 use Prim.Native.Nat.{_-_}
 use mathlib.Core.Path.{refl}
 use native.Mathlib.Omega.{arith}
-use Rattle.interior.specs.laws.Copying.{Copied, copied-none, copied-more, copied-all}
+use Rattle.interior.specs.laws.RingCopy.{Copied, copied-none, copied-more, copied-all}
 use Rattle.interior.proofs.copy_ring.Statement.{statement}
 use Rattle.interior.proofs.copy_ring.Tie as tie
 
@@ -15,17 +15,17 @@ abbrev μ-loop : tie.MeasureT-loop
 loop-holds : tie.Need-loop-holds Inv-loop μ-loop
 loop-holds c = copied-none _ _ _ _ (c .pre .0) (c .pre .1)
 
-add-ix : tie.Need-add-ix Inv-loop μ-loop
-add-ix c = let i = c .before .loop .inv in omega (arith, i .next (c .loop-test .taken) .0)
+add-indexes : tie.Need-add-indexes Inv-loop μ-loop
+add-indexes c = let i = c .before .loop .inv in omega (arith, i .next (c .loop-test .taken) .0)
 
-mul-ix : tie.Need-mul-ix Inv-loop μ-loop
-mul-ix c = let i = c .before .loop .inv in omega (arith, i .next (c .loop-test .taken) .0)
+mul-indexes : tie.Need-mul-indexes Inv-loop μ-loop
+mul-indexes c = let i = c .before .loop .inv in omega (arith, i .next (c .loop-test .taken) .0)
 
-slice-read-ix : tie.Need-slice-read-ix Inv-loop μ-loop
-slice-read-ix c = let i = c .before .before .loop .inv in omega (arith, i .next (c .before .loop-test .taken) .0, i .long)
+slice-read-indexes : tie.Need-slice-read-indexes Inv-loop μ-loop
+slice-read-indexes c = let i = c .before .before .loop .inv in omega (arith, i .next (c .before .loop-test .taken) .0, i .long)
 
-slice-write-ix : tie.Need-slice-write-ix Inv-loop μ-loop
-slice-write-ix c = omega (arith, c .before .before .loop .inv .long)
+slice-write-indexes : tie.Need-slice-write-indexes Inv-loop μ-loop
+slice-write-indexes c = omega (arith, c .before .before .loop .inv .long)
 
 loop-again : tie.Need-loop-again Inv-loop μ-loop
 loop-again c = let l = c .before .before in let s = l .before in copied-more _ _ _ _ (s .pre .0) (s .pre .1) _ (l .loop .k) (l .loop .at) _ (c .before .loop-test .taken) (l .loop .inv) refl
@@ -39,5 +39,5 @@ returns c = let l = c .before in let s = l .before in copied-all _ _ _ _ (s .pre
 pub copy-ring-spec : {M : Type 1} → statement M
 copy-ring-spec =
     tie.close
-    (tie.spec Inv-loop μ-loop loop-holds add-ix mul-ix slice-read-ix (λ c. omega arith) (λ c. omega arith)
-    slice-write-ix (λ c. omega arith) (λ c. omega arith) (λ c. omega arith) loop-again same-length returns)
+    (tie.spec Inv-loop μ-loop loop-holds add-indexes mul-indexes slice-read-indexes (λ c. omega arith) (λ c. omega arith)
+    slice-write-indexes (λ c. omega arith) (λ c. omega arith) (λ c. omega arith) loop-again same-length returns)

@@ -3,8 +3,8 @@
 use mathlib.Core.Path.{sym, _∙_}
 use lib.ListN.{length}
 use borrow.Author.Needs.{needs}
-use Rattle.iterator.specs.Rest.{restOf}
-use Rattle.iterator.specs.Clippable.{coming-cell, counts, ends, dropped-sound, dropped-less, dropped-takes, nothing-left}
+use Rattle.iterator.specs.Cursor.{restOf}
+use Rattle.iterator.specs.laws.ClippedStep.{coming-cell, counts, ends, dropped-sound, dropped-less, dropped-takes, nothing-left}
 use Prim.Native.Nat.{ℕ, _<_}
 use borrow.Fn.Kinds.{In}
 use borrow.Fn.PlainCycle.{Measures, is, falls, and}

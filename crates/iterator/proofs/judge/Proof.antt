@@ -1,6 +1,6 @@
 -- Each answer follows the tests that led to it.
 use mathlib.Core.Path.{refl, _∙_}
-use Rattle.iterator.specs.ClippedStep.{judge-last, judge-later, judge-inner, judge-first}
+use Rattle.iterator.specs.laws.ClippedCursor.{judge-last, judge-later, judge-inner, judge-first}
 use borrow.Author.Needs.{needs}
 use Rattle.iterator.proofs.judge.Statement.{statement}
 use Rattle.iterator.proofs.judge.Tie as tie

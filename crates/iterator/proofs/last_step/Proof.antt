@@ -2,7 +2,7 @@
 use borrow.Author.Needs.{needs}
 use borrow.Author.Tests.{eq-eqb, ne-eqb}
 use native.Mathlib.Omega.{arith}
-use Rattle.mesh.specs.Laws.{next-sum}
+use Rattle.mesh.specs.laws.Next.{next-sum}
 use Rattle.iterator.specs.Cursor.{lastStep}
 use Rattle.iterator.proofs.last_step.Statement.{statement}
 use Rattle.iterator.proofs.last_step.Tie as tie

@@ -6,13 +6,13 @@ use lib.ListN.{length}
 use borrow.Author.Needs.{needs}
 use Rattle.mesh.specs.Mesh.{wholeOf}
 use Rattle.iterator.specs.Neighbours.{startsOf}
-use Rattle.iterator.specs.Rest.{settled-start}
-use Rattle.iterator.specs.Handing.{Handing, handing-start, handing-site, handing-end, handing-full}
+use Rattle.iterator.specs.laws.Rest.{settled-start}
+use Rattle.iterator.specs.laws.NeighboursLoop.{NeighboursWritten, handing-start, handing-site, handing-end, handing-full}
 use Rattle.iterator.proofs.neighbours.Statement.{statement}
 use Rattle.iterator.proofs.neighbours.Tie as tie
 
 abbrev Inv-loop : tie.InvT-loop
-Inv-loop triangles halfedges s out₀ c₀ n₀ out c n = Handing triangles halfedges (startsOf triangles halfedges (wholeOf halfedges s)) out₀ out c n
+Inv-loop triangles halfedges s out₀ c₀ n₀ out c n = NeighboursWritten triangles halfedges (startsOf triangles halfedges (wholeOf halfedges s)) out₀ out c n
 
 abbrev μ-loop : tie.MeasureT-loop
 μ-loop triangles halfedges s out₀ c₀ n₀ out c n = length out₀ - n

@@ -1,7 +1,7 @@
 -- The walk's next half-edge if there is one; else, past the walk's last half-edge, the end that the hull adds.
 use borrow.Author.Needs.{needs}
 use mathlib.Core.Path.{refl}
-use Rattle.iterator.specs.Cursor.{step-walks, step-last, step-end}
+use Rattle.iterator.specs.laws.Cursor.{step-walks, step-last, step-end}
 use Rattle.iterator.proofs.step.Statement.{statement}
 use Rattle.iterator.proofs.step.Tie as tie
 

@@ -4,16 +4,16 @@ use mathlib.Core.Logic.{_≢_, ⊎-elim}
 use native.Mathlib.Omega.{arith}
 use lib.ListN.{getD}
 use borrow.Author.Needs.{needs}
-use Rattle.laws.specs.Decide.{eq-or-ne}
+use Rattle.laws.specs.laws.Decide.{eq-or-ne}
 use Rattle.numbers.specs.Numbers.{EMPTY}
 use Rattle.layout.proofs.cell_end.Statement.{statement}
 use Rattle.layout.proofs.cell_end.Tie as tie
 
 abbrev Inv-loop : tie.InvT-loop
-Inv-loop idx from to i₀ i = (from ≤ i) × (i ≤ to) × ((k : ℕ) → from ≤ k → k < i → getD idx k 0 ≢ EMPTY)
+Inv-loop ix from to i₀ i = (from ≤ i) × (i ≤ to) × ((k : ℕ) → from ≤ k → k < i → getD ix k 0 ≢ EMPTY)
 
 abbrev μ-loop : tie.MeasureT-loop
-μ-loop idx from to i₀ i = to - i
+μ-loop ix from to i₀ i = to - i
 
 loop-holds : tie.Need-loop-holds Inv-loop μ-loop
 loop-holds c = (omega arith, omega arith, λ k l h. absurd (omega arith))

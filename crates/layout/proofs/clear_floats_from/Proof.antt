@@ -4,7 +4,7 @@ use native.Mathlib.Omega.{arith}
 use lib.ListN.{length}
 use borrow.Author.Needs.{needs}
 use Rattle.laws.specs.Binary64.{zero}
-use Rattle.layout.specs.laws.Pasting.{Clearing, clearing-start, clearing-step, clearing-end}
+use Rattle.layout.specs.laws.Overwritten.{Clearing, clearing-start, clearing-step, clearing-end}
 use Rattle.layout.proofs.clear_floats_from.Statement.{statement}
 use Rattle.layout.proofs.clear_floats_from.Tie as tie
 

@@ -3,7 +3,7 @@ use Prim.Native.Nat.{_-_}
 use native.Mathlib.Omega.{arith}
 use lib.ListN.{length}
 use borrow.Author.Needs.{needs}
-use Rattle.layout.specs.laws.Pasting.{Clearing, clearing-start, clearing-step, clearing-end}
+use Rattle.layout.specs.laws.Overwritten.{Clearing, clearing-start, clearing-step, clearing-end}
 use Rattle.layout.proofs.fill_from.Statement.{statement}
 use Rattle.layout.proofs.fill_from.Tie as tie
 

@@ -3,27 +3,27 @@ use mathlib.Core.Path.{_≡_, refl}
 use Prim.Native.Nat.{_-_, _≤_}
 use native.Mathlib.Omega.{arith}
 use borrow.Author.Needs.{needs}
-use Rattle.layout.specs.laws.Pasting.{Moving, moving-start, moving-step}
+use Rattle.layout.specs.laws.Overwritten.{Moving, moving-start, moving-step}
 use Rattle.layout.proofs.move_down.Statement.{statement}
 use Rattle.layout.proofs.move_down.Tie as tie
 
 abbrev Inv-loop : tie.InvT-loop
-Inv-loop idx₀ at from to i₀ w₀ idx i w = Moving idx₀ at from idx i w × (i ≤ to)
+Inv-loop ix₀ at from to i₀ w₀ ix i w = Moving ix₀ at from ix i w × (i ≤ to)
 
 abbrev μ-loop : tie.MeasureT-loop
-μ-loop idx₀ at from to i₀ w₀ idx i w = to - i
+μ-loop ix₀ at from to i₀ w₀ ix i w = to - i
 
 loop-holds : tie.Need-loop-holds Inv-loop μ-loop
 loop-holds c = (moving-start _ _ _, omega arith)
 
-slice-read-idx : tie.Need-slice-read-idx Inv-loop μ-loop
-slice-read-idx c = omega (arith, c .before .before .loop .inv .0 .long)
+slice-read-indexes : tie.Need-slice-read-indexes Inv-loop μ-loop
+slice-read-indexes c = omega (arith, c .before .before .loop .inv .0 .long)
 
-mul-idx-2 : tie.Need-mul-idx-2 Inv-loop μ-loop
-mul-idx-2 c = omega (arith, c .before .before .loop .inv .0 .long, c .before .before .loop .inv .0 .place)
+mul-indexes-2 : tie.Need-mul-indexes-2 Inv-loop μ-loop
+mul-indexes-2 c = omega (arith, c .before .before .loop .inv .0 .long, c .before .before .loop .inv .0 .place)
 
-slice-write-idx : tie.Need-slice-write-idx Inv-loop μ-loop
-slice-write-idx c = omega (arith, c .before .before .loop .inv .0 .long, c .before .before .loop .inv .0 .place)
+slice-write-indexes : tie.Need-slice-write-indexes Inv-loop μ-loop
+slice-write-indexes c = omega (arith, c .before .before .loop .inv .0 .long, c .before .before .loop .inv .0 .place)
 
 add-w : tie.Need-add-w Inv-loop μ-loop
 add-w c = omega (arith, c .before .before .loop .inv .0 .place)
@@ -41,5 +41,5 @@ returns c =
 
 pub move-down-spec : {M : Type 1} → statement M
 move-down-spec =
-    tie.close (tie.spec Inv-loop μ-loop loop-holds (λ c. search needs) slice-read-idx mul-idx-2 slice-write-idx add-w
+    tie.close (tie.spec Inv-loop μ-loop loop-holds (λ c. search needs) slice-read-indexes mul-indexes-2 slice-write-indexes add-w
     (λ c. omega arith) (λ c. omega arith) loop-again same-length returns)

@@ -1,6 +1,6 @@
 -- `layout::region_starts` meets its contract: zeros, the three tallies, and the sums of what they count.
 use borrow.Author.Needs.{needs}
-use Rattle.layout.specs.laws.Tallying.{tallies-tri, tallies-hull, tallies-owners, sums-rooms, started}
+use Rattle.layout.specs.laws.Rooms.{tallies-tri, tallies-hull, tallies-owners, sums-rooms, started}
 use Rattle.layout.proofs.region_starts.Statement.{statement}
 use Rattle.layout.proofs.region_starts.Tie as tie
 

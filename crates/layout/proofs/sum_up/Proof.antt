@@ -3,7 +3,7 @@ use mathlib.Core.Path.{refl}
 use Prim.Native.Nat.{_-_}
 use native.Mathlib.Omega.{arith}
 use borrow.Author.Needs.{needs}
-use Rattle.layout.specs.laws.Tallying.{Adding, adding-start, add-fits, adding-step, adding-end}
+use Rattle.layout.specs.laws.Rooms.{Adding, adding-start, add-fits, adding-step, adding-end}
 use Rattle.layout.proofs.sum_up.Statement.{statement}
 use Rattle.layout.proofs.sum_up.Tie as tie
 
@@ -16,26 +16,26 @@ abbrev μ-loop : tie.MeasureT-loop
 loop-holds : tie.Need-loop-holds Inv-loop μ-loop
 loop-holds c = adding-start _ _ (c .pre)
 
-mul-off : tie.Need-mul-off Inv-loop μ-loop
-mul-off c = omega (arith, c .before .loop .inv .long, c .before .before .pre .places)
+mul-offsets : tie.Need-mul-offsets Inv-loop μ-loop
+mul-offsets c = omega (arith, c .before .loop .inv .long, c .before .before .pre .places)
 
-slice-read-off : tie.Need-slice-read-off Inv-loop μ-loop
-slice-read-off c = omega (arith, c .before .before .loop .inv .long, c .before .before .before .pre .places)
+slice-read-offsets : tie.Need-slice-read-offsets Inv-loop μ-loop
+slice-read-offsets c = omega (arith, c .before .before .loop .inv .long, c .before .before .before .pre .places)
 
-mul-off-2 : tie.Need-mul-off-2 Inv-loop μ-loop
-mul-off-2 c = omega (arith, c .before .before .loop .inv .long, c .before .before .before .pre .places)
+mul-offsets-2 : tie.Need-mul-offsets-2 Inv-loop μ-loop
+mul-offsets-2 c = omega (arith, c .before .before .loop .inv .long, c .before .before .before .pre .places)
 
-slice-read-off-2 : tie.Need-slice-read-off-2 Inv-loop μ-loop
-slice-read-off-2 c = omega (arith, c .before .before .before .loop .inv .long, c .before .before .before .before .pre .places)
+slice-read-offsets-2 : tie.Need-slice-read-offsets-2 Inv-loop μ-loop
+slice-read-offsets-2 c = omega (arith, c .before .before .before .loop .inv .long, c .before .before .before .before .pre .places)
 
-add-off-2 : tie.Need-add-off-2 Inv-loop μ-loop
-add-off-2 c = let l = c .before .before .before in omega (arith, add-fits _ _ _ _ (l .before .pre) (l .loop .inv) (omega arith))
+add-offsets-2 : tie.Need-add-offsets-2 Inv-loop μ-loop
+add-offsets-2 c = let l = c .before .before .before in omega (arith, add-fits _ _ _ _ (l .before .pre) (l .loop .inv) (omega arith))
 
-mul-off-3 : tie.Need-mul-off-3 Inv-loop μ-loop
-mul-off-3 c = omega (arith, c .before .before .before .loop .inv .long, c .before .before .before .before .pre .places)
+mul-offsets-3 : tie.Need-mul-offsets-3 Inv-loop μ-loop
+mul-offsets-3 c = omega (arith, c .before .before .before .loop .inv .long, c .before .before .before .before .pre .places)
 
-slice-write-off : tie.Need-slice-write-off Inv-loop μ-loop
-slice-write-off c = omega (arith, c .before .before .before .loop .inv .long, c .before .before .before .before .pre .places)
+slice-write-offsets : tie.Need-slice-write-offsets Inv-loop μ-loop
+slice-write-offsets c = omega (arith, c .before .before .before .loop .inv .long, c .before .before .before .before .pre .places)
 
 loop-again : tie.Need-loop-again Inv-loop μ-loop
 loop-again c = let l = c .before .before .before in adding-step _ _ _ _ (l .before .pre) (l .loop .inv) (omega arith) _ refl
@@ -49,6 +49,6 @@ returns c = let l = c .before .loop in adding-end _ _ _ (l .i) (omega arith) (l 
 pub sum-up-spec : {M : Type 1} → statement M
 sum-up-spec =
     tie.close
-    (tie.spec Inv-loop μ-loop loop-holds mul-off slice-read-off (λ c. search needs) mul-off-2 slice-read-off-2
-    add-off-2 (λ c. search needs) mul-off-3 slice-write-off (λ c. search needs) (λ c. omega arith) loop-again
+    (tie.spec Inv-loop μ-loop loop-holds mul-offsets slice-read-offsets (λ c. search needs) mul-offsets-2 slice-read-offsets-2
+    add-offsets-2 (λ c. search needs) mul-offsets-3 slice-write-offsets (λ c. search needs) (λ c. omega arith) loop-again
     same-length returns)

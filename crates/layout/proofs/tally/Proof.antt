@@ -5,7 +5,7 @@ use native.Mathlib.Omega.{arith}
 use lib.ListN.{length, take}
 use borrow.Author.Needs.{needs}
 use Rattle.layout.specs.Rooms.{Tallied}
-use Rattle.layout.specs.laws.Tallying.{tallied-none, tallied-all, tally-place, tally-fits, tally-step}
+use Rattle.layout.specs.laws.Rooms.{tallied-none, tallied-all, tally-place, tally-fits, tally-step}
 use Rattle.layout.proofs.tally.Statement.{statement}
 use Rattle.layout.proofs.tally.Tie as tie
 
@@ -22,26 +22,26 @@ loop-holds : tie.Need-loop-holds Inv-loop μ-loop
 loop-holds c = (omega arith, tallied-none (c .before .before .args .list .now) _ _)
 
 -- the place that is written
-place : (c : tie.After-wide Inv-loop μ-loop) → c .wide .result + 1 < length (c .before .before .before .loop .off)
+place : (c : tie.After-wide Inv-loop μ-loop) → c .wide .result + 1 < length (c .before .before .before .loop .offsets)
 place c = let l = c .before .before .before in tally-place _ _ _ _ _ _ (Entry l .pre) (l .loop .inv .1) (omega arith) (c .wide .ensures)
 
 add-at : tie.Need-add-at Inv-loop μ-loop
 add-at c = omega (arith, place c)
 
-mul-off : tie.Need-mul-off Inv-loop μ-loop
-mul-off c = omega (arith, place c)
+mul-offsets : tie.Need-mul-offsets Inv-loop μ-loop
+mul-offsets c = omega (arith, place c)
 
-slice-read-off : tie.Need-slice-read-off Inv-loop μ-loop
-slice-read-off c = omega (arith, place (c .before))
+slice-read-offsets : tie.Need-slice-read-offsets Inv-loop μ-loop
+slice-read-offsets c = omega (arith, place (c .before))
 
-add-off : tie.Need-add-off Inv-loop μ-loop
-add-off c = let l = c .before .before .before .before in omega (arith, tally-fits _ _ _ _ _ _ (Entry l .pre) (l .loop .inv .1) (omega arith) (c .before .wide .ensures))
+add-offsets : tie.Need-add-offsets Inv-loop μ-loop
+add-offsets c = let l = c .before .before .before .before in omega (arith, tally-fits _ _ _ _ _ _ (Entry l .pre) (l .loop .inv .1) (omega arith) (c .before .wide .ensures))
 
-mul-off-2 : tie.Need-mul-off-2 Inv-loop μ-loop
-mul-off-2 c = omega (arith, place (c .before))
+mul-offsets-2 : tie.Need-mul-offsets-2 Inv-loop μ-loop
+mul-offsets-2 c = omega (arith, place (c .before))
 
-slice-write-off : tie.Need-slice-write-off Inv-loop μ-loop
-slice-write-off c = omega (arith, place (c .before))
+slice-write-offsets : tie.Need-slice-write-offsets Inv-loop μ-loop
+slice-write-offsets c = omega (arith, place (c .before))
 
 loop-again : tie.Need-loop-again Inv-loop μ-loop
 loop-again c =
@@ -57,6 +57,6 @@ returns c = let l = c .before .loop in tallied-all _ _ _ _ (l .i) (l .inv .0) (o
 pub tally-spec : {M : Type 1} → statement M
 tally-spec =
     tie.close
-    (tie.spec Inv-loop μ-loop loop-holds (λ c. search needs) (λ c. search needs) (λ c κs. search needs) add-at mul-off
-    slice-read-off add-off mul-off-2 slice-write-off (λ c. search needs) (λ c. omega arith) loop-again same-length
+    (tie.spec Inv-loop μ-loop loop-holds (λ c. search needs) (λ c. search needs) (λ c κs. search needs) add-at mul-offsets
+    slice-read-offsets add-offsets mul-offsets-2 slice-write-offsets (λ c. search needs) (λ c. omega arith) loop-again same-length
     returns)

@@ -1,50 +1,57 @@
 -- The mesh is admitted, and the path over the table is handed out; or the number is the refusal's.
 use mathlib.Core.Path.{sym}
 use lib.Seq.{length-take-le}
-use Rattle.queries.specs.Given.{open-path, open-kept, refuses, gives, path-ready, path-towards, path-fills, path-few}
 use borrow.Author.Needs.{needs}
+use Rattle.queries.specs.laws.Lists.{list-fit, served, refuses, gives, destination-kept, path-ready, path-towards, path-fills, path-few}
 use Rattle.queries.proofs.path.Statement.{statement}
 use Rattle.queries.proofs.path.Tie as tie
 
+abbrev Admit : tie.After-slice-known4 → tie.After-admit-list
+Admit c = c .before .before .before .before
+
+abbrev Ask : tie.After-admit-list → tie.After-ask-path
+Ask c = c .before .before .before
+
 returns : tie.Need-returns
 returns c =
-    let at-admit-list = c .before .before .before .before .before .before in
-    let at-ask-path = at-admit-list .before .before .before in
-    refuses (at-admit-list .admit-list .ensures) _ _ _ (at-ask-path .ask-path .ensures .0) (at-ask-path .ask-path .ensures .1) (c .before .if1 .taken) (c .refused .ensures)
+    let a = Admit (c .before .before) in
+    refuses (a .admit-list .ensures) (Ask a .ask-path .ensures) (search needs) _ _ (c .before .if1 .taken) (c .refused .ensures)
 
 slice-reshare-prefix-path : tie.Need-slice-reshare-prefix-path
 slice-reshare-prefix-path c =
-    let at-admit-list = c .before .before .before .before .before in
-    let at-ask-path = at-admit-list .before .before .before in
-    (open-path (at-admit-list .admit-list .ensures) _ _ (at-ask-path .ask-path .ensures .0) (c .if1 .left)) .long
+    let a = Admit (c .before) in
+    served (a .admit-list .ensures) (c .if1 .left) (Ask a .ask-path .ensures) (search needs) .long
 
 slice-aggregate-path : tie.Need-slice-aggregate-path
 slice-aggregate-path c =
-    let at-admit-list = c .before .before .before .before .before .before in
-    let at-ask-path = at-admit-list .before .before .before in
-    sym (length-take-le _ _ ((open-path (at-admit-list .admit-list .ensures) _ _ (at-ask-path .ask-path .ensures .0) (c .before .if1 .left)) .long))
+    let a = Admit (c .before .before) in
+    sym (length-take-le _ _ (served (a .admit-list .ensures) (c .before .if1 .left) (Ask a .ask-path .ensures) (search needs) .long))
 
 path-requires : tie.Need-path-requires
 path-requires c κs =
-    let at-admit-list = c .before .before .before .before .before .before .before in
-    let at-ask-path = at-admit-list .before .before .before in
-    let u = open-path (at-admit-list .admit-list .ensures) _ _ (at-ask-path .ask-path .ensures .0) (c .before .before .if1 .left) in
-    let to = open-kept (at-admit-list .admit-list .ensures) _ _ (at-ask-path .ask-path .ensures .0) (c .before .before .if1 .left) in (path-ready u _ to, path-towards u _ to, u .below)
+    let e = c .before .before in
+    let a = Admit (e .before) in
+    let q = Ask a .ask-path .ensures in
+    let u = served (a .admit-list .ensures) (e .if1 .left) q (search needs) in
+    let to = destination-kept _ _ _ (list-fit (a .admit-list .ensures) (e .if1 .left)) q in
+    (path-ready u _ to, path-towards u _ to, u .below)
 
 given-requires : tie.Need-given-requires
 given-requires c κs =
-    let at-if1 = c .before .before .before .before .before in
-    let at-admit-list = at-if1 .before .before .before .before .before in
-    let at-ask-path = at-admit-list .before .before .before in
-    path-few (open-path (at-admit-list .admit-list .ensures) _ _ (at-ask-path .ask-path .ensures .0) (at-if1 .if1 .left)) _ (c .before .before .path .ensures)
+    let f = c .before .before in
+    let e = f .before .before .before in
+    let a = Admit (e .before) in
+    path-few (served (a .admit-list .ensures) (e .if1 .left) (Ask a .ask-path .ensures) (search needs)) _ (f .path .ensures)
 
 returns-2 : tie.Need-returns-2
 returns-2 c =
-    let at-if1 = c .before .before .before .before .before .before in
-    let at-admit-list = at-if1 .before .before .before .before .before in
-    let at-ask-path = at-admit-list .before .before .before in
-    gives (at-admit-list .admit-list .ensures) _ _ _ _ _ _ (at-ask-path .ask-path .ensures .0) (at-if1 .if1 .left)
-    (path-fills (open-path (at-admit-list .admit-list .ensures) _ _ (at-ask-path .ask-path .ensures .0) (at-if1 .if1 .left)) _ (c .before .before .before .path .ensures)) (c .given .ensures)
+    let f = c .before .before .before in
+    let e = f .before .before .before in
+    let z = e .if1 .left in
+    let a = Admit (e .before) in
+    let q = Ask a .ask-path .ensures in
+    gives (a .admit-list .ensures) q (search needs) _ z _ _ _ _
+    (path-fills (served (a .admit-list .ensures) z q (search needs)) _ (f .path .ensures)) (c .given .ensures)
 
 pub path-spec : {M : Type 1} → statement M
 path-spec =

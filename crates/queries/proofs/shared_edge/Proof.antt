@@ -1,5 +1,5 @@
 -- The mesh is admitted, and the search is made; or the number is the refusal's.
-use Rattle.queries.specs.Edges.{edge-refused, edge-asks, edge-found}
+use Rattle.queries.specs.laws.SharedEdge.{edge-refused, edge-asks, edge-found}
 use borrow.Author.Needs.{needs}
 use Rattle.queries.proofs.shared_edge.Statement.{statement}
 use Rattle.queries.proofs.shared_edge.Tie as tie

@@ -1,45 +1,53 @@
 -- The mesh is admitted, and the walk from the table's half-edge is handed out; or the number is the refusal's.
-use Rattle.queries.specs.Given.{open-site, refuses, gives, walk-fills, walk-few}
 use native.Mathlib.Omega.{arith}
 use borrow.Author.Needs.{needs}
+use Rattle.queries.specs.laws.Lists.{served, refuses, gives, walk-fills, walk-few}
 use Rattle.queries.proofs.walk.Statement.{statement}
 use Rattle.queries.proofs.walk.Tie as tie
 
+abbrev Admit : tie.After-slice-known4 → tie.After-admit-list
+Admit c = c .before .before .before .before
+
+abbrev Ask : tie.After-admit-list → tie.After-ask-site
+Ask c = c .before .before .before
+
 returns : tie.Need-returns
 returns c =
-    let at-admit-list = c .before .before .before .before .before .before in
-    let at-ask-site = at-admit-list .before .before .before in
-    refuses (at-admit-list .admit-list .ensures) _ _ _ (at-ask-site .ask-site .ensures .0) (at-ask-site .ask-site .ensures .1) (c .before .if1 .taken) (c .refused .ensures)
+    let a = Admit (c .before .before) in
+    refuses (a .admit-list .ensures) (Ask a .ask-site .ensures) (search needs) _ _ (c .before .if1 .taken) (c .refused .ensures)
 
 slice-read-start : tie.Need-slice-read-start
 slice-read-start c =
-    let at-admit-list = c .before .before .before .before .before .before .before in
-    let at-ask-site = at-admit-list .before .before .before in
-    let u = open-site (at-admit-list .admit-list .ensures) _ (at-ask-site .ask-site .ensures .0) (c .before .before .if1 .left) in omega (arith, u .below, u .long, c .before .wide .ensures)
+    let e = c .before .before in
+    let a = Admit (e .before) in
+    let u = served (a .admit-list .ensures) (e .if1 .left) (Ask a .ask-site .ensures) tt in
+    omega (arith, u .below, u .long, c .before .wide .ensures)
 
 walk-requires : tie.Need-walk-requires
 walk-requires c κs =
-    let at-admit-list = c .before .before .before .before .before .before .before .before in
-    let at-ask-site = at-admit-list .before .before .before in
-    let u = open-site (at-admit-list .admit-list .ensures) _ (at-ask-site .ask-site .ensures .0) (c .before .before .before .if1 .left) in omega (arith, u .mesh .counts .threes, u .mesh .counts .same)
+    let e = c .before .before .before in
+    let a = Admit (e .before) in
+    let u = served (a .admit-list .ensures) (e .if1 .left) (Ask a .ask-site .ensures) tt in
+    omega (arith, u .mesh .counts .threes, u .mesh .counts .same)
 
 given-requires : tie.Need-given-requires
 given-requires c κs =
-    let at-wide = c .before .before .before .before .before in
-    let at-if1 = at-wide .before in
-    let at-admit-list = at-if1 .before .before .before .before .before in
-    let at-ask-site = at-admit-list .before .before .before in
-    walk-few (open-site (at-admit-list .admit-list .ensures) _ (at-ask-site .ask-site .ensures .0) (at-if1 .if1 .left)) _ (rw (at-wide .wide .ensures)) (c .before .before .walk .ensures)
+    let f = c .before .before in
+    let w = f .before .before .before in
+    let a = Admit (w .before .before) in
+    let u = served (a .admit-list .ensures) (w .before .if1 .left) (Ask a .ask-site .ensures) tt in
+    walk-few u _ (rw (w .wide .ensures)) (f .walk .ensures)
 
 returns-2 : tie.Need-returns-2
 returns-2 c =
-    let at-wide = c .before .before .before .before .before .before in
-    let at-if1 = at-wide .before in
-    let at-admit-list = at-if1 .before .before .before .before .before in
-    let at-ask-site = at-admit-list .before .before .before in
-    gives (at-admit-list .admit-list .ensures) _ _ _ _ _ _ (at-ask-site .ask-site .ensures .0) (at-if1 .if1 .left)
-    (walk-fills (open-site (at-admit-list .admit-list .ensures) _ (at-ask-site .ask-site .ensures .0) (at-if1 .if1 .left)) _
-    (rw (at-wide .wide .ensures)) (c .before .before .before .walk .ensures)) (c .given .ensures)
+    let f = c .before .before .before in
+    let w = f .before .before .before in
+    let z = w .before .if1 .left in
+    let a = Admit (w .before .before) in
+    let q = Ask a .ask-site .ensures in
+    let u = served (a .admit-list .ensures) z q tt in
+    gives (a .admit-list .ensures) q (search needs) _ z _ _ _ _
+    (walk-fills u _ (rw (w .wide .ensures)) (f .walk .ensures)) (c .given .ensures)
 
 pub walk-spec : {M : Type 1} → statement M
 walk-spec =

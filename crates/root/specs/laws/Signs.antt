@@ -1,4 +1,4 @@
--- The sign of a pattern and of a value, and the constants of the code. Assumes nothing.
+-- The sign of a pattern and of a value, and the constants of the code.
 use mathlib.Core.Path.{_≡_, refl, sym, ap, _∙_, subst}
 use mathlib.Core.Bool.{Bool, true, false, not, cond}
 use Prim.Native.Nat.{ℕ, zero, suc, _+_, _/_, _%_, _^_, _≤_, _<_}

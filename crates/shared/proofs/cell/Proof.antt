@@ -1,6 +1,6 @@
 -- The two offsets are in order and within the list, so the part between them is the cell.
 use Rattle.shared.specs.Cells.{cellOf}
-use Rattle.shared.specs.Laws.{between}
+use Rattle.shared.specs.laws.Offsets.{between}
 use native.Mathlib.Omega.{arith}
 use borrow.Author.Needs.{needs}
 use Rattle.shared.proofs.cell.Statement.{statement}

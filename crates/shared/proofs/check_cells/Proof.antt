@@ -1,14 +1,14 @@
 -- The offsets passed start at 0 and do not fall, so the last of them is the largest.
 use Prim.Native.Nat.{_-_}
 use lib.ListN.{length}
-use Rattle.shared.specs.Laws.{Rising, rising-start, rising-step, rising-says, falls-not}
+use Rattle.shared.specs.laws.Offsets.{RisingTo, rising-start, rising-step, rising-says, falls-not}
 use native.Mathlib.Omega.{arith}
 use borrow.Author.Needs.{needs}
 use Rattle.shared.proofs.check_cells.Statement.{statement}
 use Rattle.shared.proofs.check_cells.Tie as tie
 
 abbrev Inv-loop : tie.InvT-loop
-Inv-loop offsets room i₀ i = Rising offsets i
+Inv-loop offsets room i₀ i = RisingTo offsets i
 
 abbrev μ-loop : tie.MeasureT-loop
 μ-loop offsets room i₀ i = length offsets - i

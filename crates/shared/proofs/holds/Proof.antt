@@ -1,7 +1,7 @@
 -- What is left of the list holds x exactly where the whole list does, until x is met.
 use Prim.Native.Nat.{_-_}
 use lib.ListN.{length}
-use Rattle.shared.specs.Laws.{Seeking, seeking-start, seeking-found, seeking-step, seeking-end}
+use Rattle.shared.specs.laws.Entries.{Seeking, seeking-start, seeking-found, seeking-step, seeking-end}
 use native.Mathlib.Omega.{arith}
 use borrow.Author.Needs.{needs}
 use Rattle.shared.proofs.holds.Statement.{statement}

@@ -1,6 +1,6 @@
 -- Both triangles are there, and the first half-edge of the one that the other names is the answer; or one is not there.
 use mathlib.Core.Path.{refl}
-use Rattle.shared.specs.Edge.{no-first, no-second, both-there}
+use Rattle.shared.specs.laws.Edge.{no-first, no-second, both-there}
 use borrow.Author.Needs.{needs}
 use Rattle.shared.proofs.shared_edge.Statement.{statement}
 use Rattle.shared.proofs.shared_edge.Tie as tie

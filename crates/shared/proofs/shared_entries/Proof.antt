@@ -1,14 +1,14 @@
 -- Each entry passed is counted once where the other list holds it.
 use Prim.Native.Nat.{_-_}
 use lib.ListN.{length}
-use Rattle.shared.specs.Laws.{Counting, counting-start, counting-step, counting-done}
+use Rattle.shared.specs.laws.Entries.{SharedSoFar, counting-start, counting-step, counting-done}
 use native.Mathlib.Omega.{arith}
 use borrow.Author.Needs.{needs}
 use Rattle.shared.proofs.shared_entries.Statement.{statement}
 use Rattle.shared.proofs.shared_entries.Tie as tie
 
 abbrev Inv-loop : tie.InvT-loop
-Inv-loop a b n₀ i₀ n i = Counting a b i n
+Inv-loop a b n₀ i₀ n i = SharedSoFar a b i n
 
 abbrev μ-loop : tie.MeasureT-loop
 μ-loop a b n₀ i₀ n i = length a - i

@@ -9,7 +9,7 @@ use native.Mathlib.Omega.{arith}
 use lib.ListN.{length, getD, set, length-set}
 use lib.Seq.{getD-set-same, getD-set-other}
 use borrow.Author.Tests.{le-leb, lt-leb, lt-ltb, le-ltb}
-use Rattle.laws.specs.Decide.{lt-or-ge, eq-or-ne}
+use Rattle.laws.specs.laws.Decide.{lt-or-ge, eq-or-ne}
 use Rattle.test_replay.specs.Words.{wordOf, afterOf, expectedOf, patternOf, floatOf, bitsOf, placeOf, expectedBitsOf, Has}
 
 pub past-end : (b : List ℕ) (at : ℕ) → length b ≤ at → 0 ≡ getD b at 0

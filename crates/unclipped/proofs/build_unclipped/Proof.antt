@@ -4,8 +4,8 @@ use Prim.Native.Nat.{_*_, _/_, _≤_}
 use native.Mathlib.Omega.{arith}
 use lib.ListN.{length}
 use borrow.Author.Needs.{needs}
-use Rattle.unclipped.specs.laws.Drawing.{named, draws}
-use Rattle.unclipped.specs.laws.Outcome.{centred-below, refused-all, built-all}
+use Rattle.unclipped.specs.laws.Draws.{named, draws}
+use Rattle.unclipped.specs.laws.Outcome.{centers-below, refused-all, built-all}
 use Rattle.unclipped.proofs.build_unclipped.Statement.{statement}
 use Rattle.unclipped.proofs.build_unclipped.Tie as tie
 
@@ -14,11 +14,11 @@ Entry a = a .before .before .before .before .before .before .before .before
 
 -- the triangles passed, and the room that their circumcenters take
 few : (c : tie.After-calculate-circumcenters) → (c .calculate-circumcenters .result ≤ length (Entry (c .before) .args .triangles .now) / 3)
-    × (2 * c .calculate-circumcenters .result ≤ length (Entry (c .before) .args .v .now))
+    × (2 * c .calculate-circumcenters .result ≤ length (Entry (c .before) .args .vertices .now))
 few c =
     let e = Entry (c .before) in
-    let t : c .calculate-circumcenters .result ≤ length (e .args .triangles .now) / 3 = centred-below (e .args .sites .now)
-    (e .args .triangles .now) _ (e .args .v .now) (c .calculate-circumcenters .last .1 .1 .0) (c .calculate-circumcenters .ensures) in
+    let t : c .calculate-circumcenters .result ≤ length (e .args .triangles .now) / 3 = centers-below (e .args .sites .now)
+    (e .args .triangles .now) _ (e .args .vertices .now) (c .calculate-circumcenters .last .1 .1 .0) (c .calculate-circumcenters .ensures) in
     (t, omega (arith, e .pre .1 .vertices))
 
 calculate-circumcenters-requires : tie.Need-calculate-circumcenters-requires
@@ -31,7 +31,7 @@ returns c =
     let v = b .before .before in
     let t = v .before in
     let q = a .clear-all .ensures in
-    refused-all _ _ _ _ _ _ (t .calculate-circumcenters .ensures) _ _ _ _ _ (b .if1 .taken) _ refl (v .v .given) (q .0) (q .1) (q .2)
+    refused-all _ _ _ _ _ _ (t .calculate-circumcenters .ensures) _ _ _ _ _ (b .if1 .taken) _ refl (v .vertices .given) (q .0) (q .1) (q .2)
 
 draw-cells-requires : tie.Need-draw-cells-requires
 draw-cells-requires c κs = let e = Entry (c .before .before .before .before .before .before) in draws _ _ _ _ (e .pre .0) _ _ _ (e .pre .1)
@@ -40,7 +40,7 @@ mul-clear-floats-from : tie.Need-mul-clear-floats-from
 mul-clear-floats-from c = omega (arith, few (c .before .before .before .before .before .before .before .before .before .before .before) .1)
 
 clear-floats-from-requires : tie.Need-clear-floats-from-requires
-clear-floats-from-requires c κs = let v = c .before .before .before .before .before .before .before .before .before .before in rw (v .v .given) (few (v .before) .1)
+clear-floats-from-requires c κs = let v = c .before .before .before .before .before .before .before .before .before .before in rw (v .vertices .given) (few (v .before) .1)
 
 returns-2 : tie.Need-returns-2
 returns-2 c =

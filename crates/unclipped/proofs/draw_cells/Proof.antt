@@ -3,7 +3,7 @@ use mathlib.Core.Path.{_∙_}
 use mathlib.Core.List.{[]}
 use lib.ListN.{replicate, length-replicate}
 use borrow.Author.Needs.{needs}
-use Rattle.unclipped.specs.laws.Drawing.{cells-width, roomy, rooms-fit, ready, rising, ends-small, gathered-over, blank-regions}
+use Rattle.unclipped.specs.laws.Draws.{cells-width, roomy, rooms-fit, ready, rising, ends-small, gathered-over, blank-regions}
 use Rattle.unclipped.proofs.draw_cells.Statement.{statement}
 use Rattle.unclipped.proofs.draw_cells.Tie as tie
 
@@ -11,14 +11,14 @@ abbrev Entry : tie.After-lay-out-arg2 → tie.Start
 Entry a = a .before .before .before .before .before .before .before
 
 lay-out-requires : tie.Need-lay-out-requires
-lay-out-requires c κs = (roomy _ _ _ _ _ _ (Entry c .pre), rooms-fit _ _ _ _ _ (Entry c .args .off .now) (Entry c .pre))
+lay-out-requires c κs = (roomy _ _ _ _ _ _ (Entry c .pre), rooms-fit _ _ _ _ _ (Entry c .args .offsets .now) (Entry c .pre))
 
 fill-rings-requires : tie.Need-fill-rings-requires
 fill-rings-requires c κs =
     let o = c .before .before .before in
     let i = o .before .before in
     let l = i .before in
-    ready _ _ _ _ _ (Entry (l .before) .args .off .now) (Entry (l .before) .pre) _ (o .off .given) (l .lay-out .ensures .started) _ (i .ix .given)
+    ready _ _ _ _ _ (Entry (l .before) .args .offsets .now) (Entry (l .before) .pre) _ (o .offsets .given) (l .lay-out .ensures .started) _ (i .indexes .given)
 
 gather-requires : tie.Need-gather-requires
 gather-requires c κs =
@@ -27,8 +27,8 @@ gather-requires c κs =
     let i = o .before .before in
     let l = i .before in
     let e = Entry (l .before) in (
-      rising _ _ _ _ _ (e .args .off .now) (e .pre) _ (o .off .given) (l .lay-out .ensures .started) _ (f .ix2 .given ∙ i .ix .given),
-      ends-small _ _ _ _ _ (e .args .off .now) (e .pre) (l .lay-out .last .1 .1 .1 .1 .0) (o .off .given) (l .lay-out .ensures .started),
+      rising _ _ _ _ _ (e .args .offsets .now) (e .pre) _ (o .offsets .given) (l .lay-out .ensures .started) _ (f .indexes2 .given ∙ i .indexes .given),
+      ends-small _ _ _ _ _ (e .args .offsets .now) (e .pre) (l .lay-out .last .1 .1 .1 .1 .0) (o .offsets .given) (l .lay-out .ensures .started),
     )
 
 returns : tie.Need-returns
@@ -39,7 +39,7 @@ returns c =
     let i = o .before .before in
     let l = i .before in
     let n = Entry (l .before) .args .sites in
-    gathered-over _ _ _ _ _ _ _ (f .ix2 .given ∙ i .ix .given) (o .off .given)
+    gathered-over _ _ _ _ _ _ _ (f .indexes2 .given ∙ i .indexes .given) (o .offsets .given)
     (g .gather .ensures _ (cells-width _ _ n) (f .before .fill-rings .ensures (replicate n []) (length-replicate n []) (blank-regions _ _ n (l .lay-out .ensures .regions))))
 
 pub draw-cells-spec : {M : Type 1} → statement M

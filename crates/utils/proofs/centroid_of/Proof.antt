@@ -1,4 +1,4 @@
--- `utils::centroid_of`: the sum over the count, which an f64 holds exactly. Assumes nothing.
+-- `utils::centroid_of`: the sum over the count, which an f64 holds exactly.
 use Prim.Native.Nat.{_^_}
 use borrow.Author.Needs.{needs}
 use lib.Dec.{le→leb}

@@ -1,8 +1,9 @@
--- `utils::first_bad_site`: the loop's invariant is that every site passed keeps rule 6; it stops at the first that does not. Assumes nothing.
+-- `utils::first_bad_site`: the loop's invariant is that every site passed keeps rule 6; it stops at the first that does not.
 use Prim.Native.Nat.{ℕ, _-_, _≤_, _<_}
 use native.Mathlib.Omega.{arith}
 use borrow.Author.Count.{below-none, below-more}
-use Rattle.utils.specs.Sites.{KeptAt, kept-if, broken-if}
+use Rattle.utils.specs.Sites.{KeptAt}
+use Rattle.utils.specs.laws.Sites.{kept-if, broken-if}
 use Rattle.utils.proofs.first_bad_site.Statement.{statement}
 use Rattle.utils.proofs.first_bad_site.Tie as tie
 

@@ -9,7 +9,7 @@ use Rattle.vertices.proofs.add_new_vertex.Tie as tie
 returns : tie.Need-returns
 returns c =
     let s = c .before .before .before .before .before in
-    reused (s .args .centers) (s .args .limit) (s .args .count) (s .args .p) (now (s .args .v)) (now (s .args .ix)) (s .pre .0) _ (c .before .find-near .ensures .0) (c .if1 .taken)
+    reused (s .args .centers) (s .args .limit) (s .args .count) (s .args .p) (now (s .args .vertices)) (now (s .args .indexes)) (s .pre .0) _ (c .before .find-near .ensures .0) (c .if1 .taken)
 
 returns-2 : tie.Need-returns-2
 returns-2 c =
@@ -17,7 +17,7 @@ returns-2 c =
     let s = c .before .before .before .before .before .before .before .before .before in
     let f = at-find-near .find-near in
     rw (c .before .before .put .ensures)
-    (appended (s .args .centers) (s .args .limit) (s .args .count) (s .args .p) (now (s .args .v)) (now (s .args .ix)) (s .pre .0) _ (f .ensures .0) (omega arith) (s .pre .1))
+    (appended (s .args .centers) (s .args .limit) (s .args .count) (s .args .p) (now (s .args .vertices)) (now (s .args .indexes)) (s .pre .0) _ (f .ensures .0) (omega arith) (s .pre .1))
 
 pub add-new-vertex-spec : {M : Type 1} → statement M
 add-new-vertex-spec =

@@ -21,7 +21,7 @@ abbrev μ-loop : tie.MeasureT-loop
 loop-holds : tie.Need-loop-holds Inv-loop μ-loop
 loop-holds c =
     let a = c .before .before .args in
-    (omega arith, refl, corner-none (a .centers) (now (a .v)) (a .t5) (omega arith))
+    (omega arith, refl, corner-none (a .centers) (now (a .vertices)) (a .t5) (omega arith))
 
 loop-again : tie.Need-loop-again Inv-loop μ-loop
 loop-again c =
@@ -31,7 +31,7 @@ loop-again c =
     let g : length (q .args .t5) ≡ 4 = q .good .1 .1 .1 .1 .0 .1 .0 .1 in
     let a = q .args in
     let l = at-loop .loop in
-    (omega arith, omega arith, rw e (corner-more (a .centers) (now (a .v)) (a .t5) (l .k) (l .v) _ (l .inv .2) (omega arith) (omega arith)))
+    (omega arith, omega arith, rw e (corner-more (a .centers) (now (a .vertices)) (a .t5) (l .k) (l .vertices) _ (l .inv .2) (omega arith) (omega arith)))
 
 returns : tie.Need-returns Inv-loop μ-loop
 returns c =
@@ -40,7 +40,7 @@ returns c =
     let g : length (q .args .t5) ≡ 4 = q .good .1 .1 .1 .1 .0 .1 .0 .1 in
     let l = c .before .loop in
     let k : l .k ≡ 4 = omega arith in
-    (refl, corner-all (a .centers) (now (a .v)) (a .t5) (a .limit) (now (a .ix)) (l .k) (l .v) (l .inv .2) k g (omega arith))
+    (refl, corner-all (a .centers) (now (a .vertices)) (a .t5) (a .limit) (now (a .indexes)) (l .k) (l .vertices) (l .inv .2) k g (omega arith))
 
 pub calculate-corners-spec : {M : Type 1} → statement M
 calculate-corners-spec =

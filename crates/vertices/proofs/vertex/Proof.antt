@@ -3,7 +3,7 @@ use mathlib.Core.Path.{sym, _∙_}
 use native.Mathlib.Omega.{arith}
 use lib.Ieee.{nan}
 use Rattle.utils.specs.Plane.{at}
-use Rattle.vertices.specs.laws.Laws.{getD-points}
+use Rattle.vertices.specs.laws.Points.{getD-points}
 use borrow.Author.Needs.{needs}
 use Rattle.vertices.proofs.vertex.Statement.{statement}
 use Rattle.vertices.proofs.vertex.Tie as tie
@@ -11,7 +11,7 @@ use Rattle.vertices.proofs.vertex.Tie as tie
 returns : tie.Need-returns
 returns c =
     let a = c .before .before .args in
-    c .point-at .ensures ∙ sym (getD-points (a .v .now) (a .count) (a .i) (at nan nan) (omega arith))
+    c .point-at .ensures ∙ sym (getD-points (a .vertices .now) (a .count) (a .i) (at nan nan) (omega arith))
 
 pub vertex-spec : {M : Type 1} → statement M
 vertex-spec = tie.close (tie.spec (λ c κs. search needs) returns)

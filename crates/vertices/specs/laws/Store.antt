@@ -16,8 +16,8 @@ use Rattle.utils.specs.Plane.{at}
 use Rattle.utils.specs.declared.Point.{Point}
 use Rattle.utils.specs.Flat.{points, pointsFrom, flat, pour}
 use Rattle.vertices.specs.Add.{findNear, addVertex}
-use Rattle.vertices.specs.Store.{Holds, Poured, Leaves, Answers}
-use Rattle.vertices.specs.laws.Laws.{add-old, add-new, length-points, points-pour, pour-points, pour-pour, pour-snoc, length-pour, flat-append, flat-points, getD-points}
+use Rattle.vertices.specs.Store.{Holds, Poured, Leaves, PlacedAs}
+use Rattle.vertices.specs.laws.Points.{add-old, add-new, length-points, points-pour, pour-points, pour-pour, pour-snoc, length-pour, flat-append, flat-points, getD-points}
 
 -- ---- poured vertices
 
@@ -84,7 +84,7 @@ kept-vertex v v₁ n m i d e h k =
 module _ (nc limit n : ℕ) (p : Point) (v : List Float) (ix : List ℕ) (h : Holds nc n v (drop limit ix)) (i : ℕ) (e : i ≡ findNear p (pointsFrom v nc (n - nc)) nc) where
   pub reused :
       i < n
-      → Answers n (addVertex nc (points n v) p) (record { at = i; fresh = false; count = n })
+      → PlacedAs n (addVertex nc (points n v) p) (record { at = i; fresh = false; count = n })
       × Leaves nc limit (addVertex nc (points n v) p .verts) v ix n v ix
   reused k =
       rw (add-old v nc n i p (h .centers) k e) (
@@ -95,7 +95,7 @@ module _ (nc limit n : ℕ) (p : Point) (v : List Float) (ix : List ℕ) (h : Ho
   pub appended :
       i ≡ n
       → 2 * n + 2 ≤ length v
-      → Answers n (addVertex nc (points n v) p) (record { at = n; fresh = true; count = n + 1 })
+      → PlacedAs n (addVertex nc (points n v) p) (record { at = n; fresh = true; count = n + 1 })
       × Leaves nc limit (addVertex nc (points n v) p .verts) v ix (n + 1) (set (set v (2 * n) (p .x)) (2 * n + 1) (p .y)) ix
   appended k r =
       let c = h .centers in

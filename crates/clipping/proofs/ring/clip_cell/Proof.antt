@@ -1,12 +1,15 @@
 -- `clipping::ring::clip_cell` meets its contract: it starts at the first vertex inside, and at the first where none is.
-use mathlib.Core.Path.{sym, ap, _∙_}
+use Prim.Native.Nat.{_+_}
+use mathlib.Core.Path.{_≡_, sym, ap, _∙_}
+use mathlib.Core.Bool.{false, true≢false}
+use lib.ListN.{getD}
 use native.Mathlib.Omega.{arith}
 use denote.Ref.{now}
 use Rattle.utils.specs.Flat.{points}
 use Rattle.definition.specs.Cell.{inBox}
-use Rattle.clipping.specs.Steps.{ringOf}
-use Rattle.clipping.specs.laws.Rounds.{length-ring, getD-ring, first-all, cell-inside, cell-outside}
-use Rattle.clipping.specs.laws.Steps.{never}
+use Rattle.definition.specs.laws.Inside.{none-inside}
+use Rattle.clipping.specs.RingWalk.{ringOf}
+use Rattle.clipping.specs.laws.RingWalk.{length-ring, getD-ring, cell-inside, cell-outside}
 use borrow.Author.Needs.{needs}
 use Rattle.clipping.proofs.ring.clip_cell.Statement.{statement}
 use Rattle.clipping.proofs.ring.clip_cell.Tie as tie
@@ -22,7 +25,15 @@ first-inside-requires c κs =
 clip-from-requires : tie.Need-clip-from-requires
 clip-from-requires c κs =
     let s = c .before .before .before .before .before .before .before .before in
-    (s .pre .0, (c .before .before .if1 .taken, never))
+    let a = s .args in (
+      s .pre .0,
+      (
+        c .before .before .if1 .taken,
+        λ e j l. absurd
+            {A = inBox (a .env .bounds) (a .env .centers) (points (a .count) (now (a .vertices))) (getD (now (a .indexes)) (a .ring + j) 0) ≡ false}
+            (true≢false e),
+      ),
+    )
 
 returns : tie.Need-returns
 returns c =
@@ -33,8 +44,8 @@ returns c =
     let m = s .pre .0 in
     let ends = m .ends in
     let list = m .list in
-    let n = length-ring (now (a .ix)) (a .ring) (a .len) (omega arith) in
-    rw (cell-inside (a .env .bounds) (a .env .centers) (a .env .site) (ringOf (now (a .ix)) (a .ring) (a .len)) (points (a .count) (now (a .v)))
+    let n = length-ring (now (a .indexes)) (a .ring) (a .len) (omega arith) in
+    rw (cell-inside (a .env .bounds) (a .env .centers) (a .env .site) (ringOf (now (a .indexes)) (a .ring) (a .len)) (points (a .count) (now (a .vertices)))
     (a .owners) _ (at-first-inside .first-inside .ensures .0) (rw n (at-if1 .if1 .taken)))
     (c .before .before .before .before .clip-from .ensures)
 
@@ -45,16 +56,16 @@ clip-from-requires-2 c κs =
     let m = s .pre .0 in
     let ends = m .ends in
     let list = m .list in
-    let n = length-ring (now (a .ix)) (a .ring) (a .len) (omega arith) in
-    let vs = points (a .count) (now (a .v)) in
+    let n = length-ring (now (a .indexes)) (a .ring) (a .len) (omega arith) in
+    let vs = points (a .count) (now (a .vertices)) in
     let g = c .before .before .before .first-inside .ensures .0 in
     let left = c .before .before .if1 .left in (
       m,
       (
         s .pre .1,
         λ e j l.
-            ap (inBox (a .env .bounds) (a .env .centers) vs) (sym (getD-ring (now (a .ix)) (a .ring) (a .len) j l))
-            ∙ first-all (a .env .bounds) (a .env .centers) vs (ringOf (now (a .ix)) (a .ring) (a .len)) (rw (n, ← g) left) j (rw n l),
+            ap (inBox (a .env .bounds) (a .env .centers) vs) (sym (getD-ring (now (a .indexes)) (a .ring) (a .len) j l))
+            ∙ none-inside (a .env .bounds) (a .env .centers) vs (ringOf (now (a .indexes)) (a .ring) (a .len)) (rw (n, ← g) left) j (rw n l),
       ),
     )
 
@@ -67,8 +78,8 @@ returns-2 c =
     let m = s .pre .0 in
     let ends = m .ends in
     let list = m .list in
-    let n = length-ring (now (a .ix)) (a .ring) (a .len) (omega arith) in
-    rw (cell-outside (a .env .bounds) (a .env .centers) (a .env .site) (ringOf (now (a .ix)) (a .ring) (a .len)) (points (a .count) (now (a .v)))
+    let n = length-ring (now (a .indexes)) (a .ring) (a .len) (omega arith) in
+    rw (cell-outside (a .env .bounds) (a .env .centers) (a .env .site) (ringOf (now (a .indexes)) (a .ring) (a .len)) (points (a .count) (now (a .vertices)))
     (a .owners) _ (at-first-inside .first-inside .ensures .0) (rw n (at-if1 .if1 .left)))
     (c .before .before .before .before .clip-from2 .ensures)
 

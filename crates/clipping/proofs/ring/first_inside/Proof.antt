@@ -1,14 +1,14 @@
 -- `clipping::ring::first_inside` meets its contract: the first vertex inside of the whole ring is the first of the rest, as none before is inside.
 use Prim.Native.Nat.{_+_, _-_, _≤_}
-use mathlib.Core.Path.{_≡_, sym, ap, _∙_}
+use mathlib.Core.Path.{_≡_, sym, _∙_}
 use native.Mathlib.Omega.{arith}
 use native.Mathlib.Nat.{zero-add}
 use lib.ListN.{drop}
 use denote.Ref.{now}
 use Rattle.utils.specs.Flat.{points}
-use Rattle.definition.specs.Cell.{firstInside, inBox}
-use Rattle.clipping.specs.Steps.{ringOf}
-use Rattle.clipping.specs.laws.Rounds.{first-hit, first-miss, first-none, length-ring, getD-ring}
+use Rattle.definition.specs.Cell.{firstInside}
+use Rattle.clipping.specs.RingWalk.{ringOf}
+use Rattle.clipping.specs.laws.RingWalk.{first-hit, first-miss, first-none, length-ring, ring-answer}
 use Rattle.clipping.proofs.ring.first_inside.Statement.{statement}
 use Rattle.clipping.proofs.ring.first_inside.Tie as tie
 
@@ -34,30 +34,33 @@ returns c =
     let s = c .before .before .before .before .before .before .before .before in
     let a = s .args in
     let l = c .before .before .before .before .loop in
-    let vs = points (a .count) (now (a .v)) in
+    let vs = points (a .count) (now (a .vertices)) in
     let h = c .before .before .before .loop-test .taken in
-    let n = length-ring (now (a .ix)) (a .ring) (a .len) (s .pre .1) in
-    let e = ap (inBox (a .env .bounds) (a .env .centers) vs) (getD-ring (now (a .ix)) (a .ring) (a .len) (l .k) h) ∙ sym (c .before .in-box .ensures) ∙ c .if1 .taken in
-    (sym (l .inv .1 ∙ first-hit (a .env .bounds) (a .env .centers) vs (ringOf (now (a .ix)) (a .ring) (a .len)) (l .k) (rw n h) e), omega arith)
+    let n = length-ring (now (a .indexes)) (a .ring) (a .len) (s .pre .1) in
+    let e = ring-answer (a .env .bounds) (a .env .centers) vs (now (a .indexes)) (a .ring) (a .len) (l .k) _ _ h (c .before .in-box .ensures) (c .if1 .taken) in
+    (sym (l .inv .1 ∙ first-hit (a .env .bounds) (a .env .centers) vs (ringOf (now (a .indexes)) (a .ring) (a .len)) (l .k) (rw n h) e), omega arith)
 
 loop-again : tie.Need-loop-again Inv-loop μ-loop
 loop-again c =
     let s = c .before .before .before .before .before .before .before .before in
     let a = s .args in
     let l = c .before .before .before .before .loop in
-    let vs = points (a .count) (now (a .v)) in
+    let vs = points (a .count) (now (a .vertices)) in
     let h = c .before .before .before .loop-test .taken in
-    let n = length-ring (now (a .ix)) (a .ring) (a .len) (s .pre .1) in
-    let e = ap (inBox (a .env .bounds) (a .env .centers) vs) (getD-ring (now (a .ix)) (a .ring) (a .len) (l .k) h) ∙ sym (c .before .in-box .ensures) ∙ c .if1 .left in
-    (omega arith, l .inv .1 ∙ first-miss (a .env .bounds) (a .env .centers) vs (ringOf (now (a .ix)) (a .ring) (a .len)) (l .k) (rw n h) e)
+    let n = length-ring (now (a .indexes)) (a .ring) (a .len) (s .pre .1) in
+    let e = ring-answer (a .env .bounds) (a .env .centers) vs (now (a .indexes)) (a .ring) (a .len) (l .k) _ _ h (c .before .in-box .ensures) (c .if1 .left) in
+    (omega arith, l .inv .1 ∙ first-miss (a .env .bounds) (a .env .centers) vs (ringOf (now (a .indexes)) (a .ring) (a .len)) (l .k) (rw n h) e)
 
 returns-2 : tie.Need-returns-2 Inv-loop μ-loop
 returns-2 c =
     let s = c .before .before .before .before .before in
     let a = s .args in
     let l = c .before .loop in
-    let n = length-ring (now (a .ix)) (a .ring) (a .len) (s .pre .1) in
-    (sym (l .inv .1 ∙ first-none (a .env .bounds) (a .env .centers) (points (a .count) (now (a .v))) (ringOf (now (a .ix)) (a .ring) (a .len)) (l .k) (rw n (c .loop-test .left))), l .inv .0)
+    let n = length-ring (now (a .indexes)) (a .ring) (a .len) (s .pre .1) in (
+      sym (l .inv .1 ∙ first-none (a .env .bounds) (a .env .centers) (points (a .count) (now (a .vertices)))
+          (ringOf (now (a .indexes)) (a .ring) (a .len)) (l .k) (rw n (c .loop-test .left))),
+      l .inv .0,
+    )
 
 pub first-inside-spec : {M : Type 1} → statement M
 first-inside-spec =

@@ -1,10 +1,10 @@
 -- `clipping::ring::step_to` meets its contract: the case that the two tests choose, with a refusal's place or the walk's next state.
 use native.Mathlib.Omega.{arith}
-use mathlib.Core.Path.{refl, sym, _∙_}
+use mathlib.Core.Path.{refl}
 use denote.Ref.{now}
 use Rattle.utils.specs.Flat.{points}
 use Rattle.definition.specs.Cell.{clipStep}
-use Rattle.clipping.specs.laws.Steps.{step-refused, step-done, changes-low, changes-out, clip-out}
+use Rattle.clipping.specs.laws.EdgeCases.{step-refused, step-done, changes-low, changes-out, clip-out}
 use borrow.Author.Needs.{needs}
 use Rattle.clipping.proofs.ring.step_to.Statement.{statement}
 use Rattle.clipping.proofs.ring.step_to.Tie as tie
@@ -13,7 +13,7 @@ clip-step-requires : tie.Need-clip-step-requires
 clip-step-requires c κs =
     let s = c .before .before .before .before .before .before .before in
     let i = c .before .before .in-box in
-    (s .pre .0, (s .pre .1 .0, (s .pre .1 .1 .0, λ e f. s .pre .1 .1 .1 e (sym (i .ensures) ∙ f))))
+    (s .pre .0, (s .pre .1 .0, (s .pre .1 .1 .0, λ e f. s .pre .1 .1 .1 e (rw (← i .ensures) f))))
 
 returns : tie.Need-returns
 returns c =
@@ -21,7 +21,7 @@ returns c =
     let at-in-box = at-clip-step .before .before .before in
     let s = c .before .before .before .before .before .before .before .before .before .before .before .before .before .before in
     let a = s .args in (
-      step-refused (a .env) (a .tip) (a .q) _ (now (a .v)) (now (a .ix)) _ _ _ (at-in-box .in-box .ensures) (at-clip-step .clip-step .ensures) (c .if1 .taken) _ refl,
+      step-refused (a .env) (a .tip) (a .q) _ (now (a .vertices)) (now (a .indexes)) _ _ _ (at-in-box .in-box .ensures) (at-clip-step .clip-step .ensures) (c .if1 .taken) _ refl,
       λ e. absurd (c .if1 .taken e),
     )
 
@@ -33,17 +33,17 @@ returns-2 c =
     let a = s .args in
     let t = a .tip in
     let g = at-clip-step .clip-step in
-    let l = changes-low (a .env) (t .count) (t .cell) (now (a .v)) (now (a .ix)) (g .result) _ _
+    let l = changes-low (a .env) (t .count) (t .cell) (now (a .vertices)) (now (a .indexes)) (g .result) _ _
     (clipStep (a .env .bounds) (a .env .centers) (a .env .site) (t .vertex) (t .inside) (a .q) (at-in-box .in-box .result)
-    (points (t .count) (now (a .v))) (t .cell .owners) (t .opened) (t .cell .last))
+    (points (t .count) (now (a .vertices))) (t .cell .owners) (t .opened) (t .cell .last))
     (g .ensures) (c .before .if1 .left) in (
-      step-done (a .env) (a .tip) (a .q) _ (now (a .v)) (now (a .ix)) _ _ _ (at-in-box .in-box .ensures) (g .ensures) (c .before .if1 .left),
+      step-done (a .env) (a .tip) (a .q) _ (now (a .vertices)) (now (a .indexes)) _ _ _ (at-in-box .in-box .ensures) (g .ensures) (c .before .if1 .left),
       λ e. (
         record { vertex = omega arith; low = l .1 },
-        λ i o. changes-out (a .env) (t .count) (t .cell) (now (a .v)) (now (a .ix)) (g .result) _ _ (t .inside) (t .opened)
+        λ i o. changes-out (a .env) (t .count) (t .cell) (now (a .vertices)) (now (a .indexes)) (g .result) _ _ (t .inside) (t .opened)
             (clipStep (a .env .bounds) (a .env .centers) (a .env .site) (t .vertex) (t .inside) (a .q) (at-in-box .in-box .result)
-            (points (t .count) (now (a .v))) (t .cell .owners) (t .opened) (t .cell .last))
-            (clip-out (a .env .bounds) (a .env .centers) (a .env .site) (points (t .count) (now (a .v))) (t .cell .owners) (t .opened)
+            (points (t .count) (now (a .vertices))) (t .cell .owners) (t .opened) (t .cell .last))
+            (clip-out (a .env .bounds) (a .env .centers) (a .env .site) (points (t .count) (now (a .vertices))) (t .cell .owners) (t .opened)
             (t .cell .last) (t .vertex) (t .inside) (a .q) (at-in-box .in-box .result) i)
             (g .ensures) (c .before .if1 .left) o,
       ),

@@ -3,7 +3,7 @@ use Prim.Native.Nat.{ℕ, _-_}
 use mathlib.Core.Path.{ap, _∙_}
 use native.Mathlib.Omega.{arith}
 use lib.ListN.{getD}
-use Rattle.clipping.specs.laws.Turning.{turned-front, turned-back}
+use Rattle.clipping.specs.laws.ReversedRing.{turned-front, turned-back}
 use borrow.Author.Needs.{needs}
 use Rattle.clipping.proofs.ring.turned.Statement.{statement}
 use Rattle.clipping.proofs.ring.turned.Tie as tie

@@ -6,8 +6,8 @@ use native.Mathlib.Omega.{arith}
 use lib.ListN.{length, getD}
 use denote.Ref.{now}
 use Rattle.definition.specs.Cell as Def
-use Rattle.clipping.specs.Steps.{ringOf}
-use Rattle.clipping.specs.laws.Rounds.{Round, round-start, round-ready, round-last, round-next, round-stop, round-end, ring-same, length-ring, getD-ring}
+use Rattle.clipping.specs.RingWalk.{ringOf}
+use Rattle.clipping.specs.laws.RingWalk.{Round, round-start, round-ready, round-last, round-next, round-stop, round-end, ring-same, length-ring, getD-ring}
 use Rattle.clipping.proofs.ring.walk_ring.Statement.{statement}
 use Rattle.clipping.proofs.ring.walk_ring.Tie as tie
 
@@ -21,24 +21,25 @@ loop-holds : tie.Need-loop-holds Inv-loop μ-loop
 loop-holds c =
     let s = c .before .before in
     let a = s .args in
-    (refl, refl, round-start (a .env) (a .ring) (a .len) (a .f) (a .tip) (now (a .v)) (now (a .ix)) (s .pre .0) (s .pre .1 .0) (s .pre .1 .1 .1))
+    (refl, refl, round-start (a .env) (a .ring) (a .len) (a .f) (a .tip) (now (a .vertices)) (now (a .indexes)) (s .pre .0) (s .pre .1 .0) (s .pre .1 .1 .1))
 
 -- the vertex that is read is the turned ring's k-th
 read :
     (c : tie.After-turned Inv-loop μ-loop)
     → getD (Def.turned (c .before .before .before .before .before .args .f)
-    (ringOf (now (c .before .before .before .before .before .args .ix)) (c .before .before .before .before .before .args .ring)
+    (ringOf (now (c .before .before .before .before .before .args .indexes)) (c .before .before .before .before .before .args .ring)
     (c .before .before .before .before .before .args .len))) (c .before .before .loop .k) 0
-    ≡ getD (c .before .before .loop .ix) (c .before .before .before .before .before .args .ring + c .turned .result) 0
+    ≡ getD (c .before .before .loop .indexes) (c .before .before .before .before .before .args .ring + c .turned .result) 0
 read c =
     let s = c .before .before .before .before .before in
     let a = s .args in
     let l = c .before .before .loop in
     let ends = s .pre .0 .ends in
     let list = s .pre .0 .list in
-    c .turned .ensures .1 (ringOf (now (a .ix)) (a .ring) (a .len)) (length-ring (now (a .ix)) (a .ring) (a .len) (omega arith))
-    ∙ getD-ring (now (a .ix)) (a .ring) (a .len) (c .turned .result) (c .turned .ensures .0)
-    ∙ sym (ring-same (a .env) (a .ring) (a .len) (a .f) (a .tip) (now (a .v)) (now (a .ix)) (l .k) (l .at) (l .v) (l .ix) (l .inv .2) (c .turned .result) (c .turned .ensures .0))
+    c .turned .ensures .1 (ringOf (now (a .indexes)) (a .ring) (a .len)) (length-ring (now (a .indexes)) (a .ring) (a .len) (omega arith))
+    ∙ getD-ring (now (a .indexes)) (a .ring) (a .len) (c .turned .result) (c .turned .ensures .0)
+    ∙ sym (ring-same (a .env) (a .ring) (a .len) (a .f) (a .tip) (now (a .vertices)) (now (a .indexes)) (l .k) (l .at) (l .vertices)
+    (l .indexes) (l .inv .2) (c .turned .result) (c .turned .ensures .0))
 
 add-place : tie.Need-add-place Inv-loop μ-loop
 add-place c =
@@ -60,12 +61,14 @@ step-to-requires c κs =
     let a = s .args in
     let l = at-loop .loop in
     let j = c .before .before .before .turned .ensures .0 in (
-      round-ready (a .env) (a .ring) (a .len) (a .f) (a .tip) (now (a .v)) (now (a .ix)) (l .k) (l .at) (l .v) (l .ix) (l .inv .2) (c .before .before .before .before .loop-test .taken),
+      round-ready (a .env) (a .ring) (a .len) (a .f) (a .tip) (now (a .vertices)) (now (a .indexes)) (l .k) (l .at) (l .vertices)
+          (l .indexes) (l .inv .2) (c .before .before .before .before .loop-test .taken),
       (
         l .inv .2 .stands,
         (
           l .inv .2 .room .below (c .before .before .before .turned .result) j,
-          round-last (a .env) (a .ring) (a .len) (a .f) (a .tip) (now (a .v)) (now (a .ix)) (l .k) (l .at) (l .v) (l .ix) (l .inv .2) (c .before .before .before .turned .result) j,
+          round-last (a .env) (a .ring) (a .len) (a .f) (a .tip) (now (a .vertices)) (now (a .indexes)) (l .k) (l .at) (l .vertices)
+              (l .indexes) (l .inv .2) (c .before .before .before .turned .result) j,
         ),
       ),
     )
@@ -91,7 +94,7 @@ returns c =
     let a = s .args in
     let l = at-loop .loop in
     let g = at-step-to .step-to in
-    round-stop (a .env) (a .ring) (a .len) (a .f) (a .tip) (now (a .v)) (now (a .ix)) (l .k) (l .at) (l .v) (l .ix) (l .inv .2) (s .pre .1 .1 .0)
+    round-stop (a .env) (a .ring) (a .len) (a .f) (a .tip) (now (a .vertices)) (now (a .indexes)) (l .k) (l .at) (l .vertices) (l .indexes) (l .inv .2) (s .pre .1 .1 .0)
     (l .inv .1) _ _ _ _ (at-loop-test .loop-test .taken) (read (c .before .before .before .before .before .before .before .before .before .before .before)) (g .ensures .0) (c .if1 .taken)
 
 add-k : tie.Need-add-k Inv-loop μ-loop
@@ -118,7 +121,7 @@ loop-again c =
     let kx = g .kept .1 .0 in (
       kv ∙ l .inv .0,
       kx ∙ l .inv .1,
-      round-next (a .env) (a .ring) (a .len) (a .f) (a .tip) (now (a .v)) (now (a .ix)) (l .k) (l .at) (l .v) (l .ix) (l .inv .2) (s .pre .1 .1 .0)
+      round-next (a .env) (a .ring) (a .len) (a .f) (a .tip) (now (a .vertices)) (now (a .indexes)) (l .k) (l .at) (l .vertices) (l .indexes) (l .inv .2) (s .pre .1 .1 .0)
           (l .inv .1) _ _ _ _ (at-loop-test .loop-test .taken)
           (read (c .before .before .before .before .before .before .before .before .before .before .before .before)) (g .ensures .0)
           (c .before .if1 .left) (g .ensures .1 (c .before .if1 .left)) (l .inv .0) kv kx,
@@ -135,7 +138,8 @@ returns-2 c =
     let s = c .before .before .before .before in
     let a = s .args in
     let l = c .before .loop in
-    round-end (a .env) (a .ring) (a .len) (a .f) (a .tip) (now (a .v)) (now (a .ix)) (l .k) (l .at) (l .v) (l .ix) (l .inv .2) (s .pre .1 .1 .0) (l .inv .1) (c .loop-test .left)
+    round-end (a .env) (a .ring) (a .len) (a .f) (a .tip) (now (a .vertices)) (now (a .indexes)) (l .k) (l .at) (l .vertices) (l .indexes)
+    (l .inv .2) (s .pre .1 .1 .0) (l .inv .1) (c .loop-test .left)
 
 pub walk-ring-spec : {M : Type 1} → statement M
 walk-ring-spec =

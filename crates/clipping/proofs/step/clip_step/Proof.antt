@@ -4,8 +4,8 @@ use denote.Ref.{now}
 use Rattle.utils.specs.Flat.{points}
 use Rattle.definition.specs.Fault.{ok}
 use Rattle.definition.specs.Cell.{entry, plain, change}
-use Rattle.clipping.specs.laws.Changes.{changes, leaves-none, grown-none}
-use Rattle.clipping.specs.laws.Steps.{step-stay, step-leave, step-enter, step-cross}
+use Rattle.clipping.specs.laws.EdgeOutcome.{changes, leaves-none, grown-none}
+use Rattle.clipping.specs.laws.EdgeCases.{step-stay, step-leave, step-enter, step-cross}
 use borrow.Author.Needs.{needs}
 use Rattle.clipping.proofs.step.clip_step.Statement.{statement}
 use Rattle.clipping.proofs.step.clip_step.Tie as tie
@@ -16,11 +16,11 @@ returns c =
     let s = c .before .before .before .before .before .before .before .before .before in
     let a = s .args in
     let t = a .tip in
-    let vs = points (t .count) (now (a .v)) in
+    let vs = points (t .count) (now (a .vertices)) in
     rw (step-stay (a .env .bounds) (a .env .centers) (a .env .site) (t .vertex) (t .inside) (a .q) (a .q-in) vs (t .cell .owners) (t .opened)
     (t .cell .last) (at-if1 .if1 .taken) (c .before .before .before .before .if2 .taken))
     (changes (a .env) (t .count) _ _ (ok (change vs (t .cell .owners) (entry plain (t .vertex) ∷ []) (t .opened) [])) (s .pre .0 .fits)
-    (leaves-none (s .pre .0 .holds)) (grown-none 2 (t .count) (now (a .v))) (c .before .before .stay .ensures vs))
+    (leaves-none (s .pre .0 .holds)) (grown-none 2 (t .count) (now (a .vertices))) (c .before .before .stay .ensures vs))
 
 returns-2 : tie.Need-returns-2
 returns-2 c =
@@ -29,7 +29,7 @@ returns-2 c =
     let s = c .before .before .before .before .before .before .before .before .before .before .before .before in
     let a = s .args in
     let t = a .tip in
-    let vs = points (t .count) (now (a .v)) in
+    let vs = points (t .count) (now (a .vertices)) in
     rw (step-leave (a .env .bounds) (a .env .centers) (a .env .site) (t .vertex) (t .inside) (a .q) (a .q-in) vs (t .cell .owners) (t .opened) (t .cell .last) (at-if1 .if1 .taken) (at-if2 .if2 .left))
     (c .before .before .before .before .leave .ensures)
 
@@ -45,7 +45,7 @@ returns-3 c =
     let s = c .before .before .before .before .before .before .before .before .before .before .before .before in
     let a = s .args in
     let t = a .tip in
-    let vs = points (t .count) (now (a .v)) in
+    let vs = points (t .count) (now (a .vertices)) in
     rw (step-enter (a .env .bounds) (a .env .centers) (a .env .site) (t .vertex) (t .inside) (a .q) (a .q-in) vs (t .cell .owners) (t .opened) (t .cell .last) (at-if1 .if1 .left) (at-if3 .if3 .taken))
     (c .before .before .before .before .enter .ensures)
 
@@ -56,7 +56,7 @@ returns-4 c =
     let s = c .before .before .before .before .before .before .before .before .before .before .before .before in
     let a = s .args in
     let t = a .tip in
-    let vs = points (t .count) (now (a .v)) in
+    let vs = points (t .count) (now (a .vertices)) in
     rw (step-cross (a .env .bounds) (a .env .centers) (a .env .site) (t .vertex) (t .inside) (a .q) (a .q-in) vs (t .cell .owners) (t .opened) (t .cell .last) (at-if1 .if1 .left) (at-if3 .if3 .left))
     (c .before .before .before .before .cross .ensures)
 

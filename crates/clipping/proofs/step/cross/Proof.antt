@@ -2,67 +2,75 @@
 use native.Mathlib.Omega.{arith}
 use denote.Ref.{now}
 use Rattle.utils.specs.Flat.{points}
-use Rattle.definition.specs.Cell.{clipEdge}
-use Rattle.clipping.specs.laws.Changes.{cross-missed, cross-once, cross-twice, once-below, twice-below, fits-up}
+use Prim.Native.Nat.{ℕ}
+use Rattle.definition.specs.Fault.{Outcome}
+use Rattle.definition.specs.Cell.{EdgeClip, Change, clipEdge, cross, tookTwo}
+use Rattle.clipping.specs.laws.EdgeOutcome.{by-missed, by-once, by-twice, room-once, room-twice, changes-none}
 use borrow.Author.Needs.{needs}
 use Rattle.clipping.proofs.step.cross.Statement.{statement}
 use Rattle.clipping.proofs.step.cross.Tie as tie
 
+-- after the crossings, and the start
+abbrev Crossings : tie.After-slice-known4 → tie.After-clip-voronoi-edge
+Crossings c = c .before .before .before .before
+
+abbrev Entry : tie.After-slice-known4 → tie.Start
+Entry c = Crossings c .before .before .before .before .before
+
+abbrev clip : tie.After-slice-known4 → EdgeClip
+clip c = let a = Entry c .args in clipEdge (a .env .bounds) (a .env .centers) (points (a .count) (now (a .vertices))) (a .p) (a .q)
+
+abbrev does : tie.After-slice-known4 → EdgeClip → Outcome ℕ Change
+does c = let a = Entry c .args in cross (a .env .bounds) (a .env .centers) (a .env .site) (points (a .count) (now (a .vertices))) (a .cell .owners) (a .opened) (a .cell .last)
+
 cross-once-requires : tie.Need-cross-once-requires
 cross-once-requires c κs =
     let m = c .before .before .before in
-    let g = m .before .before .before .before .before .before .clip-voronoi-edge in
-    let s = m .before .before .before .before .before .before .before .before .before .before .before in
+    let k = m .before .before in
+    let g = Crossings k .clip-voronoi-edge in
+    let s = Entry k in
     let a = s .args in
-    let k = clipEdge (a .env .bounds) (a .env .centers) (points (a .count) (now (a .v))) (a .p) (a .q) in
-    let h = once-below (a .env .centers) (a .env .limit) (a .count) (now (a .v)) (now (a .ix)) _ _ k _ _ (rw (m .clip .given .1) at (g .ensures)) in
-    let kept = g .kept in
-    let r = s .pre in
-    (fits-up _ (s .pre .0 .fits) (omega arith), (omega arith, h .0, λ e. (let l = s .pre .1 .2 e in omega arith), omega arith, omega arith))
+    let h = room-once (a .env) (a .count) (a .cell) (now (a .vertices)) (now (a .indexes)) (clip k) _ _ _ (s .pre .0) (g .ensures) (g .kept .1 .0) (m .clip .given .1) in
+    (h .fits, (h .room, h .first, λ e. omega (arith, h .more, s .pre .1 .2 e), h .corners, h .small))
 
 cross-at-requires : tie.Need-cross-at-requires
 cross-at-requires c κs =
     let m = c .before .before .before in
-    let g = m .before .before .before .before .before .before .clip-voronoi-edge in
-    let s = m .before .before .before .before .before .before .before .before .before .before .before in
+    let k = m .before .before in
+    let g = Crossings k .clip-voronoi-edge in
+    let s = Entry k in
     let a = s .args in
-    let k = clipEdge (a .env .bounds) (a .env .centers) (points (a .count) (now (a .v))) (a .p) (a .q) in
-    let h = twice-below (a .env .centers) (a .env .limit) (a .count) (now (a .v)) (now (a .ix)) _ _ k _ _ _ (rw (m .clip2 .given .1) at (g .ensures)) in
-    let kept = g .kept in
-    let r = s .pre in
-    (fits-up _ (s .pre .0 .fits) (omega arith), (omega arith, omega arith, omega arith, λ e. (let l = s .pre .1 .2 e in omega arith), omega arith, omega arith))
+    let h = room-twice (a .env) (a .count) (a .cell) (now (a .vertices)) (now (a .indexes)) (clip k) _ _ _ (s .pre .0) (g .ensures) (g .kept .1 .0) (m .clip2 .given .1) in
+    (h .0 .fits, (h .0 .room, h .0 .first, h .1, λ e. omega (arith, h .0 .more, s .pre .1 .2 e), h .0 .corners, h .0 .small))
 
 returns : tie.Need-returns
+unfolding cross
 returns c =
-    let at-clip-voronoi-edge = c .before .before .before .before .before .before in
-    let g = at-clip-voronoi-edge .clip-voronoi-edge in
-    let s = c .before .before .before .before .before .before .before .before .before .before .before in
+    let k = c .before .before in
+    let s = Entry k in
     let a = s .args in
-    let k = clipEdge (a .env .bounds) (a .env .centers) (points (a .count) (now (a .v))) (a .p) (a .q) in
-    cross-missed (a .env) (a .env .bounds) (a .count) (a .cell) (now (a .v)) (now (a .ix)) _ _ (a .opened) (s .pre .0 .fits) (s .pre .0 .holds)
-    (s .pre .1 .2) k (rw (c .enum-told .given .1) at (g .ensures))
+    by-missed (a .env) (a .count) (a .cell) (now (a .vertices)) (now (a .indexes)) _ (clip k) _ _ _ (s .pre .0 .fits) (does k) (Crossings k .clip-voronoi-edge .ensures)
+    (c .enum-told .given .1) (changes-none (a .env) (a .count) (a .cell) (now (a .vertices)) (now (a .indexes)) (a .opened) (s .pre .0) (s .pre .1 .2))
 
 returns-2 : tie.Need-returns-2
+unfolding cross
 returns-2 c =
     let m = c .before .before .before .before .before .before in
-    let g = m .before .before .before .before .before .before .clip-voronoi-edge in
-    let s = m .before .before .before .before .before .before .before .before .before .before .before in
+    let k = m .before .before in
+    let s = Entry k in
     let a = s .args in
-    let vs = points (a .count) (now (a .v)) in
-    let k = clipEdge (a .env .bounds) (a .env .centers) vs (a .p) (a .q) in
-    cross-once (a .env) (a .count) (a .cell) (now (a .v)) (now (a .ix)) _ _ _ _ (s .pre .0 .fits) (a .env .bounds) (a .opened) k _ _ vs
-    (rw (m .clip .given .1) at (g .ensures)) (c .before .before .cross-once .ensures)
+    by-once (a .env) (a .count) (a .cell) (now (a .vertices)) (now (a .indexes)) _ (clip k) _ _ _ (s .pre .0 .fits) (does k) (Crossings k .clip-voronoi-edge .ensures) _ (m .clip .given .1)
+    (λ x e w. rw (e, w) at (c .before .before .cross-once .ensures))
 
 returns-3 : tie.Need-returns-3
+unfolding cross
 returns-3 c =
     let m = c .before .before .before .before .before .before in
-    let g = m .before .before .before .before .before .before .clip-voronoi-edge in
-    let s = m .before .before .before .before .before .before .before .before .before .before .before in
+    let k = m .before .before in
+    let s = Entry k in
     let a = s .args in
-    let vs = points (a .count) (now (a .v)) in
-    let k = clipEdge (a .env .bounds) (a .env .centers) vs (a .p) (a .q) in
-    cross-twice (a .env) (a .count) (a .cell) (now (a .v)) (now (a .ix)) _ _ _ _ (s .pre .0 .fits) (a .env .bounds) (a .opened) k _ _ _ vs
-    (rw (m .clip2 .given .1) at (g .ensures)) (c .before .before .cross-at .ensures)
+    by-twice (a .env) (a .count) (a .cell) (now (a .vertices)) (now (a .indexes)) _ (clip k) _ _ _ (s .pre .0 .fits) (does k) (Crossings k .clip-voronoi-edge .ensures) _ (m .clip2 .given .1)
+    (λ x y e f w. rw (e, f, w) at (c .before .before .cross-at .ensures (tookTwo x y)))
 
 pub cross-spec : {M : Type 1} → statement M
 cross-spec =

@@ -5,7 +5,7 @@ use lib.Dec.{eqb}
 use denote.Ref.{now}
 use Rattle.utils.specs.Flat.{points}
 use Rattle.definition.specs.Cell.{link, crossAt}
-use Rattle.clipping.specs.laws.Changes.{alters-refused, alters-cross, linked}
+use Rattle.clipping.specs.laws.EdgeOutcome.{alters-refused, alters-cross, linked}
 use borrow.Author.Needs.{needs}
 use Rattle.clipping.proofs.step.cross_at.Statement.{statement}
 use Rattle.clipping.proofs.step.cross_at.Tie as tie
@@ -17,8 +17,8 @@ returns c =
     let at-start = at-link .before .before .before .before in
     let a = at-start .args in
     let g = at-link .link in
-    let vs = points (a .count) (now (a .v)) in
-    λ ts. alters-refused (a .env .site) (a .count) vs (a .cell) (now (a .ix)) (g .result) _ _ _ _
+    let vs = points (a .count) (now (a .vertices)) in
+    λ ts. alters-refused (a .env .site) (a .count) vs (a .cell) (now (a .indexes)) (g .result) _ _ _ _
     (link (a .env .bounds) (a .env .centers) (a .env .site) vs (a .cell .owners) (a .opened) (a .cell .last) (a .first))
     (g .ensures) (c .if1 .taken) refl
 
@@ -28,9 +28,9 @@ insert-edge-requires c κs =
     let at-start = at-link .before .before .before .before in
     let a = at-start .args in
     let g = at-link .link in
-    let vs = points (a .count) (now (a .v)) in
+    let vs = points (a .count) (now (a .vertices)) in
     let k = g .kept in
-    let h = linked (a .env .site) (a .cell) (now (a .ix)) (g .result) _
+    let h = linked (a .env .site) (a .cell) (now (a .indexes)) (g .result) _
     (link (a .env .bounds) (a .env .centers) (a .env .site) vs (a .cell .owners) (a .opened) (a .cell .last) (a .first)) (g .ensures) (c .before .if1 .left) in
     (record { four = h .0; real = omega arith; room = omega arith }, omega arith)
 
@@ -43,8 +43,8 @@ returns-2 c =
     let a = at-start .args in
     let g = at-link .link in
     let i = c .before .before .before .insert-edge in
-    let vs = points (a .count) (now (a .v)) in
-    λ ts. alters-cross (a .env .site) (a .count) vs (a .cell) (now (a .ix)) (g .result) _ (a .env .bounds) (a .env .centers) (a .first) (a .second)
+    let vs = points (a .count) (now (a .vertices)) in
+    λ ts. alters-cross (a .env .site) (a .count) vs (a .cell) (now (a .indexes)) (g .result) _ (a .env .bounds) (a .env .centers) (a .first) (a .second)
     (a .opened) (eqb (g .result .cell .last) (a .first)) ts (i .result) _
     (link (a .env .bounds) (a .env .centers) (a .env .site) vs (a .cell .owners) (a .opened) (a .cell .last) (a .first))
     (g .ensures) (at-if1 .if1 .left) (i .ensures .0) (i .ensures .1)

@@ -1,65 +1,77 @@
 -- `clipping::step::enter` meets its contract: the crossing as the store has it, then the edge to it, case by case.
-use native.Mathlib.Omega.{arith}
 use mathlib.Core.Path.{refl}
+use native.Mathlib.Omega.{arith}
 use denote.Ref.{now}
+use Prim.Native.Nat.{ℕ}
 use Rattle.utils.specs.Flat.{points}
-use Rattle.definition.specs.Cell.{clipEdge}
-use Rattle.clipping.specs.laws.Changes.{enter-missed, enter-once, enter-twice, once-below, twice-below, fits-up}
+use Rattle.definition.specs.Fault.{Outcome}
+use Rattle.definition.specs.Cell.{EdgeClip, Change, clipEdge, enter, tookOne, tookTwo}
+use Rattle.clipping.specs.laws.EdgeOutcome.{by-missed, by-once, by-twice, room-once, room-twice}
 use borrow.Author.Needs.{needs}
 use Rattle.clipping.proofs.step.enter.Statement.{statement}
 use Rattle.clipping.proofs.step.enter.Tie as tie
 
+-- after the crossings, and the start
+abbrev Crossings : tie.After-slice-known4 → tie.After-clip-voronoi-edge
+Crossings c = c .before .before .before .before
+
+abbrev Entry : tie.After-slice-known4 → tie.Start
+Entry c = Crossings c .before .before .before .before .before
+
+abbrev clip : tie.After-slice-known4 → EdgeClip
+clip c = let a = Entry c .args in clipEdge (a .env .bounds) (a .env .centers) (points (a .count) (now (a .vertices))) (a .q) (a .p)
+
+abbrev does : tie.After-slice-known4 → EdgeClip → Outcome ℕ Change
+does c = let a = Entry c .args in enter (a .env .bounds) (a .env .centers) (a .env .site) (a .cell .owners) (a .cell .last)
+
 enter-at-requires : tie.Need-enter-at-requires
 enter-at-requires c κs =
     let m = c .before .before .before in
-    let g = m .before .before .before .before .before .before .clip-voronoi-edge in
-    let s = m .before .before .before .before .before .before .before .before .before .before .before in
+    let k = m .before .before in
+    let g = Crossings k .clip-voronoi-edge in
+    let s = Entry k in
     let a = s .args in
-    let k = clipEdge (a .env .bounds) (a .env .centers) (points (a .count) (now (a .v))) (a .q) (a .p) in
-    let h = once-below (a .env .centers) (a .env .limit) (a .count) (now (a .v)) (now (a .ix)) _ _ k _ _ (rw (m .clip .given .1) at (g .ensures)) in
-    let kept = g .kept in
-    let r = s .pre in
-    (fits-up _ (s .pre .0 .fits) (omega arith), omega arith)
+    let h = room-once (a .env) (a .count) (a .cell) (now (a .vertices)) (now (a .indexes)) (clip k) _ _ _ (s .pre .0) (g .ensures) (g .kept .1 .0) (m .clip .given .1) in
+    (h .fits, (h .room, h .first, omega (arith, h .more, s .pre .1 .2), h .corners, h .small))
 
 enter-at-requires-2 : tie.Need-enter-at-requires-2
 enter-at-requires-2 c κs =
     let m = c .before .before .before in
-    let g = m .before .before .before .before .before .before .clip-voronoi-edge in
-    let s = m .before .before .before .before .before .before .before .before .before .before .before in
+    let k = m .before .before in
+    let g = Crossings k .clip-voronoi-edge in
+    let s = Entry k in
     let a = s .args in
-    let k = clipEdge (a .env .bounds) (a .env .centers) (points (a .count) (now (a .v))) (a .q) (a .p) in
-    let h = twice-below (a .env .centers) (a .env .limit) (a .count) (now (a .v)) (now (a .ix)) _ _ k _ _ _ (rw (m .clip2 .given .1) at (g .ensures)) in
-    let kept = g .kept in
-    let r = s .pre in
-    (fits-up _ (s .pre .0 .fits) (omega arith), omega arith)
+    let h = room-twice (a .env) (a .count) (a .cell) (now (a .vertices)) (now (a .indexes)) (clip k) _ _ _ (s .pre .0) (g .ensures) (g .kept .1 .0) (m .clip2 .given .1) in
+    (h .0 .fits, (h .0 .room, h .0 .first, omega (arith, h .0 .more, s .pre .1 .2), h .0 .corners, h .0 .small))
 
 returns : tie.Need-returns
+unfolding enter
 returns c =
-    let at-clip-voronoi-edge = c .before .before .before .before .before .before in
-    let g = at-clip-voronoi-edge .clip-voronoi-edge in
-    let s = c .before .before .before .before .before .before .before .before .before .before .before in
+    let k = c .before .before in
+    let s = Entry k in
     let a = s .args in
-    let k = clipEdge (a .env .bounds) (a .env .centers) (points (a .count) (now (a .v))) (a .q) (a .p) in
-    enter-missed (a .env) (a .count) (a .cell) (now (a .v)) (now (a .ix)) _ _ _ _ (s .pre .0 .fits) (a .env .bounds) k (rw (c .enum-told .given .1) at (g .ensures)) refl
+    by-missed (a .env) (a .count) (a .cell) (now (a .vertices)) (now (a .indexes)) _ (clip k) _ _ _ (s .pre .0 .fits) (does k) (Crossings k .clip-voronoi-edge .ensures)
+    (c .enum-told .given .1) (refl, omega arith)
 
 returns-2 : tie.Need-returns-2
+unfolding enter
 returns-2 c =
     let m = c .before .before .before .before .before .before in
-    let g = m .before .before .before .before .before .before .clip-voronoi-edge in
-    let s = m .before .before .before .before .before .before .before .before .before .before .before in
+    let k = m .before .before in
+    let s = Entry k in
     let a = s .args in
-    let k = clipEdge (a .env .bounds) (a .env .centers) (points (a .count) (now (a .v))) (a .q) (a .p) in
-    enter-once (a .env) (a .count) (a .cell) (now (a .v)) (now (a .ix)) _ _ _ _ (s .pre .0 .fits) (a .env .bounds) k _ _ (rw (m .clip .given .1) at (g .ensures)) (c .before .before .enter-at .ensures)
+    by-once (a .env) (a .count) (a .cell) (now (a .vertices)) (now (a .indexes)) _ (clip k) _ _ _ (s .pre .0 .fits) (does k) (Crossings k .clip-voronoi-edge .ensures) _ (m .clip .given .1)
+    (λ x e w. rw (e, w) at (c .before .before .enter-at .ensures (tookOne x)))
 
 returns-3 : tie.Need-returns-3
+unfolding enter
 returns-3 c =
     let m = c .before .before .before .before .before .before in
-    let g = m .before .before .before .before .before .before .clip-voronoi-edge in
-    let s = m .before .before .before .before .before .before .before .before .before .before .before in
+    let k = m .before .before in
+    let s = Entry k in
     let a = s .args in
-    let k = clipEdge (a .env .bounds) (a .env .centers) (points (a .count) (now (a .v))) (a .q) (a .p) in
-    enter-twice (a .env) (a .count) (a .cell) (now (a .v)) (now (a .ix)) _ _ _ _ (s .pre .0 .fits) (a .env .bounds) k _ _ _
-    (rw (m .clip2 .given .1) at (g .ensures)) (c .before .before .enter-at2 .ensures)
+    by-twice (a .env) (a .count) (a .cell) (now (a .vertices)) (now (a .indexes)) _ (clip k) _ _ _ (s .pre .0 .fits) (does k) (Crossings k .clip-voronoi-edge .ensures) _ (m .clip2 .given .1)
+    (λ x y e f w. rw (e, w) at (c .before .before .enter-at2 .ensures (tookTwo x y)))
 
 pub enter-spec : {M : Type 1} → statement M
 enter-spec =

@@ -4,7 +4,7 @@ use denote.Ref.{now}
 use borrow.Author.Tests.{eq-eqb}
 use Rattle.utils.specs.Flat.{points}
 use Rattle.definition.specs.Cell.{insertEdge, enterAt}
-use Rattle.clipping.specs.laws.Changes.{alters-enter}
+use Rattle.clipping.specs.laws.EdgeOutcome.{alters-enter}
 use borrow.Author.Needs.{needs}
 use Rattle.clipping.proofs.step.enter_at.Statement.{statement}
 use Rattle.clipping.proofs.step.enter_at.Tie as tie
@@ -15,8 +15,8 @@ returns c =
     let at-start = c .before .before .before .before .before .before .before in
     let a = at-start .args in
     let g = c .before .before .before .insert-edge in
-    let vs = points (a .count) (now (a .v)) in
-    λ ts. alters-enter (a .env .site) (a .count) vs (a .cell) (now (a .ix)) (g .result) _ ts
+    let vs = points (a .count) (now (a .vertices)) in
+    λ ts. alters-enter (a .env .site) (a .count) vs (a .cell) (now (a .indexes)) (g .result) _ ts
     (insertEdge (a .env .bounds) (a .env .centers) (a .env .site) vs (a .cell .owners) (a .cell .last) (a .cell .last) (a .first))
     (rw (eq-eqb (a .cell .last) (a .cell .last) refl) at (g .ensures .0))
 

@@ -2,7 +2,7 @@
 use native.Mathlib.Omega.{arith}
 use denote.Ref.{now}
 use Rattle.utils.specs.Flat.{points}
-use Rattle.clipping.specs.laws.Changes.{link-opened, link-closed}
+use Rattle.clipping.specs.laws.EdgeOutcome.{link-opened, link-closed}
 use borrow.Author.Needs.{needs}
 use Rattle.clipping.proofs.step.link.Statement.{statement}
 use Rattle.clipping.proofs.step.link.Tie as tie
@@ -17,13 +17,13 @@ returns c =
     let at-start = c .before .before .before .before .before .before .before in
     let a = at-start .args in
     let g = c .before .before .insert-edge in
-    link-opened (a .env .bounds) (a .env .centers) (a .env .site) (points (a .count) (now (a .v))) (a .cell) (now (a .ix)) (a .first) (a .opened)
+    link-opened (a .env .bounds) (a .env .centers) (a .env .site) (points (a .count) (now (a .vertices))) (a .cell) (now (a .indexes)) (a .first) (a .opened)
     (g .result) _ (c .before .before .before .before .if1 .taken) (g .ensures .0)
 
 returns-2 : tie.Need-returns-2
 returns-2 c =
     let a = c .before .before .before .args in
-    link-closed (a .env .bounds) (a .env .centers) (a .env .site) (points (a .count) (now (a .v))) (a .cell) (now (a .ix)) (a .first) (a .opened)
+    link-closed (a .env .bounds) (a .env .centers) (a .env .site) (points (a .count) (now (a .vertices))) (a .cell) (now (a .indexes)) (a .first) (a .opened)
     (c .if1 .left) (c .before .before .before .pre .0 .four)
 
 pub link-spec : {M : Type 1} → statement M

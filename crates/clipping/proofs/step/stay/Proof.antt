@@ -2,7 +2,7 @@
 use native.Mathlib.Omega.{arith}
 use mathlib.Core.Path.{refl}
 use Rattle.definition.specs.Cell.{plain}
-use Rattle.clipping.specs.laws.Entries.{puts-more}
+use Rattle.clip_corners.specs.laws.CellEntries.{puts-more}
 use borrow.Author.Needs.{needs}
 use Rattle.clipping.proofs.step.stay.Statement.{statement}
 use Rattle.clipping.proofs.step.stay.Tie as tie

@@ -4,18 +4,18 @@ use Prim.Native.Nat.{_-_}
 use native.Mathlib.Omega.{arith}
 use borrow.Author.Needs.{needs}
 use borrow.Author.Tests.{not-true, not-false}
-use Rattle.rings.specs.laws.Centring.{Centring, centring-start, centring-bad, centring-step, centring-end}
+use Rattle.rings.specs.laws.Centers.{CentersTo, centers-start, centers-bad, centers-step, centers-end}
 use Rattle.rings.proofs.centers.calculate_circumcenters.Statement.{statement}
 use Rattle.rings.proofs.centers.calculate_circumcenters.Tie as tie
 
 abbrev Inv-loop : tie.InvT-loop
-Inv-loop sites triangles v₀ count t₀ v t = Centring sites triangles count v₀ v t
+Inv-loop sites triangles v₀ count t₀ v t = CentersTo sites triangles count v₀ v t
 
 abbrev μ-loop : tie.MeasureT-loop
 μ-loop sites triangles v₀ count t₀ v t = count - t
 
 loop-holds : tie.Need-loop-holds Inv-loop μ-loop
-loop-holds c = centring-start _ _ _ _
+loop-holds c = centers-start _ _ _ _
 
 center-at-requires : tie.Need-center-at-requires Inv-loop μ-loop
 center-at-requires c κs =
@@ -28,24 +28,24 @@ same-length c = c .before .before .before .before .loop .inv .long
 returns : tie.Need-returns Inv-loop μ-loop
 returns c =
     let l = c .before .before .before .before in
-    centring-bad _ _ _ _ _ _ (l .loop .inv) (omega arith) _ _ (c .before .before .center-at .ensures) (sym (c .before .centre-ok .ensures) ∙ not-true _ (c .if1 .taken))
+    centers-bad _ _ _ _ _ _ (l .loop .inv) (omega arith) _ _ (c .before .before .center-at .ensures) (sym (c .before .center-ok .ensures) ∙ not-true _ (c .if1 .taken))
 
 put-requires : tie.Need-put-requires Inv-loop μ-loop
 put-requires c κs = let l = c .before .before .before .before .before in omega (arith, l .loop .inv .long, l .before .before .before .before .pre .1)
 
 loop-again : tie.Need-loop-again Inv-loop μ-loop
 loop-again c =
-    let at-centre-ok = c .before .before .before .before .before in
-    let at-center-at = at-centre-ok .before in
+    let at-center-ok = c .before .before .before .before .before in
+    let at-center-at = at-center-ok .before in
     let l = c .before .before .before .before .before .before .before .before in
-    centring-step _ _ _ _ _ _ (l .loop .inv) (omega arith) (l .before .before .before .before .pre .1) _ _ (c .before .before .put .ensures)
-    (at-center-at .center-at .ensures) (sym (at-centre-ok .centre-ok .ensures) ∙ not-false _ (c .before .before .before .before .if1 .left))
+    centers-step _ _ _ _ _ _ (l .loop .inv) (omega arith) (l .before .before .before .before .pre .1) _ _ (c .before .before .put .ensures)
+    (at-center-at .center-at .ensures) (sym (at-center-ok .center-ok .ensures) ∙ not-false _ (c .before .before .before .before .if1 .left))
 
 same-length-2 : tie.Need-same-length-2 Inv-loop μ-loop
 same-length-2 c = c .before .loop .inv .long
 
 returns-2 : tie.Need-returns-2 Inv-loop μ-loop
-returns-2 c = centring-end _ _ _ _ _ _ (c .before .loop .inv) (omega arith)
+returns-2 c = centers-end _ _ _ _ _ _ (c .before .loop .inv) (omega arith)
 
 pub calculate-circumcenters-spec : {M : Type 1} → statement M
 calculate-circumcenters-spec =

@@ -1,6 +1,6 @@
 -- `rings::centers::center_at` meets its contract: the three reads name sites, and the operations are the definition's.
 use native.Mathlib.Omega.{arith}
-use Rattle.definition.specs.Build.{centreAt}
+use Rattle.definition.specs.Build.{centerAt}
 use borrow.Author.Needs.{needs}
 use Rattle.rings.proofs.centers.center_at.Statement.{statement}
 use Rattle.rings.proofs.centers.center_at.Tie as tie
@@ -19,7 +19,7 @@ point-at-requires-3 c κs =
     rw (c .wide3 .ensures) (at-start .pre .0 _ (omega arith))
 
 returns : tie.Need-returns
-unfolding centreAt
+unfolding centerAt
 returns c =
     let at-wide2 = c .before .before .before .before .before in
     let at-point-at = at-wide2 .before .before in

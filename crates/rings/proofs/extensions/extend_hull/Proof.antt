@@ -5,7 +5,7 @@ use native.Mathlib.Omega.{arith}
 use lib.ListN.{length}
 use borrow.Author.Needs.{needs}
 use borrow.Author.Tests.{not-true, not-false}
-use Rattle.rings.specs.laws.Extending.{Extending, extending-start, extending-bad, extending-step, extending-end, turn-edge, turn-centre, turn-room}
+use Rattle.rings.specs.laws.Extensions.{Extending, extending-start, extending-bad, extending-step, extending-end, turn-edge, turn-center, turn-room}
 use Rattle.rings.proofs.extensions.extend_hull.Statement.{statement}
 use Rattle.rings.proofs.extensions.extend_hull.Tie as tie
 
@@ -38,7 +38,7 @@ extend-voronoi-vertex-requires c κs =
           (c .before .before .loop-test .taken)),
       l .loop .inv .holds .room,
       rw e
-          (turn-centre _ _ _ _ _ _ _ _ _ _ (Entry (c .before .before .before) .pre) _ _ _ _ (c .before .before .before .loop .inv) (c .before .before .loop-test .taken)),
+          (turn-center _ _ _ _ _ _ _ _ _ _ (Entry (c .before .before .before) .pre) _ _ _ _ (c .before .before .before .loop .inv) (c .before .before .loop-test .taken)),
     )
 
 same-length : tie.Need-same-length Inv-loop μ-loop
@@ -64,29 +64,29 @@ add-new-vertex-requires c κs =
     let at-loop = at-loop-test .before in
     (at-loop .loop .inv .holds, turn-room _ _ _ _ _ _ _ _ _ _ (Entry (at-loop) .pre) _ _ _ _ (at-loop .loop .inv) (at-loop-test .loop-test .taken))
 
-cast-ix : tie.Need-cast-ix Inv-loop μ-loop
-cast-ix c =
+cast-indexes : tie.Need-cast-indexes Inv-loop μ-loop
+cast-indexes c =
     let at-add-new-vertex = c .before .before .before .before .before in
     let at-loop-test = at-add-new-vertex .before .before .before .before .before .before .before .before in
     let l = c .before .before .before .before .before .before .before .before .before .before .before .before .before .before in
     let a = at-add-new-vertex .add-new-vertex .ensures .0 in omega (arith, a .below, a .high, l .loop .inv .grown, at-loop-test .loop-test .taken, Entry l .pre .small)
 
-add-ix : tie.Need-add-ix Inv-loop μ-loop
-add-ix c =
+add-indexes : tie.Need-add-indexes Inv-loop μ-loop
+add-indexes c =
     let at-add-new-vertex = c .before .before .before .before .before in
     let at-loop-test = at-add-new-vertex .before .before .before .before .before .before .before .before in
     let l = c .before .before .before .before .before .before .before .before .before .before .before .before .before .before in
     let x = Entry l .pre in omega (arith, at-loop-test .loop-test .taken, x .room-ix, x .limited, l .loop .inv .long-ix, at-add-new-vertex .add-new-vertex .kept .1 .0)
 
-mul-ix : tie.Need-mul-ix Inv-loop μ-loop
-mul-ix c =
+mul-indexes : tie.Need-mul-indexes Inv-loop μ-loop
+mul-indexes c =
     let at-add-new-vertex = c .before .before .before .before .before in
     let at-loop-test = at-add-new-vertex .before .before .before .before .before .before .before .before in
     let l = c .before .before .before .before .before .before .before .before .before .before .before .before .before .before in
     let x = Entry l .pre in omega (arith, at-loop-test .loop-test .taken, x .room-ix, x .limited, l .loop .inv .long-ix, at-add-new-vertex .add-new-vertex .kept .1 .0, x .small-ix)
 
-slice-write-ix : tie.Need-slice-write-ix Inv-loop μ-loop
-slice-write-ix c =
+slice-write-indexes : tie.Need-slice-write-indexes Inv-loop μ-loop
+slice-write-indexes c =
     let at-add-new-vertex = c .before .before .before .before .before in
     let at-loop-test = at-add-new-vertex .before .before .before .before .before .before .before .before in
     let l = c .before .before .before .before .before .before .before .before .before .before .before .before .before .before in
@@ -120,5 +120,5 @@ pub extend-hull-spec : {M : Type 1} → statement M
 extend-hull-spec =
     tie.close
     (tie.spec Inv-loop μ-loop loop-holds hull-edge-requires extend-voronoi-vertex-requires (λ c κs. search needs)
-    same-length same-length-2 returns add-new-vertex-requires cast-ix add-ix mul-ix slice-write-ix (λ c. omega arith)
+    same-length same-length-2 returns add-new-vertex-requires cast-indexes add-indexes mul-indexes slice-write-indexes (λ c. omega arith)
     (λ c. omega arith) loop-again same-length-3 same-length-4 returns-2)

@@ -1,6 +1,6 @@
 -- `rings::extensions::extend_voronoi_vertex` meets its contract: the circumcenter and the edge's two sites are the definition's.
-use Rattle.mesh.specs.Laws.{next-lt}
-use Rattle.rings.specs.Extensions.{extended-is}
+use Rattle.mesh.specs.laws.Next.{next-lt}
+use Rattle.rings.specs.laws.Extensions.{extended-is}
 use borrow.Author.Needs.{needs}
 use Rattle.rings.proofs.extensions.extend_voronoi_vertex.Statement.{statement}
 use Rattle.rings.proofs.extensions.extend_voronoi_vertex.Tie as tie

@@ -1,7 +1,7 @@
 -- `rings::extensions::projected` meets its contract: the operations are the definition's, and the root of what fits is the one that computes.
 use lib.Ieee.{binary64}
 use lib.Ieee.Fits.{add-fits}
-use Rattle.root.specs.SqrtLaws.{root-is-sqrt}
+use Rattle.root.specs.SqrtIsRoot.{root-is-sqrt}
 use Rattle.rings.specs.Extensions.{projectedOf}
 use borrow.Author.Needs.{needs}
 use Rattle.rings.proofs.extensions.projected.Statement.{statement}

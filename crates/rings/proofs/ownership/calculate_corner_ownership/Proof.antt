@@ -1,6 +1,6 @@
 -- `rings::ownership::calculate_corner_ownership` meets its contract: four paths, each begun where the one before ended.
 use native.Mathlib.Omega.{arith}
-use Rattle.rings.specs.laws.Owning.{four-owners}
+use Rattle.rings.specs.laws.Ownership.{four-owners}
 use borrow.Author.Needs.{needs}
 use Rattle.rings.proofs.ownership.calculate_corner_ownership.Statement.{statement}
 use Rattle.rings.proofs.ownership.calculate_corner_ownership.Tie as tie

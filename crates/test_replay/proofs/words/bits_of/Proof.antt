@@ -1,5 +1,5 @@
 -- `test_replay::words::bits_of` meets its contract: a float that equals itself is no NaN.
-use Rattle.root.specs.Tests.{no-nan}
+use Rattle.root.specs.laws.Tests.{no-nan}
 use Rattle.test_replay.specs.laws.Reading.{bits-nan, bits-number}
 use Rattle.test_replay.proofs.words.bits_of.Statement.{statement}
 use Rattle.test_replay.proofs.words.bits_of.Tie as tie

@@ -3,7 +3,7 @@ use mathlib.Core.Path.{_≡_, refl, _∙_}
 use native.Mathlib.Omega.{arith}
 use borrow.Author.Needs.{needs}
 use Rattle.mesh.specs.Mesh.{endOf}
-use Rattle.unclipped.specs.laws.Rings.{site-place, start-place, walk-place, staged-place, ring-kept, ring-drawn}
+use Rattle.unclipped.specs.laws.Fills.{site-place, start-place, walk-place, staged-place, ring-kept, ring-drawn}
 use Rattle.unclipped.proofs.fill.fill_ring.Statement.{statement}
 use Rattle.unclipped.proofs.fill.fill_ring.Tie as tie
 

@@ -1,6 +1,6 @@
 -- The inner check finds the fault and leaves the work slice; the answer is its number.
 use borrow.Author.Needs.{needs}
-use Rattle.voronoi.specs.Meshes.{numbered}
+use Rattle.voronoi.specs.laws.Meshes.{numbered}
 use Rattle.voronoi.proofs.meshes.voronoi_check.Statement.{statement}
 use Rattle.voronoi.proofs.meshes.voronoi_check.Tie as tie
 

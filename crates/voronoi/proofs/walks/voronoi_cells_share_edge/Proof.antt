@@ -1,11 +1,11 @@
 -- The query's answer, as 1 or 0 in the lent number.
-use Rattle.voronoi.specs.Walks.{told}
+use Rattle.voronoi.specs.laws.Walks.{told}
 use borrow.Author.Needs.{needs}
 use Rattle.voronoi.proofs.walks.voronoi_cells_share_edge.Statement.{statement}
 use Rattle.voronoi.proofs.walks.voronoi_cells_share_edge.Tie as tie
 
 returns : tie.Need-returns
-returns c = told (c .before .cells-share-edge .ensures) _ (c .flag .ensures)
+returns c = told (c .before .cells-share-edge .ensures) _ (c .yes .ensures)
 
 pub voronoi-cells-share-edge-spec : {M : Type 1} → statement M
 voronoi-cells-share-edge-spec =

@@ -1,13 +1,11 @@
 -- The query's answer, its count and its end in the lent numbers.
-use Rattle.voronoi.specs.Walks.{clipped}
+use Rattle.voronoi.specs.laws.Walks.{handed}
 use borrow.Author.Needs.{needs}
 use Rattle.voronoi.proofs.walks.voronoi_clipped_neighbours.Statement.{statement}
 use Rattle.voronoi.proofs.walks.voronoi_clipped_neighbours.Tie as tie
 
 returns : tie.Need-returns
-returns c =
-    let at-clipped-neighbours = c .before .before .before .before .before in
-    clipped _ _ _ _ _ _ _ _ _ _ (c .flag .ensures) _ _ _ (at-clipped-neighbours .clipped-neighbours .ensures)
+returns c = handed (c .before .before .before .before .before .clipped-neighbours .ensures) _ (c .yes .ensures)
 
 pub voronoi-clipped-neighbours-spec : {M : Type 1} → statement M
 voronoi-clipped-neighbours-spec =

@@ -1,13 +1,11 @@
 -- The query's answer, its count and its end in the lent numbers.
-use Rattle.voronoi.specs.Walks.{neighboured}
+use Rattle.voronoi.specs.laws.Walks.{handed}
 use borrow.Author.Needs.{needs}
 use Rattle.voronoi.proofs.walks.voronoi_neighbours.Statement.{statement}
 use Rattle.voronoi.proofs.walks.voronoi_neighbours.Tie as tie
 
 returns : tie.Need-returns
-returns c =
-    let at-neighbours = c .before .before .before .before .before in
-    neighboured _ _ _ _ _ _ _ _ _ _ (c .flag .ensures) _ (at-neighbours .neighbours .ensures)
+returns c = handed (c .before .before .before .before .before .neighbours .ensures) _ (c .yes .ensures)
 
 pub voronoi-neighbours-spec : {M : Type 1} → statement M
 voronoi-neighbours-spec =

@@ -1,13 +1,11 @@
 -- The query's answer, its count and its end in the lent numbers.
-use Rattle.voronoi.specs.Walks.{pathed}
+use Rattle.voronoi.specs.laws.Walks.{handed}
 use borrow.Author.Needs.{needs}
 use Rattle.voronoi.proofs.walks.voronoi_path.Statement.{statement}
 use Rattle.voronoi.proofs.walks.voronoi_path.Tie as tie
 
 returns : tie.Need-returns
-returns c =
-    let at-path = c .before .before .before .before .before in
-    pathed _ _ _ _ _ _ _ _ _ _ (c .flag .ensures) _ _ (at-path .path .ensures)
+returns c = handed (c .before .before .before .before .before .path .ensures) _ (c .yes .ensures)
 
 pub voronoi-path-spec : {M : Type 1} → statement M
 voronoi-path-spec =

@@ -1,6 +1,6 @@
 -- The query's answer, its half-edge in the lent number.
 use borrow.Author.Needs.{needs}
-use Rattle.voronoi.specs.Walks.{found}
+use Rattle.voronoi.specs.laws.Walks.{found}
 use Rattle.voronoi.proofs.walks.voronoi_shared_edge.Statement.{statement}
 use Rattle.voronoi.proofs.walks.voronoi_shared_edge.Tie as tie
 

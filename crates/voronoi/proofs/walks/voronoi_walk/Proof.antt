@@ -1,13 +1,11 @@
 -- The query's answer, its count and its end in the lent numbers.
-use Rattle.voronoi.specs.Walks.{walked}
+use Rattle.voronoi.specs.laws.Walks.{handed}
 use borrow.Author.Needs.{needs}
 use Rattle.voronoi.proofs.walks.voronoi_walk.Statement.{statement}
 use Rattle.voronoi.proofs.walks.voronoi_walk.Tie as tie
 
 returns : tie.Need-returns
-returns c =
-    let at-walk = c .before .before .before .before .before in
-    walked _ _ _ _ _ _ _ _ _ _ (c .flag .ensures) _ (at-walk .walk .ensures)
+returns c = handed (c .before .before .before .before .before .walk .ensures) _ (c .yes .ensures)
 
 pub voronoi-walk-spec : {M : Type 1} → statement M
 voronoi-walk-spec =

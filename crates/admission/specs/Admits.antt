@@ -1,0 +1,32 @@
+-- The number of a call on a lent mesh up to rule 10: that of the first rule that is broken.
+use mathlib.Core.Path.{_≡_}
+use mathlib.Core.Bool.{Bool, true}
+use mathlib.Core.List.{List, [], _∷_, _++_}
+use Prim.Native.Nat.{ℕ}
+use lib.Ieee.{Float}
+use lib.ListN.{length}
+use Rattle.laws.specs.Refusals.{Rule, once, reads, Finds}
+use Rattle.mesh.specs.Rules.{numberOf, startRules, coordinateRules, callRules}
+use Rattle.mesh.specs.Accepted.{Accepted}
+
+-- what the call's own arguments gave: a number, 0 where they are sound
+abbrev pub askedRules : ℕ → List (Rule ℕ)
+askedRules asked = once asked (asked ≡ 0) ∷ []
+
+-- before rule 7: `roomy` is the test of rule 2
+abbrev pub earlyRules : List Float → ℕ → ℕ → ℕ → Bool → ℕ → List (Rule ℕ)
+earlyRules sites entries halfedges hull roomy asked =
+    reads numberOf (startRules (length sites) entries halfedges hull (roomy ≡ true)) ++ askedRules asked ++ reads numberOf (coordinateRules sites)
+
+pub record Early (sites : List Float) (entries halfedges hull : ℕ) (roomy : Bool) (asked r : ℕ) : Type 0 where
+  pub found : Finds (earlyRules sites entries halfedges hull roomy asked) 0 r
+
+-- up to rule 10
+pub record Admits (sites : List Float) (tri he hull : List ℕ) (roomy : Bool) (asked r : ℕ) : Type 0 where
+  pub found : Finds (callRules sites tri he hull (roomy ≡ true) (askedRules asked)) 0 r
+
+-- 0: the mesh is accepted, there is room, and the arguments are sound
+pub record Admitted (sites : List Float) (tri he hull : List ℕ) (roomy : Bool) (asked : ℕ) : Type 0 where
+  pub accepted : Accepted sites tri he hull
+  pub roomed : roomy ≡ true
+  pub fit : asked ≡ 0

@@ -1,0 +1,5 @@
+pub mod Asks
+pub mod Admits
+pub mod Slices
+pub mod Admission
+pub mod laws

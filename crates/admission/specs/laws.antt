@@ -1,0 +1,8 @@
+-- Laws that only proofs use.
+pub mod Admits
+pub mod Early
+pub mod Asks
+pub mod Lists
+pub mod LeftmostTable
+pub mod BuildRoom
+pub mod BuildAdmission

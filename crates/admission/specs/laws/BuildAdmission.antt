@@ -1,0 +1,46 @@
+-- The rules up to 10 with a build's own rule 2, and the lent slices after them.
+use mathlib.Core.Path.{_≡_, sym, _∙_}
+use mathlib.Core.Bool.{Bool, true}
+use mathlib.Core.List.{List, []}
+use Prim.Native.Nat.{ℕ, _≤_, _<_}
+use native.Mathlib.Nat.{sub-zero}
+use lib.Ieee.{Float}
+use lib.ListN.{length, replicate}
+use borrow.Author.Tests.{lt-ltb, le-ltb}
+use Rattle.laws.specs.Binary64.{zero}
+use Rattle.numbers.specs.Numbers.{EMPTY, refusedTriangle}
+use Rattle.layout.specs.Outputs.{padded}
+use Rattle.admission.specs.Slices.{slices, roomOf}
+use Rattle.admission.specs.Admission.{Admission, RoomAnswer, BuildAdmission}
+use Rattle.admission.specs.laws.Admits.{admits-room}
+
+module _ (sites : List Float) (tri he hull : List ℕ) (asked : ℕ) (w w′ : List ℕ) (v : List Float) (ix off c : List ℕ) (roomy : Bool) (r : ℕ)
+    (room : RoomAnswer (length sites) (length tri) (length he) (length hull) (length w) (length v) (length ix) (length off) (length c) roomy)
+    (a : Admission sites tri he hull roomy asked w w′ r) where
+  -- where rule 1 is broken the test of rule 2 does not count
+  admission : Admission sites tri he hull (roomOf sites tri hull (slices w v ix off c)) asked w w′ r
+  admission = record {
+    number = record { found = admits-room sites tri he hull (roomOf sites tri hull (slices w v ix off c) ≡ true) (λ k. (λ e. sym (room .right k) ∙ e, λ e. room .right k ∙ e)) (a .number) };
+    work = a .work;
+  }
+
+  -- up to 6 and after 0 no output has changed
+  pub left-alone : r < refusedTriangle → BuildAdmission sites tri he hull asked (slices w v ix off c) (slices w′ v ix off c) r
+  left-alone l = record {
+    admission = admission;
+    vertices = rw (lt-ltb r refusedTriangle l);
+    indexes = rw (lt-ltb r refusedTriangle l);
+    offsets = rw (lt-ltb r refusedTriangle l);
+    counts = rw (lt-ltb r refusedTriangle l);
+  }
+
+  -- from 7 on all are cleared
+  pub all-cleared : refusedTriangle ≤ r → (v′ : List Float) (ix′ off′ c′ : List ℕ) → v′ ≡ padded (length v) zero [] → ix′ ≡ padded (length ix) EMPTY []
+      → off′ ≡ padded (length off) EMPTY [] → c′ ≡ replicate (length c) EMPTY → BuildAdmission sites tri he hull asked (slices w v ix off c) (slices w′ v′ ix′ off′ c′) r
+  all-cleared l v′ ix′ off′ c′ qv qi qo qc = record {
+    admission = admission;
+    vertices = rw (le-ltb r refusedTriangle l) (qv ∙ rw sub-zero);
+    indexes = rw (le-ltb r refusedTriangle l) (qi ∙ rw sub-zero);
+    offsets = rw (le-ltb r refusedTriangle l) (qo ∙ rw sub-zero);
+    counts = rw (le-ltb r refusedTriangle l) qc;
+  }

@@ -1,0 +1,44 @@
+-- How the tests before rule 7 lead to their number, and how what rules 7 to 10 find follows them.
+use mathlib.Core.Path.{_≡_, sym, ap, _∙_}
+use mathlib.Core.Bool.{Bool}
+use mathlib.Core.List.{List}
+use mathlib.Core.Logic.{_≢_}
+use Prim.Native.Nat.{ℕ, _<_}
+use native.Mathlib.Omega.{arith}
+use lib.Ieee.{Float}
+use lib.ListN.{length}
+use borrow.Author.Needs.{needs}
+use Rattle.laws.specs.Refusals.{reads, Keep}
+use Rattle.laws.specs.laws.Refusals.{finds-keep, finds-answers, finds-first, finds-after, finds-reads}
+use Rattle.mesh.specs.declared.MeshFault.{MeshFault}
+use Rattle.mesh.specs.Rules.{numberOf, topologyRules}
+use Rattle.mesh.specs.Accepted.{siteCount}
+use Rattle.mesh.specs.Mesh.{leftmostIn}
+use Rattle.check_mesh.specs.Answers.{TopologyAnswer, workAfter}
+use Rattle.check_mesh.specs.laws.AtExit.{exit-held}
+use Rattle.numbers.specs.Numbers.{EMPTY, refusedTriangle}
+use Rattle.admission.specs.Admits.{earlyRules, Early}
+use Rattle.admission.specs.Admission.{Admission}
+
+-- what rules 7 to 10 are told
+pub passed : {sites : List Float} {entries halfedges hull : ℕ} {roomy : Bool} {asked r : ℕ} → Early sites entries halfedges hull roomy asked r
+    → r ≡ 0 → Keep (earlyRules sites entries halfedges hull roomy asked)
+passed e z = finds-keep (λ r. r ≡ 0) (search needs) z (e .found)
+
+module _ (sites : List Float) (tri he hull : List ℕ) (roomy : Bool) (asked : ℕ) {r : ℕ} (e : Early sites (length tri) (length he) (length hull) roomy asked r) where
+  -- an early refusal leaves the work slice as it was
+  pub refused-early : (old : List ℕ) → asked < refusedTriangle → r ≢ 0 → Admission sites tri he hull roomy asked old old r
+  refused-early old l n =
+      let small : r < refusedTriangle = finds-answers (λ r. r < refusedTriangle) (omega arith) (search needs) (e .found) in
+      record {
+        number = record { found = finds-first (reads numberOf (topologyRules tri he hull (siteCount sites))) n (e .found) };
+        work = sym (exit-held EMPTY (leftmostIn tri he (siteCount sites) (length old)) old r n small);
+      }
+
+  -- else rules 7 to 10 answer
+  pub judged-late : r ≡ 0 → {s : ℕ} {f : MeshFault} {old new : List ℕ} → TopologyAnswer tri he hull (siteCount sites) old new f
+      → s ≡ numberOf f → Admission sites tri he hull roomy asked old new s
+  judged-late z {old = old} a q = record {
+    number = rw q (record { found = finds-after (earlyRules sites (length tri) (length he) (length hull) roomy asked) (passed e z) (finds-reads numberOf (a .verdict)) });
+    work = a .work ∙ ap (workAfter tri he (siteCount sites) old) (sym q);
+  }

@@ -1,0 +1,218 @@
+// The rules up to 10 that a call tries on what it is lent: 1 and 2 on counts and room, 3 to 5 on its own arguments, 6 on coordinates, 7 to 10 on the mesh; and 16 on cells.
+use bounding_box::box_ok;
+use layout::outputs::clear_all;
+use layout::outputs::rooms_ok;
+use utils::Point;
+ghost use mathlib.Core.Path.{_≡_};
+ghost use mathlib.Core.Bool.{true};
+ghost use Prim.Native.Nat.{_-_, _/_, _<_, _≤_};
+ghost use lib.ListN.{length};
+ghost use Rattle.laws.specs.Decide.{Says};
+ghost use Rattle.numbers.specs.Numbers.{refusedTriangle};
+ghost use Rattle.admission.specs.Asks.{siteRules, pathRules, Asked, boxAsk, CellsOf};
+ghost use Rattle.admission.specs.Admits.{Early};
+ghost use Rattle.admission.specs.Slices.{slices};
+ghost use Rattle.admission.specs.Admission.{Admission, ListAdmission, RoomAnswer, BuildAdmission};
+
+// Rule 4.
+pub fn ask_site(sites: usize, site: u32) -> u32
+    ensures { λ r. ⌜ Asked (siteRules sites site) r ⌝ }
+{
+    if numbers::wide(site) < sites {
+        return 0;
+    }
+    numbers::REFUSED_SITE
+}
+
+// Rules 4 and 5.
+pub fn ask_path(sites: usize, site: u32, p: Point) -> u32
+    ensures { λ r. ⌜ Asked (pathRules sites site p) r ⌝ }
+{
+    if sites <= numbers::wide(site) {
+        return numbers::REFUSED_SITE;
+    }
+    if utils::site_ok(p) {
+        return 0;
+    }
+    numbers::REFUSED_DESTINATION
+}
+
+// Rules 1, 2, what the call asks of its own arguments, and 6; 0 where all hold.
+fn early(
+    sites: &[f64],
+    entries: usize,
+    halfedges: usize,
+    hull: usize,
+    roomy: bool,
+    asked: u32,
+) -> u32
+    ensures { λ r. ⌜ Early (now (sites .entry)) entries halfedges hull roomy asked r ⌝ }
+{
+    if !check_mesh::counts_ok(sites.len(), entries, halfedges, hull) {
+        return numbers::REFUSED_COUNT;
+    }
+    if !roomy {
+        return numbers::REFUSED_ROOM;
+    }
+    if asked != 0 {
+        return asked;
+    }
+    if utils::first_bad_site(sites) < sites.len() / 2 {
+        return numbers::REFUSED_COORDINATE;
+    }
+    0
+}
+
+// The rules that a call on a mesh tries, up to 10. After 7 to 10 the work slice is `EMPTY`, after 0 it holds the leftmost table and then `EMPTY`.
+pub fn admit(
+    sites: &[f64],
+    triangles: &[u32],
+    halfedges: &[u32],
+    hull: &[u32],
+    roomy: bool,
+    asked: u32,
+    work: &mut [u32],
+) -> u32
+    requires { ⌜ (roomy ≡ true → length (now sites) / 2 ≤ length (now work)) × (asked < refusedTriangle) ⌝ }
+    ensures { λ r. ⌜ Admission (now (sites .entry)) (now (triangles .entry)) (now (halfedges .entry)) (now (hull .entry)) roomy asked (now (work .entry)) (now (work .exit)) r ⌝ }
+{
+    let e = early(
+        sites,
+        triangles.len(),
+        halfedges.len(),
+        hull.len(),
+        roomy,
+        asked,
+    );
+    if e != 0 {
+        return e;
+    }
+    check_mesh::number(check_mesh::check_topology(
+        triangles,
+        halfedges,
+        hull,
+        sites.len() / 2,
+        work,
+    ))
+}
+
+// The same with an output slice, which is `EMPTY` after 7 to 10.
+pub fn admit_list(
+    sites: &[f64],
+    triangles: &[u32],
+    halfedges: &[u32],
+    hull: &[u32],
+    asked: u32,
+    work: &mut [u32],
+    out: &mut [u32],
+) -> u32
+    requires { ⌜ asked < refusedTriangle ⌝ }
+    ensures { λ r. ⌜ ListAdmission (now (sites .entry)) (now (triangles .entry)) (now (halfedges .entry)) (now (hull .entry)) asked
+        (now (work .entry)) (now (work .exit)) (now (out .entry)) (now (out .exit)) r ⌝ }
+{
+    let roomy = sites.len() / 2 <= work.len();
+    let number = admit(sites, triangles, halfedges, hull, roomy, asked, work);
+    if number < numbers::REFUSED_TRIANGLE {
+        return number;
+    }
+    mesh::clear(out);
+    number
+}
+
+// Rule 16.
+pub fn cells_ok(offsets: &[u32], indexes: &[u32], sites: usize) -> bool
+    ensures { λ r. ⌜ Says r (CellsOf (now (offsets .entry)) (now (indexes .entry)) sites) ⌝ }
+{
+    if offsets.len() == 0 {
+        return false;
+    }
+    if offsets.len() - 1 != sites {
+        return false;
+    }
+    shared::check_cells(offsets, indexes.len())
+}
+
+// The sites that so many offsets have cells for.
+pub fn cell_count(offsets: usize) -> usize
+    ensures { λ r. ⌜ r ≡ offsets - 1 ⌝ }
+{
+    if offsets == 0 {
+        return 0;
+    }
+    offsets - 1
+}
+
+// Rule 2 on all that a build is lent, by the lengths of its slices; no where rule 1 is broken.
+fn room_for(
+    coordinates: usize,
+    entries: usize,
+    halfedges: usize,
+    hull: usize,
+    work: usize,
+    numbers: usize,
+    indexes: usize,
+    offsets: usize,
+    counts: usize,
+) -> bool
+    ensures { λ r. ⌜ RoomAnswer coordinates entries halfedges hull work numbers indexes offsets counts r ⌝ }
+{
+    if !check_mesh::counts_ok(coordinates, entries, halfedges, hull) {
+        return false;
+    }
+    let sites = coordinates / 2;
+    if work < sites {
+        return false;
+    }
+    if counts < 6 {
+        return false;
+    }
+    rooms_ok(entries / 3, hull, sites, numbers, indexes, offsets)
+}
+
+// Rule 3.
+pub fn ask_box(center: Point, width: f64, height: f64) -> u32
+    ensures { λ r. ⌜ (r ≡ boxAsk center width height) × (r < refusedTriangle) ⌝ }
+{
+    if box_ok(center, width, height) {
+        return 0;
+    }
+    numbers::REFUSED_BOX
+}
+
+// The rules up to 10. After 7 to 10 every lent slice is cleared.
+pub fn admit_build(
+    sites: &[f64],
+    triangles: &[u32],
+    halfedges: &[u32],
+    hull: &[u32],
+    asked: u32,
+    work: &mut [u32],
+    vertices: &mut [f64],
+    indexes: &mut [u32],
+    offsets: &mut [u32],
+    counts: &mut [u32],
+) -> u32
+    requires { ⌜ asked < refusedTriangle ⌝ }
+    ensures { λ r. ⌜ BuildAdmission (now (sites .entry)) (now (triangles .entry)) (now (halfedges .entry)) (now (hull .entry)) asked
+        (slices (now (work .entry)) (now (vertices .entry)) (now (indexes .entry)) (now (offsets .entry)) (now (counts .entry)))
+        (slices (now (work .exit)) (now (vertices .exit)) (now (indexes .exit)) (now (offsets .exit)) (now (counts .exit))) r ⌝ }
+{
+    let roomy = room_for(
+        sites.len(),
+        triangles.len(),
+        halfedges.len(),
+        hull.len(),
+        work.len(),
+        vertices.len(),
+        indexes.len(),
+        offsets.len(),
+        counts.len(),
+    );
+    let r = admit(sites, triangles, halfedges, hull, roomy, asked, work);
+    if r < numbers::REFUSED_TRIANGLE {
+        return r;
+    }
+    clear_all(vertices, indexes, offsets);
+    mesh::clear(counts);
+    r
+}

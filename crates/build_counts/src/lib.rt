@@ -1,0 +1,63 @@
+// The end of a build: its counts, or, where it is refused, the counts and the work slice cleared.
+use cell_finish::CellsAnswer;
+use layout::fill_from;
+use numbers::EMPTY;
+ghost use mathlib.Core.Path.{_≡_};
+ghost use Prim.Native.Nat.{_/_, _≤_, _<_};
+ghost use lib.ListN.{length, replicate};
+ghost use Rattle.numbers.specs.Numbers.{EMPTY};
+ghost use Rattle.layout.specs.Outputs.{padded};
+ghost use Rattle.build_counts.specs.Counts.{countsOf, EndedBuild};
+
+// The number of vertices, the corners' owners and the lost corners, then `EMPTY`.
+fn put_counts(vertices: u32, owners: [u32; 4], lost: u32, counts: &mut [u32])
+    requires { ⌜ 6 ≤ length (now counts) ⌝ }
+    ensures { λ _. ⌜ now (counts .exit) ≡ padded (length (now (counts .entry))) EMPTY (countsOf vertices owners lost) ⌝ }
+{
+    counts[0] = vertices;
+    counts[1] = owners[0];
+    counts[2] = owners[1];
+    counts[3] = owners[2];
+    counts[4] = owners[3];
+    counts[5] = lost;
+    fill_from(counts, 6, EMPTY);
+}
+
+// The counts of a build with this number; refused, they and the work slice are cleared.
+fn finish(
+    number: u32,
+    vertices: u32,
+    owners: [u32; 4],
+    lost: u32,
+    work: &mut [u32],
+    counts: &mut [u32],
+)
+    requires { ⌜ 6 ≤ length (now counts) ⌝ }
+    ensures { λ _. ⌜ EndedBuild number (countsOf vertices owners lost) (now (work .entry)) (now (counts .entry)) (now (work .exit)) (now (counts .exit)) ⌝ }
+{
+    if number != 0 {
+        mesh::clear(work);
+        mesh::clear(counts);
+        return;
+    }
+    put_counts(vertices, owners, lost, counts);
+}
+
+// The same of a clipped build with this answer.
+pub fn finish_clipped(a: CellsAnswer, work: &mut [u32], counts: &mut [u32])
+    requires { ⌜ (a .count < 4294967296) × (6 ≤ length (now counts)) ⌝ }
+    ensures { λ _. ⌜ EndedBuild (a .fault .number) (countsOf (a .count) (a .owners) (a .lost)) (now (work .entry)) (now (counts .entry)) (now (work .exit)) (now (counts .exit)) ⌝ }
+{
+    let fault = a.fault;
+    let owners = a.owners;
+    finish(fault.number, a.count as u32, owners, a.lost, work, counts);
+}
+
+// The same of an unclipped one: a vertex for each triangle, no corner owned and none lost.
+pub fn finish_unclipped(number: u32, entries: usize, work: &mut [u32], counts: &mut [u32])
+    requires { ⌜ (entries < 4294967296) × (6 ≤ length (now counts)) ⌝ }
+    ensures { λ _. ⌜ EndedBuild number (countsOf (entries / 3) (replicate 4 EMPTY) 0) (now (work .entry)) (now (counts .entry)) (now (work .exit)) (now (counts .exit)) ⌝ }
+{
+    let vertices = entries / 3;
+    finish(number, vertices as u32, [EMPTY; 4], 0, work, counts);
+}

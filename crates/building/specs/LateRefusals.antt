@@ -1,0 +1,169 @@
+-- Theorem: a build is refused with a number from 11 to 15, so that no refusal is taken for an earlier one or for none.
+use mathlib.Core.Bool.{Bool, true, false, _&&_}
+use mathlib.Core.List.{List, [], _∷_, _++_}
+use Prim.Native.Nat.{ℕ, zero, suc, _/_, _≤_}
+use native.Mathlib.Omega.{arith}
+use lib.Dec.{ltb}
+use lib.Ieee.{Float}
+use lib.ListN.{length, getD, replicate}
+use Rattle.laws.specs.Pick.{pick}
+use Rattle.numbers.specs.Numbers.{refusedCircumcenter, refusedNoCrossing, refusedOneCrossing, refusedNoSide}
+use Rattle.utils.specs.Rules.{okCenter}
+use Rattle.utils.specs.declared.Point.{Point}
+use Rattle.bounding_box.specs.Box.{cornersOf}
+use Rattle.bounding_box.specs.declared.BoundingBox.{BoundingBox}
+use Rattle.mesh.specs.Mesh.{endOf, leftmostOf}
+use Rattle.mesh.specs.Accepted.{siteCount}
+use Rattle.definition.specs.declared.Fault.{Fault}
+use Rattle.definition.specs.Fault.{Outcome, ok, refused, andThen, atEdge}
+use Rattle.definition.specs.Cell.{EdgeClip, missed, once, twice, Tip, Taken, insertAt, insertEdge, leave, enterAt, enter, link, crossAt}
+use Rattle.definition.specs.Cell.{cross, clipStep, stepTo, stepsTo, clipFrom, firstInside, clipCell}
+use Rattle.definition.specs.Build.{CellState, Extensions, centerAt, centersFrom, extended, extensions, extendFrom, finite, hullRing, ringFrom, cellState}
+use Rattle.definition.specs.Build.{clipInto, clipHull, isEmpty, clipRest, clipAll, build}
+use Rattle.definition.specs.Unclipped.{unclipped}
+
+-- what holds of a refusal, where there is one
+abbrev pub Refuses : {F A : Type 0} → (F → Type 0) → Outcome F A → Type 0
+Refuses P (ok a) = Unit {0}
+Refuses P (refused f) = P f
+
+-- 11 to 15
+pub record Late (n : ℕ) : Type 0 where
+  pub least : refusedCircumcenter ≤ n
+  pub most : n ≤ refusedNoSide
+
+late-then : {F A B : Type 0} (P : F → Type 0) (o : Outcome F A) (k : A → Outcome F B) → Refuses P o → ((a : A) → Refuses P (k a)) → Refuses P (andThen o k)
+unfolding andThen
+late-then P (ok a) k h f = f a
+late-then P (refused e) k h f = h
+
+late-at : {A : Type 0} (site p q : ℕ) (o : Outcome ℕ A) → Refuses Late o → Refuses (λ (f : Fault). Late (f .number)) (atEdge site p q o)
+unfolding atEdge
+late-at site p q (ok a) h = tt
+late-at site p q (refused n) h = h
+
+both : {F A : Type 0} (P : F → Type 0) (t : Bool) (f g : Unit {0} → Outcome F A) → Refuses P (f tt) → Refuses P (g tt) → Refuses P (pick t f g)
+both P true f g h k = h
+both P false f g h k = k
+
+no-crossing : Late refusedNoCrossing
+no-crossing = record { least = omega arith; most = omega arith }
+
+one-crossing : Late refusedOneCrossing
+one-crossing = record { least = omega arith; most = omega arith }
+
+no-side : Late refusedNoSide
+no-side = record { least = omega arith; most = omega arith }
+
+-- ---- one edge
+module _ (b : BoundingBox) (nc site : ℕ) where
+  at-side : (last first second : ℕ) (os : List ℕ) (f s : ℕ) → Refuses Late (insertAt nc site last first second os f s)
+  unfolding insertAt
+  at-side last first second os f s = both Late (ltb f 4) _ _ (both Late (ltb s 4) _ _ tt no-side) no-side
+
+  insert : (vs : List Point) (os : List ℕ) (last first second : ℕ) → Refuses Late (insertEdge b nc site vs os last first second)
+  unfolding insertEdge
+  insert vs os last first second = at-side last first second os _ _
+
+  leaves : (p : ℕ) (os : List ℕ) (c : EdgeClip) → Refuses Late (leave p os c)
+  unfolding leave
+  leaves p os missed = no-crossing
+  leaves p os (once r) = tt
+  leaves p os (twice r t) = tt
+
+  enters-at : (vs : List Point) (os : List ℕ) (last first : ℕ) (ts : List Taken) → Refuses Late (enterAt b nc site vs os last first ts)
+  unfolding enterAt
+  enters-at vs os last first ts = late-then Late (insertEdge b nc site vs os last last first) _ (insert vs os last last first) (λ i. tt)
+
+  enters : (os : List ℕ) (last : ℕ) (c : EdgeClip) → Refuses Late (enter b nc site os last c)
+  unfolding enter
+  enters os last missed = no-crossing
+  enters os last (once r) = enters-at _ os last _ _
+  enters os last (twice r t) = enters-at _ os last _ _
+
+  links : (vs : List Point) (os : List ℕ) (opened : Bool) (last first : ℕ) → Refuses Late (link b nc site vs os opened last first)
+  unfolding link
+  links vs os opened last first = both Late opened _ _ (insert vs os last last first) tt
+
+  crosses : (vs : List Point) (os : List ℕ) (opened : Bool) (last : ℕ) (c : EdgeClip) → Refuses Late (cross b nc site vs os opened last c)
+  unfolding cross crossAt
+  crosses vs os opened last missed = tt
+  crosses vs os opened last (once r) = late-then Late (link b nc site (r .verts) os opened last (r .at)) _ (links _ os opened last _) (λ i. one-crossing)
+  crosses vs os opened last (twice r t) =
+      late-then Late (link b nc site (t .verts) os opened last (r .at)) _ (links _ os opened last _) λ i.
+      late-then Late (insertEdge b nc site (t .verts) (i .owners) _ (r .at) (t .at)) _ (insert _ _ _ _ _) (λ j. tt)
+
+  steps : (p : ℕ) (pIn : Bool) (q : ℕ) (qIn : Bool) (vs : List Point) (os : List ℕ) (opened : Bool) (last : ℕ) → Refuses Late (clipStep b nc site p pIn q qIn vs os opened last)
+  unfolding clipStep
+  steps p pIn q qIn vs os opened last =
+      both Late pIn _ _ (both Late qIn _ _ tt (leaves p os _)) (both Late qIn _ _ (enters os last _) (crosses vs os opened last _))
+
+-- ---- a cell, all cells, the build
+abbrev pub Numbered : Fault → Type 0
+Numbered f = Late (f .number)
+
+module _ (b : BoundingBox) (nc : ℕ) where
+  ring : (site : ℕ) (qs : List ℕ) (t : Tip) → Refuses Numbered (stepsTo b nc site qs t)
+  unfolding stepsTo stepTo
+  ring site [] t = tt
+  ring site (q ∷ qs) t =
+      late-then Numbered (stepTo b nc site t q) _
+      (late-then Numbered (atEdge site (t .p) q _) _ (late-at site (t .p) q _ (steps b nc site (t .p) (t .pIn) q _ (t .verts) (t .owners) (t .opened) (t .last))) (λ d. tt))
+      (λ c. late-then Numbered (stepsTo b nc site qs (c .tip)) _ (ring site qs (c .tip)) (λ d. tt))
+
+  cell : (site : ℕ) (r : List ℕ) (vs : List Point) (os : List ℕ) → Refuses Numbered (clipCell b nc site r vs os)
+  unfolding clipCell clipFrom
+  cell site r vs os = both Numbered (ltb (firstInside b nc vs r) (length r)) _ _ (ring site _ _) (ring site _ _)
+
+  into : (site : ℕ) (r : List ℕ) (s : CellState) → Refuses Numbered (clipInto b nc site r s)
+  unfolding clipInto
+  into site r s = late-then Numbered (clipCell b nc site r (s .verts) (s .owners)) _ (cell site r (s .verts) (s .owners)) (λ c. tt)
+
+  on-hull : (he hull left xs : List ℕ) (i k : ℕ) (s : CellState) → Refuses Numbered (clipHull b nc he hull left xs i k s)
+  unfolding clipHull
+  on-hull he hull left xs i zero s = tt
+  on-hull he hull left xs i (suc k) s =
+      late-then Numbered (clipInto b nc (getD hull i 0) (hullRing he hull left xs i) s) _ (into _ _ s) (λ r. on-hull he hull left xs (suc i) k r)
+
+  on-rest : (tri he : List ℕ) (e k : ℕ) (s : CellState) → Refuses Numbered (clipRest b nc tri he e k s)
+  unfolding clipRest
+  on-rest tri he e zero s = tt
+  on-rest tri he e (suc k) s =
+      late-then Numbered (pick (isEmpty (getD (s .cells) (endOf tri e) [])) (λ _. clipInto b nc (endOf tri e) (ringFrom he e) s) (λ _. ok s)) _
+      (both Numbered (isEmpty (getD (s .cells) (endOf tri e) [])) _ _ (into _ _ s) tt)
+      (λ r. on-rest tri he (suc e) k r)
+
+centers : (sites : List Float) (tri : List ℕ) (t k : ℕ) (vs : List Point) → Refuses Numbered (centersFrom sites tri t k vs)
+unfolding centersFrom
+centers sites tri t zero vs = tt
+centers sites tri t (suc k) vs =
+    both Numbered (okCenter (centerAt sites tri t)) _ _ (centers sites tri (suc t) k _) (record { least = omega arith; most = omega arith })
+
+extends : (sites : List Float) (tri hull left : List ℕ) (nc i k : ℕ) (x : Extensions) → Refuses Numbered (extendFrom sites tri hull left nc i k x)
+unfolding extendFrom
+extends sites tri hull left nc i zero x = tt
+extends sites tri hull left nc i (suc k) x =
+    let p = extended sites tri (x .verts) (getD left _ 0) in
+    both Numbered (finite (p .x) && finite (p .y)) _ _ (extends sites tri hull left nc (suc i) k _) (record { least = omega arith; most = omega arith })
+
+module _ (sites : List Float) (tri he hull : List ℕ) (b : BoundingBox) where
+  all-cells : (left : List ℕ) (n : ℕ) (owners : List ℕ) (x : Extensions) → Refuses Numbered (clipAll b (length tri / 3) tri he hull left n owners x)
+  unfolding clipAll
+  all-cells left n owners x =
+      late-then Numbered (clipHull b (length tri / 3) he hull left (x .at) 0 (length hull) (cellState (x .verts) owners (replicate n []) (x .steps)))
+      (λ s. clipRest b (length tri / 3) tri he 0 (length tri) s)
+      (on-hull b (length tri / 3) he hull left (x .at) 0 (length hull) _)
+      (λ s. on-rest b (length tri / 3) tri he 0 (length tri) s)
+
+  pub build-late : Refuses Numbered (build sites tri he hull b)
+  unfolding build
+  build-late =
+      late-then Numbered (centersFrom sites tri 0 (length tri / 3) []) _ (centers sites tri 0 (length tri / 3) []) λ c.
+      late-then Numbered (extendFrom sites tri hull (leftmostOf tri he (siteCount sites)) (length tri / 3) 0 (length hull)
+      (extensions (c ++ cornersOf b) [] [])) _ (extends sites tri hull (leftmostOf tri he (siteCount sites)) (length tri / 3) 0 (length hull) _) λ x.
+      late-then Numbered (clipAll b (length tri / 3) tri he hull (leftmostOf tri he (siteCount sites)) (siteCount sites) _ x) _
+      (all-cells (leftmostOf tri he (siteCount sites)) (siteCount sites) _ x) (λ s. tt)
+
+pub unclipped-late : (sites : List Float) (tri he : List ℕ) → Refuses Numbered (unclipped sites tri he)
+unfolding unclipped
+unclipped-late sites tri he = late-then Numbered (centersFrom sites tri 0 (length tri / 3) []) _ (centers sites tri 0 _ []) (λ c. tt)

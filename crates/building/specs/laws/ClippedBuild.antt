@@ -1,0 +1,85 @@
+-- The clipped build: what rule 3 and the rules up to 10 give the cell builder, and the promise from its answer.
+use mathlib.Core.Path.{_≡_, refl, sym, _∙_}
+use mathlib.Core.List.{List}
+use mathlib.Core.Logic.{_≢_}
+use Prim.Native.Nat.{ℕ, _+_, _*_, _/_, _≤_, _<_}
+use native.Mathlib.Omega.{arith}
+use lib.Ieee.{Float}
+use lib.ListN.{length, take}
+use Rattle.utils.specs.declared.Point.{Point}
+use Rattle.bounding_box.specs.Box.{madeOf}
+use Rattle.bounding_box.specs.Finite.{BoundedBox}
+use Rattle.bounding_box.specs.declared.BoundingBox.{BoundingBox}
+use Rattle.mesh.specs.Accepted.{siteCount}
+use Rattle.definition.specs.declared.Fault.{Fault}
+use Rattle.definition.specs.Fault.{Outcome, ok, refused}
+use Rattle.definition.specs.Build.{Built, build}
+use Rattle.definition.specs.laws.Gives.{Gives, gives-map}
+use Rattle.definition.specs.laws.Built as theorems
+use Rattle.layout.specs.Outputs.{countNumbers, faultOf, BuiltInto}
+use Rattle.cell_finish.specs.declared.CellsAnswer.{CellsAnswer}
+use Rattle.cell_builder.specs.AdmittedBuild.{AdmittedBuild}
+use Rattle.cell_finish.specs.Finish.{outcomeAnswer}
+use Rattle.admission.specs.Asks.{boxAsk}
+use Rattle.admission.specs.Slices.{Slices, slices}
+use Rattle.admission.specs.Admission.{BuildAdmission}
+use Rattle.build_counts.specs.Counts.{countsOf, EndedBuild}
+use Rattle.building.specs.Promise.{ClippedBuild}
+use Rattle.building.specs.LateRefusals.{Refuses, Numbered, build-late}
+use Rattle.building.specs.Success.{box-admitted}
+use Rattle.building.specs.laws.BuildAnswer.{answers-early, mesh-of, fit-of, rooms-of, table-is, answers-built}
+
+-- ---- the builder's answer
+module _ (o : Outcome Fault Built) (x : CellsAnswer) (q : x ≡ outcomeAnswer o) where
+  answer-fault : x .fault ≡ faultOf o
+  answer-fault = rw q (go o)
+    where
+      go : (o : Outcome Fault Built) → outcomeAnswer o .fault ≡ faultOf o
+      go (ok b) = refl
+      go (refused e) = refl
+
+  answer-counts : Refuses Numbered o → faultOf o .number ≡ 0 → countsOf (x .count) (x .owners) (x .lost) ≡ countNumbers o
+  unfolding countNumbers
+  answer-counts late z = rw q (go o late z)
+    where
+      go : (o : Outcome Fault Built) → Refuses Numbered o → faultOf o .number ≡ 0 → countsOf (outcomeAnswer o .count) (outcomeAnswer o .owners) (outcomeAnswer o .lost) ≡ countNumbers o
+      go (ok b) l e = refl
+      go (refused f) l e = absurd (omega (arith, l .least))
+
+  -- so many vertices that their number fits
+  answer-few : (m : ℕ) → Gives (λ (b : Built). length (b .verts) ≤ m) o → x .count ≤ m
+  answer-few m g = rw q (go o g)
+    where
+      go : (o : Outcome Fault Built) → Gives (λ (b : Built). length (b .verts) ≤ m) o → outcomeAnswer o .count ≤ m
+      go (ok b) h = h
+      go (refused f) h = omega arith
+
+-- ---- the whole
+module _ {sites : List Float} {tri he hull : List ℕ} {asked : ℕ} {old new : Slices} {r : ℕ} (a : BuildAdmission sites tri he hull asked old new r)
+    (c : Point) (w h : Float) (ask : asked ≡ boxAsk c w h) where
+  pub clipped-early : r ≢ 0 → ClippedBuild sites tri he hull c w h old new r
+  clipped-early n = rw (← ask) (answers-early a (build sites tri he hull (madeOf c w h)) n)
+
+  module _ (z : r ≡ 0) (b : BoundingBox) (made : b ≡ madeOf c w h) where
+    bounded : BoundedBox 101 b
+    bounded = rw made (box-admitted c w h (sym ask ∙ fit-of a z))
+
+    pub clipped-asks : AdmittedBuild sites tri he hull (take (siteCount sites) (new .work)) b (length (new .vertices)) (length (new .indexes)) (length (new .offsets))
+    clipped-asks = record { mesh = mesh-of a z; table-is = table-is a z; box = bounded; rooms = rooms-of a z }
+
+    module _ (x : CellsAnswer) (q : x ≡ outcomeAnswer (build sites tri he hull b)) where
+      pub count-fits : x .count < 4294967296
+      count-fits =
+          let k = mesh-of a z .counts in
+          let few = answer-few (build sites tri he hull b) x q (7 * (length tri / 3) + 5 * length hull + 4)
+          (gives-map _ _ (build sites tri he hull b) (theorems.built (mesh-of a z) bounded) (λ g o. o .1 .vertices)) in
+          omega (arith, few, k .few-triangles, k .hull-of-sites, k .few-sites)
+
+      pub clipped-built : {v : List Float} {ix off w₂ c₂ : List ℕ}
+          → BuiltInto (build sites tri he hull b) (new .vertices) (new .indexes) (new .offsets) v ix off
+          → EndedBuild (x .fault .number) (countsOf (x .count) (x .owners) (x .lost)) (new .work) (new .counts) w₂ c₂
+          → ClippedBuild sites tri he hull c w h old (slices w₂ v ix off c₂) (x .fault .number)
+      clipped-built l f =
+          let o = build sites tri he hull b in
+          let late = build-late sites tri he hull b in
+          rw (← ask, ← made) (answers-built a z o late (x .fault) (answer-fault o x q) l f (answer-counts o x q late))

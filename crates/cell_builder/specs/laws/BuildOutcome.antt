@@ -1,0 +1,207 @@
+-- From the outcomes of the circumcenters, the extensions and the cells to the build's: refused, all slices are cleared; else vertices and cells stand at their beginnings,
+-- and the corners still with their owners are those lost.
+use mathlib.Core.Path.{_≡_, refl, sym, ap, _∙_}
+use mathlib.Core.List.{List, [], _++_, map}
+use mathlib.Core.Logic.{_⊎_, inl, inr, ⊎-elim, _≢_}
+use Prim.Native.Nat.{ℕ, _/_, _≤_, _<_}
+use native.Mathlib.Omega.{arith}
+use lib.Ieee.{Float}
+use lib.ListN.{length, getD, length-map}
+use Rattle.laws.specs.laws.Decide.{eq-or-ne}
+use Rattle.utils.specs.Flat.{points}
+use Rattle.utils.specs.declared.Point.{Point}
+use Rattle.bounding_box.specs.Box.{cornersOf}
+use Rattle.bounding_box.specs.declared.BoundingBox.{BoundingBox}
+use Rattle.vertices.specs.laws.Points.{length-points, points-pour, pour-points}
+use Rattle.mesh.specs.Mesh.{leftmostOf}
+use Rattle.mesh.specs.Accepted.{siteCount}
+use Rattle.layout.specs.laws.Regions.{regions-rising}
+use Rattle.definition.specs.declared.Fault.{Fault}
+use Rattle.definition.specs.Fault.{Outcome, ok, refused, andThen, badCenter}
+use Rattle.definition.specs.Build.{Built, centersFrom, ownersFrom, Extensions, extensions, extendFrom, CellState, clipAll, lostFrom, build}
+use Rattle.definition.specs.laws.Built.{owner-of, lost-is-left}
+use Rattle.definition.specs.Measures.{ownersLeft}
+use Rattle.definition.specs.laws.Owners.{owners-length, ready, towards-corner}
+use Rattle.rings.specs.Centers.{CentersBy}
+use Rattle.rings.specs.Ownership.{Owned}
+use Rattle.layout.specs.Outputs.{vertexNumbers, indexNumbers, offsetNumbers}
+use Rattle.definition.specs.Cell.{unmarked}
+use Rattle.layout.specs.laws.Padded.{poured-cleared}
+use Rattle.cell_finish.specs.declared.Progress.{Progress}
+use Rattle.cell_finish.specs.declared.CellsAnswer.{CellsAnswer}
+use Rattle.cell_tries.specs.CellsInSlices.{ground, frameOf, Amid, Does}
+use Rattle.cell_finish.specs.Finish.{RefusedCells, Finishable}
+use Rattle.cell_builder.specs.AdmittedBuild.{AdmittedBuild}
+use Rattle.cell_builder.specs.Start.{extendedOf, Makeable, Makes, AnsweredBuild, BuiltCells}
+use Rattle.cell_tries.specs.laws.OneTry.{count-is, last-start}
+
+answer-same : {f g : Fault} {c d : ℕ} {o w : List ℕ} {l k : ℕ} → f ≡ g → c ≡ d → o ≡ w → l ≡ k
+    → _≡_ {A = CellsAnswer} (record { fault = f; count = c; owners = o; lost = l }) (record { fault = g; count = d; owners = w; lost = k })
+answer-same p q r s = rw (p, q, r, s)
+
+-- cells that were made can be moved together
+module _ (sites : List Float) (tri he hull table : List ℕ) (b : BoundingBox) (owners : List ℕ) (p : Progress) (v₂ : List Float) (ix₂ off₂ : List ℕ) where
+  amid-finishable : (x : Extensions) (s : CellState) → Amid tri he (frameOf b (length tri) (length hull)) off₂ (ground hull (siteCount sites) owners x) s p v₂ ix₂
+      → Finishable (siteCount sites) (p .count) (length v₂) ix₂ off₂
+  amid-finishable x s a =
+      let wide : length (map unmarked (s .cells)) ≡ siteCount sites = length-map (s .cells) unmarked ∙ a .held .width in
+      record {
+        rising = rw wide at (regions-rising ix₂ off₂ (map unmarked (s .cells)) (a .regions));
+        small = omega (arith, last-start (a .on), a .on .stage, a .on .few-entries, a .on .few-on-hull);
+        room = a .holds .room;
+      }
+
+  pub finishable : (o : Outcome Fault Extensions) → Makes sites tri he hull table b owners o p v₂ ix₂ off₂ → p .fault .number ≡ 0
+      → Finishable (siteCount sites) (p .count) (length v₂) ix₂ off₂
+  finishable (refused e) k q = absurd (omega (arith, k .1, ap (λ (d : Fault). d .number) (k .0)))
+  finishable (ok x) k q = by (clipAll b (length tri / 3) tri he hull table (siteCount sites) owners x) k
+    where
+      by : (o : Outcome Fault CellState) → Does tri he (frameOf b (length tri) (length hull)) off₂ (ground hull (siteCount sites) owners x) o p v₂ ix₂
+          → Finishable (siteCount sites) (p .count) (length v₂) ix₂ off₂
+      by (ok s) d = amid-finishable x s d
+      by (refused e) d = absurd (omega (arith, d .1, ap (λ (f : Fault). f .number) (d .0)))
+
+module _ {sites : List Float} {tri he hull table : List ℕ} {b : BoundingBox} {numbers indexes offsets : ℕ} (m : AdmittedBuild sites tri he hull table b numbers indexes offsets) where
+  abbrev n : ℕ
+  n = siteCount sites
+
+  abbrev T : ℕ
+  T = length tri / 3
+
+  -- the owners as found
+  abbrev found : List ℕ
+  found = ownersFrom sites tri he (leftmostOf tri he n) n (getD hull 0 0) (cornersOf b)
+
+  four-corners : length (cornersOf b) ≡ 4
+  unfolding cornersOf
+  four-corners = refl
+
+  -- ---- owners
+
+  pub owned : Owned sites tri he table b (getD hull 0 0)
+  owned = record {
+    ready = rw (m .table-is) (ready (m .mesh));
+    begun = m .mesh .topology .border .fresh 0 (omega (arith, m .mesh .counts .three-on-hull)) .0;
+    towards = λ k l. towards-corner (m .mesh) (m .box) k l;
+  }
+
+  pub owners-are : {owners : List ℕ} → owners ≡ ownersFrom sites tri he table n (getD hull 0 0) (cornersOf b) → owners ≡ found
+  owners-are q = q ∙ rw (m .table-is)
+
+  pub makeable : (owners : List ℕ) (lv : ℕ) → owners ≡ found → lv ≡ numbers → Makeable sites tri he hull table b owners lv indexes offsets
+  makeable owners lv q ql = rw (q, ql) (record {
+    admitted = m;
+    four = owners-length sites tri he (leftmostOf tri he n) n (getD hull 0 0) (cornersOf b) ∙ four-corners;
+    owner-sites = λ k l. owner-of (m .mesh) (m .box) k l .1;
+  })
+
+  -- ---- the circumcenters
+
+  abbrev outcome : CellState → Built
+  outcome s = record { verts = s .verts; cells = s .cells; owners = found; lost = lostFrom T 4 (s .cells); steps = s .steps }
+
+  abbrev cellsThen : Extensions → Outcome Fault Built
+  cellsThen x = andThen (clipAll b T tri he hull (leftmostOf tri he n) n found x) (λ s. ok (outcome s))
+
+  abbrev centersThen : List Point → Outcome Fault Built
+  centersThen centers = andThen (extendFrom sites tri hull (leftmostOf tri he n) T 0 (length hull) (extensions (centers ++ cornersOf b) [] [])) cellsThen
+
+  module _ (t : ℕ) (v v₁ : List Float) (c : CentersBy (centersFrom sites tri 0 T []) T t v v₁) where
+    offends : t < T → build sites tri he hull b ≡ refused (badCenter t)
+    unfolding build andThen
+    offends h = go (centersFrom sites tri 0 T []) c
+      where
+        go : (o : Outcome Fault (List Point)) → CentersBy o T t v v₁ → andThen o centersThen ≡ refused (badCenter t)
+        go (ok vs) k = absurd (omega (arith, k .0))
+        go (refused f) k = ap refused (k .0)
+
+    goes-on : T ≤ t → build sites tri he hull b ≡ andThen (extendedOf sites tri hull table b T v₁) cellsThen
+    unfolding build andThen
+    goes-on h = rw (m .table-is) (go (centersFrom sites tri 0 T []) c)
+      where
+        go : (o : Outcome Fault (List Point)) → CentersBy o T t v v₁ → andThen o centersThen ≡ andThen (extendedOf sites tri hull (leftmostOf tri he n) b T v₁) cellsThen
+        go (ok vs) k =
+            let q : points T v₁ ≡ vs = rw (k .2, ← k .1) (points-pour vs v) in
+            rw q
+        go (refused f) k = absurd (omega (arith, k .1))
+
+  -- ---- the cells
+
+  module _ (owners : List ℕ) (qo : owners ≡ found) (p : Progress) (v₁ v₂ : List Float) (ix₂ off₂ : List ℕ) where
+    abbrev Refuses : Outcome Fault Built → Type 0
+    Refuses o = (e : Fault) × (o ≡ refused e) × (p .fault ≡ e) × (0 < e .number)
+
+    abbrev Builds : Outcome Fault Built → Type 0
+    Builds o = (x : Extensions) × (s : CellState) × (o ≡ ok (outcome s)) × Amid tri he (frameOf b (length tri) (length hull)) off₂ (ground hull n found x) s p v₂ ix₂
+
+    told : Makes sites tri he hull table b owners (extendedOf sites tri hull table b T v₁) p v₂ ix₂ off₂
+        → Refuses (andThen (extendedOf sites tri hull table b T v₁) cellsThen) ⊎ Builds (andThen (extendedOf sites tri hull table b T v₁) cellsThen)
+    unfolding andThen
+    told k = by (extendedOf sites tri hull table b T v₁) (rw qo at k)
+      where
+        cells-by : (x : Extensions) (o : Outcome Fault CellState)
+            → Does tri he (frameOf b (length tri) (length hull)) off₂ (ground hull n found x) o p v₂ ix₂
+            → Refuses (andThen o (λ s. ok (outcome s))) ⊎ Builds (andThen o (λ s. ok (outcome s)))
+        cells-by x (ok s) d = inr (x, s, refl, d)
+        cells-by x (refused e) d = inl (e, refl, d .0, d .1)
+
+        by : (o : Outcome Fault Extensions) → Makes sites tri he hull table b found o p v₂ ix₂ off₂ → Refuses (andThen o cellsThen) ⊎ Builds (andThen o cellsThen)
+        by (ok x) d = cells-by x (clipAll b T tri he hull (leftmostOf tri he n) n found x) (rw (m .table-is) at d)
+        by (refused e) d = inl (e, refl, d .0, d .1)
+
+    module _ (k : Makes sites tri he hull table b owners (extendedOf sites tri hull table b T v₁) p v₂ ix₂ off₂) where
+      stopped : p .fault .number ≢ 0 → andThen (extendedOf sites tri hull table b T v₁) cellsThen ≡ refused (p .fault)
+      stopped q = ⊎-elim (λ r. r .1 ∙ ap refused (sym (r .2))) (λ r. absurd (q (ap (λ (d : Fault). d .number) (r .3 .fine)))) (told k)
+
+      all-built : p .fault .number ≡ 0 → Builds (andThen (extendedOf sites tri hull table b T v₁) cellsThen)
+      all-built q = ⊎-elim (λ r. absurd (omega (arith, r .3, ap (λ (d : Fault). d .number) (r .2)))) (λ r. r) (told k)
+
+  -- ---- the build's answer and slices
+
+  module _ (v : List Float) (ix off : List ℕ) (r : CellsAnswer) (v₃ : List Float) (ix₃ off₃ : List ℕ) where
+    abbrev With : Outcome Fault Built → Type 0
+    With o = AnsweredBuild o v ix off r v₃ ix₃ off₃
+
+    emptied-with : (e : Fault) (v₂ : List Float) (ix₂ off₂ : List ℕ) → length v₂ ≡ length v → length ix₂ ≡ length ix → length off₂ ≡ length off
+        → RefusedCells e v₂ ix₂ off₂ r v₃ ix₃ off₃ → With (refused e)
+    unfolding vertexNumbers indexNumbers offsetNumbers
+    emptied-with e v₂ ix₂ off₂ qv qi qo z = (z .answer, record { vertices = rw (← qv) (z .vertices); indexes = rw (← qi) (z .indexes); offsets = rw (← qo) (z .offsets) })
+
+    -- a triangle offends
+    pub refused-first : (t : ℕ) (v₁ : List Float) → CentersBy (centersFrom sites tri 0 T []) T t v v₁ → t < T → length v₁ ≡ length v
+        → RefusedCells (badCenter t) v₁ ix off r v₃ ix₃ off₃ → With (build sites tri he hull b)
+    refused-first t v₁ c h qv z = rw (offends t v v₁ c h) (emptied-with (badCenter t) v₁ ix off qv refl refl z)
+
+    module _ (t : ℕ) (v₁ : List Float) (c : CentersBy (centersFrom sites tri 0 T []) T t v v₁) (h : T ≤ t) (long : length v₁ ≡ length v)
+        (owners : List ℕ) (qo : owners ≡ found) (w : BuiltCells sites tri he hull table b owners v₁ ix off r v₃ ix₃ off₃) where
+      abbrev p : Progress
+      p = w .progress
+
+      -- an extension or a cell is refused
+      refused-later : p .fault .number ≢ 0 → With (build sites tri he hull b)
+      refused-later q =
+          rw (goes-on t v v₁ c h ∙ stopped owners qo p v₁ (w .made-v) (w .made-ix) (w .made-off) (w .makes) q)
+          (emptied-with (p .fault) (w .made-v) (w .made-ix) (w .made-off) (w .long-v ∙ long) (w .long-ix) (w .long-off) (w .settled .on-refusal q))
+
+      built-with : p .fault .number ≡ 0 → With (build sites tri he hull b)
+      unfolding vertexNumbers indexNumbers offsetNumbers
+      built-with q =
+          let z = w .settled .on-success q in
+          let m₂ = all-built owners qo p v₁ (w .made-v) (w .made-ix) (w .made-off) (w .makes) q in
+          let s = m₂ .1 in
+          let a = m₂ .3 in
+          let wide : length (map unmarked (s .cells)) ≡ n = length-map (s .cells) unmarked ∙ a .held .width in
+          let g = z .gathered (map unmarked (s .cells)) wide (a .regions) in
+          let lost : ownersLeft (p .owners) ≡ lostFrom T 4 (s .cells) = ap ownersLeft (sym (a .owners)) ∙ sym (lost-is-left (m .mesh) (m .box) _ _ _ s (a .held)) in
+          rw (goes-on t v v₁ c h ∙ m₂ .2) (
+            z .answer ∙ answer-same (a .fine) (count-is a) qo lost,
+            record {
+              vertices = rw (a .verts, ← (w .long-v ∙ long)) (poured-cleared (points (p .count) (w .made-v)) (p .count) (w .made-v) (w .made-v) v₃
+                  (length-points (w .made-v) 0 (p .count)) (a .holds .room) (sym (pour-points (w .made-v) (p .count) (a .holds .room))) (z .vertices));
+              indexes = rw (← w .long-ix) (g .indexes);
+              offsets = rw (← w .long-off) (g .offsets);
+            },
+          )
+
+      pub built-by : With (build sites tri he hull b)
+      built-by = ⊎-elim built-with refused-later (eq-or-ne (p .fault .number) 0)

@@ -1,0 +1,4 @@
+pub mod Cells
+pub mod SharedEdge
+pub mod ReadBack
+pub mod laws

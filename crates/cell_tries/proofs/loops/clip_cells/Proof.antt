@@ -1,0 +1,32 @@
+-- `cell_tries::loops::clip_cells` meets its contract: the hull's refusal is the whole's, else the rest goes on from the cells that the hull's tries gave.
+use borrow.Author.Needs.{needs}
+use Rattle.cell_tries.specs.laws.TryLoops.{cells-refused, cells-amid, cells-end}
+use Rattle.cell_tries.proofs.loops.clip_cells.Statement.{statement}
+use Rattle.cell_tries.proofs.loops.clip_cells.Tie as tie
+
+abbrev Entry : tie.After-clip-hull → tie.Start
+Entry h = h .before .before .before .before .before .before .before .before .before .before
+
+returns : tie.Need-returns
+returns c =
+    let h = c .before .before .before .before .before .before .before in
+    cells-refused _ _ _ _ _ _ _ _ _ _ _ _ (h .clip-hull .ensures) (c .if1 .taken)
+
+clip-rest-requires : tie.Need-clip-rest-requires
+clip-rest-requires c κs =
+    let e = c .before .before in
+    let h = e .before .before .before .before .before .before .before in
+    cells-amid _ _ _ _ _ _ _ _ _ _ _ _ (h .clip-hull .ensures) (e .if1 .left) (Entry h .pre)
+
+returns-2 : tie.Need-returns-2
+returns-2 c =
+    let t = c .before .before .before .before in
+    let e = t .before .before .before in
+    let h = e .before .before .before .before .before .before .before in
+    cells-end _ _ _ _ _ _ _ _ _ _ _ _ (h .clip-hull .ensures) (e .if1 .left) _ _ _ (t .clip-rest .ensures)
+
+pub clip-cells-spec : {M : Type 1} → statement M
+clip-cells-spec =
+    tie.close
+    (tie.spec (λ c κs. search needs) (λ c. search needs) (λ c. search needs) returns clip-rest-requires
+    (λ c. search needs) (λ c. search needs) returns-2)

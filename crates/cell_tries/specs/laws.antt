@@ -1,0 +1,7 @@
+-- Laws that only proofs use.
+pub mod HullAndEdgeTries
+pub mod OneTry
+pub mod OneTurn
+pub mod RegionsKept
+pub mod TriedRings
+pub mod TryLoops

@@ -1,0 +1,134 @@
+// All cells: the hull's in its order, then, half-edge by half-edge, those still empty.
+use crate::Frame;
+use crate::tries::clip_at_hull;
+use crate::turns::clip_turn;
+use cell_finish::Progress;
+ghost use Rattle.cell_tries.specs.CellsInSlices.{HullsAmid, HullsTried, AllTried};
+ghost use Rattle.cell_tries.specs.Turns.{RestAmid, RestTried};
+
+// The cells of all hull sites.
+fn clip_hull(
+    triangles: &[u32],
+    halfedges: &[u32],
+    hull: &[u32],
+    table: &[u32],
+    vertices: &mut [f64],
+    indexes: &mut [u32],
+    offsets: &[u32],
+    f: Frame,
+    p: Progress,
+) -> Progress
+    requires { ⌜ HullsAmid (now triangles) (now halfedges) (now hull) (now table) f (now offsets) p (now vertices) (now indexes) ⌝ }
+    ensures { λ r. ⌜ HullsTried (now (triangles .entry)) (now (halfedges .entry)) (now (hull .entry)) (now (table .entry)) f (now (offsets .entry)) p
+        (now (vertices .entry)) (now (indexes .entry)) r (now (vertices .exit)) (now (indexes .exit)) ⌝ }
+{
+    let mut at = p;
+    let mut i: usize = 0;
+    while i < hull.len() {
+        let r = clip_at_hull(
+            triangles,
+            halfedges,
+            hull,
+            table,
+            vertices,
+            indexes,
+            offsets,
+            f,
+            at,
+            i,
+        );
+        let fault = r.fault;
+        if fault.number != 0 {
+            return r;
+        }
+        at = r;
+        i += 1;
+    }
+    at
+}
+
+// The cells still empty, from each half-edge in turn.
+fn clip_rest(
+    triangles: &[u32],
+    halfedges: &[u32],
+    table: &[u32],
+    vertices: &mut [f64],
+    indexes: &mut [u32],
+    offsets: &[u32],
+    f: Frame,
+    p: Progress,
+) -> Progress
+    requires { ⌜ RestAmid (now triangles) (now halfedges) (now table) f (now offsets) p (now vertices) (now indexes) ⌝ }
+    ensures { λ r. ⌜ RestTried (now (triangles .entry)) (now (halfedges .entry)) (now (table .entry)) f (now (offsets .entry)) p (now (vertices .entry)) (now (indexes .entry))
+        r (now (vertices .exit)) (now (indexes .exit)) ⌝ }
+{
+    let mut at = p;
+    let mut full = true;
+    let mut e: usize = 0;
+    while e < triangles.len() {
+        let t = clip_turn(
+            triangles,
+            halfedges,
+            table,
+            vertices,
+            indexes,
+            offsets,
+            f,
+            at,
+            full,
+            e,
+        );
+        let r = t.progress;
+        let fault = r.fault;
+        if fault.number != 0 {
+            return r;
+        }
+        at = r;
+        full = t.full;
+        e += 1;
+    }
+    at
+}
+
+// All cells.
+pub fn clip_cells(
+    triangles: &[u32],
+    halfedges: &[u32],
+    hull: &[u32],
+    table: &[u32],
+    vertices: &mut [f64],
+    indexes: &mut [u32],
+    offsets: &[u32],
+    f: Frame,
+    p: Progress,
+) -> Progress
+    requires { ⌜ HullsAmid (now triangles) (now halfedges) (now hull) (now table) f (now offsets) p (now vertices) (now indexes) ⌝ }
+    ensures { λ r. ⌜ AllTried (now (triangles .entry)) (now (halfedges .entry)) (now (hull .entry)) (now (table .entry)) f (now (offsets .entry)) p
+        (now (vertices .entry)) (now (indexes .entry)) r (now (vertices .exit)) (now (indexes .exit)) ⌝ }
+{
+    let r = clip_hull(
+        triangles,
+        halfedges,
+        hull,
+        table,
+        vertices,
+        indexes,
+        offsets,
+        f,
+        p,
+    );
+    let fault = r.fault;
+    if fault.number != 0 {
+        return r;
+    }
+    clip_rest(
+        triangles,
+        halfedges,
+        table,
+        vertices,
+        indexes,
+        offsets,
+        f,
+        r,
+    )
+}

@@ -1,0 +1,121 @@
+// One try to clip the cell of a site: its ring is staged in the index list and clipped into the site's region.
+use crate::Frame;
+use cell_finish::Progress;
+use clip_edges::Env;
+use clipping::ring::clip_cell;
+use definition::Fault;
+use interior::all_inside;
+use interior::copy_ring;
+use mesh::end_site;
+use numbers::EMPTY;
+use numbers::wide;
+use staging::stage_hull_ring;
+use staging::stage_ring;
+ghost use Prim.Native.Nat.{_<_};
+ghost use lib.ListN.{length};
+ghost use Rattle.cell_tries.specs.CellsInSlices.{HullAmid, EdgesAmid, HullTried, EdgeTried};
+ghost use Rattle.cell_tries.specs.Tries.{Ringed, Tried};
+
+// Clips the ring that is staged up to `end`; one that lies inside whole is its own cell.
+fn clip_staged(
+    vertices: &mut [f64],
+    indexes: &mut [u32],
+    offsets: &[u32],
+    f: Frame,
+    site: u32,
+    p: Progress,
+    end: usize,
+) -> Progress
+    requires { ⌜ Ringed f site p end (now vertices) (now indexes) (now offsets) ⌝ }
+    ensures { λ r. ⌜ Tried f site p end (now (vertices .entry)) (now (indexes .entry)) (now (offsets .entry)) r (now (vertices .exit)) (now (indexes .exit)) ⌝ }
+{
+    let bounds = f.bounds;
+    let owners = p.owners;
+    let base = wide(offsets[wide(site)]);
+    let len = end - f.stage;
+    if all_inside(vertices, indexes, bounds, f.centers, p.count, f.stage, len) {
+        copy_ring(indexes, base, f.stage, len);
+        return Progress {
+            fault: Fault {
+                number: 0,
+                place: 0,
+                from: 0,
+                to: 0,
+            },
+            count: p.count,
+            owners: owners,
+        };
+    }
+    let env = Env {
+        site: site,
+        bounds: bounds,
+        centers: f.centers,
+        limit: f.limit,
+    };
+    let s = clip_cell(vertices, indexes, env, p.count, owners, base, f.stage, len);
+    let fault = s.fault;
+    let tip = s.tip;
+    let cell = tip.cell;
+    let left = cell.owners;
+    Progress {
+        fault: fault,
+        count: tip.count,
+        owners: left,
+    }
+}
+
+// The cell of the site at hull place i, from its ring with extensions.
+pub fn clip_at_hull(
+    triangles: &[u32],
+    halfedges: &[u32],
+    hull: &[u32],
+    table: &[u32],
+    vertices: &mut [f64],
+    indexes: &mut [u32],
+    offsets: &[u32],
+    f: Frame,
+    p: Progress,
+    i: usize,
+) -> Progress
+    requires { ⌜ HullAmid (now triangles) (now halfedges) (now hull) (now table) f (now offsets) p (now vertices) (now indexes) i ⌝ }
+    ensures { λ r. ⌜ HullTried (now (triangles .entry)) (now (halfedges .entry)) (now (hull .entry)) (now (table .entry)) f (now (offsets .entry)) p
+        (now (vertices .entry)) (now (indexes .entry)) i r (now (vertices .exit)) (now (indexes .exit)) ⌝ }
+{
+    let site = hull[i];
+    let numbers = f.limit - hull.len();
+    let end = stage_hull_ring(
+        triangles,
+        halfedges,
+        hull,
+        table,
+        indexes,
+        f.stage,
+        numbers,
+        i,
+    );
+    clip_staged(vertices, indexes, offsets, f, site, p, end)
+}
+
+// The cell of the site where half-edge e ends, if it is still empty, from the walk that starts there.
+pub fn clip_at_edge(
+    triangles: &[u32],
+    halfedges: &[u32],
+    vertices: &mut [f64],
+    indexes: &mut [u32],
+    offsets: &[u32],
+    f: Frame,
+    p: Progress,
+    e: usize,
+) -> Progress
+    requires { ⌜ EdgesAmid (now triangles) (now halfedges) f (now offsets) p (now vertices) (now indexes) × (e < length (now triangles)) ⌝ }
+    ensures { λ r. ⌜ EdgeTried (now (triangles .entry)) (now (halfedges .entry)) f (now (offsets .entry)) p (now (vertices .entry)) (now (indexes .entry)) e
+        r (now (vertices .exit)) (now (indexes .exit)) ⌝ }
+{
+    let site = end_site(triangles, e);
+    let base = wide(offsets[wide(site)]);
+    if indexes[base] != EMPTY {
+        return p;
+    }
+    let end = stage_ring(triangles, halfedges, e as u32, indexes, f.stage);
+    clip_staged(vertices, indexes, offsets, f, site, p, end)
+}

@@ -1,0 +1,4 @@
+-- Laws that only proofs use.
+pub mod Total
+pub mod Owed
+pub mod Loops

@@ -1,0 +1,4 @@
+-- Laws that only proofs use.
+pub mod Marks
+pub mod Unmarked
+pub mod Loops

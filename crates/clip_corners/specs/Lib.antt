@@ -1,0 +1,2 @@
+pub mod CellEntries
+pub mod laws

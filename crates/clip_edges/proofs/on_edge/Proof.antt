@@ -1,0 +1,16 @@
+-- `clip_edges::on_edge` meets its contract, case by case.
+use borrow.Author.Needs.{needs}
+use Rattle.clip_edges.proofs.on_edge.Statement.{statement}
+use Rattle.clip_edges.proofs.on_edge.Tie as tie
+
+returns-2 : tie.Need-returns-2
+returns-2 c = cc
+
+returns-3 : tie.Need-returns-3
+returns-3 c = cc
+
+pub on-edge-spec : {M : Type 1} → statement M
+on-edge-spec =
+    tie.close
+    (tie.spec (λ c. search needs) (λ c. search needs) (λ c. search needs) (λ c κs. search needs) (λ c. search needs)
+    returns-2 returns-3)

@@ -1,0 +1,2 @@
+pub mod EdgeClip
+pub mod laws

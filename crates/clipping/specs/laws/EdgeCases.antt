@@ -1,0 +1,192 @@
+-- One edge of the ring as the definition has it: the four cases, the refusal's place, the walk's next state.
+use Prim.Native.Nat.{ℕ, _*_, _≤_, _<_}
+use mathlib.Core.Path.{_≡_, refl, sym, ap, _∙_}
+use mathlib.Core.Bool.{Bool, true, false, true≢false}
+use mathlib.Core.List.{List, [], _∷_, _++_}
+use mathlib.Core.Logic.{⊎-elim}
+use native.Mathlib.Omega.{arith}
+use lib.Ieee.{Float, nan}
+use lib.ListN.{take}
+use borrow.Author.Tests.{lt-ltb, le-ltb}
+use Rattle.laws.specs.laws.Decide.{lt-or-ge}
+use Rattle.numbers.specs.Numbers.{refusedOneCrossing}
+use Rattle.utils.specs.Plane.{at}
+use Rattle.utils.specs.declared.Point.{Point}
+use Rattle.utils.specs.Flat.{points}
+use Rattle.bounding_box.specs.Box.{insideOf}
+use Rattle.bounding_box.specs.declared.BoundingBox.{BoundingBox}
+use Rattle.vertices.specs.laws.Store.{poured-points, kept-vertex}
+use Rattle.definition.specs.Fault.{Outcome, ok, refused, andThen, fault, atEdge}
+use Rattle.definition.specs.declared.Fault.{Fault}
+use Rattle.definition.specs.Cell as Def
+use Rattle.definition.specs.Cell.{entry, plain, Taken, tookTwo, Ins, lastOr, insertEdge, EdgeClip, missed, once, twice, Change, change, clipStep, clipEdge}
+use Rattle.definition.specs.Cell.{leave, enter, link, crossAt, cross, inBox, vertexAt, moved, stepTo}
+use Rattle.clipping.specs.EdgeOutcome.{Changes}
+use Rattle.clipping.specs.RingWalk.{tipOf, Steps}
+use Rattle.clip_edges.specs.declared.Env.{Env}
+use Rattle.clip_corners.specs.declared.CellSoFar.{CellSoFar}
+use Rattle.clipping.specs.declared.Changed.{Changed}
+use Rattle.clipping.specs.declared.Tip.{Tip}
+use Rattle.clipping.specs.declared.RingStepped.{RingStepped}
+
+-- ---- the four cases
+
+module _ (b : BoundingBox) (nc site p : ℕ) (pIn : Bool) (q : ℕ) (qIn : Bool) (vs : List Point) (os : List ℕ) (opened : Bool) (last : ℕ) where
+  pub step-stay : pIn ≡ true → qIn ≡ true → clipStep b nc site p pIn q qIn vs os opened last ≡ ok (change vs os (entry plain p ∷ []) opened [])
+  unfolding clipStep
+  step-stay h k = rw (h, k)
+
+  pub step-leave : pIn ≡ true → qIn ≡ false → clipStep b nc site p pIn q qIn vs os opened last ≡ leave p os (clipEdge b nc vs p q)
+  unfolding clipStep
+  step-leave h k = rw (h, k)
+
+  pub step-enter : pIn ≡ false → qIn ≡ true → clipStep b nc site p pIn q qIn vs os opened last ≡ enter b nc site os last (clipEdge b nc vs q p)
+  unfolding clipStep
+  step-enter h k = rw (h, k)
+
+  pub step-cross : pIn ≡ false → qIn ≡ false → clipStep b nc site p pIn q qIn vs os opened last ≡ cross b nc site vs os opened last (clipEdge b nc vs p q)
+  unfolding clipStep
+  step-cross h k = rw (h, k)
+
+-- ---- inside
+
+module _ (b : BoundingBox) (nc : ℕ) (vs : List Point) (i : ℕ) where
+  pub in-center : i < nc → inBox b nc vs i ≡ insideOf b (vertexAt vs i)
+  unfolding inBox
+  in-center h = rw (lt-ltb i nc h)
+
+  pub in-none : nc ≤ i → inBox b nc vs i ≡ false
+  unfolding inBox
+  in-none h = rw (le-ltb i nc h)
+
+-- ---- the refusal's place, and the next state
+
+module _ (env : Env) (t : Tip) (q : ℕ) (qIn : Bool) (v : List Float) (ix : List ℕ) (d : Changed) (v₁ : List Float) (ix₁ : List ℕ) where
+  -- the definition's step with its test of q answered
+  abbrev stepWith : Outcome ℕ Change → Outcome Fault Def.RingPart
+  stepWith o = andThen (atEdge (env .site) (t .vertex) q o) (λ (c : Change). ok (moved (tipOf t v) q qIn c))
+
+  abbrev caseOf : Outcome ℕ Change
+  caseOf = clipStep (env .bounds) (env .centers) (env .site) (t .vertex) (t .inside) q qIn (points (t .count) v) (t .cell .owners) (t .opened) (t .cell .last)
+
+  step-is : qIn ≡ inBox (env .bounds) (env .centers) (points (t .count) v) q → stepTo (env .bounds) (env .centers) (env .site) (tipOf t v) q ≡ stepWith caseOf
+  unfolding stepTo
+  step-is e = rw e
+
+  pub step-refused :
+      qIn ≡ inBox (env .bounds) (env .centers) (points (t .count) v) q
+      → Changes env (t .count) caseOf (t .cell) v ix d v₁ ix₁
+      → (d .refusal ≡ 0 → ⊥)
+      → (r : RingStepped)
+      → r .fault ≡ fault (d .refusal) (env .site) (t .vertex) q
+      → Steps env 1 (stepTo (env .bounds) (env .centers) (env .site) (tipOf t v) q) (t .count) (t .cell) v ix r v₁ ix₁
+  unfolding andThen atEdge
+  step-refused e h n r f = rw (step-is e) (go caseOf h)
+    where
+      go : (o : Outcome ℕ Change) → Changes env (t .count) o (t .cell) v ix d v₁ ix₁ → Steps env 1 (stepWith o) (t .count) (t .cell) v ix r v₁ ix₁
+      go (ok c) g = absurd (n (g .0))
+      go (refused k) g = (f ∙ ap (λ (m : ℕ). fault m (env .site) (t .vertex) q) (g .0), g .1)
+
+  pub step-done :
+      qIn ≡ inBox (env .bounds) (env .centers) (points (t .count) v) q
+      → Changes env (t .count) caseOf (t .cell) v ix d v₁ ix₁
+      → d .refusal ≡ 0
+      → Steps env 1 (stepTo (env .bounds) (env .centers) (env .site) (tipOf t v) q) (t .count) (t .cell) v ix
+      (record { fault = fault 0 0 0 0; tip = record { cell = d .cell; count = d .count; vertex = q; inside = qIn; opened = d .opened } }) v₁ ix₁
+  unfolding andThen atEdge
+  step-done e h z = rw (step-is e) (go caseOf h)
+    where
+      go :
+          (o : Outcome ℕ Change)
+          → Changes env (t .count) o (t .cell) v ix d v₁ ix₁
+          → Steps env 1 (stepWith o) (t .count) (t .cell) v ix
+          (record { fault = fault 0 0 0 0; tip = record { cell = d .cell; count = d .count; vertex = q; inside = qIn; opened = d .opened } }) v₁ ix₁
+      go (ok c) g = (
+        refl,
+        rw (poured-points (g .4 .verts), g .4 .puts .owners, g .4 .puts .last, g .1),
+        g .3,
+        g .4,
+      )
+      go (refused k) g = let a = g .0 in let b = g .1 in absurd (omega arith)
+
+pub changes-low :
+    (env : Env) (count : ℕ) (cell : CellSoFar) (v : List Float) (ix : List ℕ) (r : Changed) (v₁ : List Float) (ix₁ : List ℕ) (o : Outcome ℕ Change)
+    → Changes env count o cell v ix r v₁ ix₁
+    → r .refusal ≡ 0
+    → (count ≤ r .count) × (r .opened ≡ true → r .cell .last < r .count)
+changes-low env count cell v ix r v₁ ix₁ (ok d) h z = (h .3 .low, h .2)
+changes-low env count cell v ix r v₁ ix₁ (refused k) h z = let a = h .0 in let b = h .1 in absurd (omega arith)
+
+-- ---- a cell that is left outside and not open was outside and not open before
+
+abbrev pub Out : Bool → Bool → Outcome ℕ Change → Type 0
+Out pIn opened (ok d) = d .opened ≡ false → (pIn ≡ false) × (opened ≡ false)
+Out pIn opened (refused k) = Unit
+
+leave-out : (p : ℕ) (os : List ℕ) (opened : Bool) (k : EdgeClip) → Out true opened (leave p os k)
+unfolding leave
+leave-out p os opened missed = tt
+leave-out p os opened (once a) = λ e. absurd (true≢false e)
+leave-out p os opened (twice a b) = λ e. absurd (true≢false e)
+
+module _ (b : BoundingBox) (nc site : ℕ) (vs : List Point) (os : List ℕ) (opened : Bool) (last : ℕ) where
+  lone-out : (o : Outcome ℕ Ins) → Out false opened (andThen o (λ (i : Ins). refused refusedOneCrossing))
+  unfolding andThen
+  lone-out (ok i) = tt
+  lone-out (refused k) = tt
+
+  second-out : (ws : List Point) (i : Ins) (ts : List Taken) (o : Outcome ℕ Ins) → Out false opened (andThen o (λ (j : Ins). ok (change ws (j .owners) (i .new ++ j .new) opened ts)))
+  unfolding andThen
+  second-out ws i ts (ok j) = λ e. (refl, e)
+  second-out ws i ts (refused k) = tt
+
+  cross-at-out : (ws : List Point) (first second : ℕ) (ts : List Taken) → Out false opened (crossAt b nc site ws os opened last first second ts)
+  unfolding crossAt andThen
+  cross-at-out ws first second ts = go (link b nc site ws os opened last first)
+    where
+      go :
+          (o : Outcome ℕ Ins)
+          → Out false opened
+          (andThen o (λ (i : Ins).
+          andThen (insertEdge b nc site ws (i .owners) (lastOr last (i .new)) first second) (λ (j : Ins).
+          ok (change ws (j .owners) (i .new ++ j .new) opened ts))))
+      go (ok i) = second-out ws i ts (insertEdge b nc site ws (i .owners) (lastOr last (i .new)) first second)
+      go (refused k) = tt
+
+  cross-out : (k : EdgeClip) → Out false opened (cross b nc site vs os opened last k)
+  unfolding cross
+  cross-out missed = λ e. (refl, e)
+  cross-out (once a) = lone-out (link b nc site (a .verts) os opened last (a .at))
+  cross-out (twice a t) = cross-at-out (t .verts) (a .at) (t .at) (tookTwo a t)
+
+  pub clip-out : (p : ℕ) (pIn : Bool) (q : ℕ) (qIn : Bool) → qIn ≡ false → Out pIn opened (clipStep b nc site p pIn q qIn vs os opened last)
+  unfolding clipStep
+  clip-out p true q qIn h = rw h (leave-out p os opened (clipEdge b nc vs p q))
+  clip-out p false q qIn h = rw h (cross-out (clipEdge b nc vs p q))
+
+pub changes-out :
+    (env : Env) (count : ℕ) (cell : CellSoFar) (v : List Float) (ix : List ℕ) (r : Changed) (v₁ : List Float) (ix₁ : List ℕ) (pIn opened : Bool) (o : Outcome ℕ Change)
+    → Out pIn opened o
+    → Changes env count o cell v ix r v₁ ix₁
+    → r .refusal ≡ 0
+    → r .opened ≡ false
+    → (pIn ≡ false) × (opened ≡ false)
+changes-out env count cell v ix r v₁ ix₁ pIn opened (ok d) g h z e = g (sym (h .1) ∙ e)
+changes-out env count cell v ix r v₁ ix₁ pIn opened (refused k) g h z e = let a = h .0 in let b = h .1 in absurd (omega arith)
+
+-- ---- vertices that are kept are inside as before
+
+pub in-kept :
+    (b : BoundingBox) (nc : ℕ) (v v₁ : List Float) (n m i : ℕ)
+    → take (2 * n) v₁ ≡ take (2 * n) v
+    → nc ≤ n
+    → n ≤ m
+    → inBox b nc (points m v₁) i ≡ inBox b nc (points n v) i
+in-kept b nc v v₁ n m i e h k =
+    ⊎-elim
+    (λ (l : i < nc).
+    in-center b nc (points m v₁) i l
+    ∙ ap (insideOf b) (kept-vertex v v₁ n m i (at nan nan) e k (omega arith))
+    ∙ sym (in-center b nc (points n v) i l))
+    (λ (l : nc ≤ i). in-none b nc (points m v₁) i l ∙ sym (in-none b nc (points n v) i l))
+    (lt-or-ge i nc)

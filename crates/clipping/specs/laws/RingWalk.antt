@@ -1,0 +1,311 @@
+-- The walk round the ring: what is done so far, put before what the definition does on the rest, is the whole.
+use Prim.Native.Nat.{ℕ, _+_, _-_, _*_, _≤_, _<_}
+use mathlib.Core.Path.{_≡_, refl, sym, ap, _∙_, subst}
+use mathlib.Core.Bool.{Bool, true, false}
+use mathlib.Core.List.{List, [], _∷_, _++_, append-assoc, append-nil}
+use native.Mathlib.Omega.{arith}
+use native.Mathlib.Numerals.{add-one}
+use native.Mathlib.Nat.{sub-zero, add-zero}
+use lib.Ieee.{Float}
+use borrow.Author.Tests.{lt-ltb, le-ltb}
+use lib.ListN.{length, getD, take, drop, length-drop, length-map, drop-of-length-le}
+use lib.Seq.{getD-take, getD-drop, drop-cons, length-take-le}
+use Rattle.laws.specs.laws.Stores.{sets-behind}
+use Rattle.numbers.specs.Numbers.{EMPTY}
+use Rattle.utils.specs.declared.Point.{Point}
+use Rattle.utils.specs.Flat.{points}
+use Rattle.bounding_box.specs.declared.BoundingBox.{BoundingBox}
+use Rattle.vertices.specs.laws.Store.{poured-then, poured-none}
+use Rattle.definition.specs.Fault.{Outcome, ok, refused, andThen, fault}
+use Rattle.definition.specs.declared.Fault.{Fault}
+use Rattle.definition.specs.Cell as Def
+use Rattle.definition.specs.Cell.{Entry, Ins, ins, RingPart, part, partsJoined, inBox, firstInside, stepTo, stepsTo, turned, clipFrom, clipCell}
+use Rattle.definition.specs.Cell.{unmarked}
+use Rattle.clip_edges.specs.EdgeClip.{VerticesGrown}
+use Rattle.clipping.specs.EdgeOutcome.{EdgeRoom, Did}
+use Rattle.clipping.specs.RingWalk.{tipOf, Stands, Steps, ringOf, RingRoom}
+use Rattle.clip_edges.specs.declared.Env.{Env}
+use Rattle.clip_corners.specs.declared.CellSoFar.{CellSoFar}
+use Rattle.clipping.specs.declared.Tip.{Tip}
+use Rattle.clipping.specs.declared.RingStepped.{RingStepped}
+use Rattle.clip_corners.specs.laws.CellEntries.{puts-then, puts-none}
+use Rattle.clip_edges.specs.laws.EdgeClip.{grown-then}
+use Rattle.clipping.specs.laws.EdgeCases.{in-kept}
+use Rattle.clipping.specs.laws.ReversedRing.{length-turned}
+
+-- ---- the ring is past the cell
+
+-- a place of the list from m on and before the store's part is not written by a cell that ends before m
+pub did-past :
+    {env : Env} {most : ℕ} {vs : List Point} {i : Ins} {cell cell₁ : CellSoFar} {v v₁ : List Float} {ix ix₁ : List ℕ} {n : ℕ} (m : ℕ)
+    → Did env most vs i cell v ix n cell₁ v₁ ix₁
+    → cell₁ .end ≤ m
+    → m < env .limit
+    → getD ix₁ m 0 ≡ getD ix m 0
+did-past {env} {i = i} {cell} {cell₁} {ix = ix} {ix₁} m d h k =
+    let p = d .puts .place in
+    sym (getD-take (env .limit) ix₁ m 0 k)
+    ∙ ap (λ (l : List ℕ). getD l m 0) (d .puts .slice)
+    ∙ sets-behind (unmarked (i .new)) (take (env .limit) ix) (cell .end) m 0 (omega (arith, length-map (i .new) (λ (e : Entry). e .at)))
+    ∙ getD-take (env .limit) ix m 0 k
+
+-- ---- one after another
+
+pub did-then :
+    {env : Env} {a b : ℕ} {vs ws : List Point} {os ps : List ℕ} {es fs : List Entry} {c d e : CellSoFar} {v v₁ v₂ : List Float} {ix ix₁ ix₂ : List ℕ} {n m : ℕ}
+    → Did env a vs (ins os es) c v ix n d v₁ ix₁
+    → Did env b ws (ins ps fs) d v₁ ix₁ m e v₂ ix₂
+    → n ≤ m
+    → 2 * n ≤ length v
+    → Did env (a + b) ws (ins ps (es ++ fs)) c v ix m e v₂ ix₂
+did-then x y h k = record { verts = poured-then (x .verts) (y .verts) h k; holds = y .holds; puts = puts-then (x .puts) (y .puts) }
+
+abbrev pub onto : RingPart → Outcome Fault RingPart → Outcome Fault RingPart
+onto c o = andThen o (λ (d : RingPart). ok (partsJoined c d))
+
+onto-onto : (c d : RingPart) (o : Outcome Fault RingPart) → onto c (onto d o) ≡ onto (partsJoined c d) o
+unfolding andThen
+onto-onto c d (ok e) = rw (append-assoc (c .new) (d .new) (e .new), append-assoc (c .steps) (d .steps) (e .steps))
+onto-onto c d (refused f) = refl
+
+-- an edge that refuses nothing, then the rest of the ring
+steps-cons :
+    (b : BoundingBox) (nc site : ℕ) (q : ℕ) (qs : List ℕ) (t : Def.Tip) (c : RingPart)
+    → stepTo b nc site t q ≡ ok c
+    → stepsTo b nc site (q ∷ qs) t ≡ onto c (stepsTo b nc site qs (c .tip))
+unfolding stepsTo andThen
+steps-cons b nc site q qs t c e = rw e
+
+steps-refused : (b : BoundingBox) (nc site : ℕ) (q : ℕ) (qs : List ℕ) (t : Def.Tip) (g : Fault) → stepTo b nc site t q ≡ refused g → stepsTo b nc site (q ∷ qs) t ≡ refused g
+unfolding stepsTo andThen
+steps-refused b nc site q qs t g e = rw e
+
+pub length-ring : (ix : List ℕ) (ring len : ℕ) → ring + len ≤ length ix → length (ringOf ix ring len) ≡ len
+length-ring ix ring len h = length-take-le len (drop ring ix) (rw (length-drop ring ix) (omega arith))
+
+pub getD-ring : (ix : List ℕ) (ring len j : ℕ) → j < len → getD (ringOf ix ring len) j 0 ≡ getD ix (ring + j) 0
+getD-ring ix ring len j h = getD-take len (drop ring ix) j 0 h ∙ getD-drop ring ix j 0
+
+-- ---- the walk after k edges
+
+-- the walk round the ring of len vertices at place ring, turned at place f: from the state t₀ and the slices v₀, ix₀ it has come to t, v, ix
+pub record Round (env : Env) (ring len f : ℕ) (t₀ : Tip) (v₀ : List Float) (ix₀ : List ℕ) (k : ℕ) (t : Tip) (v : List Float) (ix : List ℕ) : Type 0 where
+  pub within : k ≤ len
+  pub room : RingRoom env (t .count) (t .cell) ring len (len - k) v ix
+  pub stands : Stands t
+  pub grown : VerticesGrown (2 * k) (t₀ .count) (t .count) v₀ v
+  pub done : RingPart
+  pub rest :
+      stepsTo (env .bounds) (env .centers) (env .site) (turned f (ringOf ix₀ ring len)) (tipOf t₀ v₀)
+      ≡ onto done (stepsTo (env .bounds) (env .centers) (env .site) (drop k (turned f (ringOf ix₀ ring len))) (tipOf t v))
+  pub did : Did env (3 * k) (points (t .count) v) (ins (t .cell .owners) (done .new)) (t₀ .cell) v₀ ix₀ (t .count) (t .cell) v ix
+  pub out : t .inside ≡ false → t .opened ≡ false → (j : ℕ) → j < len → inBox (env .bounds) (env .centers) (points (t .count) v) (getD ix (ring + j) 0) ≡ false
+
+module _ (env : Env) (ring len f : ℕ) (t₀ : Tip) (v₀ : List Float) (ix₀ : List ℕ) where
+  pub round-start :
+      RingRoom env (t₀ .count) (t₀ .cell) ring len len v₀ ix₀
+      → Stands t₀
+      → (t₀ .inside ≡ false → (j : ℕ) → j < len → inBox (env .bounds) (env .centers) (points (t₀ .count) v₀) (getD ix₀ (ring + j) 0) ≡ false)
+      → Round env ring len f t₀ v₀ ix₀ 0 t₀ v₀ ix₀
+  unfolding andThen
+  round-start r s o =
+      record {
+        within = omega arith;
+        room = rw (sub-zero len) r;
+        stands = s;
+        grown = record { low = omega arith; high = omega arith; kept = refl };
+        done = part (tipOf t₀ v₀) [] [];
+        rest = sym (none (stepsTo (env .bounds) (env .centers) (env .site) (turned f (ringOf ix₀ ring len)) (tipOf t₀ v₀)));
+        did = record { verts = poured-none (t₀ .count) v₀ (r .holds .room); holds = r .holds; puts = puts-none (env .site) (t₀ .cell) (take (env .limit) ix₀) (r .fits .four) };
+        out = λ i p. o i;
+      }
+    where
+      none : (o : Outcome Fault RingPart) → onto (part (tipOf t₀ v₀) [] []) o ≡ o
+      none (ok c) = refl
+      none (refused g) = refl
+
+  module _ (k : ℕ) (t : Tip) (v : List Float) (ix : List ℕ) (r : Round env ring len f t₀ v₀ ix₀ k t v ix) where
+    -- the ring is as it was
+    pub ring-same : (j : ℕ) → j < len → getD ix (ring + j) 0 ≡ getD ix₀ (ring + j) 0
+    ring-same j h =
+        let a = r .room .fits .room in
+        let b = r .room .ends in
+        did-past (ring + j) (r .did) (omega arith) (omega arith)
+
+    pub round-ready : k < len → EdgeRoom env (t .count) (t .cell) v ix
+    round-ready h =
+        let m = r .room in
+        let a = m .fits .room in
+        let b = m .ends in
+        let c = m .verts in
+        let d = m .small in
+        record {
+          holds = m .holds;
+          list = m .list;
+          fits = record { four = m .fits .four; real = m .fits .real; room = omega arith };
+          verts = omega arith;
+          small = omega arith;
+          corners = m .corners;
+        }
+
+    pub round-last :
+        (j : ℕ)
+        → j < len
+        → t .inside ≡ false
+        → inBox (env .bounds) (env .centers) (points (t .count) v) (getD ix (ring + j) 0) ≡ true
+        → t .cell .last < t .count
+    round-last j h i e = go (t .opened) refl
+      where
+        go : (o : Bool) → t .opened ≡ o → t .cell .last < t .count
+        go true p = r .stands .low p
+        go false p =
+            let n : inBox (env .bounds) (env .centers) (points (t .count) v) (getD ix (ring + j) 0) ≡ false = r .out i p j h in
+            let z : _≡_ {A = ℕ} 0 1 = cc in
+            absurd (omega arith)
+
+    module _ (f-within : f ≤ len) (same : length ix ≡ length ix₀) where
+      turned-length : length (turned f (ringOf ix₀ ring len)) ≡ len
+      turned-length =
+          let a = r .room .ends in
+          let b = r .room .list in
+          let l = length-ring ix₀ ring len (omega arith) in
+          length-turned f (ringOf ix₀ ring len) (omega arith) ∙ l
+
+      turned-cons : (q : ℕ) → k < len → getD (turned f (ringOf ix₀ ring len)) k 0 ≡ q → drop k (turned f (ringOf ix₀ ring len)) ≡ q ∷ drop (k + 1) (turned f (ringOf ix₀ ring len))
+      turned-cons q h e = rw (add-one k, ← e) (drop-cons (turned f (ringOf ix₀ ring len)) k 0 (rw turned-length h))
+
+      module _ (q : ℕ) (s : RingStepped) (v₁ : List Float) (ix₁ : List ℕ) (h : k < len) (e : getD (turned f (ringOf ix₀ ring len)) k 0 ≡ q) where
+        pub round-next :
+            Steps env 1 (stepTo (env .bounds) (env .centers) (env .site) (tipOf t v) q) (t .count) (t .cell) v ix s v₁ ix₁
+            → s .fault .number ≡ 0
+            → Stands (s .tip) × (s .tip .inside ≡ false → s .tip .opened ≡ false → (t .inside ≡ false) × (t .opened ≡ false))
+            → length v ≡ length v₀
+            → length v₁ ≡ length v
+            → length ix₁ ≡ length ix
+            → Round env ring len f t₀ v₀ ix₀ (k + 1) (s .tip) v₁ ix₁
+        round-next g z st lv₀ lv lx = go (stepTo (env .bounds) (env .centers) (env .site) (tipOf t v) q) refl g
+          where
+            go :
+                (o : Outcome Fault RingPart)
+                → stepTo (env .bounds) (env .centers) (env .site) (tipOf t v) q ≡ o
+                → Steps env 1 o (t .count) (t .cell) v ix s v₁ ix₁
+                → Round env ring len f t₀ v₀ ix₀ (k + 1) (s .tip) v₁ ix₁
+            go (refused w) p u =
+                let a : s .fault .number ≡ w .number = ap (λ (x : Fault). x .number) (u .0) in
+                let b = u .1 in
+                absurd (omega arith)
+            go (ok c) p u =
+                let one : Did env 3 (points (s .tip .count) v₁) (ins (s .tip .cell .owners) (c .new)) (t .cell) v ix (s .tip .count) (s .tip .cell) v₁ ix₁ =
+                subst (λ (x : Def.Tip). Did env 3 (x .verts) (ins (x .owners) (c .new)) (t .cell) v ix (s .tip .count) (s .tip .cell) v₁ ix₁) (u .1) (u .3) in
+                let m = r .room in
+                let fit = one .puts .fit in
+                let fits = m .fits .room in
+                let ends = m .ends in
+                let list = m .list in
+                let verts = m .verts in
+                let small = m .small in
+                let low = u .2 .low in
+                let high = u .2 .high in
+                let corners = m .corners in
+                let held = r .did .holds .room in
+                let glow = r .grown .low in
+                let past : (j : ℕ) → j < len → getD ix₁ (ring + j) 0 ≡ getD ix (ring + j) 0 = (λ j l. did-past (ring + j) one (omega arith) (omega arith)) in
+                record {
+                  within = omega arith;
+                  room =
+                      record {
+                        holds = one .holds;
+                        list = omega arith;
+                        ends = ends;
+                        fits = record { four = one .puts .four; real = m .fits .real; room = omega arith };
+                        verts = omega arith;
+                        small = omega arith;
+                        corners = omega arith;
+                        below = λ j l. (let a = m .below j l in rw (past j l) (omega arith));
+                      };
+                  stands = st .0;
+                  grown = (let n : 2 * k + 2 ≡ 2 * (k + 1) = omega arith in rw (← n) (grown-then (2 * k) 2 (t₀ .count) (t .count) (s .tip .count) v₀ v v₁ (r .grown) (u .2)));
+                  done = partsJoined (r .done) c;
+                  rest =
+                      r .rest
+                      ∙ ap (λ (l : List ℕ). onto (r .done) (stepsTo (env .bounds) (env .centers) (env .site) l (tipOf t v))) (turned-cons q h e)
+                      ∙ ap (onto (r .done)) (steps-cons (env .bounds) (env .centers) (env .site) q (drop (k + 1) (turned f (ringOf ix₀ ring len))) (tipOf t v) c p)
+                      ∙ onto-onto (r .done) c (stepsTo (env .bounds) (env .centers) (env .site) (drop (k + 1) (turned f (ringOf ix₀ ring len))) (c .tip))
+                      ∙ ap (λ (x : Def.Tip). onto (partsJoined (r .done) c) (stepsTo (env .bounds) (env .centers) (env .site) (drop (k + 1) (turned f (ringOf ix₀ ring len))) x)) (u .1);
+                  did = (let n : 3 * k + 3 ≡ 3 * (k + 1) = omega arith in rw (← n) (did-then (r .did) one low (omega arith)));
+                  out =
+                      λ i o j l.
+                      (let w = st .1 i o in
+                      rw (past j l)
+                      (in-kept (env .bounds) (env .centers) v v₁ (t .count) (s .tip .count) (getD ix (ring + j) 0) (u .2 .kept) (omega arith) low ∙ r .out (w .0) (w .1) j l));
+                }
+
+        -- a refused edge refuses the whole
+        pub round-stop :
+            Steps env 1 (stepTo (env .bounds) (env .centers) (env .site) (tipOf t v) q) (t .count) (t .cell) v ix s v₁ ix₁
+            → (s .fault .number ≡ 0 → ⊥)
+            → Steps env len (stepsTo (env .bounds) (env .centers) (env .site) (turned f (ringOf ix₀ ring len)) (tipOf t₀ v₀)) (t₀ .count) (t₀ .cell) v₀ ix₀ s v₁ ix₁
+        unfolding andThen
+        round-stop g n = go (stepTo (env .bounds) (env .centers) (env .site) (tipOf t v) q) refl g
+          where
+            go :
+                (o : Outcome Fault RingPart)
+                → stepTo (env .bounds) (env .centers) (env .site) (tipOf t v) q ≡ o
+                → Steps env 1 o (t .count) (t .cell) v ix s v₁ ix₁
+                → Steps env len (stepsTo (env .bounds) (env .centers) (env .site) (turned f (ringOf ix₀ ring len)) (tipOf t₀ v₀)) (t₀ .count) (t₀ .cell) v₀ ix₀ s v₁ ix₁
+            go (ok c) p u = absurd (n (ap (λ (x : Fault). x .number) (u .0)))
+            go (refused w) p u =
+                rw
+                (r .rest
+                ∙ ap (λ (l : List ℕ). onto (r .done) (stepsTo (env .bounds) (env .centers) (env .site) l (tipOf t v))) (turned-cons q h e)
+                ∙ ap (onto (r .done)) (steps-refused (env .bounds) (env .centers) (env .site) q (drop (k + 1) (turned f (ringOf ix₀ ring len))) (tipOf t v) w p))
+                u
+
+      -- after the last edge the whole is done
+      pub round-end :
+          len ≤ k
+          → Steps env len (stepsTo (env .bounds) (env .centers) (env .site) (turned f (ringOf ix₀ ring len)) (tipOf t₀ v₀)) (t₀ .count) (t₀ .cell) v₀ ix₀
+          (record { fault = fault 0 0 0 0; tip = t }) v ix
+      unfolding andThen stepsTo
+      round-end h =
+          let a = r .within in
+          let l : k ≡ len = omega arith in
+          let n : drop k (turned f (ringOf ix₀ ring len)) ≡ [] = drop-of-length-le (turned f (ringOf ix₀ ring len)) {i = k} (rw turned-length h) in
+          rw
+          (r .rest ∙ ap (λ (l : List ℕ). onto (r .done) (stepsTo (env .bounds) (env .centers) (env .site) l (tipOf t v))) n)
+          (refl, refl, rw l at (r .grown), rw (append-nil (r .done .new)) (rw l at (r .did)))
+
+-- what was answered of a vertex of the ring
+pub ring-answer :
+    (b : BoundingBox) (nc : ℕ) (vs : List Point) (ix : List ℕ) (ring len j : ℕ) (r t : Bool)
+    → j < len
+    → r ≡ inBox b nc vs (getD ix (ring + j) 0)
+    → r ≡ t
+    → inBox b nc vs (getD (ringOf ix ring len) j 0) ≡ t
+ring-answer b nc vs ix ring len j r t h e f = rw (getD-ring ix ring len j h, ← e) f
+
+-- ---- the first vertex inside
+
+module _ (b : BoundingBox) (nc : ℕ) (vs : List Point) (ring : List ℕ) (k : ℕ) where
+  pub first-hit : k < length ring → inBox b nc vs (getD ring k 0) ≡ true → k + firstInside b nc vs (drop k ring) ≡ k
+  unfolding firstInside
+  first-hit h e = rw (drop-cons ring k 0 h, e, add-zero k)
+
+  pub first-miss : k < length ring → inBox b nc vs (getD ring k 0) ≡ false → k + firstInside b nc vs (drop k ring) ≡ k + 1 + firstInside b nc vs (drop (k + 1) ring)
+  unfolding firstInside
+  first-miss h e = rw (drop-cons ring k 0 h, e, add-one k) (omega arith)
+
+  pub first-none : length ring ≤ k → k + firstInside b nc vs (drop k ring) ≡ k
+  unfolding firstInside
+  first-none h = rw (drop-of-length-le ring {i = k} h, add-zero k)
+
+-- ---- where the walk starts
+
+module _ (b : BoundingBox) (nc site : ℕ) (ring : List ℕ) (vs : List Point) (os : List ℕ) (f : ℕ) (e : f ≡ firstInside b nc vs ring) where
+  pub cell-inside : f < length ring → clipCell b nc site ring vs os ≡ stepsTo b nc site (turned f ring) (Def.tip vs os EMPTY (getD ring f 0) true false)
+  unfolding clipCell clipFrom
+  cell-inside h = rw (← e, lt-ltb f (length ring) h)
+
+  pub cell-outside : length ring ≤ f → clipCell b nc site ring vs os ≡ stepsTo b nc site (turned 0 ring) (Def.tip vs os EMPTY (getD ring 0 0) false false)
+  unfolding clipCell clipFrom
+  cell-outside h = rw (← e, le-ltb f (length ring) h)

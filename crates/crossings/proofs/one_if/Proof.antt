@@ -1,8 +1,0 @@
--- `crossings::one_if`: each answer by the test. Assumes nothing.
-use Rattle.crossings.specs.Cross.{oneIf}
-use Rattle.crossings.proofs.one_if.Statement.{statement}
-use Rattle.crossings.proofs.one_if.Tie as tie
-
-pub one-if-spec : {M : Type 1} → statement M
-unfolding oneIf
-one-if-spec = tie.close (tie.spec (λ c. cc) (λ c. cc))

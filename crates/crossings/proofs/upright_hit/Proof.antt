@@ -1,8 +1,0 @@
--- `crossings::upright_hit`: the tests and the two points are the definition's. Assumes nothing.
-use Rattle.crossings.specs.Cross.{uprightHit}
-use Rattle.crossings.proofs.upright_hit.Statement.{statement}
-use Rattle.crossings.proofs.upright_hit.Tie as tie
-
-pub upright-hit-spec : {M : Type 1} → statement M
-unfolding uprightHit
-upright-hit-spec = tie.close (tie.spec (λ c κs. tt) (λ c. cc))

@@ -1,0 +1,65 @@
+-- Theorem: each crossing of a ray lies on the box, as that of a line does; and so do the points of the public answers.
+use mathlib.Core.Bool.{Bool, true, false, _&&_}
+use Prim.{tt}
+use lib.Ieee.{Float, lt, eq}
+use Rattle.root.specs.Root.{magnitude, signum}
+use Rattle.laws.specs.Binary64.{_⊞_, _⊟_}
+use Rattle.utils.specs.Plane.{at}
+use Rattle.utils.specs.declared.Point.{Point}
+use Rattle.utils.specs.Rules.{okSite}
+use Rattle.bounding_box.specs.Box.{madeOf}
+use Rattle.bounding_box.specs.Rules.{okBox}
+use Rattle.bounding_box.specs.declared.BoundingBox.{BoundingBox}
+use Rattle.line_crossings.specs.Line.{lineOf}
+use Rattle.line_crossings.specs.OnBox.{OnEdge, OnBox, one-own, line-own}
+use Rattle.line_crossings.specs.declared.Crossing.{Crossing}
+use Rattle.line_crossings.specs.declared.Crossing.the-variants.{None, One, Two}
+use Rattle.crossings.specs.Ray.{orderPick, eitherOf, orderBy, orderOne, orderTwo, orderOf, rayOf}
+use Rattle.crossings.specs.Rules.{metBy, lineAnswer, rayAnswer, pointsOf}
+
+module _ (b : BoundingBox) where
+  -- ---- the ray: points of the line, some left out
+  pick-own : (r s near : Bool) (x y u v : Float) → OnEdge b x y → OnEdge b u v → OnBox b (orderPick r s near x y u v)
+  unfolding orderPick
+  pick-own true true true x y u v h g = (g, h)
+  pick-own true true false x y u v h g = (h, g)
+  pick-own true false near x y u v h g = h
+  pick-own false true near x y u v h g = g
+  pick-own false false near x y u v h g = tt
+
+  by-own : (d da db x y u v : Float) → OnEdge b x y → OnEdge b u v → OnBox b (orderBy d da db x y u v)
+  unfolding orderBy
+  by-own d da db x y u v h g = pick-own (eq (signum d) (signum da)) (eq (signum d) (signum db)) (lt (magnitude db) (magnitude da)) x y u v h g
+
+  either-own : (t : Bool) (c d : Crossing) → OnBox b c → OnBox b d → OnBox b (eitherOf t c d)
+  unfolding eitherOf
+  either-own true c d h g = h
+  either-own false c d h g = g
+
+  order-own : (p dir : Point) (c : Crossing) → OnBox b c → OnBox b (orderOf p dir c)
+  unfolding orderOne orderTwo
+  order-own p dir None h = tt
+  order-own p dir (One x y) h = one-own b (eq (signum (dir .x)) (signum x) && eq (signum (dir .y)) (signum y)) x y (λ _. h)
+  order-own p dir (Two x y u v) h =
+      either-own (lt (magnitude (dir .y)) (magnitude (dir .x))) _ _
+      (by-own (dir .x) (x ⊟ p .x) (u ⊟ p .x) x y u v (h .0) (h .1))
+      (by-own (dir .y) (y ⊟ p .y) (v ⊟ p .y) x y u v (h .0) (h .1))
+
+  pub ray-own : (p dir : Point) → OnBox b (rayOf b p dir)
+  unfolding rayOf
+  ray-own p dir = let q = at (p .x ⊞ dir .x) (p .y ⊞ dir .y) in order-own p dir (lineOf b p q) (line-own b p q)
+
+-- ---- with the refusals
+met-own : (b : BoundingBox) (r s : Bool) (c : Crossing) → OnBox b c → OnBox b (pointsOf (metBy r s c))
+unfolding metBy
+met-own b true true c h = h
+met-own b true false c h = tt
+met-own b false s c h = tt
+
+pub line-answer-own : (c : Point) (w h : Float) (p q : Point) → OnBox (madeOf c w h) (pointsOf (lineAnswer c w h p q))
+unfolding lineAnswer
+line-answer-own c w h p q = met-own (madeOf c w h) (okBox c w h) (okSite p && okSite q) (lineOf (madeOf c w h) p q) (line-own (madeOf c w h) p q)
+
+pub ray-answer-own : (c : Point) (w h : Float) (p dir : Point) → OnBox (madeOf c w h) (pointsOf (rayAnswer c w h p dir))
+unfolding rayAnswer
+ray-answer-own c w h p dir = met-own (madeOf c w h) (okBox c w h) (okSite p && okSite dir) (rayOf (madeOf c w h) p dir) (ray-own (madeOf c w h) p dir)

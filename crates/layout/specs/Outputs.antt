@@ -1,0 +1,64 @@
+-- The lent slices of a build: the room that rule 2 asks of them, and what they hold at exit, by the definition's outcome.
+use mathlib.Core.Path.{_≡_}
+use mathlib.Core.List.{List, [], _∷_, _++_, map}
+use Prim.Native.Nat.{ℕ, _+_, _-_, _*_, _/_, _≤_, _<_}
+use lib.Ieee.{Float}
+use lib.ListN.{length, replicate}
+use Rattle.laws.specs.Binary64.{zero}
+use Rattle.numbers.specs.Numbers.{EMPTY}
+use Rattle.utils.specs.Flat.{flat}
+use Rattle.definition.specs.declared.Fault.{Fault}
+use Rattle.definition.specs.Fault.{Outcome, ok, refused, fault}
+use Rattle.definition.specs.Cell.{unmarked}
+use Rattle.definition.specs.Build.{Built}
+use Rattle.layout.specs.Regions.{joined, offsetsFrom, Regions}
+use Rattle.layout.specs.Rooms.{Started}
+
+-- T triangles, h hull sites, n sites; slices of so many numbers, indexes and offsets
+pub record Rooms (T h n numbers indexes offsets : ℕ) : Type 0 where
+  pub vertices : 7 * T + 5 * h + 4 ≤ numbers / 2
+  pub entries : 12 * T + 8 * h + 4 ≤ indexes
+  pub one-more : n < offsets
+
+-- the regions of n sites, each with an empty cell
+pub record LaidOut (tri hull owners : List ℕ) (n : ℕ) (ix off : List ℕ) : Type 0 where
+  pub started : Started tri hull owners n off
+  pub regions : Regions ix off (replicate n [])
+
+-- l, then a up to n entries
+abbrev pub padded : {A : Type 0} → ℕ → A → List A → List A
+padded n a l = l ++ replicate (n - length l) a
+
+-- the cells moved together and their offsets, in slices that were ix and off
+pub record Gathered (cells : List (List ℕ)) (ix off ix₁ off₁ : List ℕ) : Type 0 where
+  pub indexes : ix₁ ≡ padded (length ix) EMPTY (joined cells)
+  pub offsets : off₁ ≡ padded (length off) EMPTY (offsetsFrom 0 cells)
+
+-- what a build makes: the vertices as numbers x and y, the cells one after the other, their offsets, the counts; nothing where it is refused
+unfoldable pub vertexNumbers : Outcome Fault Built → List Float
+vertexNumbers (ok b) = flat (b .verts)
+vertexNumbers (refused f) = []
+
+unfoldable pub indexNumbers : Outcome Fault Built → List ℕ
+indexNumbers (ok b) = joined (map unmarked (b .cells))
+indexNumbers (refused f) = []
+
+unfoldable pub offsetNumbers : Outcome Fault Built → List ℕ
+offsetNumbers (ok b) = offsetsFrom 0 (map unmarked (b .cells))
+offsetNumbers (refused f) = []
+
+-- the number of vertices, the corners' owners as found, the lost corners
+unfoldable pub countNumbers : Outcome Fault Built → List ℕ
+countNumbers (ok b) = length (b .verts) ∷ b .owners ++ b .lost ∷ []
+countNumbers (refused f) = []
+
+-- the fault that the code answers: none is the number 0
+abbrev pub faultOf : Outcome Fault Built → Fault
+faultOf (ok b) = fault 0 0 0 0
+faultOf (refused f) = f
+
+-- slices that were v, ix and off, after a build with this outcome
+pub record BuiltInto (o : Outcome Fault Built) (v : List Float) (ix off : List ℕ) (v₁ : List Float) (ix₁ off₁ : List ℕ) : Type 0 where
+  pub vertices : v₁ ≡ padded (length v) zero (vertexNumbers o)
+  pub indexes : ix₁ ≡ padded (length ix) EMPTY (indexNumbers o)
+  pub offsets : off₁ ≡ padded (length off) EMPTY (offsetNumbers o)

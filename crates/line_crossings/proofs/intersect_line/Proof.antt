@@ -1,0 +1,15 @@
+-- `line_crossings::intersect_line`: slope and offset are the definition's, and so are the four sides' points that it settles between.
+use Rattle.line_crossings.specs.laws.Calls.{line-calls}
+use Rattle.line_crossings.proofs.intersect_line.Statement.{statement}
+use Rattle.line_crossings.proofs.intersect_line.Tie as tie
+
+returns : tie.Need-returns
+returns c =
+    let i = c .before in
+    let u = i .before .before in
+    let m = u .before .before in
+    line-calls _ _ _ (m .before .before .right-hit .ensures) (m .before .left-hit .ensures) (m .magnitude .ensures) (u .before .magnitude2 .ensures) (u .upright-hit .ensures)
+    (i .before .top-hit .ensures) (i .bottom-hit .ensures) (c .settle .ensures)
+
+pub intersect-line-spec : {M : Type 1} → statement M
+intersect-line-spec = tie.close (tie.spec (λ c κs. tt) (λ c κs. tt) (λ c κs. tt) (λ c κs. tt) (λ c κs. tt) (λ c κs. tt) (λ c κs. tt) (λ c κs. tt) returns)

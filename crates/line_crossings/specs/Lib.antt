@@ -1,0 +1,4 @@
+pub mod Line
+pub mod OnBox
+pub mod Finite
+pub mod laws

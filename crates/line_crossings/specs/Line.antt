@@ -1,0 +1,74 @@
+-- Where a line crosses the box.
+use mathlib.Core.Bool.{Bool, true, false, _&&_}
+use lib.Ieee.{Float, lt, le}
+use Rattle.root.specs.Root.{magnitude}
+use Rattle.laws.specs.Pick.{pick}
+use Rattle.laws.specs.Binary64.{_⊞_, _⊟_, _⊠_, _⊘_}
+use Rattle.numbers.specs.Numbers.{tolerance}
+use Rattle.utils.specs.declared.Point.{Point}
+use Rattle.bounding_box.specs.declared.BoundingBox.{BoundingBox}
+use Rattle.line_crossings.specs.declared.Crossing.{Crossing}
+use Rattle.line_crossings.specs.declared.Crossing.the-variants.{None, One, Two}
+
+-- the points if the test holds
+unfoldable pub oneIf : Bool → Float → Float → Crossing
+oneIf t x y = pick t (λ _. One x y) (λ _. None)
+
+unfoldable pub twoIf : Bool → Float → Float → Float → Float → Crossing
+twoIf t x y u v = pick t (λ _. Two x y u v) (λ _. None)
+
+abbrev pub some : Crossing → Bool
+some None = false
+some (One x y) = true
+some (Two x y u v) = true
+
+-- Option's `or`
+abbrev pub orOf : Crossing → Crossing → Crossing
+orOf None b = b
+orOf (One x y) b = One x y
+orOf (Two x y u v) b = Two x y u v
+
+-- the pair of two optional points
+abbrev pub afterOne : Float → Float → Crossing → Crossing
+afterOne x y None = One x y
+afterOne x y (One u v) = Two x y u v
+afterOne x y (Two u v w z) = Two u v w z
+
+abbrev pub joinOf : Crossing → Crossing → Crossing
+joinOf None b = b
+joinOf (One x y) b = afterOne x y b
+joinOf (Two x y u v) b = Two x y u v
+
+-- the four sides' points, each if there is one: right f, left g, top h, bottom i
+unfoldable pub rightHit : BoundingBox → Float → Float → Float → Crossing
+rightHit b cx c d = oneIf (lt tolerance (magnitude cx) && (le (b .top) (b .right ⊠ c ⊞ d) && le (b .right ⊠ c ⊞ d) (b .bottom))) (b .right) (b .right ⊠ c ⊞ d)
+
+unfoldable pub leftHit : BoundingBox → Float → Float → Float → Crossing
+leftHit b cx c d = oneIf (lt tolerance (magnitude cx) && (le (b .top) (b .left ⊠ c ⊞ d) && le (b .left ⊠ c ⊞ d) (b .bottom))) (b .left) (b .left ⊠ c ⊞ d)
+
+unfoldable pub topHit : BoundingBox → Float → Float → Float → Crossing
+topHit b cy c d = oneIf (lt tolerance (magnitude cy) && (le ((b .top ⊟ d) ⊘ c) (b .right) && le (b .left) ((b .top ⊟ d) ⊘ c))) ((b .top ⊟ d) ⊘ c) (b .top)
+
+unfoldable pub bottomHit : BoundingBox → Float → Float → Float → Crossing
+bottomHit b cy c d = oneIf (lt tolerance (magnitude cy) && (le ((b .bottom ⊟ d) ⊘ c) (b .right) && le (b .left) ((b .bottom ⊟ d) ⊘ c))) ((b .bottom ⊟ d) ⊘ c) (b .bottom)
+
+-- a line parallel to y
+unfoldable pub uprightHit : BoundingBox → Float → Crossing
+uprightHit b x = twoIf (le x (b .right) && le (b .left) x) x (b .top) x (b .bottom)
+
+-- the first whose test holds, else the last
+unfoldable pub firstHeld : Bool → Crossing → Bool → Crossing → Bool → Crossing → Crossing → Crossing
+firstHeld a x b y c z w = pick a (λ _. x) (λ _. pick b (λ _. y) (λ _. pick c (λ _. z) (λ _. w)))
+
+-- what is answered of the four, whether the line is upright, and what it then is
+unfoldable pub settleOf : Crossing → Crossing → Bool → Crossing → Crossing → Crossing → Crossing
+settleOf f g up u h i = firstHeld (some f && some g) (joinOf f g) up u (some h && some i) (joinOf h i) (joinOf (orOf f g) (orOf h i))
+
+abbrev pub lineBy : BoundingBox → Point → Float → Float → Float → Float → Crossing
+lineBy b p cx cy c d = settleOf (rightHit b cx c d) (leftHit b cx c d) (lt tolerance (magnitude cy) && lt (magnitude cx) tolerance) (uprightHit b (p .x)) (topHit b cy c d) (bottomHit b cy c d)
+
+abbrev pub lineOff : BoundingBox → Point → Float → Float → Float → Crossing
+lineOff b p cx cy c = lineBy b p cx cy c (p .y ⊟ p .x ⊠ c)
+
+unfoldable pub lineOf : BoundingBox → Point → Point → Crossing
+lineOf b p q = lineOff b p (q .x ⊟ p .x) (q .y ⊟ p .y) ((q .y ⊟ p .y) ⊘ (q .x ⊟ p .x))

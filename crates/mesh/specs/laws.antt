@@ -1,0 +1,10 @@
+-- Laws that only proofs use.
+pub mod Next
+pub mod WalkSteps
+pub mod Walks
+pub mod Table
+pub mod Border
+pub mod Facts
+pub mod Verdicts
+pub mod Occurs
+pub mod Degree

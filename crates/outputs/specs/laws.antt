@@ -1,3 +1,0 @@
--- Laws that only proofs use.
-pub mod Gathering
-pub mod Marks

@@ -1,0 +1,48 @@
+-- Theorem: what holds of the path from every site in use of every accepted mesh towards every admitted destination.
+use mathlib.Core.Path.{_≡_}
+use mathlib.Core.Bool.{true}
+use mathlib.Core.List.{List, _∷_, _++_}
+use Prim.Native.Nat.{ℕ, _≤_, _<_}
+use native.Mathlib.Omega.{arith}
+use lib.ListN.{length, take}
+use lib.Ieee.{Float}
+use Rattle.laws.specs.Count.{occ}
+use Rattle.utils.specs.Rules.{okSite}
+use Rattle.utils.specs.declared.Point.{Point}
+use Rattle.mesh.specs.Mesh.{Used, leftmostOf}
+use Rattle.mesh.specs.Accepted.{Accepted, siteCount}
+use Rattle.mesh.specs.laws.Facts.{topology, entry-site}
+use Rattle.iterator.specs.Neighbours.{neighboursOf}
+use Rattle.mesh.specs.laws.Occurs.{occ-there}
+use Rattle.paths.specs.Path.{distOf, pathOf, wholePath}
+use Rattle.paths.specs.PathRule.{usedOf, PathFrom}
+use Rattle.paths.specs.laws.WholePath.{whole-runs, whole-same, whole-take, whole-short, whole-once, whole-rest, used-some}
+use Rattle.paths.specs.laws.PathNeeds.{ready, towards}
+
+-- the whole path from s: it goes by the rule to its end, has no more entries than sites in use, lists no site twice; as much fuel as there are
+-- sites in use gives it, and so does more; an allowance gives its beginning; and the path from a site on it is its rest
+pub record PathHolds (sites : List Float) (tri he : List ℕ) (p : Point) (s : ℕ) (l : List ℕ) : Type 0 where
+  pub rule : PathFrom (distOf sites p) (neighboursOf tri he (leftmostOf tri he (siteCount sites))) s l
+  pub short : length l ≤ usedOf tri (siteCount sites)
+  pub once : (v : ℕ) → occ v l ≤ 1
+  pub stops : (k : ℕ) → usedOf tri (siteCount sites) ≤ k → pathOf sites tri he (leftmostOf tri he (siteCount sites)) p k s ≡ l
+  pub begins : (k : ℕ) → pathOf sites tri he (leftmostOf tri he (siteCount sites)) p k s ≡ take k l
+  pub rest : (a b : List ℕ) (v : ℕ) → l ≡ a ++ (v ∷ b) → wholePath sites tri he (leftmostOf tri he (siteCount sites)) p v ≡ v ∷ b
+
+pub path-holds : {sites : List Float} {tri he hull : List ℕ} → Accepted sites tri he hull → (p : Point) → okSite p ≡ true → (s : ℕ) → Used tri s
+    → PathHolds sites tri he p s (wholePath sites tri he (leftmostOf tri he (siteCount sites)) p s)
+path-holds {sites} {tri} {he} a p to s (k, l, q) =
+    let n = siteCount sites in
+    let table = leftmostOf tri he n in
+    let m = ready (topology a) in
+    let t = towards sites p (a .coordinates) to in
+    let used : 0 < occ s tri = rw q at (occ-there tri k l) in
+    let below : s < n = rw q at (entry-site (topology a) k l) in
+    record {
+      rule = whole-runs sites tri he table p n m t s below;
+      short = whole-short sites tri he table p n m t s used;
+      once = λ v. whole-once sites tri he table p n m t s v below;
+      stops = λ j h. whole-same sites tri he table p n m t j s below (omega (arith, used-some sites tri he table p n m t s used)) h;
+      begins = λ j. whole-take sites tri he table p n m t j s below;
+      rest = whole-rest sites tri he table p n m t s below;
+    }

@@ -1,0 +1,7 @@
+-- Laws that only proofs use.
+pub mod Nearest
+pub mod Used
+pub mod WholePath
+pub mod HopLoop
+pub mod PathLoops
+pub mod PathNeeds

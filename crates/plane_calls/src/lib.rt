@@ -1,0 +1,276 @@
+// The bodies of the public calls on points and the box. A box is its center, width and height; 3 is tried on it, then 6 on each point.
+// A refused call answers 0 beside its number (a side: EMPTY).
+use numbers::EMPTY;
+use utils::Point;
+ghost use mathlib.Core.Path.{_≡_};
+ghost use Prim.Native.Nat.{_≤_};
+ghost use lib.ListN.{length};
+ghost use Rattle.utils.specs.Flat.{pour};
+ghost use Rattle.bounding_box.specs.Box.{cornersOf};
+ghost use Rattle.crossings.specs.Rules.{lineAnswer, rayAnswer};
+ghost use Rattle.plane_calls.specs.Plane.{bit, numberBy, valueIf, sideIf, Near, Dist2, Circumcenter, Centroid, Edges, Corners, Inside, ExclusivelyInside, WhichEdge, Meets};
+
+// An answer as a number: 1 or 0.
+pub fn yes(b: bool) -> u32
+    ensures { λ r. ⌜ r ≡ bit b ⌝ }
+{
+    if b { 1 } else { 0 }
+}
+
+fn number(frame: bool, points: bool) -> u32
+    ensures { λ r. ⌜ r ≡ numberBy frame points ⌝ }
+{
+    if frame {
+        if points {
+            0
+        } else {
+            numbers::REFUSED_COORDINATE
+        }
+    } else {
+        numbers::REFUSED_BOX
+    }
+}
+
+fn value_if(ok: bool, x: f64) -> f64
+    ensures { λ r. ⌜ r ≡ valueIf ok x ⌝ }
+{
+    if ok { x } else { 0.0 }
+}
+
+fn side_if(ok: bool, side: u32) -> u32
+    ensures { λ r. ⌜ r ≡ sideIf ok side ⌝ }
+{
+    if ok {
+        if side == bounding_box::NO_SIDE {
+            EMPTY
+        } else {
+            side
+        }
+    } else {
+        EMPTY
+    }
+}
+
+// Whether a and b are within the tolerance of each other, by the computed difference: 1 or 0.
+pub fn abs_diff_eq(a: f64, b: f64) -> u32
+    ensures { λ r. ⌜ Near a b r ⌝ }
+{
+    yes(utils::abs_diff_eq(a, b))
+}
+
+pub struct Distance {
+    pub number: u32,
+    pub value: f64,
+}
+
+// The squared distance.
+pub fn dist2(a: Point, b: Point) -> Distance
+    ensures { λ r. ⌜ Dist2 a b (r .number) (r .value) ⌝ }
+{
+    let ok = utils::site_ok(a) & utils::site_ok(b);
+    let value = value_if(ok, utils::dist2(a, b));
+    Distance {
+        number: number(true, ok),
+        value,
+    }
+}
+
+pub struct Spot {
+    pub number: u32,
+    pub x: f64,
+    pub y: f64,
+}
+
+// The circumcenter; after 6, 11.
+pub fn circumcenter(a: Point, b: Point, c: Point) -> Spot
+    ensures { λ r. ⌜ Circumcenter a b c (r .number) (r .x) (r .y) ⌝ }
+{
+    let r = utils::circumcenter(a, b, c);
+    let x = utils::x_of(r);
+    let y = utils::y_of(r);
+    Spot {
+        number: utils::number_of(r),
+        x,
+        y,
+    }
+}
+
+// The centroid of 1 to 65,536 points; 1, then 6.
+pub fn centroid(points: &[f64]) -> Spot
+    ensures { λ r. ⌜ Centroid (now (points .entry)) (r .number) (r .x) (r .y) ⌝ }
+{
+    let r = utils::centroid(points);
+    let x = utils::x_of(r);
+    let y = utils::y_of(r);
+    Spot {
+        number: utils::number_of(r),
+        x,
+        y,
+    }
+}
+
+pub struct BoxEdges {
+    pub number: u32,
+    pub left: f64,
+    pub top: f64,
+    pub right: f64,
+    pub bottom: f64,
+    pub across: f64,
+    pub down: f64,
+}
+
+// The box's edges, and its width and height recomputed from them.
+pub fn box_edges(center: Point, width: f64, height: f64) -> BoxEdges
+    ensures { λ r. ⌜ Edges center width height (r .number) (r .left) (r .top) (r .right) (r .bottom) (r .across) (r .down) ⌝ }
+{
+    let ok = bounding_box::box_ok(center, width, height);
+    let b = bounding_box::new(center, width, height);
+    let left = value_if(ok, b.left);
+    let top = value_if(ok, b.top);
+    let right = value_if(ok, b.right);
+    let bottom = value_if(ok, b.bottom);
+    let across = value_if(ok, bounding_box::width(b));
+    let down = value_if(ok, bounding_box::height(b));
+    BoxEdges {
+        number: number(ok, true),
+        left,
+        top,
+        right,
+        bottom,
+        across,
+        down,
+    }
+}
+
+// Writes the corners over the beginning.
+fn put_corners(b: bounding_box::BoundingBox, out: &mut [f64])
+    requires { ⌜ 8 ≤ length (now out) ⌝ }
+    ensures { λ _. ⌜ now (out .exit) ≡ pour (cornersOf b) (now (out .entry)) ⌝ }
+{
+    out[0] = b.left;
+    out[1] = b.top;
+    out[2] = b.left;
+    out[3] = b.bottom;
+    out[4] = b.right;
+    out[5] = b.bottom;
+    out[6] = b.right;
+    out[7] = b.top;
+}
+
+// The corners, top left, bottom left, bottom right, top right, x and y each, into a slice of 8 or more, whose rest is cleared; 2, then 3.
+pub fn corners(center: Point, width: f64, height: f64, out: &mut [f64]) -> u32
+    ensures { λ r. ⌜ Corners center width height (now (out .entry)) r (now (out .exit)) ⌝ }
+{
+    if out.len() < 8 {
+        return numbers::REFUSED_ROOM;
+    }
+    if !bounding_box::box_ok(center, width, height) {
+        return numbers::REFUSED_BOX;
+    }
+    put_corners(bounding_box::new(center, width, height), out);
+    layout::clear_floats_from(out, 8);
+    0
+}
+
+pub struct Verdict {
+    pub number: u32,
+    pub yes: u32,
+}
+
+// Whether p is inside the box or on its edges: 1 or 0.
+pub fn is_inside(center: Point, width: f64, height: f64, p: Point) -> Verdict
+    ensures { λ r. ⌜ Inside center width height p (r .number) (r .yes) ⌝ }
+{
+    let frame = bounding_box::box_ok(center, width, height);
+    let point = utils::site_ok(p);
+    let b = bounding_box::new(center, width, height);
+    let inside = yes(frame & point & bounding_box::is_inside(b, p));
+    Verdict {
+        number: number(frame, point),
+        yes: inside,
+    }
+}
+
+// The same, and within tolerance of no side's line.
+pub fn is_exclusively_inside(center: Point, width: f64, height: f64, p: Point) -> Verdict
+    ensures { λ r. ⌜ ExclusivelyInside center width height p (r .number) (r .yes) ⌝ }
+{
+    let frame = bounding_box::box_ok(center, width, height);
+    let point = utils::site_ok(p);
+    let b = bounding_box::new(center, width, height);
+    let inside = yes(frame & point & bounding_box::is_exclusively_inside(b, p));
+    Verdict {
+        number: number(frame, point),
+        yes: inside,
+    }
+}
+
+pub struct OnSide {
+    pub number: u32,
+    pub side: u32,
+}
+
+// The side that p is on: top 0, bottom 2, right 3, left 1, the first within tolerance; EMPTY for none.
+pub fn which_edge(center: Point, width: f64, height: f64, p: Point) -> OnSide
+    ensures { λ r. ⌜ WhichEdge center width height p (r .number) (r .side) ⌝ }
+{
+    let frame = bounding_box::box_ok(center, width, height);
+    let point = utils::site_ok(p);
+    let b = bounding_box::new(center, width, height);
+    let side = side_if(frame & point, bounding_box::which_edge(b, p));
+    OnSide {
+        number: number(frame, point),
+        side,
+    }
+}
+
+pub struct Met {
+    pub number: u32,
+    pub count: u32,
+    pub x: f64,
+    pub y: f64,
+    pub u: f64,
+    pub v: f64,
+}
+
+// Where the line through two points meets the box: how many points, 0 to 2, and their coordinates, 0 where there is none.
+pub fn intersect_line(center: Point, width: f64, height: f64, p: Point, q: Point) -> Met
+    ensures { λ r. ⌜ Meets (lineAnswer center width height p q) (r .number) (r .count) (r .x) (r .y) (r .u) (r .v) ⌝ }
+{
+    let m = crossings::meet_line(center, width, height, p, q);
+    let w = crossings::met_values(m);
+    let count = crossings::met_count(m);
+    let x = w[0];
+    let y = w[1];
+    let u = w[2];
+    let v = w[3];
+    Met {
+        number: crossings::number_of(m),
+        count,
+        x,
+        y,
+        u,
+        v,
+    }
+}
+
+// The same of the ray from p in the direction d, in the ray's order.
+pub fn project_ray(center: Point, width: f64, height: f64, p: Point, d: Point) -> Met
+    ensures { λ r. ⌜ Meets (rayAnswer center width height p d) (r .number) (r .count) (r .x) (r .y) (r .u) (r .v) ⌝ }
+{
+    let m = crossings::meet_ray(center, width, height, p, d);
+    let w = crossings::met_values(m);
+    let count = crossings::met_count(m);
+    let x = w[0];
+    let y = w[1];
+    let u = w[2];
+    let v = w[3];
+    Met {
+        number: crossings::number_of(m),
+        count,
+        x,
+        y,
+        u,
+        v,
+    }
+}

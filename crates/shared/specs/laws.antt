@@ -1,0 +1,4 @@
+-- Laws that only proofs use.
+pub mod Offsets
+pub mod Entries
+pub mod Edge

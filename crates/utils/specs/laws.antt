@@ -1,0 +1,5 @@
+-- Laws that only proofs use.
+pub mod Sites
+pub mod Centroid
+pub mod Extension
+pub mod Calls

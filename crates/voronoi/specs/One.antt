@@ -1,0 +1,168 @@
+-- Theorem: of each public call no two outcomes are allowed for one input.
+use mathlib.Core.Path.{_≡_, sym, ap, _∙_}
+use mathlib.Core.Bool.{false}
+use mathlib.Core.List.{List}
+use Prim.Native.Nat.{ℕ, _^_, _<_}
+use lib.Dec.{eqb}
+use lib.Ieee.{Float}
+use Rattle.laws.specs.Pick.{pick}
+use Rattle.laws.specs.laws.Refusals.{finds-one}
+use Rattle.numbers.specs.Numbers.{EMPTY}
+use Rattle.root.specs.Root.{Root, RootBits}
+use Rattle.root.specs.Unique as root
+use Rattle.utils.specs.declared.Point.{Point}
+use Rattle.utils.specs.declared.Center.{Center}
+use Rattle.crossings.specs.declared.Meeting.{Meeting}
+use Rattle.mesh.specs.Accepted.{siteCount}
+use Rattle.mesh.specs.Rules.{numberOf}
+use Rattle.check_mesh.specs.Answers.{workAfter}
+use Rattle.shared.specs.Cells.{shareEdgeOf}
+use Rattle.shared.specs.Edge.{sharedEdgeOf}
+use Rattle.admission.specs.Slices.{Slices}
+use Rattle.cell_query.specs.Cells.{partAfter, startAfter, lengthAfter}
+use Rattle.cell_query.specs.laws.Cells.{cell-number}
+use Rattle.queries.specs.Answers.{outAfter, countAfter, endedAfter}
+use Rattle.building.specs.laws.Promise.{answers-one}
+use Rattle.plane_calls.specs.Plane.{bit, Answered}
+use Rattle.voronoi.specs.Roots.{MagnitudeBits, Magnitude, SignumBits, Signum}
+use Rattle.voronoi.specs.Plane.{Near, Dist2, Edges, Corners, Inside, ExclusivelyInside, WhichEdge, Meets}
+use Rattle.voronoi.specs.Meshes.{Check}
+use Rattle.voronoi.specs.Walks.{Handed, Walk, Neighbours, ClippedNeighbours, Path, SharedEdge, CellsShareEdge}
+use Rattle.voronoi.specs.Builds.{Build, BuildUnclipped, CellPart, Cell}
+
+-- two values that one definition gives
+same : {A : Type 0} {a b d : A} → a ≡ d → b ≡ d → a ≡ b
+same p q = p ∙ sym q
+
+-- ---- single numbers
+pub one-root-bits : (b r s : ℕ) → r < 2 ^ 64 → s < 2 ^ 64 → RootBits b r → RootBits b s → r ≡ s
+one-root-bits = root.one-pattern
+
+pub one-root : (x r s : Float) → Root x r → Root x s → r ≡ s
+one-root = root.one-root
+
+pub one-magnitude-bits : (b r s : ℕ) → MagnitudeBits b r → MagnitudeBits b s → r ≡ s
+one-magnitude-bits b r s p q = same p q
+
+pub one-magnitude : (x r s : Float) → Magnitude x r → Magnitude x s → r ≡ s
+one-magnitude x r s p q = same p q
+
+pub one-signum-bits : (b r s : ℕ) → SignumBits b r → SignumBits b s → r ≡ s
+one-signum-bits b r s p q = same p q
+
+pub one-signum : (x r s : Float) → Signum x r → Signum x s → r ≡ s
+one-signum x r s p q = same p q
+
+-- ---- points and the box
+pub one-near : (a b : Float) (r s : ℕ) → Near a b r → Near a b s → r ≡ s
+one-near a b r s p q = same p q
+
+pub one-dist2 : {a b : Point} {n m : ℕ} {d e : Float} → Dist2 a b n d → Dist2 a b m e → (n ≡ m) × (d ≡ e)
+one-dist2 p q = (same (p .refusal) (q .refusal), same (p .value) (q .value))
+
+-- the circumcenter and the centroid
+pub one-center : {r : Center} {n m : ℕ} {x y z w : Float} → Answered r n x y → Answered r m z w → (n ≡ m) × (x ≡ z) × (y ≡ w)
+one-center p q = (same (p .refusal) (q .refusal), same (p .x-value) (q .x-value), same (p .y-value) (q .y-value))
+
+pub one-box : {c : Point} {w h : Float} {n m : ℕ} {l t r b a d l' t' r' b' a' d' : Float} → Edges c w h n l t r b a d → Edges c w h m l' t' r' b' a' d'
+    → (n ≡ m) × (l ≡ l') × (t ≡ t') × (r ≡ r') × (b ≡ b') × (a ≡ a') × (d ≡ d')
+one-box p q = (
+  same (p .refusal) (q .refusal),
+  same (p .left-edge) (q .left-edge),
+  same (p .top-edge) (q .top-edge),
+  same (p .right-edge) (q .right-edge),
+  same (p .bottom-edge) (q .bottom-edge),
+  same (p .width) (q .width),
+  same (p .height) (q .height),
+)
+
+pub one-corners : {c : Point} {w h : Float} {l : List Float} {n m : ℕ} {k o : List Float} → Corners c w h l n k → Corners c w h l m o → (n ≡ m) × (k ≡ o)
+one-corners p q = (same (p .refusal) (q .refusal), same (p .slice) (q .slice))
+
+pub one-inside : {c : Point} {w h : Float} {p : Point} {n m y z : ℕ} → Inside c w h p n y → Inside c w h p m z → (n ≡ m) × (y ≡ z)
+one-inside p q = (same (p .refusal) (q .refusal), same (p .answer) (q .answer))
+
+pub one-exclusively : {c : Point} {w h : Float} {p : Point} {n m y z : ℕ} → ExclusivelyInside c w h p n y → ExclusivelyInside c w h p m z → (n ≡ m) × (y ≡ z)
+one-exclusively p q = (same (p .refusal) (q .refusal), same (p .answer) (q .answer))
+
+pub one-side : {c : Point} {w h : Float} {p : Point} {n m s t : ℕ} → WhichEdge c w h p n s → WhichEdge c w h p m t → (n ≡ m) × (s ≡ t)
+one-side p q = (same (p .refusal) (q .refusal), same (p .answer) (q .answer))
+
+-- the line and the ray
+pub one-meeting : {m : Meeting} {n k c d : ℕ} {x y u v x' y' u' v' : Float} → Meets m n c x y u v → Meets m k d x' y' u' v'
+    → (n ≡ k) × (c ≡ d) × (x ≡ x') × (y ≡ y') × (u ≡ u') × (v ≡ v')
+one-meeting p q = (
+  same (p .refusal) (q .refusal),
+  same (p .points) (q .points),
+  same (p .first-x) (q .first-x),
+  same (p .first-y) (q .first-y),
+  same (p .second-x) (q .second-x),
+  same (p .second-y) (q .second-y),
+)
+
+-- ---- the check of a lent mesh
+module _ (sites : List Float) (tri he hull old : List ℕ) where
+  pub one-check : (new other : List ℕ) (r s : ℕ) → Check sites tri he hull old new r → Check sites tri he hull old other s → (r ≡ s) × (new ≡ other)
+  one-check new other r s a b =
+      let q = a .number ∙ ap numberOf (finds-one (a .finding) (b .finding)) ∙ sym (b .number) in
+      (q, a .work ∙ ap (workAfter tri he (siteCount sites) old) q ∙ sym (b .work))
+
+-- ---- walks, and what triangles and cells share
+handed-one : {Number : ℕ → Type 0} {tri he : List ℕ} {n : ℕ} {whole w w′ w″ o o′ o″ : List ℕ} {k l e f r s : ℕ}
+    → ((a b : ℕ) → Number a → Number b → a ≡ b) → Handed Number tri he n whole w w′ o o′ k e r
+    → Handed Number tri he n whole w w″ o o″ l f s → (r ≡ s) × (w′ ≡ w″) × (o′ ≡ o″) × (k ≡ l) × (e ≡ f)
+handed-one {tri = tri} {he} {n} {whole} {w} {o = o} {r = r} {s} one a b =
+    let q : r ≡ s = one r s (a .number) (b .number) in (
+      q,
+      a .work ∙ ap (workAfter tri he n w) q ∙ sym (b .work),
+      a .out ∙ ap (outAfter whole o) q ∙ sym (b .out),
+      a .count ∙ ap (countAfter whole o) q ∙ sym (b .count),
+      a .ended ∙ ap (λ m. bit (endedAfter whole o m)) q ∙ sym (b .ended),
+    )
+
+module _ (sites : List Float) (tri he hull : List ℕ) {w w′ w″ o o′ o″ : List ℕ} {k l e f r s : ℕ} where
+  pub one-walk : (v : ℕ) → Walk sites tri he hull v w w′ o o′ k e r → Walk sites tri he hull v w w″ o o″ l f s → (r ≡ s) × (w′ ≡ w″)
+      × (o′ ≡ o″) × (k ≡ l) × (e ≡ f)
+  one-walk v = handed-one (λ a b. finds-one)
+
+  pub one-neighbours : (v : ℕ) → Neighbours sites tri he hull v w w′ o o′ k e r → Neighbours sites tri he hull v w w″ o o″ l f s → (r ≡ s)
+      × (w′ ≡ w″) × (o′ ≡ o″) × (k ≡ l) × (e ≡ f)
+  one-neighbours v = handed-one (λ a b. finds-one)
+
+  pub one-path : (v : ℕ) (p : Point) → Path sites tri he hull v p w w′ o o′ k e r → Path sites tri he hull v p w w″ o o″ l f s → (r ≡ s)
+      × (w′ ≡ w″) × (o′ ≡ o″) × (k ≡ l) × (e ≡ f)
+  one-path v p = handed-one (λ a b. finds-one)
+
+  pub one-clipped : (off ix : List ℕ) (v : ℕ) → ClippedNeighbours sites tri he hull off ix v w w′ o o′ k e r
+      → ClippedNeighbours sites tri he hull off ix v w w″ o o″ l f s → (r ≡ s) × (w′ ≡ w″) × (o′ ≡ o″) × (k ≡ l) × (e ≡ f)
+  one-clipped off ix v = handed-one (λ a b. finds-one)
+
+pub one-shared-edge : {sites : List Float} {tri he hull : List ℕ} {a b : ℕ} {w w′ w″ : List ℕ} {e f r s : ℕ}
+    → SharedEdge sites tri he hull a b w w′ e r → SharedEdge sites tri he hull a b w w″ f s → (r ≡ s) × (w′ ≡ w″) × (e ≡ f)
+one-shared-edge {sites} {tri} {he} {a = a} {b} {w} x y =
+    let q = finds-one (x .number) (y .number) in
+    (q, x .work ∙ ap (workAfter tri he (siteCount sites) w) q ∙ sym (y .work), x .edge ∙ ap (λ m. pick (eqb m 0) (λ _. sharedEdgeOf he a b) (λ _. EMPTY)) q ∙ sym (y .edge))
+
+pub one-cells-share-edge : {off ix : List ℕ} {a b y z r s : ℕ} → CellsShareEdge off ix a b y r → CellsShareEdge off ix a b z s → (r ≡ s) × (y ≡ z)
+one-cells-share-edge {off} {ix} {a} {b} x v =
+    let q = finds-one (x .number .found) (v .number .found) in
+    (q, x .answer ∙ ap (λ m. bit (pick (eqb m 0) (λ _. shareEdgeOf off ix a b) (λ _. false))) q ∙ sym (v .answer))
+
+-- ---- builds and cells
+module _ (sites : List Float) (tri he hull : List ℕ) {old new other : Slices} {r s : ℕ} where
+  pub one-build : (c : Point) (w h : Float) → Build sites tri he hull c w h old new r → Build sites tri he hull c w h old other s → (r ≡ s) × (new ≡ other)
+  one-build c w h = answers-one
+
+  pub one-build-unclipped : BuildUnclipped sites tri he hull old new r → BuildUnclipped sites tri he hull old other s → (r ≡ s) × (new ≡ other)
+  one-build-unclipped = answers-one
+
+module _ (off ix : List ℕ) (s : ℕ) {q r : ℕ} where
+  pub one-cell-part : {p o : List ℕ} → CellPart off ix s p q → CellPart off ix s o r → (q ≡ r) × (p ≡ o)
+  one-cell-part x y =
+      let e = cell-number off ix s (x .number) (y .number) in
+      (e, x .entries ∙ ap (partAfter off ix s) e ∙ sym (y .entries))
+
+  pub one-cell : {a b l m : ℕ} → Cell off ix s a l q → Cell off ix s b m r → (q ≡ r) × (a ≡ b) × (l ≡ m)
+  one-cell x y =
+      let e = cell-number off ix s (x .number) (y .number) in
+      (e, x .from ∙ ap (startAfter off s) e ∙ sym (y .from), x .many ∙ ap (lengthAfter off s) e ∙ sym (y .many))
