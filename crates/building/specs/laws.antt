@@ -2,3 +2,5 @@
 pub mod Promise
 pub mod BuildAnswer
 pub mod ClippedBuild
+pub mod BoxAsk
+pub mod Left

@@ -5,3 +5,4 @@ pub mod One
 pub mod Enough
 pub mod Square
 pub mod laws
+pub mod SquarePrints

@@ -13,3 +13,8 @@ pub mod Start
 pub mod Owners
 pub mod Lowest
 pub mod Built
+pub mod VerticesFinite
+pub mod CellCount
+pub mod OwnerPaths
+pub mod CornersAt
+pub mod EmptyCell

@@ -10,3 +10,4 @@ pub mod ClippedCursor
 pub mod ClippedStep
 pub mod ClippedLoop
 pub mod Clippable
+pub mod Joined

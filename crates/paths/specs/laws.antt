@@ -5,3 +5,5 @@ pub mod WholePath
 pub mod HopLoop
 pub mod PathLoops
 pub mod PathNeeds
+pub mod Parts
+pub mod EachSite

@@ -7,3 +7,9 @@ pub mod One
 pub mod Accepted
 pub mod Examples
 pub mod laws
+pub mod Outcomes
+pub mod Leaves
+pub mod Bounds
+pub mod Approach
+pub mod Wraps
+pub mod Demands

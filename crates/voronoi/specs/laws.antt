@@ -1,3 +1,10 @@
 -- Laws that only proofs use.
 pub mod Meshes
 pub mod Walks
+pub mod Refused
+pub mod Written
+pub mod Answering
+pub mod PlaneBounds
+pub mod Leaving
+pub mod Walking
+pub mod Wrapping

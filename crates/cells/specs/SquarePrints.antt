@@ -1,0 +1,85 @@
+-- Theorem: the checked listing on the promises: for the 172 bytes of "square" `cells` prints the text of docs/RULES.md and nothing else, and a build of its mesh, with room, answers 0.
+use mathlib.Core.Path.{_≡_, refl, sym, subst}
+use mathlib.Core.Bool.{true}
+use mathlib.Core.List.{List}
+use Prim.Native.Nat.{ℕ}
+use native.Mathlib.Omega.{arith}
+use lib.Ieee.{Float, ofBits, neg, lt, le, add, sub, div}
+use Rattle.utils.specs.Plane.{at}
+use Rattle.utils.specs.Rules.{okCoord, okSite}
+use Rattle.bounding_box.specs.Box.{madeOf}
+use Rattle.bounding_box.specs.Rules.{okBox}
+use Rattle.mesh.specs.Accepted.{Accepted}
+use Rattle.mesh.specs.Square as mesh
+use Rattle.admission.specs.laws.Admits.{admits}
+use Rattle.definition.specs.declared.Fault.{Fault}
+use Rattle.definition.specs.Fault.{Outcome, ok, refused}
+use Rattle.definition.specs.Build.{Built}
+use Rattle.admission.specs.Asks.{boxAsk}
+use Rattle.admission.specs.Slices.{Slices, roomOf}
+use Rattle.building.specs.Success.{Value, succeeds-zero}
+use Rattle.voronoi.specs.Builds.{Build}
+use Rattle.form.specs.Form.{MeshFits, numbersOf, float, siteFloats, triangleSites, trianglePairs}
+use Rattle.form.specs.Square.{square, squareBytes, two-is}
+use Rattle.listing.specs.Text.{ascii}
+use Rattle.cells.specs.Printed.{Shows, built, boxText, Prints, sound}
+use Rattle.cells.specs.One.{prints-one}
+use Rattle.cells.specs.Square.{texted, rows}
+
+abbrev pub text : List ℕ
+text = ascii "sites 4 triangles 2 vertices 14\ncell 0: 1 10 2 11 0\ncell 1: 0 11 3 12\ncell 2: 0 12 4 13 1\ncell 3: 1 13 5 10\ncorners 0 1 2 3 lost 0\n"
+
+-- ---- the mesh of "square"
+abbrev pub formSites : List Float
+formSites = numbersOf siteFloats (square .sites)
+
+abbrev pub formTri : List ℕ
+formTri = numbersOf triangleSites (square .triangles)
+
+abbrev pub formHe : List ℕ
+formHe = numbersOf trianglePairs (square .triangles)
+
+same-sites : mesh.sites ≡ formSites
+unfolding ofBits neg
+same-sites = refl
+
+accepted : Accepted formSites formTri formHe (square .hull)
+accepted = subst (λ (l : List Float). Accepted l mesh.tri mesh.he mesh.hull) same-sites mesh.square-accepted
+
+fits : MeshFits square
+fits = record {
+  clip = (omega arith, omega arith, omega arith, omega arith);
+  sites = ((omega arith, omega arith), ((omega arith, omega arith), ((omega arith, omega arith), ((omega arith, omega arith), tt))));
+  triangles = (
+    (omega arith, omega arith, omega arith, omega arith, omega arith, omega arith),
+    ((omega arith, omega arith, omega arith, omega arith, omega arith, omega arith), tt),
+  );
+  hull = (omega arith, (omega arith, (omega arith, (omega arith, tt))));
+  few-sites = omega arith;
+  few-triangles = omega arith;
+  few-hull = omega arith;
+}
+
+box-fits : boxAsk (at (float 0) (float 0)) (float two-is) (float two-is) ≡ 0
+unfolding boxAsk okBox okSite okCoord madeOf ofBits lt le add sub div
+box-fits = refl
+
+-- ---- what is printed
+shown : {Rules : ℕ → Type 0} → Rules 0 → (o : Outcome Fault Built) (t : List ℕ) → texted 4 2 o ≡ ok t → Shows Rules (boxText 4 2) o t
+shown {Rules} z (ok b) t e = let q : boxText 4 2 b ≡ t = cc in subst (Shows Rules (boxText 4 2) (ok b)) q (built z)
+shown z (refused f) t e = let q : _≡_ {A = ℕ} 0 1 = cc in absurd (omega arith)
+
+pub square-prints : Prints squareBytes text
+square-prints = sound square fits (sym (rows .1)) (shown (admits (record { accepted = accepted; roomed = refl; fit = box-fits })) _ text (rows .2))
+
+pub square-alone : {t : List ℕ} → Prints squareBytes t → t ≡ text
+square-alone p = prints-one p square-prints
+
+-- ---- what a build answers
+value : (o : Outcome Fault Built) (t : List ℕ) → texted 4 2 o ≡ ok t → Value o
+value (ok b) t e = record { value = b; is = refl }
+value (refused f) t e = let q : _≡_ {A = ℕ} 0 1 = cc in absurd (omega arith)
+
+pub square-answers : {old new : Slices} {r : ℕ} → Build formSites formTri formHe (square .hull) (at (float 0) (float 0)) (float two-is) (float two-is) old new r
+    → roomOf formSites formTri (square .hull) old ≡ true → r ≡ 0
+square-answers a room = succeeds-zero (record { admission = record { accepted = accepted; roomed = room; fit = box-fits }; outcome = value _ text (rows .2) }) a

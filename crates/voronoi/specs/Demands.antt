@@ -1,0 +1,293 @@
+-- Theorem: the three demands on the public calls, proved of every input. They speak of the calls' promises (Roots, Plane, Meshes, Walks, Builds): what is said of an outcome holds of
+-- every outcome that its promise allows. That a call ends on every input, and keeps its promise, is what the check proves of its function. The words that they use are
+-- in Outcomes, Leaves, Bounds, Approach and Wraps.
+use mathlib.Core.Path.{_≡_}
+use mathlib.Core.Bool.{true}
+use mathlib.Core.List.{List, [], _∷_}
+use mathlib.Core.Logic.{_≢_, _↔_}
+use Prim.Native.Nat.{ℕ, suc, _^_, _≤_, _<_}
+use lib.Ieee.{Float, nan}
+use lib.ListN.{length, getD, take, drop}
+use Rattle.numbers.specs.Numbers.{EMPTY}
+use Rattle.laws.specs.Count.{occ}
+use Rattle.root.specs.Root.{Root, RootBits}
+use Rattle.root.specs.Bounded.{Bounded}
+use Rattle.utils.specs.Rules.{okSite}
+use Rattle.utils.specs.declared.Point.{Point}
+use Rattle.bounding_box.specs.Box.{madeOf}
+use Rattle.bounding_box.specs.Rules.{okBox}
+use Rattle.crossings.specs.Rules.{lineAnswer, rayAnswer}
+use Rattle.mesh.specs.Mesh.{leftmostOf, wholeOf, Used}
+use Rattle.mesh.specs.Accepted.{siteCount}
+use Rattle.iterator.specs.Clipped.{clippedNeighboursOf}
+use Rattle.paths.specs.Path.{distOf}
+use Rattle.paths.specs.PathRule.{usedOf}
+use Rattle.paths.specs.Path.{wholePath}
+use Rattle.definition.specs.Build.{build}
+use Rattle.definition.specs.Unclipped.{unclipped}
+use Rattle.admission.specs.Asks.{CellsOf}
+use Rattle.admission.specs.Slices.{Slices}
+use Rattle.voronoi.specs.Roots.{MagnitudeBits, Magnitude, SignumBits, Signum}
+use Rattle.voronoi.specs.One.{one-root-bits, one-root, one-magnitude-bits, one-magnitude, one-signum-bits, one-signum}
+use Rattle.voronoi.specs.Plane.{Near, Dist2, Circumcenter, Centroid, Edges, Corners, Inside, ExclusivelyInside, WhichEdge, Meets}
+use Rattle.voronoi.specs.One.{one-near, one-dist2, one-center, one-box, one-corners, one-inside, one-exclusively, one-side, one-meeting}
+use Rattle.voronoi.specs.Meshes.{Check}
+use Rattle.voronoi.specs.One.{one-check}
+use Rattle.voronoi.specs.Walks.{Walk, Neighbours, ClippedNeighbours, Path, SharedEdge, CellsShareEdge}
+use Rattle.voronoi.specs.One.{one-walk, one-neighbours, one-clipped, one-path, one-shared-edge, one-cells-share-edge}
+use Rattle.voronoi.specs.Builds.{Build, BuildUnclipped, Cell, CellPart}
+use Rattle.voronoi.specs.One.{one-build, one-build-unclipped, one-cell, one-cell-part}
+use Rattle.voronoi.specs.Outcomes.{One, One₂, One₃, OneList, OneMeeting, OneBox, SliceRefused, ListRefused, BuildRefused}
+use Rattle.voronoi.specs.Leaves.{QueryAllowed, BuildAllowed, BuildLeaves}
+use Rattle.voronoi.specs.Bounds.{BoundedEdges, BoundedMeeting, Bounds, bounds}
+use Rattle.voronoi.specs.Approach.{WholeRound, nextTo, Joined, Approaches}
+use Rattle.voronoi.specs.Wraps.{Wraps}
+use Rattle.voronoi.specs.laws.Refused.{work-refused, list-refused, slices-refused}
+use Rattle.voronoi.specs.laws.Answering.{check-answers, site-answers, cells-answers, path-answers, edge-answers}
+use Rattle.voronoi.specs.laws.Leaving.{build-answers, build-leaves, build-empty, unclipped-answers, unclipped-leaves, unclipped-empty}
+use Rattle.voronoi.specs.laws.PlaneBounds.{dist2-answer, circumcenter-answer, centroid-answer, box-answer, corners-answer, line-answer, ray-answer}
+use Rattle.voronoi.specs.laws.Written.{written, begins, rest}
+use Rattle.voronoi.specs.laws.Walking.{walk-rounds, walk-ends, no-walk, neighbours-joined, no-neighbours, path-approaches, path-once, path-short, path-ended, own-path}
+use Rattle.voronoi.specs.laws.Wrapping.{build-wraps}
+
+-- ---- 1. Every public call ends with an answer on every input; a refusal has its number (docs/RULES.md), and each lent slice then holds exactly what is promised.
+
+-- one outcome for each input of each call; then what a refusal leaves
+pub record Demand1 (sites : List Float) (tri he hull : List ℕ) : Type 0 where
+  -- voronoi_root_bits, of patterns of 64 bits
+  pub root-bits : (b : ℕ) → One (λ r. (r < 2 ^ 64) × RootBits b r)
+  -- voronoi_root
+  pub root : (x : Float) → One (Root x)
+  -- voronoi_magnitude_bits
+  pub magnitude-bits : (b : ℕ) → One (MagnitudeBits b)
+  -- voronoi_magnitude
+  pub magnitude : (x : Float) → One (Magnitude x)
+  -- voronoi_signum_bits
+  pub signum-bits : (b : ℕ) → One (SignumBits b)
+  -- voronoi_signum
+  pub signum : (x : Float) → One (Signum x)
+  -- voronoi_abs_diff_eq
+  pub abs-diff-eq : (a b : Float) → One (Near a b)
+  -- voronoi_dist2: the number, the distance
+  pub dist2 : (a b : Point) → One₂ (Dist2 a b)
+  -- voronoi_circumcenter: the number, x, y
+  pub circumcenter : (a b c : Point) → One₃ (Circumcenter a b c)
+  -- voronoi_centroid: the number, x, y
+  pub centroid : (l : List Float) → One₃ (Centroid l)
+  -- voronoi_box: the number, left, top, right, bottom, width, height
+  pub box : (c : Point) (w h : Float) → OneBox (Edges c w h)
+  -- voronoi_corners: the number, the slice
+  pub corners : (c : Point) (w h : Float) (l : List Float) → One₂ (Corners c w h l)
+  -- voronoi_is_inside: the number, yes or no
+  pub is-inside : (c : Point) (w h : Float) (p : Point) → One₂ (Inside c w h p)
+  -- voronoi_is_exclusively_inside
+  pub is-exclusively-inside : (c : Point) (w h : Float) (p : Point) → One₂ (ExclusivelyInside c w h p)
+  -- voronoi_which_edge: the number, the side
+  pub which-edge : (c : Point) (w h : Float) (p : Point) → One₂ (WhichEdge c w h p)
+  -- voronoi_intersect_line: the number, how many, two points
+  pub intersect-line : (c : Point) (w h : Float) (p q : Point) → OneMeeting (Meets (lineAnswer c w h p q))
+  -- voronoi_project_ray
+  pub project-ray : (c : Point) (w h : Float) (p dir : Point) → OneMeeting (Meets (rayAnswer c w h p dir))
+  -- voronoi_check: the number, the work slice
+  pub check : (w : List ℕ) → One₂ (λ r w′. Check sites tri he hull w w′ r)
+  -- voronoi_walk: the number, the work slice, the output slice, the count, ended
+  pub walk : (s : ℕ) (w o : List ℕ) → OneList (λ r w′ o′ k e. Walk sites tri he hull s w w′ o o′ k e r)
+  -- voronoi_neighbours
+  pub neighbours : (s : ℕ) (w o : List ℕ) → OneList (λ r w′ o′ k e. Neighbours sites tri he hull s w w′ o o′ k e r)
+  -- voronoi_clipped_neighbours
+  pub clipped-neighbours : (offs idx : List ℕ) (s : ℕ) (w o : List ℕ) → OneList (λ r w′ o′ k e. ClippedNeighbours sites tri he hull offs idx s w w′ o o′ k e r)
+  -- voronoi_path
+  pub path : (s : ℕ) (p : Point) (w o : List ℕ) → OneList (λ r w′ o′ k e. Path sites tri he hull s p w w′ o o′ k e r)
+  -- voronoi_shared_edge: the number, the work slice, the edge
+  pub shared-edge : (a b : ℕ) (w : List ℕ) → One₃ (λ r w′ e. SharedEdge sites tri he hull a b w w′ e r)
+  -- voronoi_cells_share_edge: the number, yes or no
+  pub cells-share-edge : (offs idx : List ℕ) (a b : ℕ) → One₂ (λ r y. CellsShareEdge offs idx a b y r)
+  -- voronoi_build: the number, all five slices
+  pub build : (c : Point) (w h : Float) (old : Slices) → One₂ (λ r new. Build sites tri he hull c w h old new r)
+  -- voronoi_build_unclipped
+  pub build-unclipped : (old : Slices) → One₂ (λ r new. BuildUnclipped sites tri he hull old new r)
+  -- voronoi_cell: the number, start, length
+  pub cell : (offs idx : List ℕ) (s : ℕ) → One₃ (λ r start long. Cell offs idx s start long r)
+  -- cell: the number, the part
+  pub cell-part : (offs idx : List ℕ) (s : ℕ) → One₂ (λ r part. CellPart offs idx s part r)
+  -- refused by voronoi_check: the work slice
+  pub check-refused : {w w′ : List ℕ} {r : ℕ} → Check sites tri he hull w w′ r → r ≢ 0 → SliceRefused EMPTY w w′ r
+  -- by a call that hands out a list: the work slice, the output slice, the count, ended
+  pub walk-refused : (s : ℕ) {w w′ o o′ : List ℕ} {k e r : ℕ} → Walk sites tri he hull s w w′ o o′ k e r → r ≢ 0 → ListRefused w w′ o o′ k e r
+  pub neighbours-refused : (s : ℕ) {w w′ o o′ : List ℕ} {k e r : ℕ} → Neighbours sites tri he hull s w w′ o o′ k e r → r ≢ 0 → ListRefused w w′ o o′ k e r
+  pub clipped-refused : (offs idx : List ℕ) (s : ℕ) {w w′ o o′ : List ℕ} {k e r : ℕ}
+      → ClippedNeighbours sites tri he hull offs idx s w w′ o o′ k e r → r ≢ 0 → ListRefused w w′ o o′ k e r
+  pub path-refused : (s : ℕ) (p : Point) {w w′ o o′ : List ℕ} {k e r : ℕ} → Path sites tri he hull s p w w′ o o′ k e r → r ≢ 0 → ListRefused w w′ o o′ k e r
+  -- by voronoi_shared_edge: the work slice
+  pub shared-edge-refused : (a b : ℕ) {w w′ : List ℕ} {e r : ℕ} → SharedEdge sites tri he hull a b w w′ e r → r ≢ 0 → SliceRefused EMPTY w w′ r
+  -- by a build: all five slices
+  pub build-refused : (c : Point) (w h : Float) {old new : Slices} {r : ℕ} → Build sites tri he hull c w h old new r → r ≢ 0 → BuildRefused old new r
+  pub unclipped-refused : {old new : Slices} {r : ℕ} → BuildUnclipped sites tri he hull old new r → r ≢ 0 → BuildRefused old new r
+
+-- ---- 2. On every admitted input vertices, cells, walks and paths are the definition's, bit for bit: every number answered is finite, so that its pattern is meant.
+
+pub record Demand2 (sites : List Float) (tri he hull : List ℕ) : Type 0 where
+  -- a query answers 0 exactly where the mesh is accepted, there is room, and its own arguments are sound
+  pub check-answers : {w w′ : List ℕ} {r : ℕ} → Check sites tri he hull w w′ r → (r ≡ 0) ↔ QueryAllowed sites tri he hull w (Unit {0})
+  pub walk-answers : (s : ℕ) {w w′ o o′ : List ℕ} {k e r : ℕ} → Walk sites tri he hull s w w′ o o′ k e r → (r ≡ 0) ↔ QueryAllowed sites tri he hull w (s < siteCount sites)
+  pub neighbours-answers : (s : ℕ) {w w′ o o′ : List ℕ} {k e r : ℕ} → Neighbours sites tri he hull s w w′ o o′ k e r
+      → (r ≡ 0) ↔ QueryAllowed sites tri he hull w (s < siteCount sites)
+  pub clipped-answers : (offs idx : List ℕ) (s : ℕ) {w w′ o o′ : List ℕ} {k e r : ℕ} → ClippedNeighbours sites tri he hull offs idx s w w′ o o′ k e r
+      → (r ≡ 0) ↔ QueryAllowed sites tri he hull w ((s < siteCount sites) × CellsOf offs idx (siteCount sites))
+  pub path-answers : (s : ℕ) (p : Point) {w w′ o o′ : List ℕ} {k e r : ℕ} → Path sites tri he hull s p w w′ o o′ k e r
+      → (r ≡ 0) ↔ QueryAllowed sites tri he hull w ((s < siteCount sites) × (okSite p ≡ true))
+  pub shared-edge-answers : (a b : ℕ) {w w′ : List ℕ} {e r : ℕ} → SharedEdge sites tri he hull a b w w′ e r → (r ≡ 0) ↔ QueryAllowed sites tri he hull w (Unit {0})
+  -- a build answers 0 exactly where mesh, room, box and definition allow it
+  pub build-answers : (c : Point) (w h : Float) {old new : Slices} {r : ℕ} → Build sites tri he hull c w h old new r
+      → (r ≡ 0) ↔ BuildAllowed sites tri he hull (okBox c w h ≡ true) (build sites tri he hull (madeOf c w h)) old
+  pub unclipped-answers : {old new : Slices} {r : ℕ} → BuildUnclipped sites tri he hull old new r → (r ≡ 0) ↔ BuildAllowed sites tri he hull (Unit {0}) (unclipped sites tri he) old
+  -- and leaves the definition's vertices, cells, owners and lost corners; each number finite; the cell queries hand the definition's cells back
+  pub build-leaves : (c : Point) (w h : Float) {old new : Slices} → Build sites tri he hull c w h old new 0
+      → BuildLeaves (siteCount sites) (leftmostOf tri he (siteCount sites)) (build sites tri he hull (madeOf c w h)) old new
+  pub unclipped-leaves : {old new : Slices} → BuildUnclipped sites tri he hull old new 0 → BuildLeaves (siteCount sites) (leftmostOf tri he (siteCount sites)) (unclipped sites tri he) old new
+  -- a walk that has ended is the definition's, from the leftmost half-edge of the site
+  pub walk : (s : ℕ) {w w′ o o′ : List ℕ} {k : ℕ} → Walk sites tri he hull s w w′ o o′ k 1 0 → take k o′ ≡ wholeOf he (getD (leftmostOf tri he (siteCount sites)) s 0)
+  -- so are neighbours, before clipping and after it
+  pub neighbours : (s : ℕ) {w w′ o o′ : List ℕ} {k : ℕ} → Neighbours sites tri he hull s w w′ o o′ k 1 0 → take k o′ ≡ nextTo sites tri he s
+  pub clipped-neighbours : (offs idx : List ℕ) (s : ℕ) {w w′ o o′ : List ℕ} {k : ℕ} → ClippedNeighbours sites tri he hull offs idx s w w′ o o′ k 1 0
+      → take k o′ ≡ clippedNeighboursOf tri he (leftmostOf tri he (siteCount sites)) offs idx s
+  -- so is a path
+  pub path : (s : ℕ) (p : Point) {w w′ o o′ : List ℕ} {k : ℕ} → Path sites tri he hull s p w w′ o o′ k 1 0
+      → take k o′ ≡ wholePath sites tri he (leftmostOf tri he (siteCount sites)) p s
+  -- no accepted answer of a call on points and the box is a NaN: each is finite, at most the power of 2 that is named
+  pub dist2 : (a b : Point) {d : Float} → Dist2 a b 0 d → Bounded 203 d
+  pub circumcenter : (a b c : Point) {x y : Float} → Circumcenter a b c 0 x y → Bounded 400 x × Bounded 400 y
+  pub centroid : (l : List Float) {x y : Float} → Centroid l 0 x y → Bounded 100 x × Bounded 100 y
+  pub box : (c : Point) (w h : Float) {l t r b a d : Float} → Edges c w h 0 l t r b a d → BoundedEdges l t r b a d
+  pub corners : (c : Point) (w h : Float) {before after : List Float} → Corners c w h before 0 after → (i : ℕ) → i < length after → Bounded 101 (getD after i nan)
+  pub intersect-line : (c : Point) (w h : Float) (p q : Point) {k : ℕ} {x y u v : Float} → Meets (lineAnswer c w h p q) 0 k x y u v → BoundedMeeting x y u v
+  pub project-ray : (c : Point) (w h : Float) (p dir : Point) {k : ℕ} {x y u v : Float} → Meets (rayAnswer c w h p dir) 0 k x y u v → BoundedMeeting x y u v
+  -- nor is a value on the way to one
+  pub within : Bounds
+
+-- ---- 3. On every accepted mesh a walk lists each half-edge of its site exactly once, a path strictly approaches its point and stops exactly where no neighbour is nearer,
+-- and each box corner is wrapped at most once, by its owner.
+
+pub record Demand3 (sites : List Float) (tri he hull : List ℕ) : Type 0 where
+  -- the whole walk: each half-edge that ends at the site exactly once, and no other
+  pub walk : (s : ℕ) {w w′ o o′ : List ℕ} {k : ℕ} → Walk sites tri he hull s w w′ o o′ k 1 0 → WholeRound tri he s (take k o′)
+  -- a slice with an entry for each time that the triangles name the site gets the whole of it
+  pub walk-ends : (s : ℕ) {w w′ o o′ : List ℕ} {k e : ℕ} → Walk sites tri he hull s w w′ o o′ k e 0 → occ s tri ≤ length o → e ≡ 1
+  -- a shorter slice gets exactly its beginning, and stays as it was after it
+  pub walk-begins : (s : ℕ) {v v′ x x′ w w′ o o′ : List ℕ} {j k e : ℕ} → Walk sites tri he hull s v v′ x x′ j 1 0 → Walk sites tri he hull s w w′ o o′ k e 0
+      → (take k o′ ≡ take (length o) (take j x′)) × (drop k o′ ≡ drop k o)
+  -- the neighbours are exactly the sites that a half-edge joins to the site
+  pub neighbours : (s : ℕ) {w w′ o o′ : List ℕ} {k : ℕ} → Neighbours sites tri he hull s w w′ o o′ k 1 0 → (v : ℕ) → (0 < occ v (take k o′)) ↔ Joined tri he s v
+  -- the whole path: from its site, each hop to the first of the nearest neighbours, each strictly nearer, to where none is nearer
+  pub path : (s : ℕ) (p : Point) {w w′ o o′ : List ℕ} {k : ℕ} → Path sites tri he hull s p w w′ o o′ k 1 0 → Approaches (distOf sites p) (nextTo sites tri he) s (take k o′)
+  -- no site stands on it twice
+  pub path-once : (s : ℕ) (p : Point) {w w′ o o′ : List ℕ} {k : ℕ} → Path sites tri he hull s p w w′ o o′ k 1 0 → (v : ℕ) → occ v (take k o′) ≤ 1
+  -- it has no more entries than there are sites in use
+  pub path-short : (s : ℕ) (p : Point) {w w′ o o′ : List ℕ} {k : ℕ} → Path sites tri he hull s p w w′ o o′ k 1 0 → Used tri s
+      → length (take k o′) ≤ usedOf tri (siteCount sites)
+  -- a slice with an entry for each site gets the whole of it
+  pub path-ends : (s : ℕ) (p : Point) {w w′ o o′ : List ℕ} {k e : ℕ} → Path sites tri he hull s p w w′ o o′ k e 0 → siteCount sites ≤ length o → e ≡ 1
+  -- a shorter slice gets exactly its beginning, and stays as it was after it
+  pub path-begins : (s : ℕ) (p : Point) {v v′ x x′ w w′ o o′ : List ℕ} {j k e : ℕ} → Path sites tri he hull s p v v′ x x′ j 1 0 → Path sites tri he hull s p w w′ o o′ k e 0
+      → (take k o′ ≡ take (length o) (take j x′)) × (drop k o′ ≡ drop k o)
+  -- each corner is wrapped at most once, by its owner, in the cells that a build leaves
+  pub wrapping : (c : Point) (w h : Float) {old new : Slices} → Build sites tri he hull c w h old new 0 → Wraps sites tri he hull (madeOf c w h) old new
+  -- a site in no triangle has an empty walk
+  pub no-walk : (s : ℕ) {w w′ o o′ : List ℕ} {k e : ℕ} → (Used tri s → ⊥) → Walk sites tri he hull s w w′ o o′ k e 0 → (k ≡ 0) × (e ≡ 1)
+  -- no neighbours
+  pub no-neighbours : (s : ℕ) {w w′ o o′ : List ℕ} {k e : ℕ} → (Used tri s → ⊥) → Neighbours sites tri he hull s w w′ o o′ k e 0 → (k ≡ 0) × (e ≡ 1)
+  -- a path of itself alone
+  pub own-path : (s : ℕ) (p : Point) {w w′ o o′ : List ℕ} {k e : ℕ} → (Used tri s → ⊥) → 0 < length o
+      → Path sites tri he hull s p w w′ o o′ k e 0 → (take k o′ ≡ s ∷ []) × (e ≡ 1)
+  -- an empty cell
+  pub no-cell : (c : Point) (w h : Float) (s : ℕ) {old new : Slices} {part : List ℕ} {r : ℕ} → Build sites tri he hull c w h old new 0 → s < siteCount sites → (Used tri s → ⊥)
+      → CellPart (take (suc (siteCount sites)) (new .offsets)) (new .indexes) s part r → part ≡ []
+  pub no-cell-unclipped : (s : ℕ) {old new : Slices} {part : List ℕ} {r : ℕ} → BuildUnclipped sites tri he hull old new 0 → s < siteCount sites → (Used tri s → ⊥)
+      → CellPart (take (suc (siteCount sites)) (new .offsets)) (new .indexes) s part r → part ≡ []
+
+-- ---- proved, of every lent mesh
+
+pub demand1 : (sites : List Float) (tri he hull : List ℕ) → Demand1 sites tri he hull
+demand1 sites tri he hull = record {
+  root-bits = λ b r s x y. one-root-bits b r s (x .0) (y .0) (x .1) (y .1);
+  root = one-root;
+  magnitude-bits = one-magnitude-bits;
+  magnitude = one-magnitude;
+  signum-bits = one-signum-bits;
+  signum = one-signum;
+  abs-diff-eq = one-near;
+  dist2 = λ a b _ _ _ _. one-dist2;
+  circumcenter = λ a b c _ _ _ _ _ _. one-center;
+  centroid = λ l _ _ _ _ _ _. one-center;
+  box = λ c w h _ _ _ _ _ _ _ _ _ _ _ _ _ _. one-box;
+  corners = λ c w h l _ _ _ _. one-corners;
+  is-inside = λ c w h p _ _ _ _. one-inside;
+  is-exclusively-inside = λ c w h p _ _ _ _. one-exclusively;
+  which-edge = λ c w h p _ _ _ _. one-side;
+  intersect-line = λ c w h p q _ _ _ _ _ _ _ _ _ _ _ _. one-meeting;
+  project-ray = λ c w h p dir _ _ _ _ _ _ _ _ _ _ _ _. one-meeting;
+  check = λ w r s new other. one-check sites tri he hull w new other r s;
+  walk = λ s w o _ _ _ _ _ _ _ _ _ _. one-walk sites tri he hull s;
+  neighbours = λ s w o _ _ _ _ _ _ _ _ _ _. one-neighbours sites tri he hull s;
+  clipped-neighbours = λ offs idx s w o _ _ _ _ _ _ _ _ _ _. one-clipped sites tri he hull offs idx s;
+  path = λ s p w o _ _ _ _ _ _ _ _ _ _. one-path sites tri he hull s p;
+  shared-edge = λ a b w _ _ _ _ _ _. one-shared-edge;
+  cells-share-edge = λ offs idx a b _ _ _ _. one-cells-share-edge;
+  build = λ c w h old _ _ _ _. one-build sites tri he hull c w h;
+  build-unclipped = λ old _ _ _ _. one-build-unclipped sites tri he hull;
+  cell = λ offs idx s _ _ _ _ _ _. one-cell offs idx s;
+  cell-part = λ offs idx s _ _ _ _. one-cell-part offs idx s;
+  check-refused = λ a. work-refused tri he (siteCount sites) (a .work);
+  walk-refused = λ s. list-refused;
+  neighbours-refused = λ s. list-refused;
+  clipped-refused = λ offs idx s. list-refused;
+  path-refused = λ s p. list-refused;
+  shared-edge-refused = λ a b x. work-refused tri he (siteCount sites) (x .work);
+  build-refused = λ c w h. slices-refused;
+  unclipped-refused = slices-refused;
+}
+
+pub demand2 : (sites : List Float) (tri he hull : List ℕ) → Demand2 sites tri he hull
+demand2 sites tri he hull = record {
+  check-answers = check-answers sites tri he hull _;
+  walk-answers = λ s a. site-answers sites tri he hull _ s (a .number);
+  neighbours-answers = λ s a. site-answers sites tri he hull _ s (a .number);
+  clipped-answers = λ offs idx s a. cells-answers sites tri he hull _ offs idx s (a .number);
+  path-answers = λ s p a. path-answers sites tri he hull _ s p (a .number);
+  shared-edge-answers = λ a b x. edge-answers sites tri he hull _ (x .number);
+  build-answers = λ c w h. build-answers sites tri he hull c w h;
+  unclipped-answers = unclipped-answers sites tri he hull;
+  build-leaves = λ c w h. build-leaves sites tri he hull c w h;
+  unclipped-leaves = unclipped-leaves sites tri he hull;
+  walk = λ s. written;
+  neighbours = λ s. written;
+  clipped-neighbours = λ offs idx s. written;
+  path = λ s p. written;
+  dist2 = λ a b. dist2-answer;
+  circumcenter = circumcenter-answer;
+  centroid = centroid-answer;
+  box = λ c w h. box-answer;
+  corners = λ c w h. corners-answer;
+  intersect-line = line-answer;
+  project-ray = ray-answer;
+  within = bounds;
+}
+
+pub demand3 : (sites : List Float) (tri he hull : List ℕ) → Demand3 sites tri he hull
+demand3 sites tri he hull = record {
+  walk = walk-rounds sites tri he hull;
+  walk-ends = walk-ends sites tri he hull;
+  walk-begins = λ s a b. (begins a b, rest b);
+  neighbours = neighbours-joined sites tri he hull;
+  path = λ s p. path-approaches sites tri he hull s p;
+  path-once = λ s p. path-once sites tri he hull s p;
+  path-short = λ s p. path-short sites tri he hull s p;
+  path-ends = λ s p. path-ended sites tri he hull s p;
+  path-begins = λ s p a b. (begins a b, rest b);
+  wrapping = build-wraps sites tri he hull;
+  no-walk = no-walk sites tri he hull;
+  no-neighbours = no-neighbours sites tri he hull;
+  own-path = λ s p. own-path sites tri he hull s p;
+  no-cell = λ c w h s. build-empty sites tri he hull c w h s;
+  no-cell-unclipped = λ s. unclipped-empty sites tri he hull s;
+}

@@ -1,0 +1,59 @@
+-- How demand 1 speaks of a call's outcomes: no two are allowed for one input, and what a refusal leaves in the lent slices.
+use mathlib.Core.Path.{_≡_}
+use mathlib.Core.List.{List}
+use mathlib.Core.Logic.{_≢_}
+use Prim.Native.Nat.{ℕ, _≤_, _<_}
+use lib.Ieee.{Float}
+use lib.ListN.{length, replicate}
+use Rattle.numbers.specs.Numbers.{EMPTY}
+use Rattle.laws.specs.Binary64.{zero}
+use Rattle.admission.specs.Slices.{Slices}
+
+-- ---- one outcome
+
+-- no two outcomes are allowed: of one part, of two, ..
+abbrev pub One : {A : Type 0} → (A → Type 0) → Type 0
+One {A} P = (a a′ : A) → P a → P a′ → a ≡ a′
+
+abbrev pub One₂ : {A B : Type 0} → (A → B → Type 0) → Type 0
+One₂ {A} {B} P = (a a′ : A) (b b′ : B) → P a b → P a′ b′ → (a ≡ a′) × (b ≡ b′)
+
+abbrev pub One₃ : {A B C : Type 0} → (A → B → C → Type 0) → Type 0
+One₃ {A} {B} {C} P = (a a′ : A) (b b′ : B) (c c′ : C) → P a b c → P a′ b′ c′ → (a ≡ a′) × (b ≡ b′) × (c ≡ c′)
+
+-- a list handed out: number, work slice, output slice, count, ended
+abbrev pub OneList : (ℕ → List ℕ → List ℕ → ℕ → ℕ → Type 0) → Type 0
+OneList P = (r r′ : ℕ) (w w′ o o′ : List ℕ) (k k′ e e′ : ℕ) → P r w o k e → P r′ w′ o′ k′ e′ → (r ≡ r′) × (w ≡ w′) × (o ≡ o′) × (k ≡ k′)
+    × (e ≡ e′)
+
+-- crossings: number, count, two points
+abbrev pub OneMeeting : (ℕ → ℕ → Float → Float → Float → Float → Type 0) → Type 0
+OneMeeting P = (n n′ k k′ : ℕ) (x x′ y y′ u u′ v v′ : Float) → P n k x y u v → P n′ k′ x′ y′ u′ v′ → (n ≡ n′) × (k ≡ k′) × (x ≡ x′)
+    × (y ≡ y′) × (u ≡ u′) × (v ≡ v′)
+
+-- a box: number, edges, size
+abbrev pub OneBox : (ℕ → Float → Float → Float → Float → Float → Float → Type 0) → Type 0
+OneBox P = (n n′ : ℕ) (l l′ t t′ r r′ b b′ a a′ d d′ : Float) → P n l t r b a d → P n′ l′ t′ r′ b′ a′ d′
+    → (n ≡ n′) × (l ≡ l′) × (t ≡ t′) × (r ≡ r′) × (b ≡ b′) × (a ≡ a′) × (d ≡ d′)
+
+-- ---- refused
+
+-- a slice after the refusal r: as it was up to 6, cleared over its whole length from 7 on
+pub record SliceRefused {A : Type 0} (blank : A) (old new : List A) (r : ℕ) : Type 0 where
+  pub kept : r < 7 → new ≡ old
+  pub cleared : 7 ≤ r → new ≡ replicate (length old) blank
+
+-- a call that hands out a list: its output slice is as it was after 16 too
+pub record ListRefused (w w′ o o′ : List ℕ) (k e r : ℕ) : Type 0 where
+  pub work : SliceRefused EMPTY w w′ r
+  pub out : r ≢ 16 → SliceRefused EMPTY o o′ r
+  pub out-16 : r ≡ 16 → o′ ≡ o
+  pub count : k ≡ 0
+  pub ended : e ≡ 0
+
+pub record BuildRefused (old new : Slices) (r : ℕ) : Type 0 where
+  pub work : SliceRefused EMPTY (old .work) (new .work) r
+  pub vertices : SliceRefused zero (old .vertices) (new .vertices) r
+  pub indexes : SliceRefused EMPTY (old .indexes) (new .indexes) r
+  pub offsets : SliceRefused EMPTY (old .offsets) (new .offsets) r
+  pub counts : SliceRefused EMPTY (old .counts) (new .counts) r

@@ -1,0 +1,96 @@
+-- Builds: one answers 0 exactly where it may, and then its slices hold what the definition makes; a site in no triangle has an empty cell there.
+use mathlib.Core.Path.{_≡_, refl, ap, _∙_}
+use mathlib.Core.Bool.{true}
+use mathlib.Core.List.{List, []}
+use mathlib.Core.Logic.{_↔_}
+use Prim.Native.Nat.{ℕ, suc, _<_}
+use lib.Ieee.{Float}
+use lib.ListN.{length, getD, take}
+use Rattle.utils.specs.declared.Point.{Point}
+use Rattle.bounding_box.specs.Box.{madeOf}
+use Rattle.bounding_box.specs.Rules.{okBox}
+use Rattle.mesh.specs.Mesh.{leftmostOf, Used}
+use Rattle.mesh.specs.Accepted.{siteCount}
+use Rattle.definition.specs.declared.Fault.{Fault}
+use Rattle.definition.specs.Fault.{Outcome, ok}
+use Rattle.definition.specs.Build.{Built, build}
+use Rattle.definition.specs.Unclipped.{unclipped}
+use Rattle.definition.specs.laws.Gives.{gives-ok}
+use Rattle.definition.specs.laws.VerticesFinite.{Each, FinitePoint, vertices-finite, centres-finite}
+use Rattle.definition.specs.laws.CellCount.{cell-count, ring-count}
+use Rattle.definition.specs.laws.EmptyCell.{empty-cell, empty-ring}
+use Rattle.definition.specs.Cell.{unmarked}
+use Rattle.building.specs.Promise.{BuildAnswer}
+use Rattle.admission.specs.Slices.{Slices}
+use Rattle.building.specs.LateRefusals.{build-late, unclipped-late}
+use Rattle.building.specs.Success.{zero-succeeds, succeeds-zero, box-admitted}
+use Rattle.building.specs.laws.BoxAsk.{box-kept, box-asked}
+use Rattle.building.specs.laws.Left.{left-work, left-vertices, left-indexes, left-offsets, left-counts, slice-finite, read-part, read-place}
+use Rattle.voronoi.specs.Builds.{Build, BuildUnclipped, CellPart}
+use Rattle.voronoi.specs.Leaves.{BuildAllowed, BuildLeaves}
+
+leaves : {N : ℕ → Type 0} {table : List ℕ} {o : Outcome Fault Built} {old new : Slices} (n : ℕ) (b : Built) → o ≡ ok b → BuildAnswer N table o old new 0
+    → Each FinitePoint (b .verts) → length (b .cells) ≡ n → BuildLeaves n table o old new
+leaves n b is a fine many =
+    let v = left-vertices a b is in
+    let x = left-indexes a b is in
+    let f = left-offsets a b is in
+    record {
+      made = b;
+      is = is;
+      vertices = v;
+      indexes = x;
+      offsets = f;
+      counts = left-counts a b is;
+      work = left-work a;
+      numbers = slice-finite (b .verts) _ v fine;
+      many = many;
+      cell = λ s l. read-place (b .cells) n many _ _ f _ _ x s l;
+      cell-part = λ s l. read-part (b .cells) n many _ _ f _ _ x s l;
+    }
+
+module _ (sites : List Float) (tri he hull : List ℕ) {old new : Slices} where
+  -- ---- in a box
+  module _ (c : Point) (w h : Float) where
+    pub build-answers : {r : ℕ} → Build sites tri he hull c w h old new r → (r ≡ 0) ↔ BuildAllowed sites tri he hull (okBox c w h ≡ true) (build sites tri he hull (madeOf c w h)) old
+    build-answers a = (
+      λ z. let s = zero-succeeds (build-late sites tri he hull (madeOf c w h)) a z in
+          record { mesh = s .admission .accepted; room = s .admission .roomed; in-box = box-kept c w h (s .admission .fit); value = s .outcome },
+      λ x. succeeds-zero (record { admission = record { accepted = x .mesh; roomed = x .room; fit = box-asked c w h (x .in-box) }; outcome = x .value }) a,
+    )
+
+    pub build-leaves : Build sites tri he hull c w h old new 0 → BuildLeaves (siteCount sites) (leftmostOf tri he (siteCount sites)) (build sites tri he hull (madeOf c w h)) old new
+    build-leaves a =
+        let s = zero-succeeds (build-late sites tri he hull (madeOf c w h)) a refl in
+        let is = s .outcome .is in
+        let fine = gives-ok (λ (r : Built). Each FinitePoint (r .verts)) (vertices-finite (box-admitted c w h (s .admission .fit)) sites tri he hull) is in
+        leaves (siteCount sites) (s .outcome .value) is a fine (gives-ok (λ (r : Built). length (r .cells) ≡ siteCount sites) (cell-count sites tri he hull (madeOf c w h)) is)
+
+    pub build-empty : (s : ℕ) {part : List ℕ} {r : ℕ} → Build sites tri he hull c w h old new 0 → s < siteCount sites → (Used tri s → ⊥)
+        → CellPart (take (suc (siteCount sites)) (new .offsets)) (new .indexes) s part r → part ≡ []
+    build-empty s a l none p =
+        let x = build-leaves a in
+        let t = zero-succeeds (build-late sites tri he hull (madeOf c w h)) a refl in
+        x .cell-part s l p .1 ∙ ap unmarked (empty-cell (t .admission .accepted) s none (box-admitted c w h (t .admission .fit)) (x .is) l)
+
+  -- ---- without one
+  pub unclipped-answers : {r : ℕ} → BuildUnclipped sites tri he hull old new r → (r ≡ 0) ↔ BuildAllowed sites tri he hull (Unit {0}) (unclipped sites tri he) old
+  unclipped-answers a = (
+    λ z. let s = zero-succeeds (unclipped-late sites tri he) a z in
+        record { mesh = s .admission .accepted; room = s .admission .roomed; in-box = tt; value = s .outcome },
+    λ x. succeeds-zero (record { admission = record { accepted = x .mesh; roomed = x .room; fit = refl }; outcome = x .value }) a,
+  )
+
+  pub unclipped-leaves : BuildUnclipped sites tri he hull old new 0 → BuildLeaves (siteCount sites) (leftmostOf tri he (siteCount sites)) (unclipped sites tri he) old new
+  unclipped-leaves a =
+      let s = zero-succeeds (unclipped-late sites tri he) a refl in
+      let is = s .outcome .is in
+      let fine = gives-ok (λ (r : Built). Each FinitePoint (r .verts)) (centres-finite sites tri he) is in
+      leaves (siteCount sites) (s .outcome .value) is a fine (gives-ok (λ (r : Built). length (r .cells) ≡ siteCount sites) (ring-count sites tri he) is)
+
+  pub unclipped-empty : (s : ℕ) {part : List ℕ} {r : ℕ} → BuildUnclipped sites tri he hull old new 0 → s < siteCount sites → (Used tri s → ⊥)
+      → CellPart (take (suc (siteCount sites)) (new .offsets)) (new .indexes) s part r → part ≡ []
+  unclipped-empty s a l none p =
+      let x = unclipped-leaves a in
+      let t = zero-succeeds (unclipped-late sites tri he) a refl in
+      x .cell-part s l p .1 ∙ ap unmarked (gives-ok (λ (r : Built). getD (r .cells) s [] ≡ []) (empty-ring (t .admission .accepted) s none) (x .is))

@@ -1,0 +1,85 @@
+-- What a refused call leaves, by its promise: slices as they were up to 6, cleared from 7 on; an output slice as it was after 16 too; no count and no end.
+use mathlib.Core.Path.{_≡_, _∙_}
+use mathlib.Core.List.{List}
+use mathlib.Core.Logic.{_≢_}
+use Prim.Native.Nat.{ℕ, _≤_, _<_}
+use native.Mathlib.Omega.{arith}
+use lib.ListN.{length, replicate}
+use borrow.Author.Tests.{ne-eqb, lt-ltb, le-ltb}
+use Rattle.numbers.specs.Numbers.{EMPTY}
+use Rattle.laws.specs.Binary64 as R
+use Rattle.check_mesh.specs.Answers.{workAfter}
+use Rattle.queries.specs.Answers.{outAfter, countAfter, endedAfter}
+use Rattle.definition.specs.declared.Fault.{Fault}
+use Rattle.definition.specs.Fault.{Outcome}
+use Rattle.definition.specs.Build.{Built}
+use Rattle.building.specs.Promise.{BuildAnswer}
+use Rattle.check_mesh.specs.AtExit.{atExit}
+use Rattle.admission.specs.Slices.{Slices}
+use Rattle.plane_calls.specs.Plane.{bit}
+use Rattle.voronoi.specs.Walks.{Handed}
+use Rattle.voronoi.specs.Outcomes.{SliceRefused, ListRefused, BuildRefused}
+
+module _ (r : ℕ) (n : r ≢ 0) where
+  work-kept : (tri he : List ℕ) (m : ℕ) (old : List ℕ) → r < 7 → workAfter tri he m old r ≡ old
+  unfolding atExit
+  work-kept tri he m old l = rw (ne-eqb r 0 n, lt-ltb r 7 l)
+
+  work-cleared : (tri he : List ℕ) (m : ℕ) (old : List ℕ) → 7 ≤ r → workAfter tri he m old r ≡ replicate (length old) EMPTY
+  unfolding atExit
+  work-cleared tri he m old l = rw (ne-eqb r 0 n, le-ltb r 7 l)
+
+  after-kept : {A : Type 0} (blank : A) (made old : List A) → r < 7 → atExit blank made old r ≡ old
+  unfolding atExit
+  after-kept blank made old l = rw (ne-eqb r 0 n, lt-ltb r 7 l)
+
+  after-cleared : {A : Type 0} (blank : A) (made old : List A) → 7 ≤ r → atExit blank made old r ≡ replicate (length old) blank
+  unfolding atExit
+  after-cleared blank made old l = rw (ne-eqb r 0 n, le-ltb r 7 l)
+
+  out-kept : (whole old : List ℕ) → r < 7 → outAfter whole old r ≡ old
+  unfolding outAfter atExit
+  out-kept whole old l = rw (ne-eqb r 16 (λ q. omega (arith, l, q)), ne-eqb r 0 n, lt-ltb r 7 l)
+
+  out-cleared : (whole old : List ℕ) → r ≢ 16 → 7 ≤ r → outAfter whole old r ≡ replicate (length old) EMPTY
+  unfolding outAfter atExit
+  out-cleared whole old m l = rw (ne-eqb r 16 m, ne-eqb r 0 n, le-ltb r 7 l)
+
+  module _ {N : ℕ → Type 0} {tri he : List ℕ} {m : ℕ} {whole w w′ o o′ : List ℕ} {k e : ℕ} (a : Handed N tri he m whole w w′ o o′ k e r) where
+    none-counted : k ≡ 0
+    unfolding countAfter
+    none-counted = a .count ∙ rw (ne-eqb r 0 n)
+
+    not-ended : e ≡ 0
+    unfolding endedAfter bit
+    not-ended = a .ended ∙ rw (ne-eqb r 0 n)
+
+out-sixteen : (whole old : List ℕ) (r : ℕ) → r ≡ 16 → outAfter whole old r ≡ old
+unfolding outAfter
+out-sixteen whole old r q = rw q
+
+-- ---- gathered
+pub work-refused : (tri he : List ℕ) (n : ℕ) {old new : List ℕ} {r : ℕ} → new ≡ workAfter tri he n old r → r ≢ 0 → SliceRefused EMPTY old new r
+work-refused tri he n {old} {new} {r} q z = record { kept = λ l. q ∙ work-kept r z tri he n old l; cleared = λ l. q ∙ work-cleared r z tri he n old l }
+
+pub list-refused : {N : ℕ → Type 0} {tri he : List ℕ} {m : ℕ} {whole w w′ o o′ : List ℕ} {k e r : ℕ}
+    → Handed N tri he m whole w w′ o o′ k e r → r ≢ 0 → ListRefused w w′ o o′ k e r
+list-refused {tri = tri} {he} {m} {whole} {o = o} {r = r} a n = record {
+  work = work-refused tri he m (a .work) n;
+  out = λ d. record { kept = λ l. a .out ∙ out-kept r n whole o l; cleared = λ l. a .out ∙ out-cleared r n whole o d l };
+  out-16 = λ q. a .out ∙ out-sixteen whole o r q;
+  count = none-counted r n a;
+  ended = not-ended r n a;
+}
+
+slice-refused : {A : Type 0} (blank : A) (made old new : List A) (r : ℕ) → r ≢ 0 → new ≡ atExit blank made old r → SliceRefused blank old new r
+slice-refused blank made old new r n q = record { kept = λ l. q ∙ after-kept r n blank made old l; cleared = λ l. q ∙ after-cleared r n blank made old l }
+
+pub slices-refused : {N : ℕ → Type 0} {table : List ℕ} {o : Outcome Fault Built} {old new : Slices} {r : ℕ} → BuildAnswer N table o old new r → r ≢ 0 → BuildRefused old new r
+slices-refused a n = record {
+  work = slice-refused EMPTY _ _ _ _ n (a .work);
+  vertices = slice-refused R.zero _ _ _ _ n (a .vertices);
+  indexes = slice-refused EMPTY _ _ _ _ n (a .indexes);
+  offsets = slice-refused EMPTY _ _ _ _ n (a .offsets);
+  counts = slice-refused EMPTY _ _ _ _ n (a .counts);
+}

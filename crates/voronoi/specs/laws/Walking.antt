@@ -1,0 +1,124 @@
+-- The lists that are handed out on an accepted mesh: a walk goes round its site, neighbours are joined to it, a path approaches its point; and those of a site in no triangle.
+use mathlib.Core.Path.{_≡_, refl, ap, _∙_}
+use mathlib.Core.Bool.{true}
+use mathlib.Core.List.{List, [], _∷_}
+use mathlib.Core.Logic.{_↔_, ⊎-elim}
+use Prim.Native.Nat.{ℕ, _≤_, _<_}
+use native.Mathlib.Omega.{arith}
+use lib.Ieee.{Float}
+use lib.ListN.{length, getD, take}
+use Rattle.laws.specs.Count.{occ}
+use Rattle.utils.specs.Rules.{okSite}
+use Rattle.utils.specs.declared.Point.{Point}
+use Rattle.mesh.specs.Mesh.{Used, leftmostOf, wholeOf}
+use Rattle.mesh.specs.Accepted.{Accepted, siteCount}
+use Rattle.mesh.specs.laws.Facts.{topology, paired, tab-cases}
+use Rattle.mesh.specs.laws.WalkSteps.{walk-done}
+use Rattle.mesh.specs.laws.Degree.{walk-degree}
+use Rattle.mesh.specs.WalkTheorem.{accepted-rounds}
+use Rattle.paths.specs.Path.{distOf}
+use Rattle.paths.specs.laws.Used.{used-sum}
+use Rattle.paths.specs.PathRule.{usedOf}
+use Rattle.paths.specs.laws.WholePath.{in-use-or-alone, whole-short, whole-alone}
+use Rattle.paths.specs.PathRule.{PathFrom}
+use Rattle.paths.specs.Path.{wholePath}
+use Rattle.paths.specs.PathTheorem.{path-holds}
+use Rattle.paths.specs.laws.PathNeeds.{ready, towards}
+use Rattle.paths.specs.laws.Parts.{rule-some, rule-first, rule-hops, rule-ends}
+use Rattle.paths.specs.laws.EachSite.{runs, never-twice, alone-walk, alone-neighbours, alone-path}
+use Rattle.iterator.specs.laws.Joined.{neighbour-joined, joined-neighbour}
+use Rattle.voronoi.specs.Walks.{Walk, Neighbours, Path}
+use Rattle.voronoi.specs.Leaves.{QueryAllowed}
+use Rattle.voronoi.specs.Approach.{WholeRound, nextTo, Joined, Approaches}
+use Rattle.voronoi.specs.laws.Written.{written, fitting}
+use Rattle.voronoi.specs.laws.Answering.{site-answers, path-answers}
+
+pub approaches : {d : ℕ → Float} {nb : ℕ → List ℕ} {s : ℕ} {l : List ℕ} → PathFrom d nb s l → Approaches d nb s l
+approaches r = record { starts = (rule-some r, rule-first r); hops = λ i h. rule-hops r i h .0; nearer = λ i h. rule-hops r i h .1; stops = rule-ends r }
+
+-- ---- how long they are
+module _ {sites : List Float} {tri he hull : List ℕ} (m : Accepted sites tri he hull) (s : ℕ) (l : s < siteCount sites) where
+  -- a walk has no more entries than the triangles name its site
+  walk-short : length (wholeOf he (getD (leftmostOf tri he (siteCount sites)) s 0)) ≤ occ s tri
+  walk-short =
+      let t = getD (leftmostOf tri he (siteCount sites)) s 0 in
+      ⊎-elim
+      (λ q. omega (arith, ap length (walk-done he t (length he) t (omega (arith, paired (topology m) .small)))))
+      (λ q. rw (q .1) at (walk-degree tri he (paired (topology m)) (topology m .same) t))
+      (tab-cases (topology m) s l)
+
+  -- a path no more than there are sites
+  path-fits : (p : Point) → okSite p ≡ true → length (wholePath sites tri he (leftmostOf tri he (siteCount sites)) p s) ≤ siteCount sites
+  path-fits p to =
+      let n = siteCount sites in
+      let tab = leftmostOf tri he n in
+      let r = ready (topology m) in
+      let t = towards sites p (m .coordinates) to in
+      ⊎-elim
+      (λ u. omega (arith, whole-short sites tri he tab p n r t s u, used-sum tri n))
+      (λ q. omega (arith, ap length (whole-alone sites tri he tab p n r t s l q)))
+      (in-use-or-alone sites tri he tab p n r t s l)
+
+module _ (sites : List Float) (tri he hull : List ℕ) (s : ℕ) {w w′ o o′ : List ℕ} where
+  walk-mesh : {k e : ℕ} → Walk sites tri he hull s w w′ o o′ k e 0 → QueryAllowed sites tri he hull w (s < siteCount sites)
+  walk-mesh a = site-answers sites tri he hull w s (a .number) .0 refl
+
+  near-mesh : {k e : ℕ} → Neighbours sites tri he hull s w w′ o o′ k e 0 → QueryAllowed sites tri he hull w (s < siteCount sites)
+  near-mesh a = site-answers sites tri he hull w s (a .number) .0 refl
+
+  -- ---- walks
+  pub walk-rounds : {k : ℕ} → Walk sites tri he hull s w w′ o o′ k 1 0 → WholeRound tri he s (take k o′)
+  walk-rounds a =
+      let m = walk-mesh a in
+      let r = accepted-rounds (m .mesh) s (m .arguments) in
+      rw (written a) (record { each = r .each; only = r .only })
+
+  pub walk-ends : {k e : ℕ} → Walk sites tri he hull s w w′ o o′ k e 0 → occ s tri ≤ length o → e ≡ 1
+  walk-ends a h = let m = walk-mesh a in fitting a (omega (arith, walk-short (m .mesh) s (m .arguments))) .2
+
+  pub no-walk : {k e : ℕ} → (Used tri s → ⊥) → Walk sites tri he hull s w w′ o o′ k e 0 → (k ≡ 0) × (e ≡ 1)
+  no-walk none a =
+      let m = walk-mesh a in
+      let q = ap length (alone-walk (m .mesh) s (m .arguments) none) in
+      let x = fitting a (omega (arith, q)) in
+      (x .1 ∙ q, x .2)
+
+  -- ---- neighbours
+  pub neighbours-joined : {k : ℕ} → Neighbours sites tri he hull s w w′ o o′ k 1 0 → (v : ℕ) → (0 < occ v (take k o′)) ↔ Joined tri he s v
+  neighbours-joined a v =
+      let m = near-mesh a in
+      rw (written a) (
+        λ h. let x = neighbour-joined (m .mesh) s (m .arguments) v h in record { edge = x .0; inside = x .1; ends = x .2 },
+        λ x. joined-neighbour (m .mesh) s (m .arguments) v (x .edge, x .inside, x .ends),
+      )
+
+  pub no-neighbours : {k e : ℕ} → (Used tri s → ⊥) → Neighbours sites tri he hull s w w′ o o′ k e 0 → (k ≡ 0) × (e ≡ 1)
+  no-neighbours none a =
+      let m = near-mesh a in
+      let q = ap length (alone-neighbours (m .mesh) s (m .arguments) none) in
+      let x = fitting a (omega (arith, q)) in
+      (x .1 ∙ q, x .2)
+
+  -- ---- paths
+  module _ (p : Point) where
+    path-mesh : {k e : ℕ} → Path sites tri he hull s p w w′ o o′ k e 0 → QueryAllowed sites tri he hull w ((s < siteCount sites) × (okSite p ≡ true))
+    path-mesh a = path-answers sites tri he hull w s p (a .number) .0 refl
+
+    pub path-approaches : {k : ℕ} → Path sites tri he hull s p w w′ o o′ k 1 0 → Approaches (distOf sites p) (nextTo sites tri he) s (take k o′)
+    path-approaches a = let m = path-mesh a in rw (written a) (approaches (runs (m .mesh) s (m .arguments .0) p (m .arguments .1)))
+
+    pub path-once : {k : ℕ} → Path sites tri he hull s p w w′ o o′ k 1 0 → (v : ℕ) → occ v (take k o′) ≤ 1
+    path-once a v = let m = path-mesh a in rw (written a) (never-twice (m .mesh) s (m .arguments .0) p (m .arguments .1) v)
+
+    pub path-short : {k : ℕ} → Path sites tri he hull s p w w′ o o′ k 1 0 → Used tri s → length (take k o′) ≤ usedOf tri (siteCount sites)
+    path-short a used = let m = path-mesh a in rw (written a) (path-holds (m .mesh) p (m .arguments .1) s used .short)
+
+    pub path-ended : {k e : ℕ} → Path sites tri he hull s p w w′ o o′ k e 0 → siteCount sites ≤ length o → e ≡ 1
+    path-ended a h = let m = path-mesh a in fitting a (omega (arith, path-fits (m .mesh) s (m .arguments .0) p (m .arguments .1))) .2
+
+    pub own-path : {k e : ℕ} → (Used tri s → ⊥) → 0 < length o → Path sites tri he hull s p w w′ o o′ k e 0 → (take k o′ ≡ s ∷ []) × (e ≡ 1)
+    own-path none some a =
+        let m = path-mesh a in
+        let q = alone-path (m .mesh) s (m .arguments .0) none p (m .arguments .1) in
+        let x = fitting a (omega (arith, ap length q)) in
+        (x .0 ∙ q, x .2)
