@@ -7,7 +7,8 @@ use native.Mathlib.Omega.{arith}
 use lib.ListN.{length, take, length-append}
 use lib.Seq.{take-all, length-take-le}
 use Rattle.laws.specs.Decide.{lt-or-ge}
-use Rattle.form.specs.Form.{Outline, box, unclipped, FormMesh, MeshFits, IsForm, formOf, each, numbersOf, outlineBytes, siteBytes, triangleBytes, hullBytes}
+use Rattle.octets.specs.Bytes.{each}
+use Rattle.form.specs.Form.{Outline, box, unclipped, FormMesh, MeshFits, IsForm, formOf, numbersOf, outlineBytes, siteBytes, triangleBytes, hullBytes}
 use Rattle.cells.specs.Printed.{Prints, sound, broken}
 use Rattle.cells.specs.laws.FormLists.{numbers-length}
 

@@ -5,7 +5,7 @@ use mathlib.Core.Logic.{⊎-elim}
 use Prim.Native.Nat.{ℕ, suc, _<_}
 use lib.Ieee.{Float}
 use lib.ListN.{getD}
-use Rattle.form_step.specs.Bytes.{Bytes}
+use Rattle.octets.specs.Bytes.{Bytes}
 use Rattle.form_step.specs.Reader.{start, reading}
 use Rattle.form_step.specs.Holds.{ListRoom, Reads}
 use Rattle.form.specs.Promise.{Accepted, Refused, exact}

@@ -8,8 +8,8 @@ use lib.ListN.{length, getD}
 use borrow.Author.Tests.{eq-eqb, ne-eqb}
 use Rattle.listing.specs.Listing.{refusal}
 use Rattle.listing.specs.laws.Listing.{unclipped-short, listing-short, refusal-short}
-use Rattle.listing.specs.Wrote.{Wrote}
-use Rattle.listing.specs.laws.Wrote.{wrote-all}
+use Rattle.octets.specs.Wrote.{Wrote}
+use Rattle.octets.specs.laws.Wrote.{wrote-all}
 use Rattle.cells.specs.Shown.{Laid, ShownIn, shown, boxLines, unclippedLines}
 
 held : {l m : List ℕ} {r : ℕ} {text : List ℕ} → length text ≤ length l → Wrote l m 0 r text → ShownIn text m (length l) r

@@ -10,7 +10,8 @@ use lib.ListN.{length}
 use lib.Seq.{sets}
 use borrow.Author.Tests.{lt-ltb}
 use Rattle.laws.specs.Stores.{sets-join}
-use Rattle.form.specs.Form.{FormMesh, Site, Triangle, MeshFits, All, SiteFits, TriangleFits, HullFits, each, outlineBytes, siteBytes, triangleBytes}
+use Rattle.octets.specs.Bytes.{each, All}
+use Rattle.form.specs.Form.{FormMesh, Site, Triangle, MeshFits, SiteFits, TriangleFits, HullFits, outlineBytes, siteBytes, triangleBytes}
 use Rattle.form.specs.Form.{hullBytes, formOf, numbersOf, outlineFloats, siteFloats, triangleSites, trianglePairs, isUnclipped}
 use Rattle.form_step.specs.Reader.{roomLeft, start, begun, Reading, reading, takes, verdict}
 use Rattle.form.specs.laws.Run.{AtRecord, Goes, Opening, ready-up, takes-append, kind-follows, kind-run, site-run, triangle-run, hull-run, opening}
@@ -197,7 +198,7 @@ closed m bs ss ts es hs ss' ts' es' hs' s o g es₁ et ee eh =
     ∙ kind-run r bs' ss' ts' es' hs' 5 [] (q .broken) (q .left) (kind-follows r 5 (q .low) (omega (arith, q .high)) (lt-ltb (r .stage) 5 (omega (arith, q .high))))
     in
     record {
-      verdict =
+      answer =
           ap (λ (x : Reading). verdict (x .reader)) e
           ∙ ended r _ _ _ _ (omega (arith, p .sites, g .ran .sites)) (omega (arith, p .triangles, g .ran .triangles)) (omega (arith, p .hull, g .ran .hull)) (g .ran .unclipped ∙ p .unclipped);
       bounds = ap (λ (x : Reading). x .bounds) e;

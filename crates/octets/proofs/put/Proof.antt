@@ -1,10 +1,10 @@
--- `listing::put` meets its contract: the invariant is `Putting`, which each byte carries one further.
+-- `octets::put` meets its contract: the invariant is `Putting`, which each byte carries one further.
 use Prim.Native.Nat.{_-_}
 use native.Mathlib.Omega.{arith}
 use lib.ListN.{length}
-use Rattle.listing.specs.laws.Wrote.{Putting, putting-start, putting-step, putting-end, wrote-length}
-use Rattle.listing.proofs.put.Statement.{statement}
-use Rattle.listing.proofs.put.Tie as tie
+use Rattle.octets.specs.laws.Wrote.{Putting, putting-start, putting-step, putting-end, wrote-length}
+use Rattle.octets.proofs.put.Statement.{statement}
+use Rattle.octets.proofs.put.Tie as tie
 
 abbrev Inv-loop : tie.InvT-loop
 Inv-loop out₀ at text i₀ out i = Putting out₀ out at text i

@@ -1,38 +1,13 @@
--- A number and its bytes, both ways, and that the register holds the number of the bytes that came last.
-use mathlib.Core.Path.{_≡_, refl, sym, ap, _∙_}
+-- The register holds the number of the bytes that came last.
+use mathlib.Core.Path.{_≡_, sym, ap, _∙_}
 use mathlib.Core.List.{List, [], _∷_}
-use Prim.Native.Nat.{ℕ, zero, suc, _+_, _*_, _/_, _%_, _^_, _<_}
+use Prim.Native.Nat.{ℕ, _+_, _*_, _/_, _^_, _<_}
 use native.Mathlib.Omega.{arith}
 use native.Mathlib.Nat.{pow-suc, div-div-eq-div-mul, mul-comm, div-one}
 use lib.ListN.{length}
-use Rattle.form_step.specs.Bytes.{Bytes, word, le, shift, shifts}
-
-pub length-le : (n x : ℕ) → length (le n x) ≡ n
-length-le zero x = refl
-length-le (suc n) x = ap suc (length-le n (x / 256))
-
-pub bytes-le : (n x : ℕ) → Bytes (le n x)
-bytes-le zero x = tt
-bytes-le (suc n) x = (omega arith, bytes-le n (x / 256))
-
-pub word-le : (n x : ℕ) → x < 256 ^ n → word (le n x) ≡ x
-word-le zero x h = omega arith
-word-le (suc n) x h =
-    let g : x < 256 ^ n * 256 = rw (pow-suc 256 n) at h in
-    omega (arith, word-le n (x / 256) (omega arith))
-
-pub le-word : (s : List ℕ) → Bytes s → le (length s) (word s) ≡ s
-le-word [] h = refl
-le-word (b ∷ s) h =
-    let e : (b + 256 * word s) % 256 ≡ b = omega arith in
-    let f : (b + 256 * word s) / 256 ≡ word s = omega arith in
-    rw (e, f, le-word s (h .1))
-
-pub word-small : (s : List ℕ) → Bytes s → word s < 256 ^ length s
-word-small [] h = omega arith
-word-small (b ∷ s) h = rw (pow-suc 256 (length s)) (omega (arith, word-small s (h .1)))
-
--- ---- the register
+use Rattle.octets.specs.Bytes.{Bytes, word, le}
+use Rattle.octets.specs.laws.Bytes.{word-le}
+use Rattle.form_step.specs.Register.{shift, shifts}
 
 shift-is : (w b : ℕ) → shift w b ≡ (w + b * 2 ^ 64) / 256
 shift-is w b = omega arith
