@@ -15,7 +15,6 @@ Inv-loop out₀ at n x rest₀ i₀ out rest i = Spelling out₀ out at n x i re
 abbrev μ-loop : tie.MeasureT-loop
 μ-loop out₀ at n x rest₀ i₀ out rest i = n - i
 
-
 loop-holds : tie.Need-loop-holds Inv-loop μ-loop
 loop-holds c = spelling-start _ _ _ _
 
