@@ -1,0 +1,61 @@
+// The queries on lent cells, each the part of the index list between two offsets: one cell, and whether two cells share an edge.
+// There is a site less than offsets; 4, then 16.
+use admission::ask_site;
+use admission::cell_count;
+use admission::cells_ok;
+ghost use Rattle.cell_query.specs.Cells.{CellNumber, CellAnswer, PlaceAnswer};
+
+// The number; 0 where the site has a cell.
+fn ask_cell(offsets: &[u32], indexes: &[u32], site: u32) -> u32
+    ensures { λ r. ⌜ CellNumber (now (offsets .entry)) (now (indexes .entry)) site r ⌝ }
+{
+    let count = cell_count(offsets.len());
+    let asked = ask_site(count, site);
+    if asked != 0 {
+        return asked;
+    }
+    if !cells_ok(offsets, indexes, count) {
+        return numbers::REFUSED_OFFSETS;
+    }
+    0
+}
+
+// The cell itself; refused, the empty part.
+pub fn cell<'a>(offsets: &[u32], indexes: &'a [u32], site: u32, number: &mut u32) -> &'a [u32]
+    ensures { λ r. ⌜ CellAnswer (now (offsets .entry)) (now (indexes .entry)) site (now r) (now (number .exit)) ⌝ }
+{
+    let r = ask_cell(offsets, indexes, site);
+    *number = r;
+    if r != 0 {
+        return &indexes[..0];
+    }
+    shared::cell(offsets, indexes, numbers::wide(site))
+}
+
+// Where the cell stands: a number, where it starts and how long it is, 0 and 0 where it is refused.
+pub struct CellPlace {
+    pub number: u32,
+    pub start: u32,
+    pub length: u32,
+}
+
+pub fn place(offsets: &[u32], indexes: &[u32], site: u32) -> CellPlace
+    ensures { λ r. ⌜ PlaceAnswer (now (offsets .entry)) (now (indexes .entry)) site (r .start) (r .length) (r .number) ⌝ }
+{
+    let r = ask_cell(offsets, indexes, site);
+    if r != 0 {
+        return CellPlace {
+            number: r,
+            start: 0,
+            length: 0,
+        };
+    }
+    let s = numbers::wide(site);
+    let from = offsets[s];
+    let to = offsets[s + 1];
+    CellPlace {
+        number: 0,
+        start: from,
+        length: to - from,
+    }
+}
