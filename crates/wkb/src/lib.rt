@@ -72,7 +72,7 @@ fn put_ring(out: &mut [u8], at: usize, floats: &[f64], bits: &[u64], entries: &[
     let count = entries.len() + 1;
     let first = put_le(out, at, 4, count as u64);
     let last = put_points(out, first, floats, bits, entries);
-    put_points(out, last, floats, bits, &entries[..1])
+    put_points(out, last, floats, bits, &entries[0..1])
 }
 
 // Order, type, number of rings.
@@ -94,6 +94,15 @@ fn put_polygon(out: &mut [u8], floats: &[f64], bits: &[u64], entries: &[u32]) ->
     }
     let ring = put_head(out, 1);
     put_ring(out, ring, floats, bits, entries)
+}
+
+// The same of vertices as floats.
+pub fn put_cell(out: &mut [u8], vertices: &[f64], entries: &[u32]) -> usize
+    requires { ⌜ Named (now entries) (length (now vertices) / 2) × Sized (length (now entries)) (length (now out)) ⌝ }
+    ensures { λ r. ⌜ Wrote (now (out .entry)) (now (out .exit)) 0 r (image (patterns (now (vertices .entry))) (now (entries .entry))) ⌝ }
+{
+    let none = [0u64; 1];
+    put_polygon(out, vertices, &none[..0], entries)
 }
 
 // Whether each entry names one of so many vertices.

@@ -1,7 +1,9 @@
 -- `wkb::put_polygon` meets its contract: no ring, or one.
 use mathlib.Core.Path.{sym}
 use mathlib.Core.List.{_++_}
+use Prim.Native.Nat.{_≤_}
 use native.Mathlib.Omega.{arith}
+use lib.ListN.{length}
 use denote.Ref.{now}
 use Rattle.octets.specs.laws.Wrote.{wrote-then, wrote-as, wrote-length}
 use Rattle.wkb.specs.Polygon.{patterns}
@@ -11,32 +13,33 @@ use Rattle.wkb.proofs.put_polygon.Statement.{statement}
 use Rattle.wkb.proofs.put_polygon.Tie as tie
 
 put-head-requires : tie.Need-put-head-requires
-put-head-requires c κs = omega (arith, c .before .before .before .before .before .before .pre .1 .long, size-none _ (c .before .if1 .taken))
+put-head-requires c κs = omega (arith, c .before .before .before .before .before .before .pre .1 .long, size-none (length (now (c .before .before .before .before .before .before .args .entries))) (omega (arith, c .before .if1 .taken)))
 
 returns : tie.Need-returns
 returns c =
     let a = c .before .before .before .before .before .before .before .before .before .args in
-    wrote-as (c .before .before .put-head .ensures) (sym (image-none (patterns (now (a .floats)) ++ now (a .bits)) (now (a .entries)) (c .before .before .before .before .if1 .taken)))
+    wrote-as (c .before .before .put-head .ensures) (sym (image-none (patterns (now (a .floats)) ++ now (a .bits)) (now (a .entries)) (omega (arith, c .before .before .before .before .if1 .taken))))
 
 put-head-requires-2 : tie.Need-put-head-requires-2
-put-head-requires-2 c κs = omega (arith, c .before .before .before .before .before .before .pre .1 .long, size-ring _ (c .before .if1 .left))
+put-head-requires-2 c κs = omega (arith, c .before .before .before .before .before .before .pre .1 .long, size-ring (length (now (c .before .before .before .before .before .before .args .entries))) (omega (arith, c .before .if1 .left)))
 
 put-ring-requires : tie.Need-put-ring-requires
 put-ring-requires c κs =
     let s = c .before .before .before .before .before .before .before .before .before .before in
-    let three = c .before .before .before .before .before .if1 .left in
+    let list = now (s .args .entries) in
+    let three : 3 ≤ length list = omega (arith, c .before .before .before .before .before .if1 .left) in
     let head = c .before .before .before .put-head2 .ensures in (
       s .pre .0,
       three,
       s .pre .1 .counted,
-      omega (arith, head .place, length-head 1, wrote-length head, s .pre .1 .long, size-ring _ three),
+      omega (arith, head .place, length-head 1, wrote-length head, s .pre .1 .long, size-ring (length list) three),
     )
 
 returns-2 : tie.Need-returns-2
 returns-2 c =
     let a = c .before .before .before .before .before .before .before .before .before .before .before .before .before .args in
     wrote-as (wrote-then (c .before .before .before .before .before .before .put-head2 .ensures) (c .before .before .put-ring .ensures))
-    (sym (image-ring (patterns (now (a .floats)) ++ now (a .bits)) (now (a .entries)) (c .before .before .before .before .before .before .before .before .if1 .left)))
+    (sym (image-ring (patterns (now (a .floats)) ++ now (a .bits)) (now (a .entries)) (omega (arith, c .before .before .before .before .before .before .before .before .if1 .left))))
 
 pub put-polygon-spec : {M : Type 1} → statement M
 put-polygon-spec =

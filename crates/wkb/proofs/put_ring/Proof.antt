@@ -1,5 +1,5 @@
 -- `wkb::put_ring` meets its contract: the count, the points, the first again.
-use mathlib.Core.Path.{refl, sym}
+use mathlib.Core.Path.{refl}
 use mathlib.Core.List.{_++_}
 use native.Mathlib.Omega.{arith}
 use lib.ListN.{length-map}
@@ -12,9 +12,6 @@ use Rattle.wkb.specs.laws.Room.{named-first}
 use borrow.Author.Needs.{needs}
 use Rattle.wkb.proofs.put_ring.Statement.{statement}
 use Rattle.wkb.proofs.put_ring.Tie as tie
-
-slice-aggregate-put-points : tie.Need-slice-aggregate-put-points
-slice-aggregate-put-points c = sym (length-take-le 1 (now (c .before .before .before .before .before .before .before .before .before .before .before .before .before .before .args .entries)) (omega (arith, c .before .before .before .before .before .before .before .before .before .before .before .before .before .before .pre .1)))
 
 put-points-requires-2 : tie.Need-put-points-requires-2
 put-points-requires-2 c κs =
@@ -47,4 +44,4 @@ returns c =
 pub put-ring-spec : {M : Type 1} → statement M
 put-ring-spec =
     tie.close
-    (tie.spec (λ c. search needs) (λ c κs. search needs) (λ c κs. search needs) slice-aggregate-put-points put-points-requires-2 (λ c. search needs) returns)
+    (tie.spec (λ c. search needs) (λ c κs. search needs) (λ c κs. search needs) (λ c. search needs) (λ c. search needs) (λ c. search needs) put-points-requires-2 (λ c. search needs) returns)

@@ -1,7 +1,6 @@
 -- `wkb::write_entries` meets its contract: rule 18 on the entries, then rule 2, then the image.
-use mathlib.Core.Path.{sym, ap}
+use mathlib.Core.Path.{_≡_, sym, ap}
 use mathlib.Core.List.{_++_}
-use mathlib.Core.Path.{_≡_}
 use Prim.Native.Nat.{ℕ, _+_, _/_}
 use lib.ListN.{length}
 use denote.Ref.{now}

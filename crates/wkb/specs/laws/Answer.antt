@@ -2,7 +2,8 @@
 use mathlib.Core.Path.{_≡_, refl, sym, ap, _∙_}
 use mathlib.Core.List.{List, [], _++_, append-nil}
 use mathlib.Core.Logic.{_≢_}
-use Prim.Native.Nat.{ℕ, _-_, _/_, _%_}
+use Prim.Native.Nat.{ℕ, _+_, _-_, _/_, _%_}
+use native.Mathlib.Nat.{add-zero}
 use lib.ListN.{length}
 use borrow.Author.Tests.{eq-eqb, ne-eqb}
 use borrow.Author.Needs.{needs}
@@ -33,6 +34,12 @@ module _ (v cell old : List ℕ) (n : ℕ) (half : n ≡ length v / 2) where
 -- no patterns come after
 pub no-bits : {v off ix : List ℕ} {s : ℕ} {old new : List ℕ} {w r : ℕ} → WkbAnswer (v ++ []) off ix s old new w r → WkbAnswer v off ix s old new w r
 no-bits {v} a = rw (append-nil v) at a
+
+pub no-bits-named : {cell : List ℕ} (n : ℕ) → Named cell (n / 2) → Named cell ((n + 0) / 2)
+no-bits-named n a = rw (add-zero n) a
+
+pub no-bits-wrote : {l m : List ℕ} {a b : ℕ} (v cell : List ℕ) → Wrote l m a b (image (v ++ []) cell) → Wrote l m a b (image v cell)
+no-bits-wrote v cell p = rw (append-nil v) at p
 
 -- of a site
 module _ (v off ix : List ℕ) (s : ℕ) (old : List ℕ) where
