@@ -4,5 +4,6 @@ pub mod Plane
 pub mod PlaneOne
 pub mod Walks
 pub mod Builds
+pub mod Maps
 pub mod Examples
 pub mod laws
