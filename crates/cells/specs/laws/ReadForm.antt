@@ -8,7 +8,7 @@ use lib.ListN.{getD}
 use Rattle.octets.specs.Bytes.{Bytes}
 use Rattle.form_step.specs.Reader.{start, reading}
 use Rattle.form_step.specs.Holds.{ListRoom, Reads}
-use Rattle.form.specs.Promise.{Accepted, Refused, exact}
+use Rattle.form.specs.Promise.{ReadSound, Refused, exact}
 use Rattle.form_step.specs.declared.Form.{Form}
 use Rattle.listing.specs.Listing.{refusal}
 use Rattle.cells.specs.Printed.{Prints, sound, broken}
@@ -21,7 +21,7 @@ bytes [] h = tt
 bytes (b ∷ s) h = (h 0, bytes s (λ i. h (suc i)))
 
 module _ (s : List ℕ) (bs ss : List Float) (ts es hs : List ℕ) (bs′ ss′ : List Float) (ts′ es′ hs′ : List ℕ) (text : List ℕ) (room : ListRoom bs ss ts es hs) where
-  by-mesh : {a : Form} → Accepted s bs ss ts es hs a bs′ ss′ ts′ es′ hs′ → ByForm a bs′ ss′ ts′ es′ hs′ text → Prints s text
+  by-mesh : {a : Form} → ReadSound s bs ss ts es hs a bs′ ss′ ts′ es′ hs′ → ByForm a bs′ ss′ ts′ es′ hs′ text → Prints s text
   by-mesh p q =
       sound (p .mesh) (p .fits) (p .form)
       (to-mesh (p .mesh) (p .fits) bs ss ts es hs room bs′ ss′ ts′ es′ hs′

@@ -1,0 +1,69 @@
+-- A build that is not refused has a cell for each site and an owner for each corner: cells are only ever set.
+use mathlib.Core.Path.{_≡_, refl, _∙_}
+use mathlib.Core.List.{List, []}
+use Prim.Native.Nat.{ℕ, zero, suc, _/_}
+use lib.Ieee.{Float}
+use lib.ListN.{length, getD, set, replicate, length-set, length-replicate}
+use Rattle.bounding_box.specs.Box.{cornersOf}
+use Rattle.bounding_box.specs.declared.BoundingBox.{BoundingBox}
+use Rattle.mesh.specs.Mesh.{leftmostOf, endOf}
+use Rattle.mesh.specs.Accepted.{siteCount}
+use Rattle.definition.specs.Gives.{Gives, gives-then, gives-next, picked}
+use Rattle.definition.specs.Cell.{Entry}
+use Rattle.definition.specs.Build.{Built, Cells, Extensions, clipInto, isEmpty, clipHull, clipRest, clipAll, build}
+use Rattle.definition.specs.Unclipped.{ringsFrom, ringCell, unclipped}
+use Rattle.definition.specs.Owners.{owners-length}
+
+pub record Whole (n : ℕ) (b : Built) : Type 0 where
+  pub cells : length (b .cells) ≡ n
+  pub owners : length (b .owners) ≡ 4
+
+abbrev Wide : ℕ → Cells → Type 0
+Wide n s = length (s .cells) ≡ n
+
+module _ (b : BoundingBox) (nc n : ℕ) where
+  into : (site : ℕ) (ring : List ℕ) (s : Cells) → Wide n s → Gives (Wide n) (clipInto b nc site ring s)
+  unfolding clipInto
+  into site ring s h = gives-next (Wide n) _ _ (λ c. length-set (s .cells) site (c .new) ∙ h)
+
+  on-hull : (he hull left xs : List ℕ) (i k : ℕ) (s : Cells) → Wide n s → Gives (Wide n) (clipHull b nc he hull left xs i k s)
+  unfolding clipHull
+  on-hull he hull left xs i zero s h = h
+  on-hull he hull left xs i (suc k) s h = gives-then (Wide n) (Wide n) _ _ (into _ _ s h) (λ r w. on-hull he hull left xs (suc i) k r w)
+
+  on-rest : (tri he : List ℕ) (e k : ℕ) (s : Cells) → Wide n s → Gives (Wide n) (clipRest b nc tri he e k s)
+  unfolding clipRest
+  on-rest tri he e zero s h = h
+  on-rest tri he e (suc k) s h =
+      gives-then (Wide n) (Wide n) _ _
+      (picked (Gives (Wide n)) (isEmpty (getD (s .cells) (endOf tri e) [])) _ _ (λ _. into _ _ s h) (λ _. h))
+      (λ r w. on-rest tri he (suc e) k r w)
+
+  all-cells : (tri he hull left owners : List ℕ) (x : Extensions) → Gives (Wide n) (clipAll b nc tri he hull left n owners x)
+  unfolding clipAll
+  all-cells tri he hull left owners x =
+      gives-then (Wide n) (Wide n) _ _ (on-hull he hull left (x .at) 0 (length hull) _ (length-replicate n [])) (λ s w. on-rest tri he 0 (length tri) s w)
+
+pub whole-in-box : (sites : List Float) (tri he hull : List ℕ) (b : BoundingBox) → Gives (Whole (siteCount sites)) (build sites tri he hull b)
+unfolding build cornersOf
+whole-in-box sites tri he hull b =
+    let n = siteCount sites in
+    let left = leftmostOf tri he n in
+    gives-next (Whole n) _ _ λ c.
+    gives-next (Whole n) _ _ λ x.
+    gives-then (Wide n) (Whole n) _ _ (all-cells b (length tri / 3) n tri he hull left _ x)
+    (λ s w. record { cells = w; owners = owners-length sites tri he left n (getD hull 0 0) (cornersOf b) })
+
+rings : (tri he : List ℕ) (k e : ℕ) (cells : List (List Entry)) → length (ringsFrom tri he e k cells) ≡ length cells
+unfolding ringsFrom
+rings tri he zero e cells = refl
+rings tri he (suc k) e cells =
+    rings tri he k (suc e) _
+    ∙ picked (λ (l : List (List Entry)). length l ≡ length cells) (isEmpty (getD cells (endOf tri e) []))
+    (λ _. set cells (endOf tri e) (ringCell he e)) (λ _. cells) (λ _. length-set cells _ _) (λ _. refl)
+
+pub whole-without-box : (sites : List Float) (tri he : List ℕ) → Gives (Whole (siteCount sites)) (unclipped sites tri he)
+unfolding unclipped
+whole-without-box sites tri he =
+    gives-next (Whole (siteCount sites)) _ _ λ c.
+    record { cells = rings tri he (length tri) 0 (replicate (siteCount sites) []) ∙ length-replicate (siteCount sites) []; owners = refl }
