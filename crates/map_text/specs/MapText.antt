@@ -6,7 +6,7 @@ use lib.ListN.{length}
 use Rattle.laws.specs.Pick.{pick}
 use Rattle.listing.specs.Text.{ascii, decimal}
 use Rattle.listing.specs.Listing.{listedCell, Layout}
-use Rattle.wkb.specs.Promise.{Named, image}
+use Rattle.wkb.specs.Promise.{NamesVertices, image}
 
 -- 48 is the digit 0, 97 the digit a
 abbrev pub hexDigit : ℕ → ℕ
@@ -33,5 +33,5 @@ mapText v off ix n = heading ++ mapLines v off ix 0 n
 -- n cells that can be drawn over so many vertices: offsets that a listing can go by, entries that name vertices, at most 3,076 to a cell
 pub record Drawn (off ix : List ℕ) (n count : ℕ) : Type 0 where
   pub layout : Layout off ix n
-  pub named : (i : ℕ) → i < n → Named (listedCell off ix i) count
+  pub named : (i : ℕ) → i < n → NamesVertices (listedCell off ix i) count
   pub short : (i : ℕ) → i < n → length (listedCell off ix i) ≤ 3076

@@ -15,17 +15,17 @@ use Rattle.octets.specs.Wrote.{Wrote}
 use Rattle.wkb.specs.Polygon.{pointsOf, patterns, polygon, size}
 
 -- each entry names one of n vertices
-pub record Named (cell : List ℕ) (n : ℕ) : Type 0 where
+pub record NamesVertices (cell : List ℕ) (n : ℕ) : Type 0 where
   pub each : (k : ℕ) → k < length cell → getD cell k 0 < n
 
 -- the image of n points fits: a ring of 2^32 points has no count of four bytes, so no output is long enough for it
-pub record Sized (n room : ℕ) : Type 0 where
+pub record ImageFits (n room : ℕ) : Type 0 where
   pub counted : n + 1 < 2 ^ 32
   pub long : size n ≤ room
 
 -- 18 on the cell's entries, then 2
 abbrev pub entryRules : List ℕ → List ℕ → ℕ → List (Rule ℕ)
-entryRules v cell room = once refusedEntry (Named cell (length v / 2)) ∷ once refusedRoom (Sized (length cell) room) ∷ []
+entryRules v cell room = once refusedEntry (NamesVertices cell (length v / 2)) ∷ once refusedRoom (ImageFits (length cell) room) ∷ []
 
 -- 1 on the vertices, 4 on the site, 16 on the offsets, then these
 abbrev pub wkbRules : List ℕ → List ℕ → List ℕ → ℕ → ℕ → List (Rule ℕ)

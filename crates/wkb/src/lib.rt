@@ -11,7 +11,7 @@ ghost use Rattle.laws.specs.Decide.{Says};
 ghost use Rattle.octets.specs.Bytes.{each};
 ghost use Rattle.octets.specs.Wrote.{Wrote, HasRoom};
 ghost use Rattle.wkb.specs.Polygon.{pointAt, pointsOf, pointBytes, ringBytes, closed, headBytes, patterns};
-ghost use Rattle.wkb.specs.Promise.{Named, Sized, image, WkbAnswer, FloatAnswer, EntriesAnswer};
+ghost use Rattle.wkb.specs.Promise.{NamesVertices, ImageFits, image, WkbAnswer, FloatAnswer, EntriesAnswer};
 
 // The pattern of the NaN, which has none of its own.
 const QUIET: u64 = 0x7FF8_0000_0000_0000;
@@ -49,7 +49,7 @@ fn put_point(out: &mut [u8], at: usize, floats: &[f64], bits: &[u64], entry: u32
 
 // The points of the entries, one after the other.
 fn put_points(out: &mut [u8], at: usize, floats: &[f64], bits: &[u64], entries: &[u32]) -> usize
-    requires { ⌜ Named (now entries) ((length (now floats) + length (now bits)) / 2) × (at + 16 * length (now entries) ≤ length (now out)) ⌝ }
+    requires { ⌜ NamesVertices (now entries) ((length (now floats) + length (now bits)) / 2) × (at + 16 * length (now entries) ≤ length (now out)) ⌝ }
     ensures { λ r. ⌜ Wrote (now (out .entry)) (now (out .exit)) at r
         (each pointBytes (pointsOf (patterns (now (floats .entry)) ++ now (bits .entry)) (now (entries .entry)))) ⌝ }
 {
@@ -64,7 +64,7 @@ fn put_points(out: &mut [u8], at: usize, floats: &[f64], bits: &[u64], entries: 
 
 // Their count, the points, the first again.
 fn put_ring(out: &mut [u8], at: usize, floats: &[f64], bits: &[u64], entries: &[u32]) -> usize
-    requires { ⌜ Named (now entries) ((length (now floats) + length (now bits)) / 2) × (3 ≤ length (now entries)) × (length (now entries) + 1 < 2 ^ 32)
+    requires { ⌜ NamesVertices (now entries) ((length (now floats) + length (now bits)) / 2) × (3 ≤ length (now entries)) × (length (now entries) + 1 < 2 ^ 32)
         × (at + 20 + 16 * length (now entries) ≤ length (now out)) ⌝ }
     ensures { λ r. ⌜ Wrote (now (out .entry)) (now (out .exit)) at r
         (ringBytes (closed (pointsOf (patterns (now (floats .entry)) ++ now (bits .entry)) (now (entries .entry))))) ⌝ }
@@ -86,7 +86,7 @@ fn put_head(out: &mut [u8], rings: u64) -> usize
 }
 
 fn put_polygon(out: &mut [u8], floats: &[f64], bits: &[u64], entries: &[u32]) -> usize
-    requires { ⌜ Named (now entries) ((length (now floats) + length (now bits)) / 2) × Sized (length (now entries)) (length (now out)) ⌝ }
+    requires { ⌜ NamesVertices (now entries) ((length (now floats) + length (now bits)) / 2) × ImageFits (length (now entries)) (length (now out)) ⌝ }
     ensures { λ r. ⌜ Wrote (now (out .entry)) (now (out .exit)) 0 r (image (patterns (now (floats .entry)) ++ now (bits .entry)) (now (entries .entry))) ⌝ }
 {
     if entries.len() < 3 {
@@ -98,7 +98,7 @@ fn put_polygon(out: &mut [u8], floats: &[f64], bits: &[u64], entries: &[u32]) ->
 
 // The same of vertices as floats.
 pub fn put_cell(out: &mut [u8], vertices: &[f64], entries: &[u32]) -> usize
-    requires { ⌜ Named (now entries) (length (now vertices) / 2) × Sized (length (now entries)) (length (now out)) ⌝ }
+    requires { ⌜ NamesVertices (now entries) (length (now vertices) / 2) × ImageFits (length (now entries)) (length (now out)) ⌝ }
     ensures { λ r. ⌜ Wrote (now (out .entry)) (now (out .exit)) 0 r (image (patterns (now (vertices .entry))) (now (entries .entry))) ⌝ }
 {
     let none = [0u64; 1];
@@ -107,7 +107,7 @@ pub fn put_cell(out: &mut [u8], vertices: &[f64], entries: &[u32]) -> usize
 
 // Whether each entry names one of so many vertices.
 fn entries_ok(entries: &[u32], count: usize) -> bool
-    ensures { λ r. ⌜ Says r (Named (now (entries .entry)) count) ⌝ }
+    ensures { λ r. ⌜ Says r (NamesVertices (now (entries .entry)) count) ⌝ }
 {
     let mut i = 0;
     while i < entries.len() {
@@ -121,7 +121,7 @@ fn entries_ok(entries: &[u32], count: usize) -> bool
 
 // Whether an output of this length has room for the polygon of so many entries.
 fn has_room(entries: usize, room: usize) -> bool
-    ensures { λ r. ⌜ Says r (Sized entries room) ⌝ }
+    ensures { λ r. ⌜ Says r (ImageFits entries room) ⌝ }
 {
     if entries < 3 {
         return 9 <= room;

@@ -7,20 +7,33 @@ use Rattle.export.proofs.in_box.Tie as tie
 
 show-requires : tie.Need-show-requires
 show-requires c κs =
-    let s = c .before .before .before .before .before .before .before .before .before .before .before .before .before .before .before .before .before .before .before .before .before in
-    let b = c .before .before .before .before .before .before .before .before .before .before .build in (
-      λ z. rw (c .before .before .before .before .narrow .ensures, b .kept .1 .1 .1 .1 .1 .1 .1 .1 .0) (laid-in-box _ _ _ _ _ (s .pre) _ _ (record { work = refl; vertices = refl; indexes = refl; offsets = refl; counts = refl }) _ _ _ _ (b .ensures) (b .kept .1 .1 .1 .1 .1 .1 .1 .1 .1 .0) z),
-      s .pre .room,
+    let at-narrow = c .before .before .before .before in
+    let at-build = at-narrow .before .before .before .before .before .before in
+    let start = at-build .before .before .before .before .before .before .before .before .before .before .before in
+    let b = at-build .build in (
+      λ z. rw (at-narrow .narrow .ensures, b .kept .1 .1 .1 .1 .1 .1 .1 .1 .0)
+          (laid-in-box _ _ _ _ _ (start .pre) _ _ (record { work = refl; vertices = refl; indexes = refl; offsets = refl; counts = refl }) _ _ _ _ (b .ensures)
+          (b .kept .1 .1 .1 .1 .1 .1 .1 .1 .1 .0) z),
+      start .pre .room,
     )
 
 returns : tie.Need-returns
 returns c =
-    let s = c .before .before .before .before .before .before .before .before .before .before .before .before .before .before .before .before .before .before .before .before .before .before .before .before in
-    let b = c .before .before .before .before .before .before .before .before .before .before .before .before .before .build in
-    let h = c .before .before .show .ensures in
-    (rw (h .first, c .before .before .before .before .before .before .before .narrow .ensures) (text-in-box _ _ _ _ _ (s .pre) _ _ (record { work = refl; vertices = refl; indexes = refl; offsets = refl; counts = refl }) _ _ _ _ (b .ensures)), h .within)
+    let at-show = c .before .before in
+    let at-narrow = at-show .before .before .before .before .before in
+    let at-build = at-narrow .before .before .before .before .before .before in
+    let start = at-build .before .before .before .before .before .before .before .before .before .before .before in
+    let b = at-build .build in
+    let h = at-show .show .ensures in (
+      rw (h .first, at-narrow .narrow .ensures)
+          (text-in-box _ _ _ _ _ (start .pre) _ _ (record { work = refl; vertices = refl; indexes = refl; offsets = refl; counts = refl }) _ _ _ _ (b .ensures)),
+      h .within,
+    )
 
 pub in-box-spec : {M : Type 1} → statement M
 in-box-spec =
     tie.close
-    (tie.spec (λ c. search needs) (λ c. search needs) (λ c. search needs) (λ c. search needs) (λ c. search needs) (λ c. search needs) (λ c. search needs) (λ c. search needs) (λ c. search needs) (λ c κs. search needs) (λ c κs. search needs) (λ c. search needs) (λ c. search needs) (λ c. search needs) show-requires (λ c. search needs) returns)
+    (tie.spec (λ c. search needs) (λ c. search needs) (λ c. search needs) (λ c. search needs)
+    (λ c. search needs) (λ c. search needs) (λ c. search needs) (λ c. search needs) (λ c. search needs)
+    (λ c κs. search needs) (λ c κs. search needs) (λ c. search needs) (λ c. search needs) (λ c. search needs)
+    show-requires (λ c. search needs) returns)

@@ -13,7 +13,7 @@ use Rattle.numbers.specs.Numbers.{EMPTY}
 use Rattle.utils.specs.Flat.{flat}
 use Rattle.vertices.specs.laws.Laws.{length-flat}
 use Rattle.wkb.specs.Polygon.{patterns}
-use Rattle.wkb.specs.Promise.{Named, image}
+use Rattle.wkb.specs.Promise.{NamesVertices, image}
 use Rattle.map_text.specs.MapText.{heading, mapLines, mapText}
 use Rattle.utils.specs.declared.Point.{Point}
 use Rattle.bounding_box.specs.Box.{madeOf}
@@ -98,7 +98,7 @@ module _ {Rules : ℕ → Type 0} {table : List ℕ} {o : Outcome Fault Built} {
   cell-is : (k : ℕ) → k < length cells → getD cells k [] ≡ unmarked (getD (b .cells) k [])
   cell-is k h = List·getD-map unmarked (b .cells) k []
 
-  named-at : (k : ℕ) → k < length cells → Named (getD cells k []) (length (b .verts))
+  named-at : (k : ℕ) → k < length cells → NamesVertices (getD cells k []) (length (b .verts))
   named-at k h = rw (cell-is k h) (d .named k (omega (arith, length-map (b .cells) unmarked)))
 
   pub laid-out : n ≤ 96 → length (new .indexes) ≡ 3076 → CanDraw n 3656 (new .offsets) (new .indexes)
@@ -139,7 +139,8 @@ module _ (sites : List Float) (tri he hull : List ℕ) (space : ℕ) (m : SheetS
         lt-ltb (siteCount sites) 97 (omega (arith, m .few-sites)),
       ))
 
-  module _ {asked : ℕ} {o : Outcome Fault Built} (whole : Gives (Whole (siteCount sites)) o) (can : (b : Built) → o ≡ ok b → r ≡ 0 → Drawable b) (late : Refuses Numbered o) (a : Answers sites tri he hull asked o old new r) where
+  module _ {asked : ℕ} {o : Outcome Fault Built} (whole : Gives (Whole (siteCount sites)) o) (can : (b : Built) → o ≡ ok b → r ≡ 0 → Drawable b)
+      (late : Refuses Numbered o) (a : Answers sites tri he hull asked o old new r) where
     rules : Builds sites tri he hull true asked o r
     rules = rw roomy at (a .number)
 

@@ -9,7 +9,7 @@ use lib.Seq.{take-suc, take-all, drop-append-seam, take-append-seam}
 use Rattle.layout.specs.Regions.{joined, offsetsFrom}
 use Rattle.layout.specs.laws.Compacting.{joined-snoc, offsets-length}
 use Rattle.listing.specs.Listing.{listedCell, Layout}
-use Rattle.wkb.specs.Promise.{Named, image}
+use Rattle.wkb.specs.Promise.{NamesVertices, image}
 use Rattle.map_text.specs.MapText.{mapLine, mapLines, Drawn}
 use Rattle.export.specs.Printed.{drawnFrom}
 use Rattle.export.specs.Shown.{CanDraw}
@@ -98,7 +98,7 @@ module _ (cs : List (List ℕ)) (more rest : List ℕ) where
   )
 
   -- within the form's limits they can be drawn
-  pub can-draw : (numbers : ℕ) → length cs ≤ 96 → length idx ≤ 3076 → ((i : ℕ) → i < length cs → Named (getD cs i []) (numbers / 2)) → CanDraw (length cs) numbers offs idx
+  pub can-draw : (numbers : ℕ) → length cs ≤ 96 → length idx ≤ 3076 → ((i : ℕ) → i < length cs → NamesVertices (getD cs i []) (numbers / 2)) → CanDraw (length cs) numbers offs idx
   can-draw numbers few short named =
       let all : length idx ≡ length (joined cs) + length rest = length-append (joined cs) rest in
       record {

@@ -15,7 +15,7 @@ use Rattle.definition.specs.Cell.{Entry, entry, plain}
 use Rattle.definition.specs.Build.{ringFrom, isEmpty}
 use Rattle.definition.specs.Unclipped.{ringCell, ringsFrom}
 use Rattle.outputs.specs.Lent.{unmarked}
-use Rattle.wkb.specs.Promise.{Named}
+use Rattle.wkb.specs.Promise.{NamesVertices}
 
 -- ---- lists all of whose elements have a property
 module _ {A : Type 0} (P : A → Type 0) where
@@ -37,7 +37,7 @@ module _ {A : Type 0} (P : A → Type 0) where
   all-turned [] m h g = g
   all-turned (x ∷ l) m h g = all-turned l (x ∷ m) (h .1) (h .0, g)
 
-pub named-all : (n : ℕ) (l : List ℕ) → All (λ x. x < n) l → Named l n
+pub named-all : (n : ℕ) (l : List ℕ) → All (λ x. x < n) l → NamesVertices l n
 named-all n l h = record { each = each l h }
   where
     each : (l : List ℕ) → All (λ x. x < n) l → (k : ℕ) → k < length l → getD l k 0 < n
@@ -51,7 +51,8 @@ unfolding walkOf
 walk-below he s zero e = tt
 walk-below he s (suc k) e = go (ltb e (length he)) refl (walk-below he s k (turnOf he s e))
   where
-    go : (t : Bool) → ltb e (length he) ≡ t → All (λ f. f < length he) (walkOf he s k (turnOf he s e)) → All (λ f. f < length he) (pick t (λ _. e ∷ walkOf he s k (turnOf he s e)) (λ _. []))
+    go : (t : Bool) → ltb e (length he) ≡ t → All (λ f. f < length he) (walkOf he s k (turnOf he s e))
+        → All (λ f. f < length he) (pick t (λ _. e ∷ walkOf he s k (turnOf he s e)) (λ _. []))
     go true q r = (ltb-true e (length he) q, r)
     go false q r = tt
 
@@ -82,7 +83,7 @@ module _ (he : List ℕ) (threes : length he % 3 ≡ 0) where
       (λ _. all-set Fine cells (endOf tri e) (ringCell he e) (ring-below e) h) (λ _. h))
 
   -- every cell
-  pub cells-named : (tri : List ℕ) (n s : ℕ) → Named (unmarked (getD (ringsFrom tri he 0 (length tri) (replicate n [])) s [])) (length he / 3)
+  pub cells-named : (tri : List ℕ) (n s : ℕ) → NamesVertices (unmarked (getD (ringsFrom tri he 0 (length tri) (replicate n [])) s [])) (length he / 3)
   cells-named tri n s =
       let cells = ringsFrom tri he 0 (length tri) (replicate n []) in
       let all : All Fine cells = rings-below tri (length tri) 0 (replicate n []) (all-same Fine n [] tt) in

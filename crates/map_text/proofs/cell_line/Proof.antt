@@ -19,24 +19,37 @@ few : (s : tie.Start) → length (image (patterns (now (s .args .vertices))) (no
 few s = omega (arith, image-short (patterns (now (s .args .vertices))) (now (s .args .entries)), s .pre .1)
 
 put-cell-requires : tie.Need-put-cell-requires
-put-cell-requires c κs = let s = c .before .before .before .before in (s .pre .0, sized-short _ _ (s .pre .1) (omega arith))
+put-cell-requires c κs =
+    let start = c .before .before .before .before in
+    (start .pre .0, sized-short _ _ (start .pre .1) (omega arith))
 
 array-share-prefix-bytes : tie.Need-array-share-prefix-bytes
-array-share-prefix-bytes c = omega (arith, c .before .before .put-cell .ensures .place, few (c .before .before .before .before .before .before .before))
+array-share-prefix-bytes c =
+    let at-put-cell = c .before .before in
+    let start = at-put-cell .before .before .before .before .before in
+    omega (arith, at-put-cell .put-cell .ensures .place, few start)
 
 slice-aggregate-map-line : tie.Need-slice-aggregate-map-line
 slice-aggregate-map-line c =
-    sym (length-take-le (c .before .before .before .put-cell .result) (c .before .before .before .put-cell .last .0) (omega (arith, c .before .before .before .put-cell .ensures .place, few (c .before .before .before .before .before .before .before .before), c .before .before .before .put-cell .kept .0)))
+    let at-put-cell = c .before .before .before in
+    let start = at-put-cell .before .before .before .before .before in
+    sym (length-take-le (at-put-cell .put-cell .result) (at-put-cell .put-cell .last .0) (omega (arith, at-put-cell .put-cell .ensures .place, few start, at-put-cell .put-cell .kept .0)))
 
 map-line-requires : tie.Need-map-line-requires
-map-line-requires c κs = let s = c .before .before .before .before .before .before .before .before in rw (wrote-all (c .before .before .before .put-cell .ensures) (omega (arith, few s))) (s .pre .2)
+map-line-requires c κs =
+    let at-put-cell = c .before .before .before in
+    let start = at-put-cell .before .before .before .before .before in
+    rw (wrote-all (at-put-cell .put-cell .ensures) (omega (arith, few start))) (start .pre .2)
 
 returns : tie.Need-returns
 returns c =
-    let s = c .before .before .before .before .before .before .before .before .before .before .before in
-    wrote-as (c .before .before .map-line .ensures) (ap (mapLine (s .args .i)) (wrote-all (c .before .before .before .before .before .before .put-cell .ensures) (omega (arith, few s))))
+    let at-map-line = c .before .before in
+    let at-put-cell = at-map-line .before .before .before .before in
+    let start = at-put-cell .before .before .before .before .before in
+    wrote-as (at-map-line .map-line .ensures) (ap (mapLine (start .args .i)) (wrote-all (at-put-cell .put-cell .ensures) (omega (arith, few start))))
 
 pub cell-line-spec : {M : Type 1} → statement M
 cell-line-spec =
     tie.close
-    (tie.spec (λ c. search needs) put-cell-requires array-share-prefix-bytes slice-aggregate-map-line map-line-requires (λ c. search needs) returns)
+    (tie.spec (λ c. search needs) put-cell-requires array-share-prefix-bytes slice-aggregate-map-line
+    map-line-requires (λ c. search needs) returns)

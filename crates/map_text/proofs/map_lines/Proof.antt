@@ -25,10 +25,14 @@ abbrev μ-loop : tie.MeasureT-loop
 
 -- in a turn: the function's entry, its lists, the cell's number, and the part that its two offsets name
 abbrev begin : tie.After-wide2 Inv-loop μ-loop → tie.Start Inv-loop μ-loop
-begin c = c .before .before .before .before .before .before .before .before .before .before
+begin c =
+    let start = c .before .before .before .before .before .before .before .before .before .before in
+    start
 
 abbrev number : tie.After-wide2 Inv-loop μ-loop → ℕ
-number c = let l = c .before .before .before .before .before in l .loop .i
+number c =
+    let start = c .before .before .before .before .before in
+    let l = start in l .loop .i
 
 abbrev off : tie.After-wide2 Inv-loop μ-loop → List ℕ
 off c = now (begin c .args .offsets)
@@ -40,7 +44,9 @@ abbrev vs : tie.After-wide2 Inv-loop μ-loop → List ℕ
 vs c = patterns (now (begin c .args .vertices))
 
 turn : (c : tie.After-wide2 Inv-loop μ-loop) → number c < begin c .args .sites
-turn c = c .before .before .before .before .loop-test .taken
+turn c =
+    let at-loop-test = c .before .before .before .before in
+    at-loop-test .loop-test .taken
 
 from-is : (c : tie.After-wide2 Inv-loop μ-loop) → c .before .before .wide .result ≡ getD (off c) (number c) 0
 from-is c = c .before .before .wide .ensures
@@ -59,23 +65,34 @@ part-is c = ap₂ (λ (f t : ℕ). take (t - f) (drop f (ix c))) (from-is c) (to
 
 loop-holds : tie.Need-loop-holds Inv-loop μ-loop
 loop-holds c =
-    let a = c .before .before .before .before .args in
+    let start = c .before .before .before .before in
+    let a = start .args in
     lined-start _ (a .sites) (now (a .out)) (a .at) (lines-none (patterns (now (a .vertices))) (now (a .offsets)) (now (a .indexes)))
 
 mul-wide : tie.Need-mul-wide Inv-loop μ-loop
-mul-wide c = let s = c .before .before .before .before .before .before in omega (arith, s .pre .0 .layout .long, s .good .1 .1 .1 .1 .0 .1)
+mul-wide c =
+    let start = c .before .before .before .before .before .before in
+    omega (arith, start .pre .0 .layout .long, start .good .1 .1 .1 .1 .0 .1)
 
 shared-slice-read-wide : tie.Need-shared-slice-read-wide Inv-loop μ-loop
-shared-slice-read-wide c = let s = c .before .before .before .before .before .before .before in omega (arith, s .pre .0 .layout .long)
+shared-slice-read-wide c =
+    let start = c .before .before .before .before .before .before .before in
+    omega (arith, start .pre .0 .layout .long)
 
 add-wide : tie.Need-add-wide Inv-loop μ-loop
-add-wide c = let s = c .before .before .before .before .before .before .before .before in omega (arith, s .pre .0 .layout .few)
+add-wide c =
+    let start = c .before .before .before .before .before .before .before .before in
+    omega (arith, start .pre .0 .layout .few)
 
 mul-wide-2 : tie.Need-mul-wide-2 Inv-loop μ-loop
-mul-wide-2 c = let s = c .before .before .before .before .before .before .before .before in omega (arith, s .pre .0 .layout .long, s .good .1 .1 .1 .1 .0 .1)
+mul-wide-2 c =
+    let start = c .before .before .before .before .before .before .before .before in
+    omega (arith, start .pre .0 .layout .long, start .good .1 .1 .1 .1 .0 .1)
 
 shared-slice-read-wide-2 : tie.Need-shared-slice-read-wide-2 Inv-loop μ-loop
-shared-slice-read-wide-2 c = let s = c .before .before .before .before .before .before .before .before .before in omega (arith, s .pre .0 .layout .long)
+shared-slice-read-wide-2 c =
+    let start = c .before .before .before .before .before .before .before .before .before in
+    omega (arith, start .pre .0 .layout .long)
 
 cast-cell-line : tie.Need-cast-cell-line Inv-loop μ-loop
 cast-cell-line c = let s = begin (c .before) in omega (arith, s .pre .0 .layout .few, turn (c .before))
@@ -85,10 +102,12 @@ mul-cell-line c = let s = begin (c .before) in omega (arith, bounds (c .before),
 
 cell-line-requires : tie.Need-cell-line-requires Inv-loop μ-loop
 cell-line-requires c κs =
-    let w = c .before .before in
+    let start = c .before .before in
+    let at-loop = start .before .before .before .before .before in
+    let w = start in
     let s = begin w in
     let i = number w in
-    let l = c .before .before .before .before .before .before .before .loop in
+    let l = at-loop .loop in
     let line = mapLine i (image (vs w) (listedCell (off w) (ix w) i)) in
     rw (part-is w) (
       s .pre .0 .named i (turn w),
@@ -98,18 +117,27 @@ cell-line-requires c κs =
     )
 
 add-i : tie.Need-add-i Inv-loop μ-loop
-add-i c = let w = c .before .before .before .before .before in let s = begin w in omega (arith, s .pre .0 .layout .few, turn w)
+add-i c =
+    let start = c .before .before .before .before .before in
+    let w = start in let s = begin w in omega (arith, s .pre .0 .layout .few, turn w)
 
 loop-again : tie.Need-loop-again Inv-loop μ-loop
 loop-again c =
-    let w = c .before .before .before .before .before in
+    let at-cell-line = c .before .before in
+    let start = at-cell-line .before .before .before in
+    let at-loop = start .before .before .before .before .before in
+    let w = start in
     let i = number w in
-    let l = c .before .before .before .before .before .before .before .before .before .before .loop in
-    let r = c .before .before .cell-line in
+    let l = at-loop .loop in
+    let r = at-cell-line .cell-line in
     lined-step (l .inv) (mapLine i (image (vs w) (listedCell (off w) (ix w) i))) (turn w) (lines-more (vs w) (off w) (ix w) i)
     (subst (λ (z : List ℕ). Wrote (l .out) (r .last .0) (l .end) (r .result) (mapLine i (image (vs w) z))) (part-is w) (r .ensures))
 
 pub map-lines-spec : {M : Type 1} → statement M
 map-lines-spec =
     tie.close
-    (tie.spec Inv-loop μ-loop loop-holds mul-wide shared-slice-read-wide (λ c κs. search needs) add-wide mul-wide-2 shared-slice-read-wide-2 (λ c κs. search needs) cast-cell-line mul-cell-line (λ c. bounds (c .before) .0) (λ c. bounds (c .before) .0) (λ c. bounds (c .before) .1) cell-line-requires add-i (λ c. omega (arith, turn (c .before .before .before .before .before))) loop-again (λ c. wrote-length (c .before .loop .inv .wrote)) (λ c. lined-end (c .before .loop .inv) (c .loop-test .left)))
+    (tie.spec Inv-loop μ-loop loop-holds mul-wide shared-slice-read-wide (λ c κs. search needs) add-wide
+    mul-wide-2 shared-slice-read-wide-2 (λ c κs. search needs) cast-cell-line mul-cell-line
+    (λ c. bounds (c .before) .0) (λ c. bounds (c .before) .0) (λ c. bounds (c .before) .1) cell-line-requires
+    add-i (λ c. omega (arith, turn (c .before .before .before .before .before))) loop-again (λ c. wrote-length (c .before .loop .inv .wrote))
+    (λ c. lined-end (c .before .loop .inv) (c .loop-test .left)))

@@ -13,15 +13,19 @@ slice-write-out c = let s = c .before .before .before in omega (arith, s .pre, h
 
 slice-write-out-2 : tie.Need-slice-write-out-2
 slice-write-out-2 c =
-    let s = c .before .before .before in
-    omega (arith, s .pre, hex-length (s .args .b ∷ []), length-set (now (s .args .out)) (s .args .at) (c .before .digit .result))
+    let at-digit = c .before in
+    let start = at-digit .before .before in
+    omega (arith, start .pre, hex-length (start .args .b ∷ []), length-set (now (start .args .out)) (start .args .at) (at-digit .digit .result))
 
 returns : tie.Need-returns
 returns c =
-    let a = c .before .before .before .args in
-    byte-wrote (a .b) (now (a .out)) (a .at) (c .before .digit .ensures) (c .digit2 .ensures)
+    let at-digit = c .before in
+    let start = at-digit .before .before in
+    let a = start .args in
+    byte-wrote (a .b) (now (a .out)) (a .at) (at-digit .digit .ensures) (c .digit2 .ensures)
 
 pub put-byte-spec : {M : Type 1} → statement M
 put-byte-spec =
     tie.close
-    (tie.spec (λ c κs. search needs) (λ c κs. search needs) slice-write-out (λ c. search needs) slice-write-out-2 (λ c. search needs) (λ c. search needs) returns)
+    (tie.spec (λ c κs. search needs) (λ c κs. search needs) slice-write-out (λ c. search needs)
+    slice-write-out-2 (λ c. search needs) (λ c. search needs) returns)

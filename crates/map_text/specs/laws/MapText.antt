@@ -12,7 +12,7 @@ use Rattle.listing.specs.Text.{ascii, decimal}
 use Rattle.listing.specs.laws.Decimal.{decimal-short}
 use Rattle.listing.specs.Listing.{listedCell, Layout}
 use Rattle.wkb.specs.Polygon.{pointAt, pointsOf, size}
-use Rattle.wkb.specs.Promise.{Sized, image}
+use Rattle.wkb.specs.Promise.{ImageFits, image}
 use Rattle.wkb.specs.ReadBack.{length-polygon}
 use Rattle.wkb.specs.laws.Room.{size-none, size-ring}
 use Rattle.map_text.specs.MapText.{hex, mapLine, heading, mapLines, mapText, Drawn}
@@ -53,7 +53,7 @@ size-most : (n : ℕ) → size n ≤ 29 + 16 * n
 size-most n = ⊎-elim (λ h. omega (arith, size-none n h)) (λ h. omega (arith, size-ring n h)) (lt-or-ge n 3)
 
 -- a cell of at most 3,076 entries
-pub sized-short : (n room : ℕ) → n ≤ 3076 → 49245 ≤ room → Sized n room
+pub sized-short : (n room : ℕ) → n ≤ 3076 → 49245 ≤ room → ImageFits n room
 sized-short n room h g = record { counted = omega arith; long = omega (arith, size-most n) }
 
 pub image-short : (v c : List ℕ) → length (image v c) ≤ 29 + 16 * length c

@@ -14,10 +14,17 @@ abbrev μ-loop : tie.MeasureT-loop
 μ-loop entries count i₀ i = length entries - i
 
 returns : tie.Need-returns Inv-loop μ-loop
-returns c = λ n. omega (arith, n .each (c .before .before .before .before .loop .i) (c .before .before .before .loop-test .taken), c .before .wide .ensures, c .if1 .taken)
+returns c =
+    let at-wide = c .before in
+    let at-loop-test = at-wide .before .before in
+    let at-loop = at-loop-test .before in
+    λ n. omega (arith, n .each (at-loop .loop .i) (at-loop-test .loop-test .taken), at-wide .wide .ensures, c .if1 .taken)
 
 loop-again : tie.Need-loop-again Inv-loop μ-loop
-loop-again c = (search needs, below-more _ _ (c .before .before .before .before .loop .inv .1) (omega (arith, c .before .wide .ensures, c .if1 .left)))
+loop-again c =
+    let at-wide = c .before in
+    let at-loop = at-wide .before .before .before in
+    (search needs, below-more _ _ (at-loop .loop .inv .1) (omega (arith, at-wide .wide .ensures, c .if1 .left)))
 
 returns-2 : tie.Need-returns-2 Inv-loop μ-loop
 returns-2 c = record { each = λ k h. c .before .loop .inv .1 k (omega (arith, c .loop-test .left)) }
@@ -25,4 +32,5 @@ returns-2 c = record { each = λ k h. c .before .loop .inv .1 k (omega (arith, c
 pub entries-ok-spec : {M : Type 1} → statement M
 entries-ok-spec =
     tie.close
-    (tie.spec Inv-loop μ-loop (λ c. search needs) (λ c. search needs) (λ c. search needs) (λ c κs. search needs) returns (λ c. search needs) (λ c. search needs) loop-again returns-2)
+    (tie.spec Inv-loop μ-loop (λ c. search needs) (λ c. search needs) (λ c. search needs) (λ c κs. search needs)
+    returns (λ c. search needs) (λ c. search needs) loop-again returns-2)

@@ -7,10 +7,15 @@ use Rattle.wkb.proofs.put_cell.Statement.{statement}
 use Rattle.wkb.proofs.put_cell.Tie as tie
 
 put-polygon-requires : tie.Need-put-polygon-requires
-put-polygon-requires c κs = let s = c .before .before .before .before .before in (no-bits-named (length (now (s .args .vertices))) (s .pre .0), s .pre .1)
+put-polygon-requires c κs =
+    let start = c .before .before .before .before .before in
+    (no-bits-named (length (now (start .args .vertices))) (start .pre .0), start .pre .1)
 
 returns : tie.Need-returns
-returns c = no-bits-wrote _ (now (c .before .before .before .before .before .before .before .before .args .entries)) (c .before .before .put-polygon .ensures)
+returns c =
+    let at-put-polygon = c .before .before in
+    let start = at-put-polygon .before .before .before .before .before .before in
+    no-bits-wrote _ (now (start .args .entries)) (at-put-polygon .put-polygon .ensures)
 
 pub put-cell-spec : {M : Type 1} → statement M
 put-cell-spec =

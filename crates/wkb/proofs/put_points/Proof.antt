@@ -25,12 +25,14 @@ loop-holds c = lined-start _ _ _ _ refl
 
 put-point-requires : tie.Need-put-point-requires Inv-loop μ-loop
 put-point-requires c κs =
-    let s = c .before .before .before .before .before .before .before .before in
-    let l = c .before .before .before .loop in
-    let v = patterns (now (s .args .floats)) ++ now (s .args .bits) in
-    let list = now (s .args .entries) in
-    let more = c .before .before .loop-test .taken in (
-      omega (arith, s .pre .0 .each (l .i) more),
+    let at-loop-test = c .before .before in
+    let at-loop = at-loop-test .before in
+    let start = at-loop .before .before .before .before .before in
+    let l = at-loop .loop in
+    let v = patterns (now (start .args .floats)) ++ now (start .args .bits) in
+    let list = now (start .args .entries) in
+    let more = at-loop-test .loop-test .taken in (
+      omega (arith, start .pre .0 .each (l .i) more),
       omega (
         arith,
         l .inv .wrote .place,
@@ -38,26 +40,33 @@ put-point-requires c κs =
         length-map (take (l .i) list) (pointAt v),
         length-take-le (l .i) list (l .inv .within),
         wrote-length (l .inv .wrote),
-        s .pre .1,
+        start .pre .1,
       ),
     )
 
 loop-again : tie.Need-loop-again Inv-loop μ-loop
 loop-again c =
-    let a = c .before .before .before .before .before .before .before .before .before .before .before .args in
-    let l = c .before .before .before .before .before .before .loop in
+    let at-put-point = c .before .before in
+    let at-loop-test = at-put-point .before .before .before in
+    let at-loop = at-loop-test .before in
+    let start = at-loop .before .before .before .before .before in
+    let a = start .args in
+    let l = at-loop .loop in
     let v = patterns (now (a .floats)) ++ now (a .bits) in
     let list = now (a .entries) in
-    let more = c .before .before .before .before .before .loop-test .taken in
-    lined-step (l .inv) (pointBytes (pointAt v (getD list (l .i) 0))) more (points-more v list (l .i) more) (c .before .before .put-point .ensures)
+    let more = at-loop-test .loop-test .taken in
+    lined-step (l .inv) (pointBytes (pointAt v (getD list (l .i) 0))) more (points-more v list (l .i) more) (at-put-point .put-point .ensures)
 
 returns : tie.Need-returns Inv-loop μ-loop
 returns c =
-    let a = c .before .before .before .before .before .before .args in
-    wrote-as (lined-end (c .before .loop .inv) (c .loop-test .left))
+    let at-loop = c .before in
+    let start = at-loop .before .before .before .before .before in
+    let a = start .args in
+    wrote-as (lined-end (at-loop .loop .inv) (c .loop-test .left))
     (ap (λ (l : List ℕ). each pointBytes (pointsOf (patterns (now (a .floats)) ++ now (a .bits)) l)) (take-length (now (a .entries))))
 
 pub put-points-spec : {M : Type 1} → statement M
 put-points-spec =
     tie.close
-    (tie.spec Inv-loop μ-loop loop-holds (λ c. search needs) (λ c. search needs) put-point-requires (λ c. search needs) (λ c. search needs) loop-again (λ c. wrote-length (c .before .loop .inv .wrote)) returns)
+    (tie.spec Inv-loop μ-loop loop-holds (λ c. search needs) (λ c. search needs) put-point-requires
+    (λ c. search needs) (λ c. search needs) loop-again (λ c. wrote-length (c .before .loop .inv .wrote)) returns)

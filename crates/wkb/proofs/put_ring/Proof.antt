@@ -15,12 +15,14 @@ use Rattle.wkb.proofs.put_ring.Tie as tie
 
 put-points-requires-2 : tie.Need-put-points-requires-2
 put-points-requires-2 c κs =
-    let s = c .before .before .before .before .before .before .before .before .before .before .before .before .before .before in
-    let list = now (s .args .entries) in
-    let v = patterns (now (s .args .floats)) ++ now (s .args .bits) in
-    let first = c .before .before .before .before .before .before .before .before .put-le .ensures in
-    let last = c .before .before .before .before .put-points .ensures in (
-      named-first list _ (s .pre .0),
+    let at-put-points = c .before .before .before .before in
+    let at-put-le = at-put-points .before .before .before .before in
+    let start = at-put-le .before .before .before .before .before .before in
+    let list = now (start .args .entries) in
+    let v = patterns (now (start .args .floats)) ++ now (start .args .bits) in
+    let first = at-put-le .put-le .ensures in
+    let last = at-put-points .put-points .ensures in (
+      named-first list _ (start .pre .0),
       omega (
         arith,
         first .place,
@@ -29,19 +31,23 @@ put-points-requires-2 c κs =
         length-map list (pointAt v),
         wrote-length first,
         wrote-length last,
-        length-take-le 1 list (omega (arith, s .pre .1)),
-        s .pre .3,
+        length-take-le 1 list (omega (arith, start .pre .1)),
+        start .pre .3,
       ),
     )
 
 returns : tie.Need-returns
 returns c =
-    let s = c .before .before .before .before .before .before .before .before .before .before .before .before .before .before .before .before .before in
-    let a = s .args in
-    ring-wrote (patterns (now (a .floats)) ++ now (a .bits)) (now (a .entries)) (omega (arith, s .pre .1)) refl
-    (c .before .before .before .before .before .before .before .before .before .before .before .put-le .ensures) (c .before .before .before .before .before .before .before .put-points .ensures) (c .before .before .put-points2 .ensures)
+    let at-put-points2 = c .before .before in
+    let at-put-points = at-put-points2 .before .before .before .before .before in
+    let at-put-le = at-put-points .before .before .before .before in
+    let start = at-put-le .before .before .before .before .before .before in
+    let a = start .args in
+    ring-wrote (patterns (now (a .floats)) ++ now (a .bits)) (now (a .entries)) (omega (arith, start .pre .1)) refl
+    (at-put-le .put-le .ensures) (at-put-points .put-points .ensures) (at-put-points2 .put-points2 .ensures)
 
 pub put-ring-spec : {M : Type 1} → statement M
 put-ring-spec =
     tie.close
-    (tie.spec (λ c. search needs) (λ c κs. search needs) (λ c κs. search needs) (λ c. search needs) (λ c. search needs) (λ c. search needs) put-points-requires-2 (λ c. search needs) returns)
+    (tie.spec (λ c. search needs) (λ c κs. search needs) (λ c κs. search needs) (λ c. search needs)
+    (λ c. search needs) (λ c. search needs) put-points-requires-2 (λ c. search needs) returns)

@@ -17,25 +17,43 @@ half : (s : tie.Start) → (length (now (s .args .floats)) + length (now (s .arg
 half s = ap (λ (n : ℕ). n / 2) (sym (length-both (now (s .args .floats)) (now (s .args .bits))))
 
 returns : tie.Need-returns
-returns c = not-named _ _ _ _ (half (c .before .before .before .before .before .before)) (decide.refused (c .before .entries-ok .result) (c .if1 .taken) (c .before .entries-ok .ensures))
+returns c =
+    let at-entries-ok = c .before in
+    let start = at-entries-ok .before .before .before .before .before in
+    not-named _ _ _ _ (half start) (decide.refused (at-entries-ok .entries-ok .result) (c .if1 .taken) (at-entries-ok .entries-ok .ensures))
 
 returns-2 : tie.Need-returns-2
 returns-2 c =
-    no-room _ _ _ _ (half (c .before .before .before .before .before .before .before .before)) (decide.granted (c .before .before .before .entries-ok .result) (c .before .before .if1 .left) (c .before .before .before .entries-ok .ensures))
-    (decide.refused (c .before .has-room .result) (c .if2 .taken) (c .before .has-room .ensures))
+    let at-has-room = c .before in
+    let at-if1 = at-has-room .before in
+    let at-entries-ok = at-if1 .before in
+    let start = at-entries-ok .before .before .before .before .before in
+    no-room _ _ _ _ (half start) (decide.granted (at-entries-ok .entries-ok .result) (at-if1 .if1 .left) (at-entries-ok .entries-ok .ensures))
+    (decide.refused (at-has-room .has-room .result) (c .if2 .taken) (at-has-room .has-room .ensures))
 
 put-polygon-requires : tie.Need-put-polygon-requires
-put-polygon-requires c κs = (
-  decide.granted (c .before .before .before .before .entries-ok .result) (c .before .before .before .if1 .left) (c .before .before .before .before .entries-ok .ensures),
-  decide.granted (c .before .before .has-room .result) (c .before .if2 .left) (c .before .before .has-room .ensures),
-)
+put-polygon-requires c κs =
+    let at-if2 = c .before in
+    let at-has-room = at-if2 .before in
+    let at-if1 = at-has-room .before in
+    let at-entries-ok = at-if1 .before in (
+      decide.granted (at-entries-ok .entries-ok .result) (at-if1 .if1 .left) (at-entries-ok .entries-ok .ensures),
+      decide.granted (at-has-room .has-room .result) (at-if2 .if2 .left) (at-has-room .has-room .ensures),
+    )
 
 returns-3 : tie.Need-returns-3
 returns-3 c =
-    wrote-image _ _ _ _ (half (c .before .before .before .before .before .before .before .before .before .before .before .before)) (decide.granted (c .before .before .before .before .before .before .before .entries-ok .result) (c .before .before .before .before .before .before .if1 .left) (c .before .before .before .before .before .before .before .entries-ok .ensures))
-    (decide.granted (c .before .before .before .before .before .has-room .result) (c .before .before .before .before .if2 .left) (c .before .before .before .before .before .has-room .ensures)) (c .before .before .put-polygon .ensures)
+    let at-put-polygon = c .before .before in
+    let at-if2 = at-put-polygon .before .before in
+    let at-has-room = at-if2 .before in
+    let at-if1 = at-has-room .before in
+    let at-entries-ok = at-if1 .before in
+    let start = at-entries-ok .before .before .before .before .before in
+    wrote-image _ _ _ _ (half start) (decide.granted (at-entries-ok .entries-ok .result) (at-if1 .if1 .left) (at-entries-ok .entries-ok .ensures))
+    (decide.granted (at-has-room .has-room .result) (at-if2 .if2 .left) (at-has-room .has-room .ensures)) (at-put-polygon .put-polygon .ensures)
 
 pub write-entries-spec : {M : Type 1} → statement M
 write-entries-spec =
     tie.close
-    (tie.spec (λ c. search needs) (λ c κs. search needs) returns (λ c κs. search needs) returns-2 put-polygon-requires (λ c. search needs) returns-3)
+    (tie.spec (λ c. search needs) (λ c κs. search needs) returns (λ c κs. search needs) returns-2
+    put-polygon-requires (λ c. search needs) returns-3)

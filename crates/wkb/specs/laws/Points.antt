@@ -69,8 +69,8 @@ closed-bytes v [] h = absurd (omega arith)
 closed-bytes v (e ∷ l) h = each-append (pointsOf v (e ∷ l)) (pointAt v e ∷ [])
 
 -- the count, the points, the first again
-pub ring-wrote : {l m n o : List ℕ} {a b c d k : ℕ} (v cell : List ℕ) → 0 < length cell → k ≡ length cell + 1 → Wrote l m a b (le 4 k) → Wrote m n b c (each pointBytes (pointsOf v cell))
-    → Wrote n o c d (pointsTo v cell 1) → Wrote l o a d (ringBytes (closed (pointsOf v cell)))
+pub ring-wrote : {l m n o : List ℕ} {a b c d k : ℕ} (v cell : List ℕ) → 0 < length cell → k ≡ length cell + 1 → Wrote l m a b (le 4 k)
+    → Wrote m n b c (each pointBytes (pointsOf v cell)) → Wrote n o c d (pointsTo v cell 1) → Wrote l o a d (ringBytes (closed (pointsOf v cell)))
 ring-wrote {k = k} v cell h e p q r =
     let many : k ≡ length (closed (pointsOf v cell)) = omega (arith, closed-length (pointsOf v cell) (omega (arith, length-map cell (pointAt v))), length-map cell (pointAt v)) in
     let first = le 4 k in

@@ -9,7 +9,7 @@ use lib.ListN.{length, getD, take, length-map}
 use borrow.Author.Tests.{leb-true, leb-false, le-ltb, lt-ltb}
 use Rattle.laws.specs.Decide.{Says}
 use Rattle.wkb.specs.Polygon.{headBytes, ringBytes, closed, pointAt, pointsOf, polygon, size}
-use Rattle.wkb.specs.Promise.{Named, Sized, image}
+use Rattle.wkb.specs.Promise.{NamesVertices, ImageFits, image}
 
 pub size-none : (n : ℕ) → n < 3 → size n ≡ 9
 unfolding size
@@ -19,7 +19,7 @@ pub size-ring : (n : ℕ) → 3 ≤ n → size n ≡ 29 + 16 * n
 unfolding size
 size-ring n h = rw (le-ltb n 3 h) refl
 
-pub sized-says : (n room m : ℕ) (b : Bool) → n + 1 < 2 ^ 32 → size n ≡ m → leb m room ≡ b → Says b (Sized n room)
+pub sized-says : (n room m : ℕ) (b : Bool) → n + 1 < 2 ^ 32 → size n ≡ m → leb m room ≡ b → Says b (ImageFits n room)
 sized-says n room m true few e h = record { counted = few; long = omega (arith, leb-true m room h) }
 sized-says n room m false few e h = λ s. omega (arith, s .long, leb-false m room h)
 
@@ -28,7 +28,7 @@ unfolding headBytes
 length-head rings = refl
 
 -- of named entries the first is named
-pub named-first : (cell : List ℕ) (n : ℕ) → Named cell n → Named (take 1 cell) n
+pub named-first : (cell : List ℕ) (n : ℕ) → NamesVertices cell n → NamesVertices (take 1 cell) n
 named-first [] n a = a
 named-first (e ∷ l) n a = record { each = only }
   where
