@@ -18,8 +18,17 @@ cd "$(dirname "$0")/.."
 
 # the crates that it is made of, and how many of them were never proved here
 all=0 left=0
-for crate in "$2" $(sed -n "s/^$2://p" crates.txt); do
-    [ -d "crates/$crate" ] || continue
+# shellcheck disable=SC2013
+for crate in $(awk -F: -v name="$2" '
+    !/^#/ && NF == 2 { uses[$1] = $2 }
+    function visit(c, list, n, i) {
+        if (c in seen || !(c in uses)) return
+        seen[c] = 1
+        print c
+        n = split(uses[c], list, " ")
+        for (i = 1; i <= n; i++) visit(list[i])
+    }
+    END { visit(name) }' crates.txt); do
     all=$((all + 1))
     [ -e "target/stamp/$crate" ] || left=$((left + 1))
 done
