@@ -19,6 +19,9 @@ typedef struct {
 /* Argument i as a slice of floats or indexes, a pointer to one, or the number itself. */
 #define F(i) (double *)a[i].at, (size_t)a[i].count
 #define U(i) (uint32_t *)a[i].at, (size_t)a[i].count
+#define Q(i) (uint64_t *)a[i].at, (size_t)a[i].count
+#define C(i) (uint8_t *)a[i].at, (size_t)a[i].count
+#define PS(i) ((size_t *)a[i].at)
 #define PF(i) ((double *)a[i].at)
 #define PU(i) ((uint32_t *)a[i].at)
 #define X(i) (*(double *)a[i].at)
@@ -96,6 +99,11 @@ static void time_build(argument *a)
 }
 #endif
 
+#ifdef HAS_maps
+static void cell_wkb(argument *a) { N(0) = voronoi_cell_wkb(F(1), U(2), U(3), N(4), C(5), PS(6)); }
+static void cell_wkb_bits(argument *a) { N(0) = voronoi_cell_wkb_bits(Q(1), U(2), U(3), N(4), C(5), PS(6)); }
+#endif
+
 static const struct {
     const char *name;
     void (*call)(argument *);
@@ -118,6 +126,9 @@ static const struct {
 #endif
 #ifdef HAS_builds
     {"build", build}, {"build_unclipped", build_unclipped}, {"cell", cell}, {"time_build", time_build},
+#endif
+#ifdef HAS_maps
+    {"cell_wkb", cell_wkb}, {"cell_wkb_bits", cell_wkb_bits},
 #endif
 };
 

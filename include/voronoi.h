@@ -21,6 +21,7 @@
  *   shared_edge              a fixed number
  *   cells_share_edge         the offsets, and the product of the lengths of the two cells; no mesh, so no check
  *   cell                     the offsets; no mesh, so no check
+ *   cell_wkb                 the offsets and the cell's entries; no mesh, so no check
  *   build                    usually N + T (0.3 to 0.9 microseconds a site). At worst the square of N: an added point is searched for among
  *                            all those added before (65,536 sites on a circle: 20 s), and a cell that stays empty is tried again from each
  *                            of its half-edges (one site with 65,535 neighbours: 5 minutes). docs/SPEED.md has the times.
@@ -37,9 +38,9 @@ extern "C" {
 
 /* ---- the version (the file VERSION; CHANGELOG.md says what changed) */
 
-#define VORONOI_VERSION "0.1.0"
+#define VORONOI_VERSION "0.2.0"
 #define VORONOI_VERSION_MAJOR 0
-#define VORONOI_VERSION_MINOR 1
+#define VORONOI_VERSION_MINOR 2
 #define VORONOI_VERSION_PATCH 0
 
 /* ---- numbers */
@@ -61,13 +62,16 @@ extern "C" {
 #define VORONOI_OFFSET_ROOM(N) ((size_t)(N) + 1)
 #define VORONOI_WORK_ROOM(N) ((size_t)(N))
 
+/* What the polygon of a cell of n entries takes in bytes. */
+#define VORONOI_WKB_ROOM(n) ((n) < 3 ? 9 : 29 + 16 * (size_t)(n))
+
 /* The places of a build's counts: the number of vertices, the owners of the four corners, the lost corners; how many they are. */
 #define VORONOI_COUNT_VERTICES 0
 #define VORONOI_COUNT_OWNERS 1
 #define VORONOI_COUNT_LOST 5
 #define VORONOI_COUNTS 6
 
-/* ---- refusals, in the order in which they are tried (16 after 10, 17 first); docs/RULES.md says of each what to do about it */
+/* ---- refusals, in the order in which they are tried (16 after 10, 17 first, 18 before 2); docs/RULES.md says of each what to do about it */
 
 #define VORONOI_ACCEPTED 0
 #define VORONOI_REFUSED_COUNT 1         /* a count breaks its limit, an odd site list, triangles not in threes, half-edges not as many */
@@ -86,7 +90,8 @@ extern "C" {
 #define VORONOI_REFUSED_ONE_CROSSING 14 /* an edge with both ends outside finds exactly one crossing */
 #define VORONOI_REFUSED_NO_SIDE 15      /* a clipped vertex lies on no side */
 #define VORONOI_REFUSED_OFFSETS 16      /* cell offsets not one more than sites, not from 0, falling, or past the list's end */
-#define VORONOI_REFUSED_FORM 17         /* the form is broken (the program `cells` alone) */
+#define VORONOI_REFUSED_FORM 17         /* the form is broken (the programs `cells` and `export` alone) */
+#define VORONOI_REFUSED_ENTRY 18        /* an entry of the cell names no vertex */
 
 /* A sentence for each number, with no full stop; "no such number" for any other. It is never NULL. */
 static inline const char *voronoi_words(uint32_t number)
@@ -110,6 +115,7 @@ static inline const char *voronoi_words(uint32_t number)
     case VORONOI_REFUSED_NO_SIDE: return "a point cut off at the box was found on none of its sides";
     case VORONOI_REFUSED_OFFSETS: return "the cells' offsets do not cut the list of indexes";
     case VORONOI_REFUSED_FORM: return "the form is broken: a record cut, out of order, or one too many";
+    case VORONOI_REFUSED_ENTRY: return "a cell names a vertex that is not there";
     default: return "no such number";
     }
 }
@@ -257,6 +263,19 @@ uint32_t voronoi_build_unclipped(const double *sites, size_t sites_len, const ui
  * offsets of a build without their cleared tail. 4, then 16 on all of them. Refused, *start and *length are 0. */
 uint32_t voronoi_cell(const uint32_t *offsets, size_t offsets_len, const uint32_t *indexes, size_t indexes_len, uint32_t site,
                       uint32_t *start, uint32_t *length);
+
+/* ---- cells for map tools
+ * The cell of a site as a Polygon in Well-Known Binary (OGC 06-103r4, 8.2), little-endian: a ring of the cell's vertices in their order, the
+ * first repeated at the end; a cell of fewer than three entries is a Polygon of no rings, nine bytes. No vertex is left out, and the ring
+ * runs as the cell does: counter-clockwise with y downward. `vertices`: x and y of each, as a build leaves them; lend the offsets of a
+ * build without their cleared tail. Coordinates are the vertices' 64 bits: those of floats too, but that a NaN is written as
+ * 0x7FF8000000000000 (a build that answers 0 has none). *written: how many bytes, VORONOI_WKB_ROOM of the cell's length; 0 when refused.
+ * Tries 1 on an odd list of vertices, 4, 16, 18 on the entries of this cell alone, 2. Refused, `out` is as it was; past the image it
+ * always is. A cell of 2^32 - 1 entries has no polygon: 2. */
+uint32_t voronoi_cell_wkb(const double *vertices, size_t vertices_len, const uint32_t *offsets, size_t offsets_len,
+                          const uint32_t *indexes, size_t indexes_len, uint32_t site, uint8_t *out, size_t out_len, size_t *written);
+uint32_t voronoi_cell_wkb_bits(const uint64_t *vertices, size_t vertices_len, const uint32_t *offsets, size_t offsets_len,
+                               const uint32_t *indexes, size_t indexes_len, uint32_t site, uint8_t *out, size_t out_len, size_t *written);
 
 #ifdef __cplusplus
 }

@@ -82,7 +82,7 @@ must 2 "there is no word bake" ./yelmuzard bake
 must 2 "" ./yelmuzard
 must 2 "" ./yelmuzard cells
 must 0 "" ./yelmuzard --version
-for word in "" cells archive link run test; do
+for word in "" cells export archive link run test; do
     # shellcheck disable=SC2086
     must 0 "" ./yelmuzard $word --help
     grep -q . "$folder/out"

@@ -1,5 +1,5 @@
 #!/bin/sh
-# ./yelmuzard cells on what is built: a listing, refusals, output that fails, a mesh wound the wrong way; the words and the status of each.
+# ./yelmuzard cells and export on what is built: a listing, refusals, output that fails, a mesh wound the wrong way; the words and the status of each.
 set -eu
 case ${1-} in
 --help | -h)
@@ -57,4 +57,11 @@ done
 status=0
 TMPDIR=$folder/none ./yelmuzard cells examples/square.form >/dev/null 2>"$folder/err" || status=$?
 [ "$status" = 2 ] || { echo "no folder: status $status" && exit 1; }
+./yelmuzard export examples/square.txt | cmp - crates/export/stdout
+status=0
+./yelmuzard export harness/meshes/refused_13_lone.txt >"$folder/out" 2>"$folder/err" || status=$?
+[ "$status $(cat "$folder/out")" = "1 refused 13" ] || { echo "export: status $status" && exit 1; }
+status=0
+./yelmuzard export examples/square.form >/dev/full 2>"$folder/err" || status=$?
+[ "$status" = 2 ] || { echo "export to a full disk: status $status" && exit 1; }
 echo "script: listings, refusals and failed output have their words and status"

@@ -3,6 +3,7 @@
 use crate::cases::Case;
 use crate::expect::{self, Accepted, Beside, Facts, Slices};
 use crate::library::{Call, Difference, Library};
+use crate::maps;
 use crate::mesh::{Area, Mesh, Pt, EMPTY};
 use crate::reference;
 use crate::rust;
@@ -56,14 +57,14 @@ fn on_mesh(name: &'static str, number: u32, m: &Mesh) -> Call {
 /// One case put to all sides. The library's answers may be compared later, when enough calls are gathered.
 pub fn run(index: u64, c: &Case, library: &mut Library, tally: &mut Tally) -> Result<(), Difference> {
     let mut calls = Vec::new();
-    ask(c, &mut calls, tally).map_err(|words| Difference { case: index, words })?;
+    ask(index, c, &mut calls, tally).map_err(|words| Difference { case: index, words })?;
     for call in calls {
         library.put(index, call)?;
     }
     Ok(())
 }
 
-fn ask(c: &Case, calls: &mut Vec<Call>, tally: &mut Tally) -> Told {
+fn ask(index: u64, c: &Case, calls: &mut Vec<Call>, tally: &mut Tally) -> Told {
     let m = &c.mesh;
     let facts = Facts::of(m);
     tally.cases += 1;
@@ -86,6 +87,8 @@ fn ask(c: &Case, calls: &mut Vec<Call>, tally: &mut Tally) -> Told {
         (Ok(b), _) | (_, Ok(b)) => b.plain(),
         _ => (0..m.count() as u32).map(|s| vec![s / 2, s / 2 + 1, s / 3]).collect(),
     };
+    let vertices = clipped.as_ref().or(whole.as_ref()).ok().map(|b| &b.vertices[..]);
+    maps::ask(index, c, &cells, vertices, calls, tally);
     let diagram = lent.as_ref().map(|l| rust::diagram(l, &cells));
     walks(c, &facts, &cells, diagram.as_ref(), calls, tally)?;
     cell_questions(c, &cells, diagram.as_ref(), calls, tally)

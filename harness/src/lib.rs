@@ -7,6 +7,7 @@ pub mod expect;
 pub mod form;
 pub mod generate;
 pub mod library;
+pub mod maps;
 pub mod mesh;
 pub mod plane;
 pub mod reference;

@@ -61,6 +61,12 @@ impl Call {
     pub fn lent_floats(self, entry: &[f64], owed: &[f64]) -> Call {
         self.argument(8, entry.iter().map(|x| x.to_bits()), owed.iter().map(|x| x.to_bits()))
     }
+    pub fn patterns(self, list: &[u64]) -> Call {
+        self.argument(8, list.iter().copied(), list.iter().copied())
+    }
+    pub fn lent_bytes(self, entry: &[u8], owed: &[u8]) -> Call {
+        self.argument(1, entry.iter().map(|&x| x as u64), owed.iter().map(|&x| x as u64))
+    }
     /// A lent number: whatever it held, it must hold this.
     pub fn gives(self, owed: u32) -> Call {
         self.lent_indexes(&[0xd8d8d8d8], &[owed])
@@ -85,7 +91,9 @@ fn words(size: u32, bytes: &[u8]) -> String {
     let list: Vec<String> = bytes
         .chunks_exact(size as usize)
         .map(|c| {
-            if size == 4 {
+            if size == 1 {
+                format!("{:02x}", c[0])
+            } else if size == 4 {
                 crate::text::list(&[u32::from_le_bytes(c.try_into().unwrap())])
             } else {
                 let b = u64::from_le_bytes(c.try_into().unwrap());

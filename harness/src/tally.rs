@@ -20,11 +20,13 @@ pub const CALLS: &[Call] = &[
     Call { name: "shared_edge", numbers: MESH },
     Call { name: "cells_share_edge", numbers: &[0, 4, 16] },
     Call { name: "cell", numbers: &[0, 4, 16] },
+    Call { name: "cell_wkb", numbers: &[0, 1, 2, 4, 16, 18] },
+    Call { name: "cell_wkb_bits", numbers: &[0, 1, 2, 4, 16, 18] },
     Call { name: "build", numbers: &[0, 1, 2, 3, 6, 7, 8, 9, 10, 11, 12, 13, 14] },
     Call { name: "build_unclipped", numbers: &[0, 1, 2, 6, 7, 8, 9, 10, 11] },
 ];
 
-const NUMBERS: usize = 18;
+const NUMBERS: usize = 20;
 
 #[derive(Default)]
 pub struct Tally {

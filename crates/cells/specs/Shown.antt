@@ -1,18 +1,8 @@
 -- The steps of `cells`: a build's answer as text, by its number and its lent slices, and the sizes within which everything has room.
-use mathlib.Core.Path.{_≡_}
 use mathlib.Core.List.{List, [], _∷_}
-use mathlib.Core.Bool.{Bool, true, false}
-use Prim.Native.Nat.{ℕ, _*_, _≤_}
-use lib.Dec.{eqb}
-use lib.Ieee.{Float, nan}
-use lib.ListN.{getD, take}
-use Rattle.numbers.specs.Numbers.{refusedForm}
-use Rattle.laws.specs.Pick.{pick}
-use Rattle.utils.specs.Plane.{at}
-use Rattle.form_step.specs.declared.Form.{Form}
-use Rattle.form_step.specs.declared.Form.the-variants.{Sound, Broken}
-use Rattle.listing.specs.Listing.{unclippedListing, listing, refusal, Layout}
-use Rattle.cells.specs.Printed.{InBox, WithoutBox}
+use Prim.Native.Nat.{ℕ, _≤_}
+use lib.ListN.{getD}
+use Rattle.listing.specs.Listing.{unclippedListing, listing, Layout}
 
 -- the lists of a form, and room for its text
 pub record SheetSized (coordinates entries hull space : ℕ) : Type 0 where
@@ -34,22 +24,3 @@ unclippedLines n T offs idx c = unclippedListing n T (getD c 0 0) offs idx
 
 abbrev pub boxLines : ℕ → ℕ → List ℕ → List ℕ → List ℕ → List ℕ
 boxLines n T offs idx c = listing n T (getD c 0 0) offs idx (getD c 1 0 ∷ getD c 2 0 ∷ getD c 3 0 ∷ getD c 4 0 ∷ []) (getD c 5 0)
-
--- the text of an answer with the number r
-abbrev pub shown : List ℕ → ℕ → List ℕ
-shown text r = pick (eqb r 0) (λ _. text) (λ _. refusal r)
-
--- the first r bytes of a slice of this length are the text
-pub record ShownIn (text out : List ℕ) (space r : ℕ) : Type 0 where
-  pub first : take r out ≡ text
-  pub within : r ≤ space
-
--- the text of a mesh, in the box of these four numbers where it is not unclipped
-abbrev pub ByMode : Bool → List Float → List Float → List ℕ → List ℕ → List ℕ → List ℕ → Type 0
-ByMode true bs ss ts es hs text = WithoutBox ss ts es hs text
-ByMode false bs ss ts es hs text = InBox ss ts es hs (at (getD bs 0 nan) (getD bs 1 nan)) (getD bs 2 nan) (getD bs 3 nan) text
-
--- the text of a form that was read into these lists
-abbrev pub ByForm : Form → List Float → List Float → List ℕ → List ℕ → List ℕ → List ℕ → Type 0
-ByForm (Broken k) bs ss ts es hs text = text ≡ refusal refusedForm
-ByForm (Sound s t h u) bs ss ts es hs text = ByMode u bs (take (2 * s) ss) (take (3 * t) ts) (take (3 * t) es) (take h hs) text

@@ -5,6 +5,8 @@ use mathlib.Core.List.{List}
 use Prim.Native.Nat.{ℕ}
 use native.Mathlib.Omega.{arith}
 use lib.Ieee.{Float, ofBits, neg, lt, le, add, sub, div}
+use Rattle.printing.specs.Printed.{Shows, built, Prints, sound}
+use Rattle.cells.specs.Printed.{listingTexts}
 use Rattle.utils.specs.Plane.{at}
 use Rattle.utils.specs.Rules.{okCoord, okSite}
 use Rattle.bounding_box.specs.Box.{madeOf}
@@ -22,8 +24,8 @@ use Rattle.voronoi.specs.Builds.{Build}
 use Rattle.form.specs.Form.{MeshFits, numbersOf, float, siteFloats, triangleSites, trianglePairs}
 use Rattle.form.specs.Square.{square, squareBytes, two-is}
 use Rattle.listing.specs.Text.{ascii}
-use Rattle.cells.specs.Printed.{Shows, built, boxText, Prints, sound}
-use Rattle.cells.specs.One.{prints-one}
+use Rattle.cells.specs.Printed.{boxText}
+use Rattle.printing.specs.One.{prints-one}
 use Rattle.cells.specs.Square.{texted, rows}
 
 abbrev pub text : List ℕ
@@ -69,11 +71,11 @@ shown : {Rules : ℕ → Type 0} → Rules 0 → (o : Outcome Fault Built) (t : 
 shown {Rules} z (ok b) t e = let q : boxText 4 2 b ≡ t = cc in subst (Shows Rules (boxText 4 2) (ok b)) q (built z)
 shown z (refused f) t e = let q : _≡_ {A = ℕ} 0 1 = cc in absurd (omega arith)
 
-pub square-prints : Prints squareBytes text
+pub square-prints : Prints listingTexts squareBytes text
 square-prints = sound square fits (sym (rows .1)) (shown (admits (record { accepted = accepted; roomed = refl; fit = box-fits })) _ text (rows .2))
 
-pub square-alone : {t : List ℕ} → Prints squareBytes t → t ≡ text
-square-alone p = prints-one p square-prints
+pub square-alone : {t : List ℕ} → Prints listingTexts squareBytes t → t ≡ text
+square-alone p = prints-one listingTexts p square-prints
 
 -- ---- what a build answers
 value : (o : Outcome Fault Built) (t : List ℕ) → texted 4 2 o ≡ ok t → Value o

@@ -8,10 +8,11 @@ ghost use mathlib.Core.Path.{_≡_};
 ghost use Prim.Native.Nat.{_<_, _≤_};
 ghost use lib.Ieee.{nan};
 ghost use lib.ListN.{length, getD, take};
+ghost use Rattle.printing.specs.Printed.{InBox, WithoutBox, Prints, ShownIn, shown, ByMode, ByForm};
+ghost use Rattle.cells.specs.Printed.{listingTexts};
 ghost use Rattle.utils.specs.Plane.{at};
 ghost use Rattle.form_step.specs.Holds.{ListRoom, Few};
-ghost use Rattle.cells.specs.Printed.{InBox, WithoutBox, Prints};
-ghost use Rattle.cells.specs.Shown.{SheetSized, Laid, ShownIn, shown, boxLines, unclippedLines, ByMode, ByForm};
+ghost use Rattle.cells.specs.Shown.{SheetSized, Laid, boxLines, unclippedLines};
 
 fn narrow(n: usize) -> u32
     requires { ⌜ n < 4294967296 ⌝ }
@@ -77,7 +78,7 @@ fn in_box(
     hull: &[u32],
 ) -> usize
     requires { ⌜ SheetSized (length (now sites)) (length (now triangles)) (length (now hull)) (length (now out)) ⌝ }
-    ensures { λ r. ⌜ InBox (now (sites .entry)) (now (triangles .entry)) (now (halfedges .entry)) (now (hull .entry))
+    ensures { λ r. ⌜ InBox listingTexts (now (sites .entry)) (now (triangles .entry)) (now (halfedges .entry)) (now (hull .entry))
         (at (getD bounds 0 nan) (getD bounds 1 nan)) (getD bounds 2 nan) (getD bounds 3 nan) (take r (now (out .exit))) × (r ≤ length (now (out .entry))) ⌝ }
 {
     let mut work = [0u32; 96];
@@ -113,7 +114,8 @@ fn without_box(
     hull: &[u32],
 ) -> usize
     requires { ⌜ SheetSized (length (now sites)) (length (now triangles)) (length (now hull)) (length (now out)) ⌝ }
-    ensures { λ r. ⌜ WithoutBox (now (sites .entry)) (now (triangles .entry)) (now (halfedges .entry)) (now (hull .entry)) (take r (now (out .exit))) × (r ≤ length (now (out .entry))) ⌝ }
+    ensures { λ r. ⌜ WithoutBox listingTexts (now (sites .entry)) (now (triangles .entry)) (now (halfedges .entry)) (now (hull .entry))
+        (take r (now (out .exit))) × (r ≤ length (now (out .entry))) ⌝ }
 {
     let mut work = [0u32; 96];
     let mut vertices = [0.0f64; 3656];
@@ -146,7 +148,7 @@ fn of_mesh(
     hull: &[u32],
 ) -> usize
     requires { ⌜ SheetSized (length (now sites)) (length (now triangles)) (length (now hull)) (length (now out)) ⌝ }
-    ensures { λ r. ⌜ ByMode unclipped bounds (now (sites .entry)) (now (triangles .entry)) (now (halfedges .entry)) (now (hull .entry))
+    ensures { λ r. ⌜ ByMode listingTexts unclipped bounds (now (sites .entry)) (now (triangles .entry)) (now (halfedges .entry)) (now (hull .entry))
         (take r (now (out .exit))) × (r ≤ length (now (out .entry))) ⌝ }
 {
     if unclipped {
@@ -166,7 +168,7 @@ fn of_form(
     hull: &[u32],
 ) -> usize
     requires { ⌜ ListRoom bounds (now sites) (now triangles) (now halfedges) (now hull) × Few form × (65536 ≤ length (now out)) ⌝ }
-    ensures { λ r. ⌜ ByForm form bounds (now (sites .entry)) (now (triangles .entry)) (now (halfedges .entry)) (now (hull .entry))
+    ensures { λ r. ⌜ ByForm listingTexts form bounds (now (sites .entry)) (now (triangles .entry)) (now (halfedges .entry)) (now (hull .entry))
         (take r (now (out .exit))) × (r ≤ length (now (out .entry))) ⌝ }
 {
     let Form::Sound {
@@ -194,7 +196,7 @@ fn of_form(
 // What is printed for a form's bytes.
 fn answer(bytes: &[u8], out: &mut [u8]) -> usize
     requires { ⌜ 65536 ≤ length (now out) ⌝ }
-    ensures { λ r. ⌜ Prints (now (bytes .entry)) (take r (now (out .exit))) × (r ≤ length (now (out .entry))) ⌝ }
+    ensures { λ r. ⌜ Prints listingTexts (now (bytes .entry)) (take r (now (out .exit))) × (r ≤ length (now (out .entry))) ⌝ }
 {
     let mut bounds = [0.0f64; 4];
     let mut sites = [0.0f64; 192];

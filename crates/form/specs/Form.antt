@@ -5,7 +5,7 @@ use mathlib.Core.Path.{_≡_}
 use Prim.Native.Nat.{ℕ, _^_, _≤_, _<_}
 use lib.Ieee.{Float, binary64, ofBits}
 use lib.ListN.{length}
-use Rattle.form_step.specs.Bytes.{le}
+use Rattle.octets.specs.Bytes.{le, each, All}
 
 -- floats are given by their patterns
 pub data Outline : Type 0 where
@@ -33,10 +33,6 @@ pub record FormMesh : Type 0 where
 
 -- ---- its bytes
 
-abbrev pub each : {A : Type 0} → (A → List ℕ) → List A → List ℕ
-each f [] = []
-each f (a ∷ l) = f a ++ each f l
-
 abbrev pub outlineBytes : Outline → List ℕ
 outlineBytes (box x y width height) = 1 ∷ le 8 x ++ le 8 y ++ le 8 width ++ le 8 height
 outlineBytes unclipped = 6 ∷ []
@@ -54,10 +50,6 @@ unfoldable pub formOf : FormMesh → List ℕ
 formOf m = outlineBytes (m .clip) ++ each siteBytes (m .sites) ++ each triangleBytes (m .triangles) ++ each hullBytes (m .hull) ++ 5 ∷ []
 
 -- ---- the meshes that have a form
-
-abbrev pub All : {A : Type 0} → (A → Type 0) → List A → Type 0
-All P [] = Unit {0}
-All P (a ∷ l) = P a × All P l
 
 abbrev pub OutlineFits : Outline → Type 0
 OutlineFits (box x y width height) = (x < 2 ^ 64) × (y < 2 ^ 64) × (width < 2 ^ 64) × (height < 2 ^ 64)

@@ -6,7 +6,7 @@ use Prim.Native.Nat.{ℕ}
 use lib.Ieee.{Float}
 use lib.ListN.{length}
 use lib.Seq.{sets}
-use Rattle.form_step.specs.Bytes.{Bytes}
+use Rattle.octets.specs.Bytes.{Bytes}
 use Rattle.form.specs.Form.{FormMesh, MeshFits, IsForm, formOf, isUnclipped, numbersOf, outlineFloats, siteFloats, triangleSites, trianglePairs}
 use Rattle.form_step.specs.Reader.{start, steps, verdict, Reading, reading, takes}
 use Rattle.form_step.specs.Holds.{Reads}

@@ -1,7 +1,7 @@
 -- Laws that only proofs use.
 pub mod Fill
 pub mod Feed
-pub mod Word
+pub mod Register
 pub mod Run
 pub mod Mesh
 pub mod Cut

@@ -1,5 +1,5 @@
 -- The root of the crate's definitions.
-pub mod Bytes
+pub mod Register
 pub mod Reader
 pub mod Holds
 pub mod laws

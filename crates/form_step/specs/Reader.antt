@@ -6,7 +6,7 @@ use lib.Dec.{eqb, ltb}
 use lib.Ieee.{Float, binary64, ofBits}
 use lib.ListN.{set}
 use Rattle.laws.specs.Pick.{pick}
-use Rattle.form_step.specs.Bytes.{shift}
+use Rattle.form_step.specs.Register.{shift}
 use Rattle.form_step.specs.declared.Reader.{Reader}
 use Rattle.form_step.specs.declared.Form.{Form}
 use Rattle.form_step.specs.declared.Form.the-variants.{Sound, Broken}

@@ -2,7 +2,7 @@
 ghost use mathlib.Core.Path.{_≡_};
 ghost use Prim.Native.Nat.{_+_, _*_, _^_, _<_};
 ghost use mathlib.Core.Bool.{false};
-ghost use Rattle.form_step.specs.Bytes.{shift};
+ghost use Rattle.form_step.specs.Register.{shift};
 ghost use Rattle.form_step.specs.Reader.{sizeOf, opens, roomLeft, follows, start, refused, begun, tally, inside, outside, verdict};
 ghost use Rattle.form_step.specs.Holds.{Ok};
 

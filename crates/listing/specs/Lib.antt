@@ -1,6 +1,5 @@
 -- The root of the crate's definitions.
 pub mod Text
 pub mod Listing
-pub mod Wrote
 pub mod Square
 pub mod laws

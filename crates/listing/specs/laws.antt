@@ -1,4 +1,3 @@
 -- Laws that only proofs use.
 pub mod Decimal
 pub mod Listing
-pub mod Wrote

@@ -1,23 +1,12 @@
 // Writes the program's listing into a lent slice of bytes: each function writes its text from a place on and answers the place after it.
 use numbers::wide;
+use octets::put;
 ghost use mathlib.Core.List.{[], _∷_, _++_};
 ghost use Rattle.listing.specs.Text.{decimal};
 ghost use Rattle.listing.specs.Listing.{entries, counts, cellLine, cellLines, unclippedListing, corners, listing, refusal, Layout};
-ghost use Rattle.listing.specs.Wrote.{Wrote, HasRoom};
+ghost use Rattle.octets.specs.Wrote.{Wrote, HasRoom};
 
-fn put(out: &mut [u8], at: usize, text: &[u8]) -> usize
-    requires { ⌜ HasRoom (now out) at (now text) ⌝ }
-    ensures { λ r. ⌜ Wrote (now (out .entry)) (now (out .exit)) at r (now (text .entry)) ⌝ }
-{
-    let mut i = 0;
-    while i < text.len() {
-        out[at + i] = text[i];
-        i += 1;
-    }
-    at + i
-}
-
-fn decimal(out: &mut [u8], at: usize, n: u32) -> usize
+pub fn decimal(out: &mut [u8], at: usize, n: u32) -> usize
     requires { ⌜ HasRoom (now out) at (decimal n) ⌝ }
     ensures { λ r. ⌜ Wrote (now (out .entry)) (now (out .exit)) at r (decimal n) ⌝ }
 {

@@ -56,6 +56,9 @@ refusedOffsets = 16
 abbrev pub refusedForm : ℕ
 refusedForm = 17
 
+abbrev pub refusedEntry : ℕ
+refusedEntry = 18
+
 -- the tolerance, 2^-50
 abbrev pub tolerance : Float
 tolerance = ofBits binary64 0x3cd0_0000_0000_0000

@@ -28,7 +28,7 @@ use Rattle.definition.specs.Unclipped.{unclipped}
 use Rattle.admission.specs.Asks.{CellsOf}
 use Rattle.admission.specs.Slices.{Slices}
 use Rattle.voronoi.specs.Roots.{MagnitudeBits, Magnitude, SignumBits, Signum}
-use Rattle.voronoi.specs.One.{one-root-bits, one-root, one-magnitude-bits, one-magnitude, one-signum-bits, one-signum}
+use Rattle.voronoi.specs.One.{one-cell-wkb-bits, one-cell-wkb, one-root-bits, one-root, one-magnitude-bits, one-magnitude, one-signum-bits, one-signum}
 use Rattle.voronoi.specs.Plane.{Near, Dist2, Circumcenter, Centroid, Edges, Corners, Inside, ExclusivelyInside, WhichEdge, Meets}
 use Rattle.voronoi.specs.One.{one-near, one-dist2, one-center, one-box, one-corners, one-inside, one-exclusively, one-side, one-meeting}
 use Rattle.voronoi.specs.Meshes.{Check}
@@ -37,6 +37,7 @@ use Rattle.voronoi.specs.Walks.{Walk, Neighbours, ClippedNeighbours, Pat
 use Rattle.voronoi.specs.One.{one-walk, one-neighbours, one-clipped, one-path, one-shared-edge, one-cells-share-edge}
 use Rattle.voronoi.specs.Builds.{Build, BuildUnclipped, Cell, CellPart}
 use Rattle.voronoi.specs.One.{one-build, one-build-unclipped, one-cell, one-cell-part}
+use Rattle.voronoi.specs.Maps.{CellWkbBits, CellWkb}
 use Rattle.voronoi.specs.Outcomes.{One, One₂, One₃, OneList, OneMeeting, OneBox, SliceRefused, ListRefused, BuildRefused}
 use Rattle.voronoi.specs.Leaves.{QueryAllowed, BuildAllowed, BuildLeaves}
 use Rattle.voronoi.specs.Bounds.{BoundedEdges, BoundedMeeting, Bounds, bounds}
@@ -110,6 +111,9 @@ pub record Demand1 (sites : List Float) (tri he hull : List ℕ) : Type 0 where
   pub cell : (offs idx : List ℕ) (s : ℕ) → One₃ (λ r start long. Cell offs idx s start long r)
   -- cell: the number, the part
   pub cell-part : (offs idx : List ℕ) (s : ℕ) → One₂ (λ r part. CellPart offs idx s part r)
+  -- voronoi_cell_wkb_bits, voronoi_cell_wkb: the number, the bytes written, the output
+  pub cell-wkb-bits : (v off ix : List ℕ) (s : ℕ) (out : List ℕ) → One₃ (λ r k new. CellWkbBits v off ix s out new k r)
+  pub cell-wkb : (v : List Float) (off ix : List ℕ) (s : ℕ) (out : List ℕ) → One₃ (λ r k new. CellWkb v off ix s out new k r)
   -- refused by voronoi_check: the work slice
   pub check-refused : {w w′ : List ℕ} {r : ℕ} → Check sites tri he hull w w′ r → r ≢ 0 → SliceRefused EMPTY w w′ r
   -- by a call that hands out a list: the work slice, the output slice, the count, ended
@@ -237,6 +241,8 @@ demand1 sites tri he hull = record {
   build-unclipped = λ old _ _ _ _. one-build-unclipped sites tri he hull;
   cell = λ offs idx s _ _ _ _ _ _. one-cell offs idx s;
   cell-part = λ offs idx s _ _ _ _. one-cell-part offs idx s;
+  cell-wkb-bits = λ v off ix s out _ _ _ _ _ _. one-cell-wkb-bits off ix s out v;
+  cell-wkb = λ v off ix s out _ _ _ _ _ _. one-cell-wkb off ix s out v;
   check-refused = λ a. work-refused tri he (siteCount sites) (a .work);
   walk-refused = λ s. list-refused;
   neighbours-refused = λ s. list-refused;

@@ -5,6 +5,7 @@ pub mod Walks
 pub mod Builds
 pub mod One
 pub mod Accepted
+pub mod Maps
 pub mod Examples
 pub mod laws
 pub mod Outcomes

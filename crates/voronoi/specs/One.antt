@@ -24,6 +24,9 @@ use Rattle.cell_query.specs.laws.Cells.{cell-number}
 use Rattle.queries.specs.Answers.{outAfter, countAfter, endedAfter}
 use Rattle.building.specs.laws.Promise.{answers-one}
 use Rattle.plane_calls.specs.Plane.{bit, Answered}
+use Rattle.wkb.specs.Polygon.{patterns}
+use Rattle.wkb.specs.One.{one-wkb}
+use Rattle.voronoi.specs.Maps.{CellWkbBits, CellWkb}
 use Rattle.voronoi.specs.Roots.{MagnitudeBits, Magnitude, SignumBits, Signum}
 use Rattle.voronoi.specs.Plane.{Near, Dist2, Edges, Corners, Inside, ExclusivelyInside, WhichEdge, Meets}
 use Rattle.voronoi.specs.Meshes.{Check}
@@ -166,3 +169,11 @@ module _ (off ix : List ℕ) (s : ℕ) {q r : ℕ} where
   one-cell x y =
       let e = cell-number off ix s (x .number) (y .number) in
       (e, x .from ∙ ap (startAfter off s) e ∙ sym (y .from), x .many ∙ ap (lengthAfter off s) e ∙ sym (y .many))
+
+-- ---- cells as polygons
+module _ (off ix : List ℕ) (s : ℕ) (old : List ℕ) {new other : List ℕ} {w u q r : ℕ} where
+  pub one-cell-wkb-bits : (v : List ℕ) → CellWkbBits v off ix s old new w q → CellWkbBits v off ix s old other u r → (q ≡ r) × (w ≡ u) × (new ≡ other)
+  one-cell-wkb-bits v = one-wkb v off ix s old
+
+  pub one-cell-wkb : (v : List Float) → CellWkb v off ix s old new w q → CellWkb v off ix s old other u r → (q ≡ r) × (w ≡ u) × (new ≡ other)
+  one-cell-wkb v = one-wkb (patterns v) off ix s old

@@ -1,6 +1,7 @@
 -- `cells::answer` prints what is promised: the form was read, and its answer tells what its bytes are.
 use native.Mathlib.Omega.{arith}
-use Rattle.cells.specs.laws.ReadForm.{bytes, printed}
+use Rattle.printing.specs.laws.ReadForm.{bytes, printed}
+use Rattle.cells.specs.Printed.{listingTexts}
 use borrow.Author.Needs.{needs}
 use Rattle.cells.proofs.answer.Statement.{statement}
 use Rattle.cells.proofs.answer.Tie as tie
@@ -11,7 +12,7 @@ returns c =
     let at-shared-slice-known = at-read .before .before .before .before .before .before .before in
     let s = c .before .before .before .before .before .before .before .before .before .before .before .before .before .before .before .before .before .before .before .before .before in
     let h = c .before .before .of-form .ensures in (
-      printed (at-read .read .ensures) (bytes (s .args .bytes .now) (λ i. omega (arith, at-shared-slice-known .shared-slice-known .given i)))
+      printed listingTexts (at-read .read .ensures) (bytes (s .args .bytes .now) (λ i. omega (arith, at-shared-slice-known .shared-slice-known .given i)))
           (record { bounds = omega arith; sites = omega arith; triangles = omega arith; halfedges = omega arith; hull = omega arith }) (h .0),
       h .1,
     )

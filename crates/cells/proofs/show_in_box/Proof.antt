@@ -1,7 +1,8 @@
 -- `cells::show_in_box` puts its text at the beginning of the output: there is room for a refusal, and for the listing of cells that are laid out.
 use native.Mathlib.Omega.{arith}
 use Rattle.listing.specs.laws.Listing.{refusal-short}
-use Rattle.cells.specs.laws.TextRoom.{refusal-held, listing-held, box-fits}
+use Rattle.cells.specs.laws.TextRoom.{box-fits}
+use Rattle.printing.specs.laws.TextRoom.{refusal-held, text-held}
 use borrow.Author.Needs.{needs}
 use Rattle.cells.proofs.show_in_box.Statement.{statement}
 use Rattle.cells.proofs.show_in_box.Tie as tie
@@ -26,7 +27,7 @@ returns-2 : tie.Need-returns-2
 returns-2 c =
     let at-if1 = c .before .before .before .before .before .before .before .before .before .before in
     let s = c .before .before .before .before .before .before .before .before .before .before .before .before .before .before .before in
-    let z = at-if1 .if1 .left in listing-held _ (s .args .number) z (box-fits (s .args .triangles) (s .args .counts .now) (s .pre .0 z)) (c .before .before .listing .ensures)
+    let z = at-if1 .if1 .left in text-held _ (s .args .number) z (box-fits (s .args .triangles) (s .args .counts .now) (s .pre .0 z)) (c .before .before .listing .ensures)
 
 pub show-in-box-spec : {M : Type 1} → statement M
 show-in-box-spec =

@@ -1,13 +1,14 @@
 -- A build's answer and its lent slices give the text that is promised: a refusal's line by its number, or the listing of what was built.
 use mathlib.Core.Path.{_≡_, refl, ap, _∙_}
-use mathlib.Core.Bool.{Bool, true}
+use mathlib.Core.Bool.{true}
 use mathlib.Core.List.{List, [], _∷_, _++_, map}
-use mathlib.Core.Logic.{⊎-elim, _≢_}
 use Prim.Native.Nat.{ℕ, _+_, _-_, _*_, _/_, _≤_}
 use native.Mathlib.Omega.{arith}
 use lib.Ieee.{Float}
 use lib.ListN.{length, getD, replicate, length-map}
-use borrow.Author.Tests.{ne-eqb, le-leb, lt-ltb}
+use borrow.Author.Tests.{le-leb, lt-ltb}
+use Rattle.printing.specs.Printed.{Shows, InBox, WithoutBox, shown}
+use Rattle.cells.specs.Printed.{listingTexts}
 use Rattle.numbers.specs.Numbers.{EMPTY}
 use Rattle.utils.specs.declared.Point.{Point}
 use Rattle.bounding_box.specs.Box.{madeOf}
@@ -15,49 +16,22 @@ use Rattle.mesh.specs.Accepted.{siteCount}
 use Rattle.admission.specs.Admits.{Admits}
 use Rattle.layout.specs.Regions.{joined, offsetsFrom}
 use Rattle.definition.specs.declared.Fault.{Fault}
-use Rattle.definition.specs.Fault.{Outcome, ok, refused}
+use Rattle.definition.specs.Fault.{Outcome, ok}
 use Rattle.definition.specs.laws.Gives.{Gives, gives-ok}
 use Rattle.definition.specs.Build.{Built, build}
-use Rattle.layout.specs.Outputs.{indexNumbers, offsetNumbers, countNumbers, faultOf}
+use Rattle.layout.specs.Outputs.{indexNumbers, offsetNumbers, countNumbers}
 use Rattle.definition.specs.Cell.{unmarked}
 use Rattle.building.specs.Promise.{Builds, BuildAnswer, BuildAnswers, ClippedBuild, UnclippedBuild}
-use Rattle.building.specs.laws.Promise.{builds-cases}
 use Rattle.check_mesh.specs.AtExit.{atExit}
 use Rattle.admission.specs.Slices.{Slices, roomFor, roomOf}
 use Rattle.building.specs.LateRefusals.{Refuses, Numbered, build-late, unclipped-late}
 use Rattle.building.specs.Success.{zero-succeeds}
 use Rattle.listing.specs.Listing.{unclippedListing, listing, cellLines}
-use Rattle.cells.specs.Printed.{Shows, linesOf, unclippedText, boxText, InBox, WithoutBox}
-use Rattle.cells.specs.Printed as printed
-use Rattle.cells.specs.Shown.{SheetSized, Laid, shown, boxLines, unclippedLines}
+use Rattle.cells.specs.Printed.{linesOf, unclippedText, boxText}
+use Rattle.cells.specs.Shown.{SheetSized, Laid, boxLines, unclippedLines}
 use Rattle.cells.specs.laws.CellsInIndexes.{lines-are, laid}
-use Rattle.cells.specs.laws.WholeBuild.{Whole, whole-in-box, whole-without-box}
-
--- slices as long as those of `cells`
-pub record Lengths (s : Slices) : Type 0 where
-  pub work : length (s .work) ≡ 96
-  pub vertices : length (s .vertices) ≡ 3656
-  pub indexes : length (s .indexes) ≡ 3076
-  pub offsets : length (s .offsets) ≡ 97
-  pub counts : length (s .counts) ≡ 6
-
--- the text by the number, where the listing is that of what was built
-module _ (Rules : ℕ → Type 0) (text : Built → List ℕ) where
-  shows-built : {o : Outcome Fault Built} (t : List ℕ) → Rules 0 → Refuses Numbered o
-      → ((b : Built) → o ≡ ok b → faultOf o .number ≡ 0 → t ≡ text b) → Shows Rules text o (shown t (faultOf o .number))
-  shows-built {o = ok b} t p late f = rw (f b refl refl) (printed.built p)
-  shows-built {o = refused e} t p late f =
-      let q : e .number ≢ 0 = λ z. omega (arith, late .least) in
-      rw (ne-eqb (e .number) 0 q) (printed.late p)
-
-shows : {sites : List Float} {tri he hull : List ℕ} {roomy : Bool} {asked : ℕ} {o : Outcome Fault Built} {r : ℕ} (text : Built → List ℕ) (t : List ℕ)
-    → Builds sites tri he hull roomy asked o r → Refuses Numbered o → ((b : Built) → o ≡ ok b → r ≡ 0 → t ≡ text b)
-    → Shows (Admits sites tri he hull roomy asked) text o (shown t r)
-shows text t x late f =
-    ⊎-elim
-    (λ y. rw (ne-eqb _ 0 (y .1)) (printed.early (y .0) (y .1)))
-    (λ y. rw (y .1) (shows-built _ text t (y .0) late (λ b e z. f b e (y .1 ∙ z))))
-    (builds-cases x)
+use Rattle.printing.specs.laws.WholeBuild.{Whole, whole-in-box, whole-without-box}
+use Rattle.printing.specs.laws.BuildText.{ProgramSlices, shows}
 
 -- the counts: a number, the four owners, another number
 owners-at : (v l : ℕ) (os tail : List ℕ) → length os ≡ 4 → _≡_ {A = List ℕ}
@@ -79,7 +53,7 @@ last-at v l (a ∷ b ∷ c ∷ d ∷ e ∷ os) tail h = absurd (omega arith)
 
 -- ---- the slices after the number 0
 module _ {Rules : ℕ → Type 0} {table : List ℕ} {o : Outcome Fault Built} {old new : Slices} {r n : ℕ} (a : BuildAnswer Rules table o old new r)
-    (long : Lengths old) (b : Built) (w : Whole n b) (e : o ≡ ok b) (z : r ≡ 0) where
+    (long : ProgramSlices old) (b : Built) (w : Whole n b) (e : o ≡ ok b) (z : r ≡ 0) where
   abbrev cells : List (List ℕ)
   cells = map unmarked (b .cells)
 
@@ -126,7 +100,7 @@ module _ {Rules : ℕ → Type 0} {table : List ℕ} {o : Outcome Fault Built} {
       rw (counts-are, owners-at (length (b .verts)) (b .lost) (b .owners) tail (w .owners), last-at (length (b .verts)) (b .lost) (b .owners) tail (w .owners), lines)
 
 -- ---- both builds on lists within the form's limits, with slices of these lengths
-module _ (sites : List Float) (tri he hull : List ℕ) (space : ℕ) (m : SheetSized (length sites) (length tri) (length hull) space) (old new : Slices) (long : Lengths old) (r : ℕ) where
+module _ (sites : List Float) (tri he hull : List ℕ) (space : ℕ) (m : SheetSized (length sites) (length tri) (length hull) space) (old new : Slices) (long : ProgramSlices old) (r : ℕ) where
   roomy : roomOf sites tri hull old ≡ true
   unfolding roomFor
   roomy =
@@ -158,13 +132,13 @@ module _ (sites : List Float) (tri he hull : List ℕ) (space : ℕ) (m : SheetS
     pub laid-in-box : length (new .indexes) ≡ 3076 → r ≡ 0 → Laid (siteCount sites) (new .offsets) (new .indexes) space
     laid-in-box = layout whole-in (build-late sites tri he hull (madeOf c w h)) a
 
-    pub text-in-box : InBox sites tri he hull c w h (shown (boxLines (siteCount sites) (length tri / 3) (new .offsets) (new .indexes) (new .counts)) r)
+    pub text-in-box : InBox listingTexts sites tri he hull c w h (shown (boxLines (siteCount sites) (length tri / 3) (new .offsets) (new .indexes) (new .counts)) r)
     text-in-box = text-of whole-in (build-late sites tri he hull (madeOf c w h)) a (boxText (siteCount sites) (length tri / 3)) _ (λ b q e z. box-lines a long b q e z (length tri / 3))
 
   module _ (a : UnclippedBuild sites tri he hull old new r) where
     pub laid-without-box : length (new .indexes) ≡ 3076 → r ≡ 0 → Laid (siteCount sites) (new .offsets) (new .indexes) space
     laid-without-box = layout (whole-without-box sites tri he) (unclipped-late sites tri he) a
 
-    pub text-without-box : WithoutBox sites tri he hull (shown (unclippedLines (siteCount sites) (length tri / 3) (new .offsets) (new .indexes) (new .counts)) r)
+    pub text-without-box : WithoutBox listingTexts sites tri he hull (shown (unclippedLines (siteCount sites) (length tri / 3) (new .offsets) (new .indexes) (new .counts)) r)
     text-without-box = text-of (whole-without-box sites tri he) (unclipped-late sites tri he) a (unclippedText (siteCount sites) (length tri / 3)) _
         (λ b q e z. unclipped-lines a long b q e z (length tri / 3))

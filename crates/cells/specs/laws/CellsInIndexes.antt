@@ -1,29 +1,16 @@
 -- Cells that stand one after the other in an index list, with their offsets: a listing that goes by the offsets writes the line of each of them.
-use mathlib.Core.Path.{_≡_, refl, ap, _∙_, subst}
-use mathlib.Core.List.{List, [], _∷_, _++_, append-assoc}
-use Prim.Native.Nat.{ℕ, zero, suc, _+_, _-_, _≤_, _<_}
+use mathlib.Core.Path.{_≡_, refl, ap, subst}
+use mathlib.Core.List.{List, [], _∷_, _++_}
+use Prim.Native.Nat.{ℕ, suc, _+_, _≤_, _<_}
 use native.Mathlib.Omega.{arith}
 use native.Mathlib.Nat.{add-zero}
 use lib.ListN.{length, getD, take, drop, length-append}
-use lib.Seq.{take-suc, take-all, drop-append-seam, take-append-seam}
 use Rattle.layout.specs.Regions.{joined, offsetsFrom}
-use Rattle.layout.specs.laws.Compacted.{joined-snoc, offsets-length}
+use Rattle.layout.specs.laws.Compacted.{offsets-length}
 use Rattle.listing.specs.Listing.{cellLine, cellLines, listedCell}
 use Rattle.cells.specs.Printed.{linesOf}
 use Rattle.cells.specs.Shown.{Laid}
-
--- the cells before cell k, cell k, and those after it
-joined-split : (cs : List (List ℕ)) (k : ℕ) → k < length cs → joined cs ≡ joined (take k cs) ++ getD cs k [] ++ joined (drop (suc k) cs)
-unfolding joined
-joined-split [] k h = absurd (omega arith)
-joined-split (c ∷ cs) zero h = refl
-joined-split (c ∷ cs) (suc k) h = ap (λ (l : List ℕ). c ++ l) (joined-split cs k (omega arith)) ∙ simp append-assoc
-
--- a part from x to y
-part : (a b c : List ℕ) (x y : ℕ) → x ≡ length a → y ≡ length a + length b → take (y - x) (drop x (a ++ (b ++ c))) ≡ b
-part a b c x y p q =
-    let n : y - x ≡ length b = omega arith in
-    rw (n, p, drop-append-seam a (b ++ c)) (take-append-seam b c)
+use Rattle.printing.specs.laws.CellsInIndexes.{joined-split, offset-at, next-at, cell-at, total}
 
 -- the offsets and the index list may go on after the cells
 module _ (cs : List (List ℕ)) (more rest : List ℕ) where
@@ -33,28 +20,6 @@ module _ (cs : List (List ℕ)) (more rest : List ℕ) where
   abbrev idx : List ℕ
   idx = joined cs ++ rest
 
-  from : (ds : List (List ℕ)) (n k : ℕ) → k ≤ length ds → getD (offsetsFrom n ds ++ more) k 0 ≡ n + length (joined (take k ds))
-  unfolding offsetsFrom joined
-  from [] n zero h = omega arith
-  from [] n (suc k) h = absurd (omega arith)
-  from (d ∷ ds) n zero h = omega arith
-  from (d ∷ ds) n (suc k) h = from ds (n + length d) k (omega arith) ∙ omega (arith, length-append d (joined (take k ds)))
-
-  -- offset k is where the first k cells end
-  offset-at : (k : ℕ) → k ≤ length cs → getD offs k 0 ≡ length (joined (take k cs))
-  offset-at k h = from cs 0 k h ∙ omega arith
-
-  next-at : (k : ℕ) → k < length cs → getD offs (suc k) 0 ≡ length (joined (take k cs)) + length (getD cs k [])
-  next-at k h = offset-at (suc k) h ∙ ap length (ap joined (take-suc cs k [] h) ∙ joined-snoc (take k cs) (getD cs k [])) ∙ length-append (joined (take k cs)) (getD cs k [])
-
-  cell-at : (k : ℕ) → k < length cs → listedCell offs idx k ≡ getD cs k []
-  cell-at k h =
-      let a = joined (take k cs) in
-      let b = getD cs k [] in
-      let c = joined (drop (suc k) cs) in
-      let q : idx ≡ a ++ (b ++ (c ++ rest)) = ap (λ (l : List ℕ). l ++ rest) (joined-split cs k h) ∙ append-assoc (a ++ b) c rest ∙ append-assoc a b (c ++ rest) in
-      rw q (part a b (c ++ rest) (getD offs k 0) (getD offs (suc k) 0) (offset-at k (omega arith)) (next-at k h))
-
   lines-by : (ds : List (List ℕ)) (i : ℕ) → ((k : ℕ) → k < length ds → listedCell offs idx (i + k) ≡ getD ds k []) → cellLines offs idx i (length ds) ≡ linesOf i ds
   unfolding cellLines linesOf
   lines-by [] i h = refl
@@ -63,10 +28,7 @@ module _ (cs : List (List ℕ)) (more rest : List ℕ) where
       rw q (ap (λ (l : List ℕ). cellLine i d ++ l) (lines-by ds (suc i) (λ k l. let e : suc i + k ≡ i + suc k = omega arith in rw e (h (suc k) (omega arith)))))
 
   pub lines-are : cellLines offs idx 0 (length cs) ≡ linesOf 0 cs
-  lines-are = lines-by cs 0 (λ k h. let e : 0 + k ≡ k = omega arith in rw e (cell-at k h))
-
-  total : getD offs (length cs) 0 ≡ length (joined cs)
-  total = offset-at (length cs) (omega arith) ∙ ap (λ (l : List (List ℕ)). length (joined l)) (take-all (length cs) cs (omega arith))
+  lines-are = lines-by cs 0 (λ k h. let e : 0 + k ≡ k = omega arith in rw e (cell-at cs more rest k h))
 
   -- within the form's limits there is room for their listing
   pub laid : (space : ℕ) → length cs ≤ 96 → length idx ≤ 3076 → 65536 ≤ space → Laid (length cs) offs idx space
@@ -77,16 +39,16 @@ module _ (cs : List (List ℕ)) (more rest : List ℕ) where
         layout = record {
           long = omega (arith, length-append (offsetsFrom 0 cs) more, offsets-length 0 cs);
           few = omega arith;
-          rise = λ i h. omega (arith, offset-at i (omega arith), next-at i h);
+          rise = λ i h. omega (arith, offset-at cs more rest i (omega arith), next-at cs more rest i h);
           within = λ i h. omega (
             arith,
-            next-at i h,
+            next-at cs more rest i h,
             ap length (joined-split cs i h),
             length-append (joined (take i cs) ++ getD cs i [])
                 (joined (drop (suc i) cs)),
             length-append (joined (take i cs)) (getD cs i []),
           );
         };
-        short = omega (arith, total);
+        short = omega (arith, total cs more rest);
         room = room;
       }

@@ -5,7 +5,7 @@ use native.Mathlib.Omega.{arith}
 use denote.Ref.{now}
 use lib.Dec.{ltb}
 use Rattle.laws.specs.Pick.{pick}
-use Rattle.form_step.specs.Bytes.{shift}
+use Rattle.form_step.specs.Register.{shift}
 use Rattle.form_step.specs.Reader.{reading, putFloat, putLink}
 use Rattle.form.specs.laws.Fill.{fill-box, fill-site, fill-triangle, fill-hull, fill-none}
 use borrow.Author.Needs.{needs}

@@ -8,11 +8,11 @@ use native.Mathlib.Omega.{arith}
 use lib.ListN.{length, take, drop, take-append-drop, length-drop}
 use lib.Seq.{length-take-le}
 use Rattle.laws.specs.laws.Decide.{lt-or-ge}
-use Rattle.form_step.specs.Bytes.{Bytes, word, le}
+use Rattle.octets.specs.Bytes.{Bytes, word, le}
 use Rattle.form.specs.Form.{box, OutlineFits, SiteFits, TriangleFits, HullFits, outlineBytes, siteBytes, triangleBytes, hullBytes}
 use Rattle.form_step.specs.Reader.{inside, step, steps}
 use Rattle.form_step.specs.laws.Steps.{step-broken, step-inside}
-use Rattle.form.specs.laws.Word.{le-word, word-small}
+use Rattle.octets.specs.laws.Bytes.{le-word, word-small}
 use Rattle.form_step.specs.declared.Reader.{Reader}
 
 pub record Ended (r : Reader) : Type 0 where

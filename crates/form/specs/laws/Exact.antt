@@ -9,8 +9,8 @@ use lib.Dec.{eqb}
 use lib.ListN.{length}
 use borrow.Author.Tests.{eqb-true}
 use Rattle.laws.specs.Pick.{pick}
-use Rattle.form_step.specs.Bytes.{Bytes}
-use Rattle.form.specs.Form.{Outline, unclipped, IsForm, OutlineFits, each, outlineBytes, siteBytes, triangleBytes, hullBytes, formOf}
+use Rattle.octets.specs.Bytes.{Bytes, each}
+use Rattle.form.specs.Form.{Outline, unclipped, IsForm, OutlineFits, outlineBytes, siteBytes, triangleBytes, hullBytes, formOf}
 use Rattle.form_step.specs.Reader.{sizeOf, opens, follows, start, refused, begun, outside, step, steps, verdict, Reading, reading, takes}
 use Rattle.form_step.specs.laws.Steps.{follows-cases, step-outside}
 use Rattle.form.specs.laws.Run.{Opens, ready-up, takes-reader, opening}

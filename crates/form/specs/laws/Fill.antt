@@ -7,7 +7,7 @@ use lib.Dec.{eqb, ltb}
 use lib.Ieee.{Float}
 use borrow.Author.Tests.{ne-eqb}
 use Rattle.laws.specs.Pick.{pick}
-use Rattle.form_step.specs.Bytes.{shift}
+use Rattle.form_step.specs.Register.{shift}
 use Rattle.form_step.specs.Reader.{inside, outside, within, putFloat, putLink, boundsBy, sitesBy, trianglesBy, halfedgesBy, hullBy, Reading, reading, filledBy, take}
 use Rattle.form_step.specs.laws.Steps.{step-broken, step-outside, step-inside, within-is, within-broken, within-outside}
 use Rattle.form_step.specs.declared.Reader.{Reader}

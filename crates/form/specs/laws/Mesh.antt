@@ -10,7 +10,8 @@ use lib.ListN.{length}
 use lib.Seq.{sets}
 use borrow.Author.Tests.{lt-ltb}
 use Rattle.laws.specs.laws.Stores.{sets-join}
-use Rattle.form.specs.Form.{FormMesh, Site, Triangle, MeshFits, All, SiteFits, TriangleFits, HullFits, each, outlineBytes, siteBytes, triangleBytes}
+use Rattle.octets.specs.Bytes.{each, All}
+use Rattle.form.specs.Form.{FormMesh, Site, Triangle, MeshFits, SiteFits, TriangleFits, HullFits, outlineBytes, siteBytes, triangleBytes}
 use Rattle.form.specs.Form.{hullBytes, formOf, numbersOf, outlineFloats, siteFloats, triangleSites, trianglePairs, isUnclipped}
 use Rattle.form_step.specs.Reader.{roomLeft, start, begun, Reading, reading, takes, verdict}
 use Rattle.form.specs.laws.Run.{AtRecord, Goes, Opening, ready-up, takes-append, kind-follows, kind-run, site-run, triangle-run, hull-run, opening}

@@ -12,7 +12,7 @@ use lib.Seq.{take-take, take-length}
 use borrow.Author.Tests.{eqb-false, lt-ltb}
 use Rattle.laws.specs.laws.Decide.{eq-or-ne}
 use Rattle.laws.specs.Pick.{pick}
-use Rattle.form_step.specs.Bytes.{Bytes}
+use Rattle.octets.specs.Bytes.{Bytes}
 use Rattle.form.specs.Form.{IsForm}
 use Rattle.form_step.specs.Reader.{sizeOf, opens, roomLeft, follows, start, refused, begun, inside, outside, step, steps, verdict}
 use Rattle.form_step.specs.laws.Steps.{RecordKind, site, triangle, hull, end, follows-cases, step-outside}

@@ -8,13 +8,15 @@ use lib.Ieee.{Float, binary64, ofBits}
 use lib.ListN.{set}
 use lib.Seq.{sets}
 use borrow.Author.Tests.{ne-eqb, le-ltb, lt-ltb}
-use Rattle.form_step.specs.Bytes.{le, shifts}
+use Rattle.octets.specs.Bytes.{le}
+use Rattle.form_step.specs.Register.{shifts}
 use Rattle.form.specs.Form.{Outline, box, unclipped, Site, Triangle, outlineBytes, siteBytes, triangleBytes, hullBytes, OutlineFits, SiteFits}
 use Rattle.form.specs.Form.{TriangleFits, HullFits, outlineFloats, siteFloats, triangleSites, trianglePairs, isUnclipped}
 use Rattle.form_step.specs.Reader.{sizeOf, opens, roomLeft, follows, start, begun, tally, inside, outside, step, steps, within, putFloat, putLink}
 use Rattle.form_step.specs.Reader.{boundsBy, sitesBy, trianglesBy, halfedgesBy, hullBy, Reading, reading, take, takes}
 use Rattle.form.specs.laws.Fill.{take-outside}
-use Rattle.form.specs.laws.Word.{bytes-le, shifts-small, last-eight, last-four}
+use Rattle.octets.specs.laws.Bytes.{bytes-le}
+use Rattle.form.specs.laws.Register.{shifts-small, last-eight, last-four}
 use Rattle.form_step.specs.declared.Reader.{Reader}
 
 pub takes-append : (s t : List ℕ) (d : Reading) → takes d (s ++ t) ≡ takes (takes d s) t

@@ -6,8 +6,8 @@ use mathlib.Core.Logic.{⊎-elim}
 use Prim.Native.Nat.{ℕ, zero, suc, _+_, _≤_, _<_}
 use native.Mathlib.Omega.{arith}
 use lib.ListN.{length}
-use Rattle.form_step.specs.Bytes.{Bytes}
-use Rattle.form.specs.Form.{Site, Triangle, All, SiteFits, TriangleFits, HullFits, each, siteBytes, triangleBytes, hullBytes}
+use Rattle.octets.specs.Bytes.{Bytes, each, All}
+use Rattle.form.specs.Form.{Site, Triangle, SiteFits, TriangleFits, HullFits, siteBytes, triangleBytes, hullBytes}
 use Rattle.form_step.specs.Reader.{sizeOf, follows, refused, begun, outside, step, steps, Reading, reading}
 use Rattle.form_step.specs.laws.Steps.{RecordKind, site, triangle, hull, end, follows-cases, step-outside}
 use Rattle.form.specs.laws.Run.{AtRecord, Ran, Goes, ready-up, takes-reader, site-run, triangle-run, hull-run}

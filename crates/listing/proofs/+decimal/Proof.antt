@@ -8,8 +8,8 @@ use lib.ListN.{length, length-set}
 use denote.Ref.{now}
 use Rattle.listing.specs.Text.{decimal as digitsOf}
 use Rattle.listing.specs.laws.Decimal.{decimal-one, decimal-more}
-use Rattle.listing.specs.Wrote.{HasRoom}
-use Rattle.listing.specs.laws.Wrote.{wrote-one, wrote-then, wrote-as, fits-left, fits-then}
+use Rattle.octets.specs.Wrote.{HasRoom}
+use Rattle.octets.specs.laws.Wrote.{wrote-one, wrote-then, wrote-as, fits-left, fits-then}
 use Prim.Native.Nat.{ℕ, _<_}
 use borrow.Fn.Kinds.{In}
 use borrow.Fn.PlainCycle.{Measures, is, falls, and}

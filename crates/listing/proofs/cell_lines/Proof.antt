@@ -8,9 +8,9 @@ use lib.ListN.{length, getD, take, drop}
 use denote.Ref.{now}
 use Rattle.listing.specs.Listing.{cellLine, listedCell, cellLines}
 use Rattle.listing.specs.laws.Listing.{lines-none, lines-more, lines-split}
-use Rattle.listing.specs.Wrote.{HasRoom, Wrote}
-use Rattle.listing.specs.laws.Wrote.{lined-fits}
-use Rattle.listing.specs.laws.Wrote.{Lined, lined-start, lined-step, lined-end, wrote-length}
+use Rattle.octets.specs.Wrote.{HasRoom, Wrote}
+use Rattle.octets.specs.laws.Wrote.{lined-fits}
+use Rattle.octets.specs.laws.Wrote.{Lined, lined-start, lined-step, lined-end, wrote-length}
 use Rattle.listing.proofs.cell_lines.Statement.{statement}
 use Rattle.listing.proofs.cell_lines.Tie as tie
 

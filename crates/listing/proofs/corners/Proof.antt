@@ -2,7 +2,7 @@
 use denote.Ref.{now}
 use Rattle.listing.specs.Text.{ascii}
 use Rattle.listing.specs.Listing.{entries as entriesOf, labelled as labelledOf, corners as cornersOf}
-use Rattle.listing.specs.laws.Wrote.{fits-first, fits-second, fits-third, fits-fourth, wrote-four}
+use Rattle.octets.specs.laws.Wrote.{fits-first, fits-second, fits-third, fits-fourth, wrote-four}
 use borrow.Author.Needs.{needs}
 use Rattle.listing.proofs.corners.Statement.{statement}
 use Rattle.listing.proofs.corners.Tie as tie

@@ -8,9 +8,9 @@ use lib.Seq.{take-length}
 use denote.Ref.{now}
 use Rattle.listing.specs.Listing.{entries}
 use Rattle.listing.specs.laws.Listing.{entries-none, entries-more, entries-whole}
-use Rattle.listing.specs.Wrote.{HasRoom}
-use Rattle.listing.specs.laws.Wrote.{lined-fits}
-use Rattle.listing.specs.laws.Wrote.{Lined, lined-start, lined-step, lined-end, wrote-length, wrote-as}
+use Rattle.octets.specs.Wrote.{HasRoom}
+use Rattle.octets.specs.laws.Wrote.{lined-fits}
+use Rattle.octets.specs.laws.Wrote.{Lined, lined-start, lined-step, lined-end, wrote-length, wrote-as}
 use Rattle.listing.proofs.entries.Statement.{statement}
 use Rattle.listing.proofs.entries.Tie as tie
 

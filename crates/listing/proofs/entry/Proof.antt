@@ -6,8 +6,8 @@ use lib.ListN.{length, length-set}
 use denote.Ref.{now}
 use Rattle.listing.specs.Text.{decimal}
 use Rattle.listing.specs.laws.Listing.{entries-one}
-use Rattle.listing.specs.Wrote.{HasRoom}
-use Rattle.listing.specs.laws.Wrote.{wrote-one, wrote-then, wrote-as, fits-then}
+use Rattle.octets.specs.Wrote.{HasRoom}
+use Rattle.octets.specs.laws.Wrote.{wrote-one, wrote-then, wrote-as, fits-then}
 use borrow.Author.Needs.{needs}
 use Rattle.listing.proofs.entry.Statement.{statement}
 use Rattle.listing.proofs.entry.Tie as tie

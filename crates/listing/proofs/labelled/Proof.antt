@@ -2,7 +2,7 @@
 use mathlib.Core.List.{[], _∷_}
 use denote.Ref.{now}
 use Rattle.listing.specs.Listing.{entries}
-use Rattle.listing.specs.laws.Wrote.{wrote-then, fits-left, fits-then}
+use Rattle.octets.specs.laws.Wrote.{wrote-then, fits-left, fits-then}
 use borrow.Author.Needs.{needs}
 use Rattle.listing.proofs.labelled.Statement.{statement}
 use Rattle.listing.proofs.labelled.Tie as tie

@@ -1,7 +1,7 @@
 -- `listing::listing` meets its contract: the lines of a mesh without a box, then that of the corners.
 use denote.Ref.{now}
 use Rattle.listing.specs.Listing.{unclippedListing, corners as cornersOf, listing as listingOf}
-use Rattle.listing.specs.laws.Wrote.{fits-left, fits-then, wrote-then}
+use Rattle.octets.specs.laws.Wrote.{fits-left, fits-then, wrote-then}
 use borrow.Author.Needs.{needs}
 use Rattle.listing.proofs.listing.Statement.{statement}
 use Rattle.listing.proofs.listing.Tie as tie

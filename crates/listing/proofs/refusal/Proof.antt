@@ -2,7 +2,7 @@
 use denote.Ref.{now}
 use Rattle.listing.specs.Text.{ascii}
 use Rattle.listing.specs.Listing.{labelled as labelledOf, refusal as refusalOf}
-use Rattle.listing.specs.laws.Wrote.{fits-left, fits-then, wrote-then}
+use Rattle.octets.specs.laws.Wrote.{fits-left, fits-then, wrote-then}
 use borrow.Author.Needs.{needs}
 use Rattle.listing.proofs.refusal.Statement.{statement}
 use Rattle.listing.proofs.refusal.Tie as tie

@@ -3,8 +3,8 @@ use mathlib.Core.Path.{sym, subst}
 use Prim.Native.Nat.{ℕ}
 use denote.Ref.{now}
 use Rattle.listing.specs.Listing.{counts as countsOf, cellLines, unclippedListing, Layout}
-use Rattle.listing.specs.Wrote.{HasRoom, Wrote}
-use Rattle.listing.specs.laws.Wrote.{fits-left, fits-then, wrote-then}
+use Rattle.octets.specs.Wrote.{HasRoom, Wrote}
+use Rattle.octets.specs.laws.Wrote.{fits-left, fits-then, wrote-then}
 use borrow.Author.Needs.{needs}
 use Rattle.listing.proofs.unclipped_listing.Statement.{statement}
 use Rattle.listing.proofs.unclipped_listing.Tie as tie

@@ -81,7 +81,7 @@ line-short i c =
     omega (arith, length-append (b ++ entries c) (ascii "\n"), length-append b (entries c), length-append a (ascii ":"), labelled-short "cell" i, entries-short c)
 
 module _ (os cs : List ℕ) (n : ℕ) (lay : Layout os cs n) where
-  cell-length : (i : ℕ) → i < n → length (listedCell os cs i) ≡ getD os (suc i) 0 - getD os i 0
+  pub cell-length : (i : ℕ) → i < n → length (listedCell os cs i) ≡ getD os (suc i) 0 - getD os i 0
   cell-length i h =
       length-take-le (getD os (suc i) 0 - getD os i 0) (drop (getD os i 0) cs) (omega (arith, length-drop (getD os i 0) cs, lay .rise i h, lay .within i h))
 

@@ -1,0 +1,39 @@
+-- `export::in_box`: the build has room, so its answer is by the other rules alone, and its slices hold what the lines go by.
+use mathlib.Core.Path.{refl}
+use Rattle.export.specs.laws.BuildText.{laid-in-box, text-in-box}
+use borrow.Author.Needs.{needs}
+use Rattle.export.proofs.in_box.Statement.{statement}
+use Rattle.export.proofs.in_box.Tie as tie
+
+show-requires : tie.Need-show-requires
+show-requires c κs =
+    let at-narrow = c .before .before .before .before in
+    let at-build = at-narrow .before .before .before .before .before .before in
+    let start = at-build .before .before .before .before .before .before .before .before .before .before .before in
+    let b = at-build .build in (
+      λ z. rw (at-narrow .narrow .ensures, b .kept .1 .1 .1 .1 .1 .1 .1 .1 .0)
+          (laid-in-box _ _ _ _ _ (start .pre) _ _ (record { work = refl; vertices = refl; indexes = refl; offsets = refl; counts = refl }) _ _ _ _ (b .ensures)
+          (b .kept .1 .1 .1 .1 .1 .1 .1 .1 .1 .0) z),
+      start .pre .room,
+    )
+
+returns : tie.Need-returns
+returns c =
+    let at-show = c .before .before in
+    let at-narrow = at-show .before .before .before .before .before in
+    let at-build = at-narrow .before .before .before .before .before .before in
+    let start = at-build .before .before .before .before .before .before .before .before .before .before .before in
+    let b = at-build .build in
+    let h = at-show .show .ensures in (
+      rw (h .first, at-narrow .narrow .ensures)
+          (text-in-box _ _ _ _ _ (start .pre) _ _ (record { work = refl; vertices = refl; indexes = refl; offsets = refl; counts = refl }) _ _ _ _ (b .ensures)),
+      h .within,
+    )
+
+pub in-box-spec : {M : Type 1} → statement M
+in-box-spec =
+    tie.close
+    (tie.spec (λ c. search needs) (λ c. search needs) (λ c. search needs) (λ c. search needs)
+    (λ c. search needs) (λ c. search needs) (λ c. search needs) (λ c. search needs) (λ c. search needs)
+    (λ c κs. search needs) (λ c κs. search needs) (λ c. search needs) (λ c. search needs) (λ c. search needs)
+    show-requires (λ c. search needs) returns)

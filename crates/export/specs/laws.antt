@@ -1,0 +1,6 @@
+-- Laws that only proofs use.
+pub mod BuildText
+pub mod CellsInIndexes
+pub mod Drawing
+pub mod TextRoom
+pub mod UnclippedEntries

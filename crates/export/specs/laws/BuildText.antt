@@ -1,0 +1,171 @@
+-- A build's answer and its lent slices give the text that is promised: a refusal's line by its number, or the lines of what was built.
+use mathlib.Core.Path.{_≡_, refl, sym, ap, subst, _∙_}
+use mathlib.Core.Bool.{true}
+use mathlib.Core.List.{List, [], _++_, map}
+use Prim.Native.Nat.{ℕ, _+_, _-_, _*_, _/_, _≤_, _<_}
+use native.Mathlib.Omega.{arith}
+use lib.Ieee.{Float}
+use lib.ListN.{length, getD, replicate, length-map, List·getD-map}
+use borrow.Author.Tests.{le-leb, lt-ltb}
+use Rattle.printing.specs.Printed.{Shows, InBox, WithoutBox, shown}
+use Rattle.export.specs.Printed.{mapTexts}
+use Rattle.laws.specs.Binary64.{zero}
+use Rattle.numbers.specs.Numbers.{EMPTY}
+use Rattle.utils.specs.Flat.{flat}
+use Rattle.vertices.specs.laws.Points.{length-flat}
+use Rattle.wkb.specs.Polygon.{patterns}
+use Rattle.wkb.specs.Promise.{NamesVertices, image}
+use Rattle.map_text.specs.MapText.{heading, mapText}
+use Rattle.utils.specs.declared.Point.{Point}
+use Rattle.bounding_box.specs.Box.{madeOf}
+use Rattle.mesh.specs.Accepted.{siteCount}
+use Rattle.admission.specs.Admits.{Admits}
+use Rattle.layout.specs.Regions.{joined, offsetsFrom}
+use Rattle.definition.specs.declared.Fault.{Fault}
+use Rattle.definition.specs.Fault.{Outcome, ok}
+use Rattle.definition.specs.laws.Gives.{Gives, gives-ok, gives-then}
+use Rattle.definition.specs.Build.{Built, build}
+use Rattle.definition.specs.Unclipped.{ringsFrom, unclipped}
+use Rattle.definition.specs.laws.Start.{centers-from}
+use Rattle.export.specs.laws.UnclippedEntries.{cells-named}
+use Rattle.layout.specs.Outputs.{vertexNumbers, indexNumbers, offsetNumbers}
+use Rattle.definition.specs.Cell.{unmarked}
+use Rattle.building.specs.Promise.{Builds, BuildAnswer, BuildAnswers, ClippedBuild, UnclippedBuild}
+use Rattle.check_mesh.specs.AtExit.{atExit}
+use Rattle.admission.specs.Slices.{Slices, roomFor, roomOf}
+use Rattle.building.specs.LateRefusals.{Refuses, Numbered, build-late, unclipped-late}
+use Rattle.building.specs.Success.{zero-succeeds, clipped-sound}
+use Rattle.export.specs.Printed.{exported}
+use Rattle.export.specs.Shown.{MapSized, CanDraw, lines}
+use Rattle.export.specs.laws.CellsInIndexes.{lines-are, can-draw}
+use Rattle.export.specs.laws.Drawing.{same-image, padded-same, placed-named, Drawable}
+use Rattle.printing.specs.laws.WholeBuild.{Whole, whole-in-box, whole-without-box}
+use Rattle.printing.specs.laws.BuildText.{ProgramSlices, shows}
+
+-- one outcome has one value
+ok-one : {o : Outcome Fault Built} {b c : Built} → o ≡ ok b → o ≡ ok c → b ≡ c
+ok-one p q = cc
+
+-- ---- the slices after the number 0
+module _ {Rules : ℕ → Type 0} {table : List ℕ} {o : Outcome Fault Built} {old new : Slices} {r n : ℕ} (a : BuildAnswer Rules table o old new r)
+    (long : ProgramSlices old) (b : Built) (w : Whole n b) (d : Drawable b) (e : o ≡ ok b) (z : r ≡ 0) where
+  abbrev cells : List (List ℕ)
+  cells = map unmarked (b .cells)
+
+  abbrev more : List ℕ
+  more = replicate (length (old .offsets) - length (offsetsFrom 0 cells)) EMPTY
+
+  abbrev rest : List ℕ
+  rest = replicate (length (old .indexes) - length (joined cells)) EMPTY
+
+  offsets-are : new .offsets ≡ offsetsFrom 0 cells ++ more
+  unfolding atExit offsetNumbers
+  offsets-are = rw (z, e) at (a .offsets)
+
+  indexes-are : new .indexes ≡ joined cells ++ rest
+  unfolding atExit indexNumbers
+  indexes-are = rw (z, e) at (a .indexes)
+
+  vertices-are : new .vertices ≡ flat (b .verts) ++ replicate (length (old .vertices) - length (flat (b .verts))) zero
+  unfolding atExit vertexNumbers
+  vertices-are = rw (z, e) at (a .vertices)
+
+  cells-are : length cells ≡ n
+  cells-are = length-map (b .cells) unmarked ∙ w .cells
+
+  cell-is : (k : ℕ) → k < length cells → getD cells k [] ≡ unmarked (getD (b .cells) k [])
+  cell-is k h = List·getD-map unmarked (b .cells) k []
+
+  named-at : (k : ℕ) → k < length cells → NamesVertices (getD cells k []) (length (b .verts))
+  named-at k h = rw (cell-is k h) (d .named k (omega (arith, length-map (b .cells) unmarked)))
+
+  pub laid-out : n ≤ 96 → length (new .indexes) ≡ 3076 → CanDraw n 3656 (new .offsets) (new .indexes)
+  laid-out few short =
+      let q : length (joined cells ++ rest) ≤ 3076 = omega (arith, ap length indexes-are) in
+      rw (offsets-are, indexes-are, ← cells-are)
+      (can-draw cells more rest 3656 (omega (arith, cells-are)) q (λ k h. record { each = λ j l. omega (arith, named-at k h .each j l, d .room) }))
+
+  same : (k : ℕ) → k < length cells → image (patterns (new .vertices)) (getD cells k []) ≡ image (patterns (flat (b .verts))) (getD cells k [])
+  same k h =
+      same-image _ _ (getD cells k []) (length (b .verts)) (named-at k h)
+      (λ j l. rw vertices-are (padded-same (flat (b .verts)) _ j (omega (arith, length-flat (b .verts)))))
+
+  pub lines-text : lines n (new .vertices) (new .offsets) (new .indexes) ≡ exported b
+  unfolding mapText
+  lines-text = ap (λ (l : List ℕ). heading ++ l) (rw (offsets-are, indexes-are, ← cells-are) (lines-are cells more rest _ _ same))
+
+-- a build that is not clipped: the circumcenters, and the rings
+abbrev Centres : List Float → List ℕ → List ℕ → Built → Type 0
+Centres sites tri he b = (length (b .verts) ≡ length tri / 3) × (b .cells ≡ ringsFrom tri he 0 (length tri) (replicate (siteCount sites) []))
+
+centres : (sites : List Float) (tri he : List ℕ) → Gives (Centres sites tri he) (unclipped sites tri he)
+unfolding unclipped
+centres sites tri he =
+    gives-then (λ (ws : List Point). length ws ≡ length {A = Point} [] + length tri / 3) (Centres sites tri he) _ _ (centers-from sites tri 0 (length tri / 3) [])
+    (λ ws q. (omega (arith, q), refl))
+
+-- ---- both builds on lists within the form's limits, with slices of these lengths
+module _ (sites : List Float) (tri he hull : List ℕ) (space : ℕ) (m : MapSized (length sites) (length tri) (length hull) space) (old new : Slices) (long : ProgramSlices old) (r : ℕ) where
+  roomy : roomOf sites tri hull old ≡ true
+  unfolding roomFor
+  roomy =
+      rw (long .work, long .vertices, long .indexes, long .offsets, long .counts)
+      (rw (
+        le-leb (siteCount sites) 96 (omega (arith, m .few-sites)),
+        le-leb (7 * (length tri / 3) + 5 * length hull + 4) 1828 (omega (arith, m .few-triangles, m .few-on-hull)),
+        le-leb (12 * (length tri / 3) + 8 * length hull + 4) 3076 (omega (arith, m .few-triangles, m .few-on-hull)),
+        lt-ltb (siteCount sites) 97 (omega (arith, m .few-sites)),
+      ))
+
+  module _ {asked : ℕ} {o : Outcome Fault Built} (whole : Gives (Whole (siteCount sites)) o) (can : (b : Built) → o ≡ ok b → r ≡ 0 → Drawable b)
+      (late : Refuses Numbered o) (a : BuildAnswers sites tri he hull asked o old new r) where
+    rules : Builds sites tri he hull true asked o r
+    rules = rw roomy at (a .number)
+
+    layout : length (new .indexes) ≡ 3076 → r ≡ 0 → CanDraw (siteCount sites) 3656 (new .offsets) (new .indexes)
+    layout short z =
+        let b = zero-succeeds late a z .outcome in
+        laid-out a long (b .value) (gives-ok (Whole (siteCount sites)) whole (b .is)) (can (b .value) (b .is) z) (b .is) z (omega (arith, m .few-sites)) short
+
+    text-of : Shows (Admits sites tri he hull true asked) exported o (shown (lines (siteCount sites) (new .vertices) (new .offsets) (new .indexes)) r)
+    text-of = shows exported _ rules late (λ b e z. lines-text a long b (gives-ok (Whole (siteCount sites)) whole e) (can b e z) e z)
+
+  module _ (c : Point) (w h : Float) (a : ClippedBuild sites tri he hull c w h old new r) where
+    abbrev whole-in : Gives (Whole (siteCount sites)) (build sites tri he hull (madeOf c w h))
+    whole-in = whole-in-box sites tri he hull (madeOf c w h)
+
+    -- each entry of a clipped cell is a vertex (`Room` of definition/specs/Theorems)
+    can-in : (b : Built) → build sites tri he hull (madeOf c w h) ≡ ok b → r ≡ 0 → Drawable b
+    can-in b e z =
+        let s = clipped-sound c w h a z in
+        let q : s .outcome .value ≡ b = ok-one (s .outcome .is) e in
+        let f = s .fits in
+        subst Drawable q (record {
+          named = λ k l. placed-named _ (length tri / 3) _ (getD (s .outcome .value .cells) k []) (omega (arith, f .added)) (f .placed k);
+          room = omega (arith, f .vertices, m .few-triangles, m .few-on-hull);
+        })
+
+    pub laid-in-box : length (new .indexes) ≡ 3076 → r ≡ 0 → CanDraw (siteCount sites) 3656 (new .offsets) (new .indexes)
+    laid-in-box = layout whole-in can-in (build-late sites tri he hull (madeOf c w h)) a
+
+    pub text-in-box : InBox mapTexts sites tri he hull c w h (shown (lines (siteCount sites) (new .vertices) (new .offsets) (new .indexes)) r)
+    text-in-box = text-of whole-in can-in (build-late sites tri he hull (madeOf c w h)) a
+
+  module _ (a : UnclippedBuild sites tri he hull old new r) where
+    -- each entry of a cell that is not clipped is a triangle
+    can-without : (b : Built) → unclipped sites tri he ≡ ok b → r ≡ 0 → Drawable b
+    can-without b e z =
+        let s = zero-succeeds (unclipped-late sites tri he) a z in
+        let k = s .admission .accepted .counts in
+        let p = gives-ok (Centres sites tri he) (centres sites tri he) e in
+        let third : length (b .verts) ≡ length he / 3 = p .0 ∙ ap (λ (j : ℕ). j / 3) (sym (k .same)) in
+        record {
+          named = λ i l. rw (p .1, third) (cells-named he (omega (arith, k .threes, k .same)) tri (siteCount sites) i);
+          room = omega (arith, p .0, m .few-triangles);
+        }
+
+    pub laid-without-box : length (new .indexes) ≡ 3076 → r ≡ 0 → CanDraw (siteCount sites) 3656 (new .offsets) (new .indexes)
+    laid-without-box = layout (whole-without-box sites tri he) can-without (unclipped-late sites tri he) a
+
+    pub text-without-box : WithoutBox mapTexts sites tri he hull (shown (lines (siteCount sites) (new .vertices) (new .offsets) (new .indexes)) r)
+    text-without-box = text-of (whole-without-box sites tri he) can-without (unclipped-late sites tri he) a

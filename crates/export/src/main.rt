@@ -1,0 +1,193 @@
+// Reads a mesh's form on standard input and prints a line for each cell, for map tools, or `refused N`.
+use form_step::Form;
+use libc::STDIN_FILENO;
+use libc::STDOUT_FILENO;
+use utils::Point;
+ghost use mathlib.Core.Path.{_≡_};
+ghost use Prim.Native.Nat.{_<_, _≤_};
+ghost use lib.Ieee.{nan};
+ghost use lib.ListN.{length, getD, take};
+ghost use Rattle.printing.specs.Printed.{InBox, WithoutBox, Prints, ShownIn, shown, ByMode, ByForm};
+ghost use Rattle.export.specs.Printed.{mapTexts};
+ghost use Rattle.utils.specs.Plane.{at};
+ghost use Rattle.form_step.specs.Holds.{ListRoom, Few};
+ghost use Rattle.export.specs.Shown.{MapSized, CanDraw, lines};
+
+fn narrow(n: usize) -> u32
+    requires { ⌜ n < 4294967296 ⌝ }
+    ensures { λ r. ⌜ r ≡ n ⌝ }
+{
+    n as u32
+}
+
+// The text of a build that was answered by this number, put at the beginning of `out`; how many bytes it has.
+fn show(
+    out: &mut [u8],
+    number: u32,
+    sites: u32,
+    vertices: &[f64],
+    offsets: &[u32],
+    indexes: &[u32],
+) -> usize
+    requires { ⌜ (number ≡ 0 → CanDraw sites (length (now vertices)) (now offsets) (now indexes)) × (106496 ≤ length (now out)) ⌝ }
+    ensures { λ r. ⌜ ShownIn (shown (lines sites (now (vertices .entry)) (now (offsets .entry)) (now (indexes .entry))) number) (now (out .exit)) (length (now (out .entry))) r ⌝ }
+{
+    if number != 0 {
+        return listing::refusal(out, number);
+    }
+    map_text::map_text(out, sites, vertices, offsets, indexes)
+}
+
+fn in_box(
+    out: &mut [u8],
+    bounds: [f64; 4],
+    sites: &[f64],
+    triangles: &[u32],
+    halfedges: &[u32],
+    hull: &[u32],
+) -> usize
+    requires { ⌜ MapSized (length (now sites)) (length (now triangles)) (length (now hull)) (length (now out)) ⌝ }
+    ensures { λ r. ⌜ InBox mapTexts (now (sites .entry)) (now (triangles .entry)) (now (halfedges .entry)) (now (hull .entry))
+        (at (getD bounds 0 nan) (getD bounds 1 nan)) (getD bounds 2 nan) (getD bounds 3 nan) (take r (now (out .exit))) × (r ≤ length (now (out .entry))) ⌝ }
+{
+    let mut work = [0u32; 96];
+    let mut vertices = [0.0f64; 3656];
+    let mut indexes = [0u32; 3076];
+    let mut offsets = [0u32; 97];
+    let mut counts = [0u32; 6];
+    let c = Point {
+        x: bounds[0],
+        y: bounds[1],
+    };
+    let number = building::build(
+        c,
+        bounds[2],
+        bounds[3],
+        sites,
+        triangles,
+        halfedges,
+        hull,
+        &mut work,
+        &mut vertices,
+        &mut indexes,
+        &mut offsets,
+        &mut counts,
+    );
+    let n = narrow(sites.len() / 2);
+    show(out, number, n, &vertices, &offsets, &indexes)
+}
+
+fn without_box(
+    out: &mut [u8],
+    sites: &[f64],
+    triangles: &[u32],
+    halfedges: &[u32],
+    hull: &[u32],
+) -> usize
+    requires { ⌜ MapSized (length (now sites)) (length (now triangles)) (length (now hull)) (length (now out)) ⌝ }
+    ensures { λ r. ⌜ WithoutBox mapTexts (now (sites .entry)) (now (triangles .entry)) (now (halfedges .entry)) (now (hull .entry))
+        (take r (now (out .exit))) × (r ≤ length (now (out .entry))) ⌝ }
+{
+    let mut work = [0u32; 96];
+    let mut vertices = [0.0f64; 3656];
+    let mut indexes = [0u32; 3076];
+    let mut offsets = [0u32; 97];
+    let mut counts = [0u32; 6];
+    let number = building::build_unclipped(
+        sites,
+        triangles,
+        halfedges,
+        hull,
+        &mut work,
+        &mut vertices,
+        &mut indexes,
+        &mut offsets,
+        &mut counts,
+    );
+    let n = narrow(sites.len() / 2);
+    show(out, number, n, &vertices, &offsets, &indexes)
+}
+
+fn of_mesh(
+    out: &mut [u8],
+    unclipped: bool,
+    bounds: [f64; 4],
+    sites: &[f64],
+    triangles: &[u32],
+    halfedges: &[u32],
+    hull: &[u32],
+) -> usize
+    requires { ⌜ MapSized (length (now sites)) (length (now triangles)) (length (now hull)) (length (now out)) ⌝ }
+    ensures { λ r. ⌜ ByMode mapTexts unclipped bounds (now (sites .entry)) (now (triangles .entry)) (now (halfedges .entry)) (now (hull .entry))
+        (take r (now (out .exit))) × (r ≤ length (now (out .entry))) ⌝ }
+{
+    if unclipped {
+        return without_box(out, sites, triangles, halfedges, hull);
+    }
+    in_box(out, bounds, sites, triangles, halfedges, hull)
+}
+
+// What is printed for a form that was read into these lists.
+fn of_form(
+    out: &mut [u8],
+    form: Form,
+    bounds: [f64; 4],
+    sites: &[f64],
+    triangles: &[u32],
+    halfedges: &[u32],
+    hull: &[u32],
+) -> usize
+    requires { ⌜ ListRoom bounds (now sites) (now triangles) (now halfedges) (now hull) × Few form × (106496 ≤ length (now out)) ⌝ }
+    ensures { λ r. ⌜ ByForm mapTexts form bounds (now (sites .entry)) (now (triangles .entry)) (now (halfedges .entry)) (now (hull .entry))
+        (take r (now (out .exit))) × (r ≤ length (now (out .entry))) ⌝ }
+{
+    let Form::Sound {
+        sites: n,
+        triangles: t,
+        hull: h,
+        unclipped,
+    } = form
+    else {
+        return listing::refusal(out, numbers::REFUSED_FORM);
+    };
+    let numbers = 2 * n;
+    let links = 3 * t;
+    of_mesh(
+        out,
+        unclipped,
+        bounds,
+        &sites[..numbers],
+        &triangles[..links],
+        &halfedges[..links],
+        &hull[..h],
+    )
+}
+
+// What is printed for a form's bytes.
+fn answer(bytes: &[u8], out: &mut [u8]) -> usize
+    requires { ⌜ 106496 ≤ length (now out) ⌝ }
+    ensures { λ r. ⌜ Prints mapTexts (now (bytes .entry)) (take r (now (out .exit))) × (r ≤ length (now (out .entry))) ⌝ }
+{
+    let mut bounds = [0.0f64; 4];
+    let mut sites = [0.0f64; 192];
+    let mut triangles = [0u32; 576];
+    let mut halfedges = [0u32; 576];
+    let mut hull = [0u32; 96];
+    let form = form::read(
+        bytes,
+        &mut bounds,
+        &mut sites,
+        &mut triangles,
+        &mut halfedges,
+        &mut hull,
+    );
+    of_form(out, form, bounds, &sites, &triangles, &halfedges, &hull)
+}
+
+fn main() {
+    let mut bytes = [0u8; 6947];
+    let mut out = [0u8; 106496];
+    let n = io::read_full(STDIN_FILENO, &mut bytes);
+    let m = answer(&bytes[..n], &mut out);
+    io::write_all(STDOUT_FILENO, &out[..m]);
+}

@@ -1,0 +1,105 @@
+// Writes cells as lines for map tools into a lent slice of bytes: each function writes its text from a place on and answers the place after it.
+use listing::decimal;
+use numbers::wide;
+use octets::put;
+ghost use mathlib.Core.Path.{_≡_};
+ghost use mathlib.Core.List.{[], _∷_};
+ghost use Prim.Native.Nat.{_/_, _<_, _≤_};
+ghost use lib.ListN.{length};
+ghost use Rattle.octets.specs.Wrote.{Wrote, HasRoom};
+ghost use Rattle.wkb.specs.Polygon.{patterns};
+ghost use Rattle.wkb.specs.Promise.{NamesVertices, image};
+ghost use Rattle.map_text.specs.MapText.{hexDigit, hex, mapLine, mapLines, mapText, Drawn};
+
+fn digit(n: u8) -> u8
+    requires { ⌜ n < 16 ⌝ }
+    ensures { λ r. ⌜ r ≡ hexDigit n ⌝ }
+{
+    if n < 10 {
+        return 48 + n;
+    }
+    87 + n
+}
+
+fn put_byte(out: &mut [u8], at: usize, b: u8) -> usize
+    requires { ⌜ HasRoom (now out) at (hex (b ∷ [])) ⌝ }
+    ensures { λ r. ⌜ Wrote (now (out .entry)) (now (out .exit)) at r (hex (b ∷ [])) ⌝ }
+{
+    let high = digit(b / 16);
+    let low = digit(b % 16);
+    out[at] = high;
+    out[at + 1] = low;
+    at + 2
+}
+
+fn put_hex(out: &mut [u8], at: usize, bytes: &[u8]) -> usize
+    requires { ⌜ HasRoom (now out) at (hex (now bytes)) ⌝ }
+    ensures { λ r. ⌜ Wrote (now (out .entry)) (now (out .exit)) at r (hex (now (bytes .entry))) ⌝ }
+{
+    let mut end = at;
+    let mut i = 0;
+    while i < bytes.len() {
+        end = put_byte(out, end, bytes[i]);
+        i += 1;
+    }
+    end
+}
+
+fn map_line(out: &mut [u8], at: usize, i: u32, bytes: &[u8]) -> usize
+    requires { ⌜ HasRoom (now out) at (mapLine i (now bytes)) ⌝ }
+    ensures { λ r. ⌜ Wrote (now (out .entry)) (now (out .exit)) at r (mapLine i (now (bytes .entry))) ⌝ }
+{
+    let a = decimal(out, at, i);
+    let b = put(out, a, b",");
+    let c = put_hex(out, b, bytes);
+    put(out, c, b"\n")
+}
+
+// The line of a cell.
+fn cell_line(out: &mut [u8], at: usize, i: u32, vertices: &[f64], entries: &[u32]) -> usize
+    requires { ⌜ NamesVertices (now entries) (length (now vertices) / 2) × (length (now entries) ≤ 3076) × HasRoom (now out) at (mapLine i (image (patterns (now vertices)) (now entries))) ⌝ }
+    ensures { λ r. ⌜ Wrote (now (out .entry)) (now (out .exit)) at r (mapLine i (image (patterns (now (vertices .entry))) (now (entries .entry)))) ⌝ }
+{
+    let mut bytes = [0u8; 49245];
+    let n = wkb::put_cell(&mut bytes, vertices, entries);
+    map_line(out, at, i, &bytes[..n])
+}
+
+fn map_lines(
+    out: &mut [u8],
+    at: usize,
+    sites: usize,
+    vertices: &[f64],
+    offsets: &[u32],
+    indexes: &[u32],
+) -> usize
+    requires { ⌜ Drawn (now offsets) (now indexes) sites (length (now vertices) / 2)
+        × HasRoom (now out) at (mapLines (patterns (now vertices)) (now offsets) (now indexes) 0 sites) ⌝ }
+    ensures { λ r. ⌜ Wrote (now (out .entry)) (now (out .exit)) at r (mapLines (patterns (now (vertices .entry))) (now (offsets .entry)) (now (indexes .entry)) 0 sites) ⌝ }
+{
+    let mut end = at;
+    let mut i: usize = 0;
+    while i < sites {
+        let from = wide(offsets[i]);
+        let to = wide(offsets[i + 1]);
+        end = cell_line(out, end, i as u32, vertices, &indexes[from..to]);
+        i += 1;
+    }
+    end
+}
+
+// The heading, and a line for each cell.
+pub fn map_text(
+    out: &mut [u8],
+    sites: u32,
+    vertices: &[f64],
+    offsets: &[u32],
+    indexes: &[u32],
+) -> usize
+    requires { ⌜ Drawn (now offsets) (now indexes) sites (length (now vertices) / 2)
+        × HasRoom (now out) 0 (mapText (patterns (now vertices)) (now offsets) (now indexes) sites) ⌝ }
+    ensures { λ r. ⌜ Wrote (now (out .entry)) (now (out .exit)) 0 r (mapText (patterns (now (vertices .entry))) (now (offsets .entry)) (now (indexes .entry)) sites) ⌝ }
+{
+    let end = put(out, 0, b"site,geometry\n");
+    map_lines(out, end, wide(sites), vertices, offsets, indexes)
+}

@@ -1,0 +1,70 @@
+-- Theorem: no two texts may be printed for one input.
+use mathlib.Core.Path.{_≡_, refl, sym, ap, _∙_}
+use mathlib.Core.Bool.{true, false}
+use mathlib.Core.List.{List}
+use Prim.Native.Nat.{ℕ}
+use native.Mathlib.Omega.{arith}
+use lib.Ieee.{Float}
+use lib.ListN.{replicate, length-replicate}
+use Rattle.laws.specs.Binary64 as B
+use Rattle.admission.specs.laws.Admits.{admits-one}
+use Rattle.definition.specs.declared.Fault.{Fault}
+use Rattle.definition.specs.Fault.{Outcome}
+use Rattle.definition.specs.Build.{Built}
+use Rattle.form.specs.Form.{FormMesh, MeshFits, formOf}
+use Rattle.form_step.specs.Reader.{verdict, start, reading, takes, Reading}
+use Rattle.form_step.specs.Holds.{ListRoom}
+use Rattle.form.specs.laws.Mesh.{WholeRead, complete}
+use Rattle.form_step.specs.declared.Form.{Form}
+use Rattle.form_step.specs.declared.Form.the-variants.{Sound, Broken}
+use Rattle.listing.specs.Listing.{refusal}
+use Rattle.printing.specs.laws.FormLists.{to-form}
+use Rattle.printing.specs.Printed.{Shows, early, late, built, OfMesh, Prints, sound, broken, ByForm, Texts}
+
+module _ {Rules : ℕ → Type 0} {text : Built → List ℕ} (one : (a b : ℕ) → Rules a → Rules b → a ≡ b) where
+  shows-one : {o : Outcome Fault Built} {a b : List ℕ} → Shows Rules text o a → Shows Rules text o b → a ≡ b
+  shows-one (early p q) (early r s) = ap refusal (one _ _ p r)
+  shows-one (early p q) (late r) = absurd (q (one _ _ p r))
+  shows-one (early p q) (built r) = absurd (q (one _ _ p r))
+  shows-one (late p) (early r s) = absurd (s (one _ _ r p))
+  shows-one (late p) (late r) = refl
+  shows-one (built p) (early r s) = absurd (s (one _ _ r p))
+  shows-one (built p) (built r) = refl
+
+-- the reader's lists, as long as a form needs them
+abbrev floats : ℕ → List Float
+floats n = replicate n B.zero
+
+abbrev links : ℕ → List ℕ
+links n = replicate n 0
+
+abbrev read : List ℕ → Reading
+read s = takes (reading start (floats 4) (floats 192) (links 576) (links 576) (links 96)) s
+
+module _ (t : Texts) where
+  form-one : (a : Form) (bs ss : List Float) (ts es hs x y : List ℕ) → ByForm t a bs ss ts es hs x → ByForm t a bs ss ts es hs y → x ≡ y
+  form-one (Broken k) bs ss ts es hs x y p q = p ∙ sym q
+  form-one (Sound s k h true) bs ss ts es hs x y p q = shows-one (λ a b. admits-one) p q
+  form-one (Sound s k h false) bs ss ts es hs x y p q = shows-one (λ a b. admits-one) p q
+
+  by-reader : (s text : List ℕ) (m : FormMesh) → MeshFits m → s ≡ formOf m → OfMesh t m text
+      → ByForm t (verdict (read s .reader)) (read s .bounds) (read s .sites) (read s .triangles) (read s .halfedges) (read s .hull) text
+  by-reader s text m f e q =
+      let w : WholeRead m (floats 4) (floats 192) (links 576) (links 576) (links 96) (read s) = rw e (complete (floats 4) (floats 192) (links 576) (links 576) (links 96) m f) in
+      let room : ListRoom (floats 4) (floats 192) (links 576) (links 576)
+      (links 96) = record {
+        bounds = omega (arith, length-replicate 4 B.zero);
+        sites = omega (arith, length-replicate 192 B.zero);
+        triangles = omega (arith, length-replicate {A = ℕ} 576 0);
+        halfedges = omega (arith, length-replicate {A = ℕ} 576 0);
+        hull = omega (arith, length-replicate {A = ℕ} 96 0);
+      } in
+      rw (w .answer) (to-form t m f (floats 4) (floats 192) (links 576) (links 576) (links 96) room (read s .bounds) (read s .sites) (read s .triangles)
+      (read s .halfedges) (read s .hull) (record { bounds = w .bounds; sites = w .sites; triangles = w .triangles; halfedges = w .halfedges; hull = w .hull }) text q)
+
+  pub prints-one : {s a b : List ℕ} → Prints t s a → Prints t s b → a ≡ b
+  prints-one {s} {a} {b} (sound m f e p) (sound n g d q) =
+      form-one (verdict (read s .reader)) (read s .bounds) (read s .sites) (read s .triangles) (read s .halfedges) (read s .hull) a b (by-reader s a m f e p) (by-reader s b n g d q)
+  prints-one (sound m f e p) (broken n) = absurd (n (record { mesh = m; fits = f; bytes = e }))
+  prints-one (broken n) (sound m f e p) = absurd (n (record { mesh = m; fits = f; bytes = e }))
+  prints-one (broken n) (broken k) = refl

@@ -1,0 +1,75 @@
+-- What a program prints for the bytes of a form, said for any pair of texts: the text of what the build makes of the mesh whose form they are, or the line of a refusal.
+-- Definitions only.
+use mathlib.Core.Path.{_≡_}
+use mathlib.Core.Bool.{true, Bool, false}
+use mathlib.Core.List.{List}
+use mathlib.Core.Logic.{_≢_}
+use Prim.Native.Nat.{ℕ, _/_, _*_, _≤_}
+use lib.Ieee.{Float, nan}
+use lib.ListN.{length, getD, take}
+use Rattle.numbers.specs.Numbers.{refusedForm}
+use Rattle.utils.specs.Plane.{at}
+use Rattle.utils.specs.declared.Point.{Point}
+use Rattle.bounding_box.specs.Box.{madeOf}
+use Rattle.mesh.specs.Accepted.{siteCount}
+use Rattle.admission.specs.Admits.{Admits}
+use Rattle.definition.specs.declared.Fault.{Fault}
+use Rattle.definition.specs.Fault.{Outcome, ok, refused}
+use Rattle.definition.specs.Build.{Built, build}
+use Rattle.definition.specs.Unclipped as definition
+use Rattle.admission.specs.Asks.{boxAsk}
+use Rattle.form.specs.Form.{Outline, box, unclipped, FormMesh, MeshFits, IsForm, formOf, numbersOf, float, siteFloats, triangleSites, trianglePairs}
+use Rattle.listing.specs.Listing.{refusal}
+use lib.Dec.{eqb}
+use Rattle.laws.specs.Pick.{pick}
+use Rattle.form_step.specs.declared.Form.{Form}
+use Rattle.form_step.specs.declared.Form.the-variants.{Sound, Broken}
+
+-- the text of a build of n sites and T triangles: in a box, and not clipped
+pub record Texts : Type 0 where
+  pub boxed : ℕ → ℕ → Built → List ℕ
+  pub plain : ℕ → ℕ → Built → List ℕ
+
+-- the number that the rules up to 10 give; where they admit the mesh, the outcome's, or the text of what was built
+pub data Shows (Rules : ℕ → Type 0) (text : Built → List ℕ) : Outcome Fault Built → List ℕ → Type 0 where
+  early : {o : Outcome Fault Built} {r : ℕ} → Rules r → r ≢ 0 → Shows Rules text o (refusal r)
+  late : {f : Fault} → Rules 0 → Shows Rules text (refused f) (refusal (f .number))
+  built : {b : Built} → Rules 0 → Shows Rules text (ok b) (text b)
+
+-- the text of an answer with the number r
+abbrev pub shown : List ℕ → ℕ → List ℕ
+shown text r = pick (eqb r 0) (λ _. text) (λ _. refusal r)
+
+-- the first r bytes of a slice of this length are the text
+pub record ShownIn (text out : List ℕ) (space r : ℕ) : Type 0 where
+  pub first : take r out ≡ text
+  pub within : r ≤ space
+
+module _ (t : Texts) where
+  module _ (sites : List Float) (tri he hull : List ℕ) where
+    abbrev pub InBox : Point → Float → Float → List ℕ → Type 0
+    InBox c w h = Shows (Admits sites tri he hull true (boxAsk c w h)) (t .boxed (siteCount sites) (length tri / 3)) (build sites tri he hull (madeOf c w h))
+
+    abbrev pub WithoutBox : List ℕ → Type 0
+    WithoutBox = Shows (Admits sites tri he hull true 0) (t .plain (siteCount sites) (length tri / 3)) (definition.unclipped sites tri he)
+
+    abbrev pub ByClip : Outline → List ℕ → Type 0
+    ByClip (box x y w h) = InBox (at (float x) (float y)) (float w) (float h)
+    ByClip unclipped = WithoutBox
+
+  -- the text of a mesh, in the box of these four numbers where it is not unclipped
+  abbrev pub ByMode : Bool → List Float → List Float → List ℕ → List ℕ → List ℕ → List ℕ → Type 0
+  ByMode true bs ss ts es hs text = WithoutBox ss ts es hs text
+  ByMode false bs ss ts es hs text = InBox ss ts es hs (at (getD bs 0 nan) (getD bs 1 nan)) (getD bs 2 nan) (getD bs 3 nan) text
+
+  -- the text of a form that was read into these lists
+  abbrev pub ByForm : Form → List Float → List Float → List ℕ → List ℕ → List ℕ → List ℕ → Type 0
+  ByForm (Broken k) bs ss ts es hs text = text ≡ refusal refusedForm
+  ByForm (Sound s k h u) bs ss ts es hs text = ByMode u bs (take (2 * s) ss) (take (3 * k) ts) (take (3 * k) es) (take h hs) text
+
+  abbrev pub OfMesh : FormMesh → List ℕ → Type 0
+  OfMesh m = ByClip (numbersOf siteFloats (m .sites)) (numbersOf triangleSites (m .triangles)) (numbersOf trianglePairs (m .triangles)) (m .hull) (m .clip)
+
+  pub data Prints (s : List ℕ) : List ℕ → Type 0 where
+    sound : {text : List ℕ} (m : FormMesh) → MeshFits m → s ≡ formOf m → OfMesh m text → Prints s text
+    broken : (IsForm s → ⊥) → Prints s (refusal refusedForm)

@@ -1,0 +1,46 @@
+-- What a form's reader leaves in its lists is the mesh of the form, so what is printed by its answer is what is printed for its bytes.
+use mathlib.Core.Path.{_≡_}
+use mathlib.Core.List.{List, [], _∷_}
+use mathlib.Core.Logic.{⊎-elim}
+use Prim.Native.Nat.{ℕ, suc, _<_}
+use lib.Ieee.{Float}
+use lib.ListN.{getD}
+use Rattle.numbers.specs.Numbers.{refusedForm}
+use Rattle.octets.specs.Bytes.{Bytes}
+use Rattle.form_step.specs.Reader.{start, reading}
+use Rattle.form_step.specs.Holds.{ListRoom, Reads}
+use Rattle.form.specs.Promise.{ReadSound, Refused, exact}
+use Rattle.form_step.specs.declared.Form.{Form}
+use Rattle.listing.specs.Listing.{refusal}
+use Rattle.printing.specs.laws.FormLists.{to-mesh}
+use Rattle.printing.specs.Printed.{Prints, sound, broken, ByForm, Texts}
+
+-- bytes, each below 256
+pub bytes : (s : List ℕ) → ((i : ℕ) → getD s i 0 < 256) → Bytes s
+bytes [] h = tt
+bytes (b ∷ s) h = (h 0, bytes s (λ i. h (suc i)))
+
+module _ (t : Texts) where
+  module _ (s : List ℕ) (bs ss : List Float) (ts es hs : List ℕ) (bs′ ss′ : List Float) (ts′ es′ hs′ : List ℕ) (text : List ℕ) (room : ListRoom bs ss ts es hs) where
+    by-mesh : {a : Form} → ReadSound s bs ss ts es hs a bs′ ss′ ts′ es′ hs′ → ByForm t a bs′ ss′ ts′ es′ hs′ text → Prints t s text
+    by-mesh p q =
+        sound (p .mesh) (p .fits) (p .form)
+        (to-mesh t (p .mesh) (p .fits) bs ss ts es hs room bs′ ss′ ts′ es′ hs′
+        (record { bounds = p .bounds; sites = p .sites; triangles = p .triangles; halfedges = p .halfedges; hull = p .hull }) text (rw (p .answer) at q))
+
+    by-refusal : {a : Form} → Refused s bs ss ts es hs a → ByForm t a bs′ ss′ ts′ es′ hs′ text → Prints t s text
+    by-refusal p q =
+        let e : text ≡ refusal refusedForm = rw (p .answer) at q in
+        rw e (broken (p .no-form))
+
+    by-answer : {a : Form} → Bytes s → Reads s (reading start bs ss ts es hs) a bs′ ss′ ts′ es′ hs′ → ByForm t a bs′ ss′ ts′ es′ hs′ text → Prints t s text
+    by-answer {a} h r q = ⊎-elim (λ p. by-mesh p q) (λ p. by-refusal p q) (exact s bs ss ts es hs a bs′ ss′ ts′ es′ hs′ r h)
+
+  pub printed :
+      {s : List ℕ} {bs ss : List Float} {ts es hs : List ℕ} {a : Form} {bs′ ss′ : List Float} {ts′ es′ hs′ text : List ℕ}
+      → Reads s (reading start bs ss ts es hs) a bs′ ss′ ts′ es′ hs′
+      → Bytes s
+      → ListRoom bs ss ts es hs
+      → ByForm t a bs′ ss′ ts′ es′ hs′ text
+      → Prints t s text
+  printed {s} {bs} {ss} {ts} {es} {hs} {a} {bs′} {ss′} {ts′} {es′} {hs′} {text} r h room q = by-answer s bs ss ts es hs bs′ ss′ ts′ es′ hs′ text room h r q

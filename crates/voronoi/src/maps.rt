@@ -1,0 +1,34 @@
+// Cells for map tools: the cell of a site as a Polygon in Well-Known Binary, little-endian. Refused, the output is as it was; past the image it always is.
+ghost use Rattle.voronoi.specs.Maps.{CellWkb, CellWkbBits};
+
+// Of vertices as floats: a NaN is written as 0x7FF8000000000000.
+#[no_mangle]
+pub extern "C" fn voronoi_cell_wkb(
+    vertices: &[f64],
+    offsets: &[u32],
+    indexes: &[u32],
+    site: u32,
+    out: &mut [u8],
+    written: &mut usize,
+) -> u32
+    ensures { λ r. ⌜ CellWkb (now (vertices .entry)) (now (offsets .entry)) (now (indexes .entry)) site
+        (now (out .entry)) (now (out .exit)) (now (written .exit)) r ⌝ }
+{
+    wkb::cell_wkb(vertices, offsets, indexes, site, out, written)
+}
+
+// Of vertices as patterns, each as it is.
+#[no_mangle]
+pub extern "C" fn voronoi_cell_wkb_bits(
+    vertices: &[u64],
+    offsets: &[u32],
+    indexes: &[u32],
+    site: u32,
+    out: &mut [u8],
+    written: &mut usize,
+) -> u32
+    ensures { λ r. ⌜ CellWkbBits (now (vertices .entry)) (now (offsets .entry)) (now (indexes .entry)) site
+        (now (out .entry)) (now (out .exit)) (now (written .exit)) r ⌝ }
+{
+    wkb::cell_wkb_bits(vertices, offsets, indexes, site, out, written)
+}

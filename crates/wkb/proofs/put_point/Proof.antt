@@ -1,0 +1,28 @@
+-- `wkb::put_point` meets its contract: the two coordinates, one after the other.
+use mathlib.Core.Path.{ap}
+use mathlib.Core.List.{_++_}
+use Prim.Native.Nat.{ℕ, _*_}
+use denote.Ref.{now}
+use Rattle.wkb.specs.Polygon.{patterns}
+use Rattle.wkb.specs.laws.Points.{point-wrote}
+use borrow.Author.Needs.{needs}
+use Rattle.wkb.proofs.put_point.Statement.{statement}
+use Rattle.wkb.proofs.put_point.Tie as tie
+
+returns : tie.Need-returns
+returns c =
+    let at-put-le2 = c .before .before in
+    let at-put-le = at-put-le2 .before .before .before .before in
+    let at-coordinate2 = at-put-le .before .before in
+    let at-coordinate = at-coordinate2 .before in
+    let at-wide = at-coordinate .before in
+    let start = at-wide .before .before .before .before in
+    let a = start .args in
+    point-wrote (patterns (now (a .floats)) ++ now (a .bits)) (a .entry) _ (ap (λ (n : ℕ). 2 * n) (at-wide .wide .ensures))
+    (at-coordinate .coordinate .ensures) (at-coordinate2 .coordinate2 .ensures) (at-put-le .put-le .ensures) (at-put-le2 .put-le2 .ensures)
+
+pub put-point-spec : {M : Type 1} → statement M
+put-point-spec =
+    tie.close
+    (tie.spec (λ c κs. search needs) (λ c. search needs) (λ c κs. search needs) (λ c. search needs)
+    (λ c κs. search needs) (λ c κs. search needs) (λ c κs. search needs) (λ c. search needs) returns)

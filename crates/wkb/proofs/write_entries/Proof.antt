@@ -1,0 +1,59 @@
+-- `wkb::write_entries` meets its contract: rule 18 on the entries, then rule 2, then the image.
+use mathlib.Core.Path.{_≡_, sym, ap}
+use mathlib.Core.List.{_++_}
+use Prim.Native.Nat.{ℕ, _+_, _/_}
+use lib.ListN.{length}
+use denote.Ref.{now}
+use Rattle.laws.specs.laws.Decide as decide
+use Rattle.wkb.specs.Polygon.{patterns}
+use Rattle.wkb.specs.laws.Points.{length-both}
+use Rattle.wkb.specs.laws.Answer.{not-named, no-room, wrote-image}
+use borrow.Author.Needs.{needs}
+use Rattle.wkb.proofs.write_entries.Statement.{statement}
+use Rattle.wkb.proofs.write_entries.Tie as tie
+
+-- the number of vertices, of both lists
+half : (s : tie.Start) → (length (now (s .args .floats)) + length (now (s .args .bits))) / 2 ≡ length (patterns (now (s .args .floats)) ++ now (s .args .bits)) / 2
+half s = ap (λ (n : ℕ). n / 2) (sym (length-both (now (s .args .floats)) (now (s .args .bits))))
+
+returns : tie.Need-returns
+returns c =
+    let at-entries-ok = c .before in
+    let start = at-entries-ok .before .before .before .before .before in
+    not-named _ _ _ _ (half start) (decide.refused (at-entries-ok .entries-ok .result) (c .if1 .taken) (at-entries-ok .entries-ok .ensures))
+
+returns-2 : tie.Need-returns-2
+returns-2 c =
+    let at-has-room = c .before in
+    let at-if1 = at-has-room .before in
+    let at-entries-ok = at-if1 .before in
+    let start = at-entries-ok .before .before .before .before .before in
+    no-room _ _ _ _ (half start) (decide.granted (at-entries-ok .entries-ok .result) (at-if1 .if1 .left) (at-entries-ok .entries-ok .ensures))
+    (decide.refused (at-has-room .has-room .result) (c .if2 .taken) (at-has-room .has-room .ensures))
+
+put-polygon-requires : tie.Need-put-polygon-requires
+put-polygon-requires c κs =
+    let at-if2 = c .before in
+    let at-has-room = at-if2 .before in
+    let at-if1 = at-has-room .before in
+    let at-entries-ok = at-if1 .before in (
+      decide.granted (at-entries-ok .entries-ok .result) (at-if1 .if1 .left) (at-entries-ok .entries-ok .ensures),
+      decide.granted (at-has-room .has-room .result) (at-if2 .if2 .left) (at-has-room .has-room .ensures),
+    )
+
+returns-3 : tie.Need-returns-3
+returns-3 c =
+    let at-put-polygon = c .before .before in
+    let at-if2 = at-put-polygon .before .before in
+    let at-has-room = at-if2 .before in
+    let at-if1 = at-has-room .before in
+    let at-entries-ok = at-if1 .before in
+    let start = at-entries-ok .before .before .before .before .before in
+    wrote-image _ _ _ _ (half start) (decide.granted (at-entries-ok .entries-ok .result) (at-if1 .if1 .left) (at-entries-ok .entries-ok .ensures))
+    (decide.granted (at-has-room .has-room .result) (at-if2 .if2 .left) (at-has-room .has-room .ensures)) (at-put-polygon .put-polygon .ensures)
+
+pub write-entries-spec : {M : Type 1} → statement M
+write-entries-spec =
+    tie.close
+    (tie.spec (λ c. search needs) (λ c κs. search needs) returns (λ c κs. search needs) returns-2
+    put-polygon-requires (λ c. search needs) returns-3)
