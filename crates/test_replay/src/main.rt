@@ -2,15 +2,18 @@
 // harness/src/stored.rs says how a mesh and its answers are stored, and made them with the source's own code.
 mod builds; // builds.rt: the build
 mod walks; // walks.rt: walks, neighbours, paths
-mod words; // words.rt: the stored words
 
-use builds::BEFORE;
-use builds::BEFORE_FLOAT;
 use libc::STDIN_FILENO;
 use libc::STDOUT_FILENO;
-use words::after;
-use words::index;
-use words::word;
+use test_words::after;
+use test_words::held::BEFORE;
+use test_words::held::BEFORE_FLOAT;
+use test_words::held::accepted;
+use test_words::held::after_list;
+use test_words::held::end;
+use test_words::held::refused;
+use test_words::index;
+use test_words::word;
 ghost use mathlib.Core.Path.{_≡_};
 ghost use Prim.Native.Nat.{_+_, _≤_, _<_};
 ghost use lib.ListN.{length};
@@ -47,10 +50,11 @@ fn judge(
         return DIFFERENT;
     }
     if number == 0 {
-        let q = builds::accepted(b, after(k, 1), work, vertices, indexes, offsets, counts);
-        if q == 0 {
+        let from = after(k, 1);
+        if !accepted(b, from, work, vertices, indexes, offsets, counts) {
             return DIFFERENT;
         }
+        let q = after_list(b, end(b, from, work.len()));
         if walks::lists(
             b,
             q,
@@ -67,7 +71,7 @@ fn judge(
         }
         return DIFFERENT;
     }
-    if !builds::refused(b, number, work, vertices, indexes, offsets, counts) {
+    if !refused(number, b, work, vertices, indexes, offsets, counts) {
         return DIFFERENT;
     }
     if number <= numbers::REFUSED_FAN {
@@ -179,10 +183,10 @@ fn mesh(
     let from = after(13, 2 * sites.len());
     let pairs = after(from, triangles.len());
     let border = after(pairs, halfedges.len());
-    words::load_floats(b, 13, sites);
-    words::load(b, from, triangles);
-    words::load(b, pairs, halfedges);
-    words::load(b, border, hull);
+    test_words::load_floats(b, 13, sites);
+    test_words::load(b, from, triangles);
+    test_words::load(b, pairs, halfedges);
+    test_words::load(b, border, hull);
     replay(
         b,
         after(border, hull.len()),

@@ -1,33 +1,14 @@
 // The stored walk, neighbours, clipped neighbours and path of one site, asked again of the public calls.
-use crate::builds::BEFORE;
-use crate::words::after;
-use crate::words::float;
-use crate::words::holds;
-use crate::words::index;
-use crate::words::word;
+use test_words::after;
+use test_words::float;
+use test_words::held::BEFORE;
+use test_words::held::after_list;
+use test_words::held::list;
+use test_words::word;
 use voronoi::walks::voronoi_clipped_neighbours;
 use voronoi::walks::voronoi_neighbours;
 use voronoi::walks::voronoi_path;
 use voronoi::walks::voronoi_walk;
-
-// The place after the list whose length stands at word q.
-fn after_list(b: &[u8], q: usize) -> usize {
-    after(after(q, 1), index(b, q))
-}
-
-// Whether the call was accepted and wrote the list stored from word q on, its length and its entries, to its end.
-fn same(out: &[u32], b: &[u8], q: usize, number: u32, count: u32, ended: u32) -> bool {
-    if number != 0 {
-        return false;
-    }
-    if ended != 1 {
-        return false;
-    }
-    if count != word(b, q) {
-        return false;
-    }
-    holds(out, b, after(q, 1), index(b, q), BEFORE)
-}
 
 fn walk(
     b: &[u8],
@@ -53,7 +34,7 @@ fn walk(
         &mut count,
         &mut ended,
     );
-    same(&out, b, q, number, count, ended)
+    list(&out, b, q, number, count, ended)
 }
 
 fn neighbours(
@@ -80,7 +61,7 @@ fn neighbours(
         &mut count,
         &mut ended,
     );
-    same(&out, b, q, number, count, ended)
+    list(&out, b, q, number, count, ended)
 }
 
 // Asked only where the build was accepted.
@@ -116,7 +97,7 @@ fn clipped_neighbours(
         &mut count,
         &mut ended,
     );
-    same(&out, b, q, number, count, ended)
+    list(&out, b, q, number, count, ended)
 }
 
 fn path(
@@ -147,7 +128,7 @@ fn path(
         &mut count,
         &mut ended,
     );
-    same(&out, b, q, number, count, ended)
+    list(&out, b, q, number, count, ended)
 }
 
 // The four lists of the site at word q.
