@@ -6,7 +6,8 @@ use Prim.Native.Nat.{ℕ, zero, suc, _+_, _-_, _*_, _/_, _^_}
 use lib.Dec.{leb, ltb}
 use lib.Ieee.{Float, nan, inf, fin, odd, size}
 use Rattle.laws.specs.Pick.{pick}
-use Rattle.root.specs.Root.{sq, units}
+use Rattle.digits.specs.Near.{sq}
+use Rattle.root.specs.Root.{units}
 
 -- the largest whole number whose square is at most n, of the numbers that have r's digits and k free ones below
 unfoldable pub wholeRoot : ℕ → ℕ → ℕ → ℕ

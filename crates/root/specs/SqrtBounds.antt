@@ -11,7 +11,8 @@ use lib.IntN.{ℤ, pos, negsuc}
 use lib.Pow.{pow-add, pow-pos, pow-lt}
 use lib.Ieee.{Float, nan, inf, fin, binary64, up, down, fits, lt, le, ofBits}
 use Rattle.laws.specs.Binary64 as B
-use Rattle.root.specs.Root.{sq, units, Plus, Root}
+use Rattle.digits.specs.Near.{sq}
+use Rattle.root.specs.Root.{units, Plus, Root}
 use Rattle.root.specs.Bounded.{Bounded}
 use Rattle.root.specs.laws.Tests.{minus-down, zero-not-above, plus-above}
 use Rattle.root.specs.laws.Units.{held-units, zero-units}

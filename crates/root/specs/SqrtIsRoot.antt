@@ -10,7 +10,8 @@ use lib.Count.{trailingZeros}
 use lib.Ieee.{Float, nan, inf, fin, binary64, odd, size, span, climb, fits, isNan, ofBits, ofFields, toBits}
 use lib.Ieee.Fits.{odd-fits, nan-fits}
 use lib.Ieee.Bits.{ofBits-fits, ofBits-toBits, toBits-lt, nanBits-is}
-use Rattle.root.specs.Root.{sq, units, NearestRoot, Root, RootBits, quiet}
+use Rattle.digits.specs.Near.{sq}
+use Rattle.root.specs.Root.{units, NearestRoot, Root, RootBits, quiet}
 use Rattle.root.specs.Sqrt.{wholeRoot, nearestRoot, rootOfUnits, sqrtOf}
 use Rattle.root.specs.laws.Units.{odd-units, odd-plus, held-units, nearest-of}
 use Rattle.root.specs.laws.WholeRoots.{Quartered, near, digits, scaled}

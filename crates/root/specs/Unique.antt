@@ -9,7 +9,8 @@ use native.Mathlib.Omega.{arith}
 use lib.Dec.{T}
 use lib.Ieee.{Float, nan, inf, fin, binary64, fits, isNan, ofBits, toBits, nanBits, size}
 use lib.Ieee.Bits.{ofBits-toBits, toBits-ofBits, nanBits-is}
-use Rattle.root.specs.Root.{units, Plus, NearestRoot, Root, RootBits, sq}
+use Rattle.digits.specs.Near.{sq}
+use Rattle.root.specs.Root.{units, Plus, NearestRoot, Root, RootBits}
 use Rattle.root.specs.laws.Squares.{le-or-lt, sq-mono}
 
 abbrev bitsOf : ℕ → ℕ

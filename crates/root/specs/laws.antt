@@ -11,7 +11,6 @@ pub mod Tested
 pub mod SqrtSizes
 pub mod SquareSums
 pub mod WholeRoots
-pub mod Digits
 pub mod Moving
 pub mod Patterns
 pub mod Signs

@@ -11,8 +11,8 @@ use lib.Pow.{pow-pos, pow-add, pow-lt}
 use lib.Ieee.{Float, nan, inf, fin, binary64, up, down, odd, fits}
 use lib.Ieee.Digits.{Equals, odd-val, back}
 use lib.Ieee.Fits.{and-l, and-r, down-pos}
-use Rattle.root.specs.Root.{units, Plus, NearestRoot, sq}
-use Rattle.root.specs.Steps.{NearWhole}
+use Rattle.digits.specs.Near.{sq, NearWhole}
+use Rattle.root.specs.Root.{units, Plus, NearestRoot}
 use Rattle.root.specs.laws.Gaps.{over, under}
 
 units-of : (v : Float) (a : ℕ) → Equals v a (2 ^ 1074) → units v ≡ a

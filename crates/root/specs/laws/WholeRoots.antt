@@ -10,10 +10,10 @@ use lib.Pow.{pow-mono, shl-lt}
 use lib.Ieee.{size}
 use lib.Ieee.Digits.{size-lt, size-le, size-reaches, back}
 use Rattle.laws.specs.Pick.{pick}
-use Rattle.root.specs.Root.{sq}
-use Rattle.root.specs.Steps.{NearWhole}
+use Rattle.digits.specs.Near.{sq, NearWhole}
+use Rattle.digits.specs.laws.Rounds.{near-down, near-up}
 use Rattle.root.specs.Sqrt.{wholeRoot, nearestRoot}
-use Rattle.root.specs.laws.Squares.{sq-mono, sq-pos, pow-sq, near-down, near-up}
+use Rattle.root.specs.laws.Squares.{sq-mono, sq-pos, pow-sq}
 
 -- ---- the whole root, and the nearest
 
