@@ -8,23 +8,23 @@ use lib.Ieee.{Float}
 use lib.ListN.{length}
 use Rattle.laws.specs.Binary64.{zero}
 use Rattle.numbers.specs.Numbers.{EMPTY}
-use Rattle.mesh.specs.Accepted.{Counted, siteCount}
+use Rattle.mesh.specs.Accepted.{Mesh, Counted, siteCount}
 use Rattle.check_mesh.specs.Answers.{workAfter}
 use Rattle.check_mesh.specs.AtExit.{whenRefused}
 use Rattle.admission.specs.Admits.{Admits}
 use Rattle.admission.specs.Slices.{Slices, roomFor, roomOf}
 
-pub record Admission (sites : List Float) (tri he hull : List ℕ) (roomy : Bool) (asked : ℕ) (old new : List ℕ) (r : ℕ) : Type 0 where
-  pub number : Admits sites tri he hull roomy asked r
-  pub work : new ≡ workAfter tri he (siteCount sites) old r
+pub record Admission (m : Mesh) (roomy : Bool) (asked : ℕ) (old new : List ℕ) (r : ℕ) : Type 0 where
+  pub number : Admits m roomy asked r
+  pub work : new ≡ workAfter m old r
 
 -- rule 2 of a query: a work entry for each site
 abbrev pub roomyOf : List Float → List ℕ → Bool
 roomyOf sites work = leb (siteCount sites) (length work)
 
 -- a query with an output slice, o and then o′
-pub record ListAdmission (sites : List Float) (tri he hull : List ℕ) (asked : ℕ) (w w′ o o′ : List ℕ) (r : ℕ) : Type 0 where
-  pub admission : Admission sites tri he hull (roomyOf sites w) asked w w′ r
+pub record ListAdmission (m : Mesh) (asked : ℕ) (w w′ o o′ : List ℕ) (r : ℕ) : Type 0 where
+  pub admission : Admission m (roomyOf (m .sites) w) asked w w′ r
   pub out : o′ ≡ whenRefused EMPTY o r
 
 -- the answer to rule 2 of a build where rule 1 holds; never yes without a work entry for each site
@@ -33,8 +33,8 @@ pub record RoomAnswer (coordinates entries halfedges hull work numbers indexes o
   pub table : r ≡ true → coordinates / 2 ≤ work
 
 -- a build, with all its slices
-pub record BuildAdmission (sites : List Float) (tri he hull : List ℕ) (asked : ℕ) (old new : Slices) (r : ℕ) : Type 0 where
-  pub admission : Admission sites tri he hull (roomOf sites tri hull old) asked (old .work) (new .work) r
+pub record BuildAdmission (m : Mesh) (asked : ℕ) (old new : Slices) (r : ℕ) : Type 0 where
+  pub admission : Admission m (roomOf m old) asked (old .work) (new .work) r
   pub vertices : new .vertices ≡ whenRefused zero (old .vertices) r
   pub indexes : new .indexes ≡ whenRefused EMPTY (old .indexes) r
   pub offsets : new .offsets ≡ whenRefused EMPTY (old .offsets) r

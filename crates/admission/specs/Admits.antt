@@ -7,7 +7,7 @@ use lib.Ieee.{Float}
 use lib.ListN.{length}
 use Rattle.laws.specs.Refusals.{Rule, once, reads, Finds}
 use Rattle.mesh.specs.Rules.{numberOf, startRules, coordinateRules, callRules}
-use Rattle.mesh.specs.Accepted.{Accepted}
+use Rattle.mesh.specs.Accepted.{Mesh, Accepted}
 
 -- what the call's own arguments gave: a number, 0 where they are sound
 abbrev pub askedRules : ℕ → List (Rule ℕ)
@@ -22,11 +22,11 @@ pub record Early (sites : List Float) (entries halfedges hull : ℕ) (roomy : Bo
   pub found : Finds (earlyRules sites entries halfedges hull roomy asked) 0 r
 
 -- up to rule 10
-pub record Admits (sites : List Float) (tri he hull : List ℕ) (roomy : Bool) (asked r : ℕ) : Type 0 where
-  pub found : Finds (callRules sites tri he hull (roomy ≡ true) (askedRules asked)) 0 r
+pub record Admits (m : Mesh) (roomy : Bool) (asked r : ℕ) : Type 0 where
+  pub found : Finds (callRules m (roomy ≡ true) (askedRules asked)) 0 r
 
 -- 0: the mesh is accepted, there is room, and the arguments are sound
-pub record Admitted (sites : List Float) (tri he hull : List ℕ) (roomy : Bool) (asked : ℕ) : Type 0 where
-  pub accepted : Accepted sites tri he hull
+pub record Admitted (m : Mesh) (roomy : Bool) (asked : ℕ) : Type 0 where
+  pub accepted : Accepted m
   pub roomed : roomy ≡ true
   pub fit : asked ≡ 0

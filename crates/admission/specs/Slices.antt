@@ -5,7 +5,7 @@ use Prim.Native.Nat.{ℕ, _+_, _*_, _/_}
 use lib.Dec.{leb, ltb}
 use lib.Ieee.{Float}
 use lib.ListN.{length}
-use Rattle.mesh.specs.Accepted.{siteCount}
+use Rattle.mesh.specs.Accepted.{Mesh, siteCount}
 
 pub record Slices : Type 0 where
   pub work : List ℕ
@@ -22,6 +22,6 @@ unfoldable pub roomFor : ℕ → ℕ → ℕ → ℕ → ℕ → ℕ → ℕ →
 roomFor n T h work numbers indexes offsets counts =
     leb n work && leb 6 counts && leb (7 * T + 5 * h + 4) (numbers / 2) && leb (12 * T + 8 * h + 4) indexes && ltb n offsets
 
-abbrev pub roomOf : List Float → List ℕ → List ℕ → Slices → Bool
-roomOf sites tri hull old =
-    roomFor (siteCount sites) (length tri / 3) (length hull) (length (old .work)) (length (old .vertices)) (length (old .indexes)) (length (old .offsets)) (length (old .counts))
+abbrev pub roomOf : Mesh → Slices → Bool
+roomOf m old =
+    roomFor (siteCount (m .sites)) (length (m .triangles) / 3) (length (m .hull)) (length (old .work)) (length (old .vertices)) (length (old .indexes)) (length (old .offsets)) (length (old .counts))

@@ -9,6 +9,7 @@ ghost use Prim.Native.Nat.{_-_, _/_, _<_, _≤_};
 ghost use lib.ListN.{length};
 ghost use Rattle.laws.specs.Decide.{Says};
 ghost use Rattle.numbers.specs.Numbers.{refusedTriangle};
+ghost use Rattle.mesh.specs.Accepted.{mesh};
 ghost use Rattle.admission.specs.Asks.{siteRules, pathRules, Asked, boxAsk, CellsOf};
 ghost use Rattle.admission.specs.Admits.{Early};
 ghost use Rattle.admission.specs.Slices.{slices};
@@ -74,7 +75,7 @@ pub fn admit(
     work: &mut [u32],
 ) -> u32
     requires { ⌜ (roomy ≡ true → length (now sites) / 2 ≤ length (now work)) × (asked < refusedTriangle) ⌝ }
-    ensures { λ r. ⌜ Admission (now (sites .entry)) (now (triangles .entry)) (now (halfedges .entry)) (now (hull .entry)) roomy asked (now (work .entry)) (now (work .exit)) r ⌝ }
+    ensures { λ r. ⌜ Admission (mesh (now (sites .entry)) (now (triangles .entry)) (now (halfedges .entry)) (now (hull .entry))) roomy asked (now (work .entry)) (now (work .exit)) r ⌝ }
 {
     let e = early(
         sites,
@@ -107,7 +108,7 @@ pub fn admit_list(
     out: &mut [u32],
 ) -> u32
     requires { ⌜ asked < refusedTriangle ⌝ }
-    ensures { λ r. ⌜ ListAdmission (now (sites .entry)) (now (triangles .entry)) (now (halfedges .entry)) (now (hull .entry)) asked
+    ensures { λ r. ⌜ ListAdmission (mesh (now (sites .entry)) (now (triangles .entry)) (now (halfedges .entry)) (now (hull .entry))) asked
         (now (work .entry)) (now (work .exit)) (now (out .entry)) (now (out .exit)) r ⌝ }
 {
     let roomy = sites.len() / 2 <= work.len();
@@ -193,7 +194,7 @@ pub fn admit_build(
     counts: &mut [u32],
 ) -> u32
     requires { ⌜ asked < refusedTriangle ⌝ }
-    ensures { λ r. ⌜ BuildAdmission (now (sites .entry)) (now (triangles .entry)) (now (halfedges .entry)) (now (hull .entry)) asked
+    ensures { λ r. ⌜ BuildAdmission (mesh (now (sites .entry)) (now (triangles .entry)) (now (halfedges .entry)) (now (hull .entry))) asked
         (slices (now (work .entry)) (now (vertices .entry)) (now (indexes .entry)) (now (offsets .entry)) (now (counts .entry)))
         (slices (now (work .exit)) (now (vertices .exit)) (now (indexes .exit)) (now (offsets .exit)) (now (counts .exit))) r ⌝ }
 {

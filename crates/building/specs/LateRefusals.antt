@@ -12,8 +12,8 @@ use Rattle.utils.specs.Rules.{okCenter}
 use Rattle.utils.specs.declared.Point.{Point}
 use Rattle.bounding_box.specs.Box.{cornersOf}
 use Rattle.bounding_box.specs.declared.BoundingBox.{BoundingBox}
-use Rattle.mesh.specs.Mesh.{endOf, leftmostOf}
-use Rattle.mesh.specs.Accepted.{siteCount}
+use Rattle.mesh.specs.Mesh.{endOf}
+use Rattle.mesh.specs.Accepted.{Mesh, tableOf, siteCount}
 use Rattle.definition.specs.declared.Fault.{Fault}
 use Rattle.definition.specs.Fault.{Outcome, ok, refused, andThen, atEdge}
 use Rattle.definition.specs.Cell.{EdgeClip, missed, once, twice, Tip, Taken, insertAt, insertEdge, leave, enterAt, enter, link, crossAt}
@@ -146,23 +146,23 @@ extends sites tri hull left nc i (suc k) x =
     let p = extended sites tri (x .verts) (getD left _ 0) in
     both Numbered (finite (p .x) && finite (p .y)) _ _ (extends sites tri hull left nc (suc i) k _) (record { least = omega arith; most = omega arith })
 
-module _ (sites : List Float) (tri he hull : List ℕ) (b : BoundingBox) where
-  all-cells : (left : List ℕ) (n : ℕ) (owners : List ℕ) (x : Extensions) → Refuses Numbered (clipAll b (length tri / 3) tri he hull left n owners x)
+module _ (m : Mesh) (b : BoundingBox) where
+  all-cells : (left : List ℕ) (n : ℕ) (owners : List ℕ) (x : Extensions) → Refuses Numbered (clipAll b (length (m .triangles) / 3) (m .triangles) (m .halfedges) (m .hull) left n owners x)
   unfolding clipAll
   all-cells left n owners x =
-      late-then Numbered (clipHull b (length tri / 3) he hull left (x .at) 0 (length hull) (cellState (x .verts) owners (replicate n []) (x .steps)))
-      (λ s. clipRest b (length tri / 3) tri he 0 (length tri) s)
-      (on-hull b (length tri / 3) he hull left (x .at) 0 (length hull) _)
-      (λ s. on-rest b (length tri / 3) tri he 0 (length tri) s)
+      late-then Numbered (clipHull b (length (m .triangles) / 3) (m .halfedges) (m .hull) left (x .at) 0 (length (m .hull)) (cellState (x .verts) owners (replicate n []) (x .steps)))
+      (λ s. clipRest b (length (m .triangles) / 3) (m .triangles) (m .halfedges) 0 (length (m .triangles)) s)
+      (on-hull b (length (m .triangles) / 3) (m .halfedges) (m .hull) left (x .at) 0 (length (m .hull)) _)
+      (λ s. on-rest b (length (m .triangles) / 3) (m .triangles) (m .halfedges) 0 (length (m .triangles)) s)
 
-  pub build-late : Refuses Numbered (build sites tri he hull b)
+  pub build-late : Refuses Numbered (build m b)
   unfolding build
   build-late =
-      late-then Numbered (centersFrom sites tri 0 (length tri / 3) []) _ (centers sites tri 0 (length tri / 3) []) λ c.
-      late-then Numbered (extendFrom sites tri hull (leftmostOf tri he (siteCount sites)) (length tri / 3) 0 (length hull)
-      (extensions (c ++ cornersOf b) [] [])) _ (extends sites tri hull (leftmostOf tri he (siteCount sites)) (length tri / 3) 0 (length hull) _) λ x.
-      late-then Numbered (clipAll b (length tri / 3) tri he hull (leftmostOf tri he (siteCount sites)) (siteCount sites) _ x) _
-      (all-cells (leftmostOf tri he (siteCount sites)) (siteCount sites) _ x) (λ s. tt)
+      late-then Numbered (centersFrom (m .sites) (m .triangles) 0 (length (m .triangles) / 3) []) _ (centers (m .sites) (m .triangles) 0 (length (m .triangles) / 3) []) λ c.
+      late-then Numbered (extendFrom (m .sites) (m .triangles) (m .hull) (tableOf m) (length (m .triangles) / 3) 0 (length (m .hull))
+      (extensions (c ++ cornersOf b) [] [])) _ (extends (m .sites) (m .triangles) (m .hull) (tableOf m) (length (m .triangles) / 3) 0 (length (m .hull)) _) λ x.
+      late-then Numbered (clipAll b (length (m .triangles) / 3) (m .triangles) (m .halfedges) (m .hull) (tableOf m) (siteCount (m .sites)) _ x) _
+      (all-cells (tableOf m) (siteCount (m .sites)) _ x) (λ s. tt)
 
 pub unclipped-late : (sites : List Float) (tri he : List ℕ) → Refuses Numbered (unclipped sites tri he)
 unfolding unclipped

@@ -10,9 +10,8 @@ use Rattle.laws.specs.Binary64.{zero}
 use Rattle.numbers.specs.Numbers.{EMPTY}
 use Rattle.utils.specs.declared.Point.{Point}
 use Rattle.bounding_box.specs.Box.{madeOf}
-use Rattle.mesh.specs.Mesh.{leftmostOf}
-use Rattle.mesh.specs.Accepted.{siteCount}
 use Rattle.mesh.specs.Rules.{callRules}
+use Rattle.mesh.specs.Accepted.{Mesh, tableOf}
 use Rattle.check_mesh.specs.AtExit.{atExit}
 use Rattle.definition.specs.declared.Fault.{Fault}
 use Rattle.definition.specs.Fault.{Outcome}
@@ -24,8 +23,8 @@ use Rattle.admission.specs.Admits.{askedRules}
 use Rattle.admission.specs.Slices.{Slices, roomOf}
 
 -- the number: of the rules up to 10, then the outcome's
-pub record Builds (sites : List Float) (tri he hull : List ℕ) (roomy : Bool) (asked : ℕ) (o : Outcome Fault Built) (r : ℕ) : Type 0 where
-  pub found : Finds (callRules sites tri he hull (roomy ≡ true) (askedRules asked) ++ askedRules (faultOf o .number)) 0 r
+pub record Builds (m : Mesh) (roomy : Bool) (asked : ℕ) (o : Outcome Fault Built) (r : ℕ) : Type 0 where
+  pub found : Finds (callRules m (roomy ≡ true) (askedRules asked) ++ askedRules (faultOf o .number)) 0 r
 
 -- a build with the outcome o, and the leftmost table
 pub record BuildAnswer (Number : ℕ → Type 0) (table : List ℕ) (o : Outcome Fault Built) (old new : Slices) (r : ℕ) : Type 0 where
@@ -36,14 +35,14 @@ pub record BuildAnswer (Number : ℕ → Type 0) (table : List ℕ) (o : Outcome
   pub offsets : new .offsets ≡ atExit EMPTY (padded (length (old .offsets)) EMPTY (offsetNumbers o)) (old .offsets) r
   pub counts : new .counts ≡ atExit EMPTY (padded (length (old .counts)) EMPTY (countNumbers o)) (old .counts) r
 
-module _ (sites : List Float) (tri he hull : List ℕ) where
+module _ (m : Mesh) where
   -- 1, 2, what is asked of the box, 6, 7 to 10, then the outcome's
   abbrev pub BuildAnswers : ℕ → Outcome Fault Built → Slices → Slices → ℕ → Type 0
-  BuildAnswers asked o old = BuildAnswer (Builds sites tri he hull (roomOf sites tri hull old) asked o) (leftmostOf tri he (siteCount sites)) o old
+  BuildAnswers asked o old = BuildAnswer (Builds m (roomOf m old) asked o) (tableOf m) o old
 
   -- clipped to the box of this center, width and height
   abbrev pub ClippedBuild : Point → Float → Float → Slices → Slices → ℕ → Type 0
-  ClippedBuild c w h = BuildAnswers (boxAsk c w h) (build sites tri he hull (madeOf c w h))
+  ClippedBuild c w h = BuildAnswers (boxAsk c w h) (build m (madeOf c w h))
 
   abbrev pub UnclippedBuild : Slices → Slices → ℕ → Type 0
-  UnclippedBuild = BuildAnswers 0 (unclipped sites tri he)
+  UnclippedBuild = BuildAnswers 0 (unclipped (m .sites) (m .triangles) (m .halfedges))

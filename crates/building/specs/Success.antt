@@ -2,7 +2,6 @@
 use mathlib.Core.Path.{_≡_, refl, sym, ap, _∙_}
 use mathlib.Core.Logic.{⊎-elim}
 use mathlib.Core.Bool.{Bool, true, false}
-use mathlib.Core.List.{List}
 use Prim.Native.Nat.{ℕ}
 use native.Mathlib.Omega.{arith}
 use lib.Ieee.{Float}
@@ -13,6 +12,7 @@ use Rattle.bounding_box.specs.Box.{madeOf}
 use Rattle.bounding_box.specs.Finite.{BoundedBox, box-bounded}
 use Rattle.bounding_box.specs.Rules.{okBox}
 use Rattle.bounding_box.specs.declared.BoundingBox.{BoundingBox}
+use Rattle.mesh.specs.Accepted.{Mesh}
 use Rattle.admission.specs.Asks.{boxAsk}
 use Rattle.admission.specs.Admits.{Admitted}
 use Rattle.admission.specs.Slices.{Slices, roomOf}
@@ -39,19 +39,19 @@ value-of : (o : Outcome Fault Built) → Refuses Numbered o → faultOf o .numbe
 value-of (ok b) late z = record { value = b; is = refl }
 value-of (refused f) late z = absurd (omega (arith, late .least))
 
-pub record Succeeds (sites : List Float) (tri he hull : List ℕ) (asked : ℕ) (o : Outcome Fault Built) (old : Slices) : Type 0 where
-  pub admission : Admitted sites tri he hull (roomOf sites tri hull old) asked
+pub record Succeeds (m : Mesh) (asked : ℕ) (o : Outcome Fault Built) (old : Slices) : Type 0 where
+  pub admission : Admitted m (roomOf m old) asked
   pub outcome : Value o
 
-module _ {sites : List Float} {tri he hull : List ℕ} {asked : ℕ} {o : Outcome Fault Built} {old new : Slices} {r : ℕ} where
-  pub zero-succeeds : Refuses Numbered o → BuildAnswers sites tri he hull asked o old new r → r ≡ 0 → Succeeds sites tri he hull asked o old
+module _ {m : Mesh} {asked : ℕ} {o : Outcome Fault Built} {old new : Slices} {r : ℕ} where
+  pub zero-succeeds : Refuses Numbered o → BuildAnswers m asked o old new r → r ≡ 0 → Succeeds m asked o old
   zero-succeeds late a z =
       ⊎-elim
       (λ x. absurd (x .1 z))
       (λ x. record { admission = admitted (x .0) refl; outcome = value-of o late (sym (x .1) ∙ z) })
       (builds-cases (a .number))
 
-  pub succeeds-zero : Succeeds sites tri he hull asked o old → BuildAnswers sites tri he hull asked o old new r → r ≡ 0
+  pub succeeds-zero : Succeeds m asked o old → BuildAnswers m asked o old new r → r ≡ 0
   succeeds-zero s a = builds-one (a .number) (built (admits (s .admission))) ∙ ap (λ p. faultOf p .number) (s .outcome .is)
 
 -- ---- demand 3 on an accepted clipped build
@@ -64,14 +64,14 @@ box-admitted c w h e = box-bounded c w h (go (okBox c w h) e)
     go false q = absurd (omega arith)
 
 -- each corner is wrapped at most once, by its owner; and what is built fits its room
-pub record SoundBuild (sites : List Float) (tri he hull : List ℕ) (b : BoundingBox) : Type 0 where
-  pub outcome : Value (build sites tri he hull b)
-  pub wraps : Wrapping sites tri he hull b (outcome .value)
-  pub fits : Room tri hull b (outcome .value)
+pub record SoundBuild (m : Mesh) (b : BoundingBox) : Type 0 where
+  pub outcome : Value (build m b)
+  pub wraps : Wrapping m b (outcome .value)
+  pub fits : Room (m .triangles) (m .hull) b (outcome .value)
 
-pub clipped-sound : {sites : List Float} {tri he hull : List ℕ} (c : Point) (w h : Float) {old new : Slices} {r : ℕ}
-    → ClippedBuild sites tri he hull c w h old new r → r ≡ 0 → SoundBuild sites tri he hull (madeOf c w h)
-clipped-sound {sites} {tri} {he} {hull} c w h a z =
-    let s = zero-succeeds (build-late sites tri he hull (madeOf c w h)) a z in
+pub clipped-sound : {m : Mesh} (c : Point) (w h : Float) {old new : Slices} {r : ℕ}
+    → ClippedBuild m c w h old new r → r ≡ 0 → SoundBuild m (madeOf c w h)
+clipped-sound {m} c w h a z =
+    let s = zero-succeeds (build-late m (madeOf c w h)) a z in
     let box = box-admitted c w h (s .admission .fit) in
     record { outcome = s .outcome; wraps = wrapping (s .admission .accepted) box (s .outcome .is); fits = room (s .admission .accepted) box (s .outcome .is) }

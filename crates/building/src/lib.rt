@@ -4,6 +4,7 @@ use build_counts::finish_clipped;
 use build_counts::finish_unclipped;
 use cell_builder::build_cells;
 use utils::Point;
+ghost use Rattle.mesh.specs.Accepted.{mesh};
 ghost use Rattle.admission.specs.Slices.{slices};
 ghost use Rattle.building.specs.Promise.{ClippedBuild, UnclippedBuild};
 
@@ -22,7 +23,7 @@ pub fn build(
     offsets: &mut [u32],
     counts: &mut [u32],
 ) -> u32
-    ensures { λ r. ⌜ ClippedBuild (now (sites .entry)) (now (triangles .entry)) (now (halfedges .entry)) (now (hull .entry)) center width height
+    ensures { λ r. ⌜ ClippedBuild (mesh (now (sites .entry)) (now (triangles .entry)) (now (halfedges .entry)) (now (hull .entry))) center width height
         (slices (now (work .entry)) (now (vertices .entry)) (now (indexes .entry)) (now (offsets .entry)) (now (counts .entry)))
         (slices (now (work .exit)) (now (vertices .exit)) (now (indexes .exit)) (now (offsets .exit)) (now (counts .exit))) r ⌝ }
 {
@@ -72,7 +73,7 @@ pub fn build_unclipped(
     offsets: &mut [u32],
     counts: &mut [u32],
 ) -> u32
-    ensures { λ r. ⌜ UnclippedBuild (now (sites .entry)) (now (triangles .entry)) (now (halfedges .entry)) (now (hull .entry))
+    ensures { λ r. ⌜ UnclippedBuild (mesh (now (sites .entry)) (now (triangles .entry)) (now (halfedges .entry)) (now (hull .entry)))
         (slices (now (work .entry)) (now (vertices .entry)) (now (indexes .entry)) (now (offsets .entry)) (now (counts .entry)))
         (slices (now (work .exit)) (now (vertices .exit)) (now (indexes .exit)) (now (offsets .exit)) (now (counts .exit))) r ⌝ }
 {

@@ -8,7 +8,7 @@ use Rattle.utils.specs.Flat.{points}
 use Rattle.bounding_box.specs.Box.{cornersOf}
 use Rattle.bounding_box.specs.declared.BoundingBox.{BoundingBox}
 use Rattle.vertices.specs.Store.{Holds}
-use Rattle.mesh.specs.Accepted.{siteCount}
+use Rattle.mesh.specs.Accepted.{Mesh, siteCount}
 use Rattle.definition.specs.declared.Fault.{Fault}
 use Rattle.definition.specs.Fault.{Outcome, ok, refused, fault}
 use Rattle.definition.specs.Build.{Built, Extensions, extensions, extendFrom, clipAll}
@@ -52,22 +52,22 @@ BegunBy h f found (refused e) ix p v₁ ix₁ = (p .fault ≡ e) × (0 < e .numb
 -- ---- all cells
 
 -- owners that are sites of the mesh
-pub record Makeable (sites : List Float) (tri he hull table : List ℕ) (b : BoundingBox) (owners : List ℕ) (numbers indexes offsets : ℕ) : Type 0 where
-  pub admitted : AdmittedBuild sites tri he hull table b numbers indexes offsets
+pub record Makeable (m : Mesh) (table : List ℕ) (b : BoundingBox) (owners : List ℕ) (numbers indexes offsets : ℕ) : Type 0 where
+  pub admitted : AdmittedBuild m table b numbers indexes offsets
   pub four : length owners ≡ 4
-  pub owner-sites : (k : ℕ) → k < 4 → getD owners k 0 < siteCount sites
+  pub owner-sites : (k : ℕ) → k < 4 → getD owners k 0 < siteCount (m .sites)
 
 -- by the outcome of the extensions: all cells on them, or their refusal
-abbrev pub Makes : List Float → List ℕ → List ℕ → List ℕ → List ℕ → BoundingBox → List ℕ → Outcome Fault Extensions → Progress → List Float
-    → List ℕ → List ℕ → Type 0
-Makes sites tri he hull table b owners (ok x) p v₁ ix₁ off₁ =
-    Does tri he (frameOf b (length tri) (length hull)) off₁ (ground hull (siteCount sites) owners x) (clipAll b (length tri / 3) tri he hull table (siteCount sites) owners x) p v₁ ix₁
-Makes sites tri he hull table b owners (refused e) p v₁ ix₁ off₁ = (p .fault ≡ e) × (0 < e .number)
+abbrev pub Makes : Mesh → List ℕ → BoundingBox → List ℕ → Outcome Fault Extensions → Progress → List Float → List ℕ → List ℕ → Type 0
+Makes m table b owners (ok x) p v₁ ix₁ off₁ =
+    Does (m .triangles) (m .halfedges) (frameOf b (length (m .triangles)) (length (m .hull))) off₁ (ground (m .hull) (siteCount (m .sites)) owners x)
+    (clipAll b (length (m .triangles) / 3) (m .triangles) (m .halfedges) (m .hull) table (siteCount (m .sites)) owners x) p v₁ ix₁
+Makes m table b owners (refused e) p v₁ ix₁ off₁ = (p .fault ≡ e) × (0 < e .number)
 
 -- on the circumcenters that stand in v
-abbrev pub MadeCells : List Float → List ℕ → List ℕ → List ℕ → List ℕ → BoundingBox → List ℕ → List Float → Progress → List Float → List ℕ → List ℕ → Type 0
-MadeCells sites tri he hull table b owners v p v₁ ix₁ off₁ =
-    Makes sites tri he hull table b owners (extendedOf sites tri hull table b (length tri / 3) v) p v₁ ix₁ off₁
+abbrev pub MadeCells : Mesh → List ℕ → BoundingBox → List ℕ → List Float → Progress → List Float → List ℕ → List ℕ → Type 0
+MadeCells m table b owners v p v₁ ix₁ off₁ =
+    Makes m table b owners (extendedOf (m .sites) (m .triangles) (m .hull) table b (length (m .triangles) / 3) v) p v₁ ix₁ off₁
 
 -- ---- all cells, and the answer
 
@@ -76,14 +76,14 @@ abbrev pub AnsweredBuild : Outcome Fault Built → List Float → List ℕ → L
 AnsweredBuild o v ix off r v₁ ix₁ off₁ = (r ≡ outcomeAnswer o) × BuiltInto o v ix off v₁ ix₁ off₁
 
 -- all cells made, by the outcome of the extensions, and settled from there
-pub record BuiltCells (sites : List Float) (tri he hull table : List ℕ) (b : BoundingBox) (owners : List ℕ) (v : List Float) (ix off : List ℕ)
+pub record BuiltCells (m : Mesh) (table : List ℕ) (b : BoundingBox) (owners : List ℕ) (v : List Float) (ix off : List ℕ)
     (r : CellsAnswer) (v₁ : List Float) (ix₁ off₁ : List ℕ) : Type 0 where
   pub progress : Progress
   pub made-v : List Float
   pub made-ix : List ℕ
   pub made-off : List ℕ
-  pub makes : MadeCells sites tri he hull table b owners v progress made-v made-ix made-off
-  pub settled : SettledCells (siteCount sites) progress owners made-v made-ix made-off r v₁ ix₁ off₁
+  pub makes : MadeCells m table b owners v progress made-v made-ix made-off
+  pub settled : SettledCells (siteCount (m .sites)) progress owners made-v made-ix made-off r v₁ ix₁ off₁
   pub long-v : length made-v ≡ length v
   pub long-ix : length made-ix ≡ length ix
   pub long-off : length made-off ≡ length off

@@ -14,6 +14,7 @@ use rings::ownership::calculate_corner_ownership;
 use start::extend;
 use start::frame;
 ghost use lib.ListN.{length};
+ghost use Rattle.mesh.specs.Accepted.{mesh};
 ghost use Rattle.definition.specs.Build.{build};
 ghost use Rattle.cell_builder.specs.AdmittedBuild.{AdmittedBuild};
 ghost use Rattle.cell_builder.specs.Start.{Makeable, MadeCells, AnsweredBuild, BuiltCells};
@@ -31,8 +32,8 @@ fn make_cells(
     indexes: &mut [u32],
     offsets: &mut [u32],
 ) -> Progress
-    requires { ⌜ Makeable (now sites) (now triangles) (now halfedges) (now hull) (now table) bounds owners (length (now vertices)) (length (now indexes)) (length (now offsets)) ⌝ }
-    ensures { λ r. ⌜ MadeCells (now (sites .entry)) (now (triangles .entry)) (now (halfedges .entry)) (now (hull .entry)) (now (table .entry)) bounds
+    requires { ⌜ Makeable (mesh (now sites) (now triangles) (now halfedges) (now hull)) (now table) bounds owners (length (now vertices)) (length (now indexes)) (length (now offsets)) ⌝ }
+    ensures { λ r. ⌜ MadeCells (mesh (now (sites .entry)) (now (triangles .entry)) (now (halfedges .entry)) (now (hull .entry))) (now (table .entry)) bounds
         owners (now (vertices .entry)) r (now (vertices .exit)) (now (indexes .exit)) (now (offsets .exit)) ⌝ }
 {
     let f = frame(bounds, triangles.len(), hull.len());
@@ -68,9 +69,9 @@ fn clip_build(
     indexes: &mut [u32],
     offsets: &mut [u32],
 ) -> CellsAnswer
-    requires { ⌜ Makeable (now sites) (now triangles) (now halfedges) (now hull) (now table) bounds owners
+    requires { ⌜ Makeable (mesh (now sites) (now triangles) (now halfedges) (now hull)) (now table) bounds owners
         (length (now vertices)) (length (now indexes)) (length (now offsets)) ⌝ }
-    ensures { λ r. ⌜ BuiltCells (now (sites .entry)) (now (triangles .entry)) (now (halfedges .entry)) (now (hull .entry)) (now (table .entry)) bounds
+    ensures { λ r. ⌜ BuiltCells (mesh (now (sites .entry)) (now (triangles .entry)) (now (halfedges .entry)) (now (hull .entry))) (now (table .entry)) bounds
         owners (now (vertices .entry)) (now (indexes .entry)) (now (offsets .entry)) r (now (vertices .exit)) (now (indexes .exit)) (now (offsets .exit)) ⌝ }
 {
     let p = make_cells(
@@ -100,8 +101,8 @@ pub fn build_cells(
     indexes: &mut [u32],
     offsets: &mut [u32],
 ) -> CellsAnswer
-    requires { ⌜ AdmittedBuild (now sites) (now triangles) (now halfedges) (now hull) (now table) bounds (length (now vertices)) (length (now indexes)) (length (now offsets)) ⌝ }
-    ensures { λ r. ⌜ AnsweredBuild (build (now (sites .entry)) (now (triangles .entry)) (now (halfedges .entry)) (now (hull .entry)) bounds)
+    requires { ⌜ AdmittedBuild (mesh (now sites) (now triangles) (now halfedges) (now hull)) (now table) bounds (length (now vertices)) (length (now indexes)) (length (now offsets)) ⌝ }
+    ensures { λ r. ⌜ AnsweredBuild (build (mesh (now (sites .entry)) (now (triangles .entry)) (now (halfedges .entry)) (now (hull .entry))) bounds)
         (now (vertices .entry)) (now (indexes .entry)) (now (offsets .entry)) r (now (vertices .exit)) (now (indexes .exit)) (now (offsets .exit)) ⌝ }
 {
     let t = calculate_circumcenters(sites, triangles, vertices);

@@ -22,10 +22,11 @@ use Rattle.definition.specs.Build.{Built, centerAt, centersFrom, ownersFrom, ex
 use Prim.Native.Nat.{ℕ}
 use lib.ListN.{length}
 use Rattle.definition.specs.declared.Fault.{Fault}
-use Rattle.form.specs.Form.{formOf, numbersOf, float, siteFloats, triangleSites, trianglePairs}
+use Rattle.form.specs.Form.{formOf, float}
 use Rattle.form.specs.Square.{square, squareBytes, two-is}
 use Rattle.listing.specs.Text.{ascii, digits, decimal}
 use Rattle.listing.specs.Listing.{entries, labelled, counts, cellLine, corners}
+use Rattle.printing.specs.Printed.{meshOf}
 use Rattle.cells.specs.Printed.{linesOf, boxText}
 
 -- the text of a build of n sites and T triangles, where it is not refused
@@ -36,8 +37,7 @@ texted n T (refused f) = refused f
 pub rows :
     (length squareBytes ≡ 172)
     × (formOf square ≡ squareBytes)
-    × (texted 4 2 (build (numbersOf siteFloats (square .sites)) (numbersOf triangleSites (square .triangles)) (numbersOf trianglePairs (square .triangles))
-    (square .hull) (madeOf (at (float 0) (float 0)) (float two-is) (float two-is)))
+    × (texted 4 2 (build (meshOf square) (madeOf (at (float 0) (float 0)) (float two-is) (float two-is)))
     ≡ ok (ascii "sites 4 triangles 2 vertices 14\ncell 0: 1 10 2 11 0\ncell 1: 0 11 3 12\ncell 2: 0 12 4 13 1\ncell 3: 1 13 5 10\ncorners 0 1 2 3 lost 0\n"))
 unfolding trailingZeros ofBits add sub mul div lt le eq neg sum round units odd size span climb same wholeRoot nearestRoot rootOfUnits sqrtOf nearOf
     dist2Of centerOf okCenter madeOf cornersOf insideOf firstSide whichOf oneIf twoIf firstHeld orderPick eitherOf rightHit leftHit topHit bottomHit

@@ -5,14 +5,14 @@ use mathlib.Core.List.{List}
 use Prim.Native.Nat.{ℕ}
 use native.Mathlib.Omega.{arith}
 use lib.Ieee.{Float, ofBits, neg, lt, le, add, sub, div}
-use Rattle.printing.specs.Printed.{Shows, built, Prints, sound}
+use Rattle.printing.specs.Printed.{Shows, built, meshOf, Prints, sound}
 use Rattle.cells.specs.Printed.{listingTexts}
 use Rattle.utils.specs.Plane.{at}
 use Rattle.utils.specs.Rules.{okCoord, okSite}
 use Rattle.bounding_box.specs.Box.{madeOf}
 use Rattle.bounding_box.specs.Rules.{okBox}
-use Rattle.mesh.specs.Accepted.{Accepted}
-use Rattle.mesh.specs.Square as mesh
+use Rattle.mesh.specs.Accepted.{mesh, Accepted}
+use Rattle.mesh.specs.Square as lists
 use Rattle.admission.specs.laws.Admits.{admits}
 use Rattle.definition.specs.declared.Fault.{Fault}
 use Rattle.definition.specs.Fault.{Outcome, ok, refused}
@@ -21,7 +21,7 @@ use Rattle.admission.specs.Asks.{boxAsk}
 use Rattle.admission.specs.Slices.{Slices, roomOf}
 use Rattle.building.specs.Success.{Value, succeeds-zero}
 use Rattle.voronoi.specs.Builds.{Build}
-use Rattle.form.specs.Form.{MeshFits, numbersOf, float, siteFloats, triangleSites, trianglePairs}
+use Rattle.form.specs.Form.{MeshFits, numbersOf, float, siteFloats}
 use Rattle.form.specs.Square.{square, squareBytes, two-is}
 use Rattle.listing.specs.Text.{ascii}
 use Rattle.cells.specs.Printed.{boxText}
@@ -32,21 +32,12 @@ abbrev pub text : List ℕ
 text = ascii "sites 4 triangles 2 vertices 14\ncell 0: 1 10 2 11 0\ncell 1: 0 11 3 12\ncell 2: 0 12 4 13 1\ncell 3: 1 13 5 10\ncorners 0 1 2 3 lost 0\n"
 
 -- ---- the mesh of "square"
-abbrev pub formSites : List Float
-formSites = numbersOf siteFloats (square .sites)
-
-abbrev pub formTri : List ℕ
-formTri = numbersOf triangleSites (square .triangles)
-
-abbrev pub formHe : List ℕ
-formHe = numbersOf trianglePairs (square .triangles)
-
-same-sites : mesh.sites ≡ formSites
+same-sites : lists.sites ≡ numbersOf siteFloats (square .sites)
 unfolding ofBits neg
 same-sites = refl
 
-accepted : Accepted formSites formTri formHe (square .hull)
-accepted = subst (λ (l : List Float). Accepted l mesh.tri mesh.he mesh.hull) same-sites mesh.square-accepted
+accepted : Accepted (meshOf square)
+accepted = subst (λ (l : List Float). Accepted (mesh l lists.tri lists.he lists.hull)) same-sites lists.square-accepted
 
 fits : MeshFits square
 fits = record {
@@ -82,6 +73,6 @@ value : (o : Outcome Fault Built) (t : List ℕ) → texted 4 2 o ≡ ok t → V
 value (ok b) t e = record { value = b; is = refl }
 value (refused f) t e = let q : _≡_ {A = ℕ} 0 1 = cc in absurd (omega arith)
 
-pub square-answers : {old new : Slices} {r : ℕ} → Build formSites formTri formHe (square .hull) (at (float 0) (float 0)) (float two-is) (float two-is) old new r
-    → roomOf formSites formTri (square .hull) old ≡ true → r ≡ 0
+pub square-answers : {old new : Slices} {r : ℕ} → Build (meshOf square) (at (float 0) (float 0)) (float two-is) (float two-is) old new r
+    → roomOf (meshOf square) old ≡ true → r ≡ 0
 square-answers a room = succeeds-zero (record { admission = record { accepted = accepted; roomed = room; fit = box-fits }; outcome = value _ text (rows .2) }) a

@@ -8,6 +8,7 @@ ghost use mathlib.Core.Path.{_≡_};
 ghost use Prim.Native.Nat.{_<_, _≤_};
 ghost use lib.Ieee.{nan};
 ghost use lib.ListN.{length, getD, take};
+ghost use Rattle.mesh.specs.Accepted.{mesh};
 ghost use Rattle.printing.specs.Printed.{InBox, WithoutBox, Prints, ShownIn, shown, ByMode, ByForm};
 ghost use Rattle.cells.specs.Printed.{listingTexts};
 ghost use Rattle.utils.specs.Plane.{at};
@@ -78,7 +79,7 @@ fn in_box(
     hull: &[u32],
 ) -> usize
     requires { ⌜ SheetSized (length (now sites)) (length (now triangles)) (length (now hull)) (length (now out)) ⌝ }
-    ensures { λ r. ⌜ InBox listingTexts (now (sites .entry)) (now (triangles .entry)) (now (halfedges .entry)) (now (hull .entry))
+    ensures { λ r. ⌜ InBox listingTexts (mesh (now (sites .entry)) (now (triangles .entry)) (now (halfedges .entry)) (now (hull .entry)))
         (at (getD bounds 0 nan) (getD bounds 1 nan)) (getD bounds 2 nan) (getD bounds 3 nan) (take r (now (out .exit))) × (r ≤ length (now (out .entry))) ⌝ }
 {
     let mut work = [0u32; 96];
@@ -114,7 +115,7 @@ fn without_box(
     hull: &[u32],
 ) -> usize
     requires { ⌜ SheetSized (length (now sites)) (length (now triangles)) (length (now hull)) (length (now out)) ⌝ }
-    ensures { λ r. ⌜ WithoutBox listingTexts (now (sites .entry)) (now (triangles .entry)) (now (halfedges .entry)) (now (hull .entry))
+    ensures { λ r. ⌜ WithoutBox listingTexts (mesh (now (sites .entry)) (now (triangles .entry)) (now (halfedges .entry)) (now (hull .entry)))
         (take r (now (out .exit))) × (r ≤ length (now (out .entry))) ⌝ }
 {
     let mut work = [0u32; 96];
@@ -148,7 +149,7 @@ fn of_mesh(
     hull: &[u32],
 ) -> usize
     requires { ⌜ SheetSized (length (now sites)) (length (now triangles)) (length (now hull)) (length (now out)) ⌝ }
-    ensures { λ r. ⌜ ByMode listingTexts unclipped bounds (now (sites .entry)) (now (triangles .entry)) (now (halfedges .entry)) (now (hull .entry))
+    ensures { λ r. ⌜ ByMode listingTexts unclipped bounds (mesh (now (sites .entry)) (now (triangles .entry)) (now (halfedges .entry)) (now (hull .entry)))
         (take r (now (out .exit))) × (r ≤ length (now (out .entry))) ⌝ }
 {
     if unclipped {

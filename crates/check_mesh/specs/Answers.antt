@@ -2,7 +2,6 @@
 use mathlib.Core.Path.{_≡_}
 use mathlib.Core.List.{List, _++_}
 use Prim.Native.Nat.{ℕ, _≤_}
-use lib.Ieee.{Float}
 use lib.ListN.{length}
 use Rattle.laws.specs.Refusals.{Finds}
 use Rattle.numbers.specs.Numbers.{EMPTY}
@@ -10,12 +9,12 @@ use Rattle.mesh.specs.declared.MeshFault.{MeshFault}
 use Rattle.mesh.specs.declared.MeshFault.the-variants.{None}
 use Rattle.mesh.specs.Mesh.{leftmostIn}
 use Rattle.mesh.specs.Rules.{numberOf, shapeRules, hullRules, fanRules, topologyRules, meshRules}
-use Rattle.mesh.specs.Accepted.{siteCount}
+use Rattle.mesh.specs.Accepted.{Mesh, siteCount}
 use Rattle.check_mesh.specs.AtExit.{atExit}
 
 -- a work slice after a mesh query with the number r: the leftmost table and then EMPTY, or what it held, or EMPTY throughout
-abbrev pub workAfter : List ℕ → List ℕ → ℕ → List ℕ → ℕ → List ℕ
-workAfter tri he n old r = atExit EMPTY (leftmostIn tri he n (length old)) old r
+abbrev pub workAfter : Mesh → List ℕ → ℕ → List ℕ
+workAfter m old r = atExit EMPTY (leftmostIn (m .triangles) (m .halfedges) (siteCount (m .sites)) (length old)) old r
 
 -- rules 7 and 8
 abbrev pub ShapeAnswer : List ℕ → List ℕ → ℕ → MeshFault → Type 0
@@ -29,12 +28,12 @@ pub record BorderAnswer (tri he hull : List ℕ) (sites : ℕ) (old new : List �
 -- rules 7 to 10
 pub record TopologyAnswer (tri he hull : List ℕ) (sites : ℕ) (old new : List ℕ) (f : MeshFault) : Type 0 where
   pub verdict : Finds (topologyRules tri he hull sites) None f
-  pub work : new ≡ workAfter tri he sites old (numberOf f)
+  pub work : new ≡ atExit EMPTY (leftmostIn tri he sites (length old)) old (numberOf f)
 
 -- rules 1, 2 and 6 to 10, of a work slice of w entries
-abbrev pub Finding : List Float → List ℕ → List ℕ → List ℕ → ℕ → MeshFault → Type 0
-Finding sites tri he hull w = Finds (meshRules sites tri he hull (siteCount sites ≤ w)) None
+abbrev pub Finding : Mesh → ℕ → MeshFault → Type 0
+Finding m w = Finds (meshRules m (siteCount (m .sites) ≤ w)) None
 
-pub record MeshAnswer (sites : List Float) (tri he hull old new : List ℕ) (f : MeshFault) : Type 0 where
-  pub finding : Finding sites tri he hull (length old) f
-  pub work : new ≡ workAfter tri he (siteCount sites) old (numberOf f)
+pub record MeshAnswer (m : Mesh) (old new : List ℕ) (f : MeshFault) : Type 0 where
+  pub finding : Finding m (length old) f
+  pub work : new ≡ workAfter m old (numberOf f)

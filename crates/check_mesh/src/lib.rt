@@ -6,7 +6,7 @@ ghost use Rattle.numbers.specs.Numbers.{EMPTY};
 ghost use Rattle.laws.specs.Decide.{Says};
 ghost use Rattle.mesh.specs.Mesh.{AllSound, AllPaired};
 ghost use Rattle.mesh.specs.Rules.{numberOf};
-ghost use Rattle.mesh.specs.Accepted.{Counted};
+ghost use Rattle.mesh.specs.Accepted.{mesh, Counted};
 ghost use Rattle.check_mesh.specs.Answers.{ShapeAnswer, BorderAnswer, TopologyAnswer, MeshAnswer};
 use mesh::MeshFault;
 
@@ -133,7 +133,7 @@ pub fn check_mesh(
     hull: &[u32],
     work: &mut [u32],
 ) -> MeshFault
-    ensures { λ r. ⌜ MeshAnswer (now (sites .entry)) (now (triangles .entry)) (now (halfedges .entry)) (now (hull .entry)) (now (work .entry)) (now (work .exit)) r ⌝ }
+    ensures { λ r. ⌜ MeshAnswer (mesh (now (sites .entry)) (now (triangles .entry)) (now (halfedges .entry)) (now (hull .entry))) (now (work .entry)) (now (work .exit)) r ⌝ }
 {
     if !counts_ok(sites.len(), triangles.len(), halfedges.len(), hull.len()) {
         return MeshFault::Counts;

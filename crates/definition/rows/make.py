@@ -84,7 +84,7 @@ def read(path):
     if box is None:
         call = "\n    ".join(["unclipped"] + mesh[:3])
     else:
-        call = "\n    ".join(["build"] + mesh + [f"(rowBox {' '.join(box)})"])
+        call = "\n    ".join(["build", "(mesh"] + mesh[:3] + [mesh[3] + ")"] + [f"(rowBox {' '.join(box)})"])
     return call, lines[0].lstrip("# ")
 
 

@@ -18,7 +18,7 @@ use Rattle.bounding_box.specs.Box.{cornersOf}
 use Rattle.bounding_box.specs.declared.BoundingBox.{BoundingBox}
 use Rattle.vertices.specs.Add.{addVertex}
 use Rattle.mesh.specs.Mesh.{startOf, endOf, leftmostOf, wholeOf}
-use Rattle.mesh.specs.Accepted.{siteCount}
+use Rattle.mesh.specs.Accepted.{Mesh, siteCount}
 use Rattle.mesh.specs.Hull.{nextSite}
 use Rattle.paths.specs.Path.{pathEnd}
 use Rattle.definition.specs.declared.Fault.{Fault}
@@ -169,13 +169,13 @@ clipAll b nc tri he hull table n owners x =
     clipRest b nc tri he 0 (length tri) s
 
 -- owners: as found, before wrapping
-unfoldable pub build : List Float → List ℕ → List ℕ → List ℕ → BoundingBox → Outcome Fault Built
-build sites tri he hull b =
-    let n = siteCount sites in
-    let nc = length tri / 3 in
-    let table = leftmostOf tri he n in
-    let owners = ownersFrom sites tri he table n (getD hull 0 0) (cornersOf b) in
-    andThen (centersFrom sites tri 0 nc []) λ centers.
-    andThen (extendFrom sites tri hull table nc 0 (length hull) (extensions (centers ++ cornersOf b) [] [])) λ x.
-    andThen (clipAll b nc tri he hull table n owners x) λ s.
+unfoldable pub build : Mesh → BoundingBox → Outcome Fault Built
+build m b =
+    let n = siteCount (m .sites) in
+    let nc = length (m .triangles) / 3 in
+    let table = leftmostOf (m .triangles) (m .halfedges) n in
+    let owners = ownersFrom (m .sites) (m .triangles) (m .halfedges) table n (getD (m .hull) 0 0) (cornersOf b) in
+    andThen (centersFrom (m .sites) (m .triangles) 0 nc []) λ centers.
+    andThen (extendFrom (m .sites) (m .triangles) (m .hull) table nc 0 (length (m .hull)) (extensions (centers ++ cornersOf b) [] [])) λ x.
+    andThen (clipAll b nc (m .triangles) (m .halfedges) (m .hull) table n owners x) λ s.
     ok (record { verts = s .verts; cells = s .cells; owners = owners; lost = lostFrom nc 4 (s .cells); steps = s .steps })

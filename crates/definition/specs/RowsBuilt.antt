@@ -15,6 +15,7 @@ use Rattle.line_crossings.specs.Line.{oneIf, twoIf, firstHeld, rightHit, leftHi
 use Rattle.vertices.specs.Add.{nearPt, findNear, addVertex}
 use Rattle.mesh.specs.Mesh.{nextOf, chosen, tableTo, turnOf, walkOf}
 use Rattle.mesh.specs.Hull.{nextPlace}
+use Rattle.mesh.specs.Accepted.{mesh}
 use Rattle.iterator.specs.Neighbours.{lastEnd, startsOf, neighboursOf}
 use Rattle.paths.specs.Path.{distOf, nearestOf, hopOf, pathEnd}
 use Rattle.definition.specs.Fault.{ok, andThen, atEdge}
@@ -28,11 +29,12 @@ pub rows :
     -- an edge clipped from both its ends gives two crossings, so that the two cells share no vertex
     (rowOf
     (build
+    (mesh
     (floats
     (0x3fd6800000000000 ∷ 0 ∷ 0x3fe6000000000000 ∷ 0xbfdb800000000000 ∷ 0 ∷ 0x3fd4000000000000 ∷ []))
     (2 ∷ 0 ∷ 1 ∷ [])
     (EMPTY ∷ EMPTY ∷ EMPTY ∷ [])
-    (1 ∷ 2 ∷ 0 ∷ [])
+    (1 ∷ 2 ∷ 0 ∷ []))
     (rowBox 0 0 0x4000000000000000 0x4000000000000000))
     ≡ ok (record {
       vertices = floats
@@ -48,12 +50,13 @@ pub rows :
     -- empty hull cells are clipped again, from a half-edge that is not the leftmost
     × (rowOf
     (build
+    (mesh
     (floats
     (0xbfe0000000000000 ∷ 0xbff8000000000000 ∷ 0x3fe0000000000000 ∷ 0xbff0000000000000 ∷ 0x3ff0000000000000 ∷ 0x3fe0000000000000 ∷ 0x3ff8000000000000 ∷ 0xbfe0000000000000 ∷
     0xbff0000000000000 ∷ 0x3fe0000000000000 ∷ []))
     (2 ∷ 1 ∷ 4 ∷ 0 ∷ 4 ∷ 1 ∷ 3 ∷ 1 ∷ 2 ∷ [])
     (7 ∷ 4 ∷ EMPTY ∷ EMPTY ∷ 1 ∷ EMPTY ∷ EMPTY ∷ 0 ∷ EMPTY ∷ [])
-    (4 ∷ 2 ∷ 3 ∷ 1 ∷ 0 ∷ [])
+    (4 ∷ 2 ∷ 3 ∷ 1 ∷ 0 ∷ []))
     (rowBox 0 0xbfd0000000000000 0x3fd0000000000000 0x3fd0000000000000))
     ≡ ok (record {
       vertices = floats
@@ -67,12 +70,13 @@ pub rows :
     -- a cell that covers the whole box is empty, and all corners are lost
     × (rowOf
     (build
+    (mesh
     (floats
     (0xbfe0000000000000 ∷ 0xbfe0000000000000 ∷ 0xbfe0000000000000 ∷ 0x3fe0000000000000 ∷ 0x3fe0000000000000 ∷ 0x3fe0000000000000 ∷ 0x3fe0000000000000 ∷ 0xbfe0000000000000 ∷
     []))
     (0 ∷ 1 ∷ 2 ∷ 0 ∷ 2 ∷ 3 ∷ [])
     (EMPTY ∷ EMPTY ∷ 3 ∷ 2 ∷ EMPTY ∷ EMPTY ∷ [])
-    (0 ∷ 1 ∷ 2 ∷ 3 ∷ [])
+    (0 ∷ 1 ∷ 2 ∷ 3 ∷ []))
     (rowBox 0xbfe0000000000000 0xbfe0000000000000 0x3fc0000000000000 0x3fc0000000000000))
     ≡ ok (record {
       vertices = floats
@@ -85,12 +89,13 @@ pub rows :
     -- a site inside: its cell is its ring of circumcenters
     × (rowOf
     (build
+    (mesh
     (floats
     (0xbfe8000000000000 ∷ 0xbfe8000000000000 ∷ 0xbfe8000000000000 ∷ 0x3fe8000000000000 ∷ 0x3fe8000000000000 ∷ 0x3fe8000000000000 ∷ 0x3fe8000000000000 ∷ 0xbfe8000000000000 ∷
     0x3fc0000000000000 ∷ 0 ∷ []))
     (0 ∷ 1 ∷ 4 ∷ 1 ∷ 2 ∷ 4 ∷ 2 ∷ 3 ∷ 4 ∷ 3 ∷ 0 ∷ 4 ∷ [])
     (EMPTY ∷ 5 ∷ 10 ∷ EMPTY ∷ 8 ∷ 1 ∷ EMPTY ∷ 11 ∷ 4 ∷ EMPTY ∷ 2 ∷ 7 ∷ [])
-    (0 ∷ 1 ∷ 2 ∷ 3 ∷ [])
+    (0 ∷ 1 ∷ 2 ∷ 3 ∷ []))
     (rowBox 0 0 0x4000000000000000 0x4000000000000000))
     ≡ ok (record {
       vertices = floats
@@ -105,11 +110,12 @@ pub rows :
     -- a hull edge just long enough: see refused_short-edge
     × (rowOf
     (build
+    (mesh
     (floats
     (0 ∷ 0 ∷ 0x1e60000000000000 ∷ 0 ∷ 0 ∷ 0x3ff0000000000000 ∷ []))
     (0 ∷ 1 ∷ 2 ∷ [])
     (EMPTY ∷ EMPTY ∷ EMPTY ∷ [])
-    (0 ∷ 1 ∷ 2 ∷ [])
+    (0 ∷ 1 ∷ 2 ∷ []))
     (rowBox 0 0 0x4000000000000000 0x4000000000000000))
     ≡ ok (record {
       vertices = floats
@@ -123,11 +129,12 @@ pub rows :
     -- corners that are lost on sound input
     × (rowOf
     (build
+    (mesh
     (floats
     (0 ∷ 0x3fe0000000000000 ∷ 0x3fe0000000000000 ∷ 0x3fe0000000000000 ∷ 0x3fe0000000000000 ∷ 0 ∷ []))
     (0 ∷ 1 ∷ 2 ∷ [])
     (EMPTY ∷ EMPTY ∷ EMPTY ∷ [])
-    (2 ∷ 0 ∷ 1 ∷ [])
+    (2 ∷ 0 ∷ 1 ∷ []))
     (rowBox 0 0 0x4000000000000000 0x4000000000000000))
     ≡ ok (record {
       vertices = floats
@@ -141,12 +148,13 @@ pub rows :
     -- the marks: of the three 2s of cell 0 one is wrapped, two are crossings that reuse the corner
     × (rowOf
     (build
+    (mesh
     (floats
     (0xbfe0000000000000 ∷ 0xbfe0000000000000 ∷ 0xbfe0000000000000 ∷ 0x3fe0000000000000 ∷ 0x3fe0000000000000 ∷ 0x3fe0000000000000 ∷ 0x3fe0000000000000 ∷ 0xbfe0000000000000 ∷
     []))
     (0 ∷ 1 ∷ 2 ∷ 0 ∷ 2 ∷ 3 ∷ [])
     (EMPTY ∷ EMPTY ∷ 3 ∷ 2 ∷ EMPTY ∷ EMPTY ∷ [])
-    (0 ∷ 1 ∷ 2 ∷ 3 ∷ [])
+    (0 ∷ 1 ∷ 2 ∷ 3 ∷ []))
     (rowBox 0 0 0x4202a05f20000000 0x4202a05f20000000))
     ≡ ok (record {
       vertices = floats
@@ -161,11 +169,12 @@ pub rows :
     -- a circumcenter on the right side: the crossing there is a vertex of its own, no circumcenter is taken again
     × (rowOf
     (build
+    (mesh
     (floats
     (0x4000000000000000 ∷ 0xbff0000000000000 ∷ 0 ∷ 0xbff0000000000000 ∷ 0x3ff0000000000000 ∷ 0x3ff0000000000000 ∷ []))
     (2 ∷ 0 ∷ 1 ∷ [])
     (EMPTY ∷ EMPTY ∷ EMPTY ∷ [])
-    (2 ∷ 0 ∷ 1 ∷ [])
+    (2 ∷ 0 ∷ 1 ∷ []))
     (rowBox 0 0 0x4000000000000000 0x4000000000000000))
     ≡ ok (record {
       vertices = floats
@@ -179,11 +188,12 @@ pub rows :
     -- the first hull cell has no vertex inside, and its walk begins at the extension after it
     × (rowOf
     (build
+    (mesh
     (floats
     (0xbff0000000000000 ∷ 0x4000000000000000 ∷ 0x3ff0000000000000 ∷ 0x3ff0000000000000 ∷ 0x4000000000000000 ∷ 0xc000000000000000 ∷ []))
     (1 ∷ 2 ∷ 0 ∷ [])
     (EMPTY ∷ EMPTY ∷ EMPTY ∷ [])
-    (2 ∷ 0 ∷ 1 ∷ [])
+    (2 ∷ 0 ∷ 1 ∷ []))
     (rowBox 0xc1bdcd6500000000 0xc1cdcd6500000000 0x41bdcd6500000000 0x41ddcd6500000000))
     ≡ ok (record {
       vertices = floats
@@ -197,12 +207,13 @@ pub rows :
     -- "square" of docs/RULES.md
     × (rowOf
     (build
+    (mesh
     (floats
     (0xbfe0000000000000 ∷ 0xbfe0000000000000 ∷ 0xbfe0000000000000 ∷ 0x3fe0000000000000 ∷ 0x3fe0000000000000 ∷ 0x3fe0000000000000 ∷ 0x3fe0000000000000 ∷ 0xbfe0000000000000 ∷
     []))
     (0 ∷ 1 ∷ 2 ∷ 0 ∷ 2 ∷ 3 ∷ [])
     (EMPTY ∷ EMPTY ∷ 3 ∷ 2 ∷ EMPTY ∷ EMPTY ∷ [])
-    (0 ∷ 1 ∷ 2 ∷ 3 ∷ [])
+    (0 ∷ 1 ∷ 2 ∷ 3 ∷ []))
     (rowBox 0 0 0x4000000000000000 0x4000000000000000))
     ≡ ok (record {
       vertices = floats
@@ -217,11 +228,12 @@ pub rows :
     -- a cell passes the corners that it has wrapped once more
     × (rowOf
     (build
+    (mesh
     (floats
     (0xbfe0000000000000 ∷ 0 ∷ 0xbff8000000000000 ∷ 0 ∷ 0x3fe0000000000000 ∷ 0xbfe0000000000000 ∷ []))
     (0 ∷ 2 ∷ 1 ∷ [])
     (EMPTY ∷ EMPTY ∷ EMPTY ∷ [])
-    (0 ∷ 2 ∷ 1 ∷ [])
+    (0 ∷ 2 ∷ 1 ∷ []))
     (rowBox 0 0 0x4000000000000000 0x4000000000000000))
     ≡ ok (record {
       vertices = floats
@@ -235,11 +247,12 @@ pub rows :
     -- an edge with one end inside finds two crossings; the second is added or reused, and stands in no cell for that
     × (rowOf
     (build
+    (mesh
     (floats
     (0xc000000000000000 ∷ 0x3ff0000000000000 ∷ 0x3ff0000000000000 ∷ 0x4000000000000000 ∷ 0x4000000000000000 ∷ 0x3ff0000000000000 ∷ []))
     (2 ∷ 0 ∷ 1 ∷ [])
     (EMPTY ∷ EMPTY ∷ EMPTY ∷ [])
-    (1 ∷ 2 ∷ 0 ∷ [])
+    (1 ∷ 2 ∷ 0 ∷ []))
     (rowBox 0xbfd0000000000000 0x3fd0000000000000 0x3fe0000000000000 0x3fe8000000000000))
     ≡ ok (record {
       vertices = floats
@@ -252,12 +265,13 @@ pub rows :
     -- "square" with a fifth, unused site
     × (rowOf
     (build
+    (mesh
     (floats
     (0xbfe0000000000000 ∷ 0xbfe0000000000000 ∷ 0xbfe0000000000000 ∷ 0x3fe0000000000000 ∷ 0x3fe0000000000000 ∷ 0x3fe0000000000000 ∷ 0x3fe0000000000000 ∷ 0xbfe0000000000000 ∷
     0x4008000000000000 ∷ 0x4008000000000000 ∷ []))
     (0 ∷ 1 ∷ 2 ∷ 0 ∷ 2 ∷ 3 ∷ [])
     (EMPTY ∷ EMPTY ∷ 3 ∷ 2 ∷ EMPTY ∷ EMPTY ∷ [])
-    (0 ∷ 1 ∷ 2 ∷ 3 ∷ [])
+    (0 ∷ 1 ∷ 2 ∷ 3 ∷ []))
     (rowBox 0 0 0x4000000000000000 0x4000000000000000))
     ≡ ok (record {
       vertices = floats

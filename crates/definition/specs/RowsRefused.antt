@@ -15,6 +15,7 @@ use Rattle.line_crossings.specs.Line.{oneIf, twoIf, firstHeld, rightHit, leftHi
 use Rattle.vertices.specs.Add.{nearPt, findNear, addVertex}
 use Rattle.mesh.specs.Mesh.{nextOf, chosen, tableTo, turnOf, walkOf}
 use Rattle.mesh.specs.Hull.{nextPlace}
+use Rattle.mesh.specs.Accepted.{mesh}
 use Rattle.iterator.specs.Neighbours.{lastEnd, startsOf, neighboursOf}
 use Rattle.paths.specs.Path.{distOf, nearestOf, hopOf, pathEnd}
 use Rattle.definition.specs.Fault.{refused, andThen, atEdge}
@@ -28,84 +29,92 @@ pub rows :
     -- 14: rounding at a corner
     (rowOf
     (build
+    (mesh
     (floats
     (0xc000000000000000 ∷ 0x4000000000000000 ∷ 0x4000000000000000 ∷ 0xbff0000000000000 ∷ 0x3ff0000000000000 ∷ 0x4000000000000000 ∷ 0x4000000000000000 ∷ 0x4000000000000000 ∷
     []))
     (3 ∷ 1 ∷ 0 ∷ 1 ∷ 2 ∷ 0 ∷ [])
     (EMPTY ∷ 5 ∷ EMPTY ∷ EMPTY ∷ EMPTY ∷ 1 ∷ [])
-    (0 ∷ 3 ∷ 1 ∷ 2 ∷ [])
+    (0 ∷ 3 ∷ 1 ∷ 2 ∷ []))
     (rowBox 0x4000000000000000 0x4000000000000000 0x3ff0000000000000 0x3ff0000000000000))
     ≡ refused refusedOneCrossing)
     -- 14: an extension within the box
     × (rowOf
     (build
+    (mesh
     (floats
     (0xbfe0000000000000 ∷ 0xbfe0000000000000 ∷ 0xbfe0000000000000 ∷ 0x3fe0000000000000 ∷ 0x3fe0000000000000 ∷ 0x3fe0000000000000 ∷ 0x3fe0000000000000 ∷ 0xbfe0000000000000 ∷
     []))
     (0 ∷ 1 ∷ 2 ∷ 0 ∷ 2 ∷ 3 ∷ [])
     (EMPTY ∷ EMPTY ∷ 3 ∷ 2 ∷ EMPTY ∷ EMPTY ∷ [])
-    (0 ∷ 1 ∷ 2 ∷ 3 ∷ [])
+    (0 ∷ 1 ∷ 2 ∷ 3 ∷ []))
     (rowBox 0 0 0x4212a05f20000000 0x4212a05f20000000))
     ≡ refused refusedOneCrossing)
     -- 13: a lone point judged by its own signs
     × (rowOf
     (build
+    (mesh
     (floats
     (0 ∷ 0x4000000000000000 ∷ 0x3ff0000000000000 ∷ 0x4000000000000000 ∷ 0 ∷ 0xbff0000000000000 ∷ []))
     (0 ∷ 1 ∷ 2 ∷ [])
     (EMPTY ∷ EMPTY ∷ EMPTY ∷ [])
-    (0 ∷ 1 ∷ 2 ∷ [])
+    (0 ∷ 1 ∷ 2 ∷ []))
     (rowBox 0x3ff8000000000000 0x3ff8000000000000 0x4000000000000000 0x4000000000000000))
     ≡ refused refusedNoCrossing)
     -- 11: three sites on a line
     × (rowOf
     (build
+    (mesh
     (floats
     (0 ∷ 0 ∷ 0x3ff0000000000000 ∷ 0 ∷ 0x4000000000000000 ∷ 0 ∷ []))
     (0 ∷ 1 ∷ 2 ∷ [])
     (EMPTY ∷ EMPTY ∷ EMPTY ∷ [])
-    (0 ∷ 1 ∷ 2 ∷ [])
+    (0 ∷ 1 ∷ 2 ∷ []))
     (rowBox 0 0 0x4000000000000000 0x4000000000000000))
     ≡ refused refusedCircumcenter)
     -- 13: rounding
     × (rowOf
     (build
+    (mesh
     (floats
     (0 ∷ 0x4000000000000000 ∷ 0x3fe0000000000000 ∷ 0x3fe0000000000000 ∷ 0xbff0000000000000 ∷ 0x4000000000000000 ∷ []))
     (0 ∷ 1 ∷ 2 ∷ [])
     (EMPTY ∷ EMPTY ∷ EMPTY ∷ [])
-    (0 ∷ 1 ∷ 2 ∷ [])
+    (0 ∷ 1 ∷ 2 ∷ []))
     (rowBox 0 0 0x4000000000000000 0x4000000000000000))
     ≡ refused refusedNoCrossing)
     -- 12: a hull edge so short that its squares underflow
     × (rowOf
     (build
+    (mesh
     (floats
     (0 ∷ 0 ∷ 0x1e30000000000000 ∷ 0 ∷ 0 ∷ 0x3ff0000000000000 ∷ []))
     (0 ∷ 1 ∷ 2 ∷ [])
     (EMPTY ∷ EMPTY ∷ EMPTY ∷ [])
-    (0 ∷ 1 ∷ 2 ∷ [])
+    (0 ∷ 1 ∷ 2 ∷ []))
     (rowBox 0 0 0x4000000000000000 0x4000000000000000))
     ≡ refused refusedExtension)
     -- 13: a circumcenter on the top side, left there
     × (rowOf
     (build
+    (mesh
     (floats
     (0xbfe0000000000000 ∷ 0 ∷ 0x3fe0000000000000 ∷ 0x3fe0000000000000 ∷ 0x3fe8000000000000 ∷ 0x3fe0000000000000 ∷ []))
     (0 ∷ 1 ∷ 2 ∷ [])
     (EMPTY ∷ EMPTY ∷ EMPTY ∷ [])
-    (0 ∷ 1 ∷ 2 ∷ [])
+    (0 ∷ 1 ∷ 2 ∷ []))
     (rowBox 0 0 0x4000000000000000 0x4000000000000000))
     ≡ refused refusedNoCrossing)
     -- 13: both ends of an edge within the tolerance
     × (rowOf
     (build
+    (mesh
     (floats
     (0xbfe0000000000000 ∷ 0xbfe0000000000000 ∷ 0xbfe0000000000000 ∷ 0x3fe0000000000000 ∷ 0x3fe0000000000000 ∷ 0x3fe0000000000000 ∷ 0x3fe0000000000008 ∷ 0xbfe0000000000000 ∷
     []))
     (0 ∷ 1 ∷ 2 ∷ 0 ∷ 2 ∷ 3 ∷ [])
     (EMPTY ∷ EMPTY ∷ 3 ∷ 2 ∷ EMPTY ∷ EMPTY ∷ [])
-    (0 ∷ 1 ∷ 2 ∷ 3 ∷ [])
+    (0 ∷ 1 ∷ 2 ∷ 3 ∷ []))
     (rowBox 0xbfe0000000000000 0 0x3ff0000000000000 0x4000000000000000))
     ≡ refused refusedNoCrossing)
 unfolding trailingZeros ofBits add sub mul div lt le eq neg sum round units odd size span climb same wholeRoot

@@ -4,13 +4,12 @@ use mathlib.Core.List.{List, []}
 use mathlib.Core.Logic.{_≢_}
 use Prim.Native.Nat.{ℕ, _+_, _≤_, _<_}
 use native.Mathlib.Omega.{arith}
-use lib.Ieee.{Float}
 use lib.ListN.{length, replicate}
 use Rattle.laws.specs.Count.{occ}
 use Rattle.numbers.specs.Numbers.{EMPTY}
 use Rattle.bounding_box.specs.Finite.{BoundedBox}
 use Rattle.bounding_box.specs.declared.BoundingBox.{BoundingBox}
-use Rattle.mesh.specs.Accepted.{Accepted}
+use Rattle.mesh.specs.Accepted.{Mesh, Accepted}
 use Rattle.mesh.specs.Accepted.{Topology}
 use Rattle.definition.specs.Fault.{ok}
 use Rattle.definition.specs.Build.{Built, build}
@@ -27,12 +26,12 @@ use Rattle.definition.specs.laws.Lowest.{all-paid}
 use Rattle.definition.specs.Cell.{wraps}
 use Rattle.definition.specs.laws.Wraps.{wraps-enough}
 
-module _ {sites : List Float} {tri he hull : List ℕ} (a : Accepted sites tri he hull) {b : BoundingBox} (box : BoundedBox 101 b) where
+module _ {m : Mesh} (a : Accepted m) {b : BoundingBox} (box : BoundedBox 101 b) where
   -- each corner is wrapped at most once, by its owner, and a build keeps to its room
-  pub wrapping : {r : Built} → build sites tri he hull b ≡ ok r → Wrapping sites tri he hull b r
+  pub wrapping : {r : Built} → build m b ≡ ok r → Wrapping m b r
   wrapping e = gives-ok (Good a box) (built a box) e .0
 
-  pub room : {r : Built} → build sites tri he hull b ≡ ok r → Room tri hull b r
+  pub room : {r : Built} → build m b ≡ ok r → Room (m .triangles) (m .hull) b r
   room e = gives-ok (Good a box) (built a box) e .1
 
 module _ {tri he hull : List ℕ} {n : ℕ} (top : Topology tri he hull n) where

@@ -8,8 +8,7 @@ use Rattle.laws.specs.Count.{occ}
 use Rattle.utils.specs.declared.Point.{Point}
 use Rattle.bounding_box.specs.Box.{cornersOf}
 use Rattle.bounding_box.specs.declared.BoundingBox.{BoundingBox}
-use Rattle.mesh.specs.Mesh.{leftmostOf}
-use Rattle.mesh.specs.Accepted.{siteCount}
+use Rattle.mesh.specs.Accepted.{Mesh, tableOf}
 use Rattle.paths.specs.Path.{lastOf, wholePath}
 use Rattle.definition.specs.Build.{wrappedIn, allWrapped, Built}
 
@@ -21,12 +20,12 @@ cornerPaths sites tri he table s (corner ∷ corners) =
     p ∷ cornerPaths sites tri he table (lastOf p) corners
 
 -- the path to corner c, which is vertex T + c
-abbrev pub pathTo : List Float → List ℕ → List ℕ → List ℕ → BoundingBox → ℕ → List ℕ
-pathTo sites tri he hull b c = getD (cornerPaths sites tri he (leftmostOf tri he (siteCount sites)) (getD hull 0 0) (cornersOf b)) c []
+abbrev pub pathTo : Mesh → BoundingBox → ℕ → List ℕ
+pathTo m b c = getD (cornerPaths (m .sites) (m .triangles) (m .halfedges) (tableOf m) (getD (m .hull) 0 0) (cornersOf b)) c []
 
 -- each corner is wrapped at most once over all cells, and only in the cell of the site that is the last entry of its path; and nothing else is wrapped
-pub record Wrapping (sites : List Float) (tri he hull : List ℕ) (b : BoundingBox) (r : Built) : Type 0 where
-  pub once : (c : ℕ) → c < 4 → occ (length tri / 3 + c) (allWrapped (r .cells)) ≤ 1
-  pub there : (c s : ℕ) → c < 4 → 0 < occ (length tri / 3 + c) (wrappedIn (getD (r .cells) s [])) → s ≡ lastOf (pathTo sites tri he hull b c)
-  pub corners : (v s : ℕ) → 0 < occ v (wrappedIn (getD (r .cells) s [])) → (length tri / 3 ≤ v) × (v < length tri / 3 + 4)
-  pub owners : (c : ℕ) → c < 4 → getD (r .owners) c 0 ≡ lastOf (pathTo sites tri he hull b c)
+pub record Wrapping (m : Mesh) (b : BoundingBox) (r : Built) : Type 0 where
+  pub once : (c : ℕ) → c < 4 → occ (length (m .triangles) / 3 + c) (allWrapped (r .cells)) ≤ 1
+  pub there : (c s : ℕ) → c < 4 → 0 < occ (length (m .triangles) / 3 + c) (wrappedIn (getD (r .cells) s [])) → s ≡ lastOf (pathTo m b c)
+  pub corners : (v s : ℕ) → 0 < occ v (wrappedIn (getD (r .cells) s [])) → (length (m .triangles) / 3 ≤ v) × (v < length (m .triangles) / 3 + 4)
+  pub owners : (c : ℕ) → c < 4 → getD (r .owners) c 0 ≡ lastOf (pathTo m b c)

@@ -9,6 +9,16 @@ use Rattle.numbers.specs.Numbers.{EMPTY}
 use Rattle.mesh.specs.Mesh.{AllSound, AllPaired, leftmostOf, Fan}
 use Rattle.mesh.specs.Hull.{Hull}
 
+-- a lent mesh: numbers x and y of each site in turn, three sites and three pairs of half-edges for each triangle, the hull's sites
+pub record Mesh : Type 0 where
+  pub sites : List Float
+  pub triangles : List ℕ
+  pub halfedges : List ℕ
+  pub hull : List ℕ
+
+abbrev pub mesh : List Float → List ℕ → List ℕ → List ℕ → Mesh
+mesh sites tri he hull = record { sites = sites; triangles = tri; halfedges = he; hull = hull }
+
 -- the lengths of the lists of coordinates, triangle entries, half-edges and hull sites
 pub record Counted (coordinates entries halfedges hull : ℕ) : Type 0 where
   pub even : coordinates % 2 ≡ 0
@@ -25,6 +35,10 @@ pub record Counted (coordinates entries halfedges hull : ℕ) : Type 0 where
 abbrev pub siteCount : List Float → ℕ
 siteCount sites = length sites / 2
 
+-- its leftmost table
+abbrev pub tableOf : Mesh → List ℕ
+tableOf m = leftmostOf (m .triangles) (m .halfedges) (siteCount (m .sites))
+
 -- a mesh that rules 7 to 10 accept; its lists are of fitting lengths
 pub record Topology (tri he hull : List ℕ) (sites : ℕ) : Type 0 where
   pub threes : length tri % 3 ≡ 0
@@ -36,7 +50,7 @@ pub record Topology (tri he hull : List ℕ) (sites : ℕ) : Type 0 where
   pub fan : Fan tri he (leftmostOf tri he sites)
 
 -- rules 1, 6 and 7 to 10
-pub record Accepted (sites : List Float) (tri he hull : List ℕ) : Type 0 where
-  pub counts : Counted (length sites) (length tri) (length he) (length hull)
-  pub coordinates : (s : ℕ) → s < siteCount sites → KeptAt sites s
-  pub topology : Topology tri he hull (siteCount sites)
+pub record Accepted (m : Mesh) : Type 0 where
+  pub counts : Counted (length (m .sites)) (length (m .triangles)) (length (m .halfedges)) (length (m .hull))
+  pub coordinates : (s : ℕ) → s < siteCount (m .sites) → KeptAt (m .sites) s
+  pub topology : Topology (m .triangles) (m .halfedges) (m .hull) (siteCount (m .sites))

@@ -3,11 +3,10 @@
 use mathlib.Core.Path.{_≡_}
 use mathlib.Core.List.{List}
 use Prim.Native.Nat.{ℕ, _≤_, _<_}
-use lib.Ieee.{Float}
 use lib.ListN.{length, getD}
 use Rattle.laws.specs.Count.{occ}
-use Rattle.mesh.specs.Mesh.{endOf, leftmostOf, walkOf, wholeOf}
-use Rattle.mesh.specs.Accepted.{Accepted, siteCount}
+use Rattle.mesh.specs.Mesh.{endOf, walkOf, wholeOf}
+use Rattle.mesh.specs.Accepted.{Mesh, tableOf, Accepted, siteCount}
 use Rattle.mesh.specs.laws.Facts.{topology, walk-each, walk-only, walk-stops}
 
 -- t is what the leftmost table holds of site s
@@ -16,6 +15,6 @@ pub record Rounds (tri he : List ℕ) (s t : ℕ) : Type 0 where
   pub only : (e : ℕ) → 0 < occ e (wholeOf he t) → (e < length he) × (endOf tri e ≡ s)
   pub stops : (fuel : ℕ) → length he ≤ fuel → walkOf he t fuel t ≡ wholeOf he t
 
-pub accepted-rounds : {sites : List Float} {tri he hull : List ℕ} → Accepted sites tri he hull → (s : ℕ) → s < siteCount sites
-    → Rounds tri he s (getD (leftmostOf tri he (siteCount sites)) s 0)
+pub accepted-rounds : {m : Mesh} → Accepted m → (s : ℕ) → s < siteCount (m .sites)
+    → Rounds (m .triangles) (m .halfedges) s (getD (tableOf m) s 0)
 accepted-rounds a s l = record { each = walk-each (topology a) s l; only = walk-only (topology a) s l; stops = walk-stops (topology a) s l }

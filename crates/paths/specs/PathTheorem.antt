@@ -10,7 +10,7 @@ use Rattle.laws.specs.Count.{occ}
 use Rattle.utils.specs.Rules.{okSite}
 use Rattle.utils.specs.declared.Point.{Point}
 use Rattle.mesh.specs.Mesh.{Used, leftmostOf}
-use Rattle.mesh.specs.Accepted.{Accepted, siteCount}
+use Rattle.mesh.specs.Accepted.{Mesh, tableOf, Accepted, siteCount}
 use Rattle.mesh.specs.laws.Facts.{topology, entry-site}
 use Rattle.iterator.specs.Neighbours.{neighboursOf}
 use Rattle.mesh.specs.laws.Occurs.{occ-there}
@@ -29,20 +29,20 @@ pub record PathHolds (sites : List Float) (tri he : List ℕ) (p : Point) (s : �
   pub begins : (k : ℕ) → pathOf sites tri he (leftmostOf tri he (siteCount sites)) p k s ≡ take k l
   pub rest : (a b : List ℕ) (v : ℕ) → l ≡ a ++ (v ∷ b) → wholePath sites tri he (leftmostOf tri he (siteCount sites)) p v ≡ v ∷ b
 
-pub path-holds : {sites : List Float} {tri he hull : List ℕ} → Accepted sites tri he hull → (p : Point) → okSite p ≡ true → (s : ℕ) → Used tri s
-    → PathHolds sites tri he p s (wholePath sites tri he (leftmostOf tri he (siteCount sites)) p s)
-path-holds {sites} {tri} {he} a p to s (k, l, q) =
-    let n = siteCount sites in
-    let table = leftmostOf tri he n in
-    let m = ready (topology a) in
-    let t = towards sites p (a .coordinates) to in
-    let used : 0 < occ s tri = rw q at (occ-there tri k l) in
+pub path-holds : {m : Mesh} → Accepted m → (p : Point) → okSite p ≡ true → (s : ℕ) → Used (m .triangles) s
+    → PathHolds (m .sites) (m .triangles) (m .halfedges) p s (wholePath (m .sites) (m .triangles) (m .halfedges) (tableOf m) p s)
+path-holds {m} a p to s (k, l, q) =
+    let n = siteCount (m .sites) in
+    let table = leftmostOf (m .triangles) (m .halfedges) n in
+    let fine = ready (topology a) in
+    let t = towards (m .sites) p (a .coordinates) to in
+    let used : 0 < occ s (m .triangles) = rw q at (occ-there (m .triangles) k l) in
     let below : s < n = rw q at (entry-site (topology a) k l) in
     record {
-      rule = whole-runs sites tri he table p n m t s below;
-      short = whole-short sites tri he table p n m t s used;
-      once = λ v. whole-once sites tri he table p n m t s v below;
-      stops = λ j h. whole-same sites tri he table p n m t j s below (omega (arith, used-some sites tri he table p n m t s used)) h;
-      begins = λ j. whole-take sites tri he table p n m t j s below;
-      rest = whole-rest sites tri he table p n m t s below;
+      rule = whole-runs (m .sites) (m .triangles) (m .halfedges) table p n fine t s below;
+      short = whole-short (m .sites) (m .triangles) (m .halfedges) table p n fine t s used;
+      once = λ v. whole-once (m .sites) (m .triangles) (m .halfedges) table p n fine t s v below;
+      stops = λ j h. whole-same (m .sites) (m .triangles) (m .halfedges) table p n fine t j s below (omega (arith, used-some (m .sites) (m .triangles) (m .halfedges) table p n fine t s used)) h;
+      begins = λ j. whole-take (m .sites) (m .triangles) (m .halfedges) table p n fine t j s below;
+      rest = whole-rest (m .sites) (m .triangles) (m .halfedges) table p n fine t s below;
     }

@@ -11,7 +11,7 @@ use Rattle.numbers.specs.Numbers.{refusedForm}
 use Rattle.utils.specs.Plane.{at}
 use Rattle.utils.specs.declared.Point.{Point}
 use Rattle.bounding_box.specs.Box.{madeOf}
-use Rattle.mesh.specs.Accepted.{siteCount}
+use Rattle.mesh.specs.Accepted.{Mesh, mesh, siteCount}
 use Rattle.admission.specs.Admits.{Admits}
 use Rattle.definition.specs.declared.Fault.{Fault}
 use Rattle.definition.specs.Fault.{Outcome, ok, refused}
@@ -45,30 +45,34 @@ pub record ShownIn (text out : List ℕ) (space r : ℕ) : Type 0 where
   pub first : take r out ≡ text
   pub within : r ≤ space
 
+-- the lists of a mesh that a form says
+abbrev pub meshOf : FormMesh → Mesh
+meshOf m = mesh (numbersOf siteFloats (m .sites)) (numbersOf triangleSites (m .triangles)) (numbersOf trianglePairs (m .triangles)) (m .hull)
+
 module _ (t : Texts) where
-  module _ (sites : List Float) (tri he hull : List ℕ) where
+  module _ (m : Mesh) where
     abbrev pub InBox : Point → Float → Float → List ℕ → Type 0
-    InBox c w h = Shows (Admits sites tri he hull true (boxAsk c w h)) (t .boxed (siteCount sites) (length tri / 3)) (build sites tri he hull (madeOf c w h))
+    InBox c w h = Shows (Admits m true (boxAsk c w h)) (t .boxed (siteCount (m .sites)) (length (m .triangles) / 3)) (build m (madeOf c w h))
 
     abbrev pub WithoutBox : List ℕ → Type 0
-    WithoutBox = Shows (Admits sites tri he hull true 0) (t .plain (siteCount sites) (length tri / 3)) (definition.unclipped sites tri he)
+    WithoutBox = Shows (Admits m true 0) (t .plain (siteCount (m .sites)) (length (m .triangles) / 3)) (definition.unclipped (m .sites) (m .triangles) (m .halfedges))
 
     abbrev pub ByClip : Outline → List ℕ → Type 0
     ByClip (box x y w h) = InBox (at (float x) (float y)) (float w) (float h)
     ByClip unclipped = WithoutBox
 
   -- the text of a mesh, in the box of these four numbers where it is not unclipped
-  abbrev pub ByMode : Bool → List Float → List Float → List ℕ → List ℕ → List ℕ → List ℕ → Type 0
-  ByMode true bs ss ts es hs text = WithoutBox ss ts es hs text
-  ByMode false bs ss ts es hs text = InBox ss ts es hs (at (getD bs 0 nan) (getD bs 1 nan)) (getD bs 2 nan) (getD bs 3 nan) text
+  abbrev pub ByMode : Bool → List Float → Mesh → List ℕ → Type 0
+  ByMode true bs m text = WithoutBox m text
+  ByMode false bs m text = InBox m (at (getD bs 0 nan) (getD bs 1 nan)) (getD bs 2 nan) (getD bs 3 nan) text
 
   -- the text of a form that was read into these lists
   abbrev pub ByForm : Form → List Float → List Float → List ℕ → List ℕ → List ℕ → List ℕ → Type 0
   ByForm (Broken k) bs ss ts es hs text = text ≡ refusal refusedForm
-  ByForm (Sound s k h u) bs ss ts es hs text = ByMode u bs (take (2 * s) ss) (take (3 * k) ts) (take (3 * k) es) (take h hs) text
+  ByForm (Sound s k h u) bs ss ts es hs text = ByMode u bs (mesh (take (2 * s) ss) (take (3 * k) ts) (take (3 * k) es) (take h hs)) text
 
   abbrev pub OfMesh : FormMesh → List ℕ → Type 0
-  OfMesh m = ByClip (numbersOf siteFloats (m .sites)) (numbersOf triangleSites (m .triangles)) (numbersOf trianglePairs (m .triangles)) (m .hull) (m .clip)
+  OfMesh m = ByClip (meshOf m) (m .clip)
 
   pub data Prints (s : List ℕ) : List ℕ → Type 0 where
     sound : {text : List ℕ} (m : FormMesh) → MeshFits m → s ≡ formOf m → OfMesh m text → Prints s text

@@ -4,14 +4,13 @@ use mathlib.Core.Bool.{Bool, false}
 use mathlib.Core.List.{List, [], _++_}
 use Prim.Native.Nat.{ℕ, _≤_}
 use lib.Dec.{leb, eqb}
-use lib.Ieee.{Float}
 use lib.ListN.{length, getD, take, drop}
 use Rattle.laws.specs.Pick.{pick}
 use Rattle.laws.specs.Refusals.{Rule, Finds}
 use Rattle.numbers.specs.Numbers.{EMPTY, refusedOffsets}
 use Rattle.mesh.specs.Rules.{callRules}
-use Rattle.mesh.specs.Mesh.{leftmostOf, wholeOf}
-use Rattle.mesh.specs.Accepted.{siteCount}
+use Rattle.mesh.specs.Mesh.{wholeOf}
+use Rattle.mesh.specs.Accepted.{Mesh, tableOf, siteCount}
 use Rattle.check_mesh.specs.AtExit.{atExit}
 use Rattle.check_mesh.specs.Answers.{workAfter}
 use Rattle.shared.specs.Edge.{sharedEdgeOf}
@@ -42,41 +41,41 @@ abbrev pub listedOf : ℕ → ℕ → Bool → Listed
 listedOf number count ended = record { number = number; count = count; ended = ended }
 
 -- a list handed out as far as there is room: w and o are the work and output slices, w′ and o′ at exit
-pub record ListAnswer (Number : ℕ → Type 0) (tri he : List ℕ) (n : ℕ) (whole w w′ o o′ : List ℕ) (r : Listed) : Type 0 where
+pub record ListAnswer (Number : ℕ → Type 0) (m : Mesh) (whole w w′ o o′ : List ℕ) (r : Listed) : Type 0 where
   pub number : Number (r .number)
-  pub work : w′ ≡ workAfter tri he n w (r .number)
+  pub work : w′ ≡ workAfter m w (r .number)
   pub out : o′ ≡ outAfter whole o (r .number)
   pub count : r .count ≡ countAfter whole o (r .number)
   pub ended : r .ended ≡ endedAfter whole o (r .number)
 
-module _ (sites : List Float) (tri he hull : List ℕ) where
+module _ (m : Mesh) where
   -- the number of the first rule that is broken: 1, 2, the call's own, 6, 7 to 10, and what is asked after them
   abbrev pub Number : List ℕ → List (Rule ℕ) → List (Rule ℕ) → ℕ → Type 0
-  Number w own after = Finds (callRules sites tri he hull (siteCount sites ≤ length w) own ++ after) 0
+  Number w own after = Finds (callRules m (siteCount (m .sites) ≤ length w) own ++ after) 0
 
   -- the walk from the leftmost half-edge of site s
   abbrev pub WalkAnswer : ℕ → List ℕ → List ℕ → List ℕ → List ℕ → Listed → Type 0
   WalkAnswer s w =
-      ListAnswer (Number w (siteRules (siteCount sites) s) []) tri he (siteCount sites) (wholeOf he (getD (leftmostOf tri he (siteCount sites)) s 0)) w
+      ListAnswer (Number w (siteRules (siteCount (m .sites)) s) []) m (wholeOf (m .halfedges) (getD (tableOf m) s 0)) w
 
   abbrev pub NeighboursAnswer : ℕ → List ℕ → List ℕ → List ℕ → List ℕ → Listed → Type 0
   NeighboursAnswer s w =
-      ListAnswer (Number w (siteRules (siteCount sites) s) []) tri he (siteCount sites) (neighboursOf tri he (leftmostOf tri he (siteCount sites)) s) w
+      ListAnswer (Number w (siteRules (siteCount (m .sites)) s) []) m (neighboursOf (m .triangles) (m .halfedges) (tableOf m) s) w
 
   abbrev pub ClippedAnswer : List ℕ → List ℕ → ℕ → List ℕ → List ℕ → List ℕ → List ℕ → Listed → Type 0
   ClippedAnswer off ix s w =
-      ListAnswer (Number w (siteRules (siteCount sites) s) (cellRules off ix (siteCount sites))) tri he (siteCount sites)
-      (clippedNeighboursOf tri he (leftmostOf tri he (siteCount sites)) off ix s) w
+      ListAnswer (Number w (siteRules (siteCount (m .sites)) s) (cellRules off ix (siteCount (m .sites)))) m
+      (clippedNeighboursOf (m .triangles) (m .halfedges) (tableOf m) off ix s) w
 
   abbrev pub PathAnswer : ℕ → Point → List ℕ → List ℕ → List ℕ → List ℕ → Listed → Type 0
   PathAnswer s p w =
-      ListAnswer (Number w (pathRules (siteCount sites) s p) []) tri he (siteCount sites) (wholePath sites tri he (leftmostOf tri he (siteCount sites)) p s) w
+      ListAnswer (Number w (pathRules (siteCount (m .sites)) s p) []) m (wholePath (m .sites) (m .triangles) (m .halfedges) (tableOf m) p s) w
 
 abbrev pub foundOf : ℕ → ℕ → Found
 foundOf number edge = record { number = number; edge = edge }
 
 -- the edge that triangles a and b share: the half-edge of a, or EMPTY; nothing is asked of their numbers
-pub record EdgeAnswer (sites : List Float) (tri he hull : List ℕ) (a b : ℕ) (w w′ : List ℕ) (r : Found) : Type 0 where
-  pub number : Number sites tri he hull w [] [] (r .number)
-  pub work : w′ ≡ workAfter tri he (siteCount sites) w (r .number)
-  pub edge : r .edge ≡ pick (eqb (r .number) 0) (λ _. sharedEdgeOf he a b) (λ _. EMPTY)
+pub record EdgeAnswer (m : Mesh) (a b : ℕ) (w w′ : List ℕ) (r : Found) : Type 0 where
+  pub number : Number m w [] [] (r .number)
+  pub work : w′ ≡ workAfter m w (r .number)
+  pub edge : r .edge ≡ pick (eqb (r .number) 0) (λ _. sharedEdgeOf (m .halfedges) a b) (λ _. EMPTY)

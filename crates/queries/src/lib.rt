@@ -7,6 +7,7 @@ ghost use mathlib.Core.Path.{_≡_};
 ghost use mathlib.Core.Bool.{false};
 ghost use Prim.Native.Nat.{_<_};
 ghost use Rattle.numbers.specs.Numbers.{EMPTY};
+ghost use Rattle.mesh.specs.Accepted.{mesh};
 ghost use Rattle.queries.specs.Answers.{listedOf, WalkAnswer, NeighboursAnswer, ClippedAnswer, PathAnswer, foundOf, EdgeAnswer};
 
 // A number; how many entries of a list were written; whether the last one written ends it.
@@ -47,7 +48,7 @@ pub fn walk(
     work: &mut [u32],
     out: &mut [u32],
 ) -> Listed
-    ensures { λ r. ⌜ WalkAnswer (now (sites .entry)) (now (triangles .entry)) (now (halfedges .entry)) (now (hull .entry)) site (now (work .entry))
+    ensures { λ r. ⌜ WalkAnswer (mesh (now (sites .entry)) (now (triangles .entry)) (now (halfedges .entry)) (now (hull .entry))) site (now (work .entry))
         (now (work .exit)) (now (out .entry)) (now (out .exit)) r ⌝ }
 {
     let asked = ask_site(sites.len() / 2, site);
@@ -69,7 +70,7 @@ pub fn neighbours(
     work: &mut [u32],
     out: &mut [u32],
 ) -> Listed
-    ensures { λ r. ⌜ NeighboursAnswer (now (sites .entry)) (now (triangles .entry)) (now (halfedges .entry)) (now (hull .entry)) site
+    ensures { λ r. ⌜ NeighboursAnswer (mesh (now (sites .entry)) (now (triangles .entry)) (now (halfedges .entry)) (now (hull .entry))) site
         (now (work .entry)) (now (work .exit)) (now (out .entry)) (now (out .exit)) r ⌝ }
 {
     let asked = ask_site(sites.len() / 2, site);
@@ -92,7 +93,7 @@ pub fn path(
     work: &mut [u32],
     out: &mut [u32],
 ) -> Listed
-    ensures { λ r. ⌜ PathAnswer (now (sites .entry)) (now (triangles .entry)) (now (halfedges .entry)) (now (hull .entry)) site p (now (work .entry))
+    ensures { λ r. ⌜ PathAnswer (mesh (now (sites .entry)) (now (triangles .entry)) (now (halfedges .entry)) (now (hull .entry))) site p (now (work .entry))
         (now (work .exit)) (now (out .entry)) (now (out .exit)) r ⌝ }
 {
     let count = sites.len() / 2;
@@ -116,7 +117,7 @@ pub fn clipped_neighbours(
     work: &mut [u32],
     out: &mut [u32],
 ) -> Listed
-    ensures { λ r. ⌜ ClippedAnswer (now (sites .entry)) (now (triangles .entry)) (now (halfedges .entry)) (now (hull .entry)) (now (offsets .entry))
+    ensures { λ r. ⌜ ClippedAnswer (mesh (now (sites .entry)) (now (triangles .entry)) (now (halfedges .entry)) (now (hull .entry))) (now (offsets .entry))
         (now (indexes .entry)) site (now (work .entry)) (now (work .exit)) (now (out .entry)) (now (out .exit)) r ⌝ }
 {
     let count = sites.len() / 2;
@@ -158,7 +159,7 @@ pub fn shared_edge(
     b: u32,
     work: &mut [u32],
 ) -> Found
-    ensures { λ r. ⌜ EdgeAnswer (now (sites .entry)) (now (triangles .entry)) (now (halfedges .entry)) (now (hull .entry)) a b
+    ensures { λ r. ⌜ EdgeAnswer (mesh (now (sites .entry)) (now (triangles .entry)) (now (halfedges .entry)) (now (hull .entry))) a b
         (now (work .entry)) (now (work .exit)) r ⌝ }
 {
     let roomy = sites.len() / 2 <= work.len();

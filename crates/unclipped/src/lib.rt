@@ -13,7 +13,7 @@ ghost use mathlib.Core.Path.{_≡_};
 ghost use mathlib.Core.List.{[], map};
 ghost use Prim.Native.Nat.{_/_};
 ghost use lib.ListN.{length, replicate};
-ghost use Rattle.mesh.specs.Accepted.{Accepted, siteCount};
+ghost use Rattle.mesh.specs.Accepted.{mesh, Accepted, siteCount};
 ghost use Rattle.definition.specs.Unclipped.{unclipped};
 ghost use Rattle.layout.specs.Outputs.{Rooms, Gathered, faultOf, BuiltInto};
 ghost use Rattle.definition.specs.Cell.{unmarked};
@@ -47,7 +47,7 @@ pub fn build_unclipped(
     indexes: &mut [u32],
     offsets: &mut [u32],
 ) -> Fault
-    requires { ⌜ Accepted (now sites) (now triangles) (now halfedges) (now hull)
+    requires { ⌜ Accepted (mesh (now sites) (now triangles) (now halfedges) (now hull))
         × Rooms (length (now triangles) / 3) (length (now hull)) (siteCount (now sites)) (length (now vertices)) (length (now indexes)) (length (now offsets)) ⌝ }
     ensures { λ r. ⌜ (r ≡ faultOf (unclipped (now (sites .entry)) (now (triangles .entry)) (now (halfedges .entry))))
         × BuiltInto (unclipped (now (sites .entry)) (now (triangles .entry)) (now (halfedges .entry))) (now (vertices .entry)) (now (indexes .entry))

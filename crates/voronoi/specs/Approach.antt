@@ -8,8 +8,8 @@ use lib.Ieee.{Float, lt}
 use lib.ListN.{length, getD}
 use Rattle.laws.specs.Count.{occ}
 use Rattle.utils.specs.declared.Point.{Point}
-use Rattle.mesh.specs.Mesh.{startOf, endOf, leftmostOf}
-use Rattle.mesh.specs.Accepted.{siteCount}
+use Rattle.mesh.specs.Mesh.{startOf, endOf}
+use Rattle.mesh.specs.Accepted.{Mesh, tableOf}
 use Rattle.iterator.specs.Neighbours.{neighboursOf}
 use Rattle.paths.specs.PathRule.{NoneNearer, FirstNearest}
 use Rattle.paths.specs.Path.{distOf}
@@ -21,8 +21,8 @@ pub record WholeRound (tri he : List ℕ) (s : ℕ) (l : List ℕ) : Type 0 wher
   pub only : (e : ℕ) → 0 < occ e l → (e < length he) × (endOf tri e ≡ s)
 
 -- the neighbours of a site, as `voronoi_neighbours` lists them
-abbrev pub nextTo : List Float → List ℕ → List ℕ → ℕ → List ℕ
-nextTo sites tri he s = neighboursOf tri he (leftmostOf tri he (siteCount sites)) s
+abbrev pub nextTo : Mesh → ℕ → List ℕ
+nextTo m s = neighboursOf (m .triangles) (m .halfedges) (tableOf m) s
 
 -- a half-edge joins the two sites, either way
 pub record Joined (tri he : List ℕ) (s v : ℕ) : Type 0 where
@@ -40,7 +40,7 @@ pub record Approaches (d : ℕ → Float) (nb : ℕ → List ℕ) (s : ℕ) (l :
   pub stops : NoneNearer d (nb (lastOf l)) (lastOf l)
 
 -- o is where a path from s to the point p ends
-pub record PathStops (sites : List Float) (tri he : List ℕ) (p : Point) (s o : ℕ) : Type 0 where
+pub record PathStops (m : Mesh) (p : Point) (s o : ℕ) : Type 0 where
   pub path : List ℕ
-  pub approaches : Approaches (distOf sites p) (nextTo sites tri he) s path
+  pub approaches : Approaches (distOf (m .sites) p) (nextTo m) s path
   pub last : o ≡ lastOf path

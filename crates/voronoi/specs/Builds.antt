@@ -4,16 +4,17 @@ use mathlib.Core.List.{List}
 use Prim.Native.Nat.{ℕ}
 use lib.Ieee.{Float}
 use Rattle.utils.specs.declared.Point.{Point}
+use Rattle.mesh.specs.Accepted.{Mesh}
 use Rattle.admission.specs.Slices.{Slices}
 use Rattle.cell_query.specs.Cells.{CellAnswer, PlaceAnswer}
 use Rattle.building.specs.Promise.{ClippedBuild, UnclippedBuild}
 
 -- clipped to the box of center c, width w and height h: 1, 2, 3, 6, 7 to 10, 11 to 15
-abbrev pub Build : List Float → List ℕ → List ℕ → List ℕ → Point → Float → Float → Slices → Slices → ℕ → Type 0
+abbrev pub Build : Mesh → Point → Float → Float → Slices → Slices → ℕ → Type 0
 Build = ClippedBuild
 
 -- the same without 3 and 12 to 15
-abbrev pub BuildUnclipped : List Float → List ℕ → List ℕ → List ℕ → Slices → Slices → ℕ → Type 0
+abbrev pub BuildUnclipped : Mesh → Slices → Slices → ℕ → Type 0
 BuildUnclipped = UnclippedBuild
 
 -- the cell of site s as the part of the index list, and by where it starts and how long it is: 4, then 16

@@ -17,8 +17,8 @@ use Rattle.utils.specs.declared.Point.{Point}
 use Rattle.bounding_box.specs.Box.{madeOf}
 use Rattle.bounding_box.specs.Rules.{okBox}
 use Rattle.crossings.specs.Rules.{lineAnswer, rayAnswer}
-use Rattle.mesh.specs.Mesh.{leftmostOf, wholeOf, Used}
-use Rattle.mesh.specs.Accepted.{siteCount}
+use Rattle.mesh.specs.Mesh.{wholeOf, Used}
+use Rattle.mesh.specs.Accepted.{Mesh, tableOf, siteCount}
 use Rattle.iterator.specs.Clipped.{clippedNeighboursOf}
 use Rattle.paths.specs.Path.{distOf}
 use Rattle.paths.specs.PathRule.{usedOf}
@@ -54,7 +54,7 @@ use Rattle.voronoi.specs.laws.Wrapping.{build-wraps}
 -- ---- 1. Every public call ends with an answer on every input; a refusal has its number (docs/RULES.md), and each lent slice then holds exactly what is promised.
 
 -- one outcome for each input of each call; then what a refusal leaves
-pub record Demand1 (sites : List Float) (tri he hull : List ℕ) : Type 0 where
+pub record Demand1 (m : Mesh) : Type 0 where
   -- voronoi_root_bits, of patterns of 64 bits
   pub root-bits : (b : ℕ) → One (λ r. (r < 2 ^ 64) × RootBits b r)
   -- voronoi_root
@@ -90,23 +90,23 @@ pub record Demand1 (sites : List Float) (tri he hull : List ℕ) : Type 0 where
   -- voronoi_project_ray
   pub project-ray : (c : Point) (w h : Float) (p dir : Point) → OneMeeting (Meets (rayAnswer c w h p dir))
   -- voronoi_check: the number, the work slice
-  pub check : (w : List ℕ) → One₂ (λ r w′. Check sites tri he hull w w′ r)
+  pub check : (w : List ℕ) → One₂ (λ r w′. Check m w w′ r)
   -- voronoi_walk: the number, the work slice, the output slice, the count, ended
-  pub walk : (s : ℕ) (w o : List ℕ) → OneList (λ r w′ o′ k e. Walk sites tri he hull s w w′ o o′ k e r)
+  pub walk : (s : ℕ) (w o : List ℕ) → OneList (λ r w′ o′ k e. Walk m s w w′ o o′ k e r)
   -- voronoi_neighbours
-  pub neighbours : (s : ℕ) (w o : List ℕ) → OneList (λ r w′ o′ k e. Neighbours sites tri he hull s w w′ o o′ k e r)
+  pub neighbours : (s : ℕ) (w o : List ℕ) → OneList (λ r w′ o′ k e. Neighbours m s w w′ o o′ k e r)
   -- voronoi_clipped_neighbours
-  pub clipped-neighbours : (offs idx : List ℕ) (s : ℕ) (w o : List ℕ) → OneList (λ r w′ o′ k e. ClippedNeighbours sites tri he hull offs idx s w w′ o o′ k e r)
+  pub clipped-neighbours : (offs idx : List ℕ) (s : ℕ) (w o : List ℕ) → OneList (λ r w′ o′ k e. ClippedNeighbours m offs idx s w w′ o o′ k e r)
   -- voronoi_path
-  pub path : (s : ℕ) (p : Point) (w o : List ℕ) → OneList (λ r w′ o′ k e. Path sites tri he hull s p w w′ o o′ k e r)
+  pub path : (s : ℕ) (p : Point) (w o : List ℕ) → OneList (λ r w′ o′ k e. Path m s p w w′ o o′ k e r)
   -- voronoi_shared_edge: the number, the work slice, the edge
-  pub shared-edge : (a b : ℕ) (w : List ℕ) → One₃ (λ r w′ e. SharedEdge sites tri he hull a b w w′ e r)
+  pub shared-edge : (a b : ℕ) (w : List ℕ) → One₃ (λ r w′ e. SharedEdge m a b w w′ e r)
   -- voronoi_cells_share_edge: the number, yes or no
   pub cells-share-edge : (offs idx : List ℕ) (a b : ℕ) → One₂ (λ r y. CellsShareEdge offs idx a b y r)
   -- voronoi_build: the number, all five slices
-  pub build : (c : Point) (w h : Float) (old : Slices) → One₂ (λ r new. Build sites tri he hull c w h old new r)
+  pub build : (c : Point) (w h : Float) (old : Slices) → One₂ (λ r new. Build m c w h old new r)
   -- voronoi_build_unclipped
-  pub build-unclipped : (old : Slices) → One₂ (λ r new. BuildUnclipped sites tri he hull old new r)
+  pub build-unclipped : (old : Slices) → One₂ (λ r new. BuildUnclipped m old new r)
   -- voronoi_cell: the number, start, length
   pub cell : (offs idx : List ℕ) (s : ℕ) → One₃ (λ r start long. Cell offs idx s start long r)
   -- cell: the number, the part
@@ -115,49 +115,49 @@ pub record Demand1 (sites : List Float) (tri he hull : List ℕ) : Type 0 where
   pub cell-wkb-bits : (v off ix : List ℕ) (s : ℕ) (out : List ℕ) → One₃ (λ r k new. CellWkbBits v off ix s out new k r)
   pub cell-wkb : (v : List Float) (off ix : List ℕ) (s : ℕ) (out : List ℕ) → One₃ (λ r k new. CellWkb v off ix s out new k r)
   -- refused by voronoi_check: the work slice
-  pub check-refused : {w w′ : List ℕ} {r : ℕ} → Check sites tri he hull w w′ r → r ≢ 0 → SliceRefused EMPTY w w′ r
+  pub check-refused : {w w′ : List ℕ} {r : ℕ} → Check m w w′ r → r ≢ 0 → SliceRefused EMPTY w w′ r
   -- by a call that hands out a list: the work slice, the output slice, the count, ended
-  pub walk-refused : (s : ℕ) {w w′ o o′ : List ℕ} {k e r : ℕ} → Walk sites tri he hull s w w′ o o′ k e r → r ≢ 0 → ListRefused w w′ o o′ k e r
-  pub neighbours-refused : (s : ℕ) {w w′ o o′ : List ℕ} {k e r : ℕ} → Neighbours sites tri he hull s w w′ o o′ k e r → r ≢ 0 → ListRefused w w′ o o′ k e r
+  pub walk-refused : (s : ℕ) {w w′ o o′ : List ℕ} {k e r : ℕ} → Walk m s w w′ o o′ k e r → r ≢ 0 → ListRefused w w′ o o′ k e r
+  pub neighbours-refused : (s : ℕ) {w w′ o o′ : List ℕ} {k e r : ℕ} → Neighbours m s w w′ o o′ k e r → r ≢ 0 → ListRefused w w′ o o′ k e r
   pub clipped-refused : (offs idx : List ℕ) (s : ℕ) {w w′ o o′ : List ℕ} {k e r : ℕ}
-      → ClippedNeighbours sites tri he hull offs idx s w w′ o o′ k e r → r ≢ 0 → ListRefused w w′ o o′ k e r
-  pub path-refused : (s : ℕ) (p : Point) {w w′ o o′ : List ℕ} {k e r : ℕ} → Path sites tri he hull s p w w′ o o′ k e r → r ≢ 0 → ListRefused w w′ o o′ k e r
+      → ClippedNeighbours m offs idx s w w′ o o′ k e r → r ≢ 0 → ListRefused w w′ o o′ k e r
+  pub path-refused : (s : ℕ) (p : Point) {w w′ o o′ : List ℕ} {k e r : ℕ} → Path m s p w w′ o o′ k e r → r ≢ 0 → ListRefused w w′ o o′ k e r
   -- by voronoi_shared_edge: the work slice
-  pub shared-edge-refused : (a b : ℕ) {w w′ : List ℕ} {e r : ℕ} → SharedEdge sites tri he hull a b w w′ e r → r ≢ 0 → SliceRefused EMPTY w w′ r
+  pub shared-edge-refused : (a b : ℕ) {w w′ : List ℕ} {e r : ℕ} → SharedEdge m a b w w′ e r → r ≢ 0 → SliceRefused EMPTY w w′ r
   -- by a build: all five slices
-  pub build-refused : (c : Point) (w h : Float) {old new : Slices} {r : ℕ} → Build sites tri he hull c w h old new r → r ≢ 0 → BuildRefused old new r
-  pub unclipped-refused : {old new : Slices} {r : ℕ} → BuildUnclipped sites tri he hull old new r → r ≢ 0 → BuildRefused old new r
+  pub build-refused : (c : Point) (w h : Float) {old new : Slices} {r : ℕ} → Build m c w h old new r → r ≢ 0 → BuildRefused old new r
+  pub unclipped-refused : {old new : Slices} {r : ℕ} → BuildUnclipped m old new r → r ≢ 0 → BuildRefused old new r
 
 -- ---- 2. On every admitted input vertices, cells, walks and paths are the definition's, bit for bit: every number answered is finite, so that its pattern is meant.
 
-pub record Demand2 (sites : List Float) (tri he hull : List ℕ) : Type 0 where
+pub record Demand2 (m : Mesh) : Type 0 where
   -- a query answers 0 exactly where the mesh is accepted, there is room, and its own arguments are sound
-  pub check-answers : {w w′ : List ℕ} {r : ℕ} → Check sites tri he hull w w′ r → (r ≡ 0) ↔ QueryAllowed sites tri he hull w (Unit {0})
-  pub walk-answers : (s : ℕ) {w w′ o o′ : List ℕ} {k e r : ℕ} → Walk sites tri he hull s w w′ o o′ k e r → (r ≡ 0) ↔ QueryAllowed sites tri he hull w (s < siteCount sites)
-  pub neighbours-answers : (s : ℕ) {w w′ o o′ : List ℕ} {k e r : ℕ} → Neighbours sites tri he hull s w w′ o o′ k e r
-      → (r ≡ 0) ↔ QueryAllowed sites tri he hull w (s < siteCount sites)
-  pub clipped-answers : (offs idx : List ℕ) (s : ℕ) {w w′ o o′ : List ℕ} {k e r : ℕ} → ClippedNeighbours sites tri he hull offs idx s w w′ o o′ k e r
-      → (r ≡ 0) ↔ QueryAllowed sites tri he hull w ((s < siteCount sites) × CellsOf offs idx (siteCount sites))
-  pub path-answers : (s : ℕ) (p : Point) {w w′ o o′ : List ℕ} {k e r : ℕ} → Path sites tri he hull s p w w′ o o′ k e r
-      → (r ≡ 0) ↔ QueryAllowed sites tri he hull w ((s < siteCount sites) × (okSite p ≡ true))
-  pub shared-edge-answers : (a b : ℕ) {w w′ : List ℕ} {e r : ℕ} → SharedEdge sites tri he hull a b w w′ e r → (r ≡ 0) ↔ QueryAllowed sites tri he hull w (Unit {0})
+  pub check-answers : {w w′ : List ℕ} {r : ℕ} → Check m w w′ r → (r ≡ 0) ↔ QueryAllowed m w (Unit {0})
+  pub walk-answers : (s : ℕ) {w w′ o o′ : List ℕ} {k e r : ℕ} → Walk m s w w′ o o′ k e r → (r ≡ 0) ↔ QueryAllowed m w (s < siteCount (m .sites))
+  pub neighbours-answers : (s : ℕ) {w w′ o o′ : List ℕ} {k e r : ℕ} → Neighbours m s w w′ o o′ k e r
+      → (r ≡ 0) ↔ QueryAllowed m w (s < siteCount (m .sites))
+  pub clipped-answers : (offs idx : List ℕ) (s : ℕ) {w w′ o o′ : List ℕ} {k e r : ℕ} → ClippedNeighbours m offs idx s w w′ o o′ k e r
+      → (r ≡ 0) ↔ QueryAllowed m w ((s < siteCount (m .sites)) × CellsOf offs idx (siteCount (m .sites)))
+  pub path-answers : (s : ℕ) (p : Point) {w w′ o o′ : List ℕ} {k e r : ℕ} → Path m s p w w′ o o′ k e r
+      → (r ≡ 0) ↔ QueryAllowed m w ((s < siteCount (m .sites)) × (okSite p ≡ true))
+  pub shared-edge-answers : (a b : ℕ) {w w′ : List ℕ} {e r : ℕ} → SharedEdge m a b w w′ e r → (r ≡ 0) ↔ QueryAllowed m w (Unit {0})
   -- a build answers 0 exactly where mesh, room, box and definition allow it
-  pub build-answers : (c : Point) (w h : Float) {old new : Slices} {r : ℕ} → Build sites tri he hull c w h old new r
-      → (r ≡ 0) ↔ BuildAllowed sites tri he hull (okBox c w h ≡ true) (build sites tri he hull (madeOf c w h)) old
-  pub unclipped-answers : {old new : Slices} {r : ℕ} → BuildUnclipped sites tri he hull old new r → (r ≡ 0) ↔ BuildAllowed sites tri he hull (Unit {0}) (unclipped sites tri he) old
+  pub build-answers : (c : Point) (w h : Float) {old new : Slices} {r : ℕ} → Build m c w h old new r
+      → (r ≡ 0) ↔ BuildAllowed m (okBox c w h ≡ true) (build m (madeOf c w h)) old
+  pub unclipped-answers : {old new : Slices} {r : ℕ} → BuildUnclipped m old new r → (r ≡ 0) ↔ BuildAllowed m (Unit {0}) (unclipped (m .sites) (m .triangles) (m .halfedges)) old
   -- and leaves the definition's vertices, cells, owners and lost corners; each number finite; the cell queries hand the definition's cells back
-  pub build-leaves : (c : Point) (w h : Float) {old new : Slices} → Build sites tri he hull c w h old new 0
-      → BuildLeaves (siteCount sites) (leftmostOf tri he (siteCount sites)) (build sites tri he hull (madeOf c w h)) old new
-  pub unclipped-leaves : {old new : Slices} → BuildUnclipped sites tri he hull old new 0 → BuildLeaves (siteCount sites) (leftmostOf tri he (siteCount sites)) (unclipped sites tri he) old new
+  pub build-leaves : (c : Point) (w h : Float) {old new : Slices} → Build m c w h old new 0
+      → BuildLeaves (siteCount (m .sites)) (tableOf m) (build m (madeOf c w h)) old new
+  pub unclipped-leaves : {old new : Slices} → BuildUnclipped m old new 0 → BuildLeaves (siteCount (m .sites)) (tableOf m) (unclipped (m .sites) (m .triangles) (m .halfedges)) old new
   -- a walk that has ended is the definition's, from the leftmost half-edge of the site
-  pub walk : (s : ℕ) {w w′ o o′ : List ℕ} {k : ℕ} → Walk sites tri he hull s w w′ o o′ k 1 0 → take k o′ ≡ wholeOf he (getD (leftmostOf tri he (siteCount sites)) s 0)
+  pub walk : (s : ℕ) {w w′ o o′ : List ℕ} {k : ℕ} → Walk m s w w′ o o′ k 1 0 → take k o′ ≡ wholeOf (m .halfedges) (getD (tableOf m) s 0)
   -- so are neighbours, before clipping and after it
-  pub neighbours : (s : ℕ) {w w′ o o′ : List ℕ} {k : ℕ} → Neighbours sites tri he hull s w w′ o o′ k 1 0 → take k o′ ≡ nextTo sites tri he s
-  pub clipped-neighbours : (offs idx : List ℕ) (s : ℕ) {w w′ o o′ : List ℕ} {k : ℕ} → ClippedNeighbours sites tri he hull offs idx s w w′ o o′ k 1 0
-      → take k o′ ≡ clippedNeighboursOf tri he (leftmostOf tri he (siteCount sites)) offs idx s
+  pub neighbours : (s : ℕ) {w w′ o o′ : List ℕ} {k : ℕ} → Neighbours m s w w′ o o′ k 1 0 → take k o′ ≡ nextTo m s
+  pub clipped-neighbours : (offs idx : List ℕ) (s : ℕ) {w w′ o o′ : List ℕ} {k : ℕ} → ClippedNeighbours m offs idx s w w′ o o′ k 1 0
+      → take k o′ ≡ clippedNeighboursOf (m .triangles) (m .halfedges) (tableOf m) offs idx s
   -- so is a path
-  pub path : (s : ℕ) (p : Point) {w w′ o o′ : List ℕ} {k : ℕ} → Path sites tri he hull s p w w′ o o′ k 1 0
-      → take k o′ ≡ wholePath sites tri he (leftmostOf tri he (siteCount sites)) p s
+  pub path : (s : ℕ) (p : Point) {w w′ o o′ : List ℕ} {k : ℕ} → Path m s p w w′ o o′ k 1 0
+      → take k o′ ≡ wholePath (m .sites) (m .triangles) (m .halfedges) (tableOf m) p s
   -- no accepted answer of a call on points and the box is a NaN: each is finite, at most the power of 2 that is named
   pub dist2 : (a b : Point) {d : Float} → Dist2 a b 0 d → Bounded 203 d
   pub circumcenter : (a b c : Point) {x y : Float} → Circumcenter a b c 0 x y → Bounded 400 x × Bounded 400 y
@@ -172,47 +172,47 @@ pub record Demand2 (sites : List Float) (tri he hull : List ℕ) : Type 0 where
 -- ---- 3. On every accepted mesh a walk lists each half-edge of its site exactly once, a path strictly approaches its point and stops exactly where no neighbour is nearer,
 -- and each box corner is wrapped at most once, by its owner.
 
-pub record Demand3 (sites : List Float) (tri he hull : List ℕ) : Type 0 where
+pub record Demand3 (m : Mesh) : Type 0 where
   -- the whole walk: each half-edge that ends at the site exactly once, and no other
-  pub walk : (s : ℕ) {w w′ o o′ : List ℕ} {k : ℕ} → Walk sites tri he hull s w w′ o o′ k 1 0 → WholeRound tri he s (take k o′)
+  pub walk : (s : ℕ) {w w′ o o′ : List ℕ} {k : ℕ} → Walk m s w w′ o o′ k 1 0 → WholeRound (m .triangles) (m .halfedges) s (take k o′)
   -- a slice with an entry for each time that the triangles name the site gets the whole of it
-  pub walk-ends : (s : ℕ) {w w′ o o′ : List ℕ} {k e : ℕ} → Walk sites tri he hull s w w′ o o′ k e 0 → occ s tri ≤ length o → e ≡ 1
+  pub walk-ends : (s : ℕ) {w w′ o o′ : List ℕ} {k e : ℕ} → Walk m s w w′ o o′ k e 0 → occ s (m .triangles) ≤ length o → e ≡ 1
   -- a shorter slice gets exactly its beginning, and stays as it was after it
-  pub walk-begins : (s : ℕ) {v v′ x x′ w w′ o o′ : List ℕ} {j k e : ℕ} → Walk sites tri he hull s v v′ x x′ j 1 0 → Walk sites tri he hull s w w′ o o′ k e 0
+  pub walk-begins : (s : ℕ) {v v′ x x′ w w′ o o′ : List ℕ} {j k e : ℕ} → Walk m s v v′ x x′ j 1 0 → Walk m s w w′ o o′ k e 0
       → (take k o′ ≡ take (length o) (take j x′)) × (drop k o′ ≡ drop k o)
   -- the neighbours are exactly the sites that a half-edge joins to the site
-  pub neighbours : (s : ℕ) {w w′ o o′ : List ℕ} {k : ℕ} → Neighbours sites tri he hull s w w′ o o′ k 1 0 → (v : ℕ) → (0 < occ v (take k o′)) ↔ Joined tri he s v
+  pub neighbours : (s : ℕ) {w w′ o o′ : List ℕ} {k : ℕ} → Neighbours m s w w′ o o′ k 1 0 → (v : ℕ) → (0 < occ v (take k o′)) ↔ Joined (m .triangles) (m .halfedges) s v
   -- the whole path: from its site, each hop to the first of the nearest neighbours, each strictly nearer, to where none is nearer
-  pub path : (s : ℕ) (p : Point) {w w′ o o′ : List ℕ} {k : ℕ} → Path sites tri he hull s p w w′ o o′ k 1 0 → Approaches (distOf sites p) (nextTo sites tri he) s (take k o′)
+  pub path : (s : ℕ) (p : Point) {w w′ o o′ : List ℕ} {k : ℕ} → Path m s p w w′ o o′ k 1 0 → Approaches (distOf (m .sites) p) (nextTo m) s (take k o′)
   -- no site stands on it twice
-  pub path-once : (s : ℕ) (p : Point) {w w′ o o′ : List ℕ} {k : ℕ} → Path sites tri he hull s p w w′ o o′ k 1 0 → (v : ℕ) → occ v (take k o′) ≤ 1
+  pub path-once : (s : ℕ) (p : Point) {w w′ o o′ : List ℕ} {k : ℕ} → Path m s p w w′ o o′ k 1 0 → (v : ℕ) → occ v (take k o′) ≤ 1
   -- it has no more entries than there are sites in use
-  pub path-short : (s : ℕ) (p : Point) {w w′ o o′ : List ℕ} {k : ℕ} → Path sites tri he hull s p w w′ o o′ k 1 0 → Used tri s
-      → length (take k o′) ≤ usedOf tri (siteCount sites)
+  pub path-short : (s : ℕ) (p : Point) {w w′ o o′ : List ℕ} {k : ℕ} → Path m s p w w′ o o′ k 1 0 → Used (m .triangles) s
+      → length (take k o′) ≤ usedOf (m .triangles) (siteCount (m .sites))
   -- a slice with an entry for each site gets the whole of it
-  pub path-ends : (s : ℕ) (p : Point) {w w′ o o′ : List ℕ} {k e : ℕ} → Path sites tri he hull s p w w′ o o′ k e 0 → siteCount sites ≤ length o → e ≡ 1
+  pub path-ends : (s : ℕ) (p : Point) {w w′ o o′ : List ℕ} {k e : ℕ} → Path m s p w w′ o o′ k e 0 → siteCount (m .sites) ≤ length o → e ≡ 1
   -- a shorter slice gets exactly its beginning, and stays as it was after it
-  pub path-begins : (s : ℕ) (p : Point) {v v′ x x′ w w′ o o′ : List ℕ} {j k e : ℕ} → Path sites tri he hull s p v v′ x x′ j 1 0 → Path sites tri he hull s p w w′ o o′ k e 0
+  pub path-begins : (s : ℕ) (p : Point) {v v′ x x′ w w′ o o′ : List ℕ} {j k e : ℕ} → Path m s p v v′ x x′ j 1 0 → Path m s p w w′ o o′ k e 0
       → (take k o′ ≡ take (length o) (take j x′)) × (drop k o′ ≡ drop k o)
   -- each corner is wrapped at most once, by its owner, in the cells that a build leaves
-  pub wrapping : (c : Point) (w h : Float) {old new : Slices} → Build sites tri he hull c w h old new 0 → Wraps sites tri he hull (madeOf c w h) old new
+  pub wrapping : (c : Point) (w h : Float) {old new : Slices} → Build m c w h old new 0 → Wraps m (madeOf c w h) old new
   -- a site in no triangle has an empty walk
-  pub no-walk : (s : ℕ) {w w′ o o′ : List ℕ} {k e : ℕ} → (Used tri s → ⊥) → Walk sites tri he hull s w w′ o o′ k e 0 → (k ≡ 0) × (e ≡ 1)
+  pub no-walk : (s : ℕ) {w w′ o o′ : List ℕ} {k e : ℕ} → (Used (m .triangles) s → ⊥) → Walk m s w w′ o o′ k e 0 → (k ≡ 0) × (e ≡ 1)
   -- no neighbours
-  pub no-neighbours : (s : ℕ) {w w′ o o′ : List ℕ} {k e : ℕ} → (Used tri s → ⊥) → Neighbours sites tri he hull s w w′ o o′ k e 0 → (k ≡ 0) × (e ≡ 1)
+  pub no-neighbours : (s : ℕ) {w w′ o o′ : List ℕ} {k e : ℕ} → (Used (m .triangles) s → ⊥) → Neighbours m s w w′ o o′ k e 0 → (k ≡ 0) × (e ≡ 1)
   -- a path of itself alone
-  pub own-path : (s : ℕ) (p : Point) {w w′ o o′ : List ℕ} {k e : ℕ} → (Used tri s → ⊥) → 0 < length o
-      → Path sites tri he hull s p w w′ o o′ k e 0 → (take k o′ ≡ s ∷ []) × (e ≡ 1)
+  pub own-path : (s : ℕ) (p : Point) {w w′ o o′ : List ℕ} {k e : ℕ} → (Used (m .triangles) s → ⊥) → 0 < length o
+      → Path m s p w w′ o o′ k e 0 → (take k o′ ≡ s ∷ []) × (e ≡ 1)
   -- an empty cell
-  pub no-cell : (c : Point) (w h : Float) (s : ℕ) {old new : Slices} {part : List ℕ} {r : ℕ} → Build sites tri he hull c w h old new 0 → s < siteCount sites → (Used tri s → ⊥)
-      → CellPart (take (suc (siteCount sites)) (new .offsets)) (new .indexes) s part r → part ≡ []
-  pub no-cell-unclipped : (s : ℕ) {old new : Slices} {part : List ℕ} {r : ℕ} → BuildUnclipped sites tri he hull old new 0 → s < siteCount sites → (Used tri s → ⊥)
-      → CellPart (take (suc (siteCount sites)) (new .offsets)) (new .indexes) s part r → part ≡ []
+  pub no-cell : (c : Point) (w h : Float) (s : ℕ) {old new : Slices} {part : List ℕ} {r : ℕ} → Build m c w h old new 0 → s < siteCount (m .sites) → (Used (m .triangles) s → ⊥)
+      → CellPart (take (suc (siteCount (m .sites))) (new .offsets)) (new .indexes) s part r → part ≡ []
+  pub no-cell-unclipped : (s : ℕ) {old new : Slices} {part : List ℕ} {r : ℕ} → BuildUnclipped m old new 0 → s < siteCount (m .sites) → (Used (m .triangles) s → ⊥)
+      → CellPart (take (suc (siteCount (m .sites))) (new .offsets)) (new .indexes) s part r → part ≡ []
 
 -- ---- proved, of every lent mesh
 
-pub demand1 : (sites : List Float) (tri he hull : List ℕ) → Demand1 sites tri he hull
-demand1 sites tri he hull = record {
+pub demand1 : (m : Mesh) → Demand1 m
+demand1 m = record {
   root-bits = λ b r s x y. one-root-bits b r s (x .0) (y .0) (x .1) (y .1);
   root = one-root;
   magnitude-bits = one-magnitude-bits;
@@ -230,41 +230,41 @@ demand1 sites tri he hull = record {
   which-edge = λ c w h p _ _ _ _. one-side;
   intersect-line = λ c w h p q _ _ _ _ _ _ _ _ _ _ _ _. one-meeting;
   project-ray = λ c w h p dir _ _ _ _ _ _ _ _ _ _ _ _. one-meeting;
-  check = λ w r s new other. one-check sites tri he hull w new other r s;
-  walk = λ s w o _ _ _ _ _ _ _ _ _ _. one-walk sites tri he hull s;
-  neighbours = λ s w o _ _ _ _ _ _ _ _ _ _. one-neighbours sites tri he hull s;
-  clipped-neighbours = λ offs idx s w o _ _ _ _ _ _ _ _ _ _. one-clipped sites tri he hull offs idx s;
-  path = λ s p w o _ _ _ _ _ _ _ _ _ _. one-path sites tri he hull s p;
+  check = λ w r s new other. one-check m w new other r s;
+  walk = λ s w o _ _ _ _ _ _ _ _ _ _. one-walk m s;
+  neighbours = λ s w o _ _ _ _ _ _ _ _ _ _. one-neighbours m s;
+  clipped-neighbours = λ offs idx s w o _ _ _ _ _ _ _ _ _ _. one-clipped m offs idx s;
+  path = λ s p w o _ _ _ _ _ _ _ _ _ _. one-path m s p;
   shared-edge = λ a b w _ _ _ _ _ _. one-shared-edge;
   cells-share-edge = λ offs idx a b _ _ _ _. one-cells-share-edge;
-  build = λ c w h old _ _ _ _. one-build sites tri he hull c w h;
-  build-unclipped = λ old _ _ _ _. one-build-unclipped sites tri he hull;
+  build = λ c w h old _ _ _ _. one-build m c w h;
+  build-unclipped = λ old _ _ _ _. one-build-unclipped m;
   cell = λ offs idx s _ _ _ _ _ _. one-cell offs idx s;
   cell-part = λ offs idx s _ _ _ _. one-cell-part offs idx s;
   cell-wkb-bits = λ v off ix s out _ _ _ _ _ _. one-cell-wkb-bits off ix s out v;
   cell-wkb = λ v off ix s out _ _ _ _ _ _. one-cell-wkb off ix s out v;
-  check-refused = λ a. work-refused tri he (siteCount sites) (a .work);
+  check-refused = λ a. work-refused m (a .work);
   walk-refused = λ s. list-refused;
   neighbours-refused = λ s. list-refused;
   clipped-refused = λ offs idx s. list-refused;
   path-refused = λ s p. list-refused;
-  shared-edge-refused = λ a b x. work-refused tri he (siteCount sites) (x .work);
+  shared-edge-refused = λ a b x. work-refused m (x .work);
   build-refused = λ c w h. slices-refused;
   unclipped-refused = slices-refused;
 }
 
-pub demand2 : (sites : List Float) (tri he hull : List ℕ) → Demand2 sites tri he hull
-demand2 sites tri he hull = record {
-  check-answers = check-answers sites tri he hull _;
-  walk-answers = λ s a. site-answers sites tri he hull _ s (a .number);
-  neighbours-answers = λ s a. site-answers sites tri he hull _ s (a .number);
-  clipped-answers = λ offs idx s a. cells-answers sites tri he hull _ offs idx s (a .number);
-  path-answers = λ s p a. path-answers sites tri he hull _ s p (a .number);
-  shared-edge-answers = λ a b x. edge-answers sites tri he hull _ (x .number);
-  build-answers = λ c w h. build-answers sites tri he hull c w h;
-  unclipped-answers = unclipped-answers sites tri he hull;
-  build-leaves = λ c w h. build-leaves sites tri he hull c w h;
-  unclipped-leaves = unclipped-leaves sites tri he hull;
+pub demand2 : (m : Mesh) → Demand2 m
+demand2 m = record {
+  check-answers = check-answers m _;
+  walk-answers = λ s a. site-answers m _ s (a .number);
+  neighbours-answers = λ s a. site-answers m _ s (a .number);
+  clipped-answers = λ offs idx s a. cells-answers m _ offs idx s (a .number);
+  path-answers = λ s p a. path-answers m _ s p (a .number);
+  shared-edge-answers = λ a b x. edge-answers m _ (x .number);
+  build-answers = λ c w h. build-answers m c w h;
+  unclipped-answers = unclipped-answers m;
+  build-leaves = λ c w h. build-leaves m c w h;
+  unclipped-leaves = unclipped-leaves m;
   walk = λ s. written;
   neighbours = λ s. written;
   clipped-neighbours = λ offs idx s. written;
@@ -279,21 +279,21 @@ demand2 sites tri he hull = record {
   within = bounds;
 }
 
-pub demand3 : (sites : List Float) (tri he hull : List ℕ) → Demand3 sites tri he hull
-demand3 sites tri he hull = record {
-  walk = walk-rounds sites tri he hull;
-  walk-ends = walk-ends sites tri he hull;
+pub demand3 : (m : Mesh) → Demand3 m
+demand3 m = record {
+  walk = walk-rounds m;
+  walk-ends = walk-ends m;
   walk-begins = λ s a b. (begins a b, rest b);
-  neighbours = neighbours-joined sites tri he hull;
-  path = λ s p. path-approaches sites tri he hull s p;
-  path-once = λ s p. path-once sites tri he hull s p;
-  path-short = λ s p. path-short sites tri he hull s p;
-  path-ends = λ s p. path-ended sites tri he hull s p;
+  neighbours = neighbours-joined m;
+  path = λ s p. path-approaches m s p;
+  path-once = λ s p. path-once m s p;
+  path-short = λ s p. path-short m s p;
+  path-ends = λ s p. path-ended m s p;
   path-begins = λ s p a b. (begins a b, rest b);
-  wrapping = build-wraps sites tri he hull;
-  no-walk = no-walk sites tri he hull;
-  no-neighbours = no-neighbours sites tri he hull;
-  own-path = λ s p. own-path sites tri he hull s p;
-  no-cell = λ c w h s. build-empty sites tri he hull c w h s;
-  no-cell-unclipped = λ s. unclipped-empty sites tri he hull s;
+  wrapping = build-wraps m;
+  no-walk = no-walk m;
+  no-neighbours = no-neighbours m;
+  own-path = λ s p. own-path m s p;
+  no-cell = λ c w h s. build-empty m c w h s;
+  no-cell-unclipped = λ s. unclipped-empty m s;
 }

@@ -3,12 +3,12 @@ use mathlib.Core.Path.{_≡_}
 use mathlib.Core.Bool.{true}
 use mathlib.Core.List.{List, [], _∷_, _++_, map}
 use Prim.Native.Nat.{ℕ, suc, _≤_, _<_}
-use lib.Ieee.{Float, nan}
+use lib.Ieee.{nan}
 use lib.ListN.{length, getD, take, drop}
 use Rattle.numbers.specs.Numbers.{EMPTY}
 use Rattle.laws.specs.Binary64.{zero}
 use Rattle.utils.specs.Flat.{flat}
-use Rattle.mesh.specs.Accepted.{Accepted, siteCount}
+use Rattle.mesh.specs.Accepted.{Mesh, Accepted, siteCount}
 use Rattle.layout.specs.Regions.{joined, offsetsFrom}
 use Rattle.definition.specs.declared.Fault.{Fault}
 use Rattle.definition.specs.Fault.{Outcome, ok}
@@ -20,15 +20,15 @@ use Rattle.building.specs.Success.{Value}
 use Rattle.voronoi.specs.Builds.{Cell, CellPart}
 
 -- a query may answer 0: the mesh is accepted, the work slice has an entry for each site, and its own arguments are sound
-pub record QueryAllowed (sites : List Float) (tri he hull work : List ℕ) (own : Type 0) : Type 0 where
-  pub mesh : Accepted sites tri he hull
-  pub room : siteCount sites ≤ length work
+pub record QueryAllowed (m : Mesh) (work : List ℕ) (own : Type 0) : Type 0 where
+  pub mesh : Accepted m
+  pub room : siteCount (m .sites) ≤ length work
   pub arguments : own
 
 -- so may a build: the mesh is accepted, there is room, the box keeps its rule, and the definition's outcome o is no refusal
-pub record BuildAllowed (sites : List Float) (tri he hull : List ℕ) (box : Type 0) (o : Outcome Fault Built) (old : Slices) : Type 0 where
-  pub mesh : Accepted sites tri he hull
-  pub room : roomOf sites tri hull old ≡ true
+pub record BuildAllowed (m : Mesh) (box : Type 0) (o : Outcome Fault Built) (old : Slices) : Type 0 where
+  pub mesh : Accepted m
+  pub room : roomOf m old ≡ true
   pub in-box : box
   pub value : Value o
 

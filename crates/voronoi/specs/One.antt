@@ -13,8 +13,8 @@ use Rattle.root.specs.Unique as root
 use Rattle.utils.specs.declared.Point.{Point}
 use Rattle.utils.specs.declared.Center.{Center}
 use Rattle.crossings.specs.declared.Meeting.{Meeting}
-use Rattle.mesh.specs.Accepted.{siteCount}
 use Rattle.mesh.specs.Rules.{numberOf}
+use Rattle.mesh.specs.Accepted.{Mesh}
 use Rattle.check_mesh.specs.Answers.{workAfter}
 use Rattle.shared.specs.Cells.{shareEdgeOf}
 use Rattle.shared.specs.Edge.{sharedEdgeOf}
@@ -104,59 +104,59 @@ one-meeting p q = (
 )
 
 -- ---- the check of a lent mesh
-module _ (sites : List Float) (tri he hull old : List ℕ) where
-  pub one-check : (new other : List ℕ) (r s : ℕ) → Check sites tri he hull old new r → Check sites tri he hull old other s → (r ≡ s) × (new ≡ other)
+module _ (m : Mesh) (old : List ℕ) where
+  pub one-check : (new other : List ℕ) (r s : ℕ) → Check m old new r → Check m old other s → (r ≡ s) × (new ≡ other)
   one-check new other r s a b =
       let q = a .number ∙ ap numberOf (finds-one (a .finding) (b .finding)) ∙ sym (b .number) in
-      (q, a .work ∙ ap (workAfter tri he (siteCount sites) old) q ∙ sym (b .work))
+      (q, a .work ∙ ap (workAfter m old) q ∙ sym (b .work))
 
 -- ---- walks, and what triangles and cells share
-handed-one : {Number : ℕ → Type 0} {tri he : List ℕ} {n : ℕ} {whole w w′ w″ o o′ o″ : List ℕ} {k l e f r s : ℕ}
-    → ((a b : ℕ) → Number a → Number b → a ≡ b) → Handed Number tri he n whole w w′ o o′ k e r
-    → Handed Number tri he n whole w w″ o o″ l f s → (r ≡ s) × (w′ ≡ w″) × (o′ ≡ o″) × (k ≡ l) × (e ≡ f)
-handed-one {tri = tri} {he} {n} {whole} {w} {o = o} {r = r} {s} one a b =
+handed-one : {Number : ℕ → Type 0} {m : Mesh} {whole w w′ w″ o o′ o″ : List ℕ} {k l e f r s : ℕ}
+    → ((a b : ℕ) → Number a → Number b → a ≡ b) → Handed Number m whole w w′ o o′ k e r
+    → Handed Number m whole w w″ o o″ l f s → (r ≡ s) × (w′ ≡ w″) × (o′ ≡ o″) × (k ≡ l) × (e ≡ f)
+handed-one {m = m} {whole} {w} {o = o} {r = r} {s} one a b =
     let q : r ≡ s = one r s (a .number) (b .number) in (
       q,
-      a .work ∙ ap (workAfter tri he n w) q ∙ sym (b .work),
+      a .work ∙ ap (workAfter m w) q ∙ sym (b .work),
       a .out ∙ ap (outAfter whole o) q ∙ sym (b .out),
       a .count ∙ ap (countAfter whole o) q ∙ sym (b .count),
-      a .ended ∙ ap (λ m. bit (endedAfter whole o m)) q ∙ sym (b .ended),
+      a .ended ∙ ap (λ d. bit (endedAfter whole o d)) q ∙ sym (b .ended),
     )
 
-module _ (sites : List Float) (tri he hull : List ℕ) {w w′ w″ o o′ o″ : List ℕ} {k l e f r s : ℕ} where
-  pub one-walk : (v : ℕ) → Walk sites tri he hull v w w′ o o′ k e r → Walk sites tri he hull v w w″ o o″ l f s → (r ≡ s) × (w′ ≡ w″)
+module _ (m : Mesh) {w w′ w″ o o′ o″ : List ℕ} {k l e f r s : ℕ} where
+  pub one-walk : (v : ℕ) → Walk m v w w′ o o′ k e r → Walk m v w w″ o o″ l f s → (r ≡ s) × (w′ ≡ w″)
       × (o′ ≡ o″) × (k ≡ l) × (e ≡ f)
   one-walk v = handed-one (λ a b. finds-one)
 
-  pub one-neighbours : (v : ℕ) → Neighbours sites tri he hull v w w′ o o′ k e r → Neighbours sites tri he hull v w w″ o o″ l f s → (r ≡ s)
+  pub one-neighbours : (v : ℕ) → Neighbours m v w w′ o o′ k e r → Neighbours m v w w″ o o″ l f s → (r ≡ s)
       × (w′ ≡ w″) × (o′ ≡ o″) × (k ≡ l) × (e ≡ f)
   one-neighbours v = handed-one (λ a b. finds-one)
 
-  pub one-path : (v : ℕ) (p : Point) → Path sites tri he hull v p w w′ o o′ k e r → Path sites tri he hull v p w w″ o o″ l f s → (r ≡ s)
+  pub one-path : (v : ℕ) (p : Point) → Path m v p w w′ o o′ k e r → Path m v p w w″ o o″ l f s → (r ≡ s)
       × (w′ ≡ w″) × (o′ ≡ o″) × (k ≡ l) × (e ≡ f)
   one-path v p = handed-one (λ a b. finds-one)
 
-  pub one-clipped : (off ix : List ℕ) (v : ℕ) → ClippedNeighbours sites tri he hull off ix v w w′ o o′ k e r
-      → ClippedNeighbours sites tri he hull off ix v w w″ o o″ l f s → (r ≡ s) × (w′ ≡ w″) × (o′ ≡ o″) × (k ≡ l) × (e ≡ f)
+  pub one-clipped : (off ix : List ℕ) (v : ℕ) → ClippedNeighbours m off ix v w w′ o o′ k e r
+      → ClippedNeighbours m off ix v w w″ o o″ l f s → (r ≡ s) × (w′ ≡ w″) × (o′ ≡ o″) × (k ≡ l) × (e ≡ f)
   one-clipped off ix v = handed-one (λ a b. finds-one)
 
-pub one-shared-edge : {sites : List Float} {tri he hull : List ℕ} {a b : ℕ} {w w′ w″ : List ℕ} {e f r s : ℕ}
-    → SharedEdge sites tri he hull a b w w′ e r → SharedEdge sites tri he hull a b w w″ f s → (r ≡ s) × (w′ ≡ w″) × (e ≡ f)
-one-shared-edge {sites} {tri} {he} {a = a} {b} {w} x y =
+pub one-shared-edge : {m : Mesh} {a b : ℕ} {w w′ w″ : List ℕ} {e f r s : ℕ}
+    → SharedEdge m a b w w′ e r → SharedEdge m a b w w″ f s → (r ≡ s) × (w′ ≡ w″) × (e ≡ f)
+one-shared-edge {m} {a = a} {b} {w} x y =
     let q = finds-one (x .number) (y .number) in
-    (q, x .work ∙ ap (workAfter tri he (siteCount sites) w) q ∙ sym (y .work), x .edge ∙ ap (λ m. pick (eqb m 0) (λ _. sharedEdgeOf he a b) (λ _. EMPTY)) q ∙ sym (y .edge))
+    (q, x .work ∙ ap (workAfter m w) q ∙ sym (y .work), x .edge ∙ ap (λ n. pick (eqb n 0) (λ _. sharedEdgeOf (m .halfedges) a b) (λ _. EMPTY)) q ∙ sym (y .edge))
 
 pub one-cells-share-edge : {off ix : List ℕ} {a b y z r s : ℕ} → CellsShareEdge off ix a b y r → CellsShareEdge off ix a b z s → (r ≡ s) × (y ≡ z)
 one-cells-share-edge {off} {ix} {a} {b} x v =
     let q = finds-one (x .number .found) (v .number .found) in
-    (q, x .answer ∙ ap (λ m. bit (pick (eqb m 0) (λ _. shareEdgeOf off ix a b) (λ _. false))) q ∙ sym (v .answer))
+    (q, x .answer ∙ ap (λ n. bit (pick (eqb n 0) (λ _. shareEdgeOf off ix a b) (λ _. false))) q ∙ sym (v .answer))
 
 -- ---- builds and cells
-module _ (sites : List Float) (tri he hull : List ℕ) {old new other : Slices} {r s : ℕ} where
-  pub one-build : (c : Point) (w h : Float) → Build sites tri he hull c w h old new r → Build sites tri he hull c w h old other s → (r ≡ s) × (new ≡ other)
+module _ (m : Mesh) {old new other : Slices} {r s : ℕ} where
+  pub one-build : (c : Point) (w h : Float) → Build m c w h old new r → Build m c w h old other s → (r ≡ s) × (new ≡ other)
   one-build c w h = answers-one
 
-  pub one-build-unclipped : BuildUnclipped sites tri he hull old new r → BuildUnclipped sites tri he hull old other s → (r ≡ s) × (new ≡ other)
+  pub one-build-unclipped : BuildUnclipped m old new r → BuildUnclipped m old other s → (r ≡ s) × (new ≡ other)
   one-build-unclipped = answers-one
 
 module _ (off ix : List ℕ) (s : ℕ) {q r : ℕ} where

@@ -2,7 +2,7 @@
 use mathlib.Core.Path.{_≡_}
 use mathlib.Core.List.{List, [], _∷_, map}
 use Prim.Native.Nat.{ℕ, suc, _+_, _/_, _≤_, _<_}
-use lib.Ieee.{Float, nan}
+use lib.Ieee.{nan}
 use lib.ListN.{length, getD, drop}
 use Rattle.numbers.specs.Numbers.{EMPTY}
 use Rattle.laws.specs.Count.{occ}
@@ -10,7 +10,7 @@ use Rattle.utils.specs.Plane.{at}
 use Rattle.utils.specs.Flat.{pointAt}
 use Rattle.bounding_box.specs.Box.{cornersOf}
 use Rattle.bounding_box.specs.declared.BoundingBox.{BoundingBox}
-use Rattle.mesh.specs.Accepted.{siteCount}
+use Rattle.mesh.specs.Accepted.{Mesh, siteCount}
 use Rattle.layout.specs.Regions.{joined, offsetsFrom}
 use Rattle.definition.specs.Cell.{Entry}
 use Rattle.definition.specs.Build.{wrappedIn, allWrapped, lostFrom}
@@ -20,18 +20,18 @@ use Rattle.admission.specs.Slices.{Slices}
 use Rattle.voronoi.specs.Approach.{PathStops}
 
 -- corner c is vertex T + c, and its owner stands in the counts after the number of vertices
-pub record Wraps (sites : List Float) (tri he hull : List ℕ) (b : BoundingBox) (old new : Slices) : Type 0 where
+pub record Wraps (m : Mesh) (b : BoundingBox) (old new : Slices) : Type 0 where
   -- marked cells, one for each site, whose marks taken off are the cells in the slices; the corners among the vertices
   pub marked : List (List Entry)
-  pub many : length marked ≡ siteCount sites
+  pub many : length marked ≡ siteCount (m .sites)
   pub indexes : new .indexes ≡ padded (length (old .indexes)) EMPTY (joined (map unmarked marked))
   pub offsets : new .offsets ≡ padded (length (old .offsets)) EMPTY (offsetsFrom 0 (map unmarked marked))
-  pub corners : (c : ℕ) → c < 4 → pointAt (new .vertices) (length tri / 3 + c) ≡ getD (cornersOf b) c (at nan nan)
+  pub corners : (c : ℕ) → c < 4 → pointAt (new .vertices) (length (m .triangles) / 3 + c) ≡ getD (cornersOf b) c (at nan nan)
   -- each corner at most once over all cells, only in its owner's; and nothing else is wrapped
-  pub once : (c : ℕ) → c < 4 → occ (length tri / 3 + c) (allWrapped marked) ≤ 1
-  pub by-owner : (c s : ℕ) → c < 4 → 0 < occ (length tri / 3 + c) (wrappedIn (getD marked s [])) → s ≡ getD (new .counts) (suc c) 0
-  pub corners-alone : (v s : ℕ) → 0 < occ v (wrappedIn (getD marked s [])) → (length tri / 3 ≤ v) × (v < length tri / 3 + 4)
+  pub once : (c : ℕ) → c < 4 → occ (length (m .triangles) / 3 + c) (allWrapped marked) ≤ 1
+  pub by-owner : (c s : ℕ) → c < 4 → 0 < occ (length (m .triangles) / 3 + c) (wrappedIn (getD marked s [])) → s ≡ getD (new .counts) (suc c) 0
+  pub corners-alone : (v s : ℕ) → 0 < occ v (wrappedIn (getD marked s [])) → (length (m .triangles) / 3 ≤ v) × (v < length (m .triangles) / 3 + 4)
   -- the owner is where the path to the corner ends, the first one from the first hull site, each next one from the owner before
-  pub owners : (c : ℕ) → c < 4 → PathStops sites tri he (getD (cornersOf b) c (at nan nan)) (getD (getD hull 0 0 ∷ drop 1 (new .counts)) c 0) (getD (new .counts) (suc c) 0)
+  pub owners : (c : ℕ) → c < 4 → PathStops m (getD (cornersOf b) c (at nan nan)) (getD (getD (m .hull) 0 0 ∷ drop 1 (new .counts)) c 0) (getD (new .counts) (suc c) 0)
   -- the lost corners are those that no cell took by wrapping
-  pub lost : getD (new .counts) 5 0 ≡ lostFrom (length tri / 3) 4 marked
+  pub lost : getD (new .counts) 5 0 ≡ lostFrom (length (m .triangles) / 3) 4 marked

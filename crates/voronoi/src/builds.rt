@@ -2,6 +2,7 @@
 // (indexes EMPTY, floats +0); after 0 each holds what the build made, then EMPTY or +0 to its end.
 use utils::Point;
 ghost use Rattle.utils.specs.Plane.{at};
+ghost use Rattle.mesh.specs.Accepted.{mesh};
 ghost use Rattle.admission.specs.Slices.{slices};
 ghost use Rattle.voronoi.specs.Builds.{Build, BuildUnclipped, Cell, CellPart};
 
@@ -22,7 +23,7 @@ pub extern "C" fn voronoi_build(
     offsets: &mut [u32],
     counts: &mut [u32],
 ) -> u32
-    ensures { λ r. ⌜ Build (now (sites .entry)) (now (triangles .entry)) (now (halfedges .entry)) (now (hull .entry)) (at cx cy) width height
+    ensures { λ r. ⌜ Build (mesh (now (sites .entry)) (now (triangles .entry)) (now (halfedges .entry)) (now (hull .entry))) (at cx cy) width height
         (slices (now (work .entry)) (now (vertices .entry)) (now (indexes .entry)) (now (offsets .entry)) (now (counts .entry)))
         (slices (now (work .exit)) (now (vertices .exit)) (now (indexes .exit)) (now (offsets .exit)) (now (counts .exit))) r ⌝ }
 {
@@ -56,7 +57,7 @@ pub extern "C" fn voronoi_build_unclipped(
     offsets: &mut [u32],
     counts: &mut [u32],
 ) -> u32
-    ensures { λ r. ⌜ BuildUnclipped (now (sites .entry)) (now (triangles .entry)) (now (halfedges .entry)) (now (hull .entry))
+    ensures { λ r. ⌜ BuildUnclipped (mesh (now (sites .entry)) (now (triangles .entry)) (now (halfedges .entry)) (now (hull .entry)))
         (slices (now (work .entry)) (now (vertices .entry)) (now (indexes .entry)) (now (offsets .entry)) (now (counts .entry)))
         (slices (now (work .exit)) (now (vertices .exit)) (now (indexes .exit)) (now (offsets .exit)) (now (counts .exit))) r ⌝ }
 {

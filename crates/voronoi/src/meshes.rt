@@ -1,4 +1,5 @@
 // The check of a lent mesh.
+ghost use Rattle.mesh.specs.Accepted.{mesh};
 ghost use Rattle.voronoi.specs.Meshes.{Check};
 
 // 0 for a mesh that is accepted; else the first of 1, 2, 6, 7, 8, 9, 10 whose rule is broken.
@@ -10,7 +11,7 @@ pub extern "C" fn voronoi_check(
     hull: &[u32],
     work: &mut [u32],
 ) -> u32
-    ensures { λ r. ⌜ Check (now (sites .entry)) (now (triangles .entry)) (now (halfedges .entry)) (now (hull .entry)) (now (work .entry)) (now (work .exit)) r ⌝ }
+    ensures { λ r. ⌜ Check (mesh (now (sites .entry)) (now (triangles .entry)) (now (halfedges .entry)) (now (hull .entry))) (now (work .entry)) (now (work .exit)) r ⌝ }
 {
     let f = check_mesh::check_mesh(sites, triangles, halfedges, hull, work);
     check_mesh::number(f)

@@ -2,6 +2,7 @@
 // length; `count` is how many entries were written and `ended` 1 where the last one written ends the list. A lent number is always written.
 use utils::Point;
 ghost use Rattle.utils.specs.Plane.{at};
+ghost use Rattle.mesh.specs.Accepted.{mesh};
 ghost use Rattle.voronoi.specs.Walks.{Walk, Neighbours, ClippedNeighbours, Path, SharedEdge, CellsShareEdge};
 
 // The half-edges that end at a site, from its leftmost one on.
@@ -17,7 +18,7 @@ pub extern "C" fn voronoi_walk(
     count: &mut u32,
     ended: &mut u32,
 ) -> u32
-    ensures { λ r. ⌜ Walk (now (sites .entry)) (now (triangles .entry)) (now (halfedges .entry)) (now (hull .entry)) site (now (work .entry))
+    ensures { λ r. ⌜ Walk (mesh (now (sites .entry)) (now (triangles .entry)) (now (halfedges .entry)) (now (hull .entry))) site (now (work .entry))
         (now (work .exit)) (now (out .entry)) (now (out .exit)) (now (count .exit)) (now (ended .exit)) r ⌝ }
 {
     let r = queries::walk(sites, triangles, halfedges, hull, site, work, out);
@@ -39,7 +40,7 @@ pub extern "C" fn voronoi_neighbours(
     count: &mut u32,
     ended: &mut u32,
 ) -> u32
-    ensures { λ r. ⌜ Neighbours (now (sites .entry)) (now (triangles .entry)) (now (halfedges .entry)) (now (hull .entry)) site (now (work .entry))
+    ensures { λ r. ⌜ Neighbours (mesh (now (sites .entry)) (now (triangles .entry)) (now (halfedges .entry)) (now (hull .entry))) site (now (work .entry))
         (now (work .exit)) (now (out .entry)) (now (out .exit)) (now (count .exit)) (now (ended .exit)) r ⌝ }
 {
     let r = queries::neighbours(sites, triangles, halfedges, hull, site, work, out);
@@ -63,7 +64,7 @@ pub extern "C" fn voronoi_clipped_neighbours(
     count: &mut u32,
     ended: &mut u32,
 ) -> u32
-    ensures { λ r. ⌜ ClippedNeighbours (now (sites .entry)) (now (triangles .entry)) (now (halfedges .entry)) (now (hull .entry))
+    ensures { λ r. ⌜ ClippedNeighbours (mesh (now (sites .entry)) (now (triangles .entry)) (now (halfedges .entry)) (now (hull .entry)))
         (now (offsets .entry)) (now (indexes .entry)) site
         (now (work .entry)) (now (work .exit)) (now (out .entry)) (now (out .exit)) (now (count .exit)) (now (ended .exit)) r ⌝ }
 {
@@ -98,7 +99,7 @@ pub extern "C" fn voronoi_path(
     count: &mut u32,
     ended: &mut u32,
 ) -> u32
-    ensures { λ r. ⌜ Path (now (sites .entry)) (now (triangles .entry)) (now (halfedges .entry)) (now (hull .entry)) site (at x y)
+    ensures { λ r. ⌜ Path (mesh (now (sites .entry)) (now (triangles .entry)) (now (halfedges .entry)) (now (hull .entry))) site (at x y)
         (now (work .entry)) (now (work .exit)) (now (out .entry)) (now (out .exit)) (now (count .exit)) (now (ended .exit)) r ⌝ }
 {
     let p = Point { x, y };
@@ -120,7 +121,7 @@ pub extern "C" fn voronoi_shared_edge(
     work: &mut [u32],
     edge: &mut u32,
 ) -> u32
-    ensures { λ r. ⌜ SharedEdge (now (sites .entry)) (now (triangles .entry)) (now (halfedges .entry)) (now (hull .entry)) a b
+    ensures { λ r. ⌜ SharedEdge (mesh (now (sites .entry)) (now (triangles .entry)) (now (halfedges .entry)) (now (hull .entry))) a b
         (now (work .entry)) (now (work .exit)) (now (edge .exit)) r ⌝ }
 {
     let r = queries::shared_edge(sites, triangles, halfedges, hull, a, b, work);

@@ -8,7 +8,7 @@ use Rattle.admission.proofs.admit.Tie as tie
 returns : tie.Need-returns
 returns c =
     let at-start = c .before .before .before .before .before .before .before in
-    refused-early _ _ _ _ _ _ (c .before .early .ensures) _ (at-start .pre .1) (c .if1 .taken)
+    refused-early _ _ _ (c .before .early .ensures) _ (at-start .pre .1) (c .if1 .taken)
 
 check-topology-requires : tie.Need-check-topology-requires
 check-topology-requires c κs =
@@ -19,7 +19,7 @@ returns-2 : tie.Need-returns-2
 returns-2 c =
     let at-if1 = c .before .before .before .before .before in
     let at-early = at-if1 .before in
-    judged-late _ _ _ _ _ _ (at-early .early .ensures) (at-if1 .if1 .left) (c .before .before .before .check-topology .ensures) (c .number .ensures)
+    judged-late _ _ _ (at-early .early .ensures) (at-if1 .if1 .left) (c .before .before .before .check-topology .ensures) (c .number .ensures)
 
 pub admit-spec : {M : Type 1} → statement M
 admit-spec =

@@ -9,23 +9,24 @@ use lib.ListN.{length, replicate}
 use borrow.Author.Tests.{lt-ltb, le-ltb}
 use Rattle.laws.specs.Binary64.{zero}
 use Rattle.numbers.specs.Numbers.{EMPTY, refusedTriangle}
+use Rattle.mesh.specs.Accepted.{Mesh}
 use Rattle.layout.specs.Outputs.{padded}
 use Rattle.admission.specs.Slices.{slices, roomOf}
 use Rattle.admission.specs.Admission.{Admission, RoomAnswer, BuildAdmission}
 use Rattle.admission.specs.laws.Admits.{admits-room}
 
-module _ (sites : List Float) (tri he hull : List ℕ) (asked : ℕ) (w w′ : List ℕ) (v : List Float) (ix off c : List ℕ) (roomy : Bool) (r : ℕ)
-    (room : RoomAnswer (length sites) (length tri) (length he) (length hull) (length w) (length v) (length ix) (length off) (length c) roomy)
-    (a : Admission sites tri he hull roomy asked w w′ r) where
+module _ (m : Mesh) (asked : ℕ) (w w′ : List ℕ) (v : List Float) (ix off c : List ℕ) (roomy : Bool) (r : ℕ)
+    (room : RoomAnswer (length (m .sites)) (length (m .triangles)) (length (m .halfedges)) (length (m .hull)) (length w) (length v) (length ix) (length off) (length c) roomy)
+    (a : Admission m roomy asked w w′ r) where
   -- where rule 1 is broken the test of rule 2 does not count
-  admission : Admission sites tri he hull (roomOf sites tri hull (slices w v ix off c)) asked w w′ r
+  admission : Admission m (roomOf m (slices w v ix off c)) asked w w′ r
   admission = record {
-    number = record { found = admits-room sites tri he hull (roomOf sites tri hull (slices w v ix off c) ≡ true) (λ k. (λ e. sym (room .right k) ∙ e, λ e. room .right k ∙ e)) (a .number) };
+    number = record { found = admits-room m (roomOf m (slices w v ix off c) ≡ true) (λ k. (λ e. sym (room .right k) ∙ e, λ e. room .right k ∙ e)) (a .number) };
     work = a .work;
   }
 
   -- up to 6 and after 0 no output has changed
-  pub left-alone : r < refusedTriangle → BuildAdmission sites tri he hull asked (slices w v ix off c) (slices w′ v ix off c) r
+  pub left-alone : r < refusedTriangle → BuildAdmission m asked (slices w v ix off c) (slices w′ v ix off c) r
   left-alone l = record {
     admission = admission;
     vertices = rw (lt-ltb r refusedTriangle l);
@@ -36,7 +37,7 @@ module _ (sites : List Float) (tri he hull : List ℕ) (asked : ℕ) (w w′ : L
 
   -- from 7 on all are cleared
   pub all-cleared : refusedTriangle ≤ r → (v′ : List Float) (ix′ off′ c′ : List ℕ) → v′ ≡ padded (length v) zero [] → ix′ ≡ padded (length ix) EMPTY []
-      → off′ ≡ padded (length off) EMPTY [] → c′ ≡ replicate (length c) EMPTY → BuildAdmission sites tri he hull asked (slices w v ix off c) (slices w′ v′ ix′ off′ c′) r
+      → off′ ≡ padded (length off) EMPTY [] → c′ ≡ replicate (length c) EMPTY → BuildAdmission m asked (slices w v ix off c) (slices w′ v′ ix′ off′ c′) r
   all-cleared l v′ ix′ off′ c′ qv qi qo qc = record {
     admission = admission;
     vertices = rw (le-ltb r refusedTriangle l) (qv ∙ rw sub-zero);

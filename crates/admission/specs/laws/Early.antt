@@ -12,7 +12,7 @@ use Rattle.laws.specs.Refusals.{reads, Keep}
 use Rattle.laws.specs.laws.Refusals.{finds-keep, finds-answers, finds-first, finds-after, finds-reads}
 use Rattle.mesh.specs.declared.MeshFault.{MeshFault}
 use Rattle.mesh.specs.Rules.{numberOf, topologyRules}
-use Rattle.mesh.specs.Accepted.{siteCount}
+use Rattle.mesh.specs.Accepted.{Mesh, siteCount}
 use Rattle.mesh.specs.Mesh.{leftmostIn}
 use Rattle.check_mesh.specs.Answers.{TopologyAnswer, workAfter}
 use Rattle.check_mesh.specs.laws.AtExit.{exit-held}
@@ -25,20 +25,23 @@ pub passed : {sites : List Float} {entries halfedges hull : ℕ} {roomy : Bool} 
     → r ≡ 0 → Keep (earlyRules sites entries halfedges hull roomy asked)
 passed e z = finds-keep (λ r. r ≡ 0) (search needs) z (e .found)
 
-module _ (sites : List Float) (tri he hull : List ℕ) (roomy : Bool) (asked : ℕ) {r : ℕ} (e : Early sites (length tri) (length he) (length hull) roomy asked r) where
+module _ (m : Mesh) (roomy : Bool) (asked : ℕ) {r : ℕ} (e : Early (m .sites) (length (m .triangles)) (length (m .halfedges)) (length (m .hull)) roomy asked r) where
   -- an early refusal leaves the work slice as it was
-  pub refused-early : (old : List ℕ) → asked < refusedTriangle → r ≢ 0 → Admission sites tri he hull roomy asked old old r
+  pub refused-early : (old : List ℕ) → asked < refusedTriangle → r ≢ 0 → Admission m roomy asked old old r
   refused-early old l n =
       let small : r < refusedTriangle = finds-answers (λ r. r < refusedTriangle) (omega arith) (search needs) (e .found) in
       record {
-        number = record { found = finds-first (reads numberOf (topologyRules tri he hull (siteCount sites))) n (e .found) };
-        work = sym (exit-held EMPTY (leftmostIn tri he (siteCount sites) (length old)) old r n small);
+        number = record { found = finds-first (reads numberOf (topologyRules (m .triangles) (m .halfedges) (m .hull) (siteCount (m .sites)))) n (e .found) };
+        work = sym (exit-held EMPTY (leftmostIn (m .triangles) (m .halfedges) (siteCount (m .sites)) (length old)) old r n small);
       }
 
   -- else rules 7 to 10 answer
-  pub judged-late : r ≡ 0 → {s : ℕ} {f : MeshFault} {old new : List ℕ} → TopologyAnswer tri he hull (siteCount sites) old new f
-      → s ≡ numberOf f → Admission sites tri he hull roomy asked old new s
+  pub judged-late : r ≡ 0 → {s : ℕ} {f : MeshFault} {old new : List ℕ} → TopologyAnswer (m .triangles) (m .halfedges) (m .hull) (siteCount (m .sites)) old new f
+      → s ≡ numberOf f → Admission m roomy asked old new s
   judged-late z {old = old} a q = record {
-    number = rw q (record { found = finds-after (earlyRules sites (length tri) (length he) (length hull) roomy asked) (passed e z) (finds-reads numberOf (a .verdict)) });
-    work = a .work ∙ ap (workAfter tri he (siteCount sites) old) (sym q);
+    number = rw q (record {
+      found = finds-after (earlyRules (m .sites) (length (m .triangles)) (length (m .halfedges)) (length (m .hull)) roomy asked)
+          (passed e z) (finds-reads numberOf (a .verdict));
+    });
+    work = a .work ∙ ap (workAfter m old) (sym q);
   }

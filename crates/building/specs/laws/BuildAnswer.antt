@@ -13,8 +13,8 @@ use borrow.Author.Tests.{ne-eqb, lt-ltb}
 use Rattle.laws.specs.Binary64.{zero}
 use Rattle.numbers.specs.Numbers.{EMPTY, refusedTriangle}
 use Rattle.utils.specs.declared.Point.{Point}
-use Rattle.mesh.specs.Mesh.{leftmostOf, leftmostIn}
-use Rattle.mesh.specs.Accepted.{Accepted, siteCount}
+use Rattle.mesh.specs.Mesh.{leftmostIn}
+use Rattle.mesh.specs.Accepted.{Mesh, tableOf, Accepted, siteCount}
 use Rattle.mesh.specs.laws.Facts.{topology, tab-length}
 use Rattle.check_mesh.specs.AtExit.{atExit}
 use Rattle.check_mesh.specs.laws.AtExit.{exit-made, exit-blank}
@@ -39,8 +39,8 @@ use Rattle.building.specs.laws.Promise.{early, built}
 blanked : {A : Type 0} (blank : A) (made m l : List A) (n : ℕ) → refusedTriangle ≤ n → length m ≡ length l → replicate (length m) blank ≡ atExit blank made l n
 blanked blank made m l n h e = ap (λ k. replicate k blank) e ∙ sym (exit-blank blank made l n h)
 
-module _ {sites : List Float} {tri he hull : List ℕ} {asked : ℕ} {old new : Slices} {r : ℕ} (a : BuildAdmission sites tri he hull asked old new r) where
-  pub answers-early : (o : Outcome Fault Built) → r ≢ 0 → BuildAnswers sites tri he hull asked o old new r
+module _ {m : Mesh} {asked : ℕ} {old new : Slices} {r : ℕ} (a : BuildAdmission m asked old new r) where
+  pub answers-early : (o : Outcome Fault Built) → r ≢ 0 → BuildAnswers m asked o old new r
   unfolding atExit
   answers-early o n = record {
     number = early (a .admission .number) n;
@@ -52,13 +52,14 @@ module _ {sites : List Float} {tri he hull : List ℕ} {asked : ℕ} {old new : 
   }
 
   module _ (z : r ≡ 0) where
-    pub mesh-of : Accepted sites tri he hull
+    pub mesh-of : Accepted m
     mesh-of = admitted (a .admission .number) z .accepted
 
     pub fit-of : asked ≡ 0
     fit-of = admitted (a .admission .number) z .fit
 
-    granted-of : Granted (siteCount sites) (length tri / 3) (length hull) (length (old .work)) (length (old .vertices)) (length (old .indexes)) (length (old .offsets)) (length (old .counts))
+    granted-of : Granted (siteCount (m .sites)) (length (m .triangles) / 3) (length (m .hull)) (length (old .work))
+        (length (old .vertices)) (length (old .indexes)) (length (old .offsets)) (length (old .counts))
     granted-of = granted _ _ _ _ _ _ _ _ (admitted (a .admission .number) z .roomed)
 
     small : ltb r refusedTriangle ≡ true
@@ -76,29 +77,29 @@ module _ {sites : List Float} {tri he hull : List ℕ} {asked : ℕ} {old new : 
     same-counts : new .counts ≡ old .counts
     same-counts = a .counts ∙ rw small
 
-    table-of : new .work ≡ leftmostIn tri he (siteCount sites) (length (old .work))
-    table-of = a .admission .work ∙ exit-made EMPTY (leftmostIn tri he (siteCount sites) (length (old .work))) (old .work) r z
+    table-of : new .work ≡ leftmostIn (m .triangles) (m .halfedges) (siteCount (m .sites)) (length (old .work))
+    table-of = a .admission .work ∙ exit-made EMPTY (leftmostIn (m .triangles) (m .halfedges) (siteCount (m .sites)) (length (old .work))) (old .work) r z
 
     long-of : length (new .work) ≡ length (old .work)
-    long-of = ap length table-of ∙ table-long tri he hull (siteCount sites) (topology mesh-of) (length (old .work)) (granted-of .table)
+    long-of = ap length table-of ∙ table-long (m .triangles) (m .halfedges) (m .hull) (siteCount (m .sites)) (topology mesh-of) (length (old .work)) (granted-of .table)
 
     -- what the build is lent
-    pub rooms-of : Rooms (length tri / 3) (length hull) (siteCount sites) (length (new .vertices)) (length (new .indexes)) (length (new .offsets))
+    pub rooms-of : Rooms (length (m .triangles) / 3) (length (m .hull)) (siteCount (m .sites)) (length (new .vertices)) (length (new .indexes)) (length (new .offsets))
     rooms-of = rw (same-vertices, same-indexes, same-offsets) (granted-of .rooms)
 
     pub six-of : 6 ≤ length (new .counts)
     six-of = rw same-counts (granted-of .six)
 
-    pub table-fits : siteCount sites ≤ length (new .work)
+    pub table-fits : siteCount (m .sites) ≤ length (new .work)
     table-fits = rw long-of (granted-of .table)
 
-    pub table-is : take (siteCount sites) (new .work) ≡ leftmostOf tri he (siteCount sites)
-    table-is = ap (take (siteCount sites)) table-of ∙ table-part tri he hull (siteCount sites) (topology mesh-of) (length (old .work)) (granted-of .table)
+    pub table-is : take (siteCount (m .sites)) (new .work) ≡ tableOf m
+    table-is = ap (take (siteCount (m .sites))) table-of ∙ table-part (m .triangles) (m .halfedges) (m .hull) (siteCount (m .sites)) (topology mesh-of) (length (old .work)) (granted-of .table)
 
     module _ {v : List Float} {ix off w c made : List ℕ} where
       go : (o : Outcome Fault Built) → Refuses Numbered o → BuiltInto o (new .vertices) (new .indexes) (new .offsets) v ix off
           → EndedBuild (faultOf o .number) made (new .work) (new .counts) w c → (faultOf o .number ≡ 0 → made ≡ countNumbers o)
-          → BuildAnswers sites tri he hull asked o old (slices w v ix off c) (faultOf o .number)
+          → BuildAnswers m asked o old (slices w v ix off c) (faultOf o .number)
       unfolding atExit vertexNumbers indexNumbers offsetNumbers countNumbers
       go (ok b) late l f q = record {
         number = built (rw z at (a .admission .number));
@@ -110,19 +111,19 @@ module _ {sites : List Float} {tri he hull : List ℕ} {asked : ℕ} {old new : 
       }
       go (refused e) late l f q =
           let n : e .number ≢ 0 = λ x. omega (arith, late .least) in
-          let m : refusedTriangle ≤ e .number = omega (arith, late .least) in
+          let big : refusedTriangle ≤ e .number = omega (arith, late .least) in
           record {
             number = built (rw z at (a .admission .number));
-            work = (rw (ne-eqb (e .number) 0 n) at (f .work)) ∙ blanked EMPTY (padded (length (old .work)) EMPTY (leftmostOf tri he (siteCount sites))) (new .work) (old .work) (e .number) m long-of;
-            vertices = (rw sub-zero at (l .vertices)) ∙ blanked zero (padded (length (old .vertices)) zero []) (new .vertices) (old .vertices) (e .number) m (ap length same-vertices);
-            indexes = (rw sub-zero at (l .indexes)) ∙ blanked EMPTY (padded (length (old .indexes)) EMPTY []) (new .indexes) (old .indexes) (e .number) m (ap length same-indexes);
-            offsets = (rw sub-zero at (l .offsets)) ∙ blanked EMPTY (padded (length (old .offsets)) EMPTY []) (new .offsets) (old .offsets) (e .number) m (ap length same-offsets);
-            counts = (rw (ne-eqb (e .number) 0 n) at (f .counts)) ∙ blanked EMPTY (padded (length (old .counts)) EMPTY []) (new .counts) (old .counts) (e .number) m (ap length same-counts);
+            work = (rw (ne-eqb (e .number) 0 n) at (f .work)) ∙ blanked EMPTY (padded (length (old .work)) EMPTY (tableOf m)) (new .work) (old .work) (e .number) big long-of;
+            vertices = (rw sub-zero at (l .vertices)) ∙ blanked zero (padded (length (old .vertices)) zero []) (new .vertices) (old .vertices) (e .number) big (ap length same-vertices);
+            indexes = (rw sub-zero at (l .indexes)) ∙ blanked EMPTY (padded (length (old .indexes)) EMPTY []) (new .indexes) (old .indexes) (e .number) big (ap length same-indexes);
+            offsets = (rw sub-zero at (l .offsets)) ∙ blanked EMPTY (padded (length (old .offsets)) EMPTY []) (new .offsets) (old .offsets) (e .number) big (ap length same-offsets);
+            counts = (rw (ne-eqb (e .number) 0 n) at (f .counts)) ∙ blanked EMPTY (padded (length (old .counts)) EMPTY []) (new .counts) (old .counts) (e .number) big (ap length same-counts);
           }
 
       pub answers-built : (o : Outcome Fault Built) → Refuses Numbered o → (f : Fault) → f ≡ faultOf o
           → BuiltInto o (new .vertices) (new .indexes) (new .offsets) v ix off → EndedBuild (f .number) made (new .work) (new .counts) w c
-          → (faultOf o .number ≡ 0 → made ≡ countNumbers o) → BuildAnswers sites tri he hull asked o old (slices w v ix off c) (f .number)
+          → (faultOf o .number ≡ 0 → made ≡ countNumbers o) → BuildAnswers m asked o old (slices w v ix off c) (f .number)
       answers-built o late f e l d q = rw e (go o late l (rw e at d) q)
 
 -- ---- the unclipped build: a vertex for each triangle

@@ -10,7 +10,7 @@ use Rattle.utils.specs.declared.Point.{Point}
 use Rattle.bounding_box.specs.Box.{madeOf}
 use Rattle.bounding_box.specs.Finite.{BoundedBox}
 use Rattle.bounding_box.specs.declared.BoundingBox.{BoundingBox}
-use Rattle.mesh.specs.Accepted.{siteCount}
+use Rattle.mesh.specs.Accepted.{Mesh, siteCount}
 use Rattle.definition.specs.declared.Fault.{Fault}
 use Rattle.definition.specs.Fault.{Outcome, ok, refused}
 use Rattle.definition.specs.Build.{Built, build}
@@ -55,31 +55,31 @@ module _ (o : Outcome Fault Built) (x : CellsAnswer) (q : x ≡ outcomeAnswer o)
       go (refused f) h = omega arith
 
 -- ---- the whole
-module _ {sites : List Float} {tri he hull : List ℕ} {asked : ℕ} {old new : Slices} {r : ℕ} (a : BuildAdmission sites tri he hull asked old new r)
+module _ {m : Mesh} {asked : ℕ} {old new : Slices} {r : ℕ} (a : BuildAdmission m asked old new r)
     (c : Point) (w h : Float) (ask : asked ≡ boxAsk c w h) where
-  pub clipped-early : r ≢ 0 → ClippedBuild sites tri he hull c w h old new r
-  clipped-early n = rw (← ask) (answers-early a (build sites tri he hull (madeOf c w h)) n)
+  pub clipped-early : r ≢ 0 → ClippedBuild m c w h old new r
+  clipped-early n = rw (← ask) (answers-early a (build m (madeOf c w h)) n)
 
   module _ (z : r ≡ 0) (b : BoundingBox) (made : b ≡ madeOf c w h) where
     bounded : BoundedBox 101 b
     bounded = rw made (box-admitted c w h (sym ask ∙ fit-of a z))
 
-    pub clipped-asks : AdmittedBuild sites tri he hull (take (siteCount sites) (new .work)) b (length (new .vertices)) (length (new .indexes)) (length (new .offsets))
+    pub clipped-asks : AdmittedBuild m (take (siteCount (m .sites)) (new .work)) b (length (new .vertices)) (length (new .indexes)) (length (new .offsets))
     clipped-asks = record { mesh = mesh-of a z; table-is = table-is a z; box = bounded; rooms = rooms-of a z }
 
-    module _ (x : CellsAnswer) (q : x ≡ outcomeAnswer (build sites tri he hull b)) where
+    module _ (x : CellsAnswer) (q : x ≡ outcomeAnswer (build m b)) where
       pub count-fits : x .count < 4294967296
       count-fits =
           let k = mesh-of a z .counts in
-          let few = answer-few (build sites tri he hull b) x q (7 * (length tri / 3) + 5 * length hull + 4)
-          (gives-map _ _ (build sites tri he hull b) (theorems.built (mesh-of a z) bounded) (λ g o. o .1 .vertices)) in
+          let few = answer-few (build m b) x q (7 * (length (m .triangles) / 3) + 5 * length (m .hull) + 4)
+          (gives-map _ _ (build m b) (theorems.built (mesh-of a z) bounded) (λ g o. o .1 .vertices)) in
           omega (arith, few, k .few-triangles, k .hull-of-sites, k .few-sites)
 
       pub clipped-built : {v : List Float} {ix off w₂ c₂ : List ℕ}
-          → BuiltInto (build sites tri he hull b) (new .vertices) (new .indexes) (new .offsets) v ix off
+          → BuiltInto (build m b) (new .vertices) (new .indexes) (new .offsets) v ix off
           → EndedBuild (x .fault .number) (countsOf (x .count) (x .owners) (x .lost)) (new .work) (new .counts) w₂ c₂
-          → ClippedBuild sites tri he hull c w h old (slices w₂ v ix off c₂) (x .fault .number)
+          → ClippedBuild m c w h old (slices w₂ v ix off c₂) (x .fault .number)
       clipped-built l f =
-          let o = build sites tri he hull b in
-          let late = build-late sites tri he hull b in
+          let o = build m b in
+          let late = build-late m b in
           rw (← ask, ← made) (answers-built a z o late (x .fault) (answer-fault o x q) l f (answer-counts o x q late))

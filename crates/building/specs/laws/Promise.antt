@@ -4,12 +4,12 @@ use mathlib.Core.Bool.{Bool, true}
 use mathlib.Core.List.{List}
 use mathlib.Core.Logic.{_⊎_, inl, inr, ⊎-elim, _≢_}
 use Prim.Native.Nat.{ℕ}
-use lib.Ieee.{Float}
 use lib.ListN.{length}
 use Rattle.laws.specs.laws.Refusals.{finds-one, finds-none, finds-first, finds-after, finds-split}
 use Rattle.laws.specs.Binary64.{zero}
 use Rattle.numbers.specs.Numbers.{EMPTY}
 use Rattle.mesh.specs.Rules.{callRules}
+use Rattle.mesh.specs.Accepted.{Mesh}
 use Rattle.check_mesh.specs.AtExit.{atExit}
 use Rattle.definition.specs.declared.Fault.{Fault}
 use Rattle.definition.specs.Fault.{Outcome}
@@ -20,24 +20,24 @@ use Rattle.admission.specs.Slices.{Slices, slices}
 use Rattle.admission.specs.laws.Admits.{finds-asked, asked-finds, call-answers, admits-keep}
 use Rattle.building.specs.Promise.{Builds, BuildAnswer, BuildAnswers}
 
-module _ {sites : List Float} {tri he hull : List ℕ} {roomy : Bool} {asked : ℕ} {o : Outcome Fault Built} where
-  pub builds-one : {r s : ℕ} → Builds sites tri he hull roomy asked o r → Builds sites tri he hull roomy asked o s → r ≡ s
+module _ {m : Mesh} {roomy : Bool} {asked : ℕ} {o : Outcome Fault Built} where
+  pub builds-one : {r s : ℕ} → Builds m roomy asked o r → Builds m roomy asked o s → r ≡ s
   builds-one x y = finds-one (x .found) (y .found)
 
-  pub early : {r : ℕ} → Admits sites tri he hull roomy asked r → r ≢ 0 → Builds sites tri he hull roomy asked o r
+  pub early : {r : ℕ} → Admits m roomy asked r → r ≢ 0 → Builds m roomy asked o r
   early x n = record { found = finds-first (askedRules (faultOf o .number)) n (x .found) }
 
-  pub built : Admits sites tri he hull roomy asked 0 → Builds sites tri he hull roomy asked o (faultOf o .number)
-  built x = record { found = finds-after (callRules sites tri he hull (roomy ≡ true) (askedRules asked)) (admits-keep x refl) (finds-asked (faultOf o .number)) }
+  pub built : Admits m roomy asked 0 → Builds m roomy asked o (faultOf o .number)
+  built x = record { found = finds-after (callRules m (roomy ≡ true) (askedRules asked)) (admits-keep x refl) (finds-asked (faultOf o .number)) }
 
   -- refused before the build, or the build's
-  pub builds-cases : {r : ℕ} → Builds sites tri he hull roomy asked o r
-      → (Admits sites tri he hull roomy asked r × (r ≢ 0)) ⊎ (Admits sites tri he hull roomy asked 0 × (r ≡ faultOf o .number))
+  pub builds-cases : {r : ℕ} → Builds m roomy asked o r
+      → (Admits m roomy asked r × (r ≢ 0)) ⊎ (Admits m roomy asked 0 × (r ≡ faultOf o .number))
   builds-cases x =
       ⊎-elim
       (λ y. inl (record { found = y .0 }, y .1))
       (λ y. inr (record { found = finds-none (y .0) }, asked-finds (faultOf o .number) (y .1)))
-      (finds-split (callRules sites tri he hull (roomy ≡ true) (askedRules asked)) (askedRules (faultOf o .number)) (call-answers sites tri he hull (roomy ≡ true) asked) (x .found))
+      (finds-split (callRules m (roomy ≡ true) (askedRules asked)) (askedRules (faultOf o .number)) (call-answers m (roomy ≡ true) asked) (x .found))
 
 -- a slice at exit, by the number alone
 pub slice-one : {A : Type 0} (blank : A) (made old : List A) {new other : List A} {r s : ℕ} → r ≡ s → new ≡ atExit blank made old r → other ≡ atExit blank made old s → new ≡ other
@@ -54,6 +54,6 @@ answer-one {table = table} {o} {old} {new} {other} {r} {s} one a b =
     let c : new .counts ≡ other .counts = slice-one EMPTY (padded (length (old .counts)) EMPTY (countNumbers o)) (old .counts) q (a .counts) (b .counts) in
     (q, λ i. slices (w i) (v i) (x i) (f i) (c i))
 
-pub answers-one : {sites : List Float} {tri he hull : List ℕ} {asked : ℕ} {o : Outcome Fault Built} {old new other : Slices} {r s : ℕ}
-    → BuildAnswers sites tri he hull asked o old new r → BuildAnswers sites tri he hull asked o old other s → (r ≡ s) × (new ≡ other)
+pub answers-one : {m : Mesh} {asked : ℕ} {o : Outcome Fault Built} {old new other : Slices} {r s : ℕ}
+    → BuildAnswers m asked o old new r → BuildAnswers m asked o old other s → (r ≡ s) × (new ≡ other)
 answers-one = answer-one (λ a b. builds-one)

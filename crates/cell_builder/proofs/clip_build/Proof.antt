@@ -3,6 +3,7 @@ use Prim.Native.Nat.{_/_}
 use lib.ListN.{length}
 use denote.Ref.{now}
 use borrow.Author.Needs.{needs}
+use Rattle.mesh.specs.Accepted.{mesh}
 use Rattle.cell_builder.specs.Start.{extendedOf}
 use Rattle.cell_builder.specs.laws.BuildOutcome.{finishable}
 use Rattle.cell_builder.proofs.clip_build.Statement.{statement}
@@ -19,7 +20,7 @@ settle-requires : tie.Need-settle-requires
 settle-requires c κs =
     let m = Made (c .before .before .before) in
     let a = Entry m .args in
-    finishable (now (a .sites)) (now (a .triangles)) (now (a .halfedges)) (now (a .hull)) (now (a .table)) (a .bounds) (a .owners) _ _ _ _
+    finishable (mesh (now (a .sites)) (now (a .triangles)) (now (a .halfedges)) (now (a .hull))) (now (a .table)) (a .bounds) (a .owners) _ _ _ _
     (extendedOf (now (a .sites)) (now (a .triangles)) (now (a .hull)) (now (a .table)) (a .bounds) (length (now (a .triangles)) / 3) (now (a .vertices)))
     (m .make-cells .ensures)
 

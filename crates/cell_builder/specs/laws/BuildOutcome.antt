@@ -14,7 +14,7 @@ use Rattle.bounding_box.specs.Box.{cornersOf}
 use Rattle.bounding_box.specs.declared.BoundingBox.{BoundingBox}
 use Rattle.vertices.specs.laws.Points.{length-points, points-pour, pour-points}
 use Rattle.mesh.specs.Mesh.{leftmostOf}
-use Rattle.mesh.specs.Accepted.{siteCount}
+use Rattle.mesh.specs.Accepted.{Mesh, mesh, siteCount}
 use Rattle.layout.specs.laws.Regions.{regions-rising}
 use Rattle.definition.specs.declared.Fault.{Fault}
 use Rattle.definition.specs.Fault.{Outcome, ok, refused, andThen, badCenter}
@@ -40,28 +40,29 @@ answer-same : {f g : Fault} {c d : ℕ} {o w : List ℕ} {l k : ℕ} → f ≡ g
 answer-same p q r s = rw (p, q, r, s)
 
 -- cells that were made can be moved together
-module _ (sites : List Float) (tri he hull table : List ℕ) (b : BoundingBox) (owners : List ℕ) (p : Progress) (v₂ : List Float) (ix₂ off₂ : List ℕ) where
-  amid-finishable : (x : Extensions) (s : CellState) → Amid tri he (frameOf b (length tri) (length hull)) off₂ (ground hull (siteCount sites) owners x) s p v₂ ix₂
-      → Finishable (siteCount sites) (p .count) (length v₂) ix₂ off₂
+module _ (m : Mesh) (table : List ℕ) (b : BoundingBox) (owners : List ℕ) (p : Progress) (v₂ : List Float) (ix₂ off₂ : List ℕ) where
+  amid-finishable : (x : Extensions) (s : CellState)
+      → Amid (m .triangles) (m .halfedges) (frameOf b (length (m .triangles)) (length (m .hull))) off₂ (ground (m .hull) (siteCount (m .sites)) owners x) s p v₂ ix₂
+      → Finishable (siteCount (m .sites)) (p .count) (length v₂) ix₂ off₂
   amid-finishable x s a =
-      let wide : length (map unmarked (s .cells)) ≡ siteCount sites = length-map (s .cells) unmarked ∙ a .held .width in
+      let wide : length (map unmarked (s .cells)) ≡ siteCount (m .sites) = length-map (s .cells) unmarked ∙ a .held .width in
       record {
         rising = rw wide at (regions-rising ix₂ off₂ (map unmarked (s .cells)) (a .regions));
         small = omega (arith, last-start (a .on), a .on .stage, a .on .few-entries, a .on .few-on-hull);
         room = a .holds .room;
       }
 
-  pub finishable : (o : Outcome Fault Extensions) → Makes sites tri he hull table b owners o p v₂ ix₂ off₂ → p .fault .number ≡ 0
-      → Finishable (siteCount sites) (p .count) (length v₂) ix₂ off₂
+  pub finishable : (o : Outcome Fault Extensions) → Makes m table b owners o p v₂ ix₂ off₂ → p .fault .number ≡ 0
+      → Finishable (siteCount (m .sites)) (p .count) (length v₂) ix₂ off₂
   finishable (refused e) k q = absurd (omega (arith, k .1, ap (λ (d : Fault). d .number) (k .0)))
-  finishable (ok x) k q = by (clipAll b (length tri / 3) tri he hull table (siteCount sites) owners x) k
+  finishable (ok x) k q = by (clipAll b (length (m .triangles) / 3) (m .triangles) (m .halfedges) (m .hull) table (siteCount (m .sites)) owners x) k
     where
-      by : (o : Outcome Fault CellState) → Does tri he (frameOf b (length tri) (length hull)) off₂ (ground hull (siteCount sites) owners x) o p v₂ ix₂
-          → Finishable (siteCount sites) (p .count) (length v₂) ix₂ off₂
+      by : (o : Outcome Fault CellState) → Does (m .triangles) (m .halfedges) (frameOf b (length (m .triangles)) (length (m .hull))) off₂ (ground (m .hull) (siteCount (m .sites)) owners x) o p v₂ ix₂
+          → Finishable (siteCount (m .sites)) (p .count) (length v₂) ix₂ off₂
       by (ok s) d = amid-finishable x s d
       by (refused e) d = absurd (omega (arith, d .1, ap (λ (f : Fault). f .number) (d .0)))
 
-module _ {sites : List Float} {tri he hull table : List ℕ} {b : BoundingBox} {numbers indexes offsets : ℕ} (m : AdmittedBuild sites tri he hull table b numbers indexes offsets) where
+module _ {sites : List Float} {tri he hull table : List ℕ} {b : BoundingBox} {numbers indexes offsets : ℕ} (m : AdmittedBuild (mesh sites tri he hull) table b numbers indexes offsets) where
   abbrev n : ℕ
   n = siteCount sites
 
@@ -88,7 +89,7 @@ module _ {sites : List Float} {tri he hull table : List ℕ} {b : BoundingBox} {
   pub owners-are : {owners : List ℕ} → owners ≡ ownersFrom sites tri he table n (getD hull 0 0) (cornersOf b) → owners ≡ found
   owners-are q = q ∙ rw (m .table-is)
 
-  pub makeable : (owners : List ℕ) (lv : ℕ) → owners ≡ found → lv ≡ numbers → Makeable sites tri he hull table b owners lv indexes offsets
+  pub makeable : (owners : List ℕ) (lv : ℕ) → owners ≡ found → lv ≡ numbers → Makeable (mesh sites tri he hull) table b owners lv indexes offsets
   makeable owners lv q ql = rw (q, ql) (record {
     admitted = m;
     four = owners-length sites tri he (leftmostOf tri he n) n (getD hull 0 0) (cornersOf b) ∙ four-corners;
@@ -107,7 +108,7 @@ module _ {sites : List Float} {tri he hull table : List ℕ} {b : BoundingBox} {
   centersThen centers = andThen (extendFrom sites tri hull (leftmostOf tri he n) T 0 (length hull) (extensions (centers ++ cornersOf b) [] [])) cellsThen
 
   module _ (t : ℕ) (v v₁ : List Float) (c : CentersBy (centersFrom sites tri 0 T []) T t v v₁) where
-    offends : t < T → build sites tri he hull b ≡ refused (badCenter t)
+    offends : t < T → build (mesh sites tri he hull) b ≡ refused (badCenter t)
     unfolding build andThen
     offends h = go (centersFrom sites tri 0 T []) c
       where
@@ -115,7 +116,7 @@ module _ {sites : List Float} {tri he hull table : List ℕ} {b : BoundingBox} {
         go (ok vs) k = absurd (omega (arith, k .0))
         go (refused f) k = ap refused (k .0)
 
-    goes-on : T ≤ t → build sites tri he hull b ≡ andThen (extendedOf sites tri hull table b T v₁) cellsThen
+    goes-on : T ≤ t → build (mesh sites tri he hull) b ≡ andThen (extendedOf sites tri hull table b T v₁) cellsThen
     unfolding build andThen
     goes-on h = rw (m .table-is) (go (centersFrom sites tri 0 T []) c)
       where
@@ -134,7 +135,7 @@ module _ {sites : List Float} {tri he hull table : List ℕ} {b : BoundingBox} {
     abbrev Builds : Outcome Fault Built → Type 0
     Builds o = (x : Extensions) × (s : CellState) × (o ≡ ok (outcome s)) × Amid tri he (frameOf b (length tri) (length hull)) off₂ (ground hull n found x) s p v₂ ix₂
 
-    told : Makes sites tri he hull table b owners (extendedOf sites tri hull table b T v₁) p v₂ ix₂ off₂
+    told : Makes (mesh sites tri he hull) table b owners (extendedOf sites tri hull table b T v₁) p v₂ ix₂ off₂
         → Refuses (andThen (extendedOf sites tri hull table b T v₁) cellsThen) ⊎ Builds (andThen (extendedOf sites tri hull table b T v₁) cellsThen)
     unfolding andThen
     told k = by (extendedOf sites tri hull table b T v₁) (rw qo at k)
@@ -145,11 +146,11 @@ module _ {sites : List Float} {tri he hull table : List ℕ} {b : BoundingBox} {
         cells-by x (ok s) d = inr (x, s, refl, d)
         cells-by x (refused e) d = inl (e, refl, d .0, d .1)
 
-        by : (o : Outcome Fault Extensions) → Makes sites tri he hull table b found o p v₂ ix₂ off₂ → Refuses (andThen o cellsThen) ⊎ Builds (andThen o cellsThen)
+        by : (o : Outcome Fault Extensions) → Makes (mesh sites tri he hull) table b found o p v₂ ix₂ off₂ → Refuses (andThen o cellsThen) ⊎ Builds (andThen o cellsThen)
         by (ok x) d = cells-by x (clipAll b T tri he hull (leftmostOf tri he n) n found x) (rw (m .table-is) at d)
         by (refused e) d = inl (e, refl, d .0, d .1)
 
-    module _ (k : Makes sites tri he hull table b owners (extendedOf sites tri hull table b T v₁) p v₂ ix₂ off₂) where
+    module _ (k : Makes (mesh sites tri he hull) table b owners (extendedOf sites tri hull table b T v₁) p v₂ ix₂ off₂) where
       stopped : p .fault .number ≢ 0 → andThen (extendedOf sites tri hull table b T v₁) cellsThen ≡ refused (p .fault)
       stopped q = ⊎-elim (λ r. r .1 ∙ ap refused (sym (r .2))) (λ r. absurd (q (ap (λ (d : Fault). d .number) (r .3 .fine)))) (told k)
 
@@ -169,21 +170,21 @@ module _ {sites : List Float} {tri he hull table : List ℕ} {b : BoundingBox} {
 
     -- a triangle offends
     pub refused-first : (t : ℕ) (v₁ : List Float) → CentersBy (centersFrom sites tri 0 T []) T t v v₁ → t < T → length v₁ ≡ length v
-        → RefusedCells (badCenter t) v₁ ix off r v₃ ix₃ off₃ → With (build sites tri he hull b)
+        → RefusedCells (badCenter t) v₁ ix off r v₃ ix₃ off₃ → With (build (mesh sites tri he hull) b)
     refused-first t v₁ c h qv z = rw (offends t v v₁ c h) (emptied-with (badCenter t) v₁ ix off qv refl refl z)
 
     module _ (t : ℕ) (v₁ : List Float) (c : CentersBy (centersFrom sites tri 0 T []) T t v v₁) (h : T ≤ t) (long : length v₁ ≡ length v)
-        (owners : List ℕ) (qo : owners ≡ found) (w : BuiltCells sites tri he hull table b owners v₁ ix off r v₃ ix₃ off₃) where
+        (owners : List ℕ) (qo : owners ≡ found) (w : BuiltCells (mesh sites tri he hull) table b owners v₁ ix off r v₃ ix₃ off₃) where
       abbrev p : Progress
       p = w .progress
 
       -- an extension or a cell is refused
-      refused-later : p .fault .number ≢ 0 → With (build sites tri he hull b)
+      refused-later : p .fault .number ≢ 0 → With (build (mesh sites tri he hull) b)
       refused-later q =
           rw (goes-on t v v₁ c h ∙ stopped owners qo p v₁ (w .made-v) (w .made-ix) (w .made-off) (w .makes) q)
           (emptied-with (p .fault) (w .made-v) (w .made-ix) (w .made-off) (w .long-v ∙ long) (w .long-ix) (w .long-off) (w .settled .on-refusal q))
 
-      built-with : p .fault .number ≡ 0 → With (build sites tri he hull b)
+      built-with : p .fault .number ≡ 0 → With (build (mesh sites tri he hull) b)
       unfolding vertexNumbers indexNumbers offsetNumbers
       built-with q =
           let z = w .settled .on-success q in
@@ -203,5 +204,5 @@ module _ {sites : List Float} {tri he hull table : List ℕ} {b : BoundingBox} {
             },
           )
 
-      pub built-by : With (build sites tri he hull b)
+      pub built-by : With (build (mesh sites tri he hull) b)
       built-by = ⊎-elim built-with refused-later (eq-or-ne (p .fault .number) 0)

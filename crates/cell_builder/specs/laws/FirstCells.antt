@@ -16,7 +16,7 @@ use Rattle.bounding_box.specs.declared.BoundingBox.{BoundingBox}
 use Rattle.vertices.specs.Store.{Leaves}
 use Rattle.vertices.specs.laws.Points.{length-points}
 use Rattle.vertices.specs.laws.Store.{poured-points}
-use Rattle.mesh.specs.Accepted.{siteCount}
+use Rattle.mesh.specs.Accepted.{Mesh, mesh, siteCount}
 use Rattle.mesh.specs.laws.Facts.{topology, entry-site, start-used, tab-length, tab-used}
 use Rattle.layout.specs.Regions.{Regions}
 use Rattle.layout.specs.Rooms.{Roomy, Started}
@@ -103,12 +103,12 @@ module _ {sites : List Float} {tri hull table : List ℕ} {f : Frame} {v : List 
 
 -- ---- the regions, and the beginning of all cells
 
-pub named : {sites : List Float} {tri he hull table : List ℕ} {b : BoundingBox} {numbers indexes offsets : ℕ}
-    → AdmittedBuild sites tri he hull table b numbers indexes offsets → Named sites tri
+pub named : {m : Mesh} {table : List ℕ} {b : BoundingBox} {numbers indexes offsets : ℕ}
+    → AdmittedBuild m table b numbers indexes offsets → Named (m .sites) (m .triangles)
 named a k h = omega (arith, entry-site (topology (a .mesh)) k h, a .mesh .counts .even)
 
 module _ {sites : List Float} {tri he hull table : List ℕ} {b : BoundingBox} {owners : List ℕ} {numbers indexes offsets : ℕ}
-    (m : Makeable sites tri he hull table b owners numbers indexes offsets) where
+    (m : Makeable (mesh sites tri he hull) table b owners numbers indexes offsets) where
   abbrev n : ℕ
   n = siteCount sites
 
@@ -246,10 +246,10 @@ module _ {sites : List Float} {tri he hull table : List ℕ} {b : BoundingBox} {
       can-clip z = rw fq (hulls-amid (extendedOf sites tri hull table b nc v) refl on-frame z)
 
       -- the extensions are refused
-      pub made-not : p .fault .number ≢ 0 → Makes sites tri he hull table b owners (extendedOf sites tri hull table b nc v) p v₁ ix₁ off
+      pub made-not : p .fault .number ≢ 0 → Makes (mesh sites tri he hull) table b owners (extendedOf sites tri hull table b nc v) p v₁ ix₁ off
       made-not z = go (extendedOf sites tri hull table b nc v) on-frame
         where
-          go : (o : Outcome Fault Extensions) → BegunBy (length hull) F owners o ix p v₁ ix₁ → Makes sites tri he hull table b owners o p v₁ ix₁ off
+          go : (o : Outcome Fault Extensions) → BegunBy (length hull) F owners o ix p v₁ ix₁ → Makes (mesh sites tri he hull) table b owners o p v₁ ix₁ off
           go (ok x) k = absurd (z (no-fault (k .fine)))
           go (refused e) k = k
 
@@ -257,7 +257,7 @@ module _ {sites : List Float} {tri he hull table : List ℕ} {b : BoundingBox} {
       pub made-all :
           p .fault .number ≡ 0 → (r : Progress) (v₂ : List Float) (ix₂ : List ℕ)
           → AllTried tri he hull table f off p v₁ ix₁ r v₂ ix₂
-          → Makes sites tri he hull table b owners (extendedOf sites tri hull table b nc v) r v₂ ix₂ off
+          → Makes (mesh sites tri he hull) table b owners (extendedOf sites tri hull table b nc v) r v₂ ix₂ off
       unfolding clipAll
       made-all z r v₂ ix₂ clip = go (extendedOf sites tri hull table b nc v) refl on-frame
         where
@@ -265,6 +265,6 @@ module _ {sites : List Float} {tri he hull table : List ℕ} {b : BoundingBox} {
           clipped = rw fq at clip
 
           go : (o : Outcome Fault Extensions) → extendedOf sites tri hull table b nc v ≡ o → BegunBy (length hull) F owners o ix p v₁ ix₁
-              → Makes sites tri he hull table b owners o r v₂ ix₂ off
+              → Makes (mesh sites tri he hull) table b owners o r v₂ ix₂ off
           go (ok x) q k = clipped (ground hull n owners x) (none x) refl (λ i h. no-cell n (getD hull i 0)) (standing x q k) (m .admitted .table-is)
           go (refused e) q k = absurd (omega (arith, rw (k .0) at z, k .1))

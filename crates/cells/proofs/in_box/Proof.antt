@@ -12,7 +12,7 @@ show-in-box-requires c κs =
     let at-voronoi-build = at-narrow .before .before .before .before .before .before in
     let s = c .before .before .before .before .before .before .before .before .before .before .before .before .before .before .before .before .before .before .before .before .before .before in
     let b = at-voronoi-build .voronoi-build in (
-      λ z. rw (at-narrow .narrow .ensures) (laid-in-box _ _ _ _ _ (s .pre) _ _
+      λ z. rw (at-narrow .narrow .ensures) (laid-in-box _ _ (s .pre) _ _
           (record { work = refl; vertices = refl; indexes = refl; offsets = refl; counts = refl }) _ _ _ _ (b .ensures)
           (b .kept .1 .1 .1 .1 .1 .1 .1 .1 .1 .1 .0) z),
       omega (arith, b .kept .1 .1 .1 .1 .1 .1 .1 .1 .1 .1 .1 .1 .0),
@@ -30,7 +30,7 @@ returns c =
     let b = at-voronoi-build .voronoi-build in
     let h = c .before .before .show-in-box .ensures in (
       rw (h .first, at-narrow .narrow .ensures, at-narrow2 .narrow2 .ensures)
-          (text-in-box _ _ _ _ _ (s .pre) _ _ (record { work = refl; vertices = refl; indexes = refl; offsets = refl; counts = refl }) _ _ _ _ (b .ensures)),
+          (text-in-box _ _ (s .pre) _ _ (record { work = refl; vertices = refl; indexes = refl; offsets = refl; counts = refl }) _ _ _ _ (b .ensures)),
       h .within,
     )
 

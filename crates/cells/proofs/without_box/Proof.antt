@@ -12,7 +12,7 @@ show-without-box-requires c κs =
     let at-voronoi-build-unclipped = at-narrow .before .before .before .before .before .before in
     let s = c .before .before .before .before .before .before .before .before .before .before .before .before .before .before .before .before .before .before .before .before .before .before in
     let b = at-voronoi-build-unclipped .voronoi-build-unclipped in (
-      λ z. rw (at-narrow .narrow .ensures) (laid-without-box _ _ _ _ _ (s .pre) _ _
+      λ z. rw (at-narrow .narrow .ensures) (laid-without-box _ _ (s .pre) _ _
           (record { work = refl; vertices = refl; indexes = refl; offsets = refl; counts = refl }) _ (b .ensures) (b .kept .1 .1 .1 .1 .1 .1 .0) z),
       omega (arith, b .kept .1 .1 .1 .1 .1 .1 .1 .1 .0),
       s .pre .room,
@@ -29,7 +29,7 @@ returns c =
     let b = at-voronoi-build-unclipped .voronoi-build-unclipped in
     let h = c .before .before .show-without-box .ensures in (
       rw (h .first, at-narrow .narrow .ensures, at-narrow2 .narrow2 .ensures)
-          (text-without-box _ _ _ _ _ (s .pre) _ _ (record { work = refl; vertices = refl; indexes = refl; offsets = refl; counts = refl }) _ (b .ensures)),
+          (text-without-box _ _ (s .pre) _ _ (record { work = refl; vertices = refl; indexes = refl; offsets = refl; counts = refl }) _ (b .ensures)),
       h .within,
     )
 

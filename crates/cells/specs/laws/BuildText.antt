@@ -12,7 +12,7 @@ use Rattle.cells.specs.Printed.{listingTexts}
 use Rattle.numbers.specs.Numbers.{EMPTY}
 use Rattle.utils.specs.declared.Point.{Point}
 use Rattle.bounding_box.specs.Box.{madeOf}
-use Rattle.mesh.specs.Accepted.{siteCount}
+use Rattle.mesh.specs.Accepted.{Mesh, siteCount}
 use Rattle.admission.specs.Admits.{Admits}
 use Rattle.layout.specs.Regions.{joined, offsetsFrom}
 use Rattle.definition.specs.declared.Fault.{Fault}
@@ -100,45 +100,45 @@ module _ {Rules : ℕ → Type 0} {table : List ℕ} {o : Outcome Fault Built} {
       rw (counts-are, owners-at (length (b .verts)) (b .lost) (b .owners) tail (w .owners), last-at (length (b .verts)) (b .lost) (b .owners) tail (w .owners), lines)
 
 -- ---- both builds on lists within the form's limits, with slices of these lengths
-module _ (sites : List Float) (tri he hull : List ℕ) (space : ℕ) (m : SheetSized (length sites) (length tri) (length hull) space) (old new : Slices) (long : ProgramSlices old) (r : ℕ) where
-  roomy : roomOf sites tri hull old ≡ true
+module _ (m : Mesh) (space : ℕ) (sized : SheetSized (length (m .sites)) (length (m .triangles)) (length (m .hull)) space) (old new : Slices) (long : ProgramSlices old) (r : ℕ) where
+  roomy : roomOf m old ≡ true
   unfolding roomFor
   roomy =
       rw (long .work, long .vertices, long .indexes, long .offsets, long .counts)
       (rw (
-        le-leb (siteCount sites) 96 (omega (arith, m .few-sites)),
-        le-leb (7 * (length tri / 3) + 5 * length hull + 4) 1828 (omega (arith, m .few-triangles, m .few-on-hull)),
-        le-leb (12 * (length tri / 3) + 8 * length hull + 4) 3076 (omega (arith, m .few-triangles, m .few-on-hull)),
-        lt-ltb (siteCount sites) 97 (omega (arith, m .few-sites)),
+        le-leb (siteCount (m .sites)) 96 (omega (arith, sized .few-sites)),
+        le-leb (7 * (length (m .triangles) / 3) + 5 * length (m .hull) + 4) 1828 (omega (arith, sized .few-triangles, sized .few-on-hull)),
+        le-leb (12 * (length (m .triangles) / 3) + 8 * length (m .hull) + 4) 3076 (omega (arith, sized .few-triangles, sized .few-on-hull)),
+        lt-ltb (siteCount (m .sites)) 97 (omega (arith, sized .few-sites)),
       ))
 
-  module _ {asked : ℕ} {o : Outcome Fault Built} (whole : Gives (Whole (siteCount sites)) o) (late : Refuses Numbered o) (a : BuildAnswers sites tri he hull asked o old new r) where
-    rules : Builds sites tri he hull true asked o r
+  module _ {asked : ℕ} {o : Outcome Fault Built} (whole : Gives (Whole (siteCount (m .sites))) o) (late : Refuses Numbered o) (a : BuildAnswers m asked o old new r) where
+    rules : Builds m true asked o r
     rules = rw roomy at (a .number)
 
-    layout : length (new .indexes) ≡ 3076 → r ≡ 0 → Laid (siteCount sites) (new .offsets) (new .indexes) space
+    layout : length (new .indexes) ≡ 3076 → r ≡ 0 → Laid (siteCount (m .sites)) (new .offsets) (new .indexes) space
     layout short z =
         let b = zero-succeeds late a z .outcome in
-        laid-out a long (b .value) (gives-ok (Whole (siteCount sites)) whole (b .is)) (b .is) z space (omega (arith, m .few-sites)) short (m .room)
+        laid-out a long (b .value) (gives-ok (Whole (siteCount (m .sites))) whole (b .is)) (b .is) z space (omega (arith, sized .few-sites)) short (sized .room)
 
-    text-of : (text : Built → List ℕ) (t : List ℕ) → ((b : Built) → Whole (siteCount sites) b → o ≡ ok b → r ≡ 0 → t ≡ text b)
-        → Shows (Admits sites tri he hull true asked) text o (shown t r)
-    text-of text t f = shows text t rules late (λ b e z. f b (gives-ok (Whole (siteCount sites)) whole e) e z)
+    text-of : (text : Built → List ℕ) (t : List ℕ) → ((b : Built) → Whole (siteCount (m .sites)) b → o ≡ ok b → r ≡ 0 → t ≡ text b)
+        → Shows (Admits m true asked) text o (shown t r)
+    text-of text t f = shows text t rules late (λ b e z. f b (gives-ok (Whole (siteCount (m .sites))) whole e) e z)
 
-  module _ (c : Point) (w h : Float) (a : ClippedBuild sites tri he hull c w h old new r) where
-    abbrev whole-in : Gives (Whole (siteCount sites)) (build sites tri he hull (madeOf c w h))
-    whole-in = whole-in-box sites tri he hull (madeOf c w h)
+  module _ (c : Point) (w h : Float) (a : ClippedBuild m c w h old new r) where
+    abbrev whole-in : Gives (Whole (siteCount (m .sites))) (build m (madeOf c w h))
+    whole-in = whole-in-box m (madeOf c w h)
 
-    pub laid-in-box : length (new .indexes) ≡ 3076 → r ≡ 0 → Laid (siteCount sites) (new .offsets) (new .indexes) space
-    laid-in-box = layout whole-in (build-late sites tri he hull (madeOf c w h)) a
+    pub laid-in-box : length (new .indexes) ≡ 3076 → r ≡ 0 → Laid (siteCount (m .sites)) (new .offsets) (new .indexes) space
+    laid-in-box = layout whole-in (build-late m (madeOf c w h)) a
 
-    pub text-in-box : InBox listingTexts sites tri he hull c w h (shown (boxLines (siteCount sites) (length tri / 3) (new .offsets) (new .indexes) (new .counts)) r)
-    text-in-box = text-of whole-in (build-late sites tri he hull (madeOf c w h)) a (boxText (siteCount sites) (length tri / 3)) _ (λ b q e z. box-lines a long b q e z (length tri / 3))
+    pub text-in-box : InBox listingTexts m c w h (shown (boxLines (siteCount (m .sites)) (length (m .triangles) / 3) (new .offsets) (new .indexes) (new .counts)) r)
+    text-in-box = text-of whole-in (build-late m (madeOf c w h)) a (boxText (siteCount (m .sites)) (length (m .triangles) / 3)) _ (λ b q e z. box-lines a long b q e z (length (m .triangles) / 3))
 
-  module _ (a : UnclippedBuild sites tri he hull old new r) where
-    pub laid-without-box : length (new .indexes) ≡ 3076 → r ≡ 0 → Laid (siteCount sites) (new .offsets) (new .indexes) space
-    laid-without-box = layout (whole-without-box sites tri he) (unclipped-late sites tri he) a
+  module _ (a : UnclippedBuild m old new r) where
+    pub laid-without-box : length (new .indexes) ≡ 3076 → r ≡ 0 → Laid (siteCount (m .sites)) (new .offsets) (new .indexes) space
+    laid-without-box = layout (whole-without-box (m .sites) (m .triangles) (m .halfedges)) (unclipped-late (m .sites) (m .triangles) (m .halfedges)) a
 
-    pub text-without-box : WithoutBox listingTexts sites tri he hull (shown (unclippedLines (siteCount sites) (length tri / 3) (new .offsets) (new .indexes) (new .counts)) r)
-    text-without-box = text-of (whole-without-box sites tri he) (unclipped-late sites tri he) a (unclippedText (siteCount sites) (length tri / 3)) _
-        (λ b q e z. unclipped-lines a long b q e z (length tri / 3))
+    pub text-without-box : WithoutBox listingTexts m (shown (unclippedLines (siteCount (m .sites)) (length (m .triangles) / 3) (new .offsets) (new .indexes) (new .counts)) r)
+    text-without-box = text-of (whole-without-box (m .sites) (m .triangles) (m .halfedges)) (unclipped-late (m .sites) (m .triangles) (m .halfedges)) a
+        (unclippedText (siteCount (m .sites)) (length (m .triangles) / 3)) _ (λ b q e z. unclipped-lines a long b q e z (length (m .triangles) / 3))

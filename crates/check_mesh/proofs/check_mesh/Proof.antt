@@ -8,13 +8,13 @@ use Rattle.check_mesh.proofs.check_mesh.Statement.{statement}
 use Rattle.check_mesh.proofs.check_mesh.Tie as tie
 
 returns : tie.Need-returns
-returns c = mesh-counts _ _ _ _ _ (refused (c .before .counts-ok .result) (c .if1 .taken) (c .before .counts-ok .ensures))
+returns c = mesh-counts _ _ (refused (c .before .counts-ok .result) (c .if1 .taken) (c .before .counts-ok .ensures))
 
 returns-2 : tie.Need-returns-2
-returns-2 c = mesh-room _ _ _ _ _ (granted (c .before .before .counts-ok .result) (c .before .if1 .left) (c .before .before .counts-ok .ensures)) (c .if2 .taken)
+returns-2 c = mesh-room _ _ (granted (c .before .before .counts-ok .result) (c .before .if1 .left) (c .before .before .counts-ok .ensures)) (c .if2 .taken)
 
 returns-3 : tie.Need-returns-3
-returns-3 c = mesh-coordinate _ _ _ _ _ (granted (c .before .before .before .before .counts-ok .result) (c .before .before .before .if1 .left)
+returns-3 c = mesh-coordinate _ _ (granted (c .before .before .before .before .counts-ok .result) (c .before .before .before .if1 .left)
     (c .before .before .before .before .counts-ok .ensures)) (c .before .before .if2 .left) _ (c .before .first-bad-site .ensures) (c .if3 .taken)
 
 check-topology-requires : tie.Need-check-topology-requires
@@ -29,7 +29,7 @@ returns-4 c =
     let at-if2 = at-first-bad-site .before in
     let at-if1 = at-if2 .before in
     let at-counts-ok = at-if1 .before in
-    mesh-topology _ _ _ _ _ (granted (at-counts-ok .counts-ok .result) (at-if1 .if1 .left) (at-counts-ok .counts-ok .ensures)) (at-if2 .if2 .left) _
+    mesh-topology _ _ (granted (at-counts-ok .counts-ok .result) (at-if1 .if1 .left) (at-counts-ok .counts-ok .ensures)) (at-if2 .if2 .left) _
     (at-first-bad-site .first-bad-site .ensures) (c .before .before .before .before .if3 .left) _ _ (c .before .before .check-topology .ensures)
 
 pub check-mesh-spec : {M : Type 1} → statement M

@@ -4,7 +4,6 @@ use mathlib.Core.List.{List, _++_}
 use mathlib.Core.Logic.{_≢_}
 use Prim.Native.Nat.{ℕ, _%_, _≤_, _<_}
 use native.Mathlib.Omega.{arith}
-use lib.Ieee.{Float}
 use lib.ListN.{length, getD, replicate}
 use borrow.Author.Needs.{needs}
 use Rattle.laws.specs.laws.Decide.{first-all}
@@ -17,7 +16,7 @@ use Rattle.mesh.specs.declared.MeshFault.{MeshFault}
 use Rattle.mesh.specs.declared.MeshFault.the-variants.{None, Counts, Room, Coordinate, BrokenFan}
 use Rattle.mesh.specs.Mesh.{leftmostIn, AllSound, AllPaired, Paired}
 use Rattle.mesh.specs.Rules.{numberOf, shapeRules, hullRules, fanRules, topologyRules}
-use Rattle.mesh.specs.Accepted.{Counted, siteCount}
+use Rattle.mesh.specs.Accepted.{Mesh, Counted, siteCount}
 use Rattle.mesh.specs.laws.Facts.{sound-site}
 use Rattle.mesh.specs.laws.Verdicts.{topology-late}
 use Rattle.check_hull.specs.Answer.{HullAnswer}
@@ -74,20 +73,20 @@ module _ (tri he hull : List ℕ) (sites : ℕ) (old : List ℕ) where
       topology-whole y = record { verdict = whole; work = b .table (sym p ∙ y) ∙ sym (exit-made EMPTY (leftmostIn tri he sites (length old)) old (numberOf g) (sym p ∙ y)) }
 
 -- the whole check: a rule that stands before rule 7 leaves the slice as it was
-module _ (sites : List Float) (tri he hull old : List ℕ) where
-  mesh-held : (f : MeshFault) → Finding sites tri he hull (length old) f → numberOf f ≢ 0 → numberOf f < refusedTriangle → MeshAnswer sites tri he hull old old f
-  mesh-held f g n l = record { finding = g; work = sym (exit-held EMPTY (leftmostIn tri he (siteCount sites) (length old)) old (numberOf f) n l) }
+module _ (m : Mesh) (old : List ℕ) where
+  mesh-held : (f : MeshFault) → Finding m (length old) f → numberOf f ≢ 0 → numberOf f < refusedTriangle → MeshAnswer m old old f
+  mesh-held f g n l = record { finding = g; work = sym (exit-held EMPTY (leftmostIn (m .triangles) (m .halfedges) (siteCount (m .sites)) (length old)) old (numberOf f) n l) }
 
-  pub mesh-counts : (Counted (length sites) (length tri) (length he) (length hull) → ⊥) → MeshAnswer sites tri he hull old old Counts
+  pub mesh-counts : (Counted (length (m .sites)) (length (m .triangles)) (length (m .halfedges)) (length (m .hull)) → ⊥) → MeshAnswer m old old Counts
   mesh-counts n = mesh-held Counts (breaks n) (omega arith) (omega arith)
 
-  module _ (c : Counted (length sites) (length tri) (length he) (length hull)) where
-    pub mesh-room : length old < siteCount sites → MeshAnswer sites tri he hull old old Room
+  module _ (c : Counted (length (m .sites)) (length (m .triangles)) (length (m .halfedges)) (length (m .hull))) where
+    pub mesh-room : length old < siteCount (m .sites) → MeshAnswer m old old Room
     mesh-room l = mesh-held Room (keeps c (breaks (λ h. omega arith))) (omega arith) (omega arith)
 
-    module _ (l : siteCount sites ≤ length old) (s : ℕ) (g : First (KeptAt sites) (siteCount sites) s) where
-      pub mesh-coordinate : s < siteCount sites → MeshAnswer sites tri he hull old old (Coordinate s)
+    module _ (l : siteCount (m .sites) ≤ length old) (s : ℕ) (g : First (KeptAt (m .sites)) (siteCount (m .sites)) s) where
+      pub mesh-coordinate : s < siteCount (m .sites) → MeshAnswer m old old (Coordinate s)
       mesh-coordinate h = mesh-held (Coordinate s) (keeps c (keeps l (offends g h))) (omega arith) (omega arith)
 
-      pub mesh-topology : siteCount sites ≤ s → (new : List ℕ) (f : MeshFault) → TopologyAnswer tri he hull (siteCount sites) old new f → MeshAnswer sites tri he hull old new f
+      pub mesh-topology : siteCount (m .sites) ≤ s → (new : List ℕ) (f : MeshFault) → TopologyAnswer (m .triangles) (m .halfedges) (m .hull) (siteCount (m .sites)) old new f → MeshAnswer m old new f
       mesh-topology h new f t = record { finding = keeps c (keeps l (all-keep (first-all g h) (t .verdict))); work = t .work }

@@ -17,7 +17,7 @@ use Rattle.bounding_box.specs.Box.{cornersOf}
 use Rattle.bounding_box.specs.Finite.{BoundedBox}
 use Rattle.bounding_box.specs.declared.BoundingBox.{BoundingBox}
 use Rattle.mesh.specs.Mesh.{leftmostOf}
-use Rattle.mesh.specs.Accepted.{Accepted, siteCount}
+use Rattle.mesh.specs.Accepted.{mesh, Accepted, siteCount}
 use Rattle.mesh.specs.laws.Facts.{topology}
 use Rattle.paths.specs.Path.{lastOf}
 use Rattle.definition.specs.Cell.{Mark, plain, crossing, wrapped, Entry, inBox}
@@ -59,7 +59,7 @@ wrapped-placed P nc n v (e ∷ es) h o = by (e .mark) (e .at) (h .0) (wrapped-pl
     by crossing w p k l = k l
     by wrapped w p k l = ⊎-elim (λ q. rw (q .0) p) (λ q. k (omega (arith, q .1))) (same-cases v w)
 
-module _ {sites : List Float} {tri he hull : List ℕ} (a : Accepted sites tri he hull) {b : BoundingBox} (box : BoundedBox 101 b) where
+module _ {sites : List Float} {tri he hull : List ℕ} (a : Accepted (mesh sites tri he hull)) {b : BoundingBox} (box : BoundedBox 101 b) where
   abbrev table : List ℕ
   table = leftmostOf tri he (siteCount sites)
 
@@ -76,7 +76,7 @@ module _ {sites : List Float} {tri he hull : List ℕ} (a : Accepted sites tri h
   first-site : getD hull 0 0 < siteCount sites
   first-site = a .topology .border .fresh 0 (omega (arith, a .counts .three-on-hull)) .0
 
-  pub owner-of : (c : ℕ) → c < 4 → (getD found c 0 ≡ lastOf (pathTo sites tri he hull b c)) × (getD found c 0 < siteCount sites)
+  pub owner-of : (c : ℕ) → c < 4 → (getD found c 0 ≡ lastOf (pathTo (mesh sites tri he hull) b c)) × (getD found c 0 < siteCount sites)
   owner-of c l =
       owner sites tri he table (siteCount sites) (ready a) (cornersOf b) (getD hull 0 0) first-site (λ d k. towards-corner a box d (rw four-corners at k)) c (rw four-corners l)
 
@@ -93,7 +93,7 @@ module _ {sites : List Float} {tri he hull : List ℕ} (a : Accepted sites tri h
       rw (add-zero nc, h .four) at q
 
   abbrev pub Good : Built → Type 0
-  Good r = Wrapping sites tri he hull b r × Room tri hull b r
+  Good r = Wrapping (mesh sites tri he hull) b r × Room tri hull b r
 
   finish : (x : Extensions) → length (x .verts) ≡ length tri / 3 + 4 + newPoints (x .steps) → newPoints (x .steps) ≤ length hull → (s : CellState)
       → CellsSoFar b (length tri / 3) (siteCount sites) (shareOf tri hull) (x .verts) found (newPoints (x .steps)) s
@@ -118,7 +118,7 @@ module _ {sites : List Float} {tri he hull : List ℕ} (a : Accepted sites tri h
         },
       )
 
-  pub built : Gives Good (build sites tri he hull b)
+  pub built : Gives Good (build (mesh sites tri he hull) b)
   unfolding build
   built =
       let nc = length tri / 3 in

@@ -9,7 +9,7 @@ use Rattle.laws.specs.Pick.{pick}
 use Rattle.bounding_box.specs.Box.{cornersOf}
 use Rattle.bounding_box.specs.declared.BoundingBox.{BoundingBox}
 use Rattle.mesh.specs.Mesh.{endOf, leftmostOf}
-use Rattle.mesh.specs.Accepted.{siteCount}
+use Rattle.mesh.specs.Accepted.{Mesh, tableOf, siteCount}
 use Rattle.definition.specs.Fault.{ok}
 use Rattle.definition.specs.Cell.{Entry, clipCell}
 use Rattle.definition.specs.Build.{lostFrom, centersFrom, Extensions, extensions, extendFrom, CellState, cellState, clipInto, clipHull}
@@ -53,34 +53,34 @@ module _ (n : ℕ) where
   rings tri he e (suc k) cells h =
       rings tri he (suc e) k _ (picked (λ (c : List (List Entry)). length c ≡ n) (isEmpty (getD cells (endOf tri e) [])) _ _ (λ t. length-set cells (endOf tri e) (ringCell he e) ∙ h) (λ t. h))
 
-pub cell-count : (sites : List Float) (tri he hull : List ℕ) (b : BoundingBox) → Gives (λ (r : Built). length (r .cells) ≡ siteCount sites) (build sites tri he hull b)
+pub cell-count : (m : Mesh) (b : BoundingBox) → Gives (λ (r : Built). length (r .cells) ≡ siteCount (m .sites)) (build m b)
 unfolding build
-cell-count sites tri he hull b =
-    let n = siteCount sites in
-    let nc = length tri / 3 in
-    let left = leftmostOf tri he n in
-    gives-next _ (centersFrom sites tri 0 nc []) _ λ c.
-    gives-next _ (extendFrom sites tri hull left nc 0 (length hull) (extensions (c ++ cornersOf b) [] [])) _ λ x.
-    gives-then (Many n) _ (clipAll b nc tri he hull left n _ x) _ (on-all n b nc tri he hull left _ x) (λ s g. g)
+cell-count m b =
+    let n = siteCount (m .sites) in
+    let nc = length (m .triangles) / 3 in
+    let left = leftmostOf (m .triangles) (m .halfedges) n in
+    gives-next _ (centersFrom (m .sites) (m .triangles) 0 nc []) _ λ c.
+    gives-next _ (extendFrom (m .sites) (m .triangles) (m .hull) left nc 0 (length (m .hull)) (extensions (c ++ cornersOf b) [] [])) _ λ x.
+    gives-then (Many n) _ (clipAll b nc (m .triangles) (m .halfedges) (m .hull) left n _ x) _ (on-all n b nc (m .triangles) (m .halfedges) (m .hull) left _ x) (λ s g. g)
 
 -- the owners are those that the paths to the corners find, and the lost corners are tallied by the marks
-pub record CellsTallied (sites : List Float) (tri he hull : List ℕ) (b : BoundingBox) (r : Built) : Type 0 where
-  pub found : r .owners ≡ ownersFrom sites tri he (leftmostOf tri he (siteCount sites)) (siteCount sites) (getD hull 0 0) (cornersOf b)
-  pub lost : r .lost ≡ lostFrom (length tri / 3) 4 (r .cells)
+pub record CellsTallied (m : Mesh) (b : BoundingBox) (r : Built) : Type 0 where
+  pub found : r .owners ≡ ownersFrom (m .sites) (m .triangles) (m .halfedges) (tableOf m) (siteCount (m .sites)) (getD (m .hull) 0 0) (cornersOf b)
+  pub lost : r .lost ≡ lostFrom (length (m .triangles) / 3) 4 (r .cells)
 
-pub tallied : (sites : List Float) (tri he hull : List ℕ) (b : BoundingBox) → Gives (CellsTallied sites tri he hull b) (build sites tri he hull b)
+pub tallied : (m : Mesh) (b : BoundingBox) → Gives (CellsTallied m b) (build m b)
 unfolding build
-tallied sites tri he hull b =
-    let n = siteCount sites in
-    let nc = length tri / 3 in
-    let left = leftmostOf tri he n in
-    gives-next _ (centersFrom sites tri 0 nc []) _ λ c.
-    gives-next _ (extendFrom sites tri hull left nc 0 (length hull) (extensions (c ++ cornersOf b) [] [])) _ λ x.
-    gives-next _ (clipAll b nc tri he hull left n _ x) _ (λ s. record { found = refl; lost = refl })
+tallied m b =
+    let n = siteCount (m .sites) in
+    let nc = length (m .triangles) / 3 in
+    let left = leftmostOf (m .triangles) (m .halfedges) n in
+    gives-next _ (centersFrom (m .sites) (m .triangles) 0 nc []) _ λ c.
+    gives-next _ (extendFrom (m .sites) (m .triangles) (m .hull) left nc 0 (length (m .hull)) (extensions (c ++ cornersOf b) [] [])) _ λ x.
+    gives-next _ (clipAll b nc (m .triangles) (m .halfedges) (m .hull) left n _ x) _ (λ s. record { found = refl; lost = refl })
 
-pub four-owners : (sites : List Float) (tri he hull : List ℕ) (b : BoundingBox) {r : Built} → CellsTallied sites tri he hull b r → length (r .owners) ≡ 4
+pub four-owners : (m : Mesh) (b : BoundingBox) {r : Built} → CellsTallied m b r → length (r .owners) ≡ 4
 unfolding cornersOf
-four-owners sites tri he hull b t = ap length (t .found) ∙ owners-length sites tri he (leftmostOf tri he (siteCount sites)) (siteCount sites) (getD hull 0 0) (cornersOf b)
+four-owners m b t = ap length (t .found) ∙ owners-length (m .sites) (m .triangles) (m .halfedges) (tableOf m) (siteCount (m .sites)) (getD (m .hull) 0 0) (cornersOf b)
 
 pub ring-count : (sites : List Float) (tri he : List ℕ) → Gives (λ (r : Built). length (r .cells) ≡ siteCount sites) (unclipped sites tri he)
 unfolding unclipped

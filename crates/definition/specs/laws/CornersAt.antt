@@ -11,7 +11,7 @@ use Rattle.utils.specs.declared.Point.{Point}
 use Rattle.bounding_box.specs.Box.{cornersOf}
 use Rattle.bounding_box.specs.declared.BoundingBox.{BoundingBox}
 use Rattle.mesh.specs.Mesh.{leftmostOf}
-use Rattle.mesh.specs.Accepted.{Accepted, siteCount}
+use Rattle.mesh.specs.Accepted.{mesh, Accepted, siteCount}
 use Rattle.mesh.specs.laws.Facts.{topology}
 use Rattle.definition.specs.Cell.{vertexAt}
 use Rattle.definition.specs.Build.{centersFrom, ownersFrom, extensions, extendFrom, clipAll, Built, build}
@@ -27,8 +27,8 @@ use Rattle.definition.specs.laws.Start.{centers-from, Extended, extend-f
 abbrev pub Cornered : ℕ → BoundingBox → Built → Type 0
 Cornered nc b r = (nc + 4 ≤ length (r .verts)) × ((c : ℕ) → c < 4 → vertexAt (r .verts) (nc + c) ≡ getD (cornersOf b) c (at nan nan))
 
-module _ {sites : List Float} {tri he hull : List ℕ} (a : Accepted sites tri he hull) (b : BoundingBox) where
-  pub cornered : Gives (Cornered (length tri / 3) b) (build sites tri he hull b)
+module _ {sites : List Float} {tri he hull : List ℕ} (a : Accepted (mesh sites tri he hull)) (b : BoundingBox) where
+  pub cornered : Gives (Cornered (length tri / 3) b) (build (mesh sites tri he hull) b)
   unfolding build cornersOf
   cornered =
       let n = siteCount sites in

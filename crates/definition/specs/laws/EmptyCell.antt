@@ -17,7 +17,7 @@ use Rattle.bounding_box.specs.Box.{cornersOf}
 use Rattle.bounding_box.specs.Finite.{BoundedBox}
 use Rattle.bounding_box.specs.declared.BoundingBox.{BoundingBox}
 use Rattle.mesh.specs.Mesh.{endOf, leftmostOf, Used}
-use Rattle.mesh.specs.Accepted.{Accepted, siteCount}
+use Rattle.mesh.specs.Accepted.{mesh, Accepted, siteCount}
 use Rattle.mesh.specs.laws.Facts.{topology, end-used, start-used}
 use Rattle.paths.specs.Path.{hopOf, pathEnd}
 use Rattle.paths.specs.PathNeeds.{Walkable, Towards}
@@ -60,7 +60,7 @@ module _ (sites : List Float) (tri he left : List ℕ) (n : ℕ) (m : Walkable t
   owner-in-use (p ∷ ps) s u t zero h = end-in-use p (t 0 (omega arith)) n s u
   owner-in-use (p ∷ ps) s u t (suc c) h = owner-in-use ps (pathEnd sites tri he left p n s) (end-in-use p (t 0 (omega arith)) n s u) (λ d k. t (suc d) (omega arith)) c (omega arith)
 
-module _ {sites : List Float} {tri he hull : List ℕ} (a : Accepted sites tri he hull) (s : ℕ) (none : Used tri s → ⊥) where
+module _ {sites : List Float} {tri he hull : List ℕ} (a : Accepted (mesh sites tri he hull)) (s : ℕ) (none : Used tri s → ⊥) where
   not-in-use : occ s tri ≡ 0
   not-in-use = none-there s tri (λ k l q. none (k, l, q))
 
@@ -70,22 +70,22 @@ module _ {sites : List Float} {tri he hull : List ℕ} (a : Accepted sites tri h
   not-on-hull : occ s hull ≡ 0
   not-on-hull = none-there s hull (λ k l q. none (rw q at (hull-used k l)))
 
-  module _ {b : BoundingBox} (box : BoundedBox 101 b) {r : Built} (is : build sites tri he hull b ≡ ok r) where
+  module _ {b : BoundingBox} (box : BoundedBox 101 b) {r : Built} (is : build (mesh sites tri he hull) b ≡ ok r) where
     owns-none : occ s (r .owners) ≡ 0
     unfolding cornersOf
     owns-none =
-        let t = gives-ok (CellsTallied sites tri he hull b) (tallied sites tri he hull b) is in
+        let t = gives-ok (CellsTallied (mesh sites tri he hull) b) (tallied (mesh sites tri he hull) b) is in
         let first = hull-used 0 (omega (arith, a .counts .three-on-hull)) in
         let used : 0 < occ (getD hull 0 0) tri = rw (first .2) at (occ-there tri (first .0) (first .1)) in
         none-there s (r .owners) (λ k l q.
-        let h : k < 4 = omega (arith, four-owners sites tri he hull b t) in
+        let h : k < 4 = omega (arith, four-owners (mesh sites tri he hull) b t) in
         let z = owner-in-use sites tri he (leftmostOf tri he (siteCount sites)) (siteCount sites) (ready a) (cornersOf b) (getD hull 0 0) used (λ d i. towards-corner a box d i) k h in
         let o : 0 < occ (getD (r .owners) k 0) tri = rw (t .found) z in
         absurd (omega (arith, not-in-use, rw q at o)))
 
     pub empty-cell : s < siteCount sites → getD (r .cells) s [] ≡ []
     empty-cell l =
-        let n = gives-ok (λ (x : Built). length (x .cells) ≡ siteCount sites) (cell-count sites tri he hull b) is in
+        let n = gives-ok (λ (x : Built). length (x .cells) ≡ siteCount sites) (cell-count (mesh sites tri he hull) b) is in
         no-entry _ (omega (arith, room a box is .region s (omega arith), not-in-use, not-on-hull, owns-none))
 
   -- ---- without a box

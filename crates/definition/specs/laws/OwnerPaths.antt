@@ -11,7 +11,7 @@ use Rattle.bounding_box.specs.Box.{cornersOf}
 use Rattle.bounding_box.specs.Finite.{BoundedBox}
 use Rattle.bounding_box.specs.declared.BoundingBox.{BoundingBox}
 use Rattle.mesh.specs.Mesh.{leftmostOf}
-use Rattle.mesh.specs.Accepted.{Accepted, siteCount}
+use Rattle.mesh.specs.Accepted.{mesh, Accepted, siteCount}
 use Rattle.iterator.specs.Neighbours.{neighboursOf}
 use Rattle.paths.specs.Path.{distOf, pathEnd}
 use Rattle.paths.specs.PathNeeds.{Walkable, Towards}
@@ -45,7 +45,7 @@ module _ (sites : List Float) (tri he : List ℕ) (m : Walkable tri he (leftmost
       let tab = leftmostOf tri he n in
       ends ps (pathEnd sites tri he tab p n s) (owner sites tri he tab n m (p ∷ ps) s l t 0 (omega arith) .1) (λ d k. t (suc d) (omega arith)) c (omega arith)
 
-module _ {sites : List Float} {tri he hull : List ℕ} (a : Accepted sites tri he hull) {b : BoundingBox} (box : BoundedBox 101 b) where
+module _ {sites : List Float} {tri he hull : List ℕ} (a : Accepted (mesh sites tri he hull)) {b : BoundingBox} (box : BoundedBox 101 b) where
   pub owner-path : (c : ℕ) → c < 4 → PathEnds sites tri he (getD (cornersOf b) c (at nan nan))
       (getD (getD hull 0 0 ∷ ownersOf sites tri he (getD hull 0 0) (cornersOf b)) c 0) (getD (ownersOf sites tri he (getD hull 0 0) (cornersOf b)) c 0)
   unfolding cornersOf

@@ -16,8 +16,7 @@ use Rattle.utils.specs.declared.Point.{Point}
 use Rattle.bounding_box.specs.Box.{cornersOf}
 use Rattle.bounding_box.specs.Finite.{BoundedBox, corner-bounded}
 use Rattle.bounding_box.specs.declared.BoundingBox.{BoundingBox}
-use Rattle.mesh.specs.Mesh.{leftmostOf}
-use Rattle.mesh.specs.Accepted.{Accepted, siteCount}
+use Rattle.mesh.specs.Accepted.{Mesh, tableOf, Accepted, siteCount}
 use Rattle.mesh.specs.laws.Facts.{topology, paired, entry-site, tab-length, tab-cases}
 use Rattle.paths.specs.Path.{distOf, hopOf, pathEnd}
 use Rattle.paths.specs.PathNeeds.{Walkable, Towards}
@@ -63,8 +62,8 @@ module _ (sites : List Float) (tri he table : List ℕ) (n : ℕ) (m : Walkable 
       (owner ps o (end-below p n s (t 0 (omega arith)) l) (λ d k. t (suc d) (omega arith)) c (omega arith))
 
 -- on an accepted mesh, with a box that rule 3 admits
-module _ {sites : List Float} {tri he hull : List ℕ} (a : Accepted sites tri he hull) where
-  pub ready : Walkable tri he (leftmostOf tri he (siteCount sites)) (siteCount sites)
+module _ {m : Mesh} (a : Accepted m) where
+  pub ready : Walkable (m .triangles) (m .halfedges) (tableOf m) (siteCount (m .sites))
   ready =
       let ok = topology a in
       record {
@@ -75,10 +74,10 @@ module _ {sites : List Float} {tri he hull : List ℕ} (a : Accepted sites tri h
         long = omega (arith, tab-length ok);
       }
 
-  pub towards-corner : {b : BoundingBox} → BoundedBox 101 b → (c : ℕ) → c < 4 → Towards sites (getD (cornersOf b) c (at nan nan)) (siteCount sites)
+  pub towards-corner : {b : BoundingBox} → BoundedBox 101 b → (c : ℕ) → c < 4 → Towards (m .sites) (getD (cornersOf b) c (at nan nan)) (siteCount (m .sites))
   unfolding distOf
   towards-corner {b} h c l = record {
     room = omega arith;
-    numbers = λ s k. dist2-no-nan 101 (lit≤ tt) (pointAt sites s) (getD (cornersOf b) c (at nan nan))
-        (point-weaken (lit≤ tt) (site-bounded (pointAt sites s) (a .coordinates s k))) (corner-bounded h c l);
+    numbers = λ s k. dist2-no-nan 101 (lit≤ tt) (pointAt (m .sites) s) (getD (cornersOf b) c (at nan nan))
+        (point-weaken (lit≤ tt) (site-bounded (pointAt (m .sites) s) (a .coordinates s k))) (corner-bounded h c l);
   }

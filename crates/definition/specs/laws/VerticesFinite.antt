@@ -25,7 +25,7 @@ use Rattle.line_crossings.specs.declared.Crossing.{Crossing}
 use Rattle.line_crossings.specs.declared.Crossing.the-variants.{None, One, Two}
 use Rattle.vertices.specs.Add.{addVertex}
 use Rattle.mesh.specs.Mesh.{endOf, leftmostOf}
-use Rattle.mesh.specs.Accepted.{siteCount}
+use Rattle.mesh.specs.Accepted.{Mesh, siteCount}
 use Rattle.mesh.specs.Hull.{nextSite}
 use Rattle.definition.specs.Fault.{ok, atEdge}
 use Rattle.definition.specs.Cell.{EdgeClip, missed, once, twice, Change, Tip, RingPart, firstIs, onEdge, edgeCrossing, clipWith}
@@ -182,18 +182,18 @@ module _ (P : Point → Type 0) where
     pub of-corners : Each (cornersOf b)
 
   module _ (b : BoundingBox) (k : Kinds b) where
-    pub all-vertices : (sites : List Float) (tri he hull : List ℕ) → Gives (λ (r : Built). Each (r .verts)) (build sites tri he hull b)
+    pub all-vertices : (m : Mesh) → Gives (λ (r : Built). Each (r .verts)) (build m b)
     unfolding build clipAll
-    all-vertices sites tri he hull =
-        let n = siteCount sites in
-        let nc = length tri / 3 in
-        let left = leftmostOf tri he n in
-        gives-then Each _ (centersFrom sites tri 0 nc []) _ (centres (k .of-centre) sites tri 0 nc [] tt) λ c hc.
-        gives-then (λ (y : Extensions). Each (y .verts)) _ (extendFrom sites tri hull left nc 0 (length hull) (extensions (c ++ cornersOf b) [] [])) _
-        (extends b (k .on-box) nc (k .of-finite) sites tri hull left 0 (length hull) _ (each-append c (cornersOf b) hc (k .of-corners))) λ x hx.
-        gives-then (λ (s : CellState). Each (s .verts)) _ (clipAll b nc tri he hull left n _ x) _
-        (gives-then (λ (s : CellState). Each (s .verts)) _ (clipHull b nc he hull left (x .at) 0 (length hull) (cellState (x .verts) _ (replicate n []) (x .steps))) _
-        (on-hull b (k .on-box) nc he hull left (x .at) 0 (length hull) _ hx) (λ s g. on-rest b (k .on-box) nc tri he 0 (length tri) s g))
+    all-vertices m =
+        let n = siteCount (m .sites) in
+        let nc = length (m .triangles) / 3 in
+        let left = leftmostOf (m .triangles) (m .halfedges) n in
+        gives-then Each _ (centersFrom (m .sites) (m .triangles) 0 nc []) _ (centres (k .of-centre) (m .sites) (m .triangles) 0 nc [] tt) λ c hc.
+        gives-then (λ (y : Extensions). Each (y .verts)) _ (extendFrom (m .sites) (m .triangles) (m .hull) left nc 0 (length (m .hull)) (extensions (c ++ cornersOf b) [] [])) _
+        (extends b (k .on-box) nc (k .of-finite) (m .sites) (m .triangles) (m .hull) left 0 (length (m .hull)) _ (each-append c (cornersOf b) hc (k .of-corners))) λ x hx.
+        gives-then (λ (s : CellState). Each (s .verts)) _ (clipAll b nc (m .triangles) (m .halfedges) (m .hull) left n _ x) _
+        (gives-then (λ (s : CellState). Each (s .verts)) _ (clipHull b nc (m .halfedges) (m .hull) left (x .at) 0 (length (m .hull)) (cellState (x .verts) _ (replicate n []) (x .steps))) _
+        (on-hull b (k .on-box) nc (m .halfedges) (m .hull) left (x .at) 0 (length (m .hull)) _ hx) (λ s g. on-rest b (k .on-box) nc (m .triangles) (m .halfedges) 0 (length (m .triangles)) s g))
         (λ s g. g)
 
 -- ---- every vertex is finite
@@ -213,7 +213,7 @@ crossing-finite k None h = tt
 crossing-finite k (One x y) h = finite-both (at x y) k (h .0) (h .1)
 crossing-finite k (Two x y u v) h = (finite-both (at x y) k (h .0 .0) (h .0 .1), finite-both (at u v) k (h .1 .0) (h .1 .1))
 
-pub vertices-finite : {b : BoundingBox} → BoundedBox 101 b → (sites : List Float) (tri he hull : List ℕ) → Gives (λ (r : Built). Each FinitePoint (r .verts)) (build sites tri he hull b)
+pub vertices-finite : {b : BoundingBox} → BoundedBox 101 b → (m : Mesh) → Gives (λ (r : Built). Each FinitePoint (r .verts)) (build m b)
 unfolding cornersOf
 vertices-finite {b} h =
     all-vertices FinitePoint b (record {

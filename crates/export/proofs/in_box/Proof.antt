@@ -12,7 +12,7 @@ show-requires c κs =
     let start = at-build .before .before .before .before .before .before .before .before .before .before .before in
     let b = at-build .build in (
       λ z. rw (at-narrow .narrow .ensures, b .kept .1 .1 .1 .1 .1 .1 .1 .1 .0)
-          (laid-in-box _ _ _ _ _ (start .pre) _ _ (record { work = refl; vertices = refl; indexes = refl; offsets = refl; counts = refl }) _ _ _ _ (b .ensures)
+          (laid-in-box _ _ (start .pre) _ _ (record { work = refl; vertices = refl; indexes = refl; offsets = refl; counts = refl }) _ _ _ _ (b .ensures)
           (b .kept .1 .1 .1 .1 .1 .1 .1 .1 .1 .0) z),
       start .pre .room,
     )
@@ -26,7 +26,7 @@ returns c =
     let b = at-build .build in
     let h = at-show .show .ensures in (
       rw (h .first, at-narrow .narrow .ensures)
-          (text-in-box _ _ _ _ _ (start .pre) _ _ (record { work = refl; vertices = refl; indexes = refl; offsets = refl; counts = refl }) _ _ _ _ (b .ensures)),
+          (text-in-box _ _ (start .pre) _ _ (record { work = refl; vertices = refl; indexes = refl; offsets = refl; counts = refl }) _ _ _ _ (b .ensures)),
       h .within,
     )
 

@@ -12,7 +12,7 @@ show-requires c κs =
     let start = at-build-unclipped .before .before .before .before .before .before .before .before .before .before .before in
     let b = at-build-unclipped .build-unclipped in (
       λ z. rw (at-narrow .narrow .ensures, b .kept .1 .1 .1 .1 .1 .0)
-          (laid-without-box _ _ _ _ _ (start .pre) _ _ (record { work = refl; vertices = refl; indexes = refl; offsets = refl; counts = refl }) _ (b .ensures) (b .kept .1 .1 .1 .1 .1 .1 .0) z),
+          (laid-without-box _ _ (start .pre) _ _ (record { work = refl; vertices = refl; indexes = refl; offsets = refl; counts = refl }) _ (b .ensures) (b .kept .1 .1 .1 .1 .1 .1 .0) z),
       start .pre .room,
     )
 
@@ -25,7 +25,7 @@ returns c =
     let b = at-build-unclipped .build-unclipped in
     let h = at-show .show .ensures in (
       rw (h .first, at-narrow .narrow .ensures)
-          (text-without-box _ _ _ _ _ (start .pre) _ _ (record { work = refl; vertices = refl; indexes = refl; offsets = refl; counts = refl }) _ (b .ensures)),
+          (text-without-box _ _ (start .pre) _ _ (record { work = refl; vertices = refl; indexes = refl; offsets = refl; counts = refl }) _ (b .ensures)),
       h .within,
     )
 

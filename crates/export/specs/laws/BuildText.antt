@@ -18,7 +18,7 @@ use Rattle.wkb.specs.Promise.{NamesVertices, image}
 use Rattle.map_text.specs.MapText.{heading, mapText}
 use Rattle.utils.specs.declared.Point.{Point}
 use Rattle.bounding_box.specs.Box.{madeOf}
-use Rattle.mesh.specs.Accepted.{siteCount}
+use Rattle.mesh.specs.Accepted.{Mesh, siteCount}
 use Rattle.admission.specs.Admits.{Admits}
 use Rattle.layout.specs.Regions.{joined, offsetsFrom}
 use Rattle.definition.specs.declared.Fault.{Fault}
@@ -105,67 +105,67 @@ centres sites tri he =
     (λ ws q. (omega (arith, q), refl))
 
 -- ---- both builds on lists within the form's limits, with slices of these lengths
-module _ (sites : List Float) (tri he hull : List ℕ) (space : ℕ) (m : MapSized (length sites) (length tri) (length hull) space) (old new : Slices) (long : ProgramSlices old) (r : ℕ) where
-  roomy : roomOf sites tri hull old ≡ true
+module _ (m : Mesh) (space : ℕ) (sized : MapSized (length (m .sites)) (length (m .triangles)) (length (m .hull)) space) (old new : Slices) (long : ProgramSlices old) (r : ℕ) where
+  roomy : roomOf m old ≡ true
   unfolding roomFor
   roomy =
       rw (long .work, long .vertices, long .indexes, long .offsets, long .counts)
       (rw (
-        le-leb (siteCount sites) 96 (omega (arith, m .few-sites)),
-        le-leb (7 * (length tri / 3) + 5 * length hull + 4) 1828 (omega (arith, m .few-triangles, m .few-on-hull)),
-        le-leb (12 * (length tri / 3) + 8 * length hull + 4) 3076 (omega (arith, m .few-triangles, m .few-on-hull)),
-        lt-ltb (siteCount sites) 97 (omega (arith, m .few-sites)),
+        le-leb (siteCount (m .sites)) 96 (omega (arith, sized .few-sites)),
+        le-leb (7 * (length (m .triangles) / 3) + 5 * length (m .hull) + 4) 1828 (omega (arith, sized .few-triangles, sized .few-on-hull)),
+        le-leb (12 * (length (m .triangles) / 3) + 8 * length (m .hull) + 4) 3076 (omega (arith, sized .few-triangles, sized .few-on-hull)),
+        lt-ltb (siteCount (m .sites)) 97 (omega (arith, sized .few-sites)),
       ))
 
-  module _ {asked : ℕ} {o : Outcome Fault Built} (whole : Gives (Whole (siteCount sites)) o) (can : (b : Built) → o ≡ ok b → r ≡ 0 → Drawable b)
-      (late : Refuses Numbered o) (a : BuildAnswers sites tri he hull asked o old new r) where
-    rules : Builds sites tri he hull true asked o r
+  module _ {asked : ℕ} {o : Outcome Fault Built} (whole : Gives (Whole (siteCount (m .sites))) o) (can : (b : Built) → o ≡ ok b → r ≡ 0 → Drawable b)
+      (late : Refuses Numbered o) (a : BuildAnswers m asked o old new r) where
+    rules : Builds m true asked o r
     rules = rw roomy at (a .number)
 
-    layout : length (new .indexes) ≡ 3076 → r ≡ 0 → CanDraw (siteCount sites) 3656 (new .offsets) (new .indexes)
+    layout : length (new .indexes) ≡ 3076 → r ≡ 0 → CanDraw (siteCount (m .sites)) 3656 (new .offsets) (new .indexes)
     layout short z =
         let b = zero-succeeds late a z .outcome in
-        laid-out a long (b .value) (gives-ok (Whole (siteCount sites)) whole (b .is)) (can (b .value) (b .is) z) (b .is) z (omega (arith, m .few-sites)) short
+        laid-out a long (b .value) (gives-ok (Whole (siteCount (m .sites))) whole (b .is)) (can (b .value) (b .is) z) (b .is) z (omega (arith, sized .few-sites)) short
 
-    text-of : Shows (Admits sites tri he hull true asked) exported o (shown (lines (siteCount sites) (new .vertices) (new .offsets) (new .indexes)) r)
-    text-of = shows exported _ rules late (λ b e z. lines-text a long b (gives-ok (Whole (siteCount sites)) whole e) (can b e z) e z)
+    text-of : Shows (Admits m true asked) exported o (shown (lines (siteCount (m .sites)) (new .vertices) (new .offsets) (new .indexes)) r)
+    text-of = shows exported _ rules late (λ b e z. lines-text a long b (gives-ok (Whole (siteCount (m .sites))) whole e) (can b e z) e z)
 
-  module _ (c : Point) (w h : Float) (a : ClippedBuild sites tri he hull c w h old new r) where
-    abbrev whole-in : Gives (Whole (siteCount sites)) (build sites tri he hull (madeOf c w h))
-    whole-in = whole-in-box sites tri he hull (madeOf c w h)
+  module _ (c : Point) (w h : Float) (a : ClippedBuild m c w h old new r) where
+    abbrev whole-in : Gives (Whole (siteCount (m .sites))) (build m (madeOf c w h))
+    whole-in = whole-in-box m (madeOf c w h)
 
     -- each entry of a clipped cell is a vertex (`Room` of definition/specs/Theorems)
-    can-in : (b : Built) → build sites tri he hull (madeOf c w h) ≡ ok b → r ≡ 0 → Drawable b
+    can-in : (b : Built) → build m (madeOf c w h) ≡ ok b → r ≡ 0 → Drawable b
     can-in b e z =
         let s = clipped-sound c w h a z in
         let q : s .outcome .value ≡ b = ok-one (s .outcome .is) e in
         let f = s .fits in
         subst Drawable q (record {
-          named = λ k l. placed-named _ (length tri / 3) _ (getD (s .outcome .value .cells) k []) (omega (arith, f .added)) (f .placed k);
-          room = omega (arith, f .vertices, m .few-triangles, m .few-on-hull);
+          named = λ k l. placed-named _ (length (m .triangles) / 3) _ (getD (s .outcome .value .cells) k []) (omega (arith, f .added)) (f .placed k);
+          room = omega (arith, f .vertices, sized .few-triangles, sized .few-on-hull);
         })
 
-    pub laid-in-box : length (new .indexes) ≡ 3076 → r ≡ 0 → CanDraw (siteCount sites) 3656 (new .offsets) (new .indexes)
-    laid-in-box = layout whole-in can-in (build-late sites tri he hull (madeOf c w h)) a
+    pub laid-in-box : length (new .indexes) ≡ 3076 → r ≡ 0 → CanDraw (siteCount (m .sites)) 3656 (new .offsets) (new .indexes)
+    laid-in-box = layout whole-in can-in (build-late m (madeOf c w h)) a
 
-    pub text-in-box : InBox mapTexts sites tri he hull c w h (shown (lines (siteCount sites) (new .vertices) (new .offsets) (new .indexes)) r)
-    text-in-box = text-of whole-in can-in (build-late sites tri he hull (madeOf c w h)) a
+    pub text-in-box : InBox mapTexts m c w h (shown (lines (siteCount (m .sites)) (new .vertices) (new .offsets) (new .indexes)) r)
+    text-in-box = text-of whole-in can-in (build-late m (madeOf c w h)) a
 
-  module _ (a : UnclippedBuild sites tri he hull old new r) where
+  module _ (a : UnclippedBuild m old new r) where
     -- each entry of a cell that is not clipped is a triangle
-    can-without : (b : Built) → unclipped sites tri he ≡ ok b → r ≡ 0 → Drawable b
+    can-without : (b : Built) → unclipped (m .sites) (m .triangles) (m .halfedges) ≡ ok b → r ≡ 0 → Drawable b
     can-without b e z =
-        let s = zero-succeeds (unclipped-late sites tri he) a z in
+        let s = zero-succeeds (unclipped-late (m .sites) (m .triangles) (m .halfedges)) a z in
         let k = s .admission .accepted .counts in
-        let p = gives-ok (Centres sites tri he) (centres sites tri he) e in
-        let third : length (b .verts) ≡ length he / 3 = p .0 ∙ ap (λ (j : ℕ). j / 3) (sym (k .same)) in
+        let p = gives-ok (Centres (m .sites) (m .triangles) (m .halfedges)) (centres (m .sites) (m .triangles) (m .halfedges)) e in
+        let third : length (b .verts) ≡ length (m .halfedges) / 3 = p .0 ∙ ap (λ (j : ℕ). j / 3) (sym (k .same)) in
         record {
-          named = λ i l. rw (p .1, third) (cells-named he (omega (arith, k .threes, k .same)) tri (siteCount sites) i);
-          room = omega (arith, p .0, m .few-triangles);
+          named = λ i l. rw (p .1, third) (cells-named (m .halfedges) (omega (arith, k .threes, k .same)) (m .triangles) (siteCount (m .sites)) i);
+          room = omega (arith, p .0, sized .few-triangles);
         }
 
-    pub laid-without-box : length (new .indexes) ≡ 3076 → r ≡ 0 → CanDraw (siteCount sites) 3656 (new .offsets) (new .indexes)
-    laid-without-box = layout (whole-without-box sites tri he) can-without (unclipped-late sites tri he) a
+    pub laid-without-box : length (new .indexes) ≡ 3076 → r ≡ 0 → CanDraw (siteCount (m .sites)) 3656 (new .offsets) (new .indexes)
+    laid-without-box = layout (whole-without-box (m .sites) (m .triangles) (m .halfedges)) can-without (unclipped-late (m .sites) (m .triangles) (m .halfedges)) a
 
-    pub text-without-box : WithoutBox mapTexts sites tri he hull (shown (lines (siteCount sites) (new .vertices) (new .offsets) (new .indexes)) r)
-    text-without-box = text-of (whole-without-box sites tri he) can-without (unclipped-late sites tri he) a
+    pub text-without-box : WithoutBox mapTexts m (shown (lines (siteCount (m .sites)) (new .vertices) (new .offsets) (new .indexes)) r)
+    text-without-box = text-of (whole-without-box (m .sites) (m .triangles) (m .halfedges)) can-without (unclipped-late (m .sites) (m .triangles) (m .halfedges)) a

@@ -16,7 +16,7 @@ use Rattle.laws.specs.laws.Decide.{lt-or-ge}
 use Rattle.laws.specs.Count.{occ}
 use Rattle.laws.specs.laws.Count.{same-cases}
 use Rattle.mesh.specs.Mesh.{nextOf, startOf, endOf, pairOf, around, turnOf, walkOf, wholeOf, leftmostOf}
-use Rattle.mesh.specs.Accepted.{Accepted, siteCount}
+use Rattle.mesh.specs.Accepted.{mesh, Accepted, siteCount}
 use Rattle.mesh.specs.laws.Facts.{topology, paired, next-in, walk-each, walk-only}
 use Rattle.mesh.specs.laws.WalkSteps.{walk-go, walk-done}
 use Rattle.mesh.specs.laws.Next.{next-thrice}
@@ -98,7 +98,7 @@ module _ (tri he : List ℕ) where
         let a = all e (head-in e e (f ∷ es) refl) in
         ⊎-elim (λ z. (e, a .0, inl (sym z, a .1))) (λ g. from-starts (f ∷ es) (λ x o. all x (tail-in x e (f ∷ es) o)) g) (at-head v (startOf tri e) (startsOf tri he (f ∷ es)) h)
 
-module _ {sites : List Float} {tri he hull : List ℕ} (a : Accepted sites tri he hull) (s : ℕ) (below : s < siteCount sites) (v : ℕ) where
+module _ {sites : List Float} {tri he hull : List ℕ} (a : Accepted (mesh sites tri he hull)) (s : ℕ) (below : s < siteCount sites) (v : ℕ) where
   pub neighbour-joined : 0 < occ v (neighboursOf tri he (leftmostOf tri he (siteCount sites)) s) → (e : ℕ) × (e < length he) × Joins tri s v e
   unfolding neighboursOf
   neighbour-joined h = from-starts tri he (λ e l. next-in (topology a) l) s v _ (walk-only (topology a) s below) h

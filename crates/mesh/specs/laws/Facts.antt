@@ -6,12 +6,11 @@ use mathlib.Core.Logic.{_⊎_, inl, inr, ⊎-elim, _≢_}
 use Prim.Native.Nat.{ℕ, _+_, _*_, _/_, _%_, _≤_, _<_}
 use native.Mathlib.Omega.{arith}
 use lib.ListN.{length, getD}
-use lib.Ieee.{Float}
 use Rattle.laws.specs.laws.Decide.{eq-or-ne}
 use Rattle.laws.specs.Count.{occ}
 use Rattle.numbers.specs.Numbers.{EMPTY}
 use Rattle.mesh.specs.Mesh.{nextOf, startOf, endOf, pairOf, Used, AllSound, leftmostOf, Leftmost, walkOf, wholeOf, Paired}
-use Rattle.mesh.specs.Accepted.{Topology, Counted, Accepted, siteCount}
+use Rattle.mesh.specs.Accepted.{Mesh, Topology, Counted, Accepted, siteCount}
 use Rattle.mesh.specs.laws.Next.{next-lt, next-thrice}
 use Rattle.mesh.specs.laws.Walks.{walk-ends, walk-in, whole-once, reached-walk, walk-fuel}
 use Rattle.mesh.specs.laws.Table.{table-length, table-leftmost, the-unpaired, the-lowest, the-none}
@@ -24,7 +23,7 @@ few-entries n = omega (arith, n .few-triangles, n .threes)
 pub few-on-hull : {c t e h : ℕ} → Counted c t e h → h < EMPTY
 few-on-hull n = omega (arith, n .hull-of-sites, n .few-sites)
 
-pub topology : {sites : List Float} {tri he hull : List ℕ} → Accepted sites tri he hull → Topology tri he hull (siteCount sites)
+pub topology : {m : Mesh} → Accepted m → Topology (m .triangles) (m .halfedges) (m .hull) (siteCount (m .sites))
 topology a = a .topology
 
 -- sound triangles name sites

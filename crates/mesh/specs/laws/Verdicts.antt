@@ -4,7 +4,6 @@ use mathlib.Core.List.{List}
 use mathlib.Core.Logic.{_≢_}
 use Prim.Native.Nat.{ℕ, _%_, _≤_, _<_}
 use native.Mathlib.Omega.{arith}
-use lib.Ieee.{Float}
 use lib.ListN.{length}
 use Rattle.laws.specs.Refusals.{Keep, Finds}
 use Rattle.laws.specs.laws.Refusals.{finds-answers}
@@ -12,7 +11,7 @@ use Rattle.numbers.specs.Numbers.{EMPTY, refusedTriangle}
 use Rattle.mesh.specs.declared.MeshFault.{MeshFault}
 use Rattle.mesh.specs.declared.MeshFault.the-variants.{None}
 use Rattle.mesh.specs.Mesh.{nextOf, endOf}
-use Rattle.mesh.specs.Accepted.{Accepted, siteCount, Topology}
+use Rattle.mesh.specs.Accepted.{Mesh, Accepted, siteCount, Topology}
 use Rattle.mesh.specs.Rules.{numberOf, topologyRules, meshRules}
 use Rattle.mesh.specs.laws.Next.{next-lt}
 use Rattle.mesh.specs.laws.Facts.{few-entries, sound-site}
@@ -40,13 +39,13 @@ module _ (tri he hull : List ℕ) (sites : ℕ) where
       finds-answers (λ f. numberOf f ≢ 0 → refusedTriangle ≤ numberOf f) (λ n. absurd (n refl))
       (λ k n. omega arith, (λ k n. omega arith, (λ k n. omega arith, (λ k n. omega arith, (λ k n. omega arith, tt)))))
 
-module _ (sites : List Float) (tri he hull : List ℕ) (room : Type 0) where
-  pub accepted-keep : Accepted sites tri he hull → room → Keep (meshRules sites tri he hull room)
-  accepted-keep a l = (a .counts, (l, (a .coordinates, topology-keep tri he hull (siteCount sites) (a .topology))))
+module _ (m : Mesh) (room : Type 0) where
+  pub accepted-keep : Accepted m → room → Keep (meshRules m room)
+  accepted-keep a l = (a .counts, (l, (a .coordinates, topology-keep (m .triangles) (m .halfedges) (m .hull) (siteCount (m .sites)) (a .topology))))
 
-  pub keep-accepted : Keep (meshRules sites tri he hull room) → Accepted sites tri he hull
+  pub keep-accepted : Keep (meshRules m room) → Accepted m
   keep-accepted k = record {
     counts = k .0;
     coordinates = k .1 .1 .0;
-    topology = keep-topology tri he hull (siteCount sites) (k .0 .threes) (k .0 .same) (few-entries (k .0)) (k .1 .1 .1);
+    topology = keep-topology (m .triangles) (m .halfedges) (m .hull) (siteCount (m .sites)) (k .0 .threes) (k .0 .same) (few-entries (k .0)) (k .1 .1 .1);
   }

@@ -2,16 +2,15 @@
 -- neighbours are none and its path is itself alone.
 use mathlib.Core.Path.{_≡_}
 use mathlib.Core.Bool.{true}
-use mathlib.Core.List.{List, [], _∷_}
+use mathlib.Core.List.{[], _∷_}
 use Prim.Native.Nat.{ℕ, _≤_, _<_}
 use native.Mathlib.Omega.{arith}
-use lib.Ieee.{Float}
 use lib.ListN.{length, getD}
 use Rattle.laws.specs.Count.{occ}
 use Rattle.utils.specs.Rules.{okSite}
 use Rattle.utils.specs.declared.Point.{Point}
-use Rattle.mesh.specs.Mesh.{Used, leftmostOf, wholeOf}
-use Rattle.mesh.specs.Accepted.{Accepted, siteCount}
+use Rattle.mesh.specs.Mesh.{Used, wholeOf}
+use Rattle.mesh.specs.Accepted.{Mesh, tableOf, Accepted, siteCount}
 use Rattle.mesh.specs.laws.Facts.{topology, paired, tab-unused}
 use Rattle.mesh.specs.laws.WalkSteps.{walk-done}
 use Rattle.iterator.specs.Neighbours.{startsOf, neighboursOf}
@@ -21,23 +20,23 @@ use Rattle.paths.specs.PathRule.{PathFrom}
 use Rattle.paths.specs.Path.{wholePath}
 use Rattle.paths.specs.laws.PathNeeds.{ready, towards}
 
-module _ {sites : List Float} {tri he hull : List ℕ} (a : Accepted sites tri he hull) (s : ℕ) (below : s < siteCount sites) (p : Point) (to : okSite p ≡ true) where
-  pub runs : PathFrom (distOf sites p) (neighboursOf tri he (leftmostOf tri he (siteCount sites))) s (wholePath sites tri he (leftmostOf tri he (siteCount sites)) p s)
-  runs = whole-runs sites tri he (leftmostOf tri he (siteCount sites)) p (siteCount sites) (ready (topology a)) (towards sites p (a .coordinates) to) s below
+module _ {m : Mesh} (a : Accepted m) (s : ℕ) (below : s < siteCount (m .sites)) (p : Point) (to : okSite p ≡ true) where
+  pub runs : PathFrom (distOf (m .sites) p) (neighboursOf (m .triangles) (m .halfedges) (tableOf m)) s (wholePath (m .sites) (m .triangles) (m .halfedges) (tableOf m) p s)
+  runs = whole-runs (m .sites) (m .triangles) (m .halfedges) (tableOf m) p (siteCount (m .sites)) (ready (topology a)) (towards (m .sites) p (a .coordinates) to) s below
 
-  pub never-twice : (v : ℕ) → occ v (wholePath sites tri he (leftmostOf tri he (siteCount sites)) p s) ≤ 1
-  never-twice v = whole-once sites tri he (leftmostOf tri he (siteCount sites)) p (siteCount sites) (ready (topology a)) (towards sites p (a .coordinates) to) s v below
+  pub never-twice : (v : ℕ) → occ v (wholePath (m .sites) (m .triangles) (m .halfedges) (tableOf m) p s) ≤ 1
+  never-twice v = whole-once (m .sites) (m .triangles) (m .halfedges) (tableOf m) p (siteCount (m .sites)) (ready (topology a)) (towards (m .sites) p (a .coordinates) to) s v below
 
-module _ {sites : List Float} {tri he hull : List ℕ} (a : Accepted sites tri he hull) (s : ℕ) (below : s < siteCount sites) (none : Used tri s → ⊥) where
-  pub alone-walk : wholeOf he (getD (leftmostOf tri he (siteCount sites)) s 0) ≡ []
+module _ {m : Mesh} (a : Accepted m) (s : ℕ) (below : s < siteCount (m .sites)) (none : Used (m .triangles) s → ⊥) where
+  pub alone-walk : wholeOf (m .halfedges) (getD (tableOf m) s 0) ≡ []
   alone-walk =
-      let e = getD (leftmostOf tri he (siteCount sites)) s 0 in
-      walk-done he e (length he) e (omega (arith, tab-unused (topology a) s below none, paired (topology a) .small))
+      let e = getD (tableOf m) s 0 in
+      walk-done (m .halfedges) e (length (m .halfedges)) e (omega (arith, tab-unused (topology a) s below none, paired (topology a) .small))
 
-  pub alone-neighbours : neighboursOf tri he (leftmostOf tri he (siteCount sites)) s ≡ []
+  pub alone-neighbours : neighboursOf (m .triangles) (m .halfedges) (tableOf m) s ≡ []
   unfolding neighboursOf startsOf
   alone-neighbours = rw alone-walk
 
-  pub alone-path : (p : Point) → okSite p ≡ true → wholePath sites tri he (leftmostOf tri he (siteCount sites)) p s ≡ s ∷ []
+  pub alone-path : (p : Point) → okSite p ≡ true → wholePath (m .sites) (m .triangles) (m .halfedges) (tableOf m) p s ≡ s ∷ []
   alone-path p to =
-      whole-alone sites tri he (leftmostOf tri he (siteCount sites)) p (siteCount sites) (ready (topology a)) (towards sites p (a .coordinates) to) s below alone-neighbours
+      whole-alone (m .sites) (m .triangles) (m .halfedges) (tableOf m) p (siteCount (m .sites)) (ready (topology a)) (towards (m .sites) p (a .coordinates) to) s below alone-neighbours

@@ -5,9 +5,9 @@ use mathlib.Core.List.{List}
 use mathlib.Core.Logic.{⊎-elim, _≢_}
 use Prim.Native.Nat.{ℕ}
 use native.Mathlib.Omega.{arith}
-use lib.Ieee.{Float}
 use lib.ListN.{length}
 use borrow.Author.Tests.{ne-eqb}
+use Rattle.mesh.specs.Accepted.{Mesh}
 use Rattle.admission.specs.Admits.{Admits}
 use Rattle.definition.specs.declared.Fault.{Fault}
 use Rattle.definition.specs.Fault.{Outcome, ok, refused}
@@ -37,9 +37,9 @@ module _ (Rules : ℕ → Type 0) (text : Built → List ℕ) where
       let q : e .number ≢ 0 = λ z. omega (arith, late .least) in
       rw (ne-eqb (e .number) 0 q) (printed.late p)
 
-pub shows : {sites : List Float} {tri he hull : List ℕ} {roomy : Bool} {asked : ℕ} {o : Outcome Fault Built} {r : ℕ} (text : Built → List ℕ) (t : List ℕ)
-    → Builds sites tri he hull roomy asked o r → Refuses Numbered o → ((b : Built) → o ≡ ok b → r ≡ 0 → t ≡ text b)
-    → Shows (Admits sites tri he hull roomy asked) text o (shown t r)
+pub shows : {m : Mesh} {roomy : Bool} {asked : ℕ} {o : Outcome Fault Built} {r : ℕ} (text : Built → List ℕ) (t : List ℕ)
+    → Builds m roomy asked o r → Refuses Numbered o → ((b : Built) → o ≡ ok b → r ≡ 0 → t ≡ text b)
+    → Shows (Admits m roomy asked) text o (shown t r)
 shows text t x late f =
     ⊎-elim
     (λ y. rw (ne-eqb _ 0 (y .1)) (printed.early (y .0) (y .1)))

@@ -10,6 +10,7 @@ use Rattle.laws.specs.laws.Stores.{sets-all}
 use Rattle.form.specs.Form.{Outline, box, unclipped, FormMesh, MeshFits, isUnclipped, numbersOf, outlineFloats, siteFloats, triangleSites, trianglePairs}
 use Rattle.form_step.specs.Holds.{ListRoom}
 use Rattle.form_step.specs.declared.Form.the-variants.{Sound}
+use Rattle.mesh.specs.Accepted.{Mesh, mesh}
 use Rattle.printing.specs.Printed.{ByClip, OfMesh, ByMode, ByForm, Texts}
 
 -- k numbers of each
@@ -30,12 +31,12 @@ pub record Put (m : FormMesh) (bs ss : List Float) (ts es hs : List ℕ) (bs′ 
   pub hull : hs′ ≡ sets hs 0 (m .hull)
 
 module _ (t : Texts) where
-  module _ (bs bs′ : List Float) (room : 4 ≤ length bs) (ss : List Float) (ts es hs text : List ℕ) where
-    to-clip : (clip : Outline) → bs′ ≡ sets bs 0 (outlineFloats clip) → ByMode t (isUnclipped clip) bs′ ss ts es hs text → ByClip t ss ts es hs clip text
+  module _ (bs bs′ : List Float) (room : 4 ≤ length bs) (m : Mesh) (text : List ℕ) where
+    to-clip : (clip : Outline) → bs′ ≡ sets bs 0 (outlineFloats clip) → ByMode t (isUnclipped clip) bs′ m text → ByClip t m clip text
     to-clip (box x y w h) e q = rw (e, sets-all (outlineFloats (box x y w h)) bs room) at q
     to-clip unclipped e q = q
 
-    to-mode : (clip : Outline) → bs′ ≡ sets bs 0 (outlineFloats clip) → ByClip t ss ts es hs clip text → ByMode t (isUnclipped clip) bs′ ss ts es hs text
+    to-mode : (clip : Outline) → bs′ ≡ sets bs 0 (outlineFloats clip) → ByClip t m clip text → ByMode t (isUnclipped clip) bs′ m text
     to-mode (box x y w h) e q = rw (e, sets-all (outlineFloats (box x y w h)) bs room) q
     to-mode unclipped e q = q
 
@@ -54,8 +55,8 @@ module _ (t : Texts) where
     hull-is = rw (p .hull) (put (m .hull) hs _ refl (omega (arith, f .few-hull, room .hull)))
 
     pub to-mesh : ByForm t (Sound (length (m .sites)) (length (m .triangles)) (length (m .hull)) (isUnclipped (m .clip))) bs′ ss′ ts′ es′ hs′ text → OfMesh t m text
-    to-mesh q = rw (sites-are, tri-is, he-is, hull-is) at (to-clip bs bs′ (room .bounds) (take (2 * length (m .sites)) ss′)
-        (take (3 * length (m .triangles)) ts′) (take (3 * length (m .triangles)) es′) (take (length (m .hull)) hs′) text (m .clip) (p .bounds) q)
+    to-mesh q = rw (sites-are, tri-is, he-is, hull-is) at (to-clip bs bs′ (room .bounds) (mesh (take (2 * length (m .sites)) ss′)
+        (take (3 * length (m .triangles)) ts′) (take (3 * length (m .triangles)) es′) (take (length (m .hull)) hs′)) text (m .clip) (p .bounds) q)
 
     pub to-form : OfMesh t m text → ByForm t (Sound (length (m .sites)) (length (m .triangles)) (length (m .hull)) (isUnclipped (m .clip))) bs′ ss′ ts′ es′ hs′ text
-    to-form q = rw (sites-are, tri-is, he-is, hull-is) (to-mode bs bs′ (room .bounds) _ _ _ _ text (m .clip) (p .bounds) q)
+    to-form q = rw (sites-are, tri-is, he-is, hull-is) (to-mode bs bs′ (room .bounds) _ text (m .clip) (p .bounds) q)

@@ -7,7 +7,7 @@ use lib.ListN.{length, getD, replicate, length-set, length-replicate}
 use Rattle.bounding_box.specs.Box.{cornersOf}
 use Rattle.bounding_box.specs.declared.BoundingBox.{BoundingBox}
 use Rattle.mesh.specs.Mesh.{leftmostOf, endOf}
-use Rattle.mesh.specs.Accepted.{siteCount}
+use Rattle.mesh.specs.Accepted.{Mesh, siteCount}
 use Rattle.definition.specs.laws.Lowest.{rings-length}
 use Rattle.definition.specs.laws.Gives.{Gives, gives-then, gives-next, picked}
 use Rattle.definition.specs.Build.{Built, CellState, Extensions, clipInto, isEmpty, clipHull, clipRest, clipAll, build}
@@ -44,15 +44,15 @@ module _ (b : BoundingBox) (nc n : ℕ) where
   all-cells tri he hull left owners x =
       gives-then (Wide n) (Wide n) _ _ (on-hull he hull left (x .at) 0 (length hull) _ (length-replicate n [])) (λ s w. on-rest tri he 0 (length tri) s w)
 
-pub whole-in-box : (sites : List Float) (tri he hull : List ℕ) (b : BoundingBox) → Gives (Whole (siteCount sites)) (build sites tri he hull b)
+pub whole-in-box : (m : Mesh) (b : BoundingBox) → Gives (Whole (siteCount (m .sites))) (build m b)
 unfolding build cornersOf
-whole-in-box sites tri he hull b =
-    let n = siteCount sites in
-    let left = leftmostOf tri he n in
+whole-in-box m b =
+    let n = siteCount (m .sites) in
+    let left = leftmostOf (m .triangles) (m .halfedges) n in
     gives-next (Whole n) _ _ λ c.
     gives-next (Whole n) _ _ λ x.
-    gives-then (Wide n) (Whole n) _ _ (all-cells b (length tri / 3) n tri he hull left _ x)
-    (λ s w. record { cells = w; owners = owners-length sites tri he left n (getD hull 0 0) (cornersOf b) })
+    gives-then (Wide n) (Whole n) _ _ (all-cells b (length (m .triangles) / 3) n (m .triangles) (m .halfedges) (m .hull) left _ x)
+    (λ s w. record { cells = w; owners = owners-length (m .sites) (m .triangles) (m .halfedges) left n (getD (m .hull) 0 0) (cornersOf b) })
 
 pub whole-without-box : (sites : List Float) (tri he : List ℕ) → Gives (Whole (siteCount sites)) (unclipped sites tri he)
 unfolding unclipped

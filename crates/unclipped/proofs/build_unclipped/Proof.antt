@@ -22,7 +22,7 @@ few c =
     (t, omega (arith, e .pre .1 .vertices))
 
 calculate-circumcenters-requires : tie.Need-calculate-circumcenters-requires
-calculate-circumcenters-requires c κs = let e = Entry c in (named _ _ _ _ (e .pre .0), omega (arith, e .pre .1 .vertices))
+calculate-circumcenters-requires c κs = let e = Entry c in (named _ (e .pre .0), omega (arith, e .pre .1 .vertices))
 
 returns : tie.Need-returns
 returns c =
@@ -34,7 +34,7 @@ returns c =
     refused-all _ _ _ _ _ _ (t .calculate-circumcenters .ensures) _ _ _ _ _ (b .if1 .taken) _ refl (v .vertices .given) (q .0) (q .1) (q .2)
 
 draw-cells-requires : tie.Need-draw-cells-requires
-draw-cells-requires c κs = let e = Entry (c .before .before .before .before .before .before) in draws _ _ _ _ (e .pre .0) _ _ _ (e .pre .1)
+draw-cells-requires c κs = let e = Entry (c .before .before .before .before .before .before) in draws _ (e .pre .0) _ _ _ (e .pre .1)
 
 mul-clear-floats-from : tie.Need-mul-clear-floats-from
 mul-clear-floats-from c = omega (arith, few (c .before .before .before .before .before .before .before .before .before .before .before) .1)

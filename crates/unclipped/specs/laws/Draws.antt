@@ -3,11 +3,10 @@ use mathlib.Core.Path.{_≡_, _∙_}
 use mathlib.Core.List.{List, [], map}
 use Prim.Native.Nat.{ℕ, zero, suc, _+_, _*_, _/_, _≤_, _<_}
 use native.Mathlib.Omega.{arith}
-use lib.Ieee.{Float}
 use lib.ListN.{length, getD, replicate, length-replicate, length-map}
 use Rattle.laws.specs.laws.Count.{sum-mono}
 use Rattle.numbers.specs.Numbers.{EMPTY}
-use Rattle.mesh.specs.Accepted.{Accepted, siteCount}
+use Rattle.mesh.specs.Accepted.{Mesh, Accepted, siteCount}
 use Rattle.mesh.specs.laws.Facts.{topology, paired, entry-site, end-site}
 use Rattle.layout.specs.Regions.{Regions, StartsRise}
 use Rattle.layout.specs.Rooms.{regionRoom, regionStart, Roomy, Started}
@@ -79,11 +78,12 @@ pub blank-regions : (ix off : List ℕ) (n : ℕ) → Regions ix off (replicate 
 blank-regions ix off n r = rw (none-unmarked n) r
 
 -- ---- the mesh
-module _ (sites : List Float) (tri he hull : List ℕ) (a : Accepted sites tri he hull) where
-  pub named : Named sites tri
+module _ (m : Mesh) (a : Accepted m) where
+  pub named : Named (m .sites) (m .triangles)
   named k h = omega (arith, entry-site (topology a) k h, a .counts .even)
 
-  pub draws : (numbers indexes offsets : ℕ) → Rooms (length tri / 3) (length hull) (siteCount sites) numbers indexes offsets → Draws tri he hull (siteCount sites) indexes offsets
+  pub draws : (numbers indexes offsets : ℕ) → Rooms (length (m .triangles) / 3) (length (m .hull)) (siteCount (m .sites)) numbers indexes offsets
+      → Draws (m .triangles) (m .halfedges) (m .hull) (siteCount (m .sites)) indexes offsets
   draws numbers indexes offsets r = record {
     mesh = topology a;
     few-entries = omega (arith, a .counts .few-triangles, a .counts .threes);

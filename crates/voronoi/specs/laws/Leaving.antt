@@ -9,8 +9,8 @@ use lib.ListN.{length, getD, take}
 use Rattle.utils.specs.declared.Point.{Point}
 use Rattle.bounding_box.specs.Box.{madeOf}
 use Rattle.bounding_box.specs.Rules.{okBox}
-use Rattle.mesh.specs.Mesh.{leftmostOf, Used}
-use Rattle.mesh.specs.Accepted.{siteCount}
+use Rattle.mesh.specs.Mesh.{Used}
+use Rattle.mesh.specs.Accepted.{Mesh, tableOf, siteCount}
 use Rattle.definition.specs.declared.Fault.{Fault}
 use Rattle.definition.specs.Fault.{Outcome, ok}
 use Rattle.definition.specs.Build.{Built, build}
@@ -49,48 +49,48 @@ leaves n b is a fine many =
       cell-part = λ s l. read-part (b .cells) n many _ _ f _ _ x s l;
     }
 
-module _ (sites : List Float) (tri he hull : List ℕ) {old new : Slices} where
+module _ (m : Mesh) {old new : Slices} where
   -- ---- in a box
   module _ (c : Point) (w h : Float) where
-    pub build-answers : {r : ℕ} → Build sites tri he hull c w h old new r → (r ≡ 0) ↔ BuildAllowed sites tri he hull (okBox c w h ≡ true) (build sites tri he hull (madeOf c w h)) old
+    pub build-answers : {r : ℕ} → Build m c w h old new r → (r ≡ 0) ↔ BuildAllowed m (okBox c w h ≡ true) (build m (madeOf c w h)) old
     build-answers a = (
-      λ z. let s = zero-succeeds (build-late sites tri he hull (madeOf c w h)) a z in
+      λ z. let s = zero-succeeds (build-late m (madeOf c w h)) a z in
           record { mesh = s .admission .accepted; room = s .admission .roomed; in-box = box-kept c w h (s .admission .fit); value = s .outcome },
       λ x. succeeds-zero (record { admission = record { accepted = x .mesh; roomed = x .room; fit = box-asked c w h (x .in-box) }; outcome = x .value }) a,
     )
 
-    pub build-leaves : Build sites tri he hull c w h old new 0 → BuildLeaves (siteCount sites) (leftmostOf tri he (siteCount sites)) (build sites tri he hull (madeOf c w h)) old new
+    pub build-leaves : Build m c w h old new 0 → BuildLeaves (siteCount (m .sites)) (tableOf m) (build m (madeOf c w h)) old new
     build-leaves a =
-        let s = zero-succeeds (build-late sites tri he hull (madeOf c w h)) a refl in
+        let s = zero-succeeds (build-late m (madeOf c w h)) a refl in
         let is = s .outcome .is in
-        let fine = gives-ok (λ (r : Built). Each FinitePoint (r .verts)) (vertices-finite (box-admitted c w h (s .admission .fit)) sites tri he hull) is in
-        leaves (siteCount sites) (s .outcome .value) is a fine (gives-ok (λ (r : Built). length (r .cells) ≡ siteCount sites) (cell-count sites tri he hull (madeOf c w h)) is)
+        let fine = gives-ok (λ (r : Built). Each FinitePoint (r .verts)) (vertices-finite (box-admitted c w h (s .admission .fit)) m) is in
+        leaves (siteCount (m .sites)) (s .outcome .value) is a fine (gives-ok (λ (r : Built). length (r .cells) ≡ siteCount (m .sites)) (cell-count m (madeOf c w h)) is)
 
-    pub build-empty : (s : ℕ) {part : List ℕ} {r : ℕ} → Build sites tri he hull c w h old new 0 → s < siteCount sites → (Used tri s → ⊥)
-        → CellPart (take (suc (siteCount sites)) (new .offsets)) (new .indexes) s part r → part ≡ []
+    pub build-empty : (s : ℕ) {part : List ℕ} {r : ℕ} → Build m c w h old new 0 → s < siteCount (m .sites) → (Used (m .triangles) s → ⊥)
+        → CellPart (take (suc (siteCount (m .sites))) (new .offsets)) (new .indexes) s part r → part ≡ []
     build-empty s a l none p =
         let x = build-leaves a in
-        let t = zero-succeeds (build-late sites tri he hull (madeOf c w h)) a refl in
+        let t = zero-succeeds (build-late m (madeOf c w h)) a refl in
         x .cell-part s l p .1 ∙ ap unmarked (empty-cell (t .admission .accepted) s none (box-admitted c w h (t .admission .fit)) (x .is) l)
 
   -- ---- without one
-  pub unclipped-answers : {r : ℕ} → BuildUnclipped sites tri he hull old new r → (r ≡ 0) ↔ BuildAllowed sites tri he hull (Unit {0}) (unclipped sites tri he) old
+  pub unclipped-answers : {r : ℕ} → BuildUnclipped m old new r → (r ≡ 0) ↔ BuildAllowed m (Unit {0}) (unclipped (m .sites) (m .triangles) (m .halfedges)) old
   unclipped-answers a = (
-    λ z. let s = zero-succeeds (unclipped-late sites tri he) a z in
+    λ z. let s = zero-succeeds (unclipped-late (m .sites) (m .triangles) (m .halfedges)) a z in
         record { mesh = s .admission .accepted; room = s .admission .roomed; in-box = tt; value = s .outcome },
     λ x. succeeds-zero (record { admission = record { accepted = x .mesh; roomed = x .room; fit = refl }; outcome = x .value }) a,
   )
 
-  pub unclipped-leaves : BuildUnclipped sites tri he hull old new 0 → BuildLeaves (siteCount sites) (leftmostOf tri he (siteCount sites)) (unclipped sites tri he) old new
+  pub unclipped-leaves : BuildUnclipped m old new 0 → BuildLeaves (siteCount (m .sites)) (tableOf m) (unclipped (m .sites) (m .triangles) (m .halfedges)) old new
   unclipped-leaves a =
-      let s = zero-succeeds (unclipped-late sites tri he) a refl in
+      let s = zero-succeeds (unclipped-late (m .sites) (m .triangles) (m .halfedges)) a refl in
       let is = s .outcome .is in
-      let fine = gives-ok (λ (r : Built). Each FinitePoint (r .verts)) (centres-finite sites tri he) is in
-      leaves (siteCount sites) (s .outcome .value) is a fine (gives-ok (λ (r : Built). length (r .cells) ≡ siteCount sites) (ring-count sites tri he) is)
+      let fine = gives-ok (λ (r : Built). Each FinitePoint (r .verts)) (centres-finite (m .sites) (m .triangles) (m .halfedges)) is in
+      leaves (siteCount (m .sites)) (s .outcome .value) is a fine (gives-ok (λ (r : Built). length (r .cells) ≡ siteCount (m .sites)) (ring-count (m .sites) (m .triangles) (m .halfedges)) is)
 
-  pub unclipped-empty : (s : ℕ) {part : List ℕ} {r : ℕ} → BuildUnclipped sites tri he hull old new 0 → s < siteCount sites → (Used tri s → ⊥)
-      → CellPart (take (suc (siteCount sites)) (new .offsets)) (new .indexes) s part r → part ≡ []
+  pub unclipped-empty : (s : ℕ) {part : List ℕ} {r : ℕ} → BuildUnclipped m old new 0 → s < siteCount (m .sites) → (Used (m .triangles) s → ⊥)
+      → CellPart (take (suc (siteCount (m .sites))) (new .offsets)) (new .indexes) s part r → part ≡ []
   unclipped-empty s a l none p =
       let x = unclipped-leaves a in
-      let t = zero-succeeds (unclipped-late sites tri he) a refl in
+      let t = zero-succeeds (unclipped-late (m .sites) (m .triangles) (m .halfedges)) a refl in
       x .cell-part s l p .1 ∙ ap unmarked (gives-ok (λ (r : Built). getD (r .cells) s [] ≡ []) (empty-ring (t .admission .accepted) s none) (x .is))

@@ -2,13 +2,12 @@
 use mathlib.Core.Path.{_≡_, sym, ap, _∙_}
 use mathlib.Core.List.{List}
 use Prim.Native.Nat.{ℕ}
-use lib.Ieee.{Float}
 use Rattle.mesh.specs.declared.MeshFault.{MeshFault}
 use Rattle.mesh.specs.Rules.{numberOf}
-use Rattle.mesh.specs.Accepted.{siteCount}
+use Rattle.mesh.specs.Accepted.{Mesh}
 use Rattle.check_mesh.specs.Answers.{MeshAnswer, workAfter}
 use Rattle.voronoi.specs.Meshes.{Check}
 
-module _ (sites : List Float) (tri he hull old : List ℕ) where
-  pub numbered : (new : List ℕ) (f : MeshFault) (r : ℕ) → MeshAnswer sites tri he hull old new f → r ≡ numberOf f → Check sites tri he hull old new r
-  numbered new f r a q = record { fault = f; finding = a .finding; number = q; work = a .work ∙ ap (workAfter tri he (siteCount sites) old) (sym q) }
+module _ (m : Mesh) (old : List ℕ) where
+  pub numbered : (new : List ℕ) (f : MeshFault) (r : ℕ) → MeshAnswer m old new f → r ≡ numberOf f → Check m old new r
+  numbered new f r a q = record { fault = f; finding = a .finding; number = q; work = a .work ∙ ap (workAfter m old) (sym q) }

@@ -8,6 +8,7 @@ use lib.ListN.{length, replicate}
 use borrow.Author.Tests.{ne-eqb, lt-ltb, le-ltb}
 use Rattle.numbers.specs.Numbers.{EMPTY}
 use Rattle.laws.specs.Binary64 as R
+use Rattle.mesh.specs.Accepted.{Mesh}
 use Rattle.check_mesh.specs.Answers.{workAfter}
 use Rattle.queries.specs.Answers.{outAfter, countAfter, endedAfter}
 use Rattle.definition.specs.declared.Fault.{Fault}
@@ -21,13 +22,13 @@ use Rattle.voronoi.specs.Walks.{Handed}
 use Rattle.voronoi.specs.Outcomes.{SliceRefused, ListRefused, BuildRefused}
 
 module _ (r : ℕ) (n : r ≢ 0) where
-  work-kept : (tri he : List ℕ) (m : ℕ) (old : List ℕ) → r < 7 → workAfter tri he m old r ≡ old
+  work-kept : (m : Mesh) (old : List ℕ) → r < 7 → workAfter m old r ≡ old
   unfolding atExit
-  work-kept tri he m old l = rw (ne-eqb r 0 n, lt-ltb r 7 l)
+  work-kept m old l = rw (ne-eqb r 0 n, lt-ltb r 7 l)
 
-  work-cleared : (tri he : List ℕ) (m : ℕ) (old : List ℕ) → 7 ≤ r → workAfter tri he m old r ≡ replicate (length old) EMPTY
+  work-cleared : (m : Mesh) (old : List ℕ) → 7 ≤ r → workAfter m old r ≡ replicate (length old) EMPTY
   unfolding atExit
-  work-cleared tri he m old l = rw (ne-eqb r 0 n, le-ltb r 7 l)
+  work-cleared m old l = rw (ne-eqb r 0 n, le-ltb r 7 l)
 
   after-kept : {A : Type 0} (blank : A) (made old : List A) → r < 7 → atExit blank made old r ≡ old
   unfolding atExit
@@ -45,7 +46,7 @@ module _ (r : ℕ) (n : r ≢ 0) where
   unfolding outAfter atExit
   out-cleared whole old m l = rw (ne-eqb r 16 m, ne-eqb r 0 n, le-ltb r 7 l)
 
-  module _ {N : ℕ → Type 0} {tri he : List ℕ} {m : ℕ} {whole w w′ o o′ : List ℕ} {k e : ℕ} (a : Handed N tri he m whole w w′ o o′ k e r) where
+  module _ {N : ℕ → Type 0} {m : Mesh} {whole w w′ o o′ : List ℕ} {k e : ℕ} (a : Handed N m whole w w′ o o′ k e r) where
     none-counted : k ≡ 0
     unfolding countAfter
     none-counted = a .count ∙ rw (ne-eqb r 0 n)
@@ -59,13 +60,13 @@ unfolding outAfter
 out-sixteen whole old r q = rw q
 
 -- ---- gathered
-pub work-refused : (tri he : List ℕ) (n : ℕ) {old new : List ℕ} {r : ℕ} → new ≡ workAfter tri he n old r → r ≢ 0 → SliceRefused EMPTY old new r
-work-refused tri he n {old} {new} {r} q z = record { kept = λ l. q ∙ work-kept r z tri he n old l; cleared = λ l. q ∙ work-cleared r z tri he n old l }
+pub work-refused : (m : Mesh) {old new : List ℕ} {r : ℕ} → new ≡ workAfter m old r → r ≢ 0 → SliceRefused EMPTY old new r
+work-refused m {old} {new} {r} q z = record { kept = λ l. q ∙ work-kept r z m old l; cleared = λ l. q ∙ work-cleared r z m old l }
 
-pub list-refused : {N : ℕ → Type 0} {tri he : List ℕ} {m : ℕ} {whole w w′ o o′ : List ℕ} {k e r : ℕ}
-    → Handed N tri he m whole w w′ o o′ k e r → r ≢ 0 → ListRefused w w′ o o′ k e r
-list-refused {tri = tri} {he} {m} {whole} {o = o} {r = r} a n = record {
-  work = work-refused tri he m (a .work) n;
+pub list-refused : {N : ℕ → Type 0} {m : Mesh} {whole w w′ o o′ : List ℕ} {k e r : ℕ}
+    → Handed N m whole w w′ o o′ k e r → r ≢ 0 → ListRefused w w′ o o′ k e r
+list-refused {m = m} {whole} {o = o} {r = r} a n = record {
+  work = work-refused m (a .work) n;
   out = λ d. record { kept = λ l. a .out ∙ out-kept r n whole o l; cleared = λ l. a .out ∙ out-cleared r n whole o d l };
   out-16 = λ q. a .out ∙ out-sixteen whole o r q;
   count = none-counted r n a;

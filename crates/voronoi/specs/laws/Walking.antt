@@ -11,7 +11,7 @@ use Rattle.laws.specs.Count.{occ}
 use Rattle.utils.specs.Rules.{okSite}
 use Rattle.utils.specs.declared.Point.{Point}
 use Rattle.mesh.specs.Mesh.{Used, leftmostOf, wholeOf}
-use Rattle.mesh.specs.Accepted.{Accepted, siteCount}
+use Rattle.mesh.specs.Accepted.{Mesh, mesh, Accepted, siteCount}
 use Rattle.mesh.specs.laws.Facts.{topology, paired, tab-cases}
 use Rattle.mesh.specs.laws.WalkSteps.{walk-done}
 use Rattle.mesh.specs.laws.Degree.{walk-degree}
@@ -37,7 +37,7 @@ pub approaches : {d : ℕ → Float} {nb : ℕ → List ℕ} {s : ℕ} {l : List
 approaches r = record { starts = (rule-some r, rule-first r); hops = λ i h. rule-hops r i h .0; nearer = λ i h. rule-hops r i h .1; stops = rule-ends r }
 
 -- ---- how long they are
-module _ {sites : List Float} {tri he hull : List ℕ} (m : Accepted sites tri he hull) (s : ℕ) (l : s < siteCount sites) where
+module _ {sites : List Float} {tri he hull : List ℕ} (m : Accepted (mesh sites tri he hull)) (s : ℕ) (l : s < siteCount sites) where
   -- a walk has no more entries than the triangles name its site
   walk-short : length (wholeOf he (getD (leftmostOf tri he (siteCount sites)) s 0)) ≤ occ s tri
   walk-short =
@@ -59,66 +59,66 @@ module _ {sites : List Float} {tri he hull : List ℕ} (m : Accepted sites tri h
       (λ q. omega (arith, ap length (whole-alone sites tri he tab p n r t s l q)))
       (in-use-or-alone sites tri he tab p n r t s l)
 
-module _ (sites : List Float) (tri he hull : List ℕ) (s : ℕ) {w w′ o o′ : List ℕ} where
-  walk-mesh : {k e : ℕ} → Walk sites tri he hull s w w′ o o′ k e 0 → QueryAllowed sites tri he hull w (s < siteCount sites)
-  walk-mesh a = site-answers sites tri he hull w s (a .number) .0 refl
+module _ (m : Mesh) (s : ℕ) {w w′ o o′ : List ℕ} where
+  walk-mesh : {k e : ℕ} → Walk m s w w′ o o′ k e 0 → QueryAllowed m w (s < siteCount (m .sites))
+  walk-mesh a = site-answers m w s (a .number) .0 refl
 
-  near-mesh : {k e : ℕ} → Neighbours sites tri he hull s w w′ o o′ k e 0 → QueryAllowed sites tri he hull w (s < siteCount sites)
-  near-mesh a = site-answers sites tri he hull w s (a .number) .0 refl
+  near-mesh : {k e : ℕ} → Neighbours m s w w′ o o′ k e 0 → QueryAllowed m w (s < siteCount (m .sites))
+  near-mesh a = site-answers m w s (a .number) .0 refl
 
   -- ---- walks
-  pub walk-rounds : {k : ℕ} → Walk sites tri he hull s w w′ o o′ k 1 0 → WholeRound tri he s (take k o′)
+  pub walk-rounds : {k : ℕ} → Walk m s w w′ o o′ k 1 0 → WholeRound (m .triangles) (m .halfedges) s (take k o′)
   walk-rounds a =
-      let m = walk-mesh a in
-      let r = accepted-rounds (m .mesh) s (m .arguments) in
+      let u = walk-mesh a in
+      let r = accepted-rounds (u .mesh) s (u .arguments) in
       rw (written a) (record { each = r .each; only = r .only })
 
-  pub walk-ends : {k e : ℕ} → Walk sites tri he hull s w w′ o o′ k e 0 → occ s tri ≤ length o → e ≡ 1
-  walk-ends a h = let m = walk-mesh a in fitting a (omega (arith, walk-short (m .mesh) s (m .arguments))) .2
+  pub walk-ends : {k e : ℕ} → Walk m s w w′ o o′ k e 0 → occ s (m .triangles) ≤ length o → e ≡ 1
+  walk-ends a h = let u = walk-mesh a in fitting a (omega (arith, walk-short (u .mesh) s (u .arguments))) .2
 
-  pub no-walk : {k e : ℕ} → (Used tri s → ⊥) → Walk sites tri he hull s w w′ o o′ k e 0 → (k ≡ 0) × (e ≡ 1)
+  pub no-walk : {k e : ℕ} → (Used (m .triangles) s → ⊥) → Walk m s w w′ o o′ k e 0 → (k ≡ 0) × (e ≡ 1)
   no-walk none a =
-      let m = walk-mesh a in
-      let q = ap length (alone-walk (m .mesh) s (m .arguments) none) in
+      let u = walk-mesh a in
+      let q = ap length (alone-walk (u .mesh) s (u .arguments) none) in
       let x = fitting a (omega (arith, q)) in
       (x .1 ∙ q, x .2)
 
   -- ---- neighbours
-  pub neighbours-joined : {k : ℕ} → Neighbours sites tri he hull s w w′ o o′ k 1 0 → (v : ℕ) → (0 < occ v (take k o′)) ↔ Joined tri he s v
+  pub neighbours-joined : {k : ℕ} → Neighbours m s w w′ o o′ k 1 0 → (v : ℕ) → (0 < occ v (take k o′)) ↔ Joined (m .triangles) (m .halfedges) s v
   neighbours-joined a v =
-      let m = near-mesh a in
+      let u = near-mesh a in
       rw (written a) (
-        λ h. let x = neighbour-joined (m .mesh) s (m .arguments) v h in record { edge = x .0; inside = x .1; ends = x .2 },
-        λ x. joined-neighbour (m .mesh) s (m .arguments) v (x .edge, x .inside, x .ends),
+        λ h. let x = neighbour-joined (u .mesh) s (u .arguments) v h in record { edge = x .0; inside = x .1; ends = x .2 },
+        λ x. joined-neighbour (u .mesh) s (u .arguments) v (x .edge, x .inside, x .ends),
       )
 
-  pub no-neighbours : {k e : ℕ} → (Used tri s → ⊥) → Neighbours sites tri he hull s w w′ o o′ k e 0 → (k ≡ 0) × (e ≡ 1)
+  pub no-neighbours : {k e : ℕ} → (Used (m .triangles) s → ⊥) → Neighbours m s w w′ o o′ k e 0 → (k ≡ 0) × (e ≡ 1)
   no-neighbours none a =
-      let m = near-mesh a in
-      let q = ap length (alone-neighbours (m .mesh) s (m .arguments) none) in
+      let u = near-mesh a in
+      let q = ap length (alone-neighbours (u .mesh) s (u .arguments) none) in
       let x = fitting a (omega (arith, q)) in
       (x .1 ∙ q, x .2)
 
   -- ---- paths
   module _ (p : Point) where
-    path-mesh : {k e : ℕ} → Path sites tri he hull s p w w′ o o′ k e 0 → QueryAllowed sites tri he hull w ((s < siteCount sites) × (okSite p ≡ true))
-    path-mesh a = path-answers sites tri he hull w s p (a .number) .0 refl
+    path-mesh : {k e : ℕ} → Path m s p w w′ o o′ k e 0 → QueryAllowed m w ((s < siteCount (m .sites)) × (okSite p ≡ true))
+    path-mesh a = path-answers m w s p (a .number) .0 refl
 
-    pub path-approaches : {k : ℕ} → Path sites tri he hull s p w w′ o o′ k 1 0 → Approaches (distOf sites p) (nextTo sites tri he) s (take k o′)
-    path-approaches a = let m = path-mesh a in rw (written a) (approaches (runs (m .mesh) s (m .arguments .0) p (m .arguments .1)))
+    pub path-approaches : {k : ℕ} → Path m s p w w′ o o′ k 1 0 → Approaches (distOf (m .sites) p) (nextTo m) s (take k o′)
+    path-approaches a = let u = path-mesh a in rw (written a) (approaches (runs (u .mesh) s (u .arguments .0) p (u .arguments .1)))
 
-    pub path-once : {k : ℕ} → Path sites tri he hull s p w w′ o o′ k 1 0 → (v : ℕ) → occ v (take k o′) ≤ 1
-    path-once a v = let m = path-mesh a in rw (written a) (never-twice (m .mesh) s (m .arguments .0) p (m .arguments .1) v)
+    pub path-once : {k : ℕ} → Path m s p w w′ o o′ k 1 0 → (v : ℕ) → occ v (take k o′) ≤ 1
+    path-once a v = let u = path-mesh a in rw (written a) (never-twice (u .mesh) s (u .arguments .0) p (u .arguments .1) v)
 
-    pub path-short : {k : ℕ} → Path sites tri he hull s p w w′ o o′ k 1 0 → Used tri s → length (take k o′) ≤ usedOf tri (siteCount sites)
-    path-short a used = let m = path-mesh a in rw (written a) (path-holds (m .mesh) p (m .arguments .1) s used .short)
+    pub path-short : {k : ℕ} → Path m s p w w′ o o′ k 1 0 → Used (m .triangles) s → length (take k o′) ≤ usedOf (m .triangles) (siteCount (m .sites))
+    path-short a used = let u = path-mesh a in rw (written a) (path-holds (u .mesh) p (u .arguments .1) s used .short)
 
-    pub path-ended : {k e : ℕ} → Path sites tri he hull s p w w′ o o′ k e 0 → siteCount sites ≤ length o → e ≡ 1
-    path-ended a h = let m = path-mesh a in fitting a (omega (arith, path-fits (m .mesh) s (m .arguments .0) p (m .arguments .1))) .2
+    pub path-ended : {k e : ℕ} → Path m s p w w′ o o′ k e 0 → siteCount (m .sites) ≤ length o → e ≡ 1
+    path-ended a h = let u = path-mesh a in fitting a (omega (arith, path-fits (u .mesh) s (u .arguments .0) p (u .arguments .1))) .2
 
-    pub own-path : {k e : ℕ} → (Used tri s → ⊥) → 0 < length o → Path sites tri he hull s p w w′ o o′ k e 0 → (take k o′ ≡ s ∷ []) × (e ≡ 1)
+    pub own-path : {k e : ℕ} → (Used (m .triangles) s → ⊥) → 0 < length o → Path m s p w w′ o o′ k e 0 → (take k o′ ≡ s ∷ []) × (e ≡ 1)
     own-path none some a =
-        let m = path-mesh a in
-        let q = alone-path (m .mesh) s (m .arguments .0) none p (m .arguments .1) in
+        let u = path-mesh a in
+        let q = alone-path (u .mesh) s (u .arguments .0) none p (u .arguments .1) in
         let x = fitting a (omega (arith, ap length q)) in
         (x .0 ∙ q, x .2)

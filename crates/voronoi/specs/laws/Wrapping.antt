@@ -1,6 +1,6 @@
 -- Wrapping in the slices of a build that answers 0: the definition's marked cells are the ones that are asked for, and the counts are read off them.
 use mathlib.Core.Path.{_≡_, refl, sym, ap, _∙_}
-use mathlib.Core.List.{List, _∷_}
+use mathlib.Core.List.{_∷_}
 use Prim.Native.Nat.{ℕ, suc, _+_, _/_, _<_}
 use native.Mathlib.Omega.{arith}
 use lib.Ieee.{Float}
@@ -8,7 +8,7 @@ use lib.ListN.{length, getD, drop}
 use Rattle.utils.specs.Flat.{pointAt}
 use Rattle.utils.specs.declared.Point.{Point}
 use Rattle.bounding_box.specs.Box.{madeOf}
-use Rattle.mesh.specs.Accepted.{Accepted, siteCount}
+use Rattle.mesh.specs.Accepted.{Mesh, Accepted, siteCount}
 use Rattle.bounding_box.specs.Finite.{BoundedBox}
 use Rattle.definition.specs.Fault.{ok}
 use Rattle.definition.specs.Build.{Built, build}
@@ -25,42 +25,42 @@ use Rattle.voronoi.specs.Builds.{Build}
 use Rattle.voronoi.specs.Wraps.{Wraps}
 use Rattle.voronoi.specs.laws.Walking.{approaches}
 
-module _ (sites : List Float) (tri he hull : List ℕ) (c : Point) (w h : Float) {old new : Slices} (a : Build sites tri he hull c w h old new 0) where
-  module _ (m : Accepted sites tri he hull) (box : BoundedBox 101 (madeOf c w h)) (b : Built)
-      (is : build sites tri he hull (madeOf c w h) ≡ ok b) (v : Wrapping sites tri he hull (madeOf c w h) b) where
-    seen : CellsTallied sites tri he hull (madeOf c w h) b
-    seen = gives-ok (CellsTallied sites tri he hull (madeOf c w h)) (tallied sites tri he hull (madeOf c w h)) is
+module _ (m : Mesh) (c : Point) (w h : Float) {old new : Slices} (a : Build m c w h old new 0) where
+  module _ (sound : Accepted m) (box : BoundedBox 101 (madeOf c w h)) (b : Built)
+      (is : build m (madeOf c w h) ≡ ok b) (v : Wrapping m (madeOf c w h) b) where
+    seen : CellsTallied m (madeOf c w h) b
+    seen = gives-ok (CellsTallied m (madeOf c w h)) (tallied m (madeOf c w h)) is
 
     four : length (b .owners) ≡ 4
-    four = four-owners sites tri he hull (madeOf c w h) seen
+    four = four-owners m (madeOf c w h) seen
 
     owner : (i : ℕ) → i < 4 → getD (new .counts) (suc i) 0 ≡ getD (b .owners) i 0
     owner i l = ap (λ x. getD x (suc i) 0) (left-counts a b is) ∙ count-owner (length (b .verts)) (b .owners) (b .lost) _ four i l
 
-    before : (i : ℕ) → i < 4 → getD (getD hull 0 0 ∷ drop 1 (new .counts)) i 0 ≡ getD (getD hull 0 0 ∷ b .owners) i 0
-    before i l = ap (λ x. getD (getD hull 0 0 ∷ drop 1 x) i 0) (left-counts a b is) ∙ count-before (length (b .verts)) (b .owners) (b .lost) _ four (getD hull 0 0) i l
+    before : (i : ℕ) → i < 4 → getD (getD (m .hull) 0 0 ∷ drop 1 (new .counts)) i 0 ≡ getD (getD (m .hull) 0 0 ∷ b .owners) i 0
+    before i l = ap (λ x. getD (getD (m .hull) 0 0 ∷ drop 1 x) i 0) (left-counts a b is) ∙ count-before (length (b .verts)) (b .owners) (b .lost) _ four (getD (m .hull) 0 0) i l
 
-    wraps-of : Wraps sites tri he hull (madeOf c w h) old new
+    wraps-of : Wraps m (madeOf c w h) old new
     wraps-of =
-        let at = gives-ok (Cornered (length tri / 3) (madeOf c w h)) (cornered m (madeOf c w h)) is in
+        let at = gives-ok (Cornered (length (m .triangles) / 3) (madeOf c w h)) (cornered sound (madeOf c w h)) is in
         record {
           marked = b .cells;
-          many = gives-ok (λ (r : Built). length (r .cells) ≡ siteCount sites) (cell-count sites tri he hull (madeOf c w h)) is;
+          many = gives-ok (λ (r : Built). length (r .cells) ≡ siteCount (m .sites)) (cell-count m (madeOf c w h)) is;
           indexes = left-indexes a b is;
           offsets = left-offsets a b is;
-          corners = λ i l. ap (λ x. pointAt x (length tri / 3 + i)) (left-vertices a b is) ∙ slice-point (b .verts) _ (length tri / 3 + i) (omega (arith, at .0)) ∙ at .1 i l;
+          corners = λ i l. ap (λ x. pointAt x (length (m .triangles) / 3 + i)) (left-vertices a b is) ∙ slice-point (b .verts) _ (length (m .triangles) / 3 + i) (omega (arith, at .0)) ∙ at .1 i l;
           once = v .once;
           by-owner = λ i s l o. v .there i s l o ∙ sym (v .owners i l) ∙ sym (owner i l);
           corners-alone = v .corners;
           owners = λ i l.
-              let x = owner-path m box i l in
-              let from = before i l ∙ ap (λ os. getD (getD hull 0 0 ∷ os) i 0) (seen .found) in
+              let x = owner-path sound box i l in
+              let from = before i l ∙ ap (λ os. getD (getD (m .hull) 0 0 ∷ os) i 0) (seen .found) in
               record { path = x .0; approaches = rw from (approaches (x .1)); last = owner i l ∙ ap (λ os. getD os i 0) (seen .found) ∙ x .2 };
           lost = ap (λ x. getD x 5 0) (left-counts a b is) ∙ count-lost (length (b .verts)) (b .owners) (b .lost) _ four ∙ seen .lost;
         }
 
-  pub build-wraps : Wraps sites tri he hull (madeOf c w h) old new
+  pub build-wraps : Wraps m (madeOf c w h) old new
   build-wraps =
-      let s = zero-succeeds (build-late sites tri he hull (madeOf c w h)) a refl in
+      let s = zero-succeeds (build-late m (madeOf c w h)) a refl in
       let t = clipped-sound c w h a refl in
       wraps-of (s .admission .accepted) (box-admitted c w h (s .admission .fit)) (t .outcome .value) (t .outcome .is) (t .wraps)
