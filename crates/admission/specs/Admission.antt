@@ -11,11 +11,11 @@ use Rattle.numbers.specs.Numbers.{EMPTY}
 use Rattle.mesh.specs.Accepted.{Mesh, Counted, siteCount}
 use Rattle.check_mesh.specs.Answers.{workAfter}
 use Rattle.check_mesh.specs.AtExit.{whenRefused}
-use Rattle.admission.specs.Admits.{Admits}
+use Rattle.admission.specs.Admits.{askedRules, Admits}
 use Rattle.admission.specs.Slices.{Slices, roomFor, roomOf}
 
 pub record Admission (m : Mesh) (roomy : Bool) (asked : ℕ) (old new : List ℕ) (r : ℕ) : Type 0 where
-  pub number : Admits m roomy asked r
+  pub number : Admits m roomy (askedRules asked) r
   pub work : new ≡ workAfter m old r
 
 -- rule 2 of a query: a work entry for each site

@@ -5,7 +5,7 @@ use mathlib.Core.List.{List, [], _∷_, _++_}
 use Prim.Native.Nat.{ℕ}
 use lib.Ieee.{Float}
 use lib.ListN.{length}
-use Rattle.laws.specs.Refusals.{Rule, once, reads, Finds}
+use Rattle.laws.specs.Refusals.{Rule, once, reads, Keep, Finds}
 use Rattle.mesh.specs.Rules.{numberOf, startRules, coordinateRules, callRules}
 use Rattle.mesh.specs.Accepted.{Mesh, Accepted}
 
@@ -21,12 +21,12 @@ earlyRules sites entries halfedges hull roomy asked =
 pub record Early (sites : List Float) (entries halfedges hull : ℕ) (roomy : Bool) (asked r : ℕ) : Type 0 where
   pub found : Finds (earlyRules sites entries halfedges hull roomy asked) 0 r
 
--- up to rule 10
-pub record Admits (m : Mesh) (roomy : Bool) (asked r : ℕ) : Type 0 where
-  pub found : Finds (callRules m (roomy ≡ true) (askedRules asked)) 0 r
+-- up to rule 10, `own` being what the call asks of its own arguments
+pub record Admits (m : Mesh) (roomy : Bool) (own : List (Rule ℕ)) (r : ℕ) : Type 0 where
+  pub found : Finds (callRules m (roomy ≡ true) own) 0 r
 
 -- 0: the mesh is accepted, there is room, and the arguments are sound
-pub record Admitted (m : Mesh) (roomy : Bool) (asked : ℕ) : Type 0 where
+pub record Admitted (m : Mesh) (roomy : Bool) (own : List (Rule ℕ)) : Type 0 where
   pub accepted : Accepted m
   pub roomed : roomy ≡ true
-  pub fit : asked ≡ 0
+  pub fit : Keep own

@@ -5,7 +5,6 @@ use mathlib.Core.List.{List, [], _∷_}
 use Prim.Native.Nat.{ℕ, _+_, _<_}
 use lib.Ieee.{Float}
 use lib.ListN.{length}
-use Rattle.laws.specs.Pick.{pick}
 use Rattle.laws.specs.Refusals.{Rule, once, Finds}
 use Rattle.numbers.specs.Numbers.{refusedBox, refusedSite, refusedDestination, refusedTriangle, refusedOffsets}
 use Rattle.utils.specs.Rules.{okSite}
@@ -21,14 +20,14 @@ siteRules n s = once refusedSite (s < n) ∷ []
 abbrev pub pathRules : ℕ → ℕ → Point → List (Rule ℕ)
 pathRules n s p = once refusedSite (s < n) ∷ once refusedDestination (okSite p ≡ true) ∷ []
 
+-- a box of center c, width w and height h
+abbrev pub boxRules : Point → Float → Float → List (Rule ℕ)
+boxRules c w h = once refusedBox (okBox c w h ≡ true) ∷ []
+
 -- the number that the rules `own` give, which is below those on the mesh
 pub record Asked (own : List (Rule ℕ)) (r : ℕ) : Type 0 where
   pub found : Finds own 0 r
   pub small : r < refusedTriangle
-
--- a box, as the number that is given
-unfoldable pub boxAsk : Point → Float → Float → ℕ
-boxAsk c w h = pick (okBox c w h) (λ _. 0) (λ _. refusedBox)
 
 -- the offsets cut the index list into a cell for each of n sites
 pub record CellsOf (off ix : List ℕ) (n : ℕ) : Type 0 where

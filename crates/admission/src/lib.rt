@@ -10,7 +10,7 @@ ghost use lib.ListN.{length};
 ghost use Rattle.laws.specs.Decide.{Says};
 ghost use Rattle.numbers.specs.Numbers.{refusedTriangle};
 ghost use Rattle.mesh.specs.Accepted.{mesh};
-ghost use Rattle.admission.specs.Asks.{siteRules, pathRules, Asked, boxAsk, CellsOf};
+ghost use Rattle.admission.specs.Asks.{siteRules, pathRules, Asked, boxRules, CellsOf};
 ghost use Rattle.admission.specs.Admits.{Early};
 ghost use Rattle.admission.specs.Slices.{slices};
 ghost use Rattle.admission.specs.Admission.{Admission, ListAdmission, RoomAnswer, BuildAdmission};
@@ -172,7 +172,7 @@ fn room_for(
 
 // Rule 3.
 pub fn ask_box(center: Point, width: f64, height: f64) -> u32
-    ensures { λ r. ⌜ (r ≡ boxAsk center width height) × (r < refusedTriangle) ⌝ }
+    ensures { λ r. ⌜ Asked (boxRules center width height) r ⌝ }
 {
     if box_ok(center, width, height) {
         return 0;

@@ -1,11 +1,11 @@
 -- What a build promises: its number, and each lent slice at exit by one rule of that number.
 use mathlib.Core.Path.{_≡_}
 use mathlib.Core.Bool.{Bool, true}
-use mathlib.Core.List.{List, _++_}
+use mathlib.Core.List.{List, [], _++_}
 use Prim.Native.Nat.{ℕ}
 use lib.Ieee.{Float}
 use lib.ListN.{length}
-use Rattle.laws.specs.Refusals.{Finds}
+use Rattle.laws.specs.Refusals.{Rule, Finds}
 use Rattle.laws.specs.Binary64.{zero}
 use Rattle.numbers.specs.Numbers.{EMPTY}
 use Rattle.utils.specs.declared.Point.{Point}
@@ -18,13 +18,13 @@ use Rattle.definition.specs.Fault.{Outcome}
 use Rattle.definition.specs.Build.{Built, build}
 use Rattle.definition.specs.Unclipped.{unclipped}
 use Rattle.layout.specs.Outputs.{padded, vertexNumbers, indexNumbers, offsetNumbers, countNumbers, faultOf}
-use Rattle.admission.specs.Asks.{boxAsk}
+use Rattle.admission.specs.Asks.{boxRules}
 use Rattle.admission.specs.Admits.{askedRules}
 use Rattle.admission.specs.Slices.{Slices, roomOf}
 
--- the number: of the rules up to 10, then the outcome's
-pub record Builds (m : Mesh) (roomy : Bool) (asked : ℕ) (o : Outcome Fault Built) (r : ℕ) : Type 0 where
-  pub found : Finds (callRules m (roomy ≡ true) (askedRules asked) ++ askedRules (faultOf o .number)) 0 r
+-- the number: of the rules up to 10, `own` being those on the box, then the outcome's
+pub record Builds (m : Mesh) (roomy : Bool) (own : List (Rule ℕ)) (o : Outcome Fault Built) (r : ℕ) : Type 0 where
+  pub found : Finds (callRules m (roomy ≡ true) own ++ askedRules (faultOf o .number)) 0 r
 
 -- a build with the outcome o, and the leftmost table
 pub record BuildAnswer (Number : ℕ → Type 0) (table : List ℕ) (o : Outcome Fault Built) (old new : Slices) (r : ℕ) : Type 0 where
@@ -37,12 +37,12 @@ pub record BuildAnswer (Number : ℕ → Type 0) (table : List ℕ) (o : Outcome
 
 module _ (m : Mesh) where
   -- 1, 2, what is asked of the box, 6, 7 to 10, then the outcome's
-  abbrev pub BuildAnswers : ℕ → Outcome Fault Built → Slices → Slices → ℕ → Type 0
-  BuildAnswers asked o old = BuildAnswer (Builds m (roomOf m old) asked o) (tableOf m) o old
+  abbrev pub BuildAnswers : List (Rule ℕ) → Outcome Fault Built → Slices → Slices → ℕ → Type 0
+  BuildAnswers own o old = BuildAnswer (Builds m (roomOf m old) own o) (tableOf m) o old
 
   -- clipped to the box of this center, width and height
   abbrev pub ClippedBuild : Point → Float → Float → Slices → Slices → ℕ → Type 0
-  ClippedBuild c w h = BuildAnswers (boxAsk c w h) (build m (madeOf c w h))
+  ClippedBuild c w h = BuildAnswers (boxRules c w h) (build m (madeOf c w h))
 
   abbrev pub UnclippedBuild : Slices → Slices → ℕ → Type 0
-  UnclippedBuild = BuildAnswers 0 (unclipped (m .sites) (m .triangles) (m .halfedges))
+  UnclippedBuild = BuildAnswers [] (unclipped (m .sites) (m .triangles) (m .halfedges))

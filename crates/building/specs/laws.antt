@@ -2,5 +2,4 @@
 pub mod Promise
 pub mod BuildAnswer
 pub mod ClippedBuild
-pub mod BoxAsk
 pub mod Left

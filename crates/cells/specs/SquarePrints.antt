@@ -17,7 +17,7 @@ use Rattle.admission.specs.laws.Admits.{admits}
 use Rattle.definition.specs.declared.Fault.{Fault}
 use Rattle.definition.specs.Fault.{Outcome, ok, refused}
 use Rattle.definition.specs.Build.{Built}
-use Rattle.admission.specs.Asks.{boxAsk}
+use Rattle.admission.specs.laws.Asks.{box-answers}
 use Rattle.admission.specs.Slices.{Slices, roomOf}
 use Rattle.building.specs.Success.{Value, succeeds-zero}
 use Rattle.voronoi.specs.Builds.{Build}
@@ -53,8 +53,8 @@ fits = record {
   few-hull = omega arith;
 }
 
-box-fits : boxAsk (at (float 0) (float 0)) (float two-is) (float two-is) ≡ 0
-unfolding boxAsk okBox okSite okCoord madeOf ofBits lt le add sub div
+box-fits : okBox (at (float 0) (float 0)) (float two-is) (float two-is) ≡ true
+unfolding okBox okSite okCoord madeOf ofBits lt le add sub div
 box-fits = refl
 
 -- ---- what is printed
@@ -63,7 +63,7 @@ shown {Rules} z (ok b) t e = let q : boxText 4 2 b ≡ t = cc in subst (Shows Ru
 shown z (refused f) t e = let q : _≡_ {A = ℕ} 0 1 = cc in absurd (omega arith)
 
 pub square-prints : Prints listingTexts squareBytes text
-square-prints = sound square fits (sym (rows .1)) (shown (admits (record { accepted = accepted; roomed = refl; fit = box-fits })) _ text (rows .2))
+square-prints = sound square fits (sym (rows .1)) (shown (admits (record { accepted = accepted; roomed = refl; fit = (box-fits, tt) })) _ text (rows .2))
 
 pub square-alone : {t : List ℕ} → Prints listingTexts squareBytes t → t ≡ text
 square-alone p = prints-one listingTexts p square-prints
@@ -75,4 +75,4 @@ value (refused f) t e = let q : _≡_ {A = ℕ} 0 1 = cc in absurd (omega arith)
 
 pub square-answers : {old new : Slices} {r : ℕ} → Build (meshOf square) (at (float 0) (float 0)) (float two-is) (float two-is) old new r
     → roomOf (meshOf square) old ≡ true → r ≡ 0
-square-answers a room = succeeds-zero (record { admission = record { accepted = accepted; roomed = room; fit = box-fits }; outcome = value _ text (rows .2) }) a
+square-answers a room = succeeds-zero (box-answers _ _ _) (record { admission = record { accepted = accepted; roomed = room; fit = (box-fits, tt) }; outcome = value _ text (rows .2) }) a

@@ -2,7 +2,7 @@
 -- Definitions only.
 use mathlib.Core.Path.{_≡_}
 use mathlib.Core.Bool.{true, Bool, false}
-use mathlib.Core.List.{List}
+use mathlib.Core.List.{List, []}
 use mathlib.Core.Logic.{_≢_}
 use Prim.Native.Nat.{ℕ, _/_, _*_, _≤_}
 use lib.Ieee.{Float, nan}
@@ -17,7 +17,7 @@ use Rattle.definition.specs.declared.Fault.{Fault}
 use Rattle.definition.specs.Fault.{Outcome, ok, refused}
 use Rattle.definition.specs.Build.{Built, build}
 use Rattle.definition.specs.Unclipped as definition
-use Rattle.admission.specs.Asks.{boxAsk}
+use Rattle.admission.specs.Asks.{boxRules}
 use Rattle.form.specs.Form.{Outline, box, unclipped, FormMesh, MeshFits, IsForm, formOf, numbersOf, float, siteFloats, triangleSites, trianglePairs}
 use Rattle.listing.specs.Listing.{refusal}
 use lib.Dec.{eqb}
@@ -52,10 +52,10 @@ meshOf m = mesh (numbersOf siteFloats (m .sites)) (numbersOf triangleSites (m .t
 module _ (t : Texts) where
   module _ (m : Mesh) where
     abbrev pub InBox : Point → Float → Float → List ℕ → Type 0
-    InBox c w h = Shows (Admits m true (boxAsk c w h)) (t .boxed (siteCount (m .sites)) (length (m .triangles) / 3)) (build m (madeOf c w h))
+    InBox c w h = Shows (Admits m true (boxRules c w h)) (t .boxed (siteCount (m .sites)) (length (m .triangles) / 3)) (build m (madeOf c w h))
 
     abbrev pub WithoutBox : List ℕ → Type 0
-    WithoutBox = Shows (Admits m true 0) (t .plain (siteCount (m .sites)) (length (m .triangles) / 3)) (definition.unclipped (m .sites) (m .triangles) (m .halfedges))
+    WithoutBox = Shows (Admits m true []) (t .plain (siteCount (m .sites)) (length (m .triangles) / 3)) (definition.unclipped (m .sites) (m .triangles) (m .halfedges))
 
     abbrev pub ByClip : Outline → List ℕ → Type 0
     ByClip (box x y w h) = InBox (at (float x) (float y)) (float w) (float h)

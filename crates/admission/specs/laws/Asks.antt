@@ -1,16 +1,19 @@
--- Rule 16 by its tests, and what a sound site tells.
+-- Rule 16 by its tests, and what a sound site and a sound box tell.
 use mathlib.Core.Path.{_≡_}
 use mathlib.Core.Bool.{Bool, true, false}
 use mathlib.Core.List.{List}
 use mathlib.Core.Logic.{_≢_}
 use Prim.Native.Nat.{ℕ, _-_, _<_}
 use native.Mathlib.Omega.{arith}
+use lib.Ieee.{Float}
 use lib.ListN.{length}
 use borrow.Author.Needs.{needs}
 use Rattle.laws.specs.Decide.{Says}
 use Rattle.laws.specs.laws.Refusals.{finds-keep}
+use Rattle.utils.specs.declared.Point.{Point}
 use Rattle.shared.specs.Cells.{Cells}
-use Rattle.admission.specs.Asks.{siteRules, Asked, CellsOf}
+use Rattle.admission.specs.Asks.{siteRules, boxRules, Asked, CellsOf}
+use Rattle.admission.specs.laws.Admits.{NoneZero}
 
 pub cells-says : (off ix : List ℕ) (n : ℕ) (b : Bool) → length off ≢ 0 → length off - 1 ≡ n → Says b (Cells off (length ix)) → Says b (CellsOf off ix n)
 cells-says off ix n true some q c = record { many = omega arith; cut = c }
@@ -18,3 +21,6 @@ cells-says off ix n false some q c = λ x. c (x .cut)
 
 pub site-below : (n s : ℕ) {r : ℕ} → Asked (siteRules n s) r → r ≡ 0 → s < n
 site-below n s a z = finds-keep (λ r. r ≡ 0) (search needs) z (a .found) .0
+
+pub box-answers : (c : Point) (w h : Float) → NoneZero (boxRules c w h)
+box-answers c w h = ((λ _ q. omega arith), tt)

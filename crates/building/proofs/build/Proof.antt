@@ -29,7 +29,7 @@ Known c = Accepts (Made (Ends c)) .before
 returns : tie.Need-returns
 returns c =
     let a = Admit (c .before) in
-    clipped-early (a .admit-build .ensures) _ _ _ (Asked a .ask-box .ensures .0) (c .if1 .taken)
+    clipped-early (a .admit-build .ensures) _ _ _ (Asked a .ask-box .ensures) (c .if1 .taken)
 
 slice-reshare-prefix-build-cells : tie.Need-slice-reshare-prefix-build-cells
 slice-reshare-prefix-build-cells c = table-fits (Admit (c .before .before) .admit-build .ensures) (c .before .if1 .left)
@@ -41,7 +41,7 @@ build-cells-requires : tie.Need-build-cells-requires
 build-cells-requires c κs =
     let e = c .before .before .before .before .before in
     let a = Admit (e .before) in
-    clipped-asks (a .admit-build .ensures) _ _ _ (Asked a .ask-box .ensures .0) (e .if1 .left) _ (c .before .before .before .before .new .ensures)
+    clipped-asks (a .admit-build .ensures) _ _ _ (Asked a .ask-box .ensures) (e .if1 .left) _ (c .before .before .before .before .new .ensures)
 
 finish-clipped-requires : tie.Need-finish-clipped-requires
 finish-clipped-requires c κs =
@@ -49,7 +49,7 @@ finish-clipped-requires c κs =
     let e = Accepts m in
     let a = Admit (e .before) in
     let n = m .before .before .before .before .before .new .ensures in (
-      count-fits (a .admit-build .ensures) _ _ _ (Asked a .ask-box .ensures .0) (e .if1 .left) _ n _ (m .build-cells .ensures .0),
+      count-fits (a .admit-build .ensures) _ _ _ (Asked a .ask-box .ensures) (e .if1 .left) _ n _ (m .build-cells .ensures .0),
       six-of (a .admit-build .ensures) (e .if1 .left),
     )
 
@@ -79,7 +79,7 @@ returns-2 c =
     let a = Admit (e .before) in
     let b = m .build-cells .ensures in
     let f = c .before .before .before .before .finish-clipped .ensures in
-    clipped-built (a .admit-build .ensures) _ _ _ (Asked a .ask-box .ensures .0) (e .if1 .left) _ (m .before .before .before .before .before .new .ensures) _ (b .0) (b .1) f
+    clipped-built (a .admit-build .ensures) _ _ _ (Asked a .ask-box .ensures) (e .if1 .left) _ (m .before .before .before .before .before .new .ensures) _ (b .0) (b .1) f
 
 pub build-spec : {M : Type 1} → statement M
 build-spec =

@@ -1,5 +1,7 @@
 -- `building::build_unclipped` meets its contract: refused by the rules up to 10, or the outcome of the unclipped definition decides.
+use mathlib.Core.List.{[]}
 use native.Mathlib.Omega.{arith}
+use Rattle.laws.specs.laws.Refusals.{nothing}
 use Rattle.building.specs.LateRefusals.{unclipped-late}
 use Rattle.building.specs.laws.BuildAnswer.{answers-early, mesh-of, rooms-of, six-of, answers-built, unclipped-counts}
 use borrow.Author.Needs.{needs}
@@ -16,7 +18,7 @@ abbrev Accepts : tie.After-build-unclipped → tie.Else1
 Accepts c = c .before .before .before .before
 
 returns : tie.Need-returns
-returns c = answers-early (Admit (c .before) .admit-build .ensures) _ (c .if1 .taken)
+returns c = answers-early (Admit (c .before) .admit-build .ensures) [] tt nothing _ (c .if1 .taken)
 
 build-unclipped-requires : tie.Need-build-unclipped-requires
 build-unclipped-requires c κs =
@@ -37,7 +39,7 @@ returns-2 c =
     let m = Made (f .before .before .before) in
     let e = Accepts m in
     let b = m .build-unclipped .ensures in
-    answers-built (Admit (e .before) .admit-build .ensures) (e .if1 .left) _ (unclipped-late _ _ _) _ (b .0) (b .1) (f .finish-unclipped .ensures) (unclipped-counts _ _ _)
+    answers-built (Admit (e .before) .admit-build .ensures) (e .if1 .left) [] tt nothing _ (unclipped-late _ _ _) _ (b .0) (b .1) (f .finish-unclipped .ensures) (unclipped-counts _ _ _)
 
 pub build-unclipped-spec : {M : Type 1} → statement M
 build-unclipped-spec =

@@ -10,6 +10,7 @@ use lib.Dec.{ltb}
 use lib.Ieee.{Float}
 use lib.ListN.{length, take, replicate}
 use borrow.Author.Tests.{ne-eqb, lt-ltb}
+use Rattle.laws.specs.Refusals.{Rule, Finds}
 use Rattle.laws.specs.Binary64.{zero}
 use Rattle.numbers.specs.Numbers.{EMPTY, refusedTriangle}
 use Rattle.utils.specs.declared.Point.{Point}
@@ -20,7 +21,7 @@ use Rattle.check_mesh.specs.AtExit.{atExit}
 use Rattle.check_mesh.specs.laws.AtExit.{exit-made, exit-blank}
 use Rattle.admission.specs.Slices.{Slices, slices}
 use Rattle.admission.specs.Admission.{BuildAdmission}
-use Rattle.admission.specs.laws.Admits.{admitted}
+use Rattle.admission.specs.laws.Admits.{NoneZero, asked-answers, admitted, admits-own}
 use Rattle.admission.specs.laws.BuildRoom.{Granted, granted}
 use Rattle.admission.specs.laws.LeftmostTable.{table-long, table-part}
 use Rattle.definition.specs.declared.Fault.{Fault}
@@ -40,10 +41,10 @@ blanked : {A : Type 0} (blank : A) (made m l : List A) (n : ℕ) → refusedTria
 blanked blank made m l n h e = ap (λ k. replicate k blank) e ∙ sym (exit-blank blank made l n h)
 
 module _ {m : Mesh} {asked : ℕ} {old new : Slices} {r : ℕ} (a : BuildAdmission m asked old new r) where
-  pub answers-early : (o : Outcome Fault Built) → r ≢ 0 → BuildAnswers m asked o old new r
+  pub answers-early : (own : List (Rule ℕ)) → NoneZero own → Finds own 0 asked → (o : Outcome Fault Built) → r ≢ 0 → BuildAnswers m own o old new r
   unfolding atExit
-  answers-early o n = record {
-    number = early (a .admission .number) n;
+  answers-early own t f o n = record {
+    number = early (admits-own own t f (a .admission .number)) n;
     work = a .admission .work ∙ rw (ne-eqb r 0 n);
     vertices = a .vertices ∙ rw (ne-eqb r 0 n);
     indexes = a .indexes ∙ rw (ne-eqb r 0 n);
@@ -53,14 +54,14 @@ module _ {m : Mesh} {asked : ℕ} {old new : Slices} {r : ℕ} (a : BuildAdmissi
 
   module _ (z : r ≡ 0) where
     pub mesh-of : Accepted m
-    mesh-of = admitted (a .admission .number) z .accepted
+    mesh-of = admitted (asked-answers asked) (a .admission .number) z .accepted
 
     pub fit-of : asked ≡ 0
-    fit-of = admitted (a .admission .number) z .fit
+    fit-of = admitted (asked-answers asked) (a .admission .number) z .fit .0
 
     granted-of : Granted (siteCount (m .sites)) (length (m .triangles) / 3) (length (m .hull)) (length (old .work))
         (length (old .vertices)) (length (old .indexes)) (length (old .offsets)) (length (old .counts))
-    granted-of = granted _ _ _ _ _ _ _ _ (admitted (a .admission .number) z .roomed)
+    granted-of = granted _ _ _ _ _ _ _ _ (admitted (asked-answers asked) (a .admission .number) z .roomed)
 
     small : ltb r refusedTriangle ≡ true
     small = lt-ltb r refusedTriangle (omega arith)
@@ -96,13 +97,13 @@ module _ {m : Mesh} {asked : ℕ} {old new : Slices} {r : ℕ} (a : BuildAdmissi
     pub table-is : take (siteCount (m .sites)) (new .work) ≡ tableOf m
     table-is = ap (take (siteCount (m .sites))) table-of ∙ table-part (m .triangles) (m .halfedges) (m .hull) (siteCount (m .sites)) (topology mesh-of) (length (old .work)) (granted-of .table)
 
-    module _ {v : List Float} {ix off w c made : List ℕ} where
+    module _ (own : List (Rule ℕ)) (t : NoneZero own) (found : Finds own 0 asked) {v : List Float} {ix off w c made : List ℕ} where
       go : (o : Outcome Fault Built) → Refuses Numbered o → BuiltInto o (new .vertices) (new .indexes) (new .offsets) v ix off
           → EndedBuild (faultOf o .number) made (new .work) (new .counts) w c → (faultOf o .number ≡ 0 → made ≡ countNumbers o)
-          → BuildAnswers m asked o old (slices w v ix off c) (faultOf o .number)
+          → BuildAnswers m own o old (slices w v ix off c) (faultOf o .number)
       unfolding atExit vertexNumbers indexNumbers offsetNumbers countNumbers
       go (ok b) late l f q = record {
-        number = built (rw z at (a .admission .number));
+        number = built t (admits-own own t found (rw z at (a .admission .number)));
         work = f .work ∙ table-of ∙ rw (tab-length (topology mesh-of));
         vertices = l .vertices ∙ rw same-vertices;
         indexes = l .indexes ∙ rw same-indexes;
@@ -113,7 +114,7 @@ module _ {m : Mesh} {asked : ℕ} {old new : Slices} {r : ℕ} (a : BuildAdmissi
           let n : e .number ≢ 0 = λ x. omega (arith, late .least) in
           let big : refusedTriangle ≤ e .number = omega (arith, late .least) in
           record {
-            number = built (rw z at (a .admission .number));
+            number = built t (admits-own own t found (rw z at (a .admission .number)));
             work = (rw (ne-eqb (e .number) 0 n) at (f .work)) ∙ blanked EMPTY (padded (length (old .work)) EMPTY (tableOf m)) (new .work) (old .work) (e .number) big long-of;
             vertices = (rw sub-zero at (l .vertices)) ∙ blanked zero (padded (length (old .vertices)) zero []) (new .vertices) (old .vertices) (e .number) big (ap length same-vertices);
             indexes = (rw sub-zero at (l .indexes)) ∙ blanked EMPTY (padded (length (old .indexes)) EMPTY []) (new .indexes) (old .indexes) (e .number) big (ap length same-indexes);
@@ -123,7 +124,7 @@ module _ {m : Mesh} {asked : ℕ} {old new : Slices} {r : ℕ} (a : BuildAdmissi
 
       pub answers-built : (o : Outcome Fault Built) → Refuses Numbered o → (f : Fault) → f ≡ faultOf o
           → BuiltInto o (new .vertices) (new .indexes) (new .offsets) v ix off → EndedBuild (f .number) made (new .work) (new .counts) w c
-          → (faultOf o .number ≡ 0 → made ≡ countNumbers o) → BuildAnswers m asked o old (slices w v ix off c) (f .number)
+          → (faultOf o .number ≡ 0 → made ≡ countNumbers o) → BuildAnswers m own o old (slices w v ix off c) (f .number)
       answers-built o late f e l d q = rw e (go o late l (rw e at d) q)
 
 -- ---- the unclipped build: a vertex for each triangle

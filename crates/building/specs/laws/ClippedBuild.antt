@@ -1,14 +1,15 @@
 -- The clipped build: what rule 3 and the rules up to 10 give the cell builder, and the promise from its answer.
-use mathlib.Core.Path.{_≡_, refl, sym, _∙_}
+use mathlib.Core.Path.{_≡_, refl}
 use mathlib.Core.List.{List}
 use mathlib.Core.Logic.{_≢_}
 use Prim.Native.Nat.{ℕ, _+_, _*_, _/_, _≤_, _<_}
 use native.Mathlib.Omega.{arith}
 use lib.Ieee.{Float}
 use lib.ListN.{length, take}
+use Rattle.laws.specs.laws.Refusals.{finds-keep}
 use Rattle.utils.specs.declared.Point.{Point}
 use Rattle.bounding_box.specs.Box.{madeOf}
-use Rattle.bounding_box.specs.Finite.{BoundedBox}
+use Rattle.bounding_box.specs.Finite.{BoundedBox, box-bounded}
 use Rattle.bounding_box.specs.declared.BoundingBox.{BoundingBox}
 use Rattle.mesh.specs.Accepted.{Mesh, siteCount}
 use Rattle.definition.specs.declared.Fault.{Fault}
@@ -20,13 +21,13 @@ use Rattle.layout.specs.Outputs.{countNumbers, faultOf, BuiltInto}
 use Rattle.cell_finish.specs.declared.CellsAnswer.{CellsAnswer}
 use Rattle.cell_builder.specs.AdmittedBuild.{AdmittedBuild}
 use Rattle.cell_finish.specs.Finish.{outcomeAnswer}
-use Rattle.admission.specs.Asks.{boxAsk}
+use Rattle.admission.specs.Asks.{boxRules, Asked}
+use Rattle.admission.specs.laws.Asks.{box-answers}
 use Rattle.admission.specs.Slices.{Slices, slices}
 use Rattle.admission.specs.Admission.{BuildAdmission}
 use Rattle.build_counts.specs.Counts.{countsOf, EndedBuild}
 use Rattle.building.specs.Promise.{ClippedBuild}
 use Rattle.building.specs.LateRefusals.{Refuses, Numbered, build-late}
-use Rattle.building.specs.Success.{box-admitted}
 use Rattle.building.specs.laws.BuildAnswer.{answers-early, mesh-of, fit-of, rooms-of, table-is, answers-built}
 
 -- ---- the builder's answer
@@ -56,13 +57,13 @@ module _ (o : Outcome Fault Built) (x : CellsAnswer) (q : x ≡ outcomeAnswer o)
 
 -- ---- the whole
 module _ {m : Mesh} {asked : ℕ} {old new : Slices} {r : ℕ} (a : BuildAdmission m asked old new r)
-    (c : Point) (w h : Float) (ask : asked ≡ boxAsk c w h) where
+    (c : Point) (w h : Float) (ask : Asked (boxRules c w h) asked) where
   pub clipped-early : r ≢ 0 → ClippedBuild m c w h old new r
-  clipped-early n = rw (← ask) (answers-early a (build m (madeOf c w h)) n)
+  clipped-early n = answers-early a (boxRules c w h) (box-answers c w h) (ask .found) (build m (madeOf c w h)) n
 
   module _ (z : r ≡ 0) (b : BoundingBox) (made : b ≡ madeOf c w h) where
     bounded : BoundedBox 101 b
-    bounded = rw made (box-admitted c w h (sym ask ∙ fit-of a z))
+    bounded = rw made (box-bounded c w h (finds-keep (λ k. k ≡ 0) (box-answers c w h) (fit-of a z) (ask .found) .0))
 
     pub clipped-asks : AdmittedBuild m (take (siteCount (m .sites)) (new .work)) b (length (new .vertices)) (length (new .indexes)) (length (new .offsets))
     clipped-asks = record { mesh = mesh-of a z; table-is = table-is a z; box = bounded; rooms = rooms-of a z }
@@ -82,4 +83,4 @@ module _ {m : Mesh} {asked : ℕ} {old new : Slices} {r : ℕ} (a : BuildAdmissi
       clipped-built l f =
           let o = build m b in
           let late = build-late m b in
-          rw (← ask, ← made) (answers-built a z o late (x .fault) (answer-fault o x q) l f (answer-counts o x q late))
+          rw (← made) (answers-built a z (boxRules c w h) (box-answers c w h) (ask .found) o late (x .fault) (answer-fault o x q) l f (answer-counts o x q late))

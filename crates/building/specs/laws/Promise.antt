@@ -5,6 +5,7 @@ use mathlib.Core.List.{List}
 use mathlib.Core.Logic.{_⊎_, inl, inr, ⊎-elim, _≢_}
 use Prim.Native.Nat.{ℕ}
 use lib.ListN.{length}
+use Rattle.laws.specs.Refusals.{Rule}
 use Rattle.laws.specs.laws.Refusals.{finds-one, finds-none, finds-first, finds-after, finds-split}
 use Rattle.laws.specs.Binary64.{zero}
 use Rattle.numbers.specs.Numbers.{EMPTY}
@@ -17,27 +18,27 @@ use Rattle.definition.specs.Build.{Built}
 use Rattle.layout.specs.Outputs.{padded, vertexNumbers, indexNumbers, offsetNumbers, countNumbers, faultOf}
 use Rattle.admission.specs.Admits.{askedRules, Admits}
 use Rattle.admission.specs.Slices.{Slices, slices}
-use Rattle.admission.specs.laws.Admits.{finds-asked, asked-finds, call-answers, admits-keep}
+use Rattle.admission.specs.laws.Admits.{NoneZero, finds-asked, asked-finds, call-answers, admits-keep}
 use Rattle.building.specs.Promise.{Builds, BuildAnswer, BuildAnswers}
 
-module _ {m : Mesh} {roomy : Bool} {asked : ℕ} {o : Outcome Fault Built} where
-  pub builds-one : {r s : ℕ} → Builds m roomy asked o r → Builds m roomy asked o s → r ≡ s
+module _ {m : Mesh} {roomy : Bool} {own : List (Rule ℕ)} {o : Outcome Fault Built} where
+  pub builds-one : {r s : ℕ} → Builds m roomy own o r → Builds m roomy own o s → r ≡ s
   builds-one x y = finds-one (x .found) (y .found)
 
-  pub early : {r : ℕ} → Admits m roomy asked r → r ≢ 0 → Builds m roomy asked o r
+  pub early : {r : ℕ} → Admits m roomy own r → r ≢ 0 → Builds m roomy own o r
   early x n = record { found = finds-first (askedRules (faultOf o .number)) n (x .found) }
 
-  pub built : Admits m roomy asked 0 → Builds m roomy asked o (faultOf o .number)
-  built x = record { found = finds-after (callRules m (roomy ≡ true) (askedRules asked)) (admits-keep x refl) (finds-asked (faultOf o .number)) }
+  pub built : NoneZero own → Admits m roomy own 0 → Builds m roomy own o (faultOf o .number)
+  built t x = record { found = finds-after (callRules m (roomy ≡ true) own) (admits-keep t x refl) (finds-asked (faultOf o .number)) }
 
   -- refused before the build, or the build's
-  pub builds-cases : {r : ℕ} → Builds m roomy asked o r
-      → (Admits m roomy asked r × (r ≢ 0)) ⊎ (Admits m roomy asked 0 × (r ≡ faultOf o .number))
-  builds-cases x =
+  pub builds-cases : {r : ℕ} → NoneZero own → Builds m roomy own o r
+      → (Admits m roomy own r × (r ≢ 0)) ⊎ (Admits m roomy own 0 × (r ≡ faultOf o .number))
+  builds-cases t x =
       ⊎-elim
       (λ y. inl (record { found = y .0 }, y .1))
       (λ y. inr (record { found = finds-none (y .0) }, asked-finds (faultOf o .number) (y .1)))
-      (finds-split (callRules m (roomy ≡ true) (askedRules asked)) (askedRules (faultOf o .number)) (call-answers m (roomy ≡ true) asked) (x .found))
+      (finds-split (callRules m (roomy ≡ true) own) (askedRules (faultOf o .number)) (call-answers m (roomy ≡ true) own t) (x .found))
 
 -- a slice at exit, by the number alone
 pub slice-one : {A : Type 0} (blank : A) (made old : List A) {new other : List A} {r s : ℕ} → r ≡ s → new ≡ atExit blank made old r → other ≡ atExit blank made old s → new ≡ other
@@ -54,6 +55,6 @@ answer-one {table = table} {o} {old} {new} {other} {r} {s} one a b =
     let c : new .counts ≡ other .counts = slice-one EMPTY (padded (length (old .counts)) EMPTY (countNumbers o)) (old .counts) q (a .counts) (b .counts) in
     (q, λ i. slices (w i) (v i) (x i) (f i) (c i))
 
-pub answers-one : {m : Mesh} {asked : ℕ} {o : Outcome Fault Built} {old new other : Slices} {r s : ℕ}
-    → BuildAnswers m asked o old new r → BuildAnswers m asked o old other s → (r ≡ s) × (new ≡ other)
+pub answers-one : {m : Mesh} {own : List (Rule ℕ)} {o : Outcome Fault Built} {old new other : Slices} {r s : ℕ}
+    → BuildAnswers m own o old new r → BuildAnswers m own o old other s → (r ≡ s) × (new ≡ other)
 answers-one = answer-one (λ a b. builds-one)

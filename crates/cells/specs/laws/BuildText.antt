@@ -13,7 +13,10 @@ use Rattle.numbers.specs.Numbers.{EMPTY}
 use Rattle.utils.specs.declared.Point.{Point}
 use Rattle.bounding_box.specs.Box.{madeOf}
 use Rattle.mesh.specs.Accepted.{Mesh, siteCount}
+use Rattle.laws.specs.Refusals.{Rule}
 use Rattle.admission.specs.Admits.{Admits}
+use Rattle.admission.specs.laws.Admits.{NoneZero}
+use Rattle.admission.specs.laws.Asks.{box-answers}
 use Rattle.layout.specs.Regions.{joined, offsetsFrom}
 use Rattle.definition.specs.declared.Fault.{Fault}
 use Rattle.definition.specs.Fault.{Outcome, ok}
@@ -112,33 +115,34 @@ module _ (m : Mesh) (space : ℕ) (sized : SheetSized (length (m .sites)) (lengt
         lt-ltb (siteCount (m .sites)) 97 (omega (arith, sized .few-sites)),
       ))
 
-  module _ {asked : ℕ} {o : Outcome Fault Built} (whole : Gives (Whole (siteCount (m .sites))) o) (late : Refuses Numbered o) (a : BuildAnswers m asked o old new r) where
-    rules : Builds m true asked o r
+  module _ {own : List (Rule ℕ)} (some : NoneZero own) {o : Outcome Fault Built} (whole : Gives (Whole (siteCount (m .sites))) o) (late : Refuses Numbered o) (a : BuildAnswers m own o old new r) where
+    rules : Builds m true own o r
     rules = rw roomy at (a .number)
 
     layout : length (new .indexes) ≡ 3076 → r ≡ 0 → Laid (siteCount (m .sites)) (new .offsets) (new .indexes) space
     layout short z =
-        let b = zero-succeeds late a z .outcome in
+        let b = zero-succeeds some late a z .outcome in
         laid-out a long (b .value) (gives-ok (Whole (siteCount (m .sites))) whole (b .is)) (b .is) z space (omega (arith, sized .few-sites)) short (sized .room)
 
     text-of : (text : Built → List ℕ) (t : List ℕ) → ((b : Built) → Whole (siteCount (m .sites)) b → o ≡ ok b → r ≡ 0 → t ≡ text b)
-        → Shows (Admits m true asked) text o (shown t r)
-    text-of text t f = shows text t rules late (λ b e z. f b (gives-ok (Whole (siteCount (m .sites))) whole e) e z)
+        → Shows (Admits m true own) text o (shown t r)
+    text-of text t f = shows text t some rules late (λ b e z. f b (gives-ok (Whole (siteCount (m .sites))) whole e) e z)
 
   module _ (c : Point) (w h : Float) (a : ClippedBuild m c w h old new r) where
     abbrev whole-in : Gives (Whole (siteCount (m .sites))) (build m (madeOf c w h))
     whole-in = whole-in-box m (madeOf c w h)
 
     pub laid-in-box : length (new .indexes) ≡ 3076 → r ≡ 0 → Laid (siteCount (m .sites)) (new .offsets) (new .indexes) space
-    laid-in-box = layout whole-in (build-late m (madeOf c w h)) a
+    laid-in-box = layout (box-answers c w h) whole-in (build-late m (madeOf c w h)) a
 
     pub text-in-box : InBox listingTexts m c w h (shown (boxLines (siteCount (m .sites)) (length (m .triangles) / 3) (new .offsets) (new .indexes) (new .counts)) r)
-    text-in-box = text-of whole-in (build-late m (madeOf c w h)) a (boxText (siteCount (m .sites)) (length (m .triangles) / 3)) _ (λ b q e z. box-lines a long b q e z (length (m .triangles) / 3))
+    text-in-box = text-of (box-answers c w h) whole-in (build-late m (madeOf c w h)) a (boxText (siteCount (m .sites)) (length (m .triangles) / 3)) _
+        (λ b q e z. box-lines a long b q e z (length (m .triangles) / 3))
 
   module _ (a : UnclippedBuild m old new r) where
     pub laid-without-box : length (new .indexes) ≡ 3076 → r ≡ 0 → Laid (siteCount (m .sites)) (new .offsets) (new .indexes) space
-    laid-without-box = layout (whole-without-box (m .sites) (m .triangles) (m .halfedges)) (unclipped-late (m .sites) (m .triangles) (m .halfedges)) a
+    laid-without-box = layout {own = []} tt (whole-without-box (m .sites) (m .triangles) (m .halfedges)) (unclipped-late (m .sites) (m .triangles) (m .halfedges)) a
 
     pub text-without-box : WithoutBox listingTexts m (shown (unclippedLines (siteCount (m .sites)) (length (m .triangles) / 3) (new .offsets) (new .indexes) (new .counts)) r)
-    text-without-box = text-of (whole-without-box (m .sites) (m .triangles) (m .halfedges)) (unclipped-late (m .sites) (m .triangles) (m .halfedges)) a
+    text-without-box = text-of {own = []} tt (whole-without-box (m .sites) (m .triangles) (m .halfedges)) (unclipped-late (m .sites) (m .triangles) (m .halfedges)) a
         (unclippedText (siteCount (m .sites)) (length (m .triangles) / 3)) _ (λ b q e z. unclipped-lines a long b q e z (length (m .triangles) / 3))

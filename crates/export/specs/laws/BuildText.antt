@@ -19,7 +19,10 @@ use Rattle.map_text.specs.MapText.{heading, mapText}
 use Rattle.utils.specs.declared.Point.{Point}
 use Rattle.bounding_box.specs.Box.{madeOf}
 use Rattle.mesh.specs.Accepted.{Mesh, siteCount}
+use Rattle.laws.specs.Refusals.{Rule}
 use Rattle.admission.specs.Admits.{Admits}
+use Rattle.admission.specs.laws.Admits.{NoneZero}
+use Rattle.admission.specs.laws.Asks.{box-answers}
 use Rattle.layout.specs.Regions.{joined, offsetsFrom}
 use Rattle.definition.specs.declared.Fault.{Fault}
 use Rattle.definition.specs.Fault.{Outcome, ok}
@@ -117,18 +120,18 @@ module _ (m : Mesh) (space : ℕ) (sized : MapSized (length (m .sites)) (length 
         lt-ltb (siteCount (m .sites)) 97 (omega (arith, sized .few-sites)),
       ))
 
-  module _ {asked : ℕ} {o : Outcome Fault Built} (whole : Gives (Whole (siteCount (m .sites))) o) (can : (b : Built) → o ≡ ok b → r ≡ 0 → Drawable b)
-      (late : Refuses Numbered o) (a : BuildAnswers m asked o old new r) where
-    rules : Builds m true asked o r
+  module _ {own : List (Rule ℕ)} (some : NoneZero own) {o : Outcome Fault Built} (whole : Gives (Whole (siteCount (m .sites))) o) (can : (b : Built) → o ≡ ok b → r ≡ 0 → Drawable b)
+      (late : Refuses Numbered o) (a : BuildAnswers m own o old new r) where
+    rules : Builds m true own o r
     rules = rw roomy at (a .number)
 
     layout : length (new .indexes) ≡ 3076 → r ≡ 0 → CanDraw (siteCount (m .sites)) 3656 (new .offsets) (new .indexes)
     layout short z =
-        let b = zero-succeeds late a z .outcome in
+        let b = zero-succeeds some late a z .outcome in
         laid-out a long (b .value) (gives-ok (Whole (siteCount (m .sites))) whole (b .is)) (can (b .value) (b .is) z) (b .is) z (omega (arith, sized .few-sites)) short
 
-    text-of : Shows (Admits m true asked) exported o (shown (lines (siteCount (m .sites)) (new .vertices) (new .offsets) (new .indexes)) r)
-    text-of = shows exported _ rules late (λ b e z. lines-text a long b (gives-ok (Whole (siteCount (m .sites))) whole e) (can b e z) e z)
+    text-of : Shows (Admits m true own) exported o (shown (lines (siteCount (m .sites)) (new .vertices) (new .offsets) (new .indexes)) r)
+    text-of = shows exported _ some rules late (λ b e z. lines-text a long b (gives-ok (Whole (siteCount (m .sites))) whole e) (can b e z) e z)
 
   module _ (c : Point) (w h : Float) (a : ClippedBuild m c w h old new r) where
     abbrev whole-in : Gives (Whole (siteCount (m .sites))) (build m (madeOf c w h))
@@ -146,16 +149,16 @@ module _ (m : Mesh) (space : ℕ) (sized : MapSized (length (m .sites)) (length 
         })
 
     pub laid-in-box : length (new .indexes) ≡ 3076 → r ≡ 0 → CanDraw (siteCount (m .sites)) 3656 (new .offsets) (new .indexes)
-    laid-in-box = layout whole-in can-in (build-late m (madeOf c w h)) a
+    laid-in-box = layout (box-answers c w h) whole-in can-in (build-late m (madeOf c w h)) a
 
     pub text-in-box : InBox mapTexts m c w h (shown (lines (siteCount (m .sites)) (new .vertices) (new .offsets) (new .indexes)) r)
-    text-in-box = text-of whole-in can-in (build-late m (madeOf c w h)) a
+    text-in-box = text-of (box-answers c w h) whole-in can-in (build-late m (madeOf c w h)) a
 
   module _ (a : UnclippedBuild m old new r) where
     -- each entry of a cell that is not clipped is a triangle
     can-without : (b : Built) → unclipped (m .sites) (m .triangles) (m .halfedges) ≡ ok b → r ≡ 0 → Drawable b
     can-without b e z =
-        let s = zero-succeeds (unclipped-late (m .sites) (m .triangles) (m .halfedges)) a z in
+        let s = zero-succeeds {own = []} tt (unclipped-late (m .sites) (m .triangles) (m .halfedges)) a z in
         let k = s .admission .accepted .counts in
         let p = gives-ok (Centres (m .sites) (m .triangles) (m .halfedges)) (centres (m .sites) (m .triangles) (m .halfedges)) e in
         let third : length (b .verts) ≡ length (m .halfedges) / 3 = p .0 ∙ ap (λ (j : ℕ). j / 3) (sym (k .same)) in
@@ -165,7 +168,7 @@ module _ (m : Mesh) (space : ℕ) (sized : MapSized (length (m .sites)) (length 
         }
 
     pub laid-without-box : length (new .indexes) ≡ 3076 → r ≡ 0 → CanDraw (siteCount (m .sites)) 3656 (new .offsets) (new .indexes)
-    laid-without-box = layout (whole-without-box (m .sites) (m .triangles) (m .halfedges)) can-without (unclipped-late (m .sites) (m .triangles) (m .halfedges)) a
+    laid-without-box = layout {own = []} tt (whole-without-box (m .sites) (m .triangles) (m .halfedges)) can-without (unclipped-late (m .sites) (m .triangles) (m .halfedges)) a
 
     pub text-without-box : WithoutBox mapTexts m (shown (lines (siteCount (m .sites)) (new .vertices) (new .offsets) (new .indexes)) r)
-    text-without-box = text-of (whole-without-box (m .sites) (m .triangles) (m .halfedges)) can-without (unclipped-late (m .sites) (m .triangles) (m .halfedges)) a
+    text-without-box = text-of {own = []} tt (whole-without-box (m .sites) (m .triangles) (m .halfedges)) can-without (unclipped-late (m .sites) (m .triangles) (m .halfedges)) a

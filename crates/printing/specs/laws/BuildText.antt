@@ -8,7 +8,9 @@ use native.Mathlib.Omega.{arith}
 use lib.ListN.{length}
 use borrow.Author.Tests.{ne-eqb}
 use Rattle.mesh.specs.Accepted.{Mesh}
+use Rattle.laws.specs.Refusals.{Rule}
 use Rattle.admission.specs.Admits.{Admits}
+use Rattle.admission.specs.laws.Admits.{NoneZero}
 use Rattle.definition.specs.declared.Fault.{Fault}
 use Rattle.definition.specs.Fault.{Outcome, ok, refused}
 use Rattle.definition.specs.Build.{Built}
@@ -37,11 +39,11 @@ module _ (Rules : ℕ → Type 0) (text : Built → List ℕ) where
       let q : e .number ≢ 0 = λ z. omega (arith, late .least) in
       rw (ne-eqb (e .number) 0 q) (printed.late p)
 
-pub shows : {m : Mesh} {roomy : Bool} {asked : ℕ} {o : Outcome Fault Built} {r : ℕ} (text : Built → List ℕ) (t : List ℕ)
-    → Builds m roomy asked o r → Refuses Numbered o → ((b : Built) → o ≡ ok b → r ≡ 0 → t ≡ text b)
-    → Shows (Admits m roomy asked) text o (shown t r)
-shows text t x late f =
+pub shows : {m : Mesh} {roomy : Bool} {own : List (Rule ℕ)} {o : Outcome Fault Built} {r : ℕ} (text : Built → List ℕ) (t : List ℕ)
+    → NoneZero own → Builds m roomy own o r → Refuses Numbered o → ((b : Built) → o ≡ ok b → r ≡ 0 → t ≡ text b)
+    → Shows (Admits m roomy own) text o (shown t r)
+shows text t some x late f =
     ⊎-elim
     (λ y. rw (ne-eqb _ 0 (y .1)) (printed.early (y .0) (y .1)))
     (λ y. rw (y .1) (shows-built _ text t (y .0) late (λ b e z. f b e (y .1 ∙ z))))
-    (builds-cases x)
+    (builds-cases some x)

@@ -33,7 +33,7 @@ use Rattle.paths.specs.laws.PathNeeds.{ready, towards}
 use Rattle.iterator.specs.laws.Clippable.{clippable}
 use Rattle.admission.specs.Asks.{siteRules, pathRules, Asked, CellsOf, cellRules}
 use Rattle.admission.specs.Admission.{ListAdmission}
-use Rattle.admission.specs.laws.Admits.{admitted, admits-few, admits-rules}
+use Rattle.admission.specs.laws.Admits.{asked-answers, admitted, admits-few, admits-rules}
 use Rattle.queries.specs.declared.Listed.{Listed}
 use Rattle.queries.specs.Answers.{outAfter, countAfter, endedAfter, listedOf, ListAnswer, Number, ClippedAnswer}
 use Rattle.admission.specs.laws.LeftmostTable.{table-long, table-at, table-part}
@@ -76,13 +76,13 @@ module _ {m : Mesh} {k : ℕ} {w w′ o o′ : List ℕ} {r : ℕ} (a : ListAdmi
   -- ---- what an admitted mesh gives the query
   module _ (z : r ≡ 0) where
     list-mesh : Accepted m
-    list-mesh = admitted (a .admission .number) z .accepted
+    list-mesh = admitted (asked-answers k) (a .admission .number) z .accepted
 
     pub list-fit : k ≡ 0
-    list-fit = admitted (a .admission .number) z .fit
+    list-fit = admitted (asked-answers k) (a .admission .number) z .fit .0
 
     list-room : siteCount (m .sites) ≤ length w
-    list-room = leb-true (siteCount (m .sites)) (length w) (admitted (a .admission .number) z .roomed)
+    list-room = leb-true (siteCount (m .sites)) (length w) (admitted (asked-answers k) (a .admission .number) z .roomed)
 
     list-table : w′ ≡ leftmostIn (m .triangles) (m .halfedges) (siteCount (m .sites)) (length w)
     list-table = a .admission .work ∙ exit-made EMPTY (leftmostIn (m .triangles) (m .halfedges) (siteCount (m .sites)) (length w)) w r z

@@ -12,7 +12,7 @@ use Rattle.mesh.specs.Accepted.{Mesh, siteCount}
 use Rattle.check_mesh.specs.Answers.{workAfter}
 use Rattle.shared.specs.Edge.{sharedEdgeOf}
 use Rattle.admission.specs.Admission.{Admission, roomyOf}
-use Rattle.admission.specs.laws.Admits.{admitted, admits-rules}
+use Rattle.admission.specs.laws.Admits.{asked-answers, admitted, admits-rules}
 use Rattle.queries.specs.declared.Found.{Found}
 use Rattle.queries.specs.Answers.{Number, foundOf, EdgeAnswer}
 
@@ -26,7 +26,7 @@ module _ {m : Mesh} {w w′ : List ℕ} {r : ℕ} (a : Admission m (roomyOf (m .
 
   pub edge-asks : r ≡ 0 → (length (m .halfedges) % 3 ≡ 0) × (length (m .halfedges) ≤ EMPTY)
   edge-asks z =
-      let c = admitted (a .number) z .accepted .counts in
+      let c = admitted (asked-answers 0) (a .number) z .accepted .counts in
       omega (arith, c .threes, c .same, c .few-triangles)
 
   pub edge-found : (p q e : ℕ) → r ≡ 0 → e ≡ sharedEdgeOf (m .halfedges) p q → EdgeAnswer m p q w w′ (foundOf 0 e)

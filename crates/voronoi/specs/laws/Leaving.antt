@@ -10,6 +10,7 @@ use Rattle.utils.specs.declared.Point.{Point}
 use Rattle.bounding_box.specs.Box.{madeOf}
 use Rattle.bounding_box.specs.Rules.{okBox}
 use Rattle.mesh.specs.Mesh.{Used}
+use Rattle.bounding_box.specs.Finite.{box-bounded}
 use Rattle.mesh.specs.Accepted.{Mesh, tableOf, siteCount}
 use Rattle.definition.specs.declared.Fault.{Fault}
 use Rattle.definition.specs.Fault.{Outcome, ok}
@@ -23,8 +24,8 @@ use Rattle.definition.specs.Cell.{unmarked}
 use Rattle.building.specs.Promise.{BuildAnswer}
 use Rattle.admission.specs.Slices.{Slices}
 use Rattle.building.specs.LateRefusals.{build-late, unclipped-late}
-use Rattle.building.specs.Success.{zero-succeeds, succeeds-zero, box-admitted}
-use Rattle.building.specs.laws.BoxAsk.{box-kept, box-asked}
+use Rattle.admission.specs.laws.Asks.{box-answers}
+use Rattle.building.specs.Success.{zero-succeeds, succeeds-zero}
 use Rattle.building.specs.laws.Left.{left-work, left-vertices, left-indexes, left-offsets, left-counts, slice-finite, read-part, read-place}
 use Rattle.voronoi.specs.Builds.{Build, BuildUnclipped, CellPart}
 use Rattle.voronoi.specs.Leaves.{BuildAllowed, BuildLeaves}
@@ -54,36 +55,36 @@ module _ (m : Mesh) {old new : Slices} where
   module _ (c : Point) (w h : Float) where
     pub build-answers : {r : ℕ} → Build m c w h old new r → (r ≡ 0) ↔ BuildAllowed m (okBox c w h ≡ true) (build m (madeOf c w h)) old
     build-answers a = (
-      λ z. let s = zero-succeeds (build-late m (madeOf c w h)) a z in
-          record { mesh = s .admission .accepted; room = s .admission .roomed; in-box = box-kept c w h (s .admission .fit); value = s .outcome },
-      λ x. succeeds-zero (record { admission = record { accepted = x .mesh; roomed = x .room; fit = box-asked c w h (x .in-box) }; outcome = x .value }) a,
+      λ z. let s = zero-succeeds (box-answers c w h) (build-late m (madeOf c w h)) a z in
+          record { mesh = s .admission .accepted; room = s .admission .roomed; in-box = s .admission .fit .0; value = s .outcome },
+      λ x. succeeds-zero (box-answers c w h) (record { admission = record { accepted = x .mesh; roomed = x .room; fit = (x .in-box, tt) }; outcome = x .value }) a,
     )
 
     pub build-leaves : Build m c w h old new 0 → BuildLeaves (siteCount (m .sites)) (tableOf m) (build m (madeOf c w h)) old new
     build-leaves a =
-        let s = zero-succeeds (build-late m (madeOf c w h)) a refl in
+        let s = zero-succeeds (box-answers c w h) (build-late m (madeOf c w h)) a refl in
         let is = s .outcome .is in
-        let fine = gives-ok (λ (r : Built). Each FinitePoint (r .verts)) (vertices-finite (box-admitted c w h (s .admission .fit)) m) is in
+        let fine = gives-ok (λ (r : Built). Each FinitePoint (r .verts)) (vertices-finite (box-bounded c w h (s .admission .fit .0)) m) is in
         leaves (siteCount (m .sites)) (s .outcome .value) is a fine (gives-ok (λ (r : Built). length (r .cells) ≡ siteCount (m .sites)) (cell-count m (madeOf c w h)) is)
 
     pub build-empty : (s : ℕ) {part : List ℕ} {r : ℕ} → Build m c w h old new 0 → s < siteCount (m .sites) → (Used (m .triangles) s → ⊥)
         → CellPart (take (suc (siteCount (m .sites))) (new .offsets)) (new .indexes) s part r → part ≡ []
     build-empty s a l none p =
         let x = build-leaves a in
-        let t = zero-succeeds (build-late m (madeOf c w h)) a refl in
-        x .cell-part s l p .1 ∙ ap unmarked (empty-cell (t .admission .accepted) s none (box-admitted c w h (t .admission .fit)) (x .is) l)
+        let t = zero-succeeds (box-answers c w h) (build-late m (madeOf c w h)) a refl in
+        x .cell-part s l p .1 ∙ ap unmarked (empty-cell (t .admission .accepted) s none (box-bounded c w h (t .admission .fit .0)) (x .is) l)
 
   -- ---- without one
   pub unclipped-answers : {r : ℕ} → BuildUnclipped m old new r → (r ≡ 0) ↔ BuildAllowed m (Unit {0}) (unclipped (m .sites) (m .triangles) (m .halfedges)) old
   unclipped-answers a = (
-    λ z. let s = zero-succeeds (unclipped-late (m .sites) (m .triangles) (m .halfedges)) a z in
+    λ z. let s = zero-succeeds {own = []} tt (unclipped-late (m .sites) (m .triangles) (m .halfedges)) a z in
         record { mesh = s .admission .accepted; room = s .admission .roomed; in-box = tt; value = s .outcome },
-    λ x. succeeds-zero (record { admission = record { accepted = x .mesh; roomed = x .room; fit = refl }; outcome = x .value }) a,
+    λ x. succeeds-zero {own = []} tt (record { admission = record { accepted = x .mesh; roomed = x .room; fit = tt }; outcome = x .value }) a,
   )
 
   pub unclipped-leaves : BuildUnclipped m old new 0 → BuildLeaves (siteCount (m .sites)) (tableOf m) (unclipped (m .sites) (m .triangles) (m .halfedges)) old new
   unclipped-leaves a =
-      let s = zero-succeeds (unclipped-late (m .sites) (m .triangles) (m .halfedges)) a refl in
+      let s = zero-succeeds {own = []} tt (unclipped-late (m .sites) (m .triangles) (m .halfedges)) a refl in
       let is = s .outcome .is in
       let fine = gives-ok (λ (r : Built). Each FinitePoint (r .verts)) (centres-finite (m .sites) (m .triangles) (m .halfedges)) is in
       leaves (siteCount (m .sites)) (s .outcome .value) is a fine (gives-ok (λ (r : Built). length (r .cells) ≡ siteCount (m .sites)) (ring-count (m .sites) (m .triangles) (m .halfedges)) is)
@@ -92,5 +93,5 @@ module _ (m : Mesh) {old new : Slices} where
       → CellPart (take (suc (siteCount (m .sites))) (new .offsets)) (new .indexes) s part r → part ≡ []
   unclipped-empty s a l none p =
       let x = unclipped-leaves a in
-      let t = zero-succeeds (unclipped-late (m .sites) (m .triangles) (m .halfedges)) a refl in
+      let t = zero-succeeds {own = []} tt (unclipped-late (m .sites) (m .triangles) (m .halfedges)) a refl in
       x .cell-part s l p .1 ∙ ap unmarked (gives-ok (λ (r : Built). getD (r .cells) s [] ≡ []) (empty-ring (t .admission .accepted) s none) (x .is))

@@ -9,7 +9,7 @@ use Rattle.utils.specs.Flat.{pointAt}
 use Rattle.utils.specs.declared.Point.{Point}
 use Rattle.bounding_box.specs.Box.{madeOf}
 use Rattle.mesh.specs.Accepted.{Mesh, Accepted, siteCount}
-use Rattle.bounding_box.specs.Finite.{BoundedBox}
+use Rattle.bounding_box.specs.Finite.{BoundedBox, box-bounded}
 use Rattle.definition.specs.Fault.{ok}
 use Rattle.definition.specs.Build.{Built, build}
 use Rattle.definition.specs.laws.Gives.{gives-ok}
@@ -19,7 +19,8 @@ use Rattle.definition.specs.laws.CornersAt.{Cornered, cornered}
 use Rattle.definition.specs.laws.OwnerPaths.{owner-path}
 use Rattle.admission.specs.Slices.{Slices}
 use Rattle.building.specs.LateRefusals.{build-late}
-use Rattle.building.specs.Success.{zero-succeeds, box-admitted, clipped-sound}
+use Rattle.admission.specs.laws.Asks.{box-answers}
+use Rattle.building.specs.Success.{zero-succeeds, clipped-sound}
 use Rattle.building.specs.laws.Left.{left-vertices, left-indexes, left-offsets, left-counts, slice-point, count-owner, count-before, count-lost}
 use Rattle.voronoi.specs.Builds.{Build}
 use Rattle.voronoi.specs.Wraps.{Wraps}
@@ -61,6 +62,6 @@ module _ (m : Mesh) (c : Point) (w h : Float) {old new : Slices} (a : Build m c 
 
   pub build-wraps : Wraps m (madeOf c w h) old new
   build-wraps =
-      let s = zero-succeeds (build-late m (madeOf c w h)) a refl in
+      let s = zero-succeeds (box-answers c w h) (build-late m (madeOf c w h)) a refl in
       let t = clipped-sound c w h a refl in
-      wraps-of (s .admission .accepted) (box-admitted c w h (s .admission .fit)) (t .outcome .value) (t .outcome .is) (t .wraps)
+      wraps-of (s .admission .accepted) (box-bounded c w h (s .admission .fit .0)) (t .outcome .value) (t .outcome .is) (t .wraps)
