@@ -18,3 +18,4 @@ pub mod CellCount
 pub mod OwnerPaths
 pub mod CornersAt
 pub mod EmptyCell
+pub mod Reverse

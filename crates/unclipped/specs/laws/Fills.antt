@@ -24,11 +24,11 @@ use Rattle.layout.specs.Regions.{Regions}
 use Rattle.definition.specs.Cell.{Entry, entry, plain, unmarked}
 use Rattle.definition.specs.Build.{ringFrom, isEmpty}
 use Rattle.definition.specs.Unclipped.{ringCell, ringsFrom}
+use Rattle.definition.specs.laws.Reverse.{getD-reverse}
 use Rattle.staging.specs.Staging.{Staged}
 use Rattle.layout.specs.laws.Marks.{empty-still, full-already, cell-set}
 use Rattle.unclipped.specs.Reversed.{Reversed}
 use Rattle.unclipped.specs.Fills.{Fillable, withRing, withRings}
-use Rattle.unclipped.specs.laws.Reversed.{getD-reverse}
 
 -- staged and then turned round: the reverse is written
 reversed-written : (l ix ix₁ ix₂ : List ℕ) (at end : ℕ) → at + length l ≤ length ix → Staged l at ix ix₁ end → Reversed at end ix₁ ix₂ → ix₂ ≡ sets ix at (reverse l)
@@ -37,8 +37,8 @@ reversed-written l ix ix₁ ix₂ at end room s r =
     (λ k h. r .outside k (inl h) ∙ rw (s .written) (sets-before l ix at k 0 h))
     (λ i h.
     let li : i < length l = rw (length-reverse l) at h in
-    let q : at + end - suc (at + i) ≡ at + (length l - suc i) = omega (arith, s .ended) in
-    r .inside (at + i) (omega arith) (omega (arith, s .ended)) ∙ rw (q, s .written) (sets-in l ix at (length l - suc i) 0 room (omega arith)) ∙ sym (getD-reverse l i li))
+    let q : at + end - suc (at + i) ≡ at + (length l - 1 - i) = omega (arith, s .ended) in
+    r .inside (at + i) (omega arith) (omega (arith, s .ended)) ∙ rw (q, s .written) (sets-in l ix at (length l - 1 - i) 0 room (omega arith)) ∙ sym (getD-reverse l i li))
     (λ k h. r .outside k (inr (omega (arith, s .ended, length-reverse l))) ∙ rw (s .written) (sets-behind l ix at k 0 (omega (arith, length-reverse l))))
 
 unmark-plain : (l : List ℕ) → unmarked (map (entry plain) l) ≡ l
@@ -110,7 +110,7 @@ module _ (tri he starts : List ℕ) (n len : ℕ) (g : Fillable tri he starts n 
           (rw (cell, size) (omega (arith, g .rooms s site-below, rw (← qs) at ring-fits)))
           (λ i l.
           let li : i < length (ringFrom he e) = rw (cell, size) at l in
-          rw (cell, getD-reverse (ringFrom he e) i li) (ring-real (length (ringFrom he e) - suc i) (omega arith)))
+          rw (cell, getD-reverse (ringFrom he e) i li) (ring-real (length (ringFrom he e) - 1 - i) (omega arith)))
           (rw (cell, ← qa) (reversed-written (ringFrom he e) ix ix₁ ix₂ at end (omega (arith, ring-place)) st rv)))
 
 -- ---- the loop

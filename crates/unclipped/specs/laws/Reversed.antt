@@ -1,11 +1,11 @@
 -- The loop that turns a part round: what lies outside i..j is in its new place, what lies between is as it was.
 use mathlib.Core.Path.{_≡_, refl, _∙_}
-use mathlib.Core.List.{List, [], _∷_, reverse, reverse-cons}
+use mathlib.Core.List.{List}
 use mathlib.Core.Logic.{_⊎_, inl, inr, ⊎-elim, _≢_}
 use Prim.Native.Nat.{ℕ, suc, _+_, _-_, _≤_, _<_}
 use native.Mathlib.Omega.{arith}
-use lib.ListN.{length, getD, set, length-set, length-reverse, List·getD-append}
-use lib.Seq.{getD-set-same, getD-set-other, getD-at}
+use lib.ListN.{length, getD, set, length-set}
+use lib.Seq.{getD-set-same, getD-set-other}
 use Rattle.laws.specs.laws.Decide.{lt-or-ge, eq-or-ne}
 use Rattle.unclipped.specs.Reversed.{Reversed}
 
@@ -85,17 +85,3 @@ module _ (from to : ℕ) (old : List ℕ) where
           (λ m. g .turned k a b (inr m))
           (lt-or-ge k j))
           (lt-or-ge k i)
-
--- the reverse of a list, place by place
-pub getD-reverse : (l : List ℕ) (i : ℕ) → i < length l → getD (reverse l) i 0 ≡ getD l (length l - suc i) 0
-getD-reverse [] i h = absurd (omega arith)
-getD-reverse (x ∷ l) i h =
-    rw (reverse-cons x l)
-    (⊎-elim
-    (λ a.
-    let q : suc (length l) - suc i ≡ suc (length l - suc i) = omega arith in
-    rw q (List·getD-append (reverse l) (x ∷ []) 0 i (rw (length-reverse l) a) ∙ getD-reverse l i a))
-    (λ a.
-    let q : suc (length l) - suc i ≡ 0 = omega arith in
-    rw q (getD-at (reverse l) x [] 0 i (length-reverse l ∙ omega arith)))
-    (lt-or-ge i (length l)))
