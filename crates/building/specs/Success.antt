@@ -24,7 +24,8 @@ use Rattle.definition.specs.Measures.{Room}
 use Rattle.layout.specs.Outputs.{faultOf}
 use Rattle.building.specs.Promise.{BuildAnswers, ClippedBuild}
 use Rattle.building.specs.laws.Promise.{built, builds-one, builds-cases}
-use Rattle.building.specs.LateRefusals.{Refuses, Numbered, build-late}
+use Rattle.definition.specs.Late.{Refuses, Numbered}
+use Rattle.definition.specs.LateRefusals.{build-late}
 
 -- ---- 0
 

@@ -2,6 +2,5 @@
 pub mod HullAndEdgeTries
 pub mod OneTry
 pub mod OneTurn
-pub mod RegionsKept
 pub mod TriedRings
 pub mod TryLoops

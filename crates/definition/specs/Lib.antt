@@ -10,6 +10,8 @@ pub mod RowsUnclipped
 pub mod Measures
 pub mod Wrapping
 pub mod Lowest
+pub mod Late
+pub mod LateRefusals
 pub mod Theorems
 pub mod Reached
 pub mod laws

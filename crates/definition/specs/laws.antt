@@ -18,4 +18,5 @@ pub mod CellCount
 pub mod OwnerPaths
 pub mod CornersAt
 pub mod EmptyCell
+pub mod LateRefusals
 pub mod Reverse

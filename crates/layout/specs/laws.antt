@@ -4,4 +4,5 @@ pub mod Marks
 pub mod Overwritten
 pub mod Padded
 pub mod Regions
+pub mod RegionsKept
 pub mod Rooms

@@ -33,7 +33,8 @@ use Rattle.definition.specs.laws.Gives.{Gives}
 use Rattle.layout.specs.Outputs.{padded, Rooms, vertexNumbers, indexNumbers, offsetNumbers, countNumbers, faultOf, BuiltInto}
 use Rattle.build_counts.specs.Counts.{countsOf, EndedBuild}
 use Rattle.building.specs.Promise.{BuildAnswers}
-use Rattle.building.specs.LateRefusals.{Refuses, Numbered, unclipped-late}
+use Rattle.definition.specs.Late.{Refuses, Numbered}
+use Rattle.definition.specs.LateRefusals.{unclipped-late}
 use Rattle.building.specs.laws.Promise.{early, built}
 
 -- a slice cleared by a late refusal

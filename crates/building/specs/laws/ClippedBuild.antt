@@ -27,7 +27,8 @@ use Rattle.admission.specs.Slices.{Slices, slices}
 use Rattle.admission.specs.Admission.{BuildAdmission}
 use Rattle.build_counts.specs.Counts.{countsOf, EndedBuild}
 use Rattle.building.specs.Promise.{ClippedBuild}
-use Rattle.building.specs.LateRefusals.{Refuses, Numbered, build-late}
+use Rattle.definition.specs.Late.{Refuses, Numbered}
+use Rattle.definition.specs.LateRefusals.{build-late}
 use Rattle.building.specs.laws.BuildAnswer.{answers-early, mesh-of, fit-of, rooms-of, table-is, answers-built}
 
 -- ---- the builder's answer

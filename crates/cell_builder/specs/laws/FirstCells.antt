@@ -39,7 +39,7 @@ use Rattle.cell_finish.specs.declared.Progress.{Progress}
 use Rattle.cell_tries.specs.CellsInSlices.{ground, frameOf, Grounded, Amid, HullsAmid, AllTried}
 use Rattle.cell_builder.specs.AdmittedBuild.{AdmittedBuild}
 use Rattle.cell_builder.specs.Start.{extendedOf, Extendable, Begun, BegunBy, Makeable, Makes}
-use Rattle.cell_tries.specs.laws.RegionsKept.{regions-agree}
+use Rattle.layout.specs.laws.RegionsKept.{regions-agree}
 
 -- ---- corners and extensions
 

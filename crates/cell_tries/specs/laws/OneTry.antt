@@ -37,7 +37,7 @@ use Rattle.cell_tries.specs.CellsInSlices.{Ground, Grounded, Amid, Does}
 use Rattle.cell_tries.specs.Tries.{envOf, Ringed, Tried}
 use Rattle.cell_tries.specs.declared.Frame.{Frame}
 use Rattle.cell_finish.specs.declared.Progress.{Progress}
-use Rattle.cell_tries.specs.laws.RegionsKept.{regions-agree}
+use Rattle.layout.specs.laws.RegionsKept.{regions-agree}
 
 -- an entry of a cell is a vertex
 entries-below : (P : ℕ → Type 0) (nc n : ℕ) (es : List Entry) → nc + 4 ≤ n → ValidEntries P nc n es → (i : ℕ) → i < length (unmarked es) → getD (unmarked es) i 0 < n

@@ -27,7 +27,8 @@ use Rattle.definition.specs.Cell.{unmarked}
 use Rattle.building.specs.Promise.{Builds, BuildAnswer, BuildAnswers, ClippedBuild, UnclippedBuild}
 use Rattle.check_mesh.specs.AtExit.{atExit}
 use Rattle.admission.specs.Slices.{Slices, roomFor, roomOf}
-use Rattle.building.specs.LateRefusals.{Refuses, Numbered, build-late, unclipped-late}
+use Rattle.definition.specs.Late.{Refuses, Numbered}
+use Rattle.definition.specs.LateRefusals.{build-late, unclipped-late}
 use Rattle.building.specs.Success.{zero-succeeds}
 use Rattle.listing.specs.Listing.{unclippedListing, listing, cellLines}
 use Rattle.cells.specs.Printed.{linesOf, unclippedText, boxText}

@@ -36,7 +36,8 @@ use Rattle.definition.specs.Cell.{unmarked}
 use Rattle.building.specs.Promise.{Builds, BuildAnswer, BuildAnswers, ClippedBuild, UnclippedBuild}
 use Rattle.check_mesh.specs.AtExit.{atExit}
 use Rattle.admission.specs.Slices.{Slices, roomFor, roomOf}
-use Rattle.building.specs.LateRefusals.{Refuses, Numbered, build-late, unclipped-late}
+use Rattle.definition.specs.Late.{Refuses, Numbered}
+use Rattle.definition.specs.LateRefusals.{build-late, unclipped-late}
 use Rattle.building.specs.Success.{zero-succeeds, clipped-sound}
 use Rattle.export.specs.Printed.{exported}
 use Rattle.export.specs.Shown.{MapSized, CanDraw, lines}

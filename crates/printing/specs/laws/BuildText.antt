@@ -18,7 +18,7 @@ use Rattle.layout.specs.Outputs.{faultOf}
 use Rattle.building.specs.Promise.{Builds}
 use Rattle.building.specs.laws.Promise.{builds-cases}
 use Rattle.admission.specs.Slices.{Slices}
-use Rattle.building.specs.LateRefusals.{Refuses, Numbered}
+use Rattle.definition.specs.Late.{Refuses, Numbered}
 use Rattle.printing.specs.Printed.{Shows, shown}
 use Rattle.printing.specs.Printed as printed
 

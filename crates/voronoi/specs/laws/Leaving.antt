@@ -23,7 +23,7 @@ use Rattle.definition.specs.laws.EmptyCell.{empty-cell, empty-ring}
 use Rattle.definition.specs.Cell.{unmarked}
 use Rattle.building.specs.Promise.{BuildAnswer}
 use Rattle.admission.specs.Slices.{Slices}
-use Rattle.building.specs.LateRefusals.{build-late, unclipped-late}
+use Rattle.definition.specs.LateRefusals.{build-late, unclipped-late}
 use Rattle.admission.specs.laws.Asks.{box-answers}
 use Rattle.building.specs.Success.{zero-succeeds, succeeds-zero}
 use Rattle.building.specs.laws.Left.{left-work, left-vertices, left-indexes, left-offsets, left-counts, slice-finite, read-part, read-place}

@@ -18,7 +18,7 @@ use Rattle.definition.specs.laws.CellCount.{cell-count, CellsTallied, tallied, 
 use Rattle.definition.specs.laws.CornersAt.{Cornered, cornered}
 use Rattle.definition.specs.laws.OwnerPaths.{owner-path}
 use Rattle.admission.specs.Slices.{Slices}
-use Rattle.building.specs.LateRefusals.{build-late}
+use Rattle.definition.specs.LateRefusals.{build-late}
 use Rattle.admission.specs.laws.Asks.{box-answers}
 use Rattle.building.specs.Success.{zero-succeeds, clipped-sound}
 use Rattle.building.specs.laws.Left.{left-vertices, left-indexes, left-offsets, left-counts, slice-point, count-owner, count-before, count-lost}

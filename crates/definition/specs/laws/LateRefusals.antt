@@ -1,38 +1,26 @@
--- Theorem: a build is refused with a number from 11 to 15, so that no refusal is taken for an earlier one or for none.
+-- Why a build's refusals are late: each step of it refuses with 11 to 15 alone.
 use mathlib.Core.Bool.{Bool, true, false, _&&_}
-use mathlib.Core.List.{List, [], _∷_, _++_}
-use Prim.Native.Nat.{ℕ, zero, suc, _/_, _≤_}
+use mathlib.Core.List.{List, [], _∷_}
+use Prim.Native.Nat.{ℕ, zero, suc}
 use native.Mathlib.Omega.{arith}
 use lib.Dec.{ltb}
 use lib.Ieee.{Float}
 use lib.ListN.{length, getD, replicate}
 use Rattle.laws.specs.Pick.{pick}
-use Rattle.numbers.specs.Numbers.{refusedCircumcenter, refusedNoCrossing, refusedOneCrossing, refusedNoSide}
+use Rattle.numbers.specs.Numbers.{refusedNoCrossing, refusedOneCrossing, refusedNoSide}
 use Rattle.utils.specs.Rules.{okCenter}
 use Rattle.utils.specs.declared.Point.{Point}
-use Rattle.bounding_box.specs.Box.{cornersOf}
 use Rattle.bounding_box.specs.declared.BoundingBox.{BoundingBox}
 use Rattle.mesh.specs.Mesh.{endOf}
-use Rattle.mesh.specs.Accepted.{Mesh, tableOf, siteCount}
 use Rattle.definition.specs.declared.Fault.{Fault}
 use Rattle.definition.specs.Fault.{Outcome, ok, refused, andThen, atEdge}
 use Rattle.definition.specs.Cell.{EdgeClip, missed, once, twice, Tip, Taken, insertAt, insertEdge, leave, enterAt, enter, link, crossAt}
 use Rattle.definition.specs.Cell.{cross, clipStep, stepTo, stepsTo, clipFrom, firstInside, clipCell}
-use Rattle.definition.specs.Build.{CellState, Extensions, centerAt, centersFrom, extended, extensions, extendFrom, finite, hullRing, ringFrom, cellState}
-use Rattle.definition.specs.Build.{clipInto, clipHull, isEmpty, clipRest, clipAll, build}
-use Rattle.definition.specs.Unclipped.{unclipped}
+use Rattle.definition.specs.Build.{CellState, Extensions, centerAt, centersFrom, extended, extendFrom, finite, hullRing, ringFrom, cellState}
+use Rattle.definition.specs.Build.{clipInto, clipHull, isEmpty, clipRest, clipAll}
+use Rattle.definition.specs.Late.{Refuses, Late, Numbered}
 
--- what holds of a refusal, where there is one
-abbrev pub Refuses : {F A : Type 0} → (F → Type 0) → Outcome F A → Type 0
-Refuses P (ok a) = Unit {0}
-Refuses P (refused f) = P f
-
--- 11 to 15
-pub record Late (n : ℕ) : Type 0 where
-  pub least : refusedCircumcenter ≤ n
-  pub most : n ≤ refusedNoSide
-
-late-then : {F A B : Type 0} (P : F → Type 0) (o : Outcome F A) (k : A → Outcome F B) → Refuses P o → ((a : A) → Refuses P (k a)) → Refuses P (andThen o k)
+pub late-then : {F A B : Type 0} (P : F → Type 0) (o : Outcome F A) (k : A → Outcome F B) → Refuses P o → ((a : A) → Refuses P (k a)) → Refuses P (andThen o k)
 unfolding andThen
 late-then P (ok a) k h f = f a
 late-then P (refused e) k h f = h
@@ -98,10 +86,7 @@ module _ (b : BoundingBox) (nc site : ℕ) where
   steps p pIn q qIn vs os opened last =
       both Late pIn _ _ (both Late qIn _ _ tt (leaves p os _)) (both Late qIn _ _ (enters os last _) (crosses vs os opened last _))
 
--- ---- a cell, all cells, the build
-abbrev pub Numbered : Fault → Type 0
-Numbered f = Late (f .number)
-
+-- ---- a cell, all cells
 module _ (b : BoundingBox) (nc : ℕ) where
   ring : (site : ℕ) (qs : List ℕ) (t : Tip) → Refuses Numbered (stepsTo b nc site qs t)
   unfolding stepsTo stepTo
@@ -133,37 +118,23 @@ module _ (b : BoundingBox) (nc : ℕ) where
       (both Numbered (isEmpty (getD (s .cells) (endOf tri e) [])) _ _ (into _ _ s) tt)
       (λ r. on-rest tri he (suc e) k r)
 
-centers : (sites : List Float) (tri : List ℕ) (t k : ℕ) (vs : List Point) → Refuses Numbered (centersFrom sites tri t k vs)
-unfolding centersFrom
-centers sites tri t zero vs = tt
-centers sites tri t (suc k) vs =
-    both Numbered (okCenter (centerAt sites tri t)) _ _ (centers sites tri (suc t) k _) (record { least = omega arith; most = omega arith })
-
-extends : (sites : List Float) (tri hull left : List ℕ) (nc i k : ℕ) (x : Extensions) → Refuses Numbered (extendFrom sites tri hull left nc i k x)
-unfolding extendFrom
-extends sites tri hull left nc i zero x = tt
-extends sites tri hull left nc i (suc k) x =
-    let p = extended sites tri (x .verts) (getD left _ 0) in
-    both Numbered (finite (p .x) && finite (p .y)) _ _ (extends sites tri hull left nc (suc i) k _) (record { least = omega arith; most = omega arith })
-
-module _ (m : Mesh) (b : BoundingBox) where
-  all-cells : (left : List ℕ) (n : ℕ) (owners : List ℕ) (x : Extensions) → Refuses Numbered (clipAll b (length (m .triangles) / 3) (m .triangles) (m .halfedges) (m .hull) left n owners x)
+  pub late-cells : (tri he hull left : List ℕ) (n : ℕ) (owners : List ℕ) (x : Extensions) → Refuses Numbered (clipAll b nc tri he hull left n owners x)
   unfolding clipAll
-  all-cells left n owners x =
-      late-then Numbered (clipHull b (length (m .triangles) / 3) (m .halfedges) (m .hull) left (x .at) 0 (length (m .hull)) (cellState (x .verts) owners (replicate n []) (x .steps)))
-      (λ s. clipRest b (length (m .triangles) / 3) (m .triangles) (m .halfedges) 0 (length (m .triangles)) s)
-      (on-hull b (length (m .triangles) / 3) (m .halfedges) (m .hull) left (x .at) 0 (length (m .hull)) _)
-      (λ s. on-rest b (length (m .triangles) / 3) (m .triangles) (m .halfedges) 0 (length (m .triangles)) s)
+  late-cells tri he hull left n owners x =
+      late-then Numbered (clipHull b nc he hull left (x .at) 0 (length hull) (cellState (x .verts) owners (replicate n []) (x .steps)))
+      (λ s. clipRest b nc tri he 0 (length tri) s)
+      (on-hull he hull left (x .at) 0 (length hull) _)
+      (λ s. on-rest tri he 0 (length tri) s)
 
-  pub build-late : Refuses Numbered (build m b)
-  unfolding build
-  build-late =
-      late-then Numbered (centersFrom (m .sites) (m .triangles) 0 (length (m .triangles) / 3) []) _ (centers (m .sites) (m .triangles) 0 (length (m .triangles) / 3) []) λ c.
-      late-then Numbered (extendFrom (m .sites) (m .triangles) (m .hull) (tableOf m) (length (m .triangles) / 3) 0 (length (m .hull))
-      (extensions (c ++ cornersOf b) [] [])) _ (extends (m .sites) (m .triangles) (m .hull) (tableOf m) (length (m .triangles) / 3) 0 (length (m .hull)) _) λ x.
-      late-then Numbered (clipAll b (length (m .triangles) / 3) (m .triangles) (m .halfedges) (m .hull) (tableOf m) (siteCount (m .sites)) _ x) _
-      (all-cells (tableOf m) (siteCount (m .sites)) _ x) (λ s. tt)
+pub late-centers : (sites : List Float) (tri : List ℕ) (t k : ℕ) (vs : List Point) → Refuses Numbered (centersFrom sites tri t k vs)
+unfolding centersFrom
+late-centers sites tri t zero vs = tt
+late-centers sites tri t (suc k) vs =
+    both Numbered (okCenter (centerAt sites tri t)) _ _ (late-centers sites tri (suc t) k _) (record { least = omega arith; most = omega arith })
 
-pub unclipped-late : (sites : List Float) (tri he : List ℕ) → Refuses Numbered (unclipped sites tri he)
-unfolding unclipped
-unclipped-late sites tri he = late-then Numbered (centersFrom sites tri 0 (length tri / 3) []) _ (centers sites tri 0 _ []) (λ c. tt)
+pub late-extensions : (sites : List Float) (tri hull left : List ℕ) (nc i k : ℕ) (x : Extensions) → Refuses Numbered (extendFrom sites tri hull left nc i k x)
+unfolding extendFrom
+late-extensions sites tri hull left nc i zero x = tt
+late-extensions sites tri hull left nc i (suc k) x =
+    let p = extended sites tri (x .verts) (getD left _ 0) in
+    both Numbered (finite (p .x) && finite (p .y)) _ _ (late-extensions sites tri hull left nc (suc i) k _) (record { least = omega arith; most = omega arith })
