@@ -83,7 +83,7 @@ pub record BuiltCells (sites : List Float) (tri he hull table : List ℕ) (b : B
   pub made-ix : List ℕ
   pub made-off : List ℕ
   pub makes : MadeCells sites tri he hull table b owners v progress made-v made-ix made-off
-  pub settled : SettledCells (siteCount sites) progress owners made-v made-ix made-off r v₁ ix₁ off₁
+  pub settled : SettledCells (siteCount sites) (length tri / 3) progress owners made-v made-ix made-off r v₁ ix₁ off₁
   pub long-v : length made-v ≡ length v
   pub long-ix : length made-ix ≡ length ix
   pub long-off : length made-off ≡ length off
