@@ -38,9 +38,9 @@ extern "C" {
 
 /* ---- the version (the file VERSION; CHANGELOG.md says what changed) */
 
-#define VORONOI_VERSION "0.2.0"
+#define VORONOI_VERSION "0.3.0"
 #define VORONOI_VERSION_MAJOR 0
-#define VORONOI_VERSION_MINOR 2
+#define VORONOI_VERSION_MINOR 3
 #define VORONOI_VERSION_PATCH 0
 
 /* ---- numbers */
@@ -65,7 +65,7 @@ extern "C" {
 /* What the polygon of a cell of n entries takes in bytes. */
 #define VORONOI_WKB_ROOM(n) ((n) < 3 ? 9 : 29 + 16 * (size_t)(n))
 
-/* The places of a build's counts: the number of vertices, the owners of the four corners, the lost corners; how many they are. */
+/* The places of a build's counts: the number of vertices, the owners of the four corners, the lost corners (those in no cell); how many they are. */
 #define VORONOI_COUNT_VERTICES 0
 #define VORONOI_COUNT_OWNERS 1
 #define VORONOI_COUNT_LOST 5
@@ -243,7 +243,9 @@ uint32_t voronoi_cells_share_edge(const uint32_t *offsets, size_t offsets_len, c
  *             bottom left, bottom right, top right) and the points added
  *   indexes   the cells of all sites one after the other, each by its vertices' numbers
  *   offsets   where each site's cell begins in indexes, and where the last one ends
- *   counts    the number of vertices; the owners of the four corners as they were found; how many corners no cell took by wrapping */
+ *   counts    the number of vertices; the owners of the four corners as they were found; how many corners are lost: corner c is vertex
+ *             T + c of T triangles, and is lost exactly if that number stands in no cell. Areas that do not add up to the box may come
+ *             with none lost, and now and then a total is right with one lost (docs/RULES.md, "Lost corners") */
 
 /* The cells clipped to the box of centre (cx, cy), width and height. Tries 1, 2, 3, 6, 7 to 10, 11, and 12 to 15 as the builder meets them. */
 uint32_t voronoi_build(double cx, double cy, double width, double height, const double *sites, size_t sites_len,

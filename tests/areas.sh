@@ -1,6 +1,6 @@
 #!/bin/sh
 # README's example of a call from C, examples/areas.c: built, and run on "square" and on the thirty gauges; its areas are held to those of
-# the pieces by exact fractions (tests/areas.py), and their total to the box.
+# the pieces by exact fractions (tests/areas.py), and their total to the box. Then the totals and lost corners that docs/RULES.md tells.
 set -eu
 case ${1-} in
 --help | -h)
@@ -17,6 +17,20 @@ for name in square thirty; do
     sh tests/archive.sh run "$program" <"examples/$name.txt" >"$said"
     python3 tests/areas.py "examples/$name.txt" "$said"
 done
+while read -r total box lost mesh; do
+    sh tests/archive.sh run "$program" <"$mesh" | tail -n 1 >"$said"
+    want="total $total, the box $box, corners lost $lost"
+    if [ "$(cat "$said")" != "$want" ]; then
+        echo "$mesh: '$(cat "$said")', must be '$want'"
+        exit 1
+    fi
+done <<'END'
+4.000000 4.000000 0 tests/cells/corner_met.txt
+2.166667 4.000000 0 tests/cells/none_lost_short.txt
+4.000000 4.000000 1 tests/cells/one_lost_whole.txt
+2.750000 4.000000 1 harness/meshes/lost_corners.txt
+0.000000 0.015625 4 harness/meshes/covered_box.txt
+END
 # a refused mesh: the number, its words, status 1
 status=0
 sh tests/archive.sh run "$program" <harness/meshes/refused_13_lone.txt >"$said" || status=$?
@@ -24,4 +38,4 @@ if [ "$status" != 1 ] || ! grep -q '^refused 13: ' "$said"; then
     echo "a refused mesh: status $status, $(cat "$said")"
     exit 1
 fi
-echo "areas: right on both examples, and refused where it must be"
+echo "areas: right on both examples, five totals with their lost corners, and refused where it must be"

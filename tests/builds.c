@@ -200,12 +200,19 @@ static void listings(void)
     unclipped = 1;
     must_build("square, unclipped", ring_starts, rings, no_owners, points);
 
-    static const uint32_t lost_starts[] = {0, 3, 7, 11}, lost_entries[] = {0, 1, 9, 0, 9, 3, 8, 0, 8, 4, 1}, lost[] = {10, 2, 0, 1, 2, 2};
+    static const uint32_t lost_starts[] = {0, 3, 7, 11}, lost_entries[] = {0, 1, 9, 0, 9, 3, 8, 0, 8, 4, 1}, lost[] = {10, 2, 0, 1, 2, 1};
     static const double lost_points[] = {.25, .25, -1, -1, -1, 1, 1, 1, 1, -1, -0x1.a577eea39d8fcp32, -0x1.a577eea39d8fcp32,
                                          .25, 0x1.2a05f2002p33, 0x1.2a05f2002p33, .25, 1, .25, .25, 1};
     set_triangle(0, .5, .5, .5, .5, 0);
     hull[0] = 2, hull[1] = 0, hull[2] = 1;
-    must_build("two corners lost", lost_starts, lost_entries, lost, lost_points);
+    must_build("one corner lost, one met as a crossing", lost_starts, lost_entries, lost, lost_points);
+
+    static const uint32_t met_starts[] = {0, 4, 9, 12}, met_entries[] = {0, 8, 2, 3, 0, 9, 4, 1, 8, 0, 3, 9}, met[] = {10, 1, 0, 0, 1, 0};
+    static const double met_points[] = {1, -.5, -1, -1, -1, 1, 1, 1, 1, -1, 1, 9999999999.5,
+                                        0x1.0a8f61137fe47p33, -0x1.0a8f61137fe47p32, -9999999999., -.5, -1, -.5, 1, -.5};
+    set_triangle(.5, .5, .5, -1.5, 1.5, .5);
+    triangles[1] = hull[1] = 2, triangles[2] = hull[2] = 1;
+    must_build("a corner met as a crossing alone, none lost", met_starts, met_entries, met, met_points);
 
     static const uint32_t covered[] = {10, 0, 0, 0, 0, 4}, no_entries[] = {0, 0, 0, 0, 0};
     static const double covered_points[] = {0, 0, 0, 0, -.5625, -.5625, -.5625, -.4375, -.4375, -.4375, -.4375, -.5625, -1e10, 0, 0, 1e10, 1e10, 0, 0, -1e10};

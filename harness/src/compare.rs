@@ -123,6 +123,10 @@ fn build(c: &Case, facts: &Facts, area: Option<&Area>, outcome: &Outcome, calls:
             if vertices > 1.0 || entries > 1.0 {
                 return Err(format!("{name}: the room does not suffice"));
             }
+            if area.is_some() {
+                tally.corners[0] += b.lost as u64;
+                tally.corners[1] += b.met_alone();
+            }
             let cells = b.plain();
             let (leftmost, vertices, cells, owners) = (&b.leftmost[..], &b.vertices[..], &cells[..], &b.owners[..]);
             expect::built(0, Some(&Accepted { leftmost, vertices, cells, owners, lost: b.lost }), &entry)

@@ -477,6 +477,12 @@ impl Build {
     pub fn plain(&self) -> Vec<Vec<u32>> {
         self.cells.iter().map(|c| c.iter().map(|e| e.vertex).collect()).collect()
     }
+
+    /// How many corners of a clipped build are not lost although no cell took them by wrapping.
+    pub fn met_alone(&self) -> u64 {
+        let wrapped = self.cells.iter().flatten().filter(|e| e.mark == Mark::Wrapped).count() as u64;
+        4 - wrapped - self.lost as u64
+    }
 }
 
 pub fn circumcenters(m: &Mesh) -> Vec<Pt> {
@@ -599,10 +605,9 @@ fn clipped(m: &Mesh, area: Edges, vertices: Vec<Pt>, counts: &mut Counts) -> Res
             b.counts.at(Branch::CellStaysEmpty);
         }
     }
-    let mut lost = 4;
-    for e in cells.iter().flatten() {
-        lost -= (e.mark == Mark::Wrapped) as u32;
-    }
+    // A corner is lost exactly if its vertex number stands in no cell's list.
+    let stands = |corner: usize| cells.iter().flatten().any(|e| e.vertex as usize == corner);
+    let lost = (first_corner..first_corner + 4).filter(|&corner| !stands(corner)).count() as u32;
     if lost > 0 {
         b.counts.at(Branch::CornersLost);
     }

@@ -35,6 +35,8 @@ pub struct Tally {
     pub branches: Counts,
     /// How long the lent slice was against the list: 0, shorter, as long, longer.
     pub allowances: [u64; 4],
+    /// Corners of accepted builds: lost, and met by a crossing alone.
+    pub corners: [u64; 2],
     pub most_vertices: f64,
     pub most_entries: f64,
 }
@@ -104,6 +106,12 @@ impl Tally {
         for i in 0..BRANCHES {
             if self.branches.0[i] == 0 {
                 holes.push(Counts::name(i));
+            }
+        }
+        println!("\nCorners: lost {}, in a cell and not wrapped {}", self.corners[0], self.corners[1]);
+        for (i, name) in ["lost", "in a cell and not wrapped"].iter().enumerate() {
+            if self.corners[i] == 0 {
+                holes.push(format!("corner {name}"));
             }
         }
         println!("\nRoom used at most: vertices {:.3}, entries {:.3}", self.most_vertices, self.most_entries);

@@ -83,7 +83,7 @@ pub record BuiltCells (m : Mesh) (table : List ℕ) (b : BoundingBox) (owners : 
   pub made-ix : List ℕ
   pub made-off : List ℕ
   pub makes : MadeCells m table b owners v progress made-v made-ix made-off
-  pub settled : SettledCells (siteCount (m .sites)) progress owners made-v made-ix made-off r v₁ ix₁ off₁
+  pub settled : SettledCells (siteCount (m .sites)) (length (m .triangles) / 3) progress owners made-v made-ix made-off r v₁ ix₁ off₁
   pub long-v : length made-v ≡ length v
   pub long-ix : length made-ix ≡ length ix
   pub long-off : length made-off ≡ length off

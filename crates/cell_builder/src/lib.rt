@@ -86,7 +86,15 @@ fn clip_build(
         indexes,
         offsets,
     );
-    settle(vertices, indexes, offsets, sites.len() / 2, p, owners)
+    settle(
+        vertices,
+        indexes,
+        offsets,
+        sites.len() / 2,
+        triangles.len() / 3,
+        p,
+        owners,
+    )
 }
 
 // On an accepted mesh and slices with room. Refused, all three slices are cleared.

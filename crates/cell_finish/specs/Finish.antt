@@ -2,17 +2,17 @@
 use mathlib.Core.Path.{_≡_}
 use mathlib.Core.List.{List, []}
 use mathlib.Core.Logic.{_≢_}
-use Prim.Native.Nat.{ℕ, _*_, _≤_, _<_}
+use Prim.Native.Nat.{ℕ, _+_, _*_, _≤_, _<_}
 use lib.Ieee.{Float}
 use lib.ListN.{length, getD, replicate}
 use Rattle.laws.specs.Binary64.{zero}
 use Rattle.numbers.specs.Numbers.{EMPTY}
 use Rattle.layout.specs.Cleared.{clearedFrom}
-use Rattle.layout.specs.Regions.{Regions, StartsRise}
+use Rattle.layout.specs.Regions.{joined, Regions, StartsRise}
 use Rattle.definition.specs.declared.Fault.{Fault}
 use Rattle.definition.specs.Fault.{Outcome, ok, refused, fault}
 use Rattle.definition.specs.Build.{Built}
-use Rattle.definition.specs.Measures.{ownersLeft}
+use Rattle.definition.specs.Measures.{lostLeft}
 use Rattle.layout.specs.Outputs.{padded, Gathered}
 use Rattle.cell_finish.specs.declared.Progress.{Progress}
 use Rattle.cell_finish.specs.declared.CellsAnswer.{CellsAnswer}
@@ -29,19 +29,21 @@ pub record RefusedCells (e : Fault) (v : List Float) (ix off : List ℕ) (r : Ce
   pub indexes : ix₁ ≡ padded (length ix) EMPTY []
   pub offsets : off₁ ≡ padded (length off) EMPTY []
 
--- regions of n sites that can be moved together, and a count of vertices that the slice of so many numbers holds
-pub record Finishable (n count numbers : ℕ) (ix off : List ℕ) : Type 0 where
+-- regions of n sites that can be moved together, corners after the circumcenters, and a count of vertices that the slice of so many numbers holds
+pub record Finishable (n centers count numbers : ℕ) (ix off : List ℕ) : Type 0 where
   pub rising : StartsRise off n (length ix)
   pub small : getD off n 0 < EMPTY
+  pub corners : centers + 4 ≤ EMPTY
   pub room : 2 * count ≤ numbers
 
--- the cells that stood in the regions moved together, the vertices after the count cleared
-pub record FinishedCells (n : ℕ) (p : Progress) (found : List ℕ) (v : List Float) (ix off : List ℕ) (r : CellsAnswer) (v₁ : List Float) (ix₁ off₁ : List ℕ) : Type 0 where
-  pub answer : r ≡ record { fault = p .fault; count = p .count; owners = found; lost = ownersLeft (p .owners) }
+-- the cells that stood in the regions moved together, the vertices after the count cleared; lost are the corners not wrapped that are in no cell
+pub record FinishedCells (n centers : ℕ) (p : Progress) (found : List ℕ) (v : List Float) (ix off : List ℕ) (r : CellsAnswer) (v₁ : List Float) (ix₁ off₁ : List ℕ) : Type 0 where
+  pub answer : (cells : List (List ℕ)) → length cells ≡ n → Regions ix off cells
+      → r ≡ record { fault = p .fault; count = p .count; owners = found; lost = lostLeft centers (p .owners) (joined cells) }
   pub vertices : v₁ ≡ clearedFrom (2 * p .count) zero v
   pub gathered : (cells : List (List ℕ)) → length cells ≡ n → Regions ix off cells → Gathered cells ix off ix₁ off₁
 
 -- the one or the other, by the fault's number
-pub record SettledCells (n : ℕ) (p : Progress) (found : List ℕ) (v : List Float) (ix off : List ℕ) (r : CellsAnswer) (v₁ : List Float) (ix₁ off₁ : List ℕ) : Type 0 where
+pub record SettledCells (n centers : ℕ) (p : Progress) (found : List ℕ) (v : List Float) (ix off : List ℕ) (r : CellsAnswer) (v₁ : List Float) (ix₁ off₁ : List ℕ) : Type 0 where
   pub on-refusal : p .fault .number ≢ 0 → RefusedCells (p .fault) v ix off r v₁ ix₁ off₁
-  pub on-success : p .fault .number ≡ 0 → FinishedCells n p found v ix off r v₁ ix₁ off₁
+  pub on-success : p .fault .number ≡ 0 → FinishedCells n centers p found v ix off r v₁ ix₁ off₁

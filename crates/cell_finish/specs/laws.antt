@@ -1,2 +1,2 @@
 -- Laws that only proofs use.
-pub mod OwnersLeft
+pub mod LostLeft

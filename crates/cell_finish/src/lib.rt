@@ -1,14 +1,15 @@
-// The end of a clipped build: the corners still with their owners counted, the cells moved together, or all slices cleared.
+// The end of a clipped build: the cells moved together and the lost corners counted, or all slices cleared.
 use definition::Fault;
 use layout::clear_floats_from;
 use layout::outputs::clear_all;
 use layout::outputs::gather;
 use numbers::EMPTY;
+use shared::holds;
 ghost use mathlib.Core.Path.{_≡_};
-ghost use mathlib.Core.List.{[], _∷_};
-ghost use Prim.Native.Nat.{_≤_};
+ghost use Prim.Native.Nat.{_+_, _≤_};
 ghost use lib.ListN.{length};
-ghost use Rattle.definition.specs.Measures.{ownersLeft};
+ghost use Rattle.numbers.specs.Numbers.{EMPTY};
+ghost use Rattle.definition.specs.Measures.{ifLost, lostLeft};
 ghost use Rattle.cell_finish.specs.Finish.{RefusedCells, Finishable, FinishedCells, SettledCells};
 
 // How far the build is: its fault, whose number is 0 where there is none, the number of vertices, and the owners of corners not yet wrapped.
@@ -26,24 +27,28 @@ pub struct CellsAnswer {
     pub lost: u32,
 }
 
-// 1 where a corner is still with its owner.
-fn still(owner: u32) -> u32
-    ensures { λ r. ⌜ (r ≡ ownersLeft (owner ∷ [])) × (r ≤ 1) ⌝ }
+// 1 where the corner of vertex v is lost: with its owner still, and in no cell.
+fn lost_corner(entries: &[u32], v: u32, owner: u32) -> u32
+    ensures { λ r. ⌜ (r ≡ ifLost v owner (now (entries .entry))) × (r ≤ 1) ⌝ }
 {
     if owner == EMPTY {
+        return 0;
+    }
+    if holds(entries, v) {
         return 0;
     }
     1
 }
 
-// How many corners are still with their owners.
-fn left_over(owners: [u32; 4]) -> u32
-    ensures { λ r. ⌜ r ≡ ownersLeft owners ⌝ }
+// How many of the corners, the four vertices from `first` on, are lost. Only one that was not wrapped is searched for.
+fn lost_corners(entries: &[u32], first: usize, left: [u32; 4]) -> u32
+    requires { ⌜ first + 4 ≤ EMPTY ⌝ }
+    ensures { λ r. ⌜ r ≡ lostLeft first left (now (entries .entry)) ⌝ }
 {
     let mut n: u32 = 0;
     let mut k: usize = 0;
     while k < 4 {
-        n += still(owners[k]);
+        n += lost_corner(entries, (first + k) as u32, left[k]);
         k += 1;
     }
     n
@@ -68,19 +73,21 @@ pub fn refuse(
     }
 }
 
-// The cells moved together, the vertices cleared past their count, and the answer with the owners as found.
+// The cells moved together, the vertices cleared past their count, and the answer with the owners as found and the corners lost; `centers` is the first corner's vertex.
 fn finish(
     vertices: &mut [f64],
     indexes: &mut [u32],
     offsets: &mut [u32],
     sites: usize,
+    centers: usize,
     p: Progress,
     owners: [u32; 4],
 ) -> CellsAnswer
-    requires { ⌜ Finishable sites (p .count) (length (now vertices)) (now indexes) (now offsets) ⌝ }
-    ensures { λ r. ⌜ FinishedCells sites p owners (now (vertices .entry)) (now (indexes .entry)) (now (offsets .entry)) r (now (vertices .exit)) (now (indexes .exit)) (now (offsets .exit)) ⌝ }
+    requires { ⌜ Finishable sites centers (p .count) (length (now vertices)) (now indexes) (now offsets) ⌝ }
+    ensures { λ r. ⌜ FinishedCells sites centers p owners (now (vertices .entry)) (now (indexes .entry)) (now (offsets .entry)) r (now (vertices .exit))
+        (now (indexes .exit)) (now (offsets .exit)) ⌝ }
 {
-    gather(indexes, offsets, sites);
+    let used = gather(indexes, offsets, sites);
     clear_floats_from(vertices, 2 * p.count);
     let fault = p.fault;
     let left = p.owners;
@@ -88,7 +95,7 @@ fn finish(
         fault: fault,
         count: p.count,
         owners: owners,
-        lost: left_over(left),
+        lost: lost_corners(&indexes[..used], centers, left),
     }
 }
 
@@ -98,16 +105,17 @@ pub fn settle(
     indexes: &mut [u32],
     offsets: &mut [u32],
     sites: usize,
+    centers: usize,
     p: Progress,
     owners: [u32; 4],
 ) -> CellsAnswer
-    requires { ⌜ (p .fault .number ≡ 0 → Finishable sites (p .count) (length (now vertices)) (now indexes) (now offsets)) ⌝ }
-    ensures { λ r. ⌜ SettledCells sites p owners (now (vertices .entry)) (now (indexes .entry)) (now (offsets .entry)) r (now (vertices .exit))
+    requires { ⌜ (p .fault .number ≡ 0 → Finishable sites centers (p .count) (length (now vertices)) (now indexes) (now offsets)) ⌝ }
+    ensures { λ r. ⌜ SettledCells sites centers p owners (now (vertices .entry)) (now (indexes .entry)) (now (offsets .entry)) r (now (vertices .exit))
         (now (indexes .exit)) (now (offsets .exit)) ⌝ }
 {
     let fault = p.fault;
     if fault.number != 0 {
         return refuse(vertices, indexes, offsets, fault);
     }
-    finish(vertices, indexes, offsets, sites, p, owners)
+    finish(vertices, indexes, offsets, sites, centers, p, owners)
 }

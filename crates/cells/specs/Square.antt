@@ -18,7 +18,7 @@ use Rattle.iterator.specs.Neighbours.{lastEnd, startsOf, neighboursOf}
 use Rattle.paths.specs.Path.{distOf, nearestOf, hopOf, pathEnd}
 use Rattle.definition.specs.Cell.{wraps, withCorners, insertAt, insertEdge, edgeCrossing, clipWith, clipEdge, leave, enterAt, enter, link, crossAt, cross}
 use Rattle.definition.specs.Cell.{clipStep, inBox, stepTo, stepsTo, firstInside, turned, clipFrom, clipCell}
-use Rattle.definition.specs.Build.{Built, centerAt, centersFrom, ownersFrom, extended, extendFrom, hullRing, clipInto, clipHull, clipRest, wrappedIn, allWrapped, lostFrom, clipAll, build}
+use Rattle.definition.specs.Build.{Built, centerAt, centersFrom, ownersFrom, extended, extendFrom, hullRing, clipInto, clipHull, clipRest, allEntries, lostFrom, clipAll, build}
 use Prim.Native.Nat.{ℕ}
 use lib.ListN.{length}
 use Rattle.definition.specs.declared.Fault.{Fault}
@@ -44,6 +44,6 @@ unfolding trailingZeros ofBits add sub mul div lt le eq neg sum round units odd 
     uprightHit settleOf lineOf orderBy orderOne orderTwo rayOf nearPt findNear addVertex nextOf chosen tableTo turnOf walkOf nextPlace lastEnd startsOf
     neighboursOf distOf nearestOf hopOf pathEnd andThen atEdge wraps withCorners insertAt insertEdge edgeCrossing clipWith clipEdge leave enterAt enter
     link crossAt cross clipStep inBox stepTo stepsTo firstInside turned clipFrom clipCell centerAt centersFrom ownersFrom extended extendFrom hullRing
-    clipInto clipHull clipRest wrappedIn allWrapped lostFrom clipAll build formOf squareBytes linesOf digits decimal entries labelled counts cellLine
+    clipInto clipHull clipRest allEntries lostFrom clipAll build formOf squareBytes linesOf digits decimal entries labelled counts cellLine
     corners
 rows = (refl, refl, refl)

@@ -23,7 +23,7 @@ use Rattle.mesh.specs.Hull.{nextSite}
 use Rattle.paths.specs.Path.{pathEnd}
 use Rattle.definition.specs.declared.Fault.{Fault}
 use Rattle.definition.specs.Fault.{Outcome, ok, refused, andThen, badCenter, notFinite}
-use Rattle.definition.specs.Cell.{Mark, plain, crossing, wrapped, Entry, Taken, took, extension, vertexAt, clipCell}
+use Rattle.definition.specs.Cell.{Mark, plain, crossing, wrapped, Entry, unmarked, Taken, took, extension, vertexAt, clipCell}
 
 -- ---- vertices and owners to begin with
 
@@ -133,7 +133,7 @@ clipRest b nc tri he e (suc k) s =
     andThen (pick (isEmpty (getD (s .cells) site [])) (λ _. clipInto b nc site (ringFrom he e) s) (λ _. ok s)) λ r.
     clipRest b nc tri he (suc e) k r
 
--- ---- lost corners, told by the marks
+-- ---- wrapped corners, told by the marks
 
 abbrev pub ifWrapped : Mark → ℕ → List ℕ
 ifWrapped plain v = []
@@ -149,10 +149,17 @@ unfoldable pub allWrapped : List (List Entry) → List ℕ
 allWrapped [] = []
 allWrapped (c ∷ cs) = wrappedIn c ++ allWrapped cs
 
--- how many of the k corners from vertex v on no cell took by wrapping
+-- ---- lost corners, told by the entries
+
+-- the entries of all cells together, of every mark
+unfoldable pub allEntries : List (List Entry) → List ℕ
+allEntries [] = []
+allEntries (c ∷ cs) = unmarked c ++ allEntries cs
+
+-- how many of the k corners from vertex v on stand in no cell
 unfoldable pub lostFrom : ℕ → ℕ → List (List Entry) → ℕ
 lostFrom v zero cells = 0
-lostFrom v (suc k) cells = pick (eqb (occ v (allWrapped cells)) 0) (λ _. 1) (λ _. 0) + lostFrom (suc v) k cells
+lostFrom v (suc k) cells = pick (eqb (occ v (allEntries cells)) 0) (λ _. 1) (λ _. 0) + lostFrom (suc v) k cells
 
 -- ---- the build
 

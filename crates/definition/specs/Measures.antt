@@ -1,4 +1,4 @@
--- What the theorems count: new points, sums over all cells, a site's share, entries in their places, owners left; and the room that a build keeps to.
+-- What the theorems count: new points, sums over all cells, a site's share, entries in their places, corners that are lost; and the room that a build keeps to.
 use mathlib.Core.Path.{_≡_}
 use mathlib.Core.Bool.{Bool, true, false}
 use mathlib.Core.List.{List, [], _∷_}
@@ -40,10 +40,14 @@ abbrev pub ValidEntries : (ℕ → Type 0) → ℕ → ℕ → List Entry → Ty
 ValidEntries P nc n [] = Unit {0}
 ValidEntries P nc n (e ∷ es) = ValidEntry P nc n (e .mark) (e .at) × ValidEntries P nc n es
 
--- how many owners are left
-abbrev pub ownersLeft : List ℕ → ℕ
-ownersLeft [] = 0
-ownersLeft (o ∷ os) = pick (eqb o EMPTY) (λ _. 0) (λ _. 1) + ownersLeft os
+-- 1 where the corner of vertex v is with its owner o still and stands not among the entries l
+abbrev pub ifLost : ℕ → ℕ → List ℕ → ℕ
+ifLost v o l = pick (eqb o EMPTY) (λ _. 0) (λ _. pick (eqb (occ v l) 0) (λ _. 1) (λ _. 0))
+
+-- how many such corners there are from vertex v on, by the owners left
+abbrev pub lostLeft : ℕ → List ℕ → List ℕ → ℕ
+lostLeft v [] l = 0
+lostLeft v (o ∷ os) l = ifLost v o l + lostLeft (suc v) os l
 
 -- T triangles, H hull places: at most 7T + 5H + 4 vertices and 9T + 6H + 4 entries, and each entry is a vertex: plain ones circumcenters inside the box,
 -- crossings after the circumcenters

@@ -22,7 +22,7 @@ use Rattle.definition.specs.Fault.{ok, andThen, atEdge}
 use Rattle.definition.specs.Rows.{floats, rowBox, t, x, w, rowOf}
 use Rattle.definition.specs.Cell.{wraps, withCorners, insertAt, insertEdge, edgeCrossing, clipWith, clipEdge, leave, enterAt, enter, link, crossAt, cross, clipStep, inBox, stepTo}
 use Rattle.definition.specs.Cell.{stepsTo, firstInside, turned, clipFrom, clipCell}
-use Rattle.definition.specs.Build.{centerAt, centersFrom, ownersFrom, extended, extendFrom, hullRing, clipInto, clipHull, clipRest, wrappedIn, allWrapped, lostFrom, clipAll, build}
+use Rattle.definition.specs.Build.{centerAt, centersFrom, ownersFrom, extended, extendFrom, hullRing, clipInto, clipHull, clipRest, allEntries, lostFrom, clipAll, build}
 use Rattle.definition.specs.Unclipped.{ringsFrom, unclipped}
 
 pub rows :
@@ -65,7 +65,7 @@ pub rows :
           0x41f0a8f6112bfe47 ∷ 0x41f0a8f6113bfe47 ∷ 0xc200a8f61131fe47 ∷ 0x41f0a8f61129539c ∷ 0xc200a8f61133539c ∷ 0xc20211fffb4ef5bb ∷ 0xc1e211fffb58f5bb ∷ []);
       cells = ([]) ∷ (x 4 ∷ x 4 ∷ []) ∷ ([]) ∷ ([]) ∷ (x 4 ∷ x 4 ∷ []) ∷ [];
       owners = 1 ∷ 1 ∷ 1 ∷ 1 ∷ [];
-      lost = 4;
+      lost = 3;
     }))
     -- a cell that covers the whole box is empty, and all corners are lost
     × (rowOf
@@ -143,7 +143,7 @@ pub rows :
           0x3ff0000000000000 ∷ 0x3fd0000000000000 ∷ 0x3fd0000000000000 ∷ 0x3ff0000000000000 ∷ []);
       cells = (t 0 ∷ x 1 ∷ x 9 ∷ []) ∷ (t 0 ∷ x 9 ∷ w 3 ∷ x 8 ∷ []) ∷ (t 0 ∷ x 8 ∷ w 4 ∷ x 1 ∷ []) ∷ [];
       owners = 2 ∷ 0 ∷ 1 ∷ 2 ∷ [];
-      lost = 2;
+      lost = 1;
     }))
     -- the marks: of the three 2s of cell 0 one is wrapped, two are crossings that reuse the corner
     × (rowOf
@@ -183,7 +183,7 @@ pub rows :
           0xbff0000000000000 ∷ 0x3fe8000000000000 ∷ 0x3ff0000000000000 ∷ 0xbfd0000000000000 ∷ []);
       cells = (t 0 ∷ x 9 ∷ x 4 ∷ []) ∷ (t 0 ∷ x 4 ∷ w 1 ∷ x 8 ∷ []) ∷ (t 0 ∷ x 8 ∷ w 2 ∷ w 3 ∷ x 9 ∷ []) ∷ [];
       owners = 1 ∷ 2 ∷ 2 ∷ 1 ∷ [];
-      lost = 1;
+      lost = 0;
     }))
     -- the first hull cell has no vertex inside, and its walk begins at the extension after it
     × (rowOf
@@ -260,7 +260,7 @@ pub rows :
           0x41fa577eea3dd8fc ∷ 0 ∷ 0xc202a05f20000000 ∷ 0xc1e78f90e385635d ∷ 0x4201abacaaa40a86 ∷ 0 ∷ 0 ∷ 0xbfcaaaaaaaaaaaab ∷ 0x3fe4000000000000 ∷ []);
       cells = (t 0 ∷ x 4 ∷ w 1 ∷ w 2 ∷ x 8 ∷ []) ∷ (t 0 ∷ x 8 ∷ x 8 ∷ []) ∷ (t 0 ∷ x 8 ∷ x 4 ∷ []) ∷ [];
       owners = 0 ∷ 0 ∷ 1 ∷ 0 ∷ [];
-      lost = 2;
+      lost = 1;
     }))
     -- "square" with a fifth, unused site
     × (rowOf
@@ -290,5 +290,5 @@ unfolding trailingZeros ofBits add sub mul div lt le eq neg sum round units odd 
     startsOf neighboursOf distOf nearestOf hopOf pathEnd andThen atEdge wraps withCorners insertAt insertEdge
     edgeCrossing clipWith clipEdge leave enterAt enter link crossAt cross clipStep inBox stepTo stepsTo
     firstInside turned clipFrom clipCell centerAt centersFrom ownersFrom extended extendFrom hullRing clipInto
-    clipHull clipRest wrappedIn allWrapped lostFrom clipAll build ringsFrom unclipped rowOf
+    clipHull clipRest allEntries lostFrom clipAll build ringsFrom unclipped rowOf
 rows = (refl, refl, refl, refl, refl, refl, refl, refl, refl, refl, refl, refl, refl)

@@ -12,6 +12,7 @@ pub mod AllCells
 pub mod Start
 pub mod Owners
 pub mod Lowest
+pub mod LostCorners
 pub mod Built
 pub mod VerticesFinite
 pub mod CellCount

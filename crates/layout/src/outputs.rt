@@ -11,7 +11,7 @@ ghost use lib.ListN.{length, getD};
 ghost use Rattle.laws.specs.Decide.{Says};
 ghost use Rattle.laws.specs.Binary64.{zero};
 ghost use Rattle.numbers.specs.Numbers.{EMPTY};
-ghost use Rattle.layout.specs.Regions.{Regions, StartsRise};
+ghost use Rattle.layout.specs.Regions.{joined, Regions, StartsRise};
 ghost use Rattle.layout.specs.Rooms.{Roomy};
 ghost use Rattle.layout.specs.Outputs.{padded, Rooms, LaidOut, Gathered};
 
@@ -55,15 +55,16 @@ pub fn lay_out(
     region_starts(triangles, hull, owners, offsets, sites);
 }
 
-// Moves the cells together, turns the starts of their regions into offsets, and clears what is left over of both slices.
-pub fn gather(indexes: &mut [u32], offsets: &mut [u32], sites: usize)
+// Moves the cells together, turns the starts of their regions into offsets, and clears what is left over of both slices. Answers how many entries there are.
+pub fn gather(indexes: &mut [u32], offsets: &mut [u32], sites: usize) -> usize
     requires { ⌜ StartsRise (now offsets) sites (length (now indexes)) × (getD (now offsets) sites 0 < EMPTY) ⌝ }
-    ensures { λ _. ⌜ ((cells : List (List ℕ)) → length cells ≡ sites → Regions (now (indexes .entry)) (now (offsets .entry)) cells
-        → Gathered cells (now (indexes .entry)) (now (offsets .entry)) (now (indexes .exit)) (now (offsets .exit))) ⌝ }
+    ensures { λ r. ⌜ (r ≤ length (now (indexes .entry))) × ((cells : List (List ℕ)) → length cells ≡ sites → Regions (now (indexes .entry)) (now (offsets .entry)) cells
+        → (r ≡ length (joined cells)) × Gathered cells (now (indexes .entry)) (now (offsets .entry)) (now (indexes .exit)) (now (offsets .exit))) ⌝ }
 {
     let used = compact(indexes, offsets, sites);
     fill_from(indexes, used, EMPTY);
     fill_from(offsets, sites + 1, EMPTY);
+    used
 }
 
 // Clears the three slices whole.

@@ -39,7 +39,8 @@ pub fn cell<'a>(offsets: &[u32], indexes: &'a [u32], s: usize) -> &'a [u32]
     &indexes[from..to]
 }
 
-fn holds(b: &[u32], x: u32) -> bool
+// Whether x stands in the list.
+pub fn holds(b: &[u32], x: u32) -> bool
     ensures { λ r. ⌜ r ≡ holdsOf (now (b .entry)) x ⌝ }
 {
     let mut i = 0;

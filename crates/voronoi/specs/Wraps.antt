@@ -33,5 +33,5 @@ pub record Wraps (m : Mesh) (b : BoundingBox) (old new : Slices) : Type 0 where
   pub corners-alone : (v s : ℕ) → 0 < occ v (wrappedIn (getD marked s [])) → (length (m .triangles) / 3 ≤ v) × (v < length (m .triangles) / 3 + 4)
   -- the owner is where the path to the corner ends, the first one from the first hull site, each next one from the owner before
   pub owners : (c : ℕ) → c < 4 → PathStops m (getD (cornersOf b) c (at nan nan)) (getD (getD (m .hull) 0 0 ∷ drop 1 (new .counts)) c 0) (getD (new .counts) (suc c) 0)
-  -- the lost corners are those that no cell took by wrapping
+  -- the lost corners are those that stand in no cell, whatever the marks
   pub lost : getD (new .counts) 5 0 ≡ lostFrom (length (m .triangles) / 3) 4 marked

@@ -1,5 +1,5 @@
 -- From the outcomes of the circumcenters, the extensions and the cells to the build's: refused, all slices are cleared; else vertices and cells stand at their beginnings,
--- and the corners still with their owners are those lost.
+-- and the corners still with their owners that stand in no cell are those lost.
 use mathlib.Core.Path.{_≡_, refl, sym, ap, _∙_}
 use mathlib.Core.List.{List, [], _++_, map}
 use mathlib.Core.Logic.{_⊎_, inl, inr, ⊎-elim, _≢_}
@@ -15,12 +15,14 @@ use Rattle.bounding_box.specs.declared.BoundingBox.{BoundingBox}
 use Rattle.vertices.specs.laws.Points.{length-points, points-pour, pour-points}
 use Rattle.mesh.specs.Mesh.{leftmostOf}
 use Rattle.mesh.specs.Accepted.{Mesh, mesh, siteCount}
+use Rattle.layout.specs.Regions.{joined}
 use Rattle.layout.specs.laws.Regions.{regions-rising}
+use Rattle.layout.specs.laws.Marks.{entries-joined}
 use Rattle.definition.specs.declared.Fault.{Fault}
 use Rattle.definition.specs.Fault.{Outcome, ok, refused, andThen, badCenter}
 use Rattle.definition.specs.Build.{Built, centersFrom, ownersFrom, Extensions, extensions, extendFrom, CellState, clipAll, lostFrom, build}
-use Rattle.definition.specs.laws.Built.{owner-of, lost-is-left}
-use Rattle.definition.specs.Measures.{ownersLeft}
+use Rattle.definition.specs.laws.Built.{owner-of, lost-entries}
+use Rattle.definition.specs.Measures.{lostLeft}
 use Rattle.definition.specs.laws.Owners.{owners-length, ready, towards-corner}
 use Rattle.rings.specs.Centers.{CentersBy}
 use Rattle.rings.specs.Ownership.{Owned}
@@ -43,22 +45,23 @@ answer-same p q r s = rw (p, q, r, s)
 module _ (m : Mesh) (table : List ℕ) (b : BoundingBox) (owners : List ℕ) (p : Progress) (v₂ : List Float) (ix₂ off₂ : List ℕ) where
   amid-finishable : (x : Extensions) (s : CellState)
       → Amid (m .triangles) (m .halfedges) (frameOf b (length (m .triangles)) (length (m .hull))) off₂ (ground (m .hull) (siteCount (m .sites)) owners x) s p v₂ ix₂
-      → Finishable (siteCount (m .sites)) (p .count) (length v₂) ix₂ off₂
+      → Finishable (siteCount (m .sites)) (length (m .triangles) / 3) (p .count) (length v₂) ix₂ off₂
   amid-finishable x s a =
       let wide : length (map unmarked (s .cells)) ≡ siteCount (m .sites) = length-map (s .cells) unmarked ∙ a .held .width in
       record {
         rising = rw wide at (regions-rising ix₂ off₂ (map unmarked (s .cells)) (a .regions));
         small = omega (arith, last-start (a .on), a .on .stage, a .on .few-entries, a .on .few-on-hull);
+        corners = omega (arith, a .on .few-entries);
         room = a .holds .room;
       }
 
   pub finishable : (o : Outcome Fault Extensions) → Makes m table b owners o p v₂ ix₂ off₂ → p .fault .number ≡ 0
-      → Finishable (siteCount (m .sites)) (p .count) (length v₂) ix₂ off₂
+      → Finishable (siteCount (m .sites)) (length (m .triangles) / 3) (p .count) (length v₂) ix₂ off₂
   finishable (refused e) k q = absurd (omega (arith, k .1, ap (λ (d : Fault). d .number) (k .0)))
   finishable (ok x) k q = by (clipAll b (length (m .triangles) / 3) (m .triangles) (m .halfedges) (m .hull) table (siteCount (m .sites)) owners x) k
     where
       by : (o : Outcome Fault CellState) → Does (m .triangles) (m .halfedges) (frameOf b (length (m .triangles)) (length (m .hull))) off₂ (ground (m .hull) (siteCount (m .sites)) owners x) o p v₂ ix₂
-          → Finishable (siteCount (m .sites)) (p .count) (length v₂) ix₂ off₂
+          → Finishable (siteCount (m .sites)) (length (m .triangles) / 3) (p .count) (length v₂) ix₂ off₂
       by (ok s) d = amid-finishable x s d
       by (refused e) d = absurd (omega (arith, d .1, ap (λ (f : Fault). f .number) (d .0)))
 
@@ -193,9 +196,11 @@ module _ {sites : List Float} {tri he hull table : List ℕ} {b : BoundingBox} {
           let a = m₂ .3 in
           let wide : length (map unmarked (s .cells)) ≡ n = length-map (s .cells) unmarked ∙ a .held .width in
           let g = z .gathered (map unmarked (s .cells)) wide (a .regions) in
-          let lost : ownersLeft (p .owners) ≡ lostFrom T 4 (s .cells) = ap ownersLeft (sym (a .owners)) ∙ sym (lost-is-left (m .mesh) (m .box) _ _ _ s (a .held)) in
+          let lost : lostLeft T (p .owners) (joined (map unmarked (s .cells))) ≡ lostFrom T 4 (s .cells) =
+          ap (λ (os : List ℕ). lostLeft T os (joined (map unmarked (s .cells)))) (sym (a .owners))
+          ∙ ap (lostLeft T (s .owners)) (entries-joined (s .cells)) ∙ sym (lost-entries (m .mesh) (m .box) _ _ _ s (a .held)) in
           rw (goes-on t v v₁ c h ∙ m₂ .2) (
-            z .answer ∙ answer-same (a .fine) (count-is a) qo lost,
+            z .answer (map unmarked (s .cells)) wide (a .regions) ∙ answer-same (a .fine) (count-is a) qo lost,
             record {
               vertices = rw (a .verts, ← (w .long-v ∙ long)) (poured-cleared (points (p .count) (w .made-v)) (p .count) (w .made-v) (w .made-v) v₃
                   (length-points (w .made-v) 0 (p .count)) (a .holds .room) (sym (pour-points (w .made-v) (p .count) (a .holds .room))) (z .vertices));

@@ -1,14 +1,13 @@
 -- From start to end: what the cells hold at the end gives the theorems on wrapping and room.
-use mathlib.Core.Path.{_≡_, refl, ap, _∙_}
+use mathlib.Core.Path.{_≡_, refl, _∙_}
 use mathlib.Core.Bool.{true}
 use mathlib.Core.List.{List, [], _∷_, _++_}
-use mathlib.Core.Logic.{_⊎_, inl, inr, ⊎-elim, _≢_}
-use Prim.Native.Nat.{ℕ, suc, _+_, _*_, _/_, _≤_, _<_}
+use mathlib.Core.Logic.{inl, inr, ⊎-elim}
+use Prim.Native.Nat.{ℕ, _+_, _*_, _/_, _≤_, _<_}
 use native.Mathlib.Omega.{arith}
 use native.Mathlib.Nat.{add-zero}
 use lib.Ieee.{Float}
 use lib.ListN.{length, getD, length-append}
-use borrow.Author.Tests.{eq-eqb, ne-eqb}
 use Rattle.laws.specs.Count.{occ}
 use Rattle.laws.specs.laws.Count.{occ-length, same-cases}
 use Rattle.numbers.specs.Numbers.{EMPTY}
@@ -21,32 +20,17 @@ use Rattle.mesh.specs.Accepted.{mesh, Accepted, siteCount}
 use Rattle.mesh.specs.laws.Facts.{topology}
 use Rattle.paths.specs.Path.{lastOf}
 use Rattle.definition.specs.Cell.{Mark, plain, crossing, wrapped, Entry, inBox}
-use Rattle.definition.specs.Build.{centersFrom, ownersFrom, Extensions, extensions, extendFrom, CellState, clipAll, ifWrapped, wrappedIn, allWrapped, lostFrom, Built, build}
+use Rattle.definition.specs.Build.{centersFrom, ownersFrom, Extensions, extensions, extendFrom, CellState, clipAll, ifWrapped, wrappedIn, allEntries, lostFrom, Built, build}
 use Rattle.definition.specs.laws.Gives.{Gives, gives-then}
-use Rattle.definition.specs.Measures.{ValidEntry, ValidEntries, newPoints, shareOf, Room, ownersLeft}
+use Rattle.definition.specs.Measures.{ValidEntry, ValidEntries, newPoints, shareOf, Room, lostLeft}
 use Rattle.definition.specs.laws.Puts.{all-turned}
+use Rattle.definition.specs.laws.LostCorners.{lost-left}
 use Rattle.definition.specs.laws.Inside.{in-grown}
 use Rattle.definition.specs.laws.CellsSoFar.{CellsSoFar}
 use Rattle.definition.specs.laws.Owners.{owners-length, owner, ready, towards-corner}
 use Rattle.definition.specs.laws.AllCells.{all-filled, clip-all}
 use Rattle.definition.specs.laws.Start.{centers-from, Extended, extend-from}
 use Rattle.definition.specs.Wrapping.{pathTo, Wrapping}
-
-module _ (nc : ℕ) (cells : List (List Entry)) where
-  abbrev Told : ℕ → ℕ → Type 0
-  Told i o = ((o ≢ EMPTY) × (occ (nc + i) (allWrapped cells) ≡ 0)) ⊎ ((o ≡ EMPTY) × (occ (nc + i) (allWrapped cells) ≡ 1))
-
-  lost-left : (os : List ℕ) (i : ℕ) → ((c : ℕ) → c < length os → Told (i + c) (getD os c 0)) → lostFrom (nc + i) (length os) cells ≡ ownersLeft os
-  unfolding lostFrom
-  lost-left [] i h = refl
-  lost-left (o ∷ os) i h =
-      let rest : lostFrom (nc + suc i) (length os) cells ≡ ownersLeft os = lost-left os (suc i) (λ c l. let q : suc i + c ≡ i + suc c = omega arith in rw q (h (suc c) (omega arith))) in
-      let q : nc + suc i ≡ suc (nc + i) = omega arith in
-      let rest₁ : lostFrom (suc (nc + i)) (length os) cells ≡ ownersLeft os = rw q at rest in
-      ⊎-elim
-      (λ w. rw (eq-eqb (occ (nc + i) (allWrapped cells)) 0 (w .1), ne-eqb o EMPTY (w .0)) (ap (λ (m : ℕ). 1 + m) rest₁))
-      (λ w. rw (ne-eqb (occ (nc + i) (allWrapped cells)) 0 (omega (arith, w .1)), eq-eqb o EMPTY (w .0)) (ap (λ (m : ℕ). 0 + m) rest₁))
-      (rw (add-zero i) at (h 0 (omega arith)))
 
 -- a wrapped entry is a corner
 wrapped-placed : (P : ℕ → Type 0) (nc n v : ℕ) (es : List Entry) → ValidEntries P nc n es → 0 < occ v (wrappedIn es) → (nc ≤ v) × (v < nc + 4)
@@ -80,14 +64,14 @@ module _ {sites : List Float} {tri he hull : List ℕ} (a : Accepted (mesh sites
   owner-of c l =
       owner sites tri he table (siteCount sites) (ready a) (cornersOf b) (getD hull 0 0) first-site (λ d k. towards-corner a box d (rw four-corners at k)) c (rw four-corners l)
 
-  -- the lost corners, told by the marks, are those whose owners are left
-  pub lost-is-left : (u : ℕ → ℕ) (vs : List Point) (begun : ℕ) (s : CellState) → CellsSoFar b (length tri / 3) (siteCount sites) u vs found begun s
-      → lostFrom (length tri / 3) 4 (s .cells) ≡ ownersLeft (s .owners)
-  lost-is-left u vs begun s h =
+  -- the lost corners are those that are with their owners still and stand in no cell
+  pub lost-entries : (u : ℕ → ℕ) (vs : List Point) (begun : ℕ) (s : CellState) → CellsSoFar b (length tri / 3) (siteCount sites) u vs found begun s
+      → lostFrom (length tri / 3) 4 (s .cells) ≡ lostLeft (length tri / 3) (s .owners) (allEntries (s .cells))
+  lost-entries u vs begun s h =
       let nc = length tri / 3 in
-      let q : lostFrom (nc + 0) (length (s .owners)) (s .cells) ≡ ownersLeft (s .owners) =
+      let q : lostFrom (nc + 0) (length (s .owners)) (s .cells) ≡ lostLeft (nc + 0) (s .owners) (allEntries (s .cells)) =
       lost-left nc (s .cells) (s .owners) 0 (λ c l. let z : 0 + c ≡ c = omega arith in rw z (⊎-elim
-      (λ x. inl (omega (arith, x .0, owner-of c (omega (arith, h .four)) .1, a .counts .few-sites), x .1))
+      (λ x. inl (omega (arith, x .0, owner-of c (omega (arith, h .four)) .1, a .counts .few-sites)))
       (λ x. inr x)
       (h .corner c (omega (arith, h .four))))) in
       rw (add-zero nc, h .four) at q

@@ -1,5 +1,5 @@
 -- The counts of a build that is not refused: one cell for each site, since a try sets the cell of its site and changes no other; four owners; the lost corners are
--- those that the marks show.
+-- those that stand in no cell.
 use mathlib.Core.Path.{_≡_, refl, ap, _∙_}
 use mathlib.Core.List.{List, [], _++_}
 use Prim.Native.Nat.{ℕ, zero, suc, _/_}
@@ -63,7 +63,7 @@ cell-count m b =
     gives-next _ (extendFrom (m .sites) (m .triangles) (m .hull) left nc 0 (length (m .hull)) (extensions (c ++ cornersOf b) [] [])) _ λ x.
     gives-then (Many n) _ (clipAll b nc (m .triangles) (m .halfedges) (m .hull) left n _ x) _ (on-all n b nc (m .triangles) (m .halfedges) (m .hull) left _ x) (λ s g. g)
 
--- the owners are those that the paths to the corners find, and the lost corners are tallied by the marks
+-- the owners are those that the paths to the corners find, and the lost corners are tallied over all entries
 pub record CellsTallied (m : Mesh) (b : BoundingBox) (r : Built) : Type 0 where
   pub found : r .owners ≡ ownersFrom (m .sites) (m .triangles) (m .halfedges) (tableOf m) (siteCount (m .sites)) (getD (m .hull) 0 0) (cornersOf b)
   pub lost : r .lost ≡ lostFrom (length (m .triangles) / 3) 4 (r .cells)

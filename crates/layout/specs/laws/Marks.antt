@@ -1,7 +1,7 @@
 -- The definition's marked cells in their regions: what the index list holds is the cells with the marks taken off.
 use mathlib.Core.Path.{_≡_, refl, sym, ap, _∙_}
 use mathlib.Core.Bool.{false}
-use mathlib.Core.List.{List, [], _∷_, map}
+use mathlib.Core.List.{List, [], _∷_, _++_, map}
 use mathlib.Core.Logic.{_≢_}
 use Prim.Native.Nat.{ℕ, zero, suc, _+_, _≤_, _<_}
 use native.Mathlib.Omega.{arith}
@@ -9,8 +9,8 @@ use lib.ListN.{length, getD, set, replicate, length-map, List·getD-map}
 use lib.Seq.{sets}
 use Rattle.numbers.specs.Numbers.{EMPTY}
 use Rattle.definition.specs.Cell.{Entry, unmarked}
-use Rattle.definition.specs.Build.{isEmpty}
-use Rattle.layout.specs.Regions.{Regions}
+use Rattle.definition.specs.Build.{isEmpty, allEntries}
+use Rattle.layout.specs.Regions.{joined, Regions}
 use Rattle.layout.specs.laws.Regions.{begins-empty, begins-full, regions-set}
 
 unmarked-none : (c : List Entry) → unmarked c ≡ [] → c ≡ []
@@ -29,6 +29,12 @@ set-unmarked (d ∷ cells) (suc s) c = ap (λ (l : List (List ℕ)). unmarked d 
 pub none-unmarked : (n : ℕ) → map unmarked (replicate n []) ≡ replicate n []
 none-unmarked zero = refl
 none-unmarked (suc n) = ap (λ (l : List (List ℕ)). [] ∷ l) (none-unmarked n)
+
+-- all entries are those of the cells one after the other
+pub entries-joined : (cells : List (List Entry)) → joined (map unmarked cells) ≡ allEntries cells
+unfolding joined allEntries
+entries-joined [] = refl
+entries-joined (c ∷ cells) = ap (λ (l : List ℕ). unmarked c ++ l) (entries-joined cells)
 
 module _ (ix starts : List ℕ) (cells : List (List Entry)) (r : Regions ix starts (map unmarked cells)) (s : ℕ) (l : s < length cells) where
   in-cells : s < length (map unmarked cells)

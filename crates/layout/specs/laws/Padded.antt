@@ -1,7 +1,7 @@
 -- What is written at the beginning of a slice, and the rest of it cleared: blank regions, cells moved together, poured vertices.
-use mathlib.Core.Path.{_≡_, ap, _∙_}
+use mathlib.Core.Path.{_≡_, sym, ap, _∙_}
 use mathlib.Core.List.{List}
-use Prim.Native.Nat.{ℕ, suc, _+_, _*_, _≤_}
+use Prim.Native.Nat.{ℕ, suc, _+_, _-_, _*_, _≤_}
 use native.Mathlib.Omega.{arith}
 use native.Mathlib.Nat.{sub-zero}
 use lib.Ieee.{Float}
@@ -58,5 +58,9 @@ module _ (cells : List (List ℕ)) (ix off ix₁ off₁ : List ℕ) (w sites : �
       q ∙ rw (t, long, n)
 
   pub gathered : (ix₂ off₂ : List ℕ) → length ix₁ ≡ length ix → length off₁ ≡ length off → ix₂ ≡ clearedFrom w EMPTY ix₁
-      → off₂ ≡ clearedFrom (sites + 1) EMPTY off₁ → Gathered cells ix off ix₂ off₂
-  gathered ix₂ off₂ li lo qi qo = record { indexes = indexes ix₂ li qi; offsets = offsets off₂ lo qo }
+      → off₂ ≡ clearedFrom (sites + 1) EMPTY off₁ → (w ≡ length (joined cells)) × Gathered cells ix off ix₂ off₂
+  gathered ix₂ off₂ li lo qi qo = (c .counted, record { indexes = indexes ix₂ li qi; offsets = offsets off₂ lo qo })
+
+-- the used part is the cells one after the other
+pub used-part : (cells : List (List ℕ)) (ix off ix₁ off₁ : List ℕ) (w : ℕ) → (w ≡ length (joined cells)) × Gathered cells ix off ix₁ off₁ → take w ix₁ ≡ joined cells
+used-part cells ix off ix₁ off₁ w g = ap (take w) (g .1 .indexes) ∙ take-at (joined cells) (replicate (length ix - length (joined cells)) EMPTY) w (sym (g .0))

@@ -40,7 +40,7 @@ returns c =
     let l = i .before in
     let n = Entry (l .before) .args .sites in
     gathered-over _ _ _ _ _ _ _ (f .indexes2 .given ∙ i .indexes .given) (o .offsets .given)
-    (g .gather .ensures _ (cells-width _ _ n) (f .before .fill-rings .ensures (replicate n []) (length-replicate n []) (blank-regions _ _ n (l .lay-out .ensures .regions))))
+    (g .gather .ensures .1 _ (cells-width _ _ n) (f .before .fill-rings .ensures (replicate n []) (length-replicate n []) (blank-regions _ _ n (l .lay-out .ensures .regions))) .1)
 
 pub draw-cells-spec : {M : Type 1} → statement M
 draw-cells-spec =

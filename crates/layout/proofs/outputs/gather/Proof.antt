@@ -7,8 +7,10 @@ use Rattle.layout.proofs.outputs.gather.Tie as tie
 returns : tie.Need-returns
 returns c =
     let at-fill-from = c .before .before .before .before .before .before in
-    let d = c .before .before .before .before .before .before .before .before .before .before .before .before in
-    λ cells q r. gathered _ _ _ _ _ _ _ (d .compact .ensures .1 cells q r) q _ _ (search needs) (search needs) (at-fill-from .fill-from .ensures) (c .before .before .fill-from2 .ensures)
+    let d = c .before .before .before .before .before .before .before .before .before .before .before .before in (
+      d .compact .ensures .0,
+      λ cells q r. gathered _ _ _ _ _ _ _ (d .compact .ensures .1 cells q r) q _ _ (search needs) (search needs) (at-fill-from .fill-from .ensures) (c .before .before .fill-from2 .ensures),
+    )
 
 pub gather-spec : {M : Type 1} → statement M
 gather-spec =
