@@ -2,7 +2,8 @@
  *
  * First one line with the names of the calls there are, in order. Then frames, each answered by the same frame with the
  * calls made: 8 bytes of length, then bodies. A body is the call's number and its count of arguments (u32 each), then
- * for each argument its element size and count (u32 each) and its elements, padded to 8 bytes. Argument 0 is the result.
+ * for each argument its element size and count (u32 each) and its elements, up to a multiple of 8 bytes, and 8 bytes more
+ * that no call may touch. Argument 0 is the result.
  * harness/serve.sh defines HAS_.. for each part that the archive has. No header of the C library is used. */
 #include "voronoi.h"
 
@@ -28,6 +29,7 @@ typedef struct {
 #define N(i) (*(uint32_t *)a[i].at)
 #define B(i) (*(uint64_t *)a[i].at)
 #define MESH(i) F(i), U(i + 1), U(i + 2), U(i + 3)
+#define SLICES(i) U(i), F(i + 1), U(i + 2), U(i + 3), U(i + 4)
 
 #ifdef HAS_roots
 static void root_bits(argument *a) { B(0) = voronoi_root_bits(B(1)); }
@@ -77,9 +79,8 @@ static void cells_share_edge(argument *a) { N(0) = voronoi_cells_share_edge(U(1)
 #endif
 
 #ifdef HAS_builds
-#define LENT(i) U(i), F(i + 1), U(i + 2), U(i + 3), U(i + 4)
-static void build(argument *a) { N(0) = voronoi_build(BOX(1), MESH(5), LENT(9)); }
-static void build_unclipped(argument *a) { N(0) = voronoi_build_unclipped(MESH(1), LENT(5)); }
+static void build(argument *a) { N(0) = voronoi_build(BOX(1), MESH(5), SLICES(9)); }
+static void build_unclipped(argument *a) { N(0) = voronoi_build_unclipped(MESH(1), SLICES(5)); }
 static void cell(argument *a) { N(0) = voronoi_cell(U(1), U(2), N(3), PU(4), PU(5)); }
 
 struct instant {
@@ -93,7 +94,7 @@ static void time_build(argument *a)
 {
     struct instant start, end;
     clock_gettime(CPU_TIME_OF_THREAD, &start);
-    uint32_t number = voronoi_build(BOX(1), MESH(5), LENT(9));
+    uint32_t number = voronoi_build(BOX(1), MESH(5), SLICES(9));
     clock_gettime(CPU_TIME_OF_THREAD, &end);
     B(0) = number ? 0 : (uint64_t)((end.seconds - start.seconds) * 1000000000 + end.nanoseconds - start.nanoseconds);
 }
@@ -102,6 +103,13 @@ static void time_build(argument *a)
 #ifdef HAS_maps
 static void cell_wkb(argument *a) { N(0) = voronoi_cell_wkb(F(1), U(2), U(3), N(4), C(5), PS(6)); }
 static void cell_wkb_bits(argument *a) { N(0) = voronoi_cell_wkb_bits(Q(1), U(2), U(3), N(4), C(5), PS(6)); }
+#endif
+
+#ifdef HAS_reasons
+static void why(argument *a)
+{
+    N(0) = voronoi_why(BOX(1), MESH(5), N(9), N(10), N(11), SLICES(12), PU(17), PU(18), PU(19), PU(20));
+}
 #endif
 
 static const struct {
@@ -129,6 +137,9 @@ static const struct {
 #endif
 #ifdef HAS_maps
     {"cell_wkb", cell_wkb}, {"cell_wkb_bits", cell_wkb_bits},
+#endif
+#ifdef HAS_reasons
+    {"why", why},
 #endif
 };
 
@@ -176,7 +187,7 @@ static size_t serve(unsigned char *at)
         a[i].size = shape[0];
         a[i].count = shape[1];
         a[i].at = at + length + 8;
-        length += 8 + (((size_t)shape[0] * shape[1] + 7) & ~(size_t)7);
+        length += 8 + (((size_t)shape[0] * shape[1] + 7) & ~(size_t)7) + 8;
     }
     calls[head[0]].call(a);
     return length;

@@ -25,7 +25,9 @@
  *   build                    usually N + T (0.3 to 0.9 microseconds a site). At worst the square of N: an added point is searched for among
  *                            all those added before (65,536 sites on a circle: 20 s), and a cell that stays empty is tried again from each
  *                            of its half-edges (one site with 65,535 neighbours: 5 minutes). docs/SPEED.md has the times.
- *   build_unclipped          N + T */
+ *   build_unclipped          N + T
+ *   why                      as build; where the mesh is refused by 6 to 10 the check is made twice; for a pair the first site's neighbours, and the
+ *                            product of the lengths of two cells for each of its first and last */
 #ifndef VORONOI_H
 #define VORONOI_H
 
@@ -38,9 +40,9 @@ extern "C" {
 
 /* ---- the version (the file VERSION; CHANGELOG.md says what changed) */
 
-#define VORONOI_VERSION "0.3.0"
+#define VORONOI_VERSION "0.4.0"
 #define VORONOI_VERSION_MAJOR 0
-#define VORONOI_VERSION_MINOR 3
+#define VORONOI_VERSION_MINOR 4
 #define VORONOI_VERSION_PATCH 0
 
 /* ---- numbers */
@@ -278,6 +280,41 @@ uint32_t voronoi_cell_wkb(const double *vertices, size_t vertices_len, const uin
                           const uint32_t *indexes, size_t indexes_len, uint32_t site, uint8_t *out, size_t out_len, size_t *written);
 uint32_t voronoi_cell_wkb_bits(const uint64_t *vertices, size_t vertices_len, const uint32_t *offsets, size_t offsets_len,
                                const uint32_t *indexes, size_t indexes_len, uint32_t site, uint8_t *out, size_t out_len, size_t *written);
+
+/* ---- why
+ * The one reason: what is wrong, and nothing that stands earlier in the order is. Tries 1, 2, 3, 4 on each site asked about, 6, 7 to 10, 11, and 12
+ * to 15 as the builder meets them; on a mesh that builds it answers what was asked: 0 nothing, 1 about the cell of `first`, 2 or more about
+ * `second` as a neighbour of `first`. The answer is the refusal's number, 0 where nothing is refused; the five slices are as after a build.
+ * *kind, *place, *from and *to are written after every answer, VORONOI_EMPTY where the kind has no such number:
+ *
+ *   VORONOI_WHY_NO_FAULT    nothing is wrong
+ *   VORONOI_WHY_NUMBER      the number says it all: 1, 2, 3, 4
+ *   VORONOI_WHY_SITE        *place is the lowest site that breaks 6 or 10
+ *   VORONOI_WHY_TRIANGLE    *place is the lowest triangle that breaks 7 or 11
+ *   VORONOI_WHY_HALFEDGE    *place is the lowest half-edge that breaks 8; for 9 the lowest unpaired one that lies on no hull pair or shares a lower one's
+ *   VORONOI_WHY_HULL_PLACE  *place is the lowest hull place that breaks 9, or the first place of the hull edge of 12
+ *   VORONOI_WHY_EDGE        13 to 15: the cell is *place, the edge of its ring runs from vertex *from to vertex *to
+ *   VORONOI_WHY_UNUSED      the cell of site *place is empty: the site is in no triangle
+ *   VORONOI_WHY_TRIES       it is empty: every clipping try gave nothing
+ *   VORONOI_WHY_DROPPED     the second is a neighbour of the first and stands nowhere among its neighbours after clipping; *place entries of the first
+ *                           one's cell, 0 or 1, stand in the second's */
+#define VORONOI_WHY_NO_FAULT 0
+#define VORONOI_WHY_NUMBER 1
+#define VORONOI_WHY_SITE 2
+#define VORONOI_WHY_TRIANGLE 3
+#define VORONOI_WHY_HALFEDGE 4
+#define VORONOI_WHY_HULL_PLACE 5
+#define VORONOI_WHY_EDGE 6
+#define VORONOI_WHY_UNUSED 7
+#define VORONOI_WHY_TRIES 8
+#define VORONOI_WHY_DROPPED 9
+
+uint32_t voronoi_why(double cx, double cy, double width, double height, const double *sites, size_t sites_len,
+                     const uint32_t *triangles, size_t triangles_len, const uint32_t *halfedges, size_t halfedges_len,
+                     const uint32_t *hull, size_t hull_len, uint32_t asked, uint32_t first, uint32_t second, uint32_t *work,
+                     size_t work_len, double *vertices, size_t vertices_len, uint32_t *indexes, size_t indexes_len, uint32_t *offsets,
+                     size_t offsets_len, uint32_t *counts, size_t counts_len, uint32_t *kind, uint32_t *place, uint32_t *from,
+                     uint32_t *to);
 
 #ifdef __cplusplus
 }

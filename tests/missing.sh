@@ -81,8 +81,10 @@ must 2 "there is no file nowhere" ./yelmuzard cells nowhere
 must 2 "there is no word bake" ./yelmuzard bake
 must 2 "" ./yelmuzard
 must 2 "" ./yelmuzard cells
+must 2 "why FILE" ./yelmuzard why
+must 2 "why FILE" ./yelmuzard why examples/square.form 0 1 2
 must 0 "" ./yelmuzard --version
-for word in "" cells export archive link run test; do
+for word in "" cells export why archive link run test; do
     # shellcheck disable=SC2086
     must 0 "" ./yelmuzard $word --help
     grep -q . "$folder/out"

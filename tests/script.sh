@@ -1,5 +1,5 @@
 #!/bin/sh
-# ./yelmuzard cells and export on what is built: a listing, refusals, output that fails, a mesh wound the wrong way; the words and the status of each.
+# ./yelmuzard cells, export and why on what is built: a listing, refusals, output that fails, a mesh wound the wrong way; the words and the status of each.
 set -eu
 case ${1-} in
 --help | -h)
@@ -64,4 +64,18 @@ status=0
 status=0
 ./yelmuzard export examples/square.form >/dev/full 2>"$folder/err" || status=$?
 [ "$status" = 2 ] || { echo "export to a full disk: status $status" && exit 1; }
+# the reason: none, a refusal with its place and the rule's words, a site asked about, a word that is no number, output that fails
+[ "$(./yelmuzard why examples/square.txt 0 2)" = "no fault" ]
+sed '/^hull 3$/d' examples/square.txt >"$folder/short.txt"
+status=0
+./yelmuzard why "$folder/short.txt" >"$folder/out" 2>"$folder/err" || status=$?
+[ "$status $(cat "$folder/out")" = "1 refused 9: hull place 2" ] || { echo "why: status $status" && exit 1; }
+grep -q "rule 9, says what to do" "$folder/err"
+status=0
+./yelmuzard why examples/square.form one >"$folder/out" 2>"$folder/err" || status=$?
+[ "$status" = 2 ] || { echo "why one: status $status" && exit 1; }
+grep -q "usage: why" "$folder/err"
+status=0
+./yelmuzard why examples/square.form >/dev/full 2>"$folder/err" || status=$?
+[ "$status" = 2 ] || { echo "why to a full disk: status $status" && exit 1; }
 echo "script: listings, refusals and failed output have their words and status"

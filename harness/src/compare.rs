@@ -1,13 +1,14 @@
 //! One case put to the Rust, to the second reading of the rules and to the proved library: any difference is told in words.
 
 use crate::cases::Case;
-use crate::expect::{self, Accepted, Beside, Facts, Slices};
+use crate::expect::{self, Beside, Facts, Slices};
 use crate::library::{Call, Difference, Library};
 use crate::maps;
 use crate::mesh::{Area, Mesh, Pt, EMPTY};
-use crate::reference;
+use crate::reference::{self, Fault, Outcome};
 use crate::rust;
 use crate::tally::Tally;
+use crate::why;
 use source::Voronoi;
 
 type Told = Result<(), String>;
@@ -25,13 +26,10 @@ fn equal<T: PartialEq + std::fmt::Debug>(what: &str, theirs: &T, ours: &T) -> To
     }
 }
 
-/// An accepted build with its cells, or its number.
-type Outcome = Result<reference::Build, u32>;
-
 /// Builds with the Rust and by the rules, which must agree; 11 and 12 come before the Rust is asked.
 pub fn build_both(m: &Mesh, lent: &rust::Lent, clip: Option<&Area>, tally: &mut Tally) -> Result<Outcome, String> {
     let ours = reference::build(m, clip, &mut tally.branches);
-    if let Err(11 | 12) = ours {
+    if let Err(Fault { number: 11 | 12, .. }) = ours {
         return Ok(ours);
     }
     match (&ours, rust::build(lent, clip)) {
@@ -41,17 +39,12 @@ pub fn build_both(m: &Mesh, lent: &rust::Lent, clip: Option<&Area>, tally: &mut 
             equal("vertices", &bits(&t.vertices), &bits(&o.vertices))?;
             equal("cells", &t.cells, &o.plain())?;
         }
-        (Err(n), Err(Ok(k))) => equal("refusal", &k, n)?,
+        (Err(f), Err(Ok(k))) => equal("refusal", &k, &f.number)?,
         (Ok(_), Err(k)) => return Err(format!("the Rust panics ({k:?}), the rules accept")),
-        (Err(n), Ok(_)) => return Err(format!("the Rust builds, the rules refuse {n}")),
+        (Err(f), Ok(_)) => return Err(format!("the Rust builds, the rules refuse: {f:?}")),
         (_, Err(Err(words))) => return Err(format!("the Rust panics with no number: {words}")),
     }
     Ok(ours)
-}
-
-/// A call with the whole mesh as its first arguments.
-fn on_mesh(name: &'static str, number: u32, m: &Mesh) -> Call {
-    Call::new(name).gives(number).floats(&m.sites).indexes(&m.triangles).indexes(&m.halfedges).indexes(&m.hull)
 }
 
 /// One case put to all sides. The library's answers may be compared later, when enough calls are gathered.
@@ -71,23 +64,24 @@ fn ask(index: u64, c: &Case, calls: &mut Vec<Call>, tally: &mut Tally) -> Told {
 
     check(c, &facts, calls, tally);
     let lent = facts.accepted().then(|| rust::Lent::new(m));
-    let mut clipped: Outcome = Err(0);
-    let mut whole: Outcome = Err(0);
+    let (mut clipped, mut whole) = (None, None);
     if let Some(lent) = &lent {
         equal("leftmost table", &lent.leftmost(), &facts.leftmost)?;
         if reference::box_sound(&c.area) {
-            clipped = build_both(m, lent, Some(&c.area), tally)?;
+            clipped = Some(build_both(m, lent, Some(&c.area), tally)?);
         }
-        whole = build_both(m, lent, None, tally)?;
+        whole = Some(build_both(m, lent, None, tally)?);
     }
-    build(c, &facts, Some(&c.area), &clipped, calls, tally)?;
-    build(c, &facts, None, &whole, calls, tally)?;
+    build(c, &facts, Some(&c.area), clipped.as_ref(), calls, tally)?;
+    build(c, &facts, None, whole.as_ref(), calls, tally)?;
+    why::ask(index, c, &facts, clipped.as_ref(), calls, tally)?;
 
-    let cells = match (&clipped, &whole) {
-        (Ok(b), _) | (_, Ok(b)) => b.plain(),
-        _ => (0..m.count() as u32).map(|s| vec![s / 2, s / 2 + 1, s / 3]).collect(),
+    let built = [&clipped, &whole].into_iter().find_map(|o| o.as_ref()?.as_ref().ok());
+    let cells = match built {
+        Some(b) => b.plain(),
+        None => (0..m.count() as u32).map(|s| vec![s / 2, s / 2 + 1, s / 3]).collect(),
     };
-    let vertices = clipped.as_ref().or(whole.as_ref()).ok().map(|b| &b.vertices[..]);
+    let vertices = built.map(|b| &b.vertices[..]);
     maps::ask(index, c, &cells, vertices, calls, tally);
     let diagram = lent.as_ref().map(|l| rust::diagram(l, &cells));
     walks(c, &facts, &cells, diagram.as_ref(), calls, tally)?;
@@ -100,55 +94,41 @@ fn check(c: &Case, facts: &Facts, calls: &mut Vec<Call>, tally: &mut Tally) {
     tally.number("check", number);
     let work = vec![0xa5a5a5a5; c.work];
     let after = expect::work_after(number, &work, &facts.leftmost);
-    calls.push(on_mesh("check", number, &c.mesh).lent_indexes(&work, &after));
+    calls.push(Call::new("check").gives(number).mesh(&c.mesh).lent_indexes(&work, &after));
 }
 
-fn build(c: &Case, facts: &Facts, area: Option<&Area>, outcome: &Outcome, calls: &mut Vec<Call>, tally: &mut Tally) -> Told {
+fn build(
+    c: &Case, facts: &Facts, area: Option<&Area>, outcome: Option<&Outcome>, calls: &mut Vec<Call>, tally: &mut Tally,
+) -> Told {
     let name = if area.is_some() { "build" } else { "build_unclipped" };
     let beside = Beside { room: c.lengths.suffice(&c.mesh), area, site: None, to: None };
     let mut number = expect::mesh_number(&c.mesh, facts, &beside);
-    if number == 0 {
-        number = *outcome.as_ref().err().unwrap_or(&0);
+    if let (0, Some(Err(f))) = (number, outcome) {
+        number = f.number;
     }
     tally.number(name, number);
-    let entry = Slices::fresh(&c.lengths);
-    let exit = match (number, outcome) {
-        (0, Ok(b)) => {
-            let exact = expect::Lengths::exact(&c.mesh);
-            let entries: usize = b.cells.iter().map(|c| c.len()).sum();
-            let vertices = b.vertices.len() as f64 / (exact.floats / 2) as f64;
-            let entries = entries as f64 / exact.indexes as f64;
-            tally.most_vertices = tally.most_vertices.max(vertices);
-            tally.most_entries = tally.most_entries.max(entries);
-            if vertices > 1.0 || entries > 1.0 {
-                return Err(format!("{name}: the room does not suffice"));
-            }
-            if area.is_some() {
-                tally.corners[0] += b.lost as u64;
-                tally.corners[1] += b.met_alone();
-            }
-            let cells = b.plain();
-            let (leftmost, vertices, cells, owners) = (&b.leftmost[..], &b.vertices[..], &cells[..], &b.owners[..]);
-            expect::built(0, Some(&Accepted { leftmost, vertices, cells, owners, lost: b.lost }), &entry)
+    if let (0, Some(Ok(b))) = (number, outcome) {
+        let exact = expect::Lengths::exact(&c.mesh);
+        let entries: usize = b.cells.iter().map(|c| c.len()).sum();
+        let vertices = b.vertices.len() as f64 / (exact.floats / 2) as f64;
+        let entries = entries as f64 / exact.indexes as f64;
+        tally.most_vertices = tally.most_vertices.max(vertices);
+        tally.most_entries = tally.most_entries.max(entries);
+        if vertices > 1.0 || entries > 1.0 {
+            return Err(format!("{name}: the room does not suffice"));
         }
-        _ => expect::built(number, None, &entry),
-    };
-    let m = &c.mesh;
+        if area.is_some() {
+            tally.corners[0] += b.lost as u64;
+            tally.corners[1] += b.met_alone();
+        }
+    }
+    let entry = Slices::fresh(&c.lengths);
+    let exit = expect::built(number, outcome, &entry);
     let call = match area {
-        Some(a) => Call::new(name).gives(number).float(a.x).float(a.y).float(a.width).float(a.height),
+        Some(a) => Call::new(name).gives(number).area(a),
         None => Call::new(name).gives(number),
     };
-    calls.push(
-        call.floats(&m.sites)
-            .indexes(&m.triangles)
-            .indexes(&m.halfedges)
-            .indexes(&m.hull)
-            .lent_indexes(&entry.work, &exit.work)
-            .lent_floats(&entry.floats, &exit.floats)
-            .lent_indexes(&entry.indexes, &exit.indexes)
-            .lent_indexes(&entry.offsets, &exit.offsets)
-            .lent_indexes(&entry.counts, &exit.counts),
-    );
+    calls.push(call.mesh(&c.mesh).lent_slices(&entry, &exit));
     Ok(())
 }
 
@@ -169,7 +149,7 @@ fn hand(
     let (work, out) = (vec![0xa5a5a5a5; c.work], vec![0x5a5a5a5a; length]);
     let owed = expect::handed(number, whole, &work, &facts.leftmost, &out);
     calls.push(
-        question(on_mesh(name, number, &c.mesh))
+        question(Call::new(name).gives(number).mesh(&c.mesh))
             .lent_indexes(&work, &owed.work)
             .lent_indexes(&out, &owed.out)
             .gives(owed.count)
@@ -241,7 +221,7 @@ fn walks(
     tally.number("shared_edge", number);
     let work = vec![0xa5a5a5a5; c.work];
     let exit = expect::work_after(number, &work, left);
-    calls.push(on_mesh("shared_edge", number, m).number(a).number(b).lent_indexes(&work, &exit).gives(owed));
+    calls.push(Call::new("shared_edge").gives(number).mesh(m).number(a).number(b).lent_indexes(&work, &exit).gives(owed));
     Ok(())
 }
 

@@ -2,7 +2,7 @@
 //! Where the call is accepted the values are the Rust's own, handed in by the caller.
 
 use crate::mesh::{index_room, vertex_room, Area, Mesh, Pt, EMPTY};
-use crate::reference;
+use crate::reference::{self, Outcome};
 
 /// What the rules say about a mesh before any question, worked out once.
 #[derive(Clone, Debug)]
@@ -184,37 +184,28 @@ impl Slices {
     }
 }
 
-/// An accepted build: the Rust's vertices and cells, the owners as found (none unclipped), and the lost corners.
-pub struct Accepted<'a> {
-    pub leftmost: &'a [u32],
-    pub vertices: &'a [Pt],
-    pub cells: &'a [Vec<u32>],
-    pub owners: &'a [u32],
-    pub lost: u32,
-}
-
-/// What a build leaves in the slices it was lent.
-pub fn built(number: u32, accepted: Option<&Accepted>, entry: &Slices) -> Slices {
-    match (number, accepted) {
-        (0, Some(a)) => {
+/// What a build leaves in the slices it was lent; the outcome is the Rust's wherever that was asked.
+pub fn built(number: u32, outcome: Option<&Outcome>, entry: &Slices) -> Slices {
+    match (number, outcome) {
+        (0, Some(Ok(b))) => {
             let mut exit = entry.cleared();
-            exit.work[..a.leftmost.len()].copy_from_slice(a.leftmost);
-            for (i, v) in a.vertices.iter().enumerate() {
+            exit.work[..b.leftmost.len()].copy_from_slice(&b.leftmost);
+            for (i, v) in b.vertices.iter().enumerate() {
                 (exit.floats[2 * i], exit.floats[2 * i + 1]) = (v.x, v.y);
             }
             let mut at = 0;
             exit.offsets[0] = 0;
-            for (s, cell) in a.cells.iter().enumerate() {
+            for (s, cell) in b.plain().iter().enumerate() {
                 exit.indexes[at..at + cell.len()].copy_from_slice(cell);
                 at += cell.len();
                 exit.offsets[s + 1] = at as u32;
             }
-            exit.counts[0] = a.vertices.len() as u32;
-            exit.counts[1..1 + a.owners.len()].copy_from_slice(a.owners);
-            exit.counts[5] = a.lost;
+            exit.counts[0] = b.vertices.len() as u32;
+            exit.counts[1..1 + b.owners.len()].copy_from_slice(&b.owners);
+            exit.counts[5] = b.lost;
             exit
         }
-        (0, None) => unreachable!("an accepted build has an answer"),
+        (0, _) => unreachable!("an accepted build has an answer"),
         (1..=6, _) => entry.clone(),
         _ => entry.cleared(),
     }

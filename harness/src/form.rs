@@ -33,9 +33,14 @@ pub fn bytes(m: &Mesh, clip: Option<&Area>) -> Vec<u8> {
     out
 }
 
+/// Whether the form has room for the mesh; rule 17 where not.
+pub fn fits(m: &Mesh) -> bool {
+    m.count() <= 96 && m.triangle_count() <= 192 && m.hull.len() <= 96
+}
+
 /// What the program prints for a sound form: the Rust's answers, or the refusal.
 pub fn listing(m: &Mesh, clip: Option<&Area>) -> Result<String, String> {
-    if m.count() > 96 || m.triangle_count() > 192 || m.hull.len() > 96 {
+    if !fits(m) {
         return Ok("refused 17\n".to_string());
     }
     let number = mesh_number(m, &Facts::of(m), &Beside { room: true, area: clip, site: None, to: None });
@@ -44,7 +49,7 @@ pub fn listing(m: &Mesh, clip: Option<&Area>) -> Result<String, String> {
     }
     let b = match build_both(m, &rust::Lent::new(m), clip, &mut Tally::new())? {
         Ok(b) => b,
-        Err(n) => return Ok(format!("refused {n}\n")),
+        Err(f) => return Ok(format!("refused {}\n", f.number)),
     };
     let mut out = format!("sites {} triangles {} vertices {}\n", m.count(), m.triangle_count(), b.vertices.len());
     for (s, cell) in b.plain().iter().enumerate() {

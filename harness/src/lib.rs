@@ -16,4 +16,5 @@ pub mod rust;
 pub mod stored;
 pub mod tally;
 pub mod text;
+pub mod why;
 pub mod words;

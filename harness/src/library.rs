@@ -1,6 +1,8 @@
 //! The proved library behind its C interface: calls are packed with what they are lent and what they owe, served by
 //! another process (serve.c; under an emulator where the machine is no x86-64), and compared byte by byte.
 
+use crate::expect::Slices;
+use crate::mesh::{Area, Mesh};
 use std::io::{BufRead, BufReader, Read, Write};
 use std::process::{Child, ChildStdin, ChildStdout, Command, Stdio};
 
@@ -12,8 +14,12 @@ pub struct Call {
     owed: Vec<u8>,
 }
 
-fn pad(bytes: &mut Vec<u8>) {
-    bytes.resize((bytes.len() + 7) & !7, 0);
+/// What stands behind each argument, up to a multiple of 8 bytes and 8 more: a call that writes past a slice is seen there.
+const BEYOND: u8 = 0xe9;
+
+/// The end of an argument with what stands behind it, from the end of its elements.
+fn behind(end: usize) -> usize {
+    ((end + 7) & !7) + 8
 }
 
 impl Call {
@@ -31,7 +37,7 @@ impl Call {
             let count = (to.len() - head - 8) as u32 / size;
             to[head..head + 4].copy_from_slice(&size.to_le_bytes());
             to[head + 4..head + 8].copy_from_slice(&count.to_le_bytes());
-            pad(to);
+            to.resize(behind(to.len()), BEYOND);
         }
         put(&mut self.entry, size, entry);
         put(&mut self.owed, size, owed);
@@ -66,6 +72,21 @@ impl Call {
     }
     pub fn lent_bytes(self, entry: &[u8], owed: &[u8]) -> Call {
         self.argument(1, entry.iter().map(|&x| x as u64), owed.iter().map(|&x| x as u64))
+    }
+    pub fn area(self, a: &Area) -> Call {
+        self.float(a.x).float(a.y).float(a.width).float(a.height)
+    }
+    /// A whole mesh, in the order of every call's arguments.
+    pub fn mesh(self, m: &Mesh) -> Call {
+        self.floats(&m.sites).indexes(&m.triangles).indexes(&m.halfedges).indexes(&m.hull)
+    }
+    /// The five slices that a build is lent.
+    pub fn lent_slices(self, entry: &Slices, owed: &Slices) -> Call {
+        self.lent_indexes(&entry.work, &owed.work)
+            .lent_floats(&entry.floats, &owed.floats)
+            .lent_indexes(&entry.indexes, &owed.indexes)
+            .lent_indexes(&entry.offsets, &owed.offsets)
+            .lent_indexes(&entry.counts, &owed.counts)
     }
     /// A lent number: whatever it held, it must hold this.
     pub fn gives(self, owed: u32) -> Call {
@@ -118,11 +139,14 @@ fn tell(name: &str, owed: &[u8], given: &[u8]) -> String {
         let size = u32::from_le_bytes(owed[at..at + 4].try_into().unwrap());
         let count = u32::from_le_bytes(owed[at + 4..at + 8].try_into().unwrap());
         let end = at + 8 + size as usize * count as usize;
+        let what = if i == 0 { "result".to_string() } else { format!("argument {i}") };
         if owed[at..end] != given[at..end] {
-            let what = if i == 0 { "result".to_string() } else { format!("argument {i}") };
             told += &format!("\n  {what}\n    owed  {}\n    given {}", words(size, &owed[at + 8..end]), words(size, &given[at + 8..end]));
         }
-        at = (end + 7) & !7;
+        if owed[end..behind(end)] != given[end..behind(end)] {
+            told += &format!("\n  {what}: written past its end");
+        }
+        at = behind(end);
         i += 1;
     }
     told

@@ -42,6 +42,10 @@ impl Mesh {
     pub fn triangle_count(&self) -> usize {
         self.triangles.len() / 3
     }
+    /// The sites where a half-edge starts and ends.
+    pub fn run(&self, e: usize) -> (u32, u32) {
+        (self.triangles[e], self.triangles[next(e)])
+    }
 }
 
 pub fn next(e: usize) -> usize {

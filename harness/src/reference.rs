@@ -471,6 +471,27 @@ pub struct Build {
     pub lost: u32,
     pub vertices: Vec<Pt>,
     pub cells: Vec<Vec<Entry>>,
+    /// How often a cell was clipped for each site; unclipped never.
+    pub tries: Vec<u32>,
+}
+
+/// Where a build stopped: the triangle of 11, the first hull place of 12's edge, the cell of 13 to 15 with the ring
+/// edge's two vertices in the order walked; `EMPTY` where a number has none.
+#[derive(Clone, Copy, Debug, PartialEq)]
+pub struct Fault {
+    pub number: u32,
+    pub place: u32,
+    pub from: u32,
+    pub to: u32,
+}
+
+/// A build, or where it stopped.
+pub type Outcome = Result<Build, Fault>;
+
+impl Fault {
+    fn at(number: u32, place: usize) -> Fault {
+        Fault { number, place: place as u32, from: EMPTY, to: EMPTY }
+    }
 }
 
 impl Build {
@@ -511,11 +532,11 @@ struct Builder<'a> {
     counts: &'a mut Counts,
 }
 
-/// Builds on a mesh that passed 1 to 10, or gives 11 to 15.
-pub fn build(m: &Mesh, clip: Option<&Area>, counts: &mut Counts) -> Result<Build, u32> {
+/// Builds on a mesh that passed 1 to 10, or gives 11 to 15 and where.
+pub fn build(m: &Mesh, clip: Option<&Area>, counts: &mut Counts) -> Outcome {
     let vertices = circumcenters(m);
-    if vertices.iter().any(|&c| !sound_center(c)) {
-        return Err(11);
+    if let Some(t) = vertices.iter().position(|&c| !sound_center(c)) {
+        return Err(Fault::at(11, t));
     }
     match clip {
         Some(a) => clipped(m, edges(a), vertices, counts),
@@ -534,10 +555,10 @@ fn unclipped(m: &Mesh, vertices: Vec<Pt>, counts: &mut Counts) -> Build {
             cell.extend(ring.iter().rev().map(|&h| Entry { vertex: h / 3, mark: Mark::Circumcenter }));
         }
     }
-    Build { leftmost: leftmost(m), owners: Vec::new(), lost: 0, vertices, cells }
+    Build { leftmost: leftmost(m), owners: Vec::new(), lost: 0, vertices, cells, tries: vec![0; m.count()] }
 }
 
-fn clipped(m: &Mesh, area: Edges, vertices: Vec<Pt>, counts: &mut Counts) -> Result<Build, u32> {
+fn clipped(m: &Mesh, area: Edges, vertices: Vec<Pt>, counts: &mut Counts) -> Outcome {
     let left = leftmost(m);
     let mut owners = [EMPTY; 4];
     let mut from = m.hull[0] as usize;
@@ -557,15 +578,19 @@ fn clipped(m: &Mesh, area: Edges, vertices: Vec<Pt>, counts: &mut Counts) -> Res
         let edge = left[m.hull[(i + 1) % h] as usize] as usize;
         let p = extension(m, edge, b.vertices[edge / 3]);
         if !(p.x.is_finite() && p.y.is_finite()) {
-            return Err(12);
+            return Err(Fault::at(12, i));
         }
         extensions.push(b.add(p, Kind::Extension));
     }
 
     let triangles = |ring: Vec<u32>| ring.into_iter().map(|e| e / 3);
     let mut cells: Vec<Vec<Entry>> = vec![Vec::new(); m.count()];
+    let mut tries = vec![0u32; m.count()];
+    let mut hull_site = vec![false; m.count()];
     for i in 0..h {
         let site = m.hull[i] as usize;
+        tries[site] += 1;
+        hull_site[site] = true;
         // The extension of the edge that ends here comes first and that of the edge that starts here last;
         // only for the first hull site, whose starting edge is taken before its ending one, it leads them all.
         let mut ring = vec![extensions[(i + h - 1) % h]];
@@ -576,11 +601,6 @@ fn clipped(m: &Mesh, area: Edges, vertices: Vec<Pt>, counts: &mut Counts) -> Res
             ring.push(extensions[i]);
         }
         cells[site] = b.clip(&ring, site as u32)?;
-    }
-    let mut tries = vec![0u32; m.count()];
-    let mut hull_site = vec![false; m.count()];
-    for &s in &m.hull {
-        hull_site[s as usize] = true;
     }
     for e in 0..m.triangles.len() {
         let site = end(m, e) as usize;
@@ -611,7 +631,7 @@ fn clipped(m: &Mesh, area: Edges, vertices: Vec<Pt>, counts: &mut Counts) -> Res
     if lost > 0 {
         b.counts.at(Branch::CornersLost);
     }
-    Ok(Build { leftmost: left, owners: owners.to_vec(), lost, vertices: b.vertices, cells })
+    Ok(Build { leftmost: left, owners: owners.to_vec(), lost, vertices: b.vertices, cells, tries })
 }
 
 impl Builder<'_> {
@@ -714,7 +734,7 @@ impl Builder<'_> {
         n
     }
 
-    fn clip(&mut self, ring: &[u32], site: u32) -> Result<Vec<Entry>, u32> {
+    fn clip(&mut self, ring: &[u32], site: u32) -> Result<Vec<Entry>, Fault> {
         let mut cell: Vec<Entry> = Vec::new();
         let start = ring.iter().position(|&v| self.is_inside(v));
         self.counts.at(if start.is_some() { Branch::StartInside } else { Branch::StartOutside });
@@ -722,47 +742,53 @@ impl Builder<'_> {
         let mut open = false;
         for k in 0..ring.len() {
             // Backwards round the ring from the start.
-            let prev = ring[(at + ring.len() - k) % ring.len()];
-            let next = ring[(at + 2 * ring.len() - k - 1) % ring.len()];
-            let own = Entry { vertex: prev, mark: Mark::Circumcenter };
-            match (self.is_inside(prev), self.is_inside(next)) {
-                (true, true) => {
-                    self.counts.at(Branch::InIn);
-                    cell.push(own);
-                }
-                (true, false) => {
-                    let (first, second) = self.clip_edge(prev, next);
-                    let first = first.ok_or(13u32)?;
-                    self.counts.at(if second.is_some() { Branch::InOutSecondUnused } else { Branch::InOut });
-                    cell.push(own);
-                    cell.push(Entry { vertex: first, mark: Mark::Crossing });
-                    open = true;
-                }
-                (false, true) => {
-                    let (first, second) = self.clip_edge(next, prev);
-                    let first = first.ok_or(13u32)?;
-                    self.counts.at(if second.is_some() { Branch::OutInSecondUnused } else { Branch::OutIn });
-                    let last = cell.last().expect("an open cell is never empty").vertex;
-                    self.insert(&mut cell, site, last, first)?;
-                    open = false;
-                }
-                (false, false) => {
-                    let (first, second) = self.clip_edge(prev, next);
-                    match first {
-                        None => self.counts.at(Branch::OutOutNone),
-                        Some(first) => {
-                            if open {
-                                let last = cell.last().expect("an open cell is never empty").vertex;
-                                self.insert(&mut cell, site, last, first)?;
-                            }
-                            let second = second.ok_or(14u32)?;
-                            self.counts.at(if open { Branch::OutOutOpen } else { Branch::OutOutClosed });
-                            self.insert(&mut cell, site, first, second)?;
+            let from = ring[(at + ring.len() - k) % ring.len()];
+            let to = ring[(at + 2 * ring.len() - k - 1) % ring.len()];
+            self.pass(&mut cell, &mut open, site, from, to).map_err(|number| Fault { number, place: site, from, to })?;
+        }
+        Ok(cell)
+    }
+
+    /// One edge of the ring, from prev to next.
+    fn pass(&mut self, cell: &mut Vec<Entry>, open: &mut bool, site: u32, prev: u32, next: u32) -> Result<(), u32> {
+        let own = Entry { vertex: prev, mark: Mark::Circumcenter };
+        match (self.is_inside(prev), self.is_inside(next)) {
+            (true, true) => {
+                self.counts.at(Branch::InIn);
+                cell.push(own);
+            }
+            (true, false) => {
+                let (first, second) = self.clip_edge(prev, next);
+                let first = first.ok_or(13u32)?;
+                self.counts.at(if second.is_some() { Branch::InOutSecondUnused } else { Branch::InOut });
+                cell.push(own);
+                cell.push(Entry { vertex: first, mark: Mark::Crossing });
+                *open = true;
+            }
+            (false, true) => {
+                let (first, second) = self.clip_edge(next, prev);
+                let first = first.ok_or(13u32)?;
+                self.counts.at(if second.is_some() { Branch::OutInSecondUnused } else { Branch::OutIn });
+                let last = cell.last().expect("an open cell is never empty").vertex;
+                self.insert(cell, site, last, first)?;
+                *open = false;
+            }
+            (false, false) => {
+                let (first, second) = self.clip_edge(prev, next);
+                match first {
+                    None => self.counts.at(Branch::OutOutNone),
+                    Some(first) => {
+                        if *open {
+                            let last = cell.last().expect("an open cell is never empty").vertex;
+                            self.insert(cell, site, last, first)?;
                         }
+                        let second = second.ok_or(14u32)?;
+                        self.counts.at(if *open { Branch::OutOutOpen } else { Branch::OutOutClosed });
+                        self.insert(cell, site, first, second)?;
                     }
                 }
             }
         }
-        Ok(cell)
+        Ok(())
     }
 }

@@ -75,7 +75,7 @@ fn record(m: &Mesh, clip: Option<&Area>, site: u32, to: Pt) -> Result<Record, St
     } else {
         let lent = rust::Lent::new(m);
         let built = build_both(m, &lent, clip, &mut tally)?;
-        number = *built.as_ref().err().unwrap_or(&0);
+        number = built.as_ref().err().map_or(0, |f| f.number);
         w.0.push(number);
         let mut cells = vec![Vec::new(); m.count()];
         if let Ok(b) = &built {

@@ -1,6 +1,7 @@
 //! How often each refusal of each call and each branch of the build came up; a case that never comes up is a hole.
 
 use crate::reference::{Counts, BRANCHES};
+use crate::why;
 
 pub struct Call {
     pub name: &'static str,
@@ -24,6 +25,7 @@ pub const CALLS: &[Call] = &[
     Call { name: "cell_wkb_bits", numbers: &[0, 1, 2, 4, 16, 18] },
     Call { name: "build", numbers: &[0, 1, 2, 3, 6, 7, 8, 9, 10, 11, 12, 13, 14] },
     Call { name: "build_unclipped", numbers: &[0, 1, 2, 6, 7, 8, 9, 10, 11] },
+    Call { name: "why", numbers: &[0, 1, 2, 3, 4, 6, 7, 8, 9, 10, 11, 12, 13, 14] },
 ];
 
 const NUMBERS: usize = 20;
@@ -33,6 +35,10 @@ pub struct Tally {
     pub cases: u64,
     pub numbers: Vec<[u64; NUMBERS]>,
     pub branches: Counts,
+    /// How often each reason was given (why::ROWS), by what was asked: nothing, a site, a pair, more than 2.
+    pub reasons: Vec<[u64; 4]>,
+    /// Reasons that have no row there.
+    strange: Vec<String>,
     /// How long the lent slice was against the list: 0, shorter, as long, longer.
     pub allowances: [u64; 4],
     /// Corners of accepted builds: lost, and met by a crossing alone.
@@ -43,12 +49,20 @@ pub struct Tally {
 
 impl Tally {
     pub fn new() -> Tally {
-        Tally { numbers: vec![[0; NUMBERS]; CALLS.len()], ..Tally::default() }
+        Tally { numbers: vec![[0; NUMBERS]; CALLS.len()], reasons: vec![[0; 4]; why::ROWS.len()], ..Tally::default() }
     }
 
     pub fn number(&mut self, call: &str, number: u32) {
         let i = CALLS.iter().position(|c| c.name == call).unwrap();
         self.numbers[i][number as usize] += 1;
+    }
+
+    /// A reason by its row.
+    pub fn reason(&mut self, row: String, asked: u32) {
+        match why::ROWS.iter().position(|r| *r == row) {
+            Some(i) => self.reasons[i][asked.min(3) as usize] += 1,
+            None => self.strange.push(row),
+        }
     }
 
     /// Allowance 0, below the whole, the whole, more.
@@ -93,6 +107,20 @@ impl Tally {
         for (i, name) in ["0", "short", "exact", "more"].iter().enumerate() {
             if self.allowances[i] == 0 {
                 holes.push(format!("allowance {name}"));
+            }
+        }
+        println!("\nHow often each reason was given, by what was asked\n");
+        println!("{:24}{:>9}{:>9}{:>9}{:>9}", "", "nothing", "a site", "a pair", "above 2");
+        for (name, row) in why::ROWS.iter().zip(&self.reasons) {
+            println!("{name:24}{:>9}{:>9}{:>9}{:>9}", row[0], row[1], row[2], row[3]);
+            if row.iter().sum::<u64>() == 0 {
+                holes.push(format!("why: {name}"));
+            }
+        }
+        holes.extend(self.strange.iter().map(|row| format!("why: {row} was never met before")));
+        for (i, name) in ["nothing", "a site", "a pair", "above 2"].iter().enumerate() {
+            if self.reasons.iter().all(|row| row[i] == 0) {
+                holes.push(format!("why: asked {name}"));
             }
         }
         println!("\nHow often each branch of the build was taken\n");

@@ -7,17 +7,20 @@
 //!     triangle A B C  P Q R       sites, then the pair of each half-edge (E: none)
 //!     hull S ...
 //!     path SITE X Y               a question beside the mesh, any number of them
+//!     why [SITE [SITE]]           likewise: the reason, where nothing, a site or a pair is asked about
 //!     answer ...                  a line that the oracle must print, any number of them
 //!
 //! A float is decimal, a bit pattern 0x.., a power 2^-50 or a sum such as .5+2^-50.
 
 use crate::mesh::{pt, Area, Mesh, Pt, EMPTY};
+use crate::why::Question;
 
 #[derive(Clone, Debug, Default)]
 pub struct Input {
     pub clip: Option<Area>,
     pub mesh: Mesh,
     pub paths: Vec<(usize, Pt)>,
+    pub reasons: Vec<Question>,
     pub answers: Vec<String>,
 }
 
@@ -96,6 +99,10 @@ pub fn read(text: &str) -> Result<Input, String> {
                 input.mesh.halfedges.extend(&i[3..]);
             }
             ("hull", _) => input.mesh.hull.extend(indexes(&rest).ok_or_else(|| wrong("no index"))?),
+            ("why", 0..=2) => {
+                let sites = rest.iter().map(|w| w.parse()).collect::<Result<Vec<u32>, _>>().map_err(|_| wrong("no site"))?;
+                input.reasons.push(Question::about(&sites));
+            }
             ("answer", _) => input.answers.push(rest.join(" ")),
             ("path", 3) => {
                 let f = floats(&rest[1..]).ok_or_else(|| wrong("no number"))?;

@@ -6,7 +6,7 @@ use cell_builder::build_cells;
 use utils::Point;
 ghost use Rattle.mesh.specs.Accepted.{mesh};
 ghost use Rattle.admission.specs.Slices.{slices};
-ghost use Rattle.building.specs.Promise.{ClippedBuild, UnclippedBuild};
+ghost use Rattle.build_answers.specs.Promise.{ClippedBuild, UnclippedBuild};
 
 // The clipped build in the box of this center, width and height.
 pub fn build(

@@ -24,7 +24,7 @@ unfolding cellOf
 shift m off ix s = rw (add-one (suc s), add-one s)
 
 -- cells that stand after `before`, whose offsets count from its length
-read-from : (before rest : List ℕ) (cells : List (List ℕ)) (s : ℕ) → s < length cells → cellOf (offsetsFrom (length before) cells) (before ++ joined cells ++ rest) s ≡ getD cells s []
+pub read-from : (before rest : List ℕ) (cells : List (List ℕ)) (s : ℕ) → s < length cells → cellOf (offsetsFrom (length before) cells) (before ++ joined cells ++ rest) s ≡ getD cells s []
 unfolding offsetsFrom joined cellOf
 read-from before rest [] s h = absurd (omega arith)
 read-from before rest (c ∷ cells) zero h =
@@ -56,7 +56,7 @@ climbs m [] i h = absurd (omega arith)
 climbs m (c ∷ cells) zero h = let b = bounds (m + length c) cells 0 (omega arith) in omega (arith, b .0)
 climbs m (c ∷ cells) (suc i) h = rw (add-one (suc i)) (rw (add-one i) at (climbs (m + length c) cells i (omega arith)))
 
-cut : (cells : List (List ℕ)) (room : ℕ) → length (joined cells) ≤ room → Cells (offsetsFrom 0 cells) room
+pub cut : (cells : List (List ℕ)) (room : ℕ) → length (joined cells) ≤ room → Cells (offsetsFrom 0 cells) room
 cut cells room h = record {
   some = omega (arith, offsets-length 0 cells);
   start = first-offset 0 cells;

@@ -19,7 +19,7 @@ use Rattle.definition.specs.Fault.{Outcome, ok, refused}
 use Rattle.definition.specs.Build.{Built}
 use Rattle.admission.specs.laws.Asks.{box-answers}
 use Rattle.admission.specs.Slices.{Slices, roomOf}
-use Rattle.building.specs.Success.{Value, succeeds-zero}
+use Rattle.build_answers.specs.Success.{Value, succeeds-zero}
 use Rattle.voronoi.specs.Builds.{Build}
 use Rattle.form.specs.Form.{MeshFits, numbersOf, float, siteFloats}
 use Rattle.form.specs.Square.{square, squareBytes, two-is}

@@ -5,6 +5,8 @@
 
 A file's first line, a comment, becomes the row's. The vertices (bit for bit), cells, owners and the numbers 13 and 14
 are the Rust's; marks, lost corners, 11 and 12 are the harness's reading of docs/RULES.md, as `oracle` prints them.
+RowsPlaces has the refused meshes again, each with its whole fault: the place, and for 13 and 14 the edge's two vertices,
+are that reading's too (`oracle --place`); the Rust's panics have none.
 A file's imports and the names that its rows unfold stay as they stand there. No line has more than 200 bytes, and `rt fmt` leaves the files as they are written here.
 """
 import os
@@ -107,17 +109,32 @@ def told(out):
     return "ok (record {\n" + "".join(f"      {k} = {v};\n" for k, v in parts.items()) + "    })"
 
 
+def fault(out):
+    """The fault of `oracle --place`; 11 and 12 have no edge, which the definition writes 0 0."""
+    n, *places = out.split()
+    return f"refused (fault {REFUSED[n]} {' '.join('0' if w == 'E' else w for w in places)})"
+
+
 def main():
     oracle = sys.argv[1]
-    for group in ("built", "refused", "unclipped"):
+
+    def ask(*words):
+        return subprocess.run([oracle, *words], capture_output=True, text=True, check=True).stdout
+
+    def plain(path, call):
+        return f"(rowOf\n    ({call})\n    ≡ {told(ask(path))})"
+
+    def placed(path, call):
+        return f"({call}\n    ≡ {fault(ask('--place', path))})"
+
+    for group, file, row in (("built", "Built", plain), ("refused", "Refused", plain), ("refused", "Places", placed), ("unclipped", "Unclipped", plain)):
         rows = []
         for name in sorted(f for f in os.listdir(HERE) if f.startswith(group + "_")):
             path = os.path.join(HERE, name)
             call, comment = read(path)
-            out = subprocess.run([oracle, path], capture_output=True, text=True, check=True).stdout
             times = "× " if rows else ""
-            rows.append(f"    -- {comment}\n    {times}(rowOf\n    ({call})\n    ≡ {told(out)})")
-        path = os.path.join(SPECS, f"Rows{group.capitalize()}.antt")
+            rows.append(f"    -- {comment}\n    {times}{row(path, call)}")
+        path = os.path.join(SPECS, f"Rows{file}.antt")
         old = open(path, encoding="utf-8").read()
         head, unfolded = old[: old.index("pub rows :\n")], old[old.index("\nunfolding ") : old.index("\nrows = ")]
         with open(path, "w", encoding="utf-8") as o:

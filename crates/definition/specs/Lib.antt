@@ -6,6 +6,7 @@ pub mod Unclipped
 pub mod Rows
 pub mod RowsBuilt
 pub mod RowsRefused
+pub mod RowsPlaces
 pub mod RowsUnclipped
 pub mod Measures
 pub mod Wrapping
@@ -14,4 +15,10 @@ pub mod Late
 pub mod LateRefusals
 pub mod Theorems
 pub mod Reached
+pub mod Tries
+pub mod Met
+pub mod FaultTheorem
+pub mod ShortEdge
+pub mod ByNumber
+pub mod TryTheorem
 pub mod laws

@@ -21,3 +21,12 @@ pub mod CornersAt
 pub mod EmptyCell
 pub mod LateRefusals
 pub mod Reverse
+pub mod Runs
+pub mod BeforeCells
+pub mod EdgeFault
+pub mod RingFault
+pub mod TryRuns
+pub mod BuildStages
+pub mod BuildFault
+pub mod TryCells
+pub mod RingCells

@@ -1,5 +1,6 @@
 -- The root of the crate's definitions.
 pub mod Form
+pub mod Length
 pub mod Place
 pub mod Promise
 pub mod Square

@@ -8,3 +8,4 @@ pub mod Cut
 pub mod Tail
 pub mod Exact
 pub mod Place
+pub mod Lists

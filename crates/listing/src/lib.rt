@@ -19,7 +19,7 @@ pub fn decimal(out: &mut [u8], at: usize, n: u32) -> usize
     last + 1
 }
 
-fn entry(out: &mut [u8], at: usize, n: u32) -> usize
+pub fn entry(out: &mut [u8], at: usize, n: u32) -> usize
     requires { ⌜ HasRoom (now out) at (entries (n ∷ [])) ⌝ }
     ensures { λ r. ⌜ Wrote (now (out .entry)) (now (out .exit)) at r (entries (n ∷ [])) ⌝ }
 {
@@ -41,7 +41,7 @@ fn entries(out: &mut [u8], at: usize, list: &[u32]) -> usize
 }
 
 // A label and a number.
-fn labelled(out: &mut [u8], at: usize, label: &[u8], n: u32) -> usize
+pub fn labelled(out: &mut [u8], at: usize, label: &[u8], n: u32) -> usize
     requires { ⌜ HasRoom (now out) at (now label ++ entries (n ∷ [])) ⌝ }
     ensures { λ r. ⌜ Wrote (now (out .entry)) (now (out .exit)) at r (now (label .entry) ++ entries (n ∷ [])) ⌝ }
 {

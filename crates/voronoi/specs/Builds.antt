@@ -7,7 +7,7 @@ use Rattle.utils.specs.declared.Point.{Point}
 use Rattle.mesh.specs.Accepted.{Mesh}
 use Rattle.admission.specs.Slices.{Slices}
 use Rattle.cell_query.specs.Cells.{CellAnswer, PlaceAnswer}
-use Rattle.building.specs.Promise.{ClippedBuild, UnclippedBuild}
+use Rattle.build_answers.specs.Promise.{ClippedBuild, UnclippedBuild}
 
 -- clipped to the box of center c, width w and height h: 1, 2, 3, 6, 7 to 10, 11 to 15
 abbrev pub Build : Mesh → Point → Float → Float → Slices → Slices → ℕ → Type 0

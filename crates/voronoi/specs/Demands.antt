@@ -36,7 +36,8 @@ use Rattle.voronoi.specs.One.{one-check}
 use Rattle.voronoi.specs.Walks.{Walk, Neighbours, ClippedNeighbours, Path, SharedEdge, CellsShareEdge}
 use Rattle.voronoi.specs.One.{one-walk, one-neighbours, one-clipped, one-path, one-shared-edge, one-cells-share-edge}
 use Rattle.voronoi.specs.Builds.{Build, BuildUnclipped, Cell, CellPart}
-use Rattle.voronoi.specs.One.{one-build, one-build-unclipped, one-cell, one-cell-part}
+use Rattle.voronoi.specs.Explanations.{Why}
+use Rattle.voronoi.specs.One.{one-build, one-why, one-build-unclipped, one-cell, one-cell-part}
 use Rattle.voronoi.specs.Maps.{CellWkbBits, CellWkb}
 use Rattle.voronoi.specs.Outcomes.{One, One₂, One₃, OneList, OneMeeting, OneBox, SliceRefused, ListRefused, BuildRefused}
 use Rattle.voronoi.specs.Leaves.{QueryAllowed, BuildAllowed, BuildLeaves}
@@ -107,6 +108,8 @@ pub record Demand1 (m : Mesh) : Type 0 where
   pub build : (c : Point) (w h : Float) (old : Slices) → One₂ (λ r new. Build m c w h old new r)
   -- voronoi_build_unclipped
   pub build-unclipped : (old : Slices) → One₂ (λ r new. BuildUnclipped m old new r)
+  -- voronoi_why: the number, the kind and the places; all five slices
+  pub why : (c : Point) (w h : Float) (asked first second : ℕ) (old : Slices) → One₂ (λ t new. Why m c w h asked first second old new t)
   -- voronoi_cell: the number, start, length
   pub cell : (offs idx : List ℕ) (s : ℕ) → One₃ (λ r start long. Cell offs idx s start long r)
   -- cell: the number, the part
@@ -239,6 +242,7 @@ demand1 m = record {
   cells-share-edge = λ offs idx a b _ _ _ _. one-cells-share-edge;
   build = λ c w h old _ _ _ _. one-build m c w h;
   build-unclipped = λ old _ _ _ _. one-build-unclipped m;
+  why = λ c w h asked first second old _ _ _ _. one-why c w h asked first second;
   cell = λ offs idx s _ _ _ _ _ _. one-cell offs idx s;
   cell-part = λ offs idx s _ _ _ _. one-cell-part offs idx s;
   cell-wkb-bits = λ v off ix s out _ _ _ _ _ _. one-cell-wkb-bits off ix s out v;

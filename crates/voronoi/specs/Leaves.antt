@@ -16,7 +16,7 @@ use Rattle.definition.specs.Build.{finite, Built}
 use Rattle.layout.specs.Outputs.{padded}
 use Rattle.definition.specs.Cell.{unmarked}
 use Rattle.admission.specs.Slices.{Slices, roomOf}
-use Rattle.building.specs.Success.{Value}
+use Rattle.build_answers.specs.Success.{Value}
 use Rattle.voronoi.specs.Builds.{Cell, CellPart}
 
 -- a query may answer 0: the mesh is accepted, the work slice has an entry for each site, and its own arguments are sound

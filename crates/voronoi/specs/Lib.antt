@@ -3,6 +3,7 @@ pub mod Plane
 pub mod Meshes
 pub mod Walks
 pub mod Builds
+pub mod Explanations
 pub mod One
 pub mod Accepted
 pub mod Maps

@@ -22,11 +22,14 @@ use Rattle.admission.specs.Slices.{Slices}
 use Rattle.cell_query.specs.Cells.{partAfter, startAfter, lengthAfter}
 use Rattle.cell_query.specs.laws.Cells.{cell-number}
 use Rattle.queries.specs.Answers.{outAfter, countAfter, endedAfter}
-use Rattle.building.specs.laws.Promise.{answers-one}
+use Rattle.build_answers.specs.laws.Promise.{answers-one}
 use Rattle.plane_calls.specs.Plane.{bit, Answered}
 use Rattle.wkb.specs.Polygon.{patterns}
 use Rattle.wkb.specs.One.{one-wkb}
+use Rattle.reasons.specs.declared.ReasonNumbers.{ReasonNumbers}
+use Rattle.reason_call.specs.One.{one-why-call}
 use Rattle.voronoi.specs.Maps.{CellWkbBits, CellWkb}
+use Rattle.voronoi.specs.Explanations.{Why}
 use Rattle.voronoi.specs.Roots.{MagnitudeBits, Magnitude, SignumBits, Signum}
 use Rattle.voronoi.specs.Plane.{Near, Dist2, Edges, Corners, Inside, ExclusivelyInside, WhichEdge, Meets}
 use Rattle.voronoi.specs.Meshes.{Check}
@@ -177,3 +180,8 @@ module _ (off ix : List ℕ) (s : ℕ) (old : List ℕ) {new other : List ℕ} {
 
   pub one-cell-wkb : (v : List Float) → CellWkb v off ix s old new w q → CellWkb v off ix s old other u r → (q ≡ r) × (w ≡ u) × (new ≡ other)
   one-cell-wkb v = one-wkb (patterns v) off ix s old
+
+-- ---- reasons
+pub one-why : {m : Mesh} (c : Point) (w h : Float) (asked first second : ℕ) {old new other : Slices} {t u : ReasonNumbers}
+    → Why m c w h asked first second old new t → Why m c w h asked first second old other u → (t ≡ u) × (new ≡ other)
+one-why c w h asked first second = one-why-call

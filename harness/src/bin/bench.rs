@@ -102,10 +102,7 @@ fn time(name: &str, m: &Mesh, area: &Area, rounds: usize, library: &mut Library)
 /// Nanoseconds of one build, taken by the server round the call itself.
 fn library_once(m: &Mesh, area: &Area, library: &mut Library) -> u64 {
     let lent = Slices::fresh(&Lengths::exact(m));
-    let call = Call::new("time_build").gives_bits(0).float(area.x).float(area.y).float(area.width).float(area.height);
-    let call = call.floats(&m.sites).indexes(&m.triangles).indexes(&m.halfedges).indexes(&m.hull);
-    let call = call.indexes(&lent.work).floats(&lent.floats).indexes(&lent.indexes).indexes(&lent.offsets).indexes(&lent.counts);
-    library.ask(call).unwrap_or_else(|e| {
+    library.ask(Call::new("time_build").gives_bits(0).area(area).mesh(m).lent_slices(&lent, &lent)).unwrap_or_else(|e| {
         eprintln!("{e}");
         std::process::exit(1)
     })

@@ -10,7 +10,7 @@ use harness::cases::Case;
 use harness::library::{Difference, Library};
 use harness::tally::{Tally, CALLS};
 use harness::words::Words;
-use harness::{compare, plane, roots, rust, text};
+use harness::{compare, plane, roots, rust, text, why};
 use std::time::{Duration, Instant};
 
 const USAGE: &str = "compare [--cases N] [--plane N] [--roots N] [--seed S] [--from I]
@@ -28,6 +28,9 @@ fn main() {
         let case = Case::random(seed, i);
         print!("{}", text::write(&case.mesh, Some(&case.area)));
         println!("{:?}", Case { mesh: Default::default(), ..case.clone() });
+        if let Some(mesh) = why::worse(i, &case) {
+            print!("and made worse, where the reason alone is asked for:\n{}", text::write(&mesh, Some(&case.area)));
+        }
         let told = compare::run(i, &case, &mut library, &mut Tally::new()).and_then(|()| library.flush());
         match told {
             Ok(()) => println!("no difference"),

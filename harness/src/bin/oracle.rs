@@ -5,22 +5,27 @@
 //!     oracle --check FILE..    only whether each file's `answer` lines are among what would be printed
 //!     oracle --form FILE       the mesh as the program `cells` reads it, on standard output
 //!     oracle --listing FILE    what the program `cells` must print for it
+//!     oracle --why FILE [SITE [SITE]]    what the program `why` must print for it
+//!     oracle --place FILE      the refusal's number, place, from and to, E where there is none, 0 E E E where it builds
 
 use harness::mesh::{Mesh, Pt};
 use harness::reference::{self, Counts, Mark};
 use harness::text::{self, row, show};
+use harness::why::{self, Question};
 use harness::{form, rust};
 use std::io::{Read, Write};
 
 const USAGE: &str = "oracle [FILE]            one mesh, from a text: what the Rust answers
 oracle --check FILE..    only whether each file's `answer` lines are among what would be printed
 oracle --form FILE       the mesh as the program `cells` reads it, on standard output
-oracle --listing FILE    what the program `cells` must print for it";
+oracle --listing FILE    what the program `cells` must print for it
+oracle --why FILE [SITE [SITE]]    what the program `why` must print for it
+oracle --place FILE      the refusal's number, place, from and to; E where there is none, 0 E E E where it builds";
 
 fn main() {
     rust::quiet();
     let args: Vec<String> = std::env::args().skip(1).collect();
-    const VERBS: [&str; 3] = ["--check", "--form", "--listing"];
+    const VERBS: [&str; 5] = ["--check", "--form", "--listing", "--why", "--place"];
     if args.iter().any(|a| a == "--help" || a == "-h") {
         println!("{USAGE}");
         return;
@@ -57,6 +62,23 @@ fn main() {
         }
         return;
     }
+    if let Some(verb @ ("--why" | "--place")) = args.first().map(String::as_str) {
+        let (file, sites) = args[1..].split_first().unwrap_or_else(|| stop(USAGE));
+        let input = text::read(&open(file)).unwrap_or_else(|e| stop(&format!("{file}: {e}")));
+        let sites: Option<Vec<u32>> = sites.iter().map(|w| w.parse().ok()).collect();
+        let q = match sites {
+            Some(s) if s.len() <= 2 && (verb == "--why" || s.is_empty()) => Question::about(&s),
+            _ => stop(USAGE),
+        };
+        let reason = why::told(&input.mesh, input.clip.as_ref(), &q).unwrap_or_else(|e| stop(&e));
+        if verb == "--why" {
+            println!("{}", reason.line(&q));
+        } else {
+            let [_, place, from, to] = reason.numbers();
+            println!("{} {}", reason.number, text::list(&[place, from, to]));
+        }
+        return;
+    }
     let text = match args.first() {
         Some(file) => open(file),
         None => {
@@ -76,8 +98,19 @@ fn stop(words: &str) -> ! {
     std::process::exit(2)
 }
 
-/// The refusals up to 10 and 11, 12 are the rules', before the Rust is asked; 13 to 15 are its panics.
+/// What is printed for a mesh and the questions beside it.
 fn listing(input: &text::Input) -> Vec<String> {
+    let mut lines = answers(input);
+    for q in &input.reasons {
+        let sites: String = [q.first, q.second][..q.asked as usize].iter().map(|s| format!(" {s}")).collect();
+        let reason = why::told(&input.mesh, input.clip.as_ref(), q).unwrap_or_else(|e| stop(&e));
+        lines.push(format!("why{sites}: {}", reason.line(q)));
+    }
+    lines
+}
+
+/// The refusals up to 10 and 11, 12 are the rules', before the Rust is asked; 13 to 15 are its panics.
+fn answers(input: &text::Input) -> Vec<String> {
     let m = &input.mesh;
     let number = if !reference::counts_sound(m) {
         1
@@ -95,13 +128,13 @@ fn listing(input: &text::Input) -> Vec<String> {
     let mut lines = vec![row("leftmost", &lent.leftmost())];
     let ours = reference::build(m, input.clip.as_ref(), &mut Counts::default());
     let cells = match ours {
-        Err(n @ (11 | 12)) => {
+        Err(reference::Fault { number: n @ (11 | 12), .. }) => {
             lines.push(format!("refused {n}"));
             None
         }
         _ => match (&ours, rust::build(&lent, input.clip.as_ref())) {
-            (Err(n), Err(Ok(k))) if *n == k => {
-                lines.push(format!("refused {n}"));
+            (Err(f), Err(Ok(k))) if f.number == k => {
+                lines.push(format!("refused {k}"));
                 None
             }
             (Ok(o), Ok(t)) if same(o, &t) => {

@@ -26,6 +26,53 @@ pub fn any(r: &mut Rng, m: &mut Mesh) {
     }
 }
 
+/// Several offenders of one rule from 6 to 10, so that the lowest is told from the rest.
+pub fn several(r: &mut Rng, m: &mut Mesh) {
+    let which = r.below(6);
+    for _ in 0..2 + r.below(3) {
+        match which {
+            0 => {
+                let i = r.below(m.sites.len());
+                m.sites[i] = floats::refused(r);
+            }
+            1 => triangle(r, m),
+            2 => pairing(r, m),
+            3 => hull(r, m),
+            4 => along_the_border(r, m),
+            _ => closed_at_a_site(r, m),
+        }
+    }
+    if which > 3 && r.chance(1, 2) {
+        let mut t = Topology { triangles: m.triangles.clone(), halfedges: m.halfedges.clone(), hull: Vec::new() };
+        topology::shuffle_triangles(r, &mut t);
+        (m.triangles, m.halfedges) = (t.triangles, t.halfedges);
+    }
+}
+
+/// A triangle more, unpaired, of which one half-edge runs as an unpaired one does.
+fn along_the_border(r: &mut Rng, m: &mut Mesh) {
+    let open: Vec<usize> = (0..m.halfedges.len()).filter(|&e| m.halfedges[e] == EMPTY).collect();
+    if !open.is_empty() {
+        let e = r.pick(&open);
+        m.triangles.extend([m.triangles[e], m.triangles[next(e)], m.triangles[next(next(e))]]);
+        m.halfedges.extend([EMPTY; 3]);
+    }
+}
+
+/// A closed part that shares one site with the rest.
+fn closed_at_a_site(r: &mut Rng, m: &mut Mesh) {
+    let first = m.count() as u32;
+    let mut t = Topology { triangles: m.triangles.clone(), halfedges: m.halfedges.clone(), hull: Vec::new() };
+    let steps = r.below(3);
+    let (part, n) = topology::closed(r, steps);
+    t.append(&part, first);
+    m.sites.extend((0..2 * n).map(|_| r.signed()));
+    let from = first + r.below(n as usize) as u32;
+    let to = r.below(first as usize) as u32;
+    t.triangles.iter_mut().filter(|s| **s == from).for_each(|s| *s = to);
+    (m.triangles, m.halfedges) = (t.triangles, t.halfedges);
+}
+
 /// Lengths at and about their limits.
 fn counts(r: &mut Rng, m: &mut Mesh) {
     match r.below(10) {
@@ -112,15 +159,7 @@ fn surface(r: &mut Rng, m: &mut Mesh) {
     let first = m.count() as u32;
     let mut t = Topology { triangles: m.triangles.clone(), halfedges: m.halfedges.clone(), hull: m.hull.clone() };
     match r.below(5) {
-        0 | 1 => {
-            let steps = r.below(3);
-            let (part, n) = topology::closed(r, steps);
-            t.append(&part, first);
-            m.sites.extend((0..2 * n).map(|_| r.signed()));
-            let from = first + r.below(n as usize) as u32;
-            let to = r.below(first as usize) as u32;
-            t.triangles.iter_mut().filter(|s| **s == from).for_each(|s| *s = to);
-        }
+        0 | 1 => return closed_at_a_site(r, m),
         2 => {
             t.append(&topology::single(), first);
             m.sites.extend((0..6).map(|_| r.signed()));

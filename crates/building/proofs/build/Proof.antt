@@ -2,8 +2,8 @@
 use mathlib.Core.Path.{sym, _∙_}
 use native.Mathlib.Omega.{arith}
 use lib.ListN.{length-take}
-use Rattle.building.specs.laws.BuildAnswer.{table-fits, six-of}
-use Rattle.building.specs.laws.ClippedBuild.{clipped-early, clipped-asks, count-fits, clipped-built}
+use Rattle.build_answers.specs.laws.BuildAnswer.{table-fits, six-of}
+use Rattle.build_answers.specs.laws.ClippedBuild.{clipped-early, clipped-asks, count-fits, clipped-built}
 use borrow.Author.Needs.{needs}
 use Rattle.building.proofs.build.Tie as tie
 use Rattle.building.proofs.build.Statement.{statement}

@@ -3,7 +3,7 @@ use mathlib.Core.List.{[]}
 use native.Mathlib.Omega.{arith}
 use Rattle.laws.specs.laws.Refusals.{nothing}
 use Rattle.definition.specs.LateRefusals.{unclipped-late}
-use Rattle.building.specs.laws.BuildAnswer.{answers-early, mesh-of, rooms-of, six-of, answers-built, unclipped-counts}
+use Rattle.build_answers.specs.laws.BuildAnswer.{answers-early, mesh-of, rooms-of, six-of, answers-built, unclipped-counts}
 use borrow.Author.Needs.{needs}
 use Rattle.building.proofs.build_unclipped.Tie as tie
 use Rattle.building.proofs.build_unclipped.Statement.{statement}

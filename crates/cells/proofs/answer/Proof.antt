@@ -1,6 +1,7 @@
 -- `cells::answer` prints what is promised: the form was read, and its answer tells what its bytes are.
 use native.Mathlib.Omega.{arith}
-use Rattle.printing.specs.laws.ReadForm.{bytes, printed}
+use Rattle.form.specs.laws.Lists.{bytes}
+use Rattle.printing.specs.laws.ReadForm.{printed}
 use Rattle.cells.specs.Printed.{listingTexts}
 use borrow.Author.Needs.{needs}
 use Rattle.cells.proofs.answer.Statement.{statement}

@@ -24,12 +24,12 @@ use Rattle.definition.specs.laws.Gives.{Gives, gives-ok}
 use Rattle.definition.specs.Build.{Built, build}
 use Rattle.layout.specs.Outputs.{indexNumbers, offsetNumbers, countNumbers}
 use Rattle.definition.specs.Cell.{unmarked}
-use Rattle.building.specs.Promise.{Builds, BuildAnswer, BuildAnswers, ClippedBuild, UnclippedBuild}
+use Rattle.build_answers.specs.Promise.{Builds, BuildAnswer, BuildAnswers, ClippedBuild, UnclippedBuild}
 use Rattle.check_mesh.specs.AtExit.{atExit}
 use Rattle.admission.specs.Slices.{Slices, roomFor, roomOf}
 use Rattle.definition.specs.Late.{Refuses, Numbered}
 use Rattle.definition.specs.LateRefusals.{build-late, unclipped-late}
-use Rattle.building.specs.Success.{zero-succeeds}
+use Rattle.build_answers.specs.Success.{zero-succeeds}
 use Rattle.listing.specs.Listing.{unclippedListing, listing, cellLines}
 use Rattle.cells.specs.Printed.{linesOf, unclippedText, boxText}
 use Rattle.cells.specs.Shown.{SheetSized, Laid, boxLines, unclippedLines}

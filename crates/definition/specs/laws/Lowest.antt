@@ -26,13 +26,13 @@ use Rattle.definition.specs.Lowest.{Lowest}
 ring-length : (he : List ℕ) (e : ℕ) → length (ringCell he e) ≡ length (ringFrom he e)
 ring-length he e = length-map (reverse (ringFrom he e)) (entry plain) ∙ length-reverse (ringFrom he e)
 
-ring-some : (he : List ℕ) (e : ℕ) → e < length he → 0 < length (ringCell he e)
+pub ring-some : (he : List ℕ) (e : ℕ) → e < length he → 0 < length (ringCell he e)
 ring-some he e h =
     let q : length he ≡ suc (length he - 1) = omega arith in
     let w : wholeOf he e ≡ e ∷ walkOf he e (length he - 1) (turnOf he e e) = ap (λ (k : ℕ). walkOf he e k e) q ∙ walk-go he e (length he - 1) e h in
     omega (arith, ring-length he e, length-map (wholeOf he e) (λ f. f / 3), ap length w)
 
-not-empty : (c : List Entry) → isEmpty c ≡ false → c ≢ []
+pub not-empty : (c : List Entry) → isEmpty c ≡ false → c ≢ []
 not-empty [] h e = let z : _≡_ {A = ℕ} 0 1 = cc in absurd (omega arith)
 not-empty (x ∷ c) h e = omega (arith, ap length e)
 

@@ -53,7 +53,7 @@ last-some : (P : ℕ → Type 0) (nc n l : ℕ) (es : List Entry) → nc + 4 ≤
 last-some P nc n l [] room h k = absurd (omega arith)
 last-some P nc n l (e ∷ es) room h k = last-below P nc n (e .at) es room (h .1) (placed-below P nc n (e .mark) (e .at) room (h .0))
 
-turned-length : (f : ℕ) (ring : List ℕ) → length (turned f ring) ≡ length ring
+pub turned-length : (f : ℕ) (ring : List ℕ) → length (turned f ring) ≡ length ring
 unfolding turned
 turned-length f ring =
     length-append (reverse (take f ring)) (reverse (drop f ring))

@@ -205,7 +205,7 @@ is-finite (fin s m e) k h = refl
 abbrev pub FinitePoint : Point → Type 0
 FinitePoint p = (finite (p .x) && finite (p .y)) ≡ true
 
-finite-both : (p : Point) (k : ℕ) → Bounded k (p .x) → Bounded k (p .y) → FinitePoint p
+pub finite-both : (p : Point) (k : ℕ) → Bounded k (p .x) → Bounded k (p .y) → FinitePoint p
 finite-both p k h g = rw (is-finite (p .x) k h, is-finite (p .y) k g)
 
 crossing-finite : (k : ℕ) (c : Crossing) → BoundedCrossing k c → OfCrossing FinitePoint c

@@ -1,6 +1,7 @@
 -- `export::answer` prints what is promised: the form was read, and its answer tells what its bytes are.
 use native.Mathlib.Omega.{arith}
-use Rattle.printing.specs.laws.ReadForm.{bytes, printed}
+use Rattle.form.specs.laws.Lists.{bytes}
+use Rattle.printing.specs.laws.ReadForm.{printed}
 use Rattle.export.specs.Printed.{mapTexts}
 use borrow.Author.Needs.{needs}
 use Rattle.export.proofs.answer.Statement.{statement}

@@ -33,12 +33,12 @@ use Rattle.definition.specs.laws.Start.{centers-from}
 use Rattle.export.specs.laws.UnclippedEntries.{cells-named}
 use Rattle.layout.specs.Outputs.{vertexNumbers, indexNumbers, offsetNumbers}
 use Rattle.definition.specs.Cell.{unmarked}
-use Rattle.building.specs.Promise.{Builds, BuildAnswer, BuildAnswers, ClippedBuild, UnclippedBuild}
+use Rattle.build_answers.specs.Promise.{Builds, BuildAnswer, BuildAnswers, ClippedBuild, UnclippedBuild}
 use Rattle.check_mesh.specs.AtExit.{atExit}
 use Rattle.admission.specs.Slices.{Slices, roomFor, roomOf}
 use Rattle.definition.specs.Late.{Refuses, Numbered}
 use Rattle.definition.specs.LateRefusals.{build-late, unclipped-late}
-use Rattle.building.specs.Success.{zero-succeeds, clipped-sound}
+use Rattle.build_answers.specs.Success.{zero-succeeds, clipped-sound}
 use Rattle.export.specs.Printed.{exported}
 use Rattle.export.specs.Shown.{MapSized, CanDraw, lines}
 use Rattle.export.specs.laws.CellsInIndexes.{lines-are, can-draw}

@@ -64,12 +64,12 @@ module _ (os cs : List ℕ) where
 
 -- ---- lengths
 
-entries-short : (l : List ℕ) → length (entries l) ≤ 11 * length l
+pub entries-short : (l : List ℕ) → length (entries l) ≤ 11 * length l
 unfolding entries
 entries-short [] = omega arith
 entries-short (v ∷ l) = omega (arith, length-append (decimal v) (entries l), decimal-short v, entries-short l)
 
-labelled-short : (label : String) (n : ℕ) → length (labelled label n) ≤ length (ascii label) + 11
+pub labelled-short : (label : String) (n : ℕ) → length (labelled label n) ≤ length (ascii label) + 11
 unfolding labelled
 labelled-short label n = omega (arith, length-append (ascii label) (entries (n ∷ [])), entries-short (n ∷ []))
 

@@ -15,8 +15,8 @@ use Rattle.definition.specs.declared.Fault.{Fault}
 use Rattle.definition.specs.Fault.{Outcome, ok, refused}
 use Rattle.definition.specs.Build.{Built}
 use Rattle.layout.specs.Outputs.{faultOf}
-use Rattle.building.specs.Promise.{Builds}
-use Rattle.building.specs.laws.Promise.{builds-cases}
+use Rattle.build_answers.specs.Promise.{Builds}
+use Rattle.build_answers.specs.laws.Promise.{builds-cases}
 use Rattle.admission.specs.Slices.{Slices}
 use Rattle.definition.specs.Late.{Refuses, Numbered}
 use Rattle.printing.specs.Printed.{Shows, shown}

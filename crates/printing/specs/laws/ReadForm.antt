@@ -1,10 +1,9 @@
 -- What a form's reader leaves in its lists is the mesh of the form, so what is printed by its answer is what is printed for its bytes.
 use mathlib.Core.Path.{_≡_}
-use mathlib.Core.List.{List, [], _∷_}
+use mathlib.Core.List.{List}
 use mathlib.Core.Logic.{⊎-elim}
-use Prim.Native.Nat.{ℕ, suc, _<_}
+use Prim.Native.Nat.{ℕ}
 use lib.Ieee.{Float}
-use lib.ListN.{getD}
 use Rattle.numbers.specs.Numbers.{refusedForm}
 use Rattle.octets.specs.Bytes.{Bytes}
 use Rattle.form_step.specs.Reader.{start, reading}
@@ -14,11 +13,6 @@ use Rattle.form_step.specs.declared.Form.{Form}
 use Rattle.listing.specs.Listing.{refusal}
 use Rattle.printing.specs.laws.FormLists.{to-mesh}
 use Rattle.printing.specs.Printed.{Prints, sound, broken, ByForm, Texts}
-
--- bytes, each below 256
-pub bytes : (s : List ℕ) → ((i : ℕ) → getD s i 0 < 256) → Bytes s
-bytes [] h = tt
-bytes (b ∷ s) h = (h 0, bytes s (λ i. h (suc i)))
 
 module _ (t : Texts) where
   module _ (s : List ℕ) (bs ss : List Float) (ts es hs : List ℕ) (bs′ ss′ : List Float) (ts′ es′ hs′ : List ℕ) (text : List ℕ) (room : ListRoom bs ss ts es hs) where

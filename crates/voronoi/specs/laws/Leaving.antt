@@ -21,12 +21,12 @@ use Rattle.definition.specs.laws.VerticesFinite.{Each, FinitePoint, vertices-fi
 use Rattle.definition.specs.laws.CellCount.{cell-count, ring-count}
 use Rattle.definition.specs.laws.EmptyCell.{empty-cell, empty-ring}
 use Rattle.definition.specs.Cell.{unmarked}
-use Rattle.building.specs.Promise.{BuildAnswer}
+use Rattle.build_answers.specs.Promise.{BuildAnswer}
 use Rattle.admission.specs.Slices.{Slices}
 use Rattle.definition.specs.LateRefusals.{build-late, unclipped-late}
 use Rattle.admission.specs.laws.Asks.{box-answers}
-use Rattle.building.specs.Success.{zero-succeeds, succeeds-zero}
-use Rattle.building.specs.laws.Left.{left-work, left-vertices, left-indexes, left-offsets, left-counts, slice-finite, read-part, read-place}
+use Rattle.build_answers.specs.Success.{zero-succeeds, succeeds-zero}
+use Rattle.build_answers.specs.laws.Left.{left-work, left-vertices, left-indexes, left-offsets, left-counts, slice-finite, read-part, read-place}
 use Rattle.voronoi.specs.Builds.{Build, BuildUnclipped, CellPart}
 use Rattle.voronoi.specs.Leaves.{BuildAllowed, BuildLeaves}
 

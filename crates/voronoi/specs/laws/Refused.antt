@@ -14,7 +14,7 @@ use Rattle.queries.specs.Answers.{outAfter, countAfter, endedAfter}
 use Rattle.definition.specs.declared.Fault.{Fault}
 use Rattle.definition.specs.Fault.{Outcome}
 use Rattle.definition.specs.Build.{Built}
-use Rattle.building.specs.Promise.{BuildAnswer}
+use Rattle.build_answers.specs.Promise.{BuildAnswer}
 use Rattle.check_mesh.specs.AtExit.{atExit}
 use Rattle.admission.specs.Slices.{Slices}
 use Rattle.plane_calls.specs.Plane.{bit}

@@ -20,8 +20,8 @@ use Rattle.definition.specs.laws.OwnerPaths.{owner-path}
 use Rattle.admission.specs.Slices.{Slices}
 use Rattle.definition.specs.LateRefusals.{build-late}
 use Rattle.admission.specs.laws.Asks.{box-answers}
-use Rattle.building.specs.Success.{zero-succeeds, clipped-sound}
-use Rattle.building.specs.laws.Left.{left-vertices, left-indexes, left-offsets, left-counts, slice-point, count-owner, count-before, count-lost}
+use Rattle.build_answers.specs.Success.{zero-succeeds, clipped-sound}
+use Rattle.build_answers.specs.laws.Left.{left-vertices, left-indexes, left-offsets, left-counts, slice-point, count-owner, count-before, count-lost}
 use Rattle.voronoi.specs.Builds.{Build}
 use Rattle.voronoi.specs.Wraps.{Wraps}
 use Rattle.voronoi.specs.laws.Walking.{approaches}

@@ -1,0 +1,68 @@
+-- Theorem: when a build answers 0. On an accepted mesh with room, in a box that rule 3 admits, exactly where the definition refuses nothing; and demand 3 then.
+use mathlib.Core.Path.{_≡_, refl, sym, ap, _∙_}
+use mathlib.Core.Logic.{⊎-elim}
+use mathlib.Core.List.{List}
+use Prim.Native.Nat.{ℕ}
+use native.Mathlib.Omega.{arith}
+use lib.Ieee.{Float}
+use Rattle.laws.specs.Refusals.{Rule}
+use Rattle.utils.specs.declared.Point.{Point}
+use Rattle.bounding_box.specs.Box.{madeOf}
+use Rattle.bounding_box.specs.Finite.{box-bounded}
+use Rattle.bounding_box.specs.declared.BoundingBox.{BoundingBox}
+use Rattle.mesh.specs.Accepted.{Mesh}
+use Rattle.admission.specs.Admits.{Admitted}
+use Rattle.admission.specs.Slices.{Slices, roomOf}
+use Rattle.admission.specs.laws.Admits.{NoneZero, admitted, admits}
+use Rattle.admission.specs.laws.Asks.{box-answers}
+use Rattle.definition.specs.declared.Fault.{Fault}
+use Rattle.definition.specs.Fault.{Outcome, ok, refused}
+use Rattle.definition.specs.Build.{Built, build}
+use Rattle.definition.specs.Theorems.{wrapping, room}
+use Rattle.definition.specs.Wrapping.{Wrapping}
+use Rattle.definition.specs.Measures.{Room}
+use Rattle.layout.specs.Outputs.{faultOf}
+use Rattle.build_answers.specs.Promise.{BuildAnswers, ClippedBuild}
+use Rattle.build_answers.specs.laws.Promise.{built, builds-one, builds-cases}
+use Rattle.definition.specs.Late.{Refuses, Numbered}
+use Rattle.definition.specs.LateRefusals.{build-late}
+
+-- ---- 0
+
+-- the definition refuses nothing
+pub record Value (o : Outcome Fault Built) : Type 0 where
+  pub value : Built
+  pub is : o ≡ ok value
+
+value-of : (o : Outcome Fault Built) → Refuses Numbered o → faultOf o .number ≡ 0 → Value o
+value-of (ok b) late z = record { value = b; is = refl }
+value-of (refused f) late z = absurd (omega (arith, late .least))
+
+pub record Succeeds (m : Mesh) (own : List (Rule ℕ)) (o : Outcome Fault Built) (old : Slices) : Type 0 where
+  pub admission : Admitted m (roomOf m old) own
+  pub outcome : Value o
+
+module _ {m : Mesh} {own : List (Rule ℕ)} (t : NoneZero own) {o : Outcome Fault Built} {old new : Slices} {r : ℕ} where
+  pub zero-succeeds : Refuses Numbered o → BuildAnswers m own o old new r → r ≡ 0 → Succeeds m own o old
+  zero-succeeds late a z =
+      ⊎-elim
+      (λ x. absurd (x .1 z))
+      (λ x. record { admission = admitted t (x .0) refl; outcome = value-of o late (sym (x .1) ∙ z) })
+      (builds-cases t (a .number))
+
+  pub succeeds-zero : Succeeds m own o old → BuildAnswers m own o old new r → r ≡ 0
+  succeeds-zero s a = builds-one (a .number) (built t (admits (s .admission))) ∙ ap (λ p. faultOf p .number) (s .outcome .is)
+
+-- ---- demand 3 on an accepted clipped build
+-- each corner is wrapped at most once, by its owner; and what is built fits its room
+pub record SoundBuild (m : Mesh) (b : BoundingBox) : Type 0 where
+  pub outcome : Value (build m b)
+  pub wraps : Wrapping m b (outcome .value)
+  pub fits : Room (m .triangles) (m .hull) b (outcome .value)
+
+pub clipped-sound : {m : Mesh} (c : Point) (w h : Float) {old new : Slices} {r : ℕ}
+    → ClippedBuild m c w h old new r → r ≡ 0 → SoundBuild m (madeOf c w h)
+clipped-sound {m} c w h a z =
+    let s = zero-succeeds (box-answers c w h) (build-late m (madeOf c w h)) a z in
+    let box = box-bounded c w h (s .admission .fit .0) in
+    record { outcome = s .outcome; wraps = wrapping (s .admission .accepted) box (s .outcome .is); fits = room (s .admission .accepted) box (s .outcome .is) }

@@ -1,0 +1,5 @@
+-- The root of the crate's definitions.
+pub mod Promise
+pub mod Steps
+pub mod One
+pub mod laws

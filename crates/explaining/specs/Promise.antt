@@ -1,0 +1,34 @@
+-- What asking for the reason promises: the reason that the rules give, of the first one that is broken and of the first thing that breaks it, and where all hold the
+-- answer to what was asked; the five slices are as a build leaves them.
+use mathlib.Core.Path.{_≡_}
+use mathlib.Core.Bool.{true}
+use mathlib.Core.List.{List, _++_}
+use Prim.Native.Nat.{ℕ}
+use lib.Ieee.{Float}
+use Rattle.laws.specs.Refusals.{Rule}
+use Rattle.utils.specs.declared.Point.{Point}
+use Rattle.bounding_box.specs.Box.{madeOf}
+use Rattle.mesh.specs.Accepted.{Mesh, tableOf, siteCount}
+use Rattle.definition.specs.declared.Fault.{Fault}
+use Rattle.definition.specs.Fault.{Outcome}
+use Rattle.definition.specs.Build.{Built, build}
+use Rattle.definition.specs.Unclipped.{unclipped}
+use Rattle.admission.specs.Asks.{boxRules}
+use Rattle.admission.specs.Slices.{Slices, roomOf}
+use Rattle.build_answers.specs.Promise.{BuildAnswer}
+use Rattle.reasons.specs.declared.Question.{Question}
+use Rattle.reasons.specs.declared.Reason.{Reason}
+use Rattle.reasons.specs.Reason.{toldBy}
+use Rattle.reasons.specs.Rules.{questionRules, ReasonFor}
+
+pub record WhyAnswer (m : Mesh) (own : List (Rule ℕ)) (q : Question) (o : Outcome Fault Built) (old new : Slices) (r : Reason) : Type 0 where
+  pub reason : ReasonFor m (roomOf m old ≡ true) own q o r
+  pub slices : BuildAnswer (λ n. n ≡ toldBy r .number) (tableOf m) o old new (toldBy r .number)
+
+module _ (m : Mesh) where
+  -- in the box of this center, width and height
+  abbrev pub ClippedWhy : Point → Float → Float → Question → Slices → Slices → Reason → Type 0
+  ClippedWhy c w h q = WhyAnswer m (boxRules c w h ++ questionRules (siteCount (m .sites)) q) q (build m (madeOf c w h))
+
+  abbrev pub UnclippedWhy : Question → Slices → Slices → Reason → Type 0
+  UnclippedWhy q = WhyAnswer m (questionRules (siteCount (m .sites)) q) q (unclipped (m .sites) (m .triangles) (m .halfedges))

@@ -1,0 +1,55 @@
+-- A build's own steps give what it met, as a reason.
+use mathlib.Core.Path.{_≡_, sym, ap, _∙_, subst}
+use mathlib.Core.Bool.{true}
+use mathlib.Core.List.{List}
+use Prim.Native.Nat.{ℕ, _/_}
+use lib.Ieee.{Float}
+use lib.ListN.{length, replicate}
+use Rattle.numbers.specs.Numbers.{EMPTY}
+use Rattle.utils.specs.declared.Point.{Point}
+use Rattle.bounding_box.specs.Box.{madeOf}
+use Rattle.bounding_box.specs.Rules.{okBox}
+use Rattle.bounding_box.specs.declared.BoundingBox.{BoundingBox}
+use Rattle.mesh.specs.Accepted.{Mesh}
+use Rattle.definition.specs.declared.Fault.{Fault}
+use Rattle.definition.specs.Fault.{Outcome}
+use Rattle.definition.specs.Build.{Built, build}
+use Rattle.definition.specs.Unclipped.{unclipped}
+use Rattle.layout.specs.Outputs.{faultOf, BuiltInto}
+use Rattle.cell_finish.specs.declared.CellsAnswer.{CellsAnswer}
+use Rattle.cell_finish.specs.Finish.{outcomeAnswer}
+use Rattle.build_counts.specs.Counts.{countsOf, EndedBuild}
+use Rattle.admission.specs.Admits.{askedRules}
+use Rattle.admission.specs.laws.Admits.{asked-answers, finds-asked}
+use Rattle.admission.specs.Slices.{Slices, slices}
+use Rattle.admission.specs.Admission.{BuildAdmission}
+use Rattle.build_answers.specs.Promise.{BuildAnswers}
+use Rattle.definition.specs.LateRefusals.{unclipped-late}
+use Rattle.build_answers.specs.laws.BuildAnswer.{answers-built, unclipped-counts}
+use Rattle.build_answers.specs.laws.ClippedBuild.{boxed-fault, boxed-built}
+use Rattle.reasons.specs.declared.Reason.{Reason}
+use Rattle.reasons.specs.Reason.{ofFault}
+use Rattle.explaining.specs.Steps.{Explains, built}
+
+explains : {m : Mesh} {asked : ℕ} {o : Outcome Fault Built} {old mid new : Slices} {n : ℕ} {r : Reason} {f : Fault}
+    → BuildAdmission m asked old mid n → n ≡ 0 → f ≡ faultOf o → BuildAnswers m (askedRules asked) o old new (f .number) → r ≡ ofFault f
+    → Explains m asked o old new r
+explains {m} {asked} {o} {old} {new = new} a z q b e =
+    subst (Explains m asked o old new) (sym (e ∙ ap ofFault q)) (built a z (rw q at b))
+
+module _ {m : Mesh} {asked : ℕ} {old mid : Slices} {n : ℕ} (a : BuildAdmission m asked old mid n) (z : n ≡ 0)
+    {v : List Float} {ix off w₂ c₂ : List ℕ} {r : Reason} where
+  pub explains-in-box : (c : Point) (w h : Float) → (asked ≡ 0 → okBox c w h ≡ true) → (b : BoundingBox) → b ≡ madeOf c w h → (x : CellsAnswer)
+      → x ≡ outcomeAnswer (build m b) → BuiltInto (build m b) (mid .vertices) (mid .indexes) (mid .offsets) v ix off
+      → EndedBuild (x .fault .number) (countsOf (x .count) (x .owners) (x .lost)) (mid .work) (mid .counts) w₂ c₂ → r ≡ ofFault (x .fault)
+      → Explains m asked (build m (madeOf c w h)) old (slices w₂ v ix off c₂) r
+  explains-in-box c w h fit b made x q l f e = explains a z (boxed-fault a c w h fit z b made x q)
+      (boxed-built a c w h fit z b made x q (askedRules asked) (asked-answers asked) (finds-asked asked) l f) e
+
+  pub explains-unclipped : (f : Fault) → f ≡ faultOf (unclipped (m .sites) (m .triangles) (m .halfedges))
+      → BuiltInto (unclipped (m .sites) (m .triangles) (m .halfedges)) (mid .vertices) (mid .indexes) (mid .offsets) v ix off
+      → EndedBuild (f .number) (countsOf (length (m .triangles) / 3) (replicate 4 EMPTY) 0) (mid .work) (mid .counts) w₂ c₂ → r ≡ ofFault f
+      → Explains m asked (unclipped (m .sites) (m .triangles) (m .halfedges)) old (slices w₂ v ix off c₂) r
+  explains-unclipped f q l k e = explains a z q
+      (answers-built a z (askedRules asked) (asked-answers asked) (finds-asked asked) (unclipped (m .sites) (m .triangles) (m .halfedges)) (unclipped-late
+      (m .sites) (m .triangles) (m .halfedges)) f q l k (unclipped-counts (m .sites) (m .triangles) (m .halfedges))) e

@@ -1,0 +1,272 @@
+// The reason asked for on a whole lent mesh: the five slices are left as by a build, and the one reason is told.
+use admission::admit_build;
+use build_counts::finish_clipped;
+use build_counts::finish_unclipped;
+use cell_builder::build_cells;
+use reasons::Question;
+use reasons::Reason;
+use reasons::asked::answer;
+use reasons::of_fault;
+use reasons::of_mesh;
+use reasons::tell;
+use utils::Point;
+ghost use mathlib.Core.Path.{_≡_};
+ghost use mathlib.Core.Bool.{true};
+ghost use mathlib.Core.List.{_++_};
+ghost use Prim.Native.Nat.{_<_};
+ghost use Rattle.numbers.specs.Numbers.{refusedTriangle};
+ghost use Rattle.bounding_box.specs.Box.{madeOf};
+ghost use Rattle.bounding_box.specs.Rules.{okBox};
+ghost use Rattle.mesh.specs.Accepted.{mesh};
+ghost use Rattle.definition.specs.Build.{build};
+ghost use Rattle.definition.specs.Unclipped.{unclipped};
+ghost use Rattle.admission.specs.Asks.{boxRules, Asked};
+ghost use Rattle.admission.specs.Slices.{slices};
+ghost use Rattle.reasons.specs.Rules.{questionRules};
+ghost use Rattle.explaining.specs.Promise.{ClippedWhy, UnclippedWhy};
+ghost use Rattle.explaining.specs.Steps.{Located, Explains};
+
+// Rule 4 on each site asked about.
+fn ask_question(sites: usize, q: Question) -> u32
+    ensures { λ r. ⌜ Asked (questionRules sites q) r ⌝ }
+{
+    match q {
+        Question::Nothing => 0,
+        Question::About(s) => admission::ask_site(sites, s),
+        Question::Between(s, t) => {
+            let r = admission::ask_site(sites, s);
+            if r != 0 {
+                return r;
+            }
+            admission::ask_site(sites, t)
+        }
+    }
+}
+
+// Rule 3, then rule 4.
+fn ask_in_box(center: Point, width: f64, height: f64, sites: usize, q: Question) -> u32
+    ensures { λ r. ⌜ Asked (boxRules center width height ++ questionRules sites q) r ⌝ }
+{
+    let r = admission::ask_box(center, width, height);
+    if r != 0 {
+        return r;
+    }
+    ask_question(sites, q)
+}
+
+// A refusal by the rules up to 10 with its place: from 6 on the check is made again, and tells it.
+fn locate(
+    number: u32,
+    sites: &[f64],
+    triangles: &[u32],
+    halfedges: &[u32],
+    hull: &[u32],
+    work: &mut [u32],
+) -> Reason
+    ensures { λ r. ⌜ Located (mesh (now (sites .entry)) (now (triangles .entry)) (now (halfedges .entry)) (now (hull .entry))) number (now (work .entry)) (now (work .exit)) r ⌝ }
+{
+    if number < numbers::REFUSED_COORDINATE {
+        return Reason::Number(number);
+    }
+    of_mesh(check_mesh::check_mesh(sites, triangles, halfedges, hull, work))
+}
+
+// The clipped build, with what it met as a reason; `asked` is what the call's own arguments gave.
+fn build_in_box(
+    center: Point,
+    width: f64,
+    height: f64,
+    sites: &[f64],
+    triangles: &[u32],
+    halfedges: &[u32],
+    hull: &[u32],
+    asked: u32,
+    work: &mut [u32],
+    vertices: &mut [f64],
+    indexes: &mut [u32],
+    offsets: &mut [u32],
+    counts: &mut [u32],
+) -> Reason
+    requires { ⌜ (asked < refusedTriangle) × (asked ≡ 0 → okBox center width height ≡ true) ⌝ }
+    ensures { λ r. ⌜ Explains (mesh (now (sites .entry)) (now (triangles .entry)) (now (halfedges .entry)) (now (hull .entry))) asked
+        (build (mesh (now (sites .entry)) (now (triangles .entry)) (now (halfedges .entry)) (now (hull .entry))) (madeOf center width height))
+        (slices (now (work .entry)) (now (vertices .entry)) (now (indexes .entry)) (now (offsets .entry)) (now (counts .entry)))
+        (slices (now (work .exit)) (now (vertices .exit)) (now (indexes .exit)) (now (offsets .exit)) (now (counts .exit))) r ⌝ }
+{
+    let r = admit_build(
+        sites,
+        triangles,
+        halfedges,
+        hull,
+        asked,
+        work,
+        vertices,
+        indexes,
+        offsets,
+        counts,
+    );
+    if r != 0 {
+        return locate(r, sites, triangles, halfedges, hull, work);
+    }
+    let b = bounding_box::new(center, width, height);
+    let count = sites.len() / 2;
+    let a = build_cells(
+        sites,
+        triangles,
+        halfedges,
+        hull,
+        &work[..count],
+        b,
+        vertices,
+        indexes,
+        offsets,
+    );
+    let fault = a.fault;
+    finish_clipped(a, work, counts);
+    of_fault(fault)
+}
+
+// The unclipped build, in the same way.
+fn build_without_box(
+    sites: &[f64],
+    triangles: &[u32],
+    halfedges: &[u32],
+    hull: &[u32],
+    asked: u32,
+    work: &mut [u32],
+    vertices: &mut [f64],
+    indexes: &mut [u32],
+    offsets: &mut [u32],
+    counts: &mut [u32],
+) -> Reason
+    requires { ⌜ asked < refusedTriangle ⌝ }
+    ensures { λ r. ⌜ Explains (mesh (now (sites .entry)) (now (triangles .entry)) (now (halfedges .entry)) (now (hull .entry))) asked
+        (unclipped (now (sites .entry)) (now (triangles .entry)) (now (halfedges .entry)))
+        (slices (now (work .entry)) (now (vertices .entry)) (now (indexes .entry)) (now (offsets .entry)) (now (counts .entry)))
+        (slices (now (work .exit)) (now (vertices .exit)) (now (indexes .exit)) (now (offsets .exit)) (now (counts .exit))) r ⌝ }
+{
+    let r = admit_build(
+        sites,
+        triangles,
+        halfedges,
+        hull,
+        asked,
+        work,
+        vertices,
+        indexes,
+        offsets,
+        counts,
+    );
+    if r != 0 {
+        return locate(r, sites, triangles, halfedges, hull, work);
+    }
+    let fault = unclipped::build_unclipped(
+        sites,
+        triangles,
+        halfedges,
+        hull,
+        vertices,
+        indexes,
+        offsets,
+    );
+    finish_unclipped(fault.number, triangles.len(), work, counts);
+    of_fault(fault)
+}
+
+// In the box of this center, width and height.
+pub fn why(
+    center: Point,
+    width: f64,
+    height: f64,
+    sites: &[f64],
+    triangles: &[u32],
+    halfedges: &[u32],
+    hull: &[u32],
+    q: Question,
+    work: &mut [u32],
+    vertices: &mut [f64],
+    indexes: &mut [u32],
+    offsets: &mut [u32],
+    counts: &mut [u32],
+) -> Reason
+    ensures { λ r. ⌜ ClippedWhy (mesh (now (sites .entry)) (now (triangles .entry)) (now (halfedges .entry)) (now (hull .entry))) center width height q
+        (slices (now (work .entry)) (now (vertices .entry)) (now (indexes .entry)) (now (offsets .entry)) (now (counts .entry)))
+        (slices (now (work .exit)) (now (vertices .exit)) (now (indexes .exit)) (now (offsets .exit)) (now (counts .exit))) r ⌝ }
+{
+    let count = sites.len() / 2;
+    let asked = ask_in_box(center, width, height, count, q);
+    let r = build_in_box(
+        center,
+        width,
+        height,
+        sites,
+        triangles,
+        halfedges,
+        hull,
+        asked,
+        work,
+        vertices,
+        indexes,
+        offsets,
+        counts,
+    );
+    let t = tell(r);
+    if t.number != 0 {
+        return r;
+    }
+    let end = count + 1;
+    answer(
+        triangles,
+        halfedges,
+        &work[..count],
+        &offsets[..end],
+        indexes,
+        q,
+    )
+}
+
+// Without a box.
+pub fn why_unclipped(
+    sites: &[f64],
+    triangles: &[u32],
+    halfedges: &[u32],
+    hull: &[u32],
+    q: Question,
+    work: &mut [u32],
+    vertices: &mut [f64],
+    indexes: &mut [u32],
+    offsets: &mut [u32],
+    counts: &mut [u32],
+) -> Reason
+    ensures { λ r. ⌜ UnclippedWhy (mesh (now (sites .entry)) (now (triangles .entry)) (now (halfedges .entry)) (now (hull .entry))) q
+        (slices (now (work .entry)) (now (vertices .entry)) (now (indexes .entry)) (now (offsets .entry)) (now (counts .entry)))
+        (slices (now (work .exit)) (now (vertices .exit)) (now (indexes .exit)) (now (offsets .exit)) (now (counts .exit))) r ⌝ }
+{
+    let count = sites.len() / 2;
+    let asked = ask_question(count, q);
+    let r = build_without_box(
+        sites,
+        triangles,
+        halfedges,
+        hull,
+        asked,
+        work,
+        vertices,
+        indexes,
+        offsets,
+        counts,
+    );
+    let t = tell(r);
+    if t.number != 0 {
+        return r;
+    }
+    let end = count + 1;
+    answer(
+        triangles,
+        halfedges,
+        &work[..count],
+        &offsets[..end],
+        indexes,
+        q,
+    )
+}

@@ -1,0 +1,38 @@
+-- Theorem: no form has more than 6,946 bytes.
+use mathlib.Core.Path.{refl, ap}
+use mathlib.Core.List.{List, [], _∷_, _++_}
+use Prim.Native.Nat.{ℕ, _≤_, _<_}
+use native.Mathlib.Omega.{arith}
+use lib.ListN.{length, length-append}
+use Rattle.octets.specs.Bytes.{each}
+use Rattle.form.specs.Form.{Outline, box, unclipped, FormMesh, MeshFits, IsForm, formOf, outlineBytes, siteBytes, triangleBytes, hullBytes}
+use Rattle.form.specs.laws.Lists.{each-length}
+
+clip-short : (c : Outline) → length (outlineBytes c) ≤ 33
+clip-short (box x y w h) = omega arith
+clip-short unclipped = omega arith
+
+pub form-short : (m : FormMesh) → MeshFits m → length (formOf m) ≤ 6946
+unfolding formOf
+form-short m f =
+    let a = outlineBytes (m .clip) in
+    let b = each siteBytes (m .sites) in
+    let c = each triangleBytes (m .triangles) in
+    let d = each hullBytes (m .hull) in
+    omega (
+      arith,
+      length-append (a ++ b ++ c ++ d) (5 ∷ []),
+      length-append (a ++ b ++ c) d,
+      length-append (a ++ b) c,
+      length-append a b,
+      clip-short (m .clip),
+      each-length siteBytes 17 (λ _. refl) (m .sites),
+      each-length triangleBytes 25 (λ _. refl) (m .triangles),
+      each-length hullBytes 5 (λ _. refl) (m .hull),
+      f .few-sites,
+      f .few-triangles,
+      f .few-hull,
+    )
+
+pub no-form : (s : List ℕ) → 6946 < length s → IsForm s → ⊥
+no-form s h i = omega (arith, form-short (i .mesh) (i .fits), ap length (i .bytes))

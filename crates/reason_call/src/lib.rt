@@ -1,0 +1,86 @@
+// The reason as a call with lent single numbers: the kind and the places, which are always written.
+use reasons::Question;
+use reasons::ReasonNumbers;
+use reasons::tell;
+use utils::Point;
+ghost use mathlib.Core.Path.{_≡_};
+ghost use Rattle.mesh.specs.Accepted.{mesh};
+ghost use Rattle.admission.specs.Slices.{slices};
+ghost use Rattle.reasons.specs.Reason.{tells};
+ghost use Rattle.reason_call.specs.Call.{questionOf, WhyCall};
+
+// 0 asks for nothing, 1 about the first site, more about both.
+fn question(asked: u32, first: u32, second: u32) -> Question
+    ensures { λ r. ⌜ r ≡ questionOf asked first second ⌝ }
+{
+    if asked == 0 {
+        return Question::Nothing;
+    }
+    if asked == 1 {
+        return Question::About(first);
+    }
+    Question::Between(first, second)
+}
+
+// The kind and the places; answers the number.
+fn put_numbers(
+    t: ReasonNumbers,
+    kind: &mut u32,
+    place: &mut u32,
+    from: &mut u32,
+    to: &mut u32,
+) -> u32
+    ensures { λ r. ⌜ tells r (now (kind .exit)) (now (place .exit)) (now (from .exit)) (now (to .exit)) ≡ t ⌝ }
+{
+    *kind = t.kind;
+    *place = t.place;
+    *from = t.from;
+    *to = t.to;
+    t.number
+}
+
+// In the box of this center, width and height.
+pub fn why_call(
+    center: Point,
+    width: f64,
+    height: f64,
+    sites: &[f64],
+    triangles: &[u32],
+    halfedges: &[u32],
+    hull: &[u32],
+    asked: u32,
+    first: u32,
+    second: u32,
+    work: &mut [u32],
+    vertices: &mut [f64],
+    indexes: &mut [u32],
+    offsets: &mut [u32],
+    counts: &mut [u32],
+    kind: &mut u32,
+    place: &mut u32,
+    from: &mut u32,
+    to: &mut u32,
+) -> u32
+    ensures { λ r. ⌜ WhyCall (mesh (now (sites .entry)) (now (triangles .entry)) (now (halfedges .entry)) (now (hull .entry))) center width height (questionOf asked first second)
+        (slices (now (work .entry)) (now (vertices .entry)) (now (indexes .entry)) (now (offsets .entry)) (now (counts .entry)))
+        (slices (now (work .exit)) (now (vertices .exit)) (now (indexes .exit)) (now (offsets .exit)) (now (counts .exit)))
+        (tells r (now (kind .exit)) (now (place .exit)) (now (from .exit)) (now (to .exit))) ⌝ }
+{
+    let q = question(asked, first, second);
+    let reason = explaining::why(
+        center,
+        width,
+        height,
+        sites,
+        triangles,
+        halfedges,
+        hull,
+        q,
+        work,
+        vertices,
+        indexes,
+        offsets,
+        counts,
+    );
+    put_numbers(tell(reason), kind, place, from, to)
+}

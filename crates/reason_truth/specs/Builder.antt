@@ -1,0 +1,63 @@
+-- Theorem: what the builder met is what the reason names: for 11 the lowest triangle whose circumcenter breaks its rule; for 12 the first hull place whose
+-- extension does; for 13 to 15 the cell and the edge at which the builder stopped, every step before it having gone through. An empty cell of a site in use was tried in vain.
+use mathlib.Core.Path.{_≡_, refl, ap, _∙_}
+use mathlib.Core.List.{List, []}
+use Prim.Native.Nat.{ℕ, _/_, _≤_}
+use native.Mathlib.Omega.{arith}
+use lib.Ieee.{Float}
+use lib.ListN.{length, getD}
+use borrow.Author.Tests.{ne-eqb}
+use Rattle.laws.specs.Refusals.{Keeps, Breaks}
+use Rattle.numbers.specs.Numbers.{refusedCircumcenter, refusedExtension, refusedNoCrossing}
+use Rattle.bounding_box.specs.declared.BoundingBox.{BoundingBox}
+use Rattle.mesh.specs.Mesh.{Used}
+use Rattle.mesh.specs.Accepted.{Mesh, Accepted}
+use Rattle.definition.specs.declared.Fault.{Fault}
+use Rattle.definition.specs.Fault.{ok, refused, badCenter, notFinite}
+use Rattle.definition.specs.Build.{Built, CellState, build}
+use Rattle.definition.specs.Unclipped.{unclipped}
+use Rattle.definition.specs.Tries.{centerRule, extensionRule, TryOf, TriedInVain}
+use Rattle.definition.specs.Met.{EdgeMet, FaultMet, atTriangle, atHullPlace, atRingEdge}
+use Rattle.definition.specs.FaultTheorem.{build-refused, unclipped-refused}
+use Rattle.definition.specs.ByNumber.{edge-number}
+use Rattle.definition.specs.TryTheorem.{tried-in-vain}
+use Rattle.reasons.specs.declared.Reason.{Reason}
+use Rattle.reasons.specs.declared.Reason.the-variants.{AtTriangle, AtHullPlace, AtEdge}
+use Rattle.reasons.specs.Reason.{ofFault}
+
+pub data BuilderTrue (m : Mesh) (b : BoundingBox) : Reason → Type 0 where
+  center : {t : ℕ} → Breaks (centerRule (m .sites) (m .triangles)) (badCenter t) → BuilderTrue m b (AtTriangle refusedCircumcenter t)
+  extension : {i : ℕ} → Keeps (centerRule (m .sites) (m .triangles)) → Breaks (extensionRule m) (notFinite i) → BuilderTrue m b (AtHullPlace refusedExtension i)
+  ringEdge : {n site p q : ℕ} → refusedNoCrossing ≤ n → Keeps (centerRule (m .sites) (m .triangles)) → Keeps (extensionRule m) → {ring : List ℕ} {s : CellState}
+      → TryOf m b site ring s → EdgeMet b (length (m .triangles) / 3) site ring (s .verts) (s .owners) p q n → BuilderTrue m b (AtEdge n site p q)
+
+center-named : (t : ℕ) → ofFault (badCenter t) ≡ AtTriangle refusedCircumcenter t
+unfolding ofFault
+center-named t = refl
+
+extension-named : (i : ℕ) → ofFault (notFinite i) ≡ AtHullPlace refusedExtension i
+unfolding ofFault
+extension-named i = refl
+
+edge-named : (f : Fault) → refusedNoCrossing ≤ f .number → ofFault f ≡ AtEdge (f .number) (f .place) (f .from) (f .to)
+unfolding ofFault
+edge-named f l =
+    rw (ne-eqb (f .number) 0 (λ e. omega arith), ne-eqb (f .number) refusedCircumcenter (λ e. omega arith), ne-eqb (f .number) refusedExtension (λ e. omega arith))
+
+module _ {m : Mesh} {b : BoundingBox} where
+  met-true : {f : Fault} → FaultMet m b f → BuilderTrue m b (ofFault f)
+  met-true (atTriangle (t, first, l, e)) = rw (ap ofFault e ∙ center-named t) (center (t, first, l, refl))
+  met-true (atHullPlace k (i, first, l, e)) = rw (ap ofFault e ∙ extension-named i) (extension k (i, first, l, refl))
+  met-true {f} (atRingEdge k x ring s t e) = let l = edge-number (e .breaks) .0 in rw (edge-named f l) (ringEdge l k x t e)
+
+  pub builder-true : Accepted m → {f : Fault} → build m b ≡ refused f → BuilderTrue m b (ofFault f)
+  builder-true a e = met-true (build-refused a b e)
+
+  -- every try gave nothing, and there was one
+  pub vain-true : Accepted m → {r : Built} → build m b ≡ ok r → {s : ℕ} → Used (m .triangles) s → getD (r .cells) s [] ≡ [] → TriedInVain m b s
+  vain-true a is u e = tried-in-vain a b is u e
+
+-- without a box the builder meets 11 alone, and the cell of a site in use is not empty
+pub unclipped-true : (sites : List Float) (tri he : List ℕ) {f : Fault} → unclipped sites tri he ≡ refused f
+    → (t : ℕ) × Breaks (centerRule sites tri) (badCenter t) × (ofFault f ≡ AtTriangle refusedCircumcenter t)
+unclipped-true sites tri he e = let (t, first, l, q) = unclipped-refused sites tri he e in (t, (t, first, l, refl), ap ofFault q ∙ center-named t)

@@ -1,0 +1,4 @@
+-- The root of the crate's definitions.
+pub mod Answers
+pub mod Builder
+pub mod Whole

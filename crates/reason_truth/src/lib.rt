@@ -1,0 +1,1 @@
+// No code: that a told reason is the true one is in specs/.

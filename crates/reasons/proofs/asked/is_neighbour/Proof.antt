@@ -1,0 +1,60 @@
+-- Each turn takes the first of the neighbours that are left, and t is sought among the others.
+use mathlib.Core.Path.{sym, _∙_}
+use native.Mathlib.Omega.{arith}
+use lib.ListN.{length}
+use borrow.Author.Needs.{needs}
+use Rattle.mesh.specs.Mesh.{wholeOf}
+use Rattle.iterator.specs.Neighbours.{startsOf}
+use Rattle.iterator.specs.laws.Cursor.{neighboursLeft}
+use Rattle.iterator.specs.laws.Rest.{settled-start}
+use Rattle.reasons.specs.laws.Search.{Seeks, seeks-start, seeks-found, seeks-step, seeks-less, seeks-none}
+use Rattle.reasons.proofs.asked.is_neighbour.Statement.{statement}
+use Rattle.reasons.proofs.asked.is_neighbour.Tie as tie
+
+abbrev Inv-loop : tie.InvT-loop
+Inv-loop triangles halfedges start t c₀ c = Seeks triangles halfedges t (startsOf triangles halfedges (wholeOf halfedges start)) c
+
+abbrev μ-loop : tie.MeasureT-loop
+μ-loop triangles halfedges start t c₀ c = length (neighboursLeft triangles halfedges c)
+
+loop-holds : tie.Need-loop-holds Inv-loop μ-loop
+loop-holds c =
+    let p = c .before .before .pre .0 in
+    seeks-start _ _ (omega (arith, p .small)) _ _ (settled-start _ _ p _)
+
+returns : tie.Need-returns Inv-loop μ-loop
+returns c =
+    let at-x = c .before .before in
+    let at-step = at-x .before .before in
+    let at-loop = at-step .before in
+    let at-start = at-loop .before .before .before in
+    seeks-found _ _ (omega (arith, at-start .pre .0 .small)) _ (at-loop .loop .inv) _ _ (sym (at-x .x .given .1) ∙ at-step .step .ensures) (c .if1 .taken)
+
+loop-less : tie.Need-loop-less Inv-loop μ-loop
+loop-less c =
+    let at-x = c .before .before in
+    let at-step = at-x .before .before in
+    let at-loop = at-step .before in
+    let at-start = at-loop .before .before .before in
+    seeks-less _ _ (omega (arith, at-start .pre .0 .small)) (at-start .args .t) (at-loop .loop .inv) _ _ (sym (at-x .x .given .1) ∙ at-step .step .ensures)
+
+loop-again : tie.Need-loop-again Inv-loop μ-loop
+loop-again c =
+    let at-x = c .before .before in
+    let at-step = at-x .before .before in
+    let at-loop = at-step .before in
+    let at-start = at-loop .before .before .before in
+    seeks-step _ _ (omega (arith, at-start .pre .0 .small)) _ (at-loop .loop .inv) _ _ (sym (at-x .x .given .1) ∙ at-step .step .ensures) (c .if1 .left)
+
+returns-2 : tie.Need-returns-2 Inv-loop μ-loop
+returns-2 c =
+    let at-step = c .before .before in
+    let at-loop = at-step .before in
+    let at-start = at-loop .before .before .before in
+    seeks-none _ _ (omega (arith, at-start .pre .0 .small)) _ (at-loop .loop .inv) (sym (c .enum-told .given .1) ∙ at-step .step .ensures)
+
+pub is-neighbour-spec : {M : Type 1} → statement M
+is-neighbour-spec =
+    tie.close
+    (tie.spec Inv-loop μ-loop loop-holds (λ c κs. search needs) (λ c. search needs) returns loop-less loop-again
+    (λ c. search needs) returns-2)

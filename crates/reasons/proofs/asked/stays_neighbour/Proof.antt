@@ -1,0 +1,73 @@
+-- Each turn takes the first of the neighbours that are left after clipping, and t is sought among the others.
+use native.Mathlib.Omega.{arith}
+use lib.ListN.{length}
+use borrow.Author.Needs.{needs}
+use Rattle.mesh.specs.Mesh.{wholeOf}
+use Rattle.shared.specs.Cells.{shareEdgeOf}
+use Rattle.iterator.specs.Clipped.{clippedOf}
+use Rattle.iterator.specs.ClippedCursor.{clippedLeft}
+use Rattle.iterator.specs.laws.Rest.{settled-start}
+use Rattle.reasons.specs.laws.Search.{SeeksStaying, staying-start, staying-found, staying-step, staying-less, staying-none}
+use denote.Ref.{now}
+use Rattle.reasons.proofs.asked.stays_neighbour.Statement.{statement}
+use Rattle.reasons.proofs.asked.stays_neighbour.Tie as tie
+
+abbrev Inv-loop : tie.InvT-loop
+Inv-loop triangles halfedges offsets indexes s start t c₀ c =
+    SeeksStaying triangles halfedges (shareEdgeOf offsets indexes s) t (clippedOf triangles halfedges (shareEdgeOf offsets indexes s) (wholeOf halfedges start)) c
+
+abbrev μ-loop : tie.MeasureT-loop
+μ-loop triangles halfedges offsets indexes s start t c₀ c = length (clippedLeft triangles halfedges (shareEdgeOf offsets indexes s) c)
+
+loop-holds : tie.Need-loop-holds Inv-loop μ-loop
+loop-holds c =
+    let at-start = c .before .before .before .before in
+    let a = at-start .args in
+    let p = at-start .pre .0 .paired in
+    staying-start (now (a .triangles)) (now (a .halfedges)) (shareEdgeOf (now (a .offsets)) (now (a .indexes)) (a .s)) (a .t) (omega (arith, p .small)) _ (settled-start _ _ p _)
+
+clipped-step-requires : tie.Need-clipped-step-requires Inv-loop μ-loop
+clipped-step-requires c κs =
+    let at-start = c .before .before .before .before .before in
+    (at-start .pre .0, at-start .pre .1, c .loop .inv .sound)
+
+returns : tie.Need-returns Inv-loop μ-loop
+returns c =
+    let at-x = c .before .before in
+    let at-step = at-x .before .before in
+    let at-loop = at-step .before in
+    let a = at-loop .before .before .before .before .before .args in
+    staying-found (now (a .triangles)) (now (a .halfedges)) (shareEdgeOf (now (a .offsets)) (now (a .indexes)) (a .s)) (a .t) (at-loop .loop .inv)
+    (at-step .clipped-step .result) (at-step .clipped-step .ensures) _ _ (at-x .x .given .1) (c .if1 .taken)
+
+loop-less : tie.Need-loop-less Inv-loop μ-loop
+loop-less c =
+    let at-x = c .before .before in
+    let at-step = at-x .before .before in
+    let at-loop = at-step .before in
+    let a = at-loop .before .before .before .before .before .args in
+    staying-less (now (a .triangles)) (now (a .halfedges)) (shareEdgeOf (now (a .offsets)) (now (a .indexes)) (a .s)) (a .t) (at-loop .loop .inv)
+    (at-step .clipped-step .result) (at-step .clipped-step .ensures) _ _ (at-x .x .given .1)
+
+loop-again : tie.Need-loop-again Inv-loop μ-loop
+loop-again c =
+    let at-x = c .before .before in
+    let at-step = at-x .before .before in
+    let at-loop = at-step .before in
+    let a = at-loop .before .before .before .before .before .args in
+    staying-step (now (a .triangles)) (now (a .halfedges)) (shareEdgeOf (now (a .offsets)) (now (a .indexes)) (a .s)) (a .t) (at-loop .loop .inv)
+    (at-step .clipped-step .result) (at-step .clipped-step .ensures) _ _ (at-x .x .given .1) (c .if1 .left)
+
+returns-2 : tie.Need-returns-2 Inv-loop μ-loop
+returns-2 c =
+    let at-step = c .before .before in
+    let at-loop = at-step .before in
+    let a = at-loop .before .before .before .before .before .args in
+    staying-none (now (a .triangles)) (now (a .halfedges)) (shareEdgeOf (now (a .offsets)) (now (a .indexes)) (a .s)) (a .t) (at-loop .loop .inv)
+    (at-step .clipped-step .result) (at-step .clipped-step .ensures) (c .enum-told .given .1)
+
+pub stays-neighbour-spec : {M : Type 1} → statement M
+stays-neighbour-spec =
+    tie.close
+    (tie.spec Inv-loop μ-loop loop-holds clipped-step-requires (λ c. search needs) returns loop-less loop-again
+    (λ c. search needs) returns-2)

@@ -1,0 +1,5 @@
+-- The root of the crate's definitions.
+pub mod Reason
+pub mod Answer
+pub mod Rules
+pub mod laws

@@ -1,0 +1,20 @@
+-- `why::in_box`: the slices have room, so the reason is by the other rules alone.
+use mathlib.Core.Path.{refl}
+use Rattle.why.specs.laws.Room.{in-box}
+use borrow.Author.Needs.{needs}
+use Rattle.why.proofs.in_box.Statement.{statement}
+use Rattle.why.proofs.in_box.Tie as tie
+
+returns : tie.Need-returns
+returns c =
+    let at-why = c .before .before .before .before .before in
+    let s = at-why .before .before .before .before .before .before .before .before .before .before in
+    in-box _ _ (record { work = refl; vertices = refl; indexes = refl; offsets = refl; counts = refl })
+    (s .pre) _ _ _ _ (at-why .why .ensures)
+
+pub in-box-spec : {M : Type 1} → statement M
+in-box-spec =
+    tie.close
+    (tie.spec (λ c. search needs) (λ c. search needs) (λ c. search needs) (λ c. search needs)
+    (λ c. search needs) (λ c. search needs) (λ c. search needs) (λ c. search needs) (λ c. search needs)
+    (λ c κs. search needs) returns)
