@@ -40,10 +40,10 @@ extern "C" {
 
 /* ---- the version (the file VERSION; CHANGELOG.md says what changed) */
 
-#define VORONOI_VERSION "0.4.0"
+#define VORONOI_VERSION "0.4.1"
 #define VORONOI_VERSION_MAJOR 0
 #define VORONOI_VERSION_MINOR 4
-#define VORONOI_VERSION_PATCH 0
+#define VORONOI_VERSION_PATCH 1
 
 /* ---- numbers */
 

@@ -1,5 +1,5 @@
 #!/bin/sh
-# The papers agree with what they speak of: the version, README's example and listings, the refusals' words and rules, links to files.
+# The papers agree with what they speak of: the version, README's example and listings, the refusals' words and rules, the page on the root, links to files.
 set -eu
 case ${1-} in
 --help | -h)
@@ -54,6 +54,26 @@ for number, words in numbers.items():
         wrong.append(f"docs/RULES.md, rule {number}, has not the header's words: {words}")
     elif "What to do:" not in entry[0]:
         wrong.append(f"docs/RULES.md, rule {number}, does not say what to do")
+
+# docs/ROOT.md: its rows are the run's, its lines of code the code's, its bounds and facts the proof's
+page, code = read("docs/ROOT.md"), read("crates/digits/src/lib.rt")
+*rows, rounded = read("crates/test_digits/stdout").splitlines()
+if "\n".join(rows[:8]) + "\n" not in page or rows[52] + "\n" not in page or len(rows) != 53:
+    wrong.append("docs/ROOT.md does not show the rows of crates/test_digits/stdout")
+if f"the answer is {rounded.split()[1]}." not in page:
+    wrong.append(f"docs/ROOT.md does not say that the root of 2 is {rounded}")
+for row in rows:
+    turn, _, _, _, _, root, left, _ = [int(number) for number in row.strip("| ").split("|")]
+    if root * root + left != 2**53 * 4**turn >> 54 or left > 2 * root:
+        wrong.append(f"crates/test_digits/stdout: turn {turn} breaks the schoolbook's identity")
+lines = re.findall(r"^\| [^|`]+ \| `([^`]+)` \|$", page, re.M)
+wrong += [f"docs/ROOT.md: `{line}` is no line of crates/digits/src/lib.rt" for line in lines if line not in re.split(r"\n *", code)]
+proved = re.findall(r"pub ([\w-]+) : .*([<≤]) 2 \^ (\d+)$", read("crates/digits/specs/Widths.antt"), re.M)
+shown = re.findall(r"\| ([<≤]) 2\^(\d+) \| `([\w-]+)` \|$", page, re.M)
+if len(lines) != 8 or {(name, sign, power) for name, sign, power in proved} != {(name, sign, power) for sign, power, name in shown}:
+    wrong.append("docs/ROOT.md has other bounds than crates/digits/specs/Widths.antt, or not eight lines of code")
+for names, path in re.findall(r"\(((?:`[\w-]+`, )+)(crates/[\w/]+\.antt)\)", page):
+    wrong += [f"docs/ROOT.md: {path} has no {name}" for name in re.findall(r"`(.+?)`", names) if not re.search(rf"^ *pub {re.escape(name)} :", read(path), re.M)]
 
 # links between papers
 for paper in [pathlib.Path("README.md"), pathlib.Path("CHANGELOG.md"), *pathlib.Path("docs").rglob("*.md")]:

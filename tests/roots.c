@@ -63,10 +63,10 @@ static int is_nearest(uint64_t b, uint64_t r)
 
 /* ---- classes */
 
-enum { CORNERS, ZEROS, INFINITIES, SUBNORMALS, SQUARES, HALFWAYS, ONE_TO_FOUR, NANS, NEGATIVES, RANDOM, CLASSES };
+enum { CORNERS, POWERS, ZEROS, INFINITIES, SUBNORMALS, SQUARES, HALFWAYS, ONE_TO_FOUR, NANS, NEGATIVES, RANDOM, CLASSES };
 
 static const char *const names[CLASSES] = {
-    "corners of every exponent", "zeros", "infinities", "subnormals", "squares and neighbours",
+    "corners of every exponent", "powers of two and neighbours", "zeros", "infinities", "subnormals", "squares and neighbours",
     "halfway neighbours", "from 1 to 4", "NaNs", "below 0", "any pattern",
 };
 
@@ -131,6 +131,16 @@ static void corners(void)
             compare(CORNERS, top * LEAD + digits[i]);
 }
 
+/* each power of two that there is, 2^-1074 to 2^1023, with the value below it and the value above */
+static void powers(void)
+{
+    for (int k = 0; k < 52 + 2046; k++) {
+        uint64_t b = k < 52 ? UINT64_C(1) << k : (uint64_t)(k - 51) * LEAD;
+        for (uint64_t near = 0; near < 3; near++)
+            compare(POWERS, b - 1 + near);
+    }
+}
+
 static void square(void)
 {
     uint64_t root = 1 + any() % ((UINT64_C(1) << 26) - 1), b = scaled(root * root);
@@ -178,6 +188,7 @@ int main(int count, char **words)
     state = seed;
 
     corners();
+    powers();
     compare(ZEROS, 0);
     compare(ZEROS, SIGN);
     compare(INFINITIES, INFINITE);
@@ -211,7 +222,7 @@ int main(int count, char **words)
 
     uint64_t wrong = 0, empty = 0;
     for (int class = 0; class < CLASSES; class++) {
-        printf("%-26s %10llu compared, %llu differ\n", names[class], (unsigned long long)compared[class], (unsigned long long)differing[class]);
+        printf("%-28s %10llu compared, %llu differ\n", names[class], (unsigned long long)compared[class], (unsigned long long)differing[class]);
         wrong += differing[class];
         empty += compared[class] == 0;
     }

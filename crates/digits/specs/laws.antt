@@ -1,3 +1,3 @@
 -- Laws that only proofs use.
 pub mod Rounds
-pub mod Digits
+pub mod Turns
