@@ -38,7 +38,7 @@ fi
 made=$root/target/harness/release
 
 stored() {
-    "$made/oracle" --check "$here"/meshes/*.txt "$here"/why/*.txt
+    "$made/oracle" --check "$here"/meshes/*.txt "$here"/why/*.txt "$here"/mend/*.txt
     texts=0
     for text in "$root"/examples/*.txt "$here"/meshes/*.txt "$root"/tests/cells/*.txt; do
         "$made/oracle" --listing "$text" | cmp - "$root/tests/cells/$(basename "$text" .txt).out"

@@ -22,6 +22,7 @@
  *   cells_share_edge         the offsets, and the product of the lengths of the two cells; no mesh, so no check
  *   cell                     the offsets; no mesh, so no check
  *   cell_wkb                 the offsets and the cell's entries; no mesh, so no check
+ *   mend                     N + T, the check of what was mended included; a site of any degree
  *   build                    usually N + T (0.3 to 0.9 microseconds a site). At worst the square of N: an added point is searched for among
  *                            all those added before (65,536 sites on a circle: 20 s), and a cell that stays empty is tried again from each
  *                            of its half-edges (one site with 65,535 neighbours: 5 minutes). docs/SPEED.md has the times.
@@ -40,10 +41,10 @@ extern "C" {
 
 /* ---- the version (the file VERSION; CHANGELOG.md says what changed) */
 
-#define VORONOI_VERSION "0.4.1"
+#define VORONOI_VERSION "0.5.0"
 #define VORONOI_VERSION_MAJOR 0
-#define VORONOI_VERSION_MINOR 4
-#define VORONOI_VERSION_PATCH 1
+#define VORONOI_VERSION_MINOR 5
+#define VORONOI_VERSION_PATCH 0
 
 /* ---- numbers */
 
@@ -67,13 +68,19 @@ extern "C" {
 /* What the polygon of a cell of n entries takes in bytes. */
 #define VORONOI_WKB_ROOM(n) ((n) < 3 ? 9 : 29 + 16 * (size_t)(n))
 
+/* What mending must be lent, for T triangles and N sites: pairs, hull, changes (three numbers each), and VORONOI_WORK_ROOM. */
+#define VORONOI_PAIR_ROOM(T) (3 * (size_t)(T))
+#define VORONOI_MENDED_ROOM(N) ((size_t)(N))
+#define VORONOI_CHANGE_ROOM(T, N) (3 * (size_t)(T) + (size_t)(N))
+#define VORONOI_CHANGE_NUMBERS(T, N) (3 * VORONOI_CHANGE_ROOM(T, N))
+
 /* The places of a build's counts: the number of vertices, the owners of the four corners, the lost corners (those in no cell); how many they are. */
 #define VORONOI_COUNT_VERTICES 0
 #define VORONOI_COUNT_OWNERS 1
 #define VORONOI_COUNT_LOST 5
 #define VORONOI_COUNTS 6
 
-/* ---- refusals, in the order in which they are tried (16 after 10, 17 first, 18 before 2); docs/RULES.md says of each what to do about it */
+/* ---- refusals, in the order in which they are tried (16 after 10, 17 first, 18 before 2, 19 after 7); docs/RULES.md says of each what to do about it */
 
 #define VORONOI_ACCEPTED 0
 #define VORONOI_REFUSED_COUNT 1         /* a count breaks its limit, an odd site list, triangles not in threes, half-edges not as many */
@@ -94,6 +101,7 @@ extern "C" {
 #define VORONOI_REFUSED_OFFSETS 16      /* cell offsets not one more than sites, not from 0, falling, or past the list's end */
 #define VORONOI_REFUSED_FORM 17         /* the form is broken (the programs `cells` and `export` alone) */
 #define VORONOI_REFUSED_ENTRY 18        /* an entry of the cell names no vertex */
+#define VORONOI_REFUSED_TWICE 19        /* an ordered pair of sites has two half-edges (voronoi_mend alone) */
 
 /* A sentence for each number, with no full stop; "no such number" for any other. It is never NULL. */
 static inline const char *voronoi_words(uint32_t number)
@@ -118,6 +126,7 @@ static inline const char *voronoi_words(uint32_t number)
     case VORONOI_REFUSED_OFFSETS: return "the cells' offsets do not cut the list of indexes";
     case VORONOI_REFUSED_FORM: return "the form is broken: a record cut, out of order, or one too many";
     case VORONOI_REFUSED_ENTRY: return "a cell names a vertex that is not there";
+    case VORONOI_REFUSED_TWICE: return "two half-edges run the same way between the same two sites";
     default: return "no such number";
     }
 }
@@ -315,6 +324,22 @@ uint32_t voronoi_why(double cx, double cy, double width, double height, const do
                      size_t work_len, double *vertices, size_t vertices_len, uint32_t *indexes, size_t indexes_len, uint32_t *offsets,
                      size_t offsets_len, uint32_t *counts, size_t counts_len, uint32_t *kind, uint32_t *place, uint32_t *from,
                      uint32_t *to);
+
+/* ---- mending
+ * Sites and triangles are kept; pairs and hull are worked out afresh, and what has changed is listed. `halfedges` and `hull` are the old
+ * ones: only their lengths are tried. A half-edge is paired with the one that runs the other way between the same sites, if there is one.
+ * The hull is the loop of the unpaired half-edges, from the old first hull site if an unpaired half-edge starts there, else from the
+ * lowest site where one does. A change is three numbers: place, old value, new value; changes of pairs before those of the hull, places
+ * rising, only entries that changed. VORONOI_EMPTY stands where one side has no such place; such a place is always listed.
+ * Room: VORONOI_PAIR_ROOM, VORONOI_MENDED_ROOM, VORONOI_CHANGE_NUMBERS, VORONOI_WORK_ROOM.
+ * Tries 1 on all counts, 2, 6, 7, 19, 9 where there is no hull of at least three sites, 10; never 8. After 1, 2 and 6 no slice changes, after
+ * the others each is VORONOI_EMPTY throughout. After 0 `pairs`, `mended` and `changes` hold what was worked out, `work` the leftmost
+ * half-edges of the mended mesh, each then VORONOI_EMPTY. *hull_length, *pair_changes, *hull_changes: how many hull sites there are, and
+ * how many changes of each kind; 0 when refused. */
+uint32_t voronoi_mend(const double *sites, size_t sites_len, const uint32_t *triangles, size_t triangles_len, const uint32_t *halfedges,
+                      size_t halfedges_len, const uint32_t *hull, size_t hull_len, uint32_t *work, size_t work_len, uint32_t *pairs,
+                      size_t pairs_len, uint32_t *mended, size_t mended_len, uint32_t *changes, size_t changes_len,
+                      uint32_t *hull_length, uint32_t *pair_changes, uint32_t *hull_changes);
 
 #ifdef __cplusplus
 }

@@ -83,8 +83,11 @@ must 2 "" ./yelmuzard
 must 2 "" ./yelmuzard cells
 must 2 "why FILE" ./yelmuzard why
 must 2 "why FILE" ./yelmuzard why examples/square.form 0 1 2
+must 2 "mend FILE" ./yelmuzard mend
+must 2 "mend FILE" ./yelmuzard mend examples/square.form lines
+must 2 "cells FILE" ./yelmuzard cells examples/square.form form
 must 0 "" ./yelmuzard --version
-for word in "" cells export why archive link run test; do
+for word in "" cells export why mend archive link run test; do
     # shellcheck disable=SC2086
     must 0 "" ./yelmuzard $word --help
     grep -q . "$folder/out"

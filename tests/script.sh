@@ -1,5 +1,5 @@
 #!/bin/sh
-# ./yelmuzard cells, export and why on what is built: a listing, refusals, output that fails, a mesh wound the wrong way; the words and the status of each.
+# ./yelmuzard cells, export, why and mend on what is built: a listing, refusals, output that fails, a mesh wound the wrong way; the words and the status of each.
 set -eu
 case ${1-} in
 --help | -h)
@@ -78,4 +78,20 @@ grep -q "usage: why" "$folder/err"
 status=0
 ./yelmuzard why examples/square.form >/dev/full 2>"$folder/err" || status=$?
 [ "$status" = 2 ] || { echo "why to a full disk: status $status" && exit 1; }
+
+# mended: the changes, the form that goes into cells, a refusal in both ways, output that fails
+sed 's/^triangle 0 1 2 .*/triangle 0 1 2  E E E/; s/^hull 3/hull 0/' examples/square.txt >"$folder/damaged.txt"
+printf 'pair 2: none 3\nhull 3: 0 3\npairs 1 hull 1\n' >"$folder/changes"
+./yelmuzard mend "$folder/damaged.txt" | cmp - "$folder/changes"
+./yelmuzard mend "$folder/damaged.txt" form | cmp - examples/square.form
+./yelmuzard mend "$folder/damaged.txt" form | ./yelmuzard cells - | cmp - tests/cells/square.out
+sed 's/^triangle 0 2 3 .*/triangle 0 1 3  E E E/' examples/square.txt >"$folder/doubled.txt"
+for way in "" form; do
+    status=0
+    ./yelmuzard mend "$folder/doubled.txt" ${way:+"$way"} >"$folder/out" 2>"$folder/err" || status=$?
+    [ "$status $(cat "$folder/out")" = "1 refused 19" ] || { echo "mend $way: status $status" && exit 1; }
+    status=0
+    ./yelmuzard mend examples/square.form ${way:+"$way"} >/dev/full 2>"$folder/err" || status=$?
+    [ "$status" = 2 ] || { echo "mend $way to a full disk: status $status" && exit 1; }
+done
 echo "script: listings, refusals and failed output have their words and status"

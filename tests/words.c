@@ -12,13 +12,14 @@ static int same(const char *a, const char *b)
 
 int main(void)
 {
-    for (uint32_t a = 0; a <= VORONOI_REFUSED_ENTRY; a++) {
+    for (uint32_t a = 0; a <= VORONOI_REFUSED_TWICE; a++) {
         printf("%u %s\n", a, voronoi_words(a));
-        for (uint32_t b = a + 1; b <= VORONOI_REFUSED_ENTRY + 1; b++)
+        for (uint32_t b = a + 1; b <= VORONOI_REFUSED_TWICE + 1; b++)
             if (same(voronoi_words(a), voronoi_words(b)))
                 return 1;
     }
-    return !same(voronoi_words(19), "no such number") || !same(voronoi_words(VORONOI_EMPTY), "no such number") ||
+    return !same(voronoi_words(20), "no such number") || !same(voronoi_words(VORONOI_EMPTY), "no such number") ||
            VORONOI_VERTEX_NUMBERS(2, 4) != 76 || VORONOI_INDEX_ROOM(2, 4) != 60 ||
-           VORONOI_WKB_ROOM(2) != 9 || VORONOI_WKB_ROOM(3) != 77;
+           VORONOI_WKB_ROOM(2) != 9 || VORONOI_WKB_ROOM(3) != 77 ||
+           VORONOI_CHANGE_NUMBERS(2, 4) != 30;
 }

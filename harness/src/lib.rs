@@ -8,6 +8,7 @@ pub mod form;
 pub mod generate;
 pub mod library;
 pub mod maps;
+pub mod mend;
 pub mod mesh;
 pub mod plane;
 pub mod reference;

@@ -8,6 +8,7 @@
 //!     hull S ...
 //!     path SITE X Y               a question beside the mesh, any number of them
 //!     why [SITE [SITE]]           likewise: the reason, where nothing, a site or a pair is asked about
+//!     mend                        likewise: what is changed where the pairs and the hull are worked out afresh
 //!     answer ...                  a line that the oracle must print, any number of them
 //!
 //! A float is decimal, a bit pattern 0x.., a power 2^-50 or a sum such as .5+2^-50.
@@ -21,6 +22,7 @@ pub struct Input {
     pub mesh: Mesh,
     pub paths: Vec<(usize, Pt)>,
     pub reasons: Vec<Question>,
+    pub mend: bool,
     pub answers: Vec<String>,
 }
 
@@ -103,6 +105,7 @@ pub fn read(text: &str) -> Result<Input, String> {
                 let sites = rest.iter().map(|w| w.parse()).collect::<Result<Vec<u32>, _>>().map_err(|_| wrong("no site"))?;
                 input.reasons.push(Question::about(&sites));
             }
+            ("mend", 0) => input.mend = true,
             ("answer", _) => input.answers.push(rest.join(" ")),
             ("path", 3) => {
                 let f = floats(&rest[1..]).ok_or_else(|| wrong("no number"))?;

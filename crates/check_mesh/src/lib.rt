@@ -77,8 +77,8 @@ fn check_shape(triangles: &[u32], halfedges: &[u32], sites: usize) -> MeshFault
     MeshFault::None
 }
 
-// Rules 9 and 10. If they hold, the work slice holds the leftmost table, then `EMPTY`.
-fn check_border(
+// Rules 9 and 10, where 7 and 8 hold. If they hold too, the work slice has the leftmost table, then `EMPTY`.
+pub fn check_border(
     triangles: &[u32],
     halfedges: &[u32],
     hull: &[u32],

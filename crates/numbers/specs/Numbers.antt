@@ -59,6 +59,9 @@ refusedForm = 17
 abbrev pub refusedEntry : ℕ
 refusedEntry = 18
 
+abbrev pub refusedTwice : ℕ
+refusedTwice = 19
+
 -- the tolerance, 2^-50
 abbrev pub tolerance : Float
 tolerance = ofBits binary64 0x3cd0_0000_0000_0000

@@ -51,6 +51,8 @@ pub const REFUSED_FORM: u32 = 17;
 
 pub const REFUSED_ENTRY: u32 = 18;
 
+pub const REFUSED_TWICE: u32 = 19;
+
 // An index as a length: of 64 bits, nothing is lost.
 pub fn wide(x: u32) -> usize
     ensures { λ r. ⌜ r ≡ x ⌝ }

@@ -28,7 +28,9 @@ use Rattle.definition.specs.Unclipped.{unclipped}
 use Rattle.admission.specs.Asks.{CellsOf}
 use Rattle.admission.specs.Slices.{Slices}
 use Rattle.voronoi.specs.Roots.{MagnitudeBits, Magnitude, SignumBits, Signum}
-use Rattle.voronoi.specs.One.{one-cell-wkb-bits, one-cell-wkb, one-root-bits, one-root, one-magnitude-bits, one-magnitude, one-signum-bits, one-signum}
+use Rattle.mending.specs.Mending.{Lent}
+use Rattle.voronoi.specs.Mends.{Mend}
+use Rattle.voronoi.specs.One.{one-mend, one-cell-wkb-bits, one-cell-wkb, one-root-bits, one-root, one-magnitude-bits, one-magnitude, one-signum-bits, one-signum}
 use Rattle.voronoi.specs.Plane.{Near, Dist2, Circumcenter, Centroid, Edges, Corners, Inside, ExclusivelyInside, WhichEdge, Meets}
 use Rattle.voronoi.specs.One.{one-near, one-dist2, one-center, one-box, one-corners, one-inside, one-exclusively, one-side, one-meeting}
 use Rattle.voronoi.specs.Meshes.{Check}
@@ -39,7 +41,7 @@ use Rattle.voronoi.specs.Builds.{Build, BuildUnclipped, Cell, CellPart}
 use Rattle.voronoi.specs.Explanations.{Why}
 use Rattle.voronoi.specs.One.{one-build, one-why, one-build-unclipped, one-cell, one-cell-part}
 use Rattle.voronoi.specs.Maps.{CellWkbBits, CellWkb}
-use Rattle.voronoi.specs.Outcomes.{One, One₂, One₃, OneList, OneMeeting, OneBox, SliceRefused, ListRefused, BuildRefused}
+use Rattle.voronoi.specs.Outcomes.{One, One₂, One₃, OneList, OneMend, OneMeeting, OneBox, SliceRefused, ListRefused, BuildRefused}
 use Rattle.voronoi.specs.Leaves.{QueryAllowed, BuildAllowed, BuildLeaves}
 use Rattle.voronoi.specs.Bounds.{BoundedEdges, BoundedMeeting, Bounds, bounds}
 use Rattle.voronoi.specs.Approach.{WholeRound, nextTo, Joined, Approaches}
@@ -117,6 +119,8 @@ pub record Demand1 (m : Mesh) : Type 0 where
   -- voronoi_cell_wkb_bits, voronoi_cell_wkb: the number, the bytes written, the output
   pub cell-wkb-bits : (v off ix : List ℕ) (s : ℕ) (out : List ℕ) → One₃ (λ r k new. CellWkbBits v off ix s out new k r)
   pub cell-wkb : (v : List Float) (off ix : List ℕ) (s : ℕ) (out : List ℕ) → One₃ (λ r k new. CellWkb v off ix s out new k r)
+  -- voronoi_mend: the number, the four slices, the hull's length, the changes of pairs and of the hull
+  pub mend : (old : Lent) → OneMend (λ r new k p q. Mend m old new r k p q)
   -- refused by voronoi_check: the work slice
   pub check-refused : {w w′ : List ℕ} {r : ℕ} → Check m w w′ r → r ≢ 0 → SliceRefused EMPTY w w′ r
   -- by a call that hands out a list: the work slice, the output slice, the count, ended
@@ -247,6 +251,7 @@ demand1 m = record {
   cell-part = λ offs idx s _ _ _ _. one-cell-part offs idx s;
   cell-wkb-bits = λ v off ix s out _ _ _ _ _ _. one-cell-wkb-bits off ix s out v;
   cell-wkb = λ v off ix s out _ _ _ _ _ _. one-cell-wkb off ix s out v;
+  mend = λ old _ _ _ _ _ _ _ _ _ _. one-mend m;
   check-refused = λ a. work-refused m (a .work);
   walk-refused = λ s. list-refused;
   neighbours-refused = λ s. list-refused;

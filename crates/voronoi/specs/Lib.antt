@@ -7,6 +7,7 @@ pub mod Explanations
 pub mod One
 pub mod Accepted
 pub mod Maps
+pub mod Mends
 pub mod Examples
 pub mod laws
 pub mod Outcomes

@@ -30,6 +30,9 @@ use Rattle.reasons.specs.declared.ReasonNumbers.{ReasonNumbers}
 use Rattle.reason_call.specs.One.{one-why-call}
 use Rattle.voronoi.specs.Maps.{CellWkbBits, CellWkb}
 use Rattle.voronoi.specs.Explanations.{Why}
+use Rattle.mending.specs.Mending.{Lent}
+use Rattle.mending.specs.One.{mends-one}
+use Rattle.voronoi.specs.Mends.{Mend}
 use Rattle.voronoi.specs.Roots.{MagnitudeBits, Magnitude, SignumBits, Signum}
 use Rattle.voronoi.specs.Plane.{Near, Dist2, Edges, Corners, Inside, ExclusivelyInside, WhichEdge, Meets}
 use Rattle.voronoi.specs.Meshes.{Check}
@@ -185,3 +188,8 @@ module _ (off ix : List ℕ) (s : ℕ) (old : List ℕ) {new other : List ℕ} {
 pub one-why : {m : Mesh} (c : Point) (w h : Float) (asked first second : ℕ) {old new other : Slices} {t u : ReasonNumbers}
     → Why m c w h asked first second old new t → Why m c w h asked first second old other u → (t ≡ u) × (new ≡ other)
 one-why c w h asked first second = one-why-call
+
+-- ---- mending
+pub one-mend : (m : Mesh) {old new other : Lent} {r k p q s l u n : ℕ} → Mend m old new r k p q → Mend m old other s l u n
+    → (r ≡ s) × (new ≡ other) × (k ≡ l) × (p ≡ u) × (q ≡ n)
+one-mend m = mends-one m _ _ _ _ _ _ _ _ _ _ _

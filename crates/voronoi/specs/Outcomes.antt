@@ -8,6 +8,7 @@ use lib.ListN.{length, replicate}
 use Rattle.numbers.specs.Numbers.{EMPTY}
 use Rattle.laws.specs.Binary64.{zero}
 use Rattle.admission.specs.Slices.{Slices}
+use Rattle.mending.specs.Mending.{Lent}
 
 -- ---- one outcome
 
@@ -25,6 +26,10 @@ One₃ {A} {B} {C} P = (a a′ : A) (b b′ : B) (c c′ : C) → P a b c → P 
 abbrev pub OneList : (ℕ → List ℕ → List ℕ → ℕ → ℕ → Type 0) → Type 0
 OneList P = (r r′ : ℕ) (w w′ o o′ : List ℕ) (k k′ e e′ : ℕ) → P r w o k e → P r′ w′ o′ k′ e′ → (r ≡ r′) × (w ≡ w′) × (o ≡ o′) × (k ≡ k′)
     × (e ≡ e′)
+
+-- a mesh mended: number, slices, hull's length, changes of pairs and of the hull
+abbrev pub OneMend : (ℕ → Lent → ℕ → ℕ → ℕ → Type 0) → Type 0
+OneMend P = (r r′ : ℕ) (l l′ : Lent) (k k′ p p′ q q′ : ℕ) → P r l k p q → P r′ l′ k′ p′ q′ → (r ≡ r′) × (l ≡ l′) × (k ≡ k′) × (p ≡ p′) × (q ≡ q′)
 
 -- crossings: number, count, two points
 abbrev pub OneMeeting : (ℕ → ℕ → Float → Float → Float → Float → Type 0) → Type 0

@@ -3,6 +3,7 @@
 pub mod builds;
 pub mod explanations;
 pub mod maps;
+pub mod mends;
 pub mod meshes;
 pub mod plane;
 pub mod roots;

@@ -1,24 +1,27 @@
 //! Puts cases to the Rust, to the rules (docs/RULES.md) read a second time and to the proved library, and tells the first difference.
 //!
-//!     compare [--cases N] [--plane N] [--roots N] [--seed S] [--from I]
+//!     compare [--cases N] [--mends N] [--plane N] [--roots N] [--seed S] [--from I]
 //!     compare --case I [--seed S]      one mesh case alone, with its mesh
+//!     compare --mend I [--seed S]      one mesh to be mended alone
 //!
-//! By default 20,000 meshes, 100,000 inputs to each plane function and 10,000 patterns of each class to the roots.
+//! By default 20,000 meshes, 20,000 to be mended, 100,000 inputs to each plane function and 10,000 patterns of each class to the roots.
 //! The library is served by the command in VORONOI_SERVER (harness/serve.sh makes it).
 
 use harness::cases::Case;
 use harness::library::{Difference, Library};
 use harness::tally::{Tally, CALLS};
 use harness::words::Words;
-use harness::{compare, plane, roots, rust, text, why};
+use harness::{compare, mend, plane, roots, rust, text, why};
 use std::time::{Duration, Instant};
 
-const USAGE: &str = "compare [--cases N] [--plane N] [--roots N] [--seed S] [--from I]
+const USAGE: &str = "compare [--cases N] [--mends N] [--plane N] [--roots N] [--seed S] [--from I]
 compare --case I [--seed S]      one mesh case alone, with its mesh
-By default 20,000 meshes, 100,000 inputs to each plane function and 10,000 patterns of each class to the roots; 0 leaves a part out.";
+compare --mend I [--seed S]      one mesh to be mended alone
+By default 20,000 meshes, 20,000 to be mended, 100,000 inputs to each plane function and 10,000 patterns of each class to the roots; 0 leaves a part out.";
 
 fn main() {
-    let words = Words::read(USAGE, &["--cases", "--plane", "--roots", "--seed", "--from", "--case"], &[]);
+    let numbered = ["--cases", "--mends", "--plane", "--roots", "--seed", "--from", "--case", "--mend"];
+    let words = Words::read(USAGE, &numbered, &[]);
     let option = |name: &str| words.number(name);
     let seed = option("--seed").unwrap_or(1);
     rust::quiet();
@@ -39,6 +42,17 @@ fn main() {
         return;
     }
 
+    if let Some(i) = option("--mend") {
+        let case = mend::Case::random(seed, i);
+        print!("{}", text::write(&case.mesh, None));
+        println!("lent: work, pairs, hull, changes {:?}", case.lengths);
+        match mend::run_one(i, &case, &mut library, &mut mend::Seen::default()).and_then(|()| library.flush()) {
+            Ok(()) => println!("no difference"),
+            Err(d) => stop(&d.words),
+        }
+        return;
+    }
+
     match library.names() {
         [] => println!("NO LIBRARY: only the Rust and the rules are compared"),
         names => println!("The library is asked: {}", names.join(" ")),
@@ -47,6 +61,10 @@ fn main() {
     let mut holes = Vec::new();
     if cases > 0 {
         holes.extend(meshes(seed, option("--from").unwrap_or(0), cases, &mut library));
+    }
+    let n = option("--mends").unwrap_or(20_000);
+    if n > 0 {
+        holes.extend(mends(seed, option("--from").unwrap_or(0), n, &mut library));
     }
     let n = option("--plane").unwrap_or(100_000);
     if n > 0 {
@@ -66,6 +84,22 @@ fn main() {
     }
 }
 
+/// A line every ten seconds.
+struct Progress {
+    start: Instant,
+    told: Instant,
+}
+
+impl Progress {
+    fn tell(&mut self, done: u64, cases: u64, library: &Library) {
+        if self.told.elapsed() > Duration::from_secs(10) {
+            self.told = Instant::now();
+            let seconds = self.start.elapsed().as_secs_f64();
+            eprintln!("{done} of {cases} cases, {} calls of the library compared, no difference, {seconds:.0} s", library.compared);
+        }
+    }
+}
+
 /// The limits, then the random cases; gives what never came up.
 fn meshes(seed: u64, from: u64, cases: u64, library: &mut Library) -> Vec<String> {
     let mut tally = Tally::new();
@@ -74,15 +108,10 @@ fn meshes(seed: u64, from: u64, cases: u64, library: &mut Library) -> Vec<String
         let told = compare::run(0, &case, library, &mut tally).and_then(|()| library.flush());
         told.unwrap_or_else(|d| stop(&format!("DIFFERENCE in the limit case \"{name}\" of seed {seed}\n{}", d.words)));
     }
-    let mut told = Instant::now();
+    let mut progress = Progress { start, told: start };
     for i in from..from + cases {
         compare::run(i, &Case::random(seed, i), library, &mut tally).unwrap_or_else(|d| differs(seed, &d));
-        if told.elapsed() > Duration::from_secs(10) {
-            told = Instant::now();
-            let done = i - from + 1;
-            let seconds = start.elapsed().as_secs_f64();
-            eprintln!("{done} of {cases} cases, {} calls of the library compared, no difference, {seconds:.0} s", library.compared);
-        }
+        progress.tell(i - from + 1, cases, library);
     }
     library.flush().unwrap_or_else(|d| differs(seed, &d));
     let holes = tally.report();
@@ -91,6 +120,30 @@ fn meshes(seed: u64, from: u64, cases: u64, library: &mut Library) -> Vec<String
         "\n{} mesh cases, {} calls of the library ({asked} of {} functions on meshes) compared, 0 differences, {:.1} s",
         tally.cases, library.compared, CALLS.len(), start.elapsed().as_secs_f64()
     );
+    holes
+}
+
+/// The largest meshes, then the edited ones; gives what never came up.
+fn mends(seed: u64, from: u64, cases: u64, library: &mut Library) -> Vec<String> {
+    let mut seen = mend::Seen::default();
+    let (start, before) = (Instant::now(), library.compared);
+    for (name, case) in mend::Case::limits(seed) {
+        let told = mend::run_one(0, &case, library, &mut seen).and_then(|()| library.flush());
+        told.unwrap_or_else(|d| stop(&format!("DIFFERENCE in mending \"{name}\" of seed {seed}\n{}", d.words)));
+    }
+    let wrong = |d: Difference| {
+        print!("{}", text::write(&mend::Case::random(seed, d.case).mesh, None));
+        stop(&format!("DIFFERENCE in mending {0} of seed {seed} (again: compare --mend {0} --seed {seed})\n{1}", d.case, d.words))
+    };
+    let mut progress = Progress { start, told: start };
+    for i in from..from + cases {
+        mend::run_one(i, &mend::Case::random(seed, i), library, &mut seen).unwrap_or_else(wrong);
+        progress.tell(i - from + 1, cases, library);
+    }
+    library.flush().unwrap_or_else(wrong);
+    let holes = seen.report();
+    let asked = library.compared - before;
+    println!("\n{cases} edited meshes, {asked} calls of the library compared, 0 differences, {:.1} s", start.elapsed().as_secs_f64());
     holes
 }
 

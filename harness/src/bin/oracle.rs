@@ -6,13 +6,14 @@
 //!     oracle --form FILE       the mesh as the program `cells` reads it, on standard output
 //!     oracle --listing FILE    what the program `cells` must print for it
 //!     oracle --why FILE [SITE [SITE]]    what the program `why` must print for it
+//!     oracle --mend FILE       what the program `mend` must print for it
 //!     oracle --place FILE      the refusal's number, place, from and to, E where there is none, 0 E E E where it builds
 
 use harness::mesh::{Mesh, Pt};
 use harness::reference::{self, Counts, Mark};
 use harness::text::{self, row, show};
 use harness::why::{self, Question};
-use harness::{form, rust};
+use harness::{form, mend, rust};
 use std::io::{Read, Write};
 
 const USAGE: &str = "oracle [FILE]            one mesh, from a text: what the Rust answers
@@ -20,12 +21,13 @@ oracle --check FILE..    only whether each file's `answer` lines are among what 
 oracle --form FILE       the mesh as the program `cells` reads it, on standard output
 oracle --listing FILE    what the program `cells` must print for it
 oracle --why FILE [SITE [SITE]]    what the program `why` must print for it
+oracle --mend FILE       what the program `mend` must print for it
 oracle --place FILE      the refusal's number, place, from and to; E where there is none, 0 E E E where it builds";
 
 fn main() {
     rust::quiet();
     let args: Vec<String> = std::env::args().skip(1).collect();
-    const VERBS: [&str; 5] = ["--check", "--form", "--listing", "--why", "--place"];
+    const VERBS: [&str; 6] = ["--check", "--form", "--listing", "--mend", "--why", "--place"];
     if args.iter().any(|a| a == "--help" || a == "-h") {
         println!("{USAGE}");
         return;
@@ -53,10 +55,12 @@ fn main() {
         println!("{} meshes with {answers} stored lines: all answered", args.len() - 1);
         return;
     }
-    if let [verb @ ("--form" | "--listing"), file] = &args.iter().map(String::as_str).collect::<Vec<_>>()[..] {
+    if let [verb @ ("--form" | "--listing" | "--mend"), file] = &args.iter().map(String::as_str).collect::<Vec<_>>()[..] {
         let input = text::read(&open(&file.to_string())).unwrap_or_else(|e| stop(&format!("{file}: {e}")));
         if *verb == "--form" {
             std::io::stdout().write_all(&form::bytes(&input.mesh, input.clip.as_ref())).unwrap();
+        } else if *verb == "--mend" {
+            mend::lines(&input.mesh).unwrap_or_else(|e| stop(&e)).iter().for_each(|line| println!("{line}"));
         } else {
             print!("{}", form::listing(&input.mesh, input.clip.as_ref()).unwrap_or_else(|e| stop(&e)));
         }
@@ -105,6 +109,9 @@ fn listing(input: &text::Input) -> Vec<String> {
         let sites: String = [q.first, q.second][..q.asked as usize].iter().map(|s| format!(" {s}")).collect();
         let reason = why::told(&input.mesh, input.clip.as_ref(), q).unwrap_or_else(|e| stop(&e));
         lines.push(format!("why{sites}: {}", reason.line(q)));
+    }
+    if input.mend {
+        lines.extend(mend::lines(&input.mesh).unwrap_or_else(|e| stop(&e)).iter().map(|line| format!("mend: {line}")));
     }
     lines
 }

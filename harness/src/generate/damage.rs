@@ -155,7 +155,7 @@ fn hull(r: &mut Rng, m: &mut Mesh) {
 }
 
 /// Surfaces that are no disc: a closed part that shares one site, two discs, a bow-tie, an annulus.
-fn surface(r: &mut Rng, m: &mut Mesh) {
+pub fn surface(r: &mut Rng, m: &mut Mesh) {
     let first = m.count() as u32;
     let mut t = Topology { triangles: m.triangles.clone(), halfedges: m.halfedges.clone(), hull: m.hull.clone() };
     match r.below(5) {

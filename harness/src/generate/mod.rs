@@ -3,6 +3,7 @@
 pub mod areas;
 pub mod damage;
 pub mod delaunay;
+pub mod edits;
 pub mod floats;
 pub mod meshes;
 pub mod rng;

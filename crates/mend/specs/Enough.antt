@@ -1,0 +1,24 @@
+-- Theorem: 6,947 bytes of an input decide what is printed for it, however long it is: no form has more than 6,946.
+use mathlib.Core.Path.{subst}
+use mathlib.Core.Bool.{Bool}
+use mathlib.Core.List.{List}
+use mathlib.Core.Logic.{⊎-elim}
+use Prim.Native.Nat.{ℕ, _≤_}
+use native.Mathlib.Omega.{arith}
+use lib.ListN.{length, take}
+use lib.Seq.{take-all, length-take-le}
+use Rattle.laws.specs.laws.Decide.{lt-or-ge}
+use Rattle.form.specs.Length.{no-form}
+use Rattle.mend.specs.Printed.{MendPrints, sound, broken}
+
+module _ (form : Bool) where
+  pub enough : (s text : List ℕ) → MendPrints form (take 6947 s) text → MendPrints form s text
+  enough s text p =
+      ⊎-elim
+      (λ l. subst (λ (z : List ℕ). MendPrints form z text) (take-all 6947 s (omega arith)) p)
+      (λ l. long l p)
+      (lt-or-ge (length s) 6947)
+    where
+      long : 6947 ≤ length s → {text : List ℕ} → MendPrints form (take 6947 s) text → MendPrints form s text
+      long l (sound m f e q) = absurd (no-form (take 6947 s) (omega (arith, length-take-le 6947 s l)) (record { mesh = m; fits = f; bytes = e }))
+      long l (broken n) = broken (no-form s (omega arith))

@@ -1,0 +1,7 @@
+-- The root of the crate's definitions.
+pub mod Printed
+pub mod Steps
+pub mod One
+pub mod Enough
+pub mod Sound
+pub mod laws

@@ -1,0 +1,68 @@
+-- Theorem: no two texts may be printed for one input.
+use mathlib.Core.Path.{_≡_, refl, sym, ap, _∙_, subst}
+use mathlib.Core.Bool.{Bool}
+use mathlib.Core.List.{List}
+use Prim.Native.Nat.{ℕ}
+use native.Mathlib.Omega.{arith}
+use lib.Ieee.{Float}
+use lib.ListN.{replicate, length-replicate}
+use Rattle.laws.specs.Binary64 as B
+use Rattle.laws.specs.laws.Refusals.{finds-one}
+use Rattle.listing.specs.Listing.{refusal}
+use Rattle.form_step.specs.Reader.{verdict, start, reading, takes, Reading}
+use Rattle.form_step.specs.Holds.{ListRoom}
+use Rattle.form_step.specs.declared.Form.{Form}
+use Rattle.form_step.specs.declared.Form.the-variants.{Sound, Broken}
+use Rattle.form.specs.Form.{FormMesh, MeshFits, formOf}
+use Rattle.form.specs.laws.Mesh.{WholeRead, complete}
+use Rattle.mend.specs.Printed.{PrintsMesh, MendPrints, sound, broken}
+use Rattle.mend.specs.Steps.{OfLists, refused, mended, PrintsRead}
+use Rattle.mend.specs.laws.ReadForm.{to-read}
+
+module _ (form : Bool) where
+  lists-one : {first records : List ℕ} {sites : List Float} {tri he hull a b : List ℕ} → OfLists form first records sites tri he hull a → OfLists form first records sites tri he hull b → a ≡ b
+  lists-one (refused p q) (refused r s) = ap refusal (finds-one p r)
+  lists-one (refused p q) (mended r) = absurd (q (finds-one p r))
+  lists-one (mended p) (refused r s) = absurd (s (finds-one r p))
+  lists-one (mended p) (mended r) = refl
+
+  form-one : (s : List ℕ) (a : Form) (ss : List Float) (ts es hs x y : List ℕ) → PrintsRead form s a ss ts es hs x → PrintsRead form s a ss ts es hs y → x ≡ y
+  form-one s (Broken k) ss ts es hs x y p q = p ∙ sym q
+  form-one s (Sound n k h u) ss ts es hs x y p q = lists-one p q
+
+  -- the reader's lists, as long as a form needs them
+  abbrev floats : ℕ → List Float
+  floats n = replicate n B.zero
+
+  abbrev links : ℕ → List ℕ
+  links n = replicate n 0
+
+  abbrev read : List ℕ → Reading
+  read s = takes (reading start (floats 4) (floats 192) (links 576) (links 576) (links 96)) s
+
+  abbrev Read : List ℕ → List ℕ → Type 0
+  Read s = PrintsRead form s (verdict (read s .reader)) (read s .sites) (read s .triangles) (read s .halfedges) (read s .hull)
+
+  by-mesh : (text : List ℕ) (m : FormMesh) → MeshFits m → PrintsMesh m form text → Read (formOf m) text
+  by-mesh text m f q =
+      let w : WholeRead m (floats 4) (floats 192) (links 576) (links 576) (links 96) (read (formOf m)) = complete (floats 4) (floats 192) (links 576) (links 576) (links 96) m f in
+      let room : ListRoom (floats 4) (floats 192) (links 576) (links 576)
+      (links 96) = record {
+        bounds = omega (arith, length-replicate 4 B.zero);
+        sites = omega (arith, length-replicate 192 B.zero);
+        triangles = omega (arith, length-replicate {A = ℕ} 576 0);
+        halfedges = omega (arith, length-replicate {A = ℕ} 576 0);
+        hull = omega (arith, length-replicate {A = ℕ} 96 0);
+      } in
+      rw (w .answer) (to-read m f form room
+      (record { bounds = w .bounds; sites = w .sites; triangles = w .triangles; halfedges = w .halfedges; hull = w .hull }) text q)
+
+  by-reader : (s text : List ℕ) (m : FormMesh) → MeshFits m → s ≡ formOf m → PrintsMesh m form text → Read s text
+  by-reader s text m f e q = subst (λ (z : List ℕ). Read z text) (sym e) (by-mesh text m f q)
+
+  pub prints-one : {s a b : List ℕ} → MendPrints form s a → MendPrints form s b → a ≡ b
+  prints-one {s} {a} {b} (sound m f e p) (sound n g d q) =
+      form-one s (verdict (read s .reader)) (read s .sites) (read s .triangles) (read s .halfedges) (read s .hull) a b (by-reader s a m f e p) (by-reader s b n g d q)
+  prints-one (sound m f e p) (broken n) = absurd (n (record { mesh = m; fits = f; bytes = e }))
+  prints-one (broken n) (sound m f e p) = absurd (n (record { mesh = m; fits = f; bytes = e }))
+  prints-one (broken n) (broken k) = refl

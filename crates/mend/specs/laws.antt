@@ -1,0 +1,6 @@
+-- Laws that only proofs use.
+pub mod Words
+pub mod Room
+pub mod Text
+pub mod Shows
+pub mod ReadForm

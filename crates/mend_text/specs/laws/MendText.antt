@@ -1,0 +1,126 @@
+-- The lines of changes grow at their end by a line, and their length is bounded by their number.
+use mathlib.Core.Path.{_≡_, refl, sym, ap, _∙_}
+use mathlib.Core.Bool.{Bool, true, false}
+use mathlib.Core.List.{List, [], _∷_, _++_, append-assoc, append-nil}
+use mathlib.Core.Logic.{_≢_}
+use Prim.Native.Nat.{ℕ, zero, suc, _+_, _-_, _*_, _≤_}
+use native.Mathlib.Omega.{arith}
+use native.Mathlib.Nat.{add-zero, zero-add, suc-add}
+use lib.Dec.{eqb}
+use borrow.Author.Tests.{eq-eqb, ne-eqb}
+use lib.ListN.{length, getD, length-append}
+use Rattle.laws.specs.Pick.{pick}
+use Rattle.numbers.specs.Numbers.{EMPTY}
+use Rattle.listing.specs.Text.{ascii}
+use Rattle.listing.specs.Listing.{entries, labelled}
+use Rattle.listing.specs.laws.Listing.{entries-short, labelled-short}
+use Rattle.mend_text.specs.MendText.{orNone, changeLine, lineAt, changeLines, countsLine, mendText}
+
+-- ---- a value
+
+pub is-none : (v : ℕ) → v ≡ EMPTY → orNone v ≡ ascii " none"
+unfolding orNone
+is-none v e = rw (eq-eqb v EMPTY e)
+
+pub is-some : (v : ℕ) → v ≢ EMPTY → orNone v ≡ entries (v ∷ [])
+unfolding orNone
+is-some v n = rw (ne-eqb v EMPTY n)
+
+-- ---- lines
+
+module _ (label cs : List ℕ) where
+  lines-append : (m n i : ℕ) → changeLines label cs i (m + n) ≡ changeLines label cs i m ++ changeLines label cs (i + m) n
+  unfolding changeLines
+  lines-append zero n i = rw (zero-add n, add-zero i)
+  lines-append (suc m) n i =
+      let e : suc i + m ≡ i + suc m = omega arith in
+      let c = lineAt label cs i in
+      rw (suc-add m n)
+      (ap (λ (t : List ℕ). c ++ t) (lines-append m n (suc i) ∙ ap (λ (k : ℕ). changeLines label cs (suc i) m ++ changeLines label cs k n) e)
+      ∙ sym (append-assoc c (changeLines label cs (suc i) m) (changeLines label cs (i + suc m) n)))
+
+  pub lines-none : (i : ℕ) → changeLines label cs i 0 ≡ []
+  unfolding changeLines
+  lines-none i = refl
+
+  pub lines-more : (i n : ℕ) → changeLines label cs i (n + 1) ≡ changeLines label cs i n ++ lineAt label cs (i + n)
+  unfolding changeLines
+  lines-more i n =
+      lines-append n 1 i
+      ∙ ap (λ (t : List ℕ). changeLines label cs i n ++ t) (append-nil (lineAt label cs (i + n)))
+
+  pub lines-split : (i m n : ℕ) → m ≤ n → changeLines label cs i n ≡ changeLines label cs i m ++ changeLines label cs (i + m) (n - m)
+  lines-split i m n h =
+      let e : n ≡ m + (n - m) = omega arith in
+      ap (changeLines label cs i) e ∙ lines-append m (n - m) i
+
+-- a list that begins with one change more
+pub lines-shift : (label : List ℕ) (a b c : ℕ) (cs : List ℕ) (n i : ℕ) → changeLines label (a ∷ b ∷ c ∷ cs) (suc i) n ≡ changeLines label cs i n
+unfolding changeLines
+lines-shift label a b c cs zero i = refl
+lines-shift label a b c cs (suc n) i =
+    let x : 3 * suc i ≡ suc (suc (suc (3 * i))) = omega arith in
+    let y : 3 * suc i + 1 ≡ suc (suc (suc (3 * i + 1))) = omega arith in
+    let z : 3 * suc i + 2 ≡ suc (suc (suc (3 * i + 2))) = omega arith in
+    rw (y, z, x, lines-shift label a b c cs n (suc i))
+
+-- ---- lengths
+
+value-short : (v : ℕ) → length (orNone v) ≤ 11
+unfolding orNone
+value-short v = go (eqb v EMPTY)
+  where
+    go : (t : Bool) → length (pick t (λ _. ascii " none") (λ _. entries (v ∷ []))) ≤ 11
+    go true = omega arith
+    go false = omega (arith, entries-short (v ∷ []))
+
+line-short : (label : List ℕ) (place old new : ℕ) → length label ≤ 4 → length (changeLine label place old new) ≤ 39
+unfolding changeLine
+line-short label place old new h =
+    let a = label ++ entries (place ∷ []) in
+    let b = a ++ ascii ":" in
+    let v = orNone old ++ orNone new in
+    omega (
+      arith,
+      length-append (b ++ v) (ascii "\n"),
+      length-append b v,
+      length-append a (ascii ":"),
+      length-append label (entries (place ∷ [])),
+      length-append (orNone old) (orNone new),
+      entries-short (place ∷ []),
+      value-short old,
+      value-short new,
+    )
+
+lines-short : (label cs : List ℕ) → length label ≤ 4 → (n i : ℕ) → length (changeLines label cs i n) ≤ 39 * n
+unfolding changeLines
+lines-short label cs h zero i = omega arith
+lines-short label cs h (suc n) i =
+    omega (
+      arith,
+      length-append (lineAt label cs i) (changeLines label cs (suc i) n),
+      line-short label (getD cs (3 * i) 0) (getD cs (3 * i + 1) 0) (getD cs (3 * i + 2) 0) h,
+      lines-short label cs h n (suc i),
+    )
+
+counts-short : (p q : ℕ) → length (countsLine p q) ≤ 33
+unfolding countsLine
+counts-short p q =
+    let x = labelled "pairs" p in
+    let y = labelled " hull" q in
+    omega (arith, length-append (x ++ y) (ascii "\n"), length-append x y, labelled-short "pairs" p, labelled-short " hull" q)
+
+-- what the text of so many changes needs
+pub text-short : (cs : List ℕ) (p q : ℕ) → length (mendText cs p q) ≤ 39 * (p + q) + 33
+unfolding mendText
+text-short cs p q =
+    let a = changeLines (ascii "pair") cs 0 p in
+    let b = changeLines (ascii "hull") cs p q in
+    omega (
+      arith,
+      length-append (a ++ b) (countsLine p q),
+      length-append a b,
+      lines-short (ascii "pair") cs (omega arith) p 0,
+      lines-short (ascii "hull") cs (omega arith) q p,
+      counts-short p q,
+    )

@@ -1,0 +1,152 @@
+-- A refusal clears every slice; else what was worked out stays, and its changes are listed.
+use mathlib.Core.Path.{sym}
+use native.Mathlib.Omega.{arith}
+use lib.ListN.{length}
+use lib.Seq.{length-take-le}
+use Rattle.mending.specs.laws.Outcomes.{sound-refused}
+use Rattle.mending.specs.laws.Working.{part-long, part-few, pairs-few, places-few, sound-made}
+use borrow.Author.Needs.{needs}
+use Rattle.mending.proofs.mend_sound.Statement.{statement}
+use Rattle.mending.proofs.mend_sound.Tie as tie
+
+shared-slice-read-first : tie.Need-shared-slice-read-first
+shared-slice-read-first c = omega (arith, c .before .before .before .before .before .before .before .before .pre .1 .some)
+
+work-out-requires : tie.Need-work-out-requires
+work-out-requires c κs = c .before .before .before .before .before .before .before .before .before .before .before .before .pre .0
+
+returns : tie.Need-returns
+returns c =
+    let at-clear-all = c .before .before .before .before .before .before .before .before .before in
+    let at-if1 = at-clear-all .before .before .before .before .before in
+    let at-work-out = at-if1 .before .before .before .before .before .before .before .before .before in
+    sound-refused _ _ _ _ _ _ _ _ _ _ _ _ (at-work-out .work-out .ensures .found) (at-if1 .if1 .taken) (c .refused .ensures) (at-clear-all .clear-all .ensures)
+    (at-work-out .work-out .kept .1 .1 .1 .0) (at-work-out .work-out .kept .1 .1 .1 .1 .0) (at-work-out .work-out .kept .1 .1 .1 .1 .1 .0)
+    (at-work-out .work-out .kept .1 .1 .1 .1 .1 .1 .0)
+
+slice-reshare-prefix-new-pairs : tie.Need-slice-reshare-prefix-new-pairs
+slice-reshare-prefix-new-pairs c =
+    let at-work-out = c .before .before .before .before .before .before .before .before .before in
+    let at-start = at-work-out .before .before .before .before .before .before .before .before .before .before .before .before .before in
+    omega (arith, at-work-out .work-out .kept .1 .1 .1 .1 .0, at-start .pre .0 .for-pairs)
+
+slice-aggregate-new-pairs : tie.Need-slice-aggregate-new-pairs
+slice-aggregate-new-pairs c =
+    let at-work-out = c .before .before .before .before .before .before .before .before .before .before in
+    let at-start = at-work-out .before .before .before .before .before .before .before .before .before .before .before .before .before in
+    sym (length-take-le (length (at-start .args .triangles .now)) (at-work-out .work-out .last .1 .1 .1 .1 .0) (omega (
+      arith,
+      at-work-out .work-out
+          .kept .1 .1 .1 .1 .0,
+      at-start .pre .0 .for-pairs,
+    )))
+
+slice-reshare-prefix-new-hull : tie.Need-slice-reshare-prefix-new-hull
+slice-reshare-prefix-new-hull c =
+    let at-work-out = c .before .before .before .before .before .before .before .before .before .before in
+    let at-start = at-work-out .before .before .before .before .before .before .before .before .before .before .before .before .before in
+    omega (
+      arith,
+      part-few _ (at-start .args .halfedges .now) (at-start .args .hull .now) _ _ _ _ _ (at-work-out .work-out .ensures) (c .before .if1
+          .left),
+      at-work-out .work-out .kept .1 .1 .1 .1 .1 .0,
+      at-start .pre .0 .for-hull,
+    )
+
+slice-aggregate-new-hull : tie.Need-slice-aggregate-new-hull
+slice-aggregate-new-hull c =
+    let at-work-out = c .before .before .before .before .before .before .before .before .before .before .before in
+    let at-start = at-work-out .before .before .before .before .before .before .before .before .before .before .before .before .before in
+    sym (length-take-le (at-work-out .work-out .result .count) (at-work-out .work-out .last .1 .1 .1 .1 .1 .0)
+    (omega (
+      arith,
+      part-few _ (at-start .args .halfedges .now) (at-start .args .hull .now) _ _ _ _ _ (at-work-out .work-out .ensures) (c .before
+          .before .if1 .left),
+      at-work-out .work-out .kept .1 .1 .1 .1 .1 .0,
+      at-start .pre .0 .for-hull,
+    )))
+
+list-both-requires : tie.Need-list-both-requires
+list-both-requires c κs =
+    let at-if1 = c .before .before .before in
+    let at-work-out = at-if1 .before .before .before .before .before .before .before .before .before in
+    let at-start = at-work-out .before .before .before .before .before .before .before .before .before .before .before .before .before in
+    let f = part-few _ (at-start .args .halfedges .now) (at-start .args .hull .now) _ _ _ _ _ (at-work-out .work-out .ensures) (at-if1 .if1 .left) in
+    let l = part-long _ (at-start .args .halfedges .now) (at-start .args .hull .now) _ _ _ _ _ (at-work-out .work-out .ensures) (at-if1 .if1 .left) in
+    let m = length-take-le (at-work-out .work-out .result .count) (at-work-out .work-out .last .1 .1 .1 .1 .1 .0) (omega (
+      arith,
+      at-work-out
+          .work-out .kept .1 .1 .1 .1 .1 .0,
+      at-start .pre .0 .for-hull,
+    )) in (
+      omega (arith, at-start .pre .1 .same, at-start .pre .0 .named .small, at-start .pre .1 .fits, at-start .pre .0 .few),
+      omega (
+        arith,
+        at-start
+            .pre .1 .same,
+        at-start .pre .0 .named .small,
+        at-start .pre .1 .fits,
+        at-start .pre .0 .few,
+      ),
+      omega (arith, at-start .pre .1 .same, at-start .pre .1 .fits, at-start .pre .1 .for-changes, at-work-out .work-out .kept .1 .1 .1 .1 .1 .1 .0),
+    )
+
+cast-t18 : tie.Need-cast-t18
+cast-t18 c =
+    let at-if1 = c .before .before .before .before .before .before in
+    let at-work-out = at-if1 .before .before .before .before .before .before .before .before .before in
+    let at-start = at-work-out .before .before .before .before .before .before .before .before .before .before .before .before .before in
+    record {
+      fits = omega (
+        arith,
+        part-few _ (at-start .args .halfedges .now) (at-start .args .hull .now) _ _ _ _ _ (at-work-out .work-out .ensures)
+            (at-if1 .if1 .left),
+        at-start .pre .0 .few,
+      );
+    }
+
+cast-t41 : tie.Need-cast-t41
+cast-t41 c =
+    let at-list-both = c .before .before .before in
+    let at-if1 = at-list-both .before .before .before .before in
+    let at-work-out = at-if1 .before .before .before .before .before .before .before .before .before in
+    let at-start = at-work-out .before .before .before .before .before .before .before .before .before .before .before .before .before in
+    record {
+      fits = omega (
+        arith,
+        pairs-few _ (at-start .args .halfedges .now) (at-start .args .hull .now) _ _ _ _ _ (at-work-out .work-out .ensures)
+            (at-if1 .if1 .left) _ (at-start .pre .1 .same) (at-list-both .list-both .ensures .first),
+        at-start .pre .0 .named .small,
+      );
+    }
+
+cast-t42 : tie.Need-cast-t42
+cast-t42 c =
+    let at-list-both = c .before .before .before .before in
+    let at-if1 = at-list-both .before .before .before .before in
+    let at-work-out = at-if1 .before .before .before .before .before .before .before .before .before in
+    let at-start = at-work-out .before .before .before .before .before .before .before .before .before .before .before .before .before in
+    record {
+      fits = omega (
+        arith,
+        places-few _ (at-start .args .halfedges .now) (at-start .args .hull .now) _ _ _ _ _ (at-work-out .work-out
+            .ensures) (at-if1 .if1 .left) _ (at-start .pre .1 .fits) (at-list-both .list-both .ensures .then),
+        at-start .pre .0 .few,
+      );
+    }
+
+returns-2 : tie.Need-returns-2
+returns-2 c =
+    let at-list-both = c .before .before .before .before in
+    let at-if1 = at-list-both .before .before .before .before in
+    let at-work-out = at-if1 .before .before .before .before .before .before .before .before .before in
+    sound-made _ _ _ _ _ _ _ _ (at-work-out .work-out .ensures) (at-if1 .if1 .left) _ _ _ (at-list-both .list-both .ensures) (at-work-out .work-out .kept .1 .1 .1 .1 .1 .1 .0)
+
+pub mend-sound-spec : {M : Type 1} → statement M
+mend-sound-spec =
+    tie.close
+    (tie.spec shared-slice-read-first work-out-requires (λ c κs. search needs) (λ c κs. search needs)
+    (λ c. search needs) (λ c. search needs) (λ c. search needs) (λ c. search needs) returns
+    slice-reshare-prefix-new-pairs slice-aggregate-new-pairs slice-reshare-prefix-new-hull
+    slice-aggregate-new-hull list-both-requires cast-t18 cast-t41 cast-t42 (λ c. search needs)
+    (λ c. search needs) (λ c. search needs) (λ c. search needs) returns-2)

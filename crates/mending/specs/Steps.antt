@@ -1,0 +1,48 @@
+-- What the steps of mending ask for and leave.
+use mathlib.Core.Path.{_≡_}
+use mathlib.Core.List.{List, _++_}
+use Prim.Native.Nat.{ℕ, _+_, _*_, _≤_, _<_}
+use lib.ListN.{length, replicate}
+use Rattle.laws.specs.Refusals.{Finds}
+use Rattle.numbers.specs.Numbers.{EMPTY}
+use Rattle.mesh.specs.Mesh.{AllSound, leftmostIn}
+use Rattle.mend_pairs.specs.Pairs.{pairsOf}
+use Rattle.mend_pairs.specs.Chains.{NamesSites}
+use Rattle.mend_hull.specs.Loop.{hullOf}
+use Rattle.mend_changes.specs.Changes.{changesOf, flatChanges}
+use Rattle.mending.specs.Mending.{Lent, workRules, filled}
+
+-- rules 1, 2 and 7 hold: n sites
+pub record Ready (tri : List ℕ) (n : ℕ) (old : Lent) : Type 0 where
+  pub named : NamesSites tri n
+  pub sound : AllSound tri n
+  pub few : n < EMPTY
+  pub for-work : n ≤ length (old .work)
+  pub for-pairs : length tri ≤ length (old .pairs)
+  pub for-hull : n ≤ length (old .mended)
+  pub for-chains : length tri ≤ length (old .changes)
+
+-- the old lists, and room for their changes
+pub record Lists (tri he hull : List ℕ) (n room : ℕ) : Type 0 where
+  pub same : length he ≡ length tri
+  pub some : 0 < length hull
+  pub fits : length hull ≤ n
+  pub for-changes : 3 * (length tri + n) ≤ room
+
+pub record WorkedOut (tri : List ℕ) (first n : ℕ) (old new : Lent) (r k : ℕ) : Type 0 where
+  pub found : Finds (workRules tri n) 0 r
+  pub work : r ≡ 0 → new .work ≡ leftmostIn tri (pairsOf tri) n (length (old .work))
+  pub pairs : r ≡ 0 → new .pairs ≡ filled (length (old .pairs)) (pairsOf tri)
+  pub mended : r ≡ 0 → new .mended ≡ filled (length (old .mended)) (hullOf tri (pairsOf tri) first n)
+  pub count : r ≡ 0 → k ≡ length (hullOf tri (pairsOf tri) first n)
+
+pub record ListedBoth (old new before after c c′ : List ℕ) (p q : ℕ) : Type 0 where
+  pub first : p ≡ length (changesOf old new)
+  pub then : q ≡ length (changesOf before after)
+  pub changes : c′ ≡ filled (length c) (flatChanges (changesOf old new ++ changesOf before after))
+
+pub record Cleared (old new : Lent) : Type 0 where
+  pub work : new .work ≡ replicate (length (old .work)) EMPTY
+  pub pairs : new .pairs ≡ replicate (length (old .pairs)) EMPTY
+  pub mended : new .mended ≡ replicate (length (old .mended)) EMPTY
+  pub changes : new .changes ≡ replicate (length (old .changes)) EMPTY

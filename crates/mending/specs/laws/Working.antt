@@ -1,0 +1,127 @@
+-- How pairs, hull and changes that were worked out stand in the slices.
+use mathlib.Core.Path.{_≡_, sym, ap, _∙_}
+use mathlib.Core.List.{List, _++_}
+use mathlib.Core.Bool.{Bool, true, false}
+use Prim.Native.Nat.{ℕ, zero, suc, _+_, _-_, _*_, _≤_}
+use native.Mathlib.Omega.{arith}
+use lib.ListN.{length, getD, take, drop, replicate, length-append}
+use lib.Seq.{sets, take-at}
+use Rattle.laws.specs.Refusals.{Finds}
+use Rattle.laws.specs.laws.Refusals.{breaks, keeps}
+use Rattle.laws.specs.laws.Stores.{sets-all, sets-join}
+use Rattle.numbers.specs.Numbers.{EMPTY, refusedTwice}
+use Rattle.mesh.specs.Mesh.{AllPaired}
+use Rattle.mend_pairs.specs.Pairs.{pairsOf}
+use Rattle.mend_pairs.specs.Chains.{PairAnswer}
+use Rattle.mend_pairs.specs.laws.Mates.{pairs-length}
+use Rattle.mend_pairs.specs.laws.Marking.{said, denied}
+use Rattle.mend_pairs.specs.PairTheorem.{pairs-right}
+use Rattle.mend_hull.specs.Loop.{leadTable, loopBegin, hullOf}
+use Rattle.mend_hull.specs.Answer.{TracedHull}
+use Rattle.mend_hull.specs.laws.Leads.{leads-length}
+use Rattle.mend_hull.specs.laws.Tracing.{loop-few}
+use Rattle.mend_changes.specs.Changes.{longer, changesOf, flatChanges}
+use Rattle.mend_changes.specs.laws.Listing.{flat-append, flat-length, changes-few}
+use Rattle.mending.specs.Mending.{Lent, lent, workRules, newHull, pairChanges, hullChanges, filled, MendOutcome}
+use Rattle.mending.specs.Steps.{WorkedOut, ListedBoth}
+use Rattle.mending.specs.laws.Outcomes.{outcome-made}
+
+drop-replicate : (j w : ℕ) → drop j (replicate w EMPTY) ≡ replicate (w - j) EMPTY
+drop-replicate zero w = let q : w ≡ w - 0 = omega arith in ap (λ k. replicate k EMPTY) q
+drop-replicate (suc j) zero = let q : 0 ≡ 0 - suc j = omega arith in ap (λ k. replicate k EMPTY) q
+drop-replicate (suc j) (suc w) = let q : w - j ≡ suc w - suc j = omega arith in drop-replicate j w ∙ ap (λ k. replicate k EMPTY) q
+
+-- written into a cleared slice
+pub sets-filled : (l s s′ : List ℕ) (w : ℕ) → s ≡ replicate w EMPTY → length s ≡ w → length l ≤ w → s′ ≡ sets s 0 l → s′ ≡ filled w l
+sets-filled l s s′ w q long fits z = z ∙ sets-all l s (rw long fits) ∙ ap (λ v. l ++ drop (length l) v) q ∙ ap (λ v. l ++ v) (drop-replicate (length l) w)
+
+pub take-filled : (l s : List ℕ) (w k : ℕ) → s ≡ filled w l → length l ≡ k → take k s ≡ l
+take-filled l s w k q z = ap (take k) q ∙ take-at l (replicate (w - length l) EMPTY) k z
+
+-- the hull fits into as many entries as there are sites
+pub hull-fits : (tri he : List ℕ) (first n : ℕ) → length (hullOf tri he first n) ≤ n
+hull-fits tri he first n =
+    let t = leadTable tri he n in
+    omega (arith, leads-length tri he n (length tri), loop-few t (loopBegin t first) (length t) (loopBegin t first))
+
+-- two lists of changes, one after the other
+pub listed : (old new before after c c₀ c₁ c₂ : List ℕ) (p q : ℕ) → c₀ ≡ replicate (length c) EMPTY → length c₀ ≡ length c
+    → 3 * (longer old new + longer before after) ≤ length c
+    → (p ≡ length (changesOf old new)) × (c₁ ≡ sets c₀ (3 * 0) (flatChanges (changesOf old new)))
+    → (q ≡ length (changesOf before after)) × (c₂ ≡ sets c₁ (3 * p) (flatChanges (changesOf before after))) → ListedBoth old new before after c c₂ p q
+listed old new before after c c₀ c₁ c₂ p q z long room (a, b) (d, e) =
+    let A = changesOf old new in
+    let B = changesOf before after in
+    let f : length (flatChanges (A ++ B)) ≤ length c =
+    omega (arith, flat-length (A ++ B), length-append A B, changes-few old new (longer old new), changes-few before after (longer before after)) in
+    let g : c₂ ≡ sets c₀ 0 (flatChanges (A ++ B)) =
+    e ∙ ap (λ v. sets v (3 * p) (flatChanges B)) b ∙ sets-join (flatChanges A) (flatChanges B) c₀ 0 (3 * p) (omega (arith, flat-length A)) ∙ ap (sets c₀ 0) (sym (flat-append A B)) in
+    record { first = a; then = d; changes = sets-filled (flatChanges (A ++ B)) c₀ c₂ (length c) z long f g }
+
+-- the pairs in a slice of w entries
+module _ (tri : List ℕ) (b : Bool) (h : b ≡ true) (s s′ : List ℕ) (w : ℕ) (zs : s ≡ replicate w EMPTY) (ls : length s ≡ w) (a : PairAnswer tri s s′ b) (room : length tri ≤ w) where
+  pairs-filled : s′ ≡ filled w (pairsOf tri)
+  pairs-filled = sets-filled (pairsOf tri) s s′ w zs ls (rw (pairs-length tri (length tri)) room) (a .pairs h)
+
+  the-pairs : take (length tri) s′ ≡ pairsOf tri
+  the-pairs = take-filled (pairsOf tri) s′ w (length tri) pairs-filled (pairs-length tri (length tri))
+
+  pub pairs-long : length (take (length tri) s′) ≡ length tri
+  pairs-long = ap length the-pairs ∙ pairs-length tri (length tri)
+
+  pub pairs-paired : AllPaired tri (take (length tri) s′)
+  pairs-paired = rw the-pairs (pairs-right tri (said b h (a .single)))
+
+-- rules 19, 9 and 10
+module _ (tri : List ℕ) (first n : ℕ) (old new : Lent) where
+  pub worked-twice : (b : Bool) → b ≡ false → (s s′ : List ℕ) → PairAnswer tri s s′ b → WorkedOut tri first n old new refusedTwice 0
+  worked-twice b h s s′ a = record {
+    found = breaks (denied b h (a .single));
+    work = λ z. absurd (omega arith);
+    pairs = λ z. absurd (omega arith);
+    mended = λ z. absurd (omega arith);
+    count = λ z. absurd (omega arith);
+  }
+
+  pub worked-hull : (b : Bool) (h : b ≡ true) (s : List ℕ) (zs : s ≡ replicate (length (old .pairs)) EMPTY) (ls : length s ≡ length (old .pairs))
+      (a : PairAnswer tri s (new .pairs) b) (room : length tri ≤ length (old .pairs)) (w₁ m : List ℕ) → length w₁ ≡ length (old .work)
+      → m ≡ replicate (length (old .mended)) EMPTY → length m ≡ length (old .mended) → n ≤ length (old .mended)
+      → (r k : ℕ) → TracedHull tri (take (length tri) (new .pairs)) first n w₁ (new .work) m (new .mended) r k → WorkedOut tri first n old new r k
+  worked-hull b h s zs ls a room w₁ m lw zm lm fits r k x =
+      let t = rw (the-pairs tri b h s (new .pairs) (length (old .pairs)) zs ls a room) at x in
+      record {
+        found = keeps (said b h (a .single)) (t .found);
+        work = λ z. rw (← lw) (t .table z);
+        pairs = λ z. pairs-filled tri b h s (new .pairs) (length (old .pairs)) zs ls a room;
+        mended = λ z. sets-filled (hullOf tri (pairsOf tri) first n) m (new .mended) (length (old .mended)) zm lm (omega (arith, hull-fits tri (pairsOf tri) first n)) (t .mended);
+        count = λ z. t .count;
+      }
+
+-- what was worked out, and the list of changes to it
+module _ (tri he hull : List ℕ) (n : ℕ) (old mid : Lent) (s k : ℕ) (w : WorkedOut tri (getD hull 0 0) n old mid s k) (z : s ≡ 0) where
+  part-pairs : take (length tri) (mid .pairs) ≡ pairsOf tri
+  part-pairs = take-filled (pairsOf tri) (mid .pairs) (length (old .pairs)) (length tri) (w .pairs z) (pairs-length tri (length tri))
+
+  part-hull : take k (mid .mended) ≡ newHull tri hull n
+  part-hull = take-filled (newHull tri hull n) (mid .mended) (length (old .mended)) k (w .mended z) (sym (w .count z))
+
+  pub part-long : length (take (length tri) (mid .pairs)) ≡ length tri
+  part-long = ap length part-pairs ∙ pairs-length tri (length tri)
+
+  pub part-few : k ≤ n
+  part-few = omega (arith, w .count z, hull-fits tri (pairsOf tri) (getD hull 0 0) n)
+
+  pub sound-made : (c : List ℕ) (p q : ℕ) → ListedBoth he (take (length tri) (mid .pairs)) hull (take k (mid .mended)) (mid .changes) c p q → length (mid .changes) ≡ length (old .changes)
+      → Finds (workRules tri n) 0 s × MendOutcome tri he hull n old (lent (mid .work) (mid .pairs) (mid .mended) c) s k p q
+  sound-made c p q x long =
+      let y = rw (part-pairs, part-hull) at x in (
+        w .found,
+        outcome-made tri he hull n old s z (lent (mid .work) (mid .pairs) (mid .mended) c) k p q (w .work z) (w .pairs z) (w .mended z)
+            (y .changes ∙ ap (λ j. filled j (flatChanges (pairChanges tri he ++ hullChanges tri hull n))) long) (w .count z) (y .first) (y .then),
+      )
+
+  pub pairs-few : (p : ℕ) → length he ≡ length tri → p ≡ length (changesOf he (take (length tri) (mid .pairs))) → p ≤ length tri
+  pairs-few p same e = omega (arith, changes-few he (take (length tri) (mid .pairs)) (longer he (take (length tri) (mid .pairs))), part-long)
+
+  pub places-few : (q : ℕ) → length hull ≤ n → q ≡ length (changesOf hull (take k (mid .mended))) → q ≤ n
+  places-few q fits e = omega (arith, changes-few hull (take k (mid .mended)) (longer hull (take k (mid .mended))), ap length part-hull, hull-fits tri (pairsOf tri) (getD hull 0 0) n)
