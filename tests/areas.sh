@@ -27,7 +27,7 @@ while read -r total box lost mesh; do
 done <<'END'
 4.000000 4.000000 0 tests/cells/corner_met.txt
 2.166667 4.000000 0 tests/cells/none_lost_short.txt
-4.000000 4.000000 1 tests/cells/one_lost_whole.txt
+3.999999 4.000000 1 tests/cells/one_lost_whole.txt
 2.750000 4.000000 1 harness/meshes/lost_corners.txt
 0.000000 0.015625 4 harness/meshes/covered_box.txt
 END
