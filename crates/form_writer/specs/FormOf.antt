@@ -24,7 +24,8 @@ abbrev pub meshWith : Outline → List Site → List ℕ → List ℕ → List �
 meshWith clip ss tri he hull = record { clip = clip; sites = ss; triangles = trianglesOf tri he; hull = hull }
 
 -- what a reader of bytes answers and leaves in lists that were bs to hs, where it finds this first record, these sites and these lists
-pub record ReadAs (clip : Outline) (ps : List Site) (tri he round : List ℕ) (bs ss : List Float) (ts es hs : List ℕ) (a : Form) (bs′ ss′ : List Float) (ts′ es′ hs′ : List ℕ) : Type 0 where
+pub record ReadAs (clip : Outline) (ps : List Site) (tri he round : List ℕ) (bs ss : List Float) (ts es hs : List ℕ) (a : Form)
+    (bs′ ss′ : List Float) (ts′ es′ hs′ : List ℕ) : Type 0 where
   pub answer : a ≡ Sound (length ps) (length tri / 3) (length round) (isUnclipped clip)
   pub bounds : bs′ ≡ sets bs 0 (outlineFloats clip)
   pub sites : ss′ ≡ sets ss 0 (numbersOf siteFloats ps)

@@ -20,7 +20,8 @@ use Rattle.mend.specs.Steps.{OfLists, refused, mended, PrintsRead}
 use Rattle.mend.specs.laws.ReadForm.{to-read}
 
 module _ (form : Bool) where
-  lists-one : {first records : List ℕ} {sites : List Float} {tri he hull a b : List ℕ} → OfLists form first records sites tri he hull a → OfLists form first records sites tri he hull b → a ≡ b
+  lists-one : {first records : List ℕ} {sites : List Float} {tri he hull a b : List ℕ}
+      → OfLists form first records sites tri he hull a → OfLists form first records sites tri he hull b → a ≡ b
   lists-one (refused p q) (refused r s) = ap refusal (finds-one p r)
   lists-one (refused p q) (mended r) = absurd (q (finds-one p r))
   lists-one (mended p) (refused r s) = absurd (s (finds-one r p))

@@ -18,7 +18,8 @@ judged-kept rest none r a c P Q S q s (inl x) = inl x
 judged-kept rest none r a c P Q S q s (inr (p, inl x)) = absurd (x .0 q)
 judged-kept rest none r a c P Q S q s (inr (p, inr (k, j))) = inr (p, inr (s, j))
 
-pub with-room : (sites : List Float) (tri he hull : List ℕ) (r : ℕ) (Q S : Type 0) → Q → S → Finds (mendRules (mesh sites tri he hull) Q) 0 r → Finds (mendRules (mesh sites tri he hull) S) 0 r
+pub with-room : (sites : List Float) (tri he hull : List ℕ) (r : ℕ) (Q S : Type 0) → Q → S
+    → Finds (mendRules (mesh sites tri he hull) Q) 0 r → Finds (mendRules (mesh sites tri he hull) S) 0 r
 with-room sites tri he hull r Q S q s x =
     let n = siteCount sites in
     let rest = reads numberOf (coordinateRules sites ++ each Triangle (length tri / 3) (SoundAt tri n) ∷ []) ++ workRules tri n in

@@ -84,7 +84,8 @@ module _ (sites : List Float) (tri he hull : List ℕ) (old new : Lent) (r k p q
     changes-are = m .outcome .changes ∙ made _ _
 
     listed : new .changes ≡ flatChanges ps ++ (flatChanges hs ++ replicate (length (old .changes) - length (flatChanges (ps ++ hs))) EMPTY)
-    listed = changes-are ∙ ap (λ (l : List ℕ). l ++ replicate (length (old .changes) - length (flatChanges (ps ++ hs))) EMPTY) (flat-append ps hs) ∙ append-assoc (flatChanges ps) (flatChanges hs) _
+    listed = changes-are ∙ ap (λ (l : List ℕ). l ++ replicate (length (old .changes) - length (flatChanges (ps ++ hs))) EMPTY) (flat-append ps hs)
+        ∙ append-assoc (flatChanges ps) (flatChanges hs) _
 
     few-made : (k ≤ 96) × (p + q ≤ 672)
     few-made =

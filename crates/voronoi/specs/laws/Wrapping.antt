@@ -49,7 +49,8 @@ module _ (m : Mesh) (c : Point) (w h : Float) {old new : Slices} (a : Build m c 
           many = gives-ok (λ (r : Built). length (r .cells) ≡ siteCount (m .sites)) (cell-count m (madeOf c w h)) is;
           indexes = left-indexes a b is;
           offsets = left-offsets a b is;
-          corners = λ i l. ap (λ x. pointAt x (length (m .triangles) / 3 + i)) (left-vertices a b is) ∙ slice-point (b .verts) _ (length (m .triangles) / 3 + i) (omega (arith, at .0)) ∙ at .1 i l;
+          corners = λ i l. ap (λ x. pointAt x (length (m .triangles) / 3 + i)) (left-vertices a b is)
+              ∙ slice-point (b .verts) _ (length (m .triangles) / 3 + i) (omega (arith, at .0)) ∙ at .1 i l;
           once = v .once;
           by-owner = λ i s l o. v .there i s l o ∙ sym (v .owners i l) ∙ sym (owner i l);
           corners-alone = v .corners;
