@@ -41,9 +41,9 @@ extern "C" {
 
 /* ---- the version (the file VERSION; CHANGELOG.md says what changed) */
 
-#define VORONOI_VERSION "0.5.0"
+#define VORONOI_VERSION "0.6.0"
 #define VORONOI_VERSION_MAJOR 0
-#define VORONOI_VERSION_MINOR 5
+#define VORONOI_VERSION_MINOR 6
 #define VORONOI_VERSION_PATCH 0
 
 /* ---- numbers */
@@ -97,7 +97,7 @@ extern "C" {
 #define VORONOI_REFUSED_EXTENSION 12    /* an extended point is not finite */
 #define VORONOI_REFUSED_NO_CROSSING 13  /* an edge with one end inside finds no crossing */
 #define VORONOI_REFUSED_ONE_CROSSING 14 /* an edge with both ends outside finds exactly one crossing */
-#define VORONOI_REFUSED_NO_SIDE 15      /* a clipped vertex lies on no side */
+/* 15 is not given: it stood for a clipped vertex on no side, and it is proved that there is none (docs/DIFFERENCES.md) */
 #define VORONOI_REFUSED_OFFSETS 16      /* cell offsets not one more than sites, not from 0, falling, or past the list's end */
 #define VORONOI_REFUSED_FORM 17         /* the form is broken (the programs `cells` and `export` alone) */
 #define VORONOI_REFUSED_ENTRY 18        /* an entry of the cell names no vertex */
@@ -122,7 +122,6 @@ static inline const char *voronoi_words(uint32_t number)
     case VORONOI_REFUSED_EXTENSION: return "a hull edge is so short that it has no direction";
     case VORONOI_REFUSED_NO_CROSSING: return "an edge that leaves the box was not found to cross it";
     case VORONOI_REFUSED_ONE_CROSSING: return "an edge with both ends outside the box was found to cross it once";
-    case VORONOI_REFUSED_NO_SIDE: return "a point cut off at the box was found on none of its sides";
     case VORONOI_REFUSED_OFFSETS: return "the cells' offsets do not cut the list of indexes";
     case VORONOI_REFUSED_FORM: return "the form is broken: a record cut, out of order, or one too many";
     case VORONOI_REFUSED_ENTRY: return "a cell names a vertex that is not there";
@@ -246,7 +245,7 @@ uint32_t voronoi_cells_share_edge(const uint32_t *offsets, size_t offsets_len, c
 
 /* ---- the builds
  * work, vertices, indexes, offsets and counts are lent; what each must be long at least is above (vertices_len counts numbers, two for
- * each vertex; VORONOI_COUNTS for counts). After 1 to 6 all five are as they were. After 7 to 15 all five are cleared over their whole
+ * each vertex; VORONOI_COUNTS for counts). After 1 to 6 all five are as they were. After 7 to 14 all five are cleared over their whole
  * lengths: VORONOI_EMPTY, and +0 in vertices. After 0 each holds what follows, then VORONOI_EMPTY or +0 to its end:
  *
  *   work      the leftmost half-edge of each site, as after voronoi_check
@@ -258,7 +257,7 @@ uint32_t voronoi_cells_share_edge(const uint32_t *offsets, size_t offsets_len, c
  *             T + c of T triangles, and is lost exactly if that number stands in no cell. Areas that do not add up to the box may come
  *             with none lost, and now and then a total is right with one lost (docs/RULES.md, "Lost corners") */
 
-/* The cells clipped to the box of centre (cx, cy), width and height. Tries 1, 2, 3, 6, 7 to 10, 11, and 12 to 15 as the builder meets them. */
+/* The cells clipped to the box of centre (cx, cy), width and height. Tries 1, 2, 3, 6, 7 to 10, 11, and 12 to 14 as the builder meets them. */
 uint32_t voronoi_build(double cx, double cy, double width, double height, const double *sites, size_t sites_len,
                        const uint32_t *triangles, size_t triangles_len, const uint32_t *halfedges, size_t halfedges_len,
                        const uint32_t *hull, size_t hull_len, uint32_t *work, size_t work_len, double *vertices, size_t vertices_len,
@@ -292,7 +291,7 @@ uint32_t voronoi_cell_wkb_bits(const uint64_t *vertices, size_t vertices_len, co
 
 /* ---- why
  * The one reason: what is wrong, and nothing that stands earlier in the order is. Tries 1, 2, 3, 4 on each site asked about, 6, 7 to 10, 11, and 12
- * to 15 as the builder meets them; on a mesh that builds it answers what was asked: 0 nothing, 1 about the cell of `first`, 2 or more about
+ * to 14 as the builder meets them; on a mesh that builds it answers what was asked: 0 nothing, 1 about the cell of `first`, 2 or more about
  * `second` as a neighbour of `first`. The answer is the refusal's number, 0 where nothing is refused; the five slices are as after a build.
  * *kind, *place, *from and *to are written after every answer, VORONOI_EMPTY where the kind has no such number:
  *
@@ -302,7 +301,7 @@ uint32_t voronoi_cell_wkb_bits(const uint64_t *vertices, size_t vertices_len, co
  *   VORONOI_WHY_TRIANGLE    *place is the lowest triangle that breaks 7 or 11
  *   VORONOI_WHY_HALFEDGE    *place is the lowest half-edge that breaks 8; for 9 the lowest unpaired one that lies on no hull pair or shares a lower one's
  *   VORONOI_WHY_HULL_PLACE  *place is the lowest hull place that breaks 9, or the first place of the hull edge of 12
- *   VORONOI_WHY_EDGE        13 to 15: the cell is *place, the edge of its ring runs from vertex *from to vertex *to
+ *   VORONOI_WHY_EDGE        13 and 14: the cell is *place, the edge of its ring runs from vertex *from to vertex *to
  *   VORONOI_WHY_UNUSED      the cell of site *place is empty: the site is in no triangle
  *   VORONOI_WHY_TRIES       it is empty: every clipping try gave nothing
  *   VORONOI_WHY_DROPPED     the second is a neighbour of the first and stands nowhere among its neighbours after clipping; *place entries of the first

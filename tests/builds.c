@@ -1,7 +1,7 @@
 /* The builds and the cell query through the C interface: the listing of "square" (docs/RULES.md), its rooms, every number from 1 to 14 and 16, and each lent slice
  * to its last element and beyond. Exit status 1 where something differs.
  *
- * The inputs of 11 to 14 are those of harness/meshes; 15 cannot be had. The C library's headers are not used (tests/archive.sh says why). */
+ * The inputs of 11 to 14 are those of harness/meshes. The C library's headers are not used (tests/archive.sh says why). */
 #include "voronoi.h"
 
 int printf(const char *format, ...);

@@ -475,7 +475,7 @@ pub struct Build {
     pub tries: Vec<u32>,
 }
 
-/// Where a build stopped: the triangle of 11, the first hull place of 12's edge, the cell of 13 to 15 with the ring
+/// Where a build stopped: the triangle of 11, the first hull place of 12's edge, the cell of 13 and 14 with the ring
 /// edge's two vertices in the order walked; `EMPTY` where a number has none.
 #[derive(Clone, Copy, Debug, PartialEq)]
 pub struct Fault {
@@ -532,7 +532,7 @@ struct Builder<'a> {
     counts: &'a mut Counts,
 }
 
-/// Builds on a mesh that passed 1 to 10, or gives 11 to 15 and where.
+/// Builds on a mesh that passed 1 to 10, or gives 11 to 14 and where.
 pub fn build(m: &Mesh, clip: Option<&Area>, counts: &mut Counts) -> Outcome {
     let vertices = circumcenters(m);
     if let Some(t) = vertices.iter().position(|&c| !sound_center(c)) {
@@ -696,7 +696,7 @@ impl Builder<'_> {
     }
 
     /// Puts the edge from vertex a to vertex c of the box into the cell, and the corners on the way that its site owns.
-    fn insert(&mut self, cell: &mut Vec<Entry>, site: u32, a: u32, c: u32) -> Result<(), u32> {
+    fn insert(&mut self, cell: &mut Vec<Entry>, site: u32, a: u32, c: u32) {
         let crossing = |vertex| Entry { vertex, mark: Mark::Crossing };
         if cell.last().map(|e| e.vertex) == Some(a) {
             self.counts.at(Branch::FirstRepeated);
@@ -704,8 +704,8 @@ impl Builder<'_> {
             self.counts.at(Branch::FirstPushed);
             cell.push(crossing(a));
         }
-        let first = side(&self.area, self.vertices[a as usize]).ok_or(15u32)?;
-        let second = side(&self.area, self.vertices[c as usize]).ok_or(15u32)?;
+        let first = side(&self.area, self.vertices[a as usize]).expect("a clipped vertex is on a side");
+        let second = side(&self.area, self.vertices[c as usize]).expect("a clipped vertex is on a side");
         if self.left_to_wrap[first] == site {
             let n = self.wrap(cell, site, first, second);
             self.counts.at([Branch::WrapFirstNone, Branch::WrapFirstOne, Branch::WrapFirstTwo, Branch::WrapFirstThree][n]);
@@ -719,7 +719,6 @@ impl Builder<'_> {
             self.counts.at(Branch::WrapNotOwned);
             cell.push(crossing(c));
         }
-        Ok(())
     }
 
     fn wrap(&mut self, cell: &mut Vec<Entry>, site: u32, from: usize, to: usize) -> usize {
@@ -770,7 +769,7 @@ impl Builder<'_> {
                 let first = first.ok_or(13u32)?;
                 self.counts.at(if second.is_some() { Branch::OutInSecondUnused } else { Branch::OutIn });
                 let last = cell.last().expect("an open cell is never empty").vertex;
-                self.insert(cell, site, last, first)?;
+                self.insert(cell, site, last, first);
                 *open = false;
             }
             (false, false) => {
@@ -780,11 +779,11 @@ impl Builder<'_> {
                     Some(first) => {
                         if *open {
                             let last = cell.last().expect("an open cell is never empty").vertex;
-                            self.insert(cell, site, last, first)?;
+                            self.insert(cell, site, last, first);
                         }
                         let second = second.ok_or(14u32)?;
                         self.counts.at(if *open { Branch::OutOutOpen } else { Branch::OutOutClosed });
-                        self.insert(cell, site, first, second)?;
+                        self.insert(cell, site, first, second);
                     }
                 }
             }

@@ -70,14 +70,14 @@ impl Default for Pt {
     }
 }
 
-/// 13, 14 or 15 for the source's three kinds of panic; any other panic is told in words.
+/// 13 or 14 for two of the source's three kinds of panic; the third is proved never to be met, and it is told in words, as any other panic is.
 pub fn panic_number(message: &str) -> Result<u32, String> {
     if message.starts_with("Edge crosses box, intersection must exist.") {
         Ok(13)
     } else if message.starts_with("Two intersection points need to occur") {
         Ok(14)
     } else if message.contains("clipped value is expected to be on the edge of the bounding box") {
-        Ok(15)
+        Err(format!("a clipped vertex on no side, which is proved never to be: {message}"))
     } else {
         Err(message.to_string())
     }

@@ -90,7 +90,7 @@ impl Reason {
     }
 }
 
-/// All reasons that must come up in a run, by their rows; 15 has never been met.
+/// All reasons that must come up in a run, by their rows.
 pub const ROWS: &[&str] = &[
     "no fault", "1 alone", "2 alone", "3 alone", "4 alone", "6 site", "7 triangle", "8 half-edge", "9 hull place",
     "9 half-edge", "10 site", "11 triangle", "12 hull place", "13 cell and edge", "14 cell and edge",

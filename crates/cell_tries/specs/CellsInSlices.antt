@@ -21,6 +21,7 @@ use Rattle.definition.specs.laws.Start.{Beyond}
 use Rattle.definition.specs.laws.CellsSoFar.{CellsSoFar}
 use Rattle.definition.specs.Measures.{shareOf}
 use Rattle.definition.specs.Cell.{unmarked}
+use Rattle.definition.specs.Sides.{SidedCorners}
 use Rattle.cell_tries.specs.declared.Frame.{Frame}
 use Rattle.cell_finish.specs.declared.Progress.{Progress}
 
@@ -38,7 +39,8 @@ ground hull n found x = record { hull = hull; sites = n; found = found; x = x }
 abbrev pub frameOf : BoundingBox → ℕ → ℕ → Frame
 frameOf b entries hull = record { bounds = b; centers = entries / 3; stage = 3 * entries + 6 * hull + 4; limit = 4 * entries + 8 * hull + 4 }
 
--- what does not change: an accepted mesh, the regions' starts, and slices of so many numbers and indexes with the room that rule 2 asks for
+-- what does not change: an accepted mesh, the regions' starts, a box that rule 3 admits with its corners after the circumcenters,
+-- and slices of so many numbers and indexes with the room that rule 2 asks for
 pub record Grounded (tri he : List ℕ) (f : Frame) (off : List ℕ) (g : Ground) (numbers indexes : ℕ) : Type 0 where
   pub mesh : Topology tri he (g .hull) (g .sites)
   pub few-sites : g .sites ≤ 65536
@@ -56,6 +58,7 @@ pub record Grounded (tri he : List ℕ) (f : Frame) (off : List ℕ) (g : Ground
   pub beyond : Beyond (length tri / 3) (g .x)
   pub low : length tri / 3 + 4 ≤ length (g .x .verts)
   pub high : length (g .x .verts) ≤ length tri / 3 + 4 + length (g .hull)
+  pub sides : SidedCorners (f .bounds) (length tri / 3) (g .x .verts)
   pub room-v : 2 * (7 * (length tri / 3) + 5 * length (g .hull) + 4) ≤ numbers
   pub room-ix : f .limit ≤ indexes
 

@@ -7,10 +7,8 @@ use lib.ListN.{length}
 use lib.Seq.{sets}
 use Rattle.laws.specs.Count.{occ}
 use Rattle.numbers.specs.Numbers.{EMPTY}
-use Rattle.definition.specs.Fault.{Outcome, ok, refused}
 use Rattle.definition.specs.Cell.{unmarked, Ins, lastOr}
 use Rattle.clip_corners.specs.declared.CellSoFar.{CellSoFar}
-use Rattle.clip_corners.specs.declared.Inserted.{Inserted}
 
 -- before place n there is room for `most` entries more, and for the corners that are still the site's
 pub record EntryRoom (site most : ℕ) (cell : CellSoFar) (n : ℕ) : Type 0 where
@@ -31,8 +29,3 @@ pub record EntriesPut (site most : ℕ) (i : Ins) (cell : CellSoFar) (ix : List 
 abbrev pub places : Bool → ℕ
 places true = 1
 places false = 2
-
--- the definition's outcome, as the code gives it; refused, it has written nothing
-abbrev pub Inserts : ℕ → ℕ → Outcome ℕ Ins → CellSoFar → List ℕ → Inserted → List ℕ → Type 0
-Inserts site most (ok i) cell ix r ix₁ = (r .refusal ≡ 0) × EntriesPut site most i cell ix (r .cell) ix₁
-Inserts site most (refused k) cell ix r ix₁ = (r .refusal ≡ k) × (0 < k) × (ix₁ ≡ ix)

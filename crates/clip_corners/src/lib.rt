@@ -10,20 +10,16 @@ ghost use lib.ListN.{length, getD};
 ghost use mathlib.Core.List.{[], _∷_};
 ghost use Rattle.utils.specs.Flat.{points};
 ghost use Rattle.bounding_box.specs.Box.{whichOf};
+ghost use Rattle.numbers.specs.Numbers.{EMPTY};
 ghost use Rattle.definition.specs.Cell as Def;
-ghost use Rattle.clip_corners.specs.CellEntries.{EntryRoom, EntriesPut, Inserts, places};
+ghost use Rattle.definition.specs.Sides.{Sided};
+ghost use Rattle.clip_corners.specs.CellEntries.{EntryRoom, EntriesPut, places};
 
 // A cell as far as it is written: the owners left, the place after its last entry, and that entry, EMPTY where there is none.
 pub struct CellSoFar {
     pub owners: [u32; 4],
     pub end: usize,
     pub last: u32,
-}
-
-// What inserting an edge gives: a refusal and the cell as it was, or 0 and the cell with its new entries.
-pub struct Inserted {
-    pub refusal: u32,
-    pub cell: CellSoFar,
 }
 
 // Whether corner c is next: it is not the last side's, and the site owns it.
@@ -87,7 +83,7 @@ pub fn push(indexes: &mut [u32], cell: CellSoFar, site: u32, x: u32) -> CellSoFa
 
 fn owns(owners: [u32; 4], c: usize, site: u32) -> bool
     requires { ⌜ c < 4 ⌝ }
-    ensures { λ r. ⌜ r ≡ eqb (getD owners c 0) site ⌝ }
+    ensures { λ r. ⌜ r ≡ eqb (getD owners c EMPTY) site ⌝ }
 {
     owners[c] == site
 }
@@ -151,7 +147,7 @@ fn side_of(vertices: &[f64], count: usize, bounds: BoundingBox, i: u32) -> usize
     which_edge(bounds, vertex(vertices, count, i as usize)) as usize
 }
 
-// An edge along the box from the vertex `first` to the vertex `second`.
+// An edge along the box from the vertex `first` to the vertex `second`, each on a side.
 pub fn insert_edge(
     vertices: &[f64],
     indexes: &mut [u32],
@@ -162,30 +158,15 @@ pub fn insert_edge(
     cell: CellSoFar,
     first: u32,
     second: u32,
-) -> Inserted
+) -> CellSoFar
     requires { ⌜ EntryRoom site 2 cell (length (now indexes)) ⌝ }
     requires { ⌜ (2 * count ≤ length (now vertices)) × (first < count) × (second < count) × (centers + 4 ≤ count) × (count ≤ 2 ^ 32) ⌝ }
-    ensures inserts { λ r. ⌜ Inserts site (places (eqb (cell .last) first))
+    requires { ⌜ Sided bounds (points count (now vertices)) first × Sided bounds (points count (now vertices)) second ⌝ }
+    ensures inserts { λ r. ⌜ EntriesPut site (places (eqb (cell .last) first))
         (Def.insertEdge bounds centers site (points count (now (vertices .entry))) (cell .owners) (cell .last) first second) cell (now (indexes .entry)) r (now (indexes .exit)) ⌝ }
-    ensures low { λ r. ⌜ (r .refusal ≡ 0 → r .cell .last < count) ⌝ }
+    ensures low { λ r. ⌜ r .last < count ⌝ }
 {
     let f = side_of(vertices, count, bounds, first);
     let s = side_of(vertices, count, bounds, second);
-    if 4 <= f {
-        return Inserted {
-            refusal: numbers::REFUSED_NO_SIDE,
-            cell: cell,
-        };
-    }
-    if 4 <= s {
-        return Inserted {
-            refusal: numbers::REFUSED_NO_SIDE,
-            cell: cell,
-        };
-    }
-    let done = insert_sides(indexes, cell, centers, site, f, s, first, second);
-    Inserted {
-        refusal: 0,
-        cell: done,
-    }
+    insert_sides(indexes, cell, centers, site, f, s, first, second)
 }

@@ -8,14 +8,16 @@ use lib.ListN.{length, take, drop}
 use Rattle.utils.specs.declared.Point.{Point}
 use Rattle.vertices.specs.Store.{Holds, Poured}
 use Rattle.definition.specs.Fault.{Outcome, ok, refused}
+use Rattle.utils.specs.Flat.{points}
 use Rattle.definition.specs.Cell.{Ins, ins, Change}
+use Rattle.definition.specs.Sides.{SidedCorners}
 use Rattle.clip_corners.specs.CellEntries.{EntryRoom, EntriesPut}
 use Rattle.clip_edges.specs.EdgeClip.{VerticesGrown}
 use Rattle.clip_edges.specs.declared.Env.{Env}
 use Rattle.clip_corners.specs.declared.CellSoFar.{CellSoFar}
 use Rattle.clipping.specs.declared.Changed.{Changed}
 
--- the slices hold count vertices and have room for one edge more: two vertices, three entries beside the site's corners
+-- the slices hold count vertices, the box's corners among them, and have room for one edge more: two vertices, three entries beside the site's corners
 pub record EdgeRoom (env : Env) (count : ℕ) (cell : CellSoFar) (v : List Float) (ix : List ℕ) : Type 0 where
   pub holds : Holds (env .centers) count v (drop (env .limit) ix)
   pub list : env .limit ≤ length ix
@@ -23,6 +25,7 @@ pub record EdgeRoom (env : Env) (count : ℕ) (cell : CellSoFar) (v : List Float
   pub verts : 2 * (count + 2) ≤ length v
   pub small : count + 2 ≤ 2 ^ 32
   pub corners : env .centers + 4 ≤ count
+  pub sides : SidedCorners (env .bounds) (env .centers) (points count v)
 
 -- the definition's outcome where the vertices vs, count in number, are in place: entries and owners, in the index list
 abbrev pub Alters : ℕ → List Point → Outcome ℕ Change → ℕ → CellSoFar → List ℕ → Changed → List ℕ → Type 0

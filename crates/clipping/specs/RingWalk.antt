@@ -1,7 +1,7 @@
 -- Some edges of the ring, or all of it: where the walk stands, and what it has done to the slices.
 use Prim.Native.Nat.{ℕ, _+_, _*_, _≤_, _<_, _^_}
 use mathlib.Core.Path.{_≡_}
-use mathlib.Core.Bool.{true}
+use mathlib.Core.Bool.{true, false}
 use mathlib.Core.List.{List}
 use lib.Ieee.{Float}
 use lib.ListN.{length, getD, take, drop}
@@ -11,6 +11,7 @@ use Rattle.vertices.specs.Store.{Holds}
 use Rattle.definition.specs.Fault.{Outcome, ok, refused, fault}
 use Rattle.definition.specs.declared.Fault.{Fault}
 use Rattle.definition.specs.Cell as Def
+use Rattle.definition.specs.Sides.{Sided, SidedCorners}
 use Rattle.clip_corners.specs.CellEntries.{EntryRoom}
 use Rattle.clip_edges.specs.EdgeClip.{VerticesGrown}
 use Rattle.clipping.specs.EdgeOutcome.{Did}
@@ -23,10 +24,12 @@ use Rattle.clipping.specs.declared.RingStepped.{RingStepped}
 abbrev pub tipOf : Tip → List Float → Def.Tip
 tipOf t v = Def.tip (points (t .count) v) (t .cell .owners) (t .cell .last) (t .vertex) (t .inside) (t .opened)
 
--- the ring's vertex is one, and an open cell has a last entry
-pub record Stands (t : Tip) : Type 0 where
+-- the ring's vertex is one, and where it is inside the cell is shut; an open cell has a last entry, and that is on a side
+pub record Stands (env : Env) (t : Tip) (v : List Float) : Type 0 where
   pub vertex : t .vertex < t .count
+  pub shut : t .inside ≡ true → t .opened ≡ false
   pub low : t .opened ≡ true → t .cell .last < t .count
+  pub ends : t .opened ≡ true → Sided (env .bounds) (points (t .count) v) (t .cell .last)
 
 -- the definition's outcome of some edges; refused, the slices keep their lengths only
 abbrev pub Steps : Env → ℕ → Outcome Fault Def.RingPart → ℕ → CellSoFar → List Float → List ℕ → RingStepped → List Float → List ℕ → Type 0
@@ -54,4 +57,5 @@ pub record RingRoom (env : Env) (count : ℕ) (cell : CellSoFar) (ring len left 
   pub verts : 2 * (count + 2 * left) ≤ length v
   pub small : count + 2 * left ≤ 2 ^ 32
   pub corners : env .centers + 4 ≤ count
+  pub sides : SidedCorners (env .bounds) (env .centers) (points count v)
   pub below : (j : ℕ) → j < len → getD ix (ring + j) 0 < count

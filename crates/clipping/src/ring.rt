@@ -34,11 +34,12 @@ pub fn in_box(vertices: &[f64], count: usize, bounds: BoundingBox, centers: usiz
 // The edge to the ring's vertex q.
 fn step_to(vertices: &mut [f64], indexes: &mut [u32], env: Env, tip: Tip, q: u32) -> RingStepped
     requires { ⌜ EdgeRoom env (tip .count) (tip .cell) (now vertices) (now indexes) ⌝ }
-    requires { ⌜ Stands tip ⌝ }
-    requires { ⌜ (q < tip .count) × (tip .inside ≡ false → Def.inBox (env .bounds) (env .centers) (points (tip .count) (now vertices)) q ≡ true → tip .cell .last < tip .count) ⌝ }
+    requires { ⌜ Stands env tip (now vertices) ⌝ }
+    requires { ⌜ (q < tip .count) × (tip .inside ≡ false → Def.inBox (env .bounds) (env .centers) (points (tip .count) (now vertices)) q ≡ true → tip .opened ≡ true) ⌝ }
     ensures steps { λ r. ⌜ Steps env 1 (Def.stepTo (env .bounds) (env .centers) (env .site) (tipOf tip (now (vertices .entry))) q) (tip .count) (tip .cell)
         (now (vertices .entry)) (now (indexes .entry)) r (now (vertices .exit)) (now (indexes .exit)) ⌝ }
-    ensures stands { λ r. ⌜ (r .fault .number ≡ 0 → Stands (r .tip) × (r .tip .inside ≡ false → r .tip .opened ≡ false → (tip .inside ≡ false) × (tip .opened ≡ false))) ⌝ }
+    ensures stands { λ r. ⌜ (r .fault .number ≡ 0 → Stands env (r .tip) (now (vertices .exit))
+        × (r .tip .inside ≡ false → r .tip .opened ≡ false → (tip .inside ≡ false) × (tip .opened ≡ false))) ⌝ }
 {
     let bounds = env.bounds;
     let count = tip.count;
@@ -96,7 +97,7 @@ fn walk_ring(
     f: usize,
 ) -> RingStepped
     requires { ⌜ RingRoom env (tip .count) (tip .cell) ring len len (now vertices) (now indexes) ⌝ }
-    requires { ⌜ Stands tip ⌝ }
+    requires { ⌜ Stands env tip (now vertices) ⌝ }
     requires { ⌜ (f ≤ len) × (tip .inside ≡ false → (j : ℕ) → j < len
         → Def.inBox (env .bounds) (env .centers) (points (tip .count) (now vertices)) (getD (now indexes) (ring + j) 0) ≡ false) ⌝ }
     ensures { λ r. ⌜ Steps env len (Def.stepsTo (env .bounds) (env .centers) (env .site) (Def.turned f (ringOf (now (indexes .entry)) ring len))

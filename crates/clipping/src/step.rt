@@ -2,7 +2,6 @@
 use crate::Changed;
 use crate::Tip;
 use clip_corners::CellSoFar;
-use clip_corners::Inserted;
 use clip_corners::insert_edge;
 use clip_corners::push;
 use clip_edges::Crossed;
@@ -16,9 +15,10 @@ ghost use lib.ListN.{length};
 ghost use Rattle.numbers.specs.Numbers.{refusedOneCrossing};
 ghost use Rattle.utils.specs.Flat.{points};
 ghost use Rattle.utils.specs.declared.Point.{Point};
-ghost use Rattle.definition.specs.Fault.{ok, refused, andThen};
+ghost use Rattle.definition.specs.Fault.{ok};
 ghost use Rattle.definition.specs.Cell as Def;
-ghost use Rattle.clip_corners.specs.CellEntries.{EntryRoom, Inserts};
+ghost use Rattle.definition.specs.Sides.{Sided};
+ghost use Rattle.clip_corners.specs.CellEntries.{EntryRoom, EntriesPut};
 ghost use Rattle.clipping.specs.EdgeOutcome.{EdgeRoom, Alters, Changes};
 ghost use Rattle.clipping.specs.RingWalk.{Stands};
 
@@ -106,11 +106,12 @@ fn enter_at(
 ) -> Changed
     requires { ⌜ EntryRoom (env .site) 3 cell (length (now indexes)) ⌝ }
     requires { ⌜ (2 * count ≤ length (now vertices)) × (first < count) × (cell .last < count) × (env .centers + 4 ≤ count) × (count ≤ 2 ^ 32) ⌝ }
+    requires { ⌜ Sided (env .bounds) (points count (now vertices)) (cell .last) × Sided (env .bounds) (points count (now vertices)) first ⌝ }
     ensures { λ r. ⌜ ((ts : List Def.Taken) → Alters (env .site) (points count (now (vertices .entry)))
-        (Def.enterAt (env .bounds) (env .centers) (env .site) (points count (now (vertices .entry))) (cell .owners) (cell .last) first ts)
+        (ok (Def.enterAt (env .bounds) (env .centers) (env .site) (points count (now (vertices .entry))) (cell .owners) (cell .last) first ts))
         count cell (now (indexes .entry)) r (now (indexes .exit))) ⌝ }
 {
-    let i = insert_edge(
+    let done = insert_edge(
         vertices,
         indexes,
         env.bounds,
@@ -121,9 +122,8 @@ fn enter_at(
         cell.last,
         first,
     );
-    let done = i.cell;
     Changed {
-        refusal: i.refusal,
+        refusal: 0,
         count: count,
         opened: false,
         cell: done,
@@ -140,7 +140,7 @@ fn enter(
     q: u32,
 ) -> Changed
     requires { ⌜ EdgeRoom env count cell (now vertices) (now indexes) ⌝ }
-    requires { ⌜ (p < count) × (q < count) × (cell .last < count) ⌝ }
+    requires { ⌜ (p < count) × (q < count) × (cell .last < count) × Sided (env .bounds) (points count (now vertices)) (cell .last) ⌝ }
     ensures { λ r. ⌜ Changes env count (Def.enter (env .bounds) (env .centers) (env .site) (cell .owners) (cell .last)
         (Def.clipEdge (env .bounds) (env .centers) (points count (now (vertices .entry))) q p)) cell (now (vertices .entry)) (now (indexes .entry)) r (now (vertices .exit)) (now (indexes .exit)) ⌝ }
 {
@@ -166,10 +166,11 @@ fn link(
     cell: CellSoFar,
     opened: bool,
     first: u32,
-) -> Inserted
+) -> CellSoFar
     requires { ⌜ EntryRoom (env .site) 3 cell (length (now indexes)) ⌝ }
     requires { ⌜ (2 * count ≤ length (now vertices)) × (first < count) × (opened ≡ true → cell .last < count) × (env .centers + 4 ≤ count) × (count ≤ 2 ^ 32) ⌝ }
-    ensures { λ r. ⌜ Inserts (env .site) 1 (Def.link (env .bounds) (env .centers) (env .site) (points count (now (vertices .entry))) (cell .owners) opened
+    requires { ⌜ (opened ≡ true → Sided (env .bounds) (points count (now vertices)) (cell .last)) × Sided (env .bounds) (points count (now vertices)) first ⌝ }
+    ensures { λ r. ⌜ EntriesPut (env .site) 1 (Def.link (env .bounds) (env .centers) (env .site) (points count (now (vertices .entry))) (cell .owners) opened
         (cell .last) first) cell (now (indexes .entry)) r (now (indexes .exit)) ⌝ }
 {
     if opened {
@@ -185,10 +186,7 @@ fn link(
             first,
         );
     }
-    Inserted {
-        refusal: 0,
-        cell: cell,
-    }
+    cell
 }
 
 // Both outside and a lone crossing: refused, but an open cell is led to it first.
@@ -203,20 +201,10 @@ fn cross_once(
 ) -> Changed
     requires { ⌜ EntryRoom (env .site) 3 cell (length (now indexes)) ⌝ }
     requires { ⌜ (2 * count ≤ length (now vertices)) × (first < count) × (opened ≡ true → cell .last < count) × (env .centers + 4 ≤ count) × (count ≤ 2 ^ 32) ⌝ }
-    ensures { λ r. ⌜ Alters (env .site) (points count (now (vertices .entry)))
-        (andThen (Def.link (env .bounds) (env .centers) (env .site) (points count (now (vertices .entry))) (cell .owners) opened (cell .last) first)
-        (λ (i : Def.Ins). refused refusedOneCrossing)) count cell (now (indexes .entry)) r (now (indexes .exit)) ⌝ }
+    requires { ⌜ (opened ≡ true → Sided (env .bounds) (points count (now vertices)) (cell .last)) × Sided (env .bounds) (points count (now vertices)) first ⌝ }
+    ensures { λ r. ⌜ r .refusal ≡ refusedOneCrossing ⌝ }
 {
-    let i = link(vertices, indexes, env, count, cell, opened, first);
-    let done = i.cell;
-    if i.refusal != 0 {
-        return Changed {
-            refusal: i.refusal,
-            count: count,
-            opened: opened,
-            cell: done,
-        };
-    }
+    let done = link(vertices, indexes, env, count, cell, opened, first);
     Changed {
         refusal: numbers::REFUSED_ONE_CROSSING,
         count: count,
@@ -238,21 +226,14 @@ fn cross_at(
 ) -> Changed
     requires { ⌜ EntryRoom (env .site) 3 cell (length (now indexes)) ⌝ }
     requires { ⌜ (2 * count ≤ length (now vertices)) × (first < count) × (second < count) × (opened ≡ true → cell .last < count) × (env .centers + 4 ≤ count) × (count ≤ 2 ^ 32) ⌝ }
+    requires { ⌜ (opened ≡ true → Sided (env .bounds) (points count (now vertices)) (cell .last))
+        × Sided (env .bounds) (points count (now vertices)) first × Sided (env .bounds) (points count (now vertices)) second ⌝ }
     ensures { λ r. ⌜ ((ts : List Def.Taken) → Alters (env .site) (points count (now (vertices .entry)))
-        (Def.crossAt (env .bounds) (env .centers) (env .site) (points count (now (vertices .entry))) (cell .owners) opened
-        (cell .last) first second ts) count cell (now (indexes .entry)) r (now (indexes .exit))) ⌝ }
+        (ok (Def.crossAt (env .bounds) (env .centers) (env .site) (points count (now (vertices .entry))) (cell .owners) opened
+        (cell .last) first second ts)) count cell (now (indexes .entry)) r (now (indexes .exit))) ⌝ }
 {
-    let i = link(vertices, indexes, env, count, cell, opened, first);
-    let led = i.cell;
-    if i.refusal != 0 {
-        return Changed {
-            refusal: i.refusal,
-            count: count,
-            opened: opened,
-            cell: led,
-        };
-    }
-    let j = insert_edge(
+    let led = link(vertices, indexes, env, count, cell, opened, first);
+    let done = insert_edge(
         vertices,
         indexes,
         env.bounds,
@@ -263,9 +244,8 @@ fn cross_at(
         first,
         second,
     );
-    let done = j.cell;
     Changed {
-        refusal: j.refusal,
+        refusal: 0,
         count: count,
         opened: opened,
         cell: done,
@@ -283,7 +263,7 @@ fn cross(
     q: u32,
 ) -> Changed
     requires { ⌜ EdgeRoom env count cell (now vertices) (now indexes) ⌝ }
-    requires { ⌜ (p < count) × (q < count) × (opened ≡ true → cell .last < count) ⌝ }
+    requires { ⌜ (p < count) × (q < count) × (opened ≡ true → cell .last < count) × (opened ≡ true → Sided (env .bounds) (points count (now vertices)) (cell .last)) ⌝ }
     ensures { λ r. ⌜ Changes env count (Def.cross (env .bounds) (env .centers) (env .site) (points count (now (vertices .entry))) (cell .owners) opened
         (cell .last) (Def.clipEdge (env .bounds) (env .centers) (points count (now (vertices .entry))) p q)) cell (now (vertices .entry))
         (now (indexes .entry)) r (now (vertices .exit)) (now (indexes .exit)) ⌝ }
@@ -320,8 +300,8 @@ pub fn clip_step(
     q_in: bool,
 ) -> Changed
     requires { ⌜ EdgeRoom env (tip .count) (tip .cell) (now vertices) (now indexes) ⌝ }
-    requires { ⌜ Stands tip ⌝ }
-    requires { ⌜ (q < tip .count) × (tip .inside ≡ false → q_in ≡ true → tip .cell .last < tip .count) ⌝ }
+    requires { ⌜ Stands env tip (now vertices) ⌝ }
+    requires { ⌜ (q < tip .count) × (tip .inside ≡ false → q_in ≡ true → tip .opened ≡ true) ⌝ }
     ensures { λ r. ⌜ Changes env (tip .count) (Def.clipStep (env .bounds) (env .centers) (env .site) (tip .vertex) (tip .inside) q q_in
         (points (tip .count) (now (vertices .entry))) (tip .cell .owners) (tip .opened) (tip .cell .last)) (tip .cell)
         (now (vertices .entry)) (now (indexes .entry)) r (now (vertices .exit)) (now (indexes .exit)) ⌝ }

@@ -24,7 +24,6 @@ REFUSED = {
     "12": "refusedExtension",
     "13": "refusedNoCrossing",
     "14": "refusedOneCrossing",
-    "15": "refusedNoSide",
 }
 
 

@@ -1,4 +1,4 @@
--- The clipped build (the Rust's CellBuilder with ClipBehavior::Clip) on an accepted mesh: vertices, marked cells, corner owners, lost corners, or the first refusal of 11 to 15.
+-- The clipped build (the Rust's CellBuilder with ClipBehavior::Clip) on an accepted mesh: vertices, marked cells, corner owners, lost corners, or the first refusal of 11 to 14.
 -- sites are numbers x and y in turn, tri and he the triangles and half-edges, hull the hull's sites, table the leftmost table.
 use Prim.Native.Nat.{ℕ, zero, suc, _+_, _-_, _*_, _/_}
 use mathlib.Core.Bool.{Bool, true, false, _&&_}

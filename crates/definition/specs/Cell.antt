@@ -8,7 +8,7 @@ use lib.Dec.{ltb, eqb}
 use lib.Ieee.{Float, nan, eq}
 use Rattle.laws.specs.Pick.{pick}
 use Rattle.laws.specs.Binary64.{_⊟_}
-use Rattle.numbers.specs.Numbers.{EMPTY, refusedNoCrossing, refusedOneCrossing, refusedNoSide}
+use Rattle.numbers.specs.Numbers.{EMPTY, refusedNoCrossing, refusedOneCrossing}
 use Rattle.utils.specs.Plane.{at}
 use Rattle.utils.specs.declared.Point.{Point}
 use Rattle.bounding_box.specs.Box.{insideOf, whichOf}
@@ -83,12 +83,12 @@ wraps (suc k) nc site stop c os =
     (λ _. before (entry wrapped (nc + c)) (wraps k nc site stop ((c + 1) % 4) (set os c EMPTY)))
     (λ _. ins os [])
 
--- the second clipped vertex, with the corners before it or after it; the clipped vertices are on the sides f and s
+-- the second clipped vertex, with the corners before it or after it; the clipped vertices are on the sides f and s (NoSide.antt), and a place that is no side has no owner
 unfoldable pub withCorners : ℕ → ℕ → ℕ → ℕ → ℕ → List ℕ → Ins
 withCorners nc site f s second os =
-    pick (eqb (getD os f 0) site)
+    pick (eqb (getD os f EMPTY) site)
     (λ _. followedBy (wraps 4 nc site s f os) (entry crossing second))
-    (λ _. pick (eqb (getD os s 0) site)
+    (λ _. pick (eqb (getD os s EMPTY) site)
     (λ _. before (entry crossing second) (wraps 4 nc site f s os))
     (λ _. ins os (entry crossing second ∷ [])))
 
@@ -97,20 +97,14 @@ abbrev pub led : Bool → ℕ → Ins → Ins
 led true first i = i
 led false first i = before (entry crossing first) i
 
--- refused where one of the two is on no side
-unfoldable pub insertAt : ℕ → ℕ → ℕ → ℕ → ℕ → List ℕ → ℕ → ℕ → Outcome ℕ Ins
-insertAt nc site last first second os f s =
-    pick (ltb f 4)
-    (λ _. pick (ltb s 4)
-    (λ _. ok (led (eqb last first) first (withCorners nc site f s second os)))
-    (λ _. refused refusedNoSide))
-    (λ _. refused refusedNoSide)
+unfoldable pub insertAt : ℕ → ℕ → ℕ → ℕ → ℕ → List ℕ → ℕ → ℕ → Ins
+insertAt nc site last first second os f s = led (eqb last first) first (withCorners nc site f s second os)
 
 abbrev pub vertexAt : List Point → ℕ → Point
 vertexAt vs i = getD vs i (at nan nan)
 
 -- insert_edge_and_wrap_around_corners; last is the cell's last entry, EMPTY if it has none
-unfoldable pub insertEdge : BoundingBox → ℕ → ℕ → List Point → List ℕ → ℕ → ℕ → ℕ → Outcome ℕ Ins
+unfoldable pub insertEdge : BoundingBox → ℕ → ℕ → List Point → List ℕ → ℕ → ℕ → ℕ → Ins
 insertEdge b nc site vs os last first second =
     insertAt nc site last first second os (whichOf b (vertexAt vs first)) (whichOf b (vertexAt vs second))
 
@@ -176,32 +170,31 @@ leave p os (once r) = ok (change (r .verts) os (entry plain p ∷ entry crossing
 leave p os (twice r t) = ok (change (t .verts) os (entry plain p ∷ entry crossing (r .at) ∷ []) true (tookTwo r t))
 
 -- from outside to inside; last is the cell's last entry
-unfoldable pub enterAt : BoundingBox → ℕ → ℕ → List Point → List ℕ → ℕ → ℕ → List Taken → Outcome ℕ Change
+unfoldable pub enterAt : BoundingBox → ℕ → ℕ → List Point → List ℕ → ℕ → ℕ → List Taken → Change
 enterAt b nc site vs os last first ts =
-    andThen (insertEdge b nc site vs os last last first) λ i.
-    ok (change vs (i .owners) (i .new) false ts)
+    let i = insertEdge b nc site vs os last last first in
+    change vs (i .owners) (i .new) false ts
 
 unfoldable pub enter : BoundingBox → ℕ → ℕ → List ℕ → ℕ → EdgeClip → Outcome ℕ Change
 enter b nc site os last missed = refused refusedNoCrossing
-enter b nc site os last (once r) = enterAt b nc site (r .verts) os last (r .at) (tookOne r)
-enter b nc site os last (twice r t) = enterAt b nc site (t .verts) os last (r .at) (tookTwo r t)
+enter b nc site os last (once r) = ok (enterAt b nc site (r .verts) os last (r .at) (tookOne r))
+enter b nc site os last (twice r t) = ok (enterAt b nc site (t .verts) os last (r .at) (tookTwo r t))
 
 -- both outside: an open cell is first led from its last entry to the first crossing
-unfoldable pub link : BoundingBox → ℕ → ℕ → List Point → List ℕ → Bool → ℕ → ℕ → Outcome ℕ Ins
-link b nc site vs os opened last first = pick opened (λ _. insertEdge b nc site vs os last last first) (λ _. ok (ins os []))
+unfoldable pub link : BoundingBox → ℕ → ℕ → List Point → List ℕ → Bool → ℕ → ℕ → Ins
+link b nc site vs os opened last first = pick opened (λ _. insertEdge b nc site vs os last last first) (λ _. ins os [])
 
-unfoldable pub crossAt : BoundingBox → ℕ → ℕ → List Point → List ℕ → Bool → ℕ → ℕ → ℕ → List Taken → Outcome ℕ Change
+unfoldable pub crossAt : BoundingBox → ℕ → ℕ → List Point → List ℕ → Bool → ℕ → ℕ → ℕ → List Taken → Change
 crossAt b nc site vs os opened last first second ts =
-    andThen (link b nc site vs os opened last first) λ i.
-    andThen (insertEdge b nc site vs (i .owners) (lastOr last (i .new)) first second) λ j.
-    ok (change vs (j .owners) (i .new ++ j .new) opened ts)
+    let i = link b nc site vs os opened last first in
+    let j = insertEdge b nc site vs (i .owners) (lastOr last (i .new)) first second in
+    change vs (j .owners) (i .new ++ j .new) opened ts
 
+-- a lone crossing is refused; that an open cell was led to it first, a refused build does not show
 unfoldable pub cross : BoundingBox → ℕ → ℕ → List Point → List ℕ → Bool → ℕ → EdgeClip → Outcome ℕ Change
 cross b nc site vs os opened last missed = ok (change vs os [] opened [])
-cross b nc site vs os opened last (once r) =
-    andThen (link b nc site (r .verts) os opened last (r .at)) λ i.
-    refused refusedOneCrossing
-cross b nc site vs os opened last (twice r t) = crossAt b nc site (t .verts) os opened last (r .at) (t .at) (tookTwo r t)
+cross b nc site vs os opened last (once r) = refused refusedOneCrossing
+cross b nc site vs os opened last (twice r t) = ok (crossAt b nc site (t .verts) os opened last (r .at) (t .at) (tookTwo r t))
 
 -- the four cases; pIn and qIn: whether p and q are inside
 unfoldable pub clipStep : BoundingBox → ℕ → ℕ → ℕ → Bool → ℕ → Bool → List Point → List ℕ → Bool → ℕ → Outcome ℕ Change

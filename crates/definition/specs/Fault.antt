@@ -22,7 +22,7 @@ badCenter t = fault refusedCircumcenter t 0 0
 abbrev pub notFinite : ℕ → Fault
 notFinite i = fault refusedExtension i 0 0
 
--- 13 to 15: met in the cell of a site, at the edge from vertex p to vertex q
+-- 13 and 14: met in the cell of a site, at the edge from vertex p to vertex q
 unfoldable pub atEdge : {A : Type 0} → ℕ → ℕ → ℕ → Outcome ℕ A → Outcome Fault A
 atEdge site p q (ok a) = ok a
 atEdge site p q (refused n) = refused (fault n site p q)

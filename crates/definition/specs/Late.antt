@@ -1,6 +1,6 @@
--- Refusals of a build that come late: 11 to 15.
+-- Refusals of a build that come late: 11 to 14.
 use Prim.Native.Nat.{ℕ, _≤_}
-use Rattle.numbers.specs.Numbers.{refusedCircumcenter, refusedNoSide}
+use Rattle.numbers.specs.Numbers.{refusedCircumcenter, refusedOneCrossing}
 use Rattle.definition.specs.declared.Fault.{Fault}
 use Rattle.definition.specs.Fault.{Outcome, ok, refused}
 
@@ -9,10 +9,10 @@ abbrev pub Refuses : {F A : Type 0} → (F → Type 0) → Outcome F A → Type 
 Refuses P (ok a) = Unit {0}
 Refuses P (refused f) = P f
 
--- 11 to 15
+-- 11 to 14
 pub record Late (n : ℕ) : Type 0 where
   pub least : refusedCircumcenter ≤ n
-  pub most : n ≤ refusedNoSide
+  pub most : n ≤ refusedOneCrossing
 
 abbrev pub Numbered : Fault → Type 0
 Numbered f = Late (f .number)

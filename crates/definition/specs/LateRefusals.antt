@@ -1,4 +1,4 @@
--- Theorem: a build is refused with a number from 11 to 15, so that no refusal is taken for an earlier one or for none.
+-- Theorem: a build is refused with a number from 11 to 14, so that no refusal is taken for an earlier one or for none.
 use mathlib.Core.List.{List, [], _++_}
 use Prim.Native.Nat.{ℕ, _/_}
 use lib.Ieee.{Float}

@@ -17,8 +17,10 @@ pub mod Theorems
 pub mod Reached
 pub mod Tries
 pub mod Met
+pub mod Sides
 pub mod FaultTheorem
 pub mod ShortEdge
 pub mod ByNumber
 pub mod TryTheorem
+pub mod NoSide
 pub mod laws

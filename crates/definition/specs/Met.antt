@@ -1,56 +1,36 @@
--- What the builder met where it refused: rule 11 at a triangle, rule 12 at a hull place, or one of 13 to 15 at an edge of the ring of a try. Whatever comes before that went through.
+-- What the builder met where it refused: rule 11 at a triangle, rule 12 at a hull place, or 13 or 14 at an edge of the ring of a try. Whatever comes before that went through.
 use mathlib.Core.Path.{_≡_}
 use mathlib.Core.Bool.{Bool, true, false}
-use mathlib.Core.List.{List, [], _∷_}
-use Prim.Native.Nat.{ℕ, _/_, _≤_, _<_}
+use mathlib.Core.List.{List, _∷_}
+use Prim.Native.Nat.{ℕ, _/_, _<_}
 use lib.Dec.{ltb}
 use lib.ListN.{length, getD, take}
 use lib.Ieee.{Float}
 use Rattle.laws.specs.Pick.{pick}
-use Rattle.laws.specs.Count.{occ}
 use Rattle.laws.specs.Refusals.{Keeps, Breaks}
-use Rattle.numbers.specs.Numbers.{EMPTY, refusedNoCrossing, refusedOneCrossing, refusedNoSide}
+use Rattle.numbers.specs.Numbers.{EMPTY, refusedNoCrossing, refusedOneCrossing}
 use Rattle.utils.specs.declared.Point.{Point}
-use Rattle.bounding_box.specs.Box.{whichOf}
 use Rattle.bounding_box.specs.declared.BoundingBox.{BoundingBox}
 use Rattle.line_crossings.specs.declared.Crossing.the-variants.{None, One}
 use Rattle.mesh.specs.Accepted.{Mesh}
 use Rattle.definition.specs.declared.Fault.{Fault}
 use Rattle.definition.specs.Fault.{ok, refused}
-use Rattle.definition.specs.Cell.{vertexAt, edgeCrossing, EdgeClip, missed, once, twice, clipEdge, clipStep, inBox, Tip, tip, RingPart, stepsTo, firstInside, turned}
+use Rattle.definition.specs.Cell.{vertexAt, edgeCrossing, clipStep, inBox, Tip, tip, RingPart, stepsTo, firstInside, turned}
 use Rattle.definition.specs.Build.{CellState}
 use Rattle.definition.specs.Tries.{centerRule, extensionRule, TryOf}
 
 -- ---- what is wrong with an edge
 
--- the vertices after an edge is clipped, and its clipped vertices
-abbrev pub vertsAfter : List Point → EdgeClip → List Point
-vertsAfter vs missed = vs
-vertsAfter vs (once r) = r .verts
-vertsAfter vs (twice r t) = t .verts
-
-abbrev pub clippedAt : EdgeClip → List ℕ
-clippedAt missed = []
-clippedAt (once r) = r .at ∷ []
-clippedAt (twice r t) = r .at ∷ t .at ∷ []
-
--- the crossings are sought from the end that is inside, else from the first
-abbrev pub clipOf : BoundingBox → ℕ → List Point → ℕ → ℕ → EdgeClip
-clipOf b nc vs p q = pick (inBox b nc vs q) (λ _. clipEdge b nc vs q p) (λ _. clipEdge b nc vs p q)
-
--- the edge from vertex p to vertex q breaks rule n; vs are the vertices before it, last is the cell's last entry
-pub data EdgeBreaks (b : BoundingBox) (nc : ℕ) (vs : List Point) (last p q n : ℕ) : Type 0 where
+-- the edge from vertex p to vertex q breaks rule n; vs are the vertices before it. The crossings are sought from the end that is inside, else from the first
+pub data EdgeBreaks (b : BoundingBox) (nc : ℕ) (vs : List Point) (p q n : ℕ) : Type 0 where
   -- 13: one end is inside, and from there no crossing is found
   leavesUnmet : n ≡ refusedNoCrossing → inBox b nc vs p ≡ true → inBox b nc vs q ≡ false
-      → edgeCrossing b (vertexAt vs p) (vertexAt vs q) ≡ None → EdgeBreaks b nc vs last p q n
+      → edgeCrossing b (vertexAt vs p) (vertexAt vs q) ≡ None → EdgeBreaks b nc vs p q n
   entersUnmet : n ≡ refusedNoCrossing → inBox b nc vs p ≡ false → inBox b nc vs q ≡ true
-      → edgeCrossing b (vertexAt vs q) (vertexAt vs p) ≡ None → EdgeBreaks b nc vs last p q n
+      → edgeCrossing b (vertexAt vs q) (vertexAt vs p) ≡ None → EdgeBreaks b nc vs p q n
   -- 14: both ends are outside, and one crossing is found
   crossesOnce : n ≡ refusedOneCrossing → inBox b nc vs p ≡ false → inBox b nc vs q ≡ false
-      → (x y : Float) → edgeCrossing b (vertexAt vs p) (vertexAt vs q) ≡ One x y → EdgeBreaks b nc vs last p q n
-  -- 15: it begins outside, and of its clipped vertices and the last entry, which it is led from, one is on no side
-  onNoSide : n ≡ refusedNoSide → inBox b nc vs p ≡ false → (v : ℕ) → 0 < occ v (last ∷ clippedAt (clipOf b nc vs p q))
-      → 4 ≤ whichOf b (vertexAt (vertsAfter vs (clipOf b nc vs p q)) v) → EdgeBreaks b nc vs last p q n
+      → (x y : Float) → edgeCrossing b (vertexAt vs p) (vertexAt vs q) ≡ One x y → EdgeBreaks b nc vs p q n
 
 -- ---- the edge at which a ring stops
 
@@ -77,7 +57,7 @@ pub record EdgeMet (b : BoundingBox) (nc site : ℕ) (ring : List ℕ) (vs : Lis
   pub before : stepsTo b nc site (take k (walked b nc ring vs)) (firstTip b nc ring vs os) ≡ ok c
   pub from : getD (getD ring (beginsAt b nc ring vs) 0 ∷ walked b nc ring vs) k 0 ≡ p
   pub to : getD (walked b nc ring vs) k 0 ≡ q
-  pub breaks : EdgeBreaks b nc (c .tip .verts) (c .tip .last) p q n
+  pub breaks : EdgeBreaks b nc (c .tip .verts) p q n
   pub stops : clipStep b nc site p (inBox b nc (c .tip .verts) p) q (inBox b nc (c .tip .verts) q) (c .tip .verts) (c .tip .owners) (c .tip .opened) (c .tip .last) ≡ refused n
 
 -- ---- the fault
@@ -87,6 +67,6 @@ pub data FaultMet (m : Mesh) (b : BoundingBox) (f : Fault) : Type 0 where
   atTriangle : Breaks (centerRule (m .sites) (m .triangles)) f → FaultMet m b f
   -- 12: the lowest hull place whose extension does
   atHullPlace : Keeps (centerRule (m .sites) (m .triangles)) → Breaks (extensionRule m) f → FaultMet m b f
-  -- 13 to 15: the cell that is tried, and the edge
+  -- 13 and 14: the cell that is tried, and the edge
   atRingEdge : Keeps (centerRule (m .sites) (m .triangles)) → Keeps (extensionRule m) → (ring : List ℕ) (s : CellState)
       → TryOf m b (f .place) ring s → EdgeMet b (length (m .triangles) / 3) (f .place) ring (s .verts) (s .owners) (f .from) (f .to) (f .number) → FaultMet m b f

@@ -30,3 +30,7 @@ pub mod BuildStages
 pub mod BuildFault
 pub mod TryCells
 pub mod RingCells
+pub mod Sides
+pub mod SidedEdge
+pub mod SidedRing
+pub mod SidedCells

@@ -47,9 +47,6 @@ refusedNoCrossing = 13
 abbrev pub refusedOneCrossing : ℕ
 refusedOneCrossing = 14
 
-abbrev pub refusedNoSide : ℕ
-refusedNoSide = 15
-
 abbrev pub refusedOffsets : ℕ
 refusedOffsets = 16
 

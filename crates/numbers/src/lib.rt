@@ -43,8 +43,6 @@ pub const REFUSED_NO_CROSSING: u32 = 13;
 
 pub const REFUSED_ONE_CROSSING: u32 = 14;
 
-pub const REFUSED_NO_SIDE: u32 = 15;
-
 pub const REFUSED_OFFSETS: u32 = 16;
 
 pub const REFUSED_FORM: u32 = 17;

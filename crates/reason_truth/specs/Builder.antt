@@ -1,5 +1,5 @@
 -- Theorem: what the builder met is what the reason names: for 11 the lowest triangle whose circumcenter breaks its rule; for 12 the first hull place whose
--- extension does; for 13 to 15 the cell and the edge at which the builder stopped, every step before it having gone through. An empty cell of a site in use was tried in vain.
+-- extension does; for 13 and 14 the cell and the edge at which the builder stopped, every step before it having gone through. An empty cell of a site in use was tried in vain.
 use mathlib.Core.Path.{_≡_, refl, ap, _∙_}
 use mathlib.Core.List.{List, []}
 use Prim.Native.Nat.{ℕ, _/_, _≤_}

@@ -9,11 +9,11 @@ use Rattle.admission.specs.Slices.{Slices}
 use Rattle.cell_query.specs.Cells.{CellAnswer, PlaceAnswer}
 use Rattle.build_answers.specs.Promise.{ClippedBuild, UnclippedBuild}
 
--- clipped to the box of center c, width w and height h: 1, 2, 3, 6, 7 to 10, 11 to 15
+-- clipped to the box of center c, width w and height h: 1, 2, 3, 6, 7 to 10, 11 to 14
 abbrev pub Build : Mesh → Point → Float → Float → Slices → Slices → ℕ → Type 0
 Build = ClippedBuild
 
--- the same without 3 and 12 to 15
+-- the same without 3 and 12 to 14
 abbrev pub BuildUnclipped : Mesh → Slices → Slices → ℕ → Type 0
 BuildUnclipped = UnclippedBuild
 

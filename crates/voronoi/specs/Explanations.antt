@@ -7,6 +7,6 @@ use Rattle.admission.specs.Slices.{Slices}
 use Rattle.reasons.specs.declared.ReasonNumbers.{ReasonNumbers}
 use Rattle.reason_call.specs.Call.{questionOf, WhyCall}
 
--- in the box of center c, width w and height h: 1, 2, 3, 4 on each site asked about, 6, 7 to 10, 11 to 15, then what was asked
+-- in the box of center c, width w and height h: 1, 2, 3, 4 on each site asked about, 6, 7 to 10, 11 to 14, then what was asked
 abbrev pub Why : Mesh → Point → Float → Float → ℕ → ℕ → ℕ → Slices → Slices → ReasonNumbers → Type 0
 Why m c w h asked first second = WhyCall m c w h (questionOf asked first second)

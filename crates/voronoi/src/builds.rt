@@ -1,4 +1,4 @@
-// The builds, and the cells that they leave. After 1 to 6 nothing lent changes, after 7 to 15 every lent slice is cleared over its whole length
+// The builds, and the cells that they leave. After 1 to 6 nothing lent changes, after 7 to 14 every lent slice is cleared over its whole length
 // (indexes EMPTY, floats +0); after 0 each holds what the build made, then EMPTY or +0 to its end.
 use utils::Point;
 ghost use Rattle.utils.specs.Plane.{at};

@@ -116,7 +116,7 @@ fn listing(input: &text::Input) -> Vec<String> {
     lines
 }
 
-/// The refusals up to 10 and 11, 12 are the rules', before the Rust is asked; 13 to 15 are its panics.
+/// The refusals up to 10 and 11, 12 are the rules', before the Rust is asked; 13 and 14 are its panics.
 fn answers(input: &text::Input) -> Vec<String> {
     let m = &input.mesh;
     let number = if !reference::counts_sound(m) {

@@ -25,6 +25,7 @@ use Rattle.definition.specs.declared.Fault.{Fault}
 use Rattle.definition.specs.Fault.{Outcome, ok, refused, fault, notFinite}
 use Rattle.definition.specs.Build.{Extensions, extensions, extendFrom, CellState, cellState, clipAll}
 use Rattle.definition.specs.laws.Gives.{gives-ok}
+use Rattle.definition.specs.laws.Sides.{corners-sided, corners-kept}
 use Rattle.definition.specs.laws.Start.{Extended, extend-from}
 use Rattle.definition.specs.laws.AllCells.{no-cell, begin}
 use Rattle.definition.specs.Measures.{shareOf}
@@ -194,6 +195,7 @@ module _ {sites : List Float} {tri he hull table : List ℕ} {b : BoundingBox} {
           beyond = e .beyond;
           low = omega (arith, e .grown .longer, four-more);
           high = omega (arith, e .grown .longer, four-more, e .few);
+          sides = corners-kept b nc (before .verts) (x .verts) _ (e .grown) (omega (arith, four-more)) (corners-sided b (m .admitted .box) nc (points nc v) (length-points v 0 nc));
           room-v = omega (arith, m .admitted .rooms .vertices);
           room-ix = omega (arith, m .admitted .rooms .entries, whole-triangles);
         }

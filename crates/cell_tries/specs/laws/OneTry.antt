@@ -27,7 +27,9 @@ use Rattle.definition.specs.laws.Gives.{Gives}
 use Rattle.definition.specs.Measures.{newPoints}
 use Rattle.definition.specs.Measures.{ValidEntries}
 use Rattle.definition.specs.laws.CellsSoFar.{CellsSoFar, clip-into}
+use Rattle.definition.specs.Sides.{SidedCorners}
 use Rattle.definition.specs.laws.AllCells.{all-filled, spare}
+use Rattle.definition.specs.laws.Sides.{corners-kept}
 use Rattle.definition.specs.Measures.{shareOf}
 use Rattle.staging.specs.Staging.{Staged}
 use Rattle.clipping.specs.RingWalk.{Steps, ringOf, emptyAt}
@@ -88,6 +90,9 @@ module _ {tri he : List ℕ} {f : Frame} {off : List ℕ} {g : Ground} {s : Cell
   pub corners-in : length tri / 3 + 4 ≤ p .count
   corners-in = omega (arith, count-is, a .held .grown .longer, a .on .low)
 
+  sides-in : SidedCorners (f .bounds) (f .centers) (points (p .count) v)
+  sides-in = let on = a .on in rw (on .centers, ← a .verts) (corners-kept (f .bounds) (length tri / 3) (g .x .verts) (s .verts) _ (a .held .grown) (on .low) (on .sides))
+
   module _ {site : ℕ} (l : site < g .sites) (blank : getD (s .cells) site [] ≡ []) {ring : List ℕ} (some : 0 < length ring)
       (paid : length ring ≤ shareOf tri (g .hull) site) (short : length ring ≤ length tri + 2)
       (below : (j : ℕ) → j < length ring → getD ring j 0 < p .count) {ix₁ : List ℕ} {end : ℕ} (st : Staged ring (f .stage) ix ix₁ end) where
@@ -128,6 +133,7 @@ module _ {tri he : List ℕ} {f : Frame} {off : List ℕ} {g : Ground} {s : Cell
             verts = omega (arith, room, on .room-v);
             small = omega (arith, room, on .few-entries, on .few-on-hull, threes on);
             corners = omega (arith, corners-in, on .centers);
+            sides = sides-in;
             below = λ j h. rw (st .written, sets-in ring ix (f .stage) j 0 within h) (below j h);
           });
         }

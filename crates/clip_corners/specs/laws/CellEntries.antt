@@ -10,6 +10,7 @@ use Rattle.laws.specs.Count.{occ}
 use Rattle.laws.specs.laws.Count.{same-cases}
 use Rattle.laws.specs.laws.Stores.{sets-join}
 use Rattle.definition.specs.Cell.{Entry, Ins, ins, lastOr}
+use Rattle.definition.specs.laws.SidedEdge.{last-append}
 use Rattle.clip_corners.specs.CellEntries.{EntriesPut}
 use Rattle.definition.specs.Cell.{unmarked}
 use Rattle.clip_corners.specs.declared.CellSoFar.{CellSoFar}
@@ -26,10 +27,6 @@ occ-set s x (o ∷ os) zero h g n =
 occ-set s x (o ∷ os) (suc e) h g n = omega (arith, occ-set s x os e (omega arith) g n)
 
 -- ---- writing
-
-pub last-append : (n : ℕ) (es fs : List Entry) → lastOr n (es ++ fs) ≡ lastOr (lastOr n es) fs
-last-append n [] fs = refl
-last-append n (e ∷ es) fs = last-append (e .at) es fs
 
 pub puts-then :
     {s m k : ℕ} {os ps : List ℕ} {es fs : List Entry} {a b c : CellSoFar} {l l₁ l₂ : List ℕ}

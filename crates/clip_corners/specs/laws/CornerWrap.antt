@@ -8,11 +8,10 @@ use native.Mathlib.Numerals.{add-one}
 use lib.Dec.{eqb}
 use lib.ListN.{length, getD, set}
 use lib.Seq.{sets}
-use borrow.Author.Tests.{eq-eqb, ne-eqb, lt-ltb, le-ltb}
+use borrow.Author.Tests.{eq-eqb, ne-eqb}
 use Rattle.laws.specs.Count.{occ}
-use Rattle.numbers.specs.Numbers.{EMPTY, refusedNoSide}
+use Rattle.numbers.specs.Numbers.{EMPTY}
 use Rattle.definition.specs.Cell.{Entry, entry, wrapped, crossing, Ins, ins, before, lastOr, goes, wraps, withCorners, led, vertexAt, insertAt, insertEdge}
-use Rattle.definition.specs.Fault.{ok, refused}
 use Rattle.utils.specs.declared.Point.{Point}
 use Rattle.bounding_box.specs.Box.{whichOf}
 use Rattle.bounding_box.specs.declared.BoundingBox.{BoundingBox}
@@ -20,6 +19,14 @@ use Rattle.clip_corners.specs.CellEntries.{EntriesPut, places}
 use Rattle.definition.specs.Cell.{unmarked}
 use Rattle.clip_corners.specs.declared.CellSoFar.{CellSoFar}
 use Rattle.clip_corners.specs.laws.CellEntries.{puts-then}
+
+-- ---- owners
+
+-- of a corner that there is, whatever stands for none
+pub owner-same : (os : List ℕ) (c d e : ℕ) → c < length os → getD os c d ≡ getD os c e
+owner-same [] c d e h = absurd (omega arith)
+owner-same (o ∷ os) zero d e h = refl
+owner-same (o ∷ os) (suc c) d e h = owner-same os c d e (omega arith)
 
 -- ---- whether a corner is next
 
@@ -97,7 +104,7 @@ module _ {ix₀ : List ℕ} {n₀ x₀ : ℕ} {W : Ins} {ix : List ℕ} {n x : �
 
 module _ (nc site f s second : ℕ) (a b c : CellSoFar) (l l₁ l₂ : List ℕ) where
   pub corners-first :
-      eqb (getD (a .owners) f 0) site ≡ true
+      eqb (getD (a .owners) f EMPTY) site ≡ true
       → EntriesPut site 0 (wraps 4 nc site s f (a .owners)) a l b l₁
       → EntriesPut site 1 (ins (b .owners) (entry crossing second ∷ [])) b l₁ c l₂
       → EntriesPut site 1 (withCorners nc site f s second (a .owners)) a l c l₂
@@ -105,8 +112,8 @@ module _ (nc site f s second : ℕ) (a b c : CellSoFar) (l l₁ l₂ : List ℕ)
   corners-first h p q = rw h (rw (p .owners) at (puts-then p q))
 
   pub corners-after :
-      eqb (getD (a .owners) f 0) site ≡ false
-      → eqb (getD (a .owners) s 0) site ≡ true
+      eqb (getD (a .owners) f EMPTY) site ≡ false
+      → eqb (getD (a .owners) s EMPTY) site ≡ true
       → EntriesPut site 1 (ins (a .owners) (entry crossing second ∷ [])) a l b l₁
       → EntriesPut site 0 (wraps 4 nc site f s (b .owners)) b l₁ c l₂
       → EntriesPut site 1 (withCorners nc site f s second (a .owners)) a l c l₂
@@ -115,8 +122,8 @@ module _ (nc site f s second : ℕ) (a b c : CellSoFar) (l l₁ l₂ : List ℕ)
 
 module _ (nc site f s second : ℕ) (a b : CellSoFar) (l l₁ : List ℕ) where
   pub corners-none :
-      eqb (getD (a .owners) f 0) site ≡ false
-      → eqb (getD (a .owners) s 0) site ≡ false
+      eqb (getD (a .owners) f EMPTY) site ≡ false
+      → eqb (getD (a .owners) s EMPTY) site ≡ false
       → EntriesPut site 1 (ins (a .owners) (entry crossing second ∷ [])) a l b l₁
       → EntriesPut site 1 (withCorners nc site f s second (a .owners)) a l b l₁
   unfolding withCorners
@@ -142,17 +149,6 @@ module _ (nc site f s first second : ℕ) (a b : CellSoFar) (l l₁ : List ℕ) 
 -- ---- an edge along the box
 
 module _ (b : BoundingBox) (nc site : ℕ) (vs : List Point) (os : List ℕ) (last first second f s : ℕ) (e : f ≡ whichOf b (vertexAt vs first)) (g : s ≡ whichOf b (vertexAt vs second)) where
-  pub insert-first-off : 4 ≤ f → insertEdge b nc site vs os last first second ≡ refused refusedNoSide
+  pub insert-on : insertEdge b nc site vs os last first second ≡ led (eqb last first) first (withCorners nc site f s second os)
   unfolding insertEdge insertAt
-  insert-first-off h = rw (← e, ← g, le-ltb f 4 h)
-
-  pub insert-second-off : f < 4 → 4 ≤ s → insertEdge b nc site vs os last first second ≡ refused refusedNoSide
-  unfolding insertEdge insertAt
-  insert-second-off h k = rw (← e, ← g, lt-ltb f 4 h, le-ltb s 4 k)
-
-  pub insert-on :
-      f < 4
-      → s < 4
-      → insertEdge b nc site vs os last first second ≡ ok (led (eqb last first) first (withCorners nc site f s second os))
-  unfolding insertEdge insertAt
-  insert-on h k = rw (← e, ← g, lt-ltb f 4 h, lt-ltb s 4 k)
+  insert-on = rw (← e, ← g)

@@ -2,14 +2,13 @@
 use Prim.Native.Nat.{ℕ, _*_, _≤_, _<_}
 use mathlib.Core.Path.{_≡_, refl, sym, ap, _∙_}
 use mathlib.Core.Bool.{Bool, true, false, true≢false}
-use mathlib.Core.List.{List, [], _∷_, _++_}
+use mathlib.Core.List.{List, [], _∷_}
 use mathlib.Core.Logic.{⊎-elim}
 use native.Mathlib.Omega.{arith}
 use lib.Ieee.{Float, nan}
 use lib.ListN.{take}
 use borrow.Author.Tests.{lt-ltb, le-ltb}
 use Rattle.laws.specs.laws.Decide.{lt-or-ge}
-use Rattle.numbers.specs.Numbers.{refusedOneCrossing}
 use Rattle.utils.specs.Plane.{at}
 use Rattle.utils.specs.declared.Point.{Point}
 use Rattle.utils.specs.Flat.{points}
@@ -19,8 +18,11 @@ use Rattle.vertices.specs.laws.Store.{poured-points, kept-vertex}
 use Rattle.definition.specs.Fault.{Outcome, ok, refused, andThen, fault, atEdge}
 use Rattle.definition.specs.declared.Fault.{Fault}
 use Rattle.definition.specs.Cell as Def
-use Rattle.definition.specs.Cell.{entry, plain, Taken, tookTwo, Ins, lastOr, insertEdge, EdgeClip, missed, once, twice, Change, change, clipStep, clipEdge}
-use Rattle.definition.specs.Cell.{leave, enter, link, crossAt, cross, inBox, vertexAt, moved, stepTo}
+use Rattle.definition.specs.Cell.{entry, plain, EdgeClip, missed, once, twice, Change, change, clipStep, clipEdge}
+use Rattle.definition.specs.Cell.{leave, enter, crossAt, cross, inBox, vertexAt, moved, stepTo}
+use Rattle.definition.specs.Sides.{Sided}
+use Rattle.definition.specs.laws.Gives.{Gives}
+use Rattle.definition.specs.laws.SidedEdge.{EndsOnSide, Shut}
 use Rattle.clipping.specs.EdgeOutcome.{Changes}
 use Rattle.clipping.specs.RingWalk.{tipOf, Steps}
 use Rattle.clip_edges.specs.declared.Env.{Env}
@@ -130,34 +132,11 @@ leave-out p os opened (once a) = λ e. absurd (true≢false e)
 leave-out p os opened (twice a b) = λ e. absurd (true≢false e)
 
 module _ (b : BoundingBox) (nc site : ℕ) (vs : List Point) (os : List ℕ) (opened : Bool) (last : ℕ) where
-  lone-out : (o : Outcome ℕ Ins) → Out false opened (andThen o (λ (i : Ins). refused refusedOneCrossing))
-  unfolding andThen
-  lone-out (ok i) = tt
-  lone-out (refused k) = tt
-
-  second-out : (ws : List Point) (i : Ins) (ts : List Taken) (o : Outcome ℕ Ins) → Out false opened (andThen o (λ (j : Ins). ok (change ws (j .owners) (i .new ++ j .new) opened ts)))
-  unfolding andThen
-  second-out ws i ts (ok j) = λ e. (refl, e)
-  second-out ws i ts (refused k) = tt
-
-  cross-at-out : (ws : List Point) (first second : ℕ) (ts : List Taken) → Out false opened (crossAt b nc site ws os opened last first second ts)
-  unfolding crossAt andThen
-  cross-at-out ws first second ts = go (link b nc site ws os opened last first)
-    where
-      go :
-          (o : Outcome ℕ Ins)
-          → Out false opened
-          (andThen o (λ (i : Ins).
-          andThen (insertEdge b nc site ws (i .owners) (lastOr last (i .new)) first second) (λ (j : Ins).
-          ok (change ws (j .owners) (i .new ++ j .new) opened ts))))
-      go (ok i) = second-out ws i ts (insertEdge b nc site ws (i .owners) (lastOr last (i .new)) first second)
-      go (refused k) = tt
-
   cross-out : (k : EdgeClip) → Out false opened (cross b nc site vs os opened last k)
-  unfolding cross
+  unfolding cross crossAt
   cross-out missed = λ e. (refl, e)
-  cross-out (once a) = lone-out (link b nc site (a .verts) os opened last (a .at))
-  cross-out (twice a t) = cross-at-out (t .verts) (a .at) (t .at) (tookTwo a t)
+  cross-out (once a) = tt
+  cross-out (twice a t) = λ e. (refl, e)
 
   pub clip-out : (p : ℕ) (pIn : Bool) (q : ℕ) (qIn : Bool) → qIn ≡ false → Out pIn opened (clipStep b nc site p pIn q qIn vs os opened last)
   unfolding clipStep
@@ -173,6 +152,28 @@ pub changes-out :
     → (pIn ≡ false) × (opened ≡ false)
 changes-out env count cell v ix r v₁ ix₁ pIn opened (ok d) g h z e = g (sym (h .1) ∙ e)
 changes-out env count cell v ix r v₁ ix₁ pIn opened (refused k) g h z e = let a = h .0 in let b = h .1 in absurd (omega arith)
+
+-- ---- an open cell is left on a side, and a cell that comes inside is shut
+
+module _ (env : Env) (count : ℕ) (cell : CellSoFar) (v : List Float) (ix : List ℕ) (r : Changed) (v₁ : List Float) (ix₁ : List ℕ) where
+  pub changes-ends :
+      (o : Outcome ℕ Change)
+      → Gives (EndsOnSide (env .bounds) (env .centers) (env .site) (cell .last)) o
+      → Changes env count o cell v ix r v₁ ix₁
+      → r .refusal ≡ 0
+      → r .opened ≡ true
+      → Sided (env .bounds) (points (r .count) v₁) (r .cell .last)
+  changes-ends (ok d) g h z e = rw (poured-points (h .4 .verts), h .4 .puts .last) (g (sym (h .1) ∙ e))
+  changes-ends (refused k) g h z e = let a = h .0 in let b = h .1 in absurd (omega arith)
+
+  pub changes-shut :
+      (o : Outcome ℕ Change)
+      → Gives (Shut (env .bounds) (env .centers) (env .site)) o
+      → Changes env count o cell v ix r v₁ ix₁
+      → r .refusal ≡ 0
+      → r .opened ≡ false
+  changes-shut (ok d) g h z = h .1 ∙ g
+  changes-shut (refused k) g h z = let a = h .0 in let b = h .1 in absurd (omega arith)
 
 -- ---- vertices that are kept are inside as before
 

@@ -1,31 +1,33 @@
 -- One edge of the ring: what the store left, then the entries after it.
 use Prim.Native.Nat.{ℕ, _+_, _*_, _≤_, _<_, _^_}
-use mathlib.Core.Path.{_≡_, refl, ap, _∙_, subst}
+use mathlib.Core.Path.{_≡_, refl, sym, ap, _∙_, subst}
 use mathlib.Core.Bool.{Bool, true, false, false≢true}
 use mathlib.Core.List.{List, [], _++_}
 use native.Mathlib.Omega.{arith}
 use lib.Dec.{eqb}
-use lib.Ieee.{Float}
+use lib.Ieee.{Float, nan}
 use lib.ListN.{length, take, drop, length-map}
 use borrow.Author.Tests.{eq-eqb}
-use Rattle.laws.specs.Count.{occ}
 use Rattle.laws.specs.laws.Stores.{take-sets, drop-sets}
-use Rattle.numbers.specs.Numbers.{refusedOneCrossing}
 use Rattle.utils.specs.declared.Point.{Point}
 use Rattle.utils.specs.Flat.{points}
+use Rattle.utils.specs.Plane.{at}
+use Rattle.bounding_box.specs.Box.{whichOf}
 use Rattle.bounding_box.specs.declared.BoundingBox.{BoundingBox}
 use Rattle.vertices.specs.Add.{Added}
 use Rattle.vertices.specs.Store.{Holds, Leaves}
-use Rattle.vertices.specs.laws.Store.{poured-points, poured-none}
-use Rattle.definition.specs.Fault.{Outcome, ok, refused, andThen}
-use Rattle.definition.specs.Cell.{Entry, Taken, Ins, lastOr, insertEdge, Change, change, EdgeClip, missed, once, twice, link}
-use Rattle.clip_corners.specs.CellEntries.{EntryRoom, EntriesPut, Inserts, places}
+use Rattle.vertices.specs.laws.Store.{poured-points, poured-none, kept-vertex}
+use Rattle.vertices.specs.laws.Points.{length-points}
+use Rattle.definition.specs.Fault.{Outcome, ok, refused}
+use Rattle.definition.specs.Cell.{Entry, Taken, Ins, lastOr, insertEdge, Change, change, EdgeClip, missed, once, twice, clipEdge, link}
+use Rattle.definition.specs.Sides.{Sided, SidedCorners}
+use Rattle.definition.specs.laws.SidedEdge.{ClipSided, clip-sided}
+use Rattle.clip_corners.specs.CellEntries.{EntryRoom, EntriesPut, places}
 use Rattle.definition.specs.Cell.{unmarked}
 use Rattle.clip_edges.specs.EdgeClip.{ClipsEdge, VerticesGrown}
 use Rattle.clipping.specs.EdgeOutcome.{EdgeRoom, Alters, Did, Changes}
 use Rattle.clip_edges.specs.declared.Env.{Env}
 use Rattle.clip_corners.specs.declared.CellSoFar.{CellSoFar}
-use Rattle.clip_corners.specs.declared.Inserted.{Inserted}
 use Rattle.clipping.specs.declared.Changed.{Changed}
 use Rattle.clip_edges.specs.declared.Crossed.{Crossed}
 use Rattle.clip_edges.specs.declared.Crossed.the-variants.{Missed, Once, Twice}
@@ -135,42 +137,77 @@ pub changes-none :
 changes-none env count cell v ix opened m low =
     (refl, refl, low, grown-none 2 count v, did env (leaves-none (m .holds)) (puts-more 3 (omega arith) (puts-none (env .site) cell ix (m .fits .four))) (m .fits))
 
--- n vertices after the crossings, of which f is one: room for the entries, as a caller needs it
-pub record CrossedRoom (env : Env) (count : ℕ) (cell : CellSoFar) (n f : ℕ) (v₁ : List Float) (ix₁ : List ℕ) : Type 0 where
+-- ---- sides: a vertex that is kept is on its side as before, and so are the corners
+
+pub sided-still : (b : BoundingBox) (v v₁ : List Float) (n m i : ℕ) → take (2 * n) v₁ ≡ take (2 * n) v → n ≤ m → i < n → Sided b (points n v) i → Sided b (points m v₁) i
+sided-still b v v₁ n m i e h k s = subst (λ (p : Point). whichOf b p < 4) (sym (kept-vertex v v₁ n m i (at nan nan) e h k)) s
+
+pub corners-still :
+    (b : BoundingBox) (nc : ℕ) (v v₁ : List Float) (n m : ℕ)
+    → take (2 * n) v₁ ≡ take (2 * n) v
+    → n ≤ m
+    → nc + 4 ≤ n
+    → SidedCorners b nc (points n v)
+    → SidedCorners b nc (points m v₁)
+corners-still b nc v v₁ n m e h k s = record { box = s .box; corner = λ c l. sided-still b v v₁ n m (nc + c) e h (omega arith) (s .corner c l) }
+
+-- n vertices after the crossings, of which f is one, on a side: room for the entries, as a caller needs it
+pub record CrossedRoom (env : Env) (count : ℕ) (cell : CellSoFar) (v : List Float) (n f : ℕ) (v₁ : List Float) (ix₁ : List ℕ) : Type 0 where
   pub fits : EntryRoom (env .site) 3 cell (length ix₁)
   pub room : 2 * n ≤ length v₁
   pub first : f < n
   pub more : count ≤ n
   pub corners : env .centers + 4 ≤ n
   pub small : n ≤ 2 ^ 32
+  pub sided : Sided (env .bounds) (points n v₁) f
+  -- a last entry that was on a side is
+  pub last : cell .last < count → Sided (env .bounds) (points count v) (cell .last) → Sided (env .bounds) (points n v₁) (cell .last)
 
-module _ (env : Env) (count : ℕ) (cell : CellSoFar) (v : List Float) (ix : List ℕ) (k : EdgeClip) (g : Crossed) (v₁ : List Float) (ix₁ : List ℕ)
-    (m : EdgeRoom env count cell v ix) (c : ClipsEdge (env .centers) (env .limit) count k v ix g v₁ ix₁) (same : length ix₁ ≡ length ix) where
-  room-for : (n first : ℕ) → first < n → VerticesGrown 2 count n v v₁ → Holds (env .centers) n v₁ (drop (env .limit) ix₁) → CrossedRoom env count cell n first v₁ ix₁
-  room-for n first l w h = record {
+-- the crossings are those of the edge from vertex p to vertex q
+module _ (env : Env) (count : ℕ) (cell : CellSoFar) (v : List Float) (ix : List ℕ) (p q : ℕ) (g : Crossed) (v₁ : List Float) (ix₁ : List ℕ)
+    (m : EdgeRoom env count cell v ix) (c : ClipsEdge (env .centers) (env .limit) count (clipEdge (env .bounds) (env .centers) (points count v) p q) v ix g v₁ ix₁)
+    (same : length ix₁ ≡ length ix) where
+  abbrev OnSides : EdgeClip → Type 0
+  OnSides = ClipSided (env .bounds) (env .centers) (env .site)
+
+  on-sides : OnSides (clipEdge (env .bounds) (env .centers) (points count v) p q)
+  on-sides = clip-sided (env .bounds) (env .centers) (env .site) (m .sides .box) (points count v) p q (omega (arith, m .corners, length-points v 0 count))
+
+  room-for : (n first : ℕ) → first < n → VerticesGrown 2 count n v v₁ → Holds (env .centers) n v₁ (drop (env .limit) ix₁) → Sided (env .bounds) (points n v₁) first
+      → CrossedRoom env count cell v n first v₁ ix₁
+  room-for n first l w h s = record {
     fits = fits-up (length ix₁) (m .fits) (omega (arith, m .list, same));
     room = h .room;
     first = l;
     more = w .low;
     corners = omega (arith, m .corners, w .low);
     small = omega (arith, m .small, w .high);
+    sided = s;
+    last = λ b o. sided-still (env .bounds) v v₁ count n (cell .last) (w .kept) (w .low) b o;
   }
 
-  pub room-once : {f n : ℕ} → g ≡ Once f n → CrossedRoom env count cell n f v₁ ix₁
-  room-once {f} {n} q = go k (rw q at c)
-    where
-      go : (k : EdgeClip) → ClipsEdge (env .centers) (env .limit) count k v ix (Once f n) v₁ ix₁ → CrossedRoom env count cell n f v₁ ix₁
-      go missed d = absurd d
-      go (once a) d = room-for n f (d .1) (d .2) (d .3 .holds)
-      go (twice a t) d = absurd d
+  -- where the store says so, as the definition does
+  stored : (n f : ℕ) (r : ℕ) (ws : List Point) → points n v₁ ≡ ws → f ≡ r → Sided (env .bounds) ws r → Sided (env .bounds) (points n v₁) f
+  stored n f r ws e i s = rw (e, i) s
 
-  pub room-twice : {f s n : ℕ} → g ≡ Twice f s n → CrossedRoom env count cell n f v₁ ix₁ × (s < n)
-  room-twice {f} {s} {n} q = go k (rw q at c)
+  pub room-once : {f n : ℕ} → g ≡ Once f n → CrossedRoom env count cell v n f v₁ ix₁
+  room-once {f} {n} is = go (clipEdge (env .bounds) (env .centers) (points count v) p q) (rw is at c) on-sides
     where
-      go : (k : EdgeClip) → ClipsEdge (env .centers) (env .limit) count k v ix (Twice f s n) v₁ ix₁ → CrossedRoom env count cell n f v₁ ix₁ × (s < n)
-      go missed d = absurd d
-      go (once a) d = absurd d
-      go (twice a t) d = (room-for n f (d .2) (d .4) (d .5 .holds), d .3)
+      go : (k : EdgeClip) → ClipsEdge (env .centers) (env .limit) count k v ix (Once f n) v₁ ix₁ → OnSides k → CrossedRoom env count cell v n f v₁ ix₁
+      go missed d s = absurd d
+      go (once a) d s = room-for n f (d .1) (d .2) (d .3 .holds) (stored n f (a .at) (a .verts) (poured-points (d .3 .verts)) (d .0) s)
+      go (twice a t) d s = absurd d
+
+  pub room-twice : {f s n : ℕ} → g ≡ Twice f s n → CrossedRoom env count cell v n f v₁ ix₁ × (s < n) × Sided (env .bounds) (points n v₁) s
+  room-twice {f} {s} {n} is = go (clipEdge (env .bounds) (env .centers) (points count v) p q) (rw is at c) on-sides
+    where
+      go : (k : EdgeClip) → ClipsEdge (env .centers) (env .limit) count k v ix (Twice f s n) v₁ ix₁ → OnSides k
+          → CrossedRoom env count cell v n f v₁ ix₁ × (s < n) × Sided (env .bounds) (points n v₁) s
+      go missed d o = absurd d
+      go (once a) d o = absurd d
+      go (twice a t) d o =
+          let e = poured-points (d .5 .verts) in
+          (room-for n f (d .2) (d .4) (d .5 .holds) (stored n f (a .at) (t .verts) e (d .0) (o .0)), d .3, stored n s (t .at) (t .verts) e (d .1) (o .1))
 
 -- ---- edges along the box, as outcomes of a step
 
@@ -178,86 +215,48 @@ few : (t : Bool) → 1 + places t ≤ 3
 few true = omega arith
 few false = omega arith
 
-module _ (site count : ℕ) (vs : List Point) (cell : CellSoFar) (ix : List ℕ) (i : Inserted) (ix₁ : List ℕ) where
+module _ (site count : ℕ) (vs : List Point) (cell : CellSoFar) (ix : List ℕ) (led : CellSoFar) (ix₁ : List ℕ) where
   pub alters-enter :
-      (ts : List Taken) (o : Outcome ℕ Ins)
-      → Inserts site 1 o cell ix i ix₁
-      → Alters site vs (andThen o (λ (x : Ins). ok (change vs (x .owners) (x .new) false ts))) count cell ix (record { refusal = i .refusal; count = count; opened = false; cell = i .cell }) ix₁
-  unfolding andThen
-  alters-enter ts (ok x) h = (h .0, refl, refl, refl, λ e. absurd (false≢true e), puts-more 3 (omega arith) (h .1))
-  alters-enter ts (refused k) h = (h .0, h .1)
+      (ts : List Taken) (x : Ins)
+      → EntriesPut site 1 x cell ix led ix₁
+      → Alters site vs (ok (change vs (x .owners) (x .new) false ts)) count cell ix (record { refusal = 0; count = count; opened = false; cell = led }) ix₁
+  alters-enter ts x h = (refl, refl, refl, refl, λ e. absurd (false≢true e), puts-more 3 (omega arith) h)
 
-  -- the leading edge was refused, and so is the step
-  pub alters-refused :
-      (f : Ins → Outcome ℕ Change) (r : Changed) (ix₂ : List ℕ) (o : Outcome ℕ Ins)
-      → Inserts site 1 o cell ix i ix₁
-      → (i .refusal ≡ 0 → ⊥)
-      → r .refusal ≡ i .refusal
-      → Alters site vs (andThen o f) count cell ix r ix₂
-  unfolding andThen
-  alters-refused f r ix₂ (ok x) h n e = absurd (n (h .0))
-  alters-refused f r ix₂ (refused k) h n e = (e ∙ h .0, h .1)
-
-  pub alters-lone :
-      (r : Changed) (ix₂ : List ℕ) (o : Outcome ℕ Ins)
-      → Inserts site 1 o cell ix i ix₁
-      → i .refusal ≡ 0
-      → r .refusal ≡ refusedOneCrossing
-      → Alters site vs (andThen o (λ (x : Ins). refused refusedOneCrossing)) count cell ix r ix₂
-  unfolding andThen
-  alters-lone r ix₂ (ok x) h z e = (e, omega arith)
-  alters-lone r ix₂ (refused k) h z e = let a = h .0 in let b = h .1 in absurd (omega arith)
-
-  module _ (b : BoundingBox) (nc first second : ℕ) (opened t : Bool) (ts : List Taken) (j : Inserted) (ix₂ : List ℕ) where
+  module _ (b : BoundingBox) (nc first second : ℕ) (opened t : Bool) (ts : List Taken) (done : CellSoFar) (ix₂ : List ℕ) where
     pub alters-cross :
-        (o : Outcome ℕ Ins)
-        → Inserts site 1 o cell ix i ix₁
-        → i .refusal ≡ 0
-        → Inserts site (places t) (insertEdge b nc site vs (i .cell .owners) (i .cell .last) first second) (i .cell) ix₁ j ix₂
-        → (j .refusal ≡ 0 → j .cell .last < count)
+        (x : Ins)
+        → EntriesPut site 1 x cell ix led ix₁
+        → EntriesPut site (places t) (insertEdge b nc site vs (led .owners) (led .last) first second) led ix₁ done ix₂
+        → done .last < count
         → Alters site vs
-        (andThen o (λ (x : Ins).
-        andThen (insertEdge b nc site vs (x .owners) (lastOr (cell .last) (x .new)) first second) (λ (y : Ins).
-        ok (change vs (y .owners) (x .new ++ y .new) opened ts))))
-        count cell ix (record { refusal = j .refusal; count = count; opened = opened; cell = j .cell }) ix₂
-    unfolding andThen
-    alters-cross (refused k) h z g low = let p = h .0 in let q = h .1 in absurd (omega arith)
-    alters-cross (ok x) h z g low =
-        go (insertEdge b nc site vs (x .owners) (lastOr (cell .last) (x .new)) first second)
-        (subst (λ (n : ℕ). Inserts site (places t) (insertEdge b nc site vs (x .owners) n first second) (i .cell) ix₁ j ix₂) (h .1 .last)
-        (subst (λ (os : List ℕ). Inserts site (places t) (insertEdge b nc site vs os (i .cell .last) first second) (i .cell) ix₁ j ix₂) (h .1 .owners) g))
-      where
-        go :
-            (o : Outcome ℕ Ins)
-            → Inserts site (places t) o (i .cell) ix₁ j ix₂
-            → Alters site vs (andThen o (λ (y : Ins). ok (change vs (y .owners) (x .new ++ y .new) opened ts))) count cell ix
-            (record { refusal = j .refusal; count = count; opened = opened; cell = j .cell }) ix₂
-        go (ok y) u = (u .0, refl, refl, refl, λ e. low (u .0), puts-more 3 (few t) (puts-then (h .1) (u .1)))
-        go (refused k) u = (u .0, u .1)
+        (ok (change vs (insertEdge b nc site vs (x .owners) (lastOr (cell .last) (x .new)) first second .owners)
+        (x .new ++ insertEdge b nc site vs (x .owners) (lastOr (cell .last) (x .new)) first second .new) opened ts))
+        count cell ix (record { refusal = 0; count = count; opened = opened; cell = done }) ix₂
+    alters-cross x h g low = (
+      refl,
+      refl,
+      refl,
+      refl,
+      λ e. low,
+      puts-more 3 (few t) (puts-then h
+          (subst (λ (n : ℕ). EntriesPut site (places t) (insertEdge b nc site vs (x .owners) n first second) led ix₁ done ix₂) (h .last)
+          (subst (λ (os : List ℕ). EntriesPut site (places t) (insertEdge b nc site vs os (led .last) first second) led ix₁ done ix₂) (h .owners) g))),
+    )
 
 -- a cell that is not open needs no leading edge
 module _ (b : BoundingBox) (nc site : ℕ) (vs : List Point) (cell : CellSoFar) (ix : List ℕ) (first : ℕ) where
   pub link-opened :
-      (opened : Bool) (i : Inserted) (ix₁ : List ℕ)
+      (opened : Bool) (led : CellSoFar) (ix₁ : List ℕ)
       → opened ≡ true
-      → Inserts site (places (eqb (cell .last) (cell .last))) (insertEdge b nc site vs (cell .owners) (cell .last) (cell .last) first) cell ix i ix₁
-      → Inserts site 1 (link b nc site vs (cell .owners) opened (cell .last) first) cell ix i ix₁
+      → EntriesPut site (places (eqb (cell .last) (cell .last))) (insertEdge b nc site vs (cell .owners) (cell .last) (cell .last) first) cell ix led ix₁
+      → EntriesPut site 1 (link b nc site vs (cell .owners) opened (cell .last) first) cell ix led ix₁
   unfolding link
-  link-opened opened i ix₁ e h = rw e (rw (eq-eqb (cell .last) (cell .last) refl) at h)
+  link-opened opened led ix₁ e h = rw e (rw (eq-eqb (cell .last) (cell .last) refl) at h)
 
   pub link-closed :
       (opened : Bool)
       → opened ≡ false
       → length (cell .owners) ≡ 4
-      → Inserts site 1 (link b nc site vs (cell .owners) opened (cell .last) first) cell ix (record { refusal = 0; cell = cell }) ix
+      → EntriesPut site 1 (link b nc site vs (cell .owners) opened (cell .last) first) cell ix cell ix
   unfolding link
-  link-closed opened e f = rw e (refl, puts-more 1 (omega arith) (puts-none site cell ix f))
-
--- a leading edge that was not refused
-pub linked :
-    (site : ℕ) (cell : CellSoFar) (ix : List ℕ) (i : Inserted) (ix₁ : List ℕ) (o : Outcome ℕ Ins)
-    → Inserts site 1 o cell ix i ix₁
-    → i .refusal ≡ 0
-    → (length (i .cell .owners) ≡ 4) × (i .cell .end + occ site (i .cell .owners) ≤ cell .end + 1 + occ site (cell .owners))
-linked site cell ix i ix₁ (ok x) h z = (h .1 .four, h .1 .fit)
-linked site cell ix i ix₁ (refused k) h z = let p = h .0 in let q = h .1 in absurd (omega arith)
+  link-closed opened e f = rw e (puts-more 1 (omega arith) (puts-none site cell ix f))

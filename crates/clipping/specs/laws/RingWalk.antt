@@ -31,6 +31,7 @@ use Rattle.clipping.specs.declared.RingStepped.{RingStepped}
 use Rattle.clip_corners.specs.laws.CellEntries.{puts-then, puts-none}
 use Rattle.clip_edges.specs.laws.EdgeClip.{grown-then}
 use Rattle.clipping.specs.laws.EdgeCases.{in-kept}
+use Rattle.clipping.specs.laws.EdgeOutcome.{corners-still}
 use Rattle.clipping.specs.laws.ReversedRing.{length-turned}
 
 -- ---- the ring is past the cell
@@ -92,7 +93,7 @@ getD-ring ix ring len j h = getD-take len (drop ring ix) j 0 h ∙ getD-drop rin
 pub record Round (env : Env) (ring len f : ℕ) (t₀ : Tip) (v₀ : List Float) (ix₀ : List ℕ) (k : ℕ) (t : Tip) (v : List Float) (ix : List ℕ) : Type 0 where
   pub within : k ≤ len
   pub room : RingRoom env (t .count) (t .cell) ring len (len - k) v ix
-  pub stands : Stands t
+  pub stands : Stands env t v
   pub grown : VerticesGrown (2 * k) (t₀ .count) (t .count) v₀ v
   pub done : RingPart
   pub rest :
@@ -104,7 +105,7 @@ pub record Round (env : Env) (ring len f : ℕ) (t₀ : Tip) (v₀ : List Float)
 module _ (env : Env) (ring len f : ℕ) (t₀ : Tip) (v₀ : List Float) (ix₀ : List ℕ) where
   pub round-start :
       RingRoom env (t₀ .count) (t₀ .cell) ring len len v₀ ix₀
-      → Stands t₀
+      → Stands env t₀ v₀
       → (t₀ .inside ≡ false → (j : ℕ) → j < len → inBox (env .bounds) (env .centers) (points (t₀ .count) v₀) (getD ix₀ (ring + j) 0) ≡ false)
       → Round env ring len f t₀ v₀ ix₀ 0 t₀ v₀ ix₀
   unfolding andThen
@@ -146,6 +147,7 @@ module _ (env : Env) (ring len f : ℕ) (t₀ : Tip) (v₀ : List Float) (ix₀ 
           verts = omega arith;
           small = omega arith;
           corners = m .corners;
+          sides = m .sides;
         }
 
     pub round-last :
@@ -153,11 +155,11 @@ module _ (env : Env) (ring len f : ℕ) (t₀ : Tip) (v₀ : List Float) (ix₀ 
         → j < len
         → t .inside ≡ false
         → inBox (env .bounds) (env .centers) (points (t .count) v) (getD ix (ring + j) 0) ≡ true
-        → t .cell .last < t .count
+        → t .opened ≡ true
     round-last j h i e = go (t .opened) refl
       where
-        go : (o : Bool) → t .opened ≡ o → t .cell .last < t .count
-        go true p = r .stands .low p
+        go : (o : Bool) → t .opened ≡ o → t .opened ≡ true
+        go true p = p
         go false p =
             let n : inBox (env .bounds) (env .centers) (points (t .count) v) (getD ix (ring + j) 0) ≡ false = r .out i p j h in
             let z : _≡_ {A = ℕ} 0 1 = cc in
@@ -178,7 +180,7 @@ module _ (env : Env) (ring len f : ℕ) (t₀ : Tip) (v₀ : List Float) (ix₀ 
         pub round-next :
             Steps env 1 (stepTo (env .bounds) (env .centers) (env .site) (tipOf t v) q) (t .count) (t .cell) v ix s v₁ ix₁
             → s .fault .number ≡ 0
-            → Stands (s .tip) × (s .tip .inside ≡ false → s .tip .opened ≡ false → (t .inside ≡ false) × (t .opened ≡ false))
+            → Stands env (s .tip) v₁ × (s .tip .inside ≡ false → s .tip .opened ≡ false → (t .inside ≡ false) × (t .opened ≡ false))
             → length v ≡ length v₀
             → length v₁ ≡ length v
             → length ix₁ ≡ length ix
@@ -221,6 +223,7 @@ module _ (env : Env) (ring len f : ℕ) (t₀ : Tip) (v₀ : List Float) (ix₀ 
                         verts = omega arith;
                         small = omega arith;
                         corners = omega arith;
+                        sides = corners-still (env .bounds) (env .centers) v v₁ (t .count) (s .tip .count) (u .2 .kept) low corners (m .sides);
                         below = λ j l. (let a = m .below j l in rw (past j l) (omega arith));
                       };
                   stands = st .0;

@@ -5,18 +5,17 @@ use mathlib.Core.List.{List, []}
 use mathlib.Core.Logic.{_⊎_, inl, inr, _≢_}
 use Prim.Native.Nat.{ℕ, _+_, _≤_, _<_}
 use native.Mathlib.Omega.{arith}
-use lib.Dec.{ltb, eqb}
+use lib.Dec.{eqb}
 use lib.ListN.{length}
-use borrow.Author.Tests.{ltb-true, eq-eqb}
+use borrow.Author.Tests.{eq-eqb}
 use Rattle.laws.specs.Pick.{pick}
-use Rattle.numbers.specs.Numbers.{EMPTY, refusedOneCrossing}
+use Rattle.numbers.specs.Numbers.{EMPTY}
 use Rattle.utils.specs.declared.Point.{Point}
 use Rattle.bounding_box.specs.Box.{whichOf}
 use Rattle.bounding_box.specs.declared.BoundingBox.{BoundingBox}
-use Rattle.definition.specs.Fault.{Outcome, ok, refused, andThen}
 use Rattle.definition.specs.Cell.{lastOr, Taken, Ins, withCorners, led, insertAt, insertEdge, vertexAt, EdgeClip, missed, once, twice, Change, tookOne, tookTwo, leave, enterAt}
 use Rattle.definition.specs.Cell.{enter, link, crossAt, cross, clipStep}
-use Rattle.definition.specs.laws.Gives.{Gives, gives-then, gives-next, picked}
+use Rattle.definition.specs.laws.Gives.{Gives}
 use Rattle.definition.specs.laws.Puts.{Puts, puts-none, puts-then, puts-plain, puts-crossing, puts-corners}
 use Rattle.definition.specs.laws.Grown.{Grown, grown-none, grown-then, ClippedTo, clip-edge}
 use Rattle.definition.specs.Measures.{newPoints}
@@ -39,14 +38,9 @@ module _ (P : ℕ → Type 0) (b : BoundingBox) (nc site : ℕ) (real : site ≢
     Insert k i = Puts P nc site (length vs) k os (i .new) (i .owners)
 
     insert-sides : (last first second f s : ℕ) → nc ≤ second → second < length vs → (eqb last first ≡ false → (nc ≤ first) × (first < length vs))
-        → Gives (Insert (pick (eqb last first) (λ _. 1) (λ _. 2))) (insertAt nc site last first second os f s)
+        → Insert (pick (eqb last first) (λ _. 1) (λ _. 2)) (insertAt nc site last first second os f s)
     unfolding insertAt
-    insert-sides last first second f s lo hi lead =
-        picked (Gives (Insert (pick (eqb last first) (λ _. 1) (λ _. 2)))) (ltb f 4) _ _
-        (λ x. picked (Gives (Insert (pick (eqb last first) (λ _. 1) (λ _. 2)))) (ltb s 4) _ _
-        (λ y. by (eqb last first) lead (puts-corners P nc site real (length vs) f s second os four (ltb-true f 4 x) (ltb-true s 4 y) lo hi))
-        (λ y. tt))
-        (λ x. tt)
+    insert-sides last first second f s lo hi lead = by (eqb last first) lead (puts-corners P nc site real (length vs) f s second os four lo hi)
       where
         by : (t : Bool) → (t ≡ false → (nc ≤ first) × (first < length vs)) → Insert 1 (withCorners nc site f s second os)
             → Insert (pick t (λ _. 1) (λ _. 2)) (led t first (withCorners nc site f s second os))
@@ -54,23 +48,22 @@ module _ (P : ℕ → Type 0) (b : BoundingBox) (nc site : ℕ) (real : site ≢
         by false l h = puts-then P nc site real (puts-crossing P nc site (length vs) first os (l refl .0) (l refl .1)) h
 
     -- from the last entry
-    insert-on : (last second : ℕ) → nc ≤ second → second < length vs → Gives (Insert 1) (insertEdge b nc site vs os last last second)
+    insert-on : (last second : ℕ) → nc ≤ second → second < length vs → Insert 1 (insertEdge b nc site vs os last last second)
     unfolding insertEdge
     insert-on last second lo hi =
         let e = eq-eqb last last refl in
-        subst (λ (t : Bool). Gives (Insert (pick t (λ _. 1) (λ _. 2))) (insertAt nc site last last second os (whichOf b (vertexAt vs last)) (whichOf b (vertexAt vs second)))) e
+        subst (λ (t : Bool). Insert (pick t (λ _. 1) (λ _. 2)) (insertAt nc site last last second os (whichOf b (vertexAt vs last)) (whichOf b (vertexAt vs second)))) e
         (insert-sides last last second _ _ lo hi (λ z. let y : _≡_ {A = ℕ} 0 1 = cc in absurd (omega arith)))
 
     insert-new : (last first second : ℕ) → nc ≤ first → first < length vs → nc ≤ second → second < length vs
-        → Gives (λ (i : Ins). (k : ℕ) × (1 ≤ k) × (k ≤ 2) × Insert k i) (insertEdge b nc site vs os last first second)
+        → (k : ℕ) × (1 ≤ k) × (k ≤ 2) × Insert k (insertEdge b nc site vs os last first second)
     unfolding insertEdge
     insert-new last first second lo hi lo₂ hi₂ = by (eqb last first) (insertEdge b nc site vs os last first second)
         (insert-sides last first second (whichOf b (vertexAt vs first)) (whichOf b (vertexAt vs second)) lo₂ hi₂ (λ z. (lo, hi)))
       where
-        by : (t : Bool) (o : Outcome ℕ Ins) → Gives (Insert (pick t (λ _. 1) (λ _. 2))) o → Gives (λ (i : Ins). (k : ℕ) × (1 ≤ k) × (k ≤ 2) × Insert k i) o
-        by true (ok i) h = (1, omega arith, omega arith, h)
-        by false (ok i) h = (2, omega arith, omega arith, h)
-        by t (refused n) h = tt
+        by : (t : Bool) (i : Ins) → Insert (pick t (λ _. 1) (λ _. 2)) i → (k : ℕ) × (1 ≤ k) × (k ≤ 2) × Insert k i
+        by true i h = (1, omega arith, omega arith, h)
+        by false i h = (2, omega arith, omega arith, h)
 
   -- the three kinds of edge that meet the box's border
   leave-edge : (p : ℕ) (vs : List Point) (os : List ℕ) (opened : Bool) (k : EdgeClip) → P p → p < nc → ClippedTo nc vs k → Gives (Edge P nc site vs os opened) (leave p os k)
@@ -96,12 +89,10 @@ module _ (P : ℕ → Type 0) (b : BoundingBox) (nc site : ℕ) (real : site ≢
   }
 
   enter-at : (vs ws : List Point) (os : List ℕ) (opened : Bool) (last first : ℕ) (ts : List Taken) → length os ≡ 4 → Grown vs (newPoints ts) ws
-      → length ts ≤ 2 → nc ≤ first → first < length ws → Gives (Edge P nc site vs os opened) (enterAt b nc site ws os last first ts)
+      → length ts ≤ 2 → nc ≤ first → first < length ws → Edge P nc site vs os opened (enterAt b nc site ws os last first ts)
   unfolding enterAt
   enter-at vs ws os opened last first ts four g two lo hi =
-      gives-then (λ (i : Ins). Puts P nc site (length ws) 1 os (i .new) (i .owners)) (Edge P nc site vs os opened)
-      (insertEdge b nc site ws os last last first) _ (insert-on ws os four last first lo hi)
-      (λ i h. record { grown = g; two = two; plain-or-crossing = 1; three = omega arith; puts = h; idle = inl (omega arith); entered = λ z. inl (omega arith) })
+      record { grown = g; two = two; plain-or-crossing = 1; three = omega arith; puts = insert-on ws os four last first lo hi; idle = inl (omega arith); entered = λ z. inl (omega arith) }
 
   enter-edge : (vs : List Point) (os : List ℕ) (opened : Bool) (last : ℕ) (k : EdgeClip) → length os ≡ 4 → ClippedTo nc vs k
       → Gives (Edge P nc site vs os opened) (enter b nc site os last k)
@@ -113,25 +104,18 @@ module _ (P : ℕ → Type 0) (b : BoundingBox) (nc site : ℕ) (real : site ≢
       (omega arith) (c .0 .after) (omega (arith, c .0 .below, c .1 .grown .longer))
 
   link-edge : (vs : List Point) (os : List ℕ) (opened : Bool) (last first : ℕ) → length os ≡ 4 → nc ≤ first → first < length vs
-      → Gives (λ (i : Ins). (k : ℕ) × (k ≤ 1) × Puts P nc site (length vs) k os (i .new) (i .owners)) (link b nc site vs os opened last first)
+      → (k : ℕ) × (k ≤ 1) × Puts P nc site (length vs) k os (link b nc site vs os opened last first .new) (link b nc site vs os opened last first .owners)
   unfolding link
-  link-edge vs os true last first four lo hi = by (insertEdge b nc site vs os last last first) (insert-on vs os four last first lo hi)
-    where
-      by : (o : Outcome ℕ Ins) → Gives (λ (i : Ins). Puts P nc site (length vs) 1 os (i .new) (i .owners)) o
-          → Gives (λ (i : Ins). (k : ℕ) × (k ≤ 1) × Puts P nc site (length vs) k os (i .new) (i .owners)) o
-      by (ok i) h = (1, omega arith, h)
-      by (refused n) h = tt
+  link-edge vs os true last first four lo hi = (1, omega arith, insert-on vs os four last first lo hi)
   link-edge vs os false last first four lo hi = (0, omega arith, puts-none P nc site (length vs) os)
 
   cross-at : (vs ws : List Point) (os : List ℕ) (opened : Bool) (last first second : ℕ) (ts : List Taken) → length os ≡ 4 → Grown vs (newPoints ts) ws
-      → length ts ≤ 2 → nc ≤ first → first < length ws → nc ≤ second → second < length ws → Gives (Edge P nc site vs os opened) (crossAt b nc site ws os opened last first second ts)
+      → length ts ≤ 2 → nc ≤ first → first < length ws → nc ≤ second → second < length ws → Edge P nc site vs os opened (crossAt b nc site ws os opened last first second ts)
   unfolding crossAt
   cross-at vs ws os opened last first second ts four g two lo hi lo₂ hi₂ =
-      gives-then (λ (i : Ins). (k : ℕ) × (k ≤ 1) × Puts P nc site (length ws) k os (i .new) (i .owners)) (Edge P nc site vs os opened)
-      (link b nc site ws os opened last first) _ (link-edge ws os opened last first four lo hi)
-      (λ i h. gives-then (λ (j : Ins). (k : ℕ) × (1 ≤ k) × (k ≤ 2) × Puts P nc site (length ws) k (i .owners) (j .new) (j .owners))
-      (Edge P nc site vs os opened) (insertEdge b nc site ws (i .owners) (lastOr last (i .new)) first second) _ (insert-new ws (i .owners) (h .2 .owners ∙ four) _ first second lo hi lo₂ hi₂)
-      (λ j w. record {
+      let h = link-edge ws os opened last first four lo hi in
+      let w = insert-new ws (link b nc site ws os opened last first .owners) (h .2 .owners ∙ four) (lastOr last (link b nc site ws os opened last first .new)) first second lo hi lo₂ hi₂ in
+      record {
         grown = g;
         two = two;
         plain-or-crossing = h .0 + w .0;
@@ -139,11 +123,11 @@ module _ (P : ℕ → Type 0) (b : BoundingBox) (nc site : ℕ) (real : site ≢
         puts = puts-then P nc site real (h .2) (w .3);
         idle = inl (omega (arith, w .1));
         entered = λ z. inr z;
-      }))
+      }
 
   cross-edge : (vs : List Point) (os : List ℕ) (opened : Bool) (last : ℕ) (k : EdgeClip) → length os ≡ 4 → ClippedTo nc vs k
       → Gives (Edge P nc site vs os opened) (cross b nc site vs os opened last k)
-  unfolding cross andThen
+  unfolding cross
   cross-edge vs os opened last missed four c = record {
     grown = grown-none vs;
     two = omega arith;
@@ -153,11 +137,7 @@ module _ (P : ℕ → Type 0) (b : BoundingBox) (nc site : ℕ) (real : site ≢
     idle = inr refl;
     entered = λ z. inr z;
   }
-  cross-edge vs os opened last (once r) four c = by (link b nc site (r .verts) os opened last (r .at))
-    where
-      by : (o : Outcome ℕ Ins) → Gives (Edge P nc site vs os opened) (andThen o (λ i. refused refusedOneCrossing))
-      by (ok i) = tt
-      by (refused n) = tt
+  cross-edge vs os opened last (once r) four c = tt
   cross-edge vs os opened last (twice r t) four c =
       cross-at vs (t .verts) os opened last (r .at) (t .at) (tookTwo r t) four (grown-then (c .0 .grown) (grown-then (c .1 .grown) (grown-none _)))
       (omega arith) (c .0 .after) (omega (arith, c .0 .below, c .1 .grown .longer)) (c .1 .after) (c .1 .below)
@@ -192,10 +172,8 @@ module _ (b : BoundingBox) (nc site : ℕ) where
   cross-open : (vs : List Point) (os : List ℕ) (opened : Bool) (last : ℕ) (k : EdgeClip) → opened ≡ true → Gives Open (cross b nc site vs os opened last k)
   unfolding cross crossAt
   cross-open vs os opened last missed h = h
-  cross-open vs os opened last (once r) h = gives-next Open (link b nc site (r .verts) os opened last (r .at)) _ (λ i. tt)
-  cross-open vs os opened last (twice r t) h =
-      gives-next Open (link b nc site (t .verts) os opened last (r .at)) _
-      (λ i. gives-next Open (insertEdge b nc site (t .verts) (i .owners) (lastOr last (i .new)) (r .at) (t .at)) _ (λ j. h))
+  cross-open vs os opened last (once r) h = tt
+  cross-open vs os opened last (twice r t) h = h
 
   pub stays-open : (p : ℕ) (pIn : Bool) (q : ℕ) (qIn : Bool) (vs : List Point) (os : List ℕ) (opened : Bool) (last : ℕ) → qIn ≡ false
       → (pIn ≡ false → opened ≡ true) → Gives Open (clipStep b nc site p pIn q qIn vs os opened last)

@@ -42,7 +42,7 @@ grown-none vs = record { longer = omega arith; kept = λ i h. refl }
 pub grown-then : {vs us ws : List Point} {m k : ℕ} → Grown vs m us → Grown us k ws → Grown vs (m + k) ws
 grown-then h g = record { longer = omega (arith, h .longer, g .longer); kept = λ i l. g .kept i (omega (arith, h .longer)) ∙ h .kept i l }
 
-find-bounds : (p : Point) (vs : List Point) (n : ℕ) → (n ≤ findNear p vs n) × (findNear p vs n ≤ n + length vs)
+pub find-bounds : (p : Point) (vs : List Point) (n : ℕ) → (n ≤ findNear p vs n) × (findNear p vs n ≤ n + length vs)
 unfolding findNear
 find-bounds p [] n = omega arith
 find-bounds p (v ∷ vs) n =

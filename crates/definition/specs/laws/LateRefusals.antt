@@ -1,4 +1,4 @@
--- Why a build's refusals are late: each step of it refuses with 11 to 15 alone.
+-- Why a build's refusals are late: each step of it refuses with 11 to 14 alone.
 use mathlib.Core.Bool.{Bool, true, false, _&&_}
 use mathlib.Core.List.{List, [], _∷_}
 use Prim.Native.Nat.{ℕ, zero, suc}
@@ -7,14 +7,14 @@ use lib.Dec.{ltb}
 use lib.Ieee.{Float}
 use lib.ListN.{length, getD, replicate}
 use Rattle.laws.specs.Pick.{pick}
-use Rattle.numbers.specs.Numbers.{refusedNoCrossing, refusedOneCrossing, refusedNoSide}
+use Rattle.numbers.specs.Numbers.{refusedNoCrossing, refusedOneCrossing}
 use Rattle.utils.specs.Rules.{okCenter}
 use Rattle.utils.specs.declared.Point.{Point}
 use Rattle.bounding_box.specs.declared.BoundingBox.{BoundingBox}
 use Rattle.mesh.specs.Mesh.{endOf}
 use Rattle.definition.specs.declared.Fault.{Fault}
 use Rattle.definition.specs.Fault.{Outcome, ok, refused, andThen, atEdge}
-use Rattle.definition.specs.Cell.{EdgeClip, missed, once, twice, Tip, Taken, insertAt, insertEdge, leave, enterAt, enter, link, crossAt}
+use Rattle.definition.specs.Cell.{EdgeClip, missed, once, twice, Tip, leave, enter}
 use Rattle.definition.specs.Cell.{cross, clipStep, stepTo, stepsTo, clipFrom, firstInside, clipCell}
 use Rattle.definition.specs.Build.{CellState, Extensions, centerAt, centersFrom, extended, extendFrom, finite, hullRing, ringFrom, cellState}
 use Rattle.definition.specs.Build.{clipInto, clipHull, isEmpty, clipRest, clipAll}
@@ -40,46 +40,25 @@ no-crossing = record { least = omega arith; most = omega arith }
 one-crossing : Late refusedOneCrossing
 one-crossing = record { least = omega arith; most = omega arith }
 
-no-side : Late refusedNoSide
-no-side = record { least = omega arith; most = omega arith }
-
 -- ---- one edge
 module _ (b : BoundingBox) (nc site : ℕ) where
-  at-side : (last first second : ℕ) (os : List ℕ) (f s : ℕ) → Refuses Late (insertAt nc site last first second os f s)
-  unfolding insertAt
-  at-side last first second os f s = both Late (ltb f 4) _ _ (both Late (ltb s 4) _ _ tt no-side) no-side
-
-  insert : (vs : List Point) (os : List ℕ) (last first second : ℕ) → Refuses Late (insertEdge b nc site vs os last first second)
-  unfolding insertEdge
-  insert vs os last first second = at-side last first second os _ _
-
   leaves : (p : ℕ) (os : List ℕ) (c : EdgeClip) → Refuses Late (leave p os c)
   unfolding leave
   leaves p os missed = no-crossing
   leaves p os (once r) = tt
   leaves p os (twice r t) = tt
 
-  enters-at : (vs : List Point) (os : List ℕ) (last first : ℕ) (ts : List Taken) → Refuses Late (enterAt b nc site vs os last first ts)
-  unfolding enterAt
-  enters-at vs os last first ts = late-then Late (insertEdge b nc site vs os last last first) _ (insert vs os last last first) (λ i. tt)
-
   enters : (os : List ℕ) (last : ℕ) (c : EdgeClip) → Refuses Late (enter b nc site os last c)
   unfolding enter
   enters os last missed = no-crossing
-  enters os last (once r) = enters-at _ os last _ _
-  enters os last (twice r t) = enters-at _ os last _ _
-
-  links : (vs : List Point) (os : List ℕ) (opened : Bool) (last first : ℕ) → Refuses Late (link b nc site vs os opened last first)
-  unfolding link
-  links vs os opened last first = both Late opened _ _ (insert vs os last last first) tt
+  enters os last (once r) = tt
+  enters os last (twice r t) = tt
 
   crosses : (vs : List Point) (os : List ℕ) (opened : Bool) (last : ℕ) (c : EdgeClip) → Refuses Late (cross b nc site vs os opened last c)
-  unfolding cross crossAt
+  unfolding cross
   crosses vs os opened last missed = tt
-  crosses vs os opened last (once r) = late-then Late (link b nc site (r .verts) os opened last (r .at)) _ (links _ os opened last _) (λ i. one-crossing)
-  crosses vs os opened last (twice r t) =
-      late-then Late (link b nc site (t .verts) os opened last (r .at)) _ (links _ os opened last _) λ i.
-      late-then Late (insertEdge b nc site (t .verts) (i .owners) _ (r .at) (t .at)) _ (insert _ _ _ _ _) (λ j. tt)
+  crosses vs os opened last (once r) = one-crossing
+  crosses vs os opened last (twice r t) = tt
 
   steps : (p : ℕ) (pIn : Bool) (q : ℕ) (qIn : Bool) (vs : List Point) (os : List ℕ) (opened : Bool) (last : ℕ) → Refuses Late (clipStep b nc site p pIn q qIn vs os opened last)
   unfolding clipStep

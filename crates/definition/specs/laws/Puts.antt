@@ -6,11 +6,11 @@ use mathlib.Core.Logic.{_⊎_, inl, inr, ⊎-elim, _≢_}
 use Prim.Native.Nat.{ℕ, zero, suc, _+_, _%_, _≤_, _<_}
 use native.Mathlib.Omega.{arith}
 use lib.Dec.{eqb}
-use lib.ListN.{length, getD, set, length-append, length-set}
+use lib.ListN.{length, getD, set, length-append, length-set, List·getD-eq-default}
 use lib.Seq.{getD-set-same, getD-set-other}
 use borrow.Author.Tests.{eqb-true}
 use Rattle.laws.specs.Pick.{pick}
-use Rattle.laws.specs.laws.Decide.{eq-or-ne}
+use Rattle.laws.specs.laws.Decide.{eq-or-ne, lt-or-ge}
 use Rattle.laws.specs.Count.{same, occ}
 use Rattle.laws.specs.laws.Count.{same-cases, occ-append}
 use Rattle.numbers.specs.Numbers.{EMPTY}
@@ -175,12 +175,16 @@ module _ (P : ℕ → Type 0) (nc site : ℕ) where
         (λ t. puts-then real (puts-corner c os four h (goes-own site stop c os t)) (puts-wraps k stop ((c + 1) % 4) (set os c EMPTY) (length-set os c EMPTY ∙ four) (omega arith)))
         (λ t. puts-none n os)
 
-    pub puts-corners : (f s second : ℕ) (os : List ℕ) → length os ≡ 4 → f < 4 → s < 4 → nc ≤ second → second < n
+    -- a place whose owner is the site is a corner's
+    own-corner : (c : ℕ) (os : List ℕ) → length os ≡ 4 → eqb (getD os c EMPTY) site ≡ true → c < 4
+    own-corner c os four e = ⊎-elim (λ l. l) (λ l. absurd (real (sym (eqb-true _ _ e) ∙ List·getD-eq-default os EMPTY {n = c} (omega arith)))) (lt-or-ge c 4)
+
+    pub puts-corners : (f s second : ℕ) (os : List ℕ) → length os ≡ 4 → nc ≤ second → second < n
         → Puts P nc site n 1 os (withCorners nc site f s second os .new) (withCorners nc site f s second os .owners)
     unfolding withCorners
-    puts-corners f s second os four hf hs lo hi =
-        picked (λ (i : Ins). Puts P nc site n 1 os (i .new) (i .owners)) (eqb (getD os f 0) site) _ _
-        (λ t. puts-then real (puts-wraps 4 s f os four hf) (puts-crossing n second _ lo hi))
-        (λ t. picked (λ (i : Ins). Puts P nc site n 1 os (i .new) (i .owners)) (eqb (getD os s 0) site) _ _
-        (λ u. puts-then real (puts-crossing n second os lo hi) (puts-wraps 4 f s os four hs))
+    puts-corners f s second os four lo hi =
+        picked (λ (i : Ins). Puts P nc site n 1 os (i .new) (i .owners)) (eqb (getD os f EMPTY) site) _ _
+        (λ t. puts-then real (puts-wraps 4 s f os four (own-corner f os four t)) (puts-crossing n second _ lo hi))
+        (λ t. picked (λ (i : Ins). Puts P nc site n 1 os (i .new) (i .owners)) (eqb (getD os s EMPTY) site) _ _
+        (λ u. puts-then real (puts-crossing n second os lo hi) (puts-wraps 4 f s os four (own-corner s os four u)))
         (λ u. puts-crossing n second os lo hi))

@@ -63,10 +63,10 @@ turned-length f ring =
     ∙ ap length (take-append-drop f ring)
 
 module _ (b : BoundingBox) (nc site : ℕ) (real : site ≢ EMPTY) (vs : List Point) (room : nc + 4 ≤ length vs) (started : Bool) where
-  abbrev Inside : ℕ → Type 0
+  abbrev pub Inside : ℕ → Type 0
   Inside v = inBox b nc vs v ≡ true
 
-  abbrev After : Tip → RingPart → Type 0
+  abbrev pub After : Tip → RingPart → Type 0
   After t c = Ring Inside nc site t 1 c × Underway b nc vs started (c .tip)
 
   abbrev Did : Tip → ℕ → Change → Type 0
@@ -135,7 +135,7 @@ module _ (b : BoundingBox) (nc site : ℕ) (real : site ≢ EMPTY) (vs : List Po
       (λ c x. gives-then (Ring Inside nc site (c .tip) (length qs)) (Ring Inside nc site t (suc (length qs))) (stepsTo b nc site qs (c .tip)) _ (steps-to qs (c .tip) (x .1))
       (λ d y. subst (λ (n : ℕ). Ring Inside nc site t n (partsJoined c d)) (omega arith) (ring-then t c d (x .0) y)))
 
-  begin : (os : List ℕ) (p : ℕ) → length os ≡ 4 → (started ≡ true → Inside p) → Underway b nc vs started (tip vs os EMPTY p started false)
+  pub begin : (os : List ℕ) (p : ℕ) → length os ≡ 4 → (started ≡ true → Inside p) → Underway b nc vs started (tip vs os EMPTY p started false)
   begin os p four h = record {
     more = 0;
     grown = grown-none vs;

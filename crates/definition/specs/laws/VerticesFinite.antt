@@ -29,12 +29,12 @@ use Rattle.mesh.specs.Accepted.{Mesh, siteCount}
 use Rattle.mesh.specs.Hull.{nextSite}
 use Rattle.definition.specs.Fault.{ok, atEdge}
 use Rattle.definition.specs.Cell.{EdgeClip, missed, once, twice, Change, Tip, RingPart, firstIs, onEdge, edgeCrossing, clipWith}
-use Rattle.definition.specs.Cell.{clipEdge, vertexAt, leave, enterAt, enter, link, crossAt, cross, clipStep, insertEdge, lastOr}
+use Rattle.definition.specs.Cell.{clipEdge, vertexAt, leave, enterAt, enter, crossAt, cross, clipStep}
 use Rattle.definition.specs.Cell.{stepTo, stepsTo, inBox, firstInside, clipFrom, clipCell}
 use Rattle.definition.specs.Build.{centerAt, centersFrom, finite, extended, Extensions, extensions, extendFrom, CellState, cellState}
 use Rattle.definition.specs.Build.{clipInto, clipHull, clipRest, clipAll, hullRing, ringFrom, isEmpty, Built, build}
 use Rattle.definition.specs.Unclipped.{unclipped}
-use Rattle.definition.specs.laws.Gives.{Gives, gives-then, gives-next, gives-at, picked}
+use Rattle.definition.specs.laws.Gives.{Gives, gives-then, gives-at, picked}
 
 module _ (P : Point → Type 0) where
   abbrev pub Each : List Point → Type 0
@@ -91,16 +91,14 @@ module _ (P : Point → Type 0) where
     enters : (site : ℕ) (os : List ℕ) (last : ℕ) (k : EdgeClip) → OfClip k → Gives Vs (enter b nc site os last k)
     unfolding enter enterAt
     enters site os last missed h = tt
-    enters site os last (once r) h = gives-next Vs (insertEdge b nc site (r .verts) os last last (r .at)) _ (λ i. h)
-    enters site os last (twice r t) h = gives-next Vs (insertEdge b nc site (t .verts) os last last (r .at)) _ (λ i. h)
+    enters site os last (once r) h = h
+    enters site os last (twice r t) h = h
 
     crosses : (site : ℕ) (vs : List Point) (os : List ℕ) (opened : Bool) (last : ℕ) (k : EdgeClip) → Each vs → OfClip k → Gives Vs (cross b nc site vs os opened last k)
     unfolding cross crossAt
     crosses site vs os opened last missed g h = g
-    crosses site vs os opened last (once r) g h = gives-next Vs (link b nc site (r .verts) os opened last (r .at)) _ (λ i. tt)
-    crosses site vs os opened last (twice r t) g h =
-        gives-next Vs (link b nc site (t .verts) os opened last (r .at)) _
-        (λ i. gives-next Vs (insertEdge b nc site (t .verts) (i .owners) (lastOr last (i .new)) (r .at) (t .at)) _ (λ j. h))
+    crosses site vs os opened last (once r) g h = tt
+    crosses site vs os opened last (twice r t) g h = h
 
     steps : (site p : ℕ) (pIn : Bool) (q : ℕ) (qIn : Bool) (vs : List Point) (os : List ℕ) (opened : Bool) (last : ℕ) → Each vs
         → Gives Vs (clipStep b nc site p pIn q qIn vs os opened last)

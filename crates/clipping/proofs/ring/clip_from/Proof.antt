@@ -1,4 +1,5 @@
 -- `clipping::ring::clip_from` meets its contract: it walks the ring from its vertex at place f, with nothing written and the cell not open.
+use mathlib.Core.Path.{refl}
 use mathlib.Core.Bool.{false≢true}
 use native.Mathlib.Omega.{arith}
 use denote.Ref.{now}
@@ -9,8 +10,13 @@ use Rattle.clipping.proofs.ring.clip_from.Tie as tie
 
 walk-ring-requires : tie.Need-walk-ring-requires
 walk-ring-requires c κs =
-    let s = c .before .before .before .before .before in
-    (s .pre .0, (record { vertex = s .pre .0 .below (s .args .f) (s .pre .1 .0); low = λ e. absurd (false≢true e) }, (omega arith, s .pre .1 .1)))
+    let s = c .before .before .before .before .before in (
+      s .pre .0,
+      (
+        record { vertex = s .pre .0 .below (s .args .f) (s .pre .1 .0); shut = λ e. refl; low = λ e. absurd (false≢true e); ends = λ e. absurd (false≢true e) },
+        (omega arith, s .pre .1 .1),
+      ),
+    )
 
 returns : tie.Need-returns
 returns c =

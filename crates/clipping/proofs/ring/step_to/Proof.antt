@@ -4,7 +4,9 @@ use mathlib.Core.Path.{refl}
 use denote.Ref.{now}
 use Rattle.utils.specs.Flat.{points}
 use Rattle.definition.specs.Cell.{clipStep}
-use Rattle.clipping.specs.laws.EdgeCases.{step-refused, step-done, changes-low, changes-out, clip-out}
+use Rattle.clipping.specs.laws.EdgeCases.{step-refused, step-done, changes-low, changes-out, clip-out, changes-ends, changes-shut}
+use Rattle.vertices.specs.laws.Points.{length-points}
+use Rattle.definition.specs.laws.SidedEdge.{step-ends, step-shuts}
 use borrow.Author.Needs.{needs}
 use Rattle.clipping.proofs.ring.step_to.Statement.{statement}
 use Rattle.clipping.proofs.ring.step_to.Tie as tie
@@ -32,6 +34,7 @@ returns-2 c =
     let s = c .before .before .before .before .before .before .before .before .before .before .before .before .before .before .before in
     let a = s .args in
     let t = a .tip in
+    let stood = s .pre .1 .0 in
     let g = at-clip-step .clip-step in
     let l = changes-low (a .env) (t .count) (t .cell) (now (a .vertices)) (now (a .indexes)) (g .result) _ _
     (clipStep (a .env .bounds) (a .env .centers) (a .env .site) (t .vertex) (t .inside) (a .q) (at-in-box .in-box .result)
@@ -39,7 +42,22 @@ returns-2 c =
     (g .ensures) (c .before .if1 .left) in (
       step-done (a .env) (a .tip) (a .q) _ (now (a .vertices)) (now (a .indexes)) _ _ _ (at-in-box .in-box .ensures) (g .ensures) (c .before .if1 .left),
       λ e. (
-        record { vertex = omega arith; low = l .1 },
+        record {
+          vertex = omega arith;
+          shut = λ i. changes-shut (a .env) (t .count) (t .cell) (now (a .vertices)) (now (a .indexes)) (g .result) _ _
+              (clipStep (a .env .bounds) (a .env .centers) (a .env .site) (t .vertex) (t .inside) (a .q) (at-in-box .in-box .result)
+              (points (t .count) (now (a .vertices))) (t .cell .owners) (t .opened) (t .cell .last))
+              (step-shuts (a .env .bounds) (a .env .centers) (a .env .site) (t .vertex) (t .inside) (a .q) (at-in-box .in-box .result)
+              (points (t .count) (now (a .vertices))) (t .cell .owners) (t .opened) (t .cell .last) i (stood .shut))
+              (g .ensures) (c .before .if1 .left);
+          low = l .1;
+          ends = changes-ends (a .env) (t .count) (t .cell) (now (a .vertices)) (now (a .indexes)) (g .result) _ _
+              (clipStep (a .env .bounds) (a .env .centers) (a .env .site) (t .vertex) (t .inside) (a .q) (at-in-box .in-box .result)
+              (points (t .count) (now (a .vertices))) (t .cell .owners) (t .opened) (t .cell .last))
+              (step-ends (a .env .bounds) (a .env .centers) (a .env .site) (points (t .count) (now (a .vertices))) (omega (arith, s .pre .0 .corners, length-points (now (a .vertices)) 0 (t .count)))
+              (s .pre .0 .sides) (t .cell .owners) (t .cell .last) (t .vertex) (t .inside) (a .q) (at-in-box .in-box .result) (t .opened) (stood .ends) (stood .shut))
+              (g .ensures) (c .before .if1 .left);
+        },
         λ i o. changes-out (a .env) (t .count) (t .cell) (now (a .vertices)) (now (a .indexes)) (g .result) _ _ (t .inside) (t .opened)
             (clipStep (a .env .bounds) (a .env .centers) (a .env .site) (t .vertex) (t .inside) (a .q) (at-in-box .in-box .result)
             (points (t .count) (now (a .vertices))) (t .cell .owners) (t .opened) (t .cell .last))

@@ -36,7 +36,8 @@ returns-2 c =
 enter-requires : tie.Need-enter-requires
 enter-requires c κs =
     let s = c .before .before .before .before .before .before .before in
-    (s .pre .0, (s .pre .1 .0 .vertex, s .pre .1 .1 .0, s .pre .1 .1 .1 (c .before .before .before .if1 .left) (c .before .before .if3 .taken)))
+    let o = s .pre .1 .1 .1 (c .before .before .before .if1 .left) (c .before .before .if3 .taken) in
+    (s .pre .0, (s .pre .1 .0 .vertex, s .pre .1 .1 .0, s .pre .1 .0 .low o, s .pre .1 .0 .ends o))
 
 returns-3 : tie.Need-returns-3
 returns-3 c =

@@ -30,8 +30,8 @@ cross-once-requires c κs =
     let g = Crossings k .clip-voronoi-edge in
     let s = Entry k in
     let a = s .args in
-    let h = room-once (a .env) (a .count) (a .cell) (now (a .vertices)) (now (a .indexes)) (clip k) _ _ _ (s .pre .0) (g .ensures) (g .kept .1 .0) (m .clip .given .1) in
-    (h .fits, (h .room, h .first, λ e. omega (arith, h .more, s .pre .1 .2 e), h .corners, h .small))
+    let h = room-once (a .env) (a .count) (a .cell) (now (a .vertices)) (now (a .indexes)) (a .p) (a .q) _ _ _ (s .pre .0) (g .ensures) (g .kept .1 .0) (m .clip .given .1) in
+    (h .fits, ((h .room, h .first, λ e. omega (arith, h .more, s .pre .1 .2 e), h .corners, h .small), (λ e. h .last (s .pre .1 .2 e) (s .pre .1 .3 e), h .sided)))
 
 cross-at-requires : tie.Need-cross-at-requires
 cross-at-requires c κs =
@@ -40,8 +40,9 @@ cross-at-requires c κs =
     let g = Crossings k .clip-voronoi-edge in
     let s = Entry k in
     let a = s .args in
-    let h = room-twice (a .env) (a .count) (a .cell) (now (a .vertices)) (now (a .indexes)) (clip k) _ _ _ (s .pre .0) (g .ensures) (g .kept .1 .0) (m .clip2 .given .1) in
-    (h .0 .fits, (h .0 .room, h .0 .first, h .1, λ e. omega (arith, h .0 .more, s .pre .1 .2 e), h .0 .corners, h .0 .small))
+    let h = room-twice (a .env) (a .count) (a .cell) (now (a .vertices)) (now (a .indexes)) (a .p) (a .q) _ _ _ (s .pre .0) (g .ensures) (g .kept .1 .0) (m .clip2 .given .1) in
+    let o = h .0 in
+    (o .fits, ((o .room, o .first, h .1, λ e. omega (arith, o .more, s .pre .1 .2 e), o .corners, o .small), (λ e. o .last (s .pre .1 .2 e) (s .pre .1 .3 e), o .sided, h .2)))
 
 returns : tie.Need-returns
 unfolding cross
@@ -60,7 +61,7 @@ returns-2 c =
     let s = Entry k in
     let a = s .args in
     by-once (a .env) (a .count) (a .cell) (now (a .vertices)) (now (a .indexes)) _ (clip k) _ _ _ (s .pre .0 .fits) (does k) (Crossings k .clip-voronoi-edge .ensures) _ (m .clip .given .1)
-    (λ x e w. rw (e, w) at (c .before .before .cross-once .ensures))
+    (λ x e w. (c .before .before .cross-once .ensures, omega arith))
 
 returns-3 : tie.Need-returns-3
 unfolding cross

@@ -31,8 +31,8 @@ enter-at-requires c κs =
     let g = Crossings k .clip-voronoi-edge in
     let s = Entry k in
     let a = s .args in
-    let h = room-once (a .env) (a .count) (a .cell) (now (a .vertices)) (now (a .indexes)) (clip k) _ _ _ (s .pre .0) (g .ensures) (g .kept .1 .0) (m .clip .given .1) in
-    (h .fits, (h .room, h .first, omega (arith, h .more, s .pre .1 .2), h .corners, h .small))
+    let h = room-once (a .env) (a .count) (a .cell) (now (a .vertices)) (now (a .indexes)) (a .q) (a .p) _ _ _ (s .pre .0) (g .ensures) (g .kept .1 .0) (m .clip .given .1) in
+    (h .fits, ((h .room, h .first, omega (arith, h .more, s .pre .1 .2), h .corners, h .small), (h .last (s .pre .1 .2) (s .pre .1 .3), h .sided)))
 
 enter-at-requires-2 : tie.Need-enter-at-requires-2
 enter-at-requires-2 c κs =
@@ -41,8 +41,8 @@ enter-at-requires-2 c κs =
     let g = Crossings k .clip-voronoi-edge in
     let s = Entry k in
     let a = s .args in
-    let h = room-twice (a .env) (a .count) (a .cell) (now (a .vertices)) (now (a .indexes)) (clip k) _ _ _ (s .pre .0) (g .ensures) (g .kept .1 .0) (m .clip2 .given .1) in
-    (h .0 .fits, (h .0 .room, h .0 .first, omega (arith, h .0 .more, s .pre .1 .2), h .0 .corners, h .0 .small))
+    let h = room-twice (a .env) (a .count) (a .cell) (now (a .vertices)) (now (a .indexes)) (a .q) (a .p) _ _ _ (s .pre .0) (g .ensures) (g .kept .1 .0) (m .clip2 .given .1) in
+    (h .0 .fits, ((h .0 .room, h .0 .first, omega (arith, h .0 .more, s .pre .1 .2), h .0 .corners, h .0 .small), (h .0 .last (s .pre .1 .2) (s .pre .1 .3), h .0 .sided)))
 
 returns : tie.Need-returns
 unfolding enter

@@ -1,4 +1,4 @@
--- `clipping::step::enter_at` meets its contract: the edge from the cell's last entry to the crossing, outcome by outcome.
+-- `clipping::step::enter_at` meets its contract: the edge from the cell's last entry to the crossing, and the cell is shut.
 use mathlib.Core.Path.{refl}
 use denote.Ref.{now}
 use borrow.Author.Tests.{eq-eqb}
@@ -12,9 +12,9 @@ use Rattle.clipping.proofs.step.enter_at.Tie as tie
 returns : tie.Need-returns
 unfolding enterAt
 returns c =
-    let at-start = c .before .before .before .before .before .before .before in
+    let at-start = c .before .before .before .before .before .before in
     let a = at-start .args in
-    let g = c .before .before .before .insert-edge in
+    let g = c .before .before .insert-edge in
     let vs = points (a .count) (now (a .vertices)) in
     λ ts. alters-enter (a .env .site) (a .count) vs (a .cell) (now (a .indexes)) (g .result) _ ts
     (insertEdge (a .env .bounds) (a .env .centers) (a .env .site) vs (a .cell .owners) (a .cell .last) (a .cell .last) (a .first))

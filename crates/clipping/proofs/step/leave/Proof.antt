@@ -31,7 +31,7 @@ leave-at-requires c κs =
     let g = Crossings k .clip-voronoi-edge in
     let s = Entry k in
     let a = s .args in
-    let h = room-once (a .env) (a .count) (a .cell) (now (a .vertices)) (now (a .indexes)) (clip k) _ _ _ (s .pre .0) (g .ensures) (g .kept .1 .0) (m .clip .given .1) in
+    let h = room-once (a .env) (a .count) (a .cell) (now (a .vertices)) (now (a .indexes)) (a .p) (a .q) _ _ _ (s .pre .0) (g .ensures) (g .kept .1 .0) (m .clip .given .1) in
     (h .fits, h .first)
 
 leave-at-requires-2 : tie.Need-leave-at-requires-2
@@ -41,7 +41,7 @@ leave-at-requires-2 c κs =
     let g = Crossings k .clip-voronoi-edge in
     let s = Entry k in
     let a = s .args in
-    let h = room-twice (a .env) (a .count) (a .cell) (now (a .vertices)) (now (a .indexes)) (clip k) _ _ _ (s .pre .0) (g .ensures) (g .kept .1 .0) (m .clip2 .given .1) in
+    let h = room-twice (a .env) (a .count) (a .cell) (now (a .vertices)) (now (a .indexes)) (a .p) (a .q) _ _ _ (s .pre .0) (g .ensures) (g .kept .1 .0) (m .clip2 .given .1) in
     (h .0 .fits, h .0 .first)
 
 returns : tie.Need-returns

@@ -9,8 +9,10 @@ use Rattle.clipping.proofs.step.link.Tie as tie
 
 insert-edge-requires : tie.Need-insert-edge-requires
 insert-edge-requires c κs =
-    let h = c .before .before .before .before .pre .1 .2 (c .before .if1 .taken) in
-    (record { four = omega arith; real = omega arith; room = omega arith }, omega arith)
+    let s = c .before .before .before .before in
+    let o = c .before .if1 .taken in
+    let h = s .pre .1 .0 .2 o in
+    (record { four = omega arith; real = omega arith; room = omega arith }, (omega arith, (s .pre .1 .1 .0 o, s .pre .1 .1 .1)))
 
 returns : tie.Need-returns
 returns c =
