@@ -116,6 +116,27 @@ static void why(argument *a)
 static void mend(argument *a) { N(0) = voronoi_mend(MESH(1), U(5), U(6), U(7), U(8), PU(9), PU(10), PU(11)); }
 #endif
 
+#ifdef HAS_edges
+static void box_by_edges(argument *a) { N(0) = voronoi_box_by_edges(BOX(1), PF(5), PF(6), PF(7), PF(8)); }
+static void corners_by_edges(argument *a) { N(0) = voronoi_corners_by_edges(BOX(1), F(5)); }
+static void is_inside_by_edges(argument *a) { N(0) = voronoi_is_inside_by_edges(BOX(1), X(5), X(6), PU(7)); }
+static void is_exclusively_inside_by_edges(argument *a) { N(0) = voronoi_is_exclusively_inside_by_edges(BOX(1), X(5), X(6), PU(7)); }
+static void which_edge_by_edges(argument *a) { N(0) = voronoi_which_edge_by_edges(BOX(1), X(5), X(6), PU(7)); }
+static void intersect_line_by_edges(argument *a)
+{
+    N(0) = voronoi_intersect_line_by_edges(BOX(1), X(5), X(6), X(7), X(8), PU(9), PF(10), PF(11), PF(12), PF(13));
+}
+static void project_ray_by_edges(argument *a)
+{
+    N(0) = voronoi_project_ray_by_edges(BOX(1), X(5), X(6), X(7), X(8), PU(9), PF(10), PF(11), PF(12), PF(13));
+}
+static void build_by_edges(argument *a) { N(0) = voronoi_build_by_edges(BOX(1), MESH(5), SLICES(9)); }
+static void why_by_edges(argument *a)
+{
+    N(0) = voronoi_why_by_edges(BOX(1), MESH(5), N(9), N(10), N(11), SLICES(12), PU(17), PU(18), PU(19), PU(20));
+}
+#endif
+
 static const struct {
     const char *name;
     void (*call)(argument *);
@@ -147,6 +168,12 @@ static const struct {
 #endif
 #ifdef HAS_mending
     {"mend", mend},
+#endif
+#ifdef HAS_edges
+    {"box_by_edges", box_by_edges}, {"corners_by_edges", corners_by_edges}, {"is_inside_by_edges", is_inside_by_edges},
+    {"is_exclusively_inside_by_edges", is_exclusively_inside_by_edges}, {"which_edge_by_edges", which_edge_by_edges},
+    {"intersect_line_by_edges", intersect_line_by_edges}, {"project_ray_by_edges", project_ray_by_edges},
+    {"build_by_edges", build_by_edges}, {"why_by_edges", why_by_edges},
 #endif
 };
 

@@ -41,9 +41,9 @@ extern "C" {
 
 /* ---- the version (the file VERSION; CHANGELOG.md says what changed) */
 
-#define VORONOI_VERSION "0.6.0"
+#define VORONOI_VERSION "0.7.0"
 #define VORONOI_VERSION_MAJOR 0
-#define VORONOI_VERSION_MINOR 6
+#define VORONOI_VERSION_MINOR 7
 #define VORONOI_VERSION_PATCH 0
 
 /* ---- numbers */
@@ -110,7 +110,7 @@ static inline const char *voronoi_words(uint32_t number)
     case VORONOI_ACCEPTED: return "accepted";
     case VORONOI_REFUSED_COUNT: return "the sites, triangles or hull sites are too few or too many, or a list's length does not fit";
     case VORONOI_REFUSED_ROOM: return "a lent slice is shorter than its room";
-    case VORONOI_REFUSED_BOX: return "the box has a size that is not above 0, or a number that is too large or not finite";
+    case VORONOI_REFUSED_BOX: return "the box has a size that is not above 0, edges out of order, or a number that is too large or not finite";
     case VORONOI_REFUSED_SITE: return "there is no site of that number";
     case VORONOI_REFUSED_DESTINATION: return "the destination has a coordinate above 2^100 or not finite";
     case VORONOI_REFUSED_COORDINATE: return "a point has a coordinate above 2^100 or not finite";
@@ -182,6 +182,24 @@ uint32_t voronoi_which_edge(double cx, double cy, double width, double height, d
 uint32_t voronoi_intersect_line(double cx, double cy, double width, double height, double px, double py, double qx, double qy,
     uint32_t *count, double *x, double *y, double *u, double *v);
 uint32_t voronoi_project_ray(double cx, double cy, double width, double height, double px, double py, double dx, double dy,
+    uint32_t *count, double *x, double *y, double *u, double *v);
+
+/* ---- a box by its four edges
+ * Each call that takes a box can be asked with left, top, right and bottom in place of the centre and the size: its name ends with _by_edges,
+ * and all else is as it was. (voronoi_build_by_edges and voronoi_why_by_edges stand with the builds and with why.) The box then has these
+ * edges bit for bit: two boxes that share an edge meet there, where by centre and size an edge can move by a last bit. 3: each edge is
+ * finite and at most 2^101 in magnitude, left < right and top < bottom (-0 is not below +0); nothing is asked of the centre. */
+
+/* The box's centre, left + (right - left) / 2 and top + (bottom - top) / 2, each operation rounded, then its width and height. 3. */
+uint32_t voronoi_box_by_edges(double left, double top, double right, double bottom, double *cx, double *cy, double *across, double *down);
+
+uint32_t voronoi_corners_by_edges(double left, double top, double right, double bottom, double *out, size_t length);
+uint32_t voronoi_is_inside_by_edges(double left, double top, double right, double bottom, double x, double y, uint32_t *inside);
+uint32_t voronoi_is_exclusively_inside_by_edges(double left, double top, double right, double bottom, double x, double y, uint32_t *inside);
+uint32_t voronoi_which_edge_by_edges(double left, double top, double right, double bottom, double x, double y, uint32_t *side);
+uint32_t voronoi_intersect_line_by_edges(double left, double top, double right, double bottom, double px, double py, double qx, double qy,
+    uint32_t *count, double *x, double *y, double *u, double *v);
+uint32_t voronoi_project_ray_by_edges(double left, double top, double right, double bottom, double px, double py, double dx, double dy,
     uint32_t *count, double *x, double *y, double *u, double *v);
 
 /* ---- the check of a mesh
@@ -264,6 +282,13 @@ uint32_t voronoi_build(double cx, double cy, double width, double height, const 
                        uint32_t *indexes, size_t indexes_len, uint32_t *offsets, size_t offsets_len, uint32_t *counts,
                        size_t counts_len);
 
+/* The same in the box of these edges. */
+uint32_t voronoi_build_by_edges(double left, double top, double right, double bottom, const double *sites, size_t sites_len,
+                                const uint32_t *triangles, size_t triangles_len, const uint32_t *halfedges, size_t halfedges_len,
+                                const uint32_t *hull, size_t hull_len, uint32_t *work, size_t work_len, double *vertices,
+                                size_t vertices_len, uint32_t *indexes, size_t indexes_len, uint32_t *offsets, size_t offsets_len,
+                                uint32_t *counts, size_t counts_len);
+
 /* The cells not clipped: each the walk from the lowest half-edge that ends at its site, reversed, by its triangles' numbers. Tries 1, 2,
  * 6, 7 to 10, 11. The vertices are the circumcenters; the owners are VORONOI_EMPTY, no corner is lost. */
 uint32_t voronoi_build_unclipped(const double *sites, size_t sites_len, const uint32_t *triangles, size_t triangles_len,
@@ -323,6 +348,14 @@ uint32_t voronoi_why(double cx, double cy, double width, double height, const do
                      size_t work_len, double *vertices, size_t vertices_len, uint32_t *indexes, size_t indexes_len, uint32_t *offsets,
                      size_t offsets_len, uint32_t *counts, size_t counts_len, uint32_t *kind, uint32_t *place, uint32_t *from,
                      uint32_t *to);
+
+/* The same in the box of these edges. */
+uint32_t voronoi_why_by_edges(double left, double top, double right, double bottom, const double *sites, size_t sites_len,
+                              const uint32_t *triangles, size_t triangles_len, const uint32_t *halfedges, size_t halfedges_len,
+                              const uint32_t *hull, size_t hull_len, uint32_t asked, uint32_t first, uint32_t second, uint32_t *work,
+                              size_t work_len, double *vertices, size_t vertices_len, uint32_t *indexes, size_t indexes_len,
+                              uint32_t *offsets, size_t offsets_len, uint32_t *counts, size_t counts_len, uint32_t *kind,
+                              uint32_t *place, uint32_t *from, uint32_t *to);
 
 /* ---- mending
  * Sites and triangles are kept; pairs and hull are worked out afresh, and what has changed is listed. `halfedges` and `hull` are the old

@@ -1,6 +1,7 @@
 //! One case put to the Rust, to the second reading of the rules and to the proved library: any difference is told in words.
 
 use crate::cases::Case;
+use crate::edges;
 use crate::expect::{self, Beside, Facts, Slices};
 use crate::library::{Call, Difference, Library};
 use crate::maps;
@@ -75,6 +76,7 @@ fn ask(index: u64, c: &Case, calls: &mut Vec<Call>, tally: &mut Tally) -> Told {
     build(c, &facts, Some(&c.area), clipped.as_ref(), calls, tally)?;
     build(c, &facts, None, whole.as_ref(), calls, tally)?;
     why::ask(index, c, &facts, clipped.as_ref(), calls, tally)?;
+    edges::ask(index, c, &facts, clipped.as_ref(), calls, tally)?;
 
     let built = [&clipped, &whole].into_iter().find_map(|o| o.as_ref()?.as_ref().ok());
     let cells = match built {

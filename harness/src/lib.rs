@@ -3,6 +3,7 @@
 pub mod bench;
 pub mod cases;
 pub mod compare;
+pub mod edges;
 pub mod expect;
 pub mod form;
 pub mod generate;

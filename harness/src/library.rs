@@ -3,6 +3,7 @@
 
 use crate::expect::Slices;
 use crate::mesh::{Area, Mesh};
+use crate::reference::Edges;
 use std::io::{BufRead, BufReader, Read, Write};
 use std::process::{Child, ChildStdin, ChildStdout, Command, Stdio};
 
@@ -75,6 +76,9 @@ impl Call {
     }
     pub fn area(self, a: &Area) -> Call {
         self.float(a.x).float(a.y).float(a.width).float(a.height)
+    }
+    pub fn edges(self, e: &Edges) -> Call {
+        self.float(e.left).float(e.top).float(e.right).float(e.bottom)
     }
     /// A whole mesh, in the order of every call's arguments.
     pub fn mesh(self, m: &Mesh) -> Call {

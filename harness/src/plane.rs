@@ -1,5 +1,6 @@
 //! The plane functions: the Rust's own, the rules (docs/RULES.md) read a second time, and the proved library, on the same floats.
 
+use crate::edges;
 use crate::generate::floats::{self, step};
 use crate::generate::rng::Rng;
 use crate::library::{Call, Difference, Library};
@@ -34,7 +35,7 @@ fn same<T: PartialEq + std::fmt::Debug>(what: &str, given: impl Fn() -> String, 
 }
 
 /// Coordinates of the crossing points, nearest first.
-fn list(c: &Crossing) -> Vec<[u64; 2]> {
+pub fn list(c: &Crossing) -> Vec<[u64; 2]> {
     match *c {
         Crossing::None => vec![],
         Crossing::One(p) => vec![bits(p)],
@@ -104,12 +105,12 @@ fn place(r: &mut Rng, area: &Area) -> Pt {
     pt(one(e.left, e.right), one(e.top, e.bottom))
 }
 
-fn sound(p: Pt) -> bool {
+pub fn sound(p: Pt) -> bool {
     reference::ordinary(p.x) && reference::ordinary(p.y)
 }
 
 impl Seen {
-    fn answer(&mut self, call: &'static str, number: u32) -> u32 {
+    pub fn answer(&mut self, call: &'static str, number: u32) -> u32 {
         self.answers.entry(call).or_default()[number as usize] += 1;
         number
     }
@@ -176,7 +177,9 @@ fn one(r: &mut Rng, calls: &mut Vec<Call>, seen: &mut Seen) -> Told {
     }
     let call = Call::new("circumcenter").gives(number).float(a.x).float(a.y).float(b.x).float(b.y).float(c.x).float(c.y);
     calls.push(call.gives_float(center.x).gives_float(center.y));
-    boxed(&given, a, b, words, calls, seen)
+    boxed(&given, a, b, words, calls, seen)?;
+    edges::plane(r, &given, a, b, calls, seen);
+    Ok(())
 }
 
 fn boxed(given: &Area, a: Pt, b: Pt, words: impl Fn() -> String + Copy, calls: &mut Vec<Call>, seen: &mut Seen) -> Told {
@@ -291,6 +294,10 @@ const ANSWERS: &[(&str, &[u32])] = &[
     ("corners", &[0, 2, 3]),
     ("inside", &[0, 3, 6]),
     ("crossings", &[0, 3, 6]),
+    ("box_by_edges", &[0, 3]),
+    ("corners_by_edges", &[0, 2, 3]),
+    ("inside_by_edges", &[0, 3, 6]),
+    ("crossings_by_edges", &[0, 3, 6]),
 ];
 
 /// Prints what came up and gives what never did.
@@ -300,7 +307,7 @@ pub fn report(seen: &Seen) -> Vec<String> {
     for (call, numbers) in ANSWERS {
         let row = seen.answers.get(call).copied().unwrap_or_default();
         let words: Vec<String> = numbers.iter().map(|&n| format!("{n}: {}", row[n as usize])).collect();
-        println!("  {call:14} {}", words.join(", "));
+        println!("  {call:18} {}", words.join(", "));
         holes.extend(numbers.iter().filter(|&&n| row[n as usize] == 0).map(|n| format!("{call} {n}")));
     }
     println!("  tolerance      no {}, yes {}", seen.near[0], seen.near[1]);

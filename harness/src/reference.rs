@@ -39,6 +39,17 @@ pub fn box_sound(a: &Area) -> bool {
     ordinary(a.x) && ordinary(a.y) && size(a.width) && size(a.height) && e.left < e.right && e.top < e.bottom
 }
 
+/// Rule 3 for a box that is given by its edges.
+pub fn edges_sound(e: &Edges) -> bool {
+    let fits = |x: f64| x.is_finite() && x.abs() <= 2.0 * LIMIT;
+    fits(e.left) && fits(e.top) && fits(e.right) && fits(e.bottom) && e.left < e.right && e.top < e.bottom
+}
+
+/// The centre of such a box.
+pub fn center(e: &Edges) -> Pt {
+    pt(e.left + (e.right - e.left) / 2.0, e.top + (e.bottom - e.top) / 2.0)
+}
+
 /// Rule 1.
 pub fn counts_sound(m: &Mesh) -> bool {
     let (n, t, h) = (m.sites.len() / 2, m.triangles.len() / 3, m.hull.len());
@@ -534,12 +545,17 @@ struct Builder<'a> {
 
 /// Builds on a mesh that passed 1 to 10, or gives 11 to 14 and where.
 pub fn build(m: &Mesh, clip: Option<&Area>, counts: &mut Counts) -> Outcome {
+    build_within(m, clip.map(edges), counts)
+}
+
+/// The same by the edges of the box.
+pub fn build_within(m: &Mesh, clip: Option<Edges>, counts: &mut Counts) -> Outcome {
     let vertices = circumcenters(m);
     if let Some(t) = vertices.iter().position(|&c| !sound_center(c)) {
         return Err(Fault::at(11, t));
     }
     match clip {
-        Some(a) => clipped(m, edges(a), vertices, counts),
+        Some(e) => clipped(m, e, vertices, counts),
         None => Ok(unclipped(m, vertices, counts)),
     }
 }

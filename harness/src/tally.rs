@@ -26,6 +26,8 @@ pub const CALLS: &[Call] = &[
     Call { name: "build", numbers: &[0, 1, 2, 3, 6, 7, 8, 9, 10, 11, 12, 13, 14] },
     Call { name: "build_unclipped", numbers: &[0, 1, 2, 6, 7, 8, 9, 10, 11] },
     Call { name: "why", numbers: &[0, 1, 2, 3, 4, 6, 7, 8, 9, 10, 11, 12, 13, 14] },
+    Call { name: "build_by_edges", numbers: &[0, 1, 2, 3, 6, 7, 8, 9, 10, 11, 12, 13, 14] },
+    Call { name: "why_by_edges", numbers: &[0, 1, 2, 3, 4, 6, 7, 8, 9, 10, 11, 12, 13, 14] },
 ];
 
 const NUMBERS: usize = 20;

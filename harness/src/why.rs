@@ -118,7 +118,7 @@ impl Question {
             _ => &[0, 1],
         }
     }
-    fn out_of_range(&self, m: &Mesh) -> bool {
+    pub fn out_of_range(&self, m: &Mesh) -> bool {
         self.sites().iter().any(|&i| [self.first, self.second][i] as usize >= m.count())
     }
 }
@@ -191,8 +191,8 @@ fn fan(m: &Mesh) -> Option<u32> {
     (0..m.triangles.len()).filter(|&e| !reached[e]).map(ends).min()
 }
 
-/// The one reason, in the order that the request gives; `outcome` is the build's where the mesh and the box are sound.
-pub fn reason(m: &Mesh, area: Option<&Area>, room: bool, q: &Question, outcome: Option<&Outcome>) -> Reason {
+/// The one reason, in the order that the request gives; `boxed` says that a box, where there is one, is sound, `outcome` is the build's where the mesh and the box are sound.
+pub fn reason(m: &Mesh, boxed: bool, room: bool, q: &Question, outcome: Option<&Outcome>) -> Reason {
     let refused = |number, what| Reason { number, what };
     let alone = |number| refused(number, What::Alone);
     if !reference::counts_sound(m) {
@@ -201,7 +201,7 @@ pub fn reason(m: &Mesh, area: Option<&Area>, room: bool, q: &Question, outcome: 
     if !room {
         return alone(2);
     }
-    if area.is_some_and(|a| !reference::box_sound(a)) {
+    if !boxed {
         return alone(3);
     }
     if q.out_of_range(m) {
@@ -282,7 +282,7 @@ fn nearly(m: &Mesh, b: &reference::Build, given: (u32, u32)) -> Vec<(u32, u32)> 
 }
 
 /// A question of any kind; where the mesh builds often one whose answer is not "no fault".
-fn question(r: &mut Rng, m: &Mesh, outcome: Option<&Outcome>) -> Question {
+pub fn question(r: &mut Rng, m: &Mesh, outcome: Option<&Outcome>) -> Question {
     let n = m.count().max(1);
     let any = |r: &mut Rng| r.below(n) as u32;
     let none = |r: &mut Rng| r.pick(&[n as u32, n as u32 + 1, EMPTY, EMPTY - 1]);
@@ -323,9 +323,9 @@ pub fn told(m: &Mesh, clip: Option<&Area>, q: &Question) -> Result<Reason, Strin
     if !form::fits(m) {
         return Ok(Reason { number: 17, what: What::Alone });
     }
-    let sound = Facts::of(m).accepted() && clip.map_or(true, reference::box_sound);
-    let outcome = if sound { Some(build_both(m, &rust::Lent::new(m), clip, &mut Tally::new())?) } else { None };
-    Ok(reason(m, clip, true, q, outcome.as_ref()))
+    let boxed = clip.map_or(true, reference::box_sound);
+    let outcome = if boxed && Facts::of(m).accepted() { Some(build_both(m, &rust::Lent::new(m), clip, &mut Tally::new())?) } else { None };
+    Ok(reason(m, boxed, true, q, outcome.as_ref()))
 }
 
 /// The mesh of a case with several offenders of one rule, for one case in four.
@@ -357,7 +357,7 @@ fn put(
     let m = &c.mesh;
     let q = question(r, m, outcome);
     let room = c.lengths.suffice(m);
-    let reason = reason(m, Some(&c.area), room, &q, outcome);
+    let reason = reason(m, reference::box_sound(&c.area), room, &q, outcome);
 
     // The number by the other reading, which knows no places; and what the words of the request say of an empty cell.
     let beside = Beside { room, area: Some(&c.area), site: None, to: None };

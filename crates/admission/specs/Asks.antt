@@ -1,15 +1,13 @@
 -- What a call asks of its own arguments, as rules with their answers: 4 on a site, then 5 on a destination; 3 on a box; 16 on lent cells.
 use mathlib.Core.Path.{_≡_}
-use mathlib.Core.Bool.{true}
+use mathlib.Core.Bool.{Bool, true}
 use mathlib.Core.List.{List, [], _∷_}
 use Prim.Native.Nat.{ℕ, _+_, _<_}
-use lib.Ieee.{Float}
 use lib.ListN.{length}
 use Rattle.laws.specs.Refusals.{Rule, once, Finds}
 use Rattle.numbers.specs.Numbers.{refusedBox, refusedSite, refusedDestination, refusedTriangle, refusedOffsets}
 use Rattle.utils.specs.Rules.{okSite}
 use Rattle.utils.specs.declared.Point.{Point}
-use Rattle.bounding_box.specs.Rules.{okBox}
 use Rattle.shared.specs.Cells.{Cells}
 
 -- site s of n
@@ -20,9 +18,9 @@ siteRules n s = once refusedSite (s < n) ∷ []
 abbrev pub pathRules : ℕ → ℕ → Point → List (Rule ℕ)
 pathRules n s p = once refusedSite (s < n) ∷ once refusedDestination (okSite p ≡ true) ∷ []
 
--- a box of center c, width w and height h
-abbrev pub boxRules : Point → Float → Float → List (Rule ℕ)
-boxRules c w h = once refusedBox (okBox c w h ≡ true) ∷ []
+-- a given box, sound or not
+abbrev pub boxRules : Bool → List (Rule ℕ)
+boxRules sound = once refusedBox (sound ≡ true) ∷ []
 
 -- the number that the rules `own` give, which is below those on the mesh
 pub record Asked (own : List (Rule ℕ)) (r : ℕ) : Type 0 where

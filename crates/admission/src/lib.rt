@@ -1,5 +1,4 @@
 // The rules up to 10 that a call tries on what it is lent: 1 and 2 on counts and room, 3 to 5 on its own arguments, 6 on coordinates, 7 to 10 on the mesh; and 16 on cells.
-use bounding_box::box_ok;
 use layout::outputs::clear_all;
 use layout::outputs::rooms_ok;
 use utils::Point;
@@ -170,11 +169,11 @@ fn room_for(
     rooms_ok(entries / 3, hull, sites, numbers, indexes, offsets)
 }
 
-// Rule 3.
-pub fn ask_box(center: Point, width: f64, height: f64) -> u32
-    ensures { λ r. ⌜ Asked (boxRules center width height) r ⌝ }
+// Rule 3, by whether the given box keeps it.
+pub fn ask_box(sound: bool) -> u32
+    ensures { λ r. ⌜ Asked (boxRules sound) r ⌝ }
 {
-    if box_ok(center, width, height) {
+    if sound {
         return 0;
     }
     numbers::REFUSED_BOX

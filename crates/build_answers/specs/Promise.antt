@@ -3,13 +3,11 @@ use mathlib.Core.Path.{_≡_}
 use mathlib.Core.Bool.{Bool, true}
 use mathlib.Core.List.{List, [], _++_}
 use Prim.Native.Nat.{ℕ}
-use lib.Ieee.{Float}
 use lib.ListN.{length}
 use Rattle.laws.specs.Refusals.{Rule, Finds}
 use Rattle.laws.specs.Binary64.{zero}
 use Rattle.numbers.specs.Numbers.{EMPTY}
-use Rattle.utils.specs.declared.Point.{Point}
-use Rattle.bounding_box.specs.Box.{madeOf}
+use Rattle.given_box.specs.declared.Given.{Given}
 use Rattle.mesh.specs.Rules.{callRules}
 use Rattle.mesh.specs.Accepted.{Mesh, tableOf}
 use Rattle.check_mesh.specs.AtExit.{atExit}
@@ -40,9 +38,9 @@ module _ (m : Mesh) where
   abbrev pub BuildAnswers : List (Rule ℕ) → Outcome Fault Built → Slices → Slices → ℕ → Type 0
   BuildAnswers own o old = BuildAnswer (Builds m (roomOf m old) own o) (tableOf m) o old
 
-  -- clipped to the box of this center, width and height
-  abbrev pub ClippedBuild : Point → Float → Float → Slices → Slices → ℕ → Type 0
-  ClippedBuild c w h = BuildAnswers (boxRules c w h) (build m (madeOf c w h))
+  -- clipped to the given box
+  abbrev pub ClippedBuild : Given → Slices → Slices → ℕ → Type 0
+  ClippedBuild g = BuildAnswers (boxRules (g .sound)) (build m (g .bounds))
 
   abbrev pub UnclippedBuild : Slices → Slices → ℕ → Type 0
   UnclippedBuild = BuildAnswers [] (unclipped (m .sites) (m .triangles) (m .halfedges))

@@ -4,12 +4,10 @@ use mathlib.Core.Logic.{⊎-elim}
 use mathlib.Core.List.{List}
 use Prim.Native.Nat.{ℕ}
 use native.Mathlib.Omega.{arith}
-use lib.Ieee.{Float}
 use Rattle.laws.specs.Refusals.{Rule}
-use Rattle.utils.specs.declared.Point.{Point}
-use Rattle.bounding_box.specs.Box.{madeOf}
-use Rattle.bounding_box.specs.Finite.{box-bounded}
 use Rattle.bounding_box.specs.declared.BoundingBox.{BoundingBox}
+use Rattle.given_box.specs.Finite.{Fits}
+use Rattle.given_box.specs.declared.Given.{Given}
 use Rattle.mesh.specs.Accepted.{Mesh}
 use Rattle.admission.specs.Admits.{Admitted}
 use Rattle.admission.specs.Slices.{Slices, roomOf}
@@ -60,9 +58,8 @@ pub record SoundBuild (m : Mesh) (b : BoundingBox) : Type 0 where
   pub wraps : Wrapping m b (outcome .value)
   pub fits : Room (m .triangles) (m .hull) b (outcome .value)
 
-pub clipped-sound : {m : Mesh} (c : Point) (w h : Float) {old new : Slices} {r : ℕ}
-    → ClippedBuild m c w h old new r → r ≡ 0 → SoundBuild m (madeOf c w h)
-clipped-sound {m} c w h a z =
-    let s = zero-succeeds (box-answers c w h) (build-late m (madeOf c w h)) a z in
-    let box = box-bounded c w h (s .admission .fit .0) in
+pub clipped-sound : {m : Mesh} (g : Given) → Fits g → {old new : Slices} {r : ℕ} → ClippedBuild m g old new r → r ≡ 0 → SoundBuild m (g .bounds)
+clipped-sound {m} g fits a z =
+    let s = zero-succeeds (box-answers (g .sound)) (build-late m (g .bounds)) a z in
+    let box = fits .bounded (s .admission .fit .0) in
     record { outcome = s .outcome; wraps = wrapping (s .admission .accepted) box (s .outcome .is); fits = room (s .admission .accepted) box (s .outcome .is) }

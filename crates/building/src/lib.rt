@@ -3,16 +3,15 @@ use admission::admit_build;
 use build_counts::finish_clipped;
 use build_counts::finish_unclipped;
 use cell_builder::build_cells;
-use utils::Point;
+use given_box::Given;
 ghost use Rattle.mesh.specs.Accepted.{mesh};
 ghost use Rattle.admission.specs.Slices.{slices};
+ghost use Rattle.given_box.specs.Finite.{Fits};
 ghost use Rattle.build_answers.specs.Promise.{ClippedBuild, UnclippedBuild};
 
-// The clipped build in the box of this center, width and height.
+// The clipped build in the given box.
 pub fn build(
-    center: Point,
-    width: f64,
-    height: f64,
+    given: Given,
     sites: &[f64],
     triangles: &[u32],
     halfedges: &[u32],
@@ -23,11 +22,12 @@ pub fn build(
     offsets: &mut [u32],
     counts: &mut [u32],
 ) -> u32
-    ensures { λ r. ⌜ ClippedBuild (mesh (now (sites .entry)) (now (triangles .entry)) (now (halfedges .entry)) (now (hull .entry))) center width height
+    requires { ⌜ Fits given ⌝ }
+    ensures { λ r. ⌜ ClippedBuild (mesh (now (sites .entry)) (now (triangles .entry)) (now (halfedges .entry)) (now (hull .entry))) given
         (slices (now (work .entry)) (now (vertices .entry)) (now (indexes .entry)) (now (offsets .entry)) (now (counts .entry)))
         (slices (now (work .exit)) (now (vertices .exit)) (now (indexes .exit)) (now (offsets .exit)) (now (counts .exit))) r ⌝ }
 {
-    let asked = admission::ask_box(center, width, height);
+    let asked = admission::ask_box(given.sound);
     let r = admit_build(
         sites,
         triangles,
@@ -43,7 +43,6 @@ pub fn build(
     if r != 0 {
         return r;
     }
-    let b = bounding_box::new(center, width, height);
     let count = sites.len() / 2;
     let a = build_cells(
         sites,
@@ -51,7 +50,7 @@ pub fn build(
         halfedges,
         hull,
         &work[..count],
-        b,
+        given.bounds,
         vertices,
         indexes,
         offsets,

@@ -11,6 +11,7 @@ use Rattle.utils.specs.Plane.{at}
 use Rattle.utils.specs.Rules.{okCoord, okSite}
 use Rattle.bounding_box.specs.Box.{madeOf}
 use Rattle.bounding_box.specs.Rules.{okBox}
+use Rattle.given_box.specs.Given.{bySize}
 use Rattle.mesh.specs.Accepted.{mesh, Accepted}
 use Rattle.mesh.specs.Square as lists
 use Rattle.admission.specs.laws.Admits.{admits}
@@ -20,7 +21,7 @@ use Rattle.definition.specs.Build.{Built}
 use Rattle.admission.specs.laws.Asks.{box-answers}
 use Rattle.admission.specs.Slices.{Slices, roomOf}
 use Rattle.build_answers.specs.Success.{Value, succeeds-zero}
-use Rattle.voronoi.specs.Builds.{Build}
+use Rattle.build_answers.specs.Promise.{ClippedBuild}
 use Rattle.form.specs.Form.{MeshFits, numbersOf, float, siteFloats}
 use Rattle.form.specs.Square.{square, squareBytes, two-is}
 use Rattle.listing.specs.Text.{ascii}
@@ -73,6 +74,6 @@ value : (o : Outcome Fault Built) (t : List ℕ) → texted 4 2 o ≡ ok t → V
 value (ok b) t e = record { value = b; is = refl }
 value (refused f) t e = let q : _≡_ {A = ℕ} 0 1 = cc in absurd (omega arith)
 
-pub square-answers : {old new : Slices} {r : ℕ} → Build (meshOf square) (at (float 0) (float 0)) (float two-is) (float two-is) old new r
+pub square-answers : {old new : Slices} {r : ℕ} → ClippedBuild (meshOf square) (bySize (at (float 0) (float 0)) (float two-is) (float two-is)) old new r
     → roomOf (meshOf square) old ≡ true → r ≡ 0
-square-answers a room = succeeds-zero (box-answers _ _ _) (record { admission = record { accepted = accepted; roomed = room; fit = (box-fits, tt) }; outcome = value _ text (rows .2) }) a
+square-answers a room = succeeds-zero (box-answers _) (record { admission = record { accepted = accepted; roomed = room; fit = (box-fits, tt) }; outcome = value _ text (rows .2) }) a

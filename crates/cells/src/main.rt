@@ -1,17 +1,15 @@
 // Reads a mesh's form on standard input and prints the listing of its cells, or `refused N`.
 use form_step::Form;
+use given_box::Given;
 use libc::STDIN_FILENO;
 use libc::STDOUT_FILENO;
-use voronoi::builds::voronoi_build;
-use voronoi::builds::voronoi_build_unclipped;
 ghost use mathlib.Core.Path.{_≡_};
 ghost use Prim.Native.Nat.{_<_, _≤_};
-ghost use lib.Ieee.{nan};
-ghost use lib.ListN.{length, getD, take};
+ghost use lib.ListN.{length, take};
 ghost use Rattle.mesh.specs.Accepted.{mesh};
 ghost use Rattle.printing.specs.Printed.{InBox, WithoutBox, Prints, ShownIn, shown, ByMode, ByForm};
 ghost use Rattle.cells.specs.Printed.{listingTexts};
-ghost use Rattle.utils.specs.Plane.{at};
+ghost use Rattle.given_box.specs.Finite.{Fits};
 ghost use Rattle.form_step.specs.Holds.{ListRoom, Few};
 ghost use Rattle.cells.specs.Shown.{SheetSized, Laid, boxLines, unclippedLines};
 
@@ -72,26 +70,23 @@ fn show_without_box(
 
 fn in_box(
     out: &mut [u8],
-    bounds: [f64; 4],
+    given: Given,
     sites: &[f64],
     triangles: &[u32],
     halfedges: &[u32],
     hull: &[u32],
 ) -> usize
-    requires { ⌜ SheetSized (length (now sites)) (length (now triangles)) (length (now hull)) (length (now out)) ⌝ }
-    ensures { λ r. ⌜ InBox listingTexts (mesh (now (sites .entry)) (now (triangles .entry)) (now (halfedges .entry)) (now (hull .entry)))
-        (at (getD bounds 0 nan) (getD bounds 1 nan)) (getD bounds 2 nan) (getD bounds 3 nan) (take r (now (out .exit))) × (r ≤ length (now (out .entry))) ⌝ }
+    requires { ⌜ SheetSized (length (now sites)) (length (now triangles)) (length (now hull)) (length (now out)) × Fits given ⌝ }
+    ensures { λ r. ⌜ InBox listingTexts (mesh (now (sites .entry)) (now (triangles .entry)) (now (halfedges .entry)) (now (hull .entry))) given
+        (take r (now (out .exit))) × (r ≤ length (now (out .entry))) ⌝ }
 {
     let mut work = [0u32; 96];
     let mut vertices = [0.0f64; 3656];
     let mut indexes = [0u32; 3076];
     let mut offsets = [0u32; 97];
     let mut counts = [0u32; 6];
-    let number = voronoi_build(
-        bounds[0],
-        bounds[1],
-        bounds[2],
-        bounds[3],
+    let number = building::build(
+        given,
         sites,
         triangles,
         halfedges,
@@ -123,7 +118,7 @@ fn without_box(
     let mut indexes = [0u32; 3076];
     let mut offsets = [0u32; 97];
     let mut counts = [0u32; 6];
-    let number = voronoi_build_unclipped(
+    let number = building::build_unclipped(
         sites,
         triangles,
         halfedges,
@@ -141,7 +136,7 @@ fn without_box(
 
 fn of_mesh(
     out: &mut [u8],
-    unclipped: bool,
+    clip: u8,
     bounds: [f64; 4],
     sites: &[f64],
     triangles: &[u32],
@@ -149,13 +144,14 @@ fn of_mesh(
     hull: &[u32],
 ) -> usize
     requires { ⌜ SheetSized (length (now sites)) (length (now triangles)) (length (now hull)) (length (now out)) ⌝ }
-    ensures { λ r. ⌜ ByMode listingTexts unclipped bounds (mesh (now (sites .entry)) (now (triangles .entry)) (now (halfedges .entry)) (now (hull .entry)))
+    ensures { λ r. ⌜ ByMode listingTexts clip bounds (mesh (now (sites .entry)) (now (triangles .entry)) (now (halfedges .entry)) (now (hull .entry)))
         (take r (now (out .exit))) × (r ≤ length (now (out .entry))) ⌝ }
 {
-    if unclipped {
+    if clip == form_box::NO_BOX {
         return without_box(out, sites, triangles, halfedges, hull);
     }
-    in_box(out, bounds, sites, triangles, halfedges, hull)
+    let given = form_box::box_of(clip, bounds);
+    in_box(out, given, sites, triangles, halfedges, hull)
 }
 
 // What is printed for a form that was read into these lists.
@@ -176,7 +172,7 @@ fn of_form(
         sites: n,
         triangles: t,
         hull: h,
-        unclipped,
+        clip,
     } = form
     else {
         return listing::refusal(out, numbers::REFUSED_FORM);
@@ -185,7 +181,7 @@ fn of_form(
     let links = 3 * t;
     of_mesh(
         out,
-        unclipped,
+        clip,
         bounds,
         &sites[..numbers],
         &triangles[..links],

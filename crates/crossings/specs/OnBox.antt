@@ -7,9 +7,8 @@ use Rattle.laws.specs.Binary64.{_⊞_, _⊟_}
 use Rattle.utils.specs.Plane.{at}
 use Rattle.utils.specs.declared.Point.{Point}
 use Rattle.utils.specs.Rules.{okSite}
-use Rattle.bounding_box.specs.Box.{madeOf}
-use Rattle.bounding_box.specs.Rules.{okBox}
 use Rattle.bounding_box.specs.declared.BoundingBox.{BoundingBox}
+use Rattle.given_box.specs.declared.Given.{Given}
 use Rattle.line_crossings.specs.Line.{lineOf}
 use Rattle.line_crossings.specs.OnBox.{OnEdge, OnBox, one-own, line-own}
 use Rattle.line_crossings.specs.declared.Crossing.{Crossing}
@@ -56,10 +55,10 @@ met-own b true true c h = h
 met-own b true false c h = tt
 met-own b false s c h = tt
 
-pub line-answer-own : (c : Point) (w h : Float) (p q : Point) → OnBox (madeOf c w h) (pointsOf (lineAnswer c w h p q))
+pub line-answer-own : (g : Given) (p q : Point) → OnBox (g .bounds) (pointsOf (lineAnswer g p q))
 unfolding lineAnswer
-line-answer-own c w h p q = met-own (madeOf c w h) (okBox c w h) (okSite p && okSite q) (lineOf (madeOf c w h) p q) (line-own (madeOf c w h) p q)
+line-answer-own g p q = met-own (g .bounds) (g .sound) (okSite p && okSite q) (lineOf (g .bounds) p q) (line-own (g .bounds) p q)
 
-pub ray-answer-own : (c : Point) (w h : Float) (p dir : Point) → OnBox (madeOf c w h) (pointsOf (rayAnswer c w h p dir))
+pub ray-answer-own : (g : Given) (p dir : Point) → OnBox (g .bounds) (pointsOf (rayAnswer g p dir))
 unfolding rayAnswer
-ray-answer-own c w h p dir = met-own (madeOf c w h) (okBox c w h) (okSite p && okSite dir) (rayOf (madeOf c w h) p dir) (ray-own (madeOf c w h) p dir)
+ray-answer-own g p dir = met-own (g .bounds) (g .sound) (okSite p && okSite dir) (rayOf (g .bounds) p dir) (ray-own (g .bounds) p dir)

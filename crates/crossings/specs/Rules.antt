@@ -8,8 +8,7 @@ use Rattle.laws.specs.Binary64.{zero}
 use Rattle.numbers.specs.Numbers.{refusedBox, refusedCoordinate}
 use Rattle.utils.specs.Rules.{okSite}
 use Rattle.utils.specs.declared.Point.{Point}
-use Rattle.bounding_box.specs.Box.{madeOf}
-use Rattle.bounding_box.specs.Rules.{okBox}
+use Rattle.given_box.specs.declared.Given.{Given}
 use Rattle.crossings.specs.Ray.{rayOf}
 use Rattle.line_crossings.specs.Line.{lineOf}
 use Rattle.line_crossings.specs.declared.Crossing.{Crossing}
@@ -20,11 +19,11 @@ use Rattle.crossings.specs.declared.Meeting.the-variants.{Refused, Met}
 unfoldable pub metBy : Bool → Bool → Crossing → Meeting
 metBy box points c = pick box (λ _. pick points (λ _. Met c) (λ _. Refused refusedCoordinate)) (λ _. Refused refusedBox)
 
-unfoldable pub lineAnswer : Point → Float → Float → Point → Point → Meeting
-lineAnswer c w h p q = metBy (okBox c w h) (okSite p && okSite q) (lineOf (madeOf c w h) p q)
+unfoldable pub lineAnswer : Given → Point → Point → Meeting
+lineAnswer g p q = metBy (g .sound) (okSite p && okSite q) (lineOf (g .bounds) p q)
 
-unfoldable pub rayAnswer : Point → Float → Float → Point → Point → Meeting
-rayAnswer c w h p dir = metBy (okBox c w h) (okSite p && okSite dir) (rayOf (madeOf c w h) p dir)
+unfoldable pub rayAnswer : Given → Point → Point → Meeting
+rayAnswer g p dir = metBy (g .sound) (okSite p && okSite dir) (rayOf (g .bounds) p dir)
 
 -- an answer's number, 0 where nothing is refused, and the points: of a refusal none
 abbrev pub meetingNumber : Meeting → ℕ

@@ -1,6 +1,6 @@
 // bounding_box.rs, the ray: the order of the points in which its line crosses the box; and the public line and ray.
 use bounding_box::BoundingBox;
-use bounding_box::box_ok;
+use given_box::Given;
 use line_crossings::Crossing;
 use line_crossings::intersect_line;
 use line_crossings::one_if;
@@ -134,26 +134,24 @@ fn answer(frame: bool, points: bool, c: Crossing) -> Meeting
 }
 
 // The line through p and q.
-pub fn meet_line(center: Point, width: f64, height: f64, p: Point, q: Point) -> Meeting
-    ensures { λ r. ⌜ r ≡ lineAnswer center width height p q ⌝ }
+pub fn meet_line(given: Given, p: Point, q: Point) -> Meeting
+    ensures { λ r. ⌜ r ≡ lineAnswer given p q ⌝ }
 {
-    let b = bounding_box::new(center, width, height);
     answer(
-        box_ok(center, width, height),
+        given.sound,
         site_ok(p) & site_ok(q),
-        intersect_line(b, p, q),
+        intersect_line(given.bounds, p, q),
     )
 }
 
 // The ray from p in the direction dir.
-pub fn meet_ray(center: Point, width: f64, height: f64, p: Point, dir: Point) -> Meeting
-    ensures { λ r. ⌜ r ≡ rayAnswer center width height p dir ⌝ }
+pub fn meet_ray(given: Given, p: Point, dir: Point) -> Meeting
+    ensures { λ r. ⌜ r ≡ rayAnswer given p dir ⌝ }
 {
-    let b = bounding_box::new(center, width, height);
     answer(
-        box_ok(center, width, height),
+        given.sound,
         site_ok(p) & site_ok(dir),
-        project_ray(b, p, dir),
+        project_ray(given.bounds, p, dir),
     )
 }
 

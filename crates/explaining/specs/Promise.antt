@@ -4,10 +4,8 @@ use mathlib.Core.Path.{_≡_}
 use mathlib.Core.Bool.{true}
 use mathlib.Core.List.{List, _++_}
 use Prim.Native.Nat.{ℕ}
-use lib.Ieee.{Float}
 use Rattle.laws.specs.Refusals.{Rule}
-use Rattle.utils.specs.declared.Point.{Point}
-use Rattle.bounding_box.specs.Box.{madeOf}
+use Rattle.given_box.specs.declared.Given.{Given}
 use Rattle.mesh.specs.Accepted.{Mesh, tableOf, siteCount}
 use Rattle.definition.specs.declared.Fault.{Fault}
 use Rattle.definition.specs.Fault.{Outcome}
@@ -26,9 +24,9 @@ pub record WhyAnswer (m : Mesh) (own : List (Rule ℕ)) (q : Question) (o : Outc
   pub slices : BuildAnswer (λ n. n ≡ toldBy r .number) (tableOf m) o old new (toldBy r .number)
 
 module _ (m : Mesh) where
-  -- in the box of this center, width and height
-  abbrev pub ClippedWhy : Point → Float → Float → Question → Slices → Slices → Reason → Type 0
-  ClippedWhy c w h q = WhyAnswer m (boxRules c w h ++ questionRules (siteCount (m .sites)) q) q (build m (madeOf c w h))
+  -- in the given box
+  abbrev pub ClippedWhy : Given → Question → Slices → Slices → Reason → Type 0
+  ClippedWhy g q = WhyAnswer m (boxRules (g .sound) ++ questionRules (siteCount (m .sites)) q) q (build m (g .bounds))
 
   abbrev pub UnclippedWhy : Question → Slices → Slices → Reason → Type 0
   UnclippedWhy q = WhyAnswer m (questionRules (siteCount (m .sites)) q) q (unclipped (m .sites) (m .triangles) (m .halfedges))

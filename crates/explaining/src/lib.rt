@@ -3,20 +3,19 @@ use admission::admit_build;
 use build_counts::finish_clipped;
 use build_counts::finish_unclipped;
 use cell_builder::build_cells;
+use given_box::Given;
 use reasons::Question;
 use reasons::Reason;
 use reasons::asked::answer;
 use reasons::of_fault;
 use reasons::of_mesh;
 use reasons::tell;
-use utils::Point;
 ghost use mathlib.Core.Path.{_≡_};
 ghost use mathlib.Core.Bool.{true};
 ghost use mathlib.Core.List.{_++_};
 ghost use Prim.Native.Nat.{_<_};
 ghost use Rattle.numbers.specs.Numbers.{refusedTriangle};
-ghost use Rattle.bounding_box.specs.Box.{madeOf};
-ghost use Rattle.bounding_box.specs.Rules.{okBox};
+ghost use Rattle.given_box.specs.Finite.{Fits};
 ghost use Rattle.mesh.specs.Accepted.{mesh};
 ghost use Rattle.definition.specs.Build.{build};
 ghost use Rattle.definition.specs.Unclipped.{unclipped};
@@ -44,10 +43,10 @@ fn ask_question(sites: usize, q: Question) -> u32
 }
 
 // Rule 3, then rule 4.
-fn ask_in_box(center: Point, width: f64, height: f64, sites: usize, q: Question) -> u32
-    ensures { λ r. ⌜ Asked (boxRules center width height ++ questionRules sites q) r ⌝ }
+fn ask_in_box(sound: bool, sites: usize, q: Question) -> u32
+    ensures { λ r. ⌜ Asked (boxRules sound ++ questionRules sites q) r ⌝ }
 {
-    let r = admission::ask_box(center, width, height);
+    let r = admission::ask_box(sound);
     if r != 0 {
         return r;
     }
@@ -73,9 +72,7 @@ fn locate(
 
 // The clipped build, with what it met as a reason; `asked` is what the call's own arguments gave.
 fn build_in_box(
-    center: Point,
-    width: f64,
-    height: f64,
+    given: Given,
     sites: &[f64],
     triangles: &[u32],
     halfedges: &[u32],
@@ -87,9 +84,9 @@ fn build_in_box(
     offsets: &mut [u32],
     counts: &mut [u32],
 ) -> Reason
-    requires { ⌜ (asked < refusedTriangle) × (asked ≡ 0 → okBox center width height ≡ true) ⌝ }
+    requires { ⌜ (asked < refusedTriangle) × (asked ≡ 0 → given .sound ≡ true) × Fits given ⌝ }
     ensures { λ r. ⌜ Explains (mesh (now (sites .entry)) (now (triangles .entry)) (now (halfedges .entry)) (now (hull .entry))) asked
-        (build (mesh (now (sites .entry)) (now (triangles .entry)) (now (halfedges .entry)) (now (hull .entry))) (madeOf center width height))
+        (build (mesh (now (sites .entry)) (now (triangles .entry)) (now (halfedges .entry)) (now (hull .entry))) (given .bounds))
         (slices (now (work .entry)) (now (vertices .entry)) (now (indexes .entry)) (now (offsets .entry)) (now (counts .entry)))
         (slices (now (work .exit)) (now (vertices .exit)) (now (indexes .exit)) (now (offsets .exit)) (now (counts .exit))) r ⌝ }
 {
@@ -108,7 +105,6 @@ fn build_in_box(
     if r != 0 {
         return locate(r, sites, triangles, halfedges, hull, work);
     }
-    let b = bounding_box::new(center, width, height);
     let count = sites.len() / 2;
     let a = build_cells(
         sites,
@@ -116,7 +112,7 @@ fn build_in_box(
         halfedges,
         hull,
         &work[..count],
-        b,
+        given.bounds,
         vertices,
         indexes,
         offsets,
@@ -173,11 +169,9 @@ fn build_without_box(
     of_fault(fault)
 }
 
-// In the box of this center, width and height.
+// In the given box.
 pub fn why(
-    center: Point,
-    width: f64,
-    height: f64,
+    given: Given,
     sites: &[f64],
     triangles: &[u32],
     halfedges: &[u32],
@@ -189,16 +183,15 @@ pub fn why(
     offsets: &mut [u32],
     counts: &mut [u32],
 ) -> Reason
-    ensures { λ r. ⌜ ClippedWhy (mesh (now (sites .entry)) (now (triangles .entry)) (now (halfedges .entry)) (now (hull .entry))) center width height q
+    requires { ⌜ Fits given ⌝ }
+    ensures { λ r. ⌜ ClippedWhy (mesh (now (sites .entry)) (now (triangles .entry)) (now (halfedges .entry)) (now (hull .entry))) given q
         (slices (now (work .entry)) (now (vertices .entry)) (now (indexes .entry)) (now (offsets .entry)) (now (counts .entry)))
         (slices (now (work .exit)) (now (vertices .exit)) (now (indexes .exit)) (now (offsets .exit)) (now (counts .exit))) r ⌝ }
 {
     let count = sites.len() / 2;
-    let asked = ask_in_box(center, width, height, count, q);
+    let asked = ask_in_box(given.sound, count, q);
     let r = build_in_box(
-        center,
-        width,
-        height,
+        given,
         sites,
         triangles,
         halfedges,

@@ -1,16 +1,15 @@
 // Reads a mesh's form on standard input and prints a line for each cell, for map tools, or `refused N`.
 use form_step::Form;
+use given_box::Given;
 use libc::STDIN_FILENO;
 use libc::STDOUT_FILENO;
-use utils::Point;
 ghost use mathlib.Core.Path.{_≡_};
 ghost use Prim.Native.Nat.{_<_, _≤_};
-ghost use lib.Ieee.{nan};
-ghost use lib.ListN.{length, getD, take};
+ghost use lib.ListN.{length, take};
 ghost use Rattle.mesh.specs.Accepted.{mesh};
 ghost use Rattle.printing.specs.Printed.{InBox, WithoutBox, Prints, ShownIn, shown, ByMode, ByForm};
 ghost use Rattle.export.specs.Printed.{mapTexts};
-ghost use Rattle.utils.specs.Plane.{at};
+ghost use Rattle.given_box.specs.Finite.{Fits};
 ghost use Rattle.form_step.specs.Holds.{ListRoom, Few};
 ghost use Rattle.export.specs.Shown.{MapSized, CanDraw, lines};
 
@@ -41,29 +40,23 @@ fn show(
 
 fn in_box(
     out: &mut [u8],
-    bounds: [f64; 4],
+    given: Given,
     sites: &[f64],
     triangles: &[u32],
     halfedges: &[u32],
     hull: &[u32],
 ) -> usize
-    requires { ⌜ MapSized (length (now sites)) (length (now triangles)) (length (now hull)) (length (now out)) ⌝ }
-    ensures { λ r. ⌜ InBox mapTexts (mesh (now (sites .entry)) (now (triangles .entry)) (now (halfedges .entry)) (now (hull .entry)))
-        (at (getD bounds 0 nan) (getD bounds 1 nan)) (getD bounds 2 nan) (getD bounds 3 nan) (take r (now (out .exit))) × (r ≤ length (now (out .entry))) ⌝ }
+    requires { ⌜ MapSized (length (now sites)) (length (now triangles)) (length (now hull)) (length (now out)) × Fits given ⌝ }
+    ensures { λ r. ⌜ InBox mapTexts (mesh (now (sites .entry)) (now (triangles .entry)) (now (halfedges .entry)) (now (hull .entry))) given
+        (take r (now (out .exit))) × (r ≤ length (now (out .entry))) ⌝ }
 {
     let mut work = [0u32; 96];
     let mut vertices = [0.0f64; 3656];
     let mut indexes = [0u32; 3076];
     let mut offsets = [0u32; 97];
     let mut counts = [0u32; 6];
-    let c = Point {
-        x: bounds[0],
-        y: bounds[1],
-    };
     let number = building::build(
-        c,
-        bounds[2],
-        bounds[3],
+        given,
         sites,
         triangles,
         halfedges,
@@ -111,7 +104,7 @@ fn without_box(
 
 fn of_mesh(
     out: &mut [u8],
-    unclipped: bool,
+    clip: u8,
     bounds: [f64; 4],
     sites: &[f64],
     triangles: &[u32],
@@ -119,13 +112,14 @@ fn of_mesh(
     hull: &[u32],
 ) -> usize
     requires { ⌜ MapSized (length (now sites)) (length (now triangles)) (length (now hull)) (length (now out)) ⌝ }
-    ensures { λ r. ⌜ ByMode mapTexts unclipped bounds (mesh (now (sites .entry)) (now (triangles .entry)) (now (halfedges .entry)) (now (hull .entry)))
+    ensures { λ r. ⌜ ByMode mapTexts clip bounds (mesh (now (sites .entry)) (now (triangles .entry)) (now (halfedges .entry)) (now (hull .entry)))
         (take r (now (out .exit))) × (r ≤ length (now (out .entry))) ⌝ }
 {
-    if unclipped {
+    if clip == form_box::NO_BOX {
         return without_box(out, sites, triangles, halfedges, hull);
     }
-    in_box(out, bounds, sites, triangles, halfedges, hull)
+    let given = form_box::box_of(clip, bounds);
+    in_box(out, given, sites, triangles, halfedges, hull)
 }
 
 // What is printed for a form that was read into these lists.
@@ -146,7 +140,7 @@ fn of_form(
         sites: n,
         triangles: t,
         hull: h,
-        unclipped,
+        clip,
     } = form
     else {
         return listing::refusal(out, numbers::REFUSED_FORM);
@@ -155,7 +149,7 @@ fn of_form(
     let links = 3 * t;
     of_mesh(
         out,
-        unclipped,
+        clip,
         bounds,
         &sites[..numbers],
         &triangles[..links],

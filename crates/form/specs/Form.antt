@@ -1,5 +1,4 @@
 -- The form of docs/RULES.md: a mesh written record by record. Definitions only.
-use mathlib.Core.Bool.{Bool, true, false}
 use mathlib.Core.List.{List, [], _∷_, _++_}
 use mathlib.Core.Path.{_≡_}
 use Prim.Native.Nat.{ℕ, _^_, _≤_, _<_}
@@ -11,6 +10,7 @@ use Rattle.octets.specs.Bytes.{le, each, All}
 pub data Outline : Type 0 where
   box : (x y width height : ℕ) → Outline
   unclipped : Outline
+  edges : (left top right bottom : ℕ) → Outline
 
 pub record Site : Type 0 where
   pub x : ℕ
@@ -36,6 +36,7 @@ pub record FormMesh : Type 0 where
 abbrev pub outlineBytes : Outline → List ℕ
 outlineBytes (box x y width height) = 1 ∷ le 8 x ++ le 8 y ++ le 8 width ++ le 8 height
 outlineBytes unclipped = 6 ∷ []
+outlineBytes (edges left top right bottom) = 7 ∷ le 8 left ++ le 8 top ++ le 8 right ++ le 8 bottom
 
 abbrev pub siteBytes : Site → List ℕ
 siteBytes s = 2 ∷ le 8 (s .x) ++ le 8 (s .y)
@@ -54,6 +55,7 @@ formOf m = outlineBytes (m .clip) ++ each siteBytes (m .sites) ++ each triangleB
 abbrev pub OutlineFits : Outline → Type 0
 OutlineFits (box x y width height) = (x < 2 ^ 64) × (y < 2 ^ 64) × (width < 2 ^ 64) × (height < 2 ^ 64)
 OutlineFits unclipped = Unit {0}
+OutlineFits (edges left top right bottom) = (left < 2 ^ 64) × (top < 2 ^ 64) × (right < 2 ^ 64) × (bottom < 2 ^ 64)
 
 abbrev pub SiteFits : Site → Type 0
 SiteFits s = (s .x < 2 ^ 64) × (s .y < 2 ^ 64)
@@ -91,6 +93,7 @@ float p = ofBits binary64 p
 abbrev pub outlineFloats : Outline → List Float
 outlineFloats (box x y width height) = float x ∷ float y ∷ float width ∷ float height ∷ []
 outlineFloats unclipped = []
+outlineFloats (edges left top right bottom) = float left ∷ float top ∷ float right ∷ float bottom ∷ []
 
 abbrev pub siteFloats : Site → List Float
 siteFloats s = float (s .x) ∷ float (s .y) ∷ []
@@ -101,6 +104,8 @@ triangleSites t = t .a ∷ t .b ∷ t .c ∷ []
 abbrev pub trianglePairs : Triangle → List ℕ
 trianglePairs t = t .pair-a ∷ t .pair-b ∷ t .pair-c ∷ []
 
-abbrev pub isUnclipped : Outline → Bool
-isUnclipped (box x y width height) = false
-isUnclipped unclipped = true
+-- the kind of a first record
+abbrev pub kindOf : Outline → ℕ
+kindOf (box x y width height) = 1
+kindOf unclipped = 6
+kindOf (edges left top right bottom) = 7

@@ -5,12 +5,13 @@ use Prim.Native.Nat.{ℕ, _≤_, _<_}
 use native.Mathlib.Omega.{arith}
 use lib.ListN.{length, length-append}
 use Rattle.octets.specs.Bytes.{each}
-use Rattle.form.specs.Form.{Outline, box, unclipped, FormMesh, MeshFits, IsForm, formOf, outlineBytes, siteBytes, triangleBytes, hullBytes}
+use Rattle.form.specs.Form.{Outline, box, unclipped, edges, FormMesh, MeshFits, IsForm, formOf, outlineBytes, siteBytes, triangleBytes, hullBytes}
 use Rattle.form.specs.laws.Lists.{each-length}
 
 clip-short : (c : Outline) → length (outlineBytes c) ≤ 33
 clip-short (box x y w h) = omega arith
 clip-short unclipped = omega arith
+clip-short (edges l t r b) = omega arith
 
 pub form-short : (m : FormMesh) → MeshFits m → length (formOf m) ≤ 6946
 unfolding formOf

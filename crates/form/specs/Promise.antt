@@ -7,7 +7,7 @@ use lib.Ieee.{Float}
 use lib.ListN.{length}
 use lib.Seq.{sets}
 use Rattle.octets.specs.Bytes.{Bytes}
-use Rattle.form.specs.Form.{FormMesh, MeshFits, IsForm, formOf, isUnclipped, numbersOf, outlineFloats, siteFloats, triangleSites, trianglePairs}
+use Rattle.form.specs.Form.{FormMesh, MeshFits, IsForm, formOf, kindOf, numbersOf, outlineFloats, siteFloats, triangleSites, trianglePairs}
 use Rattle.form_step.specs.Reader.{start, steps, verdict, Reading, reading, takes}
 use Rattle.form_step.specs.Holds.{Reads}
 use Rattle.form.specs.laws.Run.{takes-reader}
@@ -23,7 +23,7 @@ module _ (s : List ℕ) (bs ss : List Float) (ts es hs : List ℕ) where
     pub mesh : FormMesh
     pub fits : MeshFits mesh
     pub form : s ≡ formOf mesh
-    pub answer : a ≡ Sound (length (mesh .sites)) (length (mesh .triangles)) (length (mesh .hull)) (isUnclipped (mesh .clip))
+    pub answer : a ≡ Sound (length (mesh .sites)) (length (mesh .triangles)) (length (mesh .hull)) (kindOf (mesh .clip))
     pub bounds : bs' ≡ sets bs 0 (outlineFloats (mesh .clip))
     pub sites : ss' ≡ sets ss 0 (numbersOf siteFloats (mesh .sites))
     pub triangles : ts' ≡ sets ts 0 (numbersOf triangleSites (mesh .triangles))

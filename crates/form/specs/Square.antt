@@ -1,13 +1,12 @@
--- Rows: the input "square" of docs/RULES.md: its 172 bytes, that they are the form of its mesh, and that they are read as that mesh. By computation.
+-- Rows: the input "square" of docs/RULES.md: its 172 bytes, that they are the form of its mesh, and that they are read as that mesh; the same with its box by edges. By computation.
 use mathlib.Core.Path.{_≡_, refl}
-use mathlib.Core.Bool.{false}
-use mathlib.Core.List.{List, [], _∷_}
+use mathlib.Core.List.{List, [], _∷_, _++_}
 use Prim.Native.Nat.{ℕ}
 use lib.Ieee.{Float, binary64, ofBits}
-use lib.ListN.{length, replicate}
+use lib.ListN.{length, replicate, drop}
 use Rattle.numbers.specs.Numbers.{EMPTY}
 use Rattle.laws.specs.Binary64.{zero, two}
-use Rattle.form.specs.Form.{FormMesh, box, formOf}
+use Rattle.form.specs.Form.{FormMesh, box, edges, formOf}
 use Rattle.form_step.specs.Reader.{sizeOf, opens, roomLeft, follows, start, begun, tally, inside, outside, step, within, putFloat, putLink, boundsBy}
 use Rattle.form_step.specs.Reader.{sitesBy, trianglesBy, halfedgesBy, hullBy, Reading, reading, take, takes, verdict}
 use Rattle.form_step.specs.declared.Form.the-variants.{Sound}
@@ -69,7 +68,7 @@ read-square = takes (reading start (replicate 4 zero) (replicate 8 zero) (replic
 pub rows :
     (length squareBytes ≡ 172)
     × (formOf square ≡ squareBytes)
-    × (verdict (read-square .reader) ≡ Sound 4 2 4 false)
+    × (verdict (read-square .reader) ≡ Sound 4 2 4 1)
     × (read-square .bounds ≡ zero ∷ zero ∷ two ∷ two ∷ [])
     × (read-square .sites ≡ minus-half ∷ minus-half ∷ minus-half ∷ half ∷ half ∷ half ∷ half ∷ minus-half ∷ [])
     × (read-square .triangles ≡ 0 ∷ 1 ∷ 2 ∷ 0 ∷ 2 ∷ 3 ∷ [])
@@ -77,3 +76,36 @@ pub rows :
     × (read-square .hull ≡ 0 ∷ 1 ∷ 2 ∷ 3 ∷ [])
 unfolding squareBytes formOf takes take step inside outside tally follows opens roomLeft begun sizeOf within putFloat putLink boundsBy sitesBy trianglesBy halfedgesBy hullBy verdict
 rows = (refl, refl, refl, refl, refl, refl, refl, refl)
+
+-- ---- the same with its box by edges, from -1 to 1
+
+abbrev pub one-is : ℕ
+one-is = 0x3ff0_0000_0000_0000
+
+abbrev pub minus-one-is : ℕ
+minus-one-is = 0xbff0_0000_0000_0000
+
+abbrev pub edgesSquare : FormMesh
+edgesSquare =
+    record {
+      clip = edges minus-one-is minus-one-is one-is one-is;
+      sites = square .sites;
+      triangles = square .triangles;
+      hull = square .hull;
+    }
+
+abbrev pub edgesBytes : List ℕ
+edgesBytes =
+    (7 ∷ 0 ∷ 0 ∷ 0 ∷ 0 ∷ 0 ∷ 0 ∷ 240 ∷ 191 ∷ 0 ∷ 0 ∷ 0 ∷ 0 ∷ 0 ∷ 0 ∷ 240 ∷ 191 ∷
+    0 ∷ 0 ∷ 0 ∷ 0 ∷ 0 ∷ 0 ∷ 240 ∷ 63 ∷ 0 ∷ 0 ∷ 0 ∷ 0 ∷ 0 ∷ 0 ∷ 240 ∷ 63 ∷ []) ++ drop 33 squareBytes
+
+abbrev read-edges : Reading
+read-edges = takes (reading start (replicate 4 zero) (replicate 8 zero) (replicate 6 0) (replicate 6 0) (replicate 4 0)) edgesBytes
+
+pub rows-by-edges :
+    (formOf edgesSquare ≡ edgesBytes)
+    × (verdict (read-edges .reader) ≡ Sound 4 2 4 7)
+    × (read-edges .bounds ≡ ofBits binary64 minus-one-is ∷ ofBits binary64 minus-one-is ∷ ofBits binary64 one-is ∷ ofBits binary64 one-is ∷ [])
+    × (read-edges .hull ≡ 0 ∷ 1 ∷ 2 ∷ 3 ∷ [])
+unfolding squareBytes formOf takes take step inside outside tally follows opens roomLeft begun sizeOf within putFloat putLink boundsBy sitesBy trianglesBy halfedgesBy hullBy verdict
+rows-by-edges = (refl, refl, refl, refl)

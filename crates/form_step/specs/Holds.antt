@@ -28,8 +28,8 @@ pub record ListRoom (bs ss : List Float) (ts es hs : List ℕ) : Type 0 where
 
 -- the counts of a sound form are within their limits
 abbrev pub Few : Form → Type 0
-Few (Sound ss ts hs u) = (ss ≤ 96) × (ts ≤ 192) × (hs ≤ 96)
-Few (Broken k) = Unit {0}
+Few (Sound ss ts hs k) = (ss ≤ 96) × (ts ≤ 192) × (hs ≤ 96)
+Few (Broken at) = Unit {0}
 
 -- `read`'s promise: its answer, and each list as the whole form leaves it
 pub record Reads (s : List ℕ) (d : Reading) (a : Form) (bs ss : List Float) (ts es hs : List ℕ) : Type 0 where

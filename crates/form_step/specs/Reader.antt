@@ -19,11 +19,12 @@ sizeOf k =
     pick (eqb k 1) (λ _. 32)
     (λ _. pick (eqb k 2) (λ _. 16)
     (λ _. pick (eqb k 3) (λ _. 24)
-    (λ _. pick (eqb k 4) (λ _. 4) (λ _. 0))))
+    (λ _. pick (eqb k 4) (λ _. 4)
+    (λ _. pick (eqb k 7) (λ _. 32) (λ _. 0)))))
 
--- a form begins with a box or with the word that there is none
+-- a form begins with a box, with the word that there is none, or with a box by its edges
 unfoldable pub opens : ℕ → Bool
-opens k = pick (eqb k 1) (λ _. true) (λ _. eqb k 6)
+opens k = pick (eqb k 1) (λ _. true) (λ _. pick (eqb k 6) (λ _. true) (λ _. eqb k 7))
 
 -- after that: sites, triangles, hull sites within their limits, and one end
 unfoldable pub roomLeft : Reader → ℕ → Bool
@@ -49,7 +50,7 @@ start =
       word = 0;
       at = 0;
       broken = false;
-      unclipped = false;
+      clip = 0;
       sites = 0;
       triangles = 0;
       hull = 0;
@@ -63,7 +64,7 @@ refused r =
       word = r .word;
       at = r .at;
       broken = true;
-      unclipped = r .unclipped;
+      clip = r .clip;
       sites = r .sites;
       triangles = r .triangles;
       hull = r .hull;
@@ -72,12 +73,12 @@ refused r =
 unfoldable pub begun : Reader → ℕ → Reader
 begun r k =
     record {
-      stage = pick (eqb k 6) (λ _. 1) (λ _. k);
+      stage = pick (opens k) (λ _. 1) (λ _. k);
       left = sizeOf k;
       word = r .word;
       at = r .at + 1;
       broken = false;
-      unclipped = pick (eqb k 6) (λ _. true) (λ _. r .unclipped);
+      clip = pick (opens k) (λ _. k) (λ _. r .clip);
       sites = r .sites;
       triangles = r .triangles;
       hull = r .hull;
@@ -95,7 +96,7 @@ inside r b =
       word = shift (r .word) b;
       at = r .at + 1;
       broken = false;
-      unclipped = r .unclipped;
+      clip = r .clip;
       sites = tally r 2 (r .sites);
       triangles = tally r 3 (r .triangles);
       hull = tally r 4 (r .hull);
@@ -116,7 +117,7 @@ steps r (b ∷ s) = steps (step r b) s
 unfoldable pub verdict : Reader → Form
 verdict r =
     pick (r .broken) (λ _. Broken (r .at))
-    (λ _. pick (eqb (r .stage) 5) (λ _. Sound (r .sites) (r .triangles) (r .hull) (r .unclipped)) (λ _. Broken (r .at)))
+    (λ _. pick (eqb (r .stage) 5) (λ _. Sound (r .sites) (r .triangles) (r .hull) (r .clip)) (λ _. Broken (r .at)))
 
 -- ---- the lent lists
 

@@ -1,16 +1,17 @@
 // The form's reader without its lists: what is known between two bytes, and what one byte makes of it.
 ghost use mathlib.Core.Path.{_≡_};
 ghost use Prim.Native.Nat.{_+_, _*_, _^_, _<_};
-ghost use mathlib.Core.Bool.{false};
 ghost use Rattle.form_step.specs.Register.{shift};
 ghost use Rattle.form_step.specs.Reader.{sizeOf, opens, roomLeft, follows, start, refused, begun, tally, inside, outside, verdict};
 ghost use Rattle.form_step.specs.Holds.{Ok};
 
 const TOP_BYTE: u64 = 0x100_0000_0000_0000;
+// bytes of the body of a box by its edges
+const EDGES_SIZE: usize = 32;
 
 // What is known between two bytes.
 pub struct Reader {
-    // 0 nothing yet, 1 box or none, 2 sites, 3 triangles, 4 hull, 5 ended
+    // 0 nothing yet, 1 a box, its edges or none, 2 sites, 3 triangles, 4 hull, 5 ended
     pub stage: u8,
     // bytes of the present record's body that are to come
     pub left: usize,
@@ -19,7 +20,8 @@ pub struct Reader {
     // bytes taken, up to the one refused
     pub at: usize,
     pub broken: bool,
-    pub unclipped: bool,
+    // the kind that opened the form: 1 a box, 6 none, 7 a box by its edges; 0 before
+    pub clip: u8,
     // whole records
     pub sites: usize,
     pub triangles: usize,
@@ -31,7 +33,8 @@ pub enum Form {
         sites: usize,
         triangles: usize,
         hull: usize,
-        unclipped: bool,
+        // the kind that opened the form
+        clip: u8,
     },
     // Refusal 17, at this byte.
     Broken {
@@ -54,6 +57,9 @@ fn size(kind: u8) -> usize
     if kind == 4 {
         return 4;
     }
+    if kind == 7 {
+        return EDGES_SIZE;
+    }
     0
 }
 
@@ -63,7 +69,10 @@ fn opens(kind: u8) -> bool
     if kind == 1 {
         return true;
     }
-    kind == 6
+    if kind == 6 {
+        return true;
+    }
+    kind == 7
 }
 
 fn room_for(r: Reader, kind: u8) -> bool
@@ -106,7 +115,7 @@ pub fn start() -> Reader
         word: 0,
         at: 0,
         broken: false,
-        unclipped: false,
+        clip: 0,
         sites: 0,
         triangles: 0,
         hull: 0,
@@ -129,9 +138,9 @@ fn begun(r: Reader, kind: u8) -> Reader
     n.left = size(kind);
     n.at = n.at + 1;
     n.broken = false;
-    if kind == 6 {
+    if opens(kind) {
         n.stage = 1;
-        n.unclipped = true;
+        n.clip = kind;
         return n;
     }
     n.stage = kind;
@@ -177,7 +186,7 @@ pub fn inside(r: Reader, b: u8) -> Reader
         word: shifted(r.word, b),
         at: r.at + 1,
         broken: false,
-        unclipped: r.unclipped,
+        clip: r.clip,
         sites: tally(r, 2, r.sites),
         triangles: tally(r, 3, r.triangles),
         hull: tally(r, 4, r.hull),
@@ -196,7 +205,7 @@ pub fn finish(r: Reader) -> Form
             sites: r.sites,
             triangles: r.triangles,
             hull: r.hull,
-            unclipped: r.unclipped,
+            clip: r.clip,
         };
     }
     Form::Broken { at: r.at }

@@ -9,7 +9,7 @@ use lib.ListN.{length, length-append}
 use lib.Seq.{sets}
 use Rattle.octets.specs.Bytes.{each}
 use Rattle.form.specs.Form.{Outline, Site, FormMesh, MeshFits, formOf, outlineBytes, siteBytes, triangleBytes, hullBytes}
-use Rattle.form.specs.Form.{numbersOf, outlineFloats, siteFloats, triangleSites, trianglePairs, isUnclipped}
+use Rattle.form.specs.Form.{numbersOf, outlineFloats, siteFloats, triangleSites, trianglePairs, kindOf}
 use Rattle.form_step.specs.Reader.{start, reading, takes}
 use Rattle.form_step.specs.Holds.{Reads}
 use Rattle.form_step.specs.declared.Form.{Form}
@@ -26,7 +26,7 @@ meshWith clip ss tri he hull = record { clip = clip; sites = ss; triangles = tri
 -- what a reader of bytes answers and leaves in lists that were bs to hs, where it finds this first record, these sites and these lists
 pub record ReadAs (clip : Outline) (ps : List Site) (tri he round : List ℕ) (bs ss : List Float) (ts es hs : List ℕ) (a : Form)
     (bs′ ss′ : List Float) (ts′ es′ hs′ : List ℕ) : Type 0 where
-  pub answer : a ≡ Sound (length ps) (length tri / 3) (length round) (isUnclipped clip)
+  pub answer : a ≡ Sound (length ps) (length tri / 3) (length round) (kindOf clip)
   pub bounds : bs′ ≡ sets bs 0 (outlineFloats clip)
   pub sites : ss′ ≡ sets ss 0 (numbersOf siteFloats ps)
   pub triangles : ts′ ≡ sets ts 0 tri
@@ -74,7 +74,7 @@ module _ (clip : Outline) (ps : List Site) (tri he hull : List ℕ) where
     read-back {bs} {ss} {ts} {es} {hs} fits r =
         let w : WholeRead mesh bs ss ts es hs (takes (reading start bs ss ts es hs) bytes) = rw writes-form (complete bs ss ts es hs mesh fits) in
         record {
-          answer = r .answer ∙ w .answer ∙ ap (λ (k : ℕ). Sound (length ps) k (length hull) (isUnclipped clip)) (triangles-count tri he (length tri / 3) 0);
+          answer = r .answer ∙ w .answer ∙ ap (λ (k : ℕ). Sound (length ps) k (length hull) (kindOf clip)) (triangles-count tri he (length tri / 3) 0);
           bounds = r .bounds ∙ w .bounds;
           sites = r .sites ∙ w .sites;
           triangles = r .triangles ∙ w .triangles ∙ ap (sets ts 0) sites-back;

@@ -1,7 +1,7 @@
 -- The steps of `mend`: a mending's answer as text, by its number and its lent slices; a form that was read, by its lists; and the sizes within which
 -- everything has room. Definitions only.
 use mathlib.Core.Path.{_≡_}
-use mathlib.Core.Bool.{Bool, true, false}
+use mathlib.Core.Bool.{Bool}
 use mathlib.Core.List.{List}
 use mathlib.Core.Logic.{_≢_}
 use Prim.Native.Nat.{ℕ, _+_, _*_, _≤_}
@@ -22,10 +22,9 @@ use Rattle.mend.specs.Printed.{MendNumber, changesText}
 
 -- ---- sizes
 
--- the length of the first record
-abbrev pub firstLength : Bool → ℕ
-firstLength true = 1
-firstLength false = 33
+-- the length of the first record, by its kind
+abbrev pub firstLength : ℕ → ℕ
+firstLength kind = pick (eqb kind 6) (λ _. 1) (λ _. 33)
 
 -- a form that was read has its first record and its sites' records
 abbrev pub Headed : Form → ℕ → Type 0

@@ -35,11 +35,11 @@ fn way_of(count: usize, word: &[u8]) -> Way
     Way::Usage
 }
 
-// The length of the first record.
-fn first_length(unclipped: bool) -> usize
-    ensures { λ n. ⌜ (n ≡ firstLength unclipped) × (n ≤ 33) ⌝ }
+// The length of the first record, by its kind: of 6 it is the kind alone, of 1 and 7 four numbers come after it.
+fn first_length(clip: u8) -> usize
+    ensures { λ n. ⌜ (n ≡ firstLength clip) × (n ≤ 33) ⌝ }
 {
-    if unclipped {
+    if clip == 6 {
         return 1;
     }
     33
@@ -138,12 +138,12 @@ fn of_form(
         sites: n,
         triangles: t,
         hull: h,
-        unclipped,
+        clip,
     } = read
     else {
         return listing::refusal(out, numbers::REFUSED_FORM);
     };
-    let first = first_length(unclipped);
+    let first = first_length(clip);
     let records = first + 17 * n;
     let coordinates = 2 * n;
     let entries = 3 * t;

@@ -63,9 +63,12 @@ refusedTwice = 19
 abbrev pub tolerance : Float
 tolerance = ofBits binary64 0x3cd0_0000_0000_0000
 
--- the limit of a coordinate, 2^100, and of a circumcenter's, 2^400
+-- the limit of a coordinate, 2^100, of an edge that is given itself, 2^101, and of a circumcenter's, 2^400
 abbrev pub large : Float
 large = ofBits binary64 0x4630_0000_0000_0000
+
+abbrev pub edge : Float
+edge = ofBits binary64 0x4640_0000_0000_0000
 
 abbrev pub huge : Float
 huge = ofBits binary64 0x58f0_0000_0000_0000

@@ -1,4 +1,4 @@
--- The promises of the calls on points and the box: the number, and each lent number at exit. A box is its center c, width w and height h.
+-- The promises of the calls on points and the box: the number, and each lent number at exit. A box is given by its size or by its edges (crate given_box).
 use mathlib.Core.Path.{_≡_}
 use mathlib.Core.Bool.{Bool, true, _&&_}
 use mathlib.Core.List.{List, _++_}
@@ -16,8 +16,8 @@ use Rattle.utils.specs.Rules.{okSite, centerAnswer}
 use Rattle.utils.specs.Centroid.{centroidAnswer}
 use Rattle.utils.specs.declared.Point.{Point}
 use Rattle.utils.specs.declared.Center.{Center}
-use Rattle.bounding_box.specs.Box.{madeOf, widthOf, heightOf, cornersOf, insideOf, exclusiveOf, whichOf}
-use Rattle.bounding_box.specs.Rules.{okBox}
+use Rattle.bounding_box.specs.Box.{widthOf, heightOf, cornersOf, insideOf, exclusiveOf, whichOf}
+use Rattle.given_box.specs.declared.Given.{Given}
 use Rattle.crossings.specs.Rules.{countOf, valuesOf}
 use Rattle.crossings.specs.Rules.{meetingNumber, pointsOf}
 use Rattle.crossings.specs.declared.Meeting.{Meeting}
@@ -57,38 +57,46 @@ abbrev pub Centroid : List Float → ℕ → Float → Float → Type 0
 Centroid l = Answered (centroidAnswer l)
 
 -- ---- the box
-pub record Edges (c : Point) (w h : Float) (number : ℕ) (left top right bottom across down : Float) : Type 0 where
-  pub refusal : number ≡ numberBy (okBox c w h) true
-  pub left-edge : left ≡ valueIf (okBox c w h) (madeOf c w h .left)
-  pub top-edge : top ≡ valueIf (okBox c w h) (madeOf c w h .top)
-  pub right-edge : right ≡ valueIf (okBox c w h) (madeOf c w h .right)
-  pub bottom-edge : bottom ≡ valueIf (okBox c w h) (madeOf c w h .bottom)
-  pub width : across ≡ valueIf (okBox c w h) (widthOf (madeOf c w h))
-  pub height : down ≡ valueIf (okBox c w h) (heightOf (madeOf c w h))
+pub record Edges (g : Given) (number : ℕ) (left top right bottom across down : Float) : Type 0 where
+  pub refusal : number ≡ numberBy (g .sound) true
+  pub left-edge : left ≡ valueIf (g .sound) (g .bounds .left)
+  pub top-edge : top ≡ valueIf (g .sound) (g .bounds .top)
+  pub right-edge : right ≡ valueIf (g .sound) (g .bounds .right)
+  pub bottom-edge : bottom ≡ valueIf (g .sound) (g .bounds .bottom)
+  pub width : across ≡ valueIf (g .sound) (widthOf (g .bounds))
+  pub height : down ≡ valueIf (g .sound) (heightOf (g .bounds))
+
+-- its center in the place of its edges
+pub record Centered (g : Given) (number : ℕ) (x y across down : Float) : Type 0 where
+  pub refusal : number ≡ numberBy (g .sound) true
+  pub center-x : x ≡ valueIf (g .sound) (g .bounds .center .x)
+  pub center-y : y ≡ valueIf (g .sound) (g .bounds .center .y)
+  pub width : across ≡ valueIf (g .sound) (widthOf (g .bounds))
+  pub height : down ≡ valueIf (g .sound) (heightOf (g .bounds))
 
 -- a slice of 8 or more: the corners, then zeros; refused, it stays
-unfoldable pub cornersNumber : Point → Float → Float → List Float → ℕ
-cornersNumber c w h l = pick (ltb (length l) 8) (λ _. refusedRoom) (λ _. numberBy (okBox c w h) true)
+unfoldable pub cornersNumber : Given → List Float → ℕ
+cornersNumber g l = pick (ltb (length l) 8) (λ _. refusedRoom) (λ _. numberBy (g .sound) true)
 
-unfoldable pub cornersLeft : Point → Float → Float → List Float → List Float
-cornersLeft c w h l =
-    pick (ltb (length l) 8) (λ _. l) (λ _. pick (okBox c w h) (λ _. flat (cornersOf (madeOf c w h)) ++ replicate (length l - 8) zero) (λ _. l))
+unfoldable pub cornersLeft : Given → List Float → List Float
+cornersLeft g l =
+    pick (ltb (length l) 8) (λ _. l) (λ _. pick (g .sound) (λ _. flat (cornersOf (g .bounds)) ++ replicate (length l - 8) zero) (λ _. l))
 
-pub record Corners (c : Point) (w h : Float) (before : List Float) (number : ℕ) (after : List Float) : Type 0 where
-  pub refusal : number ≡ cornersNumber c w h before
-  pub slice : after ≡ cornersLeft c w h before
+pub record Corners (g : Given) (before : List Float) (number : ℕ) (after : List Float) : Type 0 where
+  pub refusal : number ≡ cornersNumber g before
+  pub slice : after ≡ cornersLeft g before
 
-pub record Inside (c : Point) (w h : Float) (p : Point) (number yes : ℕ) : Type 0 where
-  pub refusal : number ≡ numberBy (okBox c w h) (okSite p)
-  pub answer : yes ≡ bit (okBox c w h && okSite p && insideOf (madeOf c w h) p)
+pub record Inside (g : Given) (p : Point) (number yes : ℕ) : Type 0 where
+  pub refusal : number ≡ numberBy (g .sound) (okSite p)
+  pub answer : yes ≡ bit (g .sound && okSite p && insideOf (g .bounds) p)
 
-pub record ExclusivelyInside (c : Point) (w h : Float) (p : Point) (number yes : ℕ) : Type 0 where
-  pub refusal : number ≡ numberBy (okBox c w h) (okSite p)
-  pub answer : yes ≡ bit (okBox c w h && okSite p && exclusiveOf (madeOf c w h) p)
+pub record ExclusivelyInside (g : Given) (p : Point) (number yes : ℕ) : Type 0 where
+  pub refusal : number ≡ numberBy (g .sound) (okSite p)
+  pub answer : yes ≡ bit (g .sound && okSite p && exclusiveOf (g .bounds) p)
 
-pub record WhichEdge (c : Point) (w h : Float) (p : Point) (number side : ℕ) : Type 0 where
-  pub refusal : number ≡ numberBy (okBox c w h) (okSite p)
-  pub answer : side ≡ sideIf (okBox c w h && okSite p) (whichOf (madeOf c w h) p)
+pub record WhichEdge (g : Given) (p : Point) (number side : ℕ) : Type 0 where
+  pub refusal : number ≡ numberBy (g .sound) (okSite p)
+  pub answer : side ≡ sideIf (g .sound && okSite p) (whichOf (g .bounds) p)
 
 -- ---- crossings: of a line `lineAnswer`, of a ray `rayAnswer`
 pub record Meets (m : Meeting) (number count : ℕ) (x y u v : Float) : Type 0 where

@@ -1,5 +1,6 @@
-// The bodies of the public calls on points and the box. A box is its center, width and height; 3 is tried on it, then 6 on each point.
+// The bodies of the public calls on points and the box. A box is given by its size or by its edges; 3 is tried on it, then 6 on each point.
 // A refused call answers 0 beside its number (a side: EMPTY).
+use given_box::Given;
 use numbers::EMPTY;
 use utils::Point;
 ghost use mathlib.Core.Path.{_≡_};
@@ -8,7 +9,7 @@ ghost use lib.ListN.{length};
 ghost use Rattle.utils.specs.Flat.{pour};
 ghost use Rattle.bounding_box.specs.Box.{cornersOf};
 ghost use Rattle.crossings.specs.Rules.{lineAnswer, rayAnswer};
-ghost use Rattle.plane_calls.specs.Plane.{bit, numberBy, valueIf, sideIf, Near, Dist2, Circumcenter, Centroid, Edges, Corners, Inside, ExclusivelyInside, WhichEdge, Meets};
+ghost use Rattle.plane_calls.specs.Plane.{bit, numberBy, valueIf, sideIf, Near, Dist2, Circumcenter, Centroid, Edges, Centered, Corners, Inside, ExclusivelyInside, WhichEdge, Meets};
 
 // An answer as a number: 1 or 0.
 pub fn yes(b: bool) -> u32
@@ -120,11 +121,11 @@ pub struct BoxEdges {
 }
 
 // The box's edges, and its width and height recomputed from them.
-pub fn box_edges(center: Point, width: f64, height: f64) -> BoxEdges
-    ensures { λ r. ⌜ Edges center width height (r .number) (r .left) (r .top) (r .right) (r .bottom) (r .across) (r .down) ⌝ }
+pub fn box_edges(given: Given) -> BoxEdges
+    ensures { λ r. ⌜ Edges given (r .number) (r .left) (r .top) (r .right) (r .bottom) (r .across) (r .down) ⌝ }
 {
-    let ok = bounding_box::box_ok(center, width, height);
-    let b = bounding_box::new(center, width, height);
+    let ok = given.sound;
+    let b = given.bounds;
     let left = value_if(ok, b.left);
     let top = value_if(ok, b.top);
     let right = value_if(ok, b.right);
@@ -137,6 +138,33 @@ pub fn box_edges(center: Point, width: f64, height: f64) -> BoxEdges
         top,
         right,
         bottom,
+        across,
+        down,
+    }
+}
+
+pub struct BoxCenter {
+    pub number: u32,
+    pub x: f64,
+    pub y: f64,
+    pub across: f64,
+    pub down: f64,
+}
+
+// The box's center, and its width and height recomputed from its edges.
+pub fn box_center(given: Given) -> BoxCenter
+    ensures { λ r. ⌜ Centered given (r .number) (r .x) (r .y) (r .across) (r .down) ⌝ }
+{
+    let ok = given.sound;
+    let b = given.bounds;
+    let x = value_if(ok, b.center.x);
+    let y = value_if(ok, b.center.y);
+    let across = value_if(ok, bounding_box::width(b));
+    let down = value_if(ok, bounding_box::height(b));
+    BoxCenter {
+        number: number(ok, true),
+        x,
+        y,
         across,
         down,
     }
@@ -158,16 +186,16 @@ fn put_corners(b: bounding_box::BoundingBox, out: &mut [f64])
 }
 
 // The corners, top left, bottom left, bottom right, top right, x and y each, into a slice of 8 or more, whose rest is cleared; 2, then 3.
-pub fn corners(center: Point, width: f64, height: f64, out: &mut [f64]) -> u32
-    ensures { λ r. ⌜ Corners center width height (now (out .entry)) r (now (out .exit)) ⌝ }
+pub fn corners(given: Given, out: &mut [f64]) -> u32
+    ensures { λ r. ⌜ Corners given (now (out .entry)) r (now (out .exit)) ⌝ }
 {
     if out.len() < 8 {
         return numbers::REFUSED_ROOM;
     }
-    if !bounding_box::box_ok(center, width, height) {
+    if !given.sound {
         return numbers::REFUSED_BOX;
     }
-    put_corners(bounding_box::new(center, width, height), out);
+    put_corners(given.bounds, out);
     layout::clear_floats_from(out, 8);
     0
 }
@@ -178,29 +206,25 @@ pub struct Verdict {
 }
 
 // Whether p is inside the box or on its edges: 1 or 0.
-pub fn is_inside(center: Point, width: f64, height: f64, p: Point) -> Verdict
-    ensures { λ r. ⌜ Inside center width height p (r .number) (r .yes) ⌝ }
+pub fn is_inside(given: Given, p: Point) -> Verdict
+    ensures { λ r. ⌜ Inside given p (r .number) (r .yes) ⌝ }
 {
-    let frame = bounding_box::box_ok(center, width, height);
     let point = utils::site_ok(p);
-    let b = bounding_box::new(center, width, height);
-    let inside = yes(frame & point & bounding_box::is_inside(b, p));
+    let inside = yes(given.sound & point & bounding_box::is_inside(given.bounds, p));
     Verdict {
-        number: number(frame, point),
+        number: number(given.sound, point),
         yes: inside,
     }
 }
 
 // The same, and within tolerance of no side's line.
-pub fn is_exclusively_inside(center: Point, width: f64, height: f64, p: Point) -> Verdict
-    ensures { λ r. ⌜ ExclusivelyInside center width height p (r .number) (r .yes) ⌝ }
+pub fn is_exclusively_inside(given: Given, p: Point) -> Verdict
+    ensures { λ r. ⌜ ExclusivelyInside given p (r .number) (r .yes) ⌝ }
 {
-    let frame = bounding_box::box_ok(center, width, height);
     let point = utils::site_ok(p);
-    let b = bounding_box::new(center, width, height);
-    let inside = yes(frame & point & bounding_box::is_exclusively_inside(b, p));
+    let inside = yes(given.sound & point & bounding_box::is_exclusively_inside(given.bounds, p));
     Verdict {
-        number: number(frame, point),
+        number: number(given.sound, point),
         yes: inside,
     }
 }
@@ -211,15 +235,16 @@ pub struct OnSide {
 }
 
 // The side that p is on: top 0, bottom 2, right 3, left 1, the first within tolerance; EMPTY for none.
-pub fn which_edge(center: Point, width: f64, height: f64, p: Point) -> OnSide
-    ensures { λ r. ⌜ WhichEdge center width height p (r .number) (r .side) ⌝ }
+pub fn which_edge(given: Given, p: Point) -> OnSide
+    ensures { λ r. ⌜ WhichEdge given p (r .number) (r .side) ⌝ }
 {
-    let frame = bounding_box::box_ok(center, width, height);
     let point = utils::site_ok(p);
-    let b = bounding_box::new(center, width, height);
-    let side = side_if(frame & point, bounding_box::which_edge(b, p));
+    let side = side_if(
+        given.sound & point,
+        bounding_box::which_edge(given.bounds, p),
+    );
     OnSide {
-        number: number(frame, point),
+        number: number(given.sound, point),
         side,
     }
 }
@@ -234,10 +259,10 @@ pub struct Met {
 }
 
 // Where the line through two points meets the box: how many points, 0 to 2, and their coordinates, 0 where there is none.
-pub fn intersect_line(center: Point, width: f64, height: f64, p: Point, q: Point) -> Met
-    ensures { λ r. ⌜ Meets (lineAnswer center width height p q) (r .number) (r .count) (r .x) (r .y) (r .u) (r .v) ⌝ }
+pub fn intersect_line(given: Given, p: Point, q: Point) -> Met
+    ensures { λ r. ⌜ Meets (lineAnswer given p q) (r .number) (r .count) (r .x) (r .y) (r .u) (r .v) ⌝ }
 {
-    let m = crossings::meet_line(center, width, height, p, q);
+    let m = crossings::meet_line(given, p, q);
     let w = crossings::met_values(m);
     let count = crossings::met_count(m);
     let x = w[0];
@@ -255,10 +280,10 @@ pub fn intersect_line(center: Point, width: f64, height: f64, p: Point, q: Point
 }
 
 // The same of the ray from p in the direction d, in the ray's order.
-pub fn project_ray(center: Point, width: f64, height: f64, p: Point, d: Point) -> Met
-    ensures { λ r. ⌜ Meets (rayAnswer center width height p d) (r .number) (r .count) (r .x) (r .y) (r .u) (r .v) ⌝ }
+pub fn project_ray(given: Given, p: Point, d: Point) -> Met
+    ensures { λ r. ⌜ Meets (rayAnswer given p d) (r .number) (r .count) (r .x) (r .y) (r .u) (r .v) ⌝ }
 {
-    let m = crossings::meet_ray(center, width, height, p, d);
+    let m = crossings::meet_ray(given, p, d);
     let w = crossings::met_values(m);
     let count = crossings::met_count(m);
     let x = w[0];

@@ -1,12 +1,16 @@
 -- Theorem: no two texts may be printed for one input.
 use mathlib.Core.Path.{_≡_, refl, sym, ap, _∙_}
-use mathlib.Core.Bool.{true, false}
+use mathlib.Core.Bool.{Bool, true, false}
 use mathlib.Core.List.{List}
 use Prim.Native.Nat.{ℕ}
 use native.Mathlib.Omega.{arith}
+use lib.Dec.{eqb}
 use lib.Ieee.{Float}
 use lib.ListN.{replicate, length-replicate}
 use Rattle.laws.specs.Binary64 as B
+use Rattle.given_box.specs.declared.Given.{Given}
+use Rattle.form_box.specs.FormBox.{boxBy}
+use Rattle.mesh.specs.Accepted.{Mesh}
 use Rattle.admission.specs.laws.Admits.{admits-one}
 use Rattle.definition.specs.declared.Fault.{Fault}
 use Rattle.definition.specs.Fault.{Outcome}
@@ -19,7 +23,7 @@ use Rattle.form_step.specs.declared.Form.{Form}
 use Rattle.form_step.specs.declared.Form.the-variants.{Sound, Broken}
 use Rattle.listing.specs.Listing.{refusal}
 use Rattle.printing.specs.laws.FormLists.{to-form}
-use Rattle.printing.specs.Printed.{Shows, early, late, built, OfMesh, Prints, sound, broken, ByForm, Texts}
+use Rattle.printing.specs.Printed.{Shows, early, late, built, OfMesh, Prints, sound, broken, ByBox, ByForm, Texts}
 
 module _ {Rules : ℕ → Type 0} {text : Built → List ℕ} (one : (a b : ℕ) → Rules a → Rules b → a ≡ b) where
   shows-one : {o : Outcome Fault Built} {a b : List ℕ} → Shows Rules text o a → Shows Rules text o b → a ≡ b
@@ -42,10 +46,13 @@ abbrev read : List ℕ → Reading
 read s = takes (reading start (floats 4) (floats 192) (links 576) (links 576) (links 96)) s
 
 module _ (t : Texts) where
+  box-one : (plain : Bool) (g : Given) (m : Mesh) (x y : List ℕ) → ByBox t plain g m x → ByBox t plain g m y → x ≡ y
+  box-one true g m x y p q = shows-one (λ a b. admits-one) p q
+  box-one false g m x y p q = shows-one (λ a b. admits-one) p q
+
   form-one : (a : Form) (bs ss : List Float) (ts es hs x y : List ℕ) → ByForm t a bs ss ts es hs x → ByForm t a bs ss ts es hs y → x ≡ y
   form-one (Broken k) bs ss ts es hs x y p q = p ∙ sym q
-  form-one (Sound s k h true) bs ss ts es hs x y p q = shows-one (λ a b. admits-one) p q
-  form-one (Sound s k h false) bs ss ts es hs x y p q = shows-one (λ a b. admits-one) p q
+  form-one (Sound s k h u) bs ss ts es hs x y p q = box-one (eqb u 6) (boxBy u bs) _ x y p q
 
   by-reader : (s text : List ℕ) (m : FormMesh) → MeshFits m → s ≡ formOf m → OfMesh t m text
       → ByForm t (verdict (read s .reader)) (read s .bounds) (read s .sites) (read s .triangles) (read s .halfedges) (read s .hull) text

@@ -1,16 +1,17 @@
 -- What a program prints for the bytes of a form, said for any pair of texts: the text of what the build makes of the mesh whose form they are, or the line of a refusal.
 -- Definitions only.
 use mathlib.Core.Path.{_≡_}
-use mathlib.Core.Bool.{true, Bool, false}
+use mathlib.Core.Bool.{Bool, true, false}
 use mathlib.Core.List.{List, []}
 use mathlib.Core.Logic.{_≢_}
 use Prim.Native.Nat.{ℕ, _/_, _*_, _≤_}
-use lib.Ieee.{Float, nan}
-use lib.ListN.{length, getD, take}
+use lib.Ieee.{Float}
+use lib.ListN.{length, take}
 use Rattle.numbers.specs.Numbers.{refusedForm}
 use Rattle.utils.specs.Plane.{at}
-use Rattle.utils.specs.declared.Point.{Point}
-use Rattle.bounding_box.specs.Box.{madeOf}
+use Rattle.given_box.specs.Given.{bySize, byEdges}
+use Rattle.given_box.specs.declared.Given.{Given}
+use Rattle.form_box.specs.FormBox.{boxBy}
 use Rattle.mesh.specs.Accepted.{Mesh, mesh, siteCount}
 use Rattle.admission.specs.Admits.{Admits}
 use Rattle.definition.specs.declared.Fault.{Fault}
@@ -18,7 +19,7 @@ use Rattle.definition.specs.Fault.{Outcome, ok, refused}
 use Rattle.definition.specs.Build.{Built, build}
 use Rattle.definition.specs.Unclipped as definition
 use Rattle.admission.specs.Asks.{boxRules}
-use Rattle.form.specs.Form.{Outline, box, unclipped, FormMesh, MeshFits, IsForm, formOf, numbersOf, float, siteFloats, triangleSites, trianglePairs}
+use Rattle.form.specs.Form.{Outline, box, unclipped, edges, FormMesh, MeshFits, IsForm, formOf, numbersOf, float, siteFloats, triangleSites, trianglePairs}
 use Rattle.listing.specs.Listing.{refusal}
 use lib.Dec.{eqb}
 use Rattle.laws.specs.Pick.{pick}
@@ -51,20 +52,25 @@ meshOf m = mesh (numbersOf siteFloats (m .sites)) (numbersOf triangleSites (m .t
 
 module _ (t : Texts) where
   module _ (m : Mesh) where
-    abbrev pub InBox : Point → Float → Float → List ℕ → Type 0
-    InBox c w h = Shows (Admits m true (boxRules c w h)) (t .boxed (siteCount (m .sites)) (length (m .triangles) / 3)) (build m (madeOf c w h))
+    abbrev pub InBox : Given → List ℕ → Type 0
+    InBox g = Shows (Admits m true (boxRules (g .sound))) (t .boxed (siteCount (m .sites)) (length (m .triangles) / 3)) (build m (g .bounds))
 
     abbrev pub WithoutBox : List ℕ → Type 0
     WithoutBox = Shows (Admits m true []) (t .plain (siteCount (m .sites)) (length (m .triangles) / 3)) (definition.unclipped (m .sites) (m .triangles) (m .halfedges))
 
     abbrev pub ByClip : Outline → List ℕ → Type 0
-    ByClip (box x y w h) = InBox (at (float x) (float y)) (float w) (float h)
+    ByClip (box x y w h) = InBox (bySize (at (float x) (float y)) (float w) (float h))
     ByClip unclipped = WithoutBox
+    ByClip (edges left top right bottom) = InBox (byEdges (float left) (float top) (float right) (float bottom))
 
-  -- the text of a mesh, in the box of these four numbers where it is not unclipped
-  abbrev pub ByMode : Bool → List Float → Mesh → List ℕ → Type 0
-  ByMode true bs m text = WithoutBox m text
-  ByMode false bs m text = InBox m (at (getD bs 0 nan) (getD bs 1 nan)) (getD bs 2 nan) (getD bs 3 nan) text
+  -- the text of a mesh, in this box where it is not unclipped
+  abbrev pub ByBox : Bool → Given → Mesh → List ℕ → Type 0
+  ByBox true g m text = WithoutBox m text
+  ByBox false g m text = InBox m g text
+
+  -- by the kind of the form's first record, 6 where it is unclipped, and the four numbers in it
+  abbrev pub ByMode : ℕ → List Float → Mesh → List ℕ → Type 0
+  ByMode k bs m text = ByBox (eqb k 6) (boxBy k bs) m text
 
   -- the text of a form that was read into these lists
   abbrev pub ByForm : Form → List Float → List Float → List ℕ → List ℕ → List ℕ → List ℕ → Type 0

@@ -5,3 +5,4 @@ pub mod FormLists
 pub mod ReadForm
 pub mod TextRoom
 pub mod WholeBuild
+pub mod ByMode

@@ -2,9 +2,8 @@
 use mathlib.Core.Path.{_≡_}
 use Prim.Native.Nat.{ℕ}
 use lib.Dec.{eqb}
-use lib.Ieee.{Float}
 use Rattle.laws.specs.Pick.{pick}
-use Rattle.utils.specs.declared.Point.{Point}
+use Rattle.given_box.specs.declared.Given.{Given}
 use Rattle.mesh.specs.Accepted.{Mesh}
 use Rattle.admission.specs.Slices.{Slices}
 use Rattle.reasons.specs.declared.Question.{Question}
@@ -18,7 +17,7 @@ use Rattle.explaining.specs.Promise.{ClippedWhy}
 unfoldable pub questionOf : ℕ → ℕ → ℕ → Question
 questionOf asked first second = pick (eqb asked 0) (λ _. Nothing) (λ _. pick (eqb asked 1) (λ _. About first) (λ _. Between first second))
 
-pub record WhyCall (m : Mesh) (c : Point) (w h : Float) (q : Question) (old new : Slices) (t : ReasonNumbers) : Type 0 where
+pub record WhyCall (m : Mesh) (g : Given) (q : Question) (old new : Slices) (t : ReasonNumbers) : Type 0 where
   pub reason : Reason
-  pub why : ClippedWhy m c w h q old new reason
+  pub why : ClippedWhy m g q old new reason
   pub told : t ≡ toldBy reason

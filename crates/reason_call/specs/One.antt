@@ -1,7 +1,6 @@
 -- Theorem: of the call for a reason no two outcomes are allowed for one input.
 use mathlib.Core.Path.{_≡_, sym, ap, _∙_}
-use lib.Ieee.{Float}
-use Rattle.utils.specs.declared.Point.{Point}
+use Rattle.given_box.specs.declared.Given.{Given}
 use Rattle.mesh.specs.Accepted.{Mesh}
 use Rattle.admission.specs.Slices.{Slices}
 use Rattle.reasons.specs.declared.Question.{Question}
@@ -10,6 +9,6 @@ use Rattle.reasons.specs.Reason.{toldBy}
 use Rattle.explaining.specs.One as explaining
 use Rattle.reason_call.specs.Call.{WhyCall}
 
-pub one-why-call : {m : Mesh} {c : Point} {w h : Float} {q : Question} {old new other : Slices} {t u : ReasonNumbers}
-    → WhyCall m c w h q old new t → WhyCall m c w h q old other u → (t ≡ u) × (new ≡ other)
+pub one-why-call : {m : Mesh} {g : Given} {q : Question} {old new other : Slices} {t u : ReasonNumbers}
+    → WhyCall m g q old new t → WhyCall m g q old other u → (t ≡ u) × (new ≡ other)
 one-why-call a b = let e = explaining.one-why (a .why) (b .why) in (a .told ∙ ap toldBy (e .0) ∙ sym (b .told), e .1)

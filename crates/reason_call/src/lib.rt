@@ -1,9 +1,10 @@
 // The reason as a call with lent single numbers: the kind and the places, which are always written.
+use given_box::Given;
 use reasons::Question;
 use reasons::ReasonNumbers;
 use reasons::tell;
-use utils::Point;
 ghost use mathlib.Core.Path.{_≡_};
+ghost use Rattle.given_box.specs.Finite.{Fits};
 ghost use Rattle.mesh.specs.Accepted.{mesh};
 ghost use Rattle.admission.specs.Slices.{slices};
 ghost use Rattle.reasons.specs.Reason.{tells};
@@ -39,11 +40,9 @@ fn put_numbers(
     t.number
 }
 
-// In the box of this center, width and height.
+// In the given box.
 pub fn why_call(
-    center: Point,
-    width: f64,
-    height: f64,
+    given: Given,
     sites: &[f64],
     triangles: &[u32],
     halfedges: &[u32],
@@ -61,16 +60,15 @@ pub fn why_call(
     from: &mut u32,
     to: &mut u32,
 ) -> u32
-    ensures { λ r. ⌜ WhyCall (mesh (now (sites .entry)) (now (triangles .entry)) (now (halfedges .entry)) (now (hull .entry))) center width height (questionOf asked first second)
+    requires { ⌜ Fits given ⌝ }
+    ensures { λ r. ⌜ WhyCall (mesh (now (sites .entry)) (now (triangles .entry)) (now (halfedges .entry)) (now (hull .entry))) given (questionOf asked first second)
         (slices (now (work .entry)) (now (vertices .entry)) (now (indexes .entry)) (now (offsets .entry)) (now (counts .entry)))
         (slices (now (work .exit)) (now (vertices .exit)) (now (indexes .exit)) (now (offsets .exit)) (now (counts .exit)))
         (tells r (now (kind .exit)) (now (place .exit)) (now (from .exit)) (now (to .exit))) ⌝ }
 {
     let q = question(asked, first, second);
     let reason = explaining::why(
-        center,
-        width,
-        height,
+        given,
         sites,
         triangles,
         halfedges,

@@ -21,6 +21,16 @@ fn sound(sites: usize, triangles: usize, hull: usize) {
     number(hull);
 }
 
+// The kind that opened the form, where it is not a box by centre and size.
+fn opened(clip: u8) {
+    if clip == 6 {
+        io::write_all(STDOUT_FILENO, b" unclipped");
+    }
+    if clip == 7 {
+        io::write_all(STDOUT_FILENO, b" edges");
+    }
+}
+
 fn say(form: Form) {
     match form {
         Form::Broken { at } => refused(at),
@@ -28,12 +38,10 @@ fn say(form: Form) {
             sites,
             triangles,
             hull,
-            unclipped,
+            clip,
         } => {
             sound(sites, triangles, hull);
-            if unclipped {
-                io::write_all(STDOUT_FILENO, b" unclipped");
-            }
+            opened(clip);
         }
     }
     io::write_all(STDOUT_FILENO, b"\n");

@@ -31,6 +31,13 @@ pub record BoundedEdges (left top right bottom across down : Float) : Type 0 whe
   pub width : Bounded 102 across
   pub height : Bounded 102 down
 
+-- the center of a box that is given by its edges, and its size recomputed
+pub record BoundedCenter (x y across down : Float) : Type 0 where
+  pub center-x : Bounded 103 x
+  pub center-y : Bounded 103 y
+  pub width : Bounded 102 across
+  pub height : Bounded 102 down
+
 -- two points, zeros where there is none
 pub record BoundedMeeting (x y u v : Float) : Type 0 where
   pub first-x : Bounded 101 x

@@ -2,15 +2,14 @@
 -- The rules are those of crates building and cell_query: a build's lent slices are `Slices`, each after the number r as `atExit` says.
 use mathlib.Core.List.{List}
 use Prim.Native.Nat.{ℕ}
-use lib.Ieee.{Float}
-use Rattle.utils.specs.declared.Point.{Point}
+use Rattle.given_box.specs.declared.Given.{Given}
 use Rattle.mesh.specs.Accepted.{Mesh}
 use Rattle.admission.specs.Slices.{Slices}
 use Rattle.cell_query.specs.Cells.{CellAnswer, PlaceAnswer}
 use Rattle.build_answers.specs.Promise.{ClippedBuild, UnclippedBuild}
 
--- clipped to the box of center c, width w and height h: 1, 2, 3, 6, 7 to 10, 11 to 14
-abbrev pub Build : Mesh → Point → Float → Float → Slices → Slices → ℕ → Type 0
+-- clipped to the given box: 1, 2, 3, 6, 7 to 10, 11 to 14
+abbrev pub Build : Mesh → Given → Slices → Slices → ℕ → Type 0
 Build = ClippedBuild
 
 -- the same without 3 and 12 to 14

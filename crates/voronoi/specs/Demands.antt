@@ -14,8 +14,9 @@ use Rattle.root.specs.Root.{Root, RootBits}
 use Rattle.root.specs.Bounded.{Bounded}
 use Rattle.utils.specs.Rules.{okSite}
 use Rattle.utils.specs.declared.Point.{Point}
-use Rattle.bounding_box.specs.Box.{madeOf}
-use Rattle.bounding_box.specs.Rules.{okBox}
+use Rattle.given_box.specs.Given.{bySize, byEdges}
+use Rattle.given_box.specs.Finite.{Fits, size-fits, edges-fit}
+use Rattle.given_box.specs.declared.Given.{Given}
 use Rattle.crossings.specs.Rules.{lineAnswer, rayAnswer}
 use Rattle.mesh.specs.Mesh.{wholeOf, Used}
 use Rattle.mesh.specs.Accepted.{Mesh, tableOf, siteCount}
@@ -31,8 +32,8 @@ use Rattle.voronoi.specs.Roots.{MagnitudeBits, Magnitude, SignumBits, Si
 use Rattle.mending.specs.Mending.{Lent}
 use Rattle.voronoi.specs.Mends.{Mend}
 use Rattle.voronoi.specs.One.{one-mend, one-cell-wkb-bits, one-cell-wkb, one-root-bits, one-root, one-magnitude-bits, one-magnitude, one-signum-bits, one-signum}
-use Rattle.voronoi.specs.Plane.{Near, Dist2, Circumcenter, Centroid, Edges, Corners, Inside, ExclusivelyInside, WhichEdge, Meets}
-use Rattle.voronoi.specs.One.{one-near, one-dist2, one-center, one-box, one-corners, one-inside, one-exclusively, one-side, one-meeting}
+use Rattle.voronoi.specs.Plane.{Near, Dist2, Circumcenter, Centroid, Edges, Centered, Corners, Inside, ExclusivelyInside, WhichEdge, Meets}
+use Rattle.voronoi.specs.One.{one-near, one-dist2, one-center, one-box, one-box-center, one-corners, one-inside, one-exclusively, one-side, one-meeting}
 use Rattle.voronoi.specs.Meshes.{Check}
 use Rattle.voronoi.specs.One.{one-check}
 use Rattle.voronoi.specs.Walks.{Walk, Neighbours, ClippedNeighbours, Path, SharedEdge, CellsShareEdge}
@@ -41,22 +42,22 @@ use Rattle.voronoi.specs.Builds.{Build, BuildUnclipped, Cell, CellPart}
 use Rattle.voronoi.specs.Explanations.{Why}
 use Rattle.voronoi.specs.One.{one-build, one-why, one-build-unclipped, one-cell, one-cell-part}
 use Rattle.voronoi.specs.Maps.{CellWkbBits, CellWkb}
-use Rattle.voronoi.specs.Outcomes.{One, One₂, One₃, OneList, OneMend, OneMeeting, OneBox, SliceRefused, ListRefused, BuildRefused}
+use Rattle.voronoi.specs.Outcomes.{One, One₂, One₃, OneList, OneMend, OneMeeting, OneBox, OneCenter, SliceRefused, ListRefused, BuildRefused}
 use Rattle.voronoi.specs.Leaves.{QueryAllowed, BuildAllowed, BuildLeaves}
-use Rattle.voronoi.specs.Bounds.{BoundedEdges, BoundedMeeting, Bounds, bounds}
+use Rattle.voronoi.specs.Bounds.{BoundedEdges, BoundedCenter, BoundedMeeting, Bounds, bounds}
 use Rattle.voronoi.specs.Approach.{WholeRound, nextTo, Joined, Approaches}
 use Rattle.voronoi.specs.Wraps.{Wraps}
 use Rattle.voronoi.specs.laws.Refused.{work-refused, list-refused, slices-refused}
 use Rattle.voronoi.specs.laws.Answering.{check-answers, site-answers, cells-answers, path-answers, edge-answers}
 use Rattle.voronoi.specs.laws.Leaving.{build-answers, build-leaves, build-empty, unclipped-answers, unclipped-leaves, unclipped-empty}
-use Rattle.voronoi.specs.laws.PlaneBounds.{dist2-answer, circumcenter-answer, centroid-answer, box-answer, corners-answer, line-answer, ray-answer}
+use Rattle.voronoi.specs.laws.PlaneBounds.{dist2-answer, circumcenter-answer, centroid-answer, box-answer, center-answer, corners-answer, line-answer, ray-answer}
 use Rattle.voronoi.specs.laws.Written.{written, begins, rest}
 use Rattle.voronoi.specs.laws.Walking.{walk-rounds, walk-ends, no-walk, neighbours-joined, no-neighbours, path-approaches, path-once, path-short, path-ended, own-path}
 use Rattle.voronoi.specs.laws.Wrapping.{build-wraps}
 
 -- ---- 1. Every public call ends with an answer on every input; a refusal has its number (docs/RULES.md), and each lent slice then holds exactly what is promised.
 
--- one outcome for each input of each call; then what a refusal leaves
+-- one outcome for each input of each call; then what a refusal leaves. A box g is given by its center and size or by its edges: what is said of a call holds of the call by edges too.
 pub record Demand1 (m : Mesh) : Type 0 where
   -- voronoi_root_bits, of patterns of 64 bits
   pub root-bits : (b : ℕ) → One (λ r. (r < 2 ^ 64) × RootBits b r)
@@ -79,19 +80,21 @@ pub record Demand1 (m : Mesh) : Type 0 where
   -- voronoi_centroid: the number, x, y
   pub centroid : (l : List Float) → One₃ (Centroid l)
   -- voronoi_box: the number, left, top, right, bottom, width, height
-  pub box : (c : Point) (w h : Float) → OneBox (Edges c w h)
+  pub box : (g : Given) → OneBox (Edges g)
+  -- voronoi_box_by_edges: the number, the center, width, height
+  pub box-center : (g : Given) → OneCenter (Centered g)
   -- voronoi_corners: the number, the slice
-  pub corners : (c : Point) (w h : Float) (l : List Float) → One₂ (Corners c w h l)
+  pub corners : (g : Given) (l : List Float) → One₂ (Corners g l)
   -- voronoi_is_inside: the number, yes or no
-  pub is-inside : (c : Point) (w h : Float) (p : Point) → One₂ (Inside c w h p)
+  pub is-inside : (g : Given) (p : Point) → One₂ (Inside g p)
   -- voronoi_is_exclusively_inside
-  pub is-exclusively-inside : (c : Point) (w h : Float) (p : Point) → One₂ (ExclusivelyInside c w h p)
+  pub is-exclusively-inside : (g : Given) (p : Point) → One₂ (ExclusivelyInside g p)
   -- voronoi_which_edge: the number, the side
-  pub which-edge : (c : Point) (w h : Float) (p : Point) → One₂ (WhichEdge c w h p)
+  pub which-edge : (g : Given) (p : Point) → One₂ (WhichEdge g p)
   -- voronoi_intersect_line: the number, how many, two points
-  pub intersect-line : (c : Point) (w h : Float) (p q : Point) → OneMeeting (Meets (lineAnswer c w h p q))
+  pub intersect-line : (g : Given) (p q : Point) → OneMeeting (Meets (lineAnswer g p q))
   -- voronoi_project_ray
-  pub project-ray : (c : Point) (w h : Float) (p dir : Point) → OneMeeting (Meets (rayAnswer c w h p dir))
+  pub project-ray : (g : Given) (p dir : Point) → OneMeeting (Meets (rayAnswer g p dir))
   -- voronoi_check: the number, the work slice
   pub check : (w : List ℕ) → One₂ (λ r w′. Check m w w′ r)
   -- voronoi_walk: the number, the work slice, the output slice, the count, ended
@@ -107,11 +110,11 @@ pub record Demand1 (m : Mesh) : Type 0 where
   -- voronoi_cells_share_edge: the number, yes or no
   pub cells-share-edge : (offs idx : List ℕ) (a b : ℕ) → One₂ (λ r y. CellsShareEdge offs idx a b y r)
   -- voronoi_build: the number, all five slices
-  pub build : (c : Point) (w h : Float) (old : Slices) → One₂ (λ r new. Build m c w h old new r)
+  pub build : (g : Given) (old : Slices) → One₂ (λ r new. Build m g old new r)
   -- voronoi_build_unclipped
   pub build-unclipped : (old : Slices) → One₂ (λ r new. BuildUnclipped m old new r)
   -- voronoi_why: the number, the kind and the places; all five slices
-  pub why : (c : Point) (w h : Float) (asked first second : ℕ) (old : Slices) → One₂ (λ t new. Why m c w h asked first second old new t)
+  pub why : (g : Given) (asked first second : ℕ) (old : Slices) → One₂ (λ t new. Why m g asked first second old new t)
   -- voronoi_cell: the number, start, length
   pub cell : (offs idx : List ℕ) (s : ℕ) → One₃ (λ r start long. Cell offs idx s start long r)
   -- cell: the number, the part
@@ -132,7 +135,7 @@ pub record Demand1 (m : Mesh) : Type 0 where
   -- by voronoi_shared_edge: the work slice
   pub shared-edge-refused : (a b : ℕ) {w w′ : List ℕ} {e r : ℕ} → SharedEdge m a b w w′ e r → r ≢ 0 → SliceRefused EMPTY w w′ r
   -- by a build: all five slices
-  pub build-refused : (c : Point) (w h : Float) {old new : Slices} {r : ℕ} → Build m c w h old new r → r ≢ 0 → BuildRefused old new r
+  pub build-refused : (g : Given) {old new : Slices} {r : ℕ} → Build m g old new r → r ≢ 0 → BuildRefused old new r
   pub unclipped-refused : {old new : Slices} {r : ℕ} → BuildUnclipped m old new r → r ≢ 0 → BuildRefused old new r
 
 -- ---- 2. On every admitted input vertices, cells, walks and paths are the definition's, bit for bit: every number answered is finite, so that its pattern is meant.
@@ -148,13 +151,16 @@ pub record Demand2 (m : Mesh) : Type 0 where
   pub path-answers : (s : ℕ) (p : Point) {w w′ o o′ : List ℕ} {k e r : ℕ} → Path m s p w w′ o o′ k e r
       → (r ≡ 0) ↔ QueryAllowed m w ((s < siteCount (m .sites)) × (okSite p ≡ true))
   pub shared-edge-answers : (a b : ℕ) {w w′ : List ℕ} {e r : ℕ} → SharedEdge m a b w w′ e r → (r ≡ 0) ↔ QueryAllowed m w (Unit {0})
+  -- a box fits that is given by its center and size, and one that is given by its edges: all that is asked of a box below
+  pub by-size : (c : Point) (w h : Float) → Fits (bySize c w h)
+  pub by-edges : (l t r b : Float) → Fits (byEdges l t r b)
   -- a build answers 0 exactly where mesh, room, box and definition allow it
-  pub build-answers : (c : Point) (w h : Float) {old new : Slices} {r : ℕ} → Build m c w h old new r
-      → (r ≡ 0) ↔ BuildAllowed m (okBox c w h ≡ true) (build m (madeOf c w h)) old
+  pub build-answers : (g : Given) {old new : Slices} {r : ℕ} → Build m g old new r
+      → (r ≡ 0) ↔ BuildAllowed m (g .sound ≡ true) (build m (g .bounds)) old
   pub unclipped-answers : {old new : Slices} {r : ℕ} → BuildUnclipped m old new r → (r ≡ 0) ↔ BuildAllowed m (Unit {0}) (unclipped (m .sites) (m .triangles) (m .halfedges)) old
   -- and leaves the definition's vertices, cells, owners and lost corners; each number finite; the cell queries hand the definition's cells back
-  pub build-leaves : (c : Point) (w h : Float) {old new : Slices} → Build m c w h old new 0
-      → BuildLeaves (siteCount (m .sites)) (tableOf m) (build m (madeOf c w h)) old new
+  pub build-leaves : (g : Given) → Fits g → {old new : Slices} → Build m g old new 0
+      → BuildLeaves (siteCount (m .sites)) (tableOf m) (build m (g .bounds)) old new
   pub unclipped-leaves : {old new : Slices} → BuildUnclipped m old new 0 → BuildLeaves (siteCount (m .sites)) (tableOf m) (unclipped (m .sites) (m .triangles) (m .halfedges)) old new
   -- a walk that has ended is the definition's, from the leftmost half-edge of the site
   pub walk : (s : ℕ) {w w′ o o′ : List ℕ} {k : ℕ} → Walk m s w w′ o o′ k 1 0 → take k o′ ≡ wholeOf (m .halfedges) (getD (tableOf m) s 0)
@@ -169,10 +175,11 @@ pub record Demand2 (m : Mesh) : Type 0 where
   pub dist2 : (a b : Point) {d : Float} → Dist2 a b 0 d → Bounded 203 d
   pub circumcenter : (a b c : Point) {x y : Float} → Circumcenter a b c 0 x y → Bounded 400 x × Bounded 400 y
   pub centroid : (l : List Float) {x y : Float} → Centroid l 0 x y → Bounded 100 x × Bounded 100 y
-  pub box : (c : Point) (w h : Float) {l t r b a d : Float} → Edges c w h 0 l t r b a d → BoundedEdges l t r b a d
-  pub corners : (c : Point) (w h : Float) {before after : List Float} → Corners c w h before 0 after → (i : ℕ) → i < length after → Bounded 101 (getD after i nan)
-  pub intersect-line : (c : Point) (w h : Float) (p q : Point) {k : ℕ} {x y u v : Float} → Meets (lineAnswer c w h p q) 0 k x y u v → BoundedMeeting x y u v
-  pub project-ray : (c : Point) (w h : Float) (p dir : Point) {k : ℕ} {x y u v : Float} → Meets (rayAnswer c w h p dir) 0 k x y u v → BoundedMeeting x y u v
+  pub box : (g : Given) → Fits g → {l t r b a d : Float} → Edges g 0 l t r b a d → BoundedEdges l t r b a d
+  pub box-center : (l t r b : Float) {x y a d : Float} → Centered (byEdges l t r b) 0 x y a d → BoundedCenter x y a d
+  pub corners : (g : Given) → Fits g → {before after : List Float} → Corners g before 0 after → (i : ℕ) → i < length after → Bounded 101 (getD after i nan)
+  pub intersect-line : (g : Given) → Fits g → (p q : Point) {k : ℕ} {x y u v : Float} → Meets (lineAnswer g p q) 0 k x y u v → BoundedMeeting x y u v
+  pub project-ray : (g : Given) → Fits g → (p dir : Point) {k : ℕ} {x y u v : Float} → Meets (rayAnswer g p dir) 0 k x y u v → BoundedMeeting x y u v
   -- nor is a value on the way to one
   pub within : Bounds
 
@@ -202,7 +209,7 @@ pub record Demand3 (m : Mesh) : Type 0 where
   pub path-begins : (s : ℕ) (p : Point) {v v′ x x′ w w′ o o′ : List ℕ} {j k e : ℕ} → Path m s p v v′ x x′ j 1 0 → Path m s p w w′ o o′ k e 0
       → (take k o′ ≡ take (length o) (take j x′)) × (drop k o′ ≡ drop k o)
   -- each corner is wrapped at most once, by its owner, in the cells that a build leaves
-  pub wrapping : (c : Point) (w h : Float) {old new : Slices} → Build m c w h old new 0 → Wraps m (madeOf c w h) old new
+  pub wrapping : (g : Given) → Fits g → {old new : Slices} → Build m g old new 0 → Wraps m (g .bounds) old new
   -- a site in no triangle has an empty walk
   pub no-walk : (s : ℕ) {w w′ o o′ : List ℕ} {k e : ℕ} → (Used (m .triangles) s → ⊥) → Walk m s w w′ o o′ k e 0 → (k ≡ 0) × (e ≡ 1)
   -- no neighbours
@@ -211,7 +218,7 @@ pub record Demand3 (m : Mesh) : Type 0 where
   pub own-path : (s : ℕ) (p : Point) {w w′ o o′ : List ℕ} {k e : ℕ} → (Used (m .triangles) s → ⊥) → 0 < length o
       → Path m s p w w′ o o′ k e 0 → (take k o′ ≡ s ∷ []) × (e ≡ 1)
   -- an empty cell
-  pub no-cell : (c : Point) (w h : Float) (s : ℕ) {old new : Slices} {part : List ℕ} {r : ℕ} → Build m c w h old new 0 → s < siteCount (m .sites) → (Used (m .triangles) s → ⊥)
+  pub no-cell : (g : Given) → Fits g → (s : ℕ) {old new : Slices} {part : List ℕ} {r : ℕ} → Build m g old new 0 → s < siteCount (m .sites) → (Used (m .triangles) s → ⊥)
       → CellPart (take (suc (siteCount (m .sites))) (new .offsets)) (new .indexes) s part r → part ≡ []
   pub no-cell-unclipped : (s : ℕ) {old new : Slices} {part : List ℕ} {r : ℕ} → BuildUnclipped m old new 0 → s < siteCount (m .sites) → (Used (m .triangles) s → ⊥)
       → CellPart (take (suc (siteCount (m .sites))) (new .offsets)) (new .indexes) s part r → part ≡ []
@@ -230,13 +237,14 @@ demand1 m = record {
   dist2 = λ a b _ _ _ _. one-dist2;
   circumcenter = λ a b c _ _ _ _ _ _. one-center;
   centroid = λ l _ _ _ _ _ _. one-center;
-  box = λ c w h _ _ _ _ _ _ _ _ _ _ _ _ _ _. one-box;
-  corners = λ c w h l _ _ _ _. one-corners;
-  is-inside = λ c w h p _ _ _ _. one-inside;
-  is-exclusively-inside = λ c w h p _ _ _ _. one-exclusively;
-  which-edge = λ c w h p _ _ _ _. one-side;
-  intersect-line = λ c w h p q _ _ _ _ _ _ _ _ _ _ _ _. one-meeting;
-  project-ray = λ c w h p dir _ _ _ _ _ _ _ _ _ _ _ _. one-meeting;
+  box = λ g _ _ _ _ _ _ _ _ _ _ _ _ _ _. one-box;
+  box-center = λ g _ _ _ _ _ _ _ _ _ _. one-box-center;
+  corners = λ g l _ _ _ _. one-corners;
+  is-inside = λ g p _ _ _ _. one-inside;
+  is-exclusively-inside = λ g p _ _ _ _. one-exclusively;
+  which-edge = λ g p _ _ _ _. one-side;
+  intersect-line = λ g p q _ _ _ _ _ _ _ _ _ _ _ _. one-meeting;
+  project-ray = λ g p dir _ _ _ _ _ _ _ _ _ _ _ _. one-meeting;
   check = λ w r s new other. one-check m w new other r s;
   walk = λ s w o _ _ _ _ _ _ _ _ _ _. one-walk m s;
   neighbours = λ s w o _ _ _ _ _ _ _ _ _ _. one-neighbours m s;
@@ -244,9 +252,9 @@ demand1 m = record {
   path = λ s p w o _ _ _ _ _ _ _ _ _ _. one-path m s p;
   shared-edge = λ a b w _ _ _ _ _ _. one-shared-edge;
   cells-share-edge = λ offs idx a b _ _ _ _. one-cells-share-edge;
-  build = λ c w h old _ _ _ _. one-build m c w h;
+  build = λ g old _ _ _ _. one-build m g;
   build-unclipped = λ old _ _ _ _. one-build-unclipped m;
-  why = λ c w h asked first second old _ _ _ _. one-why c w h asked first second;
+  why = λ g asked first second old _ _ _ _. one-why g asked first second;
   cell = λ offs idx s _ _ _ _ _ _. one-cell offs idx s;
   cell-part = λ offs idx s _ _ _ _. one-cell-part offs idx s;
   cell-wkb-bits = λ v off ix s out _ _ _ _ _ _. one-cell-wkb-bits off ix s out v;
@@ -258,7 +266,7 @@ demand1 m = record {
   clipped-refused = λ offs idx s. list-refused;
   path-refused = λ s p. list-refused;
   shared-edge-refused = λ a b x. work-refused m (x .work);
-  build-refused = λ c w h. slices-refused;
+  build-refused = λ g. slices-refused;
   unclipped-refused = slices-refused;
 }
 
@@ -270,9 +278,11 @@ demand2 m = record {
   clipped-answers = λ offs idx s a. cells-answers m _ offs idx s (a .number);
   path-answers = λ s p a. path-answers m _ s p (a .number);
   shared-edge-answers = λ a b x. edge-answers m _ (x .number);
-  build-answers = λ c w h. build-answers m c w h;
+  by-size = size-fits;
+  by-edges = edges-fit;
+  build-answers = λ g. build-answers m g;
   unclipped-answers = unclipped-answers m;
-  build-leaves = λ c w h. build-leaves m c w h;
+  build-leaves = λ g f. build-leaves m g f;
   unclipped-leaves = unclipped-leaves m;
   walk = λ s. written;
   neighbours = λ s. written;
@@ -281,8 +291,9 @@ demand2 m = record {
   dist2 = λ a b. dist2-answer;
   circumcenter = circumcenter-answer;
   centroid = centroid-answer;
-  box = λ c w h. box-answer;
-  corners = λ c w h. corners-answer;
+  box = λ g. box-answer;
+  box-center = center-answer;
+  corners = λ g. corners-answer;
   intersect-line = line-answer;
   project-ray = ray-answer;
   within = bounds;
@@ -303,6 +314,6 @@ demand3 m = record {
   no-walk = no-walk m;
   no-neighbours = no-neighbours m;
   own-path = λ s p. own-path m s p;
-  no-cell = λ c w h s. build-empty m c w h s;
+  no-cell = λ g f s. build-empty m g f s;
   no-cell-unclipped = λ s. unclipped-empty m s;
 }

@@ -12,6 +12,7 @@ use Rattle.root.specs.Root.{Root, RootBits}
 use Rattle.root.specs.Unique as root
 use Rattle.utils.specs.declared.Point.{Point}
 use Rattle.utils.specs.declared.Center.{Center}
+use Rattle.given_box.specs.declared.Given.{Given}
 use Rattle.crossings.specs.declared.Meeting.{Meeting}
 use Rattle.mesh.specs.Rules.{numberOf}
 use Rattle.mesh.specs.Accepted.{Mesh}
@@ -34,7 +35,7 @@ use Rattle.mending.specs.Mending.{Lent}
 use Rattle.mending.specs.One.{mends-one}
 use Rattle.voronoi.specs.Mends.{Mend}
 use Rattle.voronoi.specs.Roots.{MagnitudeBits, Magnitude, SignumBits, Signum}
-use Rattle.voronoi.specs.Plane.{Near, Dist2, Edges, Corners, Inside, ExclusivelyInside, WhichEdge, Meets}
+use Rattle.voronoi.specs.Plane.{Near, Dist2, Edges, Centered, Corners, Inside, ExclusivelyInside, WhichEdge, Meets}
 use Rattle.voronoi.specs.Meshes.{Check}
 use Rattle.voronoi.specs.Walks.{Handed, Walk, Neighbours, ClippedNeighbours, Path, SharedEdge, CellsShareEdge}
 use Rattle.voronoi.specs.Builds.{Build, BuildUnclipped, CellPart, Cell}
@@ -73,7 +74,7 @@ one-dist2 p q = (same (p .refusal) (q .refusal), same (p .value) (q .value))
 pub one-center : {r : Center} {n m : ℕ} {x y z w : Float} → Answered r n x y → Answered r m z w → (n ≡ m) × (x ≡ z) × (y ≡ w)
 one-center p q = (same (p .refusal) (q .refusal), same (p .x-value) (q .x-value), same (p .y-value) (q .y-value))
 
-pub one-box : {c : Point} {w h : Float} {n m : ℕ} {l t r b a d l' t' r' b' a' d' : Float} → Edges c w h n l t r b a d → Edges c w h m l' t' r' b' a' d'
+pub one-box : {g : Given} {n m : ℕ} {l t r b a d l' t' r' b' a' d' : Float} → Edges g n l t r b a d → Edges g m l' t' r' b' a' d'
     → (n ≡ m) × (l ≡ l') × (t ≡ t') × (r ≡ r') × (b ≡ b') × (a ≡ a') × (d ≡ d')
 one-box p q = (
   same (p .refusal) (q .refusal),
@@ -85,16 +86,26 @@ one-box p q = (
   same (p .height) (q .height),
 )
 
-pub one-corners : {c : Point} {w h : Float} {l : List Float} {n m : ℕ} {k o : List Float} → Corners c w h l n k → Corners c w h l m o → (n ≡ m) × (k ≡ o)
+pub one-box-center : {g : Given} {n m : ℕ} {x y a d x' y' a' d' : Float} → Centered g n x y a d → Centered g m x' y' a' d'
+    → (n ≡ m) × (x ≡ x') × (y ≡ y') × (a ≡ a') × (d ≡ d')
+one-box-center p q = (
+  same (p .refusal) (q .refusal),
+  same (p .center-x) (q .center-x),
+  same (p .center-y) (q .center-y),
+  same (p .width) (q .width),
+  same (p .height) (q .height),
+)
+
+pub one-corners : {g : Given} {l : List Float} {n m : ℕ} {k o : List Float} → Corners g l n k → Corners g l m o → (n ≡ m) × (k ≡ o)
 one-corners p q = (same (p .refusal) (q .refusal), same (p .slice) (q .slice))
 
-pub one-inside : {c : Point} {w h : Float} {p : Point} {n m y z : ℕ} → Inside c w h p n y → Inside c w h p m z → (n ≡ m) × (y ≡ z)
+pub one-inside : {g : Given} {p : Point} {n m y z : ℕ} → Inside g p n y → Inside g p m z → (n ≡ m) × (y ≡ z)
 one-inside p q = (same (p .refusal) (q .refusal), same (p .answer) (q .answer))
 
-pub one-exclusively : {c : Point} {w h : Float} {p : Point} {n m y z : ℕ} → ExclusivelyInside c w h p n y → ExclusivelyInside c w h p m z → (n ≡ m) × (y ≡ z)
+pub one-exclusively : {g : Given} {p : Point} {n m y z : ℕ} → ExclusivelyInside g p n y → ExclusivelyInside g p m z → (n ≡ m) × (y ≡ z)
 one-exclusively p q = (same (p .refusal) (q .refusal), same (p .answer) (q .answer))
 
-pub one-side : {c : Point} {w h : Float} {p : Point} {n m s t : ℕ} → WhichEdge c w h p n s → WhichEdge c w h p m t → (n ≡ m) × (s ≡ t)
+pub one-side : {g : Given} {p : Point} {n m s t : ℕ} → WhichEdge g p n s → WhichEdge g p m t → (n ≡ m) × (s ≡ t)
 one-side p q = (same (p .refusal) (q .refusal), same (p .answer) (q .answer))
 
 -- the line and the ray
@@ -159,8 +170,8 @@ one-cells-share-edge {off} {ix} {a} {b} x v =
 
 -- ---- builds and cells
 module _ (m : Mesh) {old new other : Slices} {r s : ℕ} where
-  pub one-build : (c : Point) (w h : Float) → Build m c w h old new r → Build m c w h old other s → (r ≡ s) × (new ≡ other)
-  one-build c w h = answers-one
+  pub one-build : (g : Given) → Build m g old new r → Build m g old other s → (r ≡ s) × (new ≡ other)
+  one-build g = answers-one
 
   pub one-build-unclipped : BuildUnclipped m old new r → BuildUnclipped m old other s → (r ≡ s) × (new ≡ other)
   one-build-unclipped = answers-one
@@ -185,9 +196,9 @@ module _ (off ix : List ℕ) (s : ℕ) (old : List ℕ) {new other : List ℕ} {
   one-cell-wkb v = one-wkb (patterns v) off ix s old
 
 -- ---- reasons
-pub one-why : {m : Mesh} (c : Point) (w h : Float) (asked first second : ℕ) {old new other : Slices} {t u : ReasonNumbers}
-    → Why m c w h asked first second old new t → Why m c w h asked first second old other u → (t ≡ u) × (new ≡ other)
-one-why c w h asked first second = one-why-call
+pub one-why : {m : Mesh} (g : Given) (asked first second : ℕ) {old new other : Slices} {t u : ReasonNumbers}
+    → Why m g asked first second old new t → Why m g asked first second old other u → (t ≡ u) × (new ≡ other)
+one-why g asked first second = one-why-call
 
 -- ---- mending
 pub one-mend : (m : Mesh) {old new other : Lent} {r k p q s l u n : ℕ} → Mend m old new r k p q → Mend m old other s l u n

@@ -41,6 +41,10 @@ abbrev pub OneBox : (ℕ → Float → Float → Float → Float → Float → F
 OneBox P = (n n′ : ℕ) (l l′ t t′ r r′ b b′ a a′ d d′ : Float) → P n l t r b a d → P n′ l′ t′ r′ b′ a′ d′
     → (n ≡ n′) × (l ≡ l′) × (t ≡ t′) × (r ≡ r′) × (b ≡ b′) × (a ≡ a′) × (d ≡ d′)
 
+-- its center instead of its edges
+abbrev pub OneCenter : (ℕ → Float → Float → Float → Float → Type 0) → Type 0
+OneCenter P = (n n′ : ℕ) (x x′ y y′ a a′ d d′ : Float) → P n x y a d → P n′ x′ y′ a′ d′ → (n ≡ n′) × (x ≡ x′) × (y ≡ y′) × (a ≡ a′) × (d ≡ d′)
+
 -- ---- refused
 
 -- a slice after the refusal r: as it was up to 6, cleared over its whole length from 7 on

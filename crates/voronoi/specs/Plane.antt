@@ -1,9 +1,10 @@
--- The promises of the calls on points and the box: the number, and each lent number at exit. A box is its center c, width w and height h.
+-- The promises of the calls on points and the box: the number, and each lent number at exit. A box is given by its size or by its edges (crate given_box).
 -- They are those of crate plane_calls, where what they say is written out.
 use mathlib.Core.List.{List}
 use Prim.Native.Nat.{ℕ}
 use lib.Ieee.{Float}
 use Rattle.utils.specs.declared.Point.{Point}
+use Rattle.given_box.specs.declared.Given.{Given}
 use Rattle.crossings.specs.declared.Meeting.{Meeting}
 use Rattle.plane_calls.specs.Plane as calls
 
@@ -21,19 +22,22 @@ abbrev pub Centroid : List Float → ℕ → Float → Float → Type 0
 Centroid = calls.Centroid
 
 -- ---- the box
-abbrev pub Edges : Point → Float → Float → ℕ → Float → Float → Float → Float → Float → Float → Type 0
+abbrev pub Edges : Given → ℕ → Float → Float → Float → Float → Float → Float → Type 0
 Edges = calls.Edges
 
-abbrev pub Corners : Point → Float → Float → List Float → ℕ → List Float → Type 0
+abbrev pub Centered : Given → ℕ → Float → Float → Float → Float → Type 0
+Centered = calls.Centered
+
+abbrev pub Corners : Given → List Float → ℕ → List Float → Type 0
 Corners = calls.Corners
 
-abbrev pub Inside : Point → Float → Float → Point → ℕ → ℕ → Type 0
+abbrev pub Inside : Given → Point → ℕ → ℕ → Type 0
 Inside = calls.Inside
 
-abbrev pub ExclusivelyInside : Point → Float → Float → Point → ℕ → ℕ → Type 0
+abbrev pub ExclusivelyInside : Given → Point → ℕ → ℕ → Type 0
 ExclusivelyInside = calls.ExclusivelyInside
 
-abbrev pub WhichEdge : Point → Float → Float → Point → ℕ → ℕ → Type 0
+abbrev pub WhichEdge : Given → Point → ℕ → ℕ → Type 0
 WhichEdge = calls.WhichEdge
 
 -- ---- crossings: of a line `lineAnswer`, of a ray `rayAnswer`

@@ -1,6 +1,7 @@
 -- Laws that only proofs use.
 pub mod Meshes
 pub mod Walks
+pub mod InGiven
 pub mod Refused
 pub mod Written
 pub mod Answering

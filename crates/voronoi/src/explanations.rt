@@ -1,6 +1,6 @@
 // The one reason why a mesh is refused, or, where it builds, why the cell of a site is empty or why a neighbour is gone. The five slices are as after a build.
-use utils::Point;
 ghost use Rattle.utils.specs.Plane.{at};
+ghost use Rattle.given_box.specs.Given.{bySize};
 ghost use Rattle.mesh.specs.Accepted.{mesh};
 ghost use Rattle.admission.specs.Slices.{slices};
 ghost use Rattle.reasons.specs.Reason.{tells};
@@ -30,16 +30,14 @@ pub extern "C" fn voronoi_why(
     from: &mut u32,
     to: &mut u32,
 ) -> u32
-    ensures { λ r. ⌜ Why (mesh (now (sites .entry)) (now (triangles .entry)) (now (halfedges .entry)) (now (hull .entry))) (at cx cy) width height asked first second
+    ensures { λ r. ⌜ Why (mesh (now (sites .entry)) (now (triangles .entry)) (now (halfedges .entry)) (now (hull .entry))) (bySize (at cx cy) width height) asked first second
         (slices (now (work .entry)) (now (vertices .entry)) (now (indexes .entry)) (now (offsets .entry)) (now (counts .entry)))
         (slices (now (work .exit)) (now (vertices .exit)) (now (indexes .exit)) (now (offsets .exit)) (now (counts .exit)))
         (tells r (now (kind .exit)) (now (place .exit)) (now (from .exit)) (now (to .exit))) ⌝ }
 {
-    let center = Point { x: cx, y: cy };
+    let given = given_box::by_size(cx, cy, width, height);
     reason_call::why_call(
-        center,
-        width,
-        height,
+        given,
         sites,
         triangles,
         halfedges,

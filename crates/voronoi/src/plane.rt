@@ -1,6 +1,8 @@
-// Points and the box. A box is its center, width and height; 3 is tried on it, then 6 on each point. A lent number is always written: 0 (a side: EMPTY) where the call refuses.
+// Points and the box. A box is its center, width and height (in module edges: its four edges); 3 is tried on it, then 6 on each point.
+// A lent number is always written: 0 (a side: EMPTY) where the call refuses.
 use utils::Point;
 ghost use Rattle.utils.specs.Plane.{at};
+ghost use Rattle.given_box.specs.Given.{bySize};
 ghost use Rattle.crossings.specs.Rules.{lineAnswer, rayAnswer};
 ghost use Rattle.voronoi.specs.Plane.{Near, Dist2, Circumcenter, Centroid, Edges, Corners, Inside, ExclusivelyInside, WhichEdge, Meets};
 
@@ -72,11 +74,11 @@ pub extern "C" fn voronoi_box(
     across: &mut f64,
     down: &mut f64,
 ) -> u32
-    ensures { λ r. ⌜ Edges (at cx cy) width height r (now (left .exit)) (now (top .exit)) (now (right .exit)) (now (bottom .exit))
+    ensures { λ r. ⌜ Edges (bySize (at cx cy) width height) r (now (left .exit)) (now (top .exit)) (now (right .exit)) (now (bottom .exit))
         (now (across .exit)) (now (down .exit)) ⌝ }
 {
-    let center = Point { x: cx, y: cy };
-    let r = plane_calls::box_edges(center, width, height);
+    let given = given_box::by_size(cx, cy, width, height);
+    let r = plane_calls::box_edges(given);
     *left = r.left;
     *top = r.top;
     *right = r.right;
@@ -89,10 +91,10 @@ pub extern "C" fn voronoi_box(
 // The corners, top left, bottom left, bottom right, top right, x and y each, into a slice of 8 or more, whose rest is cleared; 2, then 3.
 #[no_mangle]
 pub extern "C" fn voronoi_corners(cx: f64, cy: f64, width: f64, height: f64, out: &mut [f64]) -> u32
-    ensures { λ r. ⌜ Corners (at cx cy) width height (now (out .entry)) r (now (out .exit)) ⌝ }
+    ensures { λ r. ⌜ Corners (bySize (at cx cy) width height) (now (out .entry)) r (now (out .exit)) ⌝ }
 {
-    let center = Point { x: cx, y: cy };
-    plane_calls::corners(center, width, height, out)
+    let given = given_box::by_size(cx, cy, width, height);
+    plane_calls::corners(given, out)
 }
 
 // Whether (x, y) is inside the box or on its edges: 1 or 0.
@@ -106,11 +108,11 @@ pub extern "C" fn voronoi_is_inside(
     y: f64,
     inside: &mut u32,
 ) -> u32
-    ensures { λ r. ⌜ Inside (at cx cy) width height (at x y) r (now (inside .exit)) ⌝ }
+    ensures { λ r. ⌜ Inside (bySize (at cx cy) width height) (at x y) r (now (inside .exit)) ⌝ }
 {
-    let center = Point { x: cx, y: cy };
+    let given = given_box::by_size(cx, cy, width, height);
     let p = Point { x: x, y: y };
-    let r = plane_calls::is_inside(center, width, height, p);
+    let r = plane_calls::is_inside(given, p);
     *inside = r.yes;
     r.number
 }
@@ -126,11 +128,11 @@ pub extern "C" fn voronoi_is_exclusively_inside(
     y: f64,
     inside: &mut u32,
 ) -> u32
-    ensures { λ r. ⌜ ExclusivelyInside (at cx cy) width height (at x y) r (now (inside .exit)) ⌝ }
+    ensures { λ r. ⌜ ExclusivelyInside (bySize (at cx cy) width height) (at x y) r (now (inside .exit)) ⌝ }
 {
-    let center = Point { x: cx, y: cy };
+    let given = given_box::by_size(cx, cy, width, height);
     let p = Point { x: x, y: y };
-    let r = plane_calls::is_exclusively_inside(center, width, height, p);
+    let r = plane_calls::is_exclusively_inside(given, p);
     *inside = r.yes;
     r.number
 }
@@ -146,11 +148,11 @@ pub extern "C" fn voronoi_which_edge(
     y: f64,
     side: &mut u32,
 ) -> u32
-    ensures { λ r. ⌜ WhichEdge (at cx cy) width height (at x y) r (now (side .exit)) ⌝ }
+    ensures { λ r. ⌜ WhichEdge (bySize (at cx cy) width height) (at x y) r (now (side .exit)) ⌝ }
 {
-    let center = Point { x: cx, y: cy };
+    let given = given_box::by_size(cx, cy, width, height);
     let p = Point { x: x, y: y };
-    let r = plane_calls::which_edge(center, width, height, p);
+    let r = plane_calls::which_edge(given, p);
     *side = r.side;
     r.number
 }
@@ -172,13 +174,13 @@ pub extern "C" fn voronoi_intersect_line(
     u: &mut f64,
     v: &mut f64,
 ) -> u32
-    ensures { λ r. ⌜ Meets (lineAnswer (at cx cy) width height (at px py) (at qx qy)) r
+    ensures { λ r. ⌜ Meets (lineAnswer (bySize (at cx cy) width height) (at px py) (at qx qy)) r
         (now (count .exit)) (now (x .exit)) (now (y .exit)) (now (u .exit)) (now (v .exit)) ⌝ }
 {
-    let center = Point { x: cx, y: cy };
+    let given = given_box::by_size(cx, cy, width, height);
     let p = Point { x: px, y: py };
     let q = Point { x: qx, y: qy };
-    let r = plane_calls::intersect_line(center, width, height, p, q);
+    let r = plane_calls::intersect_line(given, p, q);
     *count = r.count;
     *x = r.x;
     *y = r.y;
@@ -204,13 +206,13 @@ pub extern "C" fn voronoi_project_ray(
     u: &mut f64,
     v: &mut f64,
 ) -> u32
-    ensures { λ r. ⌜ Meets (rayAnswer (at cx cy) width height (at px py) (at dx dy)) r
+    ensures { λ r. ⌜ Meets (rayAnswer (bySize (at cx cy) width height) (at px py) (at dx dy)) r
         (now (count .exit)) (now (x .exit)) (now (y .exit)) (now (u .exit)) (now (v .exit)) ⌝ }
 {
-    let center = Point { x: cx, y: cy };
+    let given = given_box::by_size(cx, cy, width, height);
     let p = Point { x: px, y: py };
     let d = Point { x: dx, y: dy };
-    let r = plane_calls::project_ray(center, width, height, p, d);
+    let r = plane_calls::project_ray(given, p, d);
     *count = r.count;
     *x = r.x;
     *y = r.y;

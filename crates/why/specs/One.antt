@@ -1,13 +1,17 @@
 -- Theorem: no two texts may be printed for one input and one question.
 use mathlib.Core.Path.{_≡_, refl, sym, ap, _∙_, subst}
-use mathlib.Core.Bool.{true, false}
+use mathlib.Core.Bool.{Bool, true, false}
 use mathlib.Core.List.{List}
 use Prim.Native.Nat.{ℕ}
 use native.Mathlib.Omega.{arith}
+use lib.Dec.{eqb}
 use lib.Ieee.{Float}
 use lib.ListN.{replicate, length-replicate}
 use Rattle.laws.specs.Binary64 as B
 use Rattle.laws.specs.laws.Refusals.{finds-one}
+use Rattle.given_box.specs.declared.Given.{Given}
+use Rattle.form_box.specs.FormBox.{boxBy}
+use Rattle.mesh.specs.Accepted.{Mesh}
 use Rattle.reasons.specs.declared.Question.{Question}
 use Rattle.reasons.specs.declared.Reason.{Reason}
 use Rattle.form_step.specs.Reader.{verdict, start, reading, takes, Reading}
@@ -19,14 +23,17 @@ use Rattle.form.specs.laws.Mesh.{WholeRead, complete}
 use Rattle.printing.specs.Printed.{meshOf}
 use Rattle.why_text.specs.ReasonLine.{reasonLine}
 use Rattle.why.specs.Printed.{WhyByClip, FormReason, sound, broken, WhyPrints}
-use Rattle.why.specs.Steps.{WhyByForm}
+use Rattle.why.specs.Steps.{WhyByBox, WhyByForm}
 use Rattle.why.specs.laws.ReadForm.{to-read}
 
 module _ (q : Question) where
+  box-one : (plain : Bool) (g : Given) (m : Mesh) (x y : Reason) → WhyByBox q plain g m x → WhyByBox q plain g m y → x ≡ y
+  box-one true g m x y p r = finds-one p r
+  box-one false g m x y p r = finds-one p r
+
   form-one : (a : Form) (bs ss : List Float) (ts es hs : List ℕ) (x y : Reason) → WhyByForm q a bs ss ts es hs x → WhyByForm q a bs ss ts es hs y → x ≡ y
   form-one (Broken k) bs ss ts es hs x y p r = p ∙ sym r
-  form-one (Sound n k h true) bs ss ts es hs x y p r = finds-one p r
-  form-one (Sound n k h false) bs ss ts es hs x y p r = finds-one p r
+  form-one (Sound n k h u) bs ss ts es hs x y p r = box-one (eqb u 6) (boxBy u bs) _ x y p r
 
   -- the reader's lists, as long as a form needs them
   abbrev floats : ℕ → List Float

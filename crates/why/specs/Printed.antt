@@ -3,11 +3,10 @@
 use mathlib.Core.Path.{_≡_}
 use mathlib.Core.List.{List, _++_}
 use Prim.Native.Nat.{ℕ}
-use lib.Ieee.{Float}
 use Rattle.numbers.specs.Numbers.{refusedForm}
 use Rattle.utils.specs.Plane.{at}
-use Rattle.utils.specs.declared.Point.{Point}
-use Rattle.bounding_box.specs.Box.{madeOf}
+use Rattle.given_box.specs.Given.{bySize, byEdges}
+use Rattle.given_box.specs.declared.Given.{Given}
 use Rattle.mesh.specs.Accepted.{Mesh, siteCount}
 use Rattle.definition.specs.Build.{build}
 use Rattle.definition.specs.Unclipped as definition
@@ -16,21 +15,22 @@ use Rattle.reasons.specs.declared.Question.{Question}
 use Rattle.reasons.specs.declared.Reason.{Reason}
 use Rattle.reasons.specs.declared.Reason.the-variants.{Number}
 use Rattle.reasons.specs.Rules.{questionRules, ReasonFor}
-use Rattle.form.specs.Form.{Outline, box, unclipped, FormMesh, MeshFits, IsForm, formOf, float}
+use Rattle.form.specs.Form.{Outline, box, unclipped, edges, FormMesh, MeshFits, IsForm, formOf, float}
 use Rattle.printing.specs.Printed.{meshOf}
 use Rattle.why_text.specs.ReasonLine.{reasonLine}
 
 -- there is room for every form
 module _ (m : Mesh) where
-  abbrev pub WhyInBox : Point → Float → Float → Question → Reason → Type 0
-  WhyInBox c w h q = ReasonFor m (Unit {0}) (boxRules c w h ++ questionRules (siteCount (m .sites)) q) q (build m (madeOf c w h))
+  abbrev pub WhyInBox : Given → Question → Reason → Type 0
+  WhyInBox g q = ReasonFor m (Unit {0}) (boxRules (g .sound) ++ questionRules (siteCount (m .sites)) q) q (build m (g .bounds))
 
   abbrev pub WhyWithoutBox : Question → Reason → Type 0
   WhyWithoutBox q = ReasonFor m (Unit {0}) (questionRules (siteCount (m .sites)) q) q (definition.unclipped (m .sites) (m .triangles) (m .halfedges))
 
   abbrev pub WhyByClip : Question → Outline → Reason → Type 0
-  WhyByClip q (box x y w h) = WhyInBox (at (float x) (float y)) (float w) (float h) q
+  WhyByClip q (box x y w h) = WhyInBox (bySize (at (float x) (float y)) (float w) (float h)) q
   WhyByClip q unclipped = WhyWithoutBox q
+  WhyByClip q (edges left top right bottom) = WhyInBox (byEdges (float left) (float top) (float right) (float bottom)) q
 
 -- the reason for the bytes of a form
 pub data FormReason (q : Question) (s : List ℕ) : Reason → Type 0 where

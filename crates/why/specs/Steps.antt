@@ -3,10 +3,12 @@ use mathlib.Core.Path.{_≡_}
 use mathlib.Core.Bool.{Bool, true, false}
 use mathlib.Core.List.{List}
 use Prim.Native.Nat.{ℕ, _*_, _≤_}
-use lib.Ieee.{Float, nan}
-use lib.ListN.{getD, take}
+use lib.Dec.{eqb}
+use lib.Ieee.{Float}
+use lib.ListN.{take}
 use Rattle.numbers.specs.Numbers.{refusedForm}
-use Rattle.utils.specs.Plane.{at}
+use Rattle.given_box.specs.declared.Given.{Given}
+use Rattle.form_box.specs.FormBox.{boxBy}
 use Rattle.mesh.specs.Accepted.{Mesh, mesh}
 use Rattle.reasons.specs.declared.Question.{Question}
 use Rattle.reasons.specs.declared.Reason.{Reason}
@@ -22,10 +24,14 @@ pub record Sized (coordinates entries hull : ℕ) : Type 0 where
   pub few-on-hull : hull ≤ 96
 
 module _ (q : Question) where
-  -- in the box of these four numbers where the mesh is not unclipped
-  abbrev pub WhyByMode : Bool → List Float → Mesh → Reason → Type 0
-  WhyByMode true bs m r = WhyWithoutBox m q r
-  WhyByMode false bs m r = WhyInBox m (at (getD bs 0 nan) (getD bs 1 nan)) (getD bs 2 nan) (getD bs 3 nan) q r
+  -- in this box where the mesh is not unclipped
+  abbrev pub WhyByBox : Bool → Given → Mesh → Reason → Type 0
+  WhyByBox true g m r = WhyWithoutBox m q r
+  WhyByBox false g m r = WhyInBox m g q r
+
+  -- by the kind of the form's first record, 6 where it is unclipped, and the four numbers in it
+  abbrev pub WhyByMode : ℕ → List Float → Mesh → Reason → Type 0
+  WhyByMode k bs m r = WhyByBox (eqb k 6) (boxBy k bs) m r
 
   abbrev pub WhyByForm : Form → List Float → List Float → List ℕ → List ℕ → List ℕ → Reason → Type 0
   WhyByForm (Broken k) bs ss ts es hs r = r ≡ Number refusedForm

@@ -1,3 +1,4 @@
 -- Laws that only proofs use.
 pub mod Room
 pub mod ReadForm
+pub mod ByMode

@@ -1,48 +1,40 @@
 // Reads a mesh's form on standard input and prints the one reason why it is refused, or what was asked of one or two sites by their numbers as
 // arguments. Other words: a line on standard error.
 use form_step::Form;
+use given_box::Given;
 use libc::STDERR_FILENO;
 use libc::STDIN_FILENO;
 use libc::STDOUT_FILENO;
 use reasons::Question;
 use reasons::Reason;
-use utils::Point;
 use why_text::Command;
 use why_text::words::command_of;
 ghost use Prim.Native.Nat.{_≤_};
-ghost use lib.Ieee.{nan};
-ghost use lib.ListN.{length, getD, take};
-ghost use Rattle.utils.specs.Plane.{at};
+ghost use lib.ListN.{length, take};
+ghost use Rattle.given_box.specs.Finite.{Fits};
 ghost use Rattle.mesh.specs.Accepted.{mesh};
 ghost use Rattle.form_step.specs.Holds.{ListRoom, Few};
 ghost use Rattle.why.specs.Printed.{WhyInBox, WhyWithoutBox, WhyPrints};
 ghost use Rattle.why.specs.Steps.{Sized, WhyByMode, WhyByForm};
 
 fn in_box(
-    bounds: [f64; 4],
+    given: Given,
     sites: &[f64],
     triangles: &[u32],
     halfedges: &[u32],
     hull: &[u32],
     q: Question,
 ) -> Reason
-    requires { ⌜ Sized (length (now sites)) (length (now triangles)) (length (now hull)) ⌝ }
-    ensures { λ r. ⌜ WhyInBox (mesh (now (sites .entry)) (now (triangles .entry)) (now (halfedges .entry)) (now (hull .entry)))
-        (at (getD bounds 0 nan) (getD bounds 1 nan)) (getD bounds 2 nan) (getD bounds 3 nan) q r ⌝ }
+    requires { ⌜ Sized (length (now sites)) (length (now triangles)) (length (now hull)) × Fits given ⌝ }
+    ensures { λ r. ⌜ WhyInBox (mesh (now (sites .entry)) (now (triangles .entry)) (now (halfedges .entry)) (now (hull .entry))) given q r ⌝ }
 {
     let mut work = [0u32; 96];
     let mut vertices = [0.0f64; 3656];
     let mut indexes = [0u32; 3076];
     let mut offsets = [0u32; 97];
     let mut counts = [0u32; 6];
-    let c = Point {
-        x: bounds[0],
-        y: bounds[1],
-    };
     explaining::why(
-        c,
-        bounds[2],
-        bounds[3],
+        given,
         sites,
         triangles,
         halfedges,
@@ -86,7 +78,7 @@ fn without_box(
 }
 
 fn of_mesh(
-    unclipped: bool,
+    clip: u8,
     bounds: [f64; 4],
     sites: &[f64],
     triangles: &[u32],
@@ -95,12 +87,13 @@ fn of_mesh(
     q: Question,
 ) -> Reason
     requires { ⌜ Sized (length (now sites)) (length (now triangles)) (length (now hull)) ⌝ }
-    ensures { λ r. ⌜ WhyByMode q unclipped bounds (mesh (now (sites .entry)) (now (triangles .entry)) (now (halfedges .entry)) (now (hull .entry))) r ⌝ }
+    ensures { λ r. ⌜ WhyByMode q clip bounds (mesh (now (sites .entry)) (now (triangles .entry)) (now (halfedges .entry)) (now (hull .entry))) r ⌝ }
 {
-    if unclipped {
+    if clip == form_box::NO_BOX {
         return without_box(sites, triangles, halfedges, hull, q);
     }
-    in_box(bounds, sites, triangles, halfedges, hull, q)
+    let given = form_box::box_of(clip, bounds);
+    in_box(given, sites, triangles, halfedges, hull, q)
 }
 
 // The reason for a form that was read into these lists.
@@ -120,7 +113,7 @@ fn of_form(
         sites: n,
         triangles: t,
         hull: h,
-        unclipped,
+        clip,
     } = form
     else {
         return Reason::Number(numbers::REFUSED_FORM);
@@ -128,7 +121,7 @@ fn of_form(
     let coordinates = 2 * n;
     let entries = 3 * t;
     of_mesh(
-        unclipped,
+        clip,
         bounds,
         &sites[..coordinates],
         &triangles[..entries],

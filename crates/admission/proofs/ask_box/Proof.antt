@@ -2,16 +2,15 @@
 use mathlib.Core.Path.{sym, _∙_}
 use mathlib.Core.Bool.{false≢true}
 use native.Mathlib.Omega.{arith}
-use borrow.Author.Needs.{needs}
 use Rattle.laws.specs.laws.Refusals.{breaks, keeps, nothing}
 use Rattle.admission.proofs.ask_box.Statement.{statement}
 use Rattle.admission.proofs.ask_box.Tie as tie
 
 returns : tie.Need-returns
-returns c = record { found = keeps (sym (c .before .box-ok .ensures) ∙ c .if1 .taken) nothing; small = omega arith }
+returns c = record { found = keeps (c .if1 .taken) nothing; small = omega arith }
 
 returns-2 : tie.Need-returns-2
-returns-2 c = record { found = breaks (λ e. false≢true (sym (c .if1 .left) ∙ c .before .box-ok .ensures ∙ e)); small = omega arith }
+returns-2 c = record { found = breaks (λ e. false≢true (sym (c .if1 .left) ∙ e)); small = omega arith }
 
 pub ask-box-spec : {M : Type 1} → statement M
-ask-box-spec = tie.close (tie.spec (λ c κs. search needs) returns returns-2)
+ask-box-spec = tie.close (tie.spec returns returns-2)

@@ -5,12 +5,10 @@ use mathlib.Core.List.{List}
 use mathlib.Core.Logic.{_≢_}
 use Prim.Native.Nat.{ℕ, _-_, _<_}
 use native.Mathlib.Omega.{arith}
-use lib.Ieee.{Float}
 use lib.ListN.{length}
 use borrow.Author.Needs.{needs}
 use Rattle.laws.specs.Decide.{Says}
 use Rattle.laws.specs.laws.Refusals.{finds-keep}
-use Rattle.utils.specs.declared.Point.{Point}
 use Rattle.shared.specs.Cells.{Cells}
 use Rattle.admission.specs.Asks.{siteRules, boxRules, Asked, CellsOf}
 use Rattle.admission.specs.laws.Admits.{NoneZero}
@@ -22,5 +20,5 @@ cells-says off ix n false some q c = λ x. c (x .cut)
 pub site-below : (n s : ℕ) {r : ℕ} → Asked (siteRules n s) r → r ≡ 0 → s < n
 site-below n s a z = finds-keep (λ r. r ≡ 0) (search needs) z (a .found) .0
 
-pub box-answers : (c : Point) (w h : Float) → NoneZero (boxRules c w h)
-box-answers c w h = ((λ _ q. omega arith), tt)
+pub box-answers : (sound : Bool) → NoneZero (boxRules sound)
+box-answers sound = ((λ _ q. omega arith), tt)

@@ -9,11 +9,9 @@ use lib.Ieee.{Float}
 use lib.ListN.{length, take}
 use Rattle.laws.specs.Refusals.{Rule, Finds}
 use Rattle.laws.specs.laws.Refusals.{finds-keep}
-use Rattle.utils.specs.declared.Point.{Point}
-use Rattle.bounding_box.specs.Box.{madeOf}
-use Rattle.bounding_box.specs.Finite.{BoundedBox, box-bounded}
-use Rattle.bounding_box.specs.Rules.{okBox}
-use Rattle.bounding_box.specs.declared.BoundingBox.{BoundingBox}
+use Rattle.bounding_box.specs.Finite.{BoundedBox}
+use Rattle.given_box.specs.Finite.{Fits}
+use Rattle.given_box.specs.declared.Given.{Given}
 use Rattle.mesh.specs.Accepted.{Mesh, siteCount}
 use Rattle.definition.specs.declared.Fault.{Fault}
 use Rattle.definition.specs.Fault.{Outcome, ok, refused}
@@ -62,53 +60,53 @@ module _ (o : Outcome Fault Built) (x : CellsAnswer) (q : x ≡ outcomeAnswer o)
 
 -- ---- the whole: `asked` is what the call's own arguments gave, and 0 only where rule 3 holds
 module _ {m : Mesh} {asked : ℕ} {old new : Slices} {r : ℕ} (a : BuildAdmission m asked old new r)
-    (c : Point) (w h : Float) (fit : asked ≡ 0 → okBox c w h ≡ true) (z : r ≡ 0) (b : BoundingBox) (made : b ≡ madeOf c w h) where
-  bounded : BoundedBox 101 b
-  bounded = rw made (box-bounded c w h (fit (fit-of a z)))
+    (g : Given) (fits : Fits g) (fit : asked ≡ 0 → g .sound ≡ true) (z : r ≡ 0) where
+  bounded : BoundedBox 101 (g .bounds)
+  bounded = fits .bounded (fit (fit-of a z))
 
-  pub boxed-asks : AdmittedBuild m (take (siteCount (m .sites)) (new .work)) b (length (new .vertices)) (length (new .indexes)) (length (new .offsets))
+  pub boxed-asks : AdmittedBuild m (take (siteCount (m .sites)) (new .work)) (g .bounds) (length (new .vertices)) (length (new .indexes)) (length (new .offsets))
   boxed-asks = record { mesh = mesh-of a z; table-is = table-is a z; box = bounded; rooms = rooms-of a z }
 
-  module _ (x : CellsAnswer) (q : x ≡ outcomeAnswer (build m b)) where
-    pub boxed-fault : x .fault ≡ faultOf (build m (madeOf c w h))
-    boxed-fault = rw (← made) (answer-fault (build m b) x q)
+  module _ (x : CellsAnswer) (q : x ≡ outcomeAnswer (build m (g .bounds))) where
+    pub boxed-fault : x .fault ≡ faultOf (build m (g .bounds))
+    boxed-fault = answer-fault (build m (g .bounds)) x q
 
     pub boxed-count : x .count < 4294967296
     boxed-count =
         let k = mesh-of a z .counts in
-        let few = answer-few (build m b) x q (7 * (length (m .triangles) / 3) + 5 * length (m .hull) + 4)
-        (gives-map _ _ (build m b) (theorems.built (mesh-of a z) bounded) (λ g o. o .1 .vertices)) in
+        let few = answer-few (build m (g .bounds)) x q (7 * (length (m .triangles) / 3) + 5 * length (m .hull) + 4)
+        (gives-map _ _ (build m (g .bounds)) (theorems.built (mesh-of a z) bounded) (λ y o. o .1 .vertices)) in
         omega (arith, few, k .few-triangles, k .hull-of-sites, k .few-sites)
 
     -- `own` are the rules that gave `asked`
     pub boxed-built : (own : List (Rule ℕ)) → NoneZero own → Finds own 0 asked → {v : List Float} {ix off w₂ c₂ : List ℕ}
-        → BuiltInto (build m b) (new .vertices) (new .indexes) (new .offsets) v ix off
+        → BuiltInto (build m (g .bounds)) (new .vertices) (new .indexes) (new .offsets) v ix off
         → EndedBuild (x .fault .number) (countsOf (x .count) (x .owners) (x .lost)) (new .work) (new .counts) w₂ c₂
-        → BuildAnswers m own (build m (madeOf c w h)) old (slices w₂ v ix off c₂) (x .fault .number)
+        → BuildAnswers m own (build m (g .bounds)) old (slices w₂ v ix off c₂) (x .fault .number)
     boxed-built own t found l f =
-        let o = build m b in
-        let late = build-late m b in
-        rw (← made) (answers-built a z own t found o late (x .fault) (answer-fault o x q) l f (answer-counts o x q late))
+        let o = build m (g .bounds) in
+        let late = build-late m (g .bounds) in
+        answers-built a z own t found o late (x .fault) (answer-fault o x q) l f (answer-counts o x q late)
 
 -- where nothing but the box is asked
 module _ {m : Mesh} {asked : ℕ} {old new : Slices} {r : ℕ} (a : BuildAdmission m asked old new r)
-    (c : Point) (w h : Float) (ask : Asked (boxRules c w h) asked) where
-  pub clipped-early : r ≢ 0 → ClippedBuild m c w h old new r
-  clipped-early n = answers-early a (boxRules c w h) (box-answers c w h) (ask .found) (build m (madeOf c w h)) n
+    (g : Given) (ask : Asked (boxRules (g .sound)) asked) where
+  pub clipped-early : r ≢ 0 → ClippedBuild m g old new r
+  clipped-early n = answers-early a (boxRules (g .sound)) (box-answers (g .sound)) (ask .found) (build m (g .bounds)) n
 
-  fit : asked ≡ 0 → okBox c w h ≡ true
-  fit e = finds-keep (λ k. k ≡ 0) (box-answers c w h) e (ask .found) .0
+  fit : asked ≡ 0 → g .sound ≡ true
+  fit e = finds-keep (λ k. k ≡ 0) (box-answers (g .sound)) e (ask .found) .0
 
-  module _ (z : r ≡ 0) (b : BoundingBox) (made : b ≡ madeOf c w h) where
-    pub clipped-asks : AdmittedBuild m (take (siteCount (m .sites)) (new .work)) b (length (new .vertices)) (length (new .indexes)) (length (new .offsets))
-    clipped-asks = boxed-asks a c w h fit z b made
+  module _ (fits : Fits g) (z : r ≡ 0) where
+    pub clipped-asks : AdmittedBuild m (take (siteCount (m .sites)) (new .work)) (g .bounds) (length (new .vertices)) (length (new .indexes)) (length (new .offsets))
+    clipped-asks = boxed-asks a g fits fit z
 
-    module _ (x : CellsAnswer) (q : x ≡ outcomeAnswer (build m b)) where
+    module _ (x : CellsAnswer) (q : x ≡ outcomeAnswer (build m (g .bounds))) where
       pub count-fits : x .count < 4294967296
-      count-fits = boxed-count a c w h fit z b made x q
+      count-fits = boxed-count a g fits fit z x q
 
       pub clipped-built : {v : List Float} {ix off w₂ c₂ : List ℕ}
-          → BuiltInto (build m b) (new .vertices) (new .indexes) (new .offsets) v ix off
+          → BuiltInto (build m (g .bounds)) (new .vertices) (new .indexes) (new .offsets) v ix off
           → EndedBuild (x .fault .number) (countsOf (x .count) (x .owners) (x .lost)) (new .work) (new .counts) w₂ c₂
-          → ClippedBuild m c w h old (slices w₂ v ix off c₂) (x .fault .number)
-      clipped-built l f = boxed-built a c w h fit z b made x q (boxRules c w h) (box-answers c w h) (ask .found) l f
+          → ClippedBuild m g old (slices w₂ v ix off c₂) (x .fault .number)
+      clipped-built l f = boxed-built a g fits fit z x q (boxRules (g .sound)) (box-answers (g .sound)) (ask .found) l f

@@ -11,6 +11,9 @@ use Rattle.building.proofs.build.Statement.{statement}
 abbrev Asked : tie.After-admit-build → tie.After-ask-box
 Asked c = c .before .before .before .before .before .before
 
+abbrev Begin : tie.After-admit-build → tie.Start
+Begin c = Asked c .before .before .before .before .before .before .before .before .before .before
+
 abbrev Admit : tie.After-slice-known10 → tie.After-admit-build
 Admit c = c .before .before .before .before .before .before .before .before .before .before
 
@@ -18,7 +21,7 @@ abbrev Made : tie.After-slice-known13 → tie.After-build-cells
 Made c = c .before .before .before .before .before .before
 
 abbrev Accepts : tie.After-build-cells → tie.Else1
-Accepts c = c .before .before .before .before .before .before
+Accepts c = c .before .before .before .before .before
 
 abbrev Ends : tie.After-slice-known15 → tie.After-slice-known13
 Ends c = c .before .before .before .before .before .before .before .before
@@ -29,27 +32,26 @@ Known c = Accepts (Made (Ends c)) .before
 returns : tie.Need-returns
 returns c =
     let a = Admit (c .before) in
-    clipped-early (a .admit-build .ensures) _ _ _ (Asked a .ask-box .ensures) (c .if1 .taken)
+    clipped-early (a .admit-build .ensures) _ (Asked a .ask-box .ensures) (c .if1 .taken)
 
 slice-reshare-prefix-build-cells : tie.Need-slice-reshare-prefix-build-cells
-slice-reshare-prefix-build-cells c = table-fits (Admit (c .before .before) .admit-build .ensures) (c .before .if1 .left)
+slice-reshare-prefix-build-cells c = table-fits (Admit (c .before) .admit-build .ensures) (c .if1 .left)
 
 slice-aggregate-build-cells : tie.Need-slice-aggregate-build-cells
-slice-aggregate-build-cells c = sym (simp length-take (omega (arith, table-fits (Admit (c .before .before .before) .admit-build .ensures) (c .before .before .if1 .left))))
+slice-aggregate-build-cells c = sym (simp length-take (omega (arith, table-fits (Admit (c .before .before) .admit-build .ensures) (c .before .if1 .left))))
 
 build-cells-requires : tie.Need-build-cells-requires
 build-cells-requires c κs =
-    let e = c .before .before .before .before .before in
+    let e = c .before .before .before .before in
     let a = Admit (e .before) in
-    clipped-asks (a .admit-build .ensures) _ _ _ (Asked a .ask-box .ensures) (e .if1 .left) _ (c .before .before .before .before .new .ensures)
+    clipped-asks (a .admit-build .ensures) _ (Asked a .ask-box .ensures) (Begin a .pre) (e .if1 .left)
 
 finish-clipped-requires : tie.Need-finish-clipped-requires
 finish-clipped-requires c κs =
     let m = Made (c .before .before .before) in
     let e = Accepts m in
-    let a = Admit (e .before) in
-    let n = m .before .before .before .before .before .new .ensures in (
-      count-fits (a .admit-build .ensures) _ _ _ (Asked a .ask-box .ensures) (e .if1 .left) _ n _ (m .build-cells .ensures .0),
+    let a = Admit (e .before) in (
+      count-fits (a .admit-build .ensures) _ (Asked a .ask-box .ensures) (Begin a .pre) (e .if1 .left) _ (m .build-cells .ensures .0),
       six-of (a .admit-build .ensures) (e .if1 .left),
     )
 
@@ -79,12 +81,12 @@ returns-2 c =
     let a = Admit (e .before) in
     let b = m .build-cells .ensures in
     let f = c .before .before .before .before .finish-clipped .ensures in
-    clipped-built (a .admit-build .ensures) _ _ _ (Asked a .ask-box .ensures) (e .if1 .left) _ (m .before .before .before .before .before .new .ensures) _ (b .0) (b .1) f
+    clipped-built (a .admit-build .ensures) _ (Asked a .ask-box .ensures) (Begin a .pre) (e .if1 .left) _ (b .0) (b .1) f
 
 pub build-spec : {M : Type 1} → statement M
 build-spec =
     tie.close
     (tie.spec (λ c κs. search needs) (λ c κs. search needs) (λ c. search needs) (λ c. search needs) (λ c. search needs)
-    (λ c. search needs) (λ c. search needs) returns (λ c κs. search needs) slice-reshare-prefix-build-cells
+    (λ c. search needs) (λ c. search needs) returns slice-reshare-prefix-build-cells
     slice-aggregate-build-cells build-cells-requires finish-clipped-requires same-length-6 same-length-7
     same-length-8 same-length-9 same-length-10 returns-2)

@@ -9,35 +9,37 @@ use Rattle.cells.proofs.in_box.Tie as tie
 show-in-box-requires : tie.Need-show-in-box-requires
 show-in-box-requires c κs =
     let at-narrow = c .before .before .before .before .before in
-    let at-voronoi-build = at-narrow .before .before .before .before .before .before in
+    let at-build = at-narrow .before .before .before .before .before .before in
     let s = c .before .before .before .before .before .before .before .before .before .before .before .before .before .before .before .before .before .before .before .before .before .before in
-    let b = at-voronoi-build .voronoi-build in (
-      λ z. rw (at-narrow .narrow .ensures) (laid-in-box _ _ (s .pre) _ _
-          (record { work = refl; vertices = refl; indexes = refl; offsets = refl; counts = refl }) _ _ _ _ (b .ensures)
-          (b .kept .1 .1 .1 .1 .1 .1 .1 .1 .1 .1 .0) z),
-      omega (arith, b .kept .1 .1 .1 .1 .1 .1 .1 .1 .1 .1 .1 .1 .0),
-      s .pre .room,
+    let b = at-build .build in (
+      λ z. rw (at-narrow .narrow .ensures) (laid-in-box _ _ (s .pre .0) _ _
+          (record { work = refl; vertices = refl; indexes = refl; offsets = refl; counts = refl }) _ _ (b .ensures)
+          (b .kept .1 .1 .1 .1 .1 .1 .1 .0) z),
+      omega (arith, b .kept .1 .1 .1 .1 .1 .1 .1 .1 .1 .0),
+      s .pre .0 .room,
     )
 
 returns : tie.Need-returns
 returns c =
     let at-narrow2 = c .before .before .before .before .before .before .before in
     let at-narrow = at-narrow2 .before in
-    let at-voronoi-build = at-narrow .before .before .before .before .before .before in
+    let at-build = at-narrow .before .before .before .before .before .before in
     let half = c .before .before .before .before .before .before .before .before .before .before .before .before in
     let s = half .before .before .before .before .before .before .before .before .before .before .before .before .before
     in
-    let b = at-voronoi-build .voronoi-build in
+    let b = at-build .build in
     let h = c .before .before .show-in-box .ensures in (
       rw (h .first, at-narrow .narrow .ensures, at-narrow2 .narrow2 .ensures)
-          (text-in-box _ _ (s .pre) _ _ (record { work = refl; vertices = refl; indexes = refl; offsets = refl; counts = refl }) _ _ _ _ (b .ensures)),
+          (text-in-box _ _ (s .pre .0) _ _ (record { work = refl; vertices = refl; indexes = refl; offsets = refl; counts = refl }) _ _ (b .ensures)),
       h .within,
     )
+
+build-requires : tie.Need-build-requires
+build-requires c κs = c .before .before .before .before .before .before .before .before .before .before .pre .1
 
 pub in-box-spec : {M : Type 1} → statement M
 in-box-spec =
     tie.close
     (tie.spec (λ c. search needs) (λ c. search needs) (λ c. search needs) (λ c. search needs) (λ c. search needs)
-    (λ c. search needs) (λ c. search needs) (λ c. search needs) (λ c. search needs) (λ c κs. search needs)
-    (λ c κs. search needs) (λ c κs. search needs) (λ c. search needs) (λ c. search needs) (λ c. search needs)
+    build-requires (λ c κs. search needs) (λ c κs. search needs) (λ c. search needs) (λ c. search needs) (λ c. search needs)
     show-in-box-requires (λ c. search needs) returns)

@@ -9,9 +9,9 @@ use Rattle.cells.proofs.without_box.Tie as tie
 show-without-box-requires : tie.Need-show-without-box-requires
 show-without-box-requires c κs =
     let at-narrow = c .before .before .before .before .before in
-    let at-voronoi-build-unclipped = at-narrow .before .before .before .before .before .before in
+    let at-build-unclipped = at-narrow .before .before .before .before .before .before in
     let s = c .before .before .before .before .before .before .before .before .before .before .before .before .before .before .before .before .before .before .before .before .before .before in
-    let b = at-voronoi-build-unclipped .voronoi-build-unclipped in (
+    let b = at-build-unclipped .build-unclipped in (
       λ z. rw (at-narrow .narrow .ensures) (laid-without-box _ _ (s .pre) _ _
           (record { work = refl; vertices = refl; indexes = refl; offsets = refl; counts = refl }) _ (b .ensures) (b .kept .1 .1 .1 .1 .1 .1 .0) z),
       omega (arith, b .kept .1 .1 .1 .1 .1 .1 .1 .1 .0),
@@ -22,11 +22,11 @@ returns : tie.Need-returns
 returns c =
     let at-narrow2 = c .before .before .before .before .before .before .before in
     let at-narrow = at-narrow2 .before in
-    let at-voronoi-build-unclipped = at-narrow .before .before .before .before .before .before in
+    let at-build-unclipped = at-narrow .before .before .before .before .before .before in
     let half = c .before .before .before .before .before .before .before .before .before .before .before .before in
     let s = half .before .before .before .before .before .before .before .before .before .before .before .before .before
     in
-    let b = at-voronoi-build-unclipped .voronoi-build-unclipped in
+    let b = at-build-unclipped .build-unclipped in
     let h = c .before .before .show-without-box .ensures in (
       rw (h .first, at-narrow .narrow .ensures, at-narrow2 .narrow2 .ensures)
           (text-without-box _ _ (s .pre) _ _ (record { work = refl; vertices = refl; indexes = refl; offsets = refl; counts = refl }) _ (b .ensures)),

@@ -4,14 +4,12 @@ use mathlib.Core.Bool.{true}
 use mathlib.Core.List.{List, [], _∷_, _++_, map}
 use Prim.Native.Nat.{ℕ, _+_, _-_, _*_, _/_, _≤_}
 use native.Mathlib.Omega.{arith}
-use lib.Ieee.{Float}
 use lib.ListN.{length, getD, replicate, length-map}
 use borrow.Author.Tests.{le-leb, lt-ltb}
 use Rattle.printing.specs.Printed.{Shows, InBox, WithoutBox, shown}
 use Rattle.cells.specs.Printed.{listingTexts}
 use Rattle.numbers.specs.Numbers.{EMPTY}
-use Rattle.utils.specs.declared.Point.{Point}
-use Rattle.bounding_box.specs.Box.{madeOf}
+use Rattle.given_box.specs.declared.Given.{Given}
 use Rattle.mesh.specs.Accepted.{Mesh, siteCount}
 use Rattle.laws.specs.Refusals.{Rule}
 use Rattle.admission.specs.Admits.{Admits}
@@ -129,15 +127,15 @@ module _ (m : Mesh) (space : ℕ) (sized : SheetSized (length (m .sites)) (lengt
         → Shows (Admits m true own) text o (shown t r)
     text-of text t f = shows text t some rules late (λ b e z. f b (gives-ok (Whole (siteCount (m .sites))) whole e) e z)
 
-  module _ (c : Point) (w h : Float) (a : ClippedBuild m c w h old new r) where
-    abbrev whole-in : Gives (Whole (siteCount (m .sites))) (build m (madeOf c w h))
-    whole-in = whole-in-box m (madeOf c w h)
+  module _ (g : Given) (a : ClippedBuild m g old new r) where
+    abbrev whole-in : Gives (Whole (siteCount (m .sites))) (build m (g .bounds))
+    whole-in = whole-in-box m (g .bounds)
 
     pub laid-in-box : length (new .indexes) ≡ 3076 → r ≡ 0 → Laid (siteCount (m .sites)) (new .offsets) (new .indexes) space
-    laid-in-box = layout (box-answers c w h) whole-in (build-late m (madeOf c w h)) a
+    laid-in-box = layout (box-answers (g .sound)) whole-in (build-late m (g .bounds)) a
 
-    pub text-in-box : InBox listingTexts m c w h (shown (boxLines (siteCount (m .sites)) (length (m .triangles) / 3) (new .offsets) (new .indexes) (new .counts)) r)
-    text-in-box = text-of (box-answers c w h) whole-in (build-late m (madeOf c w h)) a (boxText (siteCount (m .sites)) (length (m .triangles) / 3)) _
+    pub text-in-box : InBox listingTexts m g (shown (boxLines (siteCount (m .sites)) (length (m .triangles) / 3) (new .offsets) (new .indexes) (new .counts)) r)
+    text-in-box = text-of (box-answers (g .sound)) whole-in (build-late m (g .bounds)) a (boxText (siteCount (m .sites)) (length (m .triangles) / 3)) _
         (λ b q e z. box-lines a long b q e z (length (m .triangles) / 3))
 
   module _ (a : UnclippedBuild m old new r) where

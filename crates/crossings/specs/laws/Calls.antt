@@ -7,8 +7,6 @@ use Rattle.laws.specs.Binary64.{_⊞_, _⊟_}
 use Rattle.utils.specs.Plane.{at}
 use Rattle.utils.specs.Rules.{okSite}
 use Rattle.utils.specs.declared.Point.{Point}
-use Rattle.bounding_box.specs.Box.{madeOf}
-use Rattle.bounding_box.specs.Rules.{okBox}
 use Rattle.bounding_box.specs.declared.BoundingBox.{BoundingBox}
 use Rattle.line_crossings.specs.Line.{oneIf, lineOf}
 use Rattle.line_crossings.specs.declared.Crossing.{Crossing}
@@ -49,9 +47,8 @@ module _ (p dir : Point) where
   unfolding rayOf
   ray-calls b e k = rw (← e) k
 
--- ---- the public line and ray: f is what they meet in the box
+-- ---- the public line and ray: m is what they meet in the box
 pub met-calls :
-    (f : BoundingBox → Crossing) (c : Point) (w h : Float) (p q : Point) {b : BoundingBox} {t t₁ t₂ : Bool} {l : Crossing} {r : Meeting}
-    → b ≡ madeOf c w h → t ≡ okBox c w h → t₁ ≡ okSite p → t₂ ≡ okSite q → l ≡ f b → r ≡ metBy t (t₁ && t₂) l
-    → r ≡ metBy (okBox c w h) (okSite p && okSite q) (f (madeOf c w h))
-met-calls f c w h p q e₁ e₂ e₃ e₄ e₅ k = rw (← e₁, ← e₂, ← e₃, ← e₄, ← e₅) k
+    (sound : Bool) (m : Crossing) (p q : Point) {t₁ t₂ : Bool} {l : Crossing} {r : Meeting}
+    → t₁ ≡ okSite p → t₂ ≡ okSite q → l ≡ m → r ≡ metBy sound (t₁ && t₂) l → r ≡ metBy sound (okSite p && okSite q) m
+met-calls sound m p q e₁ e₂ e₃ k = rw (← e₁, ← e₂, ← e₃) k

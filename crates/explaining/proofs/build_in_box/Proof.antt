@@ -23,7 +23,7 @@ abbrev Made : tie.After-slice-known14 → tie.After-build-cells
 Made c = c .before .before .before .before .before .before
 
 abbrev Accepts : tie.After-build-cells → tie.Else1
-Accepts c = c .before .before .before .before .before .before
+Accepts c = c .before .before .before .before .before
 
 abbrev Ends : tie.After-of-fault → tie.After-slice-known14
 Ends c = c .before .before .before .before .before .before .before .before .before
@@ -43,24 +43,23 @@ returns c =
     early (Admit k .admit-build .ensures) (c .before .before .before .before .if1 .taken) (c .before .before .locate .ensures) refl
 
 slice-reshare-prefix-build-cells : tie.Need-slice-reshare-prefix-build-cells
-slice-reshare-prefix-build-cells c = table-fits (Admit (c .before .before) .admit-build .ensures) (c .before .if1 .left)
+slice-reshare-prefix-build-cells c = table-fits (Admit (c .before) .admit-build .ensures) (c .if1 .left)
 
 slice-aggregate-build-cells : tie.Need-slice-aggregate-build-cells
-slice-aggregate-build-cells c = sym (simp length-take (omega (arith, table-fits (Admit (c .before .before .before) .admit-build .ensures) (c .before .before .if1 .left))))
+slice-aggregate-build-cells c = sym (simp length-take (omega (arith, table-fits (Admit (c .before .before) .admit-build .ensures) (c .before .if1 .left))))
 
 build-cells-requires : tie.Need-build-cells-requires
 build-cells-requires c κs =
-    let e = c .before .before .before .before .before in
+    let e = c .before .before .before .before in
     let a = Admit (e .before) in
-    boxed-asks (a .admit-build .ensures) _ _ _ (Begin a .pre .1) (e .if1 .left) _ (c .before .before .before .before .new .ensures)
+    boxed-asks (a .admit-build .ensures) _ (Begin a .pre .2) (Begin a .pre .1) (e .if1 .left)
 
 finish-clipped-requires : tie.Need-finish-clipped-requires
 finish-clipped-requires c κs =
     let m = Made (c .before .before .before) in
     let e = Accepts m in
-    let a = Admit (e .before) in
-    let n = m .before .before .before .before .before .new .ensures in (
-      boxed-count (a .admit-build .ensures) _ _ _ (Begin a .pre .1) (e .if1 .left) _ n _ (m .build-cells .ensures .0),
+    let a = Admit (e .before) in (
+      boxed-count (a .admit-build .ensures) _ (Begin a .pre .2) (Begin a .pre .1) (e .if1 .left) _ (m .build-cells .ensures .0),
       six-of (a .admit-build .ensures) (e .if1 .left),
     )
 
@@ -90,12 +89,12 @@ returns-2 c =
     let a = Admit (e .before) in
     let b = m .build-cells .ensures in
     let f = c .before .before .before .before .before .finish-clipped .ensures in
-    explains-in-box (a .admit-build .ensures) (e .if1 .left) _ _ _ (Begin a .pre .1) _ (m .before .before .before .before .before .new .ensures) _ (b .0) (b .1) f (c .of-fault .ensures)
+    explains-in-box (a .admit-build .ensures) (e .if1 .left) _ (Begin a .pre .2) (Begin a .pre .1) _ (b .0) (b .1) f (c .of-fault .ensures)
 
 pub build-in-box-spec : {M : Type 1} → statement M
 build-in-box-spec =
     tie.close
     (tie.spec admit-build-requires (λ c κs. search needs) same-length (λ c. search needs) (λ c. search needs)
-    (λ c. search needs) (λ c. search needs) returns (λ c κs. search needs) slice-reshare-prefix-build-cells slice-aggregate-build-cells
+    (λ c. search needs) (λ c. search needs) returns slice-reshare-prefix-build-cells slice-aggregate-build-cells
     build-cells-requires finish-clipped-requires (λ c κs. search needs) same-length-6 same-length-7 same-length-8
     same-length-9 same-length-10 returns-2)

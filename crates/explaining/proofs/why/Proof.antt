@@ -25,16 +25,17 @@ Begin c = Ask c .before .before .before .before .before .before .before .before 
 build-in-box-requires : tie.Need-build-in-box-requires
 build-in-box-requires c κs =
     let at = c .before .before .before .before .before in
-    let a = at .before .before .before .before .before .before .before .before .before .before .args in
+    let start = at .before .before .before .before .before .before .before .before .before .before in
+    let a = start .args in
     let k = at .ask-in-box .ensures in
-    (k .small, λ z. asked-keep (own-in-box _ _ _ (siteCount (now (a .sites))) (a .q)) k z .0)
+    (k .small, λ z. asked-keep (own-in-box _ (siteCount (now (a .sites))) (a .q)) k z .0, start .pre)
 
 returns : tie.Need-returns
 returns c =
     let at = c .before .before in
     let b = Built (at .before) in
     let a = Begin b .args in
-    why-refused _ (own-in-box _ _ _ (siteCount (now (a .sites))) (a .q)) (Ask b .ask-in-box .ensures) _ _ (b .build-in-box .ensures)
+    why-refused _ (own-in-box _ (siteCount (now (a .sites))) (a .q)) (Ask b .ask-in-box .ensures) _ _ (b .build-in-box .ensures)
     (λ z. c .if1 .taken (ap (λ (t : ReasonNumbers). t .number) (at .tell .ensures) ∙ z))
 
 add-end : tie.Need-add-end
@@ -44,7 +45,7 @@ add-end c =
     let b = Built (at .before) in
     let a = Begin b .args in
     let z = sym (ap (λ (t : ReasonNumbers). t .number) (at .tell .ensures)) ∙ e .if1 .left in
-    let s = why-settled _ (own-in-box _ _ _ (siteCount (now (a .sites))) (a .q)) (Ask b .ask-in-box .ensures) (build-late _ _) _ (b .build-in-box .ensures) z in
+    let s = why-settled _ (own-in-box _ (siteCount (now (a .sites))) (a .q)) (Ask b .ask-in-box .ensures) (build-late _ _) _ (b .build-in-box .ensures) z in
     record { fits = omega (arith, s .mesh .counts .few-sites) }
 
 slice-reshare-prefix-answer : tie.Need-slice-reshare-prefix-answer
@@ -54,7 +55,7 @@ slice-reshare-prefix-answer c =
     let b = Built (at .before) in
     let a = Begin b .args in
     let z = sym (ap (λ (t : ReasonNumbers). t .number) (at .tell .ensures)) ∙ e .if1 .left in
-    let s = why-settled _ (own-in-box _ _ _ (siteCount (now (a .sites))) (a .q)) (Ask b .ask-in-box .ensures) (build-late _ _) _ (b .build-in-box .ensures) z in
+    let s = why-settled _ (own-in-box _ (siteCount (now (a .sites))) (a .q)) (Ask b .ask-in-box .ensures) (build-late _ _) _ (b .build-in-box .ensures) z in
     settled-work s (cell-count _ _)
 
 slice-aggregate-answer : tie.Need-slice-aggregate-answer
@@ -64,7 +65,7 @@ slice-aggregate-answer c =
     let b = Built (at .before) in
     let a = Begin b .args in
     let z = sym (ap (λ (t : ReasonNumbers). t .number) (at .tell .ensures)) ∙ e .if1 .left in
-    let s = why-settled _ (own-in-box _ _ _ (siteCount (now (a .sites))) (a .q)) (Ask b .ask-in-box .ensures) (build-late _ _) _ (b .build-in-box .ensures) z in
+    let s = why-settled _ (own-in-box _ (siteCount (now (a .sites))) (a .q)) (Ask b .ask-in-box .ensures) (build-late _ _) _ (b .build-in-box .ensures) z in
     sym (length-take-le _ _ (settled-work s (cell-count _ _)))
 
 slice-reshare-prefix-answer-2 : tie.Need-slice-reshare-prefix-answer-2
@@ -74,7 +75,7 @@ slice-reshare-prefix-answer-2 c =
     let b = Built (at .before) in
     let a = Begin b .args in
     let z = sym (ap (λ (t : ReasonNumbers). t .number) (at .tell .ensures)) ∙ e .if1 .left in
-    let s = why-settled _ (own-in-box _ _ _ (siteCount (now (a .sites))) (a .q)) (Ask b .ask-in-box .ensures) (build-late _ _) _ (b .build-in-box .ensures) z in
+    let s = why-settled _ (own-in-box _ (siteCount (now (a .sites))) (a .q)) (Ask b .ask-in-box .ensures) (build-late _ _) _ (b .build-in-box .ensures) z in
     settled-offsets s (cell-count _ _)
 
 slice-aggregate-answer-2 : tie.Need-slice-aggregate-answer-2
@@ -84,7 +85,7 @@ slice-aggregate-answer-2 c =
     let b = Built (at .before) in
     let a = Begin b .args in
     let z = sym (ap (λ (t : ReasonNumbers). t .number) (at .tell .ensures)) ∙ e .if1 .left in
-    let s = why-settled _ (own-in-box _ _ _ (siteCount (now (a .sites))) (a .q)) (Ask b .ask-in-box .ensures) (build-late _ _) _ (b .build-in-box .ensures) z in
+    let s = why-settled _ (own-in-box _ (siteCount (now (a .sites))) (a .q)) (Ask b .ask-in-box .ensures) (build-late _ _) _ (b .build-in-box .ensures) z in
     sym (length-take-le _ _ (settled-offsets s (cell-count _ _)))
 
 answer-requires : tie.Need-answer-requires
@@ -94,7 +95,7 @@ answer-requires c κs =
     let b = Built (at .before) in
     let a = Begin b .args in
     let z = sym (ap (λ (t : ReasonNumbers). t .number) (at .tell .ensures)) ∙ e .if1 .left in
-    let s = why-settled _ (own-in-box _ _ _ (siteCount (now (a .sites))) (a .q)) (Ask b .ask-in-box .ensures) (build-late _ _) _ (b .build-in-box .ensures) z in
+    let s = why-settled _ (own-in-box _ (siteCount (now (a .sites))) (a .q)) (Ask b .ask-in-box .ensures) (build-late _ _) _ (b .build-in-box .ensures) z in
     let q = question-below (siteCount (now (a .sites))) (a .q) (s .kept .1) in (
       settled-asks s (cell-count _ _),
       settled-below s (cell-count _ _) (a .q) q,
@@ -107,7 +108,7 @@ returns-2 c =
     let b = Built (at .before) in
     let a = Begin b .args in
     let z = sym (ap (λ (t : ReasonNumbers). t .number) (at .tell .ensures)) ∙ e .if1 .left in
-    let s = why-settled _ (own-in-box _ _ _ (siteCount (now (a .sites))) (a .q)) (Ask b .ask-in-box .ensures) (build-late _ _) _ (b .build-in-box .ensures) z in
+    let s = why-settled _ (own-in-box _ (siteCount (now (a .sites))) (a .q)) (Ask b .ask-in-box .ensures) (build-late _ _) _ (b .build-in-box .ensures) z in
     why-answered s (cell-count _ _) _ (c .answer .ensures)
 
 pub why-spec : {M : Type 1} → statement M

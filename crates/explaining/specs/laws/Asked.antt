@@ -1,14 +1,13 @@
 -- What a call asks of its own arguments, step by step; and what such rules answer: 3 or 4.
 use mathlib.Core.Path.{_≡_}
+use mathlib.Core.Bool.{Bool}
 use mathlib.Core.List.{List, [], _++_}
 use mathlib.Core.Logic.{_≢_}
 use Prim.Native.Nat.{ℕ, _<_}
 use native.Mathlib.Omega.{arith}
-use lib.Ieee.{Float}
 use Rattle.laws.specs.Refusals.{Rule, Keep}
 use Rattle.laws.specs.laws.Refusals.{Answers, nothing, finds-first, finds-after, finds-keep}
 use Rattle.numbers.specs.Numbers.{refusedCoordinate}
-use Rattle.utils.specs.declared.Point.{Point}
 use Rattle.admission.specs.Asks.{siteRules, boxRules, Asked}
 use Rattle.admission.specs.laws.Asks.{site-below, box-answers}
 use Rattle.reasons.specs.declared.Question.{Question}
@@ -26,8 +25,8 @@ own-question n Nothing = record { some = tt; small = tt }
 own-question n (About s) = record { some = (λ x e. omega arith, tt); small = (λ x. omega arith, tt) }
 own-question n (Between s t) = record { some = (λ x e. omega arith, (λ x e. omega arith, tt)); small = (λ x. omega arith, (λ x. omega arith, tt)) }
 
-pub own-in-box : (c : Point) (w h : Float) (n : ℕ) (q : Question) → OwnRules (boxRules c w h ++ questionRules n q)
-own-in-box c w h n q = let o = own-question n q in
+pub own-in-box : (sound : Bool) (n : ℕ) (q : Question) → OwnRules (boxRules sound ++ questionRules n q)
+own-in-box sound n q = let o = own-question n q in
     record { some = (λ x e. omega arith, o .some); small = (λ x. omega arith, o .small) }
 
 -- ---- the questions
@@ -42,12 +41,12 @@ module _ (n s t : ℕ) {r : ℕ} (a : Asked (siteRules n s) r) where
   second-asked z b = record { found = finds-after (siteRules n s) (site-below n s a z, tt) (b .found); small = b .small }
 
 -- ---- the box, then the questions
-module _ (c : Point) (w h : Float) (rest : List (Rule ℕ)) {r : ℕ} (a : Asked (boxRules c w h) r) where
-  pub box-refused : r ≢ 0 → Asked (boxRules c w h ++ rest) r
+module _ (sound : Bool) (rest : List (Rule ℕ)) {r : ℕ} (a : Asked (boxRules sound) r) where
+  pub box-refused : r ≢ 0 → Asked (boxRules sound ++ rest) r
   box-refused z = record { found = finds-first rest z (a .found); small = a .small }
 
-  pub box-passed : r ≡ 0 → {v : ℕ} → Asked rest v → Asked (boxRules c w h ++ rest) v
-  box-passed z b = record { found = finds-after (boxRules c w h) (finds-keep (λ k. k ≡ 0) (box-answers c w h) z (a .found)) (b .found); small = b .small }
+  pub box-passed : r ≡ 0 → {v : ℕ} → Asked rest v → Asked (boxRules sound ++ rest) v
+  box-passed z b = record { found = finds-after (boxRules sound) (finds-keep (λ k. k ≡ 0) (box-answers sound) z (a .found)) (b .found); small = b .small }
 
 -- ---- what 0 tells
 pub asked-keep : {own : List (Rule ℕ)} → OwnRules own → {r : ℕ} → Asked own r → r ≡ 0 → Keep own

@@ -6,10 +6,8 @@ use Prim.Native.Nat.{ℕ, _/_}
 use lib.Ieee.{Float}
 use lib.ListN.{length, replicate}
 use Rattle.numbers.specs.Numbers.{EMPTY}
-use Rattle.utils.specs.declared.Point.{Point}
-use Rattle.bounding_box.specs.Box.{madeOf}
-use Rattle.bounding_box.specs.Rules.{okBox}
-use Rattle.bounding_box.specs.declared.BoundingBox.{BoundingBox}
+use Rattle.given_box.specs.Finite.{Fits}
+use Rattle.given_box.specs.declared.Given.{Given}
 use Rattle.mesh.specs.Accepted.{Mesh}
 use Rattle.definition.specs.declared.Fault.{Fault}
 use Rattle.definition.specs.Fault.{Outcome}
@@ -39,12 +37,12 @@ explains {m} {asked} {o} {old} {new = new} a z q b e =
 
 module _ {m : Mesh} {asked : ℕ} {old mid : Slices} {n : ℕ} (a : BuildAdmission m asked old mid n) (z : n ≡ 0)
     {v : List Float} {ix off w₂ c₂ : List ℕ} {r : Reason} where
-  pub explains-in-box : (c : Point) (w h : Float) → (asked ≡ 0 → okBox c w h ≡ true) → (b : BoundingBox) → b ≡ madeOf c w h → (x : CellsAnswer)
-      → x ≡ outcomeAnswer (build m b) → BuiltInto (build m b) (mid .vertices) (mid .indexes) (mid .offsets) v ix off
+  pub explains-in-box : (g : Given) → Fits g → (asked ≡ 0 → g .sound ≡ true) → (x : CellsAnswer)
+      → x ≡ outcomeAnswer (build m (g .bounds)) → BuiltInto (build m (g .bounds)) (mid .vertices) (mid .indexes) (mid .offsets) v ix off
       → EndedBuild (x .fault .number) (countsOf (x .count) (x .owners) (x .lost)) (mid .work) (mid .counts) w₂ c₂ → r ≡ ofFault (x .fault)
-      → Explains m asked (build m (madeOf c w h)) old (slices w₂ v ix off c₂) r
-  explains-in-box c w h fit b made x q l f e = explains a z (boxed-fault a c w h fit z b made x q)
-      (boxed-built a c w h fit z b made x q (askedRules asked) (asked-answers asked) (finds-asked asked) l f) e
+      → Explains m asked (build m (g .bounds)) old (slices w₂ v ix off c₂) r
+  explains-in-box g fits fit x q l f e = explains a z (boxed-fault a g fits fit z x q)
+      (boxed-built a g fits fit z x q (askedRules asked) (asked-answers asked) (finds-asked asked) l f) e
 
   pub explains-unclipped : (f : Fault) → f ≡ faultOf (unclipped (m .sites) (m .triangles) (m .halfedges))
       → BuiltInto (unclipped (m .sites) (m .triangles) (m .halfedges)) (mid .vertices) (mid .indexes) (mid .offsets) v ix off

@@ -11,10 +11,10 @@ show-requires c κs =
     let at-build = at-narrow .before .before .before .before .before .before in
     let start = at-build .before .before .before .before .before .before .before .before .before .before .before in
     let b = at-build .build in (
-      λ z. rw (at-narrow .narrow .ensures, b .kept .1 .1 .1 .1 .1 .1 .1 .1 .0)
-          (laid-in-box _ _ (start .pre) _ _ (record { work = refl; vertices = refl; indexes = refl; offsets = refl; counts = refl }) _ _ _ _ (b .ensures)
-          (b .kept .1 .1 .1 .1 .1 .1 .1 .1 .1 .0) z),
-      start .pre .room,
+      λ z. rw (at-narrow .narrow .ensures, b .kept .1 .1 .1 .1 .1 .1 .0)
+          (laid-in-box _ _ (start .pre .0) _ _ (record { work = refl; vertices = refl; indexes = refl; offsets = refl; counts = refl }) _ _ (start .pre .1) (b .ensures)
+          (b .kept .1 .1 .1 .1 .1 .1 .1 .0) z),
+      start .pre .0 .room,
     )
 
 returns : tie.Need-returns
@@ -26,14 +26,16 @@ returns c =
     let b = at-build .build in
     let h = at-show .show .ensures in (
       rw (h .first, at-narrow .narrow .ensures)
-          (text-in-box _ _ (start .pre) _ _ (record { work = refl; vertices = refl; indexes = refl; offsets = refl; counts = refl }) _ _ _ _ (b .ensures)),
+          (text-in-box _ _ (start .pre .0) _ _ (record { work = refl; vertices = refl; indexes = refl; offsets = refl; counts = refl }) _ _ (start .pre .1) (b .ensures)),
       h .within,
     )
+
+build-requires : tie.Need-build-requires
+build-requires c κs = c .before .before .before .before .before .before .before .before .before .before .pre .1
 
 pub in-box-spec : {M : Type 1} → statement M
 in-box-spec =
     tie.close
-    (tie.spec (λ c. search needs) (λ c. search needs) (λ c. search needs) (λ c. search needs)
-    (λ c. search needs) (λ c. search needs) (λ c. search needs) (λ c. search needs) (λ c. search needs)
-    (λ c κs. search needs) (λ c κs. search needs) (λ c. search needs) (λ c. search needs) (λ c. search needs)
+    (tie.spec (λ c. search needs) (λ c. search needs) (λ c. search needs) (λ c. search needs) (λ c. search needs)
+    build-requires (λ c κs. search needs) (λ c. search needs) (λ c. search needs) (λ c. search needs)
     show-requires (λ c. search needs) returns)

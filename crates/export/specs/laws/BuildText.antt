@@ -17,7 +17,8 @@ use Rattle.wkb.specs.Polygon.{patterns}
 use Rattle.wkb.specs.Promise.{NamesVertices, image}
 use Rattle.map_text.specs.MapText.{heading, mapText}
 use Rattle.utils.specs.declared.Point.{Point}
-use Rattle.bounding_box.specs.Box.{madeOf}
+use Rattle.given_box.specs.Finite.{Fits}
+use Rattle.given_box.specs.declared.Given.{Given}
 use Rattle.mesh.specs.Accepted.{Mesh, siteCount}
 use Rattle.laws.specs.Refusals.{Rule}
 use Rattle.admission.specs.Admits.{Admits}
@@ -134,14 +135,14 @@ module _ (m : Mesh) (space : ℕ) (sized : MapSized (length (m .sites)) (length 
     text-of : Shows (Admits m true own) exported o (shown (lines (siteCount (m .sites)) (new .vertices) (new .offsets) (new .indexes)) r)
     text-of = shows exported _ some rules late (λ b e z. lines-text a long b (gives-ok (Whole (siteCount (m .sites))) whole e) (can b e z) e z)
 
-  module _ (c : Point) (w h : Float) (a : ClippedBuild m c w h old new r) where
-    abbrev whole-in : Gives (Whole (siteCount (m .sites))) (build m (madeOf c w h))
-    whole-in = whole-in-box m (madeOf c w h)
+  module _ (g : Given) (fits : Fits g) (a : ClippedBuild m g old new r) where
+    abbrev whole-in : Gives (Whole (siteCount (m .sites))) (build m (g .bounds))
+    whole-in = whole-in-box m (g .bounds)
 
     -- each entry of a clipped cell is a vertex (`Room` of definition/specs/Theorems)
-    can-in : (b : Built) → build m (madeOf c w h) ≡ ok b → r ≡ 0 → Drawable b
+    can-in : (b : Built) → build m (g .bounds) ≡ ok b → r ≡ 0 → Drawable b
     can-in b e z =
-        let s = clipped-sound c w h a z in
+        let s = clipped-sound g fits a z in
         let q : s .outcome .value ≡ b = ok-one (s .outcome .is) e in
         let f = s .fits in
         subst Drawable q (record {
@@ -150,10 +151,10 @@ module _ (m : Mesh) (space : ℕ) (sized : MapSized (length (m .sites)) (length 
         })
 
     pub laid-in-box : length (new .indexes) ≡ 3076 → r ≡ 0 → CanDraw (siteCount (m .sites)) 3656 (new .offsets) (new .indexes)
-    laid-in-box = layout (box-answers c w h) whole-in can-in (build-late m (madeOf c w h)) a
+    laid-in-box = layout (box-answers (g .sound)) whole-in can-in (build-late m (g .bounds)) a
 
-    pub text-in-box : InBox mapTexts m c w h (shown (lines (siteCount (m .sites)) (new .vertices) (new .offsets) (new .indexes)) r)
-    text-in-box = text-of (box-answers c w h) whole-in can-in (build-late m (madeOf c w h)) a
+    pub text-in-box : InBox mapTexts m g (shown (lines (siteCount (m .sites)) (new .vertices) (new .offsets) (new .indexes)) r)
+    text-in-box = text-of (box-answers (g .sound)) whole-in can-in (build-late m (g .bounds)) a
 
   module _ (a : UnclippedBuild m old new r) where
     -- each entry of a cell that is not clipped is a triangle

@@ -9,7 +9,7 @@ use lib.ListN.{length, take, drop, take-append-drop, length-drop}
 use lib.Seq.{length-take-le}
 use Rattle.laws.specs.laws.Decide.{lt-or-ge}
 use Rattle.octets.specs.Bytes.{Bytes, word, le}
-use Rattle.form.specs.Form.{box, OutlineFits, SiteFits, TriangleFits, HullFits, outlineBytes, siteBytes, triangleBytes, hullBytes}
+use Rattle.form.specs.Form.{Outline, OutlineFits, SiteFits, TriangleFits, HullFits, outlineBytes, siteBytes, triangleBytes, hullBytes}
 use Rattle.form_step.specs.Reader.{inside, step, steps}
 use Rattle.form_step.specs.laws.Steps.{step-broken, step-inside}
 use Rattle.octets.specs.laws.Bytes.{le-word, word-small}
@@ -137,21 +137,28 @@ cut-site t h l = go (two 8 t h l)
           shorter = omega (arith, p .long);
         }
 
-pub cut-box : (t : List ℕ) → Bytes t → 32 ≤ length t → CutOff outlineBytes OutlineFits 1 t
-cut-box t h l = go (two 8 t h (omega arith))
+-- a first record of four floats, made of them by c
+pub cut-four :
+    (k : ℕ) (c : ℕ → ℕ → ℕ → ℕ → Outline)
+    → ((x y z v : ℕ) → outlineBytes (c x y z v) ≡ k ∷ le 8 x ++ le 8 y ++ le 8 z ++ le 8 v)
+    → ((x y z v : ℕ) → (x < 2 ^ 64) × (y < 2 ^ 64) × (z < 2 ^ 64) × (v < 2 ^ 64) → OutlineFits (c x y z v))
+    → (t : List ℕ) → Bytes t → 32 ≤ length t → CutOff outlineBytes OutlineFits k t
+cut-four k c is fit t h l = go (two 8 t h (omega arith))
   where
-    on : (p : Two 8 t) → Two 8 (p .rest) → CutOff outlineBytes OutlineFits 1 t
+    on : (p : Two 8 t) → Two 8 (p .rest) → CutOff outlineBytes OutlineFits k t
     on p q =
         record {
-          value = box (p .a) (p .b) (q .a) (q .b);
+          value = c (p .a) (p .b) (q .a) (q .b);
           rest = q .rest;
-          fits = (p .a-small, p .b-small, q .a-small, q .b-small);
-          joined = ap (λ (z : List ℕ). 1 ∷ z) (p .joined ∙ ap (λ (z : List ℕ). le 8 (p .a) ++ (le 8 (p .b) ++ z)) (q .joined));
+          fits = fit (p .a) (p .b) (q .a) (q .b) (p .a-small, p .b-small, q .a-small, q .b-small);
+          joined =
+              ap (λ (z : List ℕ). k ∷ z) (p .joined ∙ ap (λ (z : List ℕ). le 8 (p .a) ++ (le 8 (p .b) ++ z)) (q .joined))
+              ∙ sym (ap (λ (z : List ℕ). z ++ q .rest) (is (p .a) (p .b) (q .a) (q .b)));
           bytes = q .bytes;
           shorter = omega (arith, p .long, q .long);
         }
 
-    go : Two 8 t → CutOff outlineBytes OutlineFits 1 t
+    go : Two 8 t → CutOff outlineBytes OutlineFits k t
     go p = on p (two 8 (p .rest) (p .bytes) (omega (arith, p .long)))
 
 pub cut-triangle : (t : List ℕ) → Bytes t → 24 ≤ length t → CutOff triangleBytes TriangleFits 3 t

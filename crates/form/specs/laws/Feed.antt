@@ -106,7 +106,7 @@ few-answer : (r : Reader) → Ok r → Few (verdict r)
 unfolding verdict
 few-answer r o = go (r .broken) (eqb (r .stage) 5)
   where
-    go : (t u : Bool) → Few (pick t (λ _. Broken (r .at)) (λ _. pick u (λ _. Sound (r .sites) (r .triangles) (r .hull) (r .unclipped)) (λ _. Broken (r .at))))
+    go : (t u : Bool) → Few (pick t (λ _. Broken (r .at)) (λ _. pick u (λ _. Sound (r .sites) (r .triangles) (r .hull) (r .clip)) (λ _. Broken (r .at))))
     go true u = tt
     go false true = (o .sites, o .triangles, o .hull)
     go false false = tt

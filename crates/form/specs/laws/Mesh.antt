@@ -1,6 +1,5 @@
 -- Every mesh that has a form is read back from it: sound forms are accepted, with their numbers.
 use mathlib.Core.Path.{_≡_, refl, ap, _∙_, subst}
-use mathlib.Core.Bool.{Bool}
 use mathlib.Core.List.{List, [], _∷_, _++_, append-assoc}
 use Prim.Native.Nat.{ℕ, suc, _+_, _*_, _≤_}
 use native.Mathlib.Omega.{arith}
@@ -12,8 +11,8 @@ use borrow.Author.Tests.{lt-ltb}
 use Rattle.laws.specs.laws.Stores.{sets-join}
 use Rattle.octets.specs.Bytes.{each, All}
 use Rattle.form.specs.Form.{FormMesh, Site, Triangle, MeshFits, SiteFits, TriangleFits, HullFits, outlineBytes, siteBytes, triangleBytes}
-use Rattle.form.specs.Form.{hullBytes, formOf, numbersOf, outlineFloats, siteFloats, triangleSites, trianglePairs, isUnclipped}
-use Rattle.form_step.specs.Reader.{roomLeft, start, begun, Reading, reading, takes, verdict}
+use Rattle.form.specs.Form.{hullBytes, formOf, numbersOf, outlineFloats, siteFloats, triangleSites, trianglePairs, kindOf}
+use Rattle.form_step.specs.Reader.{opens, roomLeft, start, begun, Reading, reading, takes, verdict}
 use Rattle.form.specs.laws.Run.{AtRecord, Goes, Opening, ready-up, takes-append, kind-follows, kind-run, site-run, triangle-run, hull-run, opening}
 use Rattle.form_step.specs.declared.Reader.{Reader}
 use Rattle.form_step.specs.declared.Form.the-variants.{Sound}
@@ -31,7 +30,7 @@ goes-both {r = r} {bs = bs} {ss = ss} {ts = ts} {es = es} {hs = hs} {s = s} {t =
       ran =
           record {
             ready = h .ran .ready;
-            unclipped = h .ran .unclipped ∙ g .ran .unclipped;
+            clip = h .ran .clip ∙ g .ran .clip;
             sites = omega (arith, g .ran .sites, h .ran .sites);
             triangles = omega (arith, g .ran .triangles, h .ran .triangles);
             hull = omega (arith, g .ran .hull, h .ran .hull);
@@ -50,7 +49,7 @@ goes-as {bs' = bs'} g ea eb ec es et ee eh =
       ran =
           record {
             ready = g .ran .ready;
-            unclipped = g .ran .unclipped;
+            clip = g .ran .clip;
             sites = omega (arith, g .ran .sites);
             triangles = omega (arith, g .ran .triangles);
             hull = omega (arith, g .ran .hull);
@@ -105,7 +104,7 @@ module _
     all-run [] r bs ss ts es hs p q a b c =
         record {
           to = r;
-          ran = record { ready = q; unclipped = refl; sites = omega arith; triangles = omega arith; hull = omega arith };
+          ran = record { ready = q; clip = refl; sites = omega arith; triangles = omega arith; hull = omega arith };
           lists = refl;
         }
     all-run (x ∷ l) r bs ss ts es hs p q a b c =
@@ -164,16 +163,16 @@ module _ (r : Reader) (bs ss : List Float) (ts es hs : List ℕ) where
 
 -- what the lists and the answer are once the form of m is read
 pub record WholeRead (m : FormMesh) (bs ss : List Float) (ts es hs : List ℕ) (d : Reading) : Type 0 where
-  pub answer : verdict (d .reader) ≡ Sound (length (m .sites)) (length (m .triangles)) (length (m .hull)) (isUnclipped (m .clip))
+  pub answer : verdict (d .reader) ≡ Sound (length (m .sites)) (length (m .triangles)) (length (m .hull)) (kindOf (m .clip))
   pub bounds : d .bounds ≡ sets bs 0 (outlineFloats (m .clip))
   pub sites : d .sites ≡ sets ss 0 (numbersOf siteFloats (m .sites))
   pub triangles : d .triangles ≡ sets ts 0 (numbersOf triangleSites (m .triangles))
   pub halfedges : d .halfedges ≡ sets es 0 (numbersOf trianglePairs (m .triangles))
   pub hull : d .hull ≡ sets hs 0 (m .hull)
 
-ended : (r : Reader) (a b c : ℕ) (u : Bool) → r .sites ≡ a → r .triangles ≡ b → r .hull ≡ c → r .unclipped ≡ u → verdict (begun r 5) ≡ Sound a b c u
-unfolding verdict begun
-ended r a b c u p q s t = cc
+ended : (r : Reader) (a b c k : ℕ) → r .sites ≡ a → r .triangles ≡ b → r .hull ≡ c → r .clip ≡ k → verdict (begun r 5) ≡ Sound a b c k
+unfolding verdict begun opens
+ended r a b c k p q s t = cc
 
 -- the first record, all others, and the end
 closed :
@@ -200,7 +199,7 @@ closed m bs ss ts es hs ss' ts' es' hs' s o g es₁ et ee eh =
     record {
       answer =
           ap (λ (x : Reading). verdict (x .reader)) e
-          ∙ ended r _ _ _ _ (omega (arith, p .sites, g .ran .sites)) (omega (arith, p .triangles, g .ran .triangles)) (omega (arith, p .hull, g .ran .hull)) (g .ran .unclipped ∙ p .unclipped);
+          ∙ ended r _ _ _ _ (omega (arith, p .sites, g .ran .sites)) (omega (arith, p .triangles, g .ran .triangles)) (omega (arith, p .hull, g .ran .hull)) (g .ran .clip ∙ p .clip);
       bounds = ap (λ (x : Reading). x .bounds) e;
       sites = ap (λ (x : Reading). x .sites) e ∙ es₁;
       triangles = ap (λ (x : Reading). x .triangles) e ∙ et;

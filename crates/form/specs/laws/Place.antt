@@ -84,8 +84,8 @@ record Shape (r : Reader) : Type 0 where
   high : r .stage ≤ 5
   last : r .stage ≡ 5 → r .left ≡ 0
 
-stage-at-most : (r : Reader) (k : ℕ) → RecordKind r k → (1 ≤ k) × (k ≤ 5) × (k ≡ 5 → sizeOf k ≡ 0) × (pick (eqb k 6) (λ _. 1) (λ _. k) ≡ k)
-unfolding sizeOf
+stage-at-most : (r : Reader) (k : ℕ) → RecordKind r k → (1 ≤ k) × (k ≤ 5) × (k ≡ 5 → sizeOf k ≡ 0) × (pick (opens k) (λ _. 1) (λ _. k) ≡ k)
+unfolding sizeOf opens
 stage-at-most r k (site p) = (omega arith, omega arith, λ e. absurd (omega arith), refl)
 stage-at-most r k (triangle p) = (omega arith, omega arith, λ e. absurd (omega arith), refl)
 stage-at-most r k (hull p) = (omega arith, omega arith, λ e. absurd (omega arith), refl)
@@ -95,8 +95,7 @@ shape-begun : (r : Reader) (b : ℕ) → follows r b ≡ true → Shape (begun r
 unfolding begun
 shape-begun r b f =
     ⊎-elim
-    (λ v. ⊎-elim (λ e. rw e (record { low = λ z. absurd (omega arith); high = omega arith; last = λ z. absurd (omega arith) }))
-    (λ e. rw e (record { low = λ z. absurd (omega arith); high = omega arith; last = λ z. absurd (omega arith) })) (v .1))
+    (λ v. rw (v .1) (record { low = λ z. absurd (omega arith); high = omega arith; last = λ z. absurd (omega arith) }))
     (λ v. let w = stage-at-most r b (v .2) in
     record { low = λ z. absurd (omega (arith, w .0, w .3)); high = omega (arith, w .1, w .3); last = λ z. w .2 (omega (arith, w .3)) })
     (follows-cases r b f)
@@ -124,7 +123,7 @@ record Ending (r : Reader) : Type 0 where
   ends : Ended (steps r rest)
 
 five : (r : Reader) → r .broken ≡ false → r .left ≡ 0 → 1 ≤ r .stage → r .stage < 5 → Ending r
-unfolding steps outside roomLeft begun
+unfolding steps outside roomLeft begun opens
 five r e z l h =
     let i : step r 5 ≡ begun r 5 = step-outside r 5 e z ∙ rw (kind-follows r 5 l (omega arith) (lt-ltb (r .stage) 5 h)) in
     record { rest = 5 ∷ []; bytes = (omega arith, tt); ends = subst Ended (sym i) (record { broken = refl; stage = refl }) }
@@ -221,7 +220,7 @@ refused-at s h k e = go (steps start s .broken) (eqb (steps start s .stage) 5) r
     go :
         (t u : Bool) → steps start s .broken ≡ t → eqb (steps start s .stage) 5 ≡ u
         → pick t (λ _. Broken (steps start s .at)) (λ _. pick u
-        (λ _. Sound (steps start s .sites) (steps start s .triangles) (steps start s .hull) (steps start s .unclipped)) (λ _. Broken (steps start s .at))) ≡ Broken k
+        (λ _. Sound (steps start s .sites) (steps start s .triangles) (steps start s .hull) (steps start s .clip)) (λ _. Broken (steps start s .at))) ≡ Broken k
         → Place s k
     go true u p q f = subst (Place s) (broken-at _ _ f) (refused-place s h p)
     go false true p q f = sound-broken (sym f)

@@ -1,6 +1,6 @@
 -- What reading one whole record does: it is one record more, and its numbers stand in their lists.
 use mathlib.Core.Path.{_≡_, refl, sym, ap, ap₂, _∙_}
-use mathlib.Core.Bool.{Bool, true, false}
+use mathlib.Core.Bool.{true, false}
 use mathlib.Core.List.{List, [], _∷_, _++_}
 use Prim.Native.Nat.{ℕ, _+_, _-_, _*_, _/_, _^_, _≤_, _<_}
 use native.Mathlib.Omega.{arith}
@@ -10,8 +10,8 @@ use lib.Seq.{sets}
 use borrow.Author.Tests.{ne-eqb, le-ltb, lt-ltb}
 use Rattle.octets.specs.Bytes.{le}
 use Rattle.form_step.specs.Register.{shifts}
-use Rattle.form.specs.Form.{Outline, box, unclipped, Site, Triangle, outlineBytes, siteBytes, triangleBytes, hullBytes, OutlineFits, SiteFits}
-use Rattle.form.specs.Form.{TriangleFits, HullFits, outlineFloats, siteFloats, triangleSites, trianglePairs, isUnclipped}
+use Rattle.form.specs.Form.{Outline, box, unclipped, edges, Site, Triangle, outlineBytes, siteBytes, triangleBytes, hullBytes, OutlineFits, SiteFits}
+use Rattle.form.specs.Form.{TriangleFits, HullFits, outlineFloats, siteFloats, triangleSites, trianglePairs, kindOf}
 use Rattle.form_step.specs.Reader.{sizeOf, opens, roomLeft, follows, start, begun, tally, inside, outside, step, steps, within, putFloat, putLink}
 use Rattle.form_step.specs.Reader.{boundsBy, sitesBy, trianglesBy, halfedgesBy, hullBy, Reading, reading, take, takes}
 use Rattle.form.specs.laws.Fill.{take-outside}
@@ -32,7 +32,7 @@ takes-reader (b ∷ s) d = takes-reader s (take d b)
 -- ---- bodies, by computation
 
 -- the state in a record of this kind, with so much of it to come
-abbrev amid : ℕ → ℕ → ℕ → ℕ → Bool → ℕ → ℕ → ℕ → Reader
+abbrev amid : ℕ → ℕ → ℕ → ℕ → ℕ → ℕ → ℕ → ℕ → Reader
 amid stage left w at u n m h =
     record {
       stage = stage;
@@ -40,13 +40,13 @@ amid stage left w at u n m h =
       word = w;
       at = at;
       broken = false;
-      unclipped = u;
+      clip = u;
       sites = n;
       triangles = m;
       hull = h;
     }
 
-module _ (w at : ℕ) (u : Bool) (n m h : ℕ) (bs ss : List Float) (ts es hs : List ℕ) where
+module _ (w at u n m h : ℕ) (bs ss : List Float) (ts es hs : List ℕ) where
   box-body : (x y width height : ℕ) →
       let body = le 8 x ++ le 8 y ++ le 8 width ++ le 8 height in
       let w₁ = shifts w (le 8 x) in
@@ -110,7 +110,7 @@ ready-up n l q = record { broken = q .broken; left = q .left; low = q .low; high
 -- n is that after a sites, b triangles and c hull sites more
 pub record Ran (r n : Reader) (k a b c : ℕ) : Type 0 where
   pub ready : AtRecord n k
-  pub unclipped : n .unclipped ≡ r .unclipped
+  pub clip : n .clip ≡ r .clip
   pub sites : n .sites ≡ r .sites + a
   pub triangles : n .triangles ≡ r .triangles + b
   pub hull : n .hull ≡ r .hull + c
@@ -141,11 +141,11 @@ there :
     → n ≡ r .sites + a
     → m ≡ r .triangles + b
     → h ≡ r .hull + c
-    → Ran r (amid k 0 w at (r .unclipped) n m h) k a b c
+    → Ran r (amid k 0 w at (r .clip) n m h) k a b c
 there r k w at n m h a b c l e p q s =
     record {
       ready = record { broken = refl; left = refl; low = l; high = omega arith; word = e };
-      unclipped = refl;
+      clip = refl;
       sites = p;
       triangles = q;
       hull = s;
@@ -159,7 +159,7 @@ module _ (r : Reader) (bs ss : List Float) (ts es hs : List ℕ) where
       ap (λ (d : Reading). takes d s) (sym (take-outside r k bs ss ts es hs e z) ∙ ap (λ (n : Reader). reading n bs ss ts es hs) (rw f))
 
   pub site-run : (s : Site) → SiteFits s → AtRecord r 2 → r .sites < 96 → Goes r 2 1 0 0 bs ss ts es hs bs (sets ss (2 * r .sites) (siteFloats s)) ts es hs (siteBytes s)
-  unfolding begun sizeOf roomLeft
+  unfolding begun opens sizeOf roomLeft
   site-run s fit q l =
       let w = r .word in
       let n = r .sites in
@@ -167,21 +167,21 @@ module _ (r : Reader) (bs ss : List Float) (ts es hs : List ℕ) where
       let y = s .y in
       let e₁ : shifts w (le 8 x) ≡ x = last-eight w (q .word) x (fit .0) in
       let e₂ : shifts (shifts w (le 8 x)) (le 8 y) ≡ y = ap (λ (v : ℕ). shifts v (le 8 y)) e₁ ∙ last-eight x (fit .0) y (fit .1) in
-      let at = steps (amid 2 16 w (r .at + 1) (r .unclipped) n (r .triangles) (r .hull)) (le 8 x ++ le 8 y) .at in
-      let to : Reader = amid 2 0 (shifts (shifts w (le 8 x)) (le 8 y)) at (r .unclipped) (n + 1) (r .triangles) (r .hull) in
+      let at = steps (amid 2 16 w (r .at + 1) (r .clip) n (r .triangles) (r .hull)) (le 8 x ++ le 8 y) .at in
+      let to : Reader = amid 2 0 (shifts (shifts w (le 8 x)) (le 8 y)) at (r .clip) (n + 1) (r .triangles) (r .hull) in
       record {
         to = to;
         ran = there r 2 (shifts (shifts w (le 8 x)) (le 8 y)) at (n + 1) (r .triangles) (r .hull) 1 0 0 (omega arith) (rw e₂ (fit .1)) refl (omega arith) (omega arith);
         lists =
             kind-run 2 _ (q .broken) (q .left) (kind-follows r 2 (q .low) (q .high) (lt-ltb n 96 l))
-            ∙ site-body w (r .at + 1) (r .unclipped) n (r .triangles) (r .hull) bs ss ts es hs x y
+            ∙ site-body w (r .at + 1) (r .clip) n (r .triangles) (r .hull) bs ss ts es hs x y
             ∙ ap (λ (z : List Float). reading to bs z ts es hs) (set-two ss (omega arith) (ap (ofBits binary64) e₁) (omega arith) (ap (ofBits binary64) e₂));
       }
 
   pub triangle-run :
       (t : Triangle) → TriangleFits t → AtRecord r 3 → r .triangles < 192
       → Goes r 3 0 1 0 bs ss ts es hs bs ss (sets ts (3 * r .triangles) (triangleSites t)) (sets es (3 * r .triangles) (trianglePairs t)) hs (triangleBytes t)
-  unfolding begun sizeOf roomLeft
+  unfolding begun opens sizeOf roomLeft
   triangle-run t fit q l =
       let m = r .triangles in
       let w₁ = shifts (r .word) (le 4 (t .a)) in
@@ -197,40 +197,40 @@ module _ (r : Reader) (bs ss : List Float) (ts es hs : List ℕ) where
       let s₅ : w₅ < 2 ^ 64 = shifts-small (le 4 (t .pair-b)) w₄ s₄ (bytes-le 4 (t .pair-b)) in
       let s₆ : w₆ < 2 ^ 64 = shifts-small (le 4 (t .pair-c)) w₅ s₅ (bytes-le 4 (t .pair-c)) in
       let body = le 4 (t .a) ++ le 4 (t .b) ++ le 4 (t .c) ++ le 4 (t .pair-a) ++ le 4 (t .pair-b) ++ le 4 (t .pair-c) in
-      let at = steps (amid 3 24 (r .word) (r .at + 1) (r .unclipped) (r .sites) m (r .hull)) body .at in
-      let to : Reader = amid 3 0 w₆ at (r .unclipped) (r .sites) (m + 1) (r .hull) in
+      let at = steps (amid 3 24 (r .word) (r .at + 1) (r .clip) (r .sites) m (r .hull)) body .at in
+      let to : Reader = amid 3 0 w₆ at (r .clip) (r .sites) (m + 1) (r .hull) in
       record {
         to = to;
         ran = there r 3 w₆ at (r .sites) (m + 1) (r .hull) 0 1 0 (omega arith) s₆ (omega arith) refl (omega arith);
         lists =
             kind-run 3 _ (q .broken) (q .left) (kind-follows r 3 (q .low) (q .high) (lt-ltb m 192 l))
-            ∙ triangle-body (r .word) (r .at + 1) (r .unclipped) (r .sites) m (r .hull) bs ss ts es hs (t .a) (t .b) (t .c) (t .pair-a) (t .pair-b) (t .pair-c)
+            ∙ triangle-body (r .word) (r .at + 1) (r .clip) (r .sites) m (r .hull) bs ss ts es hs (t .a) (t .b) (t .c) (t .pair-a) (t .pair-b) (t .pair-c)
             ∙ ap₂ (λ (z z' : List ℕ). reading to bs ss z z' hs)
             (set-three ts (omega arith) (last-four (r .word) (q .word) (t .a) (fit .0)) (omega arith) (last-four w₁ s₁ (t .b) (fit .1)) (omega arith) (last-four w₂ s₂ (t .c) (fit .2)))
             (set-three es (omega arith) (last-four w₃ s₃ (t .pair-a) (fit .3)) (omega arith) (last-four w₄ s₄ (t .pair-b) (fit .4)) (omega arith) (last-four w₅ s₅ (t .pair-c) (fit .5)));
       }
 
   pub hull-run : (v : ℕ) → HullFits v → AtRecord r 4 → r .hull < 96 → Goes r 4 0 0 1 bs ss ts es hs bs ss ts es (sets hs (r .hull) (v ∷ [])) (hullBytes v)
-  unfolding begun sizeOf roomLeft
+  unfolding begun opens sizeOf roomLeft
   hull-run v fit q l =
       let h = r .hull in
       let w₁ = shifts (r .word) (le 4 v) in
       let s₁ : w₁ < 2 ^ 64 = shifts-small (le 4 v) (r .word) (q .word) (bytes-le 4 v) in
-      let at = steps (amid 4 4 (r .word) (r .at + 1) (r .unclipped) (r .sites) (r .triangles) h) (le 4 v) .at in
-      let to : Reader = amid 4 0 w₁ at (r .unclipped) (r .sites) (r .triangles) (h + 1) in
+      let at = steps (amid 4 4 (r .word) (r .at + 1) (r .clip) (r .sites) (r .triangles) h) (le 4 v) .at in
+      let to : Reader = amid 4 0 w₁ at (r .clip) (r .sites) (r .triangles) (h + 1) in
       record {
         to = to;
         ran = there r 4 w₁ at (r .sites) (r .triangles) (h + 1) 0 0 1 (omega arith) s₁ (omega arith) (omega arith) refl;
         lists =
             kind-run 4 _ (q .broken) (q .left) (kind-follows r 4 (q .low) (q .high) (lt-ltb h 96 l))
-            ∙ hull-body (r .word) (r .at + 1) (r .unclipped) (r .sites) (r .triangles) h bs ss ts es hs v
+            ∙ hull-body (r .word) (r .at + 1) (r .clip) (r .sites) (r .triangles) h bs ss ts es hs v
             ∙ ap₂ (λ (i x : ℕ). reading to bs ss ts es (set hs i x)) (omega arith) (last-four (r .word) (q .word) v fit);
       }
 
 -- the first record
 pub record Opens (r : Reader) (c : Outline) : Type 0 where
   pub ready : AtRecord r 1
-  pub unclipped : r .unclipped ≡ isUnclipped c
+  pub clip : r .clip ≡ kindOf c
   pub sites : r .sites ≡ 0
   pub triangles : r .triangles ≡ 0
   pub hull : r .hull ≡ 0
@@ -240,11 +240,11 @@ pub record Opening (c : Outline) (bs ss : List Float) (ts es hs : List ℕ) : Ty
   pub opens : Opens to c
   pub lists : takes (reading start bs ss ts es hs) (outlineBytes c) ≡ reading to (sets bs 0 (outlineFloats c)) ss ts es hs
 
-opened : (c : Outline) (w at : ℕ) → w < 2 ^ 64 → Opens (amid 1 0 w at (isUnclipped c) 0 0 0) c
-opened c w at h =
+opened : (c : Outline) (k w at : ℕ) → kindOf c ≡ k → w < 2 ^ 64 → Opens (amid 1 0 w at k 0 0 0) c
+opened c k w at i h =
     record {
       ready = record { broken = refl; left = refl; low = omega arith; high = omega arith; word = h };
-      unclipped = refl;
+      clip = sym i;
       sites = refl;
       triangles = refl;
       hull = refl;
@@ -256,25 +256,38 @@ set-four :
     → sets l 0 (a ∷ b ∷ c ∷ d ∷ []) ≡ sets l 0 (a' ∷ b' ∷ c' ∷ d' ∷ [])
 set-four l p q r s = cc
 
-pub opening : (c : Outline) → OutlineFits c → (bs ss : List Float) (ts es hs : List ℕ) → Opening c bs ss ts es hs
-unfolding begun sizeOf follows opens takes take step outside within boundsBy sitesBy trianglesBy halfedgesBy hullBy
-opening unclipped fit bs ss ts es hs = record { to = _; opens = opened unclipped 0 1 (omega arith); lists = refl }
-opening (box x y width height) fit bs ss ts es hs =
+-- a first record of four floats: c makes it of them, and its kind is k
+four-opening :
+    (c : Outline) (k x y z v : ℕ)
+    → kindOf c ≡ k
+    → outlineFloats c ≡ ofBits binary64 x ∷ ofBits binary64 y ∷ ofBits binary64 z ∷ ofBits binary64 v ∷ []
+    → (x < 2 ^ 64) × (y < 2 ^ 64) × (z < 2 ^ 64) × (v < 2 ^ 64)
+    → (bs ss : List Float) (ts es hs : List ℕ)
+    → takes (reading start bs ss ts es hs) (outlineBytes c) ≡ takes (reading (amid 1 32 0 1 k 0 0 0) bs ss ts es hs) (le 8 x ++ le 8 y ++ le 8 z ++ le 8 v)
+    → Opening c bs ss ts es hs
+four-opening c k x y z v i f fit bs ss ts es hs begins =
     let w₁ = shifts 0 (le 8 x) in
     let w₂ = shifts w₁ (le 8 y) in
-    let w₃ = shifts w₂ (le 8 width) in
-    let w₄ = shifts w₃ (le 8 height) in
+    let w₃ = shifts w₂ (le 8 z) in
+    let w₄ = shifts w₃ (le 8 v) in
     let e₁ : w₁ ≡ x = last-eight 0 (omega arith) x (fit .0) in
-    let e₂ : w₂ ≡ y = ap (λ (v : ℕ). shifts v (le 8 y)) e₁ ∙ last-eight x (fit .0) y (fit .1) in
-    let e₃ : w₃ ≡ width = ap (λ (v : ℕ). shifts v (le 8 width)) e₂ ∙ last-eight y (fit .1) width (fit .2) in
-    let e₄ : w₄ ≡ height = ap (λ (v : ℕ). shifts v (le 8 height)) e₃ ∙ last-eight width (fit .2) height (fit .3) in
-    let at = steps (amid 1 32 0 1 false 0 0 0) (le 8 x ++ le 8 y ++ le 8 width ++ le 8 height) .at in
-    let to : Reader = amid 1 0 w₄ at false 0 0 0 in
+    let e₂ : w₂ ≡ y = ap (λ (u : ℕ). shifts u (le 8 y)) e₁ ∙ last-eight x (fit .0) y (fit .1) in
+    let e₃ : w₃ ≡ z = ap (λ (u : ℕ). shifts u (le 8 z)) e₂ ∙ last-eight y (fit .1) z (fit .2) in
+    let e₄ : w₄ ≡ v = ap (λ (u : ℕ). shifts u (le 8 v)) e₃ ∙ last-eight z (fit .2) v (fit .3) in
+    let at = steps (amid 1 32 0 1 k 0 0 0) (le 8 x ++ le 8 y ++ le 8 z ++ le 8 v) .at in
+    let to : Reader = amid 1 0 w₄ at k 0 0 0 in
     record {
       to = to;
-      opens = opened (box x y width height) w₄ at (rw e₄ (fit .3));
+      opens = opened c k w₄ at i (rw e₄ (fit .3));
       lists =
-          box-body 0 1 false 0 0 0 bs ss ts es hs x y width height
-          ∙ ap (λ (z : List Float). reading to z ss ts es hs)
-          (set-four bs (ap (ofBits binary64) e₁) (ap (ofBits binary64) e₂) (ap (ofBits binary64) e₃) (ap (ofBits binary64) e₄));
+          begins
+          ∙ box-body 0 1 k 0 0 0 bs ss ts es hs x y z v
+          ∙ ap (λ (l : List Float). reading to l ss ts es hs)
+          (set-four bs (ap (ofBits binary64) e₁) (ap (ofBits binary64) e₂) (ap (ofBits binary64) e₃) (ap (ofBits binary64) e₄) ∙ sym (ap (sets bs 0) f));
     }
+
+pub opening : (c : Outline) → OutlineFits c → (bs ss : List Float) (ts es hs : List ℕ) → Opening c bs ss ts es hs
+unfolding begun sizeOf follows opens takes take step outside within boundsBy sitesBy trianglesBy halfedgesBy hullBy
+opening unclipped fit bs ss ts es hs = record { to = _; opens = opened unclipped 6 0 1 refl (omega arith); lists = refl }
+opening (box x y width height) fit bs ss ts es hs = four-opening (box x y width height) 1 x y width height refl refl fit bs ss ts es hs refl
+opening (edges left top right bottom) fit bs ss ts es hs = four-opening (edges left top right bottom) 7 left top right bottom refl refl fit bs ss ts es hs refl

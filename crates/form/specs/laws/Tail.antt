@@ -8,7 +8,7 @@ use native.Mathlib.Omega.{arith}
 use lib.ListN.{length}
 use Rattle.octets.specs.Bytes.{Bytes, each, All}
 use Rattle.form.specs.Form.{Site, Triangle, SiteFits, TriangleFits, HullFits, siteBytes, triangleBytes, hullBytes}
-use Rattle.form_step.specs.Reader.{sizeOf, follows, refused, begun, outside, step, steps, Reading, reading}
+use Rattle.form_step.specs.Reader.{sizeOf, opens, follows, refused, begun, outside, step, steps, Reading, reading}
 use Rattle.form_step.specs.laws.Steps.{RecordKind, site, triangle, hull, end, follows-cases, step-outside}
 use Rattle.form.specs.laws.Run.{AtRecord, Ran, Goes, ready-up, takes-reader, site-run, triangle-run, hull-run}
 use Rattle.form.specs.laws.Cut.{Ended, CutOff, steps-append, steps-broken, true-false, partway, body-there, cut-site, cut-triangle, cut-hull}
@@ -128,7 +128,7 @@ module _ (n : ℕ) (below : Below n) (r : Reader) (t : List ℕ) (l : length t �
   whole-body k f d e = body-there t (begun r k) refl d (subst Ended (begins r k q f t) e)
 
   site-tail : follows r 2 ≡ true → r .stage ≤ 2 → r .sites < 96 → Ended (steps r (2 ∷ t)) → Tail r (2 ∷ t)
-  unfolding begun sizeOf
+  unfolding begun opens sizeOf
   site-tail f o m e = go (cut-site t h (whole-body 2 f (λ z. omega arith) e))
     where
       go : CutOff siteBytes SiteFits 2 t → Tail r (2 ∷ t)
@@ -140,7 +140,7 @@ module _ (n : ℕ) (below : Below n) (r : Reader) (t : List ℕ) (l : length t �
           (then-on (siteBytes (x .value)) g (x .rest) (subst (λ (z : List ℕ). Ended (steps r z)) (x .joined) e)))
 
   triangle-tail : follows r 3 ≡ true → r .stage ≤ 3 → r .triangles < 192 → Ended (steps r (3 ∷ t)) → Tail r (3 ∷ t)
-  unfolding begun sizeOf
+  unfolding begun opens sizeOf
   triangle-tail f o m e = go (cut-triangle t h (whole-body 3 f (λ z. omega arith) e))
     where
       go : CutOff triangleBytes TriangleFits 3 t → Tail r (3 ∷ t)
@@ -153,7 +153,7 @@ module _ (n : ℕ) (below : Below n) (r : Reader) (t : List ℕ) (l : length t �
           (then-on (triangleBytes (x .value)) g (x .rest) (subst (λ (z : List ℕ). Ended (steps r z)) (x .joined) e)))
 
   hull-tail : follows r 4 ≡ true → r .hull < 96 → Ended (steps r (4 ∷ t)) → Tail r (4 ∷ t)
-  unfolding begun sizeOf
+  unfolding begun opens sizeOf
   hull-tail f m e = go (cut-hull t h (whole-body 4 f (λ z. omega arith) e))
     where
       go : CutOff hullBytes HullFits 4 t → Tail r (4 ∷ t)
@@ -186,7 +186,7 @@ unfolding refused
 refused-ends r t e = true-false (sym (ap (λ (n : Reader). n .broken) (steps-broken t (refused r) refl)) ∙ e .broken)
 
 end-tail : (r : Reader) (t : List ℕ) → AtRecord r 4 → FewRecords r → follows r 5 ≡ true → Ended (steps r (5 ∷ t)) → Tail r (5 ∷ t)
-unfolding steps begun sizeOf outside
+unfolding steps begun opens sizeOf outside
 end-tail r [] q w f e =
     record {
       sites = [];

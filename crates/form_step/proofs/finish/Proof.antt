@@ -1,4 +1,4 @@
--- `form::finish` meets its contract: each `return` is one of the definition's cases.
+-- `form_step::finish` meets its contract: each `return` is one of the definition's cases.
 use borrow.Author.Tests.{ne-eqb}
 use Rattle.form_step.specs.Reader.{verdict}
 use Rattle.form_step.proofs.finish.Statement.{statement}

@@ -1,4 +1,4 @@
--- `form::follows` meets its contract: each `return` is one of the definition's cases.
+-- `form_step::follows` meets its contract: each `return` is one of the definition's cases.
 use borrow.Author.Tests.{ne-eqb, lt-ltb, le-ltb}
 use Rattle.form_step.specs.Reader.{follows}
 use borrow.Author.Needs.{needs}

@@ -1,4 +1,4 @@
--- `form::inside` meets its contract, field by field.
+-- `form_step::inside` meets its contract, field by field.
 use Rattle.form_step.specs.Reader.{inside}
 use borrow.Author.Needs.{needs}
 use Rattle.form_step.proofs.inside.Statement.{statement}

@@ -1,4 +1,4 @@
--- `form::opens` meets its contract: 1 opens, and else the test is the definition's.
+-- `form_step::opens` meets its contract: 1 opens, 6 opens, and else the test is the definition's.
 use Rattle.form_step.specs.Reader.{opens}
 use borrow.Author.Tests.{ne-eqb}
 use Rattle.form_step.proofs.opens.Statement.{statement}
@@ -10,7 +10,11 @@ returns c = rw (c .if1 .taken)
 
 returns-2 : tie.Need-returns-2
 unfolding opens
-returns-2 c = rw (ne-eqb _ _ (c .if1 .left))
+returns-2 c = rw (c .if2 .taken)
+
+returns-3 : tie.Need-returns-3
+unfolding opens
+returns-3 c = rw (ne-eqb _ _ (c .before .if1 .left), ne-eqb _ _ (c .if2 .left))
 
 pub opens-spec : {M : Type 1} → statement M
-opens-spec = tie.close (tie.spec returns returns-2)
+opens-spec = tie.close (tie.spec returns returns-2 returns-3)

@@ -1,4 +1,4 @@
--- `form::outside` meets its contract: what `follows` answers chooses.
+-- `form_step::outside` meets its contract: what `follows` answers chooses.
 use mathlib.Core.Path.{sym, _∙_}
 use Rattle.form_step.specs.Reader.{outside}
 use borrow.Author.Needs.{needs}

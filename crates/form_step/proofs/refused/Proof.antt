@@ -1,4 +1,4 @@
--- `form::refused` meets its contract, field by field.
+-- `form_step::refused` meets its contract, field by field.
 use Rattle.form_step.specs.Reader.{refused}
 use mathlib.Core.Path.{refl}
 use Rattle.form_step.proofs.refused.Statement.{statement}

@@ -1,4 +1,4 @@
--- `form::room_for` meets its contract: at each `return` the kind is known, and the test is the definition's.
+-- `form_step::room_for` meets its contract: at each `return` the kind is known, and the test is the definition's.
 use Rattle.form_step.specs.Reader.{roomLeft}
 use borrow.Author.Tests.{ne-eqb}
 use Rattle.form_step.proofs.room_for.Statement.{statement}

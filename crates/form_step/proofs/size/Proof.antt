@@ -1,4 +1,4 @@
--- `form::size` meets its contract: at each `return` the kind is known, and the definition computes.
+-- `form_step::size` meets its contract: at each `return` the kind is known, and the definition computes.
 use Rattle.form_step.specs.Reader.{sizeOf}
 use borrow.Author.Tests.{ne-eqb}
 use Rattle.form_step.proofs.size.Statement.{statement}
@@ -22,7 +22,13 @@ returns-4 c = rw (c .if4 .taken)
 
 returns-5 : tie.Need-returns-5
 unfolding sizeOf
-returns-5 c = rw (ne-eqb _ _ (c .before .before .before .if1 .left), ne-eqb _ _ (c .before .before .if2 .left), ne-eqb _ _ (c .before .if3 .left), ne-eqb _ _ (c .if4 .left))
+returns-5 c = rw (c .if5 .taken)
+
+returns-6 : tie.Need-returns-6
+unfolding sizeOf
+returns-6 c =
+    let at-if1 = c .before .before .before .before in
+    rw (ne-eqb _ _ (at-if1 .if1 .left), ne-eqb _ _ (c .before .before .before .if2 .left), ne-eqb _ _ (c .before .before .if3 .left), ne-eqb _ _ (c .before .if4 .left), ne-eqb _ _ (c .if5 .left))
 
 pub size-spec : {M : Type 1} → statement M
-size-spec = tie.close (tie.spec returns returns-2 returns-3 returns-4 returns-5)
+size-spec = tie.close (tie.spec returns returns-2 returns-3 returns-4 returns-5 returns-6)

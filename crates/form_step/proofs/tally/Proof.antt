@@ -1,4 +1,4 @@
--- `form::tally` meets its contract: one more exactly where the stage is this kind's and one byte is left.
+-- `form_step::tally` meets its contract: one more exactly where the stage is this kind's and one byte is left.
 use borrow.Author.Tests.{ne-eqb, eq-eqb}
 use Rattle.form_step.specs.Reader.{tally}
 use borrow.Author.Needs.{needs}

@@ -1,5 +1,5 @@
 -- The step's cases as equations, what a kind that may follow is, and that a step keeps the state within its limits.
-use mathlib.Core.Path.{_≡_, refl, sym, _∙_, subst}
+use mathlib.Core.Path.{_≡_, refl, sym, ap, _∙_, subst}
 use mathlib.Core.Bool.{Bool, true, false}
 use mathlib.Core.Logic.{_⊎_, inl, inr, ⊎-elim, _≢_}
 use Prim.Native.Nat.{ℕ, _+_, _≤_, _<_}
@@ -18,9 +18,18 @@ by-test false a b e = inr (refl, e)
 never : {A : Type 0} → false ≡ true → A
 never e = let z : _≡_ {A = ℕ} 0 1 = cc in absurd (omega arith)
 
-pub opens-cases : (k : ℕ) → opens k ≡ true → (k ≡ 1) ⊎ (k ≡ 6)
+-- the kinds that open a form
+pub data OpeningKind : ℕ → Type 0 where
+  box : OpeningKind 1
+  none : OpeningKind 6
+  edges : OpeningKind 7
+
+pub opens-cases : (k : ℕ) → opens k ≡ true → OpeningKind k
 unfolding opens
-opens-cases k e = ⊎-elim (λ w. inl (eqb-true k 1 (w .0))) (λ w. inr (eqb-true k 6 (w .1))) (by-test (eqb k 1) true (eqb k 6) e)
+opens-cases k e =
+    ⊎-elim (λ w. rw (eqb-true k 1 (w .0)) box)
+    (λ v. ⊎-elim (λ w. rw (eqb-true k 6 (w .0)) none) (λ w. rw (eqb-true k 7 (w .1)) edges) (by-test (eqb k 6) true (eqb k 7) (v .1)))
+    (by-test (eqb k 1) true _ e)
 
 -- a kind that there is room for
 pub data RecordKind (r : Reader) : ℕ → Type 0 where
@@ -40,10 +49,10 @@ room-cases r k e =
     (by-test (eqb k 3) _ _ (v .1)))
     (by-test (eqb k 2) _ _ e)
 
-pub follows-cases : (r : Reader) (k : ℕ) → follows r k ≡ true → ((r .stage ≡ 0) × ((k ≡ 1) ⊎ (k ≡ 6))) ⊎ ((r .stage ≢ 0) × (r .stage ≤ k) × RecordKind r k)
+pub follows-cases : (r : Reader) (k : ℕ) → follows r k ≡ true → ((r .stage ≡ 0) × (opens k ≡ true)) ⊎ ((r .stage ≢ 0) × (r .stage ≤ k) × RecordKind r k)
 unfolding follows
 follows-cases r k e =
-    ⊎-elim (λ w. inl (eqb-true _ _ (w .0), opens-cases k (w .1)))
+    ⊎-elim (λ w. inl (eqb-true _ _ (w .0), w .1))
     (λ v. ⊎-elim (λ w. never (w .1)) (λ w. inr (eqb-false _ _ (v .0), ltb-false _ _ (w .0), room-cases r k (w .1))) (by-test (ltb k (r .stage)) false _ (v .1)))
     (by-test (eqb (r .stage) 0) _ _ e)
 
@@ -86,25 +95,30 @@ ok-start =
       in-hull = λ e p. omega arith;
     }
 
-stage-is : (k n : ℕ) → n ≢ 1 → pick (eqb k 6) (λ _. 1) (λ _. k) ≡ n → k ≡ n
-stage-is k n d e = go (eqb k 6) e
+stage-is : (k n : ℕ) → n ≢ 1 → pick (opens k) (λ _. 1) (λ _. k) ≡ n → k ≡ n
+stage-is k n d e = go (opens k) e
   where
     go : (t : Bool) → pick t (λ _. 1) (λ _. k) ≡ n → k ≡ n
     go true f = absurd (d (sym f))
     go false f = f
 
-size-box : (k : ℕ) → pick (eqb k 6) (λ _. 1) (λ _. k) ≡ 1 → sizeOf k ≤ 32
+opening-size : (k : ℕ) → OpeningKind k → sizeOf k ≤ 32
 unfolding sizeOf
-size-box k e = go (eqb k 6) refl e
+opening-size k box = omega arith
+opening-size k none = omega arith
+opening-size k edges = omega arith
+
+size-box : (k : ℕ) → pick (opens k) (λ _. 1) (λ _. k) ≡ 1 → sizeOf k ≤ 32
+unfolding sizeOf
+size-box k e = go (opens k) refl e
   where
-    go : (t : Bool) → eqb k 6 ≡ t → pick t (λ _. 1) (λ _. k) ≡ 1 → sizeOf k ≤ 32
-    go true s f = rw (eqb-true k 6 s) (omega arith)
+    go : (t : Bool) → opens k ≡ t → pick t (λ _. 1) (λ _. k) ≡ 1 → sizeOf k ≤ 32
+    go true s f = opening-size k (opens-cases k s)
     go false s f = rw f (omega arith)
 
 module _ (r : Reader) (k : ℕ) (f : follows r k ≡ true) where
-  room-of : (n : ℕ) → n ≢ 1 → n ≢ 6 → k ≡ n → RecordKind r n
-  room-of n p q e =
-      ⊎-elim (λ w. ⊎-elim (λ v. absurd (p (sym e ∙ v))) (λ v. absurd (q (sym e ∙ v))) (w .1)) (λ w. subst (RecordKind r) e (w .2)) (follows-cases r k f)
+  room-of : (n : ℕ) → opens n ≡ false → k ≡ n → RecordKind r n
+  room-of n p e = ⊎-elim (λ w. never (sym p ∙ sym (ap opens e) ∙ w .1)) (λ w. subst (RecordKind r) e (w .2)) (follows-cases r k f)
 
 site-room : {r : Reader} → RecordKind r 2 → r .sites < 96
 site-room (site h) = h
@@ -116,16 +130,16 @@ hull-room : {r : Reader} → RecordKind r 4 → r .hull < 96
 hull-room (hull h) = h
 
 ok-begun : (r : Reader) (k : ℕ) → Ok r → follows r k ≡ true → Ok (begun r k)
-unfolding begun sizeOf
+unfolding begun sizeOf opens
 ok-begun r k o f =
     record {
       sites = o .sites;
       triangles = o .triangles;
       hull = o .hull;
       in-box = size-box k;
-      in-site = λ e p. let i = stage-is k 2 (omega arith) e in (rw i (omega arith), site-room (room-of r k f 2 (omega arith) (omega arith) i));
-      in-triangle = λ e p. let i = stage-is k 3 (omega arith) e in (rw i (omega arith), triangle-room (room-of r k f 3 (omega arith) (omega arith) i));
-      in-hull = λ e p. let i = stage-is k 4 (omega arith) e in (rw i (omega arith), hull-room (room-of r k f 4 (omega arith) (omega arith) i));
+      in-site = λ e p. let i = stage-is k 2 (omega arith) e in (rw i (omega arith), site-room (room-of r k f 2 refl i));
+      in-triangle = λ e p. let i = stage-is k 3 (omega arith) e in (rw i (omega arith), triangle-room (room-of r k f 3 refl i));
+      in-hull = λ e p. let i = stage-is k 4 (omega arith) e in (rw i (omega arith), hull-room (room-of r k f 4 refl i));
     }
 
 pub tally-same : (r : Reader) (k n : ℕ) → r .left ≢ 1 → tally r k n ≡ n

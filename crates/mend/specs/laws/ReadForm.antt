@@ -16,7 +16,7 @@ use Rattle.form_step.specs.Reader.{start, reading}
 use Rattle.form_step.specs.Holds.{ListRoom, Reads}
 use Rattle.form_step.specs.declared.Form.{Form}
 use Rattle.form_step.specs.declared.Form.the-variants.{Sound}
-use Rattle.form.specs.Form.{Outline, box, unclipped, FormMesh, MeshFits, formOf, outlineBytes, siteBytes, triangleBytes, hullBytes, isUnclipped}
+use Rattle.form.specs.Form.{Outline, box, unclipped, edges, FormMesh, MeshFits, formOf, outlineBytes, siteBytes, triangleBytes, hullBytes, kindOf}
 use Rattle.form.specs.Form.{numbersOf, siteFloats}
 use Rattle.form.specs.Promise.{ReadSound, Refused, exact}
 use Rattle.form.specs.laws.Lists.{Put, sites-are, tri-is, he-is, hull-is, each-length}
@@ -29,9 +29,10 @@ use Rattle.mend.specs.Steps.{firstLength, Headed, OfLists, PrintsRead}
 
 -- ---- the first records of a form
 
-clip-length : (c : Outline) → length (outlineBytes c) ≡ firstLength (isUnclipped c)
+clip-length : (c : Outline) → length (outlineBytes c) ≡ firstLength (kindOf c)
 clip-length (box x y w h) = refl
 clip-length unclipped = refl
+clip-length (edges x y u v) = refl
 
 module _ (m : FormMesh) where
   abbrev rest : List ℕ
@@ -44,15 +45,15 @@ module _ (m : FormMesh) where
   sites-length : length (each siteBytes (m .sites)) ≡ 17 * length (m .sites)
   sites-length = each-length siteBytes 17 (λ _. refl) (m .sites)
 
-  first-is : take (firstLength (isUnclipped (m .clip))) (formOf m) ≡ outlineBytes (m .clip)
+  first-is : take (firstLength (kindOf (m .clip))) (formOf m) ≡ outlineBytes (m .clip)
   first-is = rw split (take-at (outlineBytes (m .clip)) (each siteBytes (m .sites) ++ rest) _ (clip-length (m .clip)))
 
-  records-are : take (17 * length (m .sites)) (drop (firstLength (isUnclipped (m .clip))) (formOf m)) ≡ each siteBytes (m .sites)
+  records-are : take (17 * length (m .sites)) (drop (firstLength (kindOf (m .clip))) (formOf m)) ≡ each siteBytes (m .sites)
   records-are =
-      rw (split, drop-at (outlineBytes (m .clip)) (each siteBytes (m .sites) ++ rest) (firstLength (isUnclipped (m .clip))) (clip-length (m .clip)))
+      rw (split, drop-at (outlineBytes (m .clip)) (each siteBytes (m .sites) ++ rest) (firstLength (kindOf (m .clip))) (clip-length (m .clip)))
       (take-at (each siteBytes (m .sites)) rest _ sites-length)
 
-  headed : Headed (Sound (length (m .sites)) (length (m .triangles)) (length (m .hull)) (isUnclipped (m .clip))) (length (formOf m))
+  headed : Headed (Sound (length (m .sites)) (length (m .triangles)) (length (m .hull)) (kindOf (m .clip))) (length (formOf m))
   headed =
       rw split
       (omega (
@@ -86,7 +87,7 @@ module _ (m : FormMesh) where
 module _ (m : FormMesh) (f : MeshFits m) (form : Bool) {bs ss : List Float} {ts es hs : List ℕ} (room : ListRoom bs ss ts es hs) {bs′ ss′ : List Float} {ts′ es′ hs′ : List ℕ}
     (p : Put m bs ss ts es hs bs′ ss′ ts′ es′ hs′) (text : List ℕ) where
   abbrev Read : Type 0
-  Read = PrintsRead form (formOf m) (Sound (length (m .sites)) (length (m .triangles)) (length (m .hull)) (isUnclipped (m .clip))) ss′ ts′ es′ hs′ text
+  Read = PrintsRead form (formOf m) (Sound (length (m .sites)) (length (m .triangles)) (length (m .hull)) (kindOf (m .clip))) ss′ ts′ es′ hs′ text
 
   of-read : Read → PrintsMesh m form text
   of-read q = to-mesh m form (rw (first-is m, records-are m, sites-are f room p, tri-is f room p, he-is f room p, hull-is f room p) at q)

@@ -5,8 +5,8 @@ use Rattle.plane_calls.proofs.is_exclusively_inside.Tie as tie
 
 returns : tie.Need-returns
 returns c =
-    let b = c .before .before .before in
-    exclusively (b .before .before .box-ok .ensures) (b .new .ensures) (b .before .site-ok .ensures) (c .number .ensures) (c .before .before .is-exclusively-inside .ensures) (c .before .yes .ensures)
+    let b = c .before .before in
+    exclusively (b .before .before .site-ok .ensures) (c .number .ensures) (b .is-exclusively-inside .ensures) (c .before .yes .ensures)
 
 pub is-exclusively-inside-spec : {M : Type 1} → statement M
-is-exclusively-inside-spec = tie.close (tie.spec (λ c κs. tt) (λ c κs. tt) (λ c κs. tt) (λ c κs. tt) (λ c κs. tt) (λ c κs. tt) returns)
+is-exclusively-inside-spec = tie.close (tie.spec (λ c κs. tt) (λ c κs. tt) (λ c κs. tt) (λ c κs. tt) returns)

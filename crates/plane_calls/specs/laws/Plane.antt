@@ -15,15 +15,15 @@ use Rattle.utils.specs.Rules as point
 use Rattle.utils.specs.Rules.{okSite}
 use Rattle.utils.specs.declared.Point.{Point}
 use Rattle.utils.specs.declared.Center.{Center}
-use Rattle.bounding_box.specs.Box.{madeOf, widthOf, heightOf, cornersOf, insideOf, exclusiveOf, whichOf}
-use Rattle.bounding_box.specs.Rules.{okBox}
+use Rattle.bounding_box.specs.Box.{widthOf, heightOf, cornersOf, insideOf, exclusiveOf, whichOf}
+use Rattle.given_box.specs.declared.Given.{Given}
 use Rattle.bounding_box.specs.declared.BoundingBox.{BoundingBox}
 use Rattle.crossings.specs.Rules.{countOf, valuesOf}
 use Rattle.crossings.specs.Rules.{meetingNumber, pointsOf}
 use Rattle.crossings.specs.declared.Meeting.{Meeting}
 use Rattle.layout.specs.Cleared.{clearedFrom}
 use Rattle.numbers.specs.Numbers.{EMPTY, refusedRoom, refusedBox}
-use Rattle.plane_calls.specs.Plane.{bit, numberBy, valueIf, sideIf, cornersNumber, cornersLeft, Dist2, Answered, Edges, Corners, Inside, ExclusivelyInside, WhichEdge, Meets}
+use Rattle.plane_calls.specs.Plane.{bit, numberBy, valueIf, sideIf, cornersNumber, cornersLeft, Dist2, Answered, Edges, Centered, Corners, Inside, ExclusivelyInside, WhichEdge, Meets}
 
 pub distance : {a b : Point} {s t : Bool} {d v : Float} {n : ℕ} → s ≡ okSite a → t ≡ okSite b → d ≡ dist2Of a b → v ≡ valueIf (s && t) d
     → n ≡ numberBy true (s && t) → Dist2 a b n v
@@ -32,19 +32,26 @@ distance s t d v n = record { refusal = cc; value = cc }
 pub answered : {r s : Center} {n : ℕ} {x y : Float} → s ≡ r → x ≡ point.xOf s → y ≡ point.yOf s → n ≡ point.centerNumber s → Answered r n x y
 answered e x y n = record { refusal = n ∙ ap point.centerNumber e; x-value = x ∙ ap point.xOf e; y-value = y ∙ ap point.yOf e }
 
-module _ {c : Point} {w h : Float} {frame : Bool} {b : BoundingBox} (f : frame ≡ okBox c w h) (e : b ≡ madeOf c w h) where
-  pub edges : {l t r m a d i j : Float} {n : ℕ} → l ≡ valueIf frame (b .left) → t ≡ valueIf frame (b .top) → r ≡ valueIf frame (b .right) → m ≡ valueIf frame (b .bottom)
-      → i ≡ widthOf b → a ≡ valueIf frame i → j ≡ heightOf b → d ≡ valueIf frame j → n ≡ numberBy frame true → Edges c w h n l t r m a d
-  edges l t r m i a j d n = record { refusal = cc; left-edge = cc; top-edge = cc; right-edge = cc; bottom-edge = cc; width = cc; height = cc }
+module _ {g : Given} where
+  pub edges : {l t r m a d i j : Float} {n : ℕ} → l ≡ valueIf (g .sound) (g .bounds .left) → t ≡ valueIf (g .sound) (g .bounds .top)
+      → r ≡ valueIf (g .sound) (g .bounds .right) → m ≡ valueIf (g .sound) (g .bounds .bottom)
+      → i ≡ widthOf (g .bounds) → a ≡ valueIf (g .sound) i → j ≡ heightOf (g .bounds) → d ≡ valueIf (g .sound) j → n ≡ numberBy (g .sound) true
+      → Edges g n l t r m a d
+  edges l t r m i a j d n = record { refusal = n; left-edge = l; top-edge = t; right-edge = r; bottom-edge = m; width = cc; height = cc }
 
-  module _ {p : Point} {point : Bool} {n : ℕ} (q : point ≡ okSite p) (k : n ≡ numberBy frame point) where
-    pub inside : {i : Bool} {y : ℕ} → i ≡ insideOf b p → y ≡ bit (frame && point && i) → Inside c w h p n y
+  pub centered : {x y a d i j : Float} {n : ℕ} → x ≡ valueIf (g .sound) (g .bounds .center .x) → y ≡ valueIf (g .sound) (g .bounds .center .y)
+      → i ≡ widthOf (g .bounds) → a ≡ valueIf (g .sound) i → j ≡ heightOf (g .bounds) → d ≡ valueIf (g .sound) j → n ≡ numberBy (g .sound) true
+      → Centered g n x y a d
+  centered x y i a j d n = record { refusal = n; center-x = x; center-y = y; width = cc; height = cc }
+
+  module _ {p : Point} {point : Bool} {n : ℕ} (q : point ≡ okSite p) (k : n ≡ numberBy (g .sound) point) where
+    pub inside : {i : Bool} {y : ℕ} → i ≡ insideOf (g .bounds) p → y ≡ bit (g .sound && point && i) → Inside g p n y
     inside i y = record { refusal = cc; answer = cc }
 
-    pub exclusively : {i : Bool} {y : ℕ} → i ≡ exclusiveOf b p → y ≡ bit (frame && point && i) → ExclusivelyInside c w h p n y
+    pub exclusively : {i : Bool} {y : ℕ} → i ≡ exclusiveOf (g .bounds) p → y ≡ bit (g .sound && point && i) → ExclusivelyInside g p n y
     exclusively i y = record { refusal = cc; answer = cc }
 
-    pub side : {i y : ℕ} → i ≡ whichOf b p → y ≡ sideIf (frame && point) i → WhichEdge c w h p n y
+    pub side : {i y : ℕ} → i ≡ whichOf (g .bounds) p → y ≡ sideIf (g .sound && point) i → WhichEdge g p n y
     side i y = record { refusal = cc; answer = cc }
 
 -- ---- a side's number
@@ -73,13 +80,13 @@ eight (x ∷ y ∷ z ∷ u ∷ v ∷ w ∷ []) a b c d e f g h k = absurd (omega
 eight (x ∷ y ∷ z ∷ u ∷ v ∷ w ∷ r ∷ []) a b c d e f g h k = absurd (omega arith)
 eight (x ∷ y ∷ z ∷ u ∷ v ∷ w ∷ r ∷ s ∷ l) a b c d e f g h k = refl
 
-module _ (c : Point) (w h : Float) (l : List Float) where
-  pub too-short : length l < 8 → Corners c w h l refusedRoom l
+module _ (g : Given) (l : List Float) where
+  pub too-short : length l < 8 → Corners g l refusedRoom l
   unfolding cornersNumber cornersLeft
   too-short k = record { refusal = rw (lt-ltb (length l) 8 k); slice = rw (lt-ltb (length l) 8 k) }
 
   module _ (k : 8 ≤ length l) where
-    pub no-box : okBox c w h ≡ false → Corners c w h l refusedBox l
+    pub no-box : g .sound ≡ false → Corners g l refusedBox l
     unfolding cornersNumber cornersLeft numberBy
     no-box f = record { refusal = rw (le-ltb (length l) 8 k, f); slice = rw (le-ltb (length l) 8 k, f) }
 
@@ -89,13 +96,13 @@ module _ (c : Point) (w h : Float) (l : List Float) where
         let e : length (flat (cornersOf b) ++ drop 8 l) - 8 ≡ length l - 8 = omega (arith, length-drop 8 l) in
         ap (λ n. flat (cornersOf b) ++ replicate n zero) e
 
-    pub put : {after poured : List Float} {b : BoundingBox} → okBox c w h ≡ true → b ≡ madeOf c w h → poured ≡ pour (cornersOf b) l
-        → after ≡ clearedFrom 8 zero poured → Corners c w h l 0 after
+    pub put : {after poured : List Float} → g .sound ≡ true → poured ≡ pour (cornersOf (g .bounds)) l
+        → after ≡ clearedFrom 8 zero poured → Corners g l 0 after
     unfolding cornersNumber cornersLeft numberBy
-    put f e p a =
+    put f p a =
         record {
           refusal = rw (le-ltb (length l) 8 k, f);
-          slice = rw (le-ltb (length l) 8 k, f) (a ∙ ap (clearedFrom 8 zero) (p ∙ ap (λ b. pour (cornersOf b) l) e) ∙ cleared (madeOf c w h));
+          slice = rw (le-ltb (length l) 8 k, f) (a ∙ ap (clearedFrom 8 zero) p ∙ cleared (g .bounds));
         }
 
 pub meets : {m k : Meeting} {n c : ℕ} {w : List Float} → k ≡ m → w ≡ valuesOf (pointsOf k) → c ≡ countOf (pointsOf k) → n ≡ meetingNumber k

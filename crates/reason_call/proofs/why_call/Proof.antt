@@ -19,8 +19,11 @@ returns c =
     let w = Reasoned t in
     called (w .why .result) (Asked w .question .ensures) (w .why .ensures) (c .put-numbers .ensures) (t .tell .ensures)
 
+why-requires : tie.Need-why-requires
+why-requires c κs = c .before .before .before .before .before .before .before .before .before .before .before .before .before .before .before .pre
+
 pub why-call-spec : {M : Type 1} → statement M
 why-call-spec =
     tie.close
-    (tie.spec (λ c κs. search needs) (λ c κs. search needs) (λ c κs. search needs) (λ c κs. search needs)
+    (tie.spec (λ c κs. search needs) why-requires (λ c κs. search needs) (λ c κs. search needs)
     (λ c. search needs) (λ c. search needs) (λ c. search needs) (λ c. search needs) (λ c. search needs) returns)

@@ -4,13 +4,10 @@ use mathlib.Core.Bool.{true}
 use mathlib.Core.List.{List, []}
 use mathlib.Core.Logic.{_↔_}
 use Prim.Native.Nat.{ℕ, suc, _<_}
-use lib.Ieee.{Float}
 use lib.ListN.{length, getD, take}
-use Rattle.utils.specs.declared.Point.{Point}
-use Rattle.bounding_box.specs.Box.{madeOf}
-use Rattle.bounding_box.specs.Rules.{okBox}
+use Rattle.given_box.specs.Finite.{Fits}
+use Rattle.given_box.specs.declared.Given.{Given}
 use Rattle.mesh.specs.Mesh.{Used}
-use Rattle.bounding_box.specs.Finite.{box-bounded}
 use Rattle.mesh.specs.Accepted.{Mesh, tableOf, siteCount}
 use Rattle.definition.specs.declared.Fault.{Fault}
 use Rattle.definition.specs.Fault.{Outcome, ok}
@@ -52,27 +49,27 @@ leaves n b is a fine many =
 
 module _ (m : Mesh) {old new : Slices} where
   -- ---- in a box
-  module _ (c : Point) (w h : Float) where
-    pub build-answers : {r : ℕ} → Build m c w h old new r → (r ≡ 0) ↔ BuildAllowed m (okBox c w h ≡ true) (build m (madeOf c w h)) old
+  module _ (g : Given) where
+    pub build-answers : {r : ℕ} → Build m g old new r → (r ≡ 0) ↔ BuildAllowed m (g .sound ≡ true) (build m (g .bounds)) old
     build-answers a = (
-      λ z. let s = zero-succeeds (box-answers c w h) (build-late m (madeOf c w h)) a z in
+      λ z. let s = zero-succeeds (box-answers (g .sound)) (build-late m (g .bounds)) a z in
           record { mesh = s .admission .accepted; room = s .admission .roomed; in-box = s .admission .fit .0; value = s .outcome },
-      λ x. succeeds-zero (box-answers c w h) (record { admission = record { accepted = x .mesh; roomed = x .room; fit = (x .in-box, tt) }; outcome = x .value }) a,
+      λ x. succeeds-zero (box-answers (g .sound)) (record { admission = record { accepted = x .mesh; roomed = x .room; fit = (x .in-box, tt) }; outcome = x .value }) a,
     )
 
-    pub build-leaves : Build m c w h old new 0 → BuildLeaves (siteCount (m .sites)) (tableOf m) (build m (madeOf c w h)) old new
-    build-leaves a =
-        let s = zero-succeeds (box-answers c w h) (build-late m (madeOf c w h)) a refl in
+    pub build-leaves : Fits g → Build m g old new 0 → BuildLeaves (siteCount (m .sites)) (tableOf m) (build m (g .bounds)) old new
+    build-leaves fits a =
+        let s = zero-succeeds (box-answers (g .sound)) (build-late m (g .bounds)) a refl in
         let is = s .outcome .is in
-        let fine = gives-ok (λ (r : Built). Each FinitePoint (r .verts)) (vertices-finite (box-bounded c w h (s .admission .fit .0)) m) is in
-        leaves (siteCount (m .sites)) (s .outcome .value) is a fine (gives-ok (λ (r : Built). length (r .cells) ≡ siteCount (m .sites)) (cell-count m (madeOf c w h)) is)
+        let fine = gives-ok (λ (r : Built). Each FinitePoint (r .verts)) (vertices-finite (fits .bounded (s .admission .fit .0)) m) is in
+        leaves (siteCount (m .sites)) (s .outcome .value) is a fine (gives-ok (λ (r : Built). length (r .cells) ≡ siteCount (m .sites)) (cell-count m (g .bounds)) is)
 
-    pub build-empty : (s : ℕ) {part : List ℕ} {r : ℕ} → Build m c w h old new 0 → s < siteCount (m .sites) → (Used (m .triangles) s → ⊥)
+    pub build-empty : Fits g → (s : ℕ) {part : List ℕ} {r : ℕ} → Build m g old new 0 → s < siteCount (m .sites) → (Used (m .triangles) s → ⊥)
         → CellPart (take (suc (siteCount (m .sites))) (new .offsets)) (new .indexes) s part r → part ≡ []
-    build-empty s a l none p =
-        let x = build-leaves a in
-        let t = zero-succeeds (box-answers c w h) (build-late m (madeOf c w h)) a refl in
-        x .cell-part s l p .1 ∙ ap unmarked (empty-cell (t .admission .accepted) s none (box-bounded c w h (t .admission .fit .0)) (x .is) l)
+    build-empty fits s a l none p =
+        let x = build-leaves fits a in
+        let t = zero-succeeds (box-answers (g .sound)) (build-late m (g .bounds)) a refl in
+        x .cell-part s l p .1 ∙ ap unmarked (empty-cell (t .admission .accepted) s none (fits .bounded (t .admission .fit .0)) (x .is) l)
 
   -- ---- without one
   pub unclipped-answers : {r : ℕ} → BuildUnclipped m old new r → (r ≡ 0) ↔ BuildAllowed m (Unit {0}) (unclipped (m .sites) (m .triangles) (m .halfedges)) old

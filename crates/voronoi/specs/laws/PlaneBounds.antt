@@ -21,10 +21,13 @@ use Rattle.utils.specs.Centroid.{meanOf, okCount, centroidAnswer}
 use Rattle.utils.specs.Finite.{BoundedPoint, center-bounded, site-dist2, mean-bounded}
 use Rattle.utils.specs.declared.Point.{Point}
 use Rattle.utils.specs.declared.Center.the-variants.{Refused, At}
-use Rattle.bounding_box.specs.Box.{madeOf, widthOf, heightOf, cornersOf}
-use Rattle.bounding_box.specs.Rules.{okBox}
-use Rattle.bounding_box.specs.Finite.{BoundedBox, box-bounded, width-bounded, height-bounded}
+use Rattle.bounding_box.specs.Box.{widthOf, heightOf, cornersOf}
+use Rattle.bounding_box.specs.Finite.{BoundedBox, width-bounded, height-bounded}
 use Rattle.bounding_box.specs.declared.BoundingBox.{BoundingBox}
+use Rattle.given_box.specs.Given.{edgesOf, okEdges, byEdges}
+use Rattle.given_box.specs.Finite as given
+use Rattle.given_box.specs.Finite.{Fits, edges-bounded}
+use Rattle.given_box.specs.declared.Given.{Given}
 use Rattle.crossings.specs.Ray.{rayOf}
 use Rattle.crossings.specs.Rules.{valuesOf}
 use Rattle.line_crossings.specs.Line.{lineOf}
@@ -33,8 +36,8 @@ use Rattle.line_crossings.specs.Finite.{BoundedCrossing, line-bounded}
 use Rattle.crossings.specs.Rules.{metBy, lineAnswer, rayAnswer}
 use Rattle.line_crossings.specs.declared.Crossing.{Crossing}
 use Rattle.line_crossings.specs.declared.Crossing.the-variants.{None, One, Two}
-use Rattle.voronoi.specs.Bounds.{BoundedEdges, BoundedMeeting}
-use Rattle.voronoi.specs.Plane.{Dist2, Circumcenter, Centroid, Edges, Corners, Meets}
+use Rattle.voronoi.specs.Bounds.{BoundedEdges, BoundedCenter, BoundedMeeting}
+use Rattle.voronoi.specs.Plane.{Dist2, Circumcenter, Centroid, Edges, Centered, Corners, Meets}
 use Rattle.plane_calls.specs.Plane.{numberBy, valueIf, Answered, cornersNumber, cornersLeft}
 
 zero-bounded : (k : ℕ) → Bounded k R.zero
@@ -83,17 +86,29 @@ centroid-answer l r =
     mean-bounded l n (ltb-true 0 n (and-left (ltb 0 n) (leb n 65536) b)) (leb-true n 65536 (and-right (ltb 0 n) (leb n 65536) b)) s
 
 -- ---- the box
-pub box-answer : {c : Point} {w h : Float} {l t r b a d : Float} → Edges c w h 0 l t r b a d → BoundedEdges l t r b a d
-box-answer {c} {w} {h} e =
-    let ok = tested (okBox c w h) true (e .refusal) .0 in
-    let s = box-bounded c w h ok in
+pub box-answer : {g : Given} → Fits g → {l t r b a d : Float} → Edges g 0 l t r b a d → BoundedEdges l t r b a d
+box-answer {g} fits e =
+    let ok = tested (g .sound) true (e .refusal) .0 in
+    let s = fits .bounded ok in
     record {
-      left-edge = rw (e .left-edge, value (okBox c w h) (madeOf c w h .left) ok) (s .left);
-      top-edge = rw (e .top-edge, value (okBox c w h) (madeOf c w h .top) ok) (s .top);
-      right-edge = rw (e .right-edge, value (okBox c w h) (madeOf c w h .right) ok) (s .right);
-      bottom-edge = rw (e .bottom-edge, value (okBox c w h) (madeOf c w h .bottom) ok) (s .bottom);
-      width = rw (e .width, value (okBox c w h) (widthOf (madeOf c w h)) ok) (width-bounded s (lit≤ tt));
-      height = rw (e .height, value (okBox c w h) (heightOf (madeOf c w h)) ok) (height-bounded s (lit≤ tt));
+      left-edge = rw (e .left-edge, value (g .sound) (g .bounds .left) ok) (s .left);
+      top-edge = rw (e .top-edge, value (g .sound) (g .bounds .top) ok) (s .top);
+      right-edge = rw (e .right-edge, value (g .sound) (g .bounds .right) ok) (s .right);
+      bottom-edge = rw (e .bottom-edge, value (g .sound) (g .bounds .bottom) ok) (s .bottom);
+      width = rw (e .width, value (g .sound) (widthOf (g .bounds)) ok) (width-bounded s (lit≤ tt));
+      height = rw (e .height, value (g .sound) (heightOf (g .bounds)) ok) (height-bounded s (lit≤ tt));
+    }
+
+pub center-answer : (l t r b : Float) {x y a d : Float} → Centered (byEdges l t r b) 0 x y a d → BoundedCenter x y a d
+center-answer l t r b e =
+    let ok = tested (okEdges l t r b) true (e .refusal) .0 in
+    let s = edges-bounded l t r b ok in
+    let c = given.center-bounded l t r b ok in
+    record {
+      center-x = rw (e .center-x, value (okEdges l t r b) (edgesOf l t r b .center .x) ok) (c .x);
+      center-y = rw (e .center-y, value (okEdges l t r b) (edgesOf l t r b .center .y) ok) (c .y);
+      width = rw (e .width, value (okEdges l t r b) (widthOf (edgesOf l t r b)) ok) (width-bounded s (lit≤ tt));
+      height = rw (e .height, value (okEdges l t r b) (heightOf (edgesOf l t r b)) ok) (height-bounded s (lit≤ tt));
     }
 
 tail-bounded : (m i : ℕ) → i < length (replicate m R.zero) → Bounded 101 (getD (replicate m R.zero) i nan)
@@ -112,16 +127,16 @@ corner-numbers b s m (suc (suc (suc (suc (suc (suc zero)))))) l = s .right
 corner-numbers b s m (suc (suc (suc (suc (suc (suc (suc zero))))))) l = s .top
 corner-numbers b s m (suc (suc (suc (suc (suc (suc (suc (suc i)))))))) l = tail-bounded m i (omega arith)
 
-pub corners-answer : {c : Point} {w h : Float} {before after : List Float} → Corners c w h before 0 after → (i : ℕ) → i < length after → Bounded 101 (getD after i nan)
+pub corners-answer : {g : Given} → Fits g → {before after : List Float} → Corners g before 0 after → (i : ℕ) → i < length after → Bounded 101 (getD after i nan)
 unfolding cornersNumber cornersLeft numberBy
-corners-answer {c} {w} {h} {before} {after} r = go (ltb (length before) 8) (okBox c w h) refl (r .refusal) (r .slice)
+corners-answer {g} fits {before} {after} r = go (ltb (length before) 8) (g .sound) refl (r .refusal) (r .slice)
   where
-    go : (short ok : Bool) → okBox c w h ≡ ok → _≡_ {A = ℕ} 0 (pick short (λ _. 2) (λ _. pick ok (λ _. pick true (λ _. 0) (λ _. 6)) (λ _. 3)))
-        → after ≡ pick short (λ _. before) (λ _. pick ok (λ _. flat (cornersOf (madeOf c w h)) ++ replicate (length before - 8) R.zero) (λ _. before))
+    go : (short ok : Bool) → g .sound ≡ ok → _≡_ {A = ℕ} 0 (pick short (λ _. 2) (λ _. pick ok (λ _. pick true (λ _. 0) (λ _. 6)) (λ _. 3)))
+        → after ≡ pick short (λ _. before) (λ _. pick ok (λ _. flat (cornersOf (g .bounds)) ++ replicate (length before - 8) R.zero) (λ _. before))
         → (i : ℕ) → i < length after → Bounded 101 (getD after i nan)
     go true ok e q s = absurd (omega arith)
     go false false e q s = absurd (omega arith)
-    go false true e q s = λ i l. rw s (corner-numbers (madeOf c w h) (box-bounded c w h e) (length before - 8) i (rw s at l))
+    go false true e q s = λ i l. rw s (corner-numbers (g .bounds) (fits .bounded e) (length before - 8) i (rw s at l))
 
 -- ---- crossings
 values-bounded : (c : Crossing) → BoundedCrossing 101 c → BoundedMeeting (getD (valuesOf c) 0 nan) (getD (valuesOf c) 1 nan) (getD (valuesOf c) 2 nan) (getD (valuesOf c) 3 nan)
@@ -137,10 +152,10 @@ meeting true true c m h =
 meeting true false c m h = absurd (omega (arith, m .refusal))
 meeting false t c m h = absurd (omega (arith, m .refusal))
 
-pub line-answer : (c : Point) (w h : Float) (p q : Point) {k : ℕ} {x y u v : Float} → Meets (lineAnswer c w h p q) 0 k x y u v → BoundedMeeting x y u v
+pub line-answer : (g : Given) → Fits g → (p q : Point) {k : ℕ} {x y u v : Float} → Meets (lineAnswer g p q) 0 k x y u v → BoundedMeeting x y u v
 unfolding lineAnswer
-line-answer c w h p q m = meeting (okBox c w h) (okSite p && okSite q) (lineOf (madeOf c w h) p q) m (λ e. line-bounded (box-bounded c w h e) p q)
+line-answer g fits p q m = meeting (g .sound) (okSite p && okSite q) (lineOf (g .bounds) p q) m (λ e. line-bounded (fits .bounded e) p q)
 
-pub ray-answer : (c : Point) (w h : Float) (p dir : Point) {k : ℕ} {x y u v : Float} → Meets (rayAnswer c w h p dir) 0 k x y u v → BoundedMeeting x y u v
+pub ray-answer : (g : Given) → Fits g → (p dir : Point) {k : ℕ} {x y u v : Float} → Meets (rayAnswer g p dir) 0 k x y u v → BoundedMeeting x y u v
 unfolding rayAnswer
-ray-answer c w h p dir m = meeting (okBox c w h) (okSite p && okSite dir) (rayOf (madeOf c w h) p dir) m (λ e. ray-bounded (box-bounded c w h e) p dir)
+ray-answer g fits p dir m = meeting (g .sound) (okSite p && okSite dir) (rayOf (g .bounds) p dir) m (λ e. ray-bounded (fits .bounded e) p dir)

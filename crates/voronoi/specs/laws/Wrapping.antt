@@ -3,13 +3,12 @@ use mathlib.Core.Path.{_≡_, refl, sym, ap, _∙_}
 use mathlib.Core.List.{_∷_}
 use Prim.Native.Nat.{ℕ, suc, _+_, _/_, _<_}
 use native.Mathlib.Omega.{arith}
-use lib.Ieee.{Float}
 use lib.ListN.{length, getD, drop}
 use Rattle.utils.specs.Flat.{pointAt}
-use Rattle.utils.specs.declared.Point.{Point}
-use Rattle.bounding_box.specs.Box.{madeOf}
+use Rattle.given_box.specs.Finite.{Fits}
+use Rattle.given_box.specs.declared.Given.{Given}
 use Rattle.mesh.specs.Accepted.{Mesh, Accepted, siteCount}
-use Rattle.bounding_box.specs.Finite.{BoundedBox, box-bounded}
+use Rattle.bounding_box.specs.Finite.{BoundedBox}
 use Rattle.definition.specs.Fault.{ok}
 use Rattle.definition.specs.Build.{Built, build}
 use Rattle.definition.specs.laws.Gives.{gives-ok}
@@ -26,14 +25,14 @@ use Rattle.voronoi.specs.Builds.{Build}
 use Rattle.voronoi.specs.Wraps.{Wraps}
 use Rattle.voronoi.specs.laws.Walking.{approaches}
 
-module _ (m : Mesh) (c : Point) (w h : Float) {old new : Slices} (a : Build m c w h old new 0) where
-  module _ (sound : Accepted m) (box : BoundedBox 101 (madeOf c w h)) (b : Built)
-      (is : build m (madeOf c w h) ≡ ok b) (v : Wrapping m (madeOf c w h) b) where
-    seen : CellsTallied m (madeOf c w h) b
-    seen = gives-ok (CellsTallied m (madeOf c w h)) (tallied m (madeOf c w h)) is
+module _ (m : Mesh) (g : Given) (fits : Fits g) {old new : Slices} (a : Build m g old new 0) where
+  module _ (sound : Accepted m) (box : BoundedBox 101 (g .bounds)) (b : Built)
+      (is : build m (g .bounds) ≡ ok b) (v : Wrapping m (g .bounds) b) where
+    seen : CellsTallied m (g .bounds) b
+    seen = gives-ok (CellsTallied m (g .bounds)) (tallied m (g .bounds)) is
 
     four : length (b .owners) ≡ 4
-    four = four-owners m (madeOf c w h) seen
+    four = four-owners m (g .bounds) seen
 
     owner : (i : ℕ) → i < 4 → getD (new .counts) (suc i) 0 ≡ getD (b .owners) i 0
     owner i l = ap (λ x. getD x (suc i) 0) (left-counts a b is) ∙ count-owner (length (b .verts)) (b .owners) (b .lost) _ four i l
@@ -41,12 +40,12 @@ module _ (m : Mesh) (c : Point) (w h : Float) {old new : Slices} (a : Build m c 
     before : (i : ℕ) → i < 4 → getD (getD (m .hull) 0 0 ∷ drop 1 (new .counts)) i 0 ≡ getD (getD (m .hull) 0 0 ∷ b .owners) i 0
     before i l = ap (λ x. getD (getD (m .hull) 0 0 ∷ drop 1 x) i 0) (left-counts a b is) ∙ count-before (length (b .verts)) (b .owners) (b .lost) _ four (getD (m .hull) 0 0) i l
 
-    wraps-of : Wraps m (madeOf c w h) old new
+    wraps-of : Wraps m (g .bounds) old new
     wraps-of =
-        let at = gives-ok (Cornered (length (m .triangles) / 3) (madeOf c w h)) (cornered sound (madeOf c w h)) is in
+        let at = gives-ok (Cornered (length (m .triangles) / 3) (g .bounds)) (cornered sound (g .bounds)) is in
         record {
           marked = b .cells;
-          many = gives-ok (λ (r : Built). length (r .cells) ≡ siteCount (m .sites)) (cell-count m (madeOf c w h)) is;
+          many = gives-ok (λ (r : Built). length (r .cells) ≡ siteCount (m .sites)) (cell-count m (g .bounds)) is;
           indexes = left-indexes a b is;
           offsets = left-offsets a b is;
           corners = λ i l. ap (λ x. pointAt x (length (m .triangles) / 3 + i)) (left-vertices a b is)
@@ -61,8 +60,8 @@ module _ (m : Mesh) (c : Point) (w h : Float) {old new : Slices} (a : Build m c 
           lost = ap (λ x. getD x 5 0) (left-counts a b is) ∙ count-lost (length (b .verts)) (b .owners) (b .lost) _ four ∙ seen .lost;
         }
 
-  pub build-wraps : Wraps m (madeOf c w h) old new
+  pub build-wraps : Wraps m (g .bounds) old new
   build-wraps =
-      let s = zero-succeeds (box-answers c w h) (build-late m (madeOf c w h)) a refl in
-      let t = clipped-sound c w h a refl in
-      wraps-of (s .admission .accepted) (box-bounded c w h (s .admission .fit .0)) (t .outcome .value) (t .outcome .is) (t .wraps)
+      let s = zero-succeeds (box-answers (g .sound)) (build-late m (g .bounds)) a refl in
+      let t = clipped-sound g fits a refl in
+      wraps-of (s .admission .accepted) (fits .bounded (s .admission .fit .0)) (t .outcome .value) (t .outcome .is) (t .wraps)

@@ -10,11 +10,13 @@ returns c =
     let at-why = c .before .before .before .before .before in
     let s = at-why .before .before .before .before .before .before .before .before .before .before in
     in-box _ _ (record { work = refl; vertices = refl; indexes = refl; offsets = refl; counts = refl })
-    (s .pre) _ _ _ _ (at-why .why .ensures)
+    (s .pre .0) _ _ (at-why .why .ensures)
+
+why-requires : tie.Need-why-requires
+why-requires c κs = c .before .before .before .before .before .before .before .before .before .pre .1
 
 pub in-box-spec : {M : Type 1} → statement M
 in-box-spec =
     tie.close
     (tie.spec (λ c. search needs) (λ c. search needs) (λ c. search needs) (λ c. search needs)
-    (λ c. search needs) (λ c. search needs) (λ c. search needs) (λ c. search needs) (λ c. search needs)
-    (λ c κs. search needs) returns)
+    (λ c. search needs) why-requires returns)

@@ -20,7 +20,7 @@ use Rattle.form_step.specs.Reader.{start, reading}
 use Rattle.form_step.specs.Holds.{ListRoom, Reads}
 use Rattle.form_step.specs.declared.Form.{Form}
 use Rattle.form_step.specs.declared.Form.the-variants.{Sound}
-use Rattle.form.specs.Form.{Outline, box, unclipped, FormMesh, MeshFits, isUnclipped, outlineFloats}
+use Rattle.form.specs.Form.{Outline, box, unclipped, edges, FormMesh, MeshFits, kindOf, outlineFloats}
 use Rattle.form.specs.Promise.{ReadSound, Refused, exact}
 use Rattle.form.specs.laws.Lists.{Put, sites-are, tri-is, he-is, hull-is}
 use Rattle.printing.specs.Printed.{meshOf}
@@ -31,18 +31,20 @@ use Rattle.why.specs.Steps.{WhyByMode, WhyByForm}
 
 module _ (q : Question) where
   module _ (bs bs′ : List Float) (room : 4 ≤ length bs) (m : Mesh) (r : Reason) where
-    to-clip : (clip : Outline) → bs′ ≡ sets bs 0 (outlineFloats clip) → WhyByMode q (isUnclipped clip) bs′ m r → WhyByClip m q clip r
+    to-clip : (clip : Outline) → bs′ ≡ sets bs 0 (outlineFloats clip) → WhyByMode q (kindOf clip) bs′ m r → WhyByClip m q clip r
     to-clip (box x y w h) e p = rw (e, sets-all (outlineFloats (box x y w h)) bs room) at p
     to-clip unclipped e p = p
+    to-clip (edges x y u v) e p = rw (e, sets-all (outlineFloats (edges x y u v)) bs room) at p
 
-    to-mode : (clip : Outline) → bs′ ≡ sets bs 0 (outlineFloats clip) → WhyByClip m q clip r → WhyByMode q (isUnclipped clip) bs′ m r
+    to-mode : (clip : Outline) → bs′ ≡ sets bs 0 (outlineFloats clip) → WhyByClip m q clip r → WhyByMode q (kindOf clip) bs′ m r
     to-mode (box x y w h) e p = rw (e, sets-all (outlineFloats (box x y w h)) bs room) p
     to-mode unclipped e p = p
+    to-mode (edges x y u v) e p = rw (e, sets-all (outlineFloats (edges x y u v)) bs room) p
 
   module _ (m : FormMesh) (f : MeshFits m) {bs ss : List Float} {ts es hs : List ℕ} (room : ListRoom bs ss ts es hs) {bs′ ss′ : List Float} {ts′ es′ hs′ : List ℕ}
       (p : Put m bs ss ts es hs bs′ ss′ ts′ es′ hs′) (r : Reason) where
     abbrev Read : Type 0
-    Read = WhyByForm q (Sound (length (m .sites)) (length (m .triangles)) (length (m .hull)) (isUnclipped (m .clip))) bs′ ss′ ts′ es′ hs′ r
+    Read = WhyByForm q (Sound (length (m .sites)) (length (m .triangles)) (length (m .hull)) (kindOf (m .clip))) bs′ ss′ ts′ es′ hs′ r
 
     of-read : Read → WhyByClip (meshOf m) q (m .clip) r
     of-read x = to-clip bs bs′ (room .bounds) (meshOf m) r (m .clip) (p .bounds) (rw (sites-are f room p, tri-is f room p, he-is f room p, hull-is f room p) at x)

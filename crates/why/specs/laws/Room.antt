@@ -5,11 +5,10 @@ use mathlib.Core.List.{List, _∷_, _++_}
 use mathlib.Core.Logic.{inl, inr}
 use Prim.Native.Nat.{ℕ, _+_, _*_, _/_}
 use native.Mathlib.Omega.{arith}
-use lib.Ieee.{Float}
 use lib.ListN.{length}
 use borrow.Author.Tests.{le-leb, lt-ltb}
 use Rattle.laws.specs.Refusals.{Rule, once, reads, Judged}
-use Rattle.utils.specs.declared.Point.{Point}
+use Rattle.given_box.specs.declared.Given.{Given}
 use Rattle.mesh.specs.Accepted.{Mesh, siteCount, Counted}
 use Rattle.mesh.specs.declared.MeshFault.the-variants.{Counts, Room}
 use Rattle.mesh.specs.Rules.{coordinateRules, topologyRules}
@@ -52,8 +51,8 @@ module _ (m : Mesh) (old : Slices) (long : ProgramSlices old) (sized : Sized (le
         let counted = Counted (length (m .sites)) (length (m .triangles)) (length (m .halfedges)) (length (m .hull)) in
         record { judged = judged-kept rest (answered m q o) r (ofMesh Counts) (ofMesh Room) counted (roomOf m old ≡ true) (Unit {0}) roomy tt (a .reason .judged) }
 
-  pub in-box : (c : Point) (w h : Float) (q : Question) {new : Slices} {r : Reason} → ClippedWhy m c w h q old new r → WhyInBox m c w h q r
-  in-box c w h q a = with-room a
+  pub in-box : (g : Given) (q : Question) {new : Slices} {r : Reason} → ClippedWhy m g q old new r → WhyInBox m g q r
+  in-box g q a = with-room a
 
   pub without-box : (q : Question) {new : Slices} {r : Reason} → UnclippedWhy m q old new r → WhyWithoutBox m q r
   without-box q a = with-room a

@@ -1,0 +1,2 @@
+pub mod FormBox
+pub mod Fits

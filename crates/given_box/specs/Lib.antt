@@ -1,0 +1,4 @@
+pub mod Given
+pub mod Finite
+pub mod Neighbours
+pub mod Rows

@@ -1,0 +1,20 @@
+-- The box by its center and size, and the call in it.
+use borrow.Author.Needs.{needs}
+use Rattle.given_box.specs.Finite.{size-fits}
+use Rattle.voronoi.specs.laws.InGiven.{build-in}
+use Rattle.voronoi.proofs.builds.voronoi_build.Statement.{statement}
+use Rattle.voronoi.proofs.builds.voronoi_build.Tie as tie
+
+build-requires : tie.Need-build-requires
+build-requires c κs = rw (c .before .before .before .before .before .by-size .ensures) (size-fits _ _ _)
+
+returns : tie.Need-returns
+returns c =
+    let called = c .before .before .before .before .before .before .before .before .before .before in
+    build-in (called .before .before .before .before .before .before .by-size .ensures) (called .build .ensures)
+
+pub voronoi-build-spec : {M : Type 1} → statement M
+voronoi-build-spec =
+    tie.close
+    (tie.spec (λ c κs. tt) build-requires (λ c. search needs) (λ c. search needs) (λ c. search needs)
+    (λ c. search needs) (λ c. search needs) returns)

@@ -1,0 +1,20 @@
+-- The box by its edges, and the call in it.
+use borrow.Author.Needs.{needs}
+use Rattle.given_box.specs.Finite.{edges-fit}
+use Rattle.voronoi.specs.laws.InGiven.{why-in}
+use Rattle.voronoi.proofs.edges.voronoi_why_by_edges.Statement.{statement}
+use Rattle.voronoi.proofs.edges.voronoi_why_by_edges.Tie as tie
+
+why-call-requires : tie.Need-why-call-requires
+why-call-requires c κs = rw (c .before .before .before .before .before .before .before .before .before .by-edges .ensures) (edges-fit _ _ _ _)
+
+returns : tie.Need-returns
+returns c =
+    let called = c .before .before .before .before .before .before .before .before .before .before in
+    why-in (called .before .before .before .before .before .before .before .before .before .before .by-edges .ensures) (called .why-call .ensures)
+
+pub voronoi-why-by-edges-spec : {M : Type 1} → statement M
+voronoi-why-by-edges-spec =
+    tie.close
+    (tie.spec (λ c κs. tt) why-call-requires (λ c. search needs) (λ c. search needs) (λ c. search needs)
+    (λ c. search needs) (λ c. search needs) returns)
