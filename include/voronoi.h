@@ -23,6 +23,7 @@
  *   cell                     the offsets; no mesh, so no check
  *   cell_wkb                 the offsets and the cell's entries; no mesh, so no check
  *   mend                     N + T, the check of what was mended included; a site of any degree
+ *   read_form, reader_feed   the bytes; no mesh is checked. reader_begin the words of the state, reader_end a fixed number
  *   build                    usually N + T (0.3 to 0.9 microseconds a site). At worst the square of N: an added point is searched for among
  *                            all those added before (65,536 sites on a circle: 20 s), and a cell that stays empty is tried again from each
  *                            of its half-edges (one site with 65,535 neighbours: 5 minutes). docs/SPEED.md has the times.
@@ -41,9 +42,9 @@ extern "C" {
 
 /* ---- the version (the file VERSION; CHANGELOG.md says what changed) */
 
-#define VORONOI_VERSION "0.7.0"
+#define VORONOI_VERSION "0.8.0"
 #define VORONOI_VERSION_MAJOR 0
-#define VORONOI_VERSION_MINOR 7
+#define VORONOI_VERSION_MINOR 8
 #define VORONOI_VERSION_PATCH 0
 
 /* ---- numbers */
@@ -74,6 +75,14 @@ extern "C" {
 #define VORONOI_CHANGE_ROOM(T, N) (3 * (size_t)(T) + (size_t)(N))
 #define VORONOI_CHANGE_NUMBERS(T, N) (3 * VORONOI_CHANGE_ROOM(T, N))
 
+/* What reading a form must be lent: the words of a reader's state, and the numbers of each list. */
+#define VORONOI_READER_WORDS 16
+#define VORONOI_FORM_BOX 4
+#define VORONOI_FORM_SITES 192
+#define VORONOI_FORM_TRIANGLES 576
+#define VORONOI_FORM_HALFEDGES 576
+#define VORONOI_FORM_HULL 96
+
 /* The places of a build's counts: the number of vertices, the owners of the four corners, the lost corners (those in no cell); how many they are. */
 #define VORONOI_COUNT_VERTICES 0
 #define VORONOI_COUNT_OWNERS 1
@@ -99,7 +108,7 @@ extern "C" {
 #define VORONOI_REFUSED_ONE_CROSSING 14 /* an edge with both ends outside finds exactly one crossing */
 /* 15 is not given: it stood for a clipped vertex on no side, and it is proved that there is none (docs/DIFFERENCES.md) */
 #define VORONOI_REFUSED_OFFSETS 16      /* cell offsets not one more than sites, not from 0, falling, or past the list's end */
-#define VORONOI_REFUSED_FORM 17         /* the form is broken (the programs `cells` and `export` alone) */
+#define VORONOI_REFUSED_FORM 17         /* the form is broken */
 #define VORONOI_REFUSED_ENTRY 18        /* an entry of the cell names no vertex */
 #define VORONOI_REFUSED_TWICE 19        /* an ordered pair of sites has two half-edges (voronoi_mend alone) */
 
@@ -372,6 +381,29 @@ uint32_t voronoi_mend(const double *sites, size_t sites_len, const uint32_t *tri
                       size_t halfedges_len, const uint32_t *hull, size_t hull_len, uint32_t *work, size_t work_len, uint32_t *pairs,
                       size_t pairs_len, uint32_t *mended, size_t mended_len, uint32_t *changes, size_t changes_len,
                       uint32_t *hull_length, uint32_t *pair_changes, uint32_t *hull_changes);
+
+/* ---- forms that arrive in parts
+ * A reader is begun, fed the form in blocks cut anywhere (0 bytes too), and ended; between the calls the caller keeps its state, and nobody
+ * else. However a form is cut, number, byte, counts and lists are those that voronoi_read_form gives of the whole. docs/RULES.md, "The
+ * form", says what a form is; the box is not tried, nor is the mesh: what was read is lent to voronoi_build or voronoi_check.
+ * state: VORONOI_READER_WORDS words or more; begin sets the others to 0, no other call touches them. Lists: VORONOI_FORM_BOX (centre x, y, width,
+ * height; by edges left, top, right, bottom), VORONOI_FORM_SITES (x, y, ..), VORONOI_FORM_TRIANGLES, VORONOI_FORM_HALFEDGES,
+ * VORONOI_FORM_HULL. After each block they hold exactly the numbers whose last byte has come, from the beginning of each; the rest stays.
+ * Tries 2 before all else: it changes nothing, and comes where a refusal stands too. Then 17. *at: the byte of 17, counted from 0 at the
+ * form's first: the first after which no sound form can follow, or the length of a form that has not ended, which only the end refuses;
+ * UINT64_MAX where the answer is 0 or 2. A refusal stays: each further block and end get the same number and byte until the reader is begun
+ * anew, also one that the end gave. A sound end may be asked again; a byte after it is refused. A state that no reading leaves is refused by
+ * 17 at byte 0. *clip: the kind that opened the form (1 box, 6 unclipped, 7 box by its edges). Refused, it and the counts are 0. */
+uint32_t voronoi_reader_begin(uint64_t *state, size_t state_len);
+uint32_t voronoi_reader_feed(uint64_t *state, size_t state_len, const uint8_t *block, size_t block_len, double *box, size_t box_len,
+                             double *sites, size_t sites_len, uint32_t *triangles, size_t triangles_len, uint32_t *halfedges,
+                             size_t halfedges_len, uint32_t *hull, size_t hull_len, uint64_t *at);
+uint32_t voronoi_reader_end(uint64_t *state, size_t state_len, uint32_t *clip, uint32_t *site_count, uint32_t *triangle_count,
+                            uint32_t *hull_count, uint64_t *at);
+uint32_t voronoi_read_form(const uint8_t *form, size_t form_len, double *box, size_t box_len, double *sites, size_t sites_len,
+                           uint32_t *triangles, size_t triangles_len, uint32_t *halfedges, size_t halfedges_len, uint32_t *hull,
+                           size_t hull_len, uint32_t *clip, uint32_t *site_count, uint32_t *triangle_count, uint32_t *hull_count,
+                           uint64_t *at);
 
 #ifdef __cplusplus
 }

@@ -22,7 +22,8 @@ int main(void)
             if (b != NOT_GIVEN && same(voronoi_words(a), voronoi_words(b)))
                 return 1;
     }
-    return !same(voronoi_words(NOT_GIVEN), "no such number") || !same(voronoi_words(20), "no such number") || !same(voronoi_words(VORONOI_EMPTY), "no such number") ||
+    return !same(voronoi_words(NOT_GIVEN), "no such number") || !same(voronoi_words(VORONOI_REFUSED_TWICE + 1), "no such number") ||
+           !same(voronoi_words(VORONOI_EMPTY), "no such number") ||
            VORONOI_VERTEX_NUMBERS(2, 4) != 76 || VORONOI_INDEX_ROOM(2, 4) != 60 ||
            VORONOI_WKB_ROOM(2) != 9 || VORONOI_WKB_ROOM(3) != 77 ||
            VORONOI_CHANGE_NUMBERS(2, 4) != 30;

@@ -37,9 +37,9 @@ pub data Stop : Type 0 where
   number : ℕ → Stop
 
 -- ours, told as the source's
-abbrev pub numbered : {A : Type 0} → Outcome ℕ A → Outcome Stop A
-numbered (ok a) = ok a
-numbered (refused n) = refused (number n)
+abbrev pub asSource : {A : Type 0} → Outcome ℕ A → Outcome Stop A
+asSource (ok a) = ok a
+asSource (refused n) = refused (number n)
 
 module _ (b : BoundingBox) (nc site : ℕ) where
   unfoldable pub sourceInsert : List Point → List ℕ → ℕ → ℕ → ℕ → Outcome Stop Ins
@@ -70,7 +70,7 @@ module _ (b : BoundingBox) (nc site : ℕ) where
   unfoldable pub sourceStep : ℕ → Bool → ℕ → Bool → List Point → List ℕ → Bool → ℕ → Outcome Stop Change
   sourceStep p pIn q qIn vs os opened last =
       pick pIn
-      (λ _. pick qIn (λ _. ok (change vs os (entry plain p ∷ []) opened [])) (λ _. numbered (leave p os (clipEdge b nc vs p q))))
+      (λ _. pick qIn (λ _. ok (change vs os (entry plain p ∷ []) opened [])) (λ _. asSource (leave p os (clipEdge b nc vs p q))))
       (λ _. pick qIn (λ _. sourceEnter os last (clipEdge b nc vs q p)) (λ _. sourceCross vs os opened last (clipEdge b nc vs p q)))
 
   -- ---- where corners and last entry are on sides it is ours
@@ -81,7 +81,7 @@ module _ (b : BoundingBox) (nc site : ℕ) where
   insert-same vs os last first second f s = rw (lt-ltb _ 4 f, lt-ltb _ 4 s) refl
 
   module _ (vs : List Point) (room : nc + 4 ≤ length vs) (k : SidedCorners b nc vs) (os : List ℕ) (last : ℕ) where
-    enter-same : (c : EdgeClip) → ClippedTo nc vs c → ClipSided b nc site c → last < length vs → Sided b vs last → sourceEnter os last c ≡ numbered (enter b nc site os last c)
+    enter-same : (c : EdgeClip) → ClippedTo nc vs c → ClipSided b nc site c → last < length vs → Sided b vs last → sourceEnter os last c ≡ asSource (enter b nc site os last c)
     unfolding sourceEnter sourceEnterAt enter enterAt andThen
     enter-same missed g h l s = refl
     enter-same (once r) g h l s = rw (insert-same (r .verts) os last last (r .at) (after-one b nc site vs room k last r g .1 l s) h) refl
@@ -94,7 +94,7 @@ module _ (b : BoundingBox) (nc site : ℕ) where
     link-same ws false first l f = refl
 
     cross-same : (opened : Bool) (c : EdgeClip) → ClippedTo nc vs c → ClipSided b nc site c → (opened ≡ true → last < length vs) → (opened ≡ true → Sided b vs last)
-        → sourceCross vs os opened last c ≡ numbered (cross b nc site vs os opened last c)
+        → sourceCross vs os opened last c ≡ asSource (cross b nc site vs os opened last c)
     unfolding sourceCross cross crossAt andThen
     cross-same opened missed g h l s = refl
     cross-same opened (once r) g h l s = rw (link-same (r .verts) opened (r .at) (λ e. after-one b nc site vs room k last r g .1 (l e) (s e)) h) refl
@@ -104,7 +104,7 @@ module _ (b : BoundingBox) (nc site : ℕ) where
         (rw (insert-same (t .verts) (i .owners) (lastOr last (i .new)) (r .at) (t .at) (h .0) (h .1)) refl)
 
     step-same : (p : ℕ) (pIn : Bool) (q : ℕ) (qIn opened : Bool) → (opened ≡ true → last < length vs) → (opened ≡ true → Sided b vs last)
-        → (pIn ≡ false → qIn ≡ true → opened ≡ true) → sourceStep p pIn q qIn vs os opened last ≡ numbered (clipStep b nc site p pIn q qIn vs os opened last)
+        → (pIn ≡ false → qIn ≡ true → opened ≡ true) → sourceStep p pIn q qIn vs os opened last ≡ asSource (clipStep b nc site p pIn q qIn vs os opened last)
     unfolding sourceStep clipStep
     step-same p true q true opened l s o = refl
     step-same p true q false opened l s o = refl
@@ -118,7 +118,7 @@ module _ (b : BoundingBox) (nc site : ℕ) where
 abbrev pub SameStep : BoundingBox → ℕ → ℕ → Tip → ℕ → Type 0
 SameStep b nc site t q =
     sourceStep b nc site (t .p) (t .pIn) q (inBox b nc (t .verts) q) (t .verts) (t .owners) (t .opened) (t .last)
-    ≡ numbered (clipStep b nc site (t .p) (t .pIn) q (inBox b nc (t .verts) q) (t .verts) (t .owners) (t .opened) (t .last))
+    ≡ asSource (clipStep b nc site (t .p) (t .pIn) q (inBox b nc (t .verts) q) (t .verts) (t .owners) (t .opened) (t .last))
 
 module _ {m : Mesh} (a : Accepted m) {b : BoundingBox} (box : BoundedBox 101 b) where
   -- the first k edges of the ring went through; at the next the two are the same

@@ -9,14 +9,15 @@ use form_step::start;
 use root::INFINITY;
 use root::SIGN;
 ghost use mathlib.Core.Path.{_≡_};
-ghost use Prim.Native.Nat.{_+_, _-_, _/_, _^_, _≤_, _<_};
+ghost use Prim.Native.Nat.{_-_, _/_, _≤_, _<_};
 ghost use lib.Ieee.{binary64, ofBits};
 ghost use mathlib.Core.Bool.{false};
 ghost use lib.Dec.{ltb};
 ghost use lib.ListN.{length};
 ghost use Rattle.laws.specs.Pick.{pick};
-ghost use Rattle.form_step.specs.Reader.{start, putFloat, putLink, reading, filledBy, take, takes};
-ghost use Rattle.form_step.specs.Holds.{Ok, ListRoom, Reads};
+ghost use Rattle.form_step.specs.Reader.{broken, start, putFloat, putLink, reading, filledBy, take, takes};
+ghost use Rattle.form_step.specs.Holds.{ListRoom, Reads};
+ghost use Rattle.form_step.specs.Standing.{Ok};
 
 const TOP_LINK: u64 = 0x1_0000_0000;
 
@@ -30,28 +31,28 @@ fn float_of(bits: u64) -> f64
     f64::from_bits(bits)
 }
 
-fn put_float(l: &mut [f64], last: usize, left: usize, word: u64)
+fn put_float(l: &mut [f64], last: u64, left: u64, word: u64)
     requires { ⌜ (left / 8 ≤ last) × (last < length (now l)) ⌝ }
     ensures { λ _. ⌜ now (l .exit) ≡ putFloat (now (l .entry)) last left word ⌝ }
 {
     if left % 8 != 0 {
         return;
     }
-    l[last - left / 8] = float_of(word);
+    l[(last - left / 8) as usize] = float_of(word);
 }
 
-fn put_link(l: &mut [u32], last: usize, left: usize, word: u64)
+fn put_link(l: &mut [u32], last: u64, left: u64, word: u64)
     requires { ⌜ (left / 4 ≤ last) × (last < length (now l)) ⌝ }
     ensures { λ _. ⌜ now (l .exit) ≡ putLink (now (l .entry)) last left word ⌝ }
 {
     if left % 4 != 0 {
         return;
     }
-    l[last - left / 4] = (word / TOP_LINK) as u32;
+    l[(last - left / 4) as usize] = (word / TOP_LINK) as u32;
 }
 
 // One byte of a triangle's body.
-fn put_triangle(triangles: &mut [u32], halfedges: &mut [u32], last: usize, left: usize, word: u64)
+fn put_triangle(triangles: &mut [u32], halfedges: &mut [u32], last: u64, left: u64, word: u64)
     requires { ⌜ (left < 24) × (2 ≤ last) × (last < length (now triangles)) × (last < length (now halfedges)) ⌝ }
     ensures sites { λ _. ⌜ now (triangles .exit) ≡ pick (ltb left 12) (λ _. now (triangles .entry)) (λ _. putLink (now (triangles .entry)) last (left - 12) word) ⌝ }
     ensures pairs { λ _. ⌜ now (halfedges .exit) ≡ pick (ltb left 12) (λ _. putLink (now (halfedges .entry)) last left word) (λ _. now (halfedges .entry)) ⌝ }
@@ -73,7 +74,7 @@ fn fill(
     halfedges: &mut [u32],
     hull: &mut [u32],
 )
-    requires { ⌜ (Ok r) × (r .broken ≡ false) × (0 < r .left) × (ListRoom (now bounds) (now sites) (now triangles) (now halfedges) (now hull)) ⌝ }
+    requires { ⌜ (Ok r) × (broken r ≡ false) × (0 < r .left) × (ListRoom (now bounds) (now sites) (now triangles) (now halfedges) (now hull)) ⌝ }
     ensures { λ _. ⌜ reading r (now (bounds .exit)) (now (sites .exit)) (now (triangles .exit)) (now (halfedges .exit)) (now (hull .exit)) ≡ filledBy r b
         (now (bounds .entry)) (now (sites .entry)) (now (triangles .entry)) (now (halfedges .entry)) (now (hull .entry)) ⌝ }
 {
@@ -106,11 +107,11 @@ pub fn take(
     halfedges: &mut [u32],
     hull: &mut [u32],
 ) -> Reader
-    requires { ⌜ (Ok r) × (r .at + 1 < 2 ^ 64) × (ListRoom (now bounds) (now sites) (now triangles) (now halfedges) (now hull)) ⌝ }
+    requires { ⌜ (Ok r) × (ListRoom (now bounds) (now sites) (now triangles) (now halfedges) (now hull)) ⌝ }
     ensures all { λ n. ⌜ reading n (now (bounds .exit)) (now (sites .exit)) (now (triangles .exit)) (now (halfedges .exit)) (now (hull .exit)) ≡ take
         (reading r (now (bounds .entry)) (now (sites .entry)) (now (triangles .entry)) (now (halfedges .entry)) (now (hull .entry))) b ⌝ }
 {
-    if r.broken {
+    if r.refusal != 0 {
         return r;
     }
     if r.left == 0 {
@@ -130,7 +131,7 @@ pub fn feed(
     halfedges: &mut [u32],
     hull: &mut [u32],
 ) -> Reader
-    requires { ⌜ (Ok r) × (r .at + length (now bytes) < 2 ^ 64) × (ListRoom (now bounds) (now sites) (now triangles) (now halfedges) (now hull)) ⌝ }
+    requires { ⌜ (Ok r) × (ListRoom (now bounds) (now sites) (now triangles) (now halfedges) (now hull)) ⌝ }
     ensures all { λ n. ⌜ reading n (now (bounds .exit)) (now (sites .exit)) (now (triangles .exit)) (now (halfedges .exit)) (now (hull .exit)) ≡ takes
         (reading r (now (bounds .entry)) (now (sites .entry)) (now (triangles .entry)) (now (halfedges .entry)) (now (hull .entry))) (now (bytes .entry)) ⌝ }
     ensures ok { λ n. ⌜ Ok n ⌝ }

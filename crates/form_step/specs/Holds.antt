@@ -1,23 +1,12 @@
--- What the functions ask of a state and of the lent lists, and what they promise of them.
+-- What the functions ask of the lent lists, and what they promise of them.
 use mathlib.Core.List.{List}
 use mathlib.Core.Path.{_≡_}
-use Prim.Native.Nat.{ℕ, _≤_, _<_}
+use Prim.Native.Nat.{ℕ, _≤_}
 use lib.Ieee.{Float}
 use lib.ListN.{length}
 use Rattle.form_step.specs.Reader.{Reading, takes, verdict}
-use Rattle.form_step.specs.declared.Reader.{Reader}
 use Rattle.form_step.specs.declared.Form.{Form}
 use Rattle.form_step.specs.declared.Form.the-variants.{Sound, Broken}
-
--- the records are within their limits, that under way too, and no body is longer than its kind's
-pub record Ok (r : Reader) : Type 0 where
-  pub sites : r .sites ≤ 96
-  pub triangles : r .triangles ≤ 192
-  pub hull : r .hull ≤ 96
-  pub in-box : r .stage ≡ 1 → r .left ≤ 32
-  pub in-site : r .stage ≡ 2 → 0 < r .left → (r .left ≤ 16) × (r .sites < 96)
-  pub in-triangle : r .stage ≡ 3 → 0 < r .left → (r .left ≤ 24) × (r .triangles < 192)
-  pub in-hull : r .stage ≡ 4 → 0 < r .left → (r .left ≤ 4) × (r .hull < 96)
 
 pub record ListRoom (bs ss : List Float) (ts es hs : List ℕ) : Type 0 where
   pub bounds : 4 ≤ length bs

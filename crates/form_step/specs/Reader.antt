@@ -6,6 +6,7 @@ use lib.Dec.{eqb, ltb}
 use lib.Ieee.{Float, binary64, ofBits}
 use lib.ListN.{set}
 use Rattle.laws.specs.Pick.{pick}
+use Rattle.numbers.specs.Numbers.{refusedForm}
 use Rattle.form_step.specs.Register.{shift}
 use Rattle.form_step.specs.declared.Reader.{Reader}
 use Rattle.form_step.specs.declared.Form.{Form}
@@ -49,12 +50,16 @@ start =
       left = 0;
       word = 0;
       at = 0;
-      broken = false;
+      refusal = 0;
       clip = 0;
       sites = 0;
       triangles = 0;
       hull = 0;
     }
+
+-- whether a refusal stands
+abbrev pub broken : Reader → Bool
+broken r = pick (eqb (r .refusal) 0) (λ _. false) (λ _. true)
 
 unfoldable pub refused : Reader → Reader
 refused r =
@@ -63,7 +68,7 @@ refused r =
       left = r .left;
       word = r .word;
       at = r .at;
-      broken = true;
+      refusal = refusedForm;
       clip = r .clip;
       sites = r .sites;
       triangles = r .triangles;
@@ -77,7 +82,7 @@ begun r k =
       left = sizeOf k;
       word = r .word;
       at = r .at + 1;
-      broken = false;
+      refusal = 0;
       clip = pick (opens k) (λ _. k) (λ _. r .clip);
       sites = r .sites;
       triangles = r .triangles;
@@ -95,7 +100,7 @@ inside r b =
       left = r .left - 1;
       word = shift (r .word) b;
       at = r .at + 1;
-      broken = false;
+      refusal = 0;
       clip = r .clip;
       sites = tally r 2 (r .sites);
       triangles = tally r 3 (r .triangles);
@@ -107,23 +112,26 @@ outside r b = pick (follows r b) (λ _. begun r b) (λ _. refused r)
 
 -- one byte: after a refusal none counts; a body's byte; a kind
 unfoldable pub step : Reader → ℕ → Reader
-step r b = pick (r .broken) (λ _. r) (λ _. pick (eqb (r .left) 0) (λ _. outside r b) (λ _. inside r b))
+step r b = pick (broken r) (λ _. r) (λ _. pick (eqb (r .left) 0) (λ _. outside r b) (λ _. inside r b))
 
 unfoldable pub steps : Reader → List ℕ → Reader
 steps r [] = r
 steps r (b ∷ s) = steps (step r b) s
 
--- a form that has not ended is refused at its length
+-- where no more comes: a form that has not ended is refused at its length
+unfoldable pub finished : Reader → Reader
+finished r = pick (broken r) (λ _. r) (λ _. pick (eqb (r .stage) 5) (λ _. r) (λ _. refused r))
+
 unfoldable pub verdict : Reader → Form
 verdict r =
-    pick (r .broken) (λ _. Broken (r .at))
+    pick (broken r) (λ _. Broken (r .at))
     (λ _. pick (eqb (r .stage) 5) (λ _. Sound (r .sites) (r .triangles) (r .hull) (r .clip)) (λ _. Broken (r .at)))
 
 -- ---- the lent lists
 
 -- whether the next byte is of the body of a record of this kind
 unfoldable pub within : Reader → ℕ → Bool
-within r k = pick (r .broken) (λ _. false) (λ _. pick (eqb (r .left) 0) (λ _. false) (λ _. eqb (r .stage) k))
+within r k = pick (broken r) (λ _. false) (λ _. pick (eqb (r .left) 0) (λ _. false) (λ _. eqb (r .stage) k))
 
 -- a float is whole with every eighth byte from the body's end, a link with every fourth: it is then at the register's top
 unfoldable pub putFloat : List Float → ℕ → ℕ → ℕ → List Float

@@ -1,31 +1,33 @@
 // The form's reader without its lists: what is known between two bytes, and what one byte makes of it.
+use numbers::REFUSED_FORM;
 ghost use mathlib.Core.Path.{_≡_};
-ghost use Prim.Native.Nat.{_+_, _*_, _^_, _<_};
+ghost use Prim.Native.Nat.{_<_};
 ghost use Rattle.form_step.specs.Register.{shift};
-ghost use Rattle.form_step.specs.Reader.{sizeOf, opens, roomLeft, follows, start, refused, begun, tally, inside, outside, verdict};
-ghost use Rattle.form_step.specs.Holds.{Ok};
+ghost use Rattle.form_step.specs.Reader.{sizeOf, opens, roomLeft, follows, start, refused, begun, tally, inside, outside, finished, verdict};
+ghost use Rattle.form_step.specs.Standing.{Ok};
 
 const TOP_BYTE: u64 = 0x100_0000_0000_0000;
 // bytes of the body of a box by its edges
-const EDGES_SIZE: usize = 32;
+const EDGES_SIZE: u64 = 32;
 
-// What is known between two bytes.
+// What is known between two bytes. All in words of 64 bits, so that it can be kept as such between two calls.
 pub struct Reader {
     // 0 nothing yet, 1 a box, its edges or none, 2 sites, 3 triangles, 4 hull, 5 ended
-    pub stage: u8,
+    pub stage: u64,
     // bytes of the present record's body that are to come
-    pub left: usize,
+    pub left: u64,
     // the last eight bytes as a number
     pub word: u64,
     // bytes taken, up to the one refused
-    pub at: usize,
-    pub broken: bool,
+    pub at: u64,
+    // 0, or the number of the refusal
+    pub refusal: u64,
     // the kind that opened the form: 1 a box, 6 none, 7 a box by its edges; 0 before
-    pub clip: u8,
+    pub clip: u64,
     // whole records
-    pub sites: usize,
-    pub triangles: usize,
-    pub hull: usize,
+    pub sites: u64,
+    pub triangles: u64,
+    pub hull: u64,
 }
 
 pub enum Form {
@@ -42,7 +44,7 @@ pub enum Form {
     },
 }
 
-fn size(kind: u8) -> usize
+pub fn size(kind: u64) -> u64
     ensures { λ r. ⌜ r ≡ sizeOf kind ⌝ }
 {
     if kind == 1 {
@@ -63,7 +65,7 @@ fn size(kind: u8) -> usize
     0
 }
 
-fn opens(kind: u8) -> bool
+pub fn opens(kind: u64) -> bool
     ensures { λ r. ⌜ r ≡ opens kind ⌝ }
 {
     if kind == 1 {
@@ -75,7 +77,7 @@ fn opens(kind: u8) -> bool
     kind == 7
 }
 
-fn room_for(r: Reader, kind: u8) -> bool
+fn room_for(r: Reader, kind: u64) -> bool
     ensures { λ a. ⌜ a ≡ roomLeft r kind ⌝ }
 {
     if kind == 2 {
@@ -94,7 +96,7 @@ fn room_for(r: Reader, kind: u8) -> bool
 }
 
 // Whether a record of this kind may come next.
-fn follows(r: Reader, kind: u8) -> bool
+fn follows(r: Reader, kind: u64) -> bool
     ensures { λ a. ⌜ a ≡ follows r kind ⌝ }
 {
     if r.stage == 0 {
@@ -114,7 +116,7 @@ pub fn start() -> Reader
         left: 0,
         word: 0,
         at: 0,
-        broken: false,
+        refusal: 0,
         clip: 0,
         sites: 0,
         triangles: 0,
@@ -122,22 +124,22 @@ pub fn start() -> Reader
     }
 }
 
-fn refused(r: Reader) -> Reader
+pub fn refused(r: Reader) -> Reader
     ensures { λ n. ⌜ n ≡ refused r ⌝ }
 {
     let mut n = r;
-    n.broken = true;
+    n.refusal = REFUSED_FORM as u64;
     n
 }
 
-fn begun(r: Reader, kind: u8) -> Reader
-    requires { ⌜ r .at + 1 < 2 ^ 64 ⌝ }
+fn begun(r: Reader, kind: u64) -> Reader
+    requires { ⌜ Ok r ⌝ }
     ensures { λ n. ⌜ n ≡ begun r kind ⌝ }
 {
     let mut n = r;
     n.left = size(kind);
     n.at = n.at + 1;
-    n.broken = false;
+    n.refusal = 0;
     if opens(kind) {
         n.stage = 1;
         n.clip = kind;
@@ -148,11 +150,12 @@ fn begun(r: Reader, kind: u8) -> Reader
 }
 
 pub fn outside(r: Reader, b: u8) -> Reader
-    requires { ⌜ r .at + 1 < 2 ^ 64 ⌝ }
+    requires { ⌜ Ok r ⌝ }
     ensures { λ n. ⌜ n ≡ outside r b ⌝ }
 {
-    if follows(r, b) {
-        return begun(r, b);
+    let kind = b as u64;
+    if follows(r, kind) {
+        return begun(r, kind);
     }
     refused(r)
 }
@@ -163,7 +166,7 @@ pub fn shifted(word: u64, b: u8) -> u64
     word / 256 + b as u64 * TOP_BYTE
 }
 
-fn tally(r: Reader, kind: u8, n: usize) -> usize
+fn tally(r: Reader, kind: u64, n: u64) -> u64
     requires { ⌜ n < 1000 ⌝ }
     ensures { λ m. ⌜ m ≡ tally r kind n ⌝ }
 {
@@ -177,7 +180,7 @@ fn tally(r: Reader, kind: u8, n: usize) -> usize
 }
 
 pub fn inside(r: Reader, b: u8) -> Reader
-    requires { ⌜ Ok r × (0 < r .left) × (r .at + 1 < 2 ^ 64) ⌝ }
+    requires { ⌜ Ok r × (0 < r .left) ⌝ }
     ensures { λ n. ⌜ n ≡ inside r b ⌝ }
 {
     Reader {
@@ -185,7 +188,7 @@ pub fn inside(r: Reader, b: u8) -> Reader
         left: r.left - 1,
         word: shifted(r.word, b),
         at: r.at + 1,
-        broken: false,
+        refusal: 0,
         clip: r.clip,
         sites: tally(r, 2, r.sites),
         triangles: tally(r, 3, r.triangles),
@@ -193,20 +196,32 @@ pub fn inside(r: Reader, b: u8) -> Reader
     }
 }
 
-// What the bytes taken so far are if no more come.
-pub fn finish(r: Reader) -> Form
-    ensures { λ a. ⌜ a ≡ verdict r ⌝ }
+// The state once it is said that no more will come: a form that has not ended is refused where it stands.
+pub fn finished(r: Reader) -> Reader
+    ensures { λ n. ⌜ n ≡ finished r ⌝ }
 {
-    if r.broken {
-        return Form::Broken { at: r.at };
+    if r.refusal != 0 {
+        return r;
     }
     if r.stage == 5 {
-        return Form::Sound {
-            sites: r.sites,
-            triangles: r.triangles,
-            hull: r.hull,
-            clip: r.clip,
-        };
+        return r;
     }
-    Form::Broken { at: r.at }
+    refused(r)
+}
+
+// What the bytes taken so far are if no more come.
+pub fn finish(r: Reader) -> Form
+    requires { ⌜ Ok r ⌝ }
+    ensures { λ a. ⌜ a ≡ verdict r ⌝ }
+{
+    let n = finished(r);
+    if n.refusal != 0 {
+        return Form::Broken { at: n.at as usize };
+    }
+    Form::Sound {
+        sites: n.sites as usize,
+        triangles: n.triangles as usize,
+        hull: n.hull as usize,
+        clip: n.clip as u8,
+    }
 }

@@ -31,6 +31,9 @@ use Rattle.admission.specs.Slices.{Slices}
 use Rattle.voronoi.specs.Roots.{MagnitudeBits, Magnitude, SignumBits, Signum}
 use Rattle.mending.specs.Mending.{Lent}
 use Rattle.voronoi.specs.Mends.{Mend}
+use Rattle.reader.specs.Calls.{FormLists}
+use Rattle.voronoi.specs.Forms.{ReaderBegin, ReaderFeed, ReaderEnd, ReadForm}
+use Rattle.voronoi.specs.One.{one-reader-begin, one-reader-feed, one-reader-end, one-read-form}
 use Rattle.voronoi.specs.One.{one-mend, one-cell-wkb-bits, one-cell-wkb, one-root-bits, one-root, one-magnitude-bits, one-magnitude, one-signum-bits, one-signum}
 use Rattle.voronoi.specs.Plane.{Near, Dist2, Circumcenter, Centroid, Edges, Centered, Corners, Inside, ExclusivelyInside, WhichEdge, Meets}
 use Rattle.voronoi.specs.One.{one-near, one-dist2, one-center, one-box, one-box-center, one-corners, one-inside, one-exclusively, one-side, one-meeting}
@@ -124,6 +127,14 @@ pub record Demand1 (m : Mesh) : Type 0 where
   pub cell-wkb : (v : List Float) (off ix : List ℕ) (s : ℕ) (out : List ℕ) → One₃ (λ r k new. CellWkb v off ix s out new k r)
   -- voronoi_mend: the number, the four slices, the hull's length, the changes of pairs and of the hull
   pub mend : (old : Lent) → OneMend (λ r new k p q. Mend m old new r k p q)
+  -- voronoi_reader_begin: the number, the state
+  pub reader-begin : (ws : List ℕ) → One₂ (λ r ws′. ReaderBegin ws ws′ r)
+  -- voronoi_reader_feed: the number and the byte, the state, the five lists
+  pub reader-feed : (ws : List ℕ) (l : FormLists) (s : List ℕ) → One₃ (λ a ws′ l′. ReaderFeed ws l s ws′ l′ a)
+  -- voronoi_reader_end: the number, the byte and the counts; the state
+  pub reader-end : (ws : List ℕ) → One₂ (λ t ws′. ReaderEnd ws ws′ t)
+  -- voronoi_read_form: the number, the byte and the counts; the five lists
+  pub read-form : (l : FormLists) (s : List ℕ) → One₂ (λ t l′. ReadForm l s l′ t)
   -- refused by voronoi_check: the work slice
   pub check-refused : {w w′ : List ℕ} {r : ℕ} → Check m w w′ r → r ≢ 0 → SliceRefused EMPTY w w′ r
   -- by a call that hands out a list: the work slice, the output slice, the count, ended
@@ -260,6 +271,10 @@ demand1 m = record {
   cell-wkb-bits = λ v off ix s out _ _ _ _ _ _. one-cell-wkb-bits off ix s out v;
   cell-wkb = λ v off ix s out _ _ _ _ _ _. one-cell-wkb off ix s out v;
   mend = λ old _ _ _ _ _ _ _ _ _ _. one-mend m;
+  reader-begin = λ ws _ _ _ _. one-reader-begin ws;
+  reader-feed = λ ws l s _ _ _ _ _ _. one-reader-feed ws l s;
+  reader-end = λ ws _ _ _ _. one-reader-end ws;
+  read-form = λ l s _ _ _ _. one-read-form l s;
   check-refused = λ a. work-refused m (a .work);
   walk-refused = λ s. list-refused;
   neighbours-refused = λ s. list-refused;

@@ -8,6 +8,7 @@ pub mod One
 pub mod Accepted
 pub mod Maps
 pub mod Mends
+pub mod Forms
 pub mod Examples
 pub mod laws
 pub mod Outcomes

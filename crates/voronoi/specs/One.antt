@@ -34,6 +34,11 @@ use Rattle.voronoi.specs.Explanations.{Why}
 use Rattle.mending.specs.Mending.{Lent}
 use Rattle.mending.specs.One.{mends-one}
 use Rattle.voronoi.specs.Mends.{Mend}
+use Rattle.reader.specs.Calls.{FormLists}
+use Rattle.reader.specs.One.{begins-one, feeds-one, ends-one, reads-one}
+use Rattle.reader.specs.declared.Answer.{Answer}
+use Rattle.reader.specs.declared.Report.{Report}
+use Rattle.voronoi.specs.Forms.{ReaderBegin, ReaderFeed, ReaderEnd, ReadForm}
 use Rattle.voronoi.specs.Roots.{MagnitudeBits, Magnitude, SignumBits, Signum}
 use Rattle.voronoi.specs.Plane.{Near, Dist2, Edges, Centered, Corners, Inside, ExclusivelyInside, WhichEdge, Meets}
 use Rattle.voronoi.specs.Meshes.{Check}
@@ -204,3 +209,17 @@ one-why g asked first second = one-why-call
 pub one-mend : (m : Mesh) {old new other : Lent} {r k p q s l u n : ℕ} → Mend m old new r k p q → Mend m old other s l u n
     → (r ≡ s) × (new ≡ other) × (k ≡ l) × (p ≡ u) × (q ≡ n)
 one-mend m = mends-one m _ _ _ _ _ _ _ _ _ _ _
+
+-- ---- forms
+pub one-reader-begin : (ws : List ℕ) {v w : List ℕ} {r q : ℕ} → ReaderBegin ws v r → ReaderBegin ws w q → (r ≡ q) × (v ≡ w)
+one-reader-begin = begins-one
+
+pub one-reader-feed : (ws : List ℕ) (l : FormLists) (s : List ℕ) {v w : List ℕ} {k m : FormLists} {a b : Answer}
+    → ReaderFeed ws l s v k a → ReaderFeed ws l s w m b → (a ≡ b) × (v ≡ w) × (k ≡ m)
+one-reader-feed = feeds-one
+
+pub one-reader-end : (ws : List ℕ) {v w : List ℕ} {a b : Report} → ReaderEnd ws v a → ReaderEnd ws w b → (a ≡ b) × (v ≡ w)
+one-reader-end = ends-one
+
+pub one-read-form : (l : FormLists) (s : List ℕ) {k m : FormLists} {a b : Report} → ReadForm l s k a → ReadForm l s m b → (a ≡ b) × (k ≡ m)
+one-read-form = reads-one

@@ -3,6 +3,7 @@
 pub mod builds;
 pub mod edges;
 pub mod explanations;
+pub mod forms;
 pub mod maps;
 pub mod mends;
 pub mod meshes;

@@ -19,12 +19,18 @@ abbrev μ-loop : tie.MeasureT-loop
 loop-holds : tie.Need-loop-holds Inv-loop μ-loop
 loop-holds c = let s = c .before .before .before .before .before .before in
     let a = s .args in
-    feeding-start (now (a .bytes)) (reading (a .r) (now (a .bounds)) (now (a .sites)) (now (a .triangles)) (now (a .halfedges)) (now (a .hull))) (s .pre .0) (s .pre .1)
+    feeding-start (now (a .bytes)) (reading (a .r) (now (a .bounds)) (now (a .sites)) (now (a .triangles)) (now (a .halfedges)) (now (a .hull))) (s .pre .0)
 
 take-requires : tie.Need-take-requires Inv-loop μ-loop
 take-requires c κs = let l = c .before .before .before .before .before .before .before in
     let s = l .before .before .before .before .before .before .before in
-    (l .loop .inv .ok, omega (arith, l .loop .inv .at, l .loop .inv .within), room-same (s .pre .2) (l .loop .inv .same))
+    (l .loop .inv .ok, room-same (s .pre .1) (l .loop .inv .same))
+
+short : tie.Need-add-i Inv-loop μ-loop
+short c = let t = c .before .before .before .before .before .before .before .before .before .before in
+    let u = t .before .before .before .before .before .before .before in
+    let s = u .before .before .before .before .before .before .before .before in
+    omega (arith, u .loop-test .taken, s .good .1 .0 .0)
 
 loop-again : tie.Need-loop-again Inv-loop μ-loop
 loop-again c = let t = c .before .before .before .before .before .before .before .before .before .before in
@@ -54,5 +60,5 @@ returns c = (feeding-end (c .before .loop .inv) (c .loop-test .left), c .before 
 pub feed-spec : {M : Type 1} → statement M
 feed-spec =
     tie.close
-    (tie.spec Inv-loop μ-loop loop-holds (λ c. omega arith) take-requires (λ c. omega arith) (λ c. omega arith)
+    (tie.spec Inv-loop μ-loop loop-holds (λ c. omega arith) take-requires short (λ c. omega arith)
     loop-again same-length same-length-2 same-length-3 same-length-4 same-length-5 returns)

@@ -7,6 +7,7 @@ use lib.Dec.{ltb}
 use Rattle.laws.specs.Pick.{pick}
 use Rattle.form_step.specs.Register.{shift}
 use Rattle.form_step.specs.Reader.{reading, putFloat, putLink}
+use Rattle.form_step.specs.laws.Standing.{few-counts, in-box, in-site, in-triangle, in-hull}
 use Rattle.form.specs.laws.Fill.{fill-box, fill-site, fill-triangle, fill-hull, fill-none}
 use borrow.Author.Needs.{needs}
 use Rattle.form.proofs.fill.Statement.{statement}
@@ -16,7 +17,7 @@ abbrev begin : tie.After-shifted → tie.Start
 begin c = c .before .before .before .before .before .before .before
 
 put-float-requires : tie.Need-put-float-requires
-put-float-requires c κs = let s = begin (c .before .before .before) in omega (arith, s .pre .0 .in-box (c .before .if1 .taken), s .pre .3)
+put-float-requires c κs = let s = begin (c .before .before .before) in omega (arith, in-box (s .pre .0) (c .before .if1 .taken), s .pre .3)
 
 returns : tie.Need-returns
 returns c = let w = c .before .before .before .before .before .before in
@@ -27,7 +28,7 @@ returns c = let w = c .before .before .before .before .before .before in
     ∙ fill-box (a .r) (a .b) (now (a .bounds)) (now (a .sites)) (now (a .triangles)) (now (a .halfedges)) (now (a .hull)) (s .pre .1) (s .pre .2) (c .before .before .before .before .if1 .taken)
 
 put-float-requires-2 : tie.Need-put-float-requires-2
-put-float-requires-2 c κs = let s = begin (c .before .before .before .before .before .before) in omega (arith, s .pre .0 .in-site (c .before .before .if2 .taken) (s .pre .2), s .pre .3)
+put-float-requires-2 c κs = let s = begin (c .before .before .before .before .before .before) in omega (arith, in-site (s .pre .0) (c .before .before .if2 .taken) (s .pre .2), s .pre .3)
 
 returns-2 : tie.Need-returns-2
 returns-2 c =
@@ -41,7 +42,7 @@ returns-2 c =
 
 put-triangle-requires : tie.Need-put-triangle-requires
 put-triangle-requires c κs = let s = begin (c .before .before .before .before .before .before .before .before .before) in
-    omega (arith, s .pre .0 .in-triangle (c .before .before .before .if3 .taken) (s .pre .2), s .pre .3)
+    omega (arith, in-triangle (s .pre .0) (c .before .before .before .if3 .taken) (s .pre .2), s .pre .3)
 
 returns-3 : tie.Need-returns-3
 returns-3 c =
@@ -58,7 +59,7 @@ returns-3 c =
     ∙ fill-triangle (a .r) (a .b) (now (a .bounds)) (now (a .sites)) (now (a .triangles)) (now (a .halfedges)) (now (a .hull)) (s .pre .1) (s .pre .2) (at-if3 .if3 .taken)
 
 put-link-requires : tie.Need-put-link-requires
-put-link-requires c κs = let s = begin (c .before .before .before .before .before .before .before .before .before) in omega (arith, s .pre .0 .in-hull (c .before .if4 .taken) (s .pre .2), s .pre .3)
+put-link-requires c κs = let s = begin (c .before .before .before .before .before .before .before .before .before) in omega (arith, in-hull (s .pre .0) (c .before .if4 .taken) (s .pre .2), s .pre .3)
 
 returns-4 : tie.Need-returns-4
 returns-4 c = let w = c .before .before .before .before .before .before .before .before .before .before .before .before in
@@ -80,6 +81,8 @@ pub fill-spec : {M : Type 1} → statement M
 fill-spec =
     tie.close
     (tie.spec (λ c. search needs) (λ c κs. search needs) put-float-requires (λ c. search needs) returns
-    (λ c. search needs) (λ c. search needs) put-float-requires-2 (λ c. search needs) returns-2 (λ c. search needs)
-    (λ c. search needs) put-triangle-requires (λ c. search needs) (λ c. search needs) returns-3 put-link-requires
+    (λ c. search needs) (λ c. search needs) put-float-requires-2 (λ c. search needs) returns-2
+    (λ c. let n = few-counts (begin (c .before .before .before .before .before .before .before .before .before) .pre .0) in omega arith)
+    (λ c. let n = few-counts (begin (c .before .before .before .before .before .before .before .before .before) .pre .0) in omega arith)
+    put-triangle-requires (λ c. search needs) (λ c. search needs) returns-3 put-link-requires
     (λ c. search needs) returns-4 returns-5)

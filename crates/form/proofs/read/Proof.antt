@@ -1,7 +1,6 @@
 -- `form::read` meets its contract: it is `feed` from the start, and `finish`.
-use native.Mathlib.Omega.{arith}
 use denote.Ref.{now}
-use Rattle.form_step.specs.laws.Steps.{ok-start}
+use Rattle.form_step.specs.laws.Standing.{ok-start}
 use Rattle.form.specs.laws.Feed.{reads-all}
 use borrow.Author.Needs.{needs}
 use Rattle.form.proofs.read.Statement.{statement}
@@ -10,7 +9,7 @@ use Rattle.form.proofs.read.Tie as tie
 feed-requires : tie.Need-feed-requires
 feed-requires c κs = let b = c .before .before .before .before .before in
     let s = b .before .before .before .before .before .before .before in
-    (rw (b .start .ensures) ok-start, rw (b .start .ensures) (omega (arith, s .good .0 .0)), s .pre)
+    (rw (b .start .ensures) ok-start, s .pre)
 
 returns : tie.Need-returns
 returns c = let f = c .before .before .before .before .before .before .before .before .before .before .before in

@@ -3,6 +3,7 @@ use Rattle.form.specs.laws.Fill.{take-inside}
 use native.Mathlib.Nat.{pos-of-ne-zero}
 use mathlib.Core.Path.{ap, _∙_}
 use denote.Ref.{now}
+use borrow.Author.Tests.{ne-eqb, eq-eqb}
 use Rattle.form_step.specs.Reader.{reading}
 use Rattle.form.specs.laws.Fill.{take-broken, take-outside}
 use borrow.Author.Needs.{needs}
@@ -11,38 +12,45 @@ use Rattle.form.proofs.take.Tie as tie
 
 returns : tie.Need-returns
 returns c =
-    let at-start = c .before .before .before .before .before .before in
+    let at-start = c .before .before .before .before .before .before .before in
     let a = at-start .args in
-    take-broken (a .r) (a .b) (now (a .bounds)) (now (a .sites)) (now (a .triangles)) (now (a .halfedges)) (now (a .hull)) (c .if1 .taken)
+    take-broken (a .r) (a .b) (now (a .bounds)) (now (a .sites)) (now (a .triangles)) (now (a .halfedges)) (now (a .hull)) (rw (ne-eqb _ _ (c .if1 .taken)))
 
 returns-2 : tie.Need-returns-2
 returns-2 c =
-    let at-start = c .before .before .before .before .before .before .before .before .before in
+    let at-start = c .before .before .before .before .before .before .before .before .before .before in
     let a = at-start .args in
     ap (λ n. reading n (now (a .bounds)) (now (a .sites)) (now (a .triangles)) (now (a .halfedges)) (now (a .hull))) (c .outside .ensures)
-    ∙ take-outside (a .r) (a .b) (now (a .bounds)) (now (a .sites)) (now (a .triangles)) (now (a .halfedges)) (now (a .hull)) (c .before .before .before .if1 .left) (c .before .if2 .taken)
+    ∙ take-outside (a .r) (a .b) (now (a .bounds)) (now (a .sites)) (now (a .triangles)) (now (a .halfedges)) (now (a .hull))
+    (rw (eq-eqb _ _ (c .before .before .before .if1 .left))) (c .before .if2 .taken)
+
+fill-requires : tie.Need-fill-requires
+fill-requires c κs =
+    let e = c .before .before .before .before .before in
+    let s = e .before .before .before .before .before .before .before .before .before in
+    (s .pre .0, rw (eq-eqb _ _ (e .before .before .if1 .left)), pos-of-ne-zero (e .if2 .left), s .pre .1)
 
 inside-requires : tie.Need-inside-requires
 inside-requires c κs =
     let at-if2 = c .before .before .before .before .before .before .before .before .before .before .before .before .before .before .before .before in
     let half = c .before .before .before .before .before .before .before .before .before .before .before .before in
-    let s = half .before .before .before .before .before .before .before .before .before .before .before .before
+    let s = half .before .before .before .before .before .before .before .before .before .before .before .before .before
     in
     let z = at-if2 .if2 .left in
-    (s .pre .0, pos-of-ne-zero z, s .pre .1)
+    (s .pre .0, pos-of-ne-zero z)
 
 returns-3 : tie.Need-returns-3
 returns-3 c =
     let at-fill = c .before .before .before .before .before .before .before .before .before .before .before in
     let e = c .before .before .before .before .before .before .before .before .before .before .before .before .before .before .before .before .before in
-    let s = e .before .before .before .before .before .before .before .before in
+    let s = e .before .before .before .before .before .before .before .before .before in
     let a = s .args in
     take-inside (a .r) (a .b) (now (a .bounds)) (now (a .sites)) (now (a .triangles)) (now (a .halfedges)) (now (a .hull)) _ _ _ _ _ _
-    (e .before .before .if1 .left) (pos-of-ne-zero (e .if2 .left)) (c .inside .ensures)
+    (rw (eq-eqb _ _ (e .before .before .if1 .left))) (pos-of-ne-zero (e .if2 .left)) (c .inside .ensures)
     (at-fill .fill .ensures)
 
 pub take-spec : {M : Type 1} → statement M
 take-spec =
     tie.close
-    (tie.spec returns (λ c κs. search needs) returns-2 (λ c κs. search needs) inside-requires (λ c. search needs)
+    (tie.spec returns (λ c κs. search needs) returns-2 fill-requires inside-requires (λ c. search needs)
     (λ c. search needs) (λ c. search needs) (λ c. search needs) (λ c. search needs) returns-3)

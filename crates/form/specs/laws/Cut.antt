@@ -10,13 +10,13 @@ use lib.Seq.{length-take-le}
 use Rattle.laws.specs.laws.Decide.{lt-or-ge}
 use Rattle.octets.specs.Bytes.{Bytes, word, le}
 use Rattle.form.specs.Form.{Outline, OutlineFits, SiteFits, TriangleFits, HullFits, outlineBytes, siteBytes, triangleBytes, hullBytes}
-use Rattle.form_step.specs.Reader.{inside, step, steps}
+use Rattle.form_step.specs.Reader.{broken, inside, step, steps}
 use Rattle.form_step.specs.laws.Steps.{step-broken, step-inside}
 use Rattle.octets.specs.laws.Bytes.{le-word, word-small}
 use Rattle.form_step.specs.declared.Reader.{Reader}
 
 pub record Ended (r : Reader) : Type 0 where
-  pub broken : r .broken ≡ false
+  pub unbroken : broken r ≡ false
   pub stage : r .stage ≡ 5
 
 -- ---- runs of bytes
@@ -26,7 +26,7 @@ unfolding steps
 steps-append [] t r = refl
 steps-append (b ∷ s) t r = steps-append s t (step r b)
 
-pub steps-broken : (s : List ℕ) (r : Reader) → r .broken ≡ true → steps r s ≡ r
+pub steps-broken : (s : List ℕ) (r : Reader) → broken r ≡ true → steps r s ≡ r
 unfolding steps
 steps-broken [] r e = refl
 steps-broken (b ∷ s) r e = ap (λ (n : Reader). steps n s) (step-broken r b e) ∙ steps-broken s r e
@@ -36,20 +36,20 @@ true-false e = let z : _≡_ {A = ℕ} 0 1 = cc in absurd (omega arith)
 
 -- bytes of a body, not more than it has
 pub record Partway (r n : Reader) (l : ℕ) : Type 0 where
-  pub broken : n .broken ≡ false
+  pub unbroken : broken n ≡ false
   pub stage : n .stage ≡ r .stage
   pub left : n .left + l ≡ r .left
 
-pub partway : (t : List ℕ) (r : Reader) → r .broken ≡ false → length t ≤ r .left → Partway r (steps r t) (length t)
+pub partway : (t : List ℕ) (r : Reader) → broken r ≡ false → length t ≤ r .left → Partway r (steps r t) (length t)
 unfolding steps inside
-partway [] r e h = record { broken = e; stage = refl; left = omega arith }
+partway [] r e h = record { unbroken = e; stage = refl; left = omega arith }
 partway (b ∷ t) r e h =
     let p = partway t (inside r b) refl (omega arith) in
     let j : steps (inside r b) t ≡ steps r (b ∷ t) = ap (λ (n : Reader). steps n t) (sym (step-inside r b e (omega arith))) in
-    subst (λ (n : Reader). Partway r n (suc (length t))) j (record { broken = p .broken; stage = p .stage; left = omega (arith, p .left) })
+    subst (λ (n : Reader). Partway r n (suc (length t))) j (record { unbroken = p .unbroken; stage = p .stage; left = omega (arith, p .left) })
 
 -- a body that is not the end's is there whole if the form ends
-pub body-there : (t : List ℕ) (r : Reader) → r .broken ≡ false → r .stage ≢ 5 → Ended (steps r t) → r .left ≤ length t
+pub body-there : (t : List ℕ) (r : Reader) → broken r ≡ false → r .stage ≢ 5 → Ended (steps r t) → r .left ≤ length t
 body-there t r e d f = ⊎-elim (λ h. absurd (d (sym (partway t r e (omega arith) .stage) ∙ f .stage))) (λ h. h) (lt-or-ge (length t) (r .left))
 
 -- ---- a number cut off

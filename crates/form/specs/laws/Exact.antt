@@ -11,7 +11,7 @@ use borrow.Author.Tests.{eqb-true}
 use Rattle.laws.specs.Pick.{pick}
 use Rattle.octets.specs.Bytes.{Bytes, each}
 use Rattle.form.specs.Form.{Outline, box, unclipped, edges, IsForm, OutlineFits, outlineBytes, siteBytes, triangleBytes, hullBytes, formOf}
-use Rattle.form_step.specs.Reader.{sizeOf, opens, follows, start, refused, begun, outside, step, steps, verdict, Reading, reading, takes}
+use Rattle.form_step.specs.Reader.{sizeOf, opens, follows, broken, start, refused, begun, outside, step, steps, verdict, Reading, reading, takes}
 use Rattle.form_step.specs.laws.Steps.{OpeningKind, box as a-box, none as no-box, edges as four-edges, opens-cases, follows-cases, step-outside}
 use Rattle.form.specs.laws.Run.{Opens, ready-up, takes-reader, opening}
 use Rattle.form.specs.laws.Mesh.{complete}
@@ -27,19 +27,19 @@ sound-broken e = let z : _≡_ {A = ℕ} 0 1 = cc in absurd (omega arith)
 
 pub ended-of : (r : Reader) (a b c k : ℕ) → verdict r ≡ Sound a b c k → Ended r
 unfolding verdict
-ended-of r a b c k e = go (r .broken) (eqb (r .stage) 5) refl refl e
+ended-of r a b c k e = go (broken r) (eqb (r .stage) 5) refl refl e
   where
     go :
-        (t v : Bool) → r .broken ≡ t → eqb (r .stage) 5 ≡ v
+        (t v : Bool) → broken r ≡ t → eqb (r .stage) 5 ≡ v
         → pick t (λ _. Broken (r .at)) (λ _. pick v (λ _. Sound (r .sites) (r .triangles) (r .hull) (r .clip)) (λ _. Broken (r .at))) ≡ Sound a b c k
         → Ended r
     go true v p q f = sound-broken f
     go false false p q f = sound-broken f
-    go false true p q f = record { broken = p; stage = eqb-true _ _ q }
+    go false true p q f = record { unbroken = p; stage = eqb-true _ _ q }
 
 pub answer-ended : (r : Reader) → Ended r → verdict r ≡ Sound (r .sites) (r .triangles) (r .hull) (r .clip)
 unfolding verdict
-answer-ended r e = rw (e .broken, e .stage)
+answer-ended r e = rw (e .unbroken, e .stage)
 
 -- every sound form
 pub accepts : (s : List ℕ) → IsForm s → Ended (steps start s)

@@ -2,7 +2,7 @@
 use mathlib.Core.Path.{_≡_, refl, sym, ap, _∙_}
 use mathlib.Core.Bool.{Bool, true, false}
 use mathlib.Core.List.{List, [], _∷_}
-use Prim.Native.Nat.{ℕ, suc, _+_, _-_, _^_, _≤_, _<_}
+use Prim.Native.Nat.{ℕ, suc, _+_, _≤_, _<_}
 use native.Mathlib.Omega.{arith}
 use native.Mathlib.Numerals.{add-one}
 use lib.ListN.{length, getD, drop}
@@ -10,9 +10,10 @@ use lib.Seq.{drop-cons, drop-length}
 use lib.Dec.{eqb}
 use lib.Ieee.{Float}
 use Rattle.laws.specs.Pick.{pick}
-use Rattle.form_step.specs.Reader.{Reading, reading, start, step, take, takes, verdict}
-use Rattle.form_step.specs.Holds.{Ok, ListRoom, Few, Reads}
-use Rattle.form_step.specs.laws.Steps.{ok-step, at-step}
+use Rattle.form_step.specs.Reader.{Reading, reading, broken, start, step, take, takes, verdict}
+use Rattle.form_step.specs.Holds.{ListRoom, Few, Reads}
+use Rattle.form_step.specs.Standing.{Ok}
+use Rattle.form_step.specs.laws.Standing.{few-counts, ok-step}
 use Rattle.form_step.specs.declared.Reader.{Reader}
 use Rattle.form_step.specs.declared.Form.{Form}
 use Rattle.form_step.specs.declared.Form.the-variants.{Sound, Broken}
@@ -51,16 +52,14 @@ same-same s t =
 pub record Feeding (s : List ℕ) (d e : Reading) (i : ℕ) : Type 0 where
   pub within : i ≤ length s
   pub ok : Ok (e .reader)
-  pub at : e .reader .at + (length s - i) < 2 ^ 64
   pub same : SameLists d e
   pub rest : takes e (drop i s) ≡ takes d s
 
-pub feeding-start : (s : List ℕ) (d : Reading) → Ok (d .reader) → d .reader .at + length s < 2 ^ 64 → Feeding s d d 0
-feeding-start s d o a =
+pub feeding-start : (s : List ℕ) (d : Reading) → Ok (d .reader) → Feeding s d d 0
+feeding-start s d o =
     record {
       within = omega arith;
       ok = o;
-      at = omega arith;
       same = record { bounds = refl; sites = refl; triangles = refl; halfedges = refl; hull = refl };
       rest = refl;
     }
@@ -81,11 +80,9 @@ module _ {s : List ℕ} {d e : Reading} {i : ℕ} (h : Feeding s d e i) where
   pub feeding-step : (f : Reading) → i < length s → f ≡ take e (getD s i 0) → SameLists e f → Feeding s d f (i + 1)
   feeding-step f l t m =
       let q : f .reader ≡ step (e .reader) (getD s i 0) = ap (λ (x : Reading). x .reader) t ∙ reader-take e (getD s i 0) in
-      let a = at-step (e .reader) (getD s i 0) in
       record {
         within = omega arith;
         ok = rw q (ok-step (e .reader) (getD s i 0) (h .ok));
-        at = rw q (omega (arith, h .at));
         same = same-same (h .same) m;
         rest =
             ap (λ (k : ℕ). takes f (drop k s)) (add-one i)
@@ -104,11 +101,11 @@ module _ {s : List ℕ} {d e : Reading} {i : ℕ} (h : Feeding s d e i) where
 
 few-answer : (r : Reader) → Ok r → Few (verdict r)
 unfolding verdict
-few-answer r o = go (r .broken) (eqb (r .stage) 5)
+few-answer r o = go (broken r) (eqb (r .stage) 5)
   where
     go : (t u : Bool) → Few (pick t (λ _. Broken (r .at)) (λ _. pick u (λ _. Sound (r .sites) (r .triangles) (r .hull) (r .clip)) (λ _. Broken (r .at))))
     go true u = tt
-    go false true = (o .sites, o .triangles, o .hull)
+    go false true = few-counts o
     go false false = tt
 
 pub reads-all :

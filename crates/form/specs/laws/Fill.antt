@@ -8,12 +8,12 @@ use lib.Ieee.{Float}
 use borrow.Author.Tests.{ne-eqb}
 use Rattle.laws.specs.Pick.{pick}
 use Rattle.form_step.specs.Register.{shift}
-use Rattle.form_step.specs.Reader.{inside, outside, within, putFloat, putLink, boundsBy, sitesBy, trianglesBy, halfedgesBy, hullBy, Reading, reading, filledBy, take}
+use Rattle.form_step.specs.Reader.{broken, inside, outside, within, putFloat, putLink, boundsBy, sitesBy, trianglesBy, halfedgesBy, hullBy, Reading, reading, filledBy, take}
 use Rattle.form_step.specs.laws.Steps.{step-broken, step-outside, step-inside, within-is, within-broken, within-outside}
 use Rattle.form_step.specs.declared.Reader.{Reader}
 
 module _ (r : Reader) (b : ℕ) (bs ss : List Float) (ts es hs : List ℕ) where
-  module _ (e : r .broken ≡ false) (p : 0 < r .left) where
+  module _ (e : broken r ≡ false) (p : 0 < r .left) where
     at-stage : (k n : ℕ) → r .stage ≡ k → within r n ≡ eqb k n
     at-stage k n s = within-is r n e p ∙ ap (λ m. eqb m n) s
 
@@ -45,19 +45,19 @@ module _ (r : Reader) (b : ℕ) (bs ss : List Float) (ts es hs : List ℕ) where
         rw
         (within-is r 1 e p, ne-eqb (r .stage) 1 n₁, within-is r 2 e p, ne-eqb (r .stage) 2 n₂, within-is r 3 e p, ne-eqb (r .stage) 3 n₃, within-is r 4 e p, ne-eqb (r .stage) 4 n₄)
 
-  pub take-broken : r .broken ≡ true → reading r bs ss ts es hs ≡ take (reading r bs ss ts es hs) b
+  pub take-broken : broken r ≡ true → reading r bs ss ts es hs ≡ take (reading r bs ss ts es hs) b
   unfolding take boundsBy sitesBy trianglesBy halfedgesBy hullBy
   take-broken e =
       rw (step-broken r b e, within-broken r 1 e, within-broken r 2 e, within-broken r 3 e, within-broken r 4 e)
 
-  pub take-outside : r .broken ≡ false → r .left ≡ 0 → reading (outside r b) bs ss ts es hs ≡ take (reading r bs ss ts es hs) b
+  pub take-outside : broken r ≡ false → r .left ≡ 0 → reading (outside r b) bs ss ts es hs ≡ take (reading r bs ss ts es hs) b
   unfolding take boundsBy sitesBy trianglesBy halfedgesBy hullBy
   take-outside e z =
       rw (step-outside r b e z, within-outside r 1 e z, within-outside r 2 e z, within-outside r 3 e z, within-outside r 4 e z)
 
   pub take-inside :
       (n : Reader) (bs' ss' : List Float) (ts' es' hs' : List ℕ)
-      → r .broken ≡ false
+      → broken r ≡ false
       → 0 < r .left
       → n ≡ inside r b
       → reading r bs' ss' ts' es' hs' ≡ filledBy r b bs ss ts es hs

@@ -194,7 +194,7 @@ closed m bs ss ts es hs ss' ts' es' hs' s o g es₁ et ee eh =
     let e : takes d (outlineBytes (m .clip) ++ s ++ 5 ∷ []) ≡ reading (begun r 5) bs' ss' ts' es' hs' =
     takes-append (outlineBytes (m .clip) ++ s) (5 ∷ []) d
     ∙ ap (λ (x : Reading). takes x (5 ∷ [])) (takes-append (outlineBytes (m .clip)) s d ∙ ap (λ (x : Reading). takes x s) (o .lists) ∙ g .lists)
-    ∙ kind-run r bs' ss' ts' es' hs' 5 [] (q .broken) (q .left) (kind-follows r 5 (q .low) (omega (arith, q .high)) (lt-ltb (r .stage) 5 (omega (arith, q .high))))
+    ∙ kind-run r bs' ss' ts' es' hs' 5 [] (q .unbroken) (q .left) (kind-follows r 5 (q .low) (omega (arith, q .high)) (lt-ltb (r .stage) 5 (omega (arith, q .high))))
     in
     record {
       answer =

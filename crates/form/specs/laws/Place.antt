@@ -14,8 +14,10 @@ use Rattle.laws.specs.laws.Decide.{eq-or-ne}
 use Rattle.laws.specs.Pick.{pick}
 use Rattle.octets.specs.Bytes.{Bytes}
 use Rattle.form.specs.Form.{IsForm}
-use Rattle.form_step.specs.Reader.{sizeOf, opens, roomLeft, follows, start, refused, begun, inside, outside, step, steps, verdict}
-use Rattle.form_step.specs.laws.Steps.{RecordKind, site, triangle, hull, end, follows-cases, step-outside}
+use Rattle.form_step.specs.Reader.{sizeOf, opens, roomLeft, follows, broken, start, refused, begun, inside, outside, step, steps, verdict}
+use Rattle.form_step.specs.laws.Steps.{step-outside}
+use Rattle.form_step.specs.Standing.{Ok}
+use Rattle.form_step.specs.laws.Standing.{ok-start, ok-steps}
 use Rattle.form.specs.laws.Run.{kind-follows}
 use Rattle.form.specs.laws.Cut.{Ended, bytes-take, steps-append, steps-broken, true-false, partway}
 use Rattle.form.specs.laws.Exact.{sound-broken, accepts, only-forms}
@@ -27,17 +29,17 @@ use Rattle.form.specs.Place.{StartsForm, Place}
 
 record Stops (r : Reader) (s : List ℕ) (j : ℕ) : Type 0 where
   within : j < length s
-  before : steps r (take j s) .broken ≡ false
-  after : steps r (take (suc j) s) .broken ≡ true
+  before : broken (steps r (take j s)) ≡ false
+  after : broken (steps r (take (suc j) s)) ≡ true
   at : steps r s .at ≡ r .at + j
 
 -- one byte: refused where it stands, or one byte more
 abbrev Moved : Reader → Reader → Type 0
-Moved r n = ((n .broken ≡ true) × (n .at ≡ r .at)) ⊎ ((n .broken ≡ false) × (n .at ≡ r .at + 1))
+Moved r n = ((broken n ≡ true) × (n .at ≡ r .at)) ⊎ ((broken n ≡ false) × (n .at ≡ r .at + 1))
 
-moved : (r : Reader) (b : ℕ) → r .broken ≡ false → Moved r (step r b)
+moved : (r : Reader) (b : ℕ) → broken r ≡ false → Moved r (step r b)
 unfolding step outside inside begun refused
-moved r b e = go (r .broken) (eqb (r .left) 0) (follows r b) e
+moved r b e = go (broken r) (eqb (r .left) 0) (follows r b) e
   where
     go : (v t f : Bool) → v ≡ false → Moved r (pick v (λ _. r) (λ _. pick t (λ _. pick f (λ _. begun r b) (λ _. refused r)) (λ _. inside r b)))
     go true t f e = true-false e
@@ -49,19 +51,19 @@ record Stop (r : Reader) (s : List ℕ) : Type 0 where
   place : ℕ
   stops : Stops r s place
 
-stop : (s : List ℕ) (r : Reader) → r .broken ≡ false → steps r s .broken ≡ true → Stop r s
+stop : (s : List ℕ) (r : Reader) → broken r ≡ false → broken (steps r s) ≡ true → Stop r s
 unfolding steps
 stop [] r e f = true-false (sym f ∙ e)
 stop (b ∷ s) r e f = ⊎-elim here (λ v. on v (stop s (step r b) (v .0) f)) (moved r b e)
   where
-    here : (step r b .broken ≡ true) × (step r b .at ≡ r .at) → Stop r (b ∷ s)
+    here : (broken (step r b) ≡ true) × (step r b .at ≡ r .at) → Stop r (b ∷ s)
     here v =
         record {
           place = 0;
           stops = record { within = omega arith; before = e; after = v .0; at = ap (λ (n : Reader). n .at) (steps-broken s (step r b) (v .0)) ∙ v .1 ∙ omega arith };
         }
 
-    on : (step r b .broken ≡ false) × (step r b .at ≡ r .at + 1) → Stop (step r b) s → Stop r (b ∷ s)
+    on : (broken (step r b) ≡ false) × (step r b .at ≡ r .at + 1) → Stop (step r b) s → Stop r (b ∷ s)
     on v w =
         let t = w .stops in
         record {
@@ -69,64 +71,26 @@ stop (b ∷ s) r e f = ⊎-elim here (λ v. on v (stop s (step r b) (v .0) f)) (
           stops = record { within = omega (arith, t .within); before = t .before; after = t .after; at = omega (arith, t .at, v .1) };
         }
 
-taken-all : (s : List ℕ) (r : Reader) → r .broken ≡ false → steps r s .broken ≡ false → steps r s .at ≡ r .at + length s
+taken-all : (s : List ℕ) (r : Reader) → broken r ≡ false → broken (steps r s) ≡ false → steps r s .at ≡ r .at + length s
 unfolding steps
 taken-all [] r e f = omega arith
 taken-all (b ∷ s) r e f =
-    ⊎-elim (λ v. true-false (sym (ap (λ (n : Reader). n .broken) (steps-broken s (step r b) (v .0)) ∙ v .0) ∙ f))
+    ⊎-elim (λ v. true-false (sym (ap broken (steps-broken s (step r b) (v .0)) ∙ v .0) ∙ f))
     (λ v. omega (arith, taken-all s (step r b) (v .0) f, v .1))
     (moved r b e)
 
 -- ---- every state that is not refused can be brought to an end
-
-record Shape (r : Reader) : Type 0 where
-  low : r .stage ≡ 0 → r .left ≡ 0
-  high : r .stage ≤ 5
-  last : r .stage ≡ 5 → r .left ≡ 0
-
-stage-at-most : (r : Reader) (k : ℕ) → RecordKind r k → (1 ≤ k) × (k ≤ 5) × (k ≡ 5 → sizeOf k ≡ 0) × (pick (opens k) (λ _. 1) (λ _. k) ≡ k)
-unfolding sizeOf opens
-stage-at-most r k (site p) = (omega arith, omega arith, λ e. absurd (omega arith), refl)
-stage-at-most r k (triangle p) = (omega arith, omega arith, λ e. absurd (omega arith), refl)
-stage-at-most r k (hull p) = (omega arith, omega arith, λ e. absurd (omega arith), refl)
-stage-at-most r k (end p) = (omega arith, omega arith, λ e. refl, refl)
-
-shape-begun : (r : Reader) (b : ℕ) → follows r b ≡ true → Shape (begun r b)
-unfolding begun
-shape-begun r b f =
-    ⊎-elim
-    (λ v. rw (v .1) (record { low = λ z. absurd (omega arith); high = omega arith; last = λ z. absurd (omega arith) }))
-    (λ v. let w = stage-at-most r b (v .2) in
-    record { low = λ z. absurd (omega (arith, w .0, w .3)); high = omega (arith, w .1, w .3); last = λ z. w .2 (omega (arith, w .3)) })
-    (follows-cases r b f)
-
-shape-step : (r : Reader) (b : ℕ) → Shape r → Shape (step r b)
-unfolding step outside inside refused
-shape-step r b h = go (r .broken) (eqb (r .left) 0) (follows r b) refl refl
-  where
-    go :
-        (t u f : Bool) → eqb (r .left) 0 ≡ u → follows r b ≡ f
-        → Shape (pick t (λ _. r) (λ _. pick u (λ _. pick f (λ _. begun r b) (λ _. refused r)) (λ _. inside r b)))
-    go true u f p q = h
-    go false true true p q = shape-begun r b q
-    go false true false p q = record { low = h .low; high = h .high; last = h .last }
-    go false false f p q = record { low = λ e. omega (arith, h .low e); high = h .high; last = λ e. omega (arith, h .last e) }
-
-shape-steps : (s : List ℕ) (r : Reader) → Shape r → Shape (steps r s)
-unfolding steps
-shape-steps [] r h = h
-shape-steps (b ∷ s) r h = shape-steps s (step r b) (shape-step r b h)
 
 record Ending (r : Reader) : Type 0 where
   rest : List ℕ
   bytes : Bytes rest
   ends : Ended (steps r rest)
 
-five : (r : Reader) → r .broken ≡ false → r .left ≡ 0 → 1 ≤ r .stage → r .stage < 5 → Ending r
+five : (r : Reader) → broken r ≡ false → r .left ≡ 0 → 1 ≤ r .stage → r .stage < 5 → Ending r
 unfolding steps outside roomLeft begun opens
 five r e z l h =
     let i : step r 5 ≡ begun r 5 = step-outside r 5 e z ∙ rw (kind-follows r 5 l (omega arith) (lt-ltb (r .stage) 5 h)) in
-    record { rest = 5 ∷ []; bytes = (omega arith, tt); ends = subst Ended (sym i) (record { broken = refl; stage = refl }) }
+    record { rest = 5 ∷ []; bytes = (omega arith, tt); ends = subst Ended (sym i) (record { unbroken = refl; stage = refl }) }
 
 bytes-both : (a : List ℕ) → Bytes a → (b : List ℕ) → Bytes b → Bytes (a ++ b)
 bytes-both [] p b q = q
@@ -140,12 +104,12 @@ after {r} {n} s h e f =
       ends = subst Ended (sym (steps-append s (f .rest) r ∙ ap (λ (m : Reader). steps m (f .rest)) e)) (f .ends);
     }
 
-between : (r : Reader) → r .broken ≡ false → r .left ≡ 0 → r .stage ≤ 5 → Ending r
+between : (r : Reader) → broken r ≡ false → r .left ≡ 0 → r .stage ≤ 5 → Ending r
 unfolding steps outside follows opens begun sizeOf
 between r e z h = ⊎-elim first (λ d. ⊎-elim last (λ d'. five r e z (omega (arith, d)) (omega (arith, d'))) (eq-or-ne (r .stage) 5)) (eq-or-ne (r .stage) 0)
   where
     last : r .stage ≡ 5 → Ending r
-    last q = record { rest = []; bytes = tt; ends = record { broken = e; stage = q } }
+    last q = record { rest = []; bytes = tt; ends = record { unbroken = e; stage = q } }
 
     first : r .stage ≡ 0 → Ending r
     first q =
@@ -156,34 +120,31 @@ zeros : (n : ℕ) → Bytes (replicate n 0)
 zeros zero = tt
 zeros (suc n) = (omega arith, zeros n)
 
-ending : (r : Reader) → r .broken ≡ false → Shape r → Ending r
-ending r e h =
+ending : (r : Reader) → broken r ≡ false → Ok r → Ending r
+ending r e o =
     let t : List ℕ = replicate (r .left) 0 in
     let l : length t ≡ r .left = length-replicate (r .left) 0 in
     let p = partway t r e (omega arith) in
-    after t (zeros (r .left)) refl (between (steps r t) (p .broken) (omega (arith, p .left)) (omega (arith, p .stage, h .high)))
+    after t (zeros (r .left)) refl (between (steps r t) (p .unbroken) (omega (arith, p .left)) (omega (arith, p .stage, o .stage)))
 
 -- ---- the theorem
 
-shape-start : Shape start
-shape-start = record { low = λ z. refl; high = omega arith; last = λ z. refl }
-
-begins-so : (s : List ℕ) → Bytes s → steps start s .broken ≡ false → StartsForm s
+begins-so : (s : List ℕ) → Bytes s → broken (steps start s) ≡ false → StartsForm s
 begins-so s h e =
-    let x = ending (steps start s) e (shape-steps s start shape-start) in
+    let x = ending (steps start s) e (ok-steps s start ok-start) in
     record {
       rest = x .rest;
       form = only-forms (s ++ x .rest) (bytes-both s h (x .rest) (x .bytes)) (subst Ended (sym (steps-append s (x .rest) start)) (x .ends));
     }
 
 -- what is refused stays so, whatever follows
-never-begins : (s : List ℕ) → steps start s .broken ≡ true → StartsForm s → ⊥
+never-begins : (s : List ℕ) → broken (steps start s) ≡ true → StartsForm s → ⊥
 never-begins s e f =
     true-false
-    (sym (ap (λ (n : Reader). n .broken) (steps-append s (f .rest) start ∙ steps-broken (f .rest) (steps start s) e) ∙ e)
-    ∙ accepts (s ++ f .rest) (f .form) .broken)
+    (sym (ap broken (steps-append s (f .rest) start ∙ steps-broken (f .rest) (steps start s) e) ∙ e)
+    ∙ accepts (s ++ f .rest) (f .form) .unbroken)
 
-refused-place : (s : List ℕ) → Bytes s → steps start s .broken ≡ true → Place s (steps start s .at)
+refused-place : (s : List ℕ) → Bytes s → broken (steps start s) ≡ true → Place s (steps start s .at)
 refused-place s h e = go (stop s start refl e)
   where
     go : Stop start s → Place s (steps start s .at)
@@ -199,7 +160,7 @@ refused-place s h e = go (stop s start refl e)
           ended = λ l f. absurd (omega (arith, t .within));
         })
 
-unended-place : (s : List ℕ) → Bytes s → steps start s .broken ≡ false → steps start s .stage ≢ 5 → Place s (steps start s .at)
+unended-place : (s : List ℕ) → Bytes s → broken (steps start s) ≡ false → steps start s .stage ≢ 5 → Place s (steps start s .at)
 unended-place s h e d =
     let k : steps start s .at ≡ length s = omega (arith, taken-all s start refl e) in
     subst (Place s) (sym k)
@@ -215,10 +176,10 @@ broken-at a b e = cc
 
 pub refused-at : (s : List ℕ) → Bytes s → (k : ℕ) → verdict (steps start s) ≡ Broken k → Place s k
 unfolding verdict
-refused-at s h k e = go (steps start s .broken) (eqb (steps start s .stage) 5) refl refl e
+refused-at s h k e = go (broken (steps start s)) (eqb (steps start s .stage) 5) refl refl e
   where
     go :
-        (t u : Bool) → steps start s .broken ≡ t → eqb (steps start s .stage) 5 ≡ u
+        (t u : Bool) → broken (steps start s) ≡ t → eqb (steps start s .stage) 5 ≡ u
         → pick t (λ _. Broken (steps start s .at)) (λ _. pick u
         (λ _. Sound (steps start s .sites) (steps start s .triangles) (steps start s .hull) (steps start s .clip)) (λ _. Broken (steps start s .at))) ≡ Broken k
         → Place s k

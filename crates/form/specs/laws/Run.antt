@@ -12,7 +12,7 @@ use Rattle.octets.specs.Bytes.{le}
 use Rattle.form_step.specs.Register.{shifts}
 use Rattle.form.specs.Form.{Outline, box, unclipped, edges, Site, Triangle, outlineBytes, siteBytes, triangleBytes, hullBytes, OutlineFits, SiteFits}
 use Rattle.form.specs.Form.{TriangleFits, HullFits, outlineFloats, siteFloats, triangleSites, trianglePairs, kindOf}
-use Rattle.form_step.specs.Reader.{sizeOf, opens, roomLeft, follows, start, begun, tally, inside, outside, step, steps, within, putFloat, putLink}
+use Rattle.form_step.specs.Reader.{sizeOf, opens, roomLeft, follows, broken, start, begun, tally, inside, outside, step, steps, within, putFloat, putLink}
 use Rattle.form_step.specs.Reader.{boundsBy, sitesBy, trianglesBy, halfedgesBy, hullBy, Reading, reading, take, takes}
 use Rattle.form.specs.laws.Fill.{take-outside}
 use Rattle.octets.specs.laws.Bytes.{bytes-le}
@@ -39,7 +39,7 @@ amid stage left w at u n m h =
       left = left;
       word = w;
       at = at;
-      broken = false;
+      refusal = 0;
       clip = u;
       sites = n;
       triangles = m;
@@ -98,14 +98,14 @@ module _ (w at u n m h : ℕ) (bs ss : List Float) (ts es hs : List ℕ) where
 
 -- between two records, the last of which was at most of kind k
 pub record AtRecord (r : Reader) (k : ℕ) : Type 0 where
-  pub broken : r .broken ≡ false
+  pub unbroken : broken r ≡ false
   pub left : r .left ≡ 0
   pub low : 1 ≤ r .stage
   pub high : r .stage ≤ k
   pub word : r .word < 2 ^ 64
 
 pub ready-up : {r : Reader} {k : ℕ} (n : ℕ) → k ≤ n → AtRecord r k → AtRecord r n
-ready-up n l q = record { broken = q .broken; left = q .left; low = q .low; high = omega (arith, q .high); word = q .word }
+ready-up n l q = record { unbroken = q .unbroken; left = q .left; low = q .low; high = omega (arith, q .high); word = q .word }
 
 -- n is that after a sites, b triangles and c hull sites more
 pub record Ran (r n : Reader) (k a b c : ℕ) : Type 0 where
@@ -144,7 +144,7 @@ there :
     → Ran r (amid k 0 w at (r .clip) n m h) k a b c
 there r k w at n m h a b c l e p q s =
     record {
-      ready = record { broken = refl; left = refl; low = l; high = omega arith; word = e };
+      ready = record { unbroken = refl; left = refl; low = l; high = omega arith; word = e };
       clip = refl;
       sites = p;
       triangles = q;
@@ -152,7 +152,7 @@ there r k w at n m h a b c l e p q s =
     }
 
 module _ (r : Reader) (bs ss : List Float) (ts es hs : List ℕ) where
-  pub kind-run : (k : ℕ) (s : List ℕ) → r .broken ≡ false → r .left ≡ 0 → follows r k ≡ true
+  pub kind-run : (k : ℕ) (s : List ℕ) → broken r ≡ false → r .left ≡ 0 → follows r k ≡ true
       → takes (reading r bs ss ts es hs) (k ∷ s) ≡ takes (reading (begun r k) bs ss ts es hs) s
   unfolding takes outside
   kind-run k s e z f =
@@ -173,7 +173,7 @@ module _ (r : Reader) (bs ss : List Float) (ts es hs : List ℕ) where
         to = to;
         ran = there r 2 (shifts (shifts w (le 8 x)) (le 8 y)) at (n + 1) (r .triangles) (r .hull) 1 0 0 (omega arith) (rw e₂ (fit .1)) refl (omega arith) (omega arith);
         lists =
-            kind-run 2 _ (q .broken) (q .left) (kind-follows r 2 (q .low) (q .high) (lt-ltb n 96 l))
+            kind-run 2 _ (q .unbroken) (q .left) (kind-follows r 2 (q .low) (q .high) (lt-ltb n 96 l))
             ∙ site-body w (r .at + 1) (r .clip) n (r .triangles) (r .hull) bs ss ts es hs x y
             ∙ ap (λ (z : List Float). reading to bs z ts es hs) (set-two ss (omega arith) (ap (ofBits binary64) e₁) (omega arith) (ap (ofBits binary64) e₂));
       }
@@ -203,7 +203,7 @@ module _ (r : Reader) (bs ss : List Float) (ts es hs : List ℕ) where
         to = to;
         ran = there r 3 w₆ at (r .sites) (m + 1) (r .hull) 0 1 0 (omega arith) s₆ (omega arith) refl (omega arith);
         lists =
-            kind-run 3 _ (q .broken) (q .left) (kind-follows r 3 (q .low) (q .high) (lt-ltb m 192 l))
+            kind-run 3 _ (q .unbroken) (q .left) (kind-follows r 3 (q .low) (q .high) (lt-ltb m 192 l))
             ∙ triangle-body (r .word) (r .at + 1) (r .clip) (r .sites) m (r .hull) bs ss ts es hs (t .a) (t .b) (t .c) (t .pair-a) (t .pair-b) (t .pair-c)
             ∙ ap₂ (λ (z z' : List ℕ). reading to bs ss z z' hs)
             (set-three ts (omega arith) (last-four (r .word) (q .word) (t .a) (fit .0)) (omega arith) (last-four w₁ s₁ (t .b) (fit .1)) (omega arith) (last-four w₂ s₂ (t .c) (fit .2)))
@@ -222,7 +222,7 @@ module _ (r : Reader) (bs ss : List Float) (ts es hs : List ℕ) where
         to = to;
         ran = there r 4 w₁ at (r .sites) (r .triangles) (h + 1) 0 0 1 (omega arith) s₁ (omega arith) (omega arith) refl;
         lists =
-            kind-run 4 _ (q .broken) (q .left) (kind-follows r 4 (q .low) (q .high) (lt-ltb h 96 l))
+            kind-run 4 _ (q .unbroken) (q .left) (kind-follows r 4 (q .low) (q .high) (lt-ltb h 96 l))
             ∙ hull-body (r .word) (r .at + 1) (r .clip) (r .sites) (r .triangles) h bs ss ts es hs v
             ∙ ap₂ (λ (i x : ℕ). reading to bs ss ts es (set hs i x)) (omega arith) (last-four (r .word) (q .word) v fit);
       }
@@ -243,7 +243,7 @@ pub record Opening (c : Outline) (bs ss : List Float) (ts es hs : List ℕ) : Ty
 opened : (c : Outline) (k w at : ℕ) → kindOf c ≡ k → w < 2 ^ 64 → Opens (amid 1 0 w at k 0 0 0) c
 opened c k w at i h =
     record {
-      ready = record { broken = refl; left = refl; low = omega arith; high = omega arith; word = h };
+      ready = record { unbroken = refl; left = refl; low = omega arith; high = omega arith; word = h };
       clip = sym i;
       sites = refl;
       triangles = refl;

@@ -8,7 +8,7 @@ use native.Mathlib.Omega.{arith}
 use lib.ListN.{length}
 use Rattle.octets.specs.Bytes.{Bytes, each, All}
 use Rattle.form.specs.Form.{Site, Triangle, SiteFits, TriangleFits, HullFits, siteBytes, triangleBytes, hullBytes}
-use Rattle.form_step.specs.Reader.{sizeOf, opens, follows, refused, begun, outside, step, steps, Reading, reading}
+use Rattle.form_step.specs.Reader.{sizeOf, opens, follows, broken, refused, begun, outside, step, steps, Reading, reading}
 use Rattle.form_step.specs.laws.Steps.{RecordKind, site, triangle, hull, end, follows-cases, step-outside}
 use Rattle.form.specs.laws.Run.{AtRecord, Ran, Goes, ready-up, takes-reader, site-run, triangle-run, hull-run}
 use Rattle.form.specs.laws.Cut.{Ended, CutOff, steps-append, steps-broken, true-false, partway, body-there, cut-site, cut-triangle, cut-hull}
@@ -49,7 +49,7 @@ module _ {r : Reader} {k a b c : ℕ} (s : List ℕ) (g : Goes r k a b c [] [] [
 module _ (r : Reader) (k : ℕ) (q : AtRecord r 4) (f : follows r k ≡ true) where
   begins : (t : List ℕ) → steps r (k ∷ t) ≡ steps (begun r k) t
   unfolding steps outside
-  begins t = ap (λ (n : Reader). steps n t) (step-outside r k (q .broken) (q .left) ∙ rw f)
+  begins t = ap (λ (n : Reader). steps n t) (step-outside r k (q .unbroken) (q .left) ∙ rw f)
 
   stage-of : (s : List ℕ) → length s ≤ begun r k .left → steps r (k ∷ s) .stage ≡ begun r k .stage
   unfolding begun
@@ -133,7 +133,7 @@ module _ (n : ℕ) (below : Below n) (r : Reader) (t : List ℕ) (l : length t �
     where
       go : CutOff siteBytes SiteFits 2 t → Tail r (2 ∷ t)
       go x =
-          let g = site-run r [] [] [] [] [] (x .value) (x .fits) (record { broken = q .broken; left = q .left; low = q .low; high = o; word = q .word }) m in
+          let g = site-run r [] [] [] [] [] (x .value) (x .fits) (record { unbroken = q .unbroken; left = q .left; low = q .low; high = o; word = q .word }) m in
           site-before r t w x (g .to) (g .ran) o
           (below (g .to) (x .rest) (omega (arith, x .shorter)) (x .bytes) (ready-up 4 (omega arith) (g .ran .ready))
           (few-on (g .ran) (omega arith) (omega (arith, w .triangles)) (omega (arith, w .hull)))
@@ -145,7 +145,7 @@ module _ (n : ℕ) (below : Below n) (r : Reader) (t : List ℕ) (l : length t �
     where
       go : CutOff triangleBytes TriangleFits 3 t → Tail r (3 ∷ t)
       go x =
-          let g = triangle-run r [] [] [] [] [] (x .value) (x .fits) (record { broken = q .broken; left = q .left; low = q .low; high = o; word = q .word }) m in
+          let g = triangle-run r [] [] [] [] [] (x .value) (x .fits) (record { unbroken = q .unbroken; left = q .left; low = q .low; high = o; word = q .word }) m in
           let i : g .to .stage ≡ 3 = sym (ap (λ (y : Reader). y .stage) (goes-to (triangleBytes (x .value)) g)) ∙ stage-of r 3 q f _ (omega arith) in
           triangle-before r t w x (g .to) (g .ran) i o
           (below (g .to) (x .rest) (omega (arith, x .shorter)) (x .bytes) (ready-up 4 (omega arith) (g .ran .ready))
@@ -183,7 +183,7 @@ after-end r b e = go (follows r b) refl
 
 pub refused-ends : (r : Reader) (t : List ℕ) → Ended (steps (refused r) t) → ⊥
 unfolding refused
-refused-ends r t e = true-false (sym (ap (λ (n : Reader). n .broken) (steps-broken t (refused r) refl)) ∙ e .broken)
+refused-ends r t e = true-false (sym (ap broken (steps-broken t (refused r) refl)) ∙ e .unbroken)
 
 end-tail : (r : Reader) (t : List ℕ) → AtRecord r 4 → FewRecords r → follows r 5 ≡ true → Ended (steps r (5 ∷ t)) → Tail r (5 ∷ t)
 unfolding steps begun opens sizeOf outside
@@ -222,7 +222,7 @@ one-more n below r b t l h q w e = go (follows r b) refl
     go : (u : Bool) → follows r b ≡ u → Tail r (b ∷ t)
     go true f = ⊎-elim (λ v. absurd (omega (arith, v .0, q .low))) (λ v. by-kind n below r t l h q w b (v .2) (v .1) f e) (follows-cases r b f)
     go false f =
-        let i : step r b ≡ refused r = step-outside r b (q .broken) (q .left) ∙ rw f in
+        let i : step r b ≡ refused r = step-outside r b (q .unbroken) (q .left) ∙ rw f in
         absurd (refused-ends r t (subst (λ (m : Reader). Ended (steps m t)) i e))
 
 pub tail : (n : ℕ) → Below n

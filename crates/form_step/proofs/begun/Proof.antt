@@ -1,6 +1,8 @@
 -- `form_step::begun` meets its contract, field by field; a kind that opens a form stands where a box would.
 use mathlib.Core.Path.{sym, _∙_}
+use native.Mathlib.Omega.{arith}
 use Rattle.form_step.specs.Reader.{begun}
+use Rattle.form_step.specs.laws.Standing.{at-small}
 use borrow.Author.Needs.{needs}
 use Rattle.form_step.proofs.begun.Statement.{statement}
 use Rattle.form_step.proofs.begun.Tie as tie
@@ -14,4 +16,4 @@ unfolding begun
 returns-2 c = rw (c .before .before .before .size .ensures, sym (c .before .opens .ensures) ∙ c .if1 .left)
 
 pub begun-spec : {M : Type 1} → statement M
-begun-spec = tie.close (tie.spec (λ c κs. search needs) (λ c. search needs) (λ c κs. search needs) returns returns-2)
+begun-spec = tie.close (tie.spec (λ c κs. search needs) (λ c. omega (arith, at-small (c .before .before .pre))) (λ c κs. search needs) returns returns-2)

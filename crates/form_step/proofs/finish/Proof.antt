@@ -1,20 +1,27 @@
--- `form_step::finish` meets its contract: each `return` is one of the definition's cases.
-use borrow.Author.Tests.{ne-eqb}
-use Rattle.form_step.specs.Reader.{verdict}
+-- `form_step::finish` meets its contract: it tells what the finished state is.
+use mathlib.Core.Path.{_≡_, sym, ap, _∙_}
+use mathlib.Core.Bool.{true, false}
+use native.Mathlib.Omega.{arith}
+use borrow.Author.Tests.{ne-eqb, eq-eqb}
+use Rattle.form_step.specs.Reader.{broken}
+use Rattle.form_step.specs.laws.Steps.{verdict-broken, verdict-sound}
+use Rattle.form_step.specs.laws.Standing.{clip-small, ok-finished}
+use borrow.Author.Needs.{needs}
 use Rattle.form_step.proofs.finish.Statement.{statement}
 use Rattle.form_step.proofs.finish.Tie as tie
 
 returns : tie.Need-returns
-unfolding verdict
-returns c = rw (c .if1 .taken)
+returns c =
+    let k = c .before .before .finished in
+    let e : broken (k .result) ≡ true = rw (ne-eqb _ _ (c .if1 .taken)) in
+    rw (k .ensures) (sym (verdict-broken (c .before .before .before .args .r) (sym (ap broken (k .ensures)) ∙ e)))
 
 returns-2 : tie.Need-returns-2
-unfolding verdict
-returns-2 c = rw (c .before .before .if1 .left, c .if2 .taken)
-
-returns-3 : tie.Need-returns-3
-unfolding verdict
-returns-3 c = rw (c .before .before .if1 .left, ne-eqb _ _ (c .if2 .left))
+returns-2 c =
+    let k = c .before .before .before .finished in
+    let e : broken (k .result) ≡ false = rw (eq-eqb _ _ (c .before .if1 .left)) in
+    rw (k .ensures) (sym (verdict-sound (c .before .before .before .before .args .r) (sym (ap broken (k .ensures)) ∙ e)))
 
 pub finish-spec : {M : Type 1} → statement M
-finish-spec = tie.close (tie.spec returns returns-2 returns-3)
+finish-spec = tie.close (tie.spec (λ c κs. search needs) returns
+    (λ c. rw (c .before .before .before .finished .ensures) (omega (arith, clip-small (ok-finished _ (c .before .before .before .before .pre))))) returns-2)

@@ -1,5 +1,7 @@
 -- `form_step::inside` meets its contract, field by field.
+use native.Mathlib.Omega.{arith}
 use Rattle.form_step.specs.Reader.{inside}
+use Rattle.form_step.specs.laws.Standing.{at-small, few-counts}
 use borrow.Author.Needs.{needs}
 use Rattle.form_step.proofs.inside.Statement.{statement}
 use Rattle.form_step.proofs.inside.Tie as tie
@@ -8,8 +10,17 @@ returns : tie.Need-returns
 unfolding inside
 returns c = cc
 
+tally-requires : tie.Need-tally-requires
+tally-requires c κs = let n = few-counts (c .before .before .before .pre .0) in omega arith
+
+tally-requires-2 : tie.Need-tally-requires-2
+tally-requires-2 c κs = let n = few-counts (c .before .before .before .before .pre .0) in omega arith
+
+tally-requires-3 : tie.Need-tally-requires-3
+tally-requires-3 c κs = let n = few-counts (c .before .before .before .before .before .pre .0) in omega arith
+
 pub inside-spec : {M : Type 1} → statement M
 inside-spec =
     tie.close
-    (tie.spec (λ c. search needs) (λ c κs. search needs) (λ c. search needs) (λ c κs. search needs)
-    (λ c κs. search needs) (λ c κs. search needs) returns)
+    (tie.spec (λ c. search needs) (λ c κs. search needs) (λ c. omega (arith, at-small (c .before .before .before .pre .0))) tally-requires tally-requires-2 tally-requires-3
+    returns)

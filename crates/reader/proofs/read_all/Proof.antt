@@ -1,0 +1,33 @@
+-- `reader::read_all` meets its contract: the start takes the bytes, and is finished and report.
+use mathlib.Core.Path.{ap, _∙_}
+use denote.Ref.{now}
+use Rattle.form_step.specs.Reader.{reading, takes}
+use Rattle.form_step.specs.laws.Standing.{ok-start, ok-finished}
+use Rattle.form_step.specs.declared.Reader.{Reader}
+use Rattle.reader.specs.Calls.{readBy}
+use borrow.Author.Needs.{needs}
+use Rattle.reader.proofs.read_all.Statement.{statement}
+use Rattle.reader.proofs.read_all.Tie as tie
+
+feed-requires : tie.Need-feed-requires
+feed-requires c κs = (rw (c .before .before .before .before .before .start .ensures) ok-start, c .before .before .before .before .before .before .before .before .before .before .before .before .pre)
+
+reported-requires : tie.Need-reported-requires
+reported-requires c κs = rw (c .finished .ensures) (ok-finished _ (c .before .before .before .before .before .before .before .before .before .before .before .feed .ensures .1))
+
+returns : tie.Need-returns
+returns c =
+    let at-feed = c .before .before .before .before .before .before .before .before .before .before .before .before in
+    let at-start = at-feed .before .before .before .before .before .before in
+    let a = at-start .before .before .before .before .before .before .before .args in
+    rw (c .reported .ensures, c .before .finished .ensures)
+    (ap readBy
+    (at-feed .feed .ensures .0
+    ∙ ap (λ (r : Reader). takes (reading r (now (a .bounds)) (now (a .sites)) (now (a .triangles)) (now (a .halfedges)) (now (a .hull))) (now (a .form)))
+    (at-start .start .ensures)))
+
+pub read-all-spec : {M : Type 1} → statement M
+read-all-spec =
+    tie.close
+    (tie.spec (λ c κs. search needs) feed-requires (λ c κs. search needs) reported-requires (λ c. search needs) (λ c. search needs) (λ c. search needs)
+    (λ c. search needs) (λ c. search needs) returns)

@@ -1,0 +1,40 @@
+-- `reader::try_read` meets its contract: the rooms are tried first.
+use mathlib.Core.Path.{sym, ap, _∙_}
+use denote.Ref.{now}
+use Rattle.reader.specs.Calls.{formLists, readForm}
+use Rattle.reader.specs.laws.Calls.{read-close, read-wide}
+use Rattle.reader.specs.laws.Lengths.{roomy-told}
+use Rattle.reader.specs.declared.Report.{Report}
+use borrow.Author.Needs.{needs}
+use Rattle.reader.proofs.try_read.Statement.{statement}
+use Rattle.reader.proofs.try_read.Tie as tie
+
+read-all-requires : tie.Need-read-all-requires
+read-all-requires c κs =
+    let at-roomy = c .before .before .before .before .before .before in
+    let a = at-roomy .before .before .before .before .before .before .before .before .before .before .before .before .args in
+    roomy-told (formLists (now (a .bounds)) (now (a .sites)) (now (a .triangles)) (now (a .halfedges)) (now (a .hull)))
+    (sym (at-roomy .roomy .ensures) ∙ c .before .before .before .before .before .if1 .taken)
+
+returns : tie.Need-returns
+returns c =
+    let at-all = c .before .before .before .before .before .before .before .before .before .before in
+    let at-roomy = at-all .before .before .before .before .before .before .before in
+    let a = at-roomy .before .before .before .before .before .before .before .before .before .before .before .before .args in
+    at-all .read-all .ensures
+    ∙ sym (read-wide (formLists (now (a .bounds)) (now (a .sites)) (now (a .triangles)) (now (a .halfedges)) (now (a .hull))) (now (a .form))
+    (sym (at-roomy .roomy .ensures) ∙ at-all .before .before .before .before .before .before .if1 .taken))
+
+returns-2 : tie.Need-returns-2
+returns-2 c =
+    let at-roomy = c .before .before in
+    let a = at-roomy .before .before .before .before .before .before .before .before .before .before .before .before .args in
+    ap (λ (x : Report). readForm x (formLists (now (a .bounds)) (now (a .sites)) (now (a .triangles)) (now (a .halfedges)) (now (a .hull)))) (c .no-report .ensures)
+    ∙ sym (read-close (formLists (now (a .bounds)) (now (a .sites)) (now (a .triangles)) (now (a .halfedges)) (now (a .hull))) (now (a .form)) (sym (at-roomy .roomy .ensures) ∙ c .before .if1 .left))
+
+pub try-read-spec : {M : Type 1} → statement M
+try-read-spec =
+    tie.close
+    (tie.spec (λ c κs. search needs) read-all-requires (λ c. search needs) (λ c. search needs) (λ c. search needs) (λ c. search needs)
+    (λ c. search needs) returns (λ c κs. search needs) (λ c. search needs) (λ c. search needs) (λ c. search needs) (λ c. search needs)
+    (λ c. search needs) returns-2)

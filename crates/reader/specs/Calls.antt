@@ -1,0 +1,133 @@
+-- What the calls on a form that arrives in parts answer, and what they leave in the state and the formLists. Definitions only.
+use mathlib.Core.Bool.{Bool, false}
+use mathlib.Core.List.{List}
+use Prim.Native.Nat.{ℕ}
+use lib.Dec.{ltb, leb}
+use lib.Ieee.{Float}
+use lib.ListN.{length, replicate}
+use Rattle.laws.specs.Pick.{pick}
+use Rattle.numbers.specs.Numbers.{refusedRoom}
+use Rattle.form_step.specs.Reader.{Reading, reading, broken, start, finished, takes}
+use Rattle.form_step.specs.declared.Reader.{Reader}
+use Rattle.reader_state.specs.Words.{stored}
+use Rattle.reader_state.specs.Stands.{entered}
+use Rattle.reader.specs.declared.Answer.{Answer}
+use Rattle.reader.specs.declared.Report.{Report}
+
+-- the byte of no refusal
+abbrev pub nowhere : ℕ
+nowhere = 18446744073709551615
+
+-- the lent formLists
+pub record FormLists : Type 0 where
+  pub bounds : List Float
+  pub sites : List Float
+  pub triangles : List ℕ
+  pub halfedges : List ℕ
+  pub hull : List ℕ
+
+abbrev pub formLists : List Float → List Float → List ℕ → List ℕ → List ℕ → FormLists
+formLists bs ss ts es hs = record { bounds = bs; sites = ss; triangles = ts; halfedges = es; hull = hs }
+
+abbrev pub readingOf : Reader → FormLists → Reading
+readingOf r l = reading r (l .bounds) (l .sites) (l .triangles) (l .halfedges) (l .hull)
+
+abbrev pub listsOf : Reading → FormLists
+listsOf d = formLists (d .bounds) (d .sites) (d .triangles) (d .halfedges) (d .hull)
+
+-- each has the room of the largest form
+unfoldable pub roomy : FormLists → Bool
+roomy l =
+    pick (ltb (length (l .bounds)) 4) (λ _. false)
+    (λ _. pick (ltb (length (l .sites)) 192) (λ _. false)
+    (λ _. pick (ltb (length (l .triangles)) 576) (λ _. false)
+    (λ _. pick (ltb (length (l .halfedges)) 576) (λ _. false) (λ _. leb 96 (length (l .hull))))))
+
+-- ---- what a state answers
+
+abbrev pub noRefusal : Answer
+noRefusal = record { number = 0; at = nowhere }
+
+abbrev pub refusedAt : Reader → Answer
+refusedAt r = record { number = r .refusal; at = r .at }
+
+unfoldable pub answerOf : Reader → Answer
+answerOf r = pick (broken r) (λ _. refusedAt r) (λ _. noRefusal)
+
+-- where no more comes: the counts too
+abbrev pub soundReport : Reader → Report
+soundReport r = record { number = 0; at = nowhere; clip = r .clip; sites = r .sites; triangles = r .triangles; hull = r .hull }
+
+abbrev pub refusedReport : Reader → Report
+refusedReport r = record { number = r .refusal; at = r .at; clip = 0; sites = 0; triangles = 0; hull = 0 }
+
+unfoldable pub reportOf : Reader → Report
+reportOf r = pick (broken r) (λ _. refusedReport r) (λ _. soundReport r)
+
+abbrev pub noRoom : Answer
+noRoom = record { number = refusedRoom; at = nowhere }
+
+abbrev pub noReport : Report
+noReport = record { number = refusedRoom; at = nowhere; clip = 0; sites = 0; triangles = 0; hull = 0 }
+
+-- ---- begin
+
+-- the number, and the words of the state
+pub record AtBegin : Type 0 where
+  pub number : ℕ
+  pub words : List ℕ
+
+abbrev pub beginning : List ℕ → List ℕ
+beginning ws = stored (replicate (length ws) 0) start
+
+unfoldable pub beginCall : List ℕ → AtBegin
+beginCall ws =
+    pick (ltb (length ws) 16) (λ _. record { number = refusedRoom; words = ws }) (λ _. record { number = 0; words = beginning ws })
+
+-- ---- feed
+
+pub record AtFeed : Type 0 where
+  pub answer : Answer
+  pub words : List ℕ
+  pub formLists : FormLists
+
+abbrev pub fed : Answer → List ℕ → FormLists → AtFeed
+fed a ws l = record { answer = a; words = ws; formLists = l }
+
+abbrev pub fedBy : List ℕ → Reading → AtFeed
+fedBy ws d = fed (answerOf (d .reader)) (stored ws (d .reader)) (listsOf d)
+
+unfoldable pub feedCall : List ℕ → FormLists → List ℕ → AtFeed
+feedCall ws l s =
+    pick (ltb (length ws) 16) (λ _. fed noRoom ws l)
+    (λ _. pick (roomy l) (λ _. fedBy ws (takes (readingOf (entered ws) l) s)) (λ _. fed noRoom ws l))
+
+-- ---- end
+
+pub record AtEnd : Type 0 where
+  pub report : Report
+  pub words : List ℕ
+
+abbrev pub ended : Report → List ℕ → AtEnd
+ended a ws = record { report = a; words = ws }
+
+abbrev pub endedBy : List ℕ → AtEnd
+endedBy ws = ended (reportOf (finished (entered ws))) (stored ws (finished (entered ws)))
+
+unfoldable pub endCall : List ℕ → AtEnd
+endCall ws = pick (ltb (length ws) 16) (λ _. ended noReport ws) (λ _. endedBy ws)
+
+-- ---- the whole form
+
+pub record AtRead : Type 0 where
+  pub report : Report
+  pub formLists : FormLists
+
+abbrev pub readForm : Report → FormLists → AtRead
+readForm a l = record { report = a; formLists = l }
+
+abbrev pub readBy : Reading → AtRead
+readBy d = readForm (reportOf (finished (d .reader))) (listsOf d)
+
+unfoldable pub readCall : FormLists → List ℕ → AtRead
+readCall l s = pick (roomy l) (λ _. readBy (takes (readingOf start l) s)) (λ _. readForm noReport l)

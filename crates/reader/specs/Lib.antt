@@ -1,0 +1,7 @@
+-- The root of the crate's definitions.
+pub mod Calls
+pub mod Promise
+pub mod One
+pub mod Cuttings
+pub mod Exact
+pub mod laws

@@ -1,0 +1,3 @@
+-- Laws that only proofs use.
+pub mod Calls
+pub mod Lengths

@@ -1,0 +1,74 @@
+-- The calls' cases as equations, and a state's room and state after a call.
+use mathlib.Core.Path.{_≡_, refl, sym, ap, _∙_}
+use mathlib.Core.Bool.{true, false}
+use mathlib.Core.List.{List, [], _∷_}
+use mathlib.Core.Logic.{⊎-elim}
+use Prim.Native.Nat.{ℕ, _≤_}
+use native.Mathlib.Omega.{arith}
+use lib.Dec.{ltb}
+use lib.ListN.{length}
+use Rattle.form_step.specs.Reader.{Reading, broken, start, takes}
+use Rattle.form_step.specs.Standing.{Ok}
+use Rattle.form_step.specs.laws.Standing.{ok-steps}
+use Rattle.form.specs.laws.Run.{takes-reader}
+use Rattle.form.specs.laws.Fill.{take-broken}
+use Rattle.form_step.specs.declared.Reader.{Reader}
+use Rattle.reader_state.specs.Stands.{entered}
+use Rattle.reader.specs.Calls.{FormLists, readingOf, roomy, noRefusal, refusedAt, answerOf, soundReport, refusedReport, reportOf, noRoom, noReport}
+use Rattle.reader.specs.Calls.{fed, fedBy, feedCall, endedBy, endCall, readForm, readBy, readCall}
+
+module _ (ws : List ℕ) (l : FormLists) (s : List ℕ) where
+  pub feed-short : ltb (length ws) 16 ≡ true → feedCall ws l s ≡ fed noRoom ws l
+  unfolding feedCall
+  feed-short e = rw e
+
+  pub feed-close : ltb (length ws) 16 ≡ false → roomy l ≡ false → feedCall ws l s ≡ fed noRoom ws l
+  unfolding feedCall
+  feed-close e f = rw (e, f)
+
+  pub feed-wide : ltb (length ws) 16 ≡ false → roomy l ≡ true → feedCall ws l s ≡ fedBy ws (takes (readingOf (entered ws) l) s)
+  unfolding feedCall
+  feed-wide e f = rw (e, f)
+
+pub end-wide : (ws : List ℕ) → ltb (length ws) 16 ≡ false → endCall ws ≡ endedBy ws
+unfolding endCall
+end-wide ws e = rw e
+
+pub read-wide : (l : FormLists) (s : List ℕ) → roomy l ≡ true → readCall l s ≡ readBy (takes (readingOf start l) s)
+unfolding readCall
+read-wide l s e = rw e
+
+pub read-close : (l : FormLists) (s : List ℕ) → roomy l ≡ false → readCall l s ≡ readForm noReport l
+unfolding readCall
+read-close l s e = rw e
+
+-- bytes lead to a state that its records give
+pub ok-takes : (s : List ℕ) (d : Reading) → Ok (d .reader) → Ok (takes d s .reader)
+ok-takes s d o = rw (takes-reader s d) (ok-steps s (d .reader) o)
+
+-- after a refusal no byte counts
+pub takes-refused : (s : List ℕ) (d : Reading) → broken (d .reader) ≡ true → takes d s ≡ d
+unfolding takes
+takes-refused [] d e = refl
+takes-refused (b ∷ s) d e =
+    ap (λ (x : Reading). takes x s) (sym (take-broken (d .reader) b (d .bounds) (d .sites) (d .triangles) (d .halfedges) (d .hull) e)) ∙ takes-refused s d e
+
+-- what a state answers, by whether a refusal stands
+pub answer-none : (r : Reader) → broken r ≡ false → answerOf r ≡ noRefusal
+unfolding answerOf
+answer-none r e = rw e
+
+pub answer-refused : (r : Reader) → broken r ≡ true → answerOf r ≡ refusedAt r
+unfolding answerOf
+answer-refused r e = rw e
+
+pub report-none : (r : Reader) → broken r ≡ false → reportOf r ≡ soundReport r
+unfolding reportOf
+report-none r e = rw e
+
+pub report-refused : (r : Reader) → broken r ≡ true → reportOf r ≡ refusedReport r
+unfolding reportOf
+report-refused r e = rw e
+
+pub refusal-small : {r : Reader} → Ok r → r .refusal ≤ 17
+refusal-small o = ⊎-elim (λ e. omega arith) (λ e. omega arith) (o .refusal)

@@ -1,0 +1,17 @@
+-- `reader_state::numbered` meets its contract: each `return` is one of the definition's cases.
+use borrow.Author.Tests.{ne-eqb}
+use Rattle.reader_state.specs.Stands.{numbered}
+use borrow.Author.Needs.{needs}
+use Rattle.reader_state.proofs.numbered.Statement.{statement}
+use Rattle.reader_state.proofs.numbered.Tie as tie
+
+returns : tie.Need-returns
+unfolding numbered
+returns c = rw (c .if1 .taken)
+
+returns-2 : tie.Need-returns-2
+unfolding numbered
+returns-2 c = rw (ne-eqb _ _ (c .if1 .left))
+
+pub numbered-spec : {M : Type 1} → statement M
+numbered-spec = tie.close (tie.spec returns (λ c. search needs) returns-2)

@@ -1,0 +1,55 @@
+-- Theorem: a state that bytes lead to is read back from its words as itself, whatever words were there; every other is taken for one refused at byte 0.
+use mathlib.Core.Path.{_≡_, refl, sym, ap, _∙_}
+use mathlib.Core.Bool.{Bool, true, false}
+use mathlib.Core.List.{List, _++_}
+use Prim.Native.Nat.{ℕ, _≤_}
+use lib.ListN.{length, take, drop}
+use lib.Seq.{length-sets}
+use Rattle.laws.specs.Pick.{pick}
+use Rattle.laws.specs.laws.Stores.{sets-all}
+use Rattle.form_step.specs.Reader.{start, refused}
+use Rattle.form_step.specs.Standing.{Ok}
+use Rattle.form_step.specs.laws.Standing.{ok-start, ok-refused}
+use Rattle.form_step.specs.declared.Reader.{Reader}
+use Rattle.reader_state.specs.Words.{wordsOf, readerOf, stored}
+use Rattle.reader_state.specs.Stands.{both, stands, blank, entered}
+use Rattle.reader_state.specs.laws.Stands.{stands-ok, ok-stands, both-true}
+
+pub stored-is : (ws : List ℕ) (r : Reader) → 16 ≤ length ws → stored ws r ≡ wordsOf r ++ drop 16 ws
+unfolding stored
+stored-is ws r h = sets-all (wordsOf r) ws h
+
+pub stored-length : (ws : List ℕ) (r : Reader) → length (stored ws r) ≡ length ws
+unfolding stored
+stored-length ws r = length-sets ws 0 (wordsOf r)
+
+-- what is stored last is there
+pub stored-again : (ws : List ℕ) (r n : Reader) → 16 ≤ length ws → stored (stored ws r) n ≡ stored ws n
+stored-again ws r n h =
+    stored-is (stored ws r) n (rw (stored-length ws r) h)
+    ∙ ap (λ (t : List ℕ). wordsOf n ++ drop 16 t) (stored-is ws r h)
+    ∙ sym (stored-is ws n h)
+
+pub entered-right : (ws : List ℕ) → both (blank (take 7 (drop 9 ws))) (stands (readerOf ws)) ≡ true → entered ws ≡ readerOf ws
+unfolding entered
+entered-right ws e = rw e
+
+pub entered-wrong : (ws : List ℕ) → both (blank (take 7 (drop 9 ws))) (stands (readerOf ws)) ≡ false → entered ws ≡ refused start
+unfolding entered
+entered-wrong ws e = rw e
+
+pub entered-stored : (ws : List ℕ) (r : Reader) → Ok r → 16 ≤ length ws → entered (stored ws r) ≡ r
+unfolding blank
+entered-stored ws r o h =
+    ap entered (stored-is ws r h)
+    ∙ entered-right (wordsOf r ++ drop 16 ws) (both-true _ _ refl (ok-stands r o))
+
+-- a state is what its words say, or refused
+pub ok-entered : (ws : List ℕ) → Ok (entered ws)
+unfolding entered
+ok-entered ws = go (blank (take 7 (drop 9 ws))) (stands (readerOf ws)) refl
+  where
+    go : (t u : Bool) → stands (readerOf ws) ≡ u → Ok (pick (both t u) (λ _. readerOf ws) (λ _. refused start))
+    go true true e = stands-ok (readerOf ws) e
+    go true false e = ok-refused ok-start
+    go false u e = ok-refused ok-start
