@@ -80,7 +80,6 @@ static void cells_share_edge(argument *a) { N(0) = voronoi_cells_share_edge(U(1)
 
 #ifdef HAS_builds
 static void build(argument *a) { N(0) = voronoi_build(BOX(1), MESH(5), SLICES(9)); }
-static void build_unclipped(argument *a) { N(0) = voronoi_build_unclipped(MESH(1), SLICES(5)); }
 static void cell(argument *a) { N(0) = voronoi_cell(U(1), U(2), N(3), PU(4), PU(5)); }
 
 struct instant {
@@ -158,7 +157,7 @@ static const struct {
     {"shared_edge", shared_edge}, {"cells_share_edge", cells_share_edge},
 #endif
 #ifdef HAS_builds
-    {"build", build}, {"build_unclipped", build_unclipped}, {"cell", cell}, {"time_build", time_build},
+    {"build", build}, {"cell", cell}, {"time_build", time_build},
 #endif
 #ifdef HAS_maps
     {"cell_wkb", cell_wkb}, {"cell_wkb_bits", cell_wkb_bits},

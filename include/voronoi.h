@@ -27,7 +27,6 @@
  *   build                    usually N + T (0.3 to 0.9 microseconds a site). At worst the square of N: an added point is searched for among
  *                            all those added before (65,536 sites on a circle: 20 s), and a cell that stays empty is tried again from each
  *                            of its half-edges (one site with 65,535 neighbours: 5 minutes). docs/SPEED.md has the times.
- *   build_unclipped          N + T
  *   why                      as build; where the mesh is refused by 6 to 10 the check is made twice; for a pair the first site's neighbours, and the
  *                            product of the lengths of two cells for each of its first and last */
 #ifndef VORONOI_H
@@ -42,9 +41,9 @@ extern "C" {
 
 /* ---- the version (the file VERSION; CHANGELOG.md says what changed) */
 
-#define VORONOI_VERSION "0.8.0"
+#define VORONOI_VERSION "0.9.0"
 #define VORONOI_VERSION_MAJOR 0
-#define VORONOI_VERSION_MINOR 8
+#define VORONOI_VERSION_MINOR 9
 #define VORONOI_VERSION_PATCH 0
 
 /* ---- numbers */
@@ -108,9 +107,10 @@ extern "C" {
 #define VORONOI_REFUSED_ONE_CROSSING 14 /* an edge with both ends outside finds exactly one crossing */
 /* 15 is not given: it stood for a clipped vertex on no side, and it is proved that there is none (docs/DIFFERENCES.md) */
 #define VORONOI_REFUSED_OFFSETS 16      /* cell offsets not one more than sites, not from 0, falling, or past the list's end */
-#define VORONOI_REFUSED_FORM 17         /* the form is broken */
+#define VORONOI_REFUSED_FORM 17         /* the form is broken (where a form is read) */
 #define VORONOI_REFUSED_ENTRY 18        /* an entry of the cell names no vertex */
 #define VORONOI_REFUSED_TWICE 19        /* an ordered pair of sites has two half-edges (voronoi_mend alone) */
+#define VORONOI_REFUSED_UNCLIPPED 20    /* the form has no box, kind 6: that mode is gone (where a form is read) */
 
 /* A sentence for each number, with no full stop; "no such number" for any other. It is never NULL. */
 static inline const char *voronoi_words(uint32_t number)
@@ -135,6 +135,7 @@ static inline const char *voronoi_words(uint32_t number)
     case VORONOI_REFUSED_FORM: return "the form is broken: a record cut, out of order, or one too many";
     case VORONOI_REFUSED_ENTRY: return "a cell names a vertex that is not there";
     case VORONOI_REFUSED_TWICE: return "two half-edges run the same way between the same two sites";
+    case VORONOI_REFUSED_UNCLIPPED: return "the form has no box: the unclipped mode is gone";
     default: return "no such number";
     }
 }
@@ -276,7 +277,7 @@ uint32_t voronoi_cells_share_edge(const uint32_t *offsets, size_t offsets_len, c
  * lengths: VORONOI_EMPTY, and +0 in vertices. After 0 each holds what follows, then VORONOI_EMPTY or +0 to its end:
  *
  *   work      the leftmost half-edge of each site, as after voronoi_check
- *   vertices  x and y of each vertex: the circumcenters in the triangles' order; of a clipped build then the four corners (top left,
+ *   vertices  x and y of each vertex: the circumcenters in the triangles' order; then the four corners (top left,
  *             bottom left, bottom right, top right) and the points added
  *   indexes   the cells of all sites one after the other, each by its vertices' numbers
  *   offsets   where each site's cell begins in indexes, and where the last one ends
@@ -297,13 +298,6 @@ uint32_t voronoi_build_by_edges(double left, double top, double right, double bo
                                 const uint32_t *hull, size_t hull_len, uint32_t *work, size_t work_len, double *vertices,
                                 size_t vertices_len, uint32_t *indexes, size_t indexes_len, uint32_t *offsets, size_t offsets_len,
                                 uint32_t *counts, size_t counts_len);
-
-/* The cells not clipped: each the walk from the lowest half-edge that ends at its site, reversed, by its triangles' numbers. Tries 1, 2,
- * 6, 7 to 10, 11. The vertices are the circumcenters; the owners are VORONOI_EMPTY, no corner is lost. */
-uint32_t voronoi_build_unclipped(const double *sites, size_t sites_len, const uint32_t *triangles, size_t triangles_len,
-                                 const uint32_t *halfedges, size_t halfedges_len, const uint32_t *hull, size_t hull_len,
-                                 uint32_t *work, size_t work_len, double *vertices, size_t vertices_len, uint32_t *indexes,
-                                 size_t indexes_len, uint32_t *offsets, size_t offsets_len, uint32_t *counts, size_t counts_len);
 
 /* The cell of a site: indexes[*start] and the *length - 1 entries after it. There is a site less than offsets, at least none: lend the
  * offsets of a build without their cleared tail. 4, then 16 on all of them. Refused, *start and *length are 0. */

@@ -16,7 +16,6 @@ int printf(const char *format, ...);
 static double coordinates[64], box[4];
 static uint32_t triangles[64], halfedges[64], hull[64];
 static size_t coordinate_count, entry_count, halfedge_count, hull_count;
-static int unclipped;
 
 static uint32_t work[64], indexes[256], offsets[64], counts[64], table[64];
 static double vertices[256];
@@ -50,7 +49,6 @@ static void set(size_t numbers, const double *points, size_t entries, const uint
     }
     for (size_t i = 0; i < h; i++)
         hull[i] = round[i];
-    unclipped = 0;
     lend();
 }
 
@@ -95,10 +93,6 @@ static uint32_t run(void)
     hold(counts, count_count);
     for (size_t i = 0; i < vertex_numbers + SPARE; i++)
         vertices[i] = HELD;
-    if (unclipped)
-        return voronoi_build_unclipped(coordinates, coordinate_count, triangles, entry_count, halfedges, halfedge_count, hull, hull_count,
-                                       work, work_count, vertices, vertex_numbers, indexes, index_count, offsets, offset_count, counts,
-                                       count_count);
     return voronoi_build(box[0], box[1], box[2], box[3], coordinates, coordinate_count, triangles, entry_count, halfedges,
                          halfedge_count, hull, hull_count, work, work_count, vertices, vertex_numbers, indexes, index_count, offsets,
                          offset_count, counts, count_count);
@@ -181,7 +175,7 @@ static void must_build(const char *what, const uint32_t *starts, const uint32_t 
     tell(what, got, 0, right);
 }
 
-/* ---- accepted: the listing of docs/RULES.md, a fifth site, the unclipped mode, lost corners, empty cells */
+/* ---- accepted: the listing of docs/RULES.md, a fifth site, lost corners, empty cells */
 
 static const double five_points[] = {-.5, -.5, -.5, .5, .5, .5, .5, -.5, 7, 7};
 
@@ -194,11 +188,6 @@ static void listings(void)
     must_build("square", starts, entries, owners, points);
     MESH(five_points, square, square_pairs, square_hull);
     must_build("a fifth, unused site", starts, entries, owners, points);
-
-    static const uint32_t ring_starts[] = {0, 1, 2, 4, 5}, rings[] = {0, 0, 1, 0, 1}, no_owners[] = {2, E, E, E, E, 0};
-    set_square();
-    unclipped = 1;
-    must_build("square, unclipped", ring_starts, rings, no_owners, points);
 
     static const uint32_t lost_starts[] = {0, 3, 7, 11}, lost_entries[] = {0, 1, 9, 0, 9, 3, 8, 0, 8, 4, 1}, lost[] = {10, 2, 0, 1, 2, 1};
     static const double lost_points[] = {.25, .25, -1, -1, -1, 1, 1, 1, 1, -1, -0x1.a577eea39d8fcp32, -0x1.a577eea39d8fcp32,
@@ -226,7 +215,6 @@ static void listings(void)
 #define LENT(what, change, number) \
     do { \
         set_square(); \
-        unclipped = mode; \
         work_count = 4, vertex_numbers = 76, index_count = 60, offset_count = 5, count_count = 6; \
         change; \
         must(what, number); \
@@ -234,22 +222,20 @@ static void listings(void)
 
 static void rooms(void)
 {
-    for (int mode = 0; mode < 2; mode++) {
-        printf(mode ? "rooms, unclipped\n" : "rooms\n");
-        LENT("38 vertices, 60 indexes, 5 offsets, 4 work entries, 6 counts", (void)0, 0);
-        LENT("half a vertex more", vertex_numbers++, 0);
-        LENT("37 vertices", vertex_numbers -= 2, 2);
-        LENT("37 vertices and half a one", vertex_numbers--, 2);
-        LENT("59 indexes", index_count--, 2);
-        LENT("4 offsets", offset_count--, 2);
-        LENT("3 work entries", work_count--, 2);
-        LENT("5 counts", count_count--, 2);
-        LENT("nothing lent", work_count = vertex_numbers = index_count = offset_count = count_count = 0, 2);
-        LENT("59 indexes, for two sites", coordinate_count = 4; index_count--, 1);
-    }
+    printf("rooms\n");
+    LENT("38 vertices, 60 indexes, 5 offsets, 4 work entries, 6 counts", (void)0, 0);
+    LENT("half a vertex more", vertex_numbers++, 0);
+    LENT("37 vertices", vertex_numbers -= 2, 2);
+    LENT("37 vertices and half a one", vertex_numbers--, 2);
+    LENT("59 indexes", index_count--, 2);
+    LENT("4 offsets", offset_count--, 2);
+    LENT("3 work entries", work_count--, 2);
+    LENT("5 counts", count_count--, 2);
+    LENT("nothing lent", work_count = vertex_numbers = index_count = offset_count = count_count = 0, 2);
+    LENT("59 indexes, for two sites", coordinate_count = 4; index_count--, 1);
 }
 
-/* ---- refused builds, by number; the unclipped mode asks for no box and stops at 11 */
+/* ---- refused builds, by number */
 
 static void refusals(void)
 {
@@ -269,13 +255,9 @@ static void refusals(void)
     must("a coordinate above 2^100", 6);
     set_box(0, 0x1p101, 2, 2);
     must("the same in a box that breaks its rule", 3);
-    unclipped = 1;
-    must("the same unclipped", 6);
     set_square();
     triangles[2] = 0;
     must("a first triangle 0 1 0", 7);
-    unclipped = 1;
-    must("the same unclipped", 7);
     set_square();
     halfedges[3] = E;
     must("pairs E E 3, E E E", 8);
@@ -286,23 +268,15 @@ static void refusals(void)
     static const uint32_t sharing[] = {0, 1, 2, 0, 3, 4, 0, 4, 3}, sharing_pairs[] = {E, E, E, 8, 7, 6, 5, 4, 3};
     MESH(five_points, sharing, sharing_pairs, one);
     must("a closed part that shares one site", 10);
-    unclipped = 1;
-    must("the same unclipped", 10);
 
     set_triangle(0, 0, 1, 0, 2, 0);
     must("three sites on a line", 11);
-    unclipped = 1;
-    must("the same unclipped", 11);
     set_triangle(0, 0, 0x1p-540, 0, 0, 1);
     must("a hull edge of 2^-540", 12);
-    unclipped = 1;
-    must("the same unclipped", 0);
     set_triangle(0, 0, 0x1p-537, 0, 0, 1);
     must("a hull edge of 2^-537", 0);
     set_triangle(-.5, 0, .5, .5, .75, .5);
     must("a circumcenter on the top side", 13);
-    unclipped = 1;
-    must("the same unclipped", 0);
     set_square();
     set_box(0, 0, 2e10, 2e10);
     must("extensions inside the box", 14);

@@ -117,8 +117,8 @@ compare(BOX, square, [0, 1, 1, 0, 2, 3], [E] * 6, [0, 1, 2, 3], "refused 7\n")
 compare(BOX, square, two, right, [0, 1], "refused 1\n")
 compare(BOX, [*square[:3], (2.0**101, 0.0)], two, right, [0, 1, 2, 3], "refused 6\n")
 
-# the first record as it is: a box that rule 3 would refuse, patterns of NaN, and no box
-for first in (struct.pack("<B4d", 1, 0, 0, 0, 0), b"\x01" + bytes.fromhex("010000000000f07f" "efbeadde0000f8ff") + bytes(16), b"\x06"):
+# the first record as it is: a box that rule 3 would refuse, patterns of NaN
+for first in (struct.pack("<B4d", 1, 0, 0, 0, 0), b"\x01" + bytes.fromhex("010000000000f07f" "efbeadde0000f8ff") + bytes(16)):
     compare(first, square, two, [E] * 6, [1, 2, 0])
 
 # what is no form, and words that mean nothing
@@ -127,6 +127,10 @@ for broken in (b"", whole[:-1], whole[1:], whole + b"\x05", whole + bytes(20000)
     for asked in ((), ("form",)):
         if run(broken, *asked) != (b"refused 17\n", b""):
             sys.exit(f"{broken[:40].hex()}.. is not refused with 17")
+for old in (b"\x06", form_of(b"\x06", square, two, [E] * 6, [0, 1, 2, 3]), whole[:33] + b"\x06", whole[:-1] + b"\x06"):
+    for asked in ((), ("form",)):
+        if run(old, *asked) != (b"refused 20\n", b""):
+            sys.exit(f"{old[:40].hex()}.. is not refused with 20")
 for asked in (("form", "form"), ("forms",), ("for",), ("",), ("form" * 1000,), ("Form",), ("--help",), ("form", "")):
     said, err = run(whole, *asked)
     if said or err.count(b"\n") != 1 or not err.startswith(b"usage: mend"):

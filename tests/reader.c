@@ -122,10 +122,12 @@ static void put_numbers(uint8_t kind, size_t bytes, const uint8_t *body)
         right.links[2][due.hull] = (uint32_t)little(body, 4);
 }
 
-static void refuse(size_t at)
+static void refuse_by(uint32_t number, size_t at)
 {
-    due = (answer){.number = VORONOI_REFUSED_FORM, .at = at};
+    due = (answer){.number = number, .at = at};
 }
+
+static void refuse(size_t at) { refuse_by(VORONOI_REFUSED_FORM, at); }
 
 /* What is due of the first n bytes: of a block that ends there, or of the whole where no more comes. */
 static void expect(size_t n, int ends)
@@ -137,12 +139,12 @@ static void expect(size_t n, int ends)
     due = (answer){.at = NOWHERE};
     while (at < n) {
         uint8_t kind = form[at];
-        int opens = kind == 1 || kind == 6 || kind == 7;
+        int opens = kind == 1 || kind == 7;
         int fits = stage == 0 ? opens : kind >= 2 && kind <= 5 && kind >= stage && stage != 5;
         if ((kind == 2 && due.sites == 96) || (kind == 3 && due.triangles == 192) || (kind == 4 && due.hull == 96))
             fits = 0;
-        if (!fits) {
-            refuse(at);
+        if (!fits) { /* the word that there is no box is refused by name, until the end */
+            refuse_by(kind == 6 && stage != 5 ? VORONOI_REFUSED_UNCLIPPED : VORONOI_REFUSED_FORM, at);
             return;
         }
         if (opens)
@@ -337,19 +339,23 @@ static void damaged(int fed_first)
 static void named_damage(void)
 {
     static const uint64_t rows[][9] = {
-        {2, 0, 0, 1650, 0, 6, 97, 0, 0},           /* 97 sites */
-        {2, 16, 0, 1634, 0, 6, 96, 0, 0},          /* a 97th under way */
-        {2, 17, 0, 1, 0, 6, 0, 0, 0},              /* a body longer than its kind's */
+        {2, 0, 0, 1682, 0, 1, 97, 0, 0},           /* 97 sites */
+        {2, 16, 0, 1666, 0, 1, 96, 0, 0},          /* a 97th under way */
+        {2, 17, 0, 33, 0, 1, 0, 0, 0},             /* a body longer than its kind's */
         {1, 33, 0, 0, 0, 1, 0, 0, 0},              /* the same of the box */
-        {1, 4, 0, 1, 0, 6, 0, 0, 0},               /* a body of kind 6 */
-        {5, 0, 0, 3, 0, 6, 0, 0, 0},               /* a byte that the records do not give */
+        {1, 0, 0, 1, 0, 6, 0, 0, 0},               /* kind 6, as a reader of old would leave it */
+        {5, 0, 0, 2, 0, 6, 0, 0, 0},               /* the same, ended */
+        {5, 0, 0, 35, 0, 1, 0, 0, 0},              /* a byte that the records do not give */
         {5, 0, 0, 2, 0, 5, 0, 0, 0},               /* no kind that opens a form */
-        {3, 0, 0, 1, 0, 6, 0, 0, 0},               /* triangles, and none has begun */
-        {2, 0, 0, 43, 0, 6, 1, 1, 0},              /* a triangle before its stage */
-        {6, 0, 0, 2, 0, 6, 0, 0, 0},               /* no stage */
+        {3, 0, 0, 33, 0, 1, 0, 0, 0},              /* triangles, and none has begun */
+        {2, 0, 0, 75, 0, 1, 1, 1, 0},              /* a triangle before its stage */
+        {6, 0, 0, 34, 0, 1, 0, 0, 0},              /* no stage */
         {0, 0, 1, 0, 0, 0, 0, 0, 0},               /* a register before any byte */
-        {4, 2, UINT64_C(1) << 40, 4, 0, 6, 0, 0, 0}, /* a third byte in a register of two */
-        {5, 0, 0, 2, 1, 6, 0, 0, 0},               /* a refusal that is none */
+        {1, 30, UINT64_C(1) << 40, 3, 0, 1, 0, 0, 0}, /* a third byte in a register of two */
+        {5, 0, 0, 34, 1, 1, 0, 0, 0},              /* a refusal that is none */
+        {5, 0, 0, 34, 18, 1, 0, 0, 0},             /* another */
+        {5, 0, 0, 34, 20, 1, 0, 0, 0},             /* 20 after the end */
+        {1, 30, 0, 3, 20, 1, 0, 0, 0},             /* 20 amid a body */
         {0, 0, 0, UINT64_MAX, 17, 0, 0, 0, 0},     /* a byte past all counting */
         {UINT64_MAX, UINT64_MAX, UINT64_MAX, UINT64_MAX, UINT64_MAX, UINT64_MAX, UINT64_MAX, UINT64_MAX, UINT64_MAX},
     };
@@ -380,7 +386,7 @@ static void random_states(uint64_t count)
             if (all || random_word() % 8 == 0)
                 state[i] = random_word() >> (random_word() % 64);
         feed(0, length);
-        if (got.number != 0 && got.number != VORONOI_REFUSED_FORM)
+        if (got.number != 0 && got.number != VORONOI_REFUSED_FORM && got.number != VORONOI_REFUSED_UNCLIPPED)
             fail(k);
         end();
         fresh(&right);
@@ -417,10 +423,18 @@ static void rows(void)
 {
     static const uint8_t box[34] = {7, [33] = 5};
     row("nothing", form, 0, VORONOI_REFUSED_FORM, 0);
-    row("6 5", (const uint8_t[]){6, 5}, 2, 0, NOWHERE);
-    row("6 5 5", (const uint8_t[]){6, 5, 5}, 3, VORONOI_REFUSED_FORM, 2);
-    row("6 1", (const uint8_t[]){6, 1}, 2, VORONOI_REFUSED_FORM, 1);
-    row("6", (const uint8_t[]){6}, 1, VORONOI_REFUSED_FORM, 1);
+    static uint8_t sixes[36] = {1};
+    for (size_t i = 1; i < sizeof sixes; i++)
+        sixes[i] = 6;
+    row("6", (const uint8_t[]){6}, 1, VORONOI_REFUSED_UNCLIPPED, 0);
+    row("6 5", (const uint8_t[]){6, 5}, 2, VORONOI_REFUSED_UNCLIPPED, 0);
+    row("0", (const uint8_t[]){0}, 1, VORONOI_REFUSED_FORM, 0);
+    row("5", (const uint8_t[]){5}, 1, VORONOI_REFUSED_FORM, 0);
+    row("a box, 6", sixes, 34, VORONOI_REFUSED_UNCLIPPED, 33);
+    row("a box cut", sixes, 32, VORONOI_REFUSED_FORM, 32);
+    sixes[33] = 5;
+    row("a box of sixes, 5", sixes, 34, 0, NOWHERE);
+    row("a box of sixes, 5 6", sixes, 35, VORONOI_REFUSED_FORM, 34);
     row("a box by its edges", box, sizeof box, 0, NOWHERE);
     row("its first half", box, 17, VORONOI_REFUSED_FORM, 17);
 }

@@ -59,6 +59,12 @@ rm "$folder/in"
 must 2 "No such file" encode
 cp examples/square.txt "$folder/in"
 must 0 "" encode
+# a mesh of old, without a box: turned both ways, and told so
+cp harness/meshes/square_unclipped.txt "$folder/in"
+must 0 "that mode is gone" encode
+mv "$folder/out" "$folder/in"
+must 0 "write a box or edges for the word unclipped" decode
+[ "$(head -n 1 "$folder/out")" = unclipped ]
 must 2 "tools/mesh encode" bake
 tools/mesh --help >"$folder/out"
 grep -q "counter-clockwise with y downward" "$folder/out"

@@ -287,8 +287,7 @@ static int dump(void)
     }
     uint32_t number = clipped ? voronoi_build(box[0], box[1], box[2], box[3], sites, numbers, tri, links, pairs, links, hull, border, work, 96, built,
                                               8192, entries, 8192, starts, 97, counts, VORONOI_COUNTS)
-                              : voronoi_build_unclipped(sites, numbers, tri, links, pairs, links, hull, border, work, 96, built, 8192, entries,
-                                                        8192, starts, 97, counts, VORONOI_COUNTS);
+                              : VORONOI_REFUSED_UNCLIPPED;
     printf("number %u\n", number);
     if (number)
         return 0;

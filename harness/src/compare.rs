@@ -28,12 +28,12 @@ fn equal<T: PartialEq + std::fmt::Debug>(what: &str, theirs: &T, ours: &T) -> To
 }
 
 /// Builds with the Rust and by the rules, which must agree; 11 and 12 come before the Rust is asked.
-pub fn build_both(m: &Mesh, lent: &rust::Lent, clip: Option<&Area>, tally: &mut Tally) -> Result<Outcome, String> {
-    let ours = reference::build(m, clip, &mut tally.branches);
+pub fn build_both(m: &Mesh, lent: &rust::Lent, area: &Area, tally: &mut Tally) -> Result<Outcome, String> {
+    let ours = reference::build(m, area, &mut tally.branches);
     if let Err(Fault { number: 11 | 12, .. }) = ours {
         return Ok(ours);
     }
-    match (&ours, rust::build(lent, clip)) {
+    match (&ours, rust::build(lent, area)) {
         (Ok(o), Ok(t)) => {
             equal("leftmost table", &t.leftmost, &o.leftmost)?;
             equal("owners as found", &t.owners, &o.owners)?;
@@ -65,20 +65,18 @@ fn ask(index: u64, c: &Case, calls: &mut Vec<Call>, tally: &mut Tally) -> Told {
 
     check(c, &facts, calls, tally);
     let lent = facts.accepted().then(|| rust::Lent::new(m));
-    let (mut clipped, mut whole) = (None, None);
+    let mut clipped = None;
     if let Some(lent) = &lent {
         equal("leftmost table", &lent.leftmost(), &facts.leftmost)?;
         if reference::box_sound(&c.area) {
-            clipped = Some(build_both(m, lent, Some(&c.area), tally)?);
+            clipped = Some(build_both(m, lent, &c.area, tally)?);
         }
-        whole = Some(build_both(m, lent, None, tally)?);
     }
-    build(c, &facts, Some(&c.area), clipped.as_ref(), calls, tally)?;
-    build(c, &facts, None, whole.as_ref(), calls, tally)?;
+    build(c, &facts, clipped.as_ref(), calls, tally)?;
     why::ask(index, c, &facts, clipped.as_ref(), calls, tally)?;
     edges::ask(index, c, &facts, clipped.as_ref(), calls, tally)?;
 
-    let built = [&clipped, &whole].into_iter().find_map(|o| o.as_ref()?.as_ref().ok());
+    let built = clipped.as_ref().and_then(|o| o.as_ref().ok());
     let cells = match built {
         Some(b) => b.plain(),
         None => (0..m.count() as u32).map(|s| vec![s / 2, s / 2 + 1, s / 3]).collect(),
@@ -100,15 +98,14 @@ fn check(c: &Case, facts: &Facts, calls: &mut Vec<Call>, tally: &mut Tally) {
 }
 
 fn build(
-    c: &Case, facts: &Facts, area: Option<&Area>, outcome: Option<&Outcome>, calls: &mut Vec<Call>, tally: &mut Tally,
+    c: &Case, facts: &Facts, outcome: Option<&Outcome>, calls: &mut Vec<Call>, tally: &mut Tally,
 ) -> Told {
-    let name = if area.is_some() { "build" } else { "build_unclipped" };
-    let beside = Beside { room: c.lengths.suffice(&c.mesh), area, site: None, to: None };
+    let beside = Beside { room: c.lengths.suffice(&c.mesh), area: Some(&c.area), site: None, to: None };
     let mut number = expect::mesh_number(&c.mesh, facts, &beside);
     if let (0, Some(Err(f))) = (number, outcome) {
         number = f.number;
     }
-    tally.number(name, number);
+    tally.number("build", number);
     if let (0, Some(Ok(b))) = (number, outcome) {
         let exact = expect::Lengths::exact(&c.mesh);
         let entries: usize = b.cells.iter().map(|c| c.len()).sum();
@@ -117,20 +114,14 @@ fn build(
         tally.most_vertices = tally.most_vertices.max(vertices);
         tally.most_entries = tally.most_entries.max(entries);
         if vertices > 1.0 || entries > 1.0 {
-            return Err(format!("{name}: the room does not suffice"));
+            return Err("build: the room does not suffice".to_string());
         }
-        if area.is_some() {
-            tally.corners[0] += b.lost as u64;
-            tally.corners[1] += b.met_alone();
-        }
+        tally.corners[0] += b.lost as u64;
+        tally.corners[1] += b.met_alone();
     }
     let entry = Slices::fresh(&c.lengths);
     let exit = expect::built(number, outcome, &entry);
-    let call = match area {
-        Some(a) => Call::new(name).gives(number).area(a),
-        None => Call::new(name).gives(number),
-    };
-    calls.push(call.mesh(&c.mesh).lent_slices(&entry, &exit));
+    calls.push(Call::new("build").gives(number).area(&c.area).mesh(&c.mesh).lent_slices(&entry, &exit));
     Ok(())
 }
 

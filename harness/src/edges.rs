@@ -57,7 +57,7 @@ pub fn ask(
     }
     let outcome = match clipped {
         Some(o) if same => Some(o.clone()),
-        _ if boxed && facts.accepted() => Some(reference::build_within(m, Some(e), &mut Counts::default())),
+        _ if boxed && facts.accepted() => Some(reference::build_within(m, e, &mut Counts::default())),
         _ => None,
     };
     let outcome = outcome.as_ref();

@@ -7,7 +7,7 @@ use crate::rust;
 use crate::tally::Tally;
 use crate::text::{list, row};
 
-/// The records of a mesh: one byte of kind, then little-endian numbers.
+/// The records of a mesh: one byte of kind, then little-endian numbers. Without a box it is a form of old, which is refused with 20.
 pub fn bytes(m: &Mesh, clip: Option<&Area>) -> Vec<u8> {
     let mut out = Vec::new();
     match clip {
@@ -40,14 +40,17 @@ pub fn fits(m: &Mesh) -> bool {
 
 /// What the program prints for a sound form: the Rust's answers, or the refusal.
 pub fn listing(m: &Mesh, clip: Option<&Area>) -> Result<String, String> {
+    let Some(area) = clip else {
+        return Ok("refused 20\n".to_string());
+    };
     if !fits(m) {
         return Ok("refused 17\n".to_string());
     }
-    let number = mesh_number(m, &Facts::of(m), &Beside { room: true, area: clip, site: None, to: None });
+    let number = mesh_number(m, &Facts::of(m), &Beside { room: true, area: Some(area), site: None, to: None });
     if number != 0 {
         return Ok(format!("refused {number}\n"));
     }
-    let b = match build_both(m, &rust::Lent::new(m), clip, &mut Tally::new())? {
+    let b = match build_both(m, &rust::Lent::new(m), area, &mut Tally::new())? {
         Ok(b) => b,
         Err(f) => return Ok(format!("refused {}\n", f.number)),
     };
@@ -55,8 +58,6 @@ pub fn listing(m: &Mesh, clip: Option<&Area>) -> Result<String, String> {
     for (s, cell) in b.plain().iter().enumerate() {
         out += &format!("{}\n", row(&format!("cell {s}"), cell));
     }
-    if clip.is_some() {
-        out += &format!("corners {} lost {}\n", list(&b.owners), b.lost);
-    }
+    out += &format!("corners {} lost {}\n", list(&b.owners), b.lost);
     Ok(out)
 }

@@ -325,8 +325,6 @@ pub enum Branch {
     CellStaysEmpty,
     SiteInNoTriangle,
     CornersLost,
-    UnclippedWhole,
-    UnclippedHullFanCut,
     End,
 }
 
@@ -482,7 +480,7 @@ pub struct Build {
     pub lost: u32,
     pub vertices: Vec<Pt>,
     pub cells: Vec<Vec<Entry>>,
-    /// How often a cell was clipped for each site; unclipped never.
+    /// How often a cell was clipped for each site.
     pub tries: Vec<u32>,
 }
 
@@ -544,34 +542,17 @@ struct Builder<'a> {
 }
 
 /// Builds on a mesh that passed 1 to 10, or gives 11 to 14 and where.
-pub fn build(m: &Mesh, clip: Option<&Area>, counts: &mut Counts) -> Outcome {
-    build_within(m, clip.map(edges), counts)
+pub fn build(m: &Mesh, area: &Area, counts: &mut Counts) -> Outcome {
+    build_within(m, edges(area), counts)
 }
 
 /// The same by the edges of the box.
-pub fn build_within(m: &Mesh, clip: Option<Edges>, counts: &mut Counts) -> Outcome {
+pub fn build_within(m: &Mesh, area: Edges, counts: &mut Counts) -> Outcome {
     let vertices = circumcenters(m);
     if let Some(t) = vertices.iter().position(|&c| !sound_center(c)) {
         return Err(Fault::at(11, t));
     }
-    match clip {
-        Some(e) => clipped(m, e, vertices, counts),
-        None => Ok(unclipped(m, vertices, counts)),
-    }
-}
-
-fn unclipped(m: &Mesh, vertices: Vec<Pt>, counts: &mut Counts) -> Build {
-    let mut cells = vec![Vec::new(); m.count()];
-    for e in 0..m.triangles.len() {
-        let cell = &mut cells[end(m, e) as usize];
-        if cell.is_empty() {
-            let ring = ring(m, e);
-            let cut = m.halfedges[e] != EMPTY && m.halfedges[next(*ring.last().unwrap() as usize)] == EMPTY;
-            counts.at(if cut { Branch::UnclippedHullFanCut } else { Branch::UnclippedWhole });
-            cell.extend(ring.iter().rev().map(|&h| Entry { vertex: h / 3, mark: Mark::Circumcenter }));
-        }
-    }
-    Build { leftmost: leftmost(m), owners: Vec::new(), lost: 0, vertices, cells, tries: vec![0; m.count()] }
+    clipped(m, area, vertices, counts)
 }
 
 fn clipped(m: &Mesh, area: Edges, vertices: Vec<Pt>, counts: &mut Counts) -> Outcome {

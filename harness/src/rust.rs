@@ -100,14 +100,10 @@ fn caught<T>(run: impl FnOnce() -> T) -> Result<T, String> {
     })
 }
 
-/// The build: clipped to a box, or unclipped. `Err(Ok(n))` is a refusal, `Err(Err(words))` a panic with no number.
-pub fn build(lent: &Lent, clip: Option<&Area>) -> Result<Built, Result<u32, String>> {
+/// The build in a box. `Err(Ok(n))` is a refusal, `Err(Err(words))` a panic with no number.
+pub fn build(lent: &Lent, a: &Area) -> Result<Built, Result<u32, String>> {
     let outcome = caught(|| {
-        let (behavior, bounds) = match clip {
-            Some(a) => (ClipBehavior::Clip, area(a)),
-            None => (ClipBehavior::None, BoundingBox::default()),
-        };
-        let builder = CellBuilder::new(&lent.mesh, &lent.sites, lent.circumcenters(), bounds, behavior);
+        let builder = CellBuilder::new(&lent.mesh, &lent.sites, lent.circumcenters(), area(a), ClipBehavior::Clip);
         let owners = source::cell_builder::open::owners(&builder);
         let built = builder.build();
         Built {

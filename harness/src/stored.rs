@@ -4,12 +4,12 @@
 //! of records, and the records one after the other:
 //!
 //!     words that follow in this record
-//!     mode: 1 clipped, 6 unclipped
+//!     mode: 1
 //!     lengths of the four mesh lists: S floats of sites, T triangle words, E half-edge words, H hull words
-//!     box: centre x, y, width, height (4 floats; 0 where unclipped)
+//!     box: centre x, y, width, height (4 floats)
 //!     the sites (S floats), the triangles (T words), the half-edges (E words), the hull (H words)
 //!     number: 0 where the build is accepted, else its refusal (every room exact)
-//!     where 0:     V, the vertex count; the 4 owners as found (EMPTY where unclipped); lost corners (0 where unclipped);
+//!     where 0:     V, the vertex count; the 4 owners as found; lost corners;
 //!                  the leftmost table (a word a site); V vertices (2 floats each); the offsets (a word a site and one
 //!                  more); the entries (as many as the last offset)
 //!     where the mesh is accepted (0 or above 10): a site; x and y of a destination (2 floats); then four lists, each
@@ -19,7 +19,7 @@
 use crate::cases::Case;
 use crate::compare::build_both;
 use crate::expect::{mesh_number, Beside, Facts};
-use crate::mesh::{pt, Area, Mesh, Pt, EMPTY};
+use crate::mesh::{pt, Area, Mesh, Pt};
 use crate::reference::{self, BRANCHES};
 use crate::rust;
 use crate::tally::Tally;
@@ -29,7 +29,7 @@ const MAGIC: u32 = 0x31524f56;
 /// Each branch and each number stands in at least this many records, where the cases have it.
 const WANTED: u32 = 12;
 /// At least so many builds are accepted.
-const ACCEPTED: u32 = 540;
+const ACCEPTED: u32 = 560;
 const LARGEST: usize = 360;
 const SEED: u64 = 20260101;
 
@@ -57,14 +57,13 @@ struct Record {
     branches: [u64; BRANCHES],
 }
 
-fn record(m: &Mesh, clip: Option<&Area>, site: u32, to: Pt) -> Result<Record, String> {
+fn record(m: &Mesh, a: &Area, site: u32, to: Pt) -> Result<Record, String> {
     let mut tally = Tally::new();
     let facts = Facts::of(m);
-    let mut number = mesh_number(m, &facts, &Beside { room: true, area: clip, site: None, to: None });
+    let mut number = mesh_number(m, &facts, &Beside { room: true, area: Some(a), site: None, to: None });
     let mut w = Words::default();
-    w.0.push(if clip.is_some() { 1 } else { 6 });
+    w.0.push(1);
     w.list(&[m.sites.len(), m.triangles.len(), m.halfedges.len(), m.hull.len()].map(|n| n as u32));
-    let a = clip.copied().unwrap_or(Area { x: 0.0, y: 0.0, width: 0.0, height: 0.0 });
     [a.x, a.y, a.width, a.height].into_iter().for_each(|x| w.float(x));
     m.sites.iter().for_each(|&x| w.float(x));
     w.list(&m.triangles);
@@ -74,14 +73,14 @@ fn record(m: &Mesh, clip: Option<&Area>, site: u32, to: Pt) -> Result<Record, St
         w.0.push(number);
     } else {
         let lent = rust::Lent::new(m);
-        let built = build_both(m, &lent, clip, &mut tally)?;
+        let built = build_both(m, &lent, a, &mut tally)?;
         number = built.as_ref().err().map_or(0, |f| f.number);
         w.0.push(number);
         let mut cells = vec![Vec::new(); m.count()];
         if let Ok(b) = &built {
             cells = b.plain();
             w.0.push(b.vertices.len() as u32);
-            w.list(if clip.is_some() { &b.owners } else { &[EMPTY; 4] });
+            w.list(&b.owners);
             w.0.push(b.lost);
             w.list(&b.leftmost);
             for v in &b.vertices {
@@ -122,7 +121,9 @@ pub fn write(named: &[Input]) -> Result<(Vec<u8>, String), String> {
     };
     for i in named {
         let to = i.paths.first().map_or(pt(0.5, -0.25), |p| p.1);
-        let r = record(&i.mesh, i.clip.as_ref(), i.paths.first().map_or(0, |p| p.0 as u32), to)?;
+        // A mesh of old, without a box, has no build.
+        let Some(area) = &i.clip else { continue };
+        let r = record(&i.mesh, area, i.paths.first().map_or(0, |p| p.0 as u32), to)?;
         take(r, &mut numbers, &mut branches);
     }
     let mut case = 0;
@@ -132,7 +133,7 @@ pub fn write(named: &[Input]) -> Result<(Vec<u8>, String), String> {
         let ordinary = reference::ordinary(c.to.x) && reference::ordinary(c.to.y);
         let to = if ordinary { c.to } else { pt(0.0, 0.0) };
         let site = if (c.site as usize) < c.mesh.count() { c.site } else { 0 };
-        let r = record(&c.mesh, (case % 7 != 0).then_some(&c.area), site, to)?;
+        let r = record(&c.mesh, &c.area, site, to)?;
         if r.words.len() > LARGEST {
             continue;
         }
@@ -153,7 +154,7 @@ pub fn write(named: &[Input]) -> Result<(Vec<u8>, String), String> {
         words.push(r.len() as u32);
         words.extend(r);
     }
-    let mut table = format!("{} records, {} bytes, from {case} cases of seed {SEED} and {} named meshes\n", records.len(), 4 * words.len(), named.len());
+    let mut table = format!("{} records, {} bytes, from {case} cases of seed {SEED} and {} named meshes\n", records.len(), 4 * words.len(), named.iter().filter(|i| i.clip.is_some()).count());
     for (n, k) in numbers.iter().enumerate().filter(|(_, k)| **k > 0) {
         table += &format!("number {n}: {k} records\n");
     }

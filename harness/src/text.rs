@@ -2,7 +2,7 @@
 //!
 //! One record to a line; `#` starts a comment.
 //!
-//!     box CX CY WIDTH HEIGHT      or  unclipped
+//!     box CX CY WIDTH HEIGHT      or  unclipped, as meshes of old have it, which is refused with 20
 //!     site X Y
 //!     triangle A B C  P Q R       sites, then the pair of each half-edge (E: none)
 //!     hull S ...

@@ -320,11 +320,14 @@ pub fn question(r: &mut Rng, m: &Mesh, outcome: Option<&Outcome>) -> Question {
 
 /// The reason for a mesh alone, as the program gives it; the Rust must agree with the build.
 pub fn told(m: &Mesh, clip: Option<&Area>, q: &Question) -> Result<Reason, String> {
+    let Some(area) = clip else {
+        return Ok(Reason { number: 20, what: What::Alone });
+    };
     if !form::fits(m) {
         return Ok(Reason { number: 17, what: What::Alone });
     }
-    let boxed = clip.map_or(true, reference::box_sound);
-    let outcome = if boxed && Facts::of(m).accepted() { Some(build_both(m, &rust::Lent::new(m), clip, &mut Tally::new())?) } else { None };
+    let boxed = reference::box_sound(area);
+    let outcome = if boxed && Facts::of(m).accepted() { Some(build_both(m, &rust::Lent::new(m), area, &mut Tally::new())?) } else { None };
     Ok(reason(m, boxed, true, q, outcome.as_ref()))
 }
 
@@ -347,7 +350,7 @@ pub fn ask(
     let Some(mesh) = worse(index, c) else { return Ok(()) };
     let facts = Facts::of(&mesh);
     let built = facts.accepted() && reference::box_sound(&c.area);
-    let outcome = if built { Some(build_both(&mesh, &rust::Lent::new(&mesh), Some(&c.area), tally)?) } else { None };
+    let outcome = if built { Some(build_both(&mesh, &rust::Lent::new(&mesh), &c.area, tally)?) } else { None };
     put(r, &Case { lengths: Lengths::exact(&mesh), mesh, ..c.clone() }, &facts, outcome.as_ref(), calls, tally)
 }
 

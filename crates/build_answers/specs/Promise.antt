@@ -1,7 +1,7 @@
 -- What a build promises: its number, and each lent slice at exit by one rule of that number.
 use mathlib.Core.Path.{_≡_}
 use mathlib.Core.Bool.{Bool, true}
-use mathlib.Core.List.{List, [], _++_}
+use mathlib.Core.List.{List, _++_}
 use Prim.Native.Nat.{ℕ}
 use lib.ListN.{length}
 use Rattle.laws.specs.Refusals.{Rule, Finds}
@@ -14,7 +14,6 @@ use Rattle.check_mesh.specs.AtExit.{atExit}
 use Rattle.definition.specs.declared.Fault.{Fault}
 use Rattle.definition.specs.Fault.{Outcome}
 use Rattle.definition.specs.Build.{Built, build}
-use Rattle.definition.specs.Unclipped.{unclipped}
 use Rattle.layout.specs.Outputs.{padded, vertexNumbers, indexNumbers, offsetNumbers, countNumbers, faultOf}
 use Rattle.admission.specs.Asks.{boxRules}
 use Rattle.admission.specs.Admits.{askedRules}
@@ -41,6 +40,3 @@ module _ (m : Mesh) where
   -- clipped to the given box
   abbrev pub ClippedBuild : Given → Slices → Slices → ℕ → Type 0
   ClippedBuild g = BuildAnswers (boxRules (g .sound)) (build m (g .bounds))
-
-  abbrev pub UnclippedBuild : Slices → Slices → ℕ → Type 0
-  UnclippedBuild = BuildAnswers [] (unclipped (m .sites) (m .triangles) (m .halfedges))

@@ -3,8 +3,8 @@ use cell_finish::CellsAnswer;
 use layout::fill_from;
 use numbers::EMPTY;
 ghost use mathlib.Core.Path.{_≡_};
-ghost use Prim.Native.Nat.{_/_, _≤_, _<_};
-ghost use lib.ListN.{length, replicate};
+ghost use Prim.Native.Nat.{_≤_, _<_};
+ghost use lib.ListN.{length};
 ghost use Rattle.numbers.specs.Numbers.{EMPTY};
 ghost use Rattle.layout.specs.Outputs.{padded};
 ghost use Rattle.build_counts.specs.Counts.{countsOf, EndedBuild};
@@ -43,7 +43,7 @@ fn finish(
     put_counts(vertices, owners, lost, counts);
 }
 
-// The same of a clipped build with this answer.
+// The same of a build with this answer.
 pub fn finish_clipped(a: CellsAnswer, work: &mut [u32], counts: &mut [u32])
     requires { ⌜ (a .count < 4294967296) × (6 ≤ length (now counts)) ⌝ }
     ensures { λ _. ⌜ EndedBuild (a .fault .number) (countsOf (a .count) (a .owners) (a .lost)) (now (work .entry)) (now (counts .entry)) (now (work .exit)) (now (counts .exit)) ⌝ }
@@ -51,13 +51,4 @@ pub fn finish_clipped(a: CellsAnswer, work: &mut [u32], counts: &mut [u32])
     let fault = a.fault;
     let owners = a.owners;
     finish(fault.number, a.count as u32, owners, a.lost, work, counts);
-}
-
-// The same of an unclipped one: a vertex for each triangle, no corner owned and none lost.
-pub fn finish_unclipped(number: u32, entries: usize, work: &mut [u32], counts: &mut [u32])
-    requires { ⌜ (entries < 4294967296) × (6 ≤ length (now counts)) ⌝ }
-    ensures { λ _. ⌜ EndedBuild number (countsOf (entries / 3) (replicate 4 EMPTY) 0) (now (work .entry)) (now (counts .entry)) (now (work .exit)) (now (counts .exit)) ⌝ }
-{
-    let vertices = entries / 3;
-    finish(number, vertices as u32, [EMPTY; 4], 0, work, counts);
 }

@@ -1,15 +1,14 @@
-// The builds on a whole lent mesh, each with its refusals and every lent slice at exit.
+// The build on a whole lent mesh, with its refusals and every lent slice at exit.
 use admission::admit_build;
 use build_counts::finish_clipped;
-use build_counts::finish_unclipped;
 use cell_builder::build_cells;
 use given_box::Given;
 ghost use Rattle.mesh.specs.Accepted.{mesh};
 ghost use Rattle.admission.specs.Slices.{slices};
 ghost use Rattle.given_box.specs.Finite.{Fits};
-ghost use Rattle.build_answers.specs.Promise.{ClippedBuild, UnclippedBuild};
+ghost use Rattle.build_answers.specs.Promise.{ClippedBuild};
 
-// The clipped build in the given box.
+// The build in the given box.
 pub fn build(
     given: Given,
     sites: &[f64],
@@ -57,49 +56,5 @@ pub fn build(
     );
     let fault = a.fault;
     finish_clipped(a, work, counts);
-    fault.number
-}
-
-// The unclipped build.
-pub fn build_unclipped(
-    sites: &[f64],
-    triangles: &[u32],
-    halfedges: &[u32],
-    hull: &[u32],
-    work: &mut [u32],
-    vertices: &mut [f64],
-    indexes: &mut [u32],
-    offsets: &mut [u32],
-    counts: &mut [u32],
-) -> u32
-    ensures { λ r. ⌜ UnclippedBuild (mesh (now (sites .entry)) (now (triangles .entry)) (now (halfedges .entry)) (now (hull .entry)))
-        (slices (now (work .entry)) (now (vertices .entry)) (now (indexes .entry)) (now (offsets .entry)) (now (counts .entry)))
-        (slices (now (work .exit)) (now (vertices .exit)) (now (indexes .exit)) (now (offsets .exit)) (now (counts .exit))) r ⌝ }
-{
-    let r = admit_build(
-        sites,
-        triangles,
-        halfedges,
-        hull,
-        0,
-        work,
-        vertices,
-        indexes,
-        offsets,
-        counts,
-    );
-    if r != 0 {
-        return r;
-    }
-    let fault = unclipped::build_unclipped(
-        sites,
-        triangles,
-        halfedges,
-        hull,
-        vertices,
-        indexes,
-        offsets,
-    );
-    finish_unclipped(fault.number, triangles.len(), work, counts);
     fault.number
 }

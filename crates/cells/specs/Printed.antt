@@ -2,8 +2,7 @@
 use mathlib.Core.List.{List, [], _∷_, _++_, map}
 use Prim.Native.Nat.{ℕ, suc}
 use lib.ListN.{length}
-use Rattle.printing.specs.Printed.{Texts}
-use Rattle.definition.specs.Build.{Built}
+use Rattle.printing.specs.Printed.{Text}
 use Rattle.definition.specs.Cell.{unmarked}
 use Rattle.listing.specs.Listing.{counts, cellLine, corners}
 
@@ -14,12 +13,6 @@ unfoldable pub linesOf : ℕ → List (List ℕ) → List ℕ
 linesOf i [] = []
 linesOf i (c ∷ cs) = cellLine i c ++ linesOf (suc i) cs
 
-abbrev pub unclippedText : ℕ → ℕ → Built → List ℕ
-unclippedText n T b = counts n T (length (b .verts)) ++ linesOf 0 (map unmarked (b .cells))
-
-abbrev pub boxText : ℕ → ℕ → Built → List ℕ
-boxText n T b = unclippedText n T b ++ corners (b .owners) (b .lost)
-
--- what is printed is `Prints texts` (crate printing)
-abbrev pub listingTexts : Texts
-listingTexts = record { boxed = boxText; plain = unclippedText }
+-- what is printed is `Prints listingText` (crate printing)
+abbrev pub listingText : Text
+listingText n T b = counts n T (length (b .verts)) ++ linesOf 0 (map unmarked (b .cells)) ++ corners (b .owners) (b .lost)

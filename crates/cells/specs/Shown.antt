@@ -2,7 +2,7 @@
 use mathlib.Core.List.{List, [], _∷_}
 use Prim.Native.Nat.{ℕ, _≤_}
 use lib.ListN.{getD}
-use Rattle.listing.specs.Listing.{unclippedListing, listing, Layout}
+use Rattle.listing.specs.Listing.{listing, Layout}
 
 -- the lists of a form, and room for its text
 pub record SheetSized (coordinates entries hull space : ℕ) : Type 0 where
@@ -19,8 +19,5 @@ pub record Laid (n : ℕ) (offs idx : List ℕ) (space : ℕ) : Type 0 where
   pub room : 65536 ≤ space
 
 -- n sites, T triangles; the lent counts are the vertices, the four owners and the lost corners
-abbrev pub unclippedLines : ℕ → ℕ → List ℕ → List ℕ → List ℕ → List ℕ
-unclippedLines n T offs idx c = unclippedListing n T (getD c 0 0) offs idx
-
 abbrev pub boxLines : ℕ → ℕ → List ℕ → List ℕ → List ℕ → List ℕ
 boxLines n T offs idx c = listing n T (getD c 0 0) offs idx (getD c 1 0 ∷ getD c 2 0 ∷ getD c 3 0 ∷ getD c 4 0 ∷ []) (getD c 5 0)

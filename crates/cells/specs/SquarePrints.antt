@@ -6,7 +6,7 @@ use Prim.Native.Nat.{ℕ}
 use native.Mathlib.Omega.{arith}
 use lib.Ieee.{Float, ofBits, neg, lt, le, add, sub, div}
 use Rattle.printing.specs.Printed.{Shows, built, meshOf, Prints, sound}
-use Rattle.cells.specs.Printed.{listingTexts}
+use Rattle.cells.specs.Printed.{listingText}
 use Rattle.utils.specs.Plane.{at}
 use Rattle.utils.specs.Rules.{okCoord, okSite}
 use Rattle.bounding_box.specs.Box.{madeOf}
@@ -25,7 +25,6 @@ use Rattle.build_answers.specs.Promise.{ClippedBuild}
 use Rattle.form.specs.Form.{MeshFits, numbersOf, float, siteFloats}
 use Rattle.form.specs.Square.{square, squareBytes, two-is}
 use Rattle.listing.specs.Text.{ascii}
-use Rattle.cells.specs.Printed.{boxText}
 use Rattle.printing.specs.One.{prints-one}
 use Rattle.cells.specs.Square.{texted, rows}
 
@@ -59,15 +58,15 @@ unfolding okBox okSite okCoord madeOf ofBits lt le add sub div
 box-fits = refl
 
 -- ---- what is printed
-shown : {Rules : ℕ → Type 0} → Rules 0 → (o : Outcome Fault Built) (t : List ℕ) → texted 4 2 o ≡ ok t → Shows Rules (boxText 4 2) o t
-shown {Rules} z (ok b) t e = let q : boxText 4 2 b ≡ t = cc in subst (Shows Rules (boxText 4 2) (ok b)) q (built z)
+shown : {Rules : ℕ → Type 0} → Rules 0 → (o : Outcome Fault Built) (t : List ℕ) → texted 4 2 o ≡ ok t → Shows Rules (listingText 4 2) o t
+shown {Rules} z (ok b) t e = let q : listingText 4 2 b ≡ t = cc in subst (Shows Rules (listingText 4 2) (ok b)) q (built z)
 shown z (refused f) t e = let q : _≡_ {A = ℕ} 0 1 = cc in absurd (omega arith)
 
-pub square-prints : Prints listingTexts squareBytes text
+pub square-prints : Prints listingText squareBytes text
 square-prints = sound square fits (sym (rows .1)) (shown (admits (record { accepted = accepted; roomed = refl; fit = (box-fits, tt) })) _ text (rows .2))
 
-pub square-alone : {t : List ℕ} → Prints listingTexts squareBytes t → t ≡ text
-square-alone p = prints-one listingTexts p square-prints
+pub square-alone : {t : List ℕ} → Prints listingText squareBytes t → t ≡ text
+square-alone p = prints-one listingText p square-prints
 
 -- ---- what a build answers
 value : (o : Outcome Fault Built) (t : List ℕ) → texted 4 2 o ≡ ok t → Value o

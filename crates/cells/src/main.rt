@@ -7,11 +7,12 @@ ghost use mathlib.Core.Path.{_≡_};
 ghost use Prim.Native.Nat.{_<_, _≤_};
 ghost use lib.ListN.{length, take};
 ghost use Rattle.mesh.specs.Accepted.{mesh};
-ghost use Rattle.printing.specs.Printed.{InBox, WithoutBox, Prints, ShownIn, shown, ByMode, ByForm};
-ghost use Rattle.cells.specs.Printed.{listingTexts};
+ghost use Rattle.printing.specs.Printed.{InBox, Prints, ShownIn, shown, ByForm};
+ghost use Rattle.cells.specs.Printed.{listingText};
 ghost use Rattle.given_box.specs.Finite.{Fits};
+ghost use Rattle.form_box.specs.FormBox.{boxBy};
 ghost use Rattle.form_step.specs.Holds.{ListRoom, Few};
-ghost use Rattle.cells.specs.Shown.{SheetSized, Laid, boxLines, unclippedLines};
+ghost use Rattle.cells.specs.Shown.{SheetSized, Laid, boxLines};
 
 fn narrow(n: usize) -> u32
     requires { ⌜ n < 4294967296 ⌝ }
@@ -49,25 +50,6 @@ fn show_in_box(
     )
 }
 
-fn show_without_box(
-    out: &mut [u8],
-    number: u32,
-    sites: u32,
-    triangles: u32,
-    offsets: &[u32],
-    indexes: &[u32],
-    counts: &[u32],
-) -> usize
-    requires { ⌜ (number ≡ 0 → Laid sites (now offsets) (now indexes) (length (now out))) × (6 ≤ length (now counts)) × (65536 ≤ length (now out)) ⌝ }
-    ensures { λ r. ⌜ ShownIn (shown (unclippedLines sites triangles (now (offsets .entry)) (now (indexes .entry)) (now (counts .entry)))
-        number) (now (out .exit)) (length (now (out .entry))) r ⌝ }
-{
-    if number != 0 {
-        return listing::refusal(out, number);
-    }
-    listing::unclipped_listing(out, sites, triangles, counts[0], offsets, indexes)
-}
-
 fn in_box(
     out: &mut [u8],
     given: Given,
@@ -77,7 +59,7 @@ fn in_box(
     hull: &[u32],
 ) -> usize
     requires { ⌜ SheetSized (length (now sites)) (length (now triangles)) (length (now hull)) (length (now out)) × Fits given ⌝ }
-    ensures { λ r. ⌜ InBox listingTexts (mesh (now (sites .entry)) (now (triangles .entry)) (now (halfedges .entry)) (now (hull .entry))) given
+    ensures { λ r. ⌜ InBox listingText (mesh (now (sites .entry)) (now (triangles .entry)) (now (halfedges .entry)) (now (hull .entry))) given
         (take r (now (out .exit))) × (r ≤ length (now (out .entry))) ⌝ }
 {
     let mut work = [0u32; 96];
@@ -102,38 +84,7 @@ fn in_box(
     show_in_box(out, number, n, t, &offsets, &indexes, &counts)
 }
 
-fn without_box(
-    out: &mut [u8],
-    sites: &[f64],
-    triangles: &[u32],
-    halfedges: &[u32],
-    hull: &[u32],
-) -> usize
-    requires { ⌜ SheetSized (length (now sites)) (length (now triangles)) (length (now hull)) (length (now out)) ⌝ }
-    ensures { λ r. ⌜ WithoutBox listingTexts (mesh (now (sites .entry)) (now (triangles .entry)) (now (halfedges .entry)) (now (hull .entry)))
-        (take r (now (out .exit))) × (r ≤ length (now (out .entry))) ⌝ }
-{
-    let mut work = [0u32; 96];
-    let mut vertices = [0.0f64; 3656];
-    let mut indexes = [0u32; 3076];
-    let mut offsets = [0u32; 97];
-    let mut counts = [0u32; 6];
-    let number = building::build_unclipped(
-        sites,
-        triangles,
-        halfedges,
-        hull,
-        &mut work,
-        &mut vertices,
-        &mut indexes,
-        &mut offsets,
-        &mut counts,
-    );
-    let n = narrow(sites.len() / 2);
-    let t = narrow(triangles.len() / 3);
-    show_without_box(out, number, n, t, &offsets, &indexes, &counts)
-}
-
+// In the box that the form gives.
 fn of_mesh(
     out: &mut [u8],
     clip: u8,
@@ -144,12 +95,9 @@ fn of_mesh(
     hull: &[u32],
 ) -> usize
     requires { ⌜ SheetSized (length (now sites)) (length (now triangles)) (length (now hull)) (length (now out)) ⌝ }
-    ensures { λ r. ⌜ ByMode listingTexts clip bounds (mesh (now (sites .entry)) (now (triangles .entry)) (now (halfedges .entry)) (now (hull .entry)))
+    ensures { λ r. ⌜ InBox listingText (mesh (now (sites .entry)) (now (triangles .entry)) (now (halfedges .entry)) (now (hull .entry))) (boxBy clip bounds)
         (take r (now (out .exit))) × (r ≤ length (now (out .entry))) ⌝ }
 {
-    if clip == form_box::NO_BOX {
-        return without_box(out, sites, triangles, halfedges, hull);
-    }
     let given = form_box::box_of(clip, bounds);
     in_box(out, given, sites, triangles, halfedges, hull)
 }
@@ -165,7 +113,7 @@ fn of_form(
     hull: &[u32],
 ) -> usize
     requires { ⌜ ListRoom bounds (now sites) (now triangles) (now halfedges) (now hull) × Few form × (65536 ≤ length (now out)) ⌝ }
-    ensures { λ r. ⌜ ByForm listingTexts form bounds (now (sites .entry)) (now (triangles .entry)) (now (halfedges .entry)) (now (hull .entry))
+    ensures { λ r. ⌜ ByForm listingText form bounds (now (sites .entry)) (now (triangles .entry)) (now (halfedges .entry)) (now (hull .entry))
         (take r (now (out .exit))) × (r ≤ length (now (out .entry))) ⌝ }
 {
     let Form::Sound {
@@ -175,7 +123,7 @@ fn of_form(
         clip,
     } = form
     else {
-        return listing::refusal(out, numbers::REFUSED_FORM);
+        return listing::refusal(out, form_step::number_of(form));
     };
     let numbers = 2 * n;
     let links = 3 * t;
@@ -193,7 +141,7 @@ fn of_form(
 // What is printed for a form's bytes.
 fn answer(bytes: &[u8], out: &mut [u8]) -> usize
     requires { ⌜ 65536 ≤ length (now out) ⌝ }
-    ensures { λ r. ⌜ Prints listingTexts (now (bytes .entry)) (take r (now (out .exit))) × (r ≤ length (now (out .entry))) ⌝ }
+    ensures { λ r. ⌜ Prints listingText (now (bytes .entry)) (take r (now (out .exit))) × (r ≤ length (now (out .entry))) ⌝ }
 {
     let mut bounds = [0.0f64; 4];
     let mut sites = [0.0f64; 192];
@@ -201,6 +149,7 @@ fn answer(bytes: &[u8], out: &mut [u8]) -> usize
     let mut halfedges = [0u32; 576];
     let mut hull = [0u32; 96];
     let form = form::read(
+        false,
         bytes,
         &mut bounds,
         &mut sites,

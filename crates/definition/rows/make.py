@@ -82,10 +82,7 @@ def read(path):
         elif kind == "hull":
             hull += [int(w) for w in rest]
     mesh = [f"(floats\n    ({broken(chain(sites), '    ')}))"] + [f"({broken(chain(index(n) for n in l), '    ')})" for l in (tri, he, hull)]
-    if box is None:
-        call = "\n    ".join(["unclipped"] + mesh[:3])
-    else:
-        call = "\n    ".join(["build", "(mesh"] + mesh[:3] + [mesh[3] + ")"] + [f"(rowBox {' '.join(box)})"])
+    call = "\n    ".join(["build", "(mesh"] + mesh[:3] + [mesh[3] + ")"] + [f"(rowBox {' '.join(box)})"])
     return call, lines[0].lstrip("# ")
 
 
@@ -126,7 +123,7 @@ def main():
     def placed(path, call):
         return f"({call}\n    ≡ {fault(ask('--place', path))})"
 
-    for group, file, row in (("built", "Built", plain), ("refused", "Refused", plain), ("refused", "Places", placed), ("unclipped", "Unclipped", plain)):
+    for group, file, row in (("built", "Built", plain), ("refused", "Refused", plain), ("refused", "Places", placed)):
         rows = []
         for name in sorted(f for f in os.listdir(HERE) if f.startswith(group + "_")):
             path = os.path.join(HERE, name)

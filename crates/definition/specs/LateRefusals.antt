@@ -1,13 +1,11 @@
 -- Theorem: a build is refused with a number from 11 to 14, so that no refusal is taken for an earlier one or for none.
-use mathlib.Core.List.{List, [], _++_}
-use Prim.Native.Nat.{ℕ, _/_}
-use lib.Ieee.{Float}
+use mathlib.Core.List.{[], _++_}
+use Prim.Native.Nat.{_/_}
 use lib.ListN.{length}
 use Rattle.bounding_box.specs.Box.{cornersOf}
 use Rattle.bounding_box.specs.declared.BoundingBox.{BoundingBox}
 use Rattle.mesh.specs.Accepted.{Mesh, siteCount, tableOf}
 use Rattle.definition.specs.Build.{centersFrom, extensions, extendFrom, clipAll, build}
-use Rattle.definition.specs.Unclipped.{unclipped}
 use Rattle.definition.specs.Late.{Refuses, Numbered}
 use Rattle.definition.specs.laws.LateRefusals.{late-then, late-centers, late-extensions, late-cells}
 
@@ -22,7 +20,3 @@ build-late m b =
     (late-extensions (m .sites) (m .triangles) (m .hull) table nc 0 (length (m .hull)) _) λ x.
     late-then Numbered (clipAll b nc (m .triangles) (m .halfedges) (m .hull) table n _ x) _
     (late-cells b nc (m .triangles) (m .halfedges) (m .hull) table n _ x) (λ s. tt)
-
-pub unclipped-late : (sites : List Float) (tri he : List ℕ) → Refuses Numbered (unclipped sites tri he)
-unfolding unclipped
-unclipped-late sites tri he = late-then Numbered (centersFrom sites tri 0 (length tri / 3) []) _ (late-centers sites tri 0 _ []) (λ c. tt)

@@ -23,7 +23,6 @@ use Rattle.definition.specs.Rows.{floats, rowBox, t, x, w, rowOf}
 use Rattle.definition.specs.Cell.{wraps, withCorners, insertAt, insertEdge, edgeCrossing, clipWith, clipEdge, leave, enterAt, enter, link, crossAt, cross, clipStep, inBox, stepTo}
 use Rattle.definition.specs.Cell.{stepsTo, firstInside, turned, clipFrom, clipCell}
 use Rattle.definition.specs.Build.{centerAt, centersFrom, ownersFrom, extended, extendFrom, hullRing, clipInto, clipHull, clipRest, allEntries, lostFrom, clipAll, build}
-use Rattle.definition.specs.Unclipped.{ringsFrom, unclipped}
 
 pub rows :
     -- an edge clipped from both its ends gives two crossings, so that the two cells share no vertex
@@ -290,5 +289,5 @@ unfolding trailingZeros ofBits add sub mul div lt le eq neg sum round units odd 
     startsOf neighboursOf distOf nearestOf hopOf pathEnd andThen atEdge wraps withCorners insertAt insertEdge
     edgeCrossing clipWith clipEdge leave enterAt enter link crossAt cross clipStep inBox stepTo stepsTo
     firstInside turned clipFrom clipCell centerAt centersFrom ownersFrom extended extendFrom hullRing clipInto
-    clipHull clipRest allEntries lostFrom clipAll build ringsFrom unclipped rowOf
+    clipHull clipRest allEntries lostFrom clipAll build rowOf
 rows = (refl, refl, refl, refl, refl, refl, refl, refl, refl, refl, refl, refl, refl)

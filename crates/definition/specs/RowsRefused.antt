@@ -23,7 +23,6 @@ use Rattle.definition.specs.Rows.{floats, rowBox, rowOf}
 use Rattle.definition.specs.Cell.{wraps, withCorners, insertAt, insertEdge, edgeCrossing, clipWith, clipEdge, leave, enterAt, enter, link, crossAt, cross, clipStep, inBox, stepTo}
 use Rattle.definition.specs.Cell.{stepsTo, firstInside, turned, clipFrom, clipCell}
 use Rattle.definition.specs.Build.{centerAt, centersFrom, ownersFrom, extended, extendFrom, hullRing, clipInto, clipHull, clipRest, allEntries, lostFrom, clipAll, build}
-use Rattle.definition.specs.Unclipped.{ringsFrom, unclipped}
 
 pub rows :
     -- 14: rounding at a corner
@@ -124,5 +123,5 @@ unfolding trailingZeros ofBits add sub mul div lt le eq neg sum round units odd 
     startsOf neighboursOf distOf nearestOf hopOf pathEnd andThen atEdge wraps withCorners insertAt insertEdge
     edgeCrossing clipWith clipEdge leave enterAt enter link crossAt cross clipStep inBox stepTo stepsTo
     firstInside turned clipFrom clipCell centerAt centersFrom ownersFrom extended extendFrom hullRing clipInto
-    clipHull clipRest allEntries lostFrom clipAll build ringsFrom unclipped rowOf
+    clipHull clipRest allEntries lostFrom clipAll build rowOf
 rows = (refl, refl, refl, refl, refl, refl, refl, refl)

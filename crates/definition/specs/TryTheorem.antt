@@ -1,24 +1,20 @@
 -- Theorem: the tries of a site, on an accepted mesh whose build is not refused. A site in use has one, another site has none; each gives nothing or the cell that
--- the site has in the end; so the cell of a site in use is empty exactly where each of its tries gave nothing. Unclipped, such a cell is never empty.
+-- the site has in the end; so the cell of a site in use is empty exactly where each of its tries gave nothing.
 use mathlib.Core.Path.{_≡_, refl, sym, ap, _∙_}
-use mathlib.Core.Bool.{false}
 use mathlib.Core.List.{List, []}
-use mathlib.Core.Logic.{_⊎_, ⊎-elim, _≢_}
+use mathlib.Core.Logic.{_⊎_, ⊎-elim}
 use Prim.Native.Nat.{ℕ, _/_, _<_}
 use native.Mathlib.Omega.{arith}
-use lib.ListN.{length, getD, replicate, length-replicate}
+use lib.ListN.{length, getD}
 use Rattle.bounding_box.specs.declared.BoundingBox.{BoundingBox}
 use Rattle.mesh.specs.Mesh.{Used}
-use Rattle.mesh.specs.Accepted.{Mesh, tableOf, Accepted, siteCount}
-use Rattle.mesh.specs.laws.Facts.{topology, end-site, used-end, start-used, end-used}
+use Rattle.mesh.specs.Accepted.{Mesh, tableOf, Accepted}
+use Rattle.mesh.specs.laws.Facts.{topology, used-end, start-used, end-used}
 use Rattle.definition.specs.Fault.{ok}
-use Rattle.definition.specs.Cell.{Entry, RingPart}
-use Rattle.definition.specs.Build.{centersFrom, Extensions, ringFrom, CellState, isEmpty, Built, build}
-use Rattle.definition.specs.Unclipped.{ringsFrom, unclipped}
+use Rattle.definition.specs.Cell.{RingPart}
+use Rattle.definition.specs.Build.{Extensions, ringFrom, CellState, Built, build}
 use Rattle.definition.specs.Tries.{noCells, HullTo, RestTo, AllExtended, TryOf, atPlace, atHalfedge, TryGives, TriedInVain}
-use Rattle.definition.specs.laws.Runs.{ok-same, went, run-before}
-use Rattle.definition.specs.laws.Lowest.{not-empty}
-use Rattle.definition.specs.laws.RingCells.{rings-filled}
+use Rattle.definition.specs.laws.Runs.{ok-same, run-before}
 use Rattle.definition.specs.laws.TryRuns.{hull-run, restStep, rest-run}
 use Rattle.definition.specs.laws.TryCells.{rest-got, place-told, halfedge-told}
 use Rattle.definition.specs.laws.BuildStages.{BuildRan, ran}
@@ -85,19 +81,3 @@ module _ {m : Mesh} (a : Accepted m) (b : BoundingBox) {r : Built} (is : build m
       (λ q. q)
       (λ g. let w = v .all (g .0) (g .1) (g .3) in sym (g .5) ∙ ap (λ (c : RingPart). c .new) (ok-same (sym (g .4) ∙ w .1)) ∙ w .2)
       (filled-by-try site)
-
--- ---- unclipped
-pub used-ring : {m : Mesh} → Accepted m → {r : Built} → unclipped (m .sites) (m .triangles) (m .halfedges) ≡ ok r → {site : ℕ} → Used (m .triangles) site
-    → getD (r .cells) site [] ≢ []
-unfolding unclipped
-used-ring {m} a is {site} u empty =
-    let w = went (centersFrom (m .sites) (m .triangles) 0 (length (m .triangles) / 3) []) _ is in
-    let e = used-end (topology a) u in
-    let n : site < siteCount (m .sites) = rw (e .2) at (end-site (topology a) (e .0) (e .1)) in
-    let cells = ringsFrom (m .triangles) (m .halfedges) 0 (length (m .triangles)) (replicate (siteCount (m .sites)) []) in
-    let q : cells ≡ _ = ap (λ (c : Built). c .cells) (ok-same (w .then)) in
-    let f : isEmpty (getD cells site []) ≡ false =
-    rings-filled (m .triangles) (m .halfedges) site (length (m .triangles)) 0 (replicate (siteCount (m .sites)) []) (omega
-    (arith, n, length-replicate {A = List Entry} (siteCount (m .sites)) [])) (e .0) (omega arith)
-    (omega (arith, e .1, a .counts .same)) (e .1) (e .2) in
-    not-empty (getD cells site []) f (ap (λ (c : List (List Entry)). getD c site []) q ∙ empty)

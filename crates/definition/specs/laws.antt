@@ -11,7 +11,6 @@ pub mod CellsSoFar
 pub mod AllCells
 pub mod Start
 pub mod Owners
-pub mod Lowest
 pub mod LostCorners
 pub mod Built
 pub mod VerticesFinite
@@ -29,7 +28,6 @@ pub mod TryRuns
 pub mod BuildStages
 pub mod BuildFault
 pub mod TryCells
-pub mod RingCells
 pub mod Sides
 pub mod SidedEdge
 pub mod SidedRing

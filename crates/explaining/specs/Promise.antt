@@ -10,7 +10,6 @@ use Rattle.mesh.specs.Accepted.{Mesh, tableOf, siteCount}
 use Rattle.definition.specs.declared.Fault.{Fault}
 use Rattle.definition.specs.Fault.{Outcome}
 use Rattle.definition.specs.Build.{Built, build}
-use Rattle.definition.specs.Unclipped.{unclipped}
 use Rattle.admission.specs.Asks.{boxRules}
 use Rattle.admission.specs.Slices.{Slices, roomOf}
 use Rattle.build_answers.specs.Promise.{BuildAnswer}
@@ -27,6 +26,3 @@ module _ (m : Mesh) where
   -- in the given box
   abbrev pub ClippedWhy : Given → Question → Slices → Slices → Reason → Type 0
   ClippedWhy g q = WhyAnswer m (boxRules (g .sound) ++ questionRules (siteCount (m .sites)) q) q (build m (g .bounds))
-
-  abbrev pub UnclippedWhy : Question → Slices → Slices → Reason → Type 0
-  UnclippedWhy q = WhyAnswer m (questionRules (siteCount (m .sites)) q) q (unclipped (m .sites) (m .triangles) (m .halfedges))

@@ -1,7 +1,6 @@
 // The reason asked for on a whole lent mesh: the five slices are left as by a build, and the one reason is told.
 use admission::admit_build;
 use build_counts::finish_clipped;
-use build_counts::finish_unclipped;
 use cell_builder::build_cells;
 use given_box::Given;
 use reasons::Question;
@@ -18,11 +17,10 @@ ghost use Rattle.numbers.specs.Numbers.{refusedTriangle};
 ghost use Rattle.given_box.specs.Finite.{Fits};
 ghost use Rattle.mesh.specs.Accepted.{mesh};
 ghost use Rattle.definition.specs.Build.{build};
-ghost use Rattle.definition.specs.Unclipped.{unclipped};
 ghost use Rattle.admission.specs.Asks.{boxRules, Asked};
 ghost use Rattle.admission.specs.Slices.{slices};
 ghost use Rattle.reasons.specs.Rules.{questionRules};
-ghost use Rattle.explaining.specs.Promise.{ClippedWhy, UnclippedWhy};
+ghost use Rattle.explaining.specs.Promise.{ClippedWhy};
 ghost use Rattle.explaining.specs.Steps.{Located, Explains};
 
 // Rule 4 on each site asked about.
@@ -70,7 +68,7 @@ fn locate(
     of_mesh(check_mesh::check_mesh(sites, triangles, halfedges, hull, work))
 }
 
-// The clipped build, with what it met as a reason; `asked` is what the call's own arguments gave.
+// The build, with what it met as a reason; `asked` is what the call's own arguments gave.
 fn build_in_box(
     given: Given,
     sites: &[f64],
@@ -122,53 +120,6 @@ fn build_in_box(
     of_fault(fault)
 }
 
-// The unclipped build, in the same way.
-fn build_without_box(
-    sites: &[f64],
-    triangles: &[u32],
-    halfedges: &[u32],
-    hull: &[u32],
-    asked: u32,
-    work: &mut [u32],
-    vertices: &mut [f64],
-    indexes: &mut [u32],
-    offsets: &mut [u32],
-    counts: &mut [u32],
-) -> Reason
-    requires { ⌜ asked < refusedTriangle ⌝ }
-    ensures { λ r. ⌜ Explains (mesh (now (sites .entry)) (now (triangles .entry)) (now (halfedges .entry)) (now (hull .entry))) asked
-        (unclipped (now (sites .entry)) (now (triangles .entry)) (now (halfedges .entry)))
-        (slices (now (work .entry)) (now (vertices .entry)) (now (indexes .entry)) (now (offsets .entry)) (now (counts .entry)))
-        (slices (now (work .exit)) (now (vertices .exit)) (now (indexes .exit)) (now (offsets .exit)) (now (counts .exit))) r ⌝ }
-{
-    let r = admit_build(
-        sites,
-        triangles,
-        halfedges,
-        hull,
-        asked,
-        work,
-        vertices,
-        indexes,
-        offsets,
-        counts,
-    );
-    if r != 0 {
-        return locate(r, sites, triangles, halfedges, hull, work);
-    }
-    let fault = unclipped::build_unclipped(
-        sites,
-        triangles,
-        halfedges,
-        hull,
-        vertices,
-        indexes,
-        offsets,
-    );
-    finish_unclipped(fault.number, triangles.len(), work, counts);
-    of_fault(fault)
-}
-
 // In the given box.
 pub fn why(
     given: Given,
@@ -192,52 +143,6 @@ pub fn why(
     let asked = ask_in_box(given.sound, count, q);
     let r = build_in_box(
         given,
-        sites,
-        triangles,
-        halfedges,
-        hull,
-        asked,
-        work,
-        vertices,
-        indexes,
-        offsets,
-        counts,
-    );
-    let t = tell(r);
-    if t.number != 0 {
-        return r;
-    }
-    let end = count + 1;
-    answer(
-        triangles,
-        halfedges,
-        &work[..count],
-        &offsets[..end],
-        indexes,
-        q,
-    )
-}
-
-// Without a box.
-pub fn why_unclipped(
-    sites: &[f64],
-    triangles: &[u32],
-    halfedges: &[u32],
-    hull: &[u32],
-    q: Question,
-    work: &mut [u32],
-    vertices: &mut [f64],
-    indexes: &mut [u32],
-    offsets: &mut [u32],
-    counts: &mut [u32],
-) -> Reason
-    ensures { λ r. ⌜ UnclippedWhy (mesh (now (sites .entry)) (now (triangles .entry)) (now (halfedges .entry)) (now (hull .entry))) q
-        (slices (now (work .entry)) (now (vertices .entry)) (now (indexes .entry)) (now (offsets .entry)) (now (counts .entry)))
-        (slices (now (work .exit)) (now (vertices .exit)) (now (indexes .exit)) (now (offsets .exit)) (now (counts .exit))) r ⌝ }
-{
-    let count = sites.len() / 2;
-    let asked = ask_question(count, q);
-    let r = build_without_box(
         sites,
         triangles,
         halfedges,

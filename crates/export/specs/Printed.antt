@@ -2,7 +2,7 @@
 -- Definitions only.
 use mathlib.Core.List.{List, [], _∷_, _++_, map}
 use Prim.Native.Nat.{ℕ, suc}
-use Rattle.printing.specs.Printed.{Texts}
+use Rattle.printing.specs.Printed.{Text}
 use Rattle.utils.specs.Flat.{flat}
 use Rattle.definition.specs.Build.{Built}
 use Rattle.definition.specs.Cell.{unmarked}
@@ -20,6 +20,6 @@ drawnFrom v i (c ∷ cs) = mapLine i (image v c) ++ drawnFrom v (suc i) cs
 abbrev pub exported : Built → List ℕ
 exported b = heading ++ drawnFrom (patterns (flat (b .verts))) 0 (map unmarked (b .cells))
 
--- what is printed is `Prints texts` (crate printing)
-abbrev pub mapTexts : Texts
-mapTexts = record { boxed = λ n T b. exported b; plain = λ n T b. exported b }
+-- what is printed is `Prints exportText` (crate printing)
+abbrev pub exportText : Text
+exportText n T b = exported b

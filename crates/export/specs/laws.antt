@@ -3,4 +3,3 @@ pub mod BuildText
 pub mod CellsInIndexes
 pub mod Drawing
 pub mod TextRoom
-pub mod UnclippedEntries

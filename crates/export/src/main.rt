@@ -7,9 +7,10 @@ ghost use mathlib.Core.Path.{_≡_};
 ghost use Prim.Native.Nat.{_<_, _≤_};
 ghost use lib.ListN.{length, take};
 ghost use Rattle.mesh.specs.Accepted.{mesh};
-ghost use Rattle.printing.specs.Printed.{InBox, WithoutBox, Prints, ShownIn, shown, ByMode, ByForm};
-ghost use Rattle.export.specs.Printed.{mapTexts};
+ghost use Rattle.printing.specs.Printed.{InBox, Prints, ShownIn, shown, ByForm};
+ghost use Rattle.export.specs.Printed.{exportText};
 ghost use Rattle.given_box.specs.Finite.{Fits};
+ghost use Rattle.form_box.specs.FormBox.{boxBy};
 ghost use Rattle.form_step.specs.Holds.{ListRoom, Few};
 ghost use Rattle.export.specs.Shown.{MapSized, CanDraw, lines};
 
@@ -47,7 +48,7 @@ fn in_box(
     hull: &[u32],
 ) -> usize
     requires { ⌜ MapSized (length (now sites)) (length (now triangles)) (length (now hull)) (length (now out)) × Fits given ⌝ }
-    ensures { λ r. ⌜ InBox mapTexts (mesh (now (sites .entry)) (now (triangles .entry)) (now (halfedges .entry)) (now (hull .entry))) given
+    ensures { λ r. ⌜ InBox exportText (mesh (now (sites .entry)) (now (triangles .entry)) (now (halfedges .entry)) (now (hull .entry))) given
         (take r (now (out .exit))) × (r ≤ length (now (out .entry))) ⌝ }
 {
     let mut work = [0u32; 96];
@@ -71,37 +72,7 @@ fn in_box(
     show(out, number, n, &vertices, &offsets, &indexes)
 }
 
-fn without_box(
-    out: &mut [u8],
-    sites: &[f64],
-    triangles: &[u32],
-    halfedges: &[u32],
-    hull: &[u32],
-) -> usize
-    requires { ⌜ MapSized (length (now sites)) (length (now triangles)) (length (now hull)) (length (now out)) ⌝ }
-    ensures { λ r. ⌜ WithoutBox mapTexts (mesh (now (sites .entry)) (now (triangles .entry)) (now (halfedges .entry)) (now (hull .entry)))
-        (take r (now (out .exit))) × (r ≤ length (now (out .entry))) ⌝ }
-{
-    let mut work = [0u32; 96];
-    let mut vertices = [0.0f64; 3656];
-    let mut indexes = [0u32; 3076];
-    let mut offsets = [0u32; 97];
-    let mut counts = [0u32; 6];
-    let number = building::build_unclipped(
-        sites,
-        triangles,
-        halfedges,
-        hull,
-        &mut work,
-        &mut vertices,
-        &mut indexes,
-        &mut offsets,
-        &mut counts,
-    );
-    let n = narrow(sites.len() / 2);
-    show(out, number, n, &vertices, &offsets, &indexes)
-}
-
+// In the box that the form gives.
 fn of_mesh(
     out: &mut [u8],
     clip: u8,
@@ -112,12 +83,9 @@ fn of_mesh(
     hull: &[u32],
 ) -> usize
     requires { ⌜ MapSized (length (now sites)) (length (now triangles)) (length (now hull)) (length (now out)) ⌝ }
-    ensures { λ r. ⌜ ByMode mapTexts clip bounds (mesh (now (sites .entry)) (now (triangles .entry)) (now (halfedges .entry)) (now (hull .entry)))
+    ensures { λ r. ⌜ InBox exportText (mesh (now (sites .entry)) (now (triangles .entry)) (now (halfedges .entry)) (now (hull .entry))) (boxBy clip bounds)
         (take r (now (out .exit))) × (r ≤ length (now (out .entry))) ⌝ }
 {
-    if clip == form_box::NO_BOX {
-        return without_box(out, sites, triangles, halfedges, hull);
-    }
     let given = form_box::box_of(clip, bounds);
     in_box(out, given, sites, triangles, halfedges, hull)
 }
@@ -133,7 +101,7 @@ fn of_form(
     hull: &[u32],
 ) -> usize
     requires { ⌜ ListRoom bounds (now sites) (now triangles) (now halfedges) (now hull) × Few form × (106496 ≤ length (now out)) ⌝ }
-    ensures { λ r. ⌜ ByForm mapTexts form bounds (now (sites .entry)) (now (triangles .entry)) (now (halfedges .entry)) (now (hull .entry))
+    ensures { λ r. ⌜ ByForm exportText form bounds (now (sites .entry)) (now (triangles .entry)) (now (halfedges .entry)) (now (hull .entry))
         (take r (now (out .exit))) × (r ≤ length (now (out .entry))) ⌝ }
 {
     let Form::Sound {
@@ -143,7 +111,7 @@ fn of_form(
         clip,
     } = form
     else {
-        return listing::refusal(out, numbers::REFUSED_FORM);
+        return listing::refusal(out, form_step::number_of(form));
     };
     let numbers = 2 * n;
     let links = 3 * t;
@@ -161,7 +129,7 @@ fn of_form(
 // What is printed for a form's bytes.
 fn answer(bytes: &[u8], out: &mut [u8]) -> usize
     requires { ⌜ 106496 ≤ length (now out) ⌝ }
-    ensures { λ r. ⌜ Prints mapTexts (now (bytes .entry)) (take r (now (out .exit))) × (r ≤ length (now (out .entry))) ⌝ }
+    ensures { λ r. ⌜ Prints exportText (now (bytes .entry)) (take r (now (out .exit))) × (r ≤ length (now (out .entry))) ⌝ }
 {
     let mut bounds = [0.0f64; 4];
     let mut sites = [0.0f64; 192];
@@ -169,6 +137,7 @@ fn answer(bytes: &[u8], out: &mut [u8]) -> usize
     let mut halfedges = [0u32; 576];
     let mut hull = [0u32; 96];
     let form = form::read(
+        false,
         bytes,
         &mut bounds,
         &mut sites,

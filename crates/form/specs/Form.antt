@@ -1,4 +1,5 @@
 -- The form of docs/RULES.md: a mesh written record by record. Definitions only.
+use mathlib.Core.Bool.{Bool, true}
 use mathlib.Core.List.{List, [], _∷_, _++_}
 use mathlib.Core.Path.{_≡_}
 use Prim.Native.Nat.{ℕ, _^_, _≤_, _<_}
@@ -75,10 +76,17 @@ pub record MeshFits (m : FormMesh) : Type 0 where
   pub few-triangles : length (m .triangles) ≤ 192
   pub few-hull : length (m .hull) ≤ 96
 
+-- the first records that a form may have; none without a box but in forms of old
+abbrev pub MayBegin : Bool → Outline → Type 0
+MayBegin old (box x y width height) = Unit {0}
+MayBegin old unclipped = old ≡ true
+MayBegin old (edges left top right bottom) = Unit {0}
+
 -- a sound form
-pub record IsForm (s : List ℕ) : Type 0 where
+pub record IsForm (old : Bool) (s : List ℕ) : Type 0 where
   pub mesh : FormMesh
   pub fits : MeshFits mesh
+  pub admits : MayBegin old (mesh .clip)
   pub bytes : s ≡ formOf mesh
 
 -- ---- its numbers, as the lists hold them

@@ -1,5 +1,6 @@
 -- Theorem: no form has more than 6,946 bytes.
 use mathlib.Core.Path.{refl, ap}
+use mathlib.Core.Bool.{Bool}
 use mathlib.Core.List.{List, [], _∷_, _++_}
 use Prim.Native.Nat.{ℕ, _≤_, _<_}
 use native.Mathlib.Omega.{arith}
@@ -35,5 +36,5 @@ form-short m f =
       f .few-hull,
     )
 
-pub no-form : (s : List ℕ) → 6946 < length s → IsForm s → ⊥
-no-form s h i = omega (arith, form-short (i .mesh) (i .fits), ap length (i .bytes))
+pub no-form : (old : Bool) (s : List ℕ) → 6946 < length s → IsForm old s → ⊥
+no-form old s h i = omega (arith, form-short (i .mesh) (i .fits), ap length (i .bytes))

@@ -1,5 +1,6 @@
 -- Rows: the input "square" of docs/RULES.md: its 172 bytes, that they are the form of its mesh, and that they are read as that mesh; the same with its box by edges. By computation.
 use mathlib.Core.Path.{_≡_, refl}
+use mathlib.Core.Bool.{false}
 use mathlib.Core.List.{List, [], _∷_, _++_}
 use Prim.Native.Nat.{ℕ}
 use lib.Ieee.{Float, binary64, ofBits}
@@ -63,7 +64,7 @@ minus-half = ofBits binary64 minus-half-is
 
 -- read into lists of exactly its numbers
 abbrev pub read-square : Reading
-read-square = takes (reading start (replicate 4 zero) (replicate 8 zero) (replicate 6 0) (replicate 6 0) (replicate 4 0)) squareBytes
+read-square = takes (reading (start false) (replicate 4 zero) (replicate 8 zero) (replicate 6 0) (replicate 6 0) (replicate 4 0)) squareBytes
 
 pub rows :
     (length squareBytes ≡ 172)
@@ -100,7 +101,7 @@ edgesBytes =
     0 ∷ 0 ∷ 0 ∷ 0 ∷ 0 ∷ 0 ∷ 240 ∷ 63 ∷ 0 ∷ 0 ∷ 0 ∷ 0 ∷ 0 ∷ 0 ∷ 240 ∷ 63 ∷ []) ++ drop 33 squareBytes
 
 abbrev read-edges : Reading
-read-edges = takes (reading start (replicate 4 zero) (replicate 8 zero) (replicate 6 0) (replicate 6 0) (replicate 4 0)) edgesBytes
+read-edges = takes (reading (start false) (replicate 4 zero) (replicate 8 zero) (replicate 6 0) (replicate 6 0) (replicate 4 0)) edgesBytes
 
 pub rows-by-edges :
     (formOf edgesSquare ≡ edgesBytes)

@@ -8,4 +8,6 @@ pub mod Cut
 pub mod Tail
 pub mod Exact
 pub mod Place
+pub mod NumberAt
+pub mod Longer
 pub mod Lists

@@ -145,8 +145,9 @@ pub fn feed(
     n
 }
 
-// A whole form.
+// A whole form; with `old`, one of old is read too.
 pub fn read(
+    old: bool,
     bytes: &[u8],
     bounds: &mut [f64],
     sites: &mut [f64],
@@ -155,9 +156,9 @@ pub fn read(
     hull: &mut [u32],
 ) -> Form
     requires { ⌜ ListRoom (now bounds) (now sites) (now triangles) (now halfedges) (now hull) ⌝ }
-    ensures { λ a. ⌜ Reads (now (bytes .entry)) (reading start (now (bounds .entry)) (now (sites .entry)) (now (triangles .entry))
+    ensures { λ a. ⌜ Reads (now (bytes .entry)) (reading (start old) (now (bounds .entry)) (now (sites .entry)) (now (triangles .entry))
         (now (halfedges .entry)) (now (hull .entry))) a (now (bounds .exit)) (now (sites .exit)) (now (triangles .exit)) (now (halfedges .exit)) (now (hull .exit)) ⌝ }
 {
-    let r = feed(start(), bytes, bounds, sites, triangles, halfedges, hull);
+    let r = feed(start(old), bytes, bounds, sites, triangles, halfedges, hull);
     finish(r)
 }

@@ -3,9 +3,7 @@ use given_box::Given;
 ghost use mathlib.Core.Path.{_≡_};
 ghost use Rattle.form_box.specs.FormBox.{boxBy};
 
-// The kind of a form that gives no box, and of one that gives its edges; kind 1 gives center and size.
-pub const NO_BOX: u8 = 6;
-
+// The kind of a form that gives its box's edges; kind 1 gives center and size.
 pub const EDGES: u8 = 7;
 
 // By its edges or by its center and size.

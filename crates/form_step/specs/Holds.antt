@@ -18,7 +18,12 @@ pub record ListRoom (bs ss : List Float) (ts es hs : List ℕ) : Type 0 where
 -- the counts of a sound form are within their limits
 abbrev pub Few : Form → Type 0
 Few (Sound ss ts hs k) = (ss ≤ 96) × (ts ≤ 192) × (hs ≤ 96)
-Few (Broken at) = Unit {0}
+Few (Broken number at) = Unit {0}
+
+-- the number of a refused form, 0 for a sound one
+abbrev pub formNumber : Form → ℕ
+formNumber (Sound ss ts hs k) = 0
+formNumber (Broken number at) = number
 
 -- `read`'s promise: its answer, and each list as the whole form leaves it
 pub record Reads (s : List ℕ) (d : Reading) (a : Form) (bs ss : List Float) (ts es hs : List ℕ) : Type 0 where

@@ -6,7 +6,7 @@ use lib.Dec.{eqb, ltb}
 use lib.Ieee.{Float, binary64, ofBits}
 use lib.ListN.{set}
 use Rattle.laws.specs.Pick.{pick}
-use Rattle.numbers.specs.Numbers.{refusedForm}
+use Rattle.numbers.specs.Numbers.{refusedForm, refusedUnclipped}
 use Rattle.form_step.specs.Register.{shift}
 use Rattle.form_step.specs.declared.Reader.{Reader}
 use Rattle.form_step.specs.declared.Form.{Form}
@@ -23,9 +23,9 @@ sizeOf k =
     (λ _. pick (eqb k 4) (λ _. 4)
     (λ _. pick (eqb k 7) (λ _. 32) (λ _. 0)))))
 
--- a form begins with a box, with the word that there is none, or with a box by its edges
-unfoldable pub opens : ℕ → Bool
-opens k = pick (eqb k 1) (λ _. true) (λ _. pick (eqb k 6) (λ _. true) (λ _. eqb k 7))
+-- a form begins with a box or with a box by its edges; forms of old also with the word that there is none
+unfoldable pub opens : Bool → ℕ → Bool
+opens old k = pick (eqb k 1) (λ _. true) (λ _. pick (eqb k 6) (λ _. old) (λ _. eqb k 7))
 
 -- after that: sites, triangles, hull sites within their limits, and one end
 unfoldable pub roomLeft : Reader → ℕ → Bool
@@ -38,14 +38,15 @@ roomLeft r k =
 -- the order is that of the kinds
 unfoldable pub follows : Reader → ℕ → Bool
 follows r k =
-    pick (eqb (r .stage) 0) (λ _. opens k)
+    pick (eqb (r .stage) 0) (λ _. opens (r .old) k)
     (λ _. pick (ltb k (r .stage)) (λ _. false) (λ _. roomLeft r k))
 
 -- ---- the state
 
-abbrev pub start : Reader
-start =
+abbrev pub start : Bool → Reader
+start old =
     record {
+      old = old;
       stage = 0;
       left = 0;
       word = 0;
@@ -61,14 +62,19 @@ start =
 abbrev pub broken : Reader → Bool
 broken r = pick (eqb (r .refusal) 0) (λ _. false) (λ _. true)
 
-unfoldable pub refused : Reader → Reader
-refused r =
+-- the number for a kind that may not come: a mesh without a box is refused by name, until the end
+unfoldable pub numberFor : Reader → ℕ → ℕ
+numberFor r k = pick (eqb k 6) (λ _. pick (ltb (r .stage) 5) (λ _. refusedUnclipped) (λ _. refusedForm)) (λ _. refusedForm)
+
+unfoldable pub refused : Reader → ℕ → Reader
+refused r number =
     record {
+      old = r .old;
       stage = r .stage;
       left = r .left;
       word = r .word;
       at = r .at;
-      refusal = refusedForm;
+      refusal = number;
       clip = r .clip;
       sites = r .sites;
       triangles = r .triangles;
@@ -78,12 +84,13 @@ refused r =
 unfoldable pub begun : Reader → ℕ → Reader
 begun r k =
     record {
-      stage = pick (opens k) (λ _. 1) (λ _. k);
+      old = r .old;
+      stage = pick (opens (r .old) k) (λ _. 1) (λ _. k);
       left = sizeOf k;
       word = r .word;
       at = r .at + 1;
       refusal = 0;
-      clip = pick (opens k) (λ _. k) (λ _. r .clip);
+      clip = pick (opens (r .old) k) (λ _. k) (λ _. r .clip);
       sites = r .sites;
       triangles = r .triangles;
       hull = r .hull;
@@ -96,6 +103,7 @@ tally r k n = pick (eqb (r .stage) k) (λ _. pick (eqb (r .left) 1) (λ _. n + 1
 unfoldable pub inside : Reader → ℕ → Reader
 inside r b =
     record {
+      old = r .old;
       stage = r .stage;
       left = r .left - 1;
       word = shift (r .word) b;
@@ -108,7 +116,7 @@ inside r b =
     }
 
 unfoldable pub outside : Reader → ℕ → Reader
-outside r b = pick (follows r b) (λ _. begun r b) (λ _. refused r)
+outside r b = pick (follows r b) (λ _. begun r b) (λ _. refused r (numberFor r b))
 
 -- one byte: after a refusal none counts; a body's byte; a kind
 unfoldable pub step : Reader → ℕ → Reader
@@ -120,12 +128,12 @@ steps r (b ∷ s) = steps (step r b) s
 
 -- where no more comes: a form that has not ended is refused at its length
 unfoldable pub finished : Reader → Reader
-finished r = pick (broken r) (λ _. r) (λ _. pick (eqb (r .stage) 5) (λ _. r) (λ _. refused r))
+finished r = pick (broken r) (λ _. r) (λ _. pick (eqb (r .stage) 5) (λ _. r) (λ _. refused r refusedForm))
 
 unfoldable pub verdict : Reader → Form
 verdict r =
-    pick (broken r) (λ _. Broken (r .at))
-    (λ _. pick (eqb (r .stage) 5) (λ _. Sound (r .sites) (r .triangles) (r .hull) (r .clip)) (λ _. Broken (r .at)))
+    pick (broken r) (λ _. Broken (r .refusal) (r .at))
+    (λ _. pick (eqb (r .stage) 5) (λ _. Sound (r .sites) (r .triangles) (r .hull) (r .clip)) (λ _. Broken refusedForm (r .at)))
 
 -- ---- the lent lists
 

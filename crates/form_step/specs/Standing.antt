@@ -5,7 +5,7 @@ use mathlib.Core.Path.{_≡_}
 use Prim.Native.Nat.{ℕ, _+_, _-_, _*_, _%_, _^_, _≤_, _<_}
 use lib.Dec.{eqb}
 use Rattle.laws.specs.Pick.{pick}
-use Rattle.numbers.specs.Numbers.{refusedForm}
+use Rattle.numbers.specs.Numbers.{refusedForm, refusedUnclipped}
 use Rattle.form_step.specs.Reader.{sizeOf, opens}
 use Rattle.form_step.specs.declared.Reader.{Reader}
 
@@ -40,12 +40,17 @@ pub record CountAt (stage k n limit : ℕ) : Type 0 where
   pub before : stage < k → n ≡ 0
   pub in-it : stage ≡ k → 0 < n
 
+-- the numbers of the reader's refusals
+abbrev pub IsNumber : ℕ → Type 0
+IsNumber n = (n ≡ refusedForm) ⊎ (n ≡ refusedUnclipped)
+
 -- the state is that of its records: so it is after any bytes
 pub record Ok (r : Reader) : Type 0 where
-  pub refusal : (r .refusal ≡ 0) ⊎ (r .refusal ≡ refusedForm)
+  pub refusal : (r .refusal ≡ 0) ⊎ IsNumber (r .refusal)
+  pub by-name : r .refusal ≡ refusedUnclipped → (r .left ≡ 0) × (r .stage < 5)
   pub stage : r .stage ≤ 5
   pub no-clip : r .stage ≡ 0 → r .clip ≡ 0
-  pub clip : r .stage ≢ 0 → opens (r .clip) ≡ true
+  pub clip : r .stage ≢ 0 → opens (r .old) (r .clip) ≡ true
   pub left : r .left ≤ bodyOf r
   pub sites : CountAt (r .stage) 2 (sitesBegun r) 96
   pub triangles : CountAt (r .stage) 3 (trianglesBegun r) 192

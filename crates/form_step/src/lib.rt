@@ -1,18 +1,22 @@
 // The form's reader without its lists: what is known between two bytes, and what one byte makes of it.
 use numbers::REFUSED_FORM;
+use numbers::REFUSED_UNCLIPPED;
 ghost use mathlib.Core.Path.{_≡_};
 ghost use Prim.Native.Nat.{_<_};
 ghost use Rattle.form_step.specs.Register.{shift};
-ghost use Rattle.form_step.specs.Reader.{sizeOf, opens, roomLeft, follows, start, refused, begun, tally, inside, outside, finished, verdict};
+ghost use Rattle.form_step.specs.Reader.{sizeOf, opens, roomLeft, follows, start, numberFor, refused, begun, tally, inside, outside, finished, verdict};
+ghost use Rattle.form_step.specs.Holds.{formNumber};
 ghost use Rattle.form_step.specs.Standing.{Ok};
 
 const TOP_BYTE: u64 = 0x100_0000_0000_0000;
 // bytes of the body of a box by its edges
 const EDGES_SIZE: u64 = 32;
 
-// What is known between two bytes. All in words of 64 bits, so that it can be kept as such between two calls.
+// What is known between two bytes. All but the flag in words of 64 bits, so that it can be kept as such between two calls.
 pub struct Reader {
-    // 0 nothing yet, 1 a box, its edges or none, 2 sites, 3 triangles, 4 hull, 5 ended
+    // whether a form may begin with kind 6, as forms of old did: set at the start, and it stays
+    pub old: bool,
+    // 0 nothing yet, 1 a box, its edges or (of old) none, 2 sites, 3 triangles, 4 hull, 5 ended
     pub stage: u64,
     // bytes of the present record's body that are to come
     pub left: u64,
@@ -38,8 +42,9 @@ pub enum Form {
         // the kind that opened the form
         clip: u8,
     },
-    // Refusal 17, at this byte.
+    // Refused with this number at this byte.
     Broken {
+        number: u8,
         at: usize,
     },
 }
@@ -65,14 +70,14 @@ pub fn size(kind: u64) -> u64
     0
 }
 
-pub fn opens(kind: u64) -> bool
-    ensures { λ r. ⌜ r ≡ opens kind ⌝ }
+pub fn opens(old: bool, kind: u64) -> bool
+    ensures { λ r. ⌜ r ≡ opens old kind ⌝ }
 {
     if kind == 1 {
         return true;
     }
     if kind == 6 {
-        return true;
+        return old;
     }
     kind == 7
 }
@@ -100,7 +105,7 @@ fn follows(r: Reader, kind: u64) -> bool
     ensures { λ a. ⌜ a ≡ follows r kind ⌝ }
 {
     if r.stage == 0 {
-        return opens(kind);
+        return opens(r.old, kind);
     }
     if kind < r.stage {
         return false;
@@ -108,10 +113,11 @@ fn follows(r: Reader, kind: u64) -> bool
     room_for(r, kind)
 }
 
-pub fn start() -> Reader
-    ensures { λ n. ⌜ n ≡ start ⌝ }
+pub fn start(old: bool) -> Reader
+    ensures { λ n. ⌜ n ≡ start old ⌝ }
 {
     Reader {
+        old: old,
         stage: 0,
         left: 0,
         word: 0,
@@ -124,11 +130,24 @@ pub fn start() -> Reader
     }
 }
 
-pub fn refused(r: Reader) -> Reader
-    ensures { λ n. ⌜ n ≡ refused r ⌝ }
+// The number for a byte that may not come where a kind is expected: a mesh without a box is refused by name, until the end.
+fn number_for(r: Reader, kind: u64) -> u64
+    ensures { λ n. ⌜ n ≡ numberFor r kind ⌝ }
+{
+    if kind != 6 {
+        return REFUSED_FORM as u64;
+    }
+    if r.stage < 5 {
+        return REFUSED_UNCLIPPED as u64;
+    }
+    REFUSED_FORM as u64
+}
+
+pub fn refused(r: Reader, number: u64) -> Reader
+    ensures { λ n. ⌜ n ≡ refused r number ⌝ }
 {
     let mut n = r;
-    n.refusal = REFUSED_FORM as u64;
+    n.refusal = number;
     n
 }
 
@@ -140,7 +159,7 @@ fn begun(r: Reader, kind: u64) -> Reader
     n.left = size(kind);
     n.at = n.at + 1;
     n.refusal = 0;
-    if opens(kind) {
+    if opens(r.old, kind) {
         n.stage = 1;
         n.clip = kind;
         return n;
@@ -157,7 +176,7 @@ pub fn outside(r: Reader, b: u8) -> Reader
     if follows(r, kind) {
         return begun(r, kind);
     }
-    refused(r)
+    refused(r, number_for(r, kind))
 }
 
 pub fn shifted(word: u64, b: u8) -> u64
@@ -184,6 +203,7 @@ pub fn inside(r: Reader, b: u8) -> Reader
     ensures { λ n. ⌜ n ≡ inside r b ⌝ }
 {
     Reader {
+        old: r.old,
         stage: r.stage,
         left: r.left - 1,
         word: shifted(r.word, b),
@@ -206,7 +226,7 @@ pub fn finished(r: Reader) -> Reader
     if r.stage == 5 {
         return r;
     }
-    refused(r)
+    refused(r, REFUSED_FORM as u64)
 }
 
 // What the bytes taken so far are if no more come.
@@ -216,12 +236,25 @@ pub fn finish(r: Reader) -> Form
 {
     let n = finished(r);
     if n.refusal != 0 {
-        return Form::Broken { at: n.at as usize };
+        return Form::Broken {
+            number: n.refusal as u8,
+            at: n.at as usize,
+        };
     }
     Form::Sound {
         sites: n.sites as usize,
         triangles: n.triangles as usize,
         hull: n.hull as usize,
         clip: n.clip as u8,
+    }
+}
+
+// The number of a refused form; 0 for a sound one.
+pub fn number_of(form: Form) -> u32
+    ensures { λ n. ⌜ n ≡ formNumber form ⌝ }
+{
+    match form {
+        Form::Sound { .. } => 0,
+        Form::Broken { number, .. } => number as u32,
     }
 }

@@ -1,6 +1,7 @@
 -- Theorem: what is written is the form of the mesh whose first record, sites, triangles, pairs and hull it was made of, and how long it is; read again it
 -- gives these lists.
 use mathlib.Core.Path.{_≡_, refl, ap, _∙_}
+use mathlib.Core.Bool.{Bool}
 use mathlib.Core.List.{List, [], _∷_, _++_, append-assoc}
 use Prim.Native.Nat.{ℕ, _+_, _*_, _/_, _%_}
 use native.Mathlib.Omega.{arith}
@@ -8,7 +9,7 @@ use lib.Ieee.{Float}
 use lib.ListN.{length, length-append}
 use lib.Seq.{sets}
 use Rattle.octets.specs.Bytes.{each}
-use Rattle.form.specs.Form.{Outline, Site, FormMesh, MeshFits, formOf, outlineBytes, siteBytes, triangleBytes, hullBytes}
+use Rattle.form.specs.Form.{Outline, Site, FormMesh, MeshFits, MayBegin, formOf, outlineBytes, siteBytes, triangleBytes, hullBytes}
 use Rattle.form.specs.Form.{numbersOf, outlineFloats, siteFloats, triangleSites, trianglePairs, kindOf}
 use Rattle.form_step.specs.Reader.{start, reading, takes}
 use Rattle.form_step.specs.Holds.{Reads}
@@ -69,10 +70,10 @@ module _ (clip : Outline) (ps : List Site) (tri he hull : List ℕ) where
     pub pairs-back : numbersOf trianglePairs (trianglesOf tri he) ≡ he
     pairs-back = numbers-from tri he trianglePairs he (λ _. refl) (length tri / 3) 0 (omega arith)
 
-    pub read-back : {bs ss : List Float} {ts es hs : List ℕ} {a : Form} {bs′ ss′ : List Float} {ts′ es′ hs′ : List ℕ} → MeshFits mesh
-        → Reads bytes (reading start bs ss ts es hs) a bs′ ss′ ts′ es′ hs′ → ReadAs clip ps tri he hull bs ss ts es hs a bs′ ss′ ts′ es′ hs′
-    read-back {bs} {ss} {ts} {es} {hs} fits r =
-        let w : WholeRead mesh bs ss ts es hs (takes (reading start bs ss ts es hs) bytes) = rw writes-form (complete bs ss ts es hs mesh fits) in
+    pub read-back : {old : Bool} {bs ss : List Float} {ts es hs : List ℕ} {a : Form} {bs′ ss′ : List Float} {ts′ es′ hs′ : List ℕ} → MeshFits mesh → MayBegin old clip
+        → Reads bytes (reading (start old) bs ss ts es hs) a bs′ ss′ ts′ es′ hs′ → ReadAs clip ps tri he hull bs ss ts es hs a bs′ ss′ ts′ es′ hs′
+    read-back {old} {bs} {ss} {ts} {es} {hs} fits i r =
+        let w : WholeRead mesh bs ss ts es hs (takes (reading (start old) bs ss ts es hs) bytes) = rw writes-form (complete bs ss ts es hs old mesh fits i) in
         record {
           answer = r .answer ∙ w .answer ∙ ap (λ (k : ℕ). Sound (length ps) k (length hull) (kindOf clip)) (triangles-count tri he (length tri / 3) 0);
           bounds = r .bounds ∙ w .bounds;

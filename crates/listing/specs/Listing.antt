@@ -29,15 +29,15 @@ unfoldable pub cellLines : List ℕ → List ℕ → ℕ → ℕ → List ℕ
 cellLines offsets cells i zero = []
 cellLines offsets cells i (suc n) = cellLine i (listedCell offsets cells i) ++ cellLines offsets cells (suc i) n
 
--- for kind 6 this is all
-unfoldable pub unclippedListing : ℕ → ℕ → ℕ → List ℕ → List ℕ → List ℕ
-unclippedListing sites triangles vertices offsets cells = counts sites triangles vertices ++ cellLines offsets cells 0 sites
+-- all but the corners
+unfoldable pub countsAndCells : ℕ → ℕ → ℕ → List ℕ → List ℕ → List ℕ
+countsAndCells sites triangles vertices offsets cells = counts sites triangles vertices ++ cellLines offsets cells 0 sites
 
 unfoldable pub corners : List ℕ → ℕ → List ℕ
 corners owners lost = ascii "corners" ++ entries owners ++ labelled " lost" lost ++ ascii "\n"
 
 unfoldable pub listing : ℕ → ℕ → ℕ → List ℕ → List ℕ → List ℕ → ℕ → List ℕ
-listing sites triangles vertices offsets cells owners lost = unclippedListing sites triangles vertices offsets cells ++ corners owners lost
+listing sites triangles vertices offsets cells owners lost = countsAndCells sites triangles vertices offsets cells ++ corners owners lost
 
 unfoldable pub refusal : ℕ → List ℕ
 refusal number = labelled "refused" number ++ ascii "\n"

@@ -3,7 +3,7 @@ use mathlib.Core.Path.{_≡_, refl}
 use mathlib.Core.List.{List, [], _∷_}
 use Prim.Native.Nat.{ℕ}
 use Rattle.listing.specs.Text.{ascii, digits, decimal}
-use Rattle.listing.specs.Listing.{entries, labelled, counts, cellLine, cellLines, unclippedListing, corners, listing, refusal}
+use Rattle.listing.specs.Listing.{entries, labelled, counts, cellLine, cellLines, countsAndCells, corners, listing, refusal}
 
 abbrev pub offsets : List ℕ
 offsets = 0 ∷ 5 ∷ 9 ∷ 14 ∷ 18 ∷ []
@@ -21,5 +21,5 @@ pub rows :
     × (refusal 17 ≡ ascii "refused 17\n")
     × (decimal 0 ≡ ascii "0")
     × (decimal 4294967295 ≡ ascii "4294967295")
-unfolding digits decimal entries labelled counts cellLine cellLines unclippedListing corners listing refusal
+unfolding digits decimal entries labelled counts cellLine cellLines countsAndCells corners listing refusal
 rows = (refl, refl, refl, refl, refl)

@@ -3,7 +3,7 @@ use numbers::wide;
 use octets::put;
 ghost use mathlib.Core.List.{[], _∷_, _++_};
 ghost use Rattle.listing.specs.Text.{decimal};
-ghost use Rattle.listing.specs.Listing.{entries, counts, cellLine, cellLines, unclippedListing, corners, listing, refusal, Layout};
+ghost use Rattle.listing.specs.Listing.{entries, counts, cellLine, cellLines, countsAndCells, corners, listing, refusal, Layout};
 ghost use Rattle.octets.specs.Wrote.{Wrote, HasRoom};
 
 pub fn decimal(out: &mut [u8], at: usize, n: u32) -> usize
@@ -84,8 +84,8 @@ fn cell_lines(out: &mut [u8], at: usize, sites: usize, offsets: &[u32], cells: &
     end
 }
 
-// The listing of a mesh without a box.
-pub fn unclipped_listing(
+// The line of counts, then the lines of the cells.
+fn counts_and_cells(
     out: &mut [u8],
     sites: u32,
     triangles: u32,
@@ -93,8 +93,8 @@ pub fn unclipped_listing(
     offsets: &[u32],
     cells: &[u32],
 ) -> usize
-    requires { ⌜ (Layout (now offsets) (now cells) sites) × (HasRoom (now out) 0 (unclippedListing sites triangles vertices (now offsets) (now cells))) ⌝ }
-    ensures { λ r. ⌜ Wrote (now (out .entry)) (now (out .exit)) 0 r (unclippedListing sites triangles vertices (now (offsets .entry)) (now (cells .entry))) ⌝ }
+    requires { ⌜ (Layout (now offsets) (now cells) sites) × (HasRoom (now out) 0 (countsAndCells sites triangles vertices (now offsets) (now cells))) ⌝ }
+    ensures { λ r. ⌜ Wrote (now (out .entry)) (now (out .exit)) 0 r (countsAndCells sites triangles vertices (now (offsets .entry)) (now (cells .entry))) ⌝ }
 {
     let end = counts(out, sites, triangles, vertices);
     cell_lines(out, end, wide(sites), offsets, cells)
@@ -110,7 +110,7 @@ fn corners(out: &mut [u8], at: usize, owners: [u32; 4], lost: u32) -> usize
     put(out, c, b"\n")
 }
 
-// The listing of a mesh in its box.
+// The listing of a mesh.
 pub fn listing(
     out: &mut [u8],
     sites: u32,
@@ -124,7 +124,7 @@ pub fn listing(
     requires { ⌜ (Layout (now offsets) (now cells) sites) × (HasRoom (now out) 0 (listing sites triangles vertices (now offsets) (now cells) owners lost)) ⌝ }
     ensures { λ r. ⌜ Wrote (now (out .entry)) (now (out .exit)) 0 r (listing sites triangles vertices (now (offsets .entry)) (now (cells .entry)) owners lost) ⌝ }
 {
-    let end = unclipped_listing(out, sites, triangles, vertices, offsets, cells);
+    let end = counts_and_cells(out, sites, triangles, vertices, offsets, cells);
     corners(out, end, owners, lost)
 }
 

@@ -1,5 +1,5 @@
 -- Theorem: 6,947 bytes of an input decide what is printed for it, however long it is: no form has more than 6,946.
-use mathlib.Core.Path.{subst}
+use mathlib.Core.Path.{ap, subst}
 use mathlib.Core.Bool.{Bool}
 use mathlib.Core.List.{List}
 use mathlib.Core.Logic.{⊎-elim}
@@ -8,7 +8,8 @@ use native.Mathlib.Omega.{arith}
 use lib.ListN.{length, take}
 use lib.Seq.{take-all, length-take-le}
 use Rattle.laws.specs.laws.Decide.{lt-or-ge}
-use Rattle.form.specs.Length.{no-form}
+use Rattle.form.specs.Length.{form-short}
+use Rattle.form.specs.laws.Longer.{place-longer, number-longer}
 use Rattle.mend.specs.Printed.{MendPrints, sound, broken}
 
 module _ (form : Bool) where
@@ -20,5 +21,5 @@ module _ (form : Bool) where
       (lt-or-ge (length s) 6947)
     where
       long : 6947 ≤ length s → {text : List ℕ} → MendPrints form (take 6947 s) text → MendPrints form s text
-      long l (sound m f e q) = absurd (no-form (take 6947 s) (omega (arith, length-take-le 6947 s l)) (record { mesh = m; fits = f; bytes = e }))
-      long l (broken n) = broken (no-form s (omega arith))
+      long l (sound m f a e q) = absurd (omega (arith, form-short m f, ap length e, length-take-le 6947 s l))
+      long l (broken {k} p n) = broken (place-longer s k l p) (number-longer s k l p n)

@@ -10,7 +10,6 @@ use lib.Ieee.{Float}
 use lib.ListN.{length}
 use Rattle.laws.specs.Refusals.{Finds}
 use Rattle.laws.specs.Pick.{pick}
-use Rattle.numbers.specs.Numbers.{refusedForm}
 use Rattle.octets.specs.Bytes.{each}
 use Rattle.listing.specs.Text.{ascii}
 use Rattle.listing.specs.Listing.{refusal}
@@ -18,7 +17,8 @@ use Rattle.mesh.specs.Accepted.{mesh, siteCount}
 use Rattle.mend_pairs.specs.Pairs.{pairsOf}
 use Rattle.mend_changes.specs.Changes.{Difference}
 use Rattle.mending.specs.Mending.{mendRules, newHull, pairChanges, hullChanges}
-use Rattle.form.specs.Form.{FormMesh, MeshFits, IsForm, formOf, numbersOf, siteFloats, triangleSites, trianglePairs}
+use Rattle.form.specs.Form.{FormMesh, MeshFits, MayBegin, formOf, numbersOf, siteFloats, triangleSites, trianglePairs}
+use Rattle.form.specs.Place.{Place, NumberAt}
 use Rattle.form_writer.specs.FormOf.{meshWith}
 use Rattle.mend_text.specs.MendText.{changeLine, countsLine}
 use Rattle.mend.specs.declared.Way.{Way}
@@ -82,5 +82,5 @@ module _ (m : FormMesh) where
 
 -- the first argument says whether a form is asked for
 pub data MendPrints (form : Bool) (s : List ℕ) : List ℕ → Type 0 where
-  sound : {text : List ℕ} (m : FormMesh) → MeshFits m → s ≡ formOf m → PrintsMesh m form text → MendPrints form s text
-  broken : (IsForm s → ⊥) → MendPrints form s (refusal refusedForm)
+  sound : {text : List ℕ} (m : FormMesh) → MeshFits m → MayBegin false (m .clip) → s ≡ formOf m → PrintsMesh m form text → MendPrints form s text
+  broken : {k n : ℕ} → Place false s k → NumberAt false s k n → MendPrints form s (refusal n)

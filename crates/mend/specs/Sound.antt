@@ -1,7 +1,7 @@
 -- Theorem: the mended mesh of a form that is not refused is accepted by rules 1, 6 and 7 to 10 and has a form: what is printed with the word `form` is a
 -- sound form, or the line of a refusal.
 use mathlib.Core.Path.{_≡_, refl}
-use mathlib.Core.Bool.{true}
+use mathlib.Core.Bool.{true, false}
 use mathlib.Core.List.{List, [], _∷_, _++_}
 use mathlib.Core.Logic.{⊎-elim, _⊎_, inl, inr, _≢_}
 use Prim.Native.Nat.{ℕ, suc, _+_, _*_, _/_, _^_, _<_}
@@ -20,7 +20,7 @@ use Rattle.mend_changes.specs.Changes.{flatChanges}
 use Rattle.check_mesh.specs.AtExit.{atExit}
 use Rattle.mending.specs.Mending.{Lent, lent, mendRoomOf, newHull, pairChanges, hullChanges, filled, whenMade, Mends}
 use Rattle.mending.specs.MendTheorem.{mended-accepted}
-use Rattle.form.specs.Form.{FormMesh, MeshFits, HullFits, IsForm, numbersOf, siteFloats, triangleSites}
+use Rattle.form.specs.Form.{FormMesh, MeshFits, HullFits, MayBegin, IsForm, numbersOf, siteFloats, triangleSites}
 use Rattle.form.specs.laws.Lists.{numbers-length}
 use Rattle.form_writer.specs.laws.Records.{triangles-count, triangles-fit}
 use Rattle.mend.specs.Printed.{MendNumber, PrintsMesh, refused, mended, mendedForm, triOf, heOf, count}
@@ -97,6 +97,6 @@ module _ (m : FormMesh) where
       }
 
   -- what is printed with the word `form`
-  pub prints-form : {text : List ℕ} → MeshFits m → PrintsMesh m true text → IsForm text ⊎ ((r : ℕ) × (r ≢ 0) × (text ≡ refusal r))
-  prints-form f (refused {r} x z) = inr (r, z, refl)
-  prints-form f (mended z) = inl (record { mesh = mendedForm m; fits = mended-fits f z; bytes = refl })
+  pub prints-form : {text : List ℕ} → MeshFits m → MayBegin false (m .clip) → PrintsMesh m true text → IsForm false text ⊎ ((r : ℕ) × (r ≢ 0) × (text ≡ refusal r))
+  prints-form f a (refused {r} x z) = inr (r, z, refl)
+  prints-form f a (mended z) = inl (record { mesh = mendedForm m; fits = mended-fits f z; admits = a; bytes = refl })

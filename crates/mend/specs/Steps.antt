@@ -9,7 +9,6 @@ use lib.Dec.{eqb}
 use lib.Ieee.{Float}
 use lib.ListN.{length, take, drop}
 use Rattle.laws.specs.Pick.{pick}
-use Rattle.numbers.specs.Numbers.{refusedForm}
 use Rattle.listing.specs.Listing.{refusal}
 use Rattle.mesh.specs.Accepted.{siteCount}
 use Rattle.mend_pairs.specs.Pairs.{pairsOf}
@@ -29,7 +28,7 @@ firstLength kind = pick (eqb kind 6) (λ _. 1) (λ _. 33)
 -- a form that was read has its first record and its sites' records
 abbrev pub Headed : Form → ℕ → Type 0
 Headed (Sound n k h u) size = firstLength u + 17 * n ≤ size
-Headed (Broken k) size = Unit {0}
+Headed (Broken n k) size = Unit {0}
 
 -- the first records of a form, its lists, and room for its text
 pub record MendSized (bytes coordinates entries hull space : ℕ) : Type 0 where
@@ -72,6 +71,6 @@ module _ (form : Bool) (first records : List ℕ) (sites : List Float) (tri he h
 
 -- of a form of bytes s that was read into these lists
 abbrev pub PrintsRead : Bool → List ℕ → Form → List Float → List ℕ → List ℕ → List ℕ → List ℕ → Type 0
-PrintsRead form s (Broken k) ss ts es hs text = text ≡ refusal refusedForm
+PrintsRead form s (Broken n k) ss ts es hs text = text ≡ refusal n
 PrintsRead form s (Sound n k h u) ss ts es hs text =
     OfLists form (take (firstLength u) s) (take (17 * n) (drop (firstLength u) s)) (take (2 * n) ss) (take (3 * k) ts) (take (3 * k) es) (take h hs) text

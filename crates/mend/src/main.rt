@@ -141,7 +141,7 @@ fn of_form(
         clip,
     } = read
     else {
-        return listing::refusal(out, numbers::REFUSED_FORM);
+        return listing::refusal(out, form_step::number_of(read));
     };
     let first = first_length(clip);
     let records = first + 17 * n;
@@ -170,6 +170,7 @@ fn answer(bytes: &[u8], form: bool, out: &mut [u8]) -> usize
     let mut halfedges = [0u32; 576];
     let mut hull = [0u32; 96];
     let read = form::read(
+        false,
         bytes,
         &mut bounds,
         &mut sites,

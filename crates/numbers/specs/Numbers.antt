@@ -59,6 +59,9 @@ refusedEntry = 18
 abbrev pub refusedTwice : ℕ
 refusedTwice = 19
 
+abbrev pub refusedUnclipped : ℕ
+refusedUnclipped = 20
+
 -- the tolerance, 2^-50
 abbrev pub tolerance : Float
 tolerance = ofBits binary64 0x3cd0_0000_0000_0000

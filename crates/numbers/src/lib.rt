@@ -54,6 +54,8 @@ pub const REFUSED_ENTRY: u32 = 18;
 
 pub const REFUSED_TWICE: u32 = 19;
 
+pub const REFUSED_UNCLIPPED: u32 = 20;
+
 // An index as a length: of 64 bits, nothing is lost.
 pub fn wide(x: u32) -> usize
     ensures { λ r. ⌜ r ≡ x ⌝ }

@@ -1,5 +1,5 @@
 -- Theorem: no form has more than 6,946 bytes. So 6,947 bytes of an input decide what is printed for it, however long it is.
-use mathlib.Core.Path.{subst}
+use mathlib.Core.Path.{ap, subst}
 use mathlib.Core.List.{List}
 use mathlib.Core.Logic.{⊎-elim}
 use Prim.Native.Nat.{ℕ, _≤_}
@@ -7,10 +7,11 @@ use native.Mathlib.Omega.{arith}
 use lib.ListN.{length, take}
 use lib.Seq.{take-all, length-take-le}
 use Rattle.laws.specs.laws.Decide.{lt-or-ge}
-use Rattle.form.specs.Length.{no-form}
-use Rattle.printing.specs.Printed.{Prints, sound, broken, Texts}
+use Rattle.form.specs.Length.{form-short}
+use Rattle.form.specs.laws.Longer.{place-longer, number-longer}
+use Rattle.printing.specs.Printed.{Prints, sound, broken, Text}
 
-module _ (t : Texts) where
+module _ (t : Text) where
   pub enough : (s text : List ℕ) → Prints t (take 6947 s) text → Prints t s text
   enough s text p =
       ⊎-elim
@@ -19,5 +20,5 @@ module _ (t : Texts) where
       (lt-or-ge (length s) 6947)
     where
       long : 6947 ≤ length s → {text : List ℕ} → Prints t (take 6947 s) text → Prints t s text
-      long l (sound m f e q) = absurd (no-form (take 6947 s) (omega (arith, length-take-le 6947 s l)) (record { mesh = m; fits = f; bytes = e }))
-      long l (broken n) = broken (no-form s (omega arith))
+      long l (sound m f e q) = absurd (omega (arith, form-short m f, ap length e, length-take-le 6947 s l))
+      long l (broken {k} p n) = broken (place-longer s k l p) (number-longer s k l p n)

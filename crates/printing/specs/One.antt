@@ -1,21 +1,19 @@
 -- Theorem: no two texts may be printed for one input.
 use mathlib.Core.Path.{_≡_, refl, sym, ap, _∙_}
-use mathlib.Core.Bool.{Bool, true, false}
+use mathlib.Core.Bool.{false}
 use mathlib.Core.List.{List}
 use Prim.Native.Nat.{ℕ}
 use native.Mathlib.Omega.{arith}
-use lib.Dec.{eqb}
 use lib.Ieee.{Float}
 use lib.ListN.{replicate, length-replicate}
 use Rattle.laws.specs.Binary64 as B
-use Rattle.given_box.specs.declared.Given.{Given}
-use Rattle.form_box.specs.FormBox.{boxBy}
 use Rattle.mesh.specs.Accepted.{Mesh}
 use Rattle.admission.specs.laws.Admits.{admits-one}
 use Rattle.definition.specs.declared.Fault.{Fault}
 use Rattle.definition.specs.Fault.{Outcome}
 use Rattle.definition.specs.Build.{Built}
-use Rattle.form.specs.Form.{FormMesh, MeshFits, formOf}
+use Rattle.form.specs.Form.{Outline, box, unclipped, edges, FormMesh, MeshFits, MayBegin, IsForm, formOf}
+use Rattle.form.specs.laws.Longer.{same-number, place-refuses}
 use Rattle.form_step.specs.Reader.{verdict, start, reading, takes, Reading}
 use Rattle.form_step.specs.Holds.{ListRoom}
 use Rattle.form.specs.laws.Mesh.{WholeRead, complete}
@@ -23,7 +21,7 @@ use Rattle.form_step.specs.declared.Form.{Form}
 use Rattle.form_step.specs.declared.Form.the-variants.{Sound, Broken}
 use Rattle.listing.specs.Listing.{refusal}
 use Rattle.printing.specs.laws.FormLists.{to-form}
-use Rattle.printing.specs.Printed.{Shows, early, late, built, OfMesh, Prints, sound, broken, ByBox, ByForm, Texts}
+use Rattle.printing.specs.Printed.{Shows, early, late, built, meshOf, ByClip, OfMesh, Prints, sound, broken, ByForm, Text}
 
 module _ {Rules : ℕ → Type 0} {text : Built → List ℕ} (one : (a b : ℕ) → Rules a → Rules b → a ≡ b) where
   shows-one : {o : Outcome Fault Built} {a b : List ℕ} → Shows Rules text o a → Shows Rules text o b → a ≡ b
@@ -43,21 +41,26 @@ abbrev links : ℕ → List ℕ
 links n = replicate n 0
 
 abbrev read : List ℕ → Reading
-read s = takes (reading start (floats 4) (floats 192) (links 576) (links 576) (links 96)) s
+read s = takes (reading (start false) (floats 4) (floats 192) (links 576) (links 576) (links 96)) s
 
-module _ (t : Texts) where
-  box-one : (plain : Bool) (g : Given) (m : Mesh) (x y : List ℕ) → ByBox t plain g m x → ByBox t plain g m y → x ≡ y
-  box-one true g m x y p q = shows-one (λ a b. admits-one) p q
-  box-one false g m x y p q = shows-one (λ a b. admits-one) p q
+admitted : (t : Text) (m : Mesh) (c : Outline) (text : List ℕ) → ByClip t m c text → MayBegin false c
+admitted t m (box x y w h) text q = tt
+admitted t m unclipped text q = absurd q
+admitted t m (edges x y u v) text q = tt
 
+module _ (t : Text) where
   form-one : (a : Form) (bs ss : List Float) (ts es hs x y : List ℕ) → ByForm t a bs ss ts es hs x → ByForm t a bs ss ts es hs y → x ≡ y
-  form-one (Broken k) bs ss ts es hs x y p q = p ∙ sym q
-  form-one (Sound s k h u) bs ss ts es hs x y p q = box-one (eqb u 6) (boxBy u bs) _ x y p q
+  form-one (Broken n k) bs ss ts es hs x y p q = p ∙ sym q
+  form-one (Sound s k h u) bs ss ts es hs x y p q = shows-one (λ a b. admits-one) p q
+
+  is-form : {s : List ℕ} (text : List ℕ) (m : FormMesh) → MeshFits m → s ≡ formOf m → OfMesh t m text → IsForm false s
+  is-form text m f e q = record { mesh = m; fits = f; admits = admitted t (meshOf m) (m .clip) text q; bytes = e }
 
   by-reader : (s text : List ℕ) (m : FormMesh) → MeshFits m → s ≡ formOf m → OfMesh t m text
       → ByForm t (verdict (read s .reader)) (read s .bounds) (read s .sites) (read s .triangles) (read s .halfedges) (read s .hull) text
   by-reader s text m f e q =
-      let w : WholeRead m (floats 4) (floats 192) (links 576) (links 576) (links 96) (read s) = rw e (complete (floats 4) (floats 192) (links 576) (links 576) (links 96) m f) in
+      let a = admitted t (meshOf m) (m .clip) text q in
+      let w : WholeRead m (floats 4) (floats 192) (links 576) (links 576) (links 96) (read s) = rw e (complete (floats 4) (floats 192) (links 576) (links 576) (links 96) false m f a) in
       let room : ListRoom (floats 4) (floats 192) (links 576) (links 576)
       (links 96) = record {
         bounds = omega (arith, length-replicate 4 B.zero);
@@ -72,6 +75,6 @@ module _ (t : Texts) where
   pub prints-one : {s a b : List ℕ} → Prints t s a → Prints t s b → a ≡ b
   prints-one {s} {a} {b} (sound m f e p) (sound n g d q) =
       form-one (verdict (read s .reader)) (read s .bounds) (read s .sites) (read s .triangles) (read s .halfedges) (read s .hull) a b (by-reader s a m f e p) (by-reader s b n g d q)
-  prints-one (sound m f e p) (broken n) = absurd (n (record { mesh = m; fits = f; bytes = e }))
-  prints-one (broken n) (sound m f e p) = absurd (n (record { mesh = m; fits = f; bytes = e }))
-  prints-one (broken n) (broken k) = refl
+  prints-one {a = a} (sound m f e p) (broken q n) = absurd (place-refuses q (is-form a m f e p))
+  prints-one {b = b} (broken q n) (sound m f e p) = absurd (place-refuses q (is-form b m f e p))
+  prints-one (broken p a) (broken q b) = ap refusal (same-number p a q b)

@@ -1,13 +1,12 @@
--- What a program prints for the bytes of a form, said for any pair of texts: the text of what the build makes of the mesh whose form they are, or the line of a refusal.
+-- What a program prints for the bytes of a form, said for any text of a build: the text of what the build makes of the mesh whose form they are, or the line of a refusal.
 -- Definitions only.
 use mathlib.Core.Path.{_≡_}
-use mathlib.Core.Bool.{Bool, true, false}
-use mathlib.Core.List.{List, []}
+use mathlib.Core.Bool.{true, false}
+use mathlib.Core.List.{List}
 use mathlib.Core.Logic.{_≢_}
 use Prim.Native.Nat.{ℕ, _/_, _*_, _≤_}
 use lib.Ieee.{Float}
 use lib.ListN.{length, take}
-use Rattle.numbers.specs.Numbers.{refusedForm}
 use Rattle.utils.specs.Plane.{at}
 use Rattle.given_box.specs.Given.{bySize, byEdges}
 use Rattle.given_box.specs.declared.Given.{Given}
@@ -17,19 +16,18 @@ use Rattle.admission.specs.Admits.{Admits}
 use Rattle.definition.specs.declared.Fault.{Fault}
 use Rattle.definition.specs.Fault.{Outcome, ok, refused}
 use Rattle.definition.specs.Build.{Built, build}
-use Rattle.definition.specs.Unclipped as definition
 use Rattle.admission.specs.Asks.{boxRules}
-use Rattle.form.specs.Form.{Outline, box, unclipped, edges, FormMesh, MeshFits, IsForm, formOf, numbersOf, float, siteFloats, triangleSites, trianglePairs}
+use Rattle.form.specs.Form.{Outline, box, unclipped, edges, FormMesh, MeshFits, formOf, numbersOf, float, siteFloats, triangleSites, trianglePairs}
+use Rattle.form.specs.Place.{Place, NumberAt}
 use Rattle.listing.specs.Listing.{refusal}
 use lib.Dec.{eqb}
 use Rattle.laws.specs.Pick.{pick}
 use Rattle.form_step.specs.declared.Form.{Form}
 use Rattle.form_step.specs.declared.Form.the-variants.{Sound, Broken}
 
--- the text of a build of n sites and T triangles: in a box, and not clipped
-pub record Texts : Type 0 where
-  pub boxed : ℕ → ℕ → Built → List ℕ
-  pub plain : ℕ → ℕ → Built → List ℕ
+-- the text of a build of n sites and T triangles
+abbrev pub Text : Type 0
+Text = ℕ → ℕ → Built → List ℕ
 
 -- the number that the rules up to 10 give; where they admit the mesh, the outcome's, or the text of what was built
 pub data Shows (Rules : ℕ → Type 0) (text : Built → List ℕ) : Outcome Fault Built → List ℕ → Type 0 where
@@ -50,36 +48,25 @@ pub record ShownIn (text out : List ℕ) (space r : ℕ) : Type 0 where
 abbrev pub meshOf : FormMesh → Mesh
 meshOf m = mesh (numbersOf siteFloats (m .sites)) (numbersOf triangleSites (m .triangles)) (numbersOf trianglePairs (m .triangles)) (m .hull)
 
-module _ (t : Texts) where
+module _ (t : Text) where
   module _ (m : Mesh) where
     abbrev pub InBox : Given → List ℕ → Type 0
-    InBox g = Shows (Admits m true (boxRules (g .sound))) (t .boxed (siteCount (m .sites)) (length (m .triangles) / 3)) (build m (g .bounds))
+    InBox g = Shows (Admits m true (boxRules (g .sound))) (t (siteCount (m .sites)) (length (m .triangles) / 3)) (build m (g .bounds))
 
-    abbrev pub WithoutBox : List ℕ → Type 0
-    WithoutBox = Shows (Admits m true []) (t .plain (siteCount (m .sites)) (length (m .triangles) / 3)) (definition.unclipped (m .sites) (m .triangles) (m .halfedges))
-
+    -- no form is read that has no box
     abbrev pub ByClip : Outline → List ℕ → Type 0
-    ByClip (box x y w h) = InBox (bySize (at (float x) (float y)) (float w) (float h))
-    ByClip unclipped = WithoutBox
-    ByClip (edges left top right bottom) = InBox (byEdges (float left) (float top) (float right) (float bottom))
+    ByClip (box x y w h) text = InBox (bySize (at (float x) (float y)) (float w) (float h)) text
+    ByClip unclipped text = ⊥
+    ByClip (edges left top right bottom) text = InBox (byEdges (float left) (float top) (float right) (float bottom)) text
 
-  -- the text of a mesh, in this box where it is not unclipped
-  abbrev pub ByBox : Bool → Given → Mesh → List ℕ → Type 0
-  ByBox true g m text = WithoutBox m text
-  ByBox false g m text = InBox m g text
-
-  -- by the kind of the form's first record, 6 where it is unclipped, and the four numbers in it
-  abbrev pub ByMode : ℕ → List Float → Mesh → List ℕ → Type 0
-  ByMode k bs m text = ByBox (eqb k 6) (boxBy k bs) m text
-
-  -- the text of a form that was read into these lists
+  -- the text of a form that was read into these lists: in the box by the kind of its first record and the four numbers in it
   abbrev pub ByForm : Form → List Float → List Float → List ℕ → List ℕ → List ℕ → List ℕ → Type 0
-  ByForm (Broken k) bs ss ts es hs text = text ≡ refusal refusedForm
-  ByForm (Sound s k h u) bs ss ts es hs text = ByMode u bs (mesh (take (2 * s) ss) (take (3 * k) ts) (take (3 * k) es) (take h hs)) text
+  ByForm (Broken n k) bs ss ts es hs text = text ≡ refusal n
+  ByForm (Sound s k h u) bs ss ts es hs text = InBox (mesh (take (2 * s) ss) (take (3 * k) ts) (take (3 * k) es) (take h hs)) (boxBy u bs) text
 
   abbrev pub OfMesh : FormMesh → List ℕ → Type 0
   OfMesh m = ByClip (meshOf m) (m .clip)
 
   pub data Prints (s : List ℕ) : List ℕ → Type 0 where
     sound : {text : List ℕ} (m : FormMesh) → MeshFits m → s ≡ formOf m → OfMesh m text → Prints s text
-    broken : (IsForm s → ⊥) → Prints s (refusal refusedForm)
+    broken : {k n : ℕ} → Place false s k → NumberAt false s k n → Prints s (refusal n)

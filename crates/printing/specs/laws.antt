@@ -5,4 +5,3 @@ pub mod FormLists
 pub mod ReadForm
 pub mod TextRoom
 pub mod WholeBuild
-pub mod ByMode

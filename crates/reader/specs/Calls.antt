@@ -78,7 +78,7 @@ pub record AtBegin : Type 0 where
   pub words : List ℕ
 
 abbrev pub beginning : List ℕ → List ℕ
-beginning ws = stored (replicate (length ws) 0) start
+beginning ws = stored (replicate (length ws) 0) (start false)
 
 unfoldable pub beginCall : List ℕ → AtBegin
 beginCall ws =
@@ -130,4 +130,4 @@ abbrev pub readBy : Reading → AtRead
 readBy d = readForm (reportOf (finished (d .reader))) (listsOf d)
 
 unfoldable pub readCall : FormLists → List ℕ → AtRead
-readCall l s = pick (roomy l) (λ _. readBy (takes (readingOf start l) s)) (λ _. readForm noReport l)
+readCall l s = pick (roomy l) (λ _. readBy (takes (readingOf (start false) l) s)) (λ _. readForm noReport l)

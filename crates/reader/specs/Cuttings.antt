@@ -10,16 +10,15 @@ use lib.ListN.{length, replicate, length-replicate}
 use borrow.Author.Tests.{ltb-false, le-ltb}
 use Rattle.laws.specs.Pick.{pick}
 use Rattle.form_step.specs.Reader.{Reading, broken, start, finished, takes}
-use Rattle.form_step.specs.laws.Standing.{ok-start, ok-finished}
 use Rattle.form.specs.laws.Run.{takes-append}
 use Rattle.form.specs.laws.Feed.{takes-none}
 use Rattle.form_step.specs.declared.Reader.{Reader}
 use Rattle.reader_state.specs.Words.{stored}
 use Rattle.reader_state.specs.Stands.{entered}
-use Rattle.reader_state.specs.Kept.{stored-length, stored-again, entered-stored, ok-entered}
+use Rattle.reader_state.specs.Kept.{stored-length, stored-again, entered-stored, new-entered, new-start, new-finished}
 use Rattle.reader.specs.Calls.{FormLists, readingOf, listsOf, roomy, answerOf, reportOf, beginning, beginCall, AtBegin, AtFeed, fed, fedBy, feedCall, AtEnd, endCall, AtRead, readCall}
 use Rattle.reader.specs.Promise.{ReaderBegins, ReaderFeeds, ReaderEnds, ReadsForm}
-use Rattle.reader.specs.laws.Calls.{feed-short, feed-close, feed-wide, end-wide, read-wide, ok-takes, takes-refused, answer-none, answer-refused, report-none, report-refused}
+use Rattle.reader.specs.laws.Calls.{feed-short, feed-close, feed-wide, end-wide, read-wide, new-takes, takes-refused, answer-none, answer-refused, report-none, report-refused}
 use Rattle.reader.specs.laws.Lengths.{same-room}
 use Rattle.reader.specs.declared.Answer.{Answer}
 use Rattle.reader.specs.declared.Report.{Report}
@@ -35,7 +34,7 @@ module _ (ws : List ℕ) (l : FormLists) (s t : List ℕ) where
       let d = readingOf (entered ws) l in
       let n = takes d s .reader in
       let long : 16 ≤ length ws = ltb-false _ _ e in
-      let back : entered (stored ws n) ≡ n = entered-stored ws n (ok-takes s d (ok-entered ws)) long in
+      let back : entered (stored ws n) ≡ n = entered-stored ws n (new-takes s d (new-entered ws)) long in
       ap then (feed-wide ws l s e f)
       ∙ feed-wide (stored ws n) (listsOf (takes d s)) t (ap (λ (k : ℕ). ltb k 16) (stored-length ws n) ∙ e) (same-room s d ∙ f)
       ∙ ap (λ (r : Reader). fedBy (stored ws n) (takes (readingOf r (listsOf (takes d s))) t)) back
@@ -99,10 +98,10 @@ module _ (ws₀ : List ℕ) (long : 16 ≤ length ws₀) where
   zeros-long = rw (length-replicate {A = ℕ} (length ws₀) 0) long
 
   first-long : 16 ≤ length first
-  first-long = rw (stored-length (replicate (length ws₀) 0) start) zeros-long
+  first-long = rw (stored-length (replicate (length ws₀) 0) (start false)) zeros-long
 
-  first-entered : entered first ≡ start
-  first-entered = entered-stored (replicate (length ws₀) 0) start ok-start zeros-long
+  first-entered : entered first ≡ start false
+  first-entered = entered-stored (replicate (length ws₀) 0) (start false) new-start zeros-long
 
   -- no block leaves the beginning as it is
   first-still : (l : FormLists) → (first ≡ feedCall first l [] .words) × (l ≡ feedCall first l [] .formLists)
@@ -114,15 +113,15 @@ module _ (ws₀ : List ℕ) (long : 16 ≤ length ws₀) where
       go : (t : Bool) → roomy l ≡ t → (first ≡ feedCall first l [] .words) × (l ≡ feedCall first l [] .formLists)
       go false f = let g = sym (feed-close first l [] e f) in (ap (λ (x : AtFeed). x .words) g, ap (λ (x : AtFeed). x .formLists) g)
       go true f =
-          let g : feedCall first l [] ≡ fedBy first (readingOf start l) =
+          let g : feedCall first l [] ≡ fedBy first (readingOf (start false) l) =
           feed-wide first l [] e f ∙ ap (fedBy first) (takes-none (readingOf (entered first) l) ∙ ap (λ (r : Reader). readingOf r l) first-entered)
           in
-          (sym (ap (λ (x : AtFeed). x .words) g ∙ stored-again (replicate (length ws₀) 0) start start zeros-long), sym (ap (λ (x : AtFeed). x .formLists) g))
+          (sym (ap (λ (x : AtFeed). x .words) g ∙ stored-again (replicate (length ws₀) 0) (start false) (start false) zeros-long), sym (ap (λ (x : AtFeed). x .formLists) g))
 
   -- the state and the formLists after any bytes
   module _ (l : FormLists) (room : roomy l ≡ true) (s : List ℕ) where
     abbrev done : Reading
-    done = takes (readingOf start l) s
+    done = takes (readingOf (start false) l) s
 
     fed-from : feedCall first l s ≡ fedBy first done
     fed-from = feed-wide first l s (le-ltb _ _ first-long) room ∙ ap (λ (r : Reader). fedBy first (takes (readingOf r l) s)) first-entered
@@ -133,7 +132,7 @@ module _ (ws₀ : List ℕ) (long : 16 ≤ length ws₀) where
         let e : ltb (length (stored first n)) 16 ≡ false = le-ltb (length (stored first n)) 16 (rw (stored-length first n) first-long) in
         ap (λ (x : AtFeed). endCall (x .words) .report) fed-from
         ∙ ap (λ (x : AtEnd). x .report) (end-wide (stored first n) e)
-        ∙ ap (λ (r : Reader). reportOf (finished r)) (entered-stored first n (ok-takes s (readingOf start l) ok-start) first-long)
+        ∙ ap (λ (r : Reader). reportOf (finished r)) (entered-stored first n (new-takes s (readingOf (start false) l) new-start) first-long)
         ∙ sym (ap (λ (x : AtRead). x .report) (read-wide l s room))
 
     lists-from : feedCall first l s .formLists ≡ readCall l s .formLists
@@ -206,7 +205,7 @@ end-refused ws l s long f d =
     let w : endCall (feedCall ws l s .words) .report ≡ reportOf n =
     ap (λ (x : AtFeed). endCall (x .words) .report) g
     ∙ ap (λ (x : AtEnd). x .report) (end-wide (stored ws n) (ap (λ (j : ℕ). ltb j 16) (stored-length ws n) ∙ e))
-    ∙ ap (λ (r : Reader). reportOf (finished r)) (entered-stored ws n (ok-takes s c (ok-entered ws)) long)
+    ∙ ap (λ (r : Reader). reportOf (finished r)) (entered-stored ws n (new-takes s c (new-entered ws)) long)
     ∙ ap reportOf (finished-broken n k)
     in
     let (a, b) = report-answer n k in
@@ -221,7 +220,7 @@ ended-refused ws l t long f d =
     let e : ltb (length ws) 16 ≡ false = le-ltb _ _ long in
     let n = finished (entered ws) in
     let g = end-wide ws e in
-    let o = ok-finished (entered ws) (ok-entered ws) in
+    let o = new-finished (entered ws) (new-entered ws) in
     let k = report-broken n (λ z. d (ap (λ (x : AtEnd). x .report .number) g ∙ z)) in
     let w : feedCall (endCall ws .words) l t ≡ fedBy (stored ws n) (readingOf n l) =
     ap (λ (x : AtEnd). feedCall (x .words) l t) g

@@ -1,25 +1,22 @@
--- Theorem: what is report of a whole form: for a sound form its mesh, with its numbers from the beginning of each list; for every other byte string 17, at the
+-- Theorem: what is report of a whole form: for a sound form its mesh, with its numbers from the beginning of each list; for every other byte string the refusal's number, at the
 -- first byte after which no sound form can follow, or at the length of a form that has not ended.
-use mathlib.Core.Path.{_≡_, refl, sym, ap, _∙_, subst}
-use mathlib.Core.Bool.{Bool, true, false, false≢true}
+use mathlib.Core.Path.{_≡_, refl, sym, _∙_, subst}
+use mathlib.Core.Bool.{Bool, true, false}
 use mathlib.Core.List.{List}
 use mathlib.Core.Logic.{_⊎_, inl, inr, ⊎-elim}
 use Prim.Native.Nat.{ℕ}
-use lib.Dec.{eqb}
 use lib.ListN.{length}
 use lib.Seq.{sets}
-use Rattle.laws.specs.Pick.{pick}
-use Rattle.numbers.specs.Numbers.{refusedForm}
 use Rattle.octets.specs.Bytes.{Bytes}
 use Rattle.form_step.specs.Reader.{Reading, broken, start, finished, takes, verdict}
 use Rattle.form_step.specs.Holds.{Reads}
 use Rattle.form_step.specs.Standing.{Ok}
-use Rattle.form_step.specs.laws.Standing.{ok-start, ok-finished}
+use Rattle.form_step.specs.laws.Standing.{ok-start}
 use Rattle.form_step.specs.laws.Steps.{verdict-broken, verdict-sound}
 use Rattle.form_step.specs.declared.Reader.{Reader}
 use Rattle.form_step.specs.declared.Form.the-variants.{Sound, Broken}
-use Rattle.form.specs.Form.{FormMesh, MeshFits, IsForm, formOf, kindOf, numbersOf, outlineFloats, siteFloats, triangleSites, trianglePairs}
-use Rattle.form.specs.Place.{Place}
+use Rattle.form.specs.Form.{FormMesh, MeshFits, MayBegin, IsForm, formOf, kindOf, numbersOf, outlineFloats, siteFloats, triangleSites, trianglePairs}
+use Rattle.form.specs.Place.{Place, NumberAt}
 use Rattle.form.specs.Promise.{ReadSound, Refused, exact}
 use Rattle.form.specs.laws.Exact.{sound-broken}
 use Rattle.form.specs.laws.Feed.{reads-all}
@@ -30,6 +27,7 @@ module _ (l : FormLists) (s : List ℕ) where
   pub record IsRead (w : AtRead) : Type 0 where
     pub mesh : FormMesh
     pub fits : MeshFits mesh
+    pub admits : MayBegin false (mesh .clip)
     pub form : s ≡ formOf mesh
     pub report : w .report ≡ record { number = 0; at = nowhere; clip = kindOf (mesh .clip); sites = length (mesh .sites); triangles = length (mesh .triangles); hull = length (mesh .hull) }
     pub bounds : w .formLists .bounds ≡ sets (l .bounds) 0 (outlineFloats (mesh .clip))
@@ -39,10 +37,12 @@ module _ (l : FormLists) (s : List ℕ) where
     pub hull : w .formLists .hull ≡ sets (l .hull) 0 (mesh .hull)
 
   pub record IsRefused (w : AtRead) : Type 0 where
+    pub number : ℕ
     pub place : ℕ
-    pub first : Place s place
-    pub report : w .report ≡ record { number = refusedForm; at = place; clip = 0; sites = 0; triangles = 0; hull = 0 }
-    pub no-form : IsForm s → ⊥
+    pub first : Place false s place
+    pub number-at : NumberAt false s place number
+    pub report : w .report ≡ record { number = number; at = place; clip = 0; sites = 0; triangles = 0; hull = 0 }
+    pub no-form : IsForm false s → ⊥
 
 report-sound : (r : Reader) (a b c k : ℕ) → verdict r ≡ Sound a b c k → reportOf (finished r) ≡ record { number = 0; at = nowhere; clip = k; sites = a; triangles = b; hull = c }
 report-sound r a b c k e = go (broken (finished r)) refl
@@ -57,41 +57,40 @@ report-sound r a b c k e = go (broken (finished r)) refl
         let z : finished r .clip ≡ k = cc in
         report-none (finished r) f ∙ rw (w, x, y, z)
 
-report-broken : (r : Reader) (k : ℕ) → Ok r → verdict r ≡ Broken k → reportOf (finished r) ≡ record { number = refusedForm; at = k; clip = 0; sites = 0; triangles = 0; hull = 0 }
-report-broken r k o e = go (broken (finished r)) refl
+report-broken : (r : Reader) (m k : ℕ) → verdict r ≡ Broken m k → reportOf (finished r) ≡ record { number = m; at = k; clip = 0; sites = 0; triangles = 0; hull = 0 }
+report-broken r m k e = go (broken (finished r)) refl
   where
-    number : broken (finished r) ≡ true → finished r .refusal ≡ refusedForm
-    number f = ⊎-elim (λ z. absurd (false≢true (sym (ap (λ (n : ℕ). pick (eqb n 0) (λ _. false) (λ _. true)) z) ∙ f))) (λ z. z) (ok-finished r o .refusal)
-
-    go : (t : Bool) → broken (finished r) ≡ t → reportOf (finished r) ≡ record { number = refusedForm; at = k; clip = 0; sites = 0; triangles = 0; hull = 0 }
+    go : (t : Bool) → broken (finished r) ≡ t → reportOf (finished r) ≡ record { number = m; at = k; clip = 0; sites = 0; triangles = 0; hull = 0 }
     go false f = sound-broken (sym e ∙ verdict-sound r f)
     go true f =
-        let q : Broken (finished r .at) ≡ Broken k = sym (verdict-broken r f) ∙ e in
+        let q : Broken (finished r .refusal) (finished r .at) ≡ Broken m k = sym (verdict-broken r f) ∙ e in
+        let v : finished r .refusal ≡ m = cc in
         let w : finished r .at ≡ k = cc in
-        report-refused (finished r) f ∙ rw (number f, w)
+        report-refused (finished r) f ∙ rw (v, w)
 
 -- every whole form with room is read or refused so
 module _ (l : FormLists) (s : List ℕ) where
   abbrev d : Reading
-  d = takes (readingOf start l) s
+  d = takes (readingOf (start false) l) s
 
   abbrev n : Reader
   n = d .reader
 
   ok : Ok n
-  ok = ok-takes s (readingOf start l) ok-start
+  ok = ok-takes s (readingOf (start false) l) (ok-start false)
 
-  reads : Reads s (readingOf start l) (verdict n) (d .bounds) (d .sites) (d .triangles) (d .halfedges) (d .hull)
+  reads : Reads s (readingOf (start false) l) (verdict n) (d .bounds) (d .sites) (d .triangles) (d .halfedges) (d .hull)
   reads =
-      reads-all s start n (l .bounds) (l .sites) (l .triangles) (l .halfedges) (l .hull) (d .bounds) (d .sites) (d .triangles) (d .halfedges) (d .hull) (verdict n)
+      reads-all false s (start false) n (l .bounds) (l .sites) (l .triangles) (l .halfedges) (l .hull) (d .bounds) (d .sites) (d .triangles) (d .halfedges) (d .hull) (verdict n)
       refl refl ok refl
 
-  sound : ReadSound s (l .bounds) (l .sites) (l .triangles) (l .halfedges) (l .hull) (verdict n) (d .bounds) (d .sites) (d .triangles) (d .halfedges) (d .hull)
+  sound : ReadSound false s (l .bounds) (l .sites) (l .triangles) (l .halfedges) (l .hull) (verdict n) (d .bounds) (d .sites) (d .triangles) (d .halfedges) (d .hull)
       → IsRead l s (readBy d)
   sound x =
       record {
         mesh = x .mesh;
         fits = x .fits;
+        admits = x .admits;
         form = x .form;
         report = report-sound n _ _ _ _ (x .answer);
         bounds = x .bounds;
@@ -101,11 +100,18 @@ module _ (l : FormLists) (s : List ℕ) where
         hull = x .hull;
       }
 
-  refused : Refused s (l .bounds) (l .sites) (l .triangles) (l .halfedges) (l .hull) (verdict n) → IsRefused l s (readBy d)
-  refused x = record { place = x .place; first = x .first; report = report-broken n (x .place) ok (x .answer); no-form = x .no-form }
+  refused : Refused false s (l .bounds) (l .sites) (l .triangles) (l .halfedges) (l .hull) (verdict n) → IsRefused l s (readBy d)
+  refused x = record {
+    number = x .number;
+    place = x .place;
+    first = x .first;
+    number-at = x .number-at;
+    report = report-broken n (x .number) (x .place) (x .answer);
+    no-form = x .no-form;
+  }
 
   pub read-exact : roomy l ≡ true → Bytes s → IsRead l s (readCall l s) ⊎ IsRefused l s (readCall l s)
   read-exact room h =
       let is = sym (read-wide l s room) in
       ⊎-elim (λ x. inl (subst (IsRead l s) is (sound x))) (λ x. inr (subst (IsRefused l s) is (refused x)))
-      (exact s (l .bounds) (l .sites) (l .triangles) (l .halfedges) (l .hull) (verdict n) (d .bounds) (d .sites) (d .triangles) (d .halfedges) (d .hull) reads h)
+      (exact false s (l .bounds) (l .sites) (l .triangles) (l .halfedges) (l .hull) (verdict n) (d .bounds) (d .sites) (d .triangles) (d .halfedges) (d .hull) reads h)

@@ -17,14 +17,14 @@ report r clip n t h at = record { number = r; at = at; clip = clip; sites = n; t
 abbrev pub ReaderBegins : List ℕ → List ℕ → ℕ → Type 0
 ReaderBegins ws ws′ r = record { number = r; words = ws′ } ≡ beginCall ws
 
--- 2, 17
+-- 2, 17, 20
 abbrev pub ReaderFeeds : List ℕ → FormLists → List ℕ → List ℕ → FormLists → Answer → Type 0
 ReaderFeeds ws l s ws′ l′ a = fed a ws′ l′ ≡ feedCall ws l s
 
--- 2, 17
+-- 2, 17, 20
 abbrev pub ReaderEnds : List ℕ → List ℕ → Report → Type 0
 ReaderEnds ws ws′ t = ended t ws′ ≡ endCall ws
 
--- 2, 17
+-- 2, 17, 20
 abbrev pub ReadsForm : FormLists → List ℕ → FormLists → Report → Type 0
 ReadsForm l s l′ t = readForm t l′ ≡ readCall l s

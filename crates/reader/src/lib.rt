@@ -5,6 +5,7 @@ use form_step::start;
 use numbers::REFUSED_ROOM;
 use reader_state::load;
 use reader_state::store;
+ghost use mathlib.Core.Bool.{false};
 ghost use mathlib.Core.Path.{_≡_};
 ghost use Prim.Native.Nat.{_≤_};
 ghost use lib.ListN.{length, replicate};
@@ -138,7 +139,7 @@ pub fn begin(state: &mut [u64]) -> u32
         return REFUSED_ROOM;
     }
     clear(state);
-    store(state, start());
+    store(state, start(false));
     0
 }
 
@@ -262,9 +263,17 @@ fn read_all(
 ) -> Report
     requires { ⌜ ListRoom (now bounds) (now sites) (now triangles) (now halfedges) (now hull) ⌝ }
     ensures { λ a. ⌜ readForm a (formLists (now (bounds .exit)) (now (sites .exit)) (now (triangles .exit)) (now (halfedges .exit)) (now (hull .exit)))
-        ≡ readBy (takes (readingOf start (formLists (now (bounds .entry)) (now (sites .entry)) (now (triangles .entry)) (now (halfedges .entry)) (now (hull .entry)))) (now (form .entry))) ⌝ }
+        ≡ readBy (takes (readingOf (start false) (formLists (now (bounds .entry)) (now (sites .entry)) (now (triangles .entry)) (now (halfedges .entry)) (now (hull .entry)))) (now (form .entry))) ⌝ }
 {
-    let n = form::feed(start(), form, bounds, sites, triangles, halfedges, hull);
+    let n = form::feed(
+        start(false),
+        form,
+        bounds,
+        sites,
+        triangles,
+        halfedges,
+        hull,
+    );
     reported(finished(n))
 }
 

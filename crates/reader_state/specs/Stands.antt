@@ -6,7 +6,7 @@ use Prim.Native.Nat.{ℕ, _+_, _-_, _%_, _^_}
 use lib.Dec.{eqb, ltb}
 use lib.ListN.{take, drop}
 use Rattle.laws.specs.Pick.{pick}
-use Rattle.numbers.specs.Numbers.{refusedForm}
+use Rattle.numbers.specs.Numbers.{refusedForm, refusedUnclipped}
 use Rattle.form_step.specs.Reader.{opens, start, refused}
 use Rattle.form_step.specs.Standing.{sitesBegun, trianglesBegun, hullBegun, bodyOf, kinds, bodies}
 use Rattle.form_step.specs.declared.Reader.{Reader}
@@ -24,11 +24,14 @@ few r =
     (λ _. pick (ltb 96 (r .hull)) (λ _. false)
     (λ _. pick (ltb 32 (r .left)) (λ _. false) (λ _. ltb (r .at) 7000)))))
 
-unfoldable pub numbered : ℕ → Bool
-numbered n = pick (eqb n 0) (λ _. true) (λ _. eqb n refusedForm)
+-- 20 stands only where a kind is expected and the form has not ended
+unfoldable pub numbered : ℕ → ℕ → ℕ → Bool
+numbered n stage left =
+    pick (eqb n 0) (λ _. true)
+    (λ _. pick (eqb n refusedUnclipped) (λ _. both (eqb left 0) (ltb stage 5)) (λ _. eqb n refusedForm))
 
-unfoldable pub opened : ℕ → ℕ → Bool
-opened stage clip = pick (eqb stage 0) (λ _. eqb clip 0) (λ _. opens clip)
+unfoldable pub opened : Bool → ℕ → ℕ → Bool
+opened old stage clip = pick (eqb stage 0) (λ _. eqb clip 0) (λ _. opens old clip)
 
 -- `CountAt` as a test
 unfoldable pub countAt : ℕ → ℕ → ℕ → ℕ → Bool
@@ -54,7 +57,7 @@ registered w n =
 
 unfoldable pub given : Reader → Bool
 given r =
-    both (both (numbered (r .refusal)) (opened (r .stage) (r .clip)))
+    both (both (numbered (r .refusal) (r .stage) (r .left)) (opened (r .old) (r .stage) (r .clip)))
     (both (counted r) (both (placed r) (registered (r .word) (bodies r - r .left))))
 
 unfoldable pub stands : Reader → Bool
@@ -65,4 +68,4 @@ blank [] = true
 blank (w ∷ ws) = both (eqb w 0) (blank ws)
 
 unfoldable pub entered : List ℕ → Reader
-entered ws = pick (both (blank (take 7 (drop 9 ws))) (stands (readerOf ws))) (λ _. readerOf ws) (λ _. refused start)
+entered ws = pick (both (blank (take 7 (drop 9 ws))) (stands (readerOf ws))) (λ _. readerOf ws) (λ _. refused (start false) refusedForm)

@@ -1,4 +1,5 @@
--- A reader's state as sixteen words, of which the last seven are 0 for now. Definitions only.
+-- A reader's state as sixteen words, of which the last seven are 0 for now; the flag for forms of old is not among them. Definitions only.
+use mathlib.Core.Bool.{false}
 use mathlib.Core.List.{List, [], _∷_}
 use Prim.Native.Nat.{ℕ}
 use lib.ListN.{getD}
@@ -13,6 +14,7 @@ wordsOf r =
 abbrev pub readerOf : List ℕ → Reader
 readerOf ws =
     record {
+      old = false;
       stage = getD ws 0 0;
       left = getD ws 1 0;
       word = getD ws 2 0;

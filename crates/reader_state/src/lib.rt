@@ -5,6 +5,7 @@ use form_step::refused;
 use form_step::size;
 use form_step::start;
 use numbers::REFUSED_FORM;
+use numbers::REFUSED_UNCLIPPED;
 ghost use mathlib.Core.Path.{_≡_};
 ghost use mathlib.Core.Bool.{true};
 ghost use Prim.Native.Nat.{_+_, _-_, _^_, _≤_, _<_};
@@ -37,23 +38,30 @@ fn few(r: Reader) -> bool
     r.at < 7000
 }
 
-fn numbered(refusal: u64) -> bool
-    ensures { λ a. ⌜ a ≡ numbered refusal ⌝ }
+// A refusal's number, or 0. 20 stands only where a kind is expected and the form has not ended.
+fn numbered(refusal: u64, stage: u64, left: u64) -> bool
+    ensures { λ a. ⌜ a ≡ numbered refusal stage left ⌝ }
 {
     if refusal == 0 {
         return true;
     }
-    refusal == REFUSED_FORM as u64
+    if refusal != REFUSED_UNCLIPPED as u64 {
+        return refusal == REFUSED_FORM as u64;
+    }
+    if left != 0 {
+        return false;
+    }
+    stage < 5
 }
 
 // The kind that opened the form is one that opens forms.
-fn opened(stage: u64, clip: u64) -> bool
-    ensures { λ a. ⌜ a ≡ opened stage clip ⌝ }
+fn opened(old: bool, stage: u64, clip: u64) -> bool
+    ensures { λ a. ⌜ a ≡ opened old stage clip ⌝ }
 {
     if stage == 0 {
         return clip == 0;
     }
-    opens(clip)
+    opens(old, clip)
 }
 
 // n records of this kind at this stage: none before it, one at least in it.
@@ -214,7 +222,10 @@ fn given(r: Reader) -> bool
     requires { ⌜ few r ≡ true ⌝ }
     ensures { λ a. ⌜ a ≡ given r ⌝ }
 {
-    let first = both(numbered(r.refusal), opened(r.stage, r.clip));
+    let first = both(
+        numbered(r.refusal, r.stage, r.left),
+        opened(r.old, r.stage, r.clip),
+    );
     let last = both(placed(r), registered(r.word, taken(r)));
     both(first, both(counted(r), last))
 }
@@ -249,6 +260,7 @@ fn held(state: &[u64]) -> Reader
     ensures { λ r. ⌜ r ≡ readerOf (now (state .entry)) ⌝ }
 {
     Reader {
+        old: false,
         stage: state[0],
         left: state[1],
         word: state[2],
@@ -261,7 +273,7 @@ fn held(state: &[u64]) -> Reader
     }
 }
 
-// What the words say. A state that no reading leaves is one refused at byte 0.
+// What the words say; none of them is the flag for forms of old. A state that no reading leaves is one refused at byte 0.
 pub fn load(state: &[u64]) -> Reader
     requires { ⌜ 16 ≤ length (now state) ⌝ }
     ensures is { λ r. ⌜ r ≡ entered (now (state .entry)) ⌝ }
@@ -271,7 +283,7 @@ pub fn load(state: &[u64]) -> Reader
     if both(blank(&state[9..16]), stands(r)) {
         return r;
     }
-    refused(start())
+    refused(start(false), REFUSED_FORM as u64)
 }
 
 // The state in the first sixteen words; the others stay.

@@ -4,7 +4,6 @@ use mathlib.Core.Path.{_≡_, refl, ap, _∙_}
 use mathlib.Core.List.{List, []}
 use Prim.Native.Nat.{ℕ, _/_, _≤_}
 use native.Mathlib.Omega.{arith}
-use lib.Ieee.{Float}
 use lib.ListN.{length, getD}
 use borrow.Author.Tests.{ne-eqb}
 use Rattle.laws.specs.Refusals.{Keeps, Breaks}
@@ -15,10 +14,9 @@ use Rattle.mesh.specs.Accepted.{Mesh, Accepted}
 use Rattle.definition.specs.declared.Fault.{Fault}
 use Rattle.definition.specs.Fault.{ok, refused, badCenter, notFinite}
 use Rattle.definition.specs.Build.{Built, CellState, build}
-use Rattle.definition.specs.Unclipped.{unclipped}
 use Rattle.definition.specs.Tries.{centerRule, extensionRule, TryOf, TriedInVain}
 use Rattle.definition.specs.Met.{EdgeMet, FaultMet, atTriangle, atHullPlace, atRingEdge}
-use Rattle.definition.specs.FaultTheorem.{build-refused, unclipped-refused}
+use Rattle.definition.specs.FaultTheorem.{build-refused}
 use Rattle.definition.specs.ByNumber.{edge-number}
 use Rattle.definition.specs.TryTheorem.{tried-in-vain}
 use Rattle.reasons.specs.declared.Reason.{Reason}
@@ -56,8 +54,3 @@ module _ {m : Mesh} {b : BoundingBox} where
   -- every try gave nothing, and there was one
   pub vain-true : Accepted m → {r : Built} → build m b ≡ ok r → {s : ℕ} → Used (m .triangles) s → getD (r .cells) s [] ≡ [] → TriedInVain m b s
   vain-true a is u e = tried-in-vain a b is u e
-
--- without a box the builder meets 11 alone, and the cell of a site in use is not empty
-pub unclipped-true : (sites : List Float) (tri he : List ℕ) {f : Fault} → unclipped sites tri he ≡ refused f
-    → (t : ℕ) × Breaks (centerRule sites tri) (badCenter t) × (ofFault f ≡ AtTriangle refusedCircumcenter t)
-unclipped-true sites tri he e = let (t, first, l, q) = unclipped-refused sites tri he e in (t, (t, first, l, refl), ap ofFault q ∙ center-named t)

@@ -1,4 +1,5 @@
-// Prints what the form's reader says of each case on standard input, which is two bytes of length and as many bytes.
+// Prints what the form's reader says of each case on standard input, which is two bytes of length and as many bytes;
+// then what it says where forms of old are read too.
 use form_step::Form;
 use libc::STDIN_FILENO;
 use libc::STDOUT_FILENO;
@@ -9,9 +10,11 @@ fn number(n: usize) {
     io::print_decimal(STDOUT_FILENO, n as u64);
 }
 
-fn refused(at: usize) {
-    io::write_all(STDOUT_FILENO, b"refused 17 at");
-    number(at);
+fn refused(number: u8, at: usize) {
+    io::write_all(STDOUT_FILENO, b"refused ");
+    io::print_decimal(STDOUT_FILENO, number as u64);
+    io::write_all(STDOUT_FILENO, b" at ");
+    io::print_decimal(STDOUT_FILENO, at as u64);
 }
 
 fn sound(sites: usize, triangles: usize, hull: usize) {
@@ -33,7 +36,7 @@ fn opened(clip: u8) {
 
 fn say(form: Form) {
     match form {
-        Form::Broken { at } => refused(at),
+        Form::Broken { number, at } => refused(number, at),
         Form::Sound {
             sites,
             triangles,
@@ -44,16 +47,16 @@ fn say(form: Form) {
             opened(clip);
         }
     }
-    io::write_all(STDOUT_FILENO, b"\n");
 }
 
-fn verdict(bytes: &[u8]) {
+fn verdict(old: bool, bytes: &[u8]) {
     let mut bounds = [0.0f64; 4];
     let mut sites = [0.0f64; 192];
     let mut triangles = [0u32; 576];
     let mut halfedges = [0u32; 576];
     let mut hull = [0u32; 96];
     let form = form::read(
+        old,
         bytes,
         &mut bounds,
         &mut sites,
@@ -62,6 +65,14 @@ fn verdict(bytes: &[u8]) {
         &mut hull,
     );
     say(form);
+}
+
+// As all programs read, and as the mending tool can.
+fn both(bytes: &[u8]) {
+    verdict(false, bytes);
+    io::write_all(STDOUT_FILENO, b"; of old ");
+    verdict(true, bytes);
+    io::write_all(STDOUT_FILENO, b"\n");
 }
 
 fn wide(x: u8) -> usize
@@ -73,7 +84,7 @@ fn wide(x: u8) -> usize
 // Reads a case's bytes, as many as the slice has, and answers how many came.
 fn body(bytes: &mut [u8]) -> usize {
     let got = io::read_full(STDIN_FILENO, bytes);
-    verdict(&bytes[..got]);
+    both(&bytes[..got]);
     got
 }
 

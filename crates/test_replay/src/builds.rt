@@ -1,8 +1,6 @@
 // One stored build, made again.
 use test_words::float;
-use test_words::word;
 use voronoi::builds::voronoi_build;
-use voronoi::builds::voronoi_build_unclipped;
 
 pub fn build(
     b: &[u8],
@@ -16,19 +14,6 @@ pub fn build(
     offsets: &mut [u32],
     counts: &mut [u32],
 ) -> u32 {
-    if word(b, 0) == 6 {
-        return voronoi_build_unclipped(
-            sites,
-            triangles,
-            halfedges,
-            hull,
-            work,
-            vertices,
-            indexes,
-            offsets,
-            counts,
-        );
-    }
     voronoi_build(
         float(b, 5),
         float(b, 7),

@@ -25,7 +25,6 @@ use Rattle.paths.specs.Path.{distOf}
 use Rattle.paths.specs.PathRule.{usedOf}
 use Rattle.paths.specs.Path.{wholePath}
 use Rattle.definition.specs.Build.{build}
-use Rattle.definition.specs.Unclipped.{unclipped}
 use Rattle.admission.specs.Asks.{CellsOf}
 use Rattle.admission.specs.Slices.{Slices}
 use Rattle.voronoi.specs.Roots.{MagnitudeBits, Magnitude, SignumBits, Signum}
@@ -41,9 +40,9 @@ use Rattle.voronoi.specs.Meshes.{Check}
 use Rattle.voronoi.specs.One.{one-check}
 use Rattle.voronoi.specs.Walks.{Walk, Neighbours, ClippedNeighbours, Path, SharedEdge, CellsShareEdge}
 use Rattle.voronoi.specs.One.{one-walk, one-neighbours, one-clipped, one-path, one-shared-edge, one-cells-share-edge}
-use Rattle.voronoi.specs.Builds.{Build, BuildUnclipped, Cell, CellPart}
+use Rattle.voronoi.specs.Builds.{Build, Cell, CellPart}
 use Rattle.voronoi.specs.Explanations.{Why}
-use Rattle.voronoi.specs.One.{one-build, one-why, one-build-unclipped, one-cell, one-cell-part}
+use Rattle.voronoi.specs.One.{one-build, one-why, one-cell, one-cell-part}
 use Rattle.voronoi.specs.Maps.{CellWkbBits, CellWkb}
 use Rattle.voronoi.specs.Outcomes.{One, One₂, One₃, OneList, OneMend, OneMeeting, OneBox, OneCenter, SliceRefused, ListRefused, BuildRefused}
 use Rattle.voronoi.specs.Leaves.{QueryAllowed, BuildAllowed, BuildLeaves}
@@ -52,7 +51,7 @@ use Rattle.voronoi.specs.Approach.{WholeRound, nextTo, Joined, Approache
 use Rattle.voronoi.specs.Wraps.{Wraps}
 use Rattle.voronoi.specs.laws.Refused.{work-refused, list-refused, slices-refused}
 use Rattle.voronoi.specs.laws.Answering.{check-answers, site-answers, cells-answers, path-answers, edge-answers}
-use Rattle.voronoi.specs.laws.Leaving.{build-answers, build-leaves, build-empty, unclipped-answers, unclipped-leaves, unclipped-empty}
+use Rattle.voronoi.specs.laws.Leaving.{build-answers, build-leaves, build-empty}
 use Rattle.voronoi.specs.laws.PlaneBounds.{dist2-answer, circumcenter-answer, centroid-answer, box-answer, center-answer, corners-answer, line-answer, ray-answer}
 use Rattle.voronoi.specs.laws.Written.{written, begins, rest}
 use Rattle.voronoi.specs.laws.Walking.{walk-rounds, walk-ends, no-walk, neighbours-joined, no-neighbours, path-approaches, path-once, path-short, path-ended, own-path}
@@ -114,8 +113,6 @@ pub record Demand1 (m : Mesh) : Type 0 where
   pub cells-share-edge : (offs idx : List ℕ) (a b : ℕ) → One₂ (λ r y. CellsShareEdge offs idx a b y r)
   -- voronoi_build: the number, all five slices
   pub build : (g : Given) (old : Slices) → One₂ (λ r new. Build m g old new r)
-  -- voronoi_build_unclipped
-  pub build-unclipped : (old : Slices) → One₂ (λ r new. BuildUnclipped m old new r)
   -- voronoi_why: the number, the kind and the places; all five slices
   pub why : (g : Given) (asked first second : ℕ) (old : Slices) → One₂ (λ t new. Why m g asked first second old new t)
   -- voronoi_cell: the number, start, length
@@ -147,7 +144,6 @@ pub record Demand1 (m : Mesh) : Type 0 where
   pub shared-edge-refused : (a b : ℕ) {w w′ : List ℕ} {e r : ℕ} → SharedEdge m a b w w′ e r → r ≢ 0 → SliceRefused EMPTY w w′ r
   -- by a build: all five slices
   pub build-refused : (g : Given) {old new : Slices} {r : ℕ} → Build m g old new r → r ≢ 0 → BuildRefused old new r
-  pub unclipped-refused : {old new : Slices} {r : ℕ} → BuildUnclipped m old new r → r ≢ 0 → BuildRefused old new r
 
 -- ---- 2. On every admitted input vertices, cells, walks and paths are the definition's, bit for bit: every number answered is finite, so that its pattern is meant.
 
@@ -168,11 +164,9 @@ pub record Demand2 (m : Mesh) : Type 0 where
   -- a build answers 0 exactly where mesh, room, box and definition allow it
   pub build-answers : (g : Given) {old new : Slices} {r : ℕ} → Build m g old new r
       → (r ≡ 0) ↔ BuildAllowed m (g .sound ≡ true) (build m (g .bounds)) old
-  pub unclipped-answers : {old new : Slices} {r : ℕ} → BuildUnclipped m old new r → (r ≡ 0) ↔ BuildAllowed m (Unit {0}) (unclipped (m .sites) (m .triangles) (m .halfedges)) old
   -- and leaves the definition's vertices, cells, owners and lost corners; each number finite; the cell queries hand the definition's cells back
   pub build-leaves : (g : Given) → Fits g → {old new : Slices} → Build m g old new 0
       → BuildLeaves (siteCount (m .sites)) (tableOf m) (build m (g .bounds)) old new
-  pub unclipped-leaves : {old new : Slices} → BuildUnclipped m old new 0 → BuildLeaves (siteCount (m .sites)) (tableOf m) (unclipped (m .sites) (m .triangles) (m .halfedges)) old new
   -- a walk that has ended is the definition's, from the leftmost half-edge of the site
   pub walk : (s : ℕ) {w w′ o o′ : List ℕ} {k : ℕ} → Walk m s w w′ o o′ k 1 0 → take k o′ ≡ wholeOf (m .halfedges) (getD (tableOf m) s 0)
   -- so are neighbours, before clipping and after it
@@ -231,8 +225,6 @@ pub record Demand3 (m : Mesh) : Type 0 where
   -- an empty cell
   pub no-cell : (g : Given) → Fits g → (s : ℕ) {old new : Slices} {part : List ℕ} {r : ℕ} → Build m g old new 0 → s < siteCount (m .sites) → (Used (m .triangles) s → ⊥)
       → CellPart (take (suc (siteCount (m .sites))) (new .offsets)) (new .indexes) s part r → part ≡ []
-  pub no-cell-unclipped : (s : ℕ) {old new : Slices} {part : List ℕ} {r : ℕ} → BuildUnclipped m old new 0 → s < siteCount (m .sites) → (Used (m .triangles) s → ⊥)
-      → CellPart (take (suc (siteCount (m .sites))) (new .offsets)) (new .indexes) s part r → part ≡ []
 
 -- ---- proved, of every lent mesh
 
@@ -264,7 +256,6 @@ demand1 m = record {
   shared-edge = λ a b w _ _ _ _ _ _. one-shared-edge;
   cells-share-edge = λ offs idx a b _ _ _ _. one-cells-share-edge;
   build = λ g old _ _ _ _. one-build m g;
-  build-unclipped = λ old _ _ _ _. one-build-unclipped m;
   why = λ g asked first second old _ _ _ _. one-why g asked first second;
   cell = λ offs idx s _ _ _ _ _ _. one-cell offs idx s;
   cell-part = λ offs idx s _ _ _ _. one-cell-part offs idx s;
@@ -282,7 +273,6 @@ demand1 m = record {
   path-refused = λ s p. list-refused;
   shared-edge-refused = λ a b x. work-refused m (x .work);
   build-refused = λ g. slices-refused;
-  unclipped-refused = slices-refused;
 }
 
 pub demand2 : (m : Mesh) → Demand2 m
@@ -296,9 +286,7 @@ demand2 m = record {
   by-size = size-fits;
   by-edges = edges-fit;
   build-answers = λ g. build-answers m g;
-  unclipped-answers = unclipped-answers m;
   build-leaves = λ g f. build-leaves m g f;
-  unclipped-leaves = unclipped-leaves m;
   walk = λ s. written;
   neighbours = λ s. written;
   clipped-neighbours = λ offs idx s. written;
@@ -330,5 +318,4 @@ demand3 m = record {
   no-neighbours = no-neighbours m;
   own-path = λ s p. own-path m s p;
   no-cell = λ g f s. build-empty m g f s;
-  no-cell-unclipped = λ s. unclipped-empty m s;
 }

@@ -11,14 +11,14 @@ use Rattle.reader.specs.declared.Report.{Report}
 abbrev pub ReaderBegin : List ℕ → List ℕ → ℕ → Type 0
 ReaderBegin = ReaderBegins
 
--- 2, 17
+-- 2, 17, 20
 abbrev pub ReaderFeed : List ℕ → FormLists → List ℕ → List ℕ → FormLists → Answer → Type 0
 ReaderFeed = ReaderFeeds
 
--- 2, 17
+-- 2, 17, 20
 abbrev pub ReaderEnd : List ℕ → List ℕ → Report → Type 0
 ReaderEnd = ReaderEnds
 
--- 2, 17
+-- 2, 17, 20
 abbrev pub ReadForm : FormLists → List ℕ → FormLists → Report → Type 0
 ReadForm = ReadsForm

@@ -43,7 +43,7 @@ use Rattle.voronoi.specs.Roots.{MagnitudeBits, Magnitude, SignumBits, Si
 use Rattle.voronoi.specs.Plane.{Near, Dist2, Edges, Centered, Corners, Inside, ExclusivelyInside, WhichEdge, Meets}
 use Rattle.voronoi.specs.Meshes.{Check}
 use Rattle.voronoi.specs.Walks.{Handed, Walk, Neighbours, ClippedNeighbours, Path, SharedEdge, CellsShareEdge}
-use Rattle.voronoi.specs.Builds.{Build, BuildUnclipped, CellPart, Cell}
+use Rattle.voronoi.specs.Builds.{Build, CellPart, Cell}
 
 -- two values that one definition gives
 same : {A : Type 0} {a b d : A} → a ≡ d → b ≡ d → a ≡ b
@@ -177,9 +177,6 @@ one-cells-share-edge {off} {ix} {a} {b} x v =
 module _ (m : Mesh) {old new other : Slices} {r s : ℕ} where
   pub one-build : (g : Given) → Build m g old new r → Build m g old other s → (r ≡ s) × (new ≡ other)
   one-build g = answers-one
-
-  pub one-build-unclipped : BuildUnclipped m old new r → BuildUnclipped m old other s → (r ≡ s) × (new ≡ other)
-  one-build-unclipped = answers-one
 
 module _ (off ix : List ℕ) (s : ℕ) {q r : ℕ} where
   pub one-cell-part : {p o : List ℕ} → CellPart off ix s p q → CellPart off ix s o r → (q ≡ r) × (p ≡ o)

@@ -4,7 +4,7 @@ ghost use Rattle.utils.specs.Plane.{at};
 ghost use Rattle.given_box.specs.Given.{bySize};
 ghost use Rattle.mesh.specs.Accepted.{mesh};
 ghost use Rattle.admission.specs.Slices.{slices};
-ghost use Rattle.voronoi.specs.Builds.{Build, BuildUnclipped, Cell, CellPart};
+ghost use Rattle.voronoi.specs.Builds.{Build, Cell, CellPart};
 
 // The cells of all sites, clipped to the box of the center (cx, cy), width and height.
 #[no_mangle]
@@ -30,36 +30,6 @@ pub extern "C" fn voronoi_build(
     let given = given_box::by_size(cx, cy, width, height);
     building::build(
         given,
-        sites,
-        triangles,
-        halfedges,
-        hull,
-        work,
-        vertices,
-        indexes,
-        offsets,
-        counts,
-    )
-}
-
-// The cells of all sites, not clipped: circumcenters alone.
-#[no_mangle]
-pub extern "C" fn voronoi_build_unclipped(
-    sites: &[f64],
-    triangles: &[u32],
-    halfedges: &[u32],
-    hull: &[u32],
-    work: &mut [u32],
-    vertices: &mut [f64],
-    indexes: &mut [u32],
-    offsets: &mut [u32],
-    counts: &mut [u32],
-) -> u32
-    ensures { λ r. ⌜ BuildUnclipped (mesh (now (sites .entry)) (now (triangles .entry)) (now (halfedges .entry)) (now (hull .entry)))
-        (slices (now (work .entry)) (now (vertices .entry)) (now (indexes .entry)) (now (offsets .entry)) (now (counts .entry)))
-        (slices (now (work .exit)) (now (vertices .exit)) (now (indexes .exit)) (now (offsets .exit)) (now (counts .exit))) r ⌝ }
-{
-    building::build_unclipped(
         sites,
         triangles,
         halfedges,

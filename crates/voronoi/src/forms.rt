@@ -30,7 +30,7 @@ pub extern "C" fn voronoi_reader_feed(
     reader::feed(state, block, bounds, sites, triangles, halfedges, hull, at)
 }
 
-// No more will come: the counts and the kind that opened the form, or 17.
+// No more will come: the counts and the kind that opened the form, or 17 or 20.
 #[no_mangle]
 pub extern "C" fn voronoi_reader_end(
     state: &mut [u64],

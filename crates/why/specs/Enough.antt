@@ -1,5 +1,5 @@
 -- Theorem: 6,947 bytes of an input decide what is printed for it, however long it is: no form has more than 6,946.
-use mathlib.Core.Path.{subst}
+use mathlib.Core.Path.{ap, subst}
 use mathlib.Core.List.{List}
 use mathlib.Core.Logic.{⊎-elim}
 use Prim.Native.Nat.{ℕ, _≤_}
@@ -9,7 +9,8 @@ use lib.Seq.{take-all, length-take-le}
 use Rattle.laws.specs.laws.Decide.{lt-or-ge}
 use Rattle.reasons.specs.declared.Question.{Question}
 use Rattle.reasons.specs.declared.Reason.{Reason}
-use Rattle.form.specs.Length.{no-form}
+use Rattle.form.specs.Length.{form-short}
+use Rattle.form.specs.laws.Longer.{place-longer, number-longer}
 use Rattle.why.specs.Printed.{FormReason, sound, broken, WhyPrints}
 
 module _ (q : Question) where
@@ -21,8 +22,8 @@ module _ (q : Question) where
       (lt-or-ge (length s) 6947)
     where
       long : 6947 ≤ length s → {r : Reason} → FormReason q (take 6947 s) r → FormReason q s r
-      long l (sound m f e x) = absurd (no-form (take 6947 s) (omega (arith, length-take-le 6947 s l)) (record { mesh = m; fits = f; bytes = e }))
-      long l (broken n) = broken (no-form s (omega arith))
+      long l (sound m f e x) = absurd (omega (arith, form-short m f, ap length e, length-take-le 6947 s l))
+      long l (broken {k} p n) = broken (place-longer s k l p) (number-longer s k l p n)
 
   pub enough : (s text : List ℕ) → WhyPrints q (take 6947 s) text → WhyPrints q s text
   enough s text p = record { reason = p .reason; true = reason-enough s (p .true); line = p .line }

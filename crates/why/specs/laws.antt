@@ -1,4 +1,3 @@
 -- Laws that only proofs use.
 pub mod Room
 pub mod ReadForm
-pub mod ByMode

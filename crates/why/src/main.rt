@@ -13,9 +13,10 @@ ghost use Prim.Native.Nat.{_≤_};
 ghost use lib.ListN.{length, take};
 ghost use Rattle.given_box.specs.Finite.{Fits};
 ghost use Rattle.mesh.specs.Accepted.{mesh};
+ghost use Rattle.form_box.specs.FormBox.{boxBy};
 ghost use Rattle.form_step.specs.Holds.{ListRoom, Few};
-ghost use Rattle.why.specs.Printed.{WhyInBox, WhyWithoutBox, WhyPrints};
-ghost use Rattle.why.specs.Steps.{Sized, WhyByMode, WhyByForm};
+ghost use Rattle.why.specs.Printed.{WhyInBox, WhyPrints};
+ghost use Rattle.why.specs.Steps.{Sized, WhyByForm};
 
 fn in_box(
     given: Given,
@@ -48,35 +49,7 @@ fn in_box(
     )
 }
 
-fn without_box(
-    sites: &[f64],
-    triangles: &[u32],
-    halfedges: &[u32],
-    hull: &[u32],
-    q: Question,
-) -> Reason
-    requires { ⌜ Sized (length (now sites)) (length (now triangles)) (length (now hull)) ⌝ }
-    ensures { λ r. ⌜ WhyWithoutBox (mesh (now (sites .entry)) (now (triangles .entry)) (now (halfedges .entry)) (now (hull .entry))) q r ⌝ }
-{
-    let mut work = [0u32; 96];
-    let mut vertices = [0.0f64; 3656];
-    let mut indexes = [0u32; 3076];
-    let mut offsets = [0u32; 97];
-    let mut counts = [0u32; 6];
-    explaining::why_unclipped(
-        sites,
-        triangles,
-        halfedges,
-        hull,
-        q,
-        &mut work,
-        &mut vertices,
-        &mut indexes,
-        &mut offsets,
-        &mut counts,
-    )
-}
-
+// In the box that the form gives.
 fn of_mesh(
     clip: u8,
     bounds: [f64; 4],
@@ -87,11 +60,8 @@ fn of_mesh(
     q: Question,
 ) -> Reason
     requires { ⌜ Sized (length (now sites)) (length (now triangles)) (length (now hull)) ⌝ }
-    ensures { λ r. ⌜ WhyByMode q clip bounds (mesh (now (sites .entry)) (now (triangles .entry)) (now (halfedges .entry)) (now (hull .entry))) r ⌝ }
+    ensures { λ r. ⌜ WhyInBox (mesh (now (sites .entry)) (now (triangles .entry)) (now (halfedges .entry)) (now (hull .entry))) (boxBy clip bounds) q r ⌝ }
 {
-    if clip == form_box::NO_BOX {
-        return without_box(sites, triangles, halfedges, hull, q);
-    }
     let given = form_box::box_of(clip, bounds);
     in_box(given, sites, triangles, halfedges, hull, q)
 }
@@ -116,7 +86,7 @@ fn of_form(
         clip,
     } = form
     else {
-        return Reason::Number(numbers::REFUSED_FORM);
+        return Reason::Number(form_step::number_of(form));
     };
     let coordinates = 2 * n;
     let entries = 3 * t;
@@ -142,6 +112,7 @@ fn answer(bytes: &[u8], q: Question, out: &mut [u8]) -> usize
     let mut halfedges = [0u32; 576];
     let mut hull = [0u32; 96];
     let form = form::read(
+        false,
         bytes,
         &mut bounds,
         &mut sites,

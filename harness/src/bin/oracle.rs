@@ -60,7 +60,7 @@ fn main() {
         if *verb == "--form" {
             std::io::stdout().write_all(&form::bytes(&input.mesh, input.clip.as_ref())).unwrap();
         } else if *verb == "--mend" {
-            mend::lines(&input.mesh).unwrap_or_else(|e| stop(&e)).iter().for_each(|line| println!("{line}"));
+            mended(&input).unwrap_or_else(|e| stop(&e)).iter().for_each(|line| println!("{line}"));
         } else {
             print!("{}", form::listing(&input.mesh, input.clip.as_ref()).unwrap_or_else(|e| stop(&e)));
         }
@@ -97,6 +97,14 @@ fn main() {
     }
 }
 
+/// What the program `mend` prints.
+fn mended(input: &text::Input) -> Result<Vec<String>, String> {
+    match input.clip {
+        Some(_) => mend::lines(&input.mesh),
+        None => Ok(vec!["refused 20".to_string()]),
+    }
+}
+
 fn stop(words: &str) -> ! {
     eprintln!("{words}");
     std::process::exit(2)
@@ -111,7 +119,7 @@ fn listing(input: &text::Input) -> Vec<String> {
         lines.push(format!("why{sites}: {}", reason.line(q)));
     }
     if input.mend {
-        lines.extend(mend::lines(&input.mesh).unwrap_or_else(|e| stop(&e)).iter().map(|line| format!("mend: {line}")));
+        lines.extend(mended(input).unwrap_or_else(|e| stop(&e)).iter().map(|line| format!("mend: {line}")));
     }
     lines
 }
@@ -119,9 +127,12 @@ fn listing(input: &text::Input) -> Vec<String> {
 /// The refusals up to 10 and 11, 12 are the rules', before the Rust is asked; 13 and 14 are its panics.
 fn answers(input: &text::Input) -> Vec<String> {
     let m = &input.mesh;
+    let Some(area) = &input.clip else {
+        return vec!["refused 20".to_string()];
+    };
     let number = if !reference::counts_sound(m) {
         1
-    } else if input.clip.is_some_and(|a| !reference::box_sound(&a)) {
+    } else if !reference::box_sound(area) {
         3
     } else if !reference::coordinates_sound(&m.sites) {
         6
@@ -133,19 +144,19 @@ fn answers(input: &text::Input) -> Vec<String> {
     }
     let lent = rust::Lent::new(m);
     let mut lines = vec![row("leftmost", &lent.leftmost())];
-    let ours = reference::build(m, input.clip.as_ref(), &mut Counts::default());
+    let ours = reference::build(m, area, &mut Counts::default());
     let cells = match ours {
         Err(reference::Fault { number: n @ (11 | 12), .. }) => {
             lines.push(format!("refused {n}"));
             None
         }
-        _ => match (&ours, rust::build(&lent, input.clip.as_ref())) {
+        _ => match (&ours, rust::build(&lent, area)) {
             (Err(f), Err(Ok(k))) if f.number == k => {
                 lines.push(format!("refused {k}"));
                 None
             }
             (Ok(o), Ok(t)) if same(o, &t) => {
-                lines.extend(built(o, input.clip.is_some()));
+                lines.extend(built(o));
                 Some(t.cells)
             }
             (o, t) => stop(&format!("DIFFERENCE between the Rust and the reading of the rules:\nRust {t:?}\nrules {o:?}")),
@@ -163,7 +174,7 @@ fn same(o: &reference::Build, t: &rust::Built) -> bool {
     o.leftmost == t.leftmost && o.owners == t.owners && o.plain() == t.cells && bits(&o.vertices) == bits(&t.vertices)
 }
 
-fn built(b: &reference::Build, clipped: bool) -> Vec<String> {
+fn built(b: &reference::Build) -> Vec<String> {
     let mut lines = vec![format!("vertices {}", b.vertices.len())];
     for (i, v) in b.vertices.iter().enumerate() {
         lines.push(format!("vertex {i}: {:#018x} {:#018x}   {} {}", v.x.to_bits(), v.y.to_bits(), show(v.x), show(v.y)));
@@ -182,9 +193,7 @@ fn built(b: &reference::Build, clipped: bool) -> Vec<String> {
         });
         lines.push(format!("marks {s}:{}", words.collect::<String>()));
     }
-    if clipped {
-        lines.push(format!("{} lost {}", row("corners", &b.owners), b.lost));
-    }
+    lines.push(format!("{} lost {}", row("corners", &b.owners), b.lost));
     lines
 }
 

@@ -3,9 +3,9 @@ use mathlib.Core.Path.{_≡_, refl, sym, ap, _∙_}
 use mathlib.Core.Bool.{true}
 use mathlib.Core.List.{List, []}
 use mathlib.Core.Logic.{_≢_}
-use Prim.Native.Nat.{ℕ, _+_, _/_, _≤_}
+use Prim.Native.Nat.{ℕ, _/_, _≤_}
 use native.Mathlib.Omega.{arith}
-use native.Mathlib.Nat.{sub-zero, zero-add}
+use native.Mathlib.Nat.{sub-zero}
 use lib.Dec.{ltb}
 use lib.Ieee.{Float}
 use lib.ListN.{length, take, replicate}
@@ -13,7 +13,6 @@ use borrow.Author.Tests.{ne-eqb, lt-ltb}
 use Rattle.laws.specs.Refusals.{Rule, Finds}
 use Rattle.laws.specs.Binary64.{zero}
 use Rattle.numbers.specs.Numbers.{EMPTY, refusedTriangle}
-use Rattle.utils.specs.declared.Point.{Point}
 use Rattle.mesh.specs.Mesh.{leftmostIn}
 use Rattle.mesh.specs.Accepted.{Mesh, tableOf, Accepted, siteCount}
 use Rattle.mesh.specs.laws.Facts.{topology, tab-length}
@@ -25,16 +24,12 @@ use Rattle.admission.specs.laws.Admits.{NoneZero, asked-answers, admitted, admi
 use Rattle.admission.specs.laws.BuildRoom.{Granted, granted}
 use Rattle.admission.specs.laws.LeftmostTable.{table-long, table-part}
 use Rattle.definition.specs.declared.Fault.{Fault}
-use Rattle.definition.specs.Fault.{Outcome, ok, refused, andThen}
-use Rattle.definition.specs.Build.{Built, centersFrom}
-use Rattle.definition.specs.Unclipped.{unclipped, ringsFrom}
-use Rattle.definition.specs.laws.Start.{centers-from}
-use Rattle.definition.specs.laws.Gives.{Gives}
+use Rattle.definition.specs.Fault.{Outcome, ok, refused}
+use Rattle.definition.specs.Build.{Built}
 use Rattle.layout.specs.Outputs.{padded, Rooms, vertexNumbers, indexNumbers, offsetNumbers, countNumbers, faultOf, BuiltInto}
-use Rattle.build_counts.specs.Counts.{countsOf, EndedBuild}
+use Rattle.build_counts.specs.Counts.{EndedBuild}
 use Rattle.build_answers.specs.Promise.{BuildAnswers}
 use Rattle.definition.specs.Late.{Refuses, Numbered}
-use Rattle.definition.specs.LateRefusals.{unclipped-late}
 use Rattle.build_answers.specs.laws.Promise.{early, built}
 
 -- a slice cleared by a late refusal
@@ -127,17 +122,3 @@ module _ {m : Mesh} {asked : ℕ} {old new : Slices} {r : ℕ} (a : BuildAdmissi
           → BuiltInto o (new .vertices) (new .indexes) (new .offsets) v ix off → EndedBuild (f .number) made (new .work) (new .counts) w c
           → (faultOf o .number ≡ 0 → made ≡ countNumbers o) → BuildAnswers m own o old (slices w v ix off c) (f .number)
       answers-built o late f e l d q = rw e (go o late l (rw e at d) q)
-
--- ---- the unclipped build: a vertex for each triangle
-pub unclipped-counts : (sites : List Float) (tri he : List ℕ) → faultOf (unclipped sites tri he) .number ≡ 0
-    → countsOf (length tri / 3) (replicate 4 EMPTY) 0 ≡ countNumbers (unclipped sites tri he)
-unfolding unclipped andThen countNumbers
-unclipped-counts sites tri he z = go (centersFrom sites tri 0 (length tri / 3) []) (centers-from sites tri 0 (length tri / 3) []) (unclipped-late sites tri he) z
-  where
-    rest : List Point → Outcome Fault Built
-    rest centers = ok (record { verts = centers; cells = ringsFrom tri he 0 (length tri) (replicate (siteCount sites) []); owners = replicate 4 EMPTY; lost = 0; steps = [] })
-
-    go : (o : Outcome Fault (List Point)) → Gives (λ (vs : List Point). length vs ≡ 0 + length tri / 3) o → Refuses Numbered (andThen o rest)
-        → faultOf (andThen o rest) .number ≡ 0 → countsOf (length tri / 3) (replicate 4 EMPTY) 0 ≡ countNumbers (andThen o rest)
-    go (ok vs) n l e = rw n (rw zero-add)
-    go (refused f) n l e = absurd (omega (arith, l .least))

@@ -2,7 +2,7 @@
 use native.Mathlib.Omega.{arith}
 use Rattle.form.specs.laws.Lists.{bytes}
 use Rattle.printing.specs.laws.ReadForm.{printed}
-use Rattle.cells.specs.Printed.{listingTexts}
+use Rattle.cells.specs.Printed.{listingText}
 use borrow.Author.Needs.{needs}
 use Rattle.cells.proofs.answer.Statement.{statement}
 use Rattle.cells.proofs.answer.Tie as tie
@@ -13,7 +13,7 @@ returns c =
     let at-shared-slice-known = at-read .before .before .before .before .before .before .before in
     let s = c .before .before .before .before .before .before .before .before .before .before .before .before .before .before .before .before .before .before .before .before .before in
     let h = c .before .before .of-form .ensures in (
-      printed listingTexts (at-read .read .ensures) (bytes (s .args .bytes .now) (λ i. omega (arith, at-shared-slice-known .shared-slice-known .given i)))
+      printed listingText (at-read .read .ensures) (bytes (s .args .bytes .now) (λ i. omega (arith, at-shared-slice-known .shared-slice-known .given i)))
           (record { bounds = omega arith; sites = omega arith; triangles = omega arith; halfedges = omega arith; hull = omega arith }) (h .0),
       h .1,
     )

@@ -1,8 +1,9 @@
 -- `cells::of_form`: the counts of a sound form are within its limits, so its parts lie within the lists.
-use mathlib.Core.Path.{sym}
+use mathlib.Core.Path.{sym, ap, _∙_}
 use native.Mathlib.Omega.{arith}
 use lib.Seq.{length-take-le}
 use lib.ListN.{length-take}
+use Rattle.listing.specs.Listing.{refusal}
 use Rattle.listing.specs.laws.Listing.{refusal-short}
 use Rattle.printing.specs.laws.TextRoom.{line-held}
 use borrow.Author.Needs.{needs}
@@ -11,13 +12,16 @@ use Rattle.cells.proofs.of_form.Tie as tie
 
 refusal-requires : tie.Need-refusal-requires
 refusal-requires c κs =
-    let at-start = c .before .before .before .before .before .before .before .before in
-    omega (arith, refusal-short 17, at-start .pre .2)
+    let at-start = c .before .before .before .before .before .before .before .before .before in
+    omega (arith, refusal-short (c .number-of .result), at-start .pre .2)
 
 returns : tie.Need-returns
 returns c =
-    let at-start = c .before .before .before .before .before .before .before .before .before .before .before in
-    let h = line-held 17 (at-start .pre .2) (c .before .before .refusal .ensures) in rw (c .before .before .before .before .enum-told .given .1) (h .first, h .within)
+    let at-start = c .before .before .before .before .before .before .before .before .before .before .before .before in
+    let h = line-held _ (at-start .pre .2) (c .before .before .refusal .ensures) in
+    let told = c .before .before .before .before .before in
+    rw (told .enum-told .given .1)
+    (h .first ∙ ap refusal (c .before .before .before .number-of .ensures ∙ rw (told .enum-told .given .1)), h .within)
 
 mul-numbers : tie.Need-mul-numbers
 mul-numbers c =
@@ -71,6 +75,6 @@ returns-2 c =
 pub of-form-spec : {M : Type 1} → statement M
 of-form-spec =
     tie.close
-    (tie.spec (λ c. search needs) (λ c. search needs) refusal-requires (λ c. search needs) returns mul-numbers
+    (tie.spec (λ c. search needs) (λ c. search needs) (λ c κs. search needs) refusal-requires (λ c. search needs) returns mul-numbers
     mul-links slice-aggregate-of-mesh slice-aggregate-of-mesh-2 slice-aggregate-of-mesh-3 slice-aggregate-of-mesh-4
     of-mesh-requires (λ c. search needs) returns-2)

@@ -6,8 +6,7 @@ use Prim.Native.Nat.{ℕ, _+_, _-_, _*_, _/_, _≤_}
 use native.Mathlib.Omega.{arith}
 use lib.ListN.{length, getD, replicate, length-map}
 use borrow.Author.Tests.{le-leb, lt-ltb}
-use Rattle.printing.specs.Printed.{Shows, InBox, WithoutBox, shown}
-use Rattle.cells.specs.Printed.{listingTexts}
+use Rattle.printing.specs.Printed.{Shows, InBox, shown}
 use Rattle.numbers.specs.Numbers.{EMPTY}
 use Rattle.given_box.specs.declared.Given.{Given}
 use Rattle.mesh.specs.Accepted.{Mesh, siteCount}
@@ -22,17 +21,17 @@ use Rattle.definition.specs.laws.Gives.{Gives, gives-ok}
 use Rattle.definition.specs.Build.{Built, build}
 use Rattle.layout.specs.Outputs.{indexNumbers, offsetNumbers, countNumbers}
 use Rattle.definition.specs.Cell.{unmarked}
-use Rattle.build_answers.specs.Promise.{Builds, BuildAnswer, BuildAnswers, ClippedBuild, UnclippedBuild}
+use Rattle.build_answers.specs.Promise.{Builds, BuildAnswer, BuildAnswers, ClippedBuild}
 use Rattle.check_mesh.specs.AtExit.{atExit}
 use Rattle.admission.specs.Slices.{Slices, roomFor, roomOf}
 use Rattle.definition.specs.Late.{Refuses, Numbered}
-use Rattle.definition.specs.LateRefusals.{build-late, unclipped-late}
+use Rattle.definition.specs.LateRefusals.{build-late}
 use Rattle.build_answers.specs.Success.{zero-succeeds}
-use Rattle.listing.specs.Listing.{unclippedListing, listing, cellLines}
-use Rattle.cells.specs.Printed.{linesOf, unclippedText, boxText}
-use Rattle.cells.specs.Shown.{SheetSized, Laid, boxLines, unclippedLines}
+use Rattle.listing.specs.Listing.{countsAndCells, listing, cellLines}
+use Rattle.cells.specs.Printed.{linesOf, listingText}
+use Rattle.cells.specs.Shown.{SheetSized, Laid, boxLines}
 use Rattle.cells.specs.laws.CellsInIndexes.{lines-are, laid}
-use Rattle.printing.specs.laws.WholeBuild.{Whole, whole-in-box, whole-without-box}
+use Rattle.printing.specs.laws.WholeBuild.{Whole, whole-in-box}
 use Rattle.printing.specs.laws.BuildText.{ProgramSlices, shows}
 
 -- the counts: a number, the four owners, another number
@@ -88,20 +87,13 @@ module _ {Rules : ℕ → Type 0} {table : List ℕ} {o : Outcome Fault Built} {
   lines : cellLines (new .offsets) (new .indexes) 0 n ≡ linesOf 0 cells
   lines = rw (offsets-are, indexes-are, ← cells-are) (lines-are cells more rest)
 
-  vertices-are : getD (new .counts) 0 0 ≡ length (b .verts)
-  vertices-are = rw counts-are
-
-  pub unclipped-lines : (T : ℕ) → unclippedLines n T (new .offsets) (new .indexes) (new .counts) ≡ unclippedText n T b
-  unfolding unclippedListing
-  unclipped-lines T = rw (vertices-are, lines)
-
-  pub box-lines : (T : ℕ) → boxLines n T (new .offsets) (new .indexes) (new .counts) ≡ boxText n T b
-  unfolding unclippedListing listing
+  pub box-lines : (T : ℕ) → boxLines n T (new .offsets) (new .indexes) (new .counts) ≡ listingText n T b
+  unfolding countsAndCells listing
   box-lines T =
       let tail = replicate (length (old .counts) - length (length (b .verts) ∷ b .owners ++ b .lost ∷ [])) EMPTY in
       rw (counts-are, owners-at (length (b .verts)) (b .lost) (b .owners) tail (w .owners), last-at (length (b .verts)) (b .lost) (b .owners) tail (w .owners), lines)
 
--- ---- both builds on lists within the form's limits, with slices of these lengths
+-- ---- a build on lists within the form's limits, with slices of these lengths
 module _ (m : Mesh) (space : ℕ) (sized : SheetSized (length (m .sites)) (length (m .triangles)) (length (m .hull)) space) (old new : Slices) (long : ProgramSlices old) (r : ℕ) where
   roomy : roomOf m old ≡ true
   unfolding roomFor
@@ -134,14 +126,6 @@ module _ (m : Mesh) (space : ℕ) (sized : SheetSized (length (m .sites)) (lengt
     pub laid-in-box : length (new .indexes) ≡ 3076 → r ≡ 0 → Laid (siteCount (m .sites)) (new .offsets) (new .indexes) space
     laid-in-box = layout (box-answers (g .sound)) whole-in (build-late m (g .bounds)) a
 
-    pub text-in-box : InBox listingTexts m g (shown (boxLines (siteCount (m .sites)) (length (m .triangles) / 3) (new .offsets) (new .indexes) (new .counts)) r)
-    text-in-box = text-of (box-answers (g .sound)) whole-in (build-late m (g .bounds)) a (boxText (siteCount (m .sites)) (length (m .triangles) / 3)) _
+    pub text-in-box : InBox listingText m g (shown (boxLines (siteCount (m .sites)) (length (m .triangles) / 3) (new .offsets) (new .indexes) (new .counts)) r)
+    text-in-box = text-of (box-answers (g .sound)) whole-in (build-late m (g .bounds)) a (listingText (siteCount (m .sites)) (length (m .triangles) / 3)) _
         (λ b q e z. box-lines a long b q e z (length (m .triangles) / 3))
-
-  module _ (a : UnclippedBuild m old new r) where
-    pub laid-without-box : length (new .indexes) ≡ 3076 → r ≡ 0 → Laid (siteCount (m .sites)) (new .offsets) (new .indexes) space
-    laid-without-box = layout {own = []} tt (whole-without-box (m .sites) (m .triangles) (m .halfedges)) (unclipped-late (m .sites) (m .triangles) (m .halfedges)) a
-
-    pub text-without-box : WithoutBox listingTexts m (shown (unclippedLines (siteCount (m .sites)) (length (m .triangles) / 3) (new .offsets) (new .indexes) (new .counts)) r)
-    text-without-box = text-of {own = []} tt (whole-without-box (m .sites) (m .triangles) (m .halfedges)) (unclipped-late (m .sites) (m .triangles) (m .halfedges)) a
-        (unclippedText (siteCount (m .sites)) (length (m .triangles) / 3)) _ (λ b q e z. unclipped-lines a long b q e z (length (m .triangles) / 3))

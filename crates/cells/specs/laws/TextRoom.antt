@@ -4,13 +4,10 @@ use mathlib.Core.List.{List, [], _∷_}
 use Prim.Native.Nat.{ℕ, _≤_}
 use native.Mathlib.Omega.{arith}
 use lib.ListN.{length, getD}
-use Rattle.listing.specs.laws.Listing.{unclipped-short, listing-short}
-use Rattle.cells.specs.Shown.{Laid, boxLines, unclippedLines}
+use Rattle.listing.specs.laws.Listing.{listing-short}
+use Rattle.cells.specs.Shown.{Laid, boxLines}
 
 module _ (T : ℕ) (counts : List ℕ) {n : ℕ} {offs idx : List ℕ} {space : ℕ} (p : Laid n offs idx space) where
-  pub unclipped-fits : length (unclippedLines n T offs idx counts) ≤ space
-  unclipped-fits = omega (arith, unclipped-short n T (getD counts 0 0) offs idx (p .layout), p .few, p .short, p .room)
-
   pub box-fits : length (boxLines n T offs idx counts) ≤ space
   box-fits = omega (
     arith,

@@ -3,7 +3,6 @@
 use mathlib.Core.Path.{_≡_, refl, ap, _∙_}
 use mathlib.Core.List.{List, [], _++_}
 use Prim.Native.Nat.{ℕ, zero, suc, _/_}
-use lib.Ieee.{Float}
 use lib.ListN.{length, getD, replicate, length-set, length-replicate}
 use Rattle.laws.specs.Pick.{pick}
 use Rattle.bounding_box.specs.Box.{cornersOf}
@@ -11,10 +10,9 @@ use Rattle.bounding_box.specs.declared.BoundingBox.{BoundingBox}
 use Rattle.mesh.specs.Mesh.{endOf, leftmostOf}
 use Rattle.mesh.specs.Accepted.{Mesh, tableOf, siteCount}
 use Rattle.definition.specs.Fault.{ok}
-use Rattle.definition.specs.Cell.{Entry, clipCell}
+use Rattle.definition.specs.Cell.{clipCell}
 use Rattle.definition.specs.Build.{lostFrom, centersFrom, Extensions, extensions, extendFrom, CellState, cellState, clipInto, clipHull}
 use Rattle.definition.specs.Build.{clipRest, clipAll, hullRing, ringFrom, isEmpty, ownersFrom, Built, build}
-use Rattle.definition.specs.Unclipped.{ringCell, ringsFrom, unclipped}
 use Rattle.definition.specs.laws.Gives.{Gives, gives-next, gives-then, picked}
 use Rattle.definition.specs.laws.Owners.{owners-length}
 
@@ -47,12 +45,6 @@ module _ (n : ℕ) where
         gives-then Many Many (clipHull b nc he hull left (x .at) 0 (length hull) (cellState (x .verts) owners (replicate n []) (x .steps))) _
         (on-hull he hull left (x .at) 0 (length hull) _ (length-replicate n [])) (λ s g. on-rest tri he 0 (length tri) s g)
 
-  rings : (tri he : List ℕ) (e k : ℕ) (cells : List (List Entry)) → length cells ≡ n → length (ringsFrom tri he e k cells) ≡ n
-  unfolding ringsFrom
-  rings tri he e zero cells h = h
-  rings tri he e (suc k) cells h =
-      rings tri he (suc e) k _ (picked (λ (c : List (List Entry)). length c ≡ n) (isEmpty (getD cells (endOf tri e) [])) _ _ (λ t. length-set cells (endOf tri e) (ringCell he e) ∙ h) (λ t. h))
-
 pub cell-count : (m : Mesh) (b : BoundingBox) → Gives (λ (r : Built). length (r .cells) ≡ siteCount (m .sites)) (build m b)
 unfolding build
 cell-count m b =
@@ -81,7 +73,3 @@ tallied m b =
 pub four-owners : (m : Mesh) (b : BoundingBox) {r : Built} → CellsTallied m b r → length (r .owners) ≡ 4
 unfolding cornersOf
 four-owners m b t = ap length (t .found) ∙ owners-length (m .sites) (m .triangles) (m .halfedges) (tableOf m) (siteCount (m .sites)) (getD (m .hull) 0 0) (cornersOf b)
-
-pub ring-count : (sites : List Float) (tri he : List ℕ) → Gives (λ (r : Built). length (r .cells) ≡ siteCount sites) (unclipped sites tri he)
-unfolding unclipped
-ring-count sites tri he = gives-next _ (centersFrom sites tri 0 (length tri / 3) []) _ (λ c. rings (siteCount sites) tri he 0 (length tri) _ (length-replicate (siteCount sites) []))

@@ -1,13 +1,12 @@
 -- A site in no triangle has an empty cell: its share is nothing, it owns no corner, since owners are sites in use, and no half-edge ends there.
-use mathlib.Core.Path.{_≡_, refl, sym, _∙_}
+use mathlib.Core.Path.{_≡_, refl, sym}
 use mathlib.Core.List.{List, [], _∷_}
 use mathlib.Core.Logic.{⊎-elim, _≢_}
-use Prim.Native.Nat.{ℕ, zero, suc, _+_, _/_, _≤_, _<_}
+use Prim.Native.Nat.{ℕ, zero, suc, _≤_, _<_}
 use native.Mathlib.Omega.{arith}
 use lib.Dec.{eqb}
 use lib.Ieee.{Float, nan}
 use lib.ListN.{length, getD}
-use lib.Seq.{getD-set-other}
 use Rattle.laws.specs.laws.Decide.{eq-or-ne}
 use Rattle.laws.specs.Count.{occ}
 use Rattle.laws.specs.laws.Count.{same-cases}
@@ -16,20 +15,18 @@ use Rattle.utils.specs.declared.Point.{Point}
 use Rattle.bounding_box.specs.Box.{cornersOf}
 use Rattle.bounding_box.specs.Finite.{BoundedBox}
 use Rattle.bounding_box.specs.declared.BoundingBox.{BoundingBox}
-use Rattle.mesh.specs.Mesh.{endOf, leftmostOf, Used}
+use Rattle.mesh.specs.Mesh.{leftmostOf, Used}
 use Rattle.mesh.specs.Accepted.{mesh, Accepted, siteCount}
-use Rattle.mesh.specs.laws.Facts.{topology, end-used, start-used}
+use Rattle.mesh.specs.laws.Facts.{topology, start-used}
 use Rattle.paths.specs.Path.{hopOf, pathEnd}
 use Rattle.paths.specs.PathNeeds.{Walkable, Towards}
 use Rattle.mesh.specs.laws.Occurs.{occ-below, occ-there}
 use Rattle.paths.specs.laws.WholePath.{goes-used}
 use Rattle.definition.specs.Fault.{ok}
 use Rattle.definition.specs.Cell.{Entry}
-use Rattle.definition.specs.Build.{centersFrom, isEmpty, ownersFrom, Built, build}
-use Rattle.definition.specs.Unclipped.{ringCell, ringsFrom, unclipped}
-use Rattle.definition.specs.laws.Gives.{Gives, gives-next, gives-ok, picked}
+use Rattle.definition.specs.Build.{ownersFrom, Built, build}
+use Rattle.definition.specs.laws.Gives.{gives-ok, picked}
 use Rattle.definition.specs.laws.Owners.{ready, towards-corner}
-use Rattle.definition.specs.laws.AllCells.{no-cell}
 use Rattle.definition.specs.Theorems.{room}
 use Rattle.definition.specs.laws.CellCount.{cell-count, CellsTallied, tallied, four-owners}
 
@@ -87,16 +84,3 @@ module _ {sites : List Float} {tri he hull : List ℕ} (a : Accepted (mesh sites
     empty-cell l =
         let n = gives-ok (λ (x : Built). length (x .cells) ≡ siteCount sites) (cell-count (mesh sites tri he hull) b) is in
         no-entry _ (omega (arith, room a box is .region s (omega arith), not-in-use, not-on-hull, owns-none))
-
-  -- ---- without a box
-  rings-past : (e k : ℕ) (cells : List (List Entry)) → e + k ≤ length he → getD (ringsFrom tri he e k cells) s [] ≡ getD cells s []
-  unfolding ringsFrom
-  rings-past e zero cells h = refl
-  rings-past e (suc k) cells h =
-      rings-past (suc e) k _ (omega arith) ∙ picked (λ (c : List (List Entry)). getD c s [] ≡ getD cells s []) (isEmpty (getD cells (endOf tri e) [])) _ _
-      (λ t. getD-set-other cells (endOf tri e) s (ringCell he e) [] (λ q. none (rw (← q) at (end-used (topology a) e (omega arith)))))
-      (λ t. refl)
-
-  pub empty-ring : Gives (λ (r : Built). getD (r .cells) s [] ≡ []) (unclipped sites tri he)
-  unfolding unclipped
-  empty-ring = gives-next _ (centersFrom sites tri 0 (length tri / 3) []) _ (λ c. rings-past 0 (length tri) _ (omega (arith, a .counts .same)) ∙ no-cell (siteCount sites) s)

@@ -33,7 +33,6 @@ use Rattle.definition.specs.Cell.{clipEdge, vertexAt, leave, enterAt, en
 use Rattle.definition.specs.Cell.{stepTo, stepsTo, inBox, firstInside, clipFrom, clipCell}
 use Rattle.definition.specs.Build.{centerAt, centersFrom, finite, extended, Extensions, extensions, extendFrom, CellState, cellState}
 use Rattle.definition.specs.Build.{clipInto, clipHull, clipRest, clipAll, hullRing, ringFrom, isEmpty, Built, build}
-use Rattle.definition.specs.Unclipped.{unclipped}
 use Rattle.definition.specs.laws.Gives.{Gives, gives-then, gives-at, picked}
 
 module _ (P : Point → Type 0) where
@@ -168,10 +167,6 @@ module _ (P : Point → Type 0) where
         let c = centerAt sites tri t in
         picked (Gives Each) (okCenter c) _ _ (λ e. centres (suc t) k _ (each-append vs (c ∷ []) h (from-centre c e, tt))) (λ e. tt)
 
-    pub all-centres : (he : List ℕ) → Gives (λ (r : Built). Each (r .verts)) (unclipped sites tri he)
-    unfolding unclipped
-    all-centres he = gives-then Each _ (centersFrom sites tri 0 (length tri / 3) []) _ (centres 0 (length tri / 3) [] tt) (λ c h. h)
-
   -- what the four kinds of vertices have
   pub record Kinds (b : BoundingBox) : Type 0 where
     pub of-centre : (p : Point) → okCenter p ≡ true → P p
@@ -229,6 +224,3 @@ vertices-finite {b} h =
         ),
       );
     })
-
-pub centres-finite : (sites : List Float) (tri he : List ℕ) → Gives (λ (r : Built). Each FinitePoint (r .verts)) (unclipped sites tri he)
-centres-finite sites tri he = all-centres FinitePoint (λ p e. finite-both p 400 (center-bounded p e .x) (center-bounded p e .y)) sites tri he

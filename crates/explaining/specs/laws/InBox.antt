@@ -2,17 +2,14 @@
 use mathlib.Core.Path.{_≡_, sym, ap, _∙_, subst}
 use mathlib.Core.Bool.{true}
 use mathlib.Core.List.{List}
-use Prim.Native.Nat.{ℕ, _/_}
+use Prim.Native.Nat.{ℕ}
 use lib.Ieee.{Float}
-use lib.ListN.{length, replicate}
-use Rattle.numbers.specs.Numbers.{EMPTY}
 use Rattle.given_box.specs.Finite.{Fits}
 use Rattle.given_box.specs.declared.Given.{Given}
 use Rattle.mesh.specs.Accepted.{Mesh}
 use Rattle.definition.specs.declared.Fault.{Fault}
 use Rattle.definition.specs.Fault.{Outcome}
 use Rattle.definition.specs.Build.{Built, build}
-use Rattle.definition.specs.Unclipped.{unclipped}
 use Rattle.layout.specs.Outputs.{faultOf, BuiltInto}
 use Rattle.cell_finish.specs.declared.CellsAnswer.{CellsAnswer}
 use Rattle.cell_finish.specs.Finish.{outcomeAnswer}
@@ -22,8 +19,6 @@ use Rattle.admission.specs.laws.Admits.{asked-answers, finds-asked}
 use Rattle.admission.specs.Slices.{Slices, slices}
 use Rattle.admission.specs.Admission.{BuildAdmission}
 use Rattle.build_answers.specs.Promise.{BuildAnswers}
-use Rattle.definition.specs.LateRefusals.{unclipped-late}
-use Rattle.build_answers.specs.laws.BuildAnswer.{answers-built, unclipped-counts}
 use Rattle.build_answers.specs.laws.ClippedBuild.{boxed-fault, boxed-built}
 use Rattle.reasons.specs.declared.Reason.{Reason}
 use Rattle.reasons.specs.Reason.{ofFault}
@@ -43,11 +38,3 @@ module _ {m : Mesh} {asked : ℕ} {old mid : Slices} {n : ℕ} (a : BuildAdmissi
       → Explains m asked (build m (g .bounds)) old (slices w₂ v ix off c₂) r
   explains-in-box g fits fit x q l f e = explains a z (boxed-fault a g fits fit z x q)
       (boxed-built a g fits fit z x q (askedRules asked) (asked-answers asked) (finds-asked asked) l f) e
-
-  pub explains-unclipped : (f : Fault) → f ≡ faultOf (unclipped (m .sites) (m .triangles) (m .halfedges))
-      → BuiltInto (unclipped (m .sites) (m .triangles) (m .halfedges)) (mid .vertices) (mid .indexes) (mid .offsets) v ix off
-      → EndedBuild (f .number) (countsOf (length (m .triangles) / 3) (replicate 4 EMPTY) 0) (mid .work) (mid .counts) w₂ c₂ → r ≡ ofFault f
-      → Explains m asked (unclipped (m .sites) (m .triangles) (m .halfedges)) old (slices w₂ v ix off c₂) r
-  explains-unclipped f q l k e = explains a z q
-      (answers-built a z (askedRules asked) (asked-answers asked) (finds-asked asked) (unclipped (m .sites) (m .triangles) (m .halfedges)) (unclipped-late
-      (m .sites) (m .triangles) (m .halfedges)) f q l k (unclipped-counts (m .sites) (m .triangles) (m .halfedges))) e

@@ -1,14 +1,13 @@
 -- A build's answer and its lent slices give the text that is promised: a refusal's line by its number, or the lines of what was built.
-use mathlib.Core.Path.{_≡_, refl, sym, ap, subst, _∙_}
+use mathlib.Core.Path.{_≡_, ap, subst, _∙_}
 use mathlib.Core.Bool.{true}
 use mathlib.Core.List.{List, [], _++_, map}
 use Prim.Native.Nat.{ℕ, _+_, _-_, _*_, _/_, _≤_, _<_}
 use native.Mathlib.Omega.{arith}
-use lib.Ieee.{Float}
 use lib.ListN.{length, getD, replicate, length-map, List·getD-map}
 use borrow.Author.Tests.{le-leb, lt-ltb}
-use Rattle.printing.specs.Printed.{Shows, InBox, WithoutBox, shown}
-use Rattle.export.specs.Printed.{mapTexts}
+use Rattle.printing.specs.Printed.{Shows, InBox, shown}
+use Rattle.export.specs.Printed.{exportText}
 use Rattle.laws.specs.Binary64.{zero}
 use Rattle.numbers.specs.Numbers.{EMPTY}
 use Rattle.utils.specs.Flat.{flat}
@@ -16,7 +15,6 @@ use Rattle.vertices.specs.laws.Points.{length-flat}
 use Rattle.wkb.specs.Polygon.{patterns}
 use Rattle.wkb.specs.Promise.{NamesVertices, image}
 use Rattle.map_text.specs.MapText.{heading, mapText}
-use Rattle.utils.specs.declared.Point.{Point}
 use Rattle.given_box.specs.Finite.{Fits}
 use Rattle.given_box.specs.declared.Given.{Given}
 use Rattle.mesh.specs.Accepted.{Mesh, siteCount}
@@ -27,24 +25,21 @@ use Rattle.admission.specs.laws.Asks.{box-answers}
 use Rattle.layout.specs.Regions.{joined, offsetsFrom}
 use Rattle.definition.specs.declared.Fault.{Fault}
 use Rattle.definition.specs.Fault.{Outcome, ok}
-use Rattle.definition.specs.laws.Gives.{Gives, gives-ok, gives-then}
+use Rattle.definition.specs.laws.Gives.{Gives, gives-ok}
 use Rattle.definition.specs.Build.{Built, build}
-use Rattle.definition.specs.Unclipped.{ringsFrom, unclipped}
-use Rattle.definition.specs.laws.Start.{centers-from}
-use Rattle.export.specs.laws.UnclippedEntries.{cells-named}
 use Rattle.layout.specs.Outputs.{vertexNumbers, indexNumbers, offsetNumbers}
 use Rattle.definition.specs.Cell.{unmarked}
-use Rattle.build_answers.specs.Promise.{Builds, BuildAnswer, BuildAnswers, ClippedBuild, UnclippedBuild}
+use Rattle.build_answers.specs.Promise.{Builds, BuildAnswer, BuildAnswers, ClippedBuild}
 use Rattle.check_mesh.specs.AtExit.{atExit}
 use Rattle.admission.specs.Slices.{Slices, roomFor, roomOf}
 use Rattle.definition.specs.Late.{Refuses, Numbered}
-use Rattle.definition.specs.LateRefusals.{build-late, unclipped-late}
+use Rattle.definition.specs.LateRefusals.{build-late}
 use Rattle.build_answers.specs.Success.{zero-succeeds, clipped-sound}
 use Rattle.export.specs.Printed.{exported}
 use Rattle.export.specs.Shown.{MapSized, CanDraw, lines}
 use Rattle.export.specs.laws.CellsInIndexes.{lines-are, can-draw}
 use Rattle.export.specs.laws.Drawing.{same-image, padded-same, placed-named, Drawable}
-use Rattle.printing.specs.laws.WholeBuild.{Whole, whole-in-box, whole-without-box}
+use Rattle.printing.specs.laws.WholeBuild.{Whole, whole-in-box}
 use Rattle.printing.specs.laws.BuildText.{ProgramSlices, shows}
 
 -- one outcome has one value
@@ -99,17 +94,7 @@ module _ {Rules : ℕ → Type 0} {table : List ℕ} {o : Outcome Fault Built} {
   unfolding mapText
   lines-text = ap (λ (l : List ℕ). heading ++ l) (rw (offsets-are, indexes-are, ← cells-are) (lines-are cells more rest _ _ same))
 
--- a build that is not clipped: the circumcenters, and the rings
-abbrev Centres : List Float → List ℕ → List ℕ → Built → Type 0
-Centres sites tri he b = (length (b .verts) ≡ length tri / 3) × (b .cells ≡ ringsFrom tri he 0 (length tri) (replicate (siteCount sites) []))
-
-centres : (sites : List Float) (tri he : List ℕ) → Gives (Centres sites tri he) (unclipped sites tri he)
-unfolding unclipped
-centres sites tri he =
-    gives-then (λ (ws : List Point). length ws ≡ length {A = Point} [] + length tri / 3) (Centres sites tri he) _ _ (centers-from sites tri 0 (length tri / 3) [])
-    (λ ws q. (omega (arith, q), refl))
-
--- ---- both builds on lists within the form's limits, with slices of these lengths
+-- ---- a build on lists within the form's limits, with slices of these lengths
 module _ (m : Mesh) (space : ℕ) (sized : MapSized (length (m .sites)) (length (m .triangles)) (length (m .hull)) space) (old new : Slices) (long : ProgramSlices old) (r : ℕ) where
   roomy : roomOf m old ≡ true
   unfolding roomFor
@@ -153,24 +138,5 @@ module _ (m : Mesh) (space : ℕ) (sized : MapSized (length (m .sites)) (length 
     pub laid-in-box : length (new .indexes) ≡ 3076 → r ≡ 0 → CanDraw (siteCount (m .sites)) 3656 (new .offsets) (new .indexes)
     laid-in-box = layout (box-answers (g .sound)) whole-in can-in (build-late m (g .bounds)) a
 
-    pub text-in-box : InBox mapTexts m g (shown (lines (siteCount (m .sites)) (new .vertices) (new .offsets) (new .indexes)) r)
+    pub text-in-box : InBox exportText m g (shown (lines (siteCount (m .sites)) (new .vertices) (new .offsets) (new .indexes)) r)
     text-in-box = text-of (box-answers (g .sound)) whole-in can-in (build-late m (g .bounds)) a
-
-  module _ (a : UnclippedBuild m old new r) where
-    -- each entry of a cell that is not clipped is a triangle
-    can-without : (b : Built) → unclipped (m .sites) (m .triangles) (m .halfedges) ≡ ok b → r ≡ 0 → Drawable b
-    can-without b e z =
-        let s = zero-succeeds {own = []} tt (unclipped-late (m .sites) (m .triangles) (m .halfedges)) a z in
-        let k = s .admission .accepted .counts in
-        let p = gives-ok (Centres (m .sites) (m .triangles) (m .halfedges)) (centres (m .sites) (m .triangles) (m .halfedges)) e in
-        let third : length (b .verts) ≡ length (m .halfedges) / 3 = p .0 ∙ ap (λ (j : ℕ). j / 3) (sym (k .same)) in
-        record {
-          named = λ i l. rw (p .1, third) (cells-named (m .halfedges) (omega (arith, k .threes, k .same)) (m .triangles) (siteCount (m .sites)) i);
-          room = omega (arith, p .0, sized .few-triangles);
-        }
-
-    pub laid-without-box : length (new .indexes) ≡ 3076 → r ≡ 0 → CanDraw (siteCount (m .sites)) 3656 (new .offsets) (new .indexes)
-    laid-without-box = layout {own = []} tt (whole-without-box (m .sites) (m .triangles) (m .halfedges)) can-without (unclipped-late (m .sites) (m .triangles) (m .halfedges)) a
-
-    pub text-without-box : WithoutBox mapTexts m (shown (lines (siteCount (m .sites)) (new .vertices) (new .offsets) (new .indexes)) r)
-    text-without-box = text-of {own = []} tt (whole-without-box (m .sites) (m .triangles) (m .halfedges)) can-without (unclipped-late (m .sites) (m .triangles) (m .halfedges)) a

@@ -9,13 +9,13 @@ use Rattle.form.proofs.read.Tie as tie
 feed-requires : tie.Need-feed-requires
 feed-requires c κs = let b = c .before .before .before .before .before in
     let s = b .before .before .before .before .before .before .before in
-    (rw (b .start .ensures) ok-start, s .pre)
+    (rw (b .start .ensures) (ok-start (s .args .old)), s .pre)
 
 returns : tie.Need-returns
 returns c = let f = c .before .before .before .before .before .before .before .before .before .before .before in
     let b = f .before .before .before .before .before .before in
     let a = b .before .before .before .before .before .before .before .args in
-    reads-all (now (a .bytes)) (b .start .result) (f .feed .result) (now (a .bounds)) (now (a .sites)) (now (a .triangles)) (now (a .halfedges)) (now (a .hull)) _ _ _ _ _ (c .finish .result)
+    reads-all (a .old) (now (a .bytes)) (b .start .result) (f .feed .result) (now (a .bounds)) (now (a .sites)) (now (a .triangles)) (now (a .halfedges)) (now (a .hull)) _ _ _ _ _ (c .finish .result)
     (b .start .ensures) (f .feed .ensures .0) (f .feed .ensures .1) (c .finish .ensures)
 
 pub read-spec : {M : Type 1} → statement M

@@ -9,7 +9,7 @@ use lib.ListN.{length, take, drop, take-append-drop, length-drop}
 use lib.Seq.{length-take-le}
 use Rattle.laws.specs.laws.Decide.{lt-or-ge}
 use Rattle.octets.specs.Bytes.{Bytes, word, le}
-use Rattle.form.specs.Form.{Outline, OutlineFits, SiteFits, TriangleFits, HullFits, outlineBytes, siteBytes, triangleBytes, hullBytes}
+use Rattle.form.specs.Form.{Outline, SiteFits, TriangleFits, HullFits, outlineBytes, siteBytes, triangleBytes, hullBytes}
 use Rattle.form_step.specs.Reader.{broken, inside, step, steps}
 use Rattle.form_step.specs.laws.Steps.{step-broken, step-inside}
 use Rattle.octets.specs.laws.Bytes.{le-word, word-small}
@@ -139,13 +139,13 @@ cut-site t h l = go (two 8 t h l)
 
 -- a first record of four floats, made of them by c
 pub cut-four :
-    (k : ℕ) (c : ℕ → ℕ → ℕ → ℕ → Outline)
+    (P : Outline → Type 0) (k : ℕ) (c : ℕ → ℕ → ℕ → ℕ → Outline)
     → ((x y z v : ℕ) → outlineBytes (c x y z v) ≡ k ∷ le 8 x ++ le 8 y ++ le 8 z ++ le 8 v)
-    → ((x y z v : ℕ) → (x < 2 ^ 64) × (y < 2 ^ 64) × (z < 2 ^ 64) × (v < 2 ^ 64) → OutlineFits (c x y z v))
-    → (t : List ℕ) → Bytes t → 32 ≤ length t → CutOff outlineBytes OutlineFits k t
-cut-four k c is fit t h l = go (two 8 t h (omega arith))
+    → ((x y z v : ℕ) → (x < 2 ^ 64) × (y < 2 ^ 64) × (z < 2 ^ 64) × (v < 2 ^ 64) → P (c x y z v))
+    → (t : List ℕ) → Bytes t → 32 ≤ length t → CutOff outlineBytes P k t
+cut-four P k c is fit t h l = go (two 8 t h (omega arith))
   where
-    on : (p : Two 8 t) → Two 8 (p .rest) → CutOff outlineBytes OutlineFits k t
+    on : (p : Two 8 t) → Two 8 (p .rest) → CutOff outlineBytes P k t
     on p q =
         record {
           value = c (p .a) (p .b) (q .a) (q .b);
@@ -158,7 +158,7 @@ cut-four k c is fit t h l = go (two 8 t h (omega arith))
           shorter = omega (arith, p .long, q .long);
         }
 
-    go : Two 8 t → CutOff outlineBytes OutlineFits k t
+    go : Two 8 t → CutOff outlineBytes P k t
     go p = on p (two 8 (p .rest) (p .bytes) (omega (arith, p .long)))
 
 pub cut-triangle : (t : List ℕ) → Bytes t → 24 ≤ length t → CutOff triangleBytes TriangleFits 3 t

@@ -10,6 +10,7 @@ use lib.Seq.{drop-cons, drop-length}
 use lib.Dec.{eqb}
 use lib.Ieee.{Float}
 use Rattle.laws.specs.Pick.{pick}
+use Rattle.numbers.specs.Numbers.{refusedForm}
 use Rattle.form_step.specs.Reader.{Reading, reading, broken, start, step, take, takes, verdict}
 use Rattle.form_step.specs.Holds.{ListRoom, Few, Reads}
 use Rattle.form_step.specs.Standing.{Ok}
@@ -103,20 +104,20 @@ few-answer : (r : Reader) → Ok r → Few (verdict r)
 unfolding verdict
 few-answer r o = go (broken r) (eqb (r .stage) 5)
   where
-    go : (t u : Bool) → Few (pick t (λ _. Broken (r .at)) (λ _. pick u (λ _. Sound (r .sites) (r .triangles) (r .hull) (r .clip)) (λ _. Broken (r .at))))
+    go : (t u : Bool) → Few (pick t (λ _. Broken (r .refusal) (r .at)) (λ _. pick u (λ _. Sound (r .sites) (r .triangles) (r .hull) (r .clip)) (λ _. Broken refusedForm (r .at))))
     go true u = tt
     go false true = few-counts o
     go false false = tt
 
 pub reads-all :
-    (s : List ℕ) (r n : Reader) (bs ss : List Float) (ts es hs : List ℕ) (bs' ss' : List Float) (ts' es' hs' : List ℕ) (a : Form)
-    → r ≡ start
+    (old : Bool) (s : List ℕ) (r n : Reader) (bs ss : List Float) (ts es hs : List ℕ) (bs' ss' : List Float) (ts' es' hs' : List ℕ) (a : Form)
+    → r ≡ start old
     → reading n bs' ss' ts' es' hs' ≡ takes (reading r bs ss ts es hs) s
     → Ok n
     → a ≡ verdict n
-    → Reads s (reading start bs ss ts es hs) a bs' ss' ts' es' hs'
-reads-all s r n bs ss ts es hs bs' ss' ts' es' hs' a b e o f =
-    let g : reading n bs' ss' ts' es' hs' ≡ takes (reading start bs ss ts es hs) s = e ∙ ap (λ (x : Reader). takes (reading x bs ss ts es hs) s) b in
+    → Reads s (reading (start old) bs ss ts es hs) a bs' ss' ts' es' hs'
+reads-all old s r n bs ss ts es hs bs' ss' ts' es' hs' a b e o f =
+    let g : reading n bs' ss' ts' es' hs' ≡ takes (reading (start old) bs ss ts es hs) s = e ∙ ap (λ (x : Reader). takes (reading x bs ss ts es hs) s) b in
     record {
       answer = f ∙ ap (λ (d : Reading). verdict (d .reader)) g;
       bounds = ap (λ (d : Reading). d .bounds) g;

@@ -1,5 +1,6 @@
 -- Every mesh that has a form is read back from it: sound forms are accepted, with their numbers.
 use mathlib.Core.Path.{_≡_, refl, ap, _∙_, subst}
+use mathlib.Core.Bool.{Bool}
 use mathlib.Core.List.{List, [], _∷_, _++_, append-assoc}
 use Prim.Native.Nat.{ℕ, suc, _+_, _*_, _≤_}
 use native.Mathlib.Omega.{arith}
@@ -10,7 +11,7 @@ use lib.Seq.{sets}
 use borrow.Author.Tests.{lt-ltb}
 use Rattle.laws.specs.laws.Stores.{sets-join}
 use Rattle.octets.specs.Bytes.{each, All}
-use Rattle.form.specs.Form.{FormMesh, Site, Triangle, MeshFits, SiteFits, TriangleFits, HullFits, outlineBytes, siteBytes, triangleBytes}
+use Rattle.form.specs.Form.{FormMesh, Site, Triangle, MeshFits, MayBegin, SiteFits, TriangleFits, HullFits, outlineBytes, siteBytes, triangleBytes}
 use Rattle.form.specs.Form.{hullBytes, formOf, numbersOf, outlineFloats, siteFloats, triangleSites, trianglePairs, kindOf}
 use Rattle.form_step.specs.Reader.{opens, roomLeft, start, begun, Reading, reading, takes, verdict}
 use Rattle.form.specs.laws.Run.{AtRecord, Goes, Opening, ready-up, takes-append, kind-follows, kind-run, site-run, triangle-run, hull-run, opening}
@@ -176,17 +177,17 @@ ended r a b c k p q s t = cc
 
 -- the first record, all others, and the end
 closed :
-    (m : FormMesh) (bs ss : List Float) (ts es hs : List ℕ) (ss' : List Float) (ts' es' hs' : List ℕ) (s : List ℕ)
-    (o : Opening (m .clip) bs ss ts es hs)
+    (old : Bool) (m : FormMesh) (bs ss : List Float) (ts es hs : List ℕ) (ss' : List Float) (ts' es' hs' : List ℕ) (s : List ℕ)
+    (o : Opening old (m .clip) bs ss ts es hs)
     → Goes (o .to) 4 (length (m .sites)) (length (m .triangles)) (length (m .hull)) (sets bs 0 (outlineFloats (m .clip))) ss ts es hs (sets bs 0 (outlineFloats (m .clip))) ss' ts' es' hs' s
     → ss' ≡ sets ss 0 (numbersOf siteFloats (m .sites))
     → ts' ≡ sets ts 0 (numbersOf triangleSites (m .triangles))
     → es' ≡ sets es 0 (numbersOf trianglePairs (m .triangles))
     → hs' ≡ sets hs 0 (m .hull)
-    → WholeRead m bs ss ts es hs (takes (reading start bs ss ts es hs) (outlineBytes (m .clip) ++ s ++ 5 ∷ []))
+    → WholeRead m bs ss ts es hs (takes (reading (start old) bs ss ts es hs) (outlineBytes (m .clip) ++ s ++ 5 ∷ []))
 unfolding roomLeft takes
-closed m bs ss ts es hs ss' ts' es' hs' s o g es₁ et ee eh =
-    let d = reading start bs ss ts es hs in
+closed old m bs ss ts es hs ss' ts' es' hs' s o g es₁ et ee eh =
+    let d = reading (start old) bs ss ts es hs in
     let r = g .to in
     let q = g .ran .ready in
     let p = o .opens in
@@ -249,13 +250,13 @@ regroup : (a b c d e : List ℕ) → a ++ (b ++ c ++ d) ++ e ≡ a ++ b ++ c ++ 
 regroup a b c d e = simp append-assoc
 
 module _ (bs ss : List Float) (ts es hs : List ℕ) where
-  pub complete : (m : FormMesh) → MeshFits m → WholeRead m bs ss ts es hs (takes (reading start bs ss ts es hs) (formOf m))
+  pub complete : (old : Bool) (m : FormMesh) → MeshFits m → MayBegin old (m .clip) → WholeRead m bs ss ts es hs (takes (reading (start old) bs ss ts es hs) (formOf m))
   unfolding formOf
-  complete m fit =
-      let o = opening (m .clip) (fit .clip) bs ss ts es hs in
+  complete old m fit a =
+      let o = opening old (m .clip) a (fit .clip) bs ss ts es hs in
       let p = o .opens in
       let s = each siteBytes (m .sites) in
       let t = each triangleBytes (m .triangles) in
       let h = each hullBytes (m .hull) in
-      subst (λ (z : List ℕ). WholeRead m bs ss ts es hs (takes (reading start bs ss ts es hs) z)) (regroup (outlineBytes (m .clip)) s t h (5 ∷ []))
-      (closed m bs ss ts es hs _ _ _ _ (s ++ t ++ h) o (middle m fit _ ss ts es hs (o .to) (p .ready) (p .sites) (p .triangles) (p .hull)) refl refl refl refl)
+      subst (λ (z : List ℕ). WholeRead m bs ss ts es hs (takes (reading (start old) bs ss ts es hs) z)) (regroup (outlineBytes (m .clip)) s t h (5 ∷ []))
+      (closed old m bs ss ts es hs _ _ _ _ (s ++ t ++ h) o (middle m fit _ ss ts es hs (o .to) (p .ready) (p .sites) (p .triangles) (p .hull)) refl refl refl refl)

@@ -7,15 +7,16 @@ use Prim.Native.Nat.{ℕ, zero, suc, _+_, _≤_, _<_}
 use native.Mathlib.Omega.{arith}
 use native.Mathlib.Numerals.{add-one}
 use lib.Dec.{eqb}
-use lib.ListN.{length, take, drop, replicate, length-replicate, take-append-drop}
+use lib.ListN.{length, getD, take, drop, replicate, length-replicate, take-append-drop}
 use lib.Seq.{take-take, take-length}
-use borrow.Author.Tests.{eqb-false, lt-ltb}
+use borrow.Author.Tests.{eqb-true, eqb-false, lt-ltb}
 use Rattle.laws.specs.laws.Decide.{eq-or-ne}
 use Rattle.laws.specs.Pick.{pick}
+use Rattle.numbers.specs.Numbers.{refusedForm}
 use Rattle.octets.specs.Bytes.{Bytes}
 use Rattle.form.specs.Form.{IsForm}
-use Rattle.form_step.specs.Reader.{sizeOf, opens, roomLeft, follows, broken, start, refused, begun, inside, outside, step, steps, verdict}
-use Rattle.form_step.specs.laws.Steps.{step-outside}
+use Rattle.form_step.specs.Reader.{sizeOf, opens, roomLeft, follows, broken, start, numberFor, refused, begun, inside, outside, step, steps, verdict}
+use Rattle.form_step.specs.laws.Steps.{step-outside, number-broken}
 use Rattle.form_step.specs.Standing.{Ok}
 use Rattle.form_step.specs.laws.Standing.{ok-start, ok-steps}
 use Rattle.form.specs.laws.Run.{kind-follows}
@@ -27,55 +28,81 @@ use Rattle.form.specs.Place.{StartsForm, Place}
 
 -- ---- where a run is refused
 
-record Stops (r : Reader) (s : List ℕ) (j : ℕ) : Type 0 where
-  within : j < length s
-  before : broken (steps r (take j s)) ≡ false
-  after : broken (steps r (take (suc j) s)) ≡ true
-  at : steps r s .at ≡ r .at + j
+pub record Stops (r : Reader) (s : List ℕ) (j : ℕ) : Type 0 where
+  pub within : j < length s
+  pub before : broken (steps r (take j s)) ≡ false
+  pub between : steps r (take j s) .left ≡ 0
+  pub after : broken (steps r (take (suc j) s)) ≡ true
+  pub at : steps r s .at ≡ r .at + j
+  pub number : steps r s .refusal ≡ numberFor (steps r (take j s)) (getD s j 0)
 
--- one byte: refused where it stands, or one byte more
-abbrev Moved : Reader → Reader → Type 0
-Moved r n = ((broken n ≡ true) × (n .at ≡ r .at)) ⊎ ((broken n ≡ false) × (n .at ≡ r .at + 1))
+-- one byte: refused where it stands, with its number, or one byte more
+record Kept (r : Reader) (b : ℕ) (n : Reader) : Type 0 where
+  broken : broken n ≡ true
+  between : r .left ≡ 0
+  at : n .at ≡ r .at
+  number : n .refusal ≡ numberFor r b
 
-moved : (r : Reader) (b : ℕ) → broken r ≡ false → Moved r (step r b)
+abbrev Moved : Reader → ℕ → Reader → Type 0
+Moved r b n = Kept r b n ⊎ ((broken n ≡ false) × (n .at ≡ r .at + 1))
+
+moved : (r : Reader) (b : ℕ) → broken r ≡ false → Moved r b (step r b)
 unfolding step outside inside begun refused
-moved r b e = go (broken r) (eqb (r .left) 0) (follows r b) e
+moved r b e = go (broken r) (eqb (r .left) 0) (follows r b) e refl
   where
-    go : (v t f : Bool) → v ≡ false → Moved r (pick v (λ _. r) (λ _. pick t (λ _. pick f (λ _. begun r b) (λ _. refused r)) (λ _. inside r b)))
-    go true t f e = true-false e
-    go false true true e = inr (refl, refl)
-    go false true false e = inl (refl, refl)
-    go false false f e = inr (refl, refl)
+    go :
+        (v t f : Bool) → v ≡ false → eqb (r .left) 0 ≡ t
+        → Moved r b (pick v (λ _. r) (λ _. pick t (λ _. pick f (λ _. begun r b) (λ _. refused r (numberFor r b))) (λ _. inside r b)))
+    go true t f e z = true-false e
+    go false true true e z = inr (refl, refl)
+    go false true false e z = inl (record { broken = number-broken r b; between = eqb-true _ _ z; at = refl; number = refl })
+    go false false f e z = inr (refl, refl)
 
-record Stop (r : Reader) (s : List ℕ) : Type 0 where
-  place : ℕ
-  stops : Stops r s place
+pub record SomeStop (r : Reader) (s : List ℕ) : Type 0 where
+  pub place : ℕ
+  pub stops : Stops r s place
 
-stop : (s : List ℕ) (r : Reader) → broken r ≡ false → broken (steps r s) ≡ true → Stop r s
+pub stop : (s : List ℕ) (r : Reader) → broken r ≡ false → broken (steps r s) ≡ true → SomeStop r s
 unfolding steps
 stop [] r e f = true-false (sym f ∙ e)
 stop (b ∷ s) r e f = ⊎-elim here (λ v. on v (stop s (step r b) (v .0) f)) (moved r b e)
   where
-    here : (broken (step r b) ≡ true) × (step r b .at ≡ r .at) → Stop r (b ∷ s)
+    here : Kept r b (step r b) → SomeStop r (b ∷ s)
     here v =
         record {
           place = 0;
-          stops = record { within = omega arith; before = e; after = v .0; at = ap (λ (n : Reader). n .at) (steps-broken s (step r b) (v .0)) ∙ v .1 ∙ omega arith };
+          stops =
+              record {
+                within = omega arith;
+                before = e;
+                between = v .between;
+                after = v .broken;
+                at = ap (λ (n : Reader). n .at) (steps-broken s (step r b) (v .broken)) ∙ v .at ∙ omega arith;
+                number = ap (λ (n : Reader). n .refusal) (steps-broken s (step r b) (v .broken)) ∙ v .number;
+              };
         }
 
-    on : (broken (step r b) ≡ false) × (step r b .at ≡ r .at + 1) → Stop (step r b) s → Stop r (b ∷ s)
+    on : (broken (step r b) ≡ false) × (step r b .at ≡ r .at + 1) → SomeStop (step r b) s → SomeStop r (b ∷ s)
     on v w =
         let t = w .stops in
         record {
           place = suc (w .place);
-          stops = record { within = omega (arith, t .within); before = t .before; after = t .after; at = omega (arith, t .at, v .1) };
+          stops =
+              record {
+                within = omega (arith, t .within);
+                before = t .before;
+                between = t .between;
+                after = t .after;
+                at = omega (arith, t .at, v .1);
+                number = t .number;
+              };
         }
 
-taken-all : (s : List ℕ) (r : Reader) → broken r ≡ false → broken (steps r s) ≡ false → steps r s .at ≡ r .at + length s
+pub taken-all : (s : List ℕ) (r : Reader) → broken r ≡ false → broken (steps r s) ≡ false → steps r s .at ≡ r .at + length s
 unfolding steps
 taken-all [] r e f = omega arith
 taken-all (b ∷ s) r e f =
-    ⊎-elim (λ v. true-false (sym (ap broken (steps-broken s (step r b) (v .0)) ∙ v .0) ∙ f))
+    ⊎-elim (λ v. true-false (sym (ap broken (steps-broken s (step r b) (v .broken)) ∙ v .broken) ∙ f))
     (λ v. omega (arith, taken-all s (step r b) (v .0) f, v .1))
     (moved r b e)
 
@@ -86,13 +113,16 @@ record Ending (r : Reader) : Type 0 where
   bytes : Bytes rest
   ends : Ended (steps r rest)
 
-five : (r : Reader) → broken r ≡ false → r .left ≡ 0 → 1 ≤ r .stage → r .stage < 5 → Ending r
+pub five-ends : (r : Reader) → broken r ≡ false → r .left ≡ 0 → 1 ≤ r .stage → r .stage < 5 → Ended (steps r (5 ∷ []))
 unfolding steps outside roomLeft begun opens
-five r e z l h =
+five-ends r e z l h =
     let i : step r 5 ≡ begun r 5 = step-outside r 5 e z ∙ rw (kind-follows r 5 l (omega arith) (lt-ltb (r .stage) 5 h)) in
-    record { rest = 5 ∷ []; bytes = (omega arith, tt); ends = subst Ended (sym i) (record { unbroken = refl; stage = refl }) }
+    subst Ended (sym i) (record { unbroken = refl; stage = refl })
 
-bytes-both : (a : List ℕ) → Bytes a → (b : List ℕ) → Bytes b → Bytes (a ++ b)
+five : (r : Reader) → broken r ≡ false → r .left ≡ 0 → 1 ≤ r .stage → r .stage < 5 → Ending r
+five r e z l h = record { rest = 5 ∷ []; bytes = (omega arith, tt); ends = five-ends r e z l h }
+
+pub bytes-both : (a : List ℕ) → Bytes a → (b : List ℕ) → Bytes b → Bytes (a ++ b)
 bytes-both [] p b q = q
 bytes-both (x ∷ a) p b q = (p .0, bytes-both a (p .1) b q)
 
@@ -104,6 +134,10 @@ after {r} {n} s h e f =
       ends = subst Ended (sym (steps-append s (f .rest) r ∙ ap (λ (m : Reader). steps m (f .rest)) e)) (f .ends);
     }
 
+zeros : (n : ℕ) → Bytes (replicate n 0)
+zeros zero = tt
+zeros (suc n) = (omega arith, zeros n)
+
 between : (r : Reader) → broken r ≡ false → r .left ≡ 0 → r .stage ≤ 5 → Ending r
 unfolding steps outside follows opens begun sizeOf
 between r e z h = ⊎-elim first (λ d. ⊎-elim last (λ d'. five r e z (omega (arith, d)) (omega (arith, d'))) (eq-or-ne (r .stage) 5)) (eq-or-ne (r .stage) 0)
@@ -113,12 +147,11 @@ between r e z h = ⊎-elim first (λ d. ⊎-elim last (λ d'. five r e z (omega 
 
     first : r .stage ≡ 0 → Ending r
     first q =
-        let i : steps r (6 ∷ []) ≡ begun r 6 = step-outside r 6 e z ∙ rw q in
-        after (6 ∷ []) (omega arith, tt) i (five (begun r 6) refl refl (omega arith) (omega arith))
-
-zeros : (n : ℕ) → Bytes (replicate n 0)
-zeros zero = tt
-zeros (suc n) = (omega arith, zeros n)
+        let i : steps r (1 ∷ []) ≡ begun r 1 = step-outside r 1 e z ∙ rw q in
+        let t : List ℕ = replicate 32 0 in
+        let p = partway t (begun r 1) refl (omega arith) in
+        after (1 ∷ []) (omega arith, tt) i
+        (after t (zeros 32) refl (five (steps (begun r 1) t) (p .unbroken) (omega (arith, p .left)) (omega (arith, p .stage)) (omega (arith, p .stage))))
 
 ending : (r : Reader) → broken r ≡ false → Ok r → Ending r
 ending r e o =
@@ -129,72 +162,72 @@ ending r e o =
 
 -- ---- the theorem
 
-begins-so : (s : List ℕ) → Bytes s → broken (steps start s) ≡ false → StartsForm s
-begins-so s h e =
-    let x = ending (steps start s) e (ok-steps s start ok-start) in
+begins-so : (old : Bool) (s : List ℕ) → Bytes s → broken (steps (start old) s) ≡ false → StartsForm old s
+begins-so old s h e =
+    let x = ending (steps (start old) s) e (ok-steps s (start old) (ok-start old)) in
     record {
       rest = x .rest;
-      form = only-forms (s ++ x .rest) (bytes-both s h (x .rest) (x .bytes)) (subst Ended (sym (steps-append s (x .rest) start)) (x .ends));
+      form = only-forms old (s ++ x .rest) (bytes-both s h (x .rest) (x .bytes)) (subst Ended (sym (steps-append s (x .rest) (start old))) (x .ends));
     }
 
 -- what is refused stays so, whatever follows
-never-begins : (s : List ℕ) → broken (steps start s) ≡ true → StartsForm s → ⊥
-never-begins s e f =
+never-begins : (old : Bool) (s : List ℕ) → broken (steps (start old) s) ≡ true → StartsForm old s → ⊥
+never-begins old s e f =
     true-false
-    (sym (ap broken (steps-append s (f .rest) start ∙ steps-broken (f .rest) (steps start s) e) ∙ e)
-    ∙ accepts (s ++ f .rest) (f .form) .unbroken)
+    (sym (ap broken (steps-append s (f .rest) (start old) ∙ steps-broken (f .rest) (steps (start old) s) e) ∙ e)
+    ∙ accepts old (s ++ f .rest) (f .form) .unbroken)
 
-refused-place : (s : List ℕ) → Bytes s → broken (steps start s) ≡ true → Place s (steps start s .at)
-refused-place s h e = go (stop s start refl e)
+refused-place : (old : Bool) (s : List ℕ) → Bytes s → broken (steps (start old) s) ≡ true → Place old s (steps (start old) s .at)
+refused-place old s h e = go (stop s (start old) refl e)
   where
-    go : Stop start s → Place s (steps start s .at)
+    go : SomeStop (start old) s → Place old s (steps (start old) s .at)
     go x =
         let t = x .stops in
         let j = x .place in
-        let k : steps start s .at ≡ j = omega (arith, t .at) in
-        subst (Place s) (sym k)
+        let k : steps (start old) s .at ≡ j = omega (arith, t .at) in
+        subst (Place old s) (sym k)
         (record {
           within = omega (arith, t .within);
-          before = begins-so (take j s) (bytes-take j s h) (t .before);
-          at = λ l f. never-begins (take (suc j) s) (t .after) (subst (λ (n : ℕ). StartsForm (take n s)) (add-one j) f);
+          before = begins-so old (take j s) (bytes-take j s h) (t .before);
+          at = λ l f. never-begins old (take (suc j) s) (t .after) (subst (λ (n : ℕ). StartsForm old (take n s)) (add-one j) f);
           ended = λ l f. absurd (omega (arith, t .within));
         })
 
-unended-place : (s : List ℕ) → Bytes s → broken (steps start s) ≡ false → steps start s .stage ≢ 5 → Place s (steps start s .at)
-unended-place s h e d =
-    let k : steps start s .at ≡ length s = omega (arith, taken-all s start refl e) in
-    subst (Place s) (sym k)
+unended-place : (old : Bool) (s : List ℕ) → Bytes s → broken (steps (start old) s) ≡ false → steps (start old) s .stage ≢ 5 → Place old s (steps (start old) s .at)
+unended-place old s h e d =
+    let k : steps (start old) s .at ≡ length s = omega (arith, taken-all s (start old) refl e) in
+    subst (Place old s) (sym k)
     (record {
       within = omega arith;
-      before = subst StartsForm (sym (take-length s)) (begins-so s h e);
+      before = subst (StartsForm old) (sym (take-length s)) (begins-so old s h e);
       at = λ l f. omega arith;
-      ended = λ l f. d (accepts s f .stage);
+      ended = λ l f. d (accepts old s f .stage);
     })
 
-broken-at : (a b : ℕ) → Broken a ≡ Broken b → a ≡ b
-broken-at a b e = cc
+pub broken-at : (m n a b : ℕ) → Broken m a ≡ Broken n b → (m ≡ n) × (a ≡ b)
+broken-at m n a b e = (cc, cc)
 
-pub refused-at : (s : List ℕ) → Bytes s → (k : ℕ) → verdict (steps start s) ≡ Broken k → Place s k
+pub refused-at : (old : Bool) (s : List ℕ) → Bytes s → (n k : ℕ) → verdict (steps (start old) s) ≡ Broken n k → Place old s k
 unfolding verdict
-refused-at s h k e = go (broken (steps start s)) (eqb (steps start s .stage) 5) refl refl e
+refused-at old s h n k e = go (broken (steps (start old) s)) (eqb (steps (start old) s .stage) 5) refl refl e
   where
     go :
-        (t u : Bool) → broken (steps start s) ≡ t → eqb (steps start s .stage) 5 ≡ u
-        → pick t (λ _. Broken (steps start s .at)) (λ _. pick u
-        (λ _. Sound (steps start s .sites) (steps start s .triangles) (steps start s .hull) (steps start s .clip)) (λ _. Broken (steps start s .at))) ≡ Broken k
-        → Place s k
-    go true u p q f = subst (Place s) (broken-at _ _ f) (refused-place s h p)
+        (t u : Bool) → broken (steps (start old) s) ≡ t → eqb (steps (start old) s .stage) 5 ≡ u
+        → (let r = steps (start old) s in
+        pick t (λ _. Broken (r .refusal) (r .at)) (λ _. pick u (λ _. Sound (r .sites) (r .triangles) (r .hull) (r .clip)) (λ _. Broken refusedForm (r .at))) ≡ Broken n k)
+        → Place old s k
+    go true u p q f = subst (Place old s) (broken-at _ _ _ _ f .1) (refused-place old s h p)
     go false true p q f = sound-broken (sym f)
-    go false false p q f = subst (Place s) (broken-at _ _ f) (unended-place s h p (eqb-false _ _ q))
+    go false false p q f = subst (Place old s) (broken-at _ _ _ _ f .1) (unended-place old s h p (eqb-false _ _ q))
 
 -- there is one such place
-pub one-place : (s : List ℕ) (j k : ℕ) → Place s j → Place s k → j < k → ⊥
-one-place s j k p q l =
+pub one-place : (old : Bool) (s : List ℕ) (j k : ℕ) → Place old s j → Place old s k → j < k → ⊥
+one-place old s j k p q l =
     let b = q .before in
     let e : take (j + 1) (take k s) ≡ take (j + 1) s = take-take (j + 1) k s (omega arith) in
     let f : take (j + 1) s ++ drop (j + 1) (take k s) ≡ take k s = ap (λ (z : List ℕ). z ++ drop (j + 1) (take k s)) (sym e) ∙ take-append-drop (j + 1) (take k s) in
     p .at (omega (arith, q .within))
     (record {
       rest = drop (j + 1) (take k s) ++ b .rest;
-      form = subst IsForm (sym (ap (λ (z : List ℕ). z ++ b .rest) f) ∙ append-assoc (take (j + 1) s) (drop (j + 1) (take k s)) (b .rest)) (b .form);
+      form = subst (IsForm old) (sym (ap (λ (z : List ℕ). z ++ b .rest) f) ∙ append-assoc (take (j + 1) s) (drop (j + 1) (take k s)) (b .rest)) (b .form);
     })

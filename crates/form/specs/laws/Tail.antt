@@ -8,8 +8,8 @@ use native.Mathlib.Omega.{arith}
 use lib.ListN.{length}
 use Rattle.octets.specs.Bytes.{Bytes, each, All}
 use Rattle.form.specs.Form.{Site, Triangle, SiteFits, TriangleFits, HullFits, siteBytes, triangleBytes, hullBytes}
-use Rattle.form_step.specs.Reader.{sizeOf, opens, follows, broken, refused, begun, outside, step, steps, Reading, reading}
-use Rattle.form_step.specs.laws.Steps.{RecordKind, site, triangle, hull, end, follows-cases, step-outside}
+use Rattle.form_step.specs.Reader.{sizeOf, opens, follows, broken, numberFor, refused, begun, outside, step, steps, Reading, reading}
+use Rattle.form_step.specs.laws.Steps.{RecordKind, site, triangle, hull, end, follows-cases, step-outside, number-broken}
 use Rattle.form.specs.laws.Run.{AtRecord, Ran, Goes, ready-up, takes-reader, site-run, triangle-run, hull-run}
 use Rattle.form.specs.laws.Cut.{Ended, CutOff, steps-append, steps-broken, true-false, partway, body-there, cut-site, cut-triangle, cut-hull}
 use Rattle.form_step.specs.declared.Reader.{Reader}
@@ -174,16 +174,15 @@ no-kind r k (hull p) e h = omega arith
 no-kind r k (end p) e h = omega arith
 
 -- nothing follows it
-after-end : (r : Reader) (b : ℕ) → r .stage ≡ 5 → follows r b ≡ false
+pub after-end : (r : Reader) (b : ℕ) → r .stage ≡ 5 → follows r b ≡ false
 after-end r b e = go (follows r b) refl
   where
     go : (t : Bool) → follows r b ≡ t → t ≡ false
     go false f = refl
     go true f = absurd (⊎-elim (λ v. omega (arith, v .0)) (λ v. no-kind r b (v .2) e (v .1)) (follows-cases r b f))
 
-pub refused-ends : (r : Reader) (t : List ℕ) → Ended (steps (refused r) t) → ⊥
-unfolding refused
-refused-ends r t e = true-false (sym (ap broken (steps-broken t (refused r) refl)) ∙ e .unbroken)
+pub refused-ends : (r : Reader) (b : ℕ) (t : List ℕ) → Ended (steps (refused r (numberFor r b)) t) → ⊥
+refused-ends r b t e = true-false (sym (ap broken (steps-broken t (refused r (numberFor r b)) (number-broken r b)) ∙ number-broken r b) ∙ e .unbroken)
 
 end-tail : (r : Reader) (t : List ℕ) → AtRecord r 4 → FewRecords r → follows r 5 ≡ true → Ended (steps r (5 ∷ t)) → Tail r (5 ∷ t)
 unfolding steps begun opens sizeOf outside
@@ -204,8 +203,8 @@ end-tail r [] q w f e =
     }
 end-tail r (c ∷ t) q w f e =
     let e' : Ended (steps (begun r 5) (c ∷ t)) = subst Ended (begins r 5 q f (c ∷ t)) e in
-    let i : step (begun r 5) c ≡ refused (begun r 5) = step-outside (begun r 5) c refl refl ∙ rw (after-end (begun r 5) c refl) in
-    absurd (refused-ends (begun r 5) t (subst (λ (n : Reader). Ended (steps n t)) i e'))
+    let i : step (begun r 5) c ≡ refused (begun r 5) (numberFor (begun r 5) c) = step-outside (begun r 5) c refl refl ∙ rw (after-end (begun r 5) c refl) in
+    absurd (refused-ends (begun r 5) c t (subst (λ (n : Reader). Ended (steps n t)) i e'))
 
 by-kind :
     (n : ℕ) → Below n → (r : Reader) (t : List ℕ) → length t ≤ n → Bytes t → AtRecord r 4 → FewRecords r
@@ -222,8 +221,8 @@ one-more n below r b t l h q w e = go (follows r b) refl
     go : (u : Bool) → follows r b ≡ u → Tail r (b ∷ t)
     go true f = ⊎-elim (λ v. absurd (omega (arith, v .0, q .low))) (λ v. by-kind n below r t l h q w b (v .2) (v .1) f e) (follows-cases r b f)
     go false f =
-        let i : step r b ≡ refused r = step-outside r b (q .unbroken) (q .left) ∙ rw f in
-        absurd (refused-ends r t (subst (λ (m : Reader). Ended (steps m t)) i e))
+        let i : step r b ≡ refused r (numberFor r b) = step-outside r b (q .unbroken) (q .left) ∙ rw f in
+        absurd (refused-ends r b t (subst (λ (m : Reader). Ended (steps m t)) i e))
 
 pub tail : (n : ℕ) → Below n
 unfolding steps

@@ -5,16 +5,16 @@ use native.Mathlib.Omega.{arith}
 use borrow.Author.Tests.{ne-eqb, eq-eqb}
 use Rattle.form_step.specs.Reader.{broken}
 use Rattle.form_step.specs.laws.Steps.{verdict-broken, verdict-sound}
-use Rattle.form_step.specs.laws.Standing.{clip-small, ok-finished}
+use Rattle.form_step.specs.laws.Standing.{clip-small, refusal-small, ok-finished}
 use borrow.Author.Needs.{needs}
 use Rattle.form_step.proofs.finish.Statement.{statement}
 use Rattle.form_step.proofs.finish.Tie as tie
 
 returns : tie.Need-returns
 returns c =
-    let k = c .before .before .finished in
-    let e : broken (k .result) ≡ true = rw (ne-eqb _ _ (c .if1 .taken)) in
-    rw (k .ensures) (sym (verdict-broken (c .before .before .before .args .r) (sym (ap broken (k .ensures)) ∙ e)))
+    let k = c .before .before .before .finished in
+    let e : broken (k .result) ≡ true = rw (ne-eqb _ _ (c .before .if1 .taken)) in
+    rw (k .ensures) (sym (verdict-broken (c .before .before .before .before .args .r) (sym (ap broken (k .ensures)) ∙ e)))
 
 returns-2 : tie.Need-returns-2
 returns-2 c =
@@ -23,5 +23,6 @@ returns-2 c =
     rw (k .ensures) (sym (verdict-sound (c .before .before .before .before .args .r) (sym (ap broken (k .ensures)) ∙ e)))
 
 pub finish-spec : {M : Type 1} → statement M
-finish-spec = tie.close (tie.spec (λ c κs. search needs) returns
+finish-spec = tie.close (tie.spec (λ c κs. search needs)
+    (λ c. rw (c .before .before .before .finished .ensures) (omega (arith, refusal-small (ok-finished _ (c .before .before .before .before .pre))))) returns
     (λ c. rw (c .before .before .before .finished .ensures) (omega (arith, clip-small (ok-finished _ (c .before .before .before .before .pre))))) returns-2)

@@ -18,4 +18,4 @@ unfolding finished
 returns-3 c = rw (eq-eqb _ _ (c .before .before .before .if1 .left), ne-eqb _ _ (c .before .if2 .left)) (c .refused .ensures)
 
 pub finished-spec : {M : Type 1} → statement M
-finished-spec = tie.close (tie.spec returns returns-2 (λ c κs. search needs) returns-3)
+finished-spec = tie.close (tie.spec returns returns-2 (λ c. search needs) (λ c κs. search needs) returns-3)

@@ -1,4 +1,4 @@
--- `form_step::opens` meets its contract: 1 opens, 6 opens, and else the test is the definition's.
+-- `form_step::opens` meets its contract: 1 opens, 6 where the flag says so, and else the test is the definition's.
 use Rattle.form_step.specs.Reader.{opens}
 use borrow.Author.Tests.{ne-eqb}
 use Rattle.form_step.proofs.opens.Statement.{statement}

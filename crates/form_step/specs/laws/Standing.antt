@@ -6,13 +6,14 @@ use mathlib.Core.Logic.{inl, inr, ⊎-elim, _≢_}
 use Prim.Native.Nat.{ℕ, zero, suc, _+_, _-_, _%_, _^_, _≤_, _<_}
 use native.Mathlib.Omega.{arith}
 use native.Mathlib.Nat.{zero-mod, mod-one}
-use lib.Dec.{eqb}
-use borrow.Author.Tests.{eqb-true, eqb-false, ne-eqb}
+use lib.Dec.{eqb, ltb}
+use borrow.Author.Tests.{eqb-true, eqb-false, ne-eqb, ltb-true}
 use Rattle.laws.specs.Pick.{pick}
+use Rattle.numbers.specs.Numbers.{refusedForm, refusedUnclipped}
 use Rattle.laws.specs.laws.Decide.{eq-or-ne}
 use Rattle.form_step.specs.Register.{shift}
-use Rattle.form_step.specs.Reader.{sizeOf, opens, follows, refused, begun, tally, inside, outside, step, steps, start, broken, finished}
-use Rattle.form_step.specs.Standing.{under, sitesBegun, trianglesBegun, hullBegun, bodyOf, kinds, bodies, CountAt, Ok}
+use Rattle.form_step.specs.Reader.{sizeOf, opens, follows, numberFor, refused, begun, tally, inside, outside, step, steps, start, broken, finished}
+use Rattle.form_step.specs.Standing.{under, sitesBegun, trianglesBegun, hullBegun, bodyOf, kinds, bodies, CountAt, IsNumber, Ok}
 use Rattle.form_step.specs.laws.Steps.{OpeningKind, box, none, edges, opens-cases, RecordKind, site, triangle, hull, end, follows-cases}
 use Rattle.form_step.specs.declared.Reader.{Reader}
 
@@ -32,10 +33,10 @@ size-small k = go (eqb k 1) (eqb k 2) (eqb k 3) (eqb k 4) (eqb k 7)
     go false false false false true = omega arith
     go false false false false false = omega arith
 
-opening-small : (k : ℕ) → OpeningKind k → k ≤ 7
-opening-small k box = omega arith
-opening-small k none = omega arith
-opening-small k edges = omega arith
+opening-small : (old : Bool) (k : ℕ) → OpeningKind old k → k ≤ 7
+opening-small old k box = omega arith
+opening-small old k (none e) = omega arith
+opening-small old k edges = omega arith
 
 pub under-none : (r : Reader) (k : ℕ) → r .left ≡ 0 → under r k ≡ 0
 unfolding under
@@ -58,7 +59,7 @@ at-most-one true = (omega arith, omega arith)
 at-most-one false = (omega arith, omega arith)
 
 pub clip-small : {r : Reader} → Ok r → r .clip ≤ 7
-clip-small {r} o = ⊎-elim (λ e. omega (arith, o .no-clip e)) (λ d. opening-small (r .clip) (opens-cases (r .clip) (o .clip d))) (eq-or-ne (r .stage) 0)
+clip-small {r} o = ⊎-elim (λ e. omega (arith, o .no-clip e)) (λ d. opening-small (r .old) (r .clip) (opens-cases (r .old) (r .clip) (o .clip d))) (eq-or-ne (r .stage) 0)
 
 pub at-small : {r : Reader} → Ok r → r .at < 7000
 unfolding kinds bodies
@@ -100,6 +101,10 @@ module _ {r : Reader} (o : Ok r) where
   pub in-hull : r .stage ≡ 4 → 0 < r .left → (r .left ≤ 4) × (r .hull < 96)
   in-hull e p = (omega (arith, o .left, body-is 4 (omega arith) e, sizes .3), omega (arith, o .hull .few, under-one r 4 e p))
 
+  -- the end has no body
+  pub none-after-end : r .stage ≡ 5 → r .left ≡ 0
+  none-after-end e = omega (arith, o .left, body-is 5 (omega arith) e, sizes .4)
+
   -- what is to come of a body is a part of the bodies that have begun
   pub left-begun : r .left ≤ bodies r
   unfolding bodies
@@ -109,7 +114,7 @@ module _ {r : Reader} (o : Ok r) where
       (λ b. ⊎-elim (λ e. omega (arith, o .left, body-is 2 (omega arith) e, sizes .1, o .sites .in-it e))
       (λ c. ⊎-elim (λ e. omega (arith, o .left, body-is 3 (omega arith) e, sizes .2, o .triangles .in-it e))
       (λ d. ⊎-elim (λ e. omega (arith, o .left, body-is 4 (omega arith) e, sizes .3, o .hull .in-it e))
-      (λ f. let e : r .stage ≡ 5 = omega (arith, o .stage) in omega (arith, o .left, body-is 5 (omega arith) e, sizes .4))
+      (λ f. omega (arith, none-after-end (omega (arith, o .stage))))
       (eq-or-ne (r .stage) 4))
       (eq-or-ne (r .stage) 3))
       (eq-or-ne (r .stage) 2))
@@ -126,11 +131,12 @@ left-small {r} o = go (eqb (r .stage) 1) (o .left)
 
 -- ---- a step keeps it
 
-pub ok-start : Ok start
+pub ok-start : (old : Bool) → Ok (start old)
 unfolding kinds bodies bodyOf under sizeOf
-ok-start =
+ok-start old =
     record {
       refusal = inl refl;
+      by-name = λ e. absurd (omega arith);
       stage = omega arith;
       no-clip = λ e. refl;
       clip = λ d. absurd (d refl);
@@ -143,11 +149,12 @@ ok-start =
       word = refl;
     }
 
-pub ok-refused : {r : Reader} → Ok r → Ok (refused r)
+pub ok-refused : {r : Reader} (n : ℕ) → IsNumber n → (n ≡ refusedUnclipped → (r .left ≡ 0) × (r .stage < 5)) → Ok r → Ok (refused r n)
 unfolding refused under bodyOf kinds bodies
-ok-refused o =
+ok-refused n i f o =
     record {
-      refusal = inr refl;
+      refusal = inr i;
+      by-name = f;
       stage = o .stage;
       no-clip = o .no-clip;
       clip = o .clip;
@@ -160,24 +167,47 @@ ok-refused o =
       word = o .word;
     }
 
+-- each refusal has one of the two numbers
+pub number-is : (r : Reader) (k : ℕ) → IsNumber (numberFor r k)
+unfolding numberFor
+number-is r k = go (eqb k 6) (ltb (r .stage) 5)
+  where
+    go : (t u : Bool) → IsNumber (pick t (λ _. pick u (λ _. refusedUnclipped) (λ _. refusedForm)) (λ _. refusedForm))
+    go true true = inr refl
+    go true false = inl refl
+    go false u = inl refl
+
+-- 20 only before the end
+number-early : (r : Reader) (k : ℕ) → numberFor r k ≡ refusedUnclipped → r .stage < 5
+unfolding numberFor
+number-early r k = go (eqb k 6) (ltb (r .stage) 5) refl
+  where
+    go : (t u : Bool) → ltb (r .stage) 5 ≡ u → pick t (λ _. pick u (λ _. refusedUnclipped) (λ _. refusedForm)) (λ _. refusedForm) ≡ refusedUnclipped → r .stage < 5
+    go true true h e = ltb-true _ _ h
+    go true false h e = absurd (omega arith)
+    go false u h e = absurd (omega arith)
+
+pub refusal-small : {r : Reader} → Ok r → r .refusal ≤ 20
+refusal-small o = ⊎-elim (λ e. omega arith) (λ i. ⊎-elim (λ e. omega arith) (λ e. omega arith) i) (o .refusal)
+
 pub ok-finished : (r : Reader) → Ok r → Ok (finished r)
 unfolding finished
 ok-finished r o = go (broken r) (eqb (r .stage) 5)
   where
-    go : (t u : Bool) → Ok (pick t (λ _. r) (λ _. pick u (λ _. r) (λ _. refused r)))
+    go : (t u : Bool) → Ok (pick t (λ _. r) (λ _. pick u (λ _. r) (λ _. refused r refusedForm)))
     go true u = o
     go false true = o
-    go false false = ok-refused o
+    go false false = ok-refused refusedForm (inl refl) (λ e. absurd (omega arith)) o
 
 -- nothing has come
-record Nothing (r : Reader) : Type 0 where
-  sites : r .sites ≡ 0
-  triangles : r .triangles ≡ 0
-  hull : r .hull ≡ 0
-  at : r .at ≡ 0
-  word : r .word ≡ 0
+pub record Nothing (r : Reader) : Type 0 where
+  pub sites : r .sites ≡ 0
+  pub triangles : r .triangles ≡ 0
+  pub hull : r .hull ≡ 0
+  pub at : r .at ≡ 0
+  pub word : r .word ≡ 0
 
-nothing : {r : Reader} → Ok r → r .stage ≡ 0 → r .left ≡ 0 → Nothing r
+pub nothing : {r : Reader} → Ok r → r .stage ≡ 0 → r .left ≡ 0 → Nothing r
 unfolding kinds bodies
 nothing {r} o e z =
     let s = o .sites .before (omega arith) in
@@ -199,13 +229,14 @@ pub kinds-between : (r : Reader) → r .stage ≢ 0 → r .stage ≢ 5 → kinds
 unfolding kinds
 kinds-between r d e = rw (ne-eqb (r .stage) 0 d, ne-eqb (r .stage) 5 e) (omega arith)
 
-ok-open : {r : Reader} (k : ℕ) → Ok r → r .left ≡ 0 → r .stage ≡ 0 → opens k ≡ true → Ok (begun r k)
+ok-open : {r : Reader} (k : ℕ) → Ok r → r .left ≡ 0 → r .stage ≡ 0 → opens (r .old) k ≡ true → Ok (begun r k)
 unfolding begun under bodyOf kinds bodies
 ok-open {r} k o z e f =
     let n = nothing o e z in
     rw f
     (record {
       refusal = inl refl;
+      by-name = λ e. absurd (omega arith);
       stage = omega arith;
       no-clip = λ h. absurd (omega arith);
       clip = λ h. f;
@@ -239,6 +270,7 @@ module _ {r : Reader} (o : Ok r) (z : r .left ≡ 0) (d : r .stage ≢ 0) where
       let w = same-word (bodies (begun r 2) - 16) (omega arith) in
       record {
         refusal = inl refl;
+        by-name = λ e. absurd (omega arith);
         stage = omega arith;
         no-clip = λ i. absurd (omega arith);
         clip = λ i. o .clip d;
@@ -261,6 +293,7 @@ module _ {r : Reader} (o : Ok r) (z : r .left ≡ 0) (d : r .stage ≢ 0) where
       let w = same-word (bodies (begun r 3) - 24) (omega arith) in
       record {
         refusal = inl refl;
+        by-name = λ e. absurd (omega arith);
         stage = omega arith;
         no-clip = λ i. absurd (omega arith);
         clip = λ i. o .clip d;
@@ -282,6 +315,7 @@ module _ {r : Reader} (o : Ok r) (z : r .left ≡ 0) (d : r .stage ≢ 0) where
       let w = same-word (bodies (begun r 4) - 4) (omega arith) in
       record {
         refusal = inl refl;
+        by-name = λ e. absurd (omega arith);
         stage = omega arith;
         no-clip = λ i. absurd (omega arith);
         clip = λ i. o .clip d;
@@ -303,6 +337,7 @@ module _ {r : Reader} (o : Ok r) (z : r .left ≡ 0) (d : r .stage ≢ 0) where
       let w = same-word (bodies (begun r 5) - 0) (omega arith) in
       record {
         refusal = inl refl;
+        by-name = λ e. absurd (omega arith);
         stage = omega arith;
         no-clip = λ i. absurd (omega arith);
         clip = λ i. o .clip d;
@@ -376,6 +411,7 @@ ok-inside {r} b o p =
     let i : bodies (inside r b) - (r .left - 1) ≡ bodies r - r .left + 1 = omega (arith, kept-bodies r b p, left-begun o) in
     record {
       refusal = inl refl;
+      by-name = λ e. absurd (omega arith);
       stage = o .stage;
       no-clip = o .no-clip;
       clip = o .clip;
@@ -396,13 +432,39 @@ ok-step r b o = go (broken r) (eqb (r .left) 0) (follows r b) refl refl
         (t u f : Bool)
         → eqb (r .left) 0 ≡ u
         → follows r b ≡ f
-        → Ok (pick t (λ _. r) (λ _. pick u (λ _. pick f (λ _. begun r b) (λ _. refused r)) (λ _. inside r b)))
+        → Ok (pick t (λ _. r) (λ _. pick u (λ _. pick f (λ _. begun r b) (λ _. refused r (numberFor r b))) (λ _. inside r b)))
     go true u f h e = o
     go false true true h e = ok-begun b o (eqb-true _ _ h) e
-    go false true false h e = ok-refused o
+    go false true false h e = ok-refused (numberFor r b) (number-is r b) (λ n. (eqb-true _ _ h, number-early r b n)) o
     go false false f h e = let z = eqb-false (r .left) 0 h in ok-inside b o (omega (arith, z))
 
 pub ok-steps : (s : List ℕ) (r : Reader) → Ok r → Ok (steps r s)
 unfolding steps
 ok-steps [] r o = o
 ok-steps (b ∷ s) r o = ok-steps s (step r b) (ok-step r b o)
+
+-- ---- the flag stays
+
+old-step : (r : Reader) (b : ℕ) → step r b .old ≡ r .old
+unfolding step outside inside begun refused
+old-step r b = go (broken r) (eqb (r .left) 0) (follows r b)
+  where
+    go : (t u f : Bool) → pick t (λ _. r) (λ _. pick u (λ _. pick f (λ _. begun r b) (λ _. refused r (numberFor r b))) (λ _. inside r b)) .old ≡ r .old
+    go true u f = refl
+    go false true true = refl
+    go false true false = refl
+    go false false f = refl
+
+pub old-steps : (s : List ℕ) (r : Reader) → steps r s .old ≡ r .old
+unfolding steps
+old-steps [] r = refl
+old-steps (b ∷ s) r = old-steps s (step r b) ∙ old-step r b
+
+pub old-finished : (r : Reader) → finished r .old ≡ r .old
+unfolding finished refused
+old-finished r = go (broken r) (eqb (r .stage) 5)
+  where
+    go : (t u : Bool) → pick t (λ _. r) (λ _. pick u (λ _. r) (λ _. refused r refusedForm)) .old ≡ r .old
+    go true u = refl
+    go false true = refl
+    go false false = refl

@@ -7,7 +7,8 @@ use native.Mathlib.Omega.{arith}
 use lib.Dec.{eqb, ltb}
 use borrow.Author.Tests.{eqb-true, eqb-false, ltb-true, ltb-false, ne-eqb}
 use Rattle.laws.specs.Pick.{pick}
-use Rattle.form_step.specs.Reader.{opens, roomLeft, follows, refused, inside, outside, step, within, broken, finished, verdict}
+use Rattle.numbers.specs.Numbers.{refusedForm, refusedUnclipped}
+use Rattle.form_step.specs.Reader.{opens, roomLeft, follows, numberFor, refused, inside, outside, step, within, broken, finished, verdict}
 use Rattle.form_step.specs.declared.Reader.{Reader}
 use Rattle.form_step.specs.declared.Form.the-variants.{Sound, Broken}
 
@@ -19,16 +20,16 @@ never : {A : Type 0} → false ≡ true → A
 never e = let z : _≡_ {A = ℕ} 0 1 = cc in absurd (omega arith)
 
 -- the kinds that open a form
-pub data OpeningKind : ℕ → Type 0 where
-  box : OpeningKind 1
-  none : OpeningKind 6
-  edges : OpeningKind 7
+pub data OpeningKind (old : Bool) : ℕ → Type 0 where
+  box : OpeningKind old 1
+  none : old ≡ true → OpeningKind old 6
+  edges : OpeningKind old 7
 
-pub opens-cases : (k : ℕ) → opens k ≡ true → OpeningKind k
+pub opens-cases : (old : Bool) (k : ℕ) → opens old k ≡ true → OpeningKind old k
 unfolding opens
-opens-cases k e =
+opens-cases old k e =
     ⊎-elim (λ w. rw (eqb-true k 1 (w .0)) box)
-    (λ v. ⊎-elim (λ w. rw (eqb-true k 6 (w .0)) none) (λ w. rw (eqb-true k 7 (w .1)) edges) (by-test (eqb k 6) true (eqb k 7) (v .1)))
+    (λ v. ⊎-elim (λ w. rw (eqb-true k 6 (w .0)) (none (w .1))) (λ w. rw (eqb-true k 7 (w .1)) edges) (by-test (eqb k 6) old (eqb k 7) (v .1)))
     (by-test (eqb k 1) true _ e)
 
 -- a kind that there is room for
@@ -49,7 +50,7 @@ room-cases r k e =
     (by-test (eqb k 3) _ _ (v .1)))
     (by-test (eqb k 2) _ _ e)
 
-pub follows-cases : (r : Reader) (k : ℕ) → follows r k ≡ true → ((r .stage ≡ 0) × (opens k ≡ true)) ⊎ ((r .stage ≢ 0) × (r .stage ≤ k) × RecordKind r k)
+pub follows-cases : (r : Reader) (k : ℕ) → follows r k ≡ true → ((r .stage ≡ 0) × (opens (r .old) k ≡ true)) ⊎ ((r .stage ≢ 0) × (r .stage ≤ k) × RecordKind r k)
 unfolding follows
 follows-cases r k e =
     ⊎-elim (λ w. inl (eqb-true _ _ (w .0), w .1))
@@ -81,17 +82,27 @@ pub within-outside : (r : Reader) (k : ℕ) → broken r ≡ false → r .left �
 unfolding within
 within-outside r k e z = rw (e, z)
 
+-- each number is one of a refusal
+pub number-broken : (r : Reader) (b : ℕ) → broken (refused r (numberFor r b)) ≡ true
+unfolding refused numberFor
+number-broken r b = go (eqb b 6) (ltb (r .stage) 5)
+  where
+    go : (t u : Bool) → pick (eqb (pick t (λ _. pick u (λ _. refusedUnclipped) (λ _. refusedForm)) (λ _. refusedForm)) 0) (λ _. false) (λ _. true) ≡ true
+    go true true = refl
+    go true false = refl
+    go false u = refl
+
 -- ---- what is told
 
-pub verdict-broken : (r : Reader) → broken (finished r) ≡ true → verdict r ≡ Broken (finished r .at)
+pub verdict-broken : (r : Reader) → broken (finished r) ≡ true → verdict r ≡ Broken (finished r .refusal) (finished r .at)
 unfolding verdict finished refused
 verdict-broken r e = go (broken r) (eqb (r .stage) 5) refl e
   where
     go :
         (t u : Bool) → broken r ≡ t
-        → broken (pick t (λ _. r) (λ _. pick u (λ _. r) (λ _. refused r))) ≡ true
-        → pick t (λ _. Broken (r .at)) (λ _. pick u (λ _. Sound (r .sites) (r .triangles) (r .hull) (r .clip)) (λ _. Broken (r .at)))
-        ≡ Broken (pick t (λ _. r) (λ _. pick u (λ _. r) (λ _. refused r)) .at)
+        → broken (pick t (λ _. r) (λ _. pick u (λ _. r) (λ _. refused r refusedForm))) ≡ true
+        → pick t (λ _. Broken (r .refusal) (r .at)) (λ _. pick u (λ _. Sound (r .sites) (r .triangles) (r .hull) (r .clip)) (λ _. Broken refusedForm (r .at)))
+        ≡ (let n = pick t (λ _. r) (λ _. pick u (λ _. r) (λ _. refused r refusedForm)) in Broken (n .refusal) (n .at))
     go true u p q = refl
     go false true p q = never (sym p ∙ q)
     go false false p q = refl
@@ -103,9 +114,9 @@ verdict-sound r e = go (broken r) (eqb (r .stage) 5) refl e
   where
     go :
         (t u : Bool) → broken r ≡ t
-        → broken (pick t (λ _. r) (λ _. pick u (λ _. r) (λ _. refused r))) ≡ false
-        → pick t (λ _. Broken (r .at)) (λ _. pick u (λ _. Sound (r .sites) (r .triangles) (r .hull) (r .clip)) (λ _. Broken (r .at)))
-        ≡ (let n = pick t (λ _. r) (λ _. pick u (λ _. r) (λ _. refused r)) in Sound (n .sites) (n .triangles) (n .hull) (n .clip))
+        → broken (pick t (λ _. r) (λ _. pick u (λ _. r) (λ _. refused r refusedForm))) ≡ false
+        → pick t (λ _. Broken (r .refusal) (r .at)) (λ _. pick u (λ _. Sound (r .sites) (r .triangles) (r .hull) (r .clip)) (λ _. Broken refusedForm (r .at)))
+        ≡ (let n = pick t (λ _. r) (λ _. pick u (λ _. r) (λ _. refused r refusedForm)) in Sound (n .sites) (n .triangles) (n .hull) (n .clip))
     go true u p q = never (sym q ∙ p)
     go false true p q = refl
     go false false p q = never (sym q)

@@ -10,7 +10,7 @@ use lib.ListN.{length, getD, take, drop, length-append, length-drop, take-append
 use lib.Seq.{take-suc, take-length, length-take-le}
 use Rattle.listing.specs.Text.{ascii, decimal}
 use Rattle.listing.specs.laws.Decimal.{decimal-short}
-use Rattle.listing.specs.Listing.{entries, labelled, counts, cellLine, listedCell, cellLines, unclippedListing, corners, listing, refusal, Layout}
+use Rattle.listing.specs.Listing.{entries, labelled, counts, cellLine, listedCell, cellLines, countsAndCells, corners, listing, refusal, Layout}
 
 -- ---- entries
 
@@ -119,13 +119,13 @@ module _ (a t v : ℕ) (os cs : List ℕ) (lay : Layout os cs a) where
       let q' : length (cellLines os cs 0 a) + 11 * getD os 0 0 ≤ 17 * a + 11 * getD os a 0 = rw (zero-add a) at q in
       omega arith
 
-  pub unclipped-short : length (unclippedListing a t v os cs) ≤ 58 + 17 * a + 11 * getD os a 0
-  unfolding unclippedListing
-  unclipped-short = omega (arith, length-append (counts a t v) (cellLines os cs 0 a), counts-short a t v, all-lines)
+  pub counts-and-cells-short : length (countsAndCells a t v os cs) ≤ 58 + 17 * a + 11 * getD os a 0
+  unfolding countsAndCells
+  counts-and-cells-short = omega (arith, length-append (counts a t v) (cellLines os cs 0 a), counts-short a t v, all-lines)
 
   pub listing-short : (owners : List ℕ) (lost : ℕ) → length owners ≡ 4 → length (listing a t v os cs owners lost) ≤ 126 + 17 * a + 11 * getD os a 0
   unfolding listing
-  listing-short owners lost h = omega (arith, length-append (unclippedListing a t v os cs) (corners owners lost), corners-short owners lost h, unclipped-short)
+  listing-short owners lost h = omega (arith, length-append (countsAndCells a t v os cs) (corners owners lost), corners-short owners lost h, counts-and-cells-short)
 
 pub refusal-short : (n : ℕ) → length (refusal n) ≤ 19
 unfolding refusal

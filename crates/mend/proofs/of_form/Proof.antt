@@ -1,9 +1,10 @@
 -- `mend::of_form`: the counts of a sound form are within its limits, so its parts lie within the lists and its first records within the bytes.
-use mathlib.Core.Path.{sym, subst}
+use mathlib.Core.Path.{sym, ap, _∙_, subst}
 use native.Mathlib.Omega.{arith}
 use lib.ListN.{length, length-take}
 use lib.Seq.{length-take-le}
 use denote.Ref.{now}
+use Rattle.listing.specs.Listing.{refusal}
 use Rattle.listing.specs.laws.Listing.{refusal-short}
 use Rattle.octets.specs.laws.Wrote.{wrote-all}
 use Rattle.form_step.specs.declared.Form.{Form}
@@ -15,16 +16,21 @@ use Rattle.mend.proofs.of_form.Tie as tie
 
 refusal-requires : tie.Need-refusal-requires
 refusal-requires c κs =
-    let start = c .before .before .before .before .before .before .before .before .before in
-    omega (arith, refusal-short 17, start .pre .6)
+    let start = c .before .before .before .before .before .before .before .before .before .before in
+    omega (arith, refusal-short (c .number-of .result), start .pre .6)
 
 returns : tie.Need-returns
 returns c =
     let at-refusal = c .before .before in
-    let at-told = at-refusal .before .before in
+    let at-number = at-refusal .before in
+    let at-told = at-number .before .before in
+    let r = at-number .number-of .result in
     let start = at-told .before .before .before .before .before .before .before .before in
     let w = at-refusal .refusal .ensures in
-    rw (at-told .enum-told .given .1) (wrote-all w (omega (arith, refusal-short 17, start .pre .6)), omega (arith, w .place, refusal-short 17, start .pre .6))
+    rw (at-told .enum-told .given .1) (
+      wrote-all w (omega (arith, refusal-short r, start .pre .6)) ∙ ap refusal (at-number .number-of .ensures ∙ rw (at-told .enum-told .given .1)),
+      omega (arith, w .place, refusal-short r, start .pre .6),
+    )
 
 -- from a place after `first_length` on: the function's entry
 abbrev begin : tie.After-first-length → tie.Start
@@ -101,7 +107,7 @@ returns-2 c =
 pub of-form-spec : {M : Type 1} → statement M
 of-form-spec =
     tie.close
-    (tie.spec (λ c. search needs) (λ c. search needs) refusal-requires (λ c. search needs) returns (λ c κs. search needs)
+    (tie.spec (λ c. search needs) (λ c. search needs) (λ c κs. search needs) refusal-requires (λ c. search needs) returns (λ c κs. search needs)
     mul-records add-records mul-coordinates mul-entries slice-aggregate-of-mesh (λ c. omega arith) (λ c. omega arith) part-of-mesh-end
     slice-aggregate-of-mesh-2 slice-aggregate-of-mesh-3 slice-aggregate-of-mesh-4 slice-aggregate-of-mesh-5
     of-mesh-requires (λ c. search needs) returns-2)

@@ -9,7 +9,6 @@ use native.Mathlib.Omega.{arith}
 use lib.Ieee.{Float}
 use lib.ListN.{length, take, drop, length-append}
 use lib.Seq.{take-at, drop-at}
-use Rattle.numbers.specs.Numbers.{refusedForm}
 use Rattle.octets.specs.Bytes.{Bytes, each}
 use Rattle.listing.specs.Listing.{refusal}
 use Rattle.form_step.specs.Reader.{start, reading}
@@ -98,26 +97,26 @@ module _ (m : FormMesh) (f : MeshFits m) (form : Bool) {bs ss : List Float} {ts 
 -- ---- by the reader's answer
 
 module _ (s : List ℕ) (bs ss : List Float) (ts es hs : List ℕ) (a : Form) (bs′ ss′ : List Float) (ts′ es′ hs′ : List ℕ)
-    (r : Reads s (reading start bs ss ts es hs) a bs′ ss′ ts′ es′ hs′) (h : Bytes s) where
+    (r : Reads s (reading (start false) bs ss ts es hs) a bs′ ss′ ts′ es′ hs′) (h : Bytes s) where
   pub read-headed : Headed a (length s)
-  read-headed = ⊎-elim by-mesh by-refusal (exact s bs ss ts es hs a bs′ ss′ ts′ es′ hs′ r h)
+  read-headed = ⊎-elim by-mesh by-refusal (exact false s bs ss ts es hs a bs′ ss′ ts′ es′ hs′ r h)
     where
-      by-mesh : ReadSound s bs ss ts es hs a bs′ ss′ ts′ es′ hs′ → Headed a (length s)
+      by-mesh : ReadSound false s bs ss ts es hs a bs′ ss′ ts′ es′ hs′ → Headed a (length s)
       by-mesh p = rw (p .answer, p .form) (headed (p .mesh))
 
-      by-refusal : Refused s bs ss ts es hs a → Headed a (length s)
+      by-refusal : Refused false s bs ss ts es hs a → Headed a (length s)
       by-refusal p = rw (p .answer) tt
 
   pub prints : (form : Bool) {text : List ℕ} → ListRoom bs ss ts es hs → PrintsRead form s a ss′ ts′ es′ hs′ text → MendPrints form s text
-  prints form {text} room q = ⊎-elim by-mesh by-refusal (exact s bs ss ts es hs a bs′ ss′ ts′ es′ hs′ r h)
+  prints form {text} room q = ⊎-elim by-mesh by-refusal (exact false s bs ss ts es hs a bs′ ss′ ts′ es′ hs′ r h)
     where
-      by-mesh : ReadSound s bs ss ts es hs a bs′ ss′ ts′ es′ hs′ → MendPrints form s text
+      by-mesh : ReadSound false s bs ss ts es hs a bs′ ss′ ts′ es′ hs′ → MendPrints form s text
       by-mesh p =
-          sound (p .mesh) (p .fits) (p .form)
+          sound (p .mesh) (p .fits) (p .admits) (p .form)
           (of-read (p .mesh) (p .fits) form room (record { bounds = p .bounds; sites = p .sites; triangles = p .triangles; halfedges = p .halfedges; hull = p .hull }) text
           (rw (p .answer, p .form) at q))
 
-      by-refusal : Refused s bs ss ts es hs a → MendPrints form s text
+      by-refusal : Refused false s bs ss ts es hs a → MendPrints form s text
       by-refusal p =
-          let e : text ≡ refusal refusedForm = rw (p .answer) at q in
-          rw e (broken (p .no-form))
+          let e : text ≡ refusal (p .number) = rw (p .answer) at q in
+          rw e (broken (p .first) (p .number-at))

@@ -1,10 +1,10 @@
 -- What a form's reader leaves in its lists is the mesh of the form, so what is printed by its answer is what is printed for its bytes.
 use mathlib.Core.Path.{_≡_}
+use mathlib.Core.Bool.{false}
 use mathlib.Core.List.{List}
 use mathlib.Core.Logic.{⊎-elim}
 use Prim.Native.Nat.{ℕ}
 use lib.Ieee.{Float}
-use Rattle.numbers.specs.Numbers.{refusedForm}
 use Rattle.octets.specs.Bytes.{Bytes}
 use Rattle.form_step.specs.Reader.{start, reading}
 use Rattle.form_step.specs.Holds.{ListRoom, Reads}
@@ -12,27 +12,27 @@ use Rattle.form.specs.Promise.{ReadSound, Refused, exact}
 use Rattle.form_step.specs.declared.Form.{Form}
 use Rattle.listing.specs.Listing.{refusal}
 use Rattle.printing.specs.laws.FormLists.{to-mesh}
-use Rattle.printing.specs.Printed.{Prints, sound, broken, ByForm, Texts}
+use Rattle.printing.specs.Printed.{Prints, sound, broken, ByForm, Text}
 
-module _ (t : Texts) where
+module _ (t : Text) where
   module _ (s : List ℕ) (bs ss : List Float) (ts es hs : List ℕ) (bs′ ss′ : List Float) (ts′ es′ hs′ : List ℕ) (text : List ℕ) (room : ListRoom bs ss ts es hs) where
-    by-mesh : {a : Form} → ReadSound s bs ss ts es hs a bs′ ss′ ts′ es′ hs′ → ByForm t a bs′ ss′ ts′ es′ hs′ text → Prints t s text
+    by-mesh : {a : Form} → ReadSound false s bs ss ts es hs a bs′ ss′ ts′ es′ hs′ → ByForm t a bs′ ss′ ts′ es′ hs′ text → Prints t s text
     by-mesh p q =
         sound (p .mesh) (p .fits) (p .form)
         (to-mesh t (p .mesh) (p .fits) bs ss ts es hs room bs′ ss′ ts′ es′ hs′
-        (record { bounds = p .bounds; sites = p .sites; triangles = p .triangles; halfedges = p .halfedges; hull = p .hull }) text (rw (p .answer) at q))
+        (record { bounds = p .bounds; sites = p .sites; triangles = p .triangles; halfedges = p .halfedges; hull = p .hull }) text (p .admits) (rw (p .answer) at q))
 
-    by-refusal : {a : Form} → Refused s bs ss ts es hs a → ByForm t a bs′ ss′ ts′ es′ hs′ text → Prints t s text
+    by-refusal : {a : Form} → Refused false s bs ss ts es hs a → ByForm t a bs′ ss′ ts′ es′ hs′ text → Prints t s text
     by-refusal p q =
-        let e : text ≡ refusal refusedForm = rw (p .answer) at q in
-        rw e (broken (p .no-form))
+        let e : text ≡ refusal (p .number) = rw (p .answer) at q in
+        rw e (broken (p .first) (p .number-at))
 
-    by-answer : {a : Form} → Bytes s → Reads s (reading start bs ss ts es hs) a bs′ ss′ ts′ es′ hs′ → ByForm t a bs′ ss′ ts′ es′ hs′ text → Prints t s text
-    by-answer {a} h r q = ⊎-elim (λ p. by-mesh p q) (λ p. by-refusal p q) (exact s bs ss ts es hs a bs′ ss′ ts′ es′ hs′ r h)
+    by-answer : {a : Form} → Bytes s → Reads s (reading (start false) bs ss ts es hs) a bs′ ss′ ts′ es′ hs′ → ByForm t a bs′ ss′ ts′ es′ hs′ text → Prints t s text
+    by-answer {a} h r q = ⊎-elim (λ p. by-mesh p q) (λ p. by-refusal p q) (exact false s bs ss ts es hs a bs′ ss′ ts′ es′ hs′ r h)
 
   pub printed :
       {s : List ℕ} {bs ss : List Float} {ts es hs : List ℕ} {a : Form} {bs′ ss′ : List Float} {ts′ es′ hs′ text : List ℕ}
-      → Reads s (reading start bs ss ts es hs) a bs′ ss′ ts′ es′ hs′
+      → Reads s (reading (start false) bs ss ts es hs) a bs′ ss′ ts′ es′ hs′
       → Bytes s
       → ListRoom bs ss ts es hs
       → ByForm t a bs′ ss′ ts′ es′ hs′ text

@@ -1,17 +1,14 @@
 -- A build that is not refused has a cell for each site and an owner for each corner: cells are only ever set.
-use mathlib.Core.Path.{_≡_, refl, _∙_}
+use mathlib.Core.Path.{_≡_, _∙_}
 use mathlib.Core.List.{List, []}
 use Prim.Native.Nat.{ℕ, zero, suc, _/_}
-use lib.Ieee.{Float}
-use lib.ListN.{length, getD, replicate, length-set, length-replicate}
+use lib.ListN.{length, getD, length-set, length-replicate}
 use Rattle.bounding_box.specs.Box.{cornersOf}
 use Rattle.bounding_box.specs.declared.BoundingBox.{BoundingBox}
 use Rattle.mesh.specs.Mesh.{leftmostOf, endOf}
 use Rattle.mesh.specs.Accepted.{Mesh, siteCount}
-use Rattle.definition.specs.laws.Lowest.{rings-length}
 use Rattle.definition.specs.laws.Gives.{Gives, gives-then, gives-next, picked}
 use Rattle.definition.specs.Build.{Built, CellState, Extensions, clipInto, isEmpty, clipHull, clipRest, clipAll, build}
-use Rattle.definition.specs.Unclipped.{unclipped}
 use Rattle.definition.specs.laws.Owners.{owners-length}
 
 pub record Whole (n : ℕ) (b : Built) : Type 0 where
@@ -53,9 +50,3 @@ whole-in-box m b =
     gives-next (Whole n) _ _ λ x.
     gives-then (Wide n) (Whole n) _ _ (all-cells b (length (m .triangles) / 3) n (m .triangles) (m .halfedges) (m .hull) left _ x)
     (λ s w. record { cells = w; owners = owners-length (m .sites) (m .triangles) (m .halfedges) left n (getD (m .hull) 0 0) (cornersOf b) })
-
-pub whole-without-box : (sites : List Float) (tri he : List ℕ) → Gives (Whole (siteCount sites)) (unclipped sites tri he)
-unfolding unclipped
-whole-without-box sites tri he =
-    gives-next (Whole (siteCount sites)) _ _ λ c.
-    record { cells = rings-length tri he (length tri) 0 (replicate (siteCount sites) []) ∙ length-replicate (siteCount sites) []; owners = refl }

@@ -1,7 +1,7 @@
 -- `reader::answered` meets its contract: the number is small, so that nothing of it is lost.
 use native.Mathlib.Omega.{arith}
 use borrow.Author.Tests.{ne-eqb, eq-eqb}
-use Rattle.reader.specs.laws.Calls.{refusal-small}
+use Rattle.form_step.specs.laws.Standing.{refusal-small}
 use Rattle.reader.specs.Calls.{answerOf}
 use Rattle.reader.proofs.answered.Statement.{statement}
 use Rattle.reader.proofs.answered.Tie as tie

@@ -1,4 +1,5 @@
 -- `reader::read_all` meets its contract: the start takes the bytes, and is finished and report.
+use mathlib.Core.Bool.{false}
 use mathlib.Core.Path.{ap, _∙_}
 use denote.Ref.{now}
 use Rattle.form_step.specs.Reader.{reading, takes}
@@ -10,7 +11,8 @@ use Rattle.reader.proofs.read_all.Statement.{statement}
 use Rattle.reader.proofs.read_all.Tie as tie
 
 feed-requires : tie.Need-feed-requires
-feed-requires c κs = (rw (c .before .before .before .before .before .start .ensures) ok-start, c .before .before .before .before .before .before .before .before .before .before .before .before .pre)
+feed-requires c κs =
+    (rw (c .before .before .before .before .before .start .ensures) (ok-start false), c .before .before .before .before .before .before .before .before .before .before .before .before .pre)
 
 reported-requires : tie.Need-reported-requires
 reported-requires c κs = rw (c .finished .ensures) (ok-finished _ (c .before .before .before .before .before .before .before .before .before .before .before .feed .ensures .1))

@@ -2,9 +2,7 @@
 use mathlib.Core.Path.{_≡_, refl, sym, ap, _∙_}
 use mathlib.Core.Bool.{true, false}
 use mathlib.Core.List.{List, [], _∷_}
-use mathlib.Core.Logic.{⊎-elim}
-use Prim.Native.Nat.{ℕ, _≤_}
-use native.Mathlib.Omega.{arith}
+use Prim.Native.Nat.{ℕ}
 use lib.Dec.{ltb}
 use lib.ListN.{length}
 use Rattle.form_step.specs.Reader.{Reading, broken, start, takes}
@@ -14,6 +12,7 @@ use Rattle.form.specs.laws.Run.{takes-reader}
 use Rattle.form.specs.laws.Fill.{take-broken}
 use Rattle.form_step.specs.declared.Reader.{Reader}
 use Rattle.reader_state.specs.Stands.{entered}
+use Rattle.reader_state.specs.Kept.{New, new-steps}
 use Rattle.reader.specs.Calls.{FormLists, readingOf, roomy, noRefusal, refusedAt, answerOf, soundReport, refusedReport, reportOf, noRoom, noReport}
 use Rattle.reader.specs.Calls.{fed, fedBy, feedCall, endedBy, endCall, readForm, readBy, readCall}
 
@@ -34,7 +33,7 @@ pub end-wide : (ws : List ℕ) → ltb (length ws) 16 ≡ false → endCall ws �
 unfolding endCall
 end-wide ws e = rw e
 
-pub read-wide : (l : FormLists) (s : List ℕ) → roomy l ≡ true → readCall l s ≡ readBy (takes (readingOf start l) s)
+pub read-wide : (l : FormLists) (s : List ℕ) → roomy l ≡ true → readCall l s ≡ readBy (takes (readingOf (start false) l) s)
 unfolding readCall
 read-wide l s e = rw e
 
@@ -70,5 +69,6 @@ pub report-refused : (r : Reader) → broken r ≡ true → reportOf r ≡ refus
 unfolding reportOf
 report-refused r e = rw e
 
-pub refusal-small : {r : Reader} → Ok r → r .refusal ≤ 17
-refusal-small o = ⊎-elim (λ e. omega arith) (λ e. omega arith) (o .refusal)
+-- the same of the flag
+pub new-takes : (s : List ℕ) (d : Reading) → New (d .reader) → New (takes d s .reader)
+new-takes s d o = rw (takes-reader s d) (new-steps s (d .reader) o)

@@ -80,6 +80,7 @@ last-is n t h a b c = go (eqb h 0) (eqb t 0) (eqb n 0) refl refl refl
 abbrev pub beforeKind : Reader → Reader
 beforeKind r =
     record {
+      old = r .old;
       stage = last (r .sites) (r .triangles) (r .hull);
       left = 0;
       word = r .word;
@@ -120,6 +121,7 @@ module _ {r : Reader} (o : Ok r) (d : r .stage ≢ 0) (d₁ : r .stage ≢ 1) (h
           let i : bodies (beforeKind r) - 0 ≡ bodies r - r .left = omega (arith, before-bodies) in
           record {
             refusal = inl refl;
+            by-name = λ q. absurd (omega arith);
             stage = omega (arith, l .high);
             no-clip = λ q. absurd (omega (arith, l .low));
             clip = λ q. o .clip d;
@@ -173,7 +175,7 @@ module _ {r : Reader} (o : Ok r) (f : r .refusal ≡ 0) (h : r .left ≡ bodyOf 
         leads =
             outside-step (beforeKind r) 2 refl refl
             (kind-follows (beforeKind r) 2 (l .low) (last-low 2 l (inr g) (inr t) (omega arith)) (lt-ltb (r .sites) 96 (omega (arith, o .sites .few, u₂))))
-            ∙ same-state (begun (beforeKind r) 2) r (sym e) (sym z) refl (omega (arith, at-first o d)) (sym f) refl refl refl refl;
+            ∙ same-state (begun (beforeKind r) 2) r refl (sym e) (sym z) refl (omega (arith, at-first o d)) (sym f) refl refl refl refl;
       }
 
   before-triangle : r .stage ≡ 3 → KindBefore r
@@ -195,7 +197,7 @@ module _ {r : Reader} (o : Ok r) (f : r .refusal ≡ 0) (h : r .left ≡ bodyOf 
         leads =
             outside-step (beforeKind r) 3 refl refl
             (kind-follows (beforeKind r) 3 (l .low) (last-low 3 l (inr g) (inl (omega arith)) (omega arith)) (lt-ltb (r .triangles) 192 (omega (arith, o .triangles .few, u₃))))
-            ∙ same-state (begun (beforeKind r) 3) r (sym e) (sym z) refl (omega (arith, at-first o d)) (sym f) refl refl refl refl;
+            ∙ same-state (begun (beforeKind r) 3) r refl (sym e) (sym z) refl (omega (arith, at-first o d)) (sym f) refl refl refl refl;
       }
 
   before-hull : r .stage ≡ 4 → KindBefore r
@@ -215,7 +217,7 @@ module _ {r : Reader} (o : Ok r) (f : r .refusal ≡ 0) (h : r .left ≡ bodyOf 
             ok-before o d d₁ h 4 4 e z (omega (arith, bodies-are r, u₂, u₃, u₄)) (omega (arith, kinds-between r d (λ q. omega arith), u₂, u₃, u₄));
         leads =
             outside-step (beforeKind r) 4 refl refl (kind-follows (beforeKind r) 4 (l .low) (l .high) (lt-ltb (r .hull) 96 (omega (arith, o .hull .few, u₄))))
-            ∙ same-state (begun (beforeKind r) 4) r (sym e) (sym z) refl (omega (arith, at-first o d)) (sym f) refl refl refl refl;
+            ∙ same-state (begun (beforeKind r) 4) r refl (sym e) (sym z) refl (omega (arith, at-first o d)) (sym f) refl refl refl refl;
       }
 
   before-end : r .stage ≡ 5 → KindBefore r
@@ -234,7 +236,7 @@ module _ {r : Reader} (o : Ok r) (f : r .refusal ≡ 0) (h : r .left ≡ bodyOf 
         ok = ok-before o d d₁ h 5 0 e z (omega (arith, bodies-are r, u₂, u₃, u₄)) (omega (arith, kinds-last r e, u₂, u₃, u₄));
         leads =
             outside-step (beforeKind r) 5 refl refl (kind-follows (beforeKind r) 5 (l .low) (omega (arith, l .high)) (lt-ltb (beforeKind r .stage) 5 (omega (arith, l .high))))
-            ∙ same-state (begun (beforeKind r) 5) r (sym e) (sym z) refl (omega (arith, at-first o d)) (sym f) refl refl refl refl;
+            ∙ same-state (begun (beforeKind r) 5) r refl (sym e) (sym z) refl (omega (arith, at-first o d)) (sym f) refl refl refl refl;
       }
 
   pub any-before : r .stage ≢ 0 → r .stage ≢ 1 → KindBefore r

@@ -17,10 +17,10 @@ use Rattle.form_step.specs.declared.Reader.{Reader}
 
 -- two states with the same numbers
 pub same-state :
-    (r n : Reader) → r .stage ≡ n .stage → r .left ≡ n .left → r .word ≡ n .word → r .at ≡ n .at → r .refusal ≡ n .refusal → r .clip ≡ n .clip
+    (r n : Reader) → r .old ≡ n .old → r .stage ≡ n .stage → r .left ≡ n .left → r .word ≡ n .word → r .at ≡ n .at → r .refusal ≡ n .refusal → r .clip ≡ n .clip
     → r .sites ≡ n .sites → r .triangles ≡ n .triangles → r .hull ≡ n .hull → r ≡ n
-same-state r n a b c d e f g h k =
-    λ i. record { stage = a i; left = b i; word = c i; at = d i; refusal = e i; clip = f i; sites = g i; triangles = h i; hull = k i }
+same-state r n o a b c d e f g h k =
+    λ i. record { old = o i; stage = a i; left = b i; word = c i; at = d i; refusal = e i; clip = f i; sites = g i; triangles = h i; hull = k i }
 
 -- ---- what the numbers are
 
@@ -52,6 +52,7 @@ wholeAdded r k = pick (eqb (r .stage) k) (λ _. pick (eqb (r .left) 0) (λ _. 1)
 abbrev pub earlier : Reader → Reader
 earlier r =
     record {
+      old = r .old;
       stage = r .stage;
       left = r .left + 1;
       word = r .word % 2 ^ 56 * 256;
@@ -169,6 +170,7 @@ module _ {r : Reader} (o : Ok r) (d : r .stage ≢ 0) (h : r .left < bodyOf r) w
       let w = low-earlier (r .word) (bodies (earlier r) - (r .left + 1)) (subst (λ (n : ℕ). r .word % 256 ^ (8 - n) ≡ 0) (sym e) (o .word)) in
       record {
         refusal = inl refl;
+        by-name = λ q. absurd (omega arith);
         stage = o .stage;
         no-clip = o .no-clip;
         clip = o .clip;
@@ -185,7 +187,7 @@ module _ {r : Reader} (o : Ok r) (d : r .stage ≢ 0) (h : r .left < bodyOf r) w
   inside-back : r .refusal ≡ 0 → inside (earlier r) (r .word / 2 ^ 56) ≡ r
   unfolding inside
   inside-back f =
-      same-state (inside (earlier r) (r .word / 2 ^ 56)) r refl (omega arith) (omega arith) (omega (arith, at-first o d)) (sym f) refl (in-sites .1) (in-triangles .1) (in-hulls .1)
+      same-state (inside (earlier r) (r .word / 2 ^ 56)) r refl refl (omega arith) (omega arith) (omega (arith, at-first o d)) (sym f) refl (in-sites .1) (in-triangles .1) (in-hulls .1)
 
   pub earlier-step : r .refusal ≡ 0 → step (earlier r) (r .word / 2 ^ 56) ≡ r
   earlier-step f = step-inside (earlier r) (r .word / 2 ^ 56) refl (omega arith) ∙ inside-back f

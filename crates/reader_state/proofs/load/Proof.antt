@@ -4,7 +4,9 @@ use mathlib.Core.Bool.{true, false}
 use denote.Ref.{now}
 use lib.ListN.{take, drop}
 use Rattle.form_step.specs.Reader.{refused}
+use Rattle.numbers.specs.Numbers.{refusedForm}
 use Rattle.form_step.specs.Standing.{Ok}
+use Rattle.form_step.specs.declared.Reader.{Reader}
 use Rattle.reader_state.specs.Words.{readerOf}
 use Rattle.reader_state.specs.Stands.{both, stands, blank}
 use Rattle.reader_state.specs.Kept.{entered-right, entered-wrong, ok-entered}
@@ -30,11 +32,11 @@ returns-2 c =
     sym (c .before .before .before .both .ensures ∙ ap₂ both (c .before .before .before .before .before .blank .ensures)
     (c .before .before .before .before .stands .ensures ∙ ap stands h)) ∙ c .before .before .if1 .left
     in
-    let i = c .refused .ensures ∙ ap refused (c .before .start .ensures) ∙ sym (entered-wrong ws e) in
+    let i = c .refused .ensures ∙ ap (λ (r : Reader). refused r refusedForm) (c .before .start .ensures) ∙ sym (entered-wrong ws e) in
     (i, subst Ok (sym i) (ok-entered ws))
 
 pub load-spec : {M : Type 1} → statement M
 load-spec =
     tie.close
     (tie.spec (λ c κs. search needs) (λ c. search needs) (λ c. search needs) (λ c. search needs) (λ c κs. search needs) (λ c κs. search needs) (λ c κs. search needs) returns
-    (λ c κs. search needs) (λ c κs. search needs) returns-2)
+    (λ c κs. search needs) (λ c. search needs) (λ c κs. search needs) returns-2)

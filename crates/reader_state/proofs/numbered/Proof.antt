@@ -11,7 +11,15 @@ returns c = rw (c .if1 .taken)
 
 returns-2 : tie.Need-returns-2
 unfolding numbered
-returns-2 c = rw (ne-eqb _ _ (c .if1 .left))
+returns-2 c = rw (ne-eqb _ _ (c .before .if1 .left), ne-eqb _ _ (c .if2 .taken))
+
+returns-3 : tie.Need-returns-3
+unfolding numbered
+returns-3 c = rw (ne-eqb _ _ (c .before .before .if1 .left), c .before .if2 .left, ne-eqb _ _ (c .if3 .taken))
+
+returns-4 : tie.Need-returns-4
+unfolding numbered
+returns-4 c = rw (ne-eqb _ _ (c .before .before .if1 .left), c .before .if2 .left, c .if3 .left)
 
 pub numbered-spec : {M : Type 1} → statement M
-numbered-spec = tie.close (tie.spec returns (λ c. search needs) returns-2)
+numbered-spec = tie.close (tie.spec returns (λ c. search needs) (λ c. search needs) returns-2 returns-3 returns-4)

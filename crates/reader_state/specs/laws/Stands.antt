@@ -9,9 +9,9 @@ use lib.Dec.{eqb, ltb}
 use borrow.Author.Tests.{eqb-true, eqb-false, ne-eqb, eq-eqb, ltb-true, ltb-false, lt-ltb, le-ltb}
 use Rattle.laws.specs.Pick.{pick}
 use Rattle.laws.specs.laws.Decide.{eq-or-ne, lt-or-ge}
-use Rattle.numbers.specs.Numbers.{refusedForm}
+use Rattle.numbers.specs.Numbers.{refusedForm, refusedUnclipped}
 use Rattle.form_step.specs.Reader.{opens}
-use Rattle.form_step.specs.Standing.{sitesBegun, trianglesBegun, bodyOf, kinds, bodies, CountAt, Ok}
+use Rattle.form_step.specs.Standing.{sitesBegun, trianglesBegun, bodyOf, kinds, bodies, CountAt, IsNumber, Ok}
 use Rattle.form_step.specs.laws.Steps.{by-test}
 use Rattle.form_step.specs.laws.Standing.{at-small, few-counts, left-small}
 use Rattle.form_step.specs.declared.Reader.{Reader}
@@ -66,23 +66,31 @@ few-true : (r : Reader) → WithinForm r → few r ≡ true
 unfolding few
 few-true r f = rw (le-ltb _ _ (f .stage), le-ltb _ _ (f .sites), le-ltb _ _ (f .triangles), le-ltb _ _ (f .hull), le-ltb _ _ (f .left), lt-ltb _ _ (f .at))
 
-numbered-told : (n : ℕ) → numbered n ≡ true → (n ≡ 0) ⊎ (n ≡ refusedForm)
+numbered-told : (n s l : ℕ) → numbered n s l ≡ true → ((n ≡ 0) ⊎ IsNumber n) × (n ≡ refusedUnclipped → (l ≡ 0) × (s < 5))
 unfolding numbered
-numbered-told n e = ⊎-elim (λ w. inl (eqb-true _ _ (w .0))) (λ w. inr (eqb-true _ _ (w .1))) (by-test (eqb n 0) true (eqb n refusedForm) e)
+numbered-told n s l e =
+    ⊎-elim (λ w. let z = eqb-true n 0 (w .0) in (inl z, λ q. absurd (omega arith)))
+    (λ w. ⊎-elim
+    (λ v. (inr (inr (eqb-true _ _ (v .0))), λ q. (eqb-true _ _ (both-left (eqb l 0) (ltb s 5) (v .1)), ltb-true _ _ (both-right (eqb l 0) (ltb s 5) (v .1)))))
+    (λ v. (inr (inl (eqb-true _ _ (v .1))), λ q. absurd (eqb-false _ _ (v .0) q)))
+    (by-test (eqb n refusedUnclipped) (both (eqb l 0) (ltb s 5)) (eqb n refusedForm) (w .1)))
+    (by-test (eqb n 0) true _ e)
 
-numbered-true : (n : ℕ) → (n ≡ 0) ⊎ (n ≡ refusedForm) → numbered n ≡ true
+numbered-true : (n s l : ℕ) → (n ≡ 0) ⊎ IsNumber n → (n ≡ refusedUnclipped → (l ≡ 0) × (s < 5)) → numbered n s l ≡ true
 unfolding numbered
-numbered-true n w = ⊎-elim (λ e. rw e) (λ e. rw e) w
+numbered-true n s l (inl e) f = rw e
+numbered-true n s l (inr (inl e)) f = rw e
+numbered-true n s l (inr (inr e)) f = let (z, h) = f e in rw (e, z, lt-ltb s 5 h)
 
-opened-told : (s c : ℕ) → opened s c ≡ true → (s ≡ 0 → c ≡ 0) × (s ≢ 0 → opens c ≡ true)
+opened-told : (old : Bool) (s c : ℕ) → opened old s c ≡ true → (s ≡ 0 → c ≡ 0) × (s ≢ 0 → opens old c ≡ true)
 unfolding opened
-opened-told s c e =
+opened-told old s c e =
     ⊎-elim (λ w. (λ z. eqb-true _ _ (w .1), λ d. absurd (d (eqb-true _ _ (w .0))))) (λ w. (λ z. absurd (eqb-false _ _ (w .0) z), λ d. w .1))
-    (by-test (eqb s 0) (eqb c 0) (opens c) e)
+    (by-test (eqb s 0) (eqb c 0) (opens old c) e)
 
-opened-true : (s c : ℕ) → (s ≡ 0 → c ≡ 0) → (s ≢ 0 → opens c ≡ true) → opened s c ≡ true
+opened-true : (old : Bool) (s c : ℕ) → (s ≡ 0 → c ≡ 0) → (s ≢ 0 → opens old c ≡ true) → opened old s c ≡ true
 unfolding opened
-opened-true s c f g = ⊎-elim (λ z. let e = f z in rw (z, e)) (λ d. rw (ne-eqb s 0 d) (g d)) (eq-or-ne s 0)
+opened-true old s c f g = ⊎-elim (λ z. let e = f z in rw (z, e)) (λ d. rw (ne-eqb s 0 d) (g d)) (eq-or-ne s 0)
 
 count-told : (s k n l : ℕ) → countAt s k n l ≡ true → CountAt s k n l
 unfolding countAt
@@ -144,16 +152,18 @@ unfolding stands given counted
 stands-ok r e =
     let f = few-told r (both-left (few r) (given r) e) in
     let g = both-right (few r) (given r) e in
-    let h = both-left (both (numbered (r .refusal)) (opened (r .stage) (r .clip))) _ g in
-    let i = both-right (both (numbered (r .refusal)) (opened (r .stage) (r .clip))) _ g in
+    let h = both-left (both (numbered (r .refusal) (r .stage) (r .left)) (opened (r .old) (r .stage) (r .clip))) _ g in
+    let i = both-right (both (numbered (r .refusal) (r .stage) (r .left)) (opened (r .old) (r .stage) (r .clip))) _ g in
     let c = both-left (counted r) _ i in
     let j = both-right (counted r) _ i in
     let k = both-right (countAt (r .stage) 2 (sitesBegun r) 96) _ c in
     let p = placed-told r (both-left (placed r) _ j) in
     let w = registered-told (r .word) (bodies r - r .left) (both-right (placed r) _ j) in
-    let o = opened-told (r .stage) (r .clip) (both-right (numbered (r .refusal)) _ h) in
+    let n = numbered-told (r .refusal) (r .stage) (r .left) (both-left (numbered (r .refusal) (r .stage) (r .left)) _ h) in
+    let o = opened-told (r .old) (r .stage) (r .clip) (both-right (numbered (r .refusal) (r .stage) (r .left)) _ h) in
     record {
-      refusal = numbered-told (r .refusal) (both-left (numbered (r .refusal)) _ h);
+      refusal = n .0;
+      by-name = n .1;
       stage = f .stage;
       no-clip = o .0;
       clip = o .1;
@@ -172,6 +182,6 @@ ok-stands r o =
     let n = few-counts o in
     let f = few-true r (record { stage = o .stage; sites = n .0; triangles = n .1; hull = n .2; left = left-small o; at = omega (arith, at-small o) }) in
     both-true _ _ f
-    (both-true _ _ (both-true _ _ (numbered-true (r .refusal) (o .refusal)) (opened-true (r .stage) (r .clip) (o .no-clip) (o .clip)))
+    (both-true _ _ (both-true _ _ (numbered-true (r .refusal) (r .stage) (r .left) (o .refusal) (o .by-name)) (opened-true (r .old) (r .stage) (r .clip) (o .no-clip) (o .clip)))
     (both-true _ _ (both-true _ _ (count-true _ _ _ _ (o .sites)) (both-true _ _ (count-true _ _ _ _ (o .triangles)) (count-true _ _ _ _ (o .hull))))
     (both-true _ _ (placed-true r (o .left) (o .at)) (registered-true (r .word) (bodies r - r .left) (o .no-word) (o .word)))))

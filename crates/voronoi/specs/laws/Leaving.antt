@@ -4,7 +4,7 @@ use mathlib.Core.Bool.{true}
 use mathlib.Core.List.{List, []}
 use mathlib.Core.Logic.{_↔_}
 use Prim.Native.Nat.{ℕ, suc, _<_}
-use lib.ListN.{length, getD, take}
+use lib.ListN.{length, take}
 use Rattle.given_box.specs.Finite.{Fits}
 use Rattle.given_box.specs.declared.Given.{Given}
 use Rattle.mesh.specs.Mesh.{Used}
@@ -12,19 +12,18 @@ use Rattle.mesh.specs.Accepted.{Mesh, tableOf, siteCount}
 use Rattle.definition.specs.declared.Fault.{Fault}
 use Rattle.definition.specs.Fault.{Outcome, ok}
 use Rattle.definition.specs.Build.{Built, build}
-use Rattle.definition.specs.Unclipped.{unclipped}
 use Rattle.definition.specs.laws.Gives.{gives-ok}
-use Rattle.definition.specs.laws.VerticesFinite.{Each, FinitePoint, vertices-finite, centres-finite}
-use Rattle.definition.specs.laws.CellCount.{cell-count, ring-count}
-use Rattle.definition.specs.laws.EmptyCell.{empty-cell, empty-ring}
+use Rattle.definition.specs.laws.VerticesFinite.{Each, FinitePoint, vertices-finite}
+use Rattle.definition.specs.laws.CellCount.{cell-count}
+use Rattle.definition.specs.laws.EmptyCell.{empty-cell}
 use Rattle.definition.specs.Cell.{unmarked}
 use Rattle.build_answers.specs.Promise.{BuildAnswer}
 use Rattle.admission.specs.Slices.{Slices}
-use Rattle.definition.specs.LateRefusals.{build-late, unclipped-late}
+use Rattle.definition.specs.LateRefusals.{build-late}
 use Rattle.admission.specs.laws.Asks.{box-answers}
 use Rattle.build_answers.specs.Success.{zero-succeeds, succeeds-zero}
 use Rattle.build_answers.specs.laws.Left.{left-work, left-vertices, left-indexes, left-offsets, left-counts, slice-finite, read-part, read-place}
-use Rattle.voronoi.specs.Builds.{Build, BuildUnclipped, CellPart}
+use Rattle.voronoi.specs.Builds.{Build, CellPart}
 use Rattle.voronoi.specs.Leaves.{BuildAllowed, BuildLeaves}
 
 leaves : {N : ℕ → Type 0} {table : List ℕ} {o : Outcome Fault Built} {old new : Slices} (n : ℕ) (b : Built) → o ≡ ok b → BuildAnswer N table o old new 0
@@ -70,25 +69,3 @@ module _ (m : Mesh) {old new : Slices} where
         let x = build-leaves fits a in
         let t = zero-succeeds (box-answers (g .sound)) (build-late m (g .bounds)) a refl in
         x .cell-part s l p .1 ∙ ap unmarked (empty-cell (t .admission .accepted) s none (fits .bounded (t .admission .fit .0)) (x .is) l)
-
-  -- ---- without one
-  pub unclipped-answers : {r : ℕ} → BuildUnclipped m old new r → (r ≡ 0) ↔ BuildAllowed m (Unit {0}) (unclipped (m .sites) (m .triangles) (m .halfedges)) old
-  unclipped-answers a = (
-    λ z. let s = zero-succeeds {own = []} tt (unclipped-late (m .sites) (m .triangles) (m .halfedges)) a z in
-        record { mesh = s .admission .accepted; room = s .admission .roomed; in-box = tt; value = s .outcome },
-    λ x. succeeds-zero {own = []} tt (record { admission = record { accepted = x .mesh; roomed = x .room; fit = tt }; outcome = x .value }) a,
-  )
-
-  pub unclipped-leaves : BuildUnclipped m old new 0 → BuildLeaves (siteCount (m .sites)) (tableOf m) (unclipped (m .sites) (m .triangles) (m .halfedges)) old new
-  unclipped-leaves a =
-      let s = zero-succeeds {own = []} tt (unclipped-late (m .sites) (m .triangles) (m .halfedges)) a refl in
-      let is = s .outcome .is in
-      let fine = gives-ok (λ (r : Built). Each FinitePoint (r .verts)) (centres-finite (m .sites) (m .triangles) (m .halfedges)) is in
-      leaves (siteCount (m .sites)) (s .outcome .value) is a fine (gives-ok (λ (r : Built). length (r .cells) ≡ siteCount (m .sites)) (ring-count (m .sites) (m .triangles) (m .halfedges)) is)
-
-  pub unclipped-empty : (s : ℕ) {part : List ℕ} {r : ℕ} → BuildUnclipped m old new 0 → s < siteCount (m .sites) → (Used (m .triangles) s → ⊥)
-      → CellPart (take (suc (siteCount (m .sites))) (new .offsets)) (new .indexes) s part r → part ≡ []
-  unclipped-empty s a l none p =
-      let x = unclipped-leaves a in
-      let t = zero-succeeds {own = []} tt (unclipped-late (m .sites) (m .triangles) (m .halfedges)) a refl in
-      x .cell-part s l p .1 ∙ ap unmarked (gives-ok (λ (r : Built). getD (r .cells) s [] ≡ []) (empty-ring (t .admission .accepted) s none) (x .is))

@@ -1,15 +1,15 @@
 -- `why::of_form`: the counts of a sound form are within its limits, so its parts lie within the lists.
-use mathlib.Core.Path.{sym}
+use mathlib.Core.Path.{sym, ap, _∙_}
 use native.Mathlib.Omega.{arith}
 use lib.ListN.{length-take}
 use lib.Seq.{length-take-le}
+use Rattle.reasons.specs.declared.Reason.the-variants.{Number}
 use borrow.Author.Needs.{needs}
 use Rattle.why.proofs.of_form.Statement.{statement}
 use Rattle.why.proofs.of_form.Tie as tie
 
 returns : tie.Need-returns
-returns c =
-    rw (c .enum-told .given .1)
+returns c = rw (c .before .enum-told .given .1) (ap Number (c .number-of .ensures ∙ rw (c .before .enum-told .given .1)))
 
 mul-coordinates : tie.Need-mul-coordinates
 mul-coordinates c =
@@ -70,6 +70,6 @@ returns-2 c =
 pub of-form-spec : {M : Type 1} → statement M
 of-form-spec =
     tie.close
-    (tie.spec (λ c. search needs) (λ c. search needs) returns mul-coordinates mul-entries
+    (tie.spec (λ c. search needs) (λ c. search needs) (λ c κs. search needs) returns mul-coordinates mul-entries
     slice-aggregate-of-mesh slice-aggregate-of-mesh-2 slice-aggregate-of-mesh-3 slice-aggregate-of-mesh-4
     of-mesh-requires returns-2)

@@ -21,9 +21,9 @@ use Rattle.reasons.specs.declared.Reason.{Reason}
 use Rattle.reasons.specs.declared.Reason.the-variants.{Number}
 use Rattle.reasons.specs.Reason.{ofMesh}
 use Rattle.reasons.specs.Rules.{buildRules, answered, ReasonFor}
-use Rattle.explaining.specs.Promise.{WhyAnswer, ClippedWhy, UnclippedWhy}
+use Rattle.explaining.specs.Promise.{WhyAnswer, ClippedWhy}
 use Rattle.printing.specs.laws.BuildText.{ProgramSlices}
-use Rattle.why.specs.Printed.{WhyInBox, WhyWithoutBox}
+use Rattle.why.specs.Printed.{WhyInBox}
 use Rattle.why.specs.Steps.{Sized}
 
 -- the second rule of a list is kept, in one wording and in another
@@ -53,6 +53,3 @@ module _ (m : Mesh) (old : Slices) (long : ProgramSlices old) (sized : Sized (le
 
   pub in-box : (g : Given) (q : Question) {new : Slices} {r : Reason} → ClippedWhy m g q old new r → WhyInBox m g q r
   in-box g q a = with-room a
-
-  pub without-box : (q : Question) {new : Slices} {r : Reason} → UnclippedWhy m q old new r → WhyWithoutBox m q r
-  without-box q a = with-room a
