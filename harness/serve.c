@@ -136,6 +136,11 @@ static void why_by_edges(argument *a)
 }
 #endif
 
+#ifdef HAS_gauges
+static void read_multipoint(argument *a) { N(0) = voronoi_read_multipoint(C(1), F(2), PU(3)); }
+static void write_multipoint(argument *a) { N(0) = voronoi_write_multipoint(F(1), C(2), PS(3)); }
+#endif
+
 static const struct {
     const char *name;
     void (*call)(argument *);
@@ -173,6 +178,9 @@ static const struct {
     {"is_exclusively_inside_by_edges", is_exclusively_inside_by_edges}, {"which_edge_by_edges", which_edge_by_edges},
     {"intersect_line_by_edges", intersect_line_by_edges}, {"project_ray_by_edges", project_ray_by_edges},
     {"build_by_edges", build_by_edges}, {"why_by_edges", why_by_edges},
+#endif
+#ifdef HAS_gauges
+    {"read_multipoint", read_multipoint}, {"write_multipoint", write_multipoint},
 #endif
 };
 

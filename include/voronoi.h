@@ -41,9 +41,9 @@ extern "C" {
 
 /* ---- the version (the file VERSION; CHANGELOG.md says what changed) */
 
-#define VORONOI_VERSION "0.9.0"
+#define VORONOI_VERSION "0.10.0"
 #define VORONOI_VERSION_MAJOR 0
-#define VORONOI_VERSION_MINOR 9
+#define VORONOI_VERSION_MINOR 10
 #define VORONOI_VERSION_PATCH 0
 
 /* ---- numbers */
@@ -68,6 +68,9 @@ extern "C" {
 /* What the polygon of a cell of n entries takes in bytes. */
 #define VORONOI_WKB_ROOM(n) ((n) < 3 ? 9 : 29 + 16 * (size_t)(n))
 
+/* What a MultiPoint of n sites takes in bytes. */
+#define VORONOI_MULTIPOINT_ROOM(n) (9 + 21 * (size_t)(n))
+
 /* What mending must be lent, for T triangles and N sites: pairs, hull, changes (three numbers each), and VORONOI_WORK_ROOM. */
 #define VORONOI_PAIR_ROOM(T) (3 * (size_t)(T))
 #define VORONOI_MENDED_ROOM(N) ((size_t)(N))
@@ -88,7 +91,7 @@ extern "C" {
 #define VORONOI_COUNT_LOST 5
 #define VORONOI_COUNTS 6
 
-/* ---- refusals, in the order in which they are tried (16 after 10, 17 first, 18 before 2, 19 after 7); docs/RULES.md says of each what to do about it */
+/* ---- refusals, in the order in which they are tried (16 after 10, 17 first, 18 before 2, 19 after 7, 21 first); docs/RULES.md says of each what to do about it */
 
 #define VORONOI_ACCEPTED 0
 #define VORONOI_REFUSED_COUNT 1         /* a count breaks its limit, an odd site list, triangles not in threes, half-edges not as many */
@@ -111,6 +114,7 @@ extern "C" {
 #define VORONOI_REFUSED_ENTRY 18        /* an entry of the cell names no vertex */
 #define VORONOI_REFUSED_TWICE 19        /* an ordered pair of sites has two half-edges (voronoi_mend alone) */
 #define VORONOI_REFUSED_UNCLIPPED 20    /* the form has no box, kind 6: that mode is gone (where a form is read) */
+#define VORONOI_REFUSED_POINTS 21       /* the bytes are no MultiPoint (voronoi_read_multipoint alone) */
 
 /* A sentence for each number, with no full stop; "no such number" for any other. It is never NULL. */
 static inline const char *voronoi_words(uint32_t number)
@@ -136,6 +140,7 @@ static inline const char *voronoi_words(uint32_t number)
     case VORONOI_REFUSED_ENTRY: return "a cell names a vertex that is not there";
     case VORONOI_REFUSED_TWICE: return "two half-edges run the same way between the same two sites";
     case VORONOI_REFUSED_UNCLIPPED: return "the form has no box: the unclipped mode is gone";
+    case VORONOI_REFUSED_POINTS: return "the file is no MultiPoint in Well-Known Binary: a wrong mark or type, an early end, or bytes left over";
     default: return "no such number";
     }
 }
@@ -398,6 +403,17 @@ uint32_t voronoi_read_form(const uint8_t *form, size_t form_len, double *box, si
                            uint32_t *triangles, size_t triangles_len, uint32_t *halfedges, size_t halfedges_len, uint32_t *hull,
                            size_t hull_len, uint32_t *clip, uint32_t *site_count, uint32_t *triangle_count, uint32_t *hull_count,
                            uint64_t *at);
+
+/* ---- gauges from files: MultiPoints in Well-Known Binary (OGC 06-103r4, 8.2)
+ * A mark (0 big-endian, 1 little-endian), type 4, a count; then so many points, each with its own mark, type 1, x and y in its own order;
+ * nothing after. Types with Z, M or an SRID are none of these. Both calls cost a pass over the bytes for each rule.
+ * Reading tries 21 over the whole file, 1 (3 to 65,536 points), 2 (two numbers a site), 6. After 0 `sites` holds x and y of each point in
+ * file order, bits untouched, then +0; refused, what it held. *count: the points, 0 when refused. */
+uint32_t voronoi_read_multipoint(const uint8_t *file, size_t file_len, double *sites, size_t sites_len, uint32_t *count);
+
+/* Writing is little-endian throughout and tries 1 (an odd length too), 2, 6. `out` past the file is as it was, and all of it when refused.
+ * *written: VORONOI_MULTIPOINT_ROOM(sites_len / 2), 0 when refused. What is written is read as the same sites, to the bit. */
+uint32_t voronoi_write_multipoint(const double *sites, size_t sites_len, uint8_t *out, size_t out_len, size_t *written);
 
 #ifdef __cplusplus
 }

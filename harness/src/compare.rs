@@ -3,6 +3,7 @@
 use crate::cases::Case;
 use crate::edges;
 use crate::expect::{self, Beside, Facts, Slices};
+use crate::gauges;
 use crate::library::{Call, Difference, Library};
 use crate::maps;
 use crate::mesh::{Area, Mesh, Pt, EMPTY};
@@ -83,6 +84,7 @@ fn ask(index: u64, c: &Case, calls: &mut Vec<Call>, tally: &mut Tally) -> Told {
     };
     let vertices = built.map(|b| &b.vertices[..]);
     maps::ask(index, c, &cells, vertices, calls, tally);
+    gauges::ask(index, calls, tally);
     let diagram = lent.as_ref().map(|l| rust::diagram(l, &cells));
     walks(c, &facts, &cells, diagram.as_ref(), calls, tally)?;
     cell_questions(c, &cells, diagram.as_ref(), calls, tally)

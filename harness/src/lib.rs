@@ -6,6 +6,7 @@ pub mod compare;
 pub mod edges;
 pub mod expect;
 pub mod form;
+pub mod gauges;
 pub mod generate;
 pub mod library;
 pub mod maps;

@@ -23,13 +23,15 @@ pub const CALLS: &[Call] = &[
     Call { name: "cell", numbers: &[0, 4, 16] },
     Call { name: "cell_wkb", numbers: &[0, 1, 2, 4, 16, 18] },
     Call { name: "cell_wkb_bits", numbers: &[0, 1, 2, 4, 16, 18] },
+    Call { name: "read_multipoint", numbers: &[0, 1, 2, 6, 21] },
+    Call { name: "write_multipoint", numbers: &[0, 1, 2, 6] },
     Call { name: "build", numbers: &[0, 1, 2, 3, 6, 7, 8, 9, 10, 11, 12, 13, 14] },
     Call { name: "why", numbers: &[0, 1, 2, 3, 4, 6, 7, 8, 9, 10, 11, 12, 13, 14] },
     Call { name: "build_by_edges", numbers: &[0, 1, 2, 3, 6, 7, 8, 9, 10, 11, 12, 13, 14] },
     Call { name: "why_by_edges", numbers: &[0, 1, 2, 3, 4, 6, 7, 8, 9, 10, 11, 12, 13, 14] },
 ];
 
-const NUMBERS: usize = 20;
+const NUMBERS: usize = 22;
 
 #[derive(Default)]
 pub struct Tally {

@@ -6,11 +6,9 @@ use form_step::inside;
 use form_step::outside;
 use form_step::shifted;
 use form_step::start;
-use root::INFINITY;
-use root::SIGN;
+use patterns::float_of;
 ghost use mathlib.Core.Path.{_≡_};
 ghost use Prim.Native.Nat.{_-_, _/_, _≤_, _<_};
-ghost use lib.Ieee.{binary64, ofBits};
 ghost use mathlib.Core.Bool.{false};
 ghost use lib.Dec.{ltb};
 ghost use lib.ListN.{length};
@@ -20,16 +18,6 @@ ghost use Rattle.form_step.specs.Holds.{ListRoom, Reads};
 ghost use Rattle.form_step.specs.Standing.{Ok};
 
 const TOP_LINK: u64 = 0x1_0000_0000;
-
-// The value of a pattern. A NaN's pattern is not kept.
-fn float_of(bits: u64) -> f64
-    ensures { λ x. ⌜ x ≡ ofBits binary64 bits ⌝ }
-{
-    if INFINITY < bits % SIGN {
-        return 0.0 / 0.0;
-    }
-    f64::from_bits(bits)
-}
 
 fn put_float(l: &mut [f64], last: u64, left: u64, word: u64)
     requires { ⌜ (left / 8 ≤ last) × (last < length (now l)) ⌝ }

@@ -62,6 +62,9 @@ refusedTwice = 19
 abbrev pub refusedUnclipped : ℕ
 refusedUnclipped = 20
 
+abbrev pub refusedPoints : ℕ
+refusedPoints = 21
+
 -- the tolerance, 2^-50
 abbrev pub tolerance : Float
 tolerance = ofBits binary64 0x3cd0_0000_0000_0000

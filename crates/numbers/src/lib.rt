@@ -56,6 +56,8 @@ pub const REFUSED_TWICE: u32 = 19;
 
 pub const REFUSED_UNCLIPPED: u32 = 20;
 
+pub const REFUSED_POINTS: u32 = 21;
+
 // An index as a length: of 64 bits, nothing is lost.
 pub fn wide(x: u32) -> usize
     ensures { λ r. ⌜ r ≡ x ⌝ }

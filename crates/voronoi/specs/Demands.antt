@@ -33,6 +33,8 @@ use Rattle.voronoi.specs.Mends.{Mend}
 use Rattle.reader.specs.Calls.{FormLists}
 use Rattle.voronoi.specs.Forms.{ReaderBegin, ReaderFeed, ReaderEnd, ReadForm}
 use Rattle.voronoi.specs.One.{one-reader-begin, one-reader-feed, one-reader-end, one-read-form}
+use Rattle.voronoi.specs.Gauges.{ReadMultipoint, WriteMultipoint}
+use Rattle.voronoi.specs.One.{one-read-multipoint, one-write-multipoint}
 use Rattle.voronoi.specs.One.{one-mend, one-cell-wkb-bits, one-cell-wkb, one-root-bits, one-root, one-magnitude-bits, one-magnitude, one-signum-bits, one-signum}
 use Rattle.voronoi.specs.Plane.{Near, Dist2, Circumcenter, Centroid, Edges, Centered, Corners, Inside, ExclusivelyInside, WhichEdge, Meets}
 use Rattle.voronoi.specs.One.{one-near, one-dist2, one-center, one-box, one-box-center, one-corners, one-inside, one-exclusively, one-side, one-meeting}
@@ -132,6 +134,10 @@ pub record Demand1 (m : Mesh) : Type 0 where
   pub reader-end : (ws : List ℕ) → One₂ (λ t ws′. ReaderEnd ws ws′ t)
   -- voronoi_read_form: the number, the byte and the counts; the five lists
   pub read-form : (l : FormLists) (s : List ℕ) → One₂ (λ t l′. ReadForm l s l′ t)
+  -- voronoi_read_multipoint: the number, the count, the sites
+  pub read-multipoint : (s : List ℕ) (old : List Float) → One₃ (λ r k new. ReadMultipoint s old new k r)
+  -- voronoi_write_multipoint: the number, the bytes written, the output
+  pub write-multipoint : (sites : List Float) (old : List ℕ) → One₃ (λ r w new. WriteMultipoint sites old new w r)
   -- refused by voronoi_check: the work slice
   pub check-refused : {w w′ : List ℕ} {r : ℕ} → Check m w w′ r → r ≢ 0 → SliceRefused EMPTY w w′ r
   -- by a call that hands out a list: the work slice, the output slice, the count, ended
@@ -266,6 +272,8 @@ demand1 m = record {
   reader-feed = λ ws l s _ _ _ _ _ _. one-reader-feed ws l s;
   reader-end = λ ws _ _ _ _. one-reader-end ws;
   read-form = λ l s _ _ _ _. one-read-form l s;
+  read-multipoint = λ s old _ _ _ _ _ _. one-read-multipoint s old;
+  write-multipoint = λ sites old _ _ _ _ _ _. one-write-multipoint sites old;
   check-refused = λ a. work-refused m (a .work);
   walk-refused = λ s. list-refused;
   neighbours-refused = λ s. list-refused;

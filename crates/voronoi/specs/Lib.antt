@@ -9,6 +9,7 @@ pub mod Accepted
 pub mod Maps
 pub mod Mends
 pub mod Forms
+pub mod Gauges
 pub mod Examples
 pub mod laws
 pub mod Outcomes

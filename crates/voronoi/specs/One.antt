@@ -31,6 +31,8 @@ use Rattle.reasons.specs.declared.ReasonNumbers.{ReasonNumbers}
 use Rattle.reason_call.specs.One.{one-why-call}
 use Rattle.voronoi.specs.Maps.{CellWkbBits, CellWkb}
 use Rattle.voronoi.specs.Explanations.{Why}
+use Rattle.multipoint.specs.One.{one-read, one-write}
+use Rattle.voronoi.specs.Gauges.{ReadMultipoint, WriteMultipoint}
 use Rattle.mending.specs.Mending.{Lent}
 use Rattle.mending.specs.One.{mends-one}
 use Rattle.voronoi.specs.Mends.{Mend}
@@ -220,3 +222,12 @@ one-reader-end = ends-one
 
 pub one-read-form : (l : FormLists) (s : List ℕ) {k m : FormLists} {a b : Report} → ReadForm l s k a → ReadForm l s m b → (a ≡ b) × (k ≡ m)
 one-read-form = reads-one
+
+-- ---- MultiPoints
+pub one-read-multipoint : (s : List ℕ) (old : List Float) {new other : List Float} {k l q r : ℕ} → ReadMultipoint s old new k q → ReadMultipoint s old other l r
+    → (q ≡ r) × (k ≡ l) × (new ≡ other)
+one-read-multipoint = one-read
+
+pub one-write-multipoint : (sites : List Float) (old : List ℕ) {new other : List ℕ} {w u q r : ℕ} → WriteMultipoint sites old new w q → WriteMultipoint sites old other u r
+    → (q ≡ r) × (w ≡ u) × (new ≡ other)
+one-write-multipoint = one-write

@@ -4,6 +4,7 @@ pub mod builds;
 pub mod edges;
 pub mod explanations;
 pub mod forms;
+pub mod gauges;
 pub mod maps;
 pub mod mends;
 pub mod meshes;

@@ -2,26 +2,16 @@
 // inside take both lists, one after the other, of which one is empty.
 use numbers::wide;
 use octets::put_le;
-use root::QUIET;
+use patterns::pattern;
 ghost use mathlib.Core.Path.{_≡_};
 ghost use mathlib.Core.List.{_++_};
 ghost use Prim.Native.Nat.{_+_, _*_, _/_, _^_, _<_, _≤_};
-ghost use lib.Ieee.{binary64, toBits};
 ghost use lib.ListN.{length, getD};
 ghost use Rattle.laws.specs.Decide.{Says};
 ghost use Rattle.octets.specs.Bytes.{each};
 ghost use Rattle.octets.specs.Wrote.{Wrote};
 ghost use Rattle.wkb.specs.Polygon.{patternAt, patternsOf, pointBytes, ringBytes, closed, headBytes, patterns};
 ghost use Rattle.wkb.specs.Promise.{NamesVertices, ImageFits, image, WkbAnswer, FloatAnswer, EntriesAnswer};
-
-fn pattern(x: f64) -> u64
-    ensures { λ r. ⌜ r ≡ toBits binary64 x ⌝ }
-{
-    if x != x {
-        return QUIET;
-    }
-    f64::to_bits(x)
-}
 
 // Number k of the floats' patterns and the bits after them.
 fn coordinate(floats: &[f64], bits: &[u64], k: usize) -> u64

@@ -3,7 +3,7 @@ use mathlib.Core.Path.{_≡_, refl, sym, ap, _∙_, subst}
 use mathlib.Core.Bool.{true, false}
 use mathlib.Core.List.{List, [], _∷_, _++_}
 use mathlib.Core.Logic.{⊎-elim, _≢_}
-use Prim.Native.Nat.{ℕ, zero, suc, _+_, _^_, _≤_, _<_}
+use Prim.Native.Nat.{ℕ, suc, _+_, _^_, _≤_, _<_}
 use native.Mathlib.Omega.{arith}
 use lib.ListN.{length, take, drop, take-append-drop, length-drop}
 use lib.Seq.{length-take-le}
@@ -12,7 +12,7 @@ use Rattle.octets.specs.Bytes.{Bytes, word, le}
 use Rattle.form.specs.Form.{Outline, SiteFits, TriangleFits, HullFits, outlineBytes, siteBytes, triangleBytes, hullBytes}
 use Rattle.form_step.specs.Reader.{broken, inside, step, steps}
 use Rattle.form_step.specs.laws.Steps.{step-broken, step-inside}
-use Rattle.octets.specs.laws.Bytes.{le-word, word-small}
+use Rattle.octets.specs.laws.Bytes.{le-word, word-small, bytes-take, bytes-drop}
 use Rattle.form_step.specs.declared.Reader.{Reader}
 
 pub record Ended (r : Reader) : Type 0 where
@@ -61,16 +61,6 @@ pub record Cut (n : ℕ) (t : List ℕ) : Type 0 where
   pub joined : t ≡ le n number ++ rest
   pub bytes : Bytes rest
   pub long : length t ≡ n + length rest
-
-pub bytes-take : (n : ℕ) (t : List ℕ) → Bytes t → Bytes (take n t)
-bytes-take zero t h = tt
-bytes-take (suc n) [] h = tt
-bytes-take (suc n) (b ∷ t) h = (h .0, bytes-take n t (h .1))
-
-bytes-drop : (n : ℕ) (t : List ℕ) → Bytes t → Bytes (drop n t)
-bytes-drop zero t h = h
-bytes-drop (suc n) [] h = tt
-bytes-drop (suc n) (b ∷ t) h = bytes-drop n t (h .1)
 
 pub cut : (n : ℕ) (t : List ℕ) → Bytes t → n ≤ length t → Cut n t
 cut n t h l =

@@ -17,7 +17,8 @@ use Rattle.form.specs.Place.{Expects, NumberAt}
 use Rattle.form_step.specs.Reader.{broken, start, numberFor, refused, outside, step, steps, verdict}
 use Rattle.form_step.specs.laws.Steps.{step-outside}
 use Rattle.form_step.specs.laws.Standing.{ok-start, ok-steps, nothing, none-after-end}
-use Rattle.form.specs.laws.Cut.{Ended, bytes-take, steps-append}
+use Rattle.octets.specs.laws.Bytes.{bytes-take}
+use Rattle.form.specs.laws.Cut.{Ended, steps-append}
 use Rattle.form.specs.laws.Tail.{after-end, refused-ends}
 use Rattle.form.specs.laws.Exact.{sound-broken, accepts, only-forms}
 use Rattle.form.specs.laws.Place.{SomeStop, stop, taken-all, five-ends, bytes-both, broken-at}

@@ -8,25 +8,22 @@ use native.Mathlib.Nat.{add-zero, zero-add, suc-add}
 use lib.ListN.{length, getD, take, drop, take-append-drop}
 use lib.Seq.{take-suc, take-length, drop-length}
 use Rattle.octets.specs.Bytes.{each, All}
+use Rattle.octets.specs.laws.Bytes.{each-append}
 use Rattle.form.specs.Form.{Triangle, triangleBytes, TriangleFits, numbersOf}
 use Rattle.form_writer.specs.Written.{links, triangleAt, trianglesFrom, triangleRecords}
 
 -- ---- the bytes of each
 
 module _ {A : Type 0} (f : A → List ℕ) where
-  each-append : (s t : List A) → each f (s ++ t) ≡ each f s ++ each f t
-  each-append [] t = refl
-  each-append (a ∷ s) t = ap (λ (l : List ℕ). f a ++ l) (each-append s t) ∙ sym (append-assoc (f a) (each f s) (each f t))
-
   pub each-more : (l : List A) (i : ℕ) (z : A) → i < length l → each f (take (i + 1) l) ≡ each f (take i l) ++ f (getD l i z)
   each-more l i z h =
       ap (λ (k : ℕ). each f (take k l)) (add-one i)
       ∙ ap (each f) (take-suc l i z h)
-      ∙ each-append (take i l) (getD l i z ∷ [])
+      ∙ each-append f (take i l) (getD l i z ∷ [])
       ∙ ap (λ (s : List ℕ). each f (take i l) ++ s) (append-nil (f (getD l i z)))
 
   pub each-whole : (l : List A) (i : ℕ) → each f (take (length l) l) ≡ each f (take i l) ++ each f (drop i l)
-  each-whole l i = ap (each f) (take-length l ∙ sym (take-append-drop i l)) ∙ each-append (take i l) (drop i l)
+  each-whole l i = ap (each f) (take-length l ∙ sym (take-append-drop i l)) ∙ each-append f (take i l) (drop i l)
 
 -- ---- triangles
 

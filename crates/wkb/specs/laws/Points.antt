@@ -7,6 +7,7 @@ use native.Mathlib.Numerals.{add-one}
 use lib.Ieee.{Float, nan, binary64, toBits}
 use lib.ListN.{length, getD, take, length-append, length-map}
 use Rattle.octets.specs.Bytes.{le, each}
+use Rattle.octets.specs.laws.Bytes.{each-append}
 use Rattle.octets.specs.Wrote.{Wrote}
 use Rattle.octets.specs.laws.Wrote.{wrote-then, wrote-as}
 use Rattle.wkb.specs.Polygon.{Pt, pointBytes, ringBytes, closed, patternAt, patternsOf, patterns}
@@ -55,18 +56,13 @@ unfolding pointBytes
 points-length [] = refl
 points-length (p ∷ ps) = omega (arith, length-append (pointBytes p) (each pointBytes ps), points-length ps)
 
-each-append : (ps qs : List Pt) → each pointBytes (ps ++ qs) ≡ each pointBytes ps ++ each pointBytes qs
-each-append [] qs = refl
-each-append (p ∷ ps) qs =
-    ap (λ (s : List ℕ). pointBytes p ++ s) (each-append ps qs) ∙ sym (append-assoc (pointBytes p) (each pointBytes ps) (each pointBytes qs))
-
 pub closed-length : (ps : List Pt) → 0 < length ps → length (closed ps) ≡ length ps + 1
 closed-length [] h = absurd (omega arith)
 closed-length (p ∷ ps) h = omega (arith, length-append (p ∷ ps) (p ∷ []))
 
 closed-bytes : (v l : List ℕ) → 0 < length l → each pointBytes (closed (patternsOf v l)) ≡ each pointBytes (patternsOf v l) ++ pointsTo v l 1
 closed-bytes v [] h = absurd (omega arith)
-closed-bytes v (e ∷ l) h = each-append (patternsOf v (e ∷ l)) (patternAt v e ∷ [])
+closed-bytes v (e ∷ l) h = each-append pointBytes (patternsOf v (e ∷ l)) (patternAt v e ∷ [])
 
 -- the count, the points, the first again
 pub ring-wrote : {l m n o : List ℕ} {a b c d k : ℕ} (v cell : List ℕ) → 0 < length cell → k ≡ length cell + 1 → Wrote l m a b (le 4 k)

@@ -1,4 +1,4 @@
--- `form::float_of` meets its contract: a pattern above infinity's is a NaN's, whatever its sign, and no other is.
+-- `patterns::float_of` meets its contract: a pattern above infinity's is a NaN's, whatever its sign, and no other is.
 use mathlib.Core.Path.{sym, _∙_, subst}
 use mathlib.Core.Bool.{Bool, not}
 use lib.Dec.{T}
@@ -6,8 +6,8 @@ use lib.Ieee.{binary64}
 use lib.Ieee.Bits.{nanBits-is}
 use Rattle.root.specs.laws.Signs.{above-nan, up-to-no-nan, no-quotient}
 use borrow.Author.Needs.{needs}
-use Rattle.form.proofs.float_of.Statement.{statement}
-use Rattle.form.proofs.float_of.Tie as tie
+use Rattle.patterns.proofs.float_of.Statement.{statement}
+use Rattle.patterns.proofs.float_of.Tie as tie
 
 returns : tie.Need-returns
 returns c = no-quotient ∙ sym (above-nan (c .before .args .bits) (c .if1 .taken))

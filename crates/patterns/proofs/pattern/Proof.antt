@@ -1,11 +1,11 @@
--- `wkb::pattern` meets its contract: a NaN is what differs from itself.
+-- `patterns::pattern` meets its contract: a NaN is what differs from itself.
 use mathlib.Core.Path.{sym, ap, _∙_}
 use lib.Ieee.{binary64, toBits}
 use Rattle.root.specs.laws.Tests.{no-nan, self-nan}
 use Rattle.root.specs.laws.Signs.{bits-nan}
 use borrow.Author.Needs.{needs}
-use Rattle.wkb.proofs.pattern.Statement.{statement}
-use Rattle.wkb.proofs.pattern.Tie as tie
+use Rattle.patterns.proofs.pattern.Statement.{statement}
+use Rattle.patterns.proofs.pattern.Tie as tie
 
 returns : tie.Need-returns
 returns c = sym (ap (toBits binary64) (self-nan _ (c .if1 .taken)) ∙ bits-nan)

@@ -1,0 +1,8 @@
+-- The root of the crate's definitions.
+pub mod MultiPoint
+pub mod Fields
+pub mod Promise
+pub mod One
+pub mod Exactly
+pub mod RoundTrip
+pub mod laws

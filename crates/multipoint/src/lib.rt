@@ -1,0 +1,239 @@
+// Sites read from a MultiPoint in Well-Known Binary (OGC 06-103r4, 8.2), in both byte orders, and written as one, little-endian throughout.
+use octets::put_le;
+use patterns::float_of;
+use patterns::pattern;
+ghost use mathlib.Core.Path.{_≡_};
+ghost use mathlib.Core.Bool.{true};
+ghost use Prim.Native.Nat.{ℕ, _+_, _*_, _/_, _^_, _≤_, _<_};
+ghost use lib.ListN.{length, drop};
+ghost use Rattle.laws.specs.Decide.{Says};
+ghost use Rattle.octets.specs.Bytes.{each};
+ghost use Rattle.octets.specs.Wrote.{Wrote};
+ghost use Rattle.multipoint.specs.MultiPoint.{filePoint, startBytes, filePointBytes};
+ghost use Rattle.multipoint.specs.Fields.{field, StartsAs, pointCount, pointPlace, Shape, coordinateOf};
+ghost use Rattle.multipoint.specs.Promise.{SiteLimits, firsts, SoundPoints, entryOf, sitePoint, fileOf, ReadAnswer, SoundAnswer, WriteAnswer};
+
+// ---- reading
+
+// The number of the n bytes from a place on in the structure that begins at `at`, in its order.
+fn number_at(file: &[u8], at: usize, from: usize, n: usize) -> u64
+    requires { ⌜ (n ≤ 8) × (1 ≤ from) × (at + from + n ≤ length (now file)) ⌝ }
+    ensures value { λ r. ⌜ r ≡ field (drop at (now (file .entry))) from n ⌝ }
+    ensures small { λ r. ⌜ r < 256 ^ n ⌝ }
+{
+    octets::get(file, at + from, n, file[at] == 1)
+}
+
+// Whether a structure of this type begins at `at`.
+fn starts(file: &[u8], at: usize, kind: u64) -> bool
+    requires { ⌜ at + 5 ≤ length (now file) ⌝ }
+    ensures { λ r. ⌜ Says r (StartsAs (drop at (now (file .entry))) kind) ⌝ }
+{
+    if file[at] > 1 {
+        return false;
+    }
+    number_at(file, at, 1, 4) == kind
+}
+
+fn count_of(file: &[u8]) -> usize
+    requires { ⌜ 9 ≤ length (now file) ⌝ }
+    ensures { λ r. ⌜ (r ≡ pointCount (now (file .entry))) × (r < 2 ^ 32) ⌝ }
+{
+    number_at(file, 0, 5, 4) as usize
+}
+
+// Whether each of the points begins as one.
+fn points_start(file: &[u8], count: usize) -> bool
+    requires { ⌜ pointPlace count ≤ length (now file) ⌝ }
+    ensures { λ r. ⌜ Says r ((i : ℕ) → i < count → StartsAs (drop (pointPlace i) (now (file .entry))) 1) ⌝ }
+{
+    let mut i = 0;
+    while i < count {
+        if !starts(file, 9 + 21 * i, 1) {
+            return false;
+        }
+        i += 1;
+    }
+    true
+}
+
+// Whether the file is a MultiPoint.
+fn shape_ok(file: &[u8]) -> bool
+    ensures { λ r. ⌜ Says r (Shape (now (file .entry))) ⌝ }
+{
+    if file.len() < 9 {
+        return false;
+    }
+    if !starts(file, 0, 4) {
+        return false;
+    }
+    let count = count_of(file);
+    if file.len() != 9 + 21 * count {
+        return false;
+    }
+    points_start(file, count)
+}
+
+// Coordinate k of a file that has one.
+fn coordinate(file: &[u8], k: usize) -> f64
+    requires { ⌜ pointPlace (k / 2) + 21 ≤ length (now file) ⌝ }
+    ensures { λ x. ⌜ x ≡ coordinateOf (now (file .entry)) k ⌝ }
+{
+    float_of(number_at(file, 9 + 21 * (k / 2), 5 + 8 * (k % 2), 8))
+}
+
+// Rule 6 on each coordinate of so many sites.
+fn coordinates_ok(file: &[u8], count: usize) -> bool
+    requires { ⌜ (count ≡ pointCount (now file)) × (pointPlace count ≤ length (now file)) ⌝ }
+    ensures { λ r. ⌜ Says r (SoundPoints (now (file .entry))) ⌝ }
+{
+    let mut k = 0;
+    while k < 2 * count {
+        if !utils::coordinate_ok(coordinate(file, k)) {
+            return false;
+        }
+        k += 1;
+    }
+    true
+}
+
+// What the output holds at place k.
+fn entry(file: &[u8], count: usize, k: usize) -> f64
+    requires { ⌜ (count ≡ pointCount (now file)) × (pointPlace count ≤ length (now file)) ⌝ }
+    ensures { λ x. ⌜ x ≡ entryOf (now (file .entry)) k ⌝ }
+{
+    if k >= 2 * count {
+        return 0.0;
+    }
+    coordinate(file, k)
+}
+
+// The coordinates, then +0 to the end.
+fn put_sites(file: &[u8], count: usize, sites: &mut [f64])
+    requires { ⌜ (count ≡ pointCount (now file)) × (pointPlace count ≤ length (now file)) ⌝ }
+    ensures { λ _. ⌜ now (sites .exit) ≡ firsts (entryOf (now (file .entry))) (length (now (sites .entry))) ⌝ }
+{
+    let mut k = 0;
+    while k < sites.len() {
+        sites[k] = entry(file, count, k);
+        k += 1;
+    }
+}
+
+fn limits_ok(count: usize) -> bool
+    ensures { λ r. ⌜ Says r (SiteLimits count) ⌝ }
+{
+    if count < 3 {
+        return false;
+    }
+    count <= 65536
+}
+
+// Rules 1, 2 and 6 on a file that is a MultiPoint, and its sites.
+fn read_sound(file: &[u8], sites: &mut [f64], count: &mut u32) -> u32
+    requires { ⌜ Shape (now file) ⌝ }
+    ensures { λ r. ⌜ SoundAnswer (now (file .entry)) (now (sites .entry)) (now (sites .exit)) (now (count .exit)) r ⌝ }
+{
+    *count = 0;
+    let n = count_of(file);
+    if !limits_ok(n) {
+        return numbers::REFUSED_COUNT;
+    }
+    if sites.len() < 2 * n {
+        return numbers::REFUSED_ROOM;
+    }
+    if !coordinates_ok(file, n) {
+        return numbers::REFUSED_COORDINATE;
+    }
+    put_sites(file, n, sites);
+    *count = n as u32;
+    0
+}
+
+// Rule 21 over the whole file, then the others.
+pub fn read(file: &[u8], sites: &mut [f64], count: &mut u32) -> u32
+    ensures { λ r. ⌜ ReadAnswer (now (file .entry)) (now (sites .entry)) (now (sites .exit)) (now (count .exit)) r ⌝ }
+{
+    *count = 0;
+    if !shape_ok(file) {
+        return numbers::REFUSED_POINTS;
+    }
+    read_sound(file, sites, count)
+}
+
+// ---- writing
+
+// The mark and the type.
+fn put_start(out: &mut [u8], at: usize, kind: u64) -> usize
+    requires { ⌜ at + 5 ≤ length (now out) ⌝ }
+    ensures { λ r. ⌜ Wrote (now (out .entry)) (now (out .exit)) at r (startBytes true kind) ⌝ }
+{
+    let number = put_le(out, at, 1, 1);
+    put_le(out, number, 4, kind)
+}
+
+fn put_point(out: &mut [u8], at: usize, x: u64, y: u64) -> usize
+    requires { ⌜ at + 21 ≤ length (now out) ⌝ }
+    ensures { λ r. ⌜ Wrote (now (out .entry)) (now (out .exit)) at r (filePointBytes (filePoint true x y)) ⌝ }
+{
+    let first = put_start(out, at, 1);
+    let second = put_le(out, first, 8, x);
+    put_le(out, second, 8, y)
+}
+
+// Site i as a point.
+fn put_site(out: &mut [u8], at: usize, sites: &[f64], i: usize) -> usize
+    requires { ⌜ (at + 21 ≤ length (now out)) × (2 * i + 1 < length (now sites)) ⌝ }
+    ensures { λ r. ⌜ Wrote (now (out .entry)) (now (out .exit)) at r (filePointBytes (sitePoint (now (sites .entry)) i)) ⌝ }
+{
+    let x = pattern(sites[2 * i]);
+    let y = pattern(sites[2 * i + 1]);
+    put_point(out, at, x, y)
+}
+
+// The sites' points, one after the other.
+fn put_points(out: &mut [u8], at: usize, sites: &[f64]) -> usize
+    requires { ⌜ at + 21 * (length (now sites) / 2) ≤ length (now out) ⌝ }
+    ensures { λ r. ⌜ Wrote (now (out .entry)) (now (out .exit)) at r (each filePointBytes (firsts (sitePoint (now (sites .entry))) (length (now (sites .entry)) / 2))) ⌝ }
+{
+    let count = sites.len() / 2;
+    let mut end = at;
+    let mut i = 0;
+    while i < count {
+        end = put_site(out, end, sites, i);
+        i += 1;
+    }
+    end
+}
+
+fn put_file(out: &mut [u8], sites: &[f64]) -> usize
+    requires { ⌜ pointPlace (length (now sites) / 2) ≤ length (now out) ⌝ }
+    ensures { λ r. ⌜ Wrote (now (out .entry)) (now (out .exit)) 0 r (fileOf (now (sites .entry))) ⌝ }
+{
+    let number = put_start(out, 0, 4);
+    let count = sites.len() / 2;
+    let points = put_le(out, number, 4, count as u64);
+    put_points(out, points, sites)
+}
+
+// Rules 1, 2 and 6, and the file.
+pub fn write(sites: &[f64], out: &mut [u8], written: &mut usize) -> u32
+    ensures { λ r. ⌜ WriteAnswer (now (sites .entry)) (now (out .entry)) (now (out .exit)) (now (written .exit)) r ⌝ }
+{
+    *written = 0;
+    if sites.len() % 2 != 0 {
+        return numbers::REFUSED_COUNT;
+    }
+    let count = sites.len() / 2;
+    if !limits_ok(count) {
+        return numbers::REFUSED_COUNT;
+    }
+    if out.len() < 9 + 21 * count {
+        return numbers::REFUSED_ROOM;
+    }
+    if utils::first_bad_site(sites) < count {
+        return numbers::REFUSED_COORDINATE;
+    }
+    *written = put_file(out, sites);
+    0
+}
