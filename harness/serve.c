@@ -20,6 +20,7 @@ typedef struct {
 /* Argument i as a slice of floats or indexes, a pointer to one, or the number itself. */
 #define F(i) (double *)a[i].at, (size_t)a[i].count
 #define U(i) (uint32_t *)a[i].at, (size_t)a[i].count
+#define I(i) (int32_t *)a[i].at, (size_t)a[i].count
 #define Q(i) (uint64_t *)a[i].at, (size_t)a[i].count
 #define C(i) (uint8_t *)a[i].at, (size_t)a[i].count
 #define PS(i) ((size_t *)a[i].at)
@@ -141,6 +142,11 @@ static void read_multipoint(argument *a) { N(0) = voronoi_read_multipoint(C(1), 
 static void write_multipoint(argument *a) { N(0) = voronoi_write_multipoint(F(1), C(2), PS(3)); }
 #endif
 
+#ifdef HAS_grids
+static void grid_check(argument *a) { N(0) = voronoi_grid_check(I(1), U(2), U(3), U(4), U(5), PU(6), PU(7)); }
+static void grid_sites(argument *a) { N(0) = voronoi_grid_sites(I(1), F(2)); }
+#endif
+
 static const struct {
     const char *name;
     void (*call)(argument *);
@@ -181,6 +187,9 @@ static const struct {
 #endif
 #ifdef HAS_gauges
     {"read_multipoint", read_multipoint}, {"write_multipoint", write_multipoint},
+#endif
+#ifdef HAS_grids
+    {"grid_check", grid_check}, {"grid_sites", grid_sites},
 #endif
 };
 

@@ -24,6 +24,8 @@
  *   cell_wkb                 the offsets and the cell's entries; no mesh, so no check
  *   mend                     N + T, the check of what was mended included; a site of any degree
  *   read_form, reader_feed   the bytes; no mesh is checked. reader_begin the words of the state, reader_end a fixed number
+ *   grid_check               N + T, the check of the mesh included
+ *   grid_sites               the coordinates; no mesh, so no check
  *   build                    usually N + T (0.3 to 0.9 microseconds a site). At worst the square of N: an added point is searched for among
  *                            all those added before (65,536 sites on a circle: 20 s), and a cell that stays empty is tried again from each
  *                            of its half-edges (one site with 65,535 neighbours: 5 minutes). docs/SPEED.md has the times.
@@ -41,9 +43,9 @@ extern "C" {
 
 /* ---- the version (the file VERSION; CHANGELOG.md says what changed) */
 
-#define VORONOI_VERSION "0.10.0"
+#define VORONOI_VERSION "0.12.0"
 #define VORONOI_VERSION_MAJOR 0
-#define VORONOI_VERSION_MINOR 10
+#define VORONOI_VERSION_MINOR 12
 #define VORONOI_VERSION_PATCH 0
 
 /* ---- numbers */
@@ -91,7 +93,7 @@ extern "C" {
 #define VORONOI_COUNT_LOST 5
 #define VORONOI_COUNTS 6
 
-/* ---- refusals, in the order in which they are tried (16 after 10, 17 first, 18 before 2, 19 after 7, 21 first); docs/RULES.md says of each what to do about it */
+/* ---- refusals, in the order in which they are tried (16 after 10, 17 first, 18 before 2, 19 after 7, 21 first, 22 in the place of 6); docs/RULES.md says of each what to do about it */
 
 #define VORONOI_ACCEPTED 0
 #define VORONOI_REFUSED_COUNT 1         /* a count breaks its limit, an odd site list, triangles not in threes, half-edges not as many */
@@ -115,6 +117,7 @@ extern "C" {
 #define VORONOI_REFUSED_TWICE 19        /* an ordered pair of sites has two half-edges (voronoi_mend alone) */
 #define VORONOI_REFUSED_UNCLIPPED 20    /* the form has no box, kind 6: that mode is gone (where a form is read) */
 #define VORONOI_REFUSED_POINTS 21       /* the bytes are no MultiPoint (voronoi_read_multipoint alone) */
+#define VORONOI_REFUSED_GRID 22         /* a whole coordinate is beyond the profile (the calls on the grid alone) */
 
 /* A sentence for each number, with no full stop; "no such number" for any other. It is never NULL. */
 static inline const char *voronoi_words(uint32_t number)
@@ -141,6 +144,7 @@ static inline const char *voronoi_words(uint32_t number)
     case VORONOI_REFUSED_TWICE: return "two half-edges run the same way between the same two sites";
     case VORONOI_REFUSED_UNCLIPPED: return "the form has no box: the unclipped mode is gone";
     case VORONOI_REFUSED_POINTS: return "the file is no MultiPoint in Well-Known Binary: a wrong mark or type, an early end, or bytes left over";
+    case VORONOI_REFUSED_GRID: return "a site has a whole coordinate below -8,192 or above 8,192";
     default: return "no such number";
     }
 }
@@ -414,6 +418,29 @@ uint32_t voronoi_read_multipoint(const uint8_t *file, size_t file_len, double *s
 /* Writing is little-endian throughout and tries 1 (an odd length too), 2, 6. `out` past the file is as it was, and all of it when refused.
  * *written: VORONOI_MULTIPOINT_ROOM(sites_len / 2), 0 when refused. What is written is read as the same sites, to the bit. */
 uint32_t voronoi_write_multipoint(const double *sites, size_t sites_len, uint8_t *out, size_t out_len, size_t *written);
+
+/* ---- the grid
+ * Sites of whole coordinates, x and y of each in turn, of magnitude at most VORONOI_GRID_LIMIT. With integers alone, so exactly: each triangle
+ * a, b, c turns counter-clockwise with Y downward, (b - a) x (c - a) below 0; across each paired half-edge the far site, the third one of the
+ * pair's triangle, is not strictly inside the circle through the half-edge's triangle. A flat triangle offends, a site on the circle does not.
+ * Tries 1 on all counts, 2, 22 in the place of 6, 7 to 10. After 1, 2 and 22 `work` is unchanged, after 7 to 10 VORONOI_EMPTY throughout, after 0 it
+ * has the leftmost half-edges, then VORONOI_EMPTY. *kind and *place are always written, VORONOI_EMPTY when refused:
+ *
+ *   VORONOI_GRID_YES        both hold everywhere; *place is VORONOI_EMPTY
+ *   VORONOI_GRID_TRIANGLE   *place is the lowest triangle that offends
+ *   VORONOI_GRID_HALFEDGE   all triangles turn as they must; *place is the lowest half-edge whose far site is inside */
+#define VORONOI_GRID_LIMIT 8192
+#define VORONOI_GRID_YES 0
+#define VORONOI_GRID_TRIANGLE 1
+#define VORONOI_GRID_HALFEDGE 2
+
+uint32_t voronoi_grid_check(const int32_t *grid, size_t grid_len, const uint32_t *triangles, size_t triangles_len,
+                            const uint32_t *halfedges, size_t halfedges_len, const uint32_t *hull, size_t hull_len, uint32_t *work,
+                            size_t work_len, uint32_t *kind, uint32_t *place);
+
+/* The same sites as floats, for every other call: equal numbers, nothing lost. Room: as many numbers. Tries 1 (an odd length, the limits on the
+ * count of sites), 2, 22; `sites` is unchanged by each. After 0 it has the floats, then +0. */
+uint32_t voronoi_grid_sites(const int32_t *grid, size_t grid_len, double *sites, size_t sites_len);
 
 #ifdef __cplusplus
 }

@@ -330,7 +330,7 @@ def structs(path):
 
 MODULE = re.compile(r"^Rattle·(?P<crate>[A-Za-z_0-9]+)(?:·[a-z]+)?\.(?P<part>specs|proofs)\.(?P<rest>.+)$")
 PROPOSITION = {"≡", "≤", "<", "≢", "⊎", "↔", "≥", ">", "∈", "∣"}
-DATA = {"ℕ", "Bool", "List", "Float", "String", "Char", "Option", "Unit"}
+DATA = {"ℕ", "ℤ", "Bool", "List", "Float", "String", "Char", "Option", "Unit"}
 
 
 class Struct:

@@ -8,6 +8,7 @@ pub mod expect;
 pub mod form;
 pub mod gauges;
 pub mod generate;
+pub mod grid;
 pub mod library;
 pub mod maps;
 pub mod mend;

@@ -53,6 +53,10 @@ impl Call {
     pub fn floats(self, list: &[f64]) -> Call {
         self.lent_floats(list, list)
     }
+    /// Whole numbers with a sign.
+    pub fn wholes(self, list: &[i32]) -> Call {
+        self.indexes(&list.iter().map(|&v| v as u32).collect::<Vec<_>>())
+    }
     pub fn number(self, n: u32) -> Call {
         self.indexes(&[n])
     }

@@ -65,6 +65,9 @@ refusedUnclipped = 20
 abbrev pub refusedPoints : ℕ
 refusedPoints = 21
 
+abbrev pub refusedGrid : ℕ
+refusedGrid = 22
+
 -- the tolerance, 2^-50
 abbrev pub tolerance : Float
 tolerance = ofBits binary64 0x3cd0_0000_0000_0000

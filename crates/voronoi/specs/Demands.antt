@@ -7,6 +7,7 @@ use mathlib.Core.List.{List, [], _∷_}
 use mathlib.Core.Logic.{_≢_, _↔_}
 use Prim.Native.Nat.{ℕ, suc, _^_, _≤_, _<_}
 use lib.Ieee.{Float, nan}
+use lib.IntN.{ℤ}
 use lib.ListN.{length, getD, take, drop}
 use Rattle.numbers.specs.Numbers.{EMPTY}
 use Rattle.laws.specs.Count.{occ}
@@ -35,6 +36,9 @@ use Rattle.voronoi.specs.Forms.{ReaderBegin, ReaderFeed, ReaderEnd, Read
 use Rattle.voronoi.specs.One.{one-reader-begin, one-reader-feed, one-reader-end, one-read-form}
 use Rattle.voronoi.specs.Gauges.{ReadMultipoint, WriteMultipoint}
 use Rattle.voronoi.specs.One.{one-read-multipoint, one-write-multipoint}
+use Rattle.grid_check.specs.Promise.{GridMesh}
+use Rattle.voronoi.specs.Grids.{GridCheck, SitesOfGrid}
+use Rattle.voronoi.specs.One.{one-grid-check, one-grid-sites}
 use Rattle.voronoi.specs.One.{one-mend, one-cell-wkb-bits, one-cell-wkb, one-root-bits, one-root, one-magnitude-bits, one-magnitude, one-signum-bits, one-signum}
 use Rattle.voronoi.specs.Plane.{Near, Dist2, Circumcenter, Centroid, Edges, Centered, Corners, Inside, ExclusivelyInside, WhichEdge, Meets}
 use Rattle.voronoi.specs.One.{one-near, one-dist2, one-center, one-box, one-box-center, one-corners, one-inside, one-exclusively, one-side, one-meeting}
@@ -46,7 +50,7 @@ use Rattle.voronoi.specs.Builds.{Build, Cell, CellPart}
 use Rattle.voronoi.specs.Explanations.{Why}
 use Rattle.voronoi.specs.One.{one-build, one-why, one-cell, one-cell-part}
 use Rattle.voronoi.specs.Maps.{CellWkbBits, CellWkb}
-use Rattle.voronoi.specs.Outcomes.{One, One₂, One₃, OneList, OneMend, OneMeeting, OneBox, OneCenter, SliceRefused, ListRefused, BuildRefused}
+use Rattle.voronoi.specs.Outcomes.{One, One₂, One₃, OneList, OneMend, OneMeeting, OneBox, OneCenter, SliceRefused, ListRefused, BuildRefused, OneGrid}
 use Rattle.voronoi.specs.Leaves.{QueryAllowed, BuildAllowed, BuildLeaves}
 use Rattle.voronoi.specs.Bounds.{BoundedEdges, BoundedCenter, BoundedMeeting, Bounds, bounds}
 use Rattle.voronoi.specs.Approach.{WholeRound, nextTo, Joined, Approaches}
@@ -138,6 +142,10 @@ pub record Demand1 (m : Mesh) : Type 0 where
   pub read-multipoint : (s : List ℕ) (old : List Float) → One₃ (λ r k new. ReadMultipoint s old new k r)
   -- voronoi_write_multipoint: the number, the bytes written, the output
   pub write-multipoint : (sites : List Float) (old : List ℕ) → One₃ (λ r w new. WriteMultipoint sites old new w r)
+  -- voronoi_grid_check: the number, the kind, the place, the work slice
+  pub grid-check : (g : GridMesh) (w : List ℕ) → OneGrid (λ r k p w′. GridCheck g w w′ r k p)
+  -- voronoi_grid_sites: the number, the slice
+  pub grid-sites : (grid : List ℤ) (old : List Float) → One₂ (λ r new. SitesOfGrid grid old new r)
   -- refused by voronoi_check: the work slice
   pub check-refused : {w w′ : List ℕ} {r : ℕ} → Check m w w′ r → r ≢ 0 → SliceRefused EMPTY w w′ r
   -- by a call that hands out a list: the work slice, the output slice, the count, ended
@@ -274,6 +282,8 @@ demand1 m = record {
   read-form = λ l s _ _ _ _. one-read-form l s;
   read-multipoint = λ s old _ _ _ _ _ _. one-read-multipoint s old;
   write-multipoint = λ sites old _ _ _ _ _ _. one-write-multipoint sites old;
+  grid-check = λ g w _ _ _ _ _ _ _ _. one-grid-check g;
+  grid-sites = λ grid old _ _ _ _. one-grid-sites grid;
   check-refused = λ a. work-refused m (a .work);
   walk-refused = λ s. list-refused;
   neighbours-refused = λ s. list-refused;

@@ -10,6 +10,7 @@ pub mod Maps
 pub mod Mends
 pub mod Forms
 pub mod Gauges
+pub mod Grids
 pub mod Examples
 pub mod laws
 pub mod Outcomes

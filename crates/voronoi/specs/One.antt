@@ -5,6 +5,7 @@ use mathlib.Core.List.{List}
 use Prim.Native.Nat.{ℕ, _^_, _<_}
 use lib.Dec.{eqb}
 use lib.Ieee.{Float}
+use lib.IntN.{ℤ}
 use Rattle.laws.specs.Pick.{pick}
 use Rattle.laws.specs.laws.Refusals.{finds-one}
 use Rattle.numbers.specs.Numbers.{EMPTY}
@@ -35,12 +36,16 @@ use Rattle.multipoint.specs.One.{one-read, one-write}
 use Rattle.voronoi.specs.Gauges.{ReadMultipoint, WriteMultipoint}
 use Rattle.mending.specs.Mending.{Lent}
 use Rattle.mending.specs.One.{mends-one}
+use Rattle.grid_check.specs.Promise.{GridMesh}
+use Rattle.grid_check.specs.One.{grid-checks-one}
+use Rattle.grid_sites.specs.One.{grid-sites-one}
 use Rattle.voronoi.specs.Mends.{Mend}
 use Rattle.reader.specs.Calls.{FormLists}
 use Rattle.reader.specs.One.{begins-one, feeds-one, ends-one, reads-one}
 use Rattle.reader.specs.declared.Answer.{Answer}
 use Rattle.reader.specs.declared.Report.{Report}
 use Rattle.voronoi.specs.Forms.{ReaderBegin, ReaderFeed, ReaderEnd, ReadForm}
+use Rattle.voronoi.specs.Grids.{GridCheck, SitesOfGrid}
 use Rattle.voronoi.specs.Roots.{MagnitudeBits, Magnitude, SignumBits, Signum}
 use Rattle.voronoi.specs.Plane.{Near, Dist2, Edges, Centered, Corners, Inside, ExclusivelyInside, WhichEdge, Meets}
 use Rattle.voronoi.specs.Meshes.{Check}
@@ -231,3 +236,11 @@ one-read-multipoint = one-read
 pub one-write-multipoint : (sites : List Float) (old : List ℕ) {new other : List ℕ} {w u q r : ℕ} → WriteMultipoint sites old new w q → WriteMultipoint sites old other u r
     → (q ≡ r) × (w ≡ u) × (new ≡ other)
 one-write-multipoint = one-write
+
+-- ---- the grid
+pub one-grid-check : (m : GridMesh) {w new other : List ℕ} {r k p s l q : ℕ} → GridCheck m w new r k p → GridCheck m w other s l q
+    → (r ≡ s) × (k ≡ l) × (p ≡ q) × (new ≡ other)
+one-grid-check m = grid-checks-one m _ _ _ _ _ _ _ _ _
+
+pub one-grid-sites : (grid : List ℤ) {old new other : List Float} {r s : ℕ} → SitesOfGrid grid old new r → SitesOfGrid grid old other s → (r ≡ s) × (new ≡ other)
+one-grid-sites grid = grid-sites-one grid _ _ _ _ _

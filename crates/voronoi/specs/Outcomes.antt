@@ -31,6 +31,10 @@ OneList P = (r r′ : ℕ) (w w′ o o′ : List ℕ) (k k′ e e′ : ℕ) → 
 abbrev pub OneMend : (ℕ → Lent → ℕ → ℕ → ℕ → Type 0) → Type 0
 OneMend P = (r r′ : ℕ) (l l′ : Lent) (k k′ p p′ q q′ : ℕ) → P r l k p q → P r′ l′ k′ p′ q′ → (r ≡ r′) × (l ≡ l′) × (k ≡ k′) × (p ≡ p′) × (q ≡ q′)
 
+-- a mesh on the grid checked: number, kind, place, work slice
+abbrev pub OneGrid : (ℕ → ℕ → ℕ → List ℕ → Type 0) → Type 0
+OneGrid P = (r r′ k k′ p p′ : ℕ) (w w′ : List ℕ) → P r k p w → P r′ k′ p′ w′ → (r ≡ r′) × (k ≡ k′) × (p ≡ p′) × (w ≡ w′)
+
 -- crossings: number, count, two points
 abbrev pub OneMeeting : (ℕ → ℕ → Float → Float → Float → Float → Type 0) → Type 0
 OneMeeting P = (n n′ k k′ : ℕ) (x x′ y y′ u u′ v v′ : Float) → P n k x y u v → P n′ k′ x′ y′ u′ v′ → (n ≡ n′) × (k ≡ k′) × (x ≡ x′)

@@ -5,6 +5,7 @@ pub mod edges;
 pub mod explanations;
 pub mod forms;
 pub mod gauges;
+pub mod grids;
 pub mod maps;
 pub mod mends;
 pub mod meshes;

@@ -1,26 +1,28 @@
 //! Puts cases to the Rust, to the rules (docs/RULES.md) read a second time and to the proved library, and tells the first difference.
 //!
-//!     compare [--cases N] [--mends N] [--plane N] [--roots N] [--seed S] [--from I]
+//!     compare [--cases N] [--mends N] [--grids N] [--plane N] [--roots N] [--seed S] [--from I]
 //!     compare --case I [--seed S]      one mesh case alone, with its mesh
 //!     compare --mend I [--seed S]      one mesh to be mended alone
+//!     compare --grid I [--seed S]      one mesh on the grid alone
 //!
-//! By default 20,000 meshes, 20,000 to be mended, 100,000 inputs to each plane function and 10,000 patterns of each class to the roots.
+//! By default 20,000 meshes, 20,000 to be mended, 20,000 on the grid, 100,000 inputs to each plane function and 10,000 patterns of each class to the roots.
 //! The library is served by the command in VORONOI_SERVER (harness/serve.sh makes it).
 
 use harness::cases::Case;
 use harness::library::{Difference, Library};
 use harness::tally::{Tally, CALLS};
 use harness::words::Words;
-use harness::{compare, mend, plane, roots, rust, text, why};
+use harness::{compare, grid, mend, plane, roots, rust, text, why};
 use std::time::{Duration, Instant};
 
-const USAGE: &str = "compare [--cases N] [--mends N] [--plane N] [--roots N] [--seed S] [--from I]
+const USAGE: &str = "compare [--cases N] [--mends N] [--grids N] [--plane N] [--roots N] [--seed S] [--from I]
 compare --case I [--seed S]      one mesh case alone, with its mesh
 compare --mend I [--seed S]      one mesh to be mended alone
-By default 20,000 meshes, 20,000 to be mended, 100,000 inputs to each plane function and 10,000 patterns of each class to the roots; 0 leaves a part out.";
+compare --grid I [--seed S]      one mesh on the grid alone
+By default 20,000 meshes, 20,000 to be mended, 20,000 on the grid, 100,000 inputs to each plane function and 10,000 patterns of each class to the roots; 0 leaves a part out.";
 
 fn main() {
-    let numbered = ["--cases", "--mends", "--plane", "--roots", "--seed", "--from", "--case", "--mend"];
+    let numbered = ["--cases", "--mends", "--plane", "--roots", "--seed", "--from", "--case", "--mend", "--grids", "--grid"];
     let words = Words::read(USAGE, &numbered, &[]);
     let option = |name: &str| words.number(name);
     let seed = option("--seed").unwrap_or(1);
@@ -53,6 +55,16 @@ fn main() {
         return;
     }
 
+    if let Some(i) = option("--grid") {
+        let case = grid::Case::random(seed, i);
+        println!("{case:?}\nmust be {:?}", case.answer());
+        match grid::run_one(i, &case, &mut library, &mut grid::Seen::default()).and_then(|()| library.flush()) {
+            Ok(()) => println!("no difference"),
+            Err(d) => stop(&d.words),
+        }
+        return;
+    }
+
     match library.names() {
         [] => println!("NO LIBRARY: only the Rust and the rules are compared"),
         names => println!("The library is asked: {}", names.join(" ")),
@@ -65,6 +77,10 @@ fn main() {
     let n = option("--mends").unwrap_or(20_000);
     if n > 0 {
         holes.extend(mends(seed, option("--from").unwrap_or(0), n, &mut library));
+    }
+    let n = option("--grids").unwrap_or(20_000);
+    if n > 0 {
+        holes.extend(grids(seed, option("--from").unwrap_or(0), n, &mut library));
     }
     let n = option("--plane").unwrap_or(100_000);
     if n > 0 {
@@ -144,6 +160,27 @@ fn mends(seed: u64, from: u64, cases: u64, library: &mut Library) -> Vec<String>
     let holes = seen.report();
     let asked = library.compared - before;
     println!("\n{cases} edited meshes, {asked} calls of the library compared, 0 differences, {:.1} s", start.elapsed().as_secs_f64());
+    holes
+}
+
+/// The largest meshes on the grid, then random ones; gives what never came up.
+fn grids(seed: u64, from: u64, cases: u64, library: &mut Library) -> Vec<String> {
+    let mut seen = grid::Seen::default();
+    let (start, before) = (Instant::now(), library.compared);
+    for (name, case) in grid::Case::limits() {
+        let told = grid::run_one(0, &case, library, &mut seen).and_then(|()| library.flush());
+        told.unwrap_or_else(|d| stop(&format!("DIFFERENCE on the grid, \"{name}\"\n{}", d.words)));
+    }
+    let wrong = |d: Difference| stop(&format!("DIFFERENCE on the grid {0} of seed {seed} (again: compare --grid {0} --seed {seed})\n{1}", d.case, d.words));
+    let mut progress = Progress { start, told: start };
+    for i in from..from + cases {
+        grid::run_one(i, &grid::Case::random(seed, i), library, &mut seen).unwrap_or_else(wrong);
+        progress.tell(i - from + 1, cases, library);
+    }
+    library.flush().unwrap_or_else(wrong);
+    let holes = seen.report();
+    let asked = library.compared - before;
+    println!("\n{cases} meshes on the grid, {asked} calls of the library compared, 0 differences, {:.1} s", start.elapsed().as_secs_f64());
     holes
 }
 

@@ -1,0 +1,16 @@
+-- The promises of the calls on the grid. What is asked: Plane of crate grid, Judged of grid_scan, Promise of grid_check; what the answers tell: Yes of
+-- grid_check; that the floats are equal numbers: Equal of grid_sites.
+use mathlib.Core.List.{List}
+use Prim.Native.Nat.{ℕ}
+use lib.Ieee.{Float}
+use lib.IntN.{ℤ}
+use Rattle.grid_check.specs.Promise.{GridMesh, GridChecks}
+use Rattle.grid_sites.specs.Sites.{GridSites}
+
+-- 1, 2, 22, 7 to 10
+abbrev pub GridCheck : GridMesh → List ℕ → List ℕ → ℕ → ℕ → ℕ → Type 0
+GridCheck = GridChecks
+
+-- 1, 2, 22
+abbrev pub SitesOfGrid : List ℤ → List Float → List Float → ℕ → Type 0
+SitesOfGrid = GridSites
