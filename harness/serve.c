@@ -147,6 +147,10 @@ static void grid_check(argument *a) { N(0) = voronoi_grid_check(I(1), U(2), U(3)
 static void grid_sites(argument *a) { N(0) = voronoi_grid_sites(I(1), F(2)); }
 #endif
 
+#ifdef HAS_flipping
+static void flip(argument *a) { N(0) = voronoi_flip(N(1), U(2), U(3), U(4), U(5), U(6), N(7)); }
+#endif
+
 static const struct {
     const char *name;
     void (*call)(argument *);
@@ -190,6 +194,9 @@ static const struct {
 #endif
 #ifdef HAS_grids
     {"grid_check", grid_check}, {"grid_sites", grid_sites},
+#endif
+#ifdef HAS_flipping
+    {"flip", flip},
 #endif
 };
 

@@ -26,6 +26,7 @@
  *   read_form, reader_feed   the bytes; no mesh is checked. reader_begin the words of the state, reader_end a fixed number
  *   grid_check               N + T, the check of the mesh included
  *   grid_sites               the coordinates; no mesh, so no check
+ *   flip                     T, to see whether the opposite sites are joined; the change itself the half-edges that end at two sites
  *   build                    usually N + T (0.3 to 0.9 microseconds a site). At worst the square of N: an added point is searched for among
  *                            all those added before (65,536 sites on a circle: 20 s), and a cell that stays empty is tried again from each
  *                            of its half-edges (one site with 65,535 neighbours: 5 minutes). docs/SPEED.md has the times.
@@ -43,9 +44,9 @@ extern "C" {
 
 /* ---- the version (the file VERSION; CHANGELOG.md says what changed) */
 
-#define VORONOI_VERSION "0.12.0"
+#define VORONOI_VERSION "0.13.0"
 #define VORONOI_VERSION_MAJOR 0
-#define VORONOI_VERSION_MINOR 12
+#define VORONOI_VERSION_MINOR 13
 #define VORONOI_VERSION_PATCH 0
 
 /* ---- numbers */
@@ -93,7 +94,7 @@ extern "C" {
 #define VORONOI_COUNT_LOST 5
 #define VORONOI_COUNTS 6
 
-/* ---- refusals, in the order in which they are tried (16 after 10, 17 first, 18 before 2, 19 after 7, 21 first, 22 in the place of 6); docs/RULES.md says of each what to do about it */
+/* ---- refusals, in the order in which they are tried (16 after 10, 17 first, 18 before 2, 19 after 7, 21 first, 22 in the place of 6, 23 after 10); docs/RULES.md says of each what to do about it */
 
 #define VORONOI_ACCEPTED 0
 #define VORONOI_REFUSED_COUNT 1         /* a count breaks its limit, an odd site list, triangles not in threes, half-edges not as many */
@@ -118,6 +119,7 @@ extern "C" {
 #define VORONOI_REFUSED_UNCLIPPED 20    /* the form has no box, kind 6: that mode is gone (where a form is read) */
 #define VORONOI_REFUSED_POINTS 21       /* the bytes are no MultiPoint (voronoi_read_multipoint alone) */
 #define VORONOI_REFUSED_GRID 22         /* a whole coordinate is beyond the profile (the calls on the grid alone) */
+#define VORONOI_REFUSED_FLIP 23         /* the half-edge cannot be flipped, or the table is not the leftmost table (voronoi_flip alone) */
 
 /* A sentence for each number, with no full stop; "no such number" for any other. It is never NULL. */
 static inline const char *voronoi_words(uint32_t number)
@@ -145,6 +147,7 @@ static inline const char *voronoi_words(uint32_t number)
     case VORONOI_REFUSED_UNCLIPPED: return "the form has no box: the unclipped mode is gone";
     case VORONOI_REFUSED_POINTS: return "the file is no MultiPoint in Well-Known Binary: a wrong mark or type, an early end, or bytes left over";
     case VORONOI_REFUSED_GRID: return "a site has a whole coordinate below -8,192 or above 8,192";
+    case VORONOI_REFUSED_FLIP: return "the half-edge cannot be flipped, or the table is not the leftmost table";
     default: return "no such number";
     }
 }
@@ -441,6 +444,20 @@ uint32_t voronoi_grid_check(const int32_t *grid, size_t grid_len, const uint32_t
 /* The same sites as floats, for every other call: equal numbers, nothing lost. Room: as many numbers. Tries 1 (an odd length, the limits on the
  * count of sites), 2, 22; `sites` is unchanged by each. After 0 it has the floats, then +0. */
 uint32_t voronoi_grid_sites(const int32_t *grid, size_t grid_len, double *sites, size_t sites_len);
+
+/* ---- flipping
+ * The diagonal of two neighbouring triangles is swapped in the lent lists. With b the pair of `halfedge`, r the half-edge before it in its triangle
+ * and l the one before b: `halfedge` then starts at the site where l starts and takes l's pair, b starts where r starts and takes r's pair (an outer
+ * pair that is there names them back), r and l become a pair. The hull does not change. What comes out is accepted again, and `table` is
+ * its leftmost table. Flipping at b is the same.
+ * `site_count` sites; `table`: the leftmost table as voronoi_check leaves it in `work`, which this call keeps right from then on. Room for `table`
+ * and `work`: VORONOI_WORK_ROOM; past the sites `table` is neither looked at nor changed.
+ * Tries 1, 2, 7 to 10, then 23: `halfedge` is out of range or unpaired; the two opposite sites are the same, or a half-edge joins them in
+ * either direction; or the table's first entries, one for each site, are not the leftmost table. Refused, `triangles`, `halfedges` and `table` are
+ * unchanged; `work` is unchanged after 1 and 2, VORONOI_EMPTY throughout after the others, and after 0 the new table, then VORONOI_EMPTY. */
+uint32_t voronoi_flip(uint32_t site_count, uint32_t *triangles, size_t triangles_len, uint32_t *halfedges, size_t halfedges_len,
+                      const uint32_t *hull, size_t hull_len, uint32_t *table, size_t table_len, uint32_t *work, size_t work_len,
+                      uint32_t halfedge);
 
 #ifdef __cplusplus
 }

@@ -5,6 +5,7 @@ pub mod cases;
 pub mod compare;
 pub mod edges;
 pub mod expect;
+pub mod flip;
 pub mod form;
 pub mod gauges;
 pub mod generate;

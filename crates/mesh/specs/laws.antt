@@ -8,3 +8,4 @@ pub mod Facts
 pub mod Verdicts
 pub mod Occurs
 pub mod Degree
+pub mod Closed

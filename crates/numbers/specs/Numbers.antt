@@ -68,6 +68,9 @@ refusedPoints = 21
 abbrev pub refusedGrid : ℕ
 refusedGrid = 22
 
+abbrev pub refusedFlip : ℕ
+refusedFlip = 23
+
 -- the tolerance, 2^-50
 abbrev pub tolerance : Float
 tolerance = ofBits binary64 0x3cd0_0000_0000_0000

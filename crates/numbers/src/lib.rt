@@ -60,6 +60,8 @@ pub const REFUSED_POINTS: u32 = 21;
 
 pub const REFUSED_GRID: u32 = 22;
 
+pub const REFUSED_FLIP: u32 = 23;
+
 // An index as a length: of 64 bits, nothing is lost.
 pub fn wide(x: u32) -> usize
     ensures { λ r. ⌜ r ≡ x ⌝ }

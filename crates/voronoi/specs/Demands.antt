@@ -42,6 +42,11 @@ use Rattle.voronoi.specs.One.{one-grid-check, one-grid-sites}
 use Rattle.voronoi.specs.One.{one-mend, one-cell-wkb-bits, one-cell-wkb, one-root-bits, one-root, one-magnitude-bits, one-magnitude, one-signum-bits, one-signum}
 use Rattle.voronoi.specs.Plane.{Near, Dist2, Circumcenter, Centroid, Edges, Centered, Corners, Inside, ExclusivelyInside, WhichEdge, Meets}
 use Rattle.voronoi.specs.One.{one-near, one-dist2, one-center, one-box, one-box-center, one-corners, one-inside, one-exclusively, one-side, one-meeting}
+use Rattle.flip_call.specs.Flips.{FlipLists}
+use Rattle.voronoi.specs.Flips.{Flip}
+use Rattle.voronoi.specs.One.{one-mend, one-flip, one-cell-wkb-bits, one-cell-wkb, one-root-bits, one-root, one-magnitude-bits, one-magnitude, one-signum-bits, one-signum}
+use Rattle.voronoi.specs.Plane.{Near, Dist2, Circumcenter, Centroid, Edges, Corners, Inside, ExclusivelyInside, WhichEdge, Meets}
+use Rattle.voronoi.specs.One.{one-near, one-dist2, one-center, one-box, one-corners, one-inside, one-exclusively, one-side, one-meeting}
 use Rattle.voronoi.specs.Meshes.{Check}
 use Rattle.voronoi.specs.One.{one-check}
 use Rattle.voronoi.specs.Walks.{Walk, Neighbours, ClippedNeighbours, Path, SharedEdge, CellsShareEdge}
@@ -50,12 +55,12 @@ use Rattle.voronoi.specs.Builds.{Build, Cell, CellPart}
 use Rattle.voronoi.specs.Explanations.{Why}
 use Rattle.voronoi.specs.One.{one-build, one-why, one-cell, one-cell-part}
 use Rattle.voronoi.specs.Maps.{CellWkbBits, CellWkb}
-use Rattle.voronoi.specs.Outcomes.{One, One₂, One₃, OneList, OneMend, OneMeeting, OneBox, OneCenter, SliceRefused, ListRefused, BuildRefused, OneGrid}
+use Rattle.voronoi.specs.Outcomes.{One, One₂, One₃, OneList, OneMend, OneMeeting, OneBox, OneCenter, SliceRefused, ListRefused, BuildRefused, OneGrid, FlipRefused}
 use Rattle.voronoi.specs.Leaves.{QueryAllowed, BuildAllowed, BuildLeaves}
 use Rattle.voronoi.specs.Bounds.{BoundedEdges, BoundedCenter, BoundedMeeting, Bounds, bounds}
 use Rattle.voronoi.specs.Approach.{WholeRound, nextTo, Joined, Approaches}
 use Rattle.voronoi.specs.Wraps.{Wraps}
-use Rattle.voronoi.specs.laws.Refused.{work-refused, list-refused, slices-refused}
+use Rattle.voronoi.specs.laws.Refused.{work-refused, list-refused, slices-refused, lists-refused}
 use Rattle.voronoi.specs.laws.Answering.{check-answers, site-answers, cells-answers, path-answers, edge-answers}
 use Rattle.voronoi.specs.laws.Leaving.{build-answers, build-leaves, build-empty}
 use Rattle.voronoi.specs.laws.PlaneBounds.{dist2-answer, circumcenter-answer, centroid-answer, box-answer, center-answer, corners-answer, line-answer, ray-answer}
@@ -146,6 +151,8 @@ pub record Demand1 (m : Mesh) : Type 0 where
   pub grid-check : (g : GridMesh) (w : List ℕ) → OneGrid (λ r k p w′. GridCheck g w w′ r k p)
   -- voronoi_grid_sites: the number, the slice
   pub grid-sites : (grid : List ℤ) (old : List Float) → One₂ (λ r new. SitesOfGrid grid old new r)
+  -- voronoi_flip: the number, the four lists
+  pub flip : (sites : ℕ) (hull : List ℕ) (a : ℕ) (old : FlipLists) → One₂ (λ r new. Flip sites hull a old new r)
   -- refused by voronoi_check: the work slice
   pub check-refused : {w w′ : List ℕ} {r : ℕ} → Check m w w′ r → r ≢ 0 → SliceRefused EMPTY w w′ r
   -- by a call that hands out a list: the work slice, the output slice, the count, ended
@@ -158,6 +165,8 @@ pub record Demand1 (m : Mesh) : Type 0 where
   pub shared-edge-refused : (a b : ℕ) {w w′ : List ℕ} {e r : ℕ} → SharedEdge m a b w w′ e r → r ≢ 0 → SliceRefused EMPTY w w′ r
   -- by a build: all five slices
   pub build-refused : (g : Given) {old new : Slices} {r : ℕ} → Build m g old new r → r ≢ 0 → BuildRefused old new r
+  -- by a flip: triangles, half-edges and table stay
+  pub flip-refused : (sites : ℕ) (hull : List ℕ) (a : ℕ) {old new : FlipLists} {r : ℕ} → Flip sites hull a old new r → r ≢ 0 → FlipRefused old new r
 
 -- ---- 2. On every admitted input vertices, cells, walks and paths are the definition's, bit for bit: every number answered is finite, so that its pattern is meant.
 
@@ -284,6 +293,7 @@ demand1 m = record {
   write-multipoint = λ sites old _ _ _ _ _ _. one-write-multipoint sites old;
   grid-check = λ g w _ _ _ _ _ _ _ _. one-grid-check g;
   grid-sites = λ grid old _ _ _ _. one-grid-sites grid;
+  flip = λ sites hull a old _ _ _ _. one-flip sites hull a;
   check-refused = λ a. work-refused m (a .work);
   walk-refused = λ s. list-refused;
   neighbours-refused = λ s. list-refused;
@@ -291,6 +301,7 @@ demand1 m = record {
   path-refused = λ s p. list-refused;
   shared-edge-refused = λ a b x. work-refused m (x .work);
   build-refused = λ g. slices-refused;
+  flip-refused = lists-refused;
 }
 
 pub demand2 : (m : Mesh) → Demand2 m

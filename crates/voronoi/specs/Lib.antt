@@ -11,6 +11,7 @@ pub mod Mends
 pub mod Forms
 pub mod Gauges
 pub mod Grids
+pub mod Flips
 pub mod Examples
 pub mod laws
 pub mod Outcomes

@@ -46,6 +46,9 @@ use Rattle.reader.specs.declared.Answer.{Answer}
 use Rattle.reader.specs.declared.Report.{Report}
 use Rattle.voronoi.specs.Forms.{ReaderBegin, ReaderFeed, ReaderEnd, ReadForm}
 use Rattle.voronoi.specs.Grids.{GridCheck, SitesOfGrid}
+use Rattle.flip_call.specs.Flips.{FlipLists}
+use Rattle.flip_call.specs.One.{flips-one}
+use Rattle.voronoi.specs.Flips.{Flip}
 use Rattle.voronoi.specs.Roots.{MagnitudeBits, Magnitude, SignumBits, Signum}
 use Rattle.voronoi.specs.Plane.{Near, Dist2, Edges, Centered, Corners, Inside, ExclusivelyInside, WhichEdge, Meets}
 use Rattle.voronoi.specs.Meshes.{Check}
@@ -244,3 +247,8 @@ one-grid-check m = grid-checks-one m _ _ _ _ _ _ _ _ _
 
 pub one-grid-sites : (grid : List ℤ) {old new other : List Float} {r s : ℕ} → SitesOfGrid grid old new r → SitesOfGrid grid old other s → (r ≡ s) × (new ≡ other)
 one-grid-sites grid = grid-sites-one grid _ _ _ _ _
+
+-- ---- flipping
+pub one-flip : (sites : ℕ) (hull : List ℕ) (a : ℕ) {old new other : FlipLists} {r s : ℕ} → Flip sites hull a old new r → Flip sites hull a old other s
+    → (r ≡ s) × (new ≡ other)
+one-flip sites hull a = flips-one sites hull a _ _ _ _ _

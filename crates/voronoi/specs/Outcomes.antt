@@ -9,6 +9,7 @@ use Rattle.numbers.specs.Numbers.{EMPTY}
 use Rattle.laws.specs.Binary64.{zero}
 use Rattle.admission.specs.Slices.{Slices}
 use Rattle.mending.specs.Mending.{Lent}
+use Rattle.flip_call.specs.Flips.{FlipLists}
 
 -- ---- one outcome
 
@@ -70,3 +71,10 @@ pub record BuildRefused (old new : Slices) (r : ℕ) : Type 0 where
   pub indexes : SliceRefused EMPTY (old .indexes) (new .indexes) r
   pub offsets : SliceRefused EMPTY (old .offsets) (new .offsets) r
   pub counts : SliceRefused EMPTY (old .counts) (new .counts) r
+
+-- a flip changes nothing but the work slice
+pub record FlipRefused (old new : FlipLists) (r : ℕ) : Type 0 where
+  pub triangles : new .triangles ≡ old .triangles
+  pub halfedges : new .halfedges ≡ old .halfedges
+  pub table : new .table ≡ old .table
+  pub work : SliceRefused EMPTY (old .work) (new .work) r

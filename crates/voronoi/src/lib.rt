@@ -3,6 +3,7 @@
 pub mod builds;
 pub mod edges;
 pub mod explanations;
+pub mod flips;
 pub mod forms;
 pub mod gauges;
 pub mod grids;

@@ -1,28 +1,30 @@
 //! Puts cases to the Rust, to the rules (docs/RULES.md) read a second time and to the proved library, and tells the first difference.
 //!
-//!     compare [--cases N] [--mends N] [--grids N] [--plane N] [--roots N] [--seed S] [--from I]
+//!     compare [--cases N] [--mends N] [--grids N] [--flips N] [--plane N] [--roots N] [--seed S] [--from I]
 //!     compare --case I [--seed S]      one mesh case alone, with its mesh
 //!     compare --mend I [--seed S]      one mesh to be mended alone
 //!     compare --grid I [--seed S]      one mesh on the grid alone
+//!     compare --flip I [--seed S]      one mesh alone, each half-edge flipped
 //!
-//! By default 20,000 meshes, 20,000 to be mended, 20,000 on the grid, 100,000 inputs to each plane function and 10,000 patterns of each class to the roots.
+//! By default 20,000 meshes, 20,000 to be mended, 20,000 on the grid, 5,000 with each half-edge flipped, 100,000 inputs to each plane function and 10,000 patterns of each class to the roots.
 //! The library is served by the command in VORONOI_SERVER (harness/serve.sh makes it).
 
 use harness::cases::Case;
 use harness::library::{Difference, Library};
 use harness::tally::{Tally, CALLS};
 use harness::words::Words;
-use harness::{compare, grid, mend, plane, roots, rust, text, why};
+use harness::{compare, flip, grid, mend, plane, roots, rust, text, why};
 use std::time::{Duration, Instant};
 
-const USAGE: &str = "compare [--cases N] [--mends N] [--grids N] [--plane N] [--roots N] [--seed S] [--from I]
+const USAGE: &str = "compare [--cases N] [--mends N] [--grids N] [--flips N] [--plane N] [--roots N] [--seed S] [--from I]
 compare --case I [--seed S]      one mesh case alone, with its mesh
 compare --mend I [--seed S]      one mesh to be mended alone
 compare --grid I [--seed S]      one mesh on the grid alone
-By default 20,000 meshes, 20,000 to be mended, 20,000 on the grid, 100,000 inputs to each plane function and 10,000 patterns of each class to the roots; 0 leaves a part out.";
+compare --flip I [--seed S]      one mesh alone, each half-edge flipped
+By default 20,000 meshes, 20,000 to be mended, 20,000 on the grid, 5,000 with each half-edge flipped, 100,000 inputs to each plane function and 10,000 patterns of each class to the roots; 0 leaves a part out.";
 
 fn main() {
-    let numbered = ["--cases", "--mends", "--plane", "--roots", "--seed", "--from", "--case", "--mend", "--grids", "--grid"];
+    let numbered = ["--cases", "--mends", "--plane", "--roots", "--seed", "--from", "--case", "--mend", "--grids", "--grid", "--flips", "--flip"];
     let words = Words::read(USAGE, &numbered, &[]);
     let option = |name: &str| words.number(name);
     let seed = option("--seed").unwrap_or(1);
@@ -65,6 +67,18 @@ fn main() {
         return;
     }
 
+    if let Some(i) = option("--flip") {
+        let case = flip::Case::random(seed, i);
+        print!("{}", text::write(&case.mesh, None));
+        println!("lent: sites {}, table {:?}, work {}", case.sites, case.table, case.work);
+        let told = flip::run_one(i, &case, &mut library, &mut flip::Seen::default(), &mut Tally::new()).and_then(|()| library.flush());
+        match told {
+            Ok(()) => println!("no difference"),
+            Err(d) => stop(&d.words),
+        }
+        return;
+    }
+
     match library.names() {
         [] => println!("NO LIBRARY: only the Rust and the rules are compared"),
         names => println!("The library is asked: {}", names.join(" ")),
@@ -81,6 +95,10 @@ fn main() {
     let n = option("--grids").unwrap_or(20_000);
     if n > 0 {
         holes.extend(grids(seed, option("--from").unwrap_or(0), n, &mut library));
+    }
+    let n = option("--flips").unwrap_or(5_000);
+    if n > 0 {
+        holes.extend(flips(seed, option("--from").unwrap_or(0), n, &mut library));
     }
     let n = option("--plane").unwrap_or(100_000);
     if n > 0 {
@@ -181,6 +199,29 @@ fn grids(seed: u64, from: u64, cases: u64, library: &mut Library) -> Vec<String>
     let holes = seen.report();
     let asked = library.compared - before;
     println!("\n{cases} meshes on the grid, {asked} calls of the library compared, 0 differences, {:.1} s", start.elapsed().as_secs_f64());
+    holes
+}
+
+/// Every half-edge of each mesh; gives what never came up.
+fn flips(seed: u64, from: u64, cases: u64, library: &mut Library) -> Vec<String> {
+    let (mut seen, mut tally) = (flip::Seen::default(), Tally::new());
+    let (start, before) = (Instant::now(), library.compared);
+    let wrong = |d: Difference| {
+        print!("{}", text::write(&flip::Case::random(seed, d.case).mesh, None));
+        stop(&format!("DIFFERENCE in flipping {0} of seed {seed} (again: compare --flip {0} --seed {seed})\n{1}", d.case, d.words))
+    };
+    let mut progress = Progress { start, told: start };
+    for i in from..from + cases {
+        flip::run_one(i, &flip::Case::random(seed, i), library, &mut seen, &mut tally).unwrap_or_else(wrong);
+        progress.tell(i - from + 1, cases, library);
+    }
+    library.flush().unwrap_or_else(wrong);
+    let holes = seen.report();
+    let (asked, built) = (library.compared - before, tally.cases);
+    println!(
+        "\nEvery half-edge of {cases} meshes, {built} flipped meshes put to every call beside the Rust, {asked} calls of the library compared, 0 differences, {:.1} s",
+        start.elapsed().as_secs_f64()
+    );
     holes
 }
 

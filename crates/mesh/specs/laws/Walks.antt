@@ -29,7 +29,7 @@ turn-cases he s e = go (eqb (around he e) s) refl
 
 module _ (tri he : List ℕ) (ok : Paired tri he) where
   -- the pair of the next half-edge, where there is one
-  mate : (e : ℕ) → e < length he → around he e ≢ EMPTY → Mates tri he (nextOf e) (around he e)
+  pub mate : (e : ℕ) → e < length he → around he e ≢ EMPTY → Mates tri he (nextOf e) (around he e)
   mate e l n = ⊎-elim (λ w. absurd (n w)) (λ w. w) (ok .pairs (nextOf e) (next-lt (ok .threes) l))
 
   around-inj : (a b : ℕ) → a < length he → b < length he → around he a ≢ EMPTY → around he a ≡ around he b → a ≡ b

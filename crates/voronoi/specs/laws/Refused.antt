@@ -19,7 +19,10 @@ use Rattle.check_mesh.specs.AtExit.{atExit}
 use Rattle.admission.specs.Slices.{Slices}
 use Rattle.plane_calls.specs.Plane.{bit}
 use Rattle.voronoi.specs.Walks.{Handed}
-use Rattle.voronoi.specs.Outcomes.{SliceRefused, ListRefused, BuildRefused}
+use Rattle.flip_call.specs.Flips.{FlipLists}
+use Rattle.flip_call.specs.FlipsTheorem.{flip-refused}
+use Rattle.voronoi.specs.Flips.{Flip}
+use Rattle.voronoi.specs.Outcomes.{SliceRefused, ListRefused, BuildRefused, FlipRefused}
 
 module _ (r : ℕ) (n : r ≢ 0) where
   work-kept : (m : Mesh) (old : List ℕ) → r < 7 → workAfter m old r ≡ old
@@ -84,3 +87,8 @@ slices-refused a n = record {
   offsets = slice-refused EMPTY _ _ _ _ n (a .offsets);
   counts = slice-refused EMPTY _ _ _ _ n (a .counts);
 }
+
+pub lists-refused : (sites : ℕ) (hull : List ℕ) (a : ℕ) {old new : FlipLists} {r : ℕ} → Flip sites hull a old new r → r ≢ 0 → FlipRefused old new r
+lists-refused sites hull a {old} {new} {r} x n =
+    let k = flip-refused sites hull a old new r x n in
+    record { triangles = k .0; halfedges = k .1; table = k .2; work = slice-refused EMPTY _ _ _ _ n (x .work) }

@@ -1,0 +1,5 @@
+-- The root of the crate's definitions.
+pub mod Flip
+pub mod Entries
+pub mod laws
+pub mod FlipTheorem

@@ -1,0 +1,81 @@
+-- The least of a list, the cases of an entry, and that a site has one leftmost half-edge.
+use mathlib.Core.Path.{_≡_, refl, sym, _∙_}
+use mathlib.Core.List.{List, [], _∷_}
+use mathlib.Core.Logic.{_⊎_, inl, inr, ⊎-elim, _≢_}
+use Prim.Native.Nat.{ℕ, _≤_, _<_}
+use native.Mathlib.Nat.{le-antisymm}
+use native.Mathlib.Omega.{arith}
+use borrow.Author.Tests.{eq-eqb, ne-eqb, lt-ltb, le-ltb}
+use Rattle.laws.specs.Count.{occ}
+use Rattle.laws.specs.laws.Count.{same-cases}
+use Rattle.laws.specs.laws.Decide.{lt-or-ge, eq-or-ne}
+use Rattle.numbers.specs.Numbers.{EMPTY}
+use Rattle.mesh.specs.Mesh.{pairOf, Leftmost}
+use Rattle.flipping.specs.Entries.{lesser, leastOf, gainOf, leastRound, lossOf}
+
+pub lesser-cases : (x m : ℕ) → ((x < m) × (lesser x m ≡ x)) ⊎ ((m ≤ x) × (lesser x m ≡ m))
+unfolding lesser
+lesser-cases x m = ⊎-elim (λ l. inl (l, rw (lt-ltb x m l))) (λ l. inr (l, rw (le-ltb x m l))) (lt-or-ge x m)
+
+least-le : (m : ℕ) (l : List ℕ) → leastOf m l ≤ m
+unfolding leastOf
+least-le m [] = omega arith
+least-le m (x ∷ l) = ⊎-elim (λ w. omega (arith, least-le (lesser x m) l)) (λ w. omega (arith, least-le (lesser x m) l)) (lesser-cases x m)
+
+pub least-below : (m : ℕ) (l : List ℕ) (v : ℕ) → 0 < occ v l → leastOf m l ≤ v
+unfolding leastOf
+least-below m [] v h = absurd (omega arith)
+least-below m (x ∷ l) v h =
+    ⊎-elim
+    (λ w. ⊎-elim (λ u. omega (arith, least-le (lesser x m) l)) (λ u. omega (arith, least-le (lesser x m) l)) (lesser-cases x m))
+    (λ w. least-below (lesser x m) l v (omega arith))
+    (same-cases v x)
+
+pub least-there : (m : ℕ) (l : List ℕ) → (leastOf m l ≡ m) ⊎ (0 < occ (leastOf m l) l)
+unfolding leastOf
+least-there m [] = inl refl
+least-there m (x ∷ l) =
+    ⊎-elim
+    (λ z. ⊎-elim
+    (λ w. inr (⊎-elim (λ u. omega arith) (λ u. absurd (u .0 (z ∙ w .1))) (same-cases (leastOf (lesser x m) l) x)))
+    (λ w. inl (z ∙ w .1))
+    (lesser-cases x m))
+    (λ z. inr (⊎-elim (λ u. omega arith) (λ u. omega arith) (same-cases (leastOf (lesser x m) l) x)))
+    (least-there (lesser x m) l)
+
+pub gain-cases : (he : List ℕ) (t e : ℕ) → ((pairOf he t ≡ EMPTY) × (gainOf he t e ≡ t)) ⊎ ((pairOf he t ≢ EMPTY) × (gainOf he t e ≡ lesser e t))
+unfolding gainOf
+gain-cases he t e = ⊎-elim (λ z. inl (z, rw (eq-eqb (pairOf he t) EMPTY z))) (λ z. inr (z, rw (ne-eqb (pairOf he t) EMPTY z))) (eq-or-ne (pairOf he t) EMPTY)
+
+module _ (he : List ℕ) (t lost kept : ℕ) where
+  pub loss-other : t ≢ lost → lossOf he t lost kept ≡ t
+  unfolding lossOf
+  loss-other n = rw (ne-eqb t lost n)
+
+  pub loss-open : t ≡ lost → pairOf he lost ≡ EMPTY → lossOf he t lost kept ≡ kept
+  unfolding lossOf
+  loss-open z u = rw (eq-eqb t lost z, eq-eqb (pairOf he lost) EMPTY u)
+
+  pub loss-round : t ≡ lost → pairOf he lost ≢ EMPTY → lossOf he t lost kept ≡ leastRound he lost kept
+  unfolding lossOf
+  loss-round z u = rw (eq-eqb t lost z, ne-eqb (pairOf he lost) EMPTY u)
+
+-- a site has one leftmost half-edge
+pub leftmost-one : (tri he : List ℕ) (n s t u : ℕ) → Leftmost tri he n s t → Leftmost tri he n s u → t ≡ u
+leftmost-one tri he n s t u x y =
+    ⊎-elim
+    (λ z. ⊎-elim (λ w. z ∙ sym w) (λ w. absurd (x .none z u (y .some w .0) (y .some w .1))) (eq-or-ne u EMPTY))
+    (λ z. ⊎-elim
+    (λ w. absurd (y .none w t (x .some z .0) (x .some z .1)))
+    (λ w.
+    let p = x .some z in
+    let q = y .some w in
+    ⊎-elim
+    (λ o. let v = y .last t (p .0) (p .1) o in le-antisymm (v .0) (x .last u (q .0) (q .1) (v .1) .0))
+    (λ o. ⊎-elim
+    (λ v. absurd (o (x .last u (q .0) (q .1) v .1)))
+    (λ v. le-antisymm (x .lowest o u (q .0) (q .1)) (y .lowest v t (p .0) (p .1)))
+    (eq-or-ne (pairOf he u) EMPTY))
+    (eq-or-ne (pairOf he t) EMPTY))
+    (eq-or-ne u EMPTY))
+    (eq-or-ne t EMPTY)
