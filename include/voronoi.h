@@ -44,9 +44,9 @@ extern "C" {
 
 /* ---- the version (the file VERSION; CHANGELOG.md says what changed) */
 
-#define VORONOI_VERSION "0.13.0"
+#define VORONOI_VERSION "0.14.0"
 #define VORONOI_VERSION_MAJOR 0
-#define VORONOI_VERSION_MINOR 13
+#define VORONOI_VERSION_MINOR 14
 #define VORONOI_VERSION_PATCH 0
 
 /* ---- numbers */
@@ -268,6 +268,7 @@ uint32_t voronoi_clipped_neighbours(const double *sites, size_t sites_len, const
 
 /* The path from the site towards (x, y): each hop to the first of the neighbours nearest by squared distance, while that is strictly
  * nearer; so it stops exactly where no neighbour is strictly nearer, lists no site twice and has no more entries than sites in use. */
+/* A path that was cut may be asked for again from its last site: the answers joined without that site are the undivided path, or its beginning. */
 uint32_t voronoi_path(const double *sites, size_t sites_len, const uint32_t *triangles, size_t triangles_len, const uint32_t *halfedges,
                       size_t halfedges_len, const uint32_t *hull, size_t hull_len, uint32_t site, double x, double y, uint32_t *work,
                       size_t work_len, uint32_t *out, size_t out_len, uint32_t *count, uint32_t *ended);

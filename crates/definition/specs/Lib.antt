@@ -20,4 +20,5 @@ pub mod ShortEdge
 pub mod ByNumber
 pub mod TryTheorem
 pub mod NoSide
+pub mod RingsGiven
 pub mod laws

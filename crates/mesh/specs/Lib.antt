@@ -5,4 +5,6 @@ pub mod Accepted
 pub mod Rules
 pub mod laws
 pub mod WalkTheorem
+pub mod Rings
+pub mod ThriceTheorem
 pub mod Square

@@ -5,6 +5,7 @@ pub mod Walks
 pub mod Table
 pub mod Border
 pub mod Facts
+pub mod Rings
 pub mod Verdicts
 pub mod Occurs
 pub mod Degree

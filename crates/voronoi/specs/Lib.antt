@@ -20,3 +20,5 @@ pub mod Bounds
 pub mod Approach
 pub mod Wraps
 pub mod Demands
+pub mod Restart
+pub mod Thrice

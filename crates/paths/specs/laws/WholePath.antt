@@ -278,7 +278,7 @@ module _ (sites : List Float) (tri he table : List ℕ) (p : Point) where
     whole-alone s l q =
         sym (whole-same (suc (usedOf tri n)) s l (omega arith) (omega arith)) ∙ path-stop (usedOf tri n) s (alone-stays s q)
 
-    whole-below : (s v : ℕ) → s < n → 0 < occ v (wholePath sites tri he table p s) → v < n
+    pub whole-below : (s v : ℕ) → s < n → 0 < occ v (wholePath sites tri he table p s) → v < n
     whole-below s v l o =
         ⊎-elim
         (λ u. used-below v (path-used (length sites) s v u o))
