@@ -4,7 +4,7 @@ int printf(const char *format, ...); /* declared here, so that it builds without
 int scanf(const char *format, ...);
 
 enum { N = 1000, T = 2000, H = 1000 }; /* room for sites, triangles and hull sites; up to 65536, 131072, 65536 */
-static double box[4], sites[2 * N], vertices[VORONOI_VERTEX_NUMBERS(T, H)];
+static double box[4], sites[2 * N], vertices[VORONOI_VERTEX_NUMBERS(T, H)], areas[N];
 static uint32_t triangles[3 * T], halfedges[3 * T], hull[H], work[VORONOI_WORK_ROOM(N)], indexes[VORONOI_INDEX_ROOM(T, H)];
 static uint32_t offsets[VORONOI_OFFSET_ROOM(N)], counts[VORONOI_COUNTS];
 static size_t n, t, h; /* how many there are */
@@ -38,16 +38,12 @@ int main(void)
         vertices, VORONOI_VERTEX_NUMBERS(t, h), indexes, VORONOI_INDEX_ROOM(t, h), offsets, n + 1, counts, VORONOI_COUNTS);
     if (refused)
         return printf("refused %u: %s\n", refused, voronoi_words(refused)), 1;
+    if ((refused = voronoi_areas(vertices, 2 * (size_t)counts[VORONOI_COUNT_VERTICES], offsets, n + 1, indexes, offsets[n], areas, n)))
+        return printf("refused %u: %s\n", refused, voronoi_words(refused)), 1;
     double total = 0;
     for (size_t site = 0; site < n; site++) {
-        double area = 0; /* by the shoelace formula, seen from the site; counter-clockwise with y downward */
-        for (uint32_t i = offsets[site]; i < offsets[site + 1]; i++) {
-            const double *a = vertices + 2 * indexes[i], *b = vertices + 2 * indexes[i + 1 < offsets[site + 1] ? i + 1 : offsets[site]];
-            double x = sites[2 * site], y = sites[2 * site + 1];
-            area += ((b[0] - x) * (a[1] - y) - (a[0] - x) * (b[1] - y)) / 2;
-        }
-        printf("site %u: area %.6f\n", (unsigned)site, area);
-        total += area;
+        printf("site %u: area %.6f\n", (unsigned)site, areas[site]);
+        total += areas[site];
     }
     printf("total %.6f, the box %.6f, corners lost %u\n", total, box[2] * box[3], counts[VORONOI_COUNT_LOST]);
     return 0;

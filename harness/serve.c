@@ -112,6 +112,10 @@ static void why(argument *a)
 }
 #endif
 
+#ifdef HAS_areas
+static void areas(argument *a) { N(0) = voronoi_areas(F(1), U(2), U(3), F(4)); }
+#endif
+
 #ifdef HAS_mending
 static void mend(argument *a) { N(0) = voronoi_mend(MESH(1), U(5), U(6), U(7), U(8), PU(9), PU(10), PU(11)); }
 #endif
@@ -179,6 +183,9 @@ static const struct {
 #endif
 #ifdef HAS_reasons
     {"why", why},
+#endif
+#ifdef HAS_areas
+    {"areas", areas},
 #endif
 #ifdef HAS_mending
     {"mend", mend},

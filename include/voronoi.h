@@ -22,6 +22,7 @@
  *   cells_share_edge         the offsets, and the product of the lengths of the two cells; no mesh, so no check
  *   cell                     the offsets; no mesh, so no check
  *   cell_wkb                 the offsets and the cell's entries; no mesh, so no check
+ *   areas                    the offsets and the entries, some tenth of a microsecond to one for each entry; no mesh, so no check
  *   mend                     N + T, the check of what was mended included; a site of any degree
  *   read_form, reader_feed   the bytes; no mesh is checked. reader_begin the words of the state, reader_end a fixed number
  *   grid_check               N + T, the check of the mesh included
@@ -44,9 +45,9 @@ extern "C" {
 
 /* ---- the version (the file VERSION; CHANGELOG.md says what changed) */
 
-#define VORONOI_VERSION "0.14.0"
+#define VORONOI_VERSION "0.15.0"
 #define VORONOI_VERSION_MAJOR 0
-#define VORONOI_VERSION_MINOR 14
+#define VORONOI_VERSION_MINOR 15
 #define VORONOI_VERSION_PATCH 0
 
 /* ---- numbers */
@@ -120,6 +121,7 @@ extern "C" {
 #define VORONOI_REFUSED_POINTS 21       /* the bytes are no MultiPoint (voronoi_read_multipoint alone) */
 #define VORONOI_REFUSED_GRID 22         /* a whole coordinate is beyond the profile (the calls on the grid alone) */
 #define VORONOI_REFUSED_FLIP 23         /* the half-edge cannot be flipped, or the table is not the leftmost table (voronoi_flip alone) */
+#define VORONOI_REFUSED_CORNER 24       /* a vertex that an entry names is not finite or above 2^400 (voronoi_areas alone) */
 
 /* A sentence for each number, with no full stop; "no such number" for any other. It is never NULL. */
 static inline const char *voronoi_words(uint32_t number)
@@ -148,6 +150,7 @@ static inline const char *voronoi_words(uint32_t number)
     case VORONOI_REFUSED_POINTS: return "the file is no MultiPoint in Well-Known Binary: a wrong mark or type, an early end, or bytes left over";
     case VORONOI_REFUSED_GRID: return "a site has a whole coordinate below -8,192 or above 8,192";
     case VORONOI_REFUSED_FLIP: return "the half-edge cannot be flipped, or the table is not the leftmost table";
+    case VORONOI_REFUSED_CORNER: return "a vertex that a cell names has a coordinate above 2^400 or not finite";
     default: return "no such number";
     }
 }
@@ -329,6 +332,19 @@ uint32_t voronoi_cell_wkb(const double *vertices, size_t vertices_len, const uin
                           const uint32_t *indexes, size_t indexes_len, uint32_t site, uint8_t *out, size_t out_len, size_t *written);
 uint32_t voronoi_cell_wkb_bits(const uint64_t *vertices, size_t vertices_len, const uint32_t *offsets, size_t offsets_len,
                                const uint32_t *indexes, size_t indexes_len, uint32_t site, uint8_t *out, size_t out_len, size_t *written);
+
+/* ---- areas
+ * areas[s]: the area of the ring of the vertices that the entries of cell s name, in their order and back to the first: half the sum, over
+ * its sides (x, y) to (u, v), of y u - x v. The sum is exact, and rounded once to the nearest f64, ties to even; so the sign is the truth.
+ * Positive where the ring turns as a sound piece does, counter-clockwise with y downward, negative the other way; a ring that crosses
+ * itself has the sum of its loops, each with its sign. Fewer than three entries, or a sum of exactly 0: +0. At most 2^824, never a NaN.
+ * Of at most 2^-1075 in magnitude an area is 0, with the sign of the sum. Lend the offsets of a build without their cleared tail; there are
+ * as many cells as offsets less one, with no limit. Triangles are rings too: `vertices` the sites, `offsets` 0 3 6 .., `indexes` the
+ * triangles; on a sound mesh every area is above 0.
+ * Tries 1 on an odd list of vertices and on more than 2^24 entries in the index list, 16, 18 on the entries of all cells, 24 on the
+ * vertices that they name, 2 on fewer areas than cells. Refused, `areas` is as it was; after 0 what is past the areas is +0. */
+uint32_t voronoi_areas(const double *vertices, size_t vertices_len, const uint32_t *offsets, size_t offsets_len, const uint32_t *indexes,
+                       size_t indexes_len, double *areas, size_t areas_len);
 
 /* ---- why
  * The one reason: what is wrong, and nothing that stands earlier in the order is. Tries 1, 2, 3, 4 on each site asked about, 6, 7 to 10, 11, and 12

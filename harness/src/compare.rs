@@ -1,5 +1,6 @@
 //! One case put to the Rust, to the second reading of the rules and to the proved library: any difference is told in words.
 
+use crate::areas;
 use crate::cases::Case;
 use crate::edges;
 use crate::expect::{self, Beside, Facts, Slices};
@@ -85,6 +86,7 @@ fn ask(index: u64, c: &Case, calls: &mut Vec<Call>, tally: &mut Tally) -> Told {
     let vertices = built.map(|b| &b.vertices[..]);
     maps::ask(index, c, &cells, vertices, calls, tally);
     gauges::ask(index, calls, tally);
+    areas::ask(index, c, &cells, vertices, calls, tally);
     let diagram = lent.as_ref().map(|l| rust::diagram(l, &cells));
     walks(c, &facts, &cells, diagram.as_ref(), calls, tally)?;
     cell_questions(c, &cells, diagram.as_ref(), calls, tally)

@@ -1,5 +1,6 @@
 //! The Rust's answers, the rules' answers (docs/RULES.md), and the meshes that both are asked about.
 
+pub mod areas;
 pub mod bench;
 pub mod cases;
 pub mod compare;

@@ -21,6 +21,7 @@ pub const CALLS: &[Call] = &[
     Call { name: "shared_edge", numbers: MESH },
     Call { name: "cells_share_edge", numbers: &[0, 4, 16] },
     Call { name: "cell", numbers: &[0, 4, 16] },
+    Call { name: "areas", numbers: &[0, 1, 2, 16, 18, 24] },
     Call { name: "cell_wkb", numbers: &[0, 1, 2, 4, 16, 18] },
     Call { name: "cell_wkb_bits", numbers: &[0, 1, 2, 4, 16, 18] },
     Call { name: "read_multipoint", numbers: &[0, 1, 2, 6, 21] },
@@ -31,7 +32,7 @@ pub const CALLS: &[Call] = &[
     Call { name: "why_by_edges", numbers: &[0, 1, 2, 3, 4, 6, 7, 8, 9, 10, 11, 12, 13, 14] },
 ];
 
-const NUMBERS: usize = 22;
+const NUMBERS: usize = 26;
 
 #[derive(Default)]
 pub struct Tally {

@@ -71,6 +71,9 @@ refusedGrid = 22
 abbrev pub refusedFlip : ℕ
 refusedFlip = 23
 
+abbrev pub refusedCorner : ℕ
+refusedCorner = 24
+
 -- the tolerance, 2^-50
 abbrev pub tolerance : Float
 tolerance = ofBits binary64 0x3cd0_0000_0000_0000

@@ -62,6 +62,8 @@ pub const REFUSED_GRID: u32 = 22;
 
 pub const REFUSED_FLIP: u32 = 23;
 
+pub const REFUSED_CORNER: u32 = 24;
+
 // An index as a length: of 64 bits, nothing is lost.
 pub fn wide(x: u32) -> usize
     ensures { λ r. ⌜ r ≡ x ⌝ }

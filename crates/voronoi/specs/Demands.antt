@@ -39,6 +39,8 @@ use Rattle.voronoi.specs.One.{one-read-multipoint, one-write-multipoint}
 use Rattle.grid_check.specs.Promise.{GridMesh}
 use Rattle.voronoi.specs.Grids.{GridCheck, SitesOfGrid}
 use Rattle.voronoi.specs.One.{one-grid-check, one-grid-sites}
+use Rattle.voronoi.specs.Sizes.{Areas}
+use Rattle.voronoi.specs.One.{one-areas}
 use Rattle.voronoi.specs.One.{one-mend, one-cell-wkb-bits, one-cell-wkb, one-root-bits, one-root, one-magnitude-bits, one-magnitude, one-signum-bits, one-signum}
 use Rattle.voronoi.specs.Plane.{Near, Dist2, Circumcenter, Centroid, Edges, Centered, Corners, Inside, ExclusivelyInside, WhichEdge, Meets}
 use Rattle.voronoi.specs.One.{one-near, one-dist2, one-center, one-box, one-box-center, one-corners, one-inside, one-exclusively, one-side, one-meeting}
@@ -153,6 +155,8 @@ pub record Demand1 (m : Mesh) : Type 0 where
   pub grid-sites : (grid : List ℤ) (old : List Float) → One₂ (λ r new. SitesOfGrid grid old new r)
   -- voronoi_flip: the number, the four lists
   pub flip : (sites : ℕ) (hull : List ℕ) (a : ℕ) (old : FlipLists) → One₂ (λ r new. Flip sites hull a old new r)
+  -- voronoi_areas: the number, the areas
+  pub areas : (v : List Float) (off ix : List ℕ) (old : List Float) → One₂ (λ r new. Areas v off ix old new r)
   -- refused by voronoi_check: the work slice
   pub check-refused : {w w′ : List ℕ} {r : ℕ} → Check m w w′ r → r ≢ 0 → SliceRefused EMPTY w w′ r
   -- by a call that hands out a list: the work slice, the output slice, the count, ended
@@ -294,6 +298,7 @@ demand1 m = record {
   grid-check = λ g w _ _ _ _ _ _ _ _. one-grid-check g;
   grid-sites = λ grid old _ _ _ _. one-grid-sites grid;
   flip = λ sites hull a old _ _ _ _. one-flip sites hull a;
+  areas = λ v off ix old _ _ _ _. one-areas v off ix old;
   check-refused = λ a. work-refused m (a .work);
   walk-refused = λ s. list-refused;
   neighbours-refused = λ s. list-refused;

@@ -12,6 +12,7 @@ pub mod Forms
 pub mod Gauges
 pub mod Grids
 pub mod Flips
+pub mod Sizes
 pub mod Examples
 pub mod laws
 pub mod Outcomes

@@ -49,6 +49,8 @@ use Rattle.voronoi.specs.Grids.{GridCheck, SitesOfGrid}
 use Rattle.flip_call.specs.Flips.{FlipLists}
 use Rattle.flip_call.specs.One.{flips-one}
 use Rattle.voronoi.specs.Flips.{Flip}
+use Rattle.areas.specs.One as areas
+use Rattle.voronoi.specs.Sizes.{Areas}
 use Rattle.voronoi.specs.Roots.{MagnitudeBits, Magnitude, SignumBits, Signum}
 use Rattle.voronoi.specs.Plane.{Near, Dist2, Edges, Centered, Corners, Inside, ExclusivelyInside, WhichEdge, Meets}
 use Rattle.voronoi.specs.Meshes.{Check}
@@ -252,3 +254,8 @@ one-grid-sites grid = grid-sites-one grid _ _ _ _ _
 pub one-flip : (sites : ℕ) (hull : List ℕ) (a : ℕ) {old new other : FlipLists} {r s : ℕ} → Flip sites hull a old new r → Flip sites hull a old other s
     → (r ≡ s) × (new ≡ other)
 one-flip sites hull a = flips-one sites hull a _ _ _ _ _
+
+-- ---- areas
+pub one-areas : (v : List Float) (off ix : List ℕ) (old : List Float) {new other : List Float} {q r : ℕ} → Areas v off ix old new q → Areas v off ix old other r
+    → (q ≡ r) × (new ≡ other)
+one-areas = areas.one-areas

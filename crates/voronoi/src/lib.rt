@@ -12,4 +12,5 @@ pub mod mends;
 pub mod meshes;
 pub mod plane;
 pub mod roots;
+pub mod sizes;
 pub mod walks;

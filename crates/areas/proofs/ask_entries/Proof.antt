@@ -1,0 +1,29 @@
+-- `areas::ask_entries` meets its contract: 18, then 24.
+use borrow.Author.Needs.{needs}
+use Rattle.laws.specs.laws.Decide.{granted, refused}
+use Rattle.areas.specs.laws.Answers.{not-named, not-kept, all-kept}
+use Rattle.areas.proofs.ask_entries.Statement.{statement}
+use Rattle.areas.proofs.ask_entries.Tie as tie
+
+returns : tie.Need-returns
+returns c = not-named _ _ (refused (c .before .names .result) (c .if1 .taken) (c .before .names .ensures))
+
+within-requires : tie.Need-within-requires
+within-requires c κs = granted (c .before .names .result) (c .if1 .left) (c .before .names .ensures)
+
+returns-2 : tie.Need-returns-2
+returns-2 c =
+    let test = c .before .before in
+    not-kept _ _ (granted (test .before .names .result) (test .if1 .left) (test .before .names .ensures))
+    (refused (c .before .within .result) (c .if2 .taken) (c .before .within .ensures))
+
+returns-3 : tie.Need-returns-3
+returns-3 c =
+    let test = c .before .before in
+    all-kept _ _ (granted (test .before .names .result) (test .if1 .left) (test .before .names .ensures))
+    (granted (c .before .within .result) (c .if2 .left) (c .before .within .ensures))
+
+pub ask-entries-spec : {M : Type 1} → statement M
+ask-entries-spec =
+    tie.close
+    (tie.spec (λ c κs. search needs) returns within-requires returns-2 returns-3)

@@ -1,0 +1,53 @@
+-- `areas::within` meets its contract: the vertices that were passed keep rule 11.
+use mathlib.Core.Path.{_≡_, sym, _∙_}
+use mathlib.Core.Bool.{true, true≢false}
+use Prim.Native.Nat.{ℕ, _-_}
+use denote.Ref.{now}
+use native.Mathlib.Omega.{arith}
+use lib.ListN.{length}
+use borrow.Author.Needs.{needs}
+use borrow.Author.Tests.{not-true, not-false}
+use Rattle.utils.specs.Flat.{pointAt}
+use Rattle.utils.specs.Rules.{okCenter}
+use Rattle.areas.specs.laws.Entries.{EntriesPassed, passed-start, passed-step, passed-all, tested}
+use Rattle.areas.proofs.within.Statement.{statement}
+use Rattle.areas.proofs.within.Tie as tie
+
+abbrev Inv-loop : tie.InvT-loop
+Inv-loop vertices entries i₀ i = EntriesPassed (λ (e : ℕ). okCenter (pointAt vertices e) ≡ true) entries i
+
+abbrev μ-loop : tie.MeasureT-loop
+μ-loop vertices entries i₀ i = length entries - i
+
+loop-holds : tie.Need-loop-holds Inv-loop μ-loop
+loop-holds c = passed-start _ _
+
+point-at-requires : tie.Need-point-at-requires Inv-loop μ-loop
+point-at-requires c κs =
+    let test = c .before .before in
+    omega (arith, c .wide .ensures, test .before .before .before .before .pre .each (test .before .loop .i) (test .loop-test .taken))
+
+returns : tie.Need-returns Inv-loop μ-loop
+returns c =
+    let at-ok = c .before in
+    let test = at-ok .before .before .before .before in
+    let s = test .before .before .before .before in
+    λ k. true≢false (sym (k .each (test .before .loop .i) (test .loop-test .taken))
+    ∙ sym (tested (now (s .args .vertices)) _ (at-ok .center-ok .ensures) (at-ok .before .point-at .ensures) (at-ok .before .before .wide .ensures)) ∙ not-true _ (c .if1 .taken))
+
+loop-again : tie.Need-loop-again Inv-loop μ-loop
+loop-again c =
+    let at-ok = c .before in
+    let test = at-ok .before .before .before .before in
+    let s = test .before .before .before .before in
+    passed-step (test .before .loop .inv) (test .loop-test .taken)
+    (sym (tested (now (s .args .vertices)) _ (at-ok .center-ok .ensures) (at-ok .before .point-at .ensures) (at-ok .before .before .wide .ensures)) ∙ not-false _ (c .if1 .left))
+
+returns-2 : tie.Need-returns-2 Inv-loop μ-loop
+returns-2 c = record { each = passed-all (c .before .loop .inv) (c .loop-test .left) }
+
+pub within-spec : {M : Type 1} → statement M
+within-spec =
+    tie.close
+    (tie.spec Inv-loop μ-loop loop-holds (λ c. search needs) (λ c. search needs) (λ c κs. search needs) point-at-requires
+    (λ c κs. search needs) returns (λ c. search needs) (λ c. search needs) loop-again returns-2)

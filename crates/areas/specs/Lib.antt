@@ -1,0 +1,4 @@
+pub mod Promise
+pub mod Steps
+pub mod One
+pub mod laws

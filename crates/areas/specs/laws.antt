@@ -1,0 +1,4 @@
+-- Laws that only proofs use.
+pub mod Entries
+pub mod Answers
+pub mod Writes

@@ -1,0 +1,98 @@
+-- The tests on entries, and that the entries of a cell are among those of all cells.
+use mathlib.Core.Path.{_≡_, sym, ap, _∙_, subst}
+use mathlib.Core.Bool.{Bool}
+use mathlib.Core.List.{List}
+use mathlib.Core.Logic.{⊎-elim}
+use Prim.Native.Nat.{ℕ, zero, suc, _+_, _-_, _*_, _/_, _≤_, _<_}
+use native.Mathlib.Nat.{le-trans, le-of-eq}
+use native.Mathlib.Omega.{arith}
+use lib.Ieee.{Float}
+use lib.ListN.{length, getD, drop, length-take, length-drop}
+use lib.Seq.{getD-take, getD-drop, length-take-le}
+use Rattle.laws.specs.laws.Decide.{eq-or-ne, lt-or-ge}
+use Rattle.shared.specs.Cells.{cellOf}
+use Rattle.utils.specs.Finite.{center-bounded}
+use Rattle.utils.specs.Flat.{pointAt}
+use Rattle.utils.specs.Rules.{okCenter}
+use Rattle.utils.specs.declared.Point.{Point}
+use Rattle.ring_area.specs.Steps.{Corners}
+use Rattle.areas.specs.Promise.{entriesOfAll}
+use Rattle.areas.specs.Steps.{RingsKept}
+
+-- ---- the loop over entries: those before i keep what P asks
+pub record EntriesPassed (P : ℕ → Type 0) (l : List ℕ) (i : ℕ) : Type 0 where
+  pub most : i ≤ length l
+  pub each : (k : ℕ) → k < i → P (getD l k 0)
+
+pub passed-start : (P : ℕ → Type 0) (l : List ℕ) → EntriesPassed P l 0
+passed-start P l = record { most = omega arith; each = λ k h. absurd (omega arith) }
+
+pub passed-step : {P : ℕ → Type 0} {l : List ℕ} {i : ℕ} → EntriesPassed P l i → i < length l → P (getD l i 0) → EntriesPassed P l (i + 1)
+passed-step {P} {l} {i} p h q = record {
+  most = omega arith;
+  each = λ k g. ⊎-elim (λ e. subst (λ (j : ℕ). P (getD l j 0)) (sym e) q) (λ n. p .each k (before k g n)) (eq-or-ne k i);
+}
+  where
+    before : (k : ℕ) → k < i + 1 → (k ≡ i → ⊥) → k < i
+    before k g n = ⊎-elim (λ a. a) (λ a. absurd (n (omega arith))) (lt-or-ge k i)
+
+pub passed-all : {P : ℕ → Type 0} {l : List ℕ} {i : ℕ} → EntriesPassed P l i → length l ≤ i → (k : ℕ) → k < length l → P (getD l k 0)
+passed-all p h k g = p .each k (omega arith)
+
+-- what the test of a vertex says: w is the entry as a place
+pub tested : (v : List Float) {b : Bool} {p : Point} {w : ℕ} (e : ℕ) → b ≡ okCenter p → p ≡ pointAt v w → w ≡ e → b ≡ okCenter (pointAt v e)
+tested v e x y z = x ∙ ap okCenter y ∙ ap (λ (k : ℕ). okCenter (pointAt v k)) z
+
+-- ---- the entries of cell s
+module _ {v : List Float} {off ix : List ℕ} (a : RingsKept v off ix) (s : ℕ) (h : s + 1 < length off) where
+  -- offsets do not fall
+  far : (i j : ℕ) → i + j < length off → getD off i 0 ≤ getD off (i + j) 0
+  far i zero l = le-of-eq (ap (λ (k : ℕ). getD off k 0) (plain i))
+    where
+      plain : (i : ℕ) → i ≡ i + 0
+      plain i = omega arith
+  far i (suc j) l =
+      let q : i + suc j ≡ i + j + 1 = omega arith in
+      rw q (le-trans (far i j (omega arith)) (a .cut .rising (i + j) (omega arith)))
+
+  last : getD off (s + 1) 0 ≤ getD off (length off - 1) 0
+  last = subst (λ (k : ℕ). getD off (s + 1) 0 ≤ getD off k 0) (reach (length off) s h) (far (s + 1) (length off - 1 - (s + 1)) (inside (length off) s h))
+    where
+      reach : (n s : ℕ) → s + 1 < n → s + 1 + (n - 1 - (s + 1)) ≡ n - 1
+      reach n s h = omega arith
+
+      inside : (n s : ℕ) → s + 1 < n → s + 1 + (n - 1 - (s + 1)) < n
+      inside n s h = omega arith
+
+  whole : length (entriesOfAll off ix) ≡ getD off (length off - 1) 0
+  whole = length-take-le (getD off (length off - 1) 0) ix (a .cut .within (length off - 1) (omega arith))
+
+  long : length (cellOf off ix s) ≤ getD off (s + 1) 0 - getD off s 0
+  unfolding cellOf
+  long = omega (arith, length-take (getD off (s + 1) 0 - getD off s 0) (drop (getD off s 0) ix))
+
+  short : length (cellOf off ix s) ≤ length ix
+  unfolding cellOf
+  short = omega (arith, length-take (getD off (s + 1) 0 - getD off s 0) (drop (getD off s 0) ix), length-drop (getD off s 0) ix)
+
+  module _ (k : ℕ) (g : k < length (cellOf off ix s)) where
+    place : getD off s 0 + k < length (entriesOfAll off ix)
+    place = omega (arith, long, last, whole, a .cut .rising s h)
+
+    entry : getD (cellOf off ix s) k 0 ≡ getD (entriesOfAll off ix) (getD off s 0 + k) 0
+    unfolding cellOf
+    entry =
+        getD-take (getD off (s + 1) 0 - getD off s 0) (drop (getD off s 0) ix) k 0 (omega (arith, long))
+        ∙ getD-drop (getD off s 0) ix k 0
+        ∙ sym (getD-take (getD off (length off - 1) 0) ix (getD off s 0 + k) 0 (omega (arith, place, whole)))
+
+  pub cell-corners : Corners v (cellOf off ix s)
+  cell-corners = record {
+    few = le-trans short (a .few);
+    named = λ k g. subst (λ (e : ℕ). 2 * e + 1 < length v) (sym (entry k g)) (twice (getD (entriesOfAll off ix) (getD off s 0 + k) 0) (length v) (a .named .each (getD off s 0 + k) (place k g)));
+    bounded = λ k g. center-bounded (pointAt v (getD (cellOf off ix s) k 0))
+        (ap (λ (e : ℕ). okCenter (pointAt v e)) (entry k g) ∙ a .kept .each (getD off s 0 + k) (place k g));
+  }
+    where
+      twice : (e n : ℕ) → e < n / 2 → 2 * e + 1 < n
+      twice e n h = omega arith

@@ -1,0 +1,32 @@
+-- `long_numbers::put` meets its contract: the product has 64 bits, its two halves find room.
+use Prim.Native.Nat.{_+_}
+use native.Mathlib.Omega.{arith}
+use borrow.Author.Needs.{needs}
+use Rattle.long_numbers.specs.laws.Puts.{product-small, put-added}
+use Rattle.long_numbers.proofs.put.Statement.{statement}
+use Rattle.long_numbers.proofs.put.Tie as tie
+
+mul-x : tie.Need-mul-x
+mul-x c = omega (arith, product-small (c .args .n) (c .args .power) (c .pre .1) (c .pre .2))
+
+add-limbs : tie.Need-add-limbs
+add-limbs c =
+    let s = c .before .before in
+    omega (arith, s .pre .3 .each (s .args .k))
+
+add-limbs-2 : tie.Need-add-limbs-2
+add-limbs-2 c =
+    let s = c .before .before in
+    omega (arith, s .pre .3 .each (s .args .k + 1), product-small (s .args .n) (s .args .power) (s .pre .1) (s .pre .2))
+
+returns : tie.Need-returns
+returns c =
+    let s = c .before .before in
+    put-added _ _ _ (s .pre .0) (product-small (s .args .n) (s .args .power) (s .pre .1) (s .pre .2))
+
+pub put-spec : {M : Type 1} → statement M
+put-spec =
+    tie.close
+    (tie.spec mul-x (λ c. search needs) (λ c. search needs) (λ c. search needs) (λ c. search needs) (λ c. search needs) add-limbs
+    (λ c. search needs) (λ c. search needs) add-limbs-2 (λ c. search needs) (λ c. search needs) (λ c. search needs)
+    (λ c. search needs) returns)

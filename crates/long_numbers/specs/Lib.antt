@@ -1,0 +1,3 @@
+pub mod Amount
+pub mod Steps
+pub mod laws

@@ -1,0 +1,5 @@
+-- Laws that only proofs use.
+pub mod Amounts
+pub mod Puts
+pub mod Carries
+pub mod Differences

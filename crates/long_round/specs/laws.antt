@@ -1,0 +1,5 @@
+-- Laws that only proofs use.
+pub mod Sizes
+pub mod Halves
+pub mod Patterns
+pub mod Limbs

@@ -1,0 +1,4 @@
+pub mod Area
+pub mod Steps
+pub mod Examples
+pub mod laws

@@ -1,0 +1,6 @@
+-- Laws that only proofs use.
+pub mod Bounds
+pub mod Splits
+pub mod Products
+pub mod Rings
+pub mod Settles

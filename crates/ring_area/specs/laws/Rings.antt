@@ -1,0 +1,113 @@
+-- The walk round a ring: after the corners up to i, what is left is the ring from there back to its first corner.
+use mathlib.Core.Path.{_≡_, refl, sym, ap, _∙_, subst}
+use mathlib.Core.List.{List, [], _∷_, map}
+use Prim.Native.Nat.{ℕ, _+_, _-_, _*_, _≤_, _<_}
+use native.Mathlib.Nat.{add-assoc}
+use native.Mathlib.Omega.{arith}
+use native.Mathlib.Numerals.{add-one}
+use lib.Ieee.{Float}
+use lib.ListN.{length, getD, drop, drop-of-length-le}
+use lib.Seq.{drop-cons}
+use Rattle.laws.specs.Binary64.{zero}
+use Rattle.long_numbers.specs.Steps.{PutIn}
+use Rattle.long_numbers.specs.laws.Puts.{added-then}
+use Rattle.utils.specs.Finite.{BoundedPoint}
+use Rattle.utils.specs.Flat.{pointAt}
+use Rattle.utils.specs.declared.Point.{Point}
+use Rattle.ring_area.specs.Area.{gain, loss, gains, losses, roundedHalf, area, ringArea}
+use Rattle.ring_area.specs.Steps.{Open, SideIn, Corners, gainsOf, lossesOf, RingIn}
+use Rattle.ring_area.specs.laws.Products.{added-none}
+
+-- a is the first corner, q the last that was passed, number i - 1
+pub record SidesTo (v : List Float) (cell : List ℕ) (p p₁ m m₁ : List ℕ) (a q : Point) (i : ℕ) : Type 0 where
+  pub some : 0 < i
+  pub most : i ≤ length cell
+  pub got : ℕ
+  pub lost : ℕ
+  pub added : PutIn p p₁ got (16 * (i - 1))
+  pub taken : PutIn m m₁ lost (16 * (i - 1))
+  pub more : gainsOf (map (pointAt v) cell) ≡ got + gains a q (map (pointAt v) (drop i cell))
+  pub less : lossesOf (map (pointAt v) cell) ≡ lost + losses a q (map (pointAt v) (drop i cell))
+  pub first : BoundedPoint 400 a
+  pub last : BoundedPoint 400 q
+
+pub walked-start : (v : List Float) (cell p m : List ℕ) (a : Point) → Corners v cell → 0 < length cell → a ≡ pointAt v (getD cell 0 0) → SidesTo v cell p p m m a a 1
+walked-start v [] p m a c h e = absurd (omega arith)
+walked-start v (x ∷ r) p m a c h e =
+    let b : BoundedPoint 400 a = subst (BoundedPoint 400) (sym e) (c .bounded 0 (omega arith)) in
+    record {
+      some = omega arith;
+      most = omega arith;
+      got = 0;
+      lost = 0;
+      added = added-none p 0;
+      taken = added-none m 0;
+      more = ap (λ (z : Point). gains z z (map (pointAt v) r)) (sym e) ∙ plain (gains a a (map (pointAt v) r));
+      less = ap (λ (z : Point). losses z z (map (pointAt v) r)) (sym e) ∙ plain (losses a a (map (pointAt v) r));
+      first = b;
+      last = b;
+    }
+  where
+    plain : (n : ℕ) → n ≡ 0 + n
+    plain n = omega arith
+
+-- room for one more side
+pub open-side : {l l₁ : List ℕ} {x : ℕ} (n i : ℕ) → Open l (16 * n) → PutIn l l₁ x (16 * (i - 1)) → 0 < i → i ≤ n → Open l₁ 16
+open-side n i o a s h = record {
+  long = a .long ∙ o .long;
+  room = record { each = λ k. omega (arith, a .grown k, o .room .each k) };
+}
+
+module _ {v : List Float} {cell p p₁ m m₁ : List ℕ} {a q : Point} {i : ℕ} (w : SidesTo v cell p p₁ m m₁ a q i) where
+  pub walked-step : {p₂ m₂ : List ℕ} {b : Point} → Corners v cell → i < length cell → b ≡ pointAt v (getD cell i 0) → SideIn q b p₁ p₂ m₁ m₂
+      → SidesTo v cell p p₂ m m₂ a b (i + 1)
+  unfolding gains losses
+  walked-step {p₂} {m₂} {b} c h e s =
+      let d : drop i cell ≡ getD cell i 0 ∷ drop (i + 1) cell = drop-cons cell i 0 h ∙ ap (λ (k : ℕ). getD cell i 0 ∷ drop k cell) (sym (add-one i)) in
+      let t : map (pointAt v) (drop i cell) ≡ b ∷ map (pointAt v) (drop (i + 1) cell) = ap (map (pointAt v)) d ∙ ap (λ (z : Point). z ∷ map (pointAt v) (drop (i + 1) cell)) (sym e) in
+      record {
+        some = omega arith;
+        most = omega arith;
+        got = w .got + gain q b;
+        lost = w .lost + loss q b;
+        added = counted (added-then (w .added) (s .added));
+        taken = counted (added-then (w .taken) (s .taken));
+        more = w .more ∙ ap (λ (r : List Point). w .got + gains a q r) t ∙ sym (add-assoc (w .got) (gain q b) (gains a b (map (pointAt v) (drop (i + 1) cell))));
+        less = w .less ∙ ap (λ (r : List Point). w .lost + losses a q r) t ∙ sym (add-assoc (w .lost) (loss q b) (losses a b (map (pointAt v) (drop (i + 1) cell))));
+        first = w .first;
+        last = subst (BoundedPoint 400) (sym e) (c .bounded i h);
+      }
+    where
+      counted : {l l₁ : List ℕ} {x : ℕ} → PutIn l l₁ x (16 * (i - 1) + 16) → PutIn l l₁ x (16 * (i + 1 - 1))
+      counted {l} {l₁} {x} y = subst (PutIn l l₁ x) (turns i (w .some)) y
+        where
+          turns : (i : ℕ) → 0 < i → 16 * (i - 1) + 16 ≡ 16 * (i + 1 - 1)
+          turns i h = omega arith
+
+  -- the side back to the first corner
+  pub walked-end : {p₂ m₂ : List ℕ} → length cell ≤ i → SideIn q a p₁ p₂ m₁ m₂ → RingIn v cell p p₂ m m₂
+  unfolding gains losses
+  walked-end {p₂} {m₂} h s =
+      let d : drop i cell ≡ [] = drop-of-length-le cell h in
+      let t : map (pointAt v) (drop i cell) ≡ [] = ap (map (pointAt v)) d in
+      record {
+        added = whole (w .got) (gain q a) (added-then (w .added) (s .added)) (w .more ∙ ap (λ (r : List Point). w .got + gains a q r) t);
+        taken = whole (w .lost) (loss q a) (added-then (w .taken) (s .taken)) (w .less ∙ ap (λ (r : List Point). w .lost + losses a q r) t);
+      }
+    where
+      turns : 16 * (i - 1) + 16 ≡ 16 * length cell
+      turns = omega (arith, w .some, w .most)
+
+      whole : {l l₁ : List ℕ} {n : ℕ} (x y : ℕ) → PutIn l l₁ (x + y) (16 * (i - 1) + 16) → n ≡ x + y → PutIn l l₁ n (16 * length cell)
+      whole {l} {l₁} {n} x y z e = subst (λ (k : ℕ). PutIn l l₁ k (16 * length cell)) (sym e) (subst (PutIn l l₁ (x + y)) turns z)
+
+-- ---- the whole ring
+pub no-corners : (v : List Float) (cell : List ℕ) → length cell ≡ 0 → zero ≡ ringArea v cell
+unfolding area
+no-corners v [] h = refl
+no-corners v (x ∷ r) h = absurd (omega arith)
+
+pub ring-is : (v : List Float) (cell : List ℕ) → (length cell ≡ 0 → ⊥) → roundedHalf (gainsOf (map (pointAt v) cell)) (lossesOf (map (pointAt v) cell)) ≡ ringArea v cell
+unfolding area
+ring-is v [] h = absurd (h refl)
+ring-is v (x ∷ r) h = refl
