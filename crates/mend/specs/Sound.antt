@@ -18,7 +18,8 @@ use Rattle.mesh.specs.laws.Facts.{sound-site}
 use Rattle.mend_pairs.specs.Pairs.{pairsOf}
 use Rattle.mend_changes.specs.Changes.{flatChanges}
 use Rattle.check_mesh.specs.AtExit.{atExit}
-use Rattle.mending.specs.Mending.{Lent, lent, mendRoomOf, newHull, pairChanges, hullChanges, filled, whenMade, Mends}
+use Rattle.mend_slices.specs.Lent.{Lent, lent, filled}
+use Rattle.mending.specs.Mending.{mendRoomOf, newHull, pairChanges, hullChanges, whenMade, Mends}
 use Rattle.mending.specs.MendTheorem.{mended-accepted}
 use Rattle.form.specs.Form.{FormMesh, MeshFits, HullFits, MayBegin, IsForm, numbersOf, siteFloats, triangleSites}
 use Rattle.form.specs.laws.Lists.{numbers-length}

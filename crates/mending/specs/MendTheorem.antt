@@ -27,7 +27,8 @@ use Rattle.mend_hull.specs.HullTheorem.{Starts, hull-alone, there-is}
 use Rattle.mend_hull.specs.laws.Round.{hull-one}
 use Rattle.mend_changes.specs.Changes.{changesOf}
 use Rattle.mend_changes.specs.laws.Listing.{no-changes}
-use Rattle.mending.specs.Mending.{mendedMesh, Lent, mendRoomOf, mendRules, newHull, pairChanges, hullChanges, Mends}
+use Rattle.mend_slices.specs.Lent.{Lent}
+use Rattle.mending.specs.Mending.{mendedMesh, mendRoomOf, mendRules, newHull, pairChanges, hullChanges, Mends}
 use Rattle.mending.specs.laws.Outcomes.{made}
 use Rattle.mending.specs.laws.Working.{hull-fits}
 

@@ -1,10 +1,10 @@
 -- Mending: the rules in the order in which they are tried, what is worked out, and what a call leaves in the lent slices and answers in numbers.
 use mathlib.Core.Path.{_≡_}
 use mathlib.Core.List.{List, [], _∷_, _++_}
-use Prim.Native.Nat.{ℕ, _+_, _-_, _/_, _≤_}
+use Prim.Native.Nat.{ℕ, _+_, _/_, _≤_}
 use lib.Dec.{eqb}
 use lib.Ieee.{Float}
-use lib.ListN.{length, getD, replicate}
+use lib.ListN.{length, getD}
 use Rattle.laws.specs.Pick.{pick}
 use Rattle.laws.specs.Refusals.{Rule, once, each, reads, Finds}
 use Rattle.numbers.specs.Numbers.{EMPTY, refusedTwice}
@@ -16,17 +16,8 @@ use Rattle.check_mesh.specs.AtExit.{atExit}
 use Rattle.mend_pairs.specs.Pairs.{pairsOf, AllSingle}
 use Rattle.mend_hull.specs.Loop.{hullOf}
 use Rattle.mend_hull.specs.Answer.{borderRules}
+use Rattle.mend_slices.specs.Lent.{Lent, filled}
 use Rattle.mend_changes.specs.Changes.{Difference, changesOf, flatChanges}
-
--- the lent slices
-pub record Lent : Type 0 where
-  pub work : List ℕ
-  pub pairs : List ℕ
-  pub mended : List ℕ
-  pub changes : List ℕ
-
-abbrev pub lent : List ℕ → List ℕ → List ℕ → List ℕ → Lent
-lent w p m c = record { work = w; pairs = p; mended = m; changes = c }
 
 -- rule 2, by the lengths of the slices; a change takes three numbers
 pub record MendRoom (sites entries work pairs mended changes : ℕ) : Type 0 where
@@ -60,10 +51,6 @@ pairChanges tri he = changesOf he (pairsOf tri)
 
 abbrev pub hullChanges : List ℕ → List ℕ → ℕ → List Difference
 hullChanges tri hull n = changesOf hull (newHull tri hull n)
-
--- a list in a slice of w entries, then EMPTY
-abbrev pub filled : ℕ → List ℕ → List ℕ
-filled w l = l ++ replicate (w - length l) EMPTY
 
 -- a number that is answered: x after 0, else 0
 unfoldable pub whenMade : ℕ → ℕ → ℕ

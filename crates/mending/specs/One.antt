@@ -4,7 +4,8 @@ use mathlib.Core.List.{List}
 use Prim.Native.Nat.{ℕ}
 use Rattle.laws.specs.laws.Refusals.{finds-one}
 use Rattle.mesh.specs.Accepted.{Mesh}
-use Rattle.mending.specs.Mending.{Lent, lent, MendOutcome, Mends}
+use Rattle.mend_slices.specs.Lent.{Lent, lent}
+use Rattle.mending.specs.Mending.{MendOutcome, Mends}
 
 same-lent : (a b : Lent) → a .work ≡ b .work → a .pairs ≡ b .pairs → a .mended ≡ b .mended → a .changes ≡ b .changes → a ≡ b
 same-lent a b q₁ q₂ q₃ q₄ =

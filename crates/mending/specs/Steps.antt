@@ -1,16 +1,16 @@
 -- What the steps of mending ask for and leave.
 use mathlib.Core.Path.{_≡_}
-use mathlib.Core.List.{List, _++_}
+use mathlib.Core.List.{List}
 use Prim.Native.Nat.{ℕ, _+_, _*_, _≤_, _<_}
-use lib.ListN.{length, replicate}
+use lib.ListN.{length}
 use Rattle.laws.specs.Refusals.{Finds}
 use Rattle.numbers.specs.Numbers.{EMPTY}
 use Rattle.mesh.specs.Mesh.{AllSound, leftmostIn}
 use Rattle.mend_pairs.specs.Pairs.{pairsOf}
 use Rattle.mend_pairs.specs.Chains.{NamesSites}
 use Rattle.mend_hull.specs.Loop.{hullOf}
-use Rattle.mend_changes.specs.Changes.{changesOf, flatChanges}
-use Rattle.mending.specs.Mending.{Lent, workRules, filled}
+use Rattle.mending.specs.Mending.{workRules}
+use Rattle.mend_slices.specs.Lent.{Lent, filled}
 
 -- rules 1, 2 and 7 hold: n sites
 pub record Ready (tri : List ℕ) (n : ℕ) (old : Lent) : Type 0 where
@@ -35,14 +35,3 @@ pub record WorkedOut (tri : List ℕ) (first n : ℕ) (old new : Lent) (r k : �
   pub pairs : r ≡ 0 → new .pairs ≡ filled (length (old .pairs)) (pairsOf tri)
   pub mended : r ≡ 0 → new .mended ≡ filled (length (old .mended)) (hullOf tri (pairsOf tri) first n)
   pub count : r ≡ 0 → k ≡ length (hullOf tri (pairsOf tri) first n)
-
-pub record ListedBoth (old new before after c c′ : List ℕ) (p q : ℕ) : Type 0 where
-  pub first : p ≡ length (changesOf old new)
-  pub then : q ≡ length (changesOf before after)
-  pub changes : c′ ≡ filled (length c) (flatChanges (changesOf old new ++ changesOf before after))
-
-pub record Cleared (old new : Lent) : Type 0 where
-  pub work : new .work ≡ replicate (length (old .work)) EMPTY
-  pub pairs : new .pairs ≡ replicate (length (old .pairs)) EMPTY
-  pub mended : new .mended ≡ replicate (length (old .mended)) EMPTY
-  pub changes : new .changes ≡ replicate (length (old .changes)) EMPTY

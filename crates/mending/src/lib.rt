@@ -1,18 +1,18 @@
 // Mending a hand-edited mesh: sites and triangles are kept, pairs and hull worked out afresh, and what has changed is listed.
 use check_pairing::check_triangles;
-use mend_changes::list_changes;
 use mend_hull::Traced;
 use mend_pairs::pair_up;
+use mend_slices::clear_all;
+use mend_slices::list_both;
 ghost use mathlib.Core.Path.{_≡_};
-ghost use Prim.Native.Nat.{_+_, _*_, _/_, _≤_, _<_};
+ghost use Prim.Native.Nat.{_/_};
 ghost use lib.ListN.{length};
 ghost use Rattle.laws.specs.Decide.{Says};
 ghost use Rattle.laws.specs.Refusals.{Finds};
-ghost use Rattle.numbers.specs.Numbers.{EMPTY};
-ghost use Rattle.mend_changes.specs.Changes.{longer};
 ghost use Rattle.mesh.specs.Accepted.{mesh};
-ghost use Rattle.mending.specs.Mending.{MendRoom, lent, mendEarly, workRules, MendOutcome, Mends};
-ghost use Rattle.mending.specs.Steps.{Ready, WorkedOut, ListedBoth, Cleared, Lists};
+ghost use Rattle.mending.specs.Mending.{MendRoom, mendEarly, workRules, MendOutcome, Mends};
+ghost use Rattle.mend_slices.specs.Lent.{lent};
+ghost use Rattle.mending.specs.Steps.{Ready, WorkedOut, Lists};
 
 // A number, the hull's length, and how many entries of the pairs and of the hull have changed.
 pub struct Mended {
@@ -87,17 +87,6 @@ fn admit_mend(
     0
 }
 
-// Every slice becomes `EMPTY`.
-fn clear_all(work: &mut [u32], pairs: &mut [u32], hull: &mut [u32], changes: &mut [u32])
-    ensures { λ _. ⌜ Cleared (lent (now (work .entry)) (now (pairs .entry)) (now (hull .entry)) (now (changes .entry)))
-        (lent (now (work .exit)) (now (pairs .exit)) (now (hull .exit)) (now (changes .exit))) ⌝ }
-{
-    mesh::clear(work);
-    mesh::clear(pairs);
-    mesh::clear(hull);
-    mesh::clear(changes);
-}
-
 // Rules 19, 9 and 10. After 0 the pairs and the hull are written, then `EMPTY`, and the work slice has the leftmost table.
 fn work_out(
     triangles: &[u32],
@@ -122,27 +111,6 @@ fn work_out(
     mesh::clear(mended);
     let n = triangles.len();
     mend_hull::mend_hull(triangles, &pairs[..n], first, sites, work, mended)
-}
-
-// Two counts.
-pub struct Two {
-    pub first: usize,
-    pub then: usize,
-}
-
-// The changes from one list to another, and after them those between two more, then `EMPTY`.
-fn list_both(old: &[u32], new: &[u32], before: &[u32], after: &[u32], changes: &mut [u32]) -> Two
-    requires { ⌜ (longer (now old) (now new) < EMPTY) × (longer (now before) (now after) < EMPTY)
-        × (3 * (longer (now old) (now new) + longer (now before) (now after)) ≤ length (now changes)) ⌝ }
-    ensures { λ r. ⌜ ListedBoth (now (old .entry)) (now (new .entry)) (now (before .entry)) (now (after .entry)) (now (changes .entry)) (now (changes .exit)) (r .first) (r .then) ⌝ }
-{
-    mesh::clear(changes);
-    let first = list_changes(old, new, changes, 0);
-    let then = list_changes(before, after, changes, first);
-    Two {
-        first: first,
-        then: then,
-    }
 }
 
 fn refused(number: u32) -> Mended

@@ -29,7 +29,7 @@ use Rattle.definition.specs.Build.{build}
 use Rattle.admission.specs.Asks.{CellsOf}
 use Rattle.admission.specs.Slices.{Slices}
 use Rattle.voronoi.specs.Roots.{MagnitudeBits, Magnitude, SignumBits, Signum}
-use Rattle.mending.specs.Mending.{Lent}
+use Rattle.mend_slices.specs.Lent.{Lent}
 use Rattle.voronoi.specs.Mends.{Mend}
 use Rattle.reader.specs.Calls.{FormLists}
 use Rattle.voronoi.specs.Forms.{ReaderBegin, ReaderFeed, ReaderEnd, ReadForm}

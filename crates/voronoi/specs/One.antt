@@ -34,7 +34,7 @@ use Rattle.voronoi.specs.Maps.{CellWkbBits, CellWkb}
 use Rattle.voronoi.specs.Explanations.{Why}
 use Rattle.multipoint.specs.One.{one-read, one-write}
 use Rattle.voronoi.specs.Gauges.{ReadMultipoint, WriteMultipoint}
-use Rattle.mending.specs.Mending.{Lent}
+use Rattle.mend_slices.specs.Lent.{Lent}
 use Rattle.mending.specs.One.{mends-one}
 use Rattle.grid_check.specs.Promise.{GridMesh}
 use Rattle.grid_check.specs.One.{grid-checks-one}

@@ -8,7 +8,7 @@ use lib.ListN.{length, replicate}
 use Rattle.numbers.specs.Numbers.{EMPTY}
 use Rattle.laws.specs.Binary64.{zero}
 use Rattle.admission.specs.Slices.{Slices}
-use Rattle.mending.specs.Mending.{Lent}
+use Rattle.mend_slices.specs.Lent.{Lent}
 use Rattle.flip_call.specs.Flips.{FlipLists}
 
 -- ---- one outcome

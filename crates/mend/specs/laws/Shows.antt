@@ -20,7 +20,8 @@ use Rattle.mend_pairs.specs.Pairs.{pairsOf}
 use Rattle.mend_pairs.specs.laws.Mates.{pairs-length}
 use Rattle.mend_changes.specs.Changes.{Difference, flatChanges}
 use Rattle.mend_changes.specs.laws.Listing.{flat-append, flat-length}
-use Rattle.mending.specs.Mending.{Lent, mendRoomOf, newHull, pairChanges, hullChanges, filled, whenMade, Mends}
+use Rattle.mend_slices.specs.Lent.{Lent, filled}
+use Rattle.mending.specs.Mending.{mendRoomOf, newHull, pairChanges, hullChanges, whenMade, Mends}
 use Rattle.form_writer.specs.Written.{writtenForm}
 use Rattle.mend.specs.Printed.{MendNumber, changesText}
 use Rattle.mend.specs.Steps.{MendSized, CanShow, shownText, OfLists, refused, mended}

@@ -17,8 +17,10 @@ use Rattle.mesh.specs.laws.Facts.{few-entries, sound-site}
 use Rattle.check_mesh.specs.laws.AtExit.{exit-made, exit-held, exit-blank}
 use Rattle.mend_pairs.specs.Pairs.{pairsOf}
 use Rattle.mend_changes.specs.Changes.{flatChanges}
-use Rattle.mending.specs.Mending.{Lent, mendRoomOf, mendEarly, workRules, mendRules, newHull, pairChanges, hullChanges, filled, whenMade, MendOutcome, Mends}
-use Rattle.mending.specs.Steps.{Ready, Lists, Cleared}
+use Rattle.mending.specs.Mending.{mendRoomOf, mendEarly, workRules, mendRules, newHull, pairChanges, hullChanges, whenMade, MendOutcome, Mends}
+use Rattle.mend_slices.specs.Lent.{Lent, filled}
+use Rattle.mend_slices.specs.Steps.{Cleared}
+use Rattle.mending.specs.Steps.{Ready, Lists}
 
 pub made : (r x : ℕ) → r ≡ 0 → whenMade r x ≡ x
 unfolding whenMade

@@ -2,10 +2,10 @@
 use native.Mathlib.Omega.{arith}
 use Rattle.mend_changes.specs.Changes.{longer}
 use Rattle.mend_changes.specs.laws.Listing.{changes-few}
-use Rattle.mending.specs.laws.Working.{listed}
+use Rattle.mend_slices.specs.laws.Filled.{listed}
 use borrow.Author.Needs.{needs}
-use Rattle.mending.proofs.list_both.Statement.{statement}
-use Rattle.mending.proofs.list_both.Tie as tie
+use Rattle.mend_slices.proofs.list_both.Statement.{statement}
+use Rattle.mend_slices.proofs.list_both.Tie as tie
 
 list-changes-requires : tie.Need-list-changes-requires
 list-changes-requires c κs =

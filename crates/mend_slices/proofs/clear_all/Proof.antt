@@ -1,7 +1,7 @@
 -- Each slice is cleared by its own call.
 use borrow.Author.Needs.{needs}
-use Rattle.mending.proofs.clear_all.Statement.{statement}
-use Rattle.mending.proofs.clear_all.Tie as tie
+use Rattle.mend_slices.proofs.clear_all.Statement.{statement}
+use Rattle.mend_slices.proofs.clear_all.Tie as tie
 
 returns : tie.Need-returns
 returns c =
