@@ -458,6 +458,7 @@ int main(int argc, char **argv)
     if (argc < 2 || argc > 3 || !number_of(argv[1], &count) || (argc == 3 && !number_of(argv[2], &seed)))
         return printf("reader COUNT [SEED] <forms\n"), 2;
     unsigned forms = 0, refused = 0;
+    const size_t cut = count < 20 ? 200 : sizeof form; /* forms of more bytes are cut at random alone */
     uint8_t head[2];
     rows();
     while (take(head, 2) == 2) {
@@ -470,7 +471,7 @@ int main(int argc, char **argv)
         state[VORONOI_READER_WORDS] = 5;
         check(0);
         forms++, refused += due.number != 0;
-        if (length <= 200)
+        if (length <= cut)
             at_each_cut();
         what = "in blocks";
         for (uint64_t k = 0; k < count; k++)
@@ -479,6 +480,7 @@ int main(int argc, char **argv)
     }
     named_damage();
     random_states(100 * count);
-    printf("reader: %u forms, of which %u are refused, at every cut and in %u random cuttings each; %d differ\n", forms, refused, (unsigned)count, failures);
+    printf("reader: %u forms, of which %u are refused, those of up to %u bytes at every cut, each in %u random cuttings; %d differ\n", forms, refused,
+           (unsigned)cut, (unsigned)count, failures);
     return failures != 0 || forms < 500 || refused < 100;
 }

@@ -1,5 +1,5 @@
 #!/bin/sh
-# Forms that arrive in parts, through the C interface (tests/reader.c), on the stored forms: tests/reader.sh [COUNT [SEED]].
+# Forms that arrive in parts, through the C interface (tests/reader.c), on the stored forms: tests/reader.sh [COUNT [SEED]]. From 20 on long forms are cut at every byte too.
 set -eu
 case ${1-} in
 --help | -h)

@@ -136,6 +136,9 @@ fn pairing(r: &mut Rng, m: &mut Mesh) {
 
 fn hull(r: &mut Rng, m: &mut Mesh) {
     let h = m.hull.len();
+    if h == 0 {
+        return; // earlier damage has taken all of it
+    }
     let i = r.below(h);
     match r.below(8) {
         0 => m.hull[i] = m.hull[(i + 1) % h],
