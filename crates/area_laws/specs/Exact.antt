@@ -1,19 +1,19 @@
 -- Theorems: on the exact area of a ring, the difference of its two sums. The first corner may be any (`turned-round`), the ring backwards has the negative (`backwards`), a ring
 -- cut in two along a chord has the sum of both (`cut`), and a corner repeated, or put on a side, changes nothing (`repeated`, `on-side`). Equal exact areas are rounded alike.
 use mathlib.Core.Path.{_≡_, refl, sym, ap, _∙_}
-use mathlib.Core.Bool.{Bool, true, false, cond}
+use mathlib.Core.Bool.{true, false, cond}
 use mathlib.Core.List.{List, [], _∷_, _++_}
 use mathlib.Core.Logic.{⊎-elim}
-use Prim.Native.Nat.{ℕ, _+_, _-_, _*_, _^_, _≤_, _<_}
-use native.Mathlib.Nat.{add-comm, add-assoc, mul-comm}
+use Prim.Native.Nat.{ℕ, _+_, _-_, _^_, _≤_, _<_}
+use native.Mathlib.Nat.{add-comm}
 use native.Mathlib.Omega.{arith}
 use lib.Dec.{leb}
-use lib.Ieee.{Float, binary64, unlike, round}
+use lib.Ieee.{Float, binary64, round}
 use borrow.Author.Tests.{le-leb, lt-leb}
 use Rattle.laws.specs.laws.Decide.{lt-or-ge}
-use Rattle.root.specs.Root.{units}
 use Rattle.utils.specs.declared.Point.{Point}
-use Rattle.ring_area.specs.Area.{below, productAbove, productUnder, gain, loss, gains, losses, roundedHalf, area}
+use Rattle.ring_area.specs.Area.{productAbove, productUnder, gain, loss, gains, losses, roundedHalf, area}
+use Rattle.area_laws.specs.laws.Sides.{above-swap, under-swap, gains-last, losses-last, gains-by, losses-by}
 
 -- g - l and h - m are the same
 pub record SameArea (g l h m : ℕ) : Type 0 where
@@ -42,45 +42,11 @@ settled-same g l h m s = ⊎-elim less more (lt-or-ge g l)
         let d : l - g ≡ m - h = omega arith in
         rw (lt-leb l g a, lt-leb m h b, d) refl
 
--- ---- one side there and back
-unlike-swap : (s t : Bool) → unlike s t ≡ unlike t s
-unlike-swap true true = refl
-unlike-swap true false = refl
-unlike-swap false true = refl
-unlike-swap false false = refl
-
-above-swap : (x y : Float) → productAbove x y ≡ productAbove y x
-above-swap x y = ap (λ (t : Bool). cond t 0 (units x * units y)) (unlike-swap (below x) (below y)) ∙ ap (λ (n : ℕ). cond (unlike (below y) (below x)) 0 n) (mul-comm (units x) (units y))
-
-under-swap : (x y : Float) → productUnder x y ≡ productUnder y x
-under-swap x y = ap (λ (t : Bool). cond t (units x * units y) 0) (unlike-swap (below x) (below y)) ∙ ap (λ (n : ℕ). cond (unlike (below y) (below x)) n 0) (mul-comm (units x) (units y))
-
 pub gain-back : (p q : Point) → gain p q ≡ loss q p
 gain-back p q =
     ap (λ (n : ℕ). n + productUnder (p .x) (q .y)) (above-swap (p .y) (q .x))
     ∙ ap (λ (n : ℕ). productAbove (q .x) (p .y) + n) (under-swap (p .x) (q .y))
     ∙ add-comm (productAbove (q .x) (p .y)) (productUnder (q .y) (p .x))
-
--- ---- a last corner, and a corner on the way
-gains-last : (a x y : Point) (r : List Point) → gains a x (r ++ y ∷ []) ≡ gains y x r + gain y a
-unfolding gains
-gains-last a x y [] = refl
-gains-last a x y (z ∷ r) = ap (λ (n : ℕ). gain x z + n) (gains-last a z y r) ∙ sym (add-assoc (gain x z) (gains y z r) (gain y a))
-
-losses-last : (a x y : Point) (r : List Point) → losses a x (r ++ y ∷ []) ≡ losses y x r + loss y a
-unfolding losses
-losses-last a x y [] = refl
-losses-last a x y (z ∷ r) = ap (λ (n : ℕ). loss x z + n) (losses-last a z y r) ∙ sym (add-assoc (loss x z) (losses y z r) (loss y a))
-
-gains-by : (a x q : Point) (r s : List Point) → gains a x (r ++ q ∷ s) ≡ gains q x r + gains a q s
-unfolding gains
-gains-by a x q [] s = refl
-gains-by a x q (z ∷ r) s = ap (λ (n : ℕ). gain x z + n) (gains-by a z q r s) ∙ sym (add-assoc (gain x z) (gains q z r) (gains a q s))
-
-losses-by : (a x q : Point) (r s : List Point) → losses a x (r ++ q ∷ s) ≡ losses q x r + losses a q s
-unfolding losses
-losses-by a x q [] s = refl
-losses-by a x q (z ∷ r) s = ap (λ (n : ℕ). loss x z + n) (losses-by a z q r s) ∙ sym (add-assoc (loss x z) (losses q z r) (losses a q s))
 
 -- ---- the first corner may be any
 pub turned-round : (p q : Point) (r : List Point) → area (p ∷ q ∷ r) ≡ area (q ∷ r ++ p ∷ [])

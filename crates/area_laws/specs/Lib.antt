@@ -1,3 +1,4 @@
 pub mod Exact
 pub mod Sign
 pub mod Finite
+pub mod laws

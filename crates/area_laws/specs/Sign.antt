@@ -1,71 +1,28 @@
 -- Theorem: the sign is the truth. The answer is 0 exactly where the exact area is at most 2 ^ -1075 in magnitude, half of the smallest value (`sign-none`, `sign-some`); and where
 -- all coordinates are multiples of 2 ^ -500 an exact area that is not 0 is far above that (`surveyed`).
-use mathlib.Core.Path.{_≡_, refl, sym, ap, _∙_, subst}
+use mathlib.Core.Path.{_≡_, sym, ap, _∙_, subst}
 use mathlib.Core.Bool.{Bool, true, false, cond}
 use mathlib.Core.List.{List, [], _∷_}
 use mathlib.Core.Logic.{⊎-elim}
 use Prim.{tt}
-use Prim.Native.Nat.{ℕ, suc, _+_, _-_, _*_, _/_, _%_, _^_, _≤_, _<_, compare, Ordering, Ordering·lt, Ordering·eq, Ordering·gt}
-use native.Mathlib.Nat.{le-trans, le-of-eq, lt-of-lt-of-le, lt-of-le-of-lt, mul-assoc, mul-comm, mul-left-comm, mul-one, zero-mul, one-mul, add-mul, suc-mul}
-use native.Mathlib.Nat.{div-lt-iff-lt-mul, mod-eq-of-lt, mul-le-mul-right}
+use Prim.Native.Nat.{ℕ, _+_, _-_, _*_, _/_, _^_, _≤_, _<_}
+use native.Mathlib.Nat.{le-trans, le-of-eq, lt-of-lt-of-le, lt-of-le-of-lt, mul-assoc, mul-comm, mul-left-comm, mul-one, zero-mul, one-mul, add-mul}
+use native.Mathlib.Nat.{div-lt-iff-lt-mul, mul-le-mul-right}
 use native.Mathlib.Omega.{arith}
 use lib.Arith.{lt-one}
-use lib.Dec.{lit<, lit≤}
-use lib.Ieee.{size, nearest, unlike}
-use lib.Ieee.Nearest.{closest, nearest-ge}
+use lib.Dec.{lit≤}
+use lib.Ieee.{size, unlike}
+use lib.Ieee.Nearest.{closest}
 use lib.Ieee.Order.{drop, kept}
 use lib.Pow.{pow-add, pow-pos, pow-lt}
 use Rattle.laws.specs.laws.Decide.{lt-or-ge, eq-or-ne}
-use Rattle.rounding.specs.Half.{Cmp, cmp}
 use Rattle.long_round.specs.Rounded.{roundedPattern}
 use Rattle.long_round.specs.laws.Patterns.{kept-least}
 use Rattle.long_round.specs.laws.Sizes.{size-zero}
 use Rattle.root.specs.Root.{units}
 use Rattle.utils.specs.declared.Point.{Point}
 use Rattle.ring_area.specs.Area.{below, gain, loss, gains, losses}
-
--- ---- n units of 2 ^ -2149 against half of the smallest value, 2 ^ 1074 of them; a pattern without its sign is 0 for 0 only (`round-pattern` of crate long_round)
--- the nearest whole number below a half, at a half, above it
-down : (n b : ℕ) → n < b → n * 2 ≤ b → closest n b ≡ 0
-down n b l h =
-    let q : n / b ≡ 0 = lt-one (div-lt-iff-lt-mul (lt-of-le-of-lt zero-least l) .1 (lt-of-lt-of-le l (le-of-eq (sym (one-mul b))))) in
-    let r : n % b ≡ n = mod-eq-of-lt l in
-    ap (λ (x : ℕ). nearest x (compare (n % b * 2) b)) q ∙ ap (λ (x : ℕ). nearest 0 (compare (x * 2) b)) r ∙ go (compare (n * 2) b) (cmp (n * 2) b)
-  where
-    zero-least : {n : ℕ} → 0 ≤ n
-    zero-least = omega arith
-
-    go : (o : Ordering) → Cmp o (n * 2) b → nearest 0 o ≡ 0
-    go Ordering·lt c = refl
-    go Ordering·eq c = refl
-    go Ordering·gt c = absurd (omega arith)
-
-up : (n b : ℕ) → 0 < b → b < n * 2 → 0 < closest n b
-up n b B h = ⊎-elim small large (lt-or-ge n b)
-  where
-    large : b ≤ n → 0 < closest n b
-    large g = lt-of-lt-of-le (some n b B g) (nearest-ge (n / b) (compare (n % b * 2) b))
-      where
-        some : (n b : ℕ) → 0 < b → b ≤ n → 0 < n / b
-        some n b B g = ⊎-elim (λ z. absurd (no z)) (λ z. z) (lt-or-ge (n / b) 1)
-          where
-            no : n / b < 1 → ⊥
-            no z = let y : n < 1 * b = div-lt-iff-lt-mul B .0 z in omega arith
-
-    small : n < b → 0 < closest n b
-    small l =
-        let q : n / b ≡ 0 = lt-one (div-lt-iff-lt-mul B .1 (lt-of-lt-of-le l (le-of-eq (sym (one-mul b))))) in
-        let r : n % b ≡ n = mod-eq-of-lt l in
-        lt-of-lt-of-le (go (compare (n * 2) b) (cmp (n * 2) b))
-        (le-of-eq (sym (ap (λ (x : ℕ). nearest x (compare (n % b * 2) b)) q ∙ ap (λ (x : ℕ). nearest 0 (compare (x * 2) b)) r)))
-      where
-        go : (o : Ordering) → Cmp o (n * 2) b → 0 < nearest 0 o
-        go Ordering·lt c = absurd (omega arith)
-        go Ordering·eq c = absurd (omega arith)
-        go Ordering·gt c = lit< tt
-
-twice : 2 ^ 1074 * 2 ≡ 2 ^ 1075
-twice = sym (pow-add 2 1074 1)
+use Rattle.area_laws.specs.laws.Halves.{down, up, twice, apart}
 
 -- at most half of the smallest value: nothing is left
 pub sign-none : (n : ℕ) → n ≤ 2 ^ 1074 → roundedPattern n ≡ 0
@@ -157,19 +114,6 @@ module _ (a : Point) (A : Coarse a) where
   unfolding losses
   many-losses p [] P h = many-loss p a P A
   many-losses p (q ∷ r) P h = many-add (many-loss p q P (h .0)) (many-losses q r (h .0) (h .1))
-
--- the difference of two multiples of w is w or more
-apart : (g l w a b : ℕ) → g ≡ a * w → l ≡ b * w → l < g → w ≤ g - l
-apart g l w a b x y h = ⊎-elim some (λ z. absurd (no z)) (lt-or-ge b a)
-  where
-    some : b < a → w ≤ g - l
-    some z =
-        let m : suc b * w ≤ a * w = mul-le-mul-right w z in
-        let e : suc b * w ≡ b * w + w = suc-mul b w in
-        omega arith
-
-    no : a ≤ b → ⊥
-    no z = let m : a * w ≤ b * w = mul-le-mul-right w z in omega arith
 
 -- exact areas that are not 0 are at least 2 ^ 1148 units, so more than 2 ^ 1074
 pub surveyed : (p : Point) (r : List Point) → Coarse p → AllCoarse r → losses p p r < gains p p r → 2 ^ 1074 < gains p p r - losses p p r

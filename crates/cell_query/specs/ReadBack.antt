@@ -3,7 +3,6 @@ use mathlib.Core.Path.{_≡_, refl, _∙_}
 use mathlib.Core.List.{List, [], _∷_, _++_, append-assoc}
 use Prim.Native.Nat.{ℕ, zero, suc, _+_, _-_, _≤_, _<_}
 use native.Mathlib.Omega.{arith}
-use native.Mathlib.Numerals.{add-one}
 use lib.ListN.{length, getD, length-append}
 use lib.Seq.{take-at, drop-at}
 use borrow.Author.Tests.{eq-eqb}
@@ -13,15 +12,7 @@ use Rattle.shared.specs.Cells.{Cells, cellOf}
 use Rattle.laws.specs.laws.Refusals.{keeps, nothing}
 use Rattle.cell_query.specs.Cells.{partAfter, CellAnswer}
 use Rattle.cell_query.specs.laws.Cells.{cell-number}
-
-first-offset : (m : ℕ) (cells : List (List ℕ)) → getD (offsetsFrom m cells) 0 0 ≡ m
-unfolding offsetsFrom
-first-offset m [] = refl
-first-offset m (c ∷ cells) = refl
-
-shift : (m : ℕ) (off ix : List ℕ) (s : ℕ) → cellOf (m ∷ off) ix (suc s) ≡ cellOf off ix s
-unfolding cellOf
-shift m off ix s = rw (add-one (suc s), add-one s)
+use Rattle.cell_query.specs.laws.Offsets.{first-offset, shift, bounds, climbs}
 
 -- cells that stand after `before`, whose offsets count from its length
 pub read-from : (before rest : List ℕ) (cells : List (List ℕ)) (s : ℕ) → s < length cells → cellOf (offsetsFrom (length before) cells) (before ++ joined cells ++ rest) s ≡ getD cells s []
@@ -39,22 +30,6 @@ read-from before rest (c ∷ cells) zero h =
 read-from before rest (c ∷ cells) (suc s) h =
     shift (length before) (offsetsFrom (length before + length c) cells) (before ++ (c ++ joined cells) ++ rest) s
     ∙ rw (← append-assoc before c (joined cells), ← length-append before c) (read-from (before ++ c) rest cells s (omega arith))
-
--- offsets that count from m do not fall and stay within the entries
-bounds : (m : ℕ) (cells : List (List ℕ)) (i : ℕ) → i < length (offsetsFrom m cells) → (m ≤ getD (offsetsFrom m cells) i 0) × (getD (offsetsFrom m cells) i 0 ≤ m + length (joined cells))
-unfolding offsetsFrom joined
-bounds m [] zero h = (omega arith, omega arith)
-bounds m [] (suc i) h = absurd (omega arith)
-bounds m (c ∷ cells) zero h = (omega arith, omega arith)
-bounds m (c ∷ cells) (suc i) h =
-    let b = bounds (m + length c) cells i (omega arith) in
-    (omega (arith, b .0), omega (arith, b .1, length-append c (joined cells)))
-
-climbs : (m : ℕ) (cells : List (List ℕ)) (i : ℕ) → i + 1 < length (offsetsFrom m cells) → getD (offsetsFrom m cells) i 0 ≤ getD (offsetsFrom m cells) (i + 1) 0
-unfolding offsetsFrom
-climbs m [] i h = absurd (omega arith)
-climbs m (c ∷ cells) zero h = let b = bounds (m + length c) cells 0 (omega arith) in omega (arith, b .0)
-climbs m (c ∷ cells) (suc i) h = rw (add-one (suc i)) (rw (add-one i) at (climbs (m + length c) cells i (omega arith)))
 
 pub cut : (cells : List (List ℕ)) (room : ℕ) → length (joined cells) ≤ room → Cells (offsetsFrom 0 cells) room
 cut cells room h = record {

@@ -1,59 +1,31 @@
 -- Theorem: what is written is read as the same sites; and a file that is read and is little-endian throughout is written again as the same bytes.
-use mathlib.Core.Path.{_≡_, refl, sym, ap, _∙_, subst}
+use mathlib.Core.Path.{_≡_, refl, sym, ap, _∙_}
 use mathlib.Core.Bool.{Bool, true}
 use mathlib.Core.List.{List}
-use mathlib.Core.Logic.{⊎-elim}
-use Prim.Native.Nat.{ℕ, _+_, _*_, _/_, _%_, _^_, _≤_, _<_}
+use Prim.Native.Nat.{ℕ, _+_, _*_, _/_, _≤_, _<_}
 use native.Mathlib.Omega.{arith}
 use lib.Dec.{T}
 use lib.ListN.{length, getD, take}
-use lib.Seq.{ext-getD, getD-take, length-take-le}
-use lib.Ieee.{Float, nan, binary64, fits, ofBits, toBits}
-use lib.Ieee.Bits.{ofBits-toBits, toBits-ofBits, toBits-lt}
+use lib.Seq.{getD-take, length-take-le}
+use lib.Ieee.{Float, nan, binary64, fits, toBits}
+use lib.Ieee.Bits.{ofBits-toBits, toBits-lt}
 use borrow.Author.Needs.{needs}
 use Rattle.laws.specs.Refusals.{Keep}
-use Rattle.laws.specs.laws.Decide.{eq-or-ne}
 use Rattle.laws.specs.laws.Refusals.{finds-one, finds-none, finds-keep}
-use Rattle.root.specs.Bounded.{Bounded}
-use Rattle.root.specs.laws.Bounds.{bounded-finite, finite-no-nan}
 use Rattle.utils.specs.Flat.{pointAt}
 use Rattle.utils.specs.Rules.{okSite}
 use Rattle.utils.specs.Finite.{BoundedPoint, site-bounded}
 use Rattle.utils.specs.declared.Point.{Point}
 use Rattle.octets.specs.laws.Wrote.{wrote-all}
 use Rattle.multipoint.specs.MultiPoint.{filePoint, Patterned, multiPoint}
-use Rattle.multipoint.specs.Promise.{firsts, entryOf, writeRules, sitePoint, fileOf, ReadAnswer, WriteAnswer}
+use Rattle.multipoint.specs.Promise.{firsts, writeRules, sitePoint, fileOf, ReadAnswer, WriteAnswer}
 use Rattle.multipoint.specs.Exactly.{pointIn, siteOf, point-is, Readable, Sites, reads, read-points}
 use Rattle.multipoint.specs.laws.Firsts.{length-firsts, getD-firsts, is-firsts}
-use Rattle.multipoint.specs.laws.Shapes.{file-length}
+use Rattle.multipoint.specs.laws.SameSites.{same-points, file-size, pattern-back, file-point-is, read-length}
 
 -- each is a value of binary64, as every f64 is
 abbrev pub Held : List Float → Type 0
 Held l = (k : ℕ) → k < length l → T (fits binary64 (getD l k nan))
-
--- the numbers of two lists, by their points
-same-points : (l m : List Float) (n : ℕ) → length l ≡ 2 * n → length m ≡ 2 * n → ((i : ℕ) → i < n → pointAt l i ≡ pointAt m i) → l ≡ m
-same-points l m n e f h = ext-getD nan l m (e ∙ sym f) go
-  where
-    go : (k : ℕ) → k < length l → getD l k nan ≡ getD m k nan
-    go k b =
-        ⊎-elim
-        (λ z. let q : 2 * (k / 2) ≡ k = omega arith in subst (λ (j : ℕ). getD l j nan ≡ getD m j nan) q (ap (λ (p : Point). p .x) (h (k / 2) (omega arith))))
-        (λ z. let q : 2 * (k / 2) + 1 ≡ k = omega arith in subst (λ (j : ℕ). getD l j nan ≡ getD m j nan) q (ap (λ (p : Point). p .y) (h (k / 2) (omega arith))))
-        (eq-or-ne (k % 2) 0)
-
-file-size : (sites : List Float) → length (fileOf sites) ≡ 9 + 21 * (length sites / 2)
-file-size sites =
-    omega (arith, file-length true (firsts (sitePoint sites) (length sites / 2)), length-firsts (sitePoint sites) (length sites / 2))
-
-pattern-back : (x : ℕ) → x < 2 ^ 64 → Bounded 100 (ofBits binary64 x) → toBits binary64 (ofBits binary64 x) ≡ x
-pattern-back x h b = toBits-ofBits binary64 x h (finite-no-nan (ofBits binary64 x) (bounded-finite (ofBits binary64 x) 100 b))
-
-file-point-is : {b c : Bool} {x y u v : ℕ} → b ≡ c → x ≡ u → y ≡ v → filePoint b x y ≡ filePoint c u v
-file-point-is p q r = rw (p, q, r) refl
-
-read-length : (s : List ℕ) {old new : List Float} {k : ℕ} → ReadAnswer s old new k 0 → length new ≡ length old
-read-length s {old} a = ap length (a .sites) ∙ length-firsts (entryOf s) (length old)
 
 -- ---- written, then read
 module _ (sites : List Float) (held : Held sites) {out new : List ℕ} {w : ℕ} (a : WriteAnswer sites out new w 0) where

@@ -1,6 +1,7 @@
 -- Laws that only proofs use.
-pub mod Firsts
-pub mod Fields
-pub mod Points
 pub mod Answers
+pub mod Fields
+pub mod Firsts
+pub mod Points
+pub mod SameSites
 pub mod Shapes

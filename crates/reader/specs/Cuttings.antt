@@ -4,24 +4,23 @@ use mathlib.Core.Bool.{Bool, true, false}
 use mathlib.Core.List.{List, [], _∷_, _++_, append-assoc, append-nil}
 use mathlib.Core.Logic.{_≢_}
 use Prim.Native.Nat.{ℕ, _≤_}
-use native.Mathlib.Omega.{arith}
 use lib.Dec.{ltb}
 use lib.ListN.{length, replicate, length-replicate}
 use borrow.Author.Tests.{ltb-false, le-ltb}
-use Rattle.laws.specs.Pick.{pick}
-use Rattle.form_step.specs.Reader.{Reading, broken, start, finished, takes}
+use Rattle.form_step.specs.Reader.{Reading, start, finished, takes}
 use Rattle.form.specs.laws.Run.{takes-append}
 use Rattle.form.specs.laws.Feed.{takes-none}
 use Rattle.form_step.specs.declared.Reader.{Reader}
 use Rattle.reader_state.specs.Words.{stored}
 use Rattle.reader_state.specs.Stands.{entered}
 use Rattle.reader_state.specs.Kept.{stored-length, stored-again, entered-stored, new-entered, new-start, new-finished}
-use Rattle.reader.specs.Calls.{FormLists, readingOf, listsOf, roomy, answerOf, reportOf, beginning, beginCall, AtBegin, AtFeed, fed, fedBy, feedCall, AtEnd, endCall, AtRead, readCall}
+use Rattle.reader.specs.Calls.{FormLists, readingOf, listsOf, roomy, answerOf, reportOf, beginning, AtFeed, fed, fedBy, feedCall, AtEnd, endCall, AtRead, readCall}
 use Rattle.reader.specs.Promise.{ReaderBegins, ReaderFeeds, ReaderEnds, ReadsForm}
-use Rattle.reader.specs.laws.Calls.{feed-short, feed-close, feed-wide, end-wide, read-wide, new-takes, takes-refused, answer-none, answer-refused, report-none, report-refused}
+use Rattle.reader.specs.laws.Calls.{feed-short, feed-close, feed-wide, end-wide, read-wide, new-takes, takes-refused}
 use Rattle.reader.specs.laws.Lengths.{same-room}
 use Rattle.reader.specs.declared.Answer.{Answer}
 use Rattle.reader.specs.declared.Report.{Report}
+use Rattle.reader.specs.laws.Refusals.{begun-words, refused-broken, finished-broken, report-answer, report-broken}
 
 -- ---- two blocks are their join
 
@@ -79,16 +78,6 @@ parts-join ws l p e f (more {s = s} {ss = ss} fs ps) =
     (a ∙ ap (λ (x : List ℕ). feedCall ws l x .words) i, b ∙ ap (λ (x : List ℕ). feedCall ws l x .formLists) i)
 
 -- ---- from the beginning
-
-begun-words : (ws₀ : List ℕ) {ws : List ℕ} → ReaderBegins ws₀ ws 0 → (16 ≤ length ws₀) × (ws ≡ beginning ws₀)
-unfolding beginCall
-begun-words ws₀ {ws} e = go (ltb (length ws₀) 16) refl e
-  where
-    go : (t : Bool) → ltb (length ws₀) 16 ≡ t
-        → _≡_ {A = AtBegin} (record { number = 0; words = ws }) (pick t (λ _. record { number = 2; words = ws₀ }) (λ _. record { number = 0; words = beginning ws₀ }))
-        → (16 ≤ length ws₀) × (ws ≡ beginning ws₀)
-    go true p q = absurd (omega (arith, ap (λ (x : AtBegin). x .number) q))
-    go false p q = (ltb-false _ _ p, ap (λ (x : AtBegin). x .words) q)
 
 module _ (ws₀ : List ℕ) (long : 16 ≤ length ws₀) where
   abbrev first : List ℕ
@@ -152,13 +141,6 @@ cutting ws₀ ws′ l ss room b ps e f =
 
 -- ---- a refusal stays
 
-refused-broken : (r : Reader) → answerOf r .number ≢ 0 → broken r ≡ true
-refused-broken r d = go (broken r) refl
-  where
-    go : (t : Bool) → broken r ≡ t → t ≡ true
-    go true e = refl
-    go false e = absurd (d (ap (λ (a : Answer). a .number) (answer-none r e)))
-
 -- a block that was refused is refused the same with whatever follows it, at once or as a block of its own
 pub refusal-stays : (ws : List ℕ) (l : FormLists) (s t : List ℕ) → feedCall ws l s .answer .number ≢ 0 → feedCall ws l (s ++ t) ≡ feedCall ws l s
 refusal-stays ws l s t d = go (ltb (length ws) 16) (roomy l) refl refl
@@ -174,23 +156,6 @@ refusal-stays ws l s t d = go (ltb (length ws) 16) (roomy l) refl refl
 
 pub next-refused : (ws : List ℕ) (l : FormLists) (s t : List ℕ) → feedCall ws l s .answer .number ≢ 0 → feedCall (feedCall ws l s .words) (feedCall ws l s .formLists) t ≡ feedCall ws l s
 next-refused ws l s t d = two-blocks ws l s t ∙ refusal-stays ws l s t d
-
-finished-broken : (r : Reader) → broken r ≡ true → finished r ≡ r
-unfolding finished
-finished-broken r e = rw e
-
-report-answer : (r : Reader) → broken r ≡ true → (reportOf r .number ≡ answerOf r .number) × (reportOf r .at ≡ answerOf r .at)
-report-answer r e =
-    let p = report-refused r e in
-    let q = sym (answer-refused r e) in
-    (ap (λ (a : Report). a .number) p ∙ ap (λ (a : Answer). a .number) q, ap (λ (a : Report). a .at) p ∙ ap (λ (a : Answer). a .at) q)
-
-report-broken : (r : Reader) → reportOf r .number ≢ 0 → broken r ≡ true
-report-broken r d = go (broken r) refl
-  where
-    go : (t : Bool) → broken r ≡ t → t ≡ true
-    go true e = refl
-    go false e = absurd (d (ap (λ (a : Report). a .number) (report-none r e)))
 
 -- and so does the end
 pub end-refused :

@@ -1,3 +1,4 @@
 -- Laws that only proofs use.
-pub mod Earlier
 pub mod Before
+pub mod Earlier
+pub mod Led

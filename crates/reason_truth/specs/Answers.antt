@@ -1,13 +1,12 @@
 -- Theorem: an answer to what was asked is true, and it is the only one: no fault is said exactly where nothing was asked, the cell is not empty, the second site
 -- is no neighbour of the first, or it is still listed.
-use mathlib.Core.Path.{_≡_, refl, ap}
+use mathlib.Core.Path.{_≡_, refl}
 use mathlib.Core.Bool.{Bool, true, false}
-use mathlib.Core.List.{List, [], _∷_}
+use mathlib.Core.List.{List, []}
 use mathlib.Core.Logic.{⊎-elim, _≢_}
 use Prim.Native.Nat.{ℕ, _≤_, _<_}
 use native.Mathlib.Omega.{arith}
-use lib.ListN.{length}
-use borrow.Author.Tests.{lt-ltb, le-ltb, ltb-true, ltb-false}
+use borrow.Author.Tests.{lt-ltb, le-ltb, ltb-true}
 use Rattle.laws.specs.Count.{occ}
 use Rattle.laws.specs.Pick.{pick}
 use Rattle.laws.specs.laws.Decide.{lt-or-ge}
@@ -21,6 +20,7 @@ use Rattle.reasons.specs.declared.Reason.{Reason}
 use Rattle.reasons.specs.declared.Reason.the-variants.{NoFault, Unused, TriesEmpty, Dropped}
 use Rattle.reasons.specs.Answer.{isNone, emptyAnswer, droppedAnswer, staying, answerTo}
 use Rattle.reasons.specs.laws.Answer.{place-of, dropped-few}
+use Rattle.reason_truth.specs.laws.Nothing.{is-none, is-some, none-is, some-is, holds-none}
 
 -- what each answer says, of the triangles, the neighbours and the cell of each site
 pub data AnswerTrue (tri he table : List ℕ) (cell : ℕ → List ℕ) : Question → Reason → Type 0 where
@@ -32,24 +32,6 @@ pub data AnswerTrue (tri he table : List ℕ) (cell : ℕ → List ℕ) : Questi
   stillListed : {s t : ℕ} → 0 < occ t (neighboursOf tri he table s) → 0 < occ t (staying tri he table cell s) → AnswerTrue tri he table cell (Between s t) NoFault
   gone : {s t : ℕ} → 0 < occ t (neighboursOf tri he table s) → occ t (staying tri he table cell s) ≡ 0 → sharedOf (cell s) (cell t) < 2
       → AnswerTrue tri he table cell (Between s t) (Dropped s t (sharedOf (cell s) (cell t)))
-
-is-none : (l : List ℕ) → isNone l ≡ true → l ≡ []
-is-none [] e = refl
-is-none (x ∷ l) e = let z : _≡_ {A = ℕ} 0 1 = cc in absurd (omega arith)
-
-is-some : (l : List ℕ) → isNone l ≡ false → l ≢ []
-is-some [] e q = let z : _≡_ {A = ℕ} 0 1 = cc in absurd (omega arith)
-is-some (x ∷ l) e q = omega (arith, ap length q)
-
-none-is : (l : List ℕ) → l ≡ [] → isNone l ≡ true
-none-is l q = rw q
-
-some-is : (l : List ℕ) → l ≢ [] → isNone l ≡ false
-some-is [] n = absurd (n refl)
-some-is (x ∷ l) n = refl
-
-holds-none : (v : ℕ) (l : List ℕ) → holdsOf l v ≡ false → occ v l ≡ 0
-holds-none v l e = omega (arith, ltb-false 0 (occ v l) e)
 
 module _ (tri he table : List ℕ) (cell : ℕ → List ℕ) where
   pub answer-true : (q : Question) → AnswerTrue tri he table cell q (answerTo tri he table cell q)

@@ -3,9 +3,7 @@
 use mathlib.Core.Path.{_≡_, refl, ap, _∙_}
 use mathlib.Core.List.{List, []}
 use Prim.Native.Nat.{ℕ, _/_, _≤_}
-use native.Mathlib.Omega.{arith}
 use lib.ListN.{length, getD}
-use borrow.Author.Tests.{ne-eqb}
 use Rattle.laws.specs.Refusals.{Keeps, Breaks}
 use Rattle.numbers.specs.Numbers.{refusedCircumcenter, refusedExtension, refusedNoCrossing}
 use Rattle.bounding_box.specs.declared.BoundingBox.{BoundingBox}
@@ -22,25 +20,13 @@ use Rattle.definition.specs.TryTheorem.{tried-in-vain}
 use Rattle.reasons.specs.declared.Reason.{Reason}
 use Rattle.reasons.specs.declared.Reason.the-variants.{AtTriangle, AtHullPlace, AtEdge}
 use Rattle.reasons.specs.Reason.{ofFault}
+use Rattle.reason_truth.specs.laws.Named.{center-named, extension-named, edge-named}
 
 pub data BuilderTrue (m : Mesh) (b : BoundingBox) : Reason → Type 0 where
   center : {t : ℕ} → Breaks (centerRule (m .sites) (m .triangles)) (badCenter t) → BuilderTrue m b (AtTriangle refusedCircumcenter t)
   extension : {i : ℕ} → Keeps (centerRule (m .sites) (m .triangles)) → Breaks (extensionRule m) (notFinite i) → BuilderTrue m b (AtHullPlace refusedExtension i)
   ringEdge : {n site p q : ℕ} → refusedNoCrossing ≤ n → Keeps (centerRule (m .sites) (m .triangles)) → Keeps (extensionRule m) → {ring : List ℕ} {s : CellState}
       → TryOf m b site ring s → EdgeMet b (length (m .triangles) / 3) site ring (s .verts) (s .owners) p q n → BuilderTrue m b (AtEdge n site p q)
-
-center-named : (t : ℕ) → ofFault (badCenter t) ≡ AtTriangle refusedCircumcenter t
-unfolding ofFault
-center-named t = refl
-
-extension-named : (i : ℕ) → ofFault (notFinite i) ≡ AtHullPlace refusedExtension i
-unfolding ofFault
-extension-named i = refl
-
-edge-named : (f : Fault) → refusedNoCrossing ≤ f .number → ofFault f ≡ AtEdge (f .number) (f .place) (f .from) (f .to)
-unfolding ofFault
-edge-named f l =
-    rw (ne-eqb (f .number) 0 (λ e. omega arith), ne-eqb (f .number) refusedCircumcenter (λ e. omega arith), ne-eqb (f .number) refusedExtension (λ e. omega arith))
 
 module _ {m : Mesh} {b : BoundingBox} where
   met-true : {f : Fault} → FaultMet m b f → BuilderTrue m b (ofFault f)

@@ -2,3 +2,4 @@
 pub mod Answers
 pub mod Builder
 pub mod Whole
+pub mod laws

@@ -20,6 +20,7 @@ use Rattle.reasons.specs.declared.Reason.the-variants.{Number}
 use Rattle.reasons.specs.Reason.{ofMesh, ofFault}
 use Rattle.reasons.specs.Rules.{reasonRules, buildRules, answered, ReasonFor}
 use Rattle.reason_truth.specs.Answers.{AnswerTrue, answer-true}
+use Rattle.reason_truth.specs.laws.Unread.{keep-unread}
 
 -- one of the rules is broken, those before it hold, and a is what the first thing that breaks it answers
 abbrev pub Broken : {A : Type 0} → List (Rule A) → A → Type 0
@@ -37,11 +38,6 @@ unread g (once a P ∷ rs) (inl x) = (a, inl (x .0, refl), x .1)
 unread g (once a P ∷ rs) (inr (k, x)) = let (a, y, e) = unread g rs x in (a, inr (k, y), e)
 unread g (each f n P ∷ rs) (inl (k, first, l, e)) = (f k, inl (k, first, l, refl), e)
 unread g (each f n P ∷ rs) (inr (k, x)) = let (a, y, e) = unread g rs x in (a, inr (k, y), e)
-
-keep-unread : {A B : Type 0} (g : A → B) (rs : List (Rule A)) → Keep (reads g rs) → Keep rs
-keep-unread g [] k = tt
-keep-unread g (once a P ∷ rs) k = (k .0, keep-unread g rs (k .1))
-keep-unread g (each f n P ∷ rs) k = (k .0, keep-unread g rs (k .1))
 
 module _ (m : Mesh) (room : Type 0) (own : List (Rule ℕ)) (q : Question) (o : Outcome Fault Built) where
   abbrev Counts : Type 0

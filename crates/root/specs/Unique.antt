@@ -2,39 +2,17 @@
 -- Bounds of a root by a value whose square is a bound, and the root of a square.
 use mathlib.Core.Path.{_≡_, refl, sym, ap, _∙_, subst}
 use mathlib.Core.Logic.{⊎-elim}
-use mathlib.Core.Bool.{Bool, true, false, not, true≢false}
-use Prim.Native.Nat.{ℕ, zero, suc, _+_, _-_, _*_, _/_, _^_, _≤_, _<_}
-use native.Mathlib.Nat.{add-comm, le-of-eq, le-trans, le-antisymm, lt-irrefl, lt-of-lt-of-le, le-of-lt}
+use mathlib.Core.Bool.{Bool, true, false, not}
+use Prim.Native.Nat.{ℕ, zero, suc, _+_, _*_, _^_, _≤_, _<_}
+use native.Mathlib.Nat.{le-of-eq, le-trans, le-antisymm, lt-irrefl, lt-of-lt-of-le}
 use native.Mathlib.Omega.{arith}
 use lib.Dec.{T}
-use lib.Ieee.{Float, nan, inf, fin, binary64, fits, isNan, ofBits, toBits, nanBits, size}
-use lib.Ieee.Bits.{ofBits-toBits, toBits-ofBits, nanBits-is}
+use lib.Ieee.{Float, nan, inf, fin, binary64, fits, isNan, ofBits, toBits, nanBits}
+use lib.Ieee.Bits.{toBits-ofBits, nanBits-is}
 use Rattle.digits.specs.Near.{sq}
 use Rattle.root.specs.Root.{units, Plus, NearestRoot, Root, RootBits}
 use Rattle.root.specs.laws.Squares.{le-or-lt, sq-mono}
-
-abbrev bitsOf : ℕ → ℕ
-bitsOf n = 0 + (size n - 53) * 2 ^ 52 + n / 2 ^ (size n - 53)
-
-toBits-units : (v : Float) → Plus v → toBits binary64 v ≡ bitsOf (units v)
-unfolding toBits
-toBits-units nan p = absurd p
-toBits-units (inf s) p = absurd p
-toBits-units (fin true m e) p = absurd (true≢false p)
-toBits-units (fin false m e) p = refl
-
-same-units : {v w : Float} → T (fits binary64 v) → T (fits binary64 w) → Plus v → Plus w → units v ≡ units w → v ≡ w
-same-units {v} {w} f g p q e =
-    sym (ofBits-toBits binary64 v f) ∙ ap (ofBits binary64) (toBits-units v p ∙ ap bitsOf e ∙ sym (toBits-units w q)) ∙ ofBits-toBits binary64 w g
-
-no-less : {x r s : Float} → NearestRoot x r → NearestRoot x s → units r < units s → ⊥
-no-less {x} {r} {s} a b l =
-    lt-irrefl (4 * (units x * 2 ^ 1074))
-    (lt-of-lt-of-le (a .above s (b .held) (b .plus) l) (le-of-lt (subst (λ (n : ℕ). sq n < 4 * (units x * 2 ^ 1074)) (add-comm (units s) (units r)) (b .below r (a .held) (a .plus) l))))
-
-one-nearest : {x r s : Float} → NearestRoot x r → NearestRoot x s → r ≡ s
-one-nearest {x} {r} {s} a b = same-units (a .held) (b .held) (a .plus) (b .plus)
-    (⊎-elim (λ g. ⊎-elim (λ h. le-antisymm g h) (λ h. absurd (no-less a b h)) (le-or-lt (units s) (units r))) (λ h. absurd (no-less b a h)) (le-or-lt (units r) (units s)))
+use Rattle.root.specs.laws.OneUnits.{same-units, one-nearest}
 
 pub one-root : (x r s : Float) → Root x r → Root x s → r ≡ s
 one-root nan r s a b = a ∙ sym b

@@ -14,3 +14,5 @@ pub mod WholeRoots
 pub mod Moving
 pub mod Patterns
 pub mod Signs
+pub mod UnitBounds
+pub mod OneUnits

@@ -1,0 +1,4 @@
+-- Laws that only proofs use.
+pub mod Named
+pub mod Nothing
+pub mod Unread
