@@ -45,10 +45,10 @@ extern "C" {
 
 /* ---- the version (the file VERSION; CHANGELOG.md says what changed) */
 
-#define VORONOI_VERSION "0.15.0"
+#define VORONOI_VERSION "0.15.1"
 #define VORONOI_VERSION_MAJOR 0
 #define VORONOI_VERSION_MINOR 15
-#define VORONOI_VERSION_PATCH 0
+#define VORONOI_VERSION_PATCH 1
 
 /* ---- numbers */
 

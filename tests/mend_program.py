@@ -1,5 +1,5 @@
 """Runs the program `mend`, given by its words, on damaged meshes, and holds its lines and its forms to a second program, written here from the request.
-The first rows are the request's own; then meshes are damaged at random, always in the same way."""
+The first rows are the requests' own, those of the option that gives a form of old a box among them; then meshes are damaged at random, always in the same way."""
 import pathlib
 import random
 import struct
@@ -131,10 +131,92 @@ for old in (b"\x06", form_of(b"\x06", square, two, [E] * 6, [0, 1, 2, 3]), whole
     for asked in ((), ("form",)):
         if run(old, *asked) != (b"refused 20\n", b""):
             sys.exit(f"{old[:40].hex()}.. is not refused with 20")
-for asked in (("form", "form"), ("forms",), ("for",), ("",), ("form" * 1000,), ("Form",), ("--help",), ("form", "")):
+HEX = BOX.hex()
+wrong = [HEX[:-1], HEX[:-2], HEX + "0", HEX + "00", HEX * 50, "", HEX.replace("4", "G"), HEX[:64] + "4A", " " + HEX[1:], "0x" + HEX[2:]]
+wrong += [f"{kind:02x}" + HEX[2:] for kind in range(256) if kind not in (1, 7)]
+for asked in (("form", "form"), ("forms",), ("for",), ("",), ("form" * 1000,), ("Form",), ("--help",), ("form", ""), ("box",), ("form", "box"), ("boxes", HEX),
+              ("", HEX), ("box" * 10, HEX), (HEX, "box"), ("box", HEX, "form"), ("box", HEX, ""), ("form", "box", HEX, ""), ("form", "form", "box", HEX),
+              ("", "box", HEX), ("box", "box", HEX), (HEX,), ("form", HEX), *(("box", word) for word in wrong), *(("form", "box", word) for word in wrong[:20])):
     said, err = run(whole, *asked)
-    if said or err.count(b"\n") != 1 or not err.startswith(b"usage: mend"):
+    if said or err.count(b"\n") != 1 or not err.startswith(b"usage: mend [form] [box HEX]"):
         sys.exit(f"mend {asked}: {said!r} {err!r}")
+
+# ---- the option: a box in the place of kind 6
+
+
+def box_line(first):
+    """The line of a box that was put in."""
+    return f"box 0: 6 {first[0]} " + " ".join(first[i:i + 8][::-1].hex() for i in range(1, 33, 8)) + "\n"
+
+
+def box_kept(first):
+    """Rule 3 of a record."""
+    a, b, c, d = struct.unpack("<4d", first[1:])
+    if first[0] == 7:
+        return all(abs(x) <= 2.0**101 for x in (a, b, c, d)) and a < c and b < d
+    apart = a - c / 2 < a + c / 2 and b - d / 2 < b + d / 2
+    return apart and abs(a) <= 2.0**100 and abs(b) <= 2.0**100 and 0 < c <= 2.0**100 and 0 < d <= 2.0**100
+
+
+def with_box(first, sites, triangles, pairs, hull, words=None):
+    """A form of old with this option: the box first, then what is printed for the mesh with that box; 3 comes after 1 and before all others."""
+    old = form_of(b"\6", sites, triangles, pairs, hull)
+    text, bytes_, number = expected(first, sites, triangles, pairs, hull)
+    if not box_kept(first) and number != 1:
+        text = bytes_ = b"refused 3\n"
+    elif not number:
+        text = box_line(first).encode() + text
+    if words is not None and text.decode() != words:
+        sys.exit(f"the second program is wrong: {text.decode()!r}, must be {words!r}")
+    for asked, must in ((("box", first.hex()), text), (("form", "box", first.hex()), bytes_)):
+        said, err = run(old, *asked)
+        if (said, err) != (must, b""):
+            sys.exit(f"mend {' '.join(asked)} on sites {sites} triangles {triangles} pairs {pairs} hull {hull}: {said!r}, must be {must!r}; {err!r}")
+    for asked in ((), ("form",)):
+        if run(old, *asked) != (b"refused 20\n", b""):
+            sys.exit(f"without the option the form of old is not refused with 20, triangles {triangles}")
+    own = struct.pack("<B4d", 1, 0, 0, 0, 8)  # the form's own box stays, and is not tried
+    for kind in (own, b"\7" + own[1:]):
+        form = form_of(kind, sites, triangles, pairs, hull)
+        for asked in ((), ("form",)):
+            if run(form, *asked) != run(form, *asked, "box", first.hex()):
+                sys.exit(f"the option changes a form that has a box, triangles {triangles}")
+    return text
+
+
+EDGES = struct.pack("<B4d", 7, -1, -1, 1, 1)
+FLAT = struct.pack("<B4d", 1, 0, 0, 0, 2)  # a width of 0
+ZERO, TWO = "0" * 16, "4" + "0" * 15
+with_box(BOX, square, two, right, [0, 1, 2, 3], f"box 0: 6 1 {ZERO} {ZERO} {TWO} {TWO}\npairs 0 hull 0\n")
+with_box(EDGES, square, two, right, [0, 1, 2, 3], "box 0: 6 7 bff0000000000000 bff0000000000000 3ff0000000000000 3ff0000000000000\npairs 0 hull 0\n")
+with_box(BOX, square, two, [E] * 6, [0, 1, 2, 0], f"box 0: 6 1 {ZERO} {ZERO} {TWO} {TWO}\npair 2: none 3\npair 3: none 2\nhull 3: 0 3\npairs 2 hull 1\n")
+with_box(FLAT, square, two, right, [0, 1], "refused 1\n")
+with_box(FLAT, square, two, right, [0, 1, 2, 3], "refused 3\n")
+with_box(FLAT, [*square[:3], (2.0**101, 0.0)], two, right, [0, 1, 2, 3], "refused 3\n")
+with_box(FLAT, square, [0, 1, 1, 0, 2, 3], [E] * 6, [0, 1, 2, 3], "refused 3\n")
+with_box(FLAT, square, [0, 1, 2, 0, 1, 3], [E] * 6, [0, 1, 2, 3], "refused 3\n")
+with_box(BOX, [*square[:3], (2.0**101, 0.0)], two, right, [0, 1, 2, 3], "refused 6\n")
+with_box(BOX, square, [0, 1, 1, 0, 2, 3], [E] * 6, [0, 1, 2, 3], "refused 7\n")
+with_box(BOX, square, [0, 1, 2, 0, 1, 3], [E] * 6, [0, 1, 2, 3], "refused 19\n")
+with_box(BOX, square, closed, [E] * 12, [0, 1, 2, 3], "refused 9\n")
+with_box(EDGES, many, [9, 8, 0, *closed], [E] * 15, [9, 8, 0], "refused 10\n")
+for first in (struct.pack("<B4d", 7, 1, 0, 1, 2), struct.pack("<B4d", 7, 0, 0, float("inf"), 2), struct.pack("<B4d", 1, float("nan"), 0, 2, 2),
+              struct.pack("<B4d", 7, -2.0**101, -1, 2.0**101, 1), struct.pack("<B4d", 1, 0.1, -0.0, 1e-300, 2.0**100),
+              struct.pack("<B4d", 1, 0.1, -0.0, 1e-3, 2.0**100), b"\1" + bytes.fromhex("010000000000f07f") + bytes(24)):
+    with_box(first, square, two, [E] * 6, [1, 2, 0])
+square_form = pathlib.Path(__file__).parents[1].joinpath("examples/square.form").read_bytes()
+if run(b"\6" + square_form[33:], "form", "box", HEX)[0] != square_form:
+    sys.exit("the old square with its box is not examples/square.form")
+
+# with the option too, what is no form: a second 6 before the end is 20, after it 17, and every other byte 17
+old = b"\6" + square_form[33:]
+for broken, number in ((b"", 17), (b"\6", 17), (b"\6\6", 20), (b"\5", 17), (b"\0", 17), (old[:-1], 17), (old[:-1] + b"\6", 20), (old + b"\6", 17), (old + b"\5", 17),
+                       (b"\6" + old, 20), (old[:1] + b"\6" + old[1:], 20), (old[:18] + b"\6" + old[18:], 20), (square_form[:33] + b"\6", 20), (old[1:], 17), (old + bytes(20000), 17)):
+    for asked in (("box", HEX), ("form", "box", HEX), ("box", FLAT.hex())):
+        if run(broken, *asked) != (b"refused %d\n" % number, b""):
+            sys.exit(f"{broken[:40].hex()}.. is not refused with {number} by mend {asked}")
+if run(b"\6\5", "box", HEX)[0] != b"refused 1\n":
+    sys.exit("an empty form of old is not refused with 1")
 
 # ---- meshes that were accepted, damaged
 
@@ -191,8 +273,11 @@ def damaged(mesh):
 meshes = [read(path) for path in sorted(pathlib.Path(__file__).parents[1].glob("examples/*.form"))]
 numbers = {}
 for _ in range(120):
-    number = compare(*damaged(dice.choice(meshes)))
+    mesh = damaged(dice.choice(meshes))
+    number = compare(*mesh)
+    if dice.random() < 0.3:
+        with_box(dice.choice((BOX, EDGES, FLAT, mesh[0])), *mesh[1:])
     numbers[number] = numbers.get(number, 0) + 1
 if numbers.get(0, 0) < 40 or len(numbers) < 4:
     sys.exit(f"too few of each answer: {numbers}")
-print("mend: the request's rows, and 120 damaged meshes as a second program has them: " + ", ".join(f"{k}: {v}" for k, v in sorted(numbers.items())))
+print("mend: the requests' rows, and 120 damaged meshes as a second program has them: " + ", ".join(f"{k}: {v}" for k, v in sorted(numbers.items())))

@@ -85,6 +85,9 @@ must 2 "why FILE" ./yelmuzard why
 must 2 "why FILE" ./yelmuzard why examples/square.form 0 1 2
 must 2 "mend FILE" ./yelmuzard mend
 must 2 "mend FILE" ./yelmuzard mend examples/square.form lines
+must 2 "mend FILE" ./yelmuzard mend examples/square.form --box 0 0 2
+must 2 "mend FILE" ./yelmuzard mend examples/square.form --edges 0 0 2 2 form
+must 2 "mend FILE" ./yelmuzard mend examples/square.form form form
 must 2 "cells FILE" ./yelmuzard cells examples/square.form form
 must 0 "" ./yelmuzard --version
 for word in "" cells export why mend archive link run test; do

@@ -95,4 +95,28 @@ for way in "" form; do
     ./yelmuzard mend examples/square.form ${way:+"$way"} >/dev/full 2>"$folder/err" || status=$?
     [ "$status" = 2 ] || { echo "mend $way to a full disk: status $status" && exit 1; }
 done
+# a form of old, without a box: refused, and with a box given mended, by centre and size or by edges; a box that rule 3 refuses; words that are no numbers
+{ printf '\006' && tail -c +34 examples/square.form; } >"$folder/old"
+status=0
+./yelmuzard mend "$folder/old" >"$folder/out" 2>"$folder/err" || status=$?
+[ "$status $(cat "$folder/out")" = "1 refused 20" ] || { echo "mend of a form without a box: status $status" && exit 1; }
+grep -q -- "mend FILE form --box" "$folder/err"
+printf 'box 0: 6 1 0000000000000000 0000000000000000 4000000000000000 4000000000000000\npairs 0 hull 0\n' >"$folder/changes"
+./yelmuzard mend "$folder/old" --box 0 0 2 2 2>/dev/null | cmp - "$folder/changes"
+./yelmuzard mend harness/meshes/square_unclipped.txt --box 0 -0.0e5 +2. 20e-1 2>/dev/null | sed 's/ 8000000000000000 / 0000000000000000 /' | cmp - "$folder/changes"
+./yelmuzard mend "$folder/old" form --box 0 0 2 2 2>/dev/null | cmp - examples/square.form
+printf 'box 0: 6 7 bfb999999999999a bff0000000000000 3ff0000000000000 3ff0000000000000\npairs 0 hull 0\n' >"$folder/changes"
+./yelmuzard mend "$folder/old" --edges -.1 -1 1 1 2>/dev/null | cmp - "$folder/changes"
+./yelmuzard mend "$folder/old" form --edges -1 -1 1 1 2>/dev/null | ./yelmuzard cells - | cmp - tests/cells/square.out
+[ "$(./yelmuzard mend examples/square.form --edges -1 -1 1 1)" = "pairs 0 hull 0" ]
+./yelmuzard mend examples/square.form form --box 0 0 4 4 | cmp - examples/square.form
+status=0
+./yelmuzard mend "$folder/old" form --box 0 0 0 2 >"$folder/out" 2>"$folder/err" || status=$?
+[ "$status $(cat "$folder/out")" = "1 refused 3" ] || { echo "mend with a box of no width: status $status" && exit 1; }
+for word in two 0x2 1_0 "" "1 2" inf; do
+    status=0
+    ./yelmuzard mend "$folder/old" --box 0 0 2 "$word" >"$folder/out" 2>"$folder/err" || status=$?
+    [ "$status" = 2 ] || { echo "mend --box 0 0 2 '$word': status $status" && exit 1; }
+    grep -q "is no number in decimal" "$folder/err"
+done
 echo "script: listings, refusals and failed output have their words and status"

@@ -1,20 +1,11 @@
 -- The lines that map tools read: a site's number and its polygon in hexadecimal digits, lower case. Definitions only.
-use mathlib.Core.List.{List, [], _∷_, _++_}
-use Prim.Native.Nat.{ℕ, zero, suc, _+_, _/_, _%_, _≤_, _<_}
-use lib.Dec.{ltb}
+use mathlib.Core.List.{List, [], _++_}
+use Prim.Native.Nat.{ℕ, zero, suc, _≤_, _<_}
 use lib.ListN.{length}
-use Rattle.laws.specs.Pick.{pick}
+use Rattle.hex.specs.Hex.{hex}
 use Rattle.listing.specs.Text.{ascii, decimal}
 use Rattle.listing.specs.Listing.{listedCell, Layout}
 use Rattle.wkb.specs.Promise.{NamesVertices, image}
-
--- 48 is the digit 0, 97 the digit a
-abbrev pub hexDigit : ℕ → ℕ
-hexDigit n = pick (ltb n 10) (λ _. 48 + n) (λ _. 87 + n)
-
-unfoldable pub hex : List ℕ → List ℕ
-hex [] = []
-hex (b ∷ s) = hexDigit (b / 16) ∷ hexDigit (b % 16) ∷ hex s
 
 unfoldable pub mapLine : ℕ → List ℕ → List ℕ
 mapLine i bytes = decimal i ++ ascii "," ++ hex bytes ++ ascii "\n"

@@ -1,49 +1,14 @@
 // Writes cells as lines for map tools into a lent slice of bytes: each function writes its text from a place on and answers the place after it.
+use hex::put_hex;
 use listing::decimal;
 use numbers::wide;
 use octets::put;
-ghost use mathlib.Core.Path.{_≡_};
-ghost use mathlib.Core.List.{[], _∷_};
-ghost use Prim.Native.Nat.{_/_, _<_, _≤_};
+ghost use Prim.Native.Nat.{_/_, _≤_};
 ghost use lib.ListN.{length};
 ghost use Rattle.octets.specs.Wrote.{Wrote, HasRoom};
 ghost use Rattle.wkb.specs.Polygon.{patterns};
 ghost use Rattle.wkb.specs.Promise.{NamesVertices, image};
-ghost use Rattle.map_text.specs.MapText.{hexDigit, hex, mapLine, mapLines, mapText, Drawn};
-
-fn digit(n: u8) -> u8
-    requires { ⌜ n < 16 ⌝ }
-    ensures { λ r. ⌜ r ≡ hexDigit n ⌝ }
-{
-    if n < 10 {
-        return 48 + n;
-    }
-    87 + n
-}
-
-fn put_byte(out: &mut [u8], at: usize, b: u8) -> usize
-    requires { ⌜ HasRoom (now out) at (hex (b ∷ [])) ⌝ }
-    ensures { λ r. ⌜ Wrote (now (out .entry)) (now (out .exit)) at r (hex (b ∷ [])) ⌝ }
-{
-    let high = digit(b / 16);
-    let low = digit(b % 16);
-    out[at] = high;
-    out[at + 1] = low;
-    at + 2
-}
-
-fn put_hex(out: &mut [u8], at: usize, bytes: &[u8]) -> usize
-    requires { ⌜ HasRoom (now out) at (hex (now bytes)) ⌝ }
-    ensures { λ r. ⌜ Wrote (now (out .entry)) (now (out .exit)) at r (hex (now (bytes .entry))) ⌝ }
-{
-    let mut end = at;
-    let mut i = 0;
-    while i < bytes.len() {
-        end = put_byte(out, end, bytes[i]);
-        i += 1;
-    }
-    end
-}
+ghost use Rattle.map_text.specs.MapText.{mapLine, mapLines, mapText, Drawn};
 
 fn map_line(out: &mut [u8], at: usize, i: u32, bytes: &[u8]) -> usize
     requires { ⌜ HasRoom (now out) at (mapLine i (now bytes)) ⌝ }

@@ -1,5 +1,5 @@
 -- Theorem: the mended mesh of a form that is not refused is accepted by rules 1, 6 and 7 to 10 and has a form: what is printed with the word `form` is a
--- sound form, or the line of a refusal.
+-- sound form, also where the option's box was put in, or the line of a refusal.
 use mathlib.Core.Path.{_≡_, refl}
 use mathlib.Core.Bool.{true, false}
 use mathlib.Core.List.{List, [], _∷_, _++_}
@@ -21,11 +21,14 @@ use Rattle.check_mesh.specs.AtExit.{atExit}
 use Rattle.mend_slices.specs.Lent.{Lent, lent, filled}
 use Rattle.mending.specs.Mending.{mendRoomOf, newHull, pairChanges, hullChanges, whenMade, Mends}
 use Rattle.mending.specs.MendTheorem.{mended-accepted}
-use Rattle.form.specs.Form.{FormMesh, MeshFits, HullFits, MayBegin, IsForm, numbersOf, siteFloats, triangleSites}
+use Rattle.form.specs.Form.{Outline, box, unclipped, edges, FormMesh, MeshFits, OutlineFits, HullFits, MayBegin, IsForm, numbersOf, siteFloats, triangleSites}
 use Rattle.form.specs.laws.Lists.{numbers-length}
 use Rattle.form_writer.specs.laws.Records.{triangles-count, triangles-fit}
-use Rattle.mend.specs.Printed.{MendNumber, PrintsMesh, refused, mended, mendedForm, triOf, heOf, count}
-use Rattle.mend.specs.laws.Room.{with-room}
+use Rattle.mend_box.specs.Option.{IsOption, outlineOf, gives, inPlace, firstAfter}
+use Rattle.mend_box.specs.Record.{holds}
+use Rattle.mend.specs.Printed.{MendNumber, NumberOf, PrintsMesh, refused, mended, mendedForm, triOf, heOf, count}
+use Rattle.mend.specs.laws.Room.{without-box}
+use Rattle.mend.specs.laws.Heads.{none-gives}
 
 -- ---- what mending promises, with slices just long enough
 
@@ -45,8 +48,8 @@ module _ (sites : List Float) (tri he hull : List ℕ) where
         for-changes = omega (arith, length-replicate {A = ℕ} (3 * (length tri + n)) 0);
       }
 
-  number-accepted : MendNumber sites tri he hull 0 → Accepted (mesh sites tri (pairsOf tri) (newHull tri hull n))
-  number-accepted z =
+  number-accepted : (put : Outline) → MendNumber put sites tri he hull 0 → Accepted (mesh sites tri (pairsOf tri) (newHull tri hull n))
+  number-accepted put z =
       let all = flatChanges (pairChanges tri he ++ hullChanges tri hull n) in
       let after = lent (atExit EMPTY (leftmostIn tri (pairsOf tri) n (length (before .work))) (before .work) 0)
       (atExit EMPTY (filled (length (before .pairs)) (pairsOf tri)) (before .pairs) 0)
@@ -54,7 +57,7 @@ module _ (sites : List Float) (tri he hull : List ℕ) where
       (atExit EMPTY (filled (length (before .changes)) all) (before .changes) 0) in
       let m : Mends (mesh sites tri he hull) before after 0 (whenMade 0 (length (newHull tri hull n))) (whenMade 0 (length (pairChanges tri he)))
       (whenMade 0 (length (hullChanges tri hull n))) = record {
-        number = with-room sites tri he hull 0 (Unit {0}) (mendRoomOf sites tri before) tt room z;
+        number = without-box sites tri he hull put (mendRoomOf sites tri before) room z;
         outcome = record { work = refl; pairs = refl; mended = refl; changes = refl; hull-length = refl; pair-changes = refl; hull-changes = refl };
       } in
       mended-accepted (mesh sites tri he hull) before m
@@ -68,36 +71,47 @@ all-fit : (l : List ℕ) → ((k : ℕ) → k < length l → getD l k 0 < 2 ^ 32
 all-fit [] h = tt
 all-fit (x ∷ l) h = (h 0 (omega arith), all-fit l (λ k q. h (suc k) (omega arith)))
 
-module _ (m : FormMesh) where
-  abbrev sites : List Float
-  sites = numbersOf siteFloats (m .sites)
+-- the first record of the mended form
+module _ (option : List ℕ) (i : IsOption option) where
+  begins : (c : Outline) → MayBegin (gives (outlineOf option)) c → OutlineFits c → MayBegin false (firstAfter (outlineOf option) c) × OutlineFits (firstAfter (outlineOf option) c)
+  begins (box x y w h) b f = (tt, f)
+  begins unclipped b f = ⊎-elim (λ e. absurd (none-gives (rw e at b))) (λ r. (holds option r .begins, holds option r .fits)) i
+  begins (edges x y u v) b f = (tt, f)
 
-  abbrev border : List ℕ
-  border = newHull (triOf m) (m .hull) (count m)
+  module _ (m : FormMesh) (b : MayBegin (gives (outlineOf option)) (m .clip)) where
+    abbrev o : Outline
+    o = outlineOf option
 
-  pub accepted : MendNumber sites (triOf m) (heOf m) (m .hull) 0 → Accepted (mesh sites (triOf m) (pairsOf (triOf m)) border)
-  accepted z = number-accepted sites (triOf m) (heOf m) (m .hull) z
+    abbrev sites : List Float
+    sites = numbersOf siteFloats (m .sites)
 
-  pub mended-fits : MeshFits m → MendNumber sites (triOf m) (heOf m) (m .hull) 0 → MeshFits (mendedForm m)
-  mended-fits f z =
-      let a = accepted z in
-      let t = a .topology in
-      let entries : length (triOf m) ≡ 3 * length (m .triangles) = numbers-length triangleSites 3 (λ _. refl) (m .triangles) in
-      let coordinates : length sites ≡ 2 * length (m .sites) = numbers-length siteFloats 2 (λ _. refl) (m .sites) in
-      let site = sound-site (triOf m) (count m) (t .threes) (t .sound) in
-      let pair : (k : ℕ) → k < length (pairsOf (triOf m)) → getD (pairsOf (triOf m)) k 0 < 2 ^ 32 = λ k l.
-      ⊎-elim (λ e. omega arith) (λ x. omega (arith, x .inside, t .small, t .same)) (t .pairs k (omega (arith, t .same))) in
-      record {
-        clip = f .clip;
-        sites = f .sites;
-        triangles = triangles-fit (triOf m) (pairsOf (triOf m)) (small (triOf m) (λ k l. omega (arith, site k l, a .counts .few-sites))) (small (pairsOf (triOf m)) pair) (length (triOf m) / 3) 0;
-        hull = all-fit border (λ k l. omega (arith, t .border .fresh k l .0, a .counts .few-sites));
-        few-sites = f .few-sites;
-        few-triangles = omega (arith, triangles-count (triOf m) (pairsOf (triOf m)) (length (triOf m) / 3) 0, f .few-triangles);
-        few-hull = omega (arith, a .counts .hull-of-sites, f .few-sites);
-      }
+    abbrev border : List ℕ
+    border = newHull (triOf o m) (m .hull) (count o m)
 
-  -- what is printed with the word `form`
-  pub prints-form : {text : List ℕ} → MeshFits m → MayBegin false (m .clip) → PrintsMesh m true text → IsForm false text ⊎ ((r : ℕ) × (r ≢ 0) × (text ≡ refusal r))
-  prints-form f a (refused {r} x z) = inr (r, z, refl)
-  prints-form f a (mended z) = inl (record { mesh = mendedForm m; fits = mended-fits f z; admits = a; bytes = refl })
+    pub accepted : NumberOf o m 0 → Accepted (mesh sites (triOf o m) (pairsOf (triOf o m)) border)
+    accepted z = number-accepted sites (triOf o m) (heOf o m) (m .hull) (inPlace o (m .clip)) z
+
+    pub mended-fits : MeshFits m → NumberOf o m 0 → MeshFits (mendedForm o m)
+    mended-fits f z =
+        let a = accepted z in
+        let t = a .topology in
+        let tri = triOf o m in
+        let entries : length tri ≡ 3 * length (m .triangles) = numbers-length triangleSites 3 (λ _. refl) (m .triangles) in
+        let coordinates : length sites ≡ 2 * length (m .sites) = numbers-length siteFloats 2 (λ _. refl) (m .sites) in
+        let site = sound-site tri (count o m) (t .threes) (t .sound) in
+        let pair : (k : ℕ) → k < length (pairsOf tri) → getD (pairsOf tri) k 0 < 2 ^ 32 = λ k l.
+        ⊎-elim (λ e. omega arith) (λ x. omega (arith, x .inside, t .small, t .same)) (t .pairs k (omega (arith, t .same))) in
+        record {
+          clip = begins (m .clip) b (f .clip) .1;
+          sites = f .sites;
+          triangles = triangles-fit tri (pairsOf tri) (small tri (λ k l. omega (arith, site k l, a .counts .few-sites))) (small (pairsOf tri) pair) (length tri / 3) 0;
+          hull = all-fit border (λ k l. omega (arith, t .border .fresh k l .0, a .counts .few-sites));
+          few-sites = f .few-sites;
+          few-triangles = omega (arith, triangles-count tri (pairsOf tri) (length tri / 3) 0, f .few-triangles);
+          few-hull = omega (arith, a .counts .hull-of-sites, f .few-sites);
+        }
+
+    -- what is printed with the word `form`
+    pub prints-form : {text : List ℕ} → MeshFits m → PrintsMesh o m true text → IsForm false text ⊎ ((r : ℕ) × (r ≢ 0) × (text ≡ refusal r))
+    prints-form f (refused {r} x z) = inr (r, z, refl)
+    prints-form f (mended z) = inl (record { mesh = mendedForm o m; fits = mended-fits f z; admits = begins (m .clip) b (f .clip) .0; bytes = refl })

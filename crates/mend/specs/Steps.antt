@@ -4,7 +4,7 @@ use mathlib.Core.Path.{_≡_}
 use mathlib.Core.Bool.{Bool}
 use mathlib.Core.List.{List}
 use mathlib.Core.Logic.{_≢_}
-use Prim.Native.Nat.{ℕ, _+_, _*_, _≤_}
+use Prim.Native.Nat.{ℕ, _+_, _-_, _*_, _≤_}
 use lib.Dec.{eqb}
 use lib.Ieee.{Float}
 use lib.ListN.{length, take, drop}
@@ -16,6 +16,7 @@ use Rattle.mending.specs.Mending.{newHull, pairChanges, hullChanges}
 use Rattle.form_step.specs.declared.Form.{Form}
 use Rattle.form_step.specs.declared.Form.the-variants.{Sound, Broken}
 use Rattle.form_writer.specs.Written.{writtenForm}
+use Rattle.mend_box.specs.Option.{outlineOf, putLength, keptFrom}
 use Rattle.mend_text.specs.MendText.{mendText}
 use Rattle.mend.specs.Printed.{MendNumber, changesText}
 
@@ -54,23 +55,33 @@ pub record CanShow (first records tri he hull list : List ℕ) (p h space : ℕ)
 abbrev pub shownText : ℕ → Bool → List ℕ → List ℕ → List ℕ → List ℕ → List ℕ → List ℕ → ℕ → ℕ → List ℕ
 shownText number form first records tri he hull changes p h =
     pick (eqb number 0)
-    (λ _. pick form (λ _. writtenForm first records tri he hull) (λ _. mendText changes p h))
+    (λ _. pick form (λ _. writtenForm first records tri he hull) (λ _. mendText first changes p h))
     (λ _. refusal number)
 
--- of a mesh in lists, with the bytes of its first record and of its sites' records
+-- of a mesh in lists, with the bytes of the record that is put in and of the first records that are kept
 module _ (form : Bool) (first records : List ℕ) (sites : List Float) (tri he hull : List ℕ) where
   abbrev pub listsText : List ℕ
   listsText =
       pick form
       (λ _. writtenForm first records tri (pairsOf tri) (newHull tri hull (siteCount sites)))
-      (λ _. changesText (pairChanges tri he) (hullChanges tri hull (siteCount sites)))
+      (λ _. changesText first (pairChanges tri he) (hullChanges tri hull (siteCount sites)))
+
+  abbrev pub ListsNumber : ℕ → Type 0
+  ListsNumber = MendNumber (outlineOf first) sites tri he hull
 
   pub data OfLists : List ℕ → Type 0 where
-    refused : {r : ℕ} → MendNumber sites tri he hull r → r ≢ 0 → OfLists (refusal r)
-    mended : MendNumber sites tri he hull 0 → OfLists listsText
+    refused : {r : ℕ} → ListsNumber r → r ≢ 0 → OfLists (refusal r)
+    mended : ListsNumber 0 → OfLists listsText
+
+-- the bytes that are put in, of the option's record, and those that are kept, of a form with n sites: by the kind of its first record
+abbrev pub putBytes : List ℕ → ℕ → List ℕ
+putBytes option kind = take (putLength kind (length option)) option
+
+abbrev pub keptBytes : List ℕ → ℕ → ℕ → List ℕ
+keptBytes s kind n = take (firstLength kind + 17 * n - keptFrom kind) (drop (keptFrom kind) s)
 
 -- of a form of bytes s that was read into these lists
-abbrev pub PrintsRead : Bool → List ℕ → Form → List Float → List ℕ → List ℕ → List ℕ → List ℕ → Type 0
-PrintsRead form s (Broken n k) ss ts es hs text = text ≡ refusal n
-PrintsRead form s (Sound n k h u) ss ts es hs text =
-    OfLists form (take (firstLength u) s) (take (17 * n) (drop (firstLength u) s)) (take (2 * n) ss) (take (3 * k) ts) (take (3 * k) es) (take h hs) text
+abbrev pub PrintsRead : Bool → List ℕ → List ℕ → Form → List Float → List ℕ → List ℕ → List ℕ → List ℕ → Type 0
+PrintsRead form option s (Broken n k) ss ts es hs text = text ≡ refusal n
+PrintsRead form option s (Sound n k h u) ss ts es hs text =
+    OfLists form (putBytes option u) (keptBytes s u n) (take (2 * n) ss) (take (3 * k) ts) (take (3 * k) es) (take h hs) text

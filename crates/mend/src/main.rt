@@ -1,43 +1,97 @@
 // Reads a mesh's form on standard input, works its pairs and its hull out afresh, and prints a line for each change, or with the word `form` the
-// mended mesh as a form; or `refused N`. Other words: a line on standard error.
+// mended mesh as a form; or `refused N`. With the words `box HEX` a form of old, without a box, gets this one. Other words: a line on standard error.
 use form_step::Form;
 use libc::STDERR_FILENO;
 use libc::STDIN_FILENO;
 use libc::STDOUT_FILENO;
 ghost use mathlib.Core.Path.{_≡_};
-ghost use Prim.Native.Nat.{_+_, _≤_};
+ghost use mathlib.Core.Bool.{_&&_};
+ghost use Prim.Native.Nat.{_+_, _-_, _≤_};
 ghost use lib.ListN.{length, take};
 ghost use Rattle.octets.specs.Wrote.{Wrote};
 ghost use Rattle.form_step.specs.Holds.{Few};
-ghost use Rattle.mend.specs.Printed.{wayOf, MendPrints};
+ghost use Rattle.listing.specs.Text.{ascii};
+ghost use Rattle.mend_box.specs.Option.{IsOption, outlineOf};
+ghost use Rattle.mend.specs.Printed.{sameBytes, isOption, wayIf, wayOf, MendPrints};
 ghost use Rattle.mend.specs.Steps.{firstLength, Headed, MendSized, CanShow, shownText, OfLists, PrintsRead};
 
 // What the arguments ask for.
 pub enum Way {
-    // the changes, or the mended mesh as a form
-    Print { form: bool },
+    // the changes, or the mended mesh as a form; with a box given or without
+    Print { form: bool, boxed: bool },
     Usage,
 }
 
-// By how many words there are, the program's own name among them, and the first after it.
-fn way_of(count: usize, word: &[u8]) -> Way
-    ensures { λ w. ⌜ w ≡ wayOf count (now (word .entry)) ⌝ }
+fn same_bytes(word: &[u8], text: &[u8]) -> bool
+    ensures { λ r. ⌜ r ≡ sameBytes (now (word .entry)) (now (text .entry)) ⌝ }
 {
-    if count < 2 {
-        return Way::Print { form: false };
+    check::same(word, text)
+}
+
+// The words of the option.
+fn is_option(label: &[u8], digits: &[u8]) -> bool
+    ensures { λ r. ⌜ r ≡ isOption (now (label .entry)) (now (digits .entry)) ⌝ }
+{
+    if same_bytes(label, b"box") {
+        return mend_box::is_box(digits);
     }
-    if count != 2 {
-        return Way::Usage;
-    }
-    if check::same(word, b"form") {
-        return Way::Print { form: true };
+    false
+}
+
+fn way_if(ok: bool, form: bool, boxed: bool) -> Way
+    ensures { λ w. ⌜ w ≡ wayIf ok form boxed ⌝ }
+{
+    if ok {
+        return Way::Print { form, boxed };
     }
     Way::Usage
 }
 
+// With the word `form` before the option.
+fn form_and_box(first: &[u8], label: &[u8], digits: &[u8]) -> bool
+    ensures { λ r. ⌜ r ≡ sameBytes (now (first .entry)) (ascii "form") && isOption (now (label .entry)) (now (digits .entry)) ⌝ }
+{
+    if same_bytes(first, b"form") {
+        return is_option(label, digits);
+    }
+    false
+}
+
+// By how many words there are, the program's own name among them, the first after it, and the last two.
+fn way_of(count: usize, first: &[u8], label: &[u8], digits: &[u8]) -> Way
+    ensures { λ w. ⌜ w ≡ wayOf count (now (first .entry)) (now (label .entry)) (now (digits .entry)) ⌝ }
+{
+    if count < 2 {
+        return Way::Print {
+            form: false,
+            boxed: false,
+        };
+    }
+    if count == 2 {
+        return way_if(same_bytes(first, b"form"), true, false);
+    }
+    if count == 3 {
+        return way_if(is_option(label, digits), false, true);
+    }
+    if count == 4 {
+        return way_if(form_and_box(first, label, digits), true, true);
+    }
+    Way::Usage
+}
+
+// A word's number, counted from the end.
+fn from_end(count: usize, k: usize) -> usize
+    ensures { λ r. ⌜ r ≡ count - k ⌝ }
+{
+    if count < k {
+        return 0;
+    }
+    count - k
+}
+
 // The length of the first record, by its kind: of 6 it is the kind alone, of 1 and 7 four numbers come after it.
 fn first_length(clip: u8) -> usize
-    ensures { λ n. ⌜ (n ≡ firstLength clip) × (n ≤ 33) ⌝ }
+    ensures { λ n. ⌜ (n ≡ firstLength clip) × (n ≤ 33) × (1 ≤ n) ⌝ }
 {
     if clip == 6 {
         return 1;
@@ -69,10 +123,10 @@ fn show(
     if form {
         return form_writer::write(out, first, records, triangles, pairs, hull);
     }
-    mend_text::mend_text(out, changes, repaired, replaced)
+    mend_text::mend_text(out, first, changes, repaired, replaced)
 }
 
-// The text of a mesh; of its form the first record and the sites' records are given as they stand.
+// The text of a mesh; of its form the record that is put in and the first records that are kept are given as they stand.
 fn of_mesh(
     out: &mut [u8],
     form: bool,
@@ -83,7 +137,7 @@ fn of_mesh(
     halfedges: &[u32],
     hull: &[u32],
 ) -> usize
-    requires { ⌜ MendSized (length (now first) + length (now records)) (length (now sites)) (length (now triangles)) (length (now hull)) (length (now out)) ⌝ }
+    requires { ⌜ IsOption (now first) × MendSized (length (now first) + length (now records)) (length (now sites)) (length (now triangles)) (length (now hull)) (length (now out)) ⌝ }
     ensures { λ r. ⌜ OfLists form (now (first .entry)) (now (records .entry)) (now (sites .entry)) (now (triangles .entry)) (now (halfedges .entry))
         (now (hull .entry)) (take r (now (out .exit))) × (r ≤ length (now (out .entry))) ⌝ }
 {
@@ -101,11 +155,12 @@ fn of_mesh(
         &mut mended,
         &mut changes,
     );
+    let number = mend_box::number_with(first, m.number);
     let entries = triangles.len();
     let count = numbers::wide(m.hull);
     show(
         out,
-        m.number,
+        number,
         form,
         first,
         records,
@@ -122,6 +177,7 @@ fn of_mesh(
 fn of_form(
     out: &mut [u8],
     form: bool,
+    option: &[u8],
     bytes: &[u8],
     read: Form,
     sites: &[f64],
@@ -129,9 +185,9 @@ fn of_form(
     halfedges: &[u32],
     hull: &[u32],
 ) -> usize
-    requires { ⌜ Headed read (length (now bytes)) × Few read × (192 ≤ length (now sites)) × (576 ≤ length (now triangles)) × (576 ≤ length (now halfedges))
+    requires { ⌜ IsOption (now option) × Headed read (length (now bytes)) × Few read × (192 ≤ length (now sites)) × (576 ≤ length (now triangles)) × (576 ≤ length (now halfedges))
         × (96 ≤ length (now hull)) × (32768 ≤ length (now out)) ⌝ }
-    ensures { λ r. ⌜ PrintsRead form (now (bytes .entry)) read (now (sites .entry)) (now (triangles .entry)) (now (halfedges .entry)) (now (hull .entry))
+    ensures { λ r. ⌜ PrintsRead form (now (option .entry)) (now (bytes .entry)) read (now (sites .entry)) (now (triangles .entry)) (now (halfedges .entry)) (now (hull .entry))
         (take r (now (out .exit))) × (r ≤ length (now (out .entry))) ⌝ }
 {
     let Form::Sound {
@@ -143,15 +199,16 @@ fn of_form(
     else {
         return listing::refusal(out, form_step::number_of(read));
     };
-    let first = first_length(clip);
-    let records = first + 17 * n;
+    let put = mend_box::put_length(clip, option.len());
+    let from = mend_box::kept_from(clip);
+    let end = first_length(clip) + 17 * n;
     let coordinates = 2 * n;
     let entries = 3 * t;
     of_mesh(
         out,
         form,
-        &bytes[..first],
-        &bytes[first..records],
+        &option[..put],
+        &bytes[from..end],
         &sites[..coordinates],
         &triangles[..entries],
         &halfedges[..entries],
@@ -159,18 +216,19 @@ fn of_form(
     )
 }
 
-// What is printed for a form's bytes.
-fn answer(bytes: &[u8], form: bool, out: &mut [u8]) -> usize
-    requires { ⌜ 32768 ≤ length (now out) ⌝ }
-    ensures { λ r. ⌜ MendPrints form (now (bytes .entry)) (take r (now (out .exit))) × (r ≤ length (now (out .entry))) ⌝ }
+// What is printed for a form's bytes, with the record of the option, or none.
+fn answer(bytes: &[u8], form: bool, option: &[u8], out: &mut [u8]) -> usize
+    requires { ⌜ IsOption (now option) × (32768 ≤ length (now out)) ⌝ }
+    ensures { λ r. ⌜ MendPrints form (outlineOf (now (option .entry))) (now (bytes .entry)) (take r (now (out .exit))) × (r ≤ length (now (out .entry))) ⌝ }
 {
     let mut bounds = [0.0f64; 4];
     let mut sites = [0.0f64; 192];
     let mut triangles = [0u32; 576];
     let mut halfedges = [0u32; 576];
     let mut hull = [0u32; 96];
+    let old = mend_box::is_given(option);
     let read = form::read(
-        false,
+        old,
         bytes,
         &mut bounds,
         &mut sites,
@@ -181,6 +239,7 @@ fn answer(bytes: &[u8], form: bool, out: &mut [u8]) -> usize
     of_form(
         out,
         form,
+        option,
         bytes,
         read,
         &sites,
@@ -190,22 +249,29 @@ fn answer(bytes: &[u8], form: bool, out: &mut [u8]) -> usize
     )
 }
 
-// MendPrints what the form on standard input becomes.
-fn print(form: bool) {
+// Prints what the form on standard input becomes.
+fn print(form: bool, boxed: bool, digits: &[u8]) {
     let mut bytes = [0u8; 6947];
     let mut out = [0u8; 32768];
+    let mut option = [0u8; 33];
+    let k = mend_box::record_of(boxed, digits, &mut option);
     let n = io::read_full(STDIN_FILENO, &mut bytes);
-    let m = answer(&bytes[..n], form, &mut out);
+    let m = answer(&bytes[..n], form, &option[..k], &mut out);
     io::write_all(STDOUT_FILENO, &out[..m]);
 }
 
 fn main() {
-    let mut word = [0u8; 8];
-    let n = os::arg(1, &mut word);
-    let way = way_of(os::arg_count(), &word[..n]);
-    let Way::Print { form } = way else {
-        io::write_all(STDERR_FILENO, b"usage: mend [form] <FORM\n");
+    let count = os::arg_count();
+    let mut first = [0u8; 8];
+    let mut label = [0u8; 8];
+    let mut digits = [0u8; 67];
+    let a = os::arg(1, &mut first);
+    let b = os::arg(from_end(count, 2), &mut label);
+    let c = os::arg(from_end(count, 1), &mut digits);
+    let way = way_of(count, &first[..a], &label[..b], &digits[..c]);
+    let Way::Print { form, boxed } = way else {
+        io::write_all(STDERR_FILENO, b"usage: mend [form] [box HEX] <FORM\n");
         return;
     };
-    print(form);
+    print(form, boxed, &digits[..c]);
 }

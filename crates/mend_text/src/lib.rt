@@ -1,14 +1,16 @@
 // Writes the text of `mend` into a lent slice of bytes: each function writes its text from a place on and answers the place after it.
+use hex::put_turned;
 use listing::entry;
 use listing::labelled;
 use numbers::EMPTY;
 use numbers::wide;
 use octets::put;
+ghost use mathlib.Core.Path.{_≡_};
 ghost use mathlib.Core.List.{_++_};
 ghost use Prim.Native.Nat.{_+_, _*_, _≤_};
 ghost use lib.ListN.{length};
 ghost use Rattle.octets.specs.Wrote.{Wrote, HasRoom};
-ghost use Rattle.mend_text.specs.MendText.{orNone, changeLine, changeLines, countsLine, mendText};
+ghost use Rattle.mend_text.specs.MendText.{orNone, changeLine, changeLines, countsLine, patternText, patternTexts, boxLine, head, mendText};
 
 // A value after a blank, or the word that there is none.
 fn value(out: &mut [u8], at: usize, v: u32) -> usize
@@ -70,14 +72,59 @@ fn counts_line(out: &mut [u8], at: usize, pairs: u32, hull: u32) -> usize
     put(out, b, b"\n")
 }
 
-// The changes of pairs, those of the hull, and how many of each there are.
-pub fn mend_text(out: &mut [u8], changes: &[u32], pairs: u32, hull: u32) -> usize
-    requires { ⌜ (3 * (pairs + hull) ≤ length (now changes)) × HasRoom (now out) 0 (mendText (now changes) pairs hull) ⌝ }
-    ensures { λ r. ⌜ Wrote (now (out .entry)) (now (out .exit)) 0 r (mendText (now (changes .entry)) pairs hull) ⌝ }
+// A pattern of eight bytes, the lowest first.
+fn pattern(out: &mut [u8], at: usize, bytes: &[u8]) -> usize
+    requires { ⌜ HasRoom (now out) at (patternText (now bytes)) ⌝ }
+    ensures { λ r. ⌜ Wrote (now (out .entry)) (now (out .exit)) at r (patternText (now (bytes .entry))) ⌝ }
+{
+    let end = put(out, at, b" ");
+    put_turned(out, end, bytes)
+}
+
+// The four numbers of a box's record.
+fn patterns(out: &mut [u8], at: usize, body: &[u8]) -> usize
+    requires { ⌜ (length (now body) ≡ 32) × HasRoom (now out) at (patternTexts (now body)) ⌝ }
+    ensures { λ r. ⌜ Wrote (now (out .entry)) (now (out .exit)) at r (patternTexts (now (body .entry))) ⌝ }
+{
+    let a = pattern(out, at, &body[..8]);
+    let b = pattern(out, a, &body[8..16]);
+    let c = pattern(out, b, &body[16..24]);
+    pattern(out, c, &body[24..32])
+}
+
+// The line of a box that was put in, by its record; nothing where there is none.
+fn box_line(out: &mut [u8], at: usize, first: &[u8]) -> usize
+    requires { ⌜ HasRoom (now out) at (boxLine (now first)) ⌝ }
+    ensures { λ r. ⌜ Wrote (now (out .entry)) (now (out .exit)) at r (boxLine (now (first .entry))) ⌝ }
+{
+    if first.len() != 33 {
+        return at;
+    }
+    let a = labelled(out, at, b"box 0: 6", first[0] as u32);
+    let b = patterns(out, a, &first[1..33]);
+    put(out, b, b"\n")
+}
+
+// What comes before the hull, in two turns: the box, and then the pairs.
+fn head(out: &mut [u8], at: usize, turn: u32, first: &[u8], changes: &[u32], count: usize) -> usize
+    requires { ⌜ (3 * count ≤ length (now changes)) × HasRoom (now out) at (head turn (now first) (now changes) count) ⌝ }
+    ensures { λ r. ⌜ Wrote (now (out .entry)) (now (out .exit)) at r (head turn (now (first .entry)) (now (changes .entry)) count) ⌝ }
+{
+    if turn == 1 {
+        return change_lines(out, at, b"pair", changes, 0, count);
+    }
+    box_line(out, at, first)
+}
+
+// The box that was put in, the changes of pairs, those of the hull, and how many of these there are.
+pub fn mend_text(out: &mut [u8], first: &[u8], changes: &[u32], pairs: u32, hull: u32) -> usize
+    requires { ⌜ (3 * (pairs + hull) ≤ length (now changes)) × HasRoom (now out) 0 (mendText (now first) (now changes) pairs hull) ⌝ }
+    ensures { λ r. ⌜ Wrote (now (out .entry)) (now (out .exit)) 0 r (mendText (now (first .entry)) (now (changes .entry)) pairs hull) ⌝ }
 {
     let p = wide(pairs);
     let h = wide(hull);
-    let a = change_lines(out, 0, b"pair", changes, 0, p);
-    let b = change_lines(out, a, b"hull", changes, p, h);
-    counts_line(out, b, pairs, hull)
+    let a = head(out, 0, 0, first, changes, p);
+    let b = head(out, a, 1, first, changes, p);
+    let c = change_lines(out, b, b"hull", changes, p, h);
+    counts_line(out, c, pairs, hull)
 }

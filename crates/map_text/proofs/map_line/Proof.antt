@@ -2,7 +2,8 @@
 use denote.Ref.{now}
 use Rattle.listing.specs.Text.{ascii, decimal}
 use Rattle.octets.specs.laws.Wrote.{fits-first, fits-second, fits-third, fits-fourth, wrote-four}
-use Rattle.map_text.specs.MapText.{hex, mapLine}
+use Rattle.hex.specs.Hex.{hex}
+use Rattle.map_text.specs.MapText.{mapLine}
 use borrow.Author.Needs.{needs}
 use Rattle.map_text.proofs.map_line.Statement.{statement}
 use Rattle.map_text.proofs.map_line.Tie as tie

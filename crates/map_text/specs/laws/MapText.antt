@@ -15,8 +15,9 @@ use Rattle.wkb.specs.Polygon.{patternAt, patternsOf, size}
 use Rattle.wkb.specs.Promise.{ImageFits, image}
 use Rattle.wkb.specs.ReadBack.{length-polygon}
 use Rattle.wkb.specs.laws.Room.{size-none, size-ring}
-use Rattle.map_text.specs.MapText.{hex, mapLine, heading, mapLines, mapText}
-use Rattle.map_text.specs.laws.Hex.{hex-length}
+use Rattle.hex.specs.Hex.{hex}
+use Rattle.map_text.specs.MapText.{mapLine, heading, mapLines, mapText}
+use Rattle.hex.specs.laws.Hex.{hex-length}
 
 -- ---- lines
 

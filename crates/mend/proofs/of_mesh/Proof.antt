@@ -32,10 +32,10 @@ long c =
     }
 
 array-share-prefix-pairs : tie.Need-array-share-prefix-pairs
-array-share-prefix-pairs c = let w = c .before .before .before .before .before .before in omega (arith, begin w .pre .few-triangles)
+array-share-prefix-pairs c = let w = c .before .before .before .before .before .before .before in omega (arith, begin w .pre .1 .few-triangles)
 
 slice-aggregate-show : tie.Need-slice-aggregate-show
-slice-aggregate-show c = let w = c .before .before .before .before .before .before .before in sym (length-take-le _ _ (omega (arith, begin w .pre .few-triangles, long w .pairs)))
+slice-aggregate-show c = let w = c .before .before .before .before .before .before .before .before in sym (length-take-le _ _ (omega (arith, begin w .pre .1 .few-triangles, long w .pairs)))
 
 -- the numbers are within their limits
 bound : (c : tie.After-mend) → (c .mend .result .hull ≤ 96) × (c .mend .result .pairs + c .mend .result .places ≤ 672)
@@ -45,18 +45,18 @@ bound c =
 array-share-prefix-mended : tie.Need-array-share-prefix-mended
 array-share-prefix-mended c =
     let at-wide = c .before .before in
-    let w = at-wide .before .before .before .before .before in
+    let w = at-wide .before .before .before .before .before .before in
     omega (arith, at-wide .wide .ensures, bound w .0, long w .mended)
 
 slice-aggregate-show-2 : tie.Need-slice-aggregate-show-2
 slice-aggregate-show-2 c =
     let at-wide = c .before .before .before in
-    let w = at-wide .before .before .before .before .before in
+    let w = at-wide .before .before .before .before .before .before in
     sym (length-take-le _ _ (omega (arith, at-wide .wide .ensures, bound w .0, long w .mended)))
 
 -- what is shown
 abbrev mending : tie.After-wide → tie.After-mend
-mending c = c .before .before .before .before .before
+mending c = c .before .before .before .before .before .before
 
 can : (c : tie.After-wide) → CanShow (now (begin (mending c) .args .first)) (now (begin (mending c) .args .records)) (now (begin (mending c) .args .triangles))
     (take (length (now (begin (mending c) .args .triangles))) (after (mending c) .pairs)) (take (c .wide .result) (after (mending c) .mended)) (after (mending c) .changes)
@@ -65,13 +65,13 @@ can c =
     let w = mending c in
     let s = begin w in
     record {
-      head = s .pre .head;
-      same = length-take-le _ _ (omega (arith, s .pre .few-triangles, long w .pairs));
-      few-triangles = s .pre .few-triangles;
+      head = s .pre .1 .head;
+      same = length-take-le _ _ (omega (arith, s .pre .1 .few-triangles, long w .pairs));
+      few-triangles = s .pre .1 .few-triangles;
       few-on-hull = simp length-take (omega (arith, c .wide .ensures, bound w .0));
       few-changes = bound w .1;
       changes = omega (arith, bound w .1, long w .changes);
-      room = s .pre .room;
+      room = s .pre .1 .room;
     }
 
 returns : tie.Need-returns
@@ -82,12 +82,12 @@ returns c =
     let s = begin w in
     let a = s .args in
     held _ _ _ _ _ _ _ _ _ _ (w .mend .ensures) (record { work = omega arith; pairs = omega arith; mended = omega arith; changes = omega arith }) (long w)
-    (a .form) (now (a .first)) (now (a .records)) (at-wide .wide .ensures)
-    (s .pre) (can at-wide) (at-show .show .ensures)
+    (a .form) (now (a .first)) (now (a .records)) (s .pre .0) (at-wide .wide .ensures) (at-wide .before .number-with .ensures)
+    (s .pre .1) (can at-wide) (at-show .show .ensures)
 
 pub of-mesh-spec : {M : Type 1} → statement M
 of-mesh-spec =
     tie.close
     (tie.spec (λ c. search needs) (λ c. search needs) (λ c. search needs) (λ c. search needs) (λ c κs. search needs)
-    (λ c κs. search needs) array-share-prefix-pairs slice-aggregate-show array-share-prefix-mended slice-aggregate-show-2
+    (λ c κs. search needs) (λ c κs. search needs) array-share-prefix-pairs slice-aggregate-show array-share-prefix-mended slice-aggregate-show-2
     (λ c. search needs) (λ c κs. can (c .before .before .before .before)) (λ c. search needs) returns)

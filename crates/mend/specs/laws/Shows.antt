@@ -23,9 +23,11 @@ use Rattle.mend_changes.specs.laws.Listing.{flat-append, flat-length}
 use Rattle.mend_slices.specs.Lent.{Lent, filled}
 use Rattle.mending.specs.Mending.{mendRoomOf, newHull, pairChanges, hullChanges, whenMade, Mends}
 use Rattle.form_writer.specs.Written.{writtenForm}
-use Rattle.mend.specs.Printed.{MendNumber, changesText}
-use Rattle.mend.specs.Steps.{MendSized, CanShow, shownText, OfLists, refused, mended}
-use Rattle.mend.specs.laws.Room.{with-room}
+use Rattle.mend_box.specs.Option.{IsOption, numberWith}
+use Rattle.mend_box.specs.laws.Option.{number-zero}
+use Rattle.mend.specs.Printed.{changesText}
+use Rattle.mend.specs.Steps.{MendSized, CanShow, shownText, ListsNumber, OfLists, refused, mended}
+use Rattle.mend.specs.laws.Room.{with-box}
 use Rattle.mend.specs.laws.Text.{text-is, shown-room}
 
 -- ---- lists
@@ -61,9 +63,6 @@ module _ (sites : List Float) (tri he hull : List ℕ) (old new : Lent) (r k p q
 
   abbrev hs : List Difference
   hs = hullChanges tri hull n
-
-  number-of : mendRoomOf sites tri old → MendNumber sites tri he hull r
-  number-of room = with-room sites tri he hull r (mendRoomOf sites tri old) (Unit {0}) room tt (m .number)
 
   -- after 0
   module _ (z : r ≡ 0) where
@@ -117,36 +116,42 @@ module _ (sites : List Float) (tri he hull : List ℕ) (old new : Lent) (r k p q
       (eq-or-ne r 0)
 
   -- ---- the text
-  module _ (form : Bool) (first records : List ℕ) where
+  module _ (form : Bool) (first records : List ℕ) (i : IsOption first) where
     abbrev Text : List ℕ → Type 0
     Text = OfLists form first records sites tri he hull
+
+    abbrev Number : ℕ → Type 0
+    Number = ListsNumber form first records sites tri he hull
 
     abbrev shownHere : ℕ → List ℕ
     shownHere x = shownText x form first records tri (take (length tri) (new .pairs)) (take k (new .mended)) (new .changes) p q
 
-    made-text : (f : Bool) → form ≡ f → r ≡ 0 → MendNumber sites tri he hull 0 → Text (shownHere 0)
+    number-of : mendRoomOf sites tri old → Number (numberWith first r)
+    number-of room = with-box sites tri he hull first i r (mendRoomOf sites tri old) room (m .number)
+
+    made-text : (f : Bool) → form ≡ f → r ≡ 0 → Number 0 → Text (shownHere 0)
     made-text true e z x =
-        let t : Text (pick form (λ _. writtenForm first records tri (pairsOf tri) (newHull tri hull n)) (λ _. changesText ps hs)) = mended x in
+        let t : Text (pick form (λ _. writtenForm first records tri (pairsOf tri) (newHull tri hull n)) (λ _. changesText first ps hs)) = mended x in
         let u = rw e at t in
         rw (e, pairs-are z, hull-is z) u
     made-text false e z x =
-        let t : Text (pick form (λ _. writtenForm first records tri (pairsOf tri) (newHull tri hull n)) (λ _. changesText ps hs)) = mended x in
-        rw (e, listed z, m .outcome .pair-changes ∙ worth z _, m .outcome .hull-changes ∙ worth z _, text-is ps hs _) (rw e at t)
+        let t : Text (pick form (λ _. writtenForm first records tri (pairsOf tri) (newHull tri hull n)) (λ _. changesText first ps hs)) = mended x in
+        rw (e, listed z, m .outcome .pair-changes ∙ worth z _, m .outcome .hull-changes ∙ worth z _, text-is first ps hs _) (rw e at t)
 
-    shows : mendRoomOf sites tri old → Text (shownHere r)
+    shows : mendRoomOf sites tri old → Text (shownHere (numberWith first r))
     shows room =
         ⊎-elim
-        (λ z. rw z (made-text form refl z (rw z at (number-of room))))
-        (λ z. rw (ne-eqb r 0 z) (refused (number-of room) z))
-        (eq-or-ne r 0)
+        (λ z. rw z (made-text form refl (number-zero first r z) (rw z at (number-of room))))
+        (λ z. rw (ne-eqb (numberWith first r) 0 z) (refused (number-of room) z))
+        (eq-or-ne (numberWith first r) 0)
 
     -- it stands at the beginning of the output
-    pub held : {l out : List ℕ} {j count bytes border space : ℕ} → count ≡ k → MendSized bytes (length sites) (length tri) border space
+    pub held : {l out : List ℕ} {j count bytes border space number : ℕ} → count ≡ k → number ≡ numberWith first r → MendSized bytes (length sites) (length tri) border space
         → CanShow first records tri (take (length tri) (new .pairs)) (take count (new .mended)) (new .changes) p q (length l)
-        → Wrote l out 0 j (shownText r form first records tri (take (length tri) (new .pairs)) (take count (new .mended)) (new .changes) p q)
+        → Wrote l out 0 j (shownText number form first records tri (take (length tri) (new .pairs)) (take count (new .mended)) (new .changes) p q)
         → Text (take j out) × (j ≤ length l)
-    held {l} {out} {j} {count} e sized c w =
-        let fits = shown-room r form first records tri _ _ (new .changes) p q c in
-        let w′ : Wrote l out 0 j (shownHere r) = rw e at w in
-        let f : length (shownHere r) ≤ length l = rw e at fits in
+    held {l} {out} {j} {count} {number = number} e y sized c w =
+        let fits = shown-room number form first records tri _ _ (new .changes) p q c in
+        let w′ : Wrote l out 0 j (shownHere (numberWith first r)) = rw (e, y) at w in
+        let f : length (shownHere (numberWith first r)) ≤ length l = rw (e, y) at fits in
         (rw (wrote-all w′ f) (shows (roomy sites tri old a sized)), omega (arith, w′ .place))

@@ -15,7 +15,7 @@ use Rattle.listing.specs.Text.{ascii}
 use Rattle.listing.specs.Listing.{refusal}
 use Rattle.listing.specs.laws.Listing.{refusal-short}
 use Rattle.mend_changes.specs.Changes.{Difference, flatChanges}
-use Rattle.mend_text.specs.MendText.{changeLines, countsLine, mendText}
+use Rattle.mend_text.specs.MendText.{changeLines, countsLine, boxLine, mendText}
 use Rattle.mend_text.specs.laws.MendText.{lines-shift, text-short}
 use Rattle.form_writer.specs.Written.{writtenForm}
 use Rattle.form_writer.specs.FormOf.{length-written}
@@ -34,10 +34,11 @@ lines-after : (label : List ℕ) (cs : List Difference) (l : List ℕ) (n : ℕ)
 lines-after label [] l n = refl
 lines-after label (c ∷ cs) l n = lines-shift label (c .place) (c .was) (c .becomes) (flatChanges cs ++ l) n (length cs) ∙ lines-after label cs l n
 
-pub text-is : (ps hs : List Difference) (rest : List ℕ) → mendText (flatChanges ps ++ (flatChanges hs ++ rest)) (length ps) (length hs) ≡ changesText ps hs
+pub text-is : (first : List ℕ) (ps hs : List Difference) (rest : List ℕ)
+    → mendText first (flatChanges ps ++ (flatChanges hs ++ rest)) (length ps) (length hs) ≡ changesText first ps hs
 unfolding mendText changesText
-text-is ps hs rest =
-    ap₂ (λ (a b : List ℕ). a ++ b ++ countsLine (length ps) (length hs))
+text-is first ps hs rest =
+    ap₂ (λ (a b : List ℕ). boxLine first ++ a ++ b ++ countsLine (length ps) (length hs))
     (lines-are (ascii "pair") ps (flatChanges hs ++ rest))
     (lines-after (ascii "hull") ps (flatChanges hs ++ rest) (length hs) ∙ lines-are (ascii "hull") hs rest)
 
@@ -47,8 +48,8 @@ module _ {first records tri he hull list : List ℕ} {p h space : ℕ} (c : CanS
   pub form-room : length (writtenForm first records tri he hull) ≤ space
   form-room = omega (arith, length-written first records tri he hull, c .head, c .few-triangles, c .few-on-hull, c .room)
 
-  pub text-room : length (mendText list p h) ≤ space
-  text-room = omega (arith, text-short list p h, c .few-changes, c .room)
+  pub text-room : length (mendText first list p h) ≤ space
+  text-room = omega (arith, text-short first list p h, c .few-changes, c .room)
 
 module _ (number : ℕ) (form : Bool) (first records tri he hull list : List ℕ) (p h : ℕ) where
   abbrev shownHere : List ℕ
@@ -60,15 +61,15 @@ module _ (number : ℕ) (form : Bool) (first records tri he hull list : List ℕ
   pub shown-form : {l m : List ℕ} {r : ℕ} → number ≡ 0 → form ≡ true → Wrote l m 0 r (writtenForm first records tri he hull) → Wrote l m 0 r shownHere
   shown-form e f w = rw (eq-eqb number 0 e, f) w
 
-  pub shown-lines : {l m : List ℕ} {r : ℕ} → number ≡ 0 → form ≡ false → Wrote l m 0 r (mendText list p h) → Wrote l m 0 r shownHere
+  pub shown-lines : {l m : List ℕ} {r : ℕ} → number ≡ 0 → form ≡ false → Wrote l m 0 r (mendText first list p h) → Wrote l m 0 r shownHere
   shown-lines e f w = rw (eq-eqb number 0 e, f) w
 
   module _ {space : ℕ} (c : CanShow first records tri he hull list p h space) where
-    by-way : (f : Bool) → length (pick f (λ _. writtenForm first records tri he hull) (λ _. mendText list p h)) ≤ space
+    by-way : (f : Bool) → length (pick f (λ _. writtenForm first records tri he hull) (λ _. mendText first list p h)) ≤ space
     by-way true = form-room c
     by-way false = text-room c
 
-    by-number : (z : Bool) → length (pick z (λ _. pick form (λ _. writtenForm first records tri he hull) (λ _. mendText list p h)) (λ _. refusal number)) ≤ space
+    by-number : (z : Bool) → length (pick z (λ _. pick form (λ _. writtenForm first records tri he hull) (λ _. mendText first list p h)) (λ _. refusal number)) ≤ space
     by-number true = by-way form
     by-number false = omega (arith, refusal-short number, c .room)
 

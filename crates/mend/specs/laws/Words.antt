@@ -1,4 +1,4 @@
--- Two texts are the same exactly where their bytes are; what the arguments ask for, case by case.
+-- Two texts are the same exactly where their bytes are; what the arguments ask for, by how many there are.
 use mathlib.Core.Path.{_≡_, refl, sym, ap₂, subst}
 use mathlib.Core.Bool.{Bool, true, false, _&&_}
 use mathlib.Core.List.{List, [], _∷_}
@@ -8,7 +8,7 @@ use native.Mathlib.Omega.{arith}
 use lib.Dec.{eqb}
 use borrow.Author.Tests.{eq-eqb, ne-eqb, lt-ltb, le-ltb, eqb-true}
 use Rattle.listing.specs.Text.{ascii}
-use Rattle.mend.specs.Printed.{sameBytes, wayOf}
+use Rattle.mend.specs.Printed.{sameBytes, isOption, wayIf, wayOf}
 use Rattle.mend.specs.declared.Way.the-variants.{Print, Usage}
 
 same-refl : (s : List ℕ) → sameBytes s s ≡ true
@@ -26,30 +26,33 @@ same-is (a ∷ s) (b ∷ t) h = go (eqb a b) refl h (same-is s t)
     go false q r f = let z : _≡_ {A = ℕ} 0 1 = cc in absurd (omega arith)
 
 -- an answer that says whether two texts are the same is `sameBytes`
-told : (s t : List ℕ) (r : Bool) → (r ≡ true → s ≡ t) → (s ≡ t → r ≡ true) → sameBytes s t ≡ r
-told s t true p q = subst (λ (u : List ℕ). sameBytes s u ≡ true) (p refl) (same-refl s)
+pub told : (s t : List ℕ) (r : Bool) → (r ≡ true → s ≡ t) → (s ≡ t → r ≡ true) → r ≡ sameBytes s t
+told s t true p q = sym (subst (λ (u : List ℕ). sameBytes s u ≡ true) (p refl) (same-refl s))
 told s t false p q = go (sameBytes s t) refl
   where
-    go : (x : Bool) → sameBytes s t ≡ x → x ≡ false
-    go true h = sym (q (same-is s t h))
+    go : (x : Bool) → sameBytes s t ≡ x → false ≡ x
+    go true h = q (same-is s t h)
     go false h = refl
 
 -- ---- the arguments
 
-module _ (count : ℕ) (word : List ℕ) where
-  pub no-words : count < 2 → wayOf count word ≡ Print false
+module _ (count : ℕ) (first label digits : List ℕ) where
+  pub no-words : count < 2 → wayOf count first label digits ≡ Print false false
   unfolding wayOf
   no-words h = rw (lt-ltb count 2 h)
 
-  pub more-words : 2 ≤ count → count ≢ 2 → wayOf count word ≡ Usage
+  pub one-word : count ≡ 2 → wayOf count first label digits ≡ wayIf (sameBytes first (ascii "form")) true false
   unfolding wayOf
-  more-words h n = rw (le-ltb count 2 h, ne-eqb count 2 n)
+  one-word h = rw h
 
-  module _ (h : 2 ≤ count) (e : count ≡ 2) (r : Bool) (p : r ≡ true → word ≡ ascii "form") (q : word ≡ ascii "form" → r ≡ true) where
-    pub word-form : r ≡ true → wayOf count word ≡ Print true
-    unfolding wayOf
-    word-form z = rw (le-ltb count 2 h, eq-eqb count 2 e, told word (ascii "form") r p q, z)
+  pub two-words : count ≡ 3 → wayOf count first label digits ≡ wayIf (isOption label digits) false true
+  unfolding wayOf
+  two-words h = rw h
 
-    pub other-word : r ≡ false → wayOf count word ≡ Usage
-    unfolding wayOf
-    other-word z = rw (le-ltb count 2 h, eq-eqb count 2 e, told word (ascii "form") r p q, z)
+  pub three-words : count ≡ 4 → wayOf count first label digits ≡ wayIf (sameBytes first (ascii "form") && isOption label digits) true true
+  unfolding wayOf
+  three-words h = rw h
+
+  pub more-words : 2 ≤ count → count ≢ 2 → count ≢ 3 → count ≢ 4 → wayOf count first label digits ≡ Usage
+  unfolding wayOf
+  more-words h a b c = rw (le-ltb count 2 h, ne-eqb count 2 a, ne-eqb count 3 b, ne-eqb count 4 c)

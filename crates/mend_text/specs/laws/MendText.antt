@@ -14,7 +14,8 @@ use Rattle.numbers.specs.Numbers.{EMPTY}
 use Rattle.listing.specs.Text.{ascii}
 use Rattle.listing.specs.Listing.{entries, labelled}
 use Rattle.listing.specs.laws.Listing.{entries-short, labelled-short}
-use Rattle.mend_text.specs.MendText.{orNone, changeLine, lineAt, changeLines, countsLine, mendText}
+use Rattle.mend_text.specs.MendText.{orNone, changeLine, lineAt, changeLines, countsLine, boxLine, mendText}
+use Rattle.mend_text.specs.laws.BoxLine.{box-short}
 
 -- ---- a value
 
@@ -110,16 +111,19 @@ counts-short p q =
     let y = labelled " hull" q in
     omega (arith, length-append (x ++ y) (ascii "\n"), length-append x y, labelled-short "pairs" p, labelled-short " hull" q)
 
--- what the text of so many changes needs
-pub text-short : (cs : List ℕ) (p q : ℕ) → length (mendText cs p q) ≤ 39 * (p + q) + 33
+-- what the text of a box and so many changes needs
+pub text-short : (first cs : List ℕ) (p q : ℕ) → length (mendText first cs p q) ≤ 39 * (p + q) + 121
 unfolding mendText
-text-short cs p q =
+text-short first cs p q =
+    let x = boxLine first in
     let a = changeLines (ascii "pair") cs 0 p in
     let b = changeLines (ascii "hull") cs p q in
     omega (
       arith,
-      length-append (a ++ b) (countsLine p q),
-      length-append a b,
+      length-append (x ++ a ++ b) (countsLine p q),
+      length-append (x ++ a) b,
+      length-append x a,
+      box-short first,
       lines-short (ascii "pair") cs (omega arith) p 0,
       lines-short (ascii "hull") cs (omega arith) q p,
       counts-short p q,

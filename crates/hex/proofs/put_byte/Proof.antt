@@ -1,12 +1,12 @@
--- `map_text::put_byte` meets its contract: two stores.
+-- `hex::put_byte` meets its contract: two stores.
 use mathlib.Core.List.{[], _∷_}
 use native.Mathlib.Omega.{arith}
 use lib.ListN.{length-set}
 use denote.Ref.{now}
-use Rattle.map_text.specs.laws.Hex.{hex-length, byte-wrote}
+use Rattle.hex.specs.laws.Hex.{hex-length, byte-wrote}
 use borrow.Author.Needs.{needs}
-use Rattle.map_text.proofs.put_byte.Statement.{statement}
-use Rattle.map_text.proofs.put_byte.Tie as tie
+use Rattle.hex.proofs.put_byte.Statement.{statement}
+use Rattle.hex.proofs.put_byte.Tie as tie
 
 slice-write-out : tie.Need-slice-write-out
 slice-write-out c = let s = c .before .before .before in omega (arith, s .pre, hex-length (s .args .b ∷ []))

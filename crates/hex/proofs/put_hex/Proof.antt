@@ -1,4 +1,4 @@
--- `map_text::put_hex` meets its contract: the invariant is that the bytes so far are written; each turn writes one more.
+-- `hex::put_hex` meets its contract: the invariant is that the bytes so far are written; each turn writes one more.
 use mathlib.Core.Path.{sym, ap, subst}
 use mathlib.Core.List.{[], _∷_}
 use Prim.Native.Nat.{_+_, _-_}
@@ -7,11 +7,11 @@ use lib.Seq.{take-length}
 use denote.Ref.{now}
 use Rattle.octets.specs.Wrote.{HasRoom}
 use Rattle.octets.specs.laws.Wrote.{Lined, lined-start, lined-fits, lined-step, lined-end, wrote-length, wrote-as}
-use Rattle.map_text.specs.MapText.{hex}
-use Rattle.map_text.specs.laws.Hex.{hex-none, hex-more, hex-whole}
+use Rattle.hex.specs.Hex.{hex}
+use Rattle.hex.specs.laws.Hex.{hex-none, hex-more, hex-whole}
 use borrow.Author.Needs.{needs}
-use Rattle.map_text.proofs.put_hex.Statement.{statement}
-use Rattle.map_text.proofs.put_hex.Tie as tie
+use Rattle.hex.proofs.put_hex.Statement.{statement}
+use Rattle.hex.proofs.put_hex.Tie as tie
 
 abbrev Inv-loop : tie.InvT-loop
 Inv-loop out₀ at bytes end₀ i₀ out end i = Lined (λ k. hex (take k bytes)) (length bytes) out₀ out at end i

@@ -1,8 +1,8 @@
--- `map_text::digit` meets its contract: by cases on the number.
+-- `hex::digit` meets its contract: by cases on the number.
 use borrow.Author.Tests.{lt-ltb, le-ltb}
 use borrow.Author.Needs.{needs}
-use Rattle.map_text.proofs.digit.Statement.{statement}
-use Rattle.map_text.proofs.digit.Tie as tie
+use Rattle.hex.proofs.digit.Statement.{statement}
+use Rattle.hex.proofs.digit.Tie as tie
 
 returns : tie.Need-returns
 returns c = rw (lt-ltb (c .before .args .n) 10 (c .if1 .taken))

@@ -1,0 +1,82 @@
+-- `mend_text::box_line` meets its contract: nothing, or the label with the kind, the four patterns and the line's end.
+use mathlib.Core.Path.{_≡_, sym, subst}
+use mathlib.Core.List.{List, [], _∷_, _++_}
+use native.Mathlib.Omega.{arith}
+use Prim.Native.Nat.{ℕ}
+use lib.ListN.{length, getD, take, drop, length-drop}
+use lib.Seq.{length-take-le}
+use denote.Ref.{now}
+use Rattle.listing.specs.Text.{ascii}
+use Rattle.listing.specs.Listing.{entries}
+use Rattle.octets.specs.Wrote.{HasRoom}
+use Rattle.octets.specs.laws.Wrote.{fits-left, fits-then, wrote-then, wrote-none, wrote-as}
+use Rattle.mend_text.specs.MendText.{patternTexts}
+use Rattle.mend_text.specs.laws.BoxLine.{box-none, box-is}
+use borrow.Author.Needs.{needs}
+use Rattle.mend_text.proofs.box_line.Statement.{statement}
+use Rattle.mend_text.proofs.box_line.Tie as tie
+
+returns : tie.Need-returns
+returns c =
+    let a = c .before .before .before .args in
+    wrote-as (wrote-none (now (a .out)) (a .at)) (sym (box-none (now (a .first)) (c .if1 .taken)))
+
+-- a record: its text in three parts
+abbrev bytes : tie.Else1 → List ℕ
+bytes c = now (c .before .before .before .args .first)
+
+long : (c : tie.Else1) → length (bytes c) ≡ 33
+long c = c .if1 .left
+
+abbrev label : tie.Else1 → List ℕ
+label c = ascii "box 0: 6" ++ entries (getD (bytes c) 0 0 ∷ [])
+
+abbrev body : tie.Else1 → List ℕ
+body c = patternTexts (take 32 (drop 1 (bytes c)))
+
+room : (c : tie.Else1) → HasRoom (now (c .before .before .before .args .out)) (c .before .before .before .args .at) (label c ++ body c ++ ascii "\n")
+room c = let s = c .before .before .before in subst (HasRoom (now (s .args .out)) (s .args .at)) (box-is (bytes c) (long c)) (s .pre)
+
+labelled-requires : tie.Need-labelled-requires
+labelled-requires c κs =
+    let e = c .before .before .before in
+    let a = e .before .before .before .args in
+    fits-left (now (a .out)) (a .at) (label e) (body e) (fits-left (now (a .out)) (a .at) (label e ++ body e) (ascii "\n") (room e))
+
+patterns-requires : tie.Need-patterns-requires
+patterns-requires c κs =
+    let p = c .before .before .before .before in
+    let e = p .before .before .before .before in
+    let a = e .before .before .before .args in (
+      length-take-le 32 (drop 1 (bytes e)) (omega (arith, long e, length-drop 1 (bytes e))),
+      fits-then (label e) (body e) (p .labelled .ensures) (fits-left (now (a .out)) (a .at) (label e ++ body e) (ascii "\n") (room e)),
+    )
+
+put-requires : tie.Need-put-requires
+put-requires c κs =
+    let q = c .before .before .before .before in
+    let p = q .before .before .before .before .before in
+    let e = p .before .before .before .before in
+    fits-then (label e ++ body e) (ascii "\n") (wrote-then (p .labelled .ensures) (q .patterns .ensures)) (room e)
+
+returns-2 : tie.Need-returns-2
+returns-2 c =
+    let r = c .before .before in
+    let q = r .before .before .before .before .before in
+    let p = q .before .before .before .before .before in
+    let e = p .before .before .before .before in
+    wrote-as (wrote-then (wrote-then (p .labelled .ensures) (q .patterns .ensures)) (r .put .ensures)) (sym (box-is (bytes e) (long e)))
+
+cast-labelled : tie.Need-cast-labelled
+cast-labelled c = omega (arith, c .shared-slice-known2 .given 0 .fits)
+
+part-patterns-end : tie.Need-part-patterns-end
+part-patterns-end c =
+    let e = c .before .before .before .before .before .before .before in
+    omega (arith, long e)
+
+pub box-line-spec : {M : Type 1} → statement M
+box-line-spec =
+    tie.close
+    (tie.spec returns (λ c. search needs) (λ c. search needs) cast-labelled labelled-requires (λ c. search needs) (λ c. search needs) part-patterns-end patterns-requires
+    (λ c. search needs) put-requires (λ c. search needs) returns-2)
