@@ -45,10 +45,10 @@ extern "C" {
 
 /* ---- the version (the file VERSION; CHANGELOG.md says what changed) */
 
-#define VORONOI_VERSION "0.15.1"
+#define VORONOI_VERSION "0.16.0"
 #define VORONOI_VERSION_MAJOR 0
-#define VORONOI_VERSION_MINOR 15
-#define VORONOI_VERSION_PATCH 1
+#define VORONOI_VERSION_MINOR 16
+#define VORONOI_VERSION_PATCH 0
 
 /* ---- numbers */
 
@@ -89,11 +89,13 @@ extern "C" {
 #define VORONOI_FORM_HALFEDGES 576
 #define VORONOI_FORM_HULL 96
 
-/* The places of a build's counts: the number of vertices, the owners of the four corners, the lost corners (those in no cell); how many they are. */
+/* The places of a build's counts: the number of vertices, the owners of the four corners, the lost corners (those in no cell), the reused
+ * points (three: extensions, first crossings, second crossings); how many they are. */
 #define VORONOI_COUNT_VERTICES 0
 #define VORONOI_COUNT_OWNERS 1
 #define VORONOI_COUNT_LOST 5
-#define VORONOI_COUNTS 6
+#define VORONOI_COUNT_REUSED 6
+#define VORONOI_COUNTS 9
 
 /* ---- refusals, in the order in which they are tried (16 after 10, 17 first, 18 before 2, 19 after 7, 21 first, 22 in the place of 6, 23 after 10); docs/RULES.md says of each what to do about it */
 
@@ -299,7 +301,10 @@ uint32_t voronoi_cells_share_edge(const uint32_t *offsets, size_t offsets_len, c
  *   offsets   where each site's cell begins in indexes, and where the last one ends
  *   counts    the number of vertices; the owners of the four corners as they were found; how many corners are lost: corner c is vertex
  *             T + c of T triangles, and is lost exactly if that number stands in no cell. Areas that do not add up to the box may come
- *             with none lost, and now and then a total is right with one lost (docs/RULES.md, "Lost corners") */
+ *             with none lost, and now and then a total is right with one lost (docs/RULES.md, "Lost corners"). Then how many points were
+ *             reused: extensions, first crossings and second crossings that are a corner or a point added before (docs/RULES.md,
+ *             "Reused points"). The number of vertices is T + 4 and the points added; added and reused points are all that the build
+ *             was to add */
 
 /* The cells clipped to the box of centre (cx, cy), width and height. Tries 1, 2, 3, 6, 7 to 10, 11, and 12 to 14 as the builder meets them. */
 uint32_t voronoi_build(double cx, double cy, double width, double height, const double *sites, size_t sites_len,

@@ -175,13 +175,13 @@ static void must_build(const char *what, const uint32_t *starts, const uint32_t 
     tell(what, got, 0, right);
 }
 
-/* ---- accepted: the listing of docs/RULES.md, a fifth site, lost corners, empty cells */
+/* ---- accepted: the listing of docs/RULES.md, a fifth site, lost corners, empty cells, reused points */
 
 static const double five_points[] = {-.5, -.5, -.5, .5, .5, .5, .5, -.5, 7, 7};
 
 static void listings(void)
 {
-    static const uint32_t starts[] = {0, 5, 9, 14, 18, 18}, owners[] = {14, 0, 1, 2, 3, 0};
+    static const uint32_t starts[] = {0, 5, 9, 14, 18, 18}, owners[] = {14, 0, 1, 2, 3, 0, 0, 4, 0};
     static const uint32_t entries[] = {1, 10, 2, 11, 0, 0, 11, 3, 12, 0, 12, 4, 13, 1, 1, 13, 5, 10};
     static const double points[] = {0, 0, 0, 0, -1, -1, -1, 1, 1, 1, 1, -1, -1e10, 0, 0, 1e10, 1e10, 0, 0, -1e10, 0, -1, -1, 0, 0, 1, 1, 0};
     set_square();
@@ -189,25 +189,39 @@ static void listings(void)
     MESH(five_points, square, square_pairs, square_hull);
     must_build("a fifth, unused site", starts, entries, owners, points);
 
-    static const uint32_t lost_starts[] = {0, 3, 7, 11}, lost_entries[] = {0, 1, 9, 0, 9, 3, 8, 0, 8, 4, 1}, lost[] = {10, 2, 0, 1, 2, 1};
+    static const uint32_t lost_starts[] = {0, 3, 7, 11}, lost_entries[] = {0, 1, 9, 0, 9, 3, 8, 0, 8, 4, 1}, lost[] = {10, 2, 0, 1, 2, 1, 0, 4, 0};
     static const double lost_points[] = {.25, .25, -1, -1, -1, 1, 1, 1, 1, -1, -0x1.a577eea39d8fcp32, -0x1.a577eea39d8fcp32,
                                          .25, 0x1.2a05f2002p33, 0x1.2a05f2002p33, .25, 1, .25, .25, 1};
     set_triangle(0, .5, .5, .5, .5, 0);
     hull[0] = 2, hull[1] = 0, hull[2] = 1;
     must_build("one corner lost, one met as a crossing", lost_starts, lost_entries, lost, lost_points);
 
-    static const uint32_t met_starts[] = {0, 4, 9, 12}, met_entries[] = {0, 8, 2, 3, 0, 9, 4, 1, 8, 0, 3, 9}, met[] = {10, 1, 0, 0, 1, 0};
+    static const uint32_t met_starts[] = {0, 4, 9, 12}, met_entries[] = {0, 8, 2, 3, 0, 9, 4, 1, 8, 0, 3, 9}, met[] = {10, 1, 0, 0, 1, 0, 0, 4, 0};
     static const double met_points[] = {1, -.5, -1, -1, -1, 1, 1, 1, 1, -1, 1, 9999999999.5,
                                         0x1.0a8f61137fe47p33, -0x1.0a8f61137fe47p32, -9999999999., -.5, -1, -.5, 1, -.5};
     set_triangle(.5, .5, .5, -1.5, 1.5, .5);
     triangles[1] = hull[1] = 2, triangles[2] = hull[2] = 1;
     must_build("a corner met as a crossing alone, none lost", met_starts, met_entries, met, met_points);
 
-    static const uint32_t covered[] = {10, 0, 0, 0, 0, 4}, no_entries[] = {0, 0, 0, 0, 0};
+    static const uint32_t covered[] = {10, 0, 0, 0, 0, 4, 0, 0, 0}, no_entries[] = {0, 0, 0, 0, 0};
     static const double covered_points[] = {0, 0, 0, 0, -.5625, -.5625, -.5625, -.4375, -.4375, -.4375, -.4375, -.5625, -1e10, 0, 0, 1e10, 1e10, 0, 0, -1e10};
     set_square();
     set_box(-.5, -.5, .125, .125);
     must_build("four empty cells, four corners lost", no_entries, no_entries, covered, covered_points);
+
+    static const uint32_t far[] = {6, 0, 1, 0, 0, 4, 2, 0, 0};
+    static const double far_points[] = {-0x1.ffffffffffffep98, -0x1.5555555555555p97, -1, -1, -1, 1, 1, 1, 1, -1, -0x1.ffffffffffffep98, -0x1.5555555555555p97};
+    set_triangle(1.5, .5, 1, 2, -1.2676506002282293e30, -1.5);
+    hull[0] = 1, hull[1] = 2, hull[2] = 0;
+    must_build("two of three extensions reused", no_entries, no_entries, far, far_points);
+
+    static const uint32_t kind_starts[] = {0, 2, 4, 4}, kind_entries[] = {1, 3, 1, 4}, kinds[] = {7, 2, 2, 2, 2, 1, 1, 2, 2};
+    static const double kind_points[] = {1.5, 1, 10000000001.5, 1, 10000000001.5, 1025, 10000001025.5, 1025, 10000001025.5, 1,
+                                         -0x1.0a8f61123fe47p33, 0x1.0a8f6113ffe47p32, 1.5, -9999999999.};
+    set_triangle(1, 2, 1, 0, 2, 2);
+    set_box(10000000513.5, 513, 1024, 1024);
+    triangles[0] = 2, triangles[1] = 0, triangles[2] = 1;
+    must_build("an extension, two first and two second crossings reused", kind_starts, kind_entries, kinds, kind_points);
 }
 
 /* ---- rooms: exactly enough, and one short */
@@ -215,7 +229,7 @@ static void listings(void)
 #define LENT(what, change, number) \
     do { \
         set_square(); \
-        work_count = 4, vertex_numbers = 76, index_count = 60, offset_count = 5, count_count = 6; \
+        work_count = 4, vertex_numbers = 76, index_count = 60, offset_count = 5, count_count = 9; \
         change; \
         must(what, number); \
     } while (0)
@@ -223,14 +237,14 @@ static void listings(void)
 static void rooms(void)
 {
     printf("rooms\n");
-    LENT("38 vertices, 60 indexes, 5 offsets, 4 work entries, 6 counts", (void)0, 0);
+    LENT("38 vertices, 60 indexes, 5 offsets, 4 work entries, 9 counts", (void)0, 0);
     LENT("half a vertex more", vertex_numbers++, 0);
     LENT("37 vertices", vertex_numbers -= 2, 2);
     LENT("37 vertices and half a one", vertex_numbers--, 2);
     LENT("59 indexes", index_count--, 2);
     LENT("4 offsets", offset_count--, 2);
     LENT("3 work entries", work_count--, 2);
-    LENT("5 counts", count_count--, 2);
+    LENT("8 counts", count_count--, 2);
     LENT("nothing lent", work_count = vertex_numbers = index_count = offset_count = count_count = 0, 2);
     LENT("59 indexes, for two sites", coordinate_count = 4; index_count--, 1);
 }

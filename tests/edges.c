@@ -84,7 +84,7 @@ static int same_answers(const struct answers *r, const struct answers *s)
 /* ---- "square" of docs/RULES.md, moved and scaled, built in a box; and asked why */
 
 static const uint32_t triangles[] = {0, 1, 2, 0, 2, 3}, pairs[] = {E, E, 3, 2, E, E}, hull[] = {0, 1, 2, 3};
-enum { WORK = 4, NUMBERS = 76, INDEXES = 60, OFFSETS = 5, COUNTS = 6 };
+enum { WORK = 4, NUMBERS = 76, INDEXES = 60, OFFSETS = 5, COUNTS = VORONOI_COUNTS };
 
 struct built {
     uint32_t number, work[WORK + SPARE], indexes[INDEXES + SPARE], offsets[OFFSETS + SPARE], counts[COUNTS + SPARE], told[4];
@@ -224,7 +224,7 @@ static void neighbours(void)
     static const double sites[] = {.35, .15, .35, .25, .55, .25, .55, .15};
     static const uint64_t corners[] = {UINT64_C(0x3fd3333333333333), UINT64_C(0x3fb999999999999a), UINT64_C(0x3fd3333333333333), UINT64_C(0x3fd3333333333333),
                                        UINT64_C(0x3fe3333333333333), UINT64_C(0x3fd3333333333333), UINT64_C(0x3fe3333333333333), UINT64_C(0x3fb999999999999a)};
-    static const uint32_t starts[] = {0, 5, 9, 14, 18}, owners[] = {14, 0, 1, 2, 3, 0};
+    static const uint32_t starts[] = {0, 5, 9, 14, 18}, owners[] = {14, 0, 1, 2, 3, 0, 0, 4, 0};
     static const uint32_t entries[] = {1, 10, 2, 11, 0, 0, 11, 3, 12, 0, 12, 4, 13, 1, 1, 13, 5, 10};
     struct built r;
     make((struct box){1, .3, .1, .6, .3}, sites, INDEXES, 9, &r);
@@ -235,7 +235,7 @@ static void neighbours(void)
         right &= r.offsets[i] == starts[i];
     for (int i = 0; i < 18; i++)
         right &= r.indexes[i] == entries[i];
-    for (int i = 0; i < 6; i++)
+    for (int i = 0; i < COUNTS; i++)
         right &= r.counts[i] == owners[i];
     tell("the box .3 .1 .6 .3: the listing of \"square\", its corners to the last bit", right);
 }

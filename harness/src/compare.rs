@@ -41,6 +41,11 @@ pub fn build_both(m: &Mesh, lent: &rust::Lent, area: &Area, tally: &mut Tally) -
             equal("owners as found", &t.owners, &o.owners)?;
             equal("vertices", &bits(&t.vertices), &bits(&o.vertices))?;
             equal("cells", &t.cells, &o.plain())?;
+            let steps = rust::steps(lent, area, &o.met)?;
+            equal("vertices by the steps", &steps.vertices, &o.vertices.len())?;
+            equal("reused points", &steps.reused, &o.reused)?;
+            let added = t.vertices.len() - m.triangle_count() - 4;
+            equal("added and reused points are all steps", &steps.taken, &(added + o.reused.iter().sum::<u32>() as usize))?;
         }
         (Err(f), Err(Ok(k))) => equal("refusal", &k, &f.number)?,
         (Ok(_), Err(k)) => return Err(format!("the Rust panics ({k:?}), the rules accept")),
@@ -122,6 +127,7 @@ fn build(
         }
         tally.corners[0] += b.lost as u64;
         tally.corners[1] += b.met_alone();
+        (0..3).for_each(|kind| tally.reused[kind] += b.reused[kind] as u64);
     }
     let entry = Slices::fresh(&c.lengths);
     let exit = expect::built(number, outcome, &entry);

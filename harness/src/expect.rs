@@ -121,8 +121,8 @@ pub struct Lengths {
     pub counts: usize,
 }
 
-/// Places of the lent count slice: vertices, the four owners, lost corners.
-pub const PLACES: usize = 6;
+/// Places of the lent count slice: vertices, the four owners, lost corners, the three kinds of reused points.
+pub const PLACES: usize = 9;
 
 impl Lengths {
     pub fn exact(m: &Mesh) -> Lengths {
@@ -203,6 +203,7 @@ pub fn built(number: u32, outcome: Option<&Outcome>, entry: &Slices) -> Slices {
             exit.counts[0] = b.vertices.len() as u32;
             exit.counts[1..1 + b.owners.len()].copy_from_slice(&b.owners);
             exit.counts[5] = b.lost;
+            exit.counts[6..PLACES].copy_from_slice(&b.reused);
             exit
         }
         (0, _) => unreachable!("an accepted build has an answer"),

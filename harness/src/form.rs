@@ -59,5 +59,6 @@ pub fn listing(m: &Mesh, clip: Option<&Area>) -> Result<String, String> {
         out += &format!("{}\n", row(&format!("cell {s}"), cell));
     }
     out += &format!("corners {} lost {}\n", list(&b.owners), b.lost);
+    out += &format!("reused {}\n", list(&b.reused));
     Ok(out)
 }

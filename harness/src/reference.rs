@@ -465,7 +465,7 @@ pub struct Entry {
     pub mark: Mark,
 }
 
-/// The mesh point that an added vertex came from.
+/// What a point was to be added for.
 #[derive(Clone, Copy, PartialEq)]
 enum Kind {
     Extension,
@@ -482,6 +482,10 @@ pub struct Build {
     pub cells: Vec<Vec<Entry>>,
     /// How often a cell was clipped for each site.
     pub tries: Vec<u32>,
+    /// How many extensions, first crossings and second crossings were a point that was there before.
+    pub reused: [u32; 3],
+    /// The edges, from vertex to vertex, whose meeting with the box was asked for, one after the other.
+    pub met: Vec<(u32, u32)>,
 }
 
 /// Where a build stopped: the triangle of 11, the first hull place of 12's edge, the cell of 13 and 14 with the ring
@@ -538,6 +542,8 @@ struct Builder<'a> {
     first_corner: usize,
     vertices: Vec<Pt>,
     left_to_wrap: [u32; 4],
+    reused: [u32; 3],
+    met: Vec<(u32, u32)>,
     counts: &'a mut Counts,
 }
 
@@ -565,7 +571,7 @@ fn clipped(m: &Mesh, area: Edges, vertices: Vec<Pt>, counts: &mut Counts) -> Out
     }
 
     let first_corner = vertices.len();
-    let mut b = Builder { area, first_corner, vertices, left_to_wrap: owners, counts };
+    let mut b = Builder { area, first_corner, vertices, left_to_wrap: owners, reused: [0; 3], met: Vec::new(), counts };
     b.vertices.extend(corners(&area));
 
     // Hull place i's edge runs from its site to the next one's.
@@ -628,7 +634,7 @@ fn clipped(m: &Mesh, area: Edges, vertices: Vec<Pt>, counts: &mut Counts) -> Out
     if lost > 0 {
         b.counts.at(Branch::CornersLost);
     }
-    Ok(Build { leftmost: left, owners: owners.to_vec(), lost, vertices: b.vertices, cells, tries })
+    Ok(Build { leftmost: left, owners: owners.to_vec(), lost, vertices: b.vertices, cells, tries, reused: b.reused, met: b.met })
 }
 
 impl Builder<'_> {
@@ -652,7 +658,10 @@ impl Builder<'_> {
             (Kind::Second, _) => Branch::SecondReused,
         });
         match found {
-            Some(i) => i as u32,
+            Some(i) => {
+                self.reused[kind as usize] += 1;
+                i as u32
+            }
             None => {
                 self.vertices.push(p);
                 self.vertices.len() as u32 - 1
@@ -666,6 +675,7 @@ impl Builder<'_> {
 
     /// The vertices where the edge from a to b meets the box.
     fn clip_edge(&mut self, a: u32, b: u32) -> (Option<u32>, Option<u32>) {
+        self.met.push((a, b));
         let (p, q) = (self.vertices[a as usize], self.vertices[b as usize]);
         let direction = pt(q.x - p.x, q.y - p.y);
         match project_ray(&self.area, p, direction, self.counts) {

@@ -116,6 +116,45 @@ pub fn build(lent: &Lent, a: &Area) -> Result<Built, Result<u32, String>> {
     outcome.map_err(|message| panic_number(&message))
 }
 
+/// What the source's own steps did with the points that they were to add: how often a step was taken and how many extensions, first
+/// crossings and second crossings were a vertex that was there before; and the vertices that this leaves.
+#[derive(Clone, Debug, PartialEq)]
+pub struct Steps {
+    pub taken: usize,
+    pub reused: [u32; 3],
+    pub vertices: usize,
+}
+
+/// The extension of each hull place and then these edges put to the source's own steps, one after the other.
+pub fn steps(lent: &Lent, a: &Area, edges: &[(u32, u32)]) -> Result<Steps, String> {
+    use source::cell_builder::open;
+    caught(|| {
+        let mut builder = CellBuilder::new(&lent.mesh, &lent.sites, lent.circumcenters(), area(a), ClipBehavior::Clip);
+        builder.calculate_corners();
+        let leftmost = open::leftmost(&lent.mesh, lent.sites.len());
+        let hull = &lent.mesh.hull;
+        let mut seen = Steps { taken: 0, reused: [0; 3], vertices: open::vertices(&builder) };
+        let mut see = |kind: usize, at: usize| {
+            seen.taken += 1;
+            if at < seen.vertices {
+                seen.reused[kind] += 1;
+            } else {
+                seen.vertices += 1;
+            }
+        };
+        for place in 0..hull.len() {
+            see(0, open::extend(&mut builder, leftmost[hull[(place + 1) % hull.len()]]));
+        }
+        for &(from, to) in edges {
+            let (first, second) = open::clip_edge(&mut builder, from as usize, to as usize);
+            first.into_iter().for_each(|at| see(1, at));
+            second.into_iter().for_each(|at| see(2, at));
+        }
+        seen.vertices = open::vertices(&builder);
+        seen
+    })
+}
+
 /// A mesh with its leftmost table and cells, as the source's iterators want it.
 pub fn diagram(lent: &Lent, cells: &[Vec<u32>]) -> Voronoi {
     Voronoi {

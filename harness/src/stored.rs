@@ -9,7 +9,7 @@
 //!     box: centre x, y, width, height (4 floats)
 //!     the sites (S floats), the triangles (T words), the half-edges (E words), the hull (H words)
 //!     number: 0 where the build is accepted, else its refusal (every room exact)
-//!     where 0:     V, the vertex count; the 4 owners as found; lost corners;
+//!     where 0:     V, the vertex count; the 4 owners as found; lost corners; 3 counts of reused points;
 //!                  the leftmost table (a word a site); V vertices (2 floats each); the offsets (a word a site and one
 //!                  more); the entries (as many as the last offset)
 //!     where the mesh is accepted (0 or above 10): a site; x and y of a destination (2 floats); then four lists, each
@@ -82,6 +82,7 @@ fn record(m: &Mesh, a: &Area, site: u32, to: Pt) -> Result<Record, String> {
             w.0.push(b.vertices.len() as u32);
             w.list(&b.owners);
             w.0.push(b.lost);
+            w.list(&b.reused);
             w.list(&b.leftmost);
             for v in &b.vertices {
                 w.float(v.x);

@@ -47,6 +47,8 @@ pub struct Tally {
     pub allowances: [u64; 4],
     /// Corners of accepted builds: lost, and met by a crossing alone.
     pub corners: [u64; 2],
+    /// Points of accepted builds that were reused: extensions, first crossings, second crossings.
+    pub reused: [u64; 3],
     pub most_vertices: f64,
     pub most_entries: f64,
 }
@@ -144,6 +146,12 @@ impl Tally {
         for (i, name) in ["lost", "in a cell and not wrapped"].iter().enumerate() {
             if self.corners[i] == 0 {
                 holes.push(format!("corner {name}"));
+            }
+        }
+        println!("\nReused points: extensions {}, first crossings {}, second crossings {}", self.reused[0], self.reused[1], self.reused[2]);
+        for (i, name) in ["extension", "first crossing", "second crossing"].iter().enumerate() {
+            if self.reused[i] == 0 {
+                holes.push(format!("reused {name}"));
             }
         }
         println!("\nRoom used at most: vertices {:.3}, entries {:.3}", self.most_vertices, self.most_entries);

@@ -20,7 +20,7 @@ slices w v ix off c = record { work = w; vertices = v; indexes = ix; offsets = o
 -- for n sites, T triangles and h hull sites: slices of so many work entries, numbers, indexes, offsets and counts
 unfoldable pub roomFor : ℕ → ℕ → ℕ → ℕ → ℕ → ℕ → ℕ → ℕ → Bool
 roomFor n T h work numbers indexes offsets counts =
-    leb n work && leb 6 counts && leb (7 * T + 5 * h + 4) (numbers / 2) && leb (12 * T + 8 * h + 4) indexes && ltb n offsets
+    leb n work && leb 9 counts && leb (7 * T + 5 * h + 4) (numbers / 2) && leb (12 * T + 8 * h + 4) indexes && ltb n offsets
 
 abbrev pub roomOf : Mesh → Slices → Bool
 roomOf m old =

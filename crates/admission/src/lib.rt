@@ -163,7 +163,7 @@ fn room_for(
     if work < sites {
         return false;
     }
-    if counts < 6 {
+    if counts < 9 {
         return false;
     }
     rooms_ok(entries / 3, hull, sites, numbers, indexes, offsets)

@@ -1,5 +1,6 @@
 // The end of a build: its counts, or, where it is refused, the counts and the work slice cleared.
 use cell_finish::CellsAnswer;
+use definition::Reused;
 use layout::fill_from;
 use numbers::EMPTY;
 ghost use mathlib.Core.Path.{_≡_};
@@ -7,12 +8,12 @@ ghost use Prim.Native.Nat.{_≤_, _<_};
 ghost use lib.ListN.{length};
 ghost use Rattle.numbers.specs.Numbers.{EMPTY};
 ghost use Rattle.layout.specs.Outputs.{padded};
-ghost use Rattle.build_counts.specs.Counts.{countsOf, EndedBuild};
+ghost use Rattle.build_counts.specs.Counts.{countsOf, ReusedFit, EndedBuild};
 
-// The number of vertices, the corners' owners and the lost corners, then `EMPTY`.
-fn put_counts(vertices: u32, owners: [u32; 4], lost: u32, counts: &mut [u32])
-    requires { ⌜ 6 ≤ length (now counts) ⌝ }
-    ensures { λ _. ⌜ now (counts .exit) ≡ padded (length (now (counts .entry))) EMPTY (countsOf vertices owners lost) ⌝ }
+// The number of vertices, the corners' owners, the lost corners and the points taken again, then `EMPTY`.
+fn put_counts(vertices: u32, owners: [u32; 4], lost: u32, reused: Reused, counts: &mut [u32])
+    requires { ⌜ ReusedFit reused × (9 ≤ length (now counts)) ⌝ }
+    ensures { λ _. ⌜ now (counts .exit) ≡ padded (length (now (counts .entry))) EMPTY (countsOf vertices owners lost reused) ⌝ }
 {
     counts[0] = vertices;
     counts[1] = owners[0];
@@ -20,7 +21,10 @@ fn put_counts(vertices: u32, owners: [u32; 4], lost: u32, counts: &mut [u32])
     counts[3] = owners[2];
     counts[4] = owners[3];
     counts[5] = lost;
-    fill_from(counts, 6, EMPTY);
+    counts[6] = reused.extensions as u32;
+    counts[7] = reused.firsts as u32;
+    counts[8] = reused.seconds as u32;
+    fill_from(counts, 9, EMPTY);
 }
 
 // The counts of a build with this number; refused, they and the work slice are cleared.
@@ -29,26 +33,36 @@ fn finish(
     vertices: u32,
     owners: [u32; 4],
     lost: u32,
+    reused: Reused,
     work: &mut [u32],
     counts: &mut [u32],
 )
-    requires { ⌜ 6 ≤ length (now counts) ⌝ }
-    ensures { λ _. ⌜ EndedBuild number (countsOf vertices owners lost) (now (work .entry)) (now (counts .entry)) (now (work .exit)) (now (counts .exit)) ⌝ }
+    requires { ⌜ ReusedFit reused × (9 ≤ length (now counts)) ⌝ }
+    ensures { λ _. ⌜ EndedBuild number (countsOf vertices owners lost reused) (now (work .entry)) (now (counts .entry)) (now (work .exit)) (now (counts .exit)) ⌝ }
 {
     if number != 0 {
         mesh::clear(work);
         mesh::clear(counts);
         return;
     }
-    put_counts(vertices, owners, lost, counts);
+    put_counts(vertices, owners, lost, reused, counts);
 }
 
 // The same of a build with this answer.
 pub fn finish_clipped(a: CellsAnswer, work: &mut [u32], counts: &mut [u32])
-    requires { ⌜ (a .count < 4294967296) × (6 ≤ length (now counts)) ⌝ }
-    ensures { λ _. ⌜ EndedBuild (a .fault .number) (countsOf (a .count) (a .owners) (a .lost)) (now (work .entry)) (now (counts .entry)) (now (work .exit)) (now (counts .exit)) ⌝ }
+    requires { ⌜ (a .count < 4294967296) × ReusedFit (a .reused) × (9 ≤ length (now counts)) ⌝ }
+    ensures { λ _. ⌜ EndedBuild (a .fault .number) (countsOf (a .count) (a .owners) (a .lost) (a .reused)) (now (work .entry)) (now (counts .entry)) (now (work .exit)) (now (counts .exit)) ⌝ }
 {
     let fault = a.fault;
     let owners = a.owners;
-    finish(fault.number, a.count as u32, owners, a.lost, work, counts);
+    let reused = a.reused;
+    finish(
+        fault.number,
+        a.count as u32,
+        owners,
+        a.lost,
+        reused,
+        work,
+        counts,
+    );
 }

@@ -12,6 +12,7 @@ use Rattle.mesh.specs.Accepted.{Mesh, siteCount}
 use Rattle.definition.specs.declared.Fault.{Fault}
 use Rattle.definition.specs.Fault.{Outcome, ok, refused, fault}
 use Rattle.definition.specs.Build.{Built, Extensions, extensions, extendFrom, clipAll}
+use Rattle.definition.specs.Reused.{reusedIn}
 use Rattle.rings.specs.Extensions.{Extends}
 use Rattle.cell_tries.specs.declared.Frame.{Frame}
 use Rattle.cell_finish.specs.declared.CellsAnswer.{CellsAnswer}
@@ -41,6 +42,7 @@ pub record Begun (h : ℕ) (f : Frame) (found : List ℕ) (x : Extensions) (ix :
   pub fine : p .fault ≡ fault 0 0 0 0
   pub verts : x .verts ≡ points (p .count) v₁
   pub owners : found ≡ p .owners
+  pub reused : reusedIn (x .steps) ≡ p .reused
   pub holds : Holds (f .centers) (p .count) v₁ (drop (f .limit) ix₁)
   pub numbers : (i : ℕ) → i < h → getD ix₁ (f .limit - h + i) 0 ≡ getD (x .at) i 0
   pub before : (k : ℕ) → k < f .limit - h → getD ix₁ k 0 ≡ getD ix k 0

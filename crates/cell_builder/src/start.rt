@@ -4,6 +4,7 @@ use bounding_box::corners;
 use cell_finish::Progress;
 use cell_tries::Frame;
 use definition::Fault;
+use definition::Reused;
 use rings::extensions::extend_hull;
 use vertices::calculate_corners;
 ghost use mathlib.Core.Path.{_≡_};
@@ -56,6 +57,11 @@ pub fn extend(
         f.centers,
         count,
     );
+    let reused = Reused {
+        extensions: passed.reused,
+        firsts: 0,
+        seconds: 0,
+    };
     if passed.place < hull.len() {
         return Progress {
             fault: Fault {
@@ -66,6 +72,7 @@ pub fn extend(
             },
             count: passed.count,
             owners: owners,
+            reused: reused,
         };
     }
     Progress {
@@ -77,5 +84,6 @@ pub fn extend(
         },
         count: passed.count,
         owners: owners,
+        reused: reused,
     }
 }

@@ -13,14 +13,15 @@ use Rattle.definition.specs.declared.Fault.{Fault}
 use Rattle.definition.specs.Fault.{Outcome, ok, refused, fault}
 use Rattle.definition.specs.Build.{Built}
 use Rattle.definition.specs.Measures.{lostLeft}
+use Rattle.definition.specs.Reused.{reused, reusedIn}
 use Rattle.layout.specs.Outputs.{padded, Gathered}
 use Rattle.cell_finish.specs.declared.Progress.{Progress}
 use Rattle.cell_finish.specs.declared.CellsAnswer.{CellsAnswer}
 
--- refused: no vertex, no owner, none lost
+-- refused: no vertex, no owner, none lost, no point taken again
 abbrev pub outcomeAnswer : Outcome Fault Built → CellsAnswer
-outcomeAnswer (ok r) = record { fault = fault 0 0 0 0; count = length (r .verts); owners = r .owners; lost = r .lost }
-outcomeAnswer (refused f) = record { fault = f; count = 0; owners = replicate 4 EMPTY; lost = 0 }
+outcomeAnswer (ok r) = record { fault = fault 0 0 0 0; count = length (r .verts); owners = r .owners; lost = r .lost; reused = reusedIn (r .steps) }
+outcomeAnswer (refused f) = record { fault = f; count = 0; owners = replicate 4 EMPTY; lost = 0; reused = reused 0 0 0 }
 
 -- a refusal's answer, and all three slices cleared
 pub record RefusedCells (e : Fault) (v : List Float) (ix off : List ℕ) (r : CellsAnswer) (v₁ : List Float) (ix₁ off₁ : List ℕ) : Type 0 where
@@ -39,7 +40,7 @@ pub record Finishable (n centers count numbers : ℕ) (ix off : List ℕ) : Type
 -- the cells that stood in the regions moved together, the vertices after the count cleared; lost are the corners not wrapped that are in no cell
 pub record FinishedCells (n centers : ℕ) (p : Progress) (found : List ℕ) (v : List Float) (ix off : List ℕ) (r : CellsAnswer) (v₁ : List Float) (ix₁ off₁ : List ℕ) : Type 0 where
   pub answer : (cells : List (List ℕ)) → length cells ≡ n → Regions ix off cells
-      → r ≡ record { fault = p .fault; count = p .count; owners = found; lost = lostLeft centers (p .owners) (joined cells) }
+      → r ≡ record { fault = p .fault; count = p .count; owners = found; lost = lostLeft centers (p .owners) (joined cells); reused = p .reused }
   pub vertices : v₁ ≡ clearedFrom (2 * p .count) zero v
   pub gathered : (cells : List (List ℕ)) → length cells ≡ n → Regions ix off cells → Gathered cells ix off ix₁ off₁
 

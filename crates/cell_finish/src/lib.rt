@@ -1,5 +1,6 @@
 // The end of a clipped build: the cells moved together and the lost corners counted, or all slices cleared.
 use definition::Fault;
+use definition::Reused;
 use layout::clear_floats_from;
 use layout::outputs::clear_all;
 use layout::outputs::gather;
@@ -12,19 +13,21 @@ ghost use Rattle.numbers.specs.Numbers.{EMPTY};
 ghost use Rattle.definition.specs.Measures.{ifLost, lostLeft};
 ghost use Rattle.cell_finish.specs.Finish.{RefusedCells, Finishable, FinishedCells, SettledCells};
 
-// How far the build is: its fault, whose number is 0 where there is none, the number of vertices, and the owners of corners not yet wrapped.
+// How far the build is: its fault, whose number is 0 where there is none, the number of vertices, the owners of corners not yet wrapped, and the points taken again.
 pub struct Progress {
     pub fault: Fault,
     pub count: usize,
     pub owners: [u32; 4],
+    pub reused: Reused,
 }
 
-// A build's answer beside the slices: the fault, the number of vertices, the owners as found, the lost corners.
+// A build's answer beside the slices: the fault, the number of vertices, the owners as found, the lost corners, the points taken again.
 pub struct CellsAnswer {
     pub fault: Fault,
     pub count: usize,
     pub owners: [u32; 4],
     pub lost: u32,
+    pub reused: Reused,
 }
 
 // 1 where the corner of vertex v is lost: with its owner still, and in no cell.
@@ -70,6 +73,11 @@ pub fn refuse(
         count: 0,
         owners: [EMPTY; 4],
         lost: 0,
+        reused: Reused {
+            extensions: 0,
+            firsts: 0,
+            seconds: 0,
+        },
     }
 }
 
@@ -91,11 +99,13 @@ fn finish(
     clear_floats_from(vertices, 2 * p.count);
     let fault = p.fault;
     let left = p.owners;
+    let reused = p.reused;
     CellsAnswer {
         fault: fault,
         count: p.count,
         owners: owners,
         lost: lost_corners(&indexes[..used], centers, left),
+        reused: reused,
     }
 }
 

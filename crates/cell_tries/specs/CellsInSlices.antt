@@ -16,10 +16,10 @@ use Rattle.layout.specs.Rooms.{Started}
 use Rattle.definition.specs.declared.Fault.{Fault}
 use Rattle.definition.specs.Fault.{Outcome, ok, refused, andThen, fault}
 use Rattle.definition.specs.Build.{ringFrom, hullRing, Extensions, CellState, clipInto, clipHull, clipRest, isEmpty}
-use Rattle.definition.specs.Measures.{newPoints}
 use Rattle.definition.specs.laws.Start.{Beyond}
 use Rattle.definition.specs.laws.CellsSoFar.{CellsSoFar}
 use Rattle.definition.specs.Measures.{shareOf}
+use Rattle.definition.specs.Reused.{reusedIn}
 use Rattle.definition.specs.Cell.{unmarked}
 use Rattle.definition.specs.Sides.{SidedCorners}
 use Rattle.cell_tries.specs.declared.Frame.{Frame}
@@ -55,6 +55,7 @@ pub record Grounded (tri he : List ℕ) (f : Frame) (off : List ℕ) (g : Ground
   pub four : length (g .found) ≡ 4
   pub owner-sites : (k : ℕ) → k < 4 → getD (g .found) k 0 < g .sites
   pub counted : length (g .x .at) ≡ length (g .hull)
+  pub taken : length (g .x .steps) ≡ length (g .hull)
   pub beyond : Beyond (length tri / 3) (g .x)
   pub low : length tri / 3 + 4 ≤ length (g .x .verts)
   pub high : length (g .x .verts) ≤ length tri / 3 + 4 + length (g .hull)
@@ -65,10 +66,11 @@ pub record Grounded (tri he : List ℕ) (f : Frame) (off : List ℕ) (g : Ground
 -- the definition's cells s, held by the slices v and ix, with p beside them
 pub record Amid (tri he : List ℕ) (f : Frame) (off : List ℕ) (g : Ground) (s : CellState) (p : Progress) (v : List Float) (ix : List ℕ) : Type 0 where
   pub on : Grounded tri he f off g (length v) (length ix)
-  pub held : CellsSoFar (f .bounds) (length tri / 3) (g .sites) (shareOf tri (g .hull)) (g .x .verts) (g .found) (newPoints (g .x .steps)) s
+  pub held : CellsSoFar (f .bounds) (length tri / 3) (g .sites) (shareOf tri (g .hull)) (g .x .verts) (g .found) (g .x .steps) s
   pub fine : p .fault ≡ fault 0 0 0 0
   pub verts : s .verts ≡ points (p .count) v
   pub owners : s .owners ≡ p .owners
+  pub reused : reusedIn (s .steps) ≡ p .reused
   pub holds : Holds (f .centers) (p .count) v (drop (f .limit) ix)
   pub regions : Regions ix off (map unmarked (s .cells))
   pub numbers : (i : ℕ) → i < length (g .hull) → getD ix (f .limit - length (g .hull) + i) 0 ≡ getD (g .x .at) i 0

@@ -2,8 +2,11 @@
 use crate::Frame;
 use cell_finish::Progress;
 use clip_edges::Env;
+use clip_edges::together;
+use clipping::RingStepped;
 use clipping::ring::clip_cell;
 use definition::Fault;
+use definition::Reused;
 use interior::all_inside;
 use interior::copy_ring;
 use mesh::end_site;
@@ -11,10 +14,39 @@ use numbers::EMPTY;
 use numbers::wide;
 use staging::stage_hull_ring;
 use staging::stage_ring;
+ghost use mathlib.Core.Path.{_≡_};
 ghost use Prim.Native.Nat.{_<_};
 ghost use lib.ListN.{length};
+ghost use Rattle.definition.specs.Reused.{Addable};
 ghost use Rattle.cell_tries.specs.CellsInSlices.{HullAmid, EdgesAmid, HullTried, EdgeTried};
-ghost use Rattle.cell_tries.specs.Tries.{Ringed, Tried};
+ghost use Rattle.cell_tries.specs.Tries.{progressOf, Ringed, Tried};
+
+// How far the build is after a ring, where `reused` points had been taken again before it.
+fn after_ring(reused: Reused, s: RingStepped) -> Progress
+    requires { ⌜ (s .fault .number ≡ 0 → Addable reused × Addable (s .reused)) ⌝ }
+    ensures { λ r. ⌜ (r .fault ≡ s .fault) × (s .fault .number ≡ 0 → r ≡ progressOf reused s) ⌝ }
+{
+    let fault = s.fault;
+    let tip = s.tip;
+    let cell = tip.cell;
+    let left = cell.owners;
+    if fault.number != 0 {
+        return Progress {
+            fault: fault,
+            count: tip.count,
+            owners: left,
+            reused: reused,
+        };
+    }
+    let more = s.reused;
+    let all = together(reused, more);
+    Progress {
+        fault: fault,
+        count: tip.count,
+        owners: left,
+        reused: all,
+    }
+}
 
 // Clips the ring that is staged up to `end`; one that lies inside whole is its own cell.
 fn clip_staged(
@@ -31,6 +63,7 @@ fn clip_staged(
 {
     let bounds = f.bounds;
     let owners = p.owners;
+    let reused = p.reused;
     let base = wide(offsets[wide(site)]);
     let len = end - f.stage;
     if all_inside(vertices, indexes, bounds, f.centers, p.count, f.stage, len) {
@@ -44,6 +77,7 @@ fn clip_staged(
             },
             count: p.count,
             owners: owners,
+            reused: reused,
         };
     }
     let env = Env {
@@ -53,15 +87,7 @@ fn clip_staged(
         limit: f.limit,
     };
     let s = clip_cell(vertices, indexes, env, p.count, owners, base, f.stage, len);
-    let fault = s.fault;
-    let tip = s.tip;
-    let cell = tip.cell;
-    let left = cell.owners;
-    Progress {
-        fault: fault,
-        count: tip.count,
-        owners: left,
-    }
+    after_ring(reused, s)
 }
 
 // The cell of the site at hull place i, from its ring with extensions.

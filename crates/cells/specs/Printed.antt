@@ -3,8 +3,9 @@ use mathlib.Core.List.{List, [], _∷_, _++_, map}
 use Prim.Native.Nat.{ℕ, suc}
 use lib.ListN.{length}
 use Rattle.printing.specs.Printed.{Text}
-use Rattle.definition.specs.Cell.{unmarked}
-use Rattle.listing.specs.Listing.{counts, cellLine, corners}
+use Rattle.definition.specs.Cell.{unmarked, extension, firstCrossing, secondCrossing}
+use Rattle.definition.specs.Reused.{reusedOf}
+use Rattle.listing.specs.Listing.{counts, cellLine, corners, reusedLine}
 
 -- ---- the text of a build of n sites and T triangles
 
@@ -15,4 +16,6 @@ linesOf i (c ∷ cs) = cellLine i c ++ linesOf (suc i) cs
 
 -- what is printed is `Prints listingText` (crate printing)
 abbrev pub listingText : Text
-listingText n T b = counts n T (length (b .verts)) ++ linesOf 0 (map unmarked (b .cells)) ++ corners (b .owners) (b .lost)
+listingText n T b =
+    counts n T (length (b .verts)) ++ linesOf 0 (map unmarked (b .cells)) ++ corners (b .owners) (b .lost)
+    ++ reusedLine (reusedOf extension (b .steps)) (reusedOf firstCrossing (b .steps)) (reusedOf secondCrossing (b .steps))

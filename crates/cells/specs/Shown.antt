@@ -18,6 +18,7 @@ pub record Laid (n : ℕ) (offs idx : List ℕ) (space : ℕ) : Type 0 where
   pub short : getD offs n 0 ≤ 3076
   pub room : 65536 ≤ space
 
--- n sites, T triangles; the lent counts are the vertices, the four owners and the lost corners
+-- n sites, T triangles; the lent counts are the vertices, the four owners, the lost corners and the reused points of each kind
 abbrev pub boxLines : ℕ → ℕ → List ℕ → List ℕ → List ℕ → List ℕ
-boxLines n T offs idx c = listing n T (getD c 0 0) offs idx (getD c 1 0 ∷ getD c 2 0 ∷ getD c 3 0 ∷ getD c 4 0 ∷ []) (getD c 5 0)
+boxLines n T offs idx c =
+    listing n T (getD c 0 0) offs idx (getD c 1 0 ∷ getD c 2 0 ∷ getD c 3 0 ∷ getD c 4 0 ∷ []) (getD c 5 0) (getD c 6 0) (getD c 7 0) (getD c 8 0)

@@ -25,7 +25,7 @@ use Rattle.definition.specs.declared.Fault.{Fault}
 use Rattle.form.specs.Form.{formOf, float}
 use Rattle.form.specs.Square.{square, squareBytes, two-is}
 use Rattle.listing.specs.Text.{ascii, digits, decimal}
-use Rattle.listing.specs.Listing.{entries, labelled, counts, cellLine, corners}
+use Rattle.listing.specs.Listing.{entries, labelled, counts, cellLine, corners, reusedLine}
 use Rattle.printing.specs.Printed.{meshOf}
 use Rattle.cells.specs.Printed.{linesOf, listingText}
 
@@ -38,12 +38,12 @@ pub rows :
     (length squareBytes ≡ 172)
     × (formOf square ≡ squareBytes)
     × (texted 4 2 (build (meshOf square) (madeOf (at (float 0) (float 0)) (float two-is) (float two-is)))
-    ≡ ok (ascii "sites 4 triangles 2 vertices 14\ncell 0: 1 10 2 11 0\ncell 1: 0 11 3 12\ncell 2: 0 12 4 13 1\ncell 3: 1 13 5 10\ncorners 0 1 2 3 lost 0\n"))
+    ≡ ok (ascii "sites 4 triangles 2 vertices 14\ncell 0: 1 10 2 11 0\ncell 1: 0 11 3 12\ncell 2: 0 12 4 13 1\ncell 3: 1 13 5 10\ncorners 0 1 2 3 lost 0\nreused 0 4 0\n"))
 unfolding trailingZeros ofBits add sub mul div lt le eq neg sum round units odd size span climb same wholeRoot nearestRoot rootOfUnits sqrtOf nearOf
     dist2Of centerOf okCenter madeOf cornersOf insideOf firstSide whichOf oneIf twoIf firstHeld orderPick eitherOf rightHit leftHit topHit bottomHit
     uprightHit settleOf lineOf orderBy orderOne orderTwo rayOf nearPt findNear addVertex nextOf chosen tableTo turnOf walkOf nextPlace lastEnd startsOf
     neighboursOf distOf nearestOf hopOf pathEnd andThen atEdge wraps withCorners insertAt insertEdge edgeCrossing clipWith clipEdge leave enterAt enter
     link crossAt cross clipStep inBox stepTo stepsTo firstInside turned clipFrom clipCell centerAt centersFrom ownersFrom extended extendFrom hullRing
     clipInto clipHull clipRest allEntries lostFrom clipAll build formOf squareBytes linesOf digits decimal entries labelled counts cellLine
-    corners
+    corners reusedLine
 rows = (refl, refl, refl)

@@ -29,7 +29,7 @@ use Rattle.printing.specs.One.{prints-one}
 use Rattle.cells.specs.Square.{texted, rows}
 
 abbrev pub text : List ℕ
-text = ascii "sites 4 triangles 2 vertices 14\ncell 0: 1 10 2 11 0\ncell 1: 0 11 3 12\ncell 2: 0 12 4 13 1\ncell 3: 1 13 5 10\ncorners 0 1 2 3 lost 0\n"
+text = ascii "sites 4 triangles 2 vertices 14\ncell 0: 1 10 2 11 0\ncell 1: 0 11 3 12\ncell 2: 0 12 4 13 1\ncell 3: 1 13 5 10\ncorners 0 1 2 3 lost 0\nreused 0 4 0\n"
 
 -- ---- the mesh of "square"
 same-sites : lists.sites ≡ numbersOf siteFloats (square .sites)

@@ -31,7 +31,7 @@ fn show_in_box(
     indexes: &[u32],
     counts: &[u32],
 ) -> usize
-    requires { ⌜ (number ≡ 0 → Laid sites (now offsets) (now indexes) (length (now out))) × (6 ≤ length (now counts)) × (65536 ≤ length (now out)) ⌝ }
+    requires { ⌜ (number ≡ 0 → Laid sites (now offsets) (now indexes) (length (now out))) × (9 ≤ length (now counts)) × (65536 ≤ length (now out)) ⌝ }
     ensures { λ r. ⌜ ShownIn (shown (boxLines sites triangles (now (offsets .entry)) (now (indexes .entry)) (now (counts .entry))) number) (now (out .exit)) (length (now (out .entry))) r ⌝ }
 {
     if number != 0 {
@@ -47,6 +47,9 @@ fn show_in_box(
         indexes,
         owners,
         counts[5],
+        counts[6],
+        counts[7],
+        counts[8],
     )
 }
 
@@ -66,7 +69,7 @@ fn in_box(
     let mut vertices = [0.0f64; 3656];
     let mut indexes = [0u32; 3076];
     let mut offsets = [0u32; 97];
-    let mut counts = [0u32; 6];
+    let mut counts = [0u32; 9];
     let number = building::build(
         given,
         sites,

@@ -5,7 +5,8 @@ use mathlib.Core.List.{List}
 use lib.Ieee.{Float}
 use lib.ListN.{take}
 use Rattle.vertices.specs.Store.{Leaves}
-use Rattle.definition.specs.Cell.{EdgeClip, missed, once, twice}
+use Rattle.definition.specs.Cell.{EdgeClip, missed, once, twice, tookOne, tookTwo}
+use Rattle.definition.specs.Reused.{CountsReused}
 use Rattle.clip_edges.specs.declared.Crossed.{Crossed}
 use Rattle.clip_edges.specs.declared.Crossed.the-variants.{Missed, Once, Twice}
 
@@ -15,16 +16,16 @@ pub record VerticesGrown (most count n : ℕ) (v v₁ : List Float) : Type 0 whe
   pub high : n ≤ count + most
   pub kept : take (2 * count) v₁ ≡ take (2 * count) v
 
--- the code's answer is the definition's clip: which crossings, their vertices, the vertices afterwards
+-- the code's answer is the definition's clip: which crossings, their vertices, the vertices afterwards, the points taken again
 abbrev pub ClipsEdge : ℕ → ℕ → ℕ → EdgeClip → List Float → List ℕ → Crossed → List Float → List ℕ → Type 0
 ClipsEdge nc limit count missed v ix Missed v₁ ix₁ = (v₁ ≡ v) × (ix₁ ≡ ix)
-ClipsEdge nc limit count (once r) v ix (Once f n) v₁ ix₁ =
-    (f ≡ r .at) × (f < n) × VerticesGrown 2 count n v v₁ × Leaves nc limit (r .verts) v ix n v₁ ix₁
-ClipsEdge nc limit count (twice r t) v ix (Twice f s n) v₁ ix₁ =
-    (f ≡ r .at) × (s ≡ t .at) × (f < n) × (s < n) × VerticesGrown 2 count n v v₁ × Leaves nc limit (t .verts) v ix n v₁ ix₁
-ClipsEdge nc limit count missed v ix (Once f n) v₁ ix₁ = ⊥
-ClipsEdge nc limit count missed v ix (Twice f s n) v₁ ix₁ = ⊥
+ClipsEdge nc limit count (once r) v ix (Once f n u) v₁ ix₁ =
+    (f ≡ r .at) × (f < n) × VerticesGrown 2 count n v v₁ × Leaves nc limit (r .verts) v ix n v₁ ix₁ × CountsReused 2 (tookOne r) u
+ClipsEdge nc limit count (twice r t) v ix (Twice f s n u) v₁ ix₁ =
+    (f ≡ r .at) × (s ≡ t .at) × (f < n) × (s < n) × VerticesGrown 2 count n v v₁ × Leaves nc limit (t .verts) v ix n v₁ ix₁ × CountsReused 2 (tookTwo r t) u
+ClipsEdge nc limit count missed v ix (Once f n u) v₁ ix₁ = ⊥
+ClipsEdge nc limit count missed v ix (Twice f s n u) v₁ ix₁ = ⊥
 ClipsEdge nc limit count (once r) v ix Missed v₁ ix₁ = ⊥
-ClipsEdge nc limit count (once r) v ix (Twice f s n) v₁ ix₁ = ⊥
+ClipsEdge nc limit count (once r) v ix (Twice f s n u) v₁ ix₁ = ⊥
 ClipsEdge nc limit count (twice r t) v ix Missed v₁ ix₁ = ⊥
-ClipsEdge nc limit count (twice r t) v ix (Once f n) v₁ ix₁ = ⊥
+ClipsEdge nc limit count (twice r t) v ix (Once f n u) v₁ ix₁ = ⊥

@@ -2,6 +2,7 @@
 use bounding_box::BoundingBox;
 use crossings::order_points_on_ray;
 use crossings::project_ray;
+use definition::Reused;
 use line_crossings::Crossing;
 use utils::Point;
 use vertices::add_new_vertex;
@@ -13,6 +14,7 @@ ghost use Rattle.utils.specs.Plane.{at};
 ghost use Rattle.utils.specs.Flat.{points};
 ghost use Rattle.vertices.specs.Store.{Holds};
 ghost use Rattle.definition.specs.Cell as Def;
+ghost use Rattle.definition.specs.Reused as Counts;
 ghost use Rattle.clip_edges.specs.EdgeClip.{ClipsEdge};
 
 // What stays while one cell is clipped: its site, the box, the number of circumcenters, and where the store's part of the index list begins.
@@ -23,11 +25,33 @@ pub struct Env {
     pub limit: usize,
 }
 
-// The vertices where an edge crosses the box, and how many vertices there are then.
+// The vertices where an edge crosses the box, how many vertices there are then, and which of the crossings took one again.
 pub enum Crossed {
     Missed,
-    Once(u32, usize),
-    Twice(u32, u32, usize),
+    Once(u32, usize, Reused),
+    Twice(u32, u32, usize, Reused),
+}
+
+// 1 where a vertex was taken again.
+fn if_old(fresh: bool) -> usize
+    ensures { λ r. ⌜ r ≡ Counts.ifOld fresh 1 ⌝ }
+{
+    if fresh {
+        return 0;
+    }
+    1
+}
+
+// The reused points of two stretches of the build together.
+pub fn together(a: Reused, b: Reused) -> Reused
+    requires { ⌜ Counts.Addable a × Counts.Addable b ⌝ }
+    ensures { λ r. ⌜ r ≡ Counts.together a b ⌝ }
+{
+    Reused {
+        extensions: a.extensions + b.extensions,
+        firsts: a.firsts + b.firsts,
+        seconds: a.seconds + b.seconds,
+    }
 }
 
 // Whether the first point of an ordered crossing is (x, y).
@@ -103,7 +127,12 @@ fn clip_once(
         Point { x: x, y: y },
     );
     let at = a.at as u32;
-    Crossed::Once(at, a.count)
+    let reused = Reused {
+        extensions: 0,
+        firsts: if_old(a.fresh),
+        seconds: 0,
+    };
+    Crossed::Once(at, a.count, reused)
 }
 
 fn clip_twice(
@@ -137,7 +166,12 @@ fn clip_twice(
         a.count,
         Point { x: z, y: w },
     );
-    Crossed::Twice(a.at as u32, b.at as u32, b.count)
+    let reused = Reused {
+        extensions: 0,
+        firsts: if_old(a.fresh),
+        seconds: if_old(b.fresh),
+    };
+    Crossed::Twice(a.at as u32, b.at as u32, b.count, reused)
 }
 
 // The crossings of the edge from vertex p to vertex q, at most two vertices.

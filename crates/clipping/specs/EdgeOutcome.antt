@@ -10,6 +10,7 @@ use Rattle.vertices.specs.Store.{Holds, Poured}
 use Rattle.definition.specs.Fault.{Outcome, ok, refused}
 use Rattle.utils.specs.Flat.{points}
 use Rattle.definition.specs.Cell.{Ins, ins, Change}
+use Rattle.definition.specs.Reused.{CountsReused}
 use Rattle.definition.specs.Sides.{SidedCorners}
 use Rattle.clip_corners.specs.CellEntries.{EntryRoom, EntriesPut}
 use Rattle.clip_edges.specs.EdgeClip.{VerticesGrown}
@@ -27,7 +28,7 @@ pub record EdgeRoom (env : Env) (count : ℕ) (cell : CellSoFar) (v : List Float
   pub corners : env .centers + 4 ≤ count
   pub sides : SidedCorners (env .bounds) (env .centers) (points count v)
 
--- the definition's outcome where the vertices vs, count in number, are in place: entries and owners, in the index list
+-- the definition's outcome where the vertices vs, count in number, are in place: entries and owners, in the index list, and the points taken again
 abbrev pub Alters : ℕ → List Point → Outcome ℕ Change → ℕ → CellSoFar → List ℕ → Changed → List ℕ → Type 0
 Alters site vs (ok d) count cell ix r ix₁ =
     (r .refusal ≡ 0)
@@ -36,6 +37,7 @@ Alters site vs (ok d) count cell ix r ix₁ =
     × (d .verts ≡ vs)
     × (r .opened ≡ true → r .cell .last < count)
     × EntriesPut site 3 (ins (d .owners) (d .new)) cell ix (r .cell) ix₁
+    × CountsReused 2 (d .steps) (r .reused)
 Alters site vs (refused k) count cell ix r ix₁ = (r .refusal ≡ k) × (0 < k)
 
 -- the vertices vs over v, and the entries and owners i written before the store's part of the index list
@@ -53,4 +55,5 @@ Changes env count (ok d) cell v ix r v₁ ix₁ =
     × (r .opened ≡ true → r .cell .last < r .count)
     × VerticesGrown 2 count (r .count) v v₁
     × Did env 3 (d .verts) (ins (d .owners) (d .new)) cell v ix (r .count) (r .cell) v₁ ix₁
+    × CountsReused 2 (d .steps) (r .reused)
 Changes env count (refused k) cell v ix r v₁ ix₁ = (r .refusal ≡ k) × (0 < k)

@@ -11,6 +11,7 @@ use Rattle.vertices.specs.Store.{Holds}
 use Rattle.definition.specs.Fault.{Outcome, ok, refused, fault}
 use Rattle.definition.specs.declared.Fault.{Fault}
 use Rattle.definition.specs.Cell as Def
+use Rattle.definition.specs.Reused.{CountsReused}
 use Rattle.definition.specs.Sides.{Sided, SidedCorners}
 use Rattle.clip_corners.specs.CellEntries.{EntryRoom}
 use Rattle.clip_edges.specs.EdgeClip.{VerticesGrown}
@@ -38,6 +39,7 @@ Steps env edges (ok c) count cell v ix r v₁ ix₁ =
     × (c .tip ≡ tipOf (r .tip) v₁)
     × VerticesGrown (2 * edges) count (r .tip .count) v v₁
     × Did env (3 * edges) (c .tip .verts) (Def.ins (c .tip .owners) (c .new)) cell v ix (r .tip .count) (r .tip .cell) v₁ ix₁
+    × CountsReused (2 * edges) (c .steps) (r .reused)
 Steps env edges (refused f) count cell v ix r v₁ ix₁ = (r .fault ≡ f) × (0 < f .number)
 
 -- the ring of len vertices that stands in the index list from place ring on

@@ -6,7 +6,9 @@ use bounding_box::BoundingBox;
 use bounding_box::is_inside;
 use clip_corners::CellSoFar;
 use clip_edges::Env;
+use clip_edges::together;
 use definition::Fault;
+use definition::Reused;
 use numbers::EMPTY;
 use vertices::vertex;
 ghost use mathlib.Core.Path.{_≡_};
@@ -45,6 +47,7 @@ fn step_to(vertices: &mut [f64], indexes: &mut [u32], env: Env, tip: Tip, q: u32
     let count = tip.count;
     let q_in = in_box(vertices, count, bounds, env.centers, q);
     let d = clip_step(vertices, indexes, env, tip, q, q_in);
+    let reused = d.reused;
     if d.refusal != 0 {
         return RingStepped {
             fault: Fault {
@@ -54,6 +57,7 @@ fn step_to(vertices: &mut [f64], indexes: &mut [u32], env: Env, tip: Tip, q: u32
                 to: q,
             },
             tip: tip,
+            reused: reused,
         };
     }
     let cell = d.cell;
@@ -71,6 +75,7 @@ fn step_to(vertices: &mut [f64], indexes: &mut [u32], env: Env, tip: Tip, q: u32
             inside: q_in,
             opened: d.opened,
         },
+        reused: reused,
     }
 }
 
@@ -104,6 +109,11 @@ fn walk_ring(
         (tipOf tip (now (vertices .entry)))) (tip .count) (tip .cell) (now (vertices .entry)) (now (indexes .entry)) r (now (vertices .exit)) (now (indexes .exit)) ⌝ }
 {
     let mut at = tip;
+    let mut reused = Reused {
+        extensions: 0,
+        firsts: 0,
+        seconds: 0,
+    };
     let mut k = 0;
     while k < len {
         let place = ring + turned(f, len, k);
@@ -115,6 +125,8 @@ fn walk_ring(
         }
         let next = s.tip;
         at = next;
+        let more = s.reused;
+        reused = together(reused, more);
         k += 1;
     }
     RingStepped {
@@ -125,6 +137,7 @@ fn walk_ring(
             to: 0,
         },
         tip: at,
+        reused: reused,
     }
 }
 

@@ -7,6 +7,7 @@ use clip_corners::push;
 use clip_edges::Crossed;
 use clip_edges::Env;
 use clip_edges::clip_voronoi_edge;
+use definition::Reused;
 ghost use mathlib.Core.Path.{_≡_};
 ghost use mathlib.Core.Bool.{true, false};
 ghost use mathlib.Core.List.{List, [], _∷_};
@@ -17,6 +18,7 @@ ghost use Rattle.utils.specs.Flat.{points};
 ghost use Rattle.utils.specs.declared.Point.{Point};
 ghost use Rattle.definition.specs.Fault.{ok};
 ghost use Rattle.definition.specs.Cell as Def;
+ghost use Rattle.definition.specs.Reused.{CountsReused};
 ghost use Rattle.definition.specs.Sides.{Sided};
 ghost use Rattle.clip_corners.specs.CellEntries.{EntryRoom, EntriesPut};
 ghost use Rattle.clipping.specs.EdgeOutcome.{EdgeRoom, Alters, Changes};
@@ -41,6 +43,11 @@ fn stay(
         count: count,
         opened: opened,
         cell: put,
+        reused: Reused {
+            extensions: 0,
+            firsts: 0,
+            seconds: 0,
+        },
     }
 }
 
@@ -52,9 +59,10 @@ fn leave_at(
     cell: CellSoFar,
     p: u32,
     first: u32,
+    reused: Reused,
 ) -> Changed
     requires { ⌜ (EntryRoom (env .site) 3 cell (length (now indexes))) × (first < count) ⌝ }
-    ensures { λ r. ⌜ ((vs : List Point) (ts : List Def.Taken)
+    ensures { λ r. ⌜ ((vs : List Point) (ts : List Def.Taken) → CountsReused 2 ts reused
         → Alters (env .site) vs (ok (Def.change vs (cell .owners) (Def.entry Def.plain p ∷ Def.entry Def.crossing first ∷ []) true ts))
         count cell (now (indexes .entry)) r (now (indexes .exit))) ⌝ }
 {
@@ -65,6 +73,7 @@ fn leave_at(
         count: count,
         opened: true,
         cell: two,
+        reused: reused,
     }
 }
 
@@ -89,9 +98,14 @@ fn leave(
             count: count,
             opened: false,
             cell: cell,
+            reused: Reused {
+                extensions: 0,
+                firsts: 0,
+                seconds: 0,
+            },
         },
-        Crossed::Once(first, n) => leave_at(indexes, env, n, cell, p, first),
-        Crossed::Twice(first, _, n) => leave_at(indexes, env, n, cell, p, first),
+        Crossed::Once(first, n, reused) => leave_at(indexes, env, n, cell, p, first, reused),
+        Crossed::Twice(first, _, n, reused) => leave_at(indexes, env, n, cell, p, first, reused),
     }
 }
 
@@ -103,11 +117,12 @@ fn enter_at(
     count: usize,
     cell: CellSoFar,
     first: u32,
+    reused: Reused,
 ) -> Changed
     requires { ⌜ EntryRoom (env .site) 3 cell (length (now indexes)) ⌝ }
     requires { ⌜ (2 * count ≤ length (now vertices)) × (first < count) × (cell .last < count) × (env .centers + 4 ≤ count) × (count ≤ 2 ^ 32) ⌝ }
     requires { ⌜ Sided (env .bounds) (points count (now vertices)) (cell .last) × Sided (env .bounds) (points count (now vertices)) first ⌝ }
-    ensures { λ r. ⌜ ((ts : List Def.Taken) → Alters (env .site) (points count (now (vertices .entry)))
+    ensures { λ r. ⌜ ((ts : List Def.Taken) → CountsReused 2 ts reused → Alters (env .site) (points count (now (vertices .entry)))
         (ok (Def.enterAt (env .bounds) (env .centers) (env .site) (points count (now (vertices .entry))) (cell .owners) (cell .last) first ts))
         count cell (now (indexes .entry)) r (now (indexes .exit))) ⌝ }
 {
@@ -127,6 +142,7 @@ fn enter_at(
         count: count,
         opened: false,
         cell: done,
+        reused: reused,
     }
 }
 
@@ -151,9 +167,22 @@ fn enter(
             count: count,
             opened: false,
             cell: cell,
+            reused: Reused {
+                extensions: 0,
+                firsts: 0,
+                seconds: 0,
+            },
         },
-        Crossed::Once(first, n) => enter_at(vertices, indexes, env, n, cell, first),
-        Crossed::Twice(first, _, n) => enter_at(vertices, indexes, env, n, cell, first),
+        Crossed::Once(first, n, reused) => enter_at(vertices, indexes, env, n, cell, first, reused),
+        Crossed::Twice(first, _, n, reused) => enter_at(
+            vertices,
+            indexes,
+            env,
+            n,
+            cell,
+            first,
+            reused,
+        ),
     }
 }
 
@@ -198,6 +227,7 @@ fn cross_once(
     cell: CellSoFar,
     opened: bool,
     first: u32,
+    reused: Reused,
 ) -> Changed
     requires { ⌜ EntryRoom (env .site) 3 cell (length (now indexes)) ⌝ }
     requires { ⌜ (2 * count ≤ length (now vertices)) × (first < count) × (opened ≡ true → cell .last < count) × (env .centers + 4 ≤ count) × (count ≤ 2 ^ 32) ⌝ }
@@ -210,6 +240,7 @@ fn cross_once(
         count: count,
         opened: opened,
         cell: done,
+        reused: reused,
     }
 }
 
@@ -223,12 +254,13 @@ fn cross_at(
     opened: bool,
     first: u32,
     second: u32,
+    reused: Reused,
 ) -> Changed
     requires { ⌜ EntryRoom (env .site) 3 cell (length (now indexes)) ⌝ }
     requires { ⌜ (2 * count ≤ length (now vertices)) × (first < count) × (second < count) × (opened ≡ true → cell .last < count) × (env .centers + 4 ≤ count) × (count ≤ 2 ^ 32) ⌝ }
     requires { ⌜ (opened ≡ true → Sided (env .bounds) (points count (now vertices)) (cell .last))
         × Sided (env .bounds) (points count (now vertices)) first × Sided (env .bounds) (points count (now vertices)) second ⌝ }
-    ensures { λ r. ⌜ ((ts : List Def.Taken) → Alters (env .site) (points count (now (vertices .entry)))
+    ensures { λ r. ⌜ ((ts : List Def.Taken) → CountsReused 2 ts reused → Alters (env .site) (points count (now (vertices .entry)))
         (ok (Def.crossAt (env .bounds) (env .centers) (env .site) (points count (now (vertices .entry))) (cell .owners) opened
         (cell .last) first second ts)) count cell (now (indexes .entry)) r (now (indexes .exit))) ⌝ }
 {
@@ -249,6 +281,7 @@ fn cross_at(
         count: count,
         opened: opened,
         cell: done,
+        reused: reused,
     }
 }
 
@@ -275,9 +308,23 @@ fn cross(
             count: count,
             opened: opened,
             cell: cell,
+            reused: Reused {
+                extensions: 0,
+                firsts: 0,
+                seconds: 0,
+            },
         },
-        Crossed::Once(first, n) => cross_once(vertices, indexes, env, n, cell, opened, first),
-        Crossed::Twice(first, second, n) => cross_at(
+        Crossed::Once(first, n, reused) => cross_once(
+            vertices,
+            indexes,
+            env,
+            n,
+            cell,
+            opened,
+            first,
+            reused,
+        ),
+        Crossed::Twice(first, second, n, reused) => cross_at(
             vertices,
             indexes,
             env,
@@ -286,6 +333,7 @@ fn cross(
             opened,
             first,
             second,
+            reused,
         ),
     }
 }

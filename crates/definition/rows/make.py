@@ -4,7 +4,7 @@
   make.py ORACLE      ORACLE is the harness's program `oracle`
 
 A file's first line, a comment, becomes the row's. The vertices (bit for bit), cells, owners and the numbers 13 and 14
-are the Rust's; marks, lost corners, 11 and 12 are the harness's reading of docs/RULES.md, as `oracle` prints them.
+are the Rust's; marks, lost corners, reused points, 11 and 12 are the harness's reading of docs/RULES.md, as `oracle` prints them.
 RowsPlaces has the refused meshes again, each with its whole fault: the place, and for 13 and 14 the edge's two vertices,
 are that reading's too (`oracle --place`); the Rust's panics have none.
 A file's imports and the names that its rows unfold stay as they stand there. No line has more than 200 bytes, and `rt fmt` leaves the files as they are written here.
@@ -96,11 +96,13 @@ def told(out):
     corners = re.search(r"^corners:(.*) lost (\d+)$", out, re.M)
     owners = [int(w) for w in corners.group(1).split()] if corners else [EMPTY] * 4
     lost = corners.group(2) if corners else "0"
+    reused = re.search(r"^reused (\d+) (\d+) (\d+)$", out, re.M)
     parts = {
         "vertices": f"floats\n          ({broken(chain(numbers), ' ' * 10)})",
         "cells": broken(chain(f"({c})" for c in cells), " " * 10),
         "owners": chain(index(n) for n in owners),
         "lost": lost,
+        "again": chain(reused.groups()),
     }
     return "ok (record {\n" + "".join(f"      {k} = {v};\n" for k, v in parts.items()) + "    })"
 

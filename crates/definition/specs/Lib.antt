@@ -2,6 +2,7 @@
 pub mod Fault
 pub mod Cell
 pub mod Build
+pub mod Reused
 pub mod Rows
 pub mod RowsBuilt
 pub mod RowsRefused
@@ -13,12 +14,14 @@ pub mod LateRefusals
 pub mod Theorems
 pub mod Reached
 pub mod Tries
+pub mod Points
 pub mod Met
 pub mod Sides
 pub mod FaultTheorem
 pub mod ShortEdge
 pub mod ByNumber
 pub mod TryTheorem
+pub mod StepTheorem
 pub mod NoSide
 pub mod RingsGiven
 pub mod laws

@@ -49,11 +49,12 @@ abbrev pub lostLeft : ℕ → List ℕ → List ℕ → ℕ
 lostLeft v [] l = 0
 lostLeft v (o ∷ os) l = ifLost v o l + lostLeft (suc v) os l
 
--- T triangles, H hull places: at most 7T + 5H + 4 vertices and 9T + 6H + 4 entries, and each entry is a vertex: plain ones circumcenters inside the box,
--- crossings after the circumcenters
+-- T triangles, H hull places: at most 7T + 5H + 4 vertices, 6T + 5H steps that add a point or take one again, and 9T + 6H + 4 entries, and each entry is a vertex:
+-- plain ones circumcenters inside the box, crossings after the circumcenters
 pub record Room (tri hull : List ℕ) (b : BoundingBox) (r : Built) : Type 0 where
   pub vertices : length (r .verts) ≤ 7 * (length tri / 3) + 5 * length hull + 4
   pub added : length (r .verts) ≡ length tri / 3 + 4 + newPoints (r .steps)
+  pub steps : length (r .steps) ≤ 6 * (length tri / 3) + 5 * length hull
   pub entries : weigh (λ s c. length c) 0 (r .cells) ≤ 9 * (length tri / 3) + 6 * length hull + 4
   pub region : (s : ℕ) → s < length (r .cells) → length (getD (r .cells) s []) ≤ 3 * shareOf tri hull s + occ s (r .owners)
   pub placed : (s : ℕ) → ValidEntries (λ v. inBox b (length tri / 3) (r .verts) v ≡ true) (length tri / 3) (length (r .verts)) (getD (r .cells) s [])

@@ -1,6 +1,6 @@
 -- How the computed rows write a build's answer: floats by their bit patterns, entries by their marks, a refusal by its number.
 use Prim.Native.Nat.{ℕ}
-use mathlib.Core.List.{List, map}
+use mathlib.Core.List.{List, [], _∷_, map}
 use lib.Ieee.{Float, binary64, ofBits}
 use Rattle.utils.specs.Flat.{flat}
 use Rattle.utils.specs.Plane.{at}
@@ -8,8 +8,9 @@ use Rattle.bounding_box.specs.Box.{madeOf}
 use Rattle.bounding_box.specs.declared.BoundingBox.{BoundingBox}
 use Rattle.definition.specs.declared.Fault.{Fault}
 use Rattle.definition.specs.Fault.{Outcome, ok, refused}
-use Rattle.definition.specs.Cell.{Entry, entry, plain, crossing, wrapped}
+use Rattle.definition.specs.Cell.{Entry, entry, plain, crossing, wrapped, Taken, extension, firstCrossing, secondCrossing}
 use Rattle.definition.specs.Build.{Built}
+use Rattle.definition.specs.Reused.{reusedOf}
 
 abbrev pub fromBits : ℕ → Float
 fromBits n = ofBits binary64 n
@@ -36,8 +37,13 @@ pub record Row : Type 0 where
   pub cells : List (List Entry)
   pub owners : List ℕ
   pub lost : ℕ
+  -- points taken again: extensions, first and second crossings
+  pub again : List ℕ
+
+abbrev againIn : List Taken → List ℕ
+againIn ts = reusedOf extension ts ∷ reusedOf firstCrossing ts ∷ reusedOf secondCrossing ts ∷ []
 
 unfoldable pub rowOf : Outcome Fault Built → Outcome ℕ Row
 unfolding flat
-rowOf (ok r) = ok (record { vertices = flat (r .verts); cells = r .cells; owners = r .owners; lost = r .lost })
+rowOf (ok r) = ok (record { vertices = flat (r .verts); cells = r .cells; owners = r .owners; lost = r .lost; again = againIn (r .steps) })
 rowOf (refused f) = refused (f .number)

@@ -1,4 +1,4 @@
--- Rows: meshes that the Rust builds: vertices to the last bit, marked cells, owners, lost corners. Written by rows/make.py from what the Rust answered; not by hand.
+-- Rows: meshes that the Rust builds: vertices to the last bit, marked cells, owners, lost corners, points taken again. Written by rows/make.py from what the Rust answered; not by hand.
 use mathlib.Core.Path.{_≡_, refl}
 use mathlib.Core.List.{[], _∷_}
 use Rattle.numbers.specs.Numbers.{EMPTY}
@@ -25,8 +25,27 @@ use Rattle.definition.specs.Cell.{stepsTo, firstInside, turned, clipFrom
 use Rattle.definition.specs.Build.{centerAt, centersFrom, ownersFrom, extended, extendFrom, hullRing, clipInto, clipHull, clipRest, allEntries, lostFrom, clipAll, build}
 
 pub rows :
-    -- an edge clipped from both its ends gives two crossings, so that the two cells share no vertex
+    -- an extension, two first and two second crossings take a vertex again
     (rowOf
+    (build
+    (mesh
+    (floats
+    (0x3ff0000000000000 ∷ 0x4000000000000000 ∷ 0x3ff0000000000000 ∷ 0 ∷ 0x4000000000000000 ∷ 0x4000000000000000 ∷ []))
+    (2 ∷ 0 ∷ 1 ∷ [])
+    (EMPTY ∷ EMPTY ∷ EMPTY ∷ [])
+    (0 ∷ 1 ∷ 2 ∷ []))
+    (rowBox 0x4202a05f300c0000 0x4080080000000000 0x4090000000000000 0x4090000000000000))
+    ≡ ok (record {
+      vertices = floats
+          (0x3ff8000000000000 ∷ 0x3ff0000000000000 ∷ 0x4202a05f200c0000 ∷ 0x3ff0000000000000 ∷ 0x4202a05f200c0000 ∷ 0x4090040000000000 ∷ 0x4202a05f400c0000 ∷ 0x4090040000000000 ∷
+          0x4202a05f400c0000 ∷ 0x3ff0000000000000 ∷ 0xc200a8f61123fe47 ∷ 0x41f0a8f6113ffe47 ∷ 0x3ff8000000000000 ∷ 0xc202a05f1ff80000 ∷ []);
+      cells = (x 1 ∷ x 3 ∷ []) ∷ (x 1 ∷ x 4 ∷ []) ∷ ([]) ∷ [];
+      owners = 2 ∷ 2 ∷ 2 ∷ 2 ∷ [];
+      lost = 1;
+      again = 1 ∷ 2 ∷ 2 ∷ [];
+    }))
+    -- an edge clipped from both its ends gives two crossings, so that the two cells share no vertex
+    × (rowOf
     (build
     (mesh
     (floats
@@ -45,6 +64,7 @@ pub rows :
       cells = (x 12 ∷ x 13 ∷ x 14 ∷ x 15 ∷ w 3 ∷ []) ∷ (x 8 ∷ x 9 ∷ w 4 ∷ []) ∷ (x 10 ∷ x 11 ∷ w 1 ∷ w 2 ∷ []) ∷ [];
       owners = 2 ∷ 2 ∷ 0 ∷ 1 ∷ [];
       lost = 0;
+      again = 0 ∷ 0 ∷ 0 ∷ [];
     }))
     -- empty hull cells are clipped again, from a half-edge that is not the leftmost
     × (rowOf
@@ -65,6 +85,7 @@ pub rows :
       cells = ([]) ∷ (x 4 ∷ x 4 ∷ []) ∷ ([]) ∷ ([]) ∷ (x 4 ∷ x 4 ∷ []) ∷ [];
       owners = 1 ∷ 1 ∷ 1 ∷ 1 ∷ [];
       lost = 3;
+      again = 0 ∷ 2 ∷ 2 ∷ [];
     }))
     -- a cell that covers the whole box is empty, and all corners are lost
     × (rowOf
@@ -84,6 +105,26 @@ pub rows :
       cells = ([]) ∷ ([]) ∷ ([]) ∷ ([]) ∷ [];
       owners = 0 ∷ 0 ∷ 0 ∷ 0 ∷ [];
       lost = 4;
+      again = 0 ∷ 0 ∷ 0 ∷ [];
+    }))
+    -- a mesh far larger than the box: two extensions fall on the first one's vertex
+    × (rowOf
+    (build
+    (mesh
+    (floats
+    (0x3ff8000000000000 ∷ 0x3fe0000000000000 ∷ 0x3ff0000000000000 ∷ 0x4000000000000000 ∷ 0xc62fffffffffffff ∷ 0xbff8000000000000 ∷ []))
+    (0 ∷ 1 ∷ 2 ∷ [])
+    (EMPTY ∷ EMPTY ∷ EMPTY ∷ [])
+    (1 ∷ 2 ∷ 0 ∷ []))
+    (rowBox 0 0 0x4000000000000000 0x4000000000000000))
+    ≡ ok (record {
+      vertices = floats
+          (0xc61ffffffffffffe ∷ 0xc605555555555555 ∷ 0xbff0000000000000 ∷ 0xbff0000000000000 ∷ 0xbff0000000000000 ∷ 0x3ff0000000000000 ∷ 0x3ff0000000000000 ∷ 0x3ff0000000000000 ∷
+          0x3ff0000000000000 ∷ 0xbff0000000000000 ∷ 0xc61ffffffffffffe ∷ 0xc605555555555555 ∷ []);
+      cells = ([]) ∷ ([]) ∷ ([]) ∷ [];
+      owners = 0 ∷ 1 ∷ 0 ∷ 0 ∷ [];
+      lost = 4;
+      again = 2 ∷ 0 ∷ 0 ∷ [];
     }))
     -- a site inside: its cell is its ring of circumcenters
     × (rowOf
@@ -105,6 +146,7 @@ pub rows :
           x 12 ∷ t 3 ∷ []) ∷ (t 0 ∷ t 1 ∷ t 2 ∷ t 3 ∷ []) ∷ [];
       owners = 0 ∷ 1 ∷ 2 ∷ 3 ∷ [];
       lost = 0;
+      again = 0 ∷ 4 ∷ 0 ∷ [];
     }))
     -- a hull edge just long enough: see refused_short-edge
     × (rowOf
@@ -124,6 +166,7 @@ pub rows :
       cells = (t 0 ∷ x 8 ∷ x 9 ∷ []) ∷ (t 0 ∷ x 9 ∷ x 10 ∷ []) ∷ (t 0 ∷ x 10 ∷ x 10 ∷ w 2 ∷ w 3 ∷ x 8 ∷ x 8 ∷ []) ∷ [];
       owners = 0 ∷ 2 ∷ 2 ∷ 1 ∷ [];
       lost = 2;
+      again = 0 ∷ 4 ∷ 1 ∷ [];
     }))
     -- corners that are lost on sound input
     × (rowOf
@@ -143,6 +186,7 @@ pub rows :
       cells = (t 0 ∷ x 1 ∷ x 9 ∷ []) ∷ (t 0 ∷ x 9 ∷ w 3 ∷ x 8 ∷ []) ∷ (t 0 ∷ x 8 ∷ w 4 ∷ x 1 ∷ []) ∷ [];
       owners = 2 ∷ 0 ∷ 1 ∷ 2 ∷ [];
       lost = 1;
+      again = 0 ∷ 4 ∷ 0 ∷ [];
     }))
     -- the marks: of the three 2s of cell 0 one is wrapped, two are crossings that reuse the corner
     × (rowOf
@@ -164,6 +208,7 @@ pub rows :
           []) ∷ (t 1 ∷ x 13 ∷ w 5 ∷ x 5 ∷ x 5 ∷ x 10 ∷ []) ∷ [];
       owners = 0 ∷ 1 ∷ 2 ∷ 3 ∷ [];
       lost = 0;
+      again = 0 ∷ 8 ∷ 4 ∷ [];
     }))
     -- a circumcenter on the right side: the crossing there is a vertex of its own, no circumcenter is taken again
     × (rowOf
@@ -183,6 +228,7 @@ pub rows :
       cells = (t 0 ∷ x 9 ∷ x 4 ∷ []) ∷ (t 0 ∷ x 4 ∷ w 1 ∷ x 8 ∷ []) ∷ (t 0 ∷ x 8 ∷ w 2 ∷ w 3 ∷ x 9 ∷ []) ∷ [];
       owners = 1 ∷ 2 ∷ 2 ∷ 1 ∷ [];
       lost = 0;
+      again = 0 ∷ 4 ∷ 0 ∷ [];
     }))
     -- the first hull cell has no vertex inside, and its walk begins at the extension after it
     × (rowOf
@@ -202,6 +248,7 @@ pub rows :
       cells = (x 9 ∷ x 8 ∷ w 2 ∷ w 3 ∷ []) ∷ ([]) ∷ (x 8 ∷ x 9 ∷ w 4 ∷ w 1 ∷ x 10 ∷ x 11 ∷ []) ∷ [];
       owners = 2 ∷ 0 ∷ 0 ∷ 2 ∷ [];
       lost = 0;
+      again = 0 ∷ 1 ∷ 1 ∷ [];
     }))
     -- "square" of docs/RULES.md
     × (rowOf
@@ -223,6 +270,7 @@ pub rows :
           []) ∷ [];
       owners = 0 ∷ 1 ∷ 2 ∷ 3 ∷ [];
       lost = 0;
+      again = 0 ∷ 4 ∷ 0 ∷ [];
     }))
     -- a cell passes the corners that it has wrapped once more
     × (rowOf
@@ -242,6 +290,7 @@ pub rows :
       cells = (x 8 ∷ x 9 ∷ w 1 ∷ w 2 ∷ x 1 ∷ x 2 ∷ []) ∷ (x 2 ∷ x 1 ∷ []) ∷ (x 9 ∷ x 8 ∷ w 3 ∷ w 4 ∷ []) ∷ [];
       owners = 0 ∷ 0 ∷ 2 ∷ 2 ∷ [];
       lost = 0;
+      again = 0 ∷ 3 ∷ 3 ∷ [];
     }))
     -- an edge with one end inside finds two crossings; the second is added or reused, and stands in no cell for that
     × (rowOf
@@ -260,6 +309,7 @@ pub rows :
       cells = (t 0 ∷ x 4 ∷ w 1 ∷ w 2 ∷ x 8 ∷ []) ∷ (t 0 ∷ x 8 ∷ x 8 ∷ []) ∷ (t 0 ∷ x 8 ∷ x 4 ∷ []) ∷ [];
       owners = 0 ∷ 0 ∷ 1 ∷ 0 ∷ [];
       lost = 1;
+      again = 0 ∷ 5 ∷ 1 ∷ [];
     }))
     -- "square" with a fifth, unused site
     × (rowOf
@@ -281,6 +331,7 @@ pub rows :
           []) ∷ ([]) ∷ [];
       owners = 0 ∷ 1 ∷ 2 ∷ 3 ∷ [];
       lost = 0;
+      again = 0 ∷ 4 ∷ 0 ∷ [];
     }))
 unfolding trailingZeros ofBits add sub mul div lt le eq neg sum round units odd size span climb same wholeRoot
     nearestRoot rootOfUnits sqrtOf nearOf dist2Of centerOf flat okCenter madeOf cornersOf insideOf firstSide
@@ -290,4 +341,4 @@ unfolding trailingZeros ofBits add sub mul div lt le eq neg sum round units odd 
     edgeCrossing clipWith clipEdge leave enterAt enter link crossAt cross clipStep inBox stepTo stepsTo
     firstInside turned clipFrom clipCell centerAt centersFrom ownersFrom extended extendFrom hullRing clipInto
     clipHull clipRest allEntries lostFrom clipAll build rowOf
-rows = (refl, refl, refl, refl, refl, refl, refl, refl, refl, refl, refl, refl, refl)
+rows = (refl, refl, refl, refl, refl, refl, refl, refl, refl, refl, refl, refl, refl, refl, refl)

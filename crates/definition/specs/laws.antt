@@ -3,6 +3,7 @@ pub mod Gives
 pub mod Puts
 pub mod Wraps
 pub mod Grown
+pub mod Reused
 pub mod Edge
 pub mod Inside
 pub mod Ring
@@ -32,3 +33,4 @@ pub mod Sides
 pub mod SidedEdge
 pub mod SidedRing
 pub mod SidedCells
+pub mod StepsTaken

@@ -9,8 +9,9 @@ use Rattle.numbers.specs.Numbers.{EMPTY}
 use Rattle.utils.specs.Flat.{flat}
 use Rattle.definition.specs.declared.Fault.{Fault}
 use Rattle.definition.specs.Fault.{Outcome, ok, refused, fault}
-use Rattle.definition.specs.Cell.{unmarked}
+use Rattle.definition.specs.Cell.{extension, firstCrossing, secondCrossing, unmarked}
 use Rattle.definition.specs.Build.{Built}
+use Rattle.definition.specs.Reused.{reusedOf}
 use Rattle.layout.specs.Regions.{joined, offsetsFrom, Regions}
 use Rattle.layout.specs.Rooms.{Started}
 
@@ -47,9 +48,12 @@ unfoldable pub offsetNumbers : Outcome Fault Built → List ℕ
 offsetNumbers (ok b) = offsetsFrom 0 (map unmarked (b .cells))
 offsetNumbers (refused f) = []
 
--- the number of vertices, the corners' owners as found, the lost corners
+-- the number of vertices, the corners' owners as found, the lost corners, the points taken again: as extensions, as first and as second crossings
+abbrev pub countsMade : Built → List ℕ
+countsMade b = length (b .verts) ∷ b .owners ++ b .lost ∷ reusedOf extension (b .steps) ∷ reusedOf firstCrossing (b .steps) ∷ reusedOf secondCrossing (b .steps) ∷ []
+
 unfoldable pub countNumbers : Outcome Fault Built → List ℕ
-countNumbers (ok b) = length (b .verts) ∷ b .owners ++ b .lost ∷ []
+countNumbers (ok b) = countsMade b
 countNumbers (refused f) = []
 
 -- the fault that the code answers: none is the number 0

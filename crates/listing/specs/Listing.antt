@@ -29,15 +29,20 @@ unfoldable pub cellLines : List ℕ → List ℕ → ℕ → ℕ → List ℕ
 cellLines offsets cells i zero = []
 cellLines offsets cells i (suc n) = cellLine i (listedCell offsets cells i) ++ cellLines offsets cells (suc i) n
 
--- all but the corners
+-- all but the last two lines
 unfoldable pub countsAndCells : ℕ → ℕ → ℕ → List ℕ → List ℕ → List ℕ
 countsAndCells sites triangles vertices offsets cells = counts sites triangles vertices ++ cellLines offsets cells 0 sites
 
 unfoldable pub corners : List ℕ → ℕ → List ℕ
 corners owners lost = ascii "corners" ++ entries owners ++ labelled " lost" lost ++ ascii "\n"
 
-unfoldable pub listing : ℕ → ℕ → ℕ → List ℕ → List ℕ → List ℕ → ℕ → List ℕ
-listing sites triangles vertices offsets cells owners lost = countsAndCells sites triangles vertices offsets cells ++ corners owners lost
+-- how many extensions, first crossings and second crossings reused a point
+unfoldable pub reusedLine : ℕ → ℕ → ℕ → List ℕ
+reusedLine extensions firsts seconds = ascii "reused" ++ entries (extensions ∷ firsts ∷ seconds ∷ []) ++ ascii "\n"
+
+unfoldable pub listing : ℕ → ℕ → ℕ → List ℕ → List ℕ → List ℕ → ℕ → ℕ → ℕ → ℕ → List ℕ
+listing sites triangles vertices offsets cells owners lost extensions firsts seconds =
+    countsAndCells sites triangles vertices offsets cells ++ corners owners lost ++ reusedLine extensions firsts seconds
 
 unfoldable pub refusal : ℕ → List ℕ
 refusal number = labelled "refused" number ++ ascii "\n"

@@ -3,7 +3,7 @@ use numbers::wide;
 use octets::put;
 ghost use mathlib.Core.List.{[], _∷_, _++_};
 ghost use Rattle.listing.specs.Text.{decimal};
-ghost use Rattle.listing.specs.Listing.{entries, counts, cellLine, cellLines, countsAndCells, corners, listing, refusal, Layout};
+ghost use Rattle.listing.specs.Listing.{entries, counts, cellLine, cellLines, countsAndCells, corners, reusedLine, listing, refusal, Layout};
 ghost use Rattle.octets.specs.Wrote.{Wrote, HasRoom};
 
 pub fn decimal(out: &mut [u8], at: usize, n: u32) -> usize
@@ -110,6 +110,17 @@ fn corners(out: &mut [u8], at: usize, owners: [u32; 4], lost: u32) -> usize
     put(out, c, b"\n")
 }
 
+// How many extensions, first crossings and second crossings reused a point.
+fn reused(out: &mut [u8], at: usize, extensions: u32, firsts: u32, seconds: u32) -> usize
+    requires { ⌜ HasRoom (now out) at (reusedLine extensions firsts seconds) ⌝ }
+    ensures { λ r. ⌜ Wrote (now (out .entry)) (now (out .exit)) at r (reusedLine extensions firsts seconds) ⌝ }
+{
+    let kinds = [extensions, firsts, seconds];
+    let a = put(out, at, b"reused");
+    let b = entries(out, a, &kinds);
+    put(out, b, b"\n")
+}
+
 // The listing of a mesh.
 pub fn listing(
     out: &mut [u8],
@@ -120,12 +131,18 @@ pub fn listing(
     cells: &[u32],
     owners: [u32; 4],
     lost: u32,
+    extensions: u32,
+    firsts: u32,
+    seconds: u32,
 ) -> usize
-    requires { ⌜ (Layout (now offsets) (now cells) sites) × (HasRoom (now out) 0 (listing sites triangles vertices (now offsets) (now cells) owners lost)) ⌝ }
-    ensures { λ r. ⌜ Wrote (now (out .entry)) (now (out .exit)) 0 r (listing sites triangles vertices (now (offsets .entry)) (now (cells .entry)) owners lost) ⌝ }
+    requires { ⌜ (Layout (now offsets) (now cells) sites)
+        × (HasRoom (now out) 0 (listing sites triangles vertices (now offsets) (now cells) owners lost extensions firsts seconds)) ⌝ }
+    ensures { λ r. ⌜ Wrote (now (out .entry)) (now (out .exit)) 0 r
+        (listing sites triangles vertices (now (offsets .entry)) (now (cells .entry)) owners lost extensions firsts seconds) ⌝ }
 {
-    let end = counts_and_cells(out, sites, triangles, vertices, offsets, cells);
-    corners(out, end, owners, lost)
+    let a = counts_and_cells(out, sites, triangles, vertices, offsets, cells);
+    let b = corners(out, a, owners, lost);
+    reused(out, b, extensions, firsts, seconds)
 }
 
 // The line of a refusal.

@@ -13,6 +13,7 @@ use Rattle.vertices.specs.Store.{Holds, Poured}
 use Rattle.definition.specs.declared.Fault.{Fault}
 use Rattle.definition.specs.Fault.{Outcome, ok, refused, notFinite}
 use Rattle.definition.specs.Build.{infinity, Extensions}
+use Rattle.definition.specs.Reused.{reused, reusedIn}
 use Rattle.rings.specs.Centers.{Named}
 use Rattle.rings.specs.declared.extensions.Passed.{Passed}
 
@@ -45,9 +46,10 @@ pub record ExtendsInto (sites : List Float) (tri hull table : List ℕ) (nc coun
   pub limited : limit ≤ length ix
   pub small-ix : limit < 2 ^ 32
 
--- all extensions are there: their vertices, and from `at` on their numbers; the index list before `limit` is else as it was
+-- all extensions are there: their vertices, how many of them took one again, and from `at` on their numbers; the index list before `limit` is else as it was
 pub record ExtensionsPut (nc limit at : ℕ) (x : Extensions) (v : List Float) (ix : List ℕ) (r : Passed) (v₁ : List Float) (ix₁ : List ℕ) : Type 0 where
   pub verts : Poured (x .verts) v (r .count) v₁
+  pub reused : reused (r .reused) 0 0 ≡ reusedIn (x .steps)
   pub numbers : take limit ix₁ ≡ sets (take limit ix) at (x .at)
   pub holds : Holds nc (r .count) v₁ (drop limit ix₁)
 

@@ -9,11 +9,12 @@ use vertices::vertex;
 ghost use mathlib.Core.Path.{_≡_};
 ghost use mathlib.Core.Bool.{_&&_};
 ghost use mathlib.Core.List.{[]};
-ghost use Prim.Native.Nat.{_*_, _/_, _%_, _≤_, _<_};
+ghost use Prim.Native.Nat.{_+_, _*_, _/_, _%_, _^_, _≤_, _<_};
 ghost use lib.ListN.{length, getD};
 ghost use Rattle.utils.specs.Flat.{points};
 ghost use Rattle.mesh.specs.Hull.{nextSite};
 ghost use Rattle.definition.specs.Build.{finite, extended, extensions, extendFrom};
+ghost use Rattle.definition.specs.Reused.{ifOld};
 ghost use Rattle.rings.specs.Centers.{Named};
 ghost use Rattle.rings.specs.Extensions.{projectedOf, Hulled, ExtendsInto, ExtendedBy};
 
@@ -73,10 +74,22 @@ fn hull_edge(hull: &[u32], table: &[u32], i: usize) -> usize
     wide(table[b])
 }
 
-// Where the pass over the hull stopped, and how many vertices there are then.
+// Where the pass over the hull stopped, how many vertices there are then, and how many extensions took one again.
 pub struct Passed {
     pub place: usize,
     pub count: usize,
+    pub reused: usize,
+}
+
+// One more where the point was not new.
+fn count_old(n: usize, fresh: bool) -> usize
+    requires { ⌜ n < 2 ^ 32 ⌝ }
+    ensures { λ r. ⌜ r ≡ n + ifOld fresh 1 ⌝ }
+{
+    if fresh {
+        return n;
+    }
+    n + 1
 }
 
 // Extends every hull edge. The vertices' numbers go to the index list, from `at` on, which lies before the store's part of it.
@@ -98,16 +111,26 @@ pub fn extend_hull(
         (now (vertices .entry)) (now (indexes .entry)) r (now (vertices .exit)) (now (indexes .exit)) ⌝ }
 {
     let mut n = count;
+    let mut old: usize = 0;
     let mut i: usize = 0;
     while i < hull.len() {
         let p = extend_voronoi_vertex(sites, triangles, vertices, n, hull_edge(hull, table, i));
         if !finite_point(p) {
-            return Passed { place: i, count: n };
+            return Passed {
+                place: i,
+                count: n,
+                reused: old,
+            };
         }
         let r = add_new_vertex(vertices, indexes, limit, centers, n, p);
         indexes[at + i] = r.at as u32;
         n = r.count;
+        old = count_old(old, r.fresh);
         i += 1;
     }
-    Passed { place: i, count: n }
+    Passed {
+        place: i,
+        count: n,
+        reused: old,
+    }
 }

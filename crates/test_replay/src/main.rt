@@ -106,7 +106,7 @@ fn answers(
     indexes: &mut [u32],
     offsets: &mut [u32],
 ) -> u32 {
-    let mut counts = [BEFORE; 6];
+    let mut counts = [BEFORE; 9];
     let number = builds::build(
         b,
         sites,

@@ -18,7 +18,7 @@ HasFloats l b k n rest = Has (length l) (λ i. bitsOf (getD l i nan)) (λ i. exp
 
 -- where the parts of an accepted build of n sites stand, whose counts stand from word k on: the table, the points, the offsets, the last of them
 abbrev pub tablePlace : ℕ → ℕ
-tablePlace k = afterOf k 6
+tablePlace k = afterOf k 9
 
 abbrev pub pointsPlace : ℕ → ℕ → ℕ
 pointsPlace k n = afterOf (tablePlace k) n
@@ -31,7 +31,7 @@ endPlace b k n = afterOf (startsPlace b k n) n
 
 -- after an accepted build: every slice, to its last element
 pub record BuildHeld (b : List ℕ) (k : ℕ) (work : List ℕ) (vertices : List Float) (indexes offsets counts : List ℕ) : Type 0 where
-  pub numbers : HasWords counts b k 6 EMPTY
+  pub numbers : HasWords counts b k 9 EMPTY
   pub table : HasWords work b (tablePlace k) (length work) EMPTY
   pub points : HasFloats vertices b (pointsPlace k (length work)) (2 * wordOf b k) 0
   pub starts : HasWords offsets b (startsPlace b k (length work)) (length offsets) EMPTY

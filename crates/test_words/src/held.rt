@@ -19,7 +19,7 @@ const BEFORE_BITS: u64 = 0x401C_0000_0000_0000;
 fn table(k: usize) -> usize
     ensures { λ r. ⌜ r ≡ tablePlace k ⌝ }
 {
-    after(k, 6)
+    after(k, 9)
 }
 
 fn points(k: usize, n: usize) -> usize
@@ -56,7 +56,7 @@ pub fn accepted(
 {
     let n = work.len();
     let last = end(b, k, n);
-    holds(counts, b, k, 6, EMPTY)
+    holds(counts, b, k, 9, EMPTY)
         & holds(work, b, table(k), n, EMPTY)
         & holds_floats(vertices, b, points(k, n), 2 * index(b, k), 0)
         & holds(offsets, b, starts(b, k, n), offsets.len(), EMPTY)

@@ -1,7 +1,7 @@
 -- How demand 2 speaks of calls on a mesh: where one may answer 0, and what a build that answers 0 leaves in its slices.
 use mathlib.Core.Path.{_≡_}
 use mathlib.Core.Bool.{true}
-use mathlib.Core.List.{List, [], _∷_, _++_, map}
+use mathlib.Core.List.{List, [], map}
 use Prim.Native.Nat.{ℕ, suc, _≤_, _<_}
 use lib.Ieee.{nan}
 use lib.ListN.{length, getD, take, drop}
@@ -13,7 +13,7 @@ use Rattle.layout.specs.Regions.{joined, offsetsFrom}
 use Rattle.definition.specs.declared.Fault.{Fault}
 use Rattle.definition.specs.Fault.{Outcome, ok}
 use Rattle.definition.specs.Build.{finite, Built}
-use Rattle.layout.specs.Outputs.{padded}
+use Rattle.layout.specs.Outputs.{padded, countsMade}
 use Rattle.definition.specs.Cell.{unmarked}
 use Rattle.admission.specs.Slices.{Slices, roomOf}
 use Rattle.build_answers.specs.Success.{Value}
@@ -36,11 +36,11 @@ pub record BuildAllowed (m : Mesh) (box : Type 0) (o : Outcome Fault Built) (old
 pub record BuildLeaves (n : ℕ) (table : List ℕ) (o : Outcome Fault Built) (old new : Slices) : Type 0 where
   pub made : Built
   pub is : o ≡ ok made
-  -- the definition's vertices, cells, owners and lost corners, then +0 or EMPTY
+  -- the definition's vertices, cells and counts, then +0 or EMPTY
   pub vertices : new .vertices ≡ padded (length (old .vertices)) zero (flat (made .verts))
   pub indexes : new .indexes ≡ padded (length (old .indexes)) EMPTY (joined (map unmarked (made .cells)))
   pub offsets : new .offsets ≡ padded (length (old .offsets)) EMPTY (offsetsFrom 0 (map unmarked (made .cells)))
-  pub counts : new .counts ≡ padded (length (old .counts)) EMPTY (length (made .verts) ∷ made .owners ++ made .lost ∷ [])
+  pub counts : new .counts ≡ padded (length (old .counts)) EMPTY (countsMade made)
   pub work : new .work ≡ padded (length (old .work)) EMPTY table
   -- no NaN and no infinity among them
   pub numbers : (i : ℕ) → i < length (new .vertices) → finite (getD (new .vertices) i nan) ≡ true

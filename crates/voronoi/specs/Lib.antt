@@ -23,3 +23,4 @@ pub mod Wraps
 pub mod Demands
 pub mod Restart
 pub mod Thrice
+pub mod StepsTaken

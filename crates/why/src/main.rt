@@ -33,7 +33,7 @@ fn in_box(
     let mut vertices = [0.0f64; 3656];
     let mut indexes = [0u32; 3076];
     let mut offsets = [0u32; 97];
-    let mut counts = [0u32; 6];
+    let mut counts = [0u32; 9];
     explaining::why(
         given,
         sites,

@@ -49,6 +49,15 @@ pub mod cell_builder {
         pub fn owners(builder: &CellBuilder) -> Vec<usize> {
             builder.corner_ownership.clone()
         }
+        pub fn extend(builder: &mut CellBuilder, edge: usize) -> usize {
+            builder.extend_voronoi_vertex(edge)
+        }
+        pub fn clip_edge(builder: &mut CellBuilder, a: usize, b: usize) -> (Option<usize>, Option<usize>) {
+            builder.clip_voronoi_edge(a, b)
+        }
+        pub fn vertices(builder: &CellBuilder) -> usize {
+            builder.vertices.len()
+        }
     }
 }
 

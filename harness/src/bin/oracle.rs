@@ -194,6 +194,7 @@ fn built(b: &reference::Build) -> Vec<String> {
         lines.push(format!("marks {s}:{}", words.collect::<String>()));
     }
     lines.push(format!("{} lost {}", row("corners", &b.owners), b.lost));
+    lines.push(format!("reused {}", text::list(&b.reused)));
     lines
 }
 

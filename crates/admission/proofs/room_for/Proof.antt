@@ -2,7 +2,7 @@
 use borrow.Author.Needs.{needs}
 use native.Mathlib.Omega.{arith}
 use Rattle.laws.specs.laws.Decide.{refused, granted}
-use Rattle.admission.specs.laws.BuildRoom.{no-counts, no-table, no-six, by-outputs}
+use Rattle.admission.specs.laws.BuildRoom.{no-counts, no-table, no-nine, by-outputs}
 use Rattle.admission.proofs.room_for.Statement.{statement}
 use Rattle.admission.proofs.room_for.Tie as tie
 
@@ -13,7 +13,7 @@ returns-2 : tie.Need-returns-2
 returns-2 c = no-table _ _ _ _ _ _ _ _ _ (c .if2 .taken)
 
 returns-3 : tie.Need-returns-3
-returns-3 c = no-six _ _ _ _ _ _ _ _ _ (c .before .if2 .left) (c .if3 .taken)
+returns-3 c = no-nine _ _ _ _ _ _ _ _ _ (c .before .if2 .left) (c .if3 .taken)
 
 rooms-ok-requires : tie.Need-rooms-ok-requires
 rooms-ok-requires c κs =

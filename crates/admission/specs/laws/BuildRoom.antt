@@ -38,25 +38,25 @@ module _ (coordinates entries halfedges hull work numbers indexes offsets counts
   no-table l = record { right = λ c. rw (lt-leb _ _ l); table = λ t. absurd (false≢true t) }
 
   module _ (l : coordinates / 2 ≤ work) where
-    pub no-six : counts < 6 → Answers false
+    pub no-nine : counts < 9 → Answers false
     unfolding roomFor
-    no-six m = record { right = λ c. rw (le-leb _ _ l, lt-leb _ _ m); table = λ t. l }
+    no-nine m = record { right = λ c. rw (le-leb _ _ l, lt-leb _ _ m); table = λ t. l }
 
-    pub by-outputs : 6 ≤ counts → (r : Bool) → Says r (Rooms (entries / 3) hull (coordinates / 2) numbers indexes offsets) → Answers r
+    pub by-outputs : 9 ≤ counts → (r : Bool) → Says r (Rooms (entries / 3) hull (coordinates / 2) numbers indexes offsets) → Answers r
     unfolding roomFor
     by-outputs m r s = record { right = λ c. rw (le-leb _ _ l, le-leb _ _ m) (says-rooms _ _ _ _ _ _ r s); table = λ t. l }
 
 -- what rule 2 grants
 pub record Granted (n T h work numbers indexes offsets counts : ℕ) : Type 0 where
   pub table : n ≤ work
-  pub six : 6 ≤ counts
+  pub nine : 9 ≤ counts
   pub rooms : Rooms T h n numbers indexes offsets
 
 pub granted : (n T h work numbers indexes offsets counts : ℕ) → roomFor n T h work numbers indexes offsets counts ≡ true → Granted n T h work numbers indexes offsets counts
 unfolding roomFor
 granted n T h work numbers indexes offsets counts e =
     let a = leb n work in
-    let b = leb 6 counts in
+    let b = leb 9 counts in
     let v = leb (7 * T + 5 * h + 4) (numbers / 2) in
     let i = leb (12 * T + 8 * h + 4) indexes in
     let f = ltb n offsets in
@@ -65,7 +65,7 @@ granted n T h work numbers indexes offsets counts e =
     let ab = and-left (a && b) v abv in
     record {
       table = leb-true _ _ (and-left a b ab);
-      six = leb-true _ _ (and-right a b ab);
+      nine = leb-true _ _ (and-right a b ab);
       rooms = record {
         vertices = leb-true _ _ (and-right (a && b) v abv);
         entries = leb-true _ _ (and-right (a && b && v) i abvi);

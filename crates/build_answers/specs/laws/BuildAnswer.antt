@@ -84,8 +84,8 @@ module _ {m : Mesh} {asked : ℕ} {old new : Slices} {r : ℕ} (a : BuildAdmissi
     pub rooms-of : Rooms (length (m .triangles) / 3) (length (m .hull)) (siteCount (m .sites)) (length (new .vertices)) (length (new .indexes)) (length (new .offsets))
     rooms-of = rw (same-vertices, same-indexes, same-offsets) (granted-of .rooms)
 
-    pub six-of : 6 ≤ length (new .counts)
-    six-of = rw same-counts (granted-of .six)
+    pub nine-of : 9 ≤ length (new .counts)
+    nine-of = rw same-counts (granted-of .nine)
 
     pub table-fits : siteCount (m .sites) ≤ length (new .work)
     table-fits = rw long-of (granted-of .table)

@@ -15,7 +15,9 @@ use Rattle.given_box.specs.declared.Given.{Given}
 use Rattle.mesh.specs.Accepted.{Mesh, siteCount}
 use Rattle.definition.specs.declared.Fault.{Fault}
 use Rattle.definition.specs.Fault.{Outcome, ok, refused}
+use Rattle.definition.specs.Cell.{extension, firstCrossing, secondCrossing}
 use Rattle.definition.specs.Build.{Built, build}
+use Rattle.definition.specs.laws.Reused.{reused-le}
 use Rattle.definition.specs.laws.Gives.{Gives, gives-map}
 use Rattle.definition.specs.laws.Built as theorems
 use Rattle.layout.specs.Outputs.{countNumbers, faultOf, BuiltInto}
@@ -27,7 +29,7 @@ use Rattle.admission.specs.laws.Admits.{NoneZero}
 use Rattle.admission.specs.laws.Asks.{box-answers}
 use Rattle.admission.specs.Slices.{Slices, slices}
 use Rattle.admission.specs.Admission.{BuildAdmission}
-use Rattle.build_counts.specs.Counts.{countsOf, EndedBuild}
+use Rattle.build_counts.specs.Counts.{countsOf, ReusedFit, EndedBuild}
 use Rattle.build_answers.specs.Promise.{BuildAnswers, ClippedBuild}
 use Rattle.definition.specs.Late.{Refuses, Numbered}
 use Rattle.definition.specs.LateRefusals.{build-late}
@@ -42,11 +44,12 @@ module _ (o : Outcome Fault Built) (x : CellsAnswer) (q : x ≡ outcomeAnswer o)
       go (ok b) = refl
       go (refused e) = refl
 
-  answer-counts : Refuses Numbered o → faultOf o .number ≡ 0 → countsOf (x .count) (x .owners) (x .lost) ≡ countNumbers o
+  answer-counts : Refuses Numbered o → faultOf o .number ≡ 0 → countsOf (x .count) (x .owners) (x .lost) (x .reused) ≡ countNumbers o
   unfolding countNumbers
   answer-counts late z = rw q (go o late z)
     where
-      go : (o : Outcome Fault Built) → Refuses Numbered o → faultOf o .number ≡ 0 → countsOf (outcomeAnswer o .count) (outcomeAnswer o .owners) (outcomeAnswer o .lost) ≡ countNumbers o
+      go : (o : Outcome Fault Built) → Refuses Numbered o → faultOf o .number ≡ 0
+          → countsOf (outcomeAnswer o .count) (outcomeAnswer o .owners) (outcomeAnswer o .lost) (outcomeAnswer o .reused) ≡ countNumbers o
       go (ok b) l e = refl
       go (refused f) l e = absurd (omega (arith, l .least))
 
@@ -56,6 +59,15 @@ module _ (o : Outcome Fault Built) (x : CellsAnswer) (q : x ≡ outcomeAnswer o)
     where
       go : (o : Outcome Fault Built) → Gives (λ (b : Built). length (b .verts) ≤ m) o → outcomeAnswer o .count ≤ m
       go (ok b) h = h
+      go (refused f) h = omega arith
+
+  -- and so few steps that theirs do
+  answer-reused : (m : ℕ) → m < 4294967296 → Gives (λ (b : Built). length (b .steps) ≤ m) o → ReusedFit (x .reused)
+  answer-reused m l g = rw q (go o g)
+    where
+      go : (o : Outcome Fault Built) → Gives (λ (b : Built). length (b .steps) ≤ m) o → ReusedFit (outcomeAnswer o .reused)
+      go (ok b) h =
+          (omega (arith, reused-le extension (b .steps)), omega (arith, reused-le firstCrossing (b .steps)), omega (arith, reused-le secondCrossing (b .steps)))
       go (refused f) h = omega arith
 
 -- ---- the whole: `asked` is what the call's own arguments gave, and 0 only where rule 3 holds
@@ -78,10 +90,16 @@ module _ {m : Mesh} {asked : ℕ} {old new : Slices} {r : ℕ} (a : BuildAdmissi
         (gives-map _ _ (build m (g .bounds)) (theorems.built (mesh-of a z) bounded) (λ y o. o .1 .vertices)) in
         omega (arith, few, k .few-triangles, k .hull-of-sites, k .few-sites)
 
+    pub boxed-reused : ReusedFit (x .reused)
+    boxed-reused =
+        let k = mesh-of a z .counts in
+        answer-reused (build m (g .bounds)) x q (6 * (length (m .triangles) / 3) + 5 * length (m .hull)) (omega (arith, k .few-triangles, k .hull-of-sites, k .few-sites))
+        (gives-map _ _ (build m (g .bounds)) (theorems.built (mesh-of a z) bounded) (λ y o. o .1 .steps))
+
     -- `own` are the rules that gave `asked`
     pub boxed-built : (own : List (Rule ℕ)) → NoneZero own → Finds own 0 asked → {v : List Float} {ix off w₂ c₂ : List ℕ}
         → BuiltInto (build m (g .bounds)) (new .vertices) (new .indexes) (new .offsets) v ix off
-        → EndedBuild (x .fault .number) (countsOf (x .count) (x .owners) (x .lost)) (new .work) (new .counts) w₂ c₂
+        → EndedBuild (x .fault .number) (countsOf (x .count) (x .owners) (x .lost) (x .reused)) (new .work) (new .counts) w₂ c₂
         → BuildAnswers m own (build m (g .bounds)) old (slices w₂ v ix off c₂) (x .fault .number)
     boxed-built own t found l f =
         let o = build m (g .bounds) in
@@ -105,8 +123,11 @@ module _ {m : Mesh} {asked : ℕ} {old new : Slices} {r : ℕ} (a : BuildAdmissi
       pub count-fits : x .count < 4294967296
       count-fits = boxed-count a g fits fit z x q
 
+      pub reused-fit : ReusedFit (x .reused)
+      reused-fit = boxed-reused a g fits fit z x q
+
       pub clipped-built : {v : List Float} {ix off w₂ c₂ : List ℕ}
           → BuiltInto (build m (g .bounds)) (new .vertices) (new .indexes) (new .offsets) v ix off
-          → EndedBuild (x .fault .number) (countsOf (x .count) (x .owners) (x .lost)) (new .work) (new .counts) w₂ c₂
+          → EndedBuild (x .fault .number) (countsOf (x .count) (x .owners) (x .lost) (x .reused)) (new .work) (new .counts) w₂ c₂
           → ClippedBuild m g old (slices w₂ v ix off c₂) (x .fault .number)
       clipped-built l f = boxed-built a g fits fit z x q (boxRules (g .sound)) (box-answers (g .sound)) (ask .found) l f

@@ -21,7 +21,7 @@ use Rattle.definition.specs.Fault.{Outcome, ok}
 use Rattle.definition.specs.Build.{finite, Built}
 use Rattle.definition.specs.Cell.{Entry, vertexAt}
 use Rattle.definition.specs.laws.VerticesFinite.{Each, FinitePoint}
-use Rattle.layout.specs.Outputs.{padded, vertexNumbers, indexNumbers, offsetNumbers, countNumbers}
+use Rattle.layout.specs.Outputs.{padded, vertexNumbers, indexNumbers, offsetNumbers, countsMade, countNumbers}
 use Rattle.definition.specs.Cell.{unmarked}
 use Rattle.build_answers.specs.Promise.{BuildAnswer}
 use Rattle.check_mesh.specs.AtExit.{atExit}
@@ -47,7 +47,7 @@ module _ {N : ℕ → Type 0} {table : List ℕ} {o : Outcome Fault Built} {old 
     unfolding atExit offsetNumbers
     left-offsets = rw is at (a .offsets)
 
-    pub left-counts : new .counts ≡ padded (length (old .counts)) EMPTY (length (b .verts) ∷ b .owners ++ b .lost ∷ [])
+    pub left-counts : new .counts ≡ padded (length (old .counts)) EMPTY (countsMade b)
     unfolding atExit countNumbers
     left-counts = rw is at (a .counts)
 
@@ -93,19 +93,19 @@ module _ (marked : List (List Entry)) (n : ℕ) (many : length marked ≡ n) (ro
         let y = read-part {part = partAfter (take (suc n) offs) idx s r} {r = r} (record { number = x .number; entries = refl }) in
         (y .0, rw (x .from, x .many) (rw (eq-eqb r 0 (y .0)) (rw (eq-eqb r 0 (y .0)) at (y .1))))
 
--- ---- the counts: the number of vertices, four owners, the lost corners, and what comes after them
-module _ (v : ℕ) (os : List ℕ) (lost : ℕ) (tail : List ℕ) (four : length os ≡ 4) where
-  behind : (c : ℕ) → c < 4 → getD ((os ++ lost ∷ []) ++ tail) c 0 ≡ getD os c 0
+-- ---- the counts: the number of vertices, four owners, the lost corners, the points taken again, and what comes after them
+module _ (v : ℕ) (os : List ℕ) (lost : ℕ) (reused tail : List ℕ) (four : length os ≡ 4) where
+  behind : (c : ℕ) → c < 4 → getD ((os ++ lost ∷ reused) ++ tail) c 0 ≡ getD os c 0
   behind c l =
-      List·getD-append (os ++ lost ∷ []) tail 0 c (omega (arith, length-append os (lost ∷ []))) ∙ List·getD-append os (lost ∷ []) 0 c (omega arith)
+      List·getD-append (os ++ lost ∷ reused) tail 0 c (omega (arith, length-append os (lost ∷ reused))) ∙ List·getD-append os (lost ∷ reused) 0 c (omega arith)
 
-  pub count-owner : (c : ℕ) → c < 4 → getD ((v ∷ os ++ lost ∷ []) ++ tail) (suc c) 0 ≡ getD os c 0
+  pub count-owner : (c : ℕ) → c < 4 → getD ((v ∷ os ++ lost ∷ reused) ++ tail) (suc c) 0 ≡ getD os c 0
   count-owner c l = behind c l
 
   -- the owner before, or what the first path starts from
-  pub count-before : (first c : ℕ) → c < 4 → getD (first ∷ drop 1 ((v ∷ os ++ lost ∷ []) ++ tail)) c 0 ≡ getD (first ∷ os) c 0
+  pub count-before : (first c : ℕ) → c < 4 → getD (first ∷ drop 1 ((v ∷ os ++ lost ∷ reused) ++ tail)) c 0 ≡ getD (first ∷ os) c 0
   count-before first zero l = refl
   count-before first (suc c) l = behind c (omega arith)
 
-  pub count-lost : getD ((v ∷ os ++ lost ∷ []) ++ tail) 5 0 ≡ lost
-  count-lost = rw (append-assoc os (lost ∷ []) tail) (subst (λ (n : ℕ). getD (os ++ lost ∷ tail) n 0 ≡ lost) four (getD-append-seam os lost tail 0))
+  pub count-lost : getD ((v ∷ os ++ lost ∷ reused) ++ tail) 5 0 ≡ lost
+  count-lost = rw (append-assoc os (lost ∷ reused) tail) (subst (λ (n : ℕ). getD (os ++ lost ∷ (reused ++ tail)) n 0 ≡ lost) four (getD-append-seam os lost (reused ++ tail) 0))

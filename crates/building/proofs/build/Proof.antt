@@ -2,8 +2,8 @@
 use mathlib.Core.Path.{sym, _∙_}
 use native.Mathlib.Omega.{arith}
 use lib.ListN.{length-take}
-use Rattle.build_answers.specs.laws.BuildAnswer.{table-fits, six-of}
-use Rattle.build_answers.specs.laws.ClippedBuild.{clipped-early, clipped-asks, count-fits, clipped-built}
+use Rattle.build_answers.specs.laws.BuildAnswer.{table-fits, nine-of}
+use Rattle.build_answers.specs.laws.ClippedBuild.{clipped-early, clipped-asks, count-fits, reused-fit, clipped-built}
 use borrow.Author.Needs.{needs}
 use Rattle.building.proofs.build.Tie as tie
 use Rattle.building.proofs.build.Statement.{statement}
@@ -52,7 +52,8 @@ finish-clipped-requires c κs =
     let e = Accepts m in
     let a = Admit (e .before) in (
       count-fits (a .admit-build .ensures) _ (Asked a .ask-box .ensures) (Begin a .pre) (e .if1 .left) _ (m .build-cells .ensures .0),
-      six-of (a .admit-build .ensures) (e .if1 .left),
+      reused-fit (a .admit-build .ensures) _ (Asked a .ask-box .ensures) (Begin a .pre) (e .if1 .left) _ (m .build-cells .ensures .0),
+      nine-of (a .admit-build .ensures) (e .if1 .left),
     )
 
 same-length-6 : tie.Need-same-length-6

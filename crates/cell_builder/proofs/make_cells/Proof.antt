@@ -48,6 +48,12 @@ same-length-5 c =
     let o = i .before .before .before .before .before .before .before in
     c .before .indexes3 .given ∙ i .indexes2 .given ∙ o .before .before .indexes .given
 
+same-length-6 : tie.Need-same-length-6
+same-length-6 c =
+    let i = c .before .before .before .before .before .before .before .before .before .before .before .before in
+    let o = i .before .before .before .before .before .before .before in
+    o .offsets .given
+
 returns-2 : tie.Need-returns-2
 returns-2 c =
     let k = c .before .before .before .before in
@@ -63,4 +69,4 @@ pub make-cells-spec : {M : Type 1} → statement M
 make-cells-spec =
     tie.close
     (tie.spec (λ c κs. search needs) lay-out-requires extend-requires (λ c. search needs) (λ c. search needs)
-    (λ c. search needs) returns clip-cells-requires (λ c. search needs) same-length-5 (λ c. search needs) returns-2)
+    (λ c. search needs) returns clip-cells-requires (λ c. search needs) same-length-5 same-length-6 returns-2)

@@ -19,6 +19,7 @@ use Rattle.layout.specs.Regions.{joined}
 use Rattle.layout.specs.laws.Regions.{regions-rising}
 use Rattle.layout.specs.laws.Marks.{entries-joined}
 use Rattle.definition.specs.declared.Fault.{Fault}
+use Rattle.definition.specs.declared.Reused.{Reused}
 use Rattle.definition.specs.Fault.{Outcome, ok, refused, andThen, badCenter}
 use Rattle.definition.specs.Build.{Built, centersFrom, ownersFrom, Extensions, extensions, extendFrom, CellState, clipAll, lostFrom, build}
 use Rattle.definition.specs.laws.Built.{owner-of, lost-entries}
@@ -37,9 +38,9 @@ use Rattle.cell_builder.specs.AdmittedBuild.{AdmittedBuild}
 use Rattle.cell_builder.specs.Start.{extendedOf, Makeable, Makes, AnsweredBuild, BuiltCells}
 use Rattle.cell_tries.specs.laws.OneTry.{count-is, last-start}
 
-answer-same : {f g : Fault} {c d : ℕ} {o w : List ℕ} {l k : ℕ} → f ≡ g → c ≡ d → o ≡ w → l ≡ k
-    → _≡_ {A = CellsAnswer} (record { fault = f; count = c; owners = o; lost = l }) (record { fault = g; count = d; owners = w; lost = k })
-answer-same p q r s = rw (p, q, r, s)
+answer-same : {f g : Fault} {c d : ℕ} {o w : List ℕ} {l k : ℕ} {u x : Reused} → f ≡ g → c ≡ d → o ≡ w → l ≡ k → u ≡ x
+    → _≡_ {A = CellsAnswer} (record { fault = f; count = c; owners = o; lost = l; reused = u }) (record { fault = g; count = d; owners = w; lost = k; reused = x })
+answer-same p q r s t = rw (p, q, r, s, t)
 
 -- cells that were made can be moved together
 module _ (m : Mesh) (table : List ℕ) (b : BoundingBox) (owners : List ℕ) (p : Progress) (v₂ : List Float) (ix₂ off₂ : List ℕ) where
@@ -200,7 +201,7 @@ module _ {sites : List Float} {tri he hull table : List ℕ} {b : BoundingBox} {
           ap (λ (os : List ℕ). lostLeft T os (joined (map unmarked (s .cells)))) (sym (a .owners))
           ∙ ap (lostLeft T (s .owners)) (entries-joined (s .cells)) ∙ sym (lost-entries (m .mesh) (m .box) _ _ _ s (a .held)) in
           rw (goes-on t v v₁ c h ∙ m₂ .2) (
-            z .answer (map unmarked (s .cells)) wide (a .regions) ∙ answer-same (a .fine) (count-is a) qo lost,
+            z .answer (map unmarked (s .cells)) wide (a .regions) ∙ answer-same (a .fine) (count-is a) qo lost (sym (a .reused)),
             record {
               vertices = rw (a .verts, ← (w .long-v ∙ long)) (poured-cleared (points (p .count) (w .made-v)) (p .count) (w .made-v) (w .made-v) v₃
                   (length-points (w .made-v) 0 (p .count)) (a .holds .room) (sym (pour-points (w .made-v) (p .count) (a .holds .room))) (z .vertices));

@@ -24,6 +24,7 @@ use Rattle.layout.specs.laws.Rooms.{start-end}
 use Rattle.definition.specs.declared.Fault.{Fault}
 use Rattle.definition.specs.Fault.{Outcome, ok, refused, fault, notFinite}
 use Rattle.definition.specs.Build.{Extensions, extensions, extendFrom, CellState, cellState, clipAll}
+use Rattle.definition.specs.Reused.{reused}
 use Rattle.definition.specs.laws.Gives.{gives-ok}
 use Rattle.definition.specs.laws.Sides.{corners-sided, corners-kept}
 use Rattle.definition.specs.laws.Start.{Extended, extend-from}
@@ -52,13 +53,14 @@ module _ (h : ℕ) (f : Frame) (found : List ℕ) (v₁ : List Float) (ix ix₁ 
   room xs long = rw (← body, length-take-le (f .limit) ix₁ within) (omega arith)
 
   passed-all : (o : Outcome Fault Extensions) → ExtendedBy o h (f .centers) (f .limit) (f .limit - h) v₁ ix₁ r v₂ ix₂ → h ≤ r .place
-      → BegunBy h f found o ix (record { fault = fault 0 0 0 0; count = r .count; owners = found }) v₂ ix₂
+      → BegunBy h f found o ix (record { fault = fault 0 0 0 0; count = r .count; owners = found; reused = reused (r .reused) 0 0 }) v₂ ix₂
   passed-all (ok x) e l =
       let w : take (f .limit) ix₂ ≡ sets (take (f .limit) ix) (f .limit - h) (x .at) = rw (← body) (e .2 .numbers) in
       record {
         fine = refl;
         verts = sym (poured-points (e .2 .verts));
         owners = refl;
+        reused = sym (e .2 .reused);
         holds = e .2 .holds;
         numbers = λ i k. sym (getD-take (f .limit) ix₂ (f .limit - h + i) 0 (omega arith))
             ∙ rw w (sets-in (x .at) (take (f .limit) ix) (f .limit - h) i 0 (room (x .at) (e .1)) (omega (arith, e .1)));
@@ -67,7 +69,7 @@ module _ (h : ℕ) (f : Frame) (found : List ℕ) (v₁ : List Float) (ix ix₁ 
   passed-all (refused g) e l = absurd (omega (arith, e .1))
 
   stopped-at : (o : Outcome Fault Extensions) → ExtendedBy o h (f .centers) (f .limit) (f .limit - h) v₁ ix₁ r v₂ ix₂ → r .place < h
-      → BegunBy h f found o ix (record { fault = notFinite (r .place); count = r .count; owners = found }) v₂ ix₂
+      → BegunBy h f found o ix (record { fault = notFinite (r .place); count = r .count; owners = found; reused = reused (r .reused) 0 0 }) v₂ ix₂
   stopped-at (ok x) e l = absurd (omega (arith, e .0))
   stopped-at (refused g) e l = (sym (e .0), rw (e .0) (omega arith))
 
@@ -93,12 +95,12 @@ module _ {sites : List Float} {tri hull table : List ℕ} {f : Frame} {v : List 
     from-corners = rw (poured-points (l .verts), cq) at e
 
     pub extended-all : length hull ≤ r .place → BegunBy (length hull) f found (extendedOf sites tri hull table (f .bounds) (f .centers) v) ix
-        (record { fault = fault 0 0 0 0; count = r .count; owners = found }) v₂ ix₂
+        (record { fault = fault 0 0 0 0; count = r .count; owners = found; reused = reused (r .reused) 0 0 }) v₂ ix₂
     extended-all = passed-all (length hull) f found v₁ ix ix₁ r v₂ ix₂ (g .after-numbers) (omega (arith, g .room-ix)) (l .body)
         (extendedOf sites tri hull table (f .bounds) (f .centers) v) from-corners
 
     pub extended-not : r .place < length hull → BegunBy (length hull) f found (extendedOf sites tri hull table (f .bounds) (f .centers) v) ix
-        (record { fault = notFinite (r .place); count = r .count; owners = found }) v₂ ix₂
+        (record { fault = notFinite (r .place); count = r .count; owners = found; reused = reused (r .reused) 0 0 }) v₂ ix₂
     extended-not = stopped-at (length hull) f found v₁ ix ix₁ r v₂ ix₂ (g .after-numbers) (omega (arith, g .room-ix)) (l .body)
         (extendedOf sites tri hull table (f .bounds) (f .centers) v) from-corners
 
@@ -192,6 +194,7 @@ module _ {sites : List Float} {tri he hull table : List ℕ} {b : BoundingBox} {
           four = m .four;
           owner-sites = m .owner-sites;
           counted = omega (arith, e .counted);
+          taken = omega (arith, e .taken);
           beyond = e .beyond;
           low = omega (arith, e .grown .longer, four-more);
           high = omega (arith, e .grown .longer, four-more, e .few);
@@ -219,6 +222,7 @@ module _ {sites : List Float} {tri he hull table : List ℕ} {b : BoundingBox} {
       fine = g .fine;
       verts = g .verts;
       owners = g .owners;
+      reused = g .reused;
       holds = g .holds;
       regions = blank-still x g;
       numbers = g .numbers;

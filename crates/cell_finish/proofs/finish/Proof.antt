@@ -11,10 +11,10 @@ use Rattle.cell_finish.proofs.finish.Statement.{statement}
 use Rattle.cell_finish.proofs.finish.Tie as tie
 
 -- the vertices cleared, the cells moved together, and the start
-abbrev Cleared : tie.After-left → tie.After-clear-floats-from
-Cleared c = c .before .before .before .before
+abbrev Cleared : tie.After-reused → tie.After-clear-floats-from
+Cleared c = c .before .before .before .before .before
 
-abbrev Indexed : tie.After-left → tie.After-indexes
+abbrev Indexed : tie.After-reused → tie.After-indexes
 Indexed c = Cleared c .before .before .before .before .before .before
 
 abbrev Entry : tie.After-gather → tie.Start

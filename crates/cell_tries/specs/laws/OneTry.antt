@@ -2,7 +2,7 @@
 use mathlib.Core.Path.{_≡_, refl, sym, ap, _∙_, subst}
 use mathlib.Core.List.{List, [], _∷_, _++_, map}
 use mathlib.Core.Logic.{_≢_}
-use Prim.Native.Nat.{ℕ, zero, suc, _+_, _-_, _*_, _/_, _≤_, _<_}
+use Prim.Native.Nat.{ℕ, zero, suc, _+_, _-_, _*_, _/_, _^_, _≤_, _<_}
 use native.Mathlib.Omega.{arith}
 use lib.Ieee.{Float}
 use lib.ListN.{length, getD, set, take, drop, length-map}
@@ -12,6 +12,7 @@ use Rattle.laws.specs.Count.{occ}
 use Rattle.laws.specs.laws.Count.{sum-mono}
 use Rattle.numbers.specs.Numbers.{EMPTY}
 use Rattle.utils.specs.Flat.{points}
+use Rattle.utils.specs.declared.Point.{Point}
 use Rattle.vertices.specs.laws.Points.{length-points}
 use Rattle.mesh.specs.laws.Facts.{entry-site}
 use Rattle.layout.specs.Regions.{Regions}
@@ -24,8 +25,10 @@ use Rattle.definition.specs.Cell as Def
 use Rattle.definition.specs.Cell.{Entry, RingPart}
 use Rattle.definition.specs.Build.{CellState, cellState, clipInto}
 use Rattle.definition.specs.laws.Gives.{Gives}
-use Rattle.definition.specs.Measures.{newPoints}
 use Rattle.definition.specs.Measures.{ValidEntries}
+use Rattle.definition.specs.declared.Reused.{Reused}
+use Rattle.definition.specs.Reused.{reused, reusedIn, together, Addable}
+use Rattle.definition.specs.laws.Reused.{reused-join, together-none, counts-small}
 use Rattle.definition.specs.laws.CellsSoFar.{CellsSoFar, clip-into}
 use Rattle.definition.specs.Sides.{SidedCorners}
 use Rattle.definition.specs.laws.AllCells.{all-filled, spare}
@@ -36,6 +39,10 @@ use Rattle.clipping.specs.RingWalk.{Steps, ringOf, emptyAt}
 use Rattle.definition.specs.Cell.{unmarked}
 use Rattle.layout.specs.laws.Marks.{cell-set}
 use Rattle.cell_tries.specs.CellsInSlices.{Ground, Grounded, Amid, Does}
+use Rattle.clipping.specs.laws.RingWalk.{steps-small}
+use Rattle.clipping.specs.declared.RingStepped.{RingStepped}
+use Rattle.clip_edges.specs.declared.Env.{Env}
+use Rattle.clip_corners.specs.declared.CellSoFar.{CellSoFar}
 use Rattle.cell_tries.specs.Tries.{envOf, Ringed, Tried}
 use Rattle.cell_tries.specs.declared.Frame.{Frame}
 use Rattle.cell_finish.specs.declared.Progress.{Progress}
@@ -46,6 +53,21 @@ entries-below : (P : ℕ → Type 0) (nc n : ℕ) (es : List Entry) → nc + 4 �
 entries-below P nc n [] h a i l = absurd (omega arith)
 entries-below P nc n (e ∷ es) h a zero l = placed-below P nc n (e .mark) (e .at) h (a .0)
 entries-below P nc n (e ∷ es) h a (suc i) l = entries-below P nc n es h (a .1) i (omega arith)
+
+-- a ring that took no point again
+pub none-reused : (e : Fault) (n : ℕ) (os : List ℕ) (u : Reused) → _≡_ {A = Progress} (record { fault = e; count = n; owners = os; reused = u })
+    (record { fault = e; count = n; owners = os; reused = together u (reused 0 0 0) })
+none-reused e n os u = ap progress (sym (together-none u))
+  where
+    progress : Reused → Progress
+    progress w = record { fault = e; count = n; owners = os; reused = w }
+
+-- and the points that one took again can be added to those before it
+pub ring-small : (env : Env) (edges count : ℕ) (ring : List ℕ) (vs : List Point) (os : List ℕ) (cell : CellSoFar) (v : List Float) (ix : List ℕ) (r : RingStepped)
+    (v₁ : List Float) (ix₁ : List ℕ) → Steps env edges (Def.clipCell (env .bounds) (env .centers) (env .site) ring vs os) count cell v ix r v₁ ix₁
+    → r .fault .number ≡ 0 → edges ≤ 2 ^ 32 → Addable (r .reused)
+ring-small env edges count ring vs os cell v ix r v₁ ix₁ h z l =
+    steps-small env edges count cell v ix r v₁ ix₁ (Def.clipCell (env .bounds) (env .centers) (env .site) ring vs os) h z l
 
 module _ {tri he : List ℕ} {f : Frame} {off : List ℕ} {g : Ground} {numbers indexes : ℕ} (on : Grounded tri he f off g numbers indexes) where
   pub threes : length tri ≡ 3 * (length tri / 3)
@@ -87,6 +109,12 @@ module _ {tri he : List ℕ} {f : Frame} {off : List ℕ} {g : Ground} {s : Cell
       let on = a .on in
       omega (arith, count-is, threes on, on .high, spare (on .mesh) (omega (arith, on .few-sites)) (f .bounds) (length tri / 3) (g .x .verts) (g .found) _ (on .low) s site (a .held) l blank)
 
+  -- the points taken again are no more than the steps
+  few-reused : Addable (p .reused)
+  few-reused =
+      let on = a .on in
+      rw (← a .reused) (counts-small {ts = s .steps} (record { is = refl; few = a .held .steps }) (omega (arith, on .taken, on .few-entries, on .few-on-hull, all-filled tri (g .hull) (s .cells))))
+
   pub corners-in : length tri / 3 + 4 ≤ p .count
   corners-in = omega (arith, count-is, a .held .grown .longer, a .on .low)
 
@@ -121,6 +149,7 @@ module _ {tri he : List ℕ} {f : Frame} {off : List ℕ} {g : Ground} {s : Cell
         record {
           place = omega (arith, on .places);
           some = omega (arith, st .ended);
+          few = few-reused;
           room = rw size (record {
             holds = rw tail-kept (a .holds);
             list = omega (arith, same-long, on .room-ix);
@@ -142,7 +171,7 @@ module _ {tri he : List ℕ} {f : Frame} {off : List ℕ} {g : Ground} {s : Cell
     after c = cellState (c .tip .verts) (c .tip .owners) (set (s .cells) site (c .new)) (s .steps ++ c .steps)
 
     abbrev Good : CellState → Type 0
-    Good t = CellsSoFar (f .bounds) (length tri / 3) (g .sites) (shareOf tri (g .hull)) (g .x .verts) (g .found) (newPoints (g .x .steps)) t
+    Good t = CellsSoFar (f .bounds) (length tri / 3) (g .sites) (shareOf tri (g .hull)) (g .x .verts) (g .found) (g .x .steps) t
 
     module _ (ix₂ : List ℕ) (long-ix : length ix₂ ≡ length ix₁) (c : RingPart) (held : Good (after c))
         (slice : take (f .limit) ix₂ ≡ sets (take (f .limit) ix₁) (getD off site 0) (unmarked (c .new))) where
@@ -195,7 +224,7 @@ module _ {tri he : List ℕ} {f : Frame} {off : List ℕ} {g : Ground} {s : Cell
     tried {r} {v₂} {ix₂} long-v long-ix t =
         let on = a .on in
         go (Def.clipCell (f .bounds) (length tri / 3) site ring (s .verts) (s .owners))
-        (clip-into (f .bounds) (length tri / 3) (g .sites) (shareOf tri (g .hull)) (g .x .verts) (g .found) (newPoints (g .x .steps)) (on .low) site
+        (clip-into (f .bounds) (length tri / 3) (g .sites) (shareOf tri (g .hull)) (g .x .verts) (g .found) (g .x .steps) (on .low) site
         (omega (arith, on .few-sites)) l ring paid s (a .held) blank)
         (subst (λ (o : Outcome Fault RingPart). Steps (envOf f site) (end - f .stage) o (p .count) (emptyAt (p .owners) (getD off site 0)) v ix₁ (t .stepped) v₂ ix₂) same (t .steps))
       where
@@ -207,14 +236,15 @@ module _ {tri he : List ℕ} {f : Frame} {off : List ℕ} {g : Ground} {s : Cell
             (andThen o (λ c. ok (after c))) → Steps (envOf f site) (end - f .stage) o (p .count) (emptyAt (p .owners) (getD off site 0)) v ix₁
             (t .stepped) v₂ ix₂ → Does tri he f off g (andThen o (λ c. ok (after c))) r v₂ ix₂
         go (ok c) h q =
-            rw (t .is) (record {
+            rw (t .is (ap (λ (x : Fault). x .number) (q .0))) (record {
               on = rw (long-v, long-ix, same-long) (a .on);
               held = h .0;
               fine = q .0;
               verts = ap (λ (x : Def.Tip). x .verts) (q .1);
               owners = ap (λ (x : Def.Tip). x .owners) (q .1);
+              reused = reused-join (s .steps) (c .steps) ∙ ap (λ (x : Reused). together x (reusedIn (c .steps))) (a .reused) ∙ ap (together (p .reused)) (sym (q .4 .is));
               holds = q .3 .holds;
               regions = regions-after ix₂ long-ix c (h .0) (q .3 .puts .slice);
               numbers = numbers-after ix₂ long-ix c (h .0) (q .3 .puts .slice);
             })
-        go (refused e) h q = (ap (λ (x : Progress). x .fault) (t .is) ∙ q .0, q .1)
+        go (refused e) h q = (t .faulty ∙ q .0, q .1)

@@ -19,18 +19,19 @@ returns c =
 
 listing-requires : tie.Need-listing-requires
 listing-requires c κs =
-    let at-if1 = c .before .before .before .before .before .before .before in
+    let at-if1 = c .before .before .before .before .before .before .before .before .before .before in
     let at-start = at-if1 .before .before .before .before .before in
     let p = at-start .pre .0 (at-if1 .if1 .left) in (p .layout, omega (arith, box-fits (at-start .args .triangles) (at-start .args .counts .now) p))
 
 returns-2 : tie.Need-returns-2
 returns-2 c =
-    let at-if1 = c .before .before .before .before .before .before .before .before .before .before in
-    let s = c .before .before .before .before .before .before .before .before .before .before .before .before .before .before .before in
+    let at-if1 = c .before .before .before .before .before .before .before .before .before .before .before .before .before in
+    let s = at-if1 .before .before .before .before .before in
     let z = at-if1 .if1 .left in text-held _ (s .args .number) z (box-fits (s .args .triangles) (s .args .counts .now) (s .pre .0 z)) (c .before .before .listing .ensures)
 
 pub show-in-box-spec : {M : Type 1} → statement M
 show-in-box-spec =
     tie.close
     (tie.spec refusal-requires (λ c. search needs) returns (λ c. search needs) (λ c. search needs) (λ c. search needs)
-    (λ c. search needs) (λ c. search needs) (λ c. search needs) listing-requires (λ c. search needs) returns-2)
+    (λ c. search needs) (λ c. search needs) (λ c. search needs) (λ c. search needs) (λ c. search needs) (λ c. search needs) listing-requires
+    (λ c. search needs) returns-2)

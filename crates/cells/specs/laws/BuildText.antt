@@ -4,7 +4,7 @@ use mathlib.Core.Bool.{true}
 use mathlib.Core.List.{List, [], _∷_, _++_, map}
 use Prim.Native.Nat.{ℕ, _+_, _-_, _*_, _/_, _≤_}
 use native.Mathlib.Omega.{arith}
-use lib.ListN.{length, getD, replicate, length-map}
+use lib.ListN.{length, replicate, length-map}
 use borrow.Author.Tests.{le-leb, lt-ltb}
 use Rattle.printing.specs.Printed.{Shows, InBox, shown}
 use Rattle.numbers.specs.Numbers.{EMPTY}
@@ -19,8 +19,9 @@ use Rattle.definition.specs.declared.Fault.{Fault}
 use Rattle.definition.specs.Fault.{Outcome, ok}
 use Rattle.definition.specs.laws.Gives.{Gives, gives-ok}
 use Rattle.definition.specs.Build.{Built, build}
-use Rattle.layout.specs.Outputs.{indexNumbers, offsetNumbers, countNumbers}
-use Rattle.definition.specs.Cell.{unmarked}
+use Rattle.layout.specs.Outputs.{indexNumbers, offsetNumbers, countsMade, countNumbers}
+use Rattle.definition.specs.Cell.{unmarked, StepKind, extension, firstCrossing, secondCrossing}
+use Rattle.definition.specs.Reused.{reusedOf}
 use Rattle.build_answers.specs.Promise.{Builds, BuildAnswer, BuildAnswers, ClippedBuild}
 use Rattle.check_mesh.specs.AtExit.{atExit}
 use Rattle.admission.specs.Slices.{Slices, roomFor, roomOf}
@@ -34,23 +35,15 @@ use Rattle.cells.specs.laws.CellsInIndexes.{lines-are, laid}
 use Rattle.printing.specs.laws.WholeBuild.{Whole, whole-in-box}
 use Rattle.printing.specs.laws.BuildText.{ProgramSlices, shows}
 
--- the counts: a number, the four owners, another number
-owners-at : (v l : ℕ) (os tail : List ℕ) → length os ≡ 4 → _≡_ {A = List ℕ}
-    (getD ((v ∷ os ++ l ∷ []) ++ tail) 1 0 ∷ getD ((v ∷ os ++ l ∷ []) ++ tail) 2 0 ∷ getD ((v ∷ os ++ l ∷ []) ++ tail) 3 0 ∷ getD ((v ∷ os ++ l ∷ []) ++ tail) 4 0 ∷ []) os
-owners-at v l [] tail h = absurd (omega arith)
-owners-at v l (a ∷ []) tail h = absurd (omega arith)
-owners-at v l (a ∷ b ∷ []) tail h = absurd (omega arith)
-owners-at v l (a ∷ b ∷ c ∷ []) tail h = absurd (omega arith)
-owners-at v l (a ∷ b ∷ c ∷ d ∷ []) tail h = refl
-owners-at v l (a ∷ b ∷ c ∷ d ∷ e ∷ os) tail h = absurd (omega arith)
-
-last-at : (v l : ℕ) (os tail : List ℕ) → length os ≡ 4 → getD ((v ∷ os ++ l ∷ []) ++ tail) 5 0 ≡ l
-last-at v l [] tail h = absurd (omega arith)
-last-at v l (a ∷ []) tail h = absurd (omega arith)
-last-at v l (a ∷ b ∷ []) tail h = absurd (omega arith)
-last-at v l (a ∷ b ∷ c ∷ []) tail h = absurd (omega arith)
-last-at v l (a ∷ b ∷ c ∷ d ∷ []) tail h = refl
-last-at v l (a ∷ b ∷ c ∷ d ∷ e ∷ os) tail h = absurd (omega arith)
+-- the counts: the vertices, the four owners, the lost corners, the reused points of each kind
+listed : (n T : ℕ) (offs idx os tail : List ℕ) (v l x y z : ℕ) → length os ≡ 4
+    → boxLines n T offs idx ((v ∷ os ++ l ∷ x ∷ y ∷ z ∷ []) ++ tail) ≡ listing n T v offs idx os l x y z
+listed n T offs idx [] tail v l x y z h = absurd (omega arith)
+listed n T offs idx (a ∷ []) tail v l x y z h = absurd (omega arith)
+listed n T offs idx (a ∷ b ∷ []) tail v l x y z h = absurd (omega arith)
+listed n T offs idx (a ∷ b ∷ c ∷ []) tail v l x y z h = absurd (omega arith)
+listed n T offs idx (a ∷ b ∷ c ∷ d ∷ []) tail v l x y z h = refl
+listed n T offs idx (a ∷ b ∷ c ∷ d ∷ e ∷ os) tail v l x y z h = absurd (omega arith)
 
 -- ---- the slices after the number 0
 module _ {Rules : ℕ → Type 0} {table : List ℕ} {o : Outcome Fault Built} {old new : Slices} {r n : ℕ} (a : BuildAnswer Rules table o old new r)
@@ -72,7 +65,10 @@ module _ {Rules : ℕ → Type 0} {table : List ℕ} {o : Outcome Fault Built} {
   unfolding atExit indexNumbers
   indexes-are = rw (z, e) at (a .indexes)
 
-  counts-are : new .counts ≡ (length (b .verts) ∷ b .owners ++ b .lost ∷ []) ++ replicate (length (old .counts) - length (length (b .verts) ∷ b .owners ++ b .lost ∷ [])) EMPTY
+  abbrev olds : StepKind → ℕ
+  olds k = reusedOf k (b .steps)
+
+  counts-are : new .counts ≡ countsMade b ++ replicate (length (old .counts) - length (countsMade b)) EMPTY
   unfolding atExit countNumbers
   counts-are = rw (z, e) at (a .counts)
 
@@ -90,8 +86,12 @@ module _ {Rules : ℕ → Type 0} {table : List ℕ} {o : Outcome Fault Built} {
   pub box-lines : (T : ℕ) → boxLines n T (new .offsets) (new .indexes) (new .counts) ≡ listingText n T b
   unfolding countsAndCells listing
   box-lines T =
-      let tail = replicate (length (old .counts) - length (length (b .verts) ∷ b .owners ++ b .lost ∷ [])) EMPTY in
-      rw (counts-are, owners-at (length (b .verts)) (b .lost) (b .owners) tail (w .owners), last-at (length (b .verts)) (b .lost) (b .owners) tail (w .owners), lines)
+      let tail = replicate (length (old .counts) - length (countsMade b)) EMPTY in
+      rw (
+        counts-are,
+        listed n T (new .offsets) (new .indexes) (b .owners) tail (length (b .verts)) (b .lost) (olds extension) (olds firstCrossing) (olds secondCrossing) (w .owners),
+        lines,
+      )
 
 -- ---- a build on lists within the form's limits, with slices of these lengths
 module _ (m : Mesh) (space : ℕ) (sized : SheetSized (length (m .sites)) (length (m .triangles)) (length (m .hull)) space) (old new : Slices) (long : ProgramSlices old) (r : ℕ) where

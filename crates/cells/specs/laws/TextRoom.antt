@@ -12,7 +12,7 @@ module _ (T : ℕ) (counts : List ℕ) {n : ℕ} {offs idx : List ℕ} {space : 
   box-fits = omega (
     arith,
     listing-short n T (getD counts 0 0) offs idx (p .layout)
-        (getD counts 1 0 ∷ getD counts 2 0 ∷ getD counts 3 0 ∷ getD counts 4 0 ∷ []) (getD counts 5 0) refl,
+        (getD counts 1 0 ∷ getD counts 2 0 ∷ getD counts 3 0 ∷ getD counts 4 0 ∷ []) (getD counts 5 0) (getD counts 6 0) (getD counts 7 0) (getD counts 8 0) refl,
     p .few,
     p .short,
     p .room,

@@ -14,11 +14,12 @@ use Rattle.bounding_box.specs.declared.BoundingBox.{BoundingBox}
 use Rattle.crossings.specs.Ray.{orderOf}
 use Rattle.line_crossings.specs.declared.Crossing.{Crossing}
 use Rattle.line_crossings.specs.declared.Crossing.the-variants.{None, One, Two}
-use Rattle.vertices.specs.Add.{addVertex}
+use Rattle.vertices.specs.Add.{Added, addVertex}
 use Rattle.vertices.specs.Store.{Leaves, PlacedAs}
 use Rattle.vertices.specs.declared.Placed.{Placed}
 use Rattle.vertices.specs.laws.Store.{poured-points, poured-then, added-kept}
-use Rattle.definition.specs.Cell.{firstIs, onEdge, missed, clipWith, clipEdge, edgeCrossing, vertexAt}
+use Rattle.definition.specs.Cell.{firstIs, onEdge, missed, clipWith, clipEdge, edgeCrossing, vertexAt, tookOne, tookTwo}
+use Rattle.definition.specs.Reused.{ifOld, reused, CountsReused}
 use Rattle.clip_edges.specs.EdgeClip.{ClipsEdge, VerticesGrown}
 use Rattle.clip_edges.specs.declared.Crossed.the-variants.{Once, Twice}
 
@@ -62,17 +63,42 @@ leaves-then :
     → Leaves nc limit ws v ix m v₂ ix₂
 leaves-then a b h k = record { verts = poured-then (a .verts) (b .verts) h k; body = b .body ∙ a .body; holds = b .holds }
 
+-- the points taken again, by what the store answered
+one-old : (b : Bool) → reused 0 (ifOld b 1) 0 ≡ reused (ifOld b 0 + 0) (ifOld b 1 + 0) (ifOld b 0 + 0)
+one-old true = refl
+one-old false = refl
+
+one-counted : (r : Added) (n : ℕ) → n ≡ ifOld (r .fresh) 1 → CountsReused 2 (tookOne r) (reused 0 n 0)
+one-counted r n e = record { is = rw e (one-old (r .fresh)); few = omega arith }
+
+two-old : (b c : Bool)
+    → reused 0 (ifOld b 1) (ifOld c 1) ≡ reused (ifOld b 0 + (ifOld c 0 + 0)) (ifOld b 1 + (ifOld c 0 + 0)) (ifOld b 0 + (ifOld c 1 + 0))
+two-old true true = refl
+two-old true false = refl
+two-old false true = refl
+two-old false false = refl
+
+two-counted : (r t : Added) (n k : ℕ) → n ≡ ifOld (r .fresh) 1 → k ≡ ifOld (t .fresh) 1 → CountsReused 2 (tookTwo r t) (reused 0 n k)
+two-counted r t n k e f = record { is = rw (e, f) (two-old (r .fresh) (t .fresh)); few = omega arith }
+
 module _ (nc limit count : ℕ) (x y : Float) (v : List Float) (ix : List ℕ) (r : Placed) (v₁ : List Float) (ix₁ : List ℕ) where
   pub clips-once :
       PlacedAs count (addVertex nc (points count v) (at x y)) r
       → Leaves nc limit (addVertex nc (points count v) (at x y) .verts) v ix (r .count) v₁ ix₁
       → 2 * (count + 2) ≤ length v
-      → ClipsEdge nc limit count (clipWith nc (points count v) (One x y)) v ix (Once (r .at) (r .count)) v₁ ix₁
+      → (n : ℕ)
+      → n ≡ ifOld (r .fresh) 1
+      → ClipsEdge nc limit count (clipWith nc (points count v) (One x y)) v ix (Once (r .at) (r .count) (reused 0 n 0)) v₁ ix₁
   unfolding clipWith
-  clips-once a l f =
+  clips-once a l f n e =
       let h = a .low in
-      let k = a .high in
-      (a .at, a .below, record { low = h; high = omega arith; kept = added-kept nc count (at x y) v v₁ (r .count) (l .verts) (omega arith) }, l)
+      let k = a .high in (
+        a .at,
+        a .below,
+        record { low = h; high = omega arith; kept = added-kept nc count (at x y) v v₁ (r .count) (l .verts) (omega arith) },
+        l,
+        one-counted (addVertex nc (points count v) (at x y)) n (e ∙ ap (λ (t : Bool). ifOld t 1) (a .fresh)),
+      )
 
   module _ (z w : Float) (s : Placed) (v₂ : List Float) (ix₂ : List ℕ) where
     pub clips-twice :
@@ -81,11 +107,14 @@ module _ (nc limit count : ℕ) (x y : Float) (v : List Float) (ix : List ℕ) (
         → PlacedAs (r .count) (addVertex nc (points (r .count) v₁) (at z w)) s
         → Leaves nc limit (addVertex nc (points (r .count) v₁) (at z w) .verts) v₁ ix₁ (s .count) v₂ ix₂
         → 2 * (count + 2) ≤ length v
-        → ClipsEdge nc limit count (clipWith nc (points count v) (Two x y z w)) v ix (Twice (r .at) (s .at) (s .count)) v₂ ix₂
+        → (n k : ℕ)
+        → n ≡ ifOld (r .fresh) 1
+        → k ≡ ifOld (s .fresh) 1
+        → ClipsEdge nc limit count (clipWith nc (points count v) (Two x y z w)) v ix (Twice (r .at) (s .at) (s .count) (reused 0 n k)) v₂ ix₂
     unfolding clipWith
-    clips-twice a l b m f =
+    clips-twice a l b m f n k en ek =
         let h = a .low in
-        let k = a .high in
+        let g = a .high in
         let i = b .low in
         let j = b .high in
         let o = a .below in
@@ -95,9 +124,12 @@ module _ (nc limit count : ℕ) (x y : Float) (v : List Float) (ix : List ℕ) (
           omega arith,
           b .below,
           grown-then 1 1 count (r .count) (s .count) v v₁ v₂
-              (record { low = h; high = k; kept = added-kept nc count (at x y) v v₁ (r .count) (l .verts) (omega arith) })
+              (record { low = h; high = g; kept = added-kept nc count (at x y) v v₁ (r .count) (l .verts) (omega arith) })
               (record { low = i; high = j; kept = added-kept nc (r .count) (at z w) v₁ v₂ (s .count) (m .verts) (l .holds .room) }),
           leaves-then l (rw e at m) (omega arith) (omega arith),
+          two-counted (addVertex nc (points count v) (at x y)) (addVertex nc (addVertex nc (points count v) (at x y) .verts) (at z w)) n k
+              (en ∙ ap (λ (t : Bool). ifOld t 1) (a .fresh))
+              (ek ∙ ap (λ (t : Bool). ifOld t 1) (b .fresh ∙ ap (λ (vs : List Point). addVertex nc vs (at z w) .fresh) e)),
         )
 
 -- the crossing that was asked for, as the match has it

@@ -94,7 +94,7 @@ module _ (env : Env) (t : Tip) (q : ℕ) (qIn : Bool) (v : List Float) (ix : Lis
       → Changes env (t .count) caseOf (t .cell) v ix d v₁ ix₁
       → d .refusal ≡ 0
       → Steps env 1 (stepTo (env .bounds) (env .centers) (env .site) (tipOf t v) q) (t .count) (t .cell) v ix
-      (record { fault = fault 0 0 0 0; tip = record { cell = d .cell; count = d .count; vertex = q; inside = qIn; opened = d .opened } }) v₁ ix₁
+      (record { fault = fault 0 0 0 0; tip = record { cell = d .cell; count = d .count; vertex = q; inside = qIn; opened = d .opened }; reused = d .reused }) v₁ ix₁
   unfolding andThen atEdge
   step-done e h z = rw (step-is e) (go caseOf h)
     where
@@ -102,12 +102,13 @@ module _ (env : Env) (t : Tip) (q : ℕ) (qIn : Bool) (v : List Float) (ix : Lis
           (o : Outcome ℕ Change)
           → Changes env (t .count) o (t .cell) v ix d v₁ ix₁
           → Steps env 1 (stepWith o) (t .count) (t .cell) v ix
-          (record { fault = fault 0 0 0 0; tip = record { cell = d .cell; count = d .count; vertex = q; inside = qIn; opened = d .opened } }) v₁ ix₁
+          (record { fault = fault 0 0 0 0; tip = record { cell = d .cell; count = d .count; vertex = q; inside = qIn; opened = d .opened }; reused = d .reused }) v₁ ix₁
       go (ok c) g = (
         refl,
         rw (poured-points (g .4 .verts), g .4 .puts .owners, g .4 .puts .last, g .1),
         g .3,
         g .4,
+        g .5,
       )
       go (refused k) g = let a = g .0 in let b = g .1 in absurd (omega arith)
 

@@ -19,7 +19,9 @@ use Rattle.vertices.specs.Store.{Holds, Leaves}
 use Rattle.vertices.specs.laws.Store.{poured-points, poured-none, kept-vertex}
 use Rattle.vertices.specs.laws.Points.{length-points}
 use Rattle.definition.specs.Fault.{Outcome, ok, refused}
-use Rattle.definition.specs.Cell.{Entry, Taken, Ins, lastOr, insertEdge, Change, change, EdgeClip, missed, once, twice, clipEdge, link}
+use Rattle.definition.specs.Cell.{Entry, Taken, Ins, lastOr, insertEdge, Change, change, EdgeClip, missed, once, twice, clipEdge, link, tookOne, tookTwo}
+use Rattle.definition.specs.declared.Reused.{Reused}
+use Rattle.definition.specs.Reused.{reused, CountsReused}
 use Rattle.definition.specs.Sides.{Sided, SidedCorners}
 use Rattle.definition.specs.laws.SidedEdge.{ClipSided, clip-sided}
 use Rattle.clip_corners.specs.CellEntries.{EntryRoom, EntriesPut, places}
@@ -77,7 +79,7 @@ pub changes :
     → VerticesGrown 2 count n v v₁
     → Alters (env .site) vs o n cell ix₁ r ix₂
     → Changes env count o cell v ix r v₁ ix₂
-changes env count r ix₂ (ok d) f l g a = rw (a .1, a .3) (a .0, a .2, a .4, g, did env l (a .5) f)
+changes env count r ix₂ (ok d) f l g a = rw (a .1, a .3) (a .0, a .2, a .4, g, did env l (a .5) f, a .6)
 changes env count r ix₂ (refused k) f l g a = a
 
 pub leaves-none : {nc limit count : ℕ} {v : List Float} {ix : List ℕ} → Holds nc count v (drop limit ix) → Leaves nc limit (points count v) v ix count v ix
@@ -105,37 +107,41 @@ module _ (env : Env) (count : ℕ) (cell : CellSoFar) (v : List Float) (ix : Lis
       go (twice a t) d = absurd d
 
   pub by-once :
-      {f n : ℕ} (ix₂ : List ℕ)
-      → g ≡ Once f n
-      → ((a : Added) → f ≡ a .at → points n v₁ ≡ a .verts → Alters (env .site) (a .verts) (does (once a)) n cell ix₁ r ix₂)
+      {f n : ℕ} {u : Reused} (ix₂ : List ℕ)
+      → g ≡ Once f n u
+      → ((a : Added) → f ≡ a .at → points n v₁ ≡ a .verts → CountsReused 2 (tookOne a) u → Alters (env .site) (a .verts) (does (once a)) n cell ix₁ r ix₂)
       → Changes env count (does k) cell v ix r v₁ ix₂
-  by-once {f} {n} ix₂ q h = go k (rw q at c)
+  by-once {f} {n} {u} ix₂ q h = go k (rw q at c)
     where
-      go : (k : EdgeClip) → ClipsEdge (env .centers) (env .limit) count k v ix (Once f n) v₁ ix₁ → Changes env count (does k) cell v ix r v₁ ix₂
+      go : (k : EdgeClip) → ClipsEdge (env .centers) (env .limit) count k v ix (Once f n u) v₁ ix₁ → Changes env count (does k) cell v ix r v₁ ix₂
       go missed d = absurd d
-      go (once a) d = changes env count r ix₂ (does (once a)) fits (d .3) (d .2) (h a (d .0) (poured-points (d .3 .verts)))
+      go (once a) d = changes env count r ix₂ (does (once a)) fits (d .3) (d .2) (h a (d .0) (poured-points (d .3 .verts)) (d .4))
       go (twice a t) d = absurd d
 
   pub by-twice :
-      {f s n : ℕ} (ix₂ : List ℕ)
-      → g ≡ Twice f s n
-      → ((a t : Added) → f ≡ a .at → s ≡ t .at → points n v₁ ≡ t .verts → Alters (env .site) (t .verts) (does (twice a t)) n cell ix₁ r ix₂)
+      {f s n : ℕ} {u : Reused} (ix₂ : List ℕ)
+      → g ≡ Twice f s n u
+      → ((a t : Added) → f ≡ a .at → s ≡ t .at → points n v₁ ≡ t .verts → CountsReused 2 (tookTwo a t) u → Alters (env .site) (t .verts) (does (twice a t)) n cell ix₁ r ix₂)
       → Changes env count (does k) cell v ix r v₁ ix₂
-  by-twice {f} {s} {n} ix₂ q h = go k (rw q at c)
+  by-twice {f} {s} {n} {u} ix₂ q h = go k (rw q at c)
     where
-      go : (k : EdgeClip) → ClipsEdge (env .centers) (env .limit) count k v ix (Twice f s n) v₁ ix₁ → Changes env count (does k) cell v ix r v₁ ix₂
+      go : (k : EdgeClip) → ClipsEdge (env .centers) (env .limit) count k v ix (Twice f s n u) v₁ ix₁ → Changes env count (does k) cell v ix r v₁ ix₂
       go missed d = absurd d
       go (once a) d = absurd d
-      go (twice a t) d = changes env count r ix₂ (does (twice a t)) fits (d .5) (d .4) (h a t (d .0) (d .1) (poured-points (d .5 .verts)))
+      go (twice a t) d = changes env count r ix₂ (does (twice a t)) fits (d .5) (d .4) (h a t (d .0) (d .1) (poured-points (d .5 .verts)) (d .6))
+
+-- no point taken again
+pub none-counted : CountsReused 2 [] (reused 0 0 0)
+none-counted = record { is = refl; few = omega arith }
 
 -- no crossing and nothing to do
 pub changes-none :
     (env : Env) (count : ℕ) (cell : CellSoFar) (v : List Float) (ix : List ℕ) (opened : Bool)
     → EdgeRoom env count cell v ix
     → (opened ≡ true → cell .last < count)
-    → Changes env count (ok (change (points count v) (cell .owners) [] opened [])) cell v ix (record { refusal = 0; count = count; opened = opened; cell = cell }) v ix
+    → Changes env count (ok (change (points count v) (cell .owners) [] opened [])) cell v ix (record { refusal = 0; count = count; opened = opened; cell = cell; reused = reused 0 0 0 }) v ix
 changes-none env count cell v ix opened m low =
-    (refl, refl, low, grown-none 2 count v, did env (leaves-none (m .holds)) (puts-more 3 (omega arith) (puts-none (env .site) cell ix (m .fits .four))) (m .fits))
+    (refl, refl, low, grown-none 2 count v, did env (leaves-none (m .holds)) (puts-more 3 (omega arith) (puts-none (env .site) cell ix (m .fits .four))) (m .fits), none-counted)
 
 -- ---- sides: a vertex that is kept is on its side as before, and so are the corners
 
@@ -190,18 +196,18 @@ module _ (env : Env) (count : ℕ) (cell : CellSoFar) (v : List Float) (ix : Lis
   stored : (n f : ℕ) (r : ℕ) (ws : List Point) → points n v₁ ≡ ws → f ≡ r → Sided (env .bounds) ws r → Sided (env .bounds) (points n v₁) f
   stored n f r ws e i s = rw (e, i) s
 
-  pub room-once : {f n : ℕ} → g ≡ Once f n → CrossedRoom env count cell v n f v₁ ix₁
-  room-once {f} {n} is = go (clipEdge (env .bounds) (env .centers) (points count v) p q) (rw is at c) on-sides
+  pub room-once : {f n : ℕ} {u : Reused} → g ≡ Once f n u → CrossedRoom env count cell v n f v₁ ix₁
+  room-once {f} {n} {u} is = go (clipEdge (env .bounds) (env .centers) (points count v) p q) (rw is at c) on-sides
     where
-      go : (k : EdgeClip) → ClipsEdge (env .centers) (env .limit) count k v ix (Once f n) v₁ ix₁ → OnSides k → CrossedRoom env count cell v n f v₁ ix₁
+      go : (k : EdgeClip) → ClipsEdge (env .centers) (env .limit) count k v ix (Once f n u) v₁ ix₁ → OnSides k → CrossedRoom env count cell v n f v₁ ix₁
       go missed d s = absurd d
       go (once a) d s = room-for n f (d .1) (d .2) (d .3 .holds) (stored n f (a .at) (a .verts) (poured-points (d .3 .verts)) (d .0) s)
       go (twice a t) d s = absurd d
 
-  pub room-twice : {f s n : ℕ} → g ≡ Twice f s n → CrossedRoom env count cell v n f v₁ ix₁ × (s < n) × Sided (env .bounds) (points n v₁) s
-  room-twice {f} {s} {n} is = go (clipEdge (env .bounds) (env .centers) (points count v) p q) (rw is at c) on-sides
+  pub room-twice : {f s n : ℕ} {u : Reused} → g ≡ Twice f s n u → CrossedRoom env count cell v n f v₁ ix₁ × (s < n) × Sided (env .bounds) (points n v₁) s
+  room-twice {f} {s} {n} {u} is = go (clipEdge (env .bounds) (env .centers) (points count v) p q) (rw is at c) on-sides
     where
-      go : (k : EdgeClip) → ClipsEdge (env .centers) (env .limit) count k v ix (Twice f s n) v₁ ix₁ → OnSides k
+      go : (k : EdgeClip) → ClipsEdge (env .centers) (env .limit) count k v ix (Twice f s n u) v₁ ix₁ → OnSides k
           → CrossedRoom env count cell v n f v₁ ix₁ × (s < n) × Sided (env .bounds) (points n v₁) s
       go missed d o = absurd d
       go (once a) d o = absurd d
@@ -217,12 +223,13 @@ few false = omega arith
 
 module _ (site count : ℕ) (vs : List Point) (cell : CellSoFar) (ix : List ℕ) (led : CellSoFar) (ix₁ : List ℕ) where
   pub alters-enter :
-      (ts : List Taken) (x : Ins)
+      (ts : List Taken) (u : Reused) (x : Ins)
+      → CountsReused 2 ts u
       → EntriesPut site 1 x cell ix led ix₁
-      → Alters site vs (ok (change vs (x .owners) (x .new) false ts)) count cell ix (record { refusal = 0; count = count; opened = false; cell = led }) ix₁
-  alters-enter ts x h = (refl, refl, refl, refl, λ e. absurd (false≢true e), puts-more 3 (omega arith) h)
+      → Alters site vs (ok (change vs (x .owners) (x .new) false ts)) count cell ix (record { refusal = 0; count = count; opened = false; cell = led; reused = u }) ix₁
+  alters-enter ts u x w h = (refl, refl, refl, refl, λ e. absurd (false≢true e), puts-more 3 (omega arith) h, w)
 
-  module _ (b : BoundingBox) (nc first second : ℕ) (opened t : Bool) (ts : List Taken) (done : CellSoFar) (ix₂ : List ℕ) where
+  module _ (b : BoundingBox) (nc first second : ℕ) (opened t : Bool) (ts : List Taken) (u : Reused) (w : CountsReused 2 ts u) (done : CellSoFar) (ix₂ : List ℕ) where
     pub alters-cross :
         (x : Ins)
         → EntriesPut site 1 x cell ix led ix₁
@@ -231,7 +238,7 @@ module _ (site count : ℕ) (vs : List Point) (cell : CellSoFar) (ix : List ℕ)
         → Alters site vs
         (ok (change vs (insertEdge b nc site vs (x .owners) (lastOr (cell .last) (x .new)) first second .owners)
         (x .new ++ insertEdge b nc site vs (x .owners) (lastOr (cell .last) (x .new)) first second .new) opened ts))
-        count cell ix (record { refusal = 0; count = count; opened = opened; cell = done }) ix₂
+        count cell ix (record { refusal = 0; count = count; opened = opened; cell = done; reused = u }) ix₂
     alters-cross x h g low = (
       refl,
       refl,
@@ -241,6 +248,7 @@ module _ (site count : ℕ) (vs : List Point) (cell : CellSoFar) (ix : List ℕ)
       puts-more 3 (few t) (puts-then h
           (subst (λ (n : ℕ). EntriesPut site (places t) (insertEdge b nc site vs (x .owners) n first second) led ix₁ done ix₂) (h .last)
           (subst (λ (os : List ℕ). EntriesPut site (places t) (insertEdge b nc site vs os (led .last) first second) led ix₁ done ix₂) (h .owners) g))),
+      w,
     )
 
 -- a cell that is not open needs no leading edge

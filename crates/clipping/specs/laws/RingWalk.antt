@@ -1,5 +1,5 @@
 -- The walk round the ring: what is done so far, put before what the definition does on the rest, is the whole.
-use Prim.Native.Nat.{ℕ, _+_, _-_, _*_, _≤_, _<_}
+use Prim.Native.Nat.{ℕ, _+_, _-_, _*_, _^_, _≤_, _<_}
 use mathlib.Core.Path.{_≡_, refl, sym, ap, _∙_, subst}
 use mathlib.Core.Bool.{Bool, true, false}
 use mathlib.Core.List.{List, [], _∷_, _++_, append-assoc, append-nil}
@@ -21,6 +21,9 @@ use Rattle.definition.specs.declared.Fault.{Fault}
 use Rattle.definition.specs.Cell as Def
 use Rattle.definition.specs.Cell.{Entry, Ins, ins, RingPart, part, partsJoined, inBox, firstInside, stepTo, stepsTo, turned, clipFrom, clipCell}
 use Rattle.definition.specs.Cell.{unmarked}
+use Rattle.definition.specs.declared.Reused.{Reused}
+use Rattle.definition.specs.Reused.{reused, together, Addable, CountsReused}
+use Rattle.definition.specs.laws.Reused.{counts-none, counts-then, counts-small}
 use Rattle.clip_edges.specs.EdgeClip.{VerticesGrown}
 use Rattle.clipping.specs.EdgeOutcome.{EdgeRoom, Did}
 use Rattle.clipping.specs.RingWalk.{tipOf, Stands, Steps, ringOf, RingRoom}
@@ -87,10 +90,22 @@ length-ring ix ring len h = length-take-le len (drop ring ix) (rw (length-drop r
 pub getD-ring : (ix : List ℕ) (ring len j : ℕ) → j < len → getD (ringOf ix ring len) j 0 ≡ getD ix (ring + j) 0
 getD-ring ix ring len j h = getD-take len (drop ring ix) j 0 h ∙ getD-drop ring ix j 0
 
+-- points taken again by some edges, where none was refused
+pub steps-small :
+    (env : Env) (edges count : ℕ) (cell : CellSoFar) (v : List Float) (ix : List ℕ) (r : RingStepped) (v₁ : List Float) (ix₁ : List ℕ) (o : Outcome Fault RingPart)
+    → Steps env edges o count cell v ix r v₁ ix₁
+    → r .fault .number ≡ 0
+    → edges ≤ 2 ^ 32
+    → Addable (r .reused)
+steps-small env edges count cell v ix r v₁ ix₁ (ok c) h z l = counts-small (h .4) (omega arith)
+steps-small env edges count cell v ix r v₁ ix₁ (refused f) h z l =
+    let a : r .fault .number ≡ f .number = ap (λ (x : Fault). x .number) (h .0) in
+    absurd (omega (arith, h .1))
+
 -- ---- the walk after k edges
 
 -- the walk round the ring of len vertices at place ring, turned at place f: from the state t₀ and the slices v₀, ix₀ it has come to t, v, ix
-pub record Round (env : Env) (ring len f : ℕ) (t₀ : Tip) (v₀ : List Float) (ix₀ : List ℕ) (k : ℕ) (t : Tip) (v : List Float) (ix : List ℕ) : Type 0 where
+pub record Round (env : Env) (ring len f : ℕ) (t₀ : Tip) (v₀ : List Float) (ix₀ : List ℕ) (k : ℕ) (t : Tip) (u : Reused) (v : List Float) (ix : List ℕ) : Type 0 where
   pub within : k ≤ len
   pub room : RingRoom env (t .count) (t .cell) ring len (len - k) v ix
   pub stands : Stands env t v
@@ -99,6 +114,7 @@ pub record Round (env : Env) (ring len f : ℕ) (t₀ : Tip) (v₀ : List Float)
   pub rest :
       stepsTo (env .bounds) (env .centers) (env .site) (turned f (ringOf ix₀ ring len)) (tipOf t₀ v₀)
       ≡ onto done (stepsTo (env .bounds) (env .centers) (env .site) (drop k (turned f (ringOf ix₀ ring len))) (tipOf t v))
+  pub counted : CountsReused (2 * k) (done .steps) u
   pub did : Did env (3 * k) (points (t .count) v) (ins (t .cell .owners) (done .new)) (t₀ .cell) v₀ ix₀ (t .count) (t .cell) v ix
   pub out : t .inside ≡ false → t .opened ≡ false → (j : ℕ) → j < len → inBox (env .bounds) (env .centers) (points (t .count) v) (getD ix (ring + j) 0) ≡ false
 
@@ -107,7 +123,7 @@ module _ (env : Env) (ring len f : ℕ) (t₀ : Tip) (v₀ : List Float) (ix₀ 
       RingRoom env (t₀ .count) (t₀ .cell) ring len len v₀ ix₀
       → Stands env t₀ v₀
       → (t₀ .inside ≡ false → (j : ℕ) → j < len → inBox (env .bounds) (env .centers) (points (t₀ .count) v₀) (getD ix₀ (ring + j) 0) ≡ false)
-      → Round env ring len f t₀ v₀ ix₀ 0 t₀ v₀ ix₀
+      → Round env ring len f t₀ v₀ ix₀ 0 t₀ (reused 0 0 0) v₀ ix₀
   unfolding andThen
   round-start r s o =
       record {
@@ -117,6 +133,7 @@ module _ (env : Env) (ring len f : ℕ) (t₀ : Tip) (v₀ : List Float) (ix₀ 
         grown = record { low = omega arith; high = omega arith; kept = refl };
         done = part (tipOf t₀ v₀) [] [];
         rest = sym (none (stepsTo (env .bounds) (env .centers) (env .site) (turned f (ringOf ix₀ ring len)) (tipOf t₀ v₀)));
+        counted = counts-none;
         did = record { verts = poured-none (t₀ .count) v₀ (r .holds .room); holds = r .holds; puts = puts-none (env .site) (t₀ .cell) (take (env .limit) ix₀) (r .fits .four) };
         out = λ i p. o i;
       }
@@ -125,7 +142,7 @@ module _ (env : Env) (ring len f : ℕ) (t₀ : Tip) (v₀ : List Float) (ix₀ 
       none (ok c) = refl
       none (refused g) = refl
 
-  module _ (k : ℕ) (t : Tip) (v : List Float) (ix : List ℕ) (r : Round env ring len f t₀ v₀ ix₀ k t v ix) where
+  module _ (k : ℕ) (t : Tip) (u : Reused) (v : List Float) (ix : List ℕ) (r : Round env ring len f t₀ v₀ ix₀ k t u v ix) where
     -- the ring is as it was
     pub ring-same : (j : ℕ) → j < len → getD ix (ring + j) 0 ≡ getD ix₀ (ring + j) 0
     ring-same j h =
@@ -184,21 +201,23 @@ module _ (env : Env) (ring len f : ℕ) (t₀ : Tip) (v₀ : List Float) (ix₀ 
             → length v ≡ length v₀
             → length v₁ ≡ length v
             → length ix₁ ≡ length ix
-            → Round env ring len f t₀ v₀ ix₀ (k + 1) (s .tip) v₁ ix₁
-        round-next g z st lv₀ lv lx = go (stepTo (env .bounds) (env .centers) (env .site) (tipOf t v) q) refl g
+            → (w : Reused)
+            → w ≡ together u (s .reused)
+            → Round env ring len f t₀ v₀ ix₀ (k + 1) (s .tip) w v₁ ix₁
+        round-next g z st lv₀ lv lx w e₁ = rw e₁ (go (stepTo (env .bounds) (env .centers) (env .site) (tipOf t v) q) refl g)
           where
             go :
                 (o : Outcome Fault RingPart)
                 → stepTo (env .bounds) (env .centers) (env .site) (tipOf t v) q ≡ o
                 → Steps env 1 o (t .count) (t .cell) v ix s v₁ ix₁
-                → Round env ring len f t₀ v₀ ix₀ (k + 1) (s .tip) v₁ ix₁
-            go (refused w) p u =
-                let a : s .fault .number ≡ w .number = ap (λ (x : Fault). x .number) (u .0) in
-                let b = u .1 in
+                → Round env ring len f t₀ v₀ ix₀ (k + 1) (s .tip) (together u (s .reused)) v₁ ix₁
+            go (refused w) p y =
+                let a : s .fault .number ≡ w .number = ap (λ (x : Fault). x .number) (y .0) in
+                let b = y .1 in
                 absurd (omega arith)
-            go (ok c) p u =
+            go (ok c) p y =
                 let one : Did env 3 (points (s .tip .count) v₁) (ins (s .tip .cell .owners) (c .new)) (t .cell) v ix (s .tip .count) (s .tip .cell) v₁ ix₁ =
-                subst (λ (x : Def.Tip). Did env 3 (x .verts) (ins (x .owners) (c .new)) (t .cell) v ix (s .tip .count) (s .tip .cell) v₁ ix₁) (u .1) (u .3) in
+                subst (λ (x : Def.Tip). Did env 3 (x .verts) (ins (x .owners) (c .new)) (t .cell) v ix (s .tip .count) (s .tip .cell) v₁ ix₁) (y .1) (y .3) in
                 let m = r .room in
                 let fit = one .puts .fit in
                 let fits = m .fits .room in
@@ -206,8 +225,8 @@ module _ (env : Env) (ring len f : ℕ) (t₀ : Tip) (v₀ : List Float) (ix₀ 
                 let list = m .list in
                 let verts = m .verts in
                 let small = m .small in
-                let low = u .2 .low in
-                let high = u .2 .high in
+                let low = y .2 .low in
+                let high = y .2 .high in
                 let corners = m .corners in
                 let held = r .did .holds .room in
                 let glow = r .grown .low in
@@ -223,25 +242,37 @@ module _ (env : Env) (ring len f : ℕ) (t₀ : Tip) (v₀ : List Float) (ix₀ 
                         verts = omega arith;
                         small = omega arith;
                         corners = omega arith;
-                        sides = corners-still (env .bounds) (env .centers) v v₁ (t .count) (s .tip .count) (u .2 .kept) low corners (m .sides);
+                        sides = corners-still (env .bounds) (env .centers) v v₁ (t .count) (s .tip .count) (y .2 .kept) low corners (m .sides);
                         below = λ j l. (let a = m .below j l in rw (past j l) (omega arith));
                       };
                   stands = st .0;
-                  grown = (let n : 2 * k + 2 ≡ 2 * (k + 1) = omega arith in rw (← n) (grown-then (2 * k) 2 (t₀ .count) (t .count) (s .tip .count) v₀ v v₁ (r .grown) (u .2)));
+                  grown = (let n : 2 * k + 2 ≡ 2 * (k + 1) = omega arith in rw (← n) (grown-then (2 * k) 2 (t₀ .count) (t .count) (s .tip .count) v₀ v v₁ (r .grown) (y .2)));
                   done = partsJoined (r .done) c;
                   rest =
                       r .rest
                       ∙ ap (λ (l : List ℕ). onto (r .done) (stepsTo (env .bounds) (env .centers) (env .site) l (tipOf t v))) (turned-cons q h e)
                       ∙ ap (onto (r .done)) (steps-cons (env .bounds) (env .centers) (env .site) q (drop (k + 1) (turned f (ringOf ix₀ ring len))) (tipOf t v) c p)
                       ∙ onto-onto (r .done) c (stepsTo (env .bounds) (env .centers) (env .site) (drop (k + 1) (turned f (ringOf ix₀ ring len))) (c .tip))
-                      ∙ ap (λ (x : Def.Tip). onto (partsJoined (r .done) c) (stepsTo (env .bounds) (env .centers) (env .site) (drop (k + 1) (turned f (ringOf ix₀ ring len))) x)) (u .1);
+                      ∙ ap (λ (x : Def.Tip). onto (partsJoined (r .done) c) (stepsTo (env .bounds) (env .centers) (env .site) (drop (k + 1) (turned f (ringOf ix₀ ring len))) x)) (y .1);
+                  counted = (let n : 2 * k + 2 ≡ 2 * (k + 1) = omega arith in rw (← n) (counts-then (r .counted) (y .4)));
                   did = (let n : 3 * k + 3 ≡ 3 * (k + 1) = omega arith in rw (← n) (did-then (r .did) one low (omega arith)));
                   out =
                       λ i o j l.
                       (let w = st .1 i o in
                       rw (past j l)
-                      (in-kept (env .bounds) (env .centers) v v₁ (t .count) (s .tip .count) (getD ix (ring + j) 0) (u .2 .kept) (omega arith) low ∙ r .out (w .0) (w .1) j l));
+                      (in-kept (env .bounds) (env .centers) v v₁ (t .count) (s .tip .count) (getD ix (ring + j) 0) (y .2 .kept) (omega arith) low ∙ r .out (w .0) (w .1) j l));
                 }
+
+        -- the points that it took again can be added to those before
+        pub round-small :
+            Steps env 1 (stepTo (env .bounds) (env .centers) (env .site) (tipOf t v) q) (t .count) (t .cell) v ix s v₁ ix₁
+            → s .fault .number ≡ 0
+            → 2 * len ≤ 2 ^ 32
+            → Addable u × Addable (s .reused)
+        round-small g z l = (
+          counts-small (r .counted) (omega arith),
+          steps-small env 1 (t .count) (t .cell) v ix s v₁ ix₁ (stepTo (env .bounds) (env .centers) (env .site) (tipOf t v) q) g z (omega arith),
+        )
 
         -- a refused edge refuses the whole
         pub round-stop :
@@ -268,7 +299,7 @@ module _ (env : Env) (ring len f : ℕ) (t₀ : Tip) (v₀ : List Float) (ix₀ 
       pub round-end :
           len ≤ k
           → Steps env len (stepsTo (env .bounds) (env .centers) (env .site) (turned f (ringOf ix₀ ring len)) (tipOf t₀ v₀)) (t₀ .count) (t₀ .cell) v₀ ix₀
-          (record { fault = fault 0 0 0 0; tip = t }) v ix
+          (record { fault = fault 0 0 0 0; tip = t; reused = u }) v ix
       unfolding andThen stepsTo
       round-end h =
           let a = r .within in
@@ -276,7 +307,7 @@ module _ (env : Env) (ring len f : ℕ) (t₀ : Tip) (v₀ : List Float) (ix₀ 
           let n : drop k (turned f (ringOf ix₀ ring len)) ≡ [] = drop-of-length-le (turned f (ringOf ix₀ ring len)) {i = k} (rw turned-length h) in
           rw
           (r .rest ∙ ap (λ (l : List ℕ). onto (r .done) (stepsTo (env .bounds) (env .centers) (env .site) l (tipOf t v))) n)
-          (refl, refl, rw l at (r .grown), rw (append-nil (r .done .new)) (rw l at (r .did)))
+          (refl, refl, rw l at (r .grown), rw (append-nil (r .done .new)) (rw l at (r .did)), rw (append-nil (r .done .steps)) (rw l at (r .counted)))
 
 -- what was answered of a vertex of the ring
 pub ring-answer :

@@ -24,7 +24,7 @@ use Rattle.definition.specs.Fault.{ok, andThen}
 use Rattle.definition.specs.Cell.{plain, Entry, entry, Taken}
 use Rattle.definition.specs.Build.{ringFrom, hullRing, Extensions, CellState, cellState, clipInto, clipHull, isEmpty, clipRest, clipAll, wrappedIn, allWrapped}
 use Rattle.definition.specs.laws.Gives.{Gives, gives-map, gives-then, picked}
-use Rattle.definition.specs.Measures.{newPoints, weigh, shareOf}
+use Rattle.definition.specs.Measures.{weigh, shareOf}
 use Rattle.definition.specs.laws.Grown.{grown-none}
 use Rattle.definition.specs.laws.Weigh.{weigh-le, weigh-put, share, share-occ, share-double}
 use Rattle.definition.specs.laws.CellsSoFar.{filledShare, CellsSoFar, clip-into}
@@ -71,7 +71,7 @@ is-empty [] h = refl
 is-empty (e ∷ es) h = let z : _≡_ {A = ℕ} 0 1 = cc in absurd (omega arith)
 
 module _ {tri he hull : List ℕ} {n : ℕ} (top : Topology tri he hull n) (few : n < EMPTY) (b : BoundingBox) (nc : ℕ) (vs : List Point)
-    (found : List ℕ) (begun : ℕ) (room : nc + 4 ≤ length vs) where
+    (found : List ℕ) (begun : List Taken) (room : nc + 4 ≤ length vs) where
   abbrev Good : CellState → Type 0
   Good s = CellsSoFar b nc n (shareOf tri hull) vs found begun s
 
@@ -133,7 +133,7 @@ none-wrapped zero = refl
 none-wrapped (suc n) = none-wrapped n
 
 pub begin : (b : BoundingBox) (nc n : ℕ) (u : ℕ → ℕ) (vs : List Point) (found : List ℕ) (ts : List Taken) → length found ≡ 4
-    → CellsSoFar b nc n u vs found (newPoints ts) (cellState vs found (replicate n []) ts)
+    → CellsSoFar b nc n u vs found ts (cellState vs found (replicate n []) ts)
 unfolding wrappedIn
 begin b nc n u vs found ts four = record {
   width = length-replicate n [];
@@ -142,6 +142,7 @@ begin b nc n u vs found ts four = record {
   grown = grown-none vs;
   added = omega arith;
   twos = omega arith;
+  steps = omega arith;
   threes = omega (arith, no-weight (λ i c. length c) n 0 (λ j. refl));
   region = λ k l. rw (no-cell n k) (omega arith);
   placed = λ k. rw (no-cell n k) tt;
@@ -153,9 +154,9 @@ begin b nc n u vs found ts four = record {
 
 -- what holds at the end
 pub clip-all : {tri he hull : List ℕ} {n : ℕ} → Topology tri he hull n → n < EMPTY → (b : BoundingBox) (nc : ℕ) (found : List ℕ) (x : Extensions)
-    → nc + 4 ≤ length (x .verts) → length found ≡ 4 → Gives (CellsSoFar b nc n (shareOf tri hull) (x .verts) found (newPoints (x .steps)))
+    → nc + 4 ≤ length (x .verts) → length found ≡ 4 → Gives (CellsSoFar b nc n (shareOf tri hull) (x .verts) found (x .steps))
     (clipAll b nc tri he hull (leftmostOf tri he n) n found x)
 unfolding clipAll
 clip-all {tri} {he} {hull} {n} top few b nc found x room four =
-    all-loop top few b nc (x .verts) found (newPoints (x .steps)) room x (cellState (x .verts) found (replicate n []) (x .steps))
+    all-loop top few b nc (x .verts) found (x .steps) room x (cellState (x .verts) found (replicate n []) (x .steps))
     (begin b nc n (shareOf tri hull) (x .verts) found (x .steps) four) (no-cell n)

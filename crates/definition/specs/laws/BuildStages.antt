@@ -84,16 +84,17 @@ pub record BuildRan (m : Mesh) (b : BoundingBox) (r : Built) : Type 0 where
   pub s : CellState
   pub rest : RestTo m b h (length (m .triangles)) s
   pub cells : r .cells ≡ s .cells
+  pub steps : r .steps ≡ s .steps
 
 module _ (m : Mesh) (b : BoundingBox) {r : Built} where
-  hull-ran : (x : Extensions) (s : CellState) → AllExtended m b x → r .cells ≡ s .cells
+  hull-ran : (x : Extensions) (s : CellState) → AllExtended m b x → r .cells ≡ s .cells → r .steps ≡ s .steps
       → Went (clipHull b (length (m .triangles) / 3) (m .halfedges) (m .hull) (tableOf m) (x .at) 0 (length (m .hull)) (noCells m b x))
       (λ h. clipRest b (length (m .triangles) / 3) (m .triangles) (m .halfedges) 0 (length (m .triangles)) h) s → BuildRan m b r
-  hull-ran x s g q w = record { x = x; begun = g; h = w .value; onHull = w .first; s = s; rest = w .then; cells = q }
+  hull-ran x s g q t w = record { x = x; begun = g; h = w .value; onHull = w .first; s = s; rest = w .then; cells = q; steps = t }
 
   cells-ran : (x : Extensions) → AllExtended m b x → Went (allCells m b x) (λ s. ok (builtFrom m b s)) r → BuildRan m b r
   unfolding clipAll
-  cells-ran x g w = hull-ran x (w .value) g (sym (ap (λ (u : Built). u .cells) (ok-same (w .then)))) (went _ _ (w .first))
+  cells-ran x g w = hull-ran x (w .value) g (sym (ap (λ (u : Built). u .cells) (ok-same (w .then)))) (sym (ap (λ (u : Built). u .steps) (ok-same (w .then)))) (went _ _ (w .first))
 
   extend-ran : Keeps (centerRule (m .sites) (m .triangles)) → Went (extendAll m b (centersTo (m .sites) (m .triangles) (length (m .triangles) / 3))) (cellStage m b) r → BuildRan m b r
   extend-ran kept w = cells-ran (w .value) (record { centers = kept; reached = w .first }) (went (allCells m b (w .value)) _ (w .then))

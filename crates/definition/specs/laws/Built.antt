@@ -19,12 +19,13 @@ use Rattle.mesh.specs.Mesh.{leftmostOf}
 use Rattle.mesh.specs.Accepted.{mesh, Accepted, siteCount}
 use Rattle.mesh.specs.laws.Facts.{topology}
 use Rattle.paths.specs.Path.{lastOf}
-use Rattle.definition.specs.Cell.{Mark, plain, crossing, wrapped, Entry, inBox}
+use Rattle.definition.specs.Cell.{Mark, plain, crossing, wrapped, Entry, Taken, inBox}
 use Rattle.definition.specs.Build.{centersFrom, ownersFrom, Extensions, extensions, extendFrom, CellState, clipAll, ifWrapped, wrappedIn, allEntries, lostFrom, Built, build}
 use Rattle.definition.specs.laws.Gives.{Gives, gives-then}
 use Rattle.definition.specs.Measures.{ValidEntry, ValidEntries, newPoints, shareOf, Room, lostLeft}
 use Rattle.definition.specs.laws.Puts.{all-turned}
 use Rattle.definition.specs.laws.LostCorners.{lost-left}
+use Rattle.definition.specs.laws.Grown.{new-le}
 use Rattle.definition.specs.laws.Inside.{in-grown}
 use Rattle.definition.specs.laws.CellsSoFar.{CellsSoFar}
 use Rattle.definition.specs.laws.Owners.{owners-length, owner, ready, towards-corner}
@@ -65,7 +66,7 @@ module _ {sites : List Float} {tri he hull : List ℕ} (a : Accepted (mesh sites
       owner sites tri he table (siteCount sites) (ready a) (cornersOf b) (getD hull 0 0) first-site (λ d k. towards-corner a box d (rw four-corners at k)) c (rw four-corners l)
 
   -- the lost corners are those that are with their owners still and stand in no cell
-  pub lost-entries : (u : ℕ → ℕ) (vs : List Point) (begun : ℕ) (s : CellState) → CellsSoFar b (length tri / 3) (siteCount sites) u vs found begun s
+  pub lost-entries : (u : ℕ → ℕ) (vs : List Point) (begun : List Taken) (s : CellState) → CellsSoFar b (length tri / 3) (siteCount sites) u vs found begun s
       → lostFrom (length tri / 3) 4 (s .cells) ≡ lostLeft (length tri / 3) (s .owners) (allEntries (s .cells))
   lost-entries u vs begun s h =
       let nc = length tri / 3 in
@@ -79,8 +80,8 @@ module _ {sites : List Float} {tri he hull : List ℕ} (a : Accepted (mesh sites
   abbrev pub Good : Built → Type 0
   Good r = Wrapping (mesh sites tri he hull) b r × Room tri hull b r
 
-  finish : (x : Extensions) → length (x .verts) ≡ length tri / 3 + 4 + newPoints (x .steps) → newPoints (x .steps) ≤ length hull → (s : CellState)
-      → CellsSoFar b (length tri / 3) (siteCount sites) (shareOf tri hull) (x .verts) found (newPoints (x .steps)) s
+  finish : (x : Extensions) → length (x .verts) ≡ length tri / 3 + 4 + newPoints (x .steps) → length (x .steps) ≡ length hull → (s : CellState)
+      → CellsSoFar b (length tri / 3) (siteCount sites) (shareOf tri hull) (x .verts) found (x .steps) s
       → Good (record { verts = s .verts; cells = s .cells; owners = found; lost = lostFrom (length tri / 3) 4 (s .cells); steps = s .steps })
   finish x lx few s h =
       let nc = length tri / 3 in
@@ -93,8 +94,9 @@ module _ {sites : List Float} {tri he hull : List ℕ} (a : Accepted (mesh sites
           owners = λ c l. owner-of c l .0;
         },
         record {
-          vertices = omega (arith, h .grown .longer, h .twos);
+          vertices = omega (arith, h .grown .longer, h .twos, new-le (x .steps));
           added = omega (arith, h .grown .longer, h .added);
+          steps = omega (arith, h .steps);
           entries = omega (arith, h .threes, h .struck, occ-length EMPTY (s .owners), h .four);
           region = λ t l. h .region t (omega (arith, h .width));
           placed = λ t. all-turned (λ v. inBox b nc (x .verts) v ≡ true) nc 0 (λ v. inBox b nc (s .verts) v ≡ true) (length (s .verts))
@@ -111,6 +113,6 @@ module _ {sites : List Float} {tri he hull : List ℕ} (a : Accepted (mesh sites
       let lv : length (cs ++ cornersOf b) ≡ nc + 4 = length-append cs (cornersOf b) ∙ omega (arith, four-corners) in
       gives-then (Extended nc (length hull) (extensions (cs ++ cornersOf b) [] [])) Good (extendFrom sites tri hull table nc 0 (length hull) (extensions (cs ++ cornersOf b) [] [])) _
       (extend-from sites tri hull table nc 0 (length hull) (extensions (cs ++ cornersOf b) [] []) (omega arith) (λ i l. absurd (omega arith)))
-      (λ x e. gives-then (CellsSoFar b nc (siteCount sites) (shareOf tri hull) (x .verts) found (newPoints (x .steps))) Good (clipAll b nc tri he hull table (siteCount sites) found x) _
+      (λ x e. gives-then (CellsSoFar b nc (siteCount sites) (shareOf tri hull) (x .verts) found (x .steps)) Good (clipAll b nc tri he hull table (siteCount sites) found x) _
       (clip-all (topology a) (omega (arith, a .counts .few-sites)) b nc found x (omega (arith, e .grown .longer)) four-found)
-      (λ s h. finish x (omega (arith, e .grown .longer, e .added)) (omega (arith, e .added, e .few)) s h)))
+      (λ s h. finish x (omega (arith, e .grown .longer, e .added)) (e .taken ∙ omega arith) s h)))

@@ -6,7 +6,7 @@ use mathlib.Core.List.{List, [], _∷_, _++_}
 use mathlib.Core.Logic.{_⊎_, inl, inr, ⊎-elim, _≢_}
 use Prim.Native.Nat.{ℕ, _+_, _*_, _≤_, _<_}
 use native.Mathlib.Omega.{arith}
-use lib.ListN.{length, getD, set, length-set}
+use lib.ListN.{length, getD, set, length-set, length-append}
 use lib.Seq.{getD-set-same, getD-set-other}
 use Rattle.laws.specs.laws.Decide.{eq-or-ne}
 use Rattle.laws.specs.Count.{occ}
@@ -28,15 +28,17 @@ abbrev pub filledShare : (ℕ → ℕ) → ℕ → List Entry → ℕ
 filledShare u i [] = 0
 filledShare u i (e ∷ es) = u i
 
--- vs are the vertices and found the owners to begin with, n is the number of sites
-pub record CellsSoFar (b : BoundingBox) (nc n : ℕ) (u : ℕ → ℕ) (vs : List Point) (found : List ℕ) (begun : ℕ) (s : CellState) : Type 0 where
+-- vs are the vertices, found the owners and begun the steps to begin with, n is the number of sites
+pub record CellsSoFar (b : BoundingBox) (nc n : ℕ) (u : ℕ → ℕ) (vs : List Point) (found : List ℕ) (begun : List Taken) (s : CellState) : Type 0 where
   pub width : length (s .cells) ≡ n
   pub four : length (s .owners) ≡ 4
   -- vertices
   pub more : ℕ
   pub grown : Grown vs more (s .verts)
-  pub added : newPoints (s .steps) ≡ begun + more
+  pub added : newPoints (s .steps) ≡ newPoints begun + more
   pub twos : more ≤ 2 * weigh (filledShare u) 0 (s .cells)
+  -- steps that add a point or take one again
+  pub steps : length (s .steps) ≤ length begun + 2 * weigh (filledShare u) 0 (s .cells)
   -- entries
   pub threes : weigh (λ i c. length c) 0 (s .cells) ≤ 3 * weigh (filledShare u) 0 (s .cells) + length (allWrapped (s .cells))
   pub region : (k : ℕ) → k < n → length (getD (s .cells) k []) ≤ 3 * u k + occ k found
@@ -49,10 +51,10 @@ pub record CellsSoFar (b : BoundingBox) (nc n : ℕ) (u : ℕ → ℕ) (vs : Lis
   pub taken : (c k : ℕ) → c < 4 → 0 < occ (nc + c) (wrappedIn (getD (s .cells) k [])) → k ≡ getD found c 0
 
 -- an empty try costs nothing, another one its site's share
-two-for : (u : ℕ → ℕ) (k m : ℕ) (es : List Entry) (ts : List Taken) → m ≤ u k → length ts ≤ 2 * m → newPoints ts ≤ length ts
-    → (es ≡ [] → ts ≡ []) → newPoints ts ≤ 2 * filledShare u k es
-two-for u k m [] ts h g f e = omega (arith, ap newPoints (e refl))
-two-for u k m (x ∷ es) ts h g f e = omega arith
+two-for : (u : ℕ → ℕ) (k m : ℕ) (es : List Entry) (ts : List Taken) → m ≤ u k → length ts ≤ 2 * m
+    → (es ≡ [] → ts ≡ []) → length ts ≤ 2 * filledShare u k es
+two-for u k m [] ts h g e = omega (arith, ap length (e refl))
+two-for u k m (x ∷ es) ts h g e = omega arith
 
 three-for : (u : ℕ → ℕ) (k m p w : ℕ) (es : List Entry) → m ≤ u k → p ≤ 3 * m → length es ≡ p + w → length es ≤ 3 * filledShare u k es + w
 three-for u k m p w [] h g f = omega arith
@@ -62,7 +64,7 @@ three-for u k m p w (x ∷ es) h g f = omega arith
 set-cases : (cs : List (List Entry)) (s k : ℕ) (c : List Entry) → s < length cs → ((k ≡ s) × (getD (set cs s c) k [] ≡ c)) ⊎ ((k ≢ s) × (getD (set cs s c) k [] ≡ getD cs k []))
 set-cases cs s k c h = ⊎-elim (λ q. inl (q, rw q (getD-set-same cs s c [] h))) (λ q. inr (q, getD-set-other cs s k c [] q)) (eq-or-ne k s)
 
-module _ (b : BoundingBox) (nc n : ℕ) (u : ℕ → ℕ) (vs : List Point) (found : List ℕ) (begun : ℕ) (room : nc + 4 ≤ length vs) where
+module _ (b : BoundingBox) (nc n : ℕ) (u : ℕ → ℕ) (vs : List Point) (found : List ℕ) (begun : List Taken) (room : nc + 4 ≤ length vs) where
   module _ (site : ℕ) (real : site ≢ EMPTY) (l : site < n) (ring : List ℕ) (paid : length ring ≤ u site) (s : CellState)
       (h : CellsSoFar b nc n u vs found begun s) (empty : getD (s .cells) site [] ≡ []) where
     abbrev C : RingPart → Type 0
@@ -89,7 +91,7 @@ module _ (b : BoundingBox) (nc n : ℕ) (u : ℕ → ℕ) (vs : List Point) (fou
     held-after c g =
         let f = put (filledShare u) c refl in
         let w = length-put c in
-        let t = two-for u site (length ring) (c .new) (c .steps) paid (g .twos) (new-le (c .steps)) (g .idle) in
+        let t = two-for u site (length ring) (c .new) (c .steps) paid (g .twos) (g .idle) in
         let e = three-for u site (length ring) (g .plain-or-crossing) (length (wrappedIn (c .new))) (c .new) paid (g .threes) (g .puts .rest) in
         record {
           width = length-set (s .cells) site (c .new) ∙ h .width;
@@ -97,7 +99,8 @@ module _ (b : BoundingBox) (nc n : ℕ) (u : ℕ → ℕ) (vs : List Point) (fou
           more = h .more + newPoints (c .steps);
           grown = grown-then (h .grown) (g .grown);
           added = new-append (s .steps) (c .steps) ∙ omega (arith, h .added);
-          twos = omega (arith, h .twos);
+          twos = omega (arith, h .twos, new-le (c .steps));
+          steps = omega (arith, h .steps, length-append (s .steps) (c .steps));
           threes = omega (arith, h .threes, put (λ i d. length d) c refl);
           region = λ k lk.
               ⊎-elim

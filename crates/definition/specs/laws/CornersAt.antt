@@ -16,7 +16,6 @@ use Rattle.mesh.specs.laws.Facts.{topology}
 use Rattle.definition.specs.Cell.{vertexAt}
 use Rattle.definition.specs.Build.{centersFrom, ownersFrom, extensions, extendFrom, clipAll, Built, build}
 use Rattle.definition.specs.laws.Gives.{Gives, gives-then}
-use Rattle.definition.specs.Measures.{newPoints}
 use Rattle.definition.specs.laws.CellsSoFar.{CellsSoFar}
 use Rattle.definition.specs.laws.Owners.{owners-length}
 use Rattle.definition.specs.laws.AllCells.{clip-all}
@@ -45,7 +44,7 @@ module _ {sites : List Float} {tri he hull : List ℕ} (a : Accepted (mesh sites
       (extend-from sites tri hull left nc 0 (length hull) (extensions vs [] []) (omega arith) (λ i l. absurd (omega arith)))
       (λ x e.
       let lx : nc + 4 ≤ length (x .verts) = omega (arith, e .grown .longer) in
-      gives-then (CellsSoFar b nc n (shareOf tri hull) (x .verts) found (newPoints (x .steps))) (Cornered nc b) (clipAll b nc tri he hull left n found x) _
+      gives-then (CellsSoFar b nc n (shareOf tri hull) (x .verts) found (x .steps)) (Cornered nc b) (clipAll b nc tri he hull left n found x) _
       (clip-all (topology a) (omega (arith, a .counts .few-sites)) b nc found x lx four)
       (λ s h. (
         omega (arith, h .grown .longer),

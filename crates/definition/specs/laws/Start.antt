@@ -38,6 +38,7 @@ pub record Extended (nc k : ℕ) (x y : Extensions) : Type 0 where
   pub few : more ≤ k
   pub grown : Grown (x .verts) more (y .verts)
   pub added : newPoints (y .steps) ≡ newPoints (x .steps) + more
+  pub taken : length (y .steps) ≡ length (x .steps) + k
   pub counted : length (y .at) ≡ length (x .at) + k
   pub beyond : Beyond nc y
 
@@ -54,6 +55,7 @@ module _ (nc : ℕ) (x : Extensions) (h : nc ≤ length (x .verts)) (g : Beyond 
         few = count-le (a .fresh);
         grown = r .grown;
         added = new-append (x .steps) (took extension a ∷ []) ∙ omega arith;
+        taken = length-append (x .steps) (took extension a ∷ []);
         counted = length-append (x .at) (a .at ∷ []);
         beyond = λ i l. ⊎-elim
             (λ k. rw (List·getD-append (x .at) (a .at ∷ []) 0 i k) (g i k .0, omega (arith, g i k .1, r .grown .longer)))
@@ -67,6 +69,7 @@ extended-then h g = record {
   few = omega (arith, h .few, g .few);
   grown = grown-then (h .grown) (g .grown);
   added = omega (arith, h .added, g .added);
+  taken = omega (arith, h .taken, g .taken);
   counted = omega (arith, h .counted, g .counted);
   beyond = g .beyond;
 }
@@ -74,7 +77,7 @@ extended-then h g = record {
 pub extend-from : (sites : List Float) (tri hull table : List ℕ) (nc i k : ℕ) (x : Extensions) → nc ≤ length (x .verts) → Beyond nc x
     → Gives (Extended nc k x) (extendFrom sites tri hull table nc i k x)
 unfolding extendFrom
-extend-from sites tri hull table nc i zero x h g = record { more = 0; few = omega arith; grown = grown-none (x .verts); added = omega arith; counted = omega arith; beyond = g }
+extend-from sites tri hull table nc i zero x h g = record { more = 0; few = omega arith; grown = grown-none (x .verts); added = omega arith; taken = omega arith; counted = omega arith; beyond = g }
 extend-from sites tri hull table nc i (suc k) x h g =
     let p = extended sites tri (x .verts) (getD table (nextSite hull i) 0) in
     let e = extend-one nc x h g p in

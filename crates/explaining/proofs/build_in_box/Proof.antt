@@ -2,8 +2,8 @@
 use mathlib.Core.Path.{refl, sym, _∙_}
 use native.Mathlib.Omega.{arith}
 use lib.ListN.{length-take}
-use Rattle.build_answers.specs.laws.BuildAnswer.{table-fits, six-of}
-use Rattle.build_answers.specs.laws.ClippedBuild.{boxed-asks, boxed-count}
+use Rattle.build_answers.specs.laws.BuildAnswer.{table-fits, nine-of}
+use Rattle.build_answers.specs.laws.ClippedBuild.{boxed-asks, boxed-count, boxed-reused}
 use Rattle.explaining.specs.Steps.{early}
 use Rattle.explaining.specs.laws.InBox.{explains-in-box}
 use borrow.Author.Needs.{needs}
@@ -60,7 +60,8 @@ finish-clipped-requires c κs =
     let e = Accepts m in
     let a = Admit (e .before) in (
       boxed-count (a .admit-build .ensures) _ (Begin a .pre .2) (Begin a .pre .1) (e .if1 .left) _ (m .build-cells .ensures .0),
-      six-of (a .admit-build .ensures) (e .if1 .left),
+      boxed-reused (a .admit-build .ensures) _ (Begin a .pre .2) (Begin a .pre .1) (e .if1 .left) _ (m .build-cells .ensures .0),
+      nine-of (a .admit-build .ensures) (e .if1 .left),
     )
 
 same-length-6 : tie.Need-same-length-6

@@ -34,7 +34,7 @@ module _ {m : Mesh} {asked : ℕ} {old mid : Slices} {n : ℕ} (a : BuildAdmissi
     {v : List Float} {ix off w₂ c₂ : List ℕ} {r : Reason} where
   pub explains-in-box : (g : Given) → Fits g → (asked ≡ 0 → g .sound ≡ true) → (x : CellsAnswer)
       → x ≡ outcomeAnswer (build m (g .bounds)) → BuiltInto (build m (g .bounds)) (mid .vertices) (mid .indexes) (mid .offsets) v ix off
-      → EndedBuild (x .fault .number) (countsOf (x .count) (x .owners) (x .lost)) (mid .work) (mid .counts) w₂ c₂ → r ≡ ofFault (x .fault)
+      → EndedBuild (x .fault .number) (countsOf (x .count) (x .owners) (x .lost) (x .reused)) (mid .work) (mid .counts) w₂ c₂ → r ≡ ofFault (x .fault)
       → Explains m asked (build m (g .bounds)) old (slices w₂ v ix off c₂) r
   explains-in-box g fits fit x q l f e = explains a z (boxed-fault a g fits fit z x q)
       (boxed-built a g fits fit z x q (askedRules asked) (asked-answers asked) (finds-asked asked) l f) e

@@ -16,6 +16,7 @@ use Rattle.vertices.specs.laws.Store.{poured-none}
 use Rattle.definition.specs.Fault.{ok, andThen, fault, atEdge}
 use Rattle.definition.specs.Cell.{Entry, entry, plain, lastOr, part, tip, inBox, firstInside, stepTo, stepsTo, turned, clipCell}
 use Rattle.definition.specs.Cell.{unmarked}
+use Rattle.definition.specs.Reused.{reused}
 use Rattle.clipping.specs.RingWalk.{Steps, ringOf, emptyAt, RingRoom}
 use Rattle.clip_edges.specs.declared.Env.{Env}
 use Rattle.clipping.specs.declared.RingStepped.{RingStepped}
@@ -112,6 +113,7 @@ module _ (env : Env) (count : ℕ) (owners : List ℕ) (base ring len : ℕ) (v 
       inside = true;
       opened = false;
     };
+    reused = reused 0 0 0;
   }
 
   module _ (ix₁ : List ℕ) (q : ix₁ ≡ sets ix base (insideCell around)) where
@@ -145,4 +147,5 @@ module _ (env : Env) (count : ℕ) (owners : List ℕ) (base ring len : ℕ) (v 
           fit = omega arith;
         };
       },
+      record { is = refl; few = omega arith },
     )

@@ -10,7 +10,7 @@ use lib.ListN.{length, getD, take, drop, length-append, length-drop, take-append
 use lib.Seq.{take-suc, take-length, length-take-le}
 use Rattle.listing.specs.Text.{ascii, decimal}
 use Rattle.listing.specs.laws.Decimal.{decimal-short}
-use Rattle.listing.specs.Listing.{entries, labelled, counts, cellLine, listedCell, cellLines, countsAndCells, corners, listing, refusal, Layout}
+use Rattle.listing.specs.Listing.{entries, labelled, counts, cellLine, listedCell, cellLines, countsAndCells, corners, reusedLine, listing, refusal, Layout}
 
 -- ---- entries
 
@@ -111,6 +111,12 @@ corners-short owners lost h =
     let y = labelled " lost" lost in
     omega (arith, length-append (x ++ y) (ascii "\n"), length-append x y, length-append (ascii "corners") (entries owners), labelled-short " lost" lost, entries-short owners)
 
+reused-short : (a b c : ℕ) → length (reusedLine a b c) ≤ 40
+unfolding reusedLine
+reused-short a b c =
+    let x = ascii "reused" ++ entries (a ∷ b ∷ c ∷ []) in
+    omega (arith, length-append x (ascii "\n"), length-append (ascii "reused") (entries (a ∷ b ∷ c ∷ [])), entries-short (a ∷ b ∷ c ∷ []))
+
 -- what a listing of n cells and so many entries needs
 module _ (a t v : ℕ) (os cs : List ℕ) (lay : Layout os cs a) where
   all-lines : length (cellLines os cs 0 a) ≤ 17 * a + 11 * getD os a 0
@@ -123,9 +129,12 @@ module _ (a t v : ℕ) (os cs : List ℕ) (lay : Layout os cs a) where
   unfolding countsAndCells
   counts-and-cells-short = omega (arith, length-append (counts a t v) (cellLines os cs 0 a), counts-short a t v, all-lines)
 
-  pub listing-short : (owners : List ℕ) (lost : ℕ) → length owners ≡ 4 → length (listing a t v os cs owners lost) ≤ 126 + 17 * a + 11 * getD os a 0
+  pub listing-short : (owners : List ℕ) (lost x y z : ℕ) → length owners ≡ 4 → length (listing a t v os cs owners lost x y z) ≤ 166 + 17 * a + 11 * getD os a 0
   unfolding listing
-  listing-short owners lost h = omega (arith, length-append (countsAndCells a t v os cs) (corners owners lost), corners-short owners lost h, counts-and-cells-short)
+  listing-short owners lost x y z h =
+      let b = countsAndCells a t v os cs in
+      omega
+      (arith, length-append (b ++ corners owners lost) (reusedLine x y z), length-append b (corners owners lost), corners-short owners lost h, reused-short x y z, counts-and-cells-short)
 
 pub refusal-short : (n : ℕ) → length (refusal n) ≤ 19
 unfolding refusal

@@ -28,7 +28,7 @@ pub record ProgramSlices (s : Slices) : Type 0 where
   pub vertices : length (s .vertices) ≡ 3656
   pub indexes : length (s .indexes) ≡ 3076
   pub offsets : length (s .offsets) ≡ 97
-  pub counts : length (s .counts) ≡ 6
+  pub counts : length (s .counts) ≡ 9
 
 -- the text by the number, where the listing is that of what was built
 module _ (Rules : ℕ → Type 0) (text : Built → List ℕ) where

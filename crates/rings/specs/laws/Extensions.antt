@@ -1,9 +1,9 @@
 -- The loop over the hull's edges follows the definition: what is left of it, from the vertices and numbers that stand, is the whole.
-use mathlib.Core.Path.{_≡_, refl, sym, _∙_, subst}
-use mathlib.Core.Bool.{true, false, _&&_}
+use mathlib.Core.Path.{_≡_, refl, sym, ap, _∙_, subst}
+use mathlib.Core.Bool.{Bool, true, false, _&&_}
 use mathlib.Core.List.{List, [], _∷_, _++_}
 use Prim.Native.Nat.{ℕ, suc, _+_, _-_, _*_, _/_, _≤_, _<_}
-use native.Mathlib.Nat.{sub-zero}
+use native.Mathlib.Nat.{sub-zero, add-zero}
 use native.Mathlib.Numerals.{add-one}
 use native.Mathlib.Omega.{arith}
 use lib.Ieee.{Float}
@@ -21,6 +21,9 @@ use Rattle.mesh.specs.Hull.{nextPlace, nextSite}
 use Rattle.mesh.specs.laws.Border.{after-lt}
 use Rattle.definition.specs.Cell.{vertexAt, Taken, took, extension}
 use Rattle.definition.specs.Build.{finite, extended, extensions, extendFrom}
+use Rattle.definition.specs.declared.Reused.{Reused}
+use Rattle.definition.specs.Reused.{ifOld, reused, reusedIn, together}
+use Rattle.definition.specs.laws.Reused.{reused-join}
 use Rattle.rings.specs.Extensions.{projectedOf, ExtendedBy, ExtendsInto}
 use Rattle.rings.specs.declared.extensions.Passed.{Passed}
 
@@ -30,12 +33,23 @@ pub extended-is : (sites : List Float) (tri : List ℕ) (vs : List Point) (e : �
 unfolding extended projectedOf
 extended-is sites tri vs e = refl
 
+one-le : (b : Bool) → ifOld b 1 ≤ 1
+one-le true = omega arith
+one-le false = omega arith
+
+-- one extension more
+one-old : (old : ℕ) (b : Bool) → reused (old + ifOld b 1) 0 0 ≡ together (reused old 0 0) (reused (ifOld b 1 + 0) (ifOld b 0 + 0) (ifOld b 0 + 0))
+one-old old true = rw (add-zero old) refl
+one-old old false = refl
+
 module _ (sites : List Float) (tri hull table : List ℕ) (nc limit at count : ℕ) (v₀ : List Float) (ix₀ : List ℕ) where
-  pub record Extending (v : List Float) (ix : List ℕ) (n i : ℕ) : Type 0 where
+  pub record Extending (v : List Float) (ix : List ℕ) (n old i : ℕ) : Type 0 where
     pub within : i ≤ length hull
     pub xs : List ℕ
     pub ts : List Taken
     pub xs-long : length xs ≡ i
+    pub reused : reused old 0 0 ≡ reusedIn ts
+    pub few : old ≤ i
     pub whole :
         extendFrom sites tri hull table nc 0 (length hull) (extensions (points count v₀) [] [])
         ≡ extendFrom sites tri hull table nc i (length hull - i) (extensions (points n v) xs ts)
@@ -46,12 +60,14 @@ module _ (sites : List Float) (tri hull table : List ℕ) (nc limit at count : �
     pub long-v : length v ≡ length v₀
     pub long-ix : length ix ≡ length ix₀
 
-  pub extending-start : Holds nc count v₀ (drop limit ix₀) → Extending v₀ ix₀ count 0
+  pub extending-start : Holds nc count v₀ (drop limit ix₀) → Extending v₀ ix₀ count 0 0
   extending-start h = record {
     within = omega arith;
     xs = [];
     ts = [];
     xs-long = refl;
+    reused = refl;
+    few = omega arith;
     whole = rw sub-zero;
     verts = poured-none count v₀ (h .room);
     numbers = refl;
@@ -62,7 +78,7 @@ module _ (sites : List Float) (tri hull table : List ℕ) (nc limit at count : �
   }
 
   -- the half-edge of a turn, and its circumcenter among the vertices
-  module _ (x : ExtendsInto sites tri hull table nc count limit at v₀ ix₀) (v : List Float) (ix : List ℕ) (n i : ℕ) (g : Extending v ix n i) (h : i < length hull) where
+  module _ (x : ExtendsInto sites tri hull table nc count limit at v₀ ix₀) (v : List Float) (ix : List ℕ) (n old i : ℕ) (g : Extending v ix n old i) (h : i < length hull) where
     pub turn-edge : getD table (nextSite hull i) 0 < length tri
     turn-edge = x .extends .edges (nextPlace (length hull) i) (after-lt (length hull) i h)
 
@@ -72,7 +88,7 @@ module _ (sites : List Float) (tri hull table : List ℕ) (nc limit at count : �
     pub turn-room : 2 * n + 2 ≤ length v
     turn-room = omega (arith, x .room-v, g .grown, g .long-v)
 
-  module _ (v : List Float) (ix : List ℕ) (n i : ℕ) (g : Extending v ix n i) (h : i < length hull) (p : Point) (e : ℕ)
+  module _ (v : List Float) (ix : List ℕ) (n old i : ℕ) (g : Extending v ix n old i) (h : i < length hull) (p : Point) (e : ℕ)
       (qe : e ≡ getD table (nextSite hull i) 0) (qp : p ≡ extended sites tri (points n v) e) where
     q : p ≡ extended sites tri (points n v) (getD table (nextSite hull i) 0)
     q = rw (← qe) qp
@@ -115,12 +131,22 @@ module _ (sites : List Float) (tri hull table : List ℕ) (nc limit at count : �
           (r .at ∷ []) (take limit ix₀) at (at + i) (omega (arith, g .xs-long)) in
           take-set-lt limit ix₁ (at + i) (r .at) (omega (arith, x .room-ix)) ∙ cc (l .body, g .numbers)
 
-      pub extending-step : (y : ℕ) → y ≡ r .at → Extending v₁ (set ix₁ (at + i) y) (r .count) (i + 1)
-      extending-step y e = rw e (record {
+      step-reused : (new : ℕ) → new ≡ old + ifOld (r .fresh) 1 → reused new 0 0 ≡ reusedIn (g .ts ++ took extension (addVertex nc (points n v) p) ∷ [])
+      step-reused new e =
+          let more = took extension (addVertex nc (points n v) p) ∷ [] in
+          ap (λ (k : ℕ). reused k 0 0) (e ∙ ap (λ (t : Bool). old + ifOld t 1) (a .fresh))
+          ∙ one-old old (addVertex nc (points n v) p .fresh)
+          ∙ ap (λ (x : Reused). together x (reusedIn more)) (g .reused)
+          ∙ sym (reused-join (g .ts) more)
+
+      pub extending-step : (y new : ℕ) → y ≡ r .at → new ≡ old + ifOld (r .fresh) 1 → Extending v₁ (set ix₁ (at + i) y) (r .count) new (i + 1)
+      extending-step y new e w = rw e (record {
         within = omega arith;
         xs = g .xs ++ r .at ∷ [];
         ts = g .ts ++ took extension (addVertex nc (points n v) p) ∷ [];
         xs-long = rw (length-append, g .xs-long);
+        reused = step-reused new w;
+        few = omega (arith, w, g .few, one-le (r .fresh));
         whole = step-whole;
         verts = rw stand (poured-then (g .verts) (l .verts) (a .low) (omega (arith, g .grown, x .room-v)));
         numbers = step-numbers;
@@ -131,10 +157,10 @@ module _ (sites : List Float) (tri hull table : List ℕ) (nc limit at count : �
       })
 
   pub extending-end :
-      (v : List Float) (ix : List ℕ) (n i : ℕ) → Extending v ix n i → length hull ≤ i → (r : Passed) → r .place ≡ i → r .count ≡ n
+      (v : List Float) (ix : List ℕ) (n old i : ℕ) → Extending v ix n old i → length hull ≤ i → (r : Passed) → r .place ≡ i → r .count ≡ n → r .reused ≡ old
       → ExtendedBy (extendFrom sites tri hull table nc 0 (length hull) (extensions (points count v₀) [] [])) (length hull) nc limit at v₀ ix₀ r v ix
   unfolding extendFrom
-  extending-end v ix n i g h r e f =
+  extending-end v ix n old i g h r e f o =
       let q : i ≡ length hull = omega (arith, g .within) in
       let z : length hull - i ≡ 0 = omega arith in
-      rw (g .whole, z) (e ∙ q, g .xs-long ∙ q, record { verts = rw f (g .verts); numbers = g .numbers; holds = rw f (g .holds) })
+      rw (g .whole, z) (e ∙ q, g .xs-long ∙ q, record { verts = rw f (g .verts); reused = rw o (g .reused); numbers = g .numbers; holds = rw f (g .holds) })

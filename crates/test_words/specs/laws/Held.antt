@@ -44,12 +44,12 @@ after-of e f g = e ∙ ap₂ afterOf f g
 -- the answers on five slices, at places that were found, are the answer on the build
 pub build-says : (b : List ℕ) (k : ℕ) (work : List ℕ) (vertices : List Float) (indexes offsets counts : List ℕ) (h i j l m : Bool) (t p v s e x w : ℕ)
     → e ≡ endPlace b k (length work) → t ≡ tablePlace k → p ≡ pointsPlace k (length work) → v ≡ wordOf b k → s ≡ startsPlace b k (length work)
-    → x ≡ afterOf e 1 → w ≡ wordOf b e → Says h (HasWords counts b k 6 EMPTY) → Says i (HasWords work b t (length work) EMPTY)
+    → x ≡ afterOf e 1 → w ≡ wordOf b e → Says h (HasWords counts b k 9 EMPTY) → Says i (HasWords work b t (length work) EMPTY)
     → Says j (HasFloats vertices b p (2 * v) 0) → Says l (HasWords offsets b s (length offsets) EMPTY) → Says m (HasWords indexes b x w EMPTY)
     → Says ((((h && i) && j) && l) && m) (BuildHeld b k work vertices indexes offsets counts)
 build-says b k work vertices indexes offsets counts h i j l m t p v s e x w pe pt pp pv ps px pw sh si sj sl sm =
     let n = length work in
-    let H = HasWords counts b k 6 EMPTY in
+    let H = HasWords counts b k 9 EMPTY in
     let I = HasWords work b (tablePlace k) n EMPTY in
     let J = HasFloats vertices b (pointsPlace k n) (2 * wordOf b k) 0 in
     let L = HasWords offsets b (startsPlace b k n) (length offsets) EMPTY in

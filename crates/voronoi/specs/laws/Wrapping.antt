@@ -35,10 +35,10 @@ module _ (m : Mesh) (g : Given) (fits : Fits g) {old new : Slices} (a : Build m 
     four = four-owners m (g .bounds) seen
 
     owner : (i : ℕ) → i < 4 → getD (new .counts) (suc i) 0 ≡ getD (b .owners) i 0
-    owner i l = ap (λ x. getD x (suc i) 0) (left-counts a b is) ∙ count-owner (length (b .verts)) (b .owners) (b .lost) _ four i l
+    owner i l = ap (λ x. getD x (suc i) 0) (left-counts a b is) ∙ count-owner (length (b .verts)) (b .owners) (b .lost) _ _ four i l
 
     before : (i : ℕ) → i < 4 → getD (getD (m .hull) 0 0 ∷ drop 1 (new .counts)) i 0 ≡ getD (getD (m .hull) 0 0 ∷ b .owners) i 0
-    before i l = ap (λ x. getD (getD (m .hull) 0 0 ∷ drop 1 x) i 0) (left-counts a b is) ∙ count-before (length (b .verts)) (b .owners) (b .lost) _ four (getD (m .hull) 0 0) i l
+    before i l = ap (λ x. getD (getD (m .hull) 0 0 ∷ drop 1 x) i 0) (left-counts a b is) ∙ count-before (length (b .verts)) (b .owners) (b .lost) _ _ four (getD (m .hull) 0 0) i l
 
     wraps-of : Wraps m (g .bounds) old new
     wraps-of =
@@ -57,7 +57,7 @@ module _ (m : Mesh) (g : Given) (fits : Fits g) {old new : Slices} (a : Build m 
               let x = owner-path sound box i l in
               let from = before i l ∙ ap (λ os. getD (getD (m .hull) 0 0 ∷ os) i 0) (seen .found) in
               record { path = x .0; approaches = rw from (approaches (x .1)); last = owner i l ∙ ap (λ os. getD os i 0) (seen .found) ∙ x .2 };
-          lost = ap (λ x. getD x 5 0) (left-counts a b is) ∙ count-lost (length (b .verts)) (b .owners) (b .lost) _ four ∙ seen .lost;
+          lost = ap (λ x. getD x 5 0) (left-counts a b is) ∙ count-lost (length (b .verts)) (b .owners) (b .lost) _ _ four ∙ seen .lost;
         }
 
   pub build-wraps : Wraps m (g .bounds) old new

@@ -17,8 +17,8 @@ extend-hull-requires c κs =
     let k = Cornered i in
     extends-into (Entry i .pre) (k .before .corners .ensures) (k .calculate-corners .ensures .0) (k .calculate-corners .ensures .1) (i .before .before .vertices .given) (i .indexes .given)
 
-cast-t24 : tie.Need-cast-t24
-cast-t24 c =
+cast-t25 : tie.Need-cast-t25
+cast-t25 c =
     let x = c .before .before .before .before .before .before .before in
     omega (arith, c .before .if1 .taken, Entry (x .before .before .before .before .before) .pre .small)
 
@@ -41,5 +41,5 @@ returns-2 c =
 pub extend-spec : {M : Type 1} → statement M
 extend-spec =
     tie.close
-    (tie.spec (λ c κs. search needs) (λ c κs. search needs) (λ c. search needs) extend-hull-requires cast-t24
+    (tie.spec (λ c κs. search needs) (λ c κs. search needs) (λ c. search needs) extend-hull-requires cast-t25
     (λ c. search needs) (λ c. search needs) returns (λ c. search needs) (λ c. search needs) returns-2)

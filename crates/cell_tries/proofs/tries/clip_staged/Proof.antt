@@ -5,11 +5,12 @@ use lib.ListN.{getD}
 use borrow.Author.Needs.{needs}
 use Rattle.interior.specs.laws.InsideWalk.{copiedAnswer, stays}
 use Rattle.cell_tries.specs.Tries.{envOf}
+use Rattle.cell_tries.specs.laws.OneTry.{none-reused, ring-small}
 use Rattle.cell_tries.proofs.tries.clip_staged.Statement.{statement}
 use Rattle.cell_tries.proofs.tries.clip_staged.Tie as tie
 
 abbrev Entry : tie.After-wide2 → tie.Start
-Entry c = c .before .before .before .before .before .before .before .before
+Entry c = c .before .before .before .before .before .before .before .before .before
 
 abbrev Based : tie.After-all-inside → tie.After-wide2
 Based c = c .before .before .before .before
@@ -35,7 +36,8 @@ returns c =
     record {
       stepped = copiedAnswer (envOf (i .args .f) (i .args .site)) _ _ (getD (i .args .offsets .now) (i .args .site) 0) (i .args .f .stage) _ (i .args .vertices .now)
           (i .args .indexes .now) (i .pre .room) (omega (arith, i .pre .some)) (rw (t .if1 .taken) at (a .all-inside .ensures));
-      is = refl;
+      faulty = refl;
+      is = λ z. none-reused _ _ _ (i .args .p .reused);
       steps = stays (envOf (i .args .f) (i .args .site)) _ _ (getD (i .args .offsets .now) (i .args .site) 0) (i .args .f .stage) _ (i .args .vertices .now)
           (i .args .indexes .now) (i .pre .room) (omega (arith, i .pre .some)) (rw (t .if1 .taken) at (a .all-inside .ensures)) _ (rw (base w) at (k .copy-ring .ensures));
     }
@@ -46,15 +48,26 @@ clip-cell-requires c κs =
     let i = Entry w in
     (rw (base w) (i .pre .room), omega (arith, i .pre .some))
 
+after-ring-requires : tie.Need-after-ring-requires
+after-ring-requires c κs =
+    let k = c .before .before .before .before in
+    let i = Entry (Based (k .before .before .before .before)) in
+    λ z. (i .pre .few, ring-small _ _ _ _ _ _ _ _ _ _ _ _ (k .clip-cell .ensures) z (omega (arith, i .pre .room .small)))
+
 returns-2 : tie.Need-returns-2
 returns-2 c =
-    let k = c .before .before .before .before .before .before .before .before in
+    let k = c .before .before .before .before .before in
     let w = Based (k .before .before .before .before) in
-    record { stepped = k .clip-cell .result; is = refl; steps = rw (base w) at (k .clip-cell .ensures) }
+    record {
+      stepped = k .clip-cell .result;
+      faulty = c .after-ring .ensures .0;
+      is = c .after-ring .ensures .1;
+      steps = rw (base w) at (k .clip-cell .ensures);
+    }
 
 pub clip-staged-spec : {M : Type 1} → statement M
 clip-staged-spec =
     tie.close
     (tie.spec (λ c κs. search needs) (λ c. search needs) (λ c. search needs) (λ c κs. search needs) (λ c. search needs)
     (λ c κs. search needs) copy-ring-requires (λ c. search needs) (λ c. search needs) returns clip-cell-requires
-    (λ c. search needs) (λ c. search needs) returns-2)
+    after-ring-requires (λ c. search needs) (λ c. search needs) returns-2)

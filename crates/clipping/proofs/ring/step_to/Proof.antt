@@ -19,9 +19,9 @@ clip-step-requires c κs =
 
 returns : tie.Need-returns
 returns c =
-    let at-clip-step = c .before .before .before .before .before .before in
+    let at-clip-step = c .before .before .before .before .before .before .before in
     let at-in-box = at-clip-step .before .before .before in
-    let s = c .before .before .before .before .before .before .before .before .before .before .before .before .before .before in
+    let s = c .before .before .before .before .before .before .before .before .before .before .before .before .before .before .before in
     let a = s .args in (
       step-refused (a .env) (a .tip) (a .q) _ (now (a .vertices)) (now (a .indexes)) _ _ _ (at-in-box .in-box .ensures) (at-clip-step .clip-step .ensures) (c .if1 .taken) _ refl,
       λ e. absurd (c .if1 .taken e),
@@ -29,9 +29,9 @@ returns c =
 
 returns-2 : tie.Need-returns-2
 returns-2 c =
-    let at-clip-step = c .before .before .before .before .before .before .before in
+    let at-clip-step = c .before .before .before .before .before .before .before .before in
     let at-in-box = at-clip-step .before .before .before in
-    let s = c .before .before .before .before .before .before .before .before .before .before .before .before .before .before .before in
+    let s = c .before .before .before .before .before .before .before .before .before .before .before .before .before .before .before .before in
     let a = s .args in
     let t = a .tip in
     let stood = s .pre .1 .0 in

@@ -7,15 +7,15 @@ use lib.ListN.{length, getD}
 use denote.Ref.{now}
 use Rattle.definition.specs.Cell as Def
 use Rattle.clipping.specs.RingWalk.{ringOf}
-use Rattle.clipping.specs.laws.RingWalk.{Round, round-start, round-ready, round-last, round-next, round-stop, round-end, ring-same, length-ring, getD-ring}
+use Rattle.clipping.specs.laws.RingWalk.{Round, round-start, round-ready, round-last, round-next, round-small, round-stop, round-end, ring-same, length-ring, getD-ring}
 use Rattle.clipping.proofs.ring.walk_ring.Statement.{statement}
 use Rattle.clipping.proofs.ring.walk_ring.Tie as tie
 
 abbrev Inv-loop : tie.InvT-loop
-Inv-loop v₀ ix₀ env ring len f at₀ k₀ v ix at k = (length v ≡ length v₀) × (length ix ≡ length ix₀) × Round env ring len f at₀ v₀ ix₀ k at v ix
+Inv-loop v₀ ix₀ env ring len f at₀ u₀ k₀ v ix at u k = (length v ≡ length v₀) × (length ix ≡ length ix₀) × Round env ring len f at₀ v₀ ix₀ k at u v ix
 
 abbrev μ-loop : tie.MeasureT-loop
-μ-loop v₀ ix₀ env ring len f at₀ k₀ v ix at k = len - k
+μ-loop v₀ ix₀ env ring len f at₀ u₀ k₀ v ix at u k = len - k
 
 loop-holds : tie.Need-loop-holds Inv-loop μ-loop
 loop-holds c =
@@ -38,7 +38,7 @@ read c =
     let list = s .pre .0 .list in
     c .turned .ensures .1 (ringOf (now (a .indexes)) (a .ring) (a .len)) (length-ring (now (a .indexes)) (a .ring) (a .len) (omega arith))
     ∙ getD-ring (now (a .indexes)) (a .ring) (a .len) (c .turned .result) (c .turned .ensures .0)
-    ∙ sym (ring-same (a .env) (a .ring) (a .len) (a .f) (a .tip) (now (a .vertices)) (now (a .indexes)) (l .k) (l .at) (l .vertices)
+    ∙ sym (ring-same (a .env) (a .ring) (a .len) (a .f) (a .tip) (now (a .vertices)) (now (a .indexes)) (l .k) (l .at) (l .reused) (l .vertices)
     (l .indexes) (l .inv .2) (c .turned .result) (c .turned .ensures .0))
 
 add-place : tie.Need-add-place Inv-loop μ-loop
@@ -61,13 +61,13 @@ step-to-requires c κs =
     let a = s .args in
     let l = at-loop .loop in
     let j = c .before .before .before .turned .ensures .0 in (
-      round-ready (a .env) (a .ring) (a .len) (a .f) (a .tip) (now (a .vertices)) (now (a .indexes)) (l .k) (l .at) (l .vertices)
+      round-ready (a .env) (a .ring) (a .len) (a .f) (a .tip) (now (a .vertices)) (now (a .indexes)) (l .k) (l .at) (l .reused) (l .vertices)
           (l .indexes) (l .inv .2) (c .before .before .before .before .loop-test .taken),
       (
         l .inv .2 .stands,
         (
           l .inv .2 .room .below (c .before .before .before .turned .result) j,
-          round-last (a .env) (a .ring) (a .len) (a .f) (a .tip) (now (a .vertices)) (now (a .indexes)) (l .k) (l .at) (l .vertices)
+          round-last (a .env) (a .ring) (a .len) (a .f) (a .tip) (now (a .vertices)) (now (a .indexes)) (l .k) (l .at) (l .reused) (l .vertices)
               (l .indexes) (l .inv .2) (c .before .before .before .turned .result) j,
         ),
       ),
@@ -94,26 +94,38 @@ returns c =
     let a = s .args in
     let l = at-loop .loop in
     let g = at-step-to .step-to in
-    round-stop (a .env) (a .ring) (a .len) (a .f) (a .tip) (now (a .vertices)) (now (a .indexes)) (l .k) (l .at) (l .vertices) (l .indexes) (l .inv .2) (s .pre .1 .1 .0)
+    round-stop (a .env) (a .ring) (a .len) (a .f) (a .tip) (now (a .vertices)) (now (a .indexes)) (l .k) (l .at) (l .reused) (l .vertices) (l .indexes) (l .inv .2) (s .pre .1 .1 .0)
     (l .inv .1) _ _ _ _ (at-loop-test .loop-test .taken) (read (c .before .before .before .before .before .before .before .before .before .before .before)) (g .ensures .0) (c .if1 .taken)
+
+together-requires : tie.Need-together-requires Inv-loop μ-loop
+together-requires c κs =
+    let at-step-to = c .before .before .before .before .before .before .before .before .before in
+    let at-loop-test = at-step-to .before .before .before .before .before in
+    let at-loop = at-loop-test .before in
+    let s = at-loop .before .before .before in
+    let a = s .args in
+    let l = at-loop .loop in
+    let few = s .pre .0 .small in
+    round-small (a .env) (a .ring) (a .len) (a .f) (a .tip) (now (a .vertices)) (now (a .indexes)) (l .k) (l .at) (l .reused) (l .vertices) (l .indexes) (l .inv .2) (s .pre .1 .1 .0)
+    (l .inv .1) _ _ _ _ (at-loop-test .loop-test .taken) (read (at-step-to .before .before .before .before)) (at-step-to .step-to .ensures .0) (c .before .before .if1 .left) (omega arith)
 
 add-k : tie.Need-add-k Inv-loop μ-loop
 add-k c =
-    let at-loop-test = c .before .before .before .before .before .before .before .before .before .before .before .before .before in
+    let at-loop-test = c .before .before .before .before .before .before .before .before .before .before .before .before .before .before .before in
     let at-fits = at-loop-test .before .before .before .before in
     omega (arith, at-loop-test .loop-test .taken, at-fits .fits .len)
 
 loop-less : tie.Need-loop-less Inv-loop μ-loop
 loop-less c =
-    let at-loop-test = c .before .before .before .before .before .before .before .before .before .before .before .before .before in
+    let at-loop-test = c .before .before .before .before .before .before .before .before .before .before .before .before .before .before .before in
     omega (arith, at-loop-test .loop-test .taken)
 
 loop-again : tie.Need-loop-again Inv-loop μ-loop
 loop-again c =
-    let at-step-to = c .before .before .before .before .before .before .before .before in
+    let at-step-to = c .before .before .before .before .before .before .before .before .before .before in
     let at-loop-test = at-step-to .before .before .before .before .before in
     let at-loop = at-loop-test .before in
-    let s = c .before .before .before .before .before .before .before .before .before .before .before .before .before .before .before .before .before in
+    let s = c .before .before .before .before .before .before .before .before .before .before .before .before .before .before .before .before .before .before .before in
     let a = s .args in
     let l = at-loop .loop in
     let g = at-step-to .step-to in
@@ -121,10 +133,10 @@ loop-again c =
     let kx = g .kept .1 .0 in (
       kv ∙ l .inv .0,
       kx ∙ l .inv .1,
-      round-next (a .env) (a .ring) (a .len) (a .f) (a .tip) (now (a .vertices)) (now (a .indexes)) (l .k) (l .at) (l .vertices) (l .indexes) (l .inv .2) (s .pre .1 .1 .0)
+      round-next (a .env) (a .ring) (a .len) (a .f) (a .tip) (now (a .vertices)) (now (a .indexes)) (l .k) (l .at) (l .reused) (l .vertices) (l .indexes) (l .inv .2) (s .pre .1 .1 .0)
           (l .inv .1) _ _ _ _ (at-loop-test .loop-test .taken)
-          (read (c .before .before .before .before .before .before .before .before .before .before .before .before)) (g .ensures .0)
-          (c .before .if1 .left) (g .ensures .1 (c .before .if1 .left)) (l .inv .0) kv kx,
+          (read (c .before .before .before .before .before .before .before .before .before .before .before .before .before .before)) (g .ensures .0)
+          (c .before .before .before .if1 .left) (g .ensures .1 (c .before .before .before .if1 .left)) (l .inv .0) kv kx _ (c .together .ensures),
     )
 
 same-length-3 : tie.Need-same-length-3 Inv-loop μ-loop
@@ -138,11 +150,11 @@ returns-2 c =
     let s = c .before .before .before .before in
     let a = s .args in
     let l = c .before .loop in
-    round-end (a .env) (a .ring) (a .len) (a .f) (a .tip) (now (a .vertices)) (now (a .indexes)) (l .k) (l .at) (l .vertices) (l .indexes)
+    round-end (a .env) (a .ring) (a .len) (a .f) (a .tip) (now (a .vertices)) (now (a .indexes)) (l .k) (l .at) (l .reused) (l .vertices) (l .indexes)
     (l .inv .2) (s .pre .1 .1 .0) (l .inv .1) (c .loop-test .left)
 
 pub walk-ring-spec : {M : Type 1} → statement M
 walk-ring-spec =
     tie.close
     (tie.spec Inv-loop μ-loop loop-holds (λ c κs. omega arith) add-place mul-q slice-read-q step-to-requires
-    same-length same-length-2 returns add-k loop-less loop-again same-length-3 same-length-4 returns-2)
+    same-length same-length-2 returns together-requires add-k loop-less loop-again same-length-3 same-length-4 returns-2)

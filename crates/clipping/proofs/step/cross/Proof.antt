@@ -61,7 +61,7 @@ returns-2 c =
     let s = Entry k in
     let a = s .args in
     by-once (a .env) (a .count) (a .cell) (now (a .vertices)) (now (a .indexes)) _ (clip k) _ _ _ (s .pre .0 .fits) (does k) (Crossings k .clip-voronoi-edge .ensures) _ (m .clip .given .1)
-    (λ x e w. (c .before .before .cross-once .ensures, omega arith))
+    (λ x e w u. (c .before .before .cross-once .ensures, omega arith))
 
 returns-3 : tie.Need-returns-3
 unfolding cross
@@ -71,7 +71,7 @@ returns-3 c =
     let s = Entry k in
     let a = s .args in
     by-twice (a .env) (a .count) (a .cell) (now (a .vertices)) (now (a .indexes)) _ (clip k) _ _ _ (s .pre .0 .fits) (does k) (Crossings k .clip-voronoi-edge .ensures) _ (m .clip2 .given .1)
-    (λ x y e f w. rw (e, f, w) at (c .before .before .cross-at .ensures (tookTwo x y)))
+    (λ x y e f w u. rw (e, f, w) at (c .before .before .cross-at .ensures (tookTwo x y) u))
 
 pub cross-spec : {M : Type 1} → statement M
 cross-spec =

@@ -27,8 +27,8 @@ returns c =
     let g = at-link .link in
     let i = at-insert .insert-edge in
     let vs = points (a .count) (now (a .vertices)) in
-    λ ts. alters-cross (a .env .site) (a .count) vs (a .cell) (now (a .indexes)) (g .result) _ (a .env .bounds) (a .env .centers) (a .first) (a .second)
-    (a .opened) (eqb (g .result .last) (a .first)) ts (i .result) _
+    λ ts u. alters-cross (a .env .site) (a .count) vs (a .cell) (now (a .indexes)) (g .result) _ (a .env .bounds) (a .env .centers) (a .first) (a .second)
+    (a .opened) (eqb (g .result .last) (a .first)) ts (a .reused) u (i .result) _
     (link (a .env .bounds) (a .env .centers) (a .env .site) vs (a .cell .owners) (a .opened) (a .cell .last) (a .first))
     (g .ensures) (i .ensures .0) (i .ensures .1)
 

@@ -16,8 +16,8 @@ returns c =
     let a = at-start .args in
     let g = c .before .before .insert-edge in
     let vs = points (a .count) (now (a .vertices)) in
-    λ ts. alters-enter (a .env .site) (a .count) vs (a .cell) (now (a .indexes)) (g .result) _ ts
-    (insertEdge (a .env .bounds) (a .env .centers) (a .env .site) vs (a .cell .owners) (a .cell .last) (a .cell .last) (a .first))
+    λ ts u. alters-enter (a .env .site) (a .count) vs (a .cell) (now (a .indexes)) (g .result) _ ts (a .reused)
+    (insertEdge (a .env .bounds) (a .env .centers) (a .env .site) vs (a .cell .owners) (a .cell .last) (a .cell .last) (a .first)) u
     (rw (eq-eqb (a .cell .last) (a .cell .last) refl) at (g .ensures .0))
 
 pub enter-at-spec : {M : Type 1} → statement M

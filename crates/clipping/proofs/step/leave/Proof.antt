@@ -61,7 +61,7 @@ returns-2 c =
     let s = Entry k in
     let a = s .args in
     by-once (a .env) (a .count) (a .cell) (now (a .vertices)) (now (a .indexes)) _ (clip k) _ _ _ (s .pre .0 .fits) (does k) (Crossings k .clip-voronoi-edge .ensures) _ (m .clip .given .1)
-    (λ x e w. rw e at (c .before .before .leave-at .ensures (x .verts) (tookOne x)))
+    (λ x e w u. rw e at (c .before .before .leave-at .ensures (x .verts) (tookOne x) u))
 
 returns-3 : tie.Need-returns-3
 unfolding leave
@@ -71,7 +71,7 @@ returns-3 c =
     let s = Entry k in
     let a = s .args in
     by-twice (a .env) (a .count) (a .cell) (now (a .vertices)) (now (a .indexes)) _ (clip k) _ _ _ (s .pre .0 .fits) (does k) (Crossings k .clip-voronoi-edge .ensures) _ (m .clip2 .given .1)
-    (λ x y e f w. rw e at (c .before .before .leave-at2 .ensures (y .verts) (tookTwo x y)))
+    (λ x y e f w u. rw e at (c .before .before .leave-at2 .ensures (y .verts) (tookTwo x y) u))
 
 pub leave-spec : {M : Type 1} → statement M
 leave-spec =

@@ -20,7 +20,7 @@ returns c =
     let p = at-push .push in
     let q = c .before .before .push2 in
     let h = p .ensures .0 plain in
-    λ vs ts. (refl, refl, refl, refl, λ e. (let g = q .ensures .1 in omega arith), puts-more 3 (omega arith) (rw (h .owners) at (puts-then h (q .ensures .0 crossing))))
+    λ vs ts u. (refl, refl, refl, refl, λ e. (let g = q .ensures .1 in omega arith), puts-more 3 (omega arith) (rw (h .owners) at (puts-then h (q .ensures .0 crossing))), u)
 
 pub leave-at-spec : {M : Type 1} → statement M
 leave-at-spec = tie.close (tie.spec (λ c κs. search needs) push-requires-2 (λ c. search needs) returns)
