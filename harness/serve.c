@@ -116,6 +116,11 @@ static void why(argument *a)
 static void areas(argument *a) { N(0) = voronoi_areas(F(1), U(2), U(3), F(4)); }
 #endif
 
+#ifdef HAS_bulk
+static void all_neighbours(argument *a) { N(0) = voronoi_all_neighbours(MESH(1), U(5), U(6), U(7), U(8), U(9)); }
+static void ends(argument *a) { N(0) = voronoi_ends(MESH(1), N(5), F(6), U(7), U(8)); }
+#endif
+
 #ifdef HAS_mending
 static void mend(argument *a) { N(0) = voronoi_mend(MESH(1), U(5), U(6), U(7), U(8), PU(9), PU(10), PU(11)); }
 #endif
@@ -186,6 +191,9 @@ static const struct {
 #endif
 #ifdef HAS_areas
     {"areas", areas},
+#endif
+#ifdef HAS_bulk
+    {"all_neighbours", all_neighbours}, {"ends", ends},
 #endif
 #ifdef HAS_mending
     {"mend", mend},

@@ -22,6 +22,8 @@
  *   cells_share_edge         the offsets, and the product of the lengths of the two cells; no mesh, so no check
  *   cell                     the offsets; no mesh, so no check
  *   cell_wkb                 the offsets and the cell's entries; no mesh, so no check
+ *   all_neighbours           3T + H; with cells N, and twice the product of the lengths of two cells for each site on the hull
+ *   ends                     the triangles at the sites that the paths pass, at most 3T for each point; few where each point is near the last
  *   areas                    the offsets and the entries, some tenth of a microsecond to one for each entry; no mesh, so no check
  *   mend                     N + T, the check of what was mended included; a site of any degree
  *   read_form, reader_feed   the bytes; no mesh is checked. reader_begin the words of the state, reader_end a fixed number
@@ -45,9 +47,9 @@ extern "C" {
 
 /* ---- the version (the file VERSION; CHANGELOG.md says what changed) */
 
-#define VORONOI_VERSION "0.16.0"
+#define VORONOI_VERSION "0.17.0"
 #define VORONOI_VERSION_MAJOR 0
-#define VORONOI_VERSION_MINOR 16
+#define VORONOI_VERSION_MINOR 17
 #define VORONOI_VERSION_PATCH 0
 
 /* ---- numbers */
@@ -68,6 +70,10 @@ extern "C" {
 #define VORONOI_INDEX_ROOM(T, H) (12 * (size_t)(T) + 8 * (size_t)(H) + 4)
 #define VORONOI_OFFSET_ROOM(N) ((size_t)(N) + 1)
 #define VORONOI_WORK_ROOM(N) ((size_t)(N))
+
+/* What the neighbours of all sites must be lent, for T triangles, H hull sites and N sites: starts, out, and VORONOI_WORK_ROOM. The room of out always suffices. */
+#define VORONOI_START_ROOM(N) ((size_t)(N) + 1)
+#define VORONOI_NEIGHBOUR_ROOM(T, H) (3 * (size_t)(T) + (size_t)(H))
 
 /* What the polygon of a cell of n entries takes in bytes. */
 #define VORONOI_WKB_ROOM(n) ((n) < 3 ? 9 : 29 + 16 * (size_t)(n))
@@ -288,6 +294,26 @@ uint32_t voronoi_shared_edge(const double *sites, size_t sites_len, const uint32
  * There is a site less than offsets, at least none. 4 on either site, then 16. */
 uint32_t voronoi_cells_share_edge(const uint32_t *offsets, size_t offsets_len, const uint32_t *indexes, size_t indexes_len, uint32_t a,
                                   uint32_t b, uint32_t *yes);
+
+/* ---- all gauges at once
+ * Each call checks the mesh once, where the single calls check it each time. `work` is as after a query. */
+
+/* The neighbours of every site: those of site s are out[starts[s]] up to out[starts[s + 1] - 1], the list of voronoi_clipped_neighbours to its end; where
+ * `offsets` and `indexes` both have length 0, that of voronoi_neighbours. starts[N] is where the last list ends. Room: VORONOI_WORK_ROOM,
+ * VORONOI_START_ROOM, VORONOI_NEIGHBOUR_ROOM; no list is ever cut. Tries 1, 2, 6, 7 to 10, 16. After 0 `starts` and `out` hold VORONOI_EMPTY past what is
+ * written; after 7 to 10 throughout; after every other refusal they are as they were. */
+uint32_t voronoi_all_neighbours(const double *sites, size_t sites_len, const uint32_t *triangles, size_t triangles_len,
+                                const uint32_t *halfedges, size_t halfedges_len, const uint32_t *hull, size_t hull_len,
+                                const uint32_t *offsets, size_t offsets_len, const uint32_t *indexes, size_t indexes_len, uint32_t *work,
+                                size_t work_len, uint32_t *starts, size_t starts_len, uint32_t *out, size_t out_len);
+
+/* Where the path to each point ends: out[k] is the last site of voronoi_path to point k with room for all, from `site` for the first point and from
+ * out[k - 1] for each next. `points`: x and y of each in turn. On a Delaunay mesh that is the nearest gauge; this is no part of what is promised.
+ * Room: VORONOI_WORK_ROOM, and an entry of out for each point, of which there may be none. Tries 1 (also on an odd list of points), 2, 4, 5 on every point,
+ * 6, 7 to 10. After 0 further entries of `out` stay as they were; after 7 to 10 `out` is VORONOI_EMPTY throughout, after every other refusal as it was. */
+uint32_t voronoi_ends(const double *sites, size_t sites_len, const uint32_t *triangles, size_t triangles_len, const uint32_t *halfedges,
+                      size_t halfedges_len, const uint32_t *hull, size_t hull_len, uint32_t site, const double *points, size_t points_len,
+                      uint32_t *work, size_t work_len, uint32_t *out, size_t out_len);
 
 /* ---- the builds
  * work, vertices, indexes, offsets and counts are lent; what each must be long at least is above (vertices_len counts numbers, two for

@@ -1,6 +1,7 @@
 //! One case put to the Rust, to the second reading of the rules and to the proved library: any difference is told in words.
 
 use crate::areas;
+use crate::bulk;
 use crate::cases::Case;
 use crate::edges;
 use crate::expect::{self, Beside, Facts, Slices};
@@ -94,6 +95,7 @@ fn ask(index: u64, c: &Case, calls: &mut Vec<Call>, tally: &mut Tally) -> Told {
     areas::ask(index, c, &cells, vertices, calls, tally);
     let diagram = lent.as_ref().map(|l| rust::diagram(l, &cells));
     walks(c, &facts, &cells, diagram.as_ref(), calls, tally)?;
+    bulk::ask(index, c, &facts, &cells, diagram.as_ref(), calls, tally);
     cell_questions(c, &cells, diagram.as_ref(), calls, tally)
 }
 

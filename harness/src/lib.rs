@@ -2,6 +2,7 @@
 
 pub mod areas;
 pub mod bench;
+pub mod bulk;
 pub mod cases;
 pub mod compare;
 pub mod edges;

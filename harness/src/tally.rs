@@ -22,6 +22,8 @@ pub const CALLS: &[Call] = &[
     Call { name: "cells_share_edge", numbers: &[0, 4, 16] },
     Call { name: "cell", numbers: &[0, 4, 16] },
     Call { name: "areas", numbers: &[0, 1, 2, 16, 18, 24] },
+    Call { name: "all_neighbours", numbers: &[0, 1, 2, 6, 7, 8, 9, 10, 16] },
+    Call { name: "ends", numbers: &[0, 1, 2, 4, 5, 6, 7, 8, 9, 10] },
     Call { name: "cell_wkb", numbers: &[0, 1, 2, 4, 16, 18] },
     Call { name: "cell_wkb_bits", numbers: &[0, 1, 2, 4, 16, 18] },
     Call { name: "read_multipoint", numbers: &[0, 1, 2, 6, 21] },

@@ -5,7 +5,7 @@ use mathlib.Core.Path.{_≡_}
 use mathlib.Core.Bool.{true}
 use mathlib.Core.List.{List, [], _∷_}
 use mathlib.Core.Logic.{_≢_, _↔_}
-use Prim.Native.Nat.{ℕ, suc, _^_, _≤_, _<_}
+use Prim.Native.Nat.{ℕ, suc, _+_, _/_, _%_, _^_, _≤_, _<_}
 use lib.Ieee.{Float, nan}
 use lib.IntN.{ℤ}
 use lib.ListN.{length, getD, take, drop}
@@ -41,6 +41,12 @@ use Rattle.voronoi.specs.Grids.{GridCheck, SitesOfGrid}
 use Rattle.voronoi.specs.One.{one-grid-check, one-grid-sites}
 use Rattle.voronoi.specs.Sizes.{Areas}
 use Rattle.voronoi.specs.One.{one-areas}
+use Rattle.bulk_neighbours.specs.Promise.{CellsLent}
+use Rattle.bulk_ends.specs.Promise.{PointsKept}
+use Rattle.voronoi.specs.Bulk.{AllNeighbours, EndsOfPaths}
+use Rattle.voronoi.specs.One.{one-all-neighbours, one-ends}
+use Rattle.voronoi.specs.Outcomes.{OneAll, AllRefused}
+use Rattle.voronoi.specs.laws.Refused.{all-refused, ends-refused}
 use Rattle.voronoi.specs.One.{one-mend, one-cell-wkb-bits, one-cell-wkb, one-root-bits, one-root, one-magnitude-bits, one-magnitude, one-signum-bits, one-signum}
 use Rattle.voronoi.specs.Plane.{Near, Dist2, Circumcenter, Centroid, Edges, Centered, Corners, Inside, ExclusivelyInside, WhichEdge, Meets}
 use Rattle.voronoi.specs.One.{one-near, one-dist2, one-center, one-box, one-box-center, one-corners, one-inside, one-exclusively, one-side, one-meeting}
@@ -63,7 +69,7 @@ use Rattle.voronoi.specs.Bounds.{BoundedEdges, BoundedCenter, BoundedMee
 use Rattle.voronoi.specs.Approach.{WholeRound, nextTo, Joined, Approaches}
 use Rattle.voronoi.specs.Wraps.{Wraps}
 use Rattle.voronoi.specs.laws.Refused.{work-refused, list-refused, slices-refused, lists-refused}
-use Rattle.voronoi.specs.laws.Answering.{check-answers, site-answers, cells-answers, path-answers, edge-answers}
+use Rattle.voronoi.specs.laws.Answering.{all-answers, ends-answers, check-answers, site-answers, cells-answers, path-answers, edge-answers}
 use Rattle.voronoi.specs.laws.Leaving.{build-answers, build-leaves, build-empty}
 use Rattle.voronoi.specs.laws.PlaneBounds.{dist2-answer, circumcenter-answer, centroid-answer, box-answer, center-answer, corners-answer, line-answer, ray-answer}
 use Rattle.voronoi.specs.laws.Written.{written, begins, rest}
@@ -157,6 +163,10 @@ pub record Demand1 (m : Mesh) : Type 0 where
   pub flip : (sites : ℕ) (hull : List ℕ) (a : ℕ) (old : FlipLists) → One₂ (λ r new. Flip sites hull a old new r)
   -- voronoi_areas: the number, the areas
   pub areas : (v : List Float) (off ix : List ℕ) (old : List Float) → One₂ (λ r new. Areas v off ix old new r)
+  -- voronoi_all_neighbours: the number, the work slice, the starts, the output slice
+  pub all-neighbours : (offs idx : List ℕ) (w st o : List ℕ) → OneAll (λ r w′ st′ o′. AllNeighbours m offs idx w w′ st st′ o o′ r)
+  -- voronoi_ends: the number, the work slice, the output slice
+  pub ends : (s : ℕ) (points : List Float) (w o : List ℕ) → One₃ (λ r w′ o′. EndsOfPaths m s points w w′ o o′ r)
   -- refused by voronoi_check: the work slice
   pub check-refused : {w w′ : List ℕ} {r : ℕ} → Check m w w′ r → r ≢ 0 → SliceRefused EMPTY w w′ r
   -- by a call that hands out a list: the work slice, the output slice, the count, ended
@@ -167,6 +177,11 @@ pub record Demand1 (m : Mesh) : Type 0 where
   pub path-refused : (s : ℕ) (p : Point) {w w′ o o′ : List ℕ} {k e r : ℕ} → Path m s p w w′ o o′ k e r → r ≢ 0 → ListRefused w w′ o o′ k e r
   -- by voronoi_shared_edge: the work slice
   pub shared-edge-refused : (a b : ℕ) {w w′ : List ℕ} {e r : ℕ} → SharedEdge m a b w w′ e r → r ≢ 0 → SliceRefused EMPTY w w′ r
+  -- by the calls for all gauges at once: the work slice, the starts, the output slice
+  pub all-neighbours-refused : (offs idx : List ℕ) {w w′ st st′ o o′ : List ℕ} {r : ℕ} → AllNeighbours m offs idx w w′ st st′ o o′ r → r ≢ 0
+      → AllRefused w w′ st st′ o o′ r
+  pub ends-refused : (s : ℕ) (points : List Float) {w w′ o o′ : List ℕ} {r : ℕ} → EndsOfPaths m s points w w′ o o′ r → r ≢ 0
+      → SliceRefused EMPTY w w′ r × SliceRefused EMPTY o o′ r
   -- by a build: all five slices
   pub build-refused : (g : Given) {old new : Slices} {r : ℕ} → Build m g old new r → r ≢ 0 → BuildRefused old new r
   -- by a flip: triangles, half-edges and table stay
@@ -184,6 +199,11 @@ pub record Demand2 (m : Mesh) : Type 0 where
       → (r ≡ 0) ↔ QueryAllowed m w ((s < siteCount (m .sites)) × CellsOf offs idx (siteCount (m .sites)))
   pub path-answers : (s : ℕ) (p : Point) {w w′ o o′ : List ℕ} {k e r : ℕ} → Path m s p w w′ o o′ k e r
       → (r ≡ 0) ↔ QueryAllowed m w ((s < siteCount (m .sites)) × (okSite p ≡ true))
+  -- so do the calls for all gauges at once: room for starts and lists and sound cells where they are lent; an even list of points, room for their ends, a site, sound points
+  pub all-neighbours-answers : (offs idx : List ℕ) {w w′ st st′ o o′ : List ℕ} {r : ℕ} → AllNeighbours m offs idx w w′ st st′ o o′ r
+      → (r ≡ 0) ↔ QueryAllowed m w ((siteCount (m .sites) < length st) × (length (m .triangles) + length (m .hull) ≤ length o) × CellsLent offs idx (siteCount (m .sites)))
+  pub ends-answers : (s : ℕ) (points : List Float) {w w′ o o′ : List ℕ} {r : ℕ} → EndsOfPaths m s points w w′ o o′ r
+      → (r ≡ 0) ↔ QueryAllowed m w ((length points % 2 ≡ 0) × (length points / 2 ≤ length o) × (s < siteCount (m .sites)) × PointsKept points)
   pub shared-edge-answers : (a b : ℕ) {w w′ : List ℕ} {e r : ℕ} → SharedEdge m a b w w′ e r → (r ≡ 0) ↔ QueryAllowed m w (Unit {0})
   -- a box fits that is given by its center and size, and one that is given by its edges: all that is asked of a box below
   pub by-size : (c : Point) (w h : Float) → Fits (bySize c w h)
@@ -299,12 +319,16 @@ demand1 m = record {
   grid-sites = λ grid old _ _ _ _. one-grid-sites grid;
   flip = λ sites hull a old _ _ _ _. one-flip sites hull a;
   areas = λ v off ix old _ _ _ _. one-areas v off ix old;
+  all-neighbours = λ offs idx w st o _ _ _ _ _ _ _ _. one-all-neighbours m offs idx;
+  ends = λ s points w o _ _ _ _ _ _. one-ends m s points;
   check-refused = λ a. work-refused m (a .work);
   walk-refused = λ s. list-refused;
   neighbours-refused = λ s. list-refused;
   clipped-refused = λ offs idx s. list-refused;
   path-refused = λ s p. list-refused;
   shared-edge-refused = λ a b x. work-refused m (x .work);
+  all-neighbours-refused = all-refused m;
+  ends-refused = ends-refused m;
   build-refused = λ g. slices-refused;
   flip-refused = lists-refused;
 }
@@ -316,6 +340,8 @@ demand2 m = record {
   neighbours-answers = λ s a. site-answers m _ s (a .number);
   clipped-answers = λ offs idx s a. cells-answers m _ offs idx s (a .number);
   path-answers = λ s p a. path-answers m _ s p (a .number);
+  all-neighbours-answers = λ offs idx {w} {w′} {st} {st′} {o} a. all-answers m w offs idx st o (a .number);
+  ends-answers = λ s points {w} {w′} {o} a. ends-answers m w s points o (a .number);
   shared-edge-answers = λ a b x. edge-answers m _ (x .number);
   by-size = size-fits;
   by-edges = edges-fit;

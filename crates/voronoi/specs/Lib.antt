@@ -13,6 +13,7 @@ pub mod Gauges
 pub mod Grids
 pub mod Flips
 pub mod Sizes
+pub mod Bulk
 pub mod Examples
 pub mod laws
 pub mod Outcomes
@@ -22,5 +23,6 @@ pub mod Approach
 pub mod Wraps
 pub mod Demands
 pub mod Restart
+pub mod Singles
 pub mod Thrice
 pub mod StepsTaken

@@ -50,6 +50,9 @@ use Rattle.flip_call.specs.Flips.{FlipLists}
 use Rattle.flip_call.specs.One.{flips-one}
 use Rattle.voronoi.specs.Flips.{Flip}
 use Rattle.areas.specs.One as areas
+use Rattle.bulk_neighbours.specs.One as bulk-neighbours
+use Rattle.bulk_ends.specs.One as bulk-ends
+use Rattle.voronoi.specs.Bulk.{AllNeighbours, EndsOfPaths}
 use Rattle.voronoi.specs.Sizes.{Areas}
 use Rattle.voronoi.specs.Roots.{MagnitudeBits, Magnitude, SignumBits, Signum}
 use Rattle.voronoi.specs.Plane.{Near, Dist2, Edges, Centered, Corners, Inside, ExclusivelyInside, WhichEdge, Meets}
@@ -259,3 +262,12 @@ one-flip sites hull a = flips-one sites hull a _ _ _ _ _
 pub one-areas : (v : List Float) (off ix : List ℕ) (old : List Float) {new other : List Float} {q r : ℕ} → Areas v off ix old new q → Areas v off ix old other r
     → (q ≡ r) × (new ≡ other)
 one-areas = areas.one-areas
+
+-- ---- all gauges at once
+pub one-all-neighbours : (m : Mesh) (off ix : List ℕ) {w new other st st′ st″ o o′ o″ : List ℕ} {q r : ℕ} → AllNeighbours m off ix w new st st′ o o′ q
+    → AllNeighbours m off ix w other st st″ o o″ r → (q ≡ r) × (new ≡ other) × (st′ ≡ st″) × (o′ ≡ o″)
+one-all-neighbours = bulk-neighbours.one-all-neighbours
+
+pub one-ends : (m : Mesh) (s : ℕ) (points : List Float) {w new other o o′ o″ : List ℕ} {q r : ℕ} → EndsOfPaths m s points w new o o′ q → EndsOfPaths m s points w other o o″ r
+    → (q ≡ r) × (new ≡ other) × (o′ ≡ o″)
+one-ends = bulk-ends.one-ends

@@ -36,6 +36,10 @@ OneMend P = (r r′ : ℕ) (l l′ : Lent) (k k′ p p′ q q′ : ℕ) → P r 
 abbrev pub OneGrid : (ℕ → ℕ → ℕ → List ℕ → Type 0) → Type 0
 OneGrid P = (r r′ k k′ p p′ : ℕ) (w w′ : List ℕ) → P r k p w → P r′ k′ p′ w′ → (r ≡ r′) × (k ≡ k′) × (p ≡ p′) × (w ≡ w′)
 
+-- the neighbours of all sites: number, work slice, starts, output slice
+abbrev pub OneAll : (ℕ → List ℕ → List ℕ → List ℕ → Type 0) → Type 0
+OneAll P = (r r′ : ℕ) (w w′ st st′ o o′ : List ℕ) → P r w st o → P r′ w′ st′ o′ → (r ≡ r′) × (w ≡ w′) × (st ≡ st′) × (o ≡ o′)
+
 -- crossings: number, count, two points
 abbrev pub OneMeeting : (ℕ → ℕ → Float → Float → Float → Float → Type 0) → Type 0
 OneMeeting P = (n n′ k k′ : ℕ) (x x′ y y′ u u′ v v′ : Float) → P n k x y u v → P n′ k′ x′ y′ u′ v′ → (n ≡ n′) × (k ≡ k′) × (x ≡ x′)
@@ -64,6 +68,13 @@ pub record ListRefused (w w′ o o′ : List ℕ) (k e r : ℕ) : Type 0 where
   pub out-16 : r ≡ 16 → o′ ≡ o
   pub count : k ≡ 0
   pub ended : e ≡ 0
+
+-- the neighbours of all sites: starts and output are as they were after 16 too
+pub record AllRefused (w w′ st st′ o o′ : List ℕ) (r : ℕ) : Type 0 where
+  pub work : SliceRefused EMPTY w w′ r
+  pub starts : r ≢ 16 → SliceRefused EMPTY st st′ r
+  pub out : r ≢ 16 → SliceRefused EMPTY o o′ r
+  pub kept-16 : r ≡ 16 → (st′ ≡ st) × (o′ ≡ o)
 
 pub record BuildRefused (old new : Slices) (r : ℕ) : Type 0 where
   pub work : SliceRefused EMPTY (old .work) (new .work) r

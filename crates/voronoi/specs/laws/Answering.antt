@@ -1,9 +1,10 @@
 -- A query answers 0 exactly where it may: its number is that of the first rule that is broken, and no rule has the number 0.
 use mathlib.Core.Path.{_≡_, sym, _∙_}
 use mathlib.Core.Bool.{true}
-use mathlib.Core.List.{List, []}
+use mathlib.Core.List.{List, [], _++_}
 use mathlib.Core.Logic.{_↔_}
-use Prim.Native.Nat.{ℕ, _≤_, _<_}
+use Prim.Native.Nat.{ℕ, _+_, _/_, _%_, _≤_, _<_}
+use lib.Ieee.{Float}
 use lib.ListN.{length}
 use borrow.Author.Needs.{needs}
 use Rattle.laws.specs.Refusals.{Rule, Keep, Finds}
@@ -11,9 +12,12 @@ use Rattle.laws.specs.laws.Refusals.{Answers, finds-one, finds-none, finds-keep
 use Rattle.utils.specs.Rules.{okSite}
 use Rattle.utils.specs.declared.Point.{Point}
 use Rattle.mesh.specs.Accepted.{Mesh, siteCount}
-use Rattle.mesh.specs.Rules.{numberOf}
+use Rattle.mesh.specs.Rules.{numberOf, callRules}
 use Rattle.mesh.specs.laws.Verdicts.{accepted-keep, keep-accepted}
 use Rattle.admission.specs.Asks.{CellsOf}
+use Rattle.bulk_neighbours.specs.Promise.{RoomFor, CellsLent, lentRules}
+use Rattle.bulk_ends.specs.Promise.{endsRoom, PointsKept, allRules}
+use Rattle.bulk_ends.specs.laws.Answers.{room-table, room-ends, room-both}
 use Rattle.voronoi.specs.Meshes.{Check}
 use Rattle.voronoi.specs.Accepted.{checked-accepted, accepted-checked}
 use Rattle.admission.specs.Asks.{siteRules, pathRules, cellRules}
@@ -52,6 +56,35 @@ module _ (m : Mesh) (w : List ℕ) {r : ℕ} where
       record { mesh = sound; room = k .1 .0; arguments = (k .1 .1 .0, t .1 .1 .1 .1 .1 .0) })
       (λ p. let k = accepted-keep m (siteCount (m .sites) ≤ length w) (p .mesh) (p .room) in let u = k .1 .1 in let t = u .1 in
       (k .0, (k .1 .0, (p .arguments .0, (u .0, (t .0, (t .1 .0, (t .1 .1 .0, (t .1 .1 .1 .0, (t .1 .1 .1 .1 .0, (p .arguments .1, tt)))))))))))
+
+  -- the neighbours of all sites: room for the starts and the lists, and 16 on cells that are lent
+  pub all-answers : (offs idx st o : List ℕ) → Finds (callRules m (RoomFor m (length w) (length st) (length o)) [] ++ lentRules offs idx (siteCount (m .sites))) 0 r
+      → (r ≡ 0) ↔ QueryAllowed m w ((siteCount (m .sites) < length st) × (length (m .triangles) + length (m .hull) ≤ length o) × CellsLent offs idx (siteCount (m .sites)))
+  all-answers offs idx st o =
+      let room = RoomFor m (length w) (length st) (length o) in
+      exactly _ (search needs)
+      (λ k. let u = k .1 .1 in let t = u .1 in
+      let sound = keep-accepted m room (k .0, (k .1 .0, (u .0, (t .0, (t .1 .0, (t .1 .1 .0, (t .1 .1 .1 .0, (t .1 .1 .1 .1 .0, tt)))))))) in
+      record { mesh = sound; room = k .1 .0 .table; arguments = (k .1 .0 .cuts, k .1 .0 .lists, t .1 .1 .1 .1 .1 .0) })
+      (λ p. let fits : room = record { table = p .room; cuts = p .arguments .0; lists = p .arguments .1 } in
+      let k = accepted-keep m room (p .mesh) fits in let u = k .1 .1 in let t = u .1 in
+      (k .0, (k .1 .0, (u .0, (t .0, (t .1 .0, (t .1 .1 .0, (t .1 .1 .1 .0, (t .1 .1 .1 .1 .0, (p .arguments .2, tt))))))))))
+
+  -- the ends of paths: an even list of points, room for their ends, 4, and 5 on every point
+  pub ends-answers : (s : ℕ) (points : List Float) (o : List ℕ) → Finds (allRules m s points (length w) (length o)) 0 r
+      → (r ≡ 0) ↔ QueryAllowed m w ((length points % 2 ≡ 0) × (length points / 2 ≤ length o) × (s < siteCount (m .sites)) × PointsKept points)
+  ends-answers s points o =
+      let n = siteCount (m .sites) in
+      let room = endsRoom n (length points / 2) (length w) (length o) ≡ true in
+      exactly _ (search needs)
+      (λ k. let c = k .1 in record {
+        mesh = keep-accepted m room (c .0, (c .1 .0, c .1 .1 .1 .1));
+        room = room-table n (length points / 2) (length w) (length o) (c .1 .0);
+        arguments = (k .0, room-ends n (length points / 2) (length w) (length o) (c .1 .0), c .1 .1 .0, c .1 .1 .1 .0);
+      })
+      (λ x. let a = x .arguments in
+      let c = accepted-keep m room (x .mesh) (room-both n (length points / 2) (length w) (length o) (x .room) (a .1)) in
+      (a .0, (c .0, (c .1 .0, (a .2, (a .3, c .1 .1))))))
 
   pub check-answers : {w′ : List ℕ} → Check m w w′ r → (r ≡ 0) ↔ QueryAllowed m w (Unit {0})
   check-answers {w′} c = (

@@ -4,6 +4,7 @@ use mathlib.Core.List.{List}
 use mathlib.Core.Logic.{_≢_}
 use Prim.Native.Nat.{ℕ, _≤_, _<_}
 use native.Mathlib.Omega.{arith}
+use lib.Ieee.{Float}
 use lib.ListN.{length, replicate}
 use borrow.Author.Tests.{ne-eqb, lt-ltb, le-ltb}
 use Rattle.numbers.specs.Numbers.{EMPTY}
@@ -19,10 +20,12 @@ use Rattle.check_mesh.specs.AtExit.{atExit}
 use Rattle.admission.specs.Slices.{Slices}
 use Rattle.plane_calls.specs.Plane.{bit}
 use Rattle.voronoi.specs.Walks.{Handed}
+use Rattle.bulk_neighbours.specs.Promise.{madeAfter}
+use Rattle.voronoi.specs.Bulk.{AllNeighbours, EndsOfPaths}
 use Rattle.flip_call.specs.Flips.{FlipLists}
 use Rattle.flip_call.specs.FlipsTheorem.{flip-refused}
 use Rattle.voronoi.specs.Flips.{Flip}
-use Rattle.voronoi.specs.Outcomes.{SliceRefused, ListRefused, BuildRefused, FlipRefused}
+use Rattle.voronoi.specs.Outcomes.{SliceRefused, ListRefused, AllRefused, BuildRefused, FlipRefused}
 
 module _ (r : ℕ) (n : r ≢ 0) where
   work-kept : (m : Mesh) (old : List ℕ) → r < 7 → workAfter m old r ≡ old
@@ -87,6 +90,31 @@ slices-refused a n = record {
   offsets = slice-refused EMPTY _ _ _ _ n (a .offsets);
   counts = slice-refused EMPTY _ _ _ _ n (a .counts);
 }
+
+-- what was made of a slice of all sites' lists
+module _ (made old : List ℕ) (r : ℕ) where
+  made-refused : {new : List ℕ} → r ≢ 0 → new ≡ madeAfter made old r → r ≢ 16 → SliceRefused EMPTY old new r
+  unfolding madeAfter atExit
+  made-refused n q d = record {
+    kept = λ l. q ∙ rw (ne-eqb r 16 d, ne-eqb r 0 n, lt-ltb r 7 l);
+    cleared = λ l. q ∙ rw (ne-eqb r 16 d, ne-eqb r 0 n, le-ltb r 7 l);
+  }
+
+  made-sixteen : r ≡ 16 → madeAfter made old r ≡ old
+  unfolding madeAfter
+  made-sixteen q = rw q
+
+pub all-refused : (m : Mesh) (off ix : List ℕ) {w w′ st st′ o o′ : List ℕ} {r : ℕ} → AllNeighbours m off ix w w′ st st′ o o′ r → r ≢ 0 → AllRefused w w′ st st′ o o′ r
+all-refused m off ix {st = st} {o = o} {r = r} a n = record {
+  work = work-refused m (a .work) n;
+  starts = made-refused _ st r n (a .starts);
+  out = made-refused _ o r n (a .out);
+  kept-16 = λ q. (a .starts ∙ made-sixteen _ st r q, a .out ∙ made-sixteen _ o r q);
+}
+
+pub ends-refused : (m : Mesh) (s : ℕ) (points : List Float) {w w′ o o′ : List ℕ} {r : ℕ} → EndsOfPaths m s points w w′ o o′ r → r ≢ 0
+    → SliceRefused EMPTY w w′ r × SliceRefused EMPTY o o′ r
+ends-refused m s points a n = (work-refused m (a .work) n, slice-refused EMPTY _ _ _ _ n (a .out))
 
 pub lists-refused : (sites : ℕ) (hull : List ℕ) (a : ℕ) {old new : FlipLists} {r : ℕ} → Flip sites hull a old new r → r ≢ 0 → FlipRefused old new r
 lists-refused sites hull a {old} {new} {r} x n =

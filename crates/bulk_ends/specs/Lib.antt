@@ -1,0 +1,6 @@
+pub mod Ends
+pub mod Promise
+pub mod Steps
+pub mod One
+pub mod EndsTheorem
+pub mod laws
