@@ -153,6 +153,7 @@ static void write_multipoint(argument *a) { N(0) = voronoi_write_multipoint(F(1)
 
 #ifdef HAS_grids
 static void grid_check(argument *a) { N(0) = voronoi_grid_check(I(1), U(2), U(3), U(4), U(5), PU(6), PU(7)); }
+static void grid_nearest(argument *a) { N(0) = voronoi_grid_nearest(I(1), U(2), U(3), U(4), U(5), PU(6), PU(7), PU(8)); }
 static void grid_sites(argument *a) { N(0) = voronoi_grid_sites(I(1), F(2)); }
 #endif
 
@@ -208,7 +209,7 @@ static const struct {
     {"read_multipoint", read_multipoint}, {"write_multipoint", write_multipoint},
 #endif
 #ifdef HAS_grids
-    {"grid_check", grid_check}, {"grid_sites", grid_sites},
+    {"grid_check", grid_check}, {"grid_nearest", grid_nearest}, {"grid_sites", grid_sites},
 #endif
 #ifdef HAS_flipping
     {"flip", flip},

@@ -28,6 +28,7 @@
  *   mend                     N + T, the check of what was mended included; a site of any degree
  *   read_form, reader_feed   the bytes; no mesh is checked. reader_begin the words of the state, reader_end a fixed number
  *   grid_check               N + T, the check of the mesh included
+ *   grid_nearest             N + T + H, the check of the mesh included
  *   grid_sites               the coordinates; no mesh, so no check
  *   flip                     T, to see whether the opposite sites are joined; the change itself the half-edges that end at two sites
  *   build                    usually N + T (0.3 to 0.9 microseconds a site). At worst the square of N: an added point is searched for among
@@ -47,9 +48,9 @@ extern "C" {
 
 /* ---- the version (the file VERSION; CHANGELOG.md says what changed) */
 
-#define VORONOI_VERSION "0.17.0"
+#define VORONOI_VERSION "0.18.0"
 #define VORONOI_VERSION_MAJOR 0
-#define VORONOI_VERSION_MINOR 17
+#define VORONOI_VERSION_MINOR 18
 #define VORONOI_VERSION_PATCH 0
 
 /* ---- numbers */
@@ -488,6 +489,22 @@ uint32_t voronoi_write_multipoint(const double *sites, size_t sites_len, uint8_t
 uint32_t voronoi_grid_check(const int32_t *grid, size_t grid_len, const uint32_t *triangles, size_t triangles_len,
                             const uint32_t *halfedges, size_t halfedges_len, const uint32_t *hull, size_t hull_len, uint32_t *work,
                             size_t work_len, uint32_t *kind, uint32_t *place);
+
+/* The same with one question more, of the hull: with up = 32768 dy + dx of an edge from a hull site to the next, exactly one hull place has an edge up
+ * (above 0) after an edge down, and no place whose two edges go both up or both down turns right; straight places do. Such a hull is convex.
+ * *kind has one value more, and `yes` then says: every path towards a destination of whole or half-whole coordinates up to 33,546,239 (or of multiples
+ * of 2^-11 up to 24,575) ends at a site of least distance over all sites in use, and each corner of a box of such edges is owned by one.
+ *
+ *   VORONOI_GRID_HULL       turns and circles hold; *place is the lowest hull place inside a run that turns right, or where there is none the second
+ *                           with an edge up after an edge down
+ *
+ * *unused is the lowest site in no triangle, which no path reaches and which may be nearer; VORONOI_EMPTY where there is none, and when refused.
+ * All else as voronoi_grid_check. */
+#define VORONOI_GRID_HULL 3
+
+uint32_t voronoi_grid_nearest(const int32_t *grid, size_t grid_len, const uint32_t *triangles, size_t triangles_len,
+                              const uint32_t *halfedges, size_t halfedges_len, const uint32_t *hull, size_t hull_len, uint32_t *work,
+                              size_t work_len, uint32_t *kind, uint32_t *place, uint32_t *unused);
 
 /* The same sites as floats, for every other call: equal numbers, nothing lost. Room: as many numbers. Tries 1 (an odd length, the limits on the
  * count of sites), 2, 22; `sites` is unchanged by each. After 0 it has the floats, then +0. */

@@ -19,6 +19,7 @@ pub enum Answer {
     Yes,
     Triangle(u32),
     Halfedge(u32),
+    HullPlace(u32),
     Refused(u32),
 }
 
@@ -28,6 +29,7 @@ impl Answer {
             Answer::Yes => [0, 0, EMPTY],
             Answer::Triangle(t) => [0, 1, t],
             Answer::Halfedge(e) => [0, 2, e],
+            Answer::HullPlace(i) => [0, 3, i],
             Answer::Refused(n) => [n, EMPTY, EMPTY],
         }
     }
@@ -112,6 +114,34 @@ impl Case {
             Some(e) => Answer::Halfedge(e as u32),
             None => Answer::Yes,
         }
+    }
+
+    /// The same, and where it is yes the hull: the lowest place inside a run that turns right; then the second that begins a run of edges up.
+    pub fn nearest_answer(&self) -> Answer {
+        let answer = self.answer();
+        if answer != Answer::Yes {
+            return answer;
+        }
+        let h = self.mesh.hull.len();
+        let at = |i: usize| self.place(self.mesh.hull[i % h]);
+        let up = |i: usize| {
+            let (dx, dy) = less(at(i + 1), at(i));
+            32_768 * dy + dx
+        };
+        let right = |i: usize| up(i + h - 1).signum() == up(i).signum() && cross(less(at(i), at(i + h - 1)), less(at(i + 1), at(i))) > 0;
+        let starts: Vec<usize> = (0..h).filter(|&i| up(i + h - 1) < 0 && up(i) > 0).collect();
+        assert!(!starts.is_empty(), "edges up alone, or down alone, round a closed hull");
+        match (0..h).find(|&i| right(i)).or(starts.get(1).copied()) {
+            Some(i) => Answer::HullPlace(i as u32),
+            None => Answer::Yes,
+        }
+    }
+
+    /// The lowest site that no triangle names.
+    fn unused(&self) -> u32 {
+        let mut named = vec![false; self.grid.len() / 2];
+        self.mesh.triangles.iter().for_each(|&s| named[s as usize] = true);
+        named.iter().position(|named| !named).map_or(EMPTY, |s| s as u32)
     }
 
     /// The sites alone: 1, 2, 22.
@@ -234,8 +264,8 @@ fn moved(r: &mut Rng, grid: &mut [i32]) {
 }
 
 /// What must come up in a run.
-const SEEN: [&str; 9] = [
-    "yes", "a triangle", "a flat triangle", "a half-edge", "yes, a far site on the circle", "yes, a coordinate at the limit",
+const SEEN: [&str; 14] = [
+    "nearest", "nearest, a site unused", "a hull place that turns right", "a hull place that begins a second run", "a hull place, a site unused", "yes", "a triangle", "a flat triangle", "a half-edge", "yes, a far site on the circle", "yes, a coordinate at the limit",
     "22 and a broken mesh", "a triangle, and a far site inside", "more room than needed",
 ];
 
@@ -255,6 +285,19 @@ impl Seen {
     }
 
     fn note(&mut self, c: &Case, answer: Answer, floats: u32) {
+        match c.nearest_answer() {
+            Answer::Yes if c.unused() != EMPTY => self.at("nearest, a site unused"),
+            Answer::Yes => self.at("nearest"),
+            Answer::HullPlace(i) => {
+                let (h, i) = (c.mesh.hull.len(), i as usize);
+                let [a, b, d] = [i + h - 1, i, i + 1].map(|k| c.place(c.mesh.hull[k % h]));
+                self.at(if cross(less(b, a), less(d, b)) > 0 { "a hull place that turns right" } else { "a hull place that begins a second run" });
+                if c.unused() != EMPTY {
+                    self.at("a hull place, a site unused");
+                }
+            }
+            _ => {}
+        }
         self.numbers[NUMBERS.iter().position(|&n| n == answer.numbers()[0]).unwrap()] += 1;
         self.floats[FLOAT_NUMBERS.iter().position(|&n| n == floats).unwrap()] += 1;
         let each = |c: &Case| -> Vec<i128> { (0..c.mesh.triangles.len()).filter_map(|e| c.far(e)).collect() };
@@ -281,6 +324,7 @@ impl Seen {
                 }
             }
             Answer::Halfedge(_) => self.at("a half-edge"),
+            Answer::HullPlace(_) => unreachable!(),
             Answer::Refused(22) if reference::topology(&c.mesh) != 0 => self.at("22 and a broken mesh"),
             Answer::Refused(_) => {}
         }
@@ -302,7 +346,7 @@ impl Seen {
     }
 }
 
-fn check_call(c: &Case, answer: Answer) -> Call {
+fn check_call(name: &'static str, c: &Case, answer: Answer) -> Call {
     let [number, kind, place] = answer.numbers();
     let entry = vec![0xa5a5a5a5; c.work];
     let exit = match number {
@@ -311,7 +355,7 @@ fn check_call(c: &Case, answer: Answer) -> Call {
         _ => vec![EMPTY; c.work],
     };
     let m = &c.mesh;
-    let call = Call::new("grid_check").gives(number).wholes(&c.grid).indexes(&m.triangles).indexes(&m.halfedges).indexes(&m.hull);
+    let call = Call::new(name).gives(number).wholes(&c.grid).indexes(&m.triangles).indexes(&m.halfedges).indexes(&m.hull);
     call.lent_indexes(&entry, &exit).gives(kind).gives(place)
 }
 
@@ -330,7 +374,9 @@ pub fn run_one(index: u64, c: &Case, library: &mut Library, seen: &mut Seen) -> 
     let (answer, floats) = (c.answer(), c.floats_answer());
     seen.note(c, answer, floats);
     if library.has("grid_check") {
-        library.put(index, check_call(c, answer))?;
+        library.put(index, check_call("grid_check", c, answer))?;
+        let unused = if answer.numbers()[0] == 0 { c.unused() } else { EMPTY };
+        library.put(index, check_call("grid_nearest", c, c.nearest_answer()).gives(unused))?;
         library.put(index, floats_call(c, floats))?;
     }
     Ok(())

@@ -24,6 +24,17 @@ crossOf a b c = (b .x -ℤ a .x) *ℤ (c .y -ℤ a .y) -ℤ (b .y -ℤ a .y) *�
 abbrev pub turnsLeft : GridPoint → GridPoint → GridPoint → Bool
 turnsLeft a b c = ltZ (crossOf a b c) (pos 0)
 
+-- clockwise: read backward they turn counter-clockwise
+abbrev pub turnsRight : GridPoint → GridPoint → GridPoint → Bool
+turnsRight a b c = turnsLeft c b a
+
+-- how far the edge from a to b goes up: 32,768 dy + dx, which is 0 for no two places of the profile
+abbrev pub riseOf : GridPoint → GridPoint → ℤ
+riseOf a b = pos 32768 *ℤ (b .y -ℤ a .y) +ℤ (b .x -ℤ a .x)
+
+abbrev pub goesUp : GridPoint → GridPoint → Bool
+goesUp a b = ltZ (pos 0) (riseOf a b)
+
 -- the squared distance from a to d
 abbrev pub squaredTo : GridPoint → GridPoint → ℤ
 squaredTo a d = (a .x -ℤ d .x) *ℤ (a .x -ℤ d .x) +ℤ (a .y -ℤ d .y) *ℤ (a .y -ℤ d .y)

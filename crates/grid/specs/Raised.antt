@@ -30,6 +30,10 @@ liftOf a b c d = record {
   minus = a .z * areaOf b c d .minus + b .z * areaOf c a d .minus + c .z * areaOf a b d .minus + d .z * areaOf a b c .plus;
 }
 
+-- an edge goes up where this grows
+abbrev pub levelOf : Raised → ℕ
+levelOf a = 32768 * a .y + a .x
+
 -- a number with a sign is above 0
 abbrev pub above : Signed → Bool
 above s = ltb (s .minus) (s .plus)

@@ -5,8 +5,8 @@ ghost use Prim.Native.Nat.{_+_, _*_, _/_, _<_, _≤_};
 ghost use lib.ListN.{length, getD};
 ghost use lib.IntN.{pos};
 ghost use Rattle.laws.specs.Decide.{Says, First};
-ghost use Rattle.grid.specs.Plane.{Within, placeAt, WithinAt, SiteAt, turnsLeft, strictlyInside};
-ghost use Rattle.grid.specs.Raised.{up, raisedOf, areaOf, liftOf, Low, Small};
+ghost use Rattle.grid.specs.Plane.{Within, placeAt, WithinAt, SiteAt, turnsLeft, goesUp, strictlyInside};
+ghost use Rattle.grid.specs.Raised.{up, raisedOf, areaOf, liftOf, levelOf, Low, Small};
 
 // A place moved up by 8,192 in both coordinates, and its height x² + y².
 pub struct Raised {
@@ -145,6 +145,22 @@ pub fn turns_left(grid: &[i32], a: usize, b: usize, c: usize) -> bool
         raise_site(grid, c),
     );
     twice.minus < twice.plus
+}
+
+// A number that grows along an edge that goes up: below 2^30.
+fn level(a: Raised) -> u64
+    requires { ⌜ Low a ⌝ }
+    ensures { λ r. ⌜ r ≡ levelOf a ⌝ }
+{
+    32768 * a.y + a.x
+}
+
+// The edge from site a to site b goes up.
+pub fn goes_up(grid: &[i32], a: usize, b: usize) -> bool
+    requires { ⌜ SiteAt (now grid) a × SiteAt (now grid) b ⌝ }
+    ensures { λ r. ⌜ r ≡ goesUp (placeAt (now (grid .entry)) a) (placeAt (now (grid .entry)) b) ⌝ }
+{
+    level(raise_site(grid, a)) < level(raise_site(grid, b))
 }
 
 // Site d is strictly inside the circle through sites a, b, c, where these turn left; a site on the circle is not.

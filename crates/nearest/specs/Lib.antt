@@ -1,9 +1,6 @@
 -- The root of the crate's definitions.
+pub mod Printed
+pub mod Steps
+pub mod One
+pub mod Enough
 pub mod laws
-pub mod Linear
-pub mod Nearest
-pub mod Ends
-pub mod Owners
-pub mod Builder
-pub mod OnGrid
-pub mod Square

@@ -37,8 +37,9 @@ use Rattle.voronoi.specs.One.{one-reader-begin, one-reader-feed, one-rea
 use Rattle.voronoi.specs.Gauges.{ReadMultipoint, WriteMultipoint}
 use Rattle.voronoi.specs.One.{one-read-multipoint, one-write-multipoint}
 use Rattle.grid_check.specs.Promise.{GridMesh}
-use Rattle.voronoi.specs.Grids.{GridCheck, SitesOfGrid}
-use Rattle.voronoi.specs.One.{one-grid-check, one-grid-sites}
+use Rattle.voronoi.specs.Grids.{GridCheck, GridNearest, SitesOfGrid}
+use Rattle.voronoi.specs.One.{one-grid-check, one-grid-nearest, one-grid-sites}
+use Rattle.voronoi.specs.Nearest.{NearestGauges, nearest-gauges}
 use Rattle.voronoi.specs.Sizes.{Areas}
 use Rattle.voronoi.specs.One.{one-areas}
 use Rattle.bulk_neighbours.specs.Promise.{CellsLent}
@@ -63,7 +64,7 @@ use Rattle.voronoi.specs.Builds.{Build, Cell, CellPart}
 use Rattle.voronoi.specs.Explanations.{Why}
 use Rattle.voronoi.specs.One.{one-build, one-why, one-cell, one-cell-part}
 use Rattle.voronoi.specs.Maps.{CellWkbBits, CellWkb}
-use Rattle.voronoi.specs.Outcomes.{One, One₂, One₃, OneList, OneMend, OneMeeting, OneBox, OneCenter, SliceRefused, ListRefused, BuildRefused, OneGrid, FlipRefused}
+use Rattle.voronoi.specs.Outcomes.{One, One₂, One₃, OneList, OneMend, OneMeeting, OneBox, OneCenter, SliceRefused, ListRefused, BuildRefused, OneGrid, OneNearest, FlipRefused}
 use Rattle.voronoi.specs.Leaves.{QueryAllowed, BuildAllowed, BuildLeaves}
 use Rattle.voronoi.specs.Bounds.{BoundedEdges, BoundedCenter, BoundedMeeting, Bounds, bounds}
 use Rattle.voronoi.specs.Approach.{WholeRound, nextTo, Joined, Approaches}
@@ -157,6 +158,8 @@ pub record Demand1 (m : Mesh) : Type 0 where
   pub write-multipoint : (sites : List Float) (old : List ℕ) → One₃ (λ r w new. WriteMultipoint sites old new w r)
   -- voronoi_grid_check: the number, the kind, the place, the work slice
   pub grid-check : (g : GridMesh) (w : List ℕ) → OneGrid (λ r k p w′. GridCheck g w w′ r k p)
+  -- voronoi_grid_nearest: the number, the kind, the place, the unused site, the work slice
+  pub grid-nearest : (g : GridMesh) (w : List ℕ) → OneNearest (λ r k p u w′. GridNearest g w w′ r k p u)
   -- voronoi_grid_sites: the number, the slice
   pub grid-sites : (grid : List ℤ) (old : List Float) → One₂ (λ r new. SitesOfGrid grid old new r)
   -- voronoi_flip: the number, the four lists
@@ -316,6 +319,7 @@ demand1 m = record {
   read-multipoint = λ s old _ _ _ _ _ _. one-read-multipoint s old;
   write-multipoint = λ sites old _ _ _ _ _ _. one-write-multipoint sites old;
   grid-check = λ g w _ _ _ _ _ _ _ _. one-grid-check g;
+  grid-nearest = λ g w _ _ _ _ _ _ _ _ _ _. one-grid-nearest g;
   grid-sites = λ grid old _ _ _ _. one-grid-sites grid;
   flip = λ sites hull a old _ _ _ _. one-flip sites hull a;
   areas = λ v off ix old _ _ _ _. one-areas v off ix old;
@@ -379,3 +383,8 @@ demand3 m = record {
   own-path = λ s p. own-path m s p;
   no-cell = λ g f s. build-empty m g f s;
 }
+
+-- ---- Beyond them: where voronoi_grid_nearest says yes, paths end at nearest gauges and the owners of admitted corners are nearest (Nearest).
+pub on-the-grid : (g : GridMesh) {w w′ : List ℕ} {place unused : ℕ} → GridNearest g w w′ 0 0 place unused → {old sites : List Float} → SitesOfGrid (g .grid) old sites 0
+    → NearestGauges g sites unused
+on-the-grid g answer = nearest-gauges g answer

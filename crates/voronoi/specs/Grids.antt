@@ -1,15 +1,20 @@
 -- The promises of the calls on the grid. What is asked: Plane of crate grid, Judged of grid_scan, Promise of grid_check; what the answers tell: Yes of
--- grid_check; that the floats are equal numbers: Equal of grid_sites.
+-- grid_check; of the hull: ShortForm of grid_hull, Promise and Yes of grid_nearest; that the floats are equal numbers: Equal of grid_sites.
 use mathlib.Core.List.{List}
 use Prim.Native.Nat.{ℕ}
 use lib.Ieee.{Float}
 use lib.IntN.{ℤ}
 use Rattle.grid_check.specs.Promise.{GridMesh, GridChecks}
+use Rattle.grid_nearest.specs.Promise.{NearestChecks}
 use Rattle.grid_sites.specs.Sites.{GridSites}
 
 -- 1, 2, 22, 7 to 10
 abbrev pub GridCheck : GridMesh → List ℕ → List ℕ → ℕ → ℕ → ℕ → Type 0
 GridCheck = GridChecks
+
+-- 1, 2, 22, 7 to 10; with the hull, and the lowest unused site
+abbrev pub GridNearest : GridMesh → List ℕ → List ℕ → ℕ → ℕ → ℕ → ℕ → Type 0
+GridNearest = NearestChecks
 
 -- 1, 2, 22
 abbrev pub SitesOfGrid : List ℤ → List Float → List Float → ℕ → Type 0

@@ -21,6 +21,7 @@ pub mod Leaves
 pub mod Bounds
 pub mod Approach
 pub mod Wraps
+pub mod Nearest
 pub mod Demands
 pub mod Restart
 pub mod Singles

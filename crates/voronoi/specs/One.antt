@@ -38,6 +38,7 @@ use Rattle.mend_slices.specs.Lent.{Lent}
 use Rattle.mending.specs.One.{mends-one}
 use Rattle.grid_check.specs.Promise.{GridMesh}
 use Rattle.grid_check.specs.One.{grid-checks-one}
+use Rattle.grid_nearest.specs.One.{nearest-checks-one}
 use Rattle.grid_sites.specs.One.{grid-sites-one}
 use Rattle.voronoi.specs.Mends.{Mend}
 use Rattle.reader.specs.Calls.{FormLists}
@@ -45,7 +46,7 @@ use Rattle.reader.specs.One.{begins-one, feeds-one, ends-one, reads-one}
 use Rattle.reader.specs.declared.Answer.{Answer}
 use Rattle.reader.specs.declared.Report.{Report}
 use Rattle.voronoi.specs.Forms.{ReaderBegin, ReaderFeed, ReaderEnd, ReadForm}
-use Rattle.voronoi.specs.Grids.{GridCheck, SitesOfGrid}
+use Rattle.voronoi.specs.Grids.{GridCheck, GridNearest, SitesOfGrid}
 use Rattle.flip_call.specs.Flips.{FlipLists}
 use Rattle.flip_call.specs.One.{flips-one}
 use Rattle.voronoi.specs.Flips.{Flip}
@@ -249,6 +250,10 @@ one-write-multipoint = one-write
 pub one-grid-check : (m : GridMesh) {w new other : List ℕ} {r k p s l q : ℕ} → GridCheck m w new r k p → GridCheck m w other s l q
     → (r ≡ s) × (k ≡ l) × (p ≡ q) × (new ≡ other)
 one-grid-check m = grid-checks-one m _ _ _ _ _ _ _ _ _
+
+pub one-grid-nearest : (m : GridMesh) {w new other : List ℕ} {r k p u s l q v : ℕ} → GridNearest m w new r k p u → GridNearest m w other s l q v
+    → (r ≡ s) × (k ≡ l) × (p ≡ q) × (u ≡ v) × (new ≡ other)
+one-grid-nearest m = nearest-checks-one m _ _ _ _ _ _ _ _ _ _ _
 
 pub one-grid-sites : (grid : List ℤ) {old new other : List Float} {r s : ℕ} → SitesOfGrid grid old new r → SitesOfGrid grid old other s → (r ≡ s) × (new ≡ other)
 one-grid-sites grid = grid-sites-one grid _ _ _ _ _

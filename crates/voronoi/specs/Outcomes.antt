@@ -40,6 +40,10 @@ OneGrid P = (r r′ k k′ p p′ : ℕ) (w w′ : List ℕ) → P r k p w → P
 abbrev pub OneAll : (ℕ → List ℕ → List ℕ → List ℕ → Type 0) → Type 0
 OneAll P = (r r′ : ℕ) (w w′ st st′ o o′ : List ℕ) → P r w st o → P r′ w′ st′ o′ → (r ≡ r′) × (w ≡ w′) × (st ≡ st′) × (o ≡ o′)
 
+-- with the hull: number, kind, place, unused site, work slice
+abbrev pub OneNearest : (ℕ → ℕ → ℕ → ℕ → List ℕ → Type 0) → Type 0
+OneNearest P = (r r′ k k′ p p′ u u′ : ℕ) (w w′ : List ℕ) → P r k p u w → P r′ k′ p′ u′ w′ → (r ≡ r′) × (k ≡ k′) × (p ≡ p′) × (u ≡ u′) × (w ≡ w′)
+
 -- crossings: number, count, two points
 abbrev pub OneMeeting : (ℕ → ℕ → Float → Float → Float → Float → Type 0) → Type 0
 OneMeeting P = (n n′ k k′ : ℕ) (x x′ y y′ u u′ v v′ : Float) → P n k x y u v → P n′ k′ x′ y′ u′ v′ → (n ≡ n′) × (k ≡ k′) × (x ≡ x′)

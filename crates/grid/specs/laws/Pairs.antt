@@ -44,6 +44,11 @@ pub is-below : (p m : ℕ) (x : ℤ) → Is p m x → ltZ x (pos 0) ≡ ltb p m
 is-below p m (pos n) h = le-ltb n 0 (omega arith) ∙ sym (le-ltb p m (omega arith))
 is-below p m (negsuc n) h = sym (lt-ltb p m (omega arith))
 
+pub is-above : (p m : ℕ) (x : ℤ) → Is p m x → ltZ (pos 0) x ≡ ltb m p
+is-above p m (pos zero) h = sym (le-ltb m p (omega arith))
+is-above p m (pos (suc n)) h = lt-ltb 0 (suc n) (omega arith) ∙ sym (lt-ltb m p (omega arith))
+is-above p m (negsuc n) h = sym (le-ltb m p (omega arith))
+
 -- the same number in other sums
 pub is-same : (p m q n : ℕ) (x : ℤ) → p + n ≡ m + q → Is p m x → Is q n x
 is-same p m q n (pos a) e h = omega arith

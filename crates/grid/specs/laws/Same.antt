@@ -5,13 +5,14 @@ use mathlib.Core.Bool.{cond}
 use mathlib.Core.List.{List, [], _∷_}
 use Prim.Native.Nat.{ℕ, _+_, _*_, _-_, suc, _≤_}
 use native.Mathlib.Omega.{arith}
+use lib.Dec.{ltb}
 use lib.IntN.{ℤ, pos, negsuc, natAbs, _+ℤ_, _-ℤ_, _*ℤ_}
 use borrow.Author.Tests.{leb-true, le-ltb}
-use Rattle.grid.specs.Plane.{GridPoint, Within, crossOf, squaredTo, inCircle, turnsLeft, strictlyInside}
-use Rattle.grid.specs.Raised.{up, raisedOf, areaOf, liftOf, above}
+use Rattle.grid.specs.Plane.{GridPoint, Within, crossOf, squaredTo, inCircle, turnsLeft, strictlyInside, riseOf, goesUp}
+use Rattle.grid.specs.Raised.{up, raisedOf, areaOf, liftOf, levelOf, above}
 use Rattle.grid.specs.declared.Raised.{Raised}
 use Rattle.grid.specs.declared.Signed.{Signed}
-use Rattle.grid.specs.laws.Pairs.{Is, is-add, is-mul, is-minus-of, is-same, is-dif, is-below}
+use Rattle.grid.specs.laws.Pairs.{Is, is-add, is-mul, is-minus-of, is-same, is-dif, is-below, is-above}
 use Rattle.grid.specs.laws.Ring.{Ex, va, add, mul, solve}
 
 -- ---- a coordinate moved up
@@ -36,7 +37,7 @@ unfolding up
 up-low (pos n) w = omega (arith, leb-true n 8192 (w .below))
 up-low (negsuc n) w = omega (arith, up-below n (low-below n w))
 
-up-is : (v : ℤ) → Within v → Is (up v) 8192 v
+pub up-is : (v : ℤ) → Within v → Is (up v) 8192 v
 unfolding up
 up-is (pos n) w = omega arith
 up-is (negsuc n) w = omega (arith, up-below n (low-below n w), low-below n w)
@@ -147,6 +148,20 @@ module _ (a b c : GridPoint) (u : Inside a) (v : Inside b) (w : Inside c) where
   pub turns-is : above (areaOf (raisedOf a) (raisedOf b) (raisedOf c)) ≡ turnsLeft a b c
   unfolding turned
   turns-is = sym (is-below _ _ (crossOf a b c) (cross-is .is))
+
+-- ---- an edge that goes up
+module _ (a b : GridPoint) (u : Inside a) (v : Inside b) where
+  rise-is : Stands (gap (levelOf (raisedOf b)) (levelOf (raisedOf a))) (riseOf a b)
+  unfolding gap
+  rise-is =
+      let dy = apart (b .y) (a .y) (v .y) (u .y) in
+      let dx = apart (b .x) (a .x) (v .x) (u .x) in
+      let scale : Stands (gap 32768 0) (pos 32768) = record { is = omega arith } in
+      same _ (omega arith) (sums (multiplies scale dy) dx)
+
+  pub up-is-up : ltb (levelOf (raisedOf a)) (levelOf (raisedOf b)) ≡ goesUp a b
+  unfolding gap
+  up-is-up = sym (is-above _ _ (riseOf a b) (rise-is .is))
 
 module _ (a d : GridPoint) (u : Inside a) (v : Inside d) where
   squareS : Signed

@@ -7,10 +7,11 @@ use lib.ListN.{length, getD, drop}
 use Rattle.utils.specs.Flat.{pointAt}
 use Rattle.given_box.specs.Finite.{Fits}
 use Rattle.given_box.specs.declared.Given.{Given}
-use Rattle.mesh.specs.Accepted.{Mesh, Accepted, siteCount}
+use Rattle.mesh.specs.Accepted.{Mesh, Accepted, tableOf, siteCount}
+use Rattle.bounding_box.specs.Box.{cornersOf}
 use Rattle.bounding_box.specs.Finite.{BoundedBox}
 use Rattle.definition.specs.Fault.{ok}
-use Rattle.definition.specs.Build.{Built, build}
+use Rattle.definition.specs.Build.{ownersFrom, Built, build}
 use Rattle.definition.specs.laws.Gives.{gives-ok}
 use Rattle.definition.specs.Wrapping.{Wrapping}
 use Rattle.definition.specs.laws.CellCount.{cell-count, CellsTallied, tallied, four-owners}
@@ -65,3 +66,13 @@ module _ (m : Mesh) (g : Given) (fits : Fits g) {old new : Slices} (a : Build m 
       let s = zero-succeeds (box-answers (g .sound)) (build-late m (g .bounds)) a refl in
       let t = clipped-sound g fits a refl in
       wraps-of (s .admission .accepted) (fits .bounded (s .admission .fit .0)) (t .outcome .value) (t .outcome .is) (t .wraps)
+
+-- the owners in the counts, whatever the box's edges are
+pub build-owner : (m : Mesh) (g : Given) {old new : Slices} → Build m g old new 0 → (c : ℕ) → c < 4
+    → getD (new .counts) (suc c) 0 ≡ getD (ownersFrom (m .sites) (m .triangles) (m .halfedges) (tableOf m) (siteCount (m .sites)) (getD (m .hull) 0 0) (cornersOf (g .bounds))) c 0
+build-owner m g a c l =
+    let s = zero-succeeds (box-answers (g .sound)) (build-late m (g .bounds)) a refl in
+    let b = s .outcome .value in
+    let seen = gives-ok (CellsTallied m (g .bounds)) (tallied m (g .bounds)) (s .outcome .is) in
+    ap (λ x. getD x (suc c) 0) (left-counts a b (s .outcome .is)) ∙ count-owner (length (b .verts)) (b .owners) (b .lost) _ _ (four-owners m (g .bounds) seen) c l
+    ∙ ap (λ os. getD os c 0) (seen .found)

@@ -1,0 +1,29 @@
+-- The numbers are those of the call's promise, with a work slice of 96 entries.
+use mathlib.Core.Path.{refl}
+use native.Mathlib.Omega.{arith}
+use borrow.Author.Needs.{needs}
+use Rattle.nearest.proofs.of_grid.Statement.{statement}
+use Rattle.nearest.proofs.of_grid.Tie as tie
+
+line-of-requires : tie.Need-line-of-requires
+line-of-requires c κs =
+    let s = c .before .before .before .before .before .before .before .before .before .before in
+    omega (arith, c .first-beyond .ensures .within, s .pre)
+
+returns : tie.Need-returns
+returns c = record {
+  old = _;
+  new = _;
+  long = refl;
+  number = _;
+  kind = _;
+  place = _;
+  unused = _;
+  checks = c .before .before .before .check-nearest-lent .ensures;
+  beyond = _;
+  first = c .before .first-beyond .ensures;
+  line = c .line-of .ensures;
+}
+
+pub of-grid-spec : {M : Type 1} → statement M
+of-grid-spec = tie.close (tie.spec (λ c. search needs) (λ c κs. search needs) (λ c κs. search needs) line-of-requires returns)

@@ -1,0 +1,143 @@
+// Reads a mesh's form on standard input and prints one line: that every walk ends at a nearest gauge, or why that is not said.
+use form_step::Form;
+use grid_nearest::check_nearest_lent;
+use libc::STDIN_FILENO;
+use libc::STDOUT_FILENO;
+use nearest_text::NearestLine;
+use numbers::EMPTY;
+ghost use mathlib.Core.Path.{_≡_};
+ghost use Prim.Native.Nat.{_≤_};
+ghost use lib.ListN.{length, take};
+ghost use Rattle.form_step.specs.Holds.{ListRoom, Few};
+ghost use Rattle.grid_check.specs.Promise.{gridMesh};
+ghost use Rattle.whole_sites.specs.Whole.{wholesOf};
+ghost use Rattle.nearest.specs.Printed.{kindLine, answerLine, NearestTold, NearestPrints};
+ghost use Rattle.nearest.specs.Steps.{NearestByForm};
+
+// The line where nothing is refused.
+fn kind_line(kind: u32, place: u32, unused: u32) -> NearestLine
+    ensures { λ r. ⌜ r ≡ kindLine kind place unused ⌝ }
+{
+    if kind == 1 {
+        return NearestLine::Triangle(place);
+    }
+    if kind == 2 {
+        return NearestLine::Halfedge(place);
+    }
+    if kind == 3 {
+        return NearestLine::HullPlace(place);
+    }
+    if unused != EMPTY {
+        return NearestLine::Unused(unused);
+    }
+    NearestLine::Nearest
+}
+
+fn line_of(number: u32, kind: u32, place: u32, unused: u32, beyond: usize) -> NearestLine
+    requires { ⌜ beyond ≤ 96 ⌝ }
+    ensures { λ r. ⌜ r ≡ answerLine number kind place unused beyond ⌝ }
+{
+    if number == numbers::REFUSED_GRID {
+        return NearestLine::OffGrid(beyond as u32);
+    }
+    if number != 0 {
+        return NearestLine::Refused(number);
+    }
+    kind_line(kind, place, unused)
+}
+
+// The line of a mesh of whole numbers.
+fn of_grid(grid: &[i32], triangles: &[u32], halfedges: &[u32], hull: &[u32]) -> NearestLine
+    requires { ⌜ length (now grid) ≤ 192 ⌝ }
+    ensures { λ r. ⌜ NearestTold (gridMesh (now (grid .entry)) (now (triangles .entry)) (now (halfedges .entry)) (now (hull .entry))) r ⌝ }
+{
+    let mut work = [0u32; 96];
+    let mut kind = 0u32;
+    let mut place = 0u32;
+    let mut unused = 0u32;
+    let number = check_nearest_lent(
+        grid,
+        triangles,
+        halfedges,
+        hull,
+        &mut work,
+        &mut kind,
+        &mut place,
+        &mut unused,
+    );
+    let beyond = grid::first_beyond(grid);
+    line_of(number, kind, place, unused, beyond)
+}
+
+// The same of a mesh of floats.
+fn of_mesh(sites: &[f64], triangles: &[u32], halfedges: &[u32], hull: &[u32]) -> NearestLine
+    requires { ⌜ length (now sites) ≤ 192 ⌝ }
+    ensures { λ r. ⌜ NearestTold (gridMesh (wholesOf (now (sites .entry))) (now (triangles .entry)) (now (halfedges .entry)) (now (hull .entry))) r ⌝ }
+{
+    let mut grid = [0i32; 192];
+    let count = sites.len();
+    whole_sites::to_grid(sites, &mut grid);
+    of_grid(&grid[..count], triangles, halfedges, hull)
+}
+
+// The line for a form that was read into these lists.
+fn of_form(
+    form: Form,
+    bounds: [f64; 4],
+    sites: &[f64],
+    triangles: &[u32],
+    halfedges: &[u32],
+    hull: &[u32],
+) -> NearestLine
+    requires { ⌜ ListRoom bounds (now sites) (now triangles) (now halfedges) (now hull) × Few form ⌝ }
+    ensures { λ r. ⌜ NearestByForm form (now (sites .entry)) (now (triangles .entry)) (now (halfedges .entry)) (now (hull .entry)) r ⌝ }
+{
+    let Form::Sound {
+        sites: n,
+        triangles: t,
+        hull: h,
+        clip: _,
+    } = form
+    else {
+        return NearestLine::Refused(form_step::number_of(form));
+    };
+    let coordinates = 2 * n;
+    let entries = 3 * t;
+    of_mesh(
+        &sites[..coordinates],
+        &triangles[..entries],
+        &halfedges[..entries],
+        &hull[..h],
+    )
+}
+
+// What is printed for a form's bytes.
+fn answer(bytes: &[u8], out: &mut [u8]) -> usize
+    requires { ⌜ 128 ≤ length (now out) ⌝ }
+    ensures { λ r. ⌜ NearestPrints (now (bytes .entry)) (take r (now (out .exit))) × (r ≤ length (now (out .entry))) ⌝ }
+{
+    let mut bounds = [0.0f64; 4];
+    let mut sites = [0.0f64; 192];
+    let mut triangles = [0u32; 576];
+    let mut halfedges = [0u32; 576];
+    let mut hull = [0u32; 96];
+    let form = form::read(
+        false,
+        bytes,
+        &mut bounds,
+        &mut sites,
+        &mut triangles,
+        &mut halfedges,
+        &mut hull,
+    );
+    let l = of_form(form, bounds, &sites, &triangles, &halfedges, &hull);
+    nearest_text::nearest_line(out, l)
+}
+
+fn main() {
+    let mut bytes = [0u8; 6947];
+    let mut out = [0u8; 128];
+    let n = io::read_full(STDIN_FILENO, &mut bytes);
+    let m = answer(&bytes[..n], &mut out);
+    io::write_all(STDOUT_FILENO, &out[..m]);
+}

@@ -1,0 +1,20 @@
+-- The line of `nearest` for each answer. Definitions only.
+use mathlib.Core.List.{List, [], _∷_, _++_}
+use Prim.Native.Nat.{ℕ}
+use Rattle.listing.specs.Text.{ascii}
+use Rattle.listing.specs.Listing.{entries}
+use Rattle.nearest_text.specs.declared.NearestLine.{NearestLine}
+use Rattle.nearest_text.specs.declared.NearestLine.the-variants.{Nearest, Triangle, Halfedge, HullPlace, Unused, OffGrid, Refused}
+
+-- the label names what the number is
+unfoldable pub numberLine : List ℕ → ℕ → List ℕ
+numberLine label n = (label ++ entries (n ∷ [])) ++ ascii "\n"
+
+abbrev pub nearestLine : NearestLine → List ℕ
+nearestLine Nearest = ascii "nearest\n"
+nearestLine (Triangle t) = numberLine (ascii "triangle") t
+nearestLine (Halfedge e) = numberLine (ascii "half-edge") e
+nearestLine (HullPlace i) = numberLine (ascii "hull place") i
+nearestLine (Unused s) = numberLine (ascii "unused") s
+nearestLine (OffGrid s) = numberLine (ascii "not on the grid: site") s
+nearestLine (Refused n) = numberLine (ascii "refused") n

@@ -1,0 +1,24 @@
+-- How long a line is.
+use mathlib.Core.List.{List, [], _∷_, _++_}
+use Prim.Native.Nat.{ℕ, _+_, _≤_}
+use native.Mathlib.Omega.{arith}
+use lib.ListN.{length, length-append}
+use Rattle.listing.specs.Text.{ascii}
+use Rattle.listing.specs.Listing.{entries}
+use Rattle.listing.specs.laws.Listing.{entries-short}
+use Rattle.nearest_text.specs.declared.NearestLine.{NearestLine}
+use Rattle.nearest_text.specs.declared.NearestLine.the-variants.{Nearest, Triangle, Halfedge, HullPlace, Unused, OffGrid, Refused}
+use Rattle.nearest_text.specs.NearestLine.{numberLine, nearestLine}
+
+number-short : (label : List ℕ) (n : ℕ) → length (numberLine label n) ≤ length label + 12
+unfolding numberLine
+number-short label n = omega (arith, length-append (label ++ entries (n ∷ [])) (ascii "\n"), length-append label (entries (n ∷ [])), entries-short (n ∷ []))
+
+pub line-short : (l : NearestLine) → length (nearestLine l) ≤ 34
+line-short Nearest = omega arith
+line-short (Triangle t) = omega (arith, number-short (ascii "triangle") t)
+line-short (Halfedge e) = omega (arith, number-short (ascii "half-edge") e)
+line-short (HullPlace i) = omega (arith, number-short (ascii "hull place") i)
+line-short (Unused s) = omega (arith, number-short (ascii "unused") s)
+line-short (OffGrid s) = omega (arith, number-short (ascii "not on the grid: site") s)
+line-short (Refused n) = omega (arith, number-short (ascii "refused") n)
