@@ -25,6 +25,8 @@
  *   all_neighbours           3T + H; with cells N, and twice the product of the lengths of two cells for each site on the hull
  *   ends                     the triangles at the sites that the paths pass, at most 3T for each point; few where each point is near the last
  *   areas                    the offsets and the entries, some tenth of a microsecond to one for each entry; no mesh, so no check
+ *   audit                    the offsets, some microseconds for each entry, the entries times the sites that each piece is held against, and N times N
+ *                            for sites at one place; no mesh, so no check
  *   mend                     N + T, the check of what was mended included; a site of any degree
  *   read_form, reader_feed   the bytes; no mesh is checked. reader_begin the words of the state, reader_end a fixed number
  *   grid_check               N + T, the check of the mesh included
@@ -48,9 +50,9 @@ extern "C" {
 
 /* ---- the version (the file VERSION; CHANGELOG.md says what changed) */
 
-#define VORONOI_VERSION "0.18.0"
+#define VORONOI_VERSION "0.19.0"
 #define VORONOI_VERSION_MAJOR 0
-#define VORONOI_VERSION_MINOR 18
+#define VORONOI_VERSION_MINOR 19
 #define VORONOI_VERSION_PATCH 0
 
 /* ---- numbers */
@@ -130,7 +132,7 @@ extern "C" {
 #define VORONOI_REFUSED_POINTS 21       /* the bytes are no MultiPoint (voronoi_read_multipoint alone) */
 #define VORONOI_REFUSED_GRID 22         /* a whole coordinate is beyond the profile (the calls on the grid alone) */
 #define VORONOI_REFUSED_FLIP 23         /* the half-edge cannot be flipped, or the table is not the leftmost table (voronoi_flip alone) */
-#define VORONOI_REFUSED_CORNER 24       /* a vertex that an entry names is not finite or above 2^400 (voronoi_areas alone) */
+#define VORONOI_REFUSED_CORNER 24       /* a vertex that an entry names is not finite or above 2^400 (areas and audits) */
 
 /* A sentence for each number, with no full stop; "no such number" for any other. It is never NULL. */
 static inline const char *voronoi_words(uint32_t number)
@@ -377,6 +379,43 @@ uint32_t voronoi_cell_wkb_bits(const uint64_t *vertices, size_t vertices_len, co
  * vertices that they name, 2 on fewer areas than cells. Refused, `areas` is as it was; after 0 what is past the areas is +0. */
 uint32_t voronoi_areas(const double *vertices, size_t vertices_len, const uint32_t *offsets, size_t offsets_len, const uint32_t *indexes,
                        size_t indexes_len, double *areas, size_t areas_len);
+
+/* ---- the audit
+ * Whether pieces are what they should be, from the pieces alone: vertices, offsets and indexes as a build leaves them (the offsets without
+ * their cleared tail), or as any other program makes them. 2^-bits is the tolerance, bits at most 52; VORONOI_AUDIT_BITS suits builds. *kind
+ * is the first of these that holds, of the box with the edges l, t, r, b and limit = (r - l) (b - t) / 2^bits, exact:
+ *
+ *   VORONOI_AUDIT_RING      a ring does not run once round, the right way: with its corners v0, v1, .., one of the triangles v0 vi vi+1 or
+ *                           v0 v1 vi+1 has an exact area, signed as in voronoi_areas, below -limit; *site the lowest such site
+ *   VORONOI_AUDIT_OUTSIDE   a corner of a piece is outside the box; *site the lowest, *vertex its first such
+ *   VORONOI_AUDIT_NEARER    a corner v of the piece of s is nearer to another site o: (ox - sx) ((vx - sx) + (vx - ox)) + (oy - sy) ((vy -
+ *                           sy) + (vy - oy)), in floats and in that order, is above (across + down) 2^-bits (|ox - sx| + |oy - sy|); *site
+ *                           the lowest, *vertex its first such, *other the first such o
+ *   VORONOI_AUDIT_TOTAL     the exact sum of the exact areas differs from the box's by more than 2^-bits of it
+ *   VORONOI_AUDIT_TWIN      two sites stand at one place; *site the lowest that has one before it, *other the first before it
+ *   VORONOI_AUDIT_SOUND     none of these
+ *
+ * starts and others: the sites that each piece is held against in VORONOI_AUDIT_NEARER, others cut by starts (one more than sites) as
+ * indexes are by offsets. Both of length 0: every piece against all sites. *missing is the box less the sum, rounded once, over the box
+ * rounded once: the uncovered share, below 0 where pieces overlap. Numbers that a kind does not name are VORONOI_EMPTY.
+ * Tries 1 on the number of sites, odd lists, bits above 52 and more than 2^24 entries, 3, 6, 16 on the offsets, then on the starts, 18 on
+ * the entries, then on the others, 24. The five numbers are always written, VORONOI_EMPTY and 0 where it is refused. */
+#define VORONOI_AUDIT_BITS 20
+#define VORONOI_AUDIT_SOUND 0
+#define VORONOI_AUDIT_RING 1
+#define VORONOI_AUDIT_OUTSIDE 2
+#define VORONOI_AUDIT_NEARER 3
+#define VORONOI_AUDIT_TOTAL 4
+#define VORONOI_AUDIT_TWIN 5
+uint32_t voronoi_audit(double cx, double cy, double width, double height, const double *sites, size_t sites_len, const double *vertices,
+                       size_t vertices_len, const uint32_t *offsets, size_t offsets_len, const uint32_t *indexes, size_t indexes_len,
+                       const uint32_t *starts, size_t starts_len, const uint32_t *others, size_t others_len, uint32_t bits,
+                       uint32_t *kind, uint32_t *site, uint32_t *vertex, uint32_t *other, double *missing);
+uint32_t voronoi_audit_by_edges(double left, double top, double right, double bottom, const double *sites, size_t sites_len,
+                                const double *vertices, size_t vertices_len, const uint32_t *offsets, size_t offsets_len,
+                                const uint32_t *indexes, size_t indexes_len, const uint32_t *starts, size_t starts_len,
+                                const uint32_t *others, size_t others_len, uint32_t bits, uint32_t *kind, uint32_t *site,
+                                uint32_t *vertex, uint32_t *other, double *missing);
 
 /* ---- why
  * The one reason: what is wrong, and nothing that stands earlier in the order is. Tries 1, 2, 3, 4 on each site asked about, 6, 7 to 10, 11, and 12

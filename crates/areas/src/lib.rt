@@ -10,7 +10,7 @@ ghost use Rattle.areas.specs.Promise.{areaAt, EntriesNamed, KeepsRule, E
 ghost use Rattle.areas.specs.Steps.{RingsKept, WrittenAreas};
 
 // Whether each entry names one of so many vertices.
-fn names(entries: &[u32], count: usize) -> bool
+pub fn names(entries: &[u32], count: usize) -> bool
     ensures { λ r. ⌜ Says r (EntriesNamed (now (entries .entry)) count) ⌝ }
 {
     let mut i = 0;
@@ -24,7 +24,7 @@ fn names(entries: &[u32], count: usize) -> bool
 }
 
 // Whether each vertex that is named is within 2^400.
-fn within(vertices: &[f64], entries: &[u32]) -> bool
+pub fn within(vertices: &[f64], entries: &[u32]) -> bool
     requires { ⌜ EntriesNamed (now entries) (length (now vertices) / 2) ⌝ }
     ensures { λ r. ⌜ Says r (KeepsRule (now (vertices .entry)) (now (entries .entry))) ⌝ }
 {

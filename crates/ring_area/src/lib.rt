@@ -21,7 +21,7 @@ ghost use Rattle.ring_area.specs.Area.{roundedHalf, ringArea};
 ghost use Rattle.ring_area.specs.Steps.{LowPattern, SplitOf, Open, ProductIn, SideIn, Corners, RingIn, SumFits};
 
 // The limbs of a long number: from 2^-2148, the unit of a product, up to 2^860.
-const LIMBS: usize = 94;
+pub const LIMBS: usize = 94;
 
 // m * 2^p units of 2^-1074
 struct Significand {
@@ -87,7 +87,7 @@ fn corner(vertices: &[f64], entry: u32) -> Point
 }
 
 // All sides of the ring, that back to its first corner included.
-fn sides(plus: &mut [u64], minus: &mut [u64], vertices: &[f64], entries: &[u32])
+pub fn sides(plus: &mut [u64], minus: &mut [u64], vertices: &[f64], entries: &[u32])
     requires { ⌜ Corners (now vertices) (now entries) × (0 < length (now entries)) × Open (now plus) (16 * length (now entries)) × Open (now minus) (16 * length (now entries)) ⌝ }
     ensures { λ _. ⌜ RingIn (now (vertices .entry)) (now (entries .entry)) (now (plus .entry)) (now (plus .exit)) (now (minus .entry)) (now (minus .exit)) ⌝ }
 {
@@ -104,7 +104,7 @@ fn sides(plus: &mut [u64], minus: &mut [u64], vertices: &[f64], entries: &[u32])
 }
 
 // What is added less what is taken off, or the other way round where that is more; over 2^2149, rounded once.
-fn rounded_difference(plus: &[u64], minus: &[u64]) -> f64
+pub fn rounded_difference(plus: &[u64], minus: &[u64]) -> f64
     requires { ⌜ (length (now plus) ≡ 94) × (length (now minus) ≡ 94) × WholeLimbs (now plus) × WholeLimbs (now minus) ⌝ }
     ensures { λ r. ⌜ r ≡ roundedHalf (amount (now (plus .entry))) (amount (now (minus .entry))) ⌝ }
 {

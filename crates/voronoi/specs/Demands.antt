@@ -48,6 +48,8 @@ use Rattle.voronoi.specs.Bulk.{AllNeighbours, EndsOfPaths}
 use Rattle.voronoi.specs.One.{one-all-neighbours, one-ends}
 use Rattle.voronoi.specs.Outcomes.{OneAll, AllRefused}
 use Rattle.voronoi.specs.laws.Refused.{all-refused, ends-refused}
+use Rattle.voronoi.specs.Audits.{Audit}
+use Rattle.audit.specs.One.{one-audit}
 use Rattle.voronoi.specs.One.{one-mend, one-cell-wkb-bits, one-cell-wkb, one-root-bits, one-root, one-magnitude-bits, one-magnitude, one-signum-bits, one-signum}
 use Rattle.voronoi.specs.Plane.{Near, Dist2, Circumcenter, Centroid, Edges, Centered, Corners, Inside, ExclusivelyInside, WhichEdge, Meets}
 use Rattle.voronoi.specs.One.{one-near, one-dist2, one-center, one-box, one-box-center, one-corners, one-inside, one-exclusively, one-side, one-meeting}
@@ -64,7 +66,7 @@ use Rattle.voronoi.specs.Builds.{Build, Cell, CellPart}
 use Rattle.voronoi.specs.Explanations.{Why}
 use Rattle.voronoi.specs.One.{one-build, one-why, one-cell, one-cell-part}
 use Rattle.voronoi.specs.Maps.{CellWkbBits, CellWkb}
-use Rattle.voronoi.specs.Outcomes.{One, One₂, One₃, OneList, OneMend, OneMeeting, OneBox, OneCenter, SliceRefused, ListRefused, BuildRefused, OneGrid, OneNearest, FlipRefused}
+use Rattle.voronoi.specs.Outcomes.{One, One₂, One₃, OneList, OneMend, OneMeeting, OneBox, OneCenter, SliceRefused, ListRefused, BuildRefused, OneGrid, OneNearest, OneAudit, FlipRefused}
 use Rattle.voronoi.specs.Leaves.{QueryAllowed, BuildAllowed, BuildLeaves}
 use Rattle.voronoi.specs.Bounds.{BoundedEdges, BoundedCenter, BoundedMeeting, Bounds, bounds}
 use Rattle.voronoi.specs.Approach.{WholeRound, nextTo, Joined, Approaches}
@@ -170,6 +172,8 @@ pub record Demand1 (m : Mesh) : Type 0 where
   pub all-neighbours : (offs idx : List ℕ) (w st o : List ℕ) → OneAll (λ r w′ st′ o′. AllNeighbours m offs idx w w′ st st′ o o′ r)
   -- voronoi_ends: the number, the work slice, the output slice
   pub ends : (s : ℕ) (points : List Float) (w o : List ℕ) → One₃ (λ r w′ o′. EndsOfPaths m s points w w′ o o′ r)
+  -- voronoi_audit: the number, the kind, the site, the vertex, the other, the missing share
+  pub audit : (g : Given) (sites v : List Float) (off ix starts others : List ℕ) (bits : ℕ) → OneAudit (λ r k s e o m. Audit g sites v off ix starts others bits r k s e o m)
   -- refused by voronoi_check: the work slice
   pub check-refused : {w w′ : List ℕ} {r : ℕ} → Check m w w′ r → r ≢ 0 → SliceRefused EMPTY w w′ r
   -- by a call that hands out a list: the work slice, the output slice, the count, ended
@@ -325,6 +329,7 @@ demand1 m = record {
   areas = λ v off ix old _ _ _ _. one-areas v off ix old;
   all-neighbours = λ offs idx w st o _ _ _ _ _ _ _ _. one-all-neighbours m offs idx;
   ends = λ s points w o _ _ _ _ _ _. one-ends m s points;
+  audit = λ g sites v off ix starts others bits _ _ _ _ _ _ _ _ _ _ _ _. one-audit g sites v off ix starts others bits;
   check-refused = λ a. work-refused m (a .work);
   walk-refused = λ s. list-refused;
   neighbours-refused = λ s. list-refused;

@@ -14,6 +14,7 @@ pub mod Grids
 pub mod Flips
 pub mod Sizes
 pub mod Bulk
+pub mod Audits
 pub mod Examples
 pub mod laws
 pub mod Outcomes

@@ -44,6 +44,10 @@ OneAll P = (r r′ : ℕ) (w w′ st st′ o o′ : List ℕ) → P r w st o →
 abbrev pub OneNearest : (ℕ → ℕ → ℕ → ℕ → List ℕ → Type 0) → Type 0
 OneNearest P = (r r′ k k′ p p′ u u′ : ℕ) (w w′ : List ℕ) → P r k p u w → P r′ k′ p′ u′ w′ → (r ≡ r′) × (k ≡ k′) × (p ≡ p′) × (u ≡ u′) × (w ≡ w′)
 
+-- an audit: number, kind, site, vertex, other, missing share
+abbrev pub OneAudit : (ℕ → ℕ → ℕ → ℕ → ℕ → Float → Type 0) → Type 0
+OneAudit P = (r r′ k k′ s s′ e e′ o o′ : ℕ) (m m′ : Float) → P r k s e o m → P r′ k′ s′ e′ o′ m′ → (r ≡ r′) × (k ≡ k′) × (s ≡ s′) × (e ≡ e′) × (o ≡ o′) × (m ≡ m′)
+
 -- crossings: number, count, two points
 abbrev pub OneMeeting : (ℕ → ℕ → Float → Float → Float → Float → Type 0) → Type 0
 OneMeeting P = (n n′ k k′ : ℕ) (x x′ y y′ u u′ v v′ : Float) → P n k x y u v → P n′ k′ x′ y′ u′ v′ → (n ≡ n′) × (k ≡ k′) × (x ≡ x′)

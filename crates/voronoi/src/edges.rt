@@ -10,6 +10,7 @@ ghost use Rattle.reasons.specs.Reason.{tells};
 ghost use Rattle.voronoi.specs.Plane.{Centered, Corners, Inside, ExclusivelyInside, WhichEdge, Meets};
 ghost use Rattle.voronoi.specs.Builds.{Build};
 ghost use Rattle.voronoi.specs.Explanations.{Why};
+ghost use Rattle.voronoi.specs.Audits.{Audit};
 
 // The box's center, left + (right - left) / 2 and down likewise, and its width and height.
 #[no_mangle]
@@ -258,4 +259,46 @@ pub extern "C" fn voronoi_why_by_edges(
         from,
         to,
     )
+}
+
+// The audit of pieces: the five numbers are always written, EMPTY and 0 where it is refused.
+#[no_mangle]
+pub extern "C" fn voronoi_audit_by_edges(
+    left: f64,
+    top: f64,
+    right: f64,
+    bottom: f64,
+    sites: &[f64],
+    vertices: &[f64],
+    offsets: &[u32],
+    indexes: &[u32],
+    starts: &[u32],
+    others: &[u32],
+    bits: u32,
+    kind: &mut u32,
+    site: &mut u32,
+    vertex: &mut u32,
+    other: &mut u32,
+    missing: &mut f64,
+) -> u32
+    ensures { λ r. ⌜ Audit (byEdges left top right bottom) (now (sites .entry)) (now (vertices .entry)) (now (offsets .entry)) (now (indexes .entry))
+        (now (starts .entry)) (now (others .entry)) bits r (now (kind .exit)) (now (site .exit)) (now (vertex .exit)) (now (other .exit)) (now (missing .exit)) ⌝ }
+{
+    let given = given_box::by_edges(left, top, right, bottom);
+    let t = audit::audit(
+        given,
+        sites,
+        vertices,
+        offsets,
+        indexes,
+        starts,
+        others,
+        bits,
+    );
+    *kind = t.kind;
+    *site = t.site;
+    *vertex = t.vertex;
+    *other = t.other;
+    *missing = t.missing;
+    t.number
 }

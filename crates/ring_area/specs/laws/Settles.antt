@@ -29,7 +29,7 @@ none n k = ⊎-elim (λ h. getD-replicate {A = ℕ} n k 0 0 h) (λ h. List·getD
 pub open-zeros : (n : ℕ) → n ≤ 2 ^ 24 → Open (replicate 94 0) (16 * n)
 open-zeros n h = record { long = length-replicate {A = ℕ} 94 0; room = record { each = λ k. omega (arith, none 94 k) } }
 
-total-is : {l : List ℕ} {x n : ℕ} → PutIn (replicate 94 0) l x n → amount l ≡ x
+pub total-is : {l : List ℕ} {x n : ℕ} → PutIn (replicate 94 0) l x n → amount l ≡ x
 total-is {l} {x} a = a .total ∙ ap (λ (z : ℕ). z + x) (amount-none (replicate 94 0) (none 94)) ∙ plain x
   where
     plain : (x : ℕ) → 0 + x ≡ x
@@ -85,7 +85,7 @@ module _ (p m : ℕ) where
       none-back zero h e k l = zero-mul w
       none-back (suc r) h e k l = let x : suc r * w ≡ r * w + w = suc-mul r w in absurd (omega arith)
 
-under-weight : (l : List ℕ) → WholeLimbs l → amount l < weight (length l)
+pub under-weight : (l : List ℕ) → WholeLimbs l → amount l < weight (length l)
 under-weight l s = subst (λ (r : List ℕ). amount r < weight (length l)) (take-length l) (amount-below l (length l) s)
 
 module _ {p m b o : List ℕ} {r : ℕ} (d : Differs p m b o r) where

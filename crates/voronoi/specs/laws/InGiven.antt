@@ -13,6 +13,7 @@ use Rattle.reasons.specs.declared.ReasonNumbers.{ReasonNumbers}
 use Rattle.reason_call.specs.Call.{WhyCall}
 use Rattle.voronoi.specs.Plane.{Edges, Centered, Corners, Inside, ExclusivelyInside, WhichEdge, Meets}
 use Rattle.voronoi.specs.Builds.{Build}
+use Rattle.voronoi.specs.Audits.{Audit}
 
 module _ {g h : Given} (e : g ≡ h) where
   pub edges-in : {n : ℕ} {l t r b a d : Float} → Edges g n l t r b a d → Edges h n l t r b a d
@@ -44,3 +45,7 @@ module _ {g h : Given} (e : g ≡ h) where
 
   pub why-in : {m : Mesh} {q : Question} {old new : Slices} {t : ReasonNumbers} → WhyCall m g q old new t → WhyCall m h q old new t
   why-in {m} {q} {old} {new} {t} w = subst (λ (x : Given). WhyCall m x q old new t) e w
+
+  pub audit-in : {sites v : List Float} {off ix starts others : List ℕ} {bits r k s c o : ℕ} {m : Float} → Audit g sites v off ix starts others bits r k s c o m
+      → Audit h sites v off ix starts others bits r k s c o m
+  audit-in {sites} {v} {off} {ix} {starts} {others} {bits} {r} {k} {s} {c} {o} {m} a = subst (λ (x : Given). Audit x sites v off ix starts others bits r k s c o m) e a

@@ -1,0 +1,3 @@
+pub mod Nearer
+pub mod Steps
+pub mod laws

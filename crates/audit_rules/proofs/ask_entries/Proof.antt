@@ -1,0 +1,40 @@
+-- `audit_rules::ask_entries` meets its contract: 18 twice, 24.
+use Rattle.laws.specs.laws.Decide.{refused, granted}
+use Rattle.audit_rules.specs.laws.Asking.{no-vertex, no-site, no-corner, all-entries}
+use borrow.Author.Needs.{needs}
+use Rattle.audit_rules.proofs.ask_entries.Statement.{statement}
+use Rattle.audit_rules.proofs.ask_entries.Tie as tie
+
+returns : tie.Need-returns
+returns c = no-vertex (refused (c .before .names .result) (c .if1 .taken) (c .before .names .ensures))
+
+returns-2 : tie.Need-returns-2
+returns-2 c =
+    let first = c .before .before in
+    no-site (granted (first .before .names .result) (first .if1 .left) (first .before .names .ensures)) (refused (c .before .names2 .result) (c .if2 .taken) (c .before .names2 .ensures))
+
+within-requires : tie.Need-within-requires
+within-requires c κs =
+    let first = c .before .before in
+    granted (first .before .names .result) (first .if1 .left) (first .before .names .ensures)
+
+returns-3 : tie.Need-returns-3
+returns-3 c =
+    let second = c .before .before in
+    let first = second .before .before in
+    no-corner (granted (first .before .names .result) (first .if1 .left) (first .before .names .ensures)) (granted (second .before .names2 .result) (second .if2 .left)
+    (second .before .names2 .ensures))
+    (refused (c .before .within .result) (c .if3 .taken) (c .before .within .ensures))
+
+returns-4 : tie.Need-returns-4
+returns-4 c =
+    let second = c .before .before in
+    let first = second .before .before in
+    all-entries (granted (first .before .names .result) (first .if1 .left) (first .before .names .ensures)) (granted (second .before .names2 .result) (second .if2 .left)
+    (second .before .names2 .ensures))
+    (granted (c .before .within .result) (c .if3 .left) (c .before .within .ensures))
+
+pub ask-entries-spec : {M : Type 1} → statement M
+ask-entries-spec =
+    tie.close
+    (tie.spec (λ c κs. search needs) returns (λ c κs. search needs) returns-2 within-requires returns-3 returns-4)

@@ -1,0 +1,4 @@
+pub mod Total
+pub mod Steps
+pub mod Whole
+pub mod laws

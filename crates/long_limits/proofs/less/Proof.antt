@@ -1,0 +1,11 @@
+-- `long_limits::less` meets its contract: a borrow says it.
+use borrow.Author.Needs.{needs}
+use Rattle.long_limits.specs.laws.Overs.{less-is}
+use Rattle.long_limits.proofs.less.Statement.{statement}
+use Rattle.long_limits.proofs.less.Tie as tie
+
+returns : tie.Need-returns
+returns c = less-is (c .before .difference .ensures)
+
+pub less-spec : {M : Type 1} → statement M
+less-spec = tie.close (tie.spec (λ c. search needs) (λ c κs. search needs) returns)

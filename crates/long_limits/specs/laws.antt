@@ -1,0 +1,4 @@
+-- Laws that only proofs use.
+pub mod Divisions
+pub mod Overs
+pub mod Limits

@@ -1,0 +1,10 @@
+-- The promise of the audit: the number, the kind, what it names, and the missing share. The verdict: Verdict of crate audit; the rules: Rules of crate audit_rules.
+use mathlib.Core.List.{List}
+use Prim.Native.Nat.{ℕ}
+use lib.Ieee.{Float}
+use Rattle.given_box.specs.declared.Given.{Given}
+use Rattle.audit.specs.Promise.{AuditAnswer}
+
+-- 1, 3, 6, 16, 18, 24
+abbrev pub Audit : Given → List Float → List Float → List ℕ → List ℕ → List ℕ → List ℕ → ℕ → ℕ → ℕ → ℕ → ℕ → ℕ → Float → Type 0
+Audit = AuditAnswer

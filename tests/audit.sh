@@ -1,0 +1,36 @@
+#!/bin/sh
+# The audit through the C interface (tests/audit.c): rows and refusals; the examples, turned, with two rows of sites exchanged and with one edge
+# flipped; the lost corner of docs/DIFFERENCES.md; the time of a grid: tests/audit.sh [COUNT..].
+set -eu
+case ${1-} in
+--help | -h)
+    sed -n '2,/^[^#]/s/^# \{0,1\}//p' "$0"
+    exit 0
+    ;;
+esac
+cd "$(dirname "$0")/.."
+program=target/tests/audit
+sh tests/archive.sh build "$program" tests/audit.c
+run() { sh tests/archive.sh run "$program" "$@"; }
+run rows
+
+# what is said of a mesh, against all sites and against its neighbours
+show() { # WANT MESH [WORD..]
+    want=$1 mesh=$2
+    shift 2
+    said=$(run mesh "$@" <"$mesh")
+    if [ "$said" != "$want" ]; then
+        printf '%s %s:\n%s\nmust be\n%s\n' "$mesh" "$*" "$said" "$want"
+        exit 1
+    fi
+}
+both() { printf 'all sites: %s\nneighbours: %s' "$1" "$1"; }
+sound='0, kind 0, site -1, vertex -1, other -1, missing 0'
+show "$(both "$sound")" examples/square.txt
+show "$(both "$sound")" examples/thirty.txt
+show "$(both '0, kind 1, site 0, vertex -1, other -1, missing 1.622195281')" examples/thirty.txt turned
+show "$(both '0, kind 3, site 0, vertex 2, other 1, missing 0')" examples/thirty.txt swapped
+show "$(printf 'flip: 0\n%s' "$(both '0, kind 1, site 0, vertex -1, other -1, missing 0')")" examples/thirty.txt flipped 4
+show "$(both '0, kind 4, site -1, vertex -1, other -1, missing 0.3125')" harness/meshes/lost_corners.txt
+echo "audit: the examples are sound; turned, exchanged, flipped and with a lost corner they are told"
+for count in "${@:-2000}"; do run times "$count"; done
