@@ -1,7 +1,7 @@
 #!/bin/sh
 # Times the Rust and the library on the same meshes, in turn: harness/bench.sh [--rounds N] [--traps] [--full].
 # On x86-64 the library is its archive. On another machine, where the archive would run under an emulator and its time
-# say nothing, the module that the toolchain hands to its own compiler is compiled for this machine instead.
+# say nothing, it is the archive for the machine's own processor (tests/native.sh).
 set -eu
 here=$(cd "$(dirname "$0")" && pwd)
 root=$(cd "$here/.." && pwd)
@@ -18,7 +18,7 @@ need_source harness/bench.sh
 if [ "$(uname -m)" = x86_64 ]; then
     VORONOI_SERVER=$("$here/serve.sh")
 else
-    VORONOI_SERVER=$("$here/native.sh")
+    VORONOI_SERVER=$(VORONOI_ARCHIVE=$(sh "$root/tests/native.sh") "$here/serve.sh")
 fi
 export VORONOI_SERVER
 exec "$root/target/harness/release/bench" "$@"

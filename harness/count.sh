@@ -23,7 +23,13 @@ command -v valgrind >/dev/null || {
     exit 2
 }
 (cd "$here" && cargo build --release --offline --quiet)
-if [ "$(uname -m)" = x86_64 ]; then "$here/serve.sh" >/dev/null; server="'$root/target/harness/serve'"; else server=$("$here/native.sh"); fi
+server="'$root/target/harness/serve'"
+if [ "$(uname -m)" != x86_64 ]; then
+    VORONOI_ARCHIVE=$(sh "$root/tests/native.sh")
+    export VORONOI_ARCHIVE
+    server="'$root/target/harness/serve_other'"
+fi
+"$here/serve.sh" >/dev/null
 bench=$root/target/harness/release/bench
 count() { # NAME FUNCTION COMMAND..
     name=$1 function=$2

@@ -4,6 +4,7 @@
 #   harness/run.sh [WORD ..]           all of it; the words are for the program compare, e.g. --cases 1,000,000
 #   harness/run.sh stored              only the stored answers, held to the Rust; no archive is needed
 #   harness/run.sh compare [WORD ..]   only the live comparison of the archive with the Rust
+#   harness/run.sh native [WORD ..]    the same of the archive for this machine's own processor (./yelmuzard archive --native)
 #   harness/run.sh missing             runs nothing, only says whether the Rust is there to compare with
 #
 # The source's four files are read from ../shared/docs/src beside the repository, or from the folder VORONOI_SOURCE.
@@ -15,7 +16,7 @@ root=$(cd "$here/.." && pwd)
 . "$here/source.sh"
 part=all
 case ${1-} in
-stored | compare | missing) part=$1 && shift ;;
+stored | compare | native | missing) part=$1 && shift ;;
 --help | -h)
     sed -n '2,/^[^#]/s/^# \{0,1\}//p' "$0"
     exit 0
@@ -48,6 +49,11 @@ stored() {
     "$made/stored" check "$root/crates/test_replay/stdin" "$here"/meshes/*.txt
 }
 
+if [ "$part" = native ]; then
+    part=compare
+    VORONOI_ARCHIVE=$(sh "$root/tests/native.sh")
+    export VORONOI_ARCHIVE
+fi
 [ "$part" = compare ] || stored
 [ "$part" != stored ] || exit 0
 VORONOI_SERVER=$("$here/serve.sh")

@@ -2,7 +2,7 @@
 # Makes target/harness/serve from the library's archive, with every part that the archive has (parts.txt), and prints
 # the command that runs it, as a shell reads it. A part that must be there and is not is a failure.
 #
-#   harness/serve.sh                 that
+#   harness/serve.sh                 that; from another archive where VORONOI_ARCHIVE names it, as target/harness/serve_other
 #   harness/serve.sh parts ARCHIVE   only the compiler's words for the parts that an archive has
 set -eu
 here=$(cd "$(dirname "$0")" && pwd)
@@ -49,5 +49,6 @@ esac
 archive=${VORONOI_ARCHIVE:-$root/target/staticlib/libvoronoi.a}
 [ -n "${VORONOI_ARCHIVE-}" ] || "$root/tests/archive.sh" make
 has=$(parts "$archive")
-ARCHIVE=$archive MORE_FLAGS=$has "$root/tests/archive.sh" build "$root/target/harness/serve" "$here/serve.c" >&2
-echo "'$root/tests/archive.sh' run '$root/target/harness/serve'"
+server=$root/target/harness/serve${VORONOI_ARCHIVE:+_other}
+ARCHIVE=$archive MORE_FLAGS=$has "$root/tests/archive.sh" build "$server" "$here/serve.c" >&2
+echo "'$root/tests/archive.sh' run '$server'"

@@ -1,4 +1,5 @@
-/* The C interface of libvoronoi.a (`./yelmuzard archive` makes it; x86-64 Linux). README.md shows a whole call, docs/RULES.md has the
+/* The C interface of libvoronoi.a (`./yelmuzard archive` makes it, for x86-64 Linux; with --native for the machine's own processor). README.md
+ * shows a whole call, voronoi_pieces.h has structs over these calls, docs/RULES.md has the
  * meaning of every number, limit and term, docs/PUBLIC.md what is promised of each call.
  *
  * A call that can refuse answers a number, 0 where it accepts. A slice is a pointer and a length in elements; one of length 0
@@ -50,9 +51,9 @@ extern "C" {
 
 /* ---- the version (the file VERSION; CHANGELOG.md says what changed) */
 
-#define VORONOI_VERSION "0.19.0"
+#define VORONOI_VERSION "0.20.0"
 #define VORONOI_VERSION_MAJOR 0
-#define VORONOI_VERSION_MINOR 19
+#define VORONOI_VERSION_MINOR 20
 #define VORONOI_VERSION_PATCH 0
 
 /* ---- numbers */

@@ -5,7 +5,8 @@
 #   tests/archive.sh build PROGRAM FILE.c..   the archive, made where it is missing or older than the crates, and a program linked with it
 #   tests/archive.sh run PROGRAM WORD..       runs it
 #
-# The archive is for x86-64. On such a machine gcc builds the program; on another the toolchain's own clang, C library and emulator do.
+# The archive is for x86-64. On such a machine gcc builds the program; on another the toolchain's own clang, C library and emulator do, unless
+# ARCHIVE names one for that machine (tests/native.sh): then gcc builds there too, and the program runs by itself.
 # The toolchain has no headers of its C library, so the C files use none but stddef.h and stdint.h, and declare what they call.
 # A program that runs under the emulator is compiled with -DEMULATED. Another archive is taken where ARCHIVE names it; MORE_FLAGS has more words for the compiler.
 set -eu
@@ -21,6 +22,11 @@ make_archive() {
         sh "$root/tests/prove.sh" staticlib voronoi
         touch "$archive"
     fi
+}
+
+# Whether an archive or a program is for x86-64: ELF's number at byte 18 of it, or of the archive's first object.
+for_x86() {
+    case $1 in *.a) ar p "$1" ;; *) cat "$1" ;; esac 2>/dev/null | head -c 20 | od -An -tx1 -j18 | grep -q '^ 3e 00'
 }
 
 native() {
@@ -59,12 +65,12 @@ build)
     shift 2
     make_archive
     mkdir -p "$(dirname "$program")"
-    if [ "$(uname -m)" = x86_64 ]; then native "$@"; else foreign "$@"; fi
+    if [ "$(uname -m)" = x86_64 ] || ! for_x86 "$archive"; then native "$@"; else foreign "$@"; fi
     ;;
 run)
     [ $# -ge 2 ] || { usage >&2 && exit 2; }
     shift
-    if [ "$(uname -m)" = x86_64 ]; then exec "$@"; fi
+    if [ "$(uname -m)" = x86_64 ] || ! for_x86 "$1"; then exec "$@"; fi
     exec "$tools/bin/qemu-x86_64" "$tools/lib/ld-linux-x86-64.so.2" --library-path "$tools/lib" "$@"
     ;;
 --help | -h) usage ;;

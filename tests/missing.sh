@@ -64,6 +64,8 @@ must 2 "root/Proof.antt:40:13: error: the two types differ" ./yelmuzard cells ex
 must 2 "1 of [0-9]* proved: laws (1 s)" ./yelmuzard cells examples/square.form
 must 2 "cells could not be proved and built" ./yelmuzard cells examples/square.form
 must 2 "Debian package python3" ./yelmuzard cells examples/square.txt
+must 2 "ar is missing (Debian package binutils)" ./yelmuzard archive --native
+must 2 "archive \[--native\]" ./yelmuzard archive --other
 must 2 "gcc is missing (Debian package gcc)" ./yelmuzard link "$folder/program" examples/areas.c
 for program in gcc nm python3; do
     must 2 "$program is missing" ./yelmuzard test
@@ -102,7 +104,7 @@ for script in tests/all tests/*.sh harness/*.sh; do
 done
 
 # without the Rust: the runs say so; they fail only where that is a must
-for part in "" stored compare missing; do
+for part in "" stored compare native missing; do
     # shellcheck disable=SC2086
     must 0 "" env VORONOI_SOURCE="$folder" CI=true sh harness/run.sh $part
     grep -q "THE LIVE COMPARISON WITH THE RUST WAS NOT RUN" "$folder/out"

@@ -34,9 +34,16 @@ if ".".join(parts) != version or f'#define VORONOI_VERSION "{version}"' not in h
 if not re.search(rf"^## {re.escape(version)}\b", read("CHANGELOG.md"), re.M):
     wrong.append(f"CHANGELOG.md says nothing of {version}")
 
+for name, line in (("voronoi.pc", f"Version: {version}"), ("bindings/rust/Cargo.toml", f'version = "{version}"'), ("bindings/rust/Cargo.lock", f'version = "{version}"')):
+    if line not in read(name).splitlines():
+        wrong.append(f"{name} has another version than the file VERSION")
+
 # what README shows is what is there
 if "```c\n" + read("examples/areas.c") + "```" not in readme:
     wrong.append("README.md does not show examples/areas.c as it is")
+rust = re.search(r"```rust\n(.*?)```", readme, re.S)[1]
+if re.sub(r"(?m)^", "    ", rust).rstrip() not in read("bindings/rust/examples/plan.rs"):
+    wrong.append("README.md does not show the lines of bindings/rust/examples/plan.rs as they are")
 indented = "".join("    " + line + "\n" for line in read("tests/cells/square.out").splitlines())
 for name, text in (("README.md", readme), ("docs/RULES.md", rules)):
     if indented not in text:

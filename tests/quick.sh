@@ -31,7 +31,7 @@ passed_over() { echo "  $1: passed over, $2"; }
 scripts_run() {
     for script in tests/*.sh; do
         grep -q "$script" tests/all tests/quick.sh || case $script in
-        tests/prove.sh) ;;
+        tests/prove.sh | tests/native.sh) ;;
         *) echo "$script is run by nothing" && return 1 ;;
         esac
     done

@@ -1,0 +1,71 @@
+//! Whether the pieces are what they should be.
+
+use crate::{calls, sys, Refusal, Voronoi};
+
+/// The tolerance that an audit is usually asked with: 2^-20 of the box.
+pub const AUDIT_BITS: u32 = sys::AUDIT_BITS as u32;
+
+/// What an audit found.
+#[derive(Clone, Copy, Debug, PartialEq)]
+pub struct Audit {
+    /// the share of the box that no piece covers; below 0 where pieces overlap
+    pub missing: f64,
+    /// the first fault; none where the pieces are what they should be
+    pub fault: Option<Fault>,
+}
+
+/// A fault of the pieces, the first in this order.
+#[derive(Clone, Copy, Debug, PartialEq, Eq)]
+#[non_exhaustive]
+pub enum Fault {
+    /// a piece does not run once round, the right way
+    Ring {
+        /// the lowest such gauge
+        site: usize,
+    },
+    /// a corner of a piece lies outside the box
+    Outside {
+        /// the lowest such gauge
+        site: usize,
+        /// its first such corner, a place in [Voronoi::vertices]
+        vertex: usize,
+    },
+    /// a corner of a piece lies nearer to another gauge
+    Nearer {
+        /// the lowest such gauge
+        site: usize,
+        /// its first such corner
+        vertex: usize,
+        /// the first gauge that is nearer to it
+        other: usize,
+    },
+    /// the areas do not add up to the box's
+    Total,
+    /// two gauges stand at one place
+    Twin {
+        /// the lowest that has such a one before it
+        site: usize,
+        /// the first before it
+        other: usize,
+    },
+}
+
+impl Voronoi {
+    /// Whether the pieces are what they should be, to 2^-bits of the box: each runs once round, the right way, lies in the box and has no
+    /// corner that is nearer to a gauge beside it, and all of them add up to the box; else the first fault. It looks at the pieces alone, so
+    /// that it finds what a wrong mesh has done, such as one that is wound the other way. [AUDIT_BITS] is far from what rounding does, and
+    /// from what a wrong mesh does. Refused (1) above 52.
+    pub fn audit(&self, bits: u32) -> Result<Audit, Refusal> {
+        let found = calls::audit(self.bounding_box(), self.sites(), self.vertices(), self.lent_cells(), self.joined().lent(), bits)?;
+        let [site, vertex, other] = found.named.map(|number| number as usize);
+        let fault = match found.kind {
+            sys::AUDIT_SOUND => None,
+            sys::AUDIT_RING => Some(Fault::Ring { site }),
+            sys::AUDIT_OUTSIDE => Some(Fault::Outside { site, vertex }),
+            sys::AUDIT_NEARER => Some(Fault::Nearer { site, vertex, other }),
+            sys::AUDIT_TOTAL => Some(Fault::Total),
+            _ => Some(Fault::Twin { site, other }),
+        };
+        Ok(Audit { missing: found.missing, fault })
+    }
+}

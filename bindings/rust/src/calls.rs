@@ -1,0 +1,155 @@
+//! The library's calls over slices: here, and only here, a pointer is lent, one call in each function.
+//!
+//! What the library asks of every call: each pointer is good for as many elements as its length says, none is null, and no two lent slices
+//! overlap where one is written. A slice of Rust has a pointer and a length that go together, not null at length 0 either, and what is
+//! borrowed `&mut` overlaps nothing else; a [Point] is two numbers in turn (`repr(C)`). There is no other precondition.
+
+use crate::{sys, BoundingBox, Point, Refusal};
+
+/// A mesh as it is lent.
+#[derive(Clone, Copy)]
+pub(crate) struct Mesh<'a> {
+    pub sites: &'a [Point],
+    pub triangles: &'a [u32],
+    pub halfedges: &'a [u32],
+    pub hull: &'a [u32],
+}
+
+/// Cells as they are lent: where each begins, and the one after the last ends, in the list of entries.
+#[derive(Clone, Copy)]
+pub(crate) struct Cells<'a> {
+    pub offsets: &'a [u32],
+    pub indexes: &'a [u32],
+}
+
+/// What a build writes.
+pub(crate) struct Slices<'a> {
+    pub work: &'a mut [u32],
+    pub vertices: &'a mut [Point],
+    pub indexes: &'a mut [u32],
+    pub offsets: &'a mut [u32],
+    pub counts: &'a mut [u32],
+}
+
+/// What an audit writes: the kind, the site, vertex and other site that it names, the share that is missing.
+pub(crate) struct Audited {
+    pub kind: usize,
+    pub named: [u32; 3],
+    pub missing: f64,
+}
+
+pub(crate) fn centroid(points: &[Point]) -> Result<Point, Refusal> {
+    let mut mean = Point::default();
+    // SAFETY: the points are two numbers each; the two written are places of one local value.
+    Refusal::of(unsafe { sys::voronoi_centroid(points.as_ptr().cast(), 2 * points.len(), &mut mean.x, &mut mean.y) })?;
+    Ok(mean)
+}
+
+/// Left, top, right, bottom, width, height.
+pub(crate) fn edges(b: &BoundingBox) -> Result<[f64; 6], Refusal> {
+    let (c, [mut left, mut top, mut right, mut bottom, mut across, mut down]) = (b.center(), [0.0; 6]);
+    // SAFETY: the six written are local values, each by itself.
+    Refusal::of(unsafe {
+        sys::voronoi_box(c.x, c.y, b.size.0, b.size.1, &mut left, &mut top, &mut right, &mut bottom, &mut across, &mut down)
+    })?;
+    Ok([left, top, right, bottom, across, down])
+}
+
+pub(crate) fn corners(b: &BoundingBox) -> Result<[Point; 4], Refusal> {
+    let (c, mut out) = (b.center(), [Point::default(); 4]);
+    // SAFETY: `out` is four points, eight numbers.
+    Refusal::of(unsafe { sys::voronoi_corners(c.x, c.y, b.size.0, b.size.1, out.as_mut_ptr().cast(), 2 * out.len()) })?;
+    Ok(out)
+}
+
+pub(crate) fn is_inside(b: &BoundingBox, p: &Point) -> Result<bool, Refusal> {
+    let (c, mut inside) = (b.center(), 0);
+    // SAFETY: the one written is a local value.
+    Refusal::of(unsafe { sys::voronoi_is_inside(c.x, c.y, b.size.0, b.size.1, p.x, p.y, &mut inside) })?;
+    Ok(inside == 1)
+}
+
+pub(crate) fn is_exclusively_inside(b: &BoundingBox, p: &Point) -> Result<bool, Refusal> {
+    let (c, mut inside) = (b.center(), 0);
+    // SAFETY: the one written is a local value.
+    Refusal::of(unsafe { sys::voronoi_is_exclusively_inside(c.x, c.y, b.size.0, b.size.1, p.x, p.y, &mut inside) })?;
+    Ok(inside == 1)
+}
+
+pub(crate) fn build(b: &BoundingBox, m: Mesh<'_>, s: Slices<'_>) -> Result<(), Refusal> {
+    let c = b.center();
+    // SAFETY: each slice with its own length, that of points in numbers; the five written are borrowed `&mut`.
+    Refusal::of(unsafe {
+        sys::voronoi_build(
+            c.x, c.y, b.size.0, b.size.1,
+            m.sites.as_ptr().cast(), 2 * m.sites.len(), m.triangles.as_ptr(), m.triangles.len(),
+            m.halfedges.as_ptr(), m.halfedges.len(), m.hull.as_ptr(), m.hull.len(),
+            s.work.as_mut_ptr(), s.work.len(), s.vertices.as_mut_ptr().cast(), 2 * s.vertices.len(),
+            s.indexes.as_mut_ptr(), s.indexes.len(), s.offsets.as_mut_ptr(), s.offsets.len(),
+            s.counts.as_mut_ptr(), s.counts.len(),
+        )
+    })
+}
+
+pub(crate) fn all_neighbours(m: Mesh<'_>, c: Cells<'_>, work: &mut [u32], starts: &mut [u32], out: &mut [u32]) -> Result<(), Refusal> {
+    // SAFETY: each slice with its own length, that of points in numbers; the three written are borrowed `&mut`.
+    Refusal::of(unsafe {
+        sys::voronoi_all_neighbours(
+            m.sites.as_ptr().cast(), 2 * m.sites.len(), m.triangles.as_ptr(), m.triangles.len(),
+            m.halfedges.as_ptr(), m.halfedges.len(), m.hull.as_ptr(), m.hull.len(),
+            c.offsets.as_ptr(), c.offsets.len(), c.indexes.as_ptr(), c.indexes.len(),
+            work.as_mut_ptr(), work.len(), starts.as_mut_ptr(), starts.len(), out.as_mut_ptr(), out.len(),
+        )
+    })
+}
+
+/// How many entries of `out` were written, and whether the last one ends the path.
+pub(crate) fn path(m: Mesh<'_>, site: u32, to: Point, work: &mut [u32], out: &mut [u32]) -> Result<(usize, bool), Refusal> {
+    let [mut count, mut ended] = [0; 2];
+    // SAFETY: each slice with its own length, that of points in numbers; two of those written are borrowed `&mut`, two are local values.
+    Refusal::of(unsafe {
+        sys::voronoi_path(
+            m.sites.as_ptr().cast(), 2 * m.sites.len(), m.triangles.as_ptr(), m.triangles.len(),
+            m.halfedges.as_ptr(), m.halfedges.len(), m.hull.as_ptr(), m.hull.len(),
+            site, to.x, to.y, work.as_mut_ptr(), work.len(), out.as_mut_ptr(), out.len(), &mut count, &mut ended,
+        )
+    })?;
+    Ok((count as usize, ended == 1))
+}
+
+pub(crate) fn ends(m: Mesh<'_>, site: u32, points: &[Point], work: &mut [u32], out: &mut [u32]) -> Result<(), Refusal> {
+    // SAFETY: each slice with its own length, that of points in numbers; the two written are borrowed `&mut`.
+    Refusal::of(unsafe {
+        sys::voronoi_ends(
+            m.sites.as_ptr().cast(), 2 * m.sites.len(), m.triangles.as_ptr(), m.triangles.len(),
+            m.halfedges.as_ptr(), m.halfedges.len(), m.hull.as_ptr(), m.hull.len(),
+            site, points.as_ptr().cast(), 2 * points.len(), work.as_mut_ptr(), work.len(), out.as_mut_ptr(), out.len(),
+        )
+    })
+}
+
+pub(crate) fn areas(vertices: &[Point], c: Cells<'_>, areas: &mut [f64]) -> Result<(), Refusal> {
+    // SAFETY: each slice with its own length, that of points in numbers; the one written is borrowed `&mut`.
+    Refusal::of(unsafe {
+        sys::voronoi_areas(
+            vertices.as_ptr().cast(), 2 * vertices.len(), c.offsets.as_ptr(), c.offsets.len(),
+            c.indexes.as_ptr(), c.indexes.len(), areas.as_mut_ptr(), areas.len(),
+        )
+    })
+}
+
+pub(crate) fn audit(
+    b: &BoundingBox, sites: &[Point], vertices: &[Point], cells: Cells<'_>, others: Cells<'_>, bits: u32,
+) -> Result<Audited, Refusal> {
+    let (p, [mut kind, mut site, mut vertex, mut other], mut missing) = (b.center(), [0; 4], 0.0);
+    // SAFETY: each slice with its own length, that of points in numbers; the five written are local values, each by itself.
+    Refusal::of(unsafe {
+        sys::voronoi_audit(
+            p.x, p.y, b.size.0, b.size.1, sites.as_ptr().cast(), 2 * sites.len(), vertices.as_ptr().cast(), 2 * vertices.len(),
+            cells.offsets.as_ptr(), cells.offsets.len(), cells.indexes.as_ptr(), cells.indexes.len(),
+            others.offsets.as_ptr(), others.offsets.len(), others.indexes.as_ptr(), others.indexes.len(),
+            bits, &mut kind, &mut site, &mut vertex, &mut other, &mut missing,
+        )
+    })?;
+    Ok(Audited { kind: kind as usize, named: [site, vertex, other], missing })
+}

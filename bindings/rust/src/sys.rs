@@ -1,0 +1,54 @@
+//! include/voronoi.h: the calls that this crate makes, and its numbers. tests/header.rs holds them to the header.
+
+/// Half-edges that have no pair, sites in no triangle.
+pub const EMPTY: u32 = u32::MAX;
+/// The most sites and triangles that are accepted.
+pub const MOST_SITES: usize = 65536;
+pub const MOST_TRIANGLES: usize = 131072;
+/// How many counts a build writes, and the places of those that are read here.
+pub const COUNTS: usize = 9;
+pub const COUNT_VERTICES: usize = 0;
+pub const COUNT_OWNERS: usize = 1;
+pub const COUNT_LOST: usize = 5;
+/// An audit's usual tolerance, and its kinds but the last.
+pub const AUDIT_BITS: usize = 20;
+pub const AUDIT_SOUND: usize = 0;
+pub const AUDIT_RING: usize = 1;
+pub const AUDIT_OUTSIDE: usize = 2;
+pub const AUDIT_NEARER: usize = 3;
+pub const AUDIT_TOTAL: usize = 4;
+
+macro_rules! calls {
+    ($(fn $name:ident($($argument:ident: $type:ty),* $(,)?);)*) => {
+        extern "C" { $(pub fn $name($($argument: $type),*) -> u32;)* }
+    };
+}
+
+calls! {
+    fn voronoi_centroid(points: *const f64, length: usize, x: *mut f64, y: *mut f64);
+    fn voronoi_box(cx: f64, cy: f64, width: f64, height: f64, left: *mut f64, top: *mut f64, right: *mut f64, bottom: *mut f64,
+        across: *mut f64, down: *mut f64);
+    fn voronoi_corners(cx: f64, cy: f64, width: f64, height: f64, out: *mut f64, length: usize);
+    fn voronoi_is_inside(cx: f64, cy: f64, width: f64, height: f64, x: f64, y: f64, inside: *mut u32);
+    fn voronoi_is_exclusively_inside(cx: f64, cy: f64, width: f64, height: f64, x: f64, y: f64, inside: *mut u32);
+    fn voronoi_build(cx: f64, cy: f64, width: f64, height: f64, sites: *const f64, sites_len: usize, triangles: *const u32,
+        triangles_len: usize, halfedges: *const u32, halfedges_len: usize, hull: *const u32, hull_len: usize, work: *mut u32,
+        work_len: usize, vertices: *mut f64, vertices_len: usize, indexes: *mut u32, indexes_len: usize, offsets: *mut u32,
+        offsets_len: usize, counts: *mut u32, counts_len: usize);
+    fn voronoi_all_neighbours(sites: *const f64, sites_len: usize, triangles: *const u32, triangles_len: usize,
+        halfedges: *const u32, halfedges_len: usize, hull: *const u32, hull_len: usize, offsets: *const u32, offsets_len: usize,
+        indexes: *const u32, indexes_len: usize, work: *mut u32, work_len: usize, starts: *mut u32, starts_len: usize, out: *mut u32,
+        out_len: usize);
+    fn voronoi_path(sites: *const f64, sites_len: usize, triangles: *const u32, triangles_len: usize, halfedges: *const u32,
+        halfedges_len: usize, hull: *const u32, hull_len: usize, site: u32, x: f64, y: f64, work: *mut u32, work_len: usize,
+        out: *mut u32, out_len: usize, count: *mut u32, ended: *mut u32);
+    fn voronoi_ends(sites: *const f64, sites_len: usize, triangles: *const u32, triangles_len: usize, halfedges: *const u32,
+        halfedges_len: usize, hull: *const u32, hull_len: usize, site: u32, points: *const f64, points_len: usize, work: *mut u32,
+        work_len: usize, out: *mut u32, out_len: usize);
+    fn voronoi_areas(vertices: *const f64, vertices_len: usize, offsets: *const u32, offsets_len: usize, indexes: *const u32,
+        indexes_len: usize, areas: *mut f64, areas_len: usize);
+    fn voronoi_audit(cx: f64, cy: f64, width: f64, height: f64, sites: *const f64, sites_len: usize, vertices: *const f64,
+        vertices_len: usize, offsets: *const u32, offsets_len: usize, indexes: *const u32, indexes_len: usize, starts: *const u32,
+        starts_len: usize, others: *const u32, others_len: usize, bits: u32, kind: *mut u32, site: *mut u32, vertex: *mut u32,
+        other: *mut u32, missing: *mut f64);
+}
