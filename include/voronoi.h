@@ -51,9 +51,9 @@ extern "C" {
 
 /* ---- the version (the file VERSION; CHANGELOG.md says what changed) */
 
-#define VORONOI_VERSION "0.20.0"
+#define VORONOI_VERSION "0.21.0"
 #define VORONOI_VERSION_MAJOR 0
-#define VORONOI_VERSION_MINOR 20
+#define VORONOI_VERSION_MINOR 21
 #define VORONOI_VERSION_PATCH 0
 
 /* ---- numbers */

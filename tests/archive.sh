@@ -3,6 +3,7 @@
 #
 #   tests/archive.sh make                     the archive, where it is missing or older than the crates
 #   tests/archive.sh build PROGRAM FILE.c..   the archive, made where it is missing or older than the crates, and a program linked with it
+#   tests/archive.sh keep PROGRAM FILE.c..    the same, but a program that is newer than the archive, the header and its files is kept
 #   tests/archive.sh run PROGRAM WORD..       runs it
 #
 # The archive is for x86-64. On such a machine gcc builds the program; on another the toolchain's own clang, C library and emulator do, unless
@@ -59,11 +60,12 @@ make)
     [ $# = 1 ] || { usage >&2 && exit 2; }
     make_archive
     ;;
-build)
+build | keep)
     [ $# -ge 3 ] || { usage >&2 && exit 2; }
-    program=$2
+    word=$1 program=$2
     shift 2
     make_archive
+    if [ "$word" = keep ] && [ -f "$program" ] && [ -z "$(find "$archive" "$root/include/voronoi.h" "$@" -newer "$program")" ]; then exit 0; fi
     mkdir -p "$(dirname "$program")"
     if [ "$(uname -m)" = x86_64 ] || ! for_x86 "$archive"; then native "$@"; else foreign "$@"; fi
     ;;

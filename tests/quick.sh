@@ -39,7 +39,7 @@ scripts_run() {
 
 check "rt fmt" rt fmt --check
 if command -v shellcheck >/dev/null; then
-    check shellcheck shellcheck -x yelmuzard .ci/run tests/all tests/*.sh harness/*.sh
+    check shellcheck shellcheck -x yelmuzard tools/pieces .ci/run tests/all tests/*.sh harness/*.sh
 else
     passed_over shellcheck "it is not installed"
 fi

@@ -49,6 +49,7 @@ refused "byte 0: this is no text" '\377\376'
     for site in $(seq 97); do echo "site $site 0"; done
 } >"$folder/in"
 must 1 "line 98: one site too many: at most 96" encode
+[ "$(tools/mesh encode --long "$folder/in" | wc -c)" = 1651 ] || { echo "a long form of 97 sites is not made" && exit 1; }
 head -c 100 examples/square.form >"$folder/in"
 must 1 "byte 100: the form is cut within a record (site)" decode
 { cat examples/square.form && echo; } >"$folder/in"
