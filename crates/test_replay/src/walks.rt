@@ -9,6 +9,9 @@ use voronoi::walks::voronoi_clipped_neighbours;
 use voronoi::walks::voronoi_neighbours;
 use voronoi::walks::voronoi_path;
 use voronoi::walks::voronoi_walk;
+ghost use Rattle.utils.specs.Plane.{at};
+ghost use Rattle.mesh.specs.Accepted.{mesh};
+ghost use Rattle.test_replay.specs.Replayed.{WalkHeld, NeighboursHeld, ClippedHeld, PathHeld, ListsHeld};
 
 fn walk(
     b: &[u8],
@@ -19,7 +22,10 @@ fn walk(
     halfedges: &[u32],
     hull: &[u32],
     work: &mut [u32],
-) -> bool {
+) -> bool
+    ensures { λ r. ⌜ WalkHeld (mesh (now (sites .entry)) (now (triangles .entry)) (now (halfedges .entry)) (now (hull .entry))) (now (b .entry)) q site
+        (now (work .entry)) (now (work .exit)) r ⌝ }
+{
     let mut out = [BEFORE; 128];
     let mut count = 0;
     let mut ended = 0;
@@ -46,7 +52,10 @@ fn neighbours(
     halfedges: &[u32],
     hull: &[u32],
     work: &mut [u32],
-) -> bool {
+) -> bool
+    ensures { λ r. ⌜ NeighboursHeld (mesh (now (sites .entry)) (now (triangles .entry)) (now (halfedges .entry)) (now (hull .entry))) (now (b .entry)) q site
+        (now (work .entry)) (now (work .exit)) r ⌝ }
+{
     let mut out = [BEFORE; 128];
     let mut count = 0;
     let mut ended = 0;
@@ -77,7 +86,11 @@ fn clipped_neighbours(
     offsets: &[u32],
     indexes: &[u32],
     work: &mut [u32],
-) -> bool {
+) -> bool
+    ensures { λ r. ⌜ ClippedHeld (mesh (now (sites .entry)) (now (triangles .entry)) (now (halfedges .entry)) (now (hull .entry))) (now (b .entry)) q site
+        built (now (offsets .entry)) (now (indexes .entry))
+        (now (work .entry)) (now (work .exit)) r ⌝ }
+{
     if !built {
         return true;
     }
@@ -111,7 +124,10 @@ fn path(
     halfedges: &[u32],
     hull: &[u32],
     work: &mut [u32],
-) -> bool {
+) -> bool
+    ensures { λ r. ⌜ PathHeld (mesh (now (sites .entry)) (now (triangles .entry)) (now (halfedges .entry)) (now (hull .entry))) (now (b .entry)) q site (at x y)
+        (now (work .entry)) (now (work .exit)) r ⌝ }
+{
     let mut out = [BEFORE; 128];
     let mut count = 0;
     let mut ended = 0;
@@ -143,7 +159,11 @@ pub fn lists(
     offsets: &[u32],
     indexes: &[u32],
     work: &mut [u32],
-) -> bool {
+) -> bool
+    ensures { λ r. ⌜ ListsHeld (mesh (now (sites .entry)) (now (triangles .entry)) (now (halfedges .entry)) (now (hull .entry))) (now (b .entry)) built
+        (now (offsets .entry)) (now (indexes .entry)) q
+        (now (work .entry)) (now (work .exit)) r ⌝ }
+{
     let site = word(b, q);
     let first = after(q, 5);
     let second = after_list(b, first);

@@ -57,3 +57,7 @@ pub record ListHeld (out b : List ℕ) (q number count ended : ℕ) : Type 0 whe
   pub whole : ended ≡ 1
   pub long : count ≡ wordOf b q
   pub entries : HasWords out b (afterOf q 1) (wordOf b q) 7
+
+-- the place after the list whose length stands at word q
+unfoldable pub afterListOf : List ℕ → ℕ → ℕ
+afterListOf b q = afterOf (afterOf q 1) (wordOf b q)

@@ -7,7 +7,7 @@ use crate::word;
 use numbers::EMPTY;
 ghost use mathlib.Core.Path.{_≡_};
 ghost use Rattle.laws.specs.Decide.{Says};
-ghost use Rattle.test_words.specs.Held.{BuildHeld, RefusedHeld, ListHeld, tablePlace, pointsPlace, startsPlace, endPlace, refusedRest, refusedBits};
+ghost use Rattle.test_words.specs.Held.{BuildHeld, RefusedHeld, ListHeld, tablePlace, pointsPlace, startsPlace, endPlace, refusedRest, refusedBits, afterListOf};
 
 // What the lent slices hold before the call.
 pub const BEFORE: u32 = 7;
@@ -119,6 +119,8 @@ pub fn list(out: &[u32], b: &[u8], q: usize, number: u32, count: u32, ended: u32
 }
 
 // The place after the list whose length stands at word q.
-pub fn after_list(b: &[u8], q: usize) -> usize {
+pub fn after_list(b: &[u8], q: usize) -> usize
+    ensures { λ r. ⌜ r ≡ afterListOf (now (b .entry)) q ⌝ }
+{
     after(after(q, 1), index(b, q))
 }

@@ -1,0 +1,2 @@
+pub mod Replayed
+pub mod laws
