@@ -4,7 +4,7 @@
  *   audit mesh [WORD]       reads a mesh as text (examples/thirty.txt), builds it, and prints the verdict against all sites and against the mesh's
  *                           neighbours; turned: each triangle and the hull the other way round; swapped: two rows of sites exchanged after the
  *                           build; flipped HALFEDGE: one edge flipped before it
- *   audit times COUNT       a grid of at most COUNT cells, without neighbours and with them, in seconds
+ *   audit times COUNT [all] a grid of at most COUNT cells, with neighbours and without them, in seconds; above 10,000 without only where all is said
  *
  * The C library's headers are not used (tests/archive.sh says why). */
 #include "number.h"
@@ -33,7 +33,7 @@ typedef struct {
     double box[4]; /* left, top, right, bottom */
     double sites[8], vertices[18];
     size_t sites_len, vertices_len, offsets_len, indexes_len, starts_len, others_len;
-    uint32_t offsets[5], indexes[16], starts[5], others[8], bits;
+    uint32_t offsets[5], indexes[17], starts[5], others[8], bits;
 } Input;
 
 /*  0 1 2
@@ -127,6 +127,22 @@ static void faults(void)
     is("a long box", &i, 4, E, E, E, (0x1p61 + 2 - 4) / (0x1p61 + 2));
 }
 
+/* what the audit cannot see (docs/AUDIT.md): a ring walked twice that comes back through its first corner, where another piece of its size is gone */
+static void twice(void)
+{
+    Input i = square;
+    const uint32_t again[8] = {0, 3, 4, 1, 0, 3, 4, 1}, straight[17] = {3, 6, 4, 1, 0, 6, 4, 1, 0, 4, 7, 8, 5, 1, 4, 5, 2};
+    i.offsets[1] = i.offsets[2] = 8;
+    memcpy(i.indexes, again, sizeof again);
+    is("walked twice, the first corner named again", &i, 0, E, E, E, 0);
+    i.indexes[4] = 4; /* 0 3 4 1, then 4 3 4 1: back over what was walked */
+    is("walked back", &i, 1, 0, E, E, 0.25);
+    i = square, i.vertices[7] = -.5, i.vertices[13] = 0; /* 3 lies on the straight side from 0 to 6 */
+    memcpy(i.indexes, straight, sizeof straight), i.indexes_len = 17;
+    i.offsets[1] = i.offsets[2] = 9, i.offsets[3] = 13, i.offsets[4] = 17;
+    is("walked twice, from a straight side", &i, 0, E, E, E, 0);
+}
+
 /* the tolerance at its edge: the middle moved by d is beyond the bisector by 2 d of the sites' distance 1, and may be by 4 2^-bits */
 static void edges(void)
 {
@@ -203,7 +219,7 @@ static void far_box(void)
 
 static int rows(void)
 {
-    sound_rows(), faults(), edges(), refusals(), far_box();
+    sound_rows(), faults(), twice(), edges(), refusals(), far_box();
     printf("audit: rows, %d wrong\n", failures);
     return failures > 0;
 }
@@ -310,7 +326,7 @@ static double timed(uint32_t side, size_t s, size_t o)
     return (double)(clock() - start) / 1e6;
 }
 
-static int times(uint64_t most)
+static int times(uint64_t most, int all)
 {
     uint32_t side = 2;
     while ((uint64_t)(side + 1) * (side + 1) <= most && side < SIDE)
@@ -336,7 +352,7 @@ static int times(uint64_t most)
         }
     cut[side * side] = 4 * side * side, from[side * side] = count;
     double with = timed(side, (size_t)side * side + 1, count);
-    if (side <= 100)
+    if (side <= 100 || all)
         printf("%u sites: %.3f s with neighbours, %.3f s without\n", side * side, with, timed(side, 0, 0));
     else
         printf("%u sites: %.3f s with neighbours\n", side * side, with);
@@ -350,7 +366,7 @@ int main(int argc, char **argv)
         return rows();
     if (argc >= 2 && argv[1][0] == 'm' && (argc < 4 || number_of(argv[3], &count)))
         return mesh(argc > 2 ? argv[2] : "", count);
-    if (argc == 3 && argv[1][0] == 't' && number_of(argv[2], &count))
-        return times(count);
-    return printf("audit rows | mesh [turned | swapped | flipped HALFEDGE] | times COUNT\n"), 2;
+    if ((argc == 3 || (argc == 4 && argv[3][0] == 'a')) && argv[1][0] == 't' && number_of(argv[2], &count))
+        return times(count, argc == 4);
+    return printf("audit rows | mesh [turned | swapped | flipped HALFEDGE] | times COUNT [all]\n"), 2;
 }

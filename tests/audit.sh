@@ -1,6 +1,7 @@
 #!/bin/sh
-# The audit through the C interface (tests/audit.c): rows and refusals; the examples, turned, with two rows of sites exchanged and with one edge
-# flipped; the lost corner of docs/DIFFERENCES.md; the time of a grid: tests/audit.sh [COUNT..].
+# The audit through the C interface (tests/audit.c, audit_truth.c): rows and refusals; the examples, turned, with two rows of sites exchanged and
+# with one edge flipped; the lost corner of docs/DIFFERENCES.md; the time of a grid; BUILDS builds of five families against half-planes in
+# 113-bit floats, no sound one named and no wrong one passed: tests/audit.sh [BUILDS [SEED]].
 set -eu
 case ${1-} in
 --help | -h)
@@ -33,4 +34,7 @@ show "$(both '0, kind 3, site 0, vertex 2, other 1, missing 0')" examples/thirty
 show "$(printf 'flip: 0\n%s' "$(both '0, kind 1, site 0, vertex -1, other -1, missing 0')")" examples/thirty.txt flipped 4
 show "$(both '0, kind 4, site -1, vertex -1, other -1, missing 0.3125')" harness/meshes/lost_corners.txt
 echo "audit: the examples are sound; turned, exchanged, flipped and with a lost corner they are told"
-for count in "${@:-2000}"; do run times "$count"; done
+run times 2000
+program=target/tests/audit_truth
+sh tests/archive.sh build "$program" tests/audit_truth.c
+run "${1:-500}" ${2+"$2"}
