@@ -3,38 +3,16 @@
 #include "voronoi.h"
 
 int printf(const char *format, ...);
-int scanf(const char *format, ...);
 int atoi(const char *word);
 void qsort(void *base, size_t count, size_t bytes, int (*compare)(const void *, const void *));
 struct instant { long seconds, nanoseconds; };
 int clock_gettime(int clock, struct instant *now);
 enum { CPU_TIME_OF_THREAD = 3, ROUNDS = 1000, N = VORONOI_MOST_SITES + 1, T = VORONOI_MOST_TRIANGLES + 1, H = N };
 
-static double box[4], sites[2 * N], vertices[VORONOI_VERTEX_NUMBERS(T, H)], areas[N], built[ROUNDS], asked[ROUNDS];
-static uint32_t triangles[3 * T], halfedges[3 * T], hull[H], work[N], indexes[VORONOI_INDEX_ROOM(T, H)], offsets[N + 1], counts[VORONOI_COUNTS];
-static size_t n, t, h;
+#include "../tests/mesh_text.h"
 
-static void read_mesh(void)
-{
-    char word[9];
-    uint32_t a;
-    while (n < N && t < T && h < H && scanf("%8s", word) == 1)
-        if (word[0] == 'e')
-            scanf("%lf%lf%lf%lf", &box[0], &box[1], &box[2], &box[3]);
-        else if (word[0] == 's')
-            n += scanf("%lf%lf", &sites[2 * n], &sites[2 * n + 1]) == 2;
-        else if (word[0] == 't') {
-            scanf("%u%u%u", &triangles[3 * t], &triangles[3 * t + 1], &triangles[3 * t + 2]);
-            for (size_t e = 3 * t; e < 3 * t + 3; e++)
-                if (scanf("%u", &halfedges[e]) != 1)
-                    halfedges[e] = VORONOI_EMPTY, scanf(" E");
-            t++;
-        } else if (word[0] == 'h')
-            while (h < H && scanf("%u", &a) == 1)
-                hull[h++] = a;
-        else
-            scanf("%*[^\n]");
-}
+static double vertices[VORONOI_VERTEX_NUMBERS(T, H)], areas[N], built[ROUNDS], asked[ROUNDS];
+static uint32_t work[N], indexes[VORONOI_INDEX_ROOM(T, H)], offsets[N + 1], counts[VORONOI_COUNTS];
 
 static double now(void)
 {

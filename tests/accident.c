@@ -2,35 +2,13 @@
  * its last corner, what voronoi_grid_nearest names, and the same after each half-edge that it names has been flipped. */
 #include "voronoi.h"
 int printf(const char *format, ...);
-int scanf(const char *format, ...);
 
 enum { N = 100, T = 200, H = 100, CORNER = 2 }; /* the corner right and bottom */
-static double box[4], sites[2 * N], vertices[VORONOI_VERTEX_NUMBERS(T, H)], areas[N];
-static int32_t grid[2 * N];
-static uint32_t triangles[3 * T], halfedges[3 * T], hull[H], work[N], table[N], indexes[VORONOI_INDEX_ROOM(T, H)], offsets[N + 1], counts[VORONOI_COUNTS];
-static size_t n, t, h;
+#include "mesh_text.h"
 
-static void read_mesh(void)
-{
-    char word[9];
-    uint32_t a;
-    while (n < N && t < T && h < H && scanf("%8s", word) == 1)
-        if (word[0] == 'b') /* box X Y WIDTH HEIGHT */
-            scanf("%lf%lf%lf%lf", &box[0], &box[1], &box[2], &box[3]);
-        else if (word[0] == 's')
-            n += scanf("%d%d", &grid[2 * n], &grid[2 * n + 1]) == 2;
-        else if (word[0] == 't') {
-            scanf("%u%u%u", &triangles[3 * t], &triangles[3 * t + 1], &triangles[3 * t + 2]);
-            for (size_t e = 3 * t; e < 3 * t + 3; e++)
-                if (scanf("%u", &halfedges[e]) != 1)
-                    halfedges[e] = VORONOI_EMPTY, scanf(" E");
-            t++;
-        } else if (word[0] == 'h')
-            while (h < H && scanf("%u", &a) == 1)
-                hull[h++] = a;
-        else
-            scanf("%*[^\n]");
-}
+static double vertices[VORONOI_VERTEX_NUMBERS(T, H)], areas[N];
+static int32_t grid[2 * N];
+static uint32_t work[N], table[N], indexes[VORONOI_INDEX_ROOM(T, H)], offsets[N + 1], counts[VORONOI_COUNTS];
 
 static uint32_t show_total(void)
 {
@@ -50,6 +28,8 @@ static uint32_t show_total(void)
 int main(void)
 {
     read_mesh();
+    for (size_t i = 0; i < 2 * n; i++)
+        grid[i] = (int32_t)sites[i];
     uint32_t kind, place, unused, refused = voronoi_grid_sites(grid, 2 * n, sites, 2 * n);
     for (int turns = 0; !refused && turns < 100; turns++) {
         if ((refused = show_total()) || (refused = voronoi_grid_nearest(grid, 2 * n, triangles, 3 * t, halfedges, 3 * t, hull, h, table, n, &kind, &place, &unused)))
