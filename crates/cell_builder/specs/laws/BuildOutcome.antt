@@ -105,6 +105,10 @@ module _ {sites : List Float} {tri he hull table : List ℕ} {b : BoundingBox} {
   abbrev outcome : CellState → Built
   outcome s = record { verts = s .verts; cells = s .cells; owners = found; lost = lostFrom T 4 (s .cells); steps = s .steps }
 
+  -- on the circumcenters that stand in v
+  abbrev extended : List Float → Outcome Fault Extensions
+  extended v = extendedOf sites tri hull table b T v
+
   abbrev cellsThen : Extensions → Outcome Fault Built
   cellsThen x = andThen (clipAll b T tri he hull (leftmostOf tri he n) n found x) (λ s. ok (outcome s))
 
@@ -120,7 +124,7 @@ module _ {sites : List Float} {tri he hull table : List ℕ} {b : BoundingBox} {
         go (ok vs) k = absurd (omega (arith, k .0))
         go (refused f) k = ap refused (k .0)
 
-    goes-on : T ≤ t → build (mesh sites tri he hull) b ≡ andThen (extendedOf sites tri hull table b T v₁) cellsThen
+    goes-on : T ≤ t → build (mesh sites tri he hull) b ≡ andThen (extended v₁) cellsThen
     unfolding build andThen
     goes-on h = rw (m .table-is) (go (centersFrom sites tri 0 T []) c)
       where
@@ -139,10 +143,10 @@ module _ {sites : List Float} {tri he hull table : List ℕ} {b : BoundingBox} {
     abbrev Builds : Outcome Fault Built → Type 0
     Builds o = (x : Extensions) × (s : CellState) × (o ≡ ok (outcome s)) × Amid (planOf (mesh sites tri he hull) (leftmostOf tri he n) b off₂) (ground n found x) s p v₂ ix₂
 
-    told : Makes (mesh sites tri he hull) table b owners (extendedOf sites tri hull table b T v₁) p v₂ ix₂ off₂
-        → Refuses (andThen (extendedOf sites tri hull table b T v₁) cellsThen) ⊎ Builds (andThen (extendedOf sites tri hull table b T v₁) cellsThen)
+    told : Makes (mesh sites tri he hull) table b owners (extended v₁) p v₂ ix₂ off₂
+        → Refuses (andThen (extended v₁) cellsThen) ⊎ Builds (andThen (extended v₁) cellsThen)
     unfolding andThen
-    told k = by (extendedOf sites tri hull table b T v₁) (rw qo at k)
+    told k = by (extended v₁) (rw qo at k)
       where
         cells-by : (x : Extensions) (o : Outcome Fault CellState)
             → Does (planOf (mesh sites tri he hull) (leftmostOf tri he n) b off₂) (ground n found x) o p v₂ ix₂
@@ -154,11 +158,11 @@ module _ {sites : List Float} {tri he hull table : List ℕ} {b : BoundingBox} {
         by (ok x) d = cells-by x (clipAll b T tri he hull (leftmostOf tri he n) n found x) (rw (m .table-is) at d)
         by (refused e) d = inl (e, refl, d .0, d .1)
 
-    module _ (k : Makes (mesh sites tri he hull) table b owners (extendedOf sites tri hull table b T v₁) p v₂ ix₂ off₂) where
-      stopped : p .fault .number ≢ 0 → andThen (extendedOf sites tri hull table b T v₁) cellsThen ≡ refused (p .fault)
+    module _ (k : Makes (mesh sites tri he hull) table b owners (extended v₁) p v₂ ix₂ off₂) where
+      stopped : p .fault .number ≢ 0 → andThen (extended v₁) cellsThen ≡ refused (p .fault)
       stopped q = ⊎-elim (λ r. r .1 ∙ ap refused (sym (r .2))) (λ r. absurd (q (ap (λ (d : Fault). d .number) (r .3 .fine)))) (told k)
 
-      all-built : p .fault .number ≡ 0 → Builds (andThen (extendedOf sites tri hull table b T v₁) cellsThen)
+      all-built : p .fault .number ≡ 0 → Builds (andThen (extended v₁) cellsThen)
       all-built q = ⊎-elim (λ r. absurd (omega (arith, r .3, ap (λ (d : Fault). d .number) (r .2)))) (λ r. r) (told k)
 
   -- ---- the build's answer and slices
