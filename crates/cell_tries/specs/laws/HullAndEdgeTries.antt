@@ -23,7 +23,8 @@ use Rattle.cell_finish.specs.declared.Progress.{Progress}
 use Rattle.cell_tries.specs.laws.TriedRings.{ring-below, ring-some, Below, hull-some, hull-below, hull-short, hull-same}
 use Rattle.cell_tries.specs.laws.OneTry.{region-room, region-within, count-is, corners-in, ringed, tried}
 
-module _ {tri he hull table : List ℕ} {f : Frame} {off : List ℕ} {g : Ground} {s : CellState} {p : Progress} {v : List Float} {ix : List ℕ} (a : Amid (plan tri he hull table f off) g s p v ix) where
+module _ {tri he hull table : List ℕ} {f : Frame} {off : List ℕ} {g : Ground} {s : CellState} {p : Progress} {v : List Float} {ix : List ℕ}
+    (a : Amid (plan tri he hull table f off) g s p v ix) where
   begun : length (g .x .verts) ≤ p .count
   begun = omega (arith, count-is a, a .held .grown .longer)
 

@@ -99,7 +99,8 @@ module _ {tri he hull table : List ℕ} {f : Frame} {off : List ℕ} {g : Ground
   region-within s h = rw (on .started s h) (omega (arith, sum-mono (regionRoom tri hull (g .found)) s (g .sites) h, all-rooms))
 
 -- the cells s in the slices v and ix, a ring of the site staged as ix₁
-module _ {tri he hull table : List ℕ} {f : Frame} {off : List ℕ} {g : Ground} {s : CellState} {p : Progress} {v : List Float} {ix : List ℕ} (a : Amid (plan tri he hull table f off) g s p v ix) where
+module _ {tri he hull table : List ℕ} {f : Frame} {off : List ℕ} {g : Ground} {s : CellState} {p : Progress} {v : List Float} {ix : List ℕ}
+    (a : Amid (plan tri he hull table f off) g s p v ix) where
   pub count-is : p .count ≡ length (s .verts)
   count-is = sym (ap length (a .verts) ∙ length-points v 0 (p .count))
 

@@ -29,7 +29,8 @@ use Rattle.cell_tries.specs.laws.TryLoops.{OthersStay, others-stay}
 
 -- the cell of the site where e ends is there
 edge-full : {tri he hull table : List ℕ} {f : Frame} {off : List ℕ} {g : Ground} {s : CellState} {p : Progress} {v : List Float} {ix : List ℕ}
-    → Amid (plan tri he hull table f off) g s p v ix → (e site : ℕ) → e < length tri → site ≡ endOf tri e → getD ix (getD off site 0) 0 ≢ EMPTY → isEmpty (getD (s .cells) site []) ≡ false
+    → Amid (plan tri he hull table f off) g s p v ix → (e site : ℕ) → e < length tri → site ≡ endOf tri e
+    → getD ix (getD off site 0) 0 ≢ EMPTY → isEmpty (getD (s .cells) site []) ≡ false
 edge-full {off = off} {s = s} {ix = ix} a e site h q n = full-already ix off (s .cells) (a .regions) site (rw (a .held .width) (edge-site a e site h q)) (region-some a e site h q) n
 
 module _ {tri he hull table : List ℕ} {f : Frame} {off : List ℕ} {g : Ground} {s : CellState} {p : Progress} {v : List Float} {ix : List ℕ}
@@ -67,7 +68,8 @@ module _ {tri he hull table : List ℕ} {f : Frame} {off : List ℕ} {g : Ground
     abbrev made : Bool
     made = not (eqb (getD ix₁ (getD off site 0) 0) EMPTY)
 
-    entries-settled : (o : Outcome Fault CellState) → Gives (OthersStay site s) o → Does (plan tri he hull table f off) g o r v₁ ix₁ → Gives (FullBefore table (g .sites) (full && made) (e + 1)) o
+    entries-settled : (o : Outcome Fault CellState) → Gives (OthersStay site s) o → Does (plan tri he hull table f off) g o r v₁ ix₁
+        → Gives (FullBefore table (g .sites) (full && made) (e + 1)) o
     entries-settled (ok c) same am = λ w k l n.
         ⊎-elim
         (λ z. rw z (edge-full am e site h q (eqb-false _ _ (not-true _ (and-right full made w)))))

@@ -1,8 +1,11 @@
 -- `mend_text::mend_text` meets its contract: the box, the lines of pairs, those of the hull, and the line of counts.
+use mathlib.Core.List.{_++_}
 use native.Mathlib.Omega.{arith}
 use lib.ListN.{length-append}
+use denote.Ref.{now}
+use Rattle.listing.specs.Text.{ascii}
 use Rattle.octets.specs.laws.Wrote.{wrote-then}
-use Rattle.mend_text.specs.MendText.{mendText}
+use Rattle.mend_text.specs.MendText.{changeLines, boxLine, mendText}
 use borrow.Author.Needs.{needs}
 use Rattle.mend_text.proofs.mend_text.Statement.{statement}
 use Rattle.mend_text.proofs.mend_text.Tie as tie
@@ -51,7 +54,10 @@ returns c =
     let w = one .before .before in
     let pairs = rw (w .before .wide .ensures) at (two .head2 .ensures) in
     let hull = rw (w .before .wide .ensures, w .wide2 .ensures) at (three .change-lines .ensures) in
-    wrote-then (wrote-then (wrote-then (one .head .ensures) pairs) hull) (four .counts-line .ensures)
+    let a = Entry w .args in
+    wrote-then
+    (wrote-then {s = boxLine (now (a .first)) ++ changeLines (ascii "pair") (now (a .changes)) 0 (a .pairs)} (wrote-then (one .head .ensures) pairs) hull)
+    (four .counts-line .ensures)
 
 pub mend-text-spec : {M : Type 1} → statement M
 mend-text-spec =
