@@ -1,13 +1,6 @@
 #!/bin/sh
 # The accident replayed through the C interface (tests/accident.c) on examples/accident.txt: what it prints stands in README.
-set -eu
-case ${1-} in
---help | -h)
-    sed -n '2,/^[^#]/s/^# \{0,1\}//p' "$0"
-    exit 0
-    ;;
-esac
-cd "$(dirname "$0")/.."
+. "$(dirname "$0")/head.sh"
 program=target/tests/accident
 sh tests/archive.sh build "$program" tests/accident.c
 said=$(mktemp) told=$(mktemp)

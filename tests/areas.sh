@@ -1,14 +1,7 @@
 #!/bin/sh
 # README's example of a call from C, examples/areas.c: built, and run on "square" and on the thirty gauges; its areas are held to those of
 # the pieces by exact fractions (tests/areas.py), and their total to the box. Then the totals and lost corners that docs/RULES.md tells.
-set -eu
-case ${1-} in
---help | -h)
-    sed -n '2,/^[^#]/s/^# \{0,1\}//p' "$0"
-    exit 0
-    ;;
-esac
-cd "$(dirname "$0")/.."
+. "$(dirname "$0")/head.sh"
 program=target/tests/areas
 sh tests/archive.sh build "$program" examples/areas.c
 said=$(mktemp)

@@ -2,14 +2,7 @@
 # The audit through the C interface (tests/audit.c, audit_truth.c): rows and refusals; the examples, turned, with two rows of sites exchanged and
 # with one edge flipped; the lost corner of docs/DIFFERENCES.md; the time of a grid; BUILDS builds of five families against half-planes in
 # 113-bit floats, no sound one named and no wrong one passed: tests/audit.sh [BUILDS [SEED]].
-set -eu
-case ${1-} in
---help | -h)
-    sed -n '2,/^[^#]/s/^# \{0,1\}//p' "$0"
-    exit 0
-    ;;
-esac
-cd "$(dirname "$0")/.."
+. "$(dirname "$0")/head.sh"
 program=target/tests/audit
 sh tests/archive.sh build "$program" tests/audit.c
 run() { sh tests/archive.sh run "$program" "$@"; }

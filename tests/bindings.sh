@@ -4,15 +4,8 @@
 # meshes of the harness (10,000): tests/bindings.sh [COUNT [SEED]].
 # Where g++, cargo or voronoice's files are missing it says what was not run; with YELMUZARD_LIVE=must files that are missing are a failure.
 # On a machine that is no x86-64 all of it stands on the archive for its own processor (./yelmuzard archive --native).
-set -eu
-case ${1-} in
---help | -h)
-    sed -n '2,/^[^#]/s/^# \{0,1\}//p' "$0"
-    exit 0
-    ;;
-esac
-root=$(cd "$(dirname "$0")/.." && pwd -P)
-cd "$root"
+. "$(dirname "$0")/head.sh"
+root=$(pwd -P)
 count=${1:-10,000} seed=${2:-1}
 folder=$(cd "$(mktemp -d)" && pwd -P)
 trap 'rm -rf "$folder"' EXIT

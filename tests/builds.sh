@@ -1,13 +1,6 @@
 #!/bin/sh
 # The builds and the cell query through the C interface.
-set -eu
-case ${1-} in
---help | -h)
-    sed -n '2,/^[^#]/s/^# \{0,1\}//p' "$0"
-    exit 0
-    ;;
-esac
-here=$(cd "$(dirname "$0")" && pwd)
-program=$here/../target/tests/builds
-"$here/archive.sh" build "$program" "$here/builds.c"
-exec "$here/archive.sh" run "$program"
+. "$(dirname "$0")/head.sh"
+program=target/tests/builds
+sh tests/archive.sh build "$program" tests/builds.c
+exec sh tests/archive.sh run "$program"

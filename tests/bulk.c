@@ -6,6 +6,7 @@
  *
  * The C library's headers are not used (tests/archive.sh says why). */
 #include "number.h"
+#include "rows.h"
 #include "voronoi.h"
 
 int printf(const char *format, ...);
@@ -24,15 +25,7 @@ static uint32_t indexes[VORONOI_INDEX_ROOM(TRIANGLES, HULL)], offsets[SITES + 1]
 static uint32_t starts[SITES + 1 + SPARE], out[VORONOI_NEIGHBOUR_ROOM(TRIANGLES, HULL) + SPARE], one[SITES];
 static uint32_t n, entries, hull_count;
 static unsigned long failures, lists, empty_lists, dropped, paths, refusals;
-static uint64_t state;
-
 #define LENT sites, 2 * (size_t)n, triangles, entries, halfedges, entries, hull, hull_count
-
-static uint32_t below(uint32_t m)
-{
-    state ^= state << 13, state ^= state >> 7, state ^= state << 17;
-    return (uint32_t)((state >> 11) % m);
-}
 
 static void fail(const char *what, size_t where, uint32_t got, uint32_t must)
 {
@@ -72,9 +65,9 @@ static unsigned char cuts[MOST * MOST];
 static void set_mesh(uint32_t a, uint32_t b, uint32_t kind)
 {
     uint32_t wide = a - 1, high = b - 1;
-    n = a * b, entries = 6 * wide * high, hull_count = 0;
+    n = a * b, entries = 6 * wide * high, hull_count = rows_hull(a, b, hull);
     for (uint32_t i = 0; i < wide * high; i++) {
-        uint32_t p = i / wide * a + i % wide, q = p + 1, r = q + a, s = p + a, cut = cuts[i] = (unsigned char)below(2);
+        uint32_t p = i / wide * a + i % wide, q = p + 1, r = q + a, s = p + a, cut = cuts[i] = (unsigned char)random_below(2);
         const uint32_t two[2][6] = {{p, s, r, p, r, q}, {p, s, q, q, s, r}};
         for (int k = 0; k < 6; k++)
             triangles[6 * i + k] = two[cut][k], halfedges[6 * i + k] = E;
@@ -90,25 +83,17 @@ static void set_mesh(uint32_t a, uint32_t b, uint32_t kind)
             halfedges[e] = f, halfedges[f] = e;
         }
     }
-    for (uint32_t y = 0; y + 1 < b; y++) /* down the west, along the south, up the east, back along the north */
-        hull[hull_count++] = y * a;
-    for (uint32_t x = 0; x + 1 < a; x++)
-        hull[hull_count++] = (b - 1) * a + x;
-    for (uint32_t y = b - 1; y > 0; y--)
-        hull[hull_count++] = y * a + a - 1;
-    for (uint32_t x = a - 1; x > 0; x--)
-        hull[hull_count++] = x;
     for (uint32_t i = 0; i < n; i++) {
-        sites[2 * i] = kind == 2 ? below(1000) / 8.0 : i % a + (kind ? below(64) / 256.0 : 0);
-        sites[2 * i + 1] = kind == 2 ? below(1000) / 8.0 : i / a + (kind ? below(64) / 256.0 : 0);
+        sites[2 * i] = kind == 2 ? random_below(1000) / 8.0 : i % a + (kind ? random_below(64) / 256.0 : 0);
+        sites[2 * i + 1] = kind == 2 ? random_below(1000) / 8.0 : i / a + (kind ? random_below(64) / 256.0 : 0);
     }
-    if (kind != 3 && n < SITES && below(4) == 0) /* a site in no triangle */
-        sites[2 * n] = below(9), sites[2 * n + 1] = below(9), n++;
+    if (kind != 3 && n < SITES && random_below(4) == 0) /* a site in no triangle */
+        sites[2 * n] = random_below(9), sites[2 * n + 1] = random_below(9), n++;
 }
 
 static uint32_t build(void)
 {
-    return voronoi_build(1.3, 1.1, 2.9 + below(4), 2.7 + below(4), LENT, single_work, n, vertices, VORONOI_VERTEX_NUMBERS(entries / 3, hull_count), indexes,
+    return voronoi_build(1.3, 1.1, 2.9 + random_below(4), 2.7 + random_below(4), LENT, single_work, n, vertices, VORONOI_VERTEX_NUMBERS(entries / 3, hull_count), indexes,
         VORONOI_INDEX_ROOM(entries / 3, hull_count), offsets, n + 1, counts, VORONOI_COUNTS);
 }
 
@@ -118,8 +103,8 @@ static uint32_t cells_by_chance(void)
     uint32_t k = 0;
     for (uint32_t s = 0; s <= n; s++) {
         offsets[s] = k;
-        for (uint32_t i = below(5); s < n && i > 0; i--)
-            indexes[k++] = below(12);
+        for (uint32_t i = random_below(5); s < n && i > 0; i--)
+            indexes[k++] = random_below(12);
     }
     return k;
 }
@@ -162,7 +147,7 @@ static void ends(uint32_t site, size_t k, size_t more_work, size_t more_out)
 {
     uint32_t from = site;
     for (size_t i = 0; i < 2 * k; i++)
-        points[i] = below(160) / 8.0 - 4;
+        points[i] = random_below(160) / 8.0 - 4;
     fill(work, n + SPARE, HELD), fill(out, k + SPARE, HELD);
     same("ends", 0, voronoi_ends(LENT, site, points, 2 * k, work, n + more_work, out, k + more_out), 0);
     for (size_t i = 0; i < k; i++, paths++) {
@@ -189,7 +174,7 @@ static void refused(uint32_t number)
     double old_x = sites[0];
     for (size_t i = 0; i < 2 * k; i++)
         points[i] = i;
-    int which = (int)below(4);
+    int which = (int)random_below(4);
     if (number <= 16)
         offsets[n] = E;
     if (number <= 9)
@@ -290,7 +275,7 @@ static int times(uint32_t side)
 {
     set_mesh(side, side, 3);
     for (uint32_t i = 0; i < 2 * n; i++)
-        sites[i] += below(1 << 20) / 4194304.0;
+        sites[i] += random_below(1 << 20) / 4194304.0;
     int64_t t = now();
     uint32_t r = voronoi_build(side / 2.0, side / 2.0, side + 1.37, side + 1.37, LENT, work, n, vertices, VORONOI_VERTEX_NUMBERS(entries / 3, hull_count), indexes,
         VORONOI_INDEX_ROOM(entries / 3, hull_count), offsets, n + 1, counts, VORONOI_COUNTS);
@@ -320,21 +305,21 @@ int main(int words, char **word)
     uint64_t meshes = 2000, seed = 1, side;
     if (words == 3 && word[1][0] == 't')
         return !number_of(word[2], &side) || side < 2 || side > MOST ? 2 : times((uint32_t)side);
-    if ((words > 1 && !number_of(word[1], &meshes)) || (words > 2 && !number_of(word[2], &seed)))
+    if (!count_and_seed(words, word, &meshes, &seed))
         return 2;
     state = 0x9E3779B97F4A7C15 * (2 * seed + 1);
     rows(), broken_fan();
     unsigned long built = 0;
     for (uint64_t i = 0; i < meshes && failures < 20; i++) {
-        set_mesh(2 + below(5), 2 + below(5), below(3));
+        set_mesh(2 + random_below(5), 2 + random_below(5), random_below(3));
         same("the mesh", 0, voronoi_check(LENT, single_work, n), 0);
         int sound = build() == 0;
         built += sound;
         size_t lent = sound ? offsets[n] : cells_by_chance();
-        neighbours(0, 0, below(SPARE), below(SPARE), below(SPARE)), neighbours(1, lent, below(SPARE), below(SPARE), below(SPARE));
+        neighbours(0, 0, random_below(SPARE), random_below(SPARE), random_below(SPARE)), neighbours(1, lent, random_below(SPARE), random_below(SPARE), random_below(SPARE));
         lent = cells_by_chance();
         neighbours(1, lent, 0, 0, 0);
-        ends(below(n), below(POINTS), below(SPARE), below(SPARE));
+        ends(random_below(n), random_below(POINTS), random_below(SPARE), random_below(SPARE));
         static const uint32_t numbers[] = {1, 1, 1, 2, 2, 2, 4, 5, 6, 7, 8, 9, 16};
         for (size_t k = 0; k < sizeof numbers / sizeof *numbers; k++)
             refused(numbers[k]);

@@ -1,14 +1,7 @@
 #!/bin/sh
 # The program `cells`: on each mesh of examples/, harness/meshes/ and tests/cells/ it prints tests/cells/NAME.out, which harness/run.sh holds to the Rust;
 # and it refuses with 17 exactly the forms that are broken: cut at each byte, in a wrong order, with a record too many or bytes after the end.
-set -eu
-case ${1-} in
---help | -h)
-    sed -n '2,/^[^#]/s/^# \{0,1\}//p' "$0"
-    exit 0
-    ;;
-esac
-cd "$(dirname "$0")/.."
+. "$(dirname "$0")/head.sh"
 sh tests/prove.sh check cells
 meshes=0
 for text in examples/*.txt harness/meshes/*.txt tests/cells/*.txt; do

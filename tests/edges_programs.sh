@@ -1,14 +1,7 @@
 #!/bin/sh
 # The four programs on forms of kind 7, a box by its edges: "square" with the edges -1 -1 1 1 is listed, exported, explained and mended as it is with its
 # center and size, `mend form` gives the form back byte for byte, and the box of README's neighbours has the corners that were given.
-set -eu
-case ${1-} in
---help | -h)
-    sed -n '2,/^[^#]/s/^# \{0,1\}//p' "$0"
-    exit 0
-    ;;
-esac
-cd "$(dirname "$0")/.."
+. "$(dirname "$0")/head.sh"
 for program in cells export why mend; do
     sh tests/prove.sh check "$program"
 done

@@ -1,14 +1,7 @@
 #!/bin/sh
 # Areas through the C interface, held to whole numbers that are exact (tests/exact_areas.c, exact_areas.py): tests/exact_areas.sh [COUNT [SEED]].
 # Rows and refusals, COUNT random rings, every cell and every triangle of the examples and of the stored meshes, and the time of a ring.
-set -eu
-case ${1-} in
---help | -h)
-    sed -n '2,/^[^#]/s/^# \{0,1\}//p' "$0"
-    exit 0
-    ;;
-esac
-cd "$(dirname "$0")/.."
+. "$(dirname "$0")/head.sh"
 program=target/tests/exact_areas
 sh tests/archive.sh build "$program" tests/exact_areas.c
 folder=$(mktemp -d)

@@ -6,6 +6,7 @@
  * What must come out is written from docs/RULES.md ("Flipping") with no regard to cost: the flipped lists, and the table that voronoi_check leaves of them.
  * Every list is compared to its last entry and beyond. The C library's headers are not used (tests/archive.sh says why). */
 #include "number.h"
+#include "rows.h"
 #include "voronoi.h"
 
 int printf(const char *format, ...);
@@ -250,29 +251,11 @@ static void refusals(void)
 
 /* ---- every half-edge of random meshes */
 
-static uint64_t state;
-
-static uint32_t random_below(uint32_t n)
-{
-    state ^= state << 13;
-    state ^= state >> 7;
-    state ^= state << 17;
-    return (uint32_t)((state >> 11) % n);
-}
-
 /* a by b sites in rows, two triangles for each square, the diagonal as chance has it; the triangles and their first half-edges in any order */
 static void set_grid(uint32_t a, uint32_t b, int chance)
 {
     static uint32_t t[ENTRIES], p[ENTRIES], h[SITES], first[SITES], after[ENTRIES];
-    uint32_t n = 0, m = 0;
-    for (uint32_t y = 0; y + 1 < b; y++)
-        for (uint32_t x = 0; x + 1 < a; x++) {
-            uint32_t c = y * a + x, q = c + 1, r = q + a, s = c + a;
-            int other = chance && random_below(2);
-            uint32_t six[] = {c, s, other ? q : r, other ? q : c, other ? s : r, other ? r : q};
-            for (int k = 0; k < 6; k++)
-                t[n++] = six[k];
-        }
+    uint32_t n = rows_triangles(a, b, chance, t), m = rows_hull(a, b, h);
     for (uint32_t k = n / 3; chance && k > 1; k--) {
         uint32_t j = random_below(k), turn = random_below(3), was[3];
         for (uint32_t i = 0; i < 3; i++)
@@ -288,14 +271,6 @@ static void set_grid(uint32_t a, uint32_t b, int chance)
         for (uint32_t d = first[t[next(e)]]; d != E; d = after[d])
             if (t[next(d)] == t[e])
                 p[e] = d;
-    for (uint32_t y = 0; y + 1 < b; y++)
-        h[m++] = y * a;
-    for (uint32_t x = 0; x + 1 < a; x++)
-        h[m++] = (b - 1) * a + x;
-    for (uint32_t y = b - 1; y > 0; y--)
-        h[m++] = y * a + a - 1;
-    for (uint32_t x = a - 1; x > 0; x--)
-        h[m++] = x;
     set_mesh(a * b, t, p, n, h, m);
 }
 
@@ -374,7 +349,7 @@ static void timed(const char *what, uint32_t a)
 int main(int words, char **word)
 {
     uint64_t cases = 3000, seed = 1;
-    if (words > 3 || (words > 1 && !number_of(word[1], &cases)) || (words > 2 && !number_of(word[2], &seed))) {
+    if (!count_and_seed(words, word, &cases, &seed)) {
         printf("usage: flip [COUNT [SEED]]\n");
         return 2;
     }

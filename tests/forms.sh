@@ -1,13 +1,6 @@
 #!/bin/sh
 # The examples' forms are what tools/mesh makes of their texts, and come back as the same forms; the stored runs of `test_forms` are what tools/forms writes.
-set -eu
-case ${1-} in
---help | -h)
-    sed -n '2,/^[^#]/s/^# \{0,1\}//p' "$0"
-    exit 0
-    ;;
-esac
-cd "$(dirname "$0")/.."
+. "$(dirname "$0")/head.sh"
 folder=$(mktemp -d)
 trap 'rm -r "$folder"' EXIT
 

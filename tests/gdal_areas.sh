@@ -2,14 +2,7 @@
 # The areas of pieces beside GDAL's: every piece of the examples, the stored meshes and the maps, with the area that voronoi_areas gives it and the
 # polygon that voronoi_cell_wkb writes of it (tools/pieces.c); GDAL's ST_Area of the polygon is within 1e-12 of the area's magnitude. It is a float
 # formula, so equality is not expected of it. Where GDAL is missing, or has no ST_Area, it says so.
-set -eu
-case ${1-} in
---help | -h)
-    sed -n '2,/^[^#]/s/^# \{0,1\}//p' "$0"
-    exit 0
-    ;;
-esac
-cd "$(dirname "$0")/.."
+. "$(dirname "$0")/head.sh"
 command -v ogrinfo >/dev/null || {
     echo "gdal_areas: GDAL IS NOT INSTALLED: no area was held to ST_Area (Debian package gdal-bin)"
     exit 0

@@ -6,6 +6,7 @@
  * What must come out is written from docs/RULES.md ("The grid"). The work slice is compared to its last entry and beyond. The C library's headers are
  * not used (tests/archive.sh says why). */
 #include "number.h"
+#include "rows.h"
 #include "voronoi.h"
 
 int printf(const char *format, ...);
@@ -267,21 +268,11 @@ static void sites(void)
 
 /* ---- random meshes */
 
-static uint64_t state;
-
-static uint32_t random_below(uint32_t n)
-{
-    state ^= state << 13;
-    state ^= state >> 7;
-    state ^= state << 17;
-    return (uint32_t)((state >> 11) % n);
-}
-
 /* a by b sites in rows, `apart` from one another, two triangles for each square; the diagonal as chance has it */
 static void set_rows(uint32_t a, uint32_t b, int32_t apart, int chance)
 {
     static uint32_t last[SITES]; /* of the row above, the half-edge along its lower side */
-    coordinate_count = 2 * (size_t)(a * b), entry_count = hull_count = 0, room = a * b;
+    coordinate_count = 2 * (size_t)(a * b), entry_count = 0, room = a * b;
     for (uint32_t s = 0; s < a * b; s++)
         set_site(s, (int32_t)(s % a) * apart, (int32_t)(s / a) * apart);
     for (uint32_t r = 0; r + 1 < b; r++) {
@@ -300,15 +291,7 @@ static void set_rows(uint32_t a, uint32_t b, int32_t apart, int chance)
             before = other ? e + 5 : e + 4, last[c] = other ? e + 4 : e + 1;
         }
     }
-    halfedge_count = entry_count;
-    for (uint32_t r = 0; r + 1 < b; r++)
-        hull[hull_count++] = r * a;
-    for (uint32_t c = 0; c + 1 < a; c++)
-        hull[hull_count++] = (b - 1) * a + c;
-    for (uint32_t r = b - 1; r > 0; r--)
-        hull[hull_count++] = r * a + a - 1;
-    for (uint32_t c = a - 1; c > 0; c--)
-        hull[hull_count++] = c;
+    halfedge_count = entry_count, hull_count = rows_hull(a, b, hull);
 }
 
 static void damage(void)
@@ -389,7 +372,7 @@ static void largest(void)
 int main(int words, char **word)
 {
     uint64_t cases = 20000, seed = 1;
-    if (words > 3 || (words > 1 && !number_of(word[1], &cases)) || (words > 2 && !number_of(word[2], &seed))) {
+    if (!count_and_seed(words, word, &cases, &seed)) {
         printf("usage: grid [COUNT [SEED]]\n");
         return 2;
     }

@@ -3,14 +3,7 @@
 # picture must be the stored ones byte for byte (docs/maps), areas exact and adding up to the box; the pictures of two faulty meshes; where
 # xmllint and GDAL are installed, what they say. Then lists that give no mesh, COUNT lists of four kinds and COUNT damaged ones (tests/map.py).
 # Where SciPy is missing it says so, and runs on the stored mesh texts.
-set -eu
-case ${1-} in
---help | -h)
-    sed -n '2,/^[^#]/s/^# \{0,1\}//p' "$0"
-    exit 0
-    ;;
-esac
-cd "$(dirname "$0")/.."
+. "$(dirname "$0")/head.sh"
 count=${1:-60} seed=${2:-1}
 program=target/tools/pieces
 sh tests/archive.sh keep "$program" tools/pieces.c

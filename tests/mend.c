@@ -6,6 +6,7 @@
  * What must come out is written from docs/RULES.md ("Mending") with no regard to cost; rule 10 and the table are asked of voronoi_check on what was mended.
  * Every slice is compared to its last entry and beyond. The C library's headers are not used (tests/archive.sh says why). */
 #include "number.h"
+#include "rows.h"
 #include "voronoi.h"
 
 int printf(const char *format, ...);
@@ -283,37 +284,11 @@ static void refusals(void)
 
 /* ---- damaged meshes */
 
-static uint64_t state;
-
-static uint32_t random_below(uint32_t n)
-{
-    state ^= state << 13;
-    state ^= state >> 7;
-    state ^= state << 17;
-    return (uint32_t)((state >> 11) % n);
-}
-
 /* a by b sites in rows, two triangles for each square, the diagonal as chance has it; the hull round it */
 static void set_grid(uint32_t a, uint32_t b, int chance)
 {
     set_sites(a * b);
-    entry_count = hull_count = 0;
-    for (uint32_t y = 0; y + 1 < b; y++)
-        for (uint32_t x = 0; x + 1 < a; x++) {
-            uint32_t p = y * a + x, q = p + 1, r = q + a, s = p + a;
-            int other = chance && random_below(2);
-            uint32_t six[] = {p, s, other ? q : r, other ? q : p, other ? s : r, other ? r : q};
-            for (int k = 0; k < 6; k++)
-                triangles[entry_count++] = six[k];
-        }
-    for (uint32_t y = 0; y + 1 < b; y++)
-        hull[hull_count++] = y * a;
-    for (uint32_t x = 0; x + 1 < a; x++)
-        hull[hull_count++] = (b - 1) * a + x;
-    for (uint32_t y = b - 1; y > 0; y--)
-        hull[hull_count++] = y * a + a - 1;
-    for (uint32_t x = a - 1; x > 0; x--)
-        hull[hull_count++] = x;
+    entry_count = rows_triangles(a, b, chance, triangles), hull_count = rows_hull(a, b, hull);
     for (size_t e = 0; e < entry_count; e++)
         halfedges[e] = E;
     halfedge_count = entry_count;
@@ -433,7 +408,7 @@ static void timed(const char *what)
 int main(int words, char **word)
 {
     uint64_t cases = 20000, seed = 1;
-    if (words > 3 || (words > 1 && !number_of(word[1], &cases)) || (words > 2 && !number_of(word[2], &seed))) {
+    if (!count_and_seed(words, word, &cases, &seed)) {
         printf("usage: mend [COUNT [SEED]]\n");
         return 2;
     }

@@ -1,14 +1,7 @@
 #!/bin/sh
 # The program `mend`: the request's rows, forms with their first record copied, words that mean nothing, and damaged meshes beside a second program;
 # the rows of harness/mend/ with their answers; a mesh that is mended and piped into `cells` has the listing of the mesh that was not damaged.
-set -eu
-case ${1-} in
---help | -h)
-    sed -n '2,/^[^#]/s/^# \{0,1\}//p' "$0"
-    exit 0
-    ;;
-esac
-cd "$(dirname "$0")/.."
+. "$(dirname "$0")/head.sh"
 sh tests/prove.sh check mend
 sh tests/prove.sh check cells
 folder=$(mktemp -d)

@@ -5,6 +5,7 @@
  * Every number is held against `expected`, written from the sentences of docs/RULES.md with no regard to cost, and every work slice to its last entry.
  * The C library's headers are not used (tests/archive.sh says why). */
 #include "number.h"
+#include "rows.h"
 #include "voronoi.h"
 
 int printf(const char *format, ...);
@@ -308,38 +309,11 @@ static void named(void)
 
 /* ---- damaged meshes */
 
-static uint64_t state;
-
-static uint32_t random_below(uint32_t n)
-{
-    state ^= state << 13;
-    state ^= state >> 7;
-    state ^= state << 17;
-    return (uint32_t)((state >> 11) % n);
-}
-
 /* a by b sites in rows, two triangles for each square, the diagonal as chance has it */
 static void set_grid(uint32_t a, uint32_t b, int chance)
 {
     set_sites(a * b);
-    entry_count = 0;
-    for (uint32_t y = 0; y + 1 < b; y++)
-        for (uint32_t x = 0; x + 1 < a; x++) {
-            uint32_t p = y * a + x, q = p + 1, r = q + a, s = p + a;
-            int other = chance && random_below(2);
-            uint32_t six[] = {p, s, other ? q : r, other ? q : p, other ? s : r, other ? r : q};
-            for (int k = 0; k < 6; k++)
-                triangles[entry_count++] = six[k];
-        }
-    hull_count = 0;
-    for (uint32_t y = 0; y + 1 < b; y++)
-        hull[hull_count++] = y * a;
-    for (uint32_t x = 0; x + 1 < a; x++)
-        hull[hull_count++] = (b - 1) * a + x;
-    for (uint32_t y = b - 1; y > 0; y--)
-        hull[hull_count++] = y * a + a - 1;
-    for (uint32_t x = a - 1; x > 0; x--)
-        hull[hull_count++] = x;
+    entry_count = rows_triangles(a, b, chance, triangles), hull_count = rows_hull(a, b, hull);
 }
 
 /* two triangles back to back on three of the sites, or on new ones */
@@ -474,7 +448,7 @@ int main(int words, char **word)
 {
     uint64_t cases = 20000;
     state = UINT64_C(0x9E3779B97F4A7C15);
-    if (words > 3 || (words > 1 && !number_of(word[1], &cases)) || (words > 2 && !number_of(word[2], &state))) {
+    if (!count_and_seed(words, word, &cases, &state)) {
         printf("usage: mesh [COUNT [SEED]], whole numbers such as 20,000\n");
         return 2;
     }

@@ -1,14 +1,7 @@
 #!/bin/sh
 # What ./yelmuzard says where something is missing or fails, with stand-ins for rt and the other programs: the words and the status of each.
-set -eu
+. "$(dirname "$0")/head.sh"
 unset YELMUZARD_LIVE VORONOI_SOURCE
-case ${1-} in
---help | -h)
-    sed -n '2,/^[^#]/s/^# \{0,1\}//p' "$0"
-    exit 0
-    ;;
-esac
-cd "$(dirname "$0")/.."
 folder=$(mktemp -d)
 trap 'rm -rf "$folder"' EXIT
 bin=$folder/bin

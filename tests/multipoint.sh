@@ -2,22 +2,15 @@
 # MultiPoints through the C interface (tests/multipoint.c): tests/multipoint.sh [COUNT], COUNT random files.
 # Then a file that GDAL wrote (tests/multipoint): read, and written again as the same bytes; and what GDAL read of the bytes that we write. made.txt there says
 # how both were made. Where ogrinfo is installed it reads our bytes again.
-set -eu
-case ${1-} in
---help | -h)
-    sed -n '2,/^[^#]/s/^# \{0,1\}//p' "$0"
-    exit 0
-    ;;
-esac
-here=$(cd "$(dirname "$0")" && pwd)
-program=$here/../target/tests/multipoint
-stored=$here/multipoint
-"$here/archive.sh" build "$program" "$here/multipoint.c"
-"$here/archive.sh" run "$program" "${1:-100000}"
+. "$(dirname "$0")/head.sh"
+program=target/tests/multipoint
+stored=tests/multipoint
+sh tests/archive.sh build "$program" tests/multipoint.c
+sh tests/archive.sh run "$program" "${1:-100000}"
 folder=$(mktemp -d)
 trap 'rm -rf "$folder"' EXIT
-"$here/archive.sh" run "$program" show <"$stored/three.wkb" >"$folder/shown"
-python3 "$here/multipoint.py" "$stored/three.csv" "$stored/three.wkb" "$stored/ours.txt" "$folder/shown" "$folder/ours.csv"
+sh tests/archive.sh run "$program" show <"$stored/three.wkb" >"$folder/shown"
+python3 tests/multipoint.py "$stored/three.csv" "$stored/three.wkb" "$stored/ours.txt" "$folder/shown" "$folder/ours.csv"
 if command -v ogrinfo >/dev/null; then
     ogrinfo -ro -al "$folder/ours.csv" -oo GEOM_POSSIBLE_NAMES=geometry -oo KEEP_GEOM_COLUMNS=NO | grep MULTIPOINT >"$folder/ours.txt"
     cmp "$folder/ours.txt" "$stored/ours.txt"

@@ -7,14 +7,8 @@
 #
 # The toolchain compiles for x86-64 alone. It is seen here through a folder of links in which clang is a script that also keeps its input,
 # the module made of the proved crates; the same clang then compiles that module for the machine, with no operation fused (-ffp-contract=off).
-set -eu
-case ${1-} in
---help | -h)
-    sed -n '2,/^[^#]/s/^# \{0,1\}//p' "$0"
-    exit 0
-    ;;
-esac
-root=$(cd "$(dirname "$0")/.." && pwd)
+. "$(dirname "$0")/head.sh"
+root=$(pwd)
 kit=${RATTLE_HOME:-$(dirname "$(dirname "$(readlink -f "$(command -v rt)")")")}
 machine=$(uname -m)
 target=${1:-$machine}

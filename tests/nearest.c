@@ -6,6 +6,7 @@
  *
  * What must come out is written from docs/RULES.md ("The grid"). The C library's headers are not used (tests/archive.sh says why). */
 #include "number.h"
+#include "rows.h"
 #include "voronoi.h"
 
 int printf(const char *format, ...);
@@ -289,16 +290,6 @@ static void rows(void)
 
 /* ---- random meshes */
 
-static uint64_t state;
-
-static uint32_t random_below(uint32_t n)
-{
-    state ^= state << 13;
-    state ^= state >> 7;
-    state ^= state << 17;
-    return (uint32_t)((state >> 11) % n);
-}
-
 static uint32_t edges[2 * SMALL], loop_length; /* the border while sites are added, counter-clockwise with Y downward */
 
 static void add_triangle(uint32_t a, uint32_t b, uint32_t c) { triangles[entries++] = a, triangles[entries++] = b, triangles[entries++] = c; }
@@ -476,7 +467,7 @@ static void random_meshes(uint64_t cases)
 static void largest(void)
 {
     uint32_t a = 256;
-    sites = a * a, entries = places = 0;
+    sites = a * a, entries = 0, places = rows_hull(a, a, hull);
     for (uint32_t s = 0; s < sites; s++)
         grid[2 * s] = (int32_t)(s % a) * 32, grid[2 * s + 1] = (int32_t)(s / a) * 32;
     for (uint32_t r = 0; r + 1 < a; r++)
@@ -486,14 +477,6 @@ static void largest(void)
             for (uint32_t k = 0; k < 6; k++)
                 triangles[entries] = t[k], halfedges[entries++] = side[k];
         }
-    for (uint32_t r = 0; r + 1 < a; r++)
-        hull[places++] = r * a;
-    for (uint32_t c = 0; c + 1 < a; c++)
-        hull[places++] = (a - 1) * a + c;
-    for (uint32_t r = a - 1; r > 0; r--)
-        hull[places++] = r * a + a - 1;
-    for (uint32_t c = a - 1; c > 0; c--)
-        hull[places++] = c;
     must("65,536 sites", VORONOI_GRID_YES, E, E);
     long start = clock();
     for (int k = 0; k < 5; k++)
@@ -512,7 +495,7 @@ static void largest(void)
 int main(int words, char **word)
 {
     uint64_t cases = 5000, seed = 1;
-    if (words > 3 || (words > 1 && !number_of(word[1], &cases)) || (words > 2 && !number_of(word[2], &seed))) {
+    if (!count_and_seed(words, word, &cases, &seed)) {
         printf("usage: nearest [COUNT [SEED]]\n");
         return 2;
     }

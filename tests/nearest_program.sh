@@ -1,14 +1,7 @@
 #!/bin/sh
 # The program `nearest`: a mesh for each of its lines, broken forms, sites that are on the grid and those that are not; the accident before and after its
 # half-edge is flipped; and the word of ./yelmuzard with its status.
-set -eu
-case ${1-} in
---help | -h)
-    sed -n '2,/^[^#]/s/^# \{0,1\}//p' "$0"
-    exit 0
-    ;;
-esac
-cd "$(dirname "$0")/.."
+. "$(dirname "$0")/head.sh"
 sh tests/prove.sh check nearest
 folder=$(mktemp -d)
 trap 'rm -rf "$folder"' EXIT

@@ -1,4 +1,4 @@
-/* A whole number from a program's word: digits, with commas or underscores between them (20,000,000). Declares nothing of the C library. */
+/* Whole numbers from a program's words: digits, with commas or underscores between them (20,000,000). Declares nothing of the C library. */
 #ifndef NUMBER_H
 #define NUMBER_H
 
@@ -19,6 +19,12 @@ static inline int number_of(const char *word, uint64_t *number)
     }
     *number = value;
     return 1;
+}
+
+/* The words [COUNT [SEED]]: whether there are no others; each that is there is in its number. */
+static inline int count_and_seed(int words, char **word, uint64_t *count, uint64_t *seed)
+{
+    return words <= 3 && (words < 2 || number_of(word[1], count)) && (words < 3 || number_of(word[2], seed));
 }
 
 #endif

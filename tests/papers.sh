@@ -1,13 +1,6 @@
 #!/bin/sh
 # The papers agree with what they speak of: the version, README's example and listings, the refusals' words and rules, the page on the root, links to files.
-set -eu
-case ${1-} in
---help | -h)
-    sed -n '2,/^[^#]/s/^# \{0,1\}//p' "$0"
-    exit 0
-    ;;
-esac
-cd "$(dirname "$0")/.."
+. "$(dirname "$0")/head.sh"
 folder=$(mktemp -d)
 trap 'rm -rf "$folder"' EXIT
 

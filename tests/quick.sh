@@ -1,14 +1,7 @@
 #!/bin/sh
 # The checks that take seconds and need no proof: tests/all runs them before the long one.
 # A check whose tool is not there (shellcheck, tools/house, tools/believed) is passed over, and said so. All are run, whatever the first says.
-set -eu
-case ${1-} in
---help | -h)
-    sed -n '2,/^[^#]/s/^# \{0,1\}//p' "$0"
-    exit 0
-    ;;
-esac
-cd "$(dirname "$0")/.."
+. "$(dirname "$0")/head.sh"
 said=$(mktemp)
 trap 'rm -f "$said"' EXIT
 failed=0
@@ -31,7 +24,7 @@ passed_over() { echo "  $1: passed over, $2"; }
 scripts_run() {
     for script in tests/*.sh; do
         grep -q "$script" tests/all tests/quick.sh || case $script in
-        tests/prove.sh | tests/native.sh) ;;
+        tests/head.sh | tests/prove.sh | tests/native.sh) ;;
         *) echo "$script is run by nothing" && return 1 ;;
         esac
     done
@@ -39,7 +32,7 @@ scripts_run() {
 
 check "rt fmt" rt fmt --check
 if command -v shellcheck >/dev/null; then
-    check shellcheck shellcheck -x yelmuzard tools/pieces .ci/run tests/all tests/*.sh harness/*.sh
+    check shellcheck shellcheck -x -P SCRIPTDIR yelmuzard tools/pieces .ci/run tests/all tests/*.sh harness/*.sh
 else
     passed_over shellcheck "it is not installed"
 fi

@@ -4,6 +4,8 @@
  *   restart [MESHES [SEED]]
  *
  * The C library's headers are not used (tests/archive.sh says why). */
+#include "number.h"
+#include "rows.h"
 #include "voronoi.h"
 
 int printf(const char *format, ...);
@@ -17,15 +19,8 @@ static double sites[2 * SITES];
 static uint32_t triangles[ENTRIES], halfedges[ENTRIES], hull[SITES], work[SITES];
 static uint32_t n, entries, hull_count;
 static unsigned long failures, cuts, paths, walks;
-static uint64_t state;
 
 #define LENT sites, 2 * (size_t)n, triangles, entries, halfedges, entries, hull, hull_count
-
-static uint32_t below(uint32_t m)
-{
-    state ^= state << 13, state ^= state >> 7, state ^= state << 17;
-    return (uint32_t)((state >> 11) % m);
-}
 
 static void fail(const char *what, uint32_t site, uint32_t got, uint32_t must)
 {
@@ -65,21 +60,21 @@ static void go_round(void)
 
 static void set_mesh(void)
 {
-    uint32_t a = 2 + below(SIDE - 1), b = 2 + below(SIDE - 1), kind = below(3);
+    uint32_t a = 2 + random_below(SIDE - 1), b = 2 + random_below(SIDE - 1), kind = random_below(3);
     n = a * b, entries = 0;
     for (uint32_t y = 0; y + 1 < b; y++)
         for (uint32_t x = 0; x + 1 < a; x++) {
-            uint32_t p = y * a + x, q = p + 1, r = q + a, s = p + a, cut = below(2);
+            uint32_t p = y * a + x, q = p + 1, r = q + a, s = p + a, cut = random_below(2);
             const uint32_t two[2][6] = {{p, s, r, p, r, q}, {p, s, q, q, s, r}};
             for (int i = 0; i < 6; i++)
                 triangles[entries++] = two[cut][i];
         }
     for (uint32_t i = 0; i < n; i++) { /* in rows with equal distances, in rows moved about, or anywhere */
-        sites[2 * i] = kind == 2 ? below(1000) / 8.0 : i % a + (kind ? below(64) / 256.0 : 0);
-        sites[2 * i + 1] = kind == 2 ? below(1000) / 8.0 : i / a + (kind ? below(64) / 256.0 : 0);
+        sites[2 * i] = kind == 2 ? random_below(1000) / 8.0 : i % a + (kind ? random_below(64) / 256.0 : 0);
+        sites[2 * i + 1] = kind == 2 ? random_below(1000) / 8.0 : i / a + (kind ? random_below(64) / 256.0 : 0);
     }
-    if (below(4) == 0)
-        sites[2 * n] = below(9), sites[2 * n + 1] = below(9), n++;
+    if (random_below(4) == 0)
+        sites[2 * n] = random_below(9), sites[2 * n + 1] = random_below(9), n++;
     pair_up();
     go_round();
 }
@@ -164,18 +159,14 @@ static void thrice(void)
     }
 }
 
-static uint64_t number(const char *word)
-{
-    uint64_t x = 0;
-    for (; *word >= '0' && *word <= '9'; word++)
-        x = 10 * x + (uint64_t)(*word - '0');
-    return x;
-}
-
 int main(int words, char **word)
 {
-    uint64_t meshes = words > 1 ? number(word[1]) : 10000;
-    state = 0x9E3779B97F4A7C15 * (2 * (words > 2 ? number(word[2]) : 1) + 1);
+    uint64_t meshes = 10000, seed = 1;
+    if (!count_and_seed(words, word, &meshes, &seed)) {
+        printf("usage: restart [MESHES [SEED]]\n");
+        return 2;
+    }
+    state = 0x9E3779B97F4A7C15 * (2 * seed + 1);
     for (uint64_t i = 0; i < meshes && failures < 20; i++) {
         set_mesh();
         if (voronoi_check(LENT, work, n) != 0) {
@@ -183,7 +174,7 @@ int main(int words, char **word)
             break;
         }
         thrice();
-        double x = below(80) / 8.0 - 2, y = below(80) / 8.0 - 2;
+        double x = random_below(80) / 8.0 - 2, y = random_below(80) / 8.0 - 2;
         for (uint32_t s = 0; s < n; s++)
             cut(s, x, y);
     }

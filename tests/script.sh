@@ -1,13 +1,6 @@
 #!/bin/sh
 # ./yelmuzard cells, export, pieces, why and mend on what is built: a listing, refusals, output that fails, a mesh wound the wrong way; the words and the status of each.
-set -eu
-case ${1-} in
---help | -h)
-    sed -n '2,/^[^#]/s/^# \{0,1\}//p' "$0"
-    exit 0
-    ;;
-esac
-cd "$(dirname "$0")/.."
+. "$(dirname "$0")/head.sh"
 folder=$(mktemp -d)
 trap 'rm -rf "$folder"' EXIT
 

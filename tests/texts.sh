@@ -1,13 +1,6 @@
 #!/bin/sh
 # tools/mesh on texts and forms that it refuses: the status, the words, and no traceback.
-set -eu
-case ${1-} in
---help | -h)
-    sed -n '2,/^[^#]/s/^# \{0,1\}//p' "$0"
-    exit 0
-    ;;
-esac
-cd "$(dirname "$0")/.."
+. "$(dirname "$0")/head.sh"
 folder=$(mktemp -d)
 trap 'rm -rf "$folder"' EXIT
 

@@ -1,13 +1,6 @@
 #!/bin/sh
 # The program `why`: the rows of harness/why/ with their answers, broken forms, and words that are no site numbers.
-set -eu
-case ${1-} in
---help | -h)
-    sed -n '2,/^[^#]/s/^# \{0,1\}//p' "$0"
-    exit 0
-    ;;
-esac
-cd "$(dirname "$0")/.."
+. "$(dirname "$0")/head.sh"
 sh tests/prove.sh check why
 folder=$(mktemp -d)
 trap 'rm -rf "$folder"' EXIT

@@ -2,14 +2,7 @@
 # Cells as Well-Known Binary: the calls through the C interface (tests/wkb.c); then every cell of every mesh of examples/, harness/meshes/ and tests/cells/,
 # written through C and by the program `export`, read by a second reader from the OGC text (tests/wkb.py) and held to the build's vertices bit for bit.
 # Where shapely and ogrinfo are installed they read the same images too.
-set -eu
-case ${1-} in
---help | -h)
-    sed -n '2,/^[^#]/s/^# \{0,1\}//p' "$0"
-    exit 0
-    ;;
-esac
-cd "$(dirname "$0")/.."
+. "$(dirname "$0")/head.sh"
 program=target/tests/wkb
 sh tests/archive.sh build "$program" tests/wkb.c
 sh tests/archive.sh run "$program"

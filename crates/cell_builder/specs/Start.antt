@@ -19,7 +19,7 @@ use Rattle.cell_finish.specs.declared.CellsAnswer.{CellsAnswer}
 use Rattle.cell_finish.specs.Finish.{outcomeAnswer, SettledCells}
 use Rattle.layout.specs.Outputs.{BuiltInto}
 use Rattle.cell_finish.specs.declared.Progress.{Progress}
-use Rattle.cell_tries.specs.CellsInSlices.{ground, frameOf, Does}
+use Rattle.cell_tries.specs.CellsInSlices.{Plan, plan, ground, frameOf, Does}
 use Rattle.cell_builder.specs.AdmittedBuild.{AdmittedBuild}
 
 -- ---- corners and extensions
@@ -59,10 +59,14 @@ pub record Makeable (m : Mesh) (table : List ℕ) (b : BoundingBox) (owners : Li
   pub four : length owners ≡ 4
   pub owner-sites : (k : ℕ) → k < 4 → getD owners k 0 < siteCount (m .sites)
 
+-- the plan of the tries, the regions starting as `off` says
+abbrev pub planOf : Mesh → List ℕ → BoundingBox → List ℕ → Plan
+planOf m table b off = plan (m .triangles) (m .halfedges) (m .hull) table (frameOf b (length (m .triangles)) (length (m .hull))) off
+
 -- by the outcome of the extensions: all cells on them, or their refusal
 abbrev pub Makes : Mesh → List ℕ → BoundingBox → List ℕ → Outcome Fault Extensions → Progress → List Float → List ℕ → List ℕ → Type 0
 Makes m table b owners (ok x) p v₁ ix₁ off₁ =
-    Does (m .triangles) (m .halfedges) (frameOf b (length (m .triangles)) (length (m .hull))) off₁ (ground (m .hull) (siteCount (m .sites)) owners x)
+    Does (planOf m table b off₁) (ground (siteCount (m .sites)) owners x)
     (clipAll b (length (m .triangles) / 3) (m .triangles) (m .halfedges) (m .hull) table (siteCount (m .sites)) owners x) p v₁ ix₁
 Makes m table b owners (refused e) p v₁ ix₁ off₁ = (p .fault ≡ e) × (0 < e .number)
 

@@ -3,8 +3,10 @@ use crate::Frame;
 use crate::tries::clip_at_hull;
 use crate::turns::clip_turn;
 use cell_finish::Progress;
-ghost use Rattle.cell_tries.specs.CellsInSlices.{HullsAmid, HullsTried, AllTried};
-ghost use Rattle.cell_tries.specs.Turns.{RestAmid, RestTried};
+ghost use mathlib.Core.List.{List};
+ghost use Prim.Native.Nat.{ℕ};
+ghost use Rattle.cell_tries.specs.CellsInSlices.{plan, HullsAmid, EdgesAmid, HullsTried, AllTried};
+ghost use Rattle.cell_tries.specs.Turns.{RestTried};
 
 // The cells of all hull sites.
 fn clip_hull(
@@ -18,8 +20,8 @@ fn clip_hull(
     f: Frame,
     p: Progress,
 ) -> Progress
-    requires { ⌜ HullsAmid (now triangles) (now halfedges) (now hull) (now table) f (now offsets) p (now vertices) (now indexes) ⌝ }
-    ensures { λ r. ⌜ HullsTried (now (triangles .entry)) (now (halfedges .entry)) (now (hull .entry)) (now (table .entry)) f (now (offsets .entry)) p
+    requires { ⌜ HullsAmid (plan (now triangles) (now halfedges) (now hull) (now table) f (now offsets)) p (now vertices) (now indexes) ⌝ }
+    ensures { λ r. ⌜ HullsTried (plan (now (triangles .entry)) (now (halfedges .entry)) (now (hull .entry)) (now (table .entry)) f (now (offsets .entry))) p
         (now (vertices .entry)) (now (indexes .entry)) r (now (vertices .exit)) (now (indexes .exit)) ⌝ }
 {
     let mut at = p;
@@ -58,9 +60,9 @@ fn clip_rest(
     f: Frame,
     p: Progress,
 ) -> Progress
-    requires { ⌜ RestAmid (now triangles) (now halfedges) (now table) f (now offsets) p (now vertices) (now indexes) ⌝ }
-    ensures { λ r. ⌜ RestTried (now (triangles .entry)) (now (halfedges .entry)) (now (table .entry)) f (now (offsets .entry)) p (now (vertices .entry)) (now (indexes .entry))
-        r (now (vertices .exit)) (now (indexes .exit)) ⌝ }
+    requires { ⌜ ((hull : List ℕ) × EdgesAmid (plan (now triangles) (now halfedges) hull (now table) f (now offsets)) p (now vertices) (now indexes)) ⌝ }
+    ensures { λ r. ⌜ ((hull : List ℕ) → RestTried (plan (now (triangles .entry)) (now (halfedges .entry)) hull (now (table .entry)) f (now (offsets .entry))) p
+        (now (vertices .entry)) (now (indexes .entry)) r (now (vertices .exit)) (now (indexes .exit))) ⌝ }
 {
     let mut at = p;
     let mut full = true;
@@ -102,8 +104,8 @@ pub fn clip_cells(
     f: Frame,
     p: Progress,
 ) -> Progress
-    requires { ⌜ HullsAmid (now triangles) (now halfedges) (now hull) (now table) f (now offsets) p (now vertices) (now indexes) ⌝ }
-    ensures { λ r. ⌜ AllTried (now (triangles .entry)) (now (halfedges .entry)) (now (hull .entry)) (now (table .entry)) f (now (offsets .entry)) p
+    requires { ⌜ HullsAmid (plan (now triangles) (now halfedges) (now hull) (now table) f (now offsets)) p (now vertices) (now indexes) ⌝ }
+    ensures { λ r. ⌜ AllTried (plan (now (triangles .entry)) (now (halfedges .entry)) (now (hull .entry)) (now (table .entry)) f (now (offsets .entry))) p
         (now (vertices .entry)) (now (indexes .entry)) r (now (vertices .exit)) (now (indexes .exit)) ⌝ }
 {
     let r = clip_hull(

@@ -15,10 +15,11 @@ use numbers::wide;
 use staging::stage_hull_ring;
 use staging::stage_ring;
 ghost use mathlib.Core.Path.{_≡_};
-ghost use Prim.Native.Nat.{_<_};
+ghost use mathlib.Core.List.{List};
+ghost use Prim.Native.Nat.{ℕ, _<_};
 ghost use lib.ListN.{length};
 ghost use Rattle.definition.specs.Reused.{Addable};
-ghost use Rattle.cell_tries.specs.CellsInSlices.{HullAmid, EdgesAmid, HullTried, EdgeTried};
+ghost use Rattle.cell_tries.specs.CellsInSlices.{plan, HullAmid, EdgesAmid, HullTried, EdgeTried};
 ghost use Rattle.cell_tries.specs.Tries.{progressOf, Ringed, Tried};
 
 // How far the build is after a ring, where `reused` points had been taken again before it.
@@ -103,8 +104,8 @@ pub fn clip_at_hull(
     p: Progress,
     i: usize,
 ) -> Progress
-    requires { ⌜ HullAmid (now triangles) (now halfedges) (now hull) (now table) f (now offsets) p (now vertices) (now indexes) i ⌝ }
-    ensures { λ r. ⌜ HullTried (now (triangles .entry)) (now (halfedges .entry)) (now (hull .entry)) (now (table .entry)) f (now (offsets .entry)) p
+    requires { ⌜ HullAmid (plan (now triangles) (now halfedges) (now hull) (now table) f (now offsets)) p (now vertices) (now indexes) i ⌝ }
+    ensures { λ r. ⌜ HullTried (plan (now (triangles .entry)) (now (halfedges .entry)) (now (hull .entry)) (now (table .entry)) f (now (offsets .entry))) p
         (now (vertices .entry)) (now (indexes .entry)) i r (now (vertices .exit)) (now (indexes .exit)) ⌝ }
 {
     let site = hull[i];
@@ -133,9 +134,10 @@ pub fn clip_at_edge(
     p: Progress,
     e: usize,
 ) -> Progress
-    requires { ⌜ EdgesAmid (now triangles) (now halfedges) f (now offsets) p (now vertices) (now indexes) × (e < length (now triangles)) ⌝ }
-    ensures { λ r. ⌜ EdgeTried (now (triangles .entry)) (now (halfedges .entry)) f (now (offsets .entry)) p (now (vertices .entry)) (now (indexes .entry)) e
-        r (now (vertices .exit)) (now (indexes .exit)) ⌝ }
+    requires { ⌜ ((e < length (now triangles)) × (hull : List ℕ) × (table : List ℕ)
+        × EdgesAmid (plan (now triangles) (now halfedges) hull table f (now offsets)) p (now vertices) (now indexes)) ⌝ }
+    ensures { λ r. ⌜ ((hull table : List ℕ) → EdgeTried (plan (now (triangles .entry)) (now (halfedges .entry)) hull table f (now (offsets .entry))) p
+        (now (vertices .entry)) (now (indexes .entry)) e r (now (vertices .exit)) (now (indexes .exit))) ⌝ }
 {
     let site = end_site(triangles, e);
     let base = wide(offsets[wide(site)]);

@@ -5,6 +5,9 @@ use cell_finish::Progress;
 use mesh::end_site;
 use numbers::EMPTY;
 use numbers::wide;
+ghost use mathlib.Core.List.{List};
+ghost use Prim.Native.Nat.{ℕ};
+ghost use Rattle.cell_tries.specs.CellsInSlices.{plan};
 ghost use Rattle.cell_tries.specs.Turns.{TurnAmid, TurnTried};
 
 // How far the build is, and whether every try so far has made its cell.
@@ -26,9 +29,9 @@ pub fn clip_turn(
     full: bool,
     e: usize,
 ) -> Turn
-    requires { ⌜ TurnAmid (now triangles) (now halfedges) (now table) f (now offsets) p full (now vertices) (now indexes) e ⌝ }
-    ensures { λ r. ⌜ TurnTried (now (triangles .entry)) (now (halfedges .entry)) (now (table .entry)) f (now (offsets .entry)) p full (now (vertices .entry)) (now (indexes .entry))
-        e (r .progress) (r .full) (now (vertices .exit)) (now (indexes .exit)) ⌝ }
+    requires { ⌜ ((hull : List ℕ) × TurnAmid (plan (now triangles) (now halfedges) hull (now table) f (now offsets)) p full (now vertices) (now indexes) e) ⌝ }
+    ensures { λ r. ⌜ ((hull : List ℕ) → TurnTried (plan (now (triangles .entry)) (now (halfedges .entry)) hull (now (table .entry)) f (now (offsets .entry))) p full
+        (now (vertices .entry)) (now (indexes .entry)) e (r .progress) (r .full) (now (vertices .exit)) (now (indexes .exit))) ⌝ }
 {
     let site = wide(end_site(triangles, e));
     if full & (wide(table[site]) < e) {

@@ -2,5 +2,6 @@
 pub mod Bytes
 pub mod Orders
 pub mod Wrote
+pub mod Lines
 pub mod PutLe
 pub mod Get

@@ -32,10 +32,10 @@ use Rattle.definition.specs.Cell.{unmarked}
 use Rattle.layout.specs.laws.Padded.{poured-cleared}
 use Rattle.cell_finish.specs.declared.Progress.{Progress}
 use Rattle.cell_finish.specs.declared.CellsAnswer.{CellsAnswer}
-use Rattle.cell_tries.specs.CellsInSlices.{ground, frameOf, Amid, Does}
+use Rattle.cell_tries.specs.CellsInSlices.{ground, Amid, Does}
 use Rattle.cell_finish.specs.Finish.{RefusedCells, Finishable}
 use Rattle.cell_builder.specs.AdmittedBuild.{AdmittedBuild}
-use Rattle.cell_builder.specs.Start.{extendedOf, Makeable, Makes, AnsweredBuild, BuiltCells}
+use Rattle.cell_builder.specs.Start.{extendedOf, Makeable, planOf, Makes, AnsweredBuild, BuiltCells}
 use Rattle.cell_tries.specs.laws.OneTry.{count-is, last-start}
 
 answer-same : {f g : Fault} {c d : ℕ} {o w : List ℕ} {l k : ℕ} {u x : Reused} → f ≡ g → c ≡ d → o ≡ w → l ≡ k → u ≡ x
@@ -45,7 +45,7 @@ answer-same p q r s t = rw (p, q, r, s, t)
 -- cells that were made can be moved together
 module _ (m : Mesh) (table : List ℕ) (b : BoundingBox) (owners : List ℕ) (p : Progress) (v₂ : List Float) (ix₂ off₂ : List ℕ) where
   amid-finishable : (x : Extensions) (s : CellState)
-      → Amid (m .triangles) (m .halfedges) (frameOf b (length (m .triangles)) (length (m .hull))) off₂ (ground (m .hull) (siteCount (m .sites)) owners x) s p v₂ ix₂
+      → Amid (planOf m table b off₂) (ground (siteCount (m .sites)) owners x) s p v₂ ix₂
       → Finishable (siteCount (m .sites)) (length (m .triangles) / 3) (p .count) (length v₂) ix₂ off₂
   amid-finishable x s a =
       let wide : length (map unmarked (s .cells)) ≡ siteCount (m .sites) = length-map (s .cells) unmarked ∙ a .held .width in
@@ -61,7 +61,7 @@ module _ (m : Mesh) (table : List ℕ) (b : BoundingBox) (owners : List ℕ) (p 
   finishable (refused e) k q = absurd (omega (arith, k .1, ap (λ (d : Fault). d .number) (k .0)))
   finishable (ok x) k q = by (clipAll b (length (m .triangles) / 3) (m .triangles) (m .halfedges) (m .hull) table (siteCount (m .sites)) owners x) k
     where
-      by : (o : Outcome Fault CellState) → Does (m .triangles) (m .halfedges) (frameOf b (length (m .triangles)) (length (m .hull))) off₂ (ground (m .hull) (siteCount (m .sites)) owners x) o p v₂ ix₂
+      by : (o : Outcome Fault CellState) → Does (planOf m table b off₂) (ground (siteCount (m .sites)) owners x) o p v₂ ix₂
           → Finishable (siteCount (m .sites)) (length (m .triangles) / 3) (p .count) (length v₂) ix₂ off₂
       by (ok s) d = amid-finishable x s d
       by (refused e) d = absurd (omega (arith, d .1, ap (λ (f : Fault). f .number) (d .0)))
@@ -105,6 +105,10 @@ module _ {sites : List Float} {tri he hull table : List ℕ} {b : BoundingBox} {
   abbrev outcome : CellState → Built
   outcome s = record { verts = s .verts; cells = s .cells; owners = found; lost = lostFrom T 4 (s .cells); steps = s .steps }
 
+  -- on the circumcenters that stand in v
+  abbrev extended : List Float → Outcome Fault Extensions
+  extended v = extendedOf sites tri hull table b T v
+
   abbrev cellsThen : Extensions → Outcome Fault Built
   cellsThen x = andThen (clipAll b T tri he hull (leftmostOf tri he n) n found x) (λ s. ok (outcome s))
 
@@ -120,7 +124,7 @@ module _ {sites : List Float} {tri he hull table : List ℕ} {b : BoundingBox} {
         go (ok vs) k = absurd (omega (arith, k .0))
         go (refused f) k = ap refused (k .0)
 
-    goes-on : T ≤ t → build (mesh sites tri he hull) b ≡ andThen (extendedOf sites tri hull table b T v₁) cellsThen
+    goes-on : T ≤ t → build (mesh sites tri he hull) b ≡ andThen (extended v₁) cellsThen
     unfolding build andThen
     goes-on h = rw (m .table-is) (go (centersFrom sites tri 0 T []) c)
       where
@@ -137,15 +141,15 @@ module _ {sites : List Float} {tri he hull table : List ℕ} {b : BoundingBox} {
     Refuses o = (e : Fault) × (o ≡ refused e) × (p .fault ≡ e) × (0 < e .number)
 
     abbrev Builds : Outcome Fault Built → Type 0
-    Builds o = (x : Extensions) × (s : CellState) × (o ≡ ok (outcome s)) × Amid tri he (frameOf b (length tri) (length hull)) off₂ (ground hull n found x) s p v₂ ix₂
+    Builds o = (x : Extensions) × (s : CellState) × (o ≡ ok (outcome s)) × Amid (planOf (mesh sites tri he hull) (leftmostOf tri he n) b off₂) (ground n found x) s p v₂ ix₂
 
-    told : Makes (mesh sites tri he hull) table b owners (extendedOf sites tri hull table b T v₁) p v₂ ix₂ off₂
-        → Refuses (andThen (extendedOf sites tri hull table b T v₁) cellsThen) ⊎ Builds (andThen (extendedOf sites tri hull table b T v₁) cellsThen)
+    told : Makes (mesh sites tri he hull) table b owners (extended v₁) p v₂ ix₂ off₂
+        → Refuses (andThen (extended v₁) cellsThen) ⊎ Builds (andThen (extended v₁) cellsThen)
     unfolding andThen
-    told k = by (extendedOf sites tri hull table b T v₁) (rw qo at k)
+    told k = by (extended v₁) (rw qo at k)
       where
         cells-by : (x : Extensions) (o : Outcome Fault CellState)
-            → Does tri he (frameOf b (length tri) (length hull)) off₂ (ground hull n found x) o p v₂ ix₂
+            → Does (planOf (mesh sites tri he hull) (leftmostOf tri he n) b off₂) (ground n found x) o p v₂ ix₂
             → Refuses (andThen o (λ s. ok (outcome s))) ⊎ Builds (andThen o (λ s. ok (outcome s)))
         cells-by x (ok s) d = inr (x, s, refl, d)
         cells-by x (refused e) d = inl (e, refl, d .0, d .1)
@@ -154,11 +158,11 @@ module _ {sites : List Float} {tri he hull table : List ℕ} {b : BoundingBox} {
         by (ok x) d = cells-by x (clipAll b T tri he hull (leftmostOf tri he n) n found x) (rw (m .table-is) at d)
         by (refused e) d = inl (e, refl, d .0, d .1)
 
-    module _ (k : Makes (mesh sites tri he hull) table b owners (extendedOf sites tri hull table b T v₁) p v₂ ix₂ off₂) where
-      stopped : p .fault .number ≢ 0 → andThen (extendedOf sites tri hull table b T v₁) cellsThen ≡ refused (p .fault)
+    module _ (k : Makes (mesh sites tri he hull) table b owners (extended v₁) p v₂ ix₂ off₂) where
+      stopped : p .fault .number ≢ 0 → andThen (extended v₁) cellsThen ≡ refused (p .fault)
       stopped q = ⊎-elim (λ r. r .1 ∙ ap refused (sym (r .2))) (λ r. absurd (q (ap (λ (d : Fault). d .number) (r .3 .fine)))) (told k)
 
-      all-built : p .fault .number ≡ 0 → Builds (andThen (extendedOf sites tri hull table b T v₁) cellsThen)
+      all-built : p .fault .number ≡ 0 → Builds (andThen (extended v₁) cellsThen)
       all-built q = ⊎-elim (λ r. absurd (omega (arith, r .3, ap (λ (d : Fault). d .number) (r .2)))) (λ r. r) (told k)
 
   -- ---- the build's answer and slices

@@ -38,9 +38,9 @@ use Rattle.definition.specs.Cell.{unmarked}
 use Rattle.layout.specs.laws.Marks.{none-unmarked}
 use Rattle.cell_tries.specs.declared.Frame.{Frame}
 use Rattle.cell_finish.specs.declared.Progress.{Progress}
-use Rattle.cell_tries.specs.CellsInSlices.{ground, frameOf, Grounded, Amid, HullsAmid, AllTried}
+use Rattle.cell_tries.specs.CellsInSlices.{Plan, plan, ground, frameOf, Grounded, Amid, HullsAmid, AllTried}
 use Rattle.cell_builder.specs.AdmittedBuild.{AdmittedBuild}
-use Rattle.cell_builder.specs.Start.{extendedOf, Extendable, Begun, BegunBy, Makeable, Makes}
+use Rattle.cell_builder.specs.Start.{extendedOf, Extendable, Begun, BegunBy, Makeable, planOf, Makes}
 use Rattle.layout.specs.laws.RegionsKept.{regions-agree}
 
 -- ---- corners and extensions
@@ -167,21 +167,28 @@ module _ {sites : List Float} {tri he hull table : List ℕ} {b : BoundingBox} {
     abbrev F : Frame
     F = frameOf b (length tri) (length hull)
 
+    abbrev P : Plan
+    P = planOf (mesh sites tri he hull) table b off
+
     abbrev before : Extensions
     before = extensions (points nc v ++ cornersOf b) [] []
+
+    abbrev extended : Outcome Fault Extensions
+    extended = extendedOf sites tri hull table b nc v
 
     four-more : length (before .verts) ≡ nc + 4
     unfolding cornersOf
     four-more = length-append (points nc v) (cornersOf b) ∙ rw (length-points v 0 nc)
 
     -- the definition's extensions, to begin with
-    grounded : (x : Extensions) → extendedOf sites tri hull table b nc v ≡ ok x → Grounded tri he F off (ground hull n owners x) (length v₁) (length ix₁)
+    grounded : (x : Extensions) → extended ≡ ok x → Grounded P (ground n owners x) (length v₁) (length ix₁)
     grounded x q =
         let a = m .admitted .mesh in
         let e : Extended nc (length hull) before x = gives-ok (Extended nc (length hull) before)
         (extend-from sites tri hull table nc 0 (length hull) before (omega (arith, four-more)) (λ i h. absurd (omega arith))) q in
         record {
           mesh = topology a;
+          table-is = m .admitted .table-is;
           few-sites = a .counts .few-sites;
           few-entries = few-entries;
           three-on-hull = a .counts .three-on-hull;
@@ -214,8 +221,8 @@ module _ {sites : List Float} {tri he hull table : List ℕ} {b : BoundingBox} {
         rw (none-unmarked n)
         (regions-agree (laid .regions) (omega (arith, s, m .admitted .rooms .entries, whole-triangles)) (λ k h. g .before k (omega (arith, s))))
 
-    standing : (x : Extensions) → extendedOf sites tri hull table b nc v ≡ ok x → Begun (length hull) F owners x ix p v₁ ix₁
-        → Amid tri he F off (ground hull n owners x) (none x) p v₁ ix₁
+    standing : (x : Extensions) → extended ≡ ok x → Begun (length hull) F owners x ix p v₁ ix₁
+        → Amid P (ground n owners x) (none x) p v₁ ix₁
     standing x q g = record {
       on = grounded x q;
       held = begin b nc n (shareOf tri hull) (x .verts) owners (x .steps) (m .four);
@@ -232,28 +239,26 @@ module _ {sites : List Float} {tri he hull table : List ℕ} {b : BoundingBox} {
     no-fault q = rw q
 
     -- all cells can be clipped
-    hulls-amid : (o : Outcome Fault Extensions) → extendedOf sites tri hull table b nc v ≡ o → BegunBy (length hull) F owners o ix p v₁ ix₁
-        → p .fault .number ≡ 0 → HullsAmid tri he hull table F off p v₁ ix₁
+    hulls-amid : (o : Outcome Fault Extensions) → extended ≡ o → BegunBy (length hull) F owners o ix p v₁ ix₁
+        → p .fault .number ≡ 0 → HullsAmid P p v₁ ix₁
     hulls-amid (ok x) q g z = record {
-      g = ground hull n owners x;
+      g = ground n owners x;
       s = none x;
-      is = refl;
       amid = standing x q g;
-      table-is = m .admitted .table-is;
       blank = λ i h. no-cell n (getD hull i 0);
     }
     hulls-amid (refused e) q g z = absurd (omega (arith, rw (g .0) at z, g .1))
 
     module _ (f : Frame) (fq : f ≡ F) (g : BegunBy (length hull) f owners (extendedOf sites tri hull table (f .bounds) (f .centers) v) ix p v₁ ix₁) where
-      on-frame : BegunBy (length hull) F owners (extendedOf sites tri hull table b nc v) ix p v₁ ix₁
+      on-frame : BegunBy (length hull) F owners extended ix p v₁ ix₁
       on-frame = rw fq at g
 
-      pub can-clip : p .fault .number ≡ 0 → HullsAmid tri he hull table f off p v₁ ix₁
-      can-clip z = rw fq (hulls-amid (extendedOf sites tri hull table b nc v) refl on-frame z)
+      pub can-clip : p .fault .number ≡ 0 → HullsAmid (plan tri he hull table f off) p v₁ ix₁
+      can-clip z = rw fq (hulls-amid extended refl on-frame z)
 
       -- the extensions are refused
-      pub made-not : p .fault .number ≢ 0 → Makes (mesh sites tri he hull) table b owners (extendedOf sites tri hull table b nc v) p v₁ ix₁ off
-      made-not z = go (extendedOf sites tri hull table b nc v) on-frame
+      pub made-not : p .fault .number ≢ 0 → Makes (mesh sites tri he hull) table b owners extended p v₁ ix₁ off
+      made-not z = go extended on-frame
         where
           go : (o : Outcome Fault Extensions) → BegunBy (length hull) F owners o ix p v₁ ix₁ → Makes (mesh sites tri he hull) table b owners o p v₁ ix₁ off
           go (ok x) k = absurd (z (no-fault (k .fine)))
@@ -262,15 +267,15 @@ module _ {sites : List Float} {tri he hull table : List ℕ} {b : BoundingBox} {
       -- all cells are clipped
       pub made-all :
           p .fault .number ≡ 0 → (r : Progress) (v₂ : List Float) (ix₂ : List ℕ)
-          → AllTried tri he hull table f off p v₁ ix₁ r v₂ ix₂
-          → Makes (mesh sites tri he hull) table b owners (extendedOf sites tri hull table b nc v) r v₂ ix₂ off
+          → AllTried (plan tri he hull table f off) p v₁ ix₁ r v₂ ix₂
+          → Makes (mesh sites tri he hull) table b owners extended r v₂ ix₂ off
       unfolding clipAll
-      made-all z r v₂ ix₂ clip = go (extendedOf sites tri hull table b nc v) refl on-frame
+      made-all z r v₂ ix₂ clip = go extended refl on-frame
         where
-          clipped : AllTried tri he hull table F off p v₁ ix₁ r v₂ ix₂
+          clipped : AllTried P p v₁ ix₁ r v₂ ix₂
           clipped = rw fq at clip
 
-          go : (o : Outcome Fault Extensions) → extendedOf sites tri hull table b nc v ≡ o → BegunBy (length hull) F owners o ix p v₁ ix₁
+          go : (o : Outcome Fault Extensions) → extended ≡ o → BegunBy (length hull) F owners o ix p v₁ ix₁
               → Makes (mesh sites tri he hull) table b owners o r v₂ ix₂ off
-          go (ok x) q k = clipped (ground hull n owners x) (none x) refl (λ i h. no-cell n (getD hull i 0)) (standing x q k) (m .admitted .table-is)
+          go (ok x) q k = clipped (ground n owners x) (none x) (λ i h. no-cell n (getD hull i 0)) (standing x q k)
           go (refused e) q k = absurd (omega (arith, rw (k .0) at z, k .1))

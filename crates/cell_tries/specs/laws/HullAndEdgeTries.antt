@@ -1,80 +1,81 @@
 -- The two kinds of tries: at a hull place, from its ring with extensions, and at a half-edge, from the walk that starts there, where the cell is still empty.
-use mathlib.Core.Path.{_≡_, sym, _∙_, subst}
+use mathlib.Core.Path.{_≡_, sym, _∙_}
 use mathlib.Core.List.{List, []}
 use mathlib.Core.Logic.{_≢_}
-use Prim.Native.Nat.{ℕ, suc, _+_, _-_, _/_, _≤_, _<_}
+use Prim.Native.Nat.{ℕ, suc, _+_, _-_, _≤_, _<_}
 use native.Mathlib.Omega.{arith}
 use lib.Ieee.{Float}
 use lib.ListN.{length, getD, drop}
 use lib.Seq.{getD-drop}
 use Rattle.numbers.specs.Numbers.{EMPTY}
-use Rattle.mesh.specs.Mesh.{endOf, leftmostOf}
+use Rattle.mesh.specs.Mesh.{endOf}
 use Rattle.mesh.specs.laws.Facts.{paired, tab-length, end-site}
-use Rattle.definition.specs.Build.{CellState, ringFrom, hullRing, clipInto}
+use Rattle.definition.specs.Build.{CellState, ringFrom, hullRing}
 use Rattle.definition.specs.laws.AllCells.{ring-share, hull-share}
 use Rattle.definition.specs.Measures.{shareOf}
 use Rattle.staging.specs.Staging.{Staged, Stages}
 use Rattle.staging.specs.laws.Staging.{ring-room}
 use Rattle.layout.specs.laws.Marks.{empty-still, full-already}
-use Rattle.cell_tries.specs.CellsInSlices.{Ground, Amid, Does, hullTry, edgeTry}
+use Rattle.cell_tries.specs.CellsInSlices.{plan, Ground, Amid, Does, hullTry, edgeTry}
 use Rattle.cell_tries.specs.Tries.{Ringed, Tried}
 use Rattle.cell_tries.specs.declared.Frame.{Frame}
 use Rattle.cell_finish.specs.declared.Progress.{Progress}
 use Rattle.cell_tries.specs.laws.TriedRings.{ring-below, ring-some, Below, hull-some, hull-below, hull-short, hull-same}
 use Rattle.cell_tries.specs.laws.OneTry.{region-room, region-within, count-is, corners-in, ringed, tried}
 
-module _ {tri he : List ℕ} {f : Frame} {off : List ℕ} {g : Ground} {s : CellState} {p : Progress} {v : List Float} {ix : List ℕ} (a : Amid tri he f off g s p v ix) where
+module _ {tri he hull table : List ℕ} {f : Frame} {off : List ℕ} {g : Ground} {s : CellState} {p : Progress} {v : List Float} {ix : List ℕ}
+    (a : Amid (plan tri he hull table f off) g s p v ix) where
   begun : length (g .x .verts) ≤ p .count
   begun = omega (arith, count-is a, a .held .grown .longer)
 
+  pub numbers-before : length hull ≤ f .limit
+  numbers-before = omega (arith, a .on .limit)
+
   -- ---- at hull place i
-  module _ (hull table : List ℕ) (is : g .hull ≡ hull) (i : ℕ) (place : i < length hull) where
-    pub numbers-before : length hull ≤ f .limit
-    numbers-before = rw (← is) (omega (arith, a .on .limit))
-
+  module _ (i : ℕ) (place : i < length hull) where
     pub hull-site : getD hull i 0 < g .sites
-    hull-site = rw (← is) (a .on .mesh .border .fresh i (rw is place) .0)
+    hull-site = a .on .mesh .border .fresh i place .0
 
-    pub hull-stages : table ≡ leftmostOf tri he (g .sites) → Stages tri he hull table ix (f .stage) (f .limit - length hull) i
-    hull-stages t = let on = a .on in record {
+    pub hull-stages : Stages tri he hull table ix (f .stage) (f .limit - length hull) i
+    hull-stages = let on = a .on in record {
       paired = paired (on .mesh);
       place = place;
-      site = rw (t, tab-length (on .mesh)) hull-site;
-      stage = rw (← is) (omega (arith, on .stage, on .limit, on .three-on-hull, on .mesh .same));
+      site = rw (on .table-is, tab-length (on .mesh)) hull-site;
+      stage = omega (arith, on .stage, on .limit, on .three-on-hull, on .mesh .same);
       numbers = omega (arith, numbers-before, on .room-ix);
     }
 
-    -- the ring's vertices are paid for, whichever extensions stand beside the walk
-    pub hull-paid : table ≡ leftmostOf tri he (g .sites) → (xs : List ℕ) → length (hullRing he hull table xs i) ≤ shareOf tri hull (getD hull i 0)
-    hull-paid t xs = rw (← is, t) (hull-share (a .on .mesh) xs i (rw is place))
+    abbrev ring : List ℕ
+    ring = hullRing he hull table (g .x .at) i
 
-    ring-now : hullRing he hull table (drop (f .limit - length hull) ix) i ≡ hullRing he hull table (g .x .at) i
-    ring-now = hull-same tri he hull table (g .x) i (drop (f .limit - length hull) ix) place (λ j h. getD-drop (f .limit - length hull) ix j 0 ∙ rw (← is) (a .numbers j (rw is h)))
+    -- the ring's vertices are paid for
+    paid : length ring ≤ shareOf tri hull (getD hull i 0)
+    paid = rw (a .on .table-is) (hull-share (a .on .mesh) (g .x .at) i place)
 
-    module _ (paid : length (hullRing he hull table (g .x .at) i) ≤ shareOf tri hull (getD hull i 0))
-        (blank : getD (s .cells) (getD hull i 0) [] ≡ []) {ix₁ : List ℕ} {end : ℕ} (st : Staged (hullRing he hull table (drop (f .limit - length hull) ix) i) (f .stage) ix ix₁ end) where
-      staged : Staged (hullRing he hull table (g .x .at) i) (f .stage) ix ix₁ end
+    ring-now : hullRing he hull table (drop (f .limit - length hull) ix) i ≡ ring
+    ring-now = hull-same tri he hull table (g .x) i (drop (f .limit - length hull) ix) place (λ j h. getD-drop (f .limit - length hull) ix j 0 ∙ a .numbers j h)
+
+    module _ (blank : getD (s .cells) (getD hull i 0) [] ≡ []) {ix₁ : List ℕ} {end : ℕ}
+        (st : Staged (hullRing he hull table (drop (f .limit - length hull) ix) i) (f .stage) ix ix₁ end) where
+      staged : Staged ring (f .stage) ix ix₁ end
       staged = rw ring-now at st
 
-      short : length (hullRing he hull table (g .x .at) i) ≤ length tri + 2
+      short : length ring ≤ length tri + 2
       short = hull-short tri he hull table (g .x) i (paired (a .on .mesh)) (a .on .mesh .same)
 
-      below : Below (p .count) (hullRing he hull table (g .x .at) i)
+      below : Below (p .count) ring
       below j l = let on = a .on in omega (
         arith,
         begun,
-        hull-below tri he hull table (g .x) i (paired (on .mesh)) (on .mesh .same) (on .beyond)
-            (rw is at (on .counted)) (omega (arith, on .low)) place j l,
+        hull-below tri he hull table (g .x) i (paired (on .mesh)) (on .mesh .same) (on .beyond) (on .counted) (omega (arith, on .low)) place j l,
       )
 
       pub hull-ringed : Ringed f (getD hull i 0) p end v ix₁ off
-      hull-ringed = ringed a hull-site blank (hull-some tri he hull table (g .x) i) (rw is paid) short below staged
+      hull-ringed = ringed a hull-site blank (hull-some tri he hull table (g .x) i) paid short below staged
 
       pub hull-tried : {r : Progress} {v₂ : List Float} {ix₂ : List ℕ} → length v₂ ≡ length v → length ix₂ ≡ length ix₁
-          → Tried f (getD hull i 0) p end v ix₁ off r v₂ ix₂ → Does tri he f off g (hullTry tri he table f g i s) r v₂ ix₂
-      hull-tried {r} {v₂} {ix₂} lv li d =
-          subst (λ (h : List ℕ). Does tri he f off g (clipInto (f .bounds) (length tri / 3) (getD h i 0) (hullRing he h table (g .x .at) i) s) r v₂ ix₂) (sym is)
-          (tried a hull-site blank (hull-some tri he hull table (g .x) i) (rw is paid) short below staged lv li d)
+          → Tried f (getD hull i 0) p end v ix₁ off r v₂ ix₂ → Does (plan tri he hull table f off) g (hullTry (plan tri he hull table f off) g i s) r v₂ ix₂
+      hull-tried lv li d = tried a hull-site blank (hull-some tri he hull table (g .x) i) paid short below staged lv li d
 
   -- ---- at half-edge e, which ends at the site
   module _ (e site : ℕ) (h : e < length tri) (q : site ≡ endOf tri e) where
@@ -87,7 +88,7 @@ module _ {tri he : List ℕ} {f : Frame} {off : List ℕ} {g : Ground} {s : Cell
     in-cells : site < length (s .cells)
     in-cells = rw (a .held .width) edge-site
 
-    paid-edge : length (ringFrom he e) ≤ shareOf tri (g .hull) site
+    paid-edge : length (ringFrom he e) ≤ shareOf tri hull site
     paid-edge = omega (arith, ring-share (a .on .mesh) site e (λ l. sym q))
 
     pub region-some : getD off site 0 < getD off (suc site) 0
@@ -97,7 +98,7 @@ module _ {tri he : List ℕ} {f : Frame} {off : List ℕ} {g : Ground} {s : Cell
     region-place = omega (arith, region-some, region-within (a .on) (suc site) edge-site, a .on .stage, a .on .limit, a .on .room-ix)
 
     -- the cell is there
-    pub edge-kept : getD ix (getD off site 0) 0 ≢ EMPTY → Does tri he f off g (edgeTry tri he f e s) p v ix
+    pub edge-kept : getD ix (getD off site 0) 0 ≢ EMPTY → Does (plan tri he hull table f off) g (edgeTry (plan tri he hull table f off) e s) p v ix
     edge-kept n = let full = full-already ix off (s .cells) (a .regions) site in-cells region-some n in rw (← q, full) a
 
     pub stage-room : f .stage + length he ≤ length ix
@@ -117,5 +118,5 @@ module _ {tri he : List ℕ} {f : Frame} {off : List ℕ} {g : Ground} {s : Cell
       edge-ringed = ringed a edge-site blank-edge (ring-some {tri = tri} (paired (a .on .mesh)) e in-mesh) paid-edge short-edge below-edge st
 
       pub edge-tried : {r : Progress} {v₂ : List Float} {ix₂ : List ℕ} → length v₂ ≡ length v → length ix₂ ≡ length ix₁
-          → Tried f site p end v ix₁ off r v₂ ix₂ → Does tri he f off g (edgeTry tri he f e s) r v₂ ix₂
+          → Tried f site p end v ix₁ off r v₂ ix₂ → Does (plan tri he hull table f off) g (edgeTry (plan tri he hull table f off) e s) r v₂ ix₂
       edge-tried lv li d = rw (← q, blank-edge) (tried a edge-site blank-edge (ring-some {tri = tri} (paired (a .on .mesh)) e in-mesh) paid-edge short-edge below-edge st lv li d)

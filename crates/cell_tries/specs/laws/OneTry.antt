@@ -38,7 +38,7 @@ use Rattle.staging.specs.Staging.{Staged}
 use Rattle.clipping.specs.RingWalk.{Steps, ringOf, emptyAt}
 use Rattle.definition.specs.Cell.{unmarked}
 use Rattle.layout.specs.laws.Marks.{cell-set}
-use Rattle.cell_tries.specs.CellsInSlices.{Ground, Grounded, Amid, Does}
+use Rattle.cell_tries.specs.CellsInSlices.{plan, Ground, Grounded, Amid, Does}
 use Rattle.clipping.specs.laws.RingWalk.{steps-small}
 use Rattle.clipping.specs.declared.RingStepped.{RingStepped}
 use Rattle.clip_edges.specs.declared.Env.{Env}
@@ -69,11 +69,11 @@ pub ring-small : (env : Env) (edges count : ℕ) (ring : List ℕ) (vs : List Po
 ring-small env edges count ring vs os cell v ix r v₁ ix₁ h z l =
     steps-small env edges count cell v ix r v₁ ix₁ (Def.clipCell (env .bounds) (env .centers) (env .site) ring vs os) h z l
 
-module _ {tri he : List ℕ} {f : Frame} {off : List ℕ} {g : Ground} {numbers indexes : ℕ} (on : Grounded tri he f off g numbers indexes) where
+module _ {tri he hull table : List ℕ} {f : Frame} {off : List ℕ} {g : Ground} {numbers indexes : ℕ} (on : Grounded (plan tri he hull table f off) g numbers indexes) where
   pub threes : length tri ≡ 3 * (length tri / 3)
   threes = omega (arith, on .mesh .threes)
 
-  roomy : Roomy tri (g .hull) (g .found) (g .sites) off
+  roomy : Roomy tri hull (g .found) (g .sites) off
   roomy = record {
     places = on .places;
     tri-sites = entry-site (on .mesh);
@@ -83,28 +83,29 @@ module _ {tri he : List ℕ} {f : Frame} {off : List ℕ} {g : Ground} {numbers 
   }
 
   -- all regions together end where the stage begins
-  pub all-rooms : regionStart tri (g .hull) (g .found) (g .sites) ≡ f .stage
-  all-rooms = start-end tri (g .hull) (g .found) (g .sites) off roomy ∙ omega (arith, on .stage, on .four)
+  pub all-rooms : regionStart tri hull (g .found) (g .sites) ≡ f .stage
+  all-rooms = start-end tri hull (g .found) (g .sites) off roomy ∙ omega (arith, on .stage, on .four)
 
   pub last-start : getD off (g .sites) 0 ≡ f .stage
   last-start = on .started (g .sites) (omega arith) ∙ all-rooms
 
   -- the region of a site: three entries for each of its share, and its corners
-  pub region-room : (s : ℕ) → s < g .sites → getD off s 0 + 3 * shareOf tri (g .hull) s + occ s (g .found) ≡ getD off (suc s) 0
+  pub region-room : (s : ℕ) → s < g .sites → getD off s 0 + 3 * shareOf tri hull s + occ s (g .found) ≡ getD off (suc s) 0
   unfolding regionStart regionRoom
   region-room s h = rw (on .started s (omega arith), on .started (suc s) h) (omega arith)
 
   pub region-within : (s : ℕ) → s ≤ g .sites → getD off s 0 ≤ f .stage
   unfolding regionStart
-  region-within s h = rw (on .started s h) (omega (arith, sum-mono (regionRoom tri (g .hull) (g .found)) s (g .sites) h, all-rooms))
+  region-within s h = rw (on .started s h) (omega (arith, sum-mono (regionRoom tri hull (g .found)) s (g .sites) h, all-rooms))
 
 -- the cells s in the slices v and ix, a ring of the site staged as ix₁
-module _ {tri he : List ℕ} {f : Frame} {off : List ℕ} {g : Ground} {s : CellState} {p : Progress} {v : List Float} {ix : List ℕ} (a : Amid tri he f off g s p v ix) where
+module _ {tri he hull table : List ℕ} {f : Frame} {off : List ℕ} {g : Ground} {s : CellState} {p : Progress} {v : List Float} {ix : List ℕ}
+    (a : Amid (plan tri he hull table f off) g s p v ix) where
   pub count-is : p .count ≡ length (s .verts)
   count-is = sym (ap length (a .verts) ∙ length-points v 0 (p .count))
 
   -- the vertices so far, with room for all that the site's ring can add
-  pub spare-room : (site : ℕ) → site < g .sites → getD (s .cells) site [] ≡ [] → p .count + 2 * shareOf tri (g .hull) site ≤ 7 * (length tri / 3) + 5 * length (g .hull) + 4
+  pub spare-room : (site : ℕ) → site < g .sites → getD (s .cells) site [] ≡ [] → p .count + 2 * shareOf tri hull site ≤ 7 * (length tri / 3) + 5 * length hull + 4
   spare-room site l blank =
       let on = a .on in
       omega (arith, count-is, threes on, on .high, spare (on .mesh) (omega (arith, on .few-sites)) (f .bounds) (length tri / 3) (g .x .verts) (g .found) _ (on .low) s site (a .held) l blank)
@@ -113,7 +114,7 @@ module _ {tri he : List ℕ} {f : Frame} {off : List ℕ} {g : Ground} {s : Cell
   few-reused : Addable (p .reused)
   few-reused =
       let on = a .on in
-      rw (← a .reused) (counts-small {ts = s .steps} (record { is = refl; few = a .held .steps }) (omega (arith, on .taken, on .few-entries, on .few-on-hull, all-filled tri (g .hull) (s .cells))))
+      rw (← a .reused) (counts-small {ts = s .steps} (record { is = refl; few = a .held .steps }) (omega (arith, on .taken, on .few-entries, on .few-on-hull, all-filled tri hull (s .cells))))
 
   pub corners-in : length tri / 3 + 4 ≤ p .count
   corners-in = omega (arith, count-is, a .held .grown .longer, a .on .low)
@@ -122,9 +123,9 @@ module _ {tri he : List ℕ} {f : Frame} {off : List ℕ} {g : Ground} {s : Cell
   sides-in = let on = a .on in rw (on .centers, ← a .verts) (corners-kept (f .bounds) (length tri / 3) (g .x .verts) (s .verts) _ (a .held .grown) (on .low) (on .sides))
 
   module _ {site : ℕ} (l : site < g .sites) (blank : getD (s .cells) site [] ≡ []) {ring : List ℕ} (some : 0 < length ring)
-      (paid : length ring ≤ shareOf tri (g .hull) site) (short : length ring ≤ length tri + 2)
+      (paid : length ring ≤ shareOf tri hull site) (short : length ring ≤ length tri + 2)
       (below : (j : ℕ) → j < length ring → getD ring j 0 < p .count) {ix₁ : List ℕ} {end : ℕ} (st : Staged ring (f .stage) ix ix₁ end) where
-    before-numbers : f .stage + length ring ≤ f .limit - length (g .hull)
+    before-numbers : f .stage + length ring ≤ f .limit - length hull
     before-numbers = let on = a .on in omega (arith, on .stage, on .limit, on .three-on-hull)
 
     within : f .stage + length ring ≤ length ix
@@ -171,7 +172,7 @@ module _ {tri he : List ℕ} {f : Frame} {off : List ℕ} {g : Ground} {s : Cell
     after c = cellState (c .tip .verts) (c .tip .owners) (set (s .cells) site (c .new)) (s .steps ++ c .steps)
 
     abbrev Good : CellState → Type 0
-    Good t = CellsSoFar (f .bounds) (length tri / 3) (g .sites) (shareOf tri (g .hull)) (g .x .verts) (g .found) (g .x .steps) t
+    Good t = CellsSoFar (f .bounds) (length tri / 3) (g .sites) (shareOf tri hull) (g .x .verts) (g .found) (g .x .steps) t
 
     module _ (ix₂ : List ℕ) (long-ix : length ix₂ ≡ length ix₁) (c : RingPart) (held : Good (after c))
         (slice : take (f .limit) ix₂ ≡ sets (take (f .limit) ix₁) (getD off site 0) (unmarked (c .new))) where
@@ -195,7 +196,7 @@ module _ {tri he : List ℕ} {f : Frame} {off : List ℕ} {g : Ground} {s : Cell
       entries-real : (i : ℕ) → i < length (unmarked (c .new)) → getD (unmarked (c .new)) i 0 ≢ EMPTY
       entries-real i h =
           let e = entries-below _ _ _ (c .new) (omega (arith, held .grown .longer, a .on .low)) (rw (getD-set-same (s .cells) site (c .new) [] (rw (a .held .width) l)) at (held .placed site)) i h in
-          omega (arith, e, held .grown .longer, held .twos, all-filled tri (g .hull) (after c .cells), a .on .high, a .on .few-entries, a .on .few-on-hull)
+          omega (arith, e, held .grown .longer, held .twos, all-filled tri hull (after c .cells), a .on .high, a .on .few-entries, a .on .few-on-hull)
 
       regions-after : Regions ix₂ off (map unmarked (after c .cells))
       regions-after =
@@ -207,9 +208,9 @@ module _ {tri he : List ℕ} {f : Frame} {off : List ℕ} {g : Ground} {s : Cell
           let j : k < f .stage = rw (wide, last-start (a .on)) at h in
           sym (getD-take (f .stage) ix₂ k 0 j) ∙ ap (λ (x : List ℕ). getD x k 0) cell-written ∙ getD-take (f .stage) (sets ix (getD off site 0) (unmarked (c .new))) k 0 j)
 
-      numbers-after : (i : ℕ) → i < length (g .hull) → getD ix₂ (f .limit - length (g .hull) + i) 0 ≡ getD (g .x .at) i 0
+      numbers-after : (i : ℕ) → i < length hull → getD ix₂ (f .limit - length hull + i) 0 ≡ getD (g .x .at) i 0
       numbers-after i h =
-          let k = f .limit - length (g .hull) + i in
+          let k = f .limit - length hull + i in
           let low : f .stage + length ring ≤ k = omega (arith, before-numbers) in
           let high : k < f .limit = omega (arith, a .on .limit) in
           sym (getD-take (f .limit) ix₂ k 0 high)
@@ -219,12 +220,12 @@ module _ {tri he : List ℕ} {f : Frame} {off : List ℕ} {g : Ground} {s : Cell
           ∙ a .numbers i h
 
     pub tried : {r : Progress} {v₂ : List Float} {ix₂ : List ℕ} → length v₂ ≡ length v → length ix₂ ≡ length ix₁
-        → Tried f site p end v ix₁ off r v₂ ix₂ → Does tri he f off g (clipInto (f .bounds) (length tri / 3) site ring s) r v₂ ix₂
+        → Tried f site p end v ix₁ off r v₂ ix₂ → Does (plan tri he hull table f off) g (clipInto (f .bounds) (length tri / 3) site ring s) r v₂ ix₂
     unfolding clipInto andThen
     tried {r} {v₂} {ix₂} long-v long-ix t =
         let on = a .on in
         go (Def.clipCell (f .bounds) (length tri / 3) site ring (s .verts) (s .owners))
-        (clip-into (f .bounds) (length tri / 3) (g .sites) (shareOf tri (g .hull)) (g .x .verts) (g .found) (g .x .steps) (on .low) site
+        (clip-into (f .bounds) (length tri / 3) (g .sites) (shareOf tri hull) (g .x .verts) (g .found) (g .x .steps) (on .low) site
         (omega (arith, on .few-sites)) l ring paid s (a .held) blank)
         (subst (λ (o : Outcome Fault RingPart). Steps (envOf f site) (end - f .stage) o (p .count) (emptyAt (p .owners) (getD off site 0)) v ix₁ (t .stepped) v₂ ix₂) same (t .steps))
       where
@@ -234,7 +235,7 @@ module _ {tri he : List ℕ} {f : Frame} {off : List ℕ} {g : Ground} {s : Cell
 
         go : (o : Outcome Fault RingPart) → Gives (λ (q : CellState). Good q × ((k : ℕ) → k ≢ site → getD (q .cells) k [] ≡ getD (s .cells) k []))
             (andThen o (λ c. ok (after c))) → Steps (envOf f site) (end - f .stage) o (p .count) (emptyAt (p .owners) (getD off site 0)) v ix₁
-            (t .stepped) v₂ ix₂ → Does tri he f off g (andThen o (λ c. ok (after c))) r v₂ ix₂
+            (t .stepped) v₂ ix₂ → Does (plan tri he hull table f off) g (andThen o (λ c. ok (after c))) r v₂ ix₂
         go (ok c) h q =
             rw (t .is (ap (λ (x : Fault). x .number) (q .0))) (record {
               on = rw (long-v, long-ix, same-long) (a .on);

@@ -22,26 +22,27 @@ use Rattle.definition.specs.laws.Gives.{Gives, picked}
 use Rattle.layout.specs.laws.Marks.{full-already}
 use Rattle.cell_tries.specs.declared.Frame.{Frame}
 use Rattle.cell_finish.specs.declared.Progress.{Progress}
-use Rattle.cell_tries.specs.CellsInSlices.{Ground, Amid, Does, edgeTry}
+use Rattle.cell_tries.specs.CellsInSlices.{plan, Ground, Amid, Does, edgeTry}
 use Rattle.cell_tries.specs.Turns.{FullBefore, Turned}
 use Rattle.cell_tries.specs.laws.HullAndEdgeTries.{edge-site, region-some}
 use Rattle.cell_tries.specs.laws.TryLoops.{OthersStay, others-stay}
 
 -- the cell of the site where e ends is there
-edge-full : {tri he : List ℕ} {f : Frame} {off : List ℕ} {g : Ground} {s : CellState} {p : Progress} {v : List Float} {ix : List ℕ}
-    → Amid tri he f off g s p v ix → (e site : ℕ) → e < length tri → site ≡ endOf tri e → getD ix (getD off site 0) 0 ≢ EMPTY → isEmpty (getD (s .cells) site []) ≡ false
+edge-full : {tri he hull table : List ℕ} {f : Frame} {off : List ℕ} {g : Ground} {s : CellState} {p : Progress} {v : List Float} {ix : List ℕ}
+    → Amid (plan tri he hull table f off) g s p v ix → (e site : ℕ) → e < length tri → site ≡ endOf tri e
+    → getD ix (getD off site 0) 0 ≢ EMPTY → isEmpty (getD (s .cells) site []) ≡ false
 edge-full {off = off} {s = s} {ix = ix} a e site h q n = full-already ix off (s .cells) (a .regions) site (rw (a .held .width) (edge-site a e site h q)) (region-some a e site h q) n
 
-module _ {tri he table : List ℕ} {f : Frame} {off : List ℕ} {g : Ground} {s : CellState} {p : Progress} {v : List Float} {ix : List ℕ}
-    (a : Amid tri he f off g s p v ix) (t : table ≡ leftmostOf tri he (g .sites)) {full : Bool} {e site : ℕ}
+module _ {tri he hull table : List ℕ} {f : Frame} {off : List ℕ} {g : Ground} {s : CellState} {p : Progress} {v : List Float} {ix : List ℕ}
+    (a : Amid (plan tri he hull table f off) g s p v ix) {full : Bool} {e site : ℕ}
     (b : FullBefore table (g .sites) full e s) (h : e < length tri) (q : site ≡ endOf tri e) where
   pub table-place : site < length table
-  table-place = rw (t, tab-length (a .on .mesh)) (edge-site a e site h q)
+  table-place = rw (a .on .table-is, tab-length (a .on .mesh)) (edge-site a e site h q)
 
   -- another site's entry is not e
   not-here : (k : ℕ) → k < g .sites → k ≢ site → getD table k 0 ≢ e
   not-here k l n z =
-      let w : getD (leftmostOf tri he (g .sites)) k 0 ≡ e = rw t at z in
+      let w : getD (leftmostOf tri he (g .sites)) k 0 ≡ e = rw (a .on .table-is) at z in
       ⊎-elim
       (λ m. omega (arith, a .on .mesh .small))
       (λ m. n (sym (m .1) ∙ ap (endOf tri) w ∙ sym q))
@@ -51,7 +52,7 @@ module _ {tri he table : List ℕ} {f : Frame} {off : List ℕ} {g : Ground} {s 
   earlier k l n m = omega (arith, not-here k l n)
 
   -- nothing to do: the cell is there, and its entry has come by
-  pub turn-skipped : full ≡ true → getD table site 0 < e → Turned tri he table f off g s e p full v ix
+  pub turn-skipped : full ≡ true → getD table site 0 < e → Turned (plan tri he hull table f off) g s e p full v ix
   turn-skipped w m =
       let there = b w site (edge-site a e site h q) m in
       record {
@@ -59,7 +60,7 @@ module _ {tri he table : List ℕ} {f : Frame} {off : List ℕ} {g : Ground} {s 
         full-before = rw (← q, there) (λ w k l n. ⊎-elim (λ z. rw z there) (λ z. b w k l (earlier k l z n)) (eq-or-ne k site));
       }
 
-  stay : Gives (OthersStay site s) (edgeTry tri he f e s)
+  stay : Gives (OthersStay site s) (edgeTry (plan tri he hull table f off) e s)
   stay = rw (← q) (picked (Gives (OthersStay site s)) (isEmpty (getD (s .cells) site [])) _ _ (λ _. others-stay (f .bounds) (length tri / 3) site (ringFrom he e) s) (λ _ k n. refl))
 
   -- the try, and then a look at the region's first entry
@@ -67,7 +68,8 @@ module _ {tri he table : List ℕ} {f : Frame} {off : List ℕ} {g : Ground} {s 
     abbrev made : Bool
     made = not (eqb (getD ix₁ (getD off site 0) 0) EMPTY)
 
-    entries-settled : (o : Outcome Fault CellState) → Gives (OthersStay site s) o → Does tri he f off g o r v₁ ix₁ → Gives (FullBefore table (g .sites) (full && made) (e + 1)) o
+    entries-settled : (o : Outcome Fault CellState) → Gives (OthersStay site s) o → Does (plan tri he hull table f off) g o r v₁ ix₁
+        → Gives (FullBefore table (g .sites) (full && made) (e + 1)) o
     entries-settled (ok c) same am = λ w k l n.
         ⊎-elim
         (λ z. rw z (edge-full am e site h q (eqb-false _ _ (not-true _ (and-right full made w)))))
@@ -75,5 +77,5 @@ module _ {tri he table : List ℕ} {f : Frame} {off : List ℕ} {g : Ground} {s 
         (eq-or-ne k site)
     entries-settled (refused x) same am = tt
 
-    pub turn-tried : Does tri he f off g (edgeTry tri he f e s) r v₁ ix₁ → Turned tri he table f off g s e r (full && made) v₁ ix₁
-    turn-tried d = record { does = d; full-before = entries-settled (edgeTry tri he f e s) stay d }
+    pub turn-tried : Does (plan tri he hull table f off) g (edgeTry (plan tri he hull table f off) e s) r v₁ ix₁ → Turned (plan tri he hull table f off) g s e r (full && made) v₁ ix₁
+    turn-tried d = record { does = d; full-before = entries-settled (edgeTry (plan tri he hull table f off) e s) stay d }

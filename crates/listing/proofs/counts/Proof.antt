@@ -1,52 +1,35 @@
 -- `listing::counts` meets its contract: three labelled numbers and the line's end, one after the other.
-use denote.Ref.{now}
-use Rattle.listing.specs.Text.{ascii}
+use native.Mathlib.Omega.{arith}
+use lib.ListN.{length-append}
+use Rattle.octets.specs.laws.Wrote.{wrote-then}
 use Rattle.listing.specs.Listing.{labelled as labelledOf, counts as countsOf}
-use Rattle.octets.specs.laws.Wrote.{fits-first, fits-second, fits-third, fits-fourth, wrote-four}
 use borrow.Author.Needs.{needs}
 use Rattle.listing.proofs.counts.Statement.{statement}
 use Rattle.listing.proofs.counts.Tie as tie
 
-labelled-requires : tie.Need-labelled-requires
-unfolding countsOf labelledOf
-labelled-requires c κs = let s = c .before .before .before in let a = s .args in
-    fits-first (now (a .out)) 0 (labelledOf "sites" (a .sites)) (labelledOf " triangles" (a .triangles)) (labelledOf " vertices" (a .vertices)) (ascii "\n") (s .pre)
+abbrev Entry : tie.After-labelled → tie.Start
+Entry c = c .before .before .before .before
 
-labelled-requires-2 : tie.Need-labelled-requires-2
-unfolding countsOf labelledOf
-labelled-requires-2 c κs = let w = c .before .before .before .before in
-    let s = w .before .before .before .before in let a = s .args in
-    fits-second (now (a .out)) 0 (labelledOf "sites" (a .sites)) (labelledOf " triangles" (a .triangles)) (labelledOf " vertices" (a .vertices)) (ascii "\n") (s .pre) (w .labelled .ensures)
+abbrev First : tie.After-labelled2 → tie.After-labelled
+First c = c .before .before .before .before .before
 
-labelled-requires-3 : tie.Need-labelled-requires-3
-unfolding countsOf labelledOf
-labelled-requires-3 c κs = let v = c .before .before .before .before in
-    let w = v .before .before .before .before .before in
-    let s = w .before .before .before .before in let a = s .args in
-    fits-third (now (a .out)) 0 (labelledOf "sites" (a .sites)) (labelledOf " triangles" (a .triangles)) (labelledOf " vertices" (a .vertices))
-    (ascii "\n") (s .pre) (w .labelled .ensures) (v .labelled2 .ensures)
-
-put-requires : tie.Need-put-requires
-unfolding countsOf labelledOf
-put-requires c κs = let u = c .before .before .before .before in
-    let v = u .before .before .before .before .before in
-    let w = v .before .before .before .before .before in
-    let s = w .before .before .before .before in let a = s .args in
-    fits-fourth (now (a .out)) 0 (labelledOf "sites" (a .sites)) (labelledOf " triangles" (a .triangles)) (labelledOf " vertices" (a .vertices))
-    (ascii "\n") (s .pre) (w .labelled .ensures) (v .labelled2 .ensures) (u .labelled3 .ensures)
+abbrev Second : tie.After-labelled3 → tie.After-labelled2
+Second c = c .before .before .before .before .before
 
 returns : tie.Need-returns
 unfolding countsOf labelledOf
-returns c = let p = c .before .before in
-    let u = p .before .before .before .before .before in
-    let v = u .before .before .before .before .before in
-    let w = v .before .before .before .before .before in
-    let s = w .before .before .before .before in let a = s .args in
-    wrote-four (now (a .out)) 0 (labelledOf "sites" (a .sites)) (labelledOf " triangles" (a .triangles)) (labelledOf " vertices" (a .vertices))
-    (ascii "\n") (s .pre) (w .labelled .ensures) (v .labelled2 .ensures) (u .labelled3 .ensures) (p .put .ensures)
+returns c =
+    let four = c .before .before in
+    let three = four .before .before .before .before .before in
+    let two = Second three in
+    let one = First two in
+    wrote-then (wrote-then (wrote-then (one .labelled .ensures) (two .labelled2 .ensures)) (three .labelled3 .ensures)) (four .put .ensures)
 
 pub counts-spec : {M : Type 1} → statement M
+unfolding countsOf labelledOf
 counts-spec =
     tie.close
-    (tie.spec (λ c. search needs) labelled-requires (λ c. search needs) labelled-requires-2 (λ c. search needs)
-    labelled-requires-3 (λ c. search needs) put-requires (λ c. search needs) returns)
+    (tie.spec (λ c. search needs) (λ c κs. omega (arith, simp length-append at (c .before .before .before .pre))) (λ c. search needs)
+    (λ c κs. omega (arith, simp length-append at (Entry (c .before .before .before .before) .pre))) (λ c. search needs)
+    (λ c κs. omega (arith, simp length-append at (Entry (First (c .before .before .before .before)) .pre))) (λ c. search needs)
+    (λ c κs. omega (arith, simp length-append at (Entry (First (Second (c .before .before .before .before))) .pre))) (λ c. search needs) returns)

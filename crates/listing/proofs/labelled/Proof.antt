@@ -1,23 +1,22 @@
 -- `listing::labelled` meets its contract: the label, and the entry after it.
-use mathlib.Core.List.{[], _∷_}
-use denote.Ref.{now}
-use Rattle.listing.specs.Listing.{entries}
-use Rattle.octets.specs.laws.Wrote.{wrote-then, fits-left, fits-then}
+use native.Mathlib.Omega.{arith}
+use lib.ListN.{length-append}
+use Rattle.octets.specs.laws.Wrote.{wrote-then}
 use borrow.Author.Needs.{needs}
 use Rattle.listing.proofs.labelled.Statement.{statement}
 use Rattle.listing.proofs.labelled.Tie as tie
 
-put-requires : tie.Need-put-requires
-put-requires c κs = let s = c .before .before .before in fits-left (now (s .args .out)) (s .args .at) (now (s .args .label)) (entries (s .args .n ∷ [])) (s .pre)
-
-entry-requires : tie.Need-entry-requires
-entry-requires c κs = let s = c .before .before .before .before .before .before .before in
-    fits-then (now (s .args .label)) (entries (s .args .n ∷ [])) (c .before .before .before .put .ensures) (s .pre)
+abbrev Entry : tie.After-put → tie.Start
+Entry c = c .before .before .before .before
 
 returns : tie.Need-returns
 returns c =
-    let at-put = c .before .before .before .before .before .before in
-    wrote-then (at-put .put .ensures) (c .before .before .entry .ensures)
+    let two = c .before .before in
+    let one = two .before .before .before .before in
+    wrote-then (one .put .ensures) (two .entry .ensures)
 
 pub labelled-spec : {M : Type 1} → statement M
-labelled-spec = tie.close (tie.spec put-requires entry-requires (λ c. search needs) returns)
+labelled-spec =
+    tie.close
+    (tie.spec (λ c κs. omega (arith, simp length-append at (c .before .before .before .pre)))
+    (λ c κs. omega (arith, simp length-append at (Entry (c .before .before .before) .pre))) (λ c. search needs) returns)

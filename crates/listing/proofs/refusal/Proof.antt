@@ -1,27 +1,25 @@
 -- `listing::refusal` meets its contract: a labelled number and the line's end.
-use denote.Ref.{now}
-use Rattle.listing.specs.Text.{ascii}
+use native.Mathlib.Omega.{arith}
+use lib.ListN.{length-append}
+use Rattle.octets.specs.laws.Wrote.{wrote-then}
 use Rattle.listing.specs.Listing.{labelled as labelledOf, refusal as refusalOf}
-use Rattle.octets.specs.laws.Wrote.{fits-left, fits-then, wrote-then}
 use borrow.Author.Needs.{needs}
 use Rattle.listing.proofs.refusal.Statement.{statement}
 use Rattle.listing.proofs.refusal.Tie as tie
 
-labelled-requires : tie.Need-labelled-requires
-unfolding refusalOf labelledOf
-labelled-requires c κs = let s = c .before .before .before in fits-left (now (s .args .out)) 0 (labelledOf "refused" (s .args .number)) (ascii "\n") (s .pre)
-
-put-requires : tie.Need-put-requires
-unfolding refusalOf labelledOf
-put-requires c κs = let w = c .before .before .before .before in
-    let s = w .before .before .before .before in
-    fits-then (labelledOf "refused" (s .args .number)) (ascii "\n") (w .labelled .ensures) (s .pre)
+abbrev Entry : tie.After-labelled → tie.Start
+Entry c = c .before .before .before .before
 
 returns : tie.Need-returns
 unfolding refusalOf labelledOf
-returns c = let p = c .before .before in wrote-then (p .before .before .before .before .before .labelled .ensures) (p .put .ensures)
+returns c =
+    let two = c .before .before in
+    let one = two .before .before .before .before .before in
+    wrote-then (one .labelled .ensures) (two .put .ensures)
 
 pub refusal-spec : {M : Type 1} → statement M
+unfolding refusalOf labelledOf
 refusal-spec =
     tie.close
-    (tie.spec (λ c. search needs) labelled-requires (λ c. search needs) put-requires (λ c. search needs) returns)
+    (tie.spec (λ c. search needs) (λ c κs. omega (arith, simp length-append at (c .before .before .before .pre))) (λ c. search needs)
+    (λ c κs. omega (arith, simp length-append at (Entry (c .before .before .before .before) .pre))) (λ c. search needs) returns)

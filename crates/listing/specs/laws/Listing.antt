@@ -4,10 +4,11 @@ use mathlib.Core.List.{List, [], _∷_, _++_, append-assoc, append-nil}
 use Prim.Native.Nat.{ℕ, zero, suc, _+_, _-_, _*_, _≤_, _<_}
 use native.Mathlib.Omega.{arith}
 use native.Mathlib.Numerals.{add-one}
-use native.Mathlib.Nat.{add-zero, zero-add, suc-add}
+use native.Mathlib.Nat.{add-zero, zero-add}
 use Prim.Native.String.{String}
 use lib.ListN.{length, getD, take, drop, length-append, length-drop, take-append-drop}
 use lib.Seq.{take-suc, take-length, length-take-le}
+use Rattle.octets.specs.laws.Lines.{linesFrom}
 use Rattle.listing.specs.Text.{ascii, decimal}
 use Rattle.listing.specs.laws.Decimal.{decimal-short}
 use Rattle.listing.specs.Listing.{entries, labelled, counts, cellLine, listedCell, cellLines, countsAndCells, corners, reusedLine, listing, refusal, Layout}
@@ -35,32 +36,19 @@ entries-one v = append-nil (32 ∷ decimal v)
 
 -- ---- lines
 
-module _ (os cs : List ℕ) where
-  lines-append : (m n i : ℕ) → cellLines os cs i (m + n) ≡ cellLines os cs i m ++ cellLines os cs (i + m) n
-  unfolding cellLines
-  lines-append zero n i = rw (zero-add n, add-zero i)
-  lines-append (suc m) n i =
-      let e : suc i + m ≡ i + suc m = omega arith in
-      let c = cellLine i (listedCell os cs i) in
-      rw (suc-add m n)
-      (ap (λ (t : List ℕ). c ++ t) (lines-append m n (suc i) ∙ ap (λ (k : ℕ). cellLines os cs (suc i) m ++ cellLines os cs k n) e)
-      ∙ sym (append-assoc c (cellLines os cs (suc i) m) (cellLines os cs (i + suc m) n)))
+-- the lines of the cells, as a loop writes them
+pub lines-are : (os cs : List ℕ) (n i : ℕ) → cellLines os cs i n ≡ linesFrom (λ k. cellLine k (listedCell os cs k)) i n
+unfolding cellLines
+lines-are os cs zero i = refl
+lines-are os cs (suc n) i = ap (λ (t : List ℕ). cellLine i (listedCell os cs i) ++ t) (lines-are os cs n (suc i))
 
-  pub lines-none : cellLines os cs 0 0 ≡ []
-  unfolding cellLines
-  lines-none = refl
+-- the part of cell i, between its two offsets
+module _ {os cs : List ℕ} {n : ℕ} (lay : Layout os cs n) {i f t : ℕ} (h : i < n) (from : f ≡ getD os i 0) (to : t ≡ getD os (i + 1) 0) where
+  pub part-bounds : (f ≤ t) × (t ≤ length cs)
+  part-bounds = rw (from, to, add-one i) (lay .rise i h, lay .within i h)
 
-  pub lines-more : (n : ℕ) → cellLines os cs 0 (n + 1) ≡ cellLines os cs 0 n ++ cellLine n (listedCell os cs n)
-  unfolding cellLines
-  lines-more n =
-      lines-append n 1 0
-      ∙ ap (λ (k : ℕ). cellLines os cs 0 n ++ cellLines os cs k 1) (zero-add n)
-      ∙ ap (λ (t : List ℕ). cellLines os cs 0 n ++ t) (append-nil (cellLine n (listedCell os cs n)))
-
-  pub lines-split : (m n : ℕ) → m ≤ n → cellLines os cs 0 n ≡ cellLines os cs 0 m ++ cellLines os cs m (n - m)
-  lines-split m n h =
-      let e : n ≡ m + (n - m) = omega arith in
-      ap (cellLines os cs 0) e ∙ lines-append m (n - m) 0 ∙ ap (λ (k : ℕ). cellLines os cs 0 m ++ cellLines os cs k (n - m)) (zero-add m)
+  pub part-is : take (t - f) (drop f cs) ≡ listedCell os cs i
+  part-is = rw (from, to, add-one i)
 
 -- ---- lengths
 

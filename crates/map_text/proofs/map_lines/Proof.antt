@@ -1,24 +1,26 @@
 -- `map_text::map_lines` meets its contract: the invariant is that the lines so far are written; each turn writes one more, of the part between two offsets.
-use mathlib.Core.Path.{_≡_, ap, ap₂, _∙_, subst}
+use mathlib.Core.Path.{_≡_, refl, sym, subst}
 use mathlib.Core.List.{List}
-use Prim.Native.Nat.{ℕ, suc, _+_, _-_, _≤_, _<_}
+use Prim.Native.Nat.{ℕ, _-_, _≤_, _<_}
 use native.Mathlib.Omega.{arith}
-use native.Mathlib.Numerals.{add-one}
-use lib.ListN.{length, getD, take, drop}
+use native.Mathlib.Nat.{zero-add}
+use lib.ListN.{length, take, drop}
 use denote.Ref.{now}
 use Rattle.listing.specs.Listing.{listedCell}
-use Rattle.octets.specs.Wrote.{Wrote}
-use Rattle.octets.specs.laws.Wrote.{Lined, lined-start, lined-fits, lined-step, lined-end, wrote-length}
+use Rattle.listing.specs.laws.Listing.{part-bounds, part-is}
+use Rattle.octets.specs.Wrote.{HasRoom, Wrote}
+use Rattle.octets.specs.laws.Wrote.{Lined, lined-start, lined-end, wrote-length, wrote-as}
+use Rattle.octets.specs.laws.Lines.{linesFrom, line-fits, line-written}
 use Rattle.wkb.specs.Polygon.{patterns}
 use Rattle.wkb.specs.Promise.{image}
-use Rattle.map_text.specs.MapText.{mapLine, mapLines}
-use Rattle.map_text.specs.laws.MapText.{lines-none, lines-more, lines-split}
+use Rattle.map_text.specs.MapText.{mapLine}
+use Rattle.map_text.specs.laws.MapText.{lines-are}
 use borrow.Author.Needs.{needs}
 use Rattle.map_text.proofs.map_lines.Statement.{statement}
 use Rattle.map_text.proofs.map_lines.Tie as tie
 
 abbrev Inv-loop : tie.InvT-loop
-Inv-loop out₀ at sites vertices offsets indexes end₀ i₀ out end i = Lined (λ k. mapLines (patterns vertices) offsets indexes 0 k) sites out₀ out at end i
+Inv-loop out₀ at sites vertices offsets indexes end₀ i₀ out end i = Lined (linesFrom (λ k. mapLine k (image (patterns vertices) (listedCell offsets indexes k))) 0) sites out₀ out at end i
 
 abbrev μ-loop : tie.MeasureT-loop
 μ-loop out₀ at sites vertices offsets indexes end₀ i₀ out end i = sites - i
@@ -48,26 +50,17 @@ turn c =
     let at-loop-test = c .before .before .before .before in
     at-loop-test .loop-test .taken
 
-from-is : (c : tie.After-wide2 Inv-loop μ-loop) → c .before .before .wide .result ≡ getD (off c) (number c) 0
-from-is c = c .before .before .wide .ensures
-
-to-is : (c : tie.After-wide2 Inv-loop μ-loop) → c .wide2 .result ≡ getD (off c) (suc (number c)) 0
-to-is c = c .wide2 .ensures ∙ ap (λ (k : ℕ). getD (off c) k 0) (add-one (number c))
-
 bounds : (c : tie.After-wide2 Inv-loop μ-loop) → (c .before .before .wide .result ≤ c .wide2 .result) × (c .wide2 .result ≤ length (ix c))
-bounds c =
-    let lay = begin c .pre .0 .layout in
-    let i = number c in
-    (omega (arith, from-is c, to-is c, lay .rise i (turn c)), omega (arith, to-is c, lay .within i (turn c)))
+bounds c = part-bounds (begin c .pre .0 .layout) (turn c) (c .before .before .wide .ensures) (c .wide2 .ensures)
 
-part-is : (c : tie.After-wide2 Inv-loop μ-loop) → take (c .wide2 .result - c .before .before .wide .result) (drop (c .before .before .wide .result) (ix c)) ≡ listedCell (off c) (ix c) (number c)
-part-is c = ap₂ (λ (f t : ℕ). take (t - f) (drop f (ix c))) (from-is c) (to-is c)
+part : (c : tie.After-wide2 Inv-loop μ-loop) → take (c .wide2 .result - c .before .before .wide .result) (drop (c .before .before .wide .result) (ix c)) ≡ listedCell (off c) (ix c) (number c)
+part c = part-is (begin c .pre .0 .layout) (turn c) (c .before .before .wide .ensures) (c .wide2 .ensures)
 
 loop-holds : tie.Need-loop-holds Inv-loop μ-loop
 loop-holds c =
     let start = c .before .before .before .before in
     let a = start .args in
-    lined-start _ (a .sites) (now (a .out)) (a .at) (lines-none (patterns (now (a .vertices))) (now (a .offsets)) (now (a .indexes)))
+    lined-start _ (a .sites) (now (a .out)) (a .at) refl
 
 mul-wide : tie.Need-mul-wide Inv-loop μ-loop
 mul-wide c =
@@ -102,18 +95,13 @@ mul-cell-line c = let s = begin (c .before) in omega (arith, bounds (c .before),
 
 cell-line-requires : tie.Need-cell-line-requires Inv-loop μ-loop
 cell-line-requires c κs =
-    let start = c .before .before in
-    let at-loop = start .before .before .before .before .before in
-    let w = start in
+    let w = c .before .before in
     let s = begin w in
-    let i = number w in
-    let l = at-loop .loop in
-    let line = mapLine i (image (vs w) (listedCell (off w) (ix w) i)) in
-    rw (part-is w) (
-      s .pre .0 .named i (turn w),
-      s .pre .0 .short i (turn w),
-      lined-fits (l .inv) line (mapLines (vs w) (off w) (ix w) (i + 1) (s .args .sites - (i + 1))) (lines-more (vs w) (off w) (ix w) i)
-          (lines-split (vs w) (off w) (ix w) (i + 1) (s .args .sites) (omega (arith, turn w))) (s .pre .1),
+    let l = w .before .before .before .before .before in
+    rw (part w) (
+      s .pre .0 .named (number w) (turn w),
+      s .pre .0 .short (number w) (turn w),
+      line-fits (l .loop .inv) (turn w) (zero-add (number w)) (subst (HasRoom (now (s .args .out)) (s .args .at)) (lines-are (vs w) (off w) (ix w) (s .args .sites) 0) (s .pre .1)),
     )
 
 add-i : tie.Need-add-i Inv-loop μ-loop
@@ -123,15 +111,16 @@ add-i c =
 
 loop-again : tie.Need-loop-again Inv-loop μ-loop
 loop-again c =
-    let at-cell-line = c .before .before in
-    let start = at-cell-line .before .before .before in
-    let at-loop = start .before .before .before .before .before in
-    let w = start in
-    let i = number w in
-    let l = at-loop .loop in
-    let r = at-cell-line .cell-line in
-    lined-step (l .inv) (mapLine i (image (vs w) (listedCell (off w) (ix w) i))) (turn w) (lines-more (vs w) (off w) (ix w) i)
-    (subst (λ (z : List ℕ). Wrote (l .out) (r .last .0) (l .end) (r .result) (mapLine i (image (vs w) z))) (part-is w) (r .ensures))
+    let r = c .before .before in
+    let w = r .before .before .before in
+    let l = w .before .before .before .before .before in
+    line-written (l .loop .inv) (turn w) (zero-add (number w))
+    (subst (λ (z : List ℕ). Wrote (l .loop .out) (r .cell-line .last .0) (l .loop .end) (r .cell-line .result) (mapLine (number w) (image (vs w) z))) (part w) (r .cell-line .ensures))
+
+returns : tie.Need-returns Inv-loop μ-loop
+returns c =
+    let a = c .before .before .before .before .before .before .args in
+    wrote-as (lined-end (c .before .loop .inv) (c .loop-test .left)) (sym (lines-are (patterns (now (a .vertices))) (now (a .offsets)) (now (a .indexes)) (a .sites) 0))
 
 pub map-lines-spec : {M : Type 1} → statement M
 map-lines-spec =
@@ -139,5 +128,4 @@ map-lines-spec =
     (tie.spec Inv-loop μ-loop loop-holds mul-wide shared-slice-read-wide (λ c κs. search needs) add-wide
     mul-wide-2 shared-slice-read-wide-2 (λ c κs. search needs) cast-cell-line mul-cell-line
     (λ c. bounds (c .before) .0) (λ c. bounds (c .before) .0) (λ c. bounds (c .before) .1) cell-line-requires
-    add-i (λ c. omega (arith, turn (c .before .before .before .before .before))) loop-again (λ c. wrote-length (c .before .loop .inv .wrote))
-    (λ c. lined-end (c .before .loop .inv) (c .loop-test .left)))
+    add-i (λ c. omega (arith, turn (c .before .before .before .before .before))) loop-again (λ c. wrote-length (c .before .loop .inv .wrote)) returns)

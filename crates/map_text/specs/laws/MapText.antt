@@ -1,12 +1,13 @@
--- The text for map tools grows at its end by a line, and its length is bounded by the entries of its cells.
-use mathlib.Core.Path.{_≡_, refl, sym, ap, _∙_}
-use mathlib.Core.List.{List, [], _++_, append-assoc, append-nil}
+-- The lines of the text for map tools as a loop writes them, and its length: it is bounded by the entries of its cells.
+use mathlib.Core.Path.{_≡_, refl, ap}
+use mathlib.Core.List.{List, _++_}
 use mathlib.Core.Logic.{⊎-elim}
-use Prim.Native.Nat.{ℕ, zero, suc, _+_, _-_, _*_, _≤_}
+use Prim.Native.Nat.{ℕ, zero, suc, _+_, _*_, _≤_}
 use native.Mathlib.Omega.{arith}
-use native.Mathlib.Nat.{add-zero, zero-add, suc-add}
+use native.Mathlib.Nat.{add-zero, zero-add}
 use lib.ListN.{length, getD, length-append, length-map}
 use Rattle.laws.specs.laws.Decide.{lt-or-ge}
+use Rattle.octets.specs.laws.Lines.{linesFrom}
 use Rattle.listing.specs.laws.Listing.{cell-length}
 use Rattle.listing.specs.Text.{ascii, decimal}
 use Rattle.listing.specs.laws.Decimal.{decimal-short}
@@ -19,34 +20,11 @@ use Rattle.hex.specs.Hex.{hex}
 use Rattle.map_text.specs.MapText.{mapLine, heading, mapLines, mapText}
 use Rattle.hex.specs.laws.Hex.{hex-length}
 
--- ---- lines
-
-module _ (v off ix : List ℕ) where
-  lines-append : (m n i : ℕ) → mapLines v off ix i (m + n) ≡ mapLines v off ix i m ++ mapLines v off ix (i + m) n
-  unfolding mapLines
-  lines-append zero n i = rw (zero-add n, add-zero i)
-  lines-append (suc m) n i =
-      let e : suc i + m ≡ i + suc m = omega arith in
-      let c = mapLine i (image v (listedCell off ix i)) in
-      rw (suc-add m n)
-      (ap (λ (t : List ℕ). c ++ t) (lines-append m n (suc i) ∙ ap (λ (k : ℕ). mapLines v off ix (suc i) m ++ mapLines v off ix k n) e)
-      ∙ sym (append-assoc c (mapLines v off ix (suc i) m) (mapLines v off ix (i + suc m) n)))
-
-  pub lines-none : mapLines v off ix 0 0 ≡ []
-  unfolding mapLines
-  lines-none = refl
-
-  pub lines-more : (n : ℕ) → mapLines v off ix 0 (n + 1) ≡ mapLines v off ix 0 n ++ mapLine n (image v (listedCell off ix n))
-  unfolding mapLines
-  lines-more n =
-      lines-append n 1 0
-      ∙ ap (λ (k : ℕ). mapLines v off ix 0 n ++ mapLines v off ix k 1) (zero-add n)
-      ∙ ap (λ (t : List ℕ). mapLines v off ix 0 n ++ t) (append-nil (mapLine n (image v (listedCell off ix n))))
-
-  pub lines-split : (m n : ℕ) → m ≤ n → mapLines v off ix 0 n ≡ mapLines v off ix 0 m ++ mapLines v off ix m (n - m)
-  lines-split m n h =
-      let e : n ≡ m + (n - m) = omega arith in
-      ap (mapLines v off ix 0) e ∙ lines-append m (n - m) 0 ∙ ap (λ (k : ℕ). mapLines v off ix 0 m ++ mapLines v off ix k (n - m)) (zero-add m)
+-- the lines of the cells, as a loop writes them
+pub lines-are : (v off ix : List ℕ) (n i : ℕ) → mapLines v off ix i n ≡ linesFrom (λ k. mapLine k (image v (listedCell off ix k))) i n
+unfolding mapLines
+lines-are v off ix zero i = refl
+lines-are v off ix (suc n) i = ap (λ (t : List ℕ). mapLine i (image v (listedCell off ix i)) ++ t) (lines-are v off ix n (suc i))
 
 -- ---- lengths
 

@@ -3,13 +3,13 @@ use mathlib.Core.Path.{_≡_, sym, subst}
 use mathlib.Core.List.{List, [], _∷_, _++_}
 use native.Mathlib.Omega.{arith}
 use Prim.Native.Nat.{ℕ}
-use lib.ListN.{length, getD, take, drop, length-drop}
+use lib.ListN.{length, getD, take, drop, length-drop, length-append}
 use lib.Seq.{length-take-le}
 use denote.Ref.{now}
 use Rattle.listing.specs.Text.{ascii}
 use Rattle.listing.specs.Listing.{entries}
 use Rattle.octets.specs.Wrote.{HasRoom}
-use Rattle.octets.specs.laws.Wrote.{fits-left, fits-then, wrote-then, wrote-none, wrote-as}
+use Rattle.octets.specs.laws.Wrote.{wrote-then, wrote-none, wrote-as}
 use Rattle.mend_text.specs.MendText.{patternTexts}
 use Rattle.mend_text.specs.laws.BoxLine.{box-none, box-is}
 use borrow.Author.Needs.{needs}
@@ -37,46 +37,25 @@ body c = patternTexts (take 32 (drop 1 (bytes c)))
 room : (c : tie.Else1) → HasRoom (now (c .before .before .before .args .out)) (c .before .before .before .args .at) (label c ++ body c ++ ascii "\n")
 room c = let s = c .before .before .before in subst (HasRoom (now (s .args .out)) (s .args .at)) (box-is (bytes c) (long c)) (s .pre)
 
-labelled-requires : tie.Need-labelled-requires
-labelled-requires c κs =
-    let e = c .before .before .before in
-    let a = e .before .before .before .args in
-    fits-left (now (a .out)) (a .at) (label e) (body e) (fits-left (now (a .out)) (a .at) (label e ++ body e) (ascii "\n") (room e))
+abbrev First : tie.After-labelled → tie.Else1
+First c = c .before .before .before .before
 
 patterns-requires : tie.Need-patterns-requires
 patterns-requires c κs =
-    let p = c .before .before .before .before in
-    let e = p .before .before .before .before in
-    let a = e .before .before .before .args in (
-      length-take-le 32 (drop 1 (bytes e)) (omega (arith, long e, length-drop 1 (bytes e))),
-      fits-then (label e) (body e) (p .labelled .ensures) (fits-left (now (a .out)) (a .at) (label e ++ body e) (ascii "\n") (room e)),
-    )
-
-put-requires : tie.Need-put-requires
-put-requires c κs =
-    let q = c .before .before .before .before in
-    let p = q .before .before .before .before .before in
-    let e = p .before .before .before .before in
-    fits-then (label e ++ body e) (ascii "\n") (wrote-then (p .labelled .ensures) (q .patterns .ensures)) (room e)
+    let e = First (c .before .before .before .before) in
+    (length-take-le 32 (drop 1 (bytes e)) (omega (arith, long e, length-drop 1 (bytes e))), omega (arith, simp length-append at (room e)))
 
 returns-2 : tie.Need-returns-2
 returns-2 c =
-    let r = c .before .before in
-    let q = r .before .before .before .before .before in
-    let p = q .before .before .before .before .before in
-    let e = p .before .before .before .before in
-    wrote-as (wrote-then (wrote-then (p .labelled .ensures) (q .patterns .ensures)) (r .put .ensures)) (sym (box-is (bytes e) (long e)))
-
-cast-labelled : tie.Need-cast-labelled
-cast-labelled c = omega (arith, c .shared-slice-known2 .given 0 .fits)
-
-part-patterns-end : tie.Need-part-patterns-end
-part-patterns-end c =
-    let e = c .before .before .before .before .before .before .before in
-    omega (arith, long e)
+    let three = c .before .before in
+    let two = three .before .before .before .before .before in
+    let one = two .before .before .before .before .before in
+    wrote-as (wrote-then (wrote-then (one .labelled .ensures) (two .patterns .ensures)) (three .put .ensures)) (sym (box-is (bytes (First one)) (long (First one))))
 
 pub box-line-spec : {M : Type 1} → statement M
 box-line-spec =
     tie.close
-    (tie.spec returns (λ c. search needs) (λ c. search needs) cast-labelled labelled-requires (λ c. search needs) (λ c. search needs) part-patterns-end patterns-requires
-    (λ c. search needs) put-requires (λ c. search needs) returns-2)
+    (tie.spec returns (λ c. search needs) (λ c. search needs) (λ c. omega (arith, c .shared-slice-known2 .given 0 .fits))
+    (λ c κs. omega (arith, simp length-append at (room (c .before .before .before)))) (λ c. search needs) (λ c. search needs)
+    (λ c. omega (arith, long (c .before .before .before .before .before .before .before))) patterns-requires (λ c. search needs)
+    (λ c κs. omega (arith, simp length-append at (room (First (c .before .before .before .before .before .before .before .before .before))))) (λ c. search needs) returns-2)

@@ -1,65 +1,49 @@
 -- `mend_text::change_line` meets its contract: the labelled place, the colon, both values and the line's end, one after the other.
 use mathlib.Core.List.{List, [], _∷_, _++_}
-use Prim.Native.Nat.{ℕ}
+use Prim.Native.Nat.{ℕ, _+_, _≤_}
+use native.Mathlib.Omega.{arith}
+use lib.ListN.{length, length-append}
 use denote.Ref.{now}
 use Rattle.listing.specs.Text.{ascii}
 use Rattle.listing.specs.Listing.{entries}
-use Rattle.octets.specs.laws.Wrote.{fits-first, fits-second, fits-third, fits-fourth, wrote-four}
+use Rattle.octets.specs.laws.Wrote.{wrote-then}
 use Rattle.mend_text.specs.MendText.{orNone, changeLine}
 use borrow.Author.Needs.{needs}
 use Rattle.mend_text.proofs.change_line.Statement.{statement}
 use Rattle.mend_text.proofs.change_line.Tie as tie
 
-abbrev head : tie.Start → List ℕ
-head s = now (s .args .label) ++ entries (s .args .place ∷ [])
+abbrev Entry : tie.After-labelled → tie.Start
+Entry c = c .before .before .before .before
+
+abbrev First : tie.After-put → tie.After-labelled
+First c = c .before .before .before .before .before
+
+abbrev Second : tie.After-values → tie.After-put
+Second c = c .before .before .before .before
+
+abbrev label : tie.Start → List ℕ
+label s = now (s .args .label) ++ entries (s .args .place ∷ [])
 
 abbrev both : tie.Start → List ℕ
 both s = orNone (s .args .old) ++ orNone (s .args .new)
 
-labelled-requires : tie.Need-labelled-requires
+room : (s : tie.Start) → s .args .at + length (label s) + 1 + length (both s) + 1 ≤ length (now (s .args .out))
 unfolding changeLine
-labelled-requires c κs =
-    let s = c .before .before .before in
-    fits-first (now (s .args .out)) (s .args .at) (head s) (ascii ":") (both s) (ascii "\n") (s .pre)
-
-put-requires : tie.Need-put-requires
-unfolding changeLine
-put-requires c κs =
-    let at-labelled = c .before .before .before .before in
-    let s = at-labelled .before .before .before .before in
-    fits-second (now (s .args .out)) (s .args .at) (head s) (ascii ":") (both s) (ascii "\n") (s .pre) (at-labelled .labelled .ensures)
-
-values-requires : tie.Need-values-requires
-unfolding changeLine
-values-requires c κs =
-    let at-put = c .before .before .before in
-    let at-labelled = at-put .before .before .before .before .before in
-    let s = at-labelled .before .before .before .before in
-    fits-third (now (s .args .out)) (s .args .at) (head s) (ascii ":") (both s) (ascii "\n") (s .pre) (at-labelled .labelled .ensures) (at-put .put .ensures)
-
-put-requires-2 : tie.Need-put-requires-2
-unfolding changeLine
-put-requires-2 c κs =
-    let at-values = c .before .before .before .before in
-    let at-put = at-values .before .before .before .before in
-    let at-labelled = at-put .before .before .before .before .before in
-    let s = at-labelled .before .before .before .before in
-    fits-fourth (now (s .args .out)) (s .args .at) (head s) (ascii ":") (both s) (ascii "\n") (s .pre)
-    (at-labelled .labelled .ensures) (at-put .put .ensures) (at-values .values .ensures)
+room s =
+    omega (arith, s .pre, length-append (label s ++ ascii ":" ++ both s) (ascii "\n"), length-append (label s ++ ascii ":") (both s), length-append (label s) (ascii ":"))
 
 returns : tie.Need-returns
 unfolding changeLine
 returns c =
-    let at-put2 = c .before .before in
-    let at-values = at-put2 .before .before .before .before .before in
-    let at-put = at-values .before .before .before .before in
-    let at-labelled = at-put .before .before .before .before .before in
-    let s = at-labelled .before .before .before .before in
-    wrote-four (now (s .args .out)) (s .args .at) (head s) (ascii ":") (both s) (ascii "\n") (s .pre)
-    (at-labelled .labelled .ensures) (at-put .put .ensures) (at-values .values .ensures) (at-put2 .put2 .ensures)
+    let four = c .before .before in
+    let three = four .before .before .before .before .before in
+    let two = Second three in
+    let one = First two in
+    wrote-then (wrote-then (wrote-then (one .labelled .ensures) (two .put .ensures)) (three .values .ensures)) (four .put2 .ensures)
 
 pub change-line-spec : {M : Type 1} → statement M
 change-line-spec =
     tie.close
-    (tie.spec labelled-requires (λ c. search needs) put-requires values-requires (λ c. search needs) put-requires-2
-    (λ c. search needs) returns)
+    (tie.spec (λ c κs. omega (arith, room (c .before .before .before))) (λ c. search needs) (λ c κs. omega (arith, room (Entry (c .before .before .before .before))))
+    (λ c κs. omega (arith, room (Entry (First (c .before .before .before))))) (λ c. search needs)
+    (λ c κs. omega (arith, room (Entry (First (Second (c .before .before .before .before)))))) (λ c. search needs) returns)

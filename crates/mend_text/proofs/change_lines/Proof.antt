@@ -1,17 +1,20 @@
 -- `mend_text::change_lines` meets its contract: the invariant is that the lines so far are written; each turn writes one more.
+use mathlib.Core.Path.{refl, sym, subst}
 use mathlib.Core.List.{List}
 use Prim.Native.Nat.{ℕ, _+_, _-_, _*_, _≤_, _<_}
 use native.Mathlib.Omega.{arith}
 use lib.ListN.{length}
 use denote.Ref.{now}
-use Rattle.octets.specs.laws.Wrote.{Lined, lined-start, lined-fits, lined-step, lined-end, wrote-length}
-use Rattle.mend_text.specs.MendText.{lineAt, changeLines}
-use Rattle.mend_text.specs.laws.MendText.{lines-none, lines-more, lines-split}
+use Rattle.octets.specs.Wrote.{HasRoom}
+use Rattle.octets.specs.laws.Wrote.{Lined, lined-start, lined-end, wrote-length, wrote-as}
+use Rattle.octets.specs.laws.Lines.{linesFrom, line-fits, line-written}
+use Rattle.mend_text.specs.MendText.{lineAt}
+use Rattle.mend_text.specs.laws.MendText.{lines-are}
 use Rattle.mend_text.proofs.change_lines.Statement.{statement}
 use Rattle.mend_text.proofs.change_lines.Tie as tie
 
 abbrev Inv-loop : tie.InvT-loop
-Inv-loop out₀ at label changes from count end₀ i₀ out end i = Lined (λ k. changeLines label changes from k) count out₀ out at end i
+Inv-loop out₀ at label changes from count end₀ i₀ out end i = Lined (linesFrom (lineAt label changes) from) count out₀ out at end i
 
 abbrev μ-loop : tie.MeasureT-loop
 μ-loop out₀ at label changes from count end₀ i₀ out end i = count - i
@@ -41,7 +44,7 @@ inside c = omega (arith, turn c, begin c .pre .0)
 loop-holds : tie.Need-loop-holds Inv-loop μ-loop
 loop-holds c =
     let a = c .before .before .before .args in
-    lined-start _ (a .count) (now (a .out)) (a .at) (lines-none (now (a .label)) (now (a .changes)) (a .from))
+    lined-start _ (a .count) (now (a .out)) (a .at) refl
 
 -- the list's bytes can be counted
 bytes : (c : tie.In-loop Inv-loop μ-loop) → (3 * (from c + number c) + 3) * 4 < 18446744073709551616
@@ -51,18 +54,18 @@ change-line-requires : tie.Need-change-line-requires Inv-loop μ-loop
 change-line-requires c κs =
     let w = c .before .before .before .before in
     let s = begin w in
-    let i = number w in
-    let l = w .before .loop in
-    lined-fits (l .inv) (lineAt (label w) (list w) (from w + i)) (changeLines (label w) (list w) (from w + (i + 1)) (s .args .count - (i + 1)))
-    (lines-more (label w) (list w) (from w) i) (lines-split (label w) (list w) (from w) (i + 1) (s .args .count) (omega (arith, turn w))) (s .pre .1)
+    line-fits (w .before .loop .inv) (turn w) refl (subst (HasRoom (now (s .args .out)) (s .args .at)) (lines-are (label w) (list w) (s .args .count) (from w)) (s .pre .1))
 
 loop-again : tie.Need-loop-again Inv-loop μ-loop
 loop-again c =
-    let at-change-line = c .before .before in
-    let w = at-change-line .before .before .before .before .before in
-    let i = number w in
-    let l = w .before .loop in
-    lined-step (l .inv) (lineAt (label w) (list w) (from w + i)) (turn w) (lines-more (label w) (list w) (from w) i) (at-change-line .change-line .ensures)
+    let r = c .before .before in
+    let w = r .before .before .before .before .before in
+    line-written (w .before .loop .inv) (turn w) refl (r .change-line .ensures)
+
+returns : tie.Need-returns Inv-loop μ-loop
+returns c =
+    let a = c .before .before .before .before .before .args in
+    wrote-as (lined-end (c .before .loop .inv) (c .loop-test .left)) (sym (lines-are (now (a .label)) (now (a .changes)) (a .count) (a .from)))
 
 pub change-lines-spec : {M : Type 1} → statement M
 change-lines-spec =
@@ -74,4 +77,4 @@ change-lines-spec =
     (λ c. omega (arith, inside (c .before .before .before .before))) change-line-requires
     (λ c. omega (arith, bytes (c .before .before .before .before .before .before .before)))
     (λ c. omega (arith, turn (c .before .before .before .before .before .before .before))) loop-again
-    (λ c. wrote-length (c .before .loop .inv .wrote)) (λ c. lined-end (c .before .loop .inv) (c .loop-test .left)))
+    (λ c. wrote-length (c .before .loop .inv .wrote)) returns)

@@ -1,16 +1,16 @@
--- The lines of changes grow at their end by a line, and their length is bounded by their number.
-use mathlib.Core.Path.{_≡_, refl, sym, ap, _∙_}
+-- The lines of changes as a loop writes them, and their length, which is bounded by their number.
+use mathlib.Core.Path.{_≡_, refl, ap}
 use mathlib.Core.Bool.{Bool, true, false}
-use mathlib.Core.List.{List, [], _∷_, _++_, append-assoc, append-nil}
+use mathlib.Core.List.{List, [], _∷_, _++_}
 use mathlib.Core.Logic.{_≢_}
-use Prim.Native.Nat.{ℕ, zero, suc, _+_, _-_, _*_, _≤_}
+use Prim.Native.Nat.{ℕ, zero, suc, _+_, _*_, _≤_}
 use native.Mathlib.Omega.{arith}
-use native.Mathlib.Nat.{add-zero, zero-add, suc-add}
 use lib.Dec.{eqb}
 use borrow.Author.Tests.{eq-eqb, ne-eqb}
 use lib.ListN.{length, getD, length-append}
 use Rattle.laws.specs.Pick.{pick}
 use Rattle.numbers.specs.Numbers.{EMPTY}
+use Rattle.octets.specs.laws.Lines.{linesFrom}
 use Rattle.listing.specs.Text.{ascii}
 use Rattle.listing.specs.Listing.{entries, labelled}
 use Rattle.listing.specs.laws.Listing.{entries-short, labelled-short}
@@ -29,31 +29,11 @@ is-some v n = rw (ne-eqb v EMPTY n)
 
 -- ---- lines
 
-module _ (label cs : List ℕ) where
-  lines-append : (m n i : ℕ) → changeLines label cs i (m + n) ≡ changeLines label cs i m ++ changeLines label cs (i + m) n
-  unfolding changeLines
-  lines-append zero n i = rw (zero-add n, add-zero i)
-  lines-append (suc m) n i =
-      let e : suc i + m ≡ i + suc m = omega arith in
-      let c = lineAt label cs i in
-      rw (suc-add m n)
-      (ap (λ (t : List ℕ). c ++ t) (lines-append m n (suc i) ∙ ap (λ (k : ℕ). changeLines label cs (suc i) m ++ changeLines label cs k n) e)
-      ∙ sym (append-assoc c (changeLines label cs (suc i) m) (changeLines label cs (i + suc m) n)))
-
-  pub lines-none : (i : ℕ) → changeLines label cs i 0 ≡ []
-  unfolding changeLines
-  lines-none i = refl
-
-  pub lines-more : (i n : ℕ) → changeLines label cs i (n + 1) ≡ changeLines label cs i n ++ lineAt label cs (i + n)
-  unfolding changeLines
-  lines-more i n =
-      lines-append n 1 i
-      ∙ ap (λ (t : List ℕ). changeLines label cs i n ++ t) (append-nil (lineAt label cs (i + n)))
-
-  pub lines-split : (i m n : ℕ) → m ≤ n → changeLines label cs i n ≡ changeLines label cs i m ++ changeLines label cs (i + m) (n - m)
-  lines-split i m n h =
-      let e : n ≡ m + (n - m) = omega arith in
-      ap (changeLines label cs i) e ∙ lines-append m (n - m) i
+-- as a loop writes them
+pub lines-are : (label cs : List ℕ) (n i : ℕ) → changeLines label cs i n ≡ linesFrom (lineAt label cs) i n
+unfolding changeLines
+lines-are label cs zero i = refl
+lines-are label cs (suc n) i = ap (λ (t : List ℕ). lineAt label cs i ++ t) (lines-are label cs n (suc i))
 
 -- a list that begins with one change more
 pub lines-shift : (label : List ℕ) (a b c : ℕ) (cs : List ℕ) (n i : ℕ) → changeLines label (a ∷ b ∷ c ∷ cs) (suc i) n ≡ changeLines label cs i n

@@ -82,21 +82,3 @@ module _ {F : ℕ → List ℕ} {n : ℕ} {l m : List ℕ} {at end i : ℕ} (p :
   lined-end h =
       let e : i ≡ n = omega (arith, p .within) in
       wrote-as (p .wrote) (ap F e)
-
--- ---- texts of several pieces: what fits as a whole has room for each piece in its turn
-
-module _ (l : List ℕ) (at : ℕ) (a b c d : List ℕ) (h : HasRoom l at (a ++ b ++ c ++ d)) where
-  pub fits-first : HasRoom l at a
-  fits-first = fits-left l at a b (fits-left l at (a ++ b) c (fits-left l at (a ++ b ++ c) d h))
-
-  pub fits-second : {m : List ℕ} {x : ℕ} → Wrote l m at x a → HasRoom m x b
-  fits-second p = fits-then a b p (fits-left l at (a ++ b) c (fits-left l at (a ++ b ++ c) d h))
-
-  pub fits-third : {m k : List ℕ} {x y : ℕ} → Wrote l m at x a → Wrote m k x y b → HasRoom k y c
-  fits-third p q = fits-then (a ++ b) c (wrote-then p q) (fits-left l at (a ++ b ++ c) d h)
-
-  pub fits-fourth : {m k j : List ℕ} {x y z : ℕ} → Wrote l m at x a → Wrote m k x y b → Wrote k j y z c → HasRoom j z d
-  fits-fourth p q r = fits-then (a ++ b ++ c) d (wrote-then (wrote-then p q) r) h
-
-  pub wrote-four : {m k j i : List ℕ} {x y z w : ℕ} → Wrote l m at x a → Wrote m k x y b → Wrote k j y z c → Wrote j i z w d → Wrote l i at w (a ++ b ++ c ++ d)
-  wrote-four p q r s = wrote-then (wrote-then (wrote-then p q) r) s

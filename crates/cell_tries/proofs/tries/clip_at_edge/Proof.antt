@@ -20,16 +20,16 @@ base : (c : tie.After-wide2) → c .wide2 .result ≡ getD (Entry (Site c) .args
 base c = c .wide2 .ensures ∙ ap (λ k. getD (Entry (Site c) .args .offsets .now) k 0) (c .before .before .wide .ensures)
 
 in-list : (c : tie.After-wide2) → c .wide2 .result < length (Entry (Site c) .args .indexes .now)
-in-list c = let e = Site c in let i = Entry e in omega (arith, base c, region-place (i .pre .0 .amid) _ _ (i .pre .1) (e .end-site .ensures))
+in-list c = let e = Site c in let i = Entry e in omega (arith, base c, region-place (i .pre .3 .amid) _ _ (i .pre .0) (e .end-site .ensures))
 
 end-site-requires : tie.Need-end-site-requires
-end-site-requires c κs = let i = c .before .before .before .before .before in (i .pre .0 .amid .on .mesh .threes, i .pre .1)
+end-site-requires c κs = let i = c .before .before .before .before .before in (i .pre .3 .amid .on .mesh .threes, i .pre .0)
 
 shared-slice-read-wide : tie.Need-shared-slice-read-wide
 shared-slice-read-wide c =
     let e = c .before .before in
     let i = Entry e in
-    rw (c .before .wide .ensures) (omega (arith, edge-site (i .pre .0 .amid) _ _ (i .pre .1) (e .end-site .ensures), i .pre .0 .amid .on .places))
+    rw (c .before .wide .ensures) (omega (arith, edge-site (i .pre .3 .amid) _ _ (i .pre .0) (e .end-site .ensures), i .pre .3 .amid .on .places))
 
 mul-if1 : tie.Need-mul-if1
 mul-if1 c = omega (arith, in-list c)
@@ -42,14 +42,14 @@ returns c =
     let w = c .before .before in
     let e = Site w in
     let i = Entry e in
-    λ g s a. edge-kept a _ _ (i .pre .1) (e .end-site .ensures) (rw (base w) at (c .if1 .taken))
+    λ hull table g s a. edge-kept a _ _ (i .pre .0) (e .end-site .ensures) (rw (base w) at (c .if1 .taken))
 
 stage-ring-requires : tie.Need-stage-ring-requires
 stage-ring-requires c κs =
     let w = c .before .before .before in
     let e = Site w in
     let i = Entry e in
-    (paired (i .pre .0 .amid .on .mesh), stage-room (i .pre .0 .amid) _ _ (i .pre .1) (e .end-site .ensures))
+    (paired (i .pre .3 .amid .on .mesh), stage-room (i .pre .3 .amid) _ _ (i .pre .0) (e .end-site .ensures))
 
 clip-staged-requires : tie.Need-clip-staged-requires
 clip-staged-requires c κs =
@@ -57,7 +57,7 @@ clip-staged-requires c κs =
     let w = r .before .before .before .before in
     let e = Site w in
     let i = Entry e in
-    edge-ringed (i .pre .0 .amid) _ _ (i .pre .1) (e .end-site .ensures) (rw (base w) at (r .before .before .if1 .left)) (r .stage-ring .ensures)
+    edge-ringed (i .pre .3 .amid) _ _ (i .pre .0) (e .end-site .ensures) (rw (base w) at (r .before .before .if1 .left)) (r .stage-ring .ensures)
 
 returns-2 : tie.Need-returns-2
 returns-2 c =
@@ -66,7 +66,7 @@ returns-2 c =
     let w = r .before .before .before .before in
     let e = Site w in
     let i = Entry e in
-    λ g s a. edge-tried a _ _ (i .pre .1) (e .end-site .ensures) (rw (base w) at (r .before .before .if1 .left)) (r .stage-ring .ensures)
+    λ hull table g s a. edge-tried a _ _ (i .pre .0) (e .end-site .ensures) (rw (base w) at (r .before .before .if1 .left)) (r .stage-ring .ensures)
     (c .before .before .before .vertices .given) (c .before .indexes2 .given) (t .clip-staged .ensures)
 
 pub clip-at-edge-spec : {M : Type 1} → statement M

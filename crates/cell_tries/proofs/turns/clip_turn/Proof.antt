@@ -34,13 +34,13 @@ base : (c : tie.After-wide3) → c .wide3 .result ≡ getD (Entry (Ended c .befo
 base c = c .wide3 .ensures
 
 in-list : (c : tie.After-wide3) → c .wide3 .result < length (Entry (Ended c .before) .args .indexes .now)
-in-list c = let w = Ended c in let i = Entry (w .before) in omega (arith, base c, region-place (i .pre .amid) _ _ (i .pre .place) (ends w))
+in-list c = let w = Ended c in let i = Entry (w .before) in omega (arith, base c, region-place (i .pre .1 .amid) _ _ (i .pre .1 .place) (ends w))
 
 end-site-requires : tie.Need-end-site-requires
-end-site-requires c κs = let i = c .before .before .before .before .before .before in (i .pre .amid .on .mesh .threes, i .pre .place)
+end-site-requires c κs = let i = c .before .before .before .before .before .before in (i .pre .1 .amid .on .mesh .threes, i .pre .1 .place)
 
 shared-slice-read-wide : tie.Need-shared-slice-read-wide
-shared-slice-read-wide c = let w = c .before in let i = Entry (w .before) in table-place (i .pre .amid) (i .pre .table-is) (i .pre .full-before) (i .pre .place) (ends w)
+shared-slice-read-wide c = let w = c .before in let i = Entry (w .before) in table-place (i .pre .1 .amid) (i .pre .1 .full-before) (i .pre .1 .place) (ends w)
 
 returns : tie.Need-returns
 returns c =
@@ -48,18 +48,18 @@ returns c =
     let w = Site t in
     let i = Entry (w .before) in
     let low : t .wide2 .result < i .args .e = ltb-true _ _ (and-right (i .args .full) _ (c .if1 .taken)) in
-    λ g s a q b. turn-skipped a q b (i .pre .place) (ends w) (and-left (i .args .full) _ (c .if1 .taken)) (omega (arith, t .wide2 .ensures))
+    λ hull g s a b. turn-skipped a b (i .pre .1 .place) (ends w) (and-left (i .args .full) _ (c .if1 .taken)) (omega (arith, t .wide2 .ensures))
 
 clip-at-edge-requires : tie.Need-clip-at-edge-requires
 clip-at-edge-requires c κs =
     let i = Entry (Site (c .before .before .before) .before) in
-    (record { g = i .pre .g; s = i .pre .s; amid = i .pre .amid }, i .pre .place)
+    (i .pre .1 .place, i .pre .0, i .args .table .now, record { g = i .pre .1 .g; s = i .pre .1 .s; amid = i .pre .1 .amid })
 
 shared-slice-read-wide-2 : tie.Need-shared-slice-read-wide-2
 shared-slice-read-wide-2 c =
     let w = Site (Tried c .before .before .before .before) in
     let i = Entry (w .before) in
-    omega (arith, edge-site (i .pre .amid) _ _ (i .pre .place) (ends w), i .pre .amid .on .places)
+    omega (arith, edge-site (i .pre .1 .amid) _ _ (i .pre .1 .place) (ends w), i .pre .1 .amid .on .places)
 
 mul-t16 : tie.Need-mul-t16
 mul-t16 c = omega (arith, in-list c, Entry (Ended c .before) .good .1 .1 .1 .1 .0 .1)
@@ -72,7 +72,7 @@ returns-2 c =
     let t = Tried (c .before .before) in
     let w = Site (t .before .before .before .before) in
     let i = Entry (w .before) in
-    λ g s a q b. rw (base (c .before)) (turn-tried a q b (i .pre .place) (ends w) _ _ _ (t .clip-at-edge .ensures g s a))
+    λ hull g s a b. rw (base (c .before)) (turn-tried a b (i .pre .1 .place) (ends w) _ _ _ (t .clip-at-edge .ensures hull (i .args .table .now) g s a))
 
 pub clip-turn-spec : {M : Type 1} → statement M
 clip-turn-spec =
