@@ -116,6 +116,17 @@ static void why(argument *a)
 static void areas(argument *a) { N(0) = voronoi_areas(F(1), U(2), U(3), F(4)); }
 #endif
 
+#ifdef HAS_audits
+static void audit(argument *a)
+{
+    N(0) = voronoi_audit(BOX(1), F(5), F(6), U(7), U(8), U(9), U(10), N(11), PU(12), PU(13), PU(14), PU(15), PF(16));
+}
+static void audit_by_edges(argument *a)
+{
+    N(0) = voronoi_audit_by_edges(BOX(1), F(5), F(6), U(7), U(8), U(9), U(10), N(11), PU(12), PU(13), PU(14), PU(15), PF(16));
+}
+#endif
+
 #ifdef HAS_bulk
 static void all_neighbours(argument *a) { N(0) = voronoi_all_neighbours(MESH(1), U(5), U(6), U(7), U(8), U(9)); }
 static void ends(argument *a) { N(0) = voronoi_ends(MESH(1), N(5), F(6), U(7), U(8)); }
@@ -192,6 +203,9 @@ static const struct {
 #endif
 #ifdef HAS_areas
     {"areas", areas},
+#endif
+#ifdef HAS_audits
+    {"audit", audit}, {"audit_by_edges", audit_by_edges},
 #endif
 #ifdef HAS_bulk
     {"all_neighbours", all_neighbours}, {"ends", ends},

@@ -1,6 +1,7 @@
 //! The Rust's answers, the rules' answers (docs/RULES.md), and the meshes that both are asked about.
 
 pub mod areas;
+pub mod audit;
 pub mod bench;
 pub mod bulk;
 pub mod cases;

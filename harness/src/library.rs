@@ -13,6 +13,8 @@ pub struct Call {
     arguments: u32,
     entry: Vec<u8>,
     owed: Vec<u8>,
+    /// Where a NaN is owed, with any pattern.
+    nans: Vec<usize>,
 }
 
 /// What stands behind each argument, up to a multiple of 8 bytes and 8 more: a call that writes past a slice is seen there.
@@ -25,7 +27,7 @@ fn behind(end: usize) -> usize {
 
 impl Call {
     pub fn new(name: &'static str) -> Call {
-        Call { name, arguments: 0, entry: vec![0; 8], owed: vec![0; 8] }
+        Call { name, arguments: 0, entry: vec![0; 8], owed: vec![0; 8], nans: Vec::new() }
     }
 
     fn argument(mut self, size: u32, entry: impl Iterator<Item = u64>, owed: impl Iterator<Item = u64>) -> Call {
@@ -103,6 +105,13 @@ impl Call {
     pub fn gives_float(self, owed: f64) -> Call {
         self.lent_floats(&[-4321.0], &[owed])
     }
+    /// The same; of a NaN, which has no pattern in the promise, any.
+    pub fn gives_some_float(mut self, owed: f64) -> Call {
+        if owed.is_nan() {
+            self.nans.push(self.owed.len() + 8);
+        }
+        self.gives_float(owed)
+    }
     pub fn gives_bits(self, owed: u64) -> Call {
         self.argument(8, [0xd8d8d8d8].into_iter(), [owed].into_iter())
     }
@@ -171,8 +180,8 @@ pub struct Library {
     process: Option<Process>,
     names: Vec<String>,
     frame: Vec<u8>,
-    /// The case, the name, where its body starts, and what it owes.
-    waiting: Vec<(u64, &'static str, usize, Vec<u8>)>,
+    /// The case, the name, where its body starts, what it owes, and where any NaN will do.
+    waiting: Vec<(u64, &'static str, usize, Vec<u8>, Vec<usize>)>,
     pub compared: u64,
 }
 
@@ -219,7 +228,7 @@ impl Library {
     pub fn put(&mut self, case: u64, mut call: Call) -> Result<(), Difference> {
         let Some(number) = self.names.iter().position(|n| n == call.name) else { return Ok(()) };
         call.pack(number as u32);
-        self.waiting.push((case, call.name, self.frame.len(), call.owed));
+        self.waiting.push((case, call.name, self.frame.len(), call.owed, call.nans));
         self.frame.extend(call.entry);
         if self.frame.len() > 1 << 18 {
             self.flush()
@@ -267,9 +276,14 @@ impl Library {
                 return Err(Difference { case: waiting[0].0, words: format!("{words}; asked: {}", names.join(", ")) });
             }
         };
-        for (case, name, at, owed) in waiting {
+        for (case, name, at, mut owed, nans) in waiting {
             self.compared += 1;
             let given = &given[at..at + owed.len()];
+            for nan in nans {
+                if f64::from_le_bytes(given[nan..nan + 8].try_into().unwrap()).is_nan() {
+                    owed[nan..nan + 8].copy_from_slice(&given[nan..nan + 8]);
+                }
+            }
             if given != owed {
                 return Err(Difference { case, words: tell(name, &owed, given) });
             }
