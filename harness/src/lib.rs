@@ -18,6 +18,7 @@ pub mod maps;
 pub mod mend;
 pub mod mesh;
 pub mod plane;
+pub mod reader;
 pub mod reference;
 pub mod roots;
 pub mod rust;

@@ -74,8 +74,20 @@ impl Call {
     pub fn lent_floats(self, entry: &[f64], owed: &[f64]) -> Call {
         self.argument(8, entry.iter().map(|x| x.to_bits()), owed.iter().map(|x| x.to_bits()))
     }
+    /// The same; where a NaN is owed any will do.
+    pub fn lent_some_floats(mut self, entry: &[f64], owed: &[f64]) -> Call {
+        let first = self.owed.len() + 8;
+        self.nans.extend((0..owed.len()).filter(|&k| owed[k].is_nan()).map(|k| first + 8 * k));
+        self.lent_floats(entry, owed)
+    }
     pub fn patterns(self, list: &[u64]) -> Call {
         self.argument(8, list.iter().copied(), list.iter().copied())
+    }
+    pub fn lent_patterns(self, entry: &[u64], owed: &[u64]) -> Call {
+        self.argument(8, entry.iter().copied(), owed.iter().copied())
+    }
+    pub fn bytes(self, list: &[u8]) -> Call {
+        self.lent_bytes(list, list)
     }
     pub fn lent_bytes(self, entry: &[u8], owed: &[u8]) -> Call {
         self.argument(1, entry.iter().map(|&x| x as u64), owed.iter().map(|&x| x as u64))
@@ -105,12 +117,9 @@ impl Call {
     pub fn gives_float(self, owed: f64) -> Call {
         self.lent_floats(&[-4321.0], &[owed])
     }
-    /// The same; of a NaN, which has no pattern in the promise, any.
-    pub fn gives_some_float(mut self, owed: f64) -> Call {
-        if owed.is_nan() {
-            self.nans.push(self.owed.len() + 8);
-        }
-        self.gives_float(owed)
+    /// The same; where a NaN is owed, which has no pattern in the promise, any will do.
+    pub fn gives_some_float(self, owed: f64) -> Call {
+        self.lent_some_floats(&[-4321.0], &[owed])
     }
     pub fn gives_bits(self, owed: u64) -> Call {
         self.argument(8, [0xd8d8d8d8].into_iter(), [owed].into_iter())
