@@ -65,7 +65,8 @@ gdal() { # NAME COUNT TOTAL
         END {
             off = got["total"] / total - 1
             ok = got["many"] == many && got["valid"] == many && off < 1e-14 && off > -1e-14 && "worst" in got && got["worst"] < 2e-13
-            printf "map: GDAL reads %d polygons of %s, %d valid, %.0f in all, each area within %.1e of ours (by the formula of OGR itself %s)\n", got["many"], name, got["valid"], got["total"], got["worst"], own
+            printf "map: GDAL reads %d polygons of %s, %d valid, %.0f in all, ", got["many"], name, got["valid"], got["total"]
+            printf "each area within %.1e of ours (by the formula of OGR itself %s)\n", got["worst"], own
             exit !ok
         }' "$folder/ogr" || fail "GDAL says $(cat "$folder/ogr")"
 }

@@ -8,7 +8,8 @@
 //!     compare --audit I [--seed S]     pieces to be audited alone
 //!     compare --form I [--seed S]      one form alone
 //!
-//! By default 20,000 meshes, 20,000 to be mended, 20,000 on the grid, 5,000 with each half-edge flipped, 40,000 pieces to be audited, 10,000 forms, 100,000 inputs to each plane function and 10,000 patterns of each class to the roots.
+//! By default 20,000 meshes, 20,000 to be mended, 20,000 on the grid, 5,000 with each half-edge flipped, 40,000 pieces to be audited,
+//! 10,000 forms, 100,000 inputs to each plane function and 10,000 patterns of each class to the roots.
 //! The library is served by the command in VORONOI_SERVER (harness/serve.sh makes it).
 
 use harness::cases::Case;
@@ -25,10 +26,13 @@ compare --grid I [--seed S]      one mesh on the grid alone
 compare --flip I [--seed S]      one mesh alone, each half-edge flipped
 compare --audit I [--seed S]     pieces to be audited alone
 compare --form I [--seed S]      one form alone
-By default 20,000 meshes, 20,000 to be mended, 20,000 on the grid, 5,000 with each half-edge flipped, 40,000 pieces to be audited, 10,000 forms, 100,000 inputs to each plane function and 10,000 patterns of each class to the roots; 0 leaves a part out.";
+By default 20,000 meshes, 20,000 to be mended, 20,000 on the grid, 5,000 with each half-edge flipped, 40,000 pieces to be audited,
+10,000 forms, 100,000 inputs to each plane function and 10,000 patterns of each class to the roots; 0 leaves a part out.";
 
 fn main() {
-    let numbered = ["--cases", "--mends", "--plane", "--roots", "--seed", "--from", "--case", "--mend", "--grids", "--grid", "--flips", "--flip", "--audits", "--audit", "--forms", "--form"];
+    let parts = ["--cases", "--mends", "--grids", "--flips", "--audits", "--forms", "--plane", "--roots"];
+    let alone = ["--case", "--mend", "--grid", "--flip", "--audit", "--form"];
+    let numbered = [&parts[..], &alone, &["--seed", "--from"]].concat();
     let words = Words::read(USAGE, &numbered, &[]);
     let option = |name: &str| words.number(name);
     let seed = option("--seed").unwrap_or(1);
