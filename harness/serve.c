@@ -26,6 +26,7 @@ typedef struct {
 #define PS(i) ((size_t *)a[i].at)
 #define PF(i) ((double *)a[i].at)
 #define PU(i) ((uint32_t *)a[i].at)
+#define PQ(i) ((uint64_t *)a[i].at)
 #define X(i) (*(double *)a[i].at)
 #define N(i) (*(uint32_t *)a[i].at)
 #define B(i) (*(uint64_t *)a[i].at)
@@ -116,6 +117,17 @@ static void why(argument *a)
 static void areas(argument *a) { N(0) = voronoi_areas(F(1), U(2), U(3), F(4)); }
 #endif
 
+#ifdef HAS_audits
+static void audit(argument *a)
+{
+    N(0) = voronoi_audit(BOX(1), F(5), F(6), U(7), U(8), U(9), U(10), N(11), PU(12), PU(13), PU(14), PU(15), PF(16));
+}
+static void audit_by_edges(argument *a)
+{
+    N(0) = voronoi_audit_by_edges(BOX(1), F(5), F(6), U(7), U(8), U(9), U(10), N(11), PU(12), PU(13), PU(14), PU(15), PF(16));
+}
+#endif
+
 #ifdef HAS_bulk
 static void all_neighbours(argument *a) { N(0) = voronoi_all_neighbours(MESH(1), U(5), U(6), U(7), U(8), U(9)); }
 static void ends(argument *a) { N(0) = voronoi_ends(MESH(1), N(5), F(6), U(7), U(8)); }
@@ -149,6 +161,26 @@ static void why_by_edges(argument *a)
 #ifdef HAS_gauges
 static void read_multipoint(argument *a) { N(0) = voronoi_read_multipoint(C(1), F(2), PU(3)); }
 static void write_multipoint(argument *a) { N(0) = voronoi_write_multipoint(F(1), C(2), PS(3)); }
+#endif
+
+#ifdef HAS_forms
+#define LISTS(i) F(i), F(i + 1), U(i + 2), U(i + 3), U(i + 4)
+static void read_form(argument *a) { N(0) = voronoi_read_form(C(1), LISTS(2), PU(7), PU(8), PU(9), PU(10), PQ(11)); }
+
+/* A reader begun, fed the blocks of these lengths and ended, with a state of so many words; argument 9 has the number and 10 the byte after each
+ * block, 11 the number of the beginning. The words past the state's own are 0 from the beginning on, or that number is 99. */
+static void read_parts(argument *a)
+{
+    uint64_t state[32];
+    const uint8_t *block = (const uint8_t *)a[1].at;
+    for (size_t k = 0; k < 32; k++) state[k] = 0x5a5a5a5a5a5a5a5a;
+    PU(11)[0] = voronoi_reader_begin(state, N(3));
+    for (size_t k = 0; k < a[2].count; block += PU(2)[k], k++)
+        PU(9)[k] = voronoi_reader_feed(state, N(3), block, PU(2)[k], LISTS(4), &PQ(10)[k]);
+    N(0) = voronoi_reader_end(state, N(3), PU(12), PU(13), PU(14), PU(15), PQ(16));
+    for (size_t k = VORONOI_READER_WORDS; k < 32; k++)
+        if (state[k] != (k < N(3) ? 0 : 0x5a5a5a5a5a5a5a5a)) PU(11)[0] = 99;
+}
 #endif
 
 #ifdef HAS_grids
@@ -193,6 +225,9 @@ static const struct {
 #ifdef HAS_areas
     {"areas", areas},
 #endif
+#ifdef HAS_audits
+    {"audit", audit}, {"audit_by_edges", audit_by_edges},
+#endif
 #ifdef HAS_bulk
     {"all_neighbours", all_neighbours}, {"ends", ends},
 #endif
@@ -207,6 +242,9 @@ static const struct {
 #endif
 #ifdef HAS_gauges
     {"read_multipoint", read_multipoint}, {"write_multipoint", write_multipoint},
+#endif
+#ifdef HAS_forms
+    {"read_form", read_form}, {"read_parts", read_parts},
 #endif
 #ifdef HAS_grids
     {"grid_check", grid_check}, {"grid_nearest", grid_nearest}, {"grid_sites", grid_sites},

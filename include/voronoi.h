@@ -484,11 +484,12 @@ uint32_t voronoi_mend(const double *sites, size_t sites_len, const uint32_t *tri
  * state: VORONOI_READER_WORDS words or more; begin sets the others to 0, no other call touches them. Lists: VORONOI_FORM_BOX (centre x, y, width,
  * height; by edges left, top, right, bottom), VORONOI_FORM_SITES (x, y, ..), VORONOI_FORM_TRIANGLES, VORONOI_FORM_HALFEDGES,
  * VORONOI_FORM_HULL. After each block they hold exactly the numbers whose last byte has come, from the beginning of each; the rest stays.
- * Tries 2 before all else: it changes nothing, and comes where a refusal stands too. Then 17. *at: the byte of 17, counted from 0 at the
- * form's first: the first after which no sound form can follow, or the length of a form that has not ended, which only the end refuses;
- * UINT64_MAX where the answer is 0 or 2. A refusal stays: each further block and end get the same number and byte until the reader is begun
- * anew, also one that the end gave. A sound end may be asked again; a byte after it is refused. A state that no reading leaves is refused by
- * 17 at byte 0. *clip: the kind that opened the form (1 box, 6 unclipped, 7 box by its edges). Refused, it and the counts are 0. */
+ * Tries 2 before all else: it changes nothing, and comes where a refusal stands too. Then 17, or 20 at a 6 that stands as a kind before
+ * the end. *at: its byte, counted from 0 at the form's first: the first after which no sound form can follow, or the length of a form that
+ * has not ended, which only the end refuses; UINT64_MAX where the answer is 0 or 2. A refusal stays: each further block and end get the same
+ * number and byte until the reader is begun anew, also one that the end gave. A sound end may be asked again; a byte after it is refused. A
+ * state that no reading leaves is refused by 17 at byte 0. *clip: the kind that opened the form (1 box, 7 box by its edges). Refused, it and
+ * the counts are 0. */
 uint32_t voronoi_reader_begin(uint64_t *state, size_t state_len);
 uint32_t voronoi_reader_feed(uint64_t *state, size_t state_len, const uint8_t *block, size_t block_len, double *box, size_t box_len,
                              double *sites, size_t sites_len, uint32_t *triangles, size_t triangles_len, uint32_t *halfedges,

@@ -4,7 +4,8 @@
  *   audit mesh [WORD]       reads a mesh as text (examples/thirty.txt), builds it, and prints the verdict against all sites and against the mesh's
  *                           neighbours; turned: each triangle and the hull the other way round; swapped: two rows of sites exchanged after the
  *                           build; flipped HALFEDGE: one edge flipped before it
- *   audit times COUNT [all] a grid of at most COUNT cells, with neighbours and without them, in seconds; above 10,000 without only where all is said
+ *   audit times COUNT [all] a grid of at most COUNT cells, with neighbours and without them, in seconds; above 10,000 without only where all is said.
+ *                           Last the same with neighbours where the total is off, so without the search for sites at one place
  *
  * The C library's headers are not used (tests/archive.sh says why). */
 #include "number.h"
@@ -275,12 +276,12 @@ static int mesh(const char *word, uint64_t halfedge)
 static double places[2 * SIDE * SIDE], corners[2 * (SIDE + 1) * (SIDE + 1)];
 static uint32_t cut[SIDE * SIDE + 1], ring[4 * SIDE * SIDE], from[SIDE * SIDE + 1], near[4 * SIDE * SIDE];
 
-static double timed(uint32_t side, size_t s, size_t o)
+static double timed(uint32_t side, size_t s, size_t o, uint32_t want)
 {
     long start = clock();
     uint32_t number = voronoi_audit_by_edges(0, 0, side, side, places, 2 * (size_t)side * side, corners, 2 * (size_t)(side + 1) * (side + 1), cut,
         (size_t)side * side + 1, ring, 4 * (size_t)side * side, from, s, near, o, VORONOI_AUDIT_BITS, &kind, &site, &vertex, &other, &missing);
-    if (number || kind)
+    if (number || kind != want)
         printf("a grid of %u: %u, kind %u, site %u\n", side * side, number, kind, site), failures++;
     return (double)(clock() - start) / 1e6;
 }
@@ -310,11 +311,13 @@ static int times(uint64_t most, int all)
                 near[count++] = s + side;
         }
     cut[side * side] = 4 * side * side, from[side * side] = count;
-    double with = timed(side, (size_t)side * side + 1, count);
+    double with = timed(side, (size_t)side * side + 1, count, VORONOI_AUDIT_SOUND);
+    printf("%u sites: %.3f s with neighbours, ", side * side, with);
     if (side <= 100 || all)
-        printf("%u sites: %.3f s with neighbours, %.3f s without\n", side * side, with, timed(side, 0, 0));
-    else
-        printf("%u sites: %.3f s with neighbours\n", side * side, with);
+        printf("%.3f s without, ", timed(side, 0, 0, VORONOI_AUDIT_SOUND));
+    for (uint32_t *last = &ring[4 * side * side - 4], k = 1; k < 4; k++)
+        last[k] = last[0]; /* the last piece is a point: the total is off, and no place is looked at */
+    printf("%.3f s with neighbours up to the total\n", timed(side, (size_t)side * side + 1, count, VORONOI_AUDIT_TOTAL));
     return failures > 0;
 }
 

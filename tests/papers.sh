@@ -1,5 +1,5 @@
 #!/bin/sh
-# The papers agree with what they speak of: the version, README's example and listings, the refusals' words and rules, the page on the root, links to files.
+# The papers agree with what they speak of: the version, README's example and listings, the refusals' words and rules, the page on the root, that the harness asks each call, links to files.
 . "$(dirname "$0")/head.sh"
 folder=$(mktemp -d)
 trap 'rm -rf "$folder"' EXIT
@@ -74,6 +74,12 @@ if len(lines) != 8 or {(name, sign, power) for name, sign, power in proved} != {
     wrong.append("docs/ROOT.md has other bounds than crates/digits/specs/Widths.antt, or not eight lines of code")
 for names, path in re.findall(r"\(((?:`[\w-]+`, )+)(crates/[\w/]+\.antt)\)", page):
     wrong += [f"docs/ROOT.md: {path} has no {name}" for name in re.findall(r"`(.+?)`", names) if not re.search(rf"^ *pub {re.escape(name)} :", read(path), re.M)]
+
+# every call of the header is asked by the harness
+asked = [name for line in read("harness/parts.txt").splitlines() if not line.startswith("#") for name in line.split()[2:]]
+calls = re.findall(r"^(?:uint32_t|uint64_t|double) (voronoi_\w+)\(", header, re.M)
+wrong += [f"harness/parts.txt has {name} in {asked.count(name)} lines" for name in calls if asked.count(name) != 1]
+wrong += [f"harness/parts.txt has {name}, which is no call of include/voronoi.h" for name in asked if name not in calls]
 
 # links between papers
 for paper in [pathlib.Path("README.md"), pathlib.Path("CHANGELOG.md"), *pathlib.Path("docs").rglob("*.md")]:

@@ -20,14 +20,72 @@ fn parts(x: f64) -> (u64, usize, bool) {
     }
 }
 
-/// x y is added, or taken off.
-fn add(sum: &mut [i128; DIGITS], x: f64, y: f64, off: bool) {
-    let ((m, e, s), (n, f, t)) = (parts(x), parts(y));
-    let sign = if (s != t) != off { -1 } else { 1 };
-    let (place, shift) = ((e + f) / 32, (e + f) % 32);
-    let product = m as u128 * n as u128;
-    for k in 0..4 {
-        sum[place + k] += sign * ((product >> (32 * k) & 0xffff_ffff) << shift) as i128;
+/// A sum of products, exact. Its digits, of which those from `low` up to `high` are in use, may leave their range until they are settled.
+pub struct Sum {
+    digits: [i128; DIGITS],
+    low: usize,
+    high: usize,
+}
+
+impl Sum {
+    pub fn new() -> Sum {
+        Sum { digits: [0; DIGITS], low: DIGITS, high: 0 }
+    }
+
+    /// x y 2^times is added, or taken off.
+    pub fn add(&mut self, x: f64, y: f64, times: usize, off: bool) {
+        let ((m, e, s), (n, f, t)) = (parts(x), parts(y));
+        let sign = if (s != t) != off { -1 } else { 1 };
+        let (place, shift) = ((e + f + times) / 32, (e + f + times) % 32);
+        let product = m as u128 * n as u128;
+        for k in 0..4 {
+            self.digits[place + k] += sign * ((product >> (32 * k) & 0xffff_ffff) << shift) as i128;
+        }
+        self.low = self.low.min(place);
+        self.high = self.high.max(place + 4);
+    }
+
+    /// The sides of a ring, the one back to the first corner included, times 2^times: twice its area.
+    pub fn ring(&mut self, ring: &[Pt], times: usize, off: bool) {
+        for (p, q) in ring.iter().zip(ring.iter().cycle().skip(1)) {
+            self.add(p.y, q.x, times, off);
+            self.add(p.x, q.y, times, !off);
+        }
+    }
+
+    /// -1, 0 or 1.
+    pub fn sign(&self) -> i32 {
+        let (mut carry, mut some) = (0, false);
+        for k in self.low..self.high {
+            let x = self.digits[k] + carry;
+            carry = x >> 32;
+            some |= x & 0xffff_ffff != 0;
+        }
+        match carry {
+            0 => some as i32,
+            c => c.signum() as i32,
+        }
+    }
+
+    /// Half of it, rounded once, with its sign.
+    pub fn half(&self) -> f64 {
+        let settled = |sign: i128| {
+            let mut carry = 0;
+            let digits: Vec<u32> = self
+                .digits
+                .iter()
+                .map(|d| {
+                    let x = sign * d + carry;
+                    carry = x >> 32;
+                    (x & 0xffff_ffff) as u32
+                })
+                .collect();
+            (digits, carry)
+        };
+        match settled(1) {
+            (digits, 0) => rounded(&digits),
+            _ => -rounded(&settled(-1).0),
+        }
     }
 }
 
@@ -48,27 +106,9 @@ fn rounded(digits: &[u32]) -> f64 {
 
 /// Half the sum, over the sides (x, y) to (u, v), the one back to the first corner included, of y u - x v.
 pub fn area(ring: &[Pt]) -> f64 {
-    let mut sum = [0i128; DIGITS];
-    for (p, q) in ring.iter().zip(ring.iter().cycle().skip(1)) {
-        add(&mut sum, p.y, q.x, false);
-        add(&mut sum, p.x, q.y, true);
-    }
-    let settle = |sum: &[i128; DIGITS], sign: i128| {
-        let mut carry = 0;
-        let digits: Vec<u32> = sum
-            .iter()
-            .map(|d| {
-                let x = sign * d + carry;
-                carry = x >> 32;
-                (x & 0xffff_ffff) as u32
-            })
-            .collect();
-        (digits, carry)
-    };
-    match settle(&sum, 1) {
-        (digits, 0) => rounded(&digits),
-        _ => -rounded(&settle(&sum, -1).0),
-    }
+    let mut sum = Sum::new();
+    sum.ring(ring, 0, false);
+    sum.half()
 }
 
 /// 1, 16, 18, 24, 2, by the text of the request; the areas where nothing is refused.

@@ -1,6 +1,7 @@
 //! The Rust's answers, the rules' answers (docs/RULES.md), and the meshes that both are asked about.
 
 pub mod areas;
+pub mod audit;
 pub mod bench;
 pub mod bulk;
 pub mod cases;
@@ -17,6 +18,7 @@ pub mod maps;
 pub mod mend;
 pub mod mesh;
 pub mod plane;
+pub mod reader;
 pub mod reference;
 pub mod roots;
 pub mod rust;

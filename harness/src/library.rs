@@ -13,6 +13,8 @@ pub struct Call {
     arguments: u32,
     entry: Vec<u8>,
     owed: Vec<u8>,
+    /// Where a NaN is owed, with any pattern.
+    nans: Vec<usize>,
 }
 
 /// What stands behind each argument, up to a multiple of 8 bytes and 8 more: a call that writes past a slice is seen there.
@@ -25,7 +27,7 @@ fn behind(end: usize) -> usize {
 
 impl Call {
     pub fn new(name: &'static str) -> Call {
-        Call { name, arguments: 0, entry: vec![0; 8], owed: vec![0; 8] }
+        Call { name, arguments: 0, entry: vec![0; 8], owed: vec![0; 8], nans: Vec::new() }
     }
 
     fn argument(mut self, size: u32, entry: impl Iterator<Item = u64>, owed: impl Iterator<Item = u64>) -> Call {
@@ -72,8 +74,20 @@ impl Call {
     pub fn lent_floats(self, entry: &[f64], owed: &[f64]) -> Call {
         self.argument(8, entry.iter().map(|x| x.to_bits()), owed.iter().map(|x| x.to_bits()))
     }
+    /// The same; where a NaN is owed any will do.
+    pub fn lent_some_floats(mut self, entry: &[f64], owed: &[f64]) -> Call {
+        let first = self.owed.len() + 8;
+        self.nans.extend((0..owed.len()).filter(|&k| owed[k].is_nan()).map(|k| first + 8 * k));
+        self.lent_floats(entry, owed)
+    }
     pub fn patterns(self, list: &[u64]) -> Call {
         self.argument(8, list.iter().copied(), list.iter().copied())
+    }
+    pub fn lent_patterns(self, entry: &[u64], owed: &[u64]) -> Call {
+        self.argument(8, entry.iter().copied(), owed.iter().copied())
+    }
+    pub fn bytes(self, list: &[u8]) -> Call {
+        self.lent_bytes(list, list)
     }
     pub fn lent_bytes(self, entry: &[u8], owed: &[u8]) -> Call {
         self.argument(1, entry.iter().map(|&x| x as u64), owed.iter().map(|&x| x as u64))
@@ -102,6 +116,10 @@ impl Call {
     }
     pub fn gives_float(self, owed: f64) -> Call {
         self.lent_floats(&[-4321.0], &[owed])
+    }
+    /// The same; where a NaN is owed, which has no pattern in the promise, any will do.
+    pub fn gives_some_float(self, owed: f64) -> Call {
+        self.lent_some_floats(&[-4321.0], &[owed])
     }
     pub fn gives_bits(self, owed: u64) -> Call {
         self.argument(8, [0xd8d8d8d8].into_iter(), [owed].into_iter())
@@ -171,8 +189,8 @@ pub struct Library {
     process: Option<Process>,
     names: Vec<String>,
     frame: Vec<u8>,
-    /// The case, the name, where its body starts, and what it owes.
-    waiting: Vec<(u64, &'static str, usize, Vec<u8>)>,
+    /// The case, the name, where its body starts, what it owes, and where any NaN will do.
+    waiting: Vec<(u64, &'static str, usize, Vec<u8>, Vec<usize>)>,
     pub compared: u64,
 }
 
@@ -219,7 +237,7 @@ impl Library {
     pub fn put(&mut self, case: u64, mut call: Call) -> Result<(), Difference> {
         let Some(number) = self.names.iter().position(|n| n == call.name) else { return Ok(()) };
         call.pack(number as u32);
-        self.waiting.push((case, call.name, self.frame.len(), call.owed));
+        self.waiting.push((case, call.name, self.frame.len(), call.owed, call.nans));
         self.frame.extend(call.entry);
         if self.frame.len() > 1 << 18 {
             self.flush()
@@ -267,9 +285,14 @@ impl Library {
                 return Err(Difference { case: waiting[0].0, words: format!("{words}; asked: {}", names.join(", ")) });
             }
         };
-        for (case, name, at, owed) in waiting {
+        for (case, name, at, mut owed, nans) in waiting {
             self.compared += 1;
             let given = &given[at..at + owed.len()];
+            for nan in nans {
+                if f64::from_le_bytes(given[nan..nan + 8].try_into().unwrap()).is_nan() {
+                    owed[nan..nan + 8].copy_from_slice(&given[nan..nan + 8]);
+                }
+            }
             if given != owed {
                 return Err(Difference { case, words: tell(name, &owed, given) });
             }

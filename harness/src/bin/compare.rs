@@ -1,30 +1,38 @@
 //! Puts cases to the Rust, to the rules (docs/RULES.md) read a second time and to the proved library, and tells the first difference.
 //!
-//!     compare [--cases N] [--mends N] [--grids N] [--flips N] [--plane N] [--roots N] [--seed S] [--from I]
+//!     compare [--cases N] [--mends N] [--grids N] [--flips N] [--audits N] [--forms N] [--plane N] [--roots N] [--seed S] [--from I]
 //!     compare --case I [--seed S]      one mesh case alone, with its mesh
 //!     compare --mend I [--seed S]      one mesh to be mended alone
 //!     compare --grid I [--seed S]      one mesh on the grid alone
 //!     compare --flip I [--seed S]      one mesh alone, each half-edge flipped
+//!     compare --audit I [--seed S]     pieces to be audited alone
+//!     compare --form I [--seed S]      one form alone
 //!
-//! By default 20,000 meshes, 20,000 to be mended, 20,000 on the grid, 5,000 with each half-edge flipped, 100,000 inputs to each plane function and 10,000 patterns of each class to the roots.
+//! By default 20,000 meshes, 20,000 to be mended, 20,000 on the grid, 5,000 with each half-edge flipped, 40,000 pieces to be audited,
+//! 10,000 forms, 100,000 inputs to each plane function and 10,000 patterns of each class to the roots.
 //! The library is served by the command in VORONOI_SERVER (harness/serve.sh makes it).
 
 use harness::cases::Case;
 use harness::library::{Difference, Library};
 use harness::tally::{Tally, CALLS};
 use harness::words::Words;
-use harness::{compare, flip, grid, mend, plane, roots, rust, text, why};
+use harness::{audit, compare, flip, grid, mend, plane, reader, roots, rust, text, why};
 use std::time::{Duration, Instant};
 
-const USAGE: &str = "compare [--cases N] [--mends N] [--grids N] [--flips N] [--plane N] [--roots N] [--seed S] [--from I]
+const USAGE: &str = "compare [--cases N] [--mends N] [--grids N] [--flips N] [--audits N] [--forms N] [--plane N] [--roots N] [--seed S] [--from I]
 compare --case I [--seed S]      one mesh case alone, with its mesh
 compare --mend I [--seed S]      one mesh to be mended alone
 compare --grid I [--seed S]      one mesh on the grid alone
 compare --flip I [--seed S]      one mesh alone, each half-edge flipped
-By default 20,000 meshes, 20,000 to be mended, 20,000 on the grid, 5,000 with each half-edge flipped, 100,000 inputs to each plane function and 10,000 patterns of each class to the roots; 0 leaves a part out.";
+compare --audit I [--seed S]     pieces to be audited alone
+compare --form I [--seed S]      one form alone
+By default 20,000 meshes, 20,000 to be mended, 20,000 on the grid, 5,000 with each half-edge flipped, 40,000 pieces to be audited,
+10,000 forms, 100,000 inputs to each plane function and 10,000 patterns of each class to the roots; 0 leaves a part out.";
 
 fn main() {
-    let numbered = ["--cases", "--mends", "--plane", "--roots", "--seed", "--from", "--case", "--mend", "--grids", "--grid", "--flips", "--flip"];
+    let parts = ["--cases", "--mends", "--grids", "--flips", "--audits", "--forms", "--plane", "--roots"];
+    let alone = ["--case", "--mend", "--grid", "--flip", "--audit", "--form"];
+    let numbered = [&parts[..], &alone, &["--seed", "--from"]].concat();
     let words = Words::read(USAGE, &numbered, &[]);
     let option = |name: &str| words.number(name);
     let seed = option("--seed").unwrap_or(1);
@@ -79,6 +87,26 @@ fn main() {
         return;
     }
 
+    if let Some(i) = option("--audit") {
+        let case = audit::Case::random(seed, i);
+        println!("{case:?}\nmust be {} {:?}", case.number(), (case.number() == 0).then(|| case.verdict()));
+        match audit::run_one(i, &case, &mut library, &mut audit::Seen::default()).and_then(|()| library.flush()) {
+            Ok(()) => println!("no difference"),
+            Err(d) => stop(&d.words),
+        }
+        return;
+    }
+
+    if let Some(i) = option("--form") {
+        let case = reader::Case::random(seed, i);
+        println!("{case:?}");
+        match reader::run_one(i, &case, &mut library, &mut reader::Seen::default()).and_then(|()| library.flush()) {
+            Ok(()) => println!("no difference"),
+            Err(d) => stop(&d.words),
+        }
+        return;
+    }
+
     match library.names() {
         [] => println!("NO LIBRARY: only the Rust and the rules are compared"),
         names => println!("The library is asked: {}", names.join(" ")),
@@ -99,6 +127,14 @@ fn main() {
     let n = option("--flips").unwrap_or(5_000);
     if n > 0 {
         holes.extend(flips(seed, option("--from").unwrap_or(0), n, &mut library));
+    }
+    let n = option("--audits").unwrap_or(40_000);
+    if n > 0 {
+        holes.extend(audits(seed, option("--from").unwrap_or(0), n, &mut library));
+    }
+    let n = option("--forms").unwrap_or(10_000);
+    if n > 0 {
+        holes.extend(forms(seed, option("--from").unwrap_or(0), n, &mut library));
     }
     let n = option("--plane").unwrap_or(100_000);
     if n > 0 {
@@ -222,6 +258,44 @@ fn flips(seed: u64, from: u64, cases: u64, library: &mut Library) -> Vec<String>
         "\nEvery half-edge of {cases} meshes, {built} flipped meshes put to every call beside the Rust, {asked} calls of the library compared, 0 differences, {:.1} s",
         start.elapsed().as_secs_f64()
     );
+    holes
+}
+
+/// The limits, then pieces of builds and rectangles, most of them damaged; gives what never came up.
+fn audits(seed: u64, from: u64, cases: u64, library: &mut Library) -> Vec<String> {
+    let mut seen = audit::Seen::default();
+    let (start, before) = (Instant::now(), library.compared);
+    for (name, case) in audit::Case::limits() {
+        let told = audit::run_one(0, &case, library, &mut seen).and_then(|()| library.flush());
+        told.unwrap_or_else(|d| stop(&format!("DIFFERENCE in the audit, \"{name}\"\n{}", d.words)));
+    }
+    let wrong = |d: Difference| stop(&format!("DIFFERENCE in the audit {0} of seed {seed} (again: compare --audit {0} --seed {seed})\n{1}", d.case, d.words));
+    let mut progress = Progress { start, told: start };
+    for i in from..from + cases {
+        audit::run_one(i, &audit::Case::random(seed, i), library, &mut seen).unwrap_or_else(wrong);
+        progress.tell(i - from + 1, cases, library);
+    }
+    library.flush().unwrap_or_else(wrong);
+    let holes = seen.report();
+    let asked = library.compared - before;
+    println!("\n{cases} audits, {asked} calls of the library compared, 0 differences, {:.1} s", start.elapsed().as_secs_f64());
+    holes
+}
+
+/// Forms, whole and in parts; gives what never came up.
+fn forms(seed: u64, from: u64, cases: u64, library: &mut Library) -> Vec<String> {
+    let mut seen = reader::Seen::default();
+    let (start, before) = (Instant::now(), library.compared);
+    let wrong = |d: Difference| stop(&format!("DIFFERENCE in the form {0} of seed {seed} (again: compare --form {0} --seed {seed})\n{1}", d.case, d.words));
+    let mut progress = Progress { start, told: start };
+    for i in from..from + cases {
+        reader::run_one(i, &reader::Case::random(seed, i), library, &mut seen).unwrap_or_else(wrong);
+        progress.tell(i - from + 1, cases, library);
+    }
+    library.flush().unwrap_or_else(wrong);
+    let holes = seen.report();
+    let asked = library.compared - before;
+    println!("\n{cases} forms, {asked} calls of the library compared, 0 differences, {:.1} s", start.elapsed().as_secs_f64());
     holes
 }
 

@@ -1,4 +1,4 @@
-//! Meshes, boxes and questions to ask both sides.
+//! Meshes, boxes, pieces and questions to ask both sides.
 
 pub mod areas;
 pub mod damage;
@@ -6,5 +6,6 @@ pub mod delaunay;
 pub mod edits;
 pub mod floats;
 pub mod meshes;
+pub mod pieces;
 pub mod rng;
 pub mod topology;
