@@ -42,8 +42,8 @@ module _ (l l′ t t′ r r′ b b′ : ℕ) where
       → tl + lb + (br + lb + (br + rt + (tl + rt))) ≡ 2 * under
   taken tl lb br rt e f g h = omega arith
 
-  product : l + r′ ≤ l′ + r → t + b′ ≤ t′ + b → 2 * over - 2 * under ≡ 2 * (apart (l + r′) (l′ + r) * apart (t + b′) (t′ + b))
-  product h k = go (apart (l + r′) (l′ + r)) (apart (t + b′) (t′ + b)) (omega arith) (omega arith)
+  product : l + r′ ≤ l′ + r → t + b′ ≤ t′ + b → 2 * over - 2 * under ≡ 2 * (apart (r + l′) (r′ + l) * apart (b + t′) (b′ + t))
+  product h k = go (apart (r + l′) (r′ + l)) (apart (b + t′) (b′ + t)) (omega arith) (omega arith)
     where
       go : (i j : ℕ) → r + l′ ≡ r′ + l + i → b + t′ ≡ b′ + t + j → 2 * over - 2 * under ≡ 2 * (i * j)
       go i j x y = rw (x, y) (plain (r′ + l) (b′ + t) i j)
@@ -85,7 +85,7 @@ module _ (b : BoundingBox) where
       (minusUnits (b .bottom)) _ _ _ _ (under-parts (b .top) (b .left)) (above-parts (b .left) (b .bottom)) (under-parts (b .bottom) (b .right)) (above-parts (b .right) (b .top))
 
   pub box-twice : BoundedBox 101 b → lt (b .left) (b .right) ≡ true → lt (b .top) (b .bottom) ≡ true
-      → boxTwice b ≡ 2 * (apartOf (b .left) (b .right) * apartOf (b .top) (b .bottom))
+      → boxTwice b ≡ 2 * (apartOf (b .right) (b .left) * apartOf (b .bottom) (b .top))
   unfolding boxTwice
   box-twice h across down =
       ap (λ (n : ℕ). n - lossesOf (cornersOf b)) gained-is
@@ -98,7 +98,7 @@ module _ (b : BoundingBox) where
 
 -- ---- rule 3, whichever way the box is given
 pub by-size : (c : Point) (w h : Float) → okBox c w h ≡ true
-    → boxTwice (madeOf c w h) ≡ 2 * (apartOf (madeOf c w h .left) (madeOf c w h .right) * apartOf (madeOf c w h .top) (madeOf c w h .bottom))
+    → boxTwice (madeOf c w h) ≡ 2 * (apartOf (madeOf c w h .right) (madeOf c w h .left) * apartOf (madeOf c w h .bottom) (madeOf c w h .top))
 unfolding okBox
 by-size c w h e =
     let m = madeOf c w h in
@@ -109,7 +109,7 @@ in-order : (x y : Float) → okSpan x y ≡ true → lt x y ≡ true
 unfolding okSpan
 in-order x y h = and-right (le (magnitude x) edge && le (magnitude y) edge) (lt x y) h
 
-pub by-edges : (l t r b : Float) → okEdges l t r b ≡ true → boxTwice (edgesOf l t r b) ≡ 2 * (apartOf l r * apartOf t b)
+pub by-edges : (l t r b : Float) → okEdges l t r b ≡ true → boxTwice (edgesOf l t r b) ≡ 2 * (apartOf r l * apartOf b t)
 unfolding okEdges edgesOf
 by-edges l t r b e =
     box-twice (edgesOf l t r b) (edges-bounded l t r b e) (in-order l r (and-left (okSpan l r) (okSpan t b) e)) (in-order t b (and-right (okSpan l r) (okSpan t b) e))

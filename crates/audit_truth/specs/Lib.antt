@@ -1,3 +1,6 @@
 pub mod Exact
+pub mod Held
 pub mod BoxTwice
+pub mod Near
+pub mod NearTrue
 pub mod laws

@@ -6,14 +6,14 @@ use native.Mathlib.Nat.{le-trans, le-of-eq, mul-le-mul-right, mul-right-comm, ze
 use native.Mathlib.Omega.{arith}
 use lib.Dec.{T}
 use lib.IntN.{ℤ}
-use lib.Ieee.{Float, nan, inf, fin, up, down, unlike, lt}
+use lib.Ieee.{Float, nan, inf, fin, up, down, unlike, lt, le}
 use lib.Ieee.Fits.{down-pos}
 use lib.Ieee.Nearest.{div-mono}
 use lib.Ieee.Scale.{finite}
 use borrow.Author.Tests.{ltb-false}
 use Rattle.root.specs.Root.{units}
 use Rattle.laws.specs.laws.And.{holds}
-use Rattle.root.specs.laws.Order.{lt-never, lt-trans}
+use Rattle.root.specs.laws.Order.{lt-never, lt-trans, le-not-lt}
 use Rattle.ring_area.specs.Area.{below, productAbove, productUnder}
 use Rattle.audit_truth.specs.Exact.{plusUnits, minusUnits}
 
@@ -79,9 +79,15 @@ not-over (fin true m e) (fin true n d) p q h = let g = at-most n d m e (ltb-fals
     plain : (a b : ℕ) → b ≤ a → 0 + b ≤ a + 0
     plain a b h = omega arith
 
-pub lt-turned : (x y : Float) → lt x y ≡ true → lt y x ≡ false
-lt-turned x y h = go (lt y x) refl
+turned : (x y : Float) → (T (lt y x) → ⊥) → lt y x ≡ false
+turned x y h = go (lt y x) refl
   where
     go : (t : Bool) → lt y x ≡ t → t ≡ false
-    go true e = absurd (lt-never x (lt-trans x y x (holds h) (holds e)))
+    go true e = absurd (h (holds e))
     go false e = refl
+
+pub lt-turned : (x y : Float) → lt x y ≡ true → lt y x ≡ false
+lt-turned x y h = turned x y (λ t. lt-never x (lt-trans x y x (holds h) t))
+
+pub le-turned : (x y : Float) → le x y ≡ true → lt y x ≡ false
+le-turned x y h = turned x y (le-not-lt x y (holds h))
