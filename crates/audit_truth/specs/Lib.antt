@@ -3,4 +3,5 @@ pub mod Held
 pub mod BoxTwice
 pub mod Near
 pub mod NearTrue
+pub mod Rows
 pub mod laws

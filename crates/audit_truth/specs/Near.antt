@@ -1,11 +1,12 @@
--- Theorem: where the bisector's test in floats takes nothing, the exact squared distances keep the tolerance, and 2 ^ -49 more: |v - s|^2 - |v - o|^2 is at most
--- (2 ^ -bits + 2 ^ -49) (across + down) (|ox - sx| + |oy - sy|), and 2 ^ -1073 (1 + |ox - sx| + |oy - sy|) for what underflows. Each distance is exact, a whole number of units.
+-- Theorem: where the bisector's test in floats takes nothing, the exact squared distances keep the tolerance, but for the roundings: |v - s|^2 - |v - o|^2 is at most
+-- (2 ^ -bits (across + down) + 2 ^ -49 r) (|ox - sx| + |oy - sy|), and 2 ^ -1073 (1 + |ox - sx| + |oy - sy|) for what underflows. Here r is at least across + down, and in each
+-- coordinate v is at most r from s and from o.
 --
 -- The argument, with k = 2 ^ -53. A sum or a difference of floats is (1 + e) times the exact one with |e| at most k, since what is below the normal range is exact; a product is
 -- that, or off by half a unit of 2 ^ -1074. So a coordinate of the left side, (o - s) ((v - s) + (v - o)), is off by 4 k of |o - s| (|v - s| + |v - o|) and half a unit, and their
--- sum by 5 k and a unit: 10 k of the right side without tolerance, where |v - s| and |v - o| are at most across + down in each coordinate. The right side is at most
--- (1 + 5 k) times the exact one: two roundings in each of its two sums, one in the product, and none in the product with 2 ^ -bits but for less than a unit of what is cut off.
--- Together 15 k, and what is of second order is far below the k that is left to 16 k = 2 ^ -49.
+-- sum by 5 k and a unit: 10 k of r (|ox - sx| + |oy - sy|). The right side is at most (1 + 5 k) times the exact one: two roundings in each of its two sums, one in the product, and
+-- none in the product with 2 ^ -bits but for less than a unit of what is cut off; so 5 k of the same at most. Together that is 15 k, and what is of second order is far below the
+-- k that is left to 16 k = 2 ^ -49.
 use mathlib.Core.Path.{_≡_, ap}
 use mathlib.Core.Bool.{false}
 use Prim.{tt}
@@ -29,18 +30,18 @@ use Rattle.audit_truth.specs.laws.Parts.{not-over}
 use Rattle.audit_truth.specs.laws.Sides.{held-finite, add-held, add-near, bisectorPart, coordinate-held, coordinate, right-held, right}
 use Rattle.audit_truth.specs.laws.Close.{squares-apart}
 
--- p is at most the box's width and height together from v, in each coordinate
-pub record WithinSize (b : BoundingBox) (v p : Point) : Type 0 where
-  pub x : apartOf (v .x) (p .x) ≤ acrossAndDown b
-  pub y : apartOf (v .y) (p .y) ≤ acrossAndDown b
+-- p is at most r from v in each coordinate
+pub record WithinReach (r : ℕ) (v p : Point) : Type 0 where
+  pub x : apartOf (v .x) (p .x) ≤ r
+  pub y : apartOf (v .y) (p .y) ≤ r
 
--- |v - s|^2 is at most |v - o|^2 and (2 ^ -bits + 2 ^ -49) (across + down) (|ox - sx| + |oy - sy|) and the underflow, all times 2 ^ 49 2 ^ bits
-abbrev pub NotNearer : BoundingBox → ℕ → Point → Point → Point → Type 0
-NotNearer b bits v s o =
-    exactSquare v s * (2 ^ 49 * 2 ^ bits) ≤ (exactSquare v o + 2 * (alongAxes o s + 2 ^ 1074)) * (2 ^ 49 * 2 ^ bits) + (2 ^ 49 + 2 ^ bits) * (acrossAndDown b * alongAxes o s)
+-- that bound on |v - s|^2 - |v - o|^2, all times 2 ^ 49 2 ^ bits
+abbrev pub NotNearer : BoundingBox → ℕ → ℕ → Point → Point → Point → Type 0
+NotNearer b bits r v s o =
+    exactSquare v s * (2 ^ 49 * 2 ^ bits) ≤ (exactSquare v o + 2 * (alongAxes o s + 2 ^ 1074)) * (2 ^ 49 * 2 ^ bits) + (2 ^ 49 * acrossAndDown b + 2 ^ bits * r) * alongAxes o s
 
-module _ (b : BoundingBox) (bits : ℕ) (v s o : Point) (hb : HeldBox b) (B : bits ≤ 52) (hv : HeldPoint v) (hs : HeldPoint s) (ho : HeldPoint o) (ws : WithinSize b v s)
-    (wo : WithinSize b v o) where
+module _ (b : BoundingBox) (bits : ℕ) (v s o : Point) (hb : HeldBox b) (B : bits ≤ 52) (hv : HeldPoint v) (hs : HeldPoint s) (ho : HeldPoint o) (r : ℕ)
+    (wide : acrossAndDown b ≤ r) (ws : WithinReach r v s) (wo : WithinReach r v o) where
   abbrev cx : Float
   cx = bisectorPart (v .x) (s .x) (o .x)
 
@@ -56,7 +57,7 @@ module _ (b : BoundingBox) (bits : ℕ) (v s o : Point) (hb : HeldBox b) (B : bi
   hy : HeldWithin 803 cy
   hy = coordinate-held (v .y) (s .y) (o .y) (hv .y) (hs .y) (ho .y)
 
-  pub near-exact : beyond (farOf b bits) v s o ≡ false → NotNearer b bits v s o
+  pub near-exact : beyond (farOf b bits) v s o ≡ false → NotNearer b bits r v s o
   unfolding beyond
   near-exact e =
       let X = coordinate (v .x) (s .x) (o .x) (hv .x) (hs .x) (ho .x) in
@@ -69,9 +70,9 @@ module _ (b : BoundingBox) (bits : ℕ) (v s o : Point) (hb : HeldBox b) (B : bi
       (less (plusUnits (cx ⊞ cy)) (minusUnits (cx ⊞ cy)) (plusUnits limit) (minusUnits limit) _ (parts-apart limit) order) in
       moved _ _ _ _ _ _ _ _ _ (2 ^ 49 * 2 ^ bits) _ (squares-apart (plusUnits (v .x)) (minusUnits (v .x)) (plusUnits (s .x)) (minusUnits (s .x)) (plusUnits (o .x)) (minusUnits (o .x)))
       (squares-apart (plusUnits (v .y)) (minusUnits (v .y)) (plusUnits (s .y)) (minusUnits (s .y)) (plusUnits (o .y)) (minusUnits (o .y)))
-      (together _ _ (units limit) _ (2 ^ 1074) (2 ^ bits) (acrossAndDown b) (alongAxes o s) L
+      (together _ _ (units limit) _ (2 ^ 1074) (2 ^ bits) (acrossAndDown b) (alongAxes o s) r L
       (right b hb bits B (o .x) (s .x) (o .y) (s .y) (ho .x) (hs .x) (ho .y) (hs .y))
-      (within (apartOf (o .x) (s .x)) _ _ (apartOf (o .y) (s .y)) _ _ (acrossAndDown b) (ws .x) (wo .x) (ws .y) (wo .y)) (pow-pos bits))
+      (within (apartOf (o .x) (s .x)) _ _ (apartOf (o .y) (s .y)) _ _ r (ws .x) (wo .x) (ws .y) (wo .y)) wide (pow-pos bits))
     where
       less : (c c′ p m u : ℕ) → apart p m ≡ u → c + m ≤ c′ + p → c ≤ c′ + u
       less c c′ p m u h k = omega arith

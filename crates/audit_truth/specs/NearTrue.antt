@@ -1,11 +1,12 @@
--- Theorem: after kind 0 of an audit that answers 0, each corner of the piece of a site is nearer to no site that the piece is held against, but for the tolerance, 2 ^ -49 and what
--- underflows (`NotNearer`), on the exact squared distances. The two sites are in the box or about it: at most its height to the left or right of it, at most its width above or below.
+-- Theorem: after kind 0 of an audit that answers 0, no corner of a piece is nearer to a site that the piece is held against than to its own, but for the tolerance and the roundings
+-- (`NotNearer`), on the exact squared distances. Where both sites are in the box or about it, at most its height to the left or right of it and at most its width above or below,
+-- the roundings are 2 ^ -49 of what the tolerance is a part of (`near-true`); farther off they grow with the distance (`near-reach`).
 use mathlib.Core.Path.{_≡_, refl, sym}
 use mathlib.Core.Bool.{Bool, true, false, not, _&&_}
 use mathlib.Core.List.{List}
 use Prim.{tt}
 use Prim.Native.Nat.{ℕ, _+_, _-_, _*_, _/_, _≤_, _<_}
-use native.Mathlib.Nat.{le-trans, le-of-eq, add-comm}
+use native.Mathlib.Nat.{le-refl, le-trans, le-of-eq, add-comm}
 use native.Mathlib.Omega.{arith}
 use lib.Dec.{T, lit≤}
 use lib.Ieee.{Float, binary64, fits, le}
@@ -34,9 +35,9 @@ use Rattle.audit_rules.specs.Kept.{AuditKept, kept}
 use Rattle.audit_total.specs.Total.{apart}
 use Rattle.audit.specs.Promise.{AuditAnswer}
 use Rattle.audit.specs.Sound.{none-outside, none-nearer, sound-verdict}
-use Rattle.audit_truth.specs.Exact.{plusUnits, minusUnits, overOf, apartOf}
+use Rattle.audit_truth.specs.Exact.{plusUnits, minusUnits, overOf, apartOf, acrossAndDown}
 use Rattle.audit_truth.specs.Held.{HeldPoint, HeldBox, AllHeld, HeldEdges}
-use Rattle.audit_truth.specs.Near.{WithinSize, NotNearer, near-exact}
+use Rattle.audit_truth.specs.Near.{WithinReach, NotNearer, near-exact}
 use Rattle.audit_truth.specs.laws.Parts.{not-over, le-turned}
 use Rattle.audit_truth.specs.laws.Sides.{held-finite}
 
@@ -93,7 +94,7 @@ inside-about b p h g e = let i = in-box b p h g e in record { left = none _ _ _ 
     none a c d h = omega arith
 
 -- and from a corner in the box to what is about it is at most its width and height together
-within-size : (b : BoundingBox) (v p : Point) → InBox b v → AboutBox b p → WithinSize b v p
+within-size : (b : BoundingBox) (v p : Point) → InBox b v → AboutBox b p → WithinReach (acrossAndDown b) v p
 within-size b v p i a = record {
   x = span (plusUnits (v .x)) (minusUnits (v .x)) (plusUnits (p .x)) (minusUnits (p .x)) (plusUnits (b .left)) (minusUnits (b .left)) (plusUnits (b .right)) (minusUnits (b .right)) _ (i .left)
       (i .right) (a .left) (a .right);
@@ -168,8 +169,14 @@ module _ {g : Given} {sites v : List Float} {off ix starts others : List ℕ} {b
           none-taken (beyondAt far corner sites site part all) (heldCount all part (length sites / 2))
           (none-taken (cornerNearer far sites site part all v cell) (length cell) (none-nearer (g .bounds) bits sites starts others v off ix (sound-verdict a z) site S) i I) j J
 
-      pub near-true : AboutBox (g .bounds) (pointAt sites site) → AboutBox (g .bounds) (pointAt sites other) → NotNearer (g .bounds) bits corner (pointAt sites site) (pointAt sites other)
-      near-true x y =
+      pub near-reach : (r : ℕ) → acrossAndDown (g .bounds) ≤ r → WithinReach r corner (pointAt sites site) → WithinReach r corner (pointAt sites other)
+          → NotNearer (g .bounds) bits r corner (pointAt sites site) (pointAt sites other)
+      near-reach r wide x y =
           let there = other-site (noLists starts others) (cellOf starts others site) (length sites / 2) j refl J (held-names (rules .held) site S refl refl .named) in
-          near-exact (g .bounds) bits corner (pointAt sites site) (pointAt sites other) box-held (rules .fine) corner-held (site-held site S) (site-held other there)
-          (within-size (g .bounds) corner (pointAt sites site) corner-in x) (within-size (g .bounds) corner (pointAt sites other) corner-in y) not-beyond
+          near-exact (g .bounds) bits corner (pointAt sites site) (pointAt sites other) box-held (rules .fine) corner-held (site-held site S) (site-held other there) r wide x y not-beyond
+
+      pub near-true : AboutBox (g .bounds) (pointAt sites site) → AboutBox (g .bounds) (pointAt sites other)
+          → NotNearer (g .bounds) bits (acrossAndDown (g .bounds)) corner (pointAt sites site) (pointAt sites other)
+      near-true x y =
+          near-reach (acrossAndDown (g .bounds)) (le-refl (acrossAndDown (g .bounds))) (within-size (g .bounds) corner (pointAt sites site) corner-in x)
+          (within-size (g .bounds) corner (pointAt sites other) corner-in y)

@@ -144,13 +144,13 @@ right-most r f d n̂ n w b u x y N D =
             → 16 * nd ≤ 17 * nw → 16 * bd ≤ 17 * bw → rub * (16 * 2 ^ 53) ≤ nw * (16 * 2 ^ 53 + 84) + 18 * 2 ^ 53 * bw + 8 * 2 ^ 53 * bu
         go rub x y nd bd nw bw bu a b c d e = omega arith
 
--- ---- both
-pub together : (l l′ r t u b n w : ℕ) → LeftOff l l′ r t u → r * u * b * (16 * 2 ^ 53) ≤ n * w * (16 * 2 ^ 53 + 84) + 18 * 2 ^ 53 * (b * w) + 8 * 2 ^ 53 * (b * u) → t ≤ 2 * (n * w)
-    → 1 ≤ b → l * (2 ^ 49 * b) ≤ (l′ + 2 * (w + u)) * (2 ^ 49 * b) + (2 ^ 49 + b) * (n * w)
-together l l′ r t u b n w o R T B =
-    last l l′ w u b n
-    (linear (l * b) (l′ * b) (r * u * b) (o .off * b) (n * w) (n * w * b) (b * w) (b * u) (t * b) (whole l l′ (r * u) (o .off) b (mul-le-mul-right b (o .most))) R
-    (spread (o .off) t u b (mul-le-mul-right b (o .few))) (le-trans (mul-le-mul-right b T) (le-of-eq (turn (n * w) b))) (more (n * w) b B))
+-- ---- both; q is how far the corner is from the sites, and n at least
+pub together : (l l′ r t u b n w q : ℕ) → LeftOff l l′ r t u → r * u * b * (16 * 2 ^ 53) ≤ n * w * (16 * 2 ^ 53 + 84) + 18 * 2 ^ 53 * (b * w) + 8 * 2 ^ 53 * (b * u)
+    → t ≤ 2 * (q * w) → n ≤ q → 1 ≤ b → l * (2 ^ 49 * b) ≤ (l′ + 2 * (w + u)) * (2 ^ 49 * b) + (2 ^ 49 * n + b * q) * w
+together l l′ r t u b n w q o R T N B =
+    last l l′ w u b n q
+    (linear (l * b) (l′ * b) (r * u * b) (o .off * b) (n * w) (q * w * b) (b * w) (b * u) (t * b) (whole l l′ (r * u) (o .off) b (mul-le-mul-right b (o .most))) R
+    (spread (o .off) t u b (mul-le-mul-right b (o .few))) (le-trans (mul-le-mul-right b T) (le-of-eq (turn (q * w) b))) (le-trans (mul-le-mul-right w N) (more (q * w) b B)))
   where
     whole : (l l′ ru o b : ℕ) → l * b ≤ (l′ + ru + o) * b → l * b ≤ l′ * b + ru * b + o * b
     whole l l′ ru o b h = omega arith
@@ -167,10 +167,10 @@ together l l′ r t u b n w o R T B =
         plain : (a : ℕ) → a ≡ a * 1
         plain a = omega arith
 
-    linear : (lb l′b rub ob nw nwb bw bu tb : ℕ) → lb ≤ l′b + rub + ob → rub * (16 * 2 ^ 53) ≤ nw * (16 * 2 ^ 53 + 84) + 18 * 2 ^ 53 * bw + 8 * 2 ^ 53 * bu
-        → ob * (16 * 2 ^ 53) ≤ 84 * tb + (16 * 2 ^ 53 + 16) * bu → tb ≤ 2 * nwb → nw ≤ nwb → lb * 2 ^ 49 ≤ l′b * 2 ^ 49 + (bw + bu) * 2 ^ 50 + nw * 2 ^ 49 + nwb
-    linear lb l′b rub ob nw nwb bw bu tb a c d e f = omega arith
+    linear : (lb l′b rub ob nw qwb bw bu tb : ℕ) → lb ≤ l′b + rub + ob → rub * (16 * 2 ^ 53) ≤ nw * (16 * 2 ^ 53 + 84) + 18 * 2 ^ 53 * bw + 8 * 2 ^ 53 * bu
+        → ob * (16 * 2 ^ 53) ≤ 84 * tb + (16 * 2 ^ 53 + 16) * bu → tb ≤ 2 * qwb → nw ≤ qwb → lb * 2 ^ 49 ≤ l′b * 2 ^ 49 + (bw + bu) * 2 ^ 50 + nw * 2 ^ 49 + qwb
+    linear lb l′b rub ob nw qwb bw bu tb a c d e f = omega arith
 
-    last : (l l′ w u b n : ℕ) → l * b * 2 ^ 49 ≤ l′ * b * 2 ^ 49 + (b * w + b * u) * 2 ^ 50 + n * w * 2 ^ 49 + n * w * b
-        → l * (2 ^ 49 * b) ≤ (l′ + 2 * (w + u)) * (2 ^ 49 * b) + (2 ^ 49 + b) * (n * w)
-    last l l′ w u b n h = omega arith
+    last : (l l′ w u b n q : ℕ) → l * b * 2 ^ 49 ≤ l′ * b * 2 ^ 49 + (b * w + b * u) * 2 ^ 50 + n * w * 2 ^ 49 + q * w * b
+        → l * (2 ^ 49 * b) ≤ (l′ + 2 * (w + u)) * (2 ^ 49 * b) + (2 ^ 49 * n + b * q) * w
+    last l l′ w u b n q h = omega arith
