@@ -25,10 +25,10 @@ use Rattle.audit_total.specs.Total.{apart}
 use Rattle.audit_truth.specs.Exact.{plusUnits, minusUnits, apartOf, acrossAndDown, alongAxes, exactSquare}
 use Rattle.audit_truth.specs.Held.{HeldWithin, HeldPoint, HeldBox}
 use Rattle.audit_truth.specs.laws.BothSides.{left-off, together}
+use Rattle.audit_truth.specs.laws.Close.{squares-apart}
 use Rattle.audit_truth.specs.laws.Magnitudes.{parts-apart}
 use Rattle.audit_truth.specs.laws.Parts.{not-over}
 use Rattle.audit_truth.specs.laws.Sides.{held-finite, add-held, add-near, bisectorPart, coordinate-held, coordinate, right-held, right}
-use Rattle.audit_truth.specs.laws.Close.{squares-apart}
 
 -- p is at most r from v in each coordinate
 pub record WithinReach (r : ℕ) (v p : Point) : Type 0 where

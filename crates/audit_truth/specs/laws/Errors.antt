@@ -4,7 +4,7 @@ use Prim.Native.Nat.{ℕ, _+_, _*_, _^_, _≤_}
 use native.Mathlib.Nat.{le-trans, le-of-eq, mul-le-mul, mul-le-mul-left, mul-le-mul-right}
 use native.Mathlib.Omega.{arith}
 use Rattle.audit_total.specs.Total.{apart}
-use Rattle.audit_truth.specs.laws.Close.{Close, apart-close, close-product, product-off}
+use Rattle.audit_truth.specs.laws.Close.{Close, close-apart, apart-close, close-product, product-off}
 
 -- ---- the sum of two differences
 -- f - g for h - i: at most 33 sixteenths of one part in 2 ^ 53 of m, and h - i is at most m
@@ -18,17 +18,14 @@ pub record SumOff (f g h i m : ℕ) : Type 0 where
 pub sum-off : (a a′ h h′ ea b b′ i i′ eb f g e : ℕ) → Close (a + h′) (a′ + h) ea → ea * 2 ^ 53 ≤ apart h h′ → Close (b + i′) (b′ + i) eb → eb * 2 ^ 53 ≤ apart i i′
     → Close (f + (a′ + b′)) (g + (a + b)) e → e * 2 ^ 53 ≤ apart (a + b) (a′ + b′) → SumOff f g (h + i) (h′ + i′) (apart h h′ + apart i i′)
 sum-off a a′ h h′ ea b b′ i i′ eb f g e x A y B z E =
-    let s : Close (a + b) (a′ + b′) (apart h h′ + apart i i′ + ea + eb) = size a a′ h h′ ea b b′ i i′ eb (apart h h′) (apart i i′) x y (here h h′) (here i i′) in
+    let s : Close (a + b) (a′ + b′) (apart h h′ + apart i i′ + ea + eb) = size a a′ h h′ ea b b′ i i′ eb (apart h h′) (apart i i′) x y (close-apart h h′) (close-apart i i′) in
     record {
       off = e + ea + eb;
       near = record { most = up a a′ h h′ ea b b′ i i′ eb f g e (x .most) (y .most) (z .most); least = up a′ a h′ h ea b′ b i′ i eb g f e (x .least) (y .least) (z .least) };
       few = few e ea eb (apart h h′) (apart i i′) A B (le-trans E (apart-close (a + b) (a′ + b′) _ s));
-      most = both h h′ i i′ (apart h h′) (apart i i′) (here h h′) (here i i′);
+      most = both h h′ i i′ (apart h h′) (apart i i′) (close-apart h h′) (close-apart i i′);
     }
   where
-    here : (a b : ℕ) → Close a b (apart a b)
-    here a b = record { most = omega arith; least = omega arith }
-
     both : (h h′ i i′ A B : ℕ) → Close h h′ A → Close i i′ B → Close (h + i) (h′ + i′) (A + B)
     both h h′ i i′ A B x y =
         let x₁ = x .most in

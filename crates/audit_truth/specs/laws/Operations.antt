@@ -15,8 +15,8 @@ use Rattle.root.specs.Root.{units}
 use Rattle.ring_area.specs.Area.{below}
 use Rattle.audit_total.specs.Total.{apart}
 use Rattle.audit_truth.specs.Exact.{plusUnits, minusUnits}
-use Rattle.audit_truth.specs.laws.Roundings.{units-exact, round-sign, round-whole, round-product}
 use Rattle.audit_truth.specs.laws.Close.{Close}
+use Rattle.audit_truth.specs.laws.Roundings.{units-exact, round-sign, round-whole, round-product}
 
 -- z for q - n
 pub record Rounded (z : Float) (q n : ℕ) : Type 0 where

@@ -17,11 +17,11 @@ use Rattle.audit_nearer.specs.Nearer.{toleranceOf, farOf}
 use Rattle.audit_truth.specs.Exact.{plusUnits, minusUnits, apartOf, acrossAndDown}
 use Rattle.audit_truth.specs.Held.{HeldWithin, HeldBox}
 use Rattle.audit_truth.specs.laws.BothSides.{twice-rounded, right-most}
+use Rattle.audit_truth.specs.laws.Close.{Close, close-apart}
 use Rattle.audit_truth.specs.laws.Errors.{sum-off, sum-size, CoordinateOff, coordinate-off}
 use Rattle.audit_truth.specs.laws.Far.{tolerance-fits, tolerance-bounded, far-times}
 use Rattle.audit_truth.specs.laws.Magnitudes.{parts-apart, rounded-most, rounded-times, sum-times, product-times, magnitude-units, magnitude-fits}
 use Rattle.audit_truth.specs.laws.Operations.{Rounded, RoundedProduct, add-rounded, sub-rounded, mul-rounded}
-use Rattle.audit_truth.specs.laws.Close.{Close, close-apart}
 
 pub held-finite : {k : ℕ} {x : Float} → HeldWithin k x → T (finite x)
 held-finite {k} {x} h = bounded-finite x k (h .bounded)
