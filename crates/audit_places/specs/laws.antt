@@ -1,2 +1,5 @@
 -- Laws that only proofs use.
 pub mod Twins
+pub mod Equal
+pub mod Slots
+pub mod Blocks
