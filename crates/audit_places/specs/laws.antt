@@ -1,5 +1,6 @@
 -- Laws that only proofs use.
 pub mod Twins
 pub mod Equal
-pub mod Slots
+pub mod Hanging
+pub mod Passing
 pub mod Blocks

@@ -8,12 +8,12 @@ ghost use Prim.Native.Nat.{_/_, _≤_, _<_};
 ghost use lib.ListN.{length};
 ghost use Rattle.lowest.specs.Lowest.{lowest};
 ghost use Rattle.audit_places.specs.Places.{sameOf, twinAt, hasTwin};
-ghost use Rattle.audit_places.specs.Slots.{slotOf, twinIn, Hangs, Hung, HungAt, Held, Visited, BlockIn};
+ghost use Rattle.audit_places.specs.Slots.{slotOf, twinIn, Hangs, HungAt, InSlot, Visited, BlockIn};
 
 // How many sites hang at a time, and in how many slots.
-const BLOCK: usize = 2048;
+const BLOCK: usize = 512;
 
-const SLOTS: usize = 1024;
+const SLOTS: usize = 512;
 
 fn same_place(p: Point, q: Point) -> bool
     ensures { λ r. ⌜ r ≡ sameOf p q ⌝ }
@@ -37,13 +37,13 @@ pub fn first_twin(sites: &[f64], s: usize) -> usize
     j
 }
 
-// The slot of a place. -0 + 0 is 0, so that equal places have one.
+// The slot of a place. -0 + 0 is 0, so that equal places have one. Two primes, as patterns of whole numbers end in many zeros.
 fn slot(p: Point) -> usize
     ensures { λ r. ⌜ r ≡ slotOf p ⌝ }
 {
     let x = pattern(p.x + 0.0) % 2654435761;
     let y = pattern(p.y + 0.0) % 3266489917;
-    ((x + y) % 1024) as usize
+    ((x + y) % 512) as usize
 }
 
 fn wide(x: u16) -> usize
@@ -52,9 +52,9 @@ fn wide(x: u16) -> usize
     x as usize
 }
 
-// Whether a site that hangs in the slot m, that of s, stands at the place of s. What hangs last is found first.
+// Whether one that hangs in the slot m, that of s, stands at the place of s: from the last one back.
 fn hangs(heads: &[u16], links: &[u16], sites: &[f64], a: usize, s: usize, m: usize) -> bool
-    requires { ⌜ Held (now sites) a s m (now heads) (now links) ⌝ }
+    requires { ⌜ InSlot (now sites) a s m (now heads) (now links) ⌝ }
     ensures { λ r. ⌜ r ≡ twinIn (now (sites .entry)) a s ⌝ }
 {
     let place = point_at(sites, s);

@@ -35,12 +35,6 @@ returns c =
     let test = at-visit .before .before .before in
     block-found _ (test .before .loop .inv) (test .loop-test .taken) (at-visit .visit .ensures) (c .if1 .taken)
 
-add-s : tie.Need-add-s Inv-loop μ-loop
-add-s c = omega arith
-
-loop-less : tie.Need-loop-less Inv-loop μ-loop
-loop-less c = omega arith
-
 loop-again : tie.Need-loop-again Inv-loop μ-loop
 loop-again c =
     let at-visit = c .before .before .before in
@@ -53,15 +47,5 @@ returns-2 c = passed-end (c .before .loop .inv .none) (c .loop-test .left)
 pub first-in-block-spec : {M : Type 1} → statement M
 first-in-block-spec =
     tie.close
-    (tie.spec
-    Inv-loop
-    μ-loop
-    loop-holds
-    slice-aggregate-visit
-    slice-aggregate-visit-2
-    visit-requires
-    returns
-    add-s
-    loop-less
-    loop-again
-    returns-2)
+    (tie.spec Inv-loop μ-loop loop-holds slice-aggregate-visit slice-aggregate-visit-2 visit-requires returns (λ c. omega arith)
+    (λ c. omega arith) loop-again returns-2)

@@ -3,16 +3,13 @@ use Prim.{tt}
 use denote.Ref.{now}
 use native.Mathlib.Omega.{arith}
 use Rattle.lowest.specs.laws.Loops.{named-twice}
-use Rattle.audit_places.specs.laws.Slots.{Passed, held-slot, held-all, held-within, held-before, held-less, held-one, held-found, held-none}
+use Rattle.audit_places.specs.laws.Passing.{PassedTo, held-slot, held-all, held-within, held-before, held-less, held-one, held-found, held-none}
 use Rattle.audit_places.specs.laws.Twins.{twin-is}
-use borrow.Author.Needs.{needs}
 use Rattle.audit_places.proofs.hangs.Statement.{statement}
 use Rattle.audit_places.proofs.hangs.Tie as tie
-use Rattle.audit_places.proofs.hangs.Reads as reads
-use Rattle.audit_places.proofs.hangs.Lts as lts
 
 abbrev Inv-loop : tie.InvT-loop
-Inv-loop heads links sites a s m place x₀ x = Passed sites a s x
+Inv-loop heads links sites a s m place x₀ x = PassedTo sites a s x
 
 abbrev μ-loop : tie.MeasureT-loop
 μ-loop heads links sites a s m place x₀ x = x
@@ -26,14 +23,8 @@ mul-wide c = record { fits = omega (arith, held-slot (c .before .before .before 
 shared-slice-read-wide : tie.Need-shared-slice-read-wide Inv-loop μ-loop
 shared-slice-read-wide c = let h = c .before .before .before .before .before .pre in omega (arith, held-slot h, h .in-block .hung .wide)
 
-wide-requires : tie.Need-wide-requires Inv-loop μ-loop
-wide-requires c κs = tt
-
 loop-holds : tie.Need-loop-holds Inv-loop μ-loop
 loop-holds c = held-all (c .before .before .before .before .before .before .pre) (c .wide .ensures)
-
-sub-k : tie.Need-sub-k Inv-loop μ-loop
-sub-k c = omega arith
 
 add-point-at : tie.Need-add-point-at Inv-loop μ-loop
 add-point-at c =
@@ -46,9 +37,6 @@ point-at-requires-2 c κs =
     let l = c .before in
     let h = l .before .before .before .before .before .before .before .pre in
     named-twice _ _ (omega (arith, held-before h (l .loop .inv) (c .loop-test .taken), h .in-block .site))
-
-same-place-requires : tie.Need-same-place-requires Inv-loop μ-loop
-same-place-requires c κs = tt
 
 returns : tie.Need-returns Inv-loop μ-loop
 returns c =
@@ -73,9 +61,6 @@ shared-slice-read-wide-2 c =
     let h = l .before .before .before .before .before .before .before .pre in
     omega (arith, held-within h (l .loop .inv) (in-loop .loop-test .taken), h .in-block .hung .long)
 
-wide-requires-2 : tie.Need-wide-requires-2 Inv-loop μ-loop
-wide-requires-2 c κs = tt
-
 loop-less : tie.Need-loop-less Inv-loop μ-loop
 loop-less c =
     let in-loop = c .before .before .before .before .before in
@@ -99,22 +84,5 @@ returns-2 c = let l = c .before in held-none (l .before .before .before .before 
 pub hangs-spec : {M : Type 1} → statement M
 hangs-spec =
     tie.close
-    (tie.spec
-    Inv-loop
-    μ-loop
-    point-at-requires
-    mul-wide
-    shared-slice-read-wide
-    wide-requires
-    loop-holds
-    sub-k
-    add-point-at
-    point-at-requires-2
-    same-place-requires
-    returns
-    mul-wide-2
-    shared-slice-read-wide-2
-    wide-requires-2
-    loop-less
-    loop-again
-    returns-2)
+    (tie.spec Inv-loop μ-loop point-at-requires mul-wide shared-slice-read-wide (λ c κs. tt) loop-holds (λ c. omega arith) add-point-at
+    point-at-requires-2 (λ c κs. tt) returns mul-wide-2 shared-slice-read-wide-2 (λ c κs. tt) loop-less loop-again returns-2)

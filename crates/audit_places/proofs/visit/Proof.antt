@@ -1,7 +1,7 @@
 -- `audit_places::visit` meets its contract: s is held against those of its slot, and hangs while it is of the block.
-use denote.Ref.{now}
 use Rattle.lowest.specs.laws.Loops.{named-twice}
-use Rattle.audit_places.specs.laws.Slots.{slot-at, slot-below, hung-here, hung-full, visited-yes, visited-no}
+use Rattle.audit_places.specs.laws.Hanging.{hangs-here, hung-here, hung-full}
+use Rattle.audit_places.specs.laws.Passing.{held-at, visited-yes, visited-no}
 use borrow.Author.Needs.{needs}
 use Rattle.audit_places.proofs.visit.Statement.{statement}
 use Rattle.audit_places.proofs.visit.Tie as tie
@@ -11,26 +11,20 @@ point-at-requires c κs = named-twice _ _ (c .before .before .before .pre .site)
 
 hangs-requires : tie.Need-hangs-requires
 hangs-requires c κs =
-    let at-place = c .before .before .before in
-    let s = at-place .before .before .before .before in
-    record { in-block = s .pre; slot = slot-at (now (s .args .sites)) (s .args .s) (at-place .point-at .ensures) (c .before .before .slot .ensures) }
+    let at-slot = c .before .before in
+    let at-place = at-slot .before in
+    held-at (at-place .before .before .before .before .pre) (at-place .point-at .ensures) (at-slot .slot .ensures)
 
 returns : tie.Need-returns
-returns c = visited-yes (c .before .before .before .before .before .before .before .before .before .pre) (c .before .hangs .ensures) (c .if1 .taken)
+returns c = visited-yes (c .before .hangs .ensures) (c .if1 .taken)
 
 hang-requires : tie.Need-hang-requires
 hang-requires c κs =
     let room = c .before .before in
     let at-slot = room .before .before .before .before .before in
     let at-place = at-slot .before in
-    let s = at-place .before .before .before .before in
-    let hung = s .pre .hung in
-    record {
-      wide = hung .wide;
-      long = hung .long;
-      slot = slot-below (now (s .args .sites)) (s .args .s) (at-place .point-at .ensures) (at-slot .slot .ensures);
-      room = room .if2 .taken;
-    }
+    let h = held-at (at-place .before .before .before .before .pre) (at-place .point-at .ensures) (at-slot .slot .ensures) in
+    hangs-here h (room .if2 .taken)
 
 returns-2 : tie.Need-returns-2
 returns-2 c =
@@ -39,15 +33,14 @@ returns-2 c =
     let test = room .before in
     let at-slot = test .before .before .before .before in
     let at-place = at-slot .before in
-    let s = at-place .before .before .before .before in
-    visited-no (s .pre) (test .before .hangs .ensures) (test .if1 .left)
-    (hung-here (s .pre) (slot-at (now (s .args .sites)) (s .args .s) (at-place .point-at .ensures) (at-slot .slot .ensures)) (room .if2 .taken) (at-hang .hang .ensures))
+    let h = held-at (at-place .before .before .before .before .pre) (at-place .point-at .ensures) (at-slot .slot .ensures) in
+    visited-no (test .before .hangs .ensures) (test .if1 .left) (hung-here h (room .if2 .taken) (at-hang .hang .ensures))
 
 returns-3 : tie.Need-returns-3
 returns-3 c =
     let test = c .before in
     let s = test .before .before .before .before .before .before .before .before .before in
-    visited-no (s .pre) (test .before .hangs .ensures) (test .if1 .left) (hung-full (s .pre) (c .if2 .left))
+    visited-no (test .before .hangs .ensures) (test .if1 .left) (hung-full (s .pre) (c .if2 .left))
 
 pub visit-spec : {M : Type 1} → statement M
 visit-spec =
