@@ -26,8 +26,8 @@
  *   all_neighbours           3T + H; with cells N, and twice the product of the lengths of two cells for each site on the hull
  *   ends                     the triangles at the sites that the paths pass, at most 3T for each point; few where each point is near the last
  *   areas                    the offsets and the entries, some tenth of a microsecond to one for each entry; no mesh, so no check
- *   audit                    the offsets, some microseconds for each entry, the entries times the sites that each piece is held against, and N times N
- *                            for sites at one place; no mesh, so no check
+ *   audit                    the offsets, some microseconds for each entry, the entries times the sites that each piece is held against, and for sites
+ *                            at one place usually N times N / 1,024 look-ups, at worst N times N / 2; no mesh, so no check
  *   mend                     N + T, the check of what was mended included; a site of any degree
  *   read_form, reader_feed   the bytes; no mesh is checked. reader_begin the words of the state, reader_end a fixed number
  *   grid_check               N + T, the check of the mesh included

@@ -16,7 +16,7 @@ loop-holds : tie.Need-loop-holds Inv-loop μ-loop
 loop-holds c = best-start _ _
 
 first-in-block-requires : tie.Need-first-in-block-requires Inv-loop μ-loop
-first-in-block-requires c κs = (c .loop-test .taken, c .before .loop .inv .most)
+first-in-block-requires c κs = let most = c .before .loop .inv .most in (omega (arith, c .loop-test .taken), omega arith)
 
 add-a : tie.Need-add-a Inv-loop μ-loop
 add-a c = record { fits = omega (arith, c .before .loop-test .taken, c .before .before .loop .inv .most) }

@@ -1,4 +1,5 @@
 -- `audit_places::visit` meets its contract: s is held against those of its slot, and hangs while it is of the block.
+use native.Mathlib.Omega.{arith}
 use Rattle.lowest.specs.laws.Loops.{named-twice}
 use Rattle.audit_places.specs.laws.Hanging.{hangs-here, hung-here, hung-full}
 use Rattle.audit_places.specs.laws.Passing.{held-at, visited-yes, visited-no}
@@ -24,7 +25,7 @@ hang-requires c κs =
     let at-slot = room .before .before .before .before .before in
     let at-place = at-slot .before in
     let h = held-at (at-place .before .before .before .before .pre) (at-place .point-at .ensures) (at-slot .slot .ensures) in
-    hangs-here h (room .if2 .taken)
+    hangs-here h (omega (arith, room .if2 .taken))
 
 returns-2 : tie.Need-returns-2
 returns-2 c =
@@ -34,13 +35,13 @@ returns-2 c =
     let at-slot = test .before .before .before .before in
     let at-place = at-slot .before in
     let h = held-at (at-place .before .before .before .before .pre) (at-place .point-at .ensures) (at-slot .slot .ensures) in
-    visited-no (test .before .hangs .ensures) (test .if1 .left) (hung-here h (room .if2 .taken) (at-hang .hang .ensures))
+    visited-no (test .before .hangs .ensures) (test .if1 .left) (hung-here h (omega (arith, room .if2 .taken)) (at-hang .hang .ensures))
 
 returns-3 : tie.Need-returns-3
 returns-3 c =
     let test = c .before in
     let s = test .before .before .before .before .before .before .before .before .before in
-    visited-no (test .before .hangs .ensures) (test .if1 .left) (hung-full (s .pre) (c .if2 .left))
+    visited-no (test .before .hangs .ensures) (test .if1 .left) (hung-full (s .pre) (omega (arith, c .if2 .left)))
 
 pub visit-spec : {M : Type 1} → statement M
 visit-spec =
