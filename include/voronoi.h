@@ -9,7 +9,8 @@
  *
  * Threads: a call reads and writes what it is lent and nothing else; it keeps no state, allocates nothing, and sets no flag or errno.
  * Calls may run at the same time wherever none is lent to be written what another is lent at all.
- * Stack: 2.3 kB at most as measured, on four sites as on 3,000: nothing recurses with the mesh.
+ * Stack: 9.0 kB for an audit, 3.4 kB at most for any other call, by the frames along the deepest chain of calls (x86-64); the audit's as measured
+ * too, on four sites as on 65,536. Nothing recurses with the mesh.
  *
  * Cost, for N sites, T triangles and H hull sites: every call on a mesh checks the whole mesh first, N + T steps (some 5 ms at 65,536
  * sites), so ask for many things at once rather than often. On top of that, at worst:

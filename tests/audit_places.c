@@ -83,7 +83,7 @@ static void borders(void)
         spread(last + 1), move(last, last - 1), is("the last two", last, last - 1);
         spread(last + 1), move(1, 0), move(last, 0), is("the first two and the last", 1, 0);
     }
-    for (uint32_t b = BLOCK; b < MOST; b += BLOCK) {
+    for (uint32_t b = BLOCK; b < MOST; b *= 2) {
         spread(MOST), move(b, b - 1), is("the last of a block and the first of the next", b, b - 1);
         spread(MOST), move(b, b - BLOCK), is("the first of two blocks", b, b - BLOCK);
         spread(MOST), move(b - 1, 0), is("the first of all and the last of a block", b - 1, 0);
