@@ -1,7 +1,8 @@
 #!/bin/sh
-# The audit through the C interface (tests/audit.c, audit_truth.c): rows and refusals; the examples, turned, with two rows of sites exchanged and
-# with one edge flipped; the lost corner of docs/DIFFERENCES.md; the time of a grid; BUILDS builds of five families against half-planes in
-# 113-bit floats, no sound one named and no wrong one passed: tests/audit.sh [BUILDS [SEED]].
+# The audit through the C interface (tests/audit.c, audit_places.c, audit_truth.c): rows and refusals; the examples, turned, with two rows of sites
+# exchanged and with one edge flipped; the lost corner of docs/DIFFERENCES.md; the time of a grid; sites at one place across the blocks of that
+# search, random sets against all pairs, and its time beside theirs; BUILDS builds of five families against half-planes in 113-bit floats, no
+# sound one named and no wrong one passed: tests/audit.sh [BUILDS [SEED]].
 . "$(dirname "$0")/head.sh"
 program=target/tests/audit
 sh tests/archive.sh build "$program" tests/audit.c
@@ -28,6 +29,10 @@ show "$(printf 'flip: 0\n%s' "$(both '0, kind 1, site 0, vertex -1, other -1, mi
 show "$(both '0, kind 4, site -1, vertex -1, other -1, missing 0.3125')" harness/meshes/lost_corners.txt
 echo "audit: the examples are sound; turned, exchanged, flipped and with a lost corner they are told"
 run times 2000
+program=target/tests/audit_places
+sh tests/archive.sh build "$program" tests/audit_places.c
+run rows
+run beside 10000
 program=target/tests/audit_truth
 sh tests/archive.sh build "$program" tests/audit_truth.c
 run "${1:-500}" ${2+"$2"}

@@ -1,35 +1,34 @@
--- `audit_places::first_site_twin` meets its contract: no site that was passed has one before it.
+-- `audit_places::first_site_twin` meets its contract: after each block no site below the best has a twin up to its end.
 use Prim.Native.Nat.{_-_, _/_}
 use native.Mathlib.Omega.{arith}
 use lib.ListN.{length}
-use Rattle.lowest.specs.laws.Loops.{NoneTo, passed-start, passed-step, passed-found, passed-end}
-use Rattle.audit_places.specs.Places.{hasTwin}
+use Rattle.audit_places.specs.laws.Blocks.{BestTo, best-start, best-step, best-end}
 use Rattle.audit_places.proofs.first_site_twin.Statement.{statement}
 use Rattle.audit_places.proofs.first_site_twin.Tie as tie
 
 abbrev Inv-loop : tie.InvT-loop
-Inv-loop sites count s₀ s = NoneTo (hasTwin sites) (length sites / 2) s
+Inv-loop sites best₀ a₀ best a = BestTo sites (length sites / 2) a best
 
 abbrev μ-loop : tie.MeasureT-loop
-μ-loop sites count s₀ s = count - s
+μ-loop sites best₀ a₀ best a = length sites / 2 - a
 
 loop-holds : tie.Need-loop-holds Inv-loop μ-loop
-loop-holds c = passed-start _ _
+loop-holds c = best-start _ _
 
-has-twin-requires : tie.Need-has-twin-requires Inv-loop μ-loop
-has-twin-requires c κs = c .loop-test .taken
+first-in-block-requires : tie.Need-first-in-block-requires Inv-loop μ-loop
+first-in-block-requires c κs = let most = c .before .loop .inv .most in (omega (arith, c .loop-test .taken), omega arith)
 
-returns : tie.Need-returns Inv-loop μ-loop
-returns c = let l = c .before .before .before in passed-found (l .loop .inv) (c .before .before .loop-test .taken) (c .before .has-twin .ensures) (c .if1 .taken)
+add-a : tie.Need-add-a Inv-loop μ-loop
+add-a c = record { fits = omega (arith, c .before .loop-test .taken, c .before .before .loop .inv .most) }
+
+loop-less : tie.Need-loop-less Inv-loop μ-loop
+loop-less c = omega (arith, c .before .loop-test .taken, c .before .before .loop .inv .most)
 
 loop-again : tie.Need-loop-again Inv-loop μ-loop
-loop-again c = let l = c .before .before .before in passed-step (l .loop .inv) (c .before .before .loop-test .taken) (c .before .has-twin .ensures) (c .if1 .left)
+loop-again c = best-step _ (c .before .before .loop .inv) (c .first-in-block .ensures)
 
-returns-2 : tie.Need-returns-2 Inv-loop μ-loop
-returns-2 c = passed-end (c .before .loop .inv) (c .loop-test .left)
+returns : tie.Need-returns Inv-loop μ-loop
+returns c = best-end _ (c .before .loop .inv) (c .loop-test .left)
 
 pub first-site-twin-spec : {M : Type 1} → statement M
-first-site-twin-spec =
-    tie.close
-    (tie.spec Inv-loop μ-loop loop-holds has-twin-requires returns (λ c. omega arith) (λ c. omega arith) loop-again
-    returns-2)
+first-site-twin-spec = tie.close (tie.spec Inv-loop μ-loop loop-holds first-in-block-requires add-a loop-less loop-again returns)

@@ -1,19 +1,13 @@
--- The tests as the code makes them.
+-- The test as the code makes it.
 use mathlib.Core.Path.{_≡_, ap, _∙_}
 use mathlib.Core.Bool.{Bool}
 use mathlib.Core.List.{List}
 use Prim.Native.Nat.{ℕ}
-use lib.Dec.{ltb}
 use lib.Ieee.{Float}
-use Rattle.lowest.specs.Lowest.{lowest}
 use Rattle.utils.specs.Flat.{pointAt}
 use Rattle.utils.specs.declared.Point.{Point}
-use Rattle.audit_places.specs.Places.{sameOf, twinAt, hasTwin}
+use Rattle.audit_places.specs.Places.{sameOf, twinAt}
 
 pub twin-is : (sites : List Float) (s j : ℕ) {t : Bool} {p q : Point} → p ≡ pointAt sites s → q ≡ pointAt sites j → t ≡ sameOf p q → t ≡ twinAt sites s j
 unfolding twinAt
 twin-is sites s j {q = q} x y e = e ∙ ap (λ (r : Point). sameOf r q) x ∙ ap (sameOf (pointAt sites s)) y
-
-pub has-is : (sites : List Float) (s : ℕ) {j : ℕ} → j ≡ lowest (twinAt sites s) s → ltb j s ≡ hasTwin sites s
-unfolding hasTwin
-has-is sites s e = ap (λ (j : ℕ). ltb j s) e

@@ -1,0 +1,12 @@
+-- `audit_places::slot` meets its contract.
+use borrow.Author.Needs.{needs}
+use Rattle.audit_places.specs.Slots.{slotOf}
+use Rattle.audit_places.proofs.slot.Statement.{statement}
+use Rattle.audit_places.proofs.slot.Tie as tie
+
+returns : tie.Need-returns
+unfolding slotOf
+returns c = cc (c .before .before .pattern .ensures, c .pattern2 .ensures)
+
+pub slot-spec : {M : Type 1} → statement M
+slot-spec = tie.close (tie.spec (λ c κs. search needs) (λ c κs. search needs) (λ c. search needs) returns)
