@@ -3,7 +3,7 @@ use denote.Ref.{now}
 use native.Mathlib.Omega.{arith}
 use borrow.Author.Needs.{needs}
 use Rattle.ring_area.specs.laws.Rings.{no-corners}
-use Rattle.ring_area.specs.laws.Spans.{span-placed, span-within}
+use Rattle.ring_area.specs.laws.Spans.{ring-placed}
 use Rattle.ring_area.proofs.ring_area.Statement.{statement}
 use Rattle.ring_area.proofs.ring_area.Tie as tie
 
@@ -18,7 +18,7 @@ short-area-requires c κs =
     let p = test .before .before .before .pre in
     let l = at-lower .lower .ensures in
     let r = at-reach .reach .ensures in
-    (p, span-placed _ (l .0) (l .1) p r, omega (arith, test .if1 .left), c .if2 .taken, span-within _ (l .0) (l .1) (r .few))
+    (p, ring-placed (omega (arith, l .0)) (omega (arith, l .1)) p r, omega (arith, test .if1 .left), omega (arith, c .if2 .taken), omega (arith, l .1, r .few))
 
 long-area-requires : tie.Need-long-area-requires
 long-area-requires c κs =
@@ -28,7 +28,7 @@ long-area-requires c κs =
     let p = test .before .before .before .pre in
     let l = at-lower .lower .ensures in
     let r = at-reach .reach .ensures in
-    (p, span-placed _ (l .0) (l .1) p r, omega (arith, test .if1 .left), span-within _ (l .0) (l .1) (r .few))
+    (p, ring-placed (omega (arith, l .0)) (omega (arith, l .1)) p r, omega (arith, test .if1 .left), omega (arith, l .1, r .few))
 
 pub ring-area-spec : {M : Type 1} → statement M
 ring-area-spec =

@@ -79,14 +79,6 @@ module _ {least most f n : ℕ} (F : 16 * f ≤ least) (N : f + n ≡ most / 16 
     each = λ k h. record { bounded = c .bounded k h; x = pattern-in (r .each k h .x); y = pattern-in (r .each k h .y) };
   }
 
--- as the code has them: l is the lower of the two
-module _ {least most : ℕ} (l : ℕ) (L : l ≤ least) (M : l ≤ most) where
-  pub span-placed : {v : List Float} {cell : List ℕ} → Corners v cell → RingReached v cell least most → RingPlaced (l / 16) (most / 16 + 6 - l / 16) v cell
-  span-placed c r = ring-placed {f = l / 16} {n = most / 16 + 6 - l / 16} (omega arith) (omega arith) c r
-
-  pub span-within : most ≤ 1422 → l / 16 + (most / 16 + 6 - l / 16) ≤ 94
-  span-within h = omega arith
-
 pub placed-as : {f n k : ℕ} {v : List Float} {cell : List ℕ} → n ≡ k → RingPlaced f k v cell → RingPlaced f n v cell
 placed-as {f} {v = v} {cell = cell} e p = subst (λ (j : ℕ). RingPlaced f j v cell) (sym e) p
 
