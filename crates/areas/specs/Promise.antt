@@ -15,15 +15,12 @@ use Rattle.utils.specs.Flat.{pointAt}
 use Rattle.utils.specs.Rules.{okCenter}
 use Rattle.shared.specs.Cells.{cellOf}
 use Rattle.admission.specs.Asks.{cellRules}
+use Rattle.entries.specs.Named.{EntriesNamed}
 use Rattle.ring_area.specs.Area.{ringArea}
 
 -- the entries of all cells: those up to the last offset
 abbrev pub entriesOfAll : List ℕ → List ℕ → List ℕ
 entriesOfAll off ix = take (getD off (length off - 1) 0) ix
-
--- each entry names one of n vertices
-pub record EntriesNamed (entries : List ℕ) (n : ℕ) : Type 0 where
-  pub each : (k : ℕ) → k < length entries → getD entries k 0 < n
 
 -- each vertex named is finite and within 2 ^ 400, as rule 11 has it
 pub record KeepsRule (v : List Float) (entries : List ℕ) : Type 0 where

@@ -5,7 +5,8 @@ use Prim.Native.Nat.{ℕ, _/_, _^_, _≤_}
 use lib.Ieee.{Float}
 use lib.ListN.{length}
 use Rattle.shared.specs.Cells.{Cells}
-use Rattle.areas.specs.Promise.{entriesOfAll, EntriesNamed, KeepsRule, areaAt, listed}
+use Rattle.entries.specs.Named.{EntriesNamed}
+use Rattle.areas.specs.Promise.{entriesOfAll, KeepsRule, areaAt, listed}
 
 -- what the rules before 2 ask
 pub record RingsKept (v : List Float) (off ix : List ℕ) : Type 0 where

@@ -6,22 +6,9 @@ ghost use mathlib.Core.Path.{_≡_};
 ghost use Prim.Native.Nat.{_/_};
 ghost use lib.ListN.{length};
 ghost use Rattle.laws.specs.Decide.{Says};
-ghost use Rattle.areas.specs.Promise.{areaAt, EntriesNamed, KeepsRule, EntriesNumber, AreasNumber, AreasAnswer};
+ghost use Rattle.entries.specs.Named.{EntriesNamed};
+ghost use Rattle.areas.specs.Promise.{areaAt, KeepsRule, EntriesNumber, AreasNumber, AreasAnswer};
 ghost use Rattle.areas.specs.Steps.{RingsKept, WrittenAreas};
-
-// Whether each entry names one of so many vertices.
-pub fn names(entries: &[u32], count: usize) -> bool
-    ensures { λ r. ⌜ Says r (EntriesNamed (now (entries .entry)) count) ⌝ }
-{
-    let mut i = 0;
-    while i < entries.len() {
-        if numbers::wide(entries[i]) >= count {
-            return false;
-        }
-        i += 1;
-    }
-    true
-}
 
 // Whether each vertex that is named is within 2^400.
 pub fn within(vertices: &[f64], entries: &[u32]) -> bool
@@ -42,7 +29,7 @@ pub fn within(vertices: &[f64], entries: &[u32]) -> bool
 fn ask_entries(vertices: &[f64], entries: &[u32]) -> u32
     ensures { λ r. ⌜ EntriesNumber (now (vertices .entry)) (now (entries .entry)) r ⌝ }
 {
-    if !names(entries, vertices.len() / 2) {
+    if !entries::named(entries, vertices.len() / 2) {
         return numbers::REFUSED_ENTRY;
     }
     if !within(vertices, entries) {

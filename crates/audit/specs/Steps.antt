@@ -7,7 +7,8 @@ use lib.Ieee.{Float}
 use lib.ListN.{length}
 use Rattle.bounding_box.specs.declared.BoundingBox.{BoundingBox}
 use Rattle.shared.specs.Cells.{Cells}
-use Rattle.areas.specs.Promise.{entriesOfAll, EntriesNamed}
+use Rattle.entries.specs.Named.{EntriesNamed}
+use Rattle.areas.specs.Promise.{entriesOfAll}
 use Rattle.audit_corners.specs.Outside.{siteOutside}
 use Rattle.audit_nearer.specs.Nearer.{siteNearer}
 use Rattle.audit_nearer.specs.Steps.{HeldKept, PiecesKept}

@@ -9,7 +9,8 @@ ghost use Rattle.bounding_box.specs.Box.{insideOf};
 ghost use Rattle.utils.specs.Flat.{pointAt};
 ghost use Rattle.lowest.specs.Lowest.{lowest};
 ghost use Rattle.shared.specs.Cells.{Cells};
-ghost use Rattle.areas.specs.Promise.{entriesOfAll, EntriesNamed};
+ghost use Rattle.entries.specs.Named.{EntriesNamed};
+ghost use Rattle.areas.specs.Promise.{entriesOfAll};
 ghost use Rattle.audit_corners.specs.Outside.{outsideAt, cellOutside, siteOutside};
 
 // Whether the vertex of an entry is outside.

@@ -7,7 +7,8 @@ use Prim.Native.Nat.{ℕ, _/_, _<_}
 use lib.Ieee.{Float}
 use lib.ListN.{length}
 use Rattle.admission.specs.Asks.{CellsOf}
-use Rattle.areas.specs.Promise.{entriesOfAll, EntriesNamed}
+use Rattle.entries.specs.Named.{EntriesNamed}
+use Rattle.areas.specs.Promise.{entriesOfAll}
 use Rattle.audit_nearer.specs.Nearer.{noLists}
 
 -- s and what it is held against are sites

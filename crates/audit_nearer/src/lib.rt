@@ -10,7 +10,7 @@ ghost use Prim.Native.Nat.{_+_, _*_, _/_, _≤_, _<_};
 ghost use lib.ListN.{length};
 ghost use Rattle.lowest.specs.Lowest.{lowest};
 ghost use Rattle.shared.specs.Cells.{Cells, cellOf};
-ghost use Rattle.areas.specs.Promise.{EntriesNamed};
+ghost use Rattle.entries.specs.Named.{EntriesNamed};
 ghost use Rattle.audit_nearer.specs.Nearer.{toleranceOf, farOf, beyond, noLists, otherAt, heldCount, beyondAt, nearerAt, cornerNearer, cellNearer, siteNearer};
 ghost use Rattle.audit_nearer.specs.Steps.{HeldNames, HeldKept, PiecesKept};
 

@@ -87,10 +87,10 @@ fn held<'a>(starts: &[u32], others: &'a [u32]) -> &'a [u32]
 fn ask_entries(vertices: &[f64], entries: &[u32], others: &[u32], count: usize) -> u32
     ensures { λ r. ⌜ AuditEntries (now (vertices .entry)) (now (entries .entry)) (now (others .entry)) count r ⌝ }
 {
-    if !areas::names(entries, vertices.len() / 2) {
+    if !entries::named(entries, vertices.len() / 2) {
         return numbers::REFUSED_ENTRY;
     }
-    if !areas::names(others, count) {
+    if !entries::named(others, count) {
         return numbers::REFUSED_ENTRY;
     }
     if !areas::within(vertices, entries) {

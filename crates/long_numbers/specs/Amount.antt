@@ -15,6 +15,11 @@ abbrev pub weight : ℕ → ℕ
 weight zero = 1
 weight (suc k) = base * weight k
 
+-- l from limb k on: k limbs of 0, then its own
+unfoldable pub lifted : ℕ → List ℕ → List ℕ
+lifted zero l = l
+lifted (suc k) l = 0 ∷ lifted k l
+
 -- every limb is a limb
 pub record WholeLimbs (l : List ℕ) : Type 0 where
   pub each : (k : ℕ) → getD l k 0 < base

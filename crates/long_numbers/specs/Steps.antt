@@ -9,11 +9,12 @@ use Rattle.long_numbers.specs.Amount.{base, amount, weight, WholeLimbs}
 pub record PutRoom (l : List ℕ) (n : ℕ) : Type 0 where
   pub each : (k : ℕ) → getD l k 0 + n * base ≤ 2 ^ 63
 
--- n more in all, in as many limbs, by so many puts
+-- n more in all, in as many limbs, by so many puts; none reaches the highest limb, so that fewer than 2 ^ 32 of them fit
 pub record PutIn (before after : List ℕ) (n puts : ℕ) : Type 0 where
   pub total : amount after ≡ amount before + n
   pub long : length after ≡ length before
   pub grown : (k : ℕ) → getD after k 0 ≤ getD before k 0 + puts * base
+  pub most : base * n ≤ puts * weight (length before)
 
 -- the carries settled, out of the last limb c
 pub record Carried (before after : List ℕ) (c : ℕ) : Type 0 where

@@ -16,9 +16,9 @@ pub fn power(b: usize) -> u64
     1u64 << b
 }
 
-// n * power is added at limb k: its lower 32 bits there, the rest at the next.
+// n * power is added at limb k: its lower 32 bits there, the rest at the next. The highest limb is left to the carries.
 fn put(limbs: &mut [u64], k: usize, n: u64, power: u64)
-    requires { ⌜ (k + 1 < length (now limbs)) × (n < base) × (power < base) × PutRoom (now limbs) 1 ⌝ }
+    requires { ⌜ (k + 2 < length (now limbs)) × (n < base) × (power < base) × PutRoom (now limbs) 1 ⌝ }
     ensures { λ _. ⌜ PutIn (now (limbs .entry)) (now (limbs .exit)) (n * power * weight k) 1 ⌝ }
 {
     let x = n * power;
@@ -30,7 +30,7 @@ fn put(limbs: &mut [u64], k: usize, n: u64, power: u64)
 
 // The same of an n of 64 bits, by its two halves.
 fn put_halves(limbs: &mut [u64], k: usize, n: u64, power: u64)
-    requires { ⌜ (k + 2 < length (now limbs)) × (power < base) × PutRoom (now limbs) 2 ⌝ }
+    requires { ⌜ (k + 3 < length (now limbs)) × (power < base) × PutRoom (now limbs) 2 ⌝ }
     ensures { λ _. ⌜ PutIn (now (limbs .entry)) (now (limbs .exit)) (n * power * weight k) 2 ⌝ }
 {
     put(limbs, k, n % BASE, power);
@@ -39,7 +39,7 @@ fn put_halves(limbs: &mut [u64], k: usize, n: u64, power: u64)
 
 // Of the product of x, of 32 bits, and y.
 fn put_row(limbs: &mut [u64], k: usize, x: u64, y: u64, power: u64)
-    requires { ⌜ (k + 3 < length (now limbs)) × (x < base) × (power < base) × PutRoom (now limbs) 4 ⌝ }
+    requires { ⌜ (k + 4 < length (now limbs)) × (x < base) × (power < base) × PutRoom (now limbs) 4 ⌝ }
     ensures { λ _. ⌜ PutIn (now (limbs .entry)) (now (limbs .exit)) (x * y * power * weight k) 4 ⌝ }
 {
     put_halves(limbs, k, x * (y % BASE), power);
@@ -48,7 +48,7 @@ fn put_row(limbs: &mut [u64], k: usize, x: u64, y: u64, power: u64)
 
 // Of the product of x and y: four products of halves, none of which passes 64 bits.
 pub fn put_product(limbs: &mut [u64], k: usize, x: u64, y: u64, power: u64)
-    requires { ⌜ (k + 4 < length (now limbs)) × (power < base) × PutRoom (now limbs) 8 ⌝ }
+    requires { ⌜ (k + 5 < length (now limbs)) × (power < base) × PutRoom (now limbs) 8 ⌝ }
     ensures { λ _. ⌜ PutIn (now (limbs .entry)) (now (limbs .exit)) (x * y * power * weight k) 8 ⌝ }
 {
     put_row(limbs, k, x % BASE, y, power);

@@ -5,7 +5,8 @@ use lib.ListN.{length}
 use Rattle.hex.specs.Hex.{hex}
 use Rattle.listing.specs.Text.{ascii, decimal}
 use Rattle.listing.specs.Listing.{listedCell, Layout}
-use Rattle.wkb.specs.Promise.{NamesVertices, image}
+use Rattle.entries.specs.Named.{EntriesNamed}
+use Rattle.wkb.specs.Promise.{image}
 
 unfoldable pub mapLine : ℕ → List ℕ → List ℕ
 mapLine i bytes = decimal i ++ ascii "," ++ hex bytes ++ ascii "\n"
@@ -24,5 +25,5 @@ mapText v off ix n = heading ++ mapLines v off ix 0 n
 -- n cells that can be drawn over so many vertices: offsets that a listing can go by, entries that name vertices, at most 3,076 to a cell
 pub record Drawn (off ix : List ℕ) (n count : ℕ) : Type 0 where
   pub layout : Layout off ix n
-  pub named : (i : ℕ) → i < n → NamesVertices (listedCell off ix i) count
+  pub named : (i : ℕ) → i < n → EntriesNamed (listedCell off ix i) count
   pub short : (i : ℕ) → i < n → length (listedCell off ix i) ≤ 3076

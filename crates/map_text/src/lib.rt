@@ -7,7 +7,8 @@ ghost use Prim.Native.Nat.{_/_, _≤_};
 ghost use lib.ListN.{length};
 ghost use Rattle.octets.specs.Wrote.{Wrote, HasRoom};
 ghost use Rattle.wkb.specs.Polygon.{patterns};
-ghost use Rattle.wkb.specs.Promise.{NamesVertices, image};
+ghost use Rattle.entries.specs.Named.{EntriesNamed};
+ghost use Rattle.wkb.specs.Promise.{image};
 ghost use Rattle.map_text.specs.MapText.{mapLine, mapLines, mapText, Drawn};
 
 fn map_line(out: &mut [u8], at: usize, i: u32, bytes: &[u8]) -> usize
@@ -22,7 +23,7 @@ fn map_line(out: &mut [u8], at: usize, i: u32, bytes: &[u8]) -> usize
 
 // The line of a cell.
 fn cell_line(out: &mut [u8], at: usize, i: u32, vertices: &[f64], entries: &[u32]) -> usize
-    requires { ⌜ NamesVertices (now entries) (length (now vertices) / 2) × (length (now entries) ≤ 3076) × HasRoom (now out) at (mapLine i (image (patterns (now vertices)) (now entries))) ⌝ }
+    requires { ⌜ EntriesNamed (now entries) (length (now vertices) / 2) × (length (now entries) ≤ 3076) × HasRoom (now out) at (mapLine i (image (patterns (now vertices)) (now entries))) ⌝ }
     ensures { λ r. ⌜ Wrote (now (out .entry)) (now (out .exit)) at r (mapLine i (image (patterns (now (vertices .entry))) (now (entries .entry)))) ⌝ }
 {
     let mut bytes = [0u8; 49245];

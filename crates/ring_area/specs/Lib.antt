@@ -1,4 +1,5 @@
 pub mod Area
 pub mod Steps
+pub mod Span
 pub mod Examples
 pub mod laws

@@ -1,7 +1,7 @@
 -- What the steps to an area owe each other. Definitions only.
 use mathlib.Core.Path.{_≡_}
 use mathlib.Core.List.{List, [], _∷_, map}
-use Prim.Native.Nat.{ℕ, _+_, _*_, _/_, _%_, _^_, _≤_, _<_}
+use Prim.Native.Nat.{ℕ, _+_, _-_, _*_, _/_, _%_, _^_, _≤_, _<_}
 use lib.Ieee.{Float, binary64, ofBits}
 use lib.ListN.{length, getD}
 use Rattle.long_numbers.specs.Amount.{amount}
@@ -16,9 +16,14 @@ use Rattle.ring_area.specs.Area.{productAbove, productUnder, gain, loss,
 pub record LowPattern (b : ℕ) : Type 0 where
   pub exponent : b % 2 ^ 63 / 2 ^ 52 ≤ 1423
 
+-- the exponent of its significand
+abbrev pub exponentOf : ℕ → ℕ
+exponentOf b = b % 2 ^ 63 / 2 ^ 52 - 1
+
 -- its magnitude is m * 2 ^ p units
 pub record SplitOf (b m p : ℕ) : Type 0 where
   pub value : units (ofBits binary64 b) ≡ m * 2 ^ p
+  pub place : p ≡ exponentOf b
   pub most : p ≤ 1422
 
 -- 94 limbs with room for so many puts

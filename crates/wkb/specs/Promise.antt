@@ -5,18 +5,15 @@ use mathlib.Core.List.{List, [], _∷_, _++_}
 use Prim.Native.Nat.{ℕ, _+_, _-_, _/_, _%_, _^_, _≤_, _<_}
 use lib.Dec.{eqb}
 use lib.Ieee.{Float}
-use lib.ListN.{length, getD}
+use lib.ListN.{length}
 use Rattle.laws.specs.Pick.{pick}
 use Rattle.laws.specs.Refusals.{Rule, once, Finds}
 use Rattle.numbers.specs.Numbers.{refusedCount, refusedEntry, refusedRoom}
 use Rattle.shared.specs.Cells.{cellOf}
 use Rattle.admission.specs.Asks.{siteRules, cellRules}
+use Rattle.entries.specs.Named.{EntriesNamed}
 use Rattle.octets.specs.Wrote.{Wrote}
 use Rattle.wkb.specs.Polygon.{patternsOf, patterns, polygon, size}
-
--- each entry names one of n vertices
-pub record NamesVertices (cell : List ℕ) (n : ℕ) : Type 0 where
-  pub each : (k : ℕ) → k < length cell → getD cell k 0 < n
 
 -- the image of n points fits: a ring of 2^32 points has no count of four bytes, so no output is long enough for it
 pub record ImageFits (n room : ℕ) : Type 0 where
@@ -25,7 +22,7 @@ pub record ImageFits (n room : ℕ) : Type 0 where
 
 -- 18 on the cell's entries, then 2
 abbrev pub entryRules : List ℕ → List ℕ → ℕ → List (Rule ℕ)
-entryRules v cell room = once refusedEntry (NamesVertices cell (length v / 2)) ∷ once refusedRoom (ImageFits (length cell) room) ∷ []
+entryRules v cell room = once refusedEntry (EntriesNamed cell (length v / 2)) ∷ once refusedRoom (ImageFits (length cell) room) ∷ []
 
 -- 1 on the vertices, 4 on the site, 16 on the offsets, then these
 abbrev pub wkbRules : List ℕ → List ℕ → List ℕ → ℕ → ℕ → List (Rule ℕ)

@@ -11,7 +11,8 @@ ghost use Rattle.laws.specs.Decide.{Says};
 ghost use Rattle.octets.specs.Bytes.{each};
 ghost use Rattle.octets.specs.Wrote.{Wrote};
 ghost use Rattle.wkb.specs.Polygon.{patternAt, patternsOf, pointBytes, ringBytes, closed, headBytes, patterns};
-ghost use Rattle.wkb.specs.Promise.{NamesVertices, ImageFits, image, WkbAnswer, FloatAnswer, EntriesAnswer};
+ghost use Rattle.entries.specs.Named.{EntriesNamed};
+ghost use Rattle.wkb.specs.Promise.{ImageFits, image, WkbAnswer, FloatAnswer, EntriesAnswer};
 
 // Number k of the floats' patterns and the bits after them.
 fn coordinate(floats: &[f64], bits: &[u64], k: usize) -> u64
@@ -37,7 +38,7 @@ fn put_point(out: &mut [u8], at: usize, floats: &[f64], bits: &[u64], entry: u32
 
 // The points of the entries, one after the other.
 fn put_points(out: &mut [u8], at: usize, floats: &[f64], bits: &[u64], entries: &[u32]) -> usize
-    requires { ⌜ NamesVertices (now entries) ((length (now floats) + length (now bits)) / 2) × (at + 16 * length (now entries) ≤ length (now out)) ⌝ }
+    requires { ⌜ EntriesNamed (now entries) ((length (now floats) + length (now bits)) / 2) × (at + 16 * length (now entries) ≤ length (now out)) ⌝ }
     ensures { λ r. ⌜ Wrote (now (out .entry)) (now (out .exit)) at r
         (each pointBytes (patternsOf (patterns (now (floats .entry)) ++ now (bits .entry)) (now (entries .entry)))) ⌝ }
 {
@@ -52,7 +53,7 @@ fn put_points(out: &mut [u8], at: usize, floats: &[f64], bits: &[u64], entries: 
 
 // Their count, the points, the first again.
 fn put_ring(out: &mut [u8], at: usize, floats: &[f64], bits: &[u64], entries: &[u32]) -> usize
-    requires { ⌜ NamesVertices (now entries) ((length (now floats) + length (now bits)) / 2) × (3 ≤ length (now entries)) × (length (now entries) + 1 < 2 ^ 32)
+    requires { ⌜ EntriesNamed (now entries) ((length (now floats) + length (now bits)) / 2) × (3 ≤ length (now entries)) × (length (now entries) + 1 < 2 ^ 32)
         × (at + 20 + 16 * length (now entries) ≤ length (now out)) ⌝ }
     ensures { λ r. ⌜ Wrote (now (out .entry)) (now (out .exit)) at r
         (ringBytes (closed (patternsOf (patterns (now (floats .entry)) ++ now (bits .entry)) (now (entries .entry))))) ⌝ }
@@ -74,7 +75,7 @@ fn put_head(out: &mut [u8], rings: u64) -> usize
 }
 
 fn put_polygon(out: &mut [u8], floats: &[f64], bits: &[u64], entries: &[u32]) -> usize
-    requires { ⌜ NamesVertices (now entries) ((length (now floats) + length (now bits)) / 2) × ImageFits (length (now entries)) (length (now out)) ⌝ }
+    requires { ⌜ EntriesNamed (now entries) ((length (now floats) + length (now bits)) / 2) × ImageFits (length (now entries)) (length (now out)) ⌝ }
     ensures { λ r. ⌜ Wrote (now (out .entry)) (now (out .exit)) 0 r (image (patterns (now (floats .entry)) ++ now (bits .entry)) (now (entries .entry))) ⌝ }
 {
     if entries.len() < 3 {
@@ -86,25 +87,11 @@ fn put_polygon(out: &mut [u8], floats: &[f64], bits: &[u64], entries: &[u32]) ->
 
 // The same of vertices as floats.
 pub fn put_cell(out: &mut [u8], vertices: &[f64], entries: &[u32]) -> usize
-    requires { ⌜ NamesVertices (now entries) (length (now vertices) / 2) × ImageFits (length (now entries)) (length (now out)) ⌝ }
+    requires { ⌜ EntriesNamed (now entries) (length (now vertices) / 2) × ImageFits (length (now entries)) (length (now out)) ⌝ }
     ensures { λ r. ⌜ Wrote (now (out .entry)) (now (out .exit)) 0 r (image (patterns (now (vertices .entry))) (now (entries .entry))) ⌝ }
 {
     let none = [0u64; 1];
     put_polygon(out, vertices, &none[..0], entries)
-}
-
-// Whether each entry names one of so many vertices.
-fn entries_ok(entries: &[u32], count: usize) -> bool
-    ensures { λ r. ⌜ Says r (NamesVertices (now (entries .entry)) count) ⌝ }
-{
-    let mut i = 0;
-    while i < entries.len() {
-        if wide(entries[i]) >= count {
-            return false;
-        }
-        i += 1;
-    }
-    true
 }
 
 // Whether an output of this length has room for the polygon of so many entries.
@@ -131,7 +118,7 @@ fn write_entries(
     ensures { λ r. ⌜ EntriesAnswer (patterns (now (floats .entry)) ++ now (bits .entry)) (now (entries .entry)) (now (out .entry)) (now (out .exit)) (now (written .exit)) r ⌝ }
 {
     *written = 0;
-    if !entries_ok(entries, (floats.len() + bits.len()) / 2) {
+    if !entries::named(entries, (floats.len() + bits.len()) / 2) {
         return numbers::REFUSED_ENTRY;
     }
     if !has_room(entries.len(), out.len()) {

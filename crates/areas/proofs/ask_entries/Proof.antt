@@ -6,21 +6,21 @@ use Rattle.areas.proofs.ask_entries.Statement.{statement}
 use Rattle.areas.proofs.ask_entries.Tie as tie
 
 returns : tie.Need-returns
-returns c = not-named _ _ (refused (c .before .names .result) (c .if1 .taken) (c .before .names .ensures))
+returns c = not-named _ _ (refused (c .before .named .result) (c .if1 .taken) (c .before .named .ensures))
 
 within-requires : tie.Need-within-requires
-within-requires c κs = granted (c .before .names .result) (c .if1 .left) (c .before .names .ensures)
+within-requires c κs = granted (c .before .named .result) (c .if1 .left) (c .before .named .ensures)
 
 returns-2 : tie.Need-returns-2
 returns-2 c =
     let test = c .before .before in
-    not-kept _ _ (granted (test .before .names .result) (test .if1 .left) (test .before .names .ensures))
+    not-kept _ _ (granted (test .before .named .result) (test .if1 .left) (test .before .named .ensures))
     (refused (c .before .within .result) (c .if2 .taken) (c .before .within .ensures))
 
 returns-3 : tie.Need-returns-3
 returns-3 c =
     let test = c .before .before in
-    all-kept _ _ (granted (test .before .names .result) (test .if1 .left) (test .before .names .ensures))
+    all-kept _ _ (granted (test .before .named .result) (test .if1 .left) (test .before .named .ensures))
     (granted (c .before .within .result) (c .if2 .left) (c .before .within .ensures))
 
 pub ask-entries-spec : {M : Type 1} → statement M

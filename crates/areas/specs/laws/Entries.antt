@@ -1,43 +1,22 @@
--- The tests on entries, and that the entries of a cell are among those of all cells.
+-- The test of a vertex, and that the entries of a cell are among those of all cells.
 use mathlib.Core.Path.{_≡_, sym, ap, _∙_, subst}
 use mathlib.Core.Bool.{Bool}
 use mathlib.Core.List.{List}
-use mathlib.Core.Logic.{⊎-elim}
 use Prim.Native.Nat.{ℕ, zero, suc, _+_, _-_, _*_, _/_, _≤_, _<_}
 use native.Mathlib.Nat.{le-trans, le-of-eq}
 use native.Mathlib.Omega.{arith}
 use lib.Ieee.{Float}
 use lib.ListN.{length, getD, drop, length-take, length-drop}
 use lib.Seq.{getD-take, getD-drop, length-take-le}
-use Rattle.laws.specs.laws.Decide.{eq-or-ne, lt-or-ge}
 use Rattle.shared.specs.Cells.{Cells, cellOf}
 use Rattle.utils.specs.Finite.{center-bounded}
 use Rattle.utils.specs.Flat.{pointAt}
 use Rattle.utils.specs.Rules.{okCenter}
 use Rattle.utils.specs.declared.Point.{Point}
 use Rattle.ring_area.specs.Steps.{Corners}
-use Rattle.areas.specs.Promise.{entriesOfAll, EntriesNamed}
+use Rattle.entries.specs.Named.{EntriesNamed}
+use Rattle.areas.specs.Promise.{entriesOfAll}
 use Rattle.areas.specs.Steps.{RingsKept}
-
--- ---- the loop over entries: those before i keep what P asks
-pub record EntriesPassed (P : ℕ → Type 0) (l : List ℕ) (i : ℕ) : Type 0 where
-  pub most : i ≤ length l
-  pub each : (k : ℕ) → k < i → P (getD l k 0)
-
-pub passed-start : (P : ℕ → Type 0) (l : List ℕ) → EntriesPassed P l 0
-passed-start P l = record { most = omega arith; each = λ k h. absurd (omega arith) }
-
-pub passed-step : {P : ℕ → Type 0} {l : List ℕ} {i : ℕ} → EntriesPassed P l i → i < length l → P (getD l i 0) → EntriesPassed P l (i + 1)
-passed-step {P} {l} {i} p h q = record {
-  most = omega arith;
-  each = λ k g. ⊎-elim (λ e. subst (λ (j : ℕ). P (getD l j 0)) (sym e) q) (λ n. p .each k (before k g n)) (eq-or-ne k i);
-}
-  where
-    before : (k : ℕ) → k < i + 1 → (k ≡ i → ⊥) → k < i
-    before k g n = ⊎-elim (λ a. a) (λ a. absurd (n (omega arith))) (lt-or-ge k i)
-
-pub passed-all : {P : ℕ → Type 0} {l : List ℕ} {i : ℕ} → EntriesPassed P l i → length l ≤ i → (k : ℕ) → k < length l → P (getD l k 0)
-passed-all p h k g = p .each k (omega arith)
 
 -- what the test of a vertex says: w is the entry as a place
 pub tested : (v : List Float) {b : Bool} {p : Point} {w : ℕ} (e : ℕ) → b ≡ okCenter p → p ≡ pointAt v w → w ≡ e → b ≡ okCenter (pointAt v e)

@@ -21,7 +21,7 @@ use Rattle.utils.specs.declared.Point.{Point}
 use Rattle.bounding_box.specs.Box.{widthOf, heightOf}
 use Rattle.bounding_box.specs.declared.BoundingBox.{BoundingBox}
 use Rattle.shared.specs.Cells.{Cells, cellOf}
-use Rattle.areas.specs.Promise.{EntriesNamed}
+use Rattle.entries.specs.Named.{EntriesNamed}
 use Rattle.areas.specs.laws.Entries.{cell-named}
 use Rattle.audit_nearer.specs.Nearer.{toleranceOf, farOf, beyond, noLists, otherAt, heldCount, beyondAt, nearerAt, cornerNearer, cellNearer, siteNearer}
 use Rattle.audit_nearer.specs.Steps.{HeldNames, HeldKept, PiecesKept}

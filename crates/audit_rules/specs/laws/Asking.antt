@@ -15,7 +15,8 @@ use Rattle.numbers.specs.Numbers.{refusedCount, refusedBox, refusedCoordinate, 
 use Rattle.utils.specs.Sites.{KeptAt}
 use Rattle.shared.specs.Cells.{Cells}
 use Rattle.admission.specs.Asks.{CellsOf}
-use Rattle.areas.specs.Promise.{entriesOfAll, EntriesNamed, KeepsRule}
+use Rattle.entries.specs.Named.{EntriesNamed}
+use Rattle.areas.specs.Promise.{entriesOfAll, KeepsRule}
 use Rattle.audit_nearer.specs.Nearer.{noLists}
 use Rattle.audit_nearer.specs.laws.Pieces.{lists-empty}
 use Rattle.audit_rules.specs.Rules.{AuditCounts, ListsCut, givenRules, GivenNumber, AuditEntries, AuditNumber}

@@ -16,7 +16,7 @@ use Rattle.utils.specs.Flat.{pointAt}
 use Rattle.bounding_box.specs.Box.{cornersOf}
 use Rattle.bounding_box.specs.Finite.{BoundedBox}
 use Rattle.bounding_box.specs.declared.BoundingBox.{BoundingBox}
-use Rattle.long_numbers.specs.Amount.{amount}
+use Rattle.long_numbers.specs.Amount.{amount, weight}
 use Rattle.long_numbers.specs.Steps.{PutIn, Carried}
 use Rattle.long_numbers.specs.laws.Puts.{added-then}
 use Rattle.ring_area.specs.Area.{roundedHalf, area}
@@ -85,7 +85,7 @@ module _ {v : List Float} {off ix : List ℕ} {s : ℕ} {p p₁ m m₁ : List �
 
 -- by no more puts than 2 ^ 24 entries take
 more-puts : {l l₁ : List ℕ} {x : ℕ} (n k : ℕ) → n ≤ k → PutIn l l₁ x n → PutIn l l₁ x k
-more-puts n k h a = record { total = a .total; long = a .long; grown = λ i. omega (arith, a .grown i) }
+more-puts {l} n k h a = record { total = a .total; long = a .long; grown = λ i. omega (arith, a .grown i); most = le-trans (a .most) (mul-le-mul-right (weight (length l)) h) }
 
 pub rings-end : {v : List Float} {off ix : List ℕ} {s : ℕ} {p p₁ m m₁ : List ℕ} → RingsTo v off ix s p p₁ m m₁ → RingsKept v off ix → (n : ℕ) → n ≡ s → RingsIn v off ix n p p₁ m m₁
 rings-end {v} {off} {ix} {s} {p} {p₁} {m} {m₁} w k n e =

@@ -13,7 +13,8 @@ use Rattle.numbers.specs.Numbers.{EMPTY}
 use Rattle.utils.specs.Flat.{flat}
 use Rattle.vertices.specs.laws.Points.{length-flat}
 use Rattle.wkb.specs.Polygon.{patterns}
-use Rattle.wkb.specs.Promise.{NamesVertices, image}
+use Rattle.entries.specs.Named.{EntriesNamed}
+use Rattle.wkb.specs.Promise.{image}
 use Rattle.map_text.specs.MapText.{heading, mapText}
 use Rattle.given_box.specs.Finite.{Fits}
 use Rattle.given_box.specs.declared.Given.{Given}
@@ -76,7 +77,7 @@ module _ {Rules : ℕ → Type 0} {table : List ℕ} {o : Outcome Fault Built} {
   cell-is : (k : ℕ) → k < length cells → getD cells k [] ≡ unmarked (getD (b .cells) k [])
   cell-is k h = List·getD-map unmarked (b .cells) k []
 
-  named-at : (k : ℕ) → k < length cells → NamesVertices (getD cells k []) (length (b .verts))
+  named-at : (k : ℕ) → k < length cells → EntriesNamed (getD cells k []) (length (b .verts))
   named-at k h = rw (cell-is k h) (d .named k (omega (arith, length-map (b .cells) unmarked)))
 
   pub laid-out : n ≤ 96 → length (new .indexes) ≡ 3076 → CanDraw n 3656 (new .offsets) (new .indexes)

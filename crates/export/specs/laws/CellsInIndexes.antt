@@ -8,7 +8,8 @@ use lib.ListN.{length, getD, take, drop, length-append}
 use Rattle.layout.specs.Regions.{joined, offsetsFrom}
 use Rattle.layout.specs.laws.Compacted.{offsets-length}
 use Rattle.listing.specs.Listing.{listedCell, Layout}
-use Rattle.wkb.specs.Promise.{NamesVertices, image}
+use Rattle.entries.specs.Named.{EntriesNamed}
+use Rattle.wkb.specs.Promise.{image}
 use Rattle.map_text.specs.MapText.{mapLine, mapLines}
 use Rattle.export.specs.Printed.{drawnFrom}
 use Rattle.export.specs.Shown.{CanDraw}
@@ -60,7 +61,7 @@ module _ (cs : List (List ℕ)) (more rest : List ℕ) where
   )
 
   -- within the form's limits they can be drawn
-  pub can-draw : (numbers : ℕ) → length cs ≤ 96 → length idx ≤ 3076 → ((i : ℕ) → i < length cs → NamesVertices (getD cs i []) (numbers / 2)) → CanDraw (length cs) numbers offs idx
+  pub can-draw : (numbers : ℕ) → length cs ≤ 96 → length idx ≤ 3076 → ((i : ℕ) → i < length cs → EntriesNamed (getD cs i []) (numbers / 2)) → CanDraw (length cs) numbers offs idx
   can-draw numbers few short named =
       let all : length idx ≡ length (joined cs) + length rest = length-append (joined cs) rest in
       record {

@@ -1,7 +1,10 @@
 -- `long_numbers::put` meets its contract: the product has 64 bits, its two halves find room.
-use Prim.Native.Nat.{_+_}
+use Prim.Native.Nat.{_+_, _*_, _%_}
+use denote.Ref.{now}
 use native.Mathlib.Omega.{arith}
+use lib.ListN.{getD, length-set}
 use borrow.Author.Needs.{needs}
+use Rattle.long_numbers.specs.Amount.{base}
 use Rattle.long_numbers.specs.laws.Puts.{product-small, put-added}
 use Rattle.long_numbers.proofs.put.Statement.{statement}
 use Rattle.long_numbers.proofs.put.Tie as tie
@@ -19,6 +22,12 @@ add-limbs-2 c =
     let s = c .before .before in
     omega (arith, s .pre .3 .each (s .args .k + 1), product-small (s .args .n) (s .args .power) (s .pre .1) (s .pre .2))
 
+slice-write-limbs-2 : tie.Need-slice-write-limbs-2
+slice-write-limbs-2 c =
+    let s = c .before .before in
+    let l = now (s .args .limbs) in
+    omega (arith, s .pre .0, length-set l (s .args .k) (getD l (s .args .k) 0 + s .args .n * s .args .power % base))
+
 returns : tie.Need-returns
 returns c =
     let s = c .before .before in
@@ -28,5 +37,5 @@ pub put-spec : {M : Type 1} → statement M
 put-spec =
     tie.close
     (tie.spec mul-x (λ c. search needs) (λ c. search needs) (λ c. search needs) (λ c. search needs) (λ c. search needs) add-limbs
-    (λ c. search needs) (λ c. search needs) add-limbs-2 (λ c. search needs) (λ c. search needs) (λ c. search needs)
+    (λ c. search needs) (λ c. search needs) add-limbs-2 (λ c. search needs) (λ c. search needs) slice-write-limbs-2
     (λ c. search needs) returns)

@@ -1,11 +1,11 @@
 -- A long number by its limbs: one limb more, the lowest limbs alone, a weight as a power of two.
-use mathlib.Core.Path.{_≡_, refl, sym, ap, _∙_}
+use mathlib.Core.Path.{_≡_, refl, sym, ap, _∙_, subst}
 use mathlib.Core.List.{List, [], _∷_}
-use Prim.Native.Nat.{ℕ, zero, suc, _+_, _*_, _^_, _≤_, _<_}
-use native.Mathlib.Nat.{mul-left-comm, mul-assoc, mul-add, mul-one, add-assoc, le-of-suc-le-suc, mul-le-mul-left}
+use Prim.Native.Nat.{ℕ, zero, suc, _+_, _-_, _*_, _^_, _≤_, _<_}
+use native.Mathlib.Nat.{le-trans, le-of-eq, mul-left-comm, mul-assoc, mul-add, mul-one, one-mul, add-assoc, le-of-suc-le-suc, mul-le-mul-left}
 use native.Mathlib.Omega.{arith}
 use lib.ListN.{length, getD, set, take, drop}
-use lib.Pow.{pow-add}
+use lib.Pow.{pow-add, pow-pos, pow-mono}
 use Rattle.long_numbers.specs.Amount.{base, amount, weight, WholeLimbs}
 
 pub weight-is : (k : ℕ) → weight k ≡ 2 ^ (32 * k)
@@ -14,6 +14,28 @@ weight-is (suc k) = ap (λ (x : ℕ). base * x) (weight-is k) ∙ sym (pow-add 2
   where
     place : (k : ℕ) → 32 + 32 * k ≡ 32 * suc k
     place k = omega arith
+
+pub weight-mono : {j k : ℕ} → j ≤ k → weight j ≤ weight k
+weight-mono {j} {k} h = le-trans (le-of-eq (weight-is j)) (le-trans (pow-mono (omega arith)) (le-of-eq (sym (weight-is k))))
+
+pub weight-pos : (k : ℕ) → 0 < weight k
+weight-pos k = subst (λ (x : ℕ). 0 < x) (sym (weight-is k)) (pow-pos (32 * k))
+
+pub weight-add : (j k : ℕ) → weight (j + k) ≡ weight j * weight k
+weight-add zero k = ap weight (plain k) ∙ sym (one-mul (weight k))
+  where
+    plain : (k : ℕ) → 0 + k ≡ k
+    plain k = omega arith
+weight-add (suc j) k = ap weight (over j k) ∙ ap (λ (x : ℕ). base * x) (weight-add j k) ∙ sym (mul-assoc base (weight j) (weight k))
+  where
+    over : (j k : ℕ) → suc j + k ≡ suc (j + k)
+    over j k = omega arith
+
+pub weight-from : (j k : ℕ) → j ≤ k → weight j * weight (k - j) ≡ weight k
+weight-from j k h = sym (weight-add j (k - j)) ∙ ap weight (back j k h)
+  where
+    back : (j k : ℕ) → j ≤ k → j + (k - j) ≡ k
+    back j k h = omega arith
 
 -- n more in limb k is n * 2 ^ (32 k) more in all
 pub amount-more : (l : List ℕ) (k n : ℕ) → k < length l → amount (set l k (getD l k 0 + n)) ≡ amount l + n * weight k

@@ -1,9 +1,9 @@
 -- One put, puts one after the other, and a product by the halves of its factors.
-use mathlib.Core.Path.{_≡_, sym, ap, _∙_}
+use mathlib.Core.Path.{_≡_, sym, ap, _∙_, subst}
 use mathlib.Core.List.{List}
 use mathlib.Core.Logic.{⊎-elim}
-use Prim.Native.Nat.{ℕ, _+_, _*_, _/_, _%_, _^_, _≤_, _<_}
-use native.Mathlib.Nat.{mul-assoc, mul-comm, mul-left-comm, add-mul, add-assoc, div-add-mod', le-of-lt, mul-le-mul-right}
+use Prim.Native.Nat.{ℕ, suc, _+_, _*_, _/_, _%_, _^_, _≤_, _<_}
+use native.Mathlib.Nat.{mul-assoc, mul-comm, mul-left-comm, add-mul, add-assoc, one-mul, div-add-mod', le-trans, le-of-eq, le-of-lt, mul-le-mul-right}
 use native.Mathlib.Omega.{arith}
 use native.Mathlib.Numerals.{add-one}
 use lib.ListN.{length, getD, set, length-set}
@@ -11,7 +11,7 @@ use lib.Seq.{getD-set-same, getD-set-other}
 use Rattle.laws.specs.laws.Decide.{eq-or-ne}
 use Rattle.long_numbers.specs.Amount.{base, weight, amount}
 use Rattle.long_numbers.specs.Steps.{PutRoom, PutIn}
-use Rattle.long_numbers.specs.laws.Amounts.{amount-more}
+use Rattle.long_numbers.specs.laws.Amounts.{weight-mono, amount-more}
 
 -- two numbers of 32 bits
 pub product-small : (n p : ℕ) → n < base → p < base → n * p < 2 ^ 64
@@ -26,7 +26,11 @@ module _ {a b : List ℕ} {x m : ℕ} (p : PutIn a b x m) where
     total = q .total ∙ ap (λ (z : ℕ). z + y) (p .total) ∙ add-assoc (amount a) x y;
     long = q .long ∙ p .long;
     grown = λ k. omega (arith, p .grown k, q .grown k, add-mul m n base);
+    most = both (weight (length a)) (p .most) (subst (λ (k : ℕ). base * y ≤ n * weight k) (p .long) (q .most));
   }
+    where
+      both : (w : ℕ) → base * x ≤ m * w → base * y ≤ n * w → base * (x + y) ≤ (m + n) * w
+      both w g h = let e : (m + n) * w ≡ m * w + n * w = add-mul m n w in omega arith
 
   pub added-as : (y : ℕ) → x ≡ y → PutIn a b y m
   added-as y e = rw e at p
@@ -41,7 +45,7 @@ roomy-fewer m n r = record { each = λ k. omega (arith, r .each k, add-mul m n b
 abbrev pub lower : List ℕ → ℕ → ℕ → List ℕ
 lower l k x = set l k (getD l k 0 + x % base)
 
-module _ (l : List ℕ) (k x : ℕ) (h : k + 1 < length l) where
+module _ (l : List ℕ) (k x : ℕ) (h : k + 2 < length l) where
   as-long : length (lower l k x) ≡ length l
   as-long = length-set l k (getD l k 0 + x % base)
 
@@ -91,7 +95,11 @@ module _ (l : List ℕ) (k x : ℕ) (h : k + 1 < length l) where
     total = put-total;
     long = length-set (lower l k x) (k + 1) (getD l (k + 1) 0 + x / base) ∙ as-long;
     grown = put-grown s;
+    most = le-trans (high x (weight k) (le-of-lt s)) (le-trans (weight-mono {j = suc (suc (suc k))} {k = length l} (omega arith)) (le-of-eq (sym (one-mul (weight (length l))))));
   }
+    where
+      high : (x v : ℕ) → x ≤ 2 ^ 64 → base * (x * v) ≤ base * (base * (base * v))
+      high x v h = let e : x * v ≤ 2 ^ 64 * v = mul-le-mul-right v h in omega arith
 
 -- ---- a factor by its halves: the lower at limb k, the upper at the next
 halves : (n a : ℕ) → n % base * a + n / base * (base * a) ≡ n * a

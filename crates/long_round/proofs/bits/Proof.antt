@@ -4,6 +4,7 @@ use denote.Ref.{now}
 use native.Mathlib.Omega.{arith}
 use lib.Count.{leading-le}
 use borrow.Author.Needs.{needs}
+use Rattle.long_numbers.specs.Amount.{lifted}
 use Rattle.long_round.specs.Rounded.{UpTo}
 use Rattle.long_round.specs.laws.Limbs.{none-used, bits-used}
 use Rattle.long_round.proofs.bits.Statement.{statement}
@@ -11,7 +12,7 @@ use Rattle.long_round.proofs.bits.Tie as tie
 
 returns : tie.Need-returns
 returns c =
-    let l = now (c .before .before .before .args .limbs) in
+    let l = lifted (c .before .before .before .args .from) (now (c .before .before .before .args .limbs)) in
     sym (none-used l (subst (UpTo l) (c .if1 .taken) (c .before .used .ensures)))
 
 cast-zeros : tie.Need-cast-zeros
@@ -23,7 +24,8 @@ sub-result c = omega (arith, leading-le 64 (c .limb .result), c .before .if1 .le
 returns-2 : tie.Need-returns-2
 returns-2 c =
     let s = c .before .before .before .before in
-    bits-used (now (s .args .limbs)) (c .before .before .used .result) (c .limb .result) (c .before .before .used .ensures) (s .pre .0) (omega (arith, c .before .if1 .left)) (c .limb .ensures)
+    bits-used (lifted (s .args .from) (now (s .args .limbs))) (c .before .before .used .result) (c .limb .result) (c .before .before .used .ensures) (s .pre .0)
+    (omega (arith, c .before .if1 .left)) (c .limb .ensures)
 
 pub bits-spec : {M : Type 1} → statement M
 bits-spec =

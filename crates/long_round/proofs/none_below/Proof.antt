@@ -2,15 +2,16 @@
 use Prim.Native.Nat.{_-_}
 use native.Mathlib.Omega.{arith}
 use borrow.Author.Needs.{needs}
+use Rattle.long_numbers.specs.Amount.{lifted}
 use Rattle.long_round.specs.laws.Limbs.{ClearTo, clear-to-start, clear-to-step, clear-to-not, clear-to-end}
 use Rattle.long_round.proofs.none_below.Statement.{statement}
 use Rattle.long_round.proofs.none_below.Tie as tie
 
 abbrev Inv-loop : tie.InvT-loop
-Inv-loop limbs j i₀ i = ClearTo limbs i j
+Inv-loop limbs from j i₀ i = ClearTo (lifted from limbs) i
 
 abbrev μ-loop : tie.MeasureT-loop
-μ-loop limbs j i₀ i = j - i
+μ-loop limbs from j i₀ i = j - i
 
 loop-holds : tie.Need-loop-holds Inv-loop μ-loop
 loop-holds c = clear-to-start _ _
@@ -18,15 +19,15 @@ loop-holds c = clear-to-start _ _
 returns : tie.Need-returns Inv-loop μ-loop
 returns c =
     let l = c .before .before .before in
-    clear-to-not (l .loop .inv) (c .before .limb .ensures) (c .before .before .loop-test .taken) (c .if1 .taken)
+    clear-to-not _ (l .loop .inv) (c .before .limb .ensures) (c .before .before .loop-test .taken) (c .if1 .taken)
 
 loop-again : tie.Need-loop-again Inv-loop μ-loop
 loop-again c =
     let l = c .before .before .before in
-    clear-to-step (l .loop .inv) (c .before .limb .ensures) (c .before .before .loop-test .taken) (c .if1 .left)
+    clear-to-step _ (l .loop .inv) (c .before .limb .ensures) (c .before .before .loop-test .taken) (c .if1 .left)
 
 returns-2 : tie.Need-returns-2 Inv-loop μ-loop
-returns-2 c = clear-to-end (c .before .loop .inv) (c .loop-test .left)
+returns-2 c = clear-to-end _ (c .before .loop .inv) (c .loop-test .left)
 
 pub none-below-spec : {M : Type 1} → statement M
 none-below-spec =

@@ -5,43 +5,47 @@ use denote.Ref.{now}
 use native.Mathlib.Omega.{arith}
 use lib.Ieee.{size}
 use borrow.Author.Needs.{needs}
-use Rattle.long_numbers.specs.Amount.{amount}
+use Rattle.long_numbers.specs.Amount.{amount, lifted}
 use Rattle.long_round.specs.Rounded.{roundedPattern}
 use Rattle.long_round.specs.laws.Limbs.{amount-under}
 use Rattle.long_round.specs.laws.Patterns.{pattern-small, room-for, few, pattern-is}
 use Rattle.long_round.proofs.pattern.Statement.{statement}
 use Rattle.long_round.proofs.pattern.Tie as tie
 
+-- the number that the limbs are
+abbrev number : tie.Start → ℕ
+number s = amount (lifted (s .args .from) (now (s .args .limbs)))
+
 -- the bits dropped
-dropped : (c : tie.After-over) → c .over .result ≡ size (amount (now (c .before .before .before .args .limbs))) - 1128
+dropped : (c : tie.After-over) → c .over .result ≡ size (number (c .before .before .before)) - 1128
 dropped c = c .over .ensures ∙ ap (λ (z : ℕ). z - 1128) (c .before .bits .ensures)
 
-under : (s : tie.Start) → amount (now (s .args .limbs)) < 2 ^ 3008
-under s = amount-under (now (s .args .limbs)) (s .pre .0) (s .pre .1)
+under : (s : tie.Start) → number s < 2 ^ 3008
+under s = amount-under (lifted (s .args .from) (now (s .args .limbs))) (s .pre .0) (s .pre .1)
 
 most : (c : tie.After-over) → c .over .result ≤ 1880
-most c = few (amount (now (c .before .before .before .args .limbs))) (c .over .result) (dropped c) (under (c .before .before .before))
+most c = few (number (c .before .before .before)) (c .over .result) (dropped c) (under (c .before .before .before))
 
 leading-requires : tie.Need-leading-requires
 leading-requires c κs =
-    (c .before .before .before .pre .0, room-for (amount (now (c .before .before .before .args .limbs))) (c .over .result) (dropped c), omega (arith, most c))
+    (c .before .before .before .pre .0, room-for (number (c .before .before .before)) (c .over .result) (dropped c), omega (arith, most c))
 
 mul-result : tie.Need-mul-result
 mul-result c = omega (arith, most (c .before))
 
-is : (c : tie.After-halved) → c .before .before .over .result * 2 ^ 52 + c .halved .result ≡ roundedPattern (amount (now (c .before .before .before .before .before .args .limbs)))
+is : (c : tie.After-halved) → c .before .before .over .result * 2 ^ 52 + c .halved .result ≡ roundedPattern (number (c .before .before .before .before .before))
 is c =
-    pattern-is (amount (now (c .before .before .before .before .before .args .limbs))) (c .before .before .over .result) _ (c .halved .result) _
+    pattern-is (number (c .before .before .before .before .before)) (c .before .before .over .result) _ (c .halved .result) _
     (dropped (c .before .before)) (c .before .leading .ensures) (c .halved .ensures)
 
 add-result : tie.Need-add-result
-add-result c = omega (arith, is c, pattern-small (amount (now (c .before .before .before .before .before .args .limbs))) (under (c .before .before .before .before .before)))
+add-result c = omega (arith, is c, pattern-small (number (c .before .before .before .before .before)) (under (c .before .before .before .before .before)))
 
 returns : tie.Need-returns
 returns c = (
   is c,
   subst (λ (x : ℕ). x < 0x7FF0_0000_0000_0000) (sym (is c))
-      (pattern-small (amount (now (c .before .before .before .before .before .args .limbs))) (under (c .before .before .before .before .before))),
+      (pattern-small (number (c .before .before .before .before .before)) (under (c .before .before .before .before .before))),
 )
 
 pub pattern-spec : {M : Type 1} → statement M

@@ -5,7 +5,7 @@ use Prim.Native.Nat.{ℕ, _+_, _^_}
 use denote.Ref.{now}
 use native.Mathlib.Omega.{arith}
 use borrow.Author.Needs.{needs}
-use Rattle.long_numbers.specs.Amount.{amount}
+use Rattle.long_numbers.specs.Amount.{amount, lifted}
 use Rattle.long_round.specs.Rounded.{roundedPattern}
 use Rattle.long_round.specs.laws.Limbs.{amount-under}
 use Rattle.long_round.specs.laws.Patterns.{pattern-rounds, no-nan}
@@ -18,8 +18,8 @@ float-from-bits-result c = no-nan _ (c .before .pattern .result) (omega (arith, 
 returns : tie.Need-returns
 returns c =
     let s = c .before .before .before in
-    pattern-rounds (amount (now (s .args .limbs))) (amount-under (now (s .args .limbs)) (s .pre .0) (s .pre .1)) (s .args .minus) _
-    (signed (s .args .minus) (c .before .pattern .result) (roundedPattern (amount (now (s .args .limbs)))) (c .if1 .taken) (c .before .pattern .ensures .0))
+    pattern-rounds (amount (lifted (s .args .from) (now (s .args .limbs)))) (amount-under (lifted (s .args .from) (now (s .args .limbs))) (s .pre .0) (s .pre .1)) (s .args .minus) _
+    (signed (s .args .minus) (c .before .pattern .result) (roundedPattern (amount (lifted (s .args .from) (now (s .args .limbs))))) (c .if1 .taken) (c .before .pattern .ensures .0))
   where
     signed : (s : Bool) (r p : ℕ) → s ≡ true → r ≡ p → 2 ^ 63 + r ≡ cond s (2 ^ 63) 0 + p
     signed s r p e h = rw e (ap (λ (x : ℕ). 2 ^ 63 + x) h)
@@ -30,8 +30,8 @@ float-from-bits-result-2 c = no-nan _ (c .before .pattern .result) (omega (arith
 returns-2 : tie.Need-returns-2
 returns-2 c =
     let s = c .before .before .before in
-    pattern-rounds (amount (now (s .args .limbs))) (amount-under (now (s .args .limbs)) (s .pre .0) (s .pre .1)) (s .args .minus) _
-    (plain (s .args .minus) (c .before .pattern .result) (roundedPattern (amount (now (s .args .limbs)))) (c .if1 .left) (c .before .pattern .ensures .0))
+    pattern-rounds (amount (lifted (s .args .from) (now (s .args .limbs)))) (amount-under (lifted (s .args .from) (now (s .args .limbs))) (s .pre .0) (s .pre .1)) (s .args .minus) _
+    (plain (s .args .minus) (c .before .pattern .result) (roundedPattern (amount (lifted (s .args .from) (now (s .args .limbs))))) (c .if1 .left) (c .before .pattern .ensures .0))
   where
     plain : (s : Bool) (r p : ℕ) → s ≡ false → r ≡ p → r ≡ cond s (2 ^ 63) 0 + p
     plain s r p e h = rw e (omega arith)

@@ -17,8 +17,9 @@ use lib.Seq.{drop-drop, getD-drop, getD-take, take-length}
 use borrow.Author.Tests.{eqb-true, eqb-false}
 use Rattle.laws.specs.Decide.{Says}
 use Rattle.laws.specs.laws.Decide.{lt-or-ge, eq-or-ne}
-use Rattle.long_numbers.specs.Amount.{base, amount, weight, WholeLimbs}
+use Rattle.long_numbers.specs.Amount.{base, amount, weight, lifted, WholeLimbs}
 use Rattle.long_numbers.specs.laws.Amounts.{weight-is, amount-take, amount-split, amount-none, amount-below, amount-first}
+use Rattle.long_numbers.specs.laws.Lifted.{lifted-long, lifted-below, lifted-at}
 use Rattle.long_round.specs.Rounded.{UpTo, LeadingBits}
 use Rattle.long_round.specs.laws.Sizes.{size-is, size-zero}
 
@@ -40,15 +41,29 @@ module _ {l : List ℕ} {n : ℕ} (c : Clear l n) where
       past : (k : ℕ) → n - 1 ≤ k → (k ≡ n - 1 → ⊥) → n ≤ k
       past k g m = ⊎-elim (λ a. absurd (m (omega arith))) (λ a. a) (lt-or-ge k n)
 
-  pub clear-found : (getD l (n - 1) 0 ≡ 0 → ⊥) → UpTo l n
-  clear-found e = record {
-    within = c .within;
-    none = c .none;
-    some = λ h. ⊎-elim (λ a. absurd (e (omega arith))) (λ a. a) (lt-or-ge (getD l (n - 1) 0) 1);
-  }
+  -- the same of the number that has limb 0 of these at limb j
+  lifted-none : (j k : ℕ) → j + n ≤ k → getD (lifted j l) k 0 ≡ 0
+  lifted-none j k h = lifted-at j l k (omega arith) ∙ c .none (k - j) (omega arith)
 
-  pub clear-end : n ≤ 0 → UpTo l 0
-  clear-end h = record { within = omega arith; none = λ k g. c .none k (omega arith); some = λ g. absurd (omega arith) }
+  pub clear-found : (j : ℕ) → 0 < n → (getD l (n - 1) 0 ≡ 0 → ⊥) → UpTo (lifted j l) (j + n)
+  clear-found j h e = record {
+    within = omega (arith, c .within, lifted-long j l);
+    none = lifted-none j;
+    some = λ g. subst (λ (x : ℕ). 0 < x) (sym (lifted-at j l (j + n - 1) (omega arith) ∙ ap (λ (k : ℕ). getD l k 0) (last j n h))) (above (getD l (n - 1) 0) e);
+  }
+    where
+      last : (j n : ℕ) → 0 < n → j + n - 1 - j ≡ n - 1
+      last j n h = omega arith
+
+      above : (x : ℕ) → (x ≡ 0 → ⊥) → 0 < x
+      above x e = ⊎-elim (λ a. absurd (e (omega arith))) (λ a. a) (lt-or-ge x 1)
+
+  pub clear-end : (j : ℕ) → n ≤ 0 → UpTo (lifted j l) 0
+  clear-end j h = record {
+    within = omega arith;
+    none = λ k g. ⊎-elim (lifted-below j l k) (λ m. lifted-none j k (omega arith)) (lt-or-ge k j);
+    some = λ g. absurd (omega arith);
+  }
 
 -- ---- looked at from below: the limbs before i are 0
 zero-limbs : (l : List ℕ) → amount l ≡ 0 → (k : ℕ) → getD l k 0 ≡ 0
@@ -56,19 +71,17 @@ zero-limbs [] h k = refl
 zero-limbs (w ∷ r) h zero = omega arith
 zero-limbs (w ∷ r) h (suc k) = zero-limbs r (omega arith) k
 
-pub record ClearTo (l : List ℕ) (i j : ℕ) : Type 0 where
-  pub within : i ≤ j
+pub record ClearTo (l : List ℕ) (i : ℕ) : Type 0 where
   pub none : (k : ℕ) → k < i → getD l k 0 ≡ 0
 
-pub clear-to-start : (l : List ℕ) (j : ℕ) → ClearTo l 0 j
-clear-to-start l j = record { within = omega arith; none = λ k h. absurd (omega arith) }
+pub clear-to-start : (j : ℕ) (l : List ℕ) → ClearTo (lifted j l) j
+clear-to-start j l = record { none = lifted-below j l }
 
-module _ {l : List ℕ} {i j : ℕ} (c : ClearTo l i j) where
+module _ {l : List ℕ} {i : ℕ} (j : ℕ) (c : ClearTo l i) where
   -- x is limb i
   module _ {x : ℕ} (e : x ≡ getD l i 0) (h : i < j) where
-    pub clear-to-step : x ≡ 0 → ClearTo l (i + 1) j
+    pub clear-to-step : x ≡ 0 → ClearTo l (i + 1)
     clear-to-step z = record {
-      within = omega arith;
       none = λ k g. ⊎-elim (λ m. rw m (sym e ∙ z)) (λ m. c .none k (before k g m)) (eq-or-ne k i);
     }
       where

@@ -14,10 +14,10 @@ use Rattle.ring_area.proofs.add_product.Statement.{statement}
 use Rattle.ring_area.proofs.add_product.Tie as tie
 
 held-x : (s : tie.Start) → T (fits binary64 (s .args .x))
-held-x s = subst T (sym (s .good .1 .1 .0 .1)) tt
+held-x s = subst T (sym (s .good .1 .1 .1 .0 .1)) tt
 
 held-y : (s : tie.Start) → T (fits binary64 (s .args .y))
-held-y s = subst T (sym (s .good .1 .1 .1 .0 .1)) tt
+held-y s = subst T (sym (s .good .1 .1 .1 .1 .0 .1)) tt
 
 -- the product of the patterns' values is that of the values
 same : (s : tie.Start) → units (ofBits binary64 (toBits binary64 (s .args .x))) * units (ofBits binary64 (toBits binary64 (s .args .y))) ≡ units (s .args .x) * units (s .args .y)
@@ -34,12 +34,12 @@ float-to-bits-b c = let s = c .before .before in finite-no-nan (s .args .y) (bou
 put-units-requires : tie.Need-put-units-requires
 put-units-requires c κs =
     let s = c .before .before .before .before in
-    (pattern-low (s .args .x) (s .pre .0) .low, pattern-low (s .args .y) (s .pre .1) .low, s .pre .2)
+    (pattern-low (s .args .x) (s .pre .0) .low, pattern-low (s .args .y) (s .pre .1) .low, s .pre .3, s .pre .4, s .pre .2 .plus)
 
 put-units-requires-2 : tie.Need-put-units-requires-2
 put-units-requires-2 c κs =
     let s = c .before .before .before .before in
-    (pattern-low (s .args .x) (s .pre .0) .low, pattern-low (s .args .y) (s .pre .1) .low, s .pre .3)
+    (pattern-low (s .args .x) (s .pre .0) .low, pattern-low (s .args .y) (s .pre .1) .low, rw (s .pre .2 .same) (s .pre .3), rw (s .pre .2 .same) (s .pre .4), s .pre .2 .minus)
 
 returns : tie.Need-returns
 returns c =

@@ -1,19 +1,23 @@
 -- `ring_area::side` meets its contract: its two products, the second with the two sums exchanged.
+use mathlib.Core.Path.{_∙_}
 use borrow.Author.Needs.{needs}
-use Rattle.ring_area.specs.laws.Products.{open-fewer, open-after, side-in}
+use Rattle.long_numbers.specs.laws.Lifted.{lifted-same}
+use Rattle.ring_area.specs.laws.Products.{ready-fewer, ready-after, ready-turned, side-in}
 use Rattle.ring_area.proofs.side.Statement.{statement}
 use Rattle.ring_area.proofs.side.Tie as tie
 
 add-product-requires : tie.Need-add-product-requires
 add-product-requires c κs =
     let p = c .before .before .before .before .pre in
-    (p .0 .y, p .1 .x, open-fewer 8 8 (p .2), open-fewer 8 8 (p .3))
+    (p .0 .bounded .y, p .1 .bounded .x, ready-fewer 8 8 (p .2), p .0 .y, p .1 .x)
 
 add-product-requires-2 : tie.Need-add-product-requires-2
 add-product-requires-2 c κs =
     let first = c .before .before .before .before .before .before in
     let p = first .before .before .before .before .before .pre in
-    (p .0 .x, p .1 .y, open-after 8 (first .add-product .ensures .taken) (p .3), open-after 8 (first .add-product .ensures .added) (p .2))
+    let r = ready-after 8 (first .add-product .ensures .added) (first .add-product .ensures .taken) (p .2) in
+    let e = lifted-same _ _ _ (first .add-product .ensures .taken .long) ∙ p .2 .same in
+    (p .0 .bounded .x, p .1 .bounded .y, ready-turned r, rw e (p .0 .x), rw e (p .1 .y))
 
 returns : tie.Need-returns
 returns c =

@@ -9,17 +9,19 @@ use lib.Ieee.{Float}
 use lib.ListN.{length, getD, drop, drop-of-length-le}
 use lib.Seq.{drop-cons}
 use Rattle.laws.specs.Binary64.{zero}
+use Rattle.long_numbers.specs.Amount.{lifted}
 use Rattle.long_numbers.specs.Steps.{PutIn}
 use Rattle.long_numbers.specs.laws.Puts.{added-then}
-use Rattle.utils.specs.Finite.{BoundedPoint}
+use Rattle.long_numbers.specs.laws.Lifted.{lifted-same}
 use Rattle.utils.specs.Flat.{pointAt}
 use Rattle.utils.specs.declared.Point.{Point}
 use Rattle.ring_area.specs.Area.{gain, loss, gains, losses, roundedHalf, area, ringArea}
-use Rattle.ring_area.specs.Steps.{Open, SideIn, Corners, gainsOf, lossesOf, RingIn}
+use Rattle.ring_area.specs.Steps.{SideIn, gainsOf, lossesOf, RingIn}
+use Rattle.ring_area.specs.Span.{CornerIn, RingPlaced, BothOpen}
 use Rattle.ring_area.specs.laws.Products.{added-none}
 
 -- a is the first corner, q the last that was passed, number i - 1
-pub record SidesTo (v : List Float) (cell : List ℕ) (p p₁ m m₁ : List ℕ) (a q : Point) (i : ℕ) : Type 0 where
+pub record SidesTo (from n : ℕ) (v : List Float) (cell : List ℕ) (p p₁ m m₁ : List ℕ) (a q : Point) (i : ℕ) : Type 0 where
   pub some : 0 < i
   pub most : i ≤ length cell
   pub got : ℕ
@@ -28,13 +30,14 @@ pub record SidesTo (v : List Float) (cell : List ℕ) (p p₁ m m₁ : List ℕ)
   pub taken : PutIn m m₁ lost (16 * (i - 1))
   pub more : gainsOf (map (pointAt v) cell) ≡ got + gains a q (map (pointAt v) (drop i cell))
   pub less : lossesOf (map (pointAt v) cell) ≡ lost + losses a q (map (pointAt v) (drop i cell))
-  pub first : BoundedPoint 400 a
-  pub last : BoundedPoint 400 q
+  pub first : CornerIn from n a
+  pub last : CornerIn from n q
 
-pub walked-start : (v : List Float) (cell p m : List ℕ) (a : Point) → Corners v cell → 0 < length cell → a ≡ pointAt v (getD cell 0 0) → SidesTo v cell p p m m a a 1
+pub walked-start : {from n : ℕ} (v : List Float) (cell p m : List ℕ) (a : Point) → RingPlaced from n v cell → 0 < length cell → a ≡ pointAt v (getD cell 0 0)
+    → SidesTo from n v cell p p m m a a 1
 walked-start v [] p m a c h e = absurd (omega arith)
-walked-start v (x ∷ r) p m a c h e =
-    let b : BoundedPoint 400 a = subst (BoundedPoint 400) (sym e) (c .bounded 0 (omega arith)) in
+walked-start {from} {n} v (x ∷ r) p m a c h e =
+    let b : CornerIn from n a = subst (CornerIn from n) (sym e) (c .each 0 (omega arith)) in
     record {
       some = omega arith;
       most = omega arith;
@@ -52,15 +55,17 @@ walked-start v (x ∷ r) p m a c h e =
     plain n = omega arith
 
 -- room for one more side
-pub open-side : {l l₁ : List ℕ} {x : ℕ} (n i : ℕ) → Open l (16 * n) → PutIn l l₁ x (16 * (i - 1)) → 0 < i → i ≤ n → Open l₁ 16
-open-side n i o a s h = record {
-  long = a .long ∙ o .long;
-  room = record { each = λ k. omega (arith, a .grown k, o .room .each k) };
+pub ready-side : {from : ℕ} {p p₁ m m₁ : List ℕ} {x y : ℕ} (n i : ℕ) → BothOpen from p m (16 * n) → PutIn (lifted from p) (lifted from p₁) x (16 * (i - 1))
+    → PutIn (lifted from m) (lifted from m₁) y (16 * (i - 1)) → 0 < i → i ≤ n → BothOpen from p₁ m₁ 16
+ready-side {from} {p} {p₁} {m} {m₁} n i o a b s h = record {
+  same = lifted-same from m₁ m (b .long) ∙ o .same ∙ sym (lifted-same from p₁ p (a .long));
+  plus = record { each = λ k. omega (arith, a .grown k, o .plus .each k) };
+  minus = record { each = λ k. omega (arith, b .grown k, o .minus .each k) };
 }
 
-module _ {v : List Float} {cell p p₁ m m₁ : List ℕ} {a q : Point} {i : ℕ} (w : SidesTo v cell p p₁ m m₁ a q i) where
-  pub walked-step : {p₂ m₂ : List ℕ} {b : Point} → Corners v cell → i < length cell → b ≡ pointAt v (getD cell i 0) → SideIn q b p₁ p₂ m₁ m₂
-      → SidesTo v cell p p₂ m m₂ a b (i + 1)
+module _ {from n : ℕ} {v : List Float} {cell p p₁ m m₁ : List ℕ} {a q : Point} {i : ℕ} (w : SidesTo from n v cell p p₁ m m₁ a q i) where
+  pub walked-step : {p₂ m₂ : List ℕ} {b : Point} → RingPlaced from n v cell → i < length cell → b ≡ pointAt v (getD cell i 0) → SideIn q b p₁ p₂ m₁ m₂
+      → SidesTo from n v cell p p₂ m m₂ a b (i + 1)
   unfolding gains losses
   walked-step {p₂} {m₂} {b} c h e s =
       let d : drop i cell ≡ getD cell i 0 ∷ drop (i + 1) cell = drop-cons cell i 0 h ∙ ap (λ (k : ℕ). getD cell i 0 ∷ drop k cell) (sym (add-one i)) in
@@ -75,7 +80,7 @@ module _ {v : List Float} {cell p p₁ m m₁ : List ℕ} {a q : Point} {i : ℕ
         more = w .more ∙ ap (λ (r : List Point). w .got + gains a q r) t ∙ sym (add-assoc (w .got) (gain q b) (gains a b (map (pointAt v) (drop (i + 1) cell))));
         less = w .less ∙ ap (λ (r : List Point). w .lost + losses a q r) t ∙ sym (add-assoc (w .lost) (loss q b) (losses a b (map (pointAt v) (drop (i + 1) cell))));
         first = w .first;
-        last = subst (BoundedPoint 400) (sym e) (c .bounded i h);
+        last = subst (CornerIn from n) (sym e) (c .each i h);
       }
     where
       counted : {l l₁ : List ℕ} {x : ℕ} → PutIn l l₁ x (16 * (i - 1) + 16) → PutIn l l₁ x (16 * (i + 1 - 1))
@@ -102,6 +107,10 @@ module _ {v : List Float} {cell p p₁ m m₁ : List ℕ} {a q : Point} {i : ℕ
       whole {l} {l₁} {n} x y z e = subst (λ (k : ℕ). PutIn l l₁ k (16 * length cell)) (sym e) (subst (PutIn l l₁ (x + y)) turns z)
 
 -- ---- the whole ring
+pub ring-whole : {v : List Float} {cell p p₁ m m₁ : List ℕ} → RingIn v cell (lifted 0 p) (lifted 0 p₁) (lifted 0 m) (lifted 0 m₁) → RingIn v cell p p₁ m m₁
+unfolding lifted
+ring-whole r = r
+
 pub no-corners : (v : List Float) (cell : List ℕ) → length cell ≡ 0 → zero ≡ ringArea v cell
 unfolding area
 no-corners v [] h = refl

@@ -41,6 +41,7 @@ module _ (b : ℕ) where
         ∙ ap (λ (x : ℕ). ofFields binary64 (leb (2 ^ 63) b) x (b % 2 ^ 52)) e
         ∙ subnormal (leb (2 ^ 63) b) (b % 2 ^ 52))
         ∙ odd-units 53 (leb (2 ^ 63) b) (b % 2 ^ 52) 0;
+    place = omega arith;
     most = omega arith;
   }
 
@@ -60,6 +61,7 @@ module _ (b : ℕ) where
                 ∙ fields (leb (2 ^ 63) b) x (b % 2 ^ 52) h)
                 ∙ odd-units 53 (leb (2 ^ 63) b) (2 ^ 52 + b % 2 ^ 52) x
                 ∙ ap (λ (y : ℕ). (2 ^ 52 + b % 2 ^ 52) * 2 ^ y) (sym p);
+            place = ap (λ (y : ℕ). y - 1) (sym e);
             most = omega arith;
           }
 

@@ -14,15 +14,16 @@ use Rattle.admission.specs.Asks.{siteRules, cellRules}
 use Rattle.cell_query.specs.Cells.{CellAnswer, partAfter}
 use Rattle.octets.specs.Wrote.{Wrote}
 use Rattle.octets.specs.laws.Wrote.{wrote-none}
-use Rattle.wkb.specs.Promise.{NamesVertices, ImageFits, image, entryRules, WkbAnswer, EntriesAnswer}
+use Rattle.entries.specs.Named.{EntriesNamed}
+use Rattle.wkb.specs.Promise.{ImageFits, image, entryRules, WkbAnswer, EntriesAnswer}
 
 -- of a cell's entries: n is the number of vertices
 module _ (v cell old : List ℕ) (n : ℕ) (half : n ≡ length v / 2) where
-  pub not-named : (NamesVertices cell n → ⊥) → EntriesAnswer v cell old old 0 refusedEntry
+  pub not-named : (EntriesNamed cell n → ⊥) → EntriesAnswer v cell old old 0 refusedEntry
   not-named q = record { number = breaks (λ a. q (rw half a)); output = wrote-none old 0 }
 
-  module _ (named : NamesVertices cell n) where
-    there : NamesVertices cell (length v / 2)
+  module _ (named : EntriesNamed cell n) where
+    there : EntriesNamed cell (length v / 2)
     there = rw half at named
 
     pub no-room : (ImageFits (length cell) (length old) → ⊥) → EntriesAnswer v cell old old 0 refusedRoom
@@ -35,7 +36,7 @@ module _ (v cell old : List ℕ) (n : ℕ) (half : n ≡ length v / 2) where
 pub no-bits : {v off ix : List ℕ} {s : ℕ} {old new : List ℕ} {w r : ℕ} → WkbAnswer (v ++ []) off ix s old new w r → WkbAnswer v off ix s old new w r
 no-bits {v} a = rw (append-nil v) at a
 
-pub no-bits-named : {cell : List ℕ} (n : ℕ) → NamesVertices cell (n / 2) → NamesVertices cell ((n + 0) / 2)
+pub no-bits-named : {cell : List ℕ} (n : ℕ) → EntriesNamed cell (n / 2) → EntriesNamed cell ((n + 0) / 2)
 no-bits-named n a = rw (add-zero n) a
 
 pub no-bits-wrote : {l m : List ℕ} {a b : ℕ} (v cell : List ℕ) → Wrote l m a b (image (v ++ []) cell) → Wrote l m a b (image v cell)

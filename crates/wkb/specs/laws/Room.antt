@@ -9,7 +9,8 @@ use lib.ListN.{length, getD, take, length-map}
 use borrow.Author.Tests.{leb-true, leb-false, le-ltb, lt-ltb}
 use Rattle.laws.specs.Decide.{Says}
 use Rattle.wkb.specs.Polygon.{headBytes, ringBytes, closed, patternAt, patternsOf, polygon, size}
-use Rattle.wkb.specs.Promise.{NamesVertices, ImageFits, image}
+use Rattle.entries.specs.Named.{EntriesNamed}
+use Rattle.wkb.specs.Promise.{ImageFits, image}
 
 pub size-none : (n : ℕ) → n < 3 → size n ≡ 9
 unfolding size
@@ -28,7 +29,7 @@ unfolding headBytes
 length-head rings = refl
 
 -- of named entries the first is named
-pub named-first : (cell : List ℕ) (n : ℕ) → NamesVertices cell n → NamesVertices (take 1 cell) n
+pub named-first : (cell : List ℕ) (n : ℕ) → EntriesNamed cell n → EntriesNamed (take 1 cell) n
 named-first [] n a = a
 named-first (e ∷ l) n a = record { each = only }
   where

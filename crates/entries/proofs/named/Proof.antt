@@ -1,11 +1,11 @@
--- `areas::names` meets its contract: the entries that were passed name a vertex each.
+-- `entries::named` meets its contract: the entries that were passed name one each.
 use Prim.Native.Nat.{ℕ, _-_, _<_}
 use native.Mathlib.Omega.{arith}
 use lib.ListN.{length}
 use borrow.Author.Needs.{needs}
-use Rattle.areas.specs.laws.Entries.{EntriesPassed, passed-start, passed-step, passed-all}
-use Rattle.areas.proofs.names.Statement.{statement}
-use Rattle.areas.proofs.names.Tie as tie
+use Rattle.entries.specs.laws.Passed.{EntriesPassed, passed-start, passed-step, passed-all}
+use Rattle.entries.proofs.named.Statement.{statement}
+use Rattle.entries.proofs.named.Tie as tie
 
 abbrev Inv-loop : tie.InvT-loop
 Inv-loop entries count i₀ i = EntriesPassed (λ (e : ℕ). e < count) entries i
@@ -29,8 +29,8 @@ loop-again c =
 returns-2 : tie.Need-returns-2 Inv-loop μ-loop
 returns-2 c = record { each = passed-all (c .before .loop .inv) (c .loop-test .left) }
 
-pub names-spec : {M : Type 1} → statement M
-names-spec =
+pub named-spec : {M : Type 1} → statement M
+named-spec =
     tie.close
     (tie.spec Inv-loop μ-loop loop-holds (λ c. search needs) (λ c. search needs) (λ c κs. search needs) returns (λ c. search needs)
     (λ c. search needs) loop-again returns-2)
