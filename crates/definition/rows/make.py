@@ -3,11 +3,11 @@
 
   make.py ORACLE      ORACLE is the harness's program `oracle`
 
-A file's first line, a comment, becomes the row's. The vertices (bit for bit), cells, owners and the numbers 13 and 14
-are the Rust's; marks, lost corners, reused points, 11 and 12 are the harness's reading of docs/RULES.md, as `oracle` prints them.
-RowsPlaces has the refused meshes again, each with its whole fault: the place, and for 13 and 14 the edge's two vertices,
-are that reading's too (`oracle --place`); the Rust's panics have none.
-A file's imports and the names that its rows unfold stay as they stand there. No line has more than 200 bytes, and `rt fmt` leaves the files as they are written here.
+A row has its file's name, and the file's first line, a comment, is the row's. The vertices (bit for bit), cells, owners and the
+numbers 13 and 14 are the Rust's; marks, lost corners, reused points, 11 and 12 are the harness's reading of docs/RULES.md, as `oracle` prints them.
+A refused mesh has its whole fault: the place, and for 13 and 14 the edge's two vertices, are that reading's too (`oracle --place`);
+the Rust's panics have none.
+A file's imports stay as they stand there. No line has more than 200 bytes, and `rt fmt` leaves the files as they are written here.
 """
 import os
 import re
@@ -87,10 +87,7 @@ def read(path):
 
 
 def told(out):
-    """The oracle's answer as an Outcome."""
-    refused = re.search(r"^refused (\d+)", out, re.M)
-    if refused:
-        return f"refused {REFUSED[refused.group(1)]}"
+    """The answer of a build as an Outcome."""
     numbers = [bits(number(v)) for p in re.findall(r"^vertex \d+: (0x\w+) (0x\w+)", out, re.M) for v in p]
     cells = [chain(f"{e[-1]} {e[:-1]}" for e in c.split()) for c in re.findall(r"^marks \d+:(.*)$", out, re.M)]
     corners = re.search(r"^corners:(.*) lost (\d+)$", out, re.M)
@@ -107,9 +104,11 @@ def told(out):
     return "ok (record {\n" + "".join(f"      {k} = {v};\n" for k, v in parts.items()) + "    })"
 
 
-def fault(out):
-    """The fault of `oracle --place`; 11 and 12 have no edge, which the definition writes 0 0."""
-    n, *places = out.split()
+def fault(out, placed):
+    """The fault of `oracle --place`; 11 and 12 have no edge, which the definition writes 0 0. Its number is that of `oracle`."""
+    n, *places = placed.split()
+    if n != re.search(r"^refused (\d+)", out, re.M).group(1):
+        raise SystemExit(f"refused by another number: {placed}")
     return f"refused (fault {REFUSED[n]} {' '.join('0' if w == 'E' else w for w in places)})"
 
 
@@ -119,25 +118,20 @@ def main():
     def ask(*words):
         return subprocess.run([oracle, *words], capture_output=True, text=True, check=True).stdout
 
-    def plain(path, call):
-        return f"(rowOf\n    ({call})\n    ≡ {told(ask(path))})"
+    def refusal(path):
+        return fault(ask(path), ask("--place", path))
 
-    def placed(path, call):
-        return f"({call}\n    ≡ {fault(ask('--place', path))})"
-
-    for group, file, row in (("built", "Built", plain), ("refused", "Refused", plain), ("refused", "Places", placed)):
-        rows = []
-        for name in sorted(f for f in os.listdir(HERE) if f.startswith(group + "_")):
-            path = os.path.join(HERE, name)
+    for group, file, answer in (("built", "Built", lambda path: told(ask(path))), ("refused", "Refused", refusal)):
+        specs = os.path.join(SPECS, f"Rows{file}.antt")
+        old = open(specs, encoding="utf-8").read()
+        rows = [old[: old.index("\n\n") + 1]]
+        for entry in sorted(f for f in os.listdir(HERE) if f.startswith(group + "_")):
+            path = os.path.join(HERE, entry)
+            name = entry[len(group) + 1 : -len(".txt")]
             call, comment = read(path)
-            times = "× " if rows else ""
-            rows.append(f"    -- {comment}\n    {times}{row(path, call)}")
-        path = os.path.join(SPECS, f"Rows{file}.antt")
-        old = open(path, encoding="utf-8").read()
-        head, unfolded = old[: old.index("pub rows :\n")], old[old.index("\nunfolding ") : old.index("\nrows = ")]
-        with open(path, "w", encoding="utf-8") as o:
-            o.write(head + "pub rows :\n" + "\n".join(rows) + unfolded)
-            o.write("\nrows = (" + ", ".join(["refl"] * len(rows)) + ")\n")
+            rows.append(f"-- {comment}\npub {name} :\n    rowOf\n    ({call})\n    ≡ {answer(path)}\nunfolding rowOf\n{name} = refl\n")
+        with open(specs, "w", encoding="utf-8") as o:
+            o.write("\n".join(rows))
 
 
 if __name__ == "__main__":

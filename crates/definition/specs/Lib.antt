@@ -6,7 +6,6 @@ pub mod Reused
 pub mod Rows
 pub mod RowsBuilt
 pub mod RowsRefused
-pub mod RowsPlaces
 pub mod Measures
 pub mod Wrapping
 pub mod Late

@@ -1,15 +1,28 @@
 -- How the computed rows write a build's answer: floats by their bit patterns, entries by their marks, a refusal by its number.
 use Prim.Native.Nat.{ℕ}
 use mathlib.Core.List.{List, [], _∷_, map}
-use lib.Ieee.{Float, binary64, ofBits}
+use lib.Count.{trailingZeros}
+use lib.Ieee.{Float, binary64, ofBits, add, sub, mul, div, lt, le, eq, neg, sum, round, units, odd, size, span, climb}
+use Rattle.laws.specs.Count.{same}
+use Rattle.root.specs.Sqrt.{wholeRoot, nearestRoot, rootOfUnits, sqrtOf}
+use Rattle.utils.specs.Plane.{at, nearOf, dist2Of, centerOf}
 use Rattle.utils.specs.Flat.{flat}
-use Rattle.utils.specs.Plane.{at}
-use Rattle.bounding_box.specs.Box.{madeOf}
+use Rattle.utils.specs.Rules.{okCenter}
+use Rattle.bounding_box.specs.Box.{madeOf, cornersOf, insideOf, firstSide, whichOf}
+use Rattle.crossings.specs.Ray.{orderPick, eitherOf, orderBy, orderOne, orderTwo, rayOf}
+use Rattle.line_crossings.specs.Line.{oneIf, twoIf, firstHeld, rightHit, leftHit, topHit, bottomHit, uprightHit, settleOf, lineOf}
+use Rattle.vertices.specs.Add.{nearPt, findNear, addVertex}
+use Rattle.mesh.specs.Mesh.{nextOf, chosen, tableTo, turnOf, walkOf}
+use Rattle.mesh.specs.Hull.{nextPlace}
+use Rattle.iterator.specs.Neighbours.{lastEnd, startsOf, neighboursOf}
+use Rattle.paths.specs.Path.{distOf, nearestOf, hopOf, pathEnd}
 use Rattle.bounding_box.specs.declared.BoundingBox.{BoundingBox}
 use Rattle.definition.specs.declared.Fault.{Fault}
-use Rattle.definition.specs.Fault.{Outcome, ok, refused}
+use Rattle.definition.specs.Fault.{Outcome, ok, refused, andThen, atEdge}
 use Rattle.definition.specs.Cell.{Entry, entry, plain, crossing, wrapped, Taken, extension, firstCrossing, secondCrossing}
-use Rattle.definition.specs.Build.{Built}
+use Rattle.definition.specs.Cell.{wraps, withCorners, insertAt, insertEdge, edgeCrossing, clipWith, clipEdge, leave, enterAt, enter, link, crossAt, cross, clipStep, inBox, stepTo}
+use Rattle.definition.specs.Cell.{stepsTo, firstInside, turned, clipFrom, clipCell}
+use Rattle.definition.specs.Build.{Built, centerAt, centersFrom, ownersFrom, extended, extendFrom, hullRing, clipInto, clipHull, clipRest, allEntries, lostFrom, clipAll, build}
 use Rattle.definition.specs.Reused.{reusedOf}
 
 abbrev pub fromBits : ℕ → Float
@@ -43,7 +56,15 @@ pub record Row : Type 0 where
 abbrev againIn : List Taken → List ℕ
 againIn ts = reusedOf extension ts ∷ reusedOf firstCrossing ts ∷ reusedOf secondCrossing ts ∷ []
 
-unfoldable pub rowOf : Outcome Fault Built → Outcome ℕ Row
-unfolding flat
+-- a build's answer, or its fault; where it unfolds, so does everything that a build computes by
+unfoldable pub rowOf : Outcome Fault Built → Outcome Fault Row
+unfolding trailingZeros ofBits add sub mul div lt le eq neg sum round units odd size span climb same wholeRoot
+    nearestRoot rootOfUnits sqrtOf nearOf dist2Of centerOf flat okCenter madeOf cornersOf insideOf firstSide
+    whichOf oneIf twoIf firstHeld orderPick eitherOf rightHit leftHit topHit bottomHit uprightHit settleOf lineOf
+    orderBy orderOne orderTwo rayOf nearPt findNear addVertex nextOf chosen tableTo turnOf walkOf nextPlace lastEnd
+    startsOf neighboursOf distOf nearestOf hopOf pathEnd andThen atEdge wraps withCorners insertAt insertEdge
+    edgeCrossing clipWith clipEdge leave enterAt enter link crossAt cross clipStep inBox stepTo stepsTo
+    firstInside turned clipFrom clipCell centerAt centersFrom ownersFrom extended extendFrom hullRing clipInto
+    clipHull clipRest allEntries lostFrom clipAll build
 rowOf (ok r) = ok (record { vertices = flat (r .verts); cells = r .cells; owners = r .owners; lost = r .lost; again = againIn (r .steps) })
-rowOf (refused f) = refused (f .number)
+rowOf (refused f) = refused f

@@ -2,31 +2,14 @@
 use mathlib.Core.Path.{_≡_, refl}
 use mathlib.Core.List.{[], _∷_}
 use Rattle.numbers.specs.Numbers.{EMPTY}
-use lib.Count.{trailingZeros}
-use lib.Ieee.{ofBits, add, sub, mul, div, lt, le, eq, neg, sum, round, units, odd, size, span, climb}
-use Rattle.laws.specs.Count.{same}
-use Rattle.root.specs.Sqrt.{wholeRoot, nearestRoot, rootOfUnits, sqrtOf}
-use Rattle.utils.specs.Plane.{nearOf, dist2Of, centerOf}
-use Rattle.utils.specs.Flat.{flat}
-use Rattle.utils.specs.Rules.{okCenter}
-use Rattle.bounding_box.specs.Box.{madeOf, cornersOf, insideOf, firstSide, whichOf}
-use Rattle.crossings.specs.Ray.{orderPick, eitherOf, orderBy, orderOne, orderTwo, rayOf}
-use Rattle.line_crossings.specs.Line.{oneIf, twoIf, firstHeld, rightHit, leftHit, topHit, bottomHit, uprightHit, settleOf, lineOf}
-use Rattle.vertices.specs.Add.{nearPt, findNear, addVertex}
-use Rattle.mesh.specs.Mesh.{nextOf, chosen, tableTo, turnOf, walkOf}
-use Rattle.mesh.specs.Hull.{nextPlace}
 use Rattle.mesh.specs.Accepted.{mesh}
-use Rattle.iterator.specs.Neighbours.{lastEnd, startsOf, neighboursOf}
-use Rattle.paths.specs.Path.{distOf, nearestOf, hopOf, pathEnd}
-use Rattle.definition.specs.Fault.{ok, andThen, atEdge}
+use Rattle.definition.specs.Fault.{ok}
 use Rattle.definition.specs.Rows.{floats, rowBox, t, x, w, rowOf}
-use Rattle.definition.specs.Cell.{wraps, withCorners, insertAt, insertEdge, edgeCrossing, clipWith, clipEdge, leave, enterAt, enter, link, crossAt, cross, clipStep, inBox, stepTo}
-use Rattle.definition.specs.Cell.{stepsTo, firstInside, turned, clipFrom, clipCell}
-use Rattle.definition.specs.Build.{centerAt, centersFrom, ownersFrom, extended, extendFrom, hullRing, clipInto, clipHull, clipRest, allEntries, lostFrom, clipAll, build}
+use Rattle.definition.specs.Build.{build}
 
-pub rows :
-    -- an extension, two first and two second crossings take a vertex again
-    (rowOf
+-- an extension, two first and two second crossings take a vertex again
+pub all-kinds-again :
+    rowOf
     (build
     (mesh
     (floats
@@ -43,9 +26,13 @@ pub rows :
       owners = 2 ∷ 2 ∷ 2 ∷ 2 ∷ [];
       lost = 1;
       again = 1 ∷ 2 ∷ 2 ∷ [];
-    }))
-    -- an edge clipped from both its ends gives two crossings, so that the two cells share no vertex
-    × (rowOf
+    })
+unfolding rowOf
+all-kinds-again = refl
+
+-- an edge clipped from both its ends gives two crossings, so that the two cells share no vertex
+pub apart :
+    rowOf
     (build
     (mesh
     (floats
@@ -65,9 +52,13 @@ pub rows :
       owners = 2 ∷ 2 ∷ 0 ∷ 1 ∷ [];
       lost = 0;
       again = 0 ∷ 0 ∷ 0 ∷ [];
-    }))
-    -- empty hull cells are clipped again, from a half-edge that is not the leftmost
-    × (rowOf
+    })
+unfolding rowOf
+apart = refl
+
+-- empty hull cells are clipped again, from a half-edge that is not the leftmost
+pub clipped-again :
+    rowOf
     (build
     (mesh
     (floats
@@ -86,9 +77,13 @@ pub rows :
       owners = 1 ∷ 1 ∷ 1 ∷ 1 ∷ [];
       lost = 3;
       again = 0 ∷ 2 ∷ 2 ∷ [];
-    }))
-    -- a cell that covers the whole box is empty, and all corners are lost
-    × (rowOf
+    })
+unfolding rowOf
+clipped-again = refl
+
+-- a cell that covers the whole box is empty, and all corners are lost
+pub empty :
+    rowOf
     (build
     (mesh
     (floats
@@ -106,9 +101,13 @@ pub rows :
       owners = 0 ∷ 0 ∷ 0 ∷ 0 ∷ [];
       lost = 4;
       again = 0 ∷ 0 ∷ 0 ∷ [];
-    }))
-    -- a mesh far larger than the box: two extensions fall on the first one's vertex
-    × (rowOf
+    })
+unfolding rowOf
+empty = refl
+
+-- a mesh far larger than the box: two extensions fall on the first one's vertex
+pub extensions-again :
+    rowOf
     (build
     (mesh
     (floats
@@ -125,9 +124,13 @@ pub rows :
       owners = 0 ∷ 1 ∷ 0 ∷ 0 ∷ [];
       lost = 4;
       again = 2 ∷ 0 ∷ 0 ∷ [];
-    }))
-    -- a site inside: its cell is its ring of circumcenters
-    × (rowOf
+    })
+unfolding rowOf
+extensions-again = refl
+
+-- a site inside: its cell is its ring of circumcenters
+pub inner-site :
+    rowOf
     (build
     (mesh
     (floats
@@ -147,9 +150,13 @@ pub rows :
       owners = 0 ∷ 1 ∷ 2 ∷ 3 ∷ [];
       lost = 0;
       again = 0 ∷ 4 ∷ 0 ∷ [];
-    }))
-    -- a hull edge just long enough: see refused_short-edge
-    × (rowOf
+    })
+unfolding rowOf
+inner-site = refl
+
+-- a hull edge just long enough: see refused_short-edge
+pub long-enough :
+    rowOf
     (build
     (mesh
     (floats
@@ -167,9 +174,13 @@ pub rows :
       owners = 0 ∷ 2 ∷ 2 ∷ 1 ∷ [];
       lost = 2;
       again = 0 ∷ 4 ∷ 1 ∷ [];
-    }))
-    -- corners that are lost on sound input
-    × (rowOf
+    })
+unfolding rowOf
+long-enough = refl
+
+-- corners that are lost on sound input
+pub lost :
+    rowOf
     (build
     (mesh
     (floats
@@ -187,9 +198,13 @@ pub rows :
       owners = 2 ∷ 0 ∷ 1 ∷ 2 ∷ [];
       lost = 1;
       again = 0 ∷ 4 ∷ 0 ∷ [];
-    }))
-    -- the marks: of the three 2s of cell 0 one is wrapped, two are crossings that reuse the corner
-    × (rowOf
+    })
+unfolding rowOf
+lost = refl
+
+-- the marks: of the three 2s of cell 0 one is wrapped, two are crossings that reuse the corner
+pub marks :
+    rowOf
     (build
     (mesh
     (floats
@@ -209,9 +224,13 @@ pub rows :
       owners = 0 ∷ 1 ∷ 2 ∷ 3 ∷ [];
       lost = 0;
       again = 0 ∷ 8 ∷ 4 ∷ [];
-    }))
-    -- a circumcenter on the right side: the crossing there is a vertex of its own, no circumcenter is taken again
-    × (rowOf
+    })
+unfolding rowOf
+marks = refl
+
+-- a circumcenter on the right side: the crossing there is a vertex of its own, no circumcenter is taken again
+pub on-a-side :
+    rowOf
     (build
     (mesh
     (floats
@@ -229,9 +248,13 @@ pub rows :
       owners = 1 ∷ 2 ∷ 2 ∷ 1 ∷ [];
       lost = 0;
       again = 0 ∷ 4 ∷ 0 ∷ [];
-    }))
-    -- the first hull cell has no vertex inside, and its walk begins at the extension after it
-    × (rowOf
+    })
+unfolding rowOf
+on-a-side = refl
+
+-- the first hull cell has no vertex inside, and its walk begins at the extension after it
+pub rotation :
+    rowOf
     (build
     (mesh
     (floats
@@ -249,9 +272,13 @@ pub rows :
       owners = 2 ∷ 0 ∷ 0 ∷ 2 ∷ [];
       lost = 0;
       again = 0 ∷ 1 ∷ 1 ∷ [];
-    }))
-    -- "square" of docs/RULES.md
-    × (rowOf
+    })
+unfolding rowOf
+rotation = refl
+
+-- "square" of docs/RULES.md
+pub square :
+    rowOf
     (build
     (mesh
     (floats
@@ -271,9 +298,13 @@ pub rows :
       owners = 0 ∷ 1 ∷ 2 ∷ 3 ∷ [];
       lost = 0;
       again = 0 ∷ 4 ∷ 0 ∷ [];
-    }))
-    -- a cell passes the corners that it has wrapped once more
-    × (rowOf
+    })
+unfolding rowOf
+square = refl
+
+-- a cell passes the corners that it has wrapped once more
+pub struck-out :
+    rowOf
     (build
     (mesh
     (floats
@@ -291,9 +322,13 @@ pub rows :
       owners = 0 ∷ 0 ∷ 2 ∷ 2 ∷ [];
       lost = 0;
       again = 0 ∷ 3 ∷ 3 ∷ [];
-    }))
-    -- an edge with one end inside finds two crossings; the second is added or reused, and stands in no cell for that
-    × (rowOf
+    })
+unfolding rowOf
+struck-out = refl
+
+-- an edge with one end inside finds two crossings; the second is added or reused, and stands in no cell for that
+pub unused-crossing :
+    rowOf
     (build
     (mesh
     (floats
@@ -310,9 +345,13 @@ pub rows :
       owners = 0 ∷ 0 ∷ 1 ∷ 0 ∷ [];
       lost = 1;
       again = 0 ∷ 5 ∷ 1 ∷ [];
-    }))
-    -- "square" with a fifth, unused site
-    × (rowOf
+    })
+unfolding rowOf
+unused-crossing = refl
+
+-- "square" with a fifth, unused site
+pub unused-site :
+    rowOf
     (build
     (mesh
     (floats
@@ -332,13 +371,6 @@ pub rows :
       owners = 0 ∷ 1 ∷ 2 ∷ 3 ∷ [];
       lost = 0;
       again = 0 ∷ 4 ∷ 0 ∷ [];
-    }))
-unfolding trailingZeros ofBits add sub mul div lt le eq neg sum round units odd size span climb same wholeRoot
-    nearestRoot rootOfUnits sqrtOf nearOf dist2Of centerOf flat okCenter madeOf cornersOf insideOf firstSide
-    whichOf oneIf twoIf firstHeld orderPick eitherOf rightHit leftHit topHit bottomHit uprightHit settleOf lineOf
-    orderBy orderOne orderTwo rayOf nearPt findNear addVertex nextOf chosen tableTo turnOf walkOf nextPlace lastEnd
-    startsOf neighboursOf distOf nearestOf hopOf pathEnd andThen atEdge wraps withCorners insertAt insertEdge
-    edgeCrossing clipWith clipEdge leave enterAt enter link crossAt cross clipStep inBox stepTo stepsTo
-    firstInside turned clipFrom clipCell centerAt centersFrom ownersFrom extended extendFrom hullRing clipInto
-    clipHull clipRest allEntries lostFrom clipAll build rowOf
-rows = (refl, refl, refl, refl, refl, refl, refl, refl, refl, refl, refl, refl, refl, refl, refl)
+    })
+unfolding rowOf
+unused-site = refl

@@ -1,32 +1,15 @@
--- Rows: meshes that are refused: where the Rust panics (13, 14), and where rules 11 and 12 refuse before it is asked. Written by rows/make.py from what the Rust answered; not by hand.
+-- Rows: meshes that are refused, each with its whole fault: where the Rust panics (13, 14), and where rules 11 and 12 refuse before it is asked. Written by rows/make.py; not by hand.
 use mathlib.Core.Path.{_≡_, refl}
 use mathlib.Core.List.{[], _∷_}
 use Rattle.numbers.specs.Numbers.{EMPTY, refusedCircumcenter, refusedExtension, refusedNoCrossing, refusedOneCrossing}
-use lib.Count.{trailingZeros}
-use lib.Ieee.{ofBits, add, sub, mul, div, lt, le, eq, neg, sum, round, units, odd, size, span, climb}
-use Rattle.laws.specs.Count.{same}
-use Rattle.root.specs.Sqrt.{wholeRoot, nearestRoot, rootOfUnits, sqrtOf}
-use Rattle.utils.specs.Plane.{nearOf, dist2Of, centerOf}
-use Rattle.utils.specs.Flat.{flat}
-use Rattle.utils.specs.Rules.{okCenter}
-use Rattle.bounding_box.specs.Box.{madeOf, cornersOf, insideOf, firstSide, whichOf}
-use Rattle.crossings.specs.Ray.{orderPick, eitherOf, orderBy, orderOne, orderTwo, rayOf}
-use Rattle.line_crossings.specs.Line.{oneIf, twoIf, firstHeld, rightHit, leftHit, topHit, bottomHit, uprightHit, settleOf, lineOf}
-use Rattle.vertices.specs.Add.{nearPt, findNear, addVertex}
-use Rattle.mesh.specs.Mesh.{nextOf, chosen, tableTo, turnOf, walkOf}
-use Rattle.mesh.specs.Hull.{nextPlace}
 use Rattle.mesh.specs.Accepted.{mesh}
-use Rattle.iterator.specs.Neighbours.{lastEnd, startsOf, neighboursOf}
-use Rattle.paths.specs.Path.{distOf, nearestOf, hopOf, pathEnd}
-use Rattle.definition.specs.Fault.{refused, andThen, atEdge}
+use Rattle.definition.specs.Fault.{refused, fault}
 use Rattle.definition.specs.Rows.{floats, rowBox, rowOf}
-use Rattle.definition.specs.Cell.{wraps, withCorners, insertAt, insertEdge, edgeCrossing, clipWith, clipEdge, leave, enterAt, enter, link, crossAt, cross, clipStep, inBox, stepTo}
-use Rattle.definition.specs.Cell.{stepsTo, firstInside, turned, clipFrom, clipCell}
-use Rattle.definition.specs.Build.{centerAt, centersFrom, ownersFrom, extended, extendFrom, hullRing, clipInto, clipHull, clipRest, allEntries, lostFrom, clipAll, build}
+use Rattle.definition.specs.Build.{build}
 
-pub rows :
-    -- 14: rounding at a corner
-    (rowOf
+-- 14: rounding at a corner
+pub at-a-corner :
+    rowOf
     (build
     (mesh
     (floats
@@ -36,9 +19,13 @@ pub rows :
     (EMPTY ∷ 5 ∷ EMPTY ∷ EMPTY ∷ EMPTY ∷ 1 ∷ [])
     (0 ∷ 3 ∷ 1 ∷ 2 ∷ []))
     (rowBox 0x4000000000000000 0x4000000000000000 0x3ff0000000000000 0x3ff0000000000000))
-    ≡ refused refusedOneCrossing)
-    -- 14: an extension within the box
-    × (rowOf
+    ≡ refused (fault refusedOneCrossing 1 1 0)
+unfolding rowOf
+at-a-corner = refl
+
+-- 14: an extension within the box
+pub large-box :
+    rowOf
     (build
     (mesh
     (floats
@@ -48,9 +35,13 @@ pub rows :
     (EMPTY ∷ EMPTY ∷ 3 ∷ 2 ∷ EMPTY ∷ EMPTY ∷ [])
     (0 ∷ 1 ∷ 2 ∷ 3 ∷ []))
     (rowBox 0 0 0x4212a05f20000000 0x4212a05f20000000))
-    ≡ refused refusedOneCrossing)
-    -- 13: a lone point judged by its own signs
-    × (rowOf
+    ≡ refused (fault refusedOneCrossing 2 7 8)
+unfolding rowOf
+large-box = refl
+
+-- 13: a lone point judged by its own signs
+pub lone-point :
+    rowOf
     (build
     (mesh
     (floats
@@ -59,9 +50,13 @@ pub rows :
     (EMPTY ∷ EMPTY ∷ EMPTY ∷ [])
     (0 ∷ 1 ∷ 2 ∷ []))
     (rowBox 0x3ff8000000000000 0x3ff8000000000000 0x4000000000000000 0x4000000000000000))
-    ≡ refused refusedNoCrossing)
-    -- 11: three sites on a line
-    × (rowOf
+    ≡ refused (fault refusedNoCrossing 0 0 7)
+unfolding rowOf
+lone-point = refl
+
+-- 11: three sites on a line
+pub on-a-line :
+    rowOf
     (build
     (mesh
     (floats
@@ -70,9 +65,13 @@ pub rows :
     (EMPTY ∷ EMPTY ∷ EMPTY ∷ [])
     (0 ∷ 1 ∷ 2 ∷ []))
     (rowBox 0 0 0x4000000000000000 0x4000000000000000))
-    ≡ refused refusedCircumcenter)
-    -- 13: rounding
-    × (rowOf
+    ≡ refused (fault refusedCircumcenter 0 0 0)
+unfolding rowOf
+on-a-line = refl
+
+-- 13: rounding
+pub rounding :
+    rowOf
     (build
     (mesh
     (floats
@@ -81,9 +80,13 @@ pub rows :
     (EMPTY ∷ EMPTY ∷ EMPTY ∷ [])
     (0 ∷ 1 ∷ 2 ∷ []))
     (rowBox 0 0 0x4000000000000000 0x4000000000000000))
-    ≡ refused refusedNoCrossing)
-    -- 12: a hull edge so short that its squares underflow
-    × (rowOf
+    ≡ refused (fault refusedNoCrossing 0 5 0)
+unfolding rowOf
+rounding = refl
+
+-- 12: a hull edge so short that its squares underflow
+pub short-edge :
+    rowOf
     (build
     (mesh
     (floats
@@ -92,9 +95,13 @@ pub rows :
     (EMPTY ∷ EMPTY ∷ EMPTY ∷ [])
     (0 ∷ 1 ∷ 2 ∷ []))
     (rowBox 0 0 0x4000000000000000 0x4000000000000000))
-    ≡ refused refusedExtension)
-    -- 13: a circumcenter on the top side, left there
-    × (rowOf
+    ≡ refused (fault refusedExtension 0 0 0)
+unfolding rowOf
+short-edge = refl
+
+-- 13: a circumcenter on the top side, left there
+pub top-side :
+    rowOf
     (build
     (mesh
     (floats
@@ -103,9 +110,13 @@ pub rows :
     (EMPTY ∷ EMPTY ∷ EMPTY ∷ [])
     (0 ∷ 1 ∷ 2 ∷ []))
     (rowBox 0 0 0x4000000000000000 0x4000000000000000))
-    ≡ refused refusedNoCrossing)
-    -- 13: both ends of an edge within the tolerance
-    × (rowOf
+    ≡ refused (fault refusedNoCrossing 0 0 7)
+unfolding rowOf
+top-side = refl
+
+-- 13: both ends of an edge within the tolerance
+pub within :
+    rowOf
     (build
     (mesh
     (floats
@@ -115,13 +126,6 @@ pub rows :
     (EMPTY ∷ EMPTY ∷ 3 ∷ 2 ∷ EMPTY ∷ EMPTY ∷ [])
     (0 ∷ 1 ∷ 2 ∷ 3 ∷ []))
     (rowBox 0xbfe0000000000000 0 0x3ff0000000000000 0x4000000000000000))
-    ≡ refused refusedNoCrossing)
-unfolding trailingZeros ofBits add sub mul div lt le eq neg sum round units odd size span climb same wholeRoot
-    nearestRoot rootOfUnits sqrtOf nearOf dist2Of centerOf flat okCenter madeOf cornersOf insideOf firstSide
-    whichOf oneIf twoIf firstHeld orderPick eitherOf rightHit leftHit topHit bottomHit uprightHit settleOf lineOf
-    orderBy orderOne orderTwo rayOf nearPt findNear addVertex nextOf chosen tableTo turnOf walkOf nextPlace lastEnd
-    startsOf neighboursOf distOf nearestOf hopOf pathEnd andThen atEdge wraps withCorners insertAt insertEdge
-    edgeCrossing clipWith clipEdge leave enterAt enter link crossAt cross clipStep inBox stepTo stepsTo
-    firstInside turned clipFrom clipCell centerAt centersFrom ownersFrom extended extendFrom hullRing clipInto
-    clipHull clipRest allEntries lostFrom clipAll build rowOf
-rows = (refl, refl, refl, refl, refl, refl, refl, refl)
+    ≡ refused (fault refusedNoCrossing 0 0 1)
+unfolding rowOf
+within = refl

@@ -1,2 +1,5 @@
 pub mod Replayed
+pub mod Judged
+pub mod Tallied
+pub mod AsStored
 pub mod laws

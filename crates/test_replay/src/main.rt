@@ -16,7 +16,11 @@ use test_words::index;
 use test_words::word;
 ghost use mathlib.Core.Path.{_≡_};
 ghost use Prim.Native.Nat.{_+_, _≤_, _<_};
-ghost use lib.ListN.{length};
+ghost use lib.ListN.{length, replicate};
+ghost use Rattle.mesh.specs.Accepted.{mesh};
+ghost use Rattle.admission.specs.Slices.{slices};
+ghost use Rattle.test_replay.specs.Judged.{AnswersJudged, BuildReplayed};
+ghost use Rattle.test_replay.specs.Tallied.{sevensOf, Replayed, RecordVerdict, NextRead, tallyWith, RecordsTallied};
 
 // A mesh's answers: as stored, built or refused; or different.
 const BUILT: u32 = 0;
@@ -45,7 +49,10 @@ fn judge(
     indexes: &[u32],
     offsets: &[u32],
     counts: &[u32],
-) -> u32 {
+) -> u32
+    ensures { λ r. ⌜ AnswersJudged (mesh (now (sites .entry)) (now (triangles .entry)) (now (halfedges .entry)) (now (hull .entry))) (now (b .entry)) k number
+        (slices (now (work .entry)) (now (vertices .entry)) (now (indexes .entry)) (now (offsets .entry)) (now (counts .entry))) (now (work .exit)) r ⌝ }
+{
     if number != word(b, k) {
         return DIFFERENT;
     }
@@ -105,7 +112,10 @@ fn answers(
     vertices: &mut [f64],
     indexes: &mut [u32],
     offsets: &mut [u32],
-) -> u32 {
+) -> u32
+    ensures { λ r. ⌜ BuildReplayed (mesh (now (sites .entry)) (now (triangles .entry)) (now (halfedges .entry)) (now (hull .entry))) (now (b .entry)) k
+        (slices (now (work .entry)) (now (vertices .entry)) (now (indexes .entry)) (now (offsets .entry)) (replicate 9 7)) r ⌝ }
+{
     let mut counts = [BEFORE; 9];
     let number = builds::build(
         b,
@@ -145,6 +155,8 @@ fn replay(
     hull: &[u32],
 ) -> u32
     requires { ⌜ (length (now sites) ≤ 128) × (length (now triangles) ≤ 128) × (length (now hull) ≤ 64) ⌝ }
+    ensures { λ r. ⌜ BuildReplayed (mesh (now (sites .entry)) (now (triangles .entry)) (now (halfedges .entry)) (now (hull .entry))) (now (b .entry)) k
+        (sevensOf (mesh (now (sites .entry)) (now (triangles .entry)) (now (halfedges .entry)) (now (hull .entry)))) r ⌝ }
 {
     let mut work = [BEFORE; 64];
     let mut vertices = [BEFORE_FLOAT; 1300];
@@ -179,6 +191,8 @@ fn mesh(
     hull: &mut [u32],
 ) -> u32
     requires { ⌜ (length (now sites) ≤ 128) × (length (now triangles) ≤ 128) × (length (now hull) ≤ 64) ⌝ }
+    ensures { λ r. ⌜ Replayed (now (b .entry)) (length (now (sites .entry))) (length (now (triangles .entry))) (length (now (halfedges .entry)))
+        (length (now (hull .entry))) r ⌝ }
 {
     let from = after(13, 2 * sites.len());
     let pairs = after(from, triangles.len());
@@ -200,6 +214,7 @@ fn mesh(
 // With lists of these lengths.
 fn sized(b: &[u8], s: usize, t: usize, e: usize, h: usize) -> u32
     requires { ⌜ (s ≤ 128) × (t ≤ 128) × (e ≤ 128) × (h ≤ 64) ⌝ }
+    ensures { λ r. ⌜ Replayed (now (b .entry)) s t e h r ⌝ }
 {
     let mut sites = [0.0f64; 128];
     let mut triangles = [0u32; 128];
@@ -214,7 +229,9 @@ fn sized(b: &[u8], s: usize, t: usize, e: usize, h: usize) -> u32
     )
 }
 
-fn record(b: &[u8]) -> u32 {
+fn record(b: &[u8]) -> u32
+    ensures { λ r. ⌜ RecordVerdict (now (b .entry)) r ⌝ }
+{
     let s = index(b, 1);
     let t = index(b, 2);
     let e = index(b, 3);
@@ -236,7 +253,7 @@ fn record(b: &[u8]) -> u32 {
 
 fn tallied(all: Tally, verdict: u32) -> Tally
     requires { ⌜ all .built + all .refused + all .different < 4294967295 ⌝ }
-    ensures { λ r. ⌜ r .built + r .refused + r .different ≡ all .built + all .refused + all .different + 1 ⌝ }
+    ensures { λ r. ⌜ r ≡ tallyWith all verdict ⌝ }
 {
     let mut n = all;
     if verdict == BUILT {
@@ -257,7 +274,9 @@ fn say(n: u32, what: &[u8]) {
 }
 
 // A record's bytes, as many as the slice has.
-fn body(b: &mut [u8]) -> u32 {
+fn body(b: &mut [u8]) -> u32
+    ensures { λ r. ⌜ NextRead r ⌝ }
+{
     let got = io::read_full(STDIN_FILENO, b);
     if got < b.len() {
         return DIFFERENT;
@@ -266,7 +285,9 @@ fn body(b: &mut [u8]) -> u32 {
 }
 
 // The next record: its length in words, and its words.
-fn next() -> u32 {
+fn next() -> u32
+    ensures { λ r. ⌜ NextRead r ⌝ }
+{
     let mut head = [0u8; 4];
     if io::read_full(STDIN_FILENO, &mut head) < 4 {
         return DIFFERENT;
@@ -281,7 +302,9 @@ fn next() -> u32 {
 }
 
 // The next record, which is number i.
-fn one(i: u32) -> u32 {
+fn one(i: u32) -> u32
+    ensures { λ r. ⌜ NextRead r ⌝ }
+{
     let verdict = next();
     if verdict == DIFFERENT {
         say(i, b" differs\n");
@@ -289,7 +312,9 @@ fn one(i: u32) -> u32 {
     verdict
 }
 
-fn each(count: u32) -> Tally {
+fn each(count: u32) -> Tally
+    ensures { λ r. ⌜ RecordsTallied count r ⌝ }
+{
     let mut all = Tally {
         built: 0,
         refused: 0,

@@ -2,6 +2,10 @@
 use mathlib.Core.Path.{sym, _∙_}
 use native.Mathlib.Omega.{arith}
 use lib.ListN.{length-take}
+use denote.Ref.{now}
+use Rattle.mesh.specs.Accepted.{Mesh, mesh}
+use Rattle.admission.specs.Slices.{Slices, slices}
+use Rattle.admission.specs.Admission.{BuildAdmission}
 use Rattle.build_answers.specs.laws.BuildAnswer.{table-fits, nine-of}
 use Rattle.build_answers.specs.laws.ClippedBuild.{clipped-early, clipped-asks, count-fits, reused-fit, clipped-built}
 use borrow.Author.Needs.{needs}
@@ -29,31 +33,44 @@ Ends c = c .before .before .before .before .before .before .before .before
 abbrev Known : tie.After-slice-known15 → tie.After-slice-known10
 Known c = Accepts (Made (Ends c)) .before
 
+-- what the call was lent, and what the slices hold once it is admitted
+abbrev Lent : tie.After-admit-build → Mesh
+Lent a = let g = Begin a .args in mesh (now (g .sites)) (now (g .triangles)) (now (g .halfedges)) (now (g .hull))
+
+abbrev Old : tie.After-admit-build → Slices
+Old a = let g = Begin a .args in slices (now (g .work)) (now (g .vertices)) (now (g .indexes)) (now (g .offsets)) (now (g .counts))
+
+abbrev New : tie.After-admit-build → Slices
+New a = let l = a .admit-build .last .1 .1 .1 .1 .1 in slices (l .0) (l .1 .0) (l .1 .1 .0) (l .1 .1 .1 .0) (l .1 .1 .1 .1 .0)
+
+admits : (a : tie.After-admit-build) → BuildAdmission (Lent a) (Asked a .ask-box .result) (Old a) (New a) (a .admit-build .result)
+admits a = a .admit-build .ensures
+
 returns : tie.Need-returns
 returns c =
     let a = Admit (c .before) in
-    clipped-early (a .admit-build .ensures) _ (Asked a .ask-box .ensures) (c .if1 .taken)
+    clipped-early (admits a) (Begin a .args .given) (Asked a .ask-box .ensures) (c .if1 .taken)
 
 slice-reshare-prefix-build-cells : tie.Need-slice-reshare-prefix-build-cells
-slice-reshare-prefix-build-cells c = table-fits (Admit (c .before) .admit-build .ensures) (c .if1 .left)
+slice-reshare-prefix-build-cells c = table-fits (admits (Admit (c .before))) (c .if1 .left)
 
 slice-aggregate-build-cells : tie.Need-slice-aggregate-build-cells
-slice-aggregate-build-cells c = sym (simp length-take (omega (arith, table-fits (Admit (c .before .before) .admit-build .ensures) (c .before .if1 .left))))
+slice-aggregate-build-cells c = sym (simp length-take (omega (arith, table-fits (admits (Admit (c .before .before))) (c .before .if1 .left))))
 
 build-cells-requires : tie.Need-build-cells-requires
 build-cells-requires c κs =
     let e = c .before .before .before .before in
     let a = Admit (e .before) in
-    clipped-asks (a .admit-build .ensures) _ (Asked a .ask-box .ensures) (Begin a .pre) (e .if1 .left)
+    clipped-asks (admits a) (Begin a .args .given) (Asked a .ask-box .ensures) (Begin a .pre) (e .if1 .left)
 
 finish-clipped-requires : tie.Need-finish-clipped-requires
 finish-clipped-requires c κs =
     let m = Made (c .before .before .before) in
     let e = Accepts m in
     let a = Admit (e .before) in (
-      count-fits (a .admit-build .ensures) _ (Asked a .ask-box .ensures) (Begin a .pre) (e .if1 .left) _ (m .build-cells .ensures .0),
-      reused-fit (a .admit-build .ensures) _ (Asked a .ask-box .ensures) (Begin a .pre) (e .if1 .left) _ (m .build-cells .ensures .0),
-      nine-of (a .admit-build .ensures) (e .if1 .left),
+      count-fits (admits a) (Begin a .args .given) (Asked a .ask-box .ensures) (Begin a .pre) (e .if1 .left) (m .build-cells .result) (m .build-cells .ensures .0),
+      reused-fit (admits a) (Begin a .args .given) (Asked a .ask-box .ensures) (Begin a .pre) (e .if1 .left) (m .build-cells .result) (m .build-cells .ensures .0),
+      nine-of (admits a) (e .if1 .left),
     )
 
 same-length-6 : tie.Need-same-length-6
@@ -82,7 +99,7 @@ returns-2 c =
     let a = Admit (e .before) in
     let b = m .build-cells .ensures in
     let f = c .before .before .before .before .finish-clipped .ensures in
-    clipped-built (a .admit-build .ensures) _ (Asked a .ask-box .ensures) (Begin a .pre) (e .if1 .left) _ (b .0) (b .1) f
+    clipped-built (admits a) (Begin a .args .given) (Asked a .ask-box .ensures) (Begin a .pre) (e .if1 .left) (m .build-cells .result) (b .0) (b .1) f
 
 pub build-spec : {M : Type 1} → statement M
 build-spec =

@@ -42,6 +42,19 @@ pick-refused : {F A : Type 0} (t : Bool) (a : A) (f g : F) → pick {A = Outcome
 pick-refused true a f g h = absurd (not-both h)
 pick-refused false a f g h = (refl, sym (refused-same h))
 
+ok-pick : {F A : Type 0} (t : Bool) (a : A) (f : F) → t ≡ true → pick {A = Outcome F A} t (λ _. ok a) (λ _. refused f) ≡ ok a
+ok-pick t a f h = rw h refl
+
+refused-pick : {F A : Type 0} (t : Bool) (a : A) (f g : F) → t ≡ false → g ≡ f → pick {A = Outcome F A} t (λ _. ok a) (λ _. refused f) ≡ refused g
+refused-pick t a f g h q = rw (h, q) refl
+
+-- what follows such a choice is chosen with it
+pick-then : {F A B : Type 0} (t : Bool) (a : A) (f : F) (next other : A → Outcome F B) → other a ≡ next a
+    → pick t (λ _. other a) (λ _. refused f) ≡ andThen (pick t (λ _. ok a) (λ _. refused f)) next
+unfolding andThen
+pick-then true a f next other h = h
+pick-then false a f next other h = refl
+
 -- ---- circumcenters
 
 module _ (sites : List Float) (tri : List ℕ) where
@@ -52,18 +65,11 @@ module _ (sites : List Float) (tri : List ℕ) where
   centerStep t vs = pick (okCenter (centerAt sites tri t)) (λ _. ok (vs ++ centerAt sites tri t ∷ [])) (λ _. refused (badCenter t))
 
   centers-loop : (k t : ℕ) (vs : List Point) → centersFrom sites tri t k vs ≡ loop centerStep t k vs
-  unfolding centersFrom loop andThen
+  unfolding centersFrom loop
   centers-loop zero t vs = refl
-  centers-loop (suc k) t vs = by (okCenter (centerAt sites tri t)) (centers-loop k (suc t) (vs ++ centerAt sites tri t ∷ []))
-    where
-      ws : List Point
-      ws = vs ++ centerAt sites tri t ∷ []
-
-      by : (o : Bool) → centersFrom sites tri (suc t) k ws ≡ loop centerStep (suc t) k ws
-          → pick o (λ _. centersFrom sites tri (suc t) k ws) (λ _. refused (badCenter t))
-          ≡ andThen (pick o (λ _. ok ws) (λ _. refused (badCenter t))) (λ r. loop centerStep (suc t) k r)
-      by true h = h
-      by false h = refl
+  centers-loop (suc k) t vs =
+      let ws = vs ++ centerAt sites tri t ∷ [] in
+      pick-then (okCenter (centerAt sites tri t)) ws (badCenter t) (loop centerStep (suc t) k) (centersFrom sites tri (suc t) k) (centers-loop k (suc t) ws)
 
   centers-run : (k : ℕ) → centersFrom sites tri 0 k [] ≡ run centerStep k []
   centers-run k = centers-loop k 0 [] ∙ loop-run centerStep k []
@@ -85,7 +91,7 @@ module _ (sites : List Float) (tri : List ℕ) where
   centers-kept : (k : ℕ) → ((u : ℕ) → u < k → Kept u) → run centerStep k [] ≡ ok (centersTo sites tri k)
   unfolding centersTo run
   centers-kept zero h = refl
-  centers-kept (suc k) h = then-ok (centerStep k) (centers-kept k (λ u l. h u (omega arith))) ∙ rw (h k (omega arith)) refl
+  centers-kept (suc k) h = then-ok (centerStep k) (centers-kept k (λ u l. h u (omega arith))) ∙ ok-pick _ _ _ (h k (omega arith))
 
   pub centers-ok : {vs : List Point} → centersFrom sites tri 0 (length tri / 3) [] ≡ ok vs → Keeps (centerRule sites tri) × (vs ≡ centersTo sites tri (length tri / 3))
   centers-ok h = centers-done (length tri / 3) (sym (centers-run (length tri / 3)) ∙ h)
@@ -102,7 +108,7 @@ module _ (sites : List Float) (tri : List ℕ) where
   pub broken-centers : {f : Fault} → Breaks (centerRule sites tri) f → centersFrom sites tri 0 (length tri / 3) [] ≡ refused f
   broken-centers {f} (k, first, l, q) =
       centers-run (length tri / 3) ∙ refused-run centerStep (length tri / 3) k [] (centersTo sites tri k) l (centers-kept k (first .before))
-      (rw (not-true (okCenter (centerAt sites tri k)) (first .at l), q) refl)
+      (refused-pick _ _ _ f (not-true (okCenter (centerAt sites tri k)) (first .at l)) q)
 
   pub centers-length : (k : ℕ) → length (centersTo sites tri k) ≡ k
   unfolding centersTo
@@ -157,15 +163,11 @@ module _ {sites : List Float} {tri he hull : List ℕ} (a : Accepted (mesh sites
   extendStep i x = pick (finiteIn (x .verts) i) (λ _. ok (added i x)) (λ _. refused (notFinite i))
 
   extend-loop : (k i : ℕ) (x : Extensions) → extendFrom sites tri hull (leftmostOf tri he (siteCount sites)) (length tri / 3) i k x ≡ loop extendStep i k x
-  unfolding extendFrom loop andThen
+  unfolding extendFrom loop
   extend-loop zero i x = refl
-  extend-loop (suc k) i x = by (finiteIn (x .verts) i) (extend-loop k (suc i) (added i x))
-    where
-      by : (o : Bool) → extendFrom sites tri hull (leftmostOf tri he (siteCount sites)) (length tri / 3) (suc i) k (added i x) ≡ loop extendStep (suc i) k (added i x)
-          → pick o (λ _. extendFrom sites tri hull (leftmostOf tri he (siteCount sites)) (length tri / 3) (suc i) k (added i x)) (λ _. refused (notFinite i))
-          ≡ andThen (pick o (λ _. ok (added i x)) (λ _. refused (notFinite i))) (λ r. loop extendStep (suc i) k r)
-      by true h = h
-      by false h = refl
+  extend-loop (suc k) i x =
+      pick-then (finiteIn (x .verts) i) (added i x) (notFinite i) (loop extendStep (suc i) k)
+      (extendFrom sites tri hull (leftmostOf tri he (siteCount sites)) (length tri / 3) (suc i) k) (extend-loop k (suc i) (added i x))
 
   abbrev begin : Extensions
   begin = extensions (centers ++ cornersOf b) [] []
@@ -208,7 +210,7 @@ module _ {sites : List Float} {tri he hull : List ℕ} (a : Accepted (mesh sites
       let w = extend-kept k (omega arith) (λ u l. h u (omega arith)) in
       let d = extend-done k (omega arith) (w .1) in
       let f : finiteIn (w .0 .verts) k ≡ true = rw (same-extension (w .0 .verts) (d .1) k (omega arith)) (h k (omega arith)) in
-      (added k (w .0), then-ok (extendStep k) (w .1) ∙ rw f refl)
+      (added k (w .0), then-ok (extendStep k) (w .1) ∙ ok-pick _ _ _ f)
 
   pub extend-ok : {x : Extensions} → ExtendedTo (mesh sites tri he hull) b (length hull) x → Keeps (extensionRule (mesh sites tri he hull))
   extend-ok h = extend-done (length hull) (omega arith) (sym (extend-run (length hull)) ∙ h) .0
@@ -232,4 +234,4 @@ module _ {sites : List Float} {tri he hull : List ℕ} (a : Accepted (mesh sites
       let d = extend-done k (omega arith) (w .1) in
       let s = same-extension (w .0 .verts) (d .1) k l in
       let n : finiteIn (w .0 .verts) k ≡ false = rw s (not-true _ (first .at l)) in
-      extend-run (length hull) ∙ refused-run extendStep (length hull) k begin (w .0) l (w .1) (rw (n, q) refl)
+      extend-run (length hull) ∙ refused-run extendStep (length hull) k begin (w .0) l (w .1) (refused-pick _ _ _ f n q)
