@@ -11,6 +11,7 @@ use Rattle.vertices.specs.Store.{Holds}
 use Rattle.definition.specs.Fault.{Outcome, ok, refused, fault}
 use Rattle.definition.specs.declared.Fault.{Fault}
 use Rattle.definition.specs.Cell as Def
+use Rattle.definition.specs.Short
 use Rattle.definition.specs.Reused.{CountsReused}
 use Rattle.definition.specs.Sides.{Sided, SidedCorners}
 use Rattle.clip_corners.specs.CellEntries.{EntryRoom}
@@ -23,7 +24,7 @@ use Rattle.clipping.specs.declared.RingStepped.{RingStepped}
 
 -- the walk's state as the definition has it: the slice v holds its vertices
 abbrev pub tipOf : Tip → List Float → Def.Tip
-tipOf t v = Def.tip (points (t .count) v) (t .cell .owners) (t .cell .last) (t .vertex) (t .inside) (t .opened)
+tipOf t v = Short.tip (points (t .count) v) (t .cell .owners) (t .cell .last) (t .vertex) (t .inside) (t .opened)
 
 -- the ring's vertex is one, and where it is inside the cell is shut; an open cell has a last entry, and that is on a side
 pub record Stands (env : Env) (t : Tip) (v : List Float) : Type 0 where

@@ -46,6 +46,7 @@ unmarked es = map (λ (e : Entry). e .at) es
 
 pub data StepKind : Type 0 where
   extension firstCrossing secondCrossing : StepKind
+  deriving Discrete as StepKind-discrete
 
 -- such a step: its kind, and whether the point was new or a vertex was taken again
 pub record Taken : Type 0 where
@@ -154,31 +155,22 @@ pub record Change : Type 0 where
   pub opened : Bool
   pub steps : List Taken
 
-abbrev pub change : List Point → List ℕ → List Entry → Bool → List Taken → Change
-change vs os es o ts = record { verts = vs; owners = os; new = es; opened = o; steps = ts }
-
-abbrev pub tookOne : Added → List Taken
-tookOne r = took firstCrossing r ∷ []
-
-abbrev pub tookTwo : Added → Added → List Taken
-tookTwo r t = took firstCrossing r ∷ took secondCrossing t ∷ []
-
 -- from inside to outside
 unfoldable pub leave : ℕ → List ℕ → EdgeClip → Outcome ℕ Change
 leave p os missed = refused refusedNoCrossing
-leave p os (once r) = ok (change (r .verts) os (entry plain p ∷ entry crossing (r .at) ∷ []) true (tookOne r))
-leave p os (twice r t) = ok (change (t .verts) os (entry plain p ∷ entry crossing (r .at) ∷ []) true (tookTwo r t))
+leave p os (once r) = ok (record { verts = r .verts; owners = os; new = entry plain p ∷ entry crossing (r .at) ∷ []; opened = true; steps = took firstCrossing r ∷ [] })
+leave p os (twice r t) = ok (record { verts = t .verts; owners = os; new = entry plain p ∷ entry crossing (r .at) ∷ []; opened = true; steps = took firstCrossing r ∷ took secondCrossing t ∷ [] })
 
 -- from outside to inside; last is the cell's last entry
 unfoldable pub enterAt : BoundingBox → ℕ → ℕ → List Point → List ℕ → ℕ → ℕ → List Taken → Change
 enterAt b nc site vs os last first ts =
     let i = insertEdge b nc site vs os last last first in
-    change vs (i .owners) (i .new) false ts
+    record { verts = vs; owners = i .owners; new = i .new; opened = false; steps = ts }
 
 unfoldable pub enter : BoundingBox → ℕ → ℕ → List ℕ → ℕ → EdgeClip → Outcome ℕ Change
 enter b nc site os last missed = refused refusedNoCrossing
-enter b nc site os last (once r) = ok (enterAt b nc site (r .verts) os last (r .at) (tookOne r))
-enter b nc site os last (twice r t) = ok (enterAt b nc site (t .verts) os last (r .at) (tookTwo r t))
+enter b nc site os last (once r) = ok (enterAt b nc site (r .verts) os last (r .at) (took firstCrossing r ∷ []))
+enter b nc site os last (twice r t) = ok (enterAt b nc site (t .verts) os last (r .at) (took firstCrossing r ∷ took secondCrossing t ∷ []))
 
 -- both outside: an open cell is first led from its last entry to the first crossing
 unfoldable pub link : BoundingBox → ℕ → ℕ → List Point → List ℕ → Bool → ℕ → ℕ → Ins
@@ -188,20 +180,20 @@ unfoldable pub crossAt : BoundingBox → ℕ → ℕ → List Point → List ℕ
 crossAt b nc site vs os opened last first second ts =
     let i = link b nc site vs os opened last first in
     let j = insertEdge b nc site vs (i .owners) (lastOr last (i .new)) first second in
-    change vs (j .owners) (i .new ++ j .new) opened ts
+    record { verts = vs; owners = j .owners; new = i .new ++ j .new; opened = opened; steps = ts }
 
 -- a lone crossing is refused; that an open cell was led to it first, a refused build does not show
 unfoldable pub cross : BoundingBox → ℕ → ℕ → List Point → List ℕ → Bool → ℕ → EdgeClip → Outcome ℕ Change
-cross b nc site vs os opened last missed = ok (change vs os [] opened [])
+cross b nc site vs os opened last missed = ok (record { verts = vs; owners = os; new = []; opened = opened; steps = [] })
 cross b nc site vs os opened last (once r) = refused refusedOneCrossing
-cross b nc site vs os opened last (twice r t) = ok (crossAt b nc site (t .verts) os opened last (r .at) (t .at) (tookTwo r t))
+cross b nc site vs os opened last (twice r t) = ok (crossAt b nc site (t .verts) os opened last (r .at) (t .at) (took firstCrossing r ∷ took secondCrossing t ∷ []))
 
 -- the four cases; pIn and qIn: whether p and q are inside
 unfoldable pub clipStep : BoundingBox → ℕ → ℕ → ℕ → Bool → ℕ → Bool → List Point → List ℕ → Bool → ℕ → Outcome ℕ Change
 clipStep b nc site p pIn q qIn vs os opened last =
     pick pIn
     (λ _. pick qIn
-    (λ _. ok (change vs os (entry plain p ∷ []) opened []))
+    (λ _. ok (record { verts = vs; owners = os; new = entry plain p ∷ []; opened = opened; steps = [] }))
     (λ _. leave p os (clipEdge b nc vs p q)))
     (λ _. pick qIn
     (λ _. enter b nc site os last (clipEdge b nc vs q p))
@@ -222,36 +214,24 @@ pub record Tip : Type 0 where
   pub pIn : Bool
   pub opened : Bool
 
-abbrev pub tip : List Point → List ℕ → ℕ → ℕ → Bool → Bool → Tip
-tip vs os l p i o = record { verts = vs; owners = os; last = l; p = p; pIn = i; opened = o }
-
 -- where some edges of the ring lead, the entries that they add, and the points that they added or took again
 pub record RingPart : Type 0 where
   pub tip : Tip
   pub new : List Entry
   pub steps : List Taken
 
-abbrev pub part : Tip → List Entry → List Taken → RingPart
-part t es ts = record { tip = t; new = es; steps = ts }
-
-abbrev pub partsJoined : RingPart → RingPart → RingPart
-partsJoined c d = part (d .tip) (c .new ++ d .new) (c .steps ++ d .steps)
-
-abbrev pub moved : Tip → ℕ → Bool → Change → RingPart
-moved t q qIn d = part (tip (d .verts) (d .owners) (lastOr (t .last) (d .new)) q qIn (d .opened)) (d .new) (d .steps)
-
 unfoldable pub stepTo : BoundingBox → ℕ → ℕ → Tip → ℕ → Outcome Fault RingPart
 stepTo b nc site t q =
     let qIn = inBox b nc (t .verts) q in
     andThen (atEdge site (t .p) q (clipStep b nc site (t .p) (t .pIn) q qIn (t .verts) (t .owners) (t .opened) (t .last))) λ d.
-    ok (moved t q qIn d)
+    ok (record { tip = record { verts = d .verts; owners = d .owners; last = lastOr (t .last) (d .new); p = q; pIn = qIn; opened = d .opened }; new = d .new; steps = d .steps })
 
 unfoldable pub stepsTo : BoundingBox → ℕ → ℕ → List ℕ → Tip → Outcome Fault RingPart
-stepsTo b nc site [] t = ok (part t [] [])
+stepsTo b nc site [] t = ok (record { tip = t; new = []; steps = [] })
 stepsTo b nc site (q ∷ qs) t =
     andThen (stepTo b nc site t q) λ c.
     andThen (stepsTo b nc site qs (c .tip)) λ d.
-    ok (partsJoined c d)
+    ok (record { tip = d .tip; new = c .new ++ d .new; steps = c .steps ++ d .steps })
 
 -- the place of the first vertex inside, else the ring's length
 unfoldable pub firstInside : BoundingBox → ℕ → List Point → List ℕ → ℕ
@@ -263,7 +243,7 @@ unfoldable pub turned : ℕ → List ℕ → List ℕ
 turned f ring = reverse (take f ring) ++ reverse (drop f ring)
 
 unfoldable pub clipFrom : BoundingBox → ℕ → ℕ → List ℕ → List Point → List ℕ → ℕ → Bool → Outcome Fault RingPart
-clipFrom b nc site ring vs os f inside = stepsTo b nc site (turned f ring) (tip vs os EMPTY (getD ring f 0) inside false)
+clipFrom b nc site ring vs os f inside = stepsTo b nc site (turned f ring) (record { verts = vs; owners = os; last = EMPTY; p = getD ring f 0; pIn = inside; opened = false })
 
 -- clip_cell: from the first vertex inside, else from the first
 unfoldable pub clipCell : BoundingBox → ℕ → ℕ → List ℕ → List Point → List ℕ → Outcome Fault RingPart

@@ -17,8 +17,9 @@ use Rattle.bounding_box.specs.declared.BoundingBox.{BoundingBox}
 use Rattle.mesh.specs.Accepted.{Mesh, Accepted}
 use Rattle.definition.specs.Fault.{Outcome, ok, refused, andThen}
 use Rattle.definition.specs.Cell.{plain, entry, lastOr, Taken, Ins, ins, vertexAt, insertEdge, EdgeClip, missed, once, twice, clipEdge}
-use Rattle.definition.specs.Cell.{Change, change, tookOne, tookTwo, leave, enterAt, enter, link, crossAt, cross, clipStep, inBox, Tip, RingPart, stepsTo}
+use Rattle.definition.specs.Cell.{Change, leave, enterAt, enter, link, crossAt, cross, clipStep, inBox, Tip, RingPart, stepsTo}
 use Rattle.definition.specs.Build.{CellState}
+use Rattle.definition.specs.Short.{change, tookOne, tookTwo}
 use Rattle.definition.specs.Sides.{Sided, SidedCorners}
 use Rattle.definition.specs.Tries.{TryOf}
 use Rattle.definition.specs.Met.{beginsInside, beginsAt, walked, firstTip}

@@ -11,7 +11,7 @@ use Rattle.utils.specs.Flat.{flat}
 use Rattle.utils.specs.Rules.{okCenter}
 use Rattle.bounding_box.specs.Box.{madeOf, cornersOf, insideOf, firstSide, whichOf}
 use Rattle.crossings.specs.Ray.{orderPick, eitherOf, orderBy, orderOne, orderTwo, rayOf}
-use Rattle.line_crossings.specs.Line.{oneIf, twoIf, firstHeld, rightHit, leftHit, topHit, bottomHit, uprightHit, settleOf, lineOf}
+use Rattle.line_crossings.specs.Line.{oneIf, twoIf, firstHeld, sideHit, levelHit, uprightHit, settleOf, lineOf}
 use Rattle.vertices.specs.Add.{nearPt, findNear, addVertex}
 use Rattle.mesh.specs.Mesh.{nextOf, chosen, tableTo, turnOf, walkOf}
 use Rattle.mesh.specs.Hull.{nextPlace}
@@ -118,7 +118,7 @@ pub rows :
     ≡ refused refusedNoCrossing)
 unfolding trailingZeros ofBits add sub mul div lt le eq neg sum round units odd size span climb same wholeRoot
     nearestRoot rootOfUnits sqrtOf nearOf dist2Of centerOf flat okCenter madeOf cornersOf insideOf firstSide
-    whichOf oneIf twoIf firstHeld orderPick eitherOf rightHit leftHit topHit bottomHit uprightHit settleOf lineOf
+    whichOf oneIf twoIf firstHeld orderPick eitherOf sideHit levelHit uprightHit settleOf lineOf
     orderBy orderOne orderTwo rayOf nearPt findNear addVertex nextOf chosen tableTo turnOf walkOf nextPlace lastEnd
     startsOf neighboursOf distOf nearestOf hopOf pathEnd andThen atEdge wraps withCorners insertAt insertEdge
     edgeCrossing clipWith clipEdge leave enterAt enter link crossAt cross clipStep inBox stepTo stepsTo

@@ -21,7 +21,7 @@ use Rattle.definition.specs.Fault.{Outcome, ok}
 use Rattle.definition.specs.Build.{finite, Built}
 use Rattle.definition.specs.Cell.{Entry, vertexAt}
 use Rattle.definition.specs.laws.VerticesFinite.{Each, FinitePoint}
-use Rattle.layout.specs.Outputs.{padded, vertexNumbers, indexNumbers, offsetNumbers, countsMade, countNumbers}
+use Rattle.layout.specs.Outputs.{padded, ofBuilt, countsMade}
 use Rattle.definition.specs.Cell.{unmarked}
 use Rattle.build_answers.specs.Promise.{BuildAnswer}
 use Rattle.check_mesh.specs.AtExit.{atExit}
@@ -36,19 +36,19 @@ module _ {N : ℕ → Type 0} {table : List ℕ} {o : Outcome Fault Built} {old 
 
   module _ (b : Built) (is : o ≡ ok b) where
     pub left-vertices : new .vertices ≡ padded (length (old .vertices)) R.zero (flat (b .verts))
-    unfolding atExit vertexNumbers
+    unfolding atExit ofBuilt
     left-vertices = rw is at (a .vertices)
 
     pub left-indexes : new .indexes ≡ padded (length (old .indexes)) EMPTY (joined (map unmarked (b .cells)))
-    unfolding atExit indexNumbers
+    unfolding atExit ofBuilt
     left-indexes = rw is at (a .indexes)
 
     pub left-offsets : new .offsets ≡ padded (length (old .offsets)) EMPTY (offsetsFrom 0 (map unmarked (b .cells)))
-    unfolding atExit offsetNumbers
+    unfolding atExit ofBuilt
     left-offsets = rw is at (a .offsets)
 
     pub left-counts : new .counts ≡ padded (length (old .counts)) EMPTY (countsMade b)
-    unfolding atExit countNumbers
+    unfolding atExit ofBuilt
     left-counts = rw is at (a .counts)
 
 -- ---- the vertices

@@ -21,10 +21,12 @@ use Rattle.mesh.specs.Mesh.{leftmostOf}
 use Rattle.mesh.specs.Accepted.{mesh, Accepted, siteCount}
 use Rattle.mesh.specs.Hull.{nextSite}
 use Rattle.mesh.specs.laws.Facts.{topology, end-site, tab-some}
+use Rattle.numbers.specs.Numbers.{refusedCircumcenter, refusedExtension}
 use Rattle.definition.specs.declared.Fault.{Fault}
-use Rattle.definition.specs.Fault.{Outcome, ok, refused, andThen, badCenter, notFinite}
+use Rattle.definition.specs.Fault.{Outcome, ok, refused, andThen, fault}
 use Rattle.definition.specs.Cell.{vertexAt, took, extension}
-use Rattle.definition.specs.Build.{centerAt, centersFrom, finite, extended, Extensions, extensions, extendFrom}
+use Rattle.definition.specs.Build.{centerAt, centersFrom, finite, extended, Extensions, extendFrom}
+use Rattle.definition.specs.Short.{extensions}
 use Rattle.definition.specs.Tries.{centerRule, centersTo, extensionAt, extensionRule, ExtendedTo}
 use Rattle.definition.specs.laws.Runs.{true-false, ok-same, refused-same, not-both, then-ok, loop, run, loop-run, run-refused, refused-run, run-keeps}
 use Rattle.definition.specs.laws.Grown.{Grown, grown-then, add-vertex}
@@ -49,7 +51,7 @@ module _ (sites : List Float) (tri : List ℕ) where
   Kept t = okCenter (centerAt sites tri t) ≡ true
 
   abbrev centerStep : ℕ → List Point → Outcome Fault (List Point)
-  centerStep t vs = pick (okCenter (centerAt sites tri t)) (λ _. ok (vs ++ centerAt sites tri t ∷ [])) (λ _. refused (badCenter t))
+  centerStep t vs = pick (okCenter (centerAt sites tri t)) (λ _. ok (vs ++ centerAt sites tri t ∷ [])) (λ _. refused (fault refusedCircumcenter t 0 0))
 
   centers-loop : (k t : ℕ) (vs : List Point) → centersFrom sites tri t k vs ≡ loop centerStep t k vs
   unfolding centersFrom loop andThen
@@ -60,8 +62,8 @@ module _ (sites : List Float) (tri : List ℕ) where
       ws = vs ++ centerAt sites tri t ∷ []
 
       by : (o : Bool) → centersFrom sites tri (suc t) k ws ≡ loop centerStep (suc t) k ws
-          → pick o (λ _. centersFrom sites tri (suc t) k ws) (λ _. refused (badCenter t))
-          ≡ andThen (pick o (λ _. ok ws) (λ _. refused (badCenter t))) (λ r. loop centerStep (suc t) k r)
+          → pick o (λ _. centersFrom sites tri (suc t) k ws) (λ _. refused (fault refusedCircumcenter t 0 0))
+          ≡ andThen (pick o (λ _. ok ws) (λ _. refused (fault refusedCircumcenter t 0 0))) (λ r. loop centerStep (suc t) k r)
       by true h = h
       by false h = refl
 
@@ -154,7 +156,7 @@ module _ {sites : List Float} {tri he hull : List ℕ} (a : Accepted (mesh sites
   finiteIn vs i = finite (extended sites tri vs (edgeTo i) .x) && finite (extended sites tri vs (edgeTo i) .y)
 
   abbrev extendStep : ℕ → Extensions → Outcome Fault Extensions
-  extendStep i x = pick (finiteIn (x .verts) i) (λ _. ok (added i x)) (λ _. refused (notFinite i))
+  extendStep i x = pick (finiteIn (x .verts) i) (λ _. ok (added i x)) (λ _. refused (fault refusedExtension i 0 0))
 
   extend-loop : (k i : ℕ) (x : Extensions) → extendFrom sites tri hull (leftmostOf tri he (siteCount sites)) (length tri / 3) i k x ≡ loop extendStep i k x
   unfolding extendFrom loop andThen
@@ -162,8 +164,8 @@ module _ {sites : List Float} {tri he hull : List ℕ} (a : Accepted (mesh sites
   extend-loop (suc k) i x = by (finiteIn (x .verts) i) (extend-loop k (suc i) (added i x))
     where
       by : (o : Bool) → extendFrom sites tri hull (leftmostOf tri he (siteCount sites)) (length tri / 3) (suc i) k (added i x) ≡ loop extendStep (suc i) k (added i x)
-          → pick o (λ _. extendFrom sites tri hull (leftmostOf tri he (siteCount sites)) (length tri / 3) (suc i) k (added i x)) (λ _. refused (notFinite i))
-          ≡ andThen (pick o (λ _. ok (added i x)) (λ _. refused (notFinite i))) (λ r. loop extendStep (suc i) k r)
+          → pick o (λ _. extendFrom sites tri hull (leftmostOf tri he (siteCount sites)) (length tri / 3) (suc i) k (added i x)) (λ _. refused (fault refusedExtension i 0 0))
+          ≡ andThen (pick o (λ _. ok (added i x)) (λ _. refused (fault refusedExtension i 0 0))) (λ r. loop extendStep (suc i) k r)
       by true h = h
       by false h = refl
 

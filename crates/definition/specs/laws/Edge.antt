@@ -13,8 +13,9 @@ use Rattle.numbers.specs.Numbers.{EMPTY}
 use Rattle.utils.specs.declared.Point.{Point}
 use Rattle.bounding_box.specs.Box.{whichOf}
 use Rattle.bounding_box.specs.declared.BoundingBox.{BoundingBox}
-use Rattle.definition.specs.Cell.{lastOr, Taken, Ins, withCorners, led, insertAt, insertEdge, vertexAt, EdgeClip, missed, once, twice, Change, tookOne, tookTwo, leave, enterAt}
+use Rattle.definition.specs.Cell.{lastOr, Taken, Ins, withCorners, led, insertAt, insertEdge, vertexAt, EdgeClip, missed, once, twice, Change, leave, enterAt}
 use Rattle.definition.specs.Cell.{enter, link, crossAt, cross, clipStep}
+use Rattle.definition.specs.Short.{tookOne, tookTwo}
 use Rattle.definition.specs.laws.Gives.{Gives}
 use Rattle.definition.specs.laws.Puts.{Puts, puts-none, puts-then, puts-plain, puts-crossing, puts-corners}
 use Rattle.definition.specs.laws.Grown.{Grown, grown-none, grown-then, ClippedTo, clip-edge}
