@@ -42,4 +42,4 @@ module _ (m : Mesh) where
 
   -- clipped to the given box
   abbrev pub ClippedBuild : Given → Slices → Slices → ℕ → Type 0
-  ClippedBuild g = BuildAnswers (boxRules (g .sound)) (build m (g .bounds))
+  ClippedBuild g old = BuildAnswer (Builds m (roomOf m old) (boxRules (g .sound)) (build m (g .bounds))) (tableOf m) (build m (g .bounds)) old

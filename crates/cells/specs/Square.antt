@@ -16,7 +16,7 @@ use Rattle.vertices.specs.Add.{nearPt, findNear, addVertex}
 use Rattle.mesh.specs.Hull.{nextPlace}
 use Rattle.iterator.specs.Neighbours.{lastEnd, startsOf, neighboursOf}
 use Rattle.paths.specs.Path.{distOf, nearestOf, hopOf, pathEnd}
-use Rattle.definition.specs.Cell.{wraps, withCorners, insertAt, insertEdge, edgeCrossing, clipWith, clipEdge, leave, enterAt, enter, link, crossAt, cross}
+use Rattle.definition.specs.Cell.{wraps, withCorners, insertEdge, edgeCrossing, clipWith, clipEdge, leave, enterAt, enter, crossAt, cross}
 use Rattle.definition.specs.Cell.{clipStep, inBox, stepTo, stepsTo, firstInside, turned, clipFrom, clipCell}
 use Rattle.definition.specs.Build.{Built, centerAt, centersFrom, ownersFrom, extended, extendFrom, hullRing, clipInto, clipHull, clipRest, allEntries, lostFrom, clipAll, build}
 use Prim.Native.Nat.{ℕ}
@@ -42,8 +42,8 @@ pub rows :
 unfolding trailingZeros ofBits add sub mul div lt le eq neg sum round units odd size span climb same wholeRoot nearestRoot rootOfUnits sqrtOf nearOf
     dist2Of centerOf okCenter madeOf cornersOf insideOf firstSide whichOf oneIf twoIf firstHeld orderPick eitherOf sideHit levelHit
     uprightHit settleOf lineOf orderBy orderOne orderTwo rayOf nearPt findNear addVertex nextOf chosen tableTo turnOf walkOf nextPlace lastEnd startsOf
-    neighboursOf distOf nearestOf hopOf pathEnd andThen atEdge wraps withCorners insertAt insertEdge edgeCrossing clipWith clipEdge leave enterAt enter
-    link crossAt cross clipStep inBox stepTo stepsTo firstInside turned clipFrom clipCell centerAt centersFrom ownersFrom extended extendFrom hullRing
+    neighboursOf distOf nearestOf hopOf pathEnd andThen atEdge wraps withCorners insertEdge edgeCrossing clipWith clipEdge leave enterAt enter
+    crossAt cross clipStep inBox stepTo stepsTo firstInside turned clipFrom clipCell centerAt centersFrom ownersFrom extended extendFrom hullRing
     clipInto clipHull clipRest allEntries lostFrom clipAll build formOf squareBytes linesOf digits decimal entries labelled counts cellLine
     corners reusedLine
 rows = (refl, refl, refl)

@@ -200,7 +200,7 @@ fn link(
     requires { ⌜ EntryRoom (env .site) 3 cell (length (now indexes)) ⌝ }
     requires { ⌜ (2 * count ≤ length (now vertices)) × (first < count) × (opened ≡ true → cell .last < count) × (env .centers + 4 ≤ count) × (count ≤ 2 ^ 32) ⌝ }
     requires { ⌜ (opened ≡ true → Sided (env .bounds) (points count (now vertices)) (cell .last)) × Sided (env .bounds) (points count (now vertices)) first ⌝ }
-    ensures { λ r. ⌜ EntriesPut (env .site) 1 (Def.link (env .bounds) (env .centers) (env .site) (points count (now (vertices .entry))) (cell .owners) opened
+    ensures { λ r. ⌜ EntriesPut (env .site) 1 (Short.link (env .bounds) (env .centers) (env .site) (points count (now (vertices .entry))) (cell .owners) opened
         (cell .last) first) cell (now (indexes .entry)) r (now (indexes .exit)) ⌝ }
 {
     if opened {

@@ -23,7 +23,7 @@ use Rattle.mesh.specs.Accepted.{Mesh, siteCount}
 use Rattle.mesh.specs.Hull.{nextSite}
 use Rattle.paths.specs.Path.{pathEnd}
 use Rattle.definition.specs.declared.Fault.{Fault}
-use Rattle.definition.specs.Fault.{Outcome, ok, refused, andThen, fault}
+use Rattle.definition.specs.Fault.{Outcome, ok, refused, andThen}
 use Rattle.definition.specs.Cell.{Mark, plain, crossing, wrapped, Entry, unmarked, Taken, took, extension, vertexAt, clipCell}
 
 -- ---- vertices and owners to begin with
@@ -37,7 +37,7 @@ unfoldable pub centersFrom : List Float → List ℕ → ℕ → ℕ → List Po
 centersFrom sites tri t zero vs = ok vs
 centersFrom sites tri t (suc k) vs =
     let c = centerAt sites tri t in
-    pick (okCenter c) (λ _. centersFrom sites tri (suc t) k (vs ++ c ∷ [])) (λ _. refused (fault refusedCircumcenter t 0 0))
+    pick (okCenter c) (λ _. centersFrom sites tri (suc t) k (vs ++ c ∷ [])) (λ _. refused (record { number = refusedCircumcenter; place = t; from = 0; to = 0 }))
 
 -- calculate_corner_ownership: a corner's owner is where the path to it ends, begun at the owner before; n is the number of sites, more than any path's hops
 unfoldable pub ownersFrom : List Float → List ℕ → List ℕ → List ℕ → ℕ → ℕ → List Point → List ℕ
@@ -82,7 +82,7 @@ extendFrom sites tri hull table nc i (suc k) x =
     let r = addVertex nc (x .verts) p in
     pick (finite (p .x) && finite (p .y))
     (λ _. extendFrom sites tri hull table nc (suc i) k (record { verts = r .verts; at = x .at ++ r .at ∷ []; steps = x .steps ++ took extension r ∷ [] }))
-    (λ _. refused (fault refusedExtension i 0 0))
+    (λ _. refused (record { number = refusedExtension; place = i; from = 0; to = 0 }))
 
 -- ---- all cells
 

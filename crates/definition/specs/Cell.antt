@@ -63,43 +63,31 @@ pub record Ins : Type 0 where
   pub owners : List ℕ
   pub new : List Entry
 
-abbrev pub ins : List ℕ → List Entry → Ins
-ins os es = record { owners = os; new = es }
-
-abbrev pub before : Entry → Ins → Ins
-before e i = ins (i .owners) (e ∷ i .new)
-
-abbrev pub followedBy : Ins → Entry → Ins
-followedBy i e = ins (i .owners) (i .new ++ e ∷ [])
-
 -- whether corner c is next: it is not the last side's, and the site owns it
 abbrev pub goes : ℕ → ℕ → ℕ → List ℕ → Bool
 goes site stop c os = pick (eqb c stop) (λ _. false) (λ _. eqb (getD os c 0) site)
 
 -- the corners from c on, counter-clockwise, at most k of them
 unfoldable pub wraps : ℕ → ℕ → ℕ → ℕ → ℕ → List ℕ → Ins
-wraps zero nc site stop c os = ins os []
+wraps zero nc site stop c os = record { owners = os; new = [] }
 wraps (suc k) nc site stop c os =
     pick (goes site stop c os)
-    (λ _. before (entry wrapped (nc + c)) (wraps k nc site stop ((c + 1) % 4) (set os c EMPTY)))
-    (λ _. ins os [])
+    (λ _. let w = wraps k nc site stop ((c + 1) % 4) (set os c EMPTY) in record { owners = w .owners; new = entry wrapped (nc + c) ∷ w .new })
+    (λ _. record { owners = os; new = [] })
 
 -- the second clipped vertex, with the corners before it or after it; the clipped vertices are on the sides f and s (NoSide.antt), and a place that is no side has no owner
 unfoldable pub withCorners : ℕ → ℕ → ℕ → ℕ → ℕ → List ℕ → Ins
 withCorners nc site f s second os =
     pick (eqb (getD os f EMPTY) site)
-    (λ _. followedBy (wraps 4 nc site s f os) (entry crossing second))
+    (λ _. let w = wraps 4 nc site s f os in record { owners = w .owners; new = w .new ++ entry crossing second ∷ [] })
     (λ _. pick (eqb (getD os s EMPTY) site)
-    (λ _. before (entry crossing second) (wraps 4 nc site f s os))
-    (λ _. ins os (entry crossing second ∷ [])))
+    (λ _. let w = wraps 4 nc site f s os in record { owners = w .owners; new = entry crossing second ∷ w .new })
+    (λ _. record { owners = os; new = entry crossing second ∷ [] }))
 
 -- the first clipped vertex too, unless it is the last entry already
 abbrev pub led : Bool → ℕ → Ins → Ins
 led true first i = i
-led false first i = before (entry crossing first) i
-
-unfoldable pub insertAt : ℕ → ℕ → ℕ → ℕ → ℕ → List ℕ → ℕ → ℕ → Ins
-insertAt nc site last first second os f s = led (eqb last first) first (withCorners nc site f s second os)
+led false first i = record { owners = i .owners; new = entry crossing first ∷ i .new }
 
 abbrev pub vertexAt : List Point → ℕ → Point
 vertexAt vs i = getD vs i (at nan nan)
@@ -107,7 +95,7 @@ vertexAt vs i = getD vs i (at nan nan)
 -- insert_edge_and_wrap_around_corners; last is the cell's last entry, EMPTY if it has none
 unfoldable pub insertEdge : BoundingBox → ℕ → ℕ → List Point → List ℕ → ℕ → ℕ → ℕ → Ins
 insertEdge b nc site vs os last first second =
-    insertAt nc site last first second os (whichOf b (vertexAt vs first)) (whichOf b (vertexAt vs second))
+    led (eqb last first) first (withCorners nc site (whichOf b (vertexAt vs first)) (whichOf b (vertexAt vs second)) second os)
 
 -- ---- clipping an edge
 
@@ -173,12 +161,9 @@ enter b nc site os last (once r) = ok (enterAt b nc site (r .verts) os last (r .
 enter b nc site os last (twice r t) = ok (enterAt b nc site (t .verts) os last (r .at) (took firstCrossing r ∷ took secondCrossing t ∷ []))
 
 -- both outside: an open cell is first led from its last entry to the first crossing
-unfoldable pub link : BoundingBox → ℕ → ℕ → List Point → List ℕ → Bool → ℕ → ℕ → Ins
-link b nc site vs os opened last first = pick opened (λ _. insertEdge b nc site vs os last last first) (λ _. ins os [])
-
 unfoldable pub crossAt : BoundingBox → ℕ → ℕ → List Point → List ℕ → Bool → ℕ → ℕ → ℕ → List Taken → Change
 crossAt b nc site vs os opened last first second ts =
-    let i = link b nc site vs os opened last first in
+    let i : Ins = pick opened (λ _. insertEdge b nc site vs os last last first) (λ _. record { owners = os; new = [] }) in
     let j = insertEdge b nc site vs (i .owners) (lastOr last (i .new)) first second in
     record { verts = vs; owners = j .owners; new = i .new ++ j .new; opened = opened; steps = ts }
 

@@ -10,10 +10,7 @@ unfoldable pub andThen : {F A B : Type 0} → Outcome F A → (A → Outcome F B
 andThen (ok a) k = k a
 andThen (refused f) k = refused f
 
-abbrev pub fault : ℕ → ℕ → ℕ → ℕ → Fault
-fault n place from to = record { number = n; place = place; from = from; to = to }
-
 -- 11 has the triangle for its place, 12 the hull place whose edge to the next one is extended; 13 and 14 are met in the cell of a site, at the edge from vertex p to vertex q
 unfoldable pub atEdge : {A : Type 0} → ℕ → ℕ → ℕ → Outcome ℕ A → Outcome Fault A
 atEdge site p q (ok a) = ok a
-atEdge site p q (refused n) = refused (fault n site p q)
+atEdge site p q (refused n) = refused (record { number = n; place = site; from = p; to = q })

@@ -18,11 +18,12 @@ use Rattle.mesh.specs.Accepted.{mesh}
 use Rattle.mesh.specs.Hull.{nextPlace}
 use Rattle.iterator.specs.Neighbours.{lastEnd, startsOf, neighboursOf}
 use Rattle.paths.specs.Path.{distOf, nearestOf, hopOf, pathEnd}
-use Rattle.definition.specs.Fault.{refused, andThen, atEdge, fault}
+use Rattle.definition.specs.Fault.{refused, andThen, atEdge}
 use Rattle.definition.specs.Rows.{floats, rowBox}
-use Rattle.definition.specs.Cell.{wraps, withCorners, insertAt, insertEdge, edgeCrossing, clipWith, clipEdge, leave, enterAt, enter, link, crossAt, cross, clipStep, inBox, stepTo}
+use Rattle.definition.specs.Cell.{wraps, withCorners, insertEdge, edgeCrossing, clipWith, clipEdge, leave, enterAt, enter, crossAt, cross, clipStep, inBox, stepTo}
 use Rattle.definition.specs.Cell.{stepsTo, firstInside, turned, clipFrom, clipCell}
 use Rattle.definition.specs.Build.{centerAt, centersFrom, ownersFrom, extended, extendFrom, hullRing, clipInto, clipHull, clipRest, clipAll, build}
+use Rattle.definition.specs.Short.{fault}
 
 pub rows :
     -- 14: rounding at a corner
@@ -112,8 +113,8 @@ unfolding trailingZeros ofBits add sub mul div lt le eq neg sum round units odd 
     nearestRoot rootOfUnits sqrtOf nearOf dist2Of centerOf flat okCenter madeOf cornersOf insideOf firstSide
     whichOf oneIf twoIf firstHeld orderPick eitherOf sideHit levelHit uprightHit settleOf lineOf
     orderBy orderOne orderTwo rayOf nearPt findNear addVertex nextOf chosen tableTo turnOf walkOf nextPlace lastEnd
-    startsOf neighboursOf distOf nearestOf hopOf pathEnd andThen atEdge wraps withCorners insertAt insertEdge
-    edgeCrossing clipWith clipEdge leave enterAt enter link crossAt cross clipStep inBox stepTo stepsTo
+    startsOf neighboursOf distOf nearestOf hopOf pathEnd andThen atEdge wraps withCorners insertEdge
+    edgeCrossing clipWith clipEdge leave enterAt enter crossAt cross clipStep inBox stepTo stepsTo
     firstInside turned clipFrom clipCell centerAt centersFrom ownersFrom extended extendFrom hullRing clipInto
     clipHull clipRest clipAll build
 rows = (refl, refl, refl, refl, refl, refl, refl, refl)

@@ -2,10 +2,31 @@
 use Prim.Native.Nat.{ℕ}
 use mathlib.Core.Bool.{Bool}
 use mathlib.Core.List.{List, [], _∷_, _++_}
+use lib.Dec.{eqb}
+use Rattle.laws.specs.Pick.{pick}
 use Rattle.utils.specs.declared.Point.{Point}
+use Rattle.bounding_box.specs.declared.BoundingBox.{BoundingBox}
 use Rattle.vertices.specs.Add.{Added}
-use Rattle.definition.specs.Cell.{Entry, lastOr, firstCrossing, secondCrossing, Taken, took, Change, Tip, RingPart}
+use Rattle.definition.specs.declared.Fault.{Fault}
+use Rattle.definition.specs.Cell.{Entry, lastOr, firstCrossing, secondCrossing, Taken, took, Ins, withCorners, led, insertEdge, Change, Tip, RingPart}
 use Rattle.definition.specs.Build.{Extensions, CellState}
+
+abbrev pub fault : ℕ → ℕ → ℕ → ℕ → Fault
+fault n place from to = record { number = n; place = place; from = from; to = to }
+
+abbrev pub ins : List ℕ → List Entry → Ins
+ins os es = record { owners = os; new = es }
+
+abbrev pub before : Entry → Ins → Ins
+before e i = ins (i .owners) (e ∷ i .new)
+
+-- an edge along the box, by the sides f and s of its two vertices
+abbrev pub insertAt : ℕ → ℕ → ℕ → ℕ → ℕ → List ℕ → ℕ → ℕ → Ins
+insertAt nc site last first second os f s = led (eqb last first) first (withCorners nc site f s second os)
+
+-- what leads an open cell to the first crossing
+abbrev pub link : BoundingBox → ℕ → ℕ → List Point → List ℕ → Bool → ℕ → ℕ → Ins
+link b nc site vs os opened last first = pick opened (λ _. insertEdge b nc site vs os last last first) (λ _. ins os [])
 
 abbrev pub change : List Point → List ℕ → List Entry → Bool → List Taken → Change
 change vs os es o ts = record { verts = vs; owners = os; new = es; opened = o; steps = ts }

@@ -16,11 +16,11 @@ use Rattle.mesh.specs.Accepted.{Mesh, tableOf, siteCount}
 use Rattle.mesh.specs.Hull.{nextSite}
 use Rattle.numbers.specs.Numbers.{refusedCircumcenter, refusedExtension}
 use Rattle.definition.specs.declared.Fault.{Fault}
-use Rattle.definition.specs.Fault.{ok, fault}
+use Rattle.definition.specs.Fault.{ok}
 use Rattle.definition.specs.Cell.{RingPart, clipCell}
 use Rattle.definition.specs.Build.{centerAt, ownersFrom, finite, extended, Extensions, extendFrom}
 use Rattle.definition.specs.Build.{ringFrom, hullRing, CellState, clipHull, clipRest}
-use Rattle.definition.specs.Short.{extensions, cellState}
+use Rattle.definition.specs.Short.{fault, extensions, cellState}
 
 -- ---- before the cells: rules 11 and 12
 

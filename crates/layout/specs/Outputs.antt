@@ -8,7 +8,7 @@ use Rattle.laws.specs.Binary64.{zero}
 use Rattle.numbers.specs.Numbers.{EMPTY}
 use Rattle.utils.specs.Flat.{flat}
 use Rattle.definition.specs.declared.Fault.{Fault}
-use Rattle.definition.specs.Fault.{Outcome, ok, refused, fault}
+use Rattle.definition.specs.Fault.{Outcome, ok, refused}
 use Rattle.definition.specs.Cell.{extension, firstCrossing, secondCrossing, unmarked}
 use Rattle.definition.specs.Build.{Built}
 use Rattle.definition.specs.Reused.{reusedOf}
@@ -46,7 +46,7 @@ countsMade b = length (b .verts) ∷ b .owners ++ b .lost ∷ reusedOf extension
 
 -- the fault that the code answers: none is the number 0
 abbrev pub faultOf : Outcome Fault Built → Fault
-faultOf (ok b) = fault 0 0 0 0
+faultOf (ok b) = record { number = 0; place = 0; from = 0; to = 0 }
 faultOf (refused f) = f
 
 -- slices that were v, ix and off, after a build with this outcome

@@ -10,8 +10,9 @@ use Rattle.bounding_box.specs.declared.BoundingBox.{BoundingBox}
 use Rattle.mesh.specs.Mesh.{Used}
 use Rattle.mesh.specs.Accepted.{Mesh, Accepted}
 use Rattle.definition.specs.declared.Fault.{Fault}
-use Rattle.definition.specs.Fault.{ok, refused, fault}
+use Rattle.definition.specs.Fault.{ok, refused}
 use Rattle.definition.specs.Build.{Built, CellState, build}
+use Rattle.definition.specs.Short.{fault}
 use Rattle.definition.specs.Tries.{centerRule, extensionRule, TryOf, TriedInVain}
 use Rattle.definition.specs.Met.{EdgeMet, FaultMet, atTriangle, atHullPlace, atRingEdge}
 use Rattle.definition.specs.FaultTheorem.{build-refused}

@@ -8,7 +8,8 @@ use Rattle.utils.specs.Flat.{pour}
 use Rattle.utils.specs.declared.Point.{Point}
 use Rattle.numbers.specs.Numbers.{refusedCircumcenter}
 use Rattle.definition.specs.declared.Fault.{Fault}
-use Rattle.definition.specs.Fault.{Outcome, ok, refused, fault}
+use Rattle.definition.specs.Fault.{Outcome, ok, refused}
+use Rattle.definition.specs.Short.{fault}
 
 -- every entry of the triangle list names a site of the list
 abbrev pub Named : List Float → List ℕ → Type 0

@@ -12,8 +12,9 @@ use Rattle.utils.specs.declared.Point.{Point}
 use Rattle.vertices.specs.Store.{Holds, Poured}
 use Rattle.numbers.specs.Numbers.{refusedExtension}
 use Rattle.definition.specs.declared.Fault.{Fault}
-use Rattle.definition.specs.Fault.{Outcome, ok, refused, fault}
+use Rattle.definition.specs.Fault.{Outcome, ok, refused}
 use Rattle.definition.specs.Build.{infinity, Extensions}
+use Rattle.definition.specs.Short.{fault}
 use Rattle.definition.specs.Reused.{reused, reusedIn}
 use Rattle.rings.specs.Centers.{Named}
 use Rattle.rings.specs.declared.extensions.Passed.{Passed}

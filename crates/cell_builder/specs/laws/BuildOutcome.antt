@@ -21,7 +21,7 @@ use Rattle.layout.specs.laws.Marks.{entries-joined}
 use Rattle.numbers.specs.Numbers.{refusedCircumcenter}
 use Rattle.definition.specs.declared.Fault.{Fault}
 use Rattle.definition.specs.declared.Reused.{Reused}
-use Rattle.definition.specs.Fault.{Outcome, ok, refused, andThen, fault}
+use Rattle.definition.specs.Fault.{Outcome, ok, refused, andThen}
 use Rattle.definition.specs.Build.{Built, centersFrom, ownersFrom, Extensions, extendFrom, CellState, clipAll, lostFrom, build}
 use Rattle.definition.specs.laws.Built.{owner-of, lost-entries}
 use Rattle.definition.specs.Measures.{lostLeft}
@@ -30,7 +30,7 @@ use Rattle.rings.specs.Centers.{CentersBy}
 use Rattle.rings.specs.Ownership.{Owned}
 use Rattle.layout.specs.Outputs.{ofBuilt}
 use Rattle.definition.specs.Cell.{unmarked}
-use Rattle.definition.specs.Short.{extensions}
+use Rattle.definition.specs.Short.{fault, extensions}
 use Rattle.layout.specs.laws.Padded.{poured-cleared}
 use Rattle.cell_finish.specs.declared.Progress.{Progress}
 use Rattle.cell_finish.specs.declared.CellsAnswer.{CellsAnswer}

@@ -23,7 +23,7 @@ use Rattle.layout.specs.Rooms.{Roomy, Started}
 use Rattle.layout.specs.laws.Rooms.{start-end}
 use Rattle.numbers.specs.Numbers.{refusedExtension}
 use Rattle.definition.specs.declared.Fault.{Fault}
-use Rattle.definition.specs.Fault.{Outcome, ok, refused, fault}
+use Rattle.definition.specs.Fault.{Outcome, ok, refused}
 use Rattle.definition.specs.Build.{Extensions, extendFrom, CellState, clipAll}
 use Rattle.definition.specs.Reused.{reused}
 use Rattle.definition.specs.laws.Gives.{gives-ok}
@@ -36,7 +36,7 @@ use Rattle.rings.specs.Extensions.{ExtendsInto, ExtendedBy}
 use Rattle.rings.specs.declared.extensions.Passed.{Passed}
 use Rattle.layout.specs.Outputs.{LaidOut}
 use Rattle.definition.specs.Cell.{unmarked}
-use Rattle.definition.specs.Short.{extensions, cellState}
+use Rattle.definition.specs.Short.{fault, extensions, cellState}
 use Rattle.layout.specs.laws.Marks.{none-unmarked}
 use Rattle.cell_tries.specs.declared.Frame.{Frame}
 use Rattle.cell_finish.specs.declared.Progress.{Progress}

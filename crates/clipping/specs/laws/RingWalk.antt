@@ -16,13 +16,13 @@ use Rattle.utils.specs.declared.Point.{Point}
 use Rattle.utils.specs.Flat.{points}
 use Rattle.bounding_box.specs.declared.BoundingBox.{BoundingBox}
 use Rattle.vertices.specs.laws.Store.{poured-then, poured-none}
-use Rattle.definition.specs.Fault.{Outcome, ok, refused, andThen, fault}
+use Rattle.definition.specs.Fault.{Outcome, ok, refused, andThen}
 use Rattle.definition.specs.declared.Fault.{Fault}
 use Rattle.definition.specs.Cell as Def
 use Rattle.definition.specs.Short
-use Rattle.definition.specs.Cell.{Entry, Ins, ins, RingPart, inBox, firstInside, stepTo, stepsTo, turned, clipFrom, clipCell}
+use Rattle.definition.specs.Cell.{Entry, Ins, RingPart, inBox, firstInside, stepTo, stepsTo, turned, clipFrom, clipCell}
 use Rattle.definition.specs.Cell.{unmarked}
-use Rattle.definition.specs.Short.{part, partsJoined}
+use Rattle.definition.specs.Short.{fault, ins, part, partsJoined}
 use Rattle.definition.specs.declared.Reused.{Reused}
 use Rattle.definition.specs.Reused.{reused, together, Addable, CountsReused}
 use Rattle.definition.specs.laws.Reused.{counts-none, counts-then, counts-small}

@@ -23,10 +23,10 @@ use Rattle.mesh.specs.Hull.{nextSite}
 use Rattle.mesh.specs.laws.Facts.{topology, end-site, tab-some}
 use Rattle.numbers.specs.Numbers.{refusedCircumcenter, refusedExtension}
 use Rattle.definition.specs.declared.Fault.{Fault}
-use Rattle.definition.specs.Fault.{Outcome, ok, refused, andThen, fault}
+use Rattle.definition.specs.Fault.{Outcome, ok, refused, andThen}
 use Rattle.definition.specs.Cell.{vertexAt, took, extension}
 use Rattle.definition.specs.Build.{centerAt, centersFrom, finite, extended, Extensions, extendFrom}
-use Rattle.definition.specs.Short.{extensions}
+use Rattle.definition.specs.Short.{fault, extensions}
 use Rattle.definition.specs.Tries.{centerRule, centersTo, extensionAt, extensionRule, ExtendedTo}
 use Rattle.definition.specs.laws.Runs.{true-false, ok-same, refused-same, not-both, then-ok, loop, run, loop-run, run-refused, refused-run, run-keeps}
 use Rattle.definition.specs.laws.Grown.{Grown, grown-then, add-vertex}

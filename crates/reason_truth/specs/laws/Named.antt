@@ -5,7 +5,7 @@ use native.Mathlib.Omega.{arith}
 use borrow.Author.Tests.{ne-eqb}
 use Rattle.numbers.specs.Numbers.{refusedCircumcenter, refusedExtension, refusedNoCrossing}
 use Rattle.definition.specs.declared.Fault.{Fault}
-use Rattle.definition.specs.Fault.{fault}
+use Rattle.definition.specs.Short.{fault}
 use Rattle.reasons.specs.declared.Reason.the-variants.{AtTriangle, AtHullPlace, AtEdge}
 use Rattle.reasons.specs.Reason.{ofFault}
 
