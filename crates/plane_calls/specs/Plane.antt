@@ -33,8 +33,8 @@ pub record Answered {A : Type 0} (rules : List (Rule ℕ)) (blank : A) (made : L
   pub values : out ≡ pick (eqb r 0) (λ _. made) (λ _. replicate (length made) blank)
 
 -- 3 for the box, then 6 for the points
-abbrev pub givenRules : Given → Bool → List (Rule ℕ)
-givenRules g points = once refusedBox (g .sound ≡ true) ∷ once refusedCoordinate (points ≡ true) ∷ []
+abbrev pub planeRules : Given → Bool → List (Rule ℕ)
+planeRules g points = once refusedBox (g .sound ≡ true) ∷ once refusedCoordinate (points ≡ true) ∷ []
 
 -- ---- points
 abbrev pub Dist2 : Point → Point → ℕ → Float → Type 0
@@ -69,17 +69,17 @@ pub record Corners (g : Given) (before : List Float) (r : ℕ) (after : List Flo
   pub slice : after ≡ pick (eqb r 0) (λ _. flat (cornersOf (g .bounds)) ++ replicate (length before - 8) zero) (λ _. before)
 
 abbrev pub Inside : Given → Point → ℕ → ℕ → Type 0
-Inside g p r answer = Answered (givenRules g (okSite p)) 0 (bit (insideOf (g .bounds) p) ∷ []) r (answer ∷ [])
+Inside g p r answer = Answered (planeRules g (okSite p)) 0 (bit (insideOf (g .bounds) p) ∷ []) r (answer ∷ [])
 
 abbrev pub ExclusivelyInside : Given → Point → ℕ → ℕ → Type 0
-ExclusivelyInside g p r answer = Answered (givenRules g (okSite p)) 0 (bit (exclusiveOf (g .bounds) p) ∷ []) r (answer ∷ [])
+ExclusivelyInside g p r answer = Answered (planeRules g (okSite p)) 0 (bit (exclusiveOf (g .bounds) p) ∷ []) r (answer ∷ [])
 
 -- no side, 4 in the definition, is EMPTY
 abbrev pub WhichEdge : Given → Point → ℕ → ℕ → Type 0
-WhichEdge g p r side = Answered (givenRules g (okSite p)) EMPTY (pick (eqb (whichOf (g .bounds) p) 4) (λ _. EMPTY) (λ _. whichOf (g .bounds) p) ∷ []) r (side ∷ [])
+WhichEdge g p r side = Answered (planeRules g (okSite p)) EMPTY (pick (eqb (whichOf (g .bounds) p) 4) (λ _. EMPTY) (λ _. whichOf (g .bounds) p) ∷ []) r (side ∷ [])
 
 -- what meets the box, `lineOf` or `rayOf` of two points: how many points, and their coordinates, 0 where there is none
 abbrev pub Meets : (BoundingBox → Point → Point → Crossing) → Given → Point → Point → ℕ → ℕ → Float → Float → Float → Float → Type 0
 Meets crossing g p q r count x y u v =
-    Answered (givenRules g (okSite p && okSite q)) 0 (countOf (crossing (g .bounds) p q) ∷ []) r (count ∷ [])
-    × Answered (givenRules g (okSite p && okSite q)) zero (valuesOf (crossing (g .bounds) p q)) r (x ∷ y ∷ u ∷ v ∷ [])
+    Answered (planeRules g (okSite p && okSite q)) 0 (countOf (crossing (g .bounds) p q) ∷ []) r (count ∷ [])
+    × Answered (planeRules g (okSite p && okSite q)) zero (valuesOf (crossing (g .bounds) p q)) r (x ∷ y ∷ u ∷ v ∷ [])

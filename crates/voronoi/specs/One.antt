@@ -157,7 +157,8 @@ handed-one {m = m} {whole} {w} {o = o} {r = r} {s} one a b =
     let q : r ≡ s = one r s (a .number) (b .number) in (
       q,
       a .work ∙ ap (workAfter m w) q ∙ sym (b .work),
-      a .out ∙ ap (λ (n : ℕ). pick (eqb n refusedOffsets) (λ _. o) (λ _. atExit EMPTY (take (length o) whole ++ drop (length (take (length o) whole)) o) o n)) q ∙ sym (b .out),
+      a .out ∙ ap (λ (n : ℕ). pick (eqb n refusedOffsets) (λ _. o) (λ _. atExit EMPTY (take (length o) whole ++ drop (length (take (length o) whole)) o) o n)) q
+          ∙ sym (b .out),
       a .count ∙ ap (λ (n : ℕ). pick (eqb n 0) (λ _. length (take (length o) whole)) (λ _. 0)) q ∙ sym (b .count),
       a .ended ∙ ap (λ (n : ℕ). bit (pick (eqb n 0) (λ _. leb (length whole) (length o)) (λ _. false))) q ∙ sym (b .ended),
     )
@@ -203,8 +204,11 @@ module _ (off ix : List ℕ) (s : ℕ) {q r : ℕ} where
 
   pub one-cell : {a b l m : ℕ} → Cell off ix s a l q → Cell off ix s b m r → (q ≡ r) × (a ≡ b) × (l ≡ m)
   one-cell x y =
-      let e = cell-number off ix s (x .number) (y .number) in
-      (e, x .from ∙ ap (λ (n : ℕ). pick (eqb n 0) (λ _. getD off s 0) (λ _. 0)) e ∙ sym (y .from), x .many ∙ ap (λ (n : ℕ). pick (eqb n 0) (λ _. getD off (s + 1) 0 - getD off s 0) (λ _. 0)) e ∙ sym (y .many))
+      let e = cell-number off ix s (x .number) (y .number) in (
+        e,
+        x .from ∙ ap (λ (n : ℕ). pick (eqb n 0) (λ _. getD off s 0) (λ _. 0)) e ∙ sym (y .from),
+        x .many ∙ ap (λ (n : ℕ). pick (eqb n 0) (λ _. getD off (s + 1) 0 - getD off s 0) (λ _. 0)) e ∙ sym (y .many),
+      )
 
 -- ---- cells as polygons
 module _ (off ix : List ℕ) (s : ℕ) (old : List ℕ) {new other : List ℕ} {w u q r : ℕ} where

@@ -34,7 +34,7 @@ use Rattle.crossings.specs.declared.Meeting.{Meeting}
 use Rattle.crossings.specs.declared.Meeting.the-variants.{Met}
 use Rattle.crossings.specs.declared.Meeting.the-variants as meeting
 use Rattle.layout.specs.Cleared.{clearedFrom}
-use Rattle.plane_calls.specs.Plane.{bit, Answered, givenRules, Dist2, Circumcenter, Centroid, Edges, Centered, Corners, Inside, ExclusivelyInside, WhichEdge, Meets}
+use Rattle.plane_calls.specs.Plane.{bit, Answered, planeRules, Dist2, Circumcenter, Centroid, Edges, Centered, Corners, Inside, ExclusivelyInside, WhichEdge, Meets}
 use Rattle.plane_calls.specs.Tested.{numberBy, valueIf, sideIf}
 
 -- ---- a number by one test or two, and what is written beside it
@@ -115,7 +115,7 @@ module _ (g : Given) where
   module _ (p : Point) {point : Bool} {n : ℕ} (q : point ≡ okSite p) (k : n ≡ numberBy (g .sound) point) where
     -- 3, then 6, and what is written beside
     given : {blank : ℕ} {made out : List ℕ} → out ≡ pick (g .sound && point) (λ _. made) (λ _. replicate (length made) blank)
-        → Answered (givenRules g (okSite p)) blank made n out
+        → Answered (planeRules g (okSite p)) blank made n out
     unfolding numberBy
     given o = by-two (g .sound) (okSite p) three six (rw q at k) (rw q at o)
 

@@ -1,5 +1,5 @@
 -- A query answers 0 exactly where it may: its number is that of the first rule that is broken, and no rule has the number 0.
-use mathlib.Core.Path.{_≡_, sym, _∙_}
+use mathlib.Core.Path.{_≡_}
 use mathlib.Core.Bool.{true}
 use mathlib.Core.List.{List, [], _++_}
 use mathlib.Core.Logic.{_↔_}
@@ -12,7 +12,7 @@ use Rattle.laws.specs.laws.Refusals.{Answers, finds-one, finds-none, finds-keep
 use Rattle.utils.specs.Rules.{okSite}
 use Rattle.utils.specs.declared.Point.{Point}
 use Rattle.mesh.specs.Accepted.{Mesh, siteCount}
-use Rattle.mesh.specs.Rules.{numberOf, callRules}
+use Rattle.mesh.specs.Rules.{callRules}
 use Rattle.mesh.specs.laws.Verdicts.{accepted-keep, keep-accepted}
 use Rattle.admission.specs.Asks.{CellsOf}
 use Rattle.bulk_neighbours.specs.Promise.{RoomFor, CellsLent, lentRules}

@@ -6,6 +6,7 @@ use mathlib.Core.Logic.{_≢_}
 use Prim.{tt}
 use Prim.Native.Nat.{ℕ, zero, suc, _-_, _*_, _/_, _<_}
 use native.Mathlib.Omega.{arith}
+use borrow.Author.Needs.{needs}
 use lib.Dec.{eqb, leb, ltb, lit≤}
 use lib.Ieee.{Float, nan, ofBits}
 use lib.ListN.{length, getD, replicate, getD-replicate, length-replicate}
@@ -19,7 +20,7 @@ use Rattle.utils.specs.Plane.{centerOf}
 use Rattle.utils.specs.Flat.{flat}
 use Rattle.utils.specs.Rules.{okSite}
 use Rattle.utils.specs.Centroid.{okCount}
-use Rattle.utils.specs.Finite.{BoundedPoint, center-bounded, site-dist2, mean-bounded}
+use Rattle.utils.specs.Finite.{center-bounded, site-dist2, mean-bounded}
 use Rattle.utils.specs.declared.Point.{Point}
 use Rattle.bounding_box.specs.Box.{cornersOf}
 use Rattle.bounding_box.specs.Finite.{BoundedBox, width-bounded, height-bounded}
@@ -44,10 +45,10 @@ zero-bounded k = omega arith
 
 -- 0 beside one test or two: they hold
 one-kept : {n : ℕ} {t : Bool} → n ≢ 0 → Finds (once n (t ≡ true) ∷ []) 0 0 → t ≡ true
-one-kept k x = finds-keep (λ r. r ≡ 0) (k, tt) refl x .0
+one-kept k x = finds-keep (λ r. r ≡ 0) (λ _. k, tt) refl x .0
 
 two-kept : {n m : ℕ} {t u : Bool} → n ≢ 0 → m ≢ 0 → Finds (once n (t ≡ true) ∷ once m (u ≡ true) ∷ []) 0 0 → (t ≡ true) × (u ≡ true)
-two-kept k l x = let y = finds-keep (λ r. r ≡ 0) (k, (l, tt)) refl x in (y .0, y .1 .0)
+two-kept k l x = let y = finds-keep (λ r. r ≡ 0) (λ _. k, (λ _. l, tt)) refl x in (y .0, y .1 .0)
 
 nth : (i : ℕ) {l k : List Float} → l ≡ k → getD l i nan ≡ getD k i nan
 nth i = ap (λ l. getD l i nan)
@@ -124,7 +125,7 @@ corner-numbers b s m (suc (suc (suc (suc (suc (suc (suc (suc i)))))))) l = tail-
 
 pub corners-answer : {g : Given} → Fits g → {before after : List Float} → Corners g before 0 after → (i : ℕ) → i < length after → Bounded 101 (getD after i nan)
 corners-answer {g} fits {before} r i l =
-    let k = finds-keep (λ n. n ≡ 0) (λ q. omega arith, (λ q. omega arith, tt)) refl (r .number) in
+    let k = finds-keep (λ n. n ≡ 0) (search needs) refl (r .number) in
     rw (r .slice) (corner-numbers (g .bounds) (fits .bounded (k .1 .0)) (length before - 8) i (rw (r .slice) at l))
 
 -- ---- crossings
