@@ -1,20 +1,23 @@
 -- What a build promises: its number, and each lent slice at exit by one rule of that number.
 use mathlib.Core.Path.{_≡_}
 use mathlib.Core.Bool.{Bool, true}
-use mathlib.Core.List.{List, _++_}
+use mathlib.Core.List.{List, _++_, map}
 use Prim.Native.Nat.{ℕ}
 use lib.ListN.{length}
 use Rattle.laws.specs.Refusals.{Rule, Finds}
 use Rattle.laws.specs.Binary64.{zero}
 use Rattle.numbers.specs.Numbers.{EMPTY}
+use Rattle.utils.specs.Flat.{flat}
 use Rattle.given_box.specs.declared.Given.{Given}
 use Rattle.mesh.specs.Rules.{callRules}
 use Rattle.mesh.specs.Accepted.{Mesh, tableOf}
 use Rattle.check_mesh.specs.AtExit.{atExit}
 use Rattle.definition.specs.declared.Fault.{Fault}
 use Rattle.definition.specs.Fault.{Outcome}
+use Rattle.definition.specs.Cell.{unmarked}
 use Rattle.definition.specs.Build.{Built, build}
-use Rattle.layout.specs.Outputs.{padded, vertexNumbers, indexNumbers, offsetNumbers, countNumbers, faultOf}
+use Rattle.layout.specs.Regions.{joined, offsetsFrom}
+use Rattle.layout.specs.Outputs.{padded, ofBuilt, faultOf, countsMade}
 use Rattle.admission.specs.Asks.{boxRules}
 use Rattle.admission.specs.Admits.{askedRules}
 use Rattle.admission.specs.Slices.{Slices, roomOf}
@@ -27,10 +30,10 @@ pub record Builds (m : Mesh) (roomy : Bool) (own : List (Rule ℕ)) (o : Outcome
 pub record BuildAnswer (Number : ℕ → Type 0) (table : List ℕ) (o : Outcome Fault Built) (old new : Slices) (r : ℕ) : Type 0 where
   pub number : Number r
   pub work : new .work ≡ atExit EMPTY (padded (length (old .work)) EMPTY table) (old .work) r
-  pub vertices : new .vertices ≡ atExit zero (padded (length (old .vertices)) zero (vertexNumbers o)) (old .vertices) r
-  pub indexes : new .indexes ≡ atExit EMPTY (padded (length (old .indexes)) EMPTY (indexNumbers o)) (old .indexes) r
-  pub offsets : new .offsets ≡ atExit EMPTY (padded (length (old .offsets)) EMPTY (offsetNumbers o)) (old .offsets) r
-  pub counts : new .counts ≡ atExit EMPTY (padded (length (old .counts)) EMPTY (countNumbers o)) (old .counts) r
+  pub vertices : new .vertices ≡ atExit zero (padded (length (old .vertices)) zero (ofBuilt (λ b. flat (b .verts)) o)) (old .vertices) r
+  pub indexes : new .indexes ≡ atExit EMPTY (padded (length (old .indexes)) EMPTY (ofBuilt (λ b. joined (map unmarked (b .cells))) o)) (old .indexes) r
+  pub offsets : new .offsets ≡ atExit EMPTY (padded (length (old .offsets)) EMPTY (ofBuilt (λ b. offsetsFrom 0 (map unmarked (b .cells))) o)) (old .offsets) r
+  pub counts : new .counts ≡ atExit EMPTY (padded (length (old .counts)) EMPTY (ofBuilt countsMade o)) (old .counts) r
 
 module _ (m : Mesh) where
   -- 1, 2, what is asked of the box, 6, 7 to 10, then the outcome's
@@ -39,4 +42,4 @@ module _ (m : Mesh) where
 
   -- clipped to the given box
   abbrev pub ClippedBuild : Given → Slices → Slices → ℕ → Type 0
-  ClippedBuild g = BuildAnswers (boxRules (g .sound)) (build m (g .bounds))
+  ClippedBuild g old = BuildAnswer (Builds m (roomOf m old) (boxRules (g .sound)) (build m (g .bounds))) (tableOf m) (build m (g .bounds)) old

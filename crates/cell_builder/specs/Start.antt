@@ -10,8 +10,9 @@ use Rattle.bounding_box.specs.declared.BoundingBox.{BoundingBox}
 use Rattle.vertices.specs.Store.{Holds}
 use Rattle.mesh.specs.Accepted.{Mesh, siteCount}
 use Rattle.definition.specs.declared.Fault.{Fault}
-use Rattle.definition.specs.Fault.{Outcome, ok, refused, fault}
-use Rattle.definition.specs.Build.{Built, Extensions, extensions, extendFrom, clipAll}
+use Rattle.definition.specs.Fault.{Outcome, ok, refused}
+use Rattle.definition.specs.Build.{Built, Extensions, extendFrom, clipAll}
+use Rattle.definition.specs.Short.{fault, extensions}
 use Rattle.definition.specs.Reused.{reusedIn}
 use Rattle.rings.specs.Extensions.{Extends}
 use Rattle.cell_tries.specs.declared.Frame.{Frame}

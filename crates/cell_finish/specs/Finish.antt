@@ -10,8 +10,9 @@ use Rattle.numbers.specs.Numbers.{EMPTY}
 use Rattle.layout.specs.Cleared.{clearedFrom}
 use Rattle.layout.specs.Regions.{joined, Regions, StartsRise}
 use Rattle.definition.specs.declared.Fault.{Fault}
-use Rattle.definition.specs.Fault.{Outcome, ok, refused, fault}
+use Rattle.definition.specs.Fault.{Outcome, ok, refused}
 use Rattle.definition.specs.Build.{Built}
+use Rattle.definition.specs.Short.{fault}
 use Rattle.definition.specs.Measures.{lostLeft}
 use Rattle.definition.specs.Reused.{reused, reusedIn}
 use Rattle.layout.specs.Outputs.{padded, Gathered}

@@ -13,21 +13,12 @@ use Rattle.admission.specs.Asks.{siteRules, cellRules}
 pub record CellNumber (off ix : List ℕ) (s r : ℕ) : Type 0 where
   pub found : Finds (siteRules (length off - 1) s ++ cellRules off ix (length off - 1)) 0 r
 
--- the cell after the number r: as a list, and by where it starts and how long it is
-unfoldable pub partAfter : List ℕ → List ℕ → ℕ → ℕ → List ℕ
-partAfter off ix s r = pick (eqb r 0) (λ _. cellOf off ix s) (λ _. [])
-
-unfoldable pub startAfter : List ℕ → ℕ → ℕ → ℕ
-startAfter off s r = pick (eqb r 0) (λ _. getD off s 0) (λ _. 0)
-
-unfoldable pub lengthAfter : List ℕ → ℕ → ℕ → ℕ
-lengthAfter off s r = pick (eqb r 0) (λ _. getD off (s + 1) 0 - getD off s 0) (λ _. 0)
-
+-- the cell where the number r is 0: as a list, and by where it starts and how long it is
 pub record CellAnswer (off ix : List ℕ) (s : ℕ) (part : List ℕ) (r : ℕ) : Type 0 where
   pub number : CellNumber off ix s r
-  pub entries : part ≡ partAfter off ix s r
+  pub entries : part ≡ pick (eqb r 0) (λ _. cellOf off ix s) (λ _. [])
 
 pub record PlaceAnswer (off ix : List ℕ) (s start long r : ℕ) : Type 0 where
   pub number : CellNumber off ix s r
-  pub from : start ≡ startAfter off s r
-  pub many : long ≡ lengthAfter off s r
+  pub from : start ≡ pick (eqb r 0) (λ _. getD off s 0) (λ _. 0)
+  pub many : long ≡ pick (eqb r 0) (λ _. getD off (s + 1) 0 - getD off s 0) (λ _. 0)

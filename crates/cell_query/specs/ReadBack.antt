@@ -10,7 +10,7 @@ use Rattle.layout.specs.Regions.{joined, offsetsFrom}
 use Rattle.layout.specs.laws.Compacted.{offsets-length}
 use Rattle.shared.specs.Cells.{Cells, cellOf}
 use Rattle.laws.specs.laws.Refusals.{keeps, nothing}
-use Rattle.cell_query.specs.Cells.{partAfter, CellAnswer}
+use Rattle.cell_query.specs.Cells.{CellAnswer}
 use Rattle.cell_query.specs.laws.Cells.{cell-number}
 use Rattle.cell_query.specs.laws.Offsets.{first-offset, shift, bounds, climbs}
 
@@ -42,7 +42,6 @@ cut cells room h = record {
 -- the offsets of some cells, and an index list that begins with them
 pub read-back : (cells : List (List ℕ)) (spare : List ℕ) (s : ℕ) {part : List ℕ} {r : ℕ} → s < length cells
     → CellAnswer (offsetsFrom 0 cells) (joined cells ++ spare) s part r → (r ≡ 0) × (part ≡ getD cells s [])
-unfolding partAfter
 read-back cells spare s {part} {r} h a =
     let off = offsetsFrom 0 cells in
     let ix = joined cells ++ spare in

@@ -15,9 +15,6 @@ use Rattle.cell_query.specs.declared.Told.{Told}
 abbrev pub toldOf : ℕ → Bool → Told
 toldOf number b = record { number = number; yes = b }
 
-pub record Shares (off ix : List ℕ) (a b r : ℕ) : Type 0 where
-  pub found : Finds (once refusedSite ((a < length off - 1) × (b < length off - 1)) ∷ cellRules off ix (length off - 1)) 0 r
-
 pub record SharesAnswer (off ix : List ℕ) (a b : ℕ) (r : Told) : Type 0 where
-  pub number : Shares off ix a b (r .number)
+  pub number : Finds (once refusedSite ((a < length off - 1) × (b < length off - 1)) ∷ cellRules off ix (length off - 1)) 0 (r .number)
   pub yes : r .yes ≡ pick (eqb (r .number) 0) (λ _. shareEdgeOf off ix a b) (λ _. false)

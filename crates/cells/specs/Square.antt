@@ -11,12 +11,12 @@ use Rattle.utils.specs.Plane.{at, nearOf, dist2Of, centerOf}
 use Rattle.utils.specs.Rules.{okCenter}
 use Rattle.bounding_box.specs.Box.{madeOf, cornersOf, insideOf, firstSide, whichOf}
 use Rattle.crossings.specs.Ray.{orderPick, eitherOf, orderBy, orderOne, orderTwo, rayOf}
-use Rattle.line_crossings.specs.Line.{oneIf, twoIf, firstHeld, rightHit, leftHit, topHit, bottomHit, uprightHit, settleOf, lineOf}
+use Rattle.line_crossings.specs.Line.{oneIf, twoIf, firstHeld, sideHit, levelHit, uprightHit, settleOf, lineOf}
 use Rattle.vertices.specs.Add.{nearPt, findNear, addVertex}
 use Rattle.mesh.specs.Hull.{nextPlace}
 use Rattle.iterator.specs.Neighbours.{lastEnd, startsOf, neighboursOf}
 use Rattle.paths.specs.Path.{distOf, nearestOf, hopOf, pathEnd}
-use Rattle.definition.specs.Cell.{wraps, withCorners, insertAt, insertEdge, edgeCrossing, clipWith, clipEdge, leave, enterAt, enter, link, crossAt, cross}
+use Rattle.definition.specs.Cell.{wraps, withCorners, insertEdge, edgeCrossing, clipWith, clipEdge, leave, enterAt, enter, crossAt, cross}
 use Rattle.definition.specs.Cell.{clipStep, inBox, stepTo, stepsTo, firstInside, turned, clipFrom, clipCell}
 use Rattle.definition.specs.Build.{Built, centerAt, centersFrom, ownersFrom, extended, extendFrom, hullRing, clipInto, clipHull, clipRest, allEntries, lostFrom, clipAll, build}
 use Prim.Native.Nat.{ℕ}
@@ -40,10 +40,10 @@ pub rows :
     × (texted 4 2 (build (meshOf square) (madeOf (at (float 0) (float 0)) (float two-is) (float two-is)))
     ≡ ok (ascii "sites 4 triangles 2 vertices 14\ncell 0: 1 10 2 11 0\ncell 1: 0 11 3 12\ncell 2: 0 12 4 13 1\ncell 3: 1 13 5 10\ncorners 0 1 2 3 lost 0\nreused 0 4 0\n"))
 unfolding trailingZeros ofBits add sub mul div lt le eq neg sum round units odd size span climb same wholeRoot nearestRoot rootOfUnits sqrtOf nearOf
-    dist2Of centerOf okCenter madeOf cornersOf insideOf firstSide whichOf oneIf twoIf firstHeld orderPick eitherOf rightHit leftHit topHit bottomHit
+    dist2Of centerOf okCenter madeOf cornersOf insideOf firstSide whichOf oneIf twoIf firstHeld orderPick eitherOf sideHit levelHit
     uprightHit settleOf lineOf orderBy orderOne orderTwo rayOf nearPt findNear addVertex nextOf chosen tableTo turnOf walkOf nextPlace lastEnd startsOf
-    neighboursOf distOf nearestOf hopOf pathEnd andThen atEdge wraps withCorners insertAt insertEdge edgeCrossing clipWith clipEdge leave enterAt enter
-    link crossAt cross clipStep inBox stepTo stepsTo firstInside turned clipFrom clipCell centerAt centersFrom ownersFrom extended extendFrom hullRing
+    neighboursOf distOf nearestOf hopOf pathEnd andThen atEdge wraps withCorners insertEdge edgeCrossing clipWith clipEdge leave enterAt enter
+    crossAt cross clipStep inBox stepTo stepsTo firstInside turned clipFrom clipCell centerAt centersFrom ownersFrom extended extendFrom hullRing
     clipInto clipHull clipRest allEntries lostFrom clipAll build formOf squareBytes linesOf digits decimal entries labelled counts cellLine
     corners reusedLine
 rows = (refl, refl, refl)

@@ -22,7 +22,8 @@ use Rattle.admission.specs.laws.Asks.{box-answers}
 use Rattle.admission.specs.Slices.{Slices, roomOf}
 use Rattle.build_answers.specs.Success.{Value, succeeds-zero}
 use Rattle.build_answers.specs.Promise.{ClippedBuild}
-use Rattle.form.specs.Form.{MeshFits, numbersOf, float, siteFloats}
+use Rattle.octets.specs.Bytes.{each}
+use Rattle.form.specs.Form.{MeshFits, float, siteFloats}
 use Rattle.form.specs.Square.{square, squareBytes, two-is}
 use Rattle.listing.specs.Text.{ascii}
 use Rattle.printing.specs.One.{prints-one}
@@ -32,7 +33,7 @@ abbrev pub text : List ℕ
 text = ascii "sites 4 triangles 2 vertices 14\ncell 0: 1 10 2 11 0\ncell 1: 0 11 3 12\ncell 2: 0 12 4 13 1\ncell 3: 1 13 5 10\ncorners 0 1 2 3 lost 0\nreused 0 4 0\n"
 
 -- ---- the mesh of "square"
-same-sites : lists.sites ≡ numbersOf siteFloats (square .sites)
+same-sites : lists.sites ≡ each siteFloats (square .sites)
 unfolding ofBits neg
 same-sites = refl
 

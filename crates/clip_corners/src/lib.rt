@@ -12,6 +12,7 @@ ghost use Rattle.utils.specs.Flat.{points};
 ghost use Rattle.bounding_box.specs.Box.{whichOf};
 ghost use Rattle.numbers.specs.Numbers.{EMPTY};
 ghost use Rattle.definition.specs.Cell as Def;
+ghost use Rattle.definition.specs.Short;
 ghost use Rattle.definition.specs.Sides.{Sided};
 ghost use Rattle.clip_corners.specs.CellEntries.{EntryRoom, EntriesPut, places};
 
@@ -68,7 +69,7 @@ fn wrap(
 // One more entry.
 pub fn push(indexes: &mut [u32], cell: CellSoFar, site: u32, x: u32) -> CellSoFar
     requires { ⌜ EntryRoom site 1 cell (length (now indexes)) ⌝ }
-    ensures { λ r. ⌜ ((m : Def.Mark) → EntriesPut site 1 (Def.ins (cell .owners) (Def.entry m x ∷ [])) cell (now (indexes .entry)) r (now (indexes .exit))) ⌝ }
+    ensures { λ r. ⌜ ((m : Def.Mark) → EntriesPut site 1 (Short.ins (cell .owners) (Def.entry m x ∷ [])) cell (now (indexes .entry)) r (now (indexes .exit))) ⌝ }
     ensures { λ r. ⌜ r .last ≡ x ⌝ }
 {
     let owners = cell.owners;

@@ -5,7 +5,8 @@ use mathlib.Core.List.{List}
 use lib.Ieee.{Float}
 use lib.ListN.{take}
 use Rattle.vertices.specs.Store.{Leaves}
-use Rattle.definition.specs.Cell.{EdgeClip, missed, once, twice, tookOne, tookTwo}
+use Rattle.definition.specs.Cell.{EdgeClip, missed, once, twice}
+use Rattle.definition.specs.Short.{tookOne, tookTwo}
 use Rattle.definition.specs.Reused.{CountsReused}
 use Rattle.clip_edges.specs.declared.Crossed.{Crossed}
 use Rattle.clip_edges.specs.declared.Crossed.the-variants.{Missed, Once, Twice}

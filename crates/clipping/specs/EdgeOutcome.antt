@@ -9,7 +9,8 @@ use Rattle.utils.specs.declared.Point.{Point}
 use Rattle.vertices.specs.Store.{Holds, Poured}
 use Rattle.definition.specs.Fault.{Outcome, ok, refused}
 use Rattle.utils.specs.Flat.{points}
-use Rattle.definition.specs.Cell.{Ins, ins, Change}
+use Rattle.definition.specs.Cell.{Ins, Change}
+use Rattle.definition.specs.Short.{ins}
 use Rattle.definition.specs.Reused.{CountsReused}
 use Rattle.definition.specs.Sides.{SidedCorners}
 use Rattle.clip_corners.specs.CellEntries.{EntryRoom, EntriesPut}

@@ -8,9 +8,11 @@ use lib.ListN.{length, getD, take, drop}
 use Rattle.numbers.specs.Numbers.{EMPTY}
 use Rattle.utils.specs.Flat.{points}
 use Rattle.vertices.specs.Store.{Holds}
-use Rattle.definition.specs.Fault.{Outcome, ok, refused, fault}
+use Rattle.definition.specs.Fault.{Outcome, ok, refused}
+use Rattle.definition.specs.Short.{fault}
 use Rattle.definition.specs.declared.Fault.{Fault}
 use Rattle.definition.specs.Cell as Def
+use Rattle.definition.specs.Short
 use Rattle.definition.specs.Reused.{CountsReused}
 use Rattle.definition.specs.Sides.{Sided, SidedCorners}
 use Rattle.clip_corners.specs.CellEntries.{EntryRoom}
@@ -23,7 +25,7 @@ use Rattle.clipping.specs.declared.RingStepped.{RingStepped}
 
 -- the walk's state as the definition has it: the slice v holds its vertices
 abbrev pub tipOf : Tip → List Float → Def.Tip
-tipOf t v = Def.tip (points (t .count) v) (t .cell .owners) (t .cell .last) (t .vertex) (t .inside) (t .opened)
+tipOf t v = Short.tip (points (t .count) v) (t .cell .owners) (t .cell .last) (t .vertex) (t .inside) (t .opened)
 
 -- the ring's vertex is one, and where it is inside the cell is shut; an open cell has a last entry, and that is on a side
 pub record Stands (env : Env) (t : Tip) (v : List Float) : Type 0 where
@@ -38,7 +40,7 @@ Steps env edges (ok c) count cell v ix r v₁ ix₁ =
     (r .fault ≡ fault 0 0 0 0)
     × (c .tip ≡ tipOf (r .tip) v₁)
     × VerticesGrown (2 * edges) count (r .tip .count) v v₁
-    × Did env (3 * edges) (c .tip .verts) (Def.ins (c .tip .owners) (c .new)) cell v ix (r .tip .count) (r .tip .cell) v₁ ix₁
+    × Did env (3 * edges) (c .tip .verts) (Short.ins (c .tip .owners) (c .new)) cell v ix (r .tip .count) (r .tip .cell) v₁ ix₁
     × CountsReused (2 * edges) (c .steps) (r .reused)
 Steps env edges (refused f) count cell v ix r v₁ ix₁ = (r .fault ≡ f) × (0 < f .number)
 

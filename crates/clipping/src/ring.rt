@@ -18,6 +18,7 @@ ghost use Prim.Native.Nat.{ℕ, _+_, _*_, _≤_, _<_};
 ghost use lib.ListN.{length, getD};
 ghost use Rattle.utils.specs.Flat.{points};
 ghost use Rattle.definition.specs.Cell as Def;
+ghost use Rattle.definition.specs.Short;
 ghost use Rattle.clipping.specs.EdgeOutcome.{EdgeRoom};
 ghost use Rattle.clipping.specs.RingWalk.{tipOf, Stands, Steps, ringOf, emptyAt, RingRoom};
 
@@ -181,7 +182,7 @@ fn clip_from(
     requires { ⌜ RingRoom env count cell ring len len (now vertices) (now indexes) ⌝ }
     requires { ⌜ (f < len) × (inside ≡ false → (j : ℕ) → j < len → Def.inBox (env .bounds) (env .centers) (points count (now vertices)) (getD (now indexes) (ring + j) 0) ≡ false) ⌝ }
     ensures { λ r. ⌜ Steps env len (Def.stepsTo (env .bounds) (env .centers) (env .site) (Def.turned f (ringOf (now (indexes .entry)) ring len))
-        (Def.tip (points count (now (vertices .entry))) (cell .owners) (cell .last) (getD (ringOf (now (indexes .entry)) ring len) f 0) inside false)) count cell
+        (Short.tip (points count (now (vertices .entry))) (cell .owners) (cell .last) (getD (ringOf (now (indexes .entry)) ring len) f 0) inside false)) count cell
         (now (vertices .entry)) (now (indexes .entry)) r (now (vertices .exit)) (now (indexes .exit)) ⌝ }
 {
     let place = ring + f;

@@ -18,6 +18,7 @@ ghost use Rattle.utils.specs.Flat.{points};
 ghost use Rattle.utils.specs.declared.Point.{Point};
 ghost use Rattle.definition.specs.Fault.{ok};
 ghost use Rattle.definition.specs.Cell as Def;
+ghost use Rattle.definition.specs.Short;
 ghost use Rattle.definition.specs.Reused.{CountsReused};
 ghost use Rattle.definition.specs.Sides.{Sided};
 ghost use Rattle.clip_corners.specs.CellEntries.{EntryRoom, EntriesPut};
@@ -35,7 +36,7 @@ fn stay(
 ) -> Changed
     requires { ⌜ (EntryRoom (env .site) 3 cell (length (now indexes))) × (p < count) ⌝ }
     ensures { λ r. ⌜ ((vs : List Point) → Alters (env .site) vs
-        (ok (Def.change vs (cell .owners) (Def.entry Def.plain p ∷ []) opened [])) count cell (now (indexes .entry)) r (now (indexes .exit))) ⌝ }
+        (ok (Short.change vs (cell .owners) (Def.entry Def.plain p ∷ []) opened [])) count cell (now (indexes .entry)) r (now (indexes .exit))) ⌝ }
 {
     let put = push(indexes, cell, env.site, p);
     Changed {
@@ -63,7 +64,7 @@ fn leave_at(
 ) -> Changed
     requires { ⌜ (EntryRoom (env .site) 3 cell (length (now indexes))) × (first < count) ⌝ }
     ensures { λ r. ⌜ ((vs : List Point) (ts : List Def.Taken) → CountsReused 2 ts reused
-        → Alters (env .site) vs (ok (Def.change vs (cell .owners) (Def.entry Def.plain p ∷ Def.entry Def.crossing first ∷ []) true ts))
+        → Alters (env .site) vs (ok (Short.change vs (cell .owners) (Def.entry Def.plain p ∷ Def.entry Def.crossing first ∷ []) true ts))
         count cell (now (indexes .entry)) r (now (indexes .exit))) ⌝ }
 {
     let one = push(indexes, cell, env.site, p);
@@ -199,7 +200,7 @@ fn link(
     requires { ⌜ EntryRoom (env .site) 3 cell (length (now indexes)) ⌝ }
     requires { ⌜ (2 * count ≤ length (now vertices)) × (first < count) × (opened ≡ true → cell .last < count) × (env .centers + 4 ≤ count) × (count ≤ 2 ^ 32) ⌝ }
     requires { ⌜ (opened ≡ true → Sided (env .bounds) (points count (now vertices)) (cell .last)) × Sided (env .bounds) (points count (now vertices)) first ⌝ }
-    ensures { λ r. ⌜ EntriesPut (env .site) 1 (Def.link (env .bounds) (env .centers) (env .site) (points count (now (vertices .entry))) (cell .owners) opened
+    ensures { λ r. ⌜ EntriesPut (env .site) 1 (Short.link (env .bounds) (env .centers) (env .site) (points count (now (vertices .entry))) (cell .owners) opened
         (cell .last) first) cell (now (indexes .entry)) r (now (indexes .exit)) ⌝ }
 {
     if opened {

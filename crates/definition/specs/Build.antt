@@ -9,6 +9,7 @@ use lib.Ieee.{Float, nan, inf, fin, binary64, ofBits}
 use Rattle.laws.specs.Pick.{pick}
 use Rattle.laws.specs.Binary64.{_⊞_, _⊟_, _⊠_, _⊘_, one}
 use Rattle.laws.specs.Count.{occ}
+use Rattle.numbers.specs.Numbers.{refusedCircumcenter, refusedExtension}
 use Rattle.root.specs.Sqrt.{sqrtOf}
 use Rattle.utils.specs.Plane.{at, centerOf}
 use Rattle.utils.specs.Rules.{okCenter}
@@ -22,7 +23,7 @@ use Rattle.mesh.specs.Accepted.{Mesh, siteCount}
 use Rattle.mesh.specs.Hull.{nextSite}
 use Rattle.paths.specs.Path.{pathEnd}
 use Rattle.definition.specs.declared.Fault.{Fault}
-use Rattle.definition.specs.Fault.{Outcome, ok, refused, andThen, badCenter, notFinite}
+use Rattle.definition.specs.Fault.{Outcome, ok, refused, andThen}
 use Rattle.definition.specs.Cell.{Mark, plain, crossing, wrapped, Entry, unmarked, Taken, took, extension, vertexAt, clipCell}
 
 -- ---- vertices and owners to begin with
@@ -36,7 +37,7 @@ unfoldable pub centersFrom : List Float → List ℕ → ℕ → ℕ → List Po
 centersFrom sites tri t zero vs = ok vs
 centersFrom sites tri t (suc k) vs =
     let c = centerAt sites tri t in
-    pick (okCenter c) (λ _. centersFrom sites tri (suc t) k (vs ++ c ∷ [])) (λ _. refused (badCenter t))
+    pick (okCenter c) (λ _. centersFrom sites tri (suc t) k (vs ++ c ∷ [])) (λ _. refused (record { number = refusedCircumcenter; place = t; from = 0; to = 0 }))
 
 -- calculate_corner_ownership: a corner's owner is where the path to it ends, begun at the owner before; n is the number of sites, more than any path's hops
 unfoldable pub ownersFrom : List Float → List ℕ → List ℕ → List ℕ → ℕ → ℕ → List Point → List ℕ
@@ -73,9 +74,6 @@ pub record Extensions : Type 0 where
   pub at : List ℕ
   pub steps : List Taken
 
-abbrev pub extensions : List Point → List ℕ → List Taken → Extensions
-extensions vs xs ts = record { verts = vs; at = xs; steps = ts }
-
 -- k hull places from i on; 12 at the first extension that is not finite
 unfoldable pub extendFrom : List Float → List ℕ → List ℕ → List ℕ → ℕ → ℕ → ℕ → Extensions → Outcome Fault Extensions
 extendFrom sites tri hull table nc i zero x = ok x
@@ -83,8 +81,8 @@ extendFrom sites tri hull table nc i (suc k) x =
     let p = extended sites tri (x .verts) (getD table (nextSite hull i) 0) in
     let r = addVertex nc (x .verts) p in
     pick (finite (p .x) && finite (p .y))
-    (λ _. extendFrom sites tri hull table nc (suc i) k (extensions (r .verts) (x .at ++ r .at ∷ []) (x .steps ++ took extension r ∷ [])))
-    (λ _. refused (notFinite i))
+    (λ _. extendFrom sites tri hull table nc (suc i) k (record { verts = r .verts; at = x .at ++ r .at ∷ []; steps = x .steps ++ took extension r ∷ [] }))
+    (λ _. refused (record { number = refusedExtension; place = i; from = 0; to = 0 }))
 
 -- ---- all cells
 
@@ -106,13 +104,10 @@ pub record CellState : Type 0 where
   pub cells : List (List Entry)
   pub steps : List Taken
 
-abbrev pub cellState : List Point → List ℕ → List (List Entry) → List Taken → CellState
-cellState vs os cs ts = record { verts = vs; owners = os; cells = cs; steps = ts }
-
 unfoldable pub clipInto : BoundingBox → ℕ → ℕ → List ℕ → CellState → Outcome Fault CellState
 clipInto b nc site ring s =
     andThen (clipCell b nc site ring (s .verts) (s .owners)) λ c.
-    ok (cellState (c .tip .verts) (c .tip .owners) (set (s .cells) site (c .new)) (s .steps ++ c .steps))
+    ok (record { verts = c .tip .verts; owners = c .tip .owners; cells = set (s .cells) site (c .new); steps = s .steps ++ c .steps })
 
 -- the sites at k hull places from i on
 unfoldable pub clipHull : BoundingBox → ℕ → List ℕ → List ℕ → List ℕ → List ℕ → ℕ → ℕ → CellState → Outcome Fault CellState
@@ -172,7 +167,7 @@ pub record Built : Type 0 where
 
 unfoldable pub clipAll : BoundingBox → ℕ → List ℕ → List ℕ → List ℕ → List ℕ → ℕ → List ℕ → Extensions → Outcome Fault CellState
 clipAll b nc tri he hull table n owners x =
-    andThen (clipHull b nc he hull table (x .at) 0 (length hull) (cellState (x .verts) owners (replicate n []) (x .steps))) λ s.
+    andThen (clipHull b nc he hull table (x .at) 0 (length hull) (record { verts = x .verts; owners = owners; cells = replicate n []; steps = x .steps })) λ s.
     clipRest b nc tri he 0 (length tri) s
 
 -- owners: as found, before wrapping
@@ -183,6 +178,6 @@ build m b =
     let table = leftmostOf (m .triangles) (m .halfedges) n in
     let owners = ownersFrom (m .sites) (m .triangles) (m .halfedges) table n (getD (m .hull) 0 0) (cornersOf b) in
     andThen (centersFrom (m .sites) (m .triangles) 0 nc []) λ centers.
-    andThen (extendFrom (m .sites) (m .triangles) (m .hull) table nc 0 (length (m .hull)) (extensions (centers ++ cornersOf b) [] [])) λ x.
+    andThen (extendFrom (m .sites) (m .triangles) (m .hull) table nc 0 (length (m .hull)) (record { verts = centers ++ cornersOf b; at = []; steps = [] })) λ x.
     andThen (clipAll b nc (m .triangles) (m .halfedges) (m .hull) table n owners x) λ s.
     ok (record { verts = s .verts; cells = s .cells; owners = owners; lost = lostFrom nc 4 (s .cells); steps = s .steps })

@@ -46,6 +46,7 @@ unmarked es = map (λ (e : Entry). e .at) es
 
 pub data StepKind : Type 0 where
   extension firstCrossing secondCrossing : StepKind
+  deriving Discrete as StepKind-discrete
 
 -- such a step: its kind, and whether the point was new or a vertex was taken again
 pub record Taken : Type 0 where
@@ -62,43 +63,31 @@ pub record Ins : Type 0 where
   pub owners : List ℕ
   pub new : List Entry
 
-abbrev pub ins : List ℕ → List Entry → Ins
-ins os es = record { owners = os; new = es }
-
-abbrev pub before : Entry → Ins → Ins
-before e i = ins (i .owners) (e ∷ i .new)
-
-abbrev pub followedBy : Ins → Entry → Ins
-followedBy i e = ins (i .owners) (i .new ++ e ∷ [])
-
 -- whether corner c is next: it is not the last side's, and the site owns it
 abbrev pub goes : ℕ → ℕ → ℕ → List ℕ → Bool
 goes site stop c os = pick (eqb c stop) (λ _. false) (λ _. eqb (getD os c 0) site)
 
 -- the corners from c on, counter-clockwise, at most k of them
 unfoldable pub wraps : ℕ → ℕ → ℕ → ℕ → ℕ → List ℕ → Ins
-wraps zero nc site stop c os = ins os []
+wraps zero nc site stop c os = record { owners = os; new = [] }
 wraps (suc k) nc site stop c os =
     pick (goes site stop c os)
-    (λ _. before (entry wrapped (nc + c)) (wraps k nc site stop ((c + 1) % 4) (set os c EMPTY)))
-    (λ _. ins os [])
+    (λ _. let w = wraps k nc site stop ((c + 1) % 4) (set os c EMPTY) in record { owners = w .owners; new = entry wrapped (nc + c) ∷ w .new })
+    (λ _. record { owners = os; new = [] })
 
 -- the second clipped vertex, with the corners before it or after it; the clipped vertices are on the sides f and s (NoSide.antt), and a place that is no side has no owner
 unfoldable pub withCorners : ℕ → ℕ → ℕ → ℕ → ℕ → List ℕ → Ins
 withCorners nc site f s second os =
     pick (eqb (getD os f EMPTY) site)
-    (λ _. followedBy (wraps 4 nc site s f os) (entry crossing second))
+    (λ _. let w = wraps 4 nc site s f os in record { owners = w .owners; new = w .new ++ entry crossing second ∷ [] })
     (λ _. pick (eqb (getD os s EMPTY) site)
-    (λ _. before (entry crossing second) (wraps 4 nc site f s os))
-    (λ _. ins os (entry crossing second ∷ [])))
+    (λ _. let w = wraps 4 nc site f s os in record { owners = w .owners; new = entry crossing second ∷ w .new })
+    (λ _. record { owners = os; new = entry crossing second ∷ [] }))
 
 -- the first clipped vertex too, unless it is the last entry already
 abbrev pub led : Bool → ℕ → Ins → Ins
 led true first i = i
-led false first i = before (entry crossing first) i
-
-unfoldable pub insertAt : ℕ → ℕ → ℕ → ℕ → ℕ → List ℕ → ℕ → ℕ → Ins
-insertAt nc site last first second os f s = led (eqb last first) first (withCorners nc site f s second os)
+led false first i = record { owners = i .owners; new = entry crossing first ∷ i .new }
 
 abbrev pub vertexAt : List Point → ℕ → Point
 vertexAt vs i = getD vs i (at nan nan)
@@ -106,7 +95,7 @@ vertexAt vs i = getD vs i (at nan nan)
 -- insert_edge_and_wrap_around_corners; last is the cell's last entry, EMPTY if it has none
 unfoldable pub insertEdge : BoundingBox → ℕ → ℕ → List Point → List ℕ → ℕ → ℕ → ℕ → Ins
 insertEdge b nc site vs os last first second =
-    insertAt nc site last first second os (whichOf b (vertexAt vs first)) (whichOf b (vertexAt vs second))
+    led (eqb last first) first (withCorners nc site (whichOf b (vertexAt vs first)) (whichOf b (vertexAt vs second)) second os)
 
 -- ---- clipping an edge
 
@@ -154,54 +143,42 @@ pub record Change : Type 0 where
   pub opened : Bool
   pub steps : List Taken
 
-abbrev pub change : List Point → List ℕ → List Entry → Bool → List Taken → Change
-change vs os es o ts = record { verts = vs; owners = os; new = es; opened = o; steps = ts }
-
-abbrev pub tookOne : Added → List Taken
-tookOne r = took firstCrossing r ∷ []
-
-abbrev pub tookTwo : Added → Added → List Taken
-tookTwo r t = took firstCrossing r ∷ took secondCrossing t ∷ []
-
 -- from inside to outside
 unfoldable pub leave : ℕ → List ℕ → EdgeClip → Outcome ℕ Change
 leave p os missed = refused refusedNoCrossing
-leave p os (once r) = ok (change (r .verts) os (entry plain p ∷ entry crossing (r .at) ∷ []) true (tookOne r))
-leave p os (twice r t) = ok (change (t .verts) os (entry plain p ∷ entry crossing (r .at) ∷ []) true (tookTwo r t))
+leave p os (once r) = ok (record { verts = r .verts; owners = os; new = entry plain p ∷ entry crossing (r .at) ∷ []; opened = true; steps = took firstCrossing r ∷ [] })
+leave p os (twice r t) = ok (record { verts = t .verts; owners = os; new = entry plain p ∷ entry crossing (r .at) ∷ []; opened = true; steps = took firstCrossing r ∷ took secondCrossing t ∷ [] })
 
 -- from outside to inside; last is the cell's last entry
 unfoldable pub enterAt : BoundingBox → ℕ → ℕ → List Point → List ℕ → ℕ → ℕ → List Taken → Change
 enterAt b nc site vs os last first ts =
     let i = insertEdge b nc site vs os last last first in
-    change vs (i .owners) (i .new) false ts
+    record { verts = vs; owners = i .owners; new = i .new; opened = false; steps = ts }
 
 unfoldable pub enter : BoundingBox → ℕ → ℕ → List ℕ → ℕ → EdgeClip → Outcome ℕ Change
 enter b nc site os last missed = refused refusedNoCrossing
-enter b nc site os last (once r) = ok (enterAt b nc site (r .verts) os last (r .at) (tookOne r))
-enter b nc site os last (twice r t) = ok (enterAt b nc site (t .verts) os last (r .at) (tookTwo r t))
+enter b nc site os last (once r) = ok (enterAt b nc site (r .verts) os last (r .at) (took firstCrossing r ∷ []))
+enter b nc site os last (twice r t) = ok (enterAt b nc site (t .verts) os last (r .at) (took firstCrossing r ∷ took secondCrossing t ∷ []))
 
 -- both outside: an open cell is first led from its last entry to the first crossing
-unfoldable pub link : BoundingBox → ℕ → ℕ → List Point → List ℕ → Bool → ℕ → ℕ → Ins
-link b nc site vs os opened last first = pick opened (λ _. insertEdge b nc site vs os last last first) (λ _. ins os [])
-
 unfoldable pub crossAt : BoundingBox → ℕ → ℕ → List Point → List ℕ → Bool → ℕ → ℕ → ℕ → List Taken → Change
 crossAt b nc site vs os opened last first second ts =
-    let i = link b nc site vs os opened last first in
+    let i : Ins = pick opened (λ _. insertEdge b nc site vs os last last first) (λ _. record { owners = os; new = [] }) in
     let j = insertEdge b nc site vs (i .owners) (lastOr last (i .new)) first second in
-    change vs (j .owners) (i .new ++ j .new) opened ts
+    record { verts = vs; owners = j .owners; new = i .new ++ j .new; opened = opened; steps = ts }
 
 -- a lone crossing is refused; that an open cell was led to it first, a refused build does not show
 unfoldable pub cross : BoundingBox → ℕ → ℕ → List Point → List ℕ → Bool → ℕ → EdgeClip → Outcome ℕ Change
-cross b nc site vs os opened last missed = ok (change vs os [] opened [])
+cross b nc site vs os opened last missed = ok (record { verts = vs; owners = os; new = []; opened = opened; steps = [] })
 cross b nc site vs os opened last (once r) = refused refusedOneCrossing
-cross b nc site vs os opened last (twice r t) = ok (crossAt b nc site (t .verts) os opened last (r .at) (t .at) (tookTwo r t))
+cross b nc site vs os opened last (twice r t) = ok (crossAt b nc site (t .verts) os opened last (r .at) (t .at) (took firstCrossing r ∷ took secondCrossing t ∷ []))
 
 -- the four cases; pIn and qIn: whether p and q are inside
 unfoldable pub clipStep : BoundingBox → ℕ → ℕ → ℕ → Bool → ℕ → Bool → List Point → List ℕ → Bool → ℕ → Outcome ℕ Change
 clipStep b nc site p pIn q qIn vs os opened last =
     pick pIn
     (λ _. pick qIn
-    (λ _. ok (change vs os (entry plain p ∷ []) opened []))
+    (λ _. ok (record { verts = vs; owners = os; new = entry plain p ∷ []; opened = opened; steps = [] }))
     (λ _. leave p os (clipEdge b nc vs p q)))
     (λ _. pick qIn
     (λ _. enter b nc site os last (clipEdge b nc vs q p))
@@ -222,36 +199,24 @@ pub record Tip : Type 0 where
   pub pIn : Bool
   pub opened : Bool
 
-abbrev pub tip : List Point → List ℕ → ℕ → ℕ → Bool → Bool → Tip
-tip vs os l p i o = record { verts = vs; owners = os; last = l; p = p; pIn = i; opened = o }
-
 -- where some edges of the ring lead, the entries that they add, and the points that they added or took again
 pub record RingPart : Type 0 where
   pub tip : Tip
   pub new : List Entry
   pub steps : List Taken
 
-abbrev pub part : Tip → List Entry → List Taken → RingPart
-part t es ts = record { tip = t; new = es; steps = ts }
-
-abbrev pub partsJoined : RingPart → RingPart → RingPart
-partsJoined c d = part (d .tip) (c .new ++ d .new) (c .steps ++ d .steps)
-
-abbrev pub moved : Tip → ℕ → Bool → Change → RingPart
-moved t q qIn d = part (tip (d .verts) (d .owners) (lastOr (t .last) (d .new)) q qIn (d .opened)) (d .new) (d .steps)
-
 unfoldable pub stepTo : BoundingBox → ℕ → ℕ → Tip → ℕ → Outcome Fault RingPart
 stepTo b nc site t q =
     let qIn = inBox b nc (t .verts) q in
     andThen (atEdge site (t .p) q (clipStep b nc site (t .p) (t .pIn) q qIn (t .verts) (t .owners) (t .opened) (t .last))) λ d.
-    ok (moved t q qIn d)
+    ok (record { tip = record { verts = d .verts; owners = d .owners; last = lastOr (t .last) (d .new); p = q; pIn = qIn; opened = d .opened }; new = d .new; steps = d .steps })
 
 unfoldable pub stepsTo : BoundingBox → ℕ → ℕ → List ℕ → Tip → Outcome Fault RingPart
-stepsTo b nc site [] t = ok (part t [] [])
+stepsTo b nc site [] t = ok (record { tip = t; new = []; steps = [] })
 stepsTo b nc site (q ∷ qs) t =
     andThen (stepTo b nc site t q) λ c.
     andThen (stepsTo b nc site qs (c .tip)) λ d.
-    ok (partsJoined c d)
+    ok (record { tip = d .tip; new = c .new ++ d .new; steps = c .steps ++ d .steps })
 
 -- the place of the first vertex inside, else the ring's length
 unfoldable pub firstInside : BoundingBox → ℕ → List Point → List ℕ → ℕ
@@ -263,7 +228,7 @@ unfoldable pub turned : ℕ → List ℕ → List ℕ
 turned f ring = reverse (take f ring) ++ reverse (drop f ring)
 
 unfoldable pub clipFrom : BoundingBox → ℕ → ℕ → List ℕ → List Point → List ℕ → ℕ → Bool → Outcome Fault RingPart
-clipFrom b nc site ring vs os f inside = stepsTo b nc site (turned f ring) (tip vs os EMPTY (getD ring f 0) inside false)
+clipFrom b nc site ring vs os f inside = stepsTo b nc site (turned f ring) (record { verts = vs; owners = os; last = EMPTY; p = getD ring f 0; pIn = inside; opened = false })
 
 -- clip_cell: from the first vertex inside, else from the first
 unfoldable pub clipCell : BoundingBox → ℕ → ℕ → List ℕ → List Point → List ℕ → Outcome Fault RingPart

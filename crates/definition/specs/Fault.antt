@@ -1,6 +1,5 @@
 -- Outcomes of the builder's steps: a value, or a refusal. Within one edge that is the refusal's number alone, outside it is a fault: the number and the place.
 use Prim.Native.Nat.{ℕ}
-use Rattle.numbers.specs.Numbers.{refusedCircumcenter, refusedExtension}
 use Rattle.definition.specs.declared.Fault.{Fault}
 
 pub data Outcome (F A : Type 0) : Type 0 where
@@ -11,18 +10,7 @@ unfoldable pub andThen : {F A B : Type 0} → Outcome F A → (A → Outcome F B
 andThen (ok a) k = k a
 andThen (refused f) k = refused f
 
-abbrev pub fault : ℕ → ℕ → ℕ → ℕ → Fault
-fault n place from to = record { number = n; place = place; from = from; to = to }
-
--- 11: the circumcenter of triangle t breaks its rule
-abbrev pub badCenter : ℕ → Fault
-badCenter t = fault refusedCircumcenter t 0 0
-
--- 12: the extension over the hull edge from hull place i to the next one is not finite
-abbrev pub notFinite : ℕ → Fault
-notFinite i = fault refusedExtension i 0 0
-
--- 13 and 14: met in the cell of a site, at the edge from vertex p to vertex q
+-- 11 has the triangle for its place, 12 the hull place whose edge to the next one is extended; 13 and 14 are met in the cell of a site, at the edge from vertex p to vertex q
 unfoldable pub atEdge : {A : Type 0} → ℕ → ℕ → ℕ → Outcome ℕ A → Outcome Fault A
 atEdge site p q (ok a) = ok a
-atEdge site p q (refused n) = refused (fault n site p q)
+atEdge site p q (refused n) = refused (record { number = n; place = site; from = p; to = q })

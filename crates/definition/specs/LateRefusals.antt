@@ -5,7 +5,8 @@ use lib.ListN.{length}
 use Rattle.bounding_box.specs.Box.{cornersOf}
 use Rattle.bounding_box.specs.declared.BoundingBox.{BoundingBox}
 use Rattle.mesh.specs.Accepted.{Mesh, siteCount, tableOf}
-use Rattle.definition.specs.Build.{centersFrom, extensions, extendFrom, clipAll, build}
+use Rattle.definition.specs.Build.{centersFrom, extendFrom, clipAll, build}
+use Rattle.definition.specs.Short.{extensions}
 use Rattle.definition.specs.Late.{Refuses, Numbered}
 use Rattle.definition.specs.laws.LateRefusals.{late-then, late-centers, late-extensions, late-cells}
 

@@ -17,6 +17,7 @@ pub mod Points
 pub mod Met
 pub mod Sides
 pub mod FaultTheorem
+pub mod Short
 pub mod ShortEdge
 pub mod ByNumber
 pub mod TryTheorem

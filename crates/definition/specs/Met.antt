@@ -15,8 +15,9 @@ use Rattle.line_crossings.specs.declared.Crossing.the-variants.{None, One}
 use Rattle.mesh.specs.Accepted.{Mesh}
 use Rattle.definition.specs.declared.Fault.{Fault}
 use Rattle.definition.specs.Fault.{ok, refused}
-use Rattle.definition.specs.Cell.{vertexAt, edgeCrossing, clipStep, inBox, Tip, tip, RingPart, stepsTo, firstInside, turned}
+use Rattle.definition.specs.Cell.{vertexAt, edgeCrossing, clipStep, inBox, Tip, RingPart, stepsTo, firstInside, turned}
 use Rattle.definition.specs.Build.{CellState}
+use Rattle.definition.specs.Short.{tip}
 use Rattle.definition.specs.Tries.{centerRule, extensionRule, TryOf}
 
 -- ---- what is wrong with an edge

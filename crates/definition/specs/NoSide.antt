@@ -16,9 +16,10 @@ use Rattle.bounding_box.specs.Finite.{BoundedBox}
 use Rattle.bounding_box.specs.declared.BoundingBox.{BoundingBox}
 use Rattle.mesh.specs.Accepted.{Mesh, Accepted}
 use Rattle.definition.specs.Fault.{Outcome, ok, refused, andThen}
-use Rattle.definition.specs.Cell.{plain, entry, lastOr, Taken, Ins, ins, vertexAt, insertEdge, EdgeClip, missed, once, twice, clipEdge}
-use Rattle.definition.specs.Cell.{Change, change, tookOne, tookTwo, leave, enterAt, enter, link, crossAt, cross, clipStep, inBox, Tip, RingPart, stepsTo}
+use Rattle.definition.specs.Cell.{plain, entry, lastOr, Taken, Ins, vertexAt, insertEdge, EdgeClip, missed, once, twice, clipEdge}
+use Rattle.definition.specs.Cell.{Change, leave, enterAt, enter, crossAt, cross, clipStep, inBox, Tip, RingPart, stepsTo}
 use Rattle.definition.specs.Build.{CellState}
+use Rattle.definition.specs.Short.{ins, link, change, tookOne, tookTwo}
 use Rattle.definition.specs.Sides.{Sided, SidedCorners}
 use Rattle.definition.specs.Tries.{TryOf}
 use Rattle.definition.specs.Met.{beginsInside, beginsAt, walked, firstTip}
@@ -89,7 +90,7 @@ module _ (b : BoundingBox) (nc site : ℕ) where
 
     link-same : (ws : List Point) (opened : Bool) (first : ℕ) → (opened ≡ true → Sided b ws last) → Sided b ws first
         → sourceLink ws os opened last first ≡ ok (link b nc site ws os opened last first)
-    unfolding sourceLink link
+    unfolding sourceLink
     link-same ws true first l f = insert-same ws os last last first (l refl) f
     link-same ws false first l f = refl
 

@@ -13,8 +13,9 @@ use Rattle.crossings.specs.Rules.{countOf}
 use Rattle.mesh.specs.Mesh.{endOf}
 use Rattle.mesh.specs.Accepted.{Mesh, tableOf}
 use Rattle.definition.specs.Fault.{Outcome, ok, refused}
-use Rattle.definition.specs.Cell.{StepKind, Taken, vertexAt, edgeCrossing, inBox, Tip, tip, RingPart, stepTo, firstInside, turned}
+use Rattle.definition.specs.Cell.{StepKind, Taken, vertexAt, edgeCrossing, inBox, Tip, RingPart, stepTo, firstInside, turned}
 use Rattle.definition.specs.Build.{Extensions, ringFrom, hullRing, CellState, clipInto, isEmpty, clipHull}
+use Rattle.definition.specs.Short.{tip}
 use Rattle.definition.specs.Reused.{isKind}
 use Rattle.definition.specs.Tries.{noCells}
 

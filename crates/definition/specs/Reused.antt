@@ -1,31 +1,25 @@
 -- How many steps of each kind took a vertex again that was there (near a corner, an extension or a point added before), counted over the list of steps.
 use mathlib.Core.Path.{_≡_}
-use mathlib.Core.Bool.{Bool, true, false}
+use mathlib.Core.Bool.{Bool}
 use mathlib.Core.List.{List, [], _∷_}
 use Prim.Native.Nat.{ℕ, _+_, _^_, _≤_}
 use lib.ListN.{length}
-use Rattle.definition.specs.Cell.{StepKind, extension, firstCrossing, secondCrossing, Taken}
+use Rattle.laws.specs.Pick.{pick}
+use Rattle.definition.specs.Cell.{StepKind, StepKind-discrete, extension, firstCrossing, secondCrossing, Taken}
 use Rattle.definition.specs.declared.Reused.{Reused}
 
+-- 1 where a step of kind j is one of kind k, else 0
 abbrev pub isKind : StepKind → StepKind → ℕ
-isKind extension extension = 1
-isKind firstCrossing firstCrossing = 1
-isKind secondCrossing secondCrossing = 1
-isKind extension firstCrossing = 0
-isKind extension secondCrossing = 0
-isKind firstCrossing extension = 0
-isKind firstCrossing secondCrossing = 0
-isKind secondCrossing extension = 0
-isKind secondCrossing firstCrossing = 0
+isKind k j = elim (StepKind-discrete k j) [ yes _ ↦ 1 | no _ ↦ 0 ]
 
--- n of a step that took a vertex again, nothing of one whose point was new
-abbrev pub ifOld : Bool → ℕ → ℕ
-ifOld true n = 0
-ifOld false n = n
-
+-- the steps of kind k whose point was not new
 abbrev pub reusedOf : StepKind → List Taken → ℕ
 reusedOf k [] = 0
-reusedOf k (t ∷ ts) = ifOld (t .fresh) (isKind k (t .kind)) + reusedOf k ts
+reusedOf k (t ∷ ts) = pick (t .fresh) (λ _. 0) (λ _. isKind k (t .kind)) + reusedOf k ts
+
+-- what a step adds to such a number, by whether its point was new
+abbrev pub ifOld : Bool → ℕ → ℕ
+ifOld fresh n = pick fresh (λ _. 0) (λ _. n)
 
 -- all three kinds, as a build answers them
 abbrev pub reused : ℕ → ℕ → ℕ → Reused

@@ -18,7 +18,8 @@ use Rattle.mesh.specs.Rings.{walkTriangles, siteRing}
 use Rattle.mesh.specs.laws.Facts.{topology, paired, end-site, leftmost-lowest}
 use Rattle.mesh.specs.laws.Occurs.{occ-there}
 use Rattle.mesh.specs.laws.Walks.{walk-ends}
-use Rattle.definition.specs.Build.{Extensions, extensions, ringFrom, hullRing}
+use Rattle.definition.specs.Build.{Extensions, ringFrom, hullRing}
+use Rattle.definition.specs.Short.{extensions}
 use Rattle.definition.specs.Tries.{centersTo, AllExtended}
 use Rattle.definition.specs.laws.Gives.{gives-ok}
 use Rattle.definition.specs.laws.Start.{Extended, extend-from}

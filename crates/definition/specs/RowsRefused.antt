@@ -3,9 +3,10 @@ use mathlib.Core.Path.{_≡_, refl}
 use mathlib.Core.List.{[], _∷_}
 use Rattle.numbers.specs.Numbers.{EMPTY, refusedCircumcenter, refusedExtension, refusedNoCrossing, refusedOneCrossing}
 use Rattle.mesh.specs.Accepted.{mesh}
-use Rattle.definition.specs.Fault.{refused, fault}
+use Rattle.definition.specs.Fault.{refused}
 use Rattle.definition.specs.Rows.{floats, rowBox, rowOf}
 use Rattle.definition.specs.Build.{build}
+use Rattle.definition.specs.Short.{fault}
 
 -- 14: rounding at a corner
 pub at-a-corner :

@@ -13,7 +13,8 @@ use Rattle.bounding_box.specs.declared.BoundingBox.{BoundingBox}
 use Rattle.mesh.specs.Accepted.{Mesh, tableOf, Accepted}
 use Rattle.definition.specs.Fault.{ok}
 use Rattle.definition.specs.Cell.{extension, firstCrossing, secondCrossing, Change, clipStep}
-use Rattle.definition.specs.Build.{Extensions, extensions, CellState, Built, build, clipHull}
+use Rattle.definition.specs.Build.{Extensions, CellState, Built, build, clipHull}
+use Rattle.definition.specs.Short.{extensions}
 use Rattle.definition.specs.Points.{kindsOf, stepsOf, afterwards, edgePoints, hullPoints, restPoints, allPoints}
 use Rattle.definition.specs.Reused.{reusedOf}
 use Rattle.definition.specs.Theorems.{room}

@@ -14,17 +14,19 @@ use Rattle.bounding_box.specs.declared.BoundingBox.{BoundingBox}
 use Rattle.mesh.specs.Mesh.{endOf, leftmostOf}
 use Rattle.mesh.specs.Accepted.{Mesh, tableOf, siteCount}
 use Rattle.mesh.specs.Hull.{nextSite}
+use Rattle.numbers.specs.Numbers.{refusedCircumcenter, refusedExtension}
 use Rattle.definition.specs.declared.Fault.{Fault}
-use Rattle.definition.specs.Fault.{ok, badCenter, notFinite}
+use Rattle.definition.specs.Fault.{ok}
 use Rattle.definition.specs.Cell.{RingPart, clipCell}
-use Rattle.definition.specs.Build.{centerAt, ownersFrom, finite, extended, Extensions, extensions, extendFrom}
-use Rattle.definition.specs.Build.{ringFrom, hullRing, CellState, cellState, clipHull, clipRest}
+use Rattle.definition.specs.Build.{centerAt, ownersFrom, finite, extended, Extensions, extendFrom}
+use Rattle.definition.specs.Build.{ringFrom, hullRing, CellState, clipHull, clipRest}
+use Rattle.definition.specs.Short.{fault, extensions, cellState}
 
 -- ---- before the cells: rules 11 and 12
 
 -- 11: each circumcenter
 abbrev pub centerRule : List Float → List ℕ → Rule Fault
-centerRule sites tri = each badCenter (length tri / 3) (λ t. okCenter (centerAt sites tri t) ≡ true)
+centerRule sites tri = each (λ t. fault refusedCircumcenter t 0 0) (length tri / 3) (λ t. okCenter (centerAt sites tri t) ≡ true)
 
 -- the circumcenters of the first k triangles
 unfoldable pub centersTo : List Float → List ℕ → ℕ → List Point
@@ -37,7 +39,7 @@ extensionAt m i = extended (m .sites) (m .triangles) (centersTo (m .sites) (m .t
 
 -- 12: each extension is finite
 abbrev pub extensionRule : Mesh → Rule Fault
-extensionRule m = each notFinite (length (m .hull)) (λ i. (finite (extensionAt m i .x) && finite (extensionAt m i .y)) ≡ true)
+extensionRule m = each (λ i. fault refusedExtension i 0 0) (length (m .hull)) (λ i. (finite (extensionAt m i .x) && finite (extensionAt m i .y)) ≡ true)
 
 -- ---- the cells
 

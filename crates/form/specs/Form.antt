@@ -91,10 +91,6 @@ pub record IsForm (old : Bool) (s : List ℕ) : Type 0 where
 
 -- ---- its numbers, as the lists hold them
 
-abbrev pub numbersOf : {A B : Type 0} → (A → List B) → List A → List B
-numbersOf f [] = []
-numbersOf f (a ∷ l) = f a ++ numbersOf f l
-
 abbrev pub float : ℕ → Float
 float p = ofBits binary64 p
 

@@ -7,8 +7,8 @@ use Prim.Native.Nat.{ℕ}
 use lib.Ieee.{Float}
 use lib.ListN.{length}
 use lib.Seq.{sets}
-use Rattle.octets.specs.Bytes.{Bytes}
-use Rattle.form.specs.Form.{FormMesh, MeshFits, MayBegin, IsForm, formOf, kindOf, numbersOf, outlineFloats, siteFloats, triangleSites, trianglePairs}
+use Rattle.octets.specs.Bytes.{Bytes, each}
+use Rattle.form.specs.Form.{FormMesh, MeshFits, MayBegin, IsForm, formOf, kindOf, outlineFloats, siteFloats, triangleSites, trianglePairs}
 use Rattle.form_step.specs.Reader.{start, steps, verdict, Reading, reading, takes}
 use Rattle.form_step.specs.Holds.{Reads}
 use Rattle.form.specs.laws.Run.{takes-reader}
@@ -28,9 +28,9 @@ module _ (old : Bool) (s : List ℕ) (bs ss : List Float) (ts es hs : List ℕ) 
     pub form : s ≡ formOf mesh
     pub answer : a ≡ Sound (length (mesh .sites)) (length (mesh .triangles)) (length (mesh .hull)) (kindOf (mesh .clip))
     pub bounds : bs' ≡ sets bs 0 (outlineFloats (mesh .clip))
-    pub sites : ss' ≡ sets ss 0 (numbersOf siteFloats (mesh .sites))
-    pub triangles : ts' ≡ sets ts 0 (numbersOf triangleSites (mesh .triangles))
-    pub halfedges : es' ≡ sets es 0 (numbersOf trianglePairs (mesh .triangles))
+    pub sites : ss' ≡ sets ss 0 (each siteFloats (mesh .sites))
+    pub triangles : ts' ≡ sets ts 0 (each triangleSites (mesh .triangles))
+    pub halfedges : es' ≡ sets es 0 (each trianglePairs (mesh .triangles))
     pub hull : hs' ≡ sets hs 0 (mesh .hull)
 
   pub record Refused (a : Form) : Type 0 where

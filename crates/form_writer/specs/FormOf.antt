@@ -10,7 +10,7 @@ use lib.ListN.{length, length-append}
 use lib.Seq.{sets}
 use Rattle.octets.specs.Bytes.{each}
 use Rattle.form.specs.Form.{Outline, Site, FormMesh, MeshFits, MayBegin, formOf, outlineBytes, siteBytes, triangleBytes, hullBytes}
-use Rattle.form.specs.Form.{numbersOf, outlineFloats, siteFloats, triangleSites, trianglePairs, kindOf}
+use Rattle.form.specs.Form.{outlineFloats, siteFloats, triangleSites, trianglePairs, kindOf}
 use Rattle.form_step.specs.Reader.{start, reading, takes}
 use Rattle.form_step.specs.Holds.{Reads}
 use Rattle.form_step.specs.declared.Form.{Form}
@@ -29,7 +29,7 @@ pub record ReadAs (clip : Outline) (ps : List Site) (tri he round : List ℕ) (b
     (bs′ ss′ : List Float) (ts′ es′ hs′ : List ℕ) : Type 0 where
   pub answer : a ≡ Sound (length ps) (length tri / 3) (length round) (kindOf clip)
   pub bounds : bs′ ≡ sets bs 0 (outlineFloats clip)
-  pub sites : ss′ ≡ sets ss 0 (numbersOf siteFloats ps)
+  pub sites : ss′ ≡ sets ss 0 (each siteFloats ps)
   pub triangles : ts′ ≡ sets ts 0 tri
   pub halfedges : es′ ≡ sets es 0 he
   pub hull : hs′ ≡ sets hs 0 round
@@ -64,10 +64,10 @@ module _ (clip : Outline) (ps : List Site) (tri he hull : List ℕ) where
   writes-form = simp append-assoc
 
   module _ (threes : length tri % 3 ≡ 0) (same : length he ≡ length tri) where
-    pub sites-back : numbersOf triangleSites (trianglesOf tri he) ≡ tri
+    pub sites-back : each triangleSites (trianglesOf tri he) ≡ tri
     sites-back = numbers-from tri he triangleSites tri (λ _. refl) (length tri / 3) 0 (omega arith)
 
-    pub pairs-back : numbersOf trianglePairs (trianglesOf tri he) ≡ he
+    pub pairs-back : each trianglePairs (trianglesOf tri he) ≡ he
     pairs-back = numbers-from tri he trianglePairs he (λ _. refl) (length tri / 3) 0 (omega arith)
 
     pub read-back : {old : Bool} {bs ss : List Float} {ts es hs : List ℕ} {a : Form} {bs′ ss′ : List Float} {ts′ es′ hs′ : List ℕ} → MeshFits mesh → MayBegin old clip

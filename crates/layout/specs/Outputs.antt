@@ -8,7 +8,7 @@ use Rattle.laws.specs.Binary64.{zero}
 use Rattle.numbers.specs.Numbers.{EMPTY}
 use Rattle.utils.specs.Flat.{flat}
 use Rattle.definition.specs.declared.Fault.{Fault}
-use Rattle.definition.specs.Fault.{Outcome, ok, refused, fault}
+use Rattle.definition.specs.Fault.{Outcome, ok, refused}
 use Rattle.definition.specs.Cell.{extension, firstCrossing, secondCrossing, unmarked}
 use Rattle.definition.specs.Build.{Built}
 use Rattle.definition.specs.Reused.{reusedOf}
@@ -35,34 +35,22 @@ pub record Gathered (cells : List (List ℕ)) (ix off ix₁ off₁ : List ℕ) :
   pub indexes : ix₁ ≡ padded (length ix) EMPTY (joined cells)
   pub offsets : off₁ ≡ padded (length off) EMPTY (offsetsFrom 0 cells)
 
--- what a build makes: the vertices as numbers x and y, the cells one after the other, their offsets, the counts; nothing where it is refused
-unfoldable pub vertexNumbers : Outcome Fault Built → List Float
-vertexNumbers (ok b) = flat (b .verts)
-vertexNumbers (refused f) = []
-
-unfoldable pub indexNumbers : Outcome Fault Built → List ℕ
-indexNumbers (ok b) = joined (map unmarked (b .cells))
-indexNumbers (refused f) = []
-
-unfoldable pub offsetNumbers : Outcome Fault Built → List ℕ
-offsetNumbers (ok b) = offsetsFrom 0 (map unmarked (b .cells))
-offsetNumbers (refused f) = []
+-- what f takes of a build; nothing where it is refused
+unfoldable pub ofBuilt : {A : Type 0} → (Built → List A) → Outcome Fault Built → List A
+ofBuilt f (ok b) = f b
+ofBuilt f (refused e) = []
 
 -- the number of vertices, the corners' owners as found, the lost corners, the points taken again: as extensions, as first and as second crossings
 abbrev pub countsMade : Built → List ℕ
 countsMade b = length (b .verts) ∷ b .owners ++ b .lost ∷ reusedOf extension (b .steps) ∷ reusedOf firstCrossing (b .steps) ∷ reusedOf secondCrossing (b .steps) ∷ []
 
-unfoldable pub countNumbers : Outcome Fault Built → List ℕ
-countNumbers (ok b) = countsMade b
-countNumbers (refused f) = []
-
 -- the fault that the code answers: none is the number 0
 abbrev pub faultOf : Outcome Fault Built → Fault
-faultOf (ok b) = fault 0 0 0 0
+faultOf (ok b) = record { number = 0; place = 0; from = 0; to = 0 }
 faultOf (refused f) = f
 
 -- slices that were v, ix and off, after a build with this outcome
 pub record BuiltInto (o : Outcome Fault Built) (v : List Float) (ix off : List ℕ) (v₁ : List Float) (ix₁ off₁ : List ℕ) : Type 0 where
-  pub vertices : v₁ ≡ padded (length v) zero (vertexNumbers o)
-  pub indexes : ix₁ ≡ padded (length ix) EMPTY (indexNumbers o)
-  pub offsets : off₁ ≡ padded (length off) EMPTY (offsetNumbers o)
+  pub vertices : v₁ ≡ padded (length v) zero (ofBuilt (λ b. flat (b .verts)) o)
+  pub indexes : ix₁ ≡ padded (length ix) EMPTY (ofBuilt (λ b. joined (map unmarked (b .cells))) o)
+  pub offsets : off₁ ≡ padded (length off) EMPTY (ofBuilt (λ b. offsetsFrom 0 (map unmarked (b .cells))) o)

@@ -39,18 +39,12 @@ joinOf None b = b
 joinOf (One x y) b = afterOne x y b
 joinOf (Two x y u v) b = Two x y u v
 
--- the four sides' points, each if there is one: right f, left g, top h, bottom i
-unfoldable pub rightHit : BoundingBox → Float → Float → Float → Crossing
-rightHit b cx c d = oneIf (lt tolerance (magnitude cx) && (le (b .top) (b .right ⊠ c ⊞ d) && le (b .right ⊠ c ⊞ d) (b .bottom))) (b .right) (b .right ⊠ c ⊞ d)
+-- the point of the line y = x c + d on the side at x, right or left, and on the side at y, top or bottom, if there is one
+unfoldable pub sideHit : BoundingBox → Float → Float → Float → Float → Crossing
+sideHit b x cx c d = oneIf (lt tolerance (magnitude cx) && (le (b .top) (x ⊠ c ⊞ d) && le (x ⊠ c ⊞ d) (b .bottom))) x (x ⊠ c ⊞ d)
 
-unfoldable pub leftHit : BoundingBox → Float → Float → Float → Crossing
-leftHit b cx c d = oneIf (lt tolerance (magnitude cx) && (le (b .top) (b .left ⊠ c ⊞ d) && le (b .left ⊠ c ⊞ d) (b .bottom))) (b .left) (b .left ⊠ c ⊞ d)
-
-unfoldable pub topHit : BoundingBox → Float → Float → Float → Crossing
-topHit b cy c d = oneIf (lt tolerance (magnitude cy) && (le ((b .top ⊟ d) ⊘ c) (b .right) && le (b .left) ((b .top ⊟ d) ⊘ c))) ((b .top ⊟ d) ⊘ c) (b .top)
-
-unfoldable pub bottomHit : BoundingBox → Float → Float → Float → Crossing
-bottomHit b cy c d = oneIf (lt tolerance (magnitude cy) && (le ((b .bottom ⊟ d) ⊘ c) (b .right) && le (b .left) ((b .bottom ⊟ d) ⊘ c))) ((b .bottom ⊟ d) ⊘ c) (b .bottom)
+unfoldable pub levelHit : BoundingBox → Float → Float → Float → Float → Crossing
+levelHit b y cy c d = oneIf (lt tolerance (magnitude cy) && (le ((y ⊟ d) ⊘ c) (b .right) && le (b .left) ((y ⊟ d) ⊘ c))) ((y ⊟ d) ⊘ c) y
 
 -- a line parallel to y
 unfoldable pub uprightHit : BoundingBox → Float → Crossing
@@ -60,12 +54,14 @@ uprightHit b x = twoIf (le x (b .right) && le (b .left) x) x (b .top) x (b .bott
 unfoldable pub firstHeld : Bool → Crossing → Bool → Crossing → Bool → Crossing → Crossing → Crossing
 firstHeld a x b y c z w = pick a (λ _. x) (λ _. pick b (λ _. y) (λ _. pick c (λ _. z) (λ _. w)))
 
--- what is answered of the four, whether the line is upright, and what it then is
+-- what is answered of the four, right f, left g, top h, bottom i, whether the line is upright, and what it then is
 unfoldable pub settleOf : Crossing → Crossing → Bool → Crossing → Crossing → Crossing → Crossing
 settleOf f g up u h i = firstHeld (some f && some g) (joinOf f g) up u (some h && some i) (joinOf h i) (joinOf (orOf f g) (orOf h i))
 
 abbrev pub lineBy : BoundingBox → Point → Float → Float → Float → Float → Crossing
-lineBy b p cx cy c d = settleOf (rightHit b cx c d) (leftHit b cx c d) (lt tolerance (magnitude cy) && lt (magnitude cx) tolerance) (uprightHit b (p .x)) (topHit b cy c d) (bottomHit b cy c d)
+lineBy b p cx cy c d =
+    settleOf (sideHit b (b .right) cx c d) (sideHit b (b .left) cx c d) (lt tolerance (magnitude cy) && lt (magnitude cx) tolerance) (uprightHit b (p .x))
+    (levelHit b (b .top) cy c d) (levelHit b (b .bottom) cy c d)
 
 abbrev pub lineOff : BoundingBox → Point → Float → Float → Float → Crossing
 lineOff b p cx cy c = lineBy b p cx cy c (p .y ⊟ p .x ⊠ c)

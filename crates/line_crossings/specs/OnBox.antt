@@ -10,7 +10,7 @@ use Rattle.laws.specs.Binary64.{_⊞_, _⊟_, _⊠_, _⊘_}
 use Rattle.numbers.specs.Numbers.{tolerance}
 use Rattle.utils.specs.declared.Point.{Point}
 use Rattle.bounding_box.specs.declared.BoundingBox.{BoundingBox}
-use Rattle.line_crossings.specs.Line.{oneIf, twoIf, some, orOf, joinOf, firstHeld, settleOf, rightHit, leftHit, topHit, bottomHit, uprightHit, lineOf}
+use Rattle.line_crossings.specs.Line.{oneIf, twoIf, some, orOf, joinOf, firstHeld, settleOf, sideHit, levelHit, uprightHit, lineOf}
 use Rattle.line_crossings.specs.declared.Crossing.{Crossing}
 use Rattle.line_crossings.specs.declared.Crossing.the-variants.{None, One, Two}
 
@@ -72,21 +72,13 @@ module _ (b : BoundingBox) where
       let r = le (b .left) x in
       one-own (g && (l && r)) x y (λ e. inr (own, (and-right l r (and-right g (l && r) e), and-left l r (and-right g (l && r) e))))
 
-  right-own : (cx c d : Float) → OnBox b (rightHit b cx c d)
-  unfolding rightHit
-  right-own cx c d = upright (lt tolerance (magnitude cx)) (b .right) (b .right ⊠ c ⊞ d) (inr refl)
+  side-own : (x cx c d : Float) → (x ≡ b .left) ⊎ (x ≡ b .right) → OnBox b (sideHit b x cx c d)
+  unfolding sideHit
+  side-own x cx c d = upright (lt tolerance (magnitude cx)) x (x ⊠ c ⊞ d)
 
-  left-own : (cx c d : Float) → OnBox b (leftHit b cx c d)
-  unfolding leftHit
-  left-own cx c d = upright (lt tolerance (magnitude cx)) (b .left) (b .left ⊠ c ⊞ d) (inl refl)
-
-  top-own : (cy c d : Float) → OnBox b (topHit b cy c d)
-  unfolding topHit
-  top-own cy c d = flat (lt tolerance (magnitude cy)) ((b .top ⊟ d) ⊘ c) (b .top) (inl refl)
-
-  bottom-own : (cy c d : Float) → OnBox b (bottomHit b cy c d)
-  unfolding bottomHit
-  bottom-own cy c d = flat (lt tolerance (magnitude cy)) ((b .bottom ⊟ d) ⊘ c) (b .bottom) (inr refl)
+  level-own : (y cy c d : Float) → (y ≡ b .top) ⊎ (y ≡ b .bottom) → OnBox b (levelHit b y cy c d)
+  unfolding levelHit
+  level-own y cy c d = flat (lt tolerance (magnitude cy)) ((y ⊟ d) ⊘ c) y
 
   upright-own : (x : Float) → OnBox b (uprightHit b x)
   unfolding uprightHit
@@ -110,5 +102,7 @@ module _ (b : BoundingBox) where
       let cy = q .y ⊟ p .y in
       let c = cy ⊘ cx in
       let d = p .y ⊟ p .x ⊠ c in
-      settle-own (rightHit b cx c d) (leftHit b cx c d) (lt tolerance (magnitude cy) && lt (magnitude cx) tolerance) (uprightHit b (p .x)) (topHit b cy c d) (bottomHit b cy c d)
-      (right-own cx c d) (left-own cx c d) (upright-own (p .x)) (top-own cy c d) (bottom-own cy c d)
+      settle-own (sideHit b (b .right) cx c d) (sideHit b (b .left) cx c d) (lt tolerance (magnitude cy) && lt (magnitude cx) tolerance) (uprightHit b (p .x))
+      (levelHit b (b .top) cy c d) (levelHit b (b .bottom) cy c d)
+      (side-own (b .right) cx c d (inr refl)) (side-own (b .left) cx c d (inl refl)) (upright-own (p .x))
+      (level-own (b .top) cy c d (inl refl)) (level-own (b .bottom) cy c d (inr refl))

@@ -2,8 +2,8 @@
 use bounding_box::BoundingBox;
 use utils::Point;
 ghost use mathlib.Core.Path.{_≡_};
-ghost use Rattle.line_crossings.specs.Line.{oneIf, twoIf, some, orOf, afterOne, joinOf, firstHeld, settleOf, rightHit, leftHit, topHit};
-ghost use Rattle.line_crossings.specs.Line.{bottomHit, uprightHit, lineOf};
+ghost use Rattle.line_crossings.specs.Line.{oneIf, twoIf, some, orOf, afterOne, joinOf, firstHeld, settleOf, sideHit, levelHit};
+ghost use Rattle.line_crossings.specs.Line.{levelHit, uprightHit, lineOf};
 
 pub enum Crossing {
     None,
@@ -21,47 +21,25 @@ pub fn one_if(t: bool, x: f64, y: f64) -> Crossing
     }
 }
 
-fn right_hit(b: BoundingBox, cx: f64, c: f64, d: f64) -> Crossing
-    ensures { λ r. ⌜ r ≡ rightHit b cx c d ⌝ }
+fn side_hit(b: BoundingBox, x: f64, cx: f64, c: f64, d: f64) -> Crossing
+    ensures { λ r. ⌜ r ≡ sideHit b x cx c d ⌝ }
 {
-    let y = b.right * c + d;
+    let y = x * c + d;
     one_if(
         (root::magnitude(cx) > numbers::TOLERANCE) & ((y >= b.top) & (y <= b.bottom)),
-        b.right,
+        x,
         y,
     )
 }
 
-fn left_hit(b: BoundingBox, cx: f64, c: f64, d: f64) -> Crossing
-    ensures { λ r. ⌜ r ≡ leftHit b cx c d ⌝ }
+fn level_hit(b: BoundingBox, y: f64, cy: f64, c: f64, d: f64) -> Crossing
+    ensures { λ r. ⌜ r ≡ levelHit b y cy c d ⌝ }
 {
-    let y = b.left * c + d;
+    let x = (y - d) / c;
     one_if(
-        (root::magnitude(cx) > numbers::TOLERANCE) & ((y >= b.top) & (y <= b.bottom)),
-        b.left,
+        (root::magnitude(cy) > numbers::TOLERANCE) & ((x <= b.right) & (x >= b.left)),
+        x,
         y,
-    )
-}
-
-fn top_hit(b: BoundingBox, cy: f64, c: f64, d: f64) -> Crossing
-    ensures { λ r. ⌜ r ≡ topHit b cy c d ⌝ }
-{
-    let x = (b.top - d) / c;
-    one_if(
-        (root::magnitude(cy) > numbers::TOLERANCE) & ((x <= b.right) & (x >= b.left)),
-        x,
-        b.top,
-    )
-}
-
-fn bottom_hit(b: BoundingBox, cy: f64, c: f64, d: f64) -> Crossing
-    ensures { λ r. ⌜ r ≡ bottomHit b cy c d ⌝ }
-{
-    let x = (b.bottom - d) / c;
-    one_if(
-        (root::magnitude(cy) > numbers::TOLERANCE) & ((x <= b.right) & (x >= b.left)),
-        x,
-        b.bottom,
     )
 }
 
@@ -167,11 +145,11 @@ pub fn intersect_line(b: BoundingBox, p: Point, q: Point) -> Crossing
     let c = cy / cx;
     let d = p.y - p.x * c;
     settle(
-        right_hit(b, cx, c, d),
-        left_hit(b, cx, c, d),
+        side_hit(b, b.right, cx, c, d),
+        side_hit(b, b.left, cx, c, d),
         (root::magnitude(cy) > numbers::TOLERANCE) & (root::magnitude(cx) < numbers::TOLERANCE),
         upright_hit(b, p.x),
-        top_hit(b, cy, c, d),
-        bottom_hit(b, cy, c, d),
+        level_hit(b, b.top, cy, c, d),
+        level_hit(b, b.bottom, cy, c, d),
     )
 }

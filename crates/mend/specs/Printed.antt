@@ -21,7 +21,7 @@ use Rattle.mesh.specs.Accepted.{Counted, siteCount}
 use Rattle.mend_pairs.specs.Pairs.{pairsOf}
 use Rattle.mend_changes.specs.Changes.{Difference}
 use Rattle.mending.specs.Mending.{workRules, newHull, pairChanges, hullChanges}
-use Rattle.form.specs.Form.{Outline, FormMesh, MeshFits, MayBegin, formOf, outlineBytes, numbersOf, siteFloats, triangleSites, trianglePairs}
+use Rattle.form.specs.Form.{Outline, FormMesh, MeshFits, MayBegin, formOf, outlineBytes, siteFloats, triangleSites, trianglePairs}
 use Rattle.form.specs.Place.{Place, NumberAt}
 use Rattle.form_writer.specs.FormOf.{meshWith}
 use Rattle.mend_box.specs.Option.{isBox, gives, keepsBox, inPlace, firstAfter}
@@ -82,13 +82,13 @@ MendNumber put sites tri he hull r = Finds (putRules put sites tri he hull) 0 r
 -- o is the option's box, `unclipped` where none is given
 module _ (o : Outline) (m : FormMesh) where
   abbrev pub triOf : List ℕ
-  triOf = numbersOf triangleSites (m .triangles)
+  triOf = each triangleSites (m .triangles)
 
   abbrev pub heOf : List ℕ
-  heOf = numbersOf trianglePairs (m .triangles)
+  heOf = each trianglePairs (m .triangles)
 
   abbrev pub count : ℕ
-  count = siteCount (numbersOf siteFloats (m .sites))
+  count = siteCount (each siteFloats (m .sites))
 
   -- the box that is put in
   abbrev pub putIn : Outline
@@ -104,7 +104,7 @@ module _ (o : Outline) (m : FormMesh) where
   textOf false = changesText (outlineBytes putIn) (pairChanges triOf heOf) (hullChanges triOf (m .hull) count)
 
   abbrev pub NumberOf : ℕ → Type 0
-  NumberOf = MendNumber putIn (numbersOf siteFloats (m .sites)) triOf heOf (m .hull)
+  NumberOf = MendNumber putIn (each siteFloats (m .sites)) triOf heOf (m .hull)
 
   -- the number that the rules give; where they refuse nothing, the text
   pub data PrintsMesh (form : Bool) : List ℕ → Type 0 where

@@ -10,7 +10,7 @@ use lib.Ieee.{Float}
 use lib.ListN.{length, getD, replicate, length-replicate, List·getD-eq-default}
 use Rattle.laws.specs.laws.Decide.{lt-or-ge}
 use Rattle.numbers.specs.Numbers.{EMPTY}
-use Rattle.octets.specs.Bytes.{All}
+use Rattle.octets.specs.Bytes.{All, each}
 use Rattle.listing.specs.Listing.{refusal}
 use Rattle.mesh.specs.Mesh.{leftmostIn}
 use Rattle.mesh.specs.Accepted.{mesh, Accepted, siteCount}
@@ -21,8 +21,8 @@ use Rattle.check_mesh.specs.AtExit.{atExit}
 use Rattle.mend_slices.specs.Lent.{Lent, lent, filled}
 use Rattle.mending.specs.Mending.{mendRoomOf, newHull, pairChanges, hullChanges, whenMade, Mends}
 use Rattle.mending.specs.MendTheorem.{mended-accepted}
-use Rattle.form.specs.Form.{Outline, box, unclipped, edges, FormMesh, MeshFits, OutlineFits, HullFits, MayBegin, IsForm, numbersOf, siteFloats, triangleSites}
-use Rattle.form.specs.laws.Lists.{numbers-length}
+use Rattle.form.specs.Form.{Outline, box, unclipped, edges, FormMesh, MeshFits, OutlineFits, HullFits, MayBegin, IsForm, siteFloats, triangleSites}
+use Rattle.form.specs.laws.Lists.{each-length}
 use Rattle.form_writer.specs.laws.Records.{triangles-count, triangles-fit}
 use Rattle.mend_box.specs.Option.{IsOption, outlineOf, gives, inPlace, firstAfter}
 use Rattle.mend_box.specs.Record.{holds}
@@ -83,7 +83,7 @@ module _ (option : List ℕ) (i : IsOption option) where
     o = outlineOf option
 
     abbrev sites : List Float
-    sites = numbersOf siteFloats (m .sites)
+    sites = each siteFloats (m .sites)
 
     abbrev border : List ℕ
     border = newHull (triOf o m) (m .hull) (count o m)
@@ -96,8 +96,8 @@ module _ (option : List ℕ) (i : IsOption option) where
         let a = accepted z in
         let t = a .topology in
         let tri = triOf o m in
-        let entries : length tri ≡ 3 * length (m .triangles) = numbers-length triangleSites 3 (λ _. refl) (m .triangles) in
-        let coordinates : length sites ≡ 2 * length (m .sites) = numbers-length siteFloats 2 (λ _. refl) (m .sites) in
+        let entries : length tri ≡ 3 * length (m .triangles) = each-length triangleSites 3 (λ _. refl) (m .triangles) in
+        let coordinates : length sites ≡ 2 * length (m .sites) = each-length siteFloats 2 (λ _. refl) (m .sites) in
         let site = sound-site tri (count o m) (t .threes) (t .sound) in
         let pair : (k : ℕ) → k < length (pairsOf tri) → getD (pairsOf tri) k 0 < 2 ^ 32 = λ k l.
         ⊎-elim (λ e. omega arith) (λ x. omega (arith, x .inside, t .small, t .same)) (t .pairs k (omega (arith, t .same))) in

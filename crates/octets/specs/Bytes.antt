@@ -16,8 +16,8 @@ abbrev pub le : ℕ → ℕ → List ℕ
 le zero x = []
 le (suc n) x = x % 256 ∷ le n (x / 256)
 
--- the bytes of each, one after the other
-abbrev pub each : {A : Type 0} → (A → List ℕ) → List A → List ℕ
+-- what f gives of each, its bytes or other numbers, one after the other
+abbrev pub each : {A B : Type 0} → (A → List B) → List A → List B
 each f [] = []
 each f (a ∷ l) = f a ++ each f l
 

@@ -1,108 +1,85 @@
--- The promises of the calls on points and the box: the number, and each lent number at exit. A box is given by its size or by its edges (crate given_box).
+-- The promises of the calls on points and the box: the number by rules in their order, and each lent number at exit, 0 where a call refuses (a side: EMPTY).
+-- A box is given by its size or by its edges (crate given_box).
 use mathlib.Core.Path.{_≡_}
 use mathlib.Core.Bool.{Bool, true, _&&_}
-use mathlib.Core.List.{List, _++_}
-use Prim.Native.Nat.{ℕ, _-_}
-use lib.Dec.{eqb, ltb}
-use lib.ListN.{length, getD, replicate}
-use lib.Ieee.{Float, nan}
+use mathlib.Core.List.{List, [], _∷_, _++_}
+use Prim.Native.Nat.{ℕ, _-_, _/_, _≤_}
+use lib.Dec.{eqb}
+use lib.ListN.{length, replicate}
+use lib.Ieee.{Float}
 use Rattle.laws.specs.Binary64.{zero}
 use Rattle.laws.specs.Pick.{pick}
-use Rattle.numbers.specs.Numbers.{EMPTY, refusedRoom, refusedBox, refusedCoordinate}
-use Rattle.utils.specs.Plane.{nearOf, dist2Of}
+use Rattle.laws.specs.Refusals.{Rule, once, Finds}
+use Rattle.numbers.specs.Numbers.{EMPTY, refusedCount, refusedRoom, refusedBox, refusedCoordinate, refusedCircumcenter}
+use Rattle.utils.specs.Plane.{dist2Of, centerOf}
 use Rattle.utils.specs.Flat.{flat}
-use Rattle.utils.specs.Rules as point
-use Rattle.utils.specs.Rules.{okSite, centerAnswer}
-use Rattle.utils.specs.Centroid.{centroidAnswer}
+use Rattle.utils.specs.Rules.{okSite, okCenter}
+use Rattle.utils.specs.Sites.{okSites}
+use Rattle.utils.specs.Centroid.{okCount, meanOf}
 use Rattle.utils.specs.declared.Point.{Point}
-use Rattle.utils.specs.declared.Center.{Center}
 use Rattle.bounding_box.specs.Box.{widthOf, heightOf, cornersOf, insideOf, exclusiveOf, whichOf}
+use Rattle.bounding_box.specs.declared.BoundingBox.{BoundingBox}
 use Rattle.given_box.specs.declared.Given.{Given}
+use Rattle.line_crossings.specs.declared.Crossing.{Crossing}
 use Rattle.crossings.specs.Rules.{countOf, valuesOf}
-use Rattle.crossings.specs.Rules.{meetingNumber, pointsOf}
-use Rattle.crossings.specs.declared.Meeting.{Meeting}
 
--- ---- numbers of answers
+-- yes or no as a number
 unfoldable pub bit : Bool → ℕ
 bit b = pick b (λ _. 1) (λ _. 0)
 
+-- a call's number r, by its rules, and the lent numbers that it writes: `made` where r is 0, else as many blanks
+pub record Answered {A : Type 0} (rules : List (Rule ℕ)) (blank : A) (made : List A) (r : ℕ) (out : List A) : Type 0 where
+  pub number : Finds rules 0 r
+  pub values : out ≡ pick (eqb r 0) (λ _. made) (λ _. replicate (length made) blank)
+
 -- 3 for the box, then 6 for the points
-unfoldable pub numberBy : Bool → Bool → ℕ
-numberBy frame points = pick frame (λ _. pick points (λ _. 0) (λ _. refusedCoordinate)) (λ _. refusedBox)
-
-unfoldable pub valueIf : Bool → Float → Float
-valueIf ok x = pick ok (λ _. x) (λ _. zero)
-
-unfoldable pub sideIf : Bool → ℕ → ℕ
-sideIf ok side = pick ok (λ _. pick (eqb side 4) (λ _. EMPTY) (λ _. side)) (λ _. EMPTY)
+abbrev pub planeRules : Given → Bool → List (Rule ℕ)
+planeRules g points = once refusedBox (g .sound ≡ true) ∷ once refusedCoordinate (points ≡ true) ∷ []
 
 -- ---- points
-abbrev pub Near : Float → Float → ℕ → Type 0
-Near a b r = r ≡ bit (nearOf a b)
-
-pub record Dist2 (a b : Point) (number : ℕ) (d : Float) : Type 0 where
-  pub refusal : number ≡ numberBy true (okSite a && okSite b)
-  pub value : d ≡ valueIf (okSite a && okSite b) (dist2Of a b)
-
--- a point, or a refusal and zeros
-pub record Answered (r : Center) (number : ℕ) (x y : Float) : Type 0 where
-  pub refusal : number ≡ point.centerNumber r
-  pub x-value : x ≡ point.xOf r
-  pub y-value : y ≡ point.yOf r
+abbrev pub Dist2 : Point → Point → ℕ → Float → Type 0
+Dist2 a b r d = Answered (once refusedCoordinate ((okSite a && okSite b) ≡ true) ∷ []) zero (dist2Of a b ∷ []) r (d ∷ [])
 
 abbrev pub Circumcenter : Point → Point → Point → ℕ → Float → Float → Type 0
-Circumcenter a b c = Answered (centerAnswer a b c)
+Circumcenter a b c r x y =
+    Answered (once refusedCoordinate ((okSite a && okSite b && okSite c) ≡ true) ∷ once refusedCircumcenter (okCenter (centerOf a b c) ≡ true) ∷ []) zero
+    (centerOf a b c .x ∷ centerOf a b c .y ∷ []) r (x ∷ y ∷ [])
 
 abbrev pub Centroid : List Float → ℕ → Float → Float → Type 0
-Centroid l = Answered (centroidAnswer l)
+Centroid l r x y =
+    Answered (once refusedCount (okCount l ≡ true) ∷ once refusedCoordinate (okSites (length l / 2) l ≡ true) ∷ []) zero
+    (meanOf l (length l / 2) .x ∷ meanOf l (length l / 2) .y ∷ []) r (x ∷ y ∷ [])
 
 -- ---- the box
-pub record Edges (g : Given) (number : ℕ) (left top right bottom across down : Float) : Type 0 where
-  pub refusal : number ≡ numberBy (g .sound) true
-  pub left-edge : left ≡ valueIf (g .sound) (g .bounds .left)
-  pub top-edge : top ≡ valueIf (g .sound) (g .bounds .top)
-  pub right-edge : right ≡ valueIf (g .sound) (g .bounds .right)
-  pub bottom-edge : bottom ≡ valueIf (g .sound) (g .bounds .bottom)
-  pub width : across ≡ valueIf (g .sound) (widthOf (g .bounds))
-  pub height : down ≡ valueIf (g .sound) (heightOf (g .bounds))
+-- its edges, and width and height recomputed from them
+abbrev pub Edges : Given → ℕ → Float → Float → Float → Float → Float → Float → Type 0
+Edges g r left top right bottom across down =
+    Answered (once refusedBox (g .sound ≡ true) ∷ []) zero
+    (g .bounds .left ∷ g .bounds .top ∷ g .bounds .right ∷ g .bounds .bottom ∷ widthOf (g .bounds) ∷ heightOf (g .bounds) ∷ []) r (left ∷ top ∷ right ∷ bottom ∷ across ∷ down ∷ [])
 
--- its center in the place of its edges
-pub record Centered (g : Given) (number : ℕ) (x y across down : Float) : Type 0 where
-  pub refusal : number ≡ numberBy (g .sound) true
-  pub center-x : x ≡ valueIf (g .sound) (g .bounds .center .x)
-  pub center-y : y ≡ valueIf (g .sound) (g .bounds .center .y)
-  pub width : across ≡ valueIf (g .sound) (widthOf (g .bounds))
-  pub height : down ≡ valueIf (g .sound) (heightOf (g .bounds))
+-- its center, and the same two
+abbrev pub Centered : Given → ℕ → Float → Float → Float → Float → Type 0
+Centered g r x y across down =
+    Answered (once refusedBox (g .sound ≡ true) ∷ []) zero
+    (g .bounds .center .x ∷ g .bounds .center .y ∷ widthOf (g .bounds) ∷ heightOf (g .bounds) ∷ []) r (x ∷ y ∷ across ∷ down ∷ [])
 
--- a slice of 8 or more: the corners, then zeros; refused, it stays
-unfoldable pub cornersNumber : Given → List Float → ℕ
-cornersNumber g l = pick (ltb (length l) 8) (λ _. refusedRoom) (λ _. numberBy (g .sound) true)
+-- the corners, and zeros up to the slice's end: 2 for room, then 3
+pub record Corners (g : Given) (before : List Float) (r : ℕ) (after : List Float) : Type 0 where
+  pub number : Finds (once refusedRoom (8 ≤ length before) ∷ once refusedBox (g .sound ≡ true) ∷ []) 0 r
+  pub slice : after ≡ pick (eqb r 0) (λ _. flat (cornersOf (g .bounds)) ++ replicate (length before - 8) zero) (λ _. before)
 
-unfoldable pub cornersLeft : Given → List Float → List Float
-cornersLeft g l =
-    pick (ltb (length l) 8) (λ _. l) (λ _. pick (g .sound) (λ _. flat (cornersOf (g .bounds)) ++ replicate (length l - 8) zero) (λ _. l))
+abbrev pub Inside : Given → Point → ℕ → ℕ → Type 0
+Inside g p r answer = Answered (planeRules g (okSite p)) 0 (bit (insideOf (g .bounds) p) ∷ []) r (answer ∷ [])
 
-pub record Corners (g : Given) (before : List Float) (number : ℕ) (after : List Float) : Type 0 where
-  pub refusal : number ≡ cornersNumber g before
-  pub slice : after ≡ cornersLeft g before
+abbrev pub ExclusivelyInside : Given → Point → ℕ → ℕ → Type 0
+ExclusivelyInside g p r answer = Answered (planeRules g (okSite p)) 0 (bit (exclusiveOf (g .bounds) p) ∷ []) r (answer ∷ [])
 
-pub record Inside (g : Given) (p : Point) (number yes : ℕ) : Type 0 where
-  pub refusal : number ≡ numberBy (g .sound) (okSite p)
-  pub answer : yes ≡ bit (g .sound && okSite p && insideOf (g .bounds) p)
+-- no side, 4 in the definition, is EMPTY
+abbrev pub WhichEdge : Given → Point → ℕ → ℕ → Type 0
+WhichEdge g p r side = Answered (planeRules g (okSite p)) EMPTY (pick (eqb (whichOf (g .bounds) p) 4) (λ _. EMPTY) (λ _. whichOf (g .bounds) p) ∷ []) r (side ∷ [])
 
-pub record ExclusivelyInside (g : Given) (p : Point) (number yes : ℕ) : Type 0 where
-  pub refusal : number ≡ numberBy (g .sound) (okSite p)
-  pub answer : yes ≡ bit (g .sound && okSite p && exclusiveOf (g .bounds) p)
-
-pub record WhichEdge (g : Given) (p : Point) (number side : ℕ) : Type 0 where
-  pub refusal : number ≡ numberBy (g .sound) (okSite p)
-  pub answer : side ≡ sideIf (g .sound && okSite p) (whichOf (g .bounds) p)
-
--- ---- crossings: of a line `lineAnswer`, of a ray `rayAnswer`
-pub record Meets (m : Meeting) (number count : ℕ) (x y u v : Float) : Type 0 where
-  pub refusal : number ≡ meetingNumber m
-  pub points : count ≡ countOf (pointsOf m)
-  pub first-x : x ≡ getD (valuesOf (pointsOf m)) 0 nan
-  pub first-y : y ≡ getD (valuesOf (pointsOf m)) 1 nan
-  pub second-x : u ≡ getD (valuesOf (pointsOf m)) 2 nan
-  pub second-y : v ≡ getD (valuesOf (pointsOf m)) 3 nan
+-- what meets the box, `lineOf` or `rayOf` of two points: how many points, and their coordinates, 0 where there is none
+abbrev pub Meets : (BoundingBox → Point → Point → Crossing) → Given → Point → Point → ℕ → ℕ → Float → Float → Float → Float → Type 0
+Meets crossing g p q r count x y u v =
+    Answered (planeRules g (okSite p && okSite q)) 0 (countOf (crossing (g .bounds) p q) ∷ []) r (count ∷ [])
+    × Answered (planeRules g (okSite p && okSite q)) zero (valuesOf (crossing (g .bounds) p q)) r (x ∷ y ∷ u ∷ v ∷ [])

@@ -8,8 +8,11 @@ ghost use Prim.Native.Nat.{_≤_};
 ghost use lib.ListN.{length};
 ghost use Rattle.utils.specs.Flat.{pour};
 ghost use Rattle.bounding_box.specs.Box.{cornersOf};
-ghost use Rattle.crossings.specs.Rules.{lineAnswer, rayAnswer};
-ghost use Rattle.plane_calls.specs.Plane.{bit, numberBy, valueIf, sideIf, Near, Dist2, Circumcenter, Centroid, Edges, Centered, Corners, Inside, ExclusivelyInside, WhichEdge, Meets};
+ghost use Rattle.utils.specs.Plane.{nearOf};
+ghost use Rattle.line_crossings.specs.Line.{lineOf};
+ghost use Rattle.crossings.specs.Ray.{rayOf};
+ghost use Rattle.plane_calls.specs.Plane.{bit, Dist2, Circumcenter, Centroid, Edges, Centered, Corners, Inside, ExclusivelyInside, WhichEdge, Meets};
+ghost use Rattle.plane_calls.specs.Tested.{numberBy, valueIf, sideIf};
 
 // An answer as a number: 1 or 0.
 pub fn yes(b: bool) -> u32
@@ -54,7 +57,7 @@ fn side_if(ok: bool, side: u32) -> u32
 
 // Whether a and b are within the tolerance of each other, by the computed difference: 1 or 0.
 pub fn abs_diff_eq(a: f64, b: f64) -> u32
-    ensures { λ r. ⌜ Near a b r ⌝ }
+    ensures { λ r. ⌜ r ≡ bit (nearOf a b) ⌝ }
 {
     yes(utils::abs_diff_eq(a, b))
 }
@@ -260,7 +263,7 @@ pub struct Met {
 
 // Where the line through two points meets the box: how many points, 0 to 2, and their coordinates, 0 where there is none.
 pub fn intersect_line(given: Given, p: Point, q: Point) -> Met
-    ensures { λ r. ⌜ Meets (lineAnswer given p q) (r .number) (r .count) (r .x) (r .y) (r .u) (r .v) ⌝ }
+    ensures { λ r. ⌜ Meets lineOf given p q (r .number) (r .count) (r .x) (r .y) (r .u) (r .v) ⌝ }
 {
     let m = crossings::meet_line(given, p, q);
     let w = crossings::met_values(m);
@@ -281,7 +284,7 @@ pub fn intersect_line(given: Given, p: Point, q: Point) -> Met
 
 // The same of the ray from p in the direction d, in the ray's order.
 pub fn project_ray(given: Given, p: Point, d: Point) -> Met
-    ensures { λ r. ⌜ Meets (rayAnswer given p d) (r .number) (r .count) (r .x) (r .y) (r .u) (r .v) ⌝ }
+    ensures { λ r. ⌜ Meets rayOf given p d (r .number) (r .count) (r .x) (r .y) (r .u) (r .v) ⌝ }
 {
     let m = crossings::meet_ray(given, p, d);
     let w = crossings::met_values(m);

@@ -10,6 +10,7 @@ use lib.ListN.{length, take}
 use Rattle.utils.specs.Plane.{at}
 use Rattle.given_box.specs.Given.{bySize, byEdges}
 use Rattle.given_box.specs.declared.Given.{Given}
+use Rattle.octets.specs.Bytes.{each}
 use Rattle.form_box.specs.FormBox.{boxBy}
 use Rattle.mesh.specs.Accepted.{Mesh, mesh, siteCount}
 use Rattle.admission.specs.Admits.{Admits}
@@ -17,7 +18,7 @@ use Rattle.definition.specs.declared.Fault.{Fault}
 use Rattle.definition.specs.Fault.{Outcome, ok, refused}
 use Rattle.definition.specs.Build.{Built, build}
 use Rattle.admission.specs.Asks.{boxRules}
-use Rattle.form.specs.Form.{Outline, box, unclipped, edges, FormMesh, MeshFits, formOf, numbersOf, float, siteFloats, triangleSites, trianglePairs}
+use Rattle.form.specs.Form.{Outline, box, unclipped, edges, FormMesh, MeshFits, formOf, float, siteFloats, triangleSites, trianglePairs}
 use Rattle.form.specs.Place.{Place, NumberAt}
 use Rattle.listing.specs.Listing.{refusal}
 use lib.Dec.{eqb}
@@ -46,7 +47,7 @@ pub record ShownIn (text out : List ℕ) (space r : ℕ) : Type 0 where
 
 -- the lists of a mesh that a form says
 abbrev pub meshOf : FormMesh → Mesh
-meshOf m = mesh (numbersOf siteFloats (m .sites)) (numbersOf triangleSites (m .triangles)) (numbersOf trianglePairs (m .triangles)) (m .hull)
+meshOf m = mesh (each siteFloats (m .sites)) (each triangleSites (m .triangles)) (each trianglePairs (m .triangles)) (m .hull)
 
 module _ (t : Text) where
   module _ (m : Mesh) where

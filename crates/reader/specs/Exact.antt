@@ -7,7 +7,7 @@ use mathlib.Core.Logic.{_⊎_, inl, inr, ⊎-elim}
 use Prim.Native.Nat.{ℕ}
 use lib.ListN.{length}
 use lib.Seq.{sets}
-use Rattle.octets.specs.Bytes.{Bytes}
+use Rattle.octets.specs.Bytes.{Bytes, each}
 use Rattle.form_step.specs.Reader.{Reading, broken, start, finished, takes, verdict}
 use Rattle.form_step.specs.Holds.{Reads}
 use Rattle.form_step.specs.Standing.{Ok}
@@ -15,7 +15,7 @@ use Rattle.form_step.specs.laws.Standing.{ok-start}
 use Rattle.form_step.specs.laws.Steps.{verdict-broken, verdict-sound}
 use Rattle.form_step.specs.declared.Reader.{Reader}
 use Rattle.form_step.specs.declared.Form.the-variants.{Sound, Broken}
-use Rattle.form.specs.Form.{FormMesh, MeshFits, MayBegin, IsForm, formOf, kindOf, numbersOf, outlineFloats, siteFloats, triangleSites, trianglePairs}
+use Rattle.form.specs.Form.{FormMesh, MeshFits, MayBegin, IsForm, formOf, kindOf, outlineFloats, siteFloats, triangleSites, trianglePairs}
 use Rattle.form.specs.Place.{Place, NumberAt}
 use Rattle.form.specs.Promise.{ReadSound, Refused, exact}
 use Rattle.form.specs.laws.Exact.{sound-broken}
@@ -31,9 +31,9 @@ module _ (l : FormLists) (s : List ℕ) where
     pub form : s ≡ formOf mesh
     pub report : w .report ≡ record { number = 0; at = nowhere; clip = kindOf (mesh .clip); sites = length (mesh .sites); triangles = length (mesh .triangles); hull = length (mesh .hull) }
     pub bounds : w .formLists .bounds ≡ sets (l .bounds) 0 (outlineFloats (mesh .clip))
-    pub sites : w .formLists .sites ≡ sets (l .sites) 0 (numbersOf siteFloats (mesh .sites))
-    pub triangles : w .formLists .triangles ≡ sets (l .triangles) 0 (numbersOf triangleSites (mesh .triangles))
-    pub halfedges : w .formLists .halfedges ≡ sets (l .halfedges) 0 (numbersOf trianglePairs (mesh .triangles))
+    pub sites : w .formLists .sites ≡ sets (l .sites) 0 (each siteFloats (mesh .sites))
+    pub triangles : w .formLists .triangles ≡ sets (l .triangles) 0 (each triangleSites (mesh .triangles))
+    pub halfedges : w .formLists .halfedges ≡ sets (l .halfedges) 0 (each trianglePairs (mesh .triangles))
     pub hull : w .formLists .hull ≡ sets (l .hull) 0 (mesh .hull)
 
   pub record IsRefused (w : AtRead) : Type 0 where

@@ -10,8 +10,9 @@ use Rattle.bounding_box.specs.declared.BoundingBox.{BoundingBox}
 use Rattle.mesh.specs.Mesh.{Used}
 use Rattle.mesh.specs.Accepted.{Mesh, Accepted}
 use Rattle.definition.specs.declared.Fault.{Fault}
-use Rattle.definition.specs.Fault.{ok, refused, badCenter, notFinite}
+use Rattle.definition.specs.Fault.{ok, refused}
 use Rattle.definition.specs.Build.{Built, CellState, build}
+use Rattle.definition.specs.Short.{fault}
 use Rattle.definition.specs.Tries.{centerRule, extensionRule, TryOf, TriedInVain}
 use Rattle.definition.specs.Met.{EdgeMet, FaultMet, atTriangle, atHullPlace, atRingEdge}
 use Rattle.definition.specs.FaultTheorem.{build-refused}
@@ -23,8 +24,8 @@ use Rattle.reasons.specs.Reason.{ofFault}
 use Rattle.reason_truth.specs.laws.Named.{center-named, extension-named, edge-named}
 
 pub data BuilderTrue (m : Mesh) (b : BoundingBox) : Reason → Type 0 where
-  center : {t : ℕ} → Breaks (centerRule (m .sites) (m .triangles)) (badCenter t) → BuilderTrue m b (AtTriangle refusedCircumcenter t)
-  extension : {i : ℕ} → Keeps (centerRule (m .sites) (m .triangles)) → Breaks (extensionRule m) (notFinite i) → BuilderTrue m b (AtHullPlace refusedExtension i)
+  center : {t : ℕ} → Breaks (centerRule (m .sites) (m .triangles)) (fault refusedCircumcenter t 0 0) → BuilderTrue m b (AtTriangle refusedCircumcenter t)
+  extension : {i : ℕ} → Keeps (centerRule (m .sites) (m .triangles)) → Breaks (extensionRule m) (fault refusedExtension i 0 0) → BuilderTrue m b (AtHullPlace refusedExtension i)
   ringEdge : {n site p q : ℕ} → refusedNoCrossing ≤ n → Keeps (centerRule (m .sites) (m .triangles)) → Keeps (extensionRule m) → {ring : List ℕ} {s : CellState}
       → TryOf m b site ring s → EdgeMet b (length (m .triangles) / 3) site ring (s .verts) (s .owners) p q n → BuilderTrue m b (AtEdge n site p q)
 

@@ -10,9 +10,11 @@ use Rattle.root.specs.Sqrt.{sqrtOf}
 use Rattle.utils.specs.Plane.{at}
 use Rattle.utils.specs.declared.Point.{Point}
 use Rattle.vertices.specs.Store.{Holds, Poured}
+use Rattle.numbers.specs.Numbers.{refusedExtension}
 use Rattle.definition.specs.declared.Fault.{Fault}
-use Rattle.definition.specs.Fault.{Outcome, ok, refused, notFinite}
+use Rattle.definition.specs.Fault.{Outcome, ok, refused}
 use Rattle.definition.specs.Build.{infinity, Extensions}
+use Rattle.definition.specs.Short.{fault}
 use Rattle.definition.specs.Reused.{reused, reusedIn}
 use Rattle.rings.specs.Centers.{Named}
 use Rattle.rings.specs.declared.extensions.Passed.{Passed}
@@ -56,4 +58,4 @@ pub record ExtensionsPut (nc limit at : ℕ) (x : Extensions) (v : List Float) (
 -- of h hull places: all of them, or the lowest whose extension is not finite
 abbrev pub ExtendedBy : Outcome Fault Extensions → ℕ → ℕ → ℕ → ℕ → List Float → List ℕ → Passed → List Float → List ℕ → Type 0
 ExtendedBy (ok x) h nc limit at v ix r v₁ ix₁ = (r .place ≡ h) × (length (x .at) ≡ h) × ExtensionsPut nc limit at x v ix r v₁ ix₁
-ExtendedBy (refused f) h nc limit at v ix r v₁ ix₁ = (f ≡ notFinite (r .place)) × (r .place < h)
+ExtendedBy (refused f) h nc limit at v ix r v₁ ix₁ = (f ≡ fault refusedExtension (r .place) 0 0) × (r .place < h)

@@ -17,19 +17,13 @@ use Rattle.utils.specs.declared.Point.{Point}
 use Rattle.utils.specs.declared.Center.{Center}
 use Rattle.utils.specs.declared.Center.the-variants.{Refused, At}
 
-abbrev pub plus : Point → Point → Point
-plus p q = at (p .x ⊞ q .x) (p .y ⊞ q .y)
-
 -- the first n points added up, one after the other
 unfoldable pub pointSum : List Float → ℕ → Point
 pointSum l zero = at R.zero R.zero
-pointSum l (suc n) = plus (pointSum l n) (pointAt l n)
-
-abbrev pub over : Point → Float → Point
-over p n = at (p .x ⊘ n) (p .y ⊘ n)
+pointSum l (suc n) = at (pointSum l n .x ⊞ pointAt l n .x) (pointSum l n .y ⊞ pointAt l n .y)
 
 unfoldable pub meanOf : List Float → ℕ → Point
-meanOf l n = over (pointSum l n) (ofInt binary64 (pos n))
+meanOf l n = at (pointSum l n .x ⊘ ofInt binary64 (pos n)) (pointSum l n .y ⊘ ofInt binary64 (pos n))
 
 -- whole points, 1 to 65,536 of them
 unfoldable pub okCount : List Float → Bool

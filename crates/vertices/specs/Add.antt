@@ -17,9 +17,6 @@ pub record Added : Type 0 where
   pub verts : List Point
   pub fresh : Bool
 
-abbrev pub added : Bool → ℕ → List Point → Added
-added new n vs = record { at = n; verts = vs; fresh = new }
-
 -- the first of vs, numbered from n, that is near p; else the number after them
 unfoldable pub findNear : Point → List Point → ℕ → ℕ
 findNear p [] n = n
@@ -29,4 +26,4 @@ unfoldable pub addVertex : ℕ → List Point → Point → Added
 addVertex nc vs p =
     let i = findNear p (drop nc vs) nc in
     let old = ltb i (length vs) in
-    added (not old) i (pick old (λ _. vs) (λ _. vs ++ p ∷ []))
+    record { at = i; verts = pick old (λ _. vs) (λ _. vs ++ p ∷ []); fresh = not old }

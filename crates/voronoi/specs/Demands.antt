@@ -1,4 +1,4 @@
--- Theorem: the three demands on the public calls, proved of every input. They speak of the calls' promises (Roots, Plane, Meshes, Walks, Builds): what is said of an outcome holds of
+-- Theorem: the three demands on the public calls, proved of every input. They speak of the calls' promises (Plane, Meshes, Walks, Builds): what is said of an outcome holds of
 -- every outcome that its promise allows. That a call ends on every input, and keeps its promise, is what the check proves of its function. The words that they use are
 -- in Outcomes, Leaves, Bounds, Approach and Wraps.
 use mathlib.Core.Path.{_≡_}
@@ -6,19 +6,22 @@ use mathlib.Core.Bool.{true}
 use mathlib.Core.List.{List, [], _∷_}
 use mathlib.Core.Logic.{_≢_, _↔_}
 use Prim.Native.Nat.{ℕ, suc, _+_, _/_, _%_, _^_, _≤_, _<_}
-use lib.Ieee.{Float, nan}
+use lib.Ieee.{Float, nan, binary64, ofBits, toBits}
 use lib.IntN.{ℤ}
 use lib.ListN.{length, getD, take, drop}
 use Rattle.numbers.specs.Numbers.{EMPTY}
 use Rattle.laws.specs.Count.{occ}
-use Rattle.root.specs.Root.{Root, RootBits}
+use Rattle.root.specs.Root.{Root, RootBits, magnitude, signum}
 use Rattle.root.specs.Bounded.{Bounded}
+use Rattle.utils.specs.Plane.{nearOf}
 use Rattle.utils.specs.Rules.{okSite}
 use Rattle.utils.specs.declared.Point.{Point}
 use Rattle.given_box.specs.Given.{bySize, byEdges}
 use Rattle.given_box.specs.Finite.{Fits, size-fits, edges-fit}
 use Rattle.given_box.specs.declared.Given.{Given}
-use Rattle.crossings.specs.Rules.{lineAnswer, rayAnswer}
+use Rattle.line_crossings.specs.Line.{lineOf}
+use Rattle.crossings.specs.Ray.{rayOf}
+use Rattle.plane_calls.specs.Plane.{bit}
 use Rattle.mesh.specs.Mesh.{wholeOf, Used}
 use Rattle.mesh.specs.Accepted.{Mesh, tableOf, siteCount}
 use Rattle.iterator.specs.Clipped.{clippedNeighboursOf}
@@ -28,7 +31,6 @@ use Rattle.paths.specs.Path.{wholePath}
 use Rattle.definition.specs.Build.{build}
 use Rattle.admission.specs.Asks.{CellsOf}
 use Rattle.admission.specs.Slices.{Slices}
-use Rattle.voronoi.specs.Roots.{MagnitudeBits, Magnitude, SignumBits, Signum}
 use Rattle.mend_slices.specs.Lent.{Lent}
 use Rattle.voronoi.specs.Mends.{Mend}
 use Rattle.reader.specs.Calls.{FormLists}
@@ -51,13 +53,13 @@ use Rattle.voronoi.specs.laws.Refused.{all-refused, ends-refused}
 use Rattle.voronoi.specs.Audits.{Audit}
 use Rattle.audit.specs.One.{one-audit}
 use Rattle.voronoi.specs.One.{one-mend, one-cell-wkb-bits, one-cell-wkb, one-root-bits, one-root, one-magnitude-bits, one-magnitude, one-signum-bits, one-signum}
-use Rattle.voronoi.specs.Plane.{Near, Dist2, Circumcenter, Centroid, Edges, Centered, Corners, Inside, ExclusivelyInside, WhichEdge, Meets}
-use Rattle.voronoi.specs.One.{one-near, one-dist2, one-center, one-box, one-box-center, one-corners, one-inside, one-exclusively, one-side, one-meeting}
+use Rattle.voronoi.specs.Plane.{Dist2, Circumcenter, Centroid, Edges, Centered, Corners, Inside, ExclusivelyInside, WhichEdge, Meets}
+use Rattle.voronoi.specs.One.{one-near, one-dist2, one-circumcenter, one-centroid, one-box, one-box-center, one-corners, one-inside, one-exclusively, one-side, one-meeting}
 use Rattle.flip_call.specs.Flips.{FlipLists}
 use Rattle.voronoi.specs.Flips.{Flip}
 use Rattle.voronoi.specs.One.{one-mend, one-flip, one-cell-wkb-bits, one-cell-wkb, one-root-bits, one-root, one-magnitude-bits, one-magnitude, one-signum-bits, one-signum}
-use Rattle.voronoi.specs.Plane.{Near, Dist2, Circumcenter, Centroid, Edges, Corners, Inside, ExclusivelyInside, WhichEdge, Meets}
-use Rattle.voronoi.specs.One.{one-near, one-dist2, one-center, one-box, one-corners, one-inside, one-exclusively, one-side, one-meeting}
+use Rattle.voronoi.specs.Plane.{Dist2, Circumcenter, Centroid, Edges, Corners, Inside, ExclusivelyInside, WhichEdge, Meets}
+use Rattle.voronoi.specs.One.{one-near, one-dist2, one-circumcenter, one-centroid, one-box, one-corners, one-inside, one-exclusively, one-side, one-meeting}
 use Rattle.voronoi.specs.Meshes.{Check}
 use Rattle.voronoi.specs.One.{one-check}
 use Rattle.voronoi.specs.Walks.{Walk, Neighbours, ClippedNeighbours, Path, SharedEdge, CellsShareEdge}
@@ -88,15 +90,15 @@ pub record Demand1 (m : Mesh) : Type 0 where
   -- voronoi_root
   pub root : (x : Float) → One (Root x)
   -- voronoi_magnitude_bits
-  pub magnitude-bits : (b : ℕ) → One (MagnitudeBits b)
+  pub magnitude-bits : (b : ℕ) → One (λ r. r ≡ b % 2 ^ 63)
   -- voronoi_magnitude
-  pub magnitude : (x : Float) → One (Magnitude x)
+  pub magnitude : (x : Float) → One (λ r. r ≡ magnitude x)
   -- voronoi_signum_bits
-  pub signum-bits : (b : ℕ) → One (SignumBits b)
+  pub signum-bits : (b : ℕ) → One (λ r. r ≡ toBits binary64 (signum (ofBits binary64 b)))
   -- voronoi_signum
-  pub signum : (x : Float) → One (Signum x)
+  pub signum : (x : Float) → One (λ r. r ≡ signum x)
   -- voronoi_abs_diff_eq
-  pub abs-diff-eq : (a b : Float) → One (Near a b)
+  pub abs-diff-eq : (a b : Float) → One (λ r. r ≡ bit (nearOf a b))
   -- voronoi_dist2: the number, the distance
   pub dist2 : (a b : Point) → One₂ (Dist2 a b)
   -- voronoi_circumcenter: the number, x, y
@@ -116,9 +118,9 @@ pub record Demand1 (m : Mesh) : Type 0 where
   -- voronoi_which_edge: the number, the side
   pub which-edge : (g : Given) (p : Point) → One₂ (WhichEdge g p)
   -- voronoi_intersect_line: the number, how many, two points
-  pub intersect-line : (g : Given) (p q : Point) → OneMeeting (Meets (lineAnswer g p q))
+  pub intersect-line : (g : Given) (p q : Point) → OneMeeting (Meets lineOf g p q)
   -- voronoi_project_ray
-  pub project-ray : (g : Given) (p dir : Point) → OneMeeting (Meets (rayAnswer g p dir))
+  pub project-ray : (g : Given) (p dir : Point) → OneMeeting (Meets rayOf g p dir)
   -- voronoi_check: the number, the work slice
   pub check : (w : List ℕ) → One₂ (λ r w′. Check m w w′ r)
   -- voronoi_walk: the number, the work slice, the output slice, the count, ended
@@ -237,8 +239,8 @@ pub record Demand2 (m : Mesh) : Type 0 where
   pub box : (g : Given) → Fits g → {l t r b a d : Float} → Edges g 0 l t r b a d → BoundedEdges l t r b a d
   pub box-center : (l t r b : Float) {x y a d : Float} → Centered (byEdges l t r b) 0 x y a d → BoundedCenter x y a d
   pub corners : (g : Given) → Fits g → {before after : List Float} → Corners g before 0 after → (i : ℕ) → i < length after → Bounded 101 (getD after i nan)
-  pub intersect-line : (g : Given) → Fits g → (p q : Point) {k : ℕ} {x y u v : Float} → Meets (lineAnswer g p q) 0 k x y u v → BoundedMeeting x y u v
-  pub project-ray : (g : Given) → Fits g → (p dir : Point) {k : ℕ} {x y u v : Float} → Meets (rayAnswer g p dir) 0 k x y u v → BoundedMeeting x y u v
+  pub intersect-line : (g : Given) → Fits g → (p q : Point) {k : ℕ} {x y u v : Float} → Meets lineOf g p q 0 k x y u v → BoundedMeeting x y u v
+  pub project-ray : (g : Given) → Fits g → (p dir : Point) {k : ℕ} {x y u v : Float} → Meets rayOf g p dir 0 k x y u v → BoundedMeeting x y u v
   -- nor is a value on the way to one
   pub within : Bounds
 
@@ -291,17 +293,17 @@ demand1 m = record {
   signum-bits = one-signum-bits;
   signum = one-signum;
   abs-diff-eq = one-near;
-  dist2 = λ a b _ _ _ _. one-dist2;
-  circumcenter = λ a b c _ _ _ _ _ _. one-center;
-  centroid = λ l _ _ _ _ _ _. one-center;
-  box = λ g _ _ _ _ _ _ _ _ _ _ _ _ _ _. one-box;
-  box-center = λ g _ _ _ _ _ _ _ _ _ _. one-box-center;
+  dist2 = λ a b _ _ _ _. one-dist2 a b;
+  circumcenter = λ a b c _ _ _ _ _ _. one-circumcenter a b c;
+  centroid = λ l _ _ _ _ _ _. one-centroid l;
+  box = λ g _ _ _ _ _ _ _ _ _ _ _ _ _ _. one-box g;
+  box-center = λ g _ _ _ _ _ _ _ _ _ _. one-box-center g;
   corners = λ g l _ _ _ _. one-corners;
-  is-inside = λ g p _ _ _ _. one-inside;
-  is-exclusively-inside = λ g p _ _ _ _. one-exclusively;
-  which-edge = λ g p _ _ _ _. one-side;
-  intersect-line = λ g p q _ _ _ _ _ _ _ _ _ _ _ _. one-meeting;
-  project-ray = λ g p dir _ _ _ _ _ _ _ _ _ _ _ _. one-meeting;
+  is-inside = λ g p _ _ _ _. one-inside g p;
+  is-exclusively-inside = λ g p _ _ _ _. one-exclusively g p;
+  which-edge = λ g p _ _ _ _. one-side g p;
+  intersect-line = λ g p q _ _ _ _ _ _ _ _ _ _ _ _. one-meeting lineOf g p q;
+  project-ray = λ g p dir _ _ _ _ _ _ _ _ _ _ _ _. one-meeting rayOf g p dir;
   check = λ w r s new other. one-check m w new other r s;
   walk = λ s w o _ _ _ _ _ _ _ _ _ _. one-walk m s;
   neighbours = λ s w o _ _ _ _ _ _ _ _ _ _. one-neighbours m s;
@@ -360,10 +362,10 @@ demand2 m = record {
   neighbours = λ s. written;
   clipped-neighbours = λ offs idx s. written;
   path = λ s p. written;
-  dist2 = λ a b. dist2-answer;
+  dist2 = dist2-answer;
   circumcenter = circumcenter-answer;
   centroid = centroid-answer;
-  box = λ g. box-answer;
+  box = box-answer;
   box-center = center-answer;
   corners = λ g. corners-answer;
   intersect-line = line-answer;

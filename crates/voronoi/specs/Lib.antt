@@ -1,4 +1,3 @@
-pub mod Roots
 pub mod Plane
 pub mod Meshes
 pub mod Walks

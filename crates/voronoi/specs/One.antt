@@ -1,29 +1,33 @@
 -- Theorem: of each public call no two outcomes are allowed for one input.
 use mathlib.Core.Path.{_≡_, sym, ap, _∙_}
 use mathlib.Core.Bool.{false}
-use mathlib.Core.List.{List}
-use Prim.Native.Nat.{ℕ, _^_, _<_}
-use lib.Dec.{eqb}
-use lib.Ieee.{Float}
+use mathlib.Core.List.{List, [], _++_}
+use Prim.Native.Nat.{ℕ, _+_, _-_, _%_, _^_, _<_}
+use lib.Dec.{eqb, leb}
+use lib.Ieee.{Float, nan, binary64, ofBits, toBits}
 use lib.IntN.{ℤ}
+use lib.ListN.{length, getD, take, drop, replicate}
+use Rattle.laws.specs.Binary64.{zero}
+use Rattle.laws.specs.Refusals.{Rule}
 use Rattle.laws.specs.Pick.{pick}
 use Rattle.laws.specs.laws.Refusals.{finds-one}
-use Rattle.numbers.specs.Numbers.{EMPTY}
-use Rattle.root.specs.Root.{Root, RootBits}
+use Rattle.numbers.specs.Numbers.{EMPTY, refusedOffsets}
+use Rattle.root.specs.Root.{Root, RootBits, magnitude, signum}
 use Rattle.root.specs.Unique as root
 use Rattle.utils.specs.declared.Point.{Point}
-use Rattle.utils.specs.declared.Center.{Center}
+use Rattle.utils.specs.Plane.{nearOf}
+use Rattle.utils.specs.Flat.{flat}
+use Rattle.bounding_box.specs.Box.{cornersOf}
+use Rattle.bounding_box.specs.declared.BoundingBox.{BoundingBox}
 use Rattle.given_box.specs.declared.Given.{Given}
-use Rattle.crossings.specs.declared.Meeting.{Meeting}
-use Rattle.mesh.specs.Rules.{numberOf}
+use Rattle.line_crossings.specs.declared.Crossing.{Crossing}
 use Rattle.mesh.specs.Accepted.{Mesh}
+use Rattle.check_mesh.specs.AtExit.{atExit}
 use Rattle.check_mesh.specs.Answers.{workAfter}
-use Rattle.shared.specs.Cells.{shareEdgeOf}
+use Rattle.shared.specs.Cells.{cellOf, shareEdgeOf}
 use Rattle.shared.specs.Edge.{sharedEdgeOf}
 use Rattle.admission.specs.Slices.{Slices}
-use Rattle.cell_query.specs.Cells.{partAfter, startAfter, lengthAfter}
 use Rattle.cell_query.specs.laws.Cells.{cell-number}
-use Rattle.queries.specs.Answers.{outAfter, countAfter, endedAfter}
 use Rattle.build_answers.specs.laws.Promise.{answers-one}
 use Rattle.plane_calls.specs.Plane.{bit, Answered}
 use Rattle.wkb.specs.Polygon.{patterns}
@@ -55,8 +59,7 @@ use Rattle.bulk_neighbours.specs.One as bulk-neighbours
 use Rattle.bulk_ends.specs.One as bulk-ends
 use Rattle.voronoi.specs.Bulk.{AllNeighbours, EndsOfPaths}
 use Rattle.voronoi.specs.Sizes.{Areas}
-use Rattle.voronoi.specs.Roots.{MagnitudeBits, Magnitude, SignumBits, Signum}
-use Rattle.voronoi.specs.Plane.{Near, Dist2, Edges, Centered, Corners, Inside, ExclusivelyInside, WhichEdge, Meets}
+use Rattle.voronoi.specs.Plane.{Dist2, Circumcenter, Centroid, Edges, Centered, Corners, Inside, ExclusivelyInside, WhichEdge, Meets}
 use Rattle.voronoi.specs.Meshes.{Check}
 use Rattle.voronoi.specs.Walks.{Handed, Walk, Neighbours, ClippedNeighbours, Path, SharedEdge, CellsShareEdge}
 use Rattle.voronoi.specs.Builds.{Build, CellPart, Cell}
@@ -72,80 +75,78 @@ one-root-bits = root.one-pattern
 pub one-root : (x r s : Float) → Root x r → Root x s → r ≡ s
 one-root = root.one-root
 
-pub one-magnitude-bits : (b r s : ℕ) → MagnitudeBits b r → MagnitudeBits b s → r ≡ s
-one-magnitude-bits b r s p q = same p q
+pub one-magnitude-bits : (b r s : ℕ) → r ≡ b % 2 ^ 63 → s ≡ b % 2 ^ 63 → r ≡ s
+one-magnitude-bits b r s = same
 
-pub one-magnitude : (x r s : Float) → Magnitude x r → Magnitude x s → r ≡ s
-one-magnitude x r s p q = same p q
+pub one-magnitude : (x r s : Float) → r ≡ magnitude x → s ≡ magnitude x → r ≡ s
+one-magnitude x r s = same
 
-pub one-signum-bits : (b r s : ℕ) → SignumBits b r → SignumBits b s → r ≡ s
-one-signum-bits b r s p q = same p q
+pub one-signum-bits : (b r s : ℕ) → r ≡ toBits binary64 (signum (ofBits binary64 b)) → s ≡ toBits binary64 (signum (ofBits binary64 b)) → r ≡ s
+one-signum-bits b r s = same
 
-pub one-signum : (x r s : Float) → Signum x r → Signum x s → r ≡ s
-one-signum x r s p q = same p q
+pub one-signum : (x r s : Float) → r ≡ signum x → s ≡ signum x → r ≡ s
+one-signum x r s = same
 
 -- ---- points and the box
-pub one-near : (a b : Float) (r s : ℕ) → Near a b r → Near a b s → r ≡ s
-one-near a b r s p q = same p q
+pub one-near : (a b : Float) (r s : ℕ) → r ≡ bit (nearOf a b) → s ≡ bit (nearOf a b) → r ≡ s
+one-near a b r s = same
 
-pub one-dist2 : {a b : Point} {n m : ℕ} {d e : Float} → Dist2 a b n d → Dist2 a b m e → (n ≡ m) × (d ≡ e)
-one-dist2 p q = (same (p .refusal) (q .refusal), same (p .value) (q .value))
+-- the number, and the lent numbers as a list
+answered-one : {A : Type 0} {rules : List (Rule ℕ)} {blank : A} {made out other : List A} {r s : ℕ} → Answered rules blank made r out → Answered rules blank made s other
+    → (r ≡ s) × (out ≡ other)
+answered-one {blank = blank} {made} p q =
+    let e = finds-one (p .number) (q .number) in
+    (e, p .values ∙ ap (λ (n : ℕ). pick (eqb n 0) (λ _. made) (λ _. replicate (length made) blank)) e ∙ sym (q .values))
 
--- the circumcenter and the centroid
-pub one-center : {r : Center} {n m : ℕ} {x y z w : Float} → Answered r n x y → Answered r m z w → (n ≡ m) × (x ≡ z) × (y ≡ w)
-one-center p q = (same (p .refusal) (q .refusal), same (p .x-value) (q .x-value), same (p .y-value) (q .y-value))
+-- one number of two equal lists
+nth : {A : Type 0} (blank : A) (i : ℕ) {l k : List A} → l ≡ k → getD l i blank ≡ getD k i blank
+nth blank i = ap (λ l. getD l i blank)
 
-pub one-box : {g : Given} {n m : ℕ} {l t r b a d l' t' r' b' a' d' : Float} → Edges g n l t r b a d → Edges g m l' t' r' b' a' d'
+pub one-dist2 : (a b : Point) {n m : ℕ} {d e : Float} → Dist2 a b n d → Dist2 a b m e → (n ≡ m) × (d ≡ e)
+one-dist2 a b p q = let x = answered-one p q in (x .0, nth nan 0 (x .1))
+
+pub one-circumcenter : (a b c : Point) {n m : ℕ} {x y z w : Float} → Circumcenter a b c n x y → Circumcenter a b c m z w → (n ≡ m) × (x ≡ z) × (y ≡ w)
+one-circumcenter a b c p q = let x = answered-one p q in (x .0, nth nan 0 (x .1), nth nan 1 (x .1))
+
+pub one-centroid : (l : List Float) {n m : ℕ} {x y z w : Float} → Centroid l n x y → Centroid l m z w → (n ≡ m) × (x ≡ z) × (y ≡ w)
+one-centroid l p q = let x = answered-one p q in (x .0, nth nan 0 (x .1), nth nan 1 (x .1))
+
+pub one-box : (g : Given) {n m : ℕ} {l t r b a d l' t' r' b' a' d' : Float} → Edges g n l t r b a d → Edges g m l' t' r' b' a' d'
     → (n ≡ m) × (l ≡ l') × (t ≡ t') × (r ≡ r') × (b ≡ b') × (a ≡ a') × (d ≡ d')
-one-box p q = (
-  same (p .refusal) (q .refusal),
-  same (p .left-edge) (q .left-edge),
-  same (p .top-edge) (q .top-edge),
-  same (p .right-edge) (q .right-edge),
-  same (p .bottom-edge) (q .bottom-edge),
-  same (p .width) (q .width),
-  same (p .height) (q .height),
-)
+one-box g p q = let x = answered-one p q in (x .0, nth nan 0 (x .1), nth nan 1 (x .1), nth nan 2 (x .1), nth nan 3 (x .1), nth nan 4 (x .1), nth nan 5 (x .1))
 
-pub one-box-center : {g : Given} {n m : ℕ} {x y a d x' y' a' d' : Float} → Centered g n x y a d → Centered g m x' y' a' d'
+pub one-box-center : (g : Given) {n m : ℕ} {x y a d x' y' a' d' : Float} → Centered g n x y a d → Centered g m x' y' a' d'
     → (n ≡ m) × (x ≡ x') × (y ≡ y') × (a ≡ a') × (d ≡ d')
-one-box-center p q = (
-  same (p .refusal) (q .refusal),
-  same (p .center-x) (q .center-x),
-  same (p .center-y) (q .center-y),
-  same (p .width) (q .width),
-  same (p .height) (q .height),
-)
+one-box-center g p q = let x = answered-one p q in (x .0, nth nan 0 (x .1), nth nan 1 (x .1), nth nan 2 (x .1), nth nan 3 (x .1))
 
 pub one-corners : {g : Given} {l : List Float} {n m : ℕ} {k o : List Float} → Corners g l n k → Corners g l m o → (n ≡ m) × (k ≡ o)
-one-corners p q = (same (p .refusal) (q .refusal), same (p .slice) (q .slice))
+one-corners {g} {l} p q =
+    let e = finds-one (p .number) (q .number) in
+    (e, p .slice ∙ ap (λ (n : ℕ). pick (eqb n 0) (λ _. flat (cornersOf (g .bounds)) ++ replicate (length l - 8) zero) (λ _. l)) e ∙ sym (q .slice))
 
-pub one-inside : {g : Given} {p : Point} {n m y z : ℕ} → Inside g p n y → Inside g p m z → (n ≡ m) × (y ≡ z)
-one-inside p q = (same (p .refusal) (q .refusal), same (p .answer) (q .answer))
+pub one-inside : (g : Given) (p : Point) {n m y z : ℕ} → Inside g p n y → Inside g p m z → (n ≡ m) × (y ≡ z)
+one-inside g p a b = let x = answered-one a b in (x .0, nth 0 0 (x .1))
 
-pub one-exclusively : {g : Given} {p : Point} {n m y z : ℕ} → ExclusivelyInside g p n y → ExclusivelyInside g p m z → (n ≡ m) × (y ≡ z)
-one-exclusively p q = (same (p .refusal) (q .refusal), same (p .answer) (q .answer))
+pub one-exclusively : (g : Given) (p : Point) {n m y z : ℕ} → ExclusivelyInside g p n y → ExclusivelyInside g p m z → (n ≡ m) × (y ≡ z)
+one-exclusively g p a b = let x = answered-one a b in (x .0, nth 0 0 (x .1))
 
-pub one-side : {g : Given} {p : Point} {n m s t : ℕ} → WhichEdge g p n s → WhichEdge g p m t → (n ≡ m) × (s ≡ t)
-one-side p q = (same (p .refusal) (q .refusal), same (p .answer) (q .answer))
+pub one-side : (g : Given) (p : Point) {n m s t : ℕ} → WhichEdge g p n s → WhichEdge g p m t → (n ≡ m) × (s ≡ t)
+one-side g p a b = let x = answered-one a b in (x .0, nth 0 0 (x .1))
 
 -- the line and the ray
-pub one-meeting : {m : Meeting} {n k c d : ℕ} {x y u v x' y' u' v' : Float} → Meets m n c x y u v → Meets m k d x' y' u' v'
-    → (n ≡ k) × (c ≡ d) × (x ≡ x') × (y ≡ y') × (u ≡ u') × (v ≡ v')
-one-meeting p q = (
-  same (p .refusal) (q .refusal),
-  same (p .points) (q .points),
-  same (p .first-x) (q .first-x),
-  same (p .first-y) (q .first-y),
-  same (p .second-x) (q .second-x),
-  same (p .second-y) (q .second-y),
-)
+pub one-meeting : (c : BoundingBox → Point → Point → Crossing) (g : Given) (a b : Point) {n k j i : ℕ} {x y u v x' y' u' v' : Float}
+    → Meets c g a b n j x y u v → Meets c g a b k i x' y' u' v'
+    → (n ≡ k) × (j ≡ i) × (x ≡ x') × (y ≡ y') × (u ≡ u') × (v ≡ v')
+one-meeting c g a b p q =
+    let x = answered-one (p .0) (q .0) in
+    let y = answered-one (p .1) (q .1) in
+    (x .0, nth 0 0 (x .1), nth nan 0 (y .1), nth nan 1 (y .1), nth nan 2 (y .1), nth nan 3 (y .1))
 
 -- ---- the check of a lent mesh
 module _ (m : Mesh) (old : List ℕ) where
   pub one-check : (new other : List ℕ) (r s : ℕ) → Check m old new r → Check m old other s → (r ≡ s) × (new ≡ other)
   one-check new other r s a b =
-      let q = a .number ∙ ap numberOf (finds-one (a .finding) (b .finding)) ∙ sym (b .number) in
+      let q = finds-one (a .number) (b .number) in
       (q, a .work ∙ ap (workAfter m old) q ∙ sym (b .work))
 
 -- ---- walks, and what triangles and cells share
@@ -156,9 +157,10 @@ handed-one {m = m} {whole} {w} {o = o} {r = r} {s} one a b =
     let q : r ≡ s = one r s (a .number) (b .number) in (
       q,
       a .work ∙ ap (workAfter m w) q ∙ sym (b .work),
-      a .out ∙ ap (outAfter whole o) q ∙ sym (b .out),
-      a .count ∙ ap (countAfter whole o) q ∙ sym (b .count),
-      a .ended ∙ ap (λ d. bit (endedAfter whole o d)) q ∙ sym (b .ended),
+      a .out ∙ ap (λ (n : ℕ). pick (eqb n refusedOffsets) (λ _. o) (λ _. atExit EMPTY (take (length o) whole ++ drop (length (take (length o) whole)) o) o n)) q
+          ∙ sym (b .out),
+      a .count ∙ ap (λ (n : ℕ). pick (eqb n 0) (λ _. length (take (length o) whole)) (λ _. 0)) q ∙ sym (b .count),
+      a .ended ∙ ap (λ (n : ℕ). bit (pick (eqb n 0) (λ _. leb (length whole) (length o)) (λ _. false))) q ∙ sym (b .ended),
     )
 
 module _ (m : Mesh) {w w′ w″ o o′ o″ : List ℕ} {k l e f r s : ℕ} where
@@ -186,7 +188,7 @@ one-shared-edge {m} {a = a} {b} {w} x y =
 
 pub one-cells-share-edge : {off ix : List ℕ} {a b y z r s : ℕ} → CellsShareEdge off ix a b y r → CellsShareEdge off ix a b z s → (r ≡ s) × (y ≡ z)
 one-cells-share-edge {off} {ix} {a} {b} x v =
-    let q = finds-one (x .number .found) (v .number .found) in
+    let q = finds-one (x .number) (v .number) in
     (q, x .answer ∙ ap (λ n. bit (pick (eqb n 0) (λ _. shareEdgeOf off ix a b) (λ _. false))) q ∙ sym (v .answer))
 
 -- ---- builds and cells
@@ -198,12 +200,15 @@ module _ (off ix : List ℕ) (s : ℕ) {q r : ℕ} where
   pub one-cell-part : {p o : List ℕ} → CellPart off ix s p q → CellPart off ix s o r → (q ≡ r) × (p ≡ o)
   one-cell-part x y =
       let e = cell-number off ix s (x .number) (y .number) in
-      (e, x .entries ∙ ap (partAfter off ix s) e ∙ sym (y .entries))
+      (e, x .entries ∙ ap (λ (n : ℕ). pick (eqb n 0) (λ _. cellOf off ix s) (λ _. [])) e ∙ sym (y .entries))
 
   pub one-cell : {a b l m : ℕ} → Cell off ix s a l q → Cell off ix s b m r → (q ≡ r) × (a ≡ b) × (l ≡ m)
   one-cell x y =
-      let e = cell-number off ix s (x .number) (y .number) in
-      (e, x .from ∙ ap (startAfter off s) e ∙ sym (y .from), x .many ∙ ap (lengthAfter off s) e ∙ sym (y .many))
+      let e = cell-number off ix s (x .number) (y .number) in (
+        e,
+        x .from ∙ ap (λ (n : ℕ). pick (eqb n 0) (λ _. getD off s 0) (λ _. 0)) e ∙ sym (y .from),
+        x .many ∙ ap (λ (n : ℕ). pick (eqb n 0) (λ _. getD off (s + 1) 0 - getD off s 0) (λ _. 0)) e ∙ sym (y .many),
+      )
 
 -- ---- cells as polygons
 module _ (off ix : List ℕ) (s : ℕ) (old : List ℕ) {new other : List ℕ} {w u q r : ℕ} where

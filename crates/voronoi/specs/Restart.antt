@@ -13,7 +13,6 @@ use Rattle.mesh.specs.Mesh.{Used}
 use Rattle.mesh.specs.Accepted.{Mesh, tableOf, siteCount}
 use Rattle.paths.specs.Path.{wholePath}
 use Rattle.paths.specs.Restart.{rejoined, path-some, path-site, path-again, restart, restart-whole}
-use Rattle.queries.specs.Answers.{countAfter}
 use Rattle.voronoi.specs.Walks.{Handed, Path}
 use Rattle.voronoi.specs.Leaves.{QueryAllowed}
 use Rattle.voronoi.specs.laws.Answering.{path-answers}
@@ -52,7 +51,6 @@ take-short (suc n) (y ∷ l) = ap (λ (r : List ℕ). y ∷ r) (take-short n l)
 -- what an answer of 0 has written of a list
 module _ {N : ℕ → Type 0} {m : Mesh} {whole w w′ o o′ : List ℕ} {k e : ℕ} (a : Handed N m whole w w′ o o′ k e 0) where
   counted : k ≡ length (take (length o) whole)
-  unfolding countAfter
   counted = a .count
 
   beginning : take k o′ ≡ take k whole

@@ -3,7 +3,8 @@
 use utils::Point;
 ghost use Rattle.utils.specs.Plane.{at};
 ghost use Rattle.given_box.specs.Given.{byEdges};
-ghost use Rattle.crossings.specs.Rules.{lineAnswer, rayAnswer};
+ghost use Rattle.line_crossings.specs.Line.{lineOf};
+ghost use Rattle.crossings.specs.Ray.{rayOf};
 ghost use Rattle.mesh.specs.Accepted.{mesh};
 ghost use Rattle.admission.specs.Slices.{slices};
 ghost use Rattle.reasons.specs.Reason.{tells};
@@ -127,7 +128,7 @@ pub extern "C" fn voronoi_intersect_line_by_edges(
     u: &mut f64,
     v: &mut f64,
 ) -> u32
-    ensures { λ r. ⌜ Meets (lineAnswer (byEdges left top right bottom) (at px py) (at qx qy)) r
+    ensures { λ r. ⌜ Meets lineOf (byEdges left top right bottom) (at px py) (at qx qy) r
         (now (count .exit)) (now (x .exit)) (now (y .exit)) (now (u .exit)) (now (v .exit)) ⌝ }
 {
     let given = given_box::by_edges(left, top, right, bottom);
@@ -159,7 +160,7 @@ pub extern "C" fn voronoi_project_ray_by_edges(
     u: &mut f64,
     v: &mut f64,
 ) -> u32
-    ensures { λ r. ⌜ Meets (rayAnswer (byEdges left top right bottom) (at px py) (at dx dy)) r
+    ensures { λ r. ⌜ Meets rayOf (byEdges left top right bottom) (at px py) (at dx dy) r
         (now (count .exit)) (now (x .exit)) (now (y .exit)) (now (u .exit)) (now (v .exit)) ⌝ }
 {
     let given = given_box::by_edges(left, top, right, bottom);

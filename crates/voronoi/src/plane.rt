@@ -1,15 +1,18 @@
 // Points and the box. A box is its center, width and height (in module edges: its four edges); 3 is tried on it, then 6 on each point.
 // A lent number is always written: 0 (a side: EMPTY) where the call refuses.
 use utils::Point;
-ghost use Rattle.utils.specs.Plane.{at};
+ghost use mathlib.Core.Path.{_≡_};
+ghost use Rattle.utils.specs.Plane.{at, nearOf};
 ghost use Rattle.given_box.specs.Given.{bySize};
-ghost use Rattle.crossings.specs.Rules.{lineAnswer, rayAnswer};
-ghost use Rattle.voronoi.specs.Plane.{Near, Dist2, Circumcenter, Centroid, Edges, Corners, Inside, ExclusivelyInside, WhichEdge, Meets};
+ghost use Rattle.line_crossings.specs.Line.{lineOf};
+ghost use Rattle.crossings.specs.Ray.{rayOf};
+ghost use Rattle.plane_calls.specs.Plane.{bit};
+ghost use Rattle.voronoi.specs.Plane.{Dist2, Circumcenter, Centroid, Edges, Corners, Inside, ExclusivelyInside, WhichEdge, Meets};
 
 // Whether a and b are within 2^-50 of each other, by the computed difference: 1 or 0. A NaN is within no tolerance.
 #[no_mangle]
 pub extern "C" fn voronoi_abs_diff_eq(a: f64, b: f64) -> u32
-    ensures { λ r. ⌜ Near a b r ⌝ }
+    ensures { λ r. ⌜ r ≡ bit (nearOf a b) ⌝ }
 {
     plane_calls::abs_diff_eq(a, b)
 }
@@ -174,7 +177,7 @@ pub extern "C" fn voronoi_intersect_line(
     u: &mut f64,
     v: &mut f64,
 ) -> u32
-    ensures { λ r. ⌜ Meets (lineAnswer (bySize (at cx cy) width height) (at px py) (at qx qy)) r
+    ensures { λ r. ⌜ Meets lineOf (bySize (at cx cy) width height) (at px py) (at qx qy) r
         (now (count .exit)) (now (x .exit)) (now (y .exit)) (now (u .exit)) (now (v .exit)) ⌝ }
 {
     let given = given_box::by_size(cx, cy, width, height);
@@ -206,7 +209,7 @@ pub extern "C" fn voronoi_project_ray(
     u: &mut f64,
     v: &mut f64,
 ) -> u32
-    ensures { λ r. ⌜ Meets (rayAnswer (bySize (at cx cy) width height) (at px py) (at dx dy)) r
+    ensures { λ r. ⌜ Meets rayOf (bySize (at cx cy) width height) (at px py) (at dx dy) r
         (now (count .exit)) (now (x .exit)) (now (y .exit)) (now (u .exit)) (now (v .exit)) ⌝ }
 {
     let given = given_box::by_size(cx, cy, width, height);

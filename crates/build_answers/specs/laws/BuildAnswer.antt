@@ -26,7 +26,7 @@ use Rattle.admission.specs.laws.LeftmostTable.{table-long, table-part}
 use Rattle.definition.specs.declared.Fault.{Fault}
 use Rattle.definition.specs.Fault.{Outcome, ok, refused}
 use Rattle.definition.specs.Build.{Built}
-use Rattle.layout.specs.Outputs.{padded, Rooms, vertexNumbers, indexNumbers, offsetNumbers, countNumbers, faultOf, BuiltInto}
+use Rattle.layout.specs.Outputs.{padded, Rooms, ofBuilt, faultOf, BuiltInto, countsMade}
 use Rattle.build_counts.specs.Counts.{EndedBuild}
 use Rattle.build_answers.specs.Promise.{BuildAnswers}
 use Rattle.definition.specs.Late.{Refuses, Numbered}
@@ -95,9 +95,9 @@ module _ {m : Mesh} {asked : ℕ} {old new : Slices} {r : ℕ} (a : BuildAdmissi
 
     module _ (own : List (Rule ℕ)) (t : NoneZero own) (found : Finds own 0 asked) {v : List Float} {ix off w c made : List ℕ} where
       go : (o : Outcome Fault Built) → Refuses Numbered o → BuiltInto o (new .vertices) (new .indexes) (new .offsets) v ix off
-          → EndedBuild (faultOf o .number) made (new .work) (new .counts) w c → (faultOf o .number ≡ 0 → made ≡ countNumbers o)
+          → EndedBuild (faultOf o .number) made (new .work) (new .counts) w c → (faultOf o .number ≡ 0 → made ≡ ofBuilt countsMade o)
           → BuildAnswers m own o old (slices w v ix off c) (faultOf o .number)
-      unfolding atExit vertexNumbers indexNumbers offsetNumbers countNumbers
+      unfolding atExit ofBuilt
       go (ok b) late l f q = record {
         number = built t (admits-own own t found (rw z at (a .admission .number)));
         work = f .work ∙ table-of ∙ rw (tab-length (topology mesh-of));
@@ -120,5 +120,5 @@ module _ {m : Mesh} {asked : ℕ} {old new : Slices} {r : ℕ} (a : BuildAdmissi
 
       pub answers-built : (o : Outcome Fault Built) → Refuses Numbered o → (f : Fault) → f ≡ faultOf o
           → BuiltInto o (new .vertices) (new .indexes) (new .offsets) v ix off → EndedBuild (f .number) made (new .work) (new .counts) w c
-          → (faultOf o .number ≡ 0 → made ≡ countNumbers o) → BuildAnswers m own o old (slices w v ix off c) (f .number)
+          → (faultOf o .number ≡ 0 → made ≡ ofBuilt countsMade o) → BuildAnswers m own o old (slices w v ix off c) (f .number)
       answers-built o late f e l d q = rw e (go o late l (rw e at d) q)

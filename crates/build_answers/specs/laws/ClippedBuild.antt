@@ -20,7 +20,7 @@ use Rattle.definition.specs.Build.{Built, build}
 use Rattle.definition.specs.laws.Reused.{reused-le}
 use Rattle.definition.specs.laws.Gives.{Gives, gives-map}
 use Rattle.definition.specs.laws.Built as theorems
-use Rattle.layout.specs.Outputs.{countNumbers, faultOf, BuiltInto}
+use Rattle.layout.specs.Outputs.{ofBuilt, faultOf, BuiltInto, countsMade}
 use Rattle.cell_finish.specs.declared.CellsAnswer.{CellsAnswer}
 use Rattle.cell_builder.specs.AdmittedBuild.{AdmittedBuild}
 use Rattle.cell_finish.specs.Finish.{outcomeAnswer}
@@ -44,12 +44,12 @@ module _ (o : Outcome Fault Built) (x : CellsAnswer) (q : x ≡ outcomeAnswer o)
       go (ok b) = refl
       go (refused e) = refl
 
-  answer-counts : Refuses Numbered o → faultOf o .number ≡ 0 → countsOf (x .count) (x .owners) (x .lost) (x .reused) ≡ countNumbers o
-  unfolding countNumbers
+  answer-counts : Refuses Numbered o → faultOf o .number ≡ 0 → countsOf (x .count) (x .owners) (x .lost) (x .reused) ≡ ofBuilt countsMade o
+  unfolding ofBuilt
   answer-counts late z = rw q (go o late z)
     where
       go : (o : Outcome Fault Built) → Refuses Numbered o → faultOf o .number ≡ 0
-          → countsOf (outcomeAnswer o .count) (outcomeAnswer o .owners) (outcomeAnswer o .lost) (outcomeAnswer o .reused) ≡ countNumbers o
+          → countsOf (outcomeAnswer o .count) (outcomeAnswer o .owners) (outcomeAnswer o .lost) (outcomeAnswer o .reused) ≡ ofBuilt countsMade o
       go (ok b) l e = refl
       go (refused f) l e = absurd (omega (arith, l .least))
 

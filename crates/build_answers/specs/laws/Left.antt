@@ -8,6 +8,8 @@ use lib.Ieee.{Float, nan, ofBits}
 use lib.ListN.{length, getD, take, drop, replicate, length-map, length-append, length-replicate, getD-replicate, List·getD-append, List·getD-map}
 use lib.Seq.{take-at, getD-append-seam}
 use borrow.Author.Tests.{eq-eqb}
+use lib.Dec.{eqb}
+use Rattle.laws.specs.Pick.{pick}
 use Rattle.numbers.specs.Numbers.{EMPTY}
 use Rattle.laws.specs.laws.And.{and-left, and-right}
 use Rattle.laws.specs.Binary64 as R
@@ -21,12 +23,12 @@ use Rattle.definition.specs.Fault.{Outcome, ok}
 use Rattle.definition.specs.Build.{finite, Built}
 use Rattle.definition.specs.Cell.{Entry, vertexAt}
 use Rattle.definition.specs.laws.VerticesFinite.{Each, FinitePoint}
-use Rattle.layout.specs.Outputs.{padded, vertexNumbers, indexNumbers, offsetNumbers, countsMade, countNumbers}
+use Rattle.layout.specs.Outputs.{padded, ofBuilt, countsMade}
 use Rattle.definition.specs.Cell.{unmarked}
 use Rattle.build_answers.specs.Promise.{BuildAnswer}
 use Rattle.check_mesh.specs.AtExit.{atExit}
 use Rattle.admission.specs.Slices.{Slices}
-use Rattle.cell_query.specs.Cells.{partAfter, startAfter, lengthAfter, CellAnswer, PlaceAnswer}
+use Rattle.cell_query.specs.Cells.{CellAnswer, PlaceAnswer}
 use Rattle.cell_query.specs.ReadBack.{read-back}
 
 module _ {N : ℕ → Type 0} {table : List ℕ} {o : Outcome Fault Built} {old new : Slices} (a : BuildAnswer N table o old new 0) where
@@ -36,19 +38,19 @@ module _ {N : ℕ → Type 0} {table : List ℕ} {o : Outcome Fault Built} {old 
 
   module _ (b : Built) (is : o ≡ ok b) where
     pub left-vertices : new .vertices ≡ padded (length (old .vertices)) R.zero (flat (b .verts))
-    unfolding atExit vertexNumbers
+    unfolding atExit ofBuilt
     left-vertices = rw is at (a .vertices)
 
     pub left-indexes : new .indexes ≡ padded (length (old .indexes)) EMPTY (joined (map unmarked (b .cells)))
-    unfolding atExit indexNumbers
+    unfolding atExit ofBuilt
     left-indexes = rw is at (a .indexes)
 
     pub left-offsets : new .offsets ≡ padded (length (old .offsets)) EMPTY (offsetsFrom 0 (map unmarked (b .cells)))
-    unfolding atExit offsetNumbers
+    unfolding atExit ofBuilt
     left-offsets = rw is at (a .offsets)
 
     pub left-counts : new .counts ≡ padded (length (old .counts)) EMPTY (countsMade b)
-    unfolding atExit countNumbers
+    unfolding atExit ofBuilt
     left-counts = rw is at (a .counts)
 
 -- ---- the vertices
@@ -88,9 +90,9 @@ module _ (marked : List (List Entry)) (n : ℕ) (many : length marked ≡ n) (ro
         (y .0, y .1 ∙ List·getD-map unmarked marked s [])
 
     pub read-place : {start long r : ℕ} → PlaceAnswer (take (suc n) offs) idx s start long r → (r ≡ 0) × (take long (drop start idx) ≡ unmarked (getD marked s []))
-    unfolding partAfter startAfter lengthAfter cellOf
+    unfolding cellOf
     read-place {start} {long} {r} x =
-        let y = read-part {part = partAfter (take (suc n) offs) idx s r} {r = r} (record { number = x .number; entries = refl }) in
+        let y = read-part {part = pick (eqb r 0) (λ _. cellOf (take (suc n) offs) idx s) (λ _. [])} {r = r} (record { number = x .number; entries = refl }) in
         (y .0, rw (x .from, x .many) (rw (eq-eqb r 0 (y .0)) (rw (eq-eqb r 0 (y .0)) at (y .1))))
 
 -- ---- the counts: the number of vertices, four owners, the lost corners, the points taken again, and what comes after them

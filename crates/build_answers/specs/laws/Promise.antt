@@ -15,7 +15,7 @@ use Rattle.check_mesh.specs.AtExit.{atExit}
 use Rattle.definition.specs.declared.Fault.{Fault}
 use Rattle.definition.specs.Fault.{Outcome}
 use Rattle.definition.specs.Build.{Built}
-use Rattle.layout.specs.Outputs.{padded, vertexNumbers, indexNumbers, offsetNumbers, countNumbers, faultOf}
+use Rattle.layout.specs.Outputs.{padded, faultOf}
 use Rattle.admission.specs.Admits.{askedRules, Admits}
 use Rattle.admission.specs.Slices.{Slices, slices}
 use Rattle.admission.specs.laws.Admits.{NoneZero, finds-asked, asked-finds, call-answers, admits-keep}
@@ -49,10 +49,10 @@ pub answer-one : {Number : ℕ → Type 0} {table : List ℕ} {o : Outcome Fault
 answer-one {table = table} {o} {old} {new} {other} {r} {s} one a b =
     let q : r ≡ s = one r s (a .number) (b .number) in
     let w : new .work ≡ other .work = slice-one EMPTY (padded (length (old .work)) EMPTY table) (old .work) q (a .work) (b .work) in
-    let v : new .vertices ≡ other .vertices = slice-one zero (padded (length (old .vertices)) zero (vertexNumbers o)) (old .vertices) q (a .vertices) (b .vertices) in
-    let x : new .indexes ≡ other .indexes = slice-one EMPTY (padded (length (old .indexes)) EMPTY (indexNumbers o)) (old .indexes) q (a .indexes) (b .indexes) in
-    let f : new .offsets ≡ other .offsets = slice-one EMPTY (padded (length (old .offsets)) EMPTY (offsetNumbers o)) (old .offsets) q (a .offsets) (b .offsets) in
-    let c : new .counts ≡ other .counts = slice-one EMPTY (padded (length (old .counts)) EMPTY (countNumbers o)) (old .counts) q (a .counts) (b .counts) in
+    let v : new .vertices ≡ other .vertices = slice-one zero _ (old .vertices) q (a .vertices) (b .vertices) in
+    let x : new .indexes ≡ other .indexes = slice-one EMPTY _ (old .indexes) q (a .indexes) (b .indexes) in
+    let f : new .offsets ≡ other .offsets = slice-one EMPTY _ (old .offsets) q (a .offsets) (b .offsets) in
+    let c : new .counts ≡ other .counts = slice-one EMPTY _ (old .counts) q (a .counts) (b .counts) in
     (q, λ i. slices (w i) (v i) (x i) (f i) (c i))
 
 pub answers-one : {m : Mesh} {own : List (Rule ℕ)} {o : Outcome Fault Built} {old new other : Slices} {r s : ℕ}

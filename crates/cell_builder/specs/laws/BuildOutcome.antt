@@ -18,17 +18,19 @@ use Rattle.mesh.specs.Accepted.{Mesh, mesh, siteCount}
 use Rattle.layout.specs.Regions.{joined}
 use Rattle.layout.specs.laws.Regions.{regions-rising}
 use Rattle.layout.specs.laws.Marks.{entries-joined}
+use Rattle.numbers.specs.Numbers.{refusedCircumcenter}
 use Rattle.definition.specs.declared.Fault.{Fault}
 use Rattle.definition.specs.declared.Reused.{Reused}
-use Rattle.definition.specs.Fault.{Outcome, ok, refused, andThen, badCenter}
-use Rattle.definition.specs.Build.{Built, centersFrom, ownersFrom, Extensions, extensions, extendFrom, CellState, clipAll, lostFrom, build}
+use Rattle.definition.specs.Fault.{Outcome, ok, refused, andThen}
+use Rattle.definition.specs.Build.{Built, centersFrom, ownersFrom, Extensions, extendFrom, CellState, clipAll, lostFrom, build}
 use Rattle.definition.specs.laws.Built.{owner-of, lost-entries}
 use Rattle.definition.specs.Measures.{lostLeft}
 use Rattle.definition.specs.laws.Owners.{owners-length, ready, towards-corner}
 use Rattle.rings.specs.Centers.{CentersBy}
 use Rattle.rings.specs.Ownership.{Owned}
-use Rattle.layout.specs.Outputs.{vertexNumbers, indexNumbers, offsetNumbers}
+use Rattle.layout.specs.Outputs.{ofBuilt}
 use Rattle.definition.specs.Cell.{unmarked}
+use Rattle.definition.specs.Short.{fault, extensions}
 use Rattle.layout.specs.laws.Padded.{poured-cleared}
 use Rattle.cell_finish.specs.declared.Progress.{Progress}
 use Rattle.cell_finish.specs.declared.CellsAnswer.{CellsAnswer}
@@ -116,11 +118,11 @@ module _ {sites : List Float} {tri he hull table : List ℕ} {b : BoundingBox} {
   centersThen centers = andThen (extendFrom sites tri hull (leftmostOf tri he n) T 0 (length hull) (extensions (centers ++ cornersOf b) [] [])) cellsThen
 
   module _ (t : ℕ) (v v₁ : List Float) (c : CentersBy (centersFrom sites tri 0 T []) T t v v₁) where
-    offends : t < T → build (mesh sites tri he hull) b ≡ refused (badCenter t)
+    offends : t < T → build (mesh sites tri he hull) b ≡ refused (fault refusedCircumcenter t 0 0)
     unfolding build andThen
     offends h = go (centersFrom sites tri 0 T []) c
       where
-        go : (o : Outcome Fault (List Point)) → CentersBy o T t v v₁ → andThen o centersThen ≡ refused (badCenter t)
+        go : (o : Outcome Fault (List Point)) → CentersBy o T t v v₁ → andThen o centersThen ≡ refused (fault refusedCircumcenter t 0 0)
         go (ok vs) k = absurd (omega (arith, k .0))
         go (refused f) k = ap refused (k .0)
 
@@ -173,13 +175,13 @@ module _ {sites : List Float} {tri he hull table : List ℕ} {b : BoundingBox} {
 
     emptied-with : (e : Fault) (v₂ : List Float) (ix₂ off₂ : List ℕ) → length v₂ ≡ length v → length ix₂ ≡ length ix → length off₂ ≡ length off
         → RefusedCells e v₂ ix₂ off₂ r v₃ ix₃ off₃ → With (refused e)
-    unfolding vertexNumbers indexNumbers offsetNumbers
+    unfolding ofBuilt
     emptied-with e v₂ ix₂ off₂ qv qi qo z = (z .answer, record { vertices = rw (← qv) (z .vertices); indexes = rw (← qi) (z .indexes); offsets = rw (← qo) (z .offsets) })
 
     -- a triangle offends
     pub refused-first : (t : ℕ) (v₁ : List Float) → CentersBy (centersFrom sites tri 0 T []) T t v v₁ → t < T → length v₁ ≡ length v
-        → RefusedCells (badCenter t) v₁ ix off r v₃ ix₃ off₃ → With (build (mesh sites tri he hull) b)
-    refused-first t v₁ c h qv z = rw (offends t v v₁ c h) (emptied-with (badCenter t) v₁ ix off qv refl refl z)
+        → RefusedCells (fault refusedCircumcenter t 0 0) v₁ ix off r v₃ ix₃ off₃ → With (build (mesh sites tri he hull) b)
+    refused-first t v₁ c h qv z = rw (offends t v v₁ c h) (emptied-with (fault refusedCircumcenter t 0 0) v₁ ix off qv refl refl z)
 
     module _ (t : ℕ) (v₁ : List Float) (c : CentersBy (centersFrom sites tri 0 T []) T t v v₁) (h : T ≤ t) (long : length v₁ ≡ length v)
         (owners : List ℕ) (qo : owners ≡ found) (w : BuiltCells (mesh sites tri he hull) table b owners v₁ ix off r v₃ ix₃ off₃) where
@@ -193,7 +195,7 @@ module _ {sites : List Float} {tri he hull table : List ℕ} {b : BoundingBox} {
           (emptied-with (p .fault) (w .made-v) (w .made-ix) (w .made-off) (w .long-v ∙ long) (w .long-ix) (w .long-off) (w .settled .on-refusal q))
 
       built-with : p .fault .number ≡ 0 → With (build (mesh sites tri he hull) b)
-      unfolding vertexNumbers indexNumbers offsetNumbers
+      unfolding ofBuilt
       built-with q =
           let z = w .settled .on-success q in
           let m₂ = all-built owners qo p v₁ (w .made-v) (w .made-ix) (w .made-off) (w .makes) q in

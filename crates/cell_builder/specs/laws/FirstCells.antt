@@ -21,9 +21,10 @@ use Rattle.mesh.specs.laws.Facts.{topology, entry-site, start-used, tab-length,
 use Rattle.layout.specs.Regions.{Regions}
 use Rattle.layout.specs.Rooms.{Roomy, Started}
 use Rattle.layout.specs.laws.Rooms.{start-end}
+use Rattle.numbers.specs.Numbers.{refusedExtension}
 use Rattle.definition.specs.declared.Fault.{Fault}
-use Rattle.definition.specs.Fault.{Outcome, ok, refused, fault, notFinite}
-use Rattle.definition.specs.Build.{Extensions, extensions, extendFrom, CellState, cellState, clipAll}
+use Rattle.definition.specs.Fault.{Outcome, ok, refused}
+use Rattle.definition.specs.Build.{Extensions, extendFrom, CellState, clipAll}
 use Rattle.definition.specs.Reused.{reused}
 use Rattle.definition.specs.laws.Gives.{gives-ok}
 use Rattle.definition.specs.laws.Sides.{corners-sided, corners-kept}
@@ -35,6 +36,7 @@ use Rattle.rings.specs.Extensions.{ExtendsInto, ExtendedBy}
 use Rattle.rings.specs.declared.extensions.Passed.{Passed}
 use Rattle.layout.specs.Outputs.{LaidOut}
 use Rattle.definition.specs.Cell.{unmarked}
+use Rattle.definition.specs.Short.{fault, extensions, cellState}
 use Rattle.layout.specs.laws.Marks.{none-unmarked}
 use Rattle.cell_tries.specs.declared.Frame.{Frame}
 use Rattle.cell_finish.specs.declared.Progress.{Progress}
@@ -69,7 +71,7 @@ module _ (h : ℕ) (f : Frame) (found : List ℕ) (v₁ : List Float) (ix ix₁ 
   passed-all (refused g) e l = absurd (omega (arith, e .1))
 
   stopped-at : (o : Outcome Fault Extensions) → ExtendedBy o h (f .centers) (f .limit) (f .limit - h) v₁ ix₁ r v₂ ix₂ → r .place < h
-      → BegunBy h f found o ix (record { fault = notFinite (r .place); count = r .count; owners = found; reused = reused (r .reused) 0 0 }) v₂ ix₂
+      → BegunBy h f found o ix (record { fault = fault refusedExtension (r .place) 0 0; count = r .count; owners = found; reused = reused (r .reused) 0 0 }) v₂ ix₂
   stopped-at (ok x) e l = absurd (omega (arith, e .0))
   stopped-at (refused g) e l = (sym (e .0), rw (e .0) (omega arith))
 
@@ -100,7 +102,7 @@ module _ {sites : List Float} {tri hull table : List ℕ} {f : Frame} {v : List 
         (extendedOf sites tri hull table (f .bounds) (f .centers) v) from-corners
 
     pub extended-not : r .place < length hull → BegunBy (length hull) f found (extendedOf sites tri hull table (f .bounds) (f .centers) v) ix
-        (record { fault = notFinite (r .place); count = r .count; owners = found; reused = reused (r .reused) 0 0 }) v₂ ix₂
+        (record { fault = fault refusedExtension (r .place) 0 0; count = r .count; owners = found; reused = reused (r .reused) 0 0 }) v₂ ix₂
     extended-not = stopped-at (length hull) f found v₁ ix ix₁ r v₂ ix₂ (g .after-numbers) (omega (arith, g .room-ix)) (l .body)
         (extendedOf sites tri hull table (f .bounds) (f .centers) v) from-corners
 

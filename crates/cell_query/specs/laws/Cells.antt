@@ -13,7 +13,7 @@ use Rattle.admission.specs.laws.Asks.{site-below}
 use Rattle.laws.specs.Refusals.{Finds}
 use Rattle.laws.specs.laws.Refusals.{breaks, keeps, nothing, finds-one, finds-first, finds-keep}
 use borrow.Author.Needs.{needs}
-use Rattle.cell_query.specs.Cells.{CellNumber, partAfter, startAfter, lengthAfter, CellAnswer, PlaceAnswer}
+use Rattle.cell_query.specs.Cells.{CellNumber, CellAnswer, PlaceAnswer}
 
 -- there is one number
 pub cell-number : (off ix : List ℕ) (s : ℕ) {a b : ℕ} → CellNumber off ix s a → CellNumber off ix s b → a ≡ b
@@ -47,11 +47,9 @@ has-cell s x z =
 
 module _ (off ix : List ℕ) (s r : ℕ) (a : CellNumber off ix s r) where
   pub part-refused : r ≢ 0 → CellAnswer off ix s [] r
-  unfolding partAfter
   part-refused n = record { number = a; entries = rw (ne-eqb r 0 n) }
 
   pub place-refused : r ≢ 0 → PlaceAnswer off ix s 0 0 r
-  unfolding startAfter lengthAfter
   place-refused n = record { number = a; from = rw (ne-eqb r 0 n); many = rw (ne-eqb r 0 n) }
 
   -- t is the site as an index
@@ -66,9 +64,7 @@ module _ (off ix : List ℕ) (s r : ℕ) (a : CellNumber off ix s r) where
     in-order = has .cells .rising t (part-asks .1)
 
     pub part-given : (p : List ℕ) → p ≡ cellOf off ix t → CellAnswer off ix s p r
-    unfolding partAfter
     part-given p e = record { number = a; entries = e ∙ rw (q, eq-eqb r 0 z) }
 
     pub place-given : PlaceAnswer off ix s (getD off t 0) (getD off (t + 1) 0 - getD off t 0) 0
-    unfolding startAfter lengthAfter
     place-given = record { number = rw z at a; from = rw q; many = rw q }

@@ -23,7 +23,7 @@ use Rattle.definition.specs.declared.Fault.{Fault}
 use Rattle.definition.specs.Fault.{Outcome, ok, refused, andThen}
 use Rattle.definition.specs.Cell as Def
 use Rattle.definition.specs.Cell.{Entry, RingPart}
-use Rattle.definition.specs.Build.{CellState, cellState, clipInto}
+use Rattle.definition.specs.Build.{CellState, clipInto}
 use Rattle.definition.specs.laws.Gives.{Gives}
 use Rattle.definition.specs.Measures.{ValidEntries}
 use Rattle.definition.specs.declared.Reused.{Reused}
@@ -37,6 +37,7 @@ use Rattle.definition.specs.Measures.{shareOf}
 use Rattle.staging.specs.Staging.{Staged}
 use Rattle.clipping.specs.RingWalk.{Steps, ringOf, emptyAt}
 use Rattle.definition.specs.Cell.{unmarked}
+use Rattle.definition.specs.Short.{cellState}
 use Rattle.layout.specs.laws.Marks.{cell-set}
 use Rattle.cell_tries.specs.CellsInSlices.{plan, Ground, Grounded, Amid, Does}
 use Rattle.clipping.specs.laws.RingWalk.{steps-small}

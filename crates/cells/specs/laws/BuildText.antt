@@ -19,7 +19,7 @@ use Rattle.definition.specs.declared.Fault.{Fault}
 use Rattle.definition.specs.Fault.{Outcome, ok}
 use Rattle.definition.specs.laws.Gives.{Gives, gives-ok}
 use Rattle.definition.specs.Build.{Built, build}
-use Rattle.layout.specs.Outputs.{indexNumbers, offsetNumbers, countsMade, countNumbers}
+use Rattle.layout.specs.Outputs.{ofBuilt, countsMade}
 use Rattle.definition.specs.Cell.{unmarked, StepKind, extension, firstCrossing, secondCrossing}
 use Rattle.definition.specs.Reused.{reusedOf}
 use Rattle.build_answers.specs.Promise.{Builds, BuildAnswer, BuildAnswers, ClippedBuild}
@@ -58,18 +58,18 @@ module _ {Rules : ℕ → Type 0} {table : List ℕ} {o : Outcome Fault Built} {
   rest = replicate (length (old .indexes) - length (joined cells)) EMPTY
 
   offsets-are : new .offsets ≡ offsetsFrom 0 cells ++ more
-  unfolding atExit offsetNumbers
+  unfolding atExit ofBuilt
   offsets-are = rw (z, e) at (a .offsets)
 
   indexes-are : new .indexes ≡ joined cells ++ rest
-  unfolding atExit indexNumbers
+  unfolding atExit ofBuilt
   indexes-are = rw (z, e) at (a .indexes)
 
   abbrev olds : StepKind → ℕ
   olds k = reusedOf k (b .steps)
 
   counts-are : new .counts ≡ countsMade b ++ replicate (length (old .counts) - length (countsMade b)) EMPTY
-  unfolding atExit countNumbers
+  unfolding atExit ofBuilt
   counts-are = rw (z, e) at (a .counts)
 
   cells-are : length cells ≡ n

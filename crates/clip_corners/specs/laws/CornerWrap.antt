@@ -11,12 +11,13 @@ use lib.Seq.{sets}
 use borrow.Author.Tests.{eq-eqb, ne-eqb}
 use Rattle.laws.specs.Count.{occ}
 use Rattle.numbers.specs.Numbers.{EMPTY}
-use Rattle.definition.specs.Cell.{Entry, entry, wrapped, crossing, Ins, ins, before, lastOr, goes, wraps, withCorners, led, vertexAt, insertAt, insertEdge}
+use Rattle.definition.specs.Cell.{Entry, entry, wrapped, crossing, Ins, lastOr, goes, wraps, withCorners, led, vertexAt, insertEdge}
 use Rattle.utils.specs.declared.Point.{Point}
 use Rattle.bounding_box.specs.Box.{whichOf}
 use Rattle.bounding_box.specs.declared.BoundingBox.{BoundingBox}
 use Rattle.clip_corners.specs.CellEntries.{EntriesPut, places}
 use Rattle.definition.specs.Cell.{unmarked}
+use Rattle.definition.specs.Short.{ins, before}
 use Rattle.clip_corners.specs.declared.CellSoFar.{CellSoFar}
 use Rattle.clip_corners.specs.laws.CellEntries.{puts-then}
 
@@ -150,5 +151,5 @@ module _ (nc site f s first second : ℕ) (a b : CellSoFar) (l l₁ : List ℕ) 
 
 module _ (b : BoundingBox) (nc site : ℕ) (vs : List Point) (os : List ℕ) (last first second f s : ℕ) (e : f ≡ whichOf b (vertexAt vs first)) (g : s ≡ whichOf b (vertexAt vs second)) where
   pub insert-on : insertEdge b nc site vs os last first second ≡ led (eqb last first) first (withCorners nc site f s second os)
-  unfolding insertEdge insertAt
+  unfolding insertEdge
   insert-on = rw (← e, ← g)

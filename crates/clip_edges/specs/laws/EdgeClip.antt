@@ -18,7 +18,8 @@ use Rattle.vertices.specs.Add.{Added, addVertex}
 use Rattle.vertices.specs.Store.{Leaves, PlacedAs}
 use Rattle.vertices.specs.declared.Placed.{Placed}
 use Rattle.vertices.specs.laws.Store.{poured-points, poured-then, added-kept}
-use Rattle.definition.specs.Cell.{firstIs, onEdge, missed, clipWith, clipEdge, edgeCrossing, vertexAt, tookOne, tookTwo}
+use Rattle.definition.specs.Cell.{firstIs, onEdge, missed, clipWith, clipEdge, edgeCrossing, vertexAt}
+use Rattle.definition.specs.Short.{tookOne, tookTwo}
 use Rattle.definition.specs.Reused.{ifOld, reused, CountsReused}
 use Rattle.clip_edges.specs.EdgeClip.{ClipsEdge, VerticesGrown}
 use Rattle.clip_edges.specs.declared.Crossed.the-variants.{Once, Twice}

@@ -15,11 +15,12 @@ use Rattle.utils.specs.Flat.{points}
 use Rattle.bounding_box.specs.Box.{insideOf}
 use Rattle.bounding_box.specs.declared.BoundingBox.{BoundingBox}
 use Rattle.vertices.specs.laws.Store.{poured-points, kept-vertex}
-use Rattle.definition.specs.Fault.{Outcome, ok, refused, andThen, fault, atEdge}
+use Rattle.definition.specs.Fault.{Outcome, ok, refused, andThen, atEdge}
 use Rattle.definition.specs.declared.Fault.{Fault}
 use Rattle.definition.specs.Cell as Def
-use Rattle.definition.specs.Cell.{entry, plain, EdgeClip, missed, once, twice, Change, change, clipStep, clipEdge}
-use Rattle.definition.specs.Cell.{leave, enter, crossAt, cross, inBox, vertexAt, moved, stepTo}
+use Rattle.definition.specs.Cell.{entry, plain, EdgeClip, missed, once, twice, Change, clipStep, clipEdge}
+use Rattle.definition.specs.Cell.{leave, enter, crossAt, cross, inBox, vertexAt, stepTo}
+use Rattle.definition.specs.Short.{fault, change, moved}
 use Rattle.definition.specs.Sides.{Sided}
 use Rattle.definition.specs.laws.Gives.{Gives}
 use Rattle.definition.specs.laws.SidedEdge.{EndsOnSide, Shut}

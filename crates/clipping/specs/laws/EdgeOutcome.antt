@@ -19,13 +19,14 @@ use Rattle.vertices.specs.Store.{Holds, Leaves}
 use Rattle.vertices.specs.laws.Store.{poured-points, poured-none, kept-vertex}
 use Rattle.vertices.specs.laws.Points.{length-points}
 use Rattle.definition.specs.Fault.{Outcome, ok, refused}
-use Rattle.definition.specs.Cell.{Entry, Taken, Ins, lastOr, insertEdge, Change, change, EdgeClip, missed, once, twice, clipEdge, link, tookOne, tookTwo}
+use Rattle.definition.specs.Cell.{Entry, Taken, Ins, lastOr, insertEdge, Change, EdgeClip, missed, once, twice, clipEdge}
 use Rattle.definition.specs.declared.Reused.{Reused}
 use Rattle.definition.specs.Reused.{reused, CountsReused}
 use Rattle.definition.specs.Sides.{Sided, SidedCorners}
 use Rattle.definition.specs.laws.SidedEdge.{ClipSided, clip-sided}
 use Rattle.clip_corners.specs.CellEntries.{EntryRoom, EntriesPut, places}
 use Rattle.definition.specs.Cell.{unmarked}
+use Rattle.definition.specs.Short.{link, change, tookOne, tookTwo}
 use Rattle.clip_edges.specs.EdgeClip.{ClipsEdge, VerticesGrown}
 use Rattle.clipping.specs.EdgeOutcome.{EdgeRoom, Alters, Did, Changes}
 use Rattle.clip_edges.specs.declared.Env.{Env}
@@ -258,7 +259,6 @@ module _ (b : BoundingBox) (nc site : ℕ) (vs : List Point) (cell : CellSoFar) 
       → opened ≡ true
       → EntriesPut site (places (eqb (cell .last) (cell .last))) (insertEdge b nc site vs (cell .owners) (cell .last) (cell .last) first) cell ix led ix₁
       → EntriesPut site 1 (link b nc site vs (cell .owners) opened (cell .last) first) cell ix led ix₁
-  unfolding link
   link-opened opened led ix₁ e h = rw e (rw (eq-eqb (cell .last) (cell .last) refl) at h)
 
   pub link-closed :
@@ -266,5 +266,4 @@ module _ (b : BoundingBox) (nc site : ℕ) (vs : List Point) (cell : CellSoFar) 
       → opened ≡ false
       → length (cell .owners) ≡ 4
       → EntriesPut site 1 (link b nc site vs (cell .owners) opened (cell .last) first) cell ix cell ix
-  unfolding link
   link-closed opened e f = rw e (puts-more 1 (omega arith) (puts-none site cell ix f))

@@ -16,11 +16,13 @@ use Rattle.utils.specs.declared.Point.{Point}
 use Rattle.utils.specs.Flat.{points}
 use Rattle.bounding_box.specs.declared.BoundingBox.{BoundingBox}
 use Rattle.vertices.specs.laws.Store.{poured-then, poured-none}
-use Rattle.definition.specs.Fault.{Outcome, ok, refused, andThen, fault}
+use Rattle.definition.specs.Fault.{Outcome, ok, refused, andThen}
 use Rattle.definition.specs.declared.Fault.{Fault}
 use Rattle.definition.specs.Cell as Def
-use Rattle.definition.specs.Cell.{Entry, Ins, ins, RingPart, part, partsJoined, inBox, firstInside, stepTo, stepsTo, turned, clipFrom, clipCell}
+use Rattle.definition.specs.Short
+use Rattle.definition.specs.Cell.{Entry, Ins, RingPart, inBox, firstInside, stepTo, stepsTo, turned, clipFrom, clipCell}
 use Rattle.definition.specs.Cell.{unmarked}
+use Rattle.definition.specs.Short.{fault, ins, part, partsJoined}
 use Rattle.definition.specs.declared.Reused.{Reused}
 use Rattle.definition.specs.Reused.{reused, together, Addable, CountsReused}
 use Rattle.definition.specs.laws.Reused.{counts-none, counts-then, counts-small}
@@ -336,10 +338,10 @@ module _ (b : BoundingBox) (nc : ℕ) (vs : List Point) (ring : List ℕ) (k : �
 -- ---- where the walk starts
 
 module _ (b : BoundingBox) (nc site : ℕ) (ring : List ℕ) (vs : List Point) (os : List ℕ) (f : ℕ) (e : f ≡ firstInside b nc vs ring) where
-  pub cell-inside : f < length ring → clipCell b nc site ring vs os ≡ stepsTo b nc site (turned f ring) (Def.tip vs os EMPTY (getD ring f 0) true false)
+  pub cell-inside : f < length ring → clipCell b nc site ring vs os ≡ stepsTo b nc site (turned f ring) (Short.tip vs os EMPTY (getD ring f 0) true false)
   unfolding clipCell clipFrom
   cell-inside h = rw (← e, lt-ltb f (length ring) h)
 
-  pub cell-outside : length ring ≤ f → clipCell b nc site ring vs os ≡ stepsTo b nc site (turned 0 ring) (Def.tip vs os EMPTY (getD ring 0 0) false false)
+  pub cell-outside : length ring ≤ f → clipCell b nc site ring vs os ≡ stepsTo b nc site (turned 0 ring) (Short.tip vs os EMPTY (getD ring 0 0) false false)
   unfolding clipCell clipFrom
   cell-outside h = rw (← e, le-ltb f (length ring) h)

@@ -22,7 +22,8 @@ use Rattle.mesh.specs.laws.Degree.{walk-degree}
 use Rattle.mesh.specs.laws.Occurs.{occ-there}
 use Rattle.definition.specs.Fault.{ok, andThen}
 use Rattle.definition.specs.Cell.{plain, Entry, entry, Taken}
-use Rattle.definition.specs.Build.{ringFrom, hullRing, Extensions, CellState, cellState, clipInto, clipHull, isEmpty, clipRest, clipAll, wrappedIn, allWrapped}
+use Rattle.definition.specs.Build.{ringFrom, hullRing, Extensions, CellState, clipInto, clipHull, isEmpty, clipRest, clipAll, wrappedIn, allWrapped}
+use Rattle.definition.specs.Short.{cellState}
 use Rattle.definition.specs.laws.Gives.{Gives, gives-map, gives-then, picked}
 use Rattle.definition.specs.Measures.{weigh, shareOf}
 use Rattle.definition.specs.laws.Grown.{grown-none}

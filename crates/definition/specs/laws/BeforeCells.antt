@@ -21,10 +21,12 @@ use Rattle.mesh.specs.Mesh.{leftmostOf}
 use Rattle.mesh.specs.Accepted.{mesh, Accepted, siteCount}
 use Rattle.mesh.specs.Hull.{nextSite}
 use Rattle.mesh.specs.laws.Facts.{topology, end-site, tab-some}
+use Rattle.numbers.specs.Numbers.{refusedCircumcenter, refusedExtension}
 use Rattle.definition.specs.declared.Fault.{Fault}
-use Rattle.definition.specs.Fault.{Outcome, ok, refused, andThen, badCenter, notFinite}
+use Rattle.definition.specs.Fault.{Outcome, ok, refused, andThen}
 use Rattle.definition.specs.Cell.{vertexAt, took, extension}
-use Rattle.definition.specs.Build.{centerAt, centersFrom, finite, extended, Extensions, extensions, extendFrom}
+use Rattle.definition.specs.Build.{centerAt, centersFrom, finite, extended, Extensions, extendFrom}
+use Rattle.definition.specs.Short.{fault, extensions}
 use Rattle.definition.specs.Tries.{centerRule, centersTo, extensionAt, extensionRule, ExtendedTo}
 use Rattle.definition.specs.laws.Runs.{true-false, ok-same, refused-same, not-both, then-ok, loop, run, loop-run, run-refused, refused-run, run-keeps}
 use Rattle.definition.specs.laws.Grown.{Grown, grown-then, add-vertex}
@@ -62,14 +64,14 @@ module _ (sites : List Float) (tri : List ℕ) where
   Kept t = okCenter (centerAt sites tri t) ≡ true
 
   abbrev centerStep : ℕ → List Point → Outcome Fault (List Point)
-  centerStep t vs = pick (okCenter (centerAt sites tri t)) (λ _. ok (vs ++ centerAt sites tri t ∷ [])) (λ _. refused (badCenter t))
+  centerStep t vs = pick (okCenter (centerAt sites tri t)) (λ _. ok (vs ++ centerAt sites tri t ∷ [])) (λ _. refused (fault refusedCircumcenter t 0 0))
 
   centers-loop : (k t : ℕ) (vs : List Point) → centersFrom sites tri t k vs ≡ loop centerStep t k vs
   unfolding centersFrom loop
   centers-loop zero t vs = refl
   centers-loop (suc k) t vs =
       let ws = vs ++ centerAt sites tri t ∷ [] in
-      pick-then (okCenter (centerAt sites tri t)) ws (badCenter t) (loop centerStep (suc t) k) (centersFrom sites tri (suc t) k) (centers-loop k (suc t) ws)
+      pick-then (okCenter (centerAt sites tri t)) ws (fault refusedCircumcenter t 0 0) (loop centerStep (suc t) k) (centersFrom sites tri (suc t) k) (centers-loop k (suc t) ws)
 
   centers-run : (k : ℕ) → centersFrom sites tri 0 k [] ≡ run centerStep k []
   centers-run k = centers-loop k 0 [] ∙ loop-run centerStep k []
@@ -160,13 +162,13 @@ module _ {sites : List Float} {tri he hull : List ℕ} (a : Accepted (mesh sites
   finiteIn vs i = finite (extended sites tri vs (edgeTo i) .x) && finite (extended sites tri vs (edgeTo i) .y)
 
   abbrev extendStep : ℕ → Extensions → Outcome Fault Extensions
-  extendStep i x = pick (finiteIn (x .verts) i) (λ _. ok (added i x)) (λ _. refused (notFinite i))
+  extendStep i x = pick (finiteIn (x .verts) i) (λ _. ok (added i x)) (λ _. refused (fault refusedExtension i 0 0))
 
   extend-loop : (k i : ℕ) (x : Extensions) → extendFrom sites tri hull (leftmostOf tri he (siteCount sites)) (length tri / 3) i k x ≡ loop extendStep i k x
   unfolding extendFrom loop
   extend-loop zero i x = refl
   extend-loop (suc k) i x =
-      pick-then (finiteIn (x .verts) i) (added i x) (notFinite i) (loop extendStep (suc i) k)
+      pick-then (finiteIn (x .verts) i) (added i x) (fault refusedExtension i 0 0) (loop extendStep (suc i) k)
       (extendFrom sites tri hull (leftmostOf tri he (siteCount sites)) (length tri / 3) (suc i) k) (extend-loop k (suc i) (added i x))
 
   abbrev begin : Extensions

@@ -10,7 +10,8 @@ use Rattle.bounding_box.specs.declared.BoundingBox.{BoundingBox}
 use Rattle.mesh.specs.Accepted.{Mesh, tableOf, Accepted, siteCount}
 use Rattle.definition.specs.declared.Fault.{Fault}
 use Rattle.definition.specs.Fault.{Outcome, ok, refused, andThen}
-use Rattle.definition.specs.Build.{centersFrom, ownersFrom, Extensions, extensions, extendFrom, CellState, clipHull, clipRest, clipAll, lostFrom, Built, build}
+use Rattle.definition.specs.Build.{centersFrom, ownersFrom, Extensions, extendFrom, CellState, clipHull, clipRest, clipAll, lostFrom, Built, build}
+use Rattle.definition.specs.Short.{extensions}
 use Rattle.definition.specs.Tries.{centerRule, centersTo, extensionRule, noCells, HullTo, RestTo, AllExtended}
 use Rattle.definition.specs.laws.Runs.{ok-same, not-both, then-ok, then-refused, Went, went, Halted, haltedFirst, haltedLater, halted}
 use Rattle.definition.specs.laws.BeforeCells.{centers-ok, kept-centers, centers-refused, broken-centers, extend-refused, broken-extend}

@@ -20,7 +20,8 @@ use Rattle.mesh.specs.Accepted.{mesh, Accepted, siteCount}
 use Rattle.mesh.specs.laws.Facts.{topology}
 use Rattle.paths.specs.Path.{lastOf}
 use Rattle.definition.specs.Cell.{Mark, plain, crossing, wrapped, Entry, Taken, inBox}
-use Rattle.definition.specs.Build.{centersFrom, ownersFrom, Extensions, extensions, extendFrom, CellState, clipAll, ifWrapped, wrappedIn, allEntries, lostFrom, Built, build}
+use Rattle.definition.specs.Build.{centersFrom, ownersFrom, Extensions, extendFrom, CellState, clipAll, ifWrapped, wrappedIn, allEntries, lostFrom, Built, build}
+use Rattle.definition.specs.Short.{extensions}
 use Rattle.definition.specs.laws.Gives.{Gives, gives-then}
 use Rattle.definition.specs.Measures.{ValidEntry, ValidEntries, newPoints, shareOf, Room, lostLeft}
 use Rattle.definition.specs.laws.Puts.{all-turned}

@@ -11,8 +11,9 @@ use Rattle.mesh.specs.Mesh.{endOf, leftmostOf}
 use Rattle.mesh.specs.Accepted.{Mesh, tableOf, siteCount}
 use Rattle.definition.specs.Fault.{ok}
 use Rattle.definition.specs.Cell.{clipCell}
-use Rattle.definition.specs.Build.{lostFrom, centersFrom, Extensions, extensions, extendFrom, CellState, cellState, clipInto, clipHull}
+use Rattle.definition.specs.Build.{lostFrom, centersFrom, Extensions, extendFrom, CellState, clipInto, clipHull}
 use Rattle.definition.specs.Build.{clipRest, clipAll, hullRing, ringFrom, isEmpty, ownersFrom, Built, build}
+use Rattle.definition.specs.Short.{extensions, cellState}
 use Rattle.definition.specs.laws.Gives.{Gives, gives-next, gives-then, picked}
 use Rattle.definition.specs.laws.Owners.{owners-length}
 

@@ -14,7 +14,8 @@ use Rattle.numbers.specs.Numbers.{EMPTY}
 use Rattle.utils.specs.declared.Point.{Point}
 use Rattle.bounding_box.specs.declared.BoundingBox.{BoundingBox}
 use Rattle.definition.specs.Cell.{Entry, Taken, inBox, RingPart, clipCell}
-use Rattle.definition.specs.Build.{wrappedIn, allWrapped, CellState, cellState, clipInto}
+use Rattle.definition.specs.Build.{wrappedIn, allWrapped, CellState, clipInto}
+use Rattle.definition.specs.Short.{cellState}
 use Rattle.definition.specs.laws.Gives.{Gives, gives-then}
 use Rattle.definition.specs.Measures.{ValidEntries, newPoints, weigh}
 use Rattle.definition.specs.laws.Puts.{all-more, all-turned}

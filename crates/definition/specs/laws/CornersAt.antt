@@ -14,7 +14,8 @@ use Rattle.mesh.specs.Mesh.{leftmostOf}
 use Rattle.mesh.specs.Accepted.{mesh, Accepted, siteCount}
 use Rattle.mesh.specs.laws.Facts.{topology}
 use Rattle.definition.specs.Cell.{vertexAt}
-use Rattle.definition.specs.Build.{centersFrom, ownersFrom, extensions, extendFrom, clipAll, Built, build}
+use Rattle.definition.specs.Build.{centersFrom, ownersFrom, extendFrom, clipAll, Built, build}
+use Rattle.definition.specs.Short.{extensions}
 use Rattle.definition.specs.laws.Gives.{Gives, gives-then}
 use Rattle.definition.specs.laws.CellsSoFar.{CellsSoFar}
 use Rattle.definition.specs.laws.Owners.{owners-length}

@@ -13,8 +13,9 @@ use Rattle.numbers.specs.Numbers.{EMPTY}
 use Rattle.utils.specs.declared.Point.{Point}
 use Rattle.bounding_box.specs.Box.{whichOf}
 use Rattle.bounding_box.specs.declared.BoundingBox.{BoundingBox}
-use Rattle.definition.specs.Cell.{lastOr, Taken, Ins, withCorners, led, insertAt, insertEdge, vertexAt, EdgeClip, missed, once, twice, Change, tookOne, tookTwo, leave, enterAt}
-use Rattle.definition.specs.Cell.{enter, link, crossAt, cross, clipStep}
+use Rattle.definition.specs.Cell.{lastOr, Taken, Ins, withCorners, led, insertEdge, vertexAt, EdgeClip, missed, once, twice, Change, leave, enterAt}
+use Rattle.definition.specs.Cell.{enter, crossAt, cross, clipStep}
+use Rattle.definition.specs.Short.{insertAt, link, tookOne, tookTwo}
 use Rattle.definition.specs.laws.Gives.{Gives}
 use Rattle.definition.specs.laws.Puts.{Puts, puts-none, puts-then, puts-plain, puts-crossing, puts-corners}
 use Rattle.definition.specs.laws.Grown.{Grown, grown-none, grown-then, ClippedTo, clip-edge}
@@ -39,7 +40,6 @@ module _ (P : ℕ → Type 0) (b : BoundingBox) (nc site : ℕ) (real : site ≢
 
     insert-sides : (last first second f s : ℕ) → nc ≤ second → second < length vs → (eqb last first ≡ false → (nc ≤ first) × (first < length vs))
         → Insert (pick (eqb last first) (λ _. 1) (λ _. 2)) (insertAt nc site last first second os f s)
-    unfolding insertAt
     insert-sides last first second f s lo hi lead = by (eqb last first) lead (puts-corners P nc site real (length vs) f s second os four lo hi)
       where
         by : (t : Bool) → (t ≡ false → (nc ≤ first) × (first < length vs)) → Insert 1 (withCorners nc site f s second os)
@@ -105,7 +105,6 @@ module _ (P : ℕ → Type 0) (b : BoundingBox) (nc site : ℕ) (real : site ≢
 
   link-edge : (vs : List Point) (os : List ℕ) (opened : Bool) (last first : ℕ) → length os ≡ 4 → nc ≤ first → first < length vs
       → (k : ℕ) × (k ≤ 1) × Puts P nc site (length vs) k os (link b nc site vs os opened last first .new) (link b nc site vs os opened last first .owners)
-  unfolding link
   link-edge vs os true last first four lo hi = (1, omega arith, insert-on vs os four last first lo hi)
   link-edge vs os false last first four lo hi = (0, omega arith, puts-none P nc site (length vs) os)
 

@@ -16,8 +16,9 @@ use Rattle.definition.specs.declared.Fault.{Fault}
 use Rattle.definition.specs.Fault.{Outcome, ok, refused, andThen, atEdge}
 use Rattle.definition.specs.Cell.{EdgeClip, missed, once, twice, Tip, leave, enter}
 use Rattle.definition.specs.Cell.{cross, clipStep, stepTo, stepsTo, clipFrom, firstInside, clipCell}
-use Rattle.definition.specs.Build.{CellState, Extensions, centerAt, centersFrom, extended, extendFrom, finite, hullRing, ringFrom, cellState}
+use Rattle.definition.specs.Build.{CellState, Extensions, centerAt, centersFrom, extended, extendFrom, finite, hullRing, ringFrom}
 use Rattle.definition.specs.Build.{clipInto, clipHull, isEmpty, clipRest, clipAll}
+use Rattle.definition.specs.Short.{cellState}
 use Rattle.definition.specs.Late.{Refuses, Late, Numbered}
 
 pub late-then : {F A B : Type 0} (P : F → Type 0) (o : Outcome F A) (k : A → Outcome F B) → Refuses P o → ((a : A) → Refuses P (k a)) → Refuses P (andThen o k)

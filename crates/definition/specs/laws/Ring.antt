@@ -13,7 +13,8 @@ use Rattle.numbers.specs.Numbers.{EMPTY}
 use Rattle.utils.specs.declared.Point.{Point}
 use Rattle.bounding_box.specs.declared.BoundingBox.{BoundingBox}
 use Rattle.definition.specs.Fault.{atEdge}
-use Rattle.definition.specs.Cell.{Entry, lastOr, Taken, Change, clipStep, inBox, Tip, tip, RingPart, partsJoined, stepTo, stepsTo, firstInside, turned, clipFrom, clipCell}
+use Rattle.definition.specs.Cell.{Entry, lastOr, Taken, Change, clipStep, inBox, Tip, RingPart, stepTo, stepsTo, firstInside, turned, clipFrom, clipCell}
+use Rattle.definition.specs.Short.{tip, partsJoined}
 use Rattle.definition.specs.laws.Gives.{Gives, gives-both, gives-given, gives-map, gives-then, gives-at, picked}
 use Rattle.definition.specs.Measures.{ValidEntries, newPoints}
 use Rattle.definition.specs.laws.Puts.{Puts, puts-none, puts-more, puts-then, placed-below}

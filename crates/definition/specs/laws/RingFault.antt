@@ -12,8 +12,9 @@ use Rattle.numbers.specs.Numbers.{EMPTY}
 use Rattle.utils.specs.declared.Point.{Point}
 use Rattle.bounding_box.specs.declared.BoundingBox.{BoundingBox}
 use Rattle.definition.specs.declared.Fault.{Fault}
-use Rattle.definition.specs.Fault.{Outcome, ok, refused, andThen, atEdge, fault}
-use Rattle.definition.specs.Cell.{Change, clipStep, inBox, Tip, tip, RingPart, part, partsJoined, moved, stepTo, stepsTo, firstInside, turned, clipFrom, clipCell}
+use Rattle.definition.specs.Fault.{Outcome, ok, refused, andThen, atEdge}
+use Rattle.definition.specs.Cell.{Change, clipStep, inBox, Tip, RingPart, stepTo, stepsTo, firstInside, turned, clipFrom, clipCell}
+use Rattle.definition.specs.Short.{fault, tip, part, partsJoined, moved}
 use Rattle.definition.specs.Met.{beginsInside, beginsAt, walked, firstTip, EdgeMet}
 use Rattle.definition.specs.laws.Gives.{Gives, gives-ok, gives-then, gives-at}
 use Rattle.definition.specs.laws.Grown.{Grown}

@@ -15,7 +15,8 @@ use Rattle.mesh.specs.Mesh.{endOf}
 use Rattle.mesh.specs.Accepted.{Mesh, tableOf, Accepted, siteCount}
 use Rattle.mesh.specs.laws.Facts.{topology, end-site}
 use Rattle.definition.specs.Fault.{ok}
-use Rattle.definition.specs.Build.{extensions, Extensions, ringFrom, hullRing, CellState, clipInto, clipHull, isEmpty, clipRest}
+use Rattle.definition.specs.Build.{Extensions, ringFrom, hullRing, CellState, clipInto, clipHull, isEmpty, clipRest}
+use Rattle.definition.specs.Short.{extensions}
 use Rattle.definition.specs.Sides.{SidedCorners}
 use Rattle.definition.specs.Tries.{centersTo, noCells, AllExtended, TryOf, atPlace, atHalfedge}
 use Rattle.definition.specs.laws.Gives.{gives-ok}

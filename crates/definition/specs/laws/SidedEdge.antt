@@ -19,8 +19,9 @@ use Rattle.line_crossings.specs.declared.Crossing.the-variants.{None, One, Two}
 use Rattle.crossings.specs.OnBox.{ray-own}
 use Rattle.crossings.specs.Ray.{rayOf, orderOf}
 use Rattle.vertices.specs.Add.{Added, addVertex}
-use Rattle.definition.specs.Cell.{crossing, Entry, entry, lastOr, Ins, goes, wraps, withCorners, led, insertAt, vertexAt, insertEdge, firstIs, onEdge, edgeCrossing}
-use Rattle.definition.specs.Cell.{EdgeClip, missed, once, twice, clipWith, clipEdge, Change, leave, enterAt, enter, link, crossAt, cross, clipStep}
+use Rattle.definition.specs.Cell.{crossing, Entry, entry, lastOr, Ins, goes, wraps, withCorners, led, vertexAt, insertEdge, firstIs, onEdge, edgeCrossing}
+use Rattle.definition.specs.Cell.{EdgeClip, missed, once, twice, clipWith, clipEdge, Change, leave, enterAt, enter, crossAt, cross, clipStep}
+use Rattle.definition.specs.Short.{link}
 use Rattle.definition.specs.Sides.{Sided, SidedCorners}
 use Rattle.definition.specs.laws.Gives.{Gives, picked}
 use Rattle.definition.specs.laws.Grown.{AddedTo, add-vertex, ClippedTo, clip-edge}
@@ -59,7 +60,7 @@ module _ (b : BoundingBox) (nc site : ℕ) where
   -- an edge along the box, from wherever it comes to a vertex on a side
   pub insert-ends : (vs : List Point) (os : List ℕ) (last first second : ℕ) → SidedCorners b nc vs → Sided b vs second
       → Sided b vs (lastOr last (insertEdge b nc site vs os last first second .new))
-  unfolding insertEdge insertAt
+  unfolding insertEdge
   insert-ends vs os last first second k s = by (eqb last first)
     where
       by : (t : Bool) → Sided b vs (lastOr last (led t first (withCorners nc site (whichOf b (vertexAt vs first)) (whichOf b (vertexAt vs second)) second os) .new))

@@ -14,7 +14,8 @@ use Rattle.utils.specs.Rules.{okCenter}
 use Rattle.mesh.specs.Hull.{nextSite}
 use Rattle.vertices.specs.Add.{addVertex}
 use Rattle.definition.specs.Cell.{took, extension}
-use Rattle.definition.specs.Build.{centerAt, centersFrom, finite, extended, Extensions, extensions, extendFrom}
+use Rattle.definition.specs.Build.{centerAt, centersFrom, finite, extended, Extensions, extendFrom}
+use Rattle.definition.specs.Short.{extensions}
 use Rattle.definition.specs.laws.Gives.{Gives, gives-map, picked}
 use Rattle.definition.specs.Measures.{countIf, newPoints}
 use Rattle.definition.specs.laws.Grown.{count-le, new-append, Grown, grown-none, grown-then, add-vertex}

@@ -21,8 +21,9 @@ use Rattle.mesh.specs.Hull.{nextSite}
 use Rattle.definition.specs.declared.Fault.{Fault}
 use Rattle.definition.specs.Fault.{Outcome, ok, refused, andThen, atEdge}
 use Rattle.definition.specs.Cell.{StepKind, extension, firstCrossing, secondCrossing, Taken, took, vertexAt, edgeCrossing, EdgeClip, missed, once, twice, clipWith, clipEdge}
-use Rattle.definition.specs.Cell.{Change, leave, enterAt, enter, crossAt, cross, clipStep, inBox, Tip, tip, RingPart, partsJoined, stepTo, stepsTo, firstInside, turned, clipFrom, clipCell}
-use Rattle.definition.specs.Build.{finite, extended, Extensions, extensions, extendFrom, ringFrom, hullRing, CellState, clipInto, clipHull, isEmpty, clipRest}
+use Rattle.definition.specs.Cell.{Change, leave, enterAt, enter, crossAt, cross, clipStep, inBox, Tip, RingPart, stepTo, stepsTo, firstInside, turned, clipFrom, clipCell}
+use Rattle.definition.specs.Build.{finite, extended, Extensions, extendFrom, ringFrom, hullRing, CellState, clipInto, clipHull, isEmpty, clipRest}
+use Rattle.definition.specs.Short.{tip, partsJoined, extensions}
 use Rattle.definition.specs.Measures.{countIf, newPoints}
 use Rattle.definition.specs.Points.{kindsOf, stepsOf, afterwards, edgePoints, walkPoints, ringPoints, hullPoints, restPoints}
 use Rattle.definition.specs.Reused.{isKind, ifOld, reusedOf}

@@ -12,7 +12,8 @@ use Rattle.mesh.specs.Accepted.{Mesh, tableOf, Accepted}
 use Rattle.definition.specs.declared.Fault.{Fault}
 use Rattle.definition.specs.Fault.{Outcome, ok, refused}
 use Rattle.definition.specs.Cell.{RingPart, clipCell}
-use Rattle.definition.specs.Build.{Extensions, ringFrom, hullRing, CellState, cellState, clipInto, clipHull, isEmpty, clipRest}
+use Rattle.definition.specs.Build.{Extensions, ringFrom, hullRing, CellState, clipInto, clipHull, isEmpty, clipRest}
+use Rattle.definition.specs.Short.{cellState}
 use Rattle.definition.specs.Tries.{noCells, AllExtended, TryOf, atPlace, atHalfedge}
 use Rattle.definition.specs.laws.AllCells.{is-empty}
 use Rattle.definition.specs.laws.BeforeCells.{centers-length, extend-grown}

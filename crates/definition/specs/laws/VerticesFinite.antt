@@ -31,8 +31,9 @@ use Rattle.definition.specs.Fault.{ok, atEdge}
 use Rattle.definition.specs.Cell.{EdgeClip, missed, once, twice, Change, Tip, RingPart, firstIs, onEdge, edgeCrossing, clipWith}
 use Rattle.definition.specs.Cell.{clipEdge, vertexAt, leave, enterAt, enter, crossAt, cross, clipStep}
 use Rattle.definition.specs.Cell.{stepTo, stepsTo, inBox, firstInside, clipFrom, clipCell}
-use Rattle.definition.specs.Build.{centerAt, centersFrom, finite, extended, Extensions, extensions, extendFrom, CellState, cellState}
+use Rattle.definition.specs.Build.{centerAt, centersFrom, finite, extended, Extensions, extendFrom, CellState}
 use Rattle.definition.specs.Build.{clipInto, clipHull, clipRest, clipAll, hullRing, ringFrom, isEmpty, Built, build}
+use Rattle.definition.specs.Short.{extensions, cellState}
 use Rattle.definition.specs.laws.Gives.{Gives, gives-then, gives-at, picked}
 
 module _ (P : Point → Type 0) where

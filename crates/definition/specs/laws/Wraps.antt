@@ -11,7 +11,8 @@ use Rattle.laws.specs.Count.{same, occ}
 use Rattle.laws.specs.laws.Count.{occ-length}
 use Rattle.numbers.specs.Numbers.{EMPTY}
 use Rattle.mesh.specs.laws.Occurs.{occ-there}
-use Rattle.definition.specs.Cell.{wrapped, entry, ins, before, goes, wraps}
+use Rattle.definition.specs.Cell.{wrapped, entry, goes, wraps}
+use Rattle.definition.specs.Short.{ins, before}
 use Rattle.definition.specs.laws.Puts.{occ-set, same-self, same-other, goes-own}
 
 module _ (nc site : ℕ) (real : site ≢ EMPTY) where

@@ -28,7 +28,7 @@ use Rattle.definition.specs.declared.Fault.{Fault}
 use Rattle.definition.specs.Fault.{Outcome, ok}
 use Rattle.definition.specs.laws.Gives.{Gives, gives-ok}
 use Rattle.definition.specs.Build.{Built, build}
-use Rattle.layout.specs.Outputs.{vertexNumbers, indexNumbers, offsetNumbers}
+use Rattle.layout.specs.Outputs.{ofBuilt}
 use Rattle.definition.specs.Cell.{unmarked}
 use Rattle.build_answers.specs.Promise.{Builds, BuildAnswer, BuildAnswers, ClippedBuild}
 use Rattle.check_mesh.specs.AtExit.{atExit}
@@ -60,15 +60,15 @@ module _ {Rules : ℕ → Type 0} {table : List ℕ} {o : Outcome Fault Built} {
   rest = replicate (length (old .indexes) - length (joined cells)) EMPTY
 
   offsets-are : new .offsets ≡ offsetsFrom 0 cells ++ more
-  unfolding atExit offsetNumbers
+  unfolding atExit ofBuilt
   offsets-are = rw (z, e) at (a .offsets)
 
   indexes-are : new .indexes ≡ joined cells ++ rest
-  unfolding atExit indexNumbers
+  unfolding atExit ofBuilt
   indexes-are = rw (z, e) at (a .indexes)
 
   vertices-are : new .vertices ≡ flat (b .verts) ++ replicate (length (old .vertices) - length (flat (b .verts))) zero
-  unfolding atExit vertexNumbers
+  unfolding atExit ofBuilt
   vertices-are = rw (z, e) at (a .vertices)
 
   cells-are : length cells ≡ n

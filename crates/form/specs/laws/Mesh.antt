@@ -12,7 +12,7 @@ use borrow.Author.Tests.{lt-ltb}
 use Rattle.laws.specs.laws.Stores.{sets-join}
 use Rattle.octets.specs.Bytes.{each, All}
 use Rattle.form.specs.Form.{FormMesh, Site, Triangle, MeshFits, MayBegin, SiteFits, TriangleFits, HullFits, outlineBytes, siteBytes, triangleBytes}
-use Rattle.form.specs.Form.{hullBytes, formOf, numbersOf, outlineFloats, siteFloats, triangleSites, trianglePairs, kindOf}
+use Rattle.form.specs.Form.{hullBytes, formOf, outlineFloats, siteFloats, triangleSites, trianglePairs, kindOf}
 use Rattle.form_step.specs.Reader.{opens, roomLeft, start, begun, Reading, reading, takes, verdict}
 use Rattle.form.specs.laws.Run.{AtRecord, Goes, Opening, ready-up, takes-append, kind-follows, kind-run, site-run, triangle-run, hull-run, opening}
 use Rattle.form_step.specs.declared.Reader.{Reader}
@@ -77,15 +77,15 @@ module _
     Runs l =
         (r : Reader) (bs ss : List Float) (ts es hs : List ℕ)
         → All P l → AtRecord r k → r .sites + i * length l ≤ 96 → r .triangles + j * length l ≤ 192 → r .hull + h * length l ≤ 96
-        → Goes r k (i * length l) (j * length l) (h * length l) bs ss ts es hs bs (sets ss (2 * r .sites) (numbersOf fs l))
-        (sets ts (3 * r .triangles) (numbersOf ft l)) (sets es (3 * r .triangles) (numbersOf fe l)) (sets hs (r .hull) (numbersOf fh l)) (each f l)
+        → Goes r k (i * length l) (j * length l) (h * length l) bs ss ts es hs bs (sets ss (2 * r .sites) (each fs l))
+        (sets ts (3 * r .triangles) (each ft l)) (sets es (3 * r .triangles) (each fe l)) (sets hs (r .hull) (each fh l)) (each f l)
 
     more :
         (x : A) (l : List A) → Runs l → (r : Reader) (bs ss : List Float) (ts es hs : List ℕ)
         → All P l → r .sites + i * suc (length l) ≤ 96 → r .triangles + j * suc (length l) ≤ 192 → r .hull + h * suc (length l) ≤ 96
         → Goes r k i j h bs ss ts es hs bs (sets ss (2 * r .sites) (fs x)) (sets ts (3 * r .triangles) (ft x)) (sets es (3 * r .triangles) (fe x)) (sets hs (r .hull) (fh x)) (f x)
-        → Goes r k (i * suc (length l)) (j * suc (length l)) (h * suc (length l)) bs ss ts es hs bs (sets ss (2 * r .sites) (numbersOf fs (x ∷ l)))
-        (sets ts (3 * r .triangles) (numbersOf ft (x ∷ l))) (sets es (3 * r .triangles) (numbersOf fe (x ∷ l))) (sets hs (r .hull) (numbersOf fh (x ∷ l))) (each f (x ∷ l))
+        → Goes r k (i * suc (length l)) (j * suc (length l)) (h * suc (length l)) bs ss ts es hs bs (sets ss (2 * r .sites) (each fs (x ∷ l)))
+        (sets ts (3 * r .triangles) (each ft (x ∷ l))) (sets es (3 * r .triangles) (each fe (x ∷ l))) (sets hs (r .hull) (each fh (x ∷ l))) (each f (x ∷ l))
     more x l runs r bs ss ts es hs p a b c g =
         let i' : i * suc (length l) ≡ i * length l + i = mul-suc i (length l) in
         let j' : j * suc (length l) ≡ j * length l + j = mul-suc j (length l) in
@@ -95,10 +95,10 @@ module _
         (omega arith)
         (omega arith)
         (omega arith)
-        (sets-join (fs x) (numbersOf fs l) ss (2 * r .sites) (2 * g .to .sites) (omega (arith, ls x, g .ran .sites)))
-        (sets-join (ft x) (numbersOf ft l) ts (3 * r .triangles) (3 * g .to .triangles) (omega (arith, lt x, g .ran .triangles)))
-        (sets-join (fe x) (numbersOf fe l) es (3 * r .triangles) (3 * g .to .triangles) (omega (arith, le x, g .ran .triangles)))
-        (sets-join (fh x) (numbersOf fh l) hs (r .hull) (g .to .hull) (omega (arith, lh x, g .ran .hull)))
+        (sets-join (fs x) (each fs l) ss (2 * r .sites) (2 * g .to .sites) (omega (arith, ls x, g .ran .sites)))
+        (sets-join (ft x) (each ft l) ts (3 * r .triangles) (3 * g .to .triangles) (omega (arith, lt x, g .ran .triangles)))
+        (sets-join (fe x) (each fe l) es (3 * r .triangles) (3 * g .to .triangles) (omega (arith, le x, g .ran .triangles)))
+        (sets-join (fh x) (each fh l) hs (r .hull) (g .to .hull) (omega (arith, lh x, g .ran .hull)))
 
     all-run : (l : List A) → Runs l
     unfolding takes
@@ -117,22 +117,22 @@ module _
 abbrev none : {A B : Type 0} → A → List B
 none a = []
 
-no-numbers : {A B : Type 0} (l : List A) → numbersOf {B = B} none l ≡ []
+no-numbers : {A B : Type 0} (l : List A) → each {B = B} none l ≡ []
 no-numbers [] = refl
 no-numbers (a ∷ l) = no-numbers l
 
 -- a list into which nothing is stored
-same : {A B : Type 0} (l : List A) (z : List B) (i : ℕ) → sets z i (numbersOf none l) ≡ z
+same : {A B : Type 0} (l : List A) (z : List B) (i : ℕ) → sets z i (each none l) ≡ z
 same l z i = ap (sets z i) (no-numbers l)
 
-numbers-each : (l : List ℕ) → numbersOf (λ v. v ∷ []) l ≡ l
+numbers-each : (l : List ℕ) → each (λ v. v ∷ []) l ≡ l
 numbers-each [] = refl
 numbers-each (v ∷ l) = ap (λ (t : List ℕ). v ∷ t) (numbers-each l)
 
 module _ (r : Reader) (bs ss : List Float) (ts es hs : List ℕ) where
   pub sites-run :
       (l : List Site) → All SiteFits l → AtRecord r 2 → r .sites + length l ≤ 96 → r .triangles ≤ 192 → r .hull ≤ 96
-      → Goes r 2 (length l) 0 0 bs ss ts es hs bs (sets ss (2 * r .sites) (numbersOf siteFloats l)) ts es hs (each siteBytes l)
+      → Goes r 2 (length l) 0 0 bs ss ts es hs bs (sets ss (2 * r .sites) (each siteFloats l)) ts es hs (each siteBytes l)
   sites-run l f q a b c =
       goes-as
       (all-run siteBytes SiteFits 2 1 0 0 siteFloats none none none (λ _. refl) (λ _. refl) (λ _. refl) (λ _. refl)
@@ -142,7 +142,7 @@ module _ (r : Reader) (bs ss : List Float) (ts es hs : List ℕ) where
 
   pub triangles-run :
       (l : List Triangle) → All TriangleFits l → AtRecord r 3 → r .sites ≤ 96 → r .triangles + length l ≤ 192 → r .hull ≤ 96
-      → Goes r 3 0 (length l) 0 bs ss ts es hs bs ss (sets ts (3 * r .triangles) (numbersOf triangleSites l)) (sets es (3 * r .triangles) (numbersOf trianglePairs l)) hs (each triangleBytes l)
+      → Goes r 3 0 (length l) 0 bs ss ts es hs bs ss (sets ts (3 * r .triangles) (each triangleSites l)) (sets es (3 * r .triangles) (each trianglePairs l)) hs (each triangleBytes l)
   triangles-run l f q a b c =
       goes-as
       (all-run triangleBytes TriangleFits 3 0 1 0 none triangleSites trianglePairs none (λ _. refl) (λ _. refl) (λ _. refl) (λ _. refl)
@@ -166,9 +166,9 @@ module _ (r : Reader) (bs ss : List Float) (ts es hs : List ℕ) where
 pub record WholeRead (m : FormMesh) (bs ss : List Float) (ts es hs : List ℕ) (d : Reading) : Type 0 where
   pub answer : verdict (d .reader) ≡ Sound (length (m .sites)) (length (m .triangles)) (length (m .hull)) (kindOf (m .clip))
   pub bounds : d .bounds ≡ sets bs 0 (outlineFloats (m .clip))
-  pub sites : d .sites ≡ sets ss 0 (numbersOf siteFloats (m .sites))
-  pub triangles : d .triangles ≡ sets ts 0 (numbersOf triangleSites (m .triangles))
-  pub halfedges : d .halfedges ≡ sets es 0 (numbersOf trianglePairs (m .triangles))
+  pub sites : d .sites ≡ sets ss 0 (each siteFloats (m .sites))
+  pub triangles : d .triangles ≡ sets ts 0 (each triangleSites (m .triangles))
+  pub halfedges : d .halfedges ≡ sets es 0 (each trianglePairs (m .triangles))
   pub hull : d .hull ≡ sets hs 0 (m .hull)
 
 ended : (r : Reader) (a b c k : ℕ) → r .sites ≡ a → r .triangles ≡ b → r .hull ≡ c → r .clip ≡ k → verdict (begun r 5) ≡ Sound a b c k
@@ -180,9 +180,9 @@ closed :
     (old : Bool) (m : FormMesh) (bs ss : List Float) (ts es hs : List ℕ) (ss' : List Float) (ts' es' hs' : List ℕ) (s : List ℕ)
     (o : Opening old (m .clip) bs ss ts es hs)
     → Goes (o .to) 4 (length (m .sites)) (length (m .triangles)) (length (m .hull)) (sets bs 0 (outlineFloats (m .clip))) ss ts es hs (sets bs 0 (outlineFloats (m .clip))) ss' ts' es' hs' s
-    → ss' ≡ sets ss 0 (numbersOf siteFloats (m .sites))
-    → ts' ≡ sets ts 0 (numbersOf triangleSites (m .triangles))
-    → es' ≡ sets es 0 (numbersOf trianglePairs (m .triangles))
+    → ss' ≡ sets ss 0 (each siteFloats (m .sites))
+    → ts' ≡ sets ts 0 (each triangleSites (m .triangles))
+    → es' ≡ sets es 0 (each trianglePairs (m .triangles))
     → hs' ≡ sets hs 0 (m .hull)
     → WholeRead m bs ss ts es hs (takes (reading (start old) bs ss ts es hs) (outlineBytes (m .clip) ++ s ++ 5 ∷ []))
 unfolding roomLeft takes
@@ -210,20 +210,20 @@ closed old m bs ss ts es hs ss' ts' es' hs' s o g es₁ et ee eh =
 
 module _ (m : FormMesh) (fit : MeshFits m) (bs ss : List Float) (ts es hs : List ℕ) where
   sites-part : (r : Reader) → AtRecord r 1 → r .sites ≡ 0 → r .triangles ≡ 0 → r .hull ≡ 0
-      → Goes r 2 (length (m .sites)) 0 0 bs ss ts es hs bs (sets ss 0 (numbersOf siteFloats (m .sites))) ts es hs (each siteBytes (m .sites))
+      → Goes r 2 (length (m .sites)) 0 0 bs ss ts es hs bs (sets ss 0 (each siteFloats (m .sites))) ts es hs (each siteBytes (m .sites))
   sites-part r q zs zt zh =
       let z : 2 * r .sites ≡ 0 = omega arith in
       goes-as (sites-run r bs ss ts es hs (m .sites) (fit .sites) (ready-up 2 (omega arith) q) (omega (arith, fit .few-sites)) (omega arith) (omega arith))
-      refl refl refl (ap (λ (i : ℕ). sets ss i (numbersOf siteFloats (m .sites))) z) refl refl refl
+      refl refl refl (ap (λ (i : ℕ). sets ss i (each siteFloats (m .sites))) z) refl refl refl
 
   triangles-part :
       (r : Reader) → AtRecord r 2 → r .sites ≤ 96 → r .triangles ≡ 0 → r .hull ≡ 0
-      → Goes r 3 0 (length (m .triangles)) 0 bs ss ts es hs bs ss (sets ts 0 (numbersOf triangleSites (m .triangles)))
-      (sets es 0 (numbersOf trianglePairs (m .triangles))) hs (each triangleBytes (m .triangles))
+      → Goes r 3 0 (length (m .triangles)) 0 bs ss ts es hs bs ss (sets ts 0 (each triangleSites (m .triangles)))
+      (sets es 0 (each trianglePairs (m .triangles))) hs (each triangleBytes (m .triangles))
   triangles-part r q ls zt zh =
       let z : 3 * r .triangles ≡ 0 = omega arith in
       goes-as (triangles-run r bs ss ts es hs (m .triangles) (fit .triangles) (ready-up 3 (omega arith) q) ls (omega (arith, fit .few-triangles)) (omega arith))
-      refl refl refl refl (ap (λ (i : ℕ). sets ts i (numbersOf triangleSites (m .triangles))) z) (ap (λ (i : ℕ). sets es i (numbersOf trianglePairs (m .triangles))) z) refl
+      refl refl refl refl (ap (λ (i : ℕ). sets ts i (each triangleSites (m .triangles))) z) (ap (λ (i : ℕ). sets es i (each trianglePairs (m .triangles))) z) refl
 
   hull-part : (r : Reader) → AtRecord r 3 → r .sites ≤ 96 → r .triangles ≤ 192 → r .hull ≡ 0
       → Goes r 4 0 0 (length (m .hull)) bs ss ts es hs bs ss ts es (sets hs 0 (m .hull)) (each hullBytes (m .hull))
@@ -235,7 +235,7 @@ module _ (m : FormMesh) (fit : MeshFits m) (bs ss : List Float) (ts es hs : List
   middle :
       (r : Reader) → AtRecord r 1 → r .sites ≡ 0 → r .triangles ≡ 0 → r .hull ≡ 0
       → Goes r 4 (length (m .sites)) (length (m .triangles)) (length (m .hull)) bs ss ts es hs bs
-      (sets ss 0 (numbersOf siteFloats (m .sites))) (sets ts 0 (numbersOf triangleSites (m .triangles))) (sets es 0 (numbersOf trianglePairs (m .triangles))) (sets hs 0 (m .hull))
+      (sets ss 0 (each siteFloats (m .sites))) (sets ts 0 (each triangleSites (m .triangles))) (sets es 0 (each trianglePairs (m .triangles))) (sets hs 0 (m .hull))
       (each siteBytes (m .sites) ++ each triangleBytes (m .triangles) ++ each hullBytes (m .hull))
   middle r q zs zt zh =
       let g = sites-part m fit bs ss ts es hs r q zs zt zh in

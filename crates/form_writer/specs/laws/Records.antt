@@ -9,7 +9,7 @@ use lib.ListN.{length, getD, take, drop, take-append-drop}
 use lib.Seq.{take-suc, take-length, drop-length}
 use Rattle.octets.specs.Bytes.{each, All}
 use Rattle.octets.specs.laws.Bytes.{each-append}
-use Rattle.form.specs.Form.{Triangle, triangleBytes, TriangleFits, numbersOf}
+use Rattle.form.specs.Form.{Triangle, triangleBytes, TriangleFits}
 use Rattle.form_writer.specs.Written.{links, triangleAt, trianglesFrom, triangleRecords}
 
 -- ---- the bytes of each
@@ -74,7 +74,7 @@ module _ (tri he : List ℕ) where
 
   -- n triangles from triangle i on have the numbers of a list from there on
   pub numbers-from : (f : Triangle → List ℕ) (l : List ℕ) → ((k : ℕ) → f (triangleAt tri he k) ≡ getD l (3 * k) 0 ∷ getD l (3 * k + 1) 0 ∷ getD l (3 * k + 2) 0 ∷ [])
-      → (n i : ℕ) → 3 * (i + n) ≡ length l → numbersOf f (trianglesFrom tri he i n) ≡ drop (3 * i) l
+      → (n i : ℕ) → 3 * (i + n) ≡ length l → each f (trianglesFrom tri he i n) ≡ drop (3 * i) l
   unfolding trianglesFrom
   numbers-from f l q zero i h = let e : 3 * i ≡ length l = omega arith in sym (ap (λ (k : ℕ). drop k l) e ∙ drop-length l)
   numbers-from f l q (suc n) i h =

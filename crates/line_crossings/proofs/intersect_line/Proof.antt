@@ -8,8 +8,8 @@ returns c =
     let i = c .before in
     let u = i .before .before in
     let m = u .before .before in
-    line-calls _ _ _ (m .before .before .right-hit .ensures) (m .before .left-hit .ensures) (m .magnitude .ensures) (u .before .magnitude2 .ensures) (u .upright-hit .ensures)
-    (i .before .top-hit .ensures) (i .bottom-hit .ensures) (c .settle .ensures)
+    line-calls _ _ _ (m .before .before .side-hit .ensures) (m .before .side-hit2 .ensures) (m .magnitude .ensures) (u .before .magnitude2 .ensures) (u .upright-hit .ensures)
+    (i .before .level-hit .ensures) (i .level-hit2 .ensures) (c .settle .ensures)
 
 pub intersect-line-spec : {M : Type 1} → statement M
 intersect-line-spec = tie.close (tie.spec (λ c κs. tt) (λ c κs. tt) (λ c κs. tt) (λ c κs. tt) (λ c κs. tt) (λ c κs. tt) (λ c κs. tt) (λ c κs. tt) returns)

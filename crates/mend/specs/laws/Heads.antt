@@ -12,7 +12,7 @@ use Rattle.laws.specs.Pick.{pick}
 use Rattle.octets.specs.Bytes.{each}
 use Rattle.form_step.specs.declared.Form.the-variants.{Sound}
 use Rattle.form.specs.Form.{Outline, box, unclipped, edges, FormMesh, MayBegin, formOf, outlineBytes, siteBytes, triangleBytes, hullBytes, kindOf}
-use Rattle.form.specs.Form.{numbersOf, siteFloats}
+use Rattle.form.specs.Form.{siteFloats}
 use Rattle.form.specs.laws.Lists.{each-length}
 use Rattle.form_writer.specs.Written.{lists, writtenForm}
 use Rattle.form_writer.specs.FormOf.{writes-form}
@@ -158,7 +158,7 @@ module _ (option : List ℕ) (i : IsOption option) (m : FormMesh) where
 
   -- the text by lists is the text by the mesh
   pub text-same : MayBegin (gives o) (m .clip) → (form : Bool)
-      → listsText form (putBytes option (kindOf (m .clip))) (keptBytes (formOf m) (kindOf (m .clip)) (length (m .sites))) (numbersOf siteFloats (m .sites))
+      → listsText form (putBytes option (kindOf (m .clip))) (keptBytes (formOf m) (kindOf (m .clip)) (length (m .sites))) (each siteFloats (m .sites))
       (triOf o m) (heOf o m) (m .hull) ≡ textOf o m form
   text-same b true =
       written-same _ _ (outlineBytes (firstAfter o (m .clip))) (each siteBytes (m .sites)) (triOf o m) (pairsOf (triOf o m)) (newHull (triOf o m) (m .hull) (count o m))

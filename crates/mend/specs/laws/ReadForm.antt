@@ -7,13 +7,13 @@ use mathlib.Core.Logic.{⊎-elim}
 use Prim.Native.Nat.{ℕ}
 use lib.Ieee.{Float}
 use lib.ListN.{length}
-use Rattle.octets.specs.Bytes.{Bytes}
+use Rattle.octets.specs.Bytes.{Bytes, each}
 use Rattle.listing.specs.Listing.{refusal}
 use Rattle.form_step.specs.Reader.{start, reading}
 use Rattle.form_step.specs.Holds.{ListRoom, Reads}
 use Rattle.form_step.specs.declared.Form.{Form}
 use Rattle.form_step.specs.declared.Form.the-variants.{Sound}
-use Rattle.form.specs.Form.{Outline, FormMesh, MeshFits, MayBegin, formOf, kindOf, numbersOf, siteFloats}
+use Rattle.form.specs.Form.{Outline, FormMesh, MeshFits, MayBegin, formOf, kindOf, siteFloats}
 use Rattle.form.specs.Place.{Place, NumberAt}
 use Rattle.form.specs.Promise.{ReadSound, Refused, exact}
 use Rattle.form.specs.laws.Lists.{Put, sites-are, tri-is, he-is, hull-is}
@@ -32,11 +32,11 @@ module _ (option : List ℕ) (i : IsOption option) (m : FormMesh) (b : MayBegin 
 
   abbrev ByLists : Bool → List ℕ → Type 0
   ByLists form =
-      OfLists form (putBytes option (kindOf (m .clip))) (keptBytes (formOf m) (kindOf (m .clip)) (length (m .sites))) (numbersOf siteFloats (m .sites))
+      OfLists form (putBytes option (kindOf (m .clip))) (keptBytes (formOf m) (kindOf (m .clip)) (length (m .sites))) (each siteFloats (m .sites))
       (printed.triOf o m) (printed.heOf o m) (m .hull)
 
   abbrev NumberBy : ℕ → Outline → Type 0
-  NumberBy r p = MendNumber p (numbersOf siteFloats (m .sites)) (printed.triOf o m) (printed.heOf o m) (m .hull) r
+  NumberBy r p = MendNumber p (each siteFloats (m .sites)) (printed.triOf o m) (printed.heOf o m) (m .hull) r
 
   to-mesh : (form : Bool) {text : List ℕ} → ByLists form text → PrintsMesh o m form text
   to-mesh form (steps.refused {r} p q) = printed.refused (subst (NumberBy r) (put-is option (m .clip)) p) q

@@ -6,7 +6,7 @@ use Rattle.plane_calls.proofs.box_center.Tie as tie
 returns : tie.Need-returns
 returns c =
     let d = c .before .before .before .before .before in
-    centered (d .before .value-if .ensures) (d .value-if2 .ensures)
+    centered _ (d .before .value-if .ensures) (d .value-if2 .ensures)
     (c .before .before .before .before .width .ensures) (c .before .before .before .value-if3 .ensures)
     (c .before .before .height .ensures) (c .before .value-if4 .ensures) (c .number .ensures)
 

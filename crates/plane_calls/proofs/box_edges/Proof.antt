@@ -6,7 +6,7 @@ use Rattle.plane_calls.proofs.box_edges.Tie as tie
 returns : tie.Need-returns
 returns c =
     let d = c .before .before .before .before .before in
-    edges
+    edges _
     (d .before .before .before .value-if .ensures) (d .before .before .value-if2 .ensures) (d .before .value-if3 .ensures) (d .value-if4 .ensures)
     (c .before .before .before .before .width .ensures) (c .before .before .before .value-if5 .ensures)
     (c .before .before .height .ensures) (c .before .value-if6 .ensures) (c .number .ensures)

@@ -1,5 +1,5 @@
 -- Each answer by the tests that lead to it.
-use Rattle.plane_calls.specs.Plane.{numberBy}
+use Rattle.plane_calls.specs.Tested.{numberBy}
 use Rattle.plane_calls.proofs.number.Statement.{statement}
 use Rattle.plane_calls.proofs.number.Tie as tie
 

@@ -1,5 +1,5 @@
 -- Each answer by the tests that lead to it.
-use Rattle.plane_calls.specs.Plane.{valueIf}
+use Rattle.plane_calls.specs.Tested.{valueIf}
 use Rattle.plane_calls.proofs.value_if.Statement.{statement}
 use Rattle.plane_calls.proofs.value_if.Tie as tie
 

@@ -6,7 +6,7 @@ use Rattle.plane_calls.proofs.which_edge.Tie as tie
 returns : tie.Need-returns
 returns c =
     let b = c .before .before in
-    side (b .before .before .site-ok .ensures) (c .number .ensures) (b .which-edge .ensures) (c .before .side-if .ensures)
+    side _ _ (b .before .before .site-ok .ensures) (c .number .ensures) (b .which-edge .ensures) (c .before .side-if .ensures)
 
 pub which-edge-spec : {M : Type 1} → statement M
 which-edge-spec = tie.close (tie.spec (λ c κs. tt) (λ c κs. tt) (λ c κs. tt) (λ c κs. tt) returns)

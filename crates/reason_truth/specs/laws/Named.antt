@@ -5,15 +5,15 @@ use native.Mathlib.Omega.{arith}
 use borrow.Author.Tests.{ne-eqb}
 use Rattle.numbers.specs.Numbers.{refusedCircumcenter, refusedExtension, refusedNoCrossing}
 use Rattle.definition.specs.declared.Fault.{Fault}
-use Rattle.definition.specs.Fault.{badCenter, notFinite}
+use Rattle.definition.specs.Short.{fault}
 use Rattle.reasons.specs.declared.Reason.the-variants.{AtTriangle, AtHullPlace, AtEdge}
 use Rattle.reasons.specs.Reason.{ofFault}
 
-pub center-named : (t : ℕ) → ofFault (badCenter t) ≡ AtTriangle refusedCircumcenter t
+pub center-named : (t : ℕ) → ofFault (fault refusedCircumcenter t 0 0) ≡ AtTriangle refusedCircumcenter t
 unfolding ofFault
 center-named t = refl
 
-pub extension-named : (i : ℕ) → ofFault (notFinite i) ≡ AtHullPlace refusedExtension i
+pub extension-named : (i : ℕ) → ofFault (fault refusedExtension i 0 0) ≡ AtHullPlace refusedExtension i
 unfolding ofFault
 extension-named i = refl
 

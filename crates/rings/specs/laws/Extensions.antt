@@ -20,7 +20,8 @@ use Rattle.mesh.specs.Mesh.{startOf, endOf}
 use Rattle.mesh.specs.Hull.{nextPlace, nextSite}
 use Rattle.mesh.specs.laws.Border.{after-lt}
 use Rattle.definition.specs.Cell.{vertexAt, Taken, took, extension}
-use Rattle.definition.specs.Build.{finite, extended, extensions, extendFrom}
+use Rattle.definition.specs.Build.{finite, extended, extendFrom}
+use Rattle.definition.specs.Short.{extensions}
 use Rattle.definition.specs.declared.Reused.{Reused}
 use Rattle.definition.specs.Reused.{ifOld, reused, reusedIn, together}
 use Rattle.definition.specs.laws.Reused.{reused-join}

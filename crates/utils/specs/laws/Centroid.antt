@@ -13,14 +13,15 @@ use Rattle.laws.specs.Binary64.{_⊞_}
 use Rattle.numbers.specs.Numbers.{refusedCount, refusedCoordinate}
 use Rattle.utils.specs.Plane.{at}
 use Rattle.utils.specs.Flat.{pointAt}
-use Rattle.utils.specs.Centroid.{plus, pointSum, meanOf, okCount, centroidAnswer}
+use Rattle.utils.specs.Centroid.{pointSum, meanOf, okCount, centroidAnswer}
 use Rattle.utils.specs.Sites.{okSites}
+use Rattle.utils.specs.declared.Point.{Point}
 use Rattle.utils.specs.declared.Center.the-variants.{Refused, At}
 
 -- one point more, at the code's i + 1
 pub sum-more : (l : List Float) (i : ℕ) {x y : Float} → at x y ≡ pointSum l i → at (x ⊞ getD l (2 * i) nan) (y ⊞ getD l (2 * i + 1) nan) ≡ pointSum l (i + 1)
 unfolding pointSum
-sum-more l i h = ap (λ p. plus p (pointAt l i)) h ∙ ap (pointSum l) (sym (add-one i))
+sum-more l i h = ap (λ (p : Point). at (p .x ⊞ pointAt l i .x) (p .y ⊞ pointAt l i .y)) h ∙ ap (pointSum l) (sym (add-one i))
 
 -- ---- each way to an answer
 module _ (l : List Float) where

@@ -11,7 +11,7 @@ use borrow.Author.Tests.{lt-ltb, le-ltb}
 use native.Mathlib.Nat.{add-zero, sub-zero, zero-add}
 use lib.Ieee.{Float, nan}
 use Rattle.utils.specs.declared.Point.{Point}
-use Rattle.vertices.specs.Add.{nearPt, findNear, addVertex, added}
+use Rattle.vertices.specs.Add.{nearPt, findNear, addVertex}
 use Rattle.utils.specs.Flat.{pointAt, pointsFrom, points, flat, pour}
 
 pub points-more : (l : List Float) (i n : ℕ) → i < n → pointsFrom l i (n - i) ≡ pointAt l i ∷ pointsFrom l (i + 1) (n - (i + 1))
@@ -133,14 +133,14 @@ pour-pour vs ws l h g =
 pub add-old :
     (l : List Float) (nc n i : ℕ) (p : Point)
     → nc ≤ n → i < n → i ≡ findNear p (pointsFrom l nc (n - nc)) nc
-    → addVertex nc (points n l) p ≡ added false i (points n l)
+    → addVertex nc (points n l) p ≡ record { at = i; verts = points n l; fresh = false }
 unfolding addVertex
 add-old l nc n i p h k e = rw (drop-points l nc 0 n h, zero-add nc, ← e, length-points l 0 n, lt-ltb i n k)
 
 pub add-new :
     (l : List Float) (nc n i : ℕ) (p : Point)
     → nc ≤ n → i ≡ n → i ≡ findNear p (pointsFrom l nc (n - nc)) nc
-    → addVertex nc (points n l) p ≡ added true n (points n l ++ p ∷ [])
+    → addVertex nc (points n l) p ≡ record { at = n; verts = points n l ++ p ∷ []; fresh = true }
 unfolding addVertex
 add-new l nc n i p h k e = rw (drop-points l nc 0 n h, zero-add nc, ← e, length-points l 0 n, k, le-ltb n n (omega arith))
 

@@ -1,5 +1,5 @@
 -- A query answers 0 exactly where it may: its number is that of the first rule that is broken, and no rule has the number 0.
-use mathlib.Core.Path.{_≡_, sym, _∙_}
+use mathlib.Core.Path.{_≡_}
 use mathlib.Core.Bool.{true}
 use mathlib.Core.List.{List, [], _++_}
 use mathlib.Core.Logic.{_↔_}
@@ -12,14 +12,13 @@ use Rattle.laws.specs.laws.Refusals.{Answers, finds-one, finds-none, finds-keep
 use Rattle.utils.specs.Rules.{okSite}
 use Rattle.utils.specs.declared.Point.{Point}
 use Rattle.mesh.specs.Accepted.{Mesh, siteCount}
-use Rattle.mesh.specs.Rules.{numberOf, callRules}
+use Rattle.mesh.specs.Rules.{callRules}
 use Rattle.mesh.specs.laws.Verdicts.{accepted-keep, keep-accepted}
 use Rattle.admission.specs.Asks.{CellsOf}
 use Rattle.bulk_neighbours.specs.Promise.{RoomFor, CellsLent, lentRules}
 use Rattle.bulk_ends.specs.Promise.{endsRoom, PointsKept, allRules}
 use Rattle.bulk_ends.specs.laws.Answers.{room-table, room-ends, room-both}
 use Rattle.voronoi.specs.Meshes.{Check}
-use Rattle.voronoi.specs.Accepted.{checked-accepted, accepted-checked}
 use Rattle.admission.specs.Asks.{siteRules, pathRules, cellRules}
 use Rattle.queries.specs.Answers.{Number}
 use Rattle.voronoi.specs.Leaves.{QueryAllowed}
@@ -87,11 +86,4 @@ module _ (m : Mesh) (w : List ℕ) {r : ℕ} where
       (a .0, (c .0, (c .1 .0, (a .2, (a .3, c .1 .1))))))
 
   pub check-answers : {w′ : List ℕ} → Check m w w′ r → (r ≡ 0) ↔ QueryAllowed m w (Unit {0})
-  check-answers {w′} c = (
-    λ z. record {
-      mesh = checked-accepted m w w′ (rw z at c) .0;
-      room = finds-keep (λ f. numberOf f ≡ 0) (search needs) (sym (c .number) ∙ z) (c .finding) .1 .0;
-      arguments = tt;
-    },
-    λ p. accepted-checked m w w′ r (p .mesh) (p .room) c,
-  )
+  check-answers c = edge-answers (c .number)

@@ -5,7 +5,8 @@ use Prim.Native.Nat.{ℕ}
 use lib.Ieee.{Float}
 use Rattle.utils.specs.declared.Point.{Point}
 use Rattle.given_box.specs.declared.Given.{Given}
-use Rattle.crossings.specs.Rules.{lineAnswer, rayAnswer}
+use Rattle.bounding_box.specs.declared.BoundingBox.{BoundingBox}
+use Rattle.line_crossings.specs.declared.Crossing.{Crossing}
 use Rattle.mesh.specs.Accepted.{Mesh}
 use Rattle.admission.specs.Slices.{Slices}
 use Rattle.reasons.specs.declared.Question.{Question}
@@ -25,20 +26,18 @@ module _ {g h : Given} (e : g ≡ h) where
   pub corners-in : {l k : List Float} {n : ℕ} → Corners g l n k → Corners h l n k
   corners-in {l} {k} {n} p = subst (λ (x : Given). Corners x l n k) e p
 
-  pub inside-in : {p : Point} {n y : ℕ} → Inside g p n y → Inside h p n y
-  inside-in {p} {n} {y} q = subst (λ (x : Given). Inside x p n y) e q
+  pub inside-in : (p : Point) {n y : ℕ} → Inside g p n y → Inside h p n y
+  inside-in p {n} {y} q = subst (λ (x : Given). Inside x p n y) e q
 
-  pub exclusively-in : {p : Point} {n y : ℕ} → ExclusivelyInside g p n y → ExclusivelyInside h p n y
-  exclusively-in {p} {n} {y} q = subst (λ (x : Given). ExclusivelyInside x p n y) e q
+  pub exclusively-in : (p : Point) {n y : ℕ} → ExclusivelyInside g p n y → ExclusivelyInside h p n y
+  exclusively-in p {n} {y} q = subst (λ (x : Given). ExclusivelyInside x p n y) e q
 
-  pub side-in : {p : Point} {n s : ℕ} → WhichEdge g p n s → WhichEdge h p n s
-  side-in {p} {n} {s} q = subst (λ (x : Given). WhichEdge x p n s) e q
+  pub side-in : (p : Point) {n s : ℕ} → WhichEdge g p n s → WhichEdge h p n s
+  side-in p {n} {s} q = subst (λ (x : Given). WhichEdge x p n s) e q
 
-  pub line-in : (p q : Point) {n k : ℕ} {x y u v : Float} → Meets (lineAnswer g p q) n k x y u v → Meets (lineAnswer h p q) n k x y u v
-  line-in p q {n} {k} {x} {y} {u} {v} m = subst (λ (o : Given). Meets (lineAnswer o p q) n k x y u v) e m
-
-  pub ray-in : (p q : Point) {n k : ℕ} {x y u v : Float} → Meets (rayAnswer g p q) n k x y u v → Meets (rayAnswer h p q) n k x y u v
-  ray-in p q {n} {k} {x} {y} {u} {v} m = subst (λ (o : Given). Meets (rayAnswer o p q) n k x y u v) e m
+  -- the line or the ray
+  pub meets-in : (c : BoundingBox → Point → Point → Crossing) (p q : Point) {n k : ℕ} {x y u v : Float} → Meets c g p q n k x y u v → Meets c h p q n k x y u v
+  meets-in c p q {n} {k} {x} {y} {u} {v} m = subst (λ (o : Given). Meets c o p q n k x y u v) e m
 
   pub build-in : {m : Mesh} {old new : Slices} {r : ℕ} → Build m g old new r → Build m h old new r
   build-in {m} {old} {new} {r} b = subst (λ (x : Given). Build m x old new r) e b

@@ -7,7 +7,8 @@ use Rattle.mesh.specs.Rules.{numberOf}
 use Rattle.mesh.specs.Accepted.{Mesh}
 use Rattle.check_mesh.specs.Answers.{MeshAnswer, workAfter}
 use Rattle.voronoi.specs.Meshes.{Check}
+use Rattle.voronoi.specs.Accepted.{check-number}
 
 module _ (m : Mesh) (old : List ℕ) where
   pub numbered : (new : List ℕ) (f : MeshFault) (r : ℕ) → MeshAnswer m old new f → r ≡ numberOf f → Check m old new r
-  numbered new f r a q = record { fault = f; finding = a .finding; number = q; work = a .work ∙ ap (workAfter m old) (sym q) }
+  numbered new f r a q = record { number = rw q (check-number m old (a .finding)); work = a .work ∙ ap (workAfter m old) (sym q) }

@@ -11,7 +11,7 @@ use Rattle.numbers.specs.Numbers.{EMPTY}
 use Rattle.laws.specs.Binary64 as R
 use Rattle.mesh.specs.Accepted.{Mesh}
 use Rattle.check_mesh.specs.Answers.{workAfter}
-use Rattle.queries.specs.Answers.{outAfter, countAfter, endedAfter}
+use Rattle.queries.specs.Answers.{outAfter}
 use Rattle.definition.specs.declared.Fault.{Fault}
 use Rattle.definition.specs.Fault.{Outcome}
 use Rattle.definition.specs.Build.{Built}
@@ -54,11 +54,10 @@ module _ (r : ℕ) (n : r ≢ 0) where
 
   module _ {N : ℕ → Type 0} {m : Mesh} {whole w w′ o o′ : List ℕ} {k e : ℕ} (a : Handed N m whole w w′ o o′ k e r) where
     none-counted : k ≡ 0
-    unfolding countAfter
     none-counted = a .count ∙ rw (ne-eqb r 0 n)
 
     not-ended : e ≡ 0
-    unfolding endedAfter bit
+    unfolding bit
     not-ended = a .ended ∙ rw (ne-eqb r 0 n)
 
 out-sixteen : (whole old : List ℕ) (r : ℕ) → r ≡ 16 → outAfter whole old r ≡ old
@@ -71,6 +70,7 @@ work-refused m {old} {new} {r} q z = record { kept = λ l. q ∙ work-kept r z m
 
 pub list-refused : {N : ℕ → Type 0} {m : Mesh} {whole w w′ o o′ : List ℕ} {k e r : ℕ}
     → Handed N m whole w w′ o o′ k e r → r ≢ 0 → ListRefused w w′ o o′ k e r
+unfolding outAfter
 list-refused {m = m} {whole} {o = o} {r = r} a n = record {
   work = work-refused m (a .work) n;
   out = λ d. record { kept = λ l. a .out ∙ out-kept r n whole o l; cleared = λ l. a .out ∙ out-cleared r n whole o d l };

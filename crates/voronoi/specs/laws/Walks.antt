@@ -8,12 +8,13 @@ use Rattle.cell_query.specs.SharedEdge.{SharesAnswer}
 use Rattle.mesh.specs.Accepted.{Mesh}
 use Rattle.queries.specs.declared.Listed.{Listed}
 use Rattle.queries.specs.declared.Found.{Found}
-use Rattle.queries.specs.Answers.{ListAnswer, EdgeAnswer}
+use Rattle.queries.specs.Answers.{outAfter, countAfter, endedAfter, ListAnswer, EdgeAnswer}
 use Rattle.voronoi.specs.Walks.{Handed, SharedEdge, CellsShareEdge}
 
 -- a list: e is its end in the lent number
 pub handed : {Number : ℕ → Type 0} {m : Mesh} {whole w w′ o o′ : List ℕ} {x : Listed} → ListAnswer Number m whole w w′ o o′ x
     → (e : ℕ) → e ≡ bit (x .ended) → Handed Number m whole w w′ o o′ (x .count) e (x .number)
+unfolding outAfter countAfter endedAfter
 handed a e q = record { number = a .number; work = a .work; out = a .out; count = a .count; ended = q ∙ ap bit (a .ended) }
 
 pub told : {off ix : List ℕ} {a b : ℕ} {x : Told} → SharesAnswer off ix a b x → (y : ℕ) → y ≡ bit (x .yes) → CellsShareEdge off ix a b y (x .number)

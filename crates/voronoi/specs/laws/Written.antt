@@ -9,7 +9,6 @@ use lib.Seq.{take-at, drop-at, take-all}
 use borrow.Author.Tests.{leb-true, le-leb}
 use Rattle.mesh.specs.Accepted.{Mesh}
 use Rattle.check_mesh.specs.AtExit.{atExit}
-use Rattle.queries.specs.Answers.{outAfter, countAfter, endedAfter}
 use Rattle.plane_calls.specs.Plane.{bit}
 use Rattle.voronoi.specs.Walks.{Handed}
 
@@ -21,15 +20,14 @@ bit-one false q = absurd (omega arith)
 module _ {N : ℕ → Type 0} {m : Mesh} {whole w w′ o o′ : List ℕ} {k : ℕ} where
   -- the beginning, and nothing after it is touched
   pub part : {e : ℕ} → Handed N m whole w w′ o o′ k e 0 → take k o′ ≡ take (length o) whole
-  unfolding outAfter countAfter atExit
+  unfolding atExit
   part a = rw (a .out, a .count) (take-at (take (length o) whole) _ _ refl)
 
   pub rest : {e : ℕ} → Handed N m whole w w′ o o′ k e 0 → drop k o′ ≡ drop k o
-  unfolding outAfter countAfter atExit
+  unfolding atExit
   rest a = rw (a .out, a .count) (drop-at (take (length o) whole) _ _ refl)
 
   room : Handed N m whole w w′ o o′ k 1 0 → length whole ≤ length o
-  unfolding endedAfter
   room a = leb-true (length whole) (length o) (bit-one _ (a .ended))
 
   pub written : Handed N m whole w w′ o o′ k 1 0 → take k o′ ≡ whole
@@ -37,7 +35,7 @@ module _ {N : ℕ → Type 0} {m : Mesh} {whole w w′ o o′ : List ℕ} {k : �
 
   -- a list that fits is written whole
   pub fitting : {e : ℕ} → Handed N m whole w w′ o o′ k e 0 → length whole ≤ length o → (take k o′ ≡ whole) × (k ≡ length whole) × (e ≡ 1)
-  unfolding countAfter endedAfter bit
+  unfolding bit
   fitting a h = (part a ∙ take-all (length o) whole h, a .count ∙ ap length (take-all (length o) whole h), a .ended ∙ rw (le-leb (length whole) (length o) h))
 
 -- of two calls for one list, the one that ended has all of it, and the other the beginning

@@ -11,7 +11,7 @@ use Rattle.laws.specs.laws.Refusals.{breaks, keeps, nothing, finds-keep, finds-
 use Rattle.numbers.specs.Numbers.{refusedCount, refusedEntry, refusedRoom}
 use Rattle.shared.specs.Cells.{cellOf}
 use Rattle.admission.specs.Asks.{siteRules, cellRules}
-use Rattle.cell_query.specs.Cells.{CellAnswer, partAfter}
+use Rattle.cell_query.specs.Cells.{CellAnswer}
 use Rattle.octets.specs.Wrote.{Wrote}
 use Rattle.octets.specs.laws.Wrote.{wrote-none}
 use Rattle.entries.specs.Named.{EntriesNamed}
@@ -55,7 +55,6 @@ module _ (v off ix : List ℕ) (s : ℕ) (old : List ℕ) where
     }
 
     pub of-cell : {new : List ℕ} {w k : ℕ} → r ≡ 0 → EntriesAnswer v part old new w k → WkbAnswer v off ix s old new w k
-    unfolding partAfter
     of-cell {new} {w} {k} z e =
         let keep = finds-keep (λ n. n ≡ 0) (search needs) z (a .number .found) in
         let q : part ≡ cellOf off ix s = a .entries ∙ rw (eq-eqb r 0 z) refl in

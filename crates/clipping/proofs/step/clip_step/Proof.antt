@@ -3,7 +3,8 @@ use mathlib.Core.List.{[], _∷_}
 use denote.Ref.{now}
 use Rattle.utils.specs.Flat.{points}
 use Rattle.definition.specs.Fault.{ok}
-use Rattle.definition.specs.Cell.{entry, plain, change}
+use Rattle.definition.specs.Cell.{entry, plain}
+use Rattle.definition.specs.Short.{change}
 use Rattle.clipping.specs.laws.EdgeOutcome.{changes, leaves-none, grown-none}
 use Rattle.clipping.specs.laws.EdgeCases.{step-stay, step-leave, step-enter, step-cross}
 use borrow.Author.Needs.{needs}

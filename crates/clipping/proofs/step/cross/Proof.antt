@@ -4,7 +4,8 @@ use denote.Ref.{now}
 use Rattle.utils.specs.Flat.{points}
 use Prim.Native.Nat.{ℕ}
 use Rattle.definition.specs.Fault.{Outcome}
-use Rattle.definition.specs.Cell.{EdgeClip, Change, clipEdge, cross, tookTwo}
+use Rattle.definition.specs.Cell.{EdgeClip, Change, clipEdge, cross}
+use Rattle.definition.specs.Short.{tookTwo}
 use Rattle.clipping.specs.laws.EdgeOutcome.{by-missed, by-once, by-twice, room-once, room-twice, changes-none}
 use borrow.Author.Needs.{needs}
 use Rattle.clipping.proofs.step.cross.Statement.{statement}

@@ -3,7 +3,8 @@ use native.Mathlib.Omega.{arith}
 use lib.Dec.{eqb}
 use denote.Ref.{now}
 use Rattle.utils.specs.Flat.{points}
-use Rattle.definition.specs.Cell.{link, crossAt}
+use Rattle.definition.specs.Cell.{crossAt}
+use Rattle.definition.specs.Short.{link}
 use Rattle.clipping.specs.laws.EdgeOutcome.{alters-cross}
 use borrow.Author.Needs.{needs}
 use Rattle.clipping.proofs.step.cross_at.Statement.{statement}

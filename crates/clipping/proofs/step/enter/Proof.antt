@@ -5,7 +5,8 @@ use denote.Ref.{now}
 use Prim.Native.Nat.{ℕ}
 use Rattle.utils.specs.Flat.{points}
 use Rattle.definition.specs.Fault.{Outcome}
-use Rattle.definition.specs.Cell.{EdgeClip, Change, clipEdge, enter, tookOne, tookTwo}
+use Rattle.definition.specs.Cell.{EdgeClip, Change, clipEdge, enter}
+use Rattle.definition.specs.Short.{tookOne, tookTwo}
 use Rattle.clipping.specs.laws.EdgeOutcome.{by-missed, by-once, by-twice, room-once, room-twice}
 use borrow.Author.Needs.{needs}
 use Rattle.clipping.proofs.step.enter.Statement.{statement}

@@ -4,7 +4,7 @@ use Rattle.voronoi.proofs.edges.voronoi_is_inside_by_edges.Statement.{s
 use Rattle.voronoi.proofs.edges.voronoi_is_inside_by_edges.Tie as tie
 
 returns : tie.Need-returns
-returns c = inside-in (c .before .by-edges .ensures) (c .is-inside .ensures)
+returns c = inside-in (c .before .by-edges .ensures) _ (c .is-inside .ensures)
 
 pub voronoi-is-inside-by-edges-spec : {M : Type 1} → statement M
 voronoi-is-inside-by-edges-spec = tie.close (tie.spec (λ c κs. tt) (λ c κs. tt) returns)

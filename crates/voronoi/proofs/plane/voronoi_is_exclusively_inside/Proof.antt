@@ -4,7 +4,7 @@ use Rattle.voronoi.proofs.plane.voronoi_is_exclusively_inside.Statement
 use Rattle.voronoi.proofs.plane.voronoi_is_exclusively_inside.Tie as tie
 
 returns : tie.Need-returns
-returns c = exclusively-in (c .before .by-size .ensures) (c .is-exclusively-inside .ensures)
+returns c = exclusively-in (c .before .by-size .ensures) _ (c .is-exclusively-inside .ensures)
 
 pub voronoi-is-exclusively-inside-spec : {M : Type 1} → statement M
 voronoi-is-exclusively-inside-spec = tie.close (tie.spec (λ c κs. tt) (λ c κs. tt) returns)

@@ -4,7 +4,7 @@ use Rattle.voronoi.proofs.plane.voronoi_is_inside.Statement.{statement}
 use Rattle.voronoi.proofs.plane.voronoi_is_inside.Tie as tie
 
 returns : tie.Need-returns
-returns c = inside-in (c .before .by-size .ensures) (c .is-inside .ensures)
+returns c = inside-in (c .before .by-size .ensures) _ (c .is-inside .ensures)
 
 pub voronoi-is-inside-spec : {M : Type 1} → statement M
 voronoi-is-inside-spec = tie.close (tie.spec (λ c κs. tt) (λ c κs. tt) returns)

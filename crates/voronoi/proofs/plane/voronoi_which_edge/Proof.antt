@@ -4,7 +4,7 @@ use Rattle.voronoi.proofs.plane.voronoi_which_edge.Statement.{statement
 use Rattle.voronoi.proofs.plane.voronoi_which_edge.Tie as tie
 
 returns : tie.Need-returns
-returns c = side-in (c .before .by-size .ensures) (c .which-edge .ensures)
+returns c = side-in (c .before .by-size .ensures) _ (c .which-edge .ensures)
 
 pub voronoi-which-edge-spec : {M : Type 1} → statement M
 voronoi-which-edge-spec = tie.close (tie.spec (λ c κs. tt) (λ c κs. tt) returns)
