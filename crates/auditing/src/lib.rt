@@ -22,7 +22,8 @@ ghost use Rattle.given_box.specs.Finite.{Fits};
 ghost use Rattle.long_numbers.specs.Amount.{amount};
 ghost use Rattle.long_limits.specs.Long.{LongOf};
 ghost use Rattle.audit_rules.specs.Kept.{AuditKept};
-ghost use Rattle.auditing.specs.Verdict.{auditKind, auditSite, auditVertex, auditOther, twinVerdict, placesStage, totalStage, nearerVerdict, nearerStage, outsideVerdict, outsideStage, ringsStage};
+ghost use Rattle.auditing.specs.Verdict.{auditKind, auditSite, auditVertex, auditOther, twinVerdict, placesStage, totalStage, nearerVerdict, nearerStage, outsideVerdict, outsideStage, ringsStage, verdictOn};
+ghost use Rattle.audit_total.specs.Total.{missingOf};
 ghost use Rattle.audit_nearer.specs.Steps.{HeldKept, PiecesKept};
 ghost use Rattle.auditing.specs.Promise.{AuditAnswer};
 ghost use Rattle.auditing.specs.Steps.{NearerNamed, OutsideNamed, ToldOf, JudgedAnswer};
@@ -35,6 +36,11 @@ pub enum AuditVerdict {
     Nearer(u32, u32, u32),
     Uncovered,
     Twin(u32, u32),
+}
+
+pub struct Judgement {
+    pub verdict: AuditVerdict,
+    pub missing: f64,
 }
 
 pub struct AuditNumbers {
@@ -284,8 +290,8 @@ fn tell(v: AuditVerdict, missing: f64) -> AuditNumbers
     }
 }
 
-// Of arguments that are not refused.
-fn judge(
+// The verdict on arguments that are not refused, and the missing share.
+pub fn verdict(
     bounds: BoundingBox,
     sites: &[f64],
     vertices: &[f64],
@@ -294,10 +300,10 @@ fn judge(
     starts: &[u32],
     others: &[u32],
     bits: u32,
-) -> AuditNumbers
+) -> Judgement
     requires { ⌜ BoundedBox 101 bounds × AuditKept true (now sites) (now vertices) (now offsets) (now indexes) (now starts) (now others) bits ⌝ }
-    ensures { λ r. ⌜ JudgedAnswer bounds (now (sites .entry)) (now (vertices .entry)) (now (offsets .entry)) (now (indexes .entry)) (now (starts .entry)) (now (others .entry)) bits
-        (r .number) (r .kind) (r .site) (r .vertex) (r .other) (r .missing) ⌝ }
+    ensures { λ r. ⌜ (r .verdict ≡ verdictOn bounds bits (now (sites .entry)) (now (starts .entry)) (now (others .entry)) (now (vertices .entry)) (now (offsets .entry)) (now (indexes .entry)))
+        × (r .missing ≡ missingOf bounds (now (vertices .entry)) (now (offsets .entry)) (now (indexes .entry))) ⌝ }
 {
     let limit = audit_limit::limit(bounds, wide(bits));
     let share = audit_total::total(bounds, &limit, vertices, offsets, indexes);
@@ -313,7 +319,39 @@ fn judge(
         offsets,
         indexes,
     );
-    tell(v, share.missing)
+    Judgement {
+        verdict: v,
+        missing: share.missing,
+    }
+}
+
+// Its numbers.
+fn judge(
+    bounds: BoundingBox,
+    sites: &[f64],
+    vertices: &[f64],
+    offsets: &[u32],
+    indexes: &[u32],
+    starts: &[u32],
+    others: &[u32],
+    bits: u32,
+) -> AuditNumbers
+    requires { ⌜ BoundedBox 101 bounds × AuditKept true (now sites) (now vertices) (now offsets) (now indexes) (now starts) (now others) bits ⌝ }
+    ensures { λ r. ⌜ JudgedAnswer bounds (now (sites .entry)) (now (vertices .entry)) (now (offsets .entry)) (now (indexes .entry)) (now (starts .entry)) (now (others .entry)) bits
+        (r .number) (r .kind) (r .site) (r .vertex) (r .other) (r .missing) ⌝ }
+{
+    let j = verdict(
+        bounds,
+        sites,
+        vertices,
+        offsets,
+        indexes,
+        starts,
+        others,
+        bits,
+    );
+    let v = j.verdict;
+    tell(v, j.missing)
 }
 
 // In the given box.

@@ -1,24 +1,17 @@
--- `auditing::judge` meets its contract: the limit, the total, the verdict and its numbers.
+-- `auditing::judge` meets its contract: the verdict and its numbers.
 use denote.Ref.{now}
-use Rattle.auditing.specs.laws.Answers.{limit-of, judged-is}
-use Rattle.audit_limit.specs.Limit.{boxTwice}
+use Rattle.auditing.specs.laws.Answers.{judged-is}
 use borrow.Author.Needs.{needs}
 use Rattle.auditing.proofs.judge.Statement.{statement}
 use Rattle.auditing.proofs.judge.Tie as tie
 
 returns : tie.Need-returns
 returns c =
-    let at-rings = c .before in
-    let at-total = at-rings .before .before in
-    let at-limit = at-total .before .before in
-    let s = at-limit .before .before .before .before .before .before .before .before in
-    let q = limit-of (s .args .bounds) (s .args .bits) (at-limit .before .wide .ensures) (at-limit .limit .ensures) in
+    let at-verdict = c .before in
+    let s = at-verdict .before .before .before .before .before .before .before in
+    let h = at-verdict .verdict .ensures in
     judged-is (s .args .bounds) (now (s .args .sites)) (now (s .args .vertices)) (now (s .args .offsets)) (now (s .args .indexes)) (now (s .args .starts)) (now
-    (s .args .others)) (s .args .bits) (at-total .total .ensures .1 (boxTwice (s .args .bounds)) (s .args .bits) q) (at-total .total .ensures .0)
-    (at-rings .judge-rings .ensures (boxTwice (s .args .bounds)) q) (c .tell .ensures)
+    (s .args .others)) (s .args .bits) (h .0) (h .1) (c .tell .ensures)
 
 pub judge-spec : {M : Type 1} → statement M
-judge-spec =
-    tie.close
-    (tie.spec (λ c κs. search needs) (λ c κs. search needs) (λ c. search needs) (λ c κs. search needs)
-    (λ c. search needs) (λ c κs. search needs) (λ c κs. search needs) returns)
+judge-spec = tie.close (tie.spec (λ c κs. search needs) (λ c κs. search needs) returns)

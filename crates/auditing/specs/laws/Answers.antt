@@ -27,11 +27,15 @@ use Rattle.auditing.specs.declared.AuditVerdict.{AuditVerdict}
 pub limit-of : {l : List ℕ} (b : BoundingBox) (bits : ℕ) {w : ℕ} → w ≡ bits → LongOf l (boxTwice b / 2 ^ w) → amount l ≡ boxTwice b / 2 ^ bits
 limit-of b bits e a = a .value ∙ ap (λ (k : ℕ). boxTwice b / 2 ^ k) e
 
-pub judged-is : (b : BoundingBox) (sites v : List Float) (off ix starts others : List ℕ) (bits : ℕ) {whole : Bool} {t : AuditVerdict} {share missing : Float} {r kind site vertex other : ℕ}
-    → whole ≡ totalWhole (boxTwice b) bits b v off ix → share ≡ missingOf b v off ix → t ≡ ringsStage (boxTwice b) whole b bits sites starts others v off ix
-    → ToldOf t share r kind site vertex other missing → JudgedAnswer b sites v off ix starts others bits r kind site vertex other missing
+pub verdict-is : (b : BoundingBox) (sites v : List Float) (off ix starts others : List ℕ) (bits : ℕ) {whole : Bool} {t : AuditVerdict}
+    → whole ≡ totalWhole (boxTwice b) bits b v off ix → t ≡ ringsStage (boxTwice b) whole b bits sites starts others v off ix → t ≡ verdictOn b bits sites starts others v off ix
 unfolding verdictOn
-judged-is b sites v off ix starts others bits {whole} {t} w m e told = record {
+verdict-is b sites v off ix starts others bits w e = e ∙ ap (λ (x : Bool). ringsStage (boxTwice b) x b bits sites starts others v off ix) w
+
+pub judged-is : (b : BoundingBox) (sites v : List Float) (off ix starts others : List ℕ) (bits : ℕ) {t : AuditVerdict} {share missing : Float} {r kind site vertex other : ℕ}
+    → t ≡ verdictOn b bits sites starts others v off ix → share ≡ missingOf b v off ix → ToldOf t share r kind site vertex other missing
+    → JudgedAnswer b sites v off ix starts others bits r kind site vertex other missing
+judged-is b sites v off ix starts others bits is m told = record {
   none = told .none;
   kind-is = told .kind-is ∙ ap auditKind is;
   site-is = told .site-is ∙ ap auditSite is;
@@ -39,9 +43,6 @@ judged-is b sites v off ix starts others bits {whole} {t} w m e told = record {
   other-is = told .other-is ∙ ap auditOther is;
   missing-is = told .missing-is ∙ m;
 }
-  where
-    is : t ≡ ringsStage (boxTwice b) (totalWhole (boxTwice b) bits b v off ix) b bits sites starts others v off ix
-    is = e ∙ ap (λ (x : Bool). ringsStage (boxTwice b) x b bits sites starts others v off ix) w
 
 module _ (g : Given) (sites v : List Float) (off ix starts others : List ℕ) (bits : ℕ) {r : ℕ} (a : AuditNumber (g .sound) sites v off ix starts others bits r) where
   pub refused-audit : r ≢ 0 → AuditAnswer g sites v off ix starts others bits r EMPTY EMPTY EMPTY EMPTY B.zero

@@ -1,0 +1,4 @@
+-- The root of the crate's definitions.
+pub mod Printed
+pub mod Shown
+pub mod laws
