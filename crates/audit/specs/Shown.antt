@@ -12,14 +12,14 @@ use Rattle.triangle_turns.specs.Turned.{TrianglesKept}
 use Rattle.audit.specs.Printed.{told}
 
 -- the lists of a form, and room for its text
-pub record SheetSized (coordinates entries hull space : ℕ) : Type 0 where
+pub record AuditSized (coordinates entries hull space : ℕ) : Type 0 where
   pub few-sites : coordinates ≤ 192
   pub few-triangles : entries ≤ 576
   pub few-on-hull : hull ≤ 96
   pub room : 65536 ≤ space
 
 -- a mesh and pieces that can be audited, where rule 24 is kept
-pub record Ready (b : BoundingBox) (sites : List Float) (tri : List ℕ) (v : List Float) (off ix : List ℕ) : Type 0 where
+pub record Auditable (b : BoundingBox) (sites : List Float) (tri : List ℕ) (v : List Float) (off ix : List ℕ) : Type 0 where
   pub box : BoundedBox 101 b
   pub few : length tri ≤ 576
   pub turns : TrianglesKept sites tri
@@ -30,9 +30,9 @@ pub record Ready (b : BoundingBox) (sites : List Float) (tri : List ℕ) (v : Li
 abbrev pub cutTold : BoundingBox → List Float → List ℕ → List Float → List ℕ → List ℕ → List ℕ → List ℕ
 cutTold b sites tri v off ix c = told b sites tri (take (2 * getD c 0 0) v) (take (length sites / 2 + 1) off) (take (getD off (length sites / 2) 0) ix)
 
-pub record Cut (b : BoundingBox) (sites : List Float) (tri : List ℕ) (v : List Float) (off ix c : List ℕ) : Type 0 where
+pub record UsedParts (b : BoundingBox) (sites : List Float) (tri : List ℕ) (v : List Float) (off ix c : List ℕ) : Type 0 where
   pub few : 2 * getD c 0 0 ≤ 3656
   pub vertices : 2 * getD c 0 0 ≤ length v
   pub offsets : length sites / 2 + 1 ≤ length off
   pub entries : getD off (length sites / 2) 0 ≤ length ix
-  pub ready : Ready b sites tri (take (2 * getD c 0 0) v) (take (length sites / 2 + 1) off) (take (getD off (length sites / 2) 0) ix)
+  pub ready : Auditable b sites tri (take (2 * getD c 0 0) v) (take (length sites / 2 + 1) off) (take (getD off (length sites / 2) 0) ix)

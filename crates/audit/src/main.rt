@@ -14,7 +14,7 @@ ghost use Rattle.audit.specs.Printed.{told, auditText};
 ghost use Rattle.given_box.specs.Finite.{Fits};
 ghost use Rattle.form_box.specs.FormBox.{boxBy};
 ghost use Rattle.form_step.specs.Holds.{ListRoom, Few};
-ghost use Rattle.audit.specs.Shown.{SheetSized, Ready, Cut, cutTold};
+ghost use Rattle.audit.specs.Shown.{AuditSized, Auditable, UsedParts, cutTold};
 
 // The tolerance is 2^-20, and every piece is held against all sites.
 const BITS: u32 = 20;
@@ -36,7 +36,7 @@ fn lines(
     offsets: &[u32],
     indexes: &[u32],
 ) -> usize
-    requires { ⌜ Ready bounds (now sites) (now triangles) (now vertices) (now offsets) (now indexes) × (65536 ≤ length (now out)) ⌝ }
+    requires { ⌜ Auditable bounds (now sites) (now triangles) (now vertices) (now offsets) (now indexes) × (65536 ≤ length (now out)) ⌝ }
     ensures { λ r. ⌜ ShownIn (told bounds (now (sites .entry)) (now (triangles .entry)) (now (vertices .entry)) (now (offsets .entry)) (now (indexes .entry)))
         (now (out .exit)) (length (now (out .entry))) r ⌝ }
 {
@@ -73,7 +73,7 @@ fn show(
     indexes: &[u32],
     counts: &[u32],
 ) -> usize
-    requires { ⌜ (number ≡ 0 → Cut bounds (now sites) (now triangles) (now vertices) (now offsets) (now indexes) (now counts)) × (9 ≤ length (now counts)) × (65536 ≤ length (now out)) ⌝ }
+    requires { ⌜ (number ≡ 0 → UsedParts bounds (now sites) (now triangles) (now vertices) (now offsets) (now indexes) (now counts)) × (9 ≤ length (now counts)) × (65536 ≤ length (now out)) ⌝ }
     ensures { λ r. ⌜ ShownIn (shown (cutTold bounds (now (sites .entry)) (now (triangles .entry)) (now (vertices .entry)) (now (offsets .entry)) (now (indexes .entry)) (now (counts .entry))) number)
         (now (out .exit)) (length (now (out .entry))) r ⌝ }
 {
@@ -102,7 +102,7 @@ fn in_box(
     halfedges: &[u32],
     hull: &[u32],
 ) -> usize
-    requires { ⌜ SheetSized (length (now sites)) (length (now triangles)) (length (now hull)) (length (now out)) × Fits given ⌝ }
+    requires { ⌜ AuditSized (length (now sites)) (length (now triangles)) (length (now hull)) (length (now out)) × Fits given ⌝ }
     ensures { λ r. ⌜ InBox auditText (mesh (now (sites .entry)) (now (triangles .entry)) (now (halfedges .entry)) (now (hull .entry))) given
         (take r (now (out .exit))) × (r ≤ length (now (out .entry))) ⌝ }
 {
@@ -146,7 +146,7 @@ fn of_mesh(
     halfedges: &[u32],
     hull: &[u32],
 ) -> usize
-    requires { ⌜ SheetSized (length (now sites)) (length (now triangles)) (length (now hull)) (length (now out)) ⌝ }
+    requires { ⌜ AuditSized (length (now sites)) (length (now triangles)) (length (now hull)) (length (now out)) ⌝ }
     ensures { λ r. ⌜ InBox auditText (mesh (now (sites .entry)) (now (triangles .entry)) (now (halfedges .entry)) (now (hull .entry))) (boxBy clip bounds)
         (take r (now (out .exit))) × (r ≤ length (now (out .entry))) ⌝ }
 {

@@ -11,11 +11,11 @@ use Rattle.auditing.specs.declared.AuditVerdict.the-variants.{Sound, Ring, Outs
 use Rattle.audit_text.specs.Share.{shareText}
 
 -- one, two and three numbers, each behind its label
-unfoldable pub numberLine : List ℕ → ℕ → List ℕ → List ℕ
-numberLine label n end = (label ++ entries (n ∷ [])) ++ end
+unfoldable pub labelledLine : List ℕ → ℕ → List ℕ → List ℕ
+labelledLine label n end = (label ++ entries (n ∷ [])) ++ end
 
 unfoldable pub pairLine : List ℕ → ℕ → List ℕ → ℕ → List ℕ → List ℕ
-pairLine first m second n end = (first ++ entries (m ∷ [])) ++ numberLine second n end
+pairLine first m second n end = (first ++ entries (m ∷ [])) ++ labelledLine second n end
 
 unfoldable pub tripleLine : List ℕ → ℕ → List ℕ → ℕ → List ℕ → ℕ → List ℕ
 tripleLine first l second m third n = (first ++ entries (l ∷ [])) ++ pairLine second m third n (ascii "\n")
@@ -25,7 +25,7 @@ missingLine missing = ascii "missing " ++ shareText missing ++ ascii "\n"
 
 abbrev pub verdictLine : AuditVerdict → Float → List ℕ
 verdictLine Sound missing = ascii "sound\n"
-verdictLine (Ring s) missing = numberLine (ascii "site") s (ascii ": its piece does not run once round, the right way\n")
+verdictLine (Ring s) missing = labelledLine (ascii "site") s (ascii ": its piece does not run once round, the right way\n")
 verdictLine (Outside s e) missing = pairLine (ascii "site") s (ascii ": vertex") e (ascii " is outside the box\n")
 verdictLine (Nearer s e o) missing = tripleLine (ascii "site") s (ascii ": vertex") e (ascii " is nearer to site") o
 verdictLine Uncovered missing = missingLine missing

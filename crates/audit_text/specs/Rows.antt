@@ -1,14 +1,13 @@
 -- Rows: the lines that docs/RULES.md shows, and shares at the ends of what is shown. By computation.
 use mathlib.Core.Path.{_≡_, refl}
 use mathlib.Core.Bool.{true, false}
-use lib.Dec.{ltb}
 use lib.IntN.{pos, negsuc}
 use lib.Ieee.{fin, nan, inf, ofBits, mul, lt, le, neg, round, toUnsigned}
 use Rattle.listing.specs.Text.{ascii, digits, decimal}
-use Rattle.listing.specs.Listing.{entries, labelled}
+use Rattle.listing.specs.Listing.{entries}
 use Rattle.auditing.specs.declared.AuditVerdict.the-variants.{Sound, Ring, Outside, Nearer, Uncovered, Twin}
 use Rattle.audit_text.specs.Share.{billionths, fraction, pointed, shareText}
-use Rattle.audit_text.specs.AuditLines.{numberLine, pairLine, tripleLine, missingLine, turnedLine, auditLines}
+use Rattle.audit_text.specs.AuditLines.{labelledLine, pairLine, tripleLine, missingLine, turnedLine, auditLines}
 
 -- 5/16 of the box is missing; pieces overlap by 1/4; a billionth and a bit; beyond what is shown
 pub shares :
@@ -30,5 +29,5 @@ pub rows :
     × (auditLines 1 50 7 (Nearer 4 61 29) (fin false 0 (pos 0)) ≡ ascii "turned 1 of 50 triangles, lowest 7\nsite 4: vertex 61 is nearer to site 29\n")
     × (auditLines 0 4 4 Uncovered (fin false 5 (negsuc 3)) ≡ ascii "missing 0.312500000\n")
     × (auditLines 0 50 50 (Twin 12 3) (fin false 0 (pos 0)) ≡ ascii "sites 3 and 12 stand at one place\n")
-unfolding ofBits mul lt le neg round toUnsigned digits decimal entries billionths fraction pointed shareText numberLine pairLine tripleLine missingLine turnedLine auditLines
+unfolding ofBits mul lt le neg round toUnsigned digits decimal entries billionths fraction pointed shareText labelledLine pairLine tripleLine missingLine turnedLine auditLines
 rows = (refl, refl, refl, refl, refl, refl)

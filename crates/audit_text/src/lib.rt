@@ -7,7 +7,7 @@ ghost use mathlib.Core.Path.{_≡_};
 ghost use Prim.Native.Nat.{_≤_, _<_};
 ghost use Rattle.octets.specs.Wrote.{Wrote, HasRoom};
 ghost use Rattle.audit_text.specs.Share.{billionths, fraction, pointed, shareText};
-ghost use Rattle.audit_text.specs.AuditLines.{numberLine, pairLine, tripleLine, missingLine, verdictLine, turnedLine, auditLines};
+ghost use Rattle.audit_text.specs.AuditLines.{labelledLine, pairLine, tripleLine, missingLine, verdictLine, turnedLine, auditLines};
 
 const BILLION: u64 = 1000000000;
 
@@ -73,8 +73,8 @@ fn missing_line(out: &mut [u8], at: usize, missing: f64) -> usize
 
 // A label, a number, and how the line goes on.
 fn number_line(out: &mut [u8], at: usize, label: &[u8], n: u32, end: &[u8]) -> usize
-    requires { ⌜ HasRoom (now out) at (numberLine (now label) n (now end)) ⌝ }
-    ensures { λ r. ⌜ Wrote (now (out .entry)) (now (out .exit)) at r (numberLine (now (label .entry)) n (now (end .entry))) ⌝ }
+    requires { ⌜ HasRoom (now out) at (labelledLine (now label) n (now end)) ⌝ }
+    ensures { λ r. ⌜ Wrote (now (out .entry)) (now (out .exit)) at r (labelledLine (now (label .entry)) n (now (end .entry))) ⌝ }
 {
     let a = labelled(out, at, label, n);
     put(out, a, end)

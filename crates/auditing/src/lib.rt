@@ -22,7 +22,8 @@ ghost use Rattle.given_box.specs.Finite.{Fits};
 ghost use Rattle.long_numbers.specs.Amount.{amount};
 ghost use Rattle.long_limits.specs.Long.{LongOf};
 ghost use Rattle.audit_rules.specs.Kept.{AuditKept};
-ghost use Rattle.auditing.specs.Verdict.{auditKind, auditSite, auditVertex, auditOther, twinVerdict, placesStage, totalStage, nearerVerdict, nearerStage, outsideVerdict, outsideStage, ringsStage, verdictOn};
+ghost use Rattle.auditing.specs.Verdict.{auditKind, auditSite, auditVertex, auditOther, twinVerdict, placesStage, totalStage, nearerVerdict, nearerStage, outsideVerdict, outsideStage};
+ghost use Rattle.auditing.specs.Verdict.{ringsStage, verdictOn};
 ghost use Rattle.audit_total.specs.Total.{missingOf};
 ghost use Rattle.audit_nearer.specs.Steps.{HeldKept, PiecesKept};
 ghost use Rattle.auditing.specs.Promise.{AuditAnswer};
@@ -38,7 +39,7 @@ pub enum AuditVerdict {
     Twin(u32, u32),
 }
 
-pub struct Judgement {
+pub struct AuditJudgement {
     pub verdict: AuditVerdict,
     pub missing: f64,
 }
@@ -300,7 +301,7 @@ pub fn verdict(
     starts: &[u32],
     others: &[u32],
     bits: u32,
-) -> Judgement
+) -> AuditJudgement
     requires { ⌜ BoundedBox 101 bounds × AuditKept true (now sites) (now vertices) (now offsets) (now indexes) (now starts) (now others) bits ⌝ }
     ensures { λ r. ⌜ (r .verdict ≡ verdictOn bounds bits (now (sites .entry)) (now (starts .entry)) (now (others .entry)) (now (vertices .entry)) (now (offsets .entry)) (now (indexes .entry)))
         × (r .missing ≡ missingOf bounds (now (vertices .entry)) (now (offsets .entry)) (now (indexes .entry))) ⌝ }
@@ -319,7 +320,7 @@ pub fn verdict(
         offsets,
         indexes,
     );
-    Judgement {
+    AuditJudgement {
         verdict: v,
         missing: share.missing,
     }

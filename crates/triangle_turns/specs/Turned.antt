@@ -1,7 +1,7 @@
 -- Triangles that turn the wrong way, or are flat: as rings of sites they have an area that is not above 0 (docs/RULES.md, "Areas"). Definitions only.
 use mathlib.Core.Bool.{Bool, not}
 use mathlib.Core.List.{List}
-use Prim.Native.Nat.{ℕ, zero, suc, _+_, _*_, _/_, _≤_, _<_}
+use Prim.Native.Nat.{ℕ, zero, suc, _+_, _*_, _/_, _<_}
 use lib.Ieee.{Float, lt}
 use lib.ListN.{length, getD, take, drop}
 use Rattle.laws.specs.Binary64 as B

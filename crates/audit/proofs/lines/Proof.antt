@@ -44,7 +44,9 @@ narrow-requires-3 : tie.Need-narrow-requires-3
 narrow-requires-3 c κs = let s = c .before .before .before .before .before .before .before .before .before .before .before .before .before .before .before in omega (arith, s .pre .0 .few)
 
 audit-lines-requires : tie.Need-audit-lines-requires
-audit-lines-requires c κs = let s = c .before .before .before .before .before .before .before .before .before .before .before .before .before .before .before .before .before in lines-fit (now (s .args .out)) _ _ _ _ _ (s .pre .1)
+audit-lines-requires c κs =
+    let s = c .before .before .before .before .before .before .before .before .before .before .before .before .before .before .before .before .before in
+    lines-fit (now (s .args .out)) _ _ _ _ _ (s .pre .1)
 
 returns-2 : tie.Need-returns-2
 returns-2 c =

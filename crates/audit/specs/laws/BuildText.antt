@@ -1,9 +1,9 @@
 -- A build's answer and its lent slices give the text that is promised: a refusal's line by its number, or the lines of what was built.
-use mathlib.Core.Path.{_≡_, refl, sym, ap, _∙_, subst}
+use mathlib.Core.Path.{_≡_, sym, ap, _∙_, subst}
 use mathlib.Core.Bool.{true}
-use mathlib.Core.List.{List, [], _∷_, _++_, map}
+use mathlib.Core.List.{List, _++_, map}
 use Prim.{tt}
-use Prim.Native.Nat.{ℕ, suc, _+_, _-_, _*_, _/_, _≤_, _<_}
+use Prim.Native.Nat.{ℕ, _+_, _-_, _*_, _/_, _≤_}
 use native.Mathlib.Omega.{arith}
 use lib.Dec.{lit≤}
 use lib.Ieee.{Float}
@@ -15,7 +15,6 @@ use Rattle.numbers.specs.Numbers.{EMPTY}
 use Rattle.utils.specs.Finite.{site-bounded, point-weaken}
 use Rattle.utils.specs.Flat.{pointAt, flat}
 use Rattle.vertices.specs.laws.Points.{length-flat}
-use Rattle.bounding_box.specs.declared.BoundingBox.{BoundingBox}
 use Rattle.given_box.specs.Finite.{Fits}
 use Rattle.given_box.specs.declared.Given.{Given}
 use Rattle.mesh.specs.Accepted.{Mesh, Accepted, siteCount}
@@ -33,6 +32,7 @@ use Rattle.definition.specs.Cell.{unmarked}
 use Rattle.definition.specs.LateRefusals.{build-late}
 use Rattle.definition.specs.Measures.{Room}
 use Rattle.definition.specs.laws.Gives.{gives-ok}
+use Rattle.definition.specs.laws.Runs.{ok-same}
 use Rattle.check_mesh.specs.AtExit.{atExit}
 use Rattle.build_answers.specs.Promise.{Builds, BuildAnswer, ClippedBuild}
 use Rattle.build_answers.specs.Success.{zero-succeeds, clipped-sound}
@@ -40,13 +40,9 @@ use Rattle.triangle_turns.specs.Turned.{TrianglesKept}
 use Rattle.printing.specs.Printed.{InBox, shown}
 use Rattle.printing.specs.laws.WholeBuild.{Whole, whole-in-box}
 use Rattle.printing.specs.laws.BuildText.{ProgramSlices, shows}
-use Rattle.audit.specs.Printed.{told, auditText}
-use Rattle.audit.specs.Shown.{SheetSized, Ready, Cut, cutTold}
+use Rattle.audit.specs.Printed.{auditText}
+use Rattle.audit.specs.Shown.{AuditSized, UsedParts, cutTold}
 use Rattle.audit.specs.laws.Pieces.{pieces-named, pieces-kept, last-at}
-
--- one outcome has one value
-ok-one : {o : Outcome Fault Built} {b c : Built} → o ≡ ok b → o ≡ ok c → b ≡ c
-ok-one p q = cc
 
 turns-kept : {m : Mesh} → Accepted m → TrianglesKept (m .sites) (m .triangles)
 turns-kept {m} a = record {
@@ -121,7 +117,7 @@ module _ {Rules : ℕ → Type 0} {table : List ℕ} {o : Outcome Fault Built} {
   vertices-long = omega (arith, ap length vertices-are, length-append (flat (b .verts)) idle, numbers)
 
 -- ---- a build on lists within the form's limits, with slices of these lengths
-module _ (m : Mesh) (space : ℕ) (sized : SheetSized (length (m .sites)) (length (m .triangles)) (length (m .hull)) space) (old new : Slices) (long : ProgramSlices old) (r : ℕ) where
+module _ (m : Mesh) (space : ℕ) (sized : AuditSized (length (m .sites)) (length (m .triangles)) (length (m .hull)) space) (old new : Slices) (long : ProgramSlices old) (r : ℕ) where
   roomy : roomOf m old ≡ true
   unfolding roomFor
   roomy =
@@ -151,12 +147,12 @@ module _ (m : Mesh) (space : ℕ) (sized : SheetSized (length (m .sites)) (lengt
       room : Room (m .triangles) (m .hull) (g .bounds) b
       room =
           let s = clipped-sound g fits a z in
-          subst (Room (m .triangles) (m .hull) (g .bounds)) (ok-one (s .outcome .is) e) (s .fits)
+          subst (Room (m .triangles) (m .hull) (g .bounds)) (ok-same (sym (s .outcome .is) ∙ e)) (s .fits)
 
       pub text-is : cutTold (g .bounds) (m .sites) (m .triangles) (new .vertices) (new .offsets) (new .indexes) (new .counts) ≡ auditText m g b
       text-is = rw (vertices-used a b e z, offsets-used a b e z n (whole .cells), entries-used a b e z n (whole .cells))
 
-      pub cut-ready : length (new .vertices) ≡ 3656 → length (new .indexes) ≡ 3076 → Cut (g .bounds) (m .sites) (m .triangles) (new .vertices) (new .offsets) (new .indexes) (new .counts)
+      pub cut-ready : length (new .vertices) ≡ 3656 → length (new .indexes) ≡ 3076 → UsedParts (g .bounds) (m .sites) (m .triangles) (new .vertices) (new .offsets) (new .indexes) (new .counts)
       cut-ready wide short =
           let s = zero-succeeds (box-answers (g .sound)) (build-late m (g .bounds)) a z in
           let half : length (flat (b .verts)) / 2 ≡ length (b .verts) = omega (arith, length-flat (b .verts)) in
@@ -177,7 +173,7 @@ module _ (m : Mesh) (space : ℕ) (sized : SheetSized (length (m .sites)) (lengt
           }
 
     pub cut-in-box : length (new .vertices) ≡ 3656 → length (new .indexes) ≡ 3076 → r ≡ 0
-        → Cut (g .bounds) (m .sites) (m .triangles) (new .vertices) (new .offsets) (new .indexes) (new .counts)
+        → UsedParts (g .bounds) (m .sites) (m .triangles) (new .vertices) (new .offsets) (new .indexes) (new .counts)
     cut-in-box wide short z = let o = zero-succeeds (box-answers (g .sound)) (build-late m (g .bounds)) a z .outcome in cut-ready (o .value) (o .is) z wide short
 
     pub text-in-box : InBox auditText m g (shown (cutTold (g .bounds) (m .sites) (m .triangles) (new .vertices) (new .offsets) (new .indexes) (new .counts)) r)

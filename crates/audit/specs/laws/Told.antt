@@ -1,12 +1,11 @@
 -- Rule 24 as a test, and the text by it.
-use mathlib.Core.Path.{_≡_, refl, sym, _∙_}
-use mathlib.Core.Bool.{Bool, true, false, _&&_}
+use mathlib.Core.Path.{_≡_, refl}
+use mathlib.Core.Bool.{Bool, true, false}
 use mathlib.Core.List.{List, [], _∷_}
-use Prim.Native.Nat.{ℕ, zero, suc, _+_, _/_, _≤_, _<_}
+use Prim.Native.Nat.{ℕ, zero, suc, _/_, _≤_, _<_}
 use native.Mathlib.Omega.{arith}
 use lib.Ieee.{Float}
 use lib.ListN.{length, getD}
-use Rattle.laws.specs.Pick.{pick}
 use Rattle.laws.specs.laws.And.{and-left, and-right, and-both}
 use Rattle.numbers.specs.Numbers.{refusedCorner}
 use Rattle.lowest.specs.Lowest.{lowest}
@@ -19,7 +18,8 @@ use Rattle.areas.specs.Promise.{KeepsRule}
 use Rattle.audit_total.specs.Total.{missingOf}
 use Rattle.auditing.specs.Verdict.{verdictOn}
 use Rattle.auditing.specs.declared.AuditVerdict.{AuditVerdict}
-use Rattle.triangle_turns.specs.Turned.{turnedAt, oneIfTurned, turnedCount}
+use Rattle.triangle_turns.specs.Turned.{turnedAt, turnedCount}
+use Rattle.triangle_turns.specs.laws.Turns.{count-few}
 use Rattle.audit_text.specs.AuditLines.{auditLines}
 use Rattle.audit_text.specs.laws.Short.{lines-short}
 use Rattle.listing.specs.Listing.{refusal}
@@ -44,15 +44,6 @@ broken v es n = by (okCorners v es) refl
     by false e = refl
 
 -- ---- numbers that fit, lines that have room
-one-at-most : (t : Bool) → pick t (λ _. 1) (λ _. 0) ≤ 1
-one-at-most true = omega arith
-one-at-most false = omega arith
-
-count-few : (sites : List Float) (tri : List ℕ) (n : ℕ) → turnedCount sites tri n ≤ n
-unfolding turnedCount oneIfTurned
-count-few sites tri zero = omega arith
-count-few sites tri (suc n) = omega (arith, count-few sites tri n, one-at-most (turnedAt sites tri n))
-
 pub turned-few : (sites : List Float) (tri : List ℕ) → turnedCount sites tri (length tri / 3) ≤ length tri / 3
 turned-few sites tri = count-few sites tri (length tri / 3)
 

@@ -1,7 +1,6 @@
 -- `audit_text::billionths` meets its contract: the tests of the definition.
 use lib.Ieee.{ofBits, neg}
 use Rattle.audit_text.specs.laws.Points.{not-above, not-below, in-range, below-most, at-most}
-use borrow.Author.Needs.{needs}
 use Rattle.audit_text.proofs.billionths.Statement.{statement}
 use Rattle.audit_text.proofs.billionths.Tie as tie
 

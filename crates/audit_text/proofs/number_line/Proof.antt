@@ -4,7 +4,7 @@ use Prim.Native.Nat.{ℕ}
 use denote.Ref.{now}
 use Rattle.listing.specs.Listing.{entries}
 use Rattle.octets.specs.laws.Wrote.{fits-left, fits-then, wrote-then}
-use Rattle.audit_text.specs.AuditLines.{numberLine}
+use Rattle.audit_text.specs.AuditLines.{labelledLine}
 use borrow.Author.Needs.{needs}
 use Rattle.audit_text.proofs.number_line.Statement.{statement}
 use Rattle.audit_text.proofs.number_line.Tie as tie
@@ -16,18 +16,18 @@ abbrev after : tie.Start → List ℕ
 after s = now (s .args .end)
 
 labelled-requires : tie.Need-labelled-requires
-unfolding numberLine
+unfolding labelledLine
 labelled-requires c κs = let s = c .before .before .before .before in fits-left (now (s .args .out)) (s .args .at) (before s) (after s) (s .pre)
 
 put-requires : tie.Need-put-requires
-unfolding numberLine
+unfolding labelledLine
 put-requires c κs =
     let at-first = c .before .before .before in
     let s = at-first .before .before .before .before .before in
     fits-then (before s) (after s) (at-first .labelled .ensures) (s .pre)
 
 returns : tie.Need-returns
-unfolding numberLine
+unfolding labelledLine
 returns c =
     let at-second = c .before .before in
     wrote-then (at-second .before .before .before .before .labelled .ensures) (at-second .put .ensures)

@@ -4,7 +4,7 @@ use Prim.Native.Nat.{ℕ}
 use denote.Ref.{now}
 use Rattle.listing.specs.Listing.{entries}
 use Rattle.octets.specs.laws.Wrote.{fits-left, fits-then, wrote-then}
-use Rattle.audit_text.specs.AuditLines.{numberLine, pairLine}
+use Rattle.audit_text.specs.AuditLines.{labelledLine, pairLine}
 use borrow.Author.Needs.{needs}
 use Rattle.audit_text.proofs.pair_line.Statement.{statement}
 use Rattle.audit_text.proofs.pair_line.Tie as tie
@@ -13,7 +13,7 @@ abbrev before : tie.Start → List ℕ
 before s = now (s .args .first) ++ entries (s .args .m ∷ [])
 
 abbrev after : tie.Start → List ℕ
-after s = numberLine (now (s .args .second)) (s .args .n) (now (s .args .end))
+after s = labelledLine (now (s .args .second)) (s .args .n) (now (s .args .end))
 
 labelled-requires : tie.Need-labelled-requires
 unfolding pairLine

@@ -1,6 +1,6 @@
 -- `audit_text::share` meets its contract: the sign, where there is one, then the billionths.
 use mathlib.Core.Path.{sym, subst}
-use mathlib.Core.List.{List, _++_}
+use mathlib.Core.List.{List}
 use Prim.Native.Nat.{ℕ}
 use denote.Ref.{now}
 use lib.Ieee.{ofBits, neg}

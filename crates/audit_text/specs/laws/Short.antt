@@ -16,16 +16,16 @@ use Rattle.listing.specs.laws.Listing.{entries-short}
 use Rattle.auditing.specs.declared.AuditVerdict.{AuditVerdict}
 use Rattle.auditing.specs.declared.AuditVerdict.the-variants.{Sound, Ring, Outside, Nearer, Uncovered, Twin}
 use Rattle.audit_text.specs.Share.{billionths, fraction, pointed, billion, shareText}
-use Rattle.audit_text.specs.AuditLines.{numberLine, pairLine, tripleLine, missingLine, verdictLine, turnedLine, auditLines}
+use Rattle.audit_text.specs.AuditLines.{labelledLine, pairLine, tripleLine, missingLine, verdictLine, turnedLine, auditLines}
 
-number-short : (label : List ℕ) (n : ℕ) (end : List ℕ) → length (numberLine label n end) ≤ length label + 11 + length end
-unfolding numberLine
+number-short : (label : List ℕ) (n : ℕ) (end : List ℕ) → length (labelledLine label n end) ≤ length label + 11 + length end
+unfolding labelledLine
 number-short label n end = omega (arith, length-append (label ++ entries (n ∷ [])) end, length-append label (entries (n ∷ [])), entries-short (n ∷ []))
 
 pair-short : (first : List ℕ) (m : ℕ) (second : List ℕ) (n : ℕ) (end : List ℕ) → length (pairLine first m second n end) ≤ length first + length second + 22 + length end
 unfolding pairLine
 pair-short first m second n end =
-    omega (arith, length-append (first ++ entries (m ∷ [])) (numberLine second n end), length-append first (entries (m ∷ [])), entries-short (m ∷ []), number-short second n end)
+    omega (arith, length-append (first ++ entries (m ∷ [])) (labelledLine second n end), length-append first (entries (m ∷ [])), entries-short (m ∷ []), number-short second n end)
 
 triple-short : (first : List ℕ) (l : ℕ) (second : List ℕ) (m : ℕ) (third : List ℕ) (n : ℕ)
     → length (tripleLine first l second m third n) ≤ length first + length second + length third + 34

@@ -1,5 +1,4 @@
 -- `triangle_turns::one_if_turned` meets its contract.
-use denote.Ref.{now}
 use borrow.Author.Needs.{needs}
 use Rattle.triangle_turns.specs.laws.Turns.{one-if, none-if}
 use Rattle.triangle_turns.proofs.one_if_turned.Statement.{statement}

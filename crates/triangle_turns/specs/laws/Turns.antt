@@ -2,7 +2,7 @@
 use mathlib.Core.Path.{_≡_, refl, sym, ap, _∙_, subst}
 use mathlib.Core.Bool.{Bool, true, false, not}
 use mathlib.Core.List.{List}
-use Prim.Native.Nat.{ℕ, _+_, _-_, _*_, _/_, _≤_, _<_}
+use Prim.Native.Nat.{ℕ, zero, suc, _+_, _-_, _*_, _/_, _≤_, _<_}
 use native.Mathlib.Omega.{arith}
 use native.Mathlib.Numerals.{add-one}
 use lib.Ieee.{Float, lt}
@@ -59,6 +59,12 @@ module _ (sites : List Float) (tri : List ℕ) (t : ℕ) {b : Bool} (e : b ≡ t
 at-most-one : (b : Bool) → pick b (λ _. 1) (λ _. 0) ≤ 1
 at-most-one true = omega arith
 at-most-one false = omega arith
+
+-- no more than are looked at
+pub count-few : (sites : List Float) (tri : List ℕ) (n : ℕ) → turnedCount sites tri n ≤ n
+unfolding turnedCount oneIfTurned
+count-few sites tri zero = omega arith
+count-few sites tri (suc n) = omega (arith, count-few sites tri n, at-most-one (turnedAt sites tri n))
 
 -- ---- the loop that counts
 pub record CountedTo (sites : List Float) (tri : List ℕ) (n t count : ℕ) : Type 0 where
