@@ -62,9 +62,12 @@ answered "refused 17" /dev/null
 cat examples/square.form examples/square.form >"$folder/twice"
 answered "refused 17" "$folder/twice"
 
-# what tools/pieces says of a mesh, in the words of `audit`; a corner goes by its coordinates there, so its number is left out of both
+pieces=target/tests/pieces
+sh tests/archive.sh build "$pieces" tools/pieces.c
+
+# what tools/pieces says of a form, in the words of `audit`; a corner goes by its coordinates there, so its number is left out of both
 said() {
-    ./yelmuzard pieces --all "$1" 2>&1 >/dev/null | sed -n '
+    sh tests/archive.sh run "$pieces" --all <"$1" 2>&1 >/dev/null | sed -n '
         s/^pieces: refused \([0-9]*\): .*/refused \1/p
         s/^pieces: \([0-9]* of [0-9]* triangles\) turn .* triangle \([0-9]*\) .*/turned \1, lowest \2/p
         s/^pieces: sound .*/sound/p
@@ -82,7 +85,7 @@ for mesh in examples/*.txt harness/meshes/*.txt tests/cells/*.txt; do
         tools/mesh encode "$text" >"$folder/form" 2>/dev/null || continue
         sh tests/archive.sh run target/bin/audit <"$folder/form" | sed 's/vertex [0-9]*/vertex/; s/^missing .*/missing/; /^refused 20$/d' >"$folder/ours"
         [ -s "$folder/ours" ] || continue # a form of old
-        said "$text" >"$folder/theirs"
+        said "$folder/form" >"$folder/theirs"
         cmp "$folder/ours" "$folder/theirs" || { echo "audit: $text of $mesh: $(cat "$folder/ours"), pieces: $(cat "$folder/theirs")" && exit 1; }
         compared=$((compared + 1))
     done
