@@ -1,6 +1,4 @@
-pub mod Verdict
-pub mod Promise
-pub mod Steps
-pub mod One
-pub mod Sound
+-- The root of the crate's definitions.
+pub mod Printed
+pub mod Shown
 pub mod laws

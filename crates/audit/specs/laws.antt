@@ -1,4 +1,4 @@
 -- Laws that only proofs use.
-pub mod Stages
-pub mod Names
-pub mod Answers
+pub mod Told
+pub mod Pieces
+pub mod BuildText

@@ -33,8 +33,8 @@ use Rattle.audit_nearer.specs.Nearer.{farOf, beyond, noLists, otherAt, heldCoun
 use Rattle.audit_nearer.specs.laws.Pieces.{held-names, other-site}
 use Rattle.audit_rules.specs.Kept.{AuditKept, kept}
 use Rattle.audit_total.specs.Total.{apart}
-use Rattle.audit.specs.Promise.{AuditAnswer}
-use Rattle.audit.specs.Sound.{none-outside, none-nearer, sound-verdict}
+use Rattle.auditing.specs.Promise.{AuditAnswer}
+use Rattle.auditing.specs.Sound.{none-outside, none-nearer, sound-verdict}
 use Rattle.audit_truth.specs.Exact.{plusUnits, minusUnits, overOf, apartOf, acrossAndDown}
 use Rattle.audit_truth.specs.Held.{HeldPoint, HeldBox, AllHeld, HeldEdges}
 use Rattle.audit_truth.specs.Near.{WithinReach, NotNearer, near-exact}

@@ -27,11 +27,11 @@ use Rattle.form.specs.Square.{square, squareBytes, two-is}
 use Rattle.listing.specs.Text.{ascii, digits, decimal}
 use Rattle.listing.specs.Listing.{entries, labelled, counts, cellLine, corners, reusedLine}
 use Rattle.printing.specs.Printed.{meshOf}
-use Rattle.cells.specs.Printed.{linesOf, listingText}
+use Rattle.cells.specs.Printed.{linesOf, listingOf}
 
 -- the text of a build of n sites and T triangles, where it is not refused
 abbrev pub texted : ℕ → ℕ → Outcome Fault Built → Outcome Fault (List ℕ)
-texted n T (ok b) = ok (listingText n T b)
+texted n T (ok b) = ok (listingOf n T b)
 texted n T (refused f) = refused f
 
 pub rows :

@@ -6,7 +6,7 @@ use Prim.Native.Nat.{ℕ}
 use native.Mathlib.Omega.{arith}
 use lib.Ieee.{Float, ofBits, neg, lt, le, add, sub, div}
 use Rattle.printing.specs.Printed.{Shows, built, meshOf, Prints, sound}
-use Rattle.cells.specs.Printed.{listingText}
+use Rattle.cells.specs.Printed.{listingOf, listingText}
 use Rattle.utils.specs.Plane.{at}
 use Rattle.utils.specs.Rules.{okCoord, okSite}
 use Rattle.bounding_box.specs.Box.{madeOf}
@@ -59,8 +59,8 @@ unfolding okBox okSite okCoord madeOf ofBits lt le add sub div
 box-fits = refl
 
 -- ---- what is printed
-shown : {Rules : ℕ → Type 0} → Rules 0 → (o : Outcome Fault Built) (t : List ℕ) → texted 4 2 o ≡ ok t → Shows Rules (listingText 4 2) o t
-shown {Rules} z (ok b) t e = let q : listingText 4 2 b ≡ t = cc in subst (Shows Rules (listingText 4 2) (ok b)) q (built z)
+shown : {Rules : ℕ → Type 0} → Rules 0 → (o : Outcome Fault Built) (t : List ℕ) → texted 4 2 o ≡ ok t → Shows Rules (listingOf 4 2) o t
+shown {Rules} z (ok b) t e = let q : listingOf 4 2 b ≡ t = cc in subst (Shows Rules (listingOf 4 2) (ok b)) q (built z)
 shown z (refused f) t e = let q : _≡_ {A = ℕ} 0 1 = cc in absurd (omega arith)
 
 pub square-prints : Prints listingText squareBytes text

@@ -22,4 +22,4 @@ exported b = heading ++ drawnFrom (patterns (flat (b .verts))) 0 (map unmarked (
 
 -- what is printed is `Prints exportText` (crate printing)
 abbrev pub exportText : Text
-exportText n T b = exported b
+exportText m g b = exported b

@@ -4,15 +4,15 @@ use mathlib.Core.Path.{_≡_}
 use mathlib.Core.Bool.{true, false}
 use mathlib.Core.List.{List}
 use mathlib.Core.Logic.{_≢_}
-use Prim.Native.Nat.{ℕ, _/_, _*_, _≤_}
+use Prim.Native.Nat.{ℕ, _*_, _≤_}
 use lib.Ieee.{Float}
-use lib.ListN.{length, take}
+use lib.ListN.{take}
 use Rattle.utils.specs.Plane.{at}
 use Rattle.given_box.specs.Given.{bySize, byEdges}
 use Rattle.given_box.specs.declared.Given.{Given}
 use Rattle.octets.specs.Bytes.{each}
 use Rattle.form_box.specs.FormBox.{boxBy}
-use Rattle.mesh.specs.Accepted.{Mesh, mesh, siteCount}
+use Rattle.mesh.specs.Accepted.{Mesh, mesh}
 use Rattle.admission.specs.Admits.{Admits}
 use Rattle.definition.specs.declared.Fault.{Fault}
 use Rattle.definition.specs.Fault.{Outcome, ok, refused}
@@ -26,9 +26,9 @@ use Rattle.laws.specs.Pick.{pick}
 use Rattle.form_step.specs.declared.Form.{Form}
 use Rattle.form_step.specs.declared.Form.the-variants.{Sound, Broken}
 
--- the text of a build of n sites and T triangles
+-- the text of what was built of a mesh in a given box
 abbrev pub Text : Type 0
-Text = ℕ → ℕ → Built → List ℕ
+Text = Mesh → Given → Built → List ℕ
 
 -- the number that the rules up to 10 give; where they admit the mesh, the outcome's, or the text of what was built
 pub data Shows (Rules : ℕ → Type 0) (text : Built → List ℕ) : Outcome Fault Built → List ℕ → Type 0 where
@@ -52,7 +52,7 @@ meshOf m = mesh (each siteFloats (m .sites)) (each triangleSites (m .triangles))
 module _ (t : Text) where
   module _ (m : Mesh) where
     abbrev pub InBox : Given → List ℕ → Type 0
-    InBox g = Shows (Admits m true (boxRules (g .sound))) (t (siteCount (m .sites)) (length (m .triangles) / 3)) (build m (g .bounds))
+    InBox g = Shows (Admits m true (boxRules (g .sound))) (t m g) (build m (g .bounds))
 
     -- no form is read that has no box
     abbrev pub ByClip : Outline → List ℕ → Type 0

@@ -3,7 +3,7 @@ use mathlib.Core.List.{List}
 use Prim.Native.Nat.{ℕ}
 use lib.Ieee.{Float}
 use Rattle.given_box.specs.declared.Given.{Given}
-use Rattle.audit.specs.Promise.{AuditAnswer}
+use Rattle.auditing.specs.Promise.{AuditAnswer}
 
 -- 1, 3, 6, 16, 18, 24
 abbrev pub Audit : Given → List Float → List Float → List ℕ → List ℕ → List ℕ → List ℕ → ℕ → ℕ → ℕ → ℕ → ℕ → ℕ → Float → Type 0

@@ -51,7 +51,7 @@ use Rattle.voronoi.specs.One.{one-all-neighbours, one-ends}
 use Rattle.voronoi.specs.Outcomes.{OneAll, AllRefused}
 use Rattle.voronoi.specs.laws.Refused.{all-refused, ends-refused}
 use Rattle.voronoi.specs.Audits.{Audit}
-use Rattle.audit.specs.One.{one-audit}
+use Rattle.auditing.specs.One.{one-audit}
 use Rattle.voronoi.specs.One.{one-mend, one-cell-wkb-bits, one-cell-wkb, one-root-bits, one-root, one-magnitude-bits, one-magnitude, one-signum-bits, one-signum}
 use Rattle.voronoi.specs.Plane.{Dist2, Circumcenter, Centroid, Edges, Centered, Corners, Inside, ExclusivelyInside, WhichEdge, Meets}
 use Rattle.voronoi.specs.One.{one-near, one-dist2, one-circumcenter, one-centroid, one-box, one-box-center, one-corners, one-inside, one-exclusively, one-side, one-meeting}

@@ -27,7 +27,7 @@ pub extern "C" fn voronoi_audit(
         (now (starts .entry)) (now (others .entry)) bits r (now (kind .exit)) (now (site .exit)) (now (vertex .exit)) (now (other .exit)) (now (missing .exit)) ⌝ }
 {
     let given = given_box::by_size(cx, cy, width, height);
-    let t = audit::audit(
+    let t = auditing::audit(
         given,
         sites,
         vertices,

@@ -286,7 +286,7 @@ pub extern "C" fn voronoi_audit_by_edges(
         (now (starts .entry)) (now (others .entry)) bits r (now (kind .exit)) (now (site .exit)) (now (vertex .exit)) (now (other .exit)) (now (missing .exit)) ⌝ }
 {
     let given = given_box::by_edges(left, top, right, bottom);
-    let t = audit::audit(
+    let t = auditing::audit(
         given,
         sites,
         vertices,

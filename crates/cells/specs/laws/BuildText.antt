@@ -29,21 +29,21 @@ use Rattle.definition.specs.Late.{Refuses, Numbered}
 use Rattle.definition.specs.LateRefusals.{build-late}
 use Rattle.build_answers.specs.Success.{zero-succeeds}
 use Rattle.listing.specs.Listing.{countsAndCells, listing, cellLines}
-use Rattle.cells.specs.Printed.{linesOf, listingText}
+use Rattle.cells.specs.Printed.{linesOf, listingOf, listingText}
 use Rattle.cells.specs.Shown.{SheetSized, Laid, boxLines}
 use Rattle.cells.specs.laws.CellsInIndexes.{lines-are, laid}
 use Rattle.printing.specs.laws.WholeBuild.{Whole, whole-in-box}
 use Rattle.printing.specs.laws.BuildText.{ProgramSlices, shows}
 
 -- the counts: the vertices, the four owners, the lost corners, the reused points of each kind
-listed : (n T : ℕ) (offs idx os tail : List ℕ) (v l x y z : ℕ) → length os ≡ 4
+counted : (n T : ℕ) (offs idx os tail : List ℕ) (v l x y z : ℕ) → length os ≡ 4
     → boxLines n T offs idx ((v ∷ os ++ l ∷ x ∷ y ∷ z ∷ []) ++ tail) ≡ listing n T v offs idx os l x y z
-listed n T offs idx [] tail v l x y z h = absurd (omega arith)
-listed n T offs idx (a ∷ []) tail v l x y z h = absurd (omega arith)
-listed n T offs idx (a ∷ b ∷ []) tail v l x y z h = absurd (omega arith)
-listed n T offs idx (a ∷ b ∷ c ∷ []) tail v l x y z h = absurd (omega arith)
-listed n T offs idx (a ∷ b ∷ c ∷ d ∷ []) tail v l x y z h = refl
-listed n T offs idx (a ∷ b ∷ c ∷ d ∷ e ∷ os) tail v l x y z h = absurd (omega arith)
+counted n T offs idx [] tail v l x y z h = absurd (omega arith)
+counted n T offs idx (a ∷ []) tail v l x y z h = absurd (omega arith)
+counted n T offs idx (a ∷ b ∷ []) tail v l x y z h = absurd (omega arith)
+counted n T offs idx (a ∷ b ∷ c ∷ []) tail v l x y z h = absurd (omega arith)
+counted n T offs idx (a ∷ b ∷ c ∷ d ∷ []) tail v l x y z h = refl
+counted n T offs idx (a ∷ b ∷ c ∷ d ∷ e ∷ os) tail v l x y z h = absurd (omega arith)
 
 -- ---- the slices after the number 0
 module _ {Rules : ℕ → Type 0} {table : List ℕ} {o : Outcome Fault Built} {old new : Slices} {r n : ℕ} (a : BuildAnswer Rules table o old new r)
@@ -83,13 +83,13 @@ module _ {Rules : ℕ → Type 0} {table : List ℕ} {o : Outcome Fault Built} {
   lines : cellLines (new .offsets) (new .indexes) 0 n ≡ linesOf 0 cells
   lines = rw (offsets-are, indexes-are, ← cells-are) (lines-are cells more rest)
 
-  pub box-lines : (T : ℕ) → boxLines n T (new .offsets) (new .indexes) (new .counts) ≡ listingText n T b
+  pub box-lines : (T : ℕ) → boxLines n T (new .offsets) (new .indexes) (new .counts) ≡ listingOf n T b
   unfolding countsAndCells listing
   box-lines T =
       let tail = replicate (length (old .counts) - length (countsMade b)) EMPTY in
       rw (
         counts-are,
-        listed n T (new .offsets) (new .indexes) (b .owners) tail (length (b .verts)) (b .lost) (olds extension) (olds firstCrossing) (olds secondCrossing) (w .owners),
+        counted n T (new .offsets) (new .indexes) (b .owners) tail (length (b .verts)) (b .lost) (olds extension) (olds firstCrossing) (olds secondCrossing) (w .owners),
         lines,
       )
 
@@ -127,5 +127,5 @@ module _ (m : Mesh) (space : ℕ) (sized : SheetSized (length (m .sites)) (lengt
     laid-in-box = layout (box-answers (g .sound)) whole-in (build-late m (g .bounds)) a
 
     pub text-in-box : InBox listingText m g (shown (boxLines (siteCount (m .sites)) (length (m .triangles) / 3) (new .offsets) (new .indexes) (new .counts)) r)
-    text-in-box = text-of (box-answers (g .sound)) whole-in (build-late m (g .bounds)) a (listingText (siteCount (m .sites)) (length (m .triangles) / 3)) _
+    text-in-box = text-of (box-answers (g .sound)) whole-in (build-late m (g .bounds)) a (listingText m g) _
         (λ b q e z. box-lines a long b q e z (length (m .triangles) / 3))

@@ -1,0 +1,221 @@
+// Reads a mesh's form on standard input and prints what the audit says of its cells, or `refused N`.
+use bounding_box::BoundingBox;
+use form_step::Form;
+use given_box::Given;
+use libc::STDIN_FILENO;
+use libc::STDOUT_FILENO;
+use numbers::wide;
+ghost use mathlib.Core.Path.{_≡_};
+ghost use Prim.Native.Nat.{_<_, _≤_};
+ghost use lib.ListN.{length, take};
+ghost use Rattle.mesh.specs.Accepted.{mesh};
+ghost use Rattle.printing.specs.Printed.{InBox, Prints, ShownIn, shown, ByForm};
+ghost use Rattle.audit.specs.Printed.{told, auditText};
+ghost use Rattle.given_box.specs.Finite.{Fits};
+ghost use Rattle.form_box.specs.FormBox.{boxBy};
+ghost use Rattle.form_step.specs.Holds.{ListRoom, Few};
+ghost use Rattle.audit.specs.Shown.{AuditSized, Auditable, UsedParts, cutTold};
+
+// The tolerance is 2^-20, and every piece is held against all sites.
+const BITS: u32 = 20;
+
+fn narrow(n: usize) -> u32
+    requires { ⌜ n < 4294967296 ⌝ }
+    ensures { λ r. ⌜ r ≡ n ⌝ }
+{
+    n as u32
+}
+
+// The lines of a mesh and the pieces that were built of it.
+fn lines(
+    out: &mut [u8],
+    bounds: BoundingBox,
+    sites: &[f64],
+    triangles: &[u32],
+    vertices: &[f64],
+    offsets: &[u32],
+    indexes: &[u32],
+) -> usize
+    requires { ⌜ Auditable bounds (now sites) (now triangles) (now vertices) (now offsets) (now indexes) × (65536 ≤ length (now out)) ⌝ }
+    ensures { λ r. ⌜ ShownIn (told bounds (now (sites .entry)) (now (triangles .entry)) (now (vertices .entry)) (now (offsets .entry)) (now (indexes .entry)))
+        (now (out .exit)) (length (now (out .entry))) r ⌝ }
+{
+    if !areas::within(vertices, indexes) {
+        return listing::refusal(out, numbers::REFUSED_CORNER);
+    }
+    let none = [0u32; 0];
+    let j = auditing::verdict(
+        bounds,
+        sites,
+        vertices,
+        offsets,
+        indexes,
+        &none,
+        &none,
+        BITS,
+    );
+    let count = narrow(triangle_turns::count_turned(sites, triangles));
+    let lowest = narrow(triangle_turns::first_turned(sites, triangles));
+    let total = narrow(triangles.len() / 3);
+    let v = j.verdict;
+    audit_text::audit_lines(out, count, total, lowest, v, j.missing)
+}
+
+// The text of a build that was answered by this number, put at the beginning of `out`; how many bytes it has. Of the slices the part that is used.
+fn show(
+    out: &mut [u8],
+    number: u32,
+    bounds: BoundingBox,
+    sites: &[f64],
+    triangles: &[u32],
+    vertices: &[f64],
+    offsets: &[u32],
+    indexes: &[u32],
+    counts: &[u32],
+) -> usize
+    requires { ⌜ (number ≡ 0 → UsedParts bounds (now sites) (now triangles) (now vertices) (now offsets) (now indexes) (now counts)) × (9 ≤ length (now counts)) × (65536 ≤ length (now out)) ⌝ }
+    ensures { λ r. ⌜ ShownIn (shown (cutTold bounds (now (sites .entry)) (now (triangles .entry)) (now (vertices .entry)) (now (offsets .entry)) (now (indexes .entry)) (now (counts .entry))) number)
+        (now (out .exit)) (length (now (out .entry))) r ⌝ }
+{
+    if number != 0 {
+        return listing::refusal(out, number);
+    }
+    let n = sites.len() / 2;
+    let used = 2 * wide(counts[0]);
+    let end = wide(offsets[n]);
+    lines(
+        out,
+        bounds,
+        sites,
+        triangles,
+        &vertices[..used],
+        &offsets[..n + 1],
+        &indexes[..end],
+    )
+}
+
+fn in_box(
+    out: &mut [u8],
+    given: Given,
+    sites: &[f64],
+    triangles: &[u32],
+    halfedges: &[u32],
+    hull: &[u32],
+) -> usize
+    requires { ⌜ AuditSized (length (now sites)) (length (now triangles)) (length (now hull)) (length (now out)) × Fits given ⌝ }
+    ensures { λ r. ⌜ InBox auditText (mesh (now (sites .entry)) (now (triangles .entry)) (now (halfedges .entry)) (now (hull .entry))) given
+        (take r (now (out .exit))) × (r ≤ length (now (out .entry))) ⌝ }
+{
+    let mut work = [0u32; 96];
+    let mut vertices = [0.0f64; 3656];
+    let mut indexes = [0u32; 3076];
+    let mut offsets = [0u32; 97];
+    let mut counts = [0u32; 9];
+    let number = building::build(
+        given,
+        sites,
+        triangles,
+        halfedges,
+        hull,
+        &mut work,
+        &mut vertices,
+        &mut indexes,
+        &mut offsets,
+        &mut counts,
+    );
+    show(
+        out,
+        number,
+        given.bounds,
+        sites,
+        triangles,
+        &vertices,
+        &offsets,
+        &indexes,
+        &counts,
+    )
+}
+
+// In the box that the form gives.
+fn of_mesh(
+    out: &mut [u8],
+    clip: u8,
+    bounds: [f64; 4],
+    sites: &[f64],
+    triangles: &[u32],
+    halfedges: &[u32],
+    hull: &[u32],
+) -> usize
+    requires { ⌜ AuditSized (length (now sites)) (length (now triangles)) (length (now hull)) (length (now out)) ⌝ }
+    ensures { λ r. ⌜ InBox auditText (mesh (now (sites .entry)) (now (triangles .entry)) (now (halfedges .entry)) (now (hull .entry))) (boxBy clip bounds)
+        (take r (now (out .exit))) × (r ≤ length (now (out .entry))) ⌝ }
+{
+    let given = form_box::box_of(clip, bounds);
+    in_box(out, given, sites, triangles, halfedges, hull)
+}
+
+// What is printed for a form that was read into these lists.
+fn of_form(
+    out: &mut [u8],
+    form: Form,
+    bounds: [f64; 4],
+    sites: &[f64],
+    triangles: &[u32],
+    halfedges: &[u32],
+    hull: &[u32],
+) -> usize
+    requires { ⌜ ListRoom bounds (now sites) (now triangles) (now halfedges) (now hull) × Few form × (65536 ≤ length (now out)) ⌝ }
+    ensures { λ r. ⌜ ByForm auditText form bounds (now (sites .entry)) (now (triangles .entry)) (now (halfedges .entry)) (now (hull .entry))
+        (take r (now (out .exit))) × (r ≤ length (now (out .entry))) ⌝ }
+{
+    let Form::Sound {
+        sites: n,
+        triangles: t,
+        hull: h,
+        clip,
+    } = form
+    else {
+        return listing::refusal(out, form_step::number_of(form));
+    };
+    let numbers = 2 * n;
+    let links = 3 * t;
+    of_mesh(
+        out,
+        clip,
+        bounds,
+        &sites[..numbers],
+        &triangles[..links],
+        &halfedges[..links],
+        &hull[..h],
+    )
+}
+
+// What is printed for a form's bytes.
+fn answer(bytes: &[u8], out: &mut [u8]) -> usize
+    requires { ⌜ 65536 ≤ length (now out) ⌝ }
+    ensures { λ r. ⌜ Prints auditText (now (bytes .entry)) (take r (now (out .exit))) × (r ≤ length (now (out .entry))) ⌝ }
+{
+    let mut bounds = [0.0f64; 4];
+    let mut sites = [0.0f64; 192];
+    let mut triangles = [0u32; 576];
+    let mut halfedges = [0u32; 576];
+    let mut hull = [0u32; 96];
+    let form = form::read(
+        false,
+        bytes,
+        &mut bounds,
+        &mut sites,
+        &mut triangles,
+        &mut halfedges,
+        &mut hull,
+    );
+    of_form(out, form, bounds, &sites, &triangles, &halfedges, &hull)
+}
+
+fn main() {
+    let mut bytes = [0u8; 6947];
+    let mut out = io::large_buffer();
+    let n = io::read_full(STDIN_FILENO, &mut bytes);
+    let m = answer(&bytes[..n], &mut out);
+    io::write_all(STDOUT_FILENO, &out[..m]);
+}

@@ -1,0 +1,4 @@
+-- Laws that only proofs use.
+pub mod Stages
+pub mod Names
+pub mod Answers
