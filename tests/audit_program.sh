@@ -1,14 +1,7 @@
 #!/bin/sh
 # The program `audit`: a mesh for each of its lines, turned, exchanged and flipped meshes, a lost corner, gauges at one place, boxes by edges, broken
 # forms; the same verdict as tools/pieces on the stored meshes; and the word of ./yelmuzard with its status.
-set -eu
-case ${1-} in
---help | -h)
-    sed -n '2,/^[^#]/s/^# \{0,1\}//p' "$0"
-    exit 0
-    ;;
-esac
-cd "$(dirname "$0")/.."
+. "$(dirname "$0")/head.sh"
 sh tests/prove.sh check audit
 folder=$(mktemp -d)
 trap 'rm -rf "$folder"' EXIT
