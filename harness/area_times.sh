@@ -2,14 +2,7 @@
 # The time of voronoi_areas beside a build's, in one program and one run, on uniform gauges: harness/area_times.sh [COUNT ..], 30 2,000 65,536 unless
 # counts are given. Processor time, ns a site, best and in brackets the median; the ratio is the areas' over the build's. Needs SciPy
 # (tools/gauges makes the meshes). On a machine that is no x86-64 the emulator runs it, and the times say nothing but their ratio.
-set -eu
-case ${1-} in
---help | -h)
-    sed -n '2,/^[^#]/s/^# \{0,1\}//p' "$0"
-    exit 0
-    ;;
-esac
-cd "$(dirname "$0")/.."
+. "$(dirname "$0")/../tests/head.sh"
 [ $# -gt 0 ] || set -- 30 2000 65536
 program=target/harness/area_times
 sh tests/archive.sh build "$program" harness/area_times.c
