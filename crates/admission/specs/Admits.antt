@@ -6,7 +6,8 @@ use Prim.Native.Nat.{ℕ}
 use lib.Ieee.{Float}
 use lib.ListN.{length}
 use Rattle.laws.specs.Refusals.{Rule, once, reads, Keep, Finds}
-use Rattle.mesh.specs.Rules.{numberOf, startRules, coordinateRules, callRules}
+use Rattle.mesh.specs.Faults.{numberOf, startRules, coordinateRules}
+use Rattle.mesh.specs.Rules.{callRules}
 use Rattle.mesh.specs.Accepted.{Mesh, Accepted}
 
 -- what the call's own arguments gave: a number, 0 where they are sound

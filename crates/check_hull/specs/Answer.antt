@@ -8,7 +8,7 @@ use Rattle.laws.specs.Refusals.{Finds}
 use Rattle.mesh.specs.declared.MeshFault.{MeshFault}
 use Rattle.mesh.specs.declared.MeshFault.the-variants.{None}
 use Rattle.mesh.specs.Hull.{FreshAt}
-use Rattle.mesh.specs.Rules.{hullRules}
+use Rattle.mesh.specs.Faults.{hullRules}
 use Rattle.check_hull.specs.Marks.{marksTo, leftTo}
 
 abbrev pub HullAnswer : List ℕ → List ℕ → List ℕ → ℕ → MeshFault → Type 0

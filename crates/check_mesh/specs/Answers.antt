@@ -8,7 +8,7 @@ use Rattle.numbers.specs.Numbers.{EMPTY}
 use Rattle.mesh.specs.declared.MeshFault.{MeshFault}
 use Rattle.mesh.specs.declared.MeshFault.the-variants.{None}
 use Rattle.mesh.specs.Mesh.{leftmostIn}
-use Rattle.mesh.specs.Rules.{numberOf, shapeRules, hullRules, fanRules, topologyRules, meshRules}
+use Rattle.mesh.specs.Faults.{numberOf, shapeRules, hullRules, fanRules, topologyRules, meshRules}
 use Rattle.mesh.specs.Accepted.{Mesh, siteCount}
 use Rattle.check_mesh.specs.AtExit.{atExit}
 

@@ -6,7 +6,7 @@ use borrow.Author.Needs.{needs}
 use Rattle.laws.specs.laws.Refusals.{finds-one, finds-keep, finds-none}
 use Rattle.mesh.specs.declared.MeshFault.{MeshFault}
 use Rattle.mesh.specs.declared.MeshFault.the-variants.{None}
-use Rattle.mesh.specs.Rules.{numberOf}
+use Rattle.mesh.specs.Faults.{numberOf}
 use Rattle.mesh.specs.Accepted.{Mesh, Accepted, siteCount}
 use Rattle.mesh.specs.laws.Verdicts.{accepted-keep, keep-accepted}
 use Rattle.check_mesh.specs.Answers.{Finding, MeshAnswer, workAfter}

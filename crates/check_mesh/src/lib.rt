@@ -5,7 +5,7 @@ ghost use lib.ListN.{length};
 ghost use Rattle.numbers.specs.Numbers.{EMPTY};
 ghost use Rattle.laws.specs.Decide.{Says};
 ghost use Rattle.mesh.specs.Mesh.{AllSound, AllPaired};
-ghost use Rattle.mesh.specs.Rules.{numberOf};
+ghost use Rattle.mesh.specs.Faults.{numberOf};
 ghost use Rattle.mesh.specs.Accepted.{mesh, Counted};
 ghost use Rattle.check_mesh.specs.Answers.{ShapeAnswer, BorderAnswer, TopologyAnswer, MeshAnswer};
 use mesh::MeshFault;

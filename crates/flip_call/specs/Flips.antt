@@ -8,7 +8,7 @@ use Rattle.laws.specs.Pick.{pick}
 use Rattle.laws.specs.Refusals.{Rule, once, reads, Finds}
 use Rattle.numbers.specs.Numbers.{EMPTY, refusedCount, refusedRoom, refusedFlip}
 use Rattle.mesh.specs.Mesh.{leftmostOf, leftmostIn}
-use Rattle.mesh.specs.Rules.{numberOf, topologyRules}
+use Rattle.mesh.specs.Faults.{numberOf, topologyRules}
 use Rattle.mesh.specs.Accepted.{Counted}
 use Rattle.check_mesh.specs.AtExit.{atExit}
 use Rattle.flipping.specs.Flip.{flippedTriangles, flippedPairs, Flippable}

@@ -10,7 +10,7 @@ use Rattle.laws.specs.Refusals.{Rule, once, each, reads, Finds}
 use Rattle.numbers.specs.Numbers.{EMPTY, refusedCount, refusedRoom, refusedGrid}
 use Rattle.mesh.specs.declared.MeshFault.{MeshFault}
 use Rattle.mesh.specs.Mesh.{leftmostIn}
-use Rattle.mesh.specs.Rules.{numberOf, topologyRules}
+use Rattle.mesh.specs.Faults.{numberOf, topologyRules}
 use Rattle.mesh.specs.Accepted.{Counted}
 use Rattle.check_mesh.specs.AtExit.{atExit}
 use Rattle.grid.specs.Plane.{WithinAt}

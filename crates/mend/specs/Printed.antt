@@ -16,7 +16,7 @@ use Rattle.listing.specs.Text.{ascii}
 use Rattle.listing.specs.Listing.{refusal}
 use Rattle.mesh.specs.declared.MeshFault.the-variants.{Triangle}
 use Rattle.mesh.specs.Mesh.{SoundAt}
-use Rattle.mesh.specs.Rules.{numberOf, coordinateRules}
+use Rattle.mesh.specs.Faults.{numberOf, coordinateRules}
 use Rattle.mesh.specs.Accepted.{Counted, siteCount}
 use Rattle.mend_pairs.specs.Pairs.{pairsOf}
 use Rattle.mend_changes.specs.Changes.{Difference}

@@ -9,7 +9,7 @@ use Rattle.laws.specs.Refusals.{Rule, once, reads, Finds}
 use Rattle.numbers.specs.Numbers.{EMPTY, refusedHull}
 use Rattle.mesh.specs.Mesh.{leftmostIn}
 use Rattle.mesh.specs.Hull.{Hull}
-use Rattle.mesh.specs.Rules.{numberOf, fanRules}
+use Rattle.mesh.specs.Faults.{numberOf, fanRules}
 use Rattle.mend_hull.specs.Loop.{hullOf}
 
 -- s is a site of the table, or EMPTY

@@ -10,7 +10,7 @@ use Rattle.laws.specs.Refusals.{Rule, once, each, reads, Finds}
 use Rattle.numbers.specs.Numbers.{EMPTY, refusedTwice}
 use Rattle.mesh.specs.declared.MeshFault.the-variants.{Triangle}
 use Rattle.mesh.specs.Mesh.{SoundAt, leftmostIn}
-use Rattle.mesh.specs.Rules.{numberOf, startRules, coordinateRules}
+use Rattle.mesh.specs.Faults.{numberOf, startRules, coordinateRules}
 use Rattle.mesh.specs.Accepted.{Mesh, mesh, siteCount}
 use Rattle.check_mesh.specs.AtExit.{atExit}
 use Rattle.mend_pairs.specs.Pairs.{pairsOf, AllSingle}

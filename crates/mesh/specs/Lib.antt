@@ -3,6 +3,8 @@ pub mod Mesh
 pub mod Hull
 pub mod Accepted
 pub mod Rules
+pub mod Faults
+pub mod ByNumber
 pub mod laws
 pub mod WalkTheorem
 pub mod Rings

@@ -21,7 +21,7 @@ use Rattle.form_step.specs.declared.Form.{Form}
 use Rattle.form_step.specs.declared.Form.the-variants.{Sound, Broken}
 use Rattle.listing.specs.Listing.{refusal}
 use Rattle.printing.specs.laws.FormLists.{to-form}
-use Rattle.printing.specs.Printed.{Shows, early, late, built, meshOf, ByClip, OfMesh, Prints, sound, broken, ByForm, Text}
+use Rattle.printing.specs.Printed.{Shows, early, late, built, meshOf, ByClip, Prints, sound, broken, ByForm, Text}
 
 module _ {Rules : ℕ → Type 0} {text : Built → List ℕ} (one : (a b : ℕ) → Rules a → Rules b → a ≡ b) where
   shows-one : {o : Outcome Fault Built} {a b : List ℕ} → Shows Rules text o a → Shows Rules text o b → a ≡ b
@@ -53,10 +53,10 @@ module _ (t : Text) where
   form-one (Broken n k) bs ss ts es hs x y p q = p ∙ sym q
   form-one (Sound s k h u) bs ss ts es hs x y p q = shows-one (λ a b. admits-one) p q
 
-  is-form : {s : List ℕ} (text : List ℕ) (m : FormMesh) → MeshFits m → s ≡ formOf m → OfMesh t m text → IsForm false s
+  is-form : {s : List ℕ} (text : List ℕ) (m : FormMesh) → MeshFits m → s ≡ formOf m → ByClip t (meshOf m) (m .clip) text → IsForm false s
   is-form text m f e q = record { mesh = m; fits = f; admits = admitted t (meshOf m) (m .clip) text q; bytes = e }
 
-  by-reader : (s text : List ℕ) (m : FormMesh) → MeshFits m → s ≡ formOf m → OfMesh t m text
+  by-reader : (s text : List ℕ) (m : FormMesh) → MeshFits m → s ≡ formOf m → ByClip t (meshOf m) (m .clip) text
       → ByForm t (verdict (read s .reader)) (read s .bounds) (read s .sites) (read s .triangles) (read s .halfedges) (read s .hull) text
   by-reader s text m f e q =
       let a = admitted t (meshOf m) (m .clip) text q in

@@ -65,9 +65,6 @@ module _ (t : Text) where
   ByForm (Broken n k) bs ss ts es hs text = text ≡ refusal n
   ByForm (Sound s k h u) bs ss ts es hs text = InBox (mesh (take (2 * s) ss) (take (3 * k) ts) (take (3 * k) es) (take h hs)) (boxBy u bs) text
 
-  abbrev pub OfMesh : FormMesh → List ℕ → Type 0
-  OfMesh m = ByClip (meshOf m) (m .clip)
-
   pub data Prints (s : List ℕ) : List ℕ → Type 0 where
-    sound : {text : List ℕ} (m : FormMesh) → MeshFits m → s ≡ formOf m → OfMesh m text → Prints s text
+    sound : {text : List ℕ} (m : FormMesh) → MeshFits m → s ≡ formOf m → ByClip (meshOf m) (m .clip) text → Prints s text
     broken : {k n : ℕ} → Place false s k → NumberAt false s k n → Prints s (refusal n)

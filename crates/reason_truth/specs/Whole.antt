@@ -8,7 +8,7 @@ use Rattle.laws.specs.Refusals.{Rule, once, each, Keeps, Breaks, Keep, Judged, 
 use Rattle.numbers.specs.Numbers.{refusedCount, refusedRoom}
 use Rattle.mesh.specs.declared.MeshFault.{MeshFault}
 use Rattle.mesh.specs.Accepted.{Mesh, tableOf, Counted, Accepted, siteCount}
-use Rattle.mesh.specs.Rules.{coordinateRules, topologyRules}
+use Rattle.mesh.specs.Faults.{coordinateRules, topologyRules}
 use Rattle.mesh.specs.laws.Verdicts.{keep-accepted}
 use Rattle.definition.specs.declared.Fault.{Fault}
 use Rattle.definition.specs.Fault.{Outcome, ok, refused}

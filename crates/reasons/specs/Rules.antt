@@ -5,7 +5,7 @@ use lib.ListN.{length, getD}
 use Rattle.laws.specs.Refusals.{Rule, once, reads, Finds}
 use Rattle.numbers.specs.Numbers.{refusedSite}
 use Rattle.mesh.specs.Accepted.{Mesh, tableOf, siteCount}
-use Rattle.mesh.specs.Rules.{startRules, coordinateRules, topologyRules}
+use Rattle.mesh.specs.Faults.{startRules, coordinateRules, topologyRules}
 use Rattle.definition.specs.declared.Fault.{Fault}
 use Rattle.definition.specs.Fault.{Outcome, ok, refused}
 use Rattle.definition.specs.Cell.{unmarked}

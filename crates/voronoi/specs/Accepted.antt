@@ -7,7 +7,7 @@ use Rattle.laws.specs.laws.Refusals.{finds-reads}
 use Rattle.numbers.specs.Numbers.{EMPTY}
 use Rattle.mesh.specs.declared.MeshFault.{MeshFault}
 use Rattle.mesh.specs.Mesh.{leftmostIn}
-use Rattle.mesh.specs.Rules.{numberOf}
+use Rattle.mesh.specs.Faults.{numberOf}
 use Rattle.mesh.specs.Accepted.{Mesh, Accepted, siteCount}
 use Rattle.check_mesh.specs.Answers.{Finding}
 use Rattle.check_mesh.specs.laws.AtExit.{exit-made}

@@ -11,7 +11,8 @@ use Rattle.laws.specs.Refusals.{Rule, once, each, reads, Keep, Finds}
 use Rattle.laws.specs.laws.Refusals.{Answers, finds-one, finds-none, finds-keep, finds-answers, finds-instead, finds-own, keeps, breaks}
 use Rattle.laws.specs.laws.Decide.{eq-or-ne}
 use Rattle.numbers.specs.Numbers.{refusedCount, refusedRoom, refusedTriangle, refusedFan}
-use Rattle.mesh.specs.Rules.{numberOf, coordinateRules, topologyRules, callRules}
+use Rattle.mesh.specs.Faults.{numberOf, coordinateRules, topologyRules}
+use Rattle.mesh.specs.Rules.{callRules}
 use Rattle.mesh.specs.Accepted.{Mesh, Counted, siteCount}
 use Rattle.mesh.specs.laws.Verdicts.{accepted-keep, keep-accepted}
 use Rattle.admission.specs.Admits.{askedRules, Admits, Admitted}

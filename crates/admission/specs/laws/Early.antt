@@ -11,7 +11,7 @@ use borrow.Author.Needs.{needs}
 use Rattle.laws.specs.Refusals.{reads, Keep}
 use Rattle.laws.specs.laws.Refusals.{finds-keep, finds-answers, finds-first, finds-after, finds-reads}
 use Rattle.mesh.specs.declared.MeshFault.{MeshFault}
-use Rattle.mesh.specs.Rules.{numberOf, topologyRules}
+use Rattle.mesh.specs.Faults.{numberOf, topologyRules}
 use Rattle.mesh.specs.Accepted.{Mesh, siteCount}
 use Rattle.mesh.specs.Mesh.{leftmostIn}
 use Rattle.check_mesh.specs.Answers.{TopologyAnswer, workAfter}

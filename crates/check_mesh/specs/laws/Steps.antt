@@ -15,7 +15,7 @@ use Rattle.utils.specs.Sites.{KeptAt}
 use Rattle.mesh.specs.declared.MeshFault.{MeshFault}
 use Rattle.mesh.specs.declared.MeshFault.the-variants.{None, Counts, Room, Coordinate, BrokenFan}
 use Rattle.mesh.specs.Mesh.{leftmostIn, AllSound, AllPaired, Paired}
-use Rattle.mesh.specs.Rules.{numberOf, shapeRules, hullRules, fanRules, topologyRules}
+use Rattle.mesh.specs.Faults.{numberOf, shapeRules, hullRules, fanRules, topologyRules}
 use Rattle.mesh.specs.Accepted.{Mesh, Counted, siteCount}
 use Rattle.mesh.specs.laws.Facts.{sound-site}
 use Rattle.mesh.specs.laws.Verdicts.{topology-late}

@@ -11,7 +11,7 @@ use Rattle.laws.specs.Refusals.{Rule, Keep, reads}
 use Rattle.laws.specs.laws.Refusals.{breaks, finds-none, finds-after}
 use Rattle.numbers.specs.Numbers.{refusedCircumcenter, refusedExtension}
 use Rattle.mesh.specs.Accepted.{Mesh, Accepted, siteCount}
-use Rattle.mesh.specs.Rules.{startRules, coordinateRules, topologyRules}
+use Rattle.mesh.specs.Faults.{startRules, coordinateRules, topologyRules}
 use Rattle.mesh.specs.laws.Verdicts.{accepted-keep}
 use Rattle.definition.specs.declared.Fault.{Fault}
 use Rattle.definition.specs.Fault.{Outcome, ok, refused}

@@ -13,7 +13,8 @@ use Rattle.mesh.specs.declared.MeshFault.{MeshFault}
 use Rattle.mesh.specs.declared.MeshFault.the-variants.{None, Counts, Room, Coordinate, Triangle, Pairing, HullPlace, HullEdge, BrokenFan}
 use Rattle.mesh.specs.Mesh.{leftmostIn}
 use Rattle.mesh.specs.Accepted.{Mesh, tableOf, siteCount}
-use Rattle.mesh.specs.Rules.{numberOf, startRules, coordinateRules, topologyRules, meshRules, callRules}
+use Rattle.mesh.specs.Faults.{numberOf, startRules, coordinateRules, topologyRules, meshRules}
+use Rattle.mesh.specs.Rules.{callRules}
 use Rattle.check_mesh.specs.laws.AtExit.{exit-held, exit-blank}
 use Rattle.definition.specs.declared.Fault.{Fault}
 use Rattle.definition.specs.Fault.{Outcome}

@@ -8,7 +8,7 @@ use Rattle.laws.specs.Refusals.{Rule, once, each, Keep, Judged, reads}
 use Rattle.mesh.specs.declared.MeshFault.{MeshFault}
 use Rattle.mesh.specs.declared.MeshFault.the-variants.{None}
 use Rattle.mesh.specs.Accepted.{Mesh, Counted, siteCount}
-use Rattle.mesh.specs.Rules.{coordinateRules, topologyRules, meshRules}
+use Rattle.mesh.specs.Faults.{coordinateRules, topologyRules, meshRules}
 use Rattle.check_mesh.specs.Answers.{Finding, MeshAnswer}
 use Rattle.reasons.specs.Reason.{faultPlace}
 

@@ -17,7 +17,7 @@ use Rattle.laws.specs.laws.Refusals.{breaks, keeps, nothing, finds-keep, finds-
 use Rattle.numbers.specs.Numbers.{EMPTY, refusedTriangle, refusedRoom, refusedFlip}
 use Rattle.mesh.specs.declared.MeshFault.{MeshFault}
 use Rattle.mesh.specs.Mesh.{pairOf, leftmostOf, leftmostIn}
-use Rattle.mesh.specs.Rules.{numberOf, topologyRules}
+use Rattle.mesh.specs.Faults.{numberOf, topologyRules}
 use Rattle.mesh.specs.Accepted.{Counted, Topology}
 use Rattle.mesh.specs.laws.Table.{table-length}
 use Rattle.mesh.specs.laws.Facts.{few-entries, few-on-hull, paired}

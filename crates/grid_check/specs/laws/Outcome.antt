@@ -16,7 +16,7 @@ use Rattle.laws.specs.laws.Refusals.{breaks, offends, keeps, all-keep, finds-ke
 use Rattle.numbers.specs.Numbers.{EMPTY, refusedCount, refusedRoom, refusedGrid}
 use Rattle.mesh.specs.declared.MeshFault.{MeshFault}
 use Rattle.mesh.specs.Mesh.{leftmostIn}
-use Rattle.mesh.specs.Rules.{numberOf, topologyRules}
+use Rattle.mesh.specs.Faults.{numberOf, topologyRules}
 use Rattle.mesh.specs.Accepted.{Counted}
 use Rattle.mesh.specs.laws.Facts.{few-entries, sound-site}
 use Rattle.check_mesh.specs.AtExit.{atExit}

@@ -11,7 +11,7 @@ use Rattle.laws.specs.Refusals.{Rule, once, each, reads, Judged, Finds}
 use Rattle.numbers.specs.Numbers.{refusedCount, refusedRoom, refusedBox}
 use Rattle.mesh.specs.declared.MeshFault.the-variants.{Triangle}
 use Rattle.mesh.specs.Mesh.{SoundAt}
-use Rattle.mesh.specs.Rules.{numberOf, coordinateRules}
+use Rattle.mesh.specs.Faults.{numberOf, coordinateRules}
 use Rattle.mesh.specs.Accepted.{Counted, mesh, siteCount}
 use Rattle.mending.specs.Mending.{workRules, mendRules}
 use Rattle.form.specs.Form.{Outline}

@@ -13,7 +13,7 @@ use Rattle.numbers.specs.Numbers.{EMPTY, refusedHull}
 use Rattle.mesh.specs.declared.MeshFault.{MeshFault}
 use Rattle.mesh.specs.declared.MeshFault.the-variants.{None}
 use Rattle.mesh.specs.Hull.{nextPlace, Hull}
-use Rattle.mesh.specs.Rules.{numberOf, hullRules, fanRules}
+use Rattle.mesh.specs.Faults.{numberOf, hullRules, fanRules}
 use Rattle.mesh.specs.laws.Border.{after-lt, places-hull, hull-places, hull-border}
 use Rattle.mend_pairs.specs.Chains.{NamesSites}
 use Rattle.check_mesh.specs.Answers.{BorderAnswer}

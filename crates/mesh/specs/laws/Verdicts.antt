@@ -12,7 +12,7 @@ use Rattle.mesh.specs.declared.MeshFault.{MeshFault}
 use Rattle.mesh.specs.declared.MeshFault.the-variants.{None}
 use Rattle.mesh.specs.Mesh.{nextOf, endOf}
 use Rattle.mesh.specs.Accepted.{Mesh, Accepted, siteCount, Topology}
-use Rattle.mesh.specs.Rules.{numberOf, topologyRules, meshRules}
+use Rattle.mesh.specs.Faults.{numberOf, topologyRules, meshRules}
 use Rattle.mesh.specs.laws.Next.{next-lt}
 use Rattle.mesh.specs.laws.Facts.{few-entries, sound-site}
 use Rattle.mesh.specs.laws.Border.{places-hull, hull-places, hull-border}

@@ -15,7 +15,7 @@ use Rattle.form_step.specs.declared.Form.the-variants.{Sound}
 use Rattle.given_box.specs.declared.Given.{Given}
 use Rattle.form_box.specs.FormBox.{boxBy}
 use Rattle.mesh.specs.Accepted.{Mesh, mesh}
-use Rattle.printing.specs.Printed.{InBox, ByClip, OfMesh, ByForm, Text}
+use Rattle.printing.specs.Printed.{meshOf, InBox, ByClip, ByForm, Text}
 
 module _ (t : Text) where
   -- the box that a program made of a form's numbers
@@ -35,9 +35,10 @@ module _ (t : Text) where
 
   module _ (m : FormMesh) (f : MeshFits m) (bs ss : List Float) (ts es hs : List ℕ) (room : ListRoom bs ss ts es hs) (bs′ ss′ : List Float) (ts′ es′ hs′ : List ℕ)
       (p : Put m bs ss ts es hs bs′ ss′ ts′ es′ hs′) (text : List ℕ) where
-    pub to-mesh : MayBegin false (m .clip) → ByForm t (Sound (length (m .sites)) (length (m .triangles)) (length (m .hull)) (kindOf (m .clip))) bs′ ss′ ts′ es′ hs′ text → OfMesh t m text
+    pub to-mesh : MayBegin false (m .clip) → ByForm t (Sound (length (m .sites)) (length (m .triangles)) (length (m .hull)) (kindOf (m .clip))) bs′ ss′ ts′ es′ hs′ text
+        → ByClip t (meshOf m) (m .clip) text
     to-mesh a q = rw (sites-are f room p, tri-is f room p, he-is f room p, hull-is f room p) at (to-clip bs bs′ (room .bounds) (mesh (take (2 * length (m .sites)) ss′)
         (take (3 * length (m .triangles)) ts′) (take (3 * length (m .triangles)) es′) (take (length (m .hull)) hs′)) text (m .clip) a (p .bounds) q)
 
-    pub to-form : OfMesh t m text → ByForm t (Sound (length (m .sites)) (length (m .triangles)) (length (m .hull)) (kindOf (m .clip))) bs′ ss′ ts′ es′ hs′ text
+    pub to-form : ByClip t (meshOf m) (m .clip) text → ByForm t (Sound (length (m .sites)) (length (m .triangles)) (length (m .hull)) (kindOf (m .clip))) bs′ ss′ ts′ es′ hs′ text
     to-form q = rw (sites-are f room p, tri-is f room p, he-is f room p, hull-is f room p) (to-box bs bs′ (room .bounds) _ text (m .clip) (p .bounds) q)

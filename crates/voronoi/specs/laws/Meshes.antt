@@ -3,7 +3,7 @@ use mathlib.Core.Path.{_≡_, sym, ap, _∙_}
 use mathlib.Core.List.{List}
 use Prim.Native.Nat.{ℕ}
 use Rattle.mesh.specs.declared.MeshFault.{MeshFault}
-use Rattle.mesh.specs.Rules.{numberOf}
+use Rattle.mesh.specs.Faults.{numberOf}
 use Rattle.mesh.specs.Accepted.{Mesh}
 use Rattle.check_mesh.specs.Answers.{MeshAnswer, workAfter}
 use Rattle.voronoi.specs.Meshes.{Check}

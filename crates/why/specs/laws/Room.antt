@@ -11,7 +11,7 @@ use Rattle.laws.specs.Refusals.{Rule, once, reads, Judged}
 use Rattle.given_box.specs.declared.Given.{Given}
 use Rattle.mesh.specs.Accepted.{Mesh, siteCount, Counted}
 use Rattle.mesh.specs.declared.MeshFault.the-variants.{Counts, Room}
-use Rattle.mesh.specs.Rules.{coordinateRules, topologyRules}
+use Rattle.mesh.specs.Faults.{coordinateRules, topologyRules}
 use Rattle.definition.specs.declared.Fault.{Fault}
 use Rattle.definition.specs.Fault.{Outcome}
 use Rattle.definition.specs.Build.{Built}
