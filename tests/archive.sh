@@ -67,7 +67,10 @@ build | keep)
     make_archive
     if [ "$word" = keep ] && [ -f "$program" ] && [ -z "$(find "$archive" "$root/include/voronoi.h" "$@" -newer "$program")" ]; then exit 0; fi
     mkdir -p "$(dirname "$program")"
+    # under another name first, so that two tests may build one program, or one run it, at the same time
+    built=$program program=$program.$$
     if [ "$(uname -m)" = x86_64 ] || ! for_x86 "$archive"; then native "$@"; else foreign "$@"; fi
+    mv -f "$program" "$built"
     ;;
 run)
     [ $# -ge 2 ] || { usage >&2 && exit 2; }
