@@ -12,8 +12,8 @@ use Rattle.laws.specs.Refusals.{Rule, once, each as every, reads, Finds}
 use Rattle.laws.specs.Pick.{pick}
 use Rattle.numbers.specs.Numbers.{refusedCount, refusedBox}
 use Rattle.octets.specs.Bytes.{each}
-use Rattle.listing.specs.Text.{ascii}
-use Rattle.listing.specs.Listing.{refusal}
+use Rattle.text_parts.specs.Text.{ascii}
+use Rattle.text_parts.specs.Labelled.{refusal}
 use Rattle.mesh.specs.declared.MeshFault.the-variants.{Triangle}
 use Rattle.mesh.specs.Mesh.{SoundAt}
 use Rattle.mesh.specs.Rules.{numberOf, coordinateRules}

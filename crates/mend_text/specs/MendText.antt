@@ -6,8 +6,8 @@ use lib.ListN.{length, getD, take, drop}
 use Rattle.laws.specs.Pick.{pick}
 use Rattle.numbers.specs.Numbers.{EMPTY}
 use Rattle.hex.specs.Hex.{hex}
-use Rattle.listing.specs.Text.{ascii}
-use Rattle.listing.specs.Listing.{entries, labelled}
+use Rattle.text_parts.specs.Text.{ascii}
+use Rattle.text_parts.specs.Labelled.{entries, labelled}
 
 -- a value after a blank, or the word that there is none
 unfoldable pub orNone : ℕ → List ℕ

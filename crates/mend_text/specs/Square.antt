@@ -4,8 +4,8 @@ use mathlib.Core.List.{[], _∷_, _++_}
 use Rattle.numbers.specs.Numbers.{EMPTY}
 use Rattle.octets.specs.Bytes.{le}
 use Rattle.hex.specs.Hex.{hex}
-use Rattle.listing.specs.Text.{ascii, digits, decimal}
-use Rattle.listing.specs.Listing.{entries, labelled}
+use Rattle.text_parts.specs.Text.{ascii, digits, decimal}
+use Rattle.text_parts.specs.Labelled.{entries, labelled}
 use Rattle.mend_text.specs.MendText.{orNone, changeLine, changeLines, countsLine, patternTexts, boxLine, mendText}
 
 pub rows :

@@ -1,10 +1,10 @@
 // Writes the text of `mend` into a lent slice of bytes: each function writes its text from a place on and answers the place after it.
 use hex::put_turned;
-use listing::entry;
-use listing::labelled;
 use numbers::EMPTY;
 use numbers::wide;
 use octets::put;
+use text_parts::entry;
+use text_parts::labelled;
 ghost use mathlib.Core.Path.{_≡_};
 ghost use mathlib.Core.List.{_++_};
 ghost use Prim.Native.Nat.{_+_, _*_, _≤_};

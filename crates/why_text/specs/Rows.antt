@@ -1,8 +1,8 @@
 -- Rows: the line of each kind of reason, and what arguments ask for. By computation.
 use mathlib.Core.Path.{_≡_, refl}
 use Rattle.numbers.specs.Numbers.{EMPTY}
-use Rattle.listing.specs.Text.{ascii, digits, decimal}
-use Rattle.listing.specs.Listing.{entries, labelled, refusal}
+use Rattle.text_parts.specs.Text.{ascii, digits, decimal}
+use Rattle.text_parts.specs.Labelled.{entries, labelled, refusal}
 use Rattle.reasons.specs.declared.Question.the-variants.{Nothing, About, Between}
 use Rattle.reasons.specs.declared.Reason.the-variants.{NoFault, Number, AtSite, AtTriangle, AtHalfEdge, AtHullPlace, AtEdge, Unused, TriesEmpty, Dropped}
 use Rattle.why_text.specs.declared.Command.the-variants.{Ask, Usage}

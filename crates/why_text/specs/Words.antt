@@ -4,7 +4,7 @@ use mathlib.Core.List.{List, [], _∷_}
 use Prim.Native.Nat.{ℕ}
 use lib.Dec.{eqb, leb, ltb}
 use Rattle.laws.specs.Pick.{pick}
-use Rattle.listing.specs.Text.{value}
+use Rattle.text_parts.specs.Text.{value}
 use Rattle.reasons.specs.declared.Question.the-variants.{Nothing, About, Between}
 use Rattle.why_text.specs.declared.Word.{Word}
 use Rattle.why_text.specs.declared.Word.the-variants.{Site, Other}

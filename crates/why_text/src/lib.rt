@@ -1,11 +1,11 @@
 // Writes the line of `why` for a reason into a lent slice of bytes, and reads what its arguments ask for.
 pub mod words; // words.rt: the arguments
 
-use listing::entry;
-use listing::labelled;
 use octets::put;
 use reasons::Question;
 use reasons::Reason;
+use text_parts::entry;
+use text_parts::labelled;
 ghost use Rattle.octets.specs.Wrote.{Wrote, HasRoom};
 ghost use Rattle.why_text.specs.ReasonLine.{placeLine, edgeEnds, edgeLine, emptyLine, droppedLine, reasonLine};
 
@@ -76,7 +76,7 @@ pub fn reason_line(out: &mut [u8], r: Reason) -> usize
 {
     match r {
         Reason::NoFault => put(out, 0, b"no fault\n"),
-        Reason::Number(n) => listing::refusal(out, n),
+        Reason::Number(n) => text_parts::refusal(out, n),
         Reason::AtSite(n, s) => with_place(out, n, b": site", s),
         Reason::AtTriangle(n, t) => with_place(out, n, b": triangle", t),
         Reason::AtHalfEdge(n, e) => with_place(out, n, b": half-edge", e),

@@ -11,9 +11,9 @@ use borrow.Author.Tests.{eq-eqb, ne-eqb}
 use Rattle.laws.specs.Pick.{pick}
 use Rattle.octets.specs.Bytes.{each}
 use Rattle.octets.specs.Wrote.{Wrote}
-use Rattle.listing.specs.Text.{ascii}
-use Rattle.listing.specs.Listing.{refusal}
-use Rattle.listing.specs.laws.Listing.{refusal-short}
+use Rattle.text_parts.specs.Text.{ascii}
+use Rattle.text_parts.specs.Labelled.{refusal}
+use Rattle.text_parts.specs.laws.Labelled.{refusal-short}
 use Rattle.mend_changes.specs.Changes.{Difference, flatChanges}
 use Rattle.mend_text.specs.MendText.{changeLines, countsLine, boxLine, mendText}
 use Rattle.mend_text.specs.laws.MendText.{lines-shift, text-short}

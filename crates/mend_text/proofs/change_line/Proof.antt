@@ -4,8 +4,8 @@ use Prim.Native.Nat.{ℕ, _+_, _≤_}
 use native.Mathlib.Omega.{arith}
 use lib.ListN.{length, length-append}
 use denote.Ref.{now}
-use Rattle.listing.specs.Text.{ascii}
-use Rattle.listing.specs.Listing.{entries}
+use Rattle.text_parts.specs.Text.{ascii}
+use Rattle.text_parts.specs.Labelled.{entries}
 use Rattle.octets.specs.laws.Wrote.{wrote-then}
 use Rattle.mend_text.specs.MendText.{orNone, changeLine}
 use borrow.Author.Needs.{needs}

@@ -3,7 +3,7 @@ use mathlib.Core.List.{_++_}
 use native.Mathlib.Omega.{arith}
 use lib.ListN.{length-append}
 use denote.Ref.{now}
-use Rattle.listing.specs.Text.{ascii}
+use Rattle.text_parts.specs.Text.{ascii}
 use Rattle.octets.specs.laws.Wrote.{wrote-then}
 use Rattle.mend_text.specs.MendText.{changeLines, boxLine, mendText}
 use borrow.Author.Needs.{needs}

@@ -9,9 +9,9 @@ use borrow.Author.Tests.{eq-eqb, ne-eqb}
 use Rattle.laws.specs.laws.Decide.{eq-or-ne}
 use Rattle.hex.specs.Hex.{hex}
 use Rattle.hex.specs.laws.Hex.{hex-length}
-use Rattle.listing.specs.Text.{ascii}
-use Rattle.listing.specs.Listing.{entries}
-use Rattle.listing.specs.laws.Listing.{entries-short}
+use Rattle.text_parts.specs.Text.{ascii}
+use Rattle.text_parts.specs.Labelled.{entries}
+use Rattle.text_parts.specs.laws.Labelled.{entries-short}
 use Rattle.mend_text.specs.MendText.{patternText, patternTexts, boxLine}
 
 pub box-none : (s : List ℕ) → length s ≢ 33 → boxLine s ≡ []

@@ -11,9 +11,9 @@ use lib.ListN.{length, getD, length-append}
 use Rattle.laws.specs.Pick.{pick}
 use Rattle.numbers.specs.Numbers.{EMPTY}
 use Rattle.octets.specs.laws.Lines.{linesFrom}
-use Rattle.listing.specs.Text.{ascii}
-use Rattle.listing.specs.Listing.{entries, labelled}
-use Rattle.listing.specs.laws.Listing.{entries-short, labelled-short}
+use Rattle.text_parts.specs.Text.{ascii}
+use Rattle.text_parts.specs.Labelled.{entries, labelled}
+use Rattle.text_parts.specs.laws.Labelled.{entries-short, labelled-short}
 use Rattle.mend_text.specs.MendText.{orNone, changeLine, lineAt, changeLines, countsLine, boxLine, mendText}
 use Rattle.mend_text.specs.laws.BoxLine.{box-short}
 

@@ -10,7 +10,7 @@ use lib.Dec.{leb}
 use lib.ListN.{length, getD, drop}
 use borrow.Author.Tests.{eq-eqb, ne-eqb, lt-ltb, le-ltb, le-leb, lt-leb, leb-true}
 use Rattle.laws.specs.Pick.{pick}
-use Rattle.listing.specs.Text.{value}
+use Rattle.text_parts.specs.Text.{value}
 use Rattle.reasons.specs.declared.Question.the-variants.{Nothing}
 use Rattle.why_text.specs.declared.Word.the-variants.{Site, Other}
 use Rattle.why_text.specs.declared.Command.the-variants.{Ask, Usage}

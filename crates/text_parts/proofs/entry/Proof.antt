@@ -1,16 +1,16 @@
--- `listing::entry` meets its contract: the blank is one store, and the digits come after it.
+-- `text_parts::entry` meets its contract: the blank is one store, and the digits come after it.
 use mathlib.Core.Path.{sym, ap, subst, _∙_}
 use mathlib.Core.List.{[], _∷_}
 use native.Mathlib.Omega.{arith}
 use lib.ListN.{length, length-set}
 use denote.Ref.{now}
-use Rattle.listing.specs.Text.{decimal}
-use Rattle.listing.specs.laws.Listing.{entries-one}
+use Rattle.text_parts.specs.Text.{decimal}
+use Rattle.text_parts.specs.laws.Labelled.{entries-one}
 use Rattle.octets.specs.Wrote.{HasRoom}
 use Rattle.octets.specs.laws.Wrote.{wrote-one, wrote-then, wrote-as, fits-then}
 use borrow.Author.Needs.{needs}
-use Rattle.listing.proofs.entry.Statement.{statement}
-use Rattle.listing.proofs.entry.Tie as tie
+use Rattle.text_parts.proofs.entry.Statement.{statement}
+use Rattle.text_parts.proofs.entry.Tie as tie
 
 slice-write-out : tie.Need-slice-write-out
 slice-write-out c = let s = c .before in omega (arith, s .pre, ap length (entries-one (s .args .n)))

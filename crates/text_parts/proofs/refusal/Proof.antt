@@ -1,11 +1,11 @@
--- `listing::refusal` meets its contract: a labelled number and the line's end.
+-- `text_parts::refusal` meets its contract: a labelled number and the line's end.
 use native.Mathlib.Omega.{arith}
 use lib.ListN.{length-append}
 use Rattle.octets.specs.laws.Wrote.{wrote-then}
-use Rattle.listing.specs.Listing.{labelled as labelledOf, refusal as refusalOf}
+use Rattle.text_parts.specs.Labelled.{labelled as labelledOf, refusal as refusalOf}
 use borrow.Author.Needs.{needs}
-use Rattle.listing.proofs.refusal.Statement.{statement}
-use Rattle.listing.proofs.refusal.Tie as tie
+use Rattle.text_parts.proofs.refusal.Statement.{statement}
+use Rattle.text_parts.proofs.refusal.Tie as tie
 
 abbrev Entry : tie.After-labelled → tie.Start
 Entry c = c .before .before .before .before

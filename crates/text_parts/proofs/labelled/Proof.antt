@@ -1,10 +1,10 @@
--- `listing::labelled` meets its contract: the label, and the entry after it.
+-- `text_parts::labelled` meets its contract: the label, and the entry after it.
 use native.Mathlib.Omega.{arith}
 use lib.ListN.{length-append}
 use Rattle.octets.specs.laws.Wrote.{wrote-then}
 use borrow.Author.Needs.{needs}
-use Rattle.listing.proofs.labelled.Statement.{statement}
-use Rattle.listing.proofs.labelled.Tie as tie
+use Rattle.text_parts.proofs.labelled.Statement.{statement}
+use Rattle.text_parts.proofs.labelled.Tie as tie
 
 abbrev Entry : tie.After-put → tie.Start
 Entry c = c .before .before .before .before

@@ -8,7 +8,7 @@ use native.Mathlib.Nat.{pow-suc}
 use lib.ListN.{length, getD, length-append, List·getD-append}
 use borrow.Author.Tests.{lt-ltb, le-ltb}
 use Rattle.laws.specs.laws.Decide.{lt-or-ge}
-use Rattle.listing.specs.Text.{Digits, value, Decimal, digits, decimal}
+use Rattle.text_parts.specs.Text.{Digits, value, Decimal, digits, decimal}
 
 digits-one : (k n : ℕ) → n < 10 → digits (suc k) n ≡ (48 + n) ∷ []
 unfolding digits

@@ -1,4 +1,4 @@
--- The proof of `listing::decimal`, which calls itself on what is left of the number without its last digit. The number is the measure.
+-- The proof of `text_parts::decimal`, which calls itself on what is left of the number without its last digit. The number is the measure.
 -- One digit is a store; of more, the digits before the last are written by the call and the last one after them.
 use mathlib.Core.Path.{sym, ap, subst}
 use mathlib.Core.List.{[], _∷_}
@@ -6,18 +6,18 @@ use Prim.Native.Nat.{_+_, _/_, _%_}
 use native.Mathlib.Omega.{arith}
 use lib.ListN.{length, length-set}
 use denote.Ref.{now}
-use Rattle.listing.specs.Text.{decimal as digitsOf}
-use Rattle.listing.specs.laws.Decimal.{decimal-one, decimal-more}
+use Rattle.text_parts.specs.Text.{decimal as digitsOf}
+use Rattle.text_parts.specs.laws.Decimal.{decimal-one, decimal-more}
 use Rattle.octets.specs.Wrote.{HasRoom}
 use Rattle.octets.specs.laws.Wrote.{wrote-one, wrote-then, wrote-as, fits-left, fits-then}
 use Prim.Native.Nat.{ℕ, _<_}
 use borrow.Fn.Kinds.{In}
 use borrow.Fn.PlainCycle.{Measures, is, falls, and}
-use Rattle.listing.proofs.decimal.Reads as decimal
-use Rattle.listing.proofs.decimal.Kinds as decimal-kinds
-use Rattle.listing.proofs.+decimal.Lts-decimal as decimal-lts
-use Rattle.listing.proofs.+decimal.{statement}
-use Rattle.listing.proofs.+decimal.Tie.{close}
+use Rattle.text_parts.proofs.decimal.Reads as decimal
+use Rattle.text_parts.proofs.decimal.Kinds as decimal-kinds
+use Rattle.text_parts.proofs.+decimal.Lts-decimal as decimal-lts
+use Rattle.text_parts.proofs.+decimal.{statement}
+use Rattle.text_parts.proofs.+decimal.Tie.{close}
 
 abbrev μ-decimal : Measures 1 decimal-kinds.ps ℕ
 μ-decimal κs a = a .1 .1 .0
