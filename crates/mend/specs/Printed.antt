@@ -25,7 +25,8 @@ use Rattle.form.specs.Form.{Outline, FormMesh, MeshFits, MayBegin, formOf, outl
 use Rattle.form.specs.Place.{Place, NumberAt}
 use Rattle.form_writer.specs.FormOf.{meshWith}
 use Rattle.mend_box.specs.Option.{isBox, gives, keepsBox, inPlace, firstAfter}
-use Rattle.mend_text.specs.MendText.{changeLine, countsLine, boxLine}
+use Rattle.change_text.specs.ChangeLines.{changeLine, countsLine}
+use Rattle.box_text.specs.BoxLine.{boxLine}
 use Rattle.mend.specs.declared.Way.{Way}
 use Rattle.mend.specs.declared.Way.the-variants.{Print, Usage}
 

@@ -15,8 +15,11 @@ use Rattle.text_parts.specs.Text.{ascii}
 use Rattle.text_parts.specs.Labelled.{refusal}
 use Rattle.text_parts.specs.laws.Labelled.{refusal-short}
 use Rattle.mend_changes.specs.Changes.{Difference, flatChanges}
-use Rattle.mend_text.specs.MendText.{changeLines, countsLine, boxLine, mendText}
-use Rattle.mend_text.specs.laws.MendText.{lines-shift, text-short}
+use Rattle.change_text.specs.ChangeLines.{changeLines, countsLine}
+use Rattle.box_text.specs.BoxLine.{boxLine}
+use Rattle.mend_text.specs.MendText.{mendText}
+use Rattle.change_text.specs.laws.ChangeLines.{lines-shift}
+use Rattle.mend_text.specs.laws.MendText.{text-short}
 use Rattle.form_writer.specs.Written.{writtenForm}
 use Rattle.form_writer.specs.FormOf.{length-written}
 use Rattle.mend.specs.Printed.{changeLineOf, changesText}

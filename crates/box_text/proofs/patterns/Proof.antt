@@ -1,14 +1,14 @@
--- `mend_text::patterns` meets its contract: four patterns, one after the other.
+-- `box_text::patterns` meets its contract: four patterns, one after the other.
 use mathlib.Core.Path.{sym}
 use native.Mathlib.Omega.{arith}
 use lib.ListN.{length-append}
 use lib.Seq.{length-take-le}
 use denote.Ref.{now}
 use Rattle.octets.specs.laws.Wrote.{wrote-then}
-use Rattle.mend_text.specs.MendText.{patternTexts}
+use Rattle.box_text.specs.BoxLine.{patternTexts}
 use borrow.Author.Needs.{needs}
-use Rattle.mend_text.proofs.patterns.Statement.{statement}
-use Rattle.mend_text.proofs.patterns.Tie as tie
+use Rattle.box_text.proofs.patterns.Statement.{statement}
+use Rattle.box_text.proofs.patterns.Tie as tie
 
 abbrev Entry : tie.After-pattern → tie.Start
 Entry c = c .before .before .before .before .before

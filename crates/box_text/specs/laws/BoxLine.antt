@@ -12,7 +12,7 @@ use Rattle.hex.specs.laws.Hex.{hex-length}
 use Rattle.text_parts.specs.Text.{ascii}
 use Rattle.text_parts.specs.Labelled.{entries}
 use Rattle.text_parts.specs.laws.Labelled.{entries-short}
-use Rattle.mend_text.specs.MendText.{patternText, patternTexts, boxLine}
+use Rattle.box_text.specs.BoxLine.{patternText, patternTexts, boxLine}
 
 pub box-none : (s : List ℕ) → length s ≢ 33 → boxLine s ≡ []
 unfolding boxLine

@@ -1,12 +1,12 @@
--- `mend_text::value` meets its contract: by cases on the value.
+-- `change_text::value` meets its contract: by cases on the value.
 use mathlib.Core.Path.{sym, subst}
 use denote.Ref.{now}
 use Rattle.octets.specs.Wrote.{HasRoom}
 use Rattle.octets.specs.laws.Wrote.{wrote-as}
-use Rattle.mend_text.specs.laws.MendText.{is-none, is-some}
+use Rattle.change_text.specs.laws.ChangeLines.{is-none, is-some}
 use borrow.Author.Needs.{needs}
-use Rattle.mend_text.proofs.value.Statement.{statement}
-use Rattle.mend_text.proofs.value.Tie as tie
+use Rattle.change_text.proofs.value.Statement.{statement}
+use Rattle.change_text.proofs.value.Tie as tie
 
 put-requires : tie.Need-put-requires
 put-requires c κs =

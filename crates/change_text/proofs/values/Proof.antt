@@ -1,10 +1,10 @@
--- `mend_text::values` meets its contract: one value after the other.
+-- `change_text::values` meets its contract: one value after the other.
 use native.Mathlib.Omega.{arith}
 use lib.ListN.{length-append}
 use Rattle.octets.specs.laws.Wrote.{wrote-then}
 use borrow.Author.Needs.{needs}
-use Rattle.mend_text.proofs.values.Statement.{statement}
-use Rattle.mend_text.proofs.values.Tie as tie
+use Rattle.change_text.proofs.values.Statement.{statement}
+use Rattle.change_text.proofs.values.Tie as tie
 
 abbrev Entry : tie.After-value → tie.Start
 Entry c = c .before .before .before

@@ -1,10 +1,10 @@
--- `mend_text::pattern` meets its contract: the blank, then the digits.
+-- `box_text::pattern` meets its contract: the blank, then the digits.
 use native.Mathlib.Omega.{arith}
 use lib.ListN.{length-append}
 use Rattle.octets.specs.laws.Wrote.{wrote-then}
 use borrow.Author.Needs.{needs}
-use Rattle.mend_text.proofs.pattern.Statement.{statement}
-use Rattle.mend_text.proofs.pattern.Tie as tie
+use Rattle.box_text.proofs.pattern.Statement.{statement}
+use Rattle.box_text.proofs.pattern.Tie as tie
 
 abbrev Entry : tie.After-put → tie.Start
 Entry c = c .before .before .before .before .before

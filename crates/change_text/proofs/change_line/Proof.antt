@@ -1,4 +1,4 @@
--- `mend_text::change_line` meets its contract: the labelled place, the colon, both values and the line's end, one after the other.
+-- `change_text::change_line` meets its contract: the labelled place, the colon, both values and the line's end, one after the other.
 use mathlib.Core.List.{List, [], _∷_, _++_}
 use Prim.Native.Nat.{ℕ, _+_, _≤_}
 use native.Mathlib.Omega.{arith}
@@ -7,10 +7,10 @@ use denote.Ref.{now}
 use Rattle.text_parts.specs.Text.{ascii}
 use Rattle.text_parts.specs.Labelled.{entries}
 use Rattle.octets.specs.laws.Wrote.{wrote-then}
-use Rattle.mend_text.specs.MendText.{orNone, changeLine}
+use Rattle.change_text.specs.ChangeLines.{orNone, changeLine}
 use borrow.Author.Needs.{needs}
-use Rattle.mend_text.proofs.change_line.Statement.{statement}
-use Rattle.mend_text.proofs.change_line.Tie as tie
+use Rattle.change_text.proofs.change_line.Statement.{statement}
+use Rattle.change_text.proofs.change_line.Tie as tie
 
 abbrev Entry : tie.After-labelled → tie.Start
 Entry c = c .before .before .before .before

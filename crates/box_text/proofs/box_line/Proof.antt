@@ -1,4 +1,4 @@
--- `mend_text::box_line` meets its contract: nothing, or the label with the kind, the four patterns and the line's end.
+-- `box_text::box_line` meets its contract: nothing, or the label with the kind, the four patterns and the line's end.
 use mathlib.Core.Path.{_≡_, sym, subst}
 use mathlib.Core.List.{List, [], _∷_, _++_}
 use native.Mathlib.Omega.{arith}
@@ -10,11 +10,11 @@ use Rattle.text_parts.specs.Text.{ascii}
 use Rattle.text_parts.specs.Labelled.{entries}
 use Rattle.octets.specs.Wrote.{HasRoom}
 use Rattle.octets.specs.laws.Wrote.{wrote-then, wrote-none, wrote-as}
-use Rattle.mend_text.specs.MendText.{patternTexts}
-use Rattle.mend_text.specs.laws.BoxLine.{box-none, box-is}
+use Rattle.box_text.specs.BoxLine.{patternTexts}
+use Rattle.box_text.specs.laws.BoxLine.{box-none, box-is}
 use borrow.Author.Needs.{needs}
-use Rattle.mend_text.proofs.box_line.Statement.{statement}
-use Rattle.mend_text.proofs.box_line.Tie as tie
+use Rattle.box_text.proofs.box_line.Statement.{statement}
+use Rattle.box_text.proofs.box_line.Tie as tie
 
 returns : tie.Need-returns
 returns c =

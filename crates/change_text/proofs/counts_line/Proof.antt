@@ -1,12 +1,12 @@
--- `mend_text::counts_line` meets its contract: two labelled numbers and the line's end.
+-- `change_text::counts_line` meets its contract: two labelled numbers and the line's end.
 use native.Mathlib.Omega.{arith}
 use lib.ListN.{length-append}
 use Rattle.text_parts.specs.Labelled.{labelled as labelledOf}
 use Rattle.octets.specs.laws.Wrote.{wrote-then}
-use Rattle.mend_text.specs.MendText.{countsLine}
+use Rattle.change_text.specs.ChangeLines.{countsLine}
 use borrow.Author.Needs.{needs}
-use Rattle.mend_text.proofs.counts_line.Statement.{statement}
-use Rattle.mend_text.proofs.counts_line.Tie as tie
+use Rattle.change_text.proofs.counts_line.Statement.{statement}
+use Rattle.change_text.proofs.counts_line.Tie as tie
 
 abbrev Entry : tie.After-labelled → tie.Start
 Entry c = c .before .before .before .before

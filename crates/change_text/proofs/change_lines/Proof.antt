@@ -1,4 +1,4 @@
--- `mend_text::change_lines` meets its contract: the invariant is that the lines so far are written; each turn writes one more.
+-- `change_text::change_lines` meets its contract: the invariant is that the lines so far are written; each turn writes one more.
 use mathlib.Core.Path.{refl, sym, subst}
 use mathlib.Core.List.{List}
 use Prim.Native.Nat.{ℕ, _+_, _-_, _*_, _≤_, _<_}
@@ -8,10 +8,10 @@ use denote.Ref.{now}
 use Rattle.octets.specs.Wrote.{HasRoom}
 use Rattle.octets.specs.laws.Wrote.{Lined, lined-start, lined-end, wrote-length, wrote-as}
 use Rattle.octets.specs.laws.Lines.{linesFrom, line-fits, line-written}
-use Rattle.mend_text.specs.MendText.{lineAt}
-use Rattle.mend_text.specs.laws.MendText.{lines-are}
-use Rattle.mend_text.proofs.change_lines.Statement.{statement}
-use Rattle.mend_text.proofs.change_lines.Tie as tie
+use Rattle.change_text.specs.ChangeLines.{lineAt}
+use Rattle.change_text.specs.laws.ChangeLines.{lines-are}
+use Rattle.change_text.proofs.change_lines.Statement.{statement}
+use Rattle.change_text.proofs.change_lines.Tie as tie
 
 abbrev Inv-loop : tie.InvT-loop
 Inv-loop out₀ at label changes from count end₀ i₀ out end i = Lined (linesFrom (lineAt label changes) from) count out₀ out at end i
