@@ -6,10 +6,10 @@ use lib.Dec.{eqb, leb, ltb}
 use Rattle.laws.specs.Pick.{pick}
 use Rattle.text_parts.specs.Text.{value}
 use Rattle.reasons.specs.declared.Question.the-variants.{Nothing, About, Between}
-use Rattle.why_text.specs.declared.Word.{Word}
-use Rattle.why_text.specs.declared.Word.the-variants.{Site, Other}
-use Rattle.why_text.specs.declared.Command.{Command}
-use Rattle.why_text.specs.declared.Command.the-variants.{Ask, Usage}
+use Rattle.why_arguments.specs.declared.Word.{Word}
+use Rattle.why_arguments.specs.declared.Word.the-variants.{Site, Other}
+use Rattle.why_arguments.specs.declared.Command.{Command}
+use Rattle.why_arguments.specs.declared.Command.the-variants.{Ask, Usage}
 
 -- 48 is the digit 0
 abbrev pub isDigit : ℕ → Bool

@@ -12,9 +12,9 @@ use borrow.Author.Tests.{eq-eqb, ne-eqb, lt-ltb, le-ltb, le-leb, lt-leb, leb-tru
 use Rattle.laws.specs.Pick.{pick}
 use Rattle.text_parts.specs.Text.{value}
 use Rattle.reasons.specs.declared.Question.the-variants.{Nothing}
-use Rattle.why_text.specs.declared.Word.the-variants.{Site, Other}
-use Rattle.why_text.specs.declared.Command.the-variants.{Ask, Usage}
-use Rattle.why_text.specs.Words.{isDigit, allDigits, numberFrom, siteWord, askOne, askTwo, commandOf}
+use Rattle.why_arguments.specs.declared.Word.the-variants.{Site, Other}
+use Rattle.why_arguments.specs.declared.Command.the-variants.{Ask, Usage}
+use Rattle.why_arguments.specs.Words.{isDigit, allDigits, numberFrom, siteWord, askOne, askTwo, commandOf}
 
 -- ---- a digit
 

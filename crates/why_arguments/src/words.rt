@@ -3,7 +3,7 @@ use crate::Command;
 use crate::Word;
 use reasons::Question;
 ghost use mathlib.Core.Path.{_≡_};
-ghost use Rattle.why_text.specs.Words.{isDigit, siteWord, askOne, askTwo, commandOf};
+ghost use Rattle.why_arguments.specs.Words.{isDigit, siteWord, askOne, askTwo, commandOf};
 
 const TOP: u64 = 0x1_0000_0000;
 

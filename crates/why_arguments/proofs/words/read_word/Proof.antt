@@ -1,14 +1,14 @@
--- `why_text::words::read_word` meets its contract: what is left, from the value so far, makes the same number as the whole.
+-- `why_arguments::words::read_word` meets its contract: what is left, from the value so far, makes the same number as the whole.
 use mathlib.Core.Path.{sym, _∙_}
 use Prim.Native.Nat.{_-_}
 use native.Mathlib.Omega.{arith}
 use lib.ListN.{length, getD}
 use denote.Ref.{now}
 use borrow.Author.Tests.{not-true, not-false}
-use Rattle.why_text.specs.laws.Words.{ReadTo, reading-start, reading-step, reading-other, reading-large, reading-end, digit-least, number-none, digit-most}
+use Rattle.why_arguments.specs.laws.Words.{ReadTo, reading-start, reading-step, reading-other, reading-large, reading-end, digit-least, number-none, digit-most}
 use borrow.Author.Needs.{needs}
-use Rattle.why_text.proofs.words.read_word.Statement.{statement}
-use Rattle.why_text.proofs.words.read_word.Tie as tie
+use Rattle.why_arguments.proofs.words.read_word.Statement.{statement}
+use Rattle.why_arguments.proofs.words.read_word.Tie as tie
 
 abbrev Inv-loop : tie.InvT-loop
 Inv-loop word v₀ i₀ v i = ReadTo word v i

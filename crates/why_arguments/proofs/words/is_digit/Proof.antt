@@ -1,8 +1,8 @@
--- `why_text::words::is_digit` meets its contract: by cases.
+-- `why_arguments::words::is_digit` meets its contract: by cases.
 use mathlib.Core.Path.{sym}
-use Rattle.why_text.specs.laws.Words.{below-digit, digit-by}
-use Rattle.why_text.proofs.words.is_digit.Statement.{statement}
-use Rattle.why_text.proofs.words.is_digit.Tie as tie
+use Rattle.why_arguments.specs.laws.Words.{below-digit, digit-by}
+use Rattle.why_arguments.proofs.words.is_digit.Statement.{statement}
+use Rattle.why_arguments.proofs.words.is_digit.Tie as tie
 
 returns : tie.Need-returns
 returns c =

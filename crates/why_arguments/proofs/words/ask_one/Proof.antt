@@ -1,7 +1,7 @@
--- `why_text::words::ask_one` meets its contract: by cases.
+-- `why_arguments::words::ask_one` meets its contract: by cases.
 use borrow.Author.Needs.{needs}
-use Rattle.why_text.proofs.words.ask_one.Statement.{statement}
-use Rattle.why_text.proofs.words.ask_one.Tie as tie
+use Rattle.why_arguments.proofs.words.ask_one.Statement.{statement}
+use Rattle.why_arguments.proofs.words.ask_one.Tie as tie
 
 returns : tie.Need-returns
 returns c =

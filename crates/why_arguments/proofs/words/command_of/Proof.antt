@@ -1,11 +1,11 @@
--- `why_text::words::command_of` meets its contract: by how many words there are.
+-- `why_arguments::words::command_of` meets its contract: by how many words there are.
 use mathlib.Core.Path.{sym, ap, _∙_}
 use denote.Ref.{now}
-use Rattle.why_text.specs.Words.{askOne}
-use Rattle.why_text.specs.laws.Words.{no-words, one-word, two-words, more-words}
+use Rattle.why_arguments.specs.Words.{askOne}
+use Rattle.why_arguments.specs.laws.Words.{no-words, one-word, two-words, more-words}
 use borrow.Author.Needs.{needs}
-use Rattle.why_text.proofs.words.command_of.Statement.{statement}
-use Rattle.why_text.proofs.words.command_of.Tie as tie
+use Rattle.why_arguments.proofs.words.command_of.Statement.{statement}
+use Rattle.why_arguments.proofs.words.command_of.Tie as tie
 
 returns : tie.Need-returns
 returns c =
