@@ -17,7 +17,7 @@ use Rattle.audit_total.specs.Total.{missingOf}
 use Rattle.auditing.specs.Verdict.{verdictOn}
 use Rattle.triangle_turns.specs.Turned.{turnedAt, turnedCount}
 use Rattle.audit_text.specs.AuditLines.{auditLines}
-use Rattle.listing.specs.Listing.{refusal}
+use Rattle.text_parts.specs.Labelled.{refusal}
 use Rattle.printing.specs.Printed.{Text}
 
 -- rule 24: each vertex that is named is finite and within 2 ^ 400

@@ -41,7 +41,7 @@ fn lines(
         (now (out .exit)) (length (now (out .entry))) r ⌝ }
 {
     if !areas::within(vertices, indexes) {
-        return listing::refusal(out, numbers::REFUSED_CORNER);
+        return text_parts::refusal(out, numbers::REFUSED_CORNER);
     }
     let none = [0u32; 0];
     let j = auditing::verdict(
@@ -78,7 +78,7 @@ fn show(
         (now (out .exit)) (length (now (out .entry))) r ⌝ }
 {
     if number != 0 {
-        return listing::refusal(out, number);
+        return text_parts::refusal(out, number);
     }
     let n = sites.len() / 2;
     let used = 2 * wide(counts[0]);
@@ -175,7 +175,7 @@ fn of_form(
         clip,
     } = form
     else {
-        return listing::refusal(out, form_step::number_of(form));
+        return text_parts::refusal(out, form_step::number_of(form));
     };
     let numbers = 2 * n;
     let links = 3 * t;

@@ -4,8 +4,8 @@ use Prim.Native.Nat.{ℕ}
 use lib.Dec.{eqb}
 use lib.Ieee.{Float}
 use Rattle.laws.specs.Pick.{pick}
-use Rattle.listing.specs.Text.{ascii}
-use Rattle.listing.specs.Listing.{entries}
+use Rattle.text_parts.specs.Text.{ascii}
+use Rattle.text_parts.specs.Labelled.{entries}
 use Rattle.auditing.specs.declared.AuditVerdict.{AuditVerdict}
 use Rattle.auditing.specs.declared.AuditVerdict.the-variants.{Sound, Ring, Outside, Nearer, Uncovered, Twin}
 use Rattle.audit_text.specs.Share.{shareText}

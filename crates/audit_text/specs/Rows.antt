@@ -3,8 +3,8 @@ use mathlib.Core.Path.{_≡_, refl}
 use mathlib.Core.Bool.{true, false}
 use lib.IntN.{pos, negsuc}
 use lib.Ieee.{fin, nan, inf, ofBits, mul, lt, le, neg, round, toUnsigned}
-use Rattle.listing.specs.Text.{ascii, digits, decimal}
-use Rattle.listing.specs.Listing.{entries}
+use Rattle.text_parts.specs.Text.{ascii, digits, decimal}
+use Rattle.text_parts.specs.Labelled.{entries}
 use Rattle.auditing.specs.declared.AuditVerdict.the-variants.{Sound, Ring, Outside, Nearer, Uncovered, Twin}
 use Rattle.audit_text.specs.Share.{billionths, fraction, pointed, shareText}
 use Rattle.audit_text.specs.AuditLines.{labelledLine, pairLine, tripleLine, missingLine, turnedLine, auditLines}

@@ -8,7 +8,7 @@ use lib.IntN.{pos}
 use lib.ListN.{drop}
 use Rattle.laws.specs.Binary64.{_⊠_}
 use Rattle.laws.specs.Pick.{pick}
-use Rattle.listing.specs.Text.{ascii, decimal}
+use Rattle.text_parts.specs.Text.{ascii, decimal}
 
 -- what is shown at most: the largest whole part of 32 bits, and nine nines
 abbrev pub most : ℕ

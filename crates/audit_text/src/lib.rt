@@ -1,8 +1,8 @@
 // Writes the lines of `audit` into a lent slice of bytes: each function writes its text from a place on and answers the place after it.
 use auditing::AuditVerdict;
-use listing::decimal;
-use listing::labelled;
 use octets::put;
+use text_parts::decimal;
+use text_parts::labelled;
 ghost use mathlib.Core.Path.{_≡_};
 ghost use Prim.Native.Nat.{_≤_, _<_};
 ghost use Rattle.octets.specs.Wrote.{Wrote, HasRoom};

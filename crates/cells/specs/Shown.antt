@@ -2,7 +2,8 @@
 use mathlib.Core.List.{List, [], _∷_}
 use Prim.Native.Nat.{ℕ, _≤_}
 use lib.ListN.{getD}
-use Rattle.listing.specs.Listing.{listing, Layout}
+use Rattle.listing.specs.Listing.{listing}
+use Rattle.text_parts.specs.Listed.{Layout}
 
 -- the lists of a form, and room for its text
 pub record SheetSized (coordinates entries hull space : ℕ) : Type 0 where

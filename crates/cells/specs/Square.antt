@@ -24,8 +24,9 @@ use lib.ListN.{length}
 use Rattle.definition.specs.declared.Fault.{Fault}
 use Rattle.form.specs.Form.{formOf, float}
 use Rattle.form.specs.Square.{square, squareBytes, two-is}
-use Rattle.listing.specs.Text.{ascii, digits, decimal}
-use Rattle.listing.specs.Listing.{entries, labelled, counts, cellLine, corners, reusedLine}
+use Rattle.text_parts.specs.Text.{ascii, digits, decimal}
+use Rattle.text_parts.specs.Labelled.{entries, labelled}
+use Rattle.listing.specs.Listing.{counts, cellLine, corners, reusedLine}
 use Rattle.printing.specs.Printed.{meshOf}
 use Rattle.cells.specs.Printed.{linesOf, listingOf}
 

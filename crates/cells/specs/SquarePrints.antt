@@ -25,7 +25,7 @@ use Rattle.build_answers.specs.Promise.{ClippedBuild}
 use Rattle.octets.specs.Bytes.{each}
 use Rattle.form.specs.Form.{MeshFits, float, siteFloats}
 use Rattle.form.specs.Square.{square, squareBytes, two-is}
-use Rattle.listing.specs.Text.{ascii}
+use Rattle.text_parts.specs.Text.{ascii}
 use Rattle.printing.specs.One.{prints-one}
 use Rattle.cells.specs.Square.{texted, rows}
 

@@ -35,7 +35,7 @@ fn show_in_box(
     ensures { λ r. ⌜ ShownIn (shown (boxLines sites triangles (now (offsets .entry)) (now (indexes .entry)) (now (counts .entry))) number) (now (out .exit)) (length (now (out .entry))) r ⌝ }
 {
     if number != 0 {
-        return listing::refusal(out, number);
+        return text_parts::refusal(out, number);
     }
     let owners = [counts[1], counts[2], counts[3], counts[4]];
     listing::listing(
@@ -126,7 +126,7 @@ fn of_form(
         clip,
     } = form
     else {
-        return listing::refusal(out, form_step::number_of(form));
+        return text_parts::refusal(out, form_step::number_of(form));
     };
     let numbers = 2 * n;
     let links = 3 * t;

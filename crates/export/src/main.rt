@@ -34,7 +34,7 @@ fn show(
     ensures { λ r. ⌜ ShownIn (shown (lines sites (now (vertices .entry)) (now (offsets .entry)) (now (indexes .entry))) number) (now (out .exit)) (length (now (out .entry))) r ⌝ }
 {
     if number != 0 {
-        return listing::refusal(out, number);
+        return text_parts::refusal(out, number);
     }
     map_text::map_text(out, sites, vertices, offsets, indexes)
 }
@@ -111,7 +111,7 @@ fn of_form(
         clip,
     } = form
     else {
-        return listing::refusal(out, form_step::number_of(form));
+        return text_parts::refusal(out, form_step::number_of(form));
     };
     let numbers = 2 * n;
     let links = 3 * t;

@@ -1,5 +1,4 @@
 -- The root of the crate's definitions.
-pub mod Text
 pub mod Listing
 pub mod Square
 pub mod laws

@@ -1,17 +1,9 @@
--- The listing of docs/RULES.md, line by line, and the line of a refusal. Definitions only.
+-- The listing of docs/RULES.md, line by line. Definitions only.
 use mathlib.Core.List.{List, [], _∷_, _++_}
-use Prim.Native.Nat.{ℕ, zero, suc, _-_, _^_, _≤_, _<_}
-use Prim.Native.String.{String}
-use lib.ListN.{length, getD, take, drop}
-use Rattle.listing.specs.Text.{ascii, decimal}
-
--- each number after a blank
-unfoldable pub entries : List ℕ → List ℕ
-entries [] = []
-entries (v ∷ l) = 32 ∷ decimal v ++ entries l
-
-unfoldable pub labelled : String → ℕ → List ℕ
-labelled label n = ascii label ++ entries (n ∷ [])
+use Prim.Native.Nat.{ℕ, zero, suc}
+use Rattle.text_parts.specs.Text.{ascii}
+use Rattle.text_parts.specs.Labelled.{entries, labelled}
+use Rattle.text_parts.specs.Listed.{listedCell}
 
 unfoldable pub counts : ℕ → ℕ → ℕ → List ℕ
 counts sites triangles vertices = labelled "sites" sites ++ labelled " triangles" triangles ++ labelled " vertices" vertices ++ ascii "\n"
@@ -19,10 +11,6 @@ counts sites triangles vertices = labelled "sites" sites ++ labelled " triangles
 -- an empty cell ends with its colon
 unfoldable pub cellLine : ℕ → List ℕ → List ℕ
 cellLine i cell = labelled "cell" i ++ ascii ":" ++ entries cell ++ ascii "\n"
-
--- cell i is the part of the index list from offset i to the next
-abbrev pub listedCell : List ℕ → List ℕ → ℕ → List ℕ
-listedCell offsets cells i = take (getD offsets (suc i) 0 - getD offsets i 0) (drop (getD offsets i 0) cells)
 
 -- the lines of n cells from cell i on
 unfoldable pub cellLines : List ℕ → List ℕ → ℕ → ℕ → List ℕ
@@ -43,13 +31,3 @@ reusedLine extensions firsts seconds = ascii "reused" ++ entries (extensions ∷
 unfoldable pub listing : ℕ → ℕ → ℕ → List ℕ → List ℕ → List ℕ → ℕ → ℕ → ℕ → ℕ → List ℕ
 listing sites triangles vertices offsets cells owners lost extensions firsts seconds =
     countsAndCells sites triangles vertices offsets cells ++ corners owners lost ++ reusedLine extensions firsts seconds
-
-unfoldable pub refusal : ℕ → List ℕ
-refusal number = labelled "refused" number ++ ascii "\n"
-
--- offsets that a listing can go by: one more than cells, not falling, within the index list
-pub record Layout (offsets cells : List ℕ) (n : ℕ) : Type 0 where
-  pub long : n < length offsets
-  pub few : n < 2 ^ 32
-  pub rise : (i : ℕ) → i < n → getD offsets i 0 ≤ getD offsets (suc i) 0
-  pub within : (i : ℕ) → i < n → getD offsets (suc i) 0 ≤ length cells

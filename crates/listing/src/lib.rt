@@ -1,31 +1,12 @@
-// Writes the program's listing into a lent slice of bytes: each function writes its text from a place on and answers the place after it.
+// Writes the listing of `cells` into a lent slice of bytes: each function writes its text from a place on and answers the place after it.
 use numbers::wide;
 use octets::put;
-ghost use mathlib.Core.List.{[], _∷_, _++_};
-ghost use Rattle.listing.specs.Text.{decimal};
-ghost use Rattle.listing.specs.Listing.{entries, counts, cellLine, cellLines, countsAndCells, corners, reusedLine, listing, refusal, Layout};
+use text_parts::entry;
+use text_parts::labelled;
+ghost use Rattle.text_parts.specs.Labelled.{entries};
+ghost use Rattle.text_parts.specs.Listed.{Layout};
+ghost use Rattle.listing.specs.Listing.{counts, cellLine, cellLines, countsAndCells, corners, reusedLine, listing};
 ghost use Rattle.octets.specs.Wrote.{Wrote, HasRoom};
-
-pub fn decimal(out: &mut [u8], at: usize, n: u32) -> usize
-    requires { ⌜ HasRoom (now out) at (decimal n) ⌝ }
-    ensures { λ r. ⌜ Wrote (now (out .entry)) (now (out .exit)) at r (decimal n) ⌝ }
-{
-    if n < 10 {
-        out[at] = 48 + n as u8;
-        return at + 1;
-    }
-    let last = decimal(out, at, n / 10);
-    out[last] = 48 + (n % 10) as u8;
-    last + 1
-}
-
-pub fn entry(out: &mut [u8], at: usize, n: u32) -> usize
-    requires { ⌜ HasRoom (now out) at (entries (n ∷ [])) ⌝ }
-    ensures { λ r. ⌜ Wrote (now (out .entry)) (now (out .exit)) at r (entries (n ∷ [])) ⌝ }
-{
-    out[at] = b' ';
-    decimal(out, at + 1, n)
-}
 
 fn entries(out: &mut [u8], at: usize, list: &[u32]) -> usize
     requires { ⌜ HasRoom (now out) at (entries (now list)) ⌝ }
@@ -38,15 +19,6 @@ fn entries(out: &mut [u8], at: usize, list: &[u32]) -> usize
         i += 1;
     }
     end
-}
-
-// A label and a number.
-pub fn labelled(out: &mut [u8], at: usize, label: &[u8], n: u32) -> usize
-    requires { ⌜ HasRoom (now out) at (now label ++ entries (n ∷ [])) ⌝ }
-    ensures { λ r. ⌜ Wrote (now (out .entry)) (now (out .exit)) at r (now (label .entry) ++ entries (n ∷ [])) ⌝ }
-{
-    let end = put(out, at, label);
-    entry(out, end, n)
 }
 
 fn counts(out: &mut [u8], sites: u32, triangles: u32, vertices: u32) -> usize
@@ -143,13 +115,4 @@ pub fn listing(
     let a = counts_and_cells(out, sites, triangles, vertices, offsets, cells);
     let b = corners(out, a, owners, lost);
     reused(out, b, extensions, firsts, seconds)
-}
-
-// The line of a refusal.
-pub fn refusal(out: &mut [u8], number: u32) -> usize
-    requires { ⌜ HasRoom (now out) 0 (refusal number) ⌝ }
-    ensures { λ r. ⌜ Wrote (now (out .entry)) (now (out .exit)) 0 r (refusal number) ⌝ }
-{
-    let end = labelled(out, 0, b"refused", number);
-    put(out, end, b"\n")
 }

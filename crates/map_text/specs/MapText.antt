@@ -3,8 +3,8 @@ use mathlib.Core.List.{List, [], _++_}
 use Prim.Native.Nat.{ℕ, zero, suc, _≤_, _<_}
 use lib.ListN.{length}
 use Rattle.hex.specs.Hex.{hex}
-use Rattle.listing.specs.Text.{ascii, decimal}
-use Rattle.listing.specs.Listing.{listedCell, Layout}
+use Rattle.text_parts.specs.Text.{ascii, decimal}
+use Rattle.text_parts.specs.Listed.{listedCell, Layout}
 use Rattle.entries.specs.Named.{EntriesNamed}
 use Rattle.wkb.specs.Promise.{image}
 

@@ -1,8 +1,8 @@
 // Writes cells as lines for map tools into a lent slice of bytes: each function writes its text from a place on and answers the place after it.
 use hex::put_hex;
-use listing::decimal;
 use numbers::wide;
 use octets::put;
+use text_parts::decimal;
 ghost use Prim.Native.Nat.{_/_, _≤_};
 ghost use lib.ListN.{length};
 ghost use Rattle.octets.specs.Wrote.{Wrote, HasRoom};

@@ -8,7 +8,7 @@ use lib.Ieee.{Float}
 use lib.ListN.{replicate, length-replicate}
 use Rattle.laws.specs.Binary64 as B
 use Rattle.laws.specs.laws.Refusals.{finds-one}
-use Rattle.listing.specs.Listing.{refusal}
+use Rattle.text_parts.specs.Labelled.{refusal}
 use Rattle.form_step.specs.Reader.{verdict, start, reading, takes, Reading}
 use Rattle.form_step.specs.Holds.{ListRoom}
 use Rattle.form_step.specs.declared.Form.{Form}

@@ -12,8 +12,8 @@ use Rattle.laws.specs.Refusals.{Rule, once, each as every, reads, Finds}
 use Rattle.laws.specs.Pick.{pick}
 use Rattle.numbers.specs.Numbers.{refusedCount, refusedBox}
 use Rattle.octets.specs.Bytes.{each}
-use Rattle.listing.specs.Text.{ascii}
-use Rattle.listing.specs.Listing.{refusal}
+use Rattle.text_parts.specs.Text.{ascii}
+use Rattle.text_parts.specs.Labelled.{refusal}
 use Rattle.mesh.specs.declared.MeshFault.the-variants.{Triangle}
 use Rattle.mesh.specs.Mesh.{SoundAt}
 use Rattle.mesh.specs.Faults.{numberOf, coordinateRules}
@@ -25,7 +25,8 @@ use Rattle.form.specs.Form.{Outline, FormMesh, MeshFits, MayBegin, formOf, outl
 use Rattle.form.specs.Place.{Place, NumberAt}
 use Rattle.form_writer.specs.FormOf.{meshWith}
 use Rattle.mend_box.specs.Option.{isBox, gives, keepsBox, inPlace, firstAfter}
-use Rattle.mend_text.specs.MendText.{changeLine, countsLine, boxLine}
+use Rattle.change_text.specs.ChangeLines.{changeLine, countsLine}
+use Rattle.box_text.specs.BoxLine.{boxLine}
 use Rattle.mend.specs.declared.Way.{Way}
 use Rattle.mend.specs.declared.Way.the-variants.{Print, Usage}
 

@@ -11,7 +11,7 @@ use lib.ListN.{length, getD, replicate, length-replicate, List·getD-eq-default}
 use Rattle.laws.specs.laws.Decide.{lt-or-ge}
 use Rattle.numbers.specs.Numbers.{EMPTY}
 use Rattle.octets.specs.Bytes.{All, each}
-use Rattle.listing.specs.Listing.{refusal}
+use Rattle.text_parts.specs.Labelled.{refusal}
 use Rattle.mesh.specs.Mesh.{leftmostIn}
 use Rattle.mesh.specs.Accepted.{mesh, Accepted, siteCount}
 use Rattle.mesh.specs.laws.Facts.{sound-site}

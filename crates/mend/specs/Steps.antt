@@ -9,7 +9,7 @@ use lib.Dec.{eqb}
 use lib.Ieee.{Float}
 use lib.ListN.{length, take, drop}
 use Rattle.laws.specs.Pick.{pick}
-use Rattle.listing.specs.Listing.{refusal}
+use Rattle.text_parts.specs.Labelled.{refusal}
 use Rattle.mesh.specs.Accepted.{siteCount}
 use Rattle.mend_pairs.specs.Pairs.{pairsOf}
 use Rattle.mending.specs.Mending.{newHull, pairChanges, hullChanges}

@@ -10,7 +10,7 @@ ghost use Prim.Native.Nat.{_+_, _-_, _≤_};
 ghost use lib.ListN.{length, take};
 ghost use Rattle.octets.specs.Wrote.{Wrote};
 ghost use Rattle.form_step.specs.Holds.{Few};
-ghost use Rattle.listing.specs.Text.{ascii};
+ghost use Rattle.text_parts.specs.Text.{ascii};
 ghost use Rattle.mend_box.specs.Option.{IsOption, outlineOf};
 ghost use Rattle.mend.specs.Printed.{sameBytes, isOption, wayIf, wayOf, MendPrints};
 ghost use Rattle.mend.specs.Steps.{firstLength, Headed, MendSized, CanShow, shownText, OfLists, PrintsRead};
@@ -118,7 +118,7 @@ fn show(
         (now (triangles .entry)) (now (pairs .entry)) (now (hull .entry)) (now (changes .entry)) repaired replaced) ⌝ }
 {
     if number != 0 {
-        return listing::refusal(out, number);
+        return text_parts::refusal(out, number);
     }
     if form {
         return form_writer::write(out, first, records, triangles, pairs, hull);
@@ -197,7 +197,7 @@ fn of_form(
         clip,
     } = read
     else {
-        return listing::refusal(out, form_step::number_of(read));
+        return text_parts::refusal(out, form_step::number_of(read));
     };
     let put = mend_box::put_length(clip, option.len());
     let from = mend_box::kept_from(clip);

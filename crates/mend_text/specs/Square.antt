@@ -4,9 +4,11 @@ use mathlib.Core.List.{[], _∷_, _++_}
 use Rattle.numbers.specs.Numbers.{EMPTY}
 use Rattle.octets.specs.Bytes.{le}
 use Rattle.hex.specs.Hex.{hex}
-use Rattle.listing.specs.Text.{ascii, digits, decimal}
-use Rattle.listing.specs.Listing.{entries, labelled}
-use Rattle.mend_text.specs.MendText.{orNone, changeLine, changeLines, countsLine, patternTexts, boxLine, mendText}
+use Rattle.text_parts.specs.Text.{ascii, digits, decimal}
+use Rattle.text_parts.specs.Labelled.{entries, labelled}
+use Rattle.change_text.specs.ChangeLines.{orNone, changeLine, changeLines, countsLine}
+use Rattle.box_text.specs.BoxLine.{patternTexts, boxLine}
+use Rattle.mend_text.specs.MendText.{mendText}
 
 pub rows :
     (mendText [] (2 ∷ EMPTY ∷ 3 ∷ 3 ∷ EMPTY ∷ 2 ∷ []) 2 0 ≡ ascii "pair 2: none 3\npair 3: none 2\npairs 2 hull 0\n")

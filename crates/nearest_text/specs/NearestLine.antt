@@ -1,8 +1,8 @@
 -- The line of `nearest` for each answer. Definitions only.
 use mathlib.Core.List.{List, [], _∷_, _++_}
 use Prim.Native.Nat.{ℕ}
-use Rattle.listing.specs.Text.{ascii}
-use Rattle.listing.specs.Listing.{entries}
+use Rattle.text_parts.specs.Text.{ascii}
+use Rattle.text_parts.specs.Labelled.{entries}
 use Rattle.nearest_text.specs.declared.NearestLine.{NearestLine}
 use Rattle.nearest_text.specs.declared.NearestLine.the-variants.{Nearest, Triangle, Halfedge, HullPlace, Unused, OffGrid, Refused}
 

@@ -1,6 +1,6 @@
 // Writes the line of `nearest` into a lent slice of bytes.
-use listing::labelled;
 use octets::put;
+use text_parts::labelled;
 ghost use Rattle.octets.specs.Wrote.{Wrote, HasRoom};
 ghost use Rattle.nearest_text.specs.NearestLine.{numberLine, nearestLine};
 

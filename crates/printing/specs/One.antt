@@ -19,7 +19,7 @@ use Rattle.form_step.specs.Holds.{ListRoom}
 use Rattle.form.specs.laws.Mesh.{WholeRead, complete}
 use Rattle.form_step.specs.declared.Form.{Form}
 use Rattle.form_step.specs.declared.Form.the-variants.{Sound, Broken}
-use Rattle.listing.specs.Listing.{refusal}
+use Rattle.text_parts.specs.Labelled.{refusal}
 use Rattle.printing.specs.laws.FormLists.{to-form}
 use Rattle.printing.specs.Printed.{Shows, early, late, built, meshOf, ByClip, Prints, sound, broken, ByForm, Text}
 

@@ -20,7 +20,7 @@ use Rattle.definition.specs.Build.{Built, build}
 use Rattle.admission.specs.Asks.{boxRules}
 use Rattle.form.specs.Form.{Outline, box, unclipped, edges, FormMesh, MeshFits, formOf, float, siteFloats, triangleSites, trianglePairs}
 use Rattle.form.specs.Place.{Place, NumberAt}
-use Rattle.listing.specs.Listing.{refusal}
+use Rattle.text_parts.specs.Labelled.{refusal}
 use lib.Dec.{eqb}
 use Rattle.laws.specs.Pick.{pick}
 use Rattle.form_step.specs.declared.Form.{Form}

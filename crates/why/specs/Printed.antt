@@ -1,5 +1,5 @@
 -- What `why` prints, said of what is asked and of the bytes of its input: the line of the one reason for the mesh whose form they are, or of the reader's refusal. What its arguments ask
--- is `commandOf` (why_text/specs/Words). Definitions only.
+-- is `commandOf` (why_arguments/specs/Words). Definitions only.
 use mathlib.Core.Path.{_≡_}
 use mathlib.Core.Bool.{false}
 use mathlib.Core.List.{List, _++_}

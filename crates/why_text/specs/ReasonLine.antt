@@ -1,8 +1,8 @@
 -- The line of `why` for each reason. Definitions only.
 use mathlib.Core.List.{List, [], _∷_, _++_}
 use Prim.Native.Nat.{ℕ}
-use Rattle.listing.specs.Text.{ascii}
-use Rattle.listing.specs.Listing.{entries, labelled, refusal}
+use Rattle.text_parts.specs.Text.{ascii}
+use Rattle.text_parts.specs.Labelled.{entries, labelled, refusal}
 use Rattle.reasons.specs.declared.Reason.{Reason}
 use Rattle.reasons.specs.declared.Reason.the-variants.{NoFault, Number, AtSite, AtTriangle, AtHalfEdge, AtHullPlace, AtEdge, Unused, TriesEmpty, Dropped}
 

@@ -1,13 +1,9 @@
--- Rows: the line of each kind of reason, and what arguments ask for. By computation.
+-- Rows: the line of each kind of reason. By computation.
 use mathlib.Core.Path.{_≡_, refl}
-use Rattle.numbers.specs.Numbers.{EMPTY}
-use Rattle.listing.specs.Text.{ascii, digits, decimal}
-use Rattle.listing.specs.Listing.{entries, labelled, refusal}
-use Rattle.reasons.specs.declared.Question.the-variants.{Nothing, About, Between}
+use Rattle.text_parts.specs.Text.{ascii, digits, decimal}
+use Rattle.text_parts.specs.Labelled.{entries, labelled, refusal}
 use Rattle.reasons.specs.declared.Reason.the-variants.{NoFault, Number, AtSite, AtTriangle, AtHalfEdge, AtHullPlace, AtEdge, Unused, TriesEmpty, Dropped}
-use Rattle.why_text.specs.declared.Command.the-variants.{Ask, Usage}
 use Rattle.why_text.specs.ReasonLine.{placeLine, edgeEnds, edgeLine, emptyLine, droppedLine, reasonLine}
-use Rattle.why_text.specs.Words.{numberFrom, commandOf}
 
 pub lines :
     (reasonLine NoFault ≡ ascii "no fault\n")
@@ -23,18 +19,3 @@ pub lines :
     × (reasonLine (Dropped 2 0 1) ≡ ascii "dropped 2 0: 1 shared\n")
 unfolding digits decimal entries labelled refusal placeLine edgeEnds edgeLine emptyLine droppedLine
 lines = (refl, refl, refl, refl, refl, refl, refl, refl, refl, refl, refl)
-
-pub commands :
-    (commandOf 1 (ascii "") (ascii "") ≡ Ask Nothing)
-    × (commandOf 2 (ascii "4") (ascii "") ≡ Ask (About 4))
-    × (commandOf 2 (ascii "0010") (ascii "") ≡ Ask (About 10))
-    × (commandOf 2 (ascii "4294967295") (ascii "") ≡ Ask (About EMPTY))
-    × (commandOf 2 (ascii "4294967296") (ascii "") ≡ Usage)
-    × (commandOf 2 (ascii "") (ascii "") ≡ Usage)
-    × (commandOf 2 (ascii "-1") (ascii "") ≡ Usage)
-    × (commandOf 2 (ascii "1x") (ascii "") ≡ Usage)
-    × (commandOf 3 (ascii "2") (ascii "0") ≡ Ask (Between 2 0))
-    × (commandOf 3 (ascii "2") (ascii "") ≡ Usage)
-    × (commandOf 4 (ascii "2") (ascii "0") ≡ Usage)
-unfolding numberFrom commandOf
-commands = (refl, refl, refl, refl, refl, refl, refl, refl, refl, refl, refl)

@@ -1,25 +1,10 @@
-// Writes the line of `why` for a reason into a lent slice of bytes, and reads what its arguments ask for.
-pub mod words; // words.rt: the arguments
-
-use listing::entry;
-use listing::labelled;
+// Writes the line of `why` for a reason into a lent slice of bytes.
 use octets::put;
-use reasons::Question;
 use reasons::Reason;
+use text_parts::entry;
+use text_parts::labelled;
 ghost use Rattle.octets.specs.Wrote.{Wrote, HasRoom};
 ghost use Rattle.why_text.specs.ReasonLine.{placeLine, edgeEnds, edgeLine, emptyLine, droppedLine, reasonLine};
-
-// A word as a site's number.
-pub enum Word {
-    Site(u32),
-    Other,
-}
-
-// What is asked, or that the words are none that the program takes.
-pub enum Command {
-    Ask(Question),
-    Usage,
-}
 
 // A refusal with its place, which the label names.
 fn with_place(out: &mut [u8], number: u32, label: &[u8], place: u32) -> usize
@@ -76,7 +61,7 @@ pub fn reason_line(out: &mut [u8], r: Reason) -> usize
 {
     match r {
         Reason::NoFault => put(out, 0, b"no fault\n"),
-        Reason::Number(n) => listing::refusal(out, n),
+        Reason::Number(n) => text_parts::refusal(out, n),
         Reason::AtSite(n, s) => with_place(out, n, b": site", s),
         Reason::AtTriangle(n, t) => with_place(out, n, b": triangle", t),
         Reason::AtHalfEdge(n, e) => with_place(out, n, b": half-edge", e),

@@ -3,7 +3,7 @@ use mathlib.Core.Path.{refl, _∙_}
 use denote.Ref.{now}
 use native.Mathlib.Omega.{arith}
 use Rattle.laws.specs.laws.Decide.{granted, refused}
-use Rattle.listing.specs.laws.Listing.{refusal-short}
+use Rattle.text_parts.specs.laws.Labelled.{refusal-short}
 use Rattle.printing.specs.laws.TextRoom.{line-held, text-held}
 use Rattle.audit.specs.laws.Told.{turned-few, lowest-few, lines-within, lines-fit, told-refused, told-lines}
 use borrow.Author.Needs.{needs}

@@ -22,7 +22,7 @@ use Rattle.triangle_turns.specs.Turned.{turnedAt, turnedCount}
 use Rattle.triangle_turns.specs.laws.Turns.{count-few}
 use Rattle.audit_text.specs.AuditLines.{auditLines}
 use Rattle.audit_text.specs.laws.Short.{lines-short}
-use Rattle.listing.specs.Listing.{refusal}
+use Rattle.text_parts.specs.Labelled.{refusal}
 use Rattle.audit.specs.Printed.{okCorners, told}
 
 corners-ok : (v : List Float) (es : List ℕ) → KeepsRule v es → okCorners v es ≡ true

@@ -2,7 +2,7 @@
 use mathlib.Core.List.{List, _++_}
 use Prim.Native.Nat.{ℕ}
 use denote.Ref.{now}
-use Rattle.listing.specs.Text.{ascii}
+use Rattle.text_parts.specs.Text.{ascii}
 use Rattle.octets.specs.Wrote.{HasRoom}
 use Rattle.octets.specs.laws.Wrote.{fits-left, fits-then, wrote-then}
 use Rattle.audit_text.specs.Share.{shareText}

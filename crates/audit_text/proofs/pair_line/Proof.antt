@@ -2,7 +2,7 @@
 use mathlib.Core.List.{List, [], _∷_, _++_}
 use Prim.Native.Nat.{ℕ}
 use denote.Ref.{now}
-use Rattle.listing.specs.Listing.{entries}
+use Rattle.text_parts.specs.Labelled.{entries}
 use Rattle.octets.specs.laws.Wrote.{fits-left, fits-then, wrote-then}
 use Rattle.audit_text.specs.AuditLines.{labelledLine, pairLine}
 use borrow.Author.Needs.{needs}

@@ -2,7 +2,7 @@
 use Prim.Native.Nat.{_/_, _%_}
 use denote.Ref.{now}
 use native.Mathlib.Omega.{arith}
-use Rattle.listing.specs.Text.{decimal}
+use Rattle.text_parts.specs.Text.{decimal}
 use Rattle.octets.specs.laws.Wrote.{fits-left, fits-then, wrote-then}
 use Rattle.audit_text.specs.Share.{fraction, pointed}
 use borrow.Author.Needs.{needs}

@@ -5,7 +5,7 @@ use Prim.Native.Nat.{ℕ}
 use denote.Ref.{now}
 use lib.Ieee.{ofBits, neg}
 use Rattle.laws.specs.Binary64.{_⊠_}
-use Rattle.listing.specs.Text.{ascii}
+use Rattle.text_parts.specs.Text.{ascii}
 use Rattle.octets.specs.Wrote.{HasRoom}
 use Rattle.octets.specs.laws.Wrote.{fits-left, fits-then, wrote-then, wrote-as}
 use Rattle.audit_text.specs.Share.{billion, billionths, pointed}

@@ -2,9 +2,9 @@
 use mathlib.Core.List.{List, [], _∷_, _++_}
 use Prim.Native.Nat.{ℕ}
 use denote.Ref.{now}
-use Rattle.listing.specs.Listing.{entries}
+use Rattle.text_parts.specs.Labelled.{entries}
 use Rattle.octets.specs.laws.Wrote.{fits-left, fits-then, wrote-then}
-use Rattle.listing.specs.Text.{ascii}
+use Rattle.text_parts.specs.Text.{ascii}
 use Rattle.audit_text.specs.AuditLines.{pairLine, tripleLine}
 use borrow.Author.Needs.{needs}
 use Rattle.audit_text.proofs.triple_line.Statement.{statement}

@@ -13,8 +13,8 @@ use borrow.Author.Tests.{not-true, not-false, lt-ltb, le-ltb, ltb-true}
 use Rattle.laws.specs.Binary64.{_⊠_}
 use Rattle.laws.specs.Pick.{pick}
 use Rattle.laws.specs.laws.And.{holds}
-use Rattle.listing.specs.Text.{ascii, decimal}
-use Rattle.listing.specs.laws.Decimal.{is-decimal}
+use Rattle.text_parts.specs.Text.{ascii, decimal}
+use Rattle.text_parts.specs.laws.Decimal.{is-decimal}
 use Rattle.octets.specs.Wrote.{Wrote}
 use Rattle.audit_text.specs.Share.{most, billionths, fraction, pointed, billion, shareText}
 

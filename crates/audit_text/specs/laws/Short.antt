@@ -9,10 +9,10 @@ use lib.IntN.{pos}
 use lib.ListN.{length, drop, length-append, length-drop}
 use Rattle.laws.specs.Binary64.{_⊠_}
 use Rattle.laws.specs.Pick.{pick}
-use Rattle.listing.specs.Text.{ascii, decimal}
-use Rattle.listing.specs.Listing.{entries}
-use Rattle.listing.specs.laws.Decimal.{decimal-short}
-use Rattle.listing.specs.laws.Listing.{entries-short}
+use Rattle.text_parts.specs.Text.{ascii, decimal}
+use Rattle.text_parts.specs.Labelled.{entries}
+use Rattle.text_parts.specs.laws.Decimal.{decimal-short}
+use Rattle.text_parts.specs.laws.Labelled.{entries-short}
 use Rattle.auditing.specs.declared.AuditVerdict.{AuditVerdict}
 use Rattle.auditing.specs.declared.AuditVerdict.the-variants.{Sound, Ring, Outside, Nearer, Uncovered, Twin}
 use Rattle.audit_text.specs.Share.{billionths, fraction, pointed, billion, shareText}

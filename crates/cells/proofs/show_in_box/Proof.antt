@@ -1,6 +1,6 @@
 -- `cells::show_in_box` puts its text at the beginning of the output: there is room for a refusal, and for the listing of cells that are laid out.
 use native.Mathlib.Omega.{arith}
-use Rattle.listing.specs.laws.Listing.{refusal-short}
+use Rattle.text_parts.specs.laws.Labelled.{refusal-short}
 use Rattle.cells.specs.laws.TextRoom.{box-fits}
 use Rattle.printing.specs.laws.TextRoom.{refusal-held, text-held}
 use borrow.Author.Needs.{needs}

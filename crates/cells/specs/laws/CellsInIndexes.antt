@@ -7,7 +7,8 @@ use native.Mathlib.Nat.{add-zero}
 use lib.ListN.{length, getD, take, drop, length-append}
 use Rattle.layout.specs.Regions.{joined, offsetsFrom}
 use Rattle.layout.specs.laws.Compacted.{offsets-length}
-use Rattle.listing.specs.Listing.{cellLine, cellLines, listedCell}
+use Rattle.listing.specs.Listing.{cellLine, cellLines}
+use Rattle.text_parts.specs.Listed.{listedCell}
 use Rattle.cells.specs.Printed.{linesOf}
 use Rattle.cells.specs.Shown.{Laid}
 use Rattle.printing.specs.laws.CellsInIndexes.{joined-split, offset-at, next-at, cell-at, total}

@@ -7,7 +7,7 @@ use native.Mathlib.Nat.{add-zero}
 use lib.ListN.{length, getD, take, drop, length-append}
 use Rattle.layout.specs.Regions.{joined, offsetsFrom}
 use Rattle.layout.specs.laws.Compacted.{offsets-length}
-use Rattle.listing.specs.Listing.{listedCell, Layout}
+use Rattle.text_parts.specs.Listed.{listedCell, Layout}
 use Rattle.entries.specs.Named.{EntriesNamed}
 use Rattle.wkb.specs.Promise.{image}
 use Rattle.map_text.specs.MapText.{mapLine, mapLines}

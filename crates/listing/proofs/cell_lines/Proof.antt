@@ -6,8 +6,10 @@ use native.Mathlib.Omega.{arith}
 use native.Mathlib.Nat.{zero-add}
 use lib.ListN.{length, take, drop}
 use denote.Ref.{now}
-use Rattle.listing.specs.Listing.{cellLine, listedCell}
-use Rattle.listing.specs.laws.Listing.{lines-are, part-bounds, part-is}
+use Rattle.listing.specs.Listing.{cellLine}
+use Rattle.text_parts.specs.Listed.{listedCell}
+use Rattle.listing.specs.laws.Listing.{lines-are}
+use Rattle.text_parts.specs.laws.Listed.{part-bounds, part-is}
 use Rattle.octets.specs.Wrote.{HasRoom, Wrote}
 use Rattle.octets.specs.laws.Wrote.{Lined, lined-start, lined-end, wrote-length, wrote-as}
 use Rattle.octets.specs.laws.Lines.{linesFrom, line-fits, line-written}

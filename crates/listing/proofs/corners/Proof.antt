@@ -2,7 +2,8 @@
 use native.Mathlib.Omega.{arith}
 use lib.ListN.{length-append}
 use Rattle.octets.specs.laws.Wrote.{wrote-then}
-use Rattle.listing.specs.Listing.{labelled as labelledOf, corners as cornersOf}
+use Rattle.text_parts.specs.Labelled.{labelled as labelledOf}
+use Rattle.listing.specs.Listing.{corners as cornersOf}
 use borrow.Author.Needs.{needs}
 use Rattle.listing.proofs.corners.Statement.{statement}
 use Rattle.listing.proofs.corners.Tie as tie

@@ -2,7 +2,8 @@
 use native.Mathlib.Omega.{arith}
 use lib.ListN.{length-append}
 use Rattle.octets.specs.laws.Wrote.{wrote-then}
-use Rattle.listing.specs.Listing.{labelled as labelledOf, counts as countsOf}
+use Rattle.text_parts.specs.Labelled.{labelled as labelledOf}
+use Rattle.listing.specs.Listing.{counts as countsOf}
 use borrow.Author.Needs.{needs}
 use Rattle.listing.proofs.counts.Statement.{statement}
 use Rattle.listing.proofs.counts.Tie as tie

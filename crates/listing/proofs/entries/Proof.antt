@@ -6,7 +6,7 @@ use native.Mathlib.Omega.{arith}
 use lib.ListN.{length, getD, take, drop}
 use lib.Seq.{take-length}
 use denote.Ref.{now}
-use Rattle.listing.specs.Listing.{entries}
+use Rattle.text_parts.specs.Labelled.{entries}
 use Rattle.listing.specs.laws.Listing.{entries-none, entries-more, entries-whole}
 use Rattle.octets.specs.Wrote.{HasRoom}
 use Rattle.octets.specs.laws.Wrote.{lined-fits}

@@ -1,17 +1,19 @@
 -- The listing grows at its end by an entry or a line, and its length is bounded by the numbers it prints.
 use mathlib.Core.Path.{_≡_, refl, sym, ap, _∙_}
-use mathlib.Core.List.{List, [], _∷_, _++_, append-assoc, append-nil}
-use Prim.Native.Nat.{ℕ, zero, suc, _+_, _-_, _*_, _≤_, _<_}
+use mathlib.Core.List.{List, [], _∷_, _++_, append-assoc}
+use Prim.Native.Nat.{ℕ, zero, suc, _+_, _*_, _≤_, _<_}
 use native.Mathlib.Omega.{arith}
 use native.Mathlib.Numerals.{add-one}
 use native.Mathlib.Nat.{add-zero, zero-add}
-use Prim.Native.String.{String}
-use lib.ListN.{length, getD, take, drop, length-append, length-drop, take-append-drop}
-use lib.Seq.{take-suc, take-length, length-take-le}
+use lib.ListN.{length, getD, take, drop, length-append, take-append-drop}
+use lib.Seq.{take-suc, take-length}
 use Rattle.octets.specs.laws.Lines.{linesFrom}
-use Rattle.listing.specs.Text.{ascii, decimal}
-use Rattle.listing.specs.laws.Decimal.{decimal-short}
-use Rattle.listing.specs.Listing.{entries, labelled, counts, cellLine, listedCell, cellLines, countsAndCells, corners, reusedLine, listing, refusal, Layout}
+use Rattle.text_parts.specs.Text.{ascii, decimal}
+use Rattle.text_parts.specs.Labelled.{entries, labelled}
+use Rattle.text_parts.specs.Listed.{listedCell, Layout}
+use Rattle.text_parts.specs.laws.Labelled.{entries-short, labelled-short}
+use Rattle.text_parts.specs.laws.Listed.{cell-length}
+use Rattle.listing.specs.Listing.{counts, cellLine, cellLines, countsAndCells, corners, reusedLine, listing}
 
 -- ---- entries
 
@@ -30,10 +32,6 @@ pub entries-none : (l : List ℕ) → entries (take 0 l) ≡ []
 unfolding entries
 entries-none l = refl
 
-pub entries-one : (v : ℕ) → entries (v ∷ []) ≡ 32 ∷ decimal v
-unfolding entries
-entries-one v = append-nil (32 ∷ decimal v)
-
 -- ---- lines
 
 -- the lines of the cells, as a loop writes them
@@ -42,24 +40,7 @@ unfolding cellLines
 lines-are os cs zero i = refl
 lines-are os cs (suc n) i = ap (λ (t : List ℕ). cellLine i (listedCell os cs i) ++ t) (lines-are os cs n (suc i))
 
--- the part of cell i, between its two offsets
-module _ {os cs : List ℕ} {n : ℕ} (lay : Layout os cs n) {i f t : ℕ} (h : i < n) (from : f ≡ getD os i 0) (to : t ≡ getD os (i + 1) 0) where
-  pub part-bounds : (f ≤ t) × (t ≤ length cs)
-  part-bounds = rw (from, to, add-one i) (lay .rise i h, lay .within i h)
-
-  pub part-is : take (t - f) (drop f cs) ≡ listedCell os cs i
-  part-is = rw (from, to, add-one i)
-
 -- ---- lengths
-
-pub entries-short : (l : List ℕ) → length (entries l) ≤ 11 * length l
-unfolding entries
-entries-short [] = omega arith
-entries-short (v ∷ l) = omega (arith, length-append (decimal v) (entries l), decimal-short v, entries-short l)
-
-pub labelled-short : (label : String) (n : ℕ) → length (labelled label n) ≤ length (ascii label) + 11
-unfolding labelled
-labelled-short label n = omega (arith, length-append (ascii label) (entries (n ∷ [])), entries-short (n ∷ []))
 
 line-short : (i : ℕ) (c : List ℕ) → length (cellLine i c) ≤ 17 + 11 * length c
 unfolding cellLine
@@ -69,10 +50,6 @@ line-short i c =
     omega (arith, length-append (b ++ entries c) (ascii "\n"), length-append b (entries c), length-append a (ascii ":"), labelled-short "cell" i, entries-short c)
 
 module _ (os cs : List ℕ) (n : ℕ) (lay : Layout os cs n) where
-  pub cell-length : (i : ℕ) → i < n → length (listedCell os cs i) ≡ getD os (suc i) 0 - getD os i 0
-  cell-length i h =
-      length-take-le (getD os (suc i) 0 - getD os i 0) (drop (getD os i 0) cs) (omega (arith, length-drop (getD os i 0) cs, lay .rise i h, lay .within i h))
-
   lines-short : (m i : ℕ) → i + m ≤ n → length (cellLines os cs i m) + 11 * getD os i 0 ≤ 17 * m + 11 * getD os (i + m) 0
   unfolding cellLines
   lines-short zero i h = rw (add-zero i) (omega arith)
@@ -81,7 +58,7 @@ module _ (os cs : List ℕ) (n : ℕ) (lay : Layout os cs n) where
       let c = listedCell os cs i in
       let q = lines-short m (suc i) (omega arith) in
       let q' : length (cellLines os cs (suc i) m) + 11 * getD os (suc i) 0 ≤ 17 * m + 11 * getD os (i + suc m) 0 = rw e at q in
-      omega (arith, length-append (cellLine i c) (cellLines os cs (suc i) m), line-short i c, cell-length i (omega arith), lay .rise i (omega arith))
+      omega (arith, length-append (cellLine i c) (cellLines os cs (suc i) m), line-short i c, cell-length os cs n lay i (omega arith), lay .rise i (omega arith))
 
 counts-short : (a b c : ℕ) → length (counts a b c) ≤ 58
 unfolding counts
@@ -123,7 +100,3 @@ module _ (a t v : ℕ) (os cs : List ℕ) (lay : Layout os cs a) where
       let b = countsAndCells a t v os cs in
       omega
       (arith, length-append (b ++ corners owners lost) (reusedLine x y z), length-append b (corners owners lost), corners-short owners lost h, reused-short x y z, counts-and-cells-short)
-
-pub refusal-short : (n : ℕ) → length (refusal n) ≤ 19
-unfolding refusal
-refusal-short n = omega (arith, length-append (labelled "refused" n) (ascii "\n"), labelled-short "refused" n)

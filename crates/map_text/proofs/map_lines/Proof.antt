@@ -6,8 +6,8 @@ use native.Mathlib.Omega.{arith}
 use native.Mathlib.Nat.{zero-add}
 use lib.ListN.{length, take, drop}
 use denote.Ref.{now}
-use Rattle.listing.specs.Listing.{listedCell}
-use Rattle.listing.specs.laws.Listing.{part-bounds, part-is}
+use Rattle.text_parts.specs.Listed.{listedCell}
+use Rattle.text_parts.specs.laws.Listed.{part-bounds, part-is}
 use Rattle.octets.specs.Wrote.{HasRoom, Wrote}
 use Rattle.octets.specs.laws.Wrote.{Lined, lined-start, lined-end, wrote-length, wrote-as}
 use Rattle.octets.specs.laws.Lines.{linesFrom, line-fits, line-written}

@@ -8,10 +8,10 @@ use native.Mathlib.Nat.{add-zero, zero-add}
 use lib.ListN.{length, getD, length-append, length-map}
 use Rattle.laws.specs.laws.Decide.{lt-or-ge}
 use Rattle.octets.specs.laws.Lines.{linesFrom}
-use Rattle.listing.specs.laws.Listing.{cell-length}
-use Rattle.listing.specs.Text.{ascii, decimal}
-use Rattle.listing.specs.laws.Decimal.{decimal-short}
-use Rattle.listing.specs.Listing.{listedCell, Layout}
+use Rattle.text_parts.specs.laws.Listed.{cell-length}
+use Rattle.text_parts.specs.Text.{ascii, decimal}
+use Rattle.text_parts.specs.laws.Decimal.{decimal-short}
+use Rattle.text_parts.specs.Listed.{listedCell, Layout}
 use Rattle.wkb.specs.Polygon.{patternAt, patternsOf, size}
 use Rattle.wkb.specs.Promise.{ImageFits, image}
 use Rattle.wkb.specs.ReadBack.{length-polygon}

@@ -5,8 +5,8 @@ use Prim.Native.Nat.{ℕ, _≤_}
 use lib.ListN.{length, take, length-take}
 use lib.Seq.{length-take-le}
 use denote.Ref.{now}
-use Rattle.listing.specs.Listing.{refusal}
-use Rattle.listing.specs.laws.Listing.{refusal-short}
+use Rattle.text_parts.specs.Labelled.{refusal}
+use Rattle.text_parts.specs.laws.Labelled.{refusal-short}
 use Rattle.octets.specs.laws.Wrote.{wrote-all}
 use Rattle.form_step.specs.declared.Form.{Form}
 use Rattle.mend_box.specs.Option.{IsOption}

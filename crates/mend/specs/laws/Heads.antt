@@ -21,8 +21,8 @@ use Rattle.mend_pairs.specs.Pairs.{pairsOf}
 use Rattle.mending.specs.Mending.{newHull, pairChanges, hullChanges}
 use Rattle.mend_box.specs.Option.{IsOption, outlineOf, gives, inPlace, firstAfter, putLength, keptFrom}
 use Rattle.mend_box.specs.Record.{holds}
-use Rattle.mend_text.specs.MendText.{boxLine}
-use Rattle.mend_text.specs.laws.BoxLine.{box-none}
+use Rattle.box_text.specs.BoxLine.{boxLine}
+use Rattle.box_text.specs.laws.BoxLine.{box-none}
 use Rattle.mend.specs.Printed.{changesText, triOf, heOf, count, textOf}
 use Rattle.mend.specs.Steps.{firstLength, Headed, listsText, putBytes, keptBytes}
 

@@ -8,7 +8,7 @@ use Prim.Native.Nat.{ℕ}
 use lib.Ieee.{Float}
 use lib.ListN.{length}
 use Rattle.octets.specs.Bytes.{Bytes, each}
-use Rattle.listing.specs.Listing.{refusal}
+use Rattle.text_parts.specs.Labelled.{refusal}
 use Rattle.form_step.specs.Reader.{start, reading}
 use Rattle.form_step.specs.Holds.{ListRoom, Reads}
 use Rattle.form_step.specs.declared.Form.{Form}

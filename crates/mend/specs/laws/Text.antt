@@ -11,12 +11,15 @@ use borrow.Author.Tests.{eq-eqb, ne-eqb}
 use Rattle.laws.specs.Pick.{pick}
 use Rattle.octets.specs.Bytes.{each}
 use Rattle.octets.specs.Wrote.{Wrote}
-use Rattle.listing.specs.Text.{ascii}
-use Rattle.listing.specs.Listing.{refusal}
-use Rattle.listing.specs.laws.Listing.{refusal-short}
+use Rattle.text_parts.specs.Text.{ascii}
+use Rattle.text_parts.specs.Labelled.{refusal}
+use Rattle.text_parts.specs.laws.Labelled.{refusal-short}
 use Rattle.mend_changes.specs.Changes.{Difference, flatChanges}
-use Rattle.mend_text.specs.MendText.{changeLines, countsLine, boxLine, mendText}
-use Rattle.mend_text.specs.laws.MendText.{lines-shift, text-short}
+use Rattle.change_text.specs.ChangeLines.{changeLines, countsLine}
+use Rattle.box_text.specs.BoxLine.{boxLine}
+use Rattle.mend_text.specs.MendText.{mendText}
+use Rattle.change_text.specs.laws.ChangeLines.{lines-shift}
+use Rattle.mend_text.specs.laws.MendText.{text-short}
 use Rattle.form_writer.specs.Written.{writtenForm}
 use Rattle.form_writer.specs.FormOf.{length-written}
 use Rattle.mend.specs.Printed.{changeLineOf, changesText}

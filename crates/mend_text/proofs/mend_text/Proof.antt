@@ -3,9 +3,11 @@ use mathlib.Core.List.{_++_}
 use native.Mathlib.Omega.{arith}
 use lib.ListN.{length-append}
 use denote.Ref.{now}
-use Rattle.listing.specs.Text.{ascii}
+use Rattle.text_parts.specs.Text.{ascii}
 use Rattle.octets.specs.laws.Wrote.{wrote-then}
-use Rattle.mend_text.specs.MendText.{changeLines, boxLine, mendText}
+use Rattle.change_text.specs.ChangeLines.{changeLines}
+use Rattle.box_text.specs.BoxLine.{boxLine}
+use Rattle.mend_text.specs.MendText.{mendText}
 use borrow.Author.Needs.{needs}
 use Rattle.mend_text.proofs.mend_text.Statement.{statement}
 use Rattle.mend_text.proofs.mend_text.Tie as tie

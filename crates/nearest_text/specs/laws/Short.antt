@@ -3,9 +3,9 @@ use mathlib.Core.List.{List, [], _∷_, _++_}
 use Prim.Native.Nat.{ℕ, _+_, _≤_}
 use native.Mathlib.Omega.{arith}
 use lib.ListN.{length, length-append}
-use Rattle.listing.specs.Text.{ascii}
-use Rattle.listing.specs.Listing.{entries}
-use Rattle.listing.specs.laws.Listing.{entries-short}
+use Rattle.text_parts.specs.Text.{ascii}
+use Rattle.text_parts.specs.Labelled.{entries}
+use Rattle.text_parts.specs.laws.Labelled.{entries-short}
 use Rattle.nearest_text.specs.declared.NearestLine.{NearestLine}
 use Rattle.nearest_text.specs.declared.NearestLine.the-variants.{Nearest, Triangle, Halfedge, HullPlace, Unused, OffGrid, Refused}
 use Rattle.nearest_text.specs.NearestLine.{numberLine, nearestLine}

@@ -10,7 +10,7 @@ use Rattle.form_step.specs.Reader.{start, reading}
 use Rattle.form_step.specs.Holds.{ListRoom, Reads}
 use Rattle.form.specs.Promise.{ReadSound, Refused, exact}
 use Rattle.form_step.specs.declared.Form.{Form}
-use Rattle.listing.specs.Listing.{refusal}
+use Rattle.text_parts.specs.Labelled.{refusal}
 use Rattle.printing.specs.laws.FormLists.{to-mesh}
 use Rattle.printing.specs.Printed.{Prints, sound, broken, ByForm, Text}
 

@@ -1,7 +1,7 @@
 -- `why_text::with_place` meets its contract: two labelled numbers and the line's end.
 use native.Mathlib.Omega.{arith}
 use lib.ListN.{length-append}
-use Rattle.listing.specs.Listing.{labelled as labelledOf}
+use Rattle.text_parts.specs.Labelled.{labelled as labelledOf}
 use Rattle.octets.specs.laws.Wrote.{wrote-then}
 use Rattle.why_text.specs.ReasonLine.{placeLine}
 use borrow.Author.Needs.{needs}

@@ -3,9 +3,9 @@ use mathlib.Core.List.{List, [], _∷_, _++_}
 use Prim.Native.Nat.{ℕ, _+_, _≤_}
 use native.Mathlib.Omega.{arith}
 use lib.ListN.{length, length-append}
-use Rattle.listing.specs.Text.{ascii}
-use Rattle.listing.specs.Listing.{entries, labelled}
-use Rattle.listing.specs.laws.Listing.{entries-short, labelled-short, refusal-short}
+use Rattle.text_parts.specs.Text.{ascii}
+use Rattle.text_parts.specs.Labelled.{entries, labelled}
+use Rattle.text_parts.specs.laws.Labelled.{entries-short, labelled-short, refusal-short}
 use Rattle.reasons.specs.declared.Reason.{Reason}
 use Rattle.reasons.specs.declared.Reason.the-variants.{NoFault, Number, AtSite, AtTriangle, AtHalfEdge, AtHullPlace, AtEdge, Unused, TriesEmpty, Dropped}
 use Rattle.why_text.specs.ReasonLine.{placeLine, edgeEnds, edgeLine, emptyLine, droppedLine, reasonLine}
