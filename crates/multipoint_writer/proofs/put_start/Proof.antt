@@ -1,8 +1,8 @@
--- `multipoint::put_start` meets its contract: two numbers, one after the other.
+-- `multipoint_writer::put_start` meets its contract: two numbers, one after the other.
 use Rattle.octets.specs.laws.Wrote.{wrote-then}
 use borrow.Author.Needs.{needs}
-use Rattle.multipoint.proofs.put_start.Statement.{statement}
-use Rattle.multipoint.proofs.put_start.Tie as tie
+use Rattle.multipoint_writer.proofs.put_start.Statement.{statement}
+use Rattle.multipoint_writer.proofs.put_start.Tie as tie
 
 returns : tie.Need-returns
 returns c =

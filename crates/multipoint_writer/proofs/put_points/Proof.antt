@@ -1,17 +1,18 @@
--- `multipoint::put_points` meets its contract: the invariant is that the points so far are written; each turn writes one more.
+-- `multipoint_writer::put_points` meets its contract: the invariant is that the points so far are written; each turn writes one more.
 use mathlib.Core.Path.{refl}
 use Prim.Native.Nat.{_-_}
 use native.Mathlib.Omega.{arith}
 use denote.Ref.{now}
 use Rattle.octets.specs.Bytes.{each}
 use Rattle.octets.specs.laws.Wrote.{Lined, lined-start, lined-step, lined-end, wrote-length}
 use Rattle.multipoint.specs.MultiPoint.{filePointBytes}
-use Rattle.multipoint.specs.Promise.{firsts, sitePoint}
+use Rattle.multipoint.specs.Promise.{firsts}
 use Rattle.multipoint.specs.laws.Firsts.{length-firsts, each-firsts}
 use Rattle.multipoint.specs.laws.Points.{points-length}
+use Rattle.multipoint_writer.specs.Promise.{sitePoint}
 use borrow.Author.Needs.{needs}
-use Rattle.multipoint.proofs.put_points.Statement.{statement}
-use Rattle.multipoint.proofs.put_points.Tie as tie
+use Rattle.multipoint_writer.proofs.put_points.Statement.{statement}
+use Rattle.multipoint_writer.proofs.put_points.Tie as tie
 
 abbrev Inv-loop : tie.InvT-loop
 Inv-loop out₀ at sites count end₀ i₀ out end i = Lined (λ k. each filePointBytes (firsts (sitePoint sites) k)) count out₀ out at end i

@@ -1,12 +1,12 @@
--- `multipoint::put_file` meets its contract: the head, the count, the points.
+-- `multipoint_writer::put_file` meets its contract: the head, the count, the points.
 use mathlib.Core.Path.{sym}
 use denote.Ref.{now}
-use Rattle.multipoint.specs.Promise.{sitePoint}
 use Rattle.multipoint.specs.laws.Firsts.{length-firsts}
-use Rattle.multipoint.specs.laws.Points.{file-wrote}
+use Rattle.multipoint_writer.specs.Promise.{sitePoint}
+use Rattle.multipoint_writer.specs.laws.Points.{file-wrote}
 use borrow.Author.Needs.{needs}
-use Rattle.multipoint.proofs.put_file.Statement.{statement}
-use Rattle.multipoint.proofs.put_file.Tie as tie
+use Rattle.multipoint_writer.proofs.put_file.Statement.{statement}
+use Rattle.multipoint_writer.proofs.put_file.Tie as tie
 
 returns : tie.Need-returns
 returns c =

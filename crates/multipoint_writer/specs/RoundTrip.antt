@@ -17,11 +17,12 @@ use Rattle.utils.specs.Rules.{okSite}
 use Rattle.utils.specs.Finite.{BoundedPoint, site-bounded}
 use Rattle.utils.specs.declared.Point.{Point}
 use Rattle.octets.specs.laws.Wrote.{wrote-all}
 use Rattle.multipoint.specs.MultiPoint.{filePoint, Patterned, multiPoint}
-use Rattle.multipoint.specs.Promise.{firsts, writeRules, sitePoint, fileOf, ReadAnswer, WriteAnswer}
+use Rattle.multipoint.specs.Promise.{firsts, ReadAnswer}
 use Rattle.multipoint.specs.Exactly.{pointIn, siteOf, point-is, Readable, Sites, reads, read-points}
 use Rattle.multipoint.specs.laws.Firsts.{length-firsts, getD-firsts, is-firsts}
-use Rattle.multipoint.specs.laws.SameSites.{same-points, file-size, pattern-back, file-point-is, read-length}
+use Rattle.multipoint_writer.specs.Promise.{writeRules, sitePoint, fileOf, WriteAnswer}
+use Rattle.multipoint_writer.specs.laws.SameSites.{same-points, file-size, pattern-back, file-point-is, read-length}
 
 -- each is a value of binary64, as every f64 is
 abbrev pub Held : List Float → Type 0

@@ -1,9 +1,9 @@
--- `multipoint::put_point` meets its contract: the mark and the type, then x, then y.
+-- `multipoint_writer::put_point` meets its contract: the mark and the type, then x, then y.
 use Rattle.octets.specs.laws.Wrote.{wrote-then}
 use Rattle.multipoint.specs.MultiPoint.{filePointBytes}
 use borrow.Author.Needs.{needs}
-use Rattle.multipoint.proofs.put_point.Statement.{statement}
-use Rattle.multipoint.proofs.put_point.Tie as tie
+use Rattle.multipoint_writer.proofs.put_point.Statement.{statement}
+use Rattle.multipoint_writer.proofs.put_point.Tie as tie
 
 returns : tie.Need-returns
 unfolding filePointBytes

@@ -14,10 +14,11 @@ use Rattle.root.specs.Bounded.{Bounded}
 use Rattle.root.specs.laws.Bounds.{bounded-finite, finite-no-nan}
 use Rattle.utils.specs.Flat.{pointAt}
 use Rattle.utils.specs.declared.Point.{Point}
 use Rattle.multipoint.specs.MultiPoint.{filePoint}
-use Rattle.multipoint.specs.Promise.{firsts, entryOf, sitePoint, fileOf, ReadAnswer}
+use Rattle.multipoint.specs.Promise.{firsts, entryOf, ReadAnswer}
 use Rattle.multipoint.specs.laws.Firsts.{length-firsts}
 use Rattle.multipoint.specs.laws.Shapes.{file-length}
+use Rattle.multipoint_writer.specs.Promise.{sitePoint, fileOf}
 
 -- the numbers of two lists, by their points
 pub same-points : (l m : List Float) (n : ℕ) → length l ≡ 2 * n → length m ≡ 2 * n → ((i : ℕ) → i < n → pointAt l i ≡ pointAt m i) → l ≡ m

@@ -1,9 +1,9 @@
--- `multipoint::write` meets its contract: rules 1, 2 and 6 in their order, then the file.
+-- `multipoint_writer::write` meets its contract: rules 1, 2 and 6 in their order, then the file.
 use Rattle.laws.specs.laws.Decide as decide
-use Rattle.multipoint.specs.laws.Answers.{odd-sites, not-so-many, too-short, bad-site, was-written}
+use Rattle.multipoint_writer.specs.laws.Answers.{odd-sites, not-so-many, too-short, bad-site, was-written}
 use borrow.Author.Needs.{needs}
-use Rattle.multipoint.proofs.write.Statement.{statement}
-use Rattle.multipoint.proofs.write.Tie as tie
+use Rattle.multipoint_writer.proofs.write.Statement.{statement}
+use Rattle.multipoint_writer.proofs.write.Tie as tie
 
 returns : tie.Need-returns
 returns c = odd-sites _ _ (c .if1 .taken)

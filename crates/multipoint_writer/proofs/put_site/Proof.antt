@@ -1,9 +1,9 @@
--- `multipoint::put_site` meets its contract: the point of the two patterns.
+-- `multipoint_writer::put_site` meets its contract: the point of the two patterns.
 use denote.Ref.{now}
-use Rattle.multipoint.specs.laws.Points.{site-wrote}
+use Rattle.multipoint_writer.specs.laws.Points.{site-wrote}
 use borrow.Author.Needs.{needs}
-use Rattle.multipoint.proofs.put_site.Statement.{statement}
-use Rattle.multipoint.proofs.put_site.Tie as tie
+use Rattle.multipoint_writer.proofs.put_site.Statement.{statement}
+use Rattle.multipoint_writer.proofs.put_site.Tie as tie
 
 returns : tie.Need-returns
 returns c =
