@@ -18,9 +18,9 @@ use Rattle.iterator.specs.Fills.{Fills}
 use Rattle.layout.specs.Cleared.{clearedFrom}
 use Rattle.layout.specs.Regions.{joined, offsetsFrom}
 use Rattle.layout.specs.Outputs.{padded}
-use Rattle.bulk_neighbours.specs.Lists.{nothingLent, listFrom, listsTo}
-use Rattle.bulk_neighbours.specs.Steps.{Appended, WrittenLists, MadeLists}
-use Rattle.bulk_neighbours.specs.laws.Lists.{endOfLists, joined-next, end-next, end-mono, cuts-next, cuts-length}
+use Rattle.neighbour_lists.specs.Lists.{nothingLent, listFrom, listsTo}
+use Rattle.neighbour_lists.specs.Steps.{Appended, WrittenLists, MadeLists}
+use Rattle.neighbour_lists.specs.laws.Lists.{endOfLists, joined-next, end-next, end-mono, cuts-next, cuts-length}
 
 -- the list of a site as it is handed out
 module _ (tri he off ix : List ℕ) (s e : ℕ) {old new : List ℕ} {count : ℕ} {b : Bool} where

@@ -1,10 +1,10 @@
--- `bulk_neighbours::append_list` meets its contract: the list fits what is left of the slice.
+-- `neighbour_lists::append_list` meets its contract: the list fits what is left of the slice.
 use native.Mathlib.Omega.{arith}
 use borrow.Author.Needs.{needs}
 use denote.Ref.{now}
-use Rattle.bulk_neighbours.specs.laws.Writes.{appended}
-use Rattle.bulk_neighbours.proofs.append_list.Statement.{statement}
-use Rattle.bulk_neighbours.proofs.append_list.Tie as tie
+use Rattle.neighbour_lists.specs.laws.Writes.{appended}
+use Rattle.neighbour_lists.proofs.append_list.Statement.{statement}
+use Rattle.neighbour_lists.proofs.append_list.Tie as tie
 
 abbrev Begin : tie.After-list-from → tie.Start
 Begin c = c .before .before .before .before .before .before .before .before .before

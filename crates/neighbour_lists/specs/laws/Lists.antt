@@ -12,7 +12,7 @@ use Rattle.laws.specs.laws.Count.{sum-mono}
 use Rattle.laws.specs.laws.Decide.{eq-or-ne}
 use Rattle.layout.specs.Regions.{joined, offsetsFrom}
 use Rattle.layout.specs.laws.Compacted.{joined-snoc, offsets-length}
-use Rattle.bulk_neighbours.specs.Lists.{listsTo}
+use Rattle.neighbour_lists.specs.Lists.{listsTo}
 
 offsets-snoc : (n : ℕ) (cs : List (List ℕ)) (c : List ℕ) → offsetsFrom n (cs ++ c ∷ []) ≡ offsetsFrom n cs ++ (n + (length (joined cs) + length c)) ∷ []
 unfolding offsetsFrom joined

@@ -1,9 +1,9 @@
--- `bulk_neighbours::list_from` meets its contract: all neighbours where no cells are lent, else those after clipping.
+-- `neighbour_lists::list_from` meets its contract: all neighbours where no cells are lent, else those after clipping.
 use mathlib.Core.Path.{sym, _∙_}
 use borrow.Author.Needs.{needs}
-use Rattle.bulk_neighbours.specs.laws.Writes.{plain-list, clipped-list}
-use Rattle.bulk_neighbours.proofs.list_from.Statement.{statement}
-use Rattle.bulk_neighbours.proofs.list_from.Tie as tie
+use Rattle.neighbour_lists.specs.laws.Writes.{plain-list, clipped-list}
+use Rattle.neighbour_lists.proofs.list_from.Statement.{statement}
+use Rattle.neighbour_lists.proofs.list_from.Tie as tie
 
 returns : tie.Need-returns
 returns c =

@@ -1,9 +1,9 @@
--- `bulk_neighbours::make_lists` meets its contract: the lists are written, and what is behind them is cleared.
+-- `neighbour_lists::make_lists` meets its contract: the lists are written, and what is behind them is cleared.
 use denote.Ref.{now}
 use borrow.Author.Needs.{needs}
-use Rattle.bulk_neighbours.specs.laws.Writes.{made-lists}
-use Rattle.bulk_neighbours.proofs.make_lists.Statement.{statement}
-use Rattle.bulk_neighbours.proofs.make_lists.Tie as tie
+use Rattle.neighbour_lists.specs.laws.Writes.{made-lists}
+use Rattle.neighbour_lists.proofs.make_lists.Statement.{statement}
+use Rattle.neighbour_lists.proofs.make_lists.Tie as tie
 
 returns : tie.Need-returns
 returns c =

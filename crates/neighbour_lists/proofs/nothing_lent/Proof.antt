@@ -1,7 +1,7 @@
--- `bulk_neighbours::nothing_lent` meets its contract: the tests are those of the definition.
-use Rattle.bulk_neighbours.specs.laws.Answers.{some-offsets, no-offsets}
-use Rattle.bulk_neighbours.proofs.nothing_lent.Statement.{statement}
-use Rattle.bulk_neighbours.proofs.nothing_lent.Tie as tie
+-- `neighbour_lists::nothing_lent` meets its contract: the tests are those of the definition.
+use Rattle.neighbour_lists.specs.laws.Lent.{some-offsets, no-offsets}
+use Rattle.neighbour_lists.proofs.nothing_lent.Statement.{statement}
+use Rattle.neighbour_lists.proofs.nothing_lent.Tie as tie
 
 returns : tie.Need-returns
 returns c = some-offsets (c .before .args .offsets) (c .before .args .indexes) (c .if1 .taken)

@@ -9,7 +9,7 @@ use Rattle.shared.specs.Cells.{cellOf, sharedOf, shareEdgeOf}
 use Rattle.iterator.specs.Neighbours.{lastEnd, startsOf}
 use Rattle.iterator.specs.Clipped.{keptOf, clippedFrom, clippedFirst, clippedOf}
 use Rattle.layout.specs.Regions.{joined, offsetsFrom}
-use Rattle.bulk_neighbours.specs.Lists.{listFrom, listOf, listsTo}
+use Rattle.neighbour_lists.specs.Lists.{listFrom, listOf, listsTo}
 
 abbrev cuts : List ℕ
 cuts = 0 ∷ 5 ∷ 9 ∷ 14 ∷ 18 ∷ []

@@ -1,14 +1,14 @@
--- `bulk_neighbours::write_lists` meets its contract: list after list, and where each ends.
+-- `neighbour_lists::write_lists` meets its contract: list after list, and where each ends.
 use mathlib.Core.Path.{_∙_}
 use Prim.Native.Nat.{_-_}
 use native.Mathlib.Omega.{arith}
 use lib.ListN.{length, length-set}
 use denote.Ref.{now}
 use borrow.Author.Needs.{needs}
-use Rattle.bulk_neighbours.specs.Lists.{listOf}
-use Rattle.bulk_neighbours.specs.laws.Writes.{WritingLists, writing-start, next-fits, next-few, writing-step, writing-end}
-use Rattle.bulk_neighbours.proofs.write_lists.Statement.{statement}
-use Rattle.bulk_neighbours.proofs.write_lists.Tie as tie
+use Rattle.neighbour_lists.specs.Lists.{listOf}
+use Rattle.neighbour_lists.specs.laws.Writes.{WritingLists, writing-start, next-fits, next-few, writing-step, writing-end}
+use Rattle.neighbour_lists.proofs.write_lists.Statement.{statement}
+use Rattle.neighbour_lists.proofs.write_lists.Tie as tie
 
 abbrev Inv-loop : tie.InvT-loop
 Inv-loop triangles halfedges table offsets indexes starts₀ out₀ n₀ s₀ starts out n s =
