@@ -1,13 +1,13 @@
--- `ring_area::settle` meets its contract: the carries leave both sums as they are.
+-- `ring_rounding::settle` meets its contract: the carries leave both sums as they are.
 use mathlib.Core.Path.{ap, _∙_}
 use Prim.Native.Nat.{ℕ}
 use denote.Ref.{now}
 use borrow.Author.Needs.{needs}
 use Rattle.long_numbers.specs.Amount.{amount, lifted}
 use Rattle.ring_area.specs.Area.{roundedHalf}
-use Rattle.ring_area.specs.laws.Settles.{settled-same}
-use Rattle.ring_area.proofs.settle.Statement.{statement}
-use Rattle.ring_area.proofs.settle.Tie as tie
+use Rattle.ring_rounding.specs.laws.Differences.{settled-same}
+use Rattle.ring_rounding.proofs.settle.Statement.{statement}
+use Rattle.ring_rounding.proofs.settle.Tie as tie
 
 rounded-from-requires : tie.Need-rounded-from-requires
 rounded-from-requires c κs =

@@ -1,13 +1,13 @@
--- `ring_area::long_area` meets its contract: the first limbs of 94, all 0.
+-- `ring_rounding::long_area` meets its contract: the first limbs of 94, all 0.
 use mathlib.Core.Path.{refl, sym, subst}
 use Prim.Native.Nat.{ℕ, _+_, _≤_}
 use native.Mathlib.Omega.{arith}
 use borrow.Author.Needs.{needs}
-use Rattle.ring_area.specs.Span.{AllZero}
-use Rattle.ring_area.specs.laws.Spans.{placed-as}
-use Rattle.ring_area.specs.laws.Settles.{zeros-part}
-use Rattle.ring_area.proofs.long_area.Statement.{statement}
-use Rattle.ring_area.proofs.long_area.Tie as tie
+use Rattle.ring_rounding.specs.Steps.{AllZero}
+use Rattle.ring_rounding.specs.laws.Reaches.{placed-as}
+use Rattle.ring_rounding.specs.laws.Differences.{zeros-part}
+use Rattle.ring_rounding.proofs.long_area.Statement.{statement}
+use Rattle.ring_rounding.proofs.long_area.Tie as tie
 
 slice-aggregate-area-in : tie.Need-slice-aggregate-area-in
 slice-aggregate-area-in c = let s = c .before .before .before in sym (zeros-part 94 (s .args .count) (omega (arith, s .pre .3)) .long)

@@ -1,13 +1,13 @@
--- `ring_area::area_in` meets its contract: two sums from nothing, and their difference.
+-- `ring_rounding::area_in` meets its contract: two sums from nothing, and their difference.
 use mathlib.Core.Path.{_∙_}
 use denote.Ref.{now}
 use native.Mathlib.Omega.{arith}
 use borrow.Author.Needs.{needs}
-use Rattle.ring_area.specs.laws.Rings.{ring-is}
-use Rattle.ring_area.specs.laws.Spans.{placed-as}
-use Rattle.ring_area.specs.laws.Settles.{ready-zeros, few-puts, sum-long, sum-fits, sums-are}
-use Rattle.ring_area.proofs.area_in.Statement.{statement}
-use Rattle.ring_area.proofs.area_in.Tie as tie
+use Rattle.ring_rounding.specs.laws.Rings.{ring-is}
+use Rattle.ring_rounding.specs.laws.Reaches.{placed-as}
+use Rattle.ring_rounding.specs.laws.Differences.{ready-zeros, few-puts, sum-long, sum-fits, sums-are}
+use Rattle.ring_rounding.proofs.area_in.Statement.{statement}
+use Rattle.ring_rounding.proofs.area_in.Tie as tie
 
 sides-from-requires : tie.Need-sides-from-requires
 sides-from-requires c κs =

@@ -1,9 +1,9 @@
--- `ring_area::rounded_difference` meets its contract: from limb 0 on.
+-- `ring_rounding::rounded_difference` meets its contract: from limb 0 on.
 use mathlib.Core.Path.{_∙_}
 use borrow.Author.Needs.{needs}
-use Rattle.ring_area.specs.laws.Settles.{whole-half}
-use Rattle.ring_area.proofs.rounded_difference.Statement.{statement}
-use Rattle.ring_area.proofs.rounded_difference.Tie as tie
+use Rattle.ring_rounding.specs.laws.Differences.{whole-half}
+use Rattle.ring_rounding.proofs.rounded_difference.Statement.{statement}
+use Rattle.ring_rounding.proofs.rounded_difference.Tie as tie
 
 returns : tie.Need-returns
 returns c = c .before .rounded-from .ensures ∙ whole-half _ _

@@ -1,11 +1,11 @@
--- `ring_area::ring_area` meets its contract: the limbs hold the products of all exponents that were found.
+-- `ring_rounding::ring_area` meets its contract: the limbs hold the products of all exponents that were found.
 use denote.Ref.{now}
 use native.Mathlib.Omega.{arith}
 use borrow.Author.Needs.{needs}
-use Rattle.ring_area.specs.laws.Rings.{no-corners}
-use Rattle.ring_area.specs.laws.Spans.{ring-placed}
-use Rattle.ring_area.proofs.ring_area.Statement.{statement}
-use Rattle.ring_area.proofs.ring_area.Tie as tie
+use Rattle.ring_rounding.specs.laws.Rings.{no-corners}
+use Rattle.ring_rounding.specs.laws.Reaches.{ring-placed}
+use Rattle.ring_rounding.proofs.ring_area.Statement.{statement}
+use Rattle.ring_rounding.proofs.ring_area.Tie as tie
 
 returns : tie.Need-returns
 returns c = let s = c .before .before .before in no-corners (now (s .args .vertices)) (now (s .args .entries)) (c .if1 .taken)

@@ -1,11 +1,11 @@
--- `ring_area::rounded_from` meets its contract: where nothing was borrowed the first is no less; else it is the other way round.
+-- `ring_rounding::rounded_from` meets its contract: where nothing was borrowed the first is no less; else it is the other way round.
 use mathlib.Core.Path.{_∙_}
 use native.Mathlib.Omega.{arith}
 use borrow.Author.Needs.{needs}
 use Rattle.long_numbers.specs.laws.Lifted.{lifted-differs}
-use Rattle.ring_area.specs.laws.Settles.{differ-plus, differ-minus, differ-roundable}
-use Rattle.ring_area.proofs.rounded_from.Statement.{statement}
-use Rattle.ring_area.proofs.rounded_from.Tie as tie
+use Rattle.ring_rounding.specs.laws.Differences.{differ-plus, differ-minus, differ-roundable}
+use Rattle.ring_rounding.proofs.rounded_from.Statement.{statement}
+use Rattle.ring_rounding.proofs.rounded_from.Tie as tie
 
 rounded-requires : tie.Need-rounded-requires
 rounded-requires c κs =

@@ -1,10 +1,10 @@
--- `ring_area::widen` meets its contract: 0 changes nothing.
+-- `ring_rounding::widen` meets its contract: 0 changes nothing.
 use borrow.Author.Needs.{needs}
 use Rattle.root.specs.laws.Bounds.{bounded-finite, finite-no-nan}
 use Rattle.ring_area.specs.laws.Splits.{pattern-low}
-use Rattle.ring_area.specs.laws.Spans.{widened-none, reached-none, reached-here}
-use Rattle.ring_area.proofs.widen.Statement.{statement}
-use Rattle.ring_area.proofs.widen.Tie as tie
+use Rattle.ring_rounding.specs.laws.Reaches.{widened-none, reached-none, reached-here}
+use Rattle.ring_rounding.proofs.widen.Statement.{statement}
+use Rattle.ring_rounding.proofs.widen.Tie as tie
 
 float-to-bits-split : tie.Need-float-to-bits-split
 float-to-bits-split c = finite-no-nan (c .args .x) (bounded-finite (c .args .x) 400 (c .pre))

@@ -1,8 +1,8 @@
--- `ring_area::widen_corner` meets its contract: x, then y.
+-- `ring_rounding::widen_corner` meets its contract: x, then y.
 use borrow.Author.Needs.{needs}
-use Rattle.ring_area.specs.laws.Spans.{widened-then, reached-still}
-use Rattle.ring_area.proofs.widen_corner.Statement.{statement}
-use Rattle.ring_area.proofs.widen_corner.Tie as tie
+use Rattle.ring_rounding.specs.laws.Reaches.{widened-then, reached-still}
+use Rattle.ring_rounding.proofs.widen_corner.Statement.{statement}
+use Rattle.ring_rounding.proofs.widen_corner.Tie as tie
 
 returns : tie.Need-returns
 returns c =

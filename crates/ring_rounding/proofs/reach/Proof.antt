@@ -1,10 +1,10 @@
--- `ring_area::reach` meets its contract: the corners that were passed are within the reach so far.
+-- `ring_rounding::reach` meets its contract: the corners that were passed are within the reach so far.
 use Prim.Native.Nat.{_-_}
 use lib.ListN.{length}
 use borrow.Author.Needs.{needs}
-use Rattle.ring_area.specs.laws.Spans.{ReachTo, reach-start, reach-step, reach-end}
-use Rattle.ring_area.proofs.reach.Statement.{statement}
-use Rattle.ring_area.proofs.reach.Tie as tie
+use Rattle.ring_rounding.specs.laws.Reaches.{ReachTo, reach-start, reach-step, reach-end}
+use Rattle.ring_rounding.proofs.reach.Statement.{statement}
+use Rattle.ring_rounding.proofs.reach.Tie as tie
 
 abbrev Inv-loop : tie.InvT-loop
 Inv-loop vertices entries r₀ i₀ r i = ReachTo vertices entries (r .least) (r .most) i
