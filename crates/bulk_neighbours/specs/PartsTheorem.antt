@@ -16,7 +16,7 @@ use Rattle.mesh.specs.Accepted.{Mesh, Accepted, tableOf, siteCount}
 use Rattle.mesh.specs.laws.Verdicts.{keep-accepted}
 use Rattle.check_mesh.specs.AtExit.{atExit}
 use Rattle.iterator.specs.Neighbours.{neighboursOf}
-use Rattle.iterator.specs.Clipped.{clippedNeighboursOf}
+use Rattle.clipped_iterator.specs.Clipped.{clippedNeighboursOf}
 use Rattle.layout.specs.Regions.{joined, offsetsFrom}
 use Rattle.admission.specs.laws.Admits.{call-answers}
 use Rattle.neighbour_lists.specs.Lists.{nothingLent, listFrom, listOf, listsTo}

@@ -9,7 +9,7 @@ use Rattle.mesh.specs.Mesh.{wholeOf}
 use Rattle.mesh.specs.Accepted.{Mesh, tableOf, siteCount}
 use Rattle.shared.specs.Cells.{shareEdgeOf}
 use Rattle.iterator.specs.Neighbours.{startsOf}
-use Rattle.iterator.specs.Clipped.{clippedOf}
+use Rattle.clipped_iterator.specs.Clipped.{clippedOf}
 
 -- no cells are lent: offsets and indexes are both empty
 abbrev pub nothingLent : ℕ → ℕ → Bool

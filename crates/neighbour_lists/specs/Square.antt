@@ -7,7 +7,7 @@ use Rattle.mesh.specs.Mesh.{nextOf, chosen, tableTo, turnOf, walkOf}
 use Rattle.mesh.specs.Square.{tri, he, table}
 use Rattle.shared.specs.Cells.{cellOf, sharedOf, shareEdgeOf}
 use Rattle.iterator.specs.Neighbours.{lastEnd, startsOf}
-use Rattle.iterator.specs.Clipped.{keptOf, clippedFrom, clippedFirst, clippedOf}
+use Rattle.clipped_iterator.specs.Clipped.{keptOf, clippedFrom, clippedFirst, clippedOf}
 use Rattle.layout.specs.Regions.{joined, offsetsFrom}
 use Rattle.neighbour_lists.specs.Lists.{listFrom, listOf, listsTo}
 

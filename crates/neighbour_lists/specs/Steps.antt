@@ -7,7 +7,7 @@ use lib.ListN.{length}
 use lib.Seq.{sets}
 use Rattle.numbers.specs.Numbers.{EMPTY}
 use Rattle.mesh.specs.Mesh.{Paired}
-use Rattle.iterator.specs.Clippable.{Clippable}
+use Rattle.clipped_iterator.specs.Clippable.{Clippable}
 use Rattle.layout.specs.Regions.{joined, offsetsFrom}
 use Rattle.layout.specs.Outputs.{padded}
 use Rattle.neighbour_lists.specs.Lists.{nothingLent, listOf, listsTo}

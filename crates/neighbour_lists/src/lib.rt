@@ -37,7 +37,7 @@ fn list_from(
     if nothing_lent(offsets.len(), indexes.len()) {
         return iterator::neighbours(triangles, halfedges, start, out);
     }
-    iterator::clipped_neighbours(triangles, halfedges, offsets, indexes, s, start, out)
+    clipped_iterator::clipped_neighbours(triangles, halfedges, offsets, indexes, s, start, out)
 }
 
 // Writes the list of site s at place n of `out`. Answers where it ends.

@@ -19,7 +19,7 @@ use Rattle.mesh.specs.laws.Facts.{topology, paired, tab-length}
 use Rattle.check_mesh.specs.AtExit.{atExit}
 use Rattle.check_mesh.specs.Answers.{workAfter}
 use Rattle.check_mesh.specs.laws.AtExit.{exit-made, exit-blank}
-use Rattle.iterator.specs.laws.Clippable.{clippable}
+use Rattle.clipped_iterator.specs.laws.Clippable.{clippable}
 use Rattle.admission.specs.Asks.{CellsOf}
 use Rattle.admission.specs.Admission.{Admission}
 use Rattle.admission.specs.laws.Admits.{asked-answers, call-answers, admitted, admits-few, admits-rules}

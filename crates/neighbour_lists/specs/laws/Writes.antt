@@ -13,8 +13,8 @@ use Rattle.numbers.specs.Numbers.{EMPTY}
 use Rattle.mesh.specs.Mesh.{wholeOf}
 use Rattle.shared.specs.Cells.{shareEdgeOf}
 use Rattle.iterator.specs.Neighbours.{startsOf}
-use Rattle.iterator.specs.Clipped.{clippedOf}
 use Rattle.iterator.specs.Fills.{Fills}
+use Rattle.clipped_iterator.specs.Clipped.{clippedOf}
 use Rattle.layout.specs.Cleared.{clearedFrom}
 use Rattle.layout.specs.Regions.{joined, offsetsFrom}
 use Rattle.layout.specs.Outputs.{padded}

@@ -8,8 +8,8 @@ use Rattle.numbers.specs.Numbers.{EMPTY}
 use Rattle.mesh.specs.Mesh.{nextOf, chosen, tableTo, turnOf, walkOf}
 use Rattle.shared.specs.Cells.{cellOf, sharedOf, shareEdgeOf}
 use Rattle.mesh.specs.Square.{tri, he, table}
 use Rattle.iterator.specs.Neighbours.{lastEnd, startsOf, neighboursOf}
-use Rattle.iterator.specs.Clipped.{keptOf, clippedFrom, clippedFirst, clippedOf, clippedNeighboursOf}
+use Rattle.clipped_iterator.specs.Clipped.{keptOf, clippedFrom, clippedFirst, clippedOf, clippedNeighboursOf}
 
 abbrev off : List ℕ
 off = 0 ∷ 5 ∷ 9 ∷ 14 ∷ 18 ∷ []

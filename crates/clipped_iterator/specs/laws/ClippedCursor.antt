@@ -13,17 +13,17 @@ use Rattle.laws.specs.laws.Decide.{lt-or-ge}
 use Rattle.numbers.specs.Numbers.{EMPTY}
 use Rattle.mesh.specs.Mesh.{nextOf, startOf, endOf, pairOf, around, turnOf, wholeOf}
 use Rattle.mesh.specs.laws.WalkSteps.{walk-done}
 use Rattle.iterator.specs.declared.Cursor.{Cursor}
 use Rattle.iterator.specs.declared.Stepped.{Stepped}
 use Rattle.iterator.specs.declared.Stepped.the-variants.{Site, End}
-use Rattle.iterator.specs.declared.Judgement.{Judgement}
-use Rattle.iterator.specs.declared.Judgement.the-variants.{Counts, Dropped, Ends}
 use Rattle.iterator.specs.Neighbours.{lastEnd}
 use Rattle.iterator.specs.Cursor.{restOf, cursor, cursorFrom, lastStep, stepOf, CursorSettled}
 use Rattle.iterator.specs.laws.Rest.{rest-done, rest-step, rest-settled}
 use Rattle.iterator.specs.laws.Cursor.{step-walks, step-last, step-end}
-use Rattle.iterator.specs.Clipped.{keptOf, clippedFrom, clippedFirst, clippedOf}
-use Rattle.iterator.specs.ClippedCursor.{judgeOf, clippedLeft}
+use Rattle.clipped_iterator.specs.declared.Judgement.{Judgement}
+use Rattle.clipped_iterator.specs.declared.Judgement.the-variants.{Counts, Dropped, Ends}
+use Rattle.clipped_iterator.specs.Clipped.{keptOf, clippedFrom, clippedFirst, clippedOf}
+use Rattle.clipped_iterator.specs.ClippedCursor.{judgeOf, clippedLeft}
 
 -- the judgement by its tests
 module _ (he : List ℕ) (keep : Bool) (passed last a b : ℕ) (p : a ≡ last) (q : b ≡ passed) where

@@ -1,9 +1,9 @@
 -- Each answer follows the tests that led to it.
 use mathlib.Core.Path.{refl, _∙_}
-use Rattle.iterator.specs.laws.ClippedCursor.{judge-last, judge-later, judge-inner, judge-first}
+use Rattle.clipped_iterator.specs.laws.ClippedCursor.{judge-last, judge-later, judge-inner, judge-first}
 use borrow.Author.Needs.{needs}
-use Rattle.iterator.proofs.judge.Statement.{statement}
-use Rattle.iterator.proofs.judge.Tie as tie
+use Rattle.clipped_iterator.proofs.judge.Statement.{statement}
+use Rattle.clipped_iterator.proofs.judge.Tie as tie
 
 returns : tie.Need-returns
 returns c = c .if-shared .ensures ∙ judge-last _ _ _ _ _ _ (c .before .before .wide .ensures) refl (c .before .if1 .taken)

@@ -1,7 +1,7 @@
 -- The test on the two cells decides.
 use borrow.Author.Needs.{needs}
-use Rattle.iterator.proofs.if_shared.Statement.{statement}
-use Rattle.iterator.proofs.if_shared.Tie as tie
+use Rattle.clipped_iterator.proofs.if_shared.Statement.{statement}
+use Rattle.clipped_iterator.proofs.if_shared.Tie as tie
 
 returns : tie.Need-returns
 returns c = rw (← c .before .before .before .wide .ensures, ← c .before .before .wide2 .ensures, ← c .before .share-edge .ensures, c .if1 .taken)

@@ -2,11 +2,11 @@
 use mathlib.Core.Path.{sym, ap, _∙_}
 use Rattle.shared.specs.Cells.{shareEdgeOf}
 use denote.Ref.{now}
 use Rattle.iterator.specs.Cursor.{isEnd}
-use Rattle.iterator.specs.laws.ClippedLoop.{step-over}
+use Rattle.clipped_iterator.specs.laws.ClippedLoop.{step-over}
 use borrow.Author.Needs.{needs}
-use Rattle.iterator.proofs.clipped_over.Statement.{statement}
-use Rattle.iterator.proofs.clipped_over.Tie as tie
+use Rattle.clipped_iterator.proofs.clipped_over.Statement.{statement}
+use Rattle.clipped_iterator.proofs.clipped_over.Tie as tie
 
 returns : tie.Need-returns
 returns c =

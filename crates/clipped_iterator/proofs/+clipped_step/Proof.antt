@@ -3,18 +3,18 @@
 use mathlib.Core.Path.{sym, _∙_}
 use lib.ListN.{length}
 use borrow.Author.Needs.{needs}
 use Rattle.iterator.specs.Cursor.{restOf}
-use Rattle.iterator.specs.laws.ClippedStep.{coming-cell, counts, ends, dropped-sound, dropped-less, dropped-takes, nothing-left}
+use Rattle.clipped_iterator.specs.laws.ClippedStep.{coming-cell, counts, ends, dropped-sound, dropped-less, dropped-takes, nothing-left}
 use Prim.Native.Nat.{ℕ, _<_}
 use borrow.Fn.Kinds.{In}
 use borrow.Fn.PlainCycle.{Measures, is, falls, and}
-use Rattle.iterator.proofs.clipped_step.Reads as clipped-step
-use Rattle.iterator.proofs.clipped_step.Kinds as clipped-step-kinds
-use Rattle.iterator.proofs.+clipped_step.Lts-clipped_step as clipped-step-lts
-use Rattle.iterator.proofs.judge.Reads as judge-reads
+use Rattle.clipped_iterator.proofs.clipped_step.Reads as clipped-step
+use Rattle.clipped_iterator.proofs.clipped_step.Kinds as clipped-step-kinds
+use Rattle.clipped_iterator.proofs.+clipped_step.Lts-clipped_step as clipped-step-lts
+use Rattle.clipped_iterator.proofs.judge.Reads as judge-reads
 use Rattle.iterator.proofs.step.Reads as step-reads
-use Rattle.iterator.proofs.+clipped_step.{statement}
-use Rattle.iterator.proofs.+clipped_step.Tie.{close}
+use Rattle.clipped_iterator.proofs.+clipped_step.{statement}
+use Rattle.clipped_iterator.proofs.+clipped_step.Tie.{close}
 
 abbrev μ-clipped-step : Measures 4 clipped-step-kinds.ps ℕ
 μ-clipped-step κs a = let c = a .1 .1 .1 .1 .1 .0 in length (restOf (a .1 .0 .now) (c .start) (c .next))

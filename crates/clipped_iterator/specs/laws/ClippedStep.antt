@@ -7,15 +7,15 @@ use lib.ListN.{length}
 use Rattle.numbers.specs.Numbers.{EMPTY}
 use Rattle.shared.specs.Cells.{shareEdgeOf}
 use Rattle.mesh.specs.laws.Occurs.{occ-below}
 use Rattle.iterator.specs.declared.Cursor.{Cursor}
 use Rattle.iterator.specs.declared.Stepped.{Stepped}
 use Rattle.iterator.specs.declared.Stepped.the-variants.{Site, End}
-use Rattle.iterator.specs.declared.Judgement.the-variants.{Counts, Dropped, Ends}
-use Rattle.iterator.specs.Clippable.{Clippable}
+use Rattle.clipped_iterator.specs.declared.Judgement.the-variants.{Counts, Dropped, Ends}
+use Rattle.clipped_iterator.specs.Clippable.{Clippable}
 use Rattle.iterator.specs.Cursor.{restOf, stepOf, CursorSettled}
 use Rattle.iterator.specs.laws.Cursor.{coming-used}
-use Rattle.iterator.specs.ClippedCursor.{judgeOf, clippedLeft, ClippedTakes}
-use Rattle.iterator.specs.laws.ClippedCursor.{came, none-came}
+use Rattle.clipped_iterator.specs.ClippedCursor.{judgeOf, clippedLeft, ClippedTakes}
+use Rattle.clipped_iterator.specs.laws.ClippedCursor.{came, none-came}
 
 module _ {tri he off ix : List ℕ} (g : Clippable tri he off ix) (c : Cursor) (ok : CursorSettled he c) where
   small : length he ≤ EMPTY

@@ -8,13 +8,13 @@ use lib.ListN.{length}
 use Rattle.laws.specs.Pick.{pick}
 use Rattle.numbers.specs.Numbers.{EMPTY}
 use Rattle.mesh.specs.Mesh.{pairOf}
 use Rattle.iterator.specs.declared.Cursor.{Cursor}
 use Rattle.iterator.specs.declared.Stepped.{Stepped}
 use Rattle.iterator.specs.declared.Stepped.the-variants.{Site, End}
-use Rattle.iterator.specs.declared.Judgement.{Judgement}
-use Rattle.iterator.specs.declared.Judgement.the-variants.{Counts, Dropped, Ends}
 use Rattle.iterator.specs.Cursor.{restOf, CursorSettled}
-use Rattle.iterator.specs.Clipped.{clippedFrom, clippedOf}
+use Rattle.clipped_iterator.specs.declared.Judgement.{Judgement}
+use Rattle.clipped_iterator.specs.declared.Judgement.the-variants.{Counts, Dropped, Ends}
+use Rattle.clipped_iterator.specs.Clipped.{clippedFrom, clippedOf}
 
 -- a neighbour that comes: `passed` was the walk's last half-edge before, `last` is now; the first of a hull site and the last end count if kept
 unfoldable pub judgeOf : List ℕ → Bool → ℕ → ℕ → Judgement

@@ -4,13 +4,13 @@ use lib.ListN.{length}
 use denote.Ref.{now}
 use Rattle.shared.specs.Cells.{shareEdgeOf}
 use Rattle.mesh.specs.Mesh.{wholeOf}
-use Rattle.iterator.specs.Clipped.{clippedOf}
+use Rattle.clipped_iterator.specs.Clipped.{clippedOf}
 use Rattle.iterator.specs.laws.Rest.{settled-start}
-use Rattle.iterator.specs.laws.ClippedLoop.{ClippedWritten, handing-start, handing-site, handing-end, handing-full}
+use Rattle.clipped_iterator.specs.laws.ClippedLoop.{ClippedWritten, handing-start, handing-site, handing-end, handing-full}
 use native.Mathlib.Omega.{arith}
 use borrow.Author.Needs.{needs}
-use Rattle.iterator.proofs.clipped_neighbours.Statement.{statement}
-use Rattle.iterator.proofs.clipped_neighbours.Tie as tie
+use Rattle.clipped_iterator.proofs.clipped_neighbours.Statement.{statement}
+use Rattle.clipped_iterator.proofs.clipped_neighbours.Tie as tie
 
 abbrev Inv-loop : tie.InvT-loop
 Inv-loop triangles halfedges offsets indexes s start out₀ c₀ n₀ out c n = ClippedWritten triangles halfedges (shareEdgeOf offsets indexes s)

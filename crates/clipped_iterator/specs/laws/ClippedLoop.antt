@@ -9,15 +9,15 @@ use lib.ListN.{length, set}
 use borrow.Author.Tests.{eq-eqb, ne-eqb}
 use Rattle.numbers.specs.Numbers.{EMPTY}
 use Rattle.mesh.specs.Mesh.{wholeOf}
 use Rattle.iterator.specs.declared.Cursor.{Cursor}
 use Rattle.iterator.specs.declared.Stepped.{Stepped}
 use Rattle.iterator.specs.declared.Stepped.the-variants.{Site, End}
 use Rattle.iterator.specs.Cursor.{Settled, cursorFrom, isEnd, CursorSettled}
-use Rattle.iterator.specs.Clipped.{clippedOf}
-use Rattle.iterator.specs.ClippedCursor.{clippedLeft, ClippedTakes}
-use Rattle.iterator.specs.laws.ClippedCursor.{clipped-fresh}
 use Rattle.iterator.specs.Fills.{Fills}
 use Rattle.iterator.specs.laws.Fills.{Filling, filling-start, filling-step, filling-done, filling-full}
+use Rattle.clipped_iterator.specs.Clipped.{clippedOf}
+use Rattle.clipped_iterator.specs.ClippedCursor.{clippedLeft, ClippedTakes}
+use Rattle.clipped_iterator.specs.laws.ClippedCursor.{clipped-fresh}
 
 -- n of the whole list are written, and the cursor stands before the others
 pub record ClippedWritten (tri he : List ℕ) (keeps : ℕ → Bool) (whole old new : List ℕ) (c : Cursor) (n : ℕ) : Type 0 where
