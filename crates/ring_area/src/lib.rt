@@ -1,5 +1,5 @@
 // The sums of a ring of corners: the products of its sides as long numbers, what is added and what is taken off apart.
-// The limbs may begin at any number that none of the ring's products is below.
+// The limbs may begin at any number that no product of the ring begins below.
 use digits::LEAD;
 use long_numbers::power;
 use long_numbers::put_product;
