@@ -6,7 +6,7 @@ use Rattle.laws.specs.laws.Refusals.{finds-one}
 use Rattle.mesh.specs.Accepted.{Mesh}
 use Rattle.check_mesh.specs.Answers.{workAfter}
 use Rattle.layout.specs.Regions.{joined, offsetsFrom}
-use Rattle.bulk_neighbours.specs.Lists.{allNeighbours}
+use Rattle.neighbour_lists.specs.Lists.{allNeighbours}
 use Rattle.bulk_neighbours.specs.Promise.{madeAfter, AllNeighboursAnswer}
 
 pub one-all-neighbours : (m : Mesh) (off ix : List ℕ) {w w′ w″ st st′ st″ o o′ o″ : List ℕ} {r s : ℕ} → AllNeighboursAnswer m off ix w w′ st st′ o o′ r

@@ -16,12 +16,12 @@ use Rattle.mesh.specs.Accepted.{Mesh, Accepted, tableOf, siteCount}
 use Rattle.mesh.specs.laws.Verdicts.{keep-accepted}
 use Rattle.check_mesh.specs.AtExit.{atExit}
 use Rattle.iterator.specs.Neighbours.{neighboursOf}
-use Rattle.iterator.specs.Clipped.{clippedNeighboursOf}
+use Rattle.clipped_iterator.specs.Clipped.{clippedNeighboursOf}
 use Rattle.layout.specs.Regions.{joined, offsetsFrom}
 use Rattle.admission.specs.laws.Admits.{call-answers}
-use Rattle.bulk_neighbours.specs.Lists.{nothingLent, listFrom, listOf, listsTo}
+use Rattle.neighbour_lists.specs.Lists.{nothingLent, listFrom, listOf, listsTo}
+use Rattle.neighbour_lists.specs.laws.Lists.{endOfLists, end-next, end-mono, cuts-length, cut-at, part-at}
 use Rattle.bulk_neighbours.specs.Promise.{RoomFor, CellsLent, lentRules, madeAfter, AllNeighboursAnswer}
-use Rattle.bulk_neighbours.specs.laws.Lists.{endOfLists, end-next, end-mono, cuts-length, cut-at, part-at}
 
 -- the part of the output that the starts cut out for site s
 abbrev pub partOf : List ℕ → List ℕ → ℕ → List ℕ

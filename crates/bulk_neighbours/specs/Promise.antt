@@ -15,7 +15,7 @@ use Rattle.check_mesh.specs.Answers.{workAfter}
 use Rattle.layout.specs.Regions.{joined, offsetsFrom}
 use Rattle.layout.specs.Outputs.{padded}
 use Rattle.admission.specs.Asks.{CellsOf}
-use Rattle.bulk_neighbours.specs.Lists.{nothingLent, allNeighbours}
+use Rattle.neighbour_lists.specs.Lists.{nothingLent, allNeighbours}
 
 -- rule 2, by numbers: of n sites, `entries` triangle entries and h hull sites, in slices of so many entries
 pub record ListsRoom (n entries h work starts out : ℕ) : Type 0 where

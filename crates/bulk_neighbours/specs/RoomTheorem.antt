@@ -22,11 +22,11 @@ use Rattle.mesh.specs.laws.Occurs.{occ-there}
 use Rattle.mesh.specs.laws.WalkSteps.{walk-done}
 use Rattle.shared.specs.Cells.{shareEdgeOf}
 use Rattle.iterator.specs.Neighbours.{lastEnd, startsOf}
-use Rattle.iterator.specs.Clipped.{keptOf, clippedFrom, clippedFirst, clippedOf}
 use Rattle.iterator.specs.laws.Neighbours.{sitesFrom, starts-cons}
+use Rattle.clipped_iterator.specs.Clipped.{keptOf, clippedFrom, clippedFirst, clippedOf}
 use Rattle.layout.specs.Regions.{joined}
-use Rattle.bulk_neighbours.specs.Lists.{nothingLent, listFrom, listOf, allNeighbours}
-use Rattle.bulk_neighbours.specs.laws.Lists.{end-sum}
+use Rattle.neighbour_lists.specs.Lists.{nothingLent, listFrom, listOf, allNeighbours}
+use Rattle.neighbour_lists.specs.laws.Lists.{end-sum}
 
 -- ---- clipping adds no entry
 module _ (keeps : ℕ → Bool) where

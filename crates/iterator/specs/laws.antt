@@ -6,8 +6,4 @@ pub mod Cursor
 pub mod Fills
 pub mod WalksFill
 pub mod NeighboursLoop
-pub mod ClippedCursor
-pub mod ClippedStep
-pub mod ClippedLoop
-pub mod Clippable
 pub mod Joined

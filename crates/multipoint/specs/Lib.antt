@@ -4,5 +4,4 @@ pub mod Fields
 pub mod Promise
 pub mod One
 pub mod Exactly
-pub mod RoundTrip
 pub mod laws

@@ -3,5 +3,4 @@ pub mod Answers
 pub mod Fields
 pub mod Firsts
 pub mod Points
-pub mod SameSites
 pub mod Shapes

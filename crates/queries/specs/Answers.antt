@@ -16,7 +16,7 @@ use Rattle.check_mesh.specs.Answers.{workAfter}
 use Rattle.shared.specs.Edge.{sharedEdgeOf}
 use Rattle.utils.specs.declared.Point.{Point}
 use Rattle.iterator.specs.Neighbours.{neighboursOf}
-use Rattle.iterator.specs.Clipped.{clippedNeighboursOf}
+use Rattle.clipped_iterator.specs.Clipped.{clippedNeighboursOf}
 use Rattle.paths.specs.Path.{wholePath}
 use Rattle.admission.specs.Asks.{siteRules, pathRules, cellRules}
 use Rattle.queries.specs.declared.Listed.{Listed}

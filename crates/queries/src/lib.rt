@@ -131,7 +131,15 @@ pub fn clipped_neighbours(
         return refused(numbers::REFUSED_OFFSETS);
     }
     let start = work[numbers::wide(site)];
-    given(iterator::clipped_neighbours(triangles, halfedges, offsets, indexes, site, start, out))
+    given(clipped_iterator::clipped_neighbours(
+        triangles,
+        halfedges,
+        offsets,
+        indexes,
+        site,
+        start,
+        out,
+    ))
 }
 
 // A number, and a half-edge or `EMPTY`.

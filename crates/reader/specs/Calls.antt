@@ -10,7 +10,7 @@ use Rattle.numbers.specs.Numbers.{refusedRoom}
 use Rattle.form_step.specs.Reader.{Reading, reading, broken, start, finished, takes}
 use Rattle.form_step.specs.declared.Reader.{Reader}
 use Rattle.reader_state.specs.Words.{stored}
-use Rattle.reader_state.specs.Stands.{entered}
+use Rattle.reader_state.specs.Entered.{entered}
 use Rattle.reader.specs.declared.Answer.{Answer}
 use Rattle.reader.specs.declared.Report.{Report}
 

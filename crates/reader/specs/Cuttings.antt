@@ -12,7 +12,7 @@ use Rattle.form.specs.laws.Run.{takes-append}
 use Rattle.form.specs.laws.Feed.{takes-none}
 use Rattle.form_step.specs.declared.Reader.{Reader}
 use Rattle.reader_state.specs.Words.{stored}
-use Rattle.reader_state.specs.Stands.{entered}
+use Rattle.reader_state.specs.Entered.{entered}
 use Rattle.reader_state.specs.Kept.{stored-length, stored-again, entered-stored, new-entered, new-start, new-finished}
 use Rattle.reader.specs.Calls.{FormLists, readingOf, listsOf, roomy, answerOf, reportOf, beginning, AtFeed, fed, fedBy, feedCall, AtEnd, endCall, AtRead, readCall}
 use Rattle.reader.specs.Promise.{ReaderBegins, ReaderFeeds, ReaderEnds, ReadsForm}

@@ -12,7 +12,7 @@ ghost use lib.ListN.{length, replicate};
 ghost use Rattle.form_step.specs.Reader.{start, takes};
 ghost use Rattle.form_step.specs.Holds.{ListRoom};
 ghost use Rattle.form_step.specs.Standing.{Ok};
-ghost use Rattle.reader_state.specs.Stands.{entered};
+ghost use Rattle.reader_state.specs.Entered.{entered};
 ghost use Rattle.reader.specs.Calls.{formLists, readingOf, roomy, answerOf, reportOf, fed, fedBy, feedCall, ended, endedBy, endCall, readForm, readBy, readCall, noRoom, noReport};
 ghost use Rattle.reader.specs.Promise.{answer, report, ReaderBegins, ReaderFeeds, ReaderEnds, ReadsForm};
 

@@ -15,9 +15,10 @@ use Rattle.form_step.specs.Standing.{bodyOf, Ok}
 use Rattle.form_step.specs.laws.Standing.{clip-small, sizes}
 use Rattle.form.specs.laws.Cut.{steps-append}
 use Rattle.form_step.specs.declared.Reader.{Reader}
+use Rattle.reader_standing.specs.Stands.{both, stands}
+use Rattle.reader_standing.specs.laws.Stands.{both-right, stands-ok}
 use Rattle.reader_state.specs.Words.{readerOf}
-use Rattle.reader_state.specs.Stands.{both, stands, blank}
-use Rattle.reader_state.specs.laws.Stands.{both-right, stands-ok}
+use Rattle.reader_state.specs.Entered.{blank}
 use Rattle.reader_reached.specs.laws.Earlier.{body-of-kind, earlier, at-first, ok-earlier, earlier-step}
 use Rattle.reader_reached.specs.laws.Before.{beforeKind, any-before}
 use Rattle.reader_reached.specs.laws.Led.{small-more, one-step, nothing-came, opened-so, unrefused, ok-unrefused, refused-is, refuses, refuses-six, ends-so}

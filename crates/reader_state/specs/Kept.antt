@@ -14,9 +14,10 @@ use Rattle.form_step.specs.Reader.{start, refused, steps, finished}
 use Rattle.form_step.specs.Standing.{Ok}
 use Rattle.form_step.specs.laws.Standing.{ok-start, ok-refused, ok-steps, ok-finished, old-steps, old-finished}
 use Rattle.form_step.specs.declared.Reader.{Reader}
+use Rattle.reader_standing.specs.Stands.{both, stands}
+use Rattle.reader_standing.specs.laws.Stands.{stands-ok, ok-stands, both-true}
 use Rattle.reader_state.specs.Words.{wordsOf, readerOf, stored}
-use Rattle.reader_state.specs.Stands.{both, stands, blank, entered}
-use Rattle.reader_state.specs.laws.Stands.{stands-ok, ok-stands, both-true}
+use Rattle.reader_state.specs.Entered.{blank, entered}
 
 pub stored-is : (ws : List ℕ) (r : Reader) → 16 ≤ length ws → stored ws r ≡ wordsOf r ++ drop 16 ws
 unfolding stored

@@ -1,5 +1,5 @@
 -- The root of the crate's definitions.
 pub mod Words
-pub mod Stands
+pub mod Entered
 pub mod Kept
 pub mod laws

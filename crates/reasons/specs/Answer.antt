@@ -10,7 +10,7 @@ use Rattle.mesh.specs.Mesh.{leftmostOf, wholeOf}
 use Rattle.mesh.specs.Accepted.{Topology}
 use Rattle.shared.specs.Cells.{Cells, holdsOf, sharedOf}
 use Rattle.iterator.specs.Neighbours.{neighboursOf}
-use Rattle.iterator.specs.Clipped.{clippedOf}
+use Rattle.clipped_iterator.specs.Clipped.{clippedOf}
 use Rattle.reasons.specs.declared.Question.{Question}
 use Rattle.reasons.specs.declared.Question.the-variants.{Nothing, About, Between}
 use Rattle.reasons.specs.declared.Reason.{Reason}

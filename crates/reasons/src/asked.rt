@@ -1,9 +1,9 @@
 // What was asked of a mesh that builds, answered over its leftmost table and its cells: why a cell is empty, why a neighbour is gone.
 use crate::Question;
 use crate::Reason;
+use clipped_iterator::clipped_step;
 use iterator::Cursor;
 use iterator::Stepped;
-use iterator::clipped_step;
 use iterator::step;
 use numbers::EMPTY;
 use numbers::wide;
@@ -16,8 +16,8 @@ ghost use Rattle.numbers.specs.Numbers.{EMPTY};
 ghost use Rattle.mesh.specs.Mesh.{wholeOf, Paired};
 ghost use Rattle.shared.specs.Cells.{Cells, cellOf, holdsOf, sharedOf, shareEdgeOf};
 ghost use Rattle.iterator.specs.Neighbours.{startsOf};
-ghost use Rattle.iterator.specs.Clipped.{clippedOf};
-ghost use Rattle.iterator.specs.Clippable.{Clippable};
+ghost use Rattle.clipped_iterator.specs.Clipped.{clippedOf};
+ghost use Rattle.clipped_iterator.specs.Clippable.{Clippable};
 ghost use Rattle.reasons.specs.Answer.{emptyAnswer, answerTo, Askable, SitesBelow};
 ghost use Rattle.reasons.specs.declared.Question.the-variants.{Between};
 

@@ -1,4 +1,4 @@
--- What the steps to an area owe each other. Definitions only.
+-- What the steps to the sums of a ring owe each other. Definitions only.
 use mathlib.Core.Path.{_≡_}
 use mathlib.Core.List.{List, [], _∷_, map}
 use Prim.Native.Nat.{ℕ, _+_, _-_, _*_, _/_, _%_, _^_, _≤_, _<_}

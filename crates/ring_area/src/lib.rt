@@ -1,41 +1,33 @@
-// The area of a ring of corners: the products of its sides as long numbers, what is added and what is taken off apart; their difference, rounded once.
-// Only the limbs that the ring's products and their carries can reach are cleared and settled: they follow from the exponents of its coordinates.
+// The sums of a ring of corners: the products of its sides as long numbers, what is added and what is taken off apart.
+// The limbs may begin at any number that no product of the ring begins below.
 use digits::LEAD;
-use long_numbers::carry;
-use long_numbers::difference;
 use long_numbers::power;
 use long_numbers::put_product;
-use long_round::rounded;
 use root::SIGN;
 use utils::Point;
 ghost use mathlib.Core.Path.{_≡_};
-ghost use Prim.Native.Nat.{ℕ, _+_, _*_, _≤_, _<_};
+ghost use Prim.Native.Nat.{_+_, _*_, _<_};
 ghost use lib.Ieee.{binary64, ofBits, toBits};
 ghost use lib.ListN.{length};
-ghost use Rattle.long_numbers.specs.Amount.{amount, lifted, WholeLimbs};
+ghost use Rattle.long_numbers.specs.Amount.{lifted};
 ghost use Rattle.long_numbers.specs.Steps.{PutRoom, PutIn};
 ghost use Rattle.root.specs.Bounded.{Bounded};
 ghost use Rattle.root.specs.Root.{units};
-ghost use Rattle.utils.specs.Finite.{BoundedPoint};
 ghost use Rattle.utils.specs.Flat.{pointAt};
-ghost use Rattle.ring_area.specs.Area.{roundedHalf, ringArea};
 ghost use Rattle.ring_area.specs.Steps.{LowPattern, SplitOf, Open, ProductIn, SideIn, Corners, RingIn};
-ghost use Rattle.ring_area.specs.Span.{PatternIn, CornerIn, RingPlaced, BothOpen, SumHeld, AllZero, PatternReached, ReachedPoint, Widened, RingReached};
+ghost use Rattle.ring_area.specs.Span.{PatternIn, CornerIn, RingPlaced, BothOpen};
 
 // The limbs of a long number: from 2^-2148, the unit of a product, up to 2^860.
 pub const LIMBS: usize = 94;
 
-// The limbs that are enough where the exponents of a ring's coordinates are within 160 of each other.
-const SHORT: usize = 16;
-
 // m * 2^p units of 2^-1074
-struct Significand {
-    m: u64,
-    p: usize,
+pub struct Significand {
+    pub m: u64,
+    pub p: usize,
 }
 
 // The significand and the exponent of a pattern.
-fn split(b: u64) -> Significand
+pub fn split(b: u64) -> Significand
     requires { ⌜ LowPattern b ⌝ }
     ensures { λ r. ⌜ SplitOf b (r .m) (r .p) ⌝ }
 {
@@ -91,7 +83,7 @@ fn side(plus: &mut [u64], minus: &mut [u64], from: usize, p: Point, q: Point)
     add_product(minus, plus, from, p.x, q.y);
 }
 
-fn corner(vertices: &[f64], entry: u32) -> Point
+pub fn corner(vertices: &[f64], entry: u32) -> Point
     requires { ⌜ 2 * entry + 1 < length (now vertices) ⌝ }
     ensures { λ r. ⌜ r ≡ pointAt (now (vertices .entry)) entry ⌝ }
 {
@@ -99,7 +91,13 @@ fn corner(vertices: &[f64], entry: u32) -> Point
 }
 
 // All sides of the ring, that back to its first corner included.
-fn sides_from(plus: &mut [u64], minus: &mut [u64], from: usize, vertices: &[f64], entries: &[u32])
+pub fn sides_from(
+    plus: &mut [u64],
+    minus: &mut [u64],
+    from: usize,
+    vertices: &[f64],
+    entries: &[u32],
+)
     requires { ⌜ Corners (now vertices) (now entries) × RingPlaced from (length (now plus)) (now vertices) (now entries) × (0 < length (now entries))
         × BothOpen from (now plus) (now minus) (16 * length (now entries)) ⌝ }
     ensures { λ _. ⌜ RingIn (now (vertices .entry)) (now (entries .entry))
@@ -123,167 +121,4 @@ pub fn sides(plus: &mut [u64], minus: &mut [u64], vertices: &[f64], entries: &[u
     ensures { λ _. ⌜ RingIn (now (vertices .entry)) (now (entries .entry)) (now (plus .entry)) (now (plus .exit)) (now (minus .entry)) (now (minus .exit)) ⌝ }
 {
     sides_from(plus, minus, 0, vertices, entries);
-}
-
-// What is added less what is taken off, or the other way round where that is more; over 2^2149, rounded once.
-fn rounded_from(out: &mut [u64], plus: &[u64], minus: &[u64], from: usize) -> f64
-    requires { ⌜ (length (now plus) ≡ length (now out)) × (length (now minus) ≡ length (now out)) × WholeLimbs (now plus) × WholeLimbs (now minus) × (from + length (now out) ≤ 94) ⌝ }
-    ensures { λ r. ⌜ r ≡ roundedHalf (amount (lifted from (now (plus .entry)))) (amount (lifted from (now (minus .entry)))) ⌝ }
-{
-    if difference(out, plus, minus) == 0 {
-        return rounded(out, from, false);
-    }
-    difference(out, minus, plus);
-    rounded(out, from, true)
-}
-
-// The same of whole long numbers.
-pub fn rounded_difference(plus: &[u64], minus: &[u64]) -> f64
-    requires { ⌜ (length (now plus) ≡ 94) × (length (now minus) ≡ 94) × WholeLimbs (now plus) × WholeLimbs (now minus) ⌝ }
-    ensures { λ r. ⌜ r ≡ roundedHalf (amount (now (plus .entry))) (amount (now (minus .entry))) ⌝ }
-{
-    let mut out = [0u64; LIMBS];
-    rounded_from(&mut out, plus, minus, 0)
-}
-
-// The same of sums whose carries are not settled.
-fn settle(out: &mut [u64], plus: &mut [u64], minus: &mut [u64], from: usize) -> f64
-    requires { ⌜ (length (now plus) ≡ length (now out)) × (length (now minus) ≡ length (now out)) × SumHeld (now plus) × SumHeld (now minus) × (from + length (now out) ≤ 94) ⌝ }
-    ensures { λ r. ⌜ r ≡ roundedHalf (amount (lifted from (now (plus .entry)))) (amount (lifted from (now (minus .entry)))) ⌝ }
-{
-    carry(plus);
-    carry(minus);
-    rounded_from(out, plus, minus, from)
-}
-
-// The area of the ring in limbs that are all 0 and hold its products.
-fn area_in(
-    out: &mut [u64],
-    plus: &mut [u64],
-    minus: &mut [u64],
-    from: usize,
-    vertices: &[f64],
-    entries: &[u32],
-) -> f64
-    requires { ⌜ Corners (now vertices) (now entries) × RingPlaced from (length (now out)) (now vertices) (now entries) × (0 < length (now entries))
-        × AllZero (now plus) (length (now out)) × AllZero (now minus) (length (now out)) × (from + length (now out) ≤ 94) ⌝ }
-    ensures { λ r. ⌜ r ≡ ringArea (now (vertices .entry)) (now (entries .entry)) ⌝ }
-{
-    sides_from(plus, minus, from, vertices, entries);
-    settle(out, plus, minus, from)
-}
-
-// In `count` limbs from number `from` on.
-fn short_area(from: usize, count: usize, vertices: &[f64], entries: &[u32]) -> f64
-    requires { ⌜ Corners (now vertices) (now entries) × RingPlaced from count (now vertices) (now entries) × (0 < length (now entries)) × (count ≤ 16) × (from + count ≤ 94) ⌝ }
-    ensures { λ r. ⌜ r ≡ ringArea (now (vertices .entry)) (now (entries .entry)) ⌝ }
-{
-    let mut out = [0u64; SHORT];
-    let mut plus = [0u64; SHORT];
-    let mut minus = [0u64; SHORT];
-    area_in(
-        &mut out[..count],
-        &mut plus[..count],
-        &mut minus[..count],
-        from,
-        vertices,
-        entries,
-    )
-}
-
-fn long_area(from: usize, count: usize, vertices: &[f64], entries: &[u32]) -> f64
-    requires { ⌜ Corners (now vertices) (now entries) × RingPlaced from count (now vertices) (now entries) × (0 < length (now entries)) × (from + count ≤ 94) ⌝ }
-    ensures { λ r. ⌜ r ≡ ringArea (now (vertices .entry)) (now (entries .entry)) ⌝ }
-{
-    let mut out = [0u64; LIMBS];
-    let mut plus = [0u64; LIMBS];
-    let mut minus = [0u64; LIMBS];
-    area_in(
-        &mut out[..count],
-        &mut plus[..count],
-        &mut minus[..count],
-        from,
-        vertices,
-        entries,
-    )
-}
-
-fn lower(a: usize, b: usize) -> usize
-    ensures { λ r. ⌜ (r ≤ a) × (r ≤ b) ⌝ }
-{
-    if a < b {
-        return a;
-    }
-    b
-}
-
-fn higher(a: usize, b: usize) -> usize
-    ensures { λ r. ⌜ (a ≤ r) × (b ≤ r) × ((n : ℕ) → a ≤ n → b ≤ n → r ≤ n) ⌝ }
-{
-    if a < b {
-        return b;
-    }
-    a
-}
-
-// The least and the greatest exponent of coordinates that are not 0.
-struct Exponents {
-    least: usize,
-    most: usize,
-}
-
-// With one coordinate more.
-fn widen(r: Exponents, x: f64) -> Exponents
-    requires { ⌜ Bounded 400 x ⌝ }
-    ensures { λ t. ⌜ Widened (r .least) (r .most) (t .least) (t .most) × PatternReached (t .least) (t .most) (toBits binary64 x) ⌝ }
-{
-    let s = split(f64::to_bits(x));
-    if s.m == 0 {
-        return r;
-    }
-    Exponents {
-        least: lower(r.least, s.p),
-        most: higher(r.most, s.p),
-    }
-}
-
-fn widen_corner(r: Exponents, p: Point) -> Exponents
-    requires { ⌜ BoundedPoint 400 p ⌝ }
-    ensures { λ t. ⌜ Widened (r .least) (r .most) (t .least) (t .most) × ReachedPoint (t .least) (t .most) p ⌝ }
-{
-    widen(widen(r, p.x), p.y)
-}
-
-// Of all corners of the ring.
-fn reach(vertices: &[f64], entries: &[u32]) -> Exponents
-    requires { ⌜ Corners (now vertices) (now entries) ⌝ }
-    ensures { λ r. ⌜ RingReached (now (vertices .entry)) (now (entries .entry)) (r .least) (r .most) ⌝ }
-{
-    let mut r = Exponents {
-        least: 1422,
-        most: 0,
-    };
-    let mut i = 0;
-    while i < entries.len() {
-        r = widen_corner(r, corner(vertices, entries[i]));
-        i += 1;
-    }
-    r
-}
-
-// The area of the ring that the entries name. A product of exponents p and q begins at limb (p + q) / 32 and has five, and one more is for the carries.
-pub fn ring_area(vertices: &[f64], entries: &[u32]) -> f64
-    requires { ⌜ Corners (now vertices) (now entries) ⌝ }
-    ensures { λ r. ⌜ r ≡ ringArea (now (vertices .entry)) (now (entries .entry)) ⌝ }
-{
-    if entries.len() == 0 {
-        return 0.0;
-    }
-    let r = reach(vertices, entries);
-    let from = lower(r.least, r.most) / 16;
-    let count = r.most / 16 + 6 - from;
-    if count <= SHORT {
-        return short_area(from, count, vertices, entries);
-    }
-    long_area(from, count, vertices, entries)
 }

@@ -1,5 +1,5 @@
 // The triangles of a mesh that turn the wrong way, or are flat: how many there are, and the lowest.
-use ring_area::ring_area;
+use ring_rounding::ring_area;
 ghost use mathlib.Core.Path.{_≡_};
 ghost use Prim.Native.Nat.{_/_, _<_};
 ghost use lib.ListN.{length};

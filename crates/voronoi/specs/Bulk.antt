@@ -1,5 +1,5 @@
--- The promises of the calls for all gauges at once: the number, and each lent slice at exit. What each list and each end is: Lists of crate bulk_neighbours, EndsOfPaths of crate
--- bulk_ends; the rules: Promise of both; what they are beside the single calls: Singles.
+-- The promises of the calls for all gauges at once: the number, and each lent slice at exit. What each list and each end is: Lists of crate neighbour_lists, EndsOfPaths of crate
+-- bulk_ends; the rules: Promise of crates bulk_neighbours and bulk_ends; what they are beside the single calls: Singles.
 use mathlib.Core.List.{List}
 use Prim.Native.Nat.{ℕ}
 use lib.Ieee.{Float}

@@ -24,7 +24,7 @@ use Rattle.crossings.specs.Ray.{rayOf}
 use Rattle.plane_calls.specs.Plane.{bit}
 use Rattle.mesh.specs.Mesh.{wholeOf, Used}
 use Rattle.mesh.specs.Accepted.{Mesh, tableOf, siteCount}
-use Rattle.iterator.specs.Clipped.{clippedNeighboursOf}
+use Rattle.clipped_iterator.specs.Clipped.{clippedNeighboursOf}
 use Rattle.paths.specs.Path.{distOf}
 use Rattle.paths.specs.PathRule.{usedOf}
 use Rattle.paths.specs.Path.{wholePath}

@@ -36,7 +36,8 @@ use Rattle.reasons.specs.declared.ReasonNumbers.{ReasonNumbers}
 use Rattle.reason_call.specs.One.{one-why-call}
 use Rattle.voronoi.specs.Maps.{CellWkbBits, CellWkb}
 use Rattle.voronoi.specs.Explanations.{Why}
-use Rattle.multipoint.specs.One.{one-read, one-write}
+use Rattle.multipoint.specs.One.{one-read}
+use Rattle.multipoint_writer.specs.One.{one-write}
 use Rattle.voronoi.specs.Gauges.{ReadMultipoint, WriteMultipoint}
 use Rattle.mend_slices.specs.Lent.{Lent}
 use Rattle.mending.specs.One.{mends-one}

@@ -12,7 +12,7 @@ use Rattle.utils.specs.Flat.{pointAt}
 use Rattle.mesh.specs.Accepted.{Mesh, tableOf, siteCount}
 use Rattle.paths.specs.Path.{wholePath}
 use Rattle.layout.specs.Regions.{joined}
-use Rattle.bulk_neighbours.specs.Lists.{nothingLent, allNeighbours}
+use Rattle.neighbour_lists.specs.Lists.{nothingLent, allNeighbours}
 use Rattle.bulk_neighbours.specs.PartsTheorem.{partOf, plain-is, clipped-is, all-given, part-is}
 use Rattle.bulk_neighbours.specs.RoomTheorem.{room-suffices}
 use Rattle.bulk_ends.specs.EndsTheorem.{beginOf, path-some, path-few, ends-mesh, ends-kept, begin-below, end-is}

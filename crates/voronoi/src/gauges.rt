@@ -18,5 +18,5 @@ pub extern "C" fn voronoi_write_multipoint(
 ) -> u32
     ensures { λ r. ⌜ WriteMultipoint (now (sites .entry)) (now (out .entry)) (now (out .exit)) (now (written .exit)) r ⌝ }
 {
-    multipoint::write(sites, out, written)
+    multipoint_writer::write(sites, out, written)
 }

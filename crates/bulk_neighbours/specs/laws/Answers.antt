@@ -5,9 +5,9 @@ use mathlib.Core.List.{List, [], _++_}
 use mathlib.Core.Logic.{_≢_}
 use Prim.Native.Nat.{ℕ, _-_, _≤_, _<_}
 use native.Mathlib.Omega.{arith}
-use lib.Dec.{eqb, leb}
+use lib.Dec.{leb}
 use lib.ListN.{length, take, replicate}
-use borrow.Author.Tests.{eq-eqb, ne-eqb, lt-ltb, le-ltb, leb-true, leb-false}
+use borrow.Author.Tests.{ne-eqb, lt-ltb, le-ltb, leb-true, leb-false}
 use Rattle.laws.specs.Decide.{Says}
 use Rattle.laws.specs.Refusals.{Finds}
 use Rattle.laws.specs.laws.Refusals.{nothing, breaks, keeps, finds-first, finds-after, finds-keep}
@@ -19,14 +19,15 @@ use Rattle.mesh.specs.laws.Facts.{topology, paired, tab-length}
 use Rattle.check_mesh.specs.AtExit.{atExit}
 use Rattle.check_mesh.specs.Answers.{workAfter}
 use Rattle.check_mesh.specs.laws.AtExit.{exit-made, exit-blank}
-use Rattle.iterator.specs.laws.Clippable.{clippable}
+use Rattle.clipped_iterator.specs.laws.Clippable.{clippable}
 use Rattle.admission.specs.Asks.{CellsOf}
 use Rattle.admission.specs.Admission.{Admission}
 use Rattle.admission.specs.laws.Admits.{asked-answers, call-answers, admitted, admits-few, admits-rules}
 use Rattle.admission.specs.laws.LeftmostTable.{table-long, table-part}
-use Rattle.bulk_neighbours.specs.Lists.{nothingLent, listOf, listsTo}
+use Rattle.neighbour_lists.specs.Lists.{nothingLent, listOf, listsTo}
+use Rattle.neighbour_lists.specs.Steps.{ListsFit, MadeLists}
 use Rattle.bulk_neighbours.specs.Promise.{ListsRoom, RoomFor, CellsLent, lentRules, madeAfter, AllNeighboursAnswer}
-use Rattle.bulk_neighbours.specs.Steps.{ListsFit, MadeLists, ListsAdmission}
+use Rattle.bulk_neighbours.specs.Steps.{ListsAdmission}
 use Rattle.bulk_neighbours.specs.RoomTheorem.{room-suffices}
 
 -- ---- rule 2 by its test
@@ -77,13 +78,6 @@ module _ {m : Mesh} {w w′ : List ℕ} {r : ℕ} (st o : List ℕ) (b : Bool) (
         starts = rw (le-ltb r refusedTriangle l) p;
         out = rw (le-ltb r refusedTriangle l) q;
       }
-
--- ---- whether cells are lent, by the tests
-pub some-offsets : (a b : ℕ) → a ≢ 0 → false ≡ nothingLent a b
-some-offsets a b n = rw (ne-eqb a 0 n)
-
-pub no-offsets : (a b : ℕ) → a ≡ 0 → eqb b 0 ≡ nothingLent a b
-no-offsets a b q = rw (eq-eqb a 0 q)
 
 -- ---- rule 16
 pub none-lent : (off ix : List ℕ) (n : ℕ) → nothingLent (length off) (length ix) ≡ true → CellsLent off ix n

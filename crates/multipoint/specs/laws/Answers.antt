@@ -1,23 +1,19 @@
--- The answers of the calls, from the tests that the code makes.
+-- The answers of reading, from the tests that the code makes.
 use mathlib.Core.Path.{_≡_, refl, sym, ap, _∙_}
 use mathlib.Core.Bool.{Bool, true, not, false, false≢true}
 use mathlib.Core.List.{List}
 use mathlib.Core.Logic.{_≢_}
-use Prim.Native.Nat.{ℕ, _+_, _*_, _/_, _%_, _≤_, _<_}
+use Prim.Native.Nat.{ℕ, _*_, _≤_, _<_}
 use native.Mathlib.Omega.{arith}
 use lib.ListN.{length, drop}
 use lib.Ieee.{Float}
 use borrow.Author.Tests.{not-true, not-false}
-use Rattle.laws.specs.Decide.{Says, First}
-use Rattle.laws.specs.laws.Decide.{first-all, first-not}
+use Rattle.laws.specs.Decide.{Says}
 use Rattle.laws.specs.laws.Refusals.{breaks, keeps, nothing}
 use Rattle.numbers.specs.Numbers.{refusedCount, refusedRoom, refusedCoordinate, refusedPoints}
 use Rattle.utils.specs.Rules.{okCoord}
-use Rattle.utils.specs.Sites.{KeptAt}
-use Rattle.octets.specs.Wrote.{Wrote}
-use Rattle.octets.specs.laws.Wrote.{wrote-none}
 use Rattle.multipoint.specs.Fields.{StartsAs, pointCount, pointPlace, Shape}
-use Rattle.multipoint.specs.Promise.{SiteLimits, firsts, SoundPoints, entryOf, fileOf, ReadAnswer, SoundAnswer, WriteAnswer}
+use Rattle.multipoint.specs.Promise.{SiteLimits, firsts, SoundPoints, entryOf, ReadAnswer, SoundAnswer}
 
 -- what a test of a coordinate tells
 module _ {x y : Float} {b : Bool} (e : x ≡ y) (t : b ≡ okCoord x) where
@@ -30,7 +26,7 @@ module _ {x y : Float} {b : Bool} (e : x ≡ y) (t : b ≡ okCoord x) where
   pub coordinate-broken : not b ≡ true → okCoord y ≡ true → ⊥
   coordinate-broken h k = false≢true (sym (told ∙ not-true b h) ∙ k)
 
--- ---- reading
+-- a file and the output before
 module _ (s : List ℕ) (old : List Float) where
   pub no-shape : (Shape s → ⊥) → ReadAnswer s old old 0 refusedPoints
   no-shape q = record { number = breaks q; sites = refl; counted = refl }
@@ -68,23 +64,3 @@ module _ (s : List ℕ) where
     pub points-say : (b : Bool) → length s ≡ pointPlace n → Says b ((i : ℕ) → i < n → StartsAs (drop (pointPlace i) s) 1) → Says b (Shape s)
     points-say true h p = record { long = long; starts = starts; whole = h ∙ ap pointPlace e; points = λ i l. p i (omega arith) }
     points-say false h p = λ q. p (λ i l. q .points i (omega arith))
-
--- ---- writing
-module _ (sites : List Float) (old : List ℕ) where
-  pub odd-sites : length sites % 2 ≢ 0 → WriteAnswer sites old old 0 refusedCount
-  odd-sites q = record { number = breaks q; output = wrote-none old 0 }
-
-  module _ (even : length sites % 2 ≡ 0) where
-    pub not-so-many : (SiteLimits (length sites / 2) → ⊥) → WriteAnswer sites old old 0 refusedCount
-    not-so-many q = record { number = keeps even (breaks q); output = wrote-none old 0 }
-
-    module _ (limits : SiteLimits (length sites / 2)) where
-      pub too-short : length old < 9 + 21 * (length sites / 2) → WriteAnswer sites old old 0 refusedRoom
-      too-short h = record { number = keeps even (keeps limits (breaks (λ l. omega arith))); output = wrote-none old 0 }
-
-      module _ (room : 9 + 21 * (length sites / 2) ≤ length old) {bad : ℕ} (first : First (KeptAt sites) (length sites / 2) bad) where
-        pub bad-site : bad < length sites / 2 → WriteAnswer sites old old 0 refusedCoordinate
-        bad-site h = record { number = keeps even (keeps limits (keeps room (breaks (first-not first h)))); output = wrote-none old 0 }
-
-        pub was-written : {new : List ℕ} {w : ℕ} → length sites / 2 ≤ bad → Wrote old new 0 w (fileOf sites) → WriteAnswer sites old new w 0
-        was-written h p = record { number = keeps even (keeps limits (keeps room (keeps (first-all first h) nothing))); output = p }

@@ -19,7 +19,7 @@ use Rattle.iterator.specs.laws.Neighbours.{sitesFrom, starts-cons}
 use Rattle.paths.specs.Path.{hopOf, pathOf}
 use Rattle.paths.specs.laws.WholePath.{path-stop, path-go}
 use Rattle.iterator.specs.Fills.{Fills}
-use Rattle.iterator.specs.Clipped.{keptOf, clippedFrom, clippedFirst, clippedOf}
+use Rattle.clipped_iterator.specs.Clipped.{keptOf, clippedFrom, clippedFirst, clippedOf}
 
 pub walk-length : (he : List ℕ) (s k e : ℕ) → length (walkOf he s k e) ≤ k
 unfolding walkOf

@@ -26,11 +26,11 @@ use Rattle.iterator.specs.Neighbours.{startsOf, neighboursOf}
 use Rattle.paths.specs.Path.{wholePath}
 use Rattle.iterator.specs.Fills.{Fills}
 use Rattle.iterator.specs.laws.WalksFill.{walks-fill}
-use Rattle.iterator.specs.Clipped.{clippedOf, clippedNeighboursOf}
+use Rattle.clipped_iterator.specs.Clipped.{clippedOf, clippedNeighboursOf}
 use Rattle.paths.specs.PathNeeds.{Walkable, Towards}
-use Rattle.iterator.specs.Clippable.{Clippable}
+use Rattle.clipped_iterator.specs.Clippable.{Clippable}
 use Rattle.paths.specs.laws.PathNeeds.{ready, towards}
-use Rattle.iterator.specs.laws.Clippable.{clippable}
+use Rattle.clipped_iterator.specs.laws.Clippable.{clippable}
 use Rattle.admission.specs.Asks.{siteRules, pathRules, Asked, CellsOf, cellRules}
 use Rattle.admission.specs.Admission.{ListAdmission}
 use Rattle.admission.specs.laws.Admits.{asked-answers, admitted, admits-few, admits-rules}

@@ -11,7 +11,7 @@ use Rattle.form_step.specs.laws.Standing.{ok-steps}
 use Rattle.form.specs.laws.Run.{takes-reader}
 use Rattle.form.specs.laws.Fill.{take-broken}
 use Rattle.form_step.specs.declared.Reader.{Reader}
-use Rattle.reader_state.specs.Stands.{entered}
+use Rattle.reader_state.specs.Entered.{entered}
 use Rattle.reader_state.specs.Kept.{New, new-steps}
 use Rattle.reader.specs.Calls.{FormLists, readingOf, roomy, noRefusal, refusedAt, answerOf, soundReport, refusedReport, reportOf, noRoom, noReport}
 use Rattle.reader.specs.Calls.{fed, fedBy, feedCall, endedBy, endCall, readForm, readBy, readCall}

@@ -13,7 +13,7 @@ use Rattle.form_step.specs.Reader.{within, putFloat, putLink, boundsBy, sitesBy
 use Rattle.form_step.specs.Holds.{ListRoom}
 use Rattle.form_step.specs.declared.Reader.{Reader}
 use Rattle.form.specs.laws.Feed.{SameLists, same-same}
-use Rattle.reader_state.specs.laws.Stands.{past}
+use Rattle.reader_standing.specs.laws.Stands.{past}
 use Rattle.reader.specs.Calls.{FormLists, listsOf, roomy}
 
 -- by a test, a list or one as long

@@ -8,7 +8,8 @@ use Rattle.numbers.specs.Numbers.{refusedForm}
 use Rattle.form_step.specs.Standing.{Ok}
 use Rattle.form_step.specs.declared.Reader.{Reader}
 use Rattle.reader_state.specs.Words.{readerOf}
-use Rattle.reader_state.specs.Stands.{both, stands, blank}
+use Rattle.reader_standing.specs.Stands.{both, stands}
+use Rattle.reader_state.specs.Entered.{blank}
 use Rattle.reader_state.specs.Kept.{entered-right, entered-wrong, ok-entered}
 use borrow.Author.Needs.{needs}
 use Rattle.reader_state.proofs.load.Statement.{statement}

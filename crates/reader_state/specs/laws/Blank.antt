@@ -8,7 +8,7 @@ use native.Mathlib.Numerals.{add-one}
 use lib.ListN.{length, getD, drop}
 use lib.Seq.{drop-cons, drop-length}
 use borrow.Author.Tests.{ne-eqb, eq-eqb}
-use Rattle.reader_state.specs.Stands.{blank}
+use Rattle.reader_state.specs.Entered.{blank}
 
 pub record Blanking (ws : List ℕ) (i : ℕ) : Type 0 where
   pub within : i ≤ length ws

@@ -19,10 +19,10 @@ use Rattle.mesh.specs.laws.Facts.{tab-used, tab-unused, tab-length}
 use Rattle.mesh.specs.laws.Occurs.{occ-there}
 use Rattle.shared.specs.Cells.{Cells, cellOf, holdsOf, sharedOf, shareEdgeOf}
 use Rattle.iterator.specs.Neighbours.{lastEnd, startsOf, neighboursOf}
-use Rattle.iterator.specs.Clipped.{keptOf, clippedFrom, clippedFirst, clippedOf}
-use Rattle.iterator.specs.Clippable.{Clippable}
 use Rattle.iterator.specs.laws.Neighbours.{sitesFrom, starts-cons}
-use Rattle.iterator.specs.laws.Clippable.{clippable}
+use Rattle.clipped_iterator.specs.Clipped.{keptOf, clippedFrom, clippedFirst, clippedOf}
+use Rattle.clipped_iterator.specs.Clippable.{Clippable}
+use Rattle.clipped_iterator.specs.laws.Clippable.{clippable}
 use Rattle.reasons.specs.declared.Question.the-variants.{About, Between}
 use Rattle.reasons.specs.declared.Reason.{Reason}
 use Rattle.reasons.specs.declared.Reason.the-variants.{NoFault, Dropped}

@@ -17,11 +17,11 @@ use Rattle.iterator.specs.declared.Cursor.{Cursor}
 use Rattle.iterator.specs.declared.Stepped.{Stepped}
 use Rattle.iterator.specs.declared.Stepped.the-variants.{Site, End}
 use Rattle.iterator.specs.Neighbours.{startsOf}
-use Rattle.iterator.specs.Clipped.{clippedOf}
 use Rattle.iterator.specs.Cursor.{Settled, cursorFrom, stepOf, CursorSettled}
-use Rattle.iterator.specs.ClippedCursor.{clippedLeft, ClippedTakes}
 use Rattle.iterator.specs.laws.Cursor.{neighboursLeft, StepTakes, came-took, left-fresh}
-use Rattle.iterator.specs.laws.ClippedCursor.{clipped-fresh}
+use Rattle.clipped_iterator.specs.Clipped.{clippedOf}
+use Rattle.clipped_iterator.specs.ClippedCursor.{clippedLeft, ClippedTakes}
+use Rattle.clipped_iterator.specs.laws.ClippedCursor.{clipped-fresh}
 
 -- ---- in a list with a head
 

@@ -1,5 +1,5 @@
 -- The walk round a ring: after the corners up to i, what is left is the ring from there back to its first corner.
-use mathlib.Core.Path.{_≡_, refl, sym, ap, _∙_, subst}
+use mathlib.Core.Path.{_≡_, sym, ap, _∙_, subst}
 use mathlib.Core.List.{List, [], _∷_, map}
 use Prim.Native.Nat.{ℕ, _+_, _-_, _*_, _≤_, _<_}
 use native.Mathlib.Nat.{add-assoc}
@@ -8,14 +8,13 @@ use native.Mathlib.Numerals.{add-one}
 use lib.Ieee.{Float}
 use lib.ListN.{length, getD, drop, drop-of-length-le}
 use lib.Seq.{drop-cons}
-use Rattle.laws.specs.Binary64.{zero}
 use Rattle.long_numbers.specs.Amount.{lifted}
 use Rattle.long_numbers.specs.Steps.{PutIn}
 use Rattle.long_numbers.specs.laws.Puts.{added-then}
 use Rattle.long_numbers.specs.laws.Lifted.{lifted-same}
 use Rattle.utils.specs.Flat.{pointAt}
 use Rattle.utils.specs.declared.Point.{Point}
-use Rattle.ring_area.specs.Area.{gain, loss, gains, losses, roundedHalf, area, ringArea}
+use Rattle.ring_area.specs.Area.{gain, loss, gains, losses}
 use Rattle.ring_area.specs.Steps.{SideIn, gainsOf, lossesOf, RingIn}
 use Rattle.ring_area.specs.Span.{CornerIn, RingPlaced, BothOpen}
 use Rattle.ring_area.specs.laws.Products.{added-none}
@@ -110,13 +109,3 @@ module _ {from n : ℕ} {v : List Float} {cell p p₁ m m₁ : List ℕ} {a q : 
 pub ring-whole : {v : List Float} {cell p p₁ m m₁ : List ℕ} → RingIn v cell (lifted 0 p) (lifted 0 p₁) (lifted 0 m) (lifted 0 m₁) → RingIn v cell p p₁ m m₁
 unfolding lifted
 ring-whole r = r
-
-pub no-corners : (v : List Float) (cell : List ℕ) → length cell ≡ 0 → zero ≡ ringArea v cell
-unfolding area
-no-corners v [] h = refl
-no-corners v (x ∷ r) h = absurd (omega arith)
-
-pub ring-is : (v : List Float) (cell : List ℕ) → (length cell ≡ 0 → ⊥) → roundedHalf (gainsOf (map (pointAt v) cell)) (lossesOf (map (pointAt v) cell)) ≡ ringArea v cell
-unfolding area
-ring-is v [] h = absurd (h refl)
-ring-is v (x ∷ r) h = refl

@@ -1,0 +1,5 @@
+-- Laws that only proofs use.
+pub mod ClippedCursor
+pub mod ClippedStep
+pub mod ClippedLoop
+pub mod Clippable

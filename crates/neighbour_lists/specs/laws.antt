@@ -1,0 +1,4 @@
+-- Laws that only proofs use.
+pub mod Lists
+pub mod Lent
+pub mod Writes
