@@ -9,7 +9,7 @@ use cell_finish::settle;
 use cell_tries::loops::clip_cells;
 use definition::Fault;
 use layout::outputs::lay_out;
-use rings::centers::calculate_circumcenters;
+use rings::circumcenters::calculate_circumcenters;
 use rings::ownership::calculate_corner_ownership;
 use start::extend;
 use start::frame;

@@ -1,11 +1,11 @@
--- `utils::centroid`: each answer by the way that leads to it; rule 6 from the lowest site that breaks it.
+-- `centers::centroid`: each answer by the way that leads to it; rule 6 from the lowest site that breaks it.
 use mathlib.Core.Path.{sym, ap, _∙_}
 use borrow.Author.Needs.{needs}
 use Rattle.utils.specs.laws.Sites.{sites-kept, site-broken}
-use Rattle.utils.specs.laws.Centroid.{odd-length, no-points, too-many, broken-site, sound}
-use Rattle.utils.specs.declared.Center.the-variants.{At}
-use Rattle.utils.proofs.centroid.Statement.{statement}
-use Rattle.utils.proofs.centroid.Tie as tie
+use Rattle.centers.specs.laws.Centroid.{odd-length, no-points, too-many, broken-site, sound}
+use Rattle.centers.specs.declared.Center.the-variants.{At}
+use Rattle.centers.proofs.centroid.Statement.{statement}
+use Rattle.centers.proofs.centroid.Tie as tie
 
 returns : tie.Need-returns
 returns c = sym (odd-length _ (c .if1 .taken))

@@ -1,8 +1,8 @@
 // The circumcenters of all triangles, with rule 11.
+use centers::center_ok;
+use centers::circumcenter_of;
 use numbers::wide;
 use utils::Point;
-use utils::center_ok;
-use utils::circumcenter_of;
 use utils::point_at;
 use vertices::put;
 ghost use mathlib.Core.Path.{_≡_};

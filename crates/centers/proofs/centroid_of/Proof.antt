@@ -1,12 +1,12 @@
--- `utils::centroid_of`: the sum over the count, which an f64 holds exactly.
+-- `centers::centroid_of`: the sum over the count, which an f64 holds exactly.
 use Prim.Native.Nat.{_^_}
 use borrow.Author.Needs.{needs}
 use lib.Dec.{le→leb}
 use lib.Ieee.{inFloat}
 use native.Mathlib.Omega.{arith}
-use Rattle.utils.specs.Centroid.{meanOf}
-use Rattle.utils.proofs.centroid_of.Statement.{statement}
-use Rattle.utils.proofs.centroid_of.Tie as tie
+use Rattle.centers.specs.Centroid.{meanOf}
+use Rattle.centers.proofs.centroid_of.Statement.{statement}
+use Rattle.centers.proofs.centroid_of.Tie as tie
 
 int-to-float-n : tie.Need-int-to-float-n
 unfolding inFloat

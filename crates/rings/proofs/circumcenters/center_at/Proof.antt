@@ -1,9 +1,9 @@
--- `rings::centers::center_at` meets its contract: the three reads name sites, and the operations are the definition's.
+-- `rings::circumcenters::center_at` meets its contract: the three reads name sites, and the operations are the definition's.
 use native.Mathlib.Omega.{arith}
 use Rattle.definition.specs.Build.{centerAt}
 use borrow.Author.Needs.{needs}
-use Rattle.rings.proofs.centers.center_at.Statement.{statement}
-use Rattle.rings.proofs.centers.center_at.Tie as tie
+use Rattle.rings.proofs.circumcenters.center_at.Statement.{statement}
+use Rattle.rings.proofs.circumcenters.center_at.Tie as tie
 
 point-at-requires : tie.Need-point-at-requires
 point-at-requires c κs = rw (c .wide .ensures) (c .before .before .before .before .pre .0 _ (omega arith))

@@ -1,12 +1,12 @@
--- `rings::centers::calculate_circumcenters` meets its contract: the loop follows the definition triangle by triangle.
+-- `rings::circumcenters::calculate_circumcenters` meets its contract: the loop follows the definition triangle by triangle.
 use mathlib.Core.Path.{sym, _∙_}
 use Prim.Native.Nat.{_-_}
 use native.Mathlib.Omega.{arith}
 use borrow.Author.Needs.{needs}
 use borrow.Author.Tests.{not-true, not-false}
 use Rattle.rings.specs.laws.Centers.{CentersTo, centers-start, centers-bad, centers-step, centers-end}
-use Rattle.rings.proofs.centers.calculate_circumcenters.Statement.{statement}
-use Rattle.rings.proofs.centers.calculate_circumcenters.Tie as tie
+use Rattle.rings.proofs.circumcenters.calculate_circumcenters.Statement.{statement}
+use Rattle.rings.proofs.circumcenters.calculate_circumcenters.Tie as tie
 
 abbrev Inv-loop : tie.InvT-loop
 Inv-loop sites triangles v₀ count t₀ v t = CentersTo sites triangles count v₀ v t

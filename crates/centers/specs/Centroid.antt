@@ -10,12 +10,12 @@ use Rattle.laws.specs.Binary64 as R
 use Rattle.laws.specs.Binary64.{_⊞_, _⊘_}
 use Rattle.laws.specs.Pick.{pick}
 use Rattle.numbers.specs.Numbers.{refusedCount, refusedCoordinate}
 use Rattle.utils.specs.Plane.{at}
 use Rattle.utils.specs.Flat.{pointAt}
 use Rattle.utils.specs.Sites.{okSites}
 use Rattle.utils.specs.declared.Point.{Point}
-use Rattle.utils.specs.declared.Center.{Center}
-use Rattle.utils.specs.declared.Center.the-variants.{Refused, At}
+use Rattle.centers.specs.declared.Center.{Center}
+use Rattle.centers.specs.declared.Center.the-variants.{Refused, At}
 
 -- the first n points added up, one after the other
 unfoldable pub pointSum : List Float → ℕ → Point

@@ -11,12 +11,12 @@ use lib.ListN.{length, getD}
 use lib.Ieee.{Float, nan}
 use Rattle.laws.specs.Binary64.{_⊞_}
 use Rattle.numbers.specs.Numbers.{refusedCount, refusedCoordinate}
 use Rattle.utils.specs.Plane.{at}
 use Rattle.utils.specs.Flat.{pointAt}
-use Rattle.utils.specs.Centroid.{pointSum, meanOf, okCount, centroidAnswer}
 use Rattle.utils.specs.Sites.{okSites}
 use Rattle.utils.specs.declared.Point.{Point}
-use Rattle.utils.specs.declared.Center.the-variants.{Refused, At}
+use Rattle.centers.specs.Centroid.{pointSum, meanOf, okCount, centroidAnswer}
+use Rattle.centers.specs.declared.Center.the-variants.{Refused, At}
 
 -- one point more, at the code's i + 1
 pub sum-more : (l : List Float) (i : ℕ) {x y : Float} → at x y ≡ pointSum l i → at (x ⊞ getD l (2 * i) nan) (y ⊞ getD l (2 * i + 1) nan) ≡ pointSum l (i + 1)

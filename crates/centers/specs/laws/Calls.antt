@@ -1,10 +1,10 @@
 -- The circumcenter's answer from the answers of the calls, which are the arguments: so no proof looks for them among all that it knows.
 use mathlib.Core.Path.{_≡_}
 use mathlib.Core.Bool.{Bool, _&&_}
-use Rattle.utils.specs.Plane.{centerOf}
-use Rattle.utils.specs.Rules.{okSite, okCenter, centerIf, centerAnswer}
+use Rattle.utils.specs.Rules.{okSite}
 use Rattle.utils.specs.declared.Point.{Point}
-use Rattle.utils.specs.declared.Center.{Center}
+use Rattle.centers.specs.Circumcenter.{centerOf, okCenter, centerIf, centerAnswer}
+use Rattle.centers.specs.declared.Center.{Center}
 
 pub center-calls :
     (a b c : Point) {p : Point} {s s₁ s₂ t : Bool} {r : Center}

@@ -1,12 +1,12 @@
--- `utils::sum_of`: before each turn x and y are the sum of the points passed.
+-- `centers::sum_of`: before each turn x and y are the sum of the points passed.
 use mathlib.Core.Path.{_≡_, refl, ap, _∙_}
 use Prim.Native.Nat.{_-_, _≤_}
 use native.Mathlib.Omega.{arith}
 use Rattle.utils.specs.Plane.{at}
-use Rattle.utils.specs.Centroid.{pointSum}
-use Rattle.utils.specs.laws.Centroid.{sum-more}
-use Rattle.utils.proofs.sum_of.Statement.{statement}
-use Rattle.utils.proofs.sum_of.Tie as tie
+use Rattle.centers.specs.Centroid.{pointSum}
+use Rattle.centers.specs.laws.Centroid.{sum-more}
+use Rattle.centers.proofs.sum_of.Statement.{statement}
+use Rattle.centers.proofs.sum_of.Tie as tie
 
 abbrev Inv-loop : tie.InvT-loop
 Inv-loop points count x₀ y₀ i₀ x y i = (i ≤ count) × (at x y ≡ pointSum points i)
