@@ -1,6 +1,6 @@
 // The rules up to 10 that a call tries on what it is lent: 1 and 2 on counts and room, 3 to 5 on its own arguments, 6 on coordinates, 7 to 10 on the mesh; and 16 on cells.
-use layout::outputs::clear_all;
-use layout::outputs::rooms_ok;
+use outputs::clear_all;
+use outputs::rooms_ok;
 use utils::Point;
 ghost use mathlib.Core.Path.{_≡_};
 ghost use mathlib.Core.Bool.{true};

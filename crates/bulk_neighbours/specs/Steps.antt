@@ -14,7 +14,7 @@ use Rattle.check_mesh.specs.AtExit.{whenRefused}
 use Rattle.check_mesh.specs.Answers.{workAfter}
 use Rattle.iterator.specs.Clippable.{Clippable}
 use Rattle.layout.specs.Regions.{joined, offsetsFrom}
-use Rattle.layout.specs.Outputs.{padded}
+use Rattle.layout.specs.Cleared.{padded}
 use Rattle.bulk_neighbours.specs.Lists.{nothingLent, listOf, listsTo}
 use Rattle.bulk_neighbours.specs.Promise.{RoomFor}
 

@@ -8,7 +8,7 @@ use cell_finish::refuse;
 use cell_finish::settle;
 use cell_tries::loops::clip_cells;
 use definition::Fault;
-use layout::outputs::lay_out;
+use outputs::lay_out;
 use rings::circumcenters::calculate_circumcenters;
 use rings::ownership::calculate_corner_ownership;
 use start::extend;

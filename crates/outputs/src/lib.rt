@@ -1,8 +1,8 @@
 // What a build leaves in the lent slices: what it made, then +0 and `EMPTY`; after a refusal these alone.
-use crate::clear_floats_from;
-use crate::compact;
-use crate::fill_from;
-use crate::region_starts;
+use layout::clear_floats_from;
+use layout::compact;
+use layout::fill_from;
+use layout::region_starts;
 use numbers::EMPTY;
 ghost use mathlib.Core.Path.{_≡_};
 ghost use mathlib.Core.List.{List, []};
@@ -11,9 +11,10 @@ ghost use lib.ListN.{length, getD};
 ghost use Rattle.laws.specs.Decide.{Says};
 ghost use Rattle.laws.specs.Binary64.{zero};
 ghost use Rattle.numbers.specs.Numbers.{EMPTY};
 ghost use Rattle.layout.specs.Regions.{joined, Regions, StartsRise};
 ghost use Rattle.layout.specs.Rooms.{Roomy};
-ghost use Rattle.layout.specs.Outputs.{padded, Rooms, LaidOut, Gathered};
+ghost use Rattle.layout.specs.Cleared.{padded};
+ghost use Rattle.outputs.specs.Outputs.{Rooms, LaidOut, Gathered};
 
 // Rule 2 on the lent vertices, indexes and offsets, by the numbers of triangles, hull sites and sites.
 pub fn rooms_ok(

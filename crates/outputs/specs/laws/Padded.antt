@@ -12,13 +12,13 @@ use Rattle.numbers.specs.Numbers.{EMPTY}
 use Rattle.utils.specs.Flat.{flat, pour}
 use Rattle.utils.specs.declared.Point.{Point}
 use Rattle.vertices.specs.laws.Points.{length-flat, length-pour}
-use Rattle.layout.specs.Cleared.{clearedFrom}
+use Rattle.layout.specs.Cleared.{clearedFrom, padded}
 use Rattle.layout.specs.Regions.{joined, offsetsFrom, Compacted}
 use Rattle.layout.specs.Rooms.{Roomy, Started}
 use Rattle.layout.specs.laws.Rooms.{start-end}
 use Rattle.layout.specs.laws.Compacted.{offsets-length}
 use Rattle.layout.specs.laws.Regions.{regions-none, started-rising}
-use Rattle.layout.specs.Outputs.{padded, LaidOut, Gathered}
+use Rattle.outputs.specs.Outputs.{LaidOut, Gathered}
 
 -- ---- the beginning
 pub laid-out : (tri hull owners : List ℕ) (n : ℕ) (ix ix₁ off off₁ : List ℕ) → Roomy tri hull owners n off

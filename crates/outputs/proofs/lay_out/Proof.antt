@@ -1,8 +1,8 @@
--- `layout::outputs::lay_out` meets its contract: the regions start where the rooms add up to, and the list that they cut is EMPTY throughout.
+-- `outputs::lay_out` meets its contract: the regions start where the rooms add up to, and the list that they cut is EMPTY throughout.
 use borrow.Author.Needs.{needs}
-use Rattle.layout.specs.laws.Padded.{laid-out}
-use Rattle.layout.proofs.outputs.lay_out.Statement.{statement}
-use Rattle.layout.proofs.outputs.lay_out.Tie as tie
+use Rattle.outputs.specs.laws.Padded.{laid-out}
+use Rattle.outputs.proofs.lay_out.Statement.{statement}
+use Rattle.outputs.proofs.lay_out.Tie as tie
 
 returns : tie.Need-returns
 returns c =

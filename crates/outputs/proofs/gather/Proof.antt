@@ -1,8 +1,8 @@
--- `layout::outputs::gather` meets its contract: the cells moved together stand at the beginning of the list, their offsets at the beginning of the starts.
+-- `outputs::gather` meets its contract: the cells moved together stand at the beginning of the list, their offsets at the beginning of the starts.
 use borrow.Author.Needs.{needs}
-use Rattle.layout.specs.laws.Padded.{gathered}
-use Rattle.layout.proofs.outputs.gather.Statement.{statement}
-use Rattle.layout.proofs.outputs.gather.Tie as tie
+use Rattle.outputs.specs.laws.Padded.{gathered}
+use Rattle.outputs.proofs.gather.Statement.{statement}
+use Rattle.outputs.proofs.gather.Tie as tie
 
 returns : tie.Need-returns
 returns c =

@@ -1,7 +1,7 @@
 -- The lent slices of a build: the room that rule 2 asks of them, and what they hold at exit, by the definition's outcome.
 use mathlib.Core.Path.{_≡_}
 use mathlib.Core.List.{List, [], _∷_, _++_, map}
-use Prim.Native.Nat.{ℕ, _+_, _-_, _*_, _/_, _≤_, _<_}
+use Prim.Native.Nat.{ℕ, _+_, _*_, _/_, _≤_, _<_}
 use lib.Ieee.{Float}
 use lib.ListN.{length, replicate}
 use Rattle.laws.specs.Binary64.{zero}
@@ -12,8 +12,9 @@ use Rattle.definition.specs.Fault.{Outcome, ok, refused}
 use Rattle.definition.specs.Cell.{extension, firstCrossing, secondCrossing, unmarked}
 use Rattle.definition.specs.Build.{Built}
 use Rattle.definition.specs.Reused.{reusedOf}
+use Rattle.layout.specs.Cleared.{padded}
 use Rattle.layout.specs.Regions.{joined, offsetsFrom, Regions}
 use Rattle.layout.specs.Rooms.{Started}
 
 -- T triangles, h hull sites, n sites; slices of so many numbers, indexes and offsets
 pub record Rooms (T h n numbers indexes offsets : ℕ) : Type 0 where
@@ -25,10 +26,6 @@ pub record Rooms (T h n numbers indexes offsets : ℕ) : Type 0 where
 pub record LaidOut (tri hull owners : List ℕ) (n : ℕ) (ix off : List ℕ) : Type 0 where
   pub started : Started tri hull owners n off
   pub regions : Regions ix off (replicate n [])
-
--- l, then a up to n entries
-abbrev pub padded : {A : Type 0} → ℕ → A → List A → List A
-padded n a l = l ++ replicate (n - length l) a
 
 -- the cells moved together and their offsets, in slices that were ix and off
 pub record Gathered (cells : List (List ℕ)) (ix off ix₁ off₁ : List ℕ) : Type 0 where
