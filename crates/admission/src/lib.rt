@@ -1,6 +1,6 @@
 // The rules up to 10 that a call tries on what it is lent: 1 and 2 on counts and room, 3 to 5 on its own arguments, 6 on coordinates, 7 to 10 on the mesh; and 16 on cells.
-use layout::outputs::clear_all;
-use layout::outputs::rooms_ok;
+use outputs::clear_all;
+use outputs::rooms_ok;
 use utils::Point;
 ghost use mathlib.Core.Path.{_≡_};
 ghost use mathlib.Core.Bool.{true};
@@ -48,7 +48,7 @@ fn early(
 ) -> u32
     ensures { λ r. ⌜ Early (now (sites .entry)) entries halfedges hull roomy asked r ⌝ }
 {
-    if !check_mesh::counts_ok(sites.len(), entries, halfedges, hull) {
+    if !mesh_counts::counts_ok(sites.len(), entries, halfedges, hull) {
         return numbers::REFUSED_COUNT;
     }
     if !roomy {
@@ -87,7 +87,7 @@ pub fn admit(
     if e != 0 {
         return e;
     }
-    check_mesh::number(check_mesh::check_topology(
+    mesh_counts::number(check_mesh::check_topology(
         triangles,
         halfedges,
         hull,
@@ -156,7 +156,7 @@ fn room_for(
 ) -> bool
     ensures { λ r. ⌜ RoomAnswer coordinates entries halfedges hull work numbers indexes offsets counts r ⌝ }
 {
-    if !check_mesh::counts_ok(coordinates, entries, halfedges, hull) {
+    if !mesh_counts::counts_ok(coordinates, entries, halfedges, hull) {
         return false;
     }
     let sites = coordinates / 2;

@@ -12,7 +12,7 @@ use Rattle.laws.specs.Pick.{pick}
 use Rattle.laws.specs.Refusals.{Rule, once, Finds}
 use Rattle.numbers.specs.Numbers.{refusedCount, refusedEntry, refusedRoom, refusedCorner}
 use Rattle.utils.specs.Flat.{pointAt}
-use Rattle.utils.specs.Rules.{okCenter}
+use Rattle.centers.specs.Circumcenter.{okCenter}
 use Rattle.shared.specs.Cells.{cellOf}
 use Rattle.admission.specs.Asks.{cellRules}
 use Rattle.entries.specs.Named.{EntriesNamed}

@@ -17,7 +17,7 @@ pub fn within(vertices: &[f64], entries: &[u32]) -> bool
 {
     let mut i = 0;
     while i < entries.len() {
-        if !utils::center_ok(utils::point_at(vertices, numbers::wide(entries[i]))) {
+        if !centers::center_ok(utils::point_at(vertices, numbers::wide(entries[i]))) {
             return false;
         }
         i += 1;

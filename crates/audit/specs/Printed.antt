@@ -9,7 +9,7 @@ use Rattle.laws.specs.Pick.{pick}
 use Rattle.numbers.specs.Numbers.{refusedCorner}
 use Rattle.lowest.specs.Lowest.{lowest}
 use Rattle.utils.specs.Flat.{pointAt, flat}
-use Rattle.utils.specs.Rules.{okCenter}
+use Rattle.centers.specs.Circumcenter.{okCenter}
 use Rattle.bounding_box.specs.declared.BoundingBox.{BoundingBox}
 use Rattle.definition.specs.Cell.{unmarked}
 use Rattle.layout.specs.Regions.{joined, offsetsFrom}

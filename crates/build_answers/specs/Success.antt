@@ -19,7 +19,7 @@ use Rattle.definition.specs.Build.{Built, build}
 use Rattle.definition.specs.Theorems.{wrapping, room}
 use Rattle.definition.specs.Wrapping.{Wrapping}
 use Rattle.definition.specs.Measures.{Room}
-use Rattle.layout.specs.Outputs.{faultOf}
+use Rattle.outputs.specs.Outputs.{faultOf}
 use Rattle.build_answers.specs.Promise.{BuildAnswers, ClippedBuild}
 use Rattle.build_answers.specs.laws.Promise.{built, builds-one, builds-cases}
 use Rattle.definition.specs.Late.{Refuses, Numbered}

@@ -7,7 +7,7 @@ use lib.ListN.{length, replicate}
 use Rattle.laws.specs.Pick.{pick}
 use Rattle.numbers.specs.Numbers.{EMPTY}
 use Rattle.definition.specs.declared.Reused.{Reused}
-use Rattle.layout.specs.Outputs.{padded}
+use Rattle.layout.specs.Cleared.{padded}
 
 abbrev pub countsOf : ℕ → List ℕ → ℕ → Reused → List ℕ
 countsOf vertices owners lost a = vertices ∷ owners ++ lost ∷ a .extensions ∷ a .firsts ∷ a .seconds ∷ []

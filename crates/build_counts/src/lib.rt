@@ -7,7 +7,7 @@ ghost use mathlib.Core.Path.{_≡_};
 ghost use Prim.Native.Nat.{_≤_, _<_};
 ghost use lib.ListN.{length};
 ghost use Rattle.numbers.specs.Numbers.{EMPTY};
-ghost use Rattle.layout.specs.Outputs.{padded};
+ghost use Rattle.layout.specs.Cleared.{padded};
 ghost use Rattle.build_counts.specs.Counts.{countsOf, ReusedFit, EndedBuild};
 
 // The number of vertices, the corners' owners, the lost corners and the points taken again, then `EMPTY`.

@@ -13,7 +13,7 @@ use Rattle.mesh.specs.Accepted.{Mesh, siteCount}
 use Rattle.check_mesh.specs.AtExit.{atExit}
 use Rattle.check_mesh.specs.Answers.{workAfter}
 use Rattle.layout.specs.Regions.{joined, offsetsFrom}
-use Rattle.layout.specs.Outputs.{padded}
+use Rattle.layout.specs.Cleared.{padded}
 use Rattle.admission.specs.Asks.{CellsOf}
 use Rattle.neighbour_lists.specs.Lists.{nothingLent, allNeighbours}
 

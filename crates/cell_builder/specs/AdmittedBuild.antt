@@ -6,7 +6,7 @@ use lib.ListN.{length}
 use Rattle.bounding_box.specs.Finite.{BoundedBox}
 use Rattle.bounding_box.specs.declared.BoundingBox.{BoundingBox}
 use Rattle.mesh.specs.Accepted.{Mesh, tableOf, Accepted, siteCount}
-use Rattle.layout.specs.Outputs.{Rooms}
+use Rattle.outputs.specs.Outputs.{Rooms}
 
 -- an accepted mesh with its leftmost table, a box that rule 3 admits, slices with room
 pub record AdmittedBuild (m : Mesh) (table : List ℕ) (b : BoundingBox) (numbers indexes offsets : ℕ) : Type 0 where

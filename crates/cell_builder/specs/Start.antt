@@ -18,7 +18,7 @@ use Rattle.rings.specs.Extensions.{Extends}
 use Rattle.cell_tries.specs.declared.Frame.{Frame}
 use Rattle.cell_finish.specs.declared.CellsAnswer.{CellsAnswer}
 use Rattle.cell_finish.specs.Finish.{outcomeAnswer, SettledCells}
-use Rattle.layout.specs.Outputs.{BuiltInto}
+use Rattle.outputs.specs.Outputs.{BuiltInto}
 use Rattle.cell_finish.specs.declared.Progress.{Progress}
 use Rattle.cell_tries.specs.CellsInSlices.{Plan, plan, ground, frameOf, Does}
 use Rattle.cell_builder.specs.AdmittedBuild.{AdmittedBuild}

@@ -7,7 +7,7 @@ use lib.Ieee.{Float}
 use lib.ListN.{length, getD, replicate}
 use Rattle.laws.specs.Binary64.{zero}
 use Rattle.numbers.specs.Numbers.{EMPTY}
-use Rattle.layout.specs.Cleared.{clearedFrom}
+use Rattle.layout.specs.Cleared.{clearedFrom, padded}
 use Rattle.layout.specs.Regions.{joined, Regions, StartsRise}
 use Rattle.definition.specs.declared.Fault.{Fault}
 use Rattle.definition.specs.Fault.{Outcome, ok, refused}
@@ -15,7 +15,7 @@ use Rattle.definition.specs.Build.{Built}
 use Rattle.definition.specs.Short.{fault}
 use Rattle.definition.specs.Measures.{lostLeft}
 use Rattle.definition.specs.Reused.{reused, reusedIn}
-use Rattle.layout.specs.Outputs.{padded, Gathered}
+use Rattle.outputs.specs.Outputs.{Gathered}
 use Rattle.cell_finish.specs.declared.Progress.{Progress}
 use Rattle.cell_finish.specs.declared.CellsAnswer.{CellsAnswer}
 

@@ -2,9 +2,9 @@
 use definition::Fault;
 use definition::Reused;
 use layout::clear_floats_from;
-use layout::outputs::clear_all;
-use layout::outputs::gather;
 use numbers::EMPTY;
+use outputs::clear_all;
+use outputs::gather;
 use shared::holds;
 ghost use mathlib.Core.Path.{_≡_};
 ghost use Prim.Native.Nat.{_+_, _≤_};

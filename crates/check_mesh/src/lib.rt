@@ -1,65 +1,14 @@
-// The checker: rule 1 on counts, rule 2 on the work slice, rule 6 on coordinates, and rules 7 to 10, each tried where the earlier ones hold.
+// The checker: rule 1 on counts (crate mesh_counts), rule 2 on the work slice, rule 6 on coordinates, and rules 7 to 10, each tried where the earlier ones hold.
 ghost use mathlib.Core.Path.{_≡_};
 ghost use Prim.Native.Nat.{_%_, _<_, _≤_};
 ghost use lib.ListN.{length};
 ghost use Rattle.numbers.specs.Numbers.{EMPTY};
-ghost use Rattle.laws.specs.Decide.{Says};
 ghost use Rattle.mesh.specs.Mesh.{AllSound, AllPaired};
-ghost use Rattle.mesh.specs.Faults.{numberOf};
-ghost use Rattle.mesh.specs.Accepted.{mesh, Counted};
+ghost use Rattle.mesh.specs.Accepted.{mesh};
 ghost use Rattle.check_mesh.specs.Answers.{ShapeAnswer, BorderAnswer, TopologyAnswer, MeshAnswer};
 use mesh::MeshFault;
-
-// The number of a fault (docs/RULES.md).
-pub fn number(f: MeshFault) -> u32
-    ensures { λ r. ⌜ r ≡ numberOf f ⌝ }
-{
-    match f {
-        MeshFault::None => 0,
-        MeshFault::Counts => numbers::REFUSED_COUNT,
-        MeshFault::Room => numbers::REFUSED_ROOM,
-        MeshFault::Coordinate(_) => numbers::REFUSED_COORDINATE,
-        MeshFault::Triangle(_) => numbers::REFUSED_TRIANGLE,
-        MeshFault::Pairing(_) => numbers::REFUSED_PAIRING,
-        MeshFault::HullPlace(_) => numbers::REFUSED_HULL,
-        MeshFault::HullEdge(_) => numbers::REFUSED_HULL,
-        MeshFault::BrokenFan(_) => numbers::REFUSED_FAN,
-    }
-}
-
-// Rule 1, on the lengths of the lists of coordinates, triangle entries, half-edges and hull sites.
-pub fn counts_ok(coordinates: usize, entries: usize, halfedges: usize, hull: usize) -> bool
-    ensures { λ r. ⌜ Says r (Counted coordinates entries halfedges hull) ⌝ }
-{
-    if coordinates % 2 != 0 {
-        return false;
-    }
-    if coordinates / 2 < 3 {
-        return false;
-    }
-    if 65536 < coordinates / 2 {
-        return false;
-    }
-    if entries % 3 != 0 {
-        return false;
-    }
-    if entries / 3 < 1 {
-        return false;
-    }
-    if 131072 < entries / 3 {
-        return false;
-    }
-    if halfedges != entries {
-        return false;
-    }
-    if hull < 3 {
-        return false;
-    }
-    if coordinates / 2 < hull {
-        return false;
-    }
-    true
-}
+use mesh_counts::counts_ok;
+use mesh_counts::number;
 
 // Rules 7 and 8.
 fn check_shape(triangles: &[u32], halfedges: &[u32], sites: usize) -> MeshFault

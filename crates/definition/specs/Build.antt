@@ -11,10 +11,10 @@ use Rattle.laws.specs.Binary64.{_⊞_, _⊟_, _⊠_, _⊘_, one}
 use Rattle.laws.specs.Count.{occ}
 use Rattle.numbers.specs.Numbers.{refusedCircumcenter, refusedExtension}
 use Rattle.root.specs.Sqrt.{sqrtOf}
-use Rattle.utils.specs.Plane.{at, centerOf}
-use Rattle.utils.specs.Rules.{okCenter}
+use Rattle.utils.specs.Plane.{at}
 use Rattle.utils.specs.Flat.{pointAt}
 use Rattle.utils.specs.declared.Point.{Point}
+use Rattle.centers.specs.Circumcenter.{centerOf, okCenter}
 use Rattle.bounding_box.specs.Box.{cornersOf}
 use Rattle.bounding_box.specs.declared.BoundingBox.{BoundingBox}
 use Rattle.vertices.specs.Add.{addVertex}

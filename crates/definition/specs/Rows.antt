@@ -5,9 +5,9 @@ use lib.Count.{trailingZeros}
 use lib.Ieee.{Float, binary64, ofBits, add, sub, mul, div, lt, le, eq, neg, sum, round, units, odd, size, span, climb}
 use Rattle.laws.specs.Count.{same}
 use Rattle.root.specs.Sqrt.{wholeRoot, nearestRoot, rootOfUnits, sqrtOf}
-use Rattle.utils.specs.Plane.{at, nearOf, dist2Of, centerOf}
+use Rattle.utils.specs.Plane.{at, nearOf, dist2Of}
 use Rattle.utils.specs.Flat.{flat}
-use Rattle.utils.specs.Rules.{okCenter}
+use Rattle.centers.specs.Circumcenter.{centerOf, okCenter}
 use Rattle.bounding_box.specs.Box.{madeOf, cornersOf, insideOf, firstSide, whichOf}
 use Rattle.crossings.specs.Ray.{orderPick, eitherOf, orderBy, orderOne, orderTwo, rayOf}
 use Rattle.line_crossings.specs.Line.{oneIf, twoIf, firstHeld, sideHit, levelHit, uprightHit, settleOf, lineOf}

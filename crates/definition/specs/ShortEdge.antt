@@ -11,9 +11,10 @@ use Rattle.laws.specs.Binary64.{_⊟_, zero}
 use Rattle.laws.specs.Refusals.{Keeps}
 use Rattle.utils.specs.Flat.{pointAt}
 use Rattle.utils.specs.Rules.{okSite}
-use Rattle.utils.specs.Finite.{BoundedPoint, center-bounded}
+use Rattle.utils.specs.Finite.{BoundedPoint}
 use Rattle.utils.specs.declared.Point.{Point}
 use Rattle.utils.specs.laws.Extension.{squares}
+use Rattle.centers.specs.Finite.{center-bounded}
 use Rattle.mesh.specs.Mesh.{startOf, endOf}
 use Rattle.mesh.specs.Accepted.{Mesh, tableOf, Accepted, siteCount}
 use Rattle.mesh.specs.Hull.{nextSite}

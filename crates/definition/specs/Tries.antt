@@ -7,8 +7,8 @@ use Prim.Native.Nat.{ℕ, zero, suc, _/_, _<_}
 use lib.ListN.{length, getD, replicate}
 use lib.Ieee.{Float}
 use Rattle.laws.specs.Refusals.{Rule, each, Keeps}
-use Rattle.utils.specs.Rules.{okCenter}
 use Rattle.utils.specs.declared.Point.{Point}
+use Rattle.centers.specs.Circumcenter.{okCenter}
 use Rattle.bounding_box.specs.Box.{cornersOf}
 use Rattle.bounding_box.specs.declared.BoundingBox.{BoundingBox}
 use Rattle.mesh.specs.Mesh.{endOf, leftmostOf}

@@ -10,7 +10,7 @@ use Rattle.check_mesh.specs.Answers.{MeshAnswer}
 use Rattle.definition.specs.declared.Fault.{Fault}
 use Rattle.definition.specs.Fault.{Outcome}
 use Rattle.definition.specs.Build.{Built}
-use Rattle.layout.specs.Outputs.{faultOf}
+use Rattle.outputs.specs.Outputs.{faultOf}
 use Rattle.admission.specs.Admits.{askedRules}
 use Rattle.admission.specs.Slices.{Slices, slices}
 use Rattle.admission.specs.Admission.{BuildAdmission}

@@ -19,7 +19,7 @@ fn admit(
     ensures { λ r. ⌜ Finds (flipStart sites entries halfedges hull table work) 0 r ⌝ }
 {
     let n = wide(sites);
-    if !check_mesh::counts_ok(2 * n, entries, halfedges, hull) {
+    if !mesh_counts::counts_ok(2 * n, entries, halfedges, hull) {
         return numbers::REFUSED_COUNT;
     }
     if table < n {
@@ -65,7 +65,7 @@ fn judge(
         (now (work .entry)) (now (work .exit)) r ⌝ }
 {
     let f = check_mesh::check_topology(triangles, halfedges, hull, sites, work);
-    let k = check_mesh::number(f);
+    let k = mesh_counts::number(f);
     if k != 0 {
         return k;
     }

@@ -1,7 +1,7 @@
 // The check of a mesh on the grid: rules 1, 2, 22 and 7 to 10, then its turns and circles.
 use check_mesh::check_topology;
-use check_mesh::counts_ok;
 use grid_scan::GridAnswer;
+use mesh_counts::counts_ok;
 ghost use Rattle.grid_check.specs.Promise.{gridMesh, GridChecks};
 ghost use Rattle.grid_check.specs.laws.Outcome.{GridSettled};
 
@@ -25,7 +25,7 @@ pub fn check_grid(
     if grid::first_beyond(grid) < count {
         return GridAnswer::Refused(numbers::REFUSED_GRID);
     }
-    let number = check_mesh::number(check_topology(triangles, halfedges, hull, count, work));
+    let number = mesh_counts::number(check_topology(triangles, halfedges, hull, count, work));
     if number != 0 {
         return GridAnswer::Refused(number);
     }

@@ -2,5 +2,4 @@
 pub mod Cleared
 pub mod Regions
 pub mod Rooms
-pub mod Outputs
 pub mod laws

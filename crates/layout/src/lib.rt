@@ -1,6 +1,4 @@
 // How cells share one index list: regions by site while they are built, moved together at the end, and what is left over cleared.
-pub mod outputs;
-
 use numbers::EMPTY;
 use numbers::wide;
 ghost use mathlib.Core.Path.{_≡_};

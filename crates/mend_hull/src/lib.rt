@@ -156,7 +156,7 @@ pub fn mend_hull(
     }
     let fault = check_mesh::check_border(triangles, pairs, &mended[..count], sites, work);
     Traced {
-        number: check_mesh::number(fault),
+        number: mesh_counts::number(fault),
         count: count,
     }
 }

@@ -65,7 +65,7 @@ fn admit_mend(
     ensures { λ r. ⌜ Finds (mendEarly (now (sites .entry)) (now (triangles .entry)) halfedges hull
         (MendRoom (length (now (sites .entry)) / 2) (length (now (triangles .entry))) work pairs mended changes)) 0 r ⌝ }
 {
-    if !check_mesh::counts_ok(sites.len(), triangles.len(), halfedges, hull) {
+    if !mesh_counts::counts_ok(sites.len(), triangles.len(), halfedges, hull) {
         return numbers::REFUSED_COUNT;
     }
     if !room_ok(

@@ -11,12 +11,13 @@ use Rattle.laws.specs.Binary64.{zero}
 use Rattle.laws.specs.Pick.{pick}
 use Rattle.laws.specs.Refusals.{Rule, once, Finds}
 use Rattle.numbers.specs.Numbers.{EMPTY, refusedCount, refusedRoom, refusedBox, refusedCoordinate, refusedCircumcenter}
-use Rattle.utils.specs.Plane.{dist2Of, centerOf}
+use Rattle.utils.specs.Plane.{dist2Of}
 use Rattle.utils.specs.Flat.{flat}
-use Rattle.utils.specs.Rules.{okSite, okCenter}
+use Rattle.utils.specs.Rules.{okSite}
 use Rattle.utils.specs.Sites.{okSites}
-use Rattle.utils.specs.Centroid.{okCount, meanOf}
 use Rattle.utils.specs.declared.Point.{Point}
+use Rattle.centers.specs.Circumcenter.{centerOf, okCenter}
+use Rattle.centers.specs.Centroid.{okCount, meanOf}
 use Rattle.bounding_box.specs.Box.{widthOf, heightOf, cornersOf, insideOf, exclusiveOf, whichOf}
 use Rattle.bounding_box.specs.declared.BoundingBox.{BoundingBox}
 use Rattle.given_box.specs.declared.Given.{Given}

@@ -89,11 +89,11 @@ pub struct Spot {
 pub fn circumcenter(a: Point, b: Point, c: Point) -> Spot
     ensures { λ r. ⌜ Circumcenter a b c (r .number) (r .x) (r .y) ⌝ }
 {
-    let r = utils::circumcenter(a, b, c);
-    let x = utils::x_of(r);
-    let y = utils::y_of(r);
+    let r = centers::circumcenter(a, b, c);
+    let x = centers::x_of(r);
+    let y = centers::y_of(r);
     Spot {
-        number: utils::number_of(r),
+        number: centers::number_of(r),
         x,
         y,
     }
@@ -103,11 +103,11 @@ pub fn circumcenter(a: Point, b: Point, c: Point) -> Spot
 pub fn centroid(points: &[f64]) -> Spot
     ensures { λ r. ⌜ Centroid (now (points .entry)) (r .number) (r .x) (r .y) ⌝ }
 {
-    let r = utils::centroid(points);
-    let x = utils::x_of(r);
-    let y = utils::y_of(r);
+    let r = centers::centroid(points);
+    let x = centers::x_of(r);
+    let y = centers::y_of(r);
     Spot {
-        number: utils::number_of(r),
+        number: centers::number_of(r),
         x,
         y,
     }

@@ -1,4 +1,4 @@
 // What stands ready before a cell is clipped: the circumcenters, the corners' owners, the hull's extensions.
-pub mod centers;
+pub mod circumcenters;
 pub mod extensions;
 pub mod ownership;

@@ -2,6 +2,5 @@ pub mod Plane
 pub mod Flat
 pub mod Rules
 pub mod Sites
-pub mod Centroid
 pub mod Finite
 pub mod laws

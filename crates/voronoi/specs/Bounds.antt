@@ -13,9 +13,11 @@ use Rattle.root.specs.Bounded.{Bounded}
 use Rattle.root.specs.Sqrt.{sqrtOf}
 use Rattle.root.specs.SqrtBounds.{root-bound, root-positive, sqrt-bound, sqrt-positive}
 use Rattle.utils.specs.Plane.{at, dist2Of}
-use Rattle.utils.specs.Rules.{okSite, okCenter}
-use Rattle.utils.specs.Finite.{BoundedPoint, center-bounded, gap-bounded, dist2-total, site-dist2}
+use Rattle.utils.specs.Rules.{okSite}
+use Rattle.utils.specs.Finite.{BoundedPoint, gap-bounded, dist2-total, site-dist2}
 use Rattle.utils.specs.declared.Point.{Point}
+use Rattle.centers.specs.Circumcenter.{okCenter}
+use Rattle.centers.specs.Finite.{center-bounded}
 use Rattle.bounding_box.specs.Box.{cornersOf}
 use Rattle.bounding_box.specs.Finite.{BoundedBox, corner-dist2}
 use Rattle.bounding_box.specs.declared.BoundingBox.{BoundingBox}

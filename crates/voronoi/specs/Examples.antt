@@ -9,7 +9,8 @@ use Rattle.laws.specs.Binary64.{zero, one, minusOne, two}
 use Rattle.root.specs.Root.{Root}
 use Rattle.root.specs.SqrtIsRoot.{root-is-sqrt, least-root}
 use Rattle.utils.specs.Flat.{pointAt}
-use Rattle.utils.specs.Plane.{at, nearOf, dist2Of, centerOf}
+use Rattle.utils.specs.Plane.{at, nearOf, dist2Of}
+use Rattle.centers.specs.Circumcenter.{centerOf}
 use Rattle.bounding_box.specs.Box.{madeOf, firstSide, whichOf}
 use Rattle.bounding_box.specs.declared.BoundingBox.{BoundingBox}
 use Rattle.crossings.specs.Ray.{orderOf}

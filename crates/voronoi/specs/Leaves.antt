@@ -13,7 +13,8 @@ use Rattle.layout.specs.Regions.{joined, offsetsFrom}
 use Rattle.definition.specs.declared.Fault.{Fault}
 use Rattle.definition.specs.Fault.{Outcome, ok}
 use Rattle.definition.specs.Build.{finite, Built}
-use Rattle.layout.specs.Outputs.{padded, countsMade}
+use Rattle.layout.specs.Cleared.{padded}
+use Rattle.outputs.specs.Outputs.{countsMade}
 use Rattle.definition.specs.Cell.{unmarked}
 use Rattle.admission.specs.Slices.{Slices, roomOf}
 use Rattle.build_answers.specs.Success.{Value}

@@ -14,7 +14,7 @@ use Rattle.mesh.specs.Accepted.{Mesh, siteCount}
 use Rattle.layout.specs.Regions.{joined, offsetsFrom}
 use Rattle.definition.specs.Cell.{Entry}
 use Rattle.definition.specs.Build.{wrappedIn, allWrapped, lostFrom}
-use Rattle.layout.specs.Outputs.{padded}
+use Rattle.layout.specs.Cleared.{padded}
 use Rattle.definition.specs.Cell.{unmarked}
 use Rattle.admission.specs.Slices.{Slices}
 use Rattle.voronoi.specs.Approach.{PathStops}

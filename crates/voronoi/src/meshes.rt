@@ -14,5 +14,5 @@ pub extern "C" fn voronoi_check(
     ensures { λ r. ⌜ Check (mesh (now (sites .entry)) (now (triangles .entry)) (now (halfedges .entry)) (now (hull .entry))) (now (work .entry)) (now (work .exit)) r ⌝ }
 {
     let f = check_mesh::check_mesh(sites, triangles, halfedges, hull, work);
-    check_mesh::number(f)
+    mesh_counts::number(f)
 }

@@ -10,7 +10,7 @@ use borrow.Author.Tests.{lt-ltb, le-ltb}
 use Rattle.laws.specs.Binary64.{zero}
 use Rattle.numbers.specs.Numbers.{EMPTY, refusedTriangle}
 use Rattle.mesh.specs.Accepted.{Mesh}
-use Rattle.layout.specs.Outputs.{padded}
+use Rattle.layout.specs.Cleared.{padded}
 use Rattle.admission.specs.Slices.{slices, roomOf}
 use Rattle.admission.specs.Admission.{Admission, RoomAnswer, BuildAdmission}
 use Rattle.admission.specs.laws.Admits.{admits-room}

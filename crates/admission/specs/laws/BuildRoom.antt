@@ -7,7 +7,7 @@ use borrow.Author.Tests.{leb-true, ltb-true, le-leb, lt-leb, lt-ltb}
 use Rattle.laws.specs.laws.And.{and-left, and-right}
 use Rattle.laws.specs.Decide.{Says}
 use Rattle.mesh.specs.Accepted.{Counted}
-use Rattle.layout.specs.Outputs.{Rooms}
+use Rattle.outputs.specs.Outputs.{Rooms}
 use Rattle.admission.specs.Slices.{roomFor}
 use Rattle.admission.specs.Admission.{RoomAnswer}
 

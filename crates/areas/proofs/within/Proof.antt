@@ -8,7 +8,7 @@ use lib.ListN.{length}
 use borrow.Author.Needs.{needs}
 use borrow.Author.Tests.{not-true, not-false}
 use Rattle.utils.specs.Flat.{pointAt}
-use Rattle.utils.specs.Rules.{okCenter}
+use Rattle.centers.specs.Circumcenter.{okCenter}
 use Rattle.entries.specs.laws.Passed.{EntriesPassed, passed-start, passed-step, passed-all}
 use Rattle.areas.specs.laws.Entries.{tested}
 use Rattle.areas.proofs.within.Statement.{statement}

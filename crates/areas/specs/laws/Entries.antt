@@ -9,10 +9,10 @@ use lib.Ieee.{Float}
 use lib.ListN.{length, getD, drop, length-take, length-drop}
 use lib.Seq.{getD-take, getD-drop, length-take-le}
 use Rattle.shared.specs.Cells.{Cells, cellOf}
-use Rattle.utils.specs.Finite.{center-bounded}
 use Rattle.utils.specs.Flat.{pointAt}
-use Rattle.utils.specs.Rules.{okCenter}
 use Rattle.utils.specs.declared.Point.{Point}
+use Rattle.centers.specs.Finite.{center-bounded}
+use Rattle.centers.specs.Circumcenter.{okCenter}
 use Rattle.ring_area.specs.Steps.{Corners}
 use Rattle.entries.specs.Named.{EntriesNamed}
 use Rattle.areas.specs.Promise.{entriesOfAll}

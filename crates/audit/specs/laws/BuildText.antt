@@ -22,9 +22,9 @@ use Rattle.mesh.specs.laws.Facts.{entry-site}
 use Rattle.admission.specs.Asks.{boxRules}
 use Rattle.admission.specs.Slices.{Slices, roomFor, roomOf}
 use Rattle.admission.specs.laws.Asks.{box-answers}
-use Rattle.layout.specs.Outputs.{ofBuilt, countsMade}
 use Rattle.layout.specs.Regions.{joined, offsetsFrom}
 use Rattle.layout.specs.laws.Compacted.{offsets-length}
+use Rattle.outputs.specs.Outputs.{ofBuilt, countsMade}
 use Rattle.definition.specs.declared.Fault.{Fault}
 use Rattle.definition.specs.Fault.{Outcome, ok}
 use Rattle.definition.specs.Build.{Built, build}

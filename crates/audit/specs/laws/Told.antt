@@ -12,7 +12,7 @@ use Rattle.lowest.specs.Lowest.{lowest}
 use Rattle.lowest.specs.laws.Loops.{lowest-first}
 use Rattle.octets.specs.Wrote.{HasRoom}
 use Rattle.utils.specs.Flat.{pointAt}
-use Rattle.utils.specs.Rules.{okCenter}
+use Rattle.centers.specs.Circumcenter.{okCenter}
 use Rattle.bounding_box.specs.declared.BoundingBox.{BoundingBox}
 use Rattle.areas.specs.Promise.{KeepsRule}
 use Rattle.audit_total.specs.Total.{missingOf}

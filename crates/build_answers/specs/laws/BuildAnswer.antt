@@ -26,7 +26,8 @@ use Rattle.admission.specs.laws.LeftmostTable.{table-long, table-part}
 use Rattle.definition.specs.declared.Fault.{Fault}
 use Rattle.definition.specs.Fault.{Outcome, ok, refused}
 use Rattle.definition.specs.Build.{Built}
-use Rattle.layout.specs.Outputs.{padded, Rooms, ofBuilt, faultOf, BuiltInto, countsMade}
+use Rattle.layout.specs.Cleared.{padded}
+use Rattle.outputs.specs.Outputs.{Rooms, ofBuilt, faultOf, BuiltInto, countsMade}
 use Rattle.build_counts.specs.Counts.{EndedBuild}
 use Rattle.build_answers.specs.Promise.{BuildAnswers}
 use Rattle.definition.specs.Late.{Refuses, Numbered}

@@ -20,7 +20,7 @@ use Rattle.definition.specs.Build.{Built, build}
 use Rattle.definition.specs.laws.Reused.{reused-le}
 use Rattle.definition.specs.laws.Gives.{Gives, gives-map}
 use Rattle.definition.specs.laws.Built as theorems
-use Rattle.layout.specs.Outputs.{ofBuilt, faultOf, BuiltInto, countsMade}
+use Rattle.outputs.specs.Outputs.{ofBuilt, faultOf, BuiltInto, countsMade}
 use Rattle.cell_finish.specs.declared.CellsAnswer.{CellsAnswer}
 use Rattle.cell_builder.specs.AdmittedBuild.{AdmittedBuild}
 use Rattle.cell_finish.specs.Finish.{outcomeAnswer}

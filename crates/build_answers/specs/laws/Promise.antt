@@ -15,7 +15,8 @@ use Rattle.check_mesh.specs.AtExit.{atExit}
 use Rattle.definition.specs.declared.Fault.{Fault}
 use Rattle.definition.specs.Fault.{Outcome}
 use Rattle.definition.specs.Build.{Built}
-use Rattle.layout.specs.Outputs.{padded, faultOf}
+use Rattle.layout.specs.Cleared.{padded}
+use Rattle.outputs.specs.Outputs.{faultOf}
 use Rattle.admission.specs.Admits.{askedRules, Admits}
 use Rattle.admission.specs.Slices.{Slices, slices}
 use Rattle.admission.specs.laws.Admits.{NoneZero, finds-asked, asked-finds, call-answers, admits-keep}

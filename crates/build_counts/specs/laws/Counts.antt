@@ -5,8 +5,7 @@ use Prim.Native.Nat.{ℕ, _-_, _≤_}
 use native.Mathlib.Omega.{arith}
 use lib.ListN.{length, getD, set, drop, replicate, length-set}
 use Rattle.definition.specs.declared.Reused.{Reused}
-use Rattle.layout.specs.Cleared.{clearedFrom}
-use Rattle.layout.specs.Outputs.{padded}
+use Rattle.layout.specs.Cleared.{clearedFrom, padded}
 use Rattle.numbers.specs.Numbers.{EMPTY}
 use Rattle.build_counts.specs.Counts.{countsOf}
 

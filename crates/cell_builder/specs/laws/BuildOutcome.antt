@@ -17,7 +17,9 @@ use Rattle.mesh.specs.Mesh.{leftmostOf}
 use Rattle.mesh.specs.Accepted.{Mesh, mesh, siteCount}
 use Rattle.layout.specs.Regions.{joined}
 use Rattle.layout.specs.laws.Regions.{regions-rising}
-use Rattle.layout.specs.laws.Marks.{entries-joined}
+use Rattle.outputs.specs.laws.Marks.{entries-joined}
+use Rattle.outputs.specs.Outputs.{ofBuilt}
+use Rattle.outputs.specs.laws.Padded.{poured-cleared}
 use Rattle.numbers.specs.Numbers.{refusedCircumcenter}
 use Rattle.definition.specs.declared.Fault.{Fault}
 use Rattle.definition.specs.declared.Reused.{Reused}
@@ -28,10 +30,8 @@ use Rattle.definition.specs.Measures.{lostLeft}
 use Rattle.definition.specs.laws.Owners.{owners-length, ready, towards-corner}
 use Rattle.rings.specs.Centers.{CentersBy}
 use Rattle.rings.specs.Ownership.{Owned}
-use Rattle.layout.specs.Outputs.{ofBuilt}
 use Rattle.definition.specs.Cell.{unmarked}
 use Rattle.definition.specs.Short.{fault, extensions}
-use Rattle.layout.specs.laws.Padded.{poured-cleared}
 use Rattle.cell_finish.specs.declared.Progress.{Progress}
 use Rattle.cell_finish.specs.declared.CellsAnswer.{CellsAnswer}
 use Rattle.cell_tries.specs.CellsInSlices.{ground, Amid, Does}

@@ -34,10 +34,10 @@ use Rattle.definition.specs.Measures.{shareOf}
 use Rattle.rings.specs.Centers.{Named}
 use Rattle.rings.specs.Extensions.{ExtendsInto, ExtendedBy}
 use Rattle.rings.specs.declared.extensions.Passed.{Passed}
-use Rattle.layout.specs.Outputs.{LaidOut}
+use Rattle.outputs.specs.Outputs.{LaidOut}
+use Rattle.outputs.specs.laws.Marks.{none-unmarked}
 use Rattle.definition.specs.Cell.{unmarked}
 use Rattle.definition.specs.Short.{fault, extensions, cellState}
-use Rattle.layout.specs.laws.Marks.{none-unmarked}
 use Rattle.cell_tries.specs.declared.Frame.{Frame}
 use Rattle.cell_finish.specs.declared.Progress.{Progress}
 use Rattle.cell_tries.specs.CellsInSlices.{Plan, plan, ground, frameOf, Grounded, Amid, HullsAmid, AllTried}

@@ -5,7 +5,7 @@ use Prim.Native.Nat.{ℕ}
 use native.Mathlib.Omega.{arith}
 use lib.ListN.{length-take}
 use borrow.Author.Needs.{needs}
-use Rattle.layout.specs.laws.Padded.{used-part}
+use Rattle.outputs.specs.laws.Padded.{used-part}
 use Rattle.definition.specs.Measures.{lostLeft}
 use Rattle.cell_finish.proofs.finish.Statement.{statement}
 use Rattle.cell_finish.proofs.finish.Tie as tie

@@ -15,7 +15,7 @@ use Rattle.definition.specs.laws.AllCells.{ring-share, hull-share}
 use Rattle.definition.specs.Measures.{shareOf}
 use Rattle.staging.specs.Staging.{Staged, Stages}
 use Rattle.staging.specs.laws.Staging.{ring-room}
-use Rattle.layout.specs.laws.Marks.{empty-still, full-already}
+use Rattle.outputs.specs.laws.Marks.{empty-still, full-already}
 use Rattle.cell_tries.specs.CellsInSlices.{plan, Ground, Amid, Does, hullTry, edgeTry}
 use Rattle.cell_tries.specs.Tries.{Ringed, Tried}
 use Rattle.cell_tries.specs.declared.Frame.{Frame}

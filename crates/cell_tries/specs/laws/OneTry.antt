@@ -38,7 +38,7 @@ use Rattle.staging.specs.Staging.{Staged}
 use Rattle.clipping.specs.RingWalk.{Steps, ringOf, emptyAt}
 use Rattle.definition.specs.Cell.{unmarked}
 use Rattle.definition.specs.Short.{cellState}
-use Rattle.layout.specs.laws.Marks.{cell-set}
+use Rattle.outputs.specs.laws.Marks.{cell-set}
 use Rattle.cell_tries.specs.CellsInSlices.{plan, Ground, Grounded, Amid, Does}
 use Rattle.clipping.specs.laws.RingWalk.{steps-small}
 use Rattle.clipping.specs.declared.RingStepped.{RingStepped}

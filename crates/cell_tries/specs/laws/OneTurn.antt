@@ -19,7 +19,7 @@ use Rattle.definition.specs.declared.Fault.{Fault}
 use Rattle.definition.specs.Fault.{Outcome, ok, refused}
 use Rattle.definition.specs.Build.{CellState, ringFrom, isEmpty}
 use Rattle.definition.specs.laws.Gives.{Gives, picked}
-use Rattle.layout.specs.laws.Marks.{full-already}
+use Rattle.outputs.specs.laws.Marks.{full-already}
 use Rattle.cell_tries.specs.declared.Frame.{Frame}
 use Rattle.cell_finish.specs.declared.Progress.{Progress}
 use Rattle.cell_tries.specs.CellsInSlices.{plan, Ground, Amid, Does, edgeTry}

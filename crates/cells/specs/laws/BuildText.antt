@@ -19,7 +19,7 @@ use Rattle.definition.specs.declared.Fault.{Fault}
 use Rattle.definition.specs.Fault.{Outcome, ok}
 use Rattle.definition.specs.laws.Gives.{Gives, gives-ok}
 use Rattle.definition.specs.Build.{Built, build}
-use Rattle.layout.specs.Outputs.{ofBuilt, countsMade}
+use Rattle.outputs.specs.Outputs.{ofBuilt, countsMade}
 use Rattle.definition.specs.Cell.{unmarked, StepKind, extension, firstCrossing, secondCrossing}
 use Rattle.definition.specs.Reused.{reusedOf}
 use Rattle.build_answers.specs.Promise.{Builds, BuildAnswer, BuildAnswers, ClippedBuild}

@@ -12,8 +12,8 @@ use Rattle.laws.specs.Pick.{pick}
 use Rattle.laws.specs.laws.Decide.{lt-or-ge}
 use Rattle.laws.specs.Refusals.{Keeps, Breaks}
 use Rattle.utils.specs.Plane.{at}
-use Rattle.utils.specs.Rules.{okCenter}
 use Rattle.utils.specs.declared.Point.{Point}
+use Rattle.centers.specs.Circumcenter.{okCenter}
 use Rattle.bounding_box.specs.Box.{cornersOf}
 use Rattle.bounding_box.specs.declared.BoundingBox.{BoundingBox}
 use Rattle.vertices.specs.Add.{addVertex}

@@ -8,8 +8,8 @@ use lib.Ieee.{Float}
 use lib.ListN.{length, getD, replicate}
 use Rattle.laws.specs.Pick.{pick}
 use Rattle.numbers.specs.Numbers.{refusedNoCrossing, refusedOneCrossing}
-use Rattle.utils.specs.Rules.{okCenter}
 use Rattle.utils.specs.declared.Point.{Point}
+use Rattle.centers.specs.Circumcenter.{okCenter}
 use Rattle.bounding_box.specs.declared.BoundingBox.{BoundingBox}
 use Rattle.mesh.specs.Mesh.{endOf}
 use Rattle.definition.specs.declared.Fault.{Fault}

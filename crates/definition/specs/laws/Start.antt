@@ -10,7 +10,7 @@ use lib.ListN.{length, getD, length-append, List·getD-append}
 use lib.Seq.{getD-at}
 use Rattle.laws.specs.laws.Decide.{lt-or-ge}
 use Rattle.utils.specs.declared.Point.{Point}
-use Rattle.utils.specs.Rules.{okCenter}
+use Rattle.centers.specs.Circumcenter.{okCenter}
 use Rattle.mesh.specs.Hull.{nextSite}
 use Rattle.vertices.specs.Add.{addVertex}
 use Rattle.definition.specs.Cell.{took, extension}

@@ -11,8 +11,8 @@ use lib.Dec.{ltb}
 use Rattle.laws.specs.Pick.{pick}
 use Rattle.laws.specs.Binary64.{_⊟_}
 use Rattle.utils.specs.Plane.{at}
-use Rattle.utils.specs.Rules.{okCenter}
-use Rattle.utils.specs.Finite.{center-bounded}
+use Rattle.centers.specs.Circumcenter.{okCenter}
+use Rattle.centers.specs.Finite.{center-bounded}
 use Rattle.root.specs.Bounded.{Bounded}
 use Rattle.bounding_box.specs.Finite.{BoundedBox}
 use Rattle.crossings.specs.Finite.{ray-bounded}

@@ -10,7 +10,7 @@ use Rattle.numbers.specs.Numbers.{EMPTY}
 use Rattle.mesh.specs.Mesh.{leftmostOf}
 use Rattle.mesh.specs.Accepted.{Topology}
 use Rattle.layout.specs.Regions.{joined, offsetsFrom}
-use Rattle.layout.specs.Outputs.{padded}
+use Rattle.layout.specs.Cleared.{padded}
 use Rattle.layout.specs.laws.Compacted.{offsets-length}
 use Rattle.shared.specs.Cells.{Cells, cellOf}
 use Rattle.cell_query.specs.ReadBack.{read-from, cut}

@@ -10,7 +10,7 @@ use Rattle.mesh.specs.Accepted.{Mesh}
 use Rattle.definition.specs.declared.Fault.{Fault}
 use Rattle.definition.specs.Fault.{Outcome}
 use Rattle.definition.specs.Build.{Built, build}
-use Rattle.layout.specs.Outputs.{faultOf, BuiltInto}
+use Rattle.outputs.specs.Outputs.{faultOf, BuiltInto}
 use Rattle.cell_finish.specs.declared.CellsAnswer.{CellsAnswer}
 use Rattle.cell_finish.specs.Finish.{outcomeAnswer}
 use Rattle.build_counts.specs.Counts.{countsOf, EndedBuild}

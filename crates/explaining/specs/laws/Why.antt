@@ -22,7 +22,8 @@ use Rattle.definition.specs.Build.{Built}
 use Rattle.definition.specs.laws.Gives.{Gives, gives-ok}
 use Rattle.definition.specs.Cell.{unmarked}
 use Rattle.layout.specs.Regions.{joined, offsetsFrom}
-use Rattle.layout.specs.Outputs.{padded, faultOf}
+use Rattle.layout.specs.Cleared.{padded}
+use Rattle.outputs.specs.Outputs.{faultOf}
 use Rattle.shared.specs.Cells.{cellOf}
 use Rattle.admission.specs.Asks.{Asked}
 use Rattle.admission.specs.Admits.{askedRules}

@@ -14,14 +14,15 @@ use Rattle.laws.specs.Pick.{pick}
 use Rattle.laws.specs.Refusals.{once}
 use Rattle.laws.specs.laws.Refusals.{breaks, keeps, nothing}
 use Rattle.numbers.specs.Numbers.{EMPTY, refusedRoom, refusedBox, refusedCoordinate}
-use Rattle.utils.specs.Plane.{dist2Of, centerOf}
+use Rattle.utils.specs.Plane.{dist2Of}
 use Rattle.utils.specs.Flat.{flat, pour}
-use Rattle.utils.specs.Rules.{okSite, okCenter, centerIf, centerAnswer, centerNumber, xOf, yOf}
+use Rattle.utils.specs.Rules.{okSite}
 use Rattle.utils.specs.Sites.{okSites}
-use Rattle.utils.specs.Centroid.{okCount, meanOf, centroidAnswer}
 use Rattle.utils.specs.declared.Point.{Point}
-use Rattle.utils.specs.declared.Center.{Center}
-use Rattle.utils.specs.declared.Center.the-variants.{Refused, At}
+use Rattle.centers.specs.Circumcenter.{centerOf, okCenter, centerIf, centerAnswer, centerNumber, xOf, yOf}
+use Rattle.centers.specs.Centroid.{okCount, meanOf, centroidAnswer}
+use Rattle.centers.specs.declared.Center.{Center}
+use Rattle.centers.specs.declared.Center.the-variants.{Refused, At}
 use Rattle.bounding_box.specs.Box.{widthOf, heightOf, cornersOf, insideOf, exclusiveOf, whichOf}
 use Rattle.bounding_box.specs.declared.BoundingBox.{BoundingBox}
 use Rattle.given_box.specs.declared.Given.{Given}

@@ -14,7 +14,7 @@ use Rattle.admission.specs.laws.Admits.{NoneZero}
 use Rattle.definition.specs.declared.Fault.{Fault}
 use Rattle.definition.specs.Fault.{Outcome, ok, refused}
 use Rattle.definition.specs.Build.{Built}
-use Rattle.layout.specs.Outputs.{faultOf}
+use Rattle.outputs.specs.Outputs.{faultOf}
 use Rattle.build_answers.specs.Promise.{Builds}
 use Rattle.build_answers.specs.laws.Promise.{builds-cases}
 use Rattle.admission.specs.Slices.{Slices}

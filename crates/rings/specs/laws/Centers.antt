@@ -9,8 +9,8 @@ use native.Mathlib.Omega.{arith}
 use lib.Ieee.{Float}
 use lib.ListN.{length, set, length-append}
 use Rattle.utils.specs.Flat.{points, pointsFrom, flat, pour}
-use Rattle.utils.specs.Rules.{okCenter}
 use Rattle.utils.specs.declared.Point.{Point}
+use Rattle.centers.specs.Circumcenter.{okCenter}
 use Rattle.vertices.specs.laws.Points.{length-points, length-pour, points-pour, pour-snoc, pour-pour}
 use Rattle.definition.specs.Build.{centerAt, centersFrom}
 use Rattle.rings.specs.Centers.{CentersBy}

@@ -16,12 +16,13 @@ use Rattle.laws.specs.laws.Refusals.{finds-keep}
 use Rattle.laws.specs.laws.And.{and-left, and-right}
 use Rattle.laws.specs.Binary64 as R
 use Rattle.root.specs.Bounded.{Bounded}
-use Rattle.utils.specs.Plane.{centerOf}
 use Rattle.utils.specs.Flat.{flat}
 use Rattle.utils.specs.Rules.{okSite}
-use Rattle.utils.specs.Centroid.{okCount}
-use Rattle.utils.specs.Finite.{center-bounded, site-dist2, mean-bounded}
+use Rattle.utils.specs.Finite.{site-dist2}
 use Rattle.utils.specs.declared.Point.{Point}
+use Rattle.centers.specs.Circumcenter.{centerOf}
+use Rattle.centers.specs.Centroid.{okCount}
+use Rattle.centers.specs.Finite.{center-bounded, mean-bounded}
 use Rattle.bounding_box.specs.Box.{cornersOf}
 use Rattle.bounding_box.specs.Finite.{BoundedBox, width-bounded, height-bounded}
 use Rattle.bounding_box.specs.declared.BoundingBox.{BoundingBox}

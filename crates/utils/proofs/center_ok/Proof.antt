@@ -1,8 +1,0 @@
--- `utils::center_ok`: both magnitudes are tested as rule 11 says.
-use Rattle.utils.specs.Rules.{okCenter}
-use Rattle.utils.proofs.center_ok.Statement.{statement}
-use Rattle.utils.proofs.center_ok.Tie as tie
-
-pub center-ok-spec : {M : Type 1} → statement M
-unfolding okCenter
-center-ok-spec = tie.close (tie.spec (λ c κs. tt) (λ c κs. tt) (λ c. cc))
