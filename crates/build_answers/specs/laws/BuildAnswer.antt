@@ -29,7 +29,7 @@ use Rattle.definition.specs.Build.{Built}
 use Rattle.layout.specs.Outputs.{padded, Rooms, ofBuilt, faultOf, BuiltInto, countsMade}
 use Rattle.build_counts.specs.Counts.{EndedBuild}
 use Rattle.build_answers.specs.Promise.{BuildAnswers}
-use Rattle.definition.specs.Late.{Refuses, Numbered}
+use Rattle.build_laws.specs.Late.{Refuses, Numbered}
 use Rattle.build_answers.specs.laws.Promise.{early, built}
 
 -- a slice cleared by a late refusal
