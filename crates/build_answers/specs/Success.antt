@@ -16,14 +16,14 @@ use Rattle.admission.specs.laws.Asks.{box-answers}
 use Rattle.definition.specs.declared.Fault.{Fault}
 use Rattle.definition.specs.Fault.{Outcome, ok, refused}
 use Rattle.definition.specs.Build.{Built, build}
-use Rattle.definition.specs.Theorems.{wrapping, room}
-use Rattle.definition.specs.Wrapping.{Wrapping}
 use Rattle.definition.specs.Measures.{Room}
+use Rattle.build_laws.specs.Theorems.{wrapping, room}
+use Rattle.build_laws.specs.Wrapping.{Wrapping}
 use Rattle.outputs.specs.Outputs.{faultOf}
 use Rattle.build_answers.specs.Promise.{BuildAnswers, ClippedBuild}
 use Rattle.build_answers.specs.laws.Promise.{built, builds-one, builds-cases}
-use Rattle.definition.specs.Late.{Refuses, Numbered}
-use Rattle.definition.specs.LateRefusals.{build-late}
+use Rattle.build_laws.specs.Late.{Refuses, Numbered}
+use Rattle.build_laws.specs.LateRefusals.{build-late}
 
 -- ---- 0
 

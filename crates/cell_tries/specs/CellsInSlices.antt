@@ -16,13 +16,13 @@ use Rattle.layout.specs.Rooms.{Started}
 use Rattle.definition.specs.declared.Fault.{Fault}
 use Rattle.definition.specs.Fault.{Outcome, ok, refused, andThen}
 use Rattle.definition.specs.Build.{ringFrom, hullRing, Extensions, CellState, clipInto, clipHull, clipRest, isEmpty}
-use Rattle.definition.specs.laws.Start.{Beyond}
-use Rattle.definition.specs.laws.CellsSoFar.{CellsSoFar}
 use Rattle.definition.specs.Measures.{shareOf}
 use Rattle.definition.specs.Reused.{reusedIn}
 use Rattle.definition.specs.Cell.{unmarked}
 use Rattle.definition.specs.Short.{fault}
 use Rattle.definition.specs.Sides.{SidedCorners}
+use Rattle.build_laws.specs.laws.Start.{Beyond}
+use Rattle.build_laws.specs.laws.CellsSoFar.{CellsSoFar}
 use Rattle.cell_tries.specs.declared.Frame.{Frame}
 use Rattle.cell_finish.specs.declared.Progress.{Progress}
 

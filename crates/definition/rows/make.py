@@ -1,8 +1,9 @@
 #!/usr/bin/env python3
-"""Write the rows of specs/Rows*.antt: the meshes of this folder, each with what the Rust's release build answers for it.
+"""Write the rows of two crates, specs/Rows*.antt: the meshes of rows/, each with what the Rust's release build answers for it.
 
   make.py ORACLE      ORACLE is the harness's program `oracle`
 
+`definition` has the rows that refuse an edit of its must-fail/, `build_laws` the others.
 A row has its file's name, and the file's first line, a comment, is the row's. The vertices (bit for bit), cells, owners and the
 numbers 13 and 14 are the Rust's; marks, lost corners, reused points, 11 and 12 are the harness's reading of docs/RULES.md, as `oracle` prints them.
 A refused mesh has its whole fault: the place, and for 13 and 14 the edge's two vertices, are that reading's too (`oracle --place`);
@@ -15,8 +16,8 @@ import struct
 import subprocess
 import sys
 
-HERE = os.path.dirname(os.path.abspath(__file__))
-SPECS = os.path.join(HERE, "..", "specs")
+CRATES = os.path.join(os.path.dirname(os.path.abspath(__file__)), "..", "..")
+WITH_ROWS = ("definition", "build_laws")
 EMPTY = 4294967295
 
 REFUSED = {
@@ -121,17 +122,20 @@ def main():
     def refusal(path):
         return fault(ask(path), ask("--place", path))
 
-    for group, file, answer in (("built", "Built", lambda path: told(ask(path))), ("refused", "Refused", refusal)):
-        specs = os.path.join(SPECS, f"Rows{file}.antt")
-        old = open(specs, encoding="utf-8").read()
-        rows = [old[: old.index("\n\n") + 1]]
-        for entry in sorted(f for f in os.listdir(HERE) if f.startswith(group + "_")):
-            path = os.path.join(HERE, entry)
-            name = entry[len(group) + 1 : -len(".txt")]
-            call, comment = read(path)
-            rows.append(f"-- {comment}\npub {name} :\n    rowOf\n    ({call})\n    ≡ {answer(path)}\nunfolding rowOf\n{name} = refl\n")
-        with open(specs, "w", encoding="utf-8") as o:
-            o.write("\n".join(rows))
+    groups = (("built", "Built", lambda path: told(ask(path))), ("refused", "Refused", refusal))
+    for crate in WITH_ROWS:
+        meshes = os.path.join(CRATES, crate, "rows")
+        for group, file, answer in groups:
+            specs = os.path.join(CRATES, crate, "specs", f"Rows{file}.antt")
+            old = open(specs, encoding="utf-8").read()
+            rows = [old[: old.index("\n\n") + 1]]
+            for entry in sorted(f for f in os.listdir(meshes) if f.startswith(group + "_")):
+                path = os.path.join(meshes, entry)
+                name = entry[len(group) + 1 : -len(".txt")]
+                call, comment = read(path)
+                rows.append(f"-- {comment}\npub {name} :\n    rowOf\n    ({call})\n    ≡ {answer(path)}\nunfolding rowOf\n{name} = refl\n")
+            with open(specs, "w", encoding="utf-8") as o:
+                o.write("\n".join(rows))
 
 
 if __name__ == "__main__":

@@ -75,7 +75,7 @@ wraps (suc k) nc site stop c os =
     (λ _. let w = wraps k nc site stop ((c + 1) % 4) (set os c EMPTY) in record { owners = w .owners; new = entry wrapped (nc + c) ∷ w .new })
     (λ _. record { owners = os; new = [] })
 
--- the second clipped vertex, with the corners before it or after it; the clipped vertices are on the sides f and s (NoSide.antt), and a place that is no side has no owner
+-- the second clipped vertex, with the corners before it or after it; the clipped vertices are on the sides f and s (build_laws/specs/NoSide.antt), and a place that is no side has no owner
 unfoldable pub withCorners : ℕ → ℕ → ℕ → ℕ → ℕ → List ℕ → Ins
 withCorners nc site f s second os =
     pick (eqb (getD os f EMPTY) site)

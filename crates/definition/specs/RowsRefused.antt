@@ -1,104 +1,12 @@
--- Rows: meshes that are refused, each with its whole fault: where the Rust panics (13, 14), and where rules 11 and 12 refuse before it is asked. Written by rows/make.py; not by hand.
+-- Rows: a mesh that is refused, with its whole fault, which refuses an edit of must-fail/; the others are in crate build_laws. Written by rows/make.py; not by hand.
 use mathlib.Core.Path.{_≡_, refl}
 use mathlib.Core.List.{[], _∷_}
-use Rattle.numbers.specs.Numbers.{EMPTY, refusedCircumcenter, refusedExtension, refusedNoCrossing, refusedOneCrossing}
+use Rattle.numbers.specs.Numbers.{EMPTY, refusedNoCrossing}
 use Rattle.mesh.specs.Accepted.{mesh}
 use Rattle.definition.specs.Fault.{refused}
 use Rattle.definition.specs.Rows.{floats, rowBox, rowOf}
 use Rattle.definition.specs.Build.{build}
 use Rattle.definition.specs.Short.{fault}
-
--- 14: rounding at a corner
-pub at-a-corner :
-    rowOf
-    (build
-    (mesh
-    (floats
-    (0xc000000000000000 ∷ 0x4000000000000000 ∷ 0x4000000000000000 ∷ 0xbff0000000000000 ∷ 0x3ff0000000000000 ∷ 0x4000000000000000 ∷ 0x4000000000000000 ∷ 0x4000000000000000 ∷
-    []))
-    (3 ∷ 1 ∷ 0 ∷ 1 ∷ 2 ∷ 0 ∷ [])
-    (EMPTY ∷ 5 ∷ EMPTY ∷ EMPTY ∷ EMPTY ∷ 1 ∷ [])
-    (0 ∷ 3 ∷ 1 ∷ 2 ∷ []))
-    (rowBox 0x4000000000000000 0x4000000000000000 0x3ff0000000000000 0x3ff0000000000000))
-    ≡ refused (fault refusedOneCrossing 1 1 0)
-unfolding rowOf
-at-a-corner = refl
-
--- 14: an extension within the box
-pub large-box :
-    rowOf
-    (build
-    (mesh
-    (floats
-    (0xbfe0000000000000 ∷ 0xbfe0000000000000 ∷ 0xbfe0000000000000 ∷ 0x3fe0000000000000 ∷ 0x3fe0000000000000 ∷ 0x3fe0000000000000 ∷ 0x3fe0000000000000 ∷ 0xbfe0000000000000 ∷
-    []))
-    (0 ∷ 1 ∷ 2 ∷ 0 ∷ 2 ∷ 3 ∷ [])
-    (EMPTY ∷ EMPTY ∷ 3 ∷ 2 ∷ EMPTY ∷ EMPTY ∷ [])
-    (0 ∷ 1 ∷ 2 ∷ 3 ∷ []))
-    (rowBox 0 0 0x4212a05f20000000 0x4212a05f20000000))
-    ≡ refused (fault refusedOneCrossing 2 7 8)
-unfolding rowOf
-large-box = refl
-
--- 13: a lone point judged by its own signs
-pub lone-point :
-    rowOf
-    (build
-    (mesh
-    (floats
-    (0 ∷ 0x4000000000000000 ∷ 0x3ff0000000000000 ∷ 0x4000000000000000 ∷ 0 ∷ 0xbff0000000000000 ∷ []))
-    (0 ∷ 1 ∷ 2 ∷ [])
-    (EMPTY ∷ EMPTY ∷ EMPTY ∷ [])
-    (0 ∷ 1 ∷ 2 ∷ []))
-    (rowBox 0x3ff8000000000000 0x3ff8000000000000 0x4000000000000000 0x4000000000000000))
-    ≡ refused (fault refusedNoCrossing 0 0 7)
-unfolding rowOf
-lone-point = refl
-
--- 11: three sites on a line
-pub on-a-line :
-    rowOf
-    (build
-    (mesh
-    (floats
-    (0 ∷ 0 ∷ 0x3ff0000000000000 ∷ 0 ∷ 0x4000000000000000 ∷ 0 ∷ []))
-    (0 ∷ 1 ∷ 2 ∷ [])
-    (EMPTY ∷ EMPTY ∷ EMPTY ∷ [])
-    (0 ∷ 1 ∷ 2 ∷ []))
-    (rowBox 0 0 0x4000000000000000 0x4000000000000000))
-    ≡ refused (fault refusedCircumcenter 0 0 0)
-unfolding rowOf
-on-a-line = refl
-
--- 13: rounding
-pub rounding :
-    rowOf
-    (build
-    (mesh
-    (floats
-    (0 ∷ 0x4000000000000000 ∷ 0x3fe0000000000000 ∷ 0x3fe0000000000000 ∷ 0xbff0000000000000 ∷ 0x4000000000000000 ∷ []))
-    (0 ∷ 1 ∷ 2 ∷ [])
-    (EMPTY ∷ EMPTY ∷ EMPTY ∷ [])
-    (0 ∷ 1 ∷ 2 ∷ []))
-    (rowBox 0 0 0x4000000000000000 0x4000000000000000))
-    ≡ refused (fault refusedNoCrossing 0 5 0)
-unfolding rowOf
-rounding = refl
-
--- 12: a hull edge so short that its squares underflow
-pub short-edge :
-    rowOf
-    (build
-    (mesh
-    (floats
-    (0 ∷ 0 ∷ 0x1e30000000000000 ∷ 0 ∷ 0 ∷ 0x3ff0000000000000 ∷ []))
-    (0 ∷ 1 ∷ 2 ∷ [])
-    (EMPTY ∷ EMPTY ∷ EMPTY ∷ [])
-    (0 ∷ 1 ∷ 2 ∷ []))
-    (rowBox 0 0 0x4000000000000000 0x4000000000000000))
-    ≡ refused (fault refusedExtension 0 0 0)
-unfolding rowOf
-short-edge = refl
 
 -- 13: a circumcenter on the top side, left there
 pub top-side :
@@ -114,19 +22,3 @@ pub top-side :
     ≡ refused (fault refusedNoCrossing 0 0 7)
 unfolding rowOf
 top-side = refl
-
--- 13: both ends of an edge within the tolerance
-pub within :
-    rowOf
-    (build
-    (mesh
-    (floats
-    (0xbfe0000000000000 ∷ 0xbfe0000000000000 ∷ 0xbfe0000000000000 ∷ 0x3fe0000000000000 ∷ 0x3fe0000000000000 ∷ 0x3fe0000000000000 ∷ 0x3fe0000000000008 ∷ 0xbfe0000000000000 ∷
-    []))
-    (0 ∷ 1 ∷ 2 ∷ 0 ∷ 2 ∷ 3 ∷ [])
-    (EMPTY ∷ EMPTY ∷ 3 ∷ 2 ∷ EMPTY ∷ EMPTY ∷ [])
-    (0 ∷ 1 ∷ 2 ∷ 3 ∷ []))
-    (rowBox 0xbfe0000000000000 0 0x3ff0000000000000 0x4000000000000000))
-    ≡ refused (fault refusedNoCrossing 0 0 1)
-unfolding rowOf
-within = refl

@@ -13,11 +13,11 @@ use Rattle.definition.specs.declared.Fault.{Fault}
 use Rattle.definition.specs.Fault.{ok, refused}
 use Rattle.definition.specs.Build.{Built, CellState, build}
 use Rattle.definition.specs.Short.{fault}
-use Rattle.definition.specs.Tries.{centerRule, extensionRule, TryOf, TriedInVain}
-use Rattle.definition.specs.Met.{EdgeMet, FaultMet, atTriangle, atHullPlace, atRingEdge}
-use Rattle.definition.specs.FaultTheorem.{build-refused}
-use Rattle.definition.specs.ByNumber.{edge-number}
-use Rattle.definition.specs.TryTheorem.{tried-in-vain}
+use Rattle.build_laws.specs.Tries.{centerRule, extensionRule, TryOf, TriedInVain}
+use Rattle.build_laws.specs.Met.{EdgeMet, FaultMet, atTriangle, atHullPlace, atRingEdge}
+use Rattle.build_laws.specs.FaultTheorem.{build-refused}
+use Rattle.build_laws.specs.ByNumber.{edge-number}
+use Rattle.build_laws.specs.TryTheorem.{tried-in-vain}
 use Rattle.reasons.specs.declared.Reason.{Reason}
 use Rattle.reasons.specs.declared.Reason.the-variants.{AtTriangle, AtHullPlace, AtEdge}
 use Rattle.reasons.specs.Reason.{ofFault}

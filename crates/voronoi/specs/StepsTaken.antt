@@ -1,6 +1,6 @@
 -- Theorem: of every build that answers 0, the vertices that were added and the three counts of points taken again are together as many as the step that adds a point was taken:
 -- once for each hull place, and once for each point where an edge of a ring that was clipped meets the border. That number is counted along the definition, without
--- its list of steps and without the counts: Points of crate definition; the law below it: StepTheorem there.
+-- its list of steps and without the counts: Points of crate build_laws; the law below it: StepTheorem there.
 use mathlib.Core.Path.{_≡_, refl, sym, subst}
 use mathlib.Core.List.{List, [], _∷_, _++_}
 use Prim.Native.Nat.{ℕ, _+_, _-_, _/_}
@@ -11,13 +11,13 @@ use Rattle.given_box.specs.declared.Given.{Given}
 use Rattle.mesh.specs.Accepted.{Mesh}
 use Rattle.definition.specs.Cell.{extension, firstCrossing, secondCrossing}
 use Rattle.definition.specs.Build.{Extensions}
-use Rattle.definition.specs.Points.{allPoints}
 use Rattle.definition.specs.Reused.{reusedOf}
-use Rattle.definition.specs.StepTheorem.{build-taken, taken}
-use Rattle.definition.specs.Tries.{AllExtended}
-use Rattle.definition.specs.LateRefusals.{build-late}
 use Rattle.definition.specs.laws.Gives.{gives-ok}
-use Rattle.definition.specs.laws.CellCount.{CellsTallied, tallied, four-owners}
+use Rattle.build_laws.specs.Points.{allPoints}
+use Rattle.build_laws.specs.StepTheorem.{build-taken, taken}
+use Rattle.build_laws.specs.Tries.{AllExtended}
+use Rattle.build_laws.specs.LateRefusals.{build-late}
+use Rattle.build_laws.specs.laws.CellCount.{CellsTallied, tallied, four-owners}
 use Rattle.admission.specs.Slices.{Slices}
 use Rattle.admission.specs.laws.Asks.{box-answers}
 use Rattle.build_answers.specs.Success.{zero-succeeds}

@@ -1,6 +1,6 @@
 -- Theorem: on every accepted mesh the walks of all sites, each asked for with room for the whole of it, hold every triangle exactly three times in all: once in the walk of
 -- each of its three sites, and in no other. What a ring is, and the law below it: Rings and ThriceTheorem of crate mesh; that clipping is given these rings: RingsGiven of
--- crate definition.
+-- crate build_laws.
 use mathlib.Core.Path.{_≡_, ap, _∙_}
 use mathlib.Core.List.{List}
 use Prim.Native.Nat.{ℕ, _/_, _<_}

@@ -29,10 +29,10 @@ use Rattle.definition.specs.declared.Fault.{Fault}
 use Rattle.definition.specs.Fault.{Outcome, ok}
 use Rattle.definition.specs.Build.{Built, build}
 use Rattle.definition.specs.Cell.{unmarked}
-use Rattle.definition.specs.LateRefusals.{build-late}
 use Rattle.definition.specs.Measures.{Room}
 use Rattle.definition.specs.laws.Gives.{gives-ok}
-use Rattle.definition.specs.laws.Runs.{ok-same}
+use Rattle.build_laws.specs.LateRefusals.{build-late}
+use Rattle.build_laws.specs.laws.Runs.{ok-same}
 use Rattle.check_mesh.specs.AtExit.{atExit}
 use Rattle.build_answers.specs.Promise.{Builds, BuildAnswer, ClippedBuild}
 use Rattle.build_answers.specs.Success.{zero-succeeds, clipped-sound}
@@ -143,7 +143,7 @@ module _ (m : Mesh) (space : ℕ) (sized : AuditSized (length (m .sites)) (lengt
       whole : Whole n b
       whole = gives-ok (Whole n) (whole-in-box m (g .bounds)) e
 
-      -- each entry of a clipped cell is a vertex (`Room` of definition/specs/Theorems)
+      -- each entry of a clipped cell is a vertex (`room` of build_laws/specs/Theorems)
       room : Room (m .triangles) (m .hull) (g .bounds) b
       room =
           let s = clipped-sound g fits a z in

@@ -30,7 +30,7 @@ use Rattle.layout.specs.Cleared.{padded}
 use Rattle.outputs.specs.Outputs.{Rooms, ofBuilt, faultOf, BuiltInto, countsMade}
 use Rattle.build_counts.specs.Counts.{EndedBuild}
 use Rattle.build_answers.specs.Promise.{BuildAnswers}
-use Rattle.definition.specs.Late.{Refuses, Numbered}
+use Rattle.build_laws.specs.Late.{Refuses, Numbered}
 use Rattle.build_answers.specs.laws.Promise.{early, built}
 
 -- a slice cleared by a late refusal

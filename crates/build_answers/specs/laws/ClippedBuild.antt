@@ -19,7 +19,7 @@ use Rattle.definition.specs.Cell.{extension, firstCrossing, secondCrossing}
 use Rattle.definition.specs.Build.{Built, build}
 use Rattle.definition.specs.laws.Reused.{reused-le}
 use Rattle.definition.specs.laws.Gives.{Gives, gives-map}
-use Rattle.definition.specs.laws.Built as theorems
+use Rattle.build_laws.specs.laws.Built as theorems
 use Rattle.outputs.specs.Outputs.{ofBuilt, faultOf, BuiltInto, countsMade}
 use Rattle.cell_finish.specs.declared.CellsAnswer.{CellsAnswer}
 use Rattle.cell_builder.specs.AdmittedBuild.{AdmittedBuild}
@@ -31,8 +31,8 @@ use Rattle.admission.specs.Slices.{Slices, slices}
 use Rattle.admission.specs.Admission.{BuildAdmission}
 use Rattle.build_counts.specs.Counts.{countsOf, ReusedFit, EndedBuild}
 use Rattle.build_answers.specs.Promise.{BuildAnswers, ClippedBuild}
-use Rattle.definition.specs.Late.{Refuses, Numbered}
-use Rattle.definition.specs.LateRefusals.{build-late}
+use Rattle.build_laws.specs.Late.{Refuses, Numbered}
+use Rattle.build_laws.specs.LateRefusals.{build-late}
 use Rattle.build_answers.specs.laws.BuildAnswer.{answers-early, mesh-of, fit-of, rooms-of, table-is, answers-built}
 
 -- ---- the builder's answer

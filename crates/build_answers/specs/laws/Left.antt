@@ -22,7 +22,7 @@ use Rattle.definition.specs.declared.Fault.{Fault}
 use Rattle.definition.specs.Fault.{Outcome, ok}
 use Rattle.definition.specs.Build.{finite, Built}
 use Rattle.definition.specs.Cell.{Entry, vertexAt}
-use Rattle.definition.specs.laws.VerticesFinite.{Each, FinitePoint}
+use Rattle.build_laws.specs.laws.VerticesFinite.{Each, FinitePoint}
 use Rattle.layout.specs.Cleared.{padded}
 use Rattle.outputs.specs.Outputs.{ofBuilt, countsMade}
 use Rattle.definition.specs.Cell.{unmarked}

@@ -25,9 +25,9 @@ use Rattle.definition.specs.declared.Fault.{Fault}
 use Rattle.definition.specs.declared.Reused.{Reused}
 use Rattle.definition.specs.Fault.{Outcome, ok, refused, andThen}
 use Rattle.definition.specs.Build.{Built, centersFrom, ownersFrom, Extensions, extendFrom, CellState, clipAll, lostFrom, build}
-use Rattle.definition.specs.laws.Built.{owner-of, lost-entries}
 use Rattle.definition.specs.Measures.{lostLeft}
-use Rattle.definition.specs.laws.Owners.{owners-length, ready, towards-corner}
+use Rattle.build_laws.specs.laws.Built.{owner-of, lost-entries}
+use Rattle.build_laws.specs.laws.Owners.{owners-length, ready, towards-corner}
 use Rattle.rings.specs.Centers.{CentersBy}
 use Rattle.rings.specs.Ownership.{Owned}
 use Rattle.definition.specs.Cell.{unmarked}

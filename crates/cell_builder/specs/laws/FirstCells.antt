@@ -27,10 +27,10 @@ use Rattle.definition.specs.Fault.{Outcome, ok, refused}
 use Rattle.definition.specs.Build.{Extensions, extendFrom, CellState, clipAll}
 use Rattle.definition.specs.Reused.{reused}
 use Rattle.definition.specs.laws.Gives.{gives-ok}
-use Rattle.definition.specs.laws.Sides.{corners-sided, corners-kept}
-use Rattle.definition.specs.laws.Start.{Extended, extend-from}
-use Rattle.definition.specs.laws.AllCells.{no-cell, begin}
 use Rattle.definition.specs.Measures.{shareOf}
+use Rattle.build_laws.specs.laws.Sides.{corners-sided, corners-kept}
+use Rattle.build_laws.specs.laws.Start.{Extended, extend-from}
+use Rattle.build_laws.specs.laws.AllCells.{no-cell, begin}
 use Rattle.rings.specs.Centers.{Named}
 use Rattle.rings.specs.Extensions.{ExtendsInto, ExtendedBy}
 use Rattle.rings.specs.declared.extensions.Passed.{Passed}

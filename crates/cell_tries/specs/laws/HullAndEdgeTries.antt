@@ -11,8 +11,8 @@ use Rattle.numbers.specs.Numbers.{EMPTY}
 use Rattle.mesh.specs.Mesh.{endOf}
 use Rattle.mesh.specs.laws.Facts.{paired, tab-length, end-site}
 use Rattle.definition.specs.Build.{CellState, ringFrom, hullRing}
-use Rattle.definition.specs.laws.AllCells.{ring-share, hull-share}
 use Rattle.definition.specs.Measures.{shareOf}
+use Rattle.build_laws.specs.laws.AllCells.{ring-share, hull-share}
 use Rattle.staging.specs.Staging.{Staged, Stages}
 use Rattle.staging.specs.laws.Staging.{ring-room}
 use Rattle.outputs.specs.laws.Marks.{empty-still, full-already}

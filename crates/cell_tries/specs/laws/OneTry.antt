@@ -29,11 +29,11 @@ use Rattle.definition.specs.Measures.{ValidEntries}
 use Rattle.definition.specs.declared.Reused.{Reused}
 use Rattle.definition.specs.Reused.{reused, reusedIn, together, Addable}
 use Rattle.definition.specs.laws.Reused.{reused-join, together-none, counts-small}
-use Rattle.definition.specs.laws.CellsSoFar.{CellsSoFar, clip-into}
 use Rattle.definition.specs.Sides.{SidedCorners}
-use Rattle.definition.specs.laws.AllCells.{all-filled, spare}
-use Rattle.definition.specs.laws.Sides.{corners-kept}
 use Rattle.definition.specs.Measures.{shareOf}
+use Rattle.build_laws.specs.laws.CellsSoFar.{CellsSoFar, clip-into}
+use Rattle.build_laws.specs.laws.AllCells.{all-filled, spare}
+use Rattle.build_laws.specs.laws.Sides.{corners-kept}
 use Rattle.staging.specs.Staging.{Staged}
 use Rattle.clipping.specs.RingWalk.{Steps, ringOf, emptyAt}
 use Rattle.definition.specs.Cell.{unmarked}

@@ -11,7 +11,7 @@ use Rattle.mesh.specs.laws.Walks.{walk-ends}
 use Rattle.mesh.specs.laws.Occurs.{occ-there}
 use Rattle.definition.specs.Build.{ringFrom, hullRing, Extensions}
 use Rattle.definition.specs.laws.Gives.{picked}
-use Rattle.definition.specs.laws.Start.{Beyond}
+use Rattle.build_laws.specs.laws.Start.{Beyond}
 use Rattle.staging.specs.laws.Staging.{ring-room}
 
 -- of a walk

@@ -25,8 +25,8 @@ use Rattle.definition.specs.Reused.{reusedOf}
 use Rattle.build_answers.specs.Promise.{Builds, BuildAnswer, BuildAnswers, ClippedBuild}
 use Rattle.check_mesh.specs.AtExit.{atExit}
 use Rattle.admission.specs.Slices.{Slices, roomFor, roomOf}
-use Rattle.definition.specs.Late.{Refuses, Numbered}
-use Rattle.definition.specs.LateRefusals.{build-late}
+use Rattle.build_laws.specs.Late.{Refuses, Numbered}
+use Rattle.build_laws.specs.LateRefusals.{build-late}
 use Rattle.build_answers.specs.Success.{zero-succeeds}
 use Rattle.listing.specs.Listing.{countsAndCells, listing, cellLines}
 use Rattle.cells.specs.Printed.{linesOf, listingOf, listingText}

@@ -23,7 +23,7 @@ use Rattle.definition.specs.Cell.{leave, enter, crossAt, cross, inBox, vertexAt
 use Rattle.definition.specs.Short.{fault, change, moved}
 use Rattle.definition.specs.Sides.{Sided}
 use Rattle.definition.specs.laws.Gives.{Gives}
-use Rattle.definition.specs.laws.SidedEdge.{EndsOnSide, Shut}
+use Rattle.build_laws.specs.laws.SidedEdge.{EndsOnSide, Shut}
 use Rattle.clipping.specs.EdgeOutcome.{Changes}
 use Rattle.clipping.specs.RingWalk.{tipOf, Steps}
 use Rattle.clip_edges.specs.declared.Env.{Env}

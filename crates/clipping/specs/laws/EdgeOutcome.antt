@@ -23,7 +23,7 @@ use Rattle.definition.specs.Cell.{Entry, Taken, Ins, lastOr, insertEdge, Change
 use Rattle.definition.specs.declared.Reused.{Reused}
 use Rattle.definition.specs.Reused.{reused, CountsReused}
 use Rattle.definition.specs.Sides.{Sided, SidedCorners}
-use Rattle.definition.specs.laws.SidedEdge.{ClipSided, clip-sided}
+use Rattle.build_laws.specs.laws.SidedEdge.{ClipSided, clip-sided}
 use Rattle.clip_corners.specs.CellEntries.{EntryRoom, EntriesPut, places}
 use Rattle.definition.specs.Cell.{unmarked}
 use Rattle.definition.specs.Short.{link, change, tookOne, tookTwo}

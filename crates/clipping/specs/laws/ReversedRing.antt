@@ -6,7 +6,7 @@ use native.Mathlib.Omega.{arith}
 use lib.ListN.{length, getD, take, drop, length-append, length-drop, length-reverse, List·getD-append}
 use lib.Seq.{length-take-le, getD-take, getD-drop, getD-append-add}
 use Rattle.definition.specs.Cell.{turned}
-use Rattle.definition.specs.laws.Reverse.{getD-reverse}
+use Rattle.build_laws.specs.laws.Reverse.{getD-reverse}
 
 module _ (f : ℕ) (ring : List ℕ) (h : f ≤ length ring) where
   front-length : length (reverse (take f ring)) ≡ f

@@ -1,4 +1,4 @@
--- Reused points of two lists of steps, one after the other, and that there are no more of them than steps.
+-- Reused points of two lists of steps, one after the other; that there are no more of them than steps, and with the new points as many.
 use mathlib.Core.Path.{_≡_, refl}
 use mathlib.Core.Bool.{Bool, true, false}
 use mathlib.Core.List.{List, [], _∷_, _++_}
@@ -9,6 +9,7 @@ use lib.ListN.{length, length-append}
 use Rattle.definition.specs.Cell.{StepKind, extension, firstCrossing, secondCrossing, Taken}
 use Rattle.definition.specs.declared.Reused.{Reused}
 use Rattle.definition.specs.Reused.{isKind, ifOld, reusedOf, reused, reusedIn, together, Addable, CountsReused}
+use Rattle.definition.specs.Measures.{countIf, newPoints}
 
 pub reused-append : (k : StepKind) (ts us : List Taken) → reusedOf k (ts ++ us) ≡ reusedOf k ts + reusedOf k us
 reused-append k [] us = omega arith
@@ -51,3 +52,18 @@ counts-then {m} {n} {ts} {us} {a} {b} h g = record { is = rw (h .is, g .is, reus
 pub counts-small : {m : ℕ} {ts : List Taken} {a : Reused} → CountsReused m ts a → m ≤ 2 ^ 33 → Addable a
 counts-small {m} {ts} {a} h l =
     rw (h .is) (omega (arith, h .few, reused-le extension ts), omega (arith, h .few, reused-le firstCrossing ts), omega (arith, h .few, reused-le secondCrossing ts))
+
+-- ---- added and reused points are all the steps
+
+one-kind : (k : StepKind) → isKind extension k + isKind firstCrossing k + isKind secondCrossing k ≡ 1
+one-kind extension = refl
+one-kind firstCrossing = refl
+one-kind secondCrossing = refl
+
+each-step : (b : Bool) (k : StepKind) → countIf b + (ifOld b (isKind extension k) + ifOld b (isKind firstCrossing k) + ifOld b (isKind secondCrossing k)) ≡ 1
+each-step true k = omega arith
+each-step false k = omega (arith, one-kind k)
+
+pub taken-list : (ts : List Taken) → newPoints ts + (reusedOf extension ts + reusedOf firstCrossing ts + reusedOf secondCrossing ts) ≡ length ts
+taken-list [] = refl
+taken-list (t ∷ ts) = omega (arith, each-step (t .fresh) (t .kind), taken-list ts)

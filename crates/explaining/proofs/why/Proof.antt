@@ -5,8 +5,8 @@ use native.Mathlib.Omega.{arith}
 use denote.Ref.{now}
 use borrow.Author.Needs.{needs}
 use Rattle.mesh.specs.Accepted.{siteCount}
-use Rattle.definition.specs.laws.CellCount.{cell-count}
-use Rattle.definition.specs.LateRefusals.{build-late}
+use Rattle.build_laws.specs.laws.CellCount.{cell-count}
+use Rattle.build_laws.specs.LateRefusals.{build-late}
 use Rattle.reasons.specs.declared.ReasonNumbers.{ReasonNumbers}
 use Rattle.explaining.specs.laws.Asked.{own-in-box, asked-keep, question-below}
 use Rattle.explaining.specs.laws.Why.{why-refused, why-settled, settled-work, settled-offsets, settled-asks, settled-below, why-answered}

@@ -32,7 +32,7 @@ use Rattle.admission.specs.Admission.{BuildAdmission}
 use Rattle.admission.specs.laws.Admits.{asked-answers, admitted, admits-rules}
 use Rattle.admission.specs.laws.BuildRoom.{granted}
 use Rattle.build_answers.specs.Promise.{BuildAnswer, BuildAnswers}
-use Rattle.definition.specs.Late.{Refuses, Numbered}
+use Rattle.build_laws.specs.Late.{Refuses, Numbered}
 use Rattle.build_answers.specs.laws.BuildAnswer.{mesh-of, fit-of}
 use Rattle.build_answers.specs.laws.Left.{left-work, left-indexes, left-offsets}
 use Rattle.reasons.specs.declared.Question.{Question}

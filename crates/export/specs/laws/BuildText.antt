@@ -33,8 +33,8 @@ use Rattle.definition.specs.Cell.{unmarked}
 use Rattle.build_answers.specs.Promise.{Builds, BuildAnswer, BuildAnswers, ClippedBuild}
 use Rattle.check_mesh.specs.AtExit.{atExit}
 use Rattle.admission.specs.Slices.{Slices, roomFor, roomOf}
-use Rattle.definition.specs.Late.{Refuses, Numbered}
-use Rattle.definition.specs.LateRefusals.{build-late}
+use Rattle.build_laws.specs.Late.{Refuses, Numbered}
+use Rattle.build_laws.specs.LateRefusals.{build-late}
 use Rattle.build_answers.specs.Success.{zero-succeeds, clipped-sound}
 use Rattle.export.specs.Printed.{exported}
 use Rattle.export.specs.Shown.{MapSized, CanDraw, lines}
@@ -125,7 +125,7 @@ module _ (m : Mesh) (space : ℕ) (sized : MapSized (length (m .sites)) (length 
     abbrev whole-in : Gives (Whole (siteCount (m .sites))) (build m (g .bounds))
     whole-in = whole-in-box m (g .bounds)
 
-    -- each entry of a clipped cell is a vertex (`Room` of definition/specs/Theorems)
+    -- each entry of a clipped cell is a vertex (`room` of build_laws/specs/Theorems)
     can-in : (b : Built) → build m (g .bounds) ≡ ok b → r ≡ 0 → Drawable b
     can-in b e z =
         let s = clipped-sound g fits a z in

@@ -18,7 +18,7 @@ use Rattle.outputs.specs.Outputs.{faultOf}
 use Rattle.build_answers.specs.Promise.{Builds}
 use Rattle.build_answers.specs.laws.Promise.{builds-cases}
 use Rattle.admission.specs.Slices.{Slices}
-use Rattle.definition.specs.Late.{Refuses, Numbered}
+use Rattle.build_laws.specs.Late.{Refuses, Numbered}
 use Rattle.printing.specs.Printed.{Shows, shown}
 use Rattle.printing.specs.Printed as printed
 

@@ -9,7 +9,7 @@ use Rattle.mesh.specs.Mesh.{leftmostOf, endOf}
 use Rattle.mesh.specs.Accepted.{Mesh, siteCount}
 use Rattle.definition.specs.laws.Gives.{Gives, gives-then, gives-next, picked}
 use Rattle.definition.specs.Build.{Built, CellState, Extensions, clipInto, isEmpty, clipHull, clipRest, clipAll, build}
-use Rattle.definition.specs.laws.Owners.{owners-length}
+use Rattle.build_laws.specs.laws.Owners.{owners-length}
 
 pub record Whole (n : ℕ) (b : Built) : Type 0 where
   pub cells : length (b .cells) ≡ n

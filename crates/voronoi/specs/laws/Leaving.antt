@@ -13,13 +13,13 @@ use Rattle.definition.specs.declared.Fault.{Fault}
 use Rattle.definition.specs.Fault.{Outcome, ok}
 use Rattle.definition.specs.Build.{Built, build}
 use Rattle.definition.specs.laws.Gives.{gives-ok}
-use Rattle.definition.specs.laws.VerticesFinite.{Each, FinitePoint, vertices-finite}
-use Rattle.definition.specs.laws.CellCount.{cell-count}
-use Rattle.definition.specs.laws.EmptyCell.{empty-cell}
 use Rattle.definition.specs.Cell.{unmarked}
+use Rattle.build_laws.specs.laws.VerticesFinite.{Each, FinitePoint, vertices-finite}
+use Rattle.build_laws.specs.laws.CellCount.{cell-count}
+use Rattle.build_laws.specs.laws.EmptyCell.{empty-cell}
 use Rattle.build_answers.specs.Promise.{BuildAnswer}
 use Rattle.admission.specs.Slices.{Slices}
-use Rattle.definition.specs.LateRefusals.{build-late}
+use Rattle.build_laws.specs.LateRefusals.{build-late}
 use Rattle.admission.specs.laws.Asks.{box-answers}
 use Rattle.build_answers.specs.Success.{zero-succeeds, succeeds-zero}
 use Rattle.build_answers.specs.laws.Left.{left-work, left-vertices, left-indexes, left-offsets, left-counts, slice-finite, read-part, read-place}

@@ -13,12 +13,12 @@ use Rattle.bounding_box.specs.Finite.{BoundedBox}
 use Rattle.definition.specs.Fault.{ok}
 use Rattle.definition.specs.Build.{ownersFrom, Built, build}
 use Rattle.definition.specs.laws.Gives.{gives-ok}
-use Rattle.definition.specs.Wrapping.{Wrapping}
-use Rattle.definition.specs.laws.CellCount.{cell-count, CellsTallied, tallied, four-owners}
-use Rattle.definition.specs.laws.CornersAt.{Cornered, cornered}
-use Rattle.definition.specs.laws.OwnerPaths.{owner-path}
+use Rattle.build_laws.specs.Wrapping.{Wrapping}
+use Rattle.build_laws.specs.laws.CellCount.{cell-count, CellsTallied, tallied, four-owners}
+use Rattle.build_laws.specs.laws.CornersAt.{Cornered, cornered}
+use Rattle.build_laws.specs.laws.OwnerPaths.{owner-path}
 use Rattle.admission.specs.Slices.{Slices}
-use Rattle.definition.specs.LateRefusals.{build-late}
+use Rattle.build_laws.specs.LateRefusals.{build-late}
 use Rattle.admission.specs.laws.Asks.{box-answers}
 use Rattle.build_answers.specs.Success.{zero-succeeds, clipped-sound}
 use Rattle.build_answers.specs.laws.Left.{left-vertices, left-indexes, left-offsets, left-counts, slice-point, count-owner, count-before, count-lost}

@@ -7,7 +7,7 @@ use native.Mathlib.Omega.{arith}
 use denote.Ref.{now}
 use Rattle.utils.specs.Flat.{points}
 use Rattle.definition.specs.Cell.{inBox}
-use Rattle.definition.specs.laws.Inside.{none-inside}
+use Rattle.build_laws.specs.laws.Inside.{none-inside}
 use Rattle.clipping.specs.RingWalk.{ringOf}
 use Rattle.clipping.specs.laws.RingWalk.{length-ring, getD-ring, cell-inside, cell-outside}
 use borrow.Author.Needs.{needs}

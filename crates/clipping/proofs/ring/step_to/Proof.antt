@@ -6,7 +6,7 @@ use Rattle.utils.specs.Flat.{points}
 use Rattle.definition.specs.Cell.{clipStep}
 use Rattle.clipping.specs.laws.EdgeCases.{step-refused, step-done, changes-low, changes-out, clip-out, changes-ends, changes-shut}
 use Rattle.vertices.specs.laws.Points.{length-points}
-use Rattle.definition.specs.laws.SidedEdge.{step-ends, step-shuts}
+use Rattle.build_laws.specs.laws.SidedEdge.{step-ends, step-shuts}
 use borrow.Author.Needs.{needs}
 use Rattle.clipping.proofs.ring.step_to.Statement.{statement}
 use Rattle.clipping.proofs.ring.step_to.Tie as tie

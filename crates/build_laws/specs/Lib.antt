@@ -1,0 +1,19 @@
+-- The root of the crate's laws and theorems.
+pub mod RowsBuilt
+pub mod RowsRefused
+pub mod Wrapping
+pub mod Late
+pub mod LateRefusals
+pub mod Theorems
+pub mod Reached
+pub mod Tries
+pub mod Points
+pub mod Met
+pub mod FaultTheorem
+pub mod ShortEdge
+pub mod ByNumber
+pub mod TryTheorem
+pub mod StepTheorem
+pub mod NoSide
+pub mod RingsGiven
+pub mod laws
