@@ -1,6 +1,6 @@
 // The neighbours of all sites at once: the mesh is checked once, then each site's list is written behind the one before it.
 use admission::admit;
-use admission::cells_ok;
+use asking::cells_ok;
 use layout::fill_from;
 use mesh::Walked;
 use mesh::clear;

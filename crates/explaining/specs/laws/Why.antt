@@ -24,7 +24,7 @@ use Rattle.definition.specs.Cell.{unmarked}
 use Rattle.layout.specs.Regions.{joined, offsetsFrom}
 use Rattle.layout.specs.Outputs.{padded, faultOf}
 use Rattle.shared.specs.Cells.{cellOf}
-use Rattle.admission.specs.Asks.{Asked}
+use Rattle.asking.specs.Asks.{Asked}
 use Rattle.admission.specs.Admits.{askedRules}
 use Rattle.admission.specs.Slices.{Slices, roomOf}
 use Rattle.admission.specs.Admission.{BuildAdmission}
