@@ -1,4 +1,3 @@
-pub mod Asks
 pub mod Admits
 pub mod Slices
 pub mod Admission

@@ -1,7 +1,6 @@
 -- Laws that only proofs use.
 pub mod Admits
 pub mod Early
-pub mod Asks
 pub mod Lists
 pub mod LeftmostTable
 pub mod BuildRoom

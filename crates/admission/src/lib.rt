@@ -1,41 +1,15 @@
-// The rules up to 10 that a call tries on what it is lent: 1 and 2 on counts and room, 3 to 5 on its own arguments, 6 on coordinates, 7 to 10 on the mesh; and 16 on cells.
+// The rules up to 10 that a call tries on what it is lent: 1 and 2 on counts and room, 3 to 5 by the number that its own arguments gave, 6 on coordinates, 7 to 10 on the mesh.
 use outputs::clear_all;
 use outputs::rooms_ok;
-use utils::Point;
 ghost use mathlib.Core.Path.{_≡_};
 ghost use mathlib.Core.Bool.{true};
-ghost use Prim.Native.Nat.{_-_, _/_, _<_, _≤_};
+ghost use Prim.Native.Nat.{_/_, _<_, _≤_};
 ghost use lib.ListN.{length};
-ghost use Rattle.laws.specs.Decide.{Says};
 ghost use Rattle.numbers.specs.Numbers.{refusedTriangle};
 ghost use Rattle.mesh.specs.Accepted.{mesh};
-ghost use Rattle.admission.specs.Asks.{siteRules, pathRules, Asked, boxRules, CellsOf};
 ghost use Rattle.admission.specs.Admits.{Early};
 ghost use Rattle.admission.specs.Slices.{slices};
 ghost use Rattle.admission.specs.Admission.{Admission, ListAdmission, RoomAnswer, BuildAdmission};
-
-// Rule 4.
-pub fn ask_site(sites: usize, site: u32) -> u32
-    ensures { λ r. ⌜ Asked (siteRules sites site) r ⌝ }
-{
-    if numbers::wide(site) < sites {
-        return 0;
-    }
-    numbers::REFUSED_SITE
-}
-
-// Rules 4 and 5.
-pub fn ask_path(sites: usize, site: u32, p: Point) -> u32
-    ensures { λ r. ⌜ Asked (pathRules sites site p) r ⌝ }
-{
-    if sites <= numbers::wide(site) {
-        return numbers::REFUSED_SITE;
-    }
-    if utils::site_ok(p) {
-        return 0;
-    }
-    numbers::REFUSED_DESTINATION
-}
 
 // Rules 1, 2, what the call asks of its own arguments, and 6; 0 where all hold.
 fn early(
@@ -119,29 +93,6 @@ pub fn admit_list(
     number
 }
 
-// Rule 16.
-pub fn cells_ok(offsets: &[u32], indexes: &[u32], sites: usize) -> bool
-    ensures { λ r. ⌜ Says r (CellsOf (now (offsets .entry)) (now (indexes .entry)) sites) ⌝ }
-{
-    if offsets.len() == 0 {
-        return false;
-    }
-    if offsets.len() - 1 != sites {
-        return false;
-    }
-    shared::check_cells(offsets, indexes.len())
-}
-
-// The sites that so many offsets have cells for.
-pub fn cell_count(offsets: usize) -> usize
-    ensures { λ r. ⌜ r ≡ offsets - 1 ⌝ }
-{
-    if offsets == 0 {
-        return 0;
-    }
-    offsets - 1
-}
-
 // Rule 2 on all that a build is lent, by the lengths of its slices; no where rule 1 is broken.
 fn room_for(
     coordinates: usize,
@@ -167,16 +118,6 @@ fn room_for(
         return false;
     }
     rooms_ok(entries / 3, hull, sites, numbers, indexes, offsets)
-}
-
-// Rule 3, by whether the given box keeps it.
-pub fn ask_box(sound: bool) -> u32
-    ensures { λ r. ⌜ Asked (boxRules sound) r ⌝ }
-{
-    if sound {
-        return 0;
-    }
-    numbers::REFUSED_BOX
 }
 
 // The rules up to 10. After 7 to 10 every lent slice is cleared.

@@ -14,7 +14,7 @@ use Rattle.numbers.specs.Numbers.{refusedCount, refusedEntry, refusedRoom, refu
 use Rattle.utils.specs.Flat.{pointAt}
 use Rattle.centers.specs.Circumcenter.{okCenter}
 use Rattle.shared.specs.Cells.{cellOf}
-use Rattle.admission.specs.Asks.{cellRules}
+use Rattle.asking.specs.Asks.{cellRules}
 use Rattle.entries.specs.Named.{EntriesNamed}
 use Rattle.ring_area.specs.Area.{ringArea}
 

@@ -1,6 +1,6 @@
 // The area of each cell on lent slices: the rules in their order, then each ring's area.
-use admission::cell_count;
-use admission::cells_ok;
+use asking::cell_count;
+use asking::cells_ok;
 use ring_rounding::ring_area;
 ghost use mathlib.Core.Path.{_≡_};
 ghost use Prim.Native.Nat.{_/_};

@@ -1,5 +1,5 @@
 // Whether each corner of each piece is in the box.
-use admission::cell_count;
+use asking::cell_count;
 use bounding_box::BoundingBox;
 ghost use mathlib.Core.Path.{_≡_};
 ghost use mathlib.Core.Bool.{not};

@@ -6,7 +6,7 @@ use mathlib.Core.Logic.{_⊎_}
 use Prim.Native.Nat.{ℕ, _/_, _<_}
 use lib.Ieee.{Float}
 use lib.ListN.{length}
-use Rattle.admission.specs.Asks.{CellsOf}
+use Rattle.asking.specs.Asks.{CellsOf}
 use Rattle.entries.specs.Named.{EntriesNamed}
 use Rattle.areas.specs.Promise.{entriesOfAll}
 use Rattle.audit_nearer.specs.Nearer.{noLists}

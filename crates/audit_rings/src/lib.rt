@@ -1,5 +1,5 @@
 // Whether each ring runs once round, the right way: no triangle of its fan is taken off by more than the limit.
-use admission::cell_count;
+use asking::cell_count;
 use long_limits::less;
 use long_limits::settled_over;
 use ring_area::LIMBS;

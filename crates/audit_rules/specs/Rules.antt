@@ -10,7 +10,7 @@ use lib.ListN.{length}
 use Rattle.laws.specs.Refusals.{Rule, once, each, Finds}
 use Rattle.numbers.specs.Numbers.{refusedCount, refusedBox, refusedCoordinate, refusedOffsets, refusedEntry, refusedCorner}
 use Rattle.utils.specs.Sites.{KeptAt}
-use Rattle.admission.specs.Asks.{CellsOf, cellRules}
+use Rattle.asking.specs.Asks.{CellsOf, cellRules}
 use Rattle.entries.specs.Named.{EntriesNamed}
 use Rattle.areas.specs.Promise.{entriesOfAll, KeepsRule}
 use Rattle.audit_nearer.specs.Nearer.{noLists}

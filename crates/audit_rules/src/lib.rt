@@ -1,5 +1,5 @@
 // What an audit asks of its arguments: 1, 3, 6, 16 on both lists of offsets, 18 on both lists of entries, 24.
-use admission::cells_ok;
+use asking::cells_ok;
 use audit_nearer::no_lists;
 ghost use mathlib.Core.Path.{_≡_};
 ghost use mathlib.Core.Bool.{true};

@@ -1,5 +1,5 @@
 // The areas of all pieces against the box's: their exact sum, the share that is missing, and whether it is within the limit.
-use admission::cell_count;
+use asking::cell_count;
 use audit_limit::box_area;
 use audit_limit::box_sums;
 use bounding_box::BoundingBox;

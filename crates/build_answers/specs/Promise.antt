@@ -19,7 +19,7 @@ use Rattle.definition.specs.Build.{Built, build}
 use Rattle.layout.specs.Regions.{joined, offsetsFrom}
 use Rattle.layout.specs.Cleared.{padded}
 use Rattle.outputs.specs.Outputs.{ofBuilt, faultOf, countsMade}
-use Rattle.admission.specs.Asks.{boxRules}
+use Rattle.asking.specs.Asks.{boxRules}
 use Rattle.admission.specs.Admits.{askedRules}
 use Rattle.admission.specs.Slices.{Slices, roomOf}
 

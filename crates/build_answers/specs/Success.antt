@@ -11,8 +11,8 @@ use Rattle.given_box.specs.declared.Given.{Given}
 use Rattle.mesh.specs.Accepted.{Mesh}
 use Rattle.admission.specs.Admits.{Admitted}
 use Rattle.admission.specs.Slices.{Slices, roomOf}
-use Rattle.admission.specs.laws.Admits.{NoneZero, admitted, admits}
-use Rattle.admission.specs.laws.Asks.{box-answers}
+use Rattle.asking.specs.laws.Asks.{NoneZero, box-answers}
+use Rattle.admission.specs.laws.Admits.{admitted, admits}
 use Rattle.definition.specs.declared.Fault.{Fault}
 use Rattle.definition.specs.Fault.{Outcome, ok, refused}
 use Rattle.definition.specs.Build.{Built, build}

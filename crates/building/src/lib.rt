@@ -26,7 +26,7 @@ pub fn build(
         (slices (now (work .entry)) (now (vertices .entry)) (now (indexes .entry)) (now (offsets .entry)) (now (counts .entry)))
         (slices (now (work .exit)) (now (vertices .exit)) (now (indexes .exit)) (now (offsets .exit)) (now (counts .exit))) r ⌝ }
 {
-    let asked = admission::ask_box(given.sound);
+    let asked = asking::ask_box(given.sound);
     let r = admit_build(
         sites,
         triangles,

@@ -7,7 +7,7 @@ ghost use Prim.Native.Nat.{_/_};
 ghost use lib.ListN.{length};
 ghost use lib.Seq.{sets};
 ghost use Rattle.mesh.specs.Accepted.{mesh};
-ghost use Rattle.admission.specs.Asks.{Asked};
+ghost use Rattle.asking.specs.Asks.{Asked};
 ghost use Rattle.bulk_ends.specs.Ends.{endFrom, endsUpTo};
 ghost use Rattle.bulk_ends.specs.Promise.{endsRoom, endRules, EndsAnswer};
 ghost use Rattle.bulk_ends.specs.Steps.{Reachable, EndsAdmission};

@@ -14,7 +14,7 @@ use Rattle.check_mesh.specs.AtExit.{atExit}
 use Rattle.check_mesh.specs.Answers.{workAfter}
 use Rattle.layout.specs.Regions.{joined, offsetsFrom}
 use Rattle.layout.specs.Cleared.{padded}
-use Rattle.admission.specs.Asks.{CellsOf}
+use Rattle.asking.specs.Asks.{CellsOf}
 use Rattle.neighbour_lists.specs.Lists.{nothingLent, allNeighbours}
 
 -- rule 2, by numbers: of n sites, `entries` triangle entries and h hull sites, in slices of so many entries

@@ -1,6 +1,6 @@
 // The neighbours of all sites at once: the mesh is checked once, then the lists are made.
 use admission::admit;
-use admission::cells_ok;
+use asking::cells_ok;
 use mesh::clear;
 use neighbour_lists::make_lists;
 use neighbour_lists::nothing_lent;

@@ -7,7 +7,7 @@ use lib.ListN.{length, getD}
 use Rattle.laws.specs.Pick.{pick}
 use Rattle.shared.specs.Cells.{cellOf}
 use Rattle.laws.specs.Refusals.{Finds}
-use Rattle.admission.specs.Asks.{siteRules, cellRules}
+use Rattle.asking.specs.Asks.{siteRules, cellRules}
 
 -- 4, then 16; there is a site less than offets, at least none
 pub record CellNumber (off ix : List ℕ) (s r : ℕ) : Type 0 where

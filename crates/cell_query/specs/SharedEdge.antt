@@ -9,7 +9,7 @@ use Rattle.laws.specs.Pick.{pick}
 use Rattle.laws.specs.Refusals.{once, Finds}
 use Rattle.numbers.specs.Numbers.{refusedSite}
 use Rattle.shared.specs.Cells.{shareEdgeOf}
-use Rattle.admission.specs.Asks.{cellRules}
+use Rattle.asking.specs.Asks.{cellRules}
 use Rattle.cell_query.specs.declared.Told.{Told}
 
 abbrev pub toldOf : ℕ → Bool → Told

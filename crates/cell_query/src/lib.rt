@@ -1,8 +1,8 @@
 // The queries on lent cells, each the part of the index list between two offsets: one cell, and whether two cells share an edge.
 // There is a site less than offsets; 4, then 16.
-use admission::ask_site;
-use admission::cell_count;
-use admission::cells_ok;
+use asking::ask_site;
+use asking::cell_count;
+use asking::cells_ok;
 ghost use mathlib.Core.Path.{_≡_};
 ghost use mathlib.Core.Bool.{false};
 ghost use Rattle.cell_query.specs.Cells.{CellNumber, CellAnswer, PlaceAnswer};

@@ -18,7 +18,7 @@ use Rattle.admission.specs.laws.Admits.{admits}
 use Rattle.definition.specs.declared.Fault.{Fault}
 use Rattle.definition.specs.Fault.{Outcome, ok, refused}
 use Rattle.definition.specs.Build.{Built}
-use Rattle.admission.specs.laws.Asks.{box-answers}
+use Rattle.asking.specs.laws.Asks.{box-answers}
 use Rattle.admission.specs.Slices.{Slices, roomOf}
 use Rattle.build_answers.specs.Success.{Value, succeeds-zero}
 use Rattle.build_answers.specs.Promise.{ClippedBuild}

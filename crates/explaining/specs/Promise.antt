@@ -10,7 +10,7 @@ use Rattle.mesh.specs.Accepted.{Mesh, tableOf, siteCount}
 use Rattle.definition.specs.declared.Fault.{Fault}
 use Rattle.definition.specs.Fault.{Outcome}
 use Rattle.definition.specs.Build.{Built, build}
-use Rattle.admission.specs.Asks.{boxRules}
+use Rattle.asking.specs.Asks.{boxRules}
 use Rattle.admission.specs.Slices.{Slices, roomOf}
 use Rattle.build_answers.specs.Promise.{BuildAnswer}
 use Rattle.reasons.specs.declared.Question.{Question}

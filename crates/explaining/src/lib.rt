@@ -17,7 +17,7 @@ ghost use Rattle.numbers.specs.Numbers.{refusedTriangle};
 ghost use Rattle.given_box.specs.Finite.{Fits};
 ghost use Rattle.mesh.specs.Accepted.{mesh};
 ghost use Rattle.definition.specs.Build.{build};
-ghost use Rattle.admission.specs.Asks.{boxRules, Asked};
+ghost use Rattle.asking.specs.Asks.{boxRules, Asked};
 ghost use Rattle.admission.specs.Slices.{slices};
 ghost use Rattle.reasons.specs.Rules.{questionRules};
 ghost use Rattle.explaining.specs.Promise.{ClippedWhy};
@@ -29,13 +29,13 @@ fn ask_question(sites: usize, q: Question) -> u32
 {
     match q {
         Question::Nothing => 0,
-        Question::About(s) => admission::ask_site(sites, s),
+        Question::About(s) => asking::ask_site(sites, s),
         Question::Between(s, t) => {
-            let r = admission::ask_site(sites, s);
+            let r = asking::ask_site(sites, s);
             if r != 0 {
                 return r;
             }
-            admission::ask_site(sites, t)
+            asking::ask_site(sites, t)
         }
     }
 }
@@ -44,7 +44,7 @@ fn ask_question(sites: usize, q: Question) -> u32
 fn ask_in_box(sound: bool, sites: usize, q: Question) -> u32
     ensures { λ r. ⌜ Asked (boxRules sound ++ questionRules sites q) r ⌝ }
 {
-    let r = admission::ask_box(sound);
+    let r = asking::ask_box(sound);
     if r != 0 {
         return r;
     }

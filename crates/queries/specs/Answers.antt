@@ -18,7 +18,7 @@ use Rattle.utils.specs.declared.Point.{Point}
 use Rattle.iterator.specs.Neighbours.{neighboursOf}
 use Rattle.clipped_iterator.specs.Clipped.{clippedNeighboursOf}
 use Rattle.paths.specs.Path.{wholePath}
-use Rattle.admission.specs.Asks.{siteRules, pathRules, cellRules}
+use Rattle.asking.specs.Asks.{siteRules, pathRules, cellRules}
 use Rattle.queries.specs.declared.Listed.{Listed}
 use Rattle.queries.specs.declared.Found.{Found}
 

@@ -1,6 +1,6 @@
 // The queries on a lent mesh, each with its refusals and every lent slice at exit.
 use admission::admit_list;
-use admission::ask_site;
+use asking::ask_site;
 use mesh::Walked;
 use utils::Point;
 ghost use mathlib.Core.Path.{_≡_};
@@ -97,7 +97,7 @@ pub fn path(
         (now (work .exit)) (now (out .entry)) (now (out .exit)) r ⌝ }
 {
     let count = sites.len() / 2;
-    let asked = admission::ask_path(count, site, p);
+    let asked = asking::ask_path(count, site, p);
     let r = admit_list(sites, triangles, halfedges, hull, asked, work, out);
     if r != 0 {
         return refused(r);
@@ -126,7 +126,7 @@ pub fn clipped_neighbours(
     if r != 0 {
         return refused(r);
     }
-    if !admission::cells_ok(offsets, indexes, count) {
+    if !asking::cells_ok(offsets, indexes, count) {
         mesh::clear(work);
         return refused(numbers::REFUSED_OFFSETS);
     }

@@ -29,7 +29,7 @@ use Rattle.paths.specs.Path.{distOf}
 use Rattle.paths.specs.PathRule.{usedOf}
 use Rattle.paths.specs.Path.{wholePath}
 use Rattle.definition.specs.Build.{build}
-use Rattle.admission.specs.Asks.{CellsOf}
+use Rattle.asking.specs.Asks.{CellsOf}
 use Rattle.admission.specs.Slices.{Slices}
 use Rattle.mend_slices.specs.Lent.{Lent}
 use Rattle.voronoi.specs.Mends.{Mend}

@@ -19,7 +19,7 @@ use Rattle.build_laws.specs.Tries.{AllExtended}
 use Rattle.build_laws.specs.LateRefusals.{build-late}
 use Rattle.build_laws.specs.laws.CellCount.{CellsTallied, tallied, four-owners}
 use Rattle.admission.specs.Slices.{Slices}
-use Rattle.admission.specs.laws.Asks.{box-answers}
+use Rattle.asking.specs.laws.Asks.{box-answers}
 use Rattle.build_answers.specs.Success.{zero-succeeds}
 use Rattle.build_answers.specs.laws.Left.{left-counts}
 use Rattle.voronoi.specs.Builds.{Build}

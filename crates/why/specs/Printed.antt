@@ -9,7 +9,7 @@ use Rattle.given_box.specs.Given.{bySize, byEdges}
 use Rattle.given_box.specs.declared.Given.{Given}
 use Rattle.mesh.specs.Accepted.{Mesh, siteCount}
 use Rattle.definition.specs.Build.{build}
-use Rattle.admission.specs.Asks.{boxRules}
+use Rattle.asking.specs.Asks.{boxRules}
 use Rattle.reasons.specs.declared.Question.{Question}
 use Rattle.reasons.specs.declared.Reason.{Reason}
 use Rattle.reasons.specs.declared.Reason.the-variants.{Number}

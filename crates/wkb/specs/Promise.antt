@@ -10,7 +10,7 @@ use Rattle.laws.specs.Pick.{pick}
 use Rattle.laws.specs.Refusals.{Rule, once, Finds}
 use Rattle.numbers.specs.Numbers.{refusedCount, refusedEntry, refusedRoom}
 use Rattle.shared.specs.Cells.{cellOf}
-use Rattle.admission.specs.Asks.{siteRules, cellRules}
+use Rattle.asking.specs.Asks.{siteRules, cellRules}
 use Rattle.entries.specs.Named.{EntriesNamed}
 use Rattle.octets.specs.Wrote.{Wrote}
 use Rattle.wkb.specs.Polygon.{patternsOf, patterns, polygon, size}

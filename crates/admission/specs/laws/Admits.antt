@@ -8,13 +8,14 @@ use native.Mathlib.Omega.{arith}
 use lib.ListN.{length}
 use borrow.Author.Needs.{needs}
 use Rattle.laws.specs.Refusals.{Rule, once, each, reads, Keep, Finds}
-use Rattle.laws.specs.laws.Refusals.{Answers, finds-one, finds-none, finds-keep, finds-answers, finds-instead, finds-own, keeps, breaks}
+use Rattle.laws.specs.laws.Refusals.{finds-one, finds-none, finds-keep, finds-answers, finds-instead, finds-own, keeps, breaks}
 use Rattle.laws.specs.laws.Decide.{eq-or-ne}
 use Rattle.numbers.specs.Numbers.{refusedCount, refusedRoom, refusedTriangle, refusedFan}
 use Rattle.mesh.specs.Faults.{numberOf, coordinateRules, topologyRules}
 use Rattle.mesh.specs.Rules.{callRules}
 use Rattle.mesh.specs.Accepted.{Mesh, Counted, siteCount}
 use Rattle.mesh.specs.laws.Verdicts.{accepted-keep, keep-accepted}
+use Rattle.asking.specs.laws.Asks.{NoneZero}
 use Rattle.admission.specs.Admits.{askedRules, Admits, Admitted}
 
 pub finds-asked : (asked : ℕ) → Finds (askedRules asked) 0 asked
@@ -26,10 +27,6 @@ asked-finds asked x = finds-one x (finds-asked asked)
 -- the rules on the mesh itself
 abbrev late : Mesh → List (Rule ℕ)
 late m = reads numberOf (coordinateRules (m .sites) ++ topologyRules (m .triangles) (m .halfedges) (m .hull) (siteCount (m .sites)))
-
--- no rule answers 0
-abbrev pub NoneZero : List (Rule ℕ) → Type 0
-NoneZero = Answers (λ r. r ≡ 0 → ⊥)
 
 pub asked-answers : (asked : ℕ) → NoneZero (askedRules asked)
 asked-answers asked = (λ n. n, tt)

@@ -10,7 +10,7 @@ use borrow.Author.Tests.{ne-eqb}
 use Rattle.laws.specs.Refusals.{once}
 use Rattle.laws.specs.laws.Refusals.{breaks, keeps, nothing, finds-first, finds-after, finds-keep}
 use Rattle.numbers.specs.Numbers.{refusedCount, refusedEntry, refusedOffsets, refusedRoom, refusedCorner}
-use Rattle.admission.specs.Asks.{CellsOf}
+use Rattle.asking.specs.Asks.{CellsOf}
 use Rattle.entries.specs.Named.{EntriesNamed}
 use Rattle.areas.specs.Promise.{entriesOfAll, KeepsRule, cornerRules, areasAfter, EntriesNumber, AreasNumber, AreasAnswer}
 use Rattle.areas.specs.Steps.{RingsKept, WrittenAreas}

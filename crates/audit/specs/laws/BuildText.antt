@@ -19,9 +19,9 @@ use Rattle.given_box.specs.Finite.{Fits}
 use Rattle.given_box.specs.declared.Given.{Given}
 use Rattle.mesh.specs.Accepted.{Mesh, Accepted, siteCount}
 use Rattle.mesh.specs.laws.Facts.{entry-site}
-use Rattle.admission.specs.Asks.{boxRules}
+use Rattle.asking.specs.Asks.{boxRules}
 use Rattle.admission.specs.Slices.{Slices, roomFor, roomOf}
-use Rattle.admission.specs.laws.Asks.{box-answers}
+use Rattle.asking.specs.laws.Asks.{box-answers}
 use Rattle.layout.specs.Regions.{joined, offsetsFrom}
 use Rattle.layout.specs.laws.Compacted.{offsets-length}
 use Rattle.outputs.specs.Outputs.{ofBuilt, countsMade}

@@ -14,7 +14,7 @@ use Rattle.definition.specs.Measures.{ValidEntry, ValidEntries}
 use Rattle.layout.specs.Regions.{joined, offsetsFrom}
 use Rattle.layout.specs.laws.Compacted.{offsets-length}
 use Rattle.printing.specs.laws.CellsInIndexes.{offset-at, next-at}
-use Rattle.admission.specs.Asks.{CellsOf}
+use Rattle.asking.specs.Asks.{CellsOf}
 use Rattle.entries.specs.Named.{EntriesNamed}
 use Rattle.areas.specs.Promise.{entriesOfAll, KeepsRule}
 use Rattle.audit_nearer.specs.Nearer.{noLists}

@@ -14,7 +14,7 @@ use Rattle.laws.specs.laws.Refusals.{breaks, keeps, offends, all-keep, nothing,
 use Rattle.numbers.specs.Numbers.{refusedCount, refusedBox, refusedCoordinate, refusedOffsets, refusedEntry, refusedCorner}
 use Rattle.utils.specs.Sites.{KeptAt}
 use Rattle.shared.specs.Cells.{Cells}
-use Rattle.admission.specs.Asks.{CellsOf}
+use Rattle.asking.specs.Asks.{CellsOf}
 use Rattle.entries.specs.Named.{EntriesNamed}
 use Rattle.areas.specs.Promise.{entriesOfAll, KeepsRule}
 use Rattle.audit_nearer.specs.Nearer.{noLists}

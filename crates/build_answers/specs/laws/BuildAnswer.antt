@@ -20,7 +20,8 @@ use Rattle.check_mesh.specs.AtExit.{atExit}
 use Rattle.check_mesh.specs.laws.AtExit.{exit-made, exit-blank}
 use Rattle.admission.specs.Slices.{Slices, slices}
 use Rattle.admission.specs.Admission.{BuildAdmission}
-use Rattle.admission.specs.laws.Admits.{NoneZero, asked-answers, admitted, admits-own}
+use Rattle.asking.specs.laws.Asks.{NoneZero}
+use Rattle.admission.specs.laws.Admits.{asked-answers, admitted, admits-own}
 use Rattle.admission.specs.laws.BuildRoom.{Granted, granted}
 use Rattle.admission.specs.laws.LeftmostTable.{table-long, table-part}
 use Rattle.definition.specs.declared.Fault.{Fault}

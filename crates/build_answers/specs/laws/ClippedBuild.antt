@@ -24,9 +24,8 @@ use Rattle.outputs.specs.Outputs.{ofBuilt, faultOf, BuiltInto, countsMade}
 use Rattle.cell_finish.specs.declared.CellsAnswer.{CellsAnswer}
 use Rattle.cell_builder.specs.AdmittedBuild.{AdmittedBuild}
 use Rattle.cell_finish.specs.Finish.{outcomeAnswer}
-use Rattle.admission.specs.Asks.{boxRules, Asked}
-use Rattle.admission.specs.laws.Admits.{NoneZero}
-use Rattle.admission.specs.laws.Asks.{box-answers}
+use Rattle.asking.specs.Asks.{boxRules, Asked}
+use Rattle.asking.specs.laws.Asks.{NoneZero, box-answers}
 use Rattle.admission.specs.Slices.{Slices, slices}
 use Rattle.admission.specs.Admission.{BuildAdmission}
 use Rattle.build_counts.specs.Counts.{countsOf, ReusedFit, EndedBuild}

@@ -19,7 +19,8 @@ use Rattle.layout.specs.Cleared.{padded}
 use Rattle.outputs.specs.Outputs.{faultOf}
 use Rattle.admission.specs.Admits.{askedRules, Admits}
 use Rattle.admission.specs.Slices.{Slices, slices}
-use Rattle.admission.specs.laws.Admits.{NoneZero, finds-asked, asked-finds, call-answers, admits-keep}
+use Rattle.asking.specs.laws.Asks.{NoneZero}
+use Rattle.admission.specs.laws.Admits.{finds-asked, asked-finds, call-answers, admits-keep}
 use Rattle.build_answers.specs.Promise.{Builds, BuildAnswer, BuildAnswers}
 
 module _ {m : Mesh} {roomy : Bool} {own : List (Rule ℕ)} {o : Outcome Fault Built} where

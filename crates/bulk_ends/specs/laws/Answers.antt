@@ -23,7 +23,7 @@ use Rattle.check_mesh.specs.AtExit.{atExit}
 use Rattle.check_mesh.specs.Answers.{workAfter}
 use Rattle.check_mesh.specs.laws.AtExit.{exit-made, exit-held}
 use Rattle.paths.specs.laws.PathNeeds.{ready, towards}
-use Rattle.admission.specs.Asks.{Asked}
+use Rattle.asking.specs.Asks.{Asked}
 use Rattle.admission.specs.Admission.{Admission}
 use Rattle.admission.specs.laws.Admits.{asked-answers, admitted, admits-own}
 use Rattle.admission.specs.laws.LeftmostTable.{table-long, table-part}

@@ -20,7 +20,7 @@ use Rattle.check_mesh.specs.AtExit.{atExit}
 use Rattle.check_mesh.specs.Answers.{workAfter}
 use Rattle.check_mesh.specs.laws.AtExit.{exit-made, exit-blank}
 use Rattle.clipped_iterator.specs.laws.Clippable.{clippable}
-use Rattle.admission.specs.Asks.{CellsOf}
+use Rattle.asking.specs.Asks.{CellsOf}
 use Rattle.admission.specs.Admission.{Admission}
 use Rattle.admission.specs.laws.Admits.{asked-answers, call-answers, admitted, admits-few, admits-rules}
 use Rattle.admission.specs.laws.LeftmostTable.{table-long, table-part}

@@ -8,8 +8,8 @@ use lib.ListN.{length, getD}
 use borrow.Author.Tests.{eq-eqb, ne-eqb}
 use Rattle.shared.specs.Cells.{Cells, cellOf}
 use Rattle.numbers.specs.Numbers.{refusedOffsets}
-use Rattle.admission.specs.Asks.{siteRules, Asked, CellsOf, cellRules}
-use Rattle.admission.specs.laws.Asks.{site-below}
+use Rattle.asking.specs.Asks.{siteRules, Asked, CellsOf, cellRules}
+use Rattle.asking.specs.laws.Asks.{site-below}
 use Rattle.laws.specs.Refusals.{Finds}
 use Rattle.laws.specs.laws.Refusals.{breaks, keeps, nothing, finds-one, finds-first, finds-keep}
 use borrow.Author.Needs.{needs}

@@ -8,7 +8,7 @@ use lib.ListN.{length}
 use Rattle.laws.specs.laws.Refusals.{breaks, keeps, nothing}
 use Rattle.numbers.specs.Numbers.{refusedSite, refusedOffsets}
 use Rattle.shared.specs.Cells.{Cells, shareEdgeOf}
-use Rattle.admission.specs.Asks.{CellsOf}
+use Rattle.asking.specs.Asks.{CellsOf}
 use Rattle.cell_query.specs.declared.Told.{Told}
 use Rattle.cell_query.specs.SharedEdge.{toldOf, SharesAnswer}
 

@@ -8,8 +8,8 @@ use native.Mathlib.Omega.{arith}
 use Rattle.laws.specs.Refusals.{Rule, Keep}
 use Rattle.laws.specs.laws.Refusals.{Answers, nothing, finds-first, finds-after, finds-keep}
 use Rattle.numbers.specs.Numbers.{refusedCoordinate}
-use Rattle.admission.specs.Asks.{siteRules, boxRules, Asked}
-use Rattle.admission.specs.laws.Asks.{site-below, box-answers}
+use Rattle.asking.specs.Asks.{siteRules, boxRules, Asked}
+use Rattle.asking.specs.laws.Asks.{site-below, box-answers}
 use Rattle.reasons.specs.declared.Question.{Question}
 use Rattle.reasons.specs.declared.Question.the-variants.{Nothing, About, Between}
 use Rattle.reasons.specs.Answer.{SitesBelow}

@@ -25,7 +25,7 @@ use Rattle.layout.specs.Regions.{joined, offsetsFrom}
 use Rattle.layout.specs.Cleared.{padded}
 use Rattle.outputs.specs.Outputs.{faultOf}
 use Rattle.shared.specs.Cells.{cellOf}
-use Rattle.admission.specs.Asks.{Asked}
+use Rattle.asking.specs.Asks.{Asked}
 use Rattle.admission.specs.Admits.{askedRules}
 use Rattle.admission.specs.Slices.{Slices, roomOf}
 use Rattle.admission.specs.Admission.{BuildAdmission}

@@ -21,8 +21,7 @@ use Rattle.given_box.specs.declared.Given.{Given}
 use Rattle.mesh.specs.Accepted.{Mesh, siteCount}
 use Rattle.laws.specs.Refusals.{Rule}
 use Rattle.admission.specs.Admits.{Admits}
-use Rattle.admission.specs.laws.Admits.{NoneZero}
-use Rattle.admission.specs.laws.Asks.{box-answers}
+use Rattle.asking.specs.laws.Asks.{NoneZero, box-answers}
 use Rattle.layout.specs.Regions.{joined, offsetsFrom}
 use Rattle.definition.specs.declared.Fault.{Fault}
 use Rattle.definition.specs.Fault.{Outcome, ok}

@@ -10,7 +10,7 @@ use borrow.Author.Tests.{ne-eqb}
 use Rattle.mesh.specs.Accepted.{Mesh}
 use Rattle.laws.specs.Refusals.{Rule}
 use Rattle.admission.specs.Admits.{Admits}
-use Rattle.admission.specs.laws.Admits.{NoneZero}
+use Rattle.asking.specs.laws.Asks.{NoneZero}
 use Rattle.definition.specs.declared.Fault.{Fault}
 use Rattle.definition.specs.Fault.{Outcome, ok, refused}
 use Rattle.definition.specs.Build.{Built}

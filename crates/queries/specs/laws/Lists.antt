@@ -31,7 +31,7 @@ use Rattle.paths.specs.PathNeeds.{Walkable, Towards}
 use Rattle.clipped_iterator.specs.Clippable.{Clippable}
 use Rattle.paths.specs.laws.PathNeeds.{ready, towards}
 use Rattle.clipped_iterator.specs.laws.Clippable.{clippable}
-use Rattle.admission.specs.Asks.{siteRules, pathRules, Asked, CellsOf, cellRules}
+use Rattle.asking.specs.Asks.{siteRules, pathRules, Asked, CellsOf, cellRules}
 use Rattle.admission.specs.Admission.{ListAdmission}
 use Rattle.admission.specs.laws.Admits.{asked-answers, admitted, admits-few, admits-rules}
 use Rattle.queries.specs.declared.Listed.{Listed}

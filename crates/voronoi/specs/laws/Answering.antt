@@ -14,12 +14,11 @@ use Rattle.utils.specs.declared.Point.{Point}
 use Rattle.mesh.specs.Accepted.{Mesh, siteCount}
 use Rattle.mesh.specs.Rules.{callRules}
 use Rattle.mesh.specs.laws.Verdicts.{accepted-keep, keep-accepted}
-use Rattle.admission.specs.Asks.{CellsOf}
+use Rattle.asking.specs.Asks.{CellsOf, siteRules, pathRules, cellRules}
 use Rattle.bulk_neighbours.specs.Promise.{RoomFor, CellsLent, lentRules}
 use Rattle.bulk_ends.specs.Promise.{endsRoom, PointsKept, allRules}
 use Rattle.bulk_ends.specs.laws.Answers.{room-table, room-ends, room-both}
 use Rattle.voronoi.specs.Meshes.{Check}
-use Rattle.admission.specs.Asks.{siteRules, pathRules, cellRules}
 use Rattle.queries.specs.Answers.{Number}
 use Rattle.voronoi.specs.Leaves.{QueryAllowed}
 

@@ -20,7 +20,7 @@ use Rattle.build_laws.specs.laws.EmptyCell.{empty-cell}
 use Rattle.build_answers.specs.Promise.{BuildAnswer}
 use Rattle.admission.specs.Slices.{Slices}
 use Rattle.build_laws.specs.LateRefusals.{build-late}
-use Rattle.admission.specs.laws.Asks.{box-answers}
+use Rattle.asking.specs.laws.Asks.{box-answers}
 use Rattle.build_answers.specs.Success.{zero-succeeds, succeeds-zero}
 use Rattle.build_answers.specs.laws.Left.{left-work, left-vertices, left-indexes, left-offsets, left-counts, slice-finite, read-part, read-place}
 use Rattle.voronoi.specs.Builds.{Build, CellPart}

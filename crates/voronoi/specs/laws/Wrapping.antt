@@ -19,7 +19,7 @@ use Rattle.build_laws.specs.laws.CornersAt.{Cornered, cornered}
 use Rattle.build_laws.specs.laws.OwnerPaths.{owner-path}
 use Rattle.admission.specs.Slices.{Slices}
 use Rattle.build_laws.specs.LateRefusals.{build-late}
-use Rattle.admission.specs.laws.Asks.{box-answers}
+use Rattle.asking.specs.laws.Asks.{box-answers}
 use Rattle.build_answers.specs.Success.{zero-succeeds, clipped-sound}
 use Rattle.build_answers.specs.laws.Left.{left-vertices, left-indexes, left-offsets, left-counts, slice-point, count-owner, count-before, count-lost}
 use Rattle.voronoi.specs.Builds.{Build}

@@ -10,7 +10,7 @@ use borrow.Author.Needs.{needs}
 use Rattle.laws.specs.laws.Refusals.{breaks, keeps, nothing, finds-keep, finds-first, finds-after}
 use Rattle.numbers.specs.Numbers.{refusedCount, refusedEntry, refusedRoom}
 use Rattle.shared.specs.Cells.{cellOf}
-use Rattle.admission.specs.Asks.{siteRules, cellRules}
+use Rattle.asking.specs.Asks.{siteRules, cellRules}
 use Rattle.cell_query.specs.Cells.{CellAnswer}
 use Rattle.octets.specs.Wrote.{Wrote}
 use Rattle.octets.specs.laws.Wrote.{wrote-none}

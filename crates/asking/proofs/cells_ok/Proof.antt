@@ -1,10 +1,10 @@
 -- There is an offset more than sites, and the others are checked.
 use denote.Ref.{now}
-use Rattle.admission.specs.laws.Asks.{cells-says}
+use Rattle.asking.specs.laws.Asks.{cells-says}
 use native.Mathlib.Omega.{arith}
 use borrow.Author.Needs.{needs}
-use Rattle.admission.proofs.cells_ok.Statement.{statement}
-use Rattle.admission.proofs.cells_ok.Tie as tie
+use Rattle.asking.proofs.cells_ok.Statement.{statement}
+use Rattle.asking.proofs.cells_ok.Tie as tie
 
 returns : tie.Need-returns
 returns c = λ x. omega (arith, x .many)

@@ -4,8 +4,8 @@ use mathlib.Core.Bool.{false≢true}
 use native.Mathlib.Omega.{arith}
 use borrow.Author.Needs.{needs}
 use Rattle.laws.specs.laws.Refusals.{breaks, keeps, nothing}
-use Rattle.admission.proofs.ask_path.Statement.{statement}
-use Rattle.admission.proofs.ask_path.Tie as tie
+use Rattle.asking.proofs.ask_path.Statement.{statement}
+use Rattle.asking.proofs.ask_path.Tie as tie
 
 returns : tie.Need-returns
 returns c = record { found = breaks (λ l. omega (arith, c .before .wide .ensures, c .if1 .taken)); small = omega arith }

@@ -1,4 +1,4 @@
--- Rule 16 by its tests, and what a sound site and a sound box tell.
+-- Rule 16 by its tests; what a sound site tells; lists of rules none of which answers 0, that on a box among them.
 use mathlib.Core.Path.{_≡_}
 use mathlib.Core.Bool.{Bool, true, false}
 use mathlib.Core.List.{List}
@@ -8,10 +8,10 @@ use native.Mathlib.Omega.{arith}
 use lib.ListN.{length}
 use borrow.Author.Needs.{needs}
 use Rattle.laws.specs.Decide.{Says}
-use Rattle.laws.specs.laws.Refusals.{finds-keep}
+use Rattle.laws.specs.Refusals.{Rule}
+use Rattle.laws.specs.laws.Refusals.{Answers, finds-keep}
 use Rattle.shared.specs.Cells.{Cells}
-use Rattle.admission.specs.Asks.{siteRules, boxRules, Asked, CellsOf}
-use Rattle.admission.specs.laws.Admits.{NoneZero}
+use Rattle.asking.specs.Asks.{siteRules, boxRules, Asked, CellsOf}
 
 pub cells-says : (off ix : List ℕ) (n : ℕ) (b : Bool) → length off ≢ 0 → length off - 1 ≡ n → Says b (Cells off (length ix)) → Says b (CellsOf off ix n)
 cells-says off ix n true some q c = record { many = omega arith; cut = c }
@@ -19,6 +19,10 @@ cells-says off ix n false some q c = λ x. c (x .cut)
 
 pub site-below : (n s : ℕ) {r : ℕ} → Asked (siteRules n s) r → r ≡ 0 → s < n
 site-below n s a z = finds-keep (λ r. r ≡ 0) (search needs) z (a .found) .0
+
+-- no rule answers 0
+abbrev pub NoneZero : List (Rule ℕ) → Type 0
+NoneZero = Answers (λ r. r ≡ 0 → ⊥)
 
 pub box-answers : (sound : Bool) → NoneZero (boxRules sound)
 box-answers sound = ((λ _ q. omega arith), tt)

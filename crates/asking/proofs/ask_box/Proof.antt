@@ -1,10 +1,10 @@
--- `admission::ask_box` meets its contract: the number follows the test of rule 3.
+-- `asking::ask_box` meets its contract: the number follows the test of rule 3.
 use mathlib.Core.Path.{sym, _∙_}
 use mathlib.Core.Bool.{false≢true}
 use native.Mathlib.Omega.{arith}
 use Rattle.laws.specs.laws.Refusals.{breaks, keeps, nothing}
-use Rattle.admission.proofs.ask_box.Statement.{statement}
-use Rattle.admission.proofs.ask_box.Tie as tie
+use Rattle.asking.proofs.ask_box.Statement.{statement}
+use Rattle.asking.proofs.ask_box.Tie as tie
 
 returns : tie.Need-returns
 returns c = record { found = keeps (c .if1 .taken) nothing; small = omega arith }

@@ -2,8 +2,8 @@
 use native.Mathlib.Omega.{arith}
 use borrow.Author.Needs.{needs}
 use Rattle.laws.specs.laws.Refusals.{breaks, keeps, nothing}
-use Rattle.admission.proofs.ask_site.Statement.{statement}
-use Rattle.admission.proofs.ask_site.Tie as tie
+use Rattle.asking.proofs.ask_site.Statement.{statement}
+use Rattle.asking.proofs.ask_site.Tie as tie
 
 returns : tie.Need-returns
 returns c = record { found = keeps (omega (arith, c .before .wide .ensures, c .if1 .taken)) nothing; small = omega arith }
