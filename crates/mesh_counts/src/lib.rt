@@ -1,7 +1,7 @@
 // Rule 1, on the counts of a lent mesh, and the number that a fault of the check is answered by.
 ghost use mathlib.Core.Path.{_≡_};
 ghost use Rattle.laws.specs.Decide.{Says};
-ghost use Rattle.mesh.specs.Rules.{numberOf};
+ghost use Rattle.mesh.specs.Faults.{numberOf};
 ghost use Rattle.mesh.specs.Accepted.{Counted};
 use mesh::MeshFault;
 

@@ -9,7 +9,7 @@ use Rattle.numbers.specs.Numbers.{EMPTY}
 use Rattle.mesh.specs.Mesh.{Paired}
 use Rattle.clipped_iterator.specs.Clippable.{Clippable}
 use Rattle.layout.specs.Regions.{joined, offsetsFrom}
-use Rattle.layout.specs.Outputs.{padded}
+use Rattle.layout.specs.Cleared.{padded}
 use Rattle.neighbour_lists.specs.Lists.{nothingLent, listOf, listsTo}
 
 -- the list of site s can be made: the pairing is right, and cells that are lent are cells of all sites

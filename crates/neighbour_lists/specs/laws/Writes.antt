@@ -15,9 +15,8 @@ use Rattle.shared.specs.Cells.{shareEdgeOf}
 use Rattle.iterator.specs.Neighbours.{startsOf}
 use Rattle.iterator.specs.Fills.{Fills}
 use Rattle.clipped_iterator.specs.Clipped.{clippedOf}
-use Rattle.layout.specs.Cleared.{clearedFrom}
+use Rattle.layout.specs.Cleared.{clearedFrom, padded}
 use Rattle.layout.specs.Regions.{joined, offsetsFrom}
-use Rattle.layout.specs.Outputs.{padded}
 use Rattle.neighbour_lists.specs.Lists.{nothingLent, listFrom, listsTo}
 use Rattle.neighbour_lists.specs.Steps.{Appended, WrittenLists, MadeLists}
 use Rattle.neighbour_lists.specs.laws.Lists.{endOfLists, joined-next, end-next, end-mono, cuts-next, cuts-length}
