@@ -22,7 +22,8 @@ use Rattle.utils.specs.Centroid.{okCount, meanOf, centroidAnswer}
 use Rattle.utils.specs.declared.Point.{Point}
 use Rattle.utils.specs.declared.Center.{Center}
 use Rattle.utils.specs.declared.Center.the-variants.{Refused, At}
-use Rattle.bounding_box.specs.Box.{widthOf, heightOf, cornersOf, insideOf, exclusiveOf, whichOf}
+use Rattle.bounding_box.specs.Box.{widthOf, heightOf, cornersOf}
+use Rattle.box_sides.specs.Sides.{insideOf, exclusiveOf, whichOf}
 use Rattle.bounding_box.specs.declared.BoundingBox.{BoundingBox}
 use Rattle.given_box.specs.declared.Given.{Given}
 use Rattle.line_crossings.specs.Line.{lineOf}
