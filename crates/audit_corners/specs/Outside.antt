@@ -6,7 +6,7 @@ use lib.Ieee.{Float}
 use lib.ListN.{length, getD}
 use Rattle.lowest.specs.Lowest.{anyBelow}
 use Rattle.utils.specs.Flat.{pointAt}
-use Rattle.bounding_box.specs.Box.{insideOf}
+use Rattle.box_sides.specs.Sides.{insideOf}
 use Rattle.bounding_box.specs.declared.BoundingBox.{BoundingBox}
 use Rattle.shared.specs.Cells.{cellOf}
 

@@ -5,7 +5,7 @@ ghost use mathlib.Core.Path.{_≡_};
 ghost use mathlib.Core.Bool.{not};
 ghost use Prim.Native.Nat.{_+_, _-_, _*_, _/_, _<_};
 ghost use lib.ListN.{length};
-ghost use Rattle.bounding_box.specs.Box.{insideOf};
+ghost use Rattle.box_sides.specs.Sides.{insideOf};
 ghost use Rattle.utils.specs.Flat.{pointAt};
 ghost use Rattle.lowest.specs.Lowest.{lowest};
 ghost use Rattle.shared.specs.Cells.{Cells};
@@ -18,7 +18,7 @@ fn is_outside(bounds: BoundingBox, vertices: &[f64], entry: u32) -> bool
     requires { ⌜ 2 * entry + 1 < length (now vertices) ⌝ }
     ensures { λ r. ⌜ r ≡ not (insideOf bounds (pointAt (now (vertices .entry)) entry)) ⌝ }
 {
-    !bounding_box::is_inside(bounds, utils::point_at(vertices, numbers::wide(entry)))
+    !box_sides::is_inside(bounds, utils::point_at(vertices, numbers::wide(entry)))
 }
 
 // The first corner of a ring that is outside, or their number.

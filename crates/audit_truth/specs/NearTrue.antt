@@ -21,7 +21,8 @@ use Rattle.lowest.specs.laws.Loops.{none-taken}
 use Rattle.utils.specs.Finite.{point-weaken, site-bounded}
 use Rattle.utils.specs.Flat.{pointAt}
 use Rattle.utils.specs.declared.Point.{Point}
-use Rattle.bounding_box.specs.Box.{madeOf, insideOf}
+use Rattle.bounding_box.specs.Box.{madeOf}
+use Rattle.box_sides.specs.Sides.{insideOf}
 use Rattle.bounding_box.specs.declared.BoundingBox.{BoundingBox}
 use Rattle.given_box.specs.Finite.{Fits}
 use Rattle.given_box.specs.Given.{edgesOf}

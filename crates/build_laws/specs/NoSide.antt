@@ -11,7 +11,7 @@ use borrow.Author.Tests.{lt-ltb}
 use Rattle.laws.specs.Pick.{pick}
 use Rattle.numbers.specs.Numbers.{refusedNoCrossing, refusedOneCrossing}
 use Rattle.utils.specs.declared.Point.{Point}
-use Rattle.bounding_box.specs.Box.{whichOf}
+use Rattle.box_sides.specs.Sides.{whichOf}
 use Rattle.bounding_box.specs.Finite.{BoundedBox}
 use Rattle.bounding_box.specs.declared.BoundingBox.{BoundingBox}
 use Rattle.mesh.specs.Accepted.{Mesh, Accepted}

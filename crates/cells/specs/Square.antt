@@ -9,7 +9,8 @@ use Rattle.laws.specs.Count.{same}
 use Rattle.root.specs.Sqrt.{wholeRoot, nearestRoot, rootOfUnits, sqrtOf}
 use Rattle.utils.specs.Plane.{at, nearOf, dist2Of}
 use Rattle.centers.specs.Circumcenter.{centerOf, okCenter}
-use Rattle.bounding_box.specs.Box.{madeOf, cornersOf, insideOf, firstSide, whichOf}
+use Rattle.bounding_box.specs.Box.{madeOf, cornersOf}
+use Rattle.box_sides.specs.Sides.{insideOf, firstSide, whichOf}
 use Rattle.crossings.specs.Ray.{orderPick, eitherOf, orderBy, orderOne, orderTwo, rayOf}
 use Rattle.line_crossings.specs.Line.{oneIf, twoIf, firstHeld, sideHit, levelHit, uprightHit, settleOf, lineOf}
 use Rattle.vertices.specs.Add.{nearPt, findNear, addVertex}

@@ -1,6 +1,6 @@
 // insert_edge_and_wrap_around_corners: an edge along the box put into the cell, with the corners that are the site's.
 use bounding_box::BoundingBox;
-use bounding_box::which_edge;
+use box_sides::which_edge;
 use numbers::EMPTY;
 use vertices::vertex;
 ghost use mathlib.Core.Path.{_≡_};
@@ -9,7 +9,7 @@ ghost use lib.Dec.{eqb};
 ghost use lib.ListN.{length, getD};
 ghost use mathlib.Core.List.{[], _∷_};
 ghost use Rattle.utils.specs.Flat.{points};
-ghost use Rattle.bounding_box.specs.Box.{whichOf};
+ghost use Rattle.box_sides.specs.Sides.{whichOf};
 ghost use Rattle.numbers.specs.Numbers.{EMPTY};
 ghost use Rattle.definition.specs.Cell as Def;
 ghost use Rattle.definition.specs.Short;

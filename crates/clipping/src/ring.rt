@@ -3,7 +3,7 @@ use crate::RingStepped;
 use crate::Tip;
 use crate::step::clip_step;
 use bounding_box::BoundingBox;
-use bounding_box::is_inside;
+use box_sides::is_inside;
 use clip_corners::CellSoFar;
 use clip_edges::Env;
 use clip_edges::together;

@@ -5,7 +5,8 @@ use lib.Ieee.{Float, binary64, ofBits, neg, add, sub, mul, div, lt, le, eq}
 use Rattle.laws.specs.Binary64.{zero, one, minusOne, two}
 use Rattle.utils.specs.Plane.{at, nearOf}
 use Rattle.centers.specs.Circumcenter.{centerOf}
-use Rattle.bounding_box.specs.Box.{madeOf, firstSide, whichOf}
+use Rattle.bounding_box.specs.Box.{madeOf}
+use Rattle.box_sides.specs.Sides.{firstSide, whichOf}
 use Rattle.bounding_box.specs.declared.BoundingBox.{BoundingBox}
 use Rattle.crossings.specs.Ray.{orderOne, orderOf}
 use Rattle.line_crossings.specs.Line.{oneIf}

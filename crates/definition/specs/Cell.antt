@@ -11,7 +11,7 @@ use Rattle.laws.specs.Binary64.{_⊟_}
 use Rattle.numbers.specs.Numbers.{EMPTY, refusedNoCrossing, refusedOneCrossing}
 use Rattle.utils.specs.Plane.{at}
 use Rattle.utils.specs.declared.Point.{Point}
-use Rattle.bounding_box.specs.Box.{insideOf, whichOf}
+use Rattle.box_sides.specs.Sides.{insideOf, whichOf}
 use Rattle.bounding_box.specs.declared.BoundingBox.{BoundingBox}
 use Rattle.crossings.specs.Ray.{orderOf, rayOf}
 use Rattle.line_crossings.specs.declared.Crossing.{Crossing}

@@ -18,7 +18,8 @@ use Rattle.utils.specs.Sites.{okSites}
 use Rattle.utils.specs.declared.Point.{Point}
 use Rattle.centers.specs.Circumcenter.{centerOf, okCenter}
 use Rattle.centers.specs.Centroid.{okCount, meanOf}
-use Rattle.bounding_box.specs.Box.{widthOf, heightOf, cornersOf, insideOf, exclusiveOf, whichOf}
+use Rattle.bounding_box.specs.Box.{widthOf, heightOf, cornersOf}
+use Rattle.box_sides.specs.Sides.{insideOf, exclusiveOf, whichOf}
 use Rattle.bounding_box.specs.declared.BoundingBox.{BoundingBox}
 use Rattle.given_box.specs.declared.Given.{Given}
 use Rattle.line_crossings.specs.declared.Crossing.{Crossing}

@@ -45,7 +45,7 @@ fn side_if(ok: bool, side: u32) -> u32
     ensures { λ r. ⌜ r ≡ sideIf ok side ⌝ }
 {
     if ok {
-        if side == bounding_box::NO_SIDE {
+        if side == box_sides::NO_SIDE {
             EMPTY
         } else {
             side
@@ -213,7 +213,7 @@ pub fn is_inside(given: Given, p: Point) -> Verdict
     ensures { λ r. ⌜ Inside given p (r .number) (r .yes) ⌝ }
 {
     let point = utils::site_ok(p);
-    let inside = yes(given.sound & point & bounding_box::is_inside(given.bounds, p));
+    let inside = yes(given.sound & point & box_sides::is_inside(given.bounds, p));
     Verdict {
         number: number(given.sound, point),
         yes: inside,
@@ -225,7 +225,7 @@ pub fn is_exclusively_inside(given: Given, p: Point) -> Verdict
     ensures { λ r. ⌜ ExclusivelyInside given p (r .number) (r .yes) ⌝ }
 {
     let point = utils::site_ok(p);
-    let inside = yes(given.sound & point & bounding_box::is_exclusively_inside(given.bounds, p));
+    let inside = yes(given.sound & point & box_sides::is_exclusively_inside(given.bounds, p));
     Verdict {
         number: number(given.sound, point),
         yes: inside,
@@ -242,10 +242,7 @@ pub fn which_edge(given: Given, p: Point) -> OnSide
     ensures { λ r. ⌜ WhichEdge given p (r .number) (r .side) ⌝ }
 {
     let point = utils::site_ok(p);
-    let side = side_if(
-        given.sound & point,
-        bounding_box::which_edge(given.bounds, p),
-    );
+    let side = side_if(given.sound & point, box_sides::which_edge(given.bounds, p));
     OnSide {
         number: number(given.sound, point),
         side,

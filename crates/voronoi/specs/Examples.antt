@@ -11,7 +11,8 @@ use Rattle.root.specs.SqrtIsRoot.{root-is-sqrt, least-root}
 use Rattle.utils.specs.Flat.{pointAt}
 use Rattle.utils.specs.Plane.{at, nearOf, dist2Of}
 use Rattle.centers.specs.Circumcenter.{centerOf}
-use Rattle.bounding_box.specs.Box.{madeOf, firstSide, whichOf}
+use Rattle.bounding_box.specs.Box.{madeOf}
+use Rattle.box_sides.specs.Sides.{firstSide, whichOf}
 use Rattle.bounding_box.specs.declared.BoundingBox.{BoundingBox}
 use Rattle.crossings.specs.Ray.{orderOf}
 use Rattle.crossings.specs.Rows as crossings

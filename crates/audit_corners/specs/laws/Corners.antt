@@ -9,7 +9,7 @@ use lib.ListN.{length, getD}
 use Rattle.lowest.specs.Lowest.{lowest}
 use Rattle.utils.specs.Flat.{pointAt}
 use Rattle.utils.specs.declared.Point.{Point}
-use Rattle.bounding_box.specs.Box.{insideOf}
+use Rattle.box_sides.specs.Sides.{insideOf}
 use Rattle.bounding_box.specs.declared.BoundingBox.{BoundingBox}
 use Rattle.shared.specs.Cells.{cellOf}
 use Rattle.audit_corners.specs.Outside.{outsideAt, cellOutside, siteOutside}

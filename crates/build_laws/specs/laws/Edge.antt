@@ -11,7 +11,7 @@ use borrow.Author.Tests.{eq-eqb}
 use Rattle.laws.specs.Pick.{pick}
 use Rattle.numbers.specs.Numbers.{EMPTY}
 use Rattle.utils.specs.declared.Point.{Point}
-use Rattle.bounding_box.specs.Box.{whichOf}
+use Rattle.box_sides.specs.Sides.{whichOf}
 use Rattle.bounding_box.specs.declared.BoundingBox.{BoundingBox}
 use Rattle.definition.specs.Cell.{lastOr, Taken, Ins, withCorners, led, insertEdge, vertexAt, EdgeClip, missed, once, twice, Change, leave, enterAt}
 use Rattle.definition.specs.Cell.{enter, crossAt, cross, clipStep}

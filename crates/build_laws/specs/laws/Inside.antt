@@ -9,7 +9,7 @@ use lib.ListN.{length, getD}
 use borrow.Author.Tests.{ltb-true}
 use Rattle.laws.specs.Pick.{pick}
 use Rattle.utils.specs.declared.Point.{Point}
-use Rattle.bounding_box.specs.Box.{insideOf}
+use Rattle.box_sides.specs.Sides.{insideOf}
 use Rattle.bounding_box.specs.declared.BoundingBox.{BoundingBox}
 use Rattle.definition.specs.Cell.{vertexAt, inBox, firstInside}
 use Rattle.build_laws.specs.laws.Grown.{Grown}

@@ -22,7 +22,8 @@ use Rattle.numbers.specs.Numbers.{tolerance}
 use Rattle.root.specs.Bounded.{Bounded}
 use Rattle.utils.specs.Plane.{at, nearOf}
 use Rattle.utils.specs.declared.Point.{Point}
-use Rattle.bounding_box.specs.Box.{whichOf, firstSide, cornersOf}
+use Rattle.bounding_box.specs.Box.{cornersOf}
+use Rattle.box_sides.specs.Sides.{whichOf, firstSide}
 use Rattle.bounding_box.specs.Finite.{BoundedBox}
 use Rattle.bounding_box.specs.declared.BoundingBox.{BoundingBox}
 use Rattle.line_crossings.specs.OnBox.{OnEdge}

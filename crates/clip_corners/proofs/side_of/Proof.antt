@@ -1,7 +1,7 @@
 -- `clip_corners::side_of` meets its contract: it asks for the side of the vertex that the store gives.
 use borrow.Author.Needs.{needs}
 use mathlib.Core.Path.{ap, _∙_}
-use Rattle.bounding_box.specs.Box.{whichOf}
+use Rattle.box_sides.specs.Sides.{whichOf}
 use Rattle.clip_corners.proofs.side_of.Statement.{statement}
 use Rattle.clip_corners.proofs.side_of.Tie as tie
 

@@ -13,7 +13,7 @@ use Rattle.laws.specs.Count.{occ}
 use Rattle.numbers.specs.Numbers.{EMPTY}
 use Rattle.definition.specs.Cell.{Entry, entry, wrapped, crossing, Ins, lastOr, goes, wraps, withCorners, led, vertexAt, insertEdge}
 use Rattle.utils.specs.declared.Point.{Point}
-use Rattle.bounding_box.specs.Box.{whichOf}
+use Rattle.box_sides.specs.Sides.{whichOf}
 use Rattle.bounding_box.specs.declared.BoundingBox.{BoundingBox}
 use Rattle.clip_corners.specs.CellEntries.{EntriesPut, places}
 use Rattle.definition.specs.Cell.{unmarked}

@@ -12,7 +12,7 @@ use Rattle.laws.specs.laws.Decide.{lt-or-ge}
 use Rattle.utils.specs.Plane.{at}
 use Rattle.utils.specs.declared.Point.{Point}
 use Rattle.utils.specs.Flat.{points}
-use Rattle.bounding_box.specs.Box.{insideOf}
+use Rattle.box_sides.specs.Sides.{insideOf}
 use Rattle.bounding_box.specs.declared.BoundingBox.{BoundingBox}
 use Rattle.vertices.specs.laws.Store.{poured-points, kept-vertex}
 use Rattle.definition.specs.Fault.{Outcome, ok, refused, andThen, atEdge}

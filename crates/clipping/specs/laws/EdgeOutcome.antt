@@ -12,7 +12,7 @@ use Rattle.laws.specs.laws.Stores.{take-sets, drop-sets}
 use Rattle.utils.specs.declared.Point.{Point}
 use Rattle.utils.specs.Flat.{points}
 use Rattle.utils.specs.Plane.{at}
-use Rattle.bounding_box.specs.Box.{whichOf}
+use Rattle.box_sides.specs.Sides.{whichOf}
 use Rattle.bounding_box.specs.declared.BoundingBox.{BoundingBox}
 use Rattle.vertices.specs.Add.{Added}
 use Rattle.vertices.specs.Store.{Holds, Leaves}

@@ -23,7 +23,8 @@ use Rattle.centers.specs.Circumcenter.{centerOf, okCenter, centerIf, centerAnsw
 use Rattle.centers.specs.Centroid.{okCount, meanOf, centroidAnswer}
 use Rattle.centers.specs.declared.Center.{Center}
 use Rattle.centers.specs.declared.Center.the-variants.{Refused, At}
-use Rattle.bounding_box.specs.Box.{widthOf, heightOf, cornersOf, insideOf, exclusiveOf, whichOf}
+use Rattle.bounding_box.specs.Box.{widthOf, heightOf, cornersOf}
+use Rattle.box_sides.specs.Sides.{insideOf, exclusiveOf, whichOf}
 use Rattle.bounding_box.specs.declared.BoundingBox.{BoundingBox}
 use Rattle.given_box.specs.declared.Given.{Given}
 use Rattle.line_crossings.specs.Line.{lineOf}

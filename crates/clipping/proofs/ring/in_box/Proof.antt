@@ -2,7 +2,7 @@
 use mathlib.Core.Path.{sym, ap, _∙_}
 use denote.Ref.{now}
 use Rattle.utils.specs.Flat.{points}
-use Rattle.bounding_box.specs.Box.{insideOf}
+use Rattle.box_sides.specs.Sides.{insideOf}
 use Rattle.clipping.specs.laws.EdgeCases.{in-center, in-none}
 use borrow.Author.Needs.{needs}
 use Rattle.clipping.proofs.ring.in_box.Statement.{statement}
