@@ -52,7 +52,7 @@ extern "C" {
 
 /* ---- the version (the file VERSION; CHANGELOG.md says what changed) */
 
-#define VORONOI_VERSION "0.22.0"
+#define VORONOI_VERSION "0.22.1"
 #define VORONOI_VERSION_MAJOR 0
 #define VORONOI_VERSION_MINOR 22
 #define VORONOI_VERSION_PATCH 0
