@@ -55,7 +55,7 @@ extern "C" {
 #define VORONOI_VERSION "0.22.1"
 #define VORONOI_VERSION_MAJOR 0
 #define VORONOI_VERSION_MINOR 22
-#define VORONOI_VERSION_PATCH 0
+#define VORONOI_VERSION_PATCH 1
 
 /* ---- numbers */
 
