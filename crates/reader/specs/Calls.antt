@@ -1,4 +1,5 @@
--- What the calls on a form that arrives in parts answer, and what they leave in the state and the formLists. Definitions only.
+-- What the calls on a form that arrives in parts answer, and what they leave in the state and the formLists. What a state answers: Answers of crate reader_answers.
+-- Definitions only.
 use mathlib.Core.Bool.{Bool, false}
 use mathlib.Core.List.{List}
 use Prim.Native.Nat.{ℕ}
@@ -7,16 +8,13 @@ use lib.Ieee.{Float}
 use lib.ListN.{length, replicate}
 use Rattle.laws.specs.Pick.{pick}
 use Rattle.numbers.specs.Numbers.{refusedRoom}
-use Rattle.form_step.specs.Reader.{Reading, reading, broken, start, finished, takes}
+use Rattle.form_step.specs.Reader.{Reading, reading, start, finished, takes}
 use Rattle.form_step.specs.declared.Reader.{Reader}
 use Rattle.reader_state.specs.Words.{stored}
 use Rattle.reader_state.specs.Entered.{entered}
-use Rattle.reader.specs.declared.Answer.{Answer}
-use Rattle.reader.specs.declared.Report.{Report}
-
--- the byte of no refusal
-abbrev pub nowhere : ℕ
-nowhere = 18446744073709551615
+use Rattle.reader_answers.specs.Answers.{answerOf, reportOf, noRoom, noReport}
+use Rattle.reader_answers.specs.declared.Answer.{Answer}
+use Rattle.reader_answers.specs.declared.Report.{Report}
 
 -- the lent formLists
 pub record FormLists : Type 0 where
@@ -42,33 +40,6 @@ roomy l =
     (λ _. pick (ltb (length (l .sites)) 192) (λ _. false)
     (λ _. pick (ltb (length (l .triangles)) 576) (λ _. false)
     (λ _. pick (ltb (length (l .halfedges)) 576) (λ _. false) (λ _. leb 96 (length (l .hull))))))
-
--- ---- what a state answers
-
-abbrev pub noRefusal : Answer
-noRefusal = record { number = 0; at = nowhere }
-
-abbrev pub refusedAt : Reader → Answer
-refusedAt r = record { number = r .refusal; at = r .at }
-
-unfoldable pub answerOf : Reader → Answer
-answerOf r = pick (broken r) (λ _. refusedAt r) (λ _. noRefusal)
-
--- where no more comes: the counts too
-abbrev pub soundReport : Reader → Report
-soundReport r = record { number = 0; at = nowhere; clip = r .clip; sites = r .sites; triangles = r .triangles; hull = r .hull }
-
-abbrev pub refusedReport : Reader → Report
-refusedReport r = record { number = r .refusal; at = r .at; clip = 0; sites = 0; triangles = 0; hull = 0 }
-
-unfoldable pub reportOf : Reader → Report
-reportOf r = pick (broken r) (λ _. refusedReport r) (λ _. soundReport r)
-
-abbrev pub noRoom : Answer
-noRoom = record { number = refusedRoom; at = nowhere }
-
-abbrev pub noReport : Report
-noReport = record { number = refusedRoom; at = nowhere; clip = 0; sites = 0; triangles = 0; hull = 0 }
 
 -- ---- begin
 

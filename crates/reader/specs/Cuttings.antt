@@ -14,13 +14,15 @@ use Rattle.form_step.specs.declared.Reader.{Reader}
 use Rattle.reader_state.specs.Words.{stored}
 use Rattle.reader_state.specs.Entered.{entered}
 use Rattle.reader_state.specs.Kept.{stored-length, stored-again, entered-stored, new-entered, new-start, new-finished}
-use Rattle.reader.specs.Calls.{FormLists, readingOf, listsOf, roomy, answerOf, reportOf, beginning, AtFeed, fed, fedBy, feedCall, AtEnd, endCall, AtRead, readCall}
+use Rattle.reader_answers.specs.Answers.{answerOf, reportOf}
+use Rattle.reader_answers.specs.laws.Answers.{refused-broken, report-answer, report-broken}
+use Rattle.reader_answers.specs.declared.Answer.{Answer}
+use Rattle.reader_answers.specs.declared.Report.{Report}
+use Rattle.reader.specs.Calls.{FormLists, readingOf, listsOf, roomy, beginning, AtFeed, fed, fedBy, feedCall, AtEnd, endCall, AtRead, readCall}
 use Rattle.reader.specs.Promise.{ReaderBegins, ReaderFeeds, ReaderEnds, ReadsForm}
 use Rattle.reader.specs.laws.Calls.{feed-short, feed-close, feed-wide, end-wide, read-wide, new-takes, takes-refused}
 use Rattle.reader.specs.laws.Lengths.{same-room}
-use Rattle.reader.specs.declared.Answer.{Answer}
-use Rattle.reader.specs.declared.Report.{Report}
-use Rattle.reader.specs.laws.Refusals.{begun-words, refused-broken, finished-broken, report-answer, report-broken}
+use Rattle.reader.specs.laws.Refusals.{begun-words, finished-broken}
 
 -- ---- two blocks are their join
 

@@ -20,8 +20,10 @@ use Rattle.form.specs.Place.{Place, NumberAt}
 use Rattle.form.specs.Promise.{ReadSound, Refused, exact}
 use Rattle.form.specs.laws.Exact.{sound-broken}
 use Rattle.form.specs.laws.Feed.{reads-all}
-use Rattle.reader.specs.Calls.{nowhere, FormLists, readingOf, roomy, reportOf, readBy, readCall, AtRead}
-use Rattle.reader.specs.laws.Calls.{read-wide, ok-takes, report-none, report-refused}
+use Rattle.reader_answers.specs.Answers.{nowhere, reportOf}
+use Rattle.reader_answers.specs.laws.Answers.{report-none, report-refused}
+use Rattle.reader.specs.Calls.{FormLists, readingOf, roomy, readBy, readCall, AtRead}
+use Rattle.reader.specs.laws.Calls.{read-wide, ok-takes}
 
 module _ (l : FormLists) (s : List ℕ) where
   pub record IsRead (w : AtRead) : Type 0 where

@@ -1,8 +1,13 @@
 // The form's reader for forms that arrive in parts: begin, feed, end, with a state that the caller keeps; and the whole form at once, by the same steps.
-use form_step::Reader;
 use form_step::finished;
 use form_step::start;
 use numbers::REFUSED_ROOM;
+use reader_answers::Answer;
+use reader_answers::Report;
+use reader_answers::answered;
+use reader_answers::no_report;
+use reader_answers::no_room;
+use reader_answers::reported;
 use reader_state::load;
 use reader_state::store;
 ghost use mathlib.Core.Bool.{false};
@@ -11,32 +16,12 @@ ghost use Prim.Native.Nat.{_≤_};
 ghost use lib.ListN.{length, replicate};
 ghost use Rattle.form_step.specs.Reader.{start, takes};
 ghost use Rattle.form_step.specs.Holds.{ListRoom};
-ghost use Rattle.form_step.specs.Standing.{Ok};
 ghost use Rattle.reader_state.specs.Entered.{entered};
-ghost use Rattle.reader.specs.Calls.{formLists, readingOf, roomy, answerOf, reportOf, fed, fedBy, feedCall, ended, endedBy, endCall, readForm, readBy, readCall, noRoom, noReport};
+ghost use Rattle.reader.specs.Calls.{formLists, readingOf, roomy, fed, fedBy, feedCall, ended, endedBy, endCall, readForm, readBy, readCall};
 ghost use Rattle.reader.specs.Promise.{answer, report, ReaderBegins, ReaderFeeds, ReaderEnds, ReadsForm};
 
 // The words of a state.
 const STATE_WORDS: usize = 16;
-
-// The byte of no refusal.
-const NOWHERE: u64 = 0xffff_ffff_ffff_ffff;
-
-// A number and the byte that it is given at.
-pub struct Answer {
-    pub number: u32,
-    pub at: u64,
-}
-
-// The same with the kind that opened the form, and how many sites, triangles and hull sites it has.
-pub struct Report {
-    pub number: u32,
-    pub at: u64,
-    pub clip: u32,
-    pub sites: u32,
-    pub triangles: u32,
-    pub hull: u32,
-}
 
 // What the calls with lent numbers give is in specs/Promise.antt.
 
@@ -56,68 +41,6 @@ fn roomy(bounds: &[f64], sites: &[f64], triangles: &[u32], halfedges: &[u32], hu
         return false;
     }
     96 <= hull.len()
-}
-
-fn answered(r: Reader) -> Answer
-    requires { ⌜ Ok r ⌝ }
-    ensures { λ a. ⌜ a ≡ answerOf r ⌝ }
-{
-    if r.refusal != 0 {
-        return Answer {
-            number: r.refusal as u32,
-            at: r.at,
-        };
-    }
-    Answer {
-        number: 0,
-        at: NOWHERE,
-    }
-}
-
-fn reported(r: Reader) -> Report
-    requires { ⌜ Ok r ⌝ }
-    ensures { λ a. ⌜ a ≡ reportOf r ⌝ }
-{
-    if r.refusal == 0 {
-        return Report {
-            number: 0,
-            at: NOWHERE,
-            clip: r.clip as u32,
-            sites: r.sites as u32,
-            triangles: r.triangles as u32,
-            hull: r.hull as u32,
-        };
-    }
-    Report {
-        number: r.refusal as u32,
-        at: r.at,
-        clip: 0,
-        sites: 0,
-        triangles: 0,
-        hull: 0,
-    }
-}
-
-fn no_room() -> Answer
-    ensures { λ a. ⌜ a ≡ noRoom ⌝ }
-{
-    Answer {
-        number: REFUSED_ROOM,
-        at: NOWHERE,
-    }
-}
-
-fn no_report() -> Report
-    ensures { λ a. ⌜ a ≡ noReport ⌝ }
-{
-    Report {
-        number: REFUSED_ROOM,
-        at: NOWHERE,
-        clip: 0,
-        sites: 0,
-        triangles: 0,
-        hull: 0,
-    }
 }
 
 // ---- begin

@@ -48,8 +48,8 @@ use Rattle.grid_sites.specs.One.{grid-sites-one}
 use Rattle.voronoi.specs.Mends.{Mend}
 use Rattle.reader.specs.Calls.{FormLists}
 use Rattle.reader.specs.One.{begins-one, feeds-one, ends-one, reads-one}
-use Rattle.reader.specs.declared.Answer.{Answer}
-use Rattle.reader.specs.declared.Report.{Report}
+use Rattle.reader_answers.specs.declared.Answer.{Answer}
+use Rattle.reader_answers.specs.declared.Report.{Report}
 use Rattle.voronoi.specs.Forms.{ReaderBegin, ReaderFeed, ReaderEnd, ReadForm}
 use Rattle.voronoi.specs.Grids.{GridCheck, GridNearest, SitesOfGrid}
 use Rattle.flip_call.specs.Flips.{FlipLists}

@@ -10,11 +10,10 @@ use Rattle.form_step.specs.Standing.{Ok}
 use Rattle.form_step.specs.laws.Standing.{ok-steps}
 use Rattle.form.specs.laws.Run.{takes-reader}
 use Rattle.form.specs.laws.Fill.{take-broken}
-use Rattle.form_step.specs.declared.Reader.{Reader}
 use Rattle.reader_state.specs.Entered.{entered}
 use Rattle.reader_state.specs.Kept.{New, new-steps}
-use Rattle.reader.specs.Calls.{FormLists, readingOf, roomy, noRefusal, refusedAt, answerOf, soundReport, refusedReport, reportOf, noRoom, noReport}
-use Rattle.reader.specs.Calls.{fed, fedBy, feedCall, endedBy, endCall, readForm, readBy, readCall}
+use Rattle.reader_answers.specs.Answers.{noRoom, noReport}
+use Rattle.reader.specs.Calls.{FormLists, readingOf, roomy, fed, fedBy, feedCall, endedBy, endCall, readForm, readBy, readCall}
 
 module _ (ws : List ℕ) (l : FormLists) (s : List ℕ) where
   pub feed-short : ltb (length ws) 16 ≡ true → feedCall ws l s ≡ fed noRoom ws l
@@ -45,30 +44,13 @@ read-close l s e = rw e
 pub ok-takes : (s : List ℕ) (d : Reading) → Ok (d .reader) → Ok (takes d s .reader)
 ok-takes s d o = rw (takes-reader s d) (ok-steps s (d .reader) o)
 
+-- the same of the flag
+pub new-takes : (s : List ℕ) (d : Reading) → New (d .reader) → New (takes d s .reader)
+new-takes s d o = rw (takes-reader s d) (new-steps s (d .reader) o)
+
 -- after a refusal no byte counts
 pub takes-refused : (s : List ℕ) (d : Reading) → broken (d .reader) ≡ true → takes d s ≡ d
 unfolding takes
 takes-refused [] d e = refl
 takes-refused (b ∷ s) d e =
     ap (λ (x : Reading). takes x s) (sym (take-broken (d .reader) b (d .bounds) (d .sites) (d .triangles) (d .halfedges) (d .hull) e)) ∙ takes-refused s d e
-
--- what a state answers, by whether a refusal stands
-pub answer-none : (r : Reader) → broken r ≡ false → answerOf r ≡ noRefusal
-unfolding answerOf
-answer-none r e = rw e
-
-pub answer-refused : (r : Reader) → broken r ≡ true → answerOf r ≡ refusedAt r
-unfolding answerOf
-answer-refused r e = rw e
-
-pub report-none : (r : Reader) → broken r ≡ false → reportOf r ≡ soundReport r
-unfolding reportOf
-report-none r e = rw e
-
-pub report-refused : (r : Reader) → broken r ≡ true → reportOf r ≡ refusedReport r
-unfolding reportOf
-report-refused r e = rw e
-
--- the same of the flag
-pub new-takes : (s : List ℕ) (d : Reading) → New (d .reader) → New (takes d s .reader)
-new-takes s d o = rw (takes-reader s d) (new-steps s (d .reader) o)

@@ -1,8 +1,7 @@
--- What a refused state is, what the end makes of it, and how a report tells it.
-use mathlib.Core.Path.{_≡_, refl, sym, ap, _∙_}
+-- What a beginning that was not refused leaves, and what the end makes of a refused state. What a refused state answers: laws/Answers of crate reader_answers.
+use mathlib.Core.Path.{_≡_, refl, ap}
 use mathlib.Core.Bool.{Bool, true, false}
 use mathlib.Core.List.{List}
-use mathlib.Core.Logic.{_≢_}
 use Prim.Native.Nat.{ℕ, _≤_}
 use native.Mathlib.Omega.{arith}
 use lib.Dec.{ltb}
@@ -11,11 +10,8 @@ use borrow.Author.Tests.{ltb-false}
 use Rattle.laws.specs.Pick.{pick}
 use Rattle.form_step.specs.Reader.{broken, finished}
 use Rattle.form_step.specs.declared.Reader.{Reader}
-use Rattle.reader.specs.Calls.{answerOf, reportOf, beginning, beginCall, AtBegin}
+use Rattle.reader.specs.Calls.{beginning, beginCall, AtBegin}
 use Rattle.reader.specs.Promise.{ReaderBegins}
-use Rattle.reader.specs.laws.Calls.{answer-none, answer-refused, report-none, report-refused}
-use Rattle.reader.specs.declared.Answer.{Answer}
-use Rattle.reader.specs.declared.Report.{Report}
 
 pub begun-words : (ws₀ : List ℕ) {ws : List ℕ} → ReaderBegins ws₀ ws 0 → (16 ≤ length ws₀) × (ws ≡ beginning ws₀)
 unfolding beginCall
@@ -27,26 +23,6 @@ begun-words ws₀ {ws} e = go (ltb (length ws₀) 16) refl e
     go true p q = absurd (omega (arith, ap (λ (x : AtBegin). x .number) q))
     go false p q = (ltb-false _ _ p, ap (λ (x : AtBegin). x .words) q)
 
-pub refused-broken : (r : Reader) → answerOf r .number ≢ 0 → broken r ≡ true
-refused-broken r d = go (broken r) refl
-  where
-    go : (t : Bool) → broken r ≡ t → t ≡ true
-    go true e = refl
-    go false e = absurd (d (ap (λ (a : Answer). a .number) (answer-none r e)))
-
 pub finished-broken : (r : Reader) → broken r ≡ true → finished r ≡ r
 unfolding finished
 finished-broken r e = rw e
-
-pub report-answer : (r : Reader) → broken r ≡ true → (reportOf r .number ≡ answerOf r .number) × (reportOf r .at ≡ answerOf r .at)
-report-answer r e =
-    let p = report-refused r e in
-    let q = sym (answer-refused r e) in
-    (ap (λ (a : Report). a .number) p ∙ ap (λ (a : Answer). a .number) q, ap (λ (a : Report). a .at) p ∙ ap (λ (a : Answer). a .at) q)
-
-pub report-broken : (r : Reader) → reportOf r .number ≢ 0 → broken r ≡ true
-report-broken r d = go (broken r) refl
-  where
-    go : (t : Bool) → broken r ≡ t → t ≡ true
-    go true e = refl
-    go false e = absurd (d (ap (λ (a : Report). a .number) (report-none r e)))

@@ -1,10 +1,10 @@
--- `reader::answered` meets its contract: the number is small, so that nothing of it is lost.
+-- `reader_answers::answered` meets its contract: the number is small, so that nothing of it is lost.
 use native.Mathlib.Omega.{arith}
 use borrow.Author.Tests.{ne-eqb, eq-eqb}
 use Rattle.form_step.specs.laws.Standing.{refusal-small}
-use Rattle.reader.specs.Calls.{answerOf}
-use Rattle.reader.proofs.answered.Statement.{statement}
-use Rattle.reader.proofs.answered.Tie as tie
+use Rattle.reader_answers.specs.Answers.{answerOf}
+use Rattle.reader_answers.proofs.answered.Statement.{statement}
+use Rattle.reader_answers.proofs.answered.Tie as tie
 
 returns : tie.Need-returns
 unfolding answerOf

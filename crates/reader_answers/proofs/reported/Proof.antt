@@ -1,10 +1,10 @@
--- `reader::reported` meets its contract: no number is large, so that nothing of them is lost.
+-- `reader_answers::reported` meets its contract: no number is large, so that nothing of them is lost.
 use native.Mathlib.Omega.{arith}
 use borrow.Author.Tests.{ne-eqb, eq-eqb}
 use Rattle.form_step.specs.laws.Standing.{clip-small, few-counts, refusal-small}
-use Rattle.reader.specs.Calls.{reportOf}
-use Rattle.reader.proofs.reported.Statement.{statement}
-use Rattle.reader.proofs.reported.Tie as tie
+use Rattle.reader_answers.specs.Answers.{reportOf}
+use Rattle.reader_answers.proofs.reported.Statement.{statement}
+use Rattle.reader_answers.proofs.reported.Tie as tie
 
 returns : tie.Need-returns
 unfolding reportOf
