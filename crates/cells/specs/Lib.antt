@@ -1,6 +1,6 @@
 -- The root of the crate's definitions.
 pub mod Printed
-pub mod Shown
+pub mod Sized
 pub mod Square
 pub mod laws
 pub mod SquarePrints

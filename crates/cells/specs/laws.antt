@@ -1,4 +1,3 @@
 -- Laws that only proofs use.
 pub mod BuildText
 pub mod CellsInIndexes
-pub mod TextRoom

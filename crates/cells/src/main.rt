@@ -7,50 +7,18 @@ ghost use mathlib.Core.Path.{_≡_};
 ghost use Prim.Native.Nat.{_<_, _≤_};
 ghost use lib.ListN.{length, take};
 ghost use Rattle.mesh.specs.Accepted.{mesh};
-ghost use Rattle.printing.specs.Printed.{InBox, Prints, ShownIn, shown, ByForm};
+ghost use Rattle.printing.specs.Printed.{InBox, Prints, ByForm};
 ghost use Rattle.cells.specs.Printed.{listingText};
 ghost use Rattle.given_box.specs.Finite.{Fits};
 ghost use Rattle.form_box.specs.FormBox.{boxBy};
 ghost use Rattle.form_step.specs.Holds.{ListRoom, Few};
-ghost use Rattle.cells.specs.Shown.{SheetSized, Laid, boxLines};
+ghost use Rattle.cells.specs.Sized.{SheetSized};
 
 fn narrow(n: usize) -> u32
     requires { ⌜ n < 4294967296 ⌝ }
     ensures { λ r. ⌜ r ≡ n ⌝ }
 {
     n as u32
-}
-
-// The text of a build in a box that was answered by this number, put at the beginning of `out`; how many bytes it has.
-fn show_in_box(
-    out: &mut [u8],
-    number: u32,
-    sites: u32,
-    triangles: u32,
-    offsets: &[u32],
-    indexes: &[u32],
-    counts: &[u32],
-) -> usize
-    requires { ⌜ (number ≡ 0 → Laid sites (now offsets) (now indexes) (length (now out))) × (9 ≤ length (now counts)) × (65536 ≤ length (now out)) ⌝ }
-    ensures { λ r. ⌜ ShownIn (shown (boxLines sites triangles (now (offsets .entry)) (now (indexes .entry)) (now (counts .entry))) number) (now (out .exit)) (length (now (out .entry))) r ⌝ }
-{
-    if number != 0 {
-        return text_parts::refusal(out, number);
-    }
-    let owners = [counts[1], counts[2], counts[3], counts[4]];
-    listing::listing(
-        out,
-        sites,
-        triangles,
-        counts[0],
-        offsets,
-        indexes,
-        owners,
-        counts[5],
-        counts[6],
-        counts[7],
-        counts[8],
-    )
 }
 
 fn in_box(
@@ -84,7 +52,7 @@ fn in_box(
     );
     let n = narrow(sites.len() / 2);
     let t = narrow(triangles.len() / 3);
-    show_in_box(out, number, n, t, &offsets, &indexes, &counts)
+    cells_text::show_in_box(out, number, n, t, &offsets, &indexes, &counts)
 }
 
 // In the box that the form gives.

@@ -29,7 +29,8 @@ use Rattle.build_laws.specs.LateRefusals.{build-late}
 use Rattle.build_answers.specs.Success.{zero-succeeds}
 use Rattle.listing.specs.Listing.{countsAndCells, listing, cellLines}
 use Rattle.cells.specs.Printed.{linesOf, listingOf, listingText}
-use Rattle.cells.specs.Shown.{SheetSized, Laid, boxLines}
+use Rattle.cells.specs.Sized.{SheetSized}
+use Rattle.cells_text.specs.Shown.{Laid, boxLines}
 use Rattle.cells.specs.laws.CellsInIndexes.{lines-are, laid}
 use Rattle.printing.specs.laws.WholeBuild.{Whole, whole-in-box}
 use Rattle.printing.specs.laws.BuildText.{ProgramSlices, shows}

@@ -10,7 +10,7 @@ use Rattle.layout.specs.laws.Compacted.{offsets-length}
 use Rattle.listing.specs.Listing.{cellLine, cellLines}
 use Rattle.text_parts.specs.Listed.{listedCell}
 use Rattle.cells.specs.Printed.{linesOf}
-use Rattle.cells.specs.Shown.{Laid}
+use Rattle.cells_text.specs.Shown.{Laid}
 use Rattle.printing.specs.laws.CellsInIndexes.{joined-split, offset-at, next-at, cell-at, total}
 
 -- the offsets and the index list may go on after the cells

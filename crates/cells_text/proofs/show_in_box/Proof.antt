@@ -1,11 +1,11 @@
--- `cells::show_in_box` puts its text at the beginning of the output: there is room for a refusal, and for the listing of cells that are laid out.
+-- `cells_text::show_in_box` puts its text at the beginning of the output: there is room for a refusal, and for the listing of cells that are laid out.
 use native.Mathlib.Omega.{arith}
 use Rattle.text_parts.specs.laws.Labelled.{refusal-short}
-use Rattle.cells.specs.laws.TextRoom.{box-fits}
+use Rattle.cells_text.specs.laws.TextRoom.{box-fits}
 use Rattle.printing.specs.laws.TextRoom.{refusal-held, text-held}
 use borrow.Author.Needs.{needs}
-use Rattle.cells.proofs.show_in_box.Statement.{statement}
-use Rattle.cells.proofs.show_in_box.Tie as tie
+use Rattle.cells_text.proofs.show_in_box.Statement.{statement}
+use Rattle.cells_text.proofs.show_in_box.Tie as tie
 
 refusal-requires : tie.Need-refusal-requires
 refusal-requires c κs =

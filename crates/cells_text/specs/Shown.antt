@@ -1,16 +1,9 @@
--- The steps of `cells`: a build's answer as text, by its number and its lent slices, and the sizes within which everything has room.
+-- What `cells` shows of a build: the listing by its lent slices, and the sizes within which it has room.
 use mathlib.Core.List.{List, [], _∷_}
 use Prim.Native.Nat.{ℕ, _≤_}
 use lib.ListN.{getD}
 use Rattle.listing.specs.Listing.{listing}
 use Rattle.text_parts.specs.Listed.{Layout}
-
--- the lists of a form, and room for its text
-pub record SheetSized (coordinates entries hull space : ℕ) : Type 0 where
-  pub few-sites : coordinates ≤ 192
-  pub few-triangles : entries ≤ 576
-  pub few-on-hull : hull ≤ 96
-  pub room : 65536 ≤ space
 
 -- cells that a listing can go by, with room for its text
 pub record Laid (n : ℕ) (offs idx : List ℕ) (space : ℕ) : Type 0 where

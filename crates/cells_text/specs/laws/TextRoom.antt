@@ -5,7 +5,7 @@ use Prim.Native.Nat.{ℕ, _≤_}
 use native.Mathlib.Omega.{arith}
 use lib.ListN.{length, getD}
 use Rattle.listing.specs.laws.Listing.{listing-short}
-use Rattle.cells.specs.Shown.{Laid, boxLines}
+use Rattle.cells_text.specs.Shown.{Laid, boxLines}
 
 module _ (T : ℕ) (counts : List ℕ) {n : ℕ} {offs idx : List ℕ} {space : ℕ} (p : Laid n offs idx space) where
   pub box-fits : length (boxLines n T offs idx counts) ≤ space
