@@ -1,4 +1,4 @@
--- What the calls on a form that arrives in parts answer, and what they leave in the state and the formLists. What a state answers: Answers of crate reader_answers.
+-- What the calls on a form that arrives in parts answer, and what they leave in the state and the lists. What a state answers: Answers of crate reader_answers.
 -- Definitions only.
 use mathlib.Core.Bool.{Bool, false}
 use mathlib.Core.List.{List}
@@ -16,7 +16,7 @@ use Rattle.reader_answers.specs.Answers.{answerOf, reportOf, noRoom, noReport}
 use Rattle.reader_answers.specs.declared.Answer.{Answer}
 use Rattle.reader_answers.specs.declared.Report.{Report}
 
--- the lent formLists
+-- the lent lists
 pub record FormLists : Type 0 where
   pub bounds : List Float
   pub sites : List Float

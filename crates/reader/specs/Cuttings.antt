@@ -1,4 +1,4 @@
--- Theorem: however a form is cut, what is fed in parts and ended is what is read at once: number, byte, counts and formLists. And a refusal stays.
+-- Theorem: however a form is cut, what is fed in parts and ended is what is read at once: number, byte, counts and lists. And a refusal stays.
 use mathlib.Core.Path.{_≡_, refl, sym, ap, _∙_}
 use mathlib.Core.Bool.{Bool, true, false}
 use mathlib.Core.List.{List, [], _∷_, _++_, append-assoc, append-nil}
@@ -109,7 +109,7 @@ module _ (ws₀ : List ℕ) (long : 16 ≤ length ws₀) where
           in
           (sym (ap (λ (x : AtFeed). x .words) g ∙ stored-again (replicate (length ws₀) 0) (start false) (start false) zeros-long), sym (ap (λ (x : AtFeed). x .formLists) g))
 
-  -- the state and the formLists after any bytes
+  -- the state and the lists after any bytes
   module _ (l : FormLists) (room : roomy l ≡ true) (s : List ℕ) where
     abbrev done : Reading
     done = takes (readingOf (start false) l) s
@@ -178,7 +178,7 @@ end-refused ws l s long f d =
     let (a, b) = report-answer n k in
     (ap (λ (x : Report). x .number) w ∙ a ∙ sym (ap (λ (x : AtFeed). x .answer .number) g), ap (λ (x : Report). x .at) w ∙ b ∙ sym (ap (λ (x : AtFeed). x .answer .at) g))
 
--- what the end refused stays refused, with the same byte, and the formLists stay
+-- what the end refused stays refused, with the same byte, and the lists stay
 pub ended-refused :
     (ws : List ℕ) (l : FormLists) (t : List ℕ) → 16 ≤ length ws → roomy l ≡ true → endCall ws .report .number ≢ 0
     → (feedCall (endCall ws .words) l t .answer .number ≡ endCall ws .report .number) × (feedCall (endCall ws .words) l t .answer .at ≡ endCall ws .report .at)

@@ -1,4 +1,4 @@
--- Theorem: what is report of a whole form: for a sound form its mesh, with its numbers from the beginning of each list; for every other byte string the refusal's number, at the
+-- Theorem: what is told of a whole form: for a sound form its mesh, with its numbers from the beginning of each list; for every other byte string the refusal's number, at the
 -- first byte after which no sound form can follow, or at the length of a form that has not ended.
 use mathlib.Core.Path.{_≡_, refl, sym, _∙_, subst}
 use mathlib.Core.Bool.{Bool, true, false}

@@ -12,7 +12,7 @@ pub extern "C" fn voronoi_reader_begin(state: &mut [u64]) -> u32
     reader::begin(state)
 }
 
-// A block of any length. The formLists hold the numbers whose last byte has come.
+// A block of any length. The lists hold the numbers whose last byte has come.
 #[no_mangle]
 pub extern "C" fn voronoi_reader_feed(
     state: &mut [u64],

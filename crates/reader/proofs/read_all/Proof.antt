@@ -1,4 +1,4 @@
--- `reader::read_all` meets its contract: the start takes the bytes, and is finished and report.
+-- `reader::read_all` meets its contract: the start takes the bytes, and is finished and told.
 use mathlib.Core.Bool.{false}
 use mathlib.Core.Path.{ap, _∙_}
 use denote.Ref.{now}
