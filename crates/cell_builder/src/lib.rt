@@ -6,7 +6,7 @@ use cell_finish::CellsAnswer;
 use cell_finish::Progress;
 use cell_finish::refuse;
 use cell_finish::settle;
-use cell_tries::loops::clip_cells;
+use cell_turns::loops::clip_cells;
 use definition::Fault;
 use outputs::lay_out;
 use rings::circumcenters::calculate_circumcenters;

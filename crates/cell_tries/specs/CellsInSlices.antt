@@ -14,8 +14,8 @@ use Rattle.mesh.specs.Accepted.{Topology}
 use Rattle.layout.specs.Regions.{Regions}
 use Rattle.layout.specs.Rooms.{Started}
 use Rattle.definition.specs.declared.Fault.{Fault}
-use Rattle.definition.specs.Fault.{Outcome, ok, refused, andThen}
-use Rattle.definition.specs.Build.{ringFrom, hullRing, Extensions, CellState, clipInto, clipHull, clipRest, isEmpty}
+use Rattle.definition.specs.Fault.{Outcome, ok, refused}
+use Rattle.definition.specs.Build.{ringFrom, hullRing, Extensions, CellState, clipInto, isEmpty}
 use Rattle.definition.specs.Measures.{shareOf}
 use Rattle.definition.specs.Reused.{reusedIn}
 use Rattle.definition.specs.Cell.{unmarked}
@@ -93,7 +93,7 @@ abbrev pub Does : Plan → Ground → Outcome Fault CellState → Progress → L
 Does w g (ok s) p v ix = Amid w g s p v ix
 Does w g (refused e) p v ix = (p .fault ≡ e) × (0 < e .number)
 
--- ---- the definition's tries and loops, by a plan
+-- ---- the definition's tries, by a plan
 
 abbrev pub hullTry : Plan → Ground → ℕ → CellState → Outcome Fault CellState
 hullTry w g i s = clipInto (w .frame .bounds) (length (w .triangles) / 3) (getD (w .hull) i 0) (hullRing (w .halfedges) (w .hull) (w .table) (g .x .at) i) s
@@ -102,12 +102,6 @@ abbrev pub edgeTry : Plan → ℕ → CellState → Outcome Fault CellState
 edgeTry w e s =
     let site = endOf (w .triangles) e in
     pick (isEmpty (getD (s .cells) site [])) (λ _. clipInto (w .frame .bounds) (length (w .triangles) / 3) site (ringFrom (w .halfedges) e) s) (λ _. ok s)
-
-abbrev pub hullTries : Plan → Ground → CellState → Outcome Fault CellState
-hullTries w g s = clipHull (w .frame .bounds) (length (w .triangles) / 3) (w .halfedges) (w .hull) (w .table) (g .x .at) 0 (length (w .hull)) s
-
-abbrev pub edgeTries : Plan → CellState → Outcome Fault CellState
-edgeTries w s = clipRest (w .frame .bounds) (length (w .triangles) / 3) (w .triangles) (w .halfedges) 0 (length (w .triangles)) s
 
 -- ---- what the functions need: some cells that the slices hold
 
@@ -118,13 +112,6 @@ pub record HullAmid (w : Plan) (p : Progress) (v : List Float) (ix : List ℕ) (
   pub amid : Amid w g s p v ix
   pub place : i < length (w .hull)
   pub blank : getD (s .cells) (getD (w .hull) i 0) [] ≡ []
-
--- all hull sites' cells are empty
-pub record HullsAmid (w : Plan) (p : Progress) (v : List Float) (ix : List ℕ) : Type 0 where
-  pub g : Ground
-  pub s : CellState
-  pub amid : Amid w g s p v ix
-  pub blank : (i : ℕ) → i < length (w .hull) → getD (s .cells) (getD (w .hull) i 0) [] ≡ []
 
 pub record EdgesAmid (w : Plan) (p : Progress) (v : List Float) (ix : List ℕ) : Type 0 where
   pub g : Ground
@@ -145,16 +132,3 @@ AtRest w p v ix P = (g : Ground) (s : CellState) → Amid w g s p v ix → P g s
 -- at half-edge e
 abbrev pub EdgeTried : Plan → Progress → List Float → List ℕ → ℕ → Progress → List Float → List ℕ → Type 0
 EdgeTried w p v ix e r v₁ ix₁ = AtRest w p v ix (λ g s. Does w g (edgeTry w e s) r v₁ ix₁)
-
--- at first: those of the hull are empty
-abbrev pub AtFirst : Plan → Progress → List Float → List ℕ → (Ground → CellState → Type 0) → Type 0
-AtFirst w p v ix P =
-    (g : Ground) (s : CellState) → ((j : ℕ) → j < length (w .hull) → getD (s .cells) (getD (w .hull) j 0) [] ≡ []) → Amid w g s p v ix → P g s
-
--- at all hull places
-abbrev pub HullsTried : Plan → Progress → List Float → List ℕ → Progress → List Float → List ℕ → Type 0
-HullsTried w p v ix r v₁ ix₁ = AtFirst w p v ix (λ g s. Does w g (hullTries w g s) r v₁ ix₁)
-
--- and then at all half-edges
-abbrev pub AllTried : Plan → Progress → List Float → List ℕ → Progress → List Float → List ℕ → Type 0
-AllTried w p v ix r v₁ ix₁ = AtFirst w p v ix (λ g s. Does w g (andThen (hullTries w g s) (λ t. edgeTries w t)) r v₁ ix₁)

@@ -1,5 +1,4 @@
 -- The root of the crate's definitions.
 pub mod CellsInSlices
 pub mod Tries
-pub mod Turns
 pub mod laws

@@ -1,9 +1,7 @@
-// All cells of a clipped build, each try's ring staged in the index list and clipped into its site's region.
+// One cell of a clipped build: the try's ring staged in the index list and clipped into its site's region.
 use bounding_box::BoundingBox;
 
 pub mod tries; // tries.rt: one try
-pub mod turns; // turns.rt: one half-edge of the rest
-pub mod loops; // loops.rt: all of them
 
 // What stays while the cells are clipped: the box, the number of circumcenters, and in the index list where a ring is staged and where the store's part begins.
 // Just before that stand the numbers of the hull's extensions.

@@ -40,7 +40,8 @@ use Rattle.definition.specs.Cell.{unmarked}
 use Rattle.definition.specs.Short.{fault, extensions, cellState}
 use Rattle.cell_tries.specs.declared.Frame.{Frame}
 use Rattle.cell_finish.specs.declared.Progress.{Progress}
-use Rattle.cell_tries.specs.CellsInSlices.{Plan, plan, ground, frameOf, Grounded, Amid, HullsAmid, AllTried}
+use Rattle.cell_tries.specs.CellsInSlices.{Plan, plan, ground, frameOf, Grounded, Amid}
+use Rattle.cell_turns.specs.Loops.{HullsAmid, AllTried}
 use Rattle.cell_builder.specs.AdmittedBuild.{AdmittedBuild}
 use Rattle.cell_builder.specs.Start.{extendedOf, Extendable, Begun, BegunBy, Makeable, planOf, Makes}
 use Rattle.layout.specs.laws.RegionsKept.{regions-agree}

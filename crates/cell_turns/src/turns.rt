@@ -1,14 +1,14 @@
 // One half-edge of the rest. As long as no try has left its cell empty, the leftmost table alone tells where there is nothing to do, and the cells are not looked at.
-use crate::Frame;
-use crate::tries::clip_at_edge;
 use cell_finish::Progress;
+use cell_tries::Frame;
+use cell_tries::tries::clip_at_edge;
 use mesh::end_site;
 use numbers::EMPTY;
 use numbers::wide;
 ghost use mathlib.Core.List.{List};
 ghost use Prim.Native.Nat.{ℕ};
 ghost use Rattle.cell_tries.specs.CellsInSlices.{plan};
-ghost use Rattle.cell_tries.specs.Turns.{TurnAmid, TurnTried};
+ghost use Rattle.cell_turns.specs.Turns.{TurnAmid, TurnTried};
 
 // How far the build is, and whether every try so far has made its cell.
 pub struct Turn {

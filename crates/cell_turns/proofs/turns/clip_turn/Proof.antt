@@ -1,4 +1,4 @@
--- `cell_tries::turns::clip_turn` meets its contract: a site with an entry below e has its cell while the flag is set, so its try changes nothing; any other try is made, and
+-- `cell_turns::turns::clip_turn` meets its contract: a site with an entry below e has its cell while the flag is set, so its try changes nothing; any other try is made, and
 -- the first entry of the site's region then tells whether the cell is there.
 use mathlib.Core.Path.{_≡_, _∙_}
 use Prim.Native.Nat.{_<_}
@@ -8,10 +8,10 @@ use borrow.Author.Needs.{needs}
 use borrow.Author.Tests.{ltb-true}
 use Rattle.laws.specs.laws.And.{and-left, and-right}
 use Rattle.mesh.specs.Mesh.{endOf}
 use Rattle.cell_tries.specs.laws.HullAndEdgeTries.{edge-site, region-place}
-use Rattle.cell_tries.specs.laws.OneTurn.{table-place, turn-skipped, turn-tried}
-use Rattle.cell_tries.proofs.turns.clip_turn.Statement.{statement}
-use Rattle.cell_tries.proofs.turns.clip_turn.Tie as tie
+use Rattle.cell_turns.specs.laws.OneTurn.{table-place, turn-skipped, turn-tried}
+use Rattle.cell_turns.proofs.turns.clip_turn.Statement.{statement}
+use Rattle.cell_turns.proofs.turns.clip_turn.Tie as tie
 
 abbrev Entry : tie.After-end-site → tie.Start
 Entry c = c .before .before .before .before .before .before .before

@@ -1,9 +1,9 @@
--- `cell_tries::loops::clip_cells` meets its contract: the hull's refusal is the whole's, else the rest goes on from the cells that the hull's tries gave.
+-- `cell_turns::loops::clip_cells` meets its contract: the hull's refusal is the whole's, else the rest goes on from the cells that the hull's tries gave.
 use borrow.Author.Needs.{needs}
 use Rattle.cell_tries.specs.CellsInSlices.{Plan, plan}
-use Rattle.cell_tries.specs.laws.TryLoops.{cells-refused, cells-amid, cells-end}
-use Rattle.cell_tries.proofs.loops.clip_cells.Statement.{statement}
-use Rattle.cell_tries.proofs.loops.clip_cells.Tie as tie
+use Rattle.cell_turns.specs.laws.TryLoops.{cells-refused, cells-amid, cells-end}
+use Rattle.cell_turns.proofs.loops.clip_cells.Statement.{statement}
+use Rattle.cell_turns.proofs.loops.clip_cells.Tie as tie
 
 abbrev Entry : tie.After-clip-hull → tie.Start
 Entry h = h .before .before .before .before .before .before .before .before .before .before

@@ -20,12 +20,12 @@ use Rattle.definition.specs.Fault.{Outcome, ok, refused}
 use Rattle.definition.specs.Build.{CellState, ringFrom, isEmpty}
 use Rattle.definition.specs.laws.Gives.{Gives, picked}
 use Rattle.outputs.specs.laws.Marks.{full-already}
 use Rattle.cell_tries.specs.declared.Frame.{Frame}
 use Rattle.cell_finish.specs.declared.Progress.{Progress}
 use Rattle.cell_tries.specs.CellsInSlices.{plan, Ground, Amid, Does, edgeTry}
-use Rattle.cell_tries.specs.Turns.{FullBefore, Turned}
+use Rattle.cell_turns.specs.Turns.{FullBefore, Turned}
 use Rattle.cell_tries.specs.laws.HullAndEdgeTries.{edge-site, region-some}
-use Rattle.cell_tries.specs.laws.TryLoops.{OthersStay, others-stay}
+use Rattle.cell_turns.specs.laws.TryLoops.{OthersStay, others-stay}
 
 -- the cell of the site where e ends is there
 edge-full : {tri he hull table : List ℕ} {f : Frame} {off : List ℕ} {g : Ground} {s : CellState} {p : Progress} {v : List Float} {ix : List ℕ}

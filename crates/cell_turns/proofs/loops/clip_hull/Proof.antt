@@ -1,12 +1,12 @@
--- `cell_tries::loops::clip_hull` meets its contract: before hull place i the definition on the places left makes the whole, and their cells are empty.
+-- `cell_turns::loops::clip_hull` meets its contract: before hull place i the definition on the places left makes the whole, and their cells are empty.
 use mathlib.Core.Path.{_≡_, refl, _∙_}
 use Prim.Native.Nat.{_-_}
 use native.Mathlib.Omega.{arith}
 use lib.ListN.{length}
 use Rattle.cell_tries.specs.CellsInSlices.{plan}
-use Rattle.cell_tries.specs.laws.TryLoops.{HullsAlong, hulls-start, hulls-amid, hulls-step, hulls-refused, hulls-end}
-use Rattle.cell_tries.proofs.loops.clip_hull.Statement.{statement}
-use Rattle.cell_tries.proofs.loops.clip_hull.Tie as tie
+use Rattle.cell_turns.specs.laws.TryLoops.{HullsAlong, hulls-start, hulls-amid, hulls-step, hulls-refused, hulls-end}
+use Rattle.cell_turns.proofs.loops.clip_hull.Statement.{statement}
+use Rattle.cell_turns.proofs.loops.clip_hull.Tie as tie
 
 abbrev Inv-loop : tie.InvT-loop
 Inv-loop triangles halfedges hull table v₀ ix₀ off f at₀ i₀ v ix at i =

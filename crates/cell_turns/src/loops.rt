@@ -1,12 +1,12 @@
 // All cells: the hull's in its order, then, half-edge by half-edge, those still empty.
-use crate::Frame;
-use crate::tries::clip_at_hull;
 use crate::turns::clip_turn;
 use cell_finish::Progress;
+use cell_tries::Frame;
+use cell_tries::tries::clip_at_hull;
 ghost use mathlib.Core.List.{List};
 ghost use Prim.Native.Nat.{ℕ};
-ghost use Rattle.cell_tries.specs.CellsInSlices.{plan, HullsAmid, EdgesAmid, HullsTried, AllTried};
-ghost use Rattle.cell_tries.specs.Turns.{RestTried};
+ghost use Rattle.cell_tries.specs.CellsInSlices.{plan, EdgesAmid};
+ghost use Rattle.cell_turns.specs.Loops.{HullsAmid, HullsTried, RestTried, AllTried};
 
 // The cells of all hull sites.
 fn clip_hull(

@@ -1,14 +1,14 @@
--- `cell_tries::loops::clip_rest` meets its contract: before half-edge e the definition on the half-edges left makes the whole, and while the flag
+-- `cell_turns::loops::clip_rest` meets its contract: before half-edge e the definition on the half-edges left makes the whole, and while the flag
 -- is set, sites with table entries below e have their cells.
 use mathlib.Core.Path.{_≡_, refl, _∙_}
 use mathlib.Core.List.{List}
 use Prim.Native.Nat.{ℕ, _-_}
 use native.Mathlib.Omega.{arith}
 use lib.ListN.{length}
 use Rattle.cell_tries.specs.CellsInSlices.{plan}
-use Rattle.cell_tries.specs.laws.TryLoops.{EdgesAlong, edges-start, edges-amid, edges-step, edges-refused, edges-end}
-use Rattle.cell_tries.proofs.loops.clip_rest.Statement.{statement}
-use Rattle.cell_tries.proofs.loops.clip_rest.Tie as tie
+use Rattle.cell_turns.specs.laws.TryLoops.{EdgesAlong, edges-start, edges-amid, edges-step, edges-refused, edges-end}
+use Rattle.cell_turns.proofs.loops.clip_rest.Statement.{statement}
+use Rattle.cell_turns.proofs.loops.clip_rest.Tie as tie
 
 abbrev Inv-loop : tie.InvT-loop
 Inv-loop triangles halfedges table v₀ ix₀ off f at₀ full₀ e₀ v ix at full e =

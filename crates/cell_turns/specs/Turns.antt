@@ -8,7 +8,7 @@ use lib.ListN.{length, getD}
 use Rattle.definition.specs.Build.{CellState, isEmpty}
 use Rattle.definition.specs.laws.Gives.{Gives}
 use Rattle.cell_finish.specs.declared.Progress.{Progress}
-use Rattle.cell_tries.specs.CellsInSlices.{Plan, Ground, Amid, Does, AtRest, edgeTry, edgeTries}
+use Rattle.cell_tries.specs.CellsInSlices.{Plan, Ground, Amid, Does, AtRest, edgeTry}
 
 -- where `full` says so: of n sites, those with table entries below e have their cells
 abbrev pub FullBefore : List ℕ → ℕ → Bool → ℕ → CellState → Type 0
@@ -27,12 +27,6 @@ pub record Turned (w : Plan) (g : Ground) (s : CellState) (e : ℕ) (p : Progres
   pub does : Does w g (edgeTry w e s) p v ix
   pub full-before : Gives (FullBefore (w .table) (g .sites) full (e + 1)) (edgeTry w e s)
 
--- ---- what the functions give, of whatever cells the slices held
-
--- at half-edge e
+-- what the turn at half-edge e gives, of whatever cells the slices held
 abbrev pub TurnTried : Plan → Progress → Bool → List Float → List ℕ → ℕ → Progress → Bool → List Float → List ℕ → Type 0
 TurnTried w p full v ix e r full₁ v₁ ix₁ = AtRest w p v ix (λ g s. FullBefore (w .table) (g .sites) full e s → Turned w g s e r full₁ v₁ ix₁)
-
--- at all half-edges
-abbrev pub RestTried : Plan → Progress → List Float → List ℕ → Progress → List Float → List ℕ → Type 0
-RestTried w p v ix r v₁ ix₁ = AtRest w p v ix (λ g s. Does w g (edgeTries w s) r v₁ ix₁)

@@ -19,8 +19,9 @@ use Rattle.definition.specs.Cell.{clipCell}
 use Rattle.definition.specs.Build.{CellState, clipInto, clipHull, clipRest}
 use Rattle.definition.specs.laws.Gives.{Gives, gives-map, gives-next}
 use Rattle.cell_finish.specs.declared.Progress.{Progress}
-use Rattle.cell_tries.specs.CellsInSlices.{Plan, Ground, Amid, Does, hullTry, edgeTry, hullTries, edgeTries, HullAmid, HullsAmid, EdgesAmid, AtRest, AtFirst, HullTried, HullsTried, AllTried}
-use Rattle.cell_tries.specs.Turns.{FullBefore, TurnAmid, TurnTried, RestTried}
+use Rattle.cell_tries.specs.CellsInSlices.{Plan, Ground, Amid, Does, hullTry, edgeTry, HullAmid, EdgesAmid, AtRest, HullTried}
+use Rattle.cell_turns.specs.Loops.{hullTries, edgeTries, HullsAmid, AtFirst, HullsTried, RestTried, AllTried}
+use Rattle.cell_turns.specs.Turns.{FullBefore, TurnAmid, TurnTried}
 
 -- ---- one step
 
