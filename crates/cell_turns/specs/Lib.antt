@@ -1,4 +1,4 @@
 -- The root of the crate's definitions.
-pub mod Loops
 pub mod Turns
+pub mod Loops
 pub mod laws

@@ -1,32 +1,61 @@
--- The rest, half-edge by half-edge. While no try has left its cell empty, every site whose table entry has come by has its cell: it was there, or made at that entry.
+-- The rest, half-edge by half-edge. An inner site, one whose table entry is paired, has its cell once that has come by, or is idle: no try gives it one.
 use mathlib.Core.Path.{_≡_}
 use mathlib.Core.Bool.{Bool, true, false}
 use mathlib.Core.List.{List, []}
-use Prim.Native.Nat.{ℕ, _+_, _<_}
-use lib.Ieee.{Float}
+use mathlib.Core.Logic.{_⊎_, _≢_}
+use Prim.Native.Nat.{ℕ, _+_, _/_, _%_, _≤_, _<_}
+use lib.Dec.{leb, eqb}
 use lib.ListN.{length, getD}
+use Rattle.laws.specs.Pick.{pick}
+use Rattle.numbers.specs.Numbers.{EMPTY}
+use Rattle.mesh.specs.Mesh.{endOf, pairOf}
 use Rattle.definition.specs.Build.{CellState, isEmpty}
 use Rattle.definition.specs.laws.Gives.{Gives}
-use Rattle.cell_finish.specs.declared.Progress.{Progress}
-use Rattle.cell_tries.specs.CellsInSlices.{Plan, Ground, Amid, Does, AtRest, edgeTry}
+use Rattle.cell_turns.specs.laws.IdleSites.{IdleSite}
+use Rattle.cell_tries.specs.CellsInSlices.{Plan, Ground, edgeTry}
 
--- where `full` says so: of n sites, those with table entries below e have their cells
-abbrev pub FullBefore : List ℕ → ℕ → Bool → ℕ → CellState → Type 0
-FullBefore table n full e s = full ≡ true → (k : ℕ) → k < n → getD table k 0 < e → isEmpty (getD (s .cells) k []) ≡ false
+-- whether half-edge e is to be tried: its site's table entry has not come by; or it has, is unpaired, and a hull site's cell is empty
+unfoldable pub dueOf : List ℕ → List ℕ → List ℕ → Bool → ℕ → Bool
+dueOf tri he table full e =
+    let t = getD table (endOf tri e) 0 in
+    pick (leb e t) (λ _. true) (λ _. pick full (λ _. false) (λ _. eqb (pairOf he t) EMPTY))
 
--- before half-edge e
-pub record TurnAmid (w : Plan) (p : Progress) (full : Bool) (v : List Float) (ix : List ℕ) (e : ℕ) : Type 0 where
-  pub g : Ground
-  pub s : CellState
-  pub amid : Amid w g s p v ix
-  pub full-before : FullBefore (w .table) (g .sites) full e s
-  pub place : e < length (w .triangles)
+-- the site where half-edge e ends stands in the table, and its entry is a half-edge
+abbrev pub HasEntry : List ℕ → List ℕ → List ℕ → ℕ → Type 0
+HasEntry tri he table e = (endOf tri e < length table) × (getD table (endOf tri e) 0 < length he)
 
--- after it: the definition's try, and the sites that then have their cells
-pub record Turned (w : Plan) (g : Ground) (s : CellState) (e : ℕ) (p : Progress) (full : Bool) (v : List Float) (ix : List ℕ) : Type 0 where
-  pub does : Does w g (edgeTry w e s) p v ix
-  pub full-before : Gives (FullBefore (w .table) (g .sites) full (e + 1)) (edgeTry w e s)
+pub record AllHaveEntries (tri he table : List ℕ) : Type 0 where
+  pub threes : length tri % 3 ≡ 0
+  pub small : length tri < EMPTY
+  pub each : (e : ℕ) → e < length tri → HasEntry tri he table e
 
--- what the turn at half-edge e gives, of whatever cells the slices held
-abbrev pub TurnTried : Plan → Progress → Bool → List Float → List ℕ → ℕ → Progress → Bool → List Float → List ℕ → Type 0
-TurnTried w p full v ix e r full₁ v₁ ix₁ = AtRest w p v ix (λ g s. FullBefore (w .table) (g .sites) full e s → Turned w g s e r full₁ v₁ ix₁)
+-- from `from` on nothing is due before r, and r is, or ends the list
+pub record NextDue (tri he table : List ℕ) (full : Bool) (from r : ℕ) : Type 0 where
+  pub low : from ≤ r
+  pub high : from ≤ length tri → r ≤ length tri
+  pub passed : (e : ℕ) → from ≤ e → e < r → dueOf tri he table full e ≡ false
+  pub due : r < length tri → dueOf tri he table full r ≡ true
+
+-- where `full` says so every hull site has its cell
+abbrev pub HullsFilled : Plan → Bool → CellState → Type 0
+HullsFilled w full s = full ≡ true → (i : ℕ) → i < length (w .hull) → isEmpty (getD (s .cells) (getD (w .hull) i 0) []) ≡ false
+
+-- what is settled before half-edge e
+pub record SettledBefore (w : Plan) (g : Ground) (full : Bool) (e : ℕ) (s : CellState) : Type 0 where
+  pub inner : (k : ℕ) → k < g .sites → pairOf (w .halfedges) (getD (w .table) k 0) ≢ EMPTY → getD (w .table) k 0 < e
+      → (isEmpty (getD (s .cells) k []) ≡ false) ⊎ IdleSite (w .frame .bounds) (length (w .triangles) / 3) (w .triangles) (w .halfedges) (g .x .verts) k
+  pub hulls : HullsFilled w full s
+
+-- after it, and after the definition's try there
+abbrev pub SettledAfter : Plan → Ground → Bool → ℕ → CellState → Type 0
+SettledAfter w g full e s = Gives (SettledBefore w g full (e + 1)) (edgeTry w e s)
+
+-- the region of each hull site begins in the index list
+pub record HullRegions (hull ix off : List ℕ) : Type 0 where
+  pub starts : (i : ℕ) → i < length hull → getD hull i 0 < length off
+  pub places : (i : ℕ) → i < length hull → getD off (getD hull i 0) 0 < length ix
+  pub few : length hull ≤ 65536
+
+-- and its first entry is that of a cell
+abbrev pub RegionFilled : List ℕ → List ℕ → List ℕ → ℕ → Type 0
+RegionFilled hull ix off i = getD ix (getD off (getD hull i 0) 0) 0 ≢ EMPTY

@@ -1,12 +1,14 @@
 // All cells: the hull's in its order, then, half-edge by half-edge, those still empty.
-use crate::turns::clip_turn;
+use crate::turns::hulls_filled;
+use crate::turns::next_due;
 use cell_finish::Progress;
 use cell_tries::Frame;
+use cell_tries::tries::clip_at_edge;
 use cell_tries::tries::clip_at_hull;
 ghost use mathlib.Core.List.{List};
 ghost use Prim.Native.Nat.{ℕ};
-ghost use Rattle.cell_tries.specs.CellsInSlices.{plan, EdgesAmid};
-ghost use Rattle.cell_turns.specs.Loops.{HullsAmid, HullsTried, RestTried, AllTried};
+ghost use Rattle.cell_tries.specs.CellsInSlices.{plan};
+ghost use Rattle.cell_turns.specs.Loops.{HullsAmid, RestAmid, HullsTried, RestTried, AllTried};
 
 // The cells of all hull sites.
 fn clip_hull(
@@ -59,35 +61,22 @@ fn clip_rest(
     offsets: &[u32],
     f: Frame,
     p: Progress,
+    full: bool,
 ) -> Progress
-    requires { ⌜ ((hull : List ℕ) × EdgesAmid (plan (now triangles) (now halfedges) hull (now table) f (now offsets)) p (now vertices) (now indexes)) ⌝ }
-    ensures { λ r. ⌜ ((hull : List ℕ) → RestTried (plan (now (triangles .entry)) (now (halfedges .entry)) hull (now (table .entry)) f (now (offsets .entry))) p
+    requires { ⌜ ((hull : List ℕ) × RestAmid (plan (now triangles) (now halfedges) hull (now table) f (now offsets)) full p (now vertices) (now indexes)) ⌝ }
+    ensures { λ r. ⌜ ((hull : List ℕ) → RestTried (plan (now (triangles .entry)) (now (halfedges .entry)) hull (now (table .entry)) f (now (offsets .entry))) full p
         (now (vertices .entry)) (now (indexes .entry)) r (now (vertices .exit)) (now (indexes .exit))) ⌝ }
 {
     let mut at = p;
-    let mut full = true;
-    let mut e: usize = 0;
+    let mut e = next_due(triangles, halfedges, table, full, 0);
     while e < triangles.len() {
-        let t = clip_turn(
-            triangles,
-            halfedges,
-            table,
-            vertices,
-            indexes,
-            offsets,
-            f,
-            at,
-            full,
-            e,
-        );
-        let r = t.progress;
+        let r = clip_at_edge(triangles, halfedges, vertices, indexes, offsets, f, at, e);
         let fault = r.fault;
         if fault.number != 0 {
             return r;
         }
         at = r;
-        full = t.full;
-        e += 1;
+        e = next_due(triangles, halfedges, table, full, e + 1);
     }
     at
 }
@@ -123,6 +112,7 @@ pub fn clip_cells(
     if fault.number != 0 {
         return r;
     }
+    let full = hulls_filled(hull, indexes, offsets);
     clip_rest(
         triangles,
         halfedges,
@@ -132,5 +122,6 @@ pub fn clip_cells(
         offsets,
         f,
         r,
+        full,
     )
 }

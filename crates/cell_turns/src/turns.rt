@@ -1,49 +1,64 @@
-// One half-edge of the rest. As long as no try has left its cell empty, the leftmost table alone tells where there is nothing to do, and the cells are not looked at.
-use cell_finish::Progress;
-use cell_tries::Frame;
-use cell_tries::tries::clip_at_edge;
+// Which half-edges of the rest are tried. The leftmost table tells where there is nothing to do, and the cells are not looked at there: an inner site's cell is made at its table entry
+// or never, and the cells of hull sites are there already, or some is empty and its half-edges are tried one by one.
 use mesh::end_site;
 use numbers::EMPTY;
 use numbers::wide;
-ghost use mathlib.Core.List.{List};
-ghost use Prim.Native.Nat.{ℕ};
-ghost use Rattle.cell_tries.specs.CellsInSlices.{plan};
-ghost use Rattle.cell_turns.specs.Turns.{TurnAmid, TurnTried};
+ghost use mathlib.Core.Path.{_≡_};
+ghost use mathlib.Core.Bool.{true};
+ghost use Prim.Native.Nat.{ℕ, _%_, _<_};
+ghost use lib.ListN.{length};
+ghost use Rattle.cell_turns.specs.Turns.{dueOf, HasEntry, AllHaveEntries, NextDue, HullRegions, RegionFilled};
 
-// How far the build is, and whether every try so far has made its cell.
-pub struct Turn {
-    pub progress: Progress,
-    pub full: bool,
+// Whether half-edge e can give the site where it ends a cell. `full` says that every hull site has one.
+fn due(triangles: &[u32], halfedges: &[u32], table: &[u32], full: bool, e: usize) -> bool
+    requires { ⌜ (length (now triangles) % 3 ≡ 0) × (e < length (now triangles)) × HasEntry (now triangles) (now halfedges) (now table) e ⌝ }
+    ensures { λ r. ⌜ r ≡ dueOf (now (triangles .entry)) (now (halfedges .entry)) (now (table .entry)) full e ⌝ }
+{
+    let site = wide(end_site(triangles, e));
+    let t = wide(table[site]);
+    if e <= t {
+        return true;
+    }
+    if full {
+        return false;
+    }
+    halfedges[t] == EMPTY
 }
 
-// The try at half-edge e.
-pub fn clip_turn(
+// The first half-edge from `from` on that is due, or where the list ends.
+pub fn next_due(
     triangles: &[u32],
     halfedges: &[u32],
     table: &[u32],
-    vertices: &mut [f64],
-    indexes: &mut [u32],
-    offsets: &[u32],
-    f: Frame,
-    p: Progress,
     full: bool,
-    e: usize,
-) -> Turn
-    requires { ⌜ ((hull : List ℕ) × TurnAmid (plan (now triangles) (now halfedges) hull (now table) f (now offsets)) p full (now vertices) (now indexes) e) ⌝ }
-    ensures { λ r. ⌜ ((hull : List ℕ) → TurnTried (plan (now (triangles .entry)) (now (halfedges .entry)) hull (now (table .entry)) f (now (offsets .entry))) p full
-        (now (vertices .entry)) (now (indexes .entry)) e (r .progress) (r .full) (now (vertices .exit)) (now (indexes .exit))) ⌝ }
+    from: usize,
+) -> usize
+    requires { ⌜ AllHaveEntries (now triangles) (now halfedges) (now table) ⌝ }
+    ensures { λ r. ⌜ NextDue (now (triangles .entry)) (now (halfedges .entry)) (now (table .entry)) full from r ⌝ }
 {
-    let site = wide(end_site(triangles, e));
-    if full & (wide(table[site]) < e) {
-        return Turn {
-            progress: p,
-            full: full,
-        };
+    let mut e = from;
+    while e < triangles.len() {
+        if due(triangles, halfedges, table, full, e) {
+            return e;
+        }
+        e += 1;
     }
-    let r = clip_at_edge(triangles, halfedges, vertices, indexes, offsets, f, p, e);
-    let base = wide(offsets[site]);
-    Turn {
-        progress: r,
-        full: full & (indexes[base] != EMPTY),
+    e
+}
+
+// Whether every hull site has its cell.
+pub fn hulls_filled(hull: &[u32], indexes: &[u32], offsets: &[u32]) -> bool
+    requires { ⌜ HullRegions (now hull) (now indexes) (now offsets) ⌝ }
+    ensures { λ r. ⌜ (r ≡ true → (i : ℕ) → i < length (now (hull .entry)) → RegionFilled (now (hull .entry)) (now (indexes .entry)) (now (offsets .entry)) i) ⌝ }
+{
+    let mut i: usize = 0;
+    while i < hull.len() {
+        let site = wide(hull[i]);
+        let base = wide(offsets[site]);
+        if indexes[base] == EMPTY {
+            return false;
+        }
+        i += 1;
     }
+    true
 }

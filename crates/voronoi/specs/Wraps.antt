@@ -13,7 +13,8 @@ use Rattle.bounding_box.specs.declared.BoundingBox.{BoundingBox}
 use Rattle.mesh.specs.Accepted.{Mesh, siteCount}
 use Rattle.layout.specs.Regions.{joined, offsetsFrom}
 use Rattle.definition.specs.Cell.{Entry}
-use Rattle.definition.specs.Build.{wrappedIn, allWrapped, lostFrom}
+use Rattle.definition.specs.Build.{wrappedIn, allWrapped, lostFrom, Built, build}
+use Rattle.definition.specs.Fault.{ok}
 use Rattle.layout.specs.Cleared.{padded}
 use Rattle.definition.specs.Cell.{unmarked}
 use Rattle.admission.specs.Slices.{Slices}
@@ -23,6 +24,9 @@ use Rattle.voronoi.specs.Approach.{PathStops}
 pub record Wraps (m : Mesh) (b : BoundingBox) (old new : Slices) : Type 0 where
   -- marked cells, one for each site, whose marks taken off are the cells in the slices; the corners among the vertices
   pub marked : List (List Entry)
+  pub made : Built
+  pub is : build m b ≡ ok made
+  pub marked-is : marked ≡ made .cells
   pub many : length marked ≡ siteCount (m .sites)
   pub indexes : new .indexes ≡ padded (length (old .indexes)) EMPTY (joined (map unmarked marked))
   pub offsets : new .offsets ≡ padded (length (old .offsets)) EMPTY (offsetsFrom 0 (map unmarked marked))

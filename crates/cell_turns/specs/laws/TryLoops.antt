@@ -13,15 +13,18 @@ use lib.ListN.{length, getD}
 use lib.Seq.{getD-set-other}
 use Rattle.bounding_box.specs.declared.BoundingBox.{BoundingBox}
 use Rattle.mesh.specs.Accepted.{Topology}
+use Rattle.mesh.specs.laws.Occurs.{occ-there}
+use Rattle.outputs.specs.laws.Marks.{full-already}
 use Rattle.definition.specs.declared.Fault.{Fault}
 use Rattle.definition.specs.Fault.{Outcome, ok, refused, andThen}
 use Rattle.definition.specs.Cell.{clipCell}
 use Rattle.definition.specs.Build.{CellState, clipInto, clipHull, clipRest}
 use Rattle.definition.specs.laws.Gives.{Gives, gives-map, gives-next}
 use Rattle.cell_finish.specs.declared.Progress.{Progress}
-use Rattle.cell_tries.specs.CellsInSlices.{Plan, Ground, Amid, Does, hullTry, edgeTry, HullAmid, EdgesAmid, AtRest, HullTried}
-use Rattle.cell_turns.specs.Loops.{hullTries, edgeTries, HullsAmid, AtFirst, HullsTried, RestTried, AllTried}
-use Rattle.cell_turns.specs.Turns.{FullBefore, TurnAmid, TurnTried}
+use Rattle.cell_tries.specs.CellsInSlices.{Plan, Ground, Amid, Does, hullTry, edgeTry, HullAmid, EdgesAmid, AtRest, HullTried, EdgeTried}
+use Rattle.cell_tries.specs.laws.OneTry.{region-room, region-within}
+use Rattle.cell_turns.specs.Loops.{hullTries, edgeTries, HullsAmid, RestAmid, AtFirst, HullsTried, RestTried, AllTried}
+use Rattle.cell_turns.specs.Turns.{HullsFilled, SettledBefore, SettledAfter, HullRegions, RegionFilled}
 
 -- ---- one step
 
@@ -133,7 +136,7 @@ abbrev pub edgesFrom : Plan → ℕ → CellState → Outcome Fault CellState
 edgesFrom w e s = clipRest (w .frame .bounds) (length (w .triangles) / 3) (w .triangles) (w .halfedges) e (length (w .triangles) - e) s
 
 module _ (w : Plan) where
-  edge-next : (e : ℕ) (s : CellState) → e < length (w .triangles) → andThen (edgeTry w e s) (edgesFrom w (e + 1)) ≡ edgesFrom w e s
+  pub edge-next : (e : ℕ) (s : CellState) → e < length (w .triangles) → andThen (edgeTry w e s) (edgesFrom w (e + 1)) ≡ edgesFrom w e s
   unfolding clipRest
   edge-next e s l =
       let q : length (w .triangles) - e ≡ suc (length (w .triangles) - (e + 1)) = omega arith in
@@ -145,37 +148,55 @@ module _ (w : Plan) where
       let z : length (w .triangles) - e ≡ 0 = omega arith in
       rw z
 
-module _ (w : Plan) (p₀ : Progress) (v₀ : List Float) (ix₀ : List ℕ) where
+module _ (w : Plan) (full : Bool) (p₀ : Progress) (v₀ : List Float) (ix₀ : List ℕ) where
   -- before half-edge e
-  abbrev pub EdgesAlong : Bool → ℕ → Progress → List Float → List ℕ → Type 0
-  EdgesAlong full e p v ix = AtRest w p₀ v₀ ix₀ (λ g s. TriesLeft w g (edgesFrom w e) (FullBefore (w .table) (g .sites) full e) (edgeTries w s) p v ix)
+  abbrev pub EdgesAlong : ℕ → Progress → List Float → List ℕ → Type 0
+  EdgesAlong e p v ix = AtRest w p₀ v₀ ix₀ (λ g s. HullsFilled w full s → TriesLeft w g (edgesFrom w e) (SettledBefore w g full e) (edgeTries w s) p v ix)
 
-  pub edges-start : EdgesAlong true 0 p₀ v₀ ix₀
-  edges-start g s a = record { cells = s; amid = a; fit = λ w k l m. absurd (omega arith); makes = rw sub-zero }
+  pub edges-start : EdgesAlong 0 p₀ v₀ ix₀
+  edges-start g s a filled = record { cells = s; amid = a; fit = record { inner = λ k l n m. absurd (omega arith); hulls = filled }; makes = rw sub-zero }
 
-  module _ (full : Bool) (e : ℕ) (p : Progress) (v : List Float) (ix : List ℕ) (along : EdgesAlong full e p v ix) where
-    pub edges-amid : EdgesAmid w p₀ v₀ ix₀ → e < length (w .triangles) → TurnAmid w p full v ix e
-    edges-amid h l =
-        let a = along (h .g) (h .s) (h .amid) in
-        record { g = h .g; s = a .cells; amid = a .amid; full-before = a .fit; place = l }
+  module _ (e : ℕ) (p : Progress) (v : List Float) (ix : List ℕ) (along : EdgesAlong e p v ix) where
+    pub edges-amid : RestAmid w full p₀ v₀ ix₀ → EdgesAmid w p v ix
+    edges-amid h = let a = along (h .g) (h .s) (h .amid) (h .filled) in record { g = h .g; s = a .cells; amid = a .amid }
 
-    pub edges-end : length (w .triangles) ≤ e → RestTried w p₀ v₀ ix₀ p v ix
-    edges-end l g s am =
-        let a = along g s am in
+    pub edges-end : length (w .triangles) ≤ e → RestTried w full p₀ v₀ ix₀ p v ix
+    edges-end l g s am filled =
+        let a = along g s am filled in
         let q : edgeTries w s ≡ ok (a .cells) = sym (a .makes) ∙ edge-last w e (a .cells) l in
         rw q (a .amid)
 
-    module _ (l : e < length (w .triangles)) (r : Progress) (full₁ : Bool) (v₁ : List Float) (ix₁ : List ℕ) (turn : TurnTried w p full v ix e r full₁ v₁ ix₁) where
-      pub edges-step : r .fault .number ≡ 0 → EdgesAlong full₁ (e + 1) r v₁ ix₁
-      edges-step z g s am =
-          let a = along g s am in
-          let d = turn g (a .cells) (a .amid) (a .fit) in
-          passed w g _ _ r v₁ ix₁ _ (edgeTry w e (a .cells)) (d .full-before) (edge-next w e (a .cells) l ∙ a .makes) (d .does) z
+    module _ (l : e < length (w .triangles)) (r : Progress) (v₁ : List Float) (ix₁ : List ℕ) (try : EdgeTried w p v ix e r v₁ ix₁) where
+      -- what the try settles is said by OneTurn
+      pub edges-step : ((g : Ground) (s : CellState) → Amid w g s p v ix → SettledBefore w g full e s → SettledAfter w g full e s) → r .fault .number ≡ 0 → EdgesAlong (e + 1) r v₁ ix₁
+      edges-step settles z g s am filled =
+          let a = along g s am filled in
+          passed w g _ _ r v₁ ix₁ _ (edgeTry w e (a .cells)) (settles g (a .cells) (a .amid) (a .fit)) (edge-next w e (a .cells) l ∙ a .makes) (try g (a .cells) (a .amid)) z
 
-      pub edges-refused : r .fault .number ≢ 0 → RestTried w p₀ v₀ ix₀ r v₁ ix₁
-      edges-refused z g s am =
-          let a = along g s am in
-          stopped w g _ _ r v₁ ix₁ (edgeTry w e (a .cells)) (edge-next w e (a .cells) l ∙ a .makes) (turn g (a .cells) (a .amid) (a .fit) .does) z
+      pub edges-refused : r .fault .number ≢ 0 → RestTried w full p₀ v₀ ix₀ r v₁ ix₁
+      edges-refused z g s am filled =
+          let a = along g s am filled in
+          stopped w g _ _ r v₁ ix₁ (edgeTry w e (a .cells)) (edge-next w e (a .cells) l ∙ a .makes) (try g (a .cells) (a .amid)) z
+
+-- ---- whether all hull sites have their cells
+
+module _ {w : Plan} {g : Ground} {s : CellState} {p : Progress} {v : List Float} {ix : List ℕ} (a : Amid w g s p v ix) where
+  hull-in : (i : ℕ) → i < length (w .hull) → getD (w .hull) i 0 < g .sites
+  hull-in i l = a .on .mesh .border .fresh i l .0
+
+  hull-some : (i : ℕ) → i < length (w .hull) → getD (w .offsets) (getD (w .hull) i 0) 0 < getD (w .offsets) (suc (getD (w .hull) i 0)) 0
+  hull-some i l = omega (arith, region-room (a .on) (getD (w .hull) i 0) (hull-in i l), occ-there (w .hull) i l)
+
+  pub hull-regions : HullRegions (w .hull) ix (w .offsets)
+  hull-regions = record {
+    starts = λ i l. omega (arith, hull-in i l, a .on .places);
+    places = λ i l. omega (arith, hull-some i l, region-within (a .on) (suc (getD (w .hull) i 0)) (hull-in i l), a .on .stage, a .on .limit, a .on .room-ix);
+    few = a .on .few-on-hull;
+  }
+
+  pub hulls-filled : (full : Bool) → (full ≡ true → (i : ℕ) → i < length (w .hull) → RegionFilled (w .hull) ix (w .offsets) i) → HullsFilled w full s
+  hulls-filled full told t i l =
+      full-already ix (w .offsets) (s .cells) (a .regions) (getD (w .hull) i 0) (rw (a .held .width) (hull-in i l)) (hull-some i l) (told t i l)
 
 -- ---- the hull, then the rest
 
@@ -199,13 +220,17 @@ module _ (w : Plan) (p₀ : Progress) (v₀ : List Float) (ix₀ : List ℕ) whe
       between : AtFirst w p₀ v₀ ix₀ (λ g s. TriesLeft w g (edgeTries w) Any (allTries g s) r v ix)
       between g s blank am = let o = hullTries w g s in passed w g _ _ r v ix Any o (gives-any o) refl (hulls g s blank am) z
 
-      pub cells-amid : HullsAmid w p₀ v₀ ix₀ → EdgesAmid w r v ix
-      cells-amid h =
-          let a = between (h .g) (h .s) (h .blank) (h .amid) in
-          record { g = h .g; s = a .cells; amid = a .amid }
+      pub cells-regions : HullsAmid w p₀ v₀ ix₀ → HullRegions (w .hull) ix (w .offsets)
+      cells-regions h = hull-regions (between (h .g) (h .s) (h .blank) (h .amid) .amid)
 
-      pub cells-end : (r₁ : Progress) (v₁ : List Float) (ix₁ : List ℕ)
-          → RestTried w r v ix r₁ v₁ ix₁ → AllTried w p₀ v₀ ix₀ r₁ v₁ ix₁
-      cells-end r₁ v₁ ix₁ edges g s blank am =
-          let a = between g s blank am in
-          rw (← a .makes) (edges g (a .cells) (a .amid))
+      module _ (full : Bool) (told : full ≡ true → (i : ℕ) → i < length (w .hull) → RegionFilled (w .hull) ix (w .offsets) i) where
+        pub cells-amid : HullsAmid w p₀ v₀ ix₀ → RestAmid w full r v ix
+        cells-amid h =
+            let a = between (h .g) (h .s) (h .blank) (h .amid) in
+            record { g = h .g; s = a .cells; amid = a .amid; filled = hulls-filled (a .amid) full told }
+
+        pub cells-end : (r₁ : Progress) (v₁ : List Float) (ix₁ : List ℕ)
+            → RestTried w full r v ix r₁ v₁ ix₁ → AllTried w p₀ v₀ ix₀ r₁ v₁ ix₁
+        cells-end r₁ v₁ ix₁ edges g s blank am =
+            let a = between g s blank am in
+            rw (← a .makes) (edges g (a .cells) (a .amid) (hulls-filled (a .amid) full told))

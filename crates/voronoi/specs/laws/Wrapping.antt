@@ -46,6 +46,9 @@ module _ (m : Mesh) (g : Given) (fits : Fits g) {old new : Slices} (a : Build m 
         let at = gives-ok (Cornered (length (m .triangles) / 3) (g .bounds)) (cornered sound (g .bounds)) is in
         record {
           marked = b .cells;
+          made = b;
+          is = is;
+          marked-is = refl;
           many = gives-ok (λ (r : Built). length (r .cells) ≡ siteCount (m .sites)) (cell-count m (g .bounds)) is;
           indexes = left-indexes a b is;
           offsets = left-offsets a b is;

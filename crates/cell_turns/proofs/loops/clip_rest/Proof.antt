@@ -1,62 +1,86 @@
--- `cell_turns::loops::clip_rest` meets its contract: before half-edge e the definition on the half-edges left makes the whole, and while the flag
--- is set, sites with table entries below e have their cells.
+-- `cell_turns::loops::clip_rest` meets its contract: before half-edge e, which is due, the definition on the half-edges left makes the whole, and inner sites
+-- with table entries below e are settled.
 use mathlib.Core.Path.{_≡_, refl, _∙_}
+use mathlib.Core.Bool.{true}
 use mathlib.Core.List.{List}
-use Prim.Native.Nat.{ℕ, _-_}
+use Prim.Native.Nat.{ℕ, _-_, _<_}
 use native.Mathlib.Omega.{arith}
 use lib.ListN.{length}
 use Rattle.cell_tries.specs.CellsInSlices.{plan}
-use Rattle.cell_turns.specs.laws.TryLoops.{EdgesAlong, edges-start, edges-amid, edges-step, edges-refused, edges-end}
+use Rattle.cell_turns.specs.Turns.{dueOf}
+use Rattle.cell_turns.specs.laws.TryLoops.{EdgesAlong, edges-amid, edges-step, edges-refused, edges-end}
+use Rattle.cell_turns.specs.laws.Passing.{edges-pass, edges-first, edges-entries, settles}
 use Rattle.cell_turns.proofs.loops.clip_rest.Statement.{statement}
 use Rattle.cell_turns.proofs.loops.clip_rest.Tie as tie
 
 abbrev Inv-loop : tie.InvT-loop
-Inv-loop triangles halfedges table v₀ ix₀ off f at₀ full₀ e₀ v ix at full e =
-    (length v ≡ length v₀) × (length ix ≡ length ix₀) × ((hull : List ℕ) → EdgesAlong (plan triangles halfedges hull table f off) at₀ v₀ ix₀ full e at v ix)
+Inv-loop triangles halfedges table v₀ ix₀ off f full at₀ e₀ v ix at e =
+    (length v ≡ length v₀) × (length ix ≡ length ix₀) × ((hull : List ℕ) → EdgesAlong (plan triangles halfedges hull table f off) full at₀ v₀ ix₀ e at v ix)
+    × (e < length triangles → dueOf triangles halfedges table full e ≡ true)
 
 abbrev μ-loop : tie.MeasureT-loop
-μ-loop triangles halfedges table v₀ ix₀ off f at₀ full₀ e₀ v ix at full e = length triangles - e
+μ-loop triangles halfedges table v₀ ix₀ off f full at₀ e₀ v ix at e = length triangles - e
 
 abbrev Entry : tie.At-loop Inv-loop μ-loop → tie.Start Inv-loop μ-loop
-Entry l = l .before .before .before .before .before .before .before
+Entry l = l .before .before .before .before .before .before .before .before
 
-abbrev Loop : tie.After-clip-turn Inv-loop μ-loop → tie.At-loop Inv-loop μ-loop
+abbrev Loop : tie.After-clip-at-edge Inv-loop μ-loop → tie.At-loop Inv-loop μ-loop
 Loop t = t .before .before .before .before
 
-loop-holds : tie.Need-loop-holds Inv-loop μ-loop
-loop-holds c = (refl, refl, λ hull. edges-start _ _ _ _)
+next-due-requires : tie.Need-next-due-requires Inv-loop μ-loop
+next-due-requires c κs = let s = c .before .before .before .before .before .before in edges-entries _ _ _ _ _ (s .pre .1)
 
-clip-turn-requires : tie.Need-clip-turn-requires Inv-loop μ-loop
-clip-turn-requires c κs =
+loop-holds : tie.Need-loop-holds Inv-loop μ-loop
+loop-holds c = (refl, refl, λ hull. edges-first _ _ _ _ _ _ (c .next-due .ensures), c .next-due .ensures .due)
+
+clip-at-edge-requires : tie.Need-clip-at-edge-requires Inv-loop μ-loop
+clip-at-edge-requires c κs =
     let l = c .before .before .before in
-    let h = Entry l .pre in
-    (h .0, edges-amid _ _ _ _ _ _ _ _ _ (l .loop .inv .2 (h .0)) (h .1) (c .before .before .loop-test .taken))
+    let s = Entry l in
+    (c .before .before .loop-test .taken, s .pre .0, s .args .table .now, edges-amid _ _ _ _ _ _ _ _ _ (l .loop .inv .2 (s .pre .0)) (s .pre .1))
 
 same-length : tie.Need-same-length Inv-loop μ-loop
-same-length c = let v = c .before .before .before .before .before .before .before in v .vertices .given ∙ Loop (v .before) .loop .inv .0
+same-length c = let v = c .before .before .before .before .before .before in v .vertices .given ∙ Loop (v .before) .loop .inv .0
 
 same-length-2 : tie.Need-same-length-2 Inv-loop μ-loop
-same-length-2 c = let x = c .before .before .before .before .before in x .indexes .given ∙ Loop (x .before .before .before) .loop .inv .1
+same-length-2 c = let x = c .before .before .before .before in x .indexes .given ∙ Loop (x .before .before .before) .loop .inv .1
 
 returns : tie.Need-returns Inv-loop μ-loop
 returns c =
-    let t = c .before .before .before .before .before .before .before .before in
-    λ hull. edges-refused _ _ _ _ _ _ _ _ _ (Loop t .loop .inv .2 hull) (t .before .before .before .loop-test .taken) _ _ _ _ (t .clip-turn .ensures hull) (c .if1 .taken)
+    let t = c .before .before .before .before .before .before .before in
+    let l = Loop t in
+    λ hull. edges-refused _ _ _ _ _ _ _ _ _ (l .loop .inv .2 hull) (t .before .before .before .loop-test .taken) _ _ _ (t .clip-at-edge .ensures hull (Entry l .args .table .now)) (c .if1 .taken)
 
-add-e : tie.Need-add-e Inv-loop μ-loop
-add-e c =
-    let l = Loop (c .before .before .before .before .before .before .before .before) in
+add-next-due : tie.Need-add-next-due Inv-loop μ-loop
+add-next-due c =
+    let l = Loop (c .before .before .before .before .before .before .before) in
     omega (arith, Entry l .pre .1 .amid .on .few-entries)
+
+next-due-requires-2 : tie.Need-next-due-requires-2 Inv-loop μ-loop
+next-due-requires-2 c κs =
+    let l = Loop (c .before .before .before .before .before .before .before) in
+    edges-entries _ _ _ _ _ (Entry l .pre .1)
+
+loop-less : tie.Need-loop-less Inv-loop μ-loop
+loop-less c =
+    let o = c .before in
+    let t = o .before .before .before .before .before .before .before in
+    omega (arith, c .next-due2 .ensures .low, t .before .before .before .loop-test .taken)
 
 loop-again : tie.Need-loop-again Inv-loop μ-loop
 loop-again c =
-    let x = c .before .before .before .before .before in
+    let o = c .before in
+    let x = o .before .before .before .before in
     let v = x .before .before in
     let t = v .before in
-    let l = Loop t in (
+    let l = Loop t in
+    let n = c .next-due2 .ensures in
+    let h = t .before .before .before .loop-test .taken in (
       v .vertices .given ∙ l .loop .inv .0,
       x .indexes .given ∙ l .loop .inv .1,
-      λ hull. edges-step _ _ _ _ _ _ _ _ _ (l .loop .inv .2 hull) (t .before .before .before .loop-test .taken) _ _ _ _ (t .clip-turn .ensures hull) (c .if1 .left),
+      λ hull. edges-pass _ _ _ _ _ _ _ _ _ _ (omega (arith, h)) n
+          (edges-step _ _ _ _ _ _ _ _ _ (l .loop .inv .2 hull) h _ _ _ (t .clip-at-edge .ensures hull (Entry l .args .table .now)) (settles _ _ _ _ _ _ h (l .loop .inv .3 h)) (o .if1 .left)),
+      n .due,
     )
 
 same-length-3 : tie.Need-same-length-3 Inv-loop μ-loop
@@ -71,5 +95,5 @@ returns-2 c = let l = c .before in λ hull. edges-end _ _ _ _ _ _ _ _ _ (l .loop
 pub clip-rest-spec : {M : Type 1} → statement M
 clip-rest-spec =
     tie.close
-    (tie.spec Inv-loop μ-loop loop-holds clip-turn-requires same-length same-length-2 returns add-e (λ c. omega arith)
+    (tie.spec Inv-loop μ-loop next-due-requires loop-holds clip-at-edge-requires same-length same-length-2 returns add-next-due next-due-requires-2 loop-less
     loop-again same-length-3 same-length-4 returns-2)
