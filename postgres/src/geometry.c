@@ -1,0 +1,275 @@
+/* PostGIS's geometries, for the extension yelmuzard_postgis. They go in and out by the binary output and input of their type, which is Well-Known Binary with the reference
+ * system in it; how PostGIS keeps them is its own affair, and nothing of it is needed to build or to load this module. */
+#include "yelmuzard.h"
+
+#include "catalog/pg_type.h"
+#include "funcapi.h"
+#include "lib/stringinfo.h"
+#include "miscadmin.h"
+#include "utils/builtins.h"
+#include "utils/lsyscache.h"
+
+/* ---- in */
+
+/* The type's binary output, kept for the next call. */
+static FmgrInfo *sender(FunctionCallInfo fcinfo, Oid type)
+{
+    FmgrInfo *send = fcinfo->flinfo->fn_extra;
+
+    if (!send) {
+        Oid function;
+        bool varlena;
+
+        getTypeBinaryOutputInfo(type, &function, &varlena);
+        send = MemoryContextAllocZero(fcinfo->flinfo->fn_mcxt, sizeof(FmgrInfo));
+        fmgr_info_cxt(function, send, fcinfo->flinfo->fn_mcxt);
+        fcinfo->flinfo->fn_extra = send;
+    }
+    return send;
+}
+
+static Wkb open_geometry(FmgrInfo *send, Datum geometry)
+{
+    bytea *bytes = SendFunctionCall(send, geometry);
+    Wkb w = {.at = (const uint8 *)VARDATA(bytes)};
+
+    w.first = w.at, w.end = w.at + VARSIZE(bytes) - VARHDRSZ;
+    if (!read_head(&w))
+        elog(ERROR, "a geometry could not be read");
+    return w;
+}
+
+static void same_system(int32 points, int32 frame)
+{
+    if (points != frame)
+        ereport(ERROR, (errcode(ERRCODE_INVALID_PARAMETER_VALUE), errmsg("the gauges and the frame have different reference systems (%d and %d)", points, frame),
+                        errhint("Bring one into the other's by ST_Transform.")));
+}
+
+static void refuse_empty(size_t number)
+{
+    ereport(ERROR, (errcode(ERRCODE_NULL_VALUE_NOT_ALLOWED), errmsg("a POINT EMPTY among the points"), number ? errdetail("It is gauge %zu.", number) : 0,
+                    errhint("Leave out what has no place: FILTER (WHERE NOT ST_IsEmpty(place)).")));
+}
+
+/* The place of a Point; `number` is its gauge's in messages, or 0. */
+static Point place_of(Wkb *w, size_t number)
+{
+    Point place;
+
+    if (w->type != 1 || !read_place(w, &place))
+        refuse(VORONOI_REFUSED_POINTS, number ? psprintf("Gauge %zu is no Point.", number) : "A gauge is no Point.");
+    if (isnan(place.x) && isnan(place.y))
+        refuse_empty(number);
+    return place;
+}
+
+/* The places of a MultiPoint, or of a Point. */
+static Point *places_of(Wkb *w, size_t *n)
+{
+    uint32 count = 1;
+    Point *places;
+
+    if (w->type != 1 && (w->type != 4 || !read_count(w, &count)))
+        refuse(VORONOI_REFUSED_POINTS, NULL);
+    if (w->type == 4 && count > (size_t)(w->end - w->at) / 21)
+        elog(ERROR, "a geometry could not be read");
+    places = palloc(sizeof(Point) * Max(count, 1));
+    if (w->type == 1)
+        places[0] = place_of(w, 1);
+    else
+        for (uint32 i = 0; i < count; i++) {
+            if (!read_head(w))
+                elog(ERROR, "a geometry could not be read");
+            places[i] = place_of(w, i + 1);
+        }
+    *n = count;
+    return places;
+}
+
+/* The box that a rectangle along the axes is, its edges to the bit. */
+static BOX box_of(Wkb *w)
+{
+    Point c[6];
+    size_t count;
+    bool rectangle = read_ring(w, c, 6, &count) && count == 4;
+
+    if (rectangle) /* up or down first, then across, or the other way */
+        rectangle = (c[0].x == c[1].x && c[1].y == c[2].y && c[2].x == c[3].x && c[3].y == c[0].y) ||
+                    (c[0].y == c[1].y && c[1].x == c[2].x && c[2].y == c[3].y && c[3].x == c[0].x);
+    if (!rectangle)
+        ereport(ERROR, (errcode(ERRCODE_INVALID_PARAMETER_VALUE), errmsg("the frame is no rectangle along the axes"),
+                        errhint("Give ST_Envelope(..) of it, and cut the pieces by ST_Intersection afterwards.")));
+    return (BOX){.low = {Min(c[0].x, c[2].x), Min(c[0].y, c[2].y)}, .high = {Max(c[0].x, c[2].x), Max(c[0].y, c[2].y)}};
+}
+
+/* The geometries of an array, as they are sent. A NULL is refused, or left empty where `what` is NULL. */
+static Wkb *geometries_of(FunctionCallInfo fcinfo, ArrayType *array, const char *what, size_t *n)
+{
+    int16 length;
+    bool by_value, *none;
+    char align;
+    Datum *parts;
+    int count;
+    FmgrInfo *send = sender(fcinfo, ARR_ELEMTYPE(array));
+    Wkb *list;
+
+    if (ARR_NDIM(array) > 1)
+        ereport(ERROR, (errcode(ERRCODE_ARRAY_SUBSCRIPT_ERROR), errmsg("the geometries must be a list, not a table")));
+    get_typlenbyvalalign(ARR_ELEMTYPE(array), &length, &by_value, &align);
+    deconstruct_array(array, ARR_ELEMTYPE(array), length, by_value, align, &parts, &none, &count);
+    list = palloc0(sizeof(Wkb) * Max(count, 1));
+    for (int i = 0; i < count; i++) {
+        if (none[i] && what)
+            ereport(ERROR, (errcode(ERRCODE_NULL_VALUE_NOT_ALLOWED), errmsg("a NULL among the %s", what), errdetail("It is gauge %d.", i + 1),
+                            errhint("Leave out what has no place: array_agg(place) FILTER (WHERE place IS NOT NULL).")));
+        if (!none[i])
+            list[i] = open_geometry(send, parts[i]);
+        if (i % 1024 == 0)
+            CHECK_FOR_INTERRUPTS();
+    }
+    *n = (size_t)count;
+    return list;
+}
+
+/* The places of an array of Points, all of the frame's reference system. */
+static Point *place_list(FunctionCallInfo fcinfo, ArrayType *array, int32 srid, size_t *n)
+{
+    Wkb *list = geometries_of(fcinfo, array, "points", n);
+    Point *places = palloc(sizeof(Point) * Max(*n, 1));
+
+    for (size_t i = 0; i < *n; i++) {
+        same_system(list[i].srid, srid);
+        places[i] = place_of(list + i, i + 1);
+    }
+    return places;
+}
+
+/* ---- out */
+
+typedef struct {
+    FmgrInfo receive;
+    Oid parameter;
+    int32 srid;
+    StringInfoData bytes;
+} Writer;
+
+static void open_writer(Writer *w, Oid type, int32 srid)
+{
+    Oid function;
+
+    getTypeBinaryInputInfo(type, &function, &w->parameter);
+    fmgr_info(function, &w->receive);
+    w->srid = srid;
+    initStringInfo(&w->bytes);
+}
+
+/* A piece as a geometry: the head of its Polygon with the reference system put in. */
+static Datum piece_geometry(const Survey *p, size_t site, void *with)
+{
+    Writer *w = with;
+    bytea *wkb = piece_wkb(p, site);
+    const uint8 head[5] = {1, 3, 0, 0, 0x20};
+    uint8 srid[4] = {w->srid & 255, w->srid >> 8 & 255, w->srid >> 16 & 255, w->srid >> 24 & 255};
+    Datum geometry;
+
+    resetStringInfo(&w->bytes);
+    appendBinaryStringInfo(&w->bytes, (const char *)head, 5);
+    appendBinaryStringInfo(&w->bytes, (const char *)srid, 4);
+    appendBinaryStringInfo(&w->bytes, VARDATA(wkb) + 5, VARSIZE(wkb) - VARHDRSZ - 5);
+    geometry = ReceiveFunctionCall(&w->receive, &w->bytes, w->parameter, -1);
+    pfree(wkb);
+    return geometry;
+}
+
+/* ---- the functions */
+
+SQL_FUNCTION(yelmuzard_geometry_pieces) /* (points, frame) */
+{
+    FmgrInfo *send = sender(fcinfo, get_fn_expr_argtype(fcinfo->flinfo, 0));
+    Wkb points = open_geometry(send, PG_GETARG_DATUM(0)), frame = open_geometry(send, PG_GETARG_DATUM(1));
+    BOX box = box_of(&frame);
+    Survey p = {0};
+    Writer w;
+    size_t n;
+    Point *places;
+
+    InitMaterializedSRF(fcinfo, 0);
+    same_system(points.srid, frame.srid);
+    places = places_of(&points, &n);
+    sound_survey(&p, places, n, &box);
+    open_writer(&w, TupleDescAttr(((ReturnSetInfo *)fcinfo->resultinfo)->setDesc, 3)->atttypid, frame.srid);
+    return put_pieces(fcinfo, &p, NULL, piece_geometry, &w);
+}
+
+SQL_FUNCTION(yelmuzard_geometry_pieces_by_key) /* (keys, points, frame) */
+{
+    Wkb frame = open_geometry(sender(fcinfo, get_fn_expr_argtype(fcinfo->flinfo, 2)), PG_GETARG_DATUM(2));
+    BOX box = box_of(&frame);
+    Survey p = {0};
+    Keys keys;
+    Writer w;
+    size_t n;
+    Point *places = place_list(fcinfo, PG_GETARG_ARRAYTYPE_P(1), frame.srid, &n);
+
+    InitMaterializedSRF(fcinfo, 0);
+    read_keys(PG_GETARG_ARRAYTYPE_P(0), n, &keys);
+    sound_survey(&p, places, n, &box);
+    open_writer(&w, TupleDescAttr(((ReturnSetInfo *)fcinfo->resultinfo)->setDesc, 3)->atttypid, frame.srid);
+    return put_pieces(fcinfo, &p, &keys, piece_geometry, &w);
+}
+
+SQL_FUNCTION(yelmuzard_geometry_audit) /* (points, pieces, frame) */
+{
+    Wkb frame = open_geometry(sender(fcinfo, get_fn_expr_argtype(fcinfo->flinfo, 2)), PG_GETARG_DATUM(2)), *list;
+    BOX box = box_of(&frame);
+    size_t n, count;
+    Point *places = place_list(fcinfo, PG_GETARG_ARRAYTYPE_P(0), frame.srid, &n);
+    Bytes *pieces;
+
+    list = geometries_of(fcinfo, PG_GETARG_ARRAYTYPE_P(1), NULL, &count);
+    pieces = palloc0(sizeof(Bytes) * Max(count, 1));
+    for (size_t i = 0; i < count; i++)
+        if (list[i].first) {
+            same_system(list[i].srid, frame.srid);
+            pieces[i] = (Bytes){list[i].first, (size_t)(list[i].end - list[i].first)};
+        }
+    return audit_row(fcinfo, places, n, &box, pieces, count);
+}
+
+SQL_FUNCTION(yelmuzard_geometry_add) /* (state, place, reading, frame) */
+{
+    Readings *g = group_of(fcinfo);
+    FmgrInfo *send = sender(fcinfo, get_fn_expr_argtype(fcinfo->flinfo, 1));
+    struct varlena *frame = PG_GETARG_VARLENA_P(3);
+    Point place;
+
+    /* the same frame again, byte for byte, is not read again */
+    if (!g->geometry || VARSIZE(frame) != VARSIZE(g->geometry) || memcmp(frame, g->geometry, VARSIZE(frame)) != 0) {
+        Wkb w = open_geometry(send, PointerGetDatum(frame));
+        BOX box = box_of(&w);
+
+        if (g->geometry)
+            same_system(w.srid, g->srid);
+        if (g->geometry && !same_box(&g->frame, &box))
+            refuse_boxes();
+        g->frame = box, g->srid = w.srid;
+        if (!g->geometry) {
+            g->geometry = MemoryContextAlloc(g->context, VARSIZE(frame));
+            memcpy(g->geometry, frame, VARSIZE(frame));
+        }
+    }
+    if (!PG_ARGISNULL(1)) {
+        Wkb w = open_geometry(send, PG_GETARG_DATUM(1));
+        same_system(w.srid, g->srid);
+        place = place_of(&w, 0);
+    }
+    group_add(g, PG_ARGISNULL(1) ? NULL : &place, PG_ARGISNULL(2), PG_ARGISNULL(2) ? 0 : PG_GETARG_FLOAT8(2));
+    PG_RETURN_POINTER(g);
+}
+
+SQL_FUNCTION(yelmuzard_refuse_geography)
+{
+    ereport(ERROR, (errcode(ERRCODE_INVALID_PARAMETER_VALUE), errmsg("degrees are no plane: geography is not taken"),
+                    errhint("Bring gauges and frame into a projected system, in metres: ST_Transform(place::geometry, 25832).")));
+}

@@ -1,0 +1,159 @@
+/* What the C files of the extension share. Gauges are numbered from 1 in SQL and from 0 here. */
+#ifndef YELMUZARD_H
+#define YELMUZARD_H
+
+/* all else is hidden (-fvisibility=hidden) */
+#define PGDLLEXPORT __attribute__((visibility("default")))
+
+#include "postgres.h"
+
+#include "fmgr.h"
+#include "utils/array.h"
+#include "utils/geo_decls.h"
+
+#include "triangulate.h"
+#include "voronoi.h"
+
+/* The head of a function that SQL calls. */
+#define SQL_FUNCTION(name)                            \
+    extern PGDLLEXPORT Datum name(PG_FUNCTION_ARGS); \
+    PG_FUNCTION_INFO_V1(name);                       \
+    Datum name(PG_FUNCTION_ARGS)
+
+/* Gauges in a box, their mesh, their pieces: as far as they are made. */
+typedef struct {
+    double frame[4];   /* left, top, right, bottom: the least x, the least y, the greatest x, the greatest y */
+    size_t n;          /* gauges */
+    size_t s;          /* sites: gauges and ghosts, or of a lent mesh the gauges alone */
+    double *sites;
+    uint32 *numbers;   /* what each gauge is called in messages, or NULL: its place in the list, from 1 */
+    bool nameless;     /* the gauges are rows of a group, in no order: they are called by their coordinates alone */
+    size_t t, h;       /* triangles, sites of the hull */
+    uint32 *triangles, *halfedges, *hull;
+    uint32 v;          /* vertices of the pieces */
+    double *vertices;
+    uint32 *indexes, *offsets;
+    double *areas;     /* of each site */
+} Survey;
+
+/* What is wrong with pieces. */
+typedef struct {
+    uint32 state;       /* the first digit of its SQLSTATE: 1 by the certificate, 2 by the audit */
+    uint32 kind;        /* 0: sound */
+    uint32 site, other; /* VORONOI_EMPTY where the kind names none */
+    double missing;     /* the share of the box that no piece covers, where it is known; else 0 */
+} Fault;
+
+#define SITES_OF(p) (p)->sites, 2 * (p)->s
+#define MESH_OF(p) SITES_OF(p), (p)->triangles, 3 * (p)->t, (p)->halfedges, 3 * (p)->t, (p)->hull, (p)->h
+#define FRAME_OF(p) (p)->frame[0], (p)->frame[1], (p)->frame[2], (p)->frame[3]
+
+/* ---- errors.c */
+
+/* Ends with the error of a refusal's number. detail may be NULL. */
+extern void refuse(uint32 number, const char *detail) pg_attribute_noreturn();
+/* Ends with the error of a fault. */
+extern void refuse_fault(const Survey *p, const Fault *f) pg_attribute_noreturn();
+extern const char *fault_words(const Fault *f);
+/* Where it is, in words, or NULL. */
+extern char *fault_place(const Survey *p, const Fault *f);
+extern char *gauge_words(const Survey *p, uint32 site);
+
+/* ---- pieces.c: the only file that says how pieces are made and looked at */
+
+/* The pieces of a survey's mesh and their areas; whether they are sound, or in *f what is wrong. Refusals end with their error. */
+extern bool make_pieces(Survey *p, Fault *f);
+/* Whether the pieces of a survey, from anywhere, are sound; it has a mesh. */
+extern bool look_over(const Survey *p, Fault *f);
+/* voronoi_build on a lent mesh, its areas, and the audit. */
+extern bool build_pieces(Survey *p, Fault *f);
+/* What voronoi_why says of a lent mesh: the number, and the place in words or NULL. */
+extern uint32 why_refused(Survey *p, char **place);
+
+/* ---- survey.c */
+
+extern void set_frame(Survey *p, const BOX *frame);
+/* The gauges of a list; room for the ghosts. Ends with the error where they are too many or none, or a coordinate is none. */
+extern void set_gauges(Survey *p, const Point *points, size_t n);
+/* The mesh of gauges and ghosts; false where two gauges stand at one place. */
+extern bool make_mesh(Survey *p, Fault *f);
+/* All of it: frame, gauges, mesh, pieces. */
+extern bool survey(Survey *p, const Point *points, size_t n, const BOX *frame, Fault *f);
+/* The same, or its error. */
+extern void sound_survey(Survey *p, const Point *points, size_t n, const BOX *frame);
+extern bool same_box(const BOX *a, const BOX *b);
+
+/* ---- areas.c */
+
+/* The keys of the gauges, where they have some. */
+typedef struct {
+    Datum *key;
+    bool *none;
+} Keys;
+
+extern void read_keys(ArrayType *array, size_t n, Keys *keys);
+/* A row for each gauge: its key or else its number, area, reach, and its piece: what `piece` makes of it, or where that is NULL its WKB. After InitMaterializedSRF. */
+extern Datum put_pieces(FunctionCallInfo fcinfo, const Survey *p, const Keys *keys, Datum (*piece)(const Survey *, size_t, void *), void *with);
+
+/* ---- audit.c */
+
+typedef struct {
+    const uint8 *at;
+    size_t length; /* 0 where there is none */
+} Bytes;
+
+/* The row that an audit answers. */
+extern Datum audit_row(FunctionCallInfo fcinfo, const Point *points, size_t n, const BOX *frame, const Bytes *pieces, size_t count);
+
+/* ---- volume.c: the groups of an aggregate */
+
+typedef struct {
+    Point place;
+    double reading;
+} Row;
+
+typedef struct {
+    MemoryContext context;
+    size_t n, room;
+    int64 rows_seen, silent; /* silent: of these, what has no place or no reading */
+    Row *rows;
+    BOX frame;
+    int32 srid;              /* over geometry: of the frame, and the frame itself, as it came first */
+    struct varlena *geometry;
+} Readings;
+
+/* The group of the arguments (state, place, reading, frame); its frame is set by the caller. */
+extern Readings *group_of(FunctionCallInfo fcinfo);
+extern void group_add(Readings *g, const Point *place, bool no_reading, double reading);
+extern void refuse_boxes(void) pg_attribute_noreturn();
+
+/* ---- lists.c: arguments and results */
+
+/* The points of an array without NULL, in place. */
+extern const Point *points_of(ArrayType *array, size_t *n);
+extern Datum float_list(const double *values, size_t n);
+extern Datum number_list(const uint32 *values, size_t n, uint32 add);
+
+/* ---- wkb.c */
+
+/* A reader of Well-Known Binary, PostGIS's extended one too: Z and M are read and left out. */
+typedef struct {
+    const uint8 *first, *at, *end;
+    bool little;
+    uint32 type; /* of the geometry that is read: 1 a point, 3 a polygon, 4 and 6 their lists */
+    int extra;   /* numbers after x and y */
+    int32 srid;  /* 0 where it has none */
+} Wkb;
+
+/* The head of a geometry; false where the bytes are none. */
+extern bool read_head(Wkb *w);
+extern bool read_count(Wkb *w, uint32 *count);
+extern bool read_place(Wkb *w, Point *place);
+/* The corners of a polygon of one ring, or of a list of one such polygon, without the last that repeats the first; room for `room`. *count 0: it is empty. */
+extern bool read_ring(Wkb *w, Point *corners, size_t room, size_t *count);
+/* A piece as a Polygon. */
+extern bytea *piece_wkb(const Survey *p, size_t site);
+/* The distance from a gauge to its piece's farthest corner. */
+extern double piece_reach(const Survey *p, size_t site);
+
+#endif
