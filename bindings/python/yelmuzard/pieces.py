@@ -1,0 +1,219 @@
+"""Pieces: for each gauge the part of the box that lies nearest to it."""
+from __future__ import annotations
+
+import functools
+import math
+from typing import Any, Optional
+
+import numpy
+
+from . import lend, mesh as meshes, polygons as shapes, reasons, rooms
+from .library import library, nothing
+from .mesh import Mesh
+from .refusal import Refusal
+from .verdict import AUDIT, CERTIFY, Reason, Verdict
+
+Box = tuple[float, float, float, float]
+Made = tuple[numpy.ndarray, numpy.ndarray, numpy.ndarray, Optional[numpy.ndarray]]  # vertices, offsets, indexes, a build's counts
+WAYS = ("cut", "voronoice")
+
+
+def default_way() -> str:
+    """`cut`, where the library has it."""
+    return WAYS[0] if library().has("voronoi_cut_by_edges") else WAYS[1]
+
+
+def pieces(points: Any, box: Any, mesh: Optional[Mesh] = None, way: Optional[str] = None) -> "Pieces":
+    """The pieces of the points in the box, which is its least x, least y, greatest x and greatest y, kept to the bit.
+
+    `mesh` is the points' Delaunay mesh, made where there is none. `way` is "cut", pieces that add up to the box, or "voronoice", the build that equals
+    voronoice's bit for bit (and refuses by 13 and 14 what that panics on); without it "cut", where the library has it. A Refusal says why there are none.
+
+    >>> found = pieces([(-.5, -.5), (-.5, .5), (.5, .5), (.5, -.5)], (-1, -1, 1, 1))
+    >>> found.areas.tolist()
+    [1.0, 1.0, 1.0, 1.0]
+    >>> found.audit().sound
+    True
+    """
+    edges = edges_of(box)
+    gauges = lend.points_of(points)
+    way = way or default_way()
+    if way not in WAYS:
+        raise ValueError(f"a way is one of {', '.join(WAYS)}, not {way!r}")
+    if way == "cut" and not library().has("voronoi_cut_by_edges"):
+        raise NotImplementedError(f"{library().path} has no voronoi_cut_by_edges")
+    if mesh is None:
+        mesh = meshes.made(gauges, edges, ghosts=way == "cut")
+    elif len(gauges) != mesh.gauges or not numpy.array_equal(gauges, mesh.sites[:mesh.gauges]):
+        raise ValueError("the mesh is of other points")
+    return Pieces(edges, mesh, way, *(cut if way == "cut" else built)(edges, mesh))
+
+
+def edges_of(box: Any) -> Box:
+    edges = tuple(float(edge) for edge in box)
+    if len(edges) != 4:
+        raise ValueError("a box is four numbers: least x, least y, greatest x, greatest y")
+    if not (all(map(math.isfinite, edges)) and edges[0] < edges[2] and edges[1] < edges[3]):
+        raise Refusal(3)
+    return edges  # type: ignore[return-value]
+
+
+def built(box: Box, mesh: Mesh) -> Made:
+    t, h, n = len(mesh.triangles), len(mesh.hull), len(mesh.sites)
+    vertices = numpy.empty(rooms.vertex_numbers(t, h))
+    indexes = numpy.empty(rooms.index_room(t, h), numpy.uint32)
+    offsets, counts = numpy.empty(n + 1, numpy.uint32), numpy.empty(rooms.COUNTS, numpy.uint32)
+    number, = library().call("voronoi_build_by_edges", *box, *mesh.lists(), numpy.empty(n, numpy.uint32), vertices, indexes, offsets, counts)
+    if number:
+        raise Refusal(number, reasons.why(mesh, box).place)
+    return (*trimmed(vertices, indexes, offsets, int(counts[rooms.COUNT_VERTICES])), counts)
+
+
+def cut(box: Box, mesh: Mesh) -> Made:
+    t, h, n = len(mesh.triangles), len(mesh.hull), len(mesh.sites)
+    vertices = numpy.empty(rooms.cut_vertex_numbers(t, h))
+    indexes = numpy.empty(rooms.cut_index_room(t, h), numpy.uint32)
+    offsets = numpy.empty(n + 1, numpy.uint32)
+    number, count = library().call("voronoi_cut_by_edges", *box, *mesh.lists(), numpy.empty(n, numpy.uint32), vertices, indexes, offsets)
+    if number:
+        # `why` knows the build's rules; those of the mesh itself, 6 to 11, are the same
+        raise Refusal(number, reasons.why(mesh, box).place if 6 <= number <= 11 else None)
+    return (*trimmed(vertices, indexes, offsets, count), None)
+
+
+def trimmed(vertices: numpy.ndarray, indexes: numpy.ndarray, offsets: numpy.ndarray, count: int) -> tuple[numpy.ndarray, numpy.ndarray, numpy.ndarray]:
+    """What is used, in arrays of their own: the rooms are several times as large."""
+    return vertices[:2 * count].reshape(-1, 2).copy(), offsets, indexes[:int(offsets[-1])].copy()
+
+
+class Pieces:
+    """Pieces that were made; their gauges are numbered from 0, as the points were given.
+
+    box, mesh, way: what they were made of. vertices, offsets, indexes: the corners of piece s are vertices[indexes[offsets[s]:offsets[s + 1]]].
+    """
+
+    def __init__(self, box: Box, mesh: Mesh, way: str, vertices: numpy.ndarray, offsets: numpy.ndarray, indexes: numpy.ndarray, counts: Optional[numpy.ndarray]) -> None:
+        self.box, self.mesh, self.way = box, mesh, way
+        self.vertices, self.indexes, self.counts = vertices, indexes, counts
+        self._all_offsets = offsets
+        self.offsets = offsets[:mesh.gauges + 1]
+
+    def __len__(self) -> int:
+        return self.mesh.gauges
+
+    def __repr__(self) -> str:
+        return f"<{len(self):,} pieces by {self.way} in the box {self.box}>"
+
+    @property
+    def points(self) -> numpy.ndarray:
+        """x and y of each gauge."""
+        return self.mesh.sites[:self.mesh.gauges]
+
+    @property
+    def box_area(self) -> float:
+        return (self.box[2] - self.box[0]) * (self.box[3] - self.box[1])
+
+    @functools.cached_property
+    def areas(self) -> numpy.ndarray:
+        """The area of each piece, exact and rounded once."""
+        areas = numpy.empty(len(self))
+        number, = library().call("voronoi_areas", self.vertices, self.offsets, self.indexes[:int(self.offsets[-1])], areas)
+        if number:
+            raise Refusal(number)
+        return areas
+
+    @property
+    def lost(self) -> Optional[int]:
+        """How many corners of the box are in no piece, of a build; None of pieces that were cut."""
+        return None if self.counts is None else int(self.counts[rooms.COUNT_LOST])
+
+    def corners(self, gauge: int) -> numpy.ndarray:
+        """The corners of a piece in order round it, x and y each."""
+        return self.vertices[self.indexes[self.offsets[gauge]:self.offsets[gauge + 1]]]
+
+    def polygons(self, form: str = "wkb", crs: Any = None) -> Any:
+        """The piece of each gauge: "wkb" bytes, "shapely" polygons, or a "geopandas" GeoSeries in the reference system `crs`."""
+        if form not in ("wkb", "shapely", "geopandas"):
+            raise ValueError(f"a form is wkb, shapely or geopandas, not {form!r}")
+        wkb = shapes.images(self.vertices, self.offsets, self.indexes[:int(self.offsets[-1])])
+        return wkb if form == "wkb" else shapes.shapes(wkb) if form == "shapely" else shapes.series(wkb, crs)
+
+    def neighbours(self) -> list[numpy.ndarray]:
+        """For each gauge those whose pieces have a side in common with its own: as voronoice says of a build, by the sides' places of pieces that were cut."""
+        cells = (self._all_offsets, self.indexes) if self.way == "voronoice" else (nothing("i"), nothing("i"))
+        starts, others = self._near(*cells)
+        if self.way == "cut":
+            own = numpy.repeat(numpy.arange(len(starts) - 1), numpy.diff(starts))
+            kept = self._sides(own, others)
+            starts = numpy.concatenate([[0], numpy.cumsum(numpy.bincount(own[kept], minlength=len(starts) - 1))])
+            others = others[kept]
+        lists = numpy.split(others, starts[1:-1])[:len(self)]
+        return [near[near < len(self)] for near in lists]
+
+    def _near(self, offsets: numpy.ndarray, indexes: numpy.ndarray) -> tuple[numpy.ndarray, numpy.ndarray]:
+        n = len(self.mesh.sites)
+        starts = numpy.empty(n + 1, numpy.uint32)
+        others = numpy.empty(rooms.neighbour_room(len(self.mesh.triangles), len(self.mesh.hull)), numpy.uint32)
+        number, = library().call("voronoi_all_neighbours", *self.mesh.lists(), offsets, indexes, numpy.empty(n, numpy.uint32), starts, others)
+        if number:
+            raise Refusal(number)
+        return starts.astype(numpy.int64), others[:int(starts[-1])].copy()
+
+    def _sides(self, own: numpy.ndarray, others: numpy.ndarray) -> numpy.ndarray:
+        """Of pairs of gauges, whether a side of the first one's piece runs the other way in the second one's."""
+        lengths = numpy.diff(self._all_offsets.astype(numpy.int64))
+        site = numpy.repeat(numpy.arange(len(lengths)), lengths)
+        following = numpy.arange(1, len(self.indexes) + 1)
+        last = self._all_offsets[1:][lengths > 0].astype(numpy.int64) - 1
+        following[last] = self._all_offsets[:-1][lengths > 0]
+        # equal places have equal numbers here, whatever their vertices' numbers are
+        _, place = numpy.unique(self.vertices + 0.0, axis=0, return_inverse=True)
+        start, end = place.ravel()[self.indexes], place.ravel()[self.indexes[following]]
+        runs = dict(zip(zip(start.tolist(), end.tolist()), site.tolist()))
+        shared = {(s, runs[b, a]) for (a, b), s in runs.items() if (b, a) in runs}
+        return numpy.array([pair in shared for pair in zip(own.tolist(), others.tolist())], bool)
+
+    def nearest(self, points: Any) -> numpy.ndarray:
+        """The number of the gauge that is nearest to each of the points, by the mesh: for a radar picture at a time."""
+        asked = lend.points_of(points)
+        ends = numpy.empty(len(asked), numpy.uint32)
+        n = len(self.mesh.sites)
+        number, = library().call("voronoi_ends", *self.mesh.lists(), 0, asked, numpy.empty(n, numpy.uint32), ends)
+        if number:
+            raise Refusal(number)
+        for k in (ends >= len(self)).nonzero()[0]:  # a ghost, for a point far outside the box
+            ends[k] = ((self.points - asked[k]) ** 2).sum(1).argmin()
+        return ends
+
+    def audit(self, bits: int = rooms.AUDIT_BITS, against_all: bool = False) -> Verdict:
+        """Whether the pieces are what they should be, to 2^-bits: each against its gauge's neighbours in the mesh, or against all gauges."""
+        starts = others = nothing("i")
+        if not against_all:
+            begins, near = self._near(nothing("i"), nothing("i"))
+            if numpy.diff(begins).all():  # a gauge in no triangle is nobody's neighbour: then against all
+                starts, others = begins.astype(numpy.uint32), near
+        number, kind, site, vertex, other, missing = library().call(
+            "voronoi_audit_by_edges", *self.box, self.mesh.sites, self.vertices, self._all_offsets, self.indexes, starts, others, bits)
+        if number:
+            raise Refusal(number)
+        return self._verdict(AUDIT, kind, site, vertex, other, missing, bits)
+
+    def certify(self, bits: int = rooms.CERTIFY_BITS) -> Verdict:
+        """The certificate: sound means that these are the true pieces, to 2^-bits; voronoi_certify_by_edges, where the library has it."""
+        if not library().has("voronoi_certify_by_edges"):
+            raise NotImplementedError(f"{library().path} has no voronoi_certify_by_edges")
+        work = numpy.empty(rooms.certify_room(len(self.mesh.sites), len(self.indexes)), numpy.uint32)
+        number, kind, site, vertex, other = library().call(
+            "voronoi_certify_by_edges", *self.box, self.mesh.sites, self.vertices, self._all_offsets, self.indexes, bits, work)
+        if number:
+            raise Refusal(number)
+        return self._verdict(CERTIFY, kind, site, vertex, other, math.nan, bits)
+
+    def _verdict(self, words: tuple[str, ...], kind: int, site: int, vertex: int, other: int, missing: float, bits: int) -> Verdict:
+        known = lambda number: None if number == rooms.EMPTY else int(number)
+        corner = None if vertex == rooms.EMPTY else (float(self.vertices[vertex][0]), float(self.vertices[vertex][1]))
+        return Verdict(kind, words[kind], known(site), corner, known(other), missing, bits)
+
+    def why(self, first: Optional[int] = None, second: Optional[int] = None) -> Reason:
+        """Of the build: why a gauge's piece is empty, or that the second gauge is no neighbour of the first in the box."""
+        return reasons.why(self.mesh, self.box, first, second)

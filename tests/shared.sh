@@ -1,0 +1,28 @@
+#!/bin/sh
+# Makes target/shared/MACHINE/libvoronoi.so, the library as Python and others load it, where it is missing or older than what it is made of, and prints its
+# name: what ./yelmuzard shared does. It is the proved archive linked shared, whole, with mesh/triangulate.c (not proved, and checked by what is) beside it.
+. "$(dirname "$0")/head.sh"
+root=$(pwd)
+machine=$(uname -m)
+made=$root/target/shared/$machine
+if [ "$machine" = x86_64 ]; then
+    sh "$root/tests/archive.sh" make
+    archive=$root/target/staticlib/libvoronoi.a
+else
+    archive=$(sh "$root/tests/native.sh")
+fi
+set -- "$archive"
+[ ! -f mesh/triangulate.c ] || set -- "$@" mesh/triangulate.c mesh/triangulate.h
+if [ ! -f "$made/libvoronoi.so" ] || [ -n "$(find "$@" tests/shared.sh -newer "$made/libvoronoi.so")" ]; then
+    mkdir -p "$made"
+    objects=
+    [ ! -f mesh/triangulate.c ] || {
+        objects=$made/triangulate.$$.o
+        gcc -std=c11 -O2 -fPIC -ffp-contract=off -Wall -Wextra -Werror -I include -c mesh/triangulate.c -o "$objects"
+    }
+    # under another name first, so that two tests may make it at the same time
+    gcc -shared -Wl,-soname,libvoronoi.so.0 -Wl,-z,text -o "$made/libvoronoi.so.$$" -Wl,--whole-archive "$archive" -Wl,--no-whole-archive ${objects:+"$objects"}
+    rm -f ${objects:+"$objects"}
+    mv -f "$made/libvoronoi.so.$$" "$made/libvoronoi.so"
+fi
+echo "$made/libvoronoi.so"
