@@ -1,4 +1,5 @@
-/* include/voronoi_pieces.h over the archive, in C99 and in C++17: "square" built into a block of exactly so many bytes, with marks behind it. */
+/* include/voronoi_pieces.h over the archive, in C99 and in C++17: "square" built into a block of exactly so many bytes, with marks behind it; by its edges;
+ * neighbours and polygons of all pieces; meshes above the limits; neighbouring boxes on tenths of a metre, 100,000 pairs, each with an edge in common. */
 #include "voronoi_pieces.h"
 #include <stdio.h>
 #include <stdlib.h>
@@ -10,6 +11,101 @@ static int wrong(const char *what)
 {
     printf("pieces: %s\n", what);
     return 1;
+}
+
+/* What the structs leave of each call, to the byte: the pieces by edges are those by centre and size, where both have the same edges. */
+static int by_edges(const voronoi_mesh *mesh, const voronoi_pieces *pieces, size_t bytes)
+{
+    const voronoi_edges edges = { -1, -1, 1, 1 };
+    void *block = malloc(bytes);
+    if (!block)
+        return 2;
+    voronoi_pieces same = voronoi_pieces_in(mesh, block);
+    if (voronoi_build_pieces_by_edges(edges, mesh, &same) != VORONOI_ACCEPTED)
+        return wrong("square by its edges is refused");
+    if (memcmp(block, pieces->vertices, bytes) != 0 || memcmp(same.counts, pieces->counts, sizeof same.counts) != 0)
+        return wrong("by its edges the pieces are others");
+    free(block);
+    return 0;
+}
+
+static int neighbours(const voronoi_mesh *mesh, voronoi_pieces *pieces)
+{
+    static const uint32_t cuts[] = { 0, 3, 5, 8, 10 }, lists[] = { 3, 2, 1, 0, 2, 1, 0, 3, 2, 0 };
+    uint32_t starts[VORONOI_START_ROOM(4)], others[VORONOI_NEIGHBOUR_ROOM(2, 4)];
+    if (voronoi_piece_neighbours(mesh, pieces, starts, others) != VORONOI_ACCEPTED)
+        return wrong("the neighbours are refused");
+    return memcmp(starts, cuts, sizeof cuts) != 0 || memcmp(others, lists, sizeof lists) != 0 ? wrong("a gauge has other neighbours") : 0;
+}
+
+static int polygons(const voronoi_pieces *pieces)
+{
+    uint64_t starts[VORONOI_START_ROOM(4)];
+    uint8_t out[1000], one[1000];
+    const size_t bytes = voronoi_polygon_bytes(pieces);
+    if (bytes > sizeof out || voronoi_piece_polygons(pieces, starts, out, bytes) != VORONOI_ACCEPTED || starts[0] != 0 || starts[4] != bytes)
+        return wrong("the polygons are refused, or are not as long as is said");
+    if (voronoi_piece_polygons(pieces, starts, out, bytes - 1) != VORONOI_REFUSED_ROOM)
+        return wrong("a byte too few is enough for the polygons");
+    for (uint32_t s = 0; s < 4; s++) {
+        size_t written;
+        if (voronoi_cell_wkb(VORONOI_CELLS_OF(pieces), s, one, sizeof one, &written) != VORONOI_ACCEPTED || written != starts[s + 1] - starts[s] ||
+            memcmp(one, out + starts[s], written) != 0)
+            return wrong("a polygon is another than voronoi_cell_wkb's");
+    }
+    return 0;
+}
+
+/* Above the limits: no bytes, and a refusal before a length is multiplied. */
+static int limits(const voronoi_frame *box)
+{
+    const size_t none = 0, most = ~none;
+    const size_t counts[][3] = { { VORONOI_MOST_SITES + 1, 2, 4 }, { 4, VORONOI_MOST_TRIANGLES + 1, 4 }, { 4, 2, VORONOI_MOST_SITES + 1 },
+        { most, 2, 4 }, { 4, most, 4 }, { 4, 2, most }, { most / 2 + 3, most / 3 + 2, 4 } };
+    double site = 0;
+    uint32_t entry = 0;
+    for (size_t i = 0; i < sizeof counts / sizeof counts[0]; i++) {
+        const voronoi_mesh mesh = { &site, counts[i][0], &entry, &entry, counts[i][1], &entry, counts[i][2] };
+        double block[4] = { 7, 7, 7, 7 };
+        voronoi_pieces pieces = voronoi_pieces_in(&mesh, block);
+        const voronoi_edges edges = { -1, -1, 1, 1 };
+        if (voronoi_pieces_bytes(&mesh) != 0 || voronoi_build_pieces(*box, &mesh, &pieces) != VORONOI_REFUSED_COUNT ||
+            voronoi_build_pieces_by_edges(edges, &mesh, &pieces) != VORONOI_REFUSED_COUNT ||
+            voronoi_piece_neighbours(&mesh, &pieces, &entry, &entry) != VORONOI_REFUSED_COUNT)
+            return wrong("a mesh above the limits has a size, or is not refused with 1");
+    }
+    return 0;
+}
+
+/* Two boxes that share an edge on a tenth of a metre: the vertices of the one that are right of all others stand where the left ones of the other do. */
+static int meet(const voronoi_mesh *mesh, voronoi_pieces *first, voronoi_pieces *second, unsigned long pairs)
+{
+    uint64_t state = 1;
+    unsigned long apart = 0;
+    for (unsigned long k = 0; k < pairs; k++) {
+        double at[3]; /* left, middle, right, each a tenth as a text would give it */
+        long tenths = 0;
+        for (int i = 0; i < 3; i++) {
+            state = state * UINT64_C(6364136223846793005) + UINT64_C(1442695040888963407);
+            tenths += 1 + (long)(state >> 33) % 100000;
+            at[i] = (double)tenths / 10;
+        }
+        const voronoi_edges left = { at[0], -1, at[1], 1 }, right = { at[1], -1, at[2], 1 };
+        const voronoi_frame frame = { (at[1] + at[2]) / 2, 0, at[2] - at[1], 2 };
+        if (voronoi_build_pieces_by_edges(left, mesh, first) != VORONOI_ACCEPTED || voronoi_build_pieces_by_edges(right, mesh, second) != VORONOI_ACCEPTED)
+            return wrong("a box on tenths is refused");
+        /* the box's corners stand after the two triangles: top left, bottom left, bottom right, top right */
+        const double *a = first->vertices + 2 * 2, *b = second->vertices + 2 * 2;
+        if (memcmp(&a[4], &b[0], sizeof *a) != 0 || memcmp(&a[6], &b[2], sizeof *a) != 0)
+            return wrong("two neighbouring boxes by their edges do not meet");
+        if (voronoi_build_pieces(frame, mesh, second) != VORONOI_ACCEPTED)
+            return wrong("a box on tenths is refused by its centre and size");
+        apart += memcmp(&a[4], &b[0], sizeof *a) != 0;
+    }
+    if (pairs >= 1000 && apart == 0)
+        return wrong("by centre and size all boxes meet too: this test shows nothing");
+    printf("pieces: %lu pairs of boxes on tenths meet by their edges; by centre and size %lu do not\n", pairs, apart);
+    return 0;
 }
 
 int main(void)
@@ -59,10 +155,20 @@ int main(void)
         if (areas[s] < (s < 4 ? 1 : -7) || areas[s] > (s < 4 ? 1 : -7))
             return wrong("an area is another, or one too many was written");
 
+    if (by_edges(&mesh, &pieces, bytes) || neighbours(&mesh, &pieces) || polygons(&pieces) || limits(&box))
+        return 1;
+    void *other = malloc(bytes);
+    if (!other)
+        return 2;
+    voronoi_pieces second = voronoi_pieces_in(&mesh, other);
+    if (meet(&mesh, &pieces, &second, 100000))
+        return 1;
+    free(other);
+
     mesh.hull_count = 3;
     if (voronoi_build_pieces(box, &mesh, &pieces) != VORONOI_REFUSED_HULL)
         return wrong("a hull that is too short is not refused");
     free(block);
-    printf("pieces: as many bytes as are needed, the corners of each piece, its area, and a refusal\n");
+    printf("pieces: as many bytes as are needed, by centre and size and by edges; corners, areas, neighbours, polygons; refusals\n");
     return 0;
 }

@@ -1,6 +1,7 @@
 //! Whether the pieces are what they should be.
 
-use crate::{calls, sys, Refusal, Voronoi};
+use crate::calls::{self, Cells};
+use crate::{sys, Refusal, Voronoi};
 
 /// The tolerance that an audit is usually asked with: 2^-20 of the box.
 pub const AUDIT_BITS: u32 = sys::AUDIT_BITS as u32;
@@ -52,11 +53,37 @@ pub enum Fault {
 
 impl Voronoi {
     /// Whether the pieces are what they should be, to 2^-bits of the box: each runs once round, the right way, lies in the box and has no
-    /// corner that is nearer to a gauge beside it, and all of them add up to the box; else the first fault. It looks at the pieces alone, so
+    /// corner that is nearer to any other gauge, and all of them add up to the box; else the first fault. It looks at the pieces alone, so
     /// that it finds what a wrong mesh has done, such as one that is wound the other way. [AUDIT_BITS] is far from what rounding does, and
     /// from what a wrong mesh does. Refused (1) above 52.
+    ///
+    /// Its time grows with the corners times the gauges; [Voronoi::audit_near] is for many gauges, and leaves out what only a gauge further off would
+    /// tell.
+    ///
+    /// ```
+    /// use yelmuzard::*;
+    ///
+    /// # fn main() -> Result<(), Refusal> {
+    /// # let sites = vec![Point { x: 0.0, y: 0.0 }, Point { x: 1.0, y: 0.0 }, Point { x: 0.0, y: 1.0 }];
+    /// # let mesh = Triangulation { triangles: vec![0, 2, 1], halfedges: vec![EMPTY; 3], hull: vec![0, 2, 1] };
+    /// let voronoi = Voronoi::new(sites, BoundingBox::new_centered_square(4.0), mesh)?;
+    /// match voronoi.audit(AUDIT_BITS)?.fault {
+    ///     None => println!("sound"),
+    ///     Some(fault) => println!("{fault:?}"),
+    /// }
+    /// # Ok(())
+    /// # }
+    /// ```
     pub fn audit(&self, bits: u32) -> Result<Audit, Refusal> {
-        let found = calls::audit(self.bounding_box(), self.sites(), self.vertices(), self.lent_cells(), self.joined().lent(), bits)?;
+        self.audit_against(Cells { offsets: &[], indexes: &[] }, bits)
+    }
+    /// The same with each piece held against its neighbours in the triangles alone: on a wrong mesh a corner can be nearer to a gauge that is none of
+    /// them, and this does not find it.
+    pub fn audit_near(&self, bits: u32) -> Result<Audit, Refusal> {
+        self.audit_against(self.joined().lent(), bits)
+    }
+    fn audit_against(&self, others: Cells<'_>, bits: u32) -> Result<Audit, Refusal> {
+        let found = calls::audit(self.bounding_box(), self.sites(), self.vertices(), self.lent_cells(), others, bits)?;
         let [site, vertex, other] = found.named.map(|number| number as usize);
         let fault = match found.kind {
             sys::AUDIT_SOUND => None,

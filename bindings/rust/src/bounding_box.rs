@@ -2,19 +2,47 @@
 
 use crate::{calls, Point, Refusal};
 
-/// The box, by its centre and size; y points down, so its top is its least y. Its edges are voronoice's, bit for bit.
+/// The box, by its centre and size or by its edges; y points down, so its top is its least y. By centre and size its edges are voronoice's, bit for bit;
+/// by its edges it has these numbers bit for bit, so that two boxes that share an edge meet there.
 /// Whatever is asked of a box that breaks its rule is refused (3), and so is what is asked about a point that does (6).
 #[derive(Clone, Debug, PartialEq)]
 pub struct BoundingBox {
     center: Point,
-    /// the width and the height that were given
-    pub(crate) size: (f64, f64),
+    /// as it was given
+    pub(crate) given: Given,
+}
+
+/// How a box was given, in the order in which the library takes the four numbers.
+#[derive(Clone, Copy, Debug, PartialEq)]
+pub(crate) enum Given {
+    /// centre x and y, width, height
+    Sized([f64; 4]),
+    /// left, top, right, bottom
+    Edges([f64; 4]),
 }
 
 impl BoundingBox {
     /// A box by its centre and size.
     pub fn new(center: Point, width: f64, height: f64) -> Self {
-        Self { center, size: (width, height) }
+        Self { center, given: Given::Sized([center.x, center.y, width, height]) }
+    }
+    /// A box by its edges, left below right and top below bottom (y points down). Map sheets that share an edge are given so: by centre and size an
+    /// edge can move by a last bit, and two sheets then overlap or leave a gap.
+    ///
+    /// ```
+    /// use yelmuzard::*;
+    ///
+    /// # fn main() -> Result<(), Refusal> {
+    /// let (west, east) = (BoundingBox::from_edges(0.0, 0.1, 0.3, 0.3), BoundingBox::from_edges(0.3, 0.1, 0.6, 0.3));
+    /// assert_eq!(west.right()?, east.left()?);
+    /// assert_ne!(west.right()?, BoundingBox::new(*east.center(), 0.3, 0.2).left()?);
+    /// # Ok(())
+    /// # }
+    /// ```
+    pub fn from_edges(left: f64, top: f64, right: f64, bottom: f64) -> Self {
+        // as voronoi_box_by_edges has it
+        let center = Point { x: left + (right - left) / 2.0, y: top + (bottom - top) / 2.0 };
+        Self { center, given: Given::Edges([left, top, right, bottom]) }
     }
     /// A box round the origin.
     pub fn new_centered(width: f64, height: f64) -> Self {

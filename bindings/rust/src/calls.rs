@@ -4,6 +4,7 @@
 //! overlap where one is written. A slice of Rust has a pointer and a length that go together, not null at length 0 either, and what is
 //! borrowed `&mut` overlaps nothing else; a [Point] is two numbers in turn (`repr(C)`). There is no other precondition.
 
+use crate::bounding_box::Given;
 use crate::{sys, BoundingBox, Point, Refusal};
 
 /// A mesh as it is lent.
@@ -38,6 +39,27 @@ pub(crate) struct Audited {
     pub missing: f64,
 }
 
+// the calls that take a box: by its centre and size and by its edges they have the same arguments
+type Corners = unsafe extern "C" fn(f64, f64, f64, f64, *mut f64, usize) -> u32;
+type Inside = unsafe extern "C" fn(f64, f64, f64, f64, f64, f64, *mut u32) -> u32;
+type Build = unsafe extern "C" fn(
+    f64, f64, f64, f64, *const f64, usize, *const u32, usize, *const u32, usize, *const u32, usize,
+    *mut u32, usize, *mut f64, usize, *mut u32, usize, *mut u32, usize, *mut u32, usize,
+) -> u32;
+type Why = unsafe extern "C" fn(
+    f64, f64, f64, f64, *const f64, usize, *const u32, usize, *const u32, usize, *const u32, usize, u32, u32, u32,
+    *mut u32, usize, *mut f64, usize, *mut u32, usize, *mut u32, usize, *mut u32, usize, *mut u32, *mut u32, *mut u32, *mut u32,
+) -> u32;
+#[cfg(voronoi_cut)]
+type Cut = unsafe extern "C" fn(
+    f64, f64, f64, f64, *const f64, usize, *const u32, usize, *const u32, usize, *const u32, usize,
+    *mut u32, usize, *mut f64, usize, *mut u32, usize, *mut u32, usize, *mut u32,
+) -> u32;
+type Audits = unsafe extern "C" fn(
+    f64, f64, f64, f64, *const f64, usize, *const f64, usize, *const u32, usize, *const u32, usize, *const u32, usize, *const u32, usize,
+    u32, *mut u32, *mut u32, *mut u32, *mut u32, *mut f64,
+) -> u32;
+
 pub(crate) fn centroid(points: &[Point]) -> Result<Point, Refusal> {
     let mut mean = Point::default();
     // SAFETY: the points are two numbers each; the two written are places of one local value.
@@ -47,41 +69,61 @@ pub(crate) fn centroid(points: &[Point]) -> Result<Point, Refusal> {
 
 /// Left, top, right, bottom, width, height.
 pub(crate) fn edges(b: &BoundingBox) -> Result<[f64; 6], Refusal> {
-    let (c, [mut left, mut top, mut right, mut bottom, mut across, mut down]) = (b.center(), [0.0; 6]);
-    // SAFETY: the six written are local values, each by itself.
-    Refusal::of(unsafe {
-        sys::voronoi_box(c.x, c.y, b.size.0, b.size.1, &mut left, &mut top, &mut right, &mut bottom, &mut across, &mut down)
-    })?;
-    Ok([left, top, right, bottom, across, down])
+    match b.given {
+        Given::Sized([cx, cy, width, height]) => {
+            let [mut left, mut top, mut right, mut bottom, mut across, mut down] = [0.0; 6];
+            // SAFETY: the six written are local values, each by itself.
+            Refusal::of(unsafe {
+                sys::voronoi_box(cx, cy, width, height, &mut left, &mut top, &mut right, &mut bottom, &mut across, &mut down)
+            })?;
+            Ok([left, top, right, bottom, across, down])
+        }
+        Given::Edges([left, top, right, bottom]) => {
+            let [mut x, mut y, mut across, mut down] = [0.0; 4];
+            // SAFETY: the four written are local values, each by itself.
+            Refusal::of(unsafe { sys::voronoi_box_by_edges(left, top, right, bottom, &mut x, &mut y, &mut across, &mut down) })?;
+            Ok([left, top, right, bottom, across, down])
+        }
+    }
+}
+
+/// The four numbers of a box, and of two calls that differ in how they take it the one that takes it so.
+fn taking<C>(b: &BoundingBox, sized: C, by_edges: C) -> ([f64; 4], C) {
+    match b.given {
+        Given::Sized(numbers) => (numbers, sized),
+        Given::Edges(numbers) => (numbers, by_edges),
+    }
 }
 
 pub(crate) fn corners(b: &BoundingBox) -> Result<[Point; 4], Refusal> {
-    let (c, mut out) = (b.center(), [Point::default(); 4]);
+    let mut out = [Point::default(); 4];
+    let ([p, q, r, s], call): (_, Corners) = taking(b, sys::voronoi_corners, sys::voronoi_corners_by_edges);
     // SAFETY: `out` is four points, eight numbers.
-    Refusal::of(unsafe { sys::voronoi_corners(c.x, c.y, b.size.0, b.size.1, out.as_mut_ptr().cast(), 2 * out.len()) })?;
+    Refusal::of(unsafe { call(p, q, r, s, out.as_mut_ptr().cast(), 2 * out.len()) })?;
     Ok(out)
 }
 
 pub(crate) fn is_inside(b: &BoundingBox, p: &Point) -> Result<bool, Refusal> {
-    let (c, mut inside) = (b.center(), 0);
-    // SAFETY: the one written is a local value.
-    Refusal::of(unsafe { sys::voronoi_is_inside(c.x, c.y, b.size.0, b.size.1, p.x, p.y, &mut inside) })?;
-    Ok(inside == 1)
+    inside(taking(b, sys::voronoi_is_inside, sys::voronoi_is_inside_by_edges), p)
 }
 
 pub(crate) fn is_exclusively_inside(b: &BoundingBox, p: &Point) -> Result<bool, Refusal> {
-    let (c, mut inside) = (b.center(), 0);
+    inside(taking(b, sys::voronoi_is_exclusively_inside, sys::voronoi_is_exclusively_inside_by_edges), p)
+}
+
+fn inside(([a, b, c, d], call): ([f64; 4], Inside), p: &Point) -> Result<bool, Refusal> {
+    let mut inside = 0;
     // SAFETY: the one written is a local value.
-    Refusal::of(unsafe { sys::voronoi_is_exclusively_inside(c.x, c.y, b.size.0, b.size.1, p.x, p.y, &mut inside) })?;
+    Refusal::of(unsafe { call(a, b, c, d, p.x, p.y, &mut inside) })?;
     Ok(inside == 1)
 }
 
-pub(crate) fn build(b: &BoundingBox, m: Mesh<'_>, s: Slices<'_>) -> Result<(), Refusal> {
-    let c = b.center();
+pub(crate) fn build(b: &BoundingBox, m: Mesh<'_>, s: &mut Slices<'_>) -> Result<(), Refusal> {
+    let ([cx, cy, width, height], call): (_, Build) = taking(b, sys::voronoi_build, sys::voronoi_build_by_edges);
     // SAFETY: each slice with its own length, that of points in numbers; the five written are borrowed `&mut`.
     Refusal::of(unsafe {
-        sys::voronoi_build(
-            c.x, c.y, b.size.0, b.size.1,
+        call(
+            cx, cy, width, height,
             m.sites.as_ptr().cast(), 2 * m.sites.len(), m.triangles.as_ptr(), m.triangles.len(),
             m.halfedges.as_ptr(), m.halfedges.len(), m.hull.as_ptr(), m.hull.len(),
             s.work.as_mut_ptr(), s.work.len(), s.vertices.as_mut_ptr().cast(), 2 * s.vertices.len(),
@@ -89,6 +131,42 @@ pub(crate) fn build(b: &BoundingBox, m: Mesh<'_>, s: Slices<'_>) -> Result<(), R
             s.counts.as_mut_ptr(), s.counts.len(),
         )
     })
+}
+
+/// The kind of the one reason, and the three numbers that it names; the refusal itself is the build's.
+pub(crate) fn why(b: &BoundingBox, m: Mesh<'_>, s: &mut Slices<'_>) -> (usize, [usize; 3]) {
+    let ([cx, cy, width, height], call): (_, Why) = taking(b, sys::voronoi_why, sys::voronoi_why_by_edges);
+    let [mut kind, mut place, mut from, mut to] = [0; 4];
+    // SAFETY: each slice with its own length, that of points in numbers; five of those written are borrowed `&mut`, four are local values.
+    let _refusal: u32 = unsafe {
+        call(
+            cx, cy, width, height,
+            m.sites.as_ptr().cast(), 2 * m.sites.len(), m.triangles.as_ptr(), m.triangles.len(),
+            m.halfedges.as_ptr(), m.halfedges.len(), m.hull.as_ptr(), m.hull.len(), 0, 0, 0,
+            s.work.as_mut_ptr(), s.work.len(), s.vertices.as_mut_ptr().cast(), 2 * s.vertices.len(),
+            s.indexes.as_mut_ptr(), s.indexes.len(), s.offsets.as_mut_ptr(), s.offsets.len(),
+            s.counts.as_mut_ptr(), s.counts.len(), &mut kind, &mut place, &mut from, &mut to,
+        )
+    };
+    (kind as usize, [place, from, to].map(|number| number as usize))
+}
+
+/// Pieces cut so that they add up; the vertices that were made. The last of the slices is not looked at.
+#[cfg(voronoi_cut)]
+pub(crate) fn cut(b: &BoundingBox, m: Mesh<'_>, s: &mut Slices<'_>) -> Result<u32, Refusal> {
+    let ([cx, cy, width, height], call): (_, Cut) = taking(b, sys::voronoi_cut, sys::voronoi_cut_by_edges);
+    let mut count = 0;
+    // SAFETY: each slice with its own length, that of points in numbers; four of those written are borrowed `&mut`, one is a local value.
+    Refusal::of(unsafe {
+        call(
+            cx, cy, width, height,
+            m.sites.as_ptr().cast(), 2 * m.sites.len(), m.triangles.as_ptr(), m.triangles.len(),
+            m.halfedges.as_ptr(), m.halfedges.len(), m.hull.as_ptr(), m.hull.len(),
+            s.work.as_mut_ptr(), s.work.len(), s.vertices.as_mut_ptr().cast(), 2 * s.vertices.len(),
+            s.indexes.as_mut_ptr(), s.indexes.len(), s.offsets.as_mut_ptr(), s.offsets.len(), &mut count,
+        )
+    })?;
+    Ok(count)
 }
 
 pub(crate) fn all_neighbours(m: Mesh<'_>, c: Cells<'_>, work: &mut [u32], starts: &mut [u32], out: &mut [u32]) -> Result<(), Refusal> {
@@ -138,14 +216,41 @@ pub(crate) fn areas(vertices: &[Point], c: Cells<'_>, areas: &mut [f64]) -> Resu
     })
 }
 
+/// The bytes of one polygon: how many were written.
+pub(crate) fn cell_wkb(vertices: &[Point], c: Cells<'_>, site: u32, out: &mut [u8]) -> Result<usize, Refusal> {
+    let mut written = 0;
+    // SAFETY: each slice with its own length, that of points in numbers; one of those written is borrowed `&mut`, one is a local value.
+    Refusal::of(unsafe {
+        sys::voronoi_cell_wkb(
+            vertices.as_ptr().cast(), 2 * vertices.len(), c.offsets.as_ptr(), c.offsets.len(),
+            c.indexes.as_ptr(), c.indexes.len(), site, out.as_mut_ptr(), out.len(), &mut written,
+        )
+    })?;
+    Ok(written)
+}
+
+/// Those of all, one after the other, and where each begins.
+pub(crate) fn all_wkb(vertices: &[Point], c: Cells<'_>, starts: &mut [u64], out: &mut [u8]) -> Result<usize, Refusal> {
+    let mut written = 0;
+    // SAFETY: each slice with its own length, that of points in numbers; two of those written are borrowed `&mut`, one is a local value.
+    Refusal::of(unsafe {
+        sys::voronoi_all_wkb(
+            vertices.as_ptr().cast(), 2 * vertices.len(), c.offsets.as_ptr(), c.offsets.len(),
+            c.indexes.as_ptr(), c.indexes.len(), starts.as_mut_ptr(), starts.len(), out.as_mut_ptr(), out.len(), &mut written,
+        )
+    })?;
+    Ok(written)
+}
+
 pub(crate) fn audit(
     b: &BoundingBox, sites: &[Point], vertices: &[Point], cells: Cells<'_>, others: Cells<'_>, bits: u32,
 ) -> Result<Audited, Refusal> {
-    let (p, [mut kind, mut site, mut vertex, mut other], mut missing) = (b.center(), [0; 4], 0.0);
+    let ([cx, cy, width, height], call): (_, Audits) = taking(b, sys::voronoi_audit, sys::voronoi_audit_by_edges);
+    let ([mut kind, mut site, mut vertex, mut other], mut missing) = ([0; 4], 0.0);
     // SAFETY: each slice with its own length, that of points in numbers; the five written are local values, each by itself.
     Refusal::of(unsafe {
-        sys::voronoi_audit(
-            p.x, p.y, b.size.0, b.size.1, sites.as_ptr().cast(), 2 * sites.len(), vertices.as_ptr().cast(), 2 * vertices.len(),
+        call(
+            cx, cy, width, height, sites.as_ptr().cast(), 2 * sites.len(), vertices.as_ptr().cast(), 2 * vertices.len(),
             cells.offsets.as_ptr(), cells.offsets.len(), cells.indexes.as_ptr(), cells.indexes.len(),
             others.offsets.as_ptr(), others.offsets.len(), others.indexes.as_ptr(), others.indexes.len(),
             bits, &mut kind, &mut site, &mut vertex, &mut other, &mut missing,

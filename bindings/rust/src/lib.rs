@@ -22,7 +22,7 @@
 //! ```
 //!
 //! No algorithm lives here: the crate lends slices to the library and reads them. Whatever cannot be built is an `Err` with a [Refusal], a
-//! number with words; nothing panics but an index that is out of range. A [Voronoi] holds lists only, so it can be sent to and shared by
+//! number with words and a place; nothing panics but an index that is out of range. A [Voronoi] holds lists only, so it can be sent to and shared by
 //! threads; the library keeps no state.
 #![deny(missing_docs, unsafe_code, unsafe_op_in_unsafe_fn, clippy::undocumented_unsafe_blocks)]
 
@@ -40,11 +40,13 @@ mod neighbors;
 mod refusal;
 mod sys;
 mod voronoi;
+mod wkb;
 
 pub use audit::{Audit, Fault, AUDIT_BITS};
 pub use bounding_box::BoundingBox;
 pub use builder::VoronoiBuilder;
 pub use cell::VoronoiCell;
 pub use mesh::{centroid, Point, Triangulation, EMPTY};
-pub use refusal::Refusal;
+pub use refusal::{Place, Refusal};
 pub use voronoi::Voronoi;
+pub use wkb::Polygons;

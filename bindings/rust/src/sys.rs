@@ -17,6 +17,12 @@ pub const AUDIT_RING: usize = 1;
 pub const AUDIT_OUTSIDE: usize = 2;
 pub const AUDIT_NEARER: usize = 3;
 pub const AUDIT_TOTAL: usize = 4;
+/// What a reason names.
+pub const WHY_SITE: usize = 2;
+pub const WHY_TRIANGLE: usize = 3;
+pub const WHY_HALFEDGE: usize = 4;
+pub const WHY_HULL_PLACE: usize = 5;
+pub const WHY_EDGE: usize = 6;
 
 macro_rules! calls {
     ($(fn $name:ident($($argument:ident: $type:ty),* $(,)?);)*) => {
@@ -28,13 +34,31 @@ calls! {
     fn voronoi_centroid(points: *const f64, length: usize, x: *mut f64, y: *mut f64);
     fn voronoi_box(cx: f64, cy: f64, width: f64, height: f64, left: *mut f64, top: *mut f64, right: *mut f64, bottom: *mut f64,
         across: *mut f64, down: *mut f64);
+    fn voronoi_box_by_edges(left: f64, top: f64, right: f64, bottom: f64, cx: *mut f64, cy: *mut f64, across: *mut f64, down: *mut f64);
     fn voronoi_corners(cx: f64, cy: f64, width: f64, height: f64, out: *mut f64, length: usize);
+    fn voronoi_corners_by_edges(left: f64, top: f64, right: f64, bottom: f64, out: *mut f64, length: usize);
     fn voronoi_is_inside(cx: f64, cy: f64, width: f64, height: f64, x: f64, y: f64, inside: *mut u32);
+    fn voronoi_is_inside_by_edges(left: f64, top: f64, right: f64, bottom: f64, x: f64, y: f64, inside: *mut u32);
     fn voronoi_is_exclusively_inside(cx: f64, cy: f64, width: f64, height: f64, x: f64, y: f64, inside: *mut u32);
+    fn voronoi_is_exclusively_inside_by_edges(left: f64, top: f64, right: f64, bottom: f64, x: f64, y: f64, inside: *mut u32);
     fn voronoi_build(cx: f64, cy: f64, width: f64, height: f64, sites: *const f64, sites_len: usize, triangles: *const u32,
         triangles_len: usize, halfedges: *const u32, halfedges_len: usize, hull: *const u32, hull_len: usize, work: *mut u32,
         work_len: usize, vertices: *mut f64, vertices_len: usize, indexes: *mut u32, indexes_len: usize, offsets: *mut u32,
         offsets_len: usize, counts: *mut u32, counts_len: usize);
+    fn voronoi_build_by_edges(left: f64, top: f64, right: f64, bottom: f64, sites: *const f64, sites_len: usize, triangles: *const u32,
+        triangles_len: usize, halfedges: *const u32, halfedges_len: usize, hull: *const u32, hull_len: usize, work: *mut u32,
+        work_len: usize, vertices: *mut f64, vertices_len: usize, indexes: *mut u32, indexes_len: usize, offsets: *mut u32,
+        offsets_len: usize, counts: *mut u32, counts_len: usize);
+    fn voronoi_why(cx: f64, cy: f64, width: f64, height: f64, sites: *const f64, sites_len: usize, triangles: *const u32,
+        triangles_len: usize, halfedges: *const u32, halfedges_len: usize, hull: *const u32, hull_len: usize, asked: u32, first: u32,
+        second: u32, work: *mut u32, work_len: usize, vertices: *mut f64, vertices_len: usize, indexes: *mut u32, indexes_len: usize,
+        offsets: *mut u32, offsets_len: usize, counts: *mut u32, counts_len: usize, kind: *mut u32, place: *mut u32, from: *mut u32,
+        to: *mut u32);
+    fn voronoi_why_by_edges(left: f64, top: f64, right: f64, bottom: f64, sites: *const f64, sites_len: usize, triangles: *const u32,
+        triangles_len: usize, halfedges: *const u32, halfedges_len: usize, hull: *const u32, hull_len: usize, asked: u32, first: u32,
+        second: u32, work: *mut u32, work_len: usize, vertices: *mut f64, vertices_len: usize, indexes: *mut u32, indexes_len: usize,
+        offsets: *mut u32, offsets_len: usize, counts: *mut u32, counts_len: usize, kind: *mut u32, place: *mut u32, from: *mut u32,
+        to: *mut u32);
     fn voronoi_all_neighbours(sites: *const f64, sites_len: usize, triangles: *const u32, triangles_len: usize,
         halfedges: *const u32, halfedges_len: usize, hull: *const u32, hull_len: usize, offsets: *const u32, offsets_len: usize,
         indexes: *const u32, indexes_len: usize, work: *mut u32, work_len: usize, starts: *mut u32, starts_len: usize, out: *mut u32,
@@ -47,8 +71,36 @@ calls! {
         work_len: usize, out: *mut u32, out_len: usize);
     fn voronoi_areas(vertices: *const f64, vertices_len: usize, offsets: *const u32, offsets_len: usize, indexes: *const u32,
         indexes_len: usize, areas: *mut f64, areas_len: usize);
+    fn voronoi_cell_wkb(vertices: *const f64, vertices_len: usize, offsets: *const u32, offsets_len: usize, indexes: *const u32,
+        indexes_len: usize, site: u32, out: *mut u8, out_len: usize, written: *mut usize);
+    fn voronoi_all_wkb(vertices: *const f64, vertices_len: usize, offsets: *const u32, offsets_len: usize, indexes: *const u32,
+        indexes_len: usize, starts: *mut u64, starts_len: usize, out: *mut u8, out_len: usize, written: *mut usize);
     fn voronoi_audit(cx: f64, cy: f64, width: f64, height: f64, sites: *const f64, sites_len: usize, vertices: *const f64,
         vertices_len: usize, offsets: *const u32, offsets_len: usize, indexes: *const u32, indexes_len: usize, starts: *const u32,
         starts_len: usize, others: *const u32, others_len: usize, bits: u32, kind: *mut u32, site: *mut u32, vertex: *mut u32,
         other: *mut u32, missing: *mut f64);
+    fn voronoi_audit_by_edges(left: f64, top: f64, right: f64, bottom: f64, sites: *const f64, sites_len: usize, vertices: *const f64,
+        vertices_len: usize, offsets: *const u32, offsets_len: usize, indexes: *const u32, indexes_len: usize, starts: *const u32,
+        starts_len: usize, others: *const u32, others_len: usize, bits: u32, kind: *mut u32, site: *mut u32, vertex: *mut u32,
+        other: *mut u32, missing: *mut f64);
 }
+
+#[cfg(voronoi_cut)]
+calls! {
+    fn voronoi_cut(cx: f64, cy: f64, width: f64, height: f64, sites: *const f64, sites_len: usize, triangles: *const u32,
+        triangles_len: usize, halfedges: *const u32, halfedges_len: usize, hull: *const u32, hull_len: usize, work: *mut u32,
+        work_len: usize, vertices: *mut f64, vertices_len: usize, indexes: *mut u32, indexes_len: usize, offsets: *mut u32,
+        offsets_len: usize, count: *mut u32);
+    fn voronoi_cut_by_edges(left: f64, top: f64, right: f64, bottom: f64, sites: *const f64, sites_len: usize, triangles: *const u32,
+        triangles_len: usize, halfedges: *const u32, halfedges_len: usize, hull: *const u32, hull_len: usize, work: *mut u32,
+        work_len: usize, vertices: *mut f64, vertices_len: usize, indexes: *mut u32, indexes_len: usize, offsets: *mut u32,
+        offsets_len: usize, count: *mut u32);
+}
+
+/// The rooms of a cut for t triangles and h hull sites, vertices in vertices: build.rs takes them from the header.
+#[cfg(voronoi_cut)]
+mod rooms {
+    include!(concat!(env!("OUT_DIR"), "/rooms.rs"));
+}
+#[cfg(voronoi_cut)]
+pub use rooms::{cut_index_room, cut_vertex_room};

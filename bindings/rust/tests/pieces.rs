@@ -48,6 +48,7 @@ fn areas_fill_the_sheet_and_paths_end_at_the_nearest() {
     assert!((v.areas().unwrap().iter().sum::<f64>() - 8000.0).abs() < 1e-9);
     assert!(v.turned_triangles().unwrap().is_empty());
     assert_eq!(v.audit(AUDIT_BITS), Ok(Audit { missing: 0.0, fault: None }));
+    assert_eq!(v.audit_near(AUDIT_BITS), Ok(Audit { missing: 0.0, fault: None }));
     for to in [Point { x: 3.0, y: 77.0 }, Point { x: 50.0, y: 40.0 }, Point { x: 99.0, y: 1.0 }] {
         let far = |s: &usize| (v.sites()[*s].x - to.x).powi(2) + (v.sites()[*s].y - to.y).powi(2);
         let nearest = (0..30).min_by(|a, b| far(a).total_cmp(&far(b)));
@@ -191,6 +192,112 @@ fn an_audit() {
     // a quarter of the box and more is gone, with one corner lost
     let short = built("harness/meshes/lost_corners.txt").unwrap().audit(AUDIT_BITS).unwrap();
     assert!(short.missing > 0.25 && short.fault.is_some());
+    // held against the neighbours alone the two agree here
+    assert_eq!(built("harness/meshes/lost_corners.txt").unwrap().audit_near(AUDIT_BITS).unwrap(), short);
+    assert_eq!(built("examples/square.txt").unwrap().audit_near(53), Err(Refusal::Count));
+}
+
+/// A box by its edges has them bit for bit, and so have the pieces.
+#[test]
+fn by_its_edges() {
+    let (_, sites, mesh) = read("examples/thirty.txt");
+    let sheet = BoundingBox::from_edges(0.0, 0.0, 100.0, 80.0);
+    assert_eq!(sheet.center(), &Point { x: 50.0, y: 40.0 });
+    assert_eq!((sheet.left(), sheet.top(), sheet.right(), sheet.bottom()), (Ok(0.0), Ok(0.0), Ok(100.0), Ok(80.0)));
+    assert_eq!((sheet.width(), sheet.height()), (Ok(100.0), Ok(80.0)));
+    assert_eq!(sheet.corners().unwrap()[2], Point { x: 100.0, y: 80.0 });
+    assert!(sheet.is_inside(&Point::default()).unwrap() && !sheet.is_exclusively_inside(&Point::default()).unwrap());
+    let (v, w) = (Voronoi::new(sites, sheet, mesh).unwrap(), thirty());
+    assert_eq!((v.vertices(), v.cells(), v.audit(AUDIT_BITS)), (w.vertices(), w.cells(), w.audit(AUDIT_BITS)));
+    for (left, top, right, bottom) in
+        [(1.0, 0.0, 1.0, 1.0), (0.0, 2.0, 1.0, 1.0), (f64::NAN, 0.0, 1.0, 1.0), (0.0, 0.0, f64::INFINITY, 1.0)]
+    {
+        assert_eq!(BoundingBox::from_edges(left, top, right, bottom).left(), Err(Refusal::Box));
+    }
+}
+
+/// Two sheets that share an edge on a tenth of a metre meet there: 100,000 pairs, the corners of the box and of the pieces.
+#[test]
+fn neighbouring_sheets_meet() {
+    let (_, sites, mesh) = read("examples/square.txt");
+    let (mut state, mut apart) = (1u64, 0);
+    for pair in 0..100_000u32 {
+        let mut tenths = 0;
+        let [left, middle, right] = [0; 3].map(|_| {
+            state = state.wrapping_mul(6364136223846793005).wrapping_add(1442695040888963407);
+            tenths += 1 + (state >> 33) % 100_000;
+            tenths as f64 / 10.0
+        });
+        let (west, east) = (BoundingBox::from_edges(left, 0.0, middle, 1.0), BoundingBox::from_edges(middle, 0.0, right, 1.0));
+        assert_eq!(west.right().unwrap().to_bits(), east.left().unwrap().to_bits());
+        apart += u32::from(west.right() != BoundingBox::new(*east.center(), right - middle, 1.0).left());
+        if pair % 100 == 0 {
+            let of = |b| Voronoi::new(sites.clone(), b, mesh.clone()).unwrap();
+            let (west, east) = (of(west), of(east));
+            // the box's corners stand after the two triangles
+            assert_eq!((west.vertices()[4].x, west.vertices()[5].x), (east.vertices()[2].x, east.vertices()[3].x));
+        }
+    }
+    assert!(apart > 0, "by centre and size all sheets meet too: this test shows nothing");
+}
+
+/// One by one and all at once the polygons are the same bytes.
+#[test]
+fn polygons() {
+    for name in ["examples/thirty.txt", "examples/square.txt", "harness/meshes/covered_box.txt"] {
+        let v = built(name).unwrap();
+        let all = v.to_wkb().unwrap();
+        assert_eq!((all.len(), all.is_empty(), all.iter().len()), (v.sites().len(), false, v.sites().len()));
+        assert_eq!((all.starts()[0], *all.starts().last().unwrap()), (0, all.bytes().len() as u64));
+        for (cell, image) in v.iter_cells().zip(all.iter()) {
+            assert_eq!((cell.to_wkb().unwrap().as_slice(), all.get(cell.site())), (image, image));
+            // byte order, type, rings; then the first corner's x
+            assert_eq!(image[..5], [1, 3, 0, 0, 0]);
+            assert_eq!(image[5], u8::from(cell.triangles().len() >= 3));
+            if let (true, Some(corner)) = (image.len() > 9, cell.iter_vertices().next()) {
+                assert_eq!(image[13..21], corner.x.to_le_bytes());
+            }
+        }
+    }
+}
+
+/// Which gauges were kept, and the same built again from what was built.
+#[test]
+fn kept_and_built_again() {
+    let (bounding_box, mut sites, mesh) = read("examples/square.txt");
+    sites.insert(0, Point { x: 3.0, y: 3.0 });
+    let given = VoronoiBuilder::default().set_sites(sites).set_bounding_box(bounding_box);
+    let v = given.clone().build(|_| mesh.clone()).unwrap();
+    assert_eq!(v.kept(), [1, 2, 3, 4]);
+    let again = VoronoiBuilder::from(&v).build(|left| {
+        assert_eq!(left, v.sites());
+        mesh.clone()
+    });
+    assert_eq!(again.unwrap().cells(), v.cells());
+    assert_eq!(VoronoiBuilder::from(v.clone()).build(|_| mesh.clone()).unwrap().vertices(), v.vertices());
+    assert_eq!(built("examples/square.txt").unwrap().kept(), [0, 1, 2, 3]);
+    let up = |list: &[usize]| list.iter().map(|&s| s + 1).collect::<Vec<_>>();
+    let over_five = Triangulation { triangles: up(&mesh.triangles), hull: up(&mesh.hull), halfedges: mesh.halfedges };
+    let kept = given.keep_sites_outside().build(|_| over_five.clone()).unwrap();
+    assert_eq!(kept.kept(), [0, 1, 2, 3, 4]);
+    // and they are kept when it is built again
+    let again = VoronoiBuilder::from(kept).build(|all| {
+        assert_eq!(all.len(), 5);
+        over_five
+    });
+    assert_eq!(again.unwrap().kept().len(), 5);
+}
+
+#[cfg(voronoi_cut)]
+#[test]
+fn cut_pieces_add_up() {
+    for name in ["examples/thirty.txt", "examples/square.txt", "harness/meshes/lost_corners.txt"] {
+        let (bounding_box, sites, mesh) = read(name);
+        let whole = bounding_box.width().unwrap() * bounding_box.height().unwrap();
+        let v = VoronoiBuilder::default().set_sites(sites.clone()).set_bounding_box(bounding_box).cut(|_| mesh).unwrap();
+        assert_eq!((v.lost_corners(), v.kept().len()), (0, sites.len()));
+        assert!((v.areas().unwrap().iter().sum::<f64>() / whole - 1.0).abs() < 1e-12);
+    }
 }
 
 #[test]

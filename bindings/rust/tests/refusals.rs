@@ -33,6 +33,13 @@ fn square(change: impl FnOnce(&mut BoundingBox, &mut Vec<Point>, &mut Triangulat
     Voronoi::new(sites, bounding_box, mesh).unwrap_err()
 }
 
+/// "square" mirrored, which is wound the wrong way, cut.
+fn mirrored() -> Refusal {
+    let (bounding_box, mut sites, mesh) = read("examples/square.txt");
+    sites.iter_mut().for_each(|p| p.y = -p.y);
+    Voronoi::cut(sites, bounding_box, mesh).unwrap_err()
+}
+
 fn refused(mesh: &str) -> Refusal {
     built(mesh).unwrap_err()
 }
@@ -155,6 +162,7 @@ fn reached() -> Vec<Refusal> {
         raw(unsafe { voronoi_grid_sites([0, 0, 1, 0, 0, 8193].as_ptr(), 6, numbers.as_mut_ptr(), 6) }),
         flipped(),
         ring([0.0, 0.0, 1.0, 0.0, f64::NAN, 1.0], [0, 1, 2]),
+        mirrored(),
     ]
 }
 
@@ -173,13 +181,14 @@ fn of_the_header() -> BTreeMap<u32, String> {
 #[test]
 fn each_is_reached_with_its_words() {
     let numbers: Vec<u32> = reached().into_iter().map(Refusal::number).collect();
-    assert_eq!(numbers, (1..=24).filter(|n| *n != 15).collect::<Vec<u32>>());
+    assert_eq!(numbers, (1..=25).filter(|n| *n != 15).collect::<Vec<u32>>());
     let header = of_the_header();
     assert_eq!(numbers, header.keys().copied().collect::<Vec<u32>>());
     for refusal in reached() {
         let help = refusal.words().strip_prefix(header[&refusal.number()].as_str()).and_then(|rest| rest.strip_prefix("; "));
         assert!(help.map_or(false, |h| !h.is_empty()), "{refusal}: the header says {}", header[&refusal.number()]);
-        assert_eq!(refusal.to_string(), format!("refused {}: {}", refusal.number(), refusal.words()));
+        let place = refusal.place().map_or(String::new(), |place| format!(" at {place}"));
+        assert_eq!(refusal.to_string(), format!("refused {}{place}: {}", refusal.number(), refusal.words()));
         let error: Box<dyn std::error::Error> = refusal.into();
         assert!(error.source().is_none());
     }
@@ -188,11 +197,31 @@ fn each_is_reached_with_its_words() {
 #[test]
 fn numbers_that_are_none() {
     assert_eq!(Refusal::of_number(0), None);
-    for number in [15, 25, u32::MAX] {
+    for number in [15, 26, u32::MAX] {
         let other = Refusal::of_number(number).unwrap();
-        assert_eq!((other, other.number()), (Refusal::Other(number), number));
+        assert_eq!((other.number(), other.place(), other == Refusal::Count), (number, None, false));
         assert!(other.words().starts_with("no such number; "));
     }
+}
+
+/// Each refusal of a mesh has its place, as `voronoi_why` names it: the rows of docs/RULES.md on "square".
+#[test]
+fn places() {
+    let at = |refusal: Refusal| (refusal.number(), refusal.place());
+    assert_eq!(at(square(|_, _, mesh| mesh.hull.truncate(3))), (9, Some(Place::HullPlace(2))));
+    assert_eq!(at(square(|_, _, mesh| mesh.halfedges[3] = EMPTY)), (8, Some(Place::HalfEdge(2))));
+    assert_eq!(at(square(|_, _, mesh| mesh.triangles[4] = 9)), (7, Some(Place::Triangle(1))));
+    assert_eq!(at(square(|_, sites, _| sites[2].y = f64::NAN)), (6, Some(Place::Site(2))));
+    assert_eq!(at(square(|_, sites, _| sites[2] = Point { x: -0.5, y: 1.5 })), (11, Some(Place::Triangle(0))));
+    assert_eq!(at(square(|b, _, _| *b = BoundingBox::new_centered_square(0.0))), (3, None));
+    assert_eq!(at(square(|b, _, _| *b = BoundingBox::from_edges(1.0, 0.0, -1.0, 1.0))), (3, None));
+    let edge = refused("harness/meshes/refused_13_lone.txt");
+    assert!(matches!(at(edge), (13, Some(Place::Edge { .. }))), "{edge:?}");
+    // a site that the builder cannot place, by its number in the list that was given
+    let sites = vec![Point::default(), Point { x: 5.0, y: 0.0 }, Point { x: 1e36, y: 0.0 }];
+    let refusal = VoronoiBuilder::default().set_sites(sites).build(|_| Triangulation::default()).unwrap_err();
+    assert_eq!(at(refusal), (6, Some(Place::Site(2))));
+    assert_eq!(refusal.to_string().split(": ").next(), Some("refused 6 at site 2"));
 }
 
 #[test]
