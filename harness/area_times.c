@@ -1,5 +1,5 @@
 /* A build and the areas of its pieces, timed in turn on one mesh: area_times ROUNDS <MESH.txt, a text whose box is by its edges and whose
- * numbers are decimal (tools/gauges writes such). Prints the processor time of each in ns a site, best and median of the rounds, and the ratio. */
+ * numbers are decimal (./yelmuzard gauges writes such). Prints the processor time of each in ns a site, best and median of the rounds, and the ratio. */
 #include "voronoi.h"
 
 int printf(const char *format, ...);

@@ -33,6 +33,10 @@ typedef struct {
 #define MESH(i) F(i), U(i + 1), U(i + 2), U(i + 3)
 #define SLICES(i) U(i), F(i + 1), U(i + 2), U(i + 3), U(i + 4)
 
+#ifdef HAS_versions
+static void version(argument *a) { N(0) = voronoi_version(); }
+#endif
+
 #ifdef HAS_roots
 static void root_bits(argument *a) { B(0) = voronoi_root_bits(B(1)); }
 static void root(argument *a) { X(0) = voronoi_root(X(1)); }
@@ -104,6 +108,7 @@ static void time_build(argument *a)
 #ifdef HAS_maps
 static void cell_wkb(argument *a) { N(0) = voronoi_cell_wkb(F(1), U(2), U(3), N(4), C(5), PS(6)); }
 static void cell_wkb_bits(argument *a) { N(0) = voronoi_cell_wkb_bits(Q(1), U(2), U(3), N(4), C(5), PS(6)); }
+static void all_wkb(argument *a) { N(0) = voronoi_all_wkb(F(1), U(2), U(3), Q(4), C(5), PS(6)); }
 #endif
 
 #ifdef HAS_reasons
@@ -125,6 +130,22 @@ static void audit(argument *a)
 static void audit_by_edges(argument *a)
 {
     N(0) = voronoi_audit_by_edges(BOX(1), F(5), F(6), U(7), U(8), U(9), U(10), N(11), PU(12), PU(13), PU(14), PU(15), PF(16));
+}
+#endif
+
+#ifdef HAS_cutting
+#define PIECES(i) U(i), F(i + 1), U(i + 2), U(i + 3), PU(i + 4)
+static void cut(argument *a) { N(0) = voronoi_cut(BOX(1), MESH(5), PIECES(9)); }
+static void cut_by_edges(argument *a) { N(0) = voronoi_cut_by_edges(BOX(1), MESH(5), PIECES(9)); }
+
+/* A cutting by itself, as time_build. */
+static void time_cut(argument *a)
+{
+    struct instant start, end;
+    clock_gettime(CPU_TIME_OF_THREAD, &start);
+    uint32_t number = voronoi_cut(BOX(1), MESH(5), PIECES(9));
+    clock_gettime(CPU_TIME_OF_THREAD, &end);
+    B(0) = number ? 0 : (uint64_t)((end.seconds - start.seconds) * 1000000000 + end.nanoseconds - start.nanoseconds);
 }
 #endif
 
@@ -197,6 +218,9 @@ static const struct {
     const char *name;
     void (*call)(argument *);
 } calls[] = {
+#ifdef HAS_versions
+    {"version", version},
+#endif
 #ifdef HAS_roots
     {"root_bits", root_bits}, {"root", root}, {"magnitude_bits", magnitude_bits}, {"magnitude", magnitude},
     {"signum_bits", signum_bits}, {"signum", signum},
@@ -217,7 +241,7 @@ static const struct {
     {"build", build}, {"cell", cell}, {"time_build", time_build},
 #endif
 #ifdef HAS_maps
-    {"cell_wkb", cell_wkb}, {"cell_wkb_bits", cell_wkb_bits},
+    {"cell_wkb", cell_wkb}, {"cell_wkb_bits", cell_wkb_bits}, {"all_wkb", all_wkb},
 #endif
 #ifdef HAS_reasons
     {"why", why},
@@ -227,6 +251,9 @@ static const struct {
 #endif
 #ifdef HAS_audits
     {"audit", audit}, {"audit_by_edges", audit_by_edges},
+#endif
+#ifdef HAS_cutting
+    {"cut", cut}, {"cut_by_edges", cut_by_edges}, {"time_cut", time_cut},
 #endif
 #ifdef HAS_bulk
     {"all_neighbours", all_neighbours}, {"ends", ends},

@@ -24,6 +24,8 @@
  *   cells_share_edge         the offsets, and the product of the lengths of the two cells; no mesh, so no check
  *   cell                     the offsets; no mesh, so no check
  *   cell_wkb                 the offsets and the cell's entries; no mesh, so no check
+ *   all_wkb                  the offsets and the entries; no mesh, so no check
+ *   version                  none
  *   all_neighbours           3T + H; with cells N, and twice the product of the lengths of two cells for each site on the hull
  *   ends                     the triangles at the sites that the paths pass, at most 3T for each point; few where each point is near the last
  *   areas                    the offsets and the entries, some tenth of a microsecond to one for each entry; no mesh, so no check
@@ -52,10 +54,15 @@ extern "C" {
 
 /* ---- the version (the file VERSION; CHANGELOG.md says what changed) */
 
-#define VORONOI_VERSION "0.22.1"
+#define VORONOI_VERSION "0.23.0"
 #define VORONOI_VERSION_MAJOR 0
-#define VORONOI_VERSION_MINOR 22
-#define VORONOI_VERSION_PATCH 1
+#define VORONOI_VERSION_MINOR 23
+#define VORONOI_VERSION_PATCH 0
+#define VORONOI_VERSION_NUMBER 2300 /* 10000 times the first, 100 times the second, and the third */
+
+/* VORONOI_VERSION_NUMBER of the header that the archive was made with. Refuses nothing. A caller whose header has another one must not call further:
+ * the arguments of a call may have changed. */
+uint32_t voronoi_version(void);
 
 /* ---- numbers */
 
@@ -76,12 +83,20 @@ extern "C" {
 #define VORONOI_OFFSET_ROOM(N) ((size_t)(N) + 1)
 #define VORONOI_WORK_ROOM(N) ((size_t)(N))
 
+/* What cutting must be lent: vertices and indexes; offsets and work as for a build. The rooms always suffice. */
+#define VORONOI_CUT_VERTEX_ROOM(T, H) (7 * (size_t)(T) + 2 * (size_t)(H) + 4)
+#define VORONOI_CUT_VERTEX_NUMBERS(T, H) (2 * VORONOI_CUT_VERTEX_ROOM(T, H))
+#define VORONOI_CUT_INDEX_ROOM(T, H) (16 * (size_t)(T) + 11 * (size_t)(H))
+
 /* What the neighbours of all sites must be lent, for T triangles, H hull sites and N sites: starts, out, and VORONOI_WORK_ROOM. The room of out always suffices. */
 #define VORONOI_START_ROOM(N) ((size_t)(N) + 1)
 #define VORONOI_NEIGHBOUR_ROOM(T, H) (3 * (size_t)(T) + (size_t)(H))
 
 /* What the polygon of a cell of n entries takes in bytes. */
 #define VORONOI_WKB_ROOM(n) ((n) < 3 ? 9 : 29 + 16 * (size_t)(n))
+
+/* What the polygons of n cells with m entries together take in bytes at most, and their starts in numbers: VORONOI_START_ROOM. */
+#define VORONOI_ALL_WKB_ROOM(n, m) (29 * (size_t)(n) + 16 * (size_t)(m))
 
 /* What a MultiPoint of n sites takes in bytes. */
 #define VORONOI_MULTIPOINT_ROOM(n) (9 + 21 * (size_t)(n))
@@ -135,6 +150,7 @@ extern "C" {
 #define VORONOI_REFUSED_GRID 22         /* a whole coordinate is beyond the profile (the calls on the grid alone) */
 #define VORONOI_REFUSED_FLIP 23         /* the half-edge cannot be flipped, or the table is not the leftmost table (voronoi_flip alone) */
 #define VORONOI_REFUSED_CORNER 24       /* a vertex that an entry names is not finite or above 2^400 (areas and audits) */
+#define VORONOI_REFUSED_BORDER 25       /* the border does not turn exactly once, the right way (the calls that cut) */
 
 /* A sentence for each number, with no full stop; "no such number" for any other. It is never NULL. */
 static inline const char *voronoi_words(uint32_t number)
@@ -164,6 +180,7 @@ static inline const char *voronoi_words(uint32_t number)
     case VORONOI_REFUSED_GRID: return "a site has a whole coordinate below -8,192 or above 8,192";
     case VORONOI_REFUSED_FLIP: return "the half-edge cannot be flipped, or the table is not the leftmost table";
     case VORONOI_REFUSED_CORNER: return "a vertex that a cell names has a coordinate above 2^400 or not finite";
+    case VORONOI_REFUSED_BORDER: return "the border does not turn exactly once, the right way";
     default: return "no such number";
     }
 }
@@ -351,6 +368,26 @@ uint32_t voronoi_build_by_edges(double left, double top, double right, double bo
                                 size_t vertices_len, uint32_t *indexes, size_t indexes_len, uint32_t *offsets, size_t offsets_len,
                                 uint32_t *counts, size_t counts_len);
 
+/* ---- pieces by cutting
+ * The ring of each site, its triangles' circumcenters and on the hull two ends at infinity, cut by the four sides of the box in turn (docs/RULES.md,
+ * "Pieces by cutting"). Slices as a build's: vertices (circumcenters, the four corners, then points), indexes and offsets, so that voronoi_areas,
+ * voronoi_audit, voronoi_cell and voronoi_cell_wkb take them as they are; *count vertices, 0 when refused. A point on the box's side between two pieces
+ * may have a number in each. Tries 1, 2, 3, 6, 7 to 10, 11, 25; 12 to 14 cannot come. After 1 to 6 nothing lent changes; after 7 to 11 and 25 every lent
+ * slice is cleared. One pass over the sites and their walks; nothing is searched. */
+
+/* The pieces in the box of centre (cx, cy), width and height. */
+uint32_t voronoi_cut(double cx, double cy, double width, double height, const double *sites, size_t sites_len, const uint32_t *triangles,
+                     size_t triangles_len, const uint32_t *halfedges, size_t halfedges_len, const uint32_t *hull, size_t hull_len,
+                     uint32_t *work, size_t work_len, double *vertices, size_t vertices_len, uint32_t *indexes, size_t indexes_len,
+                     uint32_t *offsets, size_t offsets_len, uint32_t *count);
+
+/* The same in the box of these edges. */
+uint32_t voronoi_cut_by_edges(double left, double top, double right, double bottom, const double *sites, size_t sites_len,
+                              const uint32_t *triangles, size_t triangles_len, const uint32_t *halfedges, size_t halfedges_len,
+                              const uint32_t *hull, size_t hull_len, uint32_t *work, size_t work_len, double *vertices,
+                              size_t vertices_len, uint32_t *indexes, size_t indexes_len, uint32_t *offsets, size_t offsets_len,
+                              uint32_t *count);
+
 /* The cell of a site: indexes[*start] and the *length - 1 entries after it. There is a site less than offsets, at least none: lend the
  * offsets of a build without their cleared tail. 4, then 16 on all of them. Refused, *start and *length are 0. */
 uint32_t voronoi_cell(const uint32_t *offsets, size_t offsets_len, const uint32_t *indexes, size_t indexes_len, uint32_t site,
@@ -368,6 +405,13 @@ uint32_t voronoi_cell_wkb(const double *vertices, size_t vertices_len, const uin
                           const uint32_t *indexes, size_t indexes_len, uint32_t site, uint8_t *out, size_t out_len, size_t *written);
 uint32_t voronoi_cell_wkb_bits(const uint64_t *vertices, size_t vertices_len, const uint32_t *offsets, size_t offsets_len,
                                const uint32_t *indexes, size_t indexes_len, uint32_t site, uint8_t *out, size_t out_len, size_t *written);
+
+/* The polygons of all cells, one after the other, each as voronoi_cell_wkb writes it: that of cell s is out[starts[s]] and what follows up to
+ * starts[s + 1]; starts[cells] is where the last one ends. Room: VORONOI_START_ROOM of the cells, VORONOI_ALL_WKB_ROOM at most.
+ * Tries 1 on an odd list of vertices and on more than 2^24 indexes, 16, 18 on the entries of all cells, 2 on `starts` and on `out`. Refused, both are
+ * as they were; past what is written `out` always is, and `starts` is UINT64_MAX. *written: how many bytes, 0 when refused. */
+uint32_t voronoi_all_wkb(const double *vertices, size_t vertices_len, const uint32_t *offsets, size_t offsets_len, const uint32_t *indexes,
+                         size_t indexes_len, uint64_t *starts, size_t starts_len, uint8_t *out, size_t out_len, size_t *written);
 
 /* ---- areas
  * areas[s]: the area of the ring of the vertices that the entries of cell s name, in their order and back to the first: half the sum, over
@@ -535,7 +579,7 @@ uint32_t voronoi_grid_check(const int32_t *grid, size_t grid_len, const uint32_t
 /* The same with one question more, of the hull: with up = 32768 dy + dx of an edge from a hull site to the next, exactly one hull place has an edge up
  * (above 0) after an edge down, and no place whose two edges go both up or both down turns right; straight places do. Such a hull is convex.
  * *kind has one value more, and `yes` then says: every path towards a destination of whole or half-whole coordinates up to 33,546,239 (or of multiples
- * of 2^-11 up to 24,575) ends at a site of least distance over all sites in use, and each corner of a box of such edges is owned by one.
+ * of 2^-11 up to 24,575), from a site in use such as hull[0], ends at a site of least distance over all sites in use, and each corner of a box of such edges is owned by one.
  *
  *   VORONOI_GRID_HULL       turns and circles hold; *place is the lowest hull place inside a run that turns right, or where there is none the second
  *                           with an edge up after an edge down

@@ -2,6 +2,7 @@
 # C programs over libvoronoi.a, run from anywhere in the repository.
 #
 #   tests/archive.sh make                     the archive, where it is missing or older than the crates
+#   tests/archive.sh here                     the same for this machine's own processor, and its name: tests/native.sh makes it where that is no x86-64
 #   tests/archive.sh build PROGRAM FILE.c..   the archive, made where it is missing or older than the crates, and a program linked with it
 #   tests/archive.sh keep PROGRAM FILE.c..    the same, but a program that is newer than the archive, the header and its files is kept
 #   tests/archive.sh run PROGRAM WORD..       runs it
@@ -59,6 +60,12 @@ case ${1-} in
 make)
     [ $# = 1 ] || { usage >&2 && exit 2; }
     make_archive
+    ;;
+here)
+    [ $# = 1 ] || { usage >&2 && exit 2; }
+    if [ "$(uname -m)" != x86_64 ]; then exec sh "$root/tests/native.sh"; fi
+    make_archive
+    echo "$archive"
     ;;
 build | keep)
     [ $# -ge 3 ] || { usage >&2 && exit 2; }

@@ -1,6 +1,6 @@
 #!/bin/sh
 # The program `audit`: a mesh for each of its lines, turned, exchanged and flipped meshes, a lost corner, gauges at one place, boxes by edges, broken
-# forms; the same verdict as tools/pieces on the stored meshes; and the word of ./yelmuzard with its status.
+# forms; the same verdict as tests/table.c on the stored meshes; and the word of ./yelmuzard with its status.
 . "$(dirname "$0")/head.sh"
 sh tests/prove.sh check audit
 folder=$(mktemp -d)
@@ -55,10 +55,10 @@ answered "refused 17" /dev/null
 cat examples/square.form examples/square.form >"$folder/twice"
 answered "refused 17" "$folder/twice"
 
-pieces=target/tests/pieces
-sh tests/archive.sh build "$pieces" tools/pieces.c
+pieces=target/tests/table
+sh tests/archive.sh keep "$pieces" tests/table.c
 
-# what tools/pieces says of a form, in the words of `audit`; a corner goes by its coordinates there, so its number is left out of both
+# what tests/table.c says of a form, in the words of `audit`; a corner goes by its coordinates there, so its number is left out of both
 said() {
     sh tests/archive.sh run "$pieces" --all <"$1" 2>&1 >/dev/null | sed -n '
         s/^pieces: refused \([0-9]*\): .*/refused \1/p

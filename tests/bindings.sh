@@ -1,5 +1,5 @@
 #!/bin/sh
-# Callers: include/voronoi_pieces.h and examples/plan.c in C99 and C++17, the Rust crate of bindings/rust, and a planner's program compiled over
+# Callers: include/voronoi_pieces.h, examples/plan.c and examples/from_triangles.c in C99 and C++17, the Rust crate of bindings/rust, and a planner's program compiled over
 # voronoice's own files and over the crate, whose outputs must be the same to the byte on the gauges of tests/planner and on COUNT random
 # meshes of the harness (10,000): tests/bindings.sh [COUNT [SEED]].
 # Where g++, cargo or voronoice's files are missing it says what was not run; with YELMUZARD_LIVE=must files that are missing are a failure.
@@ -39,12 +39,17 @@ c_and_cpp() { # COMPILER STANDARD LANGUAGE
         not_run "$1" "$2 of include/voronoi_pieces.h"
         return 0
     }
-    for program in examples/plan tests/pieces; do
+    for program in examples/plan tests/pieces examples/from_triangles; do
         "$1" "-std=$2" -O2 -Wall -Wextra -Wconversion -pedantic -Werror -I include -o "$folder/program" -x "$3" "$program.c" -x none "$archive"
-        "$folder/program" >"$folder/said" || fail "$program.c, $2: $(cat "$folder/said")"
-        [ "$program" = tests/pieces ] || cmp "$folder/said" "$folder/plan"
+        "$folder/program" <examples/thirty.txt >"$folder/said" || fail "$program.c, $2: $(cat "$folder/said")"
+        [ "$program" != examples/plan ] || cmp "$folder/said" "$folder/plan"
     done
-    echo "$2: plan.c and tests/pieces.c, without a warning"
+    # triangles as they are, all turned, and every other one turned: the same pieces
+    for way in '' 's/^triangle \([0-9]*\) \([0-9]*\) \([0-9]*\)/triangle \1 \3 \2/' '0~2s/^triangle \([0-9]*\) \([0-9]*\) \([0-9]*\)/triangle \1 \3 \2/'; do
+        sed "$way" examples/thirty.txt | "$folder/program" >"$folder/said" || fail "from_triangles.c, $2: $(cat "$folder/said")"
+        grep -q '^50 triangles, [0-9]* of them turned, 8 on the hull, total 8000.000000$' "$folder/said" || fail "from_triangles.c, $2: $(cat "$folder/said")"
+    done
+    echo "$2: plan.c, from_triangles.c and tests/pieces.c, without a warning"
 }
 c_and_cpp gcc c99 c
 c_and_cpp g++ c++17 c++
@@ -65,7 +70,7 @@ if ! command -v cargo >/dev/null; then
     not_run "cargo (Debian package cargo, from Debian 13 on; or from rustup)" "the crate bindings/rust, and the planner's program over it and voronoice,"
     exit 0
 fi
-unset VORONOI_LIB_DIR CARGO_TARGET_DIR
+unset VORONOI_LIB_DIR VORONOI_INCLUDE_DIR CARGO_TARGET_DIR
 in_crate() { (cd "$root/bindings/rust" && "$@") >"$folder/said" 2>&1; }
 in_crate cargo test --offline || fail "cargo test failed: $(cat "$folder/said")"
 echo "cargo test: $(sed -n 's/^test result: ok. \([0-9]*\) passed; 0 failed.*/\1/p' "$folder/said" | awk '{ n += $1 } END { print n }') tests passed"
@@ -111,8 +116,17 @@ sentence "$folder/nowhere" "is not there: $help"
 sentence "$folder/text" "is no archive with ELF code in it: $help"
 sentence "$folder/foreign" "is for $other, and this is built for $here: $help"
 sentence "$(dirname "$archive")" "is for $here, and this is built for $other: " --target "$other-unknown-linux-gnu"
+# an archive of another version, and one from before there was a version to ask for
+for version in 2299 none; do
+    mkdir "$folder/$version"
+    if [ $version = none ]; then echo 'int voronoi_nothing;'; else echo "unsigned voronoi_version(void) { return $version; }"; fi >"$folder/$version.c"
+    gcc -c -o "$folder/$version.o" "$folder/$version.c"
+    ar rcs "$folder/$version/libvoronoi.a" "$folder/$version.o"
+done
+sentence "$folder/2299" "is of version 0.22.99, and this crate of $(cat VERSION): $help"
+sentence "$folder/none" "is of a version before 0.23.0: $help"
 in_crate env VORONOI_LIB_DIR="$(dirname "$archive")" CARGO_TARGET_DIR="$made/sentences" cargo check --offline || fail "VORONOI_LIB_DIR: $(cat "$folder/said")"
-echo "the crate's build finds the archive by VORONOI_LIB_DIR, and says what is wrong with one: missing, no archive, for another processor, for another target"
+echo "the crate's build finds the archive by VORONOI_LIB_DIR, and says what is wrong with one: missing, no archive, for another processor, for another target, of another version"
 
 # ---- the planner's program
 

@@ -1,6 +1,6 @@
 #!/bin/sh
 # The four programs on forms of kind 7, a box by its edges: "square" with the edges -1 -1 1 1 is listed, exported, explained and mended as it is with its
-# center and size, `mend form` gives the form back byte for byte, and the box of README's neighbours has the corners that were given.
+# center and size, `mend form` gives the form back byte for byte, and the box of the neighbours in docs/use/SHELL.md has the corners that were given.
 . "$(dirname "$0")/head.sh"
 for program in cells export why mend; do
     sh tests/prove.sh check "$program"

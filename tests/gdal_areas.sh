@@ -1,14 +1,14 @@
 #!/bin/sh
 # The areas of pieces beside GDAL's: every piece of the examples, the stored meshes and the maps, with the area that voronoi_areas gives it and the
-# polygon that voronoi_cell_wkb writes of it (tools/pieces.c); GDAL's ST_Area of the polygon, which is SpatiaLite's, is within 2e-13 of the area's
+# polygon that voronoi_cell_wkb writes of it (tests/table.c); GDAL's ST_Area of the polygon, which is SpatiaLite's, is within 2e-13 of the area's
 # magnitude. It is a float formula, so equality is not expected of it. Where GDAL is missing, or has no SpatiaLite, it says so.
 . "$(dirname "$0")/head.sh"
 command -v ogrinfo >/dev/null || {
     echo "gdal_areas: GDAL IS NOT INSTALLED: no area was held to ST_Area (Debian package gdal-bin)"
     exit 0
 }
-program=target/tools/pieces
-sh tests/archive.sh keep "$program" tools/pieces.c
+program=target/tests/table
+sh tests/archive.sh keep "$program" tests/table.c
 folder=$(mktemp -d)
 trap 'rm -rf "$folder"' EXIT
 meshes=0

@@ -9,3 +9,5 @@ case ${1-} in
     ;;
 esac
 cd "$(dirname "$0")/.."
+# what is tested is what is proved here, and not what dist/ has
+export YELMUZARD_PROVE=yes

@@ -60,7 +60,7 @@ must 2 "Debian package python3" ./yelmuzard cells examples/square.txt
 must 2 "ar is missing (Debian package binutils)" ./yelmuzard archive --native
 must 2 "archive \[--native\]" ./yelmuzard archive --other
 must 2 "gcc is missing (Debian package gcc)" ./yelmuzard link "$folder/program" examples/areas.c
-must 2 "gcc is missing (Debian package gcc)" tools/pieces examples/square.form
+must 2 "gcc is missing (Debian package gcc)" ./yelmuzard shared
 for program in gcc nm python3; do
     must 2 "$program is missing" ./yelmuzard test
     stand_in "$program" </dev/null
@@ -77,11 +77,8 @@ must 2 "there is no file nowhere" ./yelmuzard cells nowhere
 must 2 "there is no word bake" ./yelmuzard bake
 must 2 "" ./yelmuzard
 must 2 "" ./yelmuzard cells
-must 2 "pieces .*FILE" ./yelmuzard pieces
-must 2 "pieces .*FILE" tools/pieces --most examples/square.form
-must 2 "pieces .*FILE" tools/pieces --bits 53 examples/square.form
-must 2 "pieces .*FILE" tools/pieces --bits examples/square.form
-must 2 "pieces .*FILE" tools/pieces examples/square.form examples/square.form
+must 2 "shared" ./yelmuzard shared here
+must 2 "wheel \[FOLDER\]" ./yelmuzard wheel here there
 must 2 "why FILE" ./yelmuzard why
 must 2 "why FILE" ./yelmuzard why examples/square.form 0 1 2
 must 2 "mend FILE" ./yelmuzard mend
@@ -91,7 +88,7 @@ must 2 "mend FILE" ./yelmuzard mend examples/square.form --edges 0 0 2 2 form
 must 2 "mend FILE" ./yelmuzard mend examples/square.form form form
 must 2 "cells FILE" ./yelmuzard cells examples/square.form form
 must 0 "" ./yelmuzard --version
-for word in "" cells export pieces why mend nearest audit archive link run test; do
+for word in "" cells export why mend nearest audit archive shared wheel link run test; do
     # shellcheck disable=SC2086
     must 0 "" ./yelmuzard $word --help
     grep -q . "$folder/out"

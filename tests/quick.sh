@@ -24,7 +24,7 @@ passed_over() { echo "  $1: passed over, $2"; }
 scripts_run() {
     for script in tests/*.sh; do
         grep -q "$script" tests/all tests/quick.sh || case $script in
-        tests/head.sh | tests/prove.sh | tests/native.sh) ;;
+        tests/head.sh | tests/prove.sh | tests/native.sh | tests/shared.sh | tests/wheel.sh) ;;
         *) echo "$script is run by nothing" && return 1 ;;
         esac
     done
@@ -32,7 +32,7 @@ scripts_run() {
 
 check "rt fmt" rt fmt --check
 if command -v shellcheck >/dev/null; then
-    check shellcheck shellcheck -x -P SCRIPTDIR yelmuzard tools/pieces .ci/run tests/all tests/*.sh harness/*.sh
+    check shellcheck shellcheck -x -P SCRIPTDIR yelmuzard .ci/run make/built.sh make/dist make/install make/man make/prove make/release make/shared make/rooms/merge.sh tests/all tests/*.sh harness/*.sh
 else
     passed_over shellcheck "it is not installed"
 fi
@@ -44,6 +44,7 @@ check tests/papers.sh sh tests/papers.sh
 check tests/missing.sh sh tests/missing.sh
 check tests/texts.sh sh tests/texts.sh
 check tests/forms.sh sh tests/forms.sh
+check tests/dist.sh sh tests/dist.sh words
 [ $failed = 0 ] || {
     echo "quick checks: $failed failed"
     exit 1

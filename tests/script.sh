@@ -62,30 +62,33 @@ status=0
 pieces() { # STATUS WORDS [WORD ..] FILE: the status, and the words on standard error
     want=$1 said=$2 status=0
     shift 2
-    tools/pieces "$@" >"$folder/out" 2>"$folder/err" <examples/square.form || status=$?
+    ./yelmuzard pieces --as-voronoice "$@" >"$folder/out" 2>"$folder/err" <examples/square.form || status=$?
     if [ "$status" != "$want" ] || ! grep -q -- "$said" "$folder/err"; then
-        echo "tools/pieces $*: status $status, must be $want with '$said'"
+        echo "yelmuzard pieces $*: status $status, must be $want with '$said'"
         cat "$folder/err"
         exit 1
     fi
 }
 for file in examples/square.txt examples/square.form -; do
-    pieces 0 "^pieces: 4 gauges; 0 of the box is missing; 0 of its corners lost; 0 pieces empty$" "$file"
-    cut -d, -f1,3 "$folder/out" | cmp - crates/export/stdout
-    [ "$(cut -d, -f2 "$folder/out" | tr '\n' ' ')" = "area 1 1 1 1 " ]
+    pieces 0 "^4 gauges; 0 of the box is missing; 0 of its corners lost; 0 pieces empty$" "$file"
+    sed 1d "$folder/out" | cut -d, -f1,7 >"$folder/cells"
+    sed 1d crates/export/stdout | cmp - "$folder/cells"
+    [ "$(cut -d, -f5 "$folder/out" | tr '\n' ' ')" = "area 1.0 1.0 1.0 1.0 " ]
 done
-pieces 0 "^pieces: sound to 2^-20: no corner of a piece is outside the box or nearer to a neighbour, and the pieces add up to the box$" examples/square.txt
-pieces 0 "^pieces: sound to 2^-52: no corner of a piece is outside the box or nearer to another gauge, " --all --bits 52 examples/square.txt
+pieces 0 "^sound to 2^-20: no corner of a piece is outside the box or nearer to a neighbour, and the pieces add up to the box$" examples/square.txt
+pieces 0 "^sound to 2^-52: no corner of a piece is outside the box or nearer to another gauge, " --all --bits 52 examples/square.txt
 pieces 1 "refused 13: .*rule 13, says what to do" harness/meshes/refused_13_lone.txt
 [ ! -s "$folder/out" ]
 pieces 1 "refused 20: the form has no box" harness/meshes/square_unclipped.txt
 pieces 1 "the form is broken at byte 100" "$folder/a b/cut"
 pieces 3 "2 of 2 triangles turn the wrong way, or are flat; the lowest is triangle 0" "$folder/turned.txt"
-pieces 3 "^pieces: FAULT: the piece of gauge 0 does not run once round, the right way$" "$folder/turned.txt"
-pieces 2 "there is no file" nowhere
-pieces 2 "powers go from 2^-1074 to 2^1023" "$folder/far.txt"
+pieces 3 "^FAULT: the piece of gauge 0, line [0-9]*: a ring does not run once round" "$folder/turned.txt"
+pieces 2 "No such file" nowhere
+pieces 1 "powers go from 2^-1074 to 2^1023" "$folder/far.txt"
+pieces 2 "bits is a whole number from 0 to 52" --bits 53 examples/square.txt
+pieces 2 "unrecognized arguments" --most examples/square.txt
 status=0
-tools/pieces examples/square.form >/dev/full 2>"$folder/err" || status=$?
+./yelmuzard pieces examples/square.form >/dev/full 2>"$folder/err" || status=$?
 [ "$status" = 2 ] || { echo "pieces to a full disk: status $status" && exit 1; }
 # the reason: none, a refusal with its place and the rule's words, a site asked about, a word that is no number, output that fails
 [ "$(./yelmuzard why examples/square.txt 0 2)" = "no fault" ]

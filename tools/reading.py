@@ -432,8 +432,9 @@ class Tree:
                             return self.lookup(use["path"], brought(item)[0])
             return None
         m = MODULE.match(module)
-        if m and m["rest"].startswith("declared."):
-            return self.struct(m["crate"], m["rest"].split(".")[1].removesuffix("-variants"))
+        if m and m["rest"].startswith("declared."):  # its modules, then the struct
+            named = next((w for w in m["rest"].split(".")[1:] if w[0].isupper()), "")
+            return self.struct(m["crate"], named.removesuffix("-variants"))
         return None if m else Kit(module, name)
 
     def env(self, path):

@@ -117,8 +117,8 @@ pub fn rust_build(lent: &rust::Lent, area: &Area) -> usize {
     CellBuilder::new(&lent.mesh, &lent.sites, centers, rust::area(area), ClipBehavior::Clip).build().vertices.len()
 }
 
-/// Nanoseconds of the Rust's circumcenters and of its whole build, circumcenters included, without any check.
-pub fn rust_once(lent: &rust::Lent, area: &Area) -> (u64, u64) {
+/// Nanoseconds of the Rust's circumcenters, of its whole build, circumcenters included, without any check, and of that and its freeing, which a caller pays too.
+pub fn rust_once(lent: &rust::Lent, area: &Area) -> [u64; 3] {
     let bounds = rust::area(area);
     let start = now();
     let centers = lent.circumcenters();
@@ -126,5 +126,7 @@ pub fn rust_once(lent: &rust::Lent, area: &Area) -> (u64, u64) {
     let built = CellBuilder::new(&lent.mesh, &lent.sites, centers, bounds, ClipBehavior::Clip).build();
     let end = now();
     std::hint::black_box(&built.cells);
-    (middle - start, end - start)
+    drop(built);
+    let freed = now();
+    [middle - start, end - start, freed - start]
 }

@@ -3,6 +3,7 @@
 use crate::areas;
 use crate::bulk;
 use crate::cases::Case;
+use crate::cut;
 use crate::edges;
 use crate::expect::{self, Beside, Facts, Slices};
 use crate::gauges;
@@ -83,6 +84,7 @@ fn ask(index: u64, c: &Case, calls: &mut Vec<Call>, tally: &mut Tally) -> Told {
     build(c, &facts, clipped.as_ref(), calls, tally)?;
     why::ask(index, c, &facts, clipped.as_ref(), calls, tally)?;
     edges::ask(index, c, &facts, clipped.as_ref(), calls, tally)?;
+    cut::ask(index, c, &facts, calls, tally)?;
 
     let built = clipped.as_ref().and_then(|o| o.as_ref().ok());
     let cells = match built {

@@ -1,7 +1,7 @@
 //! What each public call owes by the rules (docs/RULES.md): its number, its values and every lent slice at exit.
 //! Where the call is accepted the values are the Rust's own, handed in by the caller.
 
-use crate::mesh::{index_room, vertex_room, Area, Mesh, Pt, EMPTY};
+use crate::mesh::{cut_index_room, cut_vertex_room, index_room, vertex_room, Area, Mesh, Pt, EMPTY};
 use crate::reference::{self, Outcome};
 
 /// What the rules say about a mesh before any question, worked out once.
@@ -133,6 +133,10 @@ impl Lengths {
             offsets: m.count() + 1,
             counts: PLACES,
         }
+    }
+    /// What a cutting is lent; it has no counts.
+    pub fn cutting(m: &Mesh) -> Lengths {
+        Lengths { floats: 2 * cut_vertex_room(m), indexes: cut_index_room(m), counts: 0, ..Lengths::exact(m) }
     }
     pub fn suffice(&self, m: &Mesh) -> bool {
         let e = Lengths::exact(m);

@@ -6,6 +6,7 @@ pub mod bench;
 pub mod bulk;
 pub mod cases;
 pub mod compare;
+pub mod cut;
 pub mod edges;
 pub mod expect;
 pub mod flip;

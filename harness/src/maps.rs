@@ -1,4 +1,5 @@
-//! Cells for map tools (request 2026-01): a second writer of a Polygon in Well-Known Binary, from OGC 06-103r4, 8.2, and what the two calls owe.
+//! Cells for map tools (request 2026-01): a second writer of a Polygon in Well-Known Binary, from OGC 06-103r4, 8.2, and what the calls for one cell and
+//! for all cells owe.
 
 use crate::cases::Case;
 use crate::expect;
@@ -56,6 +57,67 @@ fn owed(patterns: &[u64], offsets: &[u32], entries: &[u32], site: u32, room: usi
     Ok(image)
 }
 
+/// 1, 16, 18, 2 over all cells: the images one after the other, and where each begins and the last ends.
+fn owed_all(patterns: &[u64], offsets: &[u32], entries: &[u32], starts: usize, room: usize) -> Result<(Vec<u8>, Vec<u64>), u32> {
+    if patterns.len() % 2 == 1 || entries.len() > 1 << 24 {
+        return Err(1);
+    }
+    match expect::cell_number(offsets, entries.len(), &[]) {
+        0 => {}
+        number => return Err(number),
+    }
+    let points: Vec<[u64; 2]> = patterns.chunks_exact(2).map(|p| [p[0], p[1]]).collect();
+    let (mut images, mut cuts) = (Vec::new(), vec![0]);
+    for pair in offsets.windows(2) {
+        let cell = &entries[pair[0] as usize..pair[1] as usize];
+        let ring: Option<Vec<[u64; 2]>> = cell.iter().map(|&e| points.get(e as usize).copied()).collect();
+        images.extend(polygon(&ring.ok_or(18u32)?));
+        cuts.push(images.len() as u64);
+    }
+    if starts < cuts.len() || room < images.len() {
+        return Err(2);
+    }
+    Ok((images, cuts))
+}
+
+/// A room that is too short, exact or more.
+fn room_of(r: &mut Rng, whole: usize) -> usize {
+    match r.below(8) {
+        0 => whole.saturating_sub(1),
+        1 => whole + 1,
+        2 => r.below(whole + 1),
+        3 => 0,
+        4 => whole + r.below(40),
+        _ => whole,
+    }
+}
+
+/// The call for all cells, on the same vertices and cells; what no call writes stands in both slices before.
+fn ask_all(r: &mut Rng, values: &[f64], offsets: &[u32], entries: &[u32], calls: &mut Vec<Call>, tally: &mut Tally) {
+    let patterns: Vec<u64> = values.iter().map(|&x| pattern(x)).collect();
+    let whole = match owed_all(&patterns, offsets, entries, usize::MAX, usize::MAX) {
+        Ok((images, _)) => images.len(),
+        Err(_) => r.below(400),
+    };
+    let room = room_of(r, whole);
+    let starts = if r.chance(1, 3) { room_of(r, offsets.len()) } else { offsets.len() };
+    let entry: Vec<u8> = (0..room).map(|i| 0x90 ^ i as u8).collect();
+    let cuts_before: Vec<u64> = (0..starts).map(|i| 0x5a5a_0000 + i as u64).collect();
+    let (mut exit, mut cuts_after) = (entry.clone(), cuts_before.clone());
+    let (number, written) = match owed_all(&patterns, offsets, entries, starts, room) {
+        Ok((images, cuts)) => {
+            exit[..images.len()].copy_from_slice(&images);
+            cuts_after.fill(u64::MAX);
+            cuts_after[..cuts.len()].copy_from_slice(&cuts);
+            (0, images.len() as u64)
+        }
+        Err(number) => (number, 0),
+    };
+    tally.number("all_wkb", number);
+    let call = Call::new("all_wkb").gives(number).floats(values).indexes(offsets).indexes(entries);
+    calls.push(call.lent_patterns(&cuts_before, &cuts_after).lent_bytes(&entry, &exit).gives_bits(written));
+}
+
 /// What is done to a sound list of vertices: nothing, a number too many, too few vertices for some cell, none, special patterns.
 fn changed(r: &mut Rng, mut list: Vec<u64>) -> Vec<u64> {
     match r.below(10) {
@@ -75,7 +137,7 @@ fn changed(r: &mut Rng, mut list: Vec<u64>) -> Vec<u64> {
     list
 }
 
-/// Both calls on the cells of a case, with vertices, site and room of their own; what no call writes stands in the output before.
+/// The three calls on the cells of a case, with vertices, site and room of their own; what no call writes stands in the output before.
 pub fn ask(index: u64, c: &Case, cells: &[Vec<u32>], vertices: Option<&[Pt]>, calls: &mut Vec<Call>, tally: &mut Tally) {
     let r = &mut Rng::new(0x776b62, index);
     let (offsets, entries) = c.lent_offsets(cells);
@@ -94,14 +156,7 @@ pub fn ask(index: u64, c: &Case, cells: &[Vec<u32>], vertices: Option<&[Pt]>, ca
         Ok(image) => image.len(),
         Err(_) => r.below(200),
     };
-    let room = match r.below(8) {
-        0 => whole.saturating_sub(1),
-        1 => whole + 1,
-        2 => r.below(whole + 1),
-        3 => 0,
-        4 => whole + r.below(40),
-        _ => whole,
-    };
+    let room = room_of(r, whole);
     let entry: Vec<u8> = (0..room).map(|i| 0x90 ^ i as u8).collect();
     let values: Vec<f64> = list.iter().map(|&b| f64::from_bits(b)).collect();
     for (name, patterns) in [("cell_wkb", values.iter().map(|&x| pattern(x)).collect()), ("cell_wkb_bits", list.clone())] {
@@ -119,6 +174,7 @@ pub fn ask(index: u64, c: &Case, cells: &[Vec<u32>], vertices: Option<&[Pt]>, ca
         let call = if name == "cell_wkb" { call.floats(&values) } else { call.patterns(&list) };
         calls.push(call.indexes(&offsets).indexes(&entries).number(site).lent_bytes(&entry, &exit).gives_bits(written));
     }
+    ask_all(r, &values, &offsets, &entries, calls, tally);
 }
 
 #[cfg(test)]

@@ -63,3 +63,11 @@ pub fn vertex_room(m: &Mesh) -> usize {
 pub fn index_room(m: &Mesh) -> usize {
     12 * m.triangle_count() + 8 * m.hull.len() + 4
 }
+
+pub fn cut_vertex_room(m: &Mesh) -> usize {
+    7 * m.triangle_count() + 2 * m.hull.len() + 4
+}
+
+pub fn cut_index_room(m: &Mesh) -> usize {
+    16 * m.triangle_count() + 11 * m.hull.len()
+}

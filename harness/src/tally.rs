@@ -26,15 +26,18 @@ pub const CALLS: &[Call] = &[
     Call { name: "ends", numbers: &[0, 1, 2, 4, 5, 6, 7, 8, 9, 10] },
     Call { name: "cell_wkb", numbers: &[0, 1, 2, 4, 16, 18] },
     Call { name: "cell_wkb_bits", numbers: &[0, 1, 2, 4, 16, 18] },
+    Call { name: "all_wkb", numbers: &[0, 1, 2, 16, 18] },
     Call { name: "read_multipoint", numbers: &[0, 1, 2, 6, 21] },
     Call { name: "write_multipoint", numbers: &[0, 1, 2, 6] },
     Call { name: "build", numbers: &[0, 1, 2, 3, 6, 7, 8, 9, 10, 11, 12, 13, 14] },
     Call { name: "why", numbers: &[0, 1, 2, 3, 4, 6, 7, 8, 9, 10, 11, 12, 13, 14] },
     Call { name: "build_by_edges", numbers: &[0, 1, 2, 3, 6, 7, 8, 9, 10, 11, 12, 13, 14] },
     Call { name: "why_by_edges", numbers: &[0, 1, 2, 3, 4, 6, 7, 8, 9, 10, 11, 12, 13, 14] },
+    Call { name: "cut", numbers: &[0, 1, 2, 3, 6, 7, 8, 9, 10, 11, 25] },
+    Call { name: "cut_by_edges", numbers: &[0, 1, 2, 3, 6, 7, 8, 9, 10, 11, 25] },
 ];
 
-const NUMBERS: usize = 26;
+const NUMBERS: usize = 27;
 
 #[derive(Default)]
 pub struct Tally {
@@ -53,6 +56,8 @@ pub struct Tally {
     pub reused: [u64; 3],
     pub most_vertices: f64,
     pub most_entries: f64,
+    /// The same of pieces by cutting: vertices, entries.
+    pub most_cut: [f64; 2],
 }
 
 impl Tally {
@@ -157,6 +162,7 @@ impl Tally {
             }
         }
         println!("\nRoom used at most: vertices {:.3}, entries {:.3}", self.most_vertices, self.most_entries);
+        println!("By cutting: vertices {:.3}, entries {:.3}", self.most_cut[0], self.most_cut[1]);
         holes
     }
 }

@@ -15,7 +15,7 @@ ghost use Rattle.audit_nearer.specs.Nearer.{toleranceOf, farOf, beyond, 
 ghost use Rattle.audit_nearer.specs.Steps.{HeldNames, HeldKept, PiecesKept};
 
 // 2^-bits.
-fn tolerance(bits: u64) -> f64
+pub fn tolerance(bits: u64) -> f64
     requires { ⌜ bits ≤ 52 ⌝ }
     ensures { λ r. ⌜ r ≡ toleranceOf bits ⌝ }
 {

@@ -15,7 +15,7 @@ const BLOCK: usize = 512;
 
 const SLOTS: usize = 512;
 
-fn same_place(p: Point, q: Point) -> bool
+pub fn same_place(p: Point, q: Point) -> bool
     ensures { λ r. ⌜ r ≡ sameOf p q ⌝ }
 {
     (p.x == q.x) & (p.y == q.y)

@@ -12,7 +12,7 @@ ghost use Rattle.audit_nearer.specs.Nearer.{noLists};
 ghost use Rattle.audit_rules.specs.Rules.{AuditCounts, ListsCut, GivenNumber, AuditEntries, AuditNumber};
 
 // Rule 1, on the lengths of the lists and the tolerance.
-fn counts_ok(sites: usize, vertices: usize, indexes: usize, bits: u32) -> bool
+pub fn counts_ok(sites: usize, vertices: usize, indexes: usize, bits: u32) -> bool
     ensures { λ r. ⌜ Says r (AuditCounts sites vertices indexes bits) ⌝ }
 {
     if sites % 2 != 0 {

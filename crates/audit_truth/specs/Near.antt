@@ -20,28 +20,31 @@ use Rattle.laws.specs.Binary64.{_⊞_, _⊟_, _⊠_}
 use Rattle.root.specs.Root.{magnitude, units}
 use Rattle.utils.specs.declared.Point.{Point}
 use Rattle.bounding_box.specs.declared.BoundingBox.{BoundingBox}
-use Rattle.audit_nearer.specs.Nearer.{farOf, beyond}
+use Rattle.audit_nearer.specs.Nearer.{beyond}
 use Rattle.audit_total.specs.Total.{apart}
 use Rattle.audit_truth.specs.Exact.{plusUnits, minusUnits, apartOf, acrossAndDown, alongAxes, exactSquare}
-use Rattle.audit_truth.specs.Held.{HeldWithin, HeldPoint, HeldBox}
+use Rattle.audit_truth.specs.Held.{HeldWithin, HeldPoint}
 use Rattle.audit_truth.specs.laws.BothSides.{left-off, together}
 use Rattle.audit_truth.specs.laws.Close.{squares-apart}
 use Rattle.audit_truth.specs.laws.Magnitudes.{parts-apart}
 use Rattle.audit_truth.specs.laws.Parts.{not-over}
-use Rattle.audit_truth.specs.laws.Sides.{held-finite, add-held, add-near, bisectorPart, coordinate-held, coordinate, right-held, right}
+use Rattle.audit_truth.specs.laws.Sides.{FarBy, held-finite, add-held, add-near, bisectorPart, coordinate-held, coordinate, right-held, right}
 
 -- p is at most r from v in each coordinate
 pub record WithinReach (r : ℕ) (v p : Point) : Type 0 where
   pub x : apartOf (v .x) (p .x) ≤ r
   pub y : apartOf (v .y) (p .y) ≤ r
 
--- that bound on |v - s|^2 - |v - o|^2, all times 2 ^ 49 2 ^ bits
-abbrev pub NotNearer : BoundingBox → ℕ → ℕ → Point → Point → Point → Type 0
-NotNearer b bits r v s o =
-    exactSquare v s * (2 ^ 49 * 2 ^ bits) ≤ (exactSquare v o + 2 * (alongAxes o s + 2 ^ 1074)) * (2 ^ 49 * 2 ^ bits) + (2 ^ 49 * acrossAndDown b + 2 ^ bits * r) * alongAxes o s
+-- that bound on |v - s|^2 - |v - o|^2, all times 2 ^ 49 2 ^ bits, with a tolerance of 2 ^ -bits w; and of the box
+abbrev pub NotNearerBy : ℕ → ℕ → ℕ → Point → Point → Point → Type 0
+NotNearerBy w bits r v s o =
+    exactSquare v s * (2 ^ 49 * 2 ^ bits) ≤ (exactSquare v o + 2 * (alongAxes o s + 2 ^ 1074)) * (2 ^ 49 * 2 ^ bits) + (2 ^ 49 * w + 2 ^ bits * r) * alongAxes o s
 
-module _ (b : BoundingBox) (bits : ℕ) (v s o : Point) (hb : HeldBox b) (B : bits ≤ 52) (hv : HeldPoint v) (hs : HeldPoint s) (ho : HeldPoint o) (r : ℕ)
-    (wide : acrossAndDown b ≤ r) (ws : WithinReach r v s) (wo : WithinReach r v o) where
+abbrev pub NotNearer : BoundingBox → ℕ → ℕ → Point → Point → Point → Type 0
+NotNearer b bits r v s o = NotNearerBy (acrossAndDown b) bits r v s o
+
+module _ {bits w : ℕ} {far : Float} (F : FarBy bits w far) (v s o : Point) (hv : HeldPoint v) (hs : HeldPoint s) (ho : HeldPoint o) (r : ℕ)
+    (wide : w ≤ r) (ws : WithinReach r v s) (wo : WithinReach r v o) where
   abbrev cx : Float
   cx = bisectorPart (v .x) (s .x) (o .x)
 
@@ -49,7 +52,7 @@ module _ (b : BoundingBox) (bits : ℕ) (v s o : Point) (hb : HeldBox b) (B : bi
   cy = bisectorPart (v .y) (s .y) (o .y)
 
   abbrev limit : Float
-  limit = farOf b bits ⊠ (magnitude (o .x ⊟ s .x) ⊞ magnitude (o .y ⊟ s .y))
+  limit = far ⊠ (magnitude (o .x ⊟ s .x) ⊞ magnitude (o .y ⊟ s .y))
 
   hx : HeldWithin 803 cx
   hx = coordinate-held (v .x) (s .x) (o .x) (hv .x) (hs .x) (ho .x)
@@ -57,21 +60,21 @@ module _ (b : BoundingBox) (bits : ℕ) (v s o : Point) (hb : HeldBox b) (B : bi
   hy : HeldWithin 803 cy
   hy = coordinate-held (v .y) (s .y) (o .y) (hv .y) (hs .y) (ho .y)
 
-  pub near-exact : beyond (farOf b bits) v s o ≡ false → NotNearer b bits r v s o
+  pub near-exact : beyond far v s o ≡ false → NotNearerBy w bits r v s o
   unfolding beyond
   near-exact e =
       let X = coordinate (v .x) (s .x) (o .x) (hv .x) (hs .x) (ho .x) in
       let Y = coordinate (v .y) (s .y) (o .y) (hv .y) (hs .y) (ho .y) in
       let C = add-near 803 cx cy hx hy (lit≤ tt) in
-      let hr = right-held b hb bits B (o .x) (s .x) (o .y) (s .y) (ho .x) (hs .x) (ho .y) (hs .y) in
+      let hr = right-held F (o .x) (s .x) (o .y) (s .y) (ho .x) (hs .x) (ho .y) (hs .y) in
       let order = not-over (cx ⊞ cy) limit (held-finite (add-held 803 cx cy hx hy (lit≤ tt))) (held-finite hr) e in
       let L = left-off (plusUnits cx) (minusUnits cx) _ _ _ (plusUnits cy) (minusUnits cy) _ _ _ (plusUnits (cx ⊞ cy)) (minusUnits (cx ⊞ cy)) (C .off) (units limit) (2 ^ 1074) (X .off) (Y .off)
       (X .near) (X .few) (X .most) (Y .near) (Y .few) (Y .most) (C .near) (C .few)
       (less (plusUnits (cx ⊞ cy)) (minusUnits (cx ⊞ cy)) (plusUnits limit) (minusUnits limit) _ (parts-apart limit) order) in
       moved _ _ _ _ _ _ _ _ _ (2 ^ 49 * 2 ^ bits) _ (squares-apart (plusUnits (v .x)) (minusUnits (v .x)) (plusUnits (s .x)) (minusUnits (s .x)) (plusUnits (o .x)) (minusUnits (o .x)))
       (squares-apart (plusUnits (v .y)) (minusUnits (v .y)) (plusUnits (s .y)) (minusUnits (s .y)) (plusUnits (o .y)) (minusUnits (o .y)))
-      (together _ _ (units limit) _ (2 ^ 1074) (2 ^ bits) (acrossAndDown b) (alongAxes o s) r L
-      (right b hb bits B (o .x) (s .x) (o .y) (s .y) (ho .x) (hs .x) (ho .y) (hs .y))
+      (together _ _ (units limit) _ (2 ^ 1074) (2 ^ bits) w (alongAxes o s) r L
+      (right F (o .x) (s .x) (o .y) (s .y) (ho .x) (hs .x) (ho .y) (hs .y))
       (within (apartOf (o .x) (s .x)) _ _ (apartOf (o .y) (s .y)) _ _ r (ws .x) (wo .x) (ws .y) (wo .y)) wide (pow-pos bits))
     where
       less : (c c′ p m u : ℕ) → apart p m ≡ u → c + m ≤ c′ + p → c ≤ c′ + u

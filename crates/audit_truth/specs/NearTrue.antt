@@ -40,7 +40,7 @@ use Rattle.audit_truth.specs.Exact.{plusUnits, minusUnits, overOf, apart
 use Rattle.audit_truth.specs.Held.{HeldPoint, HeldBox, AllHeld, HeldEdges}
 use Rattle.audit_truth.specs.Near.{WithinReach, NotNearer, near-exact}
 use Rattle.audit_truth.specs.laws.Parts.{not-over, le-turned}
-use Rattle.audit_truth.specs.laws.Sides.{held-finite}
+use Rattle.audit_truth.specs.laws.Sides.{held-finite, box-far}
 
 -- ---- a box by its center and size has such edges, and one by its edges has these
 pub size-held : (c : Point) (w h : Float) → HeldEdges (madeOf c w h)
@@ -174,7 +174,7 @@ module _ {g : Given} {sites v : List Float} {off ix starts others : List ℕ} {b
           → NotNearer (g .bounds) bits r corner (pointAt sites site) (pointAt sites other)
       near-reach r wide x y =
           let there = other-site (noLists starts others) (cellOf starts others site) (length sites / 2) j refl J (held-names (rules .held) site S refl refl .named) in
-          near-exact (g .bounds) bits corner (pointAt sites site) (pointAt sites other) box-held (rules .fine) corner-held (site-held site S) (site-held other there) r wide x y not-beyond
+          near-exact (box-far (g .bounds) box-held bits (rules .fine)) corner (pointAt sites site) (pointAt sites other) corner-held (site-held site S) (site-held other there) r wide x y not-beyond
 
       pub near-true : AboutBox (g .bounds) (pointAt sites site) → AboutBox (g .bounds) (pointAt sites other)
           → NotNearer (g .bounds) bits (acrossAndDown (g .bounds)) corner (pointAt sites site) (pointAt sites other)

@@ -18,8 +18,7 @@ use Rattle.numbers.specs.Numbers.{refusedCircumcenter, refusedExtension}
 use Rattle.definition.specs.declared.Fault.{Fault}
 use Rattle.definition.specs.Fault.{ok}
 use Rattle.definition.specs.Cell.{RingPart, clipCell}
-use Rattle.definition.specs.Build.{centerAt, ownersFrom, finite, extended, Extensions, extendFrom}
-use Rattle.definition.specs.Build.{ringFrom, hullRing, CellState, clipHull, clipRest}
+use Rattle.definition.specs.Build.{centerAt, ownersFrom, finite, extended, Extensions, extendFrom, ringFrom, hullRing, CellState, clipHull, clipRest}
 use Rattle.definition.specs.Short.{fault, extensions, cellState}
 
 -- ---- before the cells: rules 11 and 12

@@ -8,8 +8,7 @@ use utils::Point;
 use utils::site_ok;
 ghost use mathlib.Core.Path.{_≡_};
 ghost use Rattle.crossings.specs.Ray.{eitherOf, orderPick, orderBy, orderTwo, orderOne, orderOf, rayOf};
-ghost use Rattle.crossings.specs.Rules.{countOf, valuesOf};
-ghost use Rattle.crossings.specs.Rules.{metBy, lineAnswer, rayAnswer, meetingNumber, pointsOf};
+ghost use Rattle.crossings.specs.Rules.{countOf, valuesOf, metBy, lineAnswer, rayAnswer, meetingNumber, pointsOf};
 
 fn either(t: bool, a: Crossing, b: Crossing) -> Crossing
     ensures { λ r. ⌜ r ≡ eitherOf t a b ⌝ }

@@ -20,9 +20,8 @@ use Rattle.paths.specs.Path.{distOf, nearestOf, hopOf, pathEnd}
 use Rattle.bounding_box.specs.declared.BoundingBox.{BoundingBox}
 use Rattle.definition.specs.declared.Fault.{Fault}
 use Rattle.definition.specs.Fault.{Outcome, ok, refused, andThen, atEdge}
-use Rattle.definition.specs.Cell.{Entry, entry, plain, crossing, wrapped, Taken, extension, firstCrossing, secondCrossing}
+use Rattle.definition.specs.Cell.{Entry, entry, plain, crossing, wrapped, Taken, extension, firstCrossing, secondCrossing, stepsTo, firstInside, turned, clipFrom, clipCell}
 use Rattle.definition.specs.Cell.{wraps, withCorners, insertEdge, edgeCrossing, clipWith, clipEdge, leave, enterAt, enter, crossAt, cross, clipStep, inBox, stepTo}
-use Rattle.definition.specs.Cell.{stepsTo, firstInside, turned, clipFrom, clipCell}
 use Rattle.definition.specs.Build.{Built, centerAt, centersFrom, ownersFrom, extended, extendFrom, hullRing, clipInto, clipHull, clipRest, allEntries, lostFrom, clipAll, build}
 use Rattle.definition.specs.Reused.{reusedOf}
 

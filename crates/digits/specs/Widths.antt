@@ -1,5 +1,6 @@
--- Theorem: the bound of every number on the way to a root, and of every product: all are below 2 ^ 55.
-use Prim.Native.Nat.{ℕ, _+_, _*_, _/_, _%_, _^_, _≤_, _<_}
+-- Theorem: the bound of every number on the way to a root, and of every product: those of the turns are below 2 ^ 55, those of the pattern that is put together at the end below
+-- 2 ^ 63.
+use Prim.Native.Nat.{ℕ, _+_, _-_, _*_, _/_, _%_, _^_, _≤_, _<_}
 use native.Mathlib.Omega.{arith}
 use Rattle.digits.specs.declared.Page.{Page}
 use Rattle.digits.specs.Turn.{broughtDown, tried, Narrow, Schoolbook}
@@ -43,3 +44,12 @@ pub record LastWidths (p : Page) : Type 0 where
 
 pub last-widths : {m : ℕ} {p : Page} → Schoolbook m 53 p → LastWidths p
 last-widths s = record { root-last = s .short; left-last = omega (arith, s .less, s .short); rounded-up = omega (arith, s .short) }
+
+-- the pattern of the root r, of a value whose scale is p: at most 2046 and 1073
+pub record PatternWidths (p r : ℕ) : Type 0 where
+  pub exponent : p / 2 - 26 < 2 ^ 11
+  pub exponent-moved : (p / 2 - 26) * 2 ^ 52 < 2 ^ 63
+  pub pattern : (p / 2 - 26) * 2 ^ 52 + r < 2 ^ 63
+
+pub pattern-widths : (p r : ℕ) → p ≤ 3119 → r ≤ 2 ^ 53 → PatternWidths p r
+pattern-widths p r l h = record { exponent = omega arith; exponent-moved = omega arith; pattern = omega arith }

@@ -9,8 +9,7 @@ use lib.Ieee.{Float}
 use lib.ListN.{length, length-append}
 use lib.Seq.{sets}
 use Rattle.octets.specs.Bytes.{each}
-use Rattle.form.specs.Form.{Outline, Site, FormMesh, MeshFits, MayBegin, formOf, outlineBytes, siteBytes, triangleBytes, hullBytes}
-use Rattle.form.specs.Form.{outlineFloats, siteFloats, triangleSites, trianglePairs, kindOf}
+use Rattle.form.specs.Form.{Outline, Site, FormMesh, MeshFits, MayBegin, formOf, outlineBytes, siteBytes, triangleBytes, hullBytes, outlineFloats, siteFloats, triangleSites, trianglePairs, kindOf}
 use Rattle.form_step.specs.Reader.{start, reading, takes}
 use Rattle.form_step.specs.Holds.{Reads}
 use Rattle.form_step.specs.declared.Form.{Form}

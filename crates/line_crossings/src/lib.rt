@@ -2,8 +2,7 @@
 use bounding_box::BoundingBox;
 use utils::Point;
 ghost use mathlib.Core.Path.{_≡_};
-ghost use Rattle.line_crossings.specs.Line.{oneIf, twoIf, some, orOf, afterOne, joinOf, firstHeld, settleOf, sideHit, levelHit};
-ghost use Rattle.line_crossings.specs.Line.{levelHit, uprightHit, lineOf};
+ghost use Rattle.line_crossings.specs.Line.{oneIf, twoIf, some, orOf, afterOne, joinOf, firstHeld, settleOf, sideHit, levelHit, uprightHit, lineOf};
 
 pub enum Crossing {
     None,

@@ -32,11 +32,9 @@ use Rattle.mesh.specs.Accepted.{mesh, Accepted, siteCount}
 use Rattle.mesh.specs.laws.Facts.{topology, paired, entry-site, end-site, walk-each}
 use Rattle.iterator.specs.Neighbours.{startsOf, lastEnd, neighboursOf}
 use Rattle.iterator.specs.laws.Neighbours.{sitesFrom, starts-cons}
-use Rattle.paths.specs.Path.{distOf, pathEnd}
-use Rattle.paths.specs.PathRule.{NoneNearer}
+use Rattle.paths.specs.Path.{distOf, pathEnd, wholePath, lastOf}
+use Rattle.paths.specs.PathRule.{NoneNearer, PathFrom, stops, hops}
 use Rattle.iterator.specs.laws.Used.{neighbours-used}
-use Rattle.paths.specs.PathRule.{PathFrom, stops, hops}
-use Rattle.paths.specs.Path.{wholePath, lastOf}
 use Rattle.paths.specs.laws.WholePath.{last-cons, whole-end}
 use Rattle.paths.specs.laws.Used.{used-sum}
 use Rattle.paths.specs.laws.PathNeeds.{ready, towards}

@@ -11,8 +11,7 @@ use lib.ListN.{length, getD}
 use borrow.Author.Tests.{ltb-true, ltb-false}
 use Rattle.laws.specs.Pick.{pick}
 use Rattle.laws.specs.laws.Decide.{lt-or-ge, eq-or-ne}
-use Rattle.mesh.specs.Hull.{nextPlace}
-use Rattle.mesh.specs.Hull.{nextSite}
+use Rattle.mesh.specs.Hull.{nextPlace, nextSite}
 use Rattle.mesh.specs.laws.Border.{after-cases}
 use Rattle.nearest_laws.specs.laws.Area.{more}
 use Rattle.grid.specs.Raised.{areaOf}

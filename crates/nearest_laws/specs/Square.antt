@@ -12,12 +12,10 @@ use Rattle.utils.specs.Plane.{at}
 use Rattle.laws.specs.Binary64.{one, minusOne}
 use Rattle.numbers.specs.Numbers.{EMPTY}
 use Rattle.mesh.specs.Mesh.{nextOf, startOf, endOf, pairOf, Used, leftmostOf}
-use Rattle.mesh.specs.Hull.{nextPlace}
-use Rattle.mesh.specs.Hull.{nextSite}
+use Rattle.mesh.specs.Hull.{nextPlace, nextSite}
 use Rattle.mesh.specs.laws.Facts.{topology}
 use Rattle.mesh.specs.Square.{sites, tri, he, hull, square-accepted}
-use Rattle.paths.specs.Path.{distOf}
-use Rattle.paths.specs.Path.{wholePath, lastOf}
+use Rattle.paths.specs.Path.{distOf, wholePath, lastOf}
 use Rattle.nearest_laws.specs.laws.Area.{more}
 use Rattle.grid.specs.Raised.{areaOf, liftOf}
 use Rattle.nearest_laws.specs.laws.Signs.{Pos, Neg, NonNeg, NonPos}

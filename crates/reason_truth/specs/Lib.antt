@@ -2,4 +2,5 @@
 pub mod Answers
 pub mod Builder
 pub mod Whole
+pub mod Truth
 pub mod laws

@@ -2,3 +2,4 @@
 pub mod Named
 pub mod Nothing
 pub mod Unread
+pub mod Unbroken

@@ -107,7 +107,7 @@ fn long_area(from: usize, count: usize, vertices: &[f64], entries: &[u32]) -> f6
 }
 
 fn lower(a: usize, b: usize) -> usize
-    ensures { λ r. ⌜ (r ≤ a) × (r ≤ b) ⌝ }
+    ensures { λ r. ⌜ (r ≤ a) × (r ≤ b) × ((n : ℕ) → n ≤ a → n ≤ b → n ≤ r) ⌝ }
 {
     if a < b {
         return a;

@@ -2,8 +2,7 @@
 use mathlib.Core.Path.{_≡_, refl, sym, ap, _∙_, subst}
 use mathlib.Core.Bool.{true, false}
 use Prim.Native.Nat.{ℕ, zero, suc, _+_, _-_, _*_, _/_, _^_, _≤_, _<_}
-use native.Mathlib.Nat.{mul-assoc, mul-le-mul-right, le-of-eq, lt-of-lt-of-le, lt-of-le-of-lt}
-use native.Mathlib.Nat.{zero-lt-suc, mul-lt-mul-of-pos-right, le-add-left}
+use native.Mathlib.Nat.{mul-assoc, mul-le-mul-right, le-of-eq, lt-of-lt-of-le, lt-of-le-of-lt, zero-lt-suc, mul-lt-mul-of-pos-right, le-add-left}
 use lib.Dec.{T, lit<}
 use lib.Pow.{pow-add, pow-pos, pow-lt}
 use lib.Count.{trailingZeros}

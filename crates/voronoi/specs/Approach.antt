@@ -12,8 +12,7 @@ use Rattle.mesh.specs.Mesh.{startOf, endOf}
 use Rattle.mesh.specs.Accepted.{Mesh, tableOf}
 use Rattle.iterator.specs.Neighbours.{neighboursOf}
 use Rattle.paths.specs.PathRule.{NoneNearer, FirstNearest}
-use Rattle.paths.specs.Path.{distOf}
-use Rattle.paths.specs.Path.{lastOf}
+use Rattle.paths.specs.Path.{distOf, lastOf}
 
 -- the list l of site s: each half-edge that ends there once, and no other
 pub record WholeRound (tri he : List ℕ) (s : ℕ) (l : List ℕ) : Type 0 where

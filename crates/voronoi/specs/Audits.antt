@@ -1,4 +1,4 @@
--- The promise of the audit: the number, the kind, what it names, and the missing share. The verdict: Verdict of crate audit; the rules: Rules of crate audit_rules.
+-- The promise of the audit: the number, the kind, what it names, and the missing share. The verdict: Verdict of crate auditing; the rules: Rules of crate audit_rules.
 use mathlib.Core.List.{List}
 use Prim.Native.Nat.{ℕ}
 use lib.Ieee.{Float}

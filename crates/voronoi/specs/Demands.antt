@@ -1,11 +1,11 @@
 -- Theorem: the three demands on the public calls, proved of every input. They speak of the calls' promises (Plane, Meshes, Walks, Builds): what is said of an outcome holds of
 -- every outcome that its promise allows. That a call ends on every input, and keeps its promise, is what the check proves of its function. The words that they use are
--- in Outcomes, Leaves, Bounds, Approach and Wraps.
+-- in Outcomes, AfterRefusal, FirstBroken, Leaves, Bounds, Approach and Wraps.
 use mathlib.Core.Path.{_≡_}
 use mathlib.Core.Bool.{true}
-use mathlib.Core.List.{List, [], _∷_}
+use mathlib.Core.List.{List, [], _∷_, map}
 use mathlib.Core.Logic.{_≢_, _↔_}
-use Prim.Native.Nat.{ℕ, suc, _+_, _/_, _%_, _^_, _≤_, _<_}
+use Prim.Native.Nat.{ℕ, suc, _+_, _-_, _/_, _%_, _^_, _≤_, _<_}
 use lib.Ieee.{Float, nan, binary64, ofBits, toBits}
 use lib.IntN.{ℤ}
 use lib.ListN.{length, getD, take, drop}
@@ -13,6 +13,7 @@ use Rattle.numbers.specs.Numbers.{EMPTY}
 use Rattle.laws.specs.Count.{occ}
 use Rattle.root.specs.Root.{Root, RootBits, magnitude, signum}
 use Rattle.root.specs.Bounded.{Bounded}
+use Rattle.utils.specs.Flat.{pointAt}
 use Rattle.utils.specs.Plane.{nearOf}
 use Rattle.utils.specs.Rules.{okSite}
 use Rattle.utils.specs.declared.Point.{Point}
@@ -25,9 +26,8 @@ use Rattle.plane_calls.specs.Plane.{bit}
 use Rattle.mesh.specs.Mesh.{wholeOf, Used}
 use Rattle.mesh.specs.Accepted.{Mesh, tableOf, siteCount}
 use Rattle.clipped_iterator.specs.Clipped.{clippedNeighboursOf}
-use Rattle.paths.specs.Path.{distOf}
+use Rattle.paths.specs.Path.{distOf, wholePath}
 use Rattle.paths.specs.PathRule.{usedOf}
-use Rattle.paths.specs.Path.{wholePath}
 use Rattle.definition.specs.Build.{build}
 use Rattle.asking.specs.Asks.{CellsOf}
 use Rattle.admission.specs.Slices.{Slices}
@@ -35,45 +35,50 @@ use Rattle.mend_slices.specs.Lent.{Lent}
 use Rattle.voronoi.specs.Mends.{Mend}
 use Rattle.reader.specs.Calls.{FormLists}
 use Rattle.voronoi.specs.Forms.{ReaderBegin, ReaderFeed, ReaderEnd, ReadForm}
-use Rattle.voronoi.specs.One.{one-reader-begin, one-reader-feed, one-reader-end, one-read-form}
+use Rattle.voronoi.specs.One.{one-reader-begin, one-reader-feed, one-reader-end, one-read-form, one-read-multipoint, one-write-multipoint, one-grid-check, one-grid-nearest, one-grid-sites}
+use Rattle.voronoi.specs.One.{one-areas, one-all-neighbours, one-ends, one-mend, one-cell-wkb-bits, one-cell-wkb, one-root-bits, one-root, one-magnitude-bits, one-magnitude, one-signum-bits}
+use Rattle.voronoi.specs.One.{one-signum, one-near, one-dist2, one-circumcenter, one-centroid, one-box, one-box-center, one-corners, one-inside, one-exclusively, one-side, one-meeting, one-flip}
+use Rattle.voronoi.specs.One.{one-check, one-walk, one-neighbours, one-clipped, one-path, one-shared-edge, one-cells-share-edge, one-build, one-cut, one-why, one-cell, one-cell-part}
+use Rattle.voronoi.specs.One.{one-all-wkb, one-version}
 use Rattle.voronoi.specs.Gauges.{ReadMultipoint, WriteMultipoint}
-use Rattle.voronoi.specs.One.{one-read-multipoint, one-write-multipoint}
 use Rattle.grid_check.specs.Promise.{GridMesh}
 use Rattle.voronoi.specs.Grids.{GridCheck, GridNearest, SitesOfGrid}
-use Rattle.voronoi.specs.One.{one-grid-check, one-grid-nearest, one-grid-sites}
 use Rattle.voronoi.specs.Nearest.{NearestGauges, nearest-gauges}
 use Rattle.voronoi.specs.Sizes.{Areas}
-use Rattle.voronoi.specs.One.{one-areas}
 use Rattle.bulk_neighbours.specs.Promise.{CellsLent}
 use Rattle.bulk_ends.specs.Promise.{PointsKept}
 use Rattle.voronoi.specs.Bulk.{AllNeighbours, EndsOfPaths}
-use Rattle.voronoi.specs.One.{one-all-neighbours, one-ends}
-use Rattle.voronoi.specs.Outcomes.{OneAll, AllRefused}
-use Rattle.voronoi.specs.laws.Refused.{all-refused, ends-refused}
+use Rattle.voronoi.specs.Outcomes.{OneAll, AllRefused, OneImages, ImagesRefused, One, One₂, One₃, OneList, OneMend, OneMeeting, OneBox, OneCenter, SliceRefused, ListRefused, BuildRefused}
+use Rattle.voronoi.specs.Outcomes.{CutRefused, OneGrid, OneNearest, OneAudit, FlipRefused}
+use Rattle.voronoi.specs.laws.Refused.{all-refused, images-refused, ends-refused, work-refused, list-refused, slices-refused, cut-refused, lists-refused}
 use Rattle.voronoi.specs.Audits.{Audit}
 use Rattle.auditing.specs.One.{one-audit}
-use Rattle.voronoi.specs.One.{one-mend, one-cell-wkb-bits, one-cell-wkb, one-root-bits, one-root, one-magnitude-bits, one-magnitude, one-signum-bits, one-signum}
 use Rattle.voronoi.specs.Plane.{Dist2, Circumcenter, Centroid, Edges, Centered, Corners, Inside, ExclusivelyInside, WhichEdge, Meets}
-use Rattle.voronoi.specs.One.{one-near, one-dist2, one-circumcenter, one-centroid, one-box, one-box-center, one-corners, one-inside, one-exclusively, one-side, one-meeting}
 use Rattle.flip_call.specs.Flips.{FlipLists}
 use Rattle.voronoi.specs.Flips.{Flip}
-use Rattle.voronoi.specs.One.{one-mend, one-flip, one-cell-wkb-bits, one-cell-wkb, one-root-bits, one-root, one-magnitude-bits, one-magnitude, one-signum-bits, one-signum}
-use Rattle.voronoi.specs.Plane.{Dist2, Circumcenter, Centroid, Edges, Corners, Inside, ExclusivelyInside, WhichEdge, Meets}
-use Rattle.voronoi.specs.One.{one-near, one-dist2, one-circumcenter, one-centroid, one-box, one-corners, one-inside, one-exclusively, one-side, one-meeting}
 use Rattle.voronoi.specs.Meshes.{Check}
-use Rattle.voronoi.specs.One.{one-check}
 use Rattle.voronoi.specs.Walks.{Walk, Neighbours, ClippedNeighbours, Path, SharedEdge, CellsShareEdge}
-use Rattle.voronoi.specs.One.{one-walk, one-neighbours, one-clipped, one-path, one-shared-edge, one-cells-share-edge}
 use Rattle.voronoi.specs.Builds.{Build, Cell, CellPart}
+use Rattle.cut_admission.specs.CutSlices.{CutSlices}
+use Rattle.voronoi.specs.Cuts.{Cut}
+use Rattle.shared.specs.Cells.{cellOf}
+use Rattle.ring_area.specs.Steps.{gainsOf, lossesOf}
+use Rattle.area_laws.specs.AreaSign.{SignTrue}
+use Rattle.reasons.specs.declared.ReasonNumbers.{ReasonNumbers}
+use Rattle.reason_call.specs.Call.{questionOf}
 use Rattle.voronoi.specs.Explanations.{Why}
-use Rattle.voronoi.specs.One.{one-build, one-why, one-cell, one-cell-part}
-use Rattle.voronoi.specs.Maps.{CellWkbBits, CellWkb}
-use Rattle.voronoi.specs.Outcomes.{One, One₂, One₃, OneList, OneMend, OneMeeting, OneBox, OneCenter, SliceRefused, ListRefused, BuildRefused, OneGrid, OneNearest, OneAudit, FlipRefused}
+use Rattle.voronoi.specs.AfterRefusal.{AfterRefusal}
+use Rattle.voronoi.specs.FirstBroken.{FirstBroken}
+use Rattle.voronoi.specs.TrueReason.{TrueReason, true-reason}
+use Rattle.voronoi.specs.SignedAreas.{signed-areas}
+use Rattle.voronoi.specs.laws.AfterRefusal.{after-refusal}
+use Rattle.voronoi.specs.laws.FirstBroken.{first-broken}
+use Rattle.voronoi.specs.Maps.{CellWkbBits, CellWkb, AllWkb}
+use Rattle.library_version.specs.Version.{version}
 use Rattle.voronoi.specs.Leaves.{QueryAllowed, BuildAllowed, BuildLeaves}
 use Rattle.voronoi.specs.Bounds.{BoundedEdges, BoundedCenter, BoundedMeeting, Bounds, bounds}
 use Rattle.voronoi.specs.Approach.{WholeRound, nextTo, Joined, Approaches}
 use Rattle.voronoi.specs.Wraps.{Wraps}
-use Rattle.voronoi.specs.laws.Refused.{work-refused, list-refused, slices-refused, lists-refused}
 use Rattle.voronoi.specs.laws.Answering.{all-answers, ends-answers, check-answers, site-answers, cells-answers, path-answers, edge-answers}
 use Rattle.voronoi.specs.laws.Leaving.{build-answers, build-leaves, build-empty}
 use Rattle.voronoi.specs.laws.PlaneBounds.{dist2-answer, circumcenter-answer, centroid-answer, box-answer, center-answer, corners-answer, line-answer, ray-answer}
@@ -85,6 +90,8 @@ use Rattle.voronoi.specs.laws.Wrapping.{build-wraps}
 
 -- one outcome for each input of each call; then what a refusal leaves. A box g is given by its center and size or by its edges: what is said of a call holds of the call by edges too.
 pub record Demand1 (m : Mesh) : Type 0 where
+  -- voronoi_version
+  pub version : One (λ r. r ≡ version)
   -- voronoi_root_bits, of patterns of 64 bits
   pub root-bits : (b : ℕ) → One (λ r. (r < 2 ^ 64) × RootBits b r)
   -- voronoi_root
@@ -137,6 +144,8 @@ pub record Demand1 (m : Mesh) : Type 0 where
   pub cells-share-edge : (offs idx : List ℕ) (a b : ℕ) → One₂ (λ r y. CellsShareEdge offs idx a b y r)
   -- voronoi_build: the number, all five slices
   pub build : (g : Given) (old : Slices) → One₂ (λ r new. Build m g old new r)
+  -- voronoi_cut: the number, all four slices, the count
+  pub cut : (g : Given) (old : CutSlices) → One₃ (λ r new k. Cut m g old new r k)
   -- voronoi_why: the number, the kind and the places; all five slices
   pub why : (g : Given) (asked first second : ℕ) (old : Slices) → One₂ (λ t new. Why m g asked first second old new t)
   -- voronoi_cell: the number, start, length
@@ -146,6 +155,8 @@ pub record Demand1 (m : Mesh) : Type 0 where
   -- voronoi_cell_wkb_bits, voronoi_cell_wkb: the number, the bytes written, the output
   pub cell-wkb-bits : (v off ix : List ℕ) (s : ℕ) (out : List ℕ) → One₃ (λ r k new. CellWkbBits v off ix s out new k r)
   pub cell-wkb : (v : List Float) (off ix : List ℕ) (s : ℕ) (out : List ℕ) → One₃ (λ r k new. CellWkb v off ix s out new k r)
+  -- voronoi_all_wkb: the number, the bytes written, the starts, the output
+  pub all-wkb : (v : List Float) (off ix st out : List ℕ) → OneImages (λ r k st′ new. AllWkb v off ix st st′ out new k r)
   -- voronoi_mend: the number, the four slices, the hull's length, the changes of pairs and of the hull
   pub mend : (old : Lent) → OneMend (λ r new k p q. Mend m old new r k p q)
   -- voronoi_reader_begin: the number, the state
@@ -191,10 +202,18 @@ pub record Demand1 (m : Mesh) : Type 0 where
       → AllRefused w w′ st st′ o o′ r
   pub ends-refused : (s : ℕ) (points : List Float) {w w′ o o′ : List ℕ} {r : ℕ} → EndsOfPaths m s points w w′ o o′ r → r ≢ 0
       → SliceRefused EMPTY w w′ r × SliceRefused EMPTY o o′ r
+  -- by voronoi_all_wkb: the starts, the output, the bytes written
+  pub all-wkb-refused : (v : List Float) (off ix : List ℕ) {st st′ o o′ : List ℕ} {k r : ℕ} → AllWkb v off ix st st′ o o′ k r → r ≢ 0 → ImagesRefused st st′ o o′ k
   -- by a build: all five slices
   pub build-refused : (g : Given) {old new : Slices} {r : ℕ} → Build m g old new r → r ≢ 0 → BuildRefused old new r
+  -- by cutting: all four slices, and no vertex
+  pub cut-refused : (g : Given) {old new : CutSlices} {r k : ℕ} → Cut m g old new r k → r ≢ 0 → CutRefused old new r k
   -- by a flip: triangles, half-edges and table stay
   pub flip-refused : (sites : ℕ) (hull : List ℕ) (a : ℕ) {old new : FlipLists} {r : ℕ} → Flip sites hull a old new r → r ≢ 0 → FlipRefused old new r
+  -- by every other call
+  pub others-refused : AfterRefusal m
+  -- and of every call that its number is that of the first rule broken
+  pub first-rule : FirstBroken m
 
 -- ---- 2. On every admitted input vertices, cells, walks and paths are the definition's, bit for bit: every number answered is finite, so that its pattern is meant.
 
@@ -286,6 +305,7 @@ pub record Demand3 (m : Mesh) : Type 0 where
 
 pub demand1 : (m : Mesh) → Demand1 m
 demand1 m = record {
+  version = one-version;
   root-bits = λ b r s x y. one-root-bits b r s (x .0) (y .0) (x .1) (y .1);
   root = one-root;
   magnitude-bits = one-magnitude-bits;
@@ -312,11 +332,13 @@ demand1 m = record {
   shared-edge = λ a b w _ _ _ _ _ _. one-shared-edge;
   cells-share-edge = λ offs idx a b _ _ _ _. one-cells-share-edge;
   build = λ g old _ _ _ _. one-build m g;
+  cut = λ g old _ _ _ _ _ _. one-cut;
   why = λ g asked first second old _ _ _ _. one-why g asked first second;
   cell = λ offs idx s _ _ _ _ _ _. one-cell offs idx s;
   cell-part = λ offs idx s _ _ _ _. one-cell-part offs idx s;
   cell-wkb-bits = λ v off ix s out _ _ _ _ _ _. one-cell-wkb-bits off ix s out v;
   cell-wkb = λ v off ix s out _ _ _ _ _ _. one-cell-wkb off ix s out v;
+  all-wkb = λ v off ix st out _ _ _ _ _ _ _ _. one-all-wkb v off ix st out;
   mend = λ old _ _ _ _ _ _ _ _ _ _. one-mend m;
   reader-begin = λ ws _ _ _ _. one-reader-begin ws;
   reader-feed = λ ws l s _ _ _ _ _ _. one-reader-feed ws l s;
@@ -340,8 +362,12 @@ demand1 m = record {
   shared-edge-refused = λ a b x. work-refused m (x .work);
   all-neighbours-refused = all-refused m;
   ends-refused = ends-refused m;
+  all-wkb-refused = λ v off ix. images-refused;
   build-refused = λ g. slices-refused;
+  cut-refused = λ g. cut-refused;
   flip-refused = lists-refused;
+  others-refused = after-refusal m;
+  first-rule = first-broken m;
 }
 
 pub demand2 : (m : Mesh) → Demand2 m
@@ -391,7 +417,19 @@ demand3 m = record {
   no-cell = λ g f s. build-empty m g f s;
 }
 
--- ---- Beyond them: where voronoi_grid_nearest says yes, paths end at nearest gauges and the owners of admitted corners are nearest (Nearest).
+-- ---- Beyond them: what the calls are for.
+
+-- where voronoi_grid_nearest says yes, paths and ends of paths end at nearest gauges and the owners of admitted corners are nearest (Nearest)
 pub on-the-grid : (g : GridMesh) {w w′ : List ℕ} {place unused : ℕ} → GridNearest g w w′ 0 0 place unused → {old sites : List Float} → SitesOfGrid (g .grid) old sites 0
     → NearestGauges g sites unused
 on-the-grid g answer = nearest-gauges g answer
+
+-- the reason that voronoi_why tells is the true one (TrueReason)
+pub why-tells : (m : Mesh) (g : Given) (asked first second : ℕ) {old new : Slices} {t : ReasonNumbers} → Why m g asked first second old new t
+    → TrueReason m g (questionOf asked first second) old t
+why-tells = true-reason
+
+-- each area of voronoi_areas has the sign of the exact one (SignedAreas)
+pub areas-signed : (v : List Float) (off ix : List ℕ) {old new : List Float} → Areas v off ix old new 0 → (s : ℕ) → s < length off - 1
+    → SignTrue (gainsOf (map (pointAt v) (cellOf off ix s))) (lossesOf (map (pointAt v) (cellOf off ix s))) (getD new s nan)
+areas-signed = signed-areas

@@ -21,8 +21,7 @@ use Rattle.mesh.specs.Mesh.{nextOf, chosen, tableTo, turnOf, walkOf, wholeOf}
 use Rattle.mesh.specs.Square.{sites, tri, he, table}
 use Rattle.mesh.specs.Square as mesh
 use Rattle.iterator.specs.Neighbours.{lastEnd, startsOf, neighboursOf}
-use Rattle.paths.specs.Path.{distOf, nearestOf, hopOf, pathOf}
-use Rattle.paths.specs.Path.{wholePath}
+use Rattle.paths.specs.Path.{distOf, nearestOf, hopOf, pathOf, wholePath}
 
 abbrev pub box : BoundingBox
 box = madeOf (at zero zero) two two

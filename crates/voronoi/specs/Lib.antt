@@ -2,6 +2,7 @@ pub mod Plane
 pub mod Meshes
 pub mod Walks
 pub mod Builds
+pub mod Cuts
 pub mod Explanations
 pub mod One
 pub mod Accepted
@@ -17,11 +18,15 @@ pub mod Audits
 pub mod Examples
 pub mod laws
 pub mod Outcomes
+pub mod AfterRefusal
+pub mod FirstBroken
 pub mod Leaves
 pub mod Bounds
 pub mod Approach
 pub mod Wraps
 pub mod Nearest
+pub mod TrueReason
+pub mod SignedAreas
 pub mod Demands
 pub mod Restart
 pub mod Singles

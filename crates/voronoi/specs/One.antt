@@ -29,12 +29,17 @@ use Rattle.shared.specs.Edge.{sharedEdgeOf}
 use Rattle.admission.specs.Slices.{Slices}
 use Rattle.cell_query.specs.laws.Cells.{cell-number}
 use Rattle.build_answers.specs.laws.Promise.{answers-one}
+use Rattle.cut_admission.specs.CutSlices.{CutSlices}
+use Rattle.cut_call.specs.laws.Answer.{cut-one}
+use Rattle.voronoi.specs.Cuts.{Cut}
 use Rattle.plane_calls.specs.Plane.{bit, Answered}
 use Rattle.wkb.specs.Polygon.{patterns}
 use Rattle.wkb.specs.One.{one-wkb}
+use Rattle.all_wkb.specs.One as all-images
 use Rattle.reasons.specs.declared.ReasonNumbers.{ReasonNumbers}
 use Rattle.reason_call.specs.One.{one-why-call}
-use Rattle.voronoi.specs.Maps.{CellWkbBits, CellWkb}
+use Rattle.voronoi.specs.Maps.{CellWkbBits, CellWkb, AllWkb}
+use Rattle.library_version.specs.Version.{version}
 use Rattle.voronoi.specs.Explanations.{Why}
 use Rattle.multipoint.specs.One.{one-read}
 use Rattle.multipoint_writer.specs.One.{one-write}
@@ -68,6 +73,10 @@ use Rattle.voronoi.specs.Builds.{Build, CellPart, Cell}
 -- two values that one definition gives
 same : {A : Type 0} {a b d : A} → a ≡ d → b ≡ d → a ≡ b
 same p q = p ∙ sym q
+
+-- ---- the version
+pub one-version : (r s : ℕ) → r ≡ version → s ≡ version → r ≡ s
+one-version r s = same
 
 -- ---- single numbers
 pub one-root-bits : (b r s : ℕ) → r < 2 ^ 64 → s < 2 ^ 64 → RootBits b r → RootBits b s → r ≡ s
@@ -197,6 +206,9 @@ module _ (m : Mesh) {old new other : Slices} {r s : ℕ} where
   pub one-build : (g : Given) → Build m g old new r → Build m g old other s → (r ≡ s) × (new ≡ other)
   one-build g = answers-one
 
+pub one-cut : {m : Mesh} {g : Given} {old new other : CutSlices} {r s n k : ℕ} → Cut m g old new r n → Cut m g old other s k → (r ≡ s) × (new ≡ other) × (n ≡ k)
+one-cut = cut-one
+
 module _ (off ix : List ℕ) (s : ℕ) {q r : ℕ} where
   pub one-cell-part : {p o : List ℕ} → CellPart off ix s p q → CellPart off ix s o r → (q ≡ r) × (p ≡ o)
   one-cell-part x y =
@@ -218,6 +230,10 @@ module _ (off ix : List ℕ) (s : ℕ) (old : List ℕ) {new other : List ℕ} {
 
   pub one-cell-wkb : (v : List Float) → CellWkb v off ix s old new w q → CellWkb v off ix s old other u r → (q ≡ r) × (w ≡ u) × (new ≡ other)
   one-cell-wkb v = one-wkb (patterns v) off ix s old
+
+pub one-all-wkb : (v : List Float) (off ix st o : List ℕ) {st′ st″ o′ o″ : List ℕ} {w u q r : ℕ} → AllWkb v off ix st st′ o o′ w q → AllWkb v off ix st st″ o o″ u r
+    → (q ≡ r) × (w ≡ u) × (st′ ≡ st″) × (o′ ≡ o″)
+one-all-wkb = all-images.one-all-wkb
 
 -- ---- reasons
 pub one-why : {m : Mesh} (g : Given) (asked first second : ℕ) {old new other : Slices} {t u : ReasonNumbers}

@@ -8,6 +8,7 @@ use lib.ListN.{length, replicate}
 use Rattle.numbers.specs.Numbers.{EMPTY}
 use Rattle.laws.specs.Binary64.{zero}
 use Rattle.admission.specs.Slices.{Slices}
+use Rattle.cut_admission.specs.CutSlices.{CutSlices}
 use Rattle.mend_slices.specs.Lent.{Lent}
 use Rattle.flip_call.specs.Flips.{FlipLists}
 
@@ -39,6 +40,10 @@ OneGrid P = (r r′ k k′ p p′ : ℕ) (w w′ : List ℕ) → P r k p w → P
 -- the neighbours of all sites: number, work slice, starts, output slice
 abbrev pub OneAll : (ℕ → List ℕ → List ℕ → List ℕ → Type 0) → Type 0
 OneAll P = (r r′ : ℕ) (w w′ st st′ o o′ : List ℕ) → P r w st o → P r′ w′ st′ o′ → (r ≡ r′) × (w ≡ w′) × (st ≡ st′) × (o ≡ o′)
+
+-- the polygons of all cells: number, bytes written, starts, output
+abbrev pub OneImages : (ℕ → ℕ → List ℕ → List ℕ → Type 0) → Type 0
+OneImages P = (r r′ k k′ : ℕ) (st st′ o o′ : List ℕ) → P r k st o → P r′ k′ st′ o′ → (r ≡ r′) × (k ≡ k′) × (st ≡ st′) × (o ≡ o′)
 
 -- with the hull: number, kind, place, unused site, work slice
 abbrev pub OneNearest : (ℕ → ℕ → ℕ → ℕ → List ℕ → Type 0) → Type 0
@@ -84,12 +89,26 @@ pub record AllRefused (w w′ st st′ o o′ : List ℕ) (r : ℕ) : Type 0 whe
   pub out : r ≢ 16 → SliceRefused EMPTY o o′ r
   pub kept-16 : r ≡ 16 → (st′ ≡ st) × (o′ ≡ o)
 
+-- the polygons of all cells: nothing is written
+pub record ImagesRefused (st st′ o o′ : List ℕ) (k : ℕ) : Type 0 where
+  pub starts : st′ ≡ st
+  pub out : o′ ≡ o
+  pub written : k ≡ 0
+
 pub record BuildRefused (old new : Slices) (r : ℕ) : Type 0 where
   pub work : SliceRefused EMPTY (old .work) (new .work) r
   pub vertices : SliceRefused zero (old .vertices) (new .vertices) r
   pub indexes : SliceRefused EMPTY (old .indexes) (new .indexes) r
   pub offsets : SliceRefused EMPTY (old .offsets) (new .offsets) r
   pub counts : SliceRefused EMPTY (old .counts) (new .counts) r
+
+-- cutting, whose count is none then
+pub record CutRefused (old new : CutSlices) (r count : ℕ) : Type 0 where
+  pub work : SliceRefused EMPTY (old .work) (new .work) r
+  pub vertices : SliceRefused zero (old .vertices) (new .vertices) r
+  pub indexes : SliceRefused EMPTY (old .indexes) (new .indexes) r
+  pub offsets : SliceRefused EMPTY (old .offsets) (new .offsets) r
+  pub none : count ≡ 0
 
 -- a flip changes nothing but the work slice
 pub record FlipRefused (old new : FlipLists) (r : ℕ) : Type 0 where

@@ -1,12 +1,12 @@
 -- Theorem: what the calls for all gauges at once leave is what the single calls write with room for all. Of any outcome of a single call on the same mesh whose work slice has an entry for
--- each site: it answers 0 and ends, and its list is the site's part; and the last entry of the path that it writes is the point's end.
+-- each site: it answers 0 and ends, and its list is the site's part; and the last entry of the path that it writes is the point's end. The polygons of all cells are those of one.
 use mathlib.Core.Path.{_≡_, sym, ap, _∙_}
 use mathlib.Core.Bool.{true, false}
 use mathlib.Core.List.{List}
-use Prim.Native.Nat.{ℕ, _+_, _-_, _/_, _≤_, _<_}
+use Prim.Native.Nat.{ℕ, suc, _+_, _-_, _/_, _≤_, _<_}
 use native.Mathlib.Omega.{arith}
 use lib.Ieee.{Float}
-use lib.ListN.{length, getD, take}
+use lib.ListN.{length, getD, take, drop}
 use lib.Seq.{getD-take}
 use Rattle.utils.specs.Flat.{pointAt}
 use Rattle.mesh.specs.Accepted.{Mesh, tableOf, siteCount}
@@ -16,6 +16,9 @@ use Rattle.neighbour_lists.specs.Lists.{nothingLent, allNeighbours}
 use Rattle.bulk_neighbours.specs.PartsTheorem.{partOf, plain-is, clipped-is, all-given, part-is}
 use Rattle.bulk_neighbours.specs.RoomTheorem.{room-suffices}
 use Rattle.bulk_ends.specs.EndsTheorem.{beginOf, path-some, path-few, ends-mesh, ends-kept, begin-below, end-is}
+use Rattle.all_wkb.specs.Promise.{imageAt}
+use Rattle.all_wkb.specs.PartsTheorem as all-images
+use Rattle.voronoi.specs.Maps.{CellWkb, AllWkb}
 use Rattle.voronoi.specs.Walks.{Neighbours, ClippedNeighbours, Path}
 use Rattle.voronoi.specs.Bulk.{AllNeighbours, EndsOfPaths}
 use Rattle.voronoi.specs.laws.Answering.{site-answers, cells-answers, path-answers}
@@ -70,3 +73,9 @@ end-single m s points {o′ = o′} a i h {v} {x′ = x′} {k} {e} {r} room fit
       f .2,
       end-is a i h ∙ ap (λ (j : ℕ). getD path (j - 1) 0) (sym (f .1)) ∙ ap (λ (l : List ℕ). getD l (k - 1) 0) (sym (f .0)) ∙ getD-take k x′ (k - 1) 0 (omega (arith, f .1, some)),
     )
+
+-- what voronoi_cell_wkb writes, with room for it, is what stands between the two starts of the cell
+pub image-single : (v : List Float) (off ix : List ℕ) {st st′ o o′ : List ℕ} {w : ℕ} → AllWkb v off ix st st′ o o′ w 0 → (s : ℕ) → s < length off - 1
+    → {x x′ : List ℕ} {k r : ℕ} → length (imageAt v off ix s) ≤ length x → CellWkb v off ix s x x′ k r
+    → (r ≡ 0) × (take k x′ ≡ take (getD st′ (suc s) 0 - getD st′ s 0) (drop (getD st′ s 0) o′))
+image-single v off ix a = all-images.image-single a

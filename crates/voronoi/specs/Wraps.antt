@@ -12,11 +12,10 @@ use Rattle.bounding_box.specs.Box.{cornersOf}
 use Rattle.bounding_box.specs.declared.BoundingBox.{BoundingBox}
 use Rattle.mesh.specs.Accepted.{Mesh, siteCount}
 use Rattle.layout.specs.Regions.{joined, offsetsFrom}
-use Rattle.definition.specs.Cell.{Entry}
+use Rattle.definition.specs.Cell.{Entry, unmarked}
 use Rattle.definition.specs.Build.{wrappedIn, allWrapped, lostFrom, Built, build}
 use Rattle.definition.specs.Fault.{ok}
 use Rattle.layout.specs.Cleared.{padded}
-use Rattle.definition.specs.Cell.{unmarked}
 use Rattle.admission.specs.Slices.{Slices}
 use Rattle.voronoi.specs.Approach.{PathStops}
 

@@ -3,6 +3,7 @@
 pub mod audits;
 pub mod builds;
 pub mod bulk;
+pub mod cuts;
 pub mod edges;
 pub mod explanations;
 pub mod flips;
@@ -15,4 +16,5 @@ pub mod meshes;
 pub mod plane;
 pub mod roots;
 pub mod sizes;
+pub mod versions;
 pub mod walks;

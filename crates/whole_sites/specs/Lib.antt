@@ -1,3 +1,4 @@
 -- The root of the crate's definitions.
 pub mod Whole
+pub mod ReadBack
 pub mod laws

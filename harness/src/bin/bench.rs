@@ -7,9 +7,9 @@
 //!
 //! Without words: uniform sites and the other shapes. `--traps` adds the two traps of the source at 4,000 and 16,000
 //! sites, `--full` at 65,536 too (the Rust needs minutes there). Times are nanoseconds a site, the best and the median
-//! of the rounds; a ratio is the library's time over the Rust's. The Rust's time is its circumcenters and CellBuilder, with
-//! no check. The library's is its whole public build: check, clearing and circumcenters included, in buffers that
-//! the caller lends and the call clears.
+//! of the rounds. The Rust's time is its circumcenters and CellBuilder, with no check; "freed" with the freeing of what it made, which its caller pays
+//! too. The library's is its whole public build, and its whole cutting: check, clearing and circumcenters included, in buffers that the caller lends
+//! and the call clears. A ratio is the library's best over the Rust's best, freed and not freed.
 
 use harness::bench::*;
 use harness::expect::{Facts, Lengths, Slices};
@@ -46,8 +46,8 @@ fn main() {
         println!("NO LIBRARY with a build to time: the Rust alone");
     }
     println!(
-        "{:32}{:>8}{:>12}{:>12}{:>12}{:>12}{:>12}{:>9}{:>9}",
-        "mesh", "sites", "centers", "Rust best", "median", "lib best", "median", "ratio", "median"
+        "{:28}{:>8}{:>9}{:>10}{:>10}{:>10}{:>10}{:>10}{:>10}{:>7}{:>7}{:>10}{:>10}{:>7}{:>7}",
+        "mesh", "sites", "centers", "Rust", "median", "freed", "median", "build", "median", "/freed", "/not", "cut", "median", "/freed", "/not"
     );
     let mut row = |name: &str, m: &Mesh, area: &Area, most: usize| time(name, m, area, rounds.unwrap_or(most), &mut library);
     for n in [1_000, 10_000, 65_536] {
@@ -79,30 +79,51 @@ fn time(name: &str, m: &Mesh, area: &Area, rounds: usize, library: &mut Library)
     assert!(Facts::of(m).accepted(), "{name}");
     let n = m.count();
     let lent = rust::Lent::new(m);
-    let (mut centers, mut whole, mut ours) = (Vec::new(), Vec::new(), Vec::new());
+    let (mut rust, mut builds, mut cuts) = ([(); 3].map(|_| Vec::new()), Vec::new(), Vec::new());
     for _ in 0..rounds.max(1) {
-        let (c, w) = rust_once(&lent, area);
-        centers.push(c);
-        whole.push(w);
+        for (list, t) in rust.iter_mut().zip(rust_once(&lent, area)) {
+            list.push(t);
+        }
         if library.has("time_build") {
-            ours.push(library_once(m, area, library));
+            builds.push(library_once(m, area, library));
+        }
+        if library.has("time_cut") {
+            cuts.push(cut_once(m, area, library));
         }
     }
-    let (centers, _) = best_and_median(centers, n);
-    let (best, median) = best_and_median(whole, n);
-    print!("{name:32}{n:>8}{centers:>12.1}{best:>12.1}{median:>12.1}");
-    if ours.is_empty() {
-        println!();
-    } else {
-        let (b, d) = best_and_median(ours, n);
-        println!("{b:>12.1}{d:>12.1}{:>9.3}{:>9.3}", b / best, d / median);
+    let [(centers, _), (whole, median), (freed, freed_median)] = rust.map(|list| best_and_median(list, n));
+    print!("{name:28}{n:>8}{centers:>9.1}{whole:>10.1}{median:>10.1}{freed:>10.1}{freed_median:>10.1}");
+    for list in [builds, cuts] {
+        if !list.is_empty() {
+            let (b, d) = best_and_median(list, n);
+            print!("{b:>10.1}{d:>10.1}{:>7.3}{:>7.3}", b / freed, b / whole);
+        }
     }
+    println!();
 }
 
 /// Nanoseconds of one build, taken by the server round the call itself.
 fn library_once(m: &Mesh, area: &Area, library: &mut Library) -> u64 {
     let lent = Slices::fresh(&Lengths::exact(m));
-    library.ask(Call::new("time_build").gives_bits(0).area(area).mesh(m).lent_slices(&lent, &lent)).unwrap_or_else(|e| {
+    asked(library, Call::new("time_build").gives_bits(0).area(area).mesh(m).lent_slices(&lent, &lent))
+}
+
+/// The same of a cutting.
+fn cut_once(m: &Mesh, area: &Area, library: &mut Library) -> u64 {
+    let lent = Slices::fresh(&Lengths::cutting(m));
+    let call = Call::new("time_cut").gives_bits(0).area(area).mesh(m);
+    asked(
+        library,
+        call.lent_indexes(&lent.work, &lent.work)
+            .lent_floats(&lent.floats, &lent.floats)
+            .lent_indexes(&lent.indexes, &lent.indexes)
+            .lent_indexes(&lent.offsets, &lent.offsets)
+            .gives(0),
+    )
+}
+
+fn asked(library: &mut Library, call: Call) -> u64 {
+    library.ask(call).unwrap_or_else(|e| {
         eprintln!("{e}");
         std::process::exit(1)
     })

@@ -13,7 +13,7 @@
 //! The library is served by the command in VORONOI_SERVER (harness/serve.sh makes it).
 
 use harness::cases::Case;
-use harness::library::{Difference, Library};
+use harness::library::{Call, Difference, Library};
 use harness::tally::{Tally, CALLS};
 use harness::words::Words;
 use harness::{audit, compare, flip, grid, mend, plane, reader, roots, rust, text, why};
@@ -142,6 +142,14 @@ fn main() {
         let seen = plane::run(seed, n, &mut library).unwrap_or_else(|d| tell("plane", seed, &d));
         holes.extend(plane::report(&seen));
         println!("\n{n} inputs to each plane function, {} calls of the library compared, 0 differences", library.compared - before);
+    }
+    if library.has("version") {
+        let weights = [10_000, 100, 1];
+        let parts = include_str!("../../../VERSION").trim().split('.').map(|part| part.parse().unwrap_or(u32::MAX / 20_000));
+        let number = parts.zip(weights).map(|(part, weight): (u32, u32)| part * weight).sum();
+        library.put(0, Call::new("version").gives(number)).unwrap_or_else(|d| tell("version", seed, &d));
+        library.flush().unwrap_or_else(|d| tell("version", seed, &d));
+        println!("\nThe archive's version is that of the file VERSION: {number}");
     }
     let n = option("--roots").unwrap_or(10_000);
     if n > 0 && library.has("root_bits") {

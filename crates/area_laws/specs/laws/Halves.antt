@@ -3,8 +3,7 @@ use mathlib.Core.Path.{_≡_, refl, sym, ap, _∙_}
 use mathlib.Core.Logic.{⊎-elim}
 use Prim.{tt}
 use Prim.Native.Nat.{ℕ, suc, _+_, _-_, _*_, _/_, _%_, _^_, _≤_, _<_, compare, Ordering, Ordering·lt, Ordering·eq, Ordering·gt}
-use native.Mathlib.Nat.{le-of-eq, lt-of-lt-of-le, lt-of-le-of-lt, one-mul, suc-mul}
-use native.Mathlib.Nat.{div-lt-iff-lt-mul, mod-eq-of-lt, mul-le-mul-right}
+use native.Mathlib.Nat.{le-of-eq, lt-of-lt-of-le, lt-of-le-of-lt, one-mul, suc-mul, div-lt-iff-lt-mul, mod-eq-of-lt, mul-le-mul-right}
 use native.Mathlib.Omega.{arith}
 use lib.Arith.{lt-one}
 use lib.Dec.{lit<}

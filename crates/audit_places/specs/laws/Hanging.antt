@@ -40,16 +40,16 @@ slot-below p f = omega (arith, slot-small p)
 
 -- ---- hanging
 module _ (slot : ℕ → ℕ) where
-  none-yet : (m : ℕ) → LastIn slot m 0 0
+  pub none-yet : (m : ℕ) → LastIn slot m 0 0
   none-yet m = record { within = omega arith; there = λ k e. absurd (omega arith); after = λ k l h. absurd (omega arith) }
 
-  now-last : (m n : ℕ) → slot n ≡ m → LastIn slot m (suc n) (suc n)
+  pub now-last : (m n : ℕ) → slot n ≡ m → LastIn slot m (suc n) (suc n)
   now-last m n e = record { within = omega arith; there = λ k q. ap slot (same k q) ∙ e; after = λ k l h. absurd (omega arith) }
     where
       same : (k : ℕ) → suc n ≡ suc k → k ≡ n
       same k q = omega arith
 
-  still-last : (m n x : ℕ) → slot n ≢ m → LastIn slot m n x → LastIn slot m (suc n) x
+  pub still-last : (m n x : ℕ) → slot n ≢ m → LastIn slot m n x → LastIn slot m (suc n) x
   still-last m n x h l = record {
     within = omega (arith, l .within);
     there = l .there;

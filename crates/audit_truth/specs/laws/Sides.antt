@@ -80,13 +80,20 @@ module _ (v s o : Float) (hv : HeldWithin 400 v) (hs : HeldWithin 400 s) (ho : H
 both-times : (a b c d k l : ℕ) → a * k ≤ c * l → b * k ≤ d * l → (a + b) * k ≤ (c + d) * l
 both-times a b c d k l h g = le-trans (le-of-eq (add-mul a b k)) (le-trans (add-le-add h g) (le-of-eq (sym (add-mul c d l))))
 
-magnitude-held : {k : ℕ} {x : Float} → HeldWithin k x → HeldWithin k (magnitude x)
+pub magnitude-held : {k : ℕ} {x : Float} → HeldWithin k x → HeldWithin k (magnitude x)
 magnitude-held {k} {x} h = record { held = magnitude-fits x (h .held); bounded = go x (h .bounded) }
   where
     go : (x : Float) → Bounded k x → Bounded k (magnitude x)
     go nan b = b
     go (inf s) b = b
     go (fin s m e) b = b
+
+-- a tolerance that is at most 2 ^ -bits of w, but for what is cut off and two roundings
+pub record FarBy (bits w : ℕ) (far : Float) : Type 0 where
+  pub held : HeldWithin 103 far
+  pub size : ℕ
+  pub most : units far * 2 ^ bits ≤ size + 2 ^ bits
+  pub near : size * (16 * 2 ^ 53) ≤ w * (16 * 2 ^ 53 + 33)
 
 module _ (b : BoundingBox) (h : HeldBox b) where
   wide : HeldWithin 102 (b .right ⊟ b .left)
@@ -114,31 +121,34 @@ module _ (b : BoundingBox) (h : HeldBox b) where
     unfolding farOf widthOf heightOf
     far-units = far-times ((b .right ⊟ b .left) ⊞ (b .bottom ⊟ b .top)) bits B (size-held .held) (held-finite size-held) (held-finite far-held)
 
-    -- by the way from s to o, x and y apart
-    module _ (ox sx oy sy : Float) (h₁ : HeldWithin 400 ox) (h₂ : HeldWithin 400 sx) (h₃ : HeldWithin 400 oy) (h₄ : HeldWithin 400 sy) where
-      first : HeldWithin 401 (magnitude (ox ⊟ sx))
-      first = magnitude-held (sub-held 400 ox sx h₁ h₂ (lit≤ tt))
+    pub box-far : FarBy bits (acrossAndDown b) (farOf b bits)
+    box-far = record { held = far-held; size = units ((b .right ⊟ b .left) ⊞ (b .bottom ⊟ b .top)); most = far-units; near = size-most }
 
-      second : HeldWithin 401 (magnitude (oy ⊟ sy))
-      second = magnitude-held (sub-held 400 oy sy h₃ h₄ (lit≤ tt))
+-- by the way from s to o, x and y apart
+module _ {bits w : ℕ} {far : Float} (F : FarBy bits w far) (ox sx oy sy : Float) (h₁ : HeldWithin 400 ox) (h₂ : HeldWithin 400 sx) (h₃ : HeldWithin 400 oy) (h₄ : HeldWithin 400 sy) where
+  first : HeldWithin 401 (magnitude (ox ⊟ sx))
+  first = magnitude-held (sub-held 400 ox sx h₁ h₂ (lit≤ tt))
 
-      way-held : HeldWithin 402 (magnitude (ox ⊟ sx) ⊞ magnitude (oy ⊟ sy))
-      way-held = add-held 401 (magnitude (ox ⊟ sx)) (magnitude (oy ⊟ sy)) first second (lit≤ tt)
+  second : HeldWithin 401 (magnitude (oy ⊟ sy))
+  second = magnitude-held (sub-held 400 oy sy h₃ h₄ (lit≤ tt))
 
-      way-most : units (magnitude (ox ⊟ sx) ⊞ magnitude (oy ⊟ sy)) * (16 * 2 ^ 53) ≤ (apartOf ox sx + apartOf oy sy) * (16 * 2 ^ 53 + 33)
-      way-most =
-          twice-rounded _ (units (magnitude (ox ⊟ sx)) + units (magnitude (oy ⊟ sy))) (apartOf ox sx + apartOf oy sy)
-          (sum-times (magnitude (ox ⊟ sx)) (magnitude (oy ⊟ sy)) (first .held) (second .held) (held-finite first) (held-finite second) (held-finite way-held))
-          (both-times (units (magnitude (ox ⊟ sx))) (units (magnitude (oy ⊟ sy))) (apartOf ox sx) (apartOf oy sy) (2 ^ 53) (2 ^ 53 + 1) (one ox sx h₁ h₂) (one oy sy h₃ h₄))
-        where
-          one : (x y : Float) → HeldWithin 400 x → HeldWithin 400 y → units (magnitude (x ⊟ y)) * 2 ^ 53 ≤ apartOf x y * (2 ^ 53 + 1)
-          one x y h g = le-trans (le-of-eq (ap (λ (i : ℕ). i * 2 ^ 53) (magnitude-units (x ⊟ y)))) (rounded-times (sub-near 400 x y h g (lit≤ tt)))
+  way-held : HeldWithin 402 (magnitude (ox ⊟ sx) ⊞ magnitude (oy ⊟ sy))
+  way-held = add-held 401 (magnitude (ox ⊟ sx)) (magnitude (oy ⊟ sy)) first second (lit≤ tt)
 
-      pub right-held : HeldWithin 505 (farOf b bits ⊠ (magnitude (ox ⊟ sx) ⊞ magnitude (oy ⊟ sy)))
-      right-held = mul-held 103 402 (farOf b bits) (magnitude (ox ⊟ sx) ⊞ magnitude (oy ⊟ sy)) far-held way-held (lit≤ tt)
+  way-most : units (magnitude (ox ⊟ sx) ⊞ magnitude (oy ⊟ sy)) * (16 * 2 ^ 53) ≤ (apartOf ox sx + apartOf oy sy) * (16 * 2 ^ 53 + 33)
+  way-most =
+      twice-rounded _ (units (magnitude (ox ⊟ sx)) + units (magnitude (oy ⊟ sy))) (apartOf ox sx + apartOf oy sy)
+      (sum-times (magnitude (ox ⊟ sx)) (magnitude (oy ⊟ sy)) (first .held) (second .held) (held-finite first) (held-finite second) (held-finite way-held))
+      (both-times (units (magnitude (ox ⊟ sx))) (units (magnitude (oy ⊟ sy))) (apartOf ox sx) (apartOf oy sy) (2 ^ 53) (2 ^ 53 + 1) (one ox sx h₁ h₂) (one oy sy h₃ h₄))
+    where
+      one : (x y : Float) → HeldWithin 400 x → HeldWithin 400 y → units (magnitude (x ⊟ y)) * 2 ^ 53 ≤ apartOf x y * (2 ^ 53 + 1)
+      one x y h g = le-trans (le-of-eq (ap (λ (i : ℕ). i * 2 ^ 53) (magnitude-units (x ⊟ y)))) (rounded-times (sub-near 400 x y h g (lit≤ tt)))
 
-      pub right : units (farOf b bits ⊠ (magnitude (ox ⊟ sx) ⊞ magnitude (oy ⊟ sy))) * 2 ^ 1074 * 2 ^ bits * (16 * 2 ^ 53)
-          ≤ acrossAndDown b * (apartOf ox sx + apartOf oy sy) * (16 * 2 ^ 53 + 84) + 18 * 2 ^ 53 * (2 ^ bits * (apartOf ox sx + apartOf oy sy)) + 8 * 2 ^ 53 * (2 ^ bits * 2 ^ 1074)
-      right =
-          right-most _ (units (farOf b bits)) (units (magnitude (ox ⊟ sx) ⊞ magnitude (oy ⊟ sy))) _ (acrossAndDown b) (apartOf ox sx + apartOf oy sy) (2 ^ bits) (2 ^ 1074)
-          (product-times (mul-near 103 402 (farOf b bits) (magnitude (ox ⊟ sx) ⊞ magnitude (oy ⊟ sy)) far-held way-held (lit≤ tt))) far-units size-most way-most
+  pub right-held : HeldWithin 505 (far ⊠ (magnitude (ox ⊟ sx) ⊞ magnitude (oy ⊟ sy)))
+  right-held = mul-held 103 402 far (magnitude (ox ⊟ sx) ⊞ magnitude (oy ⊟ sy)) (F .held) way-held (lit≤ tt)
+
+  pub right : units (far ⊠ (magnitude (ox ⊟ sx) ⊞ magnitude (oy ⊟ sy))) * 2 ^ 1074 * 2 ^ bits * (16 * 2 ^ 53)
+      ≤ w * (apartOf ox sx + apartOf oy sy) * (16 * 2 ^ 53 + 84) + 18 * 2 ^ 53 * (2 ^ bits * (apartOf ox sx + apartOf oy sy)) + 8 * 2 ^ 53 * (2 ^ bits * 2 ^ 1074)
+  right =
+      right-most _ (units far) (units (magnitude (ox ⊟ sx) ⊞ magnitude (oy ⊟ sy))) _ (w) (apartOf ox sx + apartOf oy sy) (2 ^ bits) (2 ^ 1074)
+      (product-times (mul-near 103 402 far (magnitude (ox ⊟ sx) ⊞ magnitude (oy ⊟ sy)) (F .held) way-held (lit≤ tt))) (F .most) (F .near) way-most

@@ -21,11 +21,10 @@ use Rattle.shared.specs.Cells.{cellOf}
 use Rattle.definition.specs.declared.Fault.{Fault}
 use Rattle.definition.specs.Fault.{Outcome, ok}
 use Rattle.definition.specs.Build.{finite, Built}
-use Rattle.definition.specs.Cell.{Entry, vertexAt}
+use Rattle.definition.specs.Cell.{Entry, vertexAt, unmarked}
 use Rattle.build_laws.specs.laws.VerticesFinite.{Each, FinitePoint}
 use Rattle.layout.specs.Cleared.{padded}
 use Rattle.outputs.specs.Outputs.{ofBuilt, countsMade}
-use Rattle.definition.specs.Cell.{unmarked}
 use Rattle.build_answers.specs.Promise.{BuildAnswer}
 use Rattle.check_mesh.specs.AtExit.{atExit}
 use Rattle.admission.specs.Slices.{Slices}

@@ -13,8 +13,7 @@ use Rattle.numbers.specs.Numbers.{EMPTY}
 use Rattle.utils.specs.declared.Point.{Point}
 use Rattle.box_sides.specs.Sides.{whichOf}
 use Rattle.bounding_box.specs.declared.BoundingBox.{BoundingBox}
-use Rattle.definition.specs.Cell.{lastOr, Taken, Ins, withCorners, led, insertEdge, vertexAt, EdgeClip, missed, once, twice, Change, leave, enterAt}
-use Rattle.definition.specs.Cell.{enter, crossAt, cross, clipStep}
+use Rattle.definition.specs.Cell.{lastOr, Taken, Ins, withCorners, led, insertEdge, vertexAt, EdgeClip, missed, once, twice, Change, leave, enterAt, enter, crossAt, cross, clipStep}
 use Rattle.definition.specs.Short.{insertAt, link, tookOne, tookTwo}
 use Rattle.definition.specs.laws.Gives.{Gives}
 use Rattle.definition.specs.laws.Puts.{Puts, puts-none, puts-then, puts-plain, puts-crossing, puts-corners}

@@ -13,8 +13,7 @@ use Rattle.line_crossings.specs.declared.Crossing.{Crossing}
 use Rattle.line_crossings.specs.declared.Crossing.the-variants.{None, One, Two}
 use Rattle.vertices.specs.Add.{Added}
 use Rattle.definition.specs.Fault.{refused}
-use Rattle.definition.specs.Cell.{vertexAt, edgeCrossing, EdgeClip, missed, once, twice, clipWith, clipEdge}
-use Rattle.definition.specs.Cell.{Change, leave, enterAt, enter, crossAt, cross, clipStep, inBox}
+use Rattle.definition.specs.Cell.{vertexAt, edgeCrossing, EdgeClip, missed, once, twice, clipWith, clipEdge, Change, leave, enterAt, enter, crossAt, cross, clipStep, inBox}
 use Rattle.definition.specs.laws.Gives.{Gives}
 use Rattle.build_laws.specs.Met.{EdgeBreaks, leavesUnmet, entersUnmet, crossesOnce}
 use Rattle.build_laws.specs.laws.Grown.{Grown, grown-none, grown-then, ClippedTo, clip-edge}

@@ -14,10 +14,8 @@ use Rattle.bounding_box.specs.declared.BoundingBox.{BoundingBox}
 use Rattle.mesh.specs.Mesh.{endOf}
 use Rattle.definition.specs.declared.Fault.{Fault}
 use Rattle.definition.specs.Fault.{Outcome, ok, refused, andThen, atEdge}
-use Rattle.definition.specs.Cell.{EdgeClip, missed, once, twice, Tip, leave, enter}
-use Rattle.definition.specs.Cell.{cross, clipStep, stepTo, stepsTo, clipFrom, firstInside, clipCell}
-use Rattle.definition.specs.Build.{CellState, Extensions, centerAt, centersFrom, extended, extendFrom, finite, hullRing, ringFrom}
-use Rattle.definition.specs.Build.{clipInto, clipHull, isEmpty, clipRest, clipAll}
+use Rattle.definition.specs.Cell.{EdgeClip, missed, once, twice, Tip, leave, enter, cross, clipStep, stepTo, stepsTo, clipFrom, firstInside, clipCell}
+use Rattle.definition.specs.Build.{CellState, Extensions, centerAt, centersFrom, extended, extendFrom, finite, hullRing, ringFrom, clipInto, clipHull, isEmpty, clipRest, clipAll}
 use Rattle.definition.specs.Short.{cellState}
 use Rattle.build_laws.specs.Late.{Refuses, Late, Numbered}
 

@@ -13,12 +13,11 @@ use Rattle.bounding_box.specs.declared.BoundingBox.{BoundingBox}
 use Rattle.mesh.specs.Mesh.{leftmostOf}
 use Rattle.mesh.specs.Accepted.{mesh, Accepted, siteCount}
 use Rattle.iterator.specs.Neighbours.{neighboursOf}
-use Rattle.paths.specs.Path.{distOf, pathEnd}
+use Rattle.paths.specs.Path.{distOf, pathEnd, wholePath, lastOf}
 use Rattle.paths.specs.PathNeeds.{Walkable, Towards}
 use Rattle.paths.specs.laws.Used.{used-sum}
 use Rattle.paths.specs.laws.WholePath.{whole-runs, whole-end}
 use Rattle.paths.specs.PathRule.{PathFrom}
-use Rattle.paths.specs.Path.{wholePath, lastOf}
 use Rattle.definition.specs.Build.{ownersFrom}
 use Rattle.build_laws.specs.laws.Owners.{owner, ready, towards-corner}
 

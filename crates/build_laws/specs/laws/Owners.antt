@@ -18,12 +18,11 @@ use Rattle.bounding_box.specs.Finite.{BoundedBox, corner-bounded}
 use Rattle.bounding_box.specs.declared.BoundingBox.{BoundingBox}
 use Rattle.mesh.specs.Accepted.{Mesh, tableOf, Accepted, siteCount}
 use Rattle.mesh.specs.laws.Facts.{topology, paired, entry-site, tab-length, tab-cases}
-use Rattle.paths.specs.Path.{distOf, hopOf, pathEnd}
+use Rattle.paths.specs.Path.{distOf, hopOf, pathEnd, wholePath, lastOf}
 use Rattle.paths.specs.PathNeeds.{Walkable, Towards}
 use Rattle.paths.specs.laws.Used.{used-sum}
 use Rattle.mesh.specs.laws.Occurs.{occ-below}
 use Rattle.paths.specs.laws.WholePath.{goes-used, whole-end}
-use Rattle.paths.specs.Path.{wholePath, lastOf}
 use Rattle.definition.specs.Build.{ownersFrom}
 use Rattle.definition.specs.laws.Gives.{picked}
 use Rattle.build_laws.specs.Wrapping.{cornerPaths}

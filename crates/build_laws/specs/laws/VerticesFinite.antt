@@ -28,11 +28,9 @@ use Rattle.mesh.specs.Mesh.{endOf, leftmostOf}
 use Rattle.mesh.specs.Accepted.{Mesh, siteCount}
 use Rattle.mesh.specs.Hull.{nextSite}
 use Rattle.definition.specs.Fault.{ok, atEdge}
-use Rattle.definition.specs.Cell.{EdgeClip, missed, once, twice, Change, Tip, RingPart, firstIs, onEdge, edgeCrossing, clipWith}
-use Rattle.definition.specs.Cell.{clipEdge, vertexAt, leave, enterAt, enter, crossAt, cross, clipStep}
+use Rattle.definition.specs.Cell.{EdgeClip, missed, once, twice, Change, Tip, RingPart, firstIs, onEdge, edgeCrossing, clipWith, clipEdge, vertexAt, leave, enterAt, enter, crossAt, cross, clipStep}
 use Rattle.definition.specs.Cell.{stepTo, stepsTo, inBox, firstInside, clipFrom, clipCell}
-use Rattle.definition.specs.Build.{centerAt, centersFrom, finite, extended, Extensions, extendFrom, CellState}
-use Rattle.definition.specs.Build.{clipInto, clipHull, clipRest, clipAll, hullRing, ringFrom, isEmpty, Built, build}
+use Rattle.definition.specs.Build.{centerAt, centersFrom, finite, extended, Extensions, extendFrom, CellState, clipInto, clipHull, clipRest, clipAll, hullRing, ringFrom, isEmpty, Built, build}
 use Rattle.definition.specs.Short.{extensions, cellState}
 use Rattle.definition.specs.laws.Gives.{Gives, gives-then, gives-at, picked}
 

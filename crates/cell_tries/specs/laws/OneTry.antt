@@ -22,21 +22,19 @@ use Rattle.definition.specs.laws.Puts.{placed-below}
 use Rattle.definition.specs.declared.Fault.{Fault}
 use Rattle.definition.specs.Fault.{Outcome, ok, refused, andThen}
 use Rattle.definition.specs.Cell as Def
-use Rattle.definition.specs.Cell.{Entry, RingPart}
+use Rattle.definition.specs.Cell.{Entry, RingPart, unmarked}
 use Rattle.definition.specs.Build.{CellState, clipInto}
 use Rattle.definition.specs.laws.Gives.{Gives}
-use Rattle.definition.specs.Measures.{ValidEntries}
+use Rattle.definition.specs.Measures.{ValidEntries, shareOf}
 use Rattle.definition.specs.declared.Reused.{Reused}
 use Rattle.definition.specs.Reused.{reused, reusedIn, together, Addable}
 use Rattle.definition.specs.laws.Reused.{reused-join, together-none, counts-small}
 use Rattle.definition.specs.Sides.{SidedCorners}
-use Rattle.definition.specs.Measures.{shareOf}
 use Rattle.build_laws.specs.laws.CellsSoFar.{CellsSoFar, clip-into}
 use Rattle.build_laws.specs.laws.AllCells.{all-filled, spare}
 use Rattle.build_laws.specs.laws.Sides.{corners-kept}
 use Rattle.staging.specs.Staging.{Staged}
 use Rattle.clipping.specs.RingWalk.{Steps, ringOf, emptyAt}
-use Rattle.definition.specs.Cell.{unmarked}
 use Rattle.definition.specs.Short.{cellState}
 use Rattle.outputs.specs.laws.Marks.{cell-set}
 use Rattle.cell_tries.specs.CellsInSlices.{plan, Ground, Grounded, Amid, Does}

@@ -2,7 +2,6 @@
 use native.Mathlib.Nat.{lt-of-lt-of-le}
 use borrow.Author.Needs.{needs}
 use Rattle.check_fan.specs.laws.Loops.{fan-whole, fan-broken}
-use borrow.Author.Needs.{needs}
 use Rattle.check_fan.proofs.check_fan.Statement.{statement}
 use Rattle.check_fan.proofs.check_fan.Tie as tie
 

@@ -2,7 +2,6 @@
 use native.Mathlib.Nat.{lt-of-lt-of-le}
 use borrow.Author.Needs.{needs}
 use Rattle.check_fan.specs.laws.Loops.{broken-first}
-use borrow.Author.Needs.{needs}
 use Rattle.check_fan.proofs.first_broken.Statement.{statement}
 use Rattle.check_fan.proofs.first_broken.Tie as tie
 

@@ -2,7 +2,6 @@
 use native.Mathlib.Nat.{lt-of-lt-of-le}
 use borrow.Author.Needs.{needs}
 use Rattle.check_mesh.specs.laws.Steps.{named, paired, border-hull, border-fan, border-whole}
-use borrow.Author.Needs.{needs}
 use Rattle.check_mesh.proofs.check_border.Statement.{statement}
 use Rattle.check_mesh.proofs.check_border.Tie as tie
 

@@ -3,7 +3,6 @@ use borrow.Author.Needs.{needs}
 use Rattle.laws.specs.laws.Decide.{refused, granted}
 use Rattle.mesh.specs.laws.Facts.{few-entries, few-on-hull}
 use Rattle.check_mesh.specs.laws.Steps.{mesh-counts, mesh-room, mesh-coordinate, mesh-topology}
-use borrow.Author.Needs.{needs}
 use Rattle.check_mesh.proofs.check_mesh.Statement.{statement}
 use Rattle.check_mesh.proofs.check_mesh.Tie as tie
 

@@ -2,7 +2,6 @@
 use borrow.Author.Needs.{needs}
 use Rattle.laws.specs.laws.Decide.{first-all}
 use Rattle.laws.specs.laws.Refusals.{offends, all-keep, nothing}
-use borrow.Author.Needs.{needs}
 use Rattle.check_mesh.proofs.check_shape.Statement.{statement}
 use Rattle.check_mesh.proofs.check_shape.Tie as tie
 

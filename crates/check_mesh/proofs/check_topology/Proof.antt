@@ -2,7 +2,6 @@
 use mathlib.Core.Path.{sym, _∙_}
 use borrow.Author.Needs.{needs}
 use Rattle.check_mesh.specs.laws.Steps.{shape-keep, topology-shape, topology-border, topology-whole}
-use borrow.Author.Needs.{needs}
 use Rattle.check_mesh.proofs.check_topology.Statement.{statement}
 use Rattle.check_mesh.proofs.check_topology.Tie as tie
 

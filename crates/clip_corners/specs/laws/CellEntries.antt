@@ -9,10 +9,9 @@ use lib.Seq.{sets}
 use Rattle.laws.specs.Count.{occ}
 use Rattle.laws.specs.laws.Count.{same-cases}
 use Rattle.laws.specs.laws.Stores.{sets-join}
-use Rattle.definition.specs.Cell.{Entry, Ins, lastOr}
+use Rattle.definition.specs.Cell.{Entry, Ins, lastOr, unmarked}
 use Rattle.definition.specs.laws.LastEntry.{last-append}
 use Rattle.clip_corners.specs.CellEntries.{EntriesPut}
-use Rattle.definition.specs.Cell.{unmarked}
 use Rattle.definition.specs.Short.{ins}
 use Rattle.clip_corners.specs.declared.CellSoFar.{CellSoFar}
 

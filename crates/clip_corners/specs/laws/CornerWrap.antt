@@ -11,12 +11,11 @@ use lib.Seq.{sets}
 use borrow.Author.Tests.{eq-eqb, ne-eqb}
 use Rattle.laws.specs.Count.{occ}
 use Rattle.numbers.specs.Numbers.{EMPTY}
-use Rattle.definition.specs.Cell.{Entry, entry, wrapped, crossing, Ins, lastOr, goes, wraps, withCorners, led, vertexAt, insertEdge}
+use Rattle.definition.specs.Cell.{Entry, entry, wrapped, crossing, Ins, lastOr, goes, wraps, withCorners, led, vertexAt, insertEdge, unmarked}
 use Rattle.utils.specs.declared.Point.{Point}
 use Rattle.box_sides.specs.Sides.{whichOf}
 use Rattle.bounding_box.specs.declared.BoundingBox.{BoundingBox}
 use Rattle.clip_corners.specs.CellEntries.{EntriesPut, places}
-use Rattle.definition.specs.Cell.{unmarked}
 use Rattle.definition.specs.Short.{ins, before}
 use Rattle.clip_corners.specs.declared.CellSoFar.{CellSoFar}
 use Rattle.clip_corners.specs.laws.CellEntries.{puts-then}

@@ -18,8 +18,7 @@ use Rattle.vertices.specs.laws.Store.{poured-points, kept-vertex}
 use Rattle.definition.specs.Fault.{Outcome, ok, refused, andThen, atEdge}
 use Rattle.definition.specs.declared.Fault.{Fault}
 use Rattle.definition.specs.Cell as Def
-use Rattle.definition.specs.Cell.{entry, plain, EdgeClip, missed, once, twice, Change, clipStep, clipEdge}
-use Rattle.definition.specs.Cell.{leave, enter, crossAt, cross, inBox, vertexAt, stepTo}
+use Rattle.definition.specs.Cell.{entry, plain, EdgeClip, missed, once, twice, Change, clipStep, clipEdge, leave, enter, crossAt, cross, inBox, vertexAt, stepTo}
 use Rattle.definition.specs.Short.{fault, change, moved}
 use Rattle.definition.specs.Sides.{Sided}
 use Rattle.definition.specs.laws.Gives.{Gives}

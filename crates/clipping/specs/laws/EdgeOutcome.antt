@@ -19,13 +19,12 @@ use Rattle.vertices.specs.Store.{Holds, Leaves}
 use Rattle.vertices.specs.laws.Store.{poured-points, poured-none, kept-vertex}
 use Rattle.vertices.specs.laws.Points.{length-points}
 use Rattle.definition.specs.Fault.{Outcome, ok, refused}
-use Rattle.definition.specs.Cell.{Entry, Taken, Ins, lastOr, insertEdge, Change, EdgeClip, missed, once, twice, clipEdge}
+use Rattle.definition.specs.Cell.{Entry, Taken, Ins, lastOr, insertEdge, Change, EdgeClip, missed, once, twice, clipEdge, unmarked}
 use Rattle.definition.specs.declared.Reused.{Reused}
 use Rattle.definition.specs.Reused.{reused, CountsReused}
 use Rattle.definition.specs.Sides.{Sided, SidedCorners}
 use Rattle.build_laws.specs.laws.SidedEdge.{ClipSided, clip-sided}
 use Rattle.clip_corners.specs.CellEntries.{EntryRoom, EntriesPut, places}
-use Rattle.definition.specs.Cell.{unmarked}
 use Rattle.definition.specs.Short.{link, change, tookOne, tookTwo}
 use Rattle.clip_edges.specs.EdgeClip.{ClipsEdge, VerticesGrown}
 use Rattle.clipping.specs.EdgeOutcome.{EdgeRoom, Alters, Did, Changes}

@@ -20,8 +20,7 @@ use Rattle.definition.specs.Fault.{Outcome, ok, refused, andThen}
 use Rattle.definition.specs.declared.Fault.{Fault}
 use Rattle.definition.specs.Cell as Def
 use Rattle.definition.specs.Short
-use Rattle.definition.specs.Cell.{Entry, Ins, RingPart, inBox, firstInside, stepTo, stepsTo, turned, clipFrom, clipCell}
-use Rattle.definition.specs.Cell.{unmarked}
+use Rattle.definition.specs.Cell.{Entry, Ins, RingPart, inBox, firstInside, stepTo, stepsTo, turned, clipFrom, clipCell, unmarked}
 use Rattle.definition.specs.Short.{fault, ins, part, partsJoined}
 use Rattle.definition.specs.declared.Reused.{Reused}
 use Rattle.definition.specs.Reused.{reused, together, Addable, CountsReused}

@@ -7,7 +7,7 @@ use native.Mathlib.Omega.{arith}
 use lib.ListN.{length, getD, replicate, length-map, List·getD-map}
 use borrow.Author.Tests.{le-leb, lt-ltb}
 use Rattle.printing.specs.Printed.{Shows, InBox, shown}
-use Rattle.export.specs.Printed.{exportText}
+use Rattle.export.specs.Printed.{exportText, exported}
 use Rattle.laws.specs.Binary64.{zero}
 use Rattle.numbers.specs.Numbers.{EMPTY}
 use Rattle.utils.specs.Flat.{flat}
@@ -35,7 +35,6 @@ use Rattle.admission.specs.Slices.{Slices, roomFor, roomOf}
 use Rattle.build_laws.specs.Late.{Refuses, Numbered}
 use Rattle.build_laws.specs.LateRefusals.{build-late}
 use Rattle.build_answers.specs.Success.{zero-succeeds, clipped-sound}
-use Rattle.export.specs.Printed.{exported}
 use Rattle.export.specs.Shown.{MapSized, CanDraw, lines}
 use Rattle.export.specs.laws.CellsInIndexes.{lines-are, can-draw}
 use Rattle.export.specs.laws.Drawing.{same-image, padded-same, placed-named, Drawable}

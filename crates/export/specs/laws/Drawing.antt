@@ -5,10 +5,9 @@ use Prim.Native.Nat.{ℕ, zero, suc, _+_, _*_, _≤_, _<_}
 use native.Mathlib.Omega.{arith}
 use lib.Ieee.{Float}
 use lib.ListN.{length, getD}
-use Rattle.definition.specs.Cell.{Mark, plain, crossing, wrapped, Entry}
+use Rattle.definition.specs.Cell.{Mark, plain, crossing, wrapped, Entry, unmarked}
 use Rattle.definition.specs.Build.{Built}
 use Rattle.definition.specs.Measures.{ValidEntry, ValidEntries}
-use Rattle.definition.specs.Cell.{unmarked}
 use Rattle.wkb.specs.Polygon.{patternAt, patternsOf, patterns, polygon}
 use Rattle.entries.specs.Named.{EntriesNamed}
 use Rattle.wkb.specs.Promise.{image}

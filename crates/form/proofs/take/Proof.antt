@@ -1,11 +1,10 @@
 -- `form::take` meets its contract: after a refusal and for a kind the lists stay; a body's byte is `fill` and `inside`.
-use Rattle.form.specs.laws.Fill.{take-inside}
+use Rattle.form.specs.laws.Fill.{take-inside, take-broken, take-outside}
 use native.Mathlib.Nat.{pos-of-ne-zero}
 use mathlib.Core.Path.{ap, _∙_}
 use denote.Ref.{now}
 use borrow.Author.Tests.{ne-eqb, eq-eqb}
 use Rattle.form_step.specs.Reader.{reading}
-use Rattle.form.specs.laws.Fill.{take-broken, take-outside}
 use borrow.Author.Needs.{needs}
 use Rattle.form.proofs.take.Statement.{statement}
 use Rattle.form.proofs.take.Tie as tie

@@ -14,8 +14,7 @@ use Rattle.utils.specs.Flat.{points}
 use Rattle.bounding_box.specs.declared.BoundingBox.{BoundingBox}
 use Rattle.vertices.specs.laws.Store.{poured-none}
 use Rattle.definition.specs.Fault.{ok, andThen, atEdge}
-use Rattle.definition.specs.Cell.{Entry, entry, plain, lastOr, inBox, firstInside, stepTo, stepsTo, turned, clipCell}
-use Rattle.definition.specs.Cell.{unmarked}
+use Rattle.definition.specs.Cell.{Entry, entry, plain, lastOr, inBox, firstInside, stepTo, stepsTo, turned, clipCell, unmarked}
 use Rattle.definition.specs.Short.{fault, part, tip}
 use Rattle.definition.specs.Reused.{reused}
 use Rattle.clipping.specs.RingWalk.{Steps, ringOf, emptyAt, RingRoom}

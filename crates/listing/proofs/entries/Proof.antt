@@ -9,8 +9,7 @@ use denote.Ref.{now}
 use Rattle.text_parts.specs.Labelled.{entries}
 use Rattle.listing.specs.laws.Listing.{entries-none, entries-more, entries-whole}
 use Rattle.octets.specs.Wrote.{HasRoom}
-use Rattle.octets.specs.laws.Wrote.{lined-fits}
-use Rattle.octets.specs.laws.Wrote.{Lined, lined-start, lined-step, lined-end, wrote-length, wrote-as}
+use Rattle.octets.specs.laws.Wrote.{lined-fits, Lined, lined-start, lined-step, lined-end, wrote-length, wrote-as}
 use Rattle.listing.proofs.entries.Statement.{statement}
 use Rattle.listing.proofs.entries.Tie as tie
 

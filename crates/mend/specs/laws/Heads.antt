@@ -11,8 +11,7 @@ use lib.Seq.{take-at, take-length}
 use Rattle.laws.specs.Pick.{pick}
 use Rattle.octets.specs.Bytes.{each}
 use Rattle.form_step.specs.declared.Form.the-variants.{Sound}
-use Rattle.form.specs.Form.{Outline, box, unclipped, edges, FormMesh, MayBegin, formOf, outlineBytes, siteBytes, triangleBytes, hullBytes, kindOf}
-use Rattle.form.specs.Form.{siteFloats}
+use Rattle.form.specs.Form.{Outline, box, unclipped, edges, FormMesh, MayBegin, formOf, outlineBytes, siteBytes, triangleBytes, hullBytes, kindOf, siteFloats}
 use Rattle.form.specs.laws.Lists.{each-length}
 use Rattle.form_writer.specs.Written.{lists, writtenForm}
 use Rattle.form_writer.specs.FormOf.{writes-form}

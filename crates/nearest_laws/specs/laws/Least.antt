@@ -9,8 +9,7 @@ use Rattle.laws.specs.laws.Decide.{lt-or-ge, eq-or-ne}
 use Rattle.laws.specs.Count.{sumTo}
 use Rattle.numbers.specs.Numbers.{EMPTY}
 use Rattle.mesh.specs.Mesh.{nextOf, startOf, endOf, pairOf, Used}
-use Rattle.mesh.specs.Hull.{nextPlace}
-use Rattle.mesh.specs.Hull.{nextSite, OnHull}
+use Rattle.mesh.specs.Hull.{nextPlace, nextSite, OnHull}
 use Rattle.mesh.specs.Accepted.{Topology}
 use Rattle.mesh.specs.laws.Border.{after-cases, after-lt, hull-border, open-one}
 use Rattle.mesh.specs.laws.Facts.{paired, used-end}

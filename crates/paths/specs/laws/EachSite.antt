@@ -14,10 +14,9 @@ use Rattle.mesh.specs.Accepted.{Mesh, tableOf, Accepted, siteCount}
 use Rattle.mesh.specs.laws.Facts.{topology, paired, tab-unused}
 use Rattle.mesh.specs.laws.WalkSteps.{walk-done}
 use Rattle.iterator.specs.Neighbours.{startsOf, neighboursOf}
-use Rattle.paths.specs.Path.{distOf}
+use Rattle.paths.specs.Path.{distOf, wholePath}
 use Rattle.paths.specs.laws.WholePath.{whole-runs, whole-once, whole-alone}
 use Rattle.paths.specs.PathRule.{PathFrom}
-use Rattle.paths.specs.Path.{wholePath}
 use Rattle.paths.specs.laws.PathNeeds.{ready, towards}
 
 module _ {m : Mesh} (a : Accepted m) (s : ℕ) (below : s < siteCount (m .sites)) (p : Point) (to : okSite p ≡ true) where

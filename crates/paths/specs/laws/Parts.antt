@@ -7,10 +7,8 @@ use native.Mathlib.Numerals.{add-one}
 use lib.Dec.{T}
 use lib.ListN.{length, getD}
 use lib.Ieee.{Float, lt}
-use Rattle.paths.specs.PathRule.{NoneNearer, FirstNearest}
-use Rattle.paths.specs.PathRule.{stops, hops}
+use Rattle.paths.specs.PathRule.{NoneNearer, FirstNearest, stops, hops, PathFrom}
 use Rattle.paths.specs.laws.WholePath.{last-cons}
-use Rattle.paths.specs.PathRule.{PathFrom}
 use Rattle.paths.specs.Path.{lastOf}
 
 module _ {d : ℕ → Float} {nb : ℕ → List ℕ} where

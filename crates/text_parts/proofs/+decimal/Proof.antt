@@ -2,7 +2,7 @@
 -- One digit is a store; of more, the digits before the last are written by the call and the last one after them.
 use mathlib.Core.Path.{sym, ap, subst}
 use mathlib.Core.List.{[], _∷_}
-use Prim.Native.Nat.{_+_, _/_, _%_}
+use Prim.Native.Nat.{_+_, _/_, _%_, ℕ, _<_}
 use native.Mathlib.Omega.{arith}
 use lib.ListN.{length, length-set}
 use denote.Ref.{now}
@@ -10,7 +10,6 @@ use Rattle.text_parts.specs.Text.{decimal as digitsOf}
 use Rattle.text_parts.specs.laws.Decimal.{decimal-one, decimal-more}
 use Rattle.octets.specs.Wrote.{HasRoom}
 use Rattle.octets.specs.laws.Wrote.{wrote-one, wrote-then, wrote-as, fits-left, fits-then}
-use Prim.Native.Nat.{ℕ, _<_}
 use borrow.Fn.Kinds.{In}
 use borrow.Fn.PlainCycle.{Measures, is, falls, and}
 use Rattle.text_parts.proofs.decimal.Reads as decimal

@@ -13,7 +13,9 @@ use Rattle.reasons.specs.declared.Question.{Question}
 use Rattle.reasons.specs.declared.ReasonNumbers.{ReasonNumbers}
 use Rattle.reason_call.specs.Call.{WhyCall}
 use Rattle.voronoi.specs.Plane.{Edges, Centered, Corners, Inside, ExclusivelyInside, WhichEdge, Meets}
+use Rattle.cut_admission.specs.CutSlices.{CutSlices}
 use Rattle.voronoi.specs.Builds.{Build}
+use Rattle.voronoi.specs.Cuts.{Cut}
 use Rattle.voronoi.specs.Audits.{Audit}
 
 module _ {g h : Given} (e : g ≡ h) where
@@ -41,6 +43,9 @@ module _ {g h : Given} (e : g ≡ h) where
 
   pub build-in : {m : Mesh} {old new : Slices} {r : ℕ} → Build m g old new r → Build m h old new r
   build-in {m} {old} {new} {r} b = subst (λ (x : Given). Build m x old new r) e b
+
+  pub cut-in : {m : Mesh} {old new : CutSlices} {r n : ℕ} → Cut m g old new r n → Cut m h old new r n
+  cut-in {m} {old} {new} {r} {n} c = subst (λ (x : Given). Cut m x old new r n) e c
 
   pub why-in : {m : Mesh} {q : Question} {old new : Slices} {t : ReasonNumbers} → WhyCall m g q old new t → WhyCall m h q old new t
   why-in {m} {q} {old} {new} {t} w = subst (λ (x : Given). WhyCall m x q old new t) e w

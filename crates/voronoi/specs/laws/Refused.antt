@@ -18,6 +18,9 @@ use Rattle.definition.specs.Build.{Built}
 use Rattle.build_answers.specs.Promise.{BuildAnswer}
 use Rattle.check_mesh.specs.AtExit.{atExit}
 use Rattle.admission.specs.Slices.{Slices}
+use Rattle.given_box.specs.declared.Given.{Given}
+use Rattle.cut_admission.specs.CutSlices.{CutSlices}
+use Rattle.voronoi.specs.Cuts.{Cut}
 use Rattle.plane_calls.specs.Plane.{bit}
 use Rattle.voronoi.specs.Walks.{Handed}
 use Rattle.bulk_neighbours.specs.Promise.{madeAfter}
@@ -25,7 +28,9 @@ use Rattle.voronoi.specs.Bulk.{AllNeighbours, EndsOfPaths}
 use Rattle.flip_call.specs.Flips.{FlipLists}
 use Rattle.flip_call.specs.FlipsTheorem.{flip-refused}
 use Rattle.voronoi.specs.Flips.{Flip}
-use Rattle.voronoi.specs.Outcomes.{SliceRefused, ListRefused, AllRefused, BuildRefused, FlipRefused}
+use Rattle.all_wkb.specs.Promise.{startsAfter, imagesAfter}
+use Rattle.voronoi.specs.Maps.{AllWkb}
+use Rattle.voronoi.specs.Outcomes.{SliceRefused, ListRefused, AllRefused, ImagesRefused, BuildRefused, CutRefused, FlipRefused}
 
 module _ (r : ℕ) (n : r ≢ 0) where
   work-kept : (m : Mesh) (old : List ℕ) → r < 7 → workAfter m old r ≡ old
@@ -79,7 +84,7 @@ list-refused {m = m} {whole} {o = o} {r = r} a n = record {
   ended = not-ended r n a;
 }
 
-slice-refused : {A : Type 0} (blank : A) (made old new : List A) (r : ℕ) → r ≢ 0 → new ≡ atExit blank made old r → SliceRefused blank old new r
+pub slice-refused : {A : Type 0} (blank : A) (made old new : List A) (r : ℕ) → r ≢ 0 → new ≡ atExit blank made old r → SliceRefused blank old new r
 slice-refused blank made old new r n q = record { kept = λ l. q ∙ after-kept r n blank made old l; cleared = λ l. q ∙ after-cleared r n blank made old l }
 
 pub slices-refused : {N : ℕ → Type 0} {table : List ℕ} {o : Outcome Fault Built} {old new : Slices} {r : ℕ} → BuildAnswer N table o old new r → r ≢ 0 → BuildRefused old new r
@@ -89,6 +94,15 @@ slices-refused a n = record {
   indexes = slice-refused EMPTY _ _ _ _ n (a .indexes);
   offsets = slice-refused EMPTY _ _ _ _ n (a .offsets);
   counts = slice-refused EMPTY _ _ _ _ n (a .counts);
+}
+
+pub cut-refused : {m : Mesh} {g : Given} {old new : CutSlices} {r k : ℕ} → Cut m g old new r k → r ≢ 0 → CutRefused old new r k
+cut-refused {r = r} a n = record {
+  work = slice-refused EMPTY _ _ _ _ n (a .work);
+  vertices = slice-refused R.zero _ _ _ _ n (a .vertices);
+  indexes = slice-refused EMPTY _ _ _ _ n (a .indexes);
+  offsets = slice-refused EMPTY _ _ _ _ n (a .offsets);
+  none = a .counted ∙ rw (ne-eqb r 0 n);
 }
 
 -- what was made of a slice of all sites' lists
@@ -120,3 +134,11 @@ pub lists-refused : (sites : ℕ) (hull : List ℕ) (a : ℕ) {old new : FlipLis
 lists-refused sites hull a {old} {new} {r} x n =
     let k = flip-refused sites hull a old new r x n in
     record { triangles = k .0; halfedges = k .1; table = k .2; work = slice-refused EMPTY _ _ _ _ n (x .work) }
+
+pub images-refused : {v : List Float} {off ix st st′ o o′ : List ℕ} {k r : ℕ} → AllWkb v off ix st st′ o o′ k r → r ≢ 0 → ImagesRefused st st′ o o′ k
+unfolding startsAfter imagesAfter
+images-refused {r = r} a n = record {
+  starts = a .starts ∙ rw (ne-eqb r 0 n);
+  out = a .output .list ∙ rw (ne-eqb r 0 n);
+  written = a .output .place ∙ rw (ne-eqb r 0 n);
+}

@@ -16,12 +16,10 @@ use Rattle.mesh.specs.laws.Facts.{topology, paired, tab-cases}
 use Rattle.mesh.specs.laws.WalkSteps.{walk-done}
 use Rattle.mesh.specs.laws.Degree.{walk-degree}
 use Rattle.mesh.specs.WalkTheorem.{accepted-rounds}
-use Rattle.paths.specs.Path.{distOf}
+use Rattle.paths.specs.Path.{distOf, wholePath}
 use Rattle.paths.specs.laws.Used.{used-sum}
-use Rattle.paths.specs.PathRule.{usedOf}
+use Rattle.paths.specs.PathRule.{usedOf, PathFrom}
 use Rattle.paths.specs.laws.WholePath.{in-use-or-alone, whole-short, whole-alone}
-use Rattle.paths.specs.PathRule.{PathFrom}
-use Rattle.paths.specs.Path.{wholePath}
 use Rattle.paths.specs.PathTheorem.{path-holds}
 use Rattle.paths.specs.laws.PathNeeds.{ready, towards}
 use Rattle.paths.specs.laws.Parts.{rule-some, rule-first, rule-hops, rule-ends}

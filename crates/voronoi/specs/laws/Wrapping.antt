@@ -24,6 +24,7 @@ use Rattle.build_answers.specs.Success.{zero-succeeds, clipped-sound}
 use Rattle.build_answers.specs.laws.Left.{left-vertices, left-indexes, left-offsets, left-counts, slice-point, count-owner, count-before, count-lost}
 use Rattle.voronoi.specs.Builds.{Build}
 use Rattle.voronoi.specs.Wraps.{Wraps}
+use Rattle.voronoi.specs.laws.Hollow as hollow
 use Rattle.voronoi.specs.laws.Walking.{approaches}
 
 module _ (m : Mesh) (g : Given) (fits : Fits g) {old new : Slices} (a : Build m g old new 0) where

@@ -1,0 +1,4 @@
+-- Laws that only proofs use.
+pub mod Sizes
+pub mod Answers
+pub mod Writes

@@ -1,0 +1,5 @@
+pub mod Verdict
+pub mod Sound
+pub mod Rows
+pub mod Steps
+pub mod laws

@@ -1,0 +1,3 @@
+pub mod Sides
+pub mod Chains
+pub mod laws

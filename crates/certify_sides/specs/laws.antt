@@ -1,0 +1,6 @@
+-- Laws that only proofs use.
+pub mod Ends
+pub mod Tallies
+pub mod Slots
+pub mod Hanging
+pub mod Walking

@@ -1,0 +1,7 @@
+-- Laws that only proofs use.
+pub mod Flat
+pub mod Equal
+pub mod Boxed
+pub mod Cancelling
+pub mod Leaving
+pub mod Nearest

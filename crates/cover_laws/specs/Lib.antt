@@ -1,0 +1,11 @@
+pub mod Sums
+pub mod Cover
+pub mod Owner
+pub mod Certified
+pub mod Counts
+pub mod Squares
+pub mod Whole
+pub mod Rows
+pub mod Kinds
+pub mod Certificate
+pub mod laws

@@ -1,0 +1,147 @@
+-- Theorem: where the cutting answers 0, the exact areas of the pieces in its slices add up to exactly the box's (`whole`), and every vertex that a piece names is in the box by exact
+-- comparison (`inside`): on its promise alone, whatever the mesh.
+use mathlib.Core.Path.{_≡_, refl, sym, _∙_}
+use mathlib.Core.Bool.{Bool, true, false}
+use mathlib.Core.List.{List, [], _∷_, _++_, map}
+use mathlib.Core.Logic.{⊎-elim}
+use Prim.Native.Nat.{ℕ, zero, suc, _+_, _*_, _/_, _≤_}
+use native.Mathlib.Omega.{arith}
+use lib.Ieee.{Float}
+use lib.ListN.{length, length-append}
+use Rattle.laws.specs.Binary64 as B
+use Rattle.laws.specs.Pick.{pick}
+use Rattle.laws.specs.Refusals.{Keep}
+use Rattle.laws.specs.laws.Refusals.{finds-none, finds-split}
+use Rattle.numbers.specs.Numbers.{EMPTY, refusedCircumcenter}
+use Rattle.utils.specs.Flat.{pointAt, pour}
+use Rattle.utils.specs.declared.Point.{Point}
+use Rattle.vertices.specs.laws.Points.{length-pour}
+use Rattle.ring_area.specs.Steps.{gainsOf, lossesOf}
+use Rattle.bounding_box.specs.Box.{cornersOf}
+use Rattle.given_box.specs.declared.Given.{Given}
+use Rattle.mesh.specs.Rules.{callRules}
+use Rattle.mesh.specs.Accepted.{Mesh, tableOf, siteCount}
+use Rattle.mesh.specs.laws.Facts.{topology, tab-length}
+use Rattle.centers.specs.Circumcenter.{okCenter}
+use Rattle.check_mesh.specs.laws.AtExit.{exit-made}
+use Rattle.definition.specs.declared.Fault.{Fault}
+use Rattle.definition.specs.Fault.{Outcome, ok, refused}
+use Rattle.definition.specs.Build.{centerAt, centersFrom}
+use Rattle.shared.specs.Cells.{cellOf}
+use Rattle.asking.specs.Asks.{boxRules}
+use Rattle.asking.specs.laws.Asks.{box-answers}
+use Rattle.admission.specs.Admits.{askedRules, Admitted}
+use Rattle.admission.specs.laws.Admits.{asked-finds, call-answers, admitted}
+use Rattle.cut_admission.specs.CutSlices.{CutSlices, cutRoomOf}
+use Rattle.cut_admission.specs.laws.CutRoom.{cut-granted}
+use Rattle.cut_border.specs.Border.{borderNumber}
+use Rattle.layout.specs.Cleared.{clearedFrom}
+use Rattle.cut_sites.specs.Pieces.{Sheet, cutSheet, CutInto, Cuttable}
+use Rattle.cut_theorem.specs.MeshPieces.{numbersFrom, allGains, allLosses}
+use Rattle.cut_fills.specs.laws.Within.{EachInBox}
+use Rattle.cut_fills.specs.SlicesWhole.{few-vertices, slices-whole, slices-inside}
+use Rattle.cut_fit.specs.laws.Room.{roomy-start}
+use Rattle.cut_call.specs.Promise.{centersOf, numberBy, sheetBy, cutNumber, cutOf, CutAnswer}
+use Rattle.cut_call.specs.Steps.{InOrder}
+
+-- as many circumcenters as triangles, or 11
+abbrev Fit : ℕ → Outcome Fault (List Point) → Type 0
+Fit k (ok ws) = length ws ≡ k
+Fit k (refused f) = f .number ≡ refusedCircumcenter
+
+one-more : (k : ℕ) (vs : List Point) (c : Point) (o : Outcome Fault (List Point)) → Fit (length (vs ++ c ∷ []) + k) o → Fit (length vs + suc k) o
+one-more k vs c (ok ws) h = omega (arith, h, length-append vs (c ∷ []))
+one-more k vs c (refused f) h = h
+
+centers-fit : (sites : List Float) (tri : List ℕ) (t k : ℕ) (vs : List Point) → Fit (length vs + k) (centersFrom sites tri t k vs)
+unfolding centersFrom
+centers-fit sites tri t zero vs = omega arith
+centers-fit sites tri t (suc k) vs = go (okCenter c) (one-more k vs c (centersFrom sites tri (suc t) k (vs ++ c ∷ [])) (centers-fit sites tri (suc t) k (vs ++ c ∷ [])))
+  where
+    c : Point
+    c = centerAt sites tri t
+
+    go : (a : Bool) → Fit (length vs + suc k) (centersFrom sites tri (suc t) k (vs ++ c ∷ []))
+        → Fit (length vs + suc k)
+        (pick a (λ _. centersFrom sites tri (suc t) k (vs ++ c ∷ [])) (λ _. refused (record { number = refusedCircumcenter; place = t; from = 0; to = 0 })))
+    go true h = h
+    go false h = refl
+
+module _ (m : Mesh) (g : Given) (order : InOrder g) (old new : CutSlices) (count : ℕ) (answer : CutAnswer m g old new 0 count) where
+  abbrev n : ℕ
+  n = siteCount (m .sites)
+
+  abbrev T : ℕ
+  T = length (m .triangles) / 3
+
+  -- the places of each cell's entries, in the slices at exit
+  abbrev pub piecesOf : List (List Point)
+  piecesOf = map (λ s. map (pointAt (new .vertices)) (cellOf (new .offsets) (new .indexes) s)) (numbersFrom 0 n)
+
+  kept : Keep (callRules m (cutRoomOf m old ≡ true) (boxRules (g .sound))) × (cutNumber m (g .bounds) (old .vertices) ≡ 0)
+  kept = ⊎-elim
+      (λ w. absurd (w .1 refl))
+      (λ w. (w .0, sym (asked-finds (cutNumber m (g .bounds) (old .vertices)) (w .1))))
+      (finds-split (callRules m (cutRoomOf m old ≡ true) (boxRules (g .sound))) (askedRules (cutNumber m (g .bounds) (old .vertices)))
+      (call-answers m (cutRoomOf m old ≡ true) (boxRules (g .sound)) (box-answers (g .sound))) (answer .number))
+
+  through : Admitted m (cutRoomOf m old) (boxRules (g .sound))
+  through = admitted (box-answers (g .sound)) (record { found = finds-none (kept .0) }) refl
+
+  module _ (centers : List Point) (many : length centers ≡ T) (once : borderNumber (g .bounds) (m .sites) (m .triangles) (m .hull) (tableOf m) (pour centers (old .vertices)) ≡ 0) where
+    abbrev v : List Float
+    v = pour centers (old .vertices)
+
+    ready : Cuttable (g .bounds) (m .sites) (m .triangles) (m .halfedges) (tableOf m) v (old .indexes) (old .offsets)
+    ready =
+        let k = cut-granted n T (length (m .hull)) (length (old .work)) (length (old .vertices)) (length (old .indexes)) (length (old .offsets)) (through .roomed) in
+        let ok = through .accepted in
+        let long : length v ≡ length (old .vertices) = length-pour centers (old .vertices) (omega (arith, many, k .vertices)) in
+        record {
+          thirds = omega (arith, ok .counts .same, ok .counts .threes);
+          small = omega (arith, ok .counts .same, ok .counts .few-triangles);
+          few = rw (tab-length (topology ok)) (omega (arith, ok .counts .few-sites));
+          corners = omega (arith, long, k .vertices);
+          one-more = rw (tab-length (topology ok)) (k .one-more);
+          room = roomy-start m (g .bounds) ok (order (through .fit .0)) v (old .indexes) (old .offsets) (omega (arith, long, k .vertices)) (k .entries) once;
+        }
+
+    abbrev made : Sheet
+    made = cutSheet (g .bounds) (m .sites) (m .triangles) (m .halfedges) (tableOf m) v (old .indexes) (old .offsets)
+
+    made-whole : count ≡ made .page .pen .count → new .vertices ≡ clearedFrom (2 * made .page .pen .count) B.zero (made .page .vertices)
+        → new .indexes ≡ clearedFrom (made .page .pen .at) EMPTY (made .page .indexes) → new .offsets ≡ clearedFrom (n + 1) EMPTY (made .offsets)
+        → (allGains piecesOf + lossesOf (cornersOf (g .bounds)) ≡ gainsOf (cornersOf (g .bounds)) + allLosses piecesOf) × EachInBox (g .bounds) piecesOf
+    made-whole counted vertices indexes offsets = (
+      slices-whole (topology (through .accepted)) (g .bounds) (order (through .fit .0)) (m .sites) v (old .indexes) (old .offsets) once ready into,
+      slices-inside (topology (through .accepted)) (g .bounds) (order (through .fit .0)) (m .sites) v (old .indexes) (old .offsets) once ready into,
+    )
+      where
+        few : count ≤ EMPTY
+        few = omega (arith, counted, few-vertices (topology (through .accepted)) (g .bounds) (order (through .fit .0)) (m .sites) v (old .indexes) (old .offsets) once ready)
+
+        into : CutInto n made count (new .vertices) (new .indexes) (new .offsets)
+        into = record { count = counted; small = few; vertices = vertices; indexes = indexes; offsets = offsets }
+
+  abbrev sheet : Outcome Fault (List Point) → Sheet
+  sheet o = sheetBy (g .bounds) (m .sites) (m .triangles) (m .halfedges) (tableOf m) (old .vertices) (old .indexes) (old .offsets) o
+
+  both : (allGains piecesOf + lossesOf (cornersOf (g .bounds)) ≡ gainsOf (cornersOf (g .bounds)) + allLosses piecesOf) × EachInBox (g .bounds) piecesOf
+  unfolding cutNumber cutOf
+  both =
+      go (centersOf (m .sites) (m .triangles)) (centers-fit (m .sites) (m .triangles) 0 T []) (kept .1) (answer .counted)
+      (answer .vertices ∙ exit-made B.zero _ (old .vertices) 0 refl) (answer .indexes ∙ exit-made EMPTY _ (old .indexes) 0 refl) (answer .offsets ∙ exit-made EMPTY _ (old .offsets) 0 refl)
+    where
+      go : (o : Outcome Fault (List Point)) → Fit (0 + T) o → numberBy (g .bounds) (m .sites) (m .triangles) (m .hull) (tableOf m) (old .vertices) o ≡ 0
+          → count ≡ sheet o .page .pen .count → new .vertices ≡ clearedFrom (2 * sheet o .page .pen .count) B.zero (sheet o .page .vertices)
+          → new .indexes ≡ clearedFrom (sheet o .page .pen .at) EMPTY (sheet o .page .indexes) → new .offsets ≡ clearedFrom (n + 1) EMPTY (sheet o .offsets)
+          → (allGains piecesOf + lossesOf (cornersOf (g .bounds)) ≡ gainsOf (cornersOf (g .bounds)) + allLosses piecesOf) × EachInBox (g .bounds) piecesOf
+      go (ok centers) fit number counted vertices indexes offsets =
+          made-whole centers (omega (arith, fit)) number counted vertices indexes offsets
+      go (refused f) fit number counted vertices indexes offsets = absurd (omega (arith, fit, number))
+
+  pub whole : allGains piecesOf + lossesOf (cornersOf (g .bounds)) ≡ gainsOf (cornersOf (g .bounds)) + allLosses piecesOf
+  whole = both .0
+
+  pub inside : EachInBox (g .bounds) piecesOf
+  inside = both .1

@@ -1,0 +1,1 @@
+// No code: what an answer of the cutting is for is in specs/.

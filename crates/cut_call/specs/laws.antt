@@ -1,0 +1,4 @@
+-- Laws that only proofs use.
+pub mod Answer
+pub mod Order
+pub mod Steps

@@ -1,0 +1,4 @@
+-- The root of the crate's definitions.
+pub mod Crossing
+pub mod Meets
+pub mod laws

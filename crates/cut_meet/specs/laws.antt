@@ -1,0 +1,4 @@
+-- Laws that only proofs use.
+pub mod Compare
+pub mod Bounded
+pub mod Calls

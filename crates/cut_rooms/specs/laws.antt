@@ -1,0 +1,4 @@
+-- Laws that only proofs use.
+pub mod Fresh
+pub mod Rings
+pub mod Pieces

@@ -1,0 +1,1 @@
+// No code: that the entries of a piece stand for its places is in specs/.

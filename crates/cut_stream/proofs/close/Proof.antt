@@ -1,0 +1,30 @@
+-- `cut_stream::close`: one after the other.
+use Rattle.cut_stream.specs.Stages.{leftOf, closedHigh, closedLow}
+use Rattle.cut_stream.specs.laws.Handed.{then-asks, then-made}
+use Rattle.cut_stream.specs.laws.Stages.{ready-half, close-high-grows, close-low-grows}
+use borrow.Author.Needs.{needs}
+use denote.Ref.{now}
+use Rattle.cut_stream.proofs.close.Statement.{statement}
+use Rattle.cut_stream.proofs.close.Tie as tie
+
+close-high-requires : tie.Need-close-high-requires
+close-high-requires c κs = let a = c .before .before .before .before .before .args in ready-half
+    (close-low-grows (a .b) (now (a .sites)) (a .centers) (closedHigh (a .b) (now (a .sites)) (a .centers) (leftOf (a .t) (now (a .vertices)) (now (a .indexes)))))
+    (c .before .before .before .before .before .pre)
+
+close-low-requires : tie.Need-close-low-requires
+close-low-requires c κs =
+    let a = c .before .before .before .before .before .before .before .before .before .before .before .before .args in
+    then-asks (λ t. t .next .next) (λ t. closedLow (a .b) (now (a .sites)) (a .centers) t) (c .before .before .before .before .before .before .close-high .ensures)
+    (close-high-grows (a .b) (now (a .sites)) (a .centers) (leftOf (a .t) (now (a .vertices)) (now (a .indexes))))
+    (c .before .before .before .before .before .before .before .before .before .before .before .before .pre)
+
+returns : tie.Need-returns
+returns c = let a = c .before .before .before .before .before .before .before .before .before .before .before .before .before .before .before .before .before .args in then-made
+    (closedLow (a .b) (now (a .sites)) (a .centers)) (c .before .before .before .before .before .before .before .before .before .before .before .close-high .ensures)
+    (c .before .before .before .before .close-low .ensures)
+
+pub close-spec : {M : Type 1} → statement M
+close-spec =
+    tie.close
+    (tie.spec close-high-requires close-low-requires (λ c. search needs) (λ c. search needs) returns)

@@ -1,0 +1,4 @@
+-- The root of the crate's definitions.
+pub mod MeshPieces
+pub mod CutWhole
+pub mod laws

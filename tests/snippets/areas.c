@@ -1,0 +1,2 @@
+/* KEY The area of each gauge's piece, and their total */
+@@
