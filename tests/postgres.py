@@ -5,6 +5,7 @@
 
 Every check prints a line; exit status 1 where one fails. Times are of the backend's own processor time (/proc/PID/schedstat), so that a busy machine does not matter.
 """
+import csv
 import json
 import math
 import os
@@ -133,14 +134,14 @@ def bits():
     """A lent mesh gives the build's answer to the bit; its points alone the same areas."""
     session = database("bits", "yelmuzard")
     for path in ("examples/square.txt", "examples/thirty.txt", "docs/maps/board.txt"):
-        table = subprocess.run([os.path.join(ROOT, "yelmuzard"), "pieces", os.path.join(ROOT, path)], capture_output=True, text=True)
-        must = [line.split(",") for line in table.stdout.splitlines()[1:]]
+        table = subprocess.run([os.path.join(ROOT, "yelmuzard"), "pieces", "--as-voronoice", os.path.join(ROOT, path)], capture_output=True, text=True)
+        must = [(str(k), row["area"], row["geometry"]) for k, row in enumerate(csv.DictReader(table.stdout.splitlines()))]
         points, lists, frame, size = read_mesh(os.path.join(ROOT, path))
         got = {}
         for way, args in ("lent", lists), ("mended", [lists[0], "NULL", "NULL"]):
             got[way] = session.ask(f"SELECT site - 1, area, encode(piece, 'hex') FROM yelmuzard_mesh_pieces({points}, {', '.join(args)}, {frame}) ORDER BY site")
             same = len(must) == len(got[way]) and all(a[0] == b[0] and float(a[1]) == float(b[1]) and a[2].lower() == b[2] for a, b in zip(must, got[way]))
-            check(same, f"{path}, {way}: {len(must)} rows, area and polygon as `./yelmuzard pieces` has them, to the bit")
+            check(same, f"{path}, {way}: {len(must)} rows, area and polygon as `./yelmuzard pieces --as-voronoice` has them, to the bit")
         areas = session.ask(f"SELECT area FROM yelmuzard_pieces({points}, {frame}) ORDER BY site")
         worst = max(abs(float(a[0]) - float(b[1])) for a, b in zip(areas, must)) / size
         check(len(areas) == len(must) and worst <= 1e-12, f"{path}, from its points: each area within {worst:.1e} of the box")

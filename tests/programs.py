@@ -73,7 +73,7 @@ sound = form((-0.5, -0.5, 7.5, 11.5), *mesh)
 assert len(mesh[0]) == 96 and len(mesh[1]) == 154 and len(mesh[3]) == 36
 lines = lambda said: said.decode().splitlines()
 must("cells", (), sound, lambda said: lines(said)[0].startswith("sites 96 triangles 154 vertices ") and len(lines(said)) == 99 and lines(said)[96].startswith("cell 95: "), "96 gauges")
-must("export", (), sound, lambda said: len(lines(said)) == 97 and lines(said)[96].startswith("95,0" "1"), "96 gauges")
+must("export", (), sound, lambda said: len(lines(said)) == 97 and lines(said)[96].startswith("95,0103000000"), "96 gauges")
 must("why", (), sound, lambda said: said == b"no fault\n", "96 gauges")
 must("why", ("95",), sound, lambda said: said == b"no fault\n", "96 gauges")
 must("mend", (), sound, lambda said: said == b"pairs 0 hull 0\n", "96 gauges")

@@ -13,8 +13,8 @@ from .gauges import Gauges
 from .told import FAILED, Told
 
 HELP = {1: "at most 65,472 gauges are taken, and without cutting 3 at least",
-        13: "a corner of a piece lies on a side of the box: make the box larger by an odd fraction, such as .37, or leave --as-voronoice out",
-        14: "make the box smaller, or larger by an odd fraction, such as .37, or leave --as-voronoice out",
+        13: "a corner of a piece lies on a side of the box: make the box larger by an odd fraction, such as .375, or leave --as-voronoice out",
+        14: "make the box smaller, or larger by an odd fraction, such as .375, or leave --as-voronoice out",
         25: "the mesh is no mesh of the plane that turns as it must (docs/RULES.md, \"Terms\", says how to turn one)",
         105: "leave one of them out"}
 
@@ -60,7 +60,7 @@ def audited(found: Pieces, gauges: Gauges, bits: int = 20, against_all: bool = F
         if number is not None and number < len(gauges):
             fault = fault.replace(f"gauge {number}", gauges.called(number), 1)
     if found.lost:
-        lines.append("perhaps a side of a piece runs into a corner of the box: make the box larger by an odd fraction, such as .37")
+        lines.append("perhaps a side of a piece runs into a corner of the box: make the box larger by an odd fraction, such as .375")
     return verdict, lines + [f"FAULT: {fault}"]
 
 
