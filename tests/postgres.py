@@ -1,7 +1,7 @@
 #!/usr/bin/env python3
 """What the PostgreSQL extensions must show beyond their regression tests, on the servers that tests/postgres.sh starts (PGHOST; ports 54321 and 54322).
 
-  tests/postgres.py [SECTION ..]    all sections: bits postgis year reach plans servers life fuzz
+  tests/postgres.py [SECTION ..]    all sections: bits readme postgis year reach plans servers life fuzz
 
 Every check prints a line; exit status 1 where one fails. Times are of the backend's own processor time (/proc/PID/schedstat), so that a busy machine does not matter.
 """
@@ -9,8 +9,10 @@ import csv
 import json
 import math
 import os
+import re
 import subprocess
 import sys
+import tempfile
 import threading
 import time
 
@@ -146,6 +148,21 @@ def bits():
         worst = max(abs(float(a[0]) - float(b[1])) for a, b in zip(areas, must)) / size
         check(len(areas) == len(must) and worst <= 1e-12, f"{path}, from its points: each area within {worst:.1e} of the box")
     session.end()
+
+
+# ---- README's block of SQL
+
+
+def readme():
+    """README's block of SQL, as it stands, on the table that its first command makes."""
+    with open(os.path.join(ROOT, "README.md")) as file:
+        block = re.search(r"(?ms)^```sql\n(.*?)^```$", file.read())[1]
+    database("readme", "postgis").end()
+    with tempfile.TemporaryDirectory() as folder:
+        made = subprocess.run([os.path.join(ROOT, "yelmuzard"), "map", os.path.join(ROOT, "examples/board/gauges.csv"), "--box", "380000", "5810000", "440000", "5850000",
+                               "-o", os.path.join(folder, "pieces.csv")], capture_output=True, text=True)
+        ran = subprocess.run(["psql", "-X", "-q", "-A", "-t", "-v", "ON_ERROR_STOP=1", "-p", "54321", "-d", "readme"], input=block, capture_output=True, text=True, cwd=folder)
+    check(made.returncode == 0 and ran.returncode == 0 and len(ran.stdout.splitlines()) == 60, f"README's SQL on its table: {len(ran.stdout.splitlines())} pieces {ran.stderr.strip()}")
 
 
 # ---- PostGIS beside it
@@ -492,7 +509,7 @@ def fuzz():
     session.end()
 
 
-SECTIONS = {f.__name__: f for f in (bits, postgis, year, reach, plans, servers, life, fuzz)}
+SECTIONS = {f.__name__: f for f in (bits, readme, postgis, year, reach, plans, servers, life, fuzz)}
 
 if __name__ == "__main__":
     if set(sys.argv[1:]) - set(SECTIONS):

@@ -49,7 +49,8 @@ def audited(found: Pieces, gauges: Gauges, bits: int = 20, against_all: bool = F
     except Refusal as refusal:
         raise told(refusal, gauges) from None
     empty = int(((found.offsets[1:] - found.offsets[:-1]) < 3).sum())
-    lost = f"; {found.lost} of its corners lost" if found.lost is not None else ""
+    # by cutting nothing is missing by theorem (docs/PUBLIC.md, voronoi_cut); the audit's exact sum says it too, and sees that no ghost has a piece
+    lost = f"; {found.lost} of its corners lost" if found.lost is not None else ", by proof" if verdict.missing == 0 else ""
     lines = [f"{len(found):,} gauges; {verdict.missing:.3g} of the box is missing{lost}; {empty:,} pieces empty"]
     if verdict.sound:
         lines.append(f"sound to 2^-{bits}: no corner of a piece is outside the box or nearer to {'another gauge' if against_all else 'a neighbour'}, "
