@@ -1,5 +1,5 @@
 -- Theorem: where the cutting answers 0, the exact areas of the pieces in its slices add up to exactly the box's (`whole`), and every vertex that a piece names is in the box by exact
--- comparison (`inside`): on its promise alone, whatever the mesh.
+-- comparison (`inside`): on its promise alone, whatever the mesh. Of the two calls: `cut-whole-by-size`, `cut-whole-by-edges`.
 use mathlib.Core.Path.{_≡_, refl, sym, _∙_}
 use mathlib.Core.Bool.{Bool, true, false}
 use mathlib.Core.List.{List, [], _∷_, _++_, map}
@@ -18,7 +18,9 @@ use Rattle.utils.specs.declared.Point.{Point}
 use Rattle.vertices.specs.laws.Points.{length-pour}
 use Rattle.ring_area.specs.Steps.{gainsOf, lossesOf}
 use Rattle.bounding_box.specs.Box.{cornersOf}
+use Rattle.bounding_box.specs.declared.BoundingBox.{BoundingBox}
 use Rattle.given_box.specs.declared.Given.{Given}
+use Rattle.given_box.specs.Given.{bySize, byEdges}
 use Rattle.mesh.specs.Rules.{callRules}
 use Rattle.mesh.specs.Accepted.{Mesh, tableOf, siteCount}
 use Rattle.mesh.specs.laws.Facts.{topology, tab-length}
@@ -43,6 +45,15 @@ use Rattle.cut_fills.specs.SlicesWhole.{few-vertices, slices-whole, slices-insi
 use Rattle.cut_fit.specs.laws.Room.{roomy-start}
 use Rattle.cut_call.specs.Promise.{centersOf, numberBy, sheetBy, cutNumber, cutOf, CutAnswer}
 use Rattle.cut_call.specs.Steps.{InOrder}
+use Rattle.cut_call.specs.laws.Order.{size-ordered, edges-ordered}
+
+-- the places of each cell's entries, in the slices at exit
+abbrev pub piecesIn : Mesh → CutSlices → List (List Point)
+piecesIn m new = map (λ s. map (pointAt (new .vertices)) (cellOf (new .offsets) (new .indexes) s)) (numbersFrom 0 (siteCount (m .sites)))
+
+-- the exact areas of all of them are together exactly the box's: what is added and what is taken off, as ring_area has it
+abbrev pub FillsBox : BoundingBox → List (List Point) → Type 0
+FillsBox b ps = allGains ps + lossesOf (cornersOf b) ≡ gainsOf (cornersOf b) + allLosses ps
 
 -- as many circumcenters as triangles, or 11
 abbrev Fit : ℕ → Outcome Fault (List Point) → Type 0
@@ -74,9 +85,8 @@ module _ (m : Mesh) (g : Given) (order : InOrder g) (old new : CutSlices) (count
   abbrev T : ℕ
   T = length (m .triangles) / 3
 
-  -- the places of each cell's entries, in the slices at exit
-  abbrev pub piecesOf : List (List Point)
-  piecesOf = map (λ s. map (pointAt (new .vertices)) (cellOf (new .offsets) (new .indexes) s)) (numbersFrom 0 n)
+  abbrev piecesOf : List (List Point)
+  piecesOf = piecesIn m new
 
   kept : Keep (callRules m (cutRoomOf m old ≡ true) (boxRules (g .sound))) × (cutNumber m (g .bounds) (old .vertices) ≡ 0)
   kept = ⊎-elim
@@ -111,7 +121,7 @@ module _ (m : Mesh) (g : Given) (order : InOrder g) (old new : CutSlices) (count
 
     made-whole : count ≡ made .page .pen .count → new .vertices ≡ clearedFrom (2 * made .page .pen .count) B.zero (made .page .vertices)
         → new .indexes ≡ clearedFrom (made .page .pen .at) EMPTY (made .page .indexes) → new .offsets ≡ clearedFrom (n + 1) EMPTY (made .offsets)
-        → (allGains piecesOf + lossesOf (cornersOf (g .bounds)) ≡ gainsOf (cornersOf (g .bounds)) + allLosses piecesOf) × EachInBox (g .bounds) piecesOf
+        → FillsBox (g .bounds) piecesOf × EachInBox (g .bounds) piecesOf
     made-whole counted vertices indexes offsets = (
       slices-whole (topology (through .accepted)) (g .bounds) (order (through .fit .0)) (m .sites) v (old .indexes) (old .offsets) once ready into,
       slices-inside (topology (through .accepted)) (g .bounds) (order (through .fit .0)) (m .sites) v (old .indexes) (old .offsets) once ready into,
@@ -126,7 +136,7 @@ module _ (m : Mesh) (g : Given) (order : InOrder g) (old new : CutSlices) (count
   abbrev sheet : Outcome Fault (List Point) → Sheet
   sheet o = sheetBy (g .bounds) (m .sites) (m .triangles) (m .halfedges) (tableOf m) (old .vertices) (old .indexes) (old .offsets) o
 
-  both : (allGains piecesOf + lossesOf (cornersOf (g .bounds)) ≡ gainsOf (cornersOf (g .bounds)) + allLosses piecesOf) × EachInBox (g .bounds) piecesOf
+  both : FillsBox (g .bounds) piecesOf × EachInBox (g .bounds) piecesOf
   unfolding cutNumber cutOf
   both =
       go (centersOf (m .sites) (m .triangles)) (centers-fit (m .sites) (m .triangles) 0 T []) (kept .1) (answer .counted)
@@ -135,13 +145,20 @@ module _ (m : Mesh) (g : Given) (order : InOrder g) (old new : CutSlices) (count
       go : (o : Outcome Fault (List Point)) → Fit (0 + T) o → numberBy (g .bounds) (m .sites) (m .triangles) (m .hull) (tableOf m) (old .vertices) o ≡ 0
           → count ≡ sheet o .page .pen .count → new .vertices ≡ clearedFrom (2 * sheet o .page .pen .count) B.zero (sheet o .page .vertices)
           → new .indexes ≡ clearedFrom (sheet o .page .pen .at) EMPTY (sheet o .page .indexes) → new .offsets ≡ clearedFrom (n + 1) EMPTY (sheet o .offsets)
-          → (allGains piecesOf + lossesOf (cornersOf (g .bounds)) ≡ gainsOf (cornersOf (g .bounds)) + allLosses piecesOf) × EachInBox (g .bounds) piecesOf
+          → FillsBox (g .bounds) piecesOf × EachInBox (g .bounds) piecesOf
       go (ok centers) fit number counted vertices indexes offsets =
           made-whole centers (omega (arith, fit)) number counted vertices indexes offsets
       go (refused f) fit number counted vertices indexes offsets = absurd (omega (arith, fit, number))
 
-  pub whole : allGains piecesOf + lossesOf (cornersOf (g .bounds)) ≡ gainsOf (cornersOf (g .bounds)) + allLosses piecesOf
+  pub whole : FillsBox (g .bounds) piecesOf
   whole = both .0
 
   pub inside : EachInBox (g .bounds) piecesOf
   inside = both .1
+
+-- ---- of the two calls: a box by its center and size or by its edges is in order where rule 3 holds
+pub cut-whole-by-size : (m : Mesh) (c : Point) (w h : Float) {old new : CutSlices} {count : ℕ} → CutAnswer m (bySize c w h) old new 0 count → FillsBox (bySize c w h .bounds) (piecesIn m new)
+cut-whole-by-size m c w h a = whole m (bySize c w h) (size-ordered c w h) _ _ _ a
+
+pub cut-whole-by-edges : (m : Mesh) (l t r b : Float) {old new : CutSlices} {count : ℕ} → CutAnswer m (byEdges l t r b) old new 0 count → FillsBox (byEdges l t r b .bounds) (piecesIn m new)
+cut-whole-by-edges m l t r b a = whole m (byEdges l t r b) (edges-ordered l t r b) _ _ _ a
