@@ -41,11 +41,11 @@ made=$root/target/harness/release
 stored() {
     "$made/oracle" --check "$here"/meshes/*.txt "$here"/why/*.txt "$here"/mend/*.txt
     texts=0
-    for text in "$root"/examples/*.txt "$here"/meshes/*.txt "$root"/tests/cells/*.txt; do
-        "$made/oracle" --listing "$text" | cmp - "$root/tests/cells/$(basename "$text" .txt).out"
+    for text in "$root"/examples/*.txt "$here"/meshes/*.txt "$root"/tests/programs/cells/*.txt; do
+        "$made/oracle" --listing "$text" | cmp - "$root/tests/programs/cells/$(basename "$text" .txt).out"
         texts=$((texts + 1))
     done
-    echo "listings: the $texts of tests/cells are what the Rust gives"
+    echo "listings: the $texts of tests/programs/cells are what the Rust gives"
     "$made/stored" check "$root/crates/test_replay/stdin" "$here"/meshes/*.txt
 }
 

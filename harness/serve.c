@@ -133,6 +133,14 @@ static void audit_by_edges(argument *a)
 }
 #endif
 
+#ifdef HAS_certificates
+static void certify(argument *a) { N(0) = voronoi_certify(BOX(1), F(5), F(6), U(7), U(8), N(9), U(10), PU(11), PU(12), PU(13), PU(14)); }
+static void certify_by_edges(argument *a)
+{
+    N(0) = voronoi_certify_by_edges(BOX(1), F(5), F(6), U(7), U(8), N(9), U(10), PU(11), PU(12), PU(13), PU(14));
+}
+#endif
+
 #ifdef HAS_cutting
 #define PIECES(i) U(i), F(i + 1), U(i + 2), U(i + 3), PU(i + 4)
 static void cut(argument *a) { N(0) = voronoi_cut(BOX(1), MESH(5), PIECES(9)); }
@@ -251,6 +259,9 @@ static const struct {
 #endif
 #ifdef HAS_audits
     {"audit", audit}, {"audit_by_edges", audit_by_edges},
+#endif
+#ifdef HAS_certificates
+    {"certify", certify}, {"certify_by_edges", certify_by_edges},
 #endif
 #ifdef HAS_cutting
     {"cut", cut}, {"cut_by_edges", cut_by_edges}, {"time_cut", time_cut},

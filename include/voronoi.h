@@ -1,6 +1,6 @@
 /* The C interface of libvoronoi.a (`./yelmuzard archive` makes it, for x86-64 Linux; with --native for the machine's own processor). README.md
- * shows a whole call, voronoi_pieces.h has structs over these calls, docs/RULES.md has the
- * meaning of every number, limit and term, docs/PUBLIC.md what is promised of each call.
+ * shows a whole call, voronoi_pieces.h has structs over these calls, docs/use/RULES.md has the
+ * meaning of every number, limit and term, docs/trust/PUBLIC.md what is promised of each call.
  *
  * A call that can refuse answers a number, 0 where it accepts. A slice is a pointer and a length in elements; one of length 0
  * may have any pointer but NULL. Lent slices must not overlap; numbers lent by pointer must be distinct, and none may be NULL. No call has
@@ -9,7 +9,8 @@
  *
  * Threads: a call reads and writes what it is lent and nothing else; it keeps no state, allocates nothing, and sets no flag or errno.
  * Calls may run at the same time wherever none is lent to be written what another is lent at all.
- * Stack: 9.0 kB for an audit, 3.4 kB at most for any other call, by the frames along the deepest chain of calls (x86-64); the audit's as measured
+ * Stack: 19.4 kB for a build and for a reason (voronoi_why), 9.0 kB for an audit, 7.9 kB for cutting, 3.4 kB at most for any other call, by the
+ * frames along the deepest chain of calls (x86-64); the audit's as measured
  * too, on four sites as on 65,536. Nothing recurses with the mesh.
  *
  * Cost, for N sites, T triangles and H hull sites: every call on a mesh checks the whole mesh first, N + T steps (some 5 ms at 65,536
@@ -31,6 +32,9 @@
  *   areas                    the offsets and the entries, some tenth of a microsecond to one for each entry; no mesh, so no check
  *   audit                    the offsets, some microseconds for each entry, the entries times the sites that each piece is held against, and for sites
  *                            at one place usually N times N / 1,024 look-ups, at worst N times N / 2; no mesh, so no check
+ *   certify                  the offsets, some tenths of a microsecond for each entry and some two microseconds for each site. At worst the entries
+ *                            times the sites, where sites stand on a circle, and the square of the entries or of the sites, where all sides or all
+ *                            sites fall into one slot of the search; no mesh, so no check
  *   mend                     N + T, the check of what was mended included; a site of any degree
  *   read_form, reader_feed   the bytes; no mesh is checked. reader_begin the words of the state, reader_end a fixed number
  *   grid_check               N + T, the check of the mesh included
@@ -39,7 +43,7 @@
  *   flip                     T, to see whether the opposite sites are joined; the change itself the half-edges that end at two sites
  *   build                    usually N + T (0.3 to 0.9 microseconds a site). At worst the square of N: an added point is searched for among
  *                            all those added before (65,536 sites on a circle: 20 s), and a cell that stays empty is tried again from each
- *                            of its half-edges (one site with 65,535 neighbours: 5 minutes). docs/SPEED.md has the times.
+ *                            of its half-edges (one site with 65,535 neighbours: 5 minutes). docs/work/SPEED.md has the times.
  *   why                      as build; where the mesh is refused by 6 to 10 the check is made twice; for a pair the first site's neighbours, and the
  *                            product of the lengths of two cells for each of its first and last */
 #ifndef VORONOI_H
@@ -54,11 +58,11 @@ extern "C" {
 
 /* ---- the version (the file VERSION; CHANGELOG.md says what changed) */
 
-#define VORONOI_VERSION "0.23.0"
+#define VORONOI_VERSION "0.24.0"
 #define VORONOI_VERSION_MAJOR 0
-#define VORONOI_VERSION_MINOR 23
+#define VORONOI_VERSION_MINOR 24
 #define VORONOI_VERSION_PATCH 0
-#define VORONOI_VERSION_NUMBER 2300 /* 10000 times the first, 100 times the second, and the third */
+#define VORONOI_VERSION_NUMBER 2400 /* 10000 times the first, 100 times the second, and the third */
 
 /* VORONOI_VERSION_NUMBER of the header that the archive was made with. Refuses nothing. A caller whose header has another one must not call further:
  * the arguments of a call may have changed. */
@@ -87,6 +91,9 @@ uint32_t voronoi_version(void);
 #define VORONOI_CUT_VERTEX_ROOM(T, H) (7 * (size_t)(T) + 2 * (size_t)(H) + 4)
 #define VORONOI_CUT_VERTEX_NUMBERS(T, H) (2 * VORONOI_CUT_VERTEX_ROOM(T, H))
 #define VORONOI_CUT_INDEX_ROOM(T, H) (16 * (size_t)(T) + 11 * (size_t)(H))
+
+/* What a certificate must be lent of work, for N sites and M entries, the length of indexes: three words to an entry, two to a site, and 64. */
+#define VORONOI_CERTIFY_ROOM(N, M) (3 * (size_t)(M) + 2 * (size_t)(N) + 64)
 
 /* What the neighbours of all sites must be lent, for T triangles, H hull sites and N sites: starts, out, and VORONOI_WORK_ROOM. The room of out always suffices. */
 #define VORONOI_START_ROOM(N) ((size_t)(N) + 1)
@@ -123,7 +130,7 @@ uint32_t voronoi_version(void);
 #define VORONOI_COUNT_REUSED 6
 #define VORONOI_COUNTS 9
 
-/* ---- refusals, in the order in which they are tried (16 after 10, 17 first, 18 before 2, 19 after 7, 21 first, 22 in the place of 6, 23 after 10); docs/RULES.md says of each what to do about it */
+/* ---- refusals, in the order in which they are tried (16 after 10, 17 first, 18 before 2, 19 after 7, 21 first, 22 in the place of 6, 23 after 10); docs/use/RULES.md says of each what to do about it */
 
 #define VORONOI_ACCEPTED 0
 #define VORONOI_REFUSED_COUNT 1         /* a count breaks its limit, an odd site list, triangles not in threes, half-edges not as many */
@@ -149,7 +156,7 @@ uint32_t voronoi_version(void);
 #define VORONOI_REFUSED_POINTS 21       /* the bytes are no MultiPoint (voronoi_read_multipoint alone) */
 #define VORONOI_REFUSED_GRID 22         /* a whole coordinate is beyond the profile (the calls on the grid alone) */
 #define VORONOI_REFUSED_FLIP 23         /* the half-edge cannot be flipped, or the table is not the leftmost table (voronoi_flip alone) */
-#define VORONOI_REFUSED_CORNER 24       /* a vertex that an entry names is not finite or above 2^400 (areas and audits) */
+#define VORONOI_REFUSED_CORNER 24       /* a vertex that an entry names is not finite or above 2^400 (areas, audits, certificates) */
 #define VORONOI_REFUSED_BORDER 25       /* the border does not turn exactly once, the right way (the calls that cut) */
 
 /* A sentence for each number, with no full stop; "no such number" for any other. It is never NULL. */
@@ -265,7 +272,7 @@ uint32_t voronoi_project_ray_by_edges(double left, double top, double right, dou
  * (bx - ax) * (cy - ay) - (by - ay) * (cx - ax) is below 0. The arrays of delaunator (Rust, JavaScript) are so and fit as they are. Where y
  * points up this is clockwise: the triangles of SciPy, CGAL and others that run counter-clockwise there must be turned, or y be negated.
  * THE WINDING IS NOT CHECKED. A mesh wound the other way is accepted, and a clipped build of it answers 0 with wrong cells, often with no
- * corner lost. `tools/mesh` warns of it; docs/RULES.md, "Terms", shows how to turn a mesh.
+ * corner lost. `tools/mesh` warns of it; docs/use/RULES.md, "Terms", shows how to turn a mesh.
  *
  * Answers 0, or the first of 1, 2, 6, 7, 8, 9, 10 whose rule is broken. After 0, work holds for each site its leftmost half-edge (of those
  * that end there the unpaired one if there is one, else the lowest; VORONOI_EMPTY where none ends), then VORONOI_EMPTY to its end. After 1,
@@ -349,8 +356,8 @@ uint32_t voronoi_ends(const double *sites, size_t sites_len, const uint32_t *tri
  *   offsets   where each site's cell begins in indexes, and where the last one ends
  *   counts    the number of vertices; the owners of the four corners as they were found; how many corners are lost: corner c is vertex
  *             T + c of T triangles, and is lost exactly if that number stands in no cell. Areas that do not add up to the box may come
- *             with none lost, and now and then a total is right with one lost (docs/RULES.md, "Lost corners"). Then how many points were
- *             reused: extensions, first crossings and second crossings that are a corner or a point added before (docs/RULES.md,
+ *             with none lost, and now and then a total is right with one lost (docs/use/RULES.md, "Lost corners"). Then how many points were
+ *             reused: extensions, first crossings and second crossings that are a corner or a point added before (docs/use/RULES.md,
  *             "Reused points"). The number of vertices is T + 4 and the points added; added and reused points are all that the build
  *             was to add */
 
@@ -369,7 +376,7 @@ uint32_t voronoi_build_by_edges(double left, double top, double right, double bo
                                 uint32_t *counts, size_t counts_len);
 
 /* ---- pieces by cutting
- * The ring of each site, its triangles' circumcenters and on the hull two ends at infinity, cut by the four sides of the box in turn (docs/RULES.md,
+ * The ring of each site, its triangles' circumcenters and on the hull two ends at infinity, cut by the four sides of the box in turn (docs/use/RULES.md,
  * "Pieces by cutting"). Slices as a build's: vertices (circumcenters, the four corners, then points), indexes and offsets, so that voronoi_areas,
  * voronoi_audit, voronoi_cell and voronoi_cell_wkb take them as they are; *count vertices, 0 when refused. A point on the box's side between two pieces
  * may have a number in each. Tries 1, 2, 3, 6, 7 to 10, 11, 25; 12 to 14 cannot come. After 1 to 6 nothing lent changes; after 7 to 11 and 25 every lent
@@ -427,8 +434,8 @@ uint32_t voronoi_areas(const double *vertices, size_t vertices_len, const uint32
                        size_t indexes_len, double *areas, size_t areas_len);
 
 /* ---- the audit
- * Whether pieces are what they should be, from the pieces alone: vertices, offsets and indexes as a build leaves them (the offsets without
- * their cleared tail), or as any other program makes them. 2^-bits is the tolerance, bits at most 52; VORONOI_AUDIT_BITS suits builds. *kind
+ * Five tests of pieces, from the pieces alone; the certificate is voronoi_certify: this one passes some wrong sheets (docs/use/AUDIT.md). vertices, offsets
+ * and indexes are as a build leaves them (the offsets without their cleared tail), or as any other program makes them. 2^-bits is the tolerance, bits at most 52; VORONOI_AUDIT_BITS suits builds. *kind
  * is the first of these that holds, of the box with the edges l, t, r, b and limit = (r - l) (b - t) / 2^bits, exact:
  *
  *   VORONOI_AUDIT_RING      a ring does not run once round, the right way: with its corners v0, v1, .., one of the triangles v0 vi vi+1 or
@@ -462,6 +469,41 @@ uint32_t voronoi_audit_by_edges(double left, double top, double right, double bo
                                 const uint32_t *indexes, size_t indexes_len, const uint32_t *starts, size_t starts_len,
                                 const uint32_t *others, size_t others_len, uint32_t bits, uint32_t *kind, uint32_t *site,
                                 uint32_t *vertex, uint32_t *other, double *missing);
+
+/* ---- the certificate
+ * Whether pieces are the true ones, from the box, the sites and the pieces alone: vertices, offsets and indexes as cutting or a build leaves them, or as
+ * any other program makes them (offsets without their cleared tail; indexes too, as VORONOI_CERTIFY_ROOM grows with their length). Corners are places:
+ * vertices of equal coordinates are one, and -0 is 0. A side is two corners of a ring one after the other, the last and the first included. It is along
+ * an edge where both its ends lie on the same edge of the box. far is 2^-bits of the largest magnitude of the four edges, in floats; bits at most 52;
+ * VORONOI_CERTIFY_BITS suits pieces by cutting. *kind is the first of these that holds:
+ *
+ *   VORONOI_CERTIFY_OUTSIDE  a corner of a piece is outside the box; *site the lowest, *vertex its first such
+ *   VORONOI_CERTIFY_SIDE     a side that is not along an edge comes more often, over all rings, than the same side back; *site the lowest that has
+ *                            one, *vertex where its first such side starts
+ *   VORONOI_CERTIFY_BORDER   the sides along the top edge that start at the top right corner, less those that end there, are not exactly one
+ *   VORONOI_CERTIFY_NEARER   a corner v of the piece of s is nearer to another site o: the test of VORONOI_AUDIT_NEARER, against all sites and above
+ *                            far (|ox - sx| + |oy - sy|); *site the lowest, *vertex its first such, *other the first such o
+ *   VORONOI_CERTIFY_TWIN     two sites stand at one place; *site the lowest that has one before it, *other the first before it
+ *   VORONOI_CERTIFY_SOUND    none of these: every place of the box that is nearer to one site than to any other by more than the tolerance lies in the
+ *                            piece of that site, exactly once, and in no other piece (docs/trust/PUBLIC.md, `certified`)
+ *
+ * Numbers that a kind does not name are VORONOI_EMPTY. Tries 1 on the number of sites, odd lists, bits above 52 and more than 2^24 entries, 2 on the
+ * work, 3, 6, 16, 18, 24. The four numbers are always written, VORONOI_EMPTY where it is refused. After 0, 16, 18 and 24 `work` is VORONOI_EMPTY
+ * throughout, after 1 to 6 as it was. */
+#define VORONOI_CERTIFY_BITS 32
+#define VORONOI_CERTIFY_SOUND 0
+#define VORONOI_CERTIFY_OUTSIDE 1
+#define VORONOI_CERTIFY_SIDE 2
+#define VORONOI_CERTIFY_BORDER 3
+#define VORONOI_CERTIFY_NEARER 4
+#define VORONOI_CERTIFY_TWIN 5
+uint32_t voronoi_certify(double cx, double cy, double width, double height, const double *sites, size_t sites_len, const double *vertices,
+                         size_t vertices_len, const uint32_t *offsets, size_t offsets_len, const uint32_t *indexes, size_t indexes_len,
+                         uint32_t bits, uint32_t *work, size_t work_len, uint32_t *kind, uint32_t *site, uint32_t *vertex, uint32_t *other);
+uint32_t voronoi_certify_by_edges(double left, double top, double right, double bottom, const double *sites, size_t sites_len,
+                                  const double *vertices, size_t vertices_len, const uint32_t *offsets, size_t offsets_len,
+                                  const uint32_t *indexes, size_t indexes_len, uint32_t bits, uint32_t *work, size_t work_len,
+                                  uint32_t *kind, uint32_t *site, uint32_t *vertex, uint32_t *other);
 
 /* ---- why
  * The one reason: what is wrong, and nothing that stands earlier in the order is. Tries 1, 2, 3, 4 on each site asked about, 6, 7 to 10, 11, and 12
@@ -524,7 +566,7 @@ uint32_t voronoi_mend(const double *sites, size_t sites_len, const uint32_t *tri
 
 /* ---- forms that arrive in parts
  * A reader is begun, fed the form in blocks cut anywhere (0 bytes too), and ended; between the calls the caller keeps its state, and nobody
- * else. However a form is cut, number, byte, counts and lists are those that voronoi_read_form gives of the whole. docs/RULES.md, "The
+ * else. However a form is cut, number, byte, counts and lists are those that voronoi_read_form gives of the whole. docs/use/RULES.md, "The
  * form", says what a form is; the box is not tried, nor is the mesh: what was read is lent to voronoi_build or voronoi_check.
  * state: VORONOI_READER_WORDS words or more; begin sets the others to 0, no other call touches them. Lists: VORONOI_FORM_BOX (centre x, y, width,
  * height; by edges left, top, right, bottom), VORONOI_FORM_SITES (x, y, ..), VORONOI_FORM_TRIANGLES, VORONOI_FORM_HALFEDGES,

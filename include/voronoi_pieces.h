@@ -8,7 +8,7 @@
 
 #include "voronoi.h"
 
-/* A box by its centre and size, or by its edges: by edges two boxes that share one meet there to the bit (README.md, "Neighbouring boxes"). */
+/* A box by its centre and size, or by its edges: by edges two boxes that share one meet there to the bit (docs/use/SHELL.md, "Neighbouring boxes"). */
 typedef struct {
     double cx, cy, width, height;
 } voronoi_frame;
@@ -118,7 +118,6 @@ static inline uint32_t voronoi_build_pieces_by_edges(voronoi_edges edges, const 
 }
 
 /* ---- cutting: pieces that add up to the box. The block has rooms of its own; of the counts only that of the vertices is written. */
-#ifdef VORONOI_CUT_VERTEX_ROOM
 
 static inline size_t voronoi_cut_pieces_bytes(const voronoi_mesh *mesh)
 {
@@ -150,8 +149,6 @@ static inline uint32_t voronoi_cut_pieces_by_edges(voronoi_edges edges, const vo
     return voronoi_cut_by_edges(edges.left, edges.top, edges.right, edges.bottom, VORONOI_MESH_OF(mesh), VORONOI_SLICES_OF(pieces),
         &pieces->counts[VORONOI_COUNT_VERTICES]);
 }
-
-#endif
 
 /* ---- of pieces that were built or cut */
 
@@ -199,16 +196,16 @@ static inline uint32_t voronoi_piece_polygons(const voronoi_pieces *pieces, uint
 }
 
 /* ---- the certificate: whether pieces are the true ones, by theorem. kind VORONOI_CERTIFY_SOUND, or the first fault with what it names. */
-#ifdef VORONOI_CERTIFY_BITS
 
 typedef struct {
     uint32_t kind, site, vertex, other;
 } voronoi_verdict;
 
-/* How many words voronoi_certify needs to be lent. */
+/* How many words voronoi_certify needs to be lent; 0 of pieces that were refused, whose certificate is refused with VORONOI_REFUSED_COUNT. */
 static inline size_t voronoi_certify_words(const voronoi_pieces *pieces)
 {
-    return VORONOI_CERTIFY_ROOM(pieces->site_count, (size_t)pieces->offsets[pieces->site_count]);
+    const size_t entries = pieces->offsets[pieces->site_count];
+    return entries <= pieces->index_room ? VORONOI_CERTIFY_ROOM(pieces->site_count, entries) : 0;
 }
 
 /* voronoi_certify. */
@@ -231,7 +228,5 @@ static inline uint32_t voronoi_certify_pieces_by_edges(voronoi_edges edges, cons
         VORONOI_CELLS_OF(pieces), bits, work, voronoi_certify_words(pieces), &verdict->kind, &verdict->site, &verdict->vertex,
         &verdict->other);
 }
-
-#endif
 
 #endif

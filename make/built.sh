@@ -6,7 +6,7 @@
 dist=${root:?}/dist/x86_64-linux
 # the proved programs over forms
 # shellcheck disable=SC2034
-programs="cells export why mend nearest audit"
+programs="cells export why mend nearest audit certify"
 
 # An installed copy has the folder share/yelmuzard in the place of the repository, with this file in it.
 installed=

@@ -20,7 +20,7 @@
 
 static inline double magnitude(double x)
 {
-    return x < 0 ? -x : x;
+    return __builtin_fabs(x); /* no call and no branch: the sign of what is compared here is anything */
 }
 
 static inline int sign(double x)
@@ -195,8 +195,8 @@ static inline int turn(const double *a, const double *b, const double *c)
 {
     double left = (a[0] - c[0]) * (b[1] - c[1]), right = (a[1] - c[1]) * (b[0] - c[0]), difference = left - right;
     double bound = 4 * HALF_ULP * (magnitude(left) + magnitude(right)); /* Shewchuk has 3 + 16 half ulps */
-    if (difference > bound || -difference > bound)
-        return sign(difference);
+    if (magnitude(difference) > bound)
+        return difference > 0 ? 1 : -1;
     return exact_turn(a, b, c);
 }
 
@@ -244,24 +244,22 @@ static inline int circle(const double *a, const double *b, const double *c, cons
     double value = a_lift * (bc - cb) + b_lift * (ca - ac) + c_lift * (ab - ba);
     double sizes = (magnitude(bc) + magnitude(cb)) * a_lift + (magnitude(ca) + magnitude(ac)) * b_lift + (magnitude(ab) + magnitude(ba)) * c_lift;
     double bound = 11 * HALF_ULP * sizes; /* Shewchuk has 10 + 96 half ulps; one more is for what is rounded below 2^-1022 */
-    if (value > bound || -value > bound)
-        return sign(value);
+    if (magnitude(value) > bound)
+        return value > 0 ? 1 : -1;
     return exact_circle(a, b, c, d);
 }
 
 /* ---- the order of the gauges */
 
-/* The place on Hilbert's curve of a cell of 2^16 by 2^16. */
+/* The place on Hilbert's curve of a cell of 2^16 by 2^16. In the lower half of a square the curve is laid down along its other diagonal: x and y are exchanged, and on the right
+ * turned round before. Without a branch: which half it is nobody can foresee. */
 static uint32_t hilbert(uint32_t x, uint32_t y)
 {
     uint32_t place = 0;
-    for (uint32_t half = 32768; half; half >>= 1) {
-        uint32_t right = (x & half) != 0, up = (y & half) != 0;
+    for (int bit = 15; bit >= 0; bit--) {
+        uint32_t right = x >> bit & 1, up = y >> bit & 1, laid = (up - 1) & (x ^ y ^ (0 - right));
         place = place << 2 | ((3 * right) ^ up);
-        if (!up) {
-            uint32_t kept = right ? 65535 - x : x;
-            x = right ? 65535 - y : y, y = kept;
-        }
+        x ^= laid, y ^= laid;
     }
     return place;
 }
@@ -276,7 +274,7 @@ static extent widened(extent e, double x, double y)
 }
 
 /* The gauges in the order of their places on the curve: `count` numbers at the answer, in `work`. A radix sort in four rounds. */
-static const uint32_t *put_in_order(const double *sites, size_t count, uint32_t *work)
+static uint32_t *put_in_order(const double *sites, size_t count, uint32_t *work)
 {
     uint32_t *keys = work, *order = work + count, *keys_to = work + 2 * count, *order_to = work + 3 * count, begins[257];
     extent e = { sites[0], sites[1], sites[0], sites[1] };
@@ -303,6 +301,22 @@ static const uint32_t *put_in_order(const double *sites, size_t count, uint32_t 
         kept = order, order = order_to, order_to = kept;
     }
     return order;
+}
+
+/* Gauge order[i] moved to place i, for every i: the round of each is gone along once. `was` is the order then, and the order itself that of the places. */
+static void move(double *sites, size_t count, uint32_t *order, uint32_t *was)
+{
+    for (size_t i = 0; i < count; i++)
+        was[i] = order[i];
+    for (uint32_t first = 0; first < count; first++) {
+        double x = sites[2 * (size_t)first], y = sites[2 * (size_t)first + 1];
+        uint32_t to = first, from;
+        while ((from = order[to]) != first) {
+            sites[2 * (size_t)to] = sites[2 * (size_t)from], sites[2 * (size_t)to + 1] = sites[2 * (size_t)from + 1];
+            order[to] = to, to = from;
+        }
+        sites[2 * (size_t)to] = x, sites[2 * (size_t)to + 1] = y, order[to] = to;
+    }
 }
 
 /* ---- the mesh. Triangle t has the half-edges 3t, 3t + 1, 3t + 2; half-edge e runs from site triangles[e] to site triangles[next(e)]. */
@@ -497,9 +511,8 @@ static uint32_t add(mesh *m, uint32_t gauge, uint32_t *where, patience *p, uint3
     return number;
 }
 
-static uint32_t add_all(mesh *m, size_t count, uint32_t *hull, uint32_t *work, patience *p, uint32_t *first, uint32_t *second)
+static uint32_t add_all(mesh *m, size_t count, const uint32_t *order, uint32_t *hull, patience *p, uint32_t *first, uint32_t *second)
 {
-    const uint32_t *order = put_in_order(m->sites, count, work);
     uint32_t where = 0, number = TRIANGULATE_DONE;
     begin(m, order[0], (uint32_t)count, hull);
     for (size_t i = 1; i < count && !number; i++) {
@@ -507,6 +520,17 @@ static uint32_t add_all(mesh *m, size_t count, uint32_t *hull, uint32_t *work, p
         number = stopped(p) ? TRIANGULATE_STOPPED : add(m, order[i], &where, p, first, second);
     }
     return number;
+}
+
+/* Each triangle turned so that its first site is a gauge. A circumcenter is computed from the first site: from a ghost, far off, it would be off by that distance's last bits. */
+static void begin_with_gauges(mesh *m, uint32_t count)
+{
+    for (uint32_t t = 0; t < m->count; t++)
+        for (int turns = 0; turns < 2 && m->triangles[3 * t] >= count; turns++) {
+            uint32_t a = m->triangles[3 * t], ab = m->halfedges[3 * t];
+            set(m, t, m->triangles[3 * t + 1], m->triangles[3 * t + 2], a);
+            pair(m, 3 * t, m->halfedges[3 * t + 1]), pair(m, 3 * t + 1, m->halfedges[3 * t + 2]), pair(m, 3 * t + 2, ab);
+        }
 }
 
 /* ---- the call */
@@ -522,15 +546,15 @@ static void clear(uint32_t *list, size_t length)
         list[i] = NONE;
 }
 
-uint32_t triangulate_gauges(const double *frame, double *sites, size_t sites_len, uint32_t *triangles, size_t triangles_len, uint32_t *halfedges,
-                            size_t halfedges_len, uint32_t *hull, size_t hull_len, uint32_t *work, size_t work_len, int (*stop)(void *), void *with,
-                            uint32_t *first, uint32_t *second)
+uint32_t triangulate_in_order(const double *frame, double *sites, size_t sites_len, uint32_t *triangles, size_t triangles_len, uint32_t *halfedges,
+                              size_t halfedges_len, uint32_t *hull, size_t hull_len, uint32_t *was, size_t was_len, uint32_t *work, size_t work_len,
+                              int (*stop)(void *), void *with, uint32_t *first, uint32_t *second)
 {
     *first = *second = NONE;
     if (sites_len % 2 || sites_len < 2 * TRIANGULATE_SITES(1) || sites_len > 2 * TRIANGULATE_SITES(TRIANGULATE_MOST_GAUGES))
         return TRIANGULATE_REFUSED_COUNT;
     size_t count = sites_len / 2 - TRIANGULATE_GHOSTS, length = 3 * TRIANGULATE_TRIANGLES(count);
-    if (triangles_len < length || halfedges_len < length || hull_len < TRIANGULATE_GHOSTS || work_len < TRIANGULATE_WORK_ROOM(count))
+    if (triangles_len < length || halfedges_len < length || hull_len < TRIANGULATE_GHOSTS || (was && was_len < count) || work_len < TRIANGULATE_WORK_ROOM(count))
         return TRIANGULATE_REFUSED_ROOM;
     for (int i = 0; i < 4; i++)
         if (!is_coordinate(frame[i]))
@@ -544,9 +568,22 @@ uint32_t triangulate_gauges(const double *frame, double *sites, size_t sites_len
         }
     mesh m = { sites, triangles, halfedges, 0 };
     patience p = { stop, with, 0, 0 };
+    uint32_t *order = put_in_order(sites, count, work);
+    if (was)
+        move(sites, count, order, was);
     place_ghosts(frame, sites, count);
-    uint32_t number = add_all(&m, count, hull, work, &p, first, second);
+    uint32_t number = add_all(&m, count, order, hull, &p, first, second);
     if (number)
         clear(triangles, length), clear(halfedges, length), clear(hull, TRIANGULATE_GHOSTS);
+    else
+        begin_with_gauges(&m, (uint32_t)count);
     return number;
+}
+
+uint32_t triangulate_gauges(const double *frame, double *sites, size_t sites_len, uint32_t *triangles, size_t triangles_len, uint32_t *halfedges,
+                            size_t halfedges_len, uint32_t *hull, size_t hull_len, uint32_t *work, size_t work_len, int (*stop)(void *), void *with,
+                            uint32_t *first, uint32_t *second)
+{
+    return triangulate_in_order(frame, sites, sites_len, triangles, triangles_len, halfedges, halfedges_len, hull, hull_len, NULL, 0, work, work_len, stop, with,
+                                first, second);
 }

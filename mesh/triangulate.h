@@ -39,7 +39,8 @@ extern "C" {
 #define TRIANGULATE_BROKEN 107           /* cannot be, unless what is lent changes during the call or overlaps */
 
 /* The mesh of the gauges in `sites` and of the ghosts, which the call writes behind them: sites_len is 2 TRIANGULATE_SITES(N), its first 2 N numbers x and y of
- * each gauge. `frame`: left, top, right, bottom of the box. Triangles run counter-clockwise with y downward, as voronoi.h wants them.
+ * each gauge. `frame`: left, top, right, bottom of the box. Triangles run counter-clockwise with y downward, as voronoi.h wants them,
+ * and each begins with a gauge.
  *
  * `stop` may be NULL; else it is called with `with` every 1,024 gauges, and more often where one takes long; where it answers other than 0 the call ends. It need
  * not return at all: nothing is held but what is lent.
@@ -53,6 +54,13 @@ extern "C" {
 uint32_t triangulate_gauges(const double *frame, double *sites, size_t sites_len, uint32_t *triangles, size_t triangles_len,
                             uint32_t *halfedges, size_t halfedges_len, uint32_t *hull, size_t hull_len, uint32_t *work, size_t work_len,
                             int (*stop)(void *), void *with, uint32_t *first, uint32_t *second);
+
+/* The same, and the gauges are moved to the order in which they are put in, that of a Hilbert curve: what is near in the plane is then near in memory, for whoever works on
+ * the mesh or on the pieces. was[i] is the number that gauge i had: was_len is N, or `was` is NULL, and then no gauge is moved. *first and *second are the numbers that
+ * the gauges have at the end: after 6 those that they had. After 105 to 107 they are moved and `was` is written; after 1 to 6 all is as it was. */
+uint32_t triangulate_in_order(const double *frame, double *sites, size_t sites_len, uint32_t *triangles, size_t triangles_len,
+                              uint32_t *halfedges, size_t halfedges_len, uint32_t *hull, size_t hull_len, uint32_t *was, size_t was_len,
+                              uint32_t *work, size_t work_len, int (*stop)(void *), void *with, uint32_t *first, uint32_t *second);
 
 #ifdef __cplusplus
 }

@@ -20,8 +20,10 @@ flags="-std=c11 -O2 -ffreestanding -fno-math-errno -Wall -Wextra -Werror ${MORE_
 
 make_archive() {
     if [ -n "${ARCHIVE-}" ]; then return; fi
-    if [ ! -f "$archive" ] || [ -n "$(find "$root/crates" "$root/crates.txt" -newer "$archive" | head -n 1)" ]; then
+    # one that ./yelmuzard took from dist/ is none that was proved here
+    if [ ! -f "$archive" ] || { [ -n "${YELMUZARD_PROVE-}" ] && [ -e "$archive.dist" ]; } || [ -n "$(find "$root/crates" "$root/crates.txt" -newer "$archive" | head -n 1)" ]; then
         sh "$root/tests/prove.sh" staticlib voronoi
+        rm -f "$archive.dist"
         touch "$archive"
     fi
 }

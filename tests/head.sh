@@ -8,6 +8,7 @@ case ${1-} in
     exit 0
     ;;
 esac
-cd "$(dirname "$0")/.."
+cd "$(dirname "$0")"
+until [ -f crates.txt ]; do cd ..; done
 # what is tested is what is proved here, and not what dist/ has
 export YELMUZARD_PROVE=yes

@@ -88,7 +88,7 @@ must 2 "mend FILE" ./yelmuzard mend examples/square.form --edges 0 0 2 2 form
 must 2 "mend FILE" ./yelmuzard mend examples/square.form form form
 must 2 "cells FILE" ./yelmuzard cells examples/square.form form
 must 0 "" ./yelmuzard --version
-for word in "" cells export why mend nearest audit archive shared wheel link run test; do
+for word in "" cells export why mend nearest audit certify archive shared wheel link run test; do
     # shellcheck disable=SC2086
     must 0 "" ./yelmuzard $word --help
     grep -q . "$folder/out"

@@ -40,7 +40,7 @@ for crate in $(awk -F: -v name="$2" '
 done
 processors=$(getconf _NPROCESSORS_ONLN 2>/dev/null || echo 1)
 [ $left != 0 ] || [ "$1" = check ] || echo "making the archive proves $2 once more: about a minute" >&2
-[ $left = 0 ] || echo "proving $left of the $all crates that $2 is made of: about $(((left * 13 + 60 * processors - 1) / (60 * processors))) minutes on $processors processors" >&2
+[ $left = 0 ] || echo "proving $left of the $all crates that $2 is made of: about $(((left * 25 + 60 * processors - 1) / (60 * processors))) minutes on $processors processors" >&2
 
 mkdir -p target/log
 log=target/log/$1-$2.say

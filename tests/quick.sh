@@ -22,9 +22,9 @@ passed_over() { echo "  $1: passed over, $2"; }
 
 # every script of tests/ is run by this file or by tests/all, or is there for others
 scripts_run() {
-    for script in tests/*.sh; do
+    for script in tests/*.sh tests/*/*.sh; do
         grep -q "$script" tests/all tests/quick.sh || case $script in
-        tests/head.sh | tests/prove.sh | tests/native.sh | tests/shared.sh | tests/wheel.sh) ;;
+        tests/head.sh | tests/prove.sh | tests/native.sh | tests/shared.sh | tests/callers/wheel.sh) ;;
         *) echo "$script is run by nothing" && return 1 ;;
         esac
     done
@@ -32,7 +32,7 @@ scripts_run() {
 
 check "rt fmt" rt fmt --check
 if command -v shellcheck >/dev/null; then
-    check shellcheck shellcheck -x -P SCRIPTDIR yelmuzard .ci/run make/built.sh make/dist make/install make/man make/prove make/release make/shared make/rooms/merge.sh tests/all tests/*.sh harness/*.sh
+    check shellcheck shellcheck -x -P SCRIPTDIR yelmuzard .ci/run make/built.sh make/dist make/install make/man make/prove make/release make/shared tests/all tests/*.sh tests/*/*.sh harness/*.sh
 else
     passed_over shellcheck "it is not installed"
 fi
@@ -40,11 +40,11 @@ if [ -f tools/house ]; then check tools/house python3 tools/house; else passed_o
 if [ -f tools/believed ]; then check tools/believed python3 tools/believed --check; else passed_over tools/believed "it is not there"; fi
 check "scripts are run" scripts_run
 check "the Rust to compare with, where it is a must" sh harness/run.sh missing
-check tests/papers.sh sh tests/papers.sh
+check tests/papers/papers.sh sh tests/papers/papers.sh
 check tests/missing.sh sh tests/missing.sh
-check tests/texts.sh sh tests/texts.sh
-check tests/forms.sh sh tests/forms.sh
-check tests/dist.sh sh tests/dist.sh words
+check tests/papers/texts.sh sh tests/papers/texts.sh
+check tests/papers/forms.sh sh tests/papers/forms.sh
+check tests/callers/dist.sh sh tests/callers/dist.sh words
 [ $failed = 0 ] || {
     echo "quick checks: $failed failed"
     exit 1

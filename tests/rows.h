@@ -1,10 +1,12 @@
-/* Chance, and sites in rows with their triangles and hull, for the tests that make meshes. Declares nothing of the C library. */
+/* Chance, steps of half-edges, and sites in rows with their triangles and hull, for the tests that make meshes. Declares nothing of the C library. */
 #ifndef ROWS_H
 #define ROWS_H
 
 #include <stdint.h>
 
 static uint64_t state; /* of chance; not 0 */
+
+static inline uint32_t next(uint32_t e) { return e % 3 == 2 ? e - 2 : e + 1; }
 
 static inline uint32_t random_below(uint32_t n)
 {

@@ -13,16 +13,10 @@ else
 fi
 set -- "$archive"
 [ ! -f mesh/triangulate.c ] || set -- "$@" mesh/triangulate.c mesh/triangulate.h
-if [ ! -f "$made/libvoronoi.so" ] || [ -n "$(find "$@" tests/shared.sh -newer "$made/libvoronoi.so")" ]; then
-    mkdir -p "$made"
-    objects=
-    [ ! -f mesh/triangulate.c ] || {
-        objects=$made/triangulate.$$.o
-        gcc -std=c11 -O2 -fPIC -ffp-contract=off -Wall -Wextra -Werror -I include -c mesh/triangulate.c -o "$objects"
-    }
+if [ ! -f "$made/libvoronoi.so" ] || [ -e "$made/libvoronoi.so.dist" ] || [ -n "$(find "$@" tests/shared.sh make/shared -newer "$made/libvoronoi.so")" ]; then
     # under another name first, so that two tests may make it at the same time
-    gcc -shared -Wl,-soname,libvoronoi.so.0 -Wl,-z,text -o "$made/libvoronoi.so.$$" -Wl,--whole-archive "$archive" -Wl,--no-whole-archive ${objects:+"$objects"}
-    rm -f ${objects:+"$objects"}
+    sh make/shared "$archive" "$made/libvoronoi.so.$$"
     mv -f "$made/libvoronoi.so.$$" "$made/libvoronoi.so"
+    rm -f "$made/libvoronoi.so.dist"
 fi
 echo "$made/libvoronoi.so"

@@ -350,10 +350,14 @@ static inline void in_one_piece(uint32_t j)
 
 /* ---- the truth: the box cut by the bisectors to all other sites */
 
-static inline Wide true_area(uint32_t s)
+enum { MOST_CORNERS = N + 8 };
+
+static inline int true_piece(uint32_t s, Wide *x, Wide *y) /* its corners, and how many there are */
 {
-    Wide x[N + 8] = {edges[0], edges[0], edges[2], edges[2]}, y[N + 8] = {edges[1], edges[3], edges[3], edges[1]}, u[N + 8], v[N + 8], f[N + 8], sum = 0;
+    Wide u[MOST_CORNERS], v[MOST_CORNERS], f[MOST_CORNERS];
     int m = 4;
+    for (int i = 0; i < 4; i++)
+        x[i] = edges[i < 2 ? 0 : 2], y[i] = edges[i == 1 || i == 2 ? 3 : 1];
     for (uint32_t o = 0; o < n && m > 0; o++) {
         Wide nx = (Wide)sites[2 * o] - sites[2 * s], ny = (Wide)sites[2 * o + 1] - sites[2 * s + 1];
         Wide middle = (nx * ((Wide)sites[2 * o] + sites[2 * s]) + ny * ((Wide)sites[2 * o + 1] + sites[2 * s + 1])) / 2;
@@ -373,6 +377,13 @@ static inline Wide true_area(uint32_t s)
         for (int i = 0; i < m; i++)
             x[i] = u[i], y[i] = v[i];
     }
+    return m;
+}
+
+static inline Wide true_area(uint32_t s)
+{
+    Wide x[MOST_CORNERS], y[MOST_CORNERS], sum = 0;
+    int m = true_piece(s, x, y);
     for (int i = 1; i + 1 < m; i++)
         sum += (y[i] - y[0]) * (x[i + 1] - x[0]) - (x[i] - x[0]) * (y[i + 1] - y[0]);
     return sum / 2;

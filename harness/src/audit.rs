@@ -1,4 +1,4 @@
-//! The audit (the request on it, and docs/RULES.md, "The audit"): a second reading from its words, and what the two calls owe. The areas are the exact ones of
+//! The audit (the request on it, and docs/use/RULES.md, "The audit"): a second reading from its words, and what the two calls owe. The areas are the exact ones of
 //! src/areas.rs; nothing else is shared with it. generate/pieces.rs has the pieces that are asked about.
 
 use crate::areas::Sum;
@@ -28,7 +28,7 @@ impl Given {
             Given::Edges(e) => *e,
         }
     }
-    fn call(&self) -> usize {
+    pub fn call(&self) -> usize {
         matches!(self, Given::Edges(_)) as usize
     }
 }
@@ -62,7 +62,7 @@ pub struct Verdict {
 const REFUSED: Verdict = Verdict { kind: EMPTY, site: EMPTY, vertex: EMPTY, other: EMPTY, missing: 0.0 };
 
 /// Rule 16: one more than sites, from 0, not falling, not past the list's end.
-fn cuts(offsets: &[u32], sites: usize, list: usize) -> bool {
+pub fn cuts(offsets: &[u32], sites: usize, list: usize) -> bool {
     offsets.len() == sites + 1 && offsets[0] == 0 && offsets.windows(2).all(|w| w[0] <= w[1]) && offsets[sites] as usize <= list
 }
 
@@ -93,13 +93,13 @@ impl Case {
     pub fn count(&self) -> usize {
         self.sites.len() / 2
     }
-    fn site(&self, s: u32) -> Pt {
+    pub fn site(&self, s: u32) -> Pt {
         pt(self.sites[2 * s as usize], self.sites[2 * s as usize + 1])
     }
-    fn corner(&self, v: u32) -> Pt {
+    pub fn corner(&self, v: u32) -> Pt {
         pt(self.vertices[2 * v as usize], self.vertices[2 * v as usize + 1])
     }
-    fn piece(&self, s: u32) -> &[u32] {
+    pub fn piece(&self, s: u32) -> &[u32] {
         &self.entries[self.offsets[s as usize] as usize..self.offsets[s as usize + 1] as usize]
     }
     fn ring(&self, s: u32) -> Vec<Pt> {

@@ -1,5 +1,5 @@
 //! The calls for all gauges at once, from the text of the request: the single lists of every site put together, and a path to each point from where the last
-//! one ended. The lists and paths are the Rust's own; the numbers and slices are worked out here from the words of docs/RULES.md.
+//! one ended. The lists and paths are the Rust's own; the numbers and slices are worked out here from the words of docs/use/RULES.md.
 
 use crate::cases::{Case, Offsets};
 use crate::expect::{self, Beside, Facts};

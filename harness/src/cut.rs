@@ -1,4 +1,4 @@
-//! Pieces by cutting: what the calls owe by the words of docs/RULES.md ("Pieces by cutting"), read a second time with whole lists. The Rust has no
+//! Pieces by cutting: what the calls owe by the words of docs/use/RULES.md ("Pieces by cutting"), read a second time with whole lists. The Rust has no
 //! such call; what is held here to the words alone is held to the box too: the exact areas of the pieces add up to the box's.
 
 use crate::areas::Sum;

@@ -1,4 +1,4 @@
-//! What each public call owes by the rules (docs/RULES.md): its number, its values and every lent slice at exit.
+//! What each public call owes by the rules (docs/use/RULES.md): its number, its values and every lent slice at exit.
 //! Where the call is accepted the values are the Rust's own, handed in by the caller.
 
 use crate::mesh::{cut_index_room, cut_vertex_room, index_room, vertex_room, Area, Mesh, Pt, EMPTY};

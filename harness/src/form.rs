@@ -1,4 +1,4 @@
-//! The program's form and its listing, from the rules (docs/RULES.md).
+//! The program's form and its listing, from the rules (docs/use/RULES.md).
 
 use crate::compare::build_both;
 use crate::expect::{mesh_number, Beside, Facts};

@@ -1,10 +1,11 @@
-//! The Rust's answers, the rules' answers (docs/RULES.md), and the meshes that both are asked about.
+//! The Rust's answers, the rules' answers (docs/use/RULES.md), and the meshes that both are asked about.
 
 pub mod areas;
 pub mod audit;
 pub mod bench;
 pub mod bulk;
 pub mod cases;
+pub mod certify;
 pub mod compare;
 pub mod cut;
 pub mod edges;

@@ -1,4 +1,4 @@
-//! The plane functions: the Rust's own, the rules (docs/RULES.md) read a second time, and the proved library, on the same floats.
+//! The plane functions: the Rust's own, the rules (docs/use/RULES.md) read a second time, and the proved library, on the same floats.
 
 use crate::edges;
 use crate::generate::floats::{self, step};

@@ -1,4 +1,4 @@
-//! Forms, whole and in parts: a second reader from the words of docs/RULES.md ("The form", rules 17 and 20) and of the header, and what the calls owe. A state is the
+//! Forms, whole and in parts: a second reader from the words of docs/use/RULES.md ("The form", rules 17 and 20) and of the header, and what the calls owe. A state is the
 //! library's own affair: the server begins a reader, feeds it the blocks and ends it, and what comes out is compared.
 
 use crate::generate::floats;

@@ -1,4 +1,4 @@
-//! The rules (docs/RULES.md) by themselves: the refusals in their order, and the build with the mark of the step that put each entry.
+//! The rules (docs/use/RULES.md) by themselves: the refusals in their order, and the build with the mark of the step that put each entry.
 //! Written from them and the source's operations, not from the proved code; held against the Rust by every run.
 
 use crate::mesh::{next, pt, Area, Mesh, Pt, EMPTY};

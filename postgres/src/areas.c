@@ -3,26 +3,71 @@
 
 #include "funcapi.h"
 #include "miscadmin.h"
-#include "utils/lsyscache.h"
 
 SQL_FUNCTION(yelmuzard_areas)
 {
-    Survey p = {0};
-    size_t n;
-    const Point *points = points_of(PG_GETARG_ARRAYTYPE_P(0), &n);
+    Survey p = survey_of(fcinfo, 0);
 
-    sound_survey(&p, points, n, PG_GETARG_BOX_P(1));
-    return float_list(p.areas, p.n);
+    return float_list(listed_areas(&p), p.n);
 }
 
-Datum put_pieces(FunctionCallInfo fcinfo, const Survey *p, const Keys *keys, Datum (*piece)(const Survey *, size_t, void *), void *with)
+static Datum as_bytes(const uint8 *image, size_t length, void *with)
 {
-    ReturnSetInfo *info = (ReturnSetInfo *)fcinfo->resultinfo;
+    return PointerGetDatum(bytes_of(image, length));
+}
+
+/* What a row shows of a gauge. */
+typedef struct {
+    double area, reach;
+    const uint8 *image;
+    size_t length;
+} Shown;
+
+/* Of each gauge, in the order of the list; made in the order of the sites, which is that of memory. */
+static Shown *shown_of(const Survey *p)
+{
+    Shown *shown = palloc(sizeof(Shown) * p->n);
+    Images images = all_images(p);
 
     for (size_t i = 0; i < p->n; i++) {
-        Datum values[4] = {keys ? keys->key[i] : Int32GetDatum((int32)i + 1), Float8GetDatum(p->areas[i]), Float8GetDatum(piece_reach(p, i)), piece ? piece(p, i, with) : PointerGetDatum(piece_wkb(p, i))};
+        Shown *one = shown + (p->was ? p->was[i] : i);
+
+        one->area = p->areas[i], one->reach = piece_reach(p, i);
+        one->image = image_of(p, &images, i, &one->length);
+    }
+    CHECK_FOR_INTERRUPTS();
+    return shown;
+}
+
+enum { GIVEN_BACK = 350 }; /* bytes a gauge: two triangles, each with seven vertices and sixteen indexes */
+
+/* The rows stay in memory where they take no more than the lists that they are made of, which are given back before. */
+static void keep_rows(ReturnSetInfo *info, size_t n)
+{
+    MemoryContext before = MemoryContextSwitchTo(info->econtext->ecxt_per_query_memory);
+
+    tuplestore_end(info->setResult);
+    info->setResult = tuplestore_begin_heap((info->allowedModes & SFRM_Materialize_Random) != 0, false, Max(work_mem, (int)(n * GIVEN_BACK / 1024)));
+    MemoryContextSwitchTo(before);
+}
+
+enum { AHEAD = 8 }; /* rows: the images lie elsewhere for each, and are fetched while others are written */
+
+Datum put_pieces(FunctionCallInfo fcinfo, Survey *p, const Keys *keys, Maker make, void *with)
+{
+    ReturnSetInfo *info = (ReturnSetInfo *)fcinfo->resultinfo;
+    const Shown *shown = shown_of(p);
+
+    give_back_pieces(p);
+    keep_rows(info, p->n);
+    for (size_t i = 0; i < p->n; i++) {
+        Datum values[4] = {keys ? keys->key[i] : Int32GetDatum((int32)i + 1), Float8GetDatum(shown[i].area), Float8GetDatum(shown[i].reach),
+                           (make ? make : as_bytes)(shown[i].image, shown[i].length, with)};
         bool nulls[4] = {keys && keys->none[i], false, false, false};
 
+        if (i + AHEAD < p->n)
+            for (size_t k = 0; k < shown[i + AHEAD].length; k += 64)
+                __builtin_prefetch(shown[i + AHEAD].image + k);
         tuplestore_putvalues(info->setResult, info->setDesc, values, nulls);
         pfree(DatumGetPointer(values[3]));
         if (i % 1024 == 0)
@@ -33,37 +78,23 @@ Datum put_pieces(FunctionCallInfo fcinfo, const Survey *p, const Keys *keys, Dat
 
 void read_keys(ArrayType *array, size_t n, Keys *keys)
 {
-    int16 length;
-    bool by_value;
-    char align;
-    int count;
-
-    get_typlenbyvalalign(ARR_ELEMTYPE(array), &length, &by_value, &align);
-    deconstruct_array(array, ARR_ELEMTYPE(array), length, by_value, align, &keys->key, &keys->none, &count);
-    if ((size_t)count != n)
-        ereport(ERROR, (errcode(ERRCODE_ARRAY_SUBSCRIPT_ERROR), errmsg("there are %zu gauges and %d keys", n, count)));
+    as_many(n, elements_of(array, "keys", &keys->key, &keys->none), "keys");
 }
 
 SQL_FUNCTION(yelmuzard_pieces)
 {
-    Survey p = {0};
-    size_t n;
-    const Point *points = points_of(PG_GETARG_ARRAYTYPE_P(0), &n);
+    Survey p = survey_of(fcinfo, 0);
 
     InitMaterializedSRF(fcinfo, 0);
-    sound_survey(&p, points, n, PG_GETARG_BOX_P(1));
     return put_pieces(fcinfo, &p, NULL, NULL, NULL);
 }
 
 SQL_FUNCTION(yelmuzard_pieces_by_key)
 {
-    Survey p = {0};
+    Survey p = survey_of(fcinfo, 1);
     Keys keys;
-    size_t n;
-    const Point *points = points_of(PG_GETARG_ARRAYTYPE_P(1), &n);
 
     InitMaterializedSRF(fcinfo, 0);
-    read_keys(PG_GETARG_ARRAYTYPE_P(0), n, &keys);
-    sound_survey(&p, points, n, PG_GETARG_BOX_P(2));
+    read_keys(PG_GETARG_ARRAYTYPE_P(0), p.n, &keys);
     return put_pieces(fcinfo, &p, &keys, NULL, NULL);
 }

@@ -1,12 +1,11 @@
 /* The audit of pieces from anywhere, a stored table above all. */
 #include "yelmuzard.h"
 
-#include "catalog/pg_type.h"
 #include "funcapi.h"
 #include "miscadmin.h"
 #include "utils/builtins.h"
 
-/* The rings of the pieces, as they run; ghosts have none. */
+/* The rings of the pieces, as they run. */
 static void set_pieces(Survey *p, const Bytes *pieces)
 {
     size_t room = 0, v = 0;
@@ -17,8 +16,8 @@ static void set_pieces(Survey *p, const Bytes *pieces)
         refuse(VORONOI_REFUSED_COUNT, "The pieces have more than 16,777,216 corners.");
     p->vertices = palloc(sizeof(double) * 2 * (room + 1));
     p->indexes = palloc(sizeof(uint32) * (room + 1));
-    p->offsets = palloc(sizeof(uint32) * (p->s + 1));
-    p->areas = palloc(sizeof(double) * p->s);
+    p->offsets = palloc(sizeof(uint32) * (p->n + 1));
+    p->areas = palloc(sizeof(double) * p->n);
     for (size_t i = 0; i < p->n; i++) {
         size_t corners = 0;
         Wkb w = {.at = pieces[i].at, .end = pieces[i].at + pieces[i].length};
@@ -31,15 +30,14 @@ static void set_pieces(Survey *p, const Bytes *pieces)
             p->indexes[v + k] = (uint32)(v + k);
         v += corners;
     }
-    for (size_t i = p->n; i <= p->s; i++)
-        p->offsets[i] = (uint32)v;
+    p->offsets[p->n] = (uint32)v;
     p->v = (uint32)v;
 }
 
 /* Each ring turned as the library wants it: a polygon says nothing by the way that it runs. */
 static void turn_rings(Survey *p)
 {
-    uint32 number = voronoi_areas(p->vertices, 2 * (size_t)p->v, p->offsets, p->s + 1, p->indexes, p->offsets[p->s], p->areas, p->s);
+    uint32 number = voronoi_areas(p->vertices, 2 * (size_t)p->v, p->offsets, p->n + 1, p->indexes, p->offsets[p->n], p->areas, p->n);
 
     if (number)
         refuse(number, NULL);
@@ -65,8 +63,7 @@ Datum audit_row(FunctionCallInfo fcinfo, const Point *points, size_t n, const BO
 
     if (get_call_result_type(fcinfo, NULL, &row) != TYPEFUNC_COMPOSITE)
         elog(ERROR, "a row is wanted");
-    if (count != n)
-        ereport(ERROR, (errcode(ERRCODE_ARRAY_SUBSCRIPT_ERROR), errmsg("there are %zu gauges and %zu pieces", n, count)));
+    as_many(n, count, "pieces");
     set_frame(&p, frame);
     set_gauges(&p, points, n);
     sound = make_mesh(&p, &f);
@@ -78,7 +75,7 @@ Datum audit_row(FunctionCallInfo fcinfo, const Point *points, size_t n, const BO
     values[0] = BoolGetDatum(sound);
     values[1] = CStringGetTextDatum(fault_words(&f));
     nulls[1] = sound;
-    values[2] = Int32GetDatum((int32)(f.site + 1));
+    values[2] = Int32GetDatum((int32)(f.site + 1)); /* they stand as in the list */
     nulls[2] = f.site == VORONOI_EMPTY;
     values[3] = Int32GetDatum((int32)(f.other + 1));
     nulls[3] = f.other == VORONOI_EMPTY;
@@ -93,17 +90,13 @@ SQL_FUNCTION(yelmuzard_audit) /* (points, pieces, frame): sound, fault, site, ot
     ArrayType *list = PG_GETARG_ARRAYTYPE_P(1);
     Datum *parts;
     bool *none;
-    int count;
-    Bytes *pieces;
+    size_t count = elements_of(list, "pieces", &parts, &none);
+    Bytes *pieces = palloc0(sizeof(Bytes) * Max(count, 1));
 
-    if (ARR_NDIM(list) > 1)
-        ereport(ERROR, (errcode(ERRCODE_ARRAY_SUBSCRIPT_ERROR), errmsg("the pieces must be a list, not a table")));
-    deconstruct_array(list, BYTEAOID, -1, false, TYPALIGN_INT, &parts, &none, &count);
-    pieces = palloc0(sizeof(Bytes) * Max(count, 1));
-    for (int i = 0; i < count; i++)
+    for (size_t i = 0; i < count; i++)
         if (!none[i]) {
             bytea *wkb = DatumGetByteaPP(parts[i]);
             pieces[i] = (Bytes){(const uint8 *)VARDATA_ANY(wkb), VARSIZE_ANY_EXHDR(wkb)};
         }
-    return audit_row(fcinfo, points, n, PG_GETARG_BOX_P(2), pieces, (size_t)count);
+    return audit_row(fcinfo, points, n, PG_GETARG_BOX_P(2), pieces, count);
 }

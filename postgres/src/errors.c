@@ -20,7 +20,7 @@ static const char *way_out(uint32 number)
     case VORONOI_REFUSED_TWICE: return "Look for a triangle that is there twice, or that is wound against its neighbour.";
     case VORONOI_REFUSED_POINTS: return "Give a MultiPoint, or ST_Collect(..) of points.";
     case VORONOI_REFUSED_CORNER: return "A corner of a piece is not finite, or beyond 2^400.";
-    default: return "docs/RULES.md has each number.";
+    default: return "docs/use/RULES.md has each number.";
     }
 }
 
@@ -30,6 +30,13 @@ void refuse(uint32 number, const char *detail)
                     detail ? errdetail("%s", detail) : 0, errhint("%s", way_out(number))));
 }
 
+uint32 gauge_number(const Survey *p, uint32 site)
+{
+    uint32 place = p->was ? p->was[site] : site;
+
+    return p->numbers ? p->numbers[place] : place + 1;
+}
+
 char *gauge_words(const Survey *p, uint32 site)
 {
     const double *at = p->sites + 2 * (size_t)site;
@@ -37,12 +44,12 @@ char *gauge_words(const Survey *p, uint32 site)
         return psprintf("ghost %u", (unsigned)(site - p->n));
     if (p->nameless)
         return psprintf("the gauge at (%.17g, %.17g)", at[0], at[1]);
-    return psprintf("gauge %u at (%.17g, %.17g)", p->numbers ? p->numbers[site] : site + 1, at[0], at[1]);
+    return psprintf("gauge %u at (%.17g, %.17g)", gauge_number(p, site), at[0], at[1]);
 }
 
 static const char *certificate_words(uint32 kind)
 {
-    static const char *const words[] = {"sound", "a corner of a piece is outside the box", "a side of a piece is no neighbour's", "the pieces leave the box's border",
+    static const char *const words[] = {"sound", "a corner of a piece is outside the box", "a side of a piece is no neighbour's", "the border of the pieces is not the box's",
                                         "a corner of a piece is nearer to another gauge", "two gauges stand at one place"};
     return kind < lengthof(words) ? words[kind] : "no such kind";
 }

@@ -106,29 +106,22 @@ static BOX box_of(Wkb *w)
 /* The geometries of an array, as they are sent. A NULL is refused, or left empty where `what` is NULL. */
 static Wkb *geometries_of(FunctionCallInfo fcinfo, ArrayType *array, const char *what, size_t *n)
 {
-    int16 length;
-    bool by_value, *none;
-    char align;
+    bool *none;
     Datum *parts;
-    int count;
+    size_t count = elements_of(array, "geometries", &parts, &none);
     FmgrInfo *send = sender(fcinfo, ARR_ELEMTYPE(array));
-    Wkb *list;
+    Wkb *list = palloc0(sizeof(Wkb) * Max(count, 1));
 
-    if (ARR_NDIM(array) > 1)
-        ereport(ERROR, (errcode(ERRCODE_ARRAY_SUBSCRIPT_ERROR), errmsg("the geometries must be a list, not a table")));
-    get_typlenbyvalalign(ARR_ELEMTYPE(array), &length, &by_value, &align);
-    deconstruct_array(array, ARR_ELEMTYPE(array), length, by_value, align, &parts, &none, &count);
-    list = palloc0(sizeof(Wkb) * Max(count, 1));
-    for (int i = 0; i < count; i++) {
+    for (size_t i = 0; i < count; i++) {
         if (none[i] && what)
-            ereport(ERROR, (errcode(ERRCODE_NULL_VALUE_NOT_ALLOWED), errmsg("a NULL among the %s", what), errdetail("It is gauge %d.", i + 1),
+            ereport(ERROR, (errcode(ERRCODE_NULL_VALUE_NOT_ALLOWED), errmsg("a NULL among the %s", what), errdetail("It is gauge %zu.", i + 1),
                             errhint("Leave out what has no place: array_agg(place) FILTER (WHERE place IS NOT NULL).")));
         if (!none[i])
             list[i] = open_geometry(send, parts[i]);
         if (i % 1024 == 0)
             CHECK_FOR_INTERRUPTS();
     }
-    *n = (size_t)count;
+    *n = count;
     return list;
 }
 
@@ -165,58 +158,55 @@ static void open_writer(Writer *w, Oid type, int32 srid)
 }
 
 /* A piece as a geometry: the head of its Polygon with the reference system put in. */
-static Datum piece_geometry(const Survey *p, size_t site, void *with)
+static Datum piece_geometry(const uint8 *image, size_t length, void *with)
 {
     Writer *w = with;
-    bytea *wkb = piece_wkb(p, site);
-    const uint8 head[5] = {1, 3, 0, 0, 0x20};
-    uint8 srid[4] = {w->srid & 255, w->srid >> 8 & 255, w->srid >> 16 & 255, w->srid >> 24 & 255};
-    Datum geometry;
+    const uint8 head[9] = {1, 3, 0, 0, 0x20, w->srid & 255, w->srid >> 8 & 255, w->srid >> 16 & 255, w->srid >> 24 & 255};
 
     resetStringInfo(&w->bytes);
-    appendBinaryStringInfo(&w->bytes, (const char *)head, 5);
-    appendBinaryStringInfo(&w->bytes, (const char *)srid, 4);
-    appendBinaryStringInfo(&w->bytes, VARDATA(wkb) + 5, VARSIZE(wkb) - VARHDRSZ - 5);
-    geometry = ReceiveFunctionCall(&w->receive, &w->bytes, w->parameter, -1);
-    pfree(wkb);
-    return geometry;
+    appendBinaryStringInfo(&w->bytes, (const char *)head, 9);
+    appendBinaryStringInfo(&w->bytes, (const char *)image + 5, (int)length - 5);
+    return ReceiveFunctionCall(&w->receive, &w->bytes, w->parameter, -1);
 }
 
 /* ---- the functions */
+
+/* The rows of the pieces of these places, in the frame's reference system; `keys` may be NULL. After InitMaterializedSRF. */
+static Datum put_geometries(FunctionCallInfo fcinfo, const Point *places, size_t n, const BOX *box, int32 srid, const Keys *keys)
+{
+    Survey p = {0};
+    Writer w;
+
+    sound_survey(&p, places, n, box);
+    open_writer(&w, TupleDescAttr(((ReturnSetInfo *)fcinfo->resultinfo)->setDesc, 3)->atttypid, srid);
+    return put_pieces(fcinfo, &p, keys, piece_geometry, &w);
+}
 
 SQL_FUNCTION(yelmuzard_geometry_pieces) /* (points, frame) */
 {
     FmgrInfo *send = sender(fcinfo, get_fn_expr_argtype(fcinfo->flinfo, 0));
     Wkb points = open_geometry(send, PG_GETARG_DATUM(0)), frame = open_geometry(send, PG_GETARG_DATUM(1));
     BOX box = box_of(&frame);
-    Survey p = {0};
-    Writer w;
     size_t n;
     Point *places;
 
     InitMaterializedSRF(fcinfo, 0);
     same_system(points.srid, frame.srid);
     places = places_of(&points, &n);
-    sound_survey(&p, places, n, &box);
-    open_writer(&w, TupleDescAttr(((ReturnSetInfo *)fcinfo->resultinfo)->setDesc, 3)->atttypid, frame.srid);
-    return put_pieces(fcinfo, &p, NULL, piece_geometry, &w);
+    return put_geometries(fcinfo, places, n, &box, frame.srid, NULL);
 }
 
 SQL_FUNCTION(yelmuzard_geometry_pieces_by_key) /* (keys, points, frame) */
 {
     Wkb frame = open_geometry(sender(fcinfo, get_fn_expr_argtype(fcinfo->flinfo, 2)), PG_GETARG_DATUM(2));
     BOX box = box_of(&frame);
-    Survey p = {0};
     Keys keys;
-    Writer w;
     size_t n;
     Point *places = place_list(fcinfo, PG_GETARG_ARRAYTYPE_P(1), frame.srid, &n);
 
     InitMaterializedSRF(fcinfo, 0);
     read_keys(PG_GETARG_ARRAYTYPE_P(0), n, &keys);
-    sound_survey(&p, places, n, &box);
-    open_writer(&w, TupleDescAttr(((ReturnSetInfo *)fcinfo->resultinfo)->setDesc, 3)->atttypid, frame.srid);
-    return put_pieces(fcinfo, &p, &keys, piece_geometry, &w);
+    return put_geometries(fcinfo, places, n, &box, frame.srid, &keys);
 }
 
 SQL_FUNCTION(yelmuzard_geometry_audit) /* (points, pieces, frame) */

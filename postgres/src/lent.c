@@ -12,11 +12,9 @@ static const uint32 *list_of(FunctionCallInfo fcinfo, int arg, size_t *n)
     if (PG_ARGISNULL(arg))
         return NULL;
     array = PG_GETARG_ARRAYTYPE_P(arg);
-    if (ARR_NDIM(array) > 1)
-        ereport(ERROR, (errcode(ERRCODE_ARRAY_SUBSCRIPT_ERROR), errmsg("the mesh must be given as lists, not as tables")));
+    *n = length_of(array, "numbers of the mesh");
     if (array_contains_nulls(array))
         ereport(ERROR, (errcode(ERRCODE_NULL_VALUE_NOT_ALLOWED), errmsg("a NULL among the numbers of the mesh"), errhint("A half-edge without a pair has -1.")));
-    *n = ARR_NDIM(array) ? (size_t)ARR_DIMS(array)[0] : 0;
     return (const uint32 *)ARR_DATA_PTR(array); /* -1 is VORONOI_EMPTY */
 }
 

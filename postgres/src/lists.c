@@ -2,15 +2,40 @@
 #include "yelmuzard.h"
 
 #include "catalog/pg_type.h"
+#include "utils/lsyscache.h"
+
+size_t length_of(const ArrayType *list, const char *what)
+{
+    if (ARR_NDIM(list) > 1)
+        ereport(ERROR, (errcode(ERRCODE_ARRAY_SUBSCRIPT_ERROR), errmsg("the %s must be a list, not a table", what)));
+    return ARR_NDIM(list) ? (size_t)ARR_DIMS(list)[0] : 0;
+}
+
+size_t elements_of(ArrayType *list, const char *what, Datum **elements, bool **none)
+{
+    int16 length;
+    bool by_value;
+    char align;
+    int count;
+
+    (void)length_of(list, what);
+    get_typlenbyvalalign(ARR_ELEMTYPE(list), &length, &by_value, &align);
+    deconstruct_array(list, ARR_ELEMTYPE(list), length, by_value, align, elements, none, &count);
+    return (size_t)count;
+}
+
+void as_many(size_t gauges, size_t count, const char *what)
+{
+    if (count != gauges)
+        ereport(ERROR, (errcode(ERRCODE_ARRAY_SUBSCRIPT_ERROR), errmsg("there are %zu gauges and %zu %s", gauges, count, what)));
+}
 
 const Point *points_of(ArrayType *array, size_t *n)
 {
-    if (ARR_NDIM(array) > 1)
-        ereport(ERROR, (errcode(ERRCODE_ARRAY_SUBSCRIPT_ERROR), errmsg("the points must be a list, not a table")));
+    *n = length_of(array, "points");
     if (array_contains_nulls(array))
         ereport(ERROR, (errcode(ERRCODE_NULL_VALUE_NOT_ALLOWED), errmsg("a NULL among the points"),
                         errhint("Leave out what has no place: array_agg(place) FILTER (WHERE place IS NOT NULL).")));
-    *n = ARR_NDIM(array) ? (size_t)ARR_DIMS(array)[0] : 0;
     return (const Point *)ARR_DATA_PTR(array);
 }
 

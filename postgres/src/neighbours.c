@@ -6,7 +6,7 @@
 
 #include <math.h>
 
-/* A side of a piece, the lesser end first; pieces that lie side by side have the same two ends, to the bit. */
+/* A side of a piece, the lesser end first, and its gauge's place in the list; pieces that lie side by side have the same two ends, to the bit. */
 typedef struct {
     Point a, b;
     uint32 site;
@@ -48,7 +48,7 @@ static Side *sides_of(const Survey *p, size_t *count)
             Point a = ((const Point *)p->vertices)[p->indexes[k]], b = ((const Point *)p->vertices)[p->indexes[k + 1 < end ? k + 1 : p->offsets[i]]];
             int turned = by_end(&a, &b);
             if (turned)
-                sides[(*count)++] = (Side){turned < 0 ? a : b, turned < 0 ? b : a, (uint32)i};
+                sides[(*count)++] = (Side){turned < 0 ? a : b, turned < 0 ? b : a, p->was[i]};
         }
     qsort(sides, *count, sizeof(Side), by_ends);
     CHECK_FOR_INTERRUPTS();
@@ -58,15 +58,11 @@ static Side *sides_of(const Survey *p, size_t *count)
 SQL_FUNCTION(yelmuzard_neighbours)
 {
     ReturnSetInfo *info = (ReturnSetInfo *)fcinfo->resultinfo;
-    Survey p = {0};
-    size_t n, count, made = 0;
-    const Point *points = points_of(PG_GETARG_ARRAYTYPE_P(0), &n);
-    Side *sides;
-    Border *borders;
+    Survey p = survey_of(fcinfo, 0);
+    size_t count, made = 0;
+    Side *sides = sides_of(&p, &count);
+    Border *borders = palloc(sizeof(Border) * Max(count, 1));
 
-    sound_survey(&p, points, n, PG_GETARG_BOX_P(1));
-    sides = sides_of(&p, &count);
-    borders = palloc(sizeof(Border) * Max(count, 1));
     for (size_t i = 0; i + 1 < count; i++)
         if (by_ends(sides + i, sides + i + 1) == 0) {
             double length = hypot(sides[i].b.x - sides[i].a.x, sides[i].b.y - sides[i].a.y);
@@ -120,6 +116,7 @@ SQL_FUNCTION(yelmuzard_nearest)
     uint32 *out = palloc(sizeof(uint32) * Max(count, 1)), *work, number, from = 0;
 
     set_gauges(&p, points, n);
+    p.was = palloc(sizeof(uint32) * n);
     for (size_t i = 0; i < count; i++)
         for (int c = 0; c < 2; c++) {
             double x = c ? asked[i].y : asked[i].x;
@@ -137,6 +134,8 @@ SQL_FUNCTION(yelmuzard_nearest)
         if (number)
             refuse(number, NULL);
         from = out[i + block - 1];
+        for (size_t k = i; k < i + block; k++)
+            out[k] = p.was[out[k]];
         CHECK_FOR_INTERRUPTS();
     }
     return number_list(out, count, 1);

@@ -1,18 +1,10 @@
 /* How pieces are made and looked at: the only file that does.
  *
- * Of gauges: by cutting (voronoi_cut_by_edges), and no piece leaves that the certificate did not pass (voronoi_certify_by_edges). Where the library has no such call yet,
- * which its header says, by a build and by the audit: the two blocks that begin with #else, to be taken out then.
+ * Of gauges: by cutting (voronoi_cut_by_edges), and no piece leaves that the certificate did not pass (voronoi_certify_by_edges).
  * Of a lent mesh: the build, bit for bit, and the audit, which leaves a build's tolerance. */
 #include "yelmuzard.h"
 
 #include "miscadmin.h"
-
-#ifdef VORONOI_CUT_INDEX_ROOM
-#define YELMUZARD_CUT
-#endif
-#ifdef VORONOI_CERTIFY_ROOM
-#define YELMUZARD_CERTIFY
-#endif
 
 /* ---- the audit */
 
@@ -63,8 +55,8 @@ static void make_areas(Survey *p)
 {
     uint32 number;
 
-    p->areas = palloc(sizeof(double) * p->s);
-    number = voronoi_areas(p->vertices, 2 * (size_t)p->v, p->offsets, p->s + 1, p->indexes, p->offsets[p->s], p->areas, p->s);
+    p->areas = palloc(sizeof(double) * p->n);
+    number = voronoi_areas(p->vertices, 2 * (size_t)p->v, p->offsets, p->n + 1, p->indexes, p->offsets[p->n], p->areas, p->n);
     if (number)
         refuse(number, NULL);
     CHECK_FOR_INTERRUPTS();
@@ -120,104 +112,70 @@ bool build_pieces(Survey *p, Fault *f)
 
 /* ---- the certificate */
 
-#ifdef YELMUZARD_CERTIFY
+typedef struct {
+    const Survey *p;
+    size_t sites, entries, room;
+    const uint32 *offsets;
+    uint32 *work, number;
+    Fault *f;
+} Certifying;
 
+static void certify(void *with)
+{
+    Certifying *c = with;
+    const Survey *p = c->p;
+    uint32 vertex;
+
+    c->number = voronoi_certify_by_edges(FRAME_OF(p), p->sites, 2 * c->sites, p->vertices, 2 * (size_t)p->v, c->offsets, c->sites + 1, p->indexes, c->entries,
+                                         VORONOI_CERTIFY_BITS, c->work, c->room, &c->f->kind, &c->f->site, &vertex, &c->f->other);
+}
+
+/* Over the gauges alone: that their pieces cover the box once says that no ghost has ground; where one has, theirs do not. The call wants three sites: of one gauge or two
+ * the first ghosts stand beside them, with no piece. */
 bool look_over(const Survey *p, Fault *f)
 {
-    size_t room = VORONOI_CERTIFY_ROOM(p->s, p->offsets[p->s]);
-    uint32 *work = palloc(sizeof(uint32) * room), vertex, number;
+    size_t sites = Max(p->n, VORONOI_LEAST_SITES), entries = p->offsets[p->n], room = VORONOI_CERTIFY_ROOM(sites, entries);
+    uint32 few[VORONOI_LEAST_SITES + 1];
+    Certifying c = {p, sites, entries, room, p->n < sites ? few : p->offsets, palloc(sizeof(uint32) * room), 0, f};
 
-    number = voronoi_certify_by_edges(FRAME_OF(p), SITES_OF(p), p->vertices, 2 * (size_t)p->v, p->offsets, p->s + 1, p->indexes, p->offsets[p->s],
-                                      VORONOI_CERTIFY_BITS, work, room, &f->kind, &f->site, &vertex, &f->other);
-    if (number)
-        refuse(number, NULL);
+    for (size_t i = 0; i <= VORONOI_LEAST_SITES; i++)
+        few[i] = p->offsets[Min(i, p->n)];
+    run_cancellable(certify, &c);
+    if (c.number)
+        refuse(c.number, NULL);
     f->state = 1, f->missing = 0;
-    pfree(work);
-    CHECK_FOR_INTERRUPTS();
+    pfree(c.work);
     return f->kind == VORONOI_CERTIFY_SOUND;
 }
 
-#else
-
-bool look_over(const Survey *p, Fault *f)
-{
-    return audit(p, f);
-}
-
-#endif
-
 /* ---- the pieces of gauges */
 
-#ifdef YELMUZARD_CUT
+typedef struct {
+    Survey *p;
+    uint32 *work, number;
+} Cutting;
+
+static void cut(void *with)
+{
+    Cutting *c = with;
+    Survey *p = c->p;
+
+    c->number = voronoi_cut_by_edges(FRAME_OF(p), MESH_OF(p), c->work, VORONOI_WORK_ROOM(p->s), p->vertices, VORONOI_CUT_VERTEX_NUMBERS(p->t, p->h), p->indexes,
+                                     VORONOI_CUT_INDEX_ROOM(p->t, p->h), p->offsets, VORONOI_OFFSET_ROOM(p->s), &p->v);
+}
 
 bool make_pieces(Survey *p, Fault *f)
 {
-    uint32 *work = palloc(sizeof(uint32) * VORONOI_WORK_ROOM(p->s)), number;
+    Cutting c = {p, palloc(sizeof(uint32) * VORONOI_WORK_ROOM(p->s)), 0};
 
     p->vertices = palloc(sizeof(double) * VORONOI_CUT_VERTEX_NUMBERS(p->t, p->h));
     p->indexes = palloc(sizeof(uint32) * VORONOI_CUT_INDEX_ROOM(p->t, p->h));
     p->offsets = palloc(sizeof(uint32) * VORONOI_OFFSET_ROOM(p->s));
-    number = voronoi_cut_by_edges(FRAME_OF(p), MESH_OF(p), work, VORONOI_WORK_ROOM(p->s), p->vertices, VORONOI_CUT_VERTEX_NUMBERS(p->t, p->h), p->indexes,
-                                  VORONOI_CUT_INDEX_ROOM(p->t, p->h), p->offsets, VORONOI_OFFSET_ROOM(p->s), &p->v);
-    if (number)
-        refuse(number, NULL);
-    pfree(work);
-    CHECK_FOR_INTERRUPTS();
+    run_cancellable(cut, &c);
+    if (c.number)
+        refuse(c.number, NULL);
+    pfree(c.work);
+    give_back_mesh(p);
     make_areas(p);
     return look_over(p, f);
 }
-
-#else
-
-/* The gauge that is nearest to all four corners of the box, and so to all of it, as a piece is convex; or VORONOI_EMPTY. */
-static uint32 sole_owner(const Survey *p)
-{
-    uint32 sole = VORONOI_EMPTY;
-
-    for (int c = 0; c < 4; c++) {
-        double x = p->frame[c & 1 ? 2 : 0], y = p->frame[c & 2 ? 3 : 1], least = 0;
-        uint32 owner = VORONOI_EMPTY;
-        bool tie = false;
-
-        for (size_t i = 0; i < p->n; i++) {
-            double dx = p->sites[2 * i] - x, dy = p->sites[2 * i + 1] - y, d = dx * dx + dy * dy;
-            if (owner == VORONOI_EMPTY || d < least)
-                least = d, owner = (uint32)i, tie = false;
-            else if (d == least)
-                tie = true;
-        }
-        if (tie || (c && owner != sole))
-            return VORONOI_EMPTY;
-        sole = owner;
-    }
-    return sole;
-}
-
-/* A build leaves the cell empty that covers the whole box: its owner is given the corners. */
-static void give_all(Survey *p, uint32 owner)
-{
-    const double *f = p->frame, corners[8] = {f[0], f[1], f[0], f[3], f[2], f[3], f[2], f[1]};
-
-    p->vertices = palloc(sizeof corners);
-    memcpy(p->vertices, corners, sizeof corners);
-    p->indexes = palloc(sizeof(uint32) * 4);
-    p->offsets = palloc(sizeof(uint32) * (p->s + 1));
-    p->v = 4;
-    for (uint32 i = 0; i < 4; i++)
-        p->indexes[i] = i;
-    for (size_t i = 0; i <= p->s; i++)
-        p->offsets[i] = i > owner ? 4 : 0;
-}
-
-bool make_pieces(Survey *p, Fault *f)
-{
-    uint32 owner = sole_owner(p);
-
-    if (owner == VORONOI_EMPTY)
-        return build_pieces(p, f);
-    give_all(p, owner);
-    make_areas(p);
-    return audit(p, f);
-}
-
-#endif

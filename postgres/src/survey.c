@@ -38,16 +38,18 @@ bool make_mesh(Survey *p, Fault *f)
     p->triangles = palloc(sizeof(uint32) * 3 * triangles);
     p->halfedges = palloc(sizeof(uint32) * 3 * triangles);
     p->hull = palloc(sizeof(uint32) * TRIANGULATE_GHOSTS);
-    number = triangulate_gauges(p->frame, p->sites, 2 * TRIANGULATE_SITES(p->n), p->triangles, 3 * triangles, p->halfedges, 3 * triangles, p->hull,
-                                TRIANGULATE_GHOSTS, work, TRIANGULATE_WORK_ROOM(p->n), interrupted, NULL, &f->other, &f->site);
+    number = triangulate_in_order(p->frame, p->sites, 2 * TRIANGULATE_SITES(p->n), p->triangles, 3 * triangles, p->halfedges, 3 * triangles, p->hull,
+                                  TRIANGULATE_GHOSTS, p->was, p->n, work, TRIANGULATE_WORK_ROOM(p->n), interrupted, NULL, &f->other, &f->site);
     pfree(work);
     f->state = 1, f->kind = VORONOI_AUDIT_SOUND, f->missing = 0;
     if (number == TRIANGULATE_TWIN) {
         f->kind = VORONOI_AUDIT_TWIN;
         return false;
     }
-    if (number == TRIANGULATE_REFUSED_COORDINATE)
+    if (number == TRIANGULATE_REFUSED_COORDINATE) {
+        p->was = NULL; /* none is moved then */
         refuse(number, psprintf("It is %s.", gauge_words(p, f->other)));
+    }
     if (number && number < 100)
         refuse(number, NULL);
     if (number)
@@ -61,6 +63,7 @@ bool survey(Survey *p, const Point *points, size_t n, const BOX *frame, Fault *f
 {
     set_frame(p, frame);
     set_gauges(p, points, n);
+    p->was = palloc(sizeof(uint32) * p->n);
     return make_mesh(p, f) && make_pieces(p, f);
 }
 
@@ -70,4 +73,44 @@ void sound_survey(Survey *p, const Point *points, size_t n, const BOX *frame)
 
     if (!survey(p, points, n, frame, &f))
         refuse_fault(p, &f);
+}
+
+void give_back_mesh(Survey *p)
+{
+    pfree(p->triangles), pfree(p->halfedges), pfree(p->hull);
+    p->triangles = p->halfedges = p->hull = NULL;
+}
+
+void give_back_pieces(Survey *p)
+{
+    pfree(p->vertices), pfree(p->indexes), pfree(p->offsets);
+    p->indexes = p->offsets = NULL, p->vertices = NULL;
+}
+
+Survey survey_of(FunctionCallInfo fcinfo, int points)
+{
+    Survey p = {0};
+    size_t n;
+    const Point *list = points_of(PG_GETARG_ARRAYTYPE_P(points), &n);
+
+    sound_survey(&p, list, n, PG_GETARG_BOX_P(points + 1));
+    return p;
+}
+
+uint32 *listed_sites(const Survey *p)
+{
+    uint32 *sites = palloc(sizeof(uint32) * p->n);
+
+    for (size_t i = 0; i < p->n; i++)
+        sites[p->was ? p->was[i] : i] = (uint32)i;
+    return sites;
+}
+
+double *listed_areas(const Survey *p)
+{
+    double *areas = palloc(sizeof(double) * p->n);
+
+    for (size_t i = 0; i < p->n; i++)
+        areas[p->was ? p->was[i] : i] = p->areas[i];
+    return areas;
 }

@@ -2,7 +2,6 @@
  * their own, so that the answer is the same to the bit in whatever order they come: a parallel plan gives another each time. */
 #include "yelmuzard.h"
 
-#include "catalog/pg_type.h"
 #include "funcapi.h"
 #include "utils/builtins.h"
 #include "utils/memutils.h"
@@ -84,7 +83,7 @@ static bool volume_of(Survey *p, const Point *points, const double *readings, si
 {
     if (!survey(p, points, n, frame, f))
         return false;
-    *volume = sum_of_products(readings, p->areas, n);
+    *volume = sum_of_products(readings, listed_areas(p), n);
     return true;
 }
 
@@ -119,28 +118,16 @@ static bool group_volume(const Readings *g, double *volume, Fault *f, char **whe
     return sound;
 }
 
-SQL_FUNCTION(yelmuzard_volume_end)
+/* The volume of the group that an aggregate ends with, and of its frame; false where no row has a place and a reading. */
+static bool ended_volume(FunctionCallInfo fcinfo, double *volume, const BOX **frame)
 {
     const Readings *g = PG_ARGISNULL(0) ? NULL : (const Readings *)PG_GETARG_POINTER(0);
-    double volume;
     Fault f;
 
     if (!g || g->n == 0)
-        PG_RETURN_NULL();
-    group_volume(g, &volume, &f, NULL);
-    PG_RETURN_FLOAT8(volume);
-}
-
-SQL_FUNCTION(yelmuzard_mean_end)
-{
-    const Readings *g = PG_ARGISNULL(0) ? NULL : (const Readings *)PG_GETARG_POINTER(0);
-    double volume;
-    Fault f;
-
-    if (!g || g->n == 0)
-        PG_RETURN_NULL();
-    group_volume(g, &volume, &f, NULL);
-    PG_RETURN_FLOAT8(volume / area_of(&g->frame));
+        return false;
+    *frame = &g->frame;
+    return group_volume(g, volume, &f, NULL);
 }
 
 SQL_FUNCTION(yelmuzard_rollup_end) /* the row volume, mean, gauges, silent, sound, fault */
@@ -173,46 +160,58 @@ SQL_FUNCTION(yelmuzard_rollup_end) /* the row volume, mean, gauges, silent, soun
 /* ---- of lists */
 
 /* The volume of the arguments points, readings, frame; false where none has a reading. */
-static bool list_volume(FunctionCallInfo fcinfo, double *volume)
+static bool list_volume(FunctionCallInfo fcinfo, double *volume, const BOX **frame)
 {
     size_t n, m = 0;
     const Point *points = points_of(PG_GETARG_ARRAYTYPE_P(0), &n);
     ArrayType *list = PG_GETARG_ARRAYTYPE_P(1);
     Datum *readings;
     bool *none;
-    int count;
     Point *at = palloc(sizeof(Point) * Max(n, 1));
     double *reading = palloc(sizeof(double) * Max(n, 1));
     Survey p = {.numbers = palloc(sizeof(uint32) * Max(n, 1))};
     Fault f;
 
-    if (ARR_NDIM(list) > 1)
-        ereport(ERROR, (errcode(ERRCODE_ARRAY_SUBSCRIPT_ERROR), errmsg("the readings must be a list, not a table")));
-    deconstruct_array(list, FLOAT8OID, sizeof(float8), FLOAT8PASSBYVAL, TYPALIGN_DOUBLE, &readings, &none, &count);
-    if ((size_t)count != n)
-        ereport(ERROR, (errcode(ERRCODE_ARRAY_SUBSCRIPT_ERROR), errmsg("there are %zu gauges and %d readings", n, count)));
+    as_many(n, elements_of(list, "readings", &readings, &none), "readings");
     for (size_t i = 0; i < n; i++)
         if (!none[i])
             p.numbers[m] = (uint32)i + 1, at[m] = points[i], reading[m++] = DatumGetFloat8(readings[i]);
-    if (m && !volume_of(&p, at, reading, m, PG_GETARG_BOX_P(2), volume, &f))
+    *frame = PG_GETARG_BOX_P(2);
+    if (m && !volume_of(&p, at, reading, m, *frame, volume, &f))
         refuse_fault(&p, &f);
     return m > 0;
 }
 
-SQL_FUNCTION(yelmuzard_volume)
+/* ---- the four functions: a volume, or that over the box's area, where there is one */
+
+typedef bool (*Way)(FunctionCallInfo, double *, const BOX **);
+
+static Datum answer(FunctionCallInfo fcinfo, Way way, bool mean)
 {
     double volume;
+    const BOX *frame;
 
-    if (!list_volume(fcinfo, &volume))
+    if (!way(fcinfo, &volume, &frame))
         PG_RETURN_NULL();
-    PG_RETURN_FLOAT8(volume);
+    PG_RETURN_FLOAT8(mean ? volume / area_of(frame) : volume);
+}
+
+SQL_FUNCTION(yelmuzard_volume)
+{
+    return answer(fcinfo, list_volume, false);
 }
 
 SQL_FUNCTION(yelmuzard_mean)
 {
-    double volume;
+    return answer(fcinfo, list_volume, true);
+}
 
-    if (!list_volume(fcinfo, &volume))
-        PG_RETURN_NULL();
-    PG_RETURN_FLOAT8(volume / area_of(PG_GETARG_BOX_P(2)));
+SQL_FUNCTION(yelmuzard_volume_end)
+{
+    return answer(fcinfo, ended_volume, false);
+}
+
+SQL_FUNCTION(yelmuzard_mean_end)
+{
+    return answer(fcinfo, ended_volume, true);
 }

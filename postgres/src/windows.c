@@ -7,7 +7,7 @@
 
 typedef struct {
     bool done;
-    int64 *gauge; /* of each row of the partition, or -1 where it has no place */
+    int64 *gauge; /* of each row of the partition: its site, or -1 where it has no place */
     Survey p;
 } Partition;
 
@@ -36,6 +36,7 @@ static size_t read_partition(WindowObject w, Partition *part, int64 rows, Point 
     return n;
 }
 
+/* The survey of the partition, made at its first row. */
 static Partition *partition_of(FunctionCallInfo fcinfo)
 {
     WindowObject w = PG_WINDOW_OBJECT();
@@ -53,30 +54,47 @@ static Partition *partition_of(FunctionCallInfo fcinfo)
     points = MemoryContextAllocHuge(CurrentMemoryContext, sizeof(Point) * rows);
     n = read_partition(w, part, rows, points, &frame);
     part->p.nameless = true;
-    if (n)
+    if (n) {
+        uint32 *sites;
+
         sound_survey(&part->p, points, n, &frame);
+        sites = listed_sites(&part->p);
+        for (int64 i = 0; i < rows; i++)
+            part->gauge[i] = part->gauge[i] < 0 ? -1 : (int64)sites[part->gauge[i]];
+        pfree(sites);
+    }
     pfree(points);
     part->done = true;
     MemoryContextSwitchTo(before);
     return part;
 }
 
-SQL_FUNCTION(yelmuzard_area)
+/* The site of the current row; false where it has no place. */
+static bool current_site(FunctionCallInfo fcinfo, const Survey **p, size_t *site)
 {
     Partition *part = partition_of(fcinfo);
     int64 gauge = part->gauge[WinGetCurrentPosition(PG_WINDOW_OBJECT())];
 
-    if (gauge < 0)
-        PG_RETURN_NULL();
-    PG_RETURN_FLOAT8(part->p.areas[gauge]);
+    *p = &part->p, *site = (size_t)gauge;
+    return gauge >= 0;
+}
+
+SQL_FUNCTION(yelmuzard_area)
+{
+    const Survey *p;
+    size_t site;
+
+    if (current_site(fcinfo, &p, &site))
+        PG_RETURN_FLOAT8(p->areas[site]);
+    PG_RETURN_NULL();
 }
 
 SQL_FUNCTION(yelmuzard_piece)
 {
-    Partition *part = partition_of(fcinfo);
-    int64 gauge = part->gauge[WinGetCurrentPosition(PG_WINDOW_OBJECT())];
+    const Survey *p;
+    size_t site;
 
-    if (gauge < 0)
-        PG_RETURN_NULL();
-    PG_RETURN_BYTEA_P(piece_wkb(&part->p, (size_t)gauge));
+    if (current_site(fcinfo, &p, &site))
+        PG_RETURN_BYTEA_P(piece_wkb(p, site));
+    PG_RETURN_NULL();
 }

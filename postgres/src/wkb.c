@@ -1,4 +1,4 @@
-/* Pieces and points in Well-Known Binary: written by the library's voronoi_cell_wkb; read here, because what others have written may be of either byte order and may carry
+/* Pieces and points in Well-Known Binary: written by the library's voronoi_all_wkb; read here, because what others have written may be of either byte order and may carry
  * Z, M and PostGIS's reference system, which voronoi_read_multipoint refuses. */
 #include "yelmuzard.h"
 
@@ -84,28 +84,56 @@ bool read_ring(Wkb *w, Point *corners, size_t room, size_t *count)
     return w->at == w->end && (length == 0 || (corners[0].x == corners[length - 1].x && corners[0].y == corners[length - 1].y));
 }
 
-bytea *piece_wkb(const Survey *p, size_t site)
+bytea *bytes_of(const uint8 *at, size_t length)
 {
-    /* a piece of no area is no polygon */
-    uint32 start = p->offsets[site], length = p->areas[site] == 0 ? 0 : p->offsets[site + 1] - start, one[2] = {0, length}, number;
-    size_t room = VORONOI_WKB_ROOM((size_t)length), written;
-    bytea *out = palloc(VARHDRSZ + room);
+    bytea *bytes = palloc(VARHDRSZ + length);
 
-    /* the offsets of one cell: the call looks at all that it is lent */
-    number = voronoi_cell_wkb(p->vertices, 2 * (size_t)p->v, one, 2, p->indexes + start, length, 0, (uint8_t *)VARDATA(out), room, &written);
+    SET_VARSIZE(bytes, VARHDRSZ + length);
+    memcpy(VARDATA(bytes), at, length);
+    return bytes;
+}
+
+Images all_images(const Survey *p)
+{
+    size_t entries = p->offsets[p->n], room = VORONOI_ALL_WKB_ROOM(p->n, entries), written;
+    Images images = {palloc(room), palloc(sizeof(uint64) * VORONOI_START_ROOM(p->n))};
+    uint32 number = voronoi_all_wkb(p->vertices, 2 * (size_t)p->v, p->offsets, p->n + 1, p->indexes, entries, images.starts, VORONOI_START_ROOM(p->n), images.at, room, &written);
+
     if (number)
         refuse(number, NULL);
-    SET_VARSIZE(out, VARHDRSZ + written);
+    return images;
+}
+
+const uint8 *image_of(const Survey *p, const Images *images, size_t site, size_t *length)
+{
+    static const uint8 empty[9] = {1, 3, 0, 0, 0, 0, 0, 0, 0};
+
+    *length = p->areas[site] == 0 ? sizeof empty : (size_t)(images->starts[site + 1] - images->starts[site]);
+    return p->areas[site] == 0 ? empty : images->at + images->starts[site];
+}
+
+bytea *piece_wkb(const Survey *p, size_t site)
+{
+    uint32 first = p->offsets[site], one[2] = {0, p->offsets[site + 1] - first};
+    double areas[1] = {p->areas[site]};
+    Survey alone = {.n = 1, .v = p->v, .vertices = p->vertices, .indexes = p->indexes + first, .offsets = one, .areas = areas};
+    Images images = all_images(&alone);
+    size_t length;
+    const uint8 *image = image_of(&alone, &images, 0, &length);
+    bytea *out = bytes_of(image, length);
+
+    pfree(images.at), pfree(images.starts);
     return out;
 }
 
 double piece_reach(const Survey *p, size_t site)
 {
-    double reach = 0;
+    double most = 0; /* its square: no coordinate is so large or so small that one would leave the range */
 
     for (uint32 i = p->offsets[site]; i < p->offsets[site + 1]; i++) {
         const double *at = p->vertices + 2 * (size_t)p->indexes[i];
-        reach = Max(reach, hypot(at[0] - p->sites[2 * site], at[1] - p->sites[2 * site + 1]));
+        double x = at[0] - p->sites[2 * site], y = at[1] - p->sites[2 * site + 1];
+        most = Max(most, x * x + y * y);
     }
-    return reach;
+    return sqrt(most);
 }

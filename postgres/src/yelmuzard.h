@@ -25,15 +25,16 @@ typedef struct {
     double frame[4];   /* left, top, right, bottom: the least x, the least y, the greatest x, the greatest y */
     size_t n;          /* gauges */
     size_t s;          /* sites: gauges and ghosts, or of a lent mesh the gauges alone */
-    double *sites;
-    uint32 *numbers;   /* what each gauge is called in messages, or NULL: its place in the list, from 1 */
+    double *sites;     /* along a Hilbert curve, where `was` is given: what is near in the plane is then near in memory, in every stage */
+    uint32 *was;       /* the place in the list of each gauge, from 0, or NULL: they stand as in the list */
+    uint32 *numbers;   /* what each gauge of the list is called in messages, or NULL: its place in it, from 1 */
     bool nameless;     /* the gauges are rows of a group, in no order: they are called by their coordinates alone */
     size_t t, h;       /* triangles, sites of the hull */
     uint32 *triangles, *halfedges, *hull;
     uint32 v;          /* vertices of the pieces */
     double *vertices;
     uint32 *indexes, *offsets;
-    double *areas;     /* of each site */
+    double *areas;     /* of each gauge */
 } Survey;
 
 /* What is wrong with pieces. */
@@ -58,29 +59,44 @@ extern const char *fault_words(const Fault *f);
 /* Where it is, in words, or NULL. */
 extern char *fault_place(const Survey *p, const Fault *f);
 extern char *gauge_words(const Survey *p, uint32 site);
+/* What a gauge is called in rows and messages. */
+extern uint32 gauge_number(const Survey *p, uint32 site);
 
 /* ---- pieces.c: the only file that says how pieces are made and looked at */
 
 /* The pieces of a survey's mesh and their areas; whether they are sound, or in *f what is wrong. Refusals end with their error. */
 extern bool make_pieces(Survey *p, Fault *f);
-/* Whether the pieces of a survey, from anywhere, are sound; it has a mesh. */
+/* Whether the certificate passes the pieces of a survey, from anywhere: the gauges' own, in a box, with the ghosts behind them. */
 extern bool look_over(const Survey *p, Fault *f);
 /* voronoi_build on a lent mesh, its areas, and the audit. */
 extern bool build_pieces(Survey *p, Fault *f);
 /* What voronoi_why says of a lent mesh: the number, and the place in words or NULL. */
 extern uint32 why_refused(Survey *p, char **place);
 
+/* ---- cancel.c */
+
+/* A call of the library and nothing else: where the query is cancelled meanwhile it is left at once. */
+extern void run_cancellable(void (*call)(void *), void *with);
+
 /* ---- survey.c */
 
 extern void set_frame(Survey *p, const BOX *frame);
 /* The gauges of a list; room for the ghosts. Ends with the error where they are too many or none, or a coordinate is none. */
 extern void set_gauges(Survey *p, const Point *points, size_t n);
-/* The mesh of gauges and ghosts; false where two gauges stand at one place. */
+/* The mesh of gauges and ghosts; false where two gauges stand at one place. Where `was` is lent the gauges are put in the order of the curve. */
 extern bool make_mesh(Survey *p, Fault *f);
 /* All of it: frame, gauges, mesh, pieces. */
 extern bool survey(Survey *p, const Point *points, size_t n, const BOX *frame, Fault *f);
 /* The same, or its error. */
 extern void sound_survey(Survey *p, const Point *points, size_t n, const BOX *frame);
+/* The same of the arguments points and frame, which begin there. */
+extern Survey survey_of(FunctionCallInfo fcinfo, int points);
+/* In the order of the list: the site of each gauge, and its area. */
+extern uint32 *listed_sites(const Survey *p);
+extern double *listed_areas(const Survey *p);
+/* The lists of the mesh, and of the pieces: they are large, and what comes next may stand where they stood. */
+extern void give_back_mesh(Survey *p);
+extern void give_back_pieces(Survey *p);
 extern bool same_box(const BOX *a, const BOX *b);
 
 /* ---- areas.c */
@@ -92,8 +108,10 @@ typedef struct {
 } Keys;
 
 extern void read_keys(ArrayType *array, size_t n, Keys *keys);
-/* A row for each gauge: its key or else its number, area, reach, and its piece: what `piece` makes of it, or where that is NULL its WKB. After InitMaterializedSRF. */
-extern Datum put_pieces(FunctionCallInfo fcinfo, const Survey *p, const Keys *keys, Datum (*piece)(const Survey *, size_t, void *), void *with);
+/* What is made of a piece's image in Well-Known Binary; given back by pfree. */
+typedef Datum (*Maker)(const uint8 *image, size_t length, void *with);
+/* A row for each gauge: its key or else its number, area, reach, and its piece: what `make` makes of it, or where that is NULL its image. After InitMaterializedSRF. */
+extern Datum put_pieces(FunctionCallInfo fcinfo, Survey *p, const Keys *keys, Maker make, void *with);
 
 /* ---- audit.c */
 
@@ -129,6 +147,12 @@ extern void refuse_boxes(void) pg_attribute_noreturn();
 
 /* ---- lists.c: arguments and results */
 
+/* The length of a list; ends with the error where it is a table of something. */
+extern size_t length_of(const ArrayType *list, const char *what);
+/* The elements of a list, and which of them are NULL: how many they are. */
+extern size_t elements_of(ArrayType *list, const char *what, Datum **elements, bool **none);
+/* Ends with the error where there are not as many of them as gauges. */
+extern void as_many(size_t gauges, size_t count, const char *what);
 /* The points of an array without NULL, in place. */
 extern const Point *points_of(ArrayType *array, size_t *n);
 extern Datum float_list(const double *values, size_t n);
@@ -151,8 +175,18 @@ extern bool read_count(Wkb *w, uint32 *count);
 extern bool read_place(Wkb *w, Point *place);
 /* The corners of a polygon of one ring, or of a list of one such polygon, without the last that repeats the first; room for `room`. *count 0: it is empty. */
 extern bool read_ring(Wkb *w, Point *corners, size_t room, size_t *count);
-/* A piece as a Polygon. */
+/* The pieces as Polygons: the image of a site is at[starts[site]] and what follows, up to starts[site + 1]. */
+typedef struct {
+    uint8 *at;
+    uint64 *starts;
+} Images;
+
+extern Images all_images(const Survey *p);
+/* The image of one; a piece of no area is no polygon, and its image that of an empty one. */
+extern const uint8 *image_of(const Survey *p, const Images *images, size_t site, size_t *length);
+/* A piece as a Polygon, alone. */
 extern bytea *piece_wkb(const Survey *p, size_t site);
+extern bytea *bytes_of(const uint8 *at, size_t length);
 /* The distance from a gauge to its piece's farthest corner. */
 extern double piece_reach(const Survey *p, size_t site);
 

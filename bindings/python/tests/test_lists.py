@@ -157,7 +157,7 @@ class Said(unittest.TestCase):
             outside = sum(x < 330000 for x, _ in places())
             self.assertIn("the box 330000 5800000 430000 5890000, 100 by 90 km", said)
             self.assertIn(f"40 gauges, {outside} outside the box, which count too", said)
-            self.assertIn("sound to 2^-20", said)
+            self.assertIn("certified: every place that is nearer to one gauge by more than 2 mm is in its piece, once", said)
 
     def test_refusal_names_the_gauge(self):
         with folder(in_csv="id,name,x,y\nA7,Wehr,-.5,0\nA8,Nord,.5,.5\nA9,Furt,.75,.5\n") as here:

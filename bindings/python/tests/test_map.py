@@ -143,7 +143,7 @@ class Pictures(unittest.TestCase):
             if 380000 <= float(row["easting"]) <= 440000 and 5810000 <= float(row["northing"]) <= 5850000:
                 self.assertIn(row["name"], said)
         self.assertIn("all of the box", said)
-        self.assertRegex(said, r"\d{4}-\d\d-\d\d · EPSG:32633 · Yelmuzard [\d.]+ · sound to 2\^-20")
+        self.assertRegex(said, r"\d{4}-\d\d-\d\d · EPSG:32633 · Yelmuzard [\d.]+ · certified to 2 mm")
         self.assertIn(" N ", said)
         self.assertIn("10 km", said)
         self.assertIn("390\u202f000", said)
@@ -205,19 +205,25 @@ class Steps(unittest.TestCase):
             self.assertEqual(status, 2)
 
     def test_stored_meshes(self):
-        """The meshes of docs/maps as voronoice builds them: sound, wound the wrong way, and with a lost corner."""
-        for name, status, words in (("thirty", 0, "sound to 2^-20"), ("board", 0, "2,000 gauges; 0 of the box is missing"),
-                                    ("turned", 3, "50 of 50 triangles turn the wrong way, or are flat; the lowest is triangle 0"),
-                                    ("lost", 3, "0.312 of the box is missing; 1 of its corners lost; 1 pieces empty")):
+        """The meshes of docs/maps as voronoice builds them: sound, wound the wrong way, and with a lost corner; and the accident, by cutting too."""
+        whole = "certified: every place that is nearer to one gauge by more than"
+        for name, way, status, words in (
+                ("docs/maps/thirty", ["--as-voronoice"], 0, f"{whole} 5.3e-07 is in its piece, once"), ("docs/maps/thirty", [], 0, f"{whole} 3.4e-08 is in its piece, once"),
+                ("docs/maps/board", ["--as-voronoice"], 0, "2,000 gauges; 0 of the box is missing, by proof; 0 of its corners lost; 0 pieces empty"),
+                ("docs/maps/turned", ["--as-voronoice"], 3, "50 of 50 triangles turn the wrong way, or are flat; the lowest is triangle 0"),
+                ("docs/maps/turned", ["--as-voronoice"], 3, "FAULT: kind 2, the side that starts at the corner "),
+                ("docs/maps/lost", ["--as-voronoice"], 3, "0.312 of the box is missing; 1 of its corners lost; 1 pieces empty"),
+                ("docs/maps/lost", ["--as-voronoice"], 3, "FAULT: kind "), ("examples/accident", ["--as-voronoice"], 3, "FAULT: kind 2, "),
+                ("examples/accident", [], 3, "FAULT: kind 4, the corner "), ("docs/maps/turned", [], 1, "refused 25")):
             with folder() as here:
-                got, said = ask("pieces", ROOT / "docs" / "maps" / f"{name}.txt", "--as-voronoice", "-o", here / "pieces.csv")
+                got, said = ask("pieces", ROOT / f"{name}.txt", *way, "-o", here / "pieces.csv")
                 self.assertEqual(got, status, said)
                 self.assertIn(words, said)
 
     def test_forms(self):
         with folder(cut_form=(ROOT / "examples" / "square.form").read_bytes()[:100], old_form=b"\6\5") as here:
             for file in ("square.form", "square.txt"):
-                status, said = ask("pieces", ROOT / "examples" / file, "--as-voronoice", "--all", "--bits", "52", "-o", here / "out.csv")
+                status, said = ask("pieces", ROOT / "examples" / file, "--as-voronoice", "--bits", "52", "-o", here / "out.csv")
                 self.assertEqual(status, 0, said)
                 self.assertEqual([row["area"] for row in rows_of((here / "out.csv"))], ["1.0"] * 4)
             status, said = ask("pieces", here / "cut.form", "-o", here / "out.csv")

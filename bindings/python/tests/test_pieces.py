@@ -1,7 +1,8 @@
-"""The package over the library: pieces, areas, polygons, neighbours, nearest, audit, refusals, with shapely as a second opinion."""
+"""The package over the library: pieces, areas, polygons, neighbours, nearest, certificate, audit, refusals, with shapely as a second opinion."""
 import doctest
 import importlib
 import math
+import os
 import pathlib
 import pkgutil
 import random
@@ -52,6 +53,7 @@ class Pieces(unittest.TestCase):
             for way in WAYS:
                 found = yelmuzard.pieces(SQUARE, (-1, -1, 1, 1), mesh, way)
                 self.assertEqual(found.areas.tolist(), [1.0] * 4)
+                self.assertTrue(found.certify(52).sound)
                 self.assertTrue(found.audit(52, True).sound)
                 self.assertEqual(len(found), 4)
                 self.assertIn("4 pieces", repr(found))
@@ -105,6 +107,9 @@ class Pieces(unittest.TestCase):
             out = numpy.zeros(len(image), numpy.uint8)
             number, written = library().call("voronoi_cell_wkb", found.vertices, found.offsets, found.indexes, k, out)
             self.assertEqual((number, written, out.tobytes()), (0, len(image), image))
+        out, starts = found.polygons("buffer")
+        self.assertEqual((out.tobytes(), starts[0], int(starts[-1]), len(starts)), (b"".join(found.polygons()), 0, len(out), 51))
+        self.assertEqual(out[int(starts[7]):int(starts[8])].tobytes(), found.polygons()[7])
 
     def test_nearest(self):
         points, box = scattered(500, 5)
@@ -116,18 +121,24 @@ class Pieces(unittest.TestCase):
         self.assertEqual(found.nearest(numpy.zeros((0, 2))).tolist(), [])
 
     def test_neighbouring_boxes_meet(self):
-        at, points = random.Random(7), scattered(40, 8, (0.0, 0.0, 100.0, 100.0))[0]
-        for turn in range(300):
-            x = sorted(at.sample(range(1, 1000), 3))
-            left = yelmuzard.pieces(points, (x[0] / 10, 0, x[1] / 10, 100))
-            right = yelmuzard.pieces(points, (x[1] / 10, 0, x[2] / 10, 100))
-            self.assertEqual(left.vertices[:, 0][left.indexes].max(), right.vertices[:, 0][right.indexes].min(), turn)
+        """Sheets that share an edge on a tenth of a metre: 100,000 pairs, each cut over one mesh. By centre and size many would not meet."""
+        at, mesh, apart = random.Random(7), yelmuzard.Mesh.of(SQUARE, *LISTS), 0
+        pieces = lambda left, right: yelmuzard.pieces(mesh.sites, (left, -1.0, right, 1.0), mesh, WAYS[-1])
+        for turn in range(100000):
+            left = at.randrange(1, 100000)
+            middle = left + at.randrange(1, 100000)
+            right = middle + at.randrange(1, 100000)
+            west, east = pieces(left / 10, middle / 10), pieces(middle / 10, right / 10)
+            self.assertEqual(west.vertices[west.indexes, 0].max(), east.vertices[east.indexes, 0].min(), turn)
+            apart += (middle / 10 + right / 10) / 2 - (right / 10 - middle / 10) / 2 != middle / 10
+        self.assertGreater(apart, 10000)
 
     @unittest.skipUnless(CUT, "no voronoi_cut_by_edges in this library")
     def test_few_gauges_and_lines(self):
         for points in ([(5, 5)], [(1, 2), (7, 3)], [(1, 1), (2, 2), (3, 3)], [(k, 5) for k in range(9)], [(50, 50)], [(-5, 5), (5, 5), (50, 50)]):
             found = yelmuzard.pieces(points, (0, 0, 10, 10))
             self.assertEqual(math.fsum(found.areas), 100.0, points)
+            self.assertTrue(found.certify(40).sound, points)
             self.assertTrue(found.audit(40, True).sound)
             self.assertEqual(len(found.polygons()), len(points))
             self.assertEqual(len(found.neighbours()), len(points))
@@ -139,6 +150,107 @@ class Pieces(unittest.TestCase):
             points = list({(10 * at.randrange(200), 10 * at.randrange(200)) for _ in range(1000)})
             found = yelmuzard.pieces(points, (0, 0, 2000, 2000))
             self.assertEqual(sum(Fraction(a) for a in map(exact, (found.corners(k).tolist() for k in range(len(found))))), 4000000)
+
+
+class Certificates(unittest.TestCase):
+    def damaged(self, change, mesh=None):
+        """The kind of the pieces of "square" after a change of their arrays."""
+        found = yelmuzard.pieces(SQUARE, (-1, -1, 1, 1), mesh or yelmuzard.Mesh.of(SQUARE, *LISTS), "cut")
+        change(found)
+        verdict = found.certify()
+        self.assertEqual((verdict.words, verdict.bits, verdict.sound), (yelmuzard.verdict.CERTIFY[verdict.kind], 32, False))
+        self.assertTrue(str(verdict).startswith(f"kind {verdict.kind}, "), str(verdict))
+        return verdict
+
+    def test_every_kind(self):
+        def swapped(found):
+            first, last = found.indexes[found.offsets[1]:found.offsets[1] + 2]
+            found.indexes[found.offsets[1]:found.offsets[1] + 2] = last, first
+
+        def nobody(found):
+            found._all_offsets[:] = 0
+
+        outside = self.damaged(lambda found: found.vertices.__setitem__(found.indexes[0], (-1.5, 0)))
+        self.assertEqual((outside.kind, outside.gauge, outside.corner, outside.other), (1, 0, (-1.5, 0.0), None))
+        self.assertIn("the corner -1.5 0 (vertex ", str(outside))
+        side = self.damaged(swapped)
+        self.assertEqual((side.kind, side.other), (2, None))
+        self.assertIn("is no other piece's", str(side))
+        border = self.damaged(nobody)
+        self.assertEqual((border.kind, border.gauge, border.vertex, border.corner, border.other), (3, None, None, None, None))
+        flipped = yelmuzard.Mesh.of([(0, 0), (0, 8), (8, 8), (5, 1)], *LISTS)
+        nearer = yelmuzard.pieces(flipped.sites, (-1, -1, 9, 9), flipped).certify()
+        self.assertEqual((nearer.kind, nearer.gauge, nearer.corner, nearer.other), (4, 0, (4.0, 4.0), 3))
+        twice = yelmuzard.Mesh.of(SQUARE + [SQUARE[1]], *LISTS)
+        twin = yelmuzard.pieces(twice.sites, (-1, -1, 1, 1), twice, "cut").certify()
+        self.assertEqual((twin.kind, twin.gauge, twin.vertex, twin.other), (5, 4, None, 1))
+        self.assertIn("gauge 1 and gauge 4 stand at one place", str(twin))
+        with self.assertRaises(yelmuzard.Refusal) as caught:
+            yelmuzard.pieces(SQUARE, (-1, -1, 1, 1)).certify(53)
+        self.assertEqual(caught.exception.number, 1)
+
+    def test_a_ghost_that_took_ground(self):
+        """Sites behind the gauges are nobody's: with the last one of three, four or two of "square" a ghost, its ground is missing."""
+        for count in (1, 2, 3):
+            mesh = yelmuzard.Mesh.of(SQUARE, *LISTS)
+            mesh = yelmuzard.Mesh(*mesh.lists(), count)
+            found = yelmuzard.pieces(SQUARE[:count], (-1, -1, 1, 1), mesh, "cut")
+            self.assertEqual(found.areas.tolist(), [1.0] * count)
+            self.assertIn(found.certify().kind, (2, 3))
+            # in a box that is the first one's alone they have no ground, and nothing is named
+            self.assertTrue(yelmuzard.pieces(SQUARE[:count], (-.75, -.75, -.25, -.25), mesh, "cut").certify().sound)
+
+    def test_the_theorem_at_places(self):
+        """Of places that are clear by more than `apart`, by exact fractions, each is in the piece of its gauge by shapely, and in no other."""
+        import shapely.geometry
+        at = random.Random(11)
+        for seed in range(4):
+            points, box = scattered(40, seed)
+            found = yelmuzard.pieces(points, box)
+            verdict = found.certify()
+            self.assertTrue(verdict.sound)
+            self.assertLess(verdict.apart, .00195)
+            shapes = list(found.polygons("shapely"))
+            far = lambda x, y, k: math.hypot(points[k][0] - x, points[k][1] - y)
+            for _ in range(200):
+                x, y = at.uniform(box[0], box[2]), at.uniform(box[1], box[3])
+                order = sorted(range(40), key=lambda k: far(x, y, k))
+                if far(x, y, order[1]) - far(x, y, order[0]) > verdict.apart + 1e-8:
+                    here = shapely.geometry.Point(x, y)
+                    self.assertEqual([k for k in range(40) if shapes[k].intersects(here)], order[:1])
+
+    def test_the_length(self):
+        """By the box's reach and the bits, and by a gauge far off."""
+        for box, bits, want in (((0, 0, 1, 1), 32, 1.42 * 2.0 ** -32), ((-8, 0, 1, 1), 20, 1.42 * 8 * 2.0 ** -20), ((0, 0, 1, 1), 52, 1.42 * (2.0 ** -52 + 2.0 ** -49))):
+            found = yelmuzard.pieces([(.25, .25), (.75, .5), (.5, .75)], box).certify(bits)
+            self.assertAlmostEqual(found.apart / want, 1, delta=1e-4)
+        off = yelmuzard.pieces([(.25, .25), (.75, .5), (1e6, .75)], (0, 0, 1, 1)).certify(52)
+        self.assertAlmostEqual(off.apart / (1.42 * 1e6 * 2.0 ** -49), 1, delta=1e-4)
+
+    def test_joined(self):
+        """A flat strip: a build's sides end beside each other; joined they are certified, and no corner has moved by more than twice 2^-30 of the reach along an axis."""
+        at, named = random.Random(3), 0
+        for _ in range(30):
+            points = [(at.uniform(0, 1000), at.uniform(0, 1)) for _ in range(30)]
+            box = (0.0, -2.0, 1000.0, 3.0)
+            found = yelmuzard.pieces(points, box, way="voronoice")
+            named += found.certify(28).kind == 2
+            joined = found.joined()
+            self.assertTrue(joined.certify(28).sound, str(joined.certify(28)))
+            self.assertLessEqual(numpy.abs(joined.vertices - found.vertices).max(), 2000 * 2.0 ** -30)
+            self.assertAlmostEqual(math.fsum(joined.areas), 5000, delta=1e-9)
+        self.assertGreater(named, 20)
+        # what is certified by itself stays as it is, and so do corners that no piece names
+        found = yelmuzard.pieces(SQUARE, (-1, -1, 1, 1), way="voronoice")
+        self.assertTrue(numpy.array_equal(found.joined().vertices, found.vertices))
+
+    def test_large_sets(self):
+        """No false alarm: scattered, whole metres, a lattice, a strip."""
+        at = numpy.random.default_rng(2)
+        lattice = numpy.array([(x, y) for x in range(50) for y in range(50)], float)
+        for points, box in ((at.uniform(0, 1, (5000, 2)), (0, 0, 1, 1)), (numpy.unique(at.integers(0, 3000, (5000, 2)), axis=0), (0, 0, 3000, 3000)),
+                            (lattice, (-.5, -.5, 49.5, 49.5)), (lattice, (0, 0, 49, 49)), (at.uniform(0, 1, (3000, 2)) * (1e6, 1e3), (0, 0, 1e6, 1e3))):
+            self.assertTrue(yelmuzard.pieces(points, box).certify().sound)
 
 
 class Refusals(unittest.TestCase):
@@ -259,27 +371,33 @@ class Together(unittest.TestCase):
         self.assertEqual(wrong, [])
 
     def test_memory_is_flat(self):
+        """10,000 builds: what Python holds, and the resident size, stay."""
         import gc
-        import resource
         import tracemalloc
         points, box = scattered(50, 9)
+        page = os.sysconf("SC_PAGE_SIZE")
+        resident = lambda: int(pathlib.Path("/proc/self/statm").read_text().split()[1]) * page
 
         def some(count):
             for _ in range(count):
                 found = yelmuzard.pieces(points, box)
-                found.areas, found.audit(), found.polygons()
+                found.areas, found.certify(), found.audit(), found.polygons(), found.neighbours(), found.nearest(points)
 
         some(300)
         gc.collect()
+        before = resident()
+        some(8500)
+        gc.collect()
+        self.assertLess(resident() - before, 1 << 20)
         tracemalloc.start()
-        some(50)
-        before, resident = tracemalloc.get_traced_memory()[0], resource.getrusage(resource.RUSAGE_SELF).ru_maxrss
-        some(1500)
+        some(500)  # numpy keeps some small objects for the next time
+        gc.collect()
+        before = tracemalloc.get_traced_memory()[0]
+        some(1000)
         gc.collect()
         after = tracemalloc.get_traced_memory()[0]
         tracemalloc.stop()
         self.assertLess(after - before, 20000)
-        self.assertLess(resource.getrusage(resource.RUSAGE_SELF).ru_maxrss - resident, 4096)
 
 
 if __name__ == "__main__":

@@ -56,6 +56,7 @@ class Exact(unittest.TestCase):
                 with folder(in_csv=written(found, long, at)) as here:
                     status, said = ask("rollup", BOARD / "gauges.csv", here / "in.csv", *EDGES, "-o", here / "out.csv")
                     self.assertEqual(status, 0, said)
+                    self.assertIn("certified: every place that is nearer to one gauge by more than 2 mm is in its piece, once\n", said)
                     for row in rows(here / "out.csv"):
                         mine = [k for k, id_ in enumerate(some.ids) if (row["day"], id_) in held]
                         areas = yelmuzard.pieces(some.points[mine], BOX).areas
@@ -237,6 +238,22 @@ class Sums(unittest.TestCase):
         for values in read.days.values():
             sheets.areas(~numpy.isnan(values))
         self.assertEqual(len(sheets.kept), 2)
+
+    def test_what_is_not_certified_is_told(self):
+        """Pieces that a wrong mesh made: every day of them is a fault, and nothing is said to be certified."""
+        from unittest import mock
+        honest = rollup.pieces
+
+        def flipped(points, box, mesh, way):
+            found = honest(points, box, mesh, way)
+            found.mesh.sites[[0, 7]] = found.mesh.sites[[7, 0]]
+            return found
+
+        with mock.patch.object(rollup, "pieces", flipped):
+            read = readings.read(str(BOARD / "readings.csv"), listed())
+            found = rollup.rows(read, rollup.Sheets(read.gauges, [("", BOX)], None))
+            self.assertEqual({row.verdict.split(", the corner ")[0] for row in found}, {"fault: kind 4"})
+            self.assertFalse(any(row.whole for row in found))
 
 
 if __name__ == "__main__":

@@ -11,7 +11,7 @@ from asked import ROOT, SHEET, ask, folder  # noqa: E402
 MAPS = ROOT / "docs" / "maps"
 BOARD = ROOT / "examples" / "board"
 BOX = ["--box", "380000", "5810000", "440000", "5850000"]
-BUILD = "--as-voronoice"  # which is the same to the bit on every machine and in every version
+BUILD = "--as-voronoice"  # of the two meshes whose faults are shown
 
 
 def meshes(here):
@@ -22,11 +22,11 @@ def meshes(here):
 
 def pictures(here):
     """The name of each picture, its words, and their status."""
-    yield "thirty.svg", ["map", ROOT / "examples" / "thirty.csv", "--box", "0", "0", "100", "80", BUILD, "--unit", "km", "--south-up", "--title", "Thirty gauges of a river basin",
+    yield "thirty.svg", ["map", ROOT / "examples" / "thirty.csv", "--box", "0", "0", "100", "80", "--unit", "km", "--south-up", "--title", "Thirty gauges of a river basin",
                          "-o", here / "thirty.svg"], 0
-    yield "board.svg", ["map", ROOT / "examples" / "board.csv", *SHEET, BUILD, "--title", "2,000 gauges of a water board", "-o", here / "board.svg"], 0
-    yield "sixty.svg", ["map", BOARD / "gauges.csv", *BOX, BUILD, "--crs", "EPSG:32633", "--title", "Sixty gauges of a board", "-o", here / "sixty.svg"], 0
-    yield "silent.svg", ["rollup", BOARD / "gauges.csv", BOARD / "readings.csv", *BOX, BUILD, "--fixed", "-o", here / "fixed.csv", "--plot", here / "silent.svg",
+    yield "board.svg", ["map", ROOT / "examples" / "board.csv", *SHEET, "--title", "2,000 gauges of a water board", "-o", here / "board.svg"], 0
+    yield "sixty.svg", ["map", BOARD / "gauges.csv", *BOX, "--crs", "EPSG:32633", "--title", "Sixty gauges of a board", "-o", here / "sixty.svg"], 0
+    yield "silent.svg", ["rollup", BOARD / "gauges.csv", BOARD / "readings.csv", *BOX, "--fixed", "-o", here / "fixed.csv", "--plot", here / "silent.svg",
                          "--title", "The week in which two gauges were silent"], 3
     for name, title, more in (("turned", "The same gauges, wound the wrong way", ["--unit", "km"]), ("lost", "A gauge in no triangle, and a lost corner", [])):
         ask("pieces", MAPS / f"{name}.txt", BUILD, "-o", here / f"{name}.csv")

@@ -5,8 +5,8 @@
 >>> found = yelmuzard.pieces(gauges, box=(0, 0, 100, 80))
 >>> [round(area, 6) for area in found.areas]
 [1800.744048, 3499.702381, 2699.553571]
->>> print(found.audit())
-sound to 2^-20
+>>> print(found.certify())
+certified: every place that is nearer to one gauge by more than 3.4e-08 is in its piece, once
 >>> found.nearest([(0, 0), (99, 79)]).tolist()
 [0, 1]
 
@@ -21,7 +21,7 @@ from .library import MissingLibrary, library
 from .mesh import Mesh
 from .pieces import Pieces, default_way, pieces
 from .refusal import Place, Refusal
-from .verdict import Reason, Verdict
+from .verdict import Certificate, Reason, Verdict
 from .version import VERSION as __version__
 
-__all__ = ["Mesh", "MissingLibrary", "Pieces", "Place", "Reason", "Refusal", "Verdict", "__version__", "default_way", "library", "pieces"]
+__all__ = ["Certificate", "Mesh", "MissingLibrary", "Pieces", "Place", "Reason", "Refusal", "Verdict", "__version__", "default_way", "library", "pieces"]

@@ -7,11 +7,11 @@ from typing import Any, Optional
 
 import numpy
 
-from . import lend, mesh as meshes, polygons as shapes, reasons, rooms
+from . import clearance, joining, lend, mesh as meshes, polygons as shapes, reasons, rooms
 from .library import library, nothing
 from .mesh import Mesh
 from .refusal import Refusal
-from .verdict import AUDIT, CERTIFY, Reason, Verdict
+from .verdict import AUDIT, CERTIFY, Certificate, Reason, Verdict
 
 Box = tuple[float, float, float, float]
 Made = tuple[numpy.ndarray, numpy.ndarray, numpy.ndarray, Optional[numpy.ndarray]]  # vertices, offsets, indexes, a build's counts
@@ -32,7 +32,7 @@ def pieces(points: Any, box: Any, mesh: Optional[Mesh] = None, way: Optional[str
     >>> found = pieces([(-.5, -.5), (-.5, .5), (.5, .5), (.5, -.5)], (-1, -1, 1, 1))
     >>> found.areas.tolist()
     [1.0, 1.0, 1.0, 1.0]
-    >>> found.audit().sound
+    >>> found.certify().sound
     True
     """
     edges = edges_of(box)
@@ -86,6 +86,11 @@ def trimmed(vertices: numpy.ndarray, indexes: numpy.ndarray, offsets: numpy.ndar
     return vertices[:2 * count].reshape(-1, 2).copy(), offsets, indexes[:int(offsets[-1])].copy()
 
 
+def known(number: int) -> Optional[int]:
+    """A number that a verdict names, or none."""
+    return None if number == rooms.EMPTY else int(number)
+
+
 class Pieces:
     """Pieces that were made; their gauges are numbered from 0, as the points were given.
 
@@ -132,10 +137,14 @@ class Pieces:
         return self.vertices[self.indexes[self.offsets[gauge]:self.offsets[gauge + 1]]]
 
     def polygons(self, form: str = "wkb", crs: Any = None) -> Any:
-        """The piece of each gauge: "wkb" bytes, "shapely" polygons, or a "geopandas" GeoSeries in the reference system `crs`."""
-        if form not in ("wkb", "shapely", "geopandas"):
-            raise ValueError(f"a form is wkb, shapely or geopandas, not {form!r}")
-        wkb = shapes.images(self.vertices, self.offsets, self.indexes[:int(self.offsets[-1])])
+        """The piece of each gauge: "wkb" bytes, "shapely" polygons, or a "geopandas" GeoSeries in the reference system `crs`; "buffer" is the bytes of all, one after
+        the other, and where each begins, in two arrays."""
+        if form not in ("wkb", "shapely", "geopandas", "buffer"):
+            raise ValueError(f"a form is wkb, shapely, geopandas or buffer, not {form!r}")
+        cells = self.vertices, self.offsets, self.indexes[:int(self.offsets[-1])]
+        if form == "buffer":
+            return shapes.buffer(*cells)
+        wkb = shapes.images(*cells)
         return wkb if form == "wkb" else shapes.shapes(wkb) if form == "shapely" else shapes.series(wkb, crs)
 
     def neighbours(self) -> list[numpy.ndarray]:
@@ -185,8 +194,34 @@ class Pieces:
             ends[k] = ((self.points - asked[k]) ** 2).sum(1).argmin()
         return ends
 
+    def certify(self, bits: int = rooms.CERTIFY_BITS) -> Certificate:
+        """The certificate, over the gauges that were given: kind 0 says, by theorem, that these are their true pieces, to 2^-bits of the box's reach.
+
+        Ghosts of the mesh are no gauges and have no pieces: the sites that are lent are the gauges, so that ground which a ghost took is missing and is named. Where there are
+        one or two, ghosts without a piece make them three, which is the least that the library takes; a piece that they had would be left out, and named too.
+
+        >>> found = pieces([(-.5, -.5), (-.5, .5), (.5, .5), (.5, -.5)], (-1, -1, 1, 1))
+        >>> print(found.certify())
+        certified: every place that is nearer to one gauge by more than 3.4e-10 is in its piece, once
+        """
+        count = max(len(self), rooms.LEAST_SITES)
+        sites, offsets = self.mesh.sites[:count], numpy.minimum(self._all_offsets[:count + 1], self.offsets[-1])
+        entries = self.indexes[:int(offsets[-1])]
+        work = numpy.empty(rooms.certify_room(count, len(entries)), numpy.uint32)
+        number, kind, site, vertex, other = library().call("voronoi_certify_by_edges", *self.box, sites, self.vertices, offsets, entries, bits, work)
+        if number:
+            raise Refusal(number)
+        corner = None if vertex == rooms.EMPTY else self._place(vertex)
+        return Certificate(kind, CERTIFY[kind], known(site), known(vertex), corner, known(other), bits, clearance.apart(self.box, sites, bits))
+
+    def joined(self) -> "Pieces":
+        """These with the corners joined that are within 2^-30 of the reach of each other, and put on the edges of the box that they are as near to: for a build, whose
+        crossings are computed from both ends of a side and may differ by a last bit."""
+        moved = joining.joined(self.box, self.vertices, self.indexes)
+        return Pieces(self.box, self.mesh, self.way, moved, self._all_offsets, self.indexes, self.counts)
+
     def audit(self, bits: int = rooms.AUDIT_BITS, against_all: bool = False) -> Verdict:
-        """Whether the pieces are what they should be, to 2^-bits: each against its gauge's neighbours in the mesh, or against all gauges."""
+        """The audit's five tests, to 2^-bits of the box: each piece against its gauge's neighbours in the mesh, or against all gauges. `certify` says more."""
         starts = others = nothing("i")
         if not against_all:
             begins, near = self._near(nothing("i"), nothing("i"))
@@ -196,23 +231,10 @@ class Pieces:
             "voronoi_audit_by_edges", *self.box, self.mesh.sites, self.vertices, self._all_offsets, self.indexes, starts, others, bits)
         if number:
             raise Refusal(number)
-        return self._verdict(AUDIT, kind, site, vertex, other, missing, bits)
+        return Verdict(kind, AUDIT[kind], known(site), None if vertex == rooms.EMPTY else self._place(vertex), known(other), missing, bits)
 
-    def certify(self, bits: int = rooms.CERTIFY_BITS) -> Verdict:
-        """The certificate: sound means that these are the true pieces, to 2^-bits; voronoi_certify_by_edges, where the library has it."""
-        if not library().has("voronoi_certify_by_edges"):
-            raise NotImplementedError(f"{library().path} has no voronoi_certify_by_edges")
-        work = numpy.empty(rooms.certify_room(len(self.mesh.sites), len(self.indexes)), numpy.uint32)
-        number, kind, site, vertex, other = library().call(
-            "voronoi_certify_by_edges", *self.box, self.mesh.sites, self.vertices, self._all_offsets, self.indexes, bits, work)
-        if number:
-            raise Refusal(number)
-        return self._verdict(CERTIFY, kind, site, vertex, other, math.nan, bits)
-
-    def _verdict(self, words: tuple[str, ...], kind: int, site: int, vertex: int, other: int, missing: float, bits: int) -> Verdict:
-        known = lambda number: None if number == rooms.EMPTY else int(number)
-        corner = None if vertex == rooms.EMPTY else (float(self.vertices[vertex][0]), float(self.vertices[vertex][1]))
-        return Verdict(kind, words[kind], known(site), corner, known(other), missing, bits)
+    def _place(self, vertex: int) -> tuple[float, float]:
+        return float(self.vertices[vertex][0]), float(self.vertices[vertex][1])
 
     def why(self, first: Optional[int] = None, second: Optional[int] = None) -> Reason:
         """Of the build: why a gauge's piece is empty, or that the second gauge is no neighbour of the first in the box."""

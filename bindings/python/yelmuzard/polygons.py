@@ -11,18 +11,25 @@ from .library import library
 from .refusal import Refusal
 
 
-def images(vertices: numpy.ndarray, offsets: numpy.ndarray, indexes: numpy.ndarray) -> list[bytes]:
-    """The polygon of each cell in Well-Known Binary (little-endian), byte for byte as voronoi_cell_wkb writes it."""
+def buffer(vertices: numpy.ndarray, offsets: numpy.ndarray, indexes: numpy.ndarray) -> tuple[numpy.ndarray, numpy.ndarray]:
+    """The polygons of all cells in Well-Known Binary (little-endian), one after the other, byte for byte as voronoi_cell_wkb writes each; and where each begins, and
+    the last ends: what Arrow calls a large binary array."""
     lengths = numpy.diff(offsets.astype(numpy.int64))
     sizes = numpy.where(lengths < 3, rooms.wkb_room(0), rooms.wkb_room(0) + 20 + 16 * lengths)
-    starts = numpy.concatenate([[0], numpy.cumsum(sizes)])
-    out = numpy.empty(int(starts[-1]) or 1, numpy.uint8)
+    starts = numpy.concatenate([[0], numpy.cumsum(sizes)]).astype(numpy.uint64)
+    out = numpy.empty(int(starts[-1]), numpy.uint8)
     if library().has("voronoi_all_wkb"):
-        number, _ = library().call("voronoi_all_wkb", vertices, offsets, indexes, numpy.empty(len(offsets), numpy.uint64), out)
+        number, _ = library().call("voronoi_all_wkb", vertices, offsets, indexes, starts, out)
         if number:
             raise Refusal(number)
     else:
         one_by_one(vertices, offsets, indexes, starts, out)
+    return out, starts
+
+
+def images(vertices: numpy.ndarray, offsets: numpy.ndarray, indexes: numpy.ndarray) -> list[bytes]:
+    """The polygon of each cell."""
+    out, starts = buffer(vertices, offsets, indexes)
     whole, places = out.tobytes(), starts.tolist()
     return [whole[a:b] for a, b in zip(places, places[1:])]
 

@@ -8,6 +8,7 @@ FAR = 2.0 ** 100
 COUNTS = 9
 COUNT_VERTICES, COUNT_OWNERS, COUNT_LOST = 0, 1, 5
 AUDIT_BITS, CERTIFY_BITS = 20, 32
+JOINED_BITS = 28  # of a certificate over a build whose corners were joined
 GHOSTS = 64
 
 
@@ -55,5 +56,5 @@ def mesh_work(gauges: int) -> int:
 
 
 def certify_room(sites: int, entries: int) -> int:
-    """Of the certificate."""
-    return 8 * sites + 8 * entries + 64
+    """Of the certificate, in words; the entries without a cleared tail."""
+    return 3 * entries + 2 * sites + 64

@@ -1,18 +1,68 @@
-"""What the audit, the certificate and `why` say of pieces, in numbers and in words. Gauges are numbered from 0, as in the list of points."""
+"""What the certificate, the audit and `why` say of pieces, in numbers and in words. Gauges are numbered from 0, as in the list of points."""
 from __future__ import annotations
 
-from typing import NamedTuple, Optional
+from typing import Callable, NamedTuple, Optional
 
+from . import clearance
 from .refusal import Place
 
 AUDIT = ("sound", "a ring does not run once round", "a corner is outside the box", "a corner is nearer to another gauge", "the pieces do not add up to the box",
          "two gauges stand at one place")
-CERTIFY = ("sound", "a corner is outside the box", "a side lies beside its own", "the border of the pieces is not the box's",
+CERTIFY = ("certified", "a corner is outside the box", "a side is no other piece's", "the pieces do not go round the box once",
            "a corner is nearer to another gauge", "two gauges stand at one place")
 
 
+def certified(apart: float, unit: str = "") -> str:
+    """
+    >>> certified(.0019, "m")
+    'certified: every place that is nearer to one gauge by more than 1.9 mm is in its piece, once'
+    """
+    return f"certified: every place that is nearer to one gauge by more than {clearance.words(apart, unit)} is in its piece, once"
+
+
+class Certificate(NamedTuple):
+    """Kind 0, `certified`: every place of the box that is nearer to one gauge than to any other by more than `apart`, in the coordinates' unit, lies in the piece of that
+    gauge, once, and in no other. Else the first fault: its kind, the gauge, the vertex and where that is, the other gauge."""
+
+    kind: int
+    words: str
+    gauge: Optional[int]
+    vertex: Optional[int]
+    corner: Optional[tuple[float, float]]
+    other: Optional[int]
+    bits: int
+    apart: float
+
+    @property
+    def sound(self) -> bool:
+        return self.kind == 0
+
+    def told(self, called: Callable[[int], str], unit: str = "") -> str:
+        """The verdict in words; `called` names a gauge by its number.
+
+        >>> fault = Certificate(4, CERTIFY[4], 0, 17, (3.0, 4.0), 2, 32, 1e-9)
+        >>> fault.told("gauge {}".format)
+        'kind 4, the corner 3 4 (vertex 17) of the piece of gauge 0 is nearer to gauge 2'
+        """
+        if self.sound:
+            return certified(self.apart, unit)
+        own = "" if self.gauge is None else called(self.gauge)
+        at = "" if self.corner is None else f"the corner {self.corner[0]:.9g} {self.corner[1]:.9g} (vertex {self.vertex}) of the piece of {own}"
+        if self.kind == 1:
+            return f"kind 1, {at} is outside the box"
+        if self.kind == 2:
+            return f"kind 2, the side that starts at {at} is no other piece's"
+        if self.kind == 3:
+            return f"kind 3, {self.words}"
+        other = "" if self.other is None else called(self.other)
+        return f"kind 4, {at} is nearer to {other}" if self.kind == 4 else f"kind 5, {other} and {own} stand at one place"
+
+    def __str__(self) -> str:
+        return self.told("gauge {}".format)
+
+
 class Verdict(NamedTuple):
-    """`sound`, or the first fault: its kind, gauge, corner and the other gauge; `missing` is the share of the box that no piece covers."""
+    """The audit's: `sound`, or the first fault: its kind, gauge, corner and the other gauge; `missing` is the share of the box that no piece covers."""
 
     kind: int
     words: str

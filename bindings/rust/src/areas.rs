@@ -6,6 +6,18 @@ use crate::{Point, Refusal, Voronoi};
 impl Voronoi {
     /// The area of each piece, exact and rounded once, so that its sign is the truth: below 0 where a piece turns the wrong way.
     /// The areas of sound pieces add up to the box's but for rounding.
+    ///
+    /// ```
+    /// use yelmuzard::*;
+    ///
+    /// # fn main() -> Result<(), Refusal> {
+    /// # let sites = vec![Point { x: 0.0, y: 0.0 }, Point { x: 1.0, y: 0.0 }, Point { x: 0.0, y: 1.0 }];
+    /// # let mesh = Triangulation { triangles: vec![0, 2, 1], halfedges: vec![EMPTY; 3], hull: vec![0, 2, 1] };
+    /// let voronoi = Voronoi::cut(sites, BoundingBox::new_centered_square(4.0), mesh)?;
+    /// assert_eq!(voronoi.areas()?, [6.25, 4.875, 4.875]);
+    /// # Ok(())
+    /// # }
+    /// ```
     pub fn areas(&self) -> Result<Vec<f64>, Refusal> {
         areas(self.vertices(), self.lent_cells())
     }

@@ -1,4 +1,4 @@
-//! Whether the pieces are what they should be.
+//! The audit: five tests of the pieces.
 
 use crate::calls::{self, Cells};
 use crate::{sys, Refusal, Voronoi};
@@ -11,15 +11,15 @@ pub const AUDIT_BITS: u32 = sys::AUDIT_BITS as u32;
 pub struct Audit {
     /// the share of the box that no piece covers; below 0 where pieces overlap
     pub missing: f64,
-    /// the first fault; none where the pieces are what they should be
+    /// the first fault; none where no test tells one
     pub fault: Option<Fault>,
 }
 
-/// A fault of the pieces, the first in this order.
+/// A fault of the pieces, as an audit or a certificate tells it.
 #[derive(Clone, Copy, Debug, PartialEq, Eq)]
 #[non_exhaustive]
 pub enum Fault {
-    /// a piece does not run once round, the right way
+    /// a piece does not run once round, the right way (the audit)
     Ring {
         /// the lowest such gauge
         site: usize,
@@ -31,6 +31,15 @@ pub enum Fault {
         /// its first such corner, a place in [Voronoi::vertices]
         vertex: usize,
     },
+    /// a side of a piece is no other piece's: it comes more often than its way back (the certificate)
+    Side {
+        /// the lowest such gauge
+        site: usize,
+        /// the corner where its first such side starts
+        vertex: usize,
+    },
+    /// the pieces do not go round the box exactly once (the certificate)
+    Border,
     /// a corner of a piece lies nearer to another gauge
     Nearer {
         /// the lowest such gauge
@@ -40,7 +49,7 @@ pub enum Fault {
         /// the first gauge that is nearer to it
         other: usize,
     },
-    /// the areas do not add up to the box's
+    /// the areas do not add up to the box's (the audit)
     Total,
     /// two gauges stand at one place
     Twin {
@@ -52,10 +61,9 @@ pub enum Fault {
 }
 
 impl Voronoi {
-    /// Whether the pieces are what they should be, to 2^-bits of the box: each runs once round, the right way, lies in the box and has no
-    /// corner that is nearer to any other gauge, and all of them add up to the box; else the first fault. It looks at the pieces alone, so
-    /// that it finds what a wrong mesh has done, such as one that is wound the other way. [AUDIT_BITS] is far from what rounding does, and
-    /// from what a wrong mesh does. Refused (1) above 52.
+    /// Five tests, to 2^-bits of the box: each piece runs once round, the right way, lies in the box and has no corner that is nearer to any
+    /// other gauge, and all of them add up to the box; else the first fault. [AUDIT_BITS] is far from what rounding does, and from what a
+    /// wrong mesh does. Refused (1) above 52. The certificate is [Voronoi::certify]: wrong pieces can be made that pass here.
     ///
     /// Its time grows with the corners times the gauges; [Voronoi::audit_near] is for many gauges, and leaves out what only a gauge further off would
     /// tell.

@@ -59,6 +59,10 @@ type Audits = unsafe extern "C" fn(
     f64, f64, f64, f64, *const f64, usize, *const f64, usize, *const u32, usize, *const u32, usize, *const u32, usize, *const u32, usize,
     u32, *mut u32, *mut u32, *mut u32, *mut u32, *mut f64,
 ) -> u32;
+type Certifies = unsafe extern "C" fn(
+    f64, f64, f64, f64, *const f64, usize, *const f64, usize, *const u32, usize, *const u32, usize,
+    u32, *mut u32, usize, *mut u32, *mut u32, *mut u32, *mut u32,
+) -> u32;
 
 pub(crate) fn centroid(points: &[Point]) -> Result<Point, Refusal> {
     let mut mean = Point::default();
@@ -133,12 +137,12 @@ pub(crate) fn build(b: &BoundingBox, m: Mesh<'_>, s: &mut Slices<'_>) -> Result<
     })
 }
 
-/// The kind of the one reason, and the three numbers that it names; the refusal itself is the build's.
-pub(crate) fn why(b: &BoundingBox, m: Mesh<'_>, s: &mut Slices<'_>) -> (usize, [usize; 3]) {
+/// The number that a build is refused with, the kind of the one reason, and the three numbers that it names.
+pub(crate) fn why(b: &BoundingBox, m: Mesh<'_>, s: &mut Slices<'_>) -> (u32, usize, [usize; 3]) {
     let ([cx, cy, width, height], call): (_, Why) = taking(b, sys::voronoi_why, sys::voronoi_why_by_edges);
     let [mut kind, mut place, mut from, mut to] = [0; 4];
     // SAFETY: each slice with its own length, that of points in numbers; five of those written are borrowed `&mut`, four are local values.
-    let _refusal: u32 = unsafe {
+    let number = unsafe {
         call(
             cx, cy, width, height,
             m.sites.as_ptr().cast(), 2 * m.sites.len(), m.triangles.as_ptr(), m.triangles.len(),
@@ -148,7 +152,7 @@ pub(crate) fn why(b: &BoundingBox, m: Mesh<'_>, s: &mut Slices<'_>) -> (usize, [
             s.counts.as_mut_ptr(), s.counts.len(), &mut kind, &mut place, &mut from, &mut to,
         )
     };
-    (kind as usize, [place, from, to].map(|number| number as usize))
+    (number, kind as usize, [place, from, to].map(|number| number as usize))
 }
 
 /// Pieces cut so that they add up; the vertices that were made. The last of the slices is not looked at.
@@ -257,4 +261,21 @@ pub(crate) fn audit(
         )
     })?;
     Ok(Audited { kind: kind as usize, named: [site, vertex, other], missing })
+}
+
+/// The kind, and the site, vertex and other site that it names.
+pub(crate) fn certify(
+    b: &BoundingBox, sites: &[Point], vertices: &[Point], cells: Cells<'_>, bits: u32, work: &mut [u32],
+) -> Result<(usize, [u32; 3]), Refusal> {
+    let ([cx, cy, width, height], call): (_, Certifies) = taking(b, sys::voronoi_certify, sys::voronoi_certify_by_edges);
+    let [mut kind, mut site, mut vertex, mut other] = [0; 4];
+    // SAFETY: each slice with its own length, that of points in numbers; one of those written is borrowed `&mut`, four are local values.
+    Refusal::of(unsafe {
+        call(
+            cx, cy, width, height, sites.as_ptr().cast(), 2 * sites.len(), vertices.as_ptr().cast(), 2 * vertices.len(),
+            cells.offsets.as_ptr(), cells.offsets.len(), cells.indexes.as_ptr(), cells.indexes.len(),
+            bits, work.as_mut_ptr(), work.len(), &mut kind, &mut site, &mut vertex, &mut other,
+        )
+    })?;
+    Ok((kind as usize, [site, vertex, other]))
 }

@@ -49,6 +49,19 @@ impl<'v> VoronoiCell<'v> {
     ///
     /// It costs a check of the whole mesh and two lists as long as there are gauges, some 5 ms at 65,536, however short the path is: for the gauges of
     /// many points ask [Voronoi::ends], one check for all of them.
+    ///
+    /// ```
+    /// use yelmuzard::*;
+    ///
+    /// # fn main() -> Result<(), Refusal> {
+    /// # let sites = vec![Point { x: 0.0, y: 0.0 }, Point { x: 1.0, y: 0.0 }, Point { x: 0.0, y: 1.0 }];
+    /// # let mesh = Triangulation { triangles: vec![0, 2, 1], halfedges: vec![EMPTY; 3], hull: vec![0, 2, 1] };
+    /// let voronoi = Voronoi::new(sites, BoundingBox::new_centered_square(4.0), mesh)?;
+    /// let path = voronoi.cell(2).iter_path(Point { x: 1.5, y: 0.0 })?;
+    /// assert_eq!(path.collect::<Vec<usize>>(), [2, 1]);
+    /// # Ok(())
+    /// # }
+    /// ```
     pub fn iter_path(&self, to: Point) -> Result<impl ExactSizeIterator<Item = usize> + DoubleEndedIterator + Clone, Refusal> {
         let n = self.voronoi.sites().len();
         // no gauge stands twice on a path, so that this room is enough for all of it

@@ -1,6 +1,6 @@
 //! The piece of a box that lies nearest to each gauge, built by a proved library, libvoronoi.a. Names and shapes are those of the crate
 //! voronoice 0.2.0, so that a program moves over by changing a `use`, a `.build()` and a line for each path; what differs is said at each
-//! item, and `docs/PLANNER.md` of the repository has it on a page.
+//! item, and `docs/use/RUST.md` of the repository has it on a page.
 //!
 //! ```
 //! use yelmuzard::*;
@@ -34,6 +34,7 @@ mod builder;
 #[rustfmt::skip]
 mod calls;
 mod cell;
+mod certify;
 mod ends;
 mod mesh;
 mod neighbors;
@@ -46,6 +47,7 @@ pub use audit::{Audit, Fault, AUDIT_BITS};
 pub use bounding_box::BoundingBox;
 pub use builder::VoronoiBuilder;
 pub use cell::VoronoiCell;
+pub use certify::CERTIFY_BITS;
 pub use mesh::{centroid, Point, Triangulation, EMPTY};
 pub use refusal::{Place, Refusal};
 pub use voronoi::Voronoi;

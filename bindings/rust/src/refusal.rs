@@ -38,7 +38,7 @@ impl fmt::Display for Place {
     }
 }
 
-/// Why the library refuses: a number of include/voronoi.h, with words and, where there is one, a place. `docs/RULES.md` of the repository has an
+/// Why the library refuses: a number of include/voronoi.h, with words and, where there is one, a place. `docs/use/RULES.md` of the repository has an
 /// example of each. Two refusals are equal where their numbers are, wherever they were met: `refusal == Refusal::Hull`.
 ///
 /// ```

@@ -17,6 +17,13 @@ pub const AUDIT_RING: usize = 1;
 pub const AUDIT_OUTSIDE: usize = 2;
 pub const AUDIT_NEARER: usize = 3;
 pub const AUDIT_TOTAL: usize = 4;
+/// A certificate's usual tolerance, and its kinds but the last.
+pub const CERTIFY_BITS: usize = 32;
+pub const CERTIFY_SOUND: usize = 0;
+pub const CERTIFY_OUTSIDE: usize = 1;
+pub const CERTIFY_SIDE: usize = 2;
+pub const CERTIFY_BORDER: usize = 3;
+pub const CERTIFY_NEARER: usize = 4;
 /// What a reason names.
 pub const WHY_SITE: usize = 2;
 pub const WHY_TRIANGLE: usize = 3;
@@ -83,6 +90,17 @@ calls! {
         vertices_len: usize, offsets: *const u32, offsets_len: usize, indexes: *const u32, indexes_len: usize, starts: *const u32,
         starts_len: usize, others: *const u32, others_len: usize, bits: u32, kind: *mut u32, site: *mut u32, vertex: *mut u32,
         other: *mut u32, missing: *mut f64);
+    fn voronoi_certify(cx: f64, cy: f64, width: f64, height: f64, sites: *const f64, sites_len: usize, vertices: *const f64,
+        vertices_len: usize, offsets: *const u32, offsets_len: usize, indexes: *const u32, indexes_len: usize, bits: u32, work: *mut u32,
+        work_len: usize, kind: *mut u32, site: *mut u32, vertex: *mut u32, other: *mut u32);
+    fn voronoi_certify_by_edges(left: f64, top: f64, right: f64, bottom: f64, sites: *const f64, sites_len: usize,
+        vertices: *const f64, vertices_len: usize, offsets: *const u32, offsets_len: usize, indexes: *const u32, indexes_len: usize,
+        bits: u32, work: *mut u32, work_len: usize, kind: *mut u32, site: *mut u32, vertex: *mut u32, other: *mut u32);
+}
+
+/// How many words a certificate works in, for n sites and m entries.
+pub const fn certify_room(n: usize, m: usize) -> usize {
+    3 * m + 2 * n + 64
 }
 
 #[cfg(voronoi_cut)]

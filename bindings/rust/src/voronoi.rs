@@ -42,6 +42,20 @@ impl Voronoi {
     }
     /// Cuts the pieces so that they add up to the box, over a mesh that is at hand: by theorem no corner is lost and no piece is short, where a
     /// build does what voronoice does. No gauge is dropped.
+    ///
+    /// ```
+    /// use yelmuzard::*;
+    ///
+    /// # fn main() -> Result<(), Refusal> {
+    /// # let sites = vec![Point { x: 0.0, y: 0.0 }, Point { x: 1.0, y: 0.0 }, Point { x: 0.0, y: 1.0 }];
+    /// # let mesh = Triangulation { triangles: vec![0, 2, 1], halfedges: vec![EMPTY; 3], hull: vec![0, 2, 1] };
+    /// // a box that lies within the piece of gauge 0: a build has no piece at all there, as voronoice has none
+    /// let within = BoundingBox::new_centered_square(0.25);
+    /// assert_eq!(Voronoi::cut(sites.clone(), within.clone(), mesh.clone())?.areas()?, [0.0625, 0.0, 0.0]);
+    /// assert_eq!(Voronoi::new(sites, within, mesh)?.areas()?, [0.0; 3]);
+    /// # Ok(())
+    /// # }
+    /// ```
     #[cfg(voronoi_cut)]
     pub fn cut(sites: Vec<Point>, bounding_box: BoundingBox, triangulation: Triangulation) -> Result<Self, Refusal> {
         let room = |t: usize, h: usize| Room { vertices: sys::cut_vertex_room(t, h), indexes: sys::cut_index_room(t, h) };
@@ -73,8 +87,10 @@ impl Voronoi {
         let mut written =
             Slices { work: &mut leftmost, vertices: &mut vertices, indexes: &mut indexes, offsets: &mut offsets, counts: &mut counts };
         if let Err(refusal) = make(&bounding_box, lent, &mut written) {
-            let (kind, [place, from, to]) = calls::why(&bounding_box, lent, &mut written);
+            // a cutting's own refusal has no place: the build's is of another rule
+            let (number, kind, [place, from, to]) = calls::why(&bounding_box, lent, &mut written);
             return Err(refusal.at(match kind {
+                _ if number != refusal.number() => None,
                 sys::WHY_SITE => Some(Place::Site(place)),
                 sys::WHY_TRIANGLE => Some(Place::Triangle(place)),
                 sys::WHY_HALFEDGE => Some(Place::HalfEdge(place)),

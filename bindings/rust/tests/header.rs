@@ -78,6 +78,12 @@ fn every_number() {
         "AUDIT_OUTSIDE",
         "AUDIT_NEARER",
         "AUDIT_TOTAL",
+        "CERTIFY_BITS",
+        "CERTIFY_SOUND",
+        "CERTIFY_OUTSIDE",
+        "CERTIFY_SIDE",
+        "CERTIFY_BORDER",
+        "CERTIFY_NEARER",
         "WHY_SITE",
         "WHY_TRIANGLE",
         "WHY_HALFEDGE",
@@ -91,6 +97,8 @@ fn every_number() {
     // the rooms of src/voronoi.rs
     assert!(header.contains("#define VORONOI_VERTEX_ROOM(T, H) (7 * (size_t)(T) + 5 * (size_t)(H) + 4)"));
     assert!(header.contains("#define VORONOI_INDEX_ROOM(T, H) (12 * (size_t)(T) + 8 * (size_t)(H) + 4)"));
+    // the room of src/sys.rs
+    assert!(header.contains("#define VORONOI_CERTIFY_ROOM(N, M) (3 * (size_t)(M) + 2 * (size_t)(N) + 64)"));
     // the room of src/wkb.rs
     assert!(header.contains("#define VORONOI_WKB_ROOM(n) ((n) < 3 ? 9 : 29 + 16 * (size_t)(n))"));
     assert!(text("VERSION").trim() == env!("CARGO_PKG_VERSION"), "the crate has the version of the library");

@@ -20,7 +20,7 @@ fn the_listing_of_the_readme() {
     assert_eq!(v.cell(0).triangles(), [2, 62, 50, 63, 1]);
     assert_eq!((v.corner_owners(), v.lost_corners()), ([0, 27, 29, 1], 0));
     // every line of it
-    for (cell, line) in v.iter_cells().zip(text("tests/cells/thirty.out").lines().skip(1)) {
+    for (cell, line) in v.iter_cells().zip(text("tests/programs/cells/thirty.out").lines().skip(1)) {
         let entries: Vec<String> = cell.triangles().iter().map(u32::to_string).collect();
         assert_eq!(format!("cell {}: {}", cell.site(), entries.join(" ")), line);
     }
@@ -197,6 +197,32 @@ fn an_audit() {
     assert_eq!(built("examples/square.txt").unwrap().audit_near(53), Err(Refusal::Count));
 }
 
+/// By cutting the pieces are certified; a flipped edge, exchanged gauges, a gauge twice and a build's faults are named.
+#[test]
+fn a_certificate() {
+    for name in ["examples/thirty.txt", "examples/square.txt", "harness/meshes/lost_corners.txt", "harness/meshes/covered_box.txt"] {
+        let (bounding_box, sites, mesh) = read(name);
+        let v = Voronoi::cut(sites.clone(), bounding_box.clone(), mesh.clone()).unwrap();
+        assert_eq!(v.certify(CERTIFY_BITS), Ok(None), "{name}");
+        let [left, top, right, bottom] =
+            [bounding_box.left(), bounding_box.top(), bounding_box.right(), bounding_box.bottom()].map(Result::unwrap);
+        let v = Voronoi::cut(sites, BoundingBox::from_edges(left, top, right, bottom), mesh).unwrap();
+        assert_eq!((v.certify(CERTIFY_BITS), v.certify(53)), (Ok(None), Err(Refusal::Count)), "{name}");
+    }
+    // the accident: a mesh whose pieces add up and are the wrong ones
+    let (bounding_box, sites, mesh) = read("examples/accident.txt");
+    let v = Voronoi::cut(sites, bounding_box, mesh).unwrap();
+    assert!(matches!(v.certify(CERTIFY_BITS).unwrap(), Some(Fault::Nearer { .. })));
+    // no piece has a corner; a quarter of the box is gone
+    assert_eq!(built("harness/meshes/covered_box.txt").unwrap().certify(CERTIFY_BITS), Ok(Some(Fault::Border)));
+    assert!(built("harness/meshes/lost_corners.txt").unwrap().certify(CERTIFY_BITS).unwrap().is_some());
+    // a gauge beside the square that stands where another does, in no triangle
+    let (bounding_box, mut sites, mesh) = read("examples/square.txt");
+    sites.push(sites[1]);
+    let v = Voronoi::cut(sites, bounding_box, mesh).unwrap();
+    assert_eq!(v.certify(CERTIFY_BITS), Ok(Some(Fault::Twin { site: 4, other: 1 })));
+}
+
 /// A box by its edges has them bit for bit, and so have the pieces.
 #[test]
 fn by_its_edges() {
@@ -216,7 +242,7 @@ fn by_its_edges() {
     }
 }
 
-/// Two sheets that share an edge on a tenth of a metre meet there: 100,000 pairs, the corners of the box and of the pieces.
+/// Two sheets that share an edge on a tenth of a metre meet there: 100,000 pairs, the corners of the box and of the pieces, built and cut in turn.
 #[test]
 fn neighbouring_sheets_meet() {
     let (_, sites, mesh) = read("examples/square.txt");
@@ -231,12 +257,10 @@ fn neighbouring_sheets_meet() {
         let (west, east) = (BoundingBox::from_edges(left, 0.0, middle, 1.0), BoundingBox::from_edges(middle, 0.0, right, 1.0));
         assert_eq!(west.right().unwrap().to_bits(), east.left().unwrap().to_bits());
         apart += u32::from(west.right() != BoundingBox::new(*east.center(), right - middle, 1.0).left());
-        if pair % 100 == 0 {
-            let of = |b| Voronoi::new(sites.clone(), b, mesh.clone()).unwrap();
-            let (west, east) = (of(west), of(east));
-            // the box's corners stand after the two triangles
-            assert_eq!((west.vertices()[4].x, west.vertices()[5].x), (east.vertices()[2].x, east.vertices()[3].x));
-        }
+        let of = |b| if pair % 2 == 0 { Voronoi::new } else { Voronoi::cut }(sites.clone(), b, mesh.clone()).unwrap();
+        let (west, east) = (of(west), of(east));
+        // the box's corners stand after the two triangles
+        assert_eq!((west.vertices()[4].x, west.vertices()[5].x), (east.vertices()[2].x, east.vertices()[3].x));
     }
     assert!(apart > 0, "by centre and size all sheets meet too: this test shows nothing");
 }

@@ -204,7 +204,7 @@ fn numbers_that_are_none() {
     }
 }
 
-/// Each refusal of a mesh has its place, as `voronoi_why` names it: the rows of docs/RULES.md on "square".
+/// Each refusal of a mesh has its place, as `voronoi_why` names it: the rows of docs/use/RULES.md on "square".
 #[test]
 fn places() {
     let at = |refusal: Refusal| (refusal.number(), refusal.place());
@@ -217,6 +217,14 @@ fn places() {
     assert_eq!(at(square(|b, _, _| *b = BoundingBox::from_edges(1.0, 0.0, -1.0, 1.0))), (3, None));
     let edge = refused("harness/meshes/refused_13_lone.txt");
     assert!(matches!(at(edge), (13, Some(Place::Edge { .. }))), "{edge:?}");
+    // 25 is the cutting's own: a build of the same mesh is refused by another rule, whose place is none of 25's
+    let turned = |make: fn(Vec<Point>, BoundingBox, Triangulation) -> Result<Voronoi, Refusal>| {
+        let sites = [(0.5, 0.5), (-0.5, 0.0), (0.75, 0.5)].map(|(x, y)| Point { x, y }).to_vec();
+        let mesh = Triangulation { triangles: vec![0, 1, 2], halfedges: vec![EMPTY; 3], hull: vec![0, 1, 2] };
+        make(sites, BoundingBox::default(), mesh)
+    };
+    assert!(matches!(at(turned(Voronoi::new).unwrap_err()), (13, Some(_))));
+    assert_eq!(at(turned(Voronoi::cut).unwrap_err()), (25, None));
     // a site that the builder cannot place, by its number in the list that was given
     let sites = vec![Point::default(), Point { x: 5.0, y: 0.0 }, Point { x: 1e36, y: 0.0 }];
     let refusal = VoronoiBuilder::default().set_sites(sites).build(|_| Triangulation::default()).unwrap_err();

@@ -6,11 +6,11 @@ use Prim.Native.Nat.{ℕ, _/_, _≤_}
 use lib.Dec.{leb}
 use lib.Ieee.{Float}
 use lib.ListN.{length}
-use Rattle.laws.specs.Binary64.{zero}
-use Rattle.numbers.specs.Numbers.{EMPTY}
+use Rattle.base.specs.common.Binary64.{zero}
+use Rattle.base.specs.numbers.Numbers.{EMPTY}
 use Rattle.mesh.specs.Accepted.{Mesh, Counted, siteCount}
-use Rattle.check_mesh.specs.Answers.{workAfter}
-use Rattle.check_mesh.specs.AtExit.{whenRefused}
+use Rattle.mesh_check.specs.whole.Answers.{workAfter}
+use Rattle.mesh_check.specs.whole.AtExit.{whenRefused}
 use Rattle.admission.specs.Admits.{askedRules, Admits}
 use Rattle.admission.specs.Slices.{Slices, roomFor, roomOf}
 

@@ -5,7 +5,7 @@ use mathlib.Core.List.{List, [], _∷_, _++_}
 use Prim.Native.Nat.{ℕ}
 use lib.Ieee.{Float}
 use lib.ListN.{length}
-use Rattle.laws.specs.Refusals.{Rule, once, reads, Keep, Finds}
+use Rattle.base.specs.common.Refusals.{Rule, once, reads, Keep, Finds}
 use Rattle.mesh.specs.Faults.{numberOf, startRules, coordinateRules}
 use Rattle.mesh.specs.Rules.{callRules}
 use Rattle.mesh.specs.Accepted.{Mesh, Accepted}

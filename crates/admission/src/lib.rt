@@ -1,11 +1,11 @@
 // The rules up to 10 that a call tries on what it is lent: 1 and 2 on counts and room, 3 to 5 by the number that its own arguments gave, 6 on coordinates, 7 to 10 on the mesh.
-use outputs::clear_all;
-use outputs::rooms_ok;
+use cell_memory::outputs::clear_all;
+use cell_memory::outputs::rooms_ok;
 ghost use mathlib.Core.Path.{_≡_};
 ghost use mathlib.Core.Bool.{true};
 ghost use Prim.Native.Nat.{_/_, _<_, _≤_};
 ghost use lib.ListN.{length};
-ghost use Rattle.numbers.specs.Numbers.{refusedTriangle};
+ghost use Rattle.base.specs.numbers.Numbers.{refusedTriangle};
 ghost use Rattle.mesh.specs.Accepted.{mesh};
 ghost use Rattle.admission.specs.Admits.{Early};
 ghost use Rattle.admission.specs.Slices.{slices};
@@ -22,17 +22,17 @@ fn early(
 ) -> u32
     ensures { λ r. ⌜ Early (now (sites .entry)) entries halfedges hull roomy asked r ⌝ }
 {
-    if !mesh_counts::counts_ok(sites.len(), entries, halfedges, hull) {
-        return numbers::REFUSED_COUNT;
+    if !mesh_check::counts::counts_ok(sites.len(), entries, halfedges, hull) {
+        return base::numbers::REFUSED_COUNT;
     }
     if !roomy {
-        return numbers::REFUSED_ROOM;
+        return base::numbers::REFUSED_ROOM;
     }
     if asked != 0 {
         return asked;
     }
-    if utils::first_bad_site(sites) < sites.len() / 2 {
-        return numbers::REFUSED_COORDINATE;
+    if plane::points::first_bad_site(sites) < sites.len() / 2 {
+        return base::numbers::REFUSED_COORDINATE;
     }
     0
 }
@@ -61,7 +61,7 @@ pub fn admit(
     if e != 0 {
         return e;
     }
-    mesh_counts::number(check_mesh::check_topology(
+    mesh_check::counts::number(mesh_check::whole::check_topology(
         triangles,
         halfedges,
         hull,
@@ -86,7 +86,7 @@ pub fn admit_list(
 {
     let roomy = sites.len() / 2 <= work.len();
     let number = admit(sites, triangles, halfedges, hull, roomy, asked, work);
-    if number < numbers::REFUSED_TRIANGLE {
+    if number < base::numbers::REFUSED_TRIANGLE {
         return number;
     }
     mesh::clear(out);
@@ -107,7 +107,7 @@ fn room_for(
 ) -> bool
     ensures { λ r. ⌜ RoomAnswer coordinates entries halfedges hull work numbers indexes offsets counts r ⌝ }
 {
-    if !mesh_counts::counts_ok(coordinates, entries, halfedges, hull) {
+    if !mesh_check::counts::counts_ok(coordinates, entries, halfedges, hull) {
         return false;
     }
     let sites = coordinates / 2;
@@ -150,7 +150,7 @@ pub fn admit_build(
         counts.len(),
     );
     let r = admit(sites, triangles, halfedges, hull, roomy, asked, work);
-    if r < numbers::REFUSED_TRIANGLE {
+    if r < base::numbers::REFUSED_TRIANGLE {
         return r;
     }
     clear_all(vertices, indexes, offsets);

@@ -5,7 +5,7 @@ use Prim.Native.Nat.{ℕ, _+_}
 use lib.Ieee.{Float}
 use lib.ListN.{length}
 use lib.Seq.{sets}
-use Rattle.laws.specs.laws.Refusals.{finds-one}
+use Rattle.base.specs.common.laws.Refusals.{finds-one}
 use Rattle.all_wkb.specs.Promise.{startsAfter, imagesAfter, AllWkbAnswer}
 
 pub one-all-wkb : (v : List Float) (off ix st o : List ℕ) {st′ st″ o′ o″ : List ℕ} {w w′ r r′ : ℕ} → AllWkbAnswer v off ix st st′ o o′ w r → AllWkbAnswer v off ix st st″ o o″ w′ r′

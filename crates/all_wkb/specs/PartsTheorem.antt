@@ -8,13 +8,13 @@ use lib.Ieee.{Float, binary64, toBits}
 use lib.ListN.{length, getD, take, drop, replicate, length-drop, length-map, List·getD-append}
 use lib.Seq.{take-append-le, drop-append-le}
 use borrow.Author.Needs.{needs}
-use Rattle.laws.specs.Refusals.{Finds}
-use Rattle.laws.specs.laws.Refusals.{finds-one, finds-none, finds-keep}
-use Rattle.laws.specs.laws.Stores.{sets-all}
+use Rattle.base.specs.common.Refusals.{Finds}
+use Rattle.base.specs.common.laws.Refusals.{finds-one, finds-none, finds-keep}
+use Rattle.base.specs.common.laws.Stores.{sets-all}
 use Rattle.octets.specs.laws.Wrote.{wrote-all}
-use Rattle.layout.specs.Regions.{joined, offsetsFrom}
-use Rattle.neighbour_lists.specs.Lists.{listsTo}
-use Rattle.neighbour_lists.specs.laws.Lists.{endOfLists, end-next, end-mono, cuts-length, cut-at, part-at}
+use Rattle.cell_memory.specs.layout.Regions.{joined, offsetsFrom}
+use Rattle.queries.specs.all_neighbours.Lists.{listsTo}
+use Rattle.queries.specs.all_neighbours.laws.Lists.{endOfLists, end-next, end-mono, cuts-length, cut-at, part-at}
 use Rattle.areas.specs.laws.Entries.{cell-named}
 use Rattle.wkb.specs.Polygon.{patterns}
 use Rattle.wkb.specs.Promise.{wkbRules, FloatAnswer}

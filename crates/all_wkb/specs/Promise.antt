@@ -6,16 +6,16 @@ use Prim.Native.Nat.{ℕ, _-_, _/_, _%_, _^_, _≤_}
 use lib.Dec.{eqb}
 use lib.Ieee.{Float}
 use lib.ListN.{length}
-use Rattle.laws.specs.Pick.{pick}
-use Rattle.laws.specs.Refusals.{Rule, once, Finds}
-use Rattle.numbers.specs.Numbers.{refusedCount, refusedEntry, refusedRoom}
-use Rattle.shared.specs.Cells.{cellOf}
-use Rattle.asking.specs.Asks.{cellRules}
-use Rattle.entries.specs.Named.{EntriesNamed}
+use Rattle.base.specs.common.Pick.{pick}
+use Rattle.base.specs.common.Refusals.{Rule, once, Finds}
+use Rattle.base.specs.numbers.Numbers.{refusedCount, refusedEntry, refusedRoom}
+use Rattle.walks.specs.shared.Cells.{cellOf}
+use Rattle.arguments.specs.asking.Asks.{cellRules}
+use Rattle.arguments.specs.entries.Named.{EntriesNamed}
 use Rattle.octets.specs.Wrote.{Wrote}
-use Rattle.layout.specs.Regions.{joined, offsetsFrom}
-use Rattle.layout.specs.Cleared.{padded}
-use Rattle.neighbour_lists.specs.Lists.{listsTo}
+use Rattle.cell_memory.specs.layout.Regions.{joined, offsetsFrom}
+use Rattle.cell_memory.specs.layout.Cleared.{padded}
+use Rattle.queries.specs.all_neighbours.Lists.{listsTo}
 use Rattle.areas.specs.Promise.{entriesOfAll}
 use Rattle.wkb.specs.Polygon.{patterns}
 use Rattle.wkb.specs.Promise.{image}

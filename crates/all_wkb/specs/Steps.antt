@@ -3,9 +3,9 @@ use mathlib.Core.List.{List}
 use Prim.Native.Nat.{ℕ, _/_, _^_, _≤_}
 use lib.Ieee.{Float}
 use lib.ListN.{length}
-use Rattle.shared.specs.Cells.{Cells, cellOf}
-use Rattle.entries.specs.Named.{EntriesNamed}
-use Rattle.layout.specs.Regions.{joined}
+use Rattle.walks.specs.shared.Cells.{Cells, cellOf}
+use Rattle.arguments.specs.entries.Named.{EntriesNamed}
+use Rattle.cell_memory.specs.layout.Regions.{joined}
 use Rattle.areas.specs.Promise.{entriesOfAll}
 use Rattle.wkb.specs.Polygon.{size}
 use Rattle.all_wkb.specs.Promise.{imagesOf}

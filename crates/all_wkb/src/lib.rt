@@ -1,15 +1,15 @@
 // The polygons of all cells in Well-Known Binary, one after the other, and where each begins: the rules in their order once, then the image of each cell.
-use asking::cell_count;
-use asking::cells_ok;
+use arguments::asking::cell_count;
+use arguments::asking::cells_ok;
 ghost use mathlib.Core.Path.{_≡_};
 ghost use Prim.Native.Nat.{_+_, _-_, _/_, _≤_, _<_};
 ghost use lib.ListN.{length};
-ghost use Rattle.laws.specs.Count.{sumTo};
-ghost use Rattle.laws.specs.Decide.{Says};
-ghost use Rattle.entries.specs.Named.{EntriesNamed};
-ghost use Rattle.layout.specs.Cleared.{clearedFrom};
-ghost use Rattle.neighbour_lists.specs.Lists.{listsTo};
-ghost use Rattle.neighbour_lists.specs.Steps.{Appended, WrittenLists};
+ghost use Rattle.base.specs.common.Count.{sumTo};
+ghost use Rattle.base.specs.common.Decide.{Says};
+ghost use Rattle.arguments.specs.entries.Named.{EntriesNamed};
+ghost use Rattle.cell_memory.specs.layout.Cleared.{clearedFrom};
+ghost use Rattle.queries.specs.all_neighbours.Lists.{listsTo};
+ghost use Rattle.queries.specs.all_neighbours.Steps.{Appended, WrittenLists};
 ghost use Rattle.areas.specs.Promise.{entriesOfAll};
 ghost use Rattle.wkb.specs.Polygon.{size};
 ghost use Rattle.all_wkb.specs.Promise.{imageAt, CellsNumber, AllNumber, AllWkbAnswer};
@@ -31,7 +31,7 @@ fn size_at(offsets: &[u32], indexes: &[u32], s: usize) -> usize
     requires { ⌜ ImagesNamed (now offsets) (now indexes) × (s + 1 < length (now offsets)) ⌝ }
     ensures { λ r. ⌜ r ≡ sizeAt (now (offsets .entry)) (now (indexes .entry)) s ⌝ }
 {
-    let cell = shared::cell(offsets, indexes, s);
+    let cell = walks::shared::cell(offsets, indexes, s);
     polygon_size(cell.len())
 }
 
@@ -59,18 +59,18 @@ fn ask_cells(vertices: &[f64], offsets: &[u32], indexes: &[u32]) -> u32
     ensures { λ r. ⌜ CellsNumber (now (vertices .entry)) (now (offsets .entry)) (now (indexes .entry)) r ⌝ }
 {
     if vertices.len() % 2 != 0 {
-        return numbers::REFUSED_COUNT;
+        return base::numbers::REFUSED_COUNT;
     }
     if indexes.len() > 16777216 {
-        return numbers::REFUSED_COUNT;
+        return base::numbers::REFUSED_COUNT;
     }
     let count = cell_count(offsets.len());
     if !cells_ok(offsets, indexes, count) {
-        return numbers::REFUSED_OFFSETS;
+        return base::numbers::REFUSED_OFFSETS;
     }
-    let end = numbers::wide(offsets[count]);
-    if !entries::named(&indexes[..end], vertices.len() / 2) {
-        return numbers::REFUSED_ENTRY;
+    let end = base::numbers::wide(offsets[count]);
+    if !arguments::entries::named(&indexes[..end], vertices.len() / 2) {
+        return base::numbers::REFUSED_ENTRY;
     }
     0
 }
@@ -84,10 +84,10 @@ fn ask(vertices: &[f64], offsets: &[u32], indexes: &[u32], starts: usize, out: u
         return asked;
     }
     if starts < offsets.len() {
-        return numbers::REFUSED_ROOM;
+        return base::numbers::REFUSED_ROOM;
     }
     if !fits(offsets, indexes, out) {
-        return numbers::REFUSED_ROOM;
+        return base::numbers::REFUSED_ROOM;
     }
     0
 }
@@ -105,7 +105,11 @@ fn append_image(
         × (s + 1 < length (now offsets)) × (n + length (imageAt (now vertices) (now offsets) (now indexes) s) ≤ length (now out)) ⌝ }
     ensures { λ r. ⌜ Appended (imageAt (now (vertices .entry)) (now (offsets .entry)) (now (indexes .entry)) s) (now (out .entry)) (now (out .exit)) n r ⌝ }
 {
-    let w = wkb::put_cell(&mut out[n..], vertices, shared::cell(offsets, indexes, s));
+    let w = wkb::put_cell(
+        &mut out[n..],
+        vertices,
+        walks::shared::cell(offsets, indexes, s),
+    );
     n + w
 }
 

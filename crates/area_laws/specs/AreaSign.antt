@@ -17,15 +17,15 @@ use lib.Ieee.Scale.{finite}
 use lib.IntN.{ℤ}
 use lib.ListN.{length}
 use lib.Pow.{pow-add, pow-pos, pow-lt}
-use Rattle.laws.specs.Binary64 as B
+use Rattle.base.specs.common.Binary64 as B
 use Rattle.root.specs.Bounded.{Bounded}
 use Rattle.root.specs.laws.Bounds.{round-bound}
 use Rattle.root.specs.laws.Rounding.{round-has, round-within}
-use Rattle.utils.specs.declared.Point.{Point}
-use Rattle.long_round.specs.Rounded.{roundedPattern}
-use Rattle.long_round.specs.laws.Patterns.{round-pattern, pattern-rounds}
-use Rattle.long_round.specs.laws.Sizes.{size-zero}
-use Rattle.utils.specs.Flat.{pointAt}
+use Rattle.plane.specs.declared.points.Point.{Point}
+use Rattle.ring_area.specs.rounded.Rounded.{roundedPattern}
+use Rattle.ring_area.specs.rounded.laws.Patterns.{round-pattern, pattern-rounds}
+use Rattle.ring_area.specs.rounded.laws.Sizes.{size-zero}
+use Rattle.plane.specs.points.Flat.{pointAt}
 use Rattle.ring_area.specs.Area.{gains, losses, roundedHalf, area, ringArea}
 use Rattle.ring_area.specs.Steps.{Corners, gainsOf, lossesOf}
 use Rattle.ring_area.specs.laws.Bounds.{AllBounded, gained-most, lost-most, ring-gains, ring-losses}

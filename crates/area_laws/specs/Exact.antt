@@ -10,8 +10,8 @@ use native.Mathlib.Omega.{arith}
 use lib.Dec.{leb}
 use lib.Ieee.{Float, binary64, round}
 use borrow.Author.Tests.{le-leb, lt-leb}
-use Rattle.laws.specs.laws.Decide.{lt-or-ge}
-use Rattle.utils.specs.declared.Point.{Point}
+use Rattle.base.specs.common.laws.Decide.{lt-or-ge}
+use Rattle.plane.specs.declared.points.Point.{Point}
 use Rattle.ring_area.specs.Area.{productAbove, productUnder, gain, loss, gains, losses, roundedHalf, area}
 use Rattle.area_laws.specs.laws.Sides.{above-swap, under-swap, gains-last, losses-last, gains-by, losses-by}
 

@@ -11,7 +11,7 @@ use lib.ListN.{length}
 use lib.Pow.{pow-pos, pow-add}
 use Rattle.root.specs.Bounded.{Bounded}
 use Rattle.root.specs.laws.Bounds.{round-bound}
-use Rattle.utils.specs.declared.Point.{Point}
+use Rattle.plane.specs.declared.points.Point.{Point}
 use Rattle.ring_area.specs.Area.{gains, losses, roundedHalf, area}
 use Rattle.ring_area.specs.laws.Bounds.{AllBounded, gained-most, lost-most}
 

@@ -14,12 +14,12 @@ use lib.Ieee.{size, unlike}
 use lib.Ieee.Nearest.{closest}
 use lib.Ieee.Order.{drop, kept}
 use lib.Pow.{pow-add, pow-pos, pow-lt}
-use Rattle.laws.specs.laws.Decide.{lt-or-ge, eq-or-ne}
-use Rattle.long_round.specs.Rounded.{roundedPattern}
-use Rattle.long_round.specs.laws.Patterns.{kept-least}
-use Rattle.long_round.specs.laws.Sizes.{size-zero}
+use Rattle.base.specs.common.laws.Decide.{lt-or-ge, eq-or-ne}
+use Rattle.ring_area.specs.rounded.Rounded.{roundedPattern}
+use Rattle.ring_area.specs.rounded.laws.Patterns.{kept-least}
+use Rattle.ring_area.specs.rounded.laws.Sizes.{size-zero}
 use Rattle.root.specs.Root.{units}
-use Rattle.utils.specs.declared.Point.{Point}
+use Rattle.plane.specs.declared.points.Point.{Point}
 use Rattle.ring_area.specs.Area.{below, gain, loss, gains, losses}
 use Rattle.area_laws.specs.laws.Halves.{down, up, twice, apart}
 

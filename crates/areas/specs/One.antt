@@ -3,7 +3,7 @@ use mathlib.Core.Path.{_≡_, sym, ap, _∙_}
 use mathlib.Core.List.{List}
 use Prim.Native.Nat.{ℕ}
 use lib.Ieee.{Float}
-use Rattle.laws.specs.laws.Refusals.{finds-one}
+use Rattle.base.specs.common.laws.Refusals.{finds-one}
 use Rattle.areas.specs.Promise.{areasAfter, AreasAnswer}
 
 pub one-areas : (v : List Float) (off ix : List ℕ) (old : List Float) {new new' : List Float} {r r' : ℕ} → AreasAnswer v off ix old new r → AreasAnswer v off ix old new' r'

@@ -7,15 +7,15 @@ use Prim.Native.Nat.{ℕ, zero, suc, _-_, _/_, _%_, _^_, _≤_, _<_}
 use lib.Dec.{eqb, ltb}
 use lib.Ieee.{Float}
 use lib.ListN.{length, getD, take}
-use Rattle.laws.specs.Binary64 as B
-use Rattle.laws.specs.Pick.{pick}
-use Rattle.laws.specs.Refusals.{Rule, once, Finds}
-use Rattle.numbers.specs.Numbers.{refusedCount, refusedEntry, refusedRoom, refusedCorner}
-use Rattle.utils.specs.Flat.{pointAt}
-use Rattle.centers.specs.Circumcenter.{okCenter}
-use Rattle.shared.specs.Cells.{cellOf}
-use Rattle.asking.specs.Asks.{cellRules}
-use Rattle.entries.specs.Named.{EntriesNamed}
+use Rattle.base.specs.common.Binary64 as B
+use Rattle.base.specs.common.Pick.{pick}
+use Rattle.base.specs.common.Refusals.{Rule, once, Finds}
+use Rattle.base.specs.numbers.Numbers.{refusedCount, refusedEntry, refusedRoom, refusedCorner}
+use Rattle.plane.specs.points.Flat.{pointAt}
+use Rattle.plane.specs.centers.Circumcenter.{okCenter}
+use Rattle.walks.specs.shared.Cells.{cellOf}
+use Rattle.arguments.specs.asking.Asks.{cellRules}
+use Rattle.arguments.specs.entries.Named.{EntriesNamed}
 use Rattle.ring_area.specs.Area.{ringArea}
 
 -- the entries of all cells: those up to the last offset

@@ -4,8 +4,8 @@ use mathlib.Core.List.{List}
 use Prim.Native.Nat.{ℕ, _/_, _^_, _≤_}
 use lib.Ieee.{Float}
 use lib.ListN.{length}
-use Rattle.shared.specs.Cells.{Cells}
-use Rattle.entries.specs.Named.{EntriesNamed}
+use Rattle.walks.specs.shared.Cells.{Cells}
+use Rattle.arguments.specs.entries.Named.{EntriesNamed}
 use Rattle.areas.specs.Promise.{entriesOfAll, KeepsRule, areaAt, listed}
 
 -- what the rules before 2 ask

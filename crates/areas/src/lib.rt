@@ -1,12 +1,12 @@
 // The area of each cell on lent slices: the rules in their order, then each ring's area.
-use asking::cell_count;
-use asking::cells_ok;
-use ring_rounding::ring_area;
+use arguments::asking::cell_count;
+use arguments::asking::cells_ok;
+use ring_area::rounding::ring_area;
 ghost use mathlib.Core.Path.{_≡_};
 ghost use Prim.Native.Nat.{_/_};
 ghost use lib.ListN.{length};
-ghost use Rattle.laws.specs.Decide.{Says};
-ghost use Rattle.entries.specs.Named.{EntriesNamed};
+ghost use Rattle.base.specs.common.Decide.{Says};
+ghost use Rattle.arguments.specs.entries.Named.{EntriesNamed};
 ghost use Rattle.areas.specs.Promise.{areaAt, KeepsRule, EntriesNumber, AreasNumber, AreasAnswer};
 ghost use Rattle.areas.specs.Steps.{RingsKept, WrittenAreas};
 
@@ -17,7 +17,10 @@ pub fn within(vertices: &[f64], entries: &[u32]) -> bool
 {
     let mut i = 0;
     while i < entries.len() {
-        if !centers::center_ok(utils::point_at(vertices, numbers::wide(entries[i]))) {
+        if !plane::centers::center_ok(plane::points::point_at(
+            vertices,
+            base::numbers::wide(entries[i]),
+        )) {
             return false;
         }
         i += 1;
@@ -29,11 +32,11 @@ pub fn within(vertices: &[f64], entries: &[u32]) -> bool
 fn ask_entries(vertices: &[f64], entries: &[u32]) -> u32
     ensures { λ r. ⌜ EntriesNumber (now (vertices .entry)) (now (entries .entry)) r ⌝ }
 {
-    if !entries::named(entries, vertices.len() / 2) {
-        return numbers::REFUSED_ENTRY;
+    if !arguments::entries::named(entries, vertices.len() / 2) {
+        return base::numbers::REFUSED_ENTRY;
     }
     if !within(vertices, entries) {
-        return numbers::REFUSED_CORNER;
+        return base::numbers::REFUSED_CORNER;
     }
     0
 }
@@ -43,22 +46,22 @@ fn ask(vertices: &[f64], offsets: &[u32], indexes: &[u32], room: usize) -> u32
     ensures { λ r. ⌜ AreasNumber (now (vertices .entry)) (now (offsets .entry)) (now (indexes .entry)) room r ⌝ }
 {
     if vertices.len() % 2 != 0 {
-        return numbers::REFUSED_COUNT;
+        return base::numbers::REFUSED_COUNT;
     }
     if indexes.len() > 16777216 {
-        return numbers::REFUSED_COUNT;
+        return base::numbers::REFUSED_COUNT;
     }
     let count = cell_count(offsets.len());
     if !cells_ok(offsets, indexes, count) {
-        return numbers::REFUSED_OFFSETS;
+        return base::numbers::REFUSED_OFFSETS;
     }
-    let end = numbers::wide(offsets[count]);
+    let end = base::numbers::wide(offsets[count]);
     let asked = ask_entries(vertices, &indexes[..end]);
     if asked != 0 {
         return asked;
     }
     if room < count {
-        return numbers::REFUSED_ROOM;
+        return base::numbers::REFUSED_ROOM;
     }
     0
 }
@@ -71,7 +74,7 @@ fn area_at(vertices: &[f64], offsets: &[u32], indexes: &[u32], s: usize) -> f64
     if s >= cell_count(offsets.len()) {
         return 0.0;
     }
-    ring_area(vertices, shared::cell(offsets, indexes, s))
+    ring_area(vertices, walks::shared::cell(offsets, indexes, s))
 }
 
 fn write_areas(vertices: &[f64], offsets: &[u32], indexes: &[u32], areas: &mut [f64])

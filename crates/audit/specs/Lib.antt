@@ -2,3 +2,5 @@
 pub mod Printed
 pub mod Shown
 pub mod laws
+pub mod turns
+pub mod text

@@ -5,19 +5,19 @@ use mathlib.Core.List.{List, [], _∷_, map}
 use Prim.Native.Nat.{ℕ, _/_}
 use lib.Ieee.{Float}
 use lib.ListN.{length}
-use Rattle.laws.specs.Pick.{pick}
-use Rattle.numbers.specs.Numbers.{refusedCorner}
-use Rattle.lowest.specs.Lowest.{lowest}
-use Rattle.utils.specs.Flat.{pointAt, flat}
-use Rattle.centers.specs.Circumcenter.{okCenter}
-use Rattle.bounding_box.specs.declared.BoundingBox.{BoundingBox}
+use Rattle.base.specs.common.Pick.{pick}
+use Rattle.base.specs.numbers.Numbers.{refusedCorner}
+use Rattle.ring_area.specs.lowest.Lowest.{lowest}
+use Rattle.plane.specs.points.Flat.{pointAt, flat}
+use Rattle.plane.specs.centers.Circumcenter.{okCenter}
+use Rattle.plane.specs.declared.boxes.BoundingBox.{BoundingBox}
 use Rattle.definition.specs.Cell.{unmarked}
-use Rattle.layout.specs.Regions.{joined, offsetsFrom}
-use Rattle.audit_total.specs.Total.{missingOf}
+use Rattle.cell_memory.specs.layout.Regions.{joined, offsetsFrom}
+use Rattle.auditing.specs.total.Total.{missingOf}
 use Rattle.auditing.specs.Verdict.{verdictOn}
-use Rattle.triangle_turns.specs.Turned.{turnedAt, turnedCount}
-use Rattle.audit_text.specs.AuditLines.{auditLines}
-use Rattle.text_parts.specs.Labelled.{refusal}
+use Rattle.audit.specs.turns.Turned.{turnedAt, turnedCount}
+use Rattle.audit.specs.text.AuditLines.{auditLines}
+use Rattle.printing.specs.parts.Labelled.{refusal}
 use Rattle.printing.specs.Printed.{Text}
 
 -- rule 24: each vertex that is named is finite and within 2 ^ 400

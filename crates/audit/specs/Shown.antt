@@ -4,12 +4,12 @@ use mathlib.Core.List.{List, []}
 use Prim.Native.Nat.{ℕ, _+_, _*_, _/_, _≤_}
 use lib.Ieee.{Float}
 use lib.ListN.{length, getD, take}
-use Rattle.bounding_box.specs.Finite.{BoundedBox}
-use Rattle.bounding_box.specs.declared.BoundingBox.{BoundingBox}
-use Rattle.entries.specs.Named.{EntriesNamed}
+use Rattle.plane.specs.boxes.Finite.{BoundedBox}
+use Rattle.plane.specs.declared.boxes.BoundingBox.{BoundingBox}
+use Rattle.arguments.specs.entries.Named.{EntriesNamed}
 use Rattle.areas.specs.Promise.{KeepsRule}
-use Rattle.audit_rules.specs.Kept.{AuditKept}
-use Rattle.triangle_turns.specs.Turned.{TrianglesKept}
+use Rattle.auditing.specs.rules.Kept.{AuditKept}
+use Rattle.audit.specs.turns.Turned.{TrianglesKept}
 use Rattle.audit.specs.Printed.{told}
 
 -- the lists of a form, and room for its text

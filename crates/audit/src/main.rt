@@ -1,19 +1,22 @@
 // Reads a mesh's form on standard input and prints what the audit says of its cells, or `refused N`.
-use bounding_box::BoundingBox;
-use form_step::Form;
-use given_box::Given;
+pub mod text;
+pub mod turns;
+
+use base::numbers::wide;
+use form::step::Form;
 use libc::STDIN_FILENO;
 use libc::STDOUT_FILENO;
-use numbers::wide;
+use plane::boxes::BoundingBox;
+use plane::given::Given;
 ghost use mathlib.Core.Path.{_≡_};
 ghost use Prim.Native.Nat.{_<_, _≤_};
 ghost use lib.ListN.{length, take};
 ghost use Rattle.mesh.specs.Accepted.{mesh};
 ghost use Rattle.printing.specs.Printed.{InBox, Prints, ShownIn, shown, ByForm};
 ghost use Rattle.audit.specs.Printed.{told, auditText};
-ghost use Rattle.given_box.specs.Finite.{Fits};
-ghost use Rattle.form_box.specs.FormBox.{boxBy};
-ghost use Rattle.form_step.specs.Holds.{ListRoom, Few};
+ghost use Rattle.plane.specs.given.Finite.{Fits};
+ghost use Rattle.form.specs.boxes.FormBox.{boxBy};
+ghost use Rattle.form.specs.step.Holds.{ListRoom, Few};
 ghost use Rattle.audit.specs.Shown.{AuditSized, Auditable, UsedParts, cutTold};
 
 // The tolerance is 2^-20, and every piece is held against all sites.
@@ -41,7 +44,7 @@ fn lines(
         (now (out .exit)) (length (now (out .entry))) r ⌝ }
 {
     if !areas::within(vertices, indexes) {
-        return text_parts::refusal(out, numbers::REFUSED_CORNER);
+        return printing::parts::refusal(out, base::numbers::REFUSED_CORNER);
     }
     let none = [0u32; 0];
     let j = auditing::verdict(
@@ -54,11 +57,11 @@ fn lines(
         &none,
         BITS,
     );
-    let count = narrow(triangle_turns::count_turned(sites, triangles));
-    let lowest = narrow(triangle_turns::first_turned(sites, triangles));
+    let count = narrow(crate::turns::count_turned(sites, triangles));
+    let lowest = narrow(crate::turns::first_turned(sites, triangles));
     let total = narrow(triangles.len() / 3);
     let v = j.verdict;
-    audit_text::audit_lines(out, count, total, lowest, v, j.missing)
+    crate::text::audit_lines(out, count, total, lowest, v, j.missing)
 }
 
 // The text of a build that was answered by this number, put at the beginning of `out`; how many bytes it has. Of the slices the part that is used.
@@ -78,7 +81,7 @@ fn show(
         (now (out .exit)) (length (now (out .entry))) r ⌝ }
 {
     if number != 0 {
-        return text_parts::refusal(out, number);
+        return printing::parts::refusal(out, number);
     }
     let n = sites.len() / 2;
     let used = 2 * wide(counts[0]);
@@ -150,7 +153,7 @@ fn of_mesh(
     ensures { λ r. ⌜ InBox auditText (mesh (now (sites .entry)) (now (triangles .entry)) (now (halfedges .entry)) (now (hull .entry))) (boxBy clip bounds)
         (take r (now (out .exit))) × (r ≤ length (now (out .entry))) ⌝ }
 {
-    let given = form_box::box_of(clip, bounds);
+    let given = form::boxes::box_of(clip, bounds);
     in_box(out, given, sites, triangles, halfedges, hull)
 }
 
@@ -175,7 +178,7 @@ fn of_form(
         clip,
     } = form
     else {
-        return text_parts::refusal(out, form_step::number_of(form));
+        return printing::parts::refusal(out, form::step::number_of(form));
     };
     let numbers = 2 * n;
     let links = 3 * t;

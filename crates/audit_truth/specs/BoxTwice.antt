@@ -4,24 +4,24 @@ use mathlib.Core.Bool.{true, _&&_}
 use Prim.Native.Nat.{ℕ, _+_, _-_, _*_, _≤_}
 use native.Mathlib.Omega.{arith}
 use lib.Ieee.{Float, lt, le}
-use Rattle.laws.specs.laws.And.{and-left, and-right}
-use Rattle.laws.specs.Binary64.{zero}
-use Rattle.numbers.specs.Numbers.{large, edge}
+use Rattle.base.specs.common.laws.And.{and-left, and-right}
+use Rattle.base.specs.common.Binary64.{zero}
+use Rattle.base.specs.numbers.Numbers.{large, edge}
 use Rattle.root.specs.Root.{magnitude}
 use Rattle.root.specs.Bounded.{Bounded}
 use Rattle.root.specs.laws.Bounds.{bounded-finite}
-use Rattle.utils.specs.Rules.{okSite}
-use Rattle.utils.specs.declared.Point.{Point}
-use Rattle.bounding_box.specs.Box.{madeOf, cornersOf}
-use Rattle.bounding_box.specs.Finite.{BoundedBox, box-bounded}
-use Rattle.bounding_box.specs.Rules.{okBox}
-use Rattle.bounding_box.specs.declared.BoundingBox.{BoundingBox}
-use Rattle.given_box.specs.Finite.{edges-bounded}
-use Rattle.given_box.specs.Given.{edgesOf, okSpan, okEdges}
+use Rattle.plane.specs.points.Rules.{okSite}
+use Rattle.plane.specs.declared.points.Point.{Point}
+use Rattle.plane.specs.boxes.Box.{madeOf, cornersOf}
+use Rattle.plane.specs.boxes.Finite.{BoundedBox, box-bounded}
+use Rattle.plane.specs.boxes.Rules.{okBox}
+use Rattle.plane.specs.declared.boxes.BoundingBox.{BoundingBox}
+use Rattle.plane.specs.given.Finite.{edges-bounded}
+use Rattle.plane.specs.given.Given.{edgesOf, okSpan, okEdges}
 use Rattle.ring_area.specs.Area.{productAbove, productUnder, gains, losses}
 use Rattle.ring_area.specs.Steps.{gainsOf, lossesOf}
-use Rattle.audit_limit.specs.Limit.{boxTwice}
-use Rattle.audit_total.specs.Total.{apart}
+use Rattle.auditing.specs.limit.Limit.{boxTwice}
+use Rattle.auditing.specs.total.Total.{apart}
 use Rattle.audit_truth.specs.Exact.{plusUnits, minusUnits, apartOf}
 use Rattle.audit_truth.specs.laws.Parts.{above-parts, under-parts, not-over, lt-turned}
 

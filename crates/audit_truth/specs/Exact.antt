@@ -2,12 +2,12 @@
 use mathlib.Core.Bool.{cond}
 use Prim.Native.Nat.{ℕ, _+_, _-_}
 use lib.Ieee.{Float}
-use Rattle.digits.specs.Near.{sq}
+use Rattle.root.specs.digits.Near.{sq}
 use Rattle.root.specs.Root.{units}
-use Rattle.utils.specs.declared.Point.{Point}
-use Rattle.bounding_box.specs.declared.BoundingBox.{BoundingBox}
+use Rattle.plane.specs.declared.points.Point.{Point}
+use Rattle.plane.specs.declared.boxes.BoundingBox.{BoundingBox}
 use Rattle.ring_area.specs.Area.{below}
-use Rattle.audit_total.specs.Total.{apart}
+use Rattle.auditing.specs.total.Total.{apart}
 
 -- a value is the first less the second; one of them is 0
 abbrev pub plusUnits : Float → ℕ

@@ -5,8 +5,8 @@ use lib.Dec.{T}
 use lib.Ieee.{Float, nan, binary64, fits}
 use lib.ListN.{getD}
 use Rattle.root.specs.Bounded.{Bounded}
-use Rattle.utils.specs.declared.Point.{Point}
-use Rattle.bounding_box.specs.declared.BoundingBox.{BoundingBox}
+use Rattle.plane.specs.declared.points.Point.{Point}
+use Rattle.plane.specs.declared.boxes.BoundingBox.{BoundingBox}
 
 -- a value of binary64 within 2 ^ k
 pub record HeldWithin (k : ℕ) (x : Float) : Type 0 where

@@ -16,12 +16,12 @@ use native.Mathlib.Omega.{arith}
 use lib.Dec.{lit≤}
 use lib.Ieee.{Float}
 use lib.Pow.{pow-pos}
-use Rattle.laws.specs.Binary64.{_⊞_, _⊟_, _⊠_}
+use Rattle.base.specs.common.Binary64.{_⊞_, _⊟_, _⊠_}
 use Rattle.root.specs.Root.{magnitude, units}
-use Rattle.utils.specs.declared.Point.{Point}
-use Rattle.bounding_box.specs.declared.BoundingBox.{BoundingBox}
-use Rattle.audit_nearer.specs.Nearer.{beyond}
-use Rattle.audit_total.specs.Total.{apart}
+use Rattle.plane.specs.declared.points.Point.{Point}
+use Rattle.plane.specs.declared.boxes.BoundingBox.{BoundingBox}
+use Rattle.auditing.specs.nearer.Nearer.{beyond}
+use Rattle.auditing.specs.total.Total.{apart}
 use Rattle.audit_truth.specs.Exact.{plusUnits, minusUnits, apartOf, acrossAndDown, alongAxes, exactSquare}
 use Rattle.audit_truth.specs.Held.{HeldWithin, HeldPoint}
 use Rattle.audit_truth.specs.laws.BothSides.{left-off, together}

@@ -14,26 +14,26 @@ use lib.Ieee.Fits.{add-fits, sub-fits}
 use lib.Ieee.Scale.{finite}
 use lib.ListN.{length, getD}
 use borrow.Author.Needs.{needs}
-use Rattle.laws.specs.Binary64.{_⊘_, two}
-use Rattle.laws.specs.laws.And.{and-left, and-right}
-use Rattle.laws.specs.laws.Refusals.{finds-keep}
-use Rattle.lowest.specs.laws.Loops.{none-taken}
-use Rattle.utils.specs.Finite.{point-weaken, site-bounded}
-use Rattle.utils.specs.Flat.{pointAt}
-use Rattle.utils.specs.declared.Point.{Point}
-use Rattle.bounding_box.specs.Box.{madeOf}
-use Rattle.box_sides.specs.Sides.{insideOf}
-use Rattle.bounding_box.specs.declared.BoundingBox.{BoundingBox}
-use Rattle.given_box.specs.Finite.{Fits}
-use Rattle.given_box.specs.Given.{edgesOf}
-use Rattle.given_box.specs.declared.Given.{Given}
-use Rattle.shared.specs.Cells.{cellOf}
+use Rattle.base.specs.common.Binary64.{_⊘_, two}
+use Rattle.base.specs.common.laws.And.{and-left, and-right}
+use Rattle.base.specs.common.laws.Refusals.{finds-keep}
+use Rattle.ring_area.specs.lowest.laws.Loops.{none-taken}
+use Rattle.plane.specs.points.Finite.{point-weaken, site-bounded}
+use Rattle.plane.specs.points.Flat.{pointAt}
+use Rattle.plane.specs.declared.points.Point.{Point}
+use Rattle.plane.specs.boxes.Box.{madeOf}
+use Rattle.plane.specs.sides.Sides.{insideOf}
+use Rattle.plane.specs.declared.boxes.BoundingBox.{BoundingBox}
+use Rattle.plane.specs.given.Finite.{Fits}
+use Rattle.plane.specs.given.Given.{edgesOf}
+use Rattle.plane.specs.declared.given.Given.{Given}
+use Rattle.walks.specs.shared.Cells.{cellOf}
 use Rattle.areas.specs.laws.Entries.{cell-corners}
-use Rattle.audit_corners.specs.Outside.{outsideAt, cellOutside}
-use Rattle.audit_nearer.specs.Nearer.{farOf, beyond, noLists, otherAt, heldCount, beyondAt, nearerAt, cornerNearer, cellNearer, siteNearer}
-use Rattle.audit_nearer.specs.laws.Pieces.{held-names, other-site}
-use Rattle.audit_rules.specs.Kept.{AuditKept, kept}
-use Rattle.audit_total.specs.Total.{apart}
+use Rattle.auditing.specs.corners.Outside.{outsideAt, cellOutside}
+use Rattle.auditing.specs.nearer.Nearer.{farOf, beyond, noLists, otherAt, heldCount, beyondAt, nearerAt, cornerNearer, cellNearer, siteNearer}
+use Rattle.auditing.specs.nearer.laws.Pieces.{held-names, other-site}
+use Rattle.auditing.specs.rules.Kept.{AuditKept, kept}
+use Rattle.auditing.specs.total.Total.{apart}
 use Rattle.auditing.specs.Promise.{AuditAnswer}
 use Rattle.auditing.specs.Sound.{none-outside, none-nearer, sound-verdict}
 use Rattle.audit_truth.specs.Exact.{plusUnits, minusUnits, overOf, apartOf, acrossAndDown}

@@ -6,14 +6,14 @@ use Prim.Native.Nat.{_*_, _^_}
 use native.Mathlib.Nat.{not-le-of-lt}
 use lib.Dec.{lit≤, lit<}
 use lib.Ieee.{ofBits, neg, add, sub, mul, lt}
-use Rattle.laws.specs.Binary64.{zero, one, minusOne, two}
-use Rattle.utils.specs.Plane.{at}
-use Rattle.bounding_box.specs.Box.{widthOf, heightOf, cornersOf}
-use Rattle.bounding_box.specs.declared.BoundingBox.{BoundingBox}
-use Rattle.given_box.specs.Given.{edgesOf}
+use Rattle.base.specs.common.Binary64.{zero, one, minusOne, two}
+use Rattle.plane.specs.points.Plane.{at}
+use Rattle.plane.specs.boxes.Box.{widthOf, heightOf, cornersOf}
+use Rattle.plane.specs.declared.boxes.BoundingBox.{BoundingBox}
+use Rattle.plane.specs.given.Given.{edgesOf}
 use Rattle.ring_area.specs.Area.{gains, losses}
-use Rattle.audit_limit.specs.Limit.{boxTwice}
-use Rattle.audit_nearer.specs.Nearer.{toleranceOf, farOf, beyond}
+use Rattle.auditing.specs.limit.Limit.{boxTwice}
+use Rattle.auditing.specs.nearer.Nearer.{toleranceOf, farOf, beyond}
 use Rattle.audit_truth.specs.Exact.{apartOf, acrossAndDown}
 use Rattle.audit_truth.specs.Near.{NotNearer}
 

@@ -4,3 +4,10 @@ pub mod Steps
 pub mod One
 pub mod Sound
 pub mod laws
+pub mod limit
+pub mod rings
+pub mod corners
+pub mod nearer
+pub mod places
+pub mod total
+pub mod rules

@@ -3,9 +3,9 @@ use mathlib.Core.Path.{_≡_, sym, ap, _∙_}
 use mathlib.Core.List.{List}
 use Prim.Native.Nat.{ℕ}
 use lib.Ieee.{Float}
-use Rattle.laws.specs.laws.Refusals.{finds-one}
-use Rattle.given_box.specs.declared.Given.{Given}
-use Rattle.audit_total.specs.Total.{missingOf}
+use Rattle.base.specs.common.laws.Refusals.{finds-one}
+use Rattle.plane.specs.declared.given.Given.{Given}
+use Rattle.auditing.specs.total.Total.{missingOf}
 use Rattle.auditing.specs.Verdict.{verdictOn, auditKind, auditSite, auditVertex, auditOther}
 use Rattle.auditing.specs.Promise.{unlessRefused, shareUnlessRefused, AuditAnswer}
 

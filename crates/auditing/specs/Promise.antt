@@ -4,12 +4,12 @@ use mathlib.Core.List.{List}
 use Prim.Native.Nat.{ℕ}
 use lib.Dec.{eqb}
 use lib.Ieee.{Float}
-use Rattle.laws.specs.Binary64 as B
-use Rattle.laws.specs.Pick.{pick}
-use Rattle.numbers.specs.Numbers.{EMPTY}
-use Rattle.given_box.specs.declared.Given.{Given}
-use Rattle.audit_total.specs.Total.{missingOf}
-use Rattle.audit_rules.specs.Rules.{AuditNumber}
+use Rattle.base.specs.common.Binary64 as B
+use Rattle.base.specs.common.Pick.{pick}
+use Rattle.base.specs.numbers.Numbers.{EMPTY}
+use Rattle.plane.specs.declared.given.Given.{Given}
+use Rattle.auditing.specs.total.Total.{missingOf}
+use Rattle.auditing.specs.rules.Rules.{AuditNumber}
 use Rattle.auditing.specs.Verdict.{verdictOn, auditKind, auditSite, auditVertex, auditOther}
 
 -- a number beside r

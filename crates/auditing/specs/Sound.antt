@@ -7,20 +7,20 @@ use Prim.Native.Nat.{ℕ, _+_, _-_, _*_, _/_, _^_, _≤_, _<_}
 use native.Mathlib.Omega.{arith}
 use lib.Ieee.{Float}
 use lib.ListN.{length}
-use Rattle.laws.specs.Pick.{pick}
-use Rattle.lowest.specs.Lowest.{lowest, anyBelow}
-use Rattle.lowest.specs.laws.Loops.{none-taken}
-use Rattle.bounding_box.specs.Box.{cornersOf}
-use Rattle.bounding_box.specs.declared.BoundingBox.{BoundingBox}
-use Rattle.given_box.specs.declared.Given.{Given}
+use Rattle.base.specs.common.Pick.{pick}
+use Rattle.ring_area.specs.lowest.Lowest.{lowest, anyBelow}
+use Rattle.ring_area.specs.lowest.laws.Loops.{none-taken}
+use Rattle.plane.specs.boxes.Box.{cornersOf}
+use Rattle.plane.specs.declared.boxes.BoundingBox.{BoundingBox}
+use Rattle.plane.specs.declared.given.Given.{Given}
 use Rattle.ring_area.specs.Steps.{gainsOf, lossesOf}
-use Rattle.audit_limit.specs.Limit.{boxTwice}
-use Rattle.audit_rings.specs.Fan.{siteFolds}
-use Rattle.audit_corners.specs.Outside.{siteOutside}
-use Rattle.audit_nearer.specs.Nearer.{farOf, siteNearer}
-use Rattle.audit_total.specs.Total.{ringsTotal, cellGains, cellLosses, apart, totalWhole}
-use Rattle.audit_total.specs.Whole as total
-use Rattle.audit_places.specs.Places.{hasTwin}
+use Rattle.auditing.specs.limit.Limit.{boxTwice}
+use Rattle.auditing.specs.rings.Fan.{siteFolds}
+use Rattle.auditing.specs.corners.Outside.{siteOutside}
+use Rattle.auditing.specs.nearer.Nearer.{farOf, siteNearer}
+use Rattle.auditing.specs.total.Total.{ringsTotal, cellGains, cellLosses, apart, totalWhole}
+use Rattle.auditing.specs.total.Whole as total
+use Rattle.auditing.specs.places.Places.{hasTwin}
 use Rattle.auditing.specs.Verdict.{auditKind, twinVerdict, placesStage, totalStage, nearerVerdict, nearerStage, outsideVerdict, outsideStage, ringsStage, verdictOn}
 use Rattle.auditing.specs.Promise.{unlessRefused, AuditAnswer}
 use Rattle.auditing.specs.declared.AuditVerdict.{AuditVerdict}

@@ -5,14 +5,14 @@ use mathlib.Core.List.{List}
 use Prim.Native.Nat.{ℕ, _+_, _/_, _<_, _≤_}
 use lib.Ieee.{Float}
 use lib.ListN.{length}
-use Rattle.bounding_box.specs.declared.BoundingBox.{BoundingBox}
-use Rattle.shared.specs.Cells.{Cells}
-use Rattle.entries.specs.Named.{EntriesNamed}
+use Rattle.plane.specs.declared.boxes.BoundingBox.{BoundingBox}
+use Rattle.walks.specs.shared.Cells.{Cells}
+use Rattle.arguments.specs.entries.Named.{EntriesNamed}
 use Rattle.areas.specs.Promise.{entriesOfAll}
-use Rattle.audit_corners.specs.Outside.{siteOutside}
-use Rattle.audit_nearer.specs.Nearer.{siteNearer}
-use Rattle.audit_nearer.specs.Steps.{HeldKept, PiecesKept}
-use Rattle.audit_total.specs.Total.{missingOf}
+use Rattle.auditing.specs.corners.Outside.{siteOutside}
+use Rattle.auditing.specs.nearer.Nearer.{siteNearer}
+use Rattle.auditing.specs.nearer.Steps.{HeldKept, PiecesKept}
+use Rattle.auditing.specs.total.Total.{missingOf}
 use Rattle.auditing.specs.Verdict.{verdictOn, auditKind, auditSite, auditVertex, auditOther}
 use Rattle.auditing.specs.declared.AuditVerdict.{AuditVerdict}
 

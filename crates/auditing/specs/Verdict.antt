@@ -4,18 +4,18 @@ use mathlib.Core.List.{List}
 use Prim.Native.Nat.{ℕ, _/_}
 use lib.Ieee.{Float}
 use lib.ListN.{length, getD}
-use Rattle.laws.specs.Pick.{pick}
-use Rattle.numbers.specs.Numbers.{EMPTY}
-use Rattle.lowest.specs.Lowest.{lowest, anyBelow}
-use Rattle.utils.specs.Flat.{pointAt}
-use Rattle.bounding_box.specs.declared.BoundingBox.{BoundingBox}
-use Rattle.shared.specs.Cells.{cellOf}
-use Rattle.audit_limit.specs.Limit.{boxTwice}
-use Rattle.audit_rings.specs.Fan.{siteFolds}
-use Rattle.audit_corners.specs.Outside.{outsideAt, siteOutside}
-use Rattle.audit_nearer.specs.Nearer.{farOf, noLists, otherAt, heldCount, beyondAt, cornerNearer, siteNearer}
-use Rattle.audit_total.specs.Total.{totalWhole}
-use Rattle.audit_places.specs.Places.{twinAt, hasTwin}
+use Rattle.base.specs.common.Pick.{pick}
+use Rattle.base.specs.numbers.Numbers.{EMPTY}
+use Rattle.ring_area.specs.lowest.Lowest.{lowest, anyBelow}
+use Rattle.plane.specs.points.Flat.{pointAt}
+use Rattle.plane.specs.declared.boxes.BoundingBox.{BoundingBox}
+use Rattle.walks.specs.shared.Cells.{cellOf}
+use Rattle.auditing.specs.limit.Limit.{boxTwice}
+use Rattle.auditing.specs.rings.Fan.{siteFolds}
+use Rattle.auditing.specs.corners.Outside.{outsideAt, siteOutside}
+use Rattle.auditing.specs.nearer.Nearer.{farOf, noLists, otherAt, heldCount, beyondAt, cornerNearer, siteNearer}
+use Rattle.auditing.specs.total.Total.{totalWhole}
+use Rattle.auditing.specs.places.Places.{twinAt, hasTwin}
 use Rattle.auditing.specs.declared.AuditVerdict.{AuditVerdict}
 use Rattle.auditing.specs.declared.AuditVerdict.the-variants.{Sound, Ring, Outside, Nearer, Uncovered, Twin}
 

@@ -1,31 +1,39 @@
 // The audit: the first fault of the pieces as they lie, by the rules in their order, and the share of the box that is missing.
-use audit_corners::first_outside;
-use audit_corners::first_site_outside;
-use audit_nearer::first_beyond;
-use audit_nearer::first_nearer;
-use audit_nearer::first_site_nearer;
-use audit_nearer::held;
-use audit_nearer::no_lists;
-use audit_nearer::other_at;
-use audit_places::first_site_twin;
-use audit_places::first_twin;
-use bounding_box::BoundingBox;
-use given_box::Given;
-use numbers::EMPTY;
-use numbers::wide;
+pub mod corners;
+pub mod limit;
+pub mod nearer;
+pub mod places;
+pub mod rings;
+pub mod rules;
+pub mod total;
+
+use crate::corners::first_outside;
+use crate::corners::first_site_outside;
+use crate::nearer::first_beyond;
+use crate::nearer::first_nearer;
+use crate::nearer::first_site_nearer;
+use crate::nearer::held;
+use crate::nearer::no_lists;
+use crate::nearer::other_at;
+use crate::places::first_site_twin;
+use crate::places::first_twin;
+use base::numbers::EMPTY;
+use base::numbers::wide;
+use plane::boxes::BoundingBox;
+use plane::given::Given;
 ghost use mathlib.Core.Path.{_≡_};
 ghost use mathlib.Core.Bool.{true};
 ghost use Prim.Native.Nat.{ℕ, _/_, _^_, _≤_, _<_};
 ghost use lib.ListN.{length};
-ghost use Rattle.bounding_box.specs.Finite.{BoundedBox};
-ghost use Rattle.given_box.specs.Finite.{Fits};
-ghost use Rattle.long_numbers.specs.Amount.{amount};
-ghost use Rattle.long_limits.specs.Long.{LongOf};
-ghost use Rattle.audit_rules.specs.Kept.{AuditKept};
+ghost use Rattle.plane.specs.boxes.Finite.{BoundedBox};
+ghost use Rattle.plane.specs.given.Finite.{Fits};
+ghost use Rattle.ring_area.specs.long.Amount.{amount};
+ghost use Rattle.ring_area.specs.limits.Long.{LongOf};
+ghost use Rattle.auditing.specs.rules.Kept.{AuditKept};
 ghost use Rattle.auditing.specs.Verdict.{auditKind, auditSite, auditVertex, auditOther, twinVerdict, placesStage, totalStage, nearerVerdict, nearerStage, outsideVerdict, outsideStage};
 ghost use Rattle.auditing.specs.Verdict.{ringsStage, verdictOn};
-ghost use Rattle.audit_total.specs.Total.{missingOf};
-ghost use Rattle.audit_nearer.specs.Steps.{HeldKept, PiecesKept};
+ghost use Rattle.auditing.specs.total.Total.{missingOf};
+ghost use Rattle.auditing.specs.nearer.Steps.{HeldKept, PiecesKept};
 ghost use Rattle.auditing.specs.Promise.{AuditAnswer};
 ghost use Rattle.auditing.specs.Steps.{NearerNamed, OutsideNamed, ToldOf, JudgedAnswer};
 
@@ -159,10 +167,17 @@ fn name_nearer(
 {
     let all = no_lists(starts, others);
     let part = held(starts, others, s);
-    let entries = shared::cell(offsets, indexes, s);
+    let entries = walks::shared::cell(offsets, indexes, s);
     let k = first_nearer(far, sites, s, part, all, vertices, entries);
     let e = entries[k];
-    let j = first_beyond(far, utils::point_at(vertices, wide(e)), sites, s, part, all);
+    let j = first_beyond(
+        far,
+        plane::points::point_at(vertices, wide(e)),
+        sites,
+        s,
+        part,
+        all,
+    );
     let o = other_at(all, part, j);
     AuditVerdict::Nearer(narrow(s), e, narrow(o))
 }
@@ -198,7 +213,7 @@ fn name_outside(
     requires { ⌜ OutsideNamed bounds (now vertices) (now offsets) (now indexes) s ⌝ }
     ensures { λ r. ⌜ r ≡ outsideVerdict bounds (now (vertices .entry)) (now (offsets .entry)) (now (indexes .entry)) s ⌝ }
 {
-    let entries = shared::cell(offsets, indexes, s);
+    let entries = walks::shared::cell(offsets, indexes, s);
     let k = first_outside(bounds, vertices, entries);
     AuditVerdict::Outside(narrow(s), entries[k])
 }
@@ -222,7 +237,7 @@ fn judge_outside(
     if s < sites.len() / 2 {
         return name_outside(bounds, vertices, offsets, indexes, s);
     }
-    let far = audit_nearer::far(bounds, broad(bits));
+    let far = crate::nearer::far(bounds, broad(bits));
     judge_nearer(
         whole,
         far,
@@ -258,7 +273,7 @@ fn judge_rings(
     ensures { λ r. ⌜ ((box : ℕ) → amount (now (limit .entry)) ≡ box / 2 ^ bits
         → r ≡ ringsStage box whole bounds bits (now (sites .entry)) (now (starts .entry)) (now (others .entry)) (now (vertices .entry)) (now (offsets .entry)) (now (indexes .entry))) ⌝ }
 {
-    let s = audit_rings::first_folded(limit, vertices, offsets, indexes);
+    let s = crate::rings::first_folded(limit, vertices, offsets, indexes);
     if s < sites.len() / 2 {
         return AuditVerdict::Ring(narrow(s));
     }
@@ -306,8 +321,8 @@ pub fn verdict(
     ensures { λ r. ⌜ (r .verdict ≡ verdictOn bounds bits (now (sites .entry)) (now (starts .entry)) (now (others .entry)) (now (vertices .entry)) (now (offsets .entry)) (now (indexes .entry)))
         × (r .missing ≡ missingOf bounds (now (vertices .entry)) (now (offsets .entry)) (now (indexes .entry))) ⌝ }
 {
-    let limit = audit_limit::limit(bounds, wide(bits));
-    let share = audit_total::total(bounds, &limit, vertices, offsets, indexes);
+    let limit = crate::limit::limit(bounds, wide(bits));
+    let share = crate::total::total(bounds, &limit, vertices, offsets, indexes);
     let v = judge_rings(
         share.whole,
         &limit,
@@ -370,7 +385,7 @@ pub fn audit(
     ensures { λ r. ⌜ AuditAnswer given (now (sites .entry)) (now (vertices .entry)) (now (offsets .entry)) (now (indexes .entry)) (now (starts .entry)) (now (others .entry)) bits
         (r .number) (r .kind) (r .site) (r .vertex) (r .other) (r .missing) ⌝ }
 {
-    let asked = audit_rules::ask(
+    let asked = crate::rules::ask(
         given.sound,
         sites,
         vertices,

@@ -8,11 +8,11 @@ use Prim.Native.Nat.{ℕ, _/_, _≤_}
 use native.Mathlib.Omega.{arith}
 use lib.Ieee.{Float}
 use lib.ListN.{length}
-use Rattle.laws.specs.Refusals.{Keeps, Breaks}
-use Rattle.numbers.specs.Numbers.{refusedCircumcenter, refusedExtension, refusedNoCrossing, refusedOneCrossing}
-use Rattle.utils.specs.declared.Point.{Point}
-use Rattle.bounding_box.specs.declared.BoundingBox.{BoundingBox}
-use Rattle.line_crossings.specs.declared.Crossing.the-variants.{None, One}
+use Rattle.base.specs.common.Refusals.{Keeps, Breaks}
+use Rattle.base.specs.numbers.Numbers.{refusedCircumcenter, refusedExtension, refusedNoCrossing, refusedOneCrossing}
+use Rattle.plane.specs.declared.points.Point.{Point}
+use Rattle.plane.specs.declared.boxes.BoundingBox.{BoundingBox}
+use Rattle.plane.specs.declared.lines.Crossing.the-variants.{None, One}
 use Rattle.mesh.specs.Accepted.{Mesh}
 use Rattle.definition.specs.declared.Fault.{Fault}
 use Rattle.definition.specs.Cell.{vertexAt, edgeCrossing, inBox}

@@ -2,8 +2,8 @@
 use mathlib.Core.Path.{_≡_, sym, _∙_}
 use Prim.Native.Nat.{_/_}
 use lib.ListN.{length}
-use Rattle.laws.specs.Refusals.{Keeps}
-use Rattle.bounding_box.specs.declared.BoundingBox.{BoundingBox}
+use Rattle.base.specs.common.Refusals.{Keeps}
+use Rattle.plane.specs.declared.boxes.BoundingBox.{BoundingBox}
 use Rattle.mesh.specs.Accepted.{Mesh, Accepted}
 use Rattle.definition.specs.declared.Fault.{Fault}
 use Rattle.definition.specs.Fault.{ok, refused}

@@ -1,6 +1,6 @@
 -- Refusals of a build that come late: 11 to 14.
 use Prim.Native.Nat.{ℕ, _≤_}
-use Rattle.numbers.specs.Numbers.{refusedCircumcenter, refusedOneCrossing}
+use Rattle.base.specs.numbers.Numbers.{refusedCircumcenter, refusedOneCrossing}
 use Rattle.definition.specs.declared.Fault.{Fault}
 use Rattle.definition.specs.Fault.{Outcome, ok, refused}
 

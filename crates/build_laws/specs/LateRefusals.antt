@@ -2,8 +2,8 @@
 use mathlib.Core.List.{[], _++_}
 use Prim.Native.Nat.{_/_}
 use lib.ListN.{length}
-use Rattle.bounding_box.specs.Box.{cornersOf}
-use Rattle.bounding_box.specs.declared.BoundingBox.{BoundingBox}
+use Rattle.plane.specs.boxes.Box.{cornersOf}
+use Rattle.plane.specs.declared.boxes.BoundingBox.{BoundingBox}
 use Rattle.mesh.specs.Accepted.{Mesh, siteCount, tableOf}
 use Rattle.definition.specs.Build.{centersFrom, extendFrom, clipAll, build}
 use Rattle.definition.specs.Short.{extensions}

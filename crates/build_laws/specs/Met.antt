@@ -6,12 +6,12 @@ use Prim.Native.Nat.{ℕ, _/_, _<_}
 use lib.Dec.{ltb}
 use lib.ListN.{length, getD, take}
 use lib.Ieee.{Float}
-use Rattle.laws.specs.Pick.{pick}
-use Rattle.laws.specs.Refusals.{Keeps, Breaks}
-use Rattle.numbers.specs.Numbers.{EMPTY, refusedNoCrossing, refusedOneCrossing}
-use Rattle.utils.specs.declared.Point.{Point}
-use Rattle.bounding_box.specs.declared.BoundingBox.{BoundingBox}
-use Rattle.line_crossings.specs.declared.Crossing.the-variants.{None, One}
+use Rattle.base.specs.common.Pick.{pick}
+use Rattle.base.specs.common.Refusals.{Keeps, Breaks}
+use Rattle.base.specs.numbers.Numbers.{EMPTY, refusedNoCrossing, refusedOneCrossing}
+use Rattle.plane.specs.declared.points.Point.{Point}
+use Rattle.plane.specs.declared.boxes.BoundingBox.{BoundingBox}
+use Rattle.plane.specs.declared.lines.Crossing.the-variants.{None, One}
 use Rattle.mesh.specs.Accepted.{Mesh}
 use Rattle.definition.specs.declared.Fault.{Fault}
 use Rattle.definition.specs.Fault.{ok, refused}

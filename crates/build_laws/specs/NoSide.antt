@@ -8,12 +8,12 @@ use native.Mathlib.Omega.{arith}
 use lib.Dec.{ltb}
 use lib.ListN.{length, getD, take}
 use borrow.Author.Tests.{lt-ltb}
-use Rattle.laws.specs.Pick.{pick}
-use Rattle.numbers.specs.Numbers.{refusedNoCrossing, refusedOneCrossing}
-use Rattle.utils.specs.declared.Point.{Point}
-use Rattle.box_sides.specs.Sides.{whichOf}
-use Rattle.bounding_box.specs.Finite.{BoundedBox}
-use Rattle.bounding_box.specs.declared.BoundingBox.{BoundingBox}
+use Rattle.base.specs.common.Pick.{pick}
+use Rattle.base.specs.numbers.Numbers.{refusedNoCrossing, refusedOneCrossing}
+use Rattle.plane.specs.declared.points.Point.{Point}
+use Rattle.plane.specs.sides.Sides.{whichOf}
+use Rattle.plane.specs.boxes.Finite.{BoundedBox}
+use Rattle.plane.specs.declared.boxes.BoundingBox.{BoundingBox}
 use Rattle.mesh.specs.Accepted.{Mesh, Accepted}
 use Rattle.definition.specs.Fault.{Outcome, ok, refused, andThen}
 use Rattle.definition.specs.Cell.{plain, entry, lastOr, Taken, Ins, vertexAt, insertEdge, EdgeClip, missed, once, twice, clipEdge}

@@ -7,14 +7,14 @@ use Prim.{tt}
 use Prim.Native.Nat.{ℕ, _/_}
 use lib.Dec.{lit≤}
 use lib.Ieee.{Float, binary64, lt, ofBits}
-use Rattle.laws.specs.Binary64.{_⊟_, zero}
+use Rattle.base.specs.common.Binary64.{_⊟_, zero}
 use Rattle.root.specs.laws.Bounds.{sub-bound}
 use Rattle.root.specs.Bounded.{Bounded}
-use Rattle.utils.specs.Flat.{pointAt}
-use Rattle.utils.specs.Rules.{okSite}
-use Rattle.utils.specs.Finite.{BoundedPoint, site-bounded}
-use Rattle.utils.specs.laws.Extension.{squares, unit-x, unit-y, reach-bounded, not-reached}
-use Rattle.utils.specs.declared.Point.{Point}
+use Rattle.plane.specs.points.Flat.{pointAt}
+use Rattle.plane.specs.points.Rules.{okSite}
+use Rattle.plane.specs.points.Finite.{BoundedPoint, site-bounded}
+use Rattle.plane.specs.points.laws.Extension.{squares, unit-x, unit-y, reach-bounded, not-reached}
+use Rattle.plane.specs.declared.points.Point.{Point}
 use Rattle.mesh.specs.Mesh.{startOf, endOf}
 use Rattle.definition.specs.Cell.{vertexAt}
 use Rattle.definition.specs.Build.{infinity, finite, extended}

@@ -2,7 +2,7 @@
 -- the Rust answered; not by hand.
 use mathlib.Core.Path.{_≡_, refl}
 use mathlib.Core.List.{[], _∷_}
-use Rattle.numbers.specs.Numbers.{EMPTY}
+use Rattle.base.specs.numbers.Numbers.{EMPTY}
 use Rattle.mesh.specs.Accepted.{mesh}
 use Rattle.definition.specs.Fault.{ok}
 use Rattle.definition.specs.Rows.{floats, rowBox, t, x, w, rowOf}

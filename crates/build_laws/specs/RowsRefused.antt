@@ -2,7 +2,7 @@
 -- crate definition; not by hand.
 use mathlib.Core.Path.{_≡_, refl}
 use mathlib.Core.List.{[], _∷_}
-use Rattle.numbers.specs.Numbers.{EMPTY, refusedCircumcenter, refusedExtension, refusedNoCrossing, refusedOneCrossing}
+use Rattle.base.specs.numbers.Numbers.{EMPTY, refusedCircumcenter, refusedExtension, refusedNoCrossing, refusedOneCrossing}
 use Rattle.mesh.specs.Accepted.{mesh}
 use Rattle.definition.specs.Fault.{refused}
 use Rattle.definition.specs.Rows.{floats, rowBox, rowOf}

@@ -7,14 +7,14 @@ use Prim.Native.Nat.{ℕ, _/_, _<_}
 use native.Mathlib.Omega.{arith}
 use lib.Ieee.{Float, lt}
 use lib.ListN.{length, getD}
-use Rattle.laws.specs.Binary64.{_⊟_, zero}
-use Rattle.laws.specs.Refusals.{Keeps}
-use Rattle.utils.specs.Flat.{pointAt}
-use Rattle.utils.specs.Rules.{okSite}
-use Rattle.utils.specs.Finite.{BoundedPoint}
-use Rattle.utils.specs.declared.Point.{Point}
-use Rattle.utils.specs.laws.Extension.{squares}
-use Rattle.centers.specs.Finite.{center-bounded}
+use Rattle.base.specs.common.Binary64.{_⊟_, zero}
+use Rattle.base.specs.common.Refusals.{Keeps}
+use Rattle.plane.specs.points.Flat.{pointAt}
+use Rattle.plane.specs.points.Rules.{okSite}
+use Rattle.plane.specs.points.Finite.{BoundedPoint}
+use Rattle.plane.specs.declared.points.Point.{Point}
+use Rattle.plane.specs.points.laws.Extension.{squares}
+use Rattle.plane.specs.centers.Finite.{center-bounded}
 use Rattle.mesh.specs.Mesh.{startOf, endOf}
 use Rattle.mesh.specs.Accepted.{Mesh, tableOf, Accepted, siteCount}
 use Rattle.mesh.specs.Hull.{nextSite}

@@ -4,9 +4,9 @@ use mathlib.Core.List.{List}
 use mathlib.Core.Logic.{_≢_}
 use Prim.Native.Nat.{ℕ, _+_, _<_}
 use lib.ListN.{length}
-use Rattle.numbers.specs.Numbers.{EMPTY}
-use Rattle.bounding_box.specs.Finite.{BoundedBox}
-use Rattle.bounding_box.specs.declared.BoundingBox.{BoundingBox}
+use Rattle.base.specs.numbers.Numbers.{EMPTY}
+use Rattle.plane.specs.boxes.Finite.{BoundedBox}
+use Rattle.plane.specs.declared.boxes.BoundingBox.{BoundingBox}
 use Rattle.mesh.specs.Accepted.{Mesh, Accepted}
 use Rattle.definition.specs.Fault.{ok}
 use Rattle.definition.specs.Build.{Built, build}

@@ -6,15 +6,15 @@ use mathlib.Core.List.{List, [], _∷_, _++_}
 use Prim.Native.Nat.{ℕ, zero, suc, _/_, _<_}
 use lib.ListN.{length, getD, replicate}
 use lib.Ieee.{Float}
-use Rattle.laws.specs.Refusals.{Rule, each, Keeps}
-use Rattle.utils.specs.declared.Point.{Point}
-use Rattle.centers.specs.Circumcenter.{okCenter}
-use Rattle.bounding_box.specs.Box.{cornersOf}
-use Rattle.bounding_box.specs.declared.BoundingBox.{BoundingBox}
+use Rattle.base.specs.common.Refusals.{Rule, each, Keeps}
+use Rattle.plane.specs.declared.points.Point.{Point}
+use Rattle.plane.specs.centers.Circumcenter.{okCenter}
+use Rattle.plane.specs.boxes.Box.{cornersOf}
+use Rattle.plane.specs.declared.boxes.BoundingBox.{BoundingBox}
 use Rattle.mesh.specs.Mesh.{endOf, leftmostOf}
 use Rattle.mesh.specs.Accepted.{Mesh, tableOf, siteCount}
 use Rattle.mesh.specs.Hull.{nextSite}
-use Rattle.numbers.specs.Numbers.{refusedCircumcenter, refusedExtension}
+use Rattle.base.specs.numbers.Numbers.{refusedCircumcenter, refusedExtension}
 use Rattle.definition.specs.declared.Fault.{Fault}
 use Rattle.definition.specs.Fault.{ok}
 use Rattle.definition.specs.Cell.{RingPart, clipCell}

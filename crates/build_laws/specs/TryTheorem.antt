@@ -6,7 +6,7 @@ use mathlib.Core.Logic.{_⊎_, ⊎-elim}
 use Prim.Native.Nat.{ℕ, _/_, _<_}
 use native.Mathlib.Omega.{arith}
 use lib.ListN.{length, getD}
-use Rattle.bounding_box.specs.declared.BoundingBox.{BoundingBox}
+use Rattle.plane.specs.declared.boxes.BoundingBox.{BoundingBox}
 use Rattle.mesh.specs.Mesh.{Used}
 use Rattle.mesh.specs.Accepted.{Mesh, tableOf, Accepted}
 use Rattle.mesh.specs.laws.Facts.{topology, used-end, start-used, end-used}

@@ -1,12 +1,14 @@
 // The build on a whole lent mesh, with its refusals and every lent slice at exit.
+pub mod counts;
+
+use crate::counts::finish_clipped;
 use admission::admit_build;
-use build_counts::finish_clipped;
 use cell_builder::build_cells;
-use given_box::Given;
+use plane::given::Given;
 ghost use Rattle.mesh.specs.Accepted.{mesh};
 ghost use Rattle.admission.specs.Slices.{slices};
-ghost use Rattle.given_box.specs.Finite.{Fits};
-ghost use Rattle.build_answers.specs.Promise.{ClippedBuild};
+ghost use Rattle.plane.specs.given.Finite.{Fits};
+ghost use Rattle.building.specs.answers.Promise.{ClippedBuild};
 
 // The build in the given box.
 pub fn build(
@@ -26,7 +28,7 @@ pub fn build(
         (slices (now (work .entry)) (now (vertices .entry)) (now (indexes .entry)) (now (offsets .entry)) (now (counts .entry)))
         (slices (now (work .exit)) (now (vertices .exit)) (now (indexes .exit)) (now (offsets .exit)) (now (counts .exit))) r ⌝ }
 {
-    let asked = asking::ask_box(given.sound);
+    let asked = arguments::asking::ask_box(given.sound);
     let r = admit_build(
         sites,
         triangles,

@@ -3,10 +3,10 @@ use mathlib.Core.Path.{_≡_}
 use mathlib.Core.List.{List}
 use Prim.Native.Nat.{ℕ, _/_}
 use lib.ListN.{length}
-use Rattle.bounding_box.specs.Finite.{BoundedBox}
-use Rattle.bounding_box.specs.declared.BoundingBox.{BoundingBox}
+use Rattle.plane.specs.boxes.Finite.{BoundedBox}
+use Rattle.plane.specs.declared.boxes.BoundingBox.{BoundingBox}
 use Rattle.mesh.specs.Accepted.{Mesh, tableOf, Accepted, siteCount}
-use Rattle.outputs.specs.Outputs.{Rooms}
+use Rattle.cell_memory.specs.outputs.Outputs.{Rooms}
 
 -- an accepted mesh with its leftmost table, a box that rule 3 admits, slices with room
 pub record AdmittedBuild (m : Mesh) (table : List ℕ) (b : BoundingBox) (numbers indexes offsets : ℕ) : Type 0 where

@@ -2,3 +2,7 @@
 pub mod AdmittedBuild
 pub mod Start
 pub mod laws
+pub mod rings
+pub mod finish
+pub mod tried
+pub mod turned

@@ -4,9 +4,9 @@ use mathlib.Core.List.{List, [], _++_}
 use Prim.Native.Nat.{ℕ, _+_, _-_, _*_, _/_, _^_, _≤_, _<_}
 use lib.Ieee.{Float}
 use lib.ListN.{length, getD, drop}
-use Rattle.utils.specs.Flat.{points}
-use Rattle.bounding_box.specs.Box.{cornersOf}
-use Rattle.bounding_box.specs.declared.BoundingBox.{BoundingBox}
+use Rattle.plane.specs.points.Flat.{points}
+use Rattle.plane.specs.boxes.Box.{cornersOf}
+use Rattle.plane.specs.declared.boxes.BoundingBox.{BoundingBox}
 use Rattle.vertices.specs.Store.{Holds}
 use Rattle.mesh.specs.Accepted.{Mesh, siteCount}
 use Rattle.definition.specs.declared.Fault.{Fault}
@@ -14,13 +14,13 @@ use Rattle.definition.specs.Fault.{Outcome, ok, refused}
 use Rattle.definition.specs.Build.{Built, Extensions, extendFrom, clipAll}
 use Rattle.definition.specs.Short.{fault, extensions}
 use Rattle.definition.specs.Reused.{reusedIn}
-use Rattle.rings.specs.Extensions.{Extends}
-use Rattle.cell_tries.specs.declared.Frame.{Frame}
-use Rattle.cell_finish.specs.declared.CellsAnswer.{CellsAnswer}
-use Rattle.cell_finish.specs.Finish.{outcomeAnswer, SettledCells}
-use Rattle.outputs.specs.Outputs.{BuiltInto}
-use Rattle.cell_finish.specs.declared.Progress.{Progress}
-use Rattle.cell_tries.specs.CellsInSlices.{Plan, plan, ground, frameOf, Does}
+use Rattle.cell_builder.specs.rings.Extensions.{Extends}
+use Rattle.cell_builder.specs.declared.tried.Frame.{Frame}
+use Rattle.cell_builder.specs.declared.finish.CellsAnswer.{CellsAnswer}
+use Rattle.cell_builder.specs.finish.Finish.{outcomeAnswer, SettledCells}
+use Rattle.cell_memory.specs.outputs.Outputs.{BuiltInto}
+use Rattle.cell_builder.specs.declared.finish.Progress.{Progress}
+use Rattle.cell_builder.specs.tried.CellsInSlices.{Plan, plan, ground, frameOf, Does}
 use Rattle.cell_builder.specs.AdmittedBuild.{AdmittedBuild}
 
 -- ---- corners and extensions

@@ -1,16 +1,20 @@
 // The clipped build (CellBuilder with ClipBehavior::Clip) over lent slices: circumcenters, owners, extensions, the hull's cells, the rest, then all moved together.
+pub mod finish;
+pub mod rings;
+pub mod tried;
+pub mod turned;
 pub mod start; // start.rt: what the cells begin with
 
-use bounding_box::BoundingBox;
-use cell_finish::CellsAnswer;
-use cell_finish::Progress;
-use cell_finish::refuse;
-use cell_finish::settle;
-use cell_turns::loops::clip_cells;
+use crate::finish::CellsAnswer;
+use crate::finish::Progress;
+use crate::finish::refuse;
+use crate::finish::settle;
+use crate::rings::circumcenters::calculate_circumcenters;
+use crate::rings::ownership::calculate_corner_ownership;
+use crate::turned::loops::clip_cells;
+use cell_memory::outputs::lay_out;
 use definition::Fault;
-use outputs::lay_out;
-use rings::circumcenters::calculate_circumcenters;
-use rings::ownership::calculate_corner_ownership;
+use plane::boxes::BoundingBox;
 use start::extend;
 use start::frame;
 ghost use lib.ListN.{length};
@@ -120,7 +124,7 @@ pub fn build_cells(
             indexes,
             offsets,
             Fault {
-                number: numbers::REFUSED_CIRCUMCENTER,
+                number: base::numbers::REFUSED_CIRCUMCENTER,
                 place: t as u32,
                 from: 0,
                 to: 0,

@@ -1,16 +1,16 @@
 // What the cells begin with: the frame of the index list, the box's corners, the hull's extensions.
-use bounding_box::BoundingBox;
-use bounding_box::corners;
-use cell_finish::Progress;
-use cell_tries::Frame;
+use crate::finish::Progress;
+use crate::rings::extensions::extend_hull;
+use crate::tried::Frame;
 use definition::Fault;
 use definition::Reused;
-use rings::extensions::extend_hull;
+use plane::boxes::BoundingBox;
+use plane::boxes::corners;
 use vertices::calculate_corners;
 ghost use mathlib.Core.Path.{_≡_};
 ghost use Prim.Native.Nat.{_≤_};
 ghost use lib.ListN.{length};
-ghost use Rattle.cell_tries.specs.CellsInSlices.{frameOf};
+ghost use Rattle.cell_builder.specs.tried.CellsInSlices.{frameOf};
 ghost use Rattle.cell_builder.specs.Start.{extendedOf, Extendable, BegunBy};
 
 // For so many entries of the triangle list and so many hull sites.
@@ -65,7 +65,7 @@ pub fn extend(
     if passed.place < hull.len() {
         return Progress {
             fault: Fault {
-                number: numbers::REFUSED_EXTENSION,
+                number: base::numbers::REFUSED_EXTENSION,
                 place: passed.place as u32,
                 from: 0,
                 to: 0,

@@ -4,10 +4,10 @@ use mathlib.Core.List.{List, [], _++_}
 use Prim.Native.Nat.{ℕ, _+_, _-_}
 use lib.Dec.{eqb}
 use lib.ListN.{length, getD}
-use Rattle.laws.specs.Pick.{pick}
-use Rattle.shared.specs.Cells.{cellOf}
-use Rattle.laws.specs.Refusals.{Finds}
-use Rattle.asking.specs.Asks.{siteRules, cellRules}
+use Rattle.base.specs.common.Pick.{pick}
+use Rattle.walks.specs.shared.Cells.{cellOf}
+use Rattle.base.specs.common.Refusals.{Finds}
+use Rattle.arguments.specs.asking.Asks.{siteRules, cellRules}
 
 -- 4, then 16; there is a site less than offets, at least none
 pub record CellNumber (off ix : List ℕ) (s r : ℕ) : Type 0 where

@@ -6,10 +6,10 @@ use native.Mathlib.Omega.{arith}
 use lib.ListN.{length, getD, length-append}
 use lib.Seq.{take-at, drop-at}
 use borrow.Author.Tests.{eq-eqb}
-use Rattle.layout.specs.Regions.{joined, offsetsFrom}
-use Rattle.layout.specs.laws.Compacted.{offsets-length}
-use Rattle.shared.specs.Cells.{Cells, cellOf}
-use Rattle.laws.specs.laws.Refusals.{keeps, nothing}
+use Rattle.cell_memory.specs.layout.Regions.{joined, offsetsFrom}
+use Rattle.cell_memory.specs.layout.laws.Compacted.{offsets-length}
+use Rattle.walks.specs.shared.Cells.{Cells, cellOf}
+use Rattle.base.specs.common.laws.Refusals.{keeps, nothing}
 use Rattle.cell_query.specs.Cells.{CellAnswer}
 use Rattle.cell_query.specs.laws.Cells.{cell-number}
 use Rattle.cell_query.specs.laws.Offsets.{first-offset, shift, bounds, climbs}

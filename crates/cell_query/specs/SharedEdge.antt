@@ -5,11 +5,11 @@ use mathlib.Core.List.{List, _∷_}
 use Prim.Native.Nat.{ℕ, _-_, _<_}
 use lib.Dec.{eqb}
 use lib.ListN.{length}
-use Rattle.laws.specs.Pick.{pick}
-use Rattle.laws.specs.Refusals.{once, Finds}
-use Rattle.numbers.specs.Numbers.{refusedSite}
-use Rattle.shared.specs.Cells.{shareEdgeOf}
-use Rattle.asking.specs.Asks.{cellRules}
+use Rattle.base.specs.common.Pick.{pick}
+use Rattle.base.specs.common.Refusals.{once, Finds}
+use Rattle.base.specs.numbers.Numbers.{refusedSite}
+use Rattle.walks.specs.shared.Cells.{shareEdgeOf}
+use Rattle.arguments.specs.asking.Asks.{cellRules}
 use Rattle.cell_query.specs.declared.Told.{Told}
 
 abbrev pub toldOf : ℕ → Bool → Told

@@ -1,8 +1,8 @@
 // The queries on lent cells, each the part of the index list between two offsets: one cell, and whether two cells share an edge.
 // There is a site less than offsets; 4, then 16.
-use asking::ask_site;
-use asking::cell_count;
-use asking::cells_ok;
+use arguments::asking::ask_site;
+use arguments::asking::cell_count;
+use arguments::asking::cells_ok;
 ghost use mathlib.Core.Path.{_≡_};
 ghost use mathlib.Core.Bool.{false};
 ghost use Rattle.cell_query.specs.Cells.{CellNumber, CellAnswer, PlaceAnswer};
@@ -18,7 +18,7 @@ fn ask_cell(offsets: &[u32], indexes: &[u32], site: u32) -> u32
         return asked;
     }
     if !cells_ok(offsets, indexes, count) {
-        return numbers::REFUSED_OFFSETS;
+        return base::numbers::REFUSED_OFFSETS;
     }
     0
 }
@@ -32,7 +32,7 @@ pub fn cell<'a>(offsets: &[u32], indexes: &'a [u32], site: u32, number: &mut u32
     if r != 0 {
         return &indexes[..0];
     }
-    shared::cell(offsets, indexes, numbers::wide(site))
+    walks::shared::cell(offsets, indexes, base::numbers::wide(site))
 }
 
 // Where the cell stands: a number, where it starts and how long it is, 0 and 0 where it is refused.
@@ -53,7 +53,7 @@ pub fn place(offsets: &[u32], indexes: &[u32], site: u32) -> CellPlace
             length: 0,
         };
     }
-    let s = numbers::wide(site);
+    let s = base::numbers::wide(site);
     let from = offsets[s];
     let to = offsets[s + 1];
     CellPlace {
@@ -80,19 +80,19 @@ pub fn cells_share_edge(offsets: &[u32], indexes: &[u32], a: u32, b: u32) -> Tol
     ensures { λ r. ⌜ SharesAnswer (now (offsets .entry)) (now (indexes .entry)) a b r ⌝ }
 {
     let count = cell_count(offsets.len());
-    let s = numbers::wide(a);
-    let t = numbers::wide(b);
+    let s = base::numbers::wide(a);
+    let t = base::numbers::wide(b);
     if count <= s {
-        return denied(numbers::REFUSED_SITE);
+        return denied(base::numbers::REFUSED_SITE);
     }
     if count <= t {
-        return denied(numbers::REFUSED_SITE);
+        return denied(base::numbers::REFUSED_SITE);
     }
     if !cells_ok(offsets, indexes, count) {
-        return denied(numbers::REFUSED_OFFSETS);
+        return denied(base::numbers::REFUSED_OFFSETS);
     }
     Told {
         number: 0,
-        yes: shared::share_edge(offsets, indexes, s, t),
+        yes: walks::shared::share_edge(offsets, indexes, s, t),
     }
 }

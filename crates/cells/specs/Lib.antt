@@ -4,3 +4,5 @@ pub mod Sized
 pub mod Square
 pub mod laws
 pub mod SquarePrints
+pub mod listing
+pub mod answer_text

@@ -7,7 +7,7 @@ use Rattle.mesh.specs.Accepted.{siteCount}
 use Rattle.definition.specs.Build.{Built}
 use Rattle.definition.specs.Cell.{unmarked, extension, firstCrossing, secondCrossing}
 use Rattle.definition.specs.Reused.{reusedOf}
-use Rattle.listing.specs.Listing.{counts, cellLine, corners, reusedLine}
+use Rattle.cells.specs.listing.Listing.{counts, cellLine, corners, reusedLine}
 
 -- ---- the text of a build of n sites and T triangles
 

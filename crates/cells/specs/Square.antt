@@ -1,22 +1,22 @@
--- Rows: "square" (docs/RULES.md), from its 172 bytes to its listing: the bytes are the form of its mesh, and the text of that mesh's build is the one there. By computation.
+-- Rows: "square" (docs/use/RULES.md), from its 172 bytes to its listing: the bytes are the form of its mesh, and the text of that mesh's build is the one there. By computation.
 use mathlib.Core.Path.{_≡_, refl}
 use mathlib.Core.List.{List}
 use Rattle.mesh.specs.Mesh.{nextOf, chosen, tableTo, turnOf, walkOf}
 use Rattle.definition.specs.Fault.{Outcome, ok, refused, andThen, atEdge}
 use lib.Count.{trailingZeros}
 use lib.Ieee.{ofBits, add, sub, mul, div, lt, le, eq, neg, sum, round, units, odd, size, span, climb}
-use Rattle.laws.specs.Count.{same}
+use Rattle.base.specs.common.Count.{same}
 use Rattle.root.specs.Sqrt.{wholeRoot, nearestRoot, rootOfUnits, sqrtOf}
-use Rattle.utils.specs.Plane.{at, nearOf, dist2Of}
-use Rattle.centers.specs.Circumcenter.{centerOf, okCenter}
-use Rattle.bounding_box.specs.Box.{madeOf, cornersOf}
-use Rattle.box_sides.specs.Sides.{insideOf, firstSide, whichOf}
-use Rattle.crossings.specs.Ray.{orderPick, eitherOf, orderBy, orderOne, orderTwo, rayOf}
-use Rattle.line_crossings.specs.Line.{oneIf, twoIf, firstHeld, sideHit, levelHit, uprightHit, settleOf, lineOf}
+use Rattle.plane.specs.points.Plane.{at, nearOf, dist2Of}
+use Rattle.plane.specs.centers.Circumcenter.{centerOf, okCenter}
+use Rattle.plane.specs.boxes.Box.{madeOf, cornersOf}
+use Rattle.plane.specs.sides.Sides.{insideOf, firstSide, whichOf}
+use Rattle.plane.specs.rays.Ray.{orderPick, eitherOf, orderBy, orderOne, orderTwo, rayOf}
+use Rattle.plane.specs.lines.Line.{oneIf, twoIf, firstHeld, sideHit, levelHit, uprightHit, settleOf, lineOf}
 use Rattle.vertices.specs.Add.{nearPt, findNear, addVertex}
 use Rattle.mesh.specs.Hull.{nextPlace}
-use Rattle.iterator.specs.Neighbours.{lastEnd, startsOf, neighboursOf}
-use Rattle.paths.specs.Path.{distOf, nearestOf, hopOf, pathEnd}
+use Rattle.walks.specs.neighbours.Neighbours.{lastEnd, startsOf, neighboursOf}
+use Rattle.walks.specs.paths.Path.{distOf, nearestOf, hopOf, pathEnd}
 use Rattle.definition.specs.Cell.{wraps, withCorners, insertEdge, edgeCrossing, clipWith, clipEdge, leave, enterAt, enter, crossAt, cross}
 use Rattle.definition.specs.Cell.{clipStep, inBox, stepTo, stepsTo, firstInside, turned, clipFrom, clipCell}
 use Rattle.definition.specs.Build.{Built, centerAt, centersFrom, ownersFrom, extended, extendFrom, hullRing, clipInto, clipHull, clipRest, allEntries, lostFrom, clipAll, build}
@@ -25,9 +25,9 @@ use lib.ListN.{length}
 use Rattle.definition.specs.declared.Fault.{Fault}
 use Rattle.form.specs.Form.{formOf, float}
 use Rattle.form.specs.Square.{square, squareBytes, two-is}
-use Rattle.text_parts.specs.Text.{ascii, digits, decimal}
-use Rattle.text_parts.specs.Labelled.{entries, labelled}
-use Rattle.listing.specs.Listing.{counts, cellLine, corners, reusedLine}
+use Rattle.printing.specs.parts.Text.{ascii, digits, decimal}
+use Rattle.printing.specs.parts.Labelled.{entries, labelled}
+use Rattle.cells.specs.listing.Listing.{counts, cellLine, corners, reusedLine}
 use Rattle.printing.specs.Printed.{meshOf}
 use Rattle.cells.specs.Printed.{linesOf, listingOf}
 

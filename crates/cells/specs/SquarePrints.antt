@@ -1,4 +1,4 @@
--- Theorem: the checked listing on the promises: for the 172 bytes of "square" `cells` prints the text of docs/RULES.md and nothing else, and a build of its mesh, with room, answers 0.
+-- Theorem: the checked listing on the promises: for the 172 bytes of "square" `cells` prints the text of docs/use/RULES.md and nothing else, and a build of its mesh, with room, answers 0.
 use mathlib.Core.Path.{_≡_, refl, sym, subst}
 use mathlib.Core.Bool.{true}
 use mathlib.Core.List.{List}
@@ -7,25 +7,25 @@ use native.Mathlib.Omega.{arith}
 use lib.Ieee.{Float, ofBits, neg, lt, le, add, sub, div}
 use Rattle.printing.specs.Printed.{Shows, built, meshOf, Prints, sound}
 use Rattle.cells.specs.Printed.{listingOf, listingText}
-use Rattle.utils.specs.Plane.{at}
-use Rattle.utils.specs.Rules.{okCoord, okSite}
-use Rattle.bounding_box.specs.Box.{madeOf}
-use Rattle.bounding_box.specs.Rules.{okBox}
-use Rattle.given_box.specs.Given.{bySize}
+use Rattle.plane.specs.points.Plane.{at}
+use Rattle.plane.specs.points.Rules.{okCoord, okSite}
+use Rattle.plane.specs.boxes.Box.{madeOf}
+use Rattle.plane.specs.boxes.Rules.{okBox}
+use Rattle.plane.specs.given.Given.{bySize}
 use Rattle.mesh.specs.Accepted.{mesh, Accepted}
 use Rattle.mesh.specs.Square as lists
 use Rattle.admission.specs.laws.Admits.{admits}
 use Rattle.definition.specs.declared.Fault.{Fault}
 use Rattle.definition.specs.Fault.{Outcome, ok, refused}
 use Rattle.definition.specs.Build.{Built}
-use Rattle.asking.specs.laws.Asks.{box-answers}
+use Rattle.arguments.specs.asking.laws.Asks.{box-answers}
 use Rattle.admission.specs.Slices.{Slices, roomOf}
-use Rattle.build_answers.specs.Success.{Value, succeeds-zero}
-use Rattle.build_answers.specs.Promise.{ClippedBuild}
+use Rattle.building.specs.answers.Success.{Value, succeeds-zero}
+use Rattle.building.specs.answers.Promise.{ClippedBuild}
 use Rattle.octets.specs.Bytes.{each}
 use Rattle.form.specs.Form.{MeshFits, float, siteFloats}
 use Rattle.form.specs.Square.{square, squareBytes, two-is}
-use Rattle.text_parts.specs.Text.{ascii}
+use Rattle.printing.specs.parts.Text.{ascii}
 use Rattle.printing.specs.One.{prints-one}
 use Rattle.cells.specs.Square.{texted, rows}
 

@@ -1,17 +1,20 @@
 // Reads a mesh's form on standard input and prints the listing of its cells, or `refused N`.
-use form_step::Form;
-use given_box::Given;
+pub mod answer_text;
+pub mod listing;
+
+use form::step::Form;
 use libc::STDIN_FILENO;
 use libc::STDOUT_FILENO;
+use plane::given::Given;
 ghost use mathlib.Core.Path.{_≡_};
 ghost use Prim.Native.Nat.{_<_, _≤_};
 ghost use lib.ListN.{length, take};
 ghost use Rattle.mesh.specs.Accepted.{mesh};
 ghost use Rattle.printing.specs.Printed.{InBox, Prints, ByForm};
 ghost use Rattle.cells.specs.Printed.{listingText};
-ghost use Rattle.given_box.specs.Finite.{Fits};
-ghost use Rattle.form_box.specs.FormBox.{boxBy};
-ghost use Rattle.form_step.specs.Holds.{ListRoom, Few};
+ghost use Rattle.plane.specs.given.Finite.{Fits};
+ghost use Rattle.form.specs.boxes.FormBox.{boxBy};
+ghost use Rattle.form.specs.step.Holds.{ListRoom, Few};
 ghost use Rattle.cells.specs.Sized.{SheetSized};
 
 fn narrow(n: usize) -> u32
@@ -52,7 +55,7 @@ fn in_box(
     );
     let n = narrow(sites.len() / 2);
     let t = narrow(triangles.len() / 3);
-    cells_text::show_in_box(out, number, n, t, &offsets, &indexes, &counts)
+    crate::answer_text::show_in_box(out, number, n, t, &offsets, &indexes, &counts)
 }
 
 // In the box that the form gives.
@@ -69,7 +72,7 @@ fn of_mesh(
     ensures { λ r. ⌜ InBox listingText (mesh (now (sites .entry)) (now (triangles .entry)) (now (halfedges .entry)) (now (hull .entry))) (boxBy clip bounds)
         (take r (now (out .exit))) × (r ≤ length (now (out .entry))) ⌝ }
 {
-    let given = form_box::box_of(clip, bounds);
+    let given = form::boxes::box_of(clip, bounds);
     in_box(out, given, sites, triangles, halfedges, hull)
 }
 
@@ -94,7 +97,7 @@ fn of_form(
         clip,
     } = form
     else {
-        return text_parts::refusal(out, form_step::number_of(form));
+        return printing::parts::refusal(out, form::step::number_of(form));
     };
     let numbers = 2 * n;
     let links = 3 * t;

@@ -5,18 +5,18 @@ use mathlib.Core.Bool.{true}
 use mathlib.Core.List.{List}
 use lib.Ieee.{Float}
 use lib.ListN.{length, take, drop}
-use Rattle.utils.specs.declared.Point.{Point}
+use Rattle.plane.specs.declared.points.Point.{Point}
 use Rattle.vertices.specs.Store.{Holds, Poured}
 use Rattle.definition.specs.Fault.{Outcome, ok, refused}
-use Rattle.utils.specs.Flat.{points}
+use Rattle.plane.specs.points.Flat.{points}
 use Rattle.definition.specs.Cell.{Ins, Change}
 use Rattle.definition.specs.Short.{ins}
 use Rattle.definition.specs.Reused.{CountsReused}
 use Rattle.definition.specs.Sides.{SidedCorners}
-use Rattle.clip_corners.specs.CellEntries.{EntryRoom, EntriesPut}
-use Rattle.clip_edges.specs.EdgeClip.{VerticesGrown}
-use Rattle.clip_edges.specs.declared.Env.{Env}
-use Rattle.clip_corners.specs.declared.CellSoFar.{CellSoFar}
+use Rattle.clipping.specs.corners.CellEntries.{EntryRoom, EntriesPut}
+use Rattle.clipping.specs.edges.EdgeClip.{VerticesGrown}
+use Rattle.clipping.specs.declared.edges.Env.{Env}
+use Rattle.clipping.specs.declared.corners.CellSoFar.{CellSoFar}
 use Rattle.clipping.specs.declared.Changed.{Changed}
 
 -- the slices hold count vertices, the box's corners among them, and have room for one edge more: two vertices, three entries beside the site's corners

@@ -5,8 +5,8 @@ use mathlib.Core.Bool.{true, false}
 use mathlib.Core.List.{List}
 use lib.Ieee.{Float}
 use lib.ListN.{length, getD, take, drop}
-use Rattle.numbers.specs.Numbers.{EMPTY}
-use Rattle.utils.specs.Flat.{points}
+use Rattle.base.specs.numbers.Numbers.{EMPTY}
+use Rattle.plane.specs.points.Flat.{points}
 use Rattle.vertices.specs.Store.{Holds}
 use Rattle.definition.specs.Fault.{Outcome, ok, refused}
 use Rattle.definition.specs.Short.{fault}
@@ -15,11 +15,11 @@ use Rattle.definition.specs.Cell as Def
 use Rattle.definition.specs.Short
 use Rattle.definition.specs.Reused.{CountsReused}
 use Rattle.definition.specs.Sides.{Sided, SidedCorners}
-use Rattle.clip_corners.specs.CellEntries.{EntryRoom}
-use Rattle.clip_edges.specs.EdgeClip.{VerticesGrown}
+use Rattle.clipping.specs.corners.CellEntries.{EntryRoom}
+use Rattle.clipping.specs.edges.EdgeClip.{VerticesGrown}
 use Rattle.clipping.specs.EdgeOutcome.{Did}
-use Rattle.clip_edges.specs.declared.Env.{Env}
-use Rattle.clip_corners.specs.declared.CellSoFar.{CellSoFar}
+use Rattle.clipping.specs.declared.edges.Env.{Env}
+use Rattle.clipping.specs.declared.corners.CellSoFar.{CellSoFar}
 use Rattle.clipping.specs.declared.Tip.{Tip}
 use Rattle.clipping.specs.declared.RingStepped.{RingStepped}
 

@@ -1,5 +1,9 @@
 // clip_cell of cell_builder.rs over lent slices: one ring clipped into the cell of its site.
-use clip_corners::CellSoFar;
+pub mod corners;
+pub mod edges;
+pub mod interior;
+
+use crate::corners::CellSoFar;
 use definition::Fault;
 use definition::Reused;
 

@@ -1,27 +1,27 @@
 // One edge of the ring, from vertex p to vertex q: the four cases of clip_cell's loop.
 use crate::Changed;
 use crate::Tip;
-use clip_corners::CellSoFar;
-use clip_corners::insert_edge;
-use clip_corners::push;
-use clip_edges::Crossed;
-use clip_edges::Env;
-use clip_edges::clip_voronoi_edge;
+use crate::corners::CellSoFar;
+use crate::corners::insert_edge;
+use crate::corners::push;
+use crate::edges::Crossed;
+use crate::edges::Env;
+use crate::edges::clip_voronoi_edge;
 use definition::Reused;
 ghost use mathlib.Core.Path.{_≡_};
 ghost use mathlib.Core.Bool.{true, false};
 ghost use mathlib.Core.List.{List, [], _∷_};
 ghost use Prim.Native.Nat.{_+_, _*_, _≤_, _<_, _^_};
 ghost use lib.ListN.{length};
-ghost use Rattle.numbers.specs.Numbers.{refusedOneCrossing};
-ghost use Rattle.utils.specs.Flat.{points};
-ghost use Rattle.utils.specs.declared.Point.{Point};
+ghost use Rattle.base.specs.numbers.Numbers.{refusedOneCrossing};
+ghost use Rattle.plane.specs.points.Flat.{points};
+ghost use Rattle.plane.specs.declared.points.Point.{Point};
 ghost use Rattle.definition.specs.Fault.{ok};
 ghost use Rattle.definition.specs.Cell as Def;
 ghost use Rattle.definition.specs.Short;
 ghost use Rattle.definition.specs.Reused.{CountsReused};
 ghost use Rattle.definition.specs.Sides.{Sided};
-ghost use Rattle.clip_corners.specs.CellEntries.{EntryRoom, EntriesPut};
+ghost use Rattle.clipping.specs.corners.CellEntries.{EntryRoom, EntriesPut};
 ghost use Rattle.clipping.specs.EdgeOutcome.{EdgeRoom, Alters, Changes};
 ghost use Rattle.clipping.specs.RingWalk.{Stands};
 
@@ -95,7 +95,7 @@ fn leave(
     let clip = clip_voronoi_edge(vertices, indexes, env, count, p, q);
     match clip {
         Crossed::Missed => Changed {
-            refusal: numbers::REFUSED_NO_CROSSING,
+            refusal: base::numbers::REFUSED_NO_CROSSING,
             count: count,
             opened: false,
             cell: cell,
@@ -164,7 +164,7 @@ fn enter(
     let clip = clip_voronoi_edge(vertices, indexes, env, count, q, p);
     match clip {
         Crossed::Missed => Changed {
-            refusal: numbers::REFUSED_NO_CROSSING,
+            refusal: base::numbers::REFUSED_NO_CROSSING,
             count: count,
             opened: false,
             cell: cell,
@@ -237,7 +237,7 @@ fn cross_once(
 {
     let done = link(vertices, indexes, env, count, cell, opened, first);
     Changed {
-        refusal: numbers::REFUSED_ONE_CROSSING,
+        refusal: base::numbers::REFUSED_ONE_CROSSING,
         count: count,
         opened: opened,
         cell: done,

@@ -5,7 +5,7 @@
 
 `definition` has the rows that refuse an edit of its must-fail/, `build_laws` the others.
 A row has its file's name, and the file's first line, a comment, is the row's. The vertices (bit for bit), cells, owners and the
-numbers 13 and 14 are the Rust's; marks, lost corners, reused points, 11 and 12 are the harness's reading of docs/RULES.md, as `oracle` prints them.
+numbers 13 and 14 are the Rust's; marks, lost corners, reused points, 11 and 12 are the harness's reading of docs/use/RULES.md, as `oracle` prints them.
 A refused mesh has its whole fault: the place, and for 13 and 14 the edge's two vertices, are that reading's too (`oracle --place`);
 the Rust's panics have none.
 A file's imports stay as they stand there. No line has more than 200 bytes, and `rt fmt` leaves the files as they are written here.

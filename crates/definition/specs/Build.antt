@@ -6,22 +6,22 @@ use mathlib.Core.List.{List, [], _∷_, _++_, map}
 use lib.ListN.{length, getD, set, replicate}
 use lib.Dec.{eqb}
 use lib.Ieee.{Float, nan, inf, fin, binary64, ofBits}
-use Rattle.laws.specs.Pick.{pick}
-use Rattle.laws.specs.Binary64.{_⊞_, _⊟_, _⊠_, _⊘_, one}
-use Rattle.laws.specs.Count.{occ}
-use Rattle.numbers.specs.Numbers.{refusedCircumcenter, refusedExtension}
+use Rattle.base.specs.common.Pick.{pick}
+use Rattle.base.specs.common.Binary64.{_⊞_, _⊟_, _⊠_, _⊘_, one}
+use Rattle.base.specs.common.Count.{occ}
+use Rattle.base.specs.numbers.Numbers.{refusedCircumcenter, refusedExtension}
 use Rattle.root.specs.Sqrt.{sqrtOf}
-use Rattle.utils.specs.Plane.{at}
-use Rattle.utils.specs.Flat.{pointAt}
-use Rattle.utils.specs.declared.Point.{Point}
-use Rattle.centers.specs.Circumcenter.{centerOf, okCenter}
-use Rattle.bounding_box.specs.Box.{cornersOf}
-use Rattle.bounding_box.specs.declared.BoundingBox.{BoundingBox}
+use Rattle.plane.specs.points.Plane.{at}
+use Rattle.plane.specs.points.Flat.{pointAt}
+use Rattle.plane.specs.declared.points.Point.{Point}
+use Rattle.plane.specs.centers.Circumcenter.{centerOf, okCenter}
+use Rattle.plane.specs.boxes.Box.{cornersOf}
+use Rattle.plane.specs.declared.boxes.BoundingBox.{BoundingBox}
 use Rattle.vertices.specs.Add.{addVertex}
 use Rattle.mesh.specs.Mesh.{startOf, endOf, leftmostOf, wholeOf}
 use Rattle.mesh.specs.Accepted.{Mesh, siteCount}
 use Rattle.mesh.specs.Hull.{nextSite}
-use Rattle.paths.specs.Path.{pathEnd}
+use Rattle.walks.specs.paths.Path.{pathEnd}
 use Rattle.definition.specs.declared.Fault.{Fault}
 use Rattle.definition.specs.Fault.{Outcome, ok, refused, andThen}
 use Rattle.definition.specs.Cell.{Mark, plain, crossing, wrapped, Entry, unmarked, Taken, took, extension, vertexAt, clipCell}

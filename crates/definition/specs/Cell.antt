@@ -6,16 +6,16 @@ use mathlib.Core.List.{List, [], _∷_, _++_, map, reverse}
 use lib.ListN.{length, getD, set, take, drop}
 use lib.Dec.{ltb, eqb}
 use lib.Ieee.{Float, nan, eq}
-use Rattle.laws.specs.Pick.{pick}
-use Rattle.laws.specs.Binary64.{_⊟_}
-use Rattle.numbers.specs.Numbers.{EMPTY, refusedNoCrossing, refusedOneCrossing}
-use Rattle.utils.specs.Plane.{at}
-use Rattle.utils.specs.declared.Point.{Point}
-use Rattle.box_sides.specs.Sides.{insideOf, whichOf}
-use Rattle.bounding_box.specs.declared.BoundingBox.{BoundingBox}
-use Rattle.crossings.specs.Ray.{orderOf, rayOf}
-use Rattle.line_crossings.specs.declared.Crossing.{Crossing}
-use Rattle.line_crossings.specs.declared.Crossing.the-variants.{None, One, Two}
+use Rattle.base.specs.common.Pick.{pick}
+use Rattle.base.specs.common.Binary64.{_⊟_}
+use Rattle.base.specs.numbers.Numbers.{EMPTY, refusedNoCrossing, refusedOneCrossing}
+use Rattle.plane.specs.points.Plane.{at}
+use Rattle.plane.specs.declared.points.Point.{Point}
+use Rattle.plane.specs.sides.Sides.{insideOf, whichOf}
+use Rattle.plane.specs.declared.boxes.BoundingBox.{BoundingBox}
+use Rattle.plane.specs.rays.Ray.{orderOf, rayOf}
+use Rattle.plane.specs.declared.lines.Crossing.{Crossing}
+use Rattle.plane.specs.declared.lines.Crossing.the-variants.{None, One, Two}
 use Rattle.vertices.specs.Add.{Added, addVertex}
 use Rattle.definition.specs.declared.Fault.{Fault}
 use Rattle.definition.specs.Fault.{Outcome, ok, refused, andThen, atEdge}

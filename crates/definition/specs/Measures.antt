@@ -5,10 +5,10 @@ use mathlib.Core.List.{List, [], _∷_}
 use Prim.Native.Nat.{ℕ, suc, _+_, _≤_, _<_, _*_, _/_}
 use lib.Dec.{eqb}
 use lib.ListN.{length, getD}
-use Rattle.laws.specs.Pick.{pick}
-use Rattle.numbers.specs.Numbers.{EMPTY}
-use Rattle.bounding_box.specs.declared.BoundingBox.{BoundingBox}
-use Rattle.laws.specs.Count.{occ}
+use Rattle.base.specs.common.Pick.{pick}
+use Rattle.base.specs.numbers.Numbers.{EMPTY}
+use Rattle.plane.specs.declared.boxes.BoundingBox.{BoundingBox}
+use Rattle.base.specs.common.Count.{occ}
 use Rattle.definition.specs.Cell.{Taken, Entry, Mark, plain, crossing, wrapped, inBox}
 use Rattle.definition.specs.Build.{Built}
 

@@ -4,7 +4,7 @@ use mathlib.Core.Bool.{Bool}
 use mathlib.Core.List.{List, [], _∷_}
 use Prim.Native.Nat.{ℕ, _+_, _^_, _≤_}
 use lib.ListN.{length}
-use Rattle.laws.specs.Pick.{pick}
+use Rattle.base.specs.common.Pick.{pick}
 use Rattle.definition.specs.Cell.{StepKind, StepKind-discrete, extension, firstCrossing, secondCrossing, Taken}
 use Rattle.definition.specs.declared.Reused.{Reused}
 

@@ -3,21 +3,21 @@ use Prim.Native.Nat.{ℕ}
 use mathlib.Core.List.{List, [], _∷_, map}
 use lib.Count.{trailingZeros}
 use lib.Ieee.{Float, binary64, ofBits, add, sub, mul, div, lt, le, eq, neg, sum, round, units, odd, size, span, climb}
-use Rattle.laws.specs.Count.{same}
+use Rattle.base.specs.common.Count.{same}
 use Rattle.root.specs.Sqrt.{wholeRoot, nearestRoot, rootOfUnits, sqrtOf}
-use Rattle.utils.specs.Plane.{at, nearOf, dist2Of}
-use Rattle.utils.specs.Flat.{flat}
-use Rattle.centers.specs.Circumcenter.{centerOf, okCenter}
-use Rattle.bounding_box.specs.Box.{madeOf, cornersOf}
-use Rattle.box_sides.specs.Sides.{insideOf, firstSide, whichOf}
-use Rattle.crossings.specs.Ray.{orderPick, eitherOf, orderBy, orderOne, orderTwo, rayOf}
-use Rattle.line_crossings.specs.Line.{oneIf, twoIf, firstHeld, sideHit, levelHit, uprightHit, settleOf, lineOf}
+use Rattle.plane.specs.points.Plane.{at, nearOf, dist2Of}
+use Rattle.plane.specs.points.Flat.{flat}
+use Rattle.plane.specs.centers.Circumcenter.{centerOf, okCenter}
+use Rattle.plane.specs.boxes.Box.{madeOf, cornersOf}
+use Rattle.plane.specs.sides.Sides.{insideOf, firstSide, whichOf}
+use Rattle.plane.specs.rays.Ray.{orderPick, eitherOf, orderBy, orderOne, orderTwo, rayOf}
+use Rattle.plane.specs.lines.Line.{oneIf, twoIf, firstHeld, sideHit, levelHit, uprightHit, settleOf, lineOf}
 use Rattle.vertices.specs.Add.{nearPt, findNear, addVertex}
 use Rattle.mesh.specs.Mesh.{nextOf, chosen, tableTo, turnOf, walkOf}
 use Rattle.mesh.specs.Hull.{nextPlace}
-use Rattle.iterator.specs.Neighbours.{lastEnd, startsOf, neighboursOf}
-use Rattle.paths.specs.Path.{distOf, nearestOf, hopOf, pathEnd}
-use Rattle.bounding_box.specs.declared.BoundingBox.{BoundingBox}
+use Rattle.walks.specs.neighbours.Neighbours.{lastEnd, startsOf, neighboursOf}
+use Rattle.walks.specs.paths.Path.{distOf, nearestOf, hopOf, pathEnd}
+use Rattle.plane.specs.declared.boxes.BoundingBox.{BoundingBox}
 use Rattle.definition.specs.declared.Fault.{Fault}
 use Rattle.definition.specs.Fault.{Outcome, ok, refused, andThen, atEdge}
 use Rattle.definition.specs.Cell.{Entry, entry, plain, crossing, wrapped, Taken, extension, firstCrossing, secondCrossing, stepsTo, firstInside, turned, clipFrom, clipCell}

@@ -2,7 +2,7 @@
 -- others are in crate build_laws. Written by rows/make.py from what the Rust answered; not by hand.
 use mathlib.Core.Path.{_≡_, refl}
 use mathlib.Core.List.{[], _∷_}
-use Rattle.numbers.specs.Numbers.{EMPTY}
+use Rattle.base.specs.numbers.Numbers.{EMPTY}
 use Rattle.mesh.specs.Accepted.{mesh}
 use Rattle.definition.specs.Fault.{ok}
 use Rattle.definition.specs.Rows.{floats, rowBox, t, x, w, rowOf}
@@ -131,7 +131,7 @@ pub rotation :
 unfolding rowOf
 rotation = refl
 
--- "square" of docs/RULES.md
+-- "square" of docs/use/RULES.md
 pub square :
     rowOf
     (build

@@ -1,7 +1,7 @@
 -- Rows: a mesh that is refused, with its whole fault, which refuses an edit of must-fail/; the others are in crate build_laws. Written by rows/make.py; not by hand.
 use mathlib.Core.Path.{_≡_, refl}
 use mathlib.Core.List.{[], _∷_}
-use Rattle.numbers.specs.Numbers.{EMPTY, refusedNoCrossing}
+use Rattle.base.specs.numbers.Numbers.{EMPTY, refusedNoCrossing}
 use Rattle.mesh.specs.Accepted.{mesh}
 use Rattle.definition.specs.Fault.{refused}
 use Rattle.definition.specs.Rows.{floats, rowBox, rowOf}

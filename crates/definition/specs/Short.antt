@@ -3,9 +3,9 @@ use Prim.Native.Nat.{ℕ}
 use mathlib.Core.Bool.{Bool}
 use mathlib.Core.List.{List, [], _∷_, _++_}
 use lib.Dec.{eqb}
-use Rattle.laws.specs.Pick.{pick}
-use Rattle.utils.specs.declared.Point.{Point}
-use Rattle.bounding_box.specs.declared.BoundingBox.{BoundingBox}
+use Rattle.base.specs.common.Pick.{pick}
+use Rattle.plane.specs.declared.points.Point.{Point}
+use Rattle.plane.specs.declared.boxes.BoundingBox.{BoundingBox}
 use Rattle.vertices.specs.Add.{Added}
 use Rattle.definition.specs.declared.Fault.{Fault}
 use Rattle.definition.specs.Cell.{Entry, lastOr, firstCrossing, secondCrossing, Taken, took, Ins, withCorners, led, insertEdge, Change, Tip, RingPart}

@@ -2,3 +2,4 @@
 pub mod Printed
 pub mod Shown
 pub mod laws
+pub mod map_text

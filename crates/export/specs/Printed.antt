@@ -3,12 +3,12 @@
 use mathlib.Core.List.{List, [], _∷_, _++_, map}
 use Prim.Native.Nat.{ℕ, suc}
 use Rattle.printing.specs.Printed.{Text}
-use Rattle.utils.specs.Flat.{flat}
+use Rattle.plane.specs.points.Flat.{flat}
 use Rattle.definition.specs.Build.{Built}
 use Rattle.definition.specs.Cell.{unmarked}
 use Rattle.wkb.specs.Polygon.{patterns}
 use Rattle.wkb.specs.Promise.{image}
-use Rattle.map_text.specs.MapText.{heading, mapLine}
+use Rattle.export.specs.map_text.MapText.{heading, mapLine}
 
 -- ---- the text of a build
 

@@ -4,7 +4,7 @@ use Prim.Native.Nat.{ℕ, _/_, _≤_}
 use lib.Ieee.{Float}
 use lib.ListN.{getD}
 use Rattle.wkb.specs.Polygon.{patterns}
-use Rattle.map_text.specs.MapText.{mapText, Drawn}
+use Rattle.export.specs.map_text.MapText.{mapText, Drawn}
 
 -- the lists of a form, and room for its text
 pub record MapSized (coordinates entries hull space : ℕ) : Type 0 where

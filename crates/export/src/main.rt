@@ -1,17 +1,19 @@
 // Reads a mesh's form on standard input and prints a line for each cell, for map tools, or `refused N`.
-use form_step::Form;
-use given_box::Given;
+pub mod map_text;
+
+use form::step::Form;
 use libc::STDIN_FILENO;
 use libc::STDOUT_FILENO;
+use plane::given::Given;
 ghost use mathlib.Core.Path.{_≡_};
 ghost use Prim.Native.Nat.{_<_, _≤_};
 ghost use lib.ListN.{length, take};
 ghost use Rattle.mesh.specs.Accepted.{mesh};
 ghost use Rattle.printing.specs.Printed.{InBox, Prints, ShownIn, shown, ByForm};
 ghost use Rattle.export.specs.Printed.{exportText};
-ghost use Rattle.given_box.specs.Finite.{Fits};
-ghost use Rattle.form_box.specs.FormBox.{boxBy};
-ghost use Rattle.form_step.specs.Holds.{ListRoom, Few};
+ghost use Rattle.plane.specs.given.Finite.{Fits};
+ghost use Rattle.form.specs.boxes.FormBox.{boxBy};
+ghost use Rattle.form.specs.step.Holds.{ListRoom, Few};
 ghost use Rattle.export.specs.Shown.{MapSized, CanDraw, lines};
 
 fn narrow(n: usize) -> u32
@@ -34,9 +36,9 @@ fn show(
     ensures { λ r. ⌜ ShownIn (shown (lines sites (now (vertices .entry)) (now (offsets .entry)) (now (indexes .entry))) number) (now (out .exit)) (length (now (out .entry))) r ⌝ }
 {
     if number != 0 {
-        return text_parts::refusal(out, number);
+        return printing::parts::refusal(out, number);
     }
-    map_text::map_text(out, sites, vertices, offsets, indexes)
+    crate::map_text::map_text(out, sites, vertices, offsets, indexes)
 }
 
 fn in_box(
@@ -86,7 +88,7 @@ fn of_mesh(
     ensures { λ r. ⌜ InBox exportText (mesh (now (sites .entry)) (now (triangles .entry)) (now (halfedges .entry)) (now (hull .entry))) (boxBy clip bounds)
         (take r (now (out .exit))) × (r ≤ length (now (out .entry))) ⌝ }
 {
-    let given = form_box::box_of(clip, bounds);
+    let given = form::boxes::box_of(clip, bounds);
     in_box(out, given, sites, triangles, halfedges, hull)
 }
 
@@ -111,7 +113,7 @@ fn of_form(
         clip,
     } = form
     else {
-        return text_parts::refusal(out, form_step::number_of(form));
+        return printing::parts::refusal(out, form::step::number_of(form));
     };
     let numbers = 2 * n;
     let links = 3 * t;

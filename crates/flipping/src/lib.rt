@@ -1,5 +1,9 @@
 // What flipping an edge is, and that the flipped mesh is accepted again, is in specs/. Here is the type
 // that the code shares with it, and the step back in a triangle.
+pub mod call;
+pub mod rule;
+pub mod stores;
+
 ghost use mathlib.Core.Path.{_≡_};
 ghost use Prim.Native.Nat.{_<_};
 ghost use Rattle.flipping.specs.Flip.{beforeOf};

@@ -1,4 +1,4 @@
--- The form of docs/RULES.md: a mesh written record by record. Definitions only.
+-- The form of docs/use/RULES.md: a mesh written record by record. Definitions only.
 use mathlib.Core.Bool.{Bool, true}
 use mathlib.Core.List.{List, [], _∷_, _++_}
 use mathlib.Core.Path.{_≡_}

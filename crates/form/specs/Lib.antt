@@ -5,3 +5,5 @@ pub mod Place
 pub mod Promise
 pub mod Square
 pub mod laws
+pub mod step
+pub mod boxes

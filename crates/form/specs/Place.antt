@@ -5,7 +5,7 @@ use mathlib.Core.List.{List, [], _∷_, _++_}
 use mathlib.Core.Logic.{_⊎_}
 use Prim.Native.Nat.{ℕ, _+_, _≤_, _<_}
 use lib.ListN.{length, getD, take}
-use Rattle.numbers.specs.Numbers.{refusedForm, refusedUnclipped}
+use Rattle.base.specs.numbers.Numbers.{refusedForm, refusedUnclipped}
 use Rattle.form.specs.Form.{IsForm}
 
 -- some sound form begins so

@@ -9,16 +9,16 @@ use lib.ListN.{length}
 use lib.Seq.{sets}
 use Rattle.octets.specs.Bytes.{Bytes, each}
 use Rattle.form.specs.Form.{FormMesh, MeshFits, MayBegin, IsForm, formOf, kindOf, outlineFloats, siteFloats, triangleSites, trianglePairs}
-use Rattle.form_step.specs.Reader.{start, steps, verdict, Reading, reading, takes}
-use Rattle.form_step.specs.Holds.{Reads}
+use Rattle.form.specs.step.Reader.{start, steps, verdict, Reading, reading, takes}
+use Rattle.form.specs.step.Holds.{Reads}
 use Rattle.form.specs.laws.Run.{takes-reader}
 use Rattle.form.specs.laws.Mesh.{WholeRead, complete}
 use Rattle.form.specs.laws.Exact.{sound-broken, ended-of, answer-ended, accepts, only-forms}
 use Rattle.form.specs.Place.{Place, NumberAt}
 use Rattle.form.specs.laws.Place.{refused-at}
 use Rattle.form.specs.laws.NumberAt.{number-at}
-use Rattle.form_step.specs.declared.Form.{Form}
-use Rattle.form_step.specs.declared.Form.the-variants.{Sound, Broken}
+use Rattle.form.specs.declared.step.Form.{Form}
+use Rattle.form.specs.declared.step.Form.the-variants.{Sound, Broken}
 
 module _ (old : Bool) (s : List ℕ) (bs ss : List Float) (ts es hs : List ℕ) where
   pub record ReadSound (a : Form) (bs' ss' : List Float) (ts' es' hs' : List ℕ) : Type 0 where

@@ -1,16 +1,16 @@
--- Rows: the input "square" of docs/RULES.md: its 172 bytes, that they are the form of its mesh, and that they are read as that mesh; the same with its box by edges. By computation.
+-- Rows: the input "square" of docs/use/RULES.md: its 172 bytes, that they are the form of its mesh, and that they are read as that mesh; the same with its box by edges. By computation.
 use mathlib.Core.Path.{_≡_, refl}
 use mathlib.Core.Bool.{false}
 use mathlib.Core.List.{List, [], _∷_, _++_}
 use Prim.Native.Nat.{ℕ}
 use lib.Ieee.{Float, binary64, ofBits}
 use lib.ListN.{length, replicate, drop}
-use Rattle.numbers.specs.Numbers.{EMPTY}
-use Rattle.laws.specs.Binary64.{zero, two}
+use Rattle.base.specs.numbers.Numbers.{EMPTY}
+use Rattle.base.specs.common.Binary64.{zero, two}
 use Rattle.form.specs.Form.{FormMesh, box, edges, formOf}
-use Rattle.form_step.specs.Reader.{sizeOf, opens, roomLeft, follows, start, begun, tally, inside, outside, step, within, putFloat, putLink, boundsBy}
-use Rattle.form_step.specs.Reader.{sitesBy, trianglesBy, halfedgesBy, hullBy, Reading, reading, take, takes, verdict}
-use Rattle.form_step.specs.declared.Form.the-variants.{Sound}
+use Rattle.form.specs.step.Reader.{sizeOf, opens, roomLeft, follows, start, begun, tally, inside, outside, step, within, putFloat, putLink, boundsBy}
+use Rattle.form.specs.step.Reader.{sitesBy, trianglesBy, halfedgesBy, hullBy, Reading, reading, take, takes, verdict}
+use Rattle.form.specs.declared.step.Form.the-variants.{Sound}
 
 unfoldable pub squareBytes : List ℕ
 squareBytes =

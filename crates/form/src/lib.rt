@@ -1,21 +1,24 @@
 // Reads the program's form: one byte at a time by a state that is passed by value, each number stored as soon as its last byte has come.
-use form_step::Form;
-use form_step::Reader;
-use form_step::finish;
-use form_step::inside;
-use form_step::outside;
-use form_step::shifted;
-use form_step::start;
-use patterns::float_of;
+pub mod boxes;
+pub mod step;
+
+use crate::step::Form;
+use crate::step::Reader;
+use crate::step::finish;
+use crate::step::inside;
+use crate::step::outside;
+use crate::step::shifted;
+use crate::step::start;
+use octets::patterns::float_of;
 ghost use mathlib.Core.Path.{_≡_};
 ghost use Prim.Native.Nat.{_-_, _/_, _≤_, _<_};
 ghost use mathlib.Core.Bool.{false};
 ghost use lib.Dec.{ltb};
 ghost use lib.ListN.{length};
-ghost use Rattle.laws.specs.Pick.{pick};
-ghost use Rattle.form_step.specs.Reader.{broken, start, putFloat, putLink, reading, filledBy, take, takes};
-ghost use Rattle.form_step.specs.Holds.{ListRoom, Reads};
-ghost use Rattle.form_step.specs.Standing.{Ok};
+ghost use Rattle.base.specs.common.Pick.{pick};
+ghost use Rattle.form.specs.step.Reader.{broken, start, putFloat, putLink, reading, filledBy, take, takes};
+ghost use Rattle.form.specs.step.Holds.{ListRoom, Reads};
+ghost use Rattle.form.specs.step.Standing.{Ok};
 
 const TOP_LINK: u64 = 0x1_0000_0000;
 

@@ -2,3 +2,8 @@
 pub mod Plane
 pub mod Raised
 pub mod laws
+pub mod scan
+pub mod border
+pub mod check
+pub mod nearest
+pub mod floats

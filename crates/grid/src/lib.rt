@@ -1,10 +1,16 @@
 // Places of whole coordinates, each of magnitude at most 8,192: which way three of them turn, and whether a fourth lies inside their circle. Signs are
 // avoided: coordinates are moved up by 8,192, and a number with a sign is what is added and what is taken off. No sum or product reaches 2^61.
+pub mod border;
+pub mod check;
+pub mod floats;
+pub mod nearest;
+pub mod scan;
+
 ghost use mathlib.Core.Path.{_≡_};
 ghost use Prim.Native.Nat.{_+_, _*_, _/_, _<_, _≤_};
 ghost use lib.ListN.{length, getD};
 ghost use lib.IntN.{pos};
-ghost use Rattle.laws.specs.Decide.{Says, First};
+ghost use Rattle.base.specs.common.Decide.{Says, First};
 ghost use Rattle.grid.specs.Plane.{Within, placeAt, WithinAt, SiteAt, turnsLeft, goesUp, strictlyInside};
 ghost use Rattle.grid.specs.Raised.{up, raisedOf, areaOf, liftOf, levelOf, Low, Small};
 

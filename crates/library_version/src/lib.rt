@@ -5,5 +5,5 @@ ghost use Rattle.library_version.specs.Version.{version};
 pub fn number() -> u32
     ensures { λ r. ⌜ r ≡ version ⌝ }
 {
-    2300
+    2400
 }

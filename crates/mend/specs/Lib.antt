@@ -5,3 +5,8 @@ pub mod One
 pub mod Enough
 pub mod Sound
 pub mod laws
+pub mod boxes
+pub mod box_line
+pub mod change_lines
+pub mod text
+pub mod writer

@@ -6,17 +6,17 @@ use Prim.Native.Nat.{ℕ}
 use native.Mathlib.Omega.{arith}
 use lib.Ieee.{Float}
 use lib.ListN.{replicate, length-replicate}
-use Rattle.laws.specs.Binary64 as B
-use Rattle.laws.specs.laws.Refusals.{finds-one}
-use Rattle.text_parts.specs.Labelled.{refusal}
-use Rattle.form_step.specs.Reader.{verdict, start, reading, takes, Reading}
-use Rattle.form_step.specs.Holds.{ListRoom}
-use Rattle.form_step.specs.declared.Form.{Form}
-use Rattle.form_step.specs.declared.Form.the-variants.{Sound, Broken}
+use Rattle.base.specs.common.Binary64 as B
+use Rattle.base.specs.common.laws.Refusals.{finds-one}
+use Rattle.printing.specs.parts.Labelled.{refusal}
+use Rattle.form.specs.step.Reader.{verdict, start, reading, takes, Reading}
+use Rattle.form.specs.step.Holds.{ListRoom}
+use Rattle.form.specs.declared.step.Form.{Form}
+use Rattle.form.specs.declared.step.Form.the-variants.{Sound, Broken}
 use Rattle.form.specs.Form.{FormMesh, MeshFits, MayBegin, formOf}
 use Rattle.form.specs.laws.Longer.{same-number, place-refuses}
 use Rattle.form.specs.laws.Mesh.{WholeRead, complete}
-use Rattle.mend_box.specs.Option.{IsOption, outlineOf, gives}
+use Rattle.mend.specs.boxes.Option.{IsOption, outlineOf, gives}
 use Rattle.mend.specs.Printed.{PrintsMesh, MendPrints, sound, broken}
 use Rattle.mend.specs.Steps.{OfLists, refused, mended, PrintsRead}
 use Rattle.mend.specs.laws.ReadForm.{to-read}

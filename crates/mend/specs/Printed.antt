@@ -8,25 +8,25 @@ use Prim.Native.Nat.{ℕ, _/_}
 use lib.Dec.{eqb, ltb}
 use lib.Ieee.{Float}
 use lib.ListN.{length}
-use Rattle.laws.specs.Refusals.{Rule, once, each as every, reads, Finds}
-use Rattle.laws.specs.Pick.{pick}
-use Rattle.numbers.specs.Numbers.{refusedCount, refusedBox}
+use Rattle.base.specs.common.Refusals.{Rule, once, each as every, reads, Finds}
+use Rattle.base.specs.common.Pick.{pick}
+use Rattle.base.specs.numbers.Numbers.{refusedCount, refusedBox}
 use Rattle.octets.specs.Bytes.{each}
-use Rattle.text_parts.specs.Text.{ascii}
-use Rattle.text_parts.specs.Labelled.{refusal}
+use Rattle.printing.specs.parts.Text.{ascii}
+use Rattle.printing.specs.parts.Labelled.{refusal}
 use Rattle.mesh.specs.declared.MeshFault.the-variants.{Triangle}
 use Rattle.mesh.specs.Mesh.{SoundAt}
 use Rattle.mesh.specs.Faults.{numberOf, coordinateRules}
 use Rattle.mesh.specs.Accepted.{Counted, siteCount}
-use Rattle.mend_pairs.specs.Pairs.{pairsOf}
-use Rattle.mend_changes.specs.Changes.{Difference}
+use Rattle.mending.specs.pairs.Pairs.{pairsOf}
+use Rattle.mending.specs.changes.Changes.{Difference}
 use Rattle.mending.specs.Mending.{workRules, newHull, pairChanges, hullChanges}
 use Rattle.form.specs.Form.{Outline, FormMesh, MeshFits, MayBegin, formOf, outlineBytes, siteFloats, triangleSites, trianglePairs}
 use Rattle.form.specs.Place.{Place, NumberAt}
-use Rattle.form_writer.specs.FormOf.{meshWith}
-use Rattle.mend_box.specs.Option.{isBox, gives, keepsBox, inPlace, firstAfter}
-use Rattle.change_text.specs.ChangeLines.{changeLine, countsLine}
-use Rattle.box_text.specs.BoxLine.{boxLine}
+use Rattle.mend.specs.writer.FormOf.{meshWith}
+use Rattle.mend.specs.boxes.Option.{isBox, gives, keepsBox, inPlace, firstAfter}
+use Rattle.mend.specs.change_lines.ChangeLines.{changeLine, countsLine}
+use Rattle.mend.specs.box_line.BoxLine.{boxLine}
 use Rattle.mend.specs.declared.Way.{Way}
 use Rattle.mend.specs.declared.Way.the-variants.{Print, Usage}
 

@@ -8,24 +8,24 @@ use Prim.Native.Nat.{ℕ, suc, _+_, _*_, _/_, _^_, _<_}
 use native.Mathlib.Omega.{arith}
 use lib.Ieee.{Float}
 use lib.ListN.{length, getD, replicate, length-replicate, List·getD-eq-default}
-use Rattle.laws.specs.laws.Decide.{lt-or-ge}
-use Rattle.numbers.specs.Numbers.{EMPTY}
+use Rattle.base.specs.common.laws.Decide.{lt-or-ge}
+use Rattle.base.specs.numbers.Numbers.{EMPTY}
 use Rattle.octets.specs.Bytes.{All, each}
-use Rattle.text_parts.specs.Labelled.{refusal}
+use Rattle.printing.specs.parts.Labelled.{refusal}
 use Rattle.mesh.specs.Mesh.{leftmostIn}
 use Rattle.mesh.specs.Accepted.{mesh, Accepted, siteCount}
 use Rattle.mesh.specs.laws.Facts.{sound-site}
-use Rattle.mend_pairs.specs.Pairs.{pairsOf}
-use Rattle.mend_changes.specs.Changes.{flatChanges}
-use Rattle.check_mesh.specs.AtExit.{atExit}
-use Rattle.mend_slices.specs.Lent.{Lent, lent, filled}
+use Rattle.mending.specs.pairs.Pairs.{pairsOf}
+use Rattle.mending.specs.changes.Changes.{flatChanges}
+use Rattle.mesh_check.specs.whole.AtExit.{atExit}
+use Rattle.mending.specs.slices.Lent.{Lent, lent, filled}
 use Rattle.mending.specs.Mending.{mendRoomOf, newHull, pairChanges, hullChanges, whenMade, Mends}
 use Rattle.mending.specs.MendTheorem.{mended-accepted}
 use Rattle.form.specs.Form.{Outline, box, unclipped, edges, FormMesh, MeshFits, OutlineFits, HullFits, MayBegin, IsForm, siteFloats, triangleSites}
 use Rattle.form.specs.laws.Lists.{each-length}
-use Rattle.form_writer.specs.laws.Records.{triangles-count, triangles-fit}
-use Rattle.mend_box.specs.Option.{IsOption, outlineOf, gives, inPlace, firstAfter}
-use Rattle.mend_box.specs.Record.{holds}
+use Rattle.mend.specs.writer.laws.Records.{triangles-count, triangles-fit}
+use Rattle.mend.specs.boxes.Option.{IsOption, outlineOf, gives, inPlace, firstAfter}
+use Rattle.mend.specs.boxes.Record.{holds}
 use Rattle.mend.specs.Printed.{MendNumber, NumberOf, PrintsMesh, refused, mended, mendedForm, triOf, heOf, count}
 use Rattle.mend.specs.laws.Room.{without-box}
 use Rattle.mend.specs.laws.Heads.{none-gives}

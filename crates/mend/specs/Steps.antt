@@ -8,16 +8,16 @@ use Prim.Native.Nat.{ℕ, _+_, _-_, _*_, _≤_}
 use lib.Dec.{eqb}
 use lib.Ieee.{Float}
 use lib.ListN.{length, take, drop}
-use Rattle.laws.specs.Pick.{pick}
-use Rattle.text_parts.specs.Labelled.{refusal}
+use Rattle.base.specs.common.Pick.{pick}
+use Rattle.printing.specs.parts.Labelled.{refusal}
 use Rattle.mesh.specs.Accepted.{siteCount}
-use Rattle.mend_pairs.specs.Pairs.{pairsOf}
+use Rattle.mending.specs.pairs.Pairs.{pairsOf}
 use Rattle.mending.specs.Mending.{newHull, pairChanges, hullChanges}
-use Rattle.form_step.specs.declared.Form.{Form}
-use Rattle.form_step.specs.declared.Form.the-variants.{Sound, Broken}
-use Rattle.form_writer.specs.Written.{writtenForm}
-use Rattle.mend_box.specs.Option.{outlineOf, putLength, keptFrom}
-use Rattle.mend_text.specs.MendText.{mendText}
+use Rattle.form.specs.declared.step.Form.{Form}
+use Rattle.form.specs.declared.step.Form.the-variants.{Sound, Broken}
+use Rattle.mend.specs.writer.Written.{writtenForm}
+use Rattle.mend.specs.boxes.Option.{outlineOf, putLength, keptFrom}
+use Rattle.mend.specs.text.MendText.{mendText}
 use Rattle.mend.specs.Printed.{MendNumber, changesText}
 
 -- ---- sizes

@@ -1,6 +1,12 @@
 // Reads a mesh's form on standard input, works its pairs and its hull out afresh, and prints a line for each change, or with the word `form` the
 // mended mesh as a form; or `refused N`. With the words `box HEX` a form of old, without a box, gets this one. Other words: a line on standard error.
-use form_step::Form;
+pub mod box_line;
+pub mod boxes;
+pub mod change_lines;
+pub mod text;
+pub mod writer;
+
+use form::step::Form;
 use libc::STDERR_FILENO;
 use libc::STDIN_FILENO;
 use libc::STDOUT_FILENO;
@@ -9,9 +15,9 @@ ghost use mathlib.Core.Bool.{_&&_};
 ghost use Prim.Native.Nat.{_+_, _-_, _≤_};
 ghost use lib.ListN.{length, take};
 ghost use Rattle.octets.specs.Wrote.{Wrote};
-ghost use Rattle.form_step.specs.Holds.{Few};
-ghost use Rattle.text_parts.specs.Text.{ascii};
-ghost use Rattle.mend_box.specs.Option.{IsOption, outlineOf};
+ghost use Rattle.form.specs.step.Holds.{Few};
+ghost use Rattle.printing.specs.parts.Text.{ascii};
+ghost use Rattle.mend.specs.boxes.Option.{IsOption, outlineOf};
 ghost use Rattle.mend.specs.Printed.{sameBytes, isOption, wayIf, wayOf, MendPrints};
 ghost use Rattle.mend.specs.Steps.{firstLength, Headed, MendSized, CanShow, shownText, OfLists, PrintsRead};
 
@@ -33,7 +39,7 @@ fn is_option(label: &[u8], digits: &[u8]) -> bool
     ensures { λ r. ⌜ r ≡ isOption (now (label .entry)) (now (digits .entry)) ⌝ }
 {
     if same_bytes(label, b"box") {
-        return mend_box::is_box(digits);
+        return crate::boxes::is_box(digits);
     }
     false
 }
@@ -118,12 +124,12 @@ fn show(
         (now (triangles .entry)) (now (pairs .entry)) (now (hull .entry)) (now (changes .entry)) repaired replaced) ⌝ }
 {
     if number != 0 {
-        return text_parts::refusal(out, number);
+        return printing::parts::refusal(out, number);
     }
     if form {
-        return form_writer::write(out, first, records, triangles, pairs, hull);
+        return crate::writer::write(out, first, records, triangles, pairs, hull);
     }
-    mend_text::mend_text(out, first, changes, repaired, replaced)
+    crate::text::mend_text(out, first, changes, repaired, replaced)
 }
 
 // The text of a mesh; of its form the record that is put in and the first records that are kept are given as they stand.
@@ -155,9 +161,9 @@ fn of_mesh(
         &mut mended,
         &mut changes,
     );
-    let number = mend_box::number_with(first, m.number);
+    let number = crate::boxes::number_with(first, m.number);
     let entries = triangles.len();
-    let count = numbers::wide(m.hull);
+    let count = base::numbers::wide(m.hull);
     show(
         out,
         number,
@@ -197,10 +203,10 @@ fn of_form(
         clip,
     } = read
     else {
-        return text_parts::refusal(out, form_step::number_of(read));
+        return printing::parts::refusal(out, form::step::number_of(read));
     };
-    let put = mend_box::put_length(clip, option.len());
-    let from = mend_box::kept_from(clip);
+    let put = crate::boxes::put_length(clip, option.len());
+    let from = crate::boxes::kept_from(clip);
     let end = first_length(clip) + 17 * n;
     let coordinates = 2 * n;
     let entries = 3 * t;
@@ -226,7 +232,7 @@ fn answer(bytes: &[u8], form: bool, option: &[u8], out: &mut [u8]) -> usize
     let mut triangles = [0u32; 576];
     let mut halfedges = [0u32; 576];
     let mut hull = [0u32; 96];
-    let old = mend_box::is_given(option);
+    let old = crate::boxes::is_given(option);
     let read = form::read(
         old,
         bytes,
@@ -254,7 +260,7 @@ fn print(form: bool, boxed: bool, digits: &[u8]) {
     let mut bytes = [0u8; 6947];
     let mut out = [0u8; 32768];
     let mut option = [0u8; 33];
-    let k = mend_box::record_of(boxed, digits, &mut option);
+    let k = crate::boxes::record_of(boxed, digits, &mut option);
     let n = io::read_full(STDIN_FILENO, &mut bytes);
     let m = answer(&bytes[..n], form, &option[..k], &mut out);
     io::write_all(STDOUT_FILENO, &out[..m]);

@@ -4,3 +4,7 @@ pub mod Steps
 pub mod laws
 pub mod One
 pub mod MendTheorem
+pub mod changes
+pub mod pairs
+pub mod border
+pub mod slices

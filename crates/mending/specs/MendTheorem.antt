@@ -8,26 +8,26 @@ use native.Mathlib.Omega.{arith}
 use lib.ListN.{length, getD}
 use lib.Seq.{ext-getD}
 use borrow.Author.Needs.{needs}
-use Rattle.laws.specs.Refusals.{Keep}
-use Rattle.laws.specs.laws.Refusals.{finds-one, finds-none, finds-keep}
-use Rattle.numbers.specs.Numbers.{EMPTY}
+use Rattle.base.specs.common.Refusals.{Keep}
+use Rattle.base.specs.common.laws.Refusals.{finds-one, finds-none, finds-keep}
+use Rattle.base.specs.numbers.Numbers.{EMPTY}
 use Rattle.mesh.specs.Mesh.{nextOf, pairOf, endOf}
 use Rattle.mesh.specs.Hull.{nextPlace}
 use Rattle.mesh.specs.Accepted.{Mesh, Accepted, siteCount}
 use Rattle.mesh.specs.laws.Next.{next-lt}
 use Rattle.mesh.specs.laws.Facts.{few-entries, sound-site}
 use Rattle.mesh.specs.laws.Border.{after-cases, after-lt, hull-border}
-use Rattle.mend_pairs.specs.Pairs.{Reverse, pairsOf, AllSingle}
-use Rattle.mend_pairs.specs.Chains.{NamesSites}
-use Rattle.mend_pairs.specs.laws.Mates.{mate-is, mate-none, single-one, pairs-length, pairs-at}
-use Rattle.mend_pairs.specs.PairTheorem.{pairs-right}
-use Rattle.mend_hull.specs.Loop.{hullOf}
-use Rattle.mend_hull.specs.Answer.{IsHull, HasHull}
-use Rattle.mend_hull.specs.HullTheorem.{Starts, hull-alone, there-is}
-use Rattle.mend_hull.specs.laws.Round.{hull-one}
-use Rattle.mend_changes.specs.Changes.{changesOf}
-use Rattle.mend_changes.specs.laws.Listing.{no-changes}
-use Rattle.mend_slices.specs.Lent.{Lent}
+use Rattle.mending.specs.pairs.Pairs.{Reverse, pairsOf, AllSingle}
+use Rattle.mending.specs.pairs.Chains.{NamesSites}
+use Rattle.mending.specs.pairs.laws.Mates.{mate-is, mate-none, single-one, pairs-length, pairs-at}
+use Rattle.mending.specs.pairs.PairTheorem.{pairs-right}
+use Rattle.mending.specs.border.Loop.{hullOf}
+use Rattle.mending.specs.border.Answer.{IsHull, HasHull}
+use Rattle.mending.specs.border.HullTheorem.{Starts, hull-alone, there-is}
+use Rattle.mending.specs.border.laws.Round.{hull-one}
+use Rattle.mending.specs.changes.Changes.{changesOf}
+use Rattle.mending.specs.changes.laws.Listing.{no-changes}
+use Rattle.mending.specs.slices.Lent.{Lent}
 use Rattle.mending.specs.Mending.{mendedMesh, mendRoomOf, mendRules, newHull, pairChanges, hullChanges, Mends}
 use Rattle.mending.specs.laws.Outcomes.{made}
 use Rattle.mending.specs.laws.Working.{hull-fits}

@@ -5,19 +5,19 @@ use Prim.Native.Nat.{ℕ, _+_, _/_, _≤_}
 use lib.Dec.{eqb}
 use lib.Ieee.{Float}
 use lib.ListN.{length, getD}
-use Rattle.laws.specs.Pick.{pick}
-use Rattle.laws.specs.Refusals.{Rule, once, each, reads, Finds}
-use Rattle.numbers.specs.Numbers.{EMPTY, refusedTwice}
+use Rattle.base.specs.common.Pick.{pick}
+use Rattle.base.specs.common.Refusals.{Rule, once, each, reads, Finds}
+use Rattle.base.specs.numbers.Numbers.{EMPTY, refusedTwice}
 use Rattle.mesh.specs.declared.MeshFault.the-variants.{Triangle}
 use Rattle.mesh.specs.Mesh.{SoundAt, leftmostIn}
 use Rattle.mesh.specs.Faults.{numberOf, startRules, coordinateRules}
 use Rattle.mesh.specs.Accepted.{Mesh, mesh, siteCount}
-use Rattle.check_mesh.specs.AtExit.{atExit}
-use Rattle.mend_pairs.specs.Pairs.{pairsOf, AllSingle}
-use Rattle.mend_hull.specs.Loop.{hullOf}
-use Rattle.mend_hull.specs.Answer.{borderRules}
-use Rattle.mend_slices.specs.Lent.{Lent, filled}
-use Rattle.mend_changes.specs.Changes.{Difference, changesOf, flatChanges}
+use Rattle.mesh_check.specs.whole.AtExit.{atExit}
+use Rattle.mending.specs.pairs.Pairs.{pairsOf, AllSingle}
+use Rattle.mending.specs.border.Loop.{hullOf}
+use Rattle.mending.specs.border.Answer.{borderRules}
+use Rattle.mending.specs.slices.Lent.{Lent, filled}
+use Rattle.mending.specs.changes.Changes.{Difference, changesOf, flatChanges}
 
 -- rule 2, by the lengths of the slices; a change takes three numbers
 pub record MendRoom (sites entries work pairs mended changes : ℕ) : Type 0 where

@@ -2,9 +2,9 @@
 use mathlib.Core.Path.{_≡_, sym, _∙_}
 use mathlib.Core.List.{List}
 use Prim.Native.Nat.{ℕ}
-use Rattle.laws.specs.laws.Refusals.{finds-one}
+use Rattle.base.specs.common.laws.Refusals.{finds-one}
 use Rattle.mesh.specs.Accepted.{Mesh}
-use Rattle.mend_slices.specs.Lent.{Lent, lent}
+use Rattle.mending.specs.slices.Lent.{Lent, lent}
 use Rattle.mending.specs.Mending.{MendOutcome, Mends}
 
 same-lent : (a b : Lent) → a .work ≡ b .work → a .pairs ≡ b .pairs → a .mended ≡ b .mended → a .changes ≡ b .changes → a ≡ b

@@ -3,14 +3,14 @@ use mathlib.Core.Path.{_≡_}
 use mathlib.Core.List.{List}
 use Prim.Native.Nat.{ℕ, _+_, _*_, _≤_, _<_}
 use lib.ListN.{length}
-use Rattle.laws.specs.Refusals.{Finds}
-use Rattle.numbers.specs.Numbers.{EMPTY}
+use Rattle.base.specs.common.Refusals.{Finds}
+use Rattle.base.specs.numbers.Numbers.{EMPTY}
 use Rattle.mesh.specs.Mesh.{AllSound, leftmostIn}
-use Rattle.mend_pairs.specs.Pairs.{pairsOf}
-use Rattle.mend_pairs.specs.Chains.{NamesSites}
-use Rattle.mend_hull.specs.Loop.{hullOf}
+use Rattle.mending.specs.pairs.Pairs.{pairsOf}
+use Rattle.mending.specs.pairs.Chains.{NamesSites}
+use Rattle.mending.specs.border.Loop.{hullOf}
 use Rattle.mending.specs.Mending.{workRules}
-use Rattle.mend_slices.specs.Lent.{Lent, filled}
+use Rattle.mending.specs.slices.Lent.{Lent, filled}
 
 -- rules 1, 2 and 7 hold: n sites
 pub record Ready (tri : List ℕ) (n : ℕ) (old : Lent) : Type 0 where

@@ -1,17 +1,22 @@
 // Mending a hand-edited mesh: sites and triangles are kept, pairs and hull worked out afresh, and what has changed is listed.
-use check_pairing::check_triangles;
-use mend_hull::Traced;
-use mend_pairs::pair_up;
-use mend_slices::clear_all;
-use mend_slices::list_both;
+pub mod border;
+pub mod changes;
+pub mod pairs;
+pub mod slices;
+
+use crate::border::Traced;
+use crate::pairs::pair_up;
+use crate::slices::clear_all;
+use crate::slices::list_both;
+use mesh_check::pairing::check_triangles;
 ghost use mathlib.Core.Path.{_≡_};
 ghost use Prim.Native.Nat.{_/_};
 ghost use lib.ListN.{length};
-ghost use Rattle.laws.specs.Decide.{Says};
-ghost use Rattle.laws.specs.Refusals.{Finds};
+ghost use Rattle.base.specs.common.Decide.{Says};
+ghost use Rattle.base.specs.common.Refusals.{Finds};
 ghost use Rattle.mesh.specs.Accepted.{mesh};
 ghost use Rattle.mending.specs.Mending.{MendRoom, mendEarly, workRules, MendOutcome, Mends};
-ghost use Rattle.mend_slices.specs.Lent.{lent};
+ghost use Rattle.mending.specs.slices.Lent.{lent};
 ghost use Rattle.mending.specs.Steps.{Ready, WorkedOut, Lists};
 
 // A number, the hull's length, and how many entries of the pairs and of the hull have changed.
@@ -65,8 +70,8 @@ fn admit_mend(
     ensures { λ r. ⌜ Finds (mendEarly (now (sites .entry)) (now (triangles .entry)) halfedges hull
         (MendRoom (length (now (sites .entry)) / 2) (length (now (triangles .entry))) work pairs mended changes)) 0 r ⌝ }
 {
-    if !mesh_counts::counts_ok(sites.len(), triangles.len(), halfedges, hull) {
-        return numbers::REFUSED_COUNT;
+    if !mesh_check::counts::counts_ok(sites.len(), triangles.len(), halfedges, hull) {
+        return base::numbers::REFUSED_COUNT;
     }
     if !room_ok(
         sites.len() / 2,
@@ -76,13 +81,13 @@ fn admit_mend(
         mended,
         changes,
     ) {
-        return numbers::REFUSED_ROOM;
+        return base::numbers::REFUSED_ROOM;
     }
-    if utils::first_bad_site(sites) < sites.len() / 2 {
-        return numbers::REFUSED_COORDINATE;
+    if plane::points::first_bad_site(sites) < sites.len() / 2 {
+        return base::numbers::REFUSED_COORDINATE;
     }
     if check_triangles(triangles, sites.len() / 2) < triangles.len() / 3 {
-        return numbers::REFUSED_TRIANGLE;
+        return base::numbers::REFUSED_TRIANGLE;
     }
     0
 }
@@ -104,13 +109,13 @@ fn work_out(
     mesh::clear(pairs);
     if !pair_up(triangles, work, changes, mended, pairs, sites) {
         return Traced {
-            number: numbers::REFUSED_TWICE,
+            number: base::numbers::REFUSED_TWICE,
             count: 0,
         };
     }
     mesh::clear(mended);
     let n = triangles.len();
-    mend_hull::mend_hull(triangles, &pairs[..n], first, sites, work, mended)
+    crate::border::mend_hull(triangles, &pairs[..n], first, sites, work, mended)
 }
 
 fn refused(number: u32) -> Mended
@@ -186,7 +191,7 @@ pub fn mend(
         mended.len(),
         changes.len(),
     );
-    if number == numbers::REFUSED_TRIANGLE {
+    if number == base::numbers::REFUSED_TRIANGLE {
         clear_all(work, pairs, mended, changes);
         return refused(number);
     }

@@ -1,11 +1,11 @@
--- A mesh that is accepted: the limits on the counts, the rule on coordinates, and the rules on triangles, pairing, hull and fan (docs/RULES.md).
+-- A mesh that is accepted: the limits on the counts, the rule on coordinates, and the rules on triangles, pairing, hull and fan (docs/use/RULES.md).
 use mathlib.Core.Path.{_≡_}
 use mathlib.Core.List.{List}
 use Prim.Native.Nat.{ℕ, _/_, _%_, _≤_, _<_}
 use lib.ListN.{length}
 use lib.Ieee.{Float}
-use Rattle.utils.specs.Sites.{KeptAt}
-use Rattle.numbers.specs.Numbers.{EMPTY}
+use Rattle.plane.specs.points.Sites.{KeptAt}
+use Rattle.base.specs.numbers.Numbers.{EMPTY}
 use Rattle.mesh.specs.Mesh.{AllSound, AllPaired, leftmostOf, Fan}
 use Rattle.mesh.specs.Hull.{Hull}
 

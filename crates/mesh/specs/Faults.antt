@@ -3,9 +3,9 @@ use mathlib.Core.List.{List, [], _∷_, _++_}
 use Prim.Native.Nat.{ℕ, _/_}
 use lib.Ieee.{Float}
 use lib.ListN.{length}
-use Rattle.laws.specs.Refusals.{Rule, once, each}
-use Rattle.numbers.specs.Numbers.{refusedCount, refusedRoom, refusedCoordinate, refusedTriangle, refusedPairing, refusedHull, refusedFan}
-use Rattle.utils.specs.Sites.{KeptAt}
+use Rattle.base.specs.common.Refusals.{Rule, once, each}
+use Rattle.base.specs.numbers.Numbers.{refusedCount, refusedRoom, refusedCoordinate, refusedTriangle, refusedPairing, refusedHull, refusedFan}
+use Rattle.plane.specs.points.Sites.{KeptAt}
 use Rattle.mesh.specs.declared.MeshFault.{MeshFault}
 use Rattle.mesh.specs.declared.MeshFault.the-variants.{None, Counts, Room, Coordinate, Triangle, Pairing, HullPlace, HullEdge, BrokenFan}
 use Rattle.mesh.specs.Mesh.{SoundAt, PairedAt, leftmostOf, FanAt}
@@ -24,7 +24,7 @@ numberOf (HullPlace i) = refusedHull
 numberOf (HullEdge e) = refusedHull
 numberOf (BrokenFan s) = refusedFan
 
--- ---- the rules, in the order of docs/RULES.md
+-- ---- the rules, in the order of docs/use/RULES.md
 
 -- 7 and 8
 abbrev pub shapeRules : List ℕ → List ℕ → ℕ → List (Rule MeshFault)

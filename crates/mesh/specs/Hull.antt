@@ -5,9 +5,9 @@ use mathlib.Core.Logic.{_≢_}
 use Prim.Native.Nat.{ℕ, zero, suc, _+_, _<_}
 use lib.Dec.{eqb}
 use lib.ListN.{length, getD}
-use Rattle.laws.specs.Pick.{pick}
-use Rattle.laws.specs.Count.{same}
-use Rattle.numbers.specs.Numbers.{EMPTY}
+use Rattle.base.specs.common.Pick.{pick}
+use Rattle.base.specs.common.Count.{same}
+use Rattle.base.specs.numbers.Numbers.{EMPTY}
 use Rattle.mesh.specs.Mesh.{startOf, endOf, pairOf}
 
 -- the place after place i, cyclically

@@ -3,7 +3,7 @@ use mathlib.Core.Path.{_≡_}
 use mathlib.Core.List.{List, [], _∷_, map}
 use Prim.Native.Nat.{ℕ, _+_, _*_, _/_, _<_}
 use lib.ListN.{getD}
-use Rattle.laws.specs.Count.{occ, sumTo}
+use Rattle.base.specs.common.Count.{occ, sumTo}
 use Rattle.mesh.specs.Mesh.{wholeOf}
 use Rattle.mesh.specs.Accepted.{Mesh, tableOf}
 

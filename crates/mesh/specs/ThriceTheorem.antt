@@ -6,8 +6,8 @@ use mathlib.Core.Logic.{⊎-elim}
 use Prim.Native.Nat.{ℕ, _+_, _*_, _/_, _<_}
 use native.Mathlib.Omega.{arith}
 use lib.ListN.{length, getD}
-use Rattle.laws.specs.Count.{occ}
-use Rattle.laws.specs.laws.Count.{same-cases, sum-same, occ-sum}
+use Rattle.base.specs.common.Count.{occ}
+use Rattle.base.specs.common.laws.Count.{same-cases, sum-same, occ-sum}
 use Rattle.mesh.specs.Mesh.{Sound}
 use Rattle.mesh.specs.Accepted.{Mesh, Accepted, siteCount}
 use Rattle.mesh.specs.Rings.{siteRing, sitesOf, Thrice}

@@ -4,7 +4,7 @@ use mathlib.Core.Path.{_≡_}
 use mathlib.Core.List.{List}
 use Prim.Native.Nat.{ℕ, _≤_, _<_}
 use lib.ListN.{length, getD}
-use Rattle.laws.specs.Count.{occ}
+use Rattle.base.specs.common.Count.{occ}
 use Rattle.mesh.specs.Mesh.{endOf, walkOf, wholeOf}
 use Rattle.mesh.specs.Accepted.{Mesh, tableOf, Accepted, siteCount}
 use Rattle.mesh.specs.laws.Facts.{topology, walk-each, walk-only, walk-stops}

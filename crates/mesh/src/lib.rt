@@ -1,10 +1,10 @@
 // Half-edge steps, the table of leftmost half-edges, and walks round a site, over lent triangles and half-edges.
-use numbers::EMPTY;
-use numbers::wide;
+use base::numbers::EMPTY;
+use base::numbers::wide;
 ghost use mathlib.Core.Path.{_≡_};
 ghost use Prim.Native.Nat.{ℕ, _%_, _<_, _≤_};
 ghost use lib.ListN.{length, getD, replicate};
-ghost use Rattle.numbers.specs.Numbers.{EMPTY};
+ghost use Rattle.base.specs.numbers.Numbers.{EMPTY};
 ghost use Rattle.mesh.specs.Hull.{nextPlace};
 ghost use Rattle.mesh.specs.Mesh.{nextOf, endOf, chosen, tableTo, turnOf, wholeOf, Walks};
 

@@ -6,10 +6,10 @@ use Prim.Native.Nat.{ℕ, _≤_}
 use native.Mathlib.Omega.{arith}
 use lib.ListN.{length, take}
 use lib.Seq.{take-all, length-take-le}
-use Rattle.laws.specs.laws.Decide.{lt-or-ge}
+use Rattle.base.specs.common.laws.Decide.{lt-or-ge}
 use Rattle.form.specs.Length.{form-short}
 use Rattle.form.specs.laws.Longer.{place-longer, number-longer}
-use Rattle.nearest_text.specs.declared.NearestLine.{NearestLine}
+use Rattle.nearest.specs.declared.line.NearestLine.{NearestLine}
 use Rattle.nearest.specs.Printed.{FormLine, sound, broken, NearestPrints}
 
 line-enough : (s : List ℕ) {r : NearestLine} → FormLine (take 6947 s) r → FormLine s r

@@ -3,4 +3,8 @@ pub mod Printed
 pub mod Steps
 pub mod One
 pub mod Enough
+pub mod Owners
 pub mod laws
+pub mod whole_sites
+pub mod corners
+pub mod line

@@ -1,40 +1,48 @@
--- What `nearest` prints, said of the bytes of its input: the line by the numbers of the check with the hull (crate grid_nearest), asked of the sites' whole
--- numbers, or of the reader's refusal. A site that is no whole number of the profile has 8,193 there, so that rule 22 stands in its place among the others, and is
--- told as `not on the grid`. Definitions only.
+-- What `nearest` prints, said of the bytes of its input: the line by the numbers of the check with the hull (grid::nearest), asked of the sites' whole
+-- numbers, by rule 3 on the box and by its corners, or of the reader's refusal. A site that is no whole number of the profile has 8,193 there, so that rule 22
+-- stands in its place among the others, and is told as `not on the grid`. Definitions only.
 use mathlib.Core.Path.{_≡_}
-use mathlib.Core.Bool.{false}
+use mathlib.Core.Bool.{Bool, false}
 use mathlib.Core.List.{List}
 use Prim.Native.Nat.{ℕ}
 use lib.Dec.{eqb}
 use lib.ListN.{length}
-use Rattle.laws.specs.Pick.{pick}
-use Rattle.laws.specs.Decide.{First}
-use Rattle.numbers.specs.Numbers.{EMPTY, refusedGrid}
+use Rattle.base.specs.common.Pick.{pick}
+use Rattle.base.specs.common.Decide.{First}
+use Rattle.base.specs.numbers.Numbers.{EMPTY, refusedCount, refusedBox, refusedGrid}
+use Rattle.plane.specs.points.Plane.{at}
+use Rattle.plane.specs.given.Given.{bySize, byEdges}
+use Rattle.plane.specs.declared.given.Given.{Given}
 use Rattle.mesh.specs.Accepted.{Mesh}
 use Rattle.grid.specs.Plane.{WithinAt}
-use Rattle.grid_check.specs.Promise.{GridMesh, gridMesh, gridSites}
-use Rattle.grid_nearest.specs.Promise.{NearestChecks}
-use Rattle.whole_sites.specs.Whole.{wholesOf}
-use Rattle.form.specs.Form.{FormMesh, MeshFits, MayBegin, formOf}
+use Rattle.grid.specs.check.Promise.{GridMesh, gridMesh, gridSites}
+use Rattle.grid.specs.nearest.Promise.{NearestChecks}
+use Rattle.nearest.specs.whole_sites.Whole.{wholesOf}
+use Rattle.nearest.specs.corners.Tried.{offCorner}
+use Rattle.form.specs.Form.{Outline, box, unclipped, edges, FormMesh, MeshFits, MayBegin, formOf, float}
 use Rattle.form.specs.Place.{Place, NumberAt}
 use Rattle.printing.specs.Printed.{meshOf}
-use Rattle.nearest_text.specs.declared.NearestLine.{NearestLine}
-use Rattle.nearest_text.specs.declared.NearestLine.the-variants.{Nearest, Triangle, Halfedge, HullPlace, Unused, OffGrid, Refused}
-use Rattle.nearest_text.specs.NearestLine.{nearestLine}
+use Rattle.nearest.specs.declared.line.NearestLine.{NearestLine}
+use Rattle.nearest.specs.declared.line.NearestLine.the-variants.{Nearest, Triangle, Halfedge, HullPlace, Unused, Corner, OffGrid, Refused}
+use Rattle.nearest.specs.line.NearestLine.{nearestLine}
 
--- kinds 1, 2 and 3; then the lowest unused site, if there is one
-unfoldable pub kindLine : ℕ → ℕ → ℕ → NearestLine
-kindLine kind place unused =
+-- kinds 1, 2 and 3; then the lowest unused site, if there is one; then the lowest corner that is not admitted
+unfoldable pub kindLine : ℕ → ℕ → ℕ → ℕ → NearestLine
+kindLine kind place unused corner =
     pick (eqb kind 1) (λ _. Triangle place) (λ _. pick (eqb kind 2) (λ _. Halfedge place) (λ _. pick (eqb kind 3) (λ _. HullPlace place)
-    (λ _. pick (eqb unused EMPTY) (λ _. Nearest) (λ _. Unused unused))))
+    (λ _. pick (eqb unused EMPTY) (λ _. pick (eqb corner 4) (λ _. Nearest) (λ _. Corner corner)) (λ _. Unused unused))))
+
+-- rule 3 stands behind rule 1, and before all others: rule 2 is kept
+unfoldable pub withBox : Bool → ℕ → ℕ
+withBox sound number = pick sound (λ _. number) (λ _. pick (eqb number refusedCount) (λ _. number) (λ _. refusedBox))
 
 -- by the number first
-unfoldable pub answerLine : ℕ → ℕ → ℕ → ℕ → ℕ → NearestLine
-answerLine number kind place unused beyond =
-    pick (eqb number refusedGrid) (λ _. OffGrid beyond) (λ _. pick (eqb number 0) (λ _. kindLine kind place unused) (λ _. Refused number))
+unfoldable pub answerLine : ℕ → ℕ → ℕ → ℕ → ℕ → ℕ → NearestLine
+answerLine number kind place unused corner beyond =
+    pick (eqb number refusedGrid) (λ _. OffGrid beyond) (λ _. pick (eqb number 0) (λ _. kindLine kind place unused corner) (λ _. Refused number))
 
--- the numbers that voronoi_grid_nearest promises for a work slice of 96 entries, and the lowest site beyond the grid
-pub record NearestTold (m : GridMesh) (l : NearestLine) : Type 0 where
+-- the numbers that voronoi_grid_nearest promises for a work slice of 96 entries, the box, and the lowest site beyond the grid
+pub record NearestTold (g : Given) (m : GridMesh) (l : NearestLine) : Type 0 where
   pub old : List ℕ
   pub new : List ℕ
   pub long : length old ≡ 96
@@ -45,15 +53,21 @@ pub record NearestTold (m : GridMesh) (l : NearestLine) : Type 0 where
   pub checks : NearestChecks m old new number kind place unused
   pub beyond : ℕ
   pub first : First (WithinAt (m .grid)) (gridSites m) beyond
-  pub line : l ≡ answerLine number kind place unused beyond
+  pub line : l ≡ answerLine (withBox (g .sound) number) kind place unused (offCorner (g .bounds)) beyond
 
 -- the mesh of a form with its sites as whole numbers
 abbrev pub gridOf : Mesh → GridMesh
 gridOf m = gridMesh (wholesOf (m .sites)) (m .triangles) (m .halfedges) (m .hull)
 
+-- by the box of a form; no form is read that has none
+abbrev pub ByOutline : Outline → GridMesh → NearestLine → Type 0
+ByOutline (box x y w h) m l = NearestTold (bySize (at (float x) (float y)) (float w) (float h)) m l
+ByOutline unclipped m l = ⊥
+ByOutline (edges left top right bottom) m l = NearestTold (byEdges (float left) (float top) (float right) (float bottom)) m l
+
 -- the line for the bytes of a form
 pub data FormLine (s : List ℕ) : NearestLine → Type 0 where
-  sound : {l : NearestLine} (m : FormMesh) → MeshFits m → MayBegin false (m .clip) → s ≡ formOf m → NearestTold (gridOf (meshOf m)) l → FormLine s l
+  sound : {l : NearestLine} (m : FormMesh) → MeshFits m → MayBegin false (m .clip) → s ≡ formOf m → ByOutline (m .clip) (gridOf (meshOf m)) l → FormLine s l
   broken : {k n : ℕ} → Place false s k → NumberAt false s k n → FormLine s (Refused n)
 
 pub record NearestPrints (s text : List ℕ) : Type 0 where

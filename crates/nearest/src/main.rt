@@ -1,22 +1,27 @@
-// Reads a mesh's form on standard input and prints one line: that every walk ends at a nearest gauge, or why that is not said.
-use form_step::Form;
-use grid_nearest::check_nearest_lent;
+// Reads a mesh's form on standard input and prints one line: that every walk ends at a nearest gauge, those to the box's corners among them, or why that is not said.
+pub mod corners;
+pub mod line;
+pub mod whole_sites;
+
+use crate::line::NearestLine;
+use base::numbers::EMPTY;
+use form::step::Form;
+use grid::nearest::check_nearest_lent;
 use libc::STDIN_FILENO;
 use libc::STDOUT_FILENO;
-use nearest_text::NearestLine;
-use numbers::EMPTY;
+use plane::given::Given;
 ghost use mathlib.Core.Path.{_≡_};
 ghost use Prim.Native.Nat.{_≤_};
 ghost use lib.ListN.{length, take};
-ghost use Rattle.form_step.specs.Holds.{ListRoom, Few};
-ghost use Rattle.grid_check.specs.Promise.{gridMesh};
-ghost use Rattle.whole_sites.specs.Whole.{wholesOf};
-ghost use Rattle.nearest.specs.Printed.{kindLine, answerLine, NearestTold, NearestPrints};
+ghost use Rattle.form.specs.step.Holds.{ListRoom, Few};
+ghost use Rattle.grid.specs.check.Promise.{gridMesh};
+ghost use Rattle.nearest.specs.whole_sites.Whole.{wholesOf};
+ghost use Rattle.nearest.specs.Printed.{kindLine, withBox, answerLine, NearestTold, NearestPrints};
 ghost use Rattle.nearest.specs.Steps.{NearestByForm};
 
 // The line where nothing is refused.
-fn kind_line(kind: u32, place: u32, unused: u32) -> NearestLine
-    ensures { λ r. ⌜ r ≡ kindLine kind place unused ⌝ }
+fn kind_line(kind: u32, place: u32, unused: u32, corner: u32) -> NearestLine
+    ensures { λ r. ⌜ r ≡ kindLine kind place unused corner ⌝ }
 {
     if kind == 1 {
         return NearestLine::Triangle(place);
@@ -30,26 +35,55 @@ fn kind_line(kind: u32, place: u32, unused: u32) -> NearestLine
     if unused != EMPTY {
         return NearestLine::Unused(unused);
     }
+    if corner != 4 {
+        return NearestLine::Corner(corner);
+    }
     NearestLine::Nearest
 }
 
-fn line_of(number: u32, kind: u32, place: u32, unused: u32, beyond: usize) -> NearestLine
-    requires { ⌜ beyond ≤ 96 ⌝ }
-    ensures { λ r. ⌜ r ≡ answerLine number kind place unused beyond ⌝ }
+// Rule 3 stands behind rule 1, and before all others: rule 2 is kept.
+fn with_box(sound: bool, number: u32) -> u32
+    ensures { λ r. ⌜ r ≡ withBox sound number ⌝ }
 {
-    if number == numbers::REFUSED_GRID {
+    if sound {
+        return number;
+    }
+    if number == base::numbers::REFUSED_COUNT {
+        return number;
+    }
+    base::numbers::REFUSED_BOX
+}
+
+fn line_of(
+    number: u32,
+    kind: u32,
+    place: u32,
+    unused: u32,
+    corner: u32,
+    beyond: usize,
+) -> NearestLine
+    requires { ⌜ beyond ≤ 96 ⌝ }
+    ensures { λ r. ⌜ r ≡ answerLine number kind place unused corner beyond ⌝ }
+{
+    if number == base::numbers::REFUSED_GRID {
         return NearestLine::OffGrid(beyond as u32);
     }
     if number != 0 {
         return NearestLine::Refused(number);
     }
-    kind_line(kind, place, unused)
+    kind_line(kind, place, unused, corner)
 }
 
-// The line of a mesh of whole numbers.
-fn of_grid(grid: &[i32], triangles: &[u32], halfedges: &[u32], hull: &[u32]) -> NearestLine
+// The line of a mesh of whole numbers in a box.
+fn of_grid(
+    given: Given,
+    grid: &[i32],
+    triangles: &[u32],
+    halfedges: &[u32],
+    hull: &[u32],
+) -> NearestLine
     requires { ⌜ length (now grid) ≤ 192 ⌝ }
-    ensures { λ r. ⌜ NearestTold (gridMesh (now (grid .entry)) (now (triangles .entry)) (now (halfedges .entry)) (now (hull .entry))) r ⌝ }
+    ensures { λ r. ⌜ NearestTold given (gridMesh (now (grid .entry)) (now (triangles .entry)) (now (halfedges .entry)) (now (hull .entry))) r ⌝ }
 {
     let mut work = [0u32; 96];
     let mut kind = 0u32;
@@ -66,18 +100,26 @@ fn of_grid(grid: &[i32], triangles: &[u32], halfedges: &[u32], hull: &[u32]) -> 
         &mut unused,
     );
     let beyond = grid::first_beyond(grid);
-    line_of(number, kind, place, unused, beyond)
+    let corner = crate::corners::off_corner(given.bounds);
+    let boxed = with_box(given.sound, number);
+    line_of(boxed, kind, place, unused, corner, beyond)
 }
 
 // The same of a mesh of floats.
-fn of_mesh(sites: &[f64], triangles: &[u32], halfedges: &[u32], hull: &[u32]) -> NearestLine
+fn of_mesh(
+    given: Given,
+    sites: &[f64],
+    triangles: &[u32],
+    halfedges: &[u32],
+    hull: &[u32],
+) -> NearestLine
     requires { ⌜ length (now sites) ≤ 192 ⌝ }
-    ensures { λ r. ⌜ NearestTold (gridMesh (wholesOf (now (sites .entry))) (now (triangles .entry)) (now (halfedges .entry)) (now (hull .entry))) r ⌝ }
+    ensures { λ r. ⌜ NearestTold given (gridMesh (wholesOf (now (sites .entry))) (now (triangles .entry)) (now (halfedges .entry)) (now (hull .entry))) r ⌝ }
 {
     let mut grid = [0i32; 192];
     let count = sites.len();
-    whole_sites::to_grid(sites, &mut grid);
-    of_grid(&grid[..count], triangles, halfedges, hull)
+    crate::whole_sites::to_grid(sites, &mut grid);
+    of_grid(given, &grid[..count], triangles, halfedges, hull)
 }
 
 // The line for a form that was read into these lists.
@@ -90,20 +132,22 @@ fn of_form(
     hull: &[u32],
 ) -> NearestLine
     requires { ⌜ ListRoom bounds (now sites) (now triangles) (now halfedges) (now hull) × Few form ⌝ }
-    ensures { λ r. ⌜ NearestByForm form (now (sites .entry)) (now (triangles .entry)) (now (halfedges .entry)) (now (hull .entry)) r ⌝ }
+    ensures { λ r. ⌜ NearestByForm form bounds (now (sites .entry)) (now (triangles .entry)) (now (halfedges .entry)) (now (hull .entry)) r ⌝ }
 {
     let Form::Sound {
         sites: n,
         triangles: t,
         hull: h,
-        clip: _,
+        clip,
     } = form
     else {
-        return NearestLine::Refused(form_step::number_of(form));
+        return NearestLine::Refused(form::step::number_of(form));
     };
     let coordinates = 2 * n;
     let entries = 3 * t;
+    let given = form::boxes::box_of(clip, bounds);
     of_mesh(
+        given,
         &sites[..coordinates],
         &triangles[..entries],
         &halfedges[..entries],
@@ -131,7 +175,7 @@ fn answer(bytes: &[u8], out: &mut [u8]) -> usize
         &mut hull,
     );
     let l = of_form(form, bounds, &sites, &triangles, &halfedges, &hull);
-    nearest_text::nearest_line(out, l)
+    crate::line::nearest_line(out, l)
 }
 
 fn main() {

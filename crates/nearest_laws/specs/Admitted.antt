@@ -3,10 +3,13 @@
 -- is allowed here, and are outside.
 use mathlib.Core.Bool.{Bool, true, false}
 use Prim.Native.Nat.{ℕ, _+_, _*_, _^_, _<_}
-use lib.Ieee.{Float}
+use lib.Ieee.{Float, nan}
 use lib.Ieee.Exact.{HasValue}
-use lib.IntN.{ℤ, pos, negℤ, _*ℤ_}
-use Rattle.utils.specs.declared.Point.{Point}
+use lib.IntN.{ℤ, pos, negℤ, natAbs, _*ℤ_}
+use lib.ListN.{length, getD}
+use mathlib.Core.List.{List}
+use mathlib.Core.Path.{_≡_}
+use Rattle.plane.specs.declared.points.Point.{Point}
 use Rattle.grid.specs.Plane.{GridPoint, squaredTo}
 
 -- a coordinate of a destination: its sign and its size in units of 2^-k
@@ -23,6 +26,17 @@ pub record AdmittedPoint (k : ℕ) (p : Point) : Type 0 where
 abbrev pub signed : Bool → ℕ → ℤ
 signed true n = negℤ (pos n)
 signed false n = pos n
+
+-- x is the whole number z: a zero may have either sign
+pub record IsWhole (z : ℤ) (x : Float) : Type 0 where
+  pub minus : Bool
+  pub sign : signed minus (natAbs z) ≡ z
+  pub value : HasValue x minus (natAbs z) 1
+
+-- the floats of a mesh are these whole numbers
+pub record AreWhole (grid : List ℤ) (sites : List Float) : Type 0 where
+  pub many : length sites ≡ length grid
+  pub each : (i : ℕ) → i < length grid → IsWhole (getD grid i (pos 0)) (getD sites i nan)
 
 -- the destination in units of 2^-k, with signs
 abbrev pub unitsOf : {k : ℕ} {p : Point} → AdmittedPoint k p → GridPoint

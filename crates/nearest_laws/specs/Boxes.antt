@@ -11,13 +11,13 @@ use lib.Pow.{pow-add, pow-mono}
 use lib.Ieee.{Float, nan, inf, fin, binary64, up, down, unlike, round, div, sub, neg, ofBits}
 use lib.Ieee.Exact.{HasValue}
 use lib.Ieee.Fits.{down-pos}
-use Rattle.laws.specs.Binary64.{_⊞_, _⊟_, _⊘_, two}
-use Rattle.laws.specs.laws.Decide.{lt-or-ge}
-use Rattle.utils.specs.Plane.{at}
-use Rattle.utils.specs.declared.Point.{Point}
-use Rattle.bounding_box.specs.Box.{madeOf, cornersOf}
-use Rattle.bounding_box.specs.declared.BoundingBox.{BoundingBox}
-use Rattle.given_box.specs.Given.{edgesOf}
+use Rattle.base.specs.common.Binary64.{_⊞_, _⊟_, _⊘_, two}
+use Rattle.base.specs.common.laws.Decide.{lt-or-ge}
+use Rattle.plane.specs.points.Plane.{at}
+use Rattle.plane.specs.declared.points.Point.{Point}
+use Rattle.plane.specs.boxes.Box.{madeOf, cornersOf}
+use Rattle.plane.specs.declared.boxes.BoundingBox.{BoundingBox}
+use Rattle.plane.specs.given.Given.{edgesOf}
 use Rattle.nearest_laws.specs.laws.Exactly.{kept, signedSum, add-at, neg-at}
 use Rattle.nearest_laws.specs.Admitted.{AdmittedNumber, AdmittedPoint}
 

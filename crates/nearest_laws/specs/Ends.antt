@@ -16,29 +16,29 @@ use lib.Ieee.Fits.{down-pos}
 use lib.Ieee.Order.{le-of-values}
 use lib.IntN.{pos}
 use borrow.Author.Tests.{eq-eqb, lt-ltb}
-use Rattle.laws.specs.Count.{occ}
-use Rattle.laws.specs.laws.Count.{same-cases}
-use Rattle.laws.specs.Binary64.{_⊟_}
-use Rattle.utils.specs.Flat.{pointAt}
-use Rattle.utils.specs.Plane.{dist2Of}
-use Rattle.utils.specs.Rules.{okSite, okCoord}
-use Rattle.utils.specs.declared.Point.{Point}
-use Rattle.numbers.specs.Numbers.{EMPTY}
+use Rattle.base.specs.common.Count.{occ}
+use Rattle.base.specs.common.laws.Count.{same-cases}
+use Rattle.base.specs.common.Binary64.{_⊟_}
+use Rattle.plane.specs.points.Flat.{pointAt}
+use Rattle.plane.specs.points.Plane.{dist2Of}
+use Rattle.plane.specs.points.Rules.{okSite, okCoord}
+use Rattle.plane.specs.declared.points.Point.{Point}
+use Rattle.base.specs.numbers.Numbers.{EMPTY}
 use Rattle.mesh.specs.Mesh.{nextOf, startOf, endOf, pairOf, around, turnOf, walkOf, wholeOf, Used, leftmostOf, Paired}
 use Rattle.mesh.specs.laws.Next.{next-lt, next-thrice}
 use Rattle.mesh.specs.laws.WalkSteps.{walk-go, walk-done}
 use Rattle.mesh.specs.laws.Walks.{turn-cases, walk-in}
 use Rattle.mesh.specs.Accepted.{mesh, Accepted, siteCount}
 use Rattle.mesh.specs.laws.Facts.{topology, paired, entry-site, end-site, walk-each}
-use Rattle.iterator.specs.Neighbours.{startsOf, lastEnd, neighboursOf}
-use Rattle.iterator.specs.laws.Neighbours.{sitesFrom, starts-cons}
-use Rattle.paths.specs.Path.{distOf, pathEnd, wholePath, lastOf}
-use Rattle.paths.specs.PathRule.{NoneNearer, PathFrom, stops, hops}
-use Rattle.iterator.specs.laws.Used.{neighbours-used}
-use Rattle.paths.specs.laws.WholePath.{last-cons, whole-end}
-use Rattle.paths.specs.laws.Used.{used-sum}
-use Rattle.paths.specs.laws.PathNeeds.{ready, towards}
-use Rattle.paths.specs.PathTheorem.{path-holds}
+use Rattle.walks.specs.neighbours.Neighbours.{startsOf, lastEnd, neighboursOf}
+use Rattle.walks.specs.neighbours.laws.Neighbours.{sitesFrom, starts-cons}
+use Rattle.walks.specs.paths.Path.{distOf, pathEnd, wholePath, lastOf}
+use Rattle.walks.specs.paths.PathRule.{NoneNearer, PathFrom, stops, hops}
+use Rattle.walks.specs.neighbours.laws.Used.{neighbours-used}
+use Rattle.walks.specs.paths.laws.WholePath.{last-cons, whole-end}
+use Rattle.walks.specs.paths.laws.Used.{used-sum}
+use Rattle.walks.specs.paths.laws.PathNeeds.{ready, towards}
+use Rattle.walks.specs.paths.PathTheorem.{path-holds}
 use Rattle.nearest_laws.specs.laws.Exactly.{Lies, sub-at, plus-at, square-at, le-at}
 use Rattle.nearest_laws.specs.Nearest.{gap, farFrom, Checked, nearest}
 
@@ -65,7 +65,7 @@ module _ (k K : ℕ) (two : k + k ≤ 1074) (lK : K < 2 ^ 51) where
       part′ u w h = omega arith
 
 -- it keeps rule 6
-low : (x : Float) (s : Bool) (n k : ℕ) → n < 2 ^ 51 → HasValue x s n (2 ^ k) → okCoord x ≡ true
+pub low : (x : Float) (s : Bool) (n k : ℕ) → n < 2 ^ 51 → HasValue x s n (2 ^ k) → okCoord x ≡ true
 unfolding okCoord le lt eq ofBits
 low nan s n k l h = absurd h
 low (inf t) s n k l h = absurd h
@@ -80,7 +80,7 @@ low (fin t m e) s n k l h =
     le-times : (a b : ℕ) → 0 < b → a ≤ a * b
     le-times a b h = le-trans (le-of-eq (sym (mul-one a))) (mul-le-mul-left a h)
 
-low-at : (k K : ℕ) (x : Float) (n : ℕ) → K < 2 ^ 51 → Multiple k K x n → okCoord x ≡ true
+pub low-at : (k K : ℕ) (x : Float) (n : ℕ) → K < 2 ^ 51 → Multiple k K x n → okCoord x ≡ true
 low-at k K x n lK (l, inl h) = low x false (n - K) k (omega arith) (h .1)
 low-at k K x n lK (l, inr h) = low x true (K - n) k (omega arith) (h .1)
 
@@ -156,6 +156,27 @@ module _ (d : ℕ → Float) (nb : ℕ → List ℕ) (U : ℕ → Type 0) (used 
   last-none u (hops {s = s} {n = n} {l = l} g h r) =
       let v = last-none (subst U (g .there) (used s (g .place) (g .within))) r in
       subst (λ z. U z × NoneNearer d (nb z) z) (sym (last-cons s l (some r))) v
+
+-- whatever the point is, as long as it keeps rule 6: from a site in use a path ends at one, and the builder's ends there too
+module _ {sites : List Float} {tri he hull : List ℕ} (a : Accepted (mesh sites tri he hull)) (p : Point) (to : okSite p ≡ true) (s : ℕ) (us : Used tri s) where
+  abbrev table : List ℕ
+  table = leftmostOf tri he (siteCount sites)
+
+  in-use : (v : ℕ) → Used tri v → v < siteCount sites
+  in-use v (i, l, q) = subst (λ z. z < siteCount sites) q (entry-site (topology a) i l)
+
+  pub path-stops : let end = lastOf (wholePath sites tri he table p s) in Used tri end × NoneNearer (distOf sites p) (neighboursOf tri he table end) end
+  path-stops =
+      last-none (distOf sites p) (neighboursOf tri he table) (Used tri) (λ u i h. occ-in _ tri (neighbours-used tri he (paired (topology a) .threes) (topology a .same) table u i h)) us
+      (path-holds a p to s us .rule)
+
+  pub end-whole : pathEnd sites tri he table p (siteCount sites) s ≡ lastOf (wholePath sites tri he table p s)
+  end-whole =
+      whole-end sites tri he table p (siteCount sites) (ready (topology a)) (towards sites p (a .coordinates) to) (siteCount sites) s (in-use s us)
+      (omega (arith, used-sum tri (siteCount sites)))
+
+  pub end-used : Used tri (pathEnd sites tri he table p (siteCount sites) s)
+  end-used = subst (Used tri) (sym end-whole) (path-stops .0)
 
 module _ {sites : List Float} {tri he hull : List ℕ} (a : Accepted (mesh sites tri he hull)) (X Y : ℕ → ℕ) (good : Checked (topology a) X Y)
     (k K : ℕ) (two : k + k ≤ 1074) (lK : K < 2 ^ 51)
@@ -236,8 +257,7 @@ module _ {sites : List Float} {tri he hull : List ℕ} (a : Accepted (mesh sites
     -- the theorem: there the path from any site in use ends
     pub path-nearest : (s : ℕ) → Used tri s → Closest (lastOf (wholePath sites tri he tab p s))
     path-nearest s us =
-        let r = path-holds a p to s us .rule in
-        let v = last-none (distOf sites p) (neighboursOf tri he tab) (Used tri) (λ u i h. occ-in _ tri (neighbours-used tri he (paired (topology a) .threes) (topology a .same) tab u i h)) us r in
+        let v = path-stops a p to s us in
         let end = lastOf (wholePath sites tri he tab p s) in
         let least = nearest-of-all end (v .0) (v .1) in
         record {
@@ -250,4 +270,4 @@ module _ {sites : List Float} {tri he hull : List ℕ} (a : Accepted (mesh sites
 
     -- so does the path that the builder follows
     pub end-is : (s : ℕ) → Used tri s → pathEnd sites tri he tab p n s ≡ lastOf (wholePath sites tri he tab p s)
-    end-is s u = whole-end sites tri he tab p n (ready (topology a)) (towards sites p (a .coordinates) to) n s (used-below s u) (omega (arith, used-sum tri n))
+    end-is s u = end-whole a p to s u

@@ -9,8 +9,8 @@ use native.Mathlib.Omega.{arith}
 use lib.Dec.{ltb}
 use lib.ListN.{length, getD}
 use borrow.Author.Tests.{ltb-true, ltb-false}
-use Rattle.laws.specs.Pick.{pick}
-use Rattle.laws.specs.laws.Decide.{lt-or-ge, eq-or-ne}
+use Rattle.base.specs.common.Pick.{pick}
+use Rattle.base.specs.common.laws.Decide.{lt-or-ge, eq-or-ne}
 use Rattle.mesh.specs.Hull.{nextPlace, nextSite}
 use Rattle.mesh.specs.laws.Border.{after-cases}
 use Rattle.nearest_laws.specs.laws.Area.{more}

@@ -5,14 +5,14 @@ use mathlib.Core.Logic.{⊎-elim, _≢_}
 use Prim.Native.Nat.{ℕ, _+_, _-_, _*_, _≤_, _<_}
 use native.Mathlib.Omega.{arith}
 use lib.ListN.{length}
-use Rattle.laws.specs.laws.Decide.{lt-or-ge}
-use Rattle.numbers.specs.Numbers.{EMPTY}
+use Rattle.base.specs.common.laws.Decide.{lt-or-ge}
+use Rattle.base.specs.numbers.Numbers.{EMPTY}
 use Rattle.mesh.specs.Mesh.{startOf, endOf, pairOf, Used}
 use Rattle.mesh.specs.Accepted.{Topology}
 use Rattle.grid.specs.Raised.{areaOf, liftOf}
 use Rattle.grid.specs.declared.Raised.{Raised}
 use Rattle.nearest_laws.specs.laws.Signs.{Pos, NonPos}
-use Rattle.grid_scan.specs.Judged.{apexOf}
+use Rattle.grid.specs.scan.Judged.{apexOf}
 use Rattle.nearest_laws.specs.laws.Circle.{raisedAt, Tilted, tilted, by}
 use Rattle.nearest_laws.specs.laws.Least.{Convex, least}
 

@@ -7,16 +7,16 @@ use native.Mathlib.Omega.{arith}
 use lib.IntN.{ℤ}
 use lib.ListN.{length, getD}
 use borrow.Author.Tests.{ltb-true, ltb-false}
-use Rattle.laws.specs.laws.Decide.{lt-or-ge}
-use Rattle.numbers.specs.Numbers.{EMPTY}
+use Rattle.base.specs.common.laws.Decide.{lt-or-ge}
+use Rattle.base.specs.numbers.Numbers.{EMPTY}
 use Rattle.mesh.specs.Mesh.{nextOf, startOf, endOf, pairOf}
 use Rattle.mesh.specs.laws.Next.{next-sum, next-lt}
 use Rattle.grid.specs.declared.Raised.{Raised}
 use Rattle.grid.specs.Plane.{placeAt}
 use Rattle.grid.specs.Raised.{raisedOf, areaOf, liftOf}
 use Rattle.grid.specs.laws.Same.{Inside, turns-is, inside-is}
-use Rattle.grid_scan.specs.Judged.{apexOf, TurnAt, CircleAt}
-use Rattle.grid_scan.specs.laws.Scannable.{Scannable, site-at, pair-in}
+use Rattle.grid.specs.scan.Judged.{apexOf, TurnAt, CircleAt}
+use Rattle.grid.specs.scan.laws.Scannable.{Scannable, site-at, pair-in}
 use Rattle.nearest_laws.specs.laws.Signs.{Pos, NonPos}
 
 -- the corners of a half-edge's triangle t, from the half-edge on

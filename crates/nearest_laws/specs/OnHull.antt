@@ -1,4 +1,4 @@
--- Theorem: a hull that keeps the short form (crate grid_hull) is convex and runs round once, where the triangles turn as they must: its lowest place is the
+-- Theorem: a hull that keeps the short form (grid::border) is convex and runs round once, where the triangles turn as they must: its lowest place is the
 -- one where a run of edges up begins, and after the first edge down all edges go down.
 use mathlib.Core.Path.{_≡_, sym, ap, _∙_, subst}
 use mathlib.Core.Bool.{true, false}
@@ -10,14 +10,14 @@ use lib.Dec.{ltb}
 use lib.IntN.{ℤ}
 use lib.ListN.{length, getD}
 use borrow.Author.Tests.{lt-ltb, le-ltb, ltb-false, eq-eqb, ne-eqb}
-use Rattle.laws.specs.laws.Decide.{lt-or-ge, eq-or-ne}
+use Rattle.base.specs.common.laws.Decide.{lt-or-ge, eq-or-ne}
 use Rattle.mesh.specs.Hull.{nextPlace}
 use Rattle.mesh.specs.laws.Border.{after-cases, after-lt}
 use Rattle.grid.specs.Plane.{placeAt, goesUp, turnsRight}
 use Rattle.grid.specs.declared.Raised.{Raised}
 use Rattle.grid.specs.Raised.{raisedOf, areaOf, levelOf}
 use Rattle.grid.specs.laws.Same.{Inside, turns-is, up-is-up}
-use Rattle.grid_hull.specs.ShortForm.{priorPlace, upBefore, upAfter, CornerAt, StartAt, LoneAt}
+use Rattle.grid.specs.border.ShortForm.{priorPlace, upBefore, upAfter, CornerAt, StartAt, LoneAt}
 use Rattle.nearest_laws.specs.laws.Area.{more}
 use Rattle.nearest_laws.specs.laws.Signs.{Pos, Neg, NonNeg}
 use Rattle.nearest_laws.specs.laws.Circle.{raisedAt, move, area-moved}

@@ -8,20 +8,20 @@ use lib.Dec.{T, lit<}
 use lib.ListN.{getD}
 use lib.Ieee.{ofBits, neg, le}
 use borrow.Author.Count.{below-none, below-more}
-use Rattle.utils.specs.Plane.{at}
-use Rattle.laws.specs.Binary64.{one, minusOne}
-use Rattle.numbers.specs.Numbers.{EMPTY}
+use Rattle.plane.specs.points.Plane.{at}
+use Rattle.base.specs.common.Binary64.{one, minusOne}
+use Rattle.base.specs.numbers.Numbers.{EMPTY}
 use Rattle.mesh.specs.Mesh.{nextOf, startOf, endOf, pairOf, Used, leftmostOf}
 use Rattle.mesh.specs.Hull.{nextPlace, nextSite}
 use Rattle.mesh.specs.laws.Facts.{topology}
 use Rattle.mesh.specs.Square.{sites, tri, he, hull, square-accepted}
-use Rattle.paths.specs.Path.{distOf, wholePath, lastOf}
+use Rattle.walks.specs.paths.Path.{distOf, wholePath, lastOf}
 use Rattle.nearest_laws.specs.laws.Area.{more}
 use Rattle.grid.specs.Raised.{areaOf, liftOf}
 use Rattle.nearest_laws.specs.laws.Signs.{Pos, Neg, NonNeg, NonPos}
 use Rattle.nearest_laws.specs.laws.Circle.{raisedAt}
 use Rattle.nearest_laws.specs.Linear.{Runs, onward, place}
-use Rattle.grid_scan.specs.Judged.{apexOf}
+use Rattle.grid.specs.scan.Judged.{apexOf}
 use Rattle.nearest_laws.specs.laws.Outside.{Outside}
 use Rattle.nearest_laws.specs.laws.Least.{by-pairs}
 use Rattle.nearest_laws.specs.Nearest.{Checked, raised, farFrom}

@@ -9,20 +9,20 @@ use lib.Ieee.{ofBits, ofInt, neg, le, lt, eq}
 use lib.IntN.{ℤ, pos, negsuc}
 use lib.ListN.{length}
 use borrow.Author.Count.{below-none, below-more}
-use Rattle.laws.specs.Binary64.{one, minusOne}
-use Rattle.utils.specs.Plane.{at}
-use Rattle.utils.specs.Rules.{okSite, okCoord}
-use Rattle.utils.specs.Sites.{KeptAt}
+use Rattle.base.specs.common.Binary64.{one, minusOne}
+use Rattle.plane.specs.points.Plane.{at}
+use Rattle.plane.specs.points.Rules.{okSite, okCoord}
+use Rattle.plane.specs.points.Sites.{KeptAt}
 use Rattle.mesh.specs.Mesh.{nextOf, leftmostOf}
 use Rattle.mesh.specs.Hull.{nextPlace}
 use Rattle.mesh.specs.Accepted.{mesh, Accepted}
 use Rattle.mesh.specs.Square.{tri, he, hull, square-accepted}
-use Rattle.paths.specs.Path.{wholePath, lastOf}
+use Rattle.walks.specs.paths.Path.{wholePath, lastOf}
 use Rattle.grid.specs.Plane.{Within, WithinAt}
 use Rattle.grid.specs.laws.Machine.{differ}
-use Rattle.grid_scan.specs.Judged.{TurnAt, CircleAt}
-use Rattle.grid_hull.specs.ShortForm.{priorPlace, CornerAt, LoneAt}
-use Rattle.grid_sites.specs.Sites.{floatsOf}
+use Rattle.grid.specs.scan.Judged.{TurnAt, CircleAt}
+use Rattle.grid.specs.border.ShortForm.{priorPlace, CornerAt, LoneAt}
+use Rattle.grid.specs.floats.Sites.{floatsOf}
 use Rattle.nearest_laws.specs.Admitted.{AdmittedPoint}
 use Rattle.nearest_laws.specs.Profile.{NearestSite, ends-nearest}
 use Rattle.nearest_laws.specs.Square.{four, six}

@@ -3,3 +3,4 @@ pub mod Bytes
 pub mod Orders
 pub mod Wrote
 pub mod laws
+pub mod hex

@@ -1,5 +1,8 @@
 // Bytes written into a lent slice from a place on; each function that writes answers the place after them. Numbers go out with the lowest byte first, and
 // are read in either order.
+pub mod hex;
+pub mod patterns;
+
 ghost use mathlib.Core.Path.{_≡_};
 ghost use mathlib.Core.List.{reverse};
 ghost use Prim.Native.Nat.{_+_, _^_, _≤_, _<_};

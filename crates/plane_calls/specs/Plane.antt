@@ -1,5 +1,5 @@
 -- The promises of the calls on points and the box: the number by rules in their order, and each lent number at exit, 0 where a call refuses (a side: EMPTY).
--- A box is given by its size or by its edges (crate given_box).
+-- A box is given by its size or by its edges (plane::given).
 use mathlib.Core.Path.{_≡_}
 use mathlib.Core.Bool.{Bool, true, _&&_}
 use mathlib.Core.List.{List, [], _∷_, _++_}
@@ -7,23 +7,23 @@ use Prim.Native.Nat.{ℕ, _-_, _/_, _≤_}
 use lib.Dec.{eqb}
 use lib.ListN.{length, replicate}
 use lib.Ieee.{Float}
-use Rattle.laws.specs.Binary64.{zero}
-use Rattle.laws.specs.Pick.{pick}
-use Rattle.laws.specs.Refusals.{Rule, once, Finds}
-use Rattle.numbers.specs.Numbers.{EMPTY, refusedCount, refusedRoom, refusedBox, refusedCoordinate, refusedCircumcenter}
-use Rattle.utils.specs.Plane.{dist2Of}
-use Rattle.utils.specs.Flat.{flat}
-use Rattle.utils.specs.Rules.{okSite}
-use Rattle.utils.specs.Sites.{okSites}
-use Rattle.utils.specs.declared.Point.{Point}
-use Rattle.centers.specs.Circumcenter.{centerOf, okCenter}
-use Rattle.centers.specs.Centroid.{okCount, meanOf}
-use Rattle.bounding_box.specs.Box.{widthOf, heightOf, cornersOf}
-use Rattle.box_sides.specs.Sides.{insideOf, exclusiveOf, whichOf}
-use Rattle.bounding_box.specs.declared.BoundingBox.{BoundingBox}
-use Rattle.given_box.specs.declared.Given.{Given}
-use Rattle.line_crossings.specs.declared.Crossing.{Crossing}
-use Rattle.crossings.specs.Rules.{countOf, valuesOf}
+use Rattle.base.specs.common.Binary64.{zero}
+use Rattle.base.specs.common.Pick.{pick}
+use Rattle.base.specs.common.Refusals.{Rule, once, Finds}
+use Rattle.base.specs.numbers.Numbers.{EMPTY, refusedCount, refusedRoom, refusedBox, refusedCoordinate, refusedCircumcenter}
+use Rattle.plane.specs.points.Plane.{dist2Of}
+use Rattle.plane.specs.points.Flat.{flat}
+use Rattle.plane.specs.points.Rules.{okSite}
+use Rattle.plane.specs.points.Sites.{okSites}
+use Rattle.plane.specs.declared.points.Point.{Point}
+use Rattle.plane.specs.centers.Circumcenter.{centerOf, okCenter}
+use Rattle.plane.specs.centers.Centroid.{okCount, meanOf}
+use Rattle.plane.specs.boxes.Box.{widthOf, heightOf, cornersOf}
+use Rattle.plane.specs.sides.Sides.{insideOf, exclusiveOf, whichOf}
+use Rattle.plane.specs.declared.boxes.BoundingBox.{BoundingBox}
+use Rattle.plane.specs.declared.given.Given.{Given}
+use Rattle.plane.specs.declared.lines.Crossing.{Crossing}
+use Rattle.plane.specs.rays.Rules.{countOf, valuesOf}
 
 -- yes or no as a number
 unfoldable pub bit : Bool → ℕ

@@ -3,9 +3,9 @@ use mathlib.Core.Bool.{Bool}
 use Prim.Native.Nat.{ℕ}
 use lib.Dec.{eqb}
 use lib.Ieee.{Float}
-use Rattle.laws.specs.Binary64.{zero}
-use Rattle.laws.specs.Pick.{pick}
-use Rattle.numbers.specs.Numbers.{EMPTY, refusedBox, refusedCoordinate}
+use Rattle.base.specs.common.Binary64.{zero}
+use Rattle.base.specs.common.Pick.{pick}
+use Rattle.base.specs.numbers.Numbers.{EMPTY, refusedBox, refusedCoordinate}
 
 -- 3 for the box, then 6 for the points
 unfoldable pub numberBy : Bool → Bool → ℕ

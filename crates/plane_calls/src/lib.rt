@@ -1,16 +1,16 @@
 // The bodies of the public calls on points and the box. A box is given by its size or by its edges; 3 is tried on it, then 6 on each point.
 // A refused call answers 0 beside its number (a side: EMPTY).
-use given_box::Given;
-use numbers::EMPTY;
-use utils::Point;
+use base::numbers::EMPTY;
+use plane::given::Given;
+use plane::points::Point;
 ghost use mathlib.Core.Path.{_≡_};
 ghost use Prim.Native.Nat.{_≤_};
 ghost use lib.ListN.{length};
-ghost use Rattle.utils.specs.Flat.{pour};
-ghost use Rattle.bounding_box.specs.Box.{cornersOf};
-ghost use Rattle.utils.specs.Plane.{nearOf};
-ghost use Rattle.line_crossings.specs.Line.{lineOf};
-ghost use Rattle.crossings.specs.Ray.{rayOf};
+ghost use Rattle.plane.specs.points.Flat.{pour};
+ghost use Rattle.plane.specs.boxes.Box.{cornersOf};
+ghost use Rattle.plane.specs.points.Plane.{nearOf};
+ghost use Rattle.plane.specs.lines.Line.{lineOf};
+ghost use Rattle.plane.specs.rays.Ray.{rayOf};
 ghost use Rattle.plane_calls.specs.Plane.{bit, Dist2, Circumcenter, Centroid, Edges, Centered, Corners, Inside, ExclusivelyInside, WhichEdge, Meets};
 ghost use Rattle.plane_calls.specs.Tested.{numberBy, valueIf, sideIf};
 
@@ -28,10 +28,10 @@ fn number(frame: bool, points: bool) -> u32
         if points {
             0
         } else {
-            numbers::REFUSED_COORDINATE
+            base::numbers::REFUSED_COORDINATE
         }
     } else {
-        numbers::REFUSED_BOX
+        base::numbers::REFUSED_BOX
     }
 }
 
@@ -45,7 +45,7 @@ fn side_if(ok: bool, side: u32) -> u32
     ensures { λ r. ⌜ r ≡ sideIf ok side ⌝ }
 {
     if ok {
-        if side == box_sides::NO_SIDE {
+        if side == plane::sides::NO_SIDE {
             EMPTY
         } else {
             side
@@ -59,7 +59,7 @@ fn side_if(ok: bool, side: u32) -> u32
 pub fn abs_diff_eq(a: f64, b: f64) -> u32
     ensures { λ r. ⌜ r ≡ bit (nearOf a b) ⌝ }
 {
-    yes(utils::abs_diff_eq(a, b))
+    yes(plane::points::abs_diff_eq(a, b))
 }
 
 pub struct Distance {
@@ -71,8 +71,8 @@ pub struct Distance {
 pub fn dist2(a: Point, b: Point) -> Distance
     ensures { λ r. ⌜ Dist2 a b (r .number) (r .value) ⌝ }
 {
-    let ok = utils::site_ok(a) & utils::site_ok(b);
-    let value = value_if(ok, utils::dist2(a, b));
+    let ok = plane::points::site_ok(a) & plane::points::site_ok(b);
+    let value = value_if(ok, plane::points::dist2(a, b));
     Distance {
         number: number(true, ok),
         value,
@@ -89,11 +89,11 @@ pub struct Spot {
 pub fn circumcenter(a: Point, b: Point, c: Point) -> Spot
     ensures { λ r. ⌜ Circumcenter a b c (r .number) (r .x) (r .y) ⌝ }
 {
-    let r = centers::circumcenter(a, b, c);
-    let x = centers::x_of(r);
-    let y = centers::y_of(r);
+    let r = plane::centers::circumcenter(a, b, c);
+    let x = plane::centers::x_of(r);
+    let y = plane::centers::y_of(r);
     Spot {
-        number: centers::number_of(r),
+        number: plane::centers::number_of(r),
         x,
         y,
     }
@@ -103,11 +103,11 @@ pub fn circumcenter(a: Point, b: Point, c: Point) -> Spot
 pub fn centroid(points: &[f64]) -> Spot
     ensures { λ r. ⌜ Centroid (now (points .entry)) (r .number) (r .x) (r .y) ⌝ }
 {
-    let r = centers::centroid(points);
-    let x = centers::x_of(r);
-    let y = centers::y_of(r);
+    let r = plane::centers::centroid(points);
+    let x = plane::centers::x_of(r);
+    let y = plane::centers::y_of(r);
     Spot {
-        number: centers::number_of(r),
+        number: plane::centers::number_of(r),
         x,
         y,
     }
@@ -133,8 +133,8 @@ pub fn box_edges(given: Given) -> BoxEdges
     let top = value_if(ok, b.top);
     let right = value_if(ok, b.right);
     let bottom = value_if(ok, b.bottom);
-    let across = value_if(ok, bounding_box::width(b));
-    let down = value_if(ok, bounding_box::height(b));
+    let across = value_if(ok, plane::boxes::width(b));
+    let down = value_if(ok, plane::boxes::height(b));
     BoxEdges {
         number: number(ok, true),
         left,
@@ -162,8 +162,8 @@ pub fn box_center(given: Given) -> BoxCenter
     let b = given.bounds;
     let x = value_if(ok, b.center.x);
     let y = value_if(ok, b.center.y);
-    let across = value_if(ok, bounding_box::width(b));
-    let down = value_if(ok, bounding_box::height(b));
+    let across = value_if(ok, plane::boxes::width(b));
+    let down = value_if(ok, plane::boxes::height(b));
     BoxCenter {
         number: number(ok, true),
         x,
@@ -174,7 +174,7 @@ pub fn box_center(given: Given) -> BoxCenter
 }
 
 // Writes the corners over the beginning.
-fn put_corners(b: bounding_box::BoundingBox, out: &mut [f64])
+fn put_corners(b: plane::boxes::BoundingBox, out: &mut [f64])
     requires { ⌜ 8 ≤ length (now out) ⌝ }
     ensures { λ _. ⌜ now (out .exit) ≡ pour (cornersOf b) (now (out .entry)) ⌝ }
 {
@@ -193,13 +193,13 @@ pub fn corners(given: Given, out: &mut [f64]) -> u32
     ensures { λ r. ⌜ Corners given (now (out .entry)) r (now (out .exit)) ⌝ }
 {
     if out.len() < 8 {
-        return numbers::REFUSED_ROOM;
+        return base::numbers::REFUSED_ROOM;
     }
     if !given.sound {
-        return numbers::REFUSED_BOX;
+        return base::numbers::REFUSED_BOX;
     }
     put_corners(given.bounds, out);
-    layout::clear_floats_from(out, 8);
+    cell_memory::layout::clear_floats_from(out, 8);
     0
 }
 
@@ -212,8 +212,8 @@ pub struct Verdict {
 pub fn is_inside(given: Given, p: Point) -> Verdict
     ensures { λ r. ⌜ Inside given p (r .number) (r .yes) ⌝ }
 {
-    let point = utils::site_ok(p);
-    let inside = yes(given.sound & point & box_sides::is_inside(given.bounds, p));
+    let point = plane::points::site_ok(p);
+    let inside = yes(given.sound & point & plane::sides::is_inside(given.bounds, p));
     Verdict {
         number: number(given.sound, point),
         yes: inside,
@@ -224,8 +224,8 @@ pub fn is_inside(given: Given, p: Point) -> Verdict
 pub fn is_exclusively_inside(given: Given, p: Point) -> Verdict
     ensures { λ r. ⌜ ExclusivelyInside given p (r .number) (r .yes) ⌝ }
 {
-    let point = utils::site_ok(p);
-    let inside = yes(given.sound & point & box_sides::is_exclusively_inside(given.bounds, p));
+    let point = plane::points::site_ok(p);
+    let inside = yes(given.sound & point & plane::sides::is_exclusively_inside(given.bounds, p));
     Verdict {
         number: number(given.sound, point),
         yes: inside,
@@ -241,8 +241,11 @@ pub struct OnSide {
 pub fn which_edge(given: Given, p: Point) -> OnSide
     ensures { λ r. ⌜ WhichEdge given p (r .number) (r .side) ⌝ }
 {
-    let point = utils::site_ok(p);
-    let side = side_if(given.sound & point, box_sides::which_edge(given.bounds, p));
+    let point = plane::points::site_ok(p);
+    let side = side_if(
+        given.sound & point,
+        plane::sides::which_edge(given.bounds, p),
+    );
     OnSide {
         number: number(given.sound, point),
         side,
@@ -262,15 +265,15 @@ pub struct Met {
 pub fn intersect_line(given: Given, p: Point, q: Point) -> Met
     ensures { λ r. ⌜ Meets lineOf given p q (r .number) (r .count) (r .x) (r .y) (r .u) (r .v) ⌝ }
 {
-    let m = crossings::meet_line(given, p, q);
-    let w = crossings::met_values(m);
-    let count = crossings::met_count(m);
+    let m = plane::rays::meet_line(given, p, q);
+    let w = plane::rays::met_values(m);
+    let count = plane::rays::met_count(m);
     let x = w[0];
     let y = w[1];
     let u = w[2];
     let v = w[3];
     Met {
-        number: crossings::number_of(m),
+        number: plane::rays::number_of(m),
         count,
         x,
         y,
@@ -283,15 +286,15 @@ pub fn intersect_line(given: Given, p: Point, q: Point) -> Met
 pub fn project_ray(given: Given, p: Point, d: Point) -> Met
     ensures { λ r. ⌜ Meets rayOf given p d (r .number) (r .count) (r .x) (r .y) (r .u) (r .v) ⌝ }
 {
-    let m = crossings::meet_ray(given, p, d);
-    let w = crossings::met_values(m);
-    let count = crossings::met_count(m);
+    let m = plane::rays::meet_ray(given, p, d);
+    let w = plane::rays::met_values(m);
+    let count = plane::rays::met_count(m);
     let x = w[0];
     let y = w[1];
     let u = w[2];
     let v = w[3];
     Met {
-        number: crossings::number_of(m),
+        number: plane::rays::number_of(m),
         count,
         x,
         y,

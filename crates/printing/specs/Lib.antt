@@ -3,3 +3,4 @@ pub mod Printed
 pub mod One
 pub mod Enough
 pub mod laws
+pub mod parts

@@ -6,7 +6,7 @@ use Prim.Native.Nat.{ℕ}
 use native.Mathlib.Omega.{arith}
 use lib.Ieee.{Float}
 use lib.ListN.{replicate, length-replicate}
-use Rattle.laws.specs.Binary64 as B
+use Rattle.base.specs.common.Binary64 as B
 use Rattle.mesh.specs.Accepted.{Mesh}
 use Rattle.admission.specs.laws.Admits.{admits-one}
 use Rattle.definition.specs.declared.Fault.{Fault}
@@ -14,12 +14,12 @@ use Rattle.definition.specs.Fault.{Outcome}
 use Rattle.definition.specs.Build.{Built}
 use Rattle.form.specs.Form.{Outline, box, unclipped, edges, FormMesh, MeshFits, MayBegin, IsForm, formOf}
 use Rattle.form.specs.laws.Longer.{same-number, place-refuses}
-use Rattle.form_step.specs.Reader.{verdict, start, reading, takes, Reading}
-use Rattle.form_step.specs.Holds.{ListRoom}
+use Rattle.form.specs.step.Reader.{verdict, start, reading, takes, Reading}
+use Rattle.form.specs.step.Holds.{ListRoom}
 use Rattle.form.specs.laws.Mesh.{WholeRead, complete}
-use Rattle.form_step.specs.declared.Form.{Form}
-use Rattle.form_step.specs.declared.Form.the-variants.{Sound, Broken}
-use Rattle.text_parts.specs.Labelled.{refusal}
+use Rattle.form.specs.declared.step.Form.{Form}
+use Rattle.form.specs.declared.step.Form.the-variants.{Sound, Broken}
+use Rattle.printing.specs.parts.Labelled.{refusal}
 use Rattle.printing.specs.laws.FormLists.{to-form}
 use Rattle.printing.specs.Printed.{Shows, early, late, built, meshOf, ByClip, Prints, sound, broken, ByForm, Text}
 

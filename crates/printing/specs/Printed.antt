@@ -7,24 +7,24 @@ use mathlib.Core.Logic.{_≢_}
 use Prim.Native.Nat.{ℕ, _*_, _≤_}
 use lib.Ieee.{Float}
 use lib.ListN.{take}
-use Rattle.utils.specs.Plane.{at}
-use Rattle.given_box.specs.Given.{bySize, byEdges}
-use Rattle.given_box.specs.declared.Given.{Given}
+use Rattle.plane.specs.points.Plane.{at}
+use Rattle.plane.specs.given.Given.{bySize, byEdges}
+use Rattle.plane.specs.declared.given.Given.{Given}
 use Rattle.octets.specs.Bytes.{each}
-use Rattle.form_box.specs.FormBox.{boxBy}
+use Rattle.form.specs.boxes.FormBox.{boxBy}
 use Rattle.mesh.specs.Accepted.{Mesh, mesh}
 use Rattle.admission.specs.Admits.{Admits}
 use Rattle.definition.specs.declared.Fault.{Fault}
 use Rattle.definition.specs.Fault.{Outcome, ok, refused}
 use Rattle.definition.specs.Build.{Built, build}
-use Rattle.asking.specs.Asks.{boxRules}
+use Rattle.arguments.specs.asking.Asks.{boxRules}
 use Rattle.form.specs.Form.{Outline, box, unclipped, edges, FormMesh, MeshFits, formOf, float, siteFloats, triangleSites, trianglePairs}
 use Rattle.form.specs.Place.{Place, NumberAt}
-use Rattle.text_parts.specs.Labelled.{refusal}
+use Rattle.printing.specs.parts.Labelled.{refusal}
 use lib.Dec.{eqb}
-use Rattle.laws.specs.Pick.{pick}
-use Rattle.form_step.specs.declared.Form.{Form}
-use Rattle.form_step.specs.declared.Form.the-variants.{Sound, Broken}
+use Rattle.base.specs.common.Pick.{pick}
+use Rattle.form.specs.declared.step.Form.{Form}
+use Rattle.form.specs.declared.step.Form.the-variants.{Sound, Broken}
 
 -- the text of what was built of a mesh in a given box
 abbrev pub Text : Type 0

@@ -5,20 +5,20 @@ use mathlib.Core.List.{List, [], _++_}
 use Prim.Native.Nat.{ℕ, _≤_}
 use lib.Dec.{leb, eqb}
 use lib.ListN.{length, getD, take, drop}
-use Rattle.laws.specs.Pick.{pick}
-use Rattle.laws.specs.Refusals.{Rule, Finds}
-use Rattle.numbers.specs.Numbers.{EMPTY, refusedOffsets}
+use Rattle.base.specs.common.Pick.{pick}
+use Rattle.base.specs.common.Refusals.{Rule, Finds}
+use Rattle.base.specs.numbers.Numbers.{EMPTY, refusedOffsets}
 use Rattle.mesh.specs.Rules.{callRules}
 use Rattle.mesh.specs.Mesh.{wholeOf}
 use Rattle.mesh.specs.Accepted.{Mesh, tableOf, siteCount}
-use Rattle.check_mesh.specs.AtExit.{atExit}
-use Rattle.check_mesh.specs.Answers.{workAfter}
-use Rattle.shared.specs.Edge.{sharedEdgeOf}
-use Rattle.utils.specs.declared.Point.{Point}
-use Rattle.iterator.specs.Neighbours.{neighboursOf}
-use Rattle.clipped_iterator.specs.Clipped.{clippedNeighboursOf}
-use Rattle.paths.specs.Path.{wholePath}
-use Rattle.asking.specs.Asks.{siteRules, pathRules, cellRules}
+use Rattle.mesh_check.specs.whole.AtExit.{atExit}
+use Rattle.mesh_check.specs.whole.Answers.{workAfter}
+use Rattle.walks.specs.shared.Edge.{sharedEdgeOf}
+use Rattle.plane.specs.declared.points.Point.{Point}
+use Rattle.walks.specs.neighbours.Neighbours.{neighboursOf}
+use Rattle.queries.specs.clipped.Clipped.{clippedNeighboursOf}
+use Rattle.walks.specs.paths.Path.{wholePath}
+use Rattle.arguments.specs.asking.Asks.{siteRules, pathRules, cellRules}
 use Rattle.queries.specs.declared.Listed.{Listed}
 use Rattle.queries.specs.declared.Found.{Found}
 

@@ -1,12 +1,17 @@
 // The queries on a lent mesh, each with its refusals and every lent slice at exit.
+pub mod all_neighbours;
+pub mod bulk_ends;
+pub mod bulk_neighbours;
+pub mod clipped;
+
 use admission::admit_list;
-use asking::ask_site;
+use arguments::asking::ask_site;
 use mesh::Walked;
-use utils::Point;
+use plane::points::Point;
 ghost use mathlib.Core.Path.{_≡_};
 ghost use mathlib.Core.Bool.{false};
 ghost use Prim.Native.Nat.{_<_};
-ghost use Rattle.numbers.specs.Numbers.{EMPTY};
+ghost use Rattle.base.specs.numbers.Numbers.{EMPTY};
 ghost use Rattle.mesh.specs.Accepted.{mesh};
 ghost use Rattle.queries.specs.Answers.{listedOf, WalkAnswer, NeighboursAnswer, ClippedAnswer, PathAnswer, foundOf, EdgeAnswer};
 
@@ -56,7 +61,7 @@ pub fn walk(
     if r != 0 {
         return refused(r);
     }
-    let start = work[numbers::wide(site)];
+    let start = work[base::numbers::wide(site)];
     given(mesh::walk(halfedges, start, out))
 }
 
@@ -78,8 +83,8 @@ pub fn neighbours(
     if r != 0 {
         return refused(r);
     }
-    let start = work[numbers::wide(site)];
-    given(iterator::neighbours(triangles, halfedges, start, out))
+    let start = work[base::numbers::wide(site)];
+    given(walks::neighbours::neighbours(triangles, halfedges, start, out))
 }
 
 // The path from a site towards p, up to the slice's length.
@@ -97,12 +102,12 @@ pub fn path(
         (now (work .exit)) (now (out .entry)) (now (out .exit)) r ⌝ }
 {
     let count = sites.len() / 2;
-    let asked = asking::ask_path(count, site, p);
+    let asked = arguments::asking::ask_path(count, site, p);
     let r = admit_list(sites, triangles, halfedges, hull, asked, work, out);
     if r != 0 {
         return refused(r);
     }
-    given(paths::path(sites, triangles, halfedges, &work[..count], site, p, out))
+    given(walks::paths::path(sites, triangles, halfedges, &work[..count], site, p, out))
 }
 
 // The neighbours of a site after clipping, up to the slice's length.
@@ -126,12 +131,12 @@ pub fn clipped_neighbours(
     if r != 0 {
         return refused(r);
     }
-    if !asking::cells_ok(offsets, indexes, count) {
+    if !arguments::asking::cells_ok(offsets, indexes, count) {
         mesh::clear(work);
-        return refused(numbers::REFUSED_OFFSETS);
+        return refused(base::numbers::REFUSED_OFFSETS);
     }
-    let start = work[numbers::wide(site)];
-    given(clipped_iterator::clipped_neighbours(
+    let start = work[base::numbers::wide(site)];
+    given(crate::clipped::clipped_neighbours(
         triangles,
         halfedges,
         offsets,
@@ -153,7 +158,7 @@ fn no_edge(number: u32) -> Found
 {
     Found {
         number,
-        edge: numbers::EMPTY,
+        edge: base::numbers::EMPTY,
     }
 }
 
@@ -177,6 +182,6 @@ pub fn shared_edge(
     }
     Found {
         number: 0,
-        edge: shared::shared_edge(halfedges, a, b),
+        edge: walks::shared::shared_edge(halfedges, a, b),
     }
 }

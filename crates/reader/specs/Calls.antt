@@ -1,4 +1,4 @@
--- What the calls on a form that arrives in parts answer, and what they leave in the state and the lists. What a state answers: Answers of crate reader_answers.
+-- What the calls on a form that arrives in parts answer, and what they leave in the state and the lists. What a state answers: Answers of reader::answers.
 -- Definitions only.
 use mathlib.Core.Bool.{Bool, false}
 use mathlib.Core.List.{List}
@@ -6,15 +6,15 @@ use Prim.Native.Nat.{ℕ}
 use lib.Dec.{ltb, leb}
 use lib.Ieee.{Float}
 use lib.ListN.{length, replicate}
-use Rattle.laws.specs.Pick.{pick}
-use Rattle.numbers.specs.Numbers.{refusedRoom}
-use Rattle.form_step.specs.Reader.{Reading, reading, start, finished, takes}
-use Rattle.form_step.specs.declared.Reader.{Reader}
-use Rattle.reader_state.specs.Words.{stored}
-use Rattle.reader_state.specs.Entered.{entered}
-use Rattle.reader_answers.specs.Answers.{answerOf, reportOf, noRoom, noReport}
-use Rattle.reader_answers.specs.declared.Answer.{Answer}
-use Rattle.reader_answers.specs.declared.Report.{Report}
+use Rattle.base.specs.common.Pick.{pick}
+use Rattle.base.specs.numbers.Numbers.{refusedRoom}
+use Rattle.form.specs.step.Reader.{Reading, reading, start, finished, takes}
+use Rattle.form.specs.declared.step.Reader.{Reader}
+use Rattle.reader.specs.state.Words.{stored}
+use Rattle.reader.specs.state.Entered.{entered}
+use Rattle.reader.specs.answers.Answers.{answerOf, reportOf, noRoom, noReport}
+use Rattle.reader.specs.declared.answers.Answer.{Answer}
+use Rattle.reader.specs.declared.answers.Report.{Report}
 
 -- the lent lists
 pub record FormLists : Type 0 where

@@ -7,17 +7,17 @@ use Prim.Native.Nat.{ℕ, _≤_}
 use lib.Dec.{ltb}
 use lib.ListN.{length, replicate, length-replicate}
 use borrow.Author.Tests.{ltb-false, le-ltb}
-use Rattle.form_step.specs.Reader.{Reading, start, finished, takes}
+use Rattle.form.specs.step.Reader.{Reading, start, finished, takes}
 use Rattle.form.specs.laws.Run.{takes-append}
 use Rattle.form.specs.laws.Feed.{takes-none}
-use Rattle.form_step.specs.declared.Reader.{Reader}
-use Rattle.reader_state.specs.Words.{stored}
-use Rattle.reader_state.specs.Entered.{entered}
-use Rattle.reader_state.specs.Kept.{stored-length, stored-again, entered-stored, new-entered, new-start, new-finished}
-use Rattle.reader_answers.specs.Answers.{answerOf, reportOf}
-use Rattle.reader_answers.specs.laws.Answers.{refused-broken, report-answer, report-broken}
-use Rattle.reader_answers.specs.declared.Answer.{Answer}
-use Rattle.reader_answers.specs.declared.Report.{Report}
+use Rattle.form.specs.declared.step.Reader.{Reader}
+use Rattle.reader.specs.state.Words.{stored}
+use Rattle.reader.specs.state.Entered.{entered}
+use Rattle.reader.specs.state.Kept.{stored-length, stored-again, entered-stored, new-entered, new-start, new-finished}
+use Rattle.reader.specs.answers.Answers.{answerOf, reportOf}
+use Rattle.reader.specs.answers.laws.Answers.{refused-broken, report-answer, report-broken}
+use Rattle.reader.specs.declared.answers.Answer.{Answer}
+use Rattle.reader.specs.declared.answers.Report.{Report}
 use Rattle.reader.specs.Calls.{FormLists, readingOf, listsOf, roomy, beginning, AtFeed, fed, fedBy, feedCall, AtEnd, endCall, AtRead, readCall}
 use Rattle.reader.specs.Promise.{ReaderBegins, ReaderFeeds, ReaderEnds, ReadsForm}
 use Rattle.reader.specs.laws.Calls.{feed-short, feed-close, feed-wide, end-wide, read-wide, new-takes, takes-refused}

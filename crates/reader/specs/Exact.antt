@@ -8,20 +8,20 @@ use Prim.Native.Nat.{ℕ}
 use lib.ListN.{length}
 use lib.Seq.{sets}
 use Rattle.octets.specs.Bytes.{Bytes, each}
-use Rattle.form_step.specs.Reader.{Reading, broken, start, finished, takes, verdict}
-use Rattle.form_step.specs.Holds.{Reads}
-use Rattle.form_step.specs.Standing.{Ok}
-use Rattle.form_step.specs.laws.Standing.{ok-start}
-use Rattle.form_step.specs.laws.Steps.{verdict-broken, verdict-sound}
-use Rattle.form_step.specs.declared.Reader.{Reader}
-use Rattle.form_step.specs.declared.Form.the-variants.{Sound, Broken}
+use Rattle.form.specs.step.Reader.{Reading, broken, start, finished, takes, verdict}
+use Rattle.form.specs.step.Holds.{Reads}
+use Rattle.form.specs.step.Standing.{Ok}
+use Rattle.form.specs.step.laws.Standing.{ok-start}
+use Rattle.form.specs.step.laws.Steps.{verdict-broken, verdict-sound}
+use Rattle.form.specs.declared.step.Reader.{Reader}
+use Rattle.form.specs.declared.step.Form.the-variants.{Sound, Broken}
 use Rattle.form.specs.Form.{FormMesh, MeshFits, MayBegin, IsForm, formOf, kindOf, outlineFloats, siteFloats, triangleSites, trianglePairs}
 use Rattle.form.specs.Place.{Place, NumberAt}
 use Rattle.form.specs.Promise.{ReadSound, Refused, exact}
 use Rattle.form.specs.laws.Exact.{sound-broken}
 use Rattle.form.specs.laws.Feed.{reads-all}
-use Rattle.reader_answers.specs.Answers.{nowhere, reportOf}
-use Rattle.reader_answers.specs.laws.Answers.{report-none, report-refused}
+use Rattle.reader.specs.answers.Answers.{nowhere, reportOf}
+use Rattle.reader.specs.answers.laws.Answers.{report-none, report-refused}
 use Rattle.reader.specs.Calls.{FormLists, readingOf, roomy, readBy, readCall, AtRead}
 use Rattle.reader.specs.laws.Calls.{read-wide, ok-takes}
 

@@ -5,3 +5,6 @@ pub mod One
 pub mod Cuttings
 pub mod Exact
 pub mod laws
+pub mod standing
+pub mod state
+pub mod answers

@@ -4,8 +4,8 @@ use mathlib.Core.Path.{_≡_, sym, ap, _∙_}
 use Prim.Native.Nat.{ℕ}
 use Rattle.reader.specs.Calls.{FormLists, AtBegin, AtFeed, AtEnd, AtRead}
 use Rattle.reader.specs.Promise.{ReaderBegins, ReaderFeeds, ReaderEnds, ReadsForm}
-use Rattle.reader_answers.specs.declared.Answer.{Answer}
-use Rattle.reader_answers.specs.declared.Report.{Report}
+use Rattle.reader.specs.declared.answers.Answer.{Answer}
+use Rattle.reader.specs.declared.answers.Report.{Report}
 
 pub begins-one : (ws : List ℕ) {a b : List ℕ} {r q : ℕ} → ReaderBegins ws a r → ReaderBegins ws b q → (r ≡ q) × (a ≡ b)
 begins-one ws e f = let g = e ∙ sym f in (ap (λ (x : AtBegin). x .number) g, ap (λ (x : AtBegin). x .words) g)

@@ -1,22 +1,26 @@
 // The form's reader for forms that arrive in parts: begin, feed, end, with a state that the caller keeps; and the whole form at once, by the same steps.
-use form_step::finished;
-use form_step::start;
-use numbers::REFUSED_ROOM;
-use reader_answers::Answer;
-use reader_answers::Report;
-use reader_answers::answered;
-use reader_answers::no_report;
-use reader_answers::no_room;
-use reader_answers::reported;
-use reader_state::load;
-use reader_state::store;
+pub mod answers;
+pub mod standing;
+pub mod state;
+
+use crate::answers::Answer;
+use crate::answers::Report;
+use crate::answers::answered;
+use crate::answers::no_report;
+use crate::answers::no_room;
+use crate::answers::reported;
+use crate::state::load;
+use crate::state::store;
+use base::numbers::REFUSED_ROOM;
+use form::step::finished;
+use form::step::start;
 ghost use mathlib.Core.Bool.{false};
 ghost use mathlib.Core.Path.{_≡_};
 ghost use Prim.Native.Nat.{_≤_};
 ghost use lib.ListN.{length, replicate};
-ghost use Rattle.form_step.specs.Reader.{start, takes};
-ghost use Rattle.form_step.specs.Holds.{ListRoom};
-ghost use Rattle.reader_state.specs.Entered.{entered};
+ghost use Rattle.form.specs.step.Reader.{start, takes};
+ghost use Rattle.form.specs.step.Holds.{ListRoom};
+ghost use Rattle.reader.specs.state.Entered.{entered};
 ghost use Rattle.reader.specs.Calls.{formLists, readingOf, roomy, fed, fedBy, feedCall, ended, endedBy, endCall, readForm, readBy, readCall};
 ghost use Rattle.reader.specs.Promise.{answer, report, ReaderBegins, ReaderFeeds, ReaderEnds, ReadsForm};
 

@@ -7,18 +7,18 @@ use mathlib.Core.Logic.{_⊎_, inl, inr, ⊎-elim, _≢_}
 use Prim.Native.Nat.{ℕ, zero, suc, _+_, _/_, _^_, _≤_, _<_}
 use native.Mathlib.Omega.{arith}
 use lib.ListN.{take, drop}
-use Rattle.laws.specs.laws.Decide.{eq-or-ne, lt-or-ge}
-use Rattle.numbers.specs.Numbers.{refusedForm, refusedUnclipped}
+use Rattle.base.specs.common.laws.Decide.{eq-or-ne, lt-or-ge}
+use Rattle.base.specs.numbers.Numbers.{refusedForm, refusedUnclipped}
 use Rattle.octets.specs.Bytes.{Bytes}
-use Rattle.form_step.specs.Reader.{start, step, steps, finished}
-use Rattle.form_step.specs.Standing.{bodyOf, Ok}
-use Rattle.form_step.specs.laws.Standing.{clip-small, sizes}
+use Rattle.form.specs.step.Reader.{start, step, steps, finished}
+use Rattle.form.specs.step.Standing.{bodyOf, Ok}
+use Rattle.form.specs.step.laws.Standing.{clip-small, sizes}
 use Rattle.form.specs.laws.Cut.{steps-append}
-use Rattle.form_step.specs.declared.Reader.{Reader}
-use Rattle.reader_standing.specs.Stands.{both, stands}
-use Rattle.reader_standing.specs.laws.Stands.{both-right, stands-ok}
-use Rattle.reader_state.specs.Words.{readerOf}
-use Rattle.reader_state.specs.Entered.{blank}
+use Rattle.form.specs.declared.step.Reader.{Reader}
+use Rattle.reader.specs.standing.Stands.{both, stands}
+use Rattle.reader.specs.standing.laws.Stands.{both-right, stands-ok}
+use Rattle.reader.specs.state.Words.{readerOf}
+use Rattle.reader.specs.state.Entered.{blank}
 use Rattle.reader_reached.specs.laws.Earlier.{body-of-kind, earlier, at-first, ok-earlier, earlier-step}
 use Rattle.reader_reached.specs.laws.Before.{beforeKind, any-before}
 use Rattle.reader_reached.specs.laws.Led.{small-more, one-step, nothing-came, opened-so, unrefused, ok-unrefused, refused-is, refuses, refuses-six, ends-so}

@@ -7,13 +7,13 @@ use mathlib.Core.Logic.{⊎-elim, _≢_}
 use Prim.Native.Nat.{ℕ, _≤_, _<_}
 use native.Mathlib.Omega.{arith}
 use borrow.Author.Tests.{lt-ltb, le-ltb, ltb-true}
-use Rattle.laws.specs.Count.{occ}
-use Rattle.laws.specs.Pick.{pick}
-use Rattle.laws.specs.laws.Decide.{lt-or-ge}
+use Rattle.base.specs.common.Count.{occ}
+use Rattle.base.specs.common.Pick.{pick}
+use Rattle.base.specs.common.laws.Decide.{lt-or-ge}
 use Rattle.mesh.specs.Mesh.{Used}
 use Rattle.mesh.specs.laws.Occurs.{occ-there}
-use Rattle.shared.specs.Cells.{holdsOf, sharedOf}
-use Rattle.iterator.specs.Neighbours.{neighboursOf}
+use Rattle.walks.specs.shared.Cells.{holdsOf, sharedOf}
+use Rattle.walks.specs.neighbours.Neighbours.{neighboursOf}
 use Rattle.reasons.specs.declared.Question.{Question}
 use Rattle.reasons.specs.declared.Question.the-variants.{Nothing, About, Between}
 use Rattle.reasons.specs.declared.Reason.{Reason}

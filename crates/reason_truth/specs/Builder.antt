@@ -4,9 +4,9 @@ use mathlib.Core.Path.{_≡_, refl, ap, _∙_}
 use mathlib.Core.List.{List, []}
 use Prim.Native.Nat.{ℕ, _/_, _≤_}
 use lib.ListN.{length, getD}
-use Rattle.laws.specs.Refusals.{Keeps, Breaks}
-use Rattle.numbers.specs.Numbers.{refusedCircumcenter, refusedExtension, refusedNoCrossing}
-use Rattle.bounding_box.specs.declared.BoundingBox.{BoundingBox}
+use Rattle.base.specs.common.Refusals.{Keeps, Breaks}
+use Rattle.base.specs.numbers.Numbers.{refusedCircumcenter, refusedExtension, refusedNoCrossing}
+use Rattle.plane.specs.declared.boxes.BoundingBox.{BoundingBox}
 use Rattle.mesh.specs.Mesh.{Used}
 use Rattle.mesh.specs.Accepted.{Mesh, Accepted}
 use Rattle.definition.specs.declared.Fault.{Fault}

@@ -6,10 +6,10 @@ use mathlib.Core.Logic.{_⊎_, inl, inr, _≢_}
 use Prim.Native.Nat.{ℕ, _<_}
 use native.Mathlib.Omega.{arith}
 use lib.ListN.{length, getD}
-use Rattle.laws.specs.Count.{occ}
-use Rattle.laws.specs.Refusals.{Rule, Keep}
-use Rattle.numbers.specs.Numbers.{refusedCount, refusedRoom}
-use Rattle.bounding_box.specs.declared.BoundingBox.{BoundingBox}
+use Rattle.base.specs.common.Count.{occ}
+use Rattle.base.specs.common.Refusals.{Rule, Keep}
+use Rattle.base.specs.numbers.Numbers.{refusedCount, refusedRoom}
+use Rattle.plane.specs.declared.boxes.BoundingBox.{BoundingBox}
 use Rattle.mesh.specs.declared.MeshFault.{MeshFault}
 use Rattle.mesh.specs.Accepted.{Mesh, tableOf, Counted, Accepted, siteCount}
 use Rattle.mesh.specs.Faults.{coordinateRules, topologyRules}
@@ -18,7 +18,7 @@ use Rattle.definition.specs.Fault.{ok}
 use Rattle.definition.specs.Cell.{unmarked}
 use Rattle.definition.specs.Build.{Built, build}
 use Rattle.build_laws.specs.Tries.{TriedInVain}
-use Rattle.iterator.specs.Neighbours.{neighboursOf}
+use Rattle.walks.specs.neighbours.Neighbours.{neighboursOf}
 use Rattle.reasons.specs.declared.Question.{Question}
 use Rattle.reasons.specs.declared.Question.the-variants.{Nothing, About, Between}
 use Rattle.reasons.specs.declared.Reason.{Reason}

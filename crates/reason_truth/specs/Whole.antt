@@ -4,8 +4,8 @@ use mathlib.Core.List.{List, [], _∷_, _++_, append-assoc}
 use mathlib.Core.Logic.{_⊎_, inl, inr, ⊎-elim}
 use Prim.Native.Nat.{ℕ}
 use lib.ListN.{length, getD}
-use Rattle.laws.specs.Refusals.{Rule, once, each, Keeps, Breaks, Keep, Judged, reads}
-use Rattle.numbers.specs.Numbers.{refusedCount, refusedRoom}
+use Rattle.base.specs.common.Refusals.{Rule, once, each, Keeps, Breaks, Keep, Judged, reads}
+use Rattle.base.specs.numbers.Numbers.{refusedCount, refusedRoom}
 use Rattle.mesh.specs.declared.MeshFault.{MeshFault}
 use Rattle.mesh.specs.Accepted.{Mesh, tableOf, Counted, Accepted, siteCount}
 use Rattle.mesh.specs.Faults.{coordinateRules, topologyRules}

@@ -5,12 +5,12 @@ use mathlib.Core.List.{List, [], _∷_}
 use Prim.Native.Nat.{ℕ, _+_, _<_}
 use lib.Dec.{leb}
 use lib.ListN.{length, getD}
-use Rattle.laws.specs.Pick.{pick}
+use Rattle.base.specs.common.Pick.{pick}
 use Rattle.mesh.specs.Mesh.{leftmostOf, wholeOf}
 use Rattle.mesh.specs.Accepted.{Topology}
-use Rattle.shared.specs.Cells.{Cells, holdsOf, sharedOf}
-use Rattle.iterator.specs.Neighbours.{neighboursOf}
-use Rattle.clipped_iterator.specs.Clipped.{clippedOf}
+use Rattle.walks.specs.shared.Cells.{Cells, holdsOf, sharedOf}
+use Rattle.walks.specs.neighbours.Neighbours.{neighboursOf}
+use Rattle.queries.specs.clipped.Clipped.{clippedOf}
 use Rattle.reasons.specs.declared.Question.{Question}
 use Rattle.reasons.specs.declared.Question.the-variants.{Nothing, About, Between}
 use Rattle.reasons.specs.declared.Reason.{Reason}

@@ -3,3 +3,5 @@ pub mod Reason
 pub mod Answer
 pub mod Rules
 pub mod laws
+pub mod explaining
+pub mod call

@@ -1,8 +1,8 @@
 -- A reason: what each fault is as one, and the numbers that tell each. Definitions only.
 use Prim.Native.Nat.{ℕ}
 use lib.Dec.{eqb}
-use Rattle.laws.specs.Pick.{pick}
-use Rattle.numbers.specs.Numbers.{EMPTY, refusedCount, refusedRoom, refusedCoordinate, refusedTriangle, refusedPairing, refusedHull, refusedFan, refusedCircumcenter, refusedExtension}
+use Rattle.base.specs.common.Pick.{pick}
+use Rattle.base.specs.numbers.Numbers.{EMPTY, refusedCount, refusedRoom, refusedCoordinate, refusedTriangle, refusedPairing, refusedHull, refusedFan, refusedCircumcenter, refusedExtension}
 use Rattle.mesh.specs.declared.MeshFault.{MeshFault}
 use Rattle.mesh.specs.declared.MeshFault.the-variants.{None, Counts, Room, Coordinate, Triangle, Pairing, HullPlace, HullEdge, BrokenFan}
 use Rattle.definition.specs.declared.Fault.{Fault}

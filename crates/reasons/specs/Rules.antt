@@ -2,8 +2,8 @@
 use mathlib.Core.List.{List, [], _∷_, _++_}
 use Prim.Native.Nat.{ℕ, _<_}
 use lib.ListN.{length, getD}
-use Rattle.laws.specs.Refusals.{Rule, once, reads, Finds}
-use Rattle.numbers.specs.Numbers.{refusedSite}
+use Rattle.base.specs.common.Refusals.{Rule, once, reads, Finds}
+use Rattle.base.specs.numbers.Numbers.{refusedSite}
 use Rattle.mesh.specs.Accepted.{Mesh, tableOf, siteCount}
 use Rattle.mesh.specs.Faults.{startRules, coordinateRules, topologyRules}
 use Rattle.definition.specs.declared.Fault.{Fault}

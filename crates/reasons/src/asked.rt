@@ -1,23 +1,23 @@
 // What was asked of a mesh that builds, answered over its leftmost table and its cells: why a cell is empty, why a neighbour is gone.
 use crate::Question;
 use crate::Reason;
-use clipped_iterator::clipped_step;
-use iterator::Cursor;
-use iterator::Stepped;
-use iterator::step;
-use numbers::EMPTY;
-use numbers::wide;
+use base::numbers::EMPTY;
+use base::numbers::wide;
+use queries::clipped::clipped_step;
+use walks::neighbours::Cursor;
+use walks::neighbours::Stepped;
+use walks::neighbours::step;
 ghost use mathlib.Core.Path.{_≡_};
 ghost use mathlib.Core.Bool.{not};
 ghost use Prim.Native.Nat.{_+_, _<_};
 ghost use lib.Dec.{eqb};
 ghost use lib.ListN.{length, getD};
-ghost use Rattle.numbers.specs.Numbers.{EMPTY};
+ghost use Rattle.base.specs.numbers.Numbers.{EMPTY};
 ghost use Rattle.mesh.specs.Mesh.{wholeOf, Paired};
-ghost use Rattle.shared.specs.Cells.{Cells, cellOf, holdsOf, sharedOf, shareEdgeOf};
-ghost use Rattle.iterator.specs.Neighbours.{startsOf};
-ghost use Rattle.clipped_iterator.specs.Clipped.{clippedOf};
-ghost use Rattle.clipped_iterator.specs.Clippable.{Clippable};
+ghost use Rattle.walks.specs.shared.Cells.{Cells, cellOf, holdsOf, sharedOf, shareEdgeOf};
+ghost use Rattle.walks.specs.neighbours.Neighbours.{startsOf};
+ghost use Rattle.queries.specs.clipped.Clipped.{clippedOf};
+ghost use Rattle.queries.specs.clipped.Clippable.{Clippable};
 ghost use Rattle.reasons.specs.Answer.{emptyAnswer, answerTo, Askable, SitesBelow};
 ghost use Rattle.reasons.specs.declared.Question.the-variants.{Between};
 
@@ -86,9 +86,9 @@ fn count_shared(offsets: &[u32], indexes: &[u32], s: u32, t: u32) -> u32
         × (sharedOf (cellOf (now offsets) (now indexes) s) (cellOf (now offsets) (now indexes) t) < 2) ⌝ }
     ensures { λ r. ⌜ r ≡ sharedOf (cellOf (now (offsets .entry)) (now (indexes .entry)) s) (cellOf (now (offsets .entry)) (now (indexes .entry)) t) ⌝ }
 {
-    let first = shared::cell(offsets, indexes, wide(s));
-    let second = shared::cell(offsets, indexes, wide(t));
-    shared::shared_entries(first, second) as u32
+    let first = walks::shared::cell(offsets, indexes, wide(s));
+    let second = walks::shared::cell(offsets, indexes, wide(t));
+    walks::shared::shared_entries(first, second) as u32
 }
 
 // By whether the cell of site s is empty and whether s stands in a triangle.

@@ -1,12 +1,14 @@
 // The one reason why a mesh is refused, a cell is empty or a neighbour is gone: as an enum, as numbers, and what was asked answered over a build's slices.
+pub mod call;
+pub mod explaining;
 pub mod asked; // asked.rt: what was asked, answered
 
+use base::numbers::EMPTY;
 use definition::Fault;
 use mesh::MeshFault;
-use numbers::EMPTY;
 ghost use mathlib.Core.Path.{_≡_};
 ghost use Prim.Native.Nat.{_<_};
-ghost use Rattle.numbers.specs.Numbers.{EMPTY};
+ghost use Rattle.base.specs.numbers.Numbers.{EMPTY};
 ghost use Rattle.reasons.specs.Reason.{ofMesh, faultPlace, ofFault, tells, toldBy};
 
 // Nothing wrong; a refusal's number alone; a refusal with its site, triangle, half-edge or hull place; with the cell and the ring edge's two vertices;
@@ -90,14 +92,14 @@ pub fn of_mesh(f: MeshFault) -> Reason
 {
     match f {
         MeshFault::None => Reason::NoFault,
-        MeshFault::Counts => Reason::Number(numbers::REFUSED_COUNT),
-        MeshFault::Room => Reason::Number(numbers::REFUSED_ROOM),
-        MeshFault::Coordinate(s) => Reason::AtSite(numbers::REFUSED_COORDINATE, narrow(s)),
-        MeshFault::Triangle(t) => Reason::AtTriangle(numbers::REFUSED_TRIANGLE, narrow(t)),
-        MeshFault::Pairing(e) => Reason::AtHalfEdge(numbers::REFUSED_PAIRING, narrow(e)),
-        MeshFault::HullPlace(i) => Reason::AtHullPlace(numbers::REFUSED_HULL, narrow(i)),
-        MeshFault::HullEdge(e) => Reason::AtHalfEdge(numbers::REFUSED_HULL, narrow(e)),
-        MeshFault::BrokenFan(s) => Reason::AtSite(numbers::REFUSED_FAN, narrow(s)),
+        MeshFault::Counts => Reason::Number(base::numbers::REFUSED_COUNT),
+        MeshFault::Room => Reason::Number(base::numbers::REFUSED_ROOM),
+        MeshFault::Coordinate(s) => Reason::AtSite(base::numbers::REFUSED_COORDINATE, narrow(s)),
+        MeshFault::Triangle(t) => Reason::AtTriangle(base::numbers::REFUSED_TRIANGLE, narrow(t)),
+        MeshFault::Pairing(e) => Reason::AtHalfEdge(base::numbers::REFUSED_PAIRING, narrow(e)),
+        MeshFault::HullPlace(i) => Reason::AtHullPlace(base::numbers::REFUSED_HULL, narrow(i)),
+        MeshFault::HullEdge(e) => Reason::AtHalfEdge(base::numbers::REFUSED_HULL, narrow(e)),
+        MeshFault::BrokenFan(s) => Reason::AtSite(base::numbers::REFUSED_FAN, narrow(s)),
     }
 }
 
@@ -108,10 +110,10 @@ pub fn of_fault(f: Fault) -> Reason
     if f.number == 0 {
         return Reason::NoFault;
     }
-    if f.number == numbers::REFUSED_CIRCUMCENTER {
+    if f.number == base::numbers::REFUSED_CIRCUMCENTER {
         return Reason::AtTriangle(f.number, f.place);
     }
-    if f.number == numbers::REFUSED_EXTENSION {
+    if f.number == base::numbers::REFUSED_EXTENSION {
         return Reason::AtHullPlace(f.number, f.place);
     }
     Reason::AtEdge(f.number, f.place, f.from, f.to)

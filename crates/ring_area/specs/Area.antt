@@ -4,10 +4,10 @@ use mathlib.Core.List.{List, [], _∷_, map}
 use Prim.Native.Nat.{ℕ, _+_, _-_, _*_, _^_}
 use lib.Dec.{leb}
 use lib.Ieee.{Float, nan, inf, fin, binary64, unlike, round}
-use Rattle.laws.specs.Binary64.{zero}
+use Rattle.base.specs.common.Binary64.{zero}
 use Rattle.root.specs.Root.{units}
-use Rattle.utils.specs.Flat.{pointAt}
-use Rattle.utils.specs.declared.Point.{Point}
+use Rattle.plane.specs.points.Flat.{pointAt}
+use Rattle.plane.specs.declared.points.Point.{Point}
 
 -- below 0, or -0
 abbrev pub below : Float → Bool

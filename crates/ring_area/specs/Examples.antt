@@ -4,7 +4,7 @@ use mathlib.Core.Bool.{true, false}
 use mathlib.Core.List.{[], _∷_}
 use lib.IntN.{pos}
 use lib.Ieee.{Float, fin, round}
-use Rattle.utils.specs.Plane.{at}
+use Rattle.plane.specs.points.Plane.{at}
 use Rattle.ring_area.specs.Area.{area, gains, losses, roundedHalf}
 
 abbrev o : Float

@@ -3,3 +3,9 @@ pub mod Steps
 pub mod Span
 pub mod Examples
 pub mod laws
+pub mod long
+pub mod rounded
+pub mod limits
+pub mod rounding
+pub mod half
+pub mod lowest

@@ -4,12 +4,12 @@ use mathlib.Core.List.{List}
 use Prim.Native.Nat.{ℕ, _+_, _*_, _≤_, _<_}
 use lib.Ieee.{Float, binary64, ofBits, toBits}
 use lib.ListN.{length, getD}
-use Rattle.long_numbers.specs.Amount.{lifted}
-use Rattle.long_numbers.specs.Steps.{PutRoom}
+use Rattle.ring_area.specs.long.Amount.{lifted}
+use Rattle.ring_area.specs.long.Steps.{PutRoom}
 use Rattle.root.specs.Root.{units}
-use Rattle.utils.specs.Finite.{BoundedPoint}
-use Rattle.utils.specs.Flat.{pointAt}
-use Rattle.utils.specs.declared.Point.{Point}
+use Rattle.plane.specs.points.Finite.{BoundedPoint}
+use Rattle.plane.specs.points.Flat.{pointAt}
+use Rattle.plane.specs.declared.points.Point.{Point}
 use Rattle.ring_area.specs.Steps.{exponentOf}
 
 -- n limbs from number `from` on:

@@ -4,12 +4,12 @@ use mathlib.Core.List.{List, [], _∷_, map}
 use Prim.Native.Nat.{ℕ, _+_, _-_, _*_, _/_, _%_, _^_, _≤_, _<_}
 use lib.Ieee.{Float, binary64, ofBits}
 use lib.ListN.{length, getD}
-use Rattle.long_numbers.specs.Amount.{amount}
-use Rattle.long_numbers.specs.Steps.{PutRoom, PutIn}
+use Rattle.ring_area.specs.long.Amount.{amount}
+use Rattle.ring_area.specs.long.Steps.{PutRoom, PutIn}
 use Rattle.root.specs.Root.{units}
-use Rattle.utils.specs.Finite.{BoundedPoint}
-use Rattle.utils.specs.Flat.{pointAt}
-use Rattle.utils.specs.declared.Point.{Point}
+use Rattle.plane.specs.points.Finite.{BoundedPoint}
+use Rattle.plane.specs.points.Flat.{pointAt}
+use Rattle.plane.specs.declared.points.Point.{Point}
 use Rattle.ring_area.specs.Area.{productAbove, productUnder, gain, loss, gains, losses}
 
 -- the pattern of a value of magnitude at most 2 ^ 400 or somewhat more

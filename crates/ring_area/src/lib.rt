@@ -1,19 +1,24 @@
 // The sums of a ring of corners: the products of its sides as long numbers, what is added and what is taken off apart.
 // The limbs may begin at any number that no product of the ring begins below.
-use digits::LEAD;
-use long_numbers::power;
-use long_numbers::put_product;
+pub mod limits;
+pub mod long;
+pub mod rounded;
+pub mod rounding;
+
+use crate::long::power;
+use crate::long::put_product;
+use plane::points::Point;
 use root::SIGN;
-use utils::Point;
+use root::digits::LEAD;
 ghost use mathlib.Core.Path.{_≡_};
 ghost use Prim.Native.Nat.{_+_, _*_, _<_};
 ghost use lib.Ieee.{binary64, ofBits, toBits};
 ghost use lib.ListN.{length};
-ghost use Rattle.long_numbers.specs.Amount.{lifted};
-ghost use Rattle.long_numbers.specs.Steps.{PutRoom, PutIn};
+ghost use Rattle.ring_area.specs.long.Amount.{lifted};
+ghost use Rattle.ring_area.specs.long.Steps.{PutRoom, PutIn};
 ghost use Rattle.root.specs.Bounded.{Bounded};
 ghost use Rattle.root.specs.Root.{units};
-ghost use Rattle.utils.specs.Flat.{pointAt};
+ghost use Rattle.plane.specs.points.Flat.{pointAt};
 ghost use Rattle.ring_area.specs.Steps.{LowPattern, SplitOf, Open, ProductIn, SideIn, Corners, RingIn};
 ghost use Rattle.ring_area.specs.Span.{PatternIn, CornerIn, RingPlaced, BothOpen};
 
@@ -87,7 +92,7 @@ pub fn corner(vertices: &[f64], entry: u32) -> Point
     requires { ⌜ 2 * entry + 1 < length (now vertices) ⌝ }
     ensures { λ r. ⌜ r ≡ pointAt (now (vertices .entry)) entry ⌝ }
 {
-    utils::point_at(vertices, numbers::wide(entry))
+    plane::points::point_at(vertices, base::numbers::wide(entry))
 }
 
 // All sides of the ring, that back to its first corner included.

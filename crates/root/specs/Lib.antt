@@ -6,3 +6,4 @@ pub mod Unique
 pub mod SqrtIsRoot
 pub mod SqrtBounds
 pub mod laws
+pub mod digits

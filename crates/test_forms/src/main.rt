@@ -1,6 +1,6 @@
 // Prints what the form's reader says of each case on standard input, which is two bytes of length and as many bytes;
 // then what it says where forms of old are read too.
-use form_step::Form;
+use form::step::Form;
 use libc::STDIN_FILENO;
 use libc::STDOUT_FILENO;
 ghost use Prim.Native.Nat.{_<_};

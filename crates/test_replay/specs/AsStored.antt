@@ -8,12 +8,12 @@ use native.Mathlib.Omega.{arith}
 use lib.Dec.{eqb}
 use lib.ListN.{length}
 use borrow.Author.Tests.{eqb-true, eqb-false, lt-ltb}
-use Rattle.laws.specs.Pick.{pick}
-use Rattle.numbers.specs.Numbers.{refusedFan}
+use Rattle.base.specs.common.Pick.{pick}
+use Rattle.base.specs.numbers.Numbers.{refusedFan}
 use Rattle.mesh.specs.Accepted.{Mesh}
 use Rattle.admission.specs.Slices.{Slices}
-use Rattle.test_words.specs.Words.{wordOf, afterOf}
-use Rattle.test_words.specs.Held.{BuildHeld, RefusedHeld, endPlace, afterListOf}
+use Rattle.test_replay.specs.words.Words.{wordOf, afterOf}
+use Rattle.test_replay.specs.words.Held.{BuildHeld, RefusedHeld, endPlace, afterListOf}
 use Rattle.test_replay.specs.Replayed.{Then, ListsHeld}
 use Rattle.test_replay.specs.Judged.{SaysKept, AcceptedHeld, RefusalHeld, AnswersHeld, answersVerdict, AnswersJudged}
 

@@ -6,14 +6,14 @@ use mathlib.Core.List.{List}
 use Prim.Native.Nat.{ℕ}
 use lib.Dec.{eqb, ltb}
 use lib.ListN.{length}
-use Rattle.laws.specs.Pick.{pick}
-use Rattle.laws.specs.Decide.{Says}
-use Rattle.numbers.specs.Numbers.{refusedFan}
+use Rattle.base.specs.common.Pick.{pick}
+use Rattle.base.specs.common.Decide.{Says}
+use Rattle.base.specs.numbers.Numbers.{refusedFan}
 use Rattle.mesh.specs.Accepted.{Mesh}
 use Rattle.admission.specs.Slices.{Slices}
 use Rattle.voronoi.specs.Builds.{Build}
-use Rattle.test_words.specs.Words.{wordOf, afterOf}
-use Rattle.test_words.specs.Held.{BuildHeld, RefusedHeld, endPlace, afterListOf}
+use Rattle.test_replay.specs.words.Words.{wordOf, afterOf}
+use Rattle.test_replay.specs.words.Held.{BuildHeld, RefusedHeld, endPlace, afterListOf}
 use Rattle.test_replay.specs.Replayed.{boxOf, Where, Then, ListsHeld}
 
 -- a question that leaves the work slice as it was

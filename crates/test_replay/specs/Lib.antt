@@ -3,3 +3,4 @@ pub mod Judged
 pub mod Tallied
 pub mod AsStored
 pub mod laws
+pub mod words

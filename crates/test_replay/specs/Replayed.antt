@@ -5,15 +5,15 @@ use mathlib.Core.Bool.{Bool, true, false}
 use mathlib.Core.List.{List}
 use Prim.Native.Nat.{ℕ}
 use lib.ListN.{replicate}
-use Rattle.laws.specs.Decide.{Says}
-use Rattle.utils.specs.Plane.{at}
-use Rattle.utils.specs.declared.Point.{Point}
-use Rattle.given_box.specs.declared.Given.{Given}
-use Rattle.given_box.specs.Given.{bySize}
+use Rattle.base.specs.common.Decide.{Says}
+use Rattle.plane.specs.points.Plane.{at}
+use Rattle.plane.specs.declared.points.Point.{Point}
+use Rattle.plane.specs.declared.given.Given.{Given}
+use Rattle.plane.specs.given.Given.{bySize}
 use Rattle.mesh.specs.Accepted.{Mesh}
 use Rattle.voronoi.specs.Walks.{Walk, Neighbours, ClippedNeighbours, Path}
-use Rattle.test_words.specs.Words.{wordOf, afterOf, patternOf, floatOf}
-use Rattle.test_words.specs.Held.{ListHeld, afterListOf}
+use Rattle.test_replay.specs.words.Words.{wordOf, afterOf, patternOf, floatOf}
+use Rattle.test_replay.specs.words.Held.{ListHeld, afterListOf}
 
 -- the box stored from word 5 on: center, width, height
 unfoldable pub boxOf : List ℕ → Given

@@ -7,10 +7,10 @@ use Prim.Native.Nat.{ℕ, _+_, _*_, _/_, _<_}
 use lib.Dec.{eqb, leb}
 use lib.Ieee.{nan, binary64, ofBits}
 use lib.ListN.{length, getD, replicate}
-use Rattle.laws.specs.Pick.{pick}
+use Rattle.base.specs.common.Pick.{pick}
 use Rattle.mesh.specs.Accepted.{Mesh}
 use Rattle.admission.specs.Slices.{Slices, slices}
-use Rattle.test_words.specs.Words.{wordOf, afterOf, patternOf, floatOf, placeOf}
+use Rattle.test_replay.specs.words.Words.{wordOf, afterOf, patternOf, floatOf, placeOf}
 use Rattle.test_replay.specs.declared.Tally.{Tally}
 use Rattle.test_replay.specs.Judged.{BuildReplayed}
 

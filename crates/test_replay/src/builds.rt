@@ -1,5 +1,5 @@
 // One stored build, made again.
-use test_words::float;
+use crate::words::float;
 use voronoi::builds::voronoi_build;
 ghost use Rattle.mesh.specs.Accepted.{mesh};
 ghost use Rattle.admission.specs.Slices.{slices};

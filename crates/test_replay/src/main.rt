@@ -1,19 +1,20 @@
 // Replays the Rust's stored answers: each mesh is built and walked again by the public calls, and every lent slice is held to the stored words to its last element.
 // harness/src/stored.rs says how a mesh and its answers are stored, and made them with the source's own code.
+pub mod words;
 mod builds; // builds.rt: the build
 mod walks; // walks.rt: walks, neighbours, paths
 
+use crate::words::after;
+use crate::words::held::BEFORE;
+use crate::words::held::BEFORE_FLOAT;
+use crate::words::held::accepted;
+use crate::words::held::after_list;
+use crate::words::held::end;
+use crate::words::held::refused;
+use crate::words::index;
+use crate::words::word;
 use libc::STDIN_FILENO;
 use libc::STDOUT_FILENO;
-use test_words::after;
-use test_words::held::BEFORE;
-use test_words::held::BEFORE_FLOAT;
-use test_words::held::accepted;
-use test_words::held::after_list;
-use test_words::held::end;
-use test_words::held::refused;
-use test_words::index;
-use test_words::word;
 ghost use mathlib.Core.Path.{_≡_};
 ghost use Prim.Native.Nat.{_+_, _≤_, _<_};
 ghost use lib.ListN.{length, replicate};
@@ -81,7 +82,7 @@ fn judge(
     if !refused(number, b, work, vertices, indexes, offsets, counts) {
         return DIFFERENT;
     }
-    if number <= numbers::REFUSED_FAN {
+    if number <= base::numbers::REFUSED_FAN {
         return REFUSED;
     }
     if walks::lists(
@@ -197,10 +198,10 @@ fn mesh(
     let from = after(13, 2 * sites.len());
     let pairs = after(from, triangles.len());
     let border = after(pairs, halfedges.len());
-    test_words::load_floats(b, 13, sites);
-    test_words::load(b, from, triangles);
-    test_words::load(b, pairs, halfedges);
-    test_words::load(b, border, hull);
+    crate::words::load_floats(b, 13, sites);
+    crate::words::load(b, from, triangles);
+    crate::words::load(b, pairs, halfedges);
+    crate::words::load(b, border, hull);
     replay(
         b,
         after(border, hull.len()),

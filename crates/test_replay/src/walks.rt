@@ -1,15 +1,15 @@
 // The stored walk, neighbours, clipped neighbours and path of one site, asked again of the public calls.
-use test_words::after;
-use test_words::float;
-use test_words::held::BEFORE;
-use test_words::held::after_list;
-use test_words::held::list;
-use test_words::word;
-use voronoi::walks::voronoi_clipped_neighbours;
-use voronoi::walks::voronoi_neighbours;
-use voronoi::walks::voronoi_path;
-use voronoi::walks::voronoi_walk;
-ghost use Rattle.utils.specs.Plane.{at};
+use crate::words::after;
+use crate::words::float;
+use crate::words::held::BEFORE;
+use crate::words::held::after_list;
+use crate::words::held::list;
+use crate::words::word;
+use voronoi::walking::voronoi_clipped_neighbours;
+use voronoi::walking::voronoi_neighbours;
+use voronoi::walking::voronoi_path;
+use voronoi::walking::voronoi_walk;
+ghost use Rattle.plane.specs.points.Plane.{at};
 ghost use Rattle.mesh.specs.Accepted.{mesh};
 ghost use Rattle.test_replay.specs.Replayed.{WalkHeld, NeighboursHeld, ClippedHeld, PathHeld, ListsHeld};
 

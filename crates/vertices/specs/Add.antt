@@ -4,9 +4,9 @@ use mathlib.Core.Bool.{Bool, false, not}
 use mathlib.Core.List.{List, [], _∷_, _++_}
 use lib.ListN.{length, drop}
 use lib.Dec.{ltb}
-use Rattle.laws.specs.Pick.{pick}
-use Rattle.utils.specs.Plane.{nearOf}
-use Rattle.utils.specs.declared.Point.{Point}
+use Rattle.base.specs.common.Pick.{pick}
+use Rattle.plane.specs.points.Plane.{nearOf}
+use Rattle.plane.specs.declared.points.Point.{Point}
 
 unfoldable pub nearPt : Point → Point → Bool
 nearPt p q = pick (nearOf (p .x) (q .x)) (λ _. nearOf (p .y) (q .y)) (λ _. false)

@@ -6,8 +6,8 @@ use mathlib.Core.Path.{_≡_}
 use mathlib.Core.List.{List}
 use lib.Ieee.{Float}
 use lib.ListN.{length, take, drop}
-use Rattle.utils.specs.Flat.{pour}
-use Rattle.utils.specs.declared.Point.{Point}
+use Rattle.plane.specs.points.Flat.{pour}
+use Rattle.plane.specs.declared.points.Point.{Point}
 use Rattle.vertices.specs.Add.{Added}
 use Rattle.vertices.specs.declared.Placed.{Placed}
 

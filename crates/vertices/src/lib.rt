@@ -1,14 +1,14 @@
 // The vertex store of cell_builder.rs over lent slices: circumcenters, then the box's corners, then added points, x and y in turn.
-use utils::Point;
-use utils::abs_diff_eq;
-use utils::point_at;
+use plane::points::Point;
+use plane::points::abs_diff_eq;
+use plane::points::point_at;
 ghost use mathlib.Core.Path.{_≡_};
 ghost use mathlib.Core.List.{_++_};
 ghost use Prim.Native.Nat.{_+_, _-_, _*_, _≤_, _<_};
 ghost use lib.Ieee.{nan};
 ghost use lib.ListN.{length, getD, set, drop};
-ghost use Rattle.utils.specs.Plane.{at};
-ghost use Rattle.utils.specs.Flat.{points, pointsFrom};
+ghost use Rattle.plane.specs.points.Plane.{at};
+ghost use Rattle.plane.specs.points.Flat.{points, pointsFrom};
 ghost use Rattle.vertices.specs.Add.{nearPt, findNear, addVertex};
 ghost use Rattle.vertices.specs.Store.{Holds, Leaves, PlacedAs};
 

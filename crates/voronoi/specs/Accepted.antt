@@ -3,14 +3,14 @@ use mathlib.Core.Path.{_≡_, refl, _∙_}
 use mathlib.Core.List.{List, []}
 use Prim.Native.Nat.{ℕ, _≤_}
 use lib.ListN.{length}
-use Rattle.laws.specs.laws.Refusals.{finds-reads}
-use Rattle.numbers.specs.Numbers.{EMPTY}
+use Rattle.base.specs.common.laws.Refusals.{finds-reads}
+use Rattle.base.specs.numbers.Numbers.{EMPTY}
 use Rattle.mesh.specs.declared.MeshFault.{MeshFault}
 use Rattle.mesh.specs.Mesh.{leftmostIn}
 use Rattle.mesh.specs.Faults.{numberOf}
 use Rattle.mesh.specs.Accepted.{Mesh, Accepted, siteCount}
-use Rattle.check_mesh.specs.Answers.{Finding}
-use Rattle.check_mesh.specs.laws.AtExit.{exit-made}
+use Rattle.mesh_check.specs.whole.Answers.{Finding}
+use Rattle.mesh_check.specs.whole.laws.AtExit.{exit-made}
 use Rattle.queries.specs.Answers.{Number}
 use Rattle.voronoi.specs.Meshes.{Check}
 use Rattle.voronoi.specs.laws.Answering.{edge-answers}

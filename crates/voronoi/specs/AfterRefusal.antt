@@ -7,20 +7,20 @@ use Prim.Native.Nat.{ℕ, _<_}
 use lib.Ieee.{Float}
 use lib.IntN.{ℤ}
 use lib.ListN.{length}
-use Rattle.laws.specs.Binary64.{zero}
-use Rattle.numbers.specs.Numbers.{EMPTY}
-use Rattle.utils.specs.declared.Point.{Point}
-use Rattle.given_box.specs.declared.Given.{Given}
-use Rattle.line_crossings.specs.Line.{lineOf}
-use Rattle.crossings.specs.Ray.{rayOf}
+use Rattle.base.specs.common.Binary64.{zero}
+use Rattle.base.specs.numbers.Numbers.{EMPTY}
+use Rattle.plane.specs.declared.points.Point.{Point}
+use Rattle.plane.specs.declared.given.Given.{Given}
+use Rattle.plane.specs.lines.Line.{lineOf}
+use Rattle.plane.specs.rays.Ray.{rayOf}
 use Rattle.mesh.specs.Accepted.{Mesh}
 use Rattle.admission.specs.Slices.{Slices}
-use Rattle.mend_slices.specs.Lent.{Lent}
-use Rattle.grid_check.specs.Promise.{GridMesh}
+use Rattle.mending.specs.slices.Lent.{Lent}
+use Rattle.grid.specs.check.Promise.{GridMesh}
 use Rattle.reasons.specs.declared.ReasonNumbers.{ReasonNumbers}
 use Rattle.reader.specs.Calls.{FormLists, roomy}
-use Rattle.reader_answers.specs.declared.Answer.{Answer}
-use Rattle.reader_answers.specs.declared.Report.{Report}
+use Rattle.reader.specs.declared.answers.Answer.{Answer}
+use Rattle.reader.specs.declared.answers.Report.{Report}
 use Rattle.voronoi.specs.Plane.{Dist2, Circumcenter, Centroid, Edges, Centered, Corners, Inside, ExclusivelyInside, WhichEdge, Meets}
 use Rattle.voronoi.specs.Walks.{SharedEdge, CellsShareEdge}
 use Rattle.voronoi.specs.Builds.{Cell, CellPart}
@@ -32,6 +32,7 @@ use Rattle.voronoi.specs.Gauges.{ReadMultipoint, WriteMultipoint}
 use Rattle.voronoi.specs.Grids.{GridCheck, GridNearest, SitesOfGrid}
 use Rattle.voronoi.specs.Sizes.{Areas}
 use Rattle.voronoi.specs.Audits.{Audit}
+use Rattle.voronoi.specs.Certificates.{Certify}
 use Rattle.voronoi.specs.Outcomes.{SliceRefused, BuildRefused}
 
 -- mending: the four slices and the three numbers
@@ -58,6 +59,14 @@ pub record AuditRefused (k s e o : ℕ) (share : Float) : Type 0 where
   pub vertex : e ≡ EMPTY
   pub other : o ≡ EMPTY
   pub missing : share ≡ zero
+
+-- a certificate: four numbers and the work slice
+pub record CertifyRefused (w w′ : List ℕ) (r k s e o : ℕ) : Type 0 where
+  pub kind : k ≡ EMPTY
+  pub site : s ≡ EMPTY
+  pub vertex : e ≡ EMPTY
+  pub other : o ≡ EMPTY
+  pub work : SliceRefused EMPTY w w′ r
 
 pub record AfterRefusal (m : Mesh) : Type 0 where
   -- points and the box: each lent number is 0, a side EMPTY
@@ -96,6 +105,8 @@ pub record AfterRefusal (m : Mesh) : Type 0 where
   pub areas : (v : List Float) (off ix : List ℕ) {old new : List Float} {r : ℕ} → Areas v off ix old new r → r ≢ 0 → new ≡ old
   pub audit : (g : Given) (sites v : List Float) (off ix starts others : List ℕ) (bits : ℕ) {r k s e o : ℕ} {share : Float}
       → Audit g sites v off ix starts others bits r k s e o share → r ≢ 0 → AuditRefused k s e o share
+  pub certify : (g : Given) (sites v : List Float) (off ix : List ℕ) (bits : ℕ) {w w′ : List ℕ} {r k s e o : ℕ}
+      → Certify g sites v off ix bits w w′ r k s e o → r ≢ 0 → CertifyRefused w w′ r k s e o
   -- the reader: a state of fewer than sixteen words, or lists without the room of the largest form, get 2, and nothing is changed. After 17 and 20 the state has the refusal and
   -- its byte, and the lists what was read before it: the promise itself says so
   pub reader-begin : (ws : List ℕ) {ws′ : List ℕ} {r : ℕ} → ReaderBegin ws ws′ r → r ≢ 0 → (r ≡ 2) × (ws′ ≡ ws)

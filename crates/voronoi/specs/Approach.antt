@@ -6,13 +6,13 @@ use Prim.Native.Nat.{ℕ, _+_, _<_}
 use lib.Dec.{T}
 use lib.Ieee.{Float, lt}
 use lib.ListN.{length, getD}
-use Rattle.laws.specs.Count.{occ}
-use Rattle.utils.specs.declared.Point.{Point}
+use Rattle.base.specs.common.Count.{occ}
+use Rattle.plane.specs.declared.points.Point.{Point}
 use Rattle.mesh.specs.Mesh.{startOf, endOf}
 use Rattle.mesh.specs.Accepted.{Mesh, tableOf}
-use Rattle.iterator.specs.Neighbours.{neighboursOf}
-use Rattle.paths.specs.PathRule.{NoneNearer, FirstNearest}
-use Rattle.paths.specs.Path.{distOf, lastOf}
+use Rattle.walks.specs.neighbours.Neighbours.{neighboursOf}
+use Rattle.walks.specs.paths.PathRule.{NoneNearer, FirstNearest}
+use Rattle.walks.specs.paths.Path.{distOf, lastOf}
 
 -- the list l of site s: each half-edge that ends there once, and no other
 pub record WholeRound (tri he : List ℕ) (s : ℕ) (l : List ℕ) : Type 0 where

@@ -1,4 +1,4 @@
--- Theorem: bounds from the limits of docs/RULES.md: `Bounded k x` says that x is finite and of magnitude at most 2 ^ k. First what the calls on points and the box answer; then the values that
+-- Theorem: bounds from the limits of docs/use/RULES.md: `Bounded k x` says that x is finite and of magnitude at most 2 ^ k. First what the calls on points and the box answer; then the values that
 -- the source's operations go through, so that no test of theirs meets a NaN.
 use mathlib.Core.Path.{_≡_}
 use mathlib.Core.Bool.{true, false, not, cond}
@@ -6,23 +6,23 @@ use Prim.Native.Nat.{ℕ, suc, _+_, _≤_, _<_}
 use lib.Dec.{T}
 use lib.Ieee.{Float, nan, binary64, fits, lt, le}
 use lib.ListN.{getD}
-use Rattle.numbers.specs.Numbers.{tolerance}
-use Rattle.laws.specs.Binary64.{_⊞_, _⊟_, zero}
+use Rattle.base.specs.numbers.Numbers.{tolerance}
+use Rattle.base.specs.common.Binary64.{_⊞_, _⊟_, zero}
 use Rattle.root.specs.Root.{Root, magnitude}
 use Rattle.root.specs.Bounded.{Bounded}
 use Rattle.root.specs.Sqrt.{sqrtOf}
 use Rattle.root.specs.SqrtBounds.{root-bound, root-positive, sqrt-bound, sqrt-positive}
-use Rattle.utils.specs.Plane.{at, dist2Of}
-use Rattle.utils.specs.Rules.{okSite}
-use Rattle.utils.specs.Finite.{BoundedPoint, gap-bounded, dist2-total, site-dist2}
-use Rattle.utils.specs.declared.Point.{Point}
-use Rattle.centers.specs.Circumcenter.{okCenter}
-use Rattle.centers.specs.Finite.{center-bounded}
-use Rattle.bounding_box.specs.Box.{cornersOf}
-use Rattle.bounding_box.specs.Finite.{BoundedBox, corner-dist2}
-use Rattle.bounding_box.specs.declared.BoundingBox.{BoundingBox}
-use Rattle.crossings.specs.Finite.{ray-end}
-use Rattle.line_crossings.specs.Finite.{dxOf, dyOf, xAt, yAt, sides-finite, levels-finite}
+use Rattle.plane.specs.points.Plane.{at, dist2Of}
+use Rattle.plane.specs.points.Rules.{okSite}
+use Rattle.plane.specs.points.Finite.{BoundedPoint, gap-bounded, dist2-total, site-dist2}
+use Rattle.plane.specs.declared.points.Point.{Point}
+use Rattle.plane.specs.centers.Circumcenter.{okCenter}
+use Rattle.plane.specs.centers.Finite.{center-bounded}
+use Rattle.plane.specs.boxes.Box.{cornersOf}
+use Rattle.plane.specs.boxes.Finite.{BoundedBox, corner-dist2}
+use Rattle.plane.specs.declared.boxes.BoundingBox.{BoundingBox}
+use Rattle.plane.specs.rays.Finite.{ray-end}
+use Rattle.plane.specs.lines.Finite.{dxOf, dyOf, xAt, yAt, sides-finite, levels-finite}
 
 -- the edges of the box and its size recomputed
 pub record BoundedEdges (left top right bottom across down : Float) : Type 0 where

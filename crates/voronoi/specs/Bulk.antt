@@ -1,11 +1,11 @@
--- The promises of the calls for all gauges at once: the number, and each lent slice at exit. What each list and each end is: Lists of crate neighbour_lists, EndsOfPaths of crate
--- bulk_ends; the rules: Promise of crates bulk_neighbours and bulk_ends; what they are beside the single calls: Singles.
+-- The promises of the calls for all gauges at once: the number, and each lent slice at exit. What each list and each end is: Lists of queries::all_neighbours, EndsOfPaths of crate
+-- queries::bulk_ends; the rules: Promise of crates queries::bulk_neighbours and queries::bulk_ends; what they are beside the single calls: Singles.
 use mathlib.Core.List.{List}
 use Prim.Native.Nat.{ℕ}
 use lib.Ieee.{Float}
 use Rattle.mesh.specs.Accepted.{Mesh}
-use Rattle.bulk_neighbours.specs.Promise.{AllNeighboursAnswer}
-use Rattle.bulk_ends.specs.Promise.{EndsAnswer}
+use Rattle.queries.specs.bulk_neighbours.Promise.{AllNeighboursAnswer}
+use Rattle.queries.specs.bulk_ends.Promise.{EndsAnswer}
 
 -- 1, 2, 6, 7 to 10, 16
 abbrev pub AllNeighbours : Mesh → List ℕ → List ℕ → List ℕ → List ℕ → List ℕ → List ℕ → List ℕ → List ℕ → ℕ → Type 0

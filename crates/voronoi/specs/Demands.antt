@@ -9,29 +9,29 @@ use Prim.Native.Nat.{ℕ, suc, _+_, _-_, _/_, _%_, _^_, _≤_, _<_}
 use lib.Ieee.{Float, nan, binary64, ofBits, toBits}
 use lib.IntN.{ℤ}
 use lib.ListN.{length, getD, take, drop}
-use Rattle.numbers.specs.Numbers.{EMPTY}
-use Rattle.laws.specs.Count.{occ}
+use Rattle.base.specs.numbers.Numbers.{EMPTY}
+use Rattle.base.specs.common.Count.{occ}
 use Rattle.root.specs.Root.{Root, RootBits, magnitude, signum}
 use Rattle.root.specs.Bounded.{Bounded}
-use Rattle.utils.specs.Flat.{pointAt}
-use Rattle.utils.specs.Plane.{nearOf}
-use Rattle.utils.specs.Rules.{okSite}
-use Rattle.utils.specs.declared.Point.{Point}
-use Rattle.given_box.specs.Given.{bySize, byEdges}
-use Rattle.given_box.specs.Finite.{Fits, size-fits, edges-fit}
-use Rattle.given_box.specs.declared.Given.{Given}
-use Rattle.line_crossings.specs.Line.{lineOf}
-use Rattle.crossings.specs.Ray.{rayOf}
+use Rattle.plane.specs.points.Flat.{pointAt}
+use Rattle.plane.specs.points.Plane.{nearOf}
+use Rattle.plane.specs.points.Rules.{okSite}
+use Rattle.plane.specs.declared.points.Point.{Point}
+use Rattle.plane.specs.given.Given.{bySize, byEdges}
+use Rattle.plane.specs.given.Finite.{Fits, size-fits, edges-fit}
+use Rattle.plane.specs.declared.given.Given.{Given}
+use Rattle.plane.specs.lines.Line.{lineOf}
+use Rattle.plane.specs.rays.Ray.{rayOf}
 use Rattle.plane_calls.specs.Plane.{bit}
 use Rattle.mesh.specs.Mesh.{wholeOf, Used}
 use Rattle.mesh.specs.Accepted.{Mesh, tableOf, siteCount}
-use Rattle.clipped_iterator.specs.Clipped.{clippedNeighboursOf}
-use Rattle.paths.specs.Path.{distOf, wholePath}
-use Rattle.paths.specs.PathRule.{usedOf}
+use Rattle.queries.specs.clipped.Clipped.{clippedNeighboursOf}
+use Rattle.walks.specs.paths.Path.{distOf, wholePath}
+use Rattle.walks.specs.paths.PathRule.{usedOf}
 use Rattle.definition.specs.Build.{build}
-use Rattle.asking.specs.Asks.{CellsOf}
+use Rattle.arguments.specs.asking.Asks.{CellsOf}
 use Rattle.admission.specs.Slices.{Slices}
-use Rattle.mend_slices.specs.Lent.{Lent}
+use Rattle.mending.specs.slices.Lent.{Lent}
 use Rattle.voronoi.specs.Mends.{Mend}
 use Rattle.reader.specs.Calls.{FormLists}
 use Rattle.voronoi.specs.Forms.{ReaderBegin, ReaderFeed, ReaderEnd, ReadForm}
@@ -41,31 +41,33 @@ use Rattle.voronoi.specs.One.{one-signum, one-near, one-dist2, one-circu
 use Rattle.voronoi.specs.One.{one-check, one-walk, one-neighbours, one-clipped, one-path, one-shared-edge, one-cells-share-edge, one-build, one-cut, one-why, one-cell, one-cell-part}
 use Rattle.voronoi.specs.One.{one-all-wkb, one-version}
 use Rattle.voronoi.specs.Gauges.{ReadMultipoint, WriteMultipoint}
-use Rattle.grid_check.specs.Promise.{GridMesh}
+use Rattle.grid.specs.check.Promise.{GridMesh}
 use Rattle.voronoi.specs.Grids.{GridCheck, GridNearest, SitesOfGrid}
 use Rattle.voronoi.specs.Nearest.{NearestGauges, nearest-gauges}
 use Rattle.voronoi.specs.Sizes.{Areas}
-use Rattle.bulk_neighbours.specs.Promise.{CellsLent}
-use Rattle.bulk_ends.specs.Promise.{PointsKept}
+use Rattle.queries.specs.bulk_neighbours.Promise.{CellsLent}
+use Rattle.queries.specs.bulk_ends.Promise.{PointsKept}
 use Rattle.voronoi.specs.Bulk.{AllNeighbours, EndsOfPaths}
 use Rattle.voronoi.specs.Outcomes.{OneAll, AllRefused, OneImages, ImagesRefused, One, One₂, One₃, OneList, OneMend, OneMeeting, OneBox, OneCenter, SliceRefused, ListRefused, BuildRefused}
-use Rattle.voronoi.specs.Outcomes.{CutRefused, OneGrid, OneNearest, OneAudit, FlipRefused}
+use Rattle.voronoi.specs.Outcomes.{CutRefused, OneGrid, OneNearest, OneAudit, OneCertificate, FlipRefused}
 use Rattle.voronoi.specs.laws.Refused.{all-refused, images-refused, ends-refused, work-refused, list-refused, slices-refused, cut-refused, lists-refused}
 use Rattle.voronoi.specs.Audits.{Audit}
 use Rattle.auditing.specs.One.{one-audit}
+use Rattle.voronoi.specs.Certificates.{Certify}
+use Rattle.certifying.specs.call.One.{one-certify}
 use Rattle.voronoi.specs.Plane.{Dist2, Circumcenter, Centroid, Edges, Centered, Corners, Inside, ExclusivelyInside, WhichEdge, Meets}
-use Rattle.flip_call.specs.Flips.{FlipLists}
+use Rattle.flipping.specs.call.Flips.{FlipLists}
 use Rattle.voronoi.specs.Flips.{Flip}
 use Rattle.voronoi.specs.Meshes.{Check}
 use Rattle.voronoi.specs.Walks.{Walk, Neighbours, ClippedNeighbours, Path, SharedEdge, CellsShareEdge}
 use Rattle.voronoi.specs.Builds.{Build, Cell, CellPart}
-use Rattle.cut_admission.specs.CutSlices.{CutSlices}
+use Rattle.cutting_calls.specs.cut_admission.CutSlices.{CutSlices}
 use Rattle.voronoi.specs.Cuts.{Cut}
-use Rattle.shared.specs.Cells.{cellOf}
+use Rattle.walks.specs.shared.Cells.{cellOf}
 use Rattle.ring_area.specs.Steps.{gainsOf, lossesOf}
 use Rattle.area_laws.specs.AreaSign.{SignTrue}
 use Rattle.reasons.specs.declared.ReasonNumbers.{ReasonNumbers}
-use Rattle.reason_call.specs.Call.{questionOf}
+use Rattle.reasons.specs.call.Call.{questionOf}
 use Rattle.voronoi.specs.Explanations.{Why}
 use Rattle.voronoi.specs.AfterRefusal.{AfterRefusal}
 use Rattle.voronoi.specs.FirstBroken.{FirstBroken}
@@ -86,7 +88,7 @@ use Rattle.voronoi.specs.laws.Written.{written, begins, rest}
 use Rattle.voronoi.specs.laws.Walking.{walk-rounds, walk-ends, no-walk, neighbours-joined, no-neighbours, path-approaches, path-once, path-short, path-ended, own-path}
 use Rattle.voronoi.specs.laws.Wrapping.{build-wraps}
 
--- ---- 1. Every public call ends with an answer on every input; a refusal has its number (docs/RULES.md), and each lent slice then holds exactly what is promised.
+-- ---- 1. Every public call ends with an answer on every input; a refusal has its number (docs/use/RULES.md), and each lent slice then holds exactly what is promised.
 
 -- one outcome for each input of each call; then what a refusal leaves. A box g is given by its center and size or by its edges: what is said of a call holds of the call by edges too.
 pub record Demand1 (m : Mesh) : Type 0 where
@@ -187,6 +189,8 @@ pub record Demand1 (m : Mesh) : Type 0 where
   pub ends : (s : ℕ) (points : List Float) (w o : List ℕ) → One₃ (λ r w′ o′. EndsOfPaths m s points w w′ o o′ r)
   -- voronoi_audit: the number, the kind, the site, the vertex, the other, the missing share
   pub audit : (g : Given) (sites v : List Float) (off ix starts others : List ℕ) (bits : ℕ) → OneAudit (λ r k s e o m. Audit g sites v off ix starts others bits r k s e o m)
+  -- voronoi_certify: the number, the kind, the site, the vertex, the other, the work slice
+  pub certify : (g : Given) (sites v : List Float) (off ix : List ℕ) (bits : ℕ) (w : List ℕ) → OneCertificate (λ r k s e o w′. Certify g sites v off ix bits w w′ r k s e o)
   -- refused by voronoi_check: the work slice
   pub check-refused : {w w′ : List ℕ} {r : ℕ} → Check m w w′ r → r ≢ 0 → SliceRefused EMPTY w w′ r
   -- by a call that hands out a list: the work slice, the output slice, the count, ended
@@ -354,6 +358,7 @@ demand1 m = record {
   all-neighbours = λ offs idx w st o _ _ _ _ _ _ _ _. one-all-neighbours m offs idx;
   ends = λ s points w o _ _ _ _ _ _. one-ends m s points;
   audit = λ g sites v off ix starts others bits _ _ _ _ _ _ _ _ _ _ _ _. one-audit g sites v off ix starts others bits;
+  certify = λ g sites v off ix bits w _ _ _ _ _ _ _ _ _ _ _ _. one-certify g sites v off ix bits w;
   check-refused = λ a. work-refused m (a .work);
   walk-refused = λ s. list-refused;
   neighbours-refused = λ s. list-refused;

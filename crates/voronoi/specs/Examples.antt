@@ -5,23 +5,23 @@ use mathlib.Core.List.{[], _∷_}
 use lib.Ieee.{Float, binary64, ofBits, neg, add, sub, mul, div, lt, le, eq}
 use lib.Ieee.Bits.{ofBits-fits}
 use lib.ListN.{getD}
-use Rattle.laws.specs.Binary64.{zero, one, minusOne, two}
+use Rattle.base.specs.common.Binary64.{zero, one, minusOne, two}
 use Rattle.root.specs.Root.{Root}
 use Rattle.root.specs.SqrtIsRoot.{root-is-sqrt, least-root}
-use Rattle.utils.specs.Flat.{pointAt}
-use Rattle.utils.specs.Plane.{at, nearOf, dist2Of}
-use Rattle.centers.specs.Circumcenter.{centerOf}
-use Rattle.bounding_box.specs.Box.{madeOf}
-use Rattle.box_sides.specs.Sides.{firstSide, whichOf}
-use Rattle.bounding_box.specs.declared.BoundingBox.{BoundingBox}
-use Rattle.crossings.specs.Ray.{orderOf}
-use Rattle.crossings.specs.Rows as crossings
-use Rattle.line_crossings.specs.declared.Crossing.the-variants.{None, One}
+use Rattle.plane.specs.points.Flat.{pointAt}
+use Rattle.plane.specs.points.Plane.{at, nearOf, dist2Of}
+use Rattle.plane.specs.centers.Circumcenter.{centerOf}
+use Rattle.plane.specs.boxes.Box.{madeOf}
+use Rattle.plane.specs.sides.Sides.{firstSide, whichOf}
+use Rattle.plane.specs.declared.boxes.BoundingBox.{BoundingBox}
+use Rattle.plane.specs.rays.Ray.{orderOf}
+use Rattle.plane.specs.rays.Rows as crossings
+use Rattle.plane.specs.declared.lines.Crossing.the-variants.{None, One}
 use Rattle.mesh.specs.Mesh.{nextOf, chosen, tableTo, turnOf, walkOf, wholeOf}
 use Rattle.mesh.specs.Square.{sites, tri, he, table}
 use Rattle.mesh.specs.Square as mesh
-use Rattle.iterator.specs.Neighbours.{lastEnd, startsOf, neighboursOf}
-use Rattle.paths.specs.Path.{distOf, nearestOf, hopOf, pathOf, wholePath}
+use Rattle.walks.specs.neighbours.Neighbours.{lastEnd, startsOf, neighboursOf}
+use Rattle.walks.specs.paths.Path.{distOf, nearestOf, hopOf, pathOf, wholePath}
 
 abbrev pub box : BoundingBox
 box = madeOf (at zero zero) two two

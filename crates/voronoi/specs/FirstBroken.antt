@@ -6,49 +6,53 @@ use Prim.Native.Nat.{ℕ, _-_, _/_, _≤_, _<_}
 use lib.Ieee.{Float}
 use lib.IntN.{ℤ}
 use lib.ListN.{length}
-use Rattle.laws.specs.Refusals.{once, reads, Finds}
-use Rattle.numbers.specs.Numbers.{refusedCount, refusedRoom, refusedSite, refusedCoordinate, refusedCircumcenter}
-use Rattle.utils.specs.Rules.{okSite}
-use Rattle.utils.specs.Sites.{okSites}
-use Rattle.utils.specs.declared.Point.{Point}
-use Rattle.centers.specs.Circumcenter.{centerOf, okCenter}
-use Rattle.centers.specs.Centroid.{okCount}
-use Rattle.given_box.specs.declared.Given.{Given}
-use Rattle.line_crossings.specs.Line.{lineOf}
-use Rattle.crossings.specs.Ray.{rayOf}
+use Rattle.base.specs.common.Refusals.{once, reads, Finds}
+use Rattle.base.specs.numbers.Numbers.{refusedCount, refusedRoom, refusedSite, refusedCoordinate, refusedCircumcenter}
+use Rattle.plane.specs.points.Rules.{okSite}
+use Rattle.plane.specs.points.Sites.{okSites}
+use Rattle.plane.specs.declared.points.Point.{Point}
+use Rattle.plane.specs.centers.Circumcenter.{centerOf, okCenter}
+use Rattle.plane.specs.centers.Centroid.{okCount}
+use Rattle.plane.specs.declared.given.Given.{Given}
+use Rattle.plane.specs.lines.Line.{lineOf}
+use Rattle.plane.specs.rays.Ray.{rayOf}
 use Rattle.mesh.specs.Accepted.{Mesh, siteCount}
 use Rattle.mesh.specs.Rules.{callRules}
 use Rattle.definition.specs.Build.{build}
-use Rattle.outputs.specs.Outputs.{faultOf}
-use Rattle.asking.specs.Asks.{siteRules, pathRules, boxRules, cellRules}
+use Rattle.cell_memory.specs.outputs.Outputs.{faultOf}
+use Rattle.arguments.specs.asking.Asks.{siteRules, pathRules, boxRules, cellRules}
 use Rattle.admission.specs.Admits.{askedRules}
 use Rattle.admission.specs.Slices.{Slices, roomOf}
-use Rattle.bulk_neighbours.specs.Promise.{RoomFor, lentRules}
-use Rattle.bulk_ends.specs.Promise.{allRules}
-use Rattle.mend_slices.specs.Lent.{Lent}
+use Rattle.queries.specs.bulk_neighbours.Promise.{RoomFor, lentRules}
+use Rattle.queries.specs.bulk_ends.Promise.{allRules}
+use Rattle.mending.specs.slices.Lent.{Lent}
 use Rattle.mending.specs.Mending.{mendRoomOf, mendRules}
-use Rattle.flip_call.specs.Flips.{FlipLists, flipRules}
-use Rattle.grid_scan.specs.Judged.{gridNumber}
-use Rattle.grid_check.specs.Promise.{GridMesh, gridRules}
-use Rattle.grid_nearest.specs.Judged.{nearestNumber}
-use Rattle.grid_nearest.specs.Promise.{nearestRules}
-use Rattle.grid_sites.specs.Sites.{gridSiteRules}
+use Rattle.flipping.specs.call.Flips.{FlipLists, flipRules}
+use Rattle.grid.specs.scan.Judged.{gridNumber}
+use Rattle.grid.specs.check.Promise.{GridMesh, gridRules}
+use Rattle.grid.specs.nearest.Judged.{nearestNumber}
+use Rattle.grid.specs.nearest.Promise.{nearestRules}
+use Rattle.grid.specs.floats.Sites.{gridSiteRules}
 use Rattle.reasons.specs.declared.Reason.{Reason}
 use Rattle.reasons.specs.declared.ReasonNumbers.{ReasonNumbers}
 use Rattle.reasons.specs.Reason.{toldBy}
 use Rattle.reasons.specs.Rules.{reasonRules, buildRules, answered}
-use Rattle.reason_call.specs.Call.{questionOf}
+use Rattle.reasons.specs.call.Call.{questionOf}
 use Rattle.plane_calls.specs.Plane.{planeRules}
 use Rattle.areas.specs.Promise.{areaRules}
-use Rattle.audit_rules.specs.Rules.{auditRules}
+use Rattle.auditing.specs.rules.Rules.{auditRules}
+use Rattle.certifying.specs.rules.Rules.{certifyRules}
+use Rattle.cutting_calls.specs.cut_admission.CutSlices.{CutSlices, cutRoomOf}
+use Rattle.cutting_calls.specs.call.Promise.{cutNumber}
 use Rattle.wkb.specs.Polygon.{patterns}
 use Rattle.wkb.specs.Promise.{wkbRules}
-use Rattle.multipoint.specs.Promise.{readRules}
-use Rattle.multipoint_writer.specs.Promise.{writeRules}
+use Rattle.wkb.specs.multipoint.Promise.{readRules}
+use Rattle.wkb.specs.multipoint_writer.Promise.{writeRules}
 use Rattle.voronoi.specs.Plane.{Dist2, Circumcenter, Centroid, Edges, Centered, Corners, Inside, ExclusivelyInside, WhichEdge, Meets}
 use Rattle.voronoi.specs.Meshes.{Check}
 use Rattle.voronoi.specs.Walks.{Walk, Neighbours, ClippedNeighbours, Path, SharedEdge, CellsShareEdge}
 use Rattle.voronoi.specs.Builds.{Build, Cell, CellPart}
+use Rattle.voronoi.specs.Cuts.{Cut}
 use Rattle.voronoi.specs.Explanations.{Why}
 use Rattle.voronoi.specs.TrueReason.{whyRules}
 use Rattle.voronoi.specs.Maps.{CellWkbBits, CellWkb}
@@ -59,6 +63,7 @@ use Rattle.voronoi.specs.Flips.{Flip}
 use Rattle.voronoi.specs.Sizes.{Areas}
 use Rattle.voronoi.specs.Bulk.{AllNeighbours, EndsOfPaths}
 use Rattle.voronoi.specs.Audits.{Audit}
+use Rattle.voronoi.specs.Certificates.{Certify}
 
 -- roots, magnitudes, signs and voronoi_abs_diff_eq refuse nothing; the reader's 2 is in AfterRefusal, its 17 and 20 are the form's place (`read-exact` of crate reader)
 pub record FirstBroken (m : Mesh) : Type 0 where
@@ -98,6 +103,9 @@ pub record FirstBroken (m : Mesh) : Type 0 where
   -- a build's is then the outcome's, 11 to 14
   pub build : (g : Given) {old new : Slices} {r : ℕ} → Build m g old new r
       → Finds (callRules m (roomOf m old ≡ true) (boxRules (g .sound)) ++ askedRules (faultOf (build m (g .bounds)) .number)) 0 r
+  -- a cutting's is then 11 or 25
+  pub cut : (g : Given) {old new : CutSlices} {r k : ℕ} → Cut m g old new r k
+      → Finds (callRules m (cutRoomOf m old ≡ true) (boxRules (g .sound)) ++ askedRules (cutNumber m (g .bounds) (old .vertices))) 0 r
   -- cells
   pub cells-share-edge : (off ix : List ℕ) (a b : ℕ) {y r : ℕ} → CellsShareEdge off ix a b y r
       → Finds (once refusedSite ((a < length off - 1) × (b < length off - 1)) ∷ cellRules off ix (length off - 1)) 0 r
@@ -108,6 +116,8 @@ pub record FirstBroken (m : Mesh) : Type 0 where
   pub areas : (v : List Float) (off ix : List ℕ) {old new : List Float} {r : ℕ} → Areas v off ix old new r → Finds (areaRules v off ix (length old)) 0 r
   pub audit : (g : Given) (sites v : List Float) (off ix starts others : List ℕ) (bits : ℕ) {r k s e o : ℕ} {share : Float}
       → Audit g sites v off ix starts others bits r k s e o share → Finds (auditRules (g .sound) sites v off ix starts others bits) 0 r
+  pub certify : (g : Given) (sites v : List Float) (off ix : List ℕ) (bits : ℕ) {w w′ : List ℕ} {r k s e o : ℕ}
+      → Certify g sites v off ix bits w w′ r k s e o → Finds (certifyRules (g .sound) sites v off ix bits (length w)) 0 r
   -- meshes that are mended and flipped, gauges in files, the grid
   pub mend : {old new : Lent} {r k p q : ℕ} → Mend m old new r k p q → Finds (mendRules m (mendRoomOf (m .sites) (m .triangles) old)) 0 r
   pub flip : (sites : ℕ) (hull : List ℕ) (a : ℕ) {old new : FlipLists} {r : ℕ} → Flip sites hull a old new r → Finds (flipRules sites hull a old) 0 r

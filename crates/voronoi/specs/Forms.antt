@@ -4,8 +4,8 @@ use mathlib.Core.List.{List}
 use Prim.Native.Nat.{ℕ}
 use Rattle.reader.specs.Calls.{FormLists}
 use Rattle.reader.specs.Promise.{ReaderBegins, ReaderFeeds, ReaderEnds, ReadsForm}
-use Rattle.reader_answers.specs.declared.Answer.{Answer}
-use Rattle.reader_answers.specs.declared.Report.{Report}
+use Rattle.reader.specs.declared.answers.Answer.{Answer}
+use Rattle.reader.specs.declared.answers.Report.{Report}
 
 -- 2
 abbrev pub ReaderBegin : List ℕ → List ℕ → ℕ → Type 0

@@ -5,19 +5,19 @@ use mathlib.Core.List.{List, [], map}
 use Prim.Native.Nat.{ℕ, suc, _≤_, _<_}
 use lib.Ieee.{nan}
 use lib.ListN.{length, getD, take, drop}
-use Rattle.numbers.specs.Numbers.{EMPTY}
-use Rattle.laws.specs.Binary64.{zero}
-use Rattle.utils.specs.Flat.{flat}
+use Rattle.base.specs.numbers.Numbers.{EMPTY}
+use Rattle.base.specs.common.Binary64.{zero}
+use Rattle.plane.specs.points.Flat.{flat}
 use Rattle.mesh.specs.Accepted.{Mesh, Accepted, siteCount}
-use Rattle.layout.specs.Regions.{joined, offsetsFrom}
+use Rattle.cell_memory.specs.layout.Regions.{joined, offsetsFrom}
 use Rattle.definition.specs.declared.Fault.{Fault}
 use Rattle.definition.specs.Fault.{Outcome, ok}
 use Rattle.definition.specs.Build.{finite, Built}
-use Rattle.layout.specs.Cleared.{padded}
-use Rattle.outputs.specs.Outputs.{countsMade}
+use Rattle.cell_memory.specs.layout.Cleared.{padded}
+use Rattle.cell_memory.specs.outputs.Outputs.{countsMade}
 use Rattle.definition.specs.Cell.{unmarked}
 use Rattle.admission.specs.Slices.{Slices, roomOf}
-use Rattle.build_answers.specs.Success.{Value}
+use Rattle.building.specs.answers.Success.{Value}
 use Rattle.voronoi.specs.Builds.{Cell, CellPart}
 
 -- a query may answer 0: the mesh is accepted, the work slice has an entry for each site, and its own arguments are sound

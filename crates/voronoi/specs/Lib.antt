@@ -15,6 +15,7 @@ pub mod Flips
 pub mod Sizes
 pub mod Bulk
 pub mod Audits
+pub mod Certificates
 pub mod Examples
 pub mod laws
 pub mod Outcomes
@@ -27,6 +28,7 @@ pub mod Wraps
 pub mod Nearest
 pub mod TrueReason
 pub mod SignedAreas
+pub mod Certified
 pub mod Demands
 pub mod Restart
 pub mod Singles

@@ -2,7 +2,7 @@
 -- call is for: MendTheorem there.
 use Prim.Native.Nat.{ℕ}
 use Rattle.mesh.specs.Accepted.{Mesh}
-use Rattle.mend_slices.specs.Lent.{Lent}
+use Rattle.mending.specs.slices.Lent.{Lent}
 use Rattle.mending.specs.Mending.{Mends}
 
 -- 1, 2, 6, 7, 19, 9, 10

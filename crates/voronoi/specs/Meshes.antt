@@ -3,7 +3,7 @@ use mathlib.Core.Path.{_≡_}
 use mathlib.Core.List.{List, []}
 use Prim.Native.Nat.{ℕ}
 use Rattle.mesh.specs.Accepted.{Mesh}
-use Rattle.check_mesh.specs.Answers.{workAfter}
+use Rattle.mesh_check.specs.whole.Answers.{workAfter}
 use Rattle.queries.specs.Answers.{Number}
 
 -- old is what the work slice held before, new what it holds at exit

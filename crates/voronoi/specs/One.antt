@@ -7,62 +7,62 @@ use lib.Dec.{eqb, leb}
 use lib.Ieee.{Float, nan, binary64, ofBits, toBits}
 use lib.IntN.{ℤ}
 use lib.ListN.{length, getD, take, drop, replicate}
-use Rattle.laws.specs.Binary64.{zero}
-use Rattle.laws.specs.Refusals.{Rule}
-use Rattle.laws.specs.Pick.{pick}
-use Rattle.laws.specs.laws.Refusals.{finds-one}
-use Rattle.numbers.specs.Numbers.{EMPTY, refusedOffsets}
+use Rattle.base.specs.common.Binary64.{zero}
+use Rattle.base.specs.common.Refusals.{Rule}
+use Rattle.base.specs.common.Pick.{pick}
+use Rattle.base.specs.common.laws.Refusals.{finds-one}
+use Rattle.base.specs.numbers.Numbers.{EMPTY, refusedOffsets}
 use Rattle.root.specs.Root.{Root, RootBits, magnitude, signum}
 use Rattle.root.specs.Unique as root
-use Rattle.utils.specs.declared.Point.{Point}
-use Rattle.utils.specs.Plane.{nearOf}
-use Rattle.utils.specs.Flat.{flat}
-use Rattle.bounding_box.specs.Box.{cornersOf}
-use Rattle.bounding_box.specs.declared.BoundingBox.{BoundingBox}
-use Rattle.given_box.specs.declared.Given.{Given}
-use Rattle.line_crossings.specs.declared.Crossing.{Crossing}
+use Rattle.plane.specs.declared.points.Point.{Point}
+use Rattle.plane.specs.points.Plane.{nearOf}
+use Rattle.plane.specs.points.Flat.{flat}
+use Rattle.plane.specs.boxes.Box.{cornersOf}
+use Rattle.plane.specs.declared.boxes.BoundingBox.{BoundingBox}
+use Rattle.plane.specs.declared.given.Given.{Given}
+use Rattle.plane.specs.declared.lines.Crossing.{Crossing}
 use Rattle.mesh.specs.Accepted.{Mesh}
-use Rattle.check_mesh.specs.AtExit.{atExit}
-use Rattle.check_mesh.specs.Answers.{workAfter}
-use Rattle.shared.specs.Cells.{cellOf, shareEdgeOf}
-use Rattle.shared.specs.Edge.{sharedEdgeOf}
+use Rattle.mesh_check.specs.whole.AtExit.{atExit}
+use Rattle.mesh_check.specs.whole.Answers.{workAfter}
+use Rattle.walks.specs.shared.Cells.{cellOf, shareEdgeOf}
+use Rattle.walks.specs.shared.Edge.{sharedEdgeOf}
 use Rattle.admission.specs.Slices.{Slices}
 use Rattle.cell_query.specs.laws.Cells.{cell-number}
-use Rattle.build_answers.specs.laws.Promise.{answers-one}
-use Rattle.cut_admission.specs.CutSlices.{CutSlices}
-use Rattle.cut_call.specs.laws.Answer.{cut-one}
+use Rattle.building.specs.answers.laws.Promise.{answers-one}
+use Rattle.cutting_calls.specs.cut_admission.CutSlices.{CutSlices}
+use Rattle.cutting_calls.specs.call.laws.Answer.{cut-one}
 use Rattle.voronoi.specs.Cuts.{Cut}
 use Rattle.plane_calls.specs.Plane.{bit, Answered}
 use Rattle.wkb.specs.Polygon.{patterns}
 use Rattle.wkb.specs.One.{one-wkb}
 use Rattle.all_wkb.specs.One as all-images
 use Rattle.reasons.specs.declared.ReasonNumbers.{ReasonNumbers}
-use Rattle.reason_call.specs.One.{one-why-call}
+use Rattle.reasons.specs.call.One.{one-why-call}
 use Rattle.voronoi.specs.Maps.{CellWkbBits, CellWkb, AllWkb}
 use Rattle.library_version.specs.Version.{version}
 use Rattle.voronoi.specs.Explanations.{Why}
-use Rattle.multipoint.specs.One.{one-read}
-use Rattle.multipoint_writer.specs.One.{one-write}
+use Rattle.wkb.specs.multipoint.One.{one-read}
+use Rattle.wkb.specs.multipoint_writer.One.{one-write}
 use Rattle.voronoi.specs.Gauges.{ReadMultipoint, WriteMultipoint}
-use Rattle.mend_slices.specs.Lent.{Lent}
+use Rattle.mending.specs.slices.Lent.{Lent}
 use Rattle.mending.specs.One.{mends-one}
-use Rattle.grid_check.specs.Promise.{GridMesh}
-use Rattle.grid_check.specs.One.{grid-checks-one}
-use Rattle.grid_nearest.specs.One.{nearest-checks-one}
-use Rattle.grid_sites.specs.One.{grid-sites-one}
+use Rattle.grid.specs.check.Promise.{GridMesh}
+use Rattle.grid.specs.check.One.{grid-checks-one}
+use Rattle.grid.specs.nearest.One.{nearest-checks-one}
+use Rattle.grid.specs.floats.One.{grid-sites-one}
 use Rattle.voronoi.specs.Mends.{Mend}
 use Rattle.reader.specs.Calls.{FormLists}
 use Rattle.reader.specs.One.{begins-one, feeds-one, ends-one, reads-one}
-use Rattle.reader_answers.specs.declared.Answer.{Answer}
-use Rattle.reader_answers.specs.declared.Report.{Report}
+use Rattle.reader.specs.declared.answers.Answer.{Answer}
+use Rattle.reader.specs.declared.answers.Report.{Report}
 use Rattle.voronoi.specs.Forms.{ReaderBegin, ReaderFeed, ReaderEnd, ReadForm}
 use Rattle.voronoi.specs.Grids.{GridCheck, GridNearest, SitesOfGrid}
-use Rattle.flip_call.specs.Flips.{FlipLists}
-use Rattle.flip_call.specs.One.{flips-one}
+use Rattle.flipping.specs.call.Flips.{FlipLists}
+use Rattle.flipping.specs.call.One.{flips-one}
 use Rattle.voronoi.specs.Flips.{Flip}
 use Rattle.areas.specs.One as areas
-use Rattle.bulk_neighbours.specs.One as bulk-neighbours
-use Rattle.bulk_ends.specs.One as bulk-ends
+use Rattle.queries.specs.bulk_neighbours.One as bulk-neighbours
+use Rattle.queries.specs.bulk_ends.One as bulk-ends
 use Rattle.voronoi.specs.Bulk.{AllNeighbours, EndsOfPaths}
 use Rattle.voronoi.specs.Sizes.{Areas}
 use Rattle.voronoi.specs.Plane.{Dist2, Circumcenter, Centroid, Edges, Centered, Corners, Inside, ExclusivelyInside, WhichEdge, Meets}

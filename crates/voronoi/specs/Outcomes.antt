@@ -5,12 +5,12 @@ use mathlib.Core.Logic.{_≢_}
 use Prim.Native.Nat.{ℕ, _≤_, _<_}
 use lib.Ieee.{Float}
 use lib.ListN.{length, replicate}
-use Rattle.numbers.specs.Numbers.{EMPTY}
-use Rattle.laws.specs.Binary64.{zero}
+use Rattle.base.specs.numbers.Numbers.{EMPTY}
+use Rattle.base.specs.common.Binary64.{zero}
 use Rattle.admission.specs.Slices.{Slices}
-use Rattle.cut_admission.specs.CutSlices.{CutSlices}
-use Rattle.mend_slices.specs.Lent.{Lent}
-use Rattle.flip_call.specs.Flips.{FlipLists}
+use Rattle.cutting_calls.specs.cut_admission.CutSlices.{CutSlices}
+use Rattle.mending.specs.slices.Lent.{Lent}
+use Rattle.flipping.specs.call.Flips.{FlipLists}
 
 -- ---- one outcome
 
@@ -52,6 +52,10 @@ OneNearest P = (r r′ k k′ p p′ u u′ : ℕ) (w w′ : List ℕ) → P r k
 -- an audit: number, kind, site, vertex, other, missing share
 abbrev pub OneAudit : (ℕ → ℕ → ℕ → ℕ → ℕ → Float → Type 0) → Type 0
 OneAudit P = (r r′ k k′ s s′ e e′ o o′ : ℕ) (m m′ : Float) → P r k s e o m → P r′ k′ s′ e′ o′ m′ → (r ≡ r′) × (k ≡ k′) × (s ≡ s′) × (e ≡ e′) × (o ≡ o′) × (m ≡ m′)
+
+-- a certificate: number, kind, site, vertex, other, work slice
+abbrev pub OneCertificate : (ℕ → ℕ → ℕ → ℕ → ℕ → List ℕ → Type 0) → Type 0
+OneCertificate P = (r r′ k k′ s s′ e e′ o o′ : ℕ) (w w′ : List ℕ) → P r k s e o w → P r′ k′ s′ e′ o′ w′ → (r ≡ r′) × (k ≡ k′) × (s ≡ s′) × (e ≡ e′) × (o ≡ o′) × (w ≡ w′)
 
 -- crossings: number, count, two points
 abbrev pub OneMeeting : (ℕ → ℕ → Float → Float → Float → Float → Type 0) → Type 0

@@ -1,5 +1,5 @@
 -- Theorem: of two public answers on one mesh to one destination, the first with an allowance of 1 or more, the second from the last site that the first wrote: joined
--- without the repeated site they are the undivided path where the second ran to its end, and else its beginning. What joining is, and the law below it: Restart of crate paths.
+-- without the repeated site they are the undivided path where the second ran to its end, and else its beginning. What joining is, and the law below it: Restart of walks::paths.
 use mathlib.Core.Path.{_≡_, refl, sym, ap, _∙_, subst}
 use mathlib.Core.Bool.{true}
 use mathlib.Core.List.{List, [], _∷_, append-nil}
@@ -7,12 +7,12 @@ use Prim.Native.Nat.{ℕ, zero, suc, _+_, _-_, _≤_, _<_}
 use native.Mathlib.Omega.{arith}
 use lib.ListN.{length, getD, take, drop, length-append, length-drop, drop-of-length-le}
 use lib.Seq.{getD-take}
-use Rattle.utils.specs.Rules.{okSite}
-use Rattle.utils.specs.declared.Point.{Point}
+use Rattle.plane.specs.points.Rules.{okSite}
+use Rattle.plane.specs.declared.points.Point.{Point}
 use Rattle.mesh.specs.Mesh.{Used}
 use Rattle.mesh.specs.Accepted.{Mesh, tableOf, siteCount}
-use Rattle.paths.specs.Path.{wholePath}
-use Rattle.paths.specs.Restart.{rejoined, path-some, path-site, path-again, restart, restart-whole}
+use Rattle.walks.specs.paths.Path.{wholePath}
+use Rattle.walks.specs.paths.Restart.{rejoined, path-some, path-site, path-again, restart, restart-whole}
 use Rattle.voronoi.specs.Walks.{Handed, Path}
 use Rattle.voronoi.specs.Leaves.{QueryAllowed}
 use Rattle.voronoi.specs.laws.Answering.{path-answers}

@@ -7,9 +7,9 @@ use native.Mathlib.Omega.{arith}
 use borrow.Author.Needs.{needs}
 use lib.Ieee.{Float, nan}
 use lib.ListN.{length, getD}
-use Rattle.laws.specs.laws.Refusals.{finds-keep}
-use Rattle.utils.specs.Flat.{pointAt}
-use Rattle.shared.specs.Cells.{cellOf}
+use Rattle.base.specs.common.laws.Refusals.{finds-keep}
+use Rattle.plane.specs.points.Flat.{pointAt}
+use Rattle.walks.specs.shared.Cells.{cellOf}
 use Rattle.ring_area.specs.Area.{ringArea}
 use Rattle.ring_area.specs.Steps.{gainsOf, lossesOf}
 use Rattle.area_laws.specs.AreaSign.{SignTrue, ring-signed}

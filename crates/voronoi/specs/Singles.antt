@@ -8,14 +8,14 @@ use native.Mathlib.Omega.{arith}
 use lib.Ieee.{Float}
 use lib.ListN.{length, getD, take, drop}
 use lib.Seq.{getD-take}
-use Rattle.utils.specs.Flat.{pointAt}
+use Rattle.plane.specs.points.Flat.{pointAt}
 use Rattle.mesh.specs.Accepted.{Mesh, tableOf, siteCount}
-use Rattle.paths.specs.Path.{wholePath}
-use Rattle.layout.specs.Regions.{joined}
-use Rattle.neighbour_lists.specs.Lists.{nothingLent, allNeighbours}
-use Rattle.bulk_neighbours.specs.PartsTheorem.{partOf, plain-is, clipped-is, all-given, part-is}
-use Rattle.bulk_neighbours.specs.RoomTheorem.{room-suffices}
-use Rattle.bulk_ends.specs.EndsTheorem.{beginOf, path-some, path-few, ends-mesh, ends-kept, begin-below, end-is}
+use Rattle.walks.specs.paths.Path.{wholePath}
+use Rattle.cell_memory.specs.layout.Regions.{joined}
+use Rattle.queries.specs.all_neighbours.Lists.{nothingLent, allNeighbours}
+use Rattle.queries.specs.bulk_neighbours.PartsTheorem.{partOf, plain-is, clipped-is, all-given, part-is}
+use Rattle.queries.specs.bulk_neighbours.RoomTheorem.{room-suffices}
+use Rattle.queries.specs.bulk_ends.EndsTheorem.{beginOf, path-some, path-few, ends-mesh, ends-kept, begin-below, end-is}
 use Rattle.all_wkb.specs.Promise.{imageAt}
 use Rattle.all_wkb.specs.PartsTheorem as all-images
 use Rattle.voronoi.specs.Maps.{CellWkb, AllWkb}

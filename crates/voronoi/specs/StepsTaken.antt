@@ -6,8 +6,8 @@ use mathlib.Core.List.{List, [], _∷_, _++_}
 use Prim.Native.Nat.{ℕ, _+_, _-_, _/_}
 use native.Mathlib.Omega.{arith}
 use lib.ListN.{length, getD}
-use Rattle.given_box.specs.Finite.{Fits}
-use Rattle.given_box.specs.declared.Given.{Given}
+use Rattle.plane.specs.given.Finite.{Fits}
+use Rattle.plane.specs.declared.given.Given.{Given}
 use Rattle.mesh.specs.Accepted.{Mesh}
 use Rattle.definition.specs.Cell.{extension, firstCrossing, secondCrossing}
 use Rattle.definition.specs.Build.{Extensions}
@@ -19,9 +19,9 @@ use Rattle.build_laws.specs.Tries.{AllExtended}
 use Rattle.build_laws.specs.LateRefusals.{build-late}
 use Rattle.build_laws.specs.laws.CellCount.{CellsTallied, tallied, four-owners}
 use Rattle.admission.specs.Slices.{Slices}
-use Rattle.asking.specs.laws.Asks.{box-answers}
-use Rattle.build_answers.specs.Success.{zero-succeeds}
-use Rattle.build_answers.specs.laws.Left.{left-counts}
+use Rattle.arguments.specs.asking.laws.Asks.{box-answers}
+use Rattle.building.specs.answers.Success.{zero-succeeds}
+use Rattle.building.specs.answers.laws.Left.{left-counts}
 use Rattle.voronoi.specs.Builds.{Build}
 
 -- the number of vertices, and the points taken again as extensions, as first and as second crossings

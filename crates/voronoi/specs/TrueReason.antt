@@ -4,12 +4,12 @@ use mathlib.Core.Path.{_≡_, ap, _∙_}
 use mathlib.Core.Bool.{true}
 use mathlib.Core.List.{List, _++_}
 use Prim.Native.Nat.{ℕ}
-use Rattle.laws.specs.Refusals.{Rule, Keep}
-use Rattle.given_box.specs.declared.Given.{Given}
+use Rattle.base.specs.common.Refusals.{Rule, Keep}
+use Rattle.plane.specs.declared.given.Given.{Given}
 use Rattle.mesh.specs.Accepted.{Mesh, Accepted, siteCount}
 use Rattle.definition.specs.Fault.{ok}
 use Rattle.definition.specs.Build.{Built, build}
-use Rattle.asking.specs.Asks.{boxRules}
+use Rattle.arguments.specs.asking.Asks.{boxRules}
 use Rattle.admission.specs.Slices.{Slices, roomOf}
 use Rattle.reasons.specs.declared.Question.{Question}
 use Rattle.reasons.specs.declared.Reason.{Reason}
@@ -18,7 +18,7 @@ use Rattle.reasons.specs.declared.ReasonNumbers.{ReasonNumbers}
 use Rattle.reasons.specs.Reason.{toldBy}
 use Rattle.reasons.specs.Rules.{questionRules}
 use Rattle.reason_truth.specs.Truth.{Truth, Faultless, whole-truth, no-fault}
-use Rattle.reason_call.specs.Call.{questionOf}
+use Rattle.reasons.specs.call.Call.{questionOf}
 use Rattle.voronoi.specs.Explanations.{Why}
 
 -- what the call asks of its own arguments: 3 on the box, 4 on each site asked about

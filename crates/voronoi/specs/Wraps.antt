@@ -4,18 +4,18 @@ use mathlib.Core.List.{List, [], _∷_, map}
 use Prim.Native.Nat.{ℕ, suc, _+_, _/_, _≤_, _<_}
 use lib.Ieee.{nan}
 use lib.ListN.{length, getD, drop}
-use Rattle.numbers.specs.Numbers.{EMPTY}
-use Rattle.laws.specs.Count.{occ}
-use Rattle.utils.specs.Plane.{at}
-use Rattle.utils.specs.Flat.{pointAt}
-use Rattle.bounding_box.specs.Box.{cornersOf}
-use Rattle.bounding_box.specs.declared.BoundingBox.{BoundingBox}
+use Rattle.base.specs.numbers.Numbers.{EMPTY}
+use Rattle.base.specs.common.Count.{occ}
+use Rattle.plane.specs.points.Plane.{at}
+use Rattle.plane.specs.points.Flat.{pointAt}
+use Rattle.plane.specs.boxes.Box.{cornersOf}
+use Rattle.plane.specs.declared.boxes.BoundingBox.{BoundingBox}
 use Rattle.mesh.specs.Accepted.{Mesh, siteCount}
-use Rattle.layout.specs.Regions.{joined, offsetsFrom}
+use Rattle.cell_memory.specs.layout.Regions.{joined, offsetsFrom}
 use Rattle.definition.specs.Cell.{Entry, unmarked}
 use Rattle.definition.specs.Build.{wrappedIn, allWrapped, lostFrom, Built, build}
 use Rattle.definition.specs.Fault.{ok}
-use Rattle.layout.specs.Cleared.{padded}
+use Rattle.cell_memory.specs.layout.Cleared.{padded}
 use Rattle.admission.specs.Slices.{Slices}
 use Rattle.voronoi.specs.Approach.{PathStops}
 

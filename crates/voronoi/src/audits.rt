@@ -1,6 +1,6 @@
 // The audit of pieces: whether they are what they should be, from the result alone.
-ghost use Rattle.utils.specs.Plane.{at};
-ghost use Rattle.given_box.specs.Given.{bySize};
+ghost use Rattle.plane.specs.points.Plane.{at};
+ghost use Rattle.plane.specs.given.Given.{bySize};
 ghost use Rattle.voronoi.specs.Audits.{Audit};
 
 // The five numbers are always written: EMPTY and 0 where it is refused.
@@ -26,7 +26,7 @@ pub extern "C" fn voronoi_audit(
     ensures { λ r. ⌜ Audit (bySize (at cx cy) width height) (now (sites .entry)) (now (vertices .entry)) (now (offsets .entry)) (now (indexes .entry))
         (now (starts .entry)) (now (others .entry)) bits r (now (kind .exit)) (now (site .exit)) (now (vertex .exit)) (now (other .exit)) (now (missing .exit)) ⌝ }
 {
-    let given = given_box::by_size(cx, cy, width, height);
+    let given = plane::given::by_size(cx, cy, width, height);
     let t = auditing::audit(
         given,
         sites,

@@ -1,7 +1,7 @@
 // The builds, and the cells that they leave. After 1 to 6 nothing lent changes, after 7 to 14 every lent slice is cleared over its whole length
 // (indexes EMPTY, floats +0); after 0 each holds what the build made, then EMPTY or +0 to its end.
-ghost use Rattle.utils.specs.Plane.{at};
-ghost use Rattle.given_box.specs.Given.{bySize};
+ghost use Rattle.plane.specs.points.Plane.{at};
+ghost use Rattle.plane.specs.given.Given.{bySize};
 ghost use Rattle.mesh.specs.Accepted.{mesh};
 ghost use Rattle.admission.specs.Slices.{slices};
 ghost use Rattle.voronoi.specs.Builds.{Build, Cell, CellPart};
@@ -27,7 +27,7 @@ pub extern "C" fn voronoi_build(
         (slices (now (work .entry)) (now (vertices .entry)) (now (indexes .entry)) (now (offsets .entry)) (now (counts .entry)))
         (slices (now (work .exit)) (now (vertices .exit)) (now (indexes .exit)) (now (offsets .exit)) (now (counts .exit))) r ⌝ }
 {
-    let given = given_box::by_size(cx, cy, width, height);
+    let given = plane::given::by_size(cx, cy, width, height);
     building::build(
         given,
         sites,

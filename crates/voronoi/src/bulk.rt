@@ -18,7 +18,7 @@ pub extern "C" fn voronoi_all_neighbours(
     ensures { λ r. ⌜ AllNeighbours (mesh (now (sites .entry)) (now (triangles .entry)) (now (halfedges .entry)) (now (hull .entry)))
         (now (offsets .entry)) (now (indexes .entry)) (now (work .entry)) (now (work .exit)) (now (starts .entry)) (now (starts .exit)) (now (out .entry)) (now (out .exit)) r ⌝ }
 {
-    bulk_neighbours::all_neighbours(
+    queries::bulk_neighbours::all_neighbours(
         sites,
         triangles,
         halfedges,
@@ -46,5 +46,5 @@ pub extern "C" fn voronoi_ends(
     ensures { λ r. ⌜ EndsOfPaths (mesh (now (sites .entry)) (now (triangles .entry)) (now (halfedges .entry)) (now (hull .entry))) site (now (points .entry))
         (now (work .entry)) (now (work .exit)) (now (out .entry)) (now (out .exit)) r ⌝ }
 {
-    bulk_ends::ends(sites, triangles, halfedges, hull, site, points, work, out)
+    queries::bulk_ends::ends(sites, triangles, halfedges, hull, site, points, work, out)
 }

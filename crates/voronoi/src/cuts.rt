@@ -1,9 +1,9 @@
 // The pieces by cutting. After 1 to 6 nothing lent changes, after 7 to 11 and 25 every lent slice is cleared over its whole length (indexes EMPTY, floats +0); after 0 each holds
 // the pieces, then EMPTY or +0 to its end. `count` is how many vertices there are, 0 where it is refused.
-ghost use Rattle.utils.specs.Plane.{at};
-ghost use Rattle.given_box.specs.Given.{bySize, byEdges};
+ghost use Rattle.plane.specs.points.Plane.{at};
+ghost use Rattle.plane.specs.given.Given.{bySize, byEdges};
 ghost use Rattle.mesh.specs.Accepted.{mesh};
-ghost use Rattle.cut_admission.specs.CutSlices.{cutSlices};
+ghost use Rattle.cutting_calls.specs.cut_admission.CutSlices.{cutSlices};
 ghost use Rattle.voronoi.specs.Cuts.{Cut};
 
 // The pieces of all sites, cut by the sides of the box of the center (cx, cy), width and height.
@@ -27,8 +27,8 @@ pub extern "C" fn voronoi_cut(
         (cutSlices (now (work .entry)) (now (vertices .entry)) (now (indexes .entry)) (now (offsets .entry)))
         (cutSlices (now (work .exit)) (now (vertices .exit)) (now (indexes .exit)) (now (offsets .exit))) r (now (count .exit)) ⌝ }
 {
-    let given = given_box::by_size(cx, cy, width, height);
-    let d = cut_call::cut(
+    let given = plane::given::by_size(cx, cy, width, height);
+    let d = cutting_calls::call::cut(
         given,
         sites,
         triangles,
@@ -64,8 +64,8 @@ pub extern "C" fn voronoi_cut_by_edges(
         (cutSlices (now (work .entry)) (now (vertices .entry)) (now (indexes .entry)) (now (offsets .entry)))
         (cutSlices (now (work .exit)) (now (vertices .exit)) (now (indexes .exit)) (now (offsets .exit))) r (now (count .exit)) ⌝ }
 {
-    let given = given_box::by_edges(left, top, right, bottom);
-    let d = cut_call::cut(
+    let given = plane::given::by_edges(left, top, right, bottom);
+    let d = cutting_calls::call::cut(
         given,
         sites,
         triangles,

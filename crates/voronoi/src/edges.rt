@@ -1,10 +1,10 @@
 // The calls that take a box, with the box given by its four edges: left, top, right, bottom. The box then holds them bit for bit, so that two boxes that share an edge meet.
 // 3 for an edge that is not finite, is above 2^101 in magnitude or is out of order; all else is as in the call by center and size.
-use utils::Point;
-ghost use Rattle.utils.specs.Plane.{at};
-ghost use Rattle.given_box.specs.Given.{byEdges};
-ghost use Rattle.line_crossings.specs.Line.{lineOf};
-ghost use Rattle.crossings.specs.Ray.{rayOf};
+use plane::points::Point;
+ghost use Rattle.plane.specs.points.Plane.{at};
+ghost use Rattle.plane.specs.given.Given.{byEdges};
+ghost use Rattle.plane.specs.lines.Line.{lineOf};
+ghost use Rattle.plane.specs.rays.Ray.{rayOf};
 ghost use Rattle.mesh.specs.Accepted.{mesh};
 ghost use Rattle.admission.specs.Slices.{slices};
 ghost use Rattle.reasons.specs.Reason.{tells};
@@ -27,7 +27,7 @@ pub extern "C" fn voronoi_box_by_edges(
 ) -> u32
     ensures { λ r. ⌜ Centered (byEdges left top right bottom) r (now (cx .exit)) (now (cy .exit)) (now (across .exit)) (now (down .exit)) ⌝ }
 {
-    let given = given_box::by_edges(left, top, right, bottom);
+    let given = plane::given::by_edges(left, top, right, bottom);
     let r = plane_calls::box_center(given);
     *cx = r.x;
     *cy = r.y;
@@ -47,7 +47,7 @@ pub extern "C" fn voronoi_corners_by_edges(
 ) -> u32
     ensures { λ r. ⌜ Corners (byEdges left top right bottom) (now (out .entry)) r (now (out .exit)) ⌝ }
 {
-    let given = given_box::by_edges(left, top, right, bottom);
+    let given = plane::given::by_edges(left, top, right, bottom);
     plane_calls::corners(given, out)
 }
 
@@ -64,7 +64,7 @@ pub extern "C" fn voronoi_is_inside_by_edges(
 ) -> u32
     ensures { λ r. ⌜ Inside (byEdges left top right bottom) (at x y) r (now (inside .exit)) ⌝ }
 {
-    let given = given_box::by_edges(left, top, right, bottom);
+    let given = plane::given::by_edges(left, top, right, bottom);
     let p = Point { x: x, y: y };
     let r = plane_calls::is_inside(given, p);
     *inside = r.yes;
@@ -84,7 +84,7 @@ pub extern "C" fn voronoi_is_exclusively_inside_by_edges(
 ) -> u32
     ensures { λ r. ⌜ ExclusivelyInside (byEdges left top right bottom) (at x y) r (now (inside .exit)) ⌝ }
 {
-    let given = given_box::by_edges(left, top, right, bottom);
+    let given = plane::given::by_edges(left, top, right, bottom);
     let p = Point { x: x, y: y };
     let r = plane_calls::is_exclusively_inside(given, p);
     *inside = r.yes;
@@ -104,7 +104,7 @@ pub extern "C" fn voronoi_which_edge_by_edges(
 ) -> u32
     ensures { λ r. ⌜ WhichEdge (byEdges left top right bottom) (at x y) r (now (side .exit)) ⌝ }
 {
-    let given = given_box::by_edges(left, top, right, bottom);
+    let given = plane::given::by_edges(left, top, right, bottom);
     let p = Point { x: x, y: y };
     let r = plane_calls::which_edge(given, p);
     *side = r.side;
@@ -131,7 +131,7 @@ pub extern "C" fn voronoi_intersect_line_by_edges(
     ensures { λ r. ⌜ Meets lineOf (byEdges left top right bottom) (at px py) (at qx qy) r
         (now (count .exit)) (now (x .exit)) (now (y .exit)) (now (u .exit)) (now (v .exit)) ⌝ }
 {
-    let given = given_box::by_edges(left, top, right, bottom);
+    let given = plane::given::by_edges(left, top, right, bottom);
     let p = Point { x: px, y: py };
     let q = Point { x: qx, y: qy };
     let r = plane_calls::intersect_line(given, p, q);
@@ -163,7 +163,7 @@ pub extern "C" fn voronoi_project_ray_by_edges(
     ensures { λ r. ⌜ Meets rayOf (byEdges left top right bottom) (at px py) (at dx dy) r
         (now (count .exit)) (now (x .exit)) (now (y .exit)) (now (u .exit)) (now (v .exit)) ⌝ }
 {
-    let given = given_box::by_edges(left, top, right, bottom);
+    let given = plane::given::by_edges(left, top, right, bottom);
     let p = Point { x: px, y: py };
     let d = Point { x: dx, y: dy };
     let r = plane_calls::project_ray(given, p, d);
@@ -196,7 +196,7 @@ pub extern "C" fn voronoi_build_by_edges(
         (slices (now (work .entry)) (now (vertices .entry)) (now (indexes .entry)) (now (offsets .entry)) (now (counts .entry)))
         (slices (now (work .exit)) (now (vertices .exit)) (now (indexes .exit)) (now (offsets .exit)) (now (counts .exit))) r ⌝ }
 {
-    let given = given_box::by_edges(left, top, right, bottom);
+    let given = plane::given::by_edges(left, top, right, bottom);
     building::build(
         given,
         sites,
@@ -240,8 +240,8 @@ pub extern "C" fn voronoi_why_by_edges(
         (slices (now (work .exit)) (now (vertices .exit)) (now (indexes .exit)) (now (offsets .exit)) (now (counts .exit)))
         (tells r (now (kind .exit)) (now (place .exit)) (now (from .exit)) (now (to .exit))) ⌝ }
 {
-    let given = given_box::by_edges(left, top, right, bottom);
-    reason_call::why_call(
+    let given = plane::given::by_edges(left, top, right, bottom);
+    reasons::call::why_call(
         given,
         sites,
         triangles,
@@ -285,7 +285,7 @@ pub extern "C" fn voronoi_audit_by_edges(
     ensures { λ r. ⌜ Audit (byEdges left top right bottom) (now (sites .entry)) (now (vertices .entry)) (now (offsets .entry)) (now (indexes .entry))
         (now (starts .entry)) (now (others .entry)) bits r (now (kind .exit)) (now (site .exit)) (now (vertex .exit)) (now (other .exit)) (now (missing .exit)) ⌝ }
 {
-    let given = given_box::by_edges(left, top, right, bottom);
+    let given = plane::given::by_edges(left, top, right, bottom);
     let t = auditing::audit(
         given,
         sites,

@@ -1,6 +1,6 @@
 // The one reason why a mesh is refused, or, where it builds, why the cell of a site is empty or why a neighbour is gone. The five slices are as after a build.
-ghost use Rattle.utils.specs.Plane.{at};
-ghost use Rattle.given_box.specs.Given.{bySize};
+ghost use Rattle.plane.specs.points.Plane.{at};
+ghost use Rattle.plane.specs.given.Given.{bySize};
 ghost use Rattle.mesh.specs.Accepted.{mesh};
 ghost use Rattle.admission.specs.Slices.{slices};
 ghost use Rattle.reasons.specs.Reason.{tells};
@@ -35,8 +35,8 @@ pub extern "C" fn voronoi_why(
         (slices (now (work .exit)) (now (vertices .exit)) (now (indexes .exit)) (now (offsets .exit)) (now (counts .exit)))
         (tells r (now (kind .exit)) (now (place .exit)) (now (from .exit)) (now (to .exit))) ⌝ }
 {
-    let given = given_box::by_size(cx, cy, width, height);
-    reason_call::why_call(
+    let given = plane::given::by_size(cx, cy, width, height);
+    reasons::call::why_call(
         given,
         sites,
         triangles,

@@ -1,5 +1,5 @@
 // One edge flipped in place: triangles, half-edges and the leftmost table as they are lent.
-ghost use Rattle.flip_call.specs.Flips.{flipLists};
+ghost use Rattle.flipping.specs.call.Flips.{flipLists};
 ghost use Rattle.voronoi.specs.Flips.{Flip};
 
 // Refused, triangles, half-edges and table are unchanged; the work slice is unchanged after 1 and 2 and `EMPTY` throughout after 7 to 10 and 23.
@@ -17,7 +17,7 @@ pub extern "C" fn voronoi_flip(
         (flipLists (now (triangles .entry)) (now (halfedges .entry)) (now (table .entry)) (now (work .entry)))
         (flipLists (now (triangles .exit)) (now (halfedges .exit)) (now (table .exit)) (now (work .exit))) r ⌝ }
 {
-    flip_call::flip(
+    flipping::call::flip(
         site_count,
         triangles,
         halfedges,

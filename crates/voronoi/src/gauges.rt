@@ -6,7 +6,7 @@ ghost use Rattle.voronoi.specs.Gauges.{ReadMultipoint, WriteMultipoint};
 pub extern "C" fn voronoi_read_multipoint(file: &[u8], sites: &mut [f64], count: &mut u32) -> u32
     ensures { λ r. ⌜ ReadMultipoint (now (file .entry)) (now (sites .entry)) (now (sites .exit)) (now (count .exit)) r ⌝ }
 {
-    multipoint::read(file, sites, count)
+    wkb::multipoint::read(file, sites, count)
 }
 
 // Refused, the output is as it was; past the file it always is.
@@ -18,5 +18,5 @@ pub extern "C" fn voronoi_write_multipoint(
 ) -> u32
     ensures { λ r. ⌜ WriteMultipoint (now (sites .entry)) (now (out .entry)) (now (out .exit)) (now (written .exit)) r ⌝ }
 {
-    multipoint_writer::write(sites, out, written)
+    wkb::multipoint_writer::write(sites, out, written)
 }

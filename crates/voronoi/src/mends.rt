@@ -1,6 +1,6 @@
 // Mending a hand-edited mesh: sites and triangles are kept, pairs and hull worked out afresh, and what has changed is listed.
 ghost use Rattle.mesh.specs.Accepted.{mesh};
-ghost use Rattle.mend_slices.specs.Lent.{lent};
+ghost use Rattle.mending.specs.slices.Lent.{lent};
 ghost use Rattle.voronoi.specs.Mends.{Mend};
 
 // After 1, 2 and 6 no slice changes; after 7, 19, 9 and 10 every one is `EMPTY` throughout. The three numbers are always written, 0 when refused.

@@ -13,6 +13,6 @@ pub extern "C" fn voronoi_check(
 ) -> u32
     ensures { λ r. ⌜ Check (mesh (now (sites .entry)) (now (triangles .entry)) (now (halfedges .entry)) (now (hull .entry))) (now (work .entry)) (now (work .exit)) r ⌝ }
 {
-    let f = check_mesh::check_mesh(sites, triangles, halfedges, hull, work);
-    mesh_counts::number(f)
+    let f = mesh_check::whole::check_mesh(sites, triangles, halfedges, hull, work);
+    mesh_check::counts::number(f)
 }

@@ -6,7 +6,7 @@ use Prim.Native.Nat.{ℕ, _≤_}
 use native.Mathlib.Omega.{arith}
 use lib.ListN.{length, take}
 use lib.Seq.{take-all, length-take-le}
-use Rattle.laws.specs.laws.Decide.{lt-or-ge}
+use Rattle.base.specs.common.laws.Decide.{lt-or-ge}
 use Rattle.reasons.specs.declared.Question.{Question}
 use Rattle.reasons.specs.declared.Reason.{Reason}
 use Rattle.form.specs.Length.{form-short}

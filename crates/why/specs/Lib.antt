@@ -4,3 +4,5 @@ pub mod Steps
 pub mod One
 pub mod Enough
 pub mod laws
+pub mod site_words
+pub mod line

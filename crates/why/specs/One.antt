@@ -6,21 +6,21 @@ use Prim.Native.Nat.{ℕ}
 use native.Mathlib.Omega.{arith}
 use lib.Ieee.{Float}
 use lib.ListN.{replicate, length-replicate}
-use Rattle.laws.specs.Binary64 as B
-use Rattle.laws.specs.laws.Refusals.{finds-one}
+use Rattle.base.specs.common.Binary64 as B
+use Rattle.base.specs.common.laws.Refusals.{finds-one}
 use Rattle.mesh.specs.Accepted.{Mesh}
 use Rattle.reasons.specs.declared.Question.{Question}
 use Rattle.reasons.specs.declared.Reason.{Reason}
 use Rattle.reasons.specs.declared.Reason.the-variants.{Number}
-use Rattle.form_step.specs.Reader.{verdict, start, reading, takes, Reading}
-use Rattle.form_step.specs.Holds.{ListRoom}
-use Rattle.form_step.specs.declared.Form.{Form}
-use Rattle.form_step.specs.declared.Form.the-variants.{Sound, Broken}
+use Rattle.form.specs.step.Reader.{verdict, start, reading, takes, Reading}
+use Rattle.form.specs.step.Holds.{ListRoom}
+use Rattle.form.specs.declared.step.Form.{Form}
+use Rattle.form.specs.declared.step.Form.the-variants.{Sound, Broken}
 use Rattle.form.specs.Form.{Outline, box, unclipped, edges, FormMesh, MeshFits, MayBegin, IsForm, formOf}
 use Rattle.form.specs.laws.Longer.{same-number, place-refuses}
 use Rattle.form.specs.laws.Mesh.{WholeRead, complete}
 use Rattle.printing.specs.Printed.{meshOf}
-use Rattle.why_text.specs.ReasonLine.{reasonLine}
+use Rattle.why.specs.line.ReasonLine.{reasonLine}
 use Rattle.why.specs.Printed.{WhyByClip, FormReason, sound, broken, WhyPrints}
 use Rattle.why.specs.Steps.{WhyByForm}
 use Rattle.why.specs.laws.ReadForm.{to-read}

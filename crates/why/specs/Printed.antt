@@ -1,15 +1,15 @@
 -- What `why` prints, said of what is asked and of the bytes of its input: the line of the one reason for the mesh whose form they are, or of the reader's refusal. What its arguments ask
--- is `commandOf` (why_arguments/specs/Words). Definitions only.
+-- is `commandOf` (why/specs/site_words/Words). Definitions only.
 use mathlib.Core.Path.{_≡_}
 use mathlib.Core.Bool.{false}
 use mathlib.Core.List.{List, _++_}
 use Prim.Native.Nat.{ℕ}
-use Rattle.utils.specs.Plane.{at}
-use Rattle.given_box.specs.Given.{bySize, byEdges}
-use Rattle.given_box.specs.declared.Given.{Given}
+use Rattle.plane.specs.points.Plane.{at}
+use Rattle.plane.specs.given.Given.{bySize, byEdges}
+use Rattle.plane.specs.declared.given.Given.{Given}
 use Rattle.mesh.specs.Accepted.{Mesh, siteCount}
 use Rattle.definition.specs.Build.{build}
-use Rattle.asking.specs.Asks.{boxRules}
+use Rattle.arguments.specs.asking.Asks.{boxRules}
 use Rattle.reasons.specs.declared.Question.{Question}
 use Rattle.reasons.specs.declared.Reason.{Reason}
 use Rattle.reasons.specs.declared.Reason.the-variants.{Number}
@@ -17,7 +17,7 @@ use Rattle.reasons.specs.Rules.{questionRules, ReasonFor}
 use Rattle.form.specs.Form.{Outline, box, unclipped, edges, FormMesh, MeshFits, formOf, float}
 use Rattle.form.specs.Place.{Place, NumberAt}
 use Rattle.printing.specs.Printed.{meshOf}
-use Rattle.why_text.specs.ReasonLine.{reasonLine}
+use Rattle.why.specs.line.ReasonLine.{reasonLine}
 
 -- there is room for every form
 module _ (m : Mesh) where

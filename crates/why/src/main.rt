@@ -1,20 +1,23 @@
 // Reads a mesh's form on standard input and prints the one reason why it is refused, or what was asked of one or two sites by their numbers as
 // arguments. Other words: a line on standard error.
-use form_step::Form;
-use given_box::Given;
+pub mod line;
+pub mod site_words;
+
+use crate::site_words::Command;
+use crate::site_words::words::command_of;
+use form::step::Form;
 use libc::STDERR_FILENO;
 use libc::STDIN_FILENO;
 use libc::STDOUT_FILENO;
+use plane::given::Given;
 use reasons::Question;
 use reasons::Reason;
-use why_arguments::Command;
-use why_arguments::words::command_of;
 ghost use Prim.Native.Nat.{_≤_};
 ghost use lib.ListN.{length, take};
-ghost use Rattle.given_box.specs.Finite.{Fits};
+ghost use Rattle.plane.specs.given.Finite.{Fits};
 ghost use Rattle.mesh.specs.Accepted.{mesh};
-ghost use Rattle.form_box.specs.FormBox.{boxBy};
-ghost use Rattle.form_step.specs.Holds.{ListRoom, Few};
+ghost use Rattle.form.specs.boxes.FormBox.{boxBy};
+ghost use Rattle.form.specs.step.Holds.{ListRoom, Few};
 ghost use Rattle.why.specs.Printed.{WhyInBox, WhyPrints};
 ghost use Rattle.why.specs.Steps.{Sized, WhyByForm};
 
@@ -34,7 +37,7 @@ fn in_box(
     let mut indexes = [0u32; 3076];
     let mut offsets = [0u32; 97];
     let mut counts = [0u32; 9];
-    explaining::why(
+    reasons::explaining::why(
         given,
         sites,
         triangles,
@@ -62,7 +65,7 @@ fn of_mesh(
     requires { ⌜ Sized (length (now sites)) (length (now triangles)) (length (now hull)) ⌝ }
     ensures { λ r. ⌜ WhyInBox (mesh (now (sites .entry)) (now (triangles .entry)) (now (halfedges .entry)) (now (hull .entry))) (boxBy clip bounds) q r ⌝ }
 {
-    let given = form_box::box_of(clip, bounds);
+    let given = form::boxes::box_of(clip, bounds);
     in_box(given, sites, triangles, halfedges, hull, q)
 }
 
@@ -86,7 +89,7 @@ fn of_form(
         clip,
     } = form
     else {
-        return Reason::Number(form_step::number_of(form));
+        return Reason::Number(form::step::number_of(form));
     };
     let coordinates = 2 * n;
     let entries = 3 * t;
@@ -121,7 +124,7 @@ fn answer(bytes: &[u8], q: Question, out: &mut [u8]) -> usize
         &mut hull,
     );
     let r = of_form(form, bounds, &sites, &triangles, &halfedges, &hull, q);
-    why_text::reason_line(out, r)
+    crate::line::reason_line(out, r)
 }
 
 // Prints the reason for the form on standard input.

@@ -5,3 +5,5 @@ pub mod Promise
 pub mod ReadBack
 pub mod One
 pub mod laws
+pub mod multipoint
+pub mod multipoint_writer

@@ -4,8 +4,8 @@ use mathlib.Core.List.{List}
 use Prim.Native.Nat.{ℕ, _+_}
 use lib.ListN.{length}
 use lib.Seq.{sets}
-use Rattle.laws.specs.laws.Refusals.{finds-one}
-use Rattle.shared.specs.Cells.{cellOf}
+use Rattle.base.specs.common.laws.Refusals.{finds-one}
+use Rattle.walks.specs.shared.Cells.{cellOf}
 use Rattle.wkb.specs.Promise.{imageAfter, WkbAnswer}
 
 module _ (v off ix : List ℕ) (s : ℕ) (old : List ℕ) where

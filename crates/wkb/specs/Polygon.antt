@@ -6,7 +6,7 @@ use Prim.Native.Nat.{ℕ, _+_, _*_, _^_, _<_}
 use lib.Dec.{ltb}
 use lib.Ieee.{Float, binary64, toBits}
 use lib.ListN.{length, getD}
-use Rattle.laws.specs.Pick.{pick}
+use Rattle.base.specs.common.Pick.{pick}
 use Rattle.octets.specs.Bytes.{le, each}
 
 pub record Pt : Type 0 where

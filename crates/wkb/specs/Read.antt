@@ -5,7 +5,7 @@ use mathlib.Core.List.{List, [], _∷_}
 use Prim.Native.Nat.{ℕ, zero, suc}
 use lib.Dec.{leb, ltb, eqb}
 use lib.ListN.{length, take, drop}
-use Rattle.laws.specs.Pick.{pick}
+use Rattle.base.specs.common.Pick.{pick}
 use Rattle.octets.specs.Bytes.{word}
 use Rattle.wkb.specs.Polygon.{Pt, pt}
 

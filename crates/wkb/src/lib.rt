@@ -1,17 +1,20 @@
 // The cell of a site written as a Polygon in Well-Known Binary (OGC 06-103r4, 8.2), little-endian. The vertices come as floats or as patterns: the functions
 // inside take both lists, one after the other, of which one is empty.
-use numbers::wide;
+pub mod multipoint;
+pub mod multipoint_writer;
+
+use base::numbers::wide;
+use octets::patterns::pattern;
 use octets::put_le;
-use patterns::pattern;
 ghost use mathlib.Core.Path.{_≡_};
 ghost use mathlib.Core.List.{_++_};
 ghost use Prim.Native.Nat.{_+_, _*_, _/_, _^_, _<_, _≤_};
 ghost use lib.ListN.{length, getD};
-ghost use Rattle.laws.specs.Decide.{Says};
+ghost use Rattle.base.specs.common.Decide.{Says};
 ghost use Rattle.octets.specs.Bytes.{each};
 ghost use Rattle.octets.specs.Wrote.{Wrote};
 ghost use Rattle.wkb.specs.Polygon.{patternAt, patternsOf, pointBytes, ringBytes, closed, headBytes, patterns};
-ghost use Rattle.entries.specs.Named.{EntriesNamed};
+ghost use Rattle.arguments.specs.entries.Named.{EntriesNamed};
 ghost use Rattle.wkb.specs.Promise.{ImageFits, image, WkbAnswer, FloatAnswer, EntriesAnswer};
 
 // Number k of the floats' patterns and the bits after them.
@@ -118,11 +121,11 @@ fn write_entries(
     ensures { λ r. ⌜ EntriesAnswer (patterns (now (floats .entry)) ++ now (bits .entry)) (now (entries .entry)) (now (out .entry)) (now (out .exit)) (now (written .exit)) r ⌝ }
 {
     *written = 0;
-    if !entries::named(entries, (floats.len() + bits.len()) / 2) {
-        return numbers::REFUSED_ENTRY;
+    if !arguments::entries::named(entries, (floats.len() + bits.len()) / 2) {
+        return base::numbers::REFUSED_ENTRY;
     }
     if !has_room(entries.len(), out.len()) {
-        return numbers::REFUSED_ROOM;
+        return base::numbers::REFUSED_ROOM;
     }
     *written = put_polygon(out, floats, bits, entries);
     0
@@ -143,7 +146,7 @@ fn write_cell(
 {
     *written = 0;
     if (floats.len() + bits.len()) % 2 != 0 {
-        return numbers::REFUSED_COUNT;
+        return base::numbers::REFUSED_COUNT;
     }
     let mut number = 0;
     let entries = cell_query::cell(offsets, indexes, site, &mut number);

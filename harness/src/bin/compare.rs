@@ -1,37 +1,39 @@
-//! Puts cases to the Rust, to the rules (docs/RULES.md) read a second time and to the proved library, and tells the first difference.
+//! Puts cases to the Rust, to the rules (docs/use/RULES.md) read a second time and to the proved library, and tells the first difference.
 //!
-//!     compare [--cases N] [--mends N] [--grids N] [--flips N] [--audits N] [--forms N] [--plane N] [--roots N] [--seed S] [--from I]
+//!     compare [--cases N] [--mends N] [--grids N] [--flips N] [--audits N] [--certificates N] [--forms N] [--plane N] [--roots N] [--seed S] [--from I]
 //!     compare --case I [--seed S]      one mesh case alone, with its mesh
 //!     compare --mend I [--seed S]      one mesh to be mended alone
 //!     compare --grid I [--seed S]      one mesh on the grid alone
 //!     compare --flip I [--seed S]      one mesh alone, each half-edge flipped
 //!     compare --audit I [--seed S]     pieces to be audited alone
+//!     compare --certificate I [--seed S]   pieces to be certified alone
 //!     compare --form I [--seed S]      one form alone
 //!
 //! By default 20,000 meshes, 20,000 to be mended, 20,000 on the grid, 5,000 with each half-edge flipped, 40,000 pieces to be audited,
-//! 10,000 forms, 100,000 inputs to each plane function and 10,000 patterns of each class to the roots.
+//! 40,000 to be certified, 10,000 forms, 100,000 inputs to each plane function and 10,000 patterns of each class to the roots.
 //! The library is served by the command in VORONOI_SERVER (harness/serve.sh makes it).
 
 use harness::cases::Case;
 use harness::library::{Call, Difference, Library};
 use harness::tally::{Tally, CALLS};
 use harness::words::Words;
-use harness::{audit, compare, flip, grid, mend, plane, reader, roots, rust, text, why};
+use harness::{audit, certify, compare, flip, grid, mend, plane, reader, roots, rust, text, why};
 use std::time::{Duration, Instant};
 
-const USAGE: &str = "compare [--cases N] [--mends N] [--grids N] [--flips N] [--audits N] [--forms N] [--plane N] [--roots N] [--seed S] [--from I]
+const USAGE: &str = "compare [--cases N] [--mends N] [--grids N] [--flips N] [--audits N] [--certificates N] [--forms N] [--plane N] [--roots N] [--seed S] [--from I]
 compare --case I [--seed S]      one mesh case alone, with its mesh
 compare --mend I [--seed S]      one mesh to be mended alone
 compare --grid I [--seed S]      one mesh on the grid alone
 compare --flip I [--seed S]      one mesh alone, each half-edge flipped
 compare --audit I [--seed S]     pieces to be audited alone
+compare --certificate I [--seed S]   pieces to be certified alone
 compare --form I [--seed S]      one form alone
 By default 20,000 meshes, 20,000 to be mended, 20,000 on the grid, 5,000 with each half-edge flipped, 40,000 pieces to be audited,
-10,000 forms, 100,000 inputs to each plane function and 10,000 patterns of each class to the roots; 0 leaves a part out.";
+40,000 to be certified, 10,000 forms, 100,000 inputs to each plane function and 10,000 patterns of each class to the roots; 0 leaves a part out.";
 
 fn main() {
-    let parts = ["--cases", "--mends", "--grids", "--flips", "--audits", "--forms", "--plane", "--roots"];
-    let alone = ["--case", "--mend", "--grid", "--flip", "--audit", "--form"];
+    let parts = ["--cases", "--mends", "--grids", "--flips", "--audits", "--certificates", "--forms", "--plane", "--roots"];
+    let alone = ["--case", "--mend", "--grid", "--flip", "--audit", "--certificate", "--form"];
     let numbered = [&parts[..], &alone, &["--seed", "--from"]].concat();
     let words = Words::read(USAGE, &numbered, &[]);
     let option = |name: &str| words.number(name);
@@ -97,6 +99,16 @@ fn main() {
         return;
     }
 
+    if let Some(i) = option("--certificate") {
+        let (case, origin) = certify::Case::random(seed, i);
+        println!("{case:?}\nmust be {} {:?}", case.number(), (case.number() == 0).then(|| certify::verdict(&case.pieces)));
+        match certify::run_one(i, &case, origin, &mut library, &mut certify::Seen::default()).and_then(|()| library.flush()) {
+            Ok(()) => println!("no difference"),
+            Err(d) => stop(&d.words),
+        }
+        return;
+    }
+
     if let Some(i) = option("--form") {
         let case = reader::Case::random(seed, i);
         println!("{case:?}");
@@ -131,6 +143,10 @@ fn main() {
     let n = option("--audits").unwrap_or(40_000);
     if n > 0 {
         holes.extend(audits(seed, option("--from").unwrap_or(0), n, &mut library));
+    }
+    let n = option("--certificates").unwrap_or(40_000);
+    if n > 0 {
+        holes.extend(certificates(seed, option("--from").unwrap_or(0), n, &mut library));
     }
     let n = option("--forms").unwrap_or(10_000);
     if n > 0 {
@@ -287,6 +303,29 @@ fn audits(seed: u64, from: u64, cases: u64, library: &mut Library) -> Vec<String
     let holes = seen.report();
     let asked = library.compared - before;
     println!("\n{cases} audits, {asked} calls of the library compared, 0 differences, {:.1} s", start.elapsed().as_secs_f64());
+    holes
+}
+
+/// The limits, then pieces by cutting, of builds and rectangles, most of them changed or damaged; gives what never came up.
+fn certificates(seed: u64, from: u64, cases: u64, library: &mut Library) -> Vec<String> {
+    let mut seen = certify::Seen::default();
+    let (start, before) = (Instant::now(), library.compared);
+    for (name, case) in certify::Case::limits() {
+        let told = certify::run_one(0, &case, certify::From::Rectangles, library, &mut seen).and_then(|()| library.flush());
+        told.unwrap_or_else(|d| stop(&format!("DIFFERENCE in the certificate, \"{name}\"\n{}", d.words)));
+    }
+    let wrong =
+        |d: Difference| stop(&format!("DIFFERENCE in the certificate {0} of seed {seed} (again: compare --certificate {0} --seed {seed})\n{1}", d.case, d.words));
+    let mut progress = Progress { start, told: start };
+    for i in from..from + cases {
+        let (case, origin) = certify::Case::random(seed, i);
+        certify::run_one(i, &case, origin, library, &mut seen).unwrap_or_else(wrong);
+        progress.tell(i - from + 1, cases, library);
+    }
+    library.flush().unwrap_or_else(wrong);
+    let holes = seen.report();
+    let asked = library.compared - before;
+    println!("\n{cases} certificates, {asked} calls of the library compared, 0 differences, {:.1} s", start.elapsed().as_secs_f64());
     holes
 }
 

@@ -1,5 +1,5 @@
 //! Reads a text mesh (see src/text.rs) from the named file or standard input and prints what the Rust's release
-//! build answers, with the marks and refusals that the rules (docs/RULES.md) add beside it.
+//! build answers, with the marks and refusals that the rules (docs/use/RULES.md) add beside it.
 //!
 //!     oracle [FILE]            one mesh
 //!     oracle --check FILE..    only whether each file's `answer` lines are among what would be printed

@@ -1,4 +1,4 @@
-//! Random meshes for the planner's two programs (tests/planner), on which voronoice answers: sets of gauges with their box, and the meshes
+//! Random meshes for the planner's two programs (tests/callers/planner), on which voronoice answers: sets of gauges with their box, and the meshes
 //! that the stand-in for delaunator hands out for them. Some sets have gauges outside the box more, which both sides drop.
 //!
 //!     planner COUNT SEED FOLDER     writes FOLDER/gauges.csv and FOLDER/meshes

@@ -8,4 +8,5 @@ pub mod floats;
 pub mod meshes;
 pub mod pieces;
 pub mod rng;
+pub mod sheets;
 pub mod topology;

@@ -10,7 +10,7 @@ use crate::reference::{self, Counts, Edges};
 use crate::text::power;
 
 /// Lists put together, with their offsets.
-fn joined(lists: &[Vec<u32>]) -> (Vec<u32>, Vec<u32>) {
+pub fn joined(lists: &[Vec<u32>]) -> (Vec<u32>, Vec<u32>) {
     let (mut offsets, mut all) = (vec![0], Vec::new());
     for list in lists {
         all.extend(list);
@@ -20,7 +20,7 @@ fn joined(lists: &[Vec<u32>]) -> (Vec<u32>, Vec<u32>) {
 }
 
 /// The pieces that the second reading of the rules builds (held to the Rust by the run on meshes), and each site's neighbours, before or after clipping.
-fn built(r: &mut Rng) -> Option<Case> {
+pub fn built(r: &mut Rng) -> Option<Case> {
     let mesh = meshes::sound(r);
     let area = boxes::sound(r, &mesh);
     let given = if r.chance(1, 2) { Given::Size(area) } else { Given::Edges(edges::given(r, &area)) };
@@ -41,7 +41,7 @@ fn built(r: &mut Rng) -> Option<Case> {
 }
 
 /// Rectangles that fill their box exactly, each round the site in its middle, held against those beside it; `unit` is half a rectangle's side.
-fn rectangles(across: usize, down: usize, unit: f64) -> Case {
+pub fn rectangles(across: usize, down: usize, unit: f64) -> Case {
     let at = |x: usize, y: usize| (y * across + x) as u32;
     let (mut sites, mut cells, mut around) = (Vec::new(), Vec::new(), Vec::new());
     for (y, x) in (0..down).flat_map(|y| (0..across).map(move |x| (y, x))) {
@@ -74,7 +74,7 @@ fn broken(r: &mut Rng, offsets: &mut Vec<u32>, list: usize) {
 }
 
 /// What is done to sound pieces, one thing.
-fn damage(r: &mut Rng, c: &mut Case) {
+pub fn damage(r: &mut Rng, c: &mut Case) {
     let n = c.count();
     let (some, any) = (r.below(n.max(1)), r.below(n.max(1)));
     let inner = |c: &Case, s: usize| match (c.offsets.get(s), c.offsets.get(s + 1)) {
@@ -211,10 +211,11 @@ fn ordered(place: i64) -> f64 {
     if place < 0 { -x } else { x }
 }
 
-/// A coordinate of a corner or of a site moved to where the verdict is about to change: of two neighbouring numbers, with another kind each, one.
-fn to_an_edge(r: &mut Rng, c: &mut Case) {
+/// A coordinate of a corner or of a site moved to where the verdict is about to change: of two neighbouring numbers, with another kind each, one. `told` has the
+/// kind, `EMPTY` where it is refused; nothing is done where there are more than `most` sites.
+pub fn to_an_edge(r: &mut Rng, c: &mut Case, most: usize, told: impl Fn(&Case) -> u32) {
     c.bits %= 53;
-    if c.number() != 0 || c.entries.is_empty() || c.count() > 16 {
+    if c.number() != 0 || c.entries.is_empty() || c.count() > most {
         return;
     }
     let corner = r.chance(2, 3);
@@ -229,7 +230,7 @@ fn to_an_edge(r: &mut Rng, c: &mut Case) {
     let to = from + across * r.signed() * r.pick(&[1.0, 0.1, 4.0 * power(-(c.bits as i32))]);
     let mut kind = |x: f64| {
         place(c, x);
-        if c.number() == 0 { c.verdict().kind } else { EMPTY }
+        told(c)
     };
     let mut ends = [(order(from), kind(from)), (order(to), kind(to))];
     if ends[0].1 == ends[1].1 || ends[0].1 == EMPTY || ends[1].1 == EMPTY {
@@ -268,7 +269,7 @@ impl Case {
             damage(r, &mut c);
         }
         if r.chance(1, 6) {
-            to_an_edge(r, &mut c);
+            to_an_edge(r, &mut c, 16, |c| if c.number() == 0 { c.verdict().kind } else { EMPTY });
         }
         c
     }

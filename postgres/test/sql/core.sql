@@ -3,7 +3,7 @@ CREATE EXTENSION yelmuzard;
 SET extra_float_digits = 0;
 CREATE FUNCTION rounded(float8[]) RETURNS numeric[] LANGUAGE SQL AS 'SELECT array_agg(round(x::numeric, 9) ORDER BY k) FROM unnest($1) WITH ORDINALITY u(x, k)';
 \set unit 'box(point(0,0), point(10,10))'
--- "square" of docs/RULES.md: four pieces of 1
+-- "square" of docs/use/RULES.md: four pieces of 1
 SELECT site, round(area::numeric, 9) AS area, round(reach::numeric, 6) AS reach, length(piece) > 9 AS polygon FROM yelmuzard_pieces(
     ARRAY[point(-.5,-.5), point(-.5,.5), point(.5,.5), point(.5,-.5)], box(point(-1,-1), point(1,1))) ORDER BY site;
 -- one gauge, two, three, on a line, on a slanting line
@@ -62,9 +62,23 @@ CREATE VIEW audit AS SELECT a.* FROM (SELECT array_agg(place ORDER BY id) AS pts
     yelmuzard_audit(pts, pieces, box(point(10,0), point(20,10))) a;
 SELECT sound, fault, site, other, round(missing::numeric, 9) AS missing FROM audit;
 UPDATE stored SET piece = '\x000000000300000000' WHERE site = 1; -- big-endian, no ring
-SELECT sound, fault IS NOT NULL AS fault, round(missing::numeric, 9) AS missing FROM audit;
+SELECT sound, fault, site, other, round(missing::numeric, 9) AS missing FROM audit;
 UPDATE stored SET piece = (SELECT piece FROM stored WHERE site = 3) WHERE site = 1;
-SELECT sound, fault IS NOT NULL AS fault FROM audit;
+SELECT sound, fault, site, other FROM audit;
+-- each fault of the certificate, in its own words: pieces of two gauges whose border is x = 4
+CREATE FUNCTION rectangle(l float8, t float8, r float8, b float8) RETURNS bytea LANGUAGE SQL AS $$
+    SELECT '\x00000000030000000100000005'::bytea || float8send(l) || float8send(t) || float8send(r) || float8send(t) || float8send(r) || float8send(b) || float8send(l) || float8send(b) || float8send(l) || float8send(t) $$;
+SELECT words, sound, fault, site, other, round(missing::numeric, 9) AS missing FROM (VALUES
+    (1, 'as they are', point(6,5), ARRAY[rectangle(0,0,4,10), rectangle(4,0,10,10)]),
+    (2, 'beyond the box', point(6,5), ARRAY[rectangle(0,0,4,10), rectangle(4,0,10.5,10)]),
+    (3, 'a gap between them', point(6,5), ARRAY[rectangle(0,0,3.75,10), rectangle(4,0,10,10)]),
+    (4, 'one over the other', point(6,5), ARRAY[rectangle(0,0,4.25,10), rectangle(4,0,10,10)]),
+    (5, 'none at all', point(6,5), ARRAY[NULL, NULL]::bytea[]),
+    (6, 'everything twice', point(6,5), ARRAY[rectangle(0,0,10,10), rectangle(0,0,10,10)]),
+    (7, 'the border moved', point(6,5), ARRAY[rectangle(0,0,4.25,10), rectangle(4.25,0,10,10)]),
+    (8, 'exchanged', point(6,5), ARRAY[rectangle(4,0,10,10), rectangle(0,0,4,10)]),
+    (9, 'two gauges at one place', point(2,5), ARRAY[rectangle(0,0,10,10), NULL])) v(k, words, second, pieces),
+    yelmuzard_audit(ARRAY[point(2,5), second], pieces, :unit) ORDER BY k;
 -- what the planner and the catalogue say
 EXPLAIN (COSTS OFF) SELECT * FROM yelmuzard_pieces(ARRAY[point(2,5), point(6,5)], :unit);
 SELECT provolatile, proparallel, count(*) FROM pg_proc WHERE proname LIKE 'yelmuzard%' GROUP BY 1, 2 ORDER BY 1, 2;

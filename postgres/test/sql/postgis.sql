@@ -52,6 +52,6 @@ UPDATE piece SET geom = ST_Multi(ST_ForcePolygonCW(geom)) WHERE id % 2 = 0;
 UPDATE piece SET geom = ST_ForcePolygonCCW(geom) WHERE id % 2 = 1;
 SELECT sound FROM audit_of_pieces;
 UPDATE piece SET geom = ST_GeomFromText('POLYGON EMPTY', 32633) WHERE id = 77;
-SELECT sound, fault IS NOT NULL AS fault, missing > 1e-4 AS missing FROM audit_of_pieces;
+SELECT sound, fault, missing > 1e-4 AS missing FROM audit_of_pieces;
 UPDATE piece SET geom = (SELECT geom FROM piece WHERE id = 78) WHERE id = 77;
-SELECT sound, fault IS NOT NULL AS fault FROM audit_of_pieces;
+SELECT sound, fault FROM audit_of_pieces;

@@ -39,6 +39,7 @@ SELECT told($$SELECT yelmuzard_areas(ARRAY[[point(0,0), point(1,1)]], box(point(
 SELECT told($$SELECT yelmuzard_volume(ARRAY[point(0,0), point(1,1)], ARRAY[1], box(point(0,0), point(1,1)))$$);
 SELECT told($$SELECT yelmuzard_volume(ARRAY[point(0,0), point(1,1)], ARRAY[[1,2]], box(point(0,0), point(1,1)))$$);
 SELECT told($$SELECT * FROM yelmuzard_pieces(ARRAY[1], ARRAY[point(0,0), point(1,1)], box(point(0,0), point(1,1)))$$);
+SELECT told($$SELECT * FROM yelmuzard_pieces(ARRAY[[1,2]], ARRAY[point(0,0), point(1,1)], box(point(0,0), point(1,1)))$$);
 SELECT told($$SELECT yelmuzard_audit(ARRAY[point(0,0), point(1,1)], ARRAY['\x010300000000000000'::bytea], box(point(0,0), point(1,1)))$$);
 SELECT told($$SELECT yelmuzard_audit(ARRAY[point(0,0)], ARRAY['\x0102'::bytea], box(point(0,0), point(1,1)))$$);
 SELECT told($$SELECT yelmuzard_audit(ARRAY[point(0,0)], ARRAY['\x0101000000000000000000f03f000000000000f03f'::bytea], box(point(0,0), point(1,1)))$$);

@@ -1,4 +1,4 @@
-"""A map's answer: the gauges with their pieces, areas and shares, and what the audit says; what every output is made of."""
+"""A map's answer: the gauges with their pieces, areas and shares, and what the certificate says; what every output is made of."""
 from __future__ import annotations
 
 import dataclasses
@@ -7,8 +7,9 @@ import math
 import struct
 from typing import Optional
 
+from .. import clearance
 from ..pieces import Pieces
-from ..verdict import Verdict
+from ..verdict import Certificate
 from .boxes import Box
 from .gauges import Gauges
 
@@ -47,10 +48,11 @@ class Answer:
         return abs(math.fsum(self.areas) / self.box_area - 1) <= SHORT
 
 
-def of(gauges: Gauges, pieces: Pieces, verdict: Verdict, unit: str, crs: str) -> Answer:
+def of(gauges: Gauges, pieces: Pieces, verdict: Certificate, unit: str, crs: str) -> Answer:
     wkb = pieces.polygons()
     rings = [[(x, y) for x, y in pieces.corners(k).tolist()] for k in range(len(pieces))]
-    return Answer(gauges, pieces.box, rings, pieces.areas.tolist(), wkb, str(verdict), verdict.sound, unit, crs)
+    said = f"certified to {clearance.words(verdict.apart, unit)}" if verdict.sound else verdict.told(gauges.called, unit)
+    return Answer(gauges, pieces.box, rings, pieces.areas.tolist(), wkb, said, verdict.sound, unit, crs)
 
 
 def ring_of(image: bytes) -> Ring:

@@ -1,13 +1,15 @@
 """The pieces of a list of gauges, and what is said of them; a refusal names the gauge by its id, its name and its line."""
 from __future__ import annotations
 
+import math
 from typing import Optional
 
+from .. import rooms
 from ..mesh import Mesh
 from ..pieces import Pieces, pieces
 from ..qhull import MissingScipy
 from ..refusal import Refusal
-from ..verdict import Verdict
+from ..verdict import Certificate
 from .boxes import Box
 from .gauges import Gauges
 from .told import FAILED, Told
@@ -15,7 +17,7 @@ from .told import FAILED, Told
 HELP = {1: "at most 65,472 gauges are taken, and without cutting 3 at least",
         13: "a corner of a piece lies on a side of the box: make the box larger by an odd fraction, such as .375, or leave --as-voronoice out",
         14: "make the box smaller, or larger by an odd fraction, such as .375, or leave --as-voronoice out",
-        25: "the mesh is no mesh of the plane that turns as it must (docs/RULES.md, \"Terms\", says how to turn one)",
+        25: "the mesh is no mesh of the plane that turns as it must (docs/use/RULES.md, \"Terms\", says how to turn one)",
         105: "leave one of them out"}
 
 
@@ -29,40 +31,44 @@ def told(refusal: Refusal, gauges: Gauges) -> Told:
             where = where.replace(f"gauge {place.gauge} at", f"{gauges.called(place.gauge)}, at")
     helps = HELP.get(refusal.number)
     return Told(f"refused {refusal.number}: {refusal.words}{where}" + (f": {helps}" if helps else "")
-                + (f" (docs/RULES.md, rule {refusal.number}, says what to do)" if refusal.number < 100 else ""))
+                + (f" (docs/use/RULES.md, rule {refusal.number}, says what to do)" if refusal.number < 100 else ""))
 
 
 def made(gauges: Gauges, box: Box, way: Optional[str] = None, mesh: Optional[Mesh] = None) -> Pieces:
-    """The pieces, or why there are none."""
+    """The pieces, or why there are none. Those of a build have their corners joined: what is joined is what is certified and printed."""
     try:
-        return pieces(gauges.points, box, mesh, way)
+        return joined(pieces(gauges.points, box, mesh, way))
     except Refusal as refusal:
         raise told(refusal, gauges) from None
     except MissingScipy as missing:
         raise Told(str(missing), FAILED) from None
 
 
-def audited(found: Pieces, gauges: Gauges, bits: int = 20, against_all: bool = False) -> tuple[Verdict, list[str]]:
-    """The audit's verdict, and the lines that are said of the whole."""
+def joined(found: Pieces) -> Pieces:
+    return found.joined() if found.way == "voronoice" else found
+
+
+def bits_of(found: Pieces) -> int:
+    """The certificate's bits, where none are asked for: pieces of a build were joined."""
+    return rooms.JOINED_BITS if found.way == "voronoice" else rooms.CERTIFY_BITS
+
+
+def certified(found: Pieces, gauges: Gauges, unit: str, bits: Optional[int] = None) -> tuple[Certificate, list[str]]:
+    """The certificate, and the lines that are said of the whole."""
     try:
-        verdict = found.audit(bits, against_all)
+        verdict = found.certify(bits_of(found) if bits is None else bits)
     except Refusal as refusal:
         raise told(refusal, gauges) from None
     empty = int(((found.offsets[1:] - found.offsets[:-1]) < 3).sum())
-    # by cutting nothing is missing by theorem (docs/PUBLIC.md, voronoi_cut); the audit's exact sum says it too, and sees that no ghost has a piece
-    lost = f"; {found.lost} of its corners lost" if found.lost is not None else ", by proof" if verdict.missing == 0 else ""
-    lines = [f"{len(found):,} gauges; {verdict.missing:.3g} of the box is missing{lost}; {empty:,} pieces empty"]
+    # of certified pieces the exact areas add up to exactly the box's (docs/trust/PUBLIC.md, voronoi_certify)
+    missing = "0 of the box is missing, by proof" if verdict.sound else f"{1 - math.fsum(found.areas) / found.box_area:.3g} of the box is missing"
+    lost = f"; {found.lost} of its corners lost" if found.lost is not None else ""
+    lines = [f"{len(found):,} gauges; {missing}{lost}; {empty:,} pieces empty"]
     if verdict.sound:
-        lines.append(f"sound to 2^-{bits}: no corner of a piece is outside the box or nearer to {'another gauge' if against_all else 'a neighbour'}, "
-                     "and the pieces add up to the box")
-        return verdict, lines
-    fault = str(verdict)
-    for number in (verdict.gauge, verdict.other):
-        if number is not None and number < len(gauges):
-            fault = fault.replace(f"gauge {number}", gauges.called(number), 1)
+        return verdict, lines + [verdict.told(gauges.called, unit)]
     if found.lost:
         lines.append("perhaps a side of a piece runs into a corner of the box: make the box larger by an odd fraction, such as .375")
-    return verdict, lines + [f"FAULT: {fault}"]
+    return verdict, lines + [f"FAULT: {verdict.told(gauges.called, unit)}"]
 
 
 def turned(mesh: Mesh) -> str:
@@ -76,4 +82,4 @@ def turned(mesh: Mesh) -> str:
     if number or not wrong:
         return ""
     return (f"{len(wrong):,} of {len(areas):,} triangles turn the wrong way, or are flat; the lowest is triangle {wrong[0]} "
-            "(docs/RULES.md, \"Terms\", says how to turn a mesh)")
+            "(docs/use/RULES.md, \"Terms\", says how to turn a mesh)")

@@ -1,4 +1,4 @@
-"""The mesh as a form (docs/RULES.md, "The form"), of any length: turned into the text that it says the same as."""
+"""The mesh as a form (docs/use/RULES.md, "The form"), of any length: turned into the text that it says the same as."""
 from __future__ import annotations
 
 import struct
@@ -27,7 +27,7 @@ def text_of(name: str, data: bytes) -> str:
             at += 1
             break
         if kind == 6:
-            raise Told("refused 20: the form has no box: the unclipped mode is gone (docs/RULES.md, rule 20, says what to do)")
+            raise Told("refused 20: the form has no box: the unclipped mode is gone (docs/use/RULES.md, rule 20, says what to do)")
         if kind not in BODY or (kind < last or kind in (1, 7) if last else kind not in (1, 7)):
             break
         size = struct.calcsize(BODY[kind])
@@ -38,4 +38,4 @@ def text_of(name: str, data: bytes) -> str:
         lines.append(WORD[kind] + " " + " ".join("E" if n == EMPTY else repr(n) for n in numbers))
         last = 1 if kind == 7 else kind
         at += 1 + size
-    raise Told(f"{name}: the form is broken at byte {at}: refused 17 (docs/RULES.md, rule 17, says what to do)")
+    raise Told(f"{name}: the form is broken at byte {at}: refused 17 (docs/use/RULES.md, rule 17, says what to do)")

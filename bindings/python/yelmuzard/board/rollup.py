@@ -1,4 +1,4 @@
-"""The rollup: for each day and box the readings times the pieces, and whether the day is whole.
+"""The rollup: for each day and box the readings times the pieces, each certified, and whether the day is whole.
 
 By default the pieces of a day are those of the gauges that reported: one mesh for each set of gauges, kept. With `fixed` they are those of all gauges, and
 what a silent gauge's piece would have had is missing from the total: the share says how much. A total is the exact sum of the exact products of readings and areas,
@@ -70,6 +70,7 @@ class Sheets:
     def __init__(self, gauges: Gauges, boxes: list[tuple[str, Box]], way: Optional[str]) -> None:
         self.gauges, self.boxes, self.way = gauges, boxes, way or default_way()
         self.kept: dict[bytes, list[Areas]] = {}
+        self.apart = 0.0  # of all certificates the largest length
 
     def areas(self, reported: numpy.ndarray) -> list[Areas]:
         """For each box the area of each gauge's piece (0 of those that did not report), None where they are refused; and a fault in words."""
@@ -87,14 +88,15 @@ class Sheets:
         for _, box in self.boxes:
             try:
                 mesh = mesh or mesh_of(some.points, self.extent(), ghosts=self.way == "cut")
-                found = pieces(some.points, box, mesh, self.way)
+                found = making.joined(pieces(some.points, box, mesh, self.way))
             except Refusal as refusal:
                 out.append((None, str(making.told(refusal, some))))
                 continue
-            verdict = found.audit()
+            verdict = found.certify(making.bits_of(found))
+            self.apart = max(self.apart, verdict.apart)
             areas = numpy.zeros(len(self.gauges))
             areas[which] = found.areas
-            out.append((areas, "" if verdict.sound else f"fault: {verdict}"))
+            out.append((areas, "" if verdict.sound else f"fault: {verdict.told(some.called)}"))
         return out
 
     def extent(self) -> Box:
@@ -103,9 +105,9 @@ class Sheets:
         return (*edges[:, :2].min(0).tolist(), *edges[:, 2:].max(0).tolist())  # type: ignore[return-value]
 
 
-def rows(readings: Readings, boxes: list[tuple[str, Box]], fixed: bool = False, way: Optional[str] = None) -> list[Row]:
+def rows(readings: Readings, sheets: Sheets, fixed: bool = False) -> list[Row]:
     """A row for each day and box."""
-    sheets = Sheets(readings.gauges, boxes, way)
+    boxes = sheets.boxes
     everyone = numpy.ones(len(readings.gauges), bool)
     days = calendar(list(readings.days))
     progress = Progress("the rollup", len(days))

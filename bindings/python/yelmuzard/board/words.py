@@ -8,6 +8,7 @@ import re
 from typing import Callable, Optional
 
 from ..library import MissingLibrary
+from ..verdict import certified
 from ..version import VERSION
 from . import answer as answers, boxes, files, gauges as lists, making, meshtext, outputs, picture, plot, readings, rollup, table, tables, values
 from .boxes import Box
@@ -16,6 +17,7 @@ from .told import DONE, FAILED, FAULT, REFUSED, Told, counted, say, some
 
 Parser = argparse.ArgumentParser
 MOST_TWINS = 5
+AS_VORONOICE = "the build that equals voronoice's, which refuses what that panics on; its corners are joined where they are within 2^-30 of the box's reach"
 
 
 def fewer(words: list[str]) -> list[str]:
@@ -78,7 +80,7 @@ def map_words(parser: Parser) -> None:
     parser.add_argument("--values", metavar="FILE.csv", help="colour the pieces by a reading of each gauge: columns gauge and mm, and day where there are several")
     parser.add_argument("--value", metavar="COLUMN", help="the column of --values, or a column of the list itself")
     parser.add_argument("--day", metavar="DAY", help="the day of --values")
-    parser.add_argument("--as-voronoice", action="store_true", help="the build that equals voronoice's bit for bit, which refuses what that panics on")
+    parser.add_argument("--as-voronoice", action="store_true", help=AS_VORONOICE)
 
 
 def map_(given: argparse.Namespace) -> int:
@@ -90,7 +92,7 @@ def map_(given: argparse.Namespace) -> int:
     told_of(gauges, box, given.unit)
     column = values.wanted(gauges, given.values, given.value, given.day)
     found = making.made(gauges, box, "voronoice" if given.as_voronoice else None)
-    verdict, lines = making.audited(found, gauges)
+    verdict, lines = making.certified(found, gauges, given.unit)
     answer = answers.of(gauges, found, verdict, given.unit, given.crs)
     if column:
         answer.value_name, answer.values = column
@@ -115,7 +117,7 @@ def rollup_words(parser: Parser) -> None:
     parser.add_argument("--plot", metavar="ROLLUP.svg", help="the daily means as bars, days that are not whole in red")
     parser.add_argument("--title", default="", help="of the plot")
     parser.add_argument("--unit", default="m", help="of the coordinates: m (unless it is given), km ..")
-    parser.add_argument("--as-voronoice", action="store_true", help="the build that equals voronoice's bit for bit")
+    parser.add_argument("--as-voronoice", action="store_true", help=AS_VORONOICE)
 
 
 def rollup_(given: argparse.Namespace) -> int:
@@ -131,10 +133,13 @@ def rollup_(given: argparse.Namespace) -> int:
     say(lists.where(gauges, extent))
     read = readings.read(given.readings, gauges, given.day, given.value, given.gauge)
     read.say()
-    found = rollup.rows(read, sheets, given.fixed, "voronoice" if given.as_voronoice else None)
+    made = rollup.Sheets(gauges, sheets, "voronoice" if given.as_voronoice else None)
+    found = rollup.rows(read, made, given.fixed)
     if given.plot:
         files.write(given.plot, plot.draw(found, given.title))
     files.write(given.output, rollup.csv_of(found, bool(given.boxes)))
+    if made.apart and not any(row.verdict.startswith("fault") for row in found):
+        say(certified(made.apart, given.unit))
     return concluded(read, found, given.fixed)
 
 
@@ -187,18 +192,17 @@ def gauges_(given: argparse.Namespace) -> int:
 
 def pieces_words(parser: Parser) -> None:
     parser.add_argument("file", metavar="MESH", help="a mesh as a text or as a form; - is standard input")
-    parser.add_argument("--bits", type=int, default=20, metavar="N", help="the audit's tolerance is 2^-N, N from 0 to 52")
-    parser.add_argument("--all", action="store_true", help="each piece is held against all gauges, not only its neighbours")
-    parser.add_argument("--as-voronoice", action="store_true", help="the build that equals voronoice's bit for bit")
+    parser.add_argument("--bits", type=int, metavar="N", help="the certificate's tolerance is 2^-N of the box's reach, N from 0 to 52 (32; with --as-voronoice 28)")
+    parser.add_argument("--as-voronoice", action="store_true", help=AS_VORONOICE)
     parser.add_argument("-o", "--output", default="-", metavar="PIECES.csv", help="standard output, unless it is given")
 
 
 def pieces_(given: argparse.Namespace) -> int:
-    if not 0 <= given.bits <= 52:
+    if given.bits is not None and not 0 <= given.bits <= 52:
         raise Told("--bits is a whole number from 0 to 52", FAILED)
     gauges, box, mesh = meshtext.read(given.file, files.read(given.file))
     found = making.made(gauges, box, "voronoice" if given.as_voronoice else None, mesh)
-    verdict, lines = making.audited(found, gauges, given.bits, given.all)
+    verdict, lines = making.certified(found, gauges, "", given.bits)
     files.write(given.output, tables.csv_of(answers.of(gauges, found, verdict, "", "")))
     wrong = making.turned(mesh)
     for words in lines[:1] + ([wrong] if wrong else []) + lines[1:]:
@@ -268,12 +272,12 @@ def area_of(ring: answers.Ring) -> float:
 STATUS = "Status: 0 done; 1 refused, with its reason; 2 unknown words, something missing, or reading or writing failed; 3 a fault."
 WORDS: dict[str, tuple[Callable[[Parser], None], Callable[[argparse.Namespace], int], str]] = {
     "map": (map_words, map_, "From a list of gauges to a map: the piece of the box that lies nearest to each gauge, as a GeoPackage, a picture, a table or GeoJSON. "
-            "On standard error the box, gauges outside it, probable twins, and the audit's verdict."),
+            "On standard error the box, gauges outside it, probable twins, and the certificate."),
     "rollup": (rollup_words, rollup_, "From readings to a rollup: for each day the total (mm times area), the mean over the box, the gauges that reported, the share of the box that "
                "had a reading, and whether the day is whole. Silent gauges: the pieces of a day are those of the gauges that reported. Status 3 where a day is not whole, or a "
                "reading was told and did not count."),
     "gauges": (gauges_words, gauges_, "From a list of gauges to a mesh text, which pieces, picture and tools/mesh read."),
-    "pieces": (pieces_words, pieces_, "The pieces of a mesh text with their areas: id,name,x,y,area,share,geometry, and on standard error the audit's verdict."),
+    "pieces": (pieces_words, pieces_, "The pieces of a mesh text with their areas: id,name,x,y,area,share,geometry, and on standard error the certificate."),
     "picture": (picture_words, picture_, "A picture of what pieces (or ./yelmuzard export) printed and the mesh text that it was made of."),
 }
 

@@ -1,7 +1,7 @@
 -- Each answer follows the tests that led to it.
 use borrow.Author.Tests.{not-true, not-false}
-use Rattle.laws.specs.laws.Decide.{granted, refused, first-all}
-use Rattle.laws.specs.laws.Refusals.{breaks, offends, keeps, all-keep, nothing}
+use Rattle.base.specs.common.laws.Decide.{granted, refused, first-all}
+use Rattle.base.specs.common.laws.Refusals.{breaks, offends, keeps, all-keep, nothing}
 use mathlib.Core.Path.{sym, _∙_}
 use mathlib.Core.Bool.{false≢true}
 use borrow.Author.Needs.{needs}

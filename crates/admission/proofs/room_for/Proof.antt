@@ -1,7 +1,7 @@
 -- `admission::room_for` meets its contract: each test settles it, or hands on to the next.
 use borrow.Author.Needs.{needs}
 use native.Mathlib.Omega.{arith}
-use Rattle.laws.specs.laws.Decide.{refused, granted}
+use Rattle.base.specs.common.laws.Decide.{refused, granted}
 use Rattle.admission.specs.laws.BuildRoom.{no-counts, no-table, no-nine, by-outputs}
 use Rattle.admission.proofs.room_for.Statement.{statement}
 use Rattle.admission.proofs.room_for.Tie as tie

@@ -7,15 +7,15 @@ use Prim.Native.Nat.{ℕ, _≤_, _<_}
 use native.Mathlib.Omega.{arith}
 use lib.ListN.{length}
 use borrow.Author.Needs.{needs}
-use Rattle.laws.specs.Refusals.{Rule, once, each, reads, Keep, Finds}
-use Rattle.laws.specs.laws.Refusals.{finds-one, finds-none, finds-keep, finds-answers, finds-instead, finds-own, keeps, breaks}
-use Rattle.laws.specs.laws.Decide.{eq-or-ne}
-use Rattle.numbers.specs.Numbers.{refusedCount, refusedRoom, refusedTriangle, refusedFan}
+use Rattle.base.specs.common.Refusals.{Rule, once, each, reads, Keep, Finds}
+use Rattle.base.specs.common.laws.Refusals.{finds-one, finds-none, finds-keep, finds-answers, finds-instead, finds-own, keeps, breaks}
+use Rattle.base.specs.common.laws.Decide.{eq-or-ne}
+use Rattle.base.specs.numbers.Numbers.{refusedCount, refusedRoom, refusedTriangle, refusedFan}
 use Rattle.mesh.specs.Faults.{numberOf, coordinateRules, topologyRules}
 use Rattle.mesh.specs.Rules.{callRules}
 use Rattle.mesh.specs.Accepted.{Mesh, Counted, siteCount}
 use Rattle.mesh.specs.laws.Verdicts.{accepted-keep, keep-accepted}
-use Rattle.asking.specs.laws.Asks.{NoneZero}
+use Rattle.arguments.specs.asking.laws.Asks.{NoneZero}
 use Rattle.admission.specs.Admits.{askedRules, Admits, Admitted}
 
 pub finds-asked : (asked : ℕ) → Finds (askedRules asked) 0 asked

@@ -7,10 +7,10 @@ use native.Mathlib.Nat.{sub-zero}
 use lib.Ieee.{Float}
 use lib.ListN.{length, replicate}
 use borrow.Author.Tests.{lt-ltb, le-ltb}
-use Rattle.laws.specs.Binary64.{zero}
-use Rattle.numbers.specs.Numbers.{EMPTY, refusedTriangle}
+use Rattle.base.specs.common.Binary64.{zero}
+use Rattle.base.specs.numbers.Numbers.{EMPTY, refusedTriangle}
 use Rattle.mesh.specs.Accepted.{Mesh}
-use Rattle.layout.specs.Cleared.{padded}
+use Rattle.cell_memory.specs.layout.Cleared.{padded}
 use Rattle.admission.specs.Slices.{slices, roomOf}
 use Rattle.admission.specs.Admission.{Admission, RoomAnswer, BuildAdmission}
 use Rattle.admission.specs.laws.Admits.{admits-room}

@@ -4,10 +4,10 @@ use mathlib.Core.Bool.{Bool, true, false, _&&_, false≢true}
 use Prim.Native.Nat.{ℕ, _+_, _*_, _/_, _≤_, _<_}
 use lib.Dec.{leb, ltb}
 use borrow.Author.Tests.{leb-true, ltb-true, le-leb, lt-leb, lt-ltb}
-use Rattle.laws.specs.laws.And.{and-left, and-right}
-use Rattle.laws.specs.Decide.{Says}
+use Rattle.base.specs.common.laws.And.{and-left, and-right}
+use Rattle.base.specs.common.Decide.{Says}
 use Rattle.mesh.specs.Accepted.{Counted}
-use Rattle.outputs.specs.Outputs.{Rooms}
+use Rattle.cell_memory.specs.outputs.Outputs.{Rooms}
 use Rattle.admission.specs.Slices.{roomFor}
 use Rattle.admission.specs.Admission.{RoomAnswer}
 

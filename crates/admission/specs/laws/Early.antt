@@ -8,15 +8,15 @@ use native.Mathlib.Omega.{arith}
 use lib.Ieee.{Float}
 use lib.ListN.{length}
 use borrow.Author.Needs.{needs}
-use Rattle.laws.specs.Refusals.{reads, Keep}
-use Rattle.laws.specs.laws.Refusals.{finds-keep, finds-answers, finds-first, finds-after, finds-reads}
+use Rattle.base.specs.common.Refusals.{reads, Keep}
+use Rattle.base.specs.common.laws.Refusals.{finds-keep, finds-answers, finds-first, finds-after, finds-reads}
 use Rattle.mesh.specs.declared.MeshFault.{MeshFault}
 use Rattle.mesh.specs.Faults.{numberOf, topologyRules}
 use Rattle.mesh.specs.Accepted.{Mesh, siteCount}
 use Rattle.mesh.specs.Mesh.{leftmostIn}
-use Rattle.check_mesh.specs.Answers.{TopologyAnswer, workAfter}
-use Rattle.check_mesh.specs.laws.AtExit.{exit-held}
-use Rattle.numbers.specs.Numbers.{EMPTY, refusedTriangle}
+use Rattle.mesh_check.specs.whole.Answers.{TopologyAnswer, workAfter}
+use Rattle.mesh_check.specs.whole.laws.AtExit.{exit-held}
+use Rattle.base.specs.numbers.Numbers.{EMPTY, refusedTriangle}
 use Rattle.admission.specs.Admits.{earlyRules, Early}
 use Rattle.admission.specs.Admission.{Admission}
 

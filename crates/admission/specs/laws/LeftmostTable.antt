@@ -5,7 +5,7 @@ use Prim.Native.Nat.{ℕ, _-_, _≤_, _<_}
 use native.Mathlib.Omega.{arith}
 use lib.ListN.{length, getD, take, replicate, length-append, length-replicate, List·getD-append}
 use lib.Seq.{take-at}
-use Rattle.numbers.specs.Numbers.{EMPTY}
+use Rattle.base.specs.numbers.Numbers.{EMPTY}
 use Rattle.mesh.specs.Mesh.{leftmostOf, leftmostIn}
 use Rattle.mesh.specs.Accepted.{Topology}
 use Rattle.mesh.specs.laws.Facts.{tab-length}

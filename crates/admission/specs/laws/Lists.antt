@@ -4,7 +4,7 @@ use mathlib.Core.List.{List}
 use Prim.Native.Nat.{ℕ, _≤_, _<_}
 use lib.ListN.{length, replicate}
 use borrow.Author.Tests.{lt-ltb, le-ltb}
-use Rattle.numbers.specs.Numbers.{EMPTY, refusedTriangle}
+use Rattle.base.specs.numbers.Numbers.{EMPTY, refusedTriangle}
 use Rattle.mesh.specs.Accepted.{Mesh}
 use Rattle.admission.specs.Admission.{Admission, roomyOf, ListAdmission}
 

@@ -1,7 +1,7 @@
 -- `all_wkb::ask` meets its contract: the cells, then 2 twice.
 use native.Mathlib.Omega.{arith}
 use borrow.Author.Needs.{needs}
-use Rattle.laws.specs.laws.Decide.{granted, refused}
+use Rattle.base.specs.common.laws.Decide.{granted, refused}
 use Rattle.all_wkb.specs.laws.Answers.{cells-given, bad-cells, no-starts, no-room, has-room}
 use Rattle.all_wkb.proofs.ask.Statement.{statement}
 use Rattle.all_wkb.proofs.ask.Tie as tie

@@ -7,8 +7,8 @@ use native.Mathlib.Omega.{arith}
 use lib.ListN.{length}
 use lib.Seq.{length-take-le}
 use borrow.Author.Needs.{needs}
-use Rattle.asking.specs.Asks.{CellsOf}
-use Rattle.laws.specs.laws.Decide.{granted, refused}
+use Rattle.arguments.specs.asking.Asks.{CellsOf}
+use Rattle.base.specs.common.laws.Decide.{granted, refused}
 use Rattle.all_wkb.specs.laws.Answers.{entries-used, entries-meant, odd-list, many-entries, not-cut, not-named, all-named}
 use Rattle.all_wkb.proofs.ask_cells.Statement.{statement}
 use Rattle.all_wkb.proofs.ask_cells.Tie as tie

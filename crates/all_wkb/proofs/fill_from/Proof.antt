@@ -3,7 +3,7 @@ use Prim.Native.Nat.{_-_}
 use native.Mathlib.Omega.{arith}
 use lib.ListN.{length}
 use borrow.Author.Needs.{needs}
-use Rattle.layout.specs.laws.Overwritten.{Clearing, clearing-start, clearing-step, clearing-end}
+use Rattle.cell_memory.specs.layout.laws.Overwritten.{Clearing, clearing-start, clearing-step, clearing-end}
 use Rattle.all_wkb.proofs.fill_from.Statement.{statement}
 use Rattle.all_wkb.proofs.fill_from.Tie as tie
 

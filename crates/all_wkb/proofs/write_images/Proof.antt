@@ -5,7 +5,7 @@ use native.Mathlib.Omega.{arith}
 use lib.ListN.{length, length-set}
 use denote.Ref.{now}
 use borrow.Author.Needs.{needs}
-use Rattle.neighbour_lists.specs.laws.Writes.{WritingLists, writing-start, next-fits, writing-step, writing-end}
+use Rattle.queries.specs.all_neighbours.laws.Writes.{WritingLists, writing-start, next-fits, writing-step, writing-end}
 use Rattle.all_wkb.specs.Promise.{imageAt}
 use Rattle.all_wkb.proofs.write_images.Statement.{statement}
 use Rattle.all_wkb.proofs.write_images.Tie as tie

@@ -8,11 +8,11 @@ use lib.Ieee.{Float}
 use lib.ListN.{length, getD, take}
 use borrow.Author.Needs.{needs}
 use borrow.Author.Tests.{ne-eqb}
-use Rattle.laws.specs.Count.{sumTo}
-use Rattle.laws.specs.laws.Refusals.{breaks, keeps, nothing, finds-first, finds-after, finds-keep}
-use Rattle.numbers.specs.Numbers.{refusedCount, refusedEntry, refusedOffsets, refusedRoom}
-use Rattle.asking.specs.Asks.{CellsOf}
-use Rattle.entries.specs.Named.{EntriesNamed}
+use Rattle.base.specs.common.Count.{sumTo}
+use Rattle.base.specs.common.laws.Refusals.{breaks, keeps, nothing, finds-first, finds-after, finds-keep}
+use Rattle.base.specs.numbers.Numbers.{refusedCount, refusedEntry, refusedOffsets, refusedRoom}
+use Rattle.arguments.specs.asking.Asks.{CellsOf}
+use Rattle.arguments.specs.entries.Named.{EntriesNamed}
 use Rattle.octets.specs.laws.Wrote.{wrote-none}
 use Rattle.areas.specs.Promise.{entriesOfAll}
 use Rattle.all_wkb.specs.Promise.{ringsRules, roomRules, startsAfter, imagesAfter, CellsNumber, AllNumber, AllWkbAnswer}

@@ -6,10 +6,10 @@ use native.Mathlib.Numerals.{add-one}
 use native.Mathlib.Omega.{arith}
 use lib.Ieee.{Float}
 use lib.ListN.{length, length-map, length-take, length-drop, getD, drop}
-use Rattle.laws.specs.Count.{sumTo}
-use Rattle.laws.specs.laws.Count.{sum-mono}
-use Rattle.shared.specs.Cells.{cellOf}
-use Rattle.neighbour_lists.specs.laws.Lists.{endOfLists, end-sum}
+use Rattle.base.specs.common.Count.{sumTo}
+use Rattle.base.specs.common.laws.Count.{sum-mono}
+use Rattle.walks.specs.shared.Cells.{cellOf}
+use Rattle.queries.specs.all_neighbours.laws.Lists.{endOfLists, end-sum}
 use Rattle.wkb.specs.Polygon.{patternAt, patternsOf, patterns, size}
 use Rattle.wkb.specs.Promise.{ImageFits}
 use Rattle.wkb.specs.ReadBack.{length-polygon}

@@ -7,14 +7,14 @@ use lib.Ieee.{Float}
 use lib.ListN.{length, take, drop, replicate, length-drop, drop-of-length-le}
 use lib.Seq.{sets, sets-eq, length-sets, length-take-le, take-all, take-at, drop-drop}
 use borrow.Rule.Slice.PartMut.{midOf, putMid}
-use Rattle.laws.specs.laws.Stores.{sets-all}
-use Rattle.shared.specs.Cells.{cellOf}
-use Rattle.entries.specs.Named.{EntriesNamed}
+use Rattle.base.specs.common.laws.Stores.{sets-all}
+use Rattle.walks.specs.shared.Cells.{cellOf}
+use Rattle.arguments.specs.entries.Named.{EntriesNamed}
 use Rattle.octets.specs.Wrote.{Wrote}
-use Rattle.layout.specs.Regions.{offsetsFrom}
-use Rattle.layout.specs.Cleared.{clearedFrom, padded}
-use Rattle.neighbour_lists.specs.Steps.{Appended, WrittenLists}
-use Rattle.neighbour_lists.specs.laws.Lists.{cuts-length}
+use Rattle.cell_memory.specs.layout.Regions.{offsetsFrom}
+use Rattle.cell_memory.specs.layout.Cleared.{clearedFrom, padded}
+use Rattle.queries.specs.all_neighbours.Steps.{Appended, WrittenLists}
+use Rattle.queries.specs.all_neighbours.laws.Lists.{cuts-length}
 use Rattle.areas.specs.Promise.{entriesOfAll}
 use Rattle.areas.specs.laws.Entries.{cell-named}
 use Rattle.wkb.specs.Polygon.{patterns}

@@ -10,10 +10,10 @@ use lib.Dec.{lit<}
 use lib.Ieee.{nearest}
 use lib.Ieee.Nearest.{closest, nearest-ge}
 use lib.Pow.{pow-add}
-use Rattle.laws.specs.laws.Decide.{lt-or-ge}
-use Rattle.rounding.specs.Half.{Cmp, cmp}
+use Rattle.base.specs.common.laws.Decide.{lt-or-ge}
+use Rattle.ring_area.specs.half.Half.{Cmp, cmp}
 
--- ---- n units of 2 ^ -2149 against half of the smallest value, 2 ^ 1074 of them; a pattern without its sign is 0 for 0 only (`round-pattern` of crate long_round)
+-- ---- n units of 2 ^ -2149 against half of the smallest value, 2 ^ 1074 of them; a pattern without its sign is 0 for 0 only (`round-pattern` of ring_area::rounded)
 -- the nearest whole number below a half, at a half, above it
 pub down : (n b : ℕ) → n < b → n * 2 ≤ b → closest n b ≡ 0
 down n b l h =

@@ -6,7 +6,7 @@ use Prim.Native.Nat.{ℕ, _+_, _*_}
 use native.Mathlib.Nat.{add-assoc, mul-comm}
 use lib.Ieee.{Float, unlike}
 use Rattle.root.specs.Root.{units}
-use Rattle.utils.specs.declared.Point.{Point}
+use Rattle.plane.specs.declared.points.Point.{Point}
 use Rattle.ring_area.specs.Area.{below, productAbove, productUnder, gain, loss, gains, losses}
 
 -- ---- one side there and back

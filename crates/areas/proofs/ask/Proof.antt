@@ -7,8 +7,8 @@ use native.Mathlib.Omega.{arith}
 use lib.ListN.{length}
 use lib.Seq.{length-take-le}
 use borrow.Author.Needs.{needs}
-use Rattle.asking.specs.Asks.{CellsOf}
-use Rattle.laws.specs.laws.Decide.{granted, refused}
+use Rattle.arguments.specs.asking.Asks.{CellsOf}
+use Rattle.base.specs.common.laws.Decide.{granted, refused}
 use Rattle.areas.specs.Promise.{entriesOfAll, EntriesNumber}
 use Rattle.areas.specs.laws.Answers.{entries-used, odd-list, many-entries, not-cut, bad-entries, no-room, has-room}
 use Rattle.areas.proofs.ask.Statement.{statement}

@@ -1,6 +1,6 @@
 -- `areas::ask_entries` meets its contract: 18, then 24.
 use borrow.Author.Needs.{needs}
-use Rattle.laws.specs.laws.Decide.{granted, refused}
+use Rattle.base.specs.common.laws.Decide.{granted, refused}
 use Rattle.areas.specs.laws.Answers.{not-named, not-kept, all-kept}
 use Rattle.areas.proofs.ask_entries.Statement.{statement}
 use Rattle.areas.proofs.ask_entries.Tie as tie

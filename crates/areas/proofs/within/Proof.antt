@@ -7,9 +7,9 @@ use native.Mathlib.Omega.{arith}
 use lib.ListN.{length}
 use borrow.Author.Needs.{needs}
 use borrow.Author.Tests.{not-true, not-false}
-use Rattle.utils.specs.Flat.{pointAt}
-use Rattle.centers.specs.Circumcenter.{okCenter}
-use Rattle.entries.specs.laws.Passed.{EntriesPassed, passed-start, passed-step, passed-all}
+use Rattle.plane.specs.points.Flat.{pointAt}
+use Rattle.plane.specs.centers.Circumcenter.{okCenter}
+use Rattle.arguments.specs.entries.laws.Passed.{EntriesPassed, passed-start, passed-step, passed-all}
 use Rattle.areas.specs.laws.Entries.{tested}
 use Rattle.areas.proofs.within.Statement.{statement}
 use Rattle.areas.proofs.within.Tie as tie

@@ -7,11 +7,11 @@ use lib.Ieee.{Float}
 use lib.ListN.{length, getD, take}
 use borrow.Author.Needs.{needs}
 use borrow.Author.Tests.{ne-eqb}
-use Rattle.laws.specs.Refusals.{once}
-use Rattle.laws.specs.laws.Refusals.{breaks, keeps, nothing, finds-first, finds-after, finds-keep}
-use Rattle.numbers.specs.Numbers.{refusedCount, refusedEntry, refusedOffsets, refusedRoom, refusedCorner}
-use Rattle.asking.specs.Asks.{CellsOf}
-use Rattle.entries.specs.Named.{EntriesNamed}
+use Rattle.base.specs.common.Refusals.{once}
+use Rattle.base.specs.common.laws.Refusals.{breaks, keeps, nothing, finds-first, finds-after, finds-keep}
+use Rattle.base.specs.numbers.Numbers.{refusedCount, refusedEntry, refusedOffsets, refusedRoom, refusedCorner}
+use Rattle.arguments.specs.asking.Asks.{CellsOf}
+use Rattle.arguments.specs.entries.Named.{EntriesNamed}
 use Rattle.areas.specs.Promise.{entriesOfAll, KeepsRule, cornerRules, areasAfter, EntriesNumber, AreasNumber, AreasAnswer}
 use Rattle.areas.specs.Steps.{RingsKept, WrittenAreas}
 

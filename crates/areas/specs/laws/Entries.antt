@@ -8,13 +8,13 @@ use native.Mathlib.Omega.{arith}
 use lib.Ieee.{Float}
 use lib.ListN.{length, getD, drop, length-take, length-drop}
 use lib.Seq.{getD-take, getD-drop, length-take-le}
-use Rattle.shared.specs.Cells.{Cells, cellOf}
-use Rattle.utils.specs.Flat.{pointAt}
-use Rattle.utils.specs.declared.Point.{Point}
-use Rattle.centers.specs.Finite.{center-bounded}
-use Rattle.centers.specs.Circumcenter.{okCenter}
+use Rattle.walks.specs.shared.Cells.{Cells, cellOf}
+use Rattle.plane.specs.points.Flat.{pointAt}
+use Rattle.plane.specs.declared.points.Point.{Point}
+use Rattle.plane.specs.centers.Finite.{center-bounded}
+use Rattle.plane.specs.centers.Circumcenter.{okCenter}
 use Rattle.ring_area.specs.Steps.{Corners}
-use Rattle.entries.specs.Named.{EntriesNamed}
+use Rattle.arguments.specs.entries.Named.{EntriesNamed}
 use Rattle.areas.specs.Promise.{entriesOfAll}
 use Rattle.areas.specs.Steps.{RingsKept}
 

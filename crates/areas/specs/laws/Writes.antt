@@ -8,10 +8,10 @@ use lib.Ieee.{Float}
 use lib.ListN.{length, getD, set, length-set}
 use lib.Seq.{ext-getD, getD-set-same, getD-set-other}
 use borrow.Author.Tests.{lt-ltb, le-ltb}
-use Rattle.laws.specs.Binary64 as B
-use Rattle.laws.specs.laws.Decide.{eq-or-ne, lt-or-ge}
+use Rattle.base.specs.common.Binary64 as B
+use Rattle.base.specs.common.laws.Decide.{eq-or-ne, lt-or-ge}
 use Rattle.ring_area.specs.Area.{ringArea}
-use Rattle.shared.specs.Cells.{cellOf}
+use Rattle.walks.specs.shared.Cells.{cellOf}
 use Rattle.areas.specs.Promise.{areaAt, listed}
 
 -- ---- a list by its numbers

@@ -2,8 +2,8 @@
 use mathlib.Core.Path.{refl, _∙_}
 use denote.Ref.{now}
 use native.Mathlib.Omega.{arith}
-use Rattle.laws.specs.laws.Decide.{granted, refused}
-use Rattle.text_parts.specs.laws.Labelled.{refusal-short}
+use Rattle.base.specs.common.laws.Decide.{granted, refused}
+use Rattle.printing.specs.parts.laws.Labelled.{refusal-short}
 use Rattle.printing.specs.laws.TextRoom.{line-held, text-held}
 use Rattle.audit.specs.laws.Told.{turned-few, lowest-few, lines-within, lines-fit, told-refused, told-lines}
 use borrow.Author.Needs.{needs}

@@ -3,8 +3,8 @@ use mathlib.Core.Path.{sym, ap, _∙_}
 use native.Mathlib.Omega.{arith}
 use lib.Seq.{length-take-le}
 use lib.ListN.{length-take}
-use Rattle.text_parts.specs.Labelled.{refusal}
-use Rattle.text_parts.specs.laws.Labelled.{refusal-short}
+use Rattle.printing.specs.parts.Labelled.{refusal}
+use Rattle.printing.specs.parts.laws.Labelled.{refusal-short}
 use Rattle.printing.specs.laws.TextRoom.{line-held}
 use borrow.Author.Needs.{needs}
 use Rattle.audit.proofs.of_form.Statement.{statement}

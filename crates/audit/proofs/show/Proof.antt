@@ -3,7 +3,7 @@ use mathlib.Core.Path.{sym}
 use native.Mathlib.Omega.{arith}
 use lib.Seq.{length-take-le}
 use borrow.Author.Tests.{eq-eqb}
-use Rattle.text_parts.specs.laws.Labelled.{refusal-short}
+use Rattle.printing.specs.parts.laws.Labelled.{refusal-short}
 use Rattle.printing.specs.laws.TextRoom.{refusal-held}
 use borrow.Author.Needs.{needs}
 use Rattle.audit.proofs.show.Statement.{statement}

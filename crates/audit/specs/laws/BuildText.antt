@@ -10,21 +10,21 @@ use lib.Ieee.{Float}
 use lib.ListN.{length, getD, take, replicate, length-map, length-append, List·getD-append}
 use lib.Seq.{take-append-seam}
 use borrow.Author.Tests.{le-leb, lt-ltb}
-use Rattle.laws.specs.Binary64.{zero}
-use Rattle.numbers.specs.Numbers.{EMPTY}
-use Rattle.utils.specs.Finite.{site-bounded, point-weaken}
-use Rattle.utils.specs.Flat.{pointAt, flat}
+use Rattle.base.specs.common.Binary64.{zero}
+use Rattle.base.specs.numbers.Numbers.{EMPTY}
+use Rattle.plane.specs.points.Finite.{site-bounded, point-weaken}
+use Rattle.plane.specs.points.Flat.{pointAt, flat}
 use Rattle.vertices.specs.laws.Points.{length-flat}
-use Rattle.given_box.specs.Finite.{Fits}
-use Rattle.given_box.specs.declared.Given.{Given}
+use Rattle.plane.specs.given.Finite.{Fits}
+use Rattle.plane.specs.declared.given.Given.{Given}
 use Rattle.mesh.specs.Accepted.{Mesh, Accepted, siteCount}
 use Rattle.mesh.specs.laws.Facts.{entry-site}
-use Rattle.asking.specs.Asks.{boxRules}
+use Rattle.arguments.specs.asking.Asks.{boxRules}
 use Rattle.admission.specs.Slices.{Slices, roomFor, roomOf}
-use Rattle.asking.specs.laws.Asks.{box-answers}
-use Rattle.layout.specs.Regions.{joined, offsetsFrom}
-use Rattle.layout.specs.laws.Compacted.{offsets-length}
-use Rattle.outputs.specs.Outputs.{ofBuilt, countsMade}
+use Rattle.arguments.specs.asking.laws.Asks.{box-answers}
+use Rattle.cell_memory.specs.layout.Regions.{joined, offsetsFrom}
+use Rattle.cell_memory.specs.layout.laws.Compacted.{offsets-length}
+use Rattle.cell_memory.specs.outputs.Outputs.{ofBuilt, countsMade}
 use Rattle.definition.specs.declared.Fault.{Fault}
 use Rattle.definition.specs.Fault.{Outcome, ok}
 use Rattle.definition.specs.Build.{Built, build}
@@ -33,10 +33,10 @@ use Rattle.definition.specs.Measures.{Room}
 use Rattle.definition.specs.laws.Gives.{gives-ok}
 use Rattle.build_laws.specs.LateRefusals.{build-late}
 use Rattle.build_laws.specs.laws.Runs.{ok-same}
-use Rattle.check_mesh.specs.AtExit.{atExit}
-use Rattle.build_answers.specs.Promise.{Builds, BuildAnswer, ClippedBuild}
-use Rattle.build_answers.specs.Success.{zero-succeeds, clipped-sound}
-use Rattle.triangle_turns.specs.Turned.{TrianglesKept}
+use Rattle.mesh_check.specs.whole.AtExit.{atExit}
+use Rattle.building.specs.answers.Promise.{Builds, BuildAnswer, ClippedBuild}
+use Rattle.building.specs.answers.Success.{zero-succeeds, clipped-sound}
+use Rattle.audit.specs.turns.Turned.{TrianglesKept}
 use Rattle.printing.specs.Printed.{InBox, shown}
 use Rattle.printing.specs.laws.WholeBuild.{Whole, whole-in-box}
 use Rattle.printing.specs.laws.BuildText.{ProgramSlices, shows}

@@ -11,14 +11,14 @@ use lib.ListN.{length, getD, take, length-append}
 use lib.Seq.{take-all}
 use Rattle.definition.specs.Cell.{Mark, plain, crossing, wrapped, Entry, unmarked}
 use Rattle.definition.specs.Measures.{ValidEntry, ValidEntries}
-use Rattle.layout.specs.Regions.{joined, offsetsFrom}
-use Rattle.layout.specs.laws.Compacted.{offsets-length}
+use Rattle.cell_memory.specs.layout.Regions.{joined, offsetsFrom}
+use Rattle.cell_memory.specs.layout.laws.Compacted.{offsets-length}
 use Rattle.printing.specs.laws.CellsInIndexes.{offset-at, next-at}
-use Rattle.asking.specs.Asks.{CellsOf}
-use Rattle.entries.specs.Named.{EntriesNamed}
+use Rattle.arguments.specs.asking.Asks.{CellsOf}
+use Rattle.arguments.specs.entries.Named.{EntriesNamed}
 use Rattle.areas.specs.Promise.{entriesOfAll, KeepsRule}
-use Rattle.audit_nearer.specs.Nearer.{noLists}
-use Rattle.audit_rules.specs.Kept.{AuditKept}
+use Rattle.auditing.specs.nearer.Nearer.{noLists}
+use Rattle.auditing.specs.rules.Kept.{AuditKept}
 
 -- ---- entries that name one of n vertices
 abbrev AllBelow : ℕ → List ℕ → Type 0

@@ -6,23 +6,23 @@ use Prim.Native.Nat.{ℕ, zero, suc, _/_, _≤_, _<_}
 use native.Mathlib.Omega.{arith}
 use lib.Ieee.{Float}
 use lib.ListN.{length, getD}
-use Rattle.laws.specs.laws.And.{and-left, and-right, and-both}
-use Rattle.numbers.specs.Numbers.{refusedCorner}
-use Rattle.lowest.specs.Lowest.{lowest}
-use Rattle.lowest.specs.laws.Loops.{lowest-first}
+use Rattle.base.specs.common.laws.And.{and-left, and-right, and-both}
+use Rattle.base.specs.numbers.Numbers.{refusedCorner}
+use Rattle.ring_area.specs.lowest.Lowest.{lowest}
+use Rattle.ring_area.specs.lowest.laws.Loops.{lowest-first}
 use Rattle.octets.specs.Wrote.{HasRoom}
-use Rattle.utils.specs.Flat.{pointAt}
-use Rattle.centers.specs.Circumcenter.{okCenter}
-use Rattle.bounding_box.specs.declared.BoundingBox.{BoundingBox}
+use Rattle.plane.specs.points.Flat.{pointAt}
+use Rattle.plane.specs.centers.Circumcenter.{okCenter}
+use Rattle.plane.specs.declared.boxes.BoundingBox.{BoundingBox}
 use Rattle.areas.specs.Promise.{KeepsRule}
-use Rattle.audit_total.specs.Total.{missingOf}
+use Rattle.auditing.specs.total.Total.{missingOf}
 use Rattle.auditing.specs.Verdict.{verdictOn}
 use Rattle.auditing.specs.declared.AuditVerdict.{AuditVerdict}
-use Rattle.triangle_turns.specs.Turned.{turnedAt, turnedCount}
-use Rattle.triangle_turns.specs.laws.Turns.{count-few}
-use Rattle.audit_text.specs.AuditLines.{auditLines}
-use Rattle.audit_text.specs.laws.Short.{lines-short}
-use Rattle.text_parts.specs.Labelled.{refusal}
+use Rattle.audit.specs.turns.Turned.{turnedAt, turnedCount}
+use Rattle.audit.specs.turns.laws.Turns.{count-few}
+use Rattle.audit.specs.text.AuditLines.{auditLines}
+use Rattle.audit.specs.text.laws.Short.{lines-short}
+use Rattle.printing.specs.parts.Labelled.{refusal}
 use Rattle.audit.specs.Printed.{okCorners, told}
 
 corners-ok : (v : List Float) (es : List ℕ) → KeepsRule v es → okCorners v es ≡ true

@@ -6,8 +6,8 @@ use Prim.Native.Nat.{ℕ, _+_, _-_, _*_, _^_, _≤_, _<_}
 use native.Mathlib.Nat.{le-trans, le-of-eq, mul-le-mul, mul-le-mul-left, mul-le-mul-right, le-of-mul-le-mul-right, zero-lt-suc, mul-assoc, mul-mul-mul-comm}
 use native.Mathlib.Omega.{arith}
 use lib.Dec.{lit≤}
-use Rattle.laws.specs.laws.Decide.{lt-or-ge}
-use Rattle.audit_total.specs.Total.{apart}
+use Rattle.base.specs.common.laws.Decide.{lt-or-ge}
+use Rattle.auditing.specs.total.Total.{apart}
 use Rattle.audit_truth.specs.laws.Close.{Close}
 
 -- ---- the left side: x - x′ and y - y′ for the two coordinates, c - c′ for their sum, and that is at most r

@@ -4,9 +4,9 @@ use mathlib.Core.Logic.{⊎-elim}
 use Prim.Native.Nat.{ℕ, _+_, _*_, _≤_}
 use native.Mathlib.Nat.{le-dest}
 use native.Mathlib.Omega.{arith}
-use Rattle.laws.specs.laws.Decide.{lt-or-ge}
-use Rattle.digits.specs.Near.{sq}
-use Rattle.audit_total.specs.Total.{apart}
+use Rattle.base.specs.common.laws.Decide.{lt-or-ge}
+use Rattle.root.specs.digits.Near.{sq}
+use Rattle.auditing.specs.total.Total.{apart}
 
 -- a - b is at most e either way
 pub record Close (a b e : ℕ) : Type 0 where

@@ -3,7 +3,7 @@ use mathlib.Core.Path.{_≡_, sym}
 use Prim.Native.Nat.{ℕ, _+_, _*_, _^_, _≤_}
 use native.Mathlib.Nat.{le-trans, le-of-eq, mul-le-mul, mul-le-mul-left, mul-le-mul-right}
 use native.Mathlib.Omega.{arith}
-use Rattle.audit_total.specs.Total.{apart}
+use Rattle.auditing.specs.total.Total.{apart}
 use Rattle.audit_truth.specs.laws.Close.{Close, close-apart, apart-close, close-product, product-off}
 
 -- ---- the sum of two differences

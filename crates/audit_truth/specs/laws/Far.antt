@@ -14,15 +14,15 @@ use lib.Ieee.Bits.{ofBits-fits}
 use lib.Ieee.Order.{drop, kept}
 use lib.Ieee.Scale.{finite}
 use lib.Pow.{pow-add, pow-pos, pow-mono, shl-lt}
-use Rattle.laws.specs.laws.Decide.{lt-or-ge}
-use Rattle.laws.specs.Binary64.{_⊠_}
+use Rattle.base.specs.common.laws.Decide.{lt-or-ge}
+use Rattle.base.specs.common.Binary64.{_⊠_}
 use Rattle.root.specs.Root.{units}
 use Rattle.root.specs.Bounded.{Bounded}
 use Rattle.root.specs.laws.UnitBounds.{zero-bounded, units-bounded}
 use Rattle.root.specs.laws.Rounding.{grid-most}
 use Rattle.root.specs.laws.Units.{held-units, zero-units}
 use Rattle.ring_area.specs.laws.Splits.{split-high}
-use Rattle.audit_nearer.specs.Nearer.{toleranceOf}
+use Rattle.auditing.specs.nearer.Nearer.{toleranceOf}
 use Rattle.audit_truth.specs.laws.Operations.{product, below-c}
 use Rattle.audit_truth.specs.laws.Roundings.{round-units}
 

@@ -7,10 +7,10 @@ use native.Mathlib.Omega.{arith}
 use lib.Dec.{T}
 use lib.Ieee.{Float, nan, inf, fin, binary64, fits}
 use lib.Ieee.Scale.{finite}
-use Rattle.laws.specs.Binary64.{_⊞_}
+use Rattle.base.specs.common.Binary64.{_⊞_}
 use Rattle.root.specs.Root.{units, magnitude}
 use Rattle.ring_area.specs.Area.{below}
-use Rattle.audit_total.specs.Total.{apart}
+use Rattle.auditing.specs.total.Total.{apart}
 use Rattle.audit_truth.specs.Exact.{plusUnits, minusUnits}
 use Rattle.audit_truth.specs.laws.Operations.{Rounded, RoundedProduct, add-rounded}
 

@@ -10,10 +10,10 @@ use lib.Ieee.{Float, nan, inf, fin, binary64, up, down, unlike, fits, round, neg
 use lib.Ieee.Fits.{down-pos, neg-fits}
 use lib.Ieee.Scale.{finite}
 use borrow.Author.Tests.{ltb-true, ltb-false}
-use Rattle.laws.specs.Binary64.{_⊞_, _⊟_, _⊠_}
+use Rattle.base.specs.common.Binary64.{_⊞_, _⊟_, _⊠_}
 use Rattle.root.specs.Root.{units}
 use Rattle.ring_area.specs.Area.{below}
-use Rattle.audit_total.specs.Total.{apart}
+use Rattle.auditing.specs.total.Total.{apart}
 use Rattle.audit_truth.specs.Exact.{plusUnits, minusUnits}
 use Rattle.audit_truth.specs.laws.Close.{Close}
 use Rattle.audit_truth.specs.laws.Roundings.{units-exact, round-sign, round-whole, round-product}

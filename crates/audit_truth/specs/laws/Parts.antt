@@ -12,7 +12,7 @@ use lib.Ieee.Nearest.{div-mono}
 use lib.Ieee.Scale.{finite}
 use borrow.Author.Tests.{ltb-false}
 use Rattle.root.specs.Root.{units}
-use Rattle.laws.specs.laws.And.{holds}
+use Rattle.base.specs.common.laws.And.{holds}
 use Rattle.root.specs.laws.Order.{lt-never, lt-trans, le-not-lt}
 use Rattle.ring_area.specs.Area.{below, productAbove, productUnder}
 use Rattle.audit_truth.specs.Exact.{plusUnits, minusUnits}

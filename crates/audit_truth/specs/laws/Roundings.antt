@@ -13,11 +13,11 @@ use lib.Ieee.Exact.{HasValue}
 use lib.Ieee.Fits.{down-pos}
 use lib.Ieee.Order.{drop, kept}
 use lib.Ieee.Scale.{grid, finite}
-use Rattle.laws.specs.laws.Decide.{eq-or-ne}
+use Rattle.base.specs.common.laws.Decide.{eq-or-ne}
 use Rattle.root.specs.Root.{units}
 use Rattle.root.specs.laws.Rounding.{round-has, round-within}
 use Rattle.root.specs.laws.Units.{held-units, zero-units}
-use Rattle.rounding.specs.Half.{WithinHalf, kept-within, dropped}
+use Rattle.ring_area.specs.half.Half.{WithinHalf, kept-within, dropped}
 use Rattle.ring_area.specs.Area.{below}
 use Rattle.audit_truth.specs.laws.Close.{Close}
 

@@ -7,13 +7,13 @@ use lib.Dec.{T, lit≤}
 use lib.Ieee.{Float, nan, inf, fin, binary64}
 use lib.Ieee.Fits.{add-fits, sub-fits, mul-fits}
 use lib.Ieee.Scale.{finite}
-use Rattle.laws.specs.Binary64.{_⊞_, _⊟_, _⊠_}
+use Rattle.base.specs.common.Binary64.{_⊞_, _⊟_, _⊠_}
 use Rattle.root.specs.Bounded.{Bounded}
 use Rattle.root.specs.Root.{units, magnitude}
 use Rattle.root.specs.laws.Bounds.{bounded-finite, add-bound, sub-bound, mul-bound}
-use Rattle.bounding_box.specs.Box.{widthOf, heightOf}
-use Rattle.bounding_box.specs.declared.BoundingBox.{BoundingBox}
-use Rattle.audit_nearer.specs.Nearer.{toleranceOf, farOf}
+use Rattle.plane.specs.boxes.Box.{widthOf, heightOf}
+use Rattle.plane.specs.declared.boxes.BoundingBox.{BoundingBox}
+use Rattle.auditing.specs.nearer.Nearer.{toleranceOf, farOf}
 use Rattle.audit_truth.specs.Exact.{plusUnits, minusUnits, apartOf, acrossAndDown}
 use Rattle.audit_truth.specs.Held.{HeldWithin, HeldBox}
 use Rattle.audit_truth.specs.laws.BothSides.{twice-rounded, right-most}

@@ -1,6 +1,6 @@
 -- `auditing::judge_nearer` meets its contract.
 use denote.Ref.{now}
-use Rattle.audit_nearer.specs.Nearer.{siteNearer}
+use Rattle.auditing.specs.nearer.Nearer.{siteNearer}
 use Rattle.auditing.specs.laws.Names.{taken}
 use Rattle.auditing.specs.laws.Stages.{nearer-stage, nearer-after}
 use borrow.Author.Needs.{needs}

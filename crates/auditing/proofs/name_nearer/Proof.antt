@@ -2,8 +2,8 @@
 use denote.Ref.{now}
 use native.Mathlib.Omega.{arith}
 use mathlib.Core.Path.{refl}
-use Rattle.lowest.specs.laws.Loops.{named-twice}
-use Rattle.audit_nearer.specs.laws.Pieces.{held-cut, held-names, piece-names, other-there, other-site}
+use Rattle.ring_area.specs.lowest.laws.Loops.{named-twice}
+use Rattle.auditing.specs.nearer.laws.Pieces.{held-cut, held-names, piece-names, other-there, other-site}
 use Rattle.auditing.specs.laws.Names.{corner-below, other-below, nearer-named}
 use borrow.Author.Needs.{needs}
 use Rattle.auditing.proofs.name_nearer.Statement.{statement}

@@ -1,8 +1,8 @@
 -- `auditing::name_twin` meets its contract.
 use denote.Ref.{now}
 use native.Mathlib.Omega.{arith}
-use Rattle.lowest.specs.laws.Loops.{lowest-first}
-use Rattle.audit_places.specs.Places.{twinAt}
+use Rattle.ring_area.specs.lowest.laws.Loops.{lowest-first}
+use Rattle.auditing.specs.places.Places.{twinAt}
 use Rattle.auditing.specs.laws.Stages.{twin-named}
 use borrow.Author.Needs.{needs}
 use Rattle.auditing.proofs.name_twin.Statement.{statement}

@@ -1,7 +1,7 @@
 -- `auditing::verdict` meets its contract: the limit, the total, the stages.
 use denote.Ref.{now}
 use Rattle.auditing.specs.laws.Answers.{limit-of, verdict-is}
-use Rattle.audit_limit.specs.Limit.{boxTwice}
+use Rattle.auditing.specs.limit.Limit.{boxTwice}
 use borrow.Author.Needs.{needs}
 use Rattle.auditing.proofs.verdict.Statement.{statement}
 use Rattle.auditing.proofs.verdict.Tie as tie

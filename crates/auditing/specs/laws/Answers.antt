@@ -6,18 +6,18 @@ use mathlib.Core.Logic.{_≢_}
 use Prim.Native.Nat.{ℕ, _/_, _^_}
 use lib.Ieee.{Float}
 use borrow.Author.Tests.{ne-eqb}
-use Rattle.laws.specs.Binary64 as B
-use Rattle.numbers.specs.Numbers.{EMPTY}
-use Rattle.bounding_box.specs.Finite.{BoundedBox}
-use Rattle.bounding_box.specs.declared.BoundingBox.{BoundingBox}
-use Rattle.given_box.specs.Finite.{Fits}
-use Rattle.given_box.specs.declared.Given.{Given}
-use Rattle.long_numbers.specs.Amount.{amount}
-use Rattle.long_limits.specs.Long.{LongOf}
-use Rattle.audit_limit.specs.Limit.{boxTwice}
-use Rattle.audit_total.specs.Total.{missingOf, totalWhole}
-use Rattle.audit_rules.specs.Kept.{AuditKept, kept}
-use Rattle.audit_rules.specs.Rules.{AuditNumber}
+use Rattle.base.specs.common.Binary64 as B
+use Rattle.base.specs.numbers.Numbers.{EMPTY}
+use Rattle.plane.specs.boxes.Finite.{BoundedBox}
+use Rattle.plane.specs.declared.boxes.BoundingBox.{BoundingBox}
+use Rattle.plane.specs.given.Finite.{Fits}
+use Rattle.plane.specs.declared.given.Given.{Given}
+use Rattle.ring_area.specs.long.Amount.{amount}
+use Rattle.ring_area.specs.limits.Long.{LongOf}
+use Rattle.auditing.specs.limit.Limit.{boxTwice}
+use Rattle.auditing.specs.total.Total.{missingOf, totalWhole}
+use Rattle.auditing.specs.rules.Kept.{AuditKept, kept}
+use Rattle.auditing.specs.rules.Rules.{AuditNumber}
 use Rattle.auditing.specs.Verdict.{ringsStage, verdictOn, auditKind, auditSite, auditVertex, auditOther}
 use Rattle.auditing.specs.Promise.{unlessRefused, shareUnlessRefused, AuditAnswer}
 use Rattle.auditing.specs.Steps.{ToldOf, JudgedAnswer}

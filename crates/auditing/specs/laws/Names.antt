@@ -6,15 +6,15 @@ use Prim.Native.Nat.{ℕ, _/_, _<_}
 use lib.Ieee.{Float}
 use lib.ListN.{length, getD}
 use borrow.Author.Tests.{ltb-true}
-use Rattle.lowest.specs.Lowest.{lowest}
-use Rattle.lowest.specs.laws.Loops.{lowest-takes}
-use Rattle.utils.specs.Flat.{pointAt}
-use Rattle.utils.specs.declared.Point.{Point}
-use Rattle.bounding_box.specs.declared.BoundingBox.{BoundingBox}
-use Rattle.shared.specs.Cells.{cellOf}
-use Rattle.audit_corners.specs.Outside.{outsideAt, cellOutside, siteOutside}
-use Rattle.audit_nearer.specs.Nearer.{noLists, otherAt, heldCount, beyondAt, nearerAt, cornerNearer, cellNearer, siteNearer}
-use Rattle.audit_nearer.specs.laws.Pieces.{site-is}
+use Rattle.ring_area.specs.lowest.Lowest.{lowest}
+use Rattle.ring_area.specs.lowest.laws.Loops.{lowest-takes}
+use Rattle.plane.specs.points.Flat.{pointAt}
+use Rattle.plane.specs.declared.points.Point.{Point}
+use Rattle.plane.specs.declared.boxes.BoundingBox.{BoundingBox}
+use Rattle.walks.specs.shared.Cells.{cellOf}
+use Rattle.auditing.specs.corners.Outside.{outsideAt, cellOutside, siteOutside}
+use Rattle.auditing.specs.nearer.Nearer.{noLists, otherAt, heldCount, beyondAt, nearerAt, cornerNearer, cellNearer, siteNearer}
+use Rattle.auditing.specs.nearer.laws.Pieces.{site-is}
 use Rattle.auditing.specs.Verdict.{nearerVerdict, outsideVerdict}
 use Rattle.auditing.specs.declared.AuditVerdict.the-variants.{Outside, Nearer}
 

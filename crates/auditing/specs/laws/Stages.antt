@@ -7,15 +7,15 @@ use native.Mathlib.Omega.{arith}
 use lib.Ieee.{Float}
 use lib.ListN.{length}
 use borrow.Author.Tests.{lt-ltb, le-ltb}
-use Rattle.laws.specs.Pick.{pick}
-use Rattle.lowest.specs.Lowest.{lowest, anyBelow}
-use Rattle.lowest.specs.laws.Loops.{no-both}
-use Rattle.bounding_box.specs.declared.BoundingBox.{BoundingBox}
-use Rattle.audit_rings.specs.Fan.{siteFolds}
-use Rattle.audit_corners.specs.Outside.{siteOutside}
-use Rattle.audit_nearer.specs.Nearer.{farOf, siteNearer}
-use Rattle.audit_nearer.specs.Steps.{PiecesKept}
-use Rattle.audit_places.specs.Places.{twinAt, hasTwin}
+use Rattle.base.specs.common.Pick.{pick}
+use Rattle.ring_area.specs.lowest.Lowest.{lowest, anyBelow}
+use Rattle.ring_area.specs.lowest.laws.Loops.{no-both}
+use Rattle.plane.specs.declared.boxes.BoundingBox.{BoundingBox}
+use Rattle.auditing.specs.rings.Fan.{siteFolds}
+use Rattle.auditing.specs.corners.Outside.{siteOutside}
+use Rattle.auditing.specs.nearer.Nearer.{farOf, siteNearer}
+use Rattle.auditing.specs.nearer.Steps.{PiecesKept}
+use Rattle.auditing.specs.places.Places.{twinAt, hasTwin}
 use Rattle.auditing.specs.Verdict.{twinVerdict, placesStage, totalStage, nearerVerdict, nearerStage, outsideVerdict, outsideStage, ringsStage}
 use Rattle.auditing.specs.laws.Names.{taken}
 use Rattle.auditing.specs.declared.AuditVerdict.{AuditVerdict}

@@ -4,7 +4,7 @@ use mathlib.Core.List.{List}
 use Prim.Native.Nat.{ℕ, _/_}
 use lib.Ieee.{Float}
 use lib.ListN.{length, getD}
-use Rattle.bounding_box.specs.declared.BoundingBox.{BoundingBox}
+use Rattle.plane.specs.declared.boxes.BoundingBox.{BoundingBox}
 use Rattle.mesh.specs.Mesh.{endOf, leftmostOf}
 use Rattle.mesh.specs.Accepted.{mesh, Accepted, siteCount}
 use Rattle.definition.specs.declared.Fault.{Fault}

@@ -8,17 +8,17 @@ use native.Mathlib.Omega.{arith}
 use native.Mathlib.Nat.{add-zero}
 use lib.Ieee.{Float}
 use lib.ListN.{length, getD, length-append}
-use Rattle.laws.specs.Count.{occ}
-use Rattle.laws.specs.laws.Count.{occ-length, same-cases}
-use Rattle.numbers.specs.Numbers.{EMPTY}
-use Rattle.utils.specs.declared.Point.{Point}
-use Rattle.bounding_box.specs.Box.{cornersOf}
-use Rattle.bounding_box.specs.Finite.{BoundedBox}
-use Rattle.bounding_box.specs.declared.BoundingBox.{BoundingBox}
+use Rattle.base.specs.common.Count.{occ}
+use Rattle.base.specs.common.laws.Count.{occ-length, same-cases}
+use Rattle.base.specs.numbers.Numbers.{EMPTY}
+use Rattle.plane.specs.declared.points.Point.{Point}
+use Rattle.plane.specs.boxes.Box.{cornersOf}
+use Rattle.plane.specs.boxes.Finite.{BoundedBox}
+use Rattle.plane.specs.declared.boxes.BoundingBox.{BoundingBox}
 use Rattle.mesh.specs.Mesh.{leftmostOf}
 use Rattle.mesh.specs.Accepted.{mesh, Accepted, siteCount}
 use Rattle.mesh.specs.laws.Facts.{topology}
-use Rattle.paths.specs.Path.{lastOf}
+use Rattle.walks.specs.paths.Path.{lastOf}
 use Rattle.definition.specs.Cell.{Mark, plain, crossing, wrapped, Entry, Taken, inBox}
 use Rattle.definition.specs.Build.{centersFrom, ownersFrom, Extensions, extendFrom, CellState, clipAll, ifWrapped, wrappedIn, allEntries, lostFrom, Built, build}
 use Rattle.definition.specs.Short.{extensions}

@@ -4,9 +4,9 @@ use mathlib.Core.Path.{_≡_, refl, ap, _∙_}
 use mathlib.Core.List.{List, [], _++_}
 use Prim.Native.Nat.{ℕ, zero, suc, _/_}
 use lib.ListN.{length, getD, replicate, length-set, length-replicate}
-use Rattle.laws.specs.Pick.{pick}
-use Rattle.bounding_box.specs.Box.{cornersOf}
-use Rattle.bounding_box.specs.declared.BoundingBox.{BoundingBox}
+use Rattle.base.specs.common.Pick.{pick}
+use Rattle.plane.specs.boxes.Box.{cornersOf}
+use Rattle.plane.specs.declared.boxes.BoundingBox.{BoundingBox}
 use Rattle.mesh.specs.Mesh.{endOf, leftmostOf}
 use Rattle.mesh.specs.Accepted.{Mesh, tableOf, siteCount}
 use Rattle.definition.specs.Fault.{ok}

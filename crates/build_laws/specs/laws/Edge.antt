@@ -8,11 +8,11 @@ use native.Mathlib.Omega.{arith}
 use lib.Dec.{eqb}
 use lib.ListN.{length}
 use borrow.Author.Tests.{eq-eqb}
-use Rattle.laws.specs.Pick.{pick}
-use Rattle.numbers.specs.Numbers.{EMPTY}
-use Rattle.utils.specs.declared.Point.{Point}
-use Rattle.box_sides.specs.Sides.{whichOf}
-use Rattle.bounding_box.specs.declared.BoundingBox.{BoundingBox}
+use Rattle.base.specs.common.Pick.{pick}
+use Rattle.base.specs.numbers.Numbers.{EMPTY}
+use Rattle.plane.specs.declared.points.Point.{Point}
+use Rattle.plane.specs.sides.Sides.{whichOf}
+use Rattle.plane.specs.declared.boxes.BoundingBox.{BoundingBox}
 use Rattle.definition.specs.Cell.{lastOr, Taken, Ins, withCorners, led, insertEdge, vertexAt, EdgeClip, missed, once, twice, Change, leave, enterAt, enter, crossAt, cross, clipStep}
 use Rattle.definition.specs.Short.{insertAt, link, tookOne, tookTwo}
 use Rattle.definition.specs.laws.Gives.{Gives}

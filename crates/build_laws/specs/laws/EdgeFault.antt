@@ -6,11 +6,11 @@ use Prim.Native.Nat.{ℕ, _≤_}
 use native.Mathlib.Omega.{arith}
 use lib.Ieee.{Float}
 use lib.ListN.{length}
-use Rattle.numbers.specs.Numbers.{refusedNoCrossing, refusedOneCrossing}
-use Rattle.utils.specs.declared.Point.{Point}
-use Rattle.bounding_box.specs.declared.BoundingBox.{BoundingBox}
-use Rattle.line_crossings.specs.declared.Crossing.{Crossing}
-use Rattle.line_crossings.specs.declared.Crossing.the-variants.{None, One, Two}
+use Rattle.base.specs.numbers.Numbers.{refusedNoCrossing, refusedOneCrossing}
+use Rattle.plane.specs.declared.points.Point.{Point}
+use Rattle.plane.specs.declared.boxes.BoundingBox.{BoundingBox}
+use Rattle.plane.specs.declared.lines.Crossing.{Crossing}
+use Rattle.plane.specs.declared.lines.Crossing.the-variants.{None, One, Two}
 use Rattle.vertices.specs.Add.{Added}
 use Rattle.definition.specs.Fault.{refused}
 use Rattle.definition.specs.Cell.{vertexAt, edgeCrossing, EdgeClip, missed, once, twice, clipWith, clipEdge, Change, leave, enterAt, enter, crossAt, cross, clipStep, inBox}

@@ -7,21 +7,21 @@ use native.Mathlib.Omega.{arith}
 use lib.Dec.{eqb}
 use lib.Ieee.{Float, nan}
 use lib.ListN.{length, getD}
-use Rattle.laws.specs.laws.Decide.{eq-or-ne}
-use Rattle.laws.specs.Count.{occ}
-use Rattle.laws.specs.laws.Count.{same-cases}
-use Rattle.utils.specs.Plane.{at}
-use Rattle.utils.specs.declared.Point.{Point}
-use Rattle.bounding_box.specs.Box.{cornersOf}
-use Rattle.bounding_box.specs.Finite.{BoundedBox}
-use Rattle.bounding_box.specs.declared.BoundingBox.{BoundingBox}
+use Rattle.base.specs.common.laws.Decide.{eq-or-ne}
+use Rattle.base.specs.common.Count.{occ}
+use Rattle.base.specs.common.laws.Count.{same-cases}
+use Rattle.plane.specs.points.Plane.{at}
+use Rattle.plane.specs.declared.points.Point.{Point}
+use Rattle.plane.specs.boxes.Box.{cornersOf}
+use Rattle.plane.specs.boxes.Finite.{BoundedBox}
+use Rattle.plane.specs.declared.boxes.BoundingBox.{BoundingBox}
 use Rattle.mesh.specs.Mesh.{leftmostOf, Used}
 use Rattle.mesh.specs.Accepted.{mesh, Accepted, siteCount}
 use Rattle.mesh.specs.laws.Facts.{topology, start-used}
-use Rattle.paths.specs.Path.{hopOf, pathEnd}
-use Rattle.paths.specs.PathNeeds.{Walkable, Towards}
+use Rattle.walks.specs.paths.Path.{hopOf, pathEnd}
+use Rattle.walks.specs.paths.PathNeeds.{Walkable, Towards}
 use Rattle.mesh.specs.laws.Occurs.{occ-below, occ-there}
-use Rattle.paths.specs.laws.WholePath.{goes-used}
+use Rattle.walks.specs.paths.laws.WholePath.{goes-used}
 use Rattle.definition.specs.Fault.{ok}
 use Rattle.definition.specs.Cell.{Entry}
 use Rattle.definition.specs.Build.{ownersFrom, Built, build}

@@ -8,12 +8,12 @@ use lib.Dec.{ltb}
 use lib.ListN.{length, drop, length-append, length-drop, List·getD-append}
 use lib.Ieee.{nan}
 use borrow.Author.Tests.{ltb-true}
-use Rattle.laws.specs.Pick.{pick}
-use Rattle.utils.specs.Plane.{at}
-use Rattle.utils.specs.declared.Point.{Point}
-use Rattle.bounding_box.specs.declared.BoundingBox.{BoundingBox}
-use Rattle.line_crossings.specs.declared.Crossing.{Crossing}
-use Rattle.line_crossings.specs.declared.Crossing.the-variants.{None, One, Two}
+use Rattle.base.specs.common.Pick.{pick}
+use Rattle.plane.specs.points.Plane.{at}
+use Rattle.plane.specs.declared.points.Point.{Point}
+use Rattle.plane.specs.declared.boxes.BoundingBox.{BoundingBox}
+use Rattle.plane.specs.declared.lines.Crossing.{Crossing}
+use Rattle.plane.specs.declared.lines.Crossing.the-variants.{None, One, Two}
 use Rattle.vertices.specs.Add.{Added, nearPt, findNear, addVertex}
 use Rattle.definition.specs.Cell.{Taken, vertexAt, EdgeClip, missed, once, twice, clipWith, clipEdge}
 use Rattle.definition.specs.laws.Gives.{picked}

@@ -7,10 +7,10 @@ use native.Mathlib.Omega.{arith}
 use lib.Dec.{ltb}
 use lib.ListN.{length, getD}
 use borrow.Author.Tests.{ltb-true}
-use Rattle.laws.specs.Pick.{pick}
-use Rattle.utils.specs.declared.Point.{Point}
-use Rattle.box_sides.specs.Sides.{insideOf}
-use Rattle.bounding_box.specs.declared.BoundingBox.{BoundingBox}
+use Rattle.base.specs.common.Pick.{pick}
+use Rattle.plane.specs.declared.points.Point.{Point}
+use Rattle.plane.specs.sides.Sides.{insideOf}
+use Rattle.plane.specs.declared.boxes.BoundingBox.{BoundingBox}
 use Rattle.definition.specs.Cell.{vertexAt, inBox, firstInside}
 use Rattle.build_laws.specs.laws.Grown.{Grown}
 

@@ -6,11 +6,11 @@ use native.Mathlib.Omega.{arith}
 use lib.Dec.{ltb}
 use lib.Ieee.{Float}
 use lib.ListN.{length, getD, replicate}
-use Rattle.laws.specs.Pick.{pick}
-use Rattle.numbers.specs.Numbers.{refusedNoCrossing, refusedOneCrossing}
-use Rattle.utils.specs.declared.Point.{Point}
-use Rattle.centers.specs.Circumcenter.{okCenter}
-use Rattle.bounding_box.specs.declared.BoundingBox.{BoundingBox}
+use Rattle.base.specs.common.Pick.{pick}
+use Rattle.base.specs.numbers.Numbers.{refusedNoCrossing, refusedOneCrossing}
+use Rattle.plane.specs.declared.points.Point.{Point}
+use Rattle.plane.specs.centers.Circumcenter.{okCenter}
+use Rattle.plane.specs.declared.boxes.BoundingBox.{BoundingBox}
 use Rattle.mesh.specs.Mesh.{endOf}
 use Rattle.definition.specs.declared.Fault.{Fault}
 use Rattle.definition.specs.Fault.{Outcome, ok, refused, andThen, atEdge}

@@ -7,9 +7,9 @@ use native.Mathlib.Omega.{arith}
 use native.Mathlib.Nat.{add-zero}
 use lib.ListN.{length, getD}
 use borrow.Author.Tests.{eq-eqb, ne-eqb}
-use Rattle.laws.specs.Count.{occ}
-use Rattle.laws.specs.laws.Count.{occ-append}
-use Rattle.numbers.specs.Numbers.{EMPTY}
+use Rattle.base.specs.common.Count.{occ}
+use Rattle.base.specs.common.laws.Count.{occ-append}
+use Rattle.base.specs.numbers.Numbers.{EMPTY}
 use Rattle.definition.specs.Cell.{Mark, plain, crossing, wrapped, Entry, unmarked}
 use Rattle.definition.specs.Build.{ifWrapped, wrappedIn, allWrapped, allEntries, lostFrom}
 use Rattle.definition.specs.Measures.{lostLeft}

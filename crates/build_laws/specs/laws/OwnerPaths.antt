@@ -5,19 +5,19 @@ use Prim.Native.Nat.{ℕ, zero, suc, _<_}
 use native.Mathlib.Omega.{arith}
 use lib.Ieee.{Float, nan}
 use lib.ListN.{length, getD}
-use Rattle.utils.specs.Plane.{at}
-use Rattle.utils.specs.declared.Point.{Point}
-use Rattle.bounding_box.specs.Box.{cornersOf}
-use Rattle.bounding_box.specs.Finite.{BoundedBox}
-use Rattle.bounding_box.specs.declared.BoundingBox.{BoundingBox}
+use Rattle.plane.specs.points.Plane.{at}
+use Rattle.plane.specs.declared.points.Point.{Point}
+use Rattle.plane.specs.boxes.Box.{cornersOf}
+use Rattle.plane.specs.boxes.Finite.{BoundedBox}
+use Rattle.plane.specs.declared.boxes.BoundingBox.{BoundingBox}
 use Rattle.mesh.specs.Mesh.{leftmostOf}
 use Rattle.mesh.specs.Accepted.{mesh, Accepted, siteCount}
-use Rattle.iterator.specs.Neighbours.{neighboursOf}
-use Rattle.paths.specs.Path.{distOf, pathEnd, wholePath, lastOf}
-use Rattle.paths.specs.PathNeeds.{Walkable, Towards}
-use Rattle.paths.specs.laws.Used.{used-sum}
-use Rattle.paths.specs.laws.WholePath.{whole-runs, whole-end}
-use Rattle.paths.specs.PathRule.{PathFrom}
+use Rattle.walks.specs.neighbours.Neighbours.{neighboursOf}
+use Rattle.walks.specs.paths.Path.{distOf, pathEnd, wholePath, lastOf}
+use Rattle.walks.specs.paths.PathNeeds.{Walkable, Towards}
+use Rattle.walks.specs.paths.laws.Used.{used-sum}
+use Rattle.walks.specs.paths.laws.WholePath.{whole-runs, whole-end}
+use Rattle.walks.specs.paths.PathRule.{PathFrom}
 use Rattle.definition.specs.Build.{ownersFrom}
 use Rattle.build_laws.specs.laws.Owners.{owner, ready, towards-corner}
 

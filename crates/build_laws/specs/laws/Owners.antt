@@ -8,21 +8,21 @@ use native.Mathlib.Omega.{arith}
 use lib.Dec.{eqb, lit≤}
 use lib.Ieee.{Float, nan}
 use lib.ListN.{length, getD}
-use Rattle.laws.specs.laws.Decide.{eq-or-ne}
-use Rattle.utils.specs.Plane.{at}
-use Rattle.utils.specs.Flat.{pointAt}
-use Rattle.utils.specs.Finite.{point-weaken, site-bounded, dist2-no-nan}
-use Rattle.utils.specs.declared.Point.{Point}
-use Rattle.bounding_box.specs.Box.{cornersOf}
-use Rattle.bounding_box.specs.Finite.{BoundedBox, corner-bounded}
-use Rattle.bounding_box.specs.declared.BoundingBox.{BoundingBox}
+use Rattle.base.specs.common.laws.Decide.{eq-or-ne}
+use Rattle.plane.specs.points.Plane.{at}
+use Rattle.plane.specs.points.Flat.{pointAt}
+use Rattle.plane.specs.points.Finite.{point-weaken, site-bounded, dist2-no-nan}
+use Rattle.plane.specs.declared.points.Point.{Point}
+use Rattle.plane.specs.boxes.Box.{cornersOf}
+use Rattle.plane.specs.boxes.Finite.{BoundedBox, corner-bounded}
+use Rattle.plane.specs.declared.boxes.BoundingBox.{BoundingBox}
 use Rattle.mesh.specs.Accepted.{Mesh, tableOf, Accepted, siteCount}
 use Rattle.mesh.specs.laws.Facts.{topology, paired, entry-site, tab-length, tab-cases}
-use Rattle.paths.specs.Path.{distOf, hopOf, pathEnd, wholePath, lastOf}
-use Rattle.paths.specs.PathNeeds.{Walkable, Towards}
-use Rattle.paths.specs.laws.Used.{used-sum}
+use Rattle.walks.specs.paths.Path.{distOf, hopOf, pathEnd, wholePath, lastOf}
+use Rattle.walks.specs.paths.PathNeeds.{Walkable, Towards}
+use Rattle.walks.specs.paths.laws.Used.{used-sum}
 use Rattle.mesh.specs.laws.Occurs.{occ-below}
-use Rattle.paths.specs.laws.WholePath.{goes-used, whole-end}
+use Rattle.walks.specs.paths.laws.WholePath.{goes-used, whole-end}
 use Rattle.definition.specs.Build.{ownersFrom}
 use Rattle.definition.specs.laws.Gives.{picked}
 use Rattle.build_laws.specs.Wrapping.{cornerPaths}

@@ -6,7 +6,7 @@ use mathlib.Core.Logic.{⊎-elim}
 use native.Mathlib.Omega.{arith}
 use native.Mathlib.Nat.{zero-add}
 use lib.ListN.{length, getD}
-use Rattle.laws.specs.laws.Decide.{lt-or-ge}
+use Rattle.base.specs.common.laws.Decide.{lt-or-ge}
 
 past-reversed : (l r : List ℕ) (j : ℕ) → getD (reverseAux l r) (length l + j) 0 ≡ getD r j 0
 past-reversed [] r j = rw (zero-add j)

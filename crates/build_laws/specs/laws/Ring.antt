@@ -9,9 +9,9 @@ use native.Mathlib.Omega.{arith}
 use lib.Dec.{ltb}
 use lib.ListN.{length, getD, take, drop, length-append, length-reverse, take-append-drop}
 use borrow.Author.Tests.{ltb-true}
-use Rattle.numbers.specs.Numbers.{EMPTY}
-use Rattle.utils.specs.declared.Point.{Point}
-use Rattle.bounding_box.specs.declared.BoundingBox.{BoundingBox}
+use Rattle.base.specs.numbers.Numbers.{EMPTY}
+use Rattle.plane.specs.declared.points.Point.{Point}
+use Rattle.plane.specs.declared.boxes.BoundingBox.{BoundingBox}
 use Rattle.definition.specs.Fault.{atEdge}
 use Rattle.definition.specs.Cell.{Entry, lastOr, Taken, Change, clipStep, inBox, Tip, RingPart, stepTo, stepsTo, firstInside, turned, clipFrom, clipCell}
 use Rattle.definition.specs.Short.{tip, partsJoined}

@@ -7,17 +7,17 @@ use Prim.Native.Nat.{ℕ, zero, suc, _+_, _%_, _≤_, _<_}
 use native.Mathlib.Omega.{arith}
 use lib.Dec.{eqb}
 use lib.ListN.{length, getD}
-use Rattle.numbers.specs.Numbers.{EMPTY}
-use Rattle.utils.specs.Plane.{at}
-use Rattle.utils.specs.declared.Point.{Point}
-use Rattle.box_sides.specs.Sides.{whichOf}
-use Rattle.bounding_box.specs.Finite.{BoundedBox}
-use Rattle.bounding_box.specs.declared.BoundingBox.{BoundingBox}
-use Rattle.line_crossings.specs.OnBox.{OnBox}
-use Rattle.line_crossings.specs.declared.Crossing.{Crossing}
-use Rattle.line_crossings.specs.declared.Crossing.the-variants.{None, One, Two}
-use Rattle.crossings.specs.OnBox.{ray-own}
-use Rattle.crossings.specs.Ray.{rayOf, orderOf}
+use Rattle.base.specs.numbers.Numbers.{EMPTY}
+use Rattle.plane.specs.points.Plane.{at}
+use Rattle.plane.specs.declared.points.Point.{Point}
+use Rattle.plane.specs.sides.Sides.{whichOf}
+use Rattle.plane.specs.boxes.Finite.{BoundedBox}
+use Rattle.plane.specs.declared.boxes.BoundingBox.{BoundingBox}
+use Rattle.plane.specs.lines.OnBox.{OnBox}
+use Rattle.plane.specs.declared.lines.Crossing.{Crossing}
+use Rattle.plane.specs.declared.lines.Crossing.the-variants.{None, One, Two}
+use Rattle.plane.specs.rays.OnBox.{ray-own}
+use Rattle.plane.specs.rays.Ray.{rayOf, orderOf}
 use Rattle.vertices.specs.Add.{Added, addVertex}
 use Rattle.definition.specs.Cell.{crossing, entry, lastOr, Ins, goes, wraps, withCorners, led, vertexAt, insertEdge, firstIs, onEdge, edgeCrossing}
 use Rattle.definition.specs.Cell.{EdgeClip, missed, once, twice, clipWith, clipEdge, Change, leave, enterAt, enter, crossAt, cross, clipStep}

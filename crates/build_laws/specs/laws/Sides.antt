@@ -16,17 +16,17 @@ use lib.Ieee.Exact.{HasValue, round-exact}
 use lib.Ieee.Order.{le-of-values}
 use lib.Ieee.Fits.{down-pos}
 use borrow.Author.Tests.{ltb-true, ltb-false, le-ltb}
-use Rattle.laws.specs.Pick.{pick}
-use Rattle.laws.specs.Binary64.{_⊟_}
-use Rattle.numbers.specs.Numbers.{tolerance}
+use Rattle.base.specs.common.Pick.{pick}
+use Rattle.base.specs.common.Binary64.{_⊟_}
+use Rattle.base.specs.numbers.Numbers.{tolerance}
 use Rattle.root.specs.Bounded.{Bounded}
-use Rattle.utils.specs.Plane.{at, nearOf}
-use Rattle.utils.specs.declared.Point.{Point}
-use Rattle.bounding_box.specs.Box.{cornersOf}
-use Rattle.box_sides.specs.Sides.{whichOf, firstSide}
-use Rattle.bounding_box.specs.Finite.{BoundedBox}
-use Rattle.bounding_box.specs.declared.BoundingBox.{BoundingBox}
-use Rattle.line_crossings.specs.OnBox.{OnEdge}
+use Rattle.plane.specs.points.Plane.{at, nearOf}
+use Rattle.plane.specs.declared.points.Point.{Point}
+use Rattle.plane.specs.boxes.Box.{cornersOf}
+use Rattle.plane.specs.sides.Sides.{whichOf, firstSide}
+use Rattle.plane.specs.boxes.Finite.{BoundedBox}
+use Rattle.plane.specs.declared.boxes.BoundingBox.{BoundingBox}
+use Rattle.plane.specs.lines.OnBox.{OnEdge}
 use Rattle.vertices.specs.Add.{nearPt, findNear, addVertex}
 use Rattle.definition.specs.Cell.{vertexAt}
 use Rattle.definition.specs.Sides.{Sided, SidedCorners}

@@ -8,9 +8,9 @@ use native.Mathlib.Omega.{arith}
 use lib.Ieee.{Float}
 use lib.ListN.{length, getD, length-append, List·getD-append}
 use lib.Seq.{getD-at}
-use Rattle.laws.specs.laws.Decide.{lt-or-ge}
-use Rattle.utils.specs.declared.Point.{Point}
-use Rattle.centers.specs.Circumcenter.{okCenter}
+use Rattle.base.specs.common.laws.Decide.{lt-or-ge}
+use Rattle.plane.specs.declared.points.Point.{Point}
+use Rattle.plane.specs.centers.Circumcenter.{okCenter}
 use Rattle.mesh.specs.Hull.{nextSite}
 use Rattle.vertices.specs.Add.{addVertex}
 use Rattle.definition.specs.Cell.{took, extension}

@@ -8,9 +8,9 @@ use native.Mathlib.Omega.{arith}
 use lib.Ieee.{Float}
 use lib.ListN.{length, getD, length-set, length-replicate}
 use lib.Seq.{getD-set-same, getD-set-other}
-use Rattle.laws.specs.Pick.{pick}
-use Rattle.laws.specs.laws.Decide.{eq-or-ne}
-use Rattle.bounding_box.specs.declared.BoundingBox.{BoundingBox}
+use Rattle.base.specs.common.Pick.{pick}
+use Rattle.base.specs.common.laws.Decide.{eq-or-ne}
+use Rattle.plane.specs.declared.boxes.BoundingBox.{BoundingBox}
 use Rattle.mesh.specs.Mesh.{endOf, leftmostOf}
 use Rattle.mesh.specs.Accepted.{mesh, Accepted, siteCount}
 use Rattle.mesh.specs.laws.Facts.{topology, end-site}

@@ -5,8 +5,8 @@ use mathlib.Core.List.{List, [], _++_}
 use Prim.Native.Nat.{ℕ, zero, suc, _/_, _≤_}
 use native.Mathlib.Omega.{arith}
 use lib.ListN.{length, getD, set}
-use Rattle.laws.specs.Pick.{pick}
-use Rattle.bounding_box.specs.declared.BoundingBox.{BoundingBox}
+use Rattle.base.specs.common.Pick.{pick}
+use Rattle.plane.specs.declared.boxes.BoundingBox.{BoundingBox}
 use Rattle.mesh.specs.Mesh.{endOf}
 use Rattle.mesh.specs.Accepted.{Mesh, tableOf, Accepted}
 use Rattle.definition.specs.declared.Fault.{Fault}

@@ -8,21 +8,21 @@ use Prim.Native.Nat.{ℕ, zero, suc, _/_}
 use lib.Ieee.{Float, nan, inf, fin}
 use lib.ListN.{length, getD, replicate}
 use lib.Dec.{ltb}
-use Rattle.laws.specs.Pick.{pick}
-use Rattle.laws.specs.Binary64.{_⊟_}
-use Rattle.utils.specs.Plane.{at}
-use Rattle.centers.specs.Circumcenter.{okCenter}
-use Rattle.centers.specs.Finite.{center-bounded}
+use Rattle.base.specs.common.Pick.{pick}
+use Rattle.base.specs.common.Binary64.{_⊟_}
+use Rattle.plane.specs.points.Plane.{at}
+use Rattle.plane.specs.centers.Circumcenter.{okCenter}
+use Rattle.plane.specs.centers.Finite.{center-bounded}
 use Rattle.root.specs.Bounded.{Bounded}
-use Rattle.bounding_box.specs.Finite.{BoundedBox}
-use Rattle.crossings.specs.Finite.{ray-bounded}
-use Rattle.line_crossings.specs.Finite.{BoundedCrossing}
-use Rattle.utils.specs.declared.Point.{Point}
-use Rattle.bounding_box.specs.Box.{cornersOf}
-use Rattle.bounding_box.specs.declared.BoundingBox.{BoundingBox}
-use Rattle.crossings.specs.Ray.{rayOf, orderOf}
-use Rattle.line_crossings.specs.declared.Crossing.{Crossing}
-use Rattle.line_crossings.specs.declared.Crossing.the-variants.{None, One, Two}
+use Rattle.plane.specs.boxes.Finite.{BoundedBox}
+use Rattle.plane.specs.rays.Finite.{ray-bounded}
+use Rattle.plane.specs.lines.Finite.{BoundedCrossing}
+use Rattle.plane.specs.declared.points.Point.{Point}
+use Rattle.plane.specs.boxes.Box.{cornersOf}
+use Rattle.plane.specs.declared.boxes.BoundingBox.{BoundingBox}
+use Rattle.plane.specs.rays.Ray.{rayOf, orderOf}
+use Rattle.plane.specs.declared.lines.Crossing.{Crossing}
+use Rattle.plane.specs.declared.lines.Crossing.the-variants.{None, One, Two}
 use Rattle.vertices.specs.Add.{addVertex}
 use Rattle.mesh.specs.Mesh.{endOf, leftmostOf}
 use Rattle.mesh.specs.Accepted.{Mesh, siteCount}

@@ -6,8 +6,8 @@ use Prim.Native.Nat.{ℕ, zero, suc, _+_, _*_, _≤_, _<_}
 use native.Mathlib.Omega.{arith}
 use native.Mathlib.Nat.{add-zero, zero-add}
 use lib.ListN.{length, getD, set, length-append}
-use Rattle.laws.specs.Count.{same, occ}
-use Rattle.laws.specs.laws.Count.{same-cases, occ-append}
+use Rattle.base.specs.common.Count.{same, occ}
+use Rattle.base.specs.common.laws.Count.{same-cases, occ-append}
 use Rattle.definition.specs.Cell.{Entry}
 use Rattle.definition.specs.Build.{wrappedIn, allWrapped}
 use Rattle.definition.specs.Measures.{weigh}

@@ -6,10 +6,10 @@ use mathlib.Core.Logic.{_≢_}
 use Prim.Native.Nat.{ℕ, zero, suc, _+_, _%_, _≤_, _<_}
 use native.Mathlib.Omega.{arith}
 use lib.ListN.{length, getD, set, length-set}
-use Rattle.laws.specs.Pick.{pick}
-use Rattle.laws.specs.Count.{same, occ}
-use Rattle.laws.specs.laws.Count.{occ-length}
-use Rattle.numbers.specs.Numbers.{EMPTY}
+use Rattle.base.specs.common.Pick.{pick}
+use Rattle.base.specs.common.Count.{same, occ}
+use Rattle.base.specs.common.laws.Count.{occ-length}
+use Rattle.base.specs.numbers.Numbers.{EMPTY}
 use Rattle.mesh.specs.laws.Occurs.{occ-there}
 use Rattle.definition.specs.Cell.{wrapped, entry, goes, wraps}
 use Rattle.definition.specs.Short.{ins, before}

@@ -6,8 +6,8 @@ use denote.Ref.{now}
 use Rattle.mesh.specs.Accepted.{Mesh, mesh}
 use Rattle.admission.specs.Slices.{Slices, slices}
 use Rattle.admission.specs.Admission.{BuildAdmission}
-use Rattle.build_answers.specs.laws.BuildAnswer.{table-fits, nine-of}
-use Rattle.build_answers.specs.laws.ClippedBuild.{clipped-early, clipped-asks, count-fits, reused-fit, clipped-built}
+use Rattle.building.specs.answers.laws.BuildAnswer.{table-fits, nine-of}
+use Rattle.building.specs.answers.laws.ClippedBuild.{clipped-early, clipped-asks, count-fits, reused-fit, clipped-built}
 use borrow.Author.Needs.{needs}
 use Rattle.building.proofs.build.Tie as tie
 use Rattle.building.proofs.build.Statement.{statement}

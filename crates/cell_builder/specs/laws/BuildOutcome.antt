@@ -7,20 +7,20 @@ use Prim.Native.Nat.{ℕ, _/_, _≤_, _<_}
 use native.Mathlib.Omega.{arith}
 use lib.Ieee.{Float}
 use lib.ListN.{length, getD, length-map}
-use Rattle.laws.specs.laws.Decide.{eq-or-ne}
-use Rattle.utils.specs.Flat.{points}
-use Rattle.utils.specs.declared.Point.{Point}
-use Rattle.bounding_box.specs.Box.{cornersOf}
-use Rattle.bounding_box.specs.declared.BoundingBox.{BoundingBox}
+use Rattle.base.specs.common.laws.Decide.{eq-or-ne}
+use Rattle.plane.specs.points.Flat.{points}
+use Rattle.plane.specs.declared.points.Point.{Point}
+use Rattle.plane.specs.boxes.Box.{cornersOf}
+use Rattle.plane.specs.declared.boxes.BoundingBox.{BoundingBox}
 use Rattle.vertices.specs.laws.Points.{length-points, points-pour, pour-points}
 use Rattle.mesh.specs.Mesh.{leftmostOf}
 use Rattle.mesh.specs.Accepted.{Mesh, mesh, siteCount}
-use Rattle.layout.specs.Regions.{joined}
-use Rattle.layout.specs.laws.Regions.{regions-rising}
-use Rattle.outputs.specs.laws.Marks.{entries-joined}
-use Rattle.outputs.specs.Outputs.{ofBuilt}
-use Rattle.outputs.specs.laws.Padded.{poured-cleared}
-use Rattle.numbers.specs.Numbers.{refusedCircumcenter}
+use Rattle.cell_memory.specs.layout.Regions.{joined}
+use Rattle.cell_memory.specs.layout.laws.Regions.{regions-rising}
+use Rattle.cell_memory.specs.outputs.laws.Marks.{entries-joined}
+use Rattle.cell_memory.specs.outputs.Outputs.{ofBuilt}
+use Rattle.cell_memory.specs.outputs.laws.Padded.{poured-cleared}
+use Rattle.base.specs.numbers.Numbers.{refusedCircumcenter}
 use Rattle.definition.specs.declared.Fault.{Fault}
 use Rattle.definition.specs.declared.Reused.{Reused}
 use Rattle.definition.specs.Fault.{Outcome, ok, refused, andThen}
@@ -28,17 +28,17 @@ use Rattle.definition.specs.Build.{Built, centersFrom, ownersFrom, Extensions, 
 use Rattle.definition.specs.Measures.{lostLeft}
 use Rattle.build_laws.specs.laws.Built.{owner-of, lost-entries}
 use Rattle.build_laws.specs.laws.Owners.{owners-length, ready, towards-corner}
-use Rattle.rings.specs.Centers.{CentersBy}
-use Rattle.rings.specs.Ownership.{Owned}
+use Rattle.cell_builder.specs.rings.Centers.{CentersBy}
+use Rattle.cell_builder.specs.rings.Ownership.{Owned}
 use Rattle.definition.specs.Cell.{unmarked}
 use Rattle.definition.specs.Short.{fault, extensions}
-use Rattle.cell_finish.specs.declared.Progress.{Progress}
-use Rattle.cell_finish.specs.declared.CellsAnswer.{CellsAnswer}
-use Rattle.cell_tries.specs.CellsInSlices.{ground, Amid, Does}
-use Rattle.cell_finish.specs.Finish.{RefusedCells, Finishable}
+use Rattle.cell_builder.specs.declared.finish.Progress.{Progress}
+use Rattle.cell_builder.specs.declared.finish.CellsAnswer.{CellsAnswer}
+use Rattle.cell_builder.specs.tried.CellsInSlices.{ground, Amid, Does}
+use Rattle.cell_builder.specs.finish.Finish.{RefusedCells, Finishable}
 use Rattle.cell_builder.specs.AdmittedBuild.{AdmittedBuild}
 use Rattle.cell_builder.specs.Start.{extendedOf, Makeable, planOf, Makes, AnsweredBuild, BuiltCells}
-use Rattle.cell_tries.specs.laws.OneTry.{count-is, last-start}
+use Rattle.cell_builder.specs.tried.laws.OneTry.{count-is, last-start}
 
 answer-same : {f g : Fault} {c d : ℕ} {o w : List ℕ} {l k : ℕ} {u x : Reused} → f ≡ g → c ≡ d → o ≡ w → l ≡ k → u ≡ x
     → _≡_ {A = CellsAnswer} (record { fault = f; count = c; owners = o; lost = l; reused = u }) (record { fault = g; count = d; owners = w; lost = k; reused = x })

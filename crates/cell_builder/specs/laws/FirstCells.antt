@@ -8,20 +8,20 @@ use native.Mathlib.Omega.{arith}
 use lib.Ieee.{Float}
 use lib.ListN.{length, getD, take, replicate, length-replicate, length-append}
 use lib.Seq.{sets, getD-take, length-take-le}
-use Rattle.laws.specs.laws.Stores.{sets-in, sets-before}
-use Rattle.utils.specs.Flat.{points}
-use Rattle.utils.specs.declared.Point.{Point}
-use Rattle.bounding_box.specs.Box.{cornersOf}
-use Rattle.bounding_box.specs.declared.BoundingBox.{BoundingBox}
+use Rattle.base.specs.common.laws.Stores.{sets-in, sets-before}
+use Rattle.plane.specs.points.Flat.{points}
+use Rattle.plane.specs.declared.points.Point.{Point}
+use Rattle.plane.specs.boxes.Box.{cornersOf}
+use Rattle.plane.specs.declared.boxes.BoundingBox.{BoundingBox}
 use Rattle.vertices.specs.Store.{Leaves}
 use Rattle.vertices.specs.laws.Points.{length-points}
 use Rattle.vertices.specs.laws.Store.{poured-points}
 use Rattle.mesh.specs.Accepted.{Mesh, mesh, siteCount}
 use Rattle.mesh.specs.laws.Facts.{topology, entry-site, start-used, tab-length, tab-used}
-use Rattle.layout.specs.Regions.{Regions}
-use Rattle.layout.specs.Rooms.{Roomy, Started}
-use Rattle.layout.specs.laws.Rooms.{start-end}
-use Rattle.numbers.specs.Numbers.{refusedExtension}
+use Rattle.cell_memory.specs.layout.Regions.{Regions}
+use Rattle.cell_memory.specs.layout.Rooms.{Roomy, Started}
+use Rattle.cell_memory.specs.layout.laws.Rooms.{start-end}
+use Rattle.base.specs.numbers.Numbers.{refusedExtension}
 use Rattle.definition.specs.declared.Fault.{Fault}
 use Rattle.definition.specs.Fault.{Outcome, ok, refused}
 use Rattle.definition.specs.Build.{Extensions, extendFrom, CellState, clipAll}
@@ -31,20 +31,20 @@ use Rattle.definition.specs.Measures.{shareOf}
 use Rattle.build_laws.specs.laws.Sides.{corners-sided, corners-kept}
 use Rattle.build_laws.specs.laws.Start.{Extended, extend-from}
 use Rattle.build_laws.specs.laws.AllCells.{no-cell, begin}
-use Rattle.rings.specs.Centers.{Named}
-use Rattle.rings.specs.Extensions.{ExtendsInto, ExtendedBy}
-use Rattle.rings.specs.declared.extensions.Passed.{Passed}
-use Rattle.outputs.specs.Outputs.{LaidOut}
-use Rattle.outputs.specs.laws.Marks.{none-unmarked}
+use Rattle.cell_builder.specs.rings.Centers.{Named}
+use Rattle.cell_builder.specs.rings.Extensions.{ExtendsInto, ExtendedBy}
+use Rattle.cell_builder.specs.declared.rings.extensions.Passed.{Passed}
+use Rattle.cell_memory.specs.outputs.Outputs.{LaidOut}
+use Rattle.cell_memory.specs.outputs.laws.Marks.{none-unmarked}
 use Rattle.definition.specs.Cell.{unmarked}
 use Rattle.definition.specs.Short.{fault, extensions, cellState}
-use Rattle.cell_tries.specs.declared.Frame.{Frame}
-use Rattle.cell_finish.specs.declared.Progress.{Progress}
-use Rattle.cell_tries.specs.CellsInSlices.{Plan, plan, ground, frameOf, Grounded, Amid}
-use Rattle.cell_turns.specs.Loops.{HullsAmid, AllTried}
+use Rattle.cell_builder.specs.declared.tried.Frame.{Frame}
+use Rattle.cell_builder.specs.declared.finish.Progress.{Progress}
+use Rattle.cell_builder.specs.tried.CellsInSlices.{Plan, plan, ground, frameOf, Grounded, Amid}
+use Rattle.cell_builder.specs.turned.Loops.{HullsAmid, AllTried}
 use Rattle.cell_builder.specs.AdmittedBuild.{AdmittedBuild}
 use Rattle.cell_builder.specs.Start.{extendedOf, Extendable, Begun, BegunBy, Makeable, planOf, Makes}
-use Rattle.layout.specs.laws.RegionsKept.{regions-agree}
+use Rattle.cell_memory.specs.layout.laws.RegionsKept.{regions-agree}
 
 -- ---- corners and extensions
 

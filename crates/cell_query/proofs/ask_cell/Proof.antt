@@ -1,5 +1,5 @@
 -- `cell_query::ask_cell` meets its contract: rule 4 on the site, then rule 16 on the offsets.
-use Rattle.laws.specs.laws.Decide as decide
+use Rattle.base.specs.common.laws.Decide as decide
 use Rattle.cell_query.specs.laws.Cells.{no-site, not-cut, cut}
 use borrow.Author.Needs.{needs}
 use Rattle.cell_query.proofs.ask_cell.Tie as tie

@@ -1,6 +1,6 @@
 -- Rule 4 on either site, rule 16 on the offsets, then the count of shared entries.
 use Rattle.cell_query.specs.laws.SharedEdge.{no-first, no-second, none-cut, shares-asks, shares-told}
-use Rattle.laws.specs.laws.Decide.{granted, refused}
+use Rattle.base.specs.common.laws.Decide.{granted, refused}
 use borrow.Author.Needs.{needs}
 use Rattle.cell_query.proofs.cells_share_edge.Statement.{statement}
 use Rattle.cell_query.proofs.cells_share_edge.Tie as tie

@@ -6,12 +6,12 @@ use Prim.Native.Nat.{ℕ, _+_, _-_, _≤_, _<_}
 use native.Mathlib.Omega.{arith}
 use lib.ListN.{length, getD}
 use borrow.Author.Tests.{eq-eqb, ne-eqb}
-use Rattle.shared.specs.Cells.{Cells, cellOf}
-use Rattle.numbers.specs.Numbers.{refusedOffsets}
-use Rattle.asking.specs.Asks.{siteRules, Asked, CellsOf, cellRules}
-use Rattle.asking.specs.laws.Asks.{site-below}
-use Rattle.laws.specs.Refusals.{Finds}
-use Rattle.laws.specs.laws.Refusals.{breaks, keeps, nothing, finds-one, finds-first, finds-keep}
+use Rattle.walks.specs.shared.Cells.{Cells, cellOf}
+use Rattle.base.specs.numbers.Numbers.{refusedOffsets}
+use Rattle.arguments.specs.asking.Asks.{siteRules, Asked, CellsOf, cellRules}
+use Rattle.arguments.specs.asking.laws.Asks.{site-below}
+use Rattle.base.specs.common.Refusals.{Finds}
+use Rattle.base.specs.common.laws.Refusals.{breaks, keeps, nothing, finds-one, finds-first, finds-keep}
 use borrow.Author.Needs.{needs}
 use Rattle.cell_query.specs.Cells.{CellNumber, CellAnswer, PlaceAnswer}
 

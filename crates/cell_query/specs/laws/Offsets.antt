@@ -5,8 +5,8 @@ use Prim.Native.Nat.{ℕ, zero, suc, _+_, _≤_, _<_}
 use native.Mathlib.Omega.{arith}
 use native.Mathlib.Numerals.{add-one}
 use lib.ListN.{length, getD, length-append}
-use Rattle.layout.specs.Regions.{joined, offsetsFrom}
-use Rattle.shared.specs.Cells.{cellOf}
+use Rattle.cell_memory.specs.layout.Regions.{joined, offsetsFrom}
+use Rattle.walks.specs.shared.Cells.{cellOf}
 
 pub first-offset : (m : ℕ) (cells : List (List ℕ)) → getD (offsetsFrom m cells) 0 0 ≡ m
 unfolding offsetsFrom

@@ -5,10 +5,10 @@ use mathlib.Core.List.{List}
 use Prim.Native.Nat.{ℕ, _+_, _-_, _≤_, _<_}
 use native.Mathlib.Omega.{arith}
 use lib.ListN.{length}
-use Rattle.laws.specs.laws.Refusals.{breaks, keeps, nothing}
-use Rattle.numbers.specs.Numbers.{refusedSite, refusedOffsets}
-use Rattle.shared.specs.Cells.{Cells, shareEdgeOf}
-use Rattle.asking.specs.Asks.{CellsOf}
+use Rattle.base.specs.common.laws.Refusals.{breaks, keeps, nothing}
+use Rattle.base.specs.numbers.Numbers.{refusedSite, refusedOffsets}
+use Rattle.walks.specs.shared.Cells.{Cells, shareEdgeOf}
+use Rattle.arguments.specs.asking.Asks.{CellsOf}
 use Rattle.cell_query.specs.declared.Told.{Told}
 use Rattle.cell_query.specs.SharedEdge.{toldOf, SharesAnswer}
 

@@ -1,6 +1,6 @@
 -- `cells::of_mesh`: the box is the one that the form gives, and it fits.
 use borrow.Author.Needs.{needs}
-use Rattle.form_box.specs.Fits.{box-fits}
+use Rattle.form.specs.boxes.Fits.{box-fits}
 use Rattle.printing.specs.laws.FormLists.{in-given-box}
 use Rattle.cells.specs.Printed.{listingText}
 use Rattle.cells.proofs.of_mesh.Statement.{statement}

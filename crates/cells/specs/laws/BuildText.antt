@@ -7,30 +7,30 @@ use native.Mathlib.Omega.{arith}
 use lib.ListN.{length, replicate, length-map}
 use borrow.Author.Tests.{le-leb, lt-ltb}
 use Rattle.printing.specs.Printed.{Shows, InBox, shown}
-use Rattle.numbers.specs.Numbers.{EMPTY}
-use Rattle.given_box.specs.declared.Given.{Given}
+use Rattle.base.specs.numbers.Numbers.{EMPTY}
+use Rattle.plane.specs.declared.given.Given.{Given}
 use Rattle.mesh.specs.Accepted.{Mesh, siteCount}
-use Rattle.laws.specs.Refusals.{Rule}
+use Rattle.base.specs.common.Refusals.{Rule}
 use Rattle.admission.specs.Admits.{Admits}
-use Rattle.asking.specs.laws.Asks.{NoneZero, box-answers}
-use Rattle.layout.specs.Regions.{joined, offsetsFrom}
+use Rattle.arguments.specs.asking.laws.Asks.{NoneZero, box-answers}
+use Rattle.cell_memory.specs.layout.Regions.{joined, offsetsFrom}
 use Rattle.definition.specs.declared.Fault.{Fault}
 use Rattle.definition.specs.Fault.{Outcome, ok}
 use Rattle.definition.specs.laws.Gives.{Gives, gives-ok}
 use Rattle.definition.specs.Build.{Built, build}
-use Rattle.outputs.specs.Outputs.{ofBuilt, countsMade}
+use Rattle.cell_memory.specs.outputs.Outputs.{ofBuilt, countsMade}
 use Rattle.definition.specs.Cell.{unmarked, StepKind, extension, firstCrossing, secondCrossing}
 use Rattle.definition.specs.Reused.{reusedOf}
-use Rattle.build_answers.specs.Promise.{Builds, BuildAnswer, BuildAnswers, ClippedBuild}
-use Rattle.check_mesh.specs.AtExit.{atExit}
+use Rattle.building.specs.answers.Promise.{Builds, BuildAnswer, BuildAnswers, ClippedBuild}
+use Rattle.mesh_check.specs.whole.AtExit.{atExit}
 use Rattle.admission.specs.Slices.{Slices, roomFor, roomOf}
 use Rattle.build_laws.specs.Late.{Refuses, Numbered}
 use Rattle.build_laws.specs.LateRefusals.{build-late}
-use Rattle.build_answers.specs.Success.{zero-succeeds}
-use Rattle.listing.specs.Listing.{countsAndCells, listing, cellLines}
+use Rattle.building.specs.answers.Success.{zero-succeeds}
+use Rattle.cells.specs.listing.Listing.{countsAndCells, listing, cellLines}
 use Rattle.cells.specs.Printed.{linesOf, listingOf, listingText}
 use Rattle.cells.specs.Sized.{SheetSized}
-use Rattle.cells_text.specs.Shown.{Laid, boxLines}
+use Rattle.cells.specs.answer_text.Shown.{Laid, boxLines}
 use Rattle.cells.specs.laws.CellsInIndexes.{lines-are, laid}
 use Rattle.printing.specs.laws.WholeBuild.{Whole, whole-in-box}
 use Rattle.printing.specs.laws.BuildText.{ProgramSlices, shows}

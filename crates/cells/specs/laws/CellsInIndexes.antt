@@ -5,12 +5,12 @@ use Prim.Native.Nat.{ℕ, suc, _+_, _≤_, _<_}
 use native.Mathlib.Omega.{arith}
 use native.Mathlib.Nat.{add-zero}
 use lib.ListN.{length, getD, take, drop, length-append}
-use Rattle.layout.specs.Regions.{joined, offsetsFrom}
-use Rattle.layout.specs.laws.Compacted.{offsets-length}
-use Rattle.listing.specs.Listing.{cellLine, cellLines}
-use Rattle.text_parts.specs.Listed.{listedCell}
+use Rattle.cell_memory.specs.layout.Regions.{joined, offsetsFrom}
+use Rattle.cell_memory.specs.layout.laws.Compacted.{offsets-length}
+use Rattle.cells.specs.listing.Listing.{cellLine, cellLines}
+use Rattle.printing.specs.parts.Listed.{listedCell}
 use Rattle.cells.specs.Printed.{linesOf}
-use Rattle.cells_text.specs.Shown.{Laid}
+use Rattle.cells.specs.answer_text.Shown.{Laid}
 use Rattle.printing.specs.laws.CellsInIndexes.{joined-split, offset-at, next-at, cell-at, total}
 
 -- the offsets and the index list may go on after the cells

@@ -8,12 +8,12 @@ use native.Mathlib.Omega.{arith}
 use lib.Ieee.{Float, nan}
 use lib.ListN.{take}
 use borrow.Author.Tests.{lt-ltb, le-ltb}
-use Rattle.laws.specs.laws.Decide.{lt-or-ge}
-use Rattle.utils.specs.Plane.{at}
-use Rattle.utils.specs.declared.Point.{Point}
-use Rattle.utils.specs.Flat.{points}
-use Rattle.box_sides.specs.Sides.{insideOf}
-use Rattle.bounding_box.specs.declared.BoundingBox.{BoundingBox}
+use Rattle.base.specs.common.laws.Decide.{lt-or-ge}
+use Rattle.plane.specs.points.Plane.{at}
+use Rattle.plane.specs.declared.points.Point.{Point}
+use Rattle.plane.specs.points.Flat.{points}
+use Rattle.plane.specs.sides.Sides.{insideOf}
+use Rattle.plane.specs.declared.boxes.BoundingBox.{BoundingBox}
 use Rattle.vertices.specs.laws.Store.{poured-points, kept-vertex}
 use Rattle.definition.specs.Fault.{Outcome, ok, refused, andThen, atEdge}
 use Rattle.definition.specs.declared.Fault.{Fault}
@@ -25,8 +25,8 @@ use Rattle.definition.specs.laws.Gives.{Gives}
 use Rattle.build_laws.specs.laws.SidedEdge.{EndsOnSide, Shut}
 use Rattle.clipping.specs.EdgeOutcome.{Changes}
 use Rattle.clipping.specs.RingWalk.{tipOf, Steps}
-use Rattle.clip_edges.specs.declared.Env.{Env}
-use Rattle.clip_corners.specs.declared.CellSoFar.{CellSoFar}
+use Rattle.clipping.specs.declared.edges.Env.{Env}
+use Rattle.clipping.specs.declared.corners.CellSoFar.{CellSoFar}
 use Rattle.clipping.specs.declared.Changed.{Changed}
 use Rattle.clipping.specs.declared.Tip.{Tip}
 use Rattle.clipping.specs.declared.RingStepped.{RingStepped}

@@ -8,12 +8,12 @@ use lib.Dec.{eqb}
 use lib.Ieee.{Float, nan}
 use lib.ListN.{length, take, drop, length-map}
 use borrow.Author.Tests.{eq-eqb}
-use Rattle.laws.specs.laws.Stores.{take-sets, drop-sets}
-use Rattle.utils.specs.declared.Point.{Point}
-use Rattle.utils.specs.Flat.{points}
-use Rattle.utils.specs.Plane.{at}
-use Rattle.box_sides.specs.Sides.{whichOf}
-use Rattle.bounding_box.specs.declared.BoundingBox.{BoundingBox}
+use Rattle.base.specs.common.laws.Stores.{take-sets, drop-sets}
+use Rattle.plane.specs.declared.points.Point.{Point}
+use Rattle.plane.specs.points.Flat.{points}
+use Rattle.plane.specs.points.Plane.{at}
+use Rattle.plane.specs.sides.Sides.{whichOf}
+use Rattle.plane.specs.declared.boxes.BoundingBox.{BoundingBox}
 use Rattle.vertices.specs.Add.{Added}
 use Rattle.vertices.specs.Store.{Holds, Leaves}
 use Rattle.vertices.specs.laws.Store.{poured-points, poured-none, kept-vertex}
@@ -24,16 +24,16 @@ use Rattle.definition.specs.declared.Reused.{Reused}
 use Rattle.definition.specs.Reused.{reused, CountsReused}
 use Rattle.definition.specs.Sides.{Sided, SidedCorners}
 use Rattle.build_laws.specs.laws.SidedEdge.{ClipSided, clip-sided}
-use Rattle.clip_corners.specs.CellEntries.{EntryRoom, EntriesPut, places}
+use Rattle.clipping.specs.corners.CellEntries.{EntryRoom, EntriesPut, places}
 use Rattle.definition.specs.Short.{link, change, tookOne, tookTwo}
-use Rattle.clip_edges.specs.EdgeClip.{ClipsEdge, VerticesGrown}
+use Rattle.clipping.specs.edges.EdgeClip.{ClipsEdge, VerticesGrown}
 use Rattle.clipping.specs.EdgeOutcome.{EdgeRoom, Alters, Did, Changes}
-use Rattle.clip_edges.specs.declared.Env.{Env}
-use Rattle.clip_corners.specs.declared.CellSoFar.{CellSoFar}
+use Rattle.clipping.specs.declared.edges.Env.{Env}
+use Rattle.clipping.specs.declared.corners.CellSoFar.{CellSoFar}
 use Rattle.clipping.specs.declared.Changed.{Changed}
-use Rattle.clip_edges.specs.declared.Crossed.{Crossed}
-use Rattle.clip_edges.specs.declared.Crossed.the-variants.{Missed, Once, Twice}
-use Rattle.clip_corners.specs.laws.CellEntries.{puts-then, puts-more, puts-none}
+use Rattle.clipping.specs.declared.edges.Crossed.{Crossed}
+use Rattle.clipping.specs.declared.edges.Crossed.the-variants.{Missed, Once, Twice}
+use Rattle.clipping.specs.corners.laws.CellEntries.{puts-then, puts-more, puts-none}
 
 -- ---- entries before the store's part of the list
 

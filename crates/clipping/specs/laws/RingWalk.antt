@@ -10,11 +10,11 @@ use lib.Ieee.{Float}
 use borrow.Author.Tests.{lt-ltb, le-ltb}
 use lib.ListN.{length, getD, take, drop, length-drop, length-map, drop-of-length-le}
 use lib.Seq.{getD-take, getD-drop, drop-cons, length-take-le}
-use Rattle.laws.specs.laws.Stores.{sets-behind}
-use Rattle.numbers.specs.Numbers.{EMPTY}
-use Rattle.utils.specs.declared.Point.{Point}
-use Rattle.utils.specs.Flat.{points}
-use Rattle.bounding_box.specs.declared.BoundingBox.{BoundingBox}
+use Rattle.base.specs.common.laws.Stores.{sets-behind}
+use Rattle.base.specs.numbers.Numbers.{EMPTY}
+use Rattle.plane.specs.declared.points.Point.{Point}
+use Rattle.plane.specs.points.Flat.{points}
+use Rattle.plane.specs.declared.boxes.BoundingBox.{BoundingBox}
 use Rattle.vertices.specs.laws.Store.{poured-then, poured-none}
 use Rattle.definition.specs.Fault.{Outcome, ok, refused, andThen}
 use Rattle.definition.specs.declared.Fault.{Fault}
@@ -25,15 +25,15 @@ use Rattle.definition.specs.Short.{fault, ins, part, partsJoined}
 use Rattle.definition.specs.declared.Reused.{Reused}
 use Rattle.definition.specs.Reused.{reused, together, Addable, CountsReused}
 use Rattle.definition.specs.laws.Reused.{counts-none, counts-then, counts-small}
-use Rattle.clip_edges.specs.EdgeClip.{VerticesGrown}
+use Rattle.clipping.specs.edges.EdgeClip.{VerticesGrown}
 use Rattle.clipping.specs.EdgeOutcome.{EdgeRoom, Did}
 use Rattle.clipping.specs.RingWalk.{tipOf, Stands, Steps, ringOf, RingRoom}
-use Rattle.clip_edges.specs.declared.Env.{Env}
-use Rattle.clip_corners.specs.declared.CellSoFar.{CellSoFar}
+use Rattle.clipping.specs.declared.edges.Env.{Env}
+use Rattle.clipping.specs.declared.corners.CellSoFar.{CellSoFar}
 use Rattle.clipping.specs.declared.Tip.{Tip}
 use Rattle.clipping.specs.declared.RingStepped.{RingStepped}
-use Rattle.clip_corners.specs.laws.CellEntries.{puts-then, puts-none}
-use Rattle.clip_edges.specs.laws.EdgeClip.{grown-then}
+use Rattle.clipping.specs.corners.laws.CellEntries.{puts-then, puts-none}
+use Rattle.clipping.specs.edges.laws.EdgeClip.{grown-then}
 use Rattle.clipping.specs.laws.EdgeCases.{in-kept}
 use Rattle.clipping.specs.laws.EdgeOutcome.{corners-still}
 use Rattle.clipping.specs.laws.ReversedRing.{length-turned}

@@ -2,7 +2,7 @@
 use mathlib.Core.Path.{_≡_, refl}
 use mathlib.Core.Bool.{Bool, true, false}
 use Prim.Native.Nat.{ℕ}
-use Rattle.laws.specs.Pick.{pick}
+use Rattle.base.specs.common.Pick.{pick}
 use Rattle.definition.specs.Fault.{Outcome, ok, refused, andThen, atEdge}
 
 abbrev pub Gives : {F A : Type 0} → (A → Type 0) → Outcome F A → Type 0

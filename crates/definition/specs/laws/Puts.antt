@@ -9,11 +9,11 @@ use lib.Dec.{eqb}
 use lib.ListN.{length, getD, set, length-append, length-set, List·getD-eq-default}
 use lib.Seq.{getD-set-same, getD-set-other}
 use borrow.Author.Tests.{eqb-true}
-use Rattle.laws.specs.Pick.{pick}
-use Rattle.laws.specs.laws.Decide.{eq-or-ne, lt-or-ge}
-use Rattle.laws.specs.Count.{same, occ}
-use Rattle.laws.specs.laws.Count.{same-cases, occ-append}
-use Rattle.numbers.specs.Numbers.{EMPTY}
+use Rattle.base.specs.common.Pick.{pick}
+use Rattle.base.specs.common.laws.Decide.{eq-or-ne, lt-or-ge}
+use Rattle.base.specs.common.Count.{same, occ}
+use Rattle.base.specs.common.laws.Count.{same-cases, occ-append}
+use Rattle.base.specs.numbers.Numbers.{EMPTY}
 use Rattle.definition.specs.Cell.{Mark, plain, crossing, wrapped, Entry, entry, Ins, goes, wraps, withCorners}
 use Rattle.definition.specs.Build.{ifWrapped, wrappedIn}
 use Rattle.definition.specs.laws.Gives.{picked}

@@ -2,7 +2,7 @@
 use native.Mathlib.Omega.{arith}
 use lib.ListN.{length}
 use denote.Ref.{now}
-use Rattle.text_parts.specs.laws.Labelled.{refusal-short}
+use Rattle.printing.specs.parts.laws.Labelled.{refusal-short}
 use Rattle.export.specs.laws.TextRoom.{lines-fit}
 use Rattle.printing.specs.laws.TextRoom.{refusal-held, text-held}
 use borrow.Author.Needs.{needs}

@@ -8,33 +8,33 @@ use lib.ListN.{length, getD, replicate, length-map, List·getD-map}
 use borrow.Author.Tests.{le-leb, lt-ltb}
 use Rattle.printing.specs.Printed.{Shows, InBox, shown}
 use Rattle.export.specs.Printed.{exportText, exported}
-use Rattle.laws.specs.Binary64.{zero}
-use Rattle.numbers.specs.Numbers.{EMPTY}
-use Rattle.utils.specs.Flat.{flat}
+use Rattle.base.specs.common.Binary64.{zero}
+use Rattle.base.specs.numbers.Numbers.{EMPTY}
+use Rattle.plane.specs.points.Flat.{flat}
 use Rattle.vertices.specs.laws.Points.{length-flat}
 use Rattle.wkb.specs.Polygon.{patterns}
-use Rattle.entries.specs.Named.{EntriesNamed}
+use Rattle.arguments.specs.entries.Named.{EntriesNamed}
 use Rattle.wkb.specs.Promise.{image}
-use Rattle.map_text.specs.MapText.{heading, mapText}
-use Rattle.given_box.specs.Finite.{Fits}
-use Rattle.given_box.specs.declared.Given.{Given}
+use Rattle.export.specs.map_text.MapText.{heading, mapText}
+use Rattle.plane.specs.given.Finite.{Fits}
+use Rattle.plane.specs.declared.given.Given.{Given}
 use Rattle.mesh.specs.Accepted.{Mesh, siteCount}
-use Rattle.laws.specs.Refusals.{Rule}
+use Rattle.base.specs.common.Refusals.{Rule}
 use Rattle.admission.specs.Admits.{Admits}
-use Rattle.asking.specs.laws.Asks.{NoneZero, box-answers}
-use Rattle.layout.specs.Regions.{joined, offsetsFrom}
+use Rattle.arguments.specs.asking.laws.Asks.{NoneZero, box-answers}
+use Rattle.cell_memory.specs.layout.Regions.{joined, offsetsFrom}
 use Rattle.definition.specs.declared.Fault.{Fault}
 use Rattle.definition.specs.Fault.{Outcome, ok}
 use Rattle.definition.specs.laws.Gives.{Gives, gives-ok}
 use Rattle.definition.specs.Build.{Built, build}
-use Rattle.outputs.specs.Outputs.{ofBuilt}
+use Rattle.cell_memory.specs.outputs.Outputs.{ofBuilt}
 use Rattle.definition.specs.Cell.{unmarked}
-use Rattle.build_answers.specs.Promise.{Builds, BuildAnswer, BuildAnswers, ClippedBuild}
-use Rattle.check_mesh.specs.AtExit.{atExit}
+use Rattle.building.specs.answers.Promise.{Builds, BuildAnswer, BuildAnswers, ClippedBuild}
+use Rattle.mesh_check.specs.whole.AtExit.{atExit}
 use Rattle.admission.specs.Slices.{Slices, roomFor, roomOf}
 use Rattle.build_laws.specs.Late.{Refuses, Numbered}
 use Rattle.build_laws.specs.LateRefusals.{build-late}
-use Rattle.build_answers.specs.Success.{zero-succeeds, clipped-sound}
+use Rattle.building.specs.answers.Success.{zero-succeeds, clipped-sound}
 use Rattle.export.specs.Shown.{MapSized, CanDraw, lines}
 use Rattle.export.specs.laws.CellsInIndexes.{lines-are, can-draw}
 use Rattle.export.specs.laws.Drawing.{same-image, padded-same, placed-named, Drawable}

@@ -5,12 +5,12 @@ use Prim.Native.Nat.{ℕ, suc, _+_, _/_, _≤_, _<_}
 use native.Mathlib.Omega.{arith}
 use native.Mathlib.Nat.{add-zero}
 use lib.ListN.{length, getD, take, drop, length-append}
-use Rattle.layout.specs.Regions.{joined, offsetsFrom}
-use Rattle.layout.specs.laws.Compacted.{offsets-length}
-use Rattle.text_parts.specs.Listed.{listedCell, Layout}
-use Rattle.entries.specs.Named.{EntriesNamed}
+use Rattle.cell_memory.specs.layout.Regions.{joined, offsetsFrom}
+use Rattle.cell_memory.specs.layout.laws.Compacted.{offsets-length}
+use Rattle.printing.specs.parts.Listed.{listedCell, Layout}
+use Rattle.arguments.specs.entries.Named.{EntriesNamed}
 use Rattle.wkb.specs.Promise.{image}
-use Rattle.map_text.specs.MapText.{mapLine, mapLines}
+use Rattle.export.specs.map_text.MapText.{mapLine, mapLines}
 use Rattle.export.specs.Printed.{drawnFrom}
 use Rattle.export.specs.Shown.{CanDraw}
 use Rattle.printing.specs.laws.CellsInIndexes.{joined-split, offset-at, next-at, cell-at, total}

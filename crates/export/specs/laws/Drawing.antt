@@ -9,7 +9,7 @@ use Rattle.definition.specs.Cell.{Mark, plain, crossing, wrapped, Entry, unmark
 use Rattle.definition.specs.Build.{Built}
 use Rattle.definition.specs.Measures.{ValidEntry, ValidEntries}
 use Rattle.wkb.specs.Polygon.{patternAt, patternsOf, patterns, polygon}
-use Rattle.entries.specs.Named.{EntriesNamed}
+use Rattle.arguments.specs.entries.Named.{EntriesNamed}
 use Rattle.wkb.specs.Promise.{image}
 
 same-points : (v w cell : List ℕ) (n : ℕ) → EntriesNamed cell n → ((k : ℕ) → k < 2 * n → getD v k 0 ≡ getD w k 0) → patternsOf v cell ≡ patternsOf w cell

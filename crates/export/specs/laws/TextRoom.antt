@@ -5,7 +5,7 @@ use native.Mathlib.Omega.{arith}
 use lib.Ieee.{Float}
 use lib.ListN.{length}
 use Rattle.wkb.specs.Polygon.{patterns}
-use Rattle.map_text.specs.laws.MapText.{text-short}
+use Rattle.export.specs.map_text.laws.MapText.{text-short}
 use Rattle.export.specs.Shown.{CanDraw, lines}
 
 pub lines-fit : {n numbers : ℕ} {off ix : List ℕ} (vertices : List Float) (space : ℕ) → CanDraw n numbers off ix → 106496 ≤ space → length (lines n vertices off ix) ≤ space

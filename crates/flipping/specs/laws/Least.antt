@@ -6,10 +6,10 @@ use Prim.Native.Nat.{ℕ, _≤_, _<_}
 use native.Mathlib.Nat.{le-antisymm}
 use native.Mathlib.Omega.{arith}
 use borrow.Author.Tests.{eq-eqb, ne-eqb, lt-ltb, le-ltb}
-use Rattle.laws.specs.Count.{occ}
-use Rattle.laws.specs.laws.Count.{same-cases}
-use Rattle.laws.specs.laws.Decide.{lt-or-ge, eq-or-ne}
-use Rattle.numbers.specs.Numbers.{EMPTY}
+use Rattle.base.specs.common.Count.{occ}
+use Rattle.base.specs.common.laws.Count.{same-cases}
+use Rattle.base.specs.common.laws.Decide.{lt-or-ge, eq-or-ne}
+use Rattle.base.specs.numbers.Numbers.{EMPTY}
 use Rattle.mesh.specs.Mesh.{pairOf, Leftmost}
 use Rattle.flipping.specs.Entries.{lesser, leastOf, gainOf, leastRound, lossOf}
 

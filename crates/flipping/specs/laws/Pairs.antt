@@ -7,8 +7,8 @@ use native.Mathlib.Omega.{arith}
 use lib.ListN.{length, set, length-set}
 use lib.Seq.{getD-set-same, getD-set-other, ext-getD}
 use borrow.Author.Tests.{eq-eqb, ne-eqb}
-use Rattle.laws.specs.laws.Decide.{eq-or-ne}
-use Rattle.numbers.specs.Numbers.{EMPTY}
+use Rattle.base.specs.common.laws.Decide.{eq-or-ne}
+use Rattle.base.specs.numbers.Numbers.{EMPTY}
 use Rattle.mesh.specs.Mesh.{startOf, endOf, pairOf, Mates, Paired}
 use Rattle.flipping.specs.Flip.{naming, crossed, relinked}
 use Rattle.flipping.specs.laws.Quad.{Quad, quad-turn}

@@ -5,7 +5,7 @@ use mathlib.Core.List.{List}
 use mathlib.Core.Logic.{_⊎_, ⊎-elim, _≢_}
 use Prim.Native.Nat.{ℕ, _<_}
 use lib.ListN.{length}
-use Rattle.laws.specs.laws.Decide.{eq-or-ne}
+use Rattle.base.specs.common.laws.Decide.{eq-or-ne}
 use Rattle.mesh.specs.Mesh.{nextOf, startOf, endOf, pairOf, around, Mates, Reached, here, onward, Paired}
 use Rattle.mesh.specs.laws.Next.{next-lt, next-inj}
 use Rattle.flipping.specs.Flip.{turnedSites, relinked}

@@ -4,7 +4,7 @@ use mathlib.Core.List.{List}
 use mathlib.Core.Logic.{_⊎_, inl, inr, ⊎-elim, _≢_}
 use Prim.Native.Nat.{ℕ, _<_}
 use lib.ListN.{length}
-use Rattle.laws.specs.laws.Decide.{eq-or-ne}
+use Rattle.base.specs.common.laws.Decide.{eq-or-ne}
 use Rattle.mesh.specs.Mesh.{around, Reached, here, onward}
 
 module _ (he he′ : List ℕ) (long : length he′ ≡ length he) where

@@ -3,17 +3,16 @@
 use mathlib.Core.Path.{_≡_, refl, sym, ap, _∙_, subst}
 use mathlib.Core.List.{List}
 use mathlib.Core.Logic.{inl, inr, ⊎-elim, _≢_}
-use Prim.Native.Nat.{ℕ, _-_, _<_}
+use Prim.Native.Nat.{ℕ, _<_}
 use native.Mathlib.Omega.{arith}
 use lib.ListN.{length, getD}
-use Rattle.laws.specs.laws.Decide.{eq-or-ne}
-use Rattle.numbers.specs.Numbers.{EMPTY}
+use Rattle.base.specs.common.laws.Decide.{eq-or-ne}
+use Rattle.base.specs.numbers.Numbers.{EMPTY}
 use Rattle.mesh.specs.Mesh.{nextOf, startOf, endOf, pairOf, Reached, here, onward, Paired, leftmostOf, Leftmost, Fan}
-use Rattle.mesh.specs.Hull.{nextPlace, Hull}
 use Rattle.mesh.specs.Accepted.{Topology}
 use Rattle.mesh.specs.laws.Next.{next-lt}
 use Rattle.mesh.specs.laws.Table.{table-leftmost}
-use Rattle.mesh.specs.laws.Border.{after-cases, hull-border}
+use Rattle.mesh.specs.laws.Border.{closed-fan}
 use Rattle.mesh.specs.laws.Facts.{paired, end-site, tab-some, leftmost-unpaired}
 use Rattle.flipping.specs.Flip.{turnedSites, relinked}
 use Rattle.flipping.specs.laws.Quad.{Quad, quad-turn}
@@ -28,23 +27,6 @@ use Rattle.flipping.specs.laws.Reach.{lost-reached, gained-reached, else
 reached-from : (he : List ℕ) {t v : ℕ} → Reached he t v → v < length he → t < length he
 reached-from he here h = h
 reached-from he (onward l r) h = reached-from he r l
-
--- the place before a hull place
-place-before : (h i : ℕ) → i < h → (j : ℕ) × (j < h) × (nextPlace h j ≡ i)
-place-before h i l =
-    ⊎-elim
-    (λ z. (h - 1, omega arith, ⊎-elim (λ w. w .1 ∙ sym z) (λ w. absurd (w .0 (omega arith))) (after-cases h (h - 1))))
-    (λ n. (i - 1, omega arith, ⊎-elim (λ w. absurd (omega arith)) (λ w. w .1 ∙ (omega arith)) (after-cases h (i - 1))))
-    (eq-or-ne i 0)
-
--- where no unpaired half-edge ends none starts
-pub closed-fan : (tri he hull : List ℕ) (sites s : ℕ) → Paired tri he → Hull tri he hull sites
-    → ((e : ℕ) → e < length he → endOf tri e ≡ s → pairOf he e ≢ EMPTY) → ClosedAt tri he s
-closed-fan tri he hull sites s ok h none e l q u =
-    let o = hull-border tri he hull sites h (nextOf e) (next-lt (ok .threes) l) u .0 in
-    let j = place-before (length hull) (o .0) (o .1) in
-    let d = h .edges (j .0) (j .1) in
-    none (d .0) (d .1) (d .4 ∙ ap (λ k. getD hull k 0) (j .2) ∙ sym (o .2) ∙ q) (d .2)
 
 module _ {tri he hull : List ℕ} {sites : ℕ} (ok : Topology tri he hull sites) {a b r l : ℕ} (q : Quad tri he a b r l) where
   abbrev tri′ : List ℕ

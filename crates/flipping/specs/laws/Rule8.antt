@@ -5,8 +5,8 @@ use mathlib.Core.Logic.{inl, inr, ⊎-elim, _≢_}
 use Prim.Native.Nat.{ℕ, _<_}
 use native.Mathlib.Omega.{arith}
 use lib.ListN.{length}
-use Rattle.laws.specs.laws.Decide.{eq-or-ne}
-use Rattle.numbers.specs.Numbers.{EMPTY}
+use Rattle.base.specs.common.laws.Decide.{eq-or-ne}
+use Rattle.base.specs.numbers.Numbers.{EMPTY}
 use Rattle.mesh.specs.Mesh.{startOf, endOf, pairOf, Mates, PairedAt, Paired}
 use Rattle.flipping.specs.Flip.{turnedSites, relinked}
 use Rattle.flipping.specs.laws.Quad.{Quad, quad-turn}

@@ -7,7 +7,7 @@ use Prim.Native.Nat.{ℕ, _+_, _*_, _%_, _<_}
 use native.Mathlib.Omega.{arith}
 use lib.ListN.{length, set, length-set}
 use lib.Seq.{getD-set-same, getD-set-other, set-comm}
-use Rattle.laws.specs.laws.Decide.{eq-or-ne}
+use Rattle.base.specs.common.laws.Decide.{eq-or-ne}
 use Rattle.mesh.specs.Mesh.{nextOf, startOf, endOf, AllSound}
 use Rattle.mesh.specs.laws.Next.{next-sum, next-inj}
 use Rattle.mesh.specs.laws.Facts.{sound-site}

@@ -3,7 +3,7 @@ use Prim.Native.Nat.{_-_}
 use native.Mathlib.Omega.{arith}
 use lib.ListN.{length}
 use denote.Ref.{now}
-use Rattle.form_step.specs.Reader.{reading}
+use Rattle.form.specs.step.Reader.{reading}
 use Rattle.form.specs.laws.Feed.{Feeding, feeding-start, feeding-step, feeding-end, room-same}
 use Rattle.form.proofs.feed.Statement.{statement}
 use Rattle.form.proofs.feed.Tie as tie

@@ -4,10 +4,10 @@ use Prim.Native.Nat.{_+_, _-_, _*_}
 use native.Mathlib.Omega.{arith}
 use denote.Ref.{now}
 use lib.Dec.{ltb}
-use Rattle.laws.specs.Pick.{pick}
-use Rattle.form_step.specs.Register.{shift}
-use Rattle.form_step.specs.Reader.{reading, putFloat, putLink}
-use Rattle.form_step.specs.laws.Standing.{few-counts, in-box, in-site, in-triangle, in-hull}
+use Rattle.base.specs.common.Pick.{pick}
+use Rattle.form.specs.step.Register.{shift}
+use Rattle.form.specs.step.Reader.{reading, putFloat, putLink}
+use Rattle.form.specs.step.laws.Standing.{few-counts, in-box, in-site, in-triangle, in-hull}
 use Rattle.form.specs.laws.Fill.{fill-box, fill-site, fill-triangle, fill-hull, fill-none}
 use borrow.Author.Needs.{needs}
 use Rattle.form.proofs.fill.Statement.{statement}

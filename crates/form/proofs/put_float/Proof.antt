@@ -1,6 +1,6 @@
 -- `form::put_float` meets its contract: the store is the definition's, at a place that the contract's bounds keep in range.
 use borrow.Author.Tests.{ne-eqb, eq-eqb}
-use Rattle.form_step.specs.Reader.{putFloat}
+use Rattle.form.specs.step.Reader.{putFloat}
 use borrow.Author.Needs.{needs}
 use Rattle.form.proofs.put_float.Statement.{statement}
 use Rattle.form.proofs.put_float.Tie as tie

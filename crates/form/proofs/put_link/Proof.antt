@@ -1,6 +1,6 @@
 -- `form::put_link` meets its contract: the store is the definition's, at a place that the contract's bounds keep in range.
 use borrow.Author.Tests.{ne-eqb, eq-eqb}
-use Rattle.form_step.specs.Reader.{putLink}
+use Rattle.form.specs.step.Reader.{putLink}
 use borrow.Author.Needs.{needs}
 use Rattle.form.proofs.put_link.Statement.{statement}
 use Rattle.form.proofs.put_link.Tie as tie

@@ -1,6 +1,6 @@
 -- `form::read` meets its contract: it is `feed` from the start, and `finish`.
 use denote.Ref.{now}
-use Rattle.form_step.specs.laws.Standing.{ok-start}
+use Rattle.form.specs.step.laws.Standing.{ok-start}
 use Rattle.form.specs.laws.Feed.{reads-all}
 use borrow.Author.Needs.{needs}
 use Rattle.form.proofs.read.Statement.{statement}

@@ -4,7 +4,7 @@ use native.Mathlib.Nat.{pos-of-ne-zero}
 use mathlib.Core.Path.{ap, _∙_}
 use denote.Ref.{now}
 use borrow.Author.Tests.{ne-eqb, eq-eqb}
-use Rattle.form_step.specs.Reader.{reading}
+use Rattle.form.specs.step.Reader.{reading}
 use borrow.Author.Needs.{needs}
 use Rattle.form.proofs.take.Statement.{statement}
 use Rattle.form.proofs.take.Tie as tie

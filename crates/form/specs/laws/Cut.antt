@@ -7,13 +7,13 @@ use Prim.Native.Nat.{ℕ, suc, _+_, _^_, _≤_, _<_}
 use native.Mathlib.Omega.{arith}
 use lib.ListN.{length, take, drop, take-append-drop, length-drop}
 use lib.Seq.{length-take-le}
-use Rattle.laws.specs.laws.Decide.{lt-or-ge}
+use Rattle.base.specs.common.laws.Decide.{lt-or-ge}
 use Rattle.octets.specs.Bytes.{Bytes, word, le}
 use Rattle.form.specs.Form.{Outline, SiteFits, TriangleFits, HullFits, outlineBytes, siteBytes, triangleBytes, hullBytes}
-use Rattle.form_step.specs.Reader.{broken, inside, step, steps}
-use Rattle.form_step.specs.laws.Steps.{step-broken, step-inside}
+use Rattle.form.specs.step.Reader.{broken, inside, step, steps}
+use Rattle.form.specs.step.laws.Steps.{step-broken, step-inside}
 use Rattle.octets.specs.laws.Bytes.{le-word, word-small, bytes-take, bytes-drop}
-use Rattle.form_step.specs.declared.Reader.{Reader}
+use Rattle.form.specs.declared.step.Reader.{Reader}
 
 pub record Ended (r : Reader) : Type 0 where
   pub unbroken : broken r ≡ false

@@ -8,18 +8,18 @@ use native.Mathlib.Omega.{arith}
 use lib.Dec.{eqb}
 use lib.ListN.{length}
 use borrow.Author.Tests.{eqb-true}
-use Rattle.laws.specs.Pick.{pick}
+use Rattle.base.specs.common.Pick.{pick}
 use Rattle.octets.specs.Bytes.{Bytes, each}
-use Rattle.numbers.specs.Numbers.{refusedForm}
+use Rattle.base.specs.numbers.Numbers.{refusedForm}
 use Rattle.form.specs.Form.{Outline, box, unclipped, edges, MayBegin, IsForm, OutlineFits, outlineBytes, siteBytes, triangleBytes, hullBytes, formOf}
-use Rattle.form_step.specs.Reader.{sizeOf, opens, follows, broken, start, numberFor, refused, begun, outside, step, steps, verdict, Reading, reading, takes}
-use Rattle.form_step.specs.laws.Steps.{OpeningKind, box as a-box, none as no-box, edges as four-edges, opens-cases, follows-cases, step-outside}
+use Rattle.form.specs.step.Reader.{sizeOf, opens, follows, broken, start, numberFor, refused, begun, outside, step, steps, verdict, Reading, reading, takes}
+use Rattle.form.specs.step.laws.Steps.{OpeningKind, box as a-box, none as no-box, edges as four-edges, opens-cases, follows-cases, step-outside}
 use Rattle.form.specs.laws.Run.{Opens, ready-up, takes-reader, opening}
 use Rattle.form.specs.laws.Mesh.{complete}
 use Rattle.form.specs.laws.Cut.{Ended, CutOff, steps-append, body-there, cut-four}
 use Rattle.form.specs.laws.Tail.{FewRecords, Tail, tail, refused-ends}
-use Rattle.form_step.specs.declared.Reader.{Reader}
-use Rattle.form_step.specs.declared.Form.the-variants.{Sound, Broken}
+use Rattle.form.specs.declared.step.Reader.{Reader}
+use Rattle.form.specs.declared.step.Form.the-variants.{Sound, Broken}
 
 -- ---- accepted
 

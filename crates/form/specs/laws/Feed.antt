@@ -9,15 +9,15 @@ use lib.ListN.{length, getD, drop}
 use lib.Seq.{drop-cons, drop-length}
 use lib.Dec.{eqb}
 use lib.Ieee.{Float}
-use Rattle.laws.specs.Pick.{pick}
-use Rattle.numbers.specs.Numbers.{refusedForm}
-use Rattle.form_step.specs.Reader.{Reading, reading, broken, start, step, take, takes, verdict}
-use Rattle.form_step.specs.Holds.{ListRoom, Few, Reads}
-use Rattle.form_step.specs.Standing.{Ok}
-use Rattle.form_step.specs.laws.Standing.{few-counts, ok-step}
-use Rattle.form_step.specs.declared.Reader.{Reader}
-use Rattle.form_step.specs.declared.Form.{Form}
-use Rattle.form_step.specs.declared.Form.the-variants.{Sound, Broken}
+use Rattle.base.specs.common.Pick.{pick}
+use Rattle.base.specs.numbers.Numbers.{refusedForm}
+use Rattle.form.specs.step.Reader.{Reading, reading, broken, start, step, take, takes, verdict}
+use Rattle.form.specs.step.Holds.{ListRoom, Few, Reads}
+use Rattle.form.specs.step.Standing.{Ok}
+use Rattle.form.specs.step.laws.Standing.{few-counts, ok-step}
+use Rattle.form.specs.declared.step.Reader.{Reader}
+use Rattle.form.specs.declared.step.Form.{Form}
+use Rattle.form.specs.declared.step.Form.the-variants.{Sound, Broken}
 
 abbrev pub RoomIn : Reading → Type 0
 RoomIn d = ListRoom (d .bounds) (d .sites) (d .triangles) (d .halfedges) (d .hull)

@@ -6,11 +6,11 @@ use Prim.Native.Nat.{ℕ, _+_, _-_, _*_, _<_}
 use lib.Dec.{eqb, ltb}
 use lib.Ieee.{Float}
 use borrow.Author.Tests.{ne-eqb}
-use Rattle.laws.specs.Pick.{pick}
-use Rattle.form_step.specs.Register.{shift}
-use Rattle.form_step.specs.Reader.{broken, inside, outside, within, putFloat, putLink, boundsBy, sitesBy, trianglesBy, halfedgesBy, hullBy, Reading, reading, filledBy, take}
-use Rattle.form_step.specs.laws.Steps.{step-broken, step-outside, step-inside, within-is, within-broken, within-outside}
-use Rattle.form_step.specs.declared.Reader.{Reader}
+use Rattle.base.specs.common.Pick.{pick}
+use Rattle.form.specs.step.Register.{shift}
+use Rattle.form.specs.step.Reader.{broken, inside, outside, within, putFloat, putLink, boundsBy, sitesBy, trianglesBy, halfedgesBy, hullBy, Reading, reading, filledBy, take}
+use Rattle.form.specs.step.laws.Steps.{step-broken, step-outside, step-inside, within-is, within-broken, within-outside}
+use Rattle.form.specs.declared.step.Reader.{Reader}
 
 module _ (r : Reader) (b : ℕ) (bs ss : List Float) (ts es hs : List ℕ) where
   module _ (e : broken r ≡ false) (p : 0 < r .left) where

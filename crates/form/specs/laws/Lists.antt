@@ -6,10 +6,10 @@ use native.Mathlib.Omega.{arith}
 use lib.Ieee.{Float}
 use lib.ListN.{length, getD, take, drop, length-append}
 use lib.Seq.{sets, take-append-seam}
-use Rattle.laws.specs.laws.Stores.{sets-all}
+use Rattle.base.specs.common.laws.Stores.{sets-all}
 use Rattle.octets.specs.Bytes.{Bytes, each}
 use Rattle.form.specs.Form.{FormMesh, MeshFits, outlineFloats, siteFloats, triangleSites, trianglePairs}
-use Rattle.form_step.specs.Holds.{ListRoom}
+use Rattle.form.specs.step.Holds.{ListRoom}
 
 -- bytes, each below 256
 pub bytes : (s : List ℕ) → ((i : ℕ) → getD s i 0 < 256) → Bytes s

@@ -7,7 +7,7 @@ use Prim.Native.Nat.{ℕ, zero, suc, _+_, _≤_, _<_}
 use native.Mathlib.Omega.{arith}
 use lib.ListN.{length, getD, take, drop, length-append, take-append-drop}
 use lib.Seq.{take-take, length-take-le}
-use Rattle.laws.specs.laws.Decide.{eq-or-ne, lt-or-ge}
+use Rattle.base.specs.common.laws.Decide.{eq-or-ne, lt-or-ge}
 use Rattle.form.specs.Form.{IsForm}
 use Rattle.form.specs.Length.{no-form}
 use Rattle.form.specs.laws.Place.{one-place}

@@ -9,14 +9,14 @@ use lib.Ieee.{Float}
 use lib.ListN.{length}
 use lib.Seq.{sets}
 use borrow.Author.Tests.{lt-ltb}
-use Rattle.laws.specs.laws.Stores.{sets-join}
+use Rattle.base.specs.common.laws.Stores.{sets-join}
 use Rattle.octets.specs.Bytes.{each, All}
 use Rattle.form.specs.Form.{FormMesh, Site, Triangle, MeshFits, MayBegin, SiteFits, TriangleFits, HullFits, outlineBytes, siteBytes, triangleBytes}
 use Rattle.form.specs.Form.{hullBytes, formOf, outlineFloats, siteFloats, triangleSites, trianglePairs, kindOf}
-use Rattle.form_step.specs.Reader.{opens, roomLeft, start, begun, Reading, reading, takes, verdict}
+use Rattle.form.specs.step.Reader.{opens, roomLeft, start, begun, Reading, reading, takes, verdict}
 use Rattle.form.specs.laws.Run.{AtRecord, Goes, Opening, ready-up, takes-append, kind-follows, kind-run, site-run, triangle-run, hull-run, opening}
-use Rattle.form_step.specs.declared.Reader.{Reader}
-use Rattle.form_step.specs.declared.Form.the-variants.{Sound}
+use Rattle.form.specs.declared.step.Reader.{Reader}
+use Rattle.form.specs.declared.step.Form.the-variants.{Sound}
 
 -- ---- runs, one after the other
 

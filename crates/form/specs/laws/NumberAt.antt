@@ -8,22 +8,22 @@ use native.Mathlib.Omega.{arith}
 use lib.Dec.{eqb}
 use lib.ListN.{length, getD, take}
 use borrow.Author.Tests.{ne-eqb, lt-ltb, le-ltb}
-use Rattle.laws.specs.Pick.{pick}
-use Rattle.laws.specs.laws.Decide.{eq-or-ne, lt-or-ge}
-use Rattle.numbers.specs.Numbers.{refusedForm, refusedUnclipped}
+use Rattle.base.specs.common.Pick.{pick}
+use Rattle.base.specs.common.laws.Decide.{eq-or-ne, lt-or-ge}
+use Rattle.base.specs.numbers.Numbers.{refusedForm, refusedUnclipped}
 use Rattle.octets.specs.Bytes.{Bytes}
 use Rattle.form.specs.Form.{IsForm}
 use Rattle.form.specs.Place.{Expects, NumberAt}
-use Rattle.form_step.specs.Reader.{broken, start, numberFor, refused, outside, step, steps, verdict}
-use Rattle.form_step.specs.laws.Steps.{step-outside}
-use Rattle.form_step.specs.laws.Standing.{ok-start, ok-steps, nothing, none-after-end}
+use Rattle.form.specs.step.Reader.{broken, start, numberFor, refused, outside, step, steps, verdict}
+use Rattle.form.specs.step.laws.Steps.{step-outside}
+use Rattle.form.specs.step.laws.Standing.{ok-start, ok-steps, nothing, none-after-end}
 use Rattle.octets.specs.laws.Bytes.{bytes-take}
 use Rattle.form.specs.laws.Cut.{Ended, steps-append}
 use Rattle.form.specs.laws.Tail.{after-end, refused-ends}
 use Rattle.form.specs.laws.Exact.{sound-broken, accepts, only-forms}
 use Rattle.form.specs.laws.Place.{SomeStop, stop, taken-all, five-ends, bytes-both, broken-at}
-use Rattle.form_step.specs.declared.Reader.{Reader}
-use Rattle.form_step.specs.declared.Form.the-variants.{Sound, Broken}
+use Rattle.form.specs.declared.step.Reader.{Reader}
+use Rattle.form.specs.declared.step.Form.the-variants.{Sound, Broken}
 
 no-bytes : (s : List ℕ) → length s ≡ 0 → s ≡ []
 no-bytes [] e = refl

@@ -10,21 +10,21 @@ use lib.Dec.{eqb}
 use lib.ListN.{length, getD, take, drop, replicate, length-replicate, take-append-drop}
 use lib.Seq.{take-take, take-length}
 use borrow.Author.Tests.{eqb-true, eqb-false, lt-ltb}
-use Rattle.laws.specs.laws.Decide.{eq-or-ne}
-use Rattle.laws.specs.Pick.{pick}
-use Rattle.numbers.specs.Numbers.{refusedForm}
+use Rattle.base.specs.common.laws.Decide.{eq-or-ne}
+use Rattle.base.specs.common.Pick.{pick}
+use Rattle.base.specs.numbers.Numbers.{refusedForm}
 use Rattle.octets.specs.Bytes.{Bytes}
 use Rattle.octets.specs.laws.Bytes.{bytes-take}
 use Rattle.form.specs.Form.{IsForm}
-use Rattle.form_step.specs.Reader.{sizeOf, opens, roomLeft, follows, broken, start, numberFor, refused, begun, inside, outside, step, steps, verdict}
-use Rattle.form_step.specs.laws.Steps.{step-outside, number-broken}
-use Rattle.form_step.specs.Standing.{Ok}
-use Rattle.form_step.specs.laws.Standing.{ok-start, ok-steps}
+use Rattle.form.specs.step.Reader.{sizeOf, opens, roomLeft, follows, broken, start, numberFor, refused, begun, inside, outside, step, steps, verdict}
+use Rattle.form.specs.step.laws.Steps.{step-outside, number-broken}
+use Rattle.form.specs.step.Standing.{Ok}
+use Rattle.form.specs.step.laws.Standing.{ok-start, ok-steps}
 use Rattle.form.specs.laws.Run.{kind-follows}
 use Rattle.form.specs.laws.Cut.{Ended, steps-append, steps-broken, true-false, partway}
 use Rattle.form.specs.laws.Exact.{sound-broken, accepts, only-forms}
-use Rattle.form_step.specs.declared.Reader.{Reader}
-use Rattle.form_step.specs.declared.Form.the-variants.{Sound, Broken}
+use Rattle.form.specs.declared.step.Reader.{Reader}
+use Rattle.form.specs.declared.step.Form.the-variants.{Sound, Broken}
 use Rattle.form.specs.Place.{StartsForm, Place}
 
 -- ---- where a run is refused

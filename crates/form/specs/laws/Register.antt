@@ -7,7 +7,7 @@ use native.Mathlib.Nat.{pow-suc, div-div-eq-div-mul, mul-comm, div-one}
 use lib.ListN.{length}
 use Rattle.octets.specs.Bytes.{Bytes, word, le}
 use Rattle.octets.specs.laws.Bytes.{word-le}
-use Rattle.form_step.specs.Register.{shift, shifts}
+use Rattle.form.specs.step.Register.{shift, shifts}
 
 shift-is : (w b : ℕ) → shift w b ≡ (w + b * 2 ^ 64) / 256
 shift-is w b = omega arith

@@ -8,11 +8,11 @@ use native.Mathlib.Omega.{arith}
 use lib.ListN.{length}
 use Rattle.octets.specs.Bytes.{Bytes, each, All}
 use Rattle.form.specs.Form.{Site, Triangle, SiteFits, TriangleFits, HullFits, siteBytes, triangleBytes, hullBytes}
-use Rattle.form_step.specs.Reader.{sizeOf, opens, follows, broken, numberFor, refused, begun, outside, step, steps, Reading, reading}
-use Rattle.form_step.specs.laws.Steps.{RecordKind, site, triangle, hull, end, follows-cases, step-outside, number-broken}
+use Rattle.form.specs.step.Reader.{sizeOf, opens, follows, broken, numberFor, refused, begun, outside, step, steps, Reading, reading}
+use Rattle.form.specs.step.laws.Steps.{RecordKind, site, triangle, hull, end, follows-cases, step-outside, number-broken}
 use Rattle.form.specs.laws.Run.{AtRecord, Ran, Goes, ready-up, takes-reader, site-run, triangle-run, hull-run}
 use Rattle.form.specs.laws.Cut.{Ended, CutOff, steps-append, steps-broken, true-false, partway, body-there, cut-site, cut-triangle, cut-hull}
-use Rattle.form_step.specs.declared.Reader.{Reader}
+use Rattle.form.specs.declared.step.Reader.{Reader}
 
 pub record FewRecords (r : Reader) : Type 0 where
   pub sites : r .sites ≤ 96

@@ -2,7 +2,7 @@
 use Prim.Native.Nat.{ℕ, _-_, _≤_, _<_}
 use native.Mathlib.Omega.{arith}
 use borrow.Author.Count.{below-none, below-more}
-use Rattle.laws.specs.laws.Decide.{refused, granted}
+use Rattle.base.specs.common.laws.Decide.{refused, granted}
 use Rattle.grid.specs.Plane.{WithinAt}
 use Rattle.grid.proofs.first_beyond.Statement.{statement}
 use Rattle.grid.proofs.first_beyond.Tie as tie

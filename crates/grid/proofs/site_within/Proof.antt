@@ -3,7 +3,7 @@ use mathlib.Core.Path.{subst, _∙_}
 use borrow.Author.Needs.{needs, sfits-of}
 use mir.Syntax.{w32}
 use mir.ValLaws.{toZ-ofZ}
-use Rattle.laws.specs.Decide.{Says}
+use Rattle.base.specs.common.Decide.{Says}
 use Rattle.grid.specs.Plane.{Within}
 use Rattle.grid.specs.laws.Machine.{both}
 use Rattle.grid.proofs.site_within.Statement.{statement}

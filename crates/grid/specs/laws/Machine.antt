@@ -11,7 +11,7 @@ use mir.Syntax.{w32, w64}
 use mir.Val.{Fits, SFits, ofZ, toZ}
 use mir.ValLaws.{toZ-ofZ}
 use borrow.Author.Tests.{ltb-true, ltb-false, leb-true, le-leb}
-use Rattle.laws.specs.Decide.{Says}
+use Rattle.base.specs.common.Decide.{Says}
 use Rattle.grid.specs.Plane.{Within}
 use Rattle.grid.specs.Raised.{up}
 use Rattle.grid.specs.laws.Same.{up-pos, up-low}

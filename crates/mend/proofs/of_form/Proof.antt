@@ -5,11 +5,11 @@ use Prim.Native.Nat.{ℕ, _≤_}
 use lib.ListN.{length, take, length-take}
 use lib.Seq.{length-take-le}
 use denote.Ref.{now}
-use Rattle.text_parts.specs.Labelled.{refusal}
-use Rattle.text_parts.specs.laws.Labelled.{refusal-short}
+use Rattle.printing.specs.parts.Labelled.{refusal}
+use Rattle.printing.specs.parts.laws.Labelled.{refusal-short}
 use Rattle.octets.specs.laws.Wrote.{wrote-all}
-use Rattle.form_step.specs.declared.Form.{Form}
-use Rattle.mend_box.specs.Option.{IsOption}
+use Rattle.form.specs.declared.step.Form.{Form}
+use Rattle.mend.specs.boxes.Option.{IsOption}
 use Rattle.mend.specs.Steps.{Headed}
 use Rattle.mend.specs.laws.Heads.{put-option, put-bounded, heads-short}
 use borrow.Author.Needs.{needs}

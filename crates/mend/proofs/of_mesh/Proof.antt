@@ -5,7 +5,7 @@ use Prim.Native.Nat.{_+_, _≤_}
 use lib.ListN.{length, take, length-take}
 use lib.Seq.{length-take-le}
 use denote.Ref.{now}
-use Rattle.mend_slices.specs.Lent.{Lent, lent}
+use Rattle.mending.specs.slices.Lent.{Lent, lent}
 use Rattle.mend.specs.Steps.{CanShow}
 use Rattle.mend.specs.laws.Shows.{ProgramLent, few, held}
 use borrow.Author.Needs.{needs}

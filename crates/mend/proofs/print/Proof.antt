@@ -3,7 +3,7 @@ use mathlib.Core.Path.{sym}
 use native.Mathlib.Omega.{arith}
 use lib.Seq.{length-take-le}
 use denote.Ref.{now}
-use Rattle.mend_box.specs.Record.{is-option}
+use Rattle.mend.specs.boxes.Record.{is-option}
 use borrow.Author.Needs.{needs}
 use Rattle.mend.proofs.print.Statement.{statement}
 use Rattle.mend.proofs.print.Tie as tie

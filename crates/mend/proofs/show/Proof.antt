@@ -1,7 +1,7 @@
 -- `mend::show` meets its contract: by the number, and by what is asked for; there is room for each text.
 use native.Mathlib.Omega.{arith}
 use denote.Ref.{now}
-use Rattle.text_parts.specs.laws.Labelled.{refusal-short}
+use Rattle.printing.specs.parts.laws.Labelled.{refusal-short}
 use Rattle.mend.specs.laws.Text.{form-room, text-room, shown-refused, shown-form, shown-lines}
 use borrow.Author.Needs.{needs}
 use Rattle.mend.proofs.show.Statement.{statement}

@@ -8,20 +8,20 @@ use native.Mathlib.Omega.{arith}
 use lib.Dec.{eqb}
 use lib.ListN.{length, take, drop, length-append, length-take}
 use lib.Seq.{take-at, take-length}
-use Rattle.laws.specs.Pick.{pick}
+use Rattle.base.specs.common.Pick.{pick}
 use Rattle.octets.specs.Bytes.{each}
-use Rattle.form_step.specs.declared.Form.the-variants.{Sound}
+use Rattle.form.specs.declared.step.Form.the-variants.{Sound}
 use Rattle.form.specs.Form.{Outline, box, unclipped, edges, FormMesh, MayBegin, formOf, outlineBytes, siteBytes, triangleBytes, hullBytes, kindOf, siteFloats}
 use Rattle.form.specs.laws.Lists.{each-length}
-use Rattle.form_writer.specs.Written.{lists, writtenForm}
-use Rattle.form_writer.specs.FormOf.{writes-form}
-use Rattle.mend_changes.specs.Changes.{Difference}
-use Rattle.mend_pairs.specs.Pairs.{pairsOf}
+use Rattle.mend.specs.writer.Written.{lists, writtenForm}
+use Rattle.mend.specs.writer.FormOf.{writes-form}
+use Rattle.mending.specs.changes.Changes.{Difference}
+use Rattle.mending.specs.pairs.Pairs.{pairsOf}
 use Rattle.mending.specs.Mending.{newHull, pairChanges, hullChanges}
-use Rattle.mend_box.specs.Option.{IsOption, outlineOf, gives, inPlace, firstAfter, putLength, keptFrom}
-use Rattle.mend_box.specs.Record.{holds}
-use Rattle.box_text.specs.BoxLine.{boxLine}
-use Rattle.box_text.specs.laws.BoxLine.{box-none}
+use Rattle.mend.specs.boxes.Option.{IsOption, outlineOf, gives, inPlace, firstAfter, putLength, keptFrom}
+use Rattle.mend.specs.boxes.Record.{holds}
+use Rattle.mend.specs.box_line.BoxLine.{boxLine}
+use Rattle.mend.specs.box_line.laws.BoxLine.{box-none}
 use Rattle.mend.specs.Printed.{changesText, triOf, heOf, count, textOf}
 use Rattle.mend.specs.Steps.{firstLength, Headed, listsText, putBytes, keptBytes}
 

@@ -8,16 +8,16 @@ use Prim.Native.Nat.{ℕ}
 use lib.Ieee.{Float}
 use lib.ListN.{length}
 use Rattle.octets.specs.Bytes.{Bytes, each}
-use Rattle.text_parts.specs.Labelled.{refusal}
-use Rattle.form_step.specs.Reader.{start, reading}
-use Rattle.form_step.specs.Holds.{ListRoom, Reads}
-use Rattle.form_step.specs.declared.Form.{Form}
-use Rattle.form_step.specs.declared.Form.the-variants.{Sound}
+use Rattle.printing.specs.parts.Labelled.{refusal}
+use Rattle.form.specs.step.Reader.{start, reading}
+use Rattle.form.specs.step.Holds.{ListRoom, Reads}
+use Rattle.form.specs.declared.step.Form.{Form}
+use Rattle.form.specs.declared.step.Form.the-variants.{Sound}
 use Rattle.form.specs.Form.{Outline, FormMesh, MeshFits, MayBegin, formOf, kindOf, siteFloats}
 use Rattle.form.specs.Place.{Place, NumberAt}
 use Rattle.form.specs.Promise.{ReadSound, Refused, exact}
 use Rattle.form.specs.laws.Lists.{Put, sites-are, tri-is, he-is, hull-is}
-use Rattle.mend_box.specs.Option.{IsOption, outlineOf, gives}
+use Rattle.mend.specs.boxes.Option.{IsOption, outlineOf, gives}
 use Rattle.mend.specs.Printed as printed
 use Rattle.mend.specs.Printed.{PrintsMesh, MendPrints, MendNumber, sound, broken}
 use Rattle.mend.specs.Steps as steps

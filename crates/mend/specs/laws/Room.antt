@@ -7,16 +7,16 @@ use Prim.Native.Nat.{ℕ, _/_}
 use native.Mathlib.Omega.{arith}
 use lib.Ieee.{Float}
 use lib.ListN.{length}
-use Rattle.laws.specs.Refusals.{Rule, once, each, reads, Judged, Finds}
-use Rattle.numbers.specs.Numbers.{refusedCount, refusedRoom, refusedBox}
+use Rattle.base.specs.common.Refusals.{Rule, once, each, reads, Judged, Finds}
+use Rattle.base.specs.numbers.Numbers.{refusedCount, refusedRoom, refusedBox}
 use Rattle.mesh.specs.declared.MeshFault.the-variants.{Triangle}
 use Rattle.mesh.specs.Mesh.{SoundAt}
 use Rattle.mesh.specs.Faults.{numberOf, coordinateRules}
 use Rattle.mesh.specs.Accepted.{Counted, mesh, siteCount}
 use Rattle.mending.specs.Mending.{workRules, mendRules}
 use Rattle.form.specs.Form.{Outline}
-use Rattle.mend_box.specs.Option.{IsRecord, IsOption, outlineOf, keepsBox, numberWith}
-use Rattle.mend_box.specs.laws.Option.{number-none, number-kept, number-first, number-box}
+use Rattle.mend.specs.boxes.Option.{IsRecord, IsOption, outlineOf, keepsBox, numberWith}
+use Rattle.mend.specs.boxes.laws.Option.{number-none, number-kept, number-first, number-box}
 use Rattle.mend.specs.Printed.{putRules}
 
 -- the second rule of a list is kept, and another that is kept comes in its place

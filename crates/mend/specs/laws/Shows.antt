@@ -9,22 +9,22 @@ use lib.Ieee.{Float}
 use lib.ListN.{length, take, replicate, length-append, length-replicate}
 use lib.Seq.{take-at}
 use borrow.Author.Tests.{eq-eqb, ne-eqb}
-use Rattle.laws.specs.Pick.{pick}
-use Rattle.laws.specs.laws.Decide.{eq-or-ne}
-use Rattle.numbers.specs.Numbers.{EMPTY}
+use Rattle.base.specs.common.Pick.{pick}
+use Rattle.base.specs.common.laws.Decide.{eq-or-ne}
+use Rattle.base.specs.numbers.Numbers.{EMPTY}
 use Rattle.octets.specs.Wrote.{Wrote}
 use Rattle.octets.specs.laws.Wrote.{wrote-all}
 use Rattle.mesh.specs.Accepted.{mesh, siteCount}
-use Rattle.check_mesh.specs.AtExit.{atExit}
-use Rattle.mend_pairs.specs.Pairs.{pairsOf}
-use Rattle.mend_pairs.specs.laws.Mates.{pairs-length}
-use Rattle.mend_changes.specs.Changes.{Difference, flatChanges}
-use Rattle.mend_changes.specs.laws.Listing.{flat-append, flat-length}
-use Rattle.mend_slices.specs.Lent.{Lent, filled}
+use Rattle.mesh_check.specs.whole.AtExit.{atExit}
+use Rattle.mending.specs.pairs.Pairs.{pairsOf}
+use Rattle.mending.specs.pairs.laws.Mates.{pairs-length}
+use Rattle.mending.specs.changes.Changes.{Difference, flatChanges}
+use Rattle.mending.specs.changes.laws.Listing.{flat-append, flat-length}
+use Rattle.mending.specs.slices.Lent.{Lent, filled}
 use Rattle.mending.specs.Mending.{mendRoomOf, newHull, pairChanges, hullChanges, whenMade, Mends}
-use Rattle.form_writer.specs.Written.{writtenForm}
-use Rattle.mend_box.specs.Option.{IsOption, numberWith}
-use Rattle.mend_box.specs.laws.Option.{number-zero}
+use Rattle.mend.specs.writer.Written.{writtenForm}
+use Rattle.mend.specs.boxes.Option.{IsOption, numberWith}
+use Rattle.mend.specs.boxes.laws.Option.{number-zero}
 use Rattle.mend.specs.Printed.{changesText}
 use Rattle.mend.specs.Steps.{MendSized, CanShow, shownText, ListsNumber, OfLists, refused, mended}
 use Rattle.mend.specs.laws.Room.{with-box}

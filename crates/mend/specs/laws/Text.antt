@@ -8,20 +8,20 @@ use native.Mathlib.Omega.{arith}
 use lib.Dec.{eqb}
 use lib.ListN.{length}
 use borrow.Author.Tests.{eq-eqb, ne-eqb}
-use Rattle.laws.specs.Pick.{pick}
+use Rattle.base.specs.common.Pick.{pick}
 use Rattle.octets.specs.Bytes.{each}
 use Rattle.octets.specs.Wrote.{Wrote}
-use Rattle.text_parts.specs.Text.{ascii}
-use Rattle.text_parts.specs.Labelled.{refusal}
-use Rattle.text_parts.specs.laws.Labelled.{refusal-short}
-use Rattle.mend_changes.specs.Changes.{Difference, flatChanges}
-use Rattle.change_text.specs.ChangeLines.{changeLines, countsLine}
-use Rattle.box_text.specs.BoxLine.{boxLine}
-use Rattle.mend_text.specs.MendText.{mendText}
-use Rattle.change_text.specs.laws.ChangeLines.{lines-shift}
-use Rattle.mend_text.specs.laws.MendText.{text-short}
-use Rattle.form_writer.specs.Written.{writtenForm}
-use Rattle.form_writer.specs.FormOf.{length-written}
+use Rattle.printing.specs.parts.Text.{ascii}
+use Rattle.printing.specs.parts.Labelled.{refusal}
+use Rattle.printing.specs.parts.laws.Labelled.{refusal-short}
+use Rattle.mending.specs.changes.Changes.{Difference, flatChanges}
+use Rattle.mend.specs.change_lines.ChangeLines.{changeLines, countsLine}
+use Rattle.mend.specs.box_line.BoxLine.{boxLine}
+use Rattle.mend.specs.text.MendText.{mendText}
+use Rattle.mend.specs.change_lines.laws.ChangeLines.{lines-shift}
+use Rattle.mend.specs.text.laws.MendText.{text-short}
+use Rattle.mend.specs.writer.Written.{writtenForm}
+use Rattle.mend.specs.writer.FormOf.{length-written}
 use Rattle.mend.specs.Printed.{changeLineOf, changesText}
 use Rattle.mend.specs.Steps.{CanShow, shownText}
 

@@ -7,7 +7,7 @@ use Prim.Native.Nat.{ℕ, _≤_, _<_}
 use native.Mathlib.Omega.{arith}
 use lib.Dec.{eqb}
 use borrow.Author.Tests.{eq-eqb, ne-eqb, lt-ltb, le-ltb, eqb-true}
-use Rattle.text_parts.specs.Text.{ascii}
+use Rattle.printing.specs.parts.Text.{ascii}
 use Rattle.mend.specs.Printed.{sameBytes, isOption, wayIf, wayOf}
 use Rattle.mend.specs.declared.Way.the-variants.{Print, Usage}
 

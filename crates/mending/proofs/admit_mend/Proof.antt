@@ -1,6 +1,6 @@
 -- Each answer follows the tests that led to it.
-use Rattle.laws.specs.laws.Decide.{granted, refused, first-all}
-use Rattle.laws.specs.laws.Refusals.{breaks, offends, keeps, all-keep, nothing}
+use Rattle.base.specs.common.laws.Decide.{granted, refused, first-all}
+use Rattle.base.specs.common.laws.Refusals.{breaks, offends, keeps, all-keep, nothing}
 use borrow.Author.Needs.{needs}
 use Rattle.mending.proofs.admit_mend.Statement.{statement}
 use Rattle.mending.proofs.admit_mend.Tie as tie

@@ -1,6 +1,6 @@
 -- After 1, 2 and 6 nothing has changed, after 7 all is cleared; else rules 19, 9 and 10 follow.
 use Rattle.mesh.specs.Accepted.{mesh}
-use Rattle.mend_slices.specs.Lent.{lent}
+use Rattle.mending.specs.slices.Lent.{lent}
 use Rattle.mending.specs.laws.Outcomes.{mends-held, mends-seven, ready, lists, mends-worked}
 use borrow.Author.Needs.{needs}
 use Rattle.mending.proofs.mend.Statement.{statement}

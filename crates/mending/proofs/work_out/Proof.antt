@@ -4,7 +4,7 @@ use native.Mathlib.Omega.{arith}
 use lib.ListN.{length, replicate}
 use lib.Seq.{length-take-le}
 use borrow.Author.Tests.{not-true, not-false}
-use Rattle.numbers.specs.Numbers.{EMPTY}
+use Rattle.base.specs.numbers.Numbers.{EMPTY}
 use Rattle.mending.specs.laws.Working.{worked-twice, pairs-long, pairs-paired, worked-hull}
 use borrow.Author.Needs.{needs}
 use Rattle.mending.proofs.work_out.Statement.{statement}

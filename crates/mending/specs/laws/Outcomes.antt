@@ -8,18 +8,18 @@ use lib.Ieee.{Float}
 use lib.ListN.{length, replicate}
 use borrow.Author.Needs.{needs}
 use borrow.Author.Tests.{eq-eqb, ne-eqb}
-use Rattle.laws.specs.Refusals.{Keep, Finds}
-use Rattle.laws.specs.laws.Refusals.{finds-keep, finds-answers, finds-first, finds-after}
-use Rattle.numbers.specs.Numbers.{EMPTY, refusedTriangle}
+use Rattle.base.specs.common.Refusals.{Keep, Finds}
+use Rattle.base.specs.common.laws.Refusals.{finds-keep, finds-answers, finds-first, finds-after}
+use Rattle.base.specs.numbers.Numbers.{EMPTY, refusedTriangle}
 use Rattle.mesh.specs.Mesh.{leftmostIn}
 use Rattle.mesh.specs.Accepted.{Mesh, siteCount}
 use Rattle.mesh.specs.laws.Facts.{few-entries, sound-site}
-use Rattle.check_mesh.specs.laws.AtExit.{exit-made, exit-held, exit-blank}
-use Rattle.mend_pairs.specs.Pairs.{pairsOf}
-use Rattle.mend_changes.specs.Changes.{flatChanges}
+use Rattle.mesh_check.specs.whole.laws.AtExit.{exit-made, exit-held, exit-blank}
+use Rattle.mending.specs.pairs.Pairs.{pairsOf}
+use Rattle.mending.specs.changes.Changes.{flatChanges}
 use Rattle.mending.specs.Mending.{mendRoomOf, mendEarly, workRules, mendRules, newHull, pairChanges, hullChanges, whenMade, MendOutcome, Mends}
-use Rattle.mend_slices.specs.Lent.{Lent, filled}
-use Rattle.mend_slices.specs.Steps.{Cleared}
+use Rattle.mending.specs.slices.Lent.{Lent, filled}
+use Rattle.mending.specs.slices.Steps.{Cleared}
 use Rattle.mending.specs.Steps.{Ready, Lists}
 
 pub made : (r x : ℕ) → r ≡ 0 → whenMade r x ≡ x

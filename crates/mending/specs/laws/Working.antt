@@ -5,25 +5,25 @@ use mathlib.Core.Bool.{Bool, true, false}
 use Prim.Native.Nat.{ℕ, _≤_}
 use native.Mathlib.Omega.{arith}
 use lib.ListN.{length, getD, take, replicate}
-use Rattle.laws.specs.Refusals.{Finds}
-use Rattle.laws.specs.laws.Refusals.{breaks, keeps}
-use Rattle.numbers.specs.Numbers.{EMPTY, refusedTwice}
+use Rattle.base.specs.common.Refusals.{Finds}
+use Rattle.base.specs.common.laws.Refusals.{breaks, keeps}
+use Rattle.base.specs.numbers.Numbers.{EMPTY, refusedTwice}
 use Rattle.mesh.specs.Mesh.{AllPaired}
-use Rattle.mend_pairs.specs.Pairs.{pairsOf}
-use Rattle.mend_pairs.specs.Chains.{PairAnswer}
-use Rattle.mend_pairs.specs.laws.Mates.{pairs-length}
-use Rattle.mend_pairs.specs.laws.Marking.{said, denied}
-use Rattle.mend_pairs.specs.PairTheorem.{pairs-right}
-use Rattle.mend_hull.specs.Loop.{leadTable, loopBegin, hullOf}
-use Rattle.mend_hull.specs.Answer.{TracedHull}
-use Rattle.mend_hull.specs.laws.Leads.{leads-length}
-use Rattle.mend_hull.specs.laws.Tracing.{loop-few}
-use Rattle.mend_changes.specs.Changes.{longer, changesOf, flatChanges}
-use Rattle.mend_changes.specs.laws.Listing.{changes-few}
+use Rattle.mending.specs.pairs.Pairs.{pairsOf}
+use Rattle.mending.specs.pairs.Chains.{PairAnswer}
+use Rattle.mending.specs.pairs.laws.Mates.{pairs-length}
+use Rattle.mending.specs.pairs.laws.Marking.{said, denied}
+use Rattle.mending.specs.pairs.PairTheorem.{pairs-right}
+use Rattle.mending.specs.border.Loop.{leadTable, loopBegin, hullOf}
+use Rattle.mending.specs.border.Answer.{TracedHull}
+use Rattle.mending.specs.border.laws.Leads.{leads-length}
+use Rattle.mending.specs.border.laws.Tracing.{loop-few}
+use Rattle.mending.specs.changes.Changes.{longer, changesOf, flatChanges}
+use Rattle.mending.specs.changes.laws.Listing.{changes-few}
 use Rattle.mending.specs.Mending.{workRules, newHull, pairChanges, hullChanges, MendOutcome}
-use Rattle.mend_slices.specs.Lent.{Lent, lent, filled}
-use Rattle.mend_slices.specs.Steps.{ListedBoth}
-use Rattle.mend_slices.specs.laws.Filled.{sets-filled, take-filled}
+use Rattle.mending.specs.slices.Lent.{Lent, lent, filled}
+use Rattle.mending.specs.slices.Steps.{ListedBoth}
+use Rattle.mending.specs.slices.laws.Filled.{sets-filled, take-filled}
 use Rattle.mending.specs.Steps.{WorkedOut}
 use Rattle.mending.specs.laws.Outcomes.{outcome-made}
 

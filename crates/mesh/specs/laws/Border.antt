@@ -2,16 +2,18 @@
 use mathlib.Core.Path.{_≡_, refl, sym, ap, _∙_}
 use mathlib.Core.List.{List, [], _∷_}
 use mathlib.Core.Logic.{_⊎_, inl, inr, ⊎-elim, _≢_}
-use Prim.Native.Nat.{ℕ, zero, suc, _+_, _≤_, _<_}
+use Prim.Native.Nat.{ℕ, zero, suc, _+_, _-_, _≤_, _<_}
 use native.Mathlib.Omega.{arith}
 use lib.ListN.{length, getD}
 use borrow.Author.Tests.{eq-eqb, ne-eqb}
-use Rattle.laws.specs.laws.Decide.{lt-or-ge, eq-or-ne}
-use Rattle.laws.specs.Count.{same, occ, sumTo}
-use Rattle.laws.specs.laws.Count.{same-cases, all-weighed, weighed}
-use Rattle.numbers.specs.Numbers.{EMPTY}
-use Rattle.mesh.specs.Mesh.{startOf, endOf, pairOf}
+use Rattle.base.specs.common.laws.Decide.{lt-or-ge, eq-or-ne}
+use Rattle.base.specs.common.Count.{same, occ, sumTo}
+use Rattle.base.specs.common.laws.Count.{same-cases, all-weighed, weighed}
+use Rattle.base.specs.numbers.Numbers.{EMPTY}
+use Rattle.mesh.specs.Mesh.{nextOf, startOf, endOf, pairOf, Paired}
 use Rattle.mesh.specs.Hull.{nextPlace, nextSite, openTo, Hull, PlaceAt, BorderAt}
+use Rattle.mesh.specs.laws.Next.{next-lt}
+use Rattle.mesh.specs.laws.Closed.{ClosedAt}
 
 pub after-cases : (h i : ℕ) → ((i + 1 ≡ h) × (nextPlace h i ≡ 0)) ⊎ ((i + 1 ≢ h) × (nextPlace h i ≡ i + 1))
 unfolding nextPlace
@@ -159,3 +161,20 @@ module _ (tri he hull : List ℕ) (sites : ℕ) (ok : Hull tri he hull sites) wh
   -- two unpaired half-edges that end at one site are one
   pub open-one : (d e : ℕ) → d < length he → e < length he → pairOf he d ≡ EMPTY → pairOf he e ≡ EMPTY → endOf tri d ≡ endOf tri e → d ≡ e
   open-one = ended-one tri he hull sites hull-places (ok .count)
+
+-- the place before a hull place
+place-before : (h i : ℕ) → i < h → (j : ℕ) × (j < h) × (nextPlace h j ≡ i)
+place-before h i l =
+    ⊎-elim
+    (λ z. (h - 1, omega arith, ⊎-elim (λ w. w .1 ∙ sym z) (λ w. absurd (w .0 (omega arith))) (after-cases h (h - 1))))
+    (λ n. (i - 1, omega arith, ⊎-elim (λ w. absurd (omega arith)) (λ w. w .1 ∙ (omega arith)) (after-cases h (i - 1))))
+    (eq-or-ne i 0)
+
+-- where no unpaired half-edge ends none starts
+pub closed-fan : (tri he hull : List ℕ) (sites s : ℕ) → Paired tri he → Hull tri he hull sites
+    → ((e : ℕ) → e < length he → endOf tri e ≡ s → pairOf he e ≢ EMPTY) → ClosedAt tri he s
+closed-fan tri he hull sites s ok h none e l q u =
+    let o = hull-border tri he hull sites h (nextOf e) (next-lt (ok .threes) l) u .0 in
+    let j = place-before (length hull) (o .0) (o .1) in
+    let d = h .edges (j .0) (j .1) in
+    none (d .0) (d .1) (d .4 ∙ ap (λ k. getD hull k 0) (j .2) ∙ sym (o .2) ∙ q) (d .2)

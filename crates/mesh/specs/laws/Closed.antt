@@ -5,8 +5,8 @@ use mathlib.Core.Logic.{_⊎_, inl, inr, ⊎-elim, _≢_}
 use Prim.Native.Nat.{ℕ, zero, suc, _<_, _≤_}
 use native.Mathlib.Omega.{arith}
 use lib.ListN.{length}
-use Rattle.laws.specs.laws.Decide.{lt-or-ge}
-use Rattle.numbers.specs.Numbers.{EMPTY}
+use Rattle.base.specs.common.laws.Decide.{lt-or-ge}
+use Rattle.base.specs.numbers.Numbers.{EMPTY}
 use Rattle.mesh.specs.Mesh.{endOf, around, turnOf, walkOf, Reached, here, onward, Paired}
 use Rattle.mesh.specs.laws.WalkSteps.{walk-go}
 use Rattle.mesh.specs.laws.Walks.{mate, turn-cases, turn-there, walk-short}

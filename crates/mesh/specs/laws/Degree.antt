@@ -8,9 +8,9 @@ use native.Mathlib.Numerals.{add-one}
 use native.Mathlib.Omega.{arith}
 use lib.ListN.{length, getD, take}
 use lib.Seq.{take-suc, take-length}
-use Rattle.laws.specs.laws.Decide.{lt-or-ge}
-use Rattle.laws.specs.Count.{same, occ, sumTo}
-use Rattle.laws.specs.laws.Count.{same-cases, occ-append, weighed-le}
+use Rattle.base.specs.common.laws.Decide.{lt-or-ge}
+use Rattle.base.specs.common.Count.{same, occ, sumTo}
+use Rattle.base.specs.common.laws.Count.{same-cases, occ-append, weighed-le}
 use Rattle.mesh.specs.Mesh.{nextOf, endOf, wholeOf, Paired}
 use Rattle.mesh.specs.laws.Next.{next-sum}
 use Rattle.mesh.specs.laws.Walks.{walk-ends, whole-once}

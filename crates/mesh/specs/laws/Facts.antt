@@ -6,9 +6,9 @@ use mathlib.Core.Logic.{_⊎_, inl, inr, ⊎-elim, _≢_}
 use Prim.Native.Nat.{ℕ, _+_, _*_, _/_, _%_, _≤_, _<_}
 use native.Mathlib.Omega.{arith}
 use lib.ListN.{length, getD}
-use Rattle.laws.specs.laws.Decide.{eq-or-ne}
-use Rattle.laws.specs.Count.{occ}
-use Rattle.numbers.specs.Numbers.{EMPTY}
+use Rattle.base.specs.common.laws.Decide.{eq-or-ne}
+use Rattle.base.specs.common.Count.{occ}
+use Rattle.base.specs.numbers.Numbers.{EMPTY}
 use Rattle.mesh.specs.Mesh.{nextOf, startOf, endOf, pairOf, Used, AllSound, leftmostOf, Leftmost, walkOf, wholeOf, Paired}
 use Rattle.mesh.specs.Accepted.{Mesh, Topology, Counted, Accepted, siteCount}
 use Rattle.mesh.specs.laws.Next.{next-lt, next-thrice}

@@ -5,8 +5,8 @@ use mathlib.Core.Logic.{⊎-elim}
 use Prim.Native.Nat.{ℕ, zero, suc, _<_}
 use native.Mathlib.Omega.{arith}
 use lib.ListN.{length, getD}
-use Rattle.laws.specs.Count.{occ}
-use Rattle.laws.specs.laws.Count.{same-cases}
+use Rattle.base.specs.common.Count.{occ}
+use Rattle.base.specs.common.laws.Count.{same-cases}
 
 pub occ-there : (l : List ℕ) (i : ℕ) → i < length l → 0 < occ (getD l i 0) l
 occ-there [] i h = absurd (omega arith)

@@ -5,9 +5,9 @@ use mathlib.Core.Logic.{⊎-elim, _≢_}
 use Prim.Native.Nat.{ℕ, _+_, _*_, _/_, _%_, _<_}
 use native.Mathlib.Omega.{arith}
 use lib.ListN.{length, getD}
-use Rattle.laws.specs.Count.{same, occ}
-use Rattle.laws.specs.laws.Count.{same-cases}
-use Rattle.laws.specs.laws.Decide.{lt-or-ge, eq-or-ne}
+use Rattle.base.specs.common.Count.{same, occ}
+use Rattle.base.specs.common.laws.Count.{same-cases}
+use Rattle.base.specs.common.laws.Decide.{lt-or-ge, eq-or-ne}
 use Rattle.mesh.specs.Mesh.{nextOf, endOf, leftmostOf, wholeOf}
 use Rattle.mesh.specs.Accepted.{Topology}
 use Rattle.mesh.specs.Rings.{walkTriangles, sitesOf}

@@ -9,8 +9,8 @@ use lib.ListN.{length, getD, set, length-set, replicate, length-replicate, getD-
 use native.Mathlib.Nat.{le-antisymm}
 use lib.Seq.{getD-set-same, getD-set-other, set-append-left}
 use borrow.Author.Tests.{eq-eqb, ne-eqb}
-use Rattle.laws.specs.laws.Decide.{lt-or-ge, eq-or-ne}
-use Rattle.numbers.specs.Numbers.{EMPTY}
+use Rattle.base.specs.common.laws.Decide.{lt-or-ge, eq-or-ne}
+use Rattle.base.specs.numbers.Numbers.{EMPTY}
 use Rattle.mesh.specs.Mesh.{endOf, pairOf, chosen, tableTo, leftmostOf, leftmostIn, Leftmost}
 
 -- a turn of the loop that fills the table
@@ -115,7 +115,7 @@ module _ (tri he : List ℕ) (sites w : ℕ) (fits : sites ≤ w) (ends : (e : �
   pub longer-at : (s : ℕ) → s < sites → getD (leftmostIn tri he sites w) s 0 ≡ getD (leftmostOf tri he sites) s 0
   longer-at s l = List·getD-append (leftmostOf tri he sites) (replicate (w - sites) EMPTY) 0 s (rw (table-length tri he sites (length tri)) l)
 
--- the same as docs/RULES.md has it, of a site: the unpaired half-edge if there is one alone, else the lowest, else EMPTY
+-- the same as docs/use/RULES.md has it, of a site: the unpaired half-edge if there is one alone, else the lowest, else EMPTY
 module _ (tri he : List ℕ) (n s r : ℕ) (g : Leftmost tri he n s r) where
   pub the-unpaired : (e : ℕ) → e < n → endOf tri e ≡ s → pairOf he e ≡ EMPTY → ((k : ℕ) → k < n → endOf tri k ≡ s → pairOf he k ≡ EMPTY → k ≡ e) → n < EMPTY → r ≡ e
   the-unpaired e l h u one small =

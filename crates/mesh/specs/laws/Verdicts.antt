@@ -5,9 +5,9 @@ use mathlib.Core.Logic.{_≢_}
 use Prim.Native.Nat.{ℕ, _%_, _≤_, _<_}
 use native.Mathlib.Omega.{arith}
 use lib.ListN.{length}
-use Rattle.laws.specs.Refusals.{Keep, Finds}
-use Rattle.laws.specs.laws.Refusals.{finds-answers}
-use Rattle.numbers.specs.Numbers.{EMPTY, refusedTriangle}
+use Rattle.base.specs.common.Refusals.{Keep, Finds}
+use Rattle.base.specs.common.laws.Refusals.{finds-answers}
+use Rattle.base.specs.numbers.Numbers.{EMPTY, refusedTriangle}
 use Rattle.mesh.specs.declared.MeshFault.{MeshFault}
 use Rattle.mesh.specs.declared.MeshFault.the-variants.{None}
 use Rattle.mesh.specs.Mesh.{nextOf, endOf}

@@ -11,7 +11,7 @@ use lib.Dec.{leb}
 use lib.ListN.{length, set, take, drop, length-append, take-append-drop, length-set}
 use lib.Seq.{take-suc-set, drop-set-lt, length-take-le, drop-drop}
 use borrow.Author.Tests.{lt-ltb, le-ltb, le-leb, lt-leb, leb-true, leb-false}
-use Rattle.laws.specs.laws.Decide.{lt-or-ge}
+use Rattle.base.specs.common.laws.Decide.{lt-or-ge}
 use Rattle.mesh.specs.Mesh.{turnOf, walkOf, wholeOf, Walks}
 
 -- the walk, past a half-edge and where there is none

@@ -2,7 +2,7 @@
 use native.Mathlib.Omega.{arith}
 use denote.Ref.{now}
 use Rattle.form.specs.laws.Lists.{bytes}
-use Rattle.nearest_text.specs.laws.Short.{line-short}
+use Rattle.nearest.specs.line.laws.Short.{line-short}
 use Rattle.nearest.specs.laws.ReadForm.{prints}
 use borrow.Author.Needs.{needs}
 use Rattle.nearest.proofs.answer.Statement.{statement}

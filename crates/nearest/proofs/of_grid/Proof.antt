@@ -7,8 +7,9 @@ use Rattle.nearest.proofs.of_grid.Tie as tie
 
 line-of-requires : tie.Need-line-of-requires
 line-of-requires c κs =
-    let s = c .before .before .before .before .before .before .before .before .before .before in
-    omega (arith, c .first-beyond .ensures .within, s .pre)
+    let beyond = c .before .before in
+    let s = beyond .before .before .before .before .before .before .before .before .before .before in
+    omega (arith, beyond .first-beyond .ensures .within, s .pre)
 
 returns : tie.Need-returns
 returns c = record {
@@ -19,11 +20,11 @@ returns c = record {
   kind = _;
   place = _;
   unused = _;
-  checks = c .before .before .before .check-nearest-lent .ensures;
+  checks = c .before .before .before .before .before .check-nearest-lent .ensures;
   beyond = _;
-  first = c .before .first-beyond .ensures;
-  line = c .line-of .ensures;
+  first = c .before .before .before .first-beyond .ensures;
+  line = rw (← c .before .with-box .ensures, ← c .before .before .off-corner .ensures) (c .line-of .ensures);
 }
 
 pub of-grid-spec : {M : Type 1} → statement M
-of-grid-spec = tie.close (tie.spec (λ c. search needs) (λ c κs. search needs) (λ c κs. search needs) line-of-requires returns)
+of-grid-spec = tie.close (tie.spec (λ c. search needs) (λ c κs. search needs) (λ c κs. search needs) (λ c κs. search needs) (λ c κs. search needs) line-of-requires returns)

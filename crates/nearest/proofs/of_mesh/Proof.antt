@@ -3,7 +3,7 @@ use mathlib.Core.Path.{sym, ap, _∙_}
 use native.Mathlib.Omega.{arith}
 use lib.ListN.{length, length-map}
 use borrow.Author.Needs.{needs}
-use Rattle.whole_sites.specs.Whole.{wholeNumber}
+use Rattle.nearest.specs.whole_sites.Whole.{wholeNumber}
 use Rattle.nearest.proofs.of_mesh.Statement.{statement}
 use Rattle.nearest.proofs.of_mesh.Tie as tie
 

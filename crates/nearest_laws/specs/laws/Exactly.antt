@@ -12,7 +12,7 @@ use lib.Ieee.{Float, nan, inf, fin, binary64, emax, low, up, down, unlike, round
 use lib.Ieee.Exact.{HasValue, round-exact}
 use lib.Ieee.Scale.{round-same}
 use lib.Ieee.Fits.{down-pos}
-use Rattle.laws.specs.Binary64.{_⊞_, _⊟_, _⊠_}
+use Rattle.base.specs.common.Binary64.{_⊞_, _⊟_, _⊠_}
 
 -- a quotient that is a / 2^k, with a below 2^53, is kept
 pub kept : (s : Bool) (num den a k : ℕ) → 0 < den → k ≤ 1074 → a < 2 ^ 53 → num * 2 ^ k ≡ a * den → HasValue (round binary64 s num den) s a (2 ^ k)

@@ -5,9 +5,9 @@ use mathlib.Core.Logic.{⊎-elim, _≢_}
 use Prim.Native.Nat.{ℕ, zero, suc, _-_, _*_, _≤_, _<_}
 use native.Mathlib.Omega.{arith}
 use lib.ListN.{length, getD}
-use Rattle.laws.specs.laws.Decide.{lt-or-ge, eq-or-ne}
-use Rattle.laws.specs.Count.{sumTo}
-use Rattle.numbers.specs.Numbers.{EMPTY}
+use Rattle.base.specs.common.laws.Decide.{lt-or-ge, eq-or-ne}
+use Rattle.base.specs.common.Count.{sumTo}
+use Rattle.base.specs.numbers.Numbers.{EMPTY}
 use Rattle.mesh.specs.Mesh.{nextOf, startOf, endOf, pairOf, Used}
 use Rattle.mesh.specs.Hull.{nextPlace, nextSite, OnHull}
 use Rattle.mesh.specs.Accepted.{Topology}
@@ -20,7 +20,7 @@ use Rattle.grid.specs.declared.Raised.{Raised}
 use Rattle.grid.specs.declared.Signed.{Signed}
 use Rattle.nearest_laws.specs.laws.Signs.{Pos, Neg, NonNeg, NonPos, rect, rect<}
 use Rattle.nearest_laws.specs.laws.Strip.{Exit}
-use Rattle.grid_scan.specs.Judged.{apexOf}
+use Rattle.grid.specs.scan.Judged.{apexOf}
 use Rattle.nearest_laws.specs.laws.Meet.{above-from, above-to}
 use Rattle.nearest_laws.specs.laws.Sides.{Apart, left-all}
 use Rattle.nearest_laws.specs.laws.Outside.{Outside, outside-left, one-exit, not-opposed}

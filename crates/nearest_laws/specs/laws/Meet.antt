@@ -5,7 +5,7 @@ use mathlib.Core.Logic.{⊎-elim, _≢_}
 use Prim.Native.Nat.{ℕ, suc, _<_}
 use native.Mathlib.Omega.{arith}
 use lib.ListN.{length}
-use Rattle.numbers.specs.Numbers.{EMPTY}
+use Rattle.base.specs.numbers.Numbers.{EMPTY}
 use Rattle.mesh.specs.Mesh.{startOf, endOf, pairOf, Paired}
 use Rattle.nearest_laws.specs.laws.Area.{_⊕_, _⊖_, _⊗_, Null, pluck, pluck′, corner, corner₃}
 use Rattle.grid.specs.Raised.{areaOf, liftOf}
@@ -14,7 +14,7 @@ use Rattle.grid.specs.declared.Signed.{Signed}
 use Rattle.nearest_laws.specs.laws.Signs.{Pos, Neg, NonPos}
 use Rattle.nearest_laws.specs.laws.Orbit.{Trail, on, good, join, ends}
 use Rattle.nearest_laws.specs.laws.Strip.{side, Exit, crossStep, crossed, Cross, lefts, rights, cross, exit-on, exit-inj, crossedEdge, plane, all-beyond, all-past, planes-back, planes-on}
-use Rattle.grid_scan.specs.Judged.{apexOf}
+use Rattle.grid.specs.scan.Judged.{apexOf}
 
 null-nonpos : (s : Signed) → Null s → NonPos s
 null-nonpos s q = omega arith

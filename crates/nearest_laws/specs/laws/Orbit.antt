@@ -5,9 +5,9 @@ use mathlib.Core.Logic.{_⊎_, inl, inr, ⊎-elim}
 use Prim.Native.Nat.{ℕ, zero, suc, _+_, _≤_, _<_}
 use native.Mathlib.Omega.{arith}
 use lib.ListN.{length}
-use Rattle.laws.specs.laws.Decide.{lt-or-ge}
-use Rattle.laws.specs.Count.{occ}
-use Rattle.laws.specs.laws.Count.{same-cases, pigeonhole}
+use Rattle.base.specs.common.laws.Decide.{lt-or-ge}
+use Rattle.base.specs.common.Count.{occ}
+use Rattle.base.specs.common.laws.Count.{same-cases, pigeonhole}
 
 pub data Trail (G : ℕ → Type 0) (f : ℕ → ℕ) (x : ℕ) : ℕ → ℕ → Type 0 where
   stop : Trail G f x 0 x

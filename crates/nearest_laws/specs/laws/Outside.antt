@@ -2,7 +2,7 @@
 use mathlib.Core.Logic.{_⊎_, ⊎-elim}
 use Prim.Native.Nat.{ℕ}
 use native.Mathlib.Omega.{arith}
-use Rattle.laws.specs.laws.Decide.{lt-or-ge}
+use Rattle.base.specs.common.laws.Decide.{lt-or-ge}
 use Rattle.nearest_laws.specs.laws.Area.{_⊕_, _⊖_, _⊗_, Null, along, dif, from-a, from-b, two-edges, four-sides}
 use Rattle.grid.specs.Raised.{areaOf}
 use Rattle.grid.specs.declared.Raised.{Raised}

@@ -5,8 +5,8 @@ use mathlib.Core.Logic.{_⊎_, inl, inr, ⊎-elim, _≢_}
 use Prim.Native.Nat.{ℕ, _<_}
 use native.Mathlib.Omega.{arith}
 use lib.ListN.{length}
-use Rattle.laws.specs.laws.Decide.{eq-or-ne}
-use Rattle.numbers.specs.Numbers.{EMPTY}
+use Rattle.base.specs.common.laws.Decide.{eq-or-ne}
+use Rattle.base.specs.numbers.Numbers.{EMPTY}
 use Rattle.mesh.specs.Mesh.{nextOf, startOf, endOf, pairOf, around, Mates, Paired}
 use Rattle.mesh.specs.laws.Next.{next-lt, next-thrice}
 use Rattle.nearest_laws.specs.laws.Area.{_⊖_, Null, more}
@@ -15,7 +15,7 @@ use Rattle.grid.specs.declared.Raised.{Raised}
 use Rattle.grid.specs.declared.Signed.{Signed}
 use Rattle.nearest_laws.specs.laws.Signs.{Pos, Neg, NonNeg, NonPos}
 use Rattle.nearest_laws.specs.laws.Strip.{Exit}
-use Rattle.grid_scan.specs.Judged.{apexOf}
+use Rattle.grid.specs.scan.Judged.{apexOf}
 use Rattle.nearest_laws.specs.laws.Turns.{comes, mate}
 use Rattle.nearest_laws.specs.laws.Sides.{Apart, not-both, three-ways, pos-or, nonneg-or, at-end, lower, open-or}
 

@@ -3,7 +3,7 @@ use mathlib.Core.Path.{_≡_, sym, subst}
 use mathlib.Core.Logic.{inl, inr, ⊎-elim}
 use Prim.Native.Nat.{ℕ, zero, suc, _+_, _-_, _*_, _≤_, _<_}
 use native.Mathlib.Omega.{arith}
-use Rattle.laws.specs.laws.Decide.{lt-or-ge, eq-or-ne}
+use Rattle.base.specs.common.laws.Decide.{lt-or-ge, eq-or-ne}
 use Rattle.nearest_laws.specs.laws.Area.{_⊕_, _⊖_, _⊗_, Null, more, ways}
 use Rattle.grid.specs.Raised.{areaOf}
 use Rattle.grid.specs.declared.Raised.{Raised}

@@ -5,8 +5,8 @@ use mathlib.Core.Logic.{_⊎_, inl, inr, ⊎-elim, _≢_}
 use Prim.Native.Nat.{ℕ, zero, suc, _+_, _≤_, _<_}
 use native.Mathlib.Omega.{arith}
 use lib.ListN.{length}
-use Rattle.laws.specs.laws.Decide.{lt-or-ge, eq-or-ne}
-use Rattle.numbers.specs.Numbers.{EMPTY}
+use Rattle.base.specs.common.laws.Decide.{lt-or-ge, eq-or-ne}
+use Rattle.base.specs.numbers.Numbers.{EMPTY}
 use Rattle.mesh.specs.Mesh.{nextOf, startOf, endOf, pairOf, around, Paired}
 use Rattle.mesh.specs.laws.Next.{next-lt, next-thrice}
 use Rattle.nearest_laws.specs.laws.Area.{_⊕_, _⊖_, _⊗_, Null, more, dif, span-x, span-y}
@@ -14,7 +14,7 @@ use Rattle.grid.specs.Raised.{areaOf}
 use Rattle.grid.specs.declared.Raised.{Raised}
 use Rattle.grid.specs.declared.Signed.{Signed}
 use Rattle.nearest_laws.specs.laws.Signs.{Pos, Neg, NonNeg, NonPos, pp}
-use Rattle.grid_scan.specs.Judged.{apexOf}
+use Rattle.grid.specs.scan.Judged.{apexOf}
 use Rattle.nearest_laws.specs.laws.Turns.{comes, mate}
 
 abbrev pub Apart : Raised → Raised → Type 0

@@ -3,7 +3,7 @@ use mathlib.Core.Path.{_≡_}
 use mathlib.Core.Logic.{⊎-elim}
 use Prim.Native.Nat.{ℕ, suc, _+_, _-_, _*_, _≤_, _<_}
 use native.Mathlib.Omega.{arith}
-use Rattle.laws.specs.laws.Decide.{lt-or-ge}
+use Rattle.base.specs.common.laws.Decide.{lt-or-ge}
 use Rattle.nearest_laws.specs.laws.Area.{_⊕_, _⊖_, _⊗_, Null, across, parts}
 use Rattle.grid.specs.Raised.{areaOf, liftOf}
 use Rattle.grid.specs.declared.Raised.{Raised}

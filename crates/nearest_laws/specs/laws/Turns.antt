@@ -5,8 +5,8 @@ use mathlib.Core.Logic.{_⊎_, inl, inr, ⊎-elim, _≢_}
 use Prim.Native.Nat.{ℕ, suc, _<_}
 use native.Mathlib.Omega.{arith}
 use lib.ListN.{length}
-use Rattle.laws.specs.laws.Decide.{lt-or-ge, eq-or-ne}
-use Rattle.numbers.specs.Numbers.{EMPTY}
+use Rattle.base.specs.common.laws.Decide.{lt-or-ge, eq-or-ne}
+use Rattle.base.specs.numbers.Numbers.{EMPTY}
 use Rattle.mesh.specs.Mesh.{nextOf, startOf, endOf, pairOf, around, Mates, Paired}
 use Rattle.mesh.specs.laws.Next.{next-lt, next-inj}
 use Rattle.nearest_laws.specs.laws.Area.{_⊕_, _⊖_, _⊗_, Null, more, fans}
@@ -15,7 +15,7 @@ use Rattle.grid.specs.declared.Raised.{Raised}
 use Rattle.grid.specs.declared.Signed.{Signed}
 use Rattle.nearest_laws.specs.laws.Signs.{Pos, NonNeg, nn, pp, no}
 use Rattle.nearest_laws.specs.laws.Orbit.{Trail, stop, on, good, ends}
-use Rattle.grid_scan.specs.Judged.{apexOf}
+use Rattle.grid.specs.scan.Judged.{apexOf}
 
 -- from the relation: the third lies left of the first as the second does
 chain : (dx dy dz yz xz xy : Signed) → Null (dx ⊗ yz ⊖ dy ⊗ xz ⊕ dz ⊗ xy) → NonNeg dx → NonNeg dy → Pos dz → Pos yz → Pos xy → Pos xz

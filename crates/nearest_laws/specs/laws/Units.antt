@@ -2,7 +2,7 @@
 use mathlib.Core.Path.{_≡_, ap, _∙_, subst}
 use mathlib.Core.Bool.{Bool, true, false}
 use mathlib.Core.Logic.{inl, inr, ⊎-elim}
-use Prim.Native.Nat.{ℕ, suc, _+_, _-_, _*_, _^_, _≤_, _<_}
+use Prim.Native.Nat.{ℕ, zero, suc, _+_, _-_, _*_, _^_, _≤_, _<_}
 use native.Mathlib.Nat.{mul-le-mul, le-refl, le-trans, lt-of-le-of-lt}
 use native.Mathlib.Omega.{arith}
 use lib.Dec.{lit<, lit≤}
@@ -12,20 +12,23 @@ use lib.Ieee.Exact.{HasValue}
 use lib.IntN.{ℤ, pos, negsuc, natAbs, _-ℤ_, _*ℤ_}
 use lib.Signed.{leZ}
 use borrow.Author.Tests.{le-leb}
-use Rattle.laws.specs.laws.Decide.{lt-or-ge}
+use Rattle.base.specs.common.laws.Decide.{lt-or-ge}
 use Rattle.grid.specs.Plane.{Within}
 use Rattle.grid.specs.Raised as raised
 use Rattle.grid.specs.laws.Pairs.{Is, is-mul, is-neg, is-same, is-dif}
 use Rattle.grid.specs.laws.Same.{up-is, up-low}
-use Rattle.grid_sites.specs.Sites.{asFloat}
-use Rattle.grid_sites.specs.Equal as equal
 use Rattle.nearest_laws.specs.Nearest.{gap, gap-is}
 use Rattle.nearest_laws.specs.Ends.{Multiple}
-use Rattle.nearest_laws.specs.Admitted.{AdmittedNumber, signed}
+use Rattle.nearest_laws.specs.Admitted.{AdmittedNumber, signed, IsWhole}
 
 -- 2^26 less the 8,192 by which the grid moves its coordinates already
 abbrev pub further : ℕ
 further = 67100672
+
+-- 1 below 0, else 0
+abbrev pick-sign : ℤ → ℕ
+pick-sign (pos n) = 0
+pick-sign (negsuc n) = 1
 
 room : (d u : ℕ) → d < 8192 → u ≤ 16384 → d * (u + 67100672) ≤ 549822922752
 room d u h l = let p : d ≤ 8192 = omega arith in let q : u + 67100672 ≤ 67117056 = omega arith in le-trans (mul-le-mul p q) (lit≤ tt)
@@ -51,22 +54,36 @@ module _ (k : ℕ) where
         go u d n q = omega (arith, ap (λ z. n * z) q)
 
     -- a coordinate of the grid
-    coordinate : (z : ℤ) (u : ℕ) → Is u 8192 z → u ≤ 16384 → HasValue (asFloat z) (equal.minus z) (natAbs z) 1 → Multiple k movedBy (asFloat z) (2 ^ k * (u + further))
-    coordinate (pos m) u q l h =
+    coordinate : (x : Float) (s : Bool) (z : ℤ) (u : ℕ) → signed s (natAbs z) ≡ z → Is u 8192 z → u ≤ 16384 → HasValue x s (natAbs z) 1 → Multiple k movedBy x (2 ^ k * (u + further))
+    coordinate x false (pos m) u _ q l h =
         let e : 2 ^ k * (u + further) ≡ movedBy + 2 ^ k * m = ap (λ w. 2 ^ k * (w + further)) q ∙ sum (2 ^ k) m in
-        (omega (arith, few, room (2 ^ k) u few l), inl (omega (arith, e), subst (λ w. HasValue (asFloat (pos m)) false w (2 ^ k)) (omega (arith, e)) (scaled (asFloat (pos m)) false m h)))
+        (omega (arith, few, room (2 ^ k) u few l), inl (omega (arith, e), subst (λ w. HasValue x false w (2 ^ k)) (omega (arith, e)) (scaled x false m h)))
       where
         sum : (d m : ℕ) → d * (8192 + m + 67100672) ≡ d * 67108864 + d * m
         sum d m = omega arith
-    coordinate (negsuc m) u q l h =
+    coordinate x true (pos zero) u _ q l h =
+        let e : 2 ^ k * (u + further) ≡ movedBy = ap (λ w. 2 ^ k * (w + further)) q ∙ sum (2 ^ k) in
+        (omega (arith, few, room (2 ^ k) u few l), inr (omega (arith, e), subst (λ w. HasValue x true w (2 ^ k)) (omega (arith, e)) (scaled x true 0 h)))
+      where
+        sum : (d : ℕ) → d * (8192 + 0 + 67100672) ≡ d * 67108864
+        sum d = omega arith
+    coordinate x true (pos (suc m)) u g q l h = absurd (apart-signs g)
+      where
+        apart-signs : negsuc m ≡ pos (suc m) → ⊥
+        apart-signs g = let z : _≡_ {A = ℕ} 1 0 = ap (λ (v : ℤ). pick-sign v) g in omega arith
+    coordinate x false (negsuc m) u g q l h = absurd (apart-signs g)
+      where
+        apart-signs : pos (suc m) ≡ negsuc m → ⊥
+        apart-signs g = let z : _≡_ {A = ℕ} 0 1 = ap (λ (v : ℤ). pick-sign v) g in omega arith
+    coordinate x true (negsuc m) u _ q l h =
         let e : movedBy ≡ 2 ^ k * (u + further) + 2 ^ k * suc m = sum (2 ^ k) u m q in
-        (omega (arith, few, room (2 ^ k) u few l), inr (omega (arith, e), subst (λ w. HasValue (asFloat (negsuc m)) true w (2 ^ k)) (omega (arith, e)) (scaled (asFloat (negsuc m)) true (suc m) h)))
+        (omega (arith, few, room (2 ^ k) u few l), inr (omega (arith, e), subst (λ w. HasValue x true w (2 ^ k)) (omega (arith, e)) (scaled x true (suc m) h)))
       where
         sum : (d u m : ℕ) → 8192 ≡ u + suc m → d * 67108864 ≡ d * (u + 67100672) + d * suc m
         sum d u m q = omega (arith, ap (λ w. d * w) q)
 
-    pub on-grid : (z : ℤ) → Within z → Multiple k movedBy (asFloat z) (2 ^ k * (raised.up z + further))
-    on-grid z w = coordinate z (raised.up z) (up-is z w) (up-low z w) (equal.value z w)
+    pub on-grid : {z : ℤ} {x : Float} → Within z → IsWhole z x → Multiple k movedBy x (2 ^ k * (raised.up z + further))
+    on-grid {z} {x} w h = coordinate x (h .minus) z (raised.up z) (h .sign) (up-is z w) (up-low z w) (h .value)
 
   -- ---- a destination
   module _ {x : Float} (a : AdmittedNumber k x) where

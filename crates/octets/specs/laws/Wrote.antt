@@ -6,7 +6,7 @@ use native.Mathlib.Omega.{arith}
 use native.Mathlib.Numerals.{add-one}
 use lib.ListN.{length, getD, take, drop, set, length-append}
 use lib.Seq.{sets, length-sets, take-suc, take-all, take-append-seam}
-use Rattle.laws.specs.laws.Stores.{sets-join, sets-all}
+use Rattle.base.specs.common.laws.Stores.{sets-join, sets-all}
 use Rattle.octets.specs.Wrote.{Wrote, HasRoom}
 
 pub wrote-then : {l m n : List ℕ} {a b c : ℕ} {s t : List ℕ} → Wrote l m a b s → Wrote m n b c t → Wrote l n a c (s ++ t)

@@ -1,8 +1,8 @@
 -- Eight stores, in the order of the corners.
 use native.Mathlib.Omega.{arith}
 use lib.ListN.{length-set}
-use Rattle.utils.specs.Flat.{flat, pour}
-use Rattle.bounding_box.specs.Box.{cornersOf}
+use Rattle.plane.specs.points.Flat.{flat, pour}
+use Rattle.plane.specs.boxes.Box.{cornersOf}
 use borrow.Author.Needs.{needs}
 use Rattle.plane_calls.specs.laws.Plane.{eight}
 use Rattle.plane_calls.proofs.put_corners.Statement.{statement}

@@ -9,33 +9,33 @@ use borrow.Author.Tests.{eq-eqb, ne-eqb}
 use lib.Dec.{eqb}
 use lib.ListN.{length, getD, set, drop, replicate, length-drop}
 use lib.Ieee.{Float, nan}
-use Rattle.laws.specs.Binary64.{zero}
-use Rattle.laws.specs.Pick.{pick}
-use Rattle.laws.specs.Refusals.{once}
-use Rattle.laws.specs.laws.Refusals.{breaks, keeps, nothing}
-use Rattle.numbers.specs.Numbers.{EMPTY, refusedRoom, refusedBox, refusedCoordinate}
-use Rattle.utils.specs.Plane.{dist2Of}
-use Rattle.utils.specs.Flat.{flat, pour}
-use Rattle.utils.specs.Rules.{okSite}
-use Rattle.utils.specs.Sites.{okSites}
-use Rattle.utils.specs.declared.Point.{Point}
-use Rattle.centers.specs.Circumcenter.{centerOf, okCenter, centerIf, centerAnswer, centerNumber, xOf, yOf}
-use Rattle.centers.specs.Centroid.{okCount, meanOf, centroidAnswer}
-use Rattle.centers.specs.declared.Center.{Center}
-use Rattle.centers.specs.declared.Center.the-variants.{Refused, At}
-use Rattle.bounding_box.specs.Box.{widthOf, heightOf, cornersOf}
-use Rattle.box_sides.specs.Sides.{insideOf, exclusiveOf, whichOf}
-use Rattle.bounding_box.specs.declared.BoundingBox.{BoundingBox}
-use Rattle.given_box.specs.declared.Given.{Given}
-use Rattle.line_crossings.specs.Line.{lineOf}
-use Rattle.line_crossings.specs.declared.Crossing.{Crossing}
-use Rattle.line_crossings.specs.declared.Crossing.the-variants.{None, One, Two}
-use Rattle.crossings.specs.Ray.{rayOf}
-use Rattle.crossings.specs.Rules.{metBy, lineAnswer, rayAnswer, meetingNumber, pointsOf, countOf, valuesOf}
-use Rattle.crossings.specs.declared.Meeting.{Meeting}
-use Rattle.crossings.specs.declared.Meeting.the-variants.{Met}
-use Rattle.crossings.specs.declared.Meeting.the-variants as meeting
-use Rattle.layout.specs.Cleared.{clearedFrom}
+use Rattle.base.specs.common.Binary64.{zero}
+use Rattle.base.specs.common.Pick.{pick}
+use Rattle.base.specs.common.Refusals.{once}
+use Rattle.base.specs.common.laws.Refusals.{breaks, keeps, nothing}
+use Rattle.base.specs.numbers.Numbers.{EMPTY, refusedRoom, refusedBox, refusedCoordinate}
+use Rattle.plane.specs.points.Plane.{dist2Of}
+use Rattle.plane.specs.points.Flat.{flat, pour}
+use Rattle.plane.specs.points.Rules.{okSite}
+use Rattle.plane.specs.points.Sites.{okSites}
+use Rattle.plane.specs.declared.points.Point.{Point}
+use Rattle.plane.specs.centers.Circumcenter.{centerOf, okCenter, centerIf, centerAnswer, centerNumber, xOf, yOf}
+use Rattle.plane.specs.centers.Centroid.{okCount, meanOf, centroidAnswer}
+use Rattle.plane.specs.declared.centers.Center.{Center}
+use Rattle.plane.specs.declared.centers.Center.the-variants.{Refused, At}
+use Rattle.plane.specs.boxes.Box.{widthOf, heightOf, cornersOf}
+use Rattle.plane.specs.sides.Sides.{insideOf, exclusiveOf, whichOf}
+use Rattle.plane.specs.declared.boxes.BoundingBox.{BoundingBox}
+use Rattle.plane.specs.declared.given.Given.{Given}
+use Rattle.plane.specs.lines.Line.{lineOf}
+use Rattle.plane.specs.declared.lines.Crossing.{Crossing}
+use Rattle.plane.specs.declared.lines.Crossing.the-variants.{None, One, Two}
+use Rattle.plane.specs.rays.Ray.{rayOf}
+use Rattle.plane.specs.rays.Rules.{metBy, lineAnswer, rayAnswer, meetingNumber, pointsOf, countOf, valuesOf}
+use Rattle.plane.specs.declared.rays.Meeting.{Meeting}
+use Rattle.plane.specs.declared.rays.Meeting.the-variants.{Met}
+use Rattle.plane.specs.declared.rays.Meeting.the-variants as meeting
+use Rattle.cell_memory.specs.layout.Cleared.{clearedFrom}
 use Rattle.plane_calls.specs.Plane.{bit, Answered, planeRules, Dist2, Circumcenter, Centroid, Edges, Centered, Corners, Inside, ExclusivelyInside, WhichEdge, Meets}
 use Rattle.plane_calls.specs.Tested.{numberBy, valueIf, sideIf}
 

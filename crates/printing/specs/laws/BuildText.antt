@@ -8,15 +8,15 @@ use native.Mathlib.Omega.{arith}
 use lib.ListN.{length}
 use borrow.Author.Tests.{ne-eqb}
 use Rattle.mesh.specs.Accepted.{Mesh}
-use Rattle.laws.specs.Refusals.{Rule}
+use Rattle.base.specs.common.Refusals.{Rule}
 use Rattle.admission.specs.Admits.{Admits}
-use Rattle.asking.specs.laws.Asks.{NoneZero}
+use Rattle.arguments.specs.asking.laws.Asks.{NoneZero}
 use Rattle.definition.specs.declared.Fault.{Fault}
 use Rattle.definition.specs.Fault.{Outcome, ok, refused}
 use Rattle.definition.specs.Build.{Built}
-use Rattle.outputs.specs.Outputs.{faultOf}
-use Rattle.build_answers.specs.Promise.{Builds}
-use Rattle.build_answers.specs.laws.Promise.{builds-cases}
+use Rattle.cell_memory.specs.outputs.Outputs.{faultOf}
+use Rattle.building.specs.answers.Promise.{Builds}
+use Rattle.building.specs.answers.laws.Promise.{builds-cases}
 use Rattle.admission.specs.Slices.{Slices}
 use Rattle.build_laws.specs.Late.{Refuses, Numbered}
 use Rattle.printing.specs.Printed.{Shows, shown}

@@ -5,9 +5,9 @@ use Prim.Native.Nat.{ℕ, zero, suc, _+_, _-_, _≤_, _<_}
 use native.Mathlib.Omega.{arith}
 use lib.ListN.{length, getD, take, drop, length-append}
 use lib.Seq.{take-suc, take-all, drop-append-seam, take-append-seam}
-use Rattle.layout.specs.Regions.{joined, offsetsFrom}
-use Rattle.layout.specs.laws.Compacted.{joined-snoc}
-use Rattle.text_parts.specs.Listed.{listedCell}
+use Rattle.cell_memory.specs.layout.Regions.{joined, offsetsFrom}
+use Rattle.cell_memory.specs.layout.laws.Compacted.{joined-snoc}
+use Rattle.printing.specs.parts.Listed.{listedCell}
 
 -- the cells before cell k, cell k, and those after it
 pub joined-split : (cs : List (List ℕ)) (k : ℕ) → k < length cs → joined cs ≡ joined (take k cs) ++ getD cs k [] ++ joined (drop (suc k) cs)

@@ -7,13 +7,13 @@ use native.Mathlib.Omega.{arith}
 use lib.Ieee.{Float}
 use lib.ListN.{length, take}
 use lib.Seq.{sets}
-use Rattle.laws.specs.laws.Stores.{sets-all}
+use Rattle.base.specs.common.laws.Stores.{sets-all}
 use Rattle.form.specs.Form.{Outline, box, unclipped, edges, FormMesh, MeshFits, MayBegin, kindOf, outlineFloats}
 use Rattle.form.specs.laws.Lists.{Put, sites-are, tri-is, he-is, hull-is}
-use Rattle.form_step.specs.Holds.{ListRoom}
-use Rattle.form_step.specs.declared.Form.the-variants.{Sound}
-use Rattle.given_box.specs.declared.Given.{Given}
-use Rattle.form_box.specs.FormBox.{boxBy}
+use Rattle.form.specs.step.Holds.{ListRoom}
+use Rattle.form.specs.declared.step.Form.the-variants.{Sound}
+use Rattle.plane.specs.declared.given.Given.{Given}
+use Rattle.form.specs.boxes.FormBox.{boxBy}
 use Rattle.mesh.specs.Accepted.{Mesh, mesh}
 use Rattle.printing.specs.Printed.{meshOf, InBox, ByClip, ByForm, Text}
 

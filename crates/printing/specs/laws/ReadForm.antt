@@ -6,11 +6,11 @@ use mathlib.Core.Logic.{⊎-elim}
 use Prim.Native.Nat.{ℕ}
 use lib.Ieee.{Float}
 use Rattle.octets.specs.Bytes.{Bytes}
-use Rattle.form_step.specs.Reader.{start, reading}
-use Rattle.form_step.specs.Holds.{ListRoom, Reads}
+use Rattle.form.specs.step.Reader.{start, reading}
+use Rattle.form.specs.step.Holds.{ListRoom, Reads}
 use Rattle.form.specs.Promise.{ReadSound, Refused, exact}
-use Rattle.form_step.specs.declared.Form.{Form}
-use Rattle.text_parts.specs.Labelled.{refusal}
+use Rattle.form.specs.declared.step.Form.{Form}
+use Rattle.printing.specs.parts.Labelled.{refusal}
 use Rattle.printing.specs.laws.FormLists.{to-mesh}
 use Rattle.printing.specs.Printed.{Prints, sound, broken, ByForm, Text}
 

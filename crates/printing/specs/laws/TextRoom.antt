@@ -6,8 +6,8 @@ use Prim.Native.Nat.{ℕ, _≤_}
 use native.Mathlib.Omega.{arith}
 use lib.ListN.{length}
 use borrow.Author.Tests.{eq-eqb, ne-eqb}
-use Rattle.text_parts.specs.Labelled.{refusal}
-use Rattle.text_parts.specs.laws.Labelled.{refusal-short}
+use Rattle.printing.specs.parts.Labelled.{refusal}
+use Rattle.printing.specs.parts.laws.Labelled.{refusal-short}
 use Rattle.octets.specs.Wrote.{Wrote}
 use Rattle.octets.specs.laws.Wrote.{wrote-all}
 use Rattle.printing.specs.Printed.{ShownIn, shown}

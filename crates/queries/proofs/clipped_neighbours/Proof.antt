@@ -1,6 +1,6 @@
 -- The mesh is admitted, the offsets are sound, and the clipped neighbours are handed out; or the number is the refusal's, and after 16 the work slice is cleared.
-use Rattle.laws.specs.laws.Decide.{granted}
-use Rattle.laws.specs.laws.Decide as decide
+use Rattle.base.specs.common.laws.Decide.{granted}
+use Rattle.base.specs.common.laws.Decide as decide
 use native.Mathlib.Omega.{arith}
 use borrow.Author.Needs.{needs}
 use Rattle.queries.specs.laws.Lists.{served, clipped-refused, clipped-denied, clipped-given, clipped-ready, clipped-site, clipped-fills, clipped-few}

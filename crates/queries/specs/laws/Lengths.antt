@@ -8,18 +8,18 @@ use native.Mathlib.Omega.{arith}
 use lib.Dec.{eqb}
 use lib.Ieee.{Float}
 use lib.ListN.{length, length-take, length-append}
-use Rattle.laws.specs.Pick.{pick}
-use Rattle.laws.specs.laws.Decide.{lt-or-ge, eq-or-ne}
-use Rattle.numbers.specs.Numbers.{EMPTY}
-use Rattle.utils.specs.declared.Point.{Point}
+use Rattle.base.specs.common.Pick.{pick}
+use Rattle.base.specs.common.laws.Decide.{lt-or-ge, eq-or-ne}
+use Rattle.base.specs.numbers.Numbers.{EMPTY}
+use Rattle.plane.specs.declared.points.Point.{Point}
 use Rattle.mesh.specs.Mesh.{startOf, pairOf, endOf, nextOf, around, turnOf, walkOf}
 use Rattle.mesh.specs.laws.WalkSteps.{walk-go, walk-done}
-use Rattle.iterator.specs.Neighbours.{lastEnd, startsOf}
-use Rattle.iterator.specs.laws.Neighbours.{sitesFrom, starts-cons}
-use Rattle.paths.specs.Path.{hopOf, pathOf}
-use Rattle.paths.specs.laws.WholePath.{path-stop, path-go}
-use Rattle.iterator.specs.Fills.{Fills}
-use Rattle.clipped_iterator.specs.Clipped.{keptOf, clippedFrom, clippedFirst, clippedOf}
+use Rattle.walks.specs.neighbours.Neighbours.{lastEnd, startsOf}
+use Rattle.walks.specs.neighbours.laws.Neighbours.{sitesFrom, starts-cons}
+use Rattle.walks.specs.paths.Path.{hopOf, pathOf}
+use Rattle.walks.specs.paths.laws.WholePath.{path-stop, path-go}
+use Rattle.walks.specs.neighbours.Fills.{Fills}
+use Rattle.queries.specs.clipped.Clipped.{keptOf, clippedFrom, clippedFirst, clippedOf}
 
 pub walk-length : (he : List ℕ) (s k e : ℕ) → length (walkOf he s k e) ≤ k
 unfolding walkOf

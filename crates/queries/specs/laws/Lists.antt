@@ -9,29 +9,29 @@ use lib.Ieee.{Float}
 use lib.ListN.{length, getD, take, drop, replicate}
 use borrow.Author.Needs.{needs}
 use borrow.Author.Tests.{ne-eqb, lt-ltb, leb-true, le-leb}
-use Rattle.laws.specs.Refusals.{Rule, once, Finds}
-use Rattle.laws.specs.laws.Refusals.{Answers, breaks, keeps, nothing, finds-keep, finds-first, finds-after}
-use Rattle.numbers.specs.Numbers.{EMPTY, refusedSite, refusedTriangle, refusedOffsets}
-use Rattle.utils.specs.Rules.{okSite}
-use Rattle.utils.specs.declared.Point.{Point}
+use Rattle.base.specs.common.Refusals.{Rule, once, Finds}
+use Rattle.base.specs.common.laws.Refusals.{Answers, breaks, keeps, nothing, finds-keep, finds-first, finds-after}
+use Rattle.base.specs.numbers.Numbers.{EMPTY, refusedSite, refusedTriangle, refusedOffsets}
+use Rattle.plane.specs.points.Rules.{okSite}
+use Rattle.plane.specs.declared.points.Point.{Point}
 use Rattle.mesh.specs.Mesh.{leftmostOf, leftmostIn, wholeOf, Walks}
 use Rattle.mesh.specs.Rules.{callRules}
 use Rattle.mesh.specs.Accepted.{Mesh, mesh, tableOf, Accepted, siteCount}
 use Rattle.mesh.specs.laws.Facts.{topology, paired}
-use Rattle.check_mesh.specs.AtExit.{atExit}
-use Rattle.check_mesh.specs.Answers.{workAfter}
-use Rattle.check_mesh.specs.laws.AtExit.{exit-made, exit-blank}
-use Rattle.shared.specs.Cells.{shareEdgeOf}
-use Rattle.iterator.specs.Neighbours.{startsOf, neighboursOf}
-use Rattle.paths.specs.Path.{wholePath}
-use Rattle.iterator.specs.Fills.{Fills}
-use Rattle.iterator.specs.laws.WalksFill.{walks-fill}
-use Rattle.clipped_iterator.specs.Clipped.{clippedOf, clippedNeighboursOf}
-use Rattle.paths.specs.PathNeeds.{Walkable, Towards}
-use Rattle.clipped_iterator.specs.Clippable.{Clippable}
-use Rattle.paths.specs.laws.PathNeeds.{ready, towards}
-use Rattle.clipped_iterator.specs.laws.Clippable.{clippable}
-use Rattle.asking.specs.Asks.{siteRules, pathRules, Asked, CellsOf, cellRules}
+use Rattle.mesh_check.specs.whole.AtExit.{atExit}
+use Rattle.mesh_check.specs.whole.Answers.{workAfter}
+use Rattle.mesh_check.specs.whole.laws.AtExit.{exit-made, exit-blank}
+use Rattle.walks.specs.shared.Cells.{shareEdgeOf}
+use Rattle.walks.specs.neighbours.Neighbours.{startsOf, neighboursOf}
+use Rattle.walks.specs.paths.Path.{wholePath}
+use Rattle.walks.specs.neighbours.Fills.{Fills}
+use Rattle.walks.specs.neighbours.laws.WalksFill.{walks-fill}
+use Rattle.queries.specs.clipped.Clipped.{clippedOf, clippedNeighboursOf}
+use Rattle.walks.specs.paths.PathNeeds.{Walkable, Towards}
+use Rattle.queries.specs.clipped.Clippable.{Clippable}
+use Rattle.walks.specs.paths.laws.PathNeeds.{ready, towards}
+use Rattle.queries.specs.clipped.laws.Clippable.{clippable}
+use Rattle.arguments.specs.asking.Asks.{siteRules, pathRules, Asked, CellsOf, cellRules}
 use Rattle.admission.specs.Admission.{ListAdmission}
 use Rattle.admission.specs.laws.Admits.{asked-answers, admitted, admits-few, admits-rules}
 use Rattle.queries.specs.declared.Listed.{Listed}

@@ -6,11 +6,11 @@ use Prim.Native.Nat.{ℕ, _%_, _≤_}
 use native.Mathlib.Omega.{arith}
 use lib.ListN.{length}
 use borrow.Author.Tests.{ne-eqb, leb-true, le-leb}
-use Rattle.laws.specs.laws.Refusals.{nothing}
-use Rattle.numbers.specs.Numbers.{EMPTY}
+use Rattle.base.specs.common.laws.Refusals.{nothing}
+use Rattle.base.specs.numbers.Numbers.{EMPTY}
 use Rattle.mesh.specs.Accepted.{Mesh, siteCount}
-use Rattle.check_mesh.specs.Answers.{workAfter}
-use Rattle.shared.specs.Edge.{sharedEdgeOf}
+use Rattle.mesh_check.specs.whole.Answers.{workAfter}
+use Rattle.walks.specs.shared.Edge.{sharedEdgeOf}
 use Rattle.admission.specs.Admission.{Admission, roomyOf}
 use Rattle.admission.specs.laws.Admits.{asked-answers, admitted, admits-rules}
 use Rattle.queries.specs.declared.Found.{Found}

@@ -1,5 +1,5 @@
 -- `reader::end_all` meets its contract: the state is finished, stored and told.
-use Rattle.form_step.specs.laws.Standing.{ok-finished}
+use Rattle.form.specs.step.laws.Standing.{ok-finished}
 use borrow.Author.Needs.{needs}
 use Rattle.reader.proofs.end_all.Statement.{statement}
 use Rattle.reader.proofs.end_all.Tie as tie

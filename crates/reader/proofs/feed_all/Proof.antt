@@ -1,8 +1,8 @@
 -- `reader::feed_all` meets its contract: the state that the words say takes the bytes, and is stored.
 use mathlib.Core.Path.{ap, _∙_}
 use denote.Ref.{now}
-use Rattle.form_step.specs.Reader.{reading, takes}
-use Rattle.form_step.specs.declared.Reader.{Reader}
+use Rattle.form.specs.step.Reader.{reading, takes}
+use Rattle.form.specs.declared.step.Reader.{Reader}
 use Rattle.reader.specs.Calls.{fedBy}
 use borrow.Author.Needs.{needs}
 use Rattle.reader.proofs.feed_all.Statement.{statement}

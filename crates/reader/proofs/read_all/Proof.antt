@@ -2,9 +2,9 @@
 use mathlib.Core.Bool.{false}
 use mathlib.Core.Path.{ap, _∙_}
 use denote.Ref.{now}
-use Rattle.form_step.specs.Reader.{reading, takes}
-use Rattle.form_step.specs.laws.Standing.{ok-start, ok-finished}
-use Rattle.form_step.specs.declared.Reader.{Reader}
+use Rattle.form.specs.step.Reader.{reading, takes}
+use Rattle.form.specs.step.laws.Standing.{ok-start, ok-finished}
+use Rattle.form.specs.declared.step.Reader.{Reader}
 use Rattle.reader.specs.Calls.{readBy}
 use borrow.Author.Needs.{needs}
 use Rattle.reader.proofs.read_all.Statement.{statement}

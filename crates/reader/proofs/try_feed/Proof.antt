@@ -5,7 +5,7 @@ use borrow.Author.Tests.{lt-ltb, le-ltb}
 use Rattle.reader.specs.Calls.{formLists, fed, feedCall}
 use Rattle.reader.specs.laws.Calls.{feed-close, feed-wide}
 use Rattle.reader.specs.laws.Lengths.{roomy-told}
-use Rattle.reader_answers.specs.declared.Answer.{Answer}
+use Rattle.reader.specs.declared.answers.Answer.{Answer}
 use borrow.Author.Needs.{needs}
 use Rattle.reader.proofs.try_feed.Statement.{statement}
 use Rattle.reader.proofs.try_feed.Tie as tie

@@ -4,7 +4,7 @@ use denote.Ref.{now}
 use Rattle.reader.specs.Calls.{formLists, readForm}
 use Rattle.reader.specs.laws.Calls.{read-close, read-wide}
 use Rattle.reader.specs.laws.Lengths.{roomy-told}
-use Rattle.reader_answers.specs.declared.Report.{Report}
+use Rattle.reader.specs.declared.answers.Report.{Report}
 use borrow.Author.Needs.{needs}
 use Rattle.reader.proofs.try_read.Statement.{statement}
 use Rattle.reader.proofs.try_read.Tie as tie

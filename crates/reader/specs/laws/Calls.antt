@@ -5,14 +5,14 @@ use mathlib.Core.List.{List, [], _∷_}
 use Prim.Native.Nat.{ℕ}
 use lib.Dec.{ltb}
 use lib.ListN.{length}
-use Rattle.form_step.specs.Reader.{Reading, broken, start, takes}
-use Rattle.form_step.specs.Standing.{Ok}
-use Rattle.form_step.specs.laws.Standing.{ok-steps}
+use Rattle.form.specs.step.Reader.{Reading, broken, start, takes}
+use Rattle.form.specs.step.Standing.{Ok}
+use Rattle.form.specs.step.laws.Standing.{ok-steps}
 use Rattle.form.specs.laws.Run.{takes-reader}
 use Rattle.form.specs.laws.Fill.{take-broken}
-use Rattle.reader_state.specs.Entered.{entered}
-use Rattle.reader_state.specs.Kept.{New, new-steps}
-use Rattle.reader_answers.specs.Answers.{noRoom, noReport}
+use Rattle.reader.specs.state.Entered.{entered}
+use Rattle.reader.specs.state.Kept.{New, new-steps}
+use Rattle.reader.specs.answers.Answers.{noRoom, noReport}
 use Rattle.reader.specs.Calls.{FormLists, readingOf, roomy, fed, fedBy, feedCall, endedBy, endCall, readForm, readBy, readCall}
 
 module _ (ws : List ℕ) (l : FormLists) (s : List ℕ) where

@@ -7,13 +7,13 @@ use lib.Dec.{eqb, ltb}
 use lib.Ieee.{Float, binary64, ofBits}
 use lib.ListN.{length, length-set}
 use borrow.Author.Tests.{ltb-false, leb-true}
-use Rattle.laws.specs.Pick.{pick}
-use Rattle.form_step.specs.Register.{shift}
-use Rattle.form_step.specs.Reader.{within, putFloat, putLink, boundsBy, sitesBy, trianglesBy, halfedgesBy, hullBy, Reading, take, takes}
-use Rattle.form_step.specs.Holds.{ListRoom}
-use Rattle.form_step.specs.declared.Reader.{Reader}
+use Rattle.base.specs.common.Pick.{pick}
+use Rattle.form.specs.step.Register.{shift}
+use Rattle.form.specs.step.Reader.{within, putFloat, putLink, boundsBy, sitesBy, trianglesBy, halfedgesBy, hullBy, Reading, take, takes}
+use Rattle.form.specs.step.Holds.{ListRoom}
+use Rattle.form.specs.declared.step.Reader.{Reader}
 use Rattle.form.specs.laws.Feed.{SameLists, same-same}
-use Rattle.reader_standing.specs.laws.Stands.{past}
+use Rattle.reader.specs.standing.laws.Stands.{past}
 use Rattle.reader.specs.Calls.{FormLists, listsOf, roomy}
 
 -- by a test, a list or one as long

@@ -1,4 +1,4 @@
--- What a beginning that was not refused leaves, and what the end makes of a refused state. What a refused state answers: laws/Answers of crate reader_answers.
+-- What a beginning that was not refused leaves, and what the end makes of a refused state. What a refused state answers: laws/Answers of reader::answers.
 use mathlib.Core.Path.{_≡_, refl, ap}
 use mathlib.Core.Bool.{Bool, true, false}
 use mathlib.Core.List.{List}
@@ -7,9 +7,9 @@ use native.Mathlib.Omega.{arith}
 use lib.Dec.{ltb}
 use lib.ListN.{length}
 use borrow.Author.Tests.{ltb-false}
-use Rattle.laws.specs.Pick.{pick}
-use Rattle.form_step.specs.Reader.{broken, finished}
-use Rattle.form_step.specs.declared.Reader.{Reader}
+use Rattle.base.specs.common.Pick.{pick}
+use Rattle.form.specs.step.Reader.{broken, finished}
+use Rattle.form.specs.declared.step.Reader.{Reader}
 use Rattle.reader.specs.Calls.{beginning, beginCall, AtBegin}
 use Rattle.reader.specs.Promise.{ReaderBegins}
 

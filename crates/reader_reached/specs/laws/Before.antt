@@ -6,14 +6,14 @@ use Prim.Native.Nat.{ℕ, _+_, _-_, _*_, _%_, _^_, _≤_, _<_}
 use native.Mathlib.Omega.{arith}
 use lib.Dec.{eqb}
 use borrow.Author.Tests.{eqb-true, eqb-false, lt-ltb}
-use Rattle.laws.specs.Pick.{pick}
-use Rattle.laws.specs.laws.Decide.{eq-or-ne}
-use Rattle.form_step.specs.Reader.{sizeOf, opens, roomLeft, follows, broken, begun, outside, step}
-use Rattle.form_step.specs.Standing.{under, bodyOf, kinds, bodies, CountAt, Ok}
-use Rattle.form_step.specs.laws.Steps.{step-outside}
-use Rattle.form_step.specs.laws.Standing.{few-counts, under-one, kinds-between}
+use Rattle.base.specs.common.Pick.{pick}
+use Rattle.base.specs.common.laws.Decide.{eq-or-ne}
+use Rattle.form.specs.step.Reader.{sizeOf, opens, roomLeft, follows, broken, begun, outside, step}
+use Rattle.form.specs.step.Standing.{under, bodyOf, kinds, bodies, CountAt, Ok}
+use Rattle.form.specs.step.laws.Steps.{step-outside}
+use Rattle.form.specs.step.laws.Standing.{few-counts, under-one, kinds-between}
 use Rattle.form.specs.laws.Run.{kind-follows}
-use Rattle.form_step.specs.declared.Reader.{Reader}
+use Rattle.form.specs.declared.step.Reader.{Reader}
 use Rattle.reader_reached.specs.laws.Earlier.{same-state, body-of-kind, under-not, kinds-last, bodies-are, at-first}
 
 -- ---- a kind came last

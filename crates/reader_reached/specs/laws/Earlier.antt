@@ -7,13 +7,13 @@ use native.Mathlib.Omega.{arith}
 use native.Mathlib.Nat.{mod-one}
 use lib.Dec.{eqb}
 use borrow.Author.Tests.{ne-eqb, eq-eqb}
-use Rattle.laws.specs.Pick.{pick}
-use Rattle.laws.specs.laws.Decide.{eq-or-ne}
-use Rattle.form_step.specs.Reader.{sizeOf, tally, inside, step}
-use Rattle.form_step.specs.Standing.{under, sitesBegun, trianglesBegun, hullBegun, bodyOf, kinds, bodies, CountAt, Ok}
-use Rattle.form_step.specs.laws.Steps.{step-inside}
-use Rattle.form_step.specs.laws.Standing.{left-begun, under-none, under-one, body-first, body-later, sizes, kinds-between}
-use Rattle.form_step.specs.declared.Reader.{Reader}
+use Rattle.base.specs.common.Pick.{pick}
+use Rattle.base.specs.common.laws.Decide.{eq-or-ne}
+use Rattle.form.specs.step.Reader.{sizeOf, tally, inside, step}
+use Rattle.form.specs.step.Standing.{under, sitesBegun, trianglesBegun, hullBegun, bodyOf, kinds, bodies, CountAt, Ok}
+use Rattle.form.specs.step.laws.Steps.{step-inside}
+use Rattle.form.specs.step.laws.Standing.{left-begun, under-none, under-one, body-first, body-later, sizes, kinds-between}
+use Rattle.form.specs.declared.step.Reader.{Reader}
 
 -- two states with the same numbers
 pub same-state :

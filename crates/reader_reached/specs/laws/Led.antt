@@ -7,15 +7,15 @@ use Prim.Native.Nat.{ℕ, _<_}
 use native.Mathlib.Omega.{arith}
 use lib.Dec.{ltb}
 use borrow.Author.Tests.{ne-eqb, lt-ltb}
-use Rattle.laws.specs.Pick.{pick}
-use Rattle.laws.specs.laws.Decide.{eq-or-ne}
-use Rattle.numbers.specs.Numbers.{refusedForm, refusedUnclipped}
+use Rattle.base.specs.common.Pick.{pick}
+use Rattle.base.specs.common.laws.Decide.{eq-or-ne}
+use Rattle.base.specs.numbers.Numbers.{refusedForm, refusedUnclipped}
 use Rattle.octets.specs.Bytes.{Bytes}
-use Rattle.form_step.specs.Reader.{sizeOf, opens, roomLeft, numberFor, follows, broken, start, refused, begun, outside, step, steps, finished}
-use Rattle.form_step.specs.Standing.{under, bodyOf, kinds, bodies, Ok}
-use Rattle.form_step.specs.laws.Steps.{step-outside}
-use Rattle.form_step.specs.laws.Standing.{body-first, sizes, kinds-between}
-use Rattle.form_step.specs.declared.Reader.{Reader}
+use Rattle.form.specs.step.Reader.{sizeOf, opens, roomLeft, numberFor, follows, broken, start, refused, begun, outside, step, steps, finished}
+use Rattle.form.specs.step.Standing.{under, bodyOf, kinds, bodies, Ok}
+use Rattle.form.specs.step.laws.Steps.{step-outside}
+use Rattle.form.specs.step.laws.Standing.{body-first, sizes, kinds-between}
+use Rattle.form.specs.declared.step.Reader.{Reader}
 use Rattle.reader_reached.specs.laws.Earlier.{same-state, body-of-kind, under-not, kinds-first, bodies-are}
 use Rattle.reader_reached.specs.laws.Before.{outside-step}
 

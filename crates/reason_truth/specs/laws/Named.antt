@@ -3,7 +3,7 @@ use mathlib.Core.Path.{_≡_, refl}
 use Prim.Native.Nat.{ℕ, _≤_}
 use native.Mathlib.Omega.{arith}
 use borrow.Author.Tests.{ne-eqb}
-use Rattle.numbers.specs.Numbers.{refusedCircumcenter, refusedExtension, refusedNoCrossing}
+use Rattle.base.specs.numbers.Numbers.{refusedCircumcenter, refusedExtension, refusedNoCrossing}
 use Rattle.definition.specs.declared.Fault.{Fault}
 use Rattle.definition.specs.Short.{fault}
 use Rattle.reasons.specs.declared.Reason.the-variants.{AtTriangle, AtHullPlace, AtEdge}

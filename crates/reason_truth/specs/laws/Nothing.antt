@@ -7,8 +7,8 @@ use Prim.Native.Nat.{ℕ}
 use native.Mathlib.Omega.{arith}
 use lib.ListN.{length}
 use borrow.Author.Tests.{ltb-false}
-use Rattle.laws.specs.Count.{occ}
-use Rattle.shared.specs.Cells.{holdsOf}
+use Rattle.base.specs.common.Count.{occ}
+use Rattle.walks.specs.shared.Cells.{holdsOf}
 use Rattle.reasons.specs.Answer.{isNone}
 
 pub is-none : (l : List ℕ) → isNone l ≡ true → l ≡ []

@@ -5,8 +5,8 @@ use mathlib.Core.Logic.{inl, inr}
 use Prim.Native.Nat.{ℕ}
 use native.Mathlib.Omega.{arith}
 use lib.ListN.{length}
-use Rattle.laws.specs.Refusals.{Rule, once, each, Keep}
-use Rattle.laws.specs.laws.Decide.{first-not}
+use Rattle.base.specs.common.Refusals.{Rule, once, each, Keep}
+use Rattle.base.specs.common.laws.Decide.{first-not}
 use Rattle.definition.specs.declared.Fault.{Fault}
 use Rattle.definition.specs.Fault.{Outcome, ok, refused}
 use Rattle.definition.specs.Cell.{Entry, unmarked}

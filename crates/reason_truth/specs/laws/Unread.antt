@@ -1,6 +1,6 @@
 -- A list of rules whose answers are read by their numbers keeps what the list itself keeps.
 use mathlib.Core.List.{List, [], _∷_}
-use Rattle.laws.specs.Refusals.{Rule, once, each, Keep, reads}
+use Rattle.base.specs.common.Refusals.{Rule, once, each, Keep, reads}
 
 pub keep-unread : {A B : Type 0} (g : A → B) (rs : List (Rule A)) → Keep (reads g rs) → Keep rs
 keep-unread g [] k = tt

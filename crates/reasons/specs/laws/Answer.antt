@@ -8,21 +8,21 @@ use native.Mathlib.Omega.{arith}
 use lib.Dec.{eqb, leb}
 use lib.ListN.{length, getD, take, drop, length-take, length-drop}
 use borrow.Author.Tests.{eq-eqb, ne-eqb, lt-ltb, le-ltb, ltb-true, le-leb}
-use Rattle.laws.specs.Pick.{pick}
-use Rattle.laws.specs.Count.{occ, same}
-use Rattle.laws.specs.laws.Count.{occ-append, same-cases}
-use Rattle.laws.specs.laws.Decide.{eq-or-ne, lt-or-ge}
-use Rattle.numbers.specs.Numbers.{EMPTY}
+use Rattle.base.specs.common.Pick.{pick}
+use Rattle.base.specs.common.Count.{occ, same}
+use Rattle.base.specs.common.laws.Count.{occ-append, same-cases}
+use Rattle.base.specs.common.laws.Decide.{eq-or-ne, lt-or-ge}
+use Rattle.base.specs.numbers.Numbers.{EMPTY}
 use Rattle.mesh.specs.Mesh.{startOf, pairOf, leftmostOf, wholeOf}
 use Rattle.mesh.specs.Accepted.{Topology}
 use Rattle.mesh.specs.laws.Facts.{tab-used, tab-unused, tab-length}
 use Rattle.mesh.specs.laws.Occurs.{occ-there}
-use Rattle.shared.specs.Cells.{Cells, cellOf, holdsOf, sharedOf, shareEdgeOf}
-use Rattle.iterator.specs.Neighbours.{lastEnd, startsOf, neighboursOf}
-use Rattle.iterator.specs.laws.Neighbours.{sitesFrom, starts-cons}
-use Rattle.clipped_iterator.specs.Clipped.{keptOf, clippedFrom, clippedFirst, clippedOf}
-use Rattle.clipped_iterator.specs.Clippable.{Clippable}
-use Rattle.clipped_iterator.specs.laws.Clippable.{clippable}
+use Rattle.walks.specs.shared.Cells.{Cells, cellOf, holdsOf, sharedOf, shareEdgeOf}
+use Rattle.walks.specs.neighbours.Neighbours.{lastEnd, startsOf, neighboursOf}
+use Rattle.walks.specs.neighbours.laws.Neighbours.{sitesFrom, starts-cons}
+use Rattle.queries.specs.clipped.Clipped.{keptOf, clippedFrom, clippedFirst, clippedOf}
+use Rattle.queries.specs.clipped.Clippable.{Clippable}
+use Rattle.queries.specs.clipped.laws.Clippable.{clippable}
 use Rattle.reasons.specs.declared.Question.the-variants.{About, Between}
 use Rattle.reasons.specs.declared.Reason.{Reason}
 use Rattle.reasons.specs.declared.Reason.the-variants.{NoFault, Dropped}

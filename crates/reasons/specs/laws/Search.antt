@@ -8,20 +8,20 @@ use native.Mathlib.Nat.{zero-add}
 use native.Mathlib.Omega.{arith}
 use lib.ListN.{length}
 use borrow.Author.Tests.{lt-ltb}
-use Rattle.laws.specs.Count.{occ}
-use Rattle.laws.specs.laws.Count.{same-cases}
-use Rattle.numbers.specs.Numbers.{EMPTY}
+use Rattle.base.specs.common.Count.{occ}
+use Rattle.base.specs.common.laws.Count.{same-cases}
+use Rattle.base.specs.numbers.Numbers.{EMPTY}
 use Rattle.mesh.specs.Mesh.{wholeOf}
-use Rattle.shared.specs.Cells.{holdsOf}
-use Rattle.iterator.specs.declared.Cursor.{Cursor}
-use Rattle.iterator.specs.declared.Stepped.{Stepped}
-use Rattle.iterator.specs.declared.Stepped.the-variants.{Site, End}
-use Rattle.iterator.specs.Neighbours.{startsOf}
-use Rattle.iterator.specs.Cursor.{Settled, cursorFrom, stepOf, CursorSettled}
-use Rattle.iterator.specs.laws.Cursor.{neighboursLeft, StepTakes, came-took, left-fresh}
-use Rattle.clipped_iterator.specs.Clipped.{clippedOf}
-use Rattle.clipped_iterator.specs.ClippedCursor.{clippedLeft, ClippedTakes}
-use Rattle.clipped_iterator.specs.laws.ClippedCursor.{clipped-fresh}
+use Rattle.walks.specs.shared.Cells.{holdsOf}
+use Rattle.walks.specs.declared.neighbours.Cursor.{Cursor}
+use Rattle.walks.specs.declared.neighbours.Stepped.{Stepped}
+use Rattle.walks.specs.declared.neighbours.Stepped.the-variants.{Site, End}
+use Rattle.walks.specs.neighbours.Neighbours.{startsOf}
+use Rattle.walks.specs.neighbours.Cursor.{Settled, cursorFrom, stepOf, CursorSettled}
+use Rattle.walks.specs.neighbours.laws.Cursor.{neighboursLeft, StepTakes, came-took, left-fresh}
+use Rattle.queries.specs.clipped.Clipped.{clippedOf}
+use Rattle.queries.specs.clipped.ClippedCursor.{clippedLeft, ClippedTakes}
+use Rattle.queries.specs.clipped.laws.ClippedCursor.{clipped-fresh}
 
 -- ---- in a list with a head
 

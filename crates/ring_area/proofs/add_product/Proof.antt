@@ -5,7 +5,7 @@ use borrow.Author.Needs.{needs}
 use lib.Dec.{T}
 use lib.Ieee.{Float, binary64, fits, toBits, ofBits}
 use lib.Ieee.Bits.{ofBits-toBits}
-use Rattle.long_numbers.specs.laws.Puts.{added-as}
+use Rattle.ring_area.specs.long.laws.Puts.{added-as}
 use Rattle.root.specs.Root.{units}
 use Rattle.root.specs.laws.Bounds.{bounded-finite, finite-no-nan}
 use Rattle.ring_area.specs.laws.Splits.{pattern-low}

@@ -2,7 +2,7 @@
 use mathlib.Core.Path.{ap, _∙_}
 use denote.Ref.{now}
 use borrow.Author.Needs.{needs}
-use Rattle.utils.specs.Flat.{pointAt}
+use Rattle.plane.specs.points.Flat.{pointAt}
 use Rattle.ring_area.proofs.corner.Statement.{statement}
 use Rattle.ring_area.proofs.corner.Tie as tie
 

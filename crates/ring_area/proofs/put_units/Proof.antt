@@ -4,8 +4,8 @@ use Prim.Native.Nat.{ℕ, _<_}
 use native.Mathlib.Omega.{arith}
 use lib.Pow.{pow-lt}
 use borrow.Author.Needs.{needs}
-use Rattle.long_numbers.specs.Amount.{base}
-use Rattle.long_numbers.specs.laws.Lifted.{lifted-room}
+use Rattle.ring_area.specs.long.Amount.{base}
+use Rattle.ring_area.specs.long.laws.Lifted.{lifted-room}
 use Rattle.ring_area.specs.laws.Products.{none-left, none-right, begins, ends, product-placed}
 use Rattle.ring_area.proofs.put_units.Statement.{statement}
 use Rattle.ring_area.proofs.put_units.Tie as tie

@@ -1,7 +1,7 @@
 -- `ring_area::side` meets its contract: its two products, the second with the two sums exchanged.
 use mathlib.Core.Path.{_∙_}
 use borrow.Author.Needs.{needs}
-use Rattle.long_numbers.specs.laws.Lifted.{lifted-same}
+use Rattle.ring_area.specs.long.laws.Lifted.{lifted-same}
 use Rattle.ring_area.specs.laws.Products.{ready-fewer, ready-after, ready-turned, side-in}
 use Rattle.ring_area.proofs.side.Statement.{statement}
 use Rattle.ring_area.proofs.side.Tie as tie

@@ -4,8 +4,8 @@ use Prim.Native.Nat.{_-_}
 use lib.ListN.{length}
 use denote.Ref.{now}
 use borrow.Author.Needs.{needs}
-use Rattle.long_numbers.specs.Amount.{lifted}
-use Rattle.long_numbers.specs.laws.Lifted.{lifted-same}
+use Rattle.ring_area.specs.long.Amount.{lifted}
+use Rattle.ring_area.specs.long.laws.Lifted.{lifted-same}
 use Rattle.ring_area.specs.laws.Rings.{SidesTo, walked-start, ready-side, walked-step, walked-end}
 use Rattle.ring_area.proofs.sides_from.Statement.{statement}
 use Rattle.ring_area.proofs.sides_from.Tie as tie

@@ -12,9 +12,9 @@ use lib.ListN.{length, getD, length-map}
 use lib.Pow.{pow-add}
 use Rattle.root.specs.Bounded.{Bounded}
 use Rattle.root.specs.Root.{units}
-use Rattle.utils.specs.Finite.{BoundedPoint}
-use Rattle.utils.specs.Flat.{pointAt}
-use Rattle.utils.specs.declared.Point.{Point}
+use Rattle.plane.specs.points.Finite.{BoundedPoint}
+use Rattle.plane.specs.points.Flat.{pointAt}
+use Rattle.plane.specs.declared.points.Point.{Point}
 use Rattle.ring_area.specs.Area.{below, productAbove, productUnder, gain, loss, gains, losses}
 use Rattle.ring_area.specs.Steps.{Corners, gainsOf, lossesOf}
 

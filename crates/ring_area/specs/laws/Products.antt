@@ -8,14 +8,14 @@ use native.Mathlib.Nat.{add-zero, zero-mul, mul-zero, mul-pos, mul-assoc, mul-co
 use native.Mathlib.Omega.{arith}
 use lib.Ieee.{Float, binary64, unlike, ofBits}
 use lib.Pow.{pow-add, pow-pos}
-use Rattle.laws.specs.laws.Decide.{lt-or-ge}
-use Rattle.long_numbers.specs.Amount.{amount, weight, lifted}
-use Rattle.long_numbers.specs.Steps.{PutIn}
-use Rattle.long_numbers.specs.laws.Amounts.{weight-is, weight-from}
-use Rattle.long_numbers.specs.laws.Puts.{added-then, added-as, roomy-after, roomy-fewer}
-use Rattle.long_numbers.specs.laws.Lifted.{lifted-same, lifted-put}
+use Rattle.base.specs.common.laws.Decide.{lt-or-ge}
+use Rattle.ring_area.specs.long.Amount.{amount, weight, lifted}
+use Rattle.ring_area.specs.long.Steps.{PutIn}
+use Rattle.ring_area.specs.long.laws.Amounts.{weight-is, weight-from}
+use Rattle.ring_area.specs.long.laws.Puts.{added-then, added-as, roomy-after, roomy-fewer}
+use Rattle.ring_area.specs.long.laws.Lifted.{lifted-same, lifted-put}
 use Rattle.root.specs.Root.{units}
-use Rattle.utils.specs.declared.Point.{Point}
+use Rattle.plane.specs.declared.points.Point.{Point}
 use Rattle.ring_area.specs.Area.{below}
 use Rattle.ring_area.specs.Span.{InSpan, PatternIn, BothOpen}
 use Rattle.ring_area.specs.Steps.{SplitOf, ProductIn, SideIn}

@@ -8,12 +8,12 @@ use native.Mathlib.Numerals.{add-one}
 use lib.Ieee.{Float}
 use lib.ListN.{length, getD, drop, drop-of-length-le}
 use lib.Seq.{drop-cons}
-use Rattle.long_numbers.specs.Amount.{lifted}
-use Rattle.long_numbers.specs.Steps.{PutIn}
-use Rattle.long_numbers.specs.laws.Puts.{added-then}
-use Rattle.long_numbers.specs.laws.Lifted.{lifted-same}
-use Rattle.utils.specs.Flat.{pointAt}
-use Rattle.utils.specs.declared.Point.{Point}
+use Rattle.ring_area.specs.long.Amount.{lifted}
+use Rattle.ring_area.specs.long.Steps.{PutIn}
+use Rattle.ring_area.specs.long.laws.Puts.{added-then}
+use Rattle.ring_area.specs.long.laws.Lifted.{lifted-same}
+use Rattle.plane.specs.points.Flat.{pointAt}
+use Rattle.plane.specs.declared.points.Point.{Point}
 use Rattle.ring_area.specs.Area.{gain, loss, gains, losses}
 use Rattle.ring_area.specs.Steps.{SideIn, gainsOf, lossesOf, RingIn}
 use Rattle.ring_area.specs.Span.{CornerIn, RingPlaced, BothOpen}

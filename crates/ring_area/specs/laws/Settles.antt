@@ -9,10 +9,10 @@ use lib.Dec.{lit≤}
 use lib.ListN.{length, getD, replicate, length-replicate, getD-replicate, List·getD-eq-default}
 use lib.Pow.{pow-lt}
 use lib.Seq.{take-length}
-use Rattle.laws.specs.laws.Decide.{lt-or-ge}
-use Rattle.long_numbers.specs.Amount.{amount, weight, WholeLimbs}
-use Rattle.long_numbers.specs.Steps.{PutIn, Carried}
-use Rattle.long_numbers.specs.laws.Amounts.{weight-is, amount-none, amount-below}
+use Rattle.base.specs.common.laws.Decide.{lt-or-ge}
+use Rattle.ring_area.specs.long.Amount.{amount, weight, WholeLimbs}
+use Rattle.ring_area.specs.long.Steps.{PutIn, Carried}
+use Rattle.ring_area.specs.long.laws.Amounts.{weight-is, amount-none, amount-below}
 use Rattle.ring_area.specs.Steps.{Open, SumFits}
 
 -- ---- limbs that are all 0

@@ -5,10 +5,10 @@ use Prim.Native.Nat.{ℕ, _-_, _/_, _%_, _^_, _≤_}
 use native.Mathlib.Omega.{arith}
 use lib.Ieee.{Float}
 use lib.ListN.{length, getD}
-use Rattle.long_numbers.specs.laws.Lifted.{lifted-none}
-use Rattle.utils.specs.Finite.{BoundedPoint}
-use Rattle.utils.specs.Flat.{pointAt}
-use Rattle.utils.specs.declared.Point.{Point}
+use Rattle.ring_area.specs.long.laws.Lifted.{lifted-none}
+use Rattle.plane.specs.points.Finite.{BoundedPoint}
+use Rattle.plane.specs.points.Flat.{pointAt}
+use Rattle.plane.specs.declared.points.Point.{Point}
 use Rattle.ring_area.specs.Steps.{LowPattern, Open, Corners, exponentOf}
 use Rattle.ring_area.specs.Span.{InSpan, PatternIn, CornerIn, RingPlaced, BothOpen}
 use Rattle.ring_area.specs.laws.Splits.{pattern-low}

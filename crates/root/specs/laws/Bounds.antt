@@ -7,7 +7,7 @@ use native.Mathlib.Omega.{arith}
 use mathlib.Core.Bool.{Bool, true, false, not, _&&_, Bool·beq, cond}
 use lib.Dec.{T, ltb, eqb, lit≤, eqb·suc-zero}
 use lib.Ieee.Positive.{first-pos}
-use Rattle.laws.specs.Binary64 as R
+use Rattle.base.specs.common.Binary64 as R
 use lib.IntN.{ℤ}
 use lib.Pow.{pow-add, pow-pos, pow-mono, pow-lt}
 use lib.Ieee.{Float, nan, inf, fin, Format, prec, emax, low, up, down, round, neg, sum, add, sub, mul, div, unlike, ofBits, isNan}

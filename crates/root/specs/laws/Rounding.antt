@@ -17,7 +17,7 @@ use lib.Ieee.Fits.{round-is}
 use lib.Ieee.Nearest.{closest, closest-mono}
 use lib.Ieee.Order.{drop, kept}
 use lib.Ieee.Scale.{grid, finite, overflow}
-use Rattle.laws.specs.laws.Decide.{lt-or-ge}
+use Rattle.base.specs.common.laws.Decide.{lt-or-ge}
 
 -- ---- to the nearest whole number
 rest : (n : ℕ) → n % 1 ≡ 0

@@ -9,7 +9,7 @@ use lib.Count.{trailingZeros}
 use lib.Arith.{lt→nleb}
 use lib.Ieee.{Float, nan, inf, fin, binary64, odd, isNan, ofFields, ofBits, toBits, span, climb, size, div, neg}
 use lib.Ieee.Bits.{is-true, is-false, nanBits-is, nanBits-above}
-use Rattle.laws.specs.Binary64 as B
+use Rattle.base.specs.common.Binary64 as B
 use Rattle.root.specs.Root.{magnitude, signum, quiet}
 use Rattle.root.specs.laws.Patterns.{ofBits-is, same, is-nan}
 

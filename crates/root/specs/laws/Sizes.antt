@@ -15,7 +15,7 @@ use lib.Ieee.Exact.{HasValue}
 use lib.Ieee.Fits.{up-pos, down-pos}
 use lib.Ieee.Positive.{first-pos}
 use lib.Ieee.Scale.{grid, finite}
-use Rattle.laws.specs.Binary64.{_⊞_, _⊠_, _⊘_}
+use Rattle.base.specs.common.Binary64.{_⊞_, _⊠_, _⊘_}
 use Rattle.root.specs.laws.Rounding.{grid-most, grid-least, round-has, round-within}
 use Rattle.root.specs.laws.Bounds.{round-bound, sum-by, div-is}
 use Rattle.root.specs.Bounded.{Bounded}

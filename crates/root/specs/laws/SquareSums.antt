@@ -8,7 +8,7 @@ use lib.Dec.{T}
 use lib.Ieee.{Float, nan, inf, fin, binary64, up, down, round, add, mul, sum}
 use lib.Ieee.Fits.{down-pos}
 use lib.Ieee.Scale.{grid, finite}
-use Rattle.laws.specs.Binary64.{_⊞_, _⊠_}
+use Rattle.base.specs.common.Binary64.{_⊞_, _⊠_}
 use Rattle.root.specs.Root.{Plus}
 use Rattle.root.specs.laws.Rounding.{round-has, round-within}
 use Rattle.root.specs.laws.Sizes.{AtLeast, HeldFraction, round-least}

@@ -5,8 +5,8 @@ use Prim.Native.Nat.{ℕ, suc, _+_, _*_, _^_, _≤_, _<_}
 use native.Mathlib.Nat.{mul-le-mul, lt-of-lt-of-le}
 use native.Mathlib.Omega.{arith}
 use lib.Pow.{pow-pos, pow-add}
-use Rattle.laws.specs.laws.Decide.{lt-or-ge}
-use Rattle.digits.specs.Near.{sq}
+use Rattle.base.specs.common.laws.Decide.{lt-or-ge}
+use Rattle.root.specs.digits.Near.{sq}
 
 pub le-or-lt : (a b : ℕ) → (a ≤ b) ⊎ (b < a)
 le-or-lt a b = ⊎-elim inr inl (lt-or-ge b a)

@@ -9,10 +9,10 @@ use lib.Dec.{T, ltb, eqb, ltb→lt, nltb→le, eqb→eq}
 use lib.IntN.{ℤ, pos}
 use lib.Ieee.{Float, nan, inf, fin, up, down, lt, le, ofBits}
 use lib.Ieee.Fits.{down-pos}
-use Rattle.laws.specs.laws.And.{holds, fails}
-use Rattle.laws.specs.Binary64.{zero}
-use Rattle.laws.specs.laws.Decide.{lt-or-ge}
-use Rattle.numbers.specs.Numbers.{tolerance}
+use Rattle.base.specs.common.laws.And.{holds, fails}
+use Rattle.base.specs.common.Binary64.{zero}
+use Rattle.base.specs.common.laws.Decide.{lt-or-ge}
+use Rattle.base.specs.numbers.Numbers.{tolerance}
 use Rattle.root.specs.laws.Order.{first-of}
 use Rattle.root.specs.Root.{magnitude}
 use Rattle.root.specs.laws.Bounds.{OneOrMore}

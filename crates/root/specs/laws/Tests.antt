@@ -11,7 +11,7 @@ use lib.Ieee.{Float, nan, inf, fin, up, down, odd, isNan, ofFields, ofBits, belo
 use lib.Ieee.Compare.{differs-from-itself}
 use lib.Ieee.Fits.{up-pos}
 use lib.Ieee.Bits.{is-true, is-false}
-use Rattle.laws.specs.Binary64 as B
+use Rattle.base.specs.common.Binary64 as B
 use Rattle.root.specs.Root.{Root, Plus}
 
 pub no-nan : (x : Float) → ne x x ≡ false → T (not (isNan x))

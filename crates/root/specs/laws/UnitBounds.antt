@@ -8,7 +8,7 @@ use lib.Dec.{T, lt→ltb}
 use lib.IntN.{ℤ, pos}
 use lib.Pow.{pow-pos, pow-lt}
 use lib.Ieee.{Float, nan, inf, fin, binary64, up, down, fits, lt}
-use Rattle.laws.specs.Binary64 as B
+use Rattle.base.specs.common.Binary64 as B
 use Rattle.root.specs.Root.{units, Plus}
 use Rattle.root.specs.Bounded.{Bounded}
 use Rattle.root.specs.laws.Tests.{plus-above}

@@ -9,9 +9,9 @@ use lib.Dec.{T, leb, ltb, leb→le, nleb→lt, ltb→lt, nltb→le}
 use lib.Pow.{pow-mono, shl-lt}
 use lib.Ieee.{size}
 use lib.Ieee.Digits.{size-lt, size-le, size-reaches, back}
-use Rattle.laws.specs.Pick.{pick}
-use Rattle.digits.specs.Near.{sq, NearWhole}
-use Rattle.digits.specs.laws.Rounds.{near-down, near-up}
+use Rattle.base.specs.common.Pick.{pick}
+use Rattle.root.specs.digits.Near.{sq, NearWhole}
+use Rattle.root.specs.digits.laws.Rounds.{near-down, near-up}
 use Rattle.root.specs.Sqrt.{wholeRoot, nearestRoot}
 use Rattle.root.specs.laws.Squares.{sq-mono, sq-pos, pow-sq}
 

@@ -6,13 +6,13 @@ use mathlib.Core.Logic.{_≢_}
 use Prim.Native.Nat.{ℕ, _≤_, _<_}
 use lib.ListN.{length}
 use borrow.Author.Tests.{eq-eqb, ne-eqb, lt-ltb, le-ltb}
-use Rattle.laws.specs.Pick.{pick}
-use Rattle.laws.specs.Decide.{Says}
-use Rattle.numbers.specs.Numbers.{refusedFan}
+use Rattle.base.specs.common.Pick.{pick}
+use Rattle.base.specs.common.Decide.{Says}
+use Rattle.base.specs.numbers.Numbers.{refusedFan}
 use Rattle.mesh.specs.Accepted.{Mesh}
 use Rattle.admission.specs.Slices.{Slices}
-use Rattle.test_words.specs.Words.{wordOf, afterOf}
-use Rattle.test_words.specs.Held.{BuildHeld, RefusedHeld, endPlace, afterListOf}
+use Rattle.test_replay.specs.words.Words.{wordOf, afterOf}
+use Rattle.test_replay.specs.words.Held.{BuildHeld, RefusedHeld, endPlace, afterListOf}
 use Rattle.test_replay.specs.Replayed.{ListsHeld}
 use Rattle.test_replay.specs.Judged.{SaysKept, AcceptedHeld, RefusalHeld, answersVerdict, AnswersJudged}
 use Rattle.test_replay.specs.laws.Replayed.{where-asked, where-passed, then-stops, then-next}

@@ -6,14 +6,14 @@ use Prim.Native.Nat.{ℕ}
 use native.Mathlib.Omega.{arith}
 use lib.Ieee.{Float}
 use lib.ListN.{replicate}
-use Rattle.laws.specs.Decide.{Says}
-use Rattle.utils.specs.Plane.{at}
-use Rattle.given_box.specs.Given.{bySize}
+use Rattle.base.specs.common.Decide.{Says}
+use Rattle.plane.specs.points.Plane.{at}
+use Rattle.plane.specs.given.Given.{bySize}
 use Rattle.mesh.specs.Accepted.{Mesh}
 use Rattle.admission.specs.Slices.{Slices}
 use Rattle.voronoi.specs.Builds.{Build}
-use Rattle.test_words.specs.Words.{wordOf, afterOf, patternOf, floatOf}
-use Rattle.test_words.specs.Held.{ListHeld, afterListOf}
+use Rattle.test_replay.specs.words.Words.{wordOf, afterOf, patternOf, floatOf}
+use Rattle.test_replay.specs.words.Held.{ListHeld, afterListOf}
 use Rattle.test_replay.specs.Replayed.{boxOf, AnswerHeld, Where, Then, FourHeld, ListsHeld}
 
 pub box-read : (m : Mesh) (b : List ℕ) (s s′ : Slices) (r : ℕ) (x y w h : Float) → x ≡ floatOf (patternOf b 5) → y ≡ floatOf (patternOf b 7)

@@ -7,10 +7,10 @@ use native.Mathlib.Omega.{arith}
 use lib.Ieee.{Float, nan, binary64, ofBits}
 use lib.ListN.{length, take, replicate}
 use borrow.Author.Tests.{eq-eqb, ne-eqb, le-leb, lt-leb}
-use Rattle.laws.specs.laws.Decide.{eq-or-ne}
+use Rattle.base.specs.common.laws.Decide.{eq-or-ne}
 use Rattle.mesh.specs.Accepted.{Mesh}
 use Rattle.admission.specs.Slices.{slices}
-use Rattle.test_words.specs.Words.{wordOf, afterOf, patternOf, floatOf, placeOf, Loaded}
+use Rattle.test_replay.specs.words.Words.{wordOf, afterOf, patternOf, floatOf, placeOf, Loaded}
 use Rattle.test_replay.specs.declared.Tally.{Tally}
 use Rattle.test_replay.specs.Judged.{BuildReplayed}
 use Rattle.test_replay.specs.Tallied.{sevens, sevensOf, ListRead, hullPlace, Replayed, RecordVerdict, NextRead, threeCounts, tallyWith, tallyOf, RecordsTallied}

@@ -5,7 +5,7 @@ use mathlib.Core.List.{_++_}
 use native.Mathlib.Omega.{arith}
 use denote.Ref.{now}
 use lib.ListN.{length, take}
-use Rattle.utils.specs.Flat.{points}
+use Rattle.plane.specs.points.Flat.{points}
 use Rattle.vertices.specs.Store.{Poured}
 use Rattle.vertices.specs.laws.Store.{corner-none, corner-more, corner-all}
 use Rattle.vertices.proofs.calculate_corners.Statement.{statement}

@@ -4,7 +4,7 @@ use mathlib.Core.Path.{_≡_, refl, sym, ap, _∙_}
 use native.Mathlib.Omega.{arith}
 use borrow.Author.Needs.{needs}
 use Rattle.vertices.specs.Add.{nearPt, findNear}
-use Rattle.utils.specs.Flat.{pointsFrom}
+use Rattle.plane.specs.points.Flat.{pointsFrom}
 use Rattle.vertices.specs.laws.Points.{near-hit, near-miss, near-end}
 use Rattle.vertices.proofs.find_near.Statement.{statement}
 use Rattle.vertices.proofs.find_near.Tie as tie

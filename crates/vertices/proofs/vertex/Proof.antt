@@ -2,7 +2,7 @@
 use mathlib.Core.Path.{sym, _∙_}
 use native.Mathlib.Omega.{arith}
 use lib.Ieee.{nan}
-use Rattle.utils.specs.Plane.{at}
+use Rattle.plane.specs.points.Plane.{at}
 use Rattle.vertices.specs.laws.Points.{getD-points}
 use borrow.Author.Needs.{needs}
 use Rattle.vertices.proofs.vertex.Statement.{statement}

@@ -10,9 +10,9 @@ use lib.Seq.{drop-cons, sets-eq, getD-drop, drop-drop, drop-append-add}
 use borrow.Author.Tests.{lt-ltb, le-ltb}
 use native.Mathlib.Nat.{add-zero, sub-zero, zero-add}
 use lib.Ieee.{Float, nan}
-use Rattle.utils.specs.declared.Point.{Point}
+use Rattle.plane.specs.declared.points.Point.{Point}
 use Rattle.vertices.specs.Add.{nearPt, findNear, addVertex}
-use Rattle.utils.specs.Flat.{pointAt, pointsFrom, points, flat, pour}
+use Rattle.plane.specs.points.Flat.{pointAt, pointsFrom, points, flat, pour}
 
 pub points-more : (l : List Float) (i n : ℕ) → i < n → pointsFrom l i (n - i) ≡ pointAt l i ∷ pointsFrom l (i + 1) (n - (i + 1))
 unfolding pointsFrom

@@ -11,10 +11,10 @@ use lib.Dec.{ltb}
 use lib.Ieee.{Float, nan}
 use lib.ListN.{length, getD, take, drop, set, length-set, length-append}
 use lib.Seq.{take-suc, take-all, take-at, getD-take, length-take-le}
-use Rattle.laws.specs.Pick.{pick}
-use Rattle.utils.specs.Plane.{at}
-use Rattle.utils.specs.declared.Point.{Point}
-use Rattle.utils.specs.Flat.{points, pointsFrom, flat, pour}
+use Rattle.base.specs.common.Pick.{pick}
+use Rattle.plane.specs.points.Plane.{at}
+use Rattle.plane.specs.declared.points.Point.{Point}
+use Rattle.plane.specs.points.Flat.{points, pointsFrom, flat, pour}
 use Rattle.vertices.specs.Add.{findNear, addVertex}
 use Rattle.vertices.specs.Store.{Holds, Poured, Leaves, PlacedAs}
 use Rattle.vertices.specs.laws.Points.{add-old, add-new, length-points, points-pour, pour-points, pour-pour, pour-snoc, length-pour, flat-append, flat-points, getD-points}

@@ -8,42 +8,42 @@ use borrow.Author.Tests.{eq-eqb, ne-eqb, lt-ltb, le-ltb}
 use lib.Dec.{eqb}
 use lib.Ieee.{Float}
 use lib.ListN.{length, getD, replicate}
-use Rattle.laws.specs.Binary64 as R
-use Rattle.laws.specs.Pick.{pick}
-use Rattle.laws.specs.Refusals.{Rule}
-use Rattle.laws.specs.laws.Decide.{lt-or-ge}
-use Rattle.numbers.specs.Numbers.{EMPTY}
-use Rattle.utils.specs.declared.Point.{Point}
-use Rattle.bounding_box.specs.declared.BoundingBox.{BoundingBox}
-use Rattle.given_box.specs.declared.Given.{Given}
-use Rattle.line_crossings.specs.declared.Crossing.{Crossing}
-use Rattle.line_crossings.specs.declared.Crossing.the-variants.{None, One, Two}
-use Rattle.crossings.specs.Rules.{valuesOf}
+use Rattle.base.specs.common.Binary64 as R
+use Rattle.base.specs.common.Pick.{pick}
+use Rattle.base.specs.common.Refusals.{Rule}
+use Rattle.base.specs.common.laws.Decide.{lt-or-ge}
+use Rattle.base.specs.numbers.Numbers.{EMPTY}
+use Rattle.plane.specs.declared.points.Point.{Point}
+use Rattle.plane.specs.declared.boxes.BoundingBox.{BoundingBox}
+use Rattle.plane.specs.declared.given.Given.{Given}
+use Rattle.plane.specs.declared.lines.Crossing.{Crossing}
+use Rattle.plane.specs.declared.lines.Crossing.the-variants.{None, One, Two}
+use Rattle.plane.specs.rays.Rules.{valuesOf}
 use Rattle.mesh.specs.Accepted.{Mesh}
-use Rattle.check_mesh.specs.AtExit.{atExit}
+use Rattle.mesh_check.specs.whole.AtExit.{atExit}
 use Rattle.octets.specs.Wrote.{Wrote}
 use Rattle.admission.specs.Slices.{Slices}
-use Rattle.mend_slices.specs.Lent.{Lent}
+use Rattle.mending.specs.slices.Lent.{Lent}
 use Rattle.mending.specs.Mending.{whenMade}
-use Rattle.grid_scan.specs.declared.GridAnswer.{GridAnswer}
-use Rattle.grid_scan.specs.declared.GridAnswer.the-variants as grid
-use Rattle.grid_scan.specs.Judged.{gridNumber, gridKind, gridPlace}
-use Rattle.grid_check.specs.Promise.{GridMesh, gridWork}
-use Rattle.grid_nearest.specs.declared.NearestAnswer.{NearestAnswer}
-use Rattle.grid_nearest.specs.declared.NearestAnswer.the-variants.{Nearest, Triangle, Halfedge, HullPlace, Refused}
-use Rattle.grid_nearest.specs.Judged.{nearestNumber, nearestKind, nearestPlace}
+use Rattle.grid.specs.declared.scan.GridAnswer.{GridAnswer}
+use Rattle.grid.specs.declared.scan.GridAnswer.the-variants as grid
+use Rattle.grid.specs.scan.Judged.{gridNumber, gridKind, gridPlace}
+use Rattle.grid.specs.check.Promise.{GridMesh, gridWork}
+use Rattle.grid.specs.declared.nearest.NearestAnswer.{NearestAnswer}
+use Rattle.grid.specs.declared.nearest.NearestAnswer.the-variants.{Nearest, Triangle, Halfedge, HullPlace, Refused}
+use Rattle.grid.specs.nearest.Judged.{nearestNumber, nearestKind, nearestPlace}
 use Rattle.areas.specs.Promise.{areasAfter}
 use Rattle.auditing.specs.Promise.{unlessRefused, shareUnlessRefused}
 use Rattle.reasons.specs.declared.ReasonNumbers.{ReasonNumbers}
 use Rattle.reader.specs.Calls.{FormLists, roomy, AtBegin, AtFeed, AtEnd, AtRead, beginCall, feedCall, endCall, readCall}
-use Rattle.reader_answers.specs.declared.Answer.{Answer}
-use Rattle.reader_answers.specs.declared.Report.{Report}
-use Rattle.shared.specs.Cells.{cellOf}
+use Rattle.reader.specs.declared.answers.Answer.{Answer}
+use Rattle.reader.specs.declared.answers.Report.{Report}
+use Rattle.walks.specs.shared.Cells.{cellOf}
 use Rattle.wkb.specs.Polygon.{patterns}
 use Rattle.wkb.specs.Promise.{image}
-use Rattle.multipoint_writer.specs.Promise.{fileOf}
-use Rattle.line_crossings.specs.Line.{lineOf}
-use Rattle.crossings.specs.Ray.{rayOf}
+use Rattle.wkb.specs.multipoint_writer.Promise.{fileOf}
+use Rattle.plane.specs.lines.Line.{lineOf}
+use Rattle.plane.specs.rays.Ray.{rayOf}
 use Rattle.plane_calls.specs.Plane.{Answered, bit}
 use Rattle.voronoi.specs.Plane.{Meets}
 use Rattle.voronoi.specs.Walks.{CellsShareEdge}
@@ -53,8 +53,9 @@ use Rattle.voronoi.specs.Forms.{ReaderBegin, ReaderFeed, ReaderEnd, Read
 use Rattle.voronoi.specs.Grids.{GridCheck, GridNearest}
 use Rattle.voronoi.specs.Sizes.{Areas}
 use Rattle.voronoi.specs.Audits.{Audit}
+use Rattle.voronoi.specs.Certificates.{Certify}
 use Rattle.voronoi.specs.Outcomes.{SliceRefused, BuildRefused}
-use Rattle.voronoi.specs.AfterRefusal.{MendRefused, GridRefused, AuditRefused, AfterRefusal}
+use Rattle.voronoi.specs.AfterRefusal.{MendRefused, GridRefused, AuditRefused, CertifyRefused, AfterRefusal}
 use Rattle.voronoi.specs.laws.Refused.{slice-refused, slices-refused}
 
 -- what stands beside a number that is not 0
@@ -157,6 +158,16 @@ audit-refused g sites v off ix starts others bits {r} a n = record {
   missing = a .missing-is ∙ blank-share r _ n;
 }
 
+pub certify-refused : (g : Given) (sites v : List Float) (off ix : List ℕ) (bits : ℕ) {w w′ : List ℕ} {r k s e o : ℕ}
+    → Certify g sites v off ix bits w w′ r k s e o → r ≢ 0 → CertifyRefused w w′ r k s e o
+certify-refused g sites v off ix bits {w} {w′} {r} a n = record {
+  kind = a .kind-is ∙ blank-number r _ n;
+  site = a .site-is ∙ blank-number r _ n;
+  vertex = a .vertex-is ∙ blank-number r _ n;
+  other = a .other-is ∙ blank-number r _ n;
+  work = slice-refused EMPTY _ w w′ r n (a .work-is);
+}
+
 -- ---- the reader
 pub begin-refused : (ws : List ℕ) {ws′ : List ℕ} {r : ℕ} → ReaderBegin ws ws′ r → r ≢ 0 → (r ≡ 2) × (ws′ ≡ ws)
 unfolding beginCall
@@ -223,6 +234,7 @@ after-refusal m = record {
   grid-sites = λ grid {old} {new} {r} x n. x .sites ∙ otherwise _ old r n;
   areas = areas-refused;
   audit = audit-refused;
+  certify = certify-refused;
   reader-begin = begin-refused;
   reader-feed = feed-refused;
   reader-end = end-refused;

@@ -7,17 +7,17 @@ use Prim.Native.Nat.{ℕ, _+_, _/_, _%_, _≤_, _<_}
 use lib.Ieee.{Float}
 use lib.ListN.{length}
 use borrow.Author.Needs.{needs}
-use Rattle.laws.specs.Refusals.{Rule, Keep, Finds}
-use Rattle.laws.specs.laws.Refusals.{Answers, finds-one, finds-none, finds-keep}
-use Rattle.utils.specs.Rules.{okSite}
-use Rattle.utils.specs.declared.Point.{Point}
+use Rattle.base.specs.common.Refusals.{Rule, Keep, Finds}
+use Rattle.base.specs.common.laws.Refusals.{Answers, finds-one, finds-none, finds-keep}
+use Rattle.plane.specs.points.Rules.{okSite}
+use Rattle.plane.specs.declared.points.Point.{Point}
 use Rattle.mesh.specs.Accepted.{Mesh, siteCount}
 use Rattle.mesh.specs.Rules.{callRules}
 use Rattle.mesh.specs.laws.Verdicts.{accepted-keep, keep-accepted}
-use Rattle.asking.specs.Asks.{CellsOf, siteRules, pathRules, cellRules}
-use Rattle.bulk_neighbours.specs.Promise.{RoomFor, CellsLent, lentRules}
-use Rattle.bulk_ends.specs.Promise.{endsRoom, PointsKept, allRules}
-use Rattle.bulk_ends.specs.laws.Answers.{room-table, room-ends, room-both}
+use Rattle.arguments.specs.asking.Asks.{CellsOf, siteRules, pathRules, cellRules}
+use Rattle.queries.specs.bulk_neighbours.Promise.{RoomFor, CellsLent, lentRules}
+use Rattle.queries.specs.bulk_ends.Promise.{endsRoom, PointsKept, allRules}
+use Rattle.queries.specs.bulk_ends.laws.Answers.{room-table, room-ends, room-both}
 use Rattle.voronoi.specs.Meshes.{Check}
 use Rattle.queries.specs.Answers.{Number}
 use Rattle.voronoi.specs.Leaves.{QueryAllowed}

@@ -1,7 +1,7 @@
 -- The number by the rules is a part of each promise.
-use Rattle.laws.specs.laws.Refusals.{finds-reads}
-use Rattle.grid_scan.specs.Judged.{gridNumber}
-use Rattle.grid_nearest.specs.Judged.{nearestNumber}
+use Rattle.base.specs.common.laws.Refusals.{finds-reads}
+use Rattle.grid.specs.scan.Judged.{gridNumber}
+use Rattle.grid.specs.nearest.Judged.{nearestNumber}
 use Rattle.reasons.specs.declared.Reason.{Reason}
 use Rattle.reasons.specs.Reason.{toldBy}
 use Rattle.mesh.specs.Accepted.{Mesh}
@@ -30,6 +30,7 @@ first-broken m = record {
   ends = λ s points x. x .number;
   why = λ g asked first second x. rw (x .told) (finds-reads (λ (r : Reason). toldBy r .number) (x .why .reason));
   build = λ g x. x .number .found;
+  cut = λ g x. x .number;
   cells-share-edge = λ off ix a b x. x .number;
   cell = λ off ix s x. x .number .found;
   cell-part = λ off ix s x. x .number .found;
@@ -37,6 +38,7 @@ first-broken m = record {
   cell-wkb = λ v off ix s x. x .number;
   areas = λ v off ix x. x .number .found;
   audit = λ g sites v off ix starts others bits x. x .number .found;
+  certify = λ g sites v off ix bits x. x .number .found;
   mend = λ x. x .number;
   flip = λ sites hull a x. x .number;
   read-multipoint = λ s x. x .number;

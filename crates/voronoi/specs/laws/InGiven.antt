@@ -3,20 +3,21 @@ use mathlib.Core.Path.{_≡_, subst}
 use mathlib.Core.List.{List}
 use Prim.Native.Nat.{ℕ}
 use lib.Ieee.{Float}
-use Rattle.utils.specs.declared.Point.{Point}
-use Rattle.given_box.specs.declared.Given.{Given}
-use Rattle.bounding_box.specs.declared.BoundingBox.{BoundingBox}
-use Rattle.line_crossings.specs.declared.Crossing.{Crossing}
+use Rattle.plane.specs.declared.points.Point.{Point}
+use Rattle.plane.specs.declared.given.Given.{Given}
+use Rattle.plane.specs.declared.boxes.BoundingBox.{BoundingBox}
+use Rattle.plane.specs.declared.lines.Crossing.{Crossing}
 use Rattle.mesh.specs.Accepted.{Mesh}
 use Rattle.admission.specs.Slices.{Slices}
 use Rattle.reasons.specs.declared.Question.{Question}
 use Rattle.reasons.specs.declared.ReasonNumbers.{ReasonNumbers}
-use Rattle.reason_call.specs.Call.{WhyCall}
+use Rattle.reasons.specs.call.Call.{WhyCall}
 use Rattle.voronoi.specs.Plane.{Edges, Centered, Corners, Inside, ExclusivelyInside, WhichEdge, Meets}
-use Rattle.cut_admission.specs.CutSlices.{CutSlices}
+use Rattle.cutting_calls.specs.cut_admission.CutSlices.{CutSlices}
 use Rattle.voronoi.specs.Builds.{Build}
 use Rattle.voronoi.specs.Cuts.{Cut}
 use Rattle.voronoi.specs.Audits.{Audit}
+use Rattle.voronoi.specs.Certificates.{Certify}
 
 module _ {g h : Given} (e : g ≡ h) where
   pub edges-in : {n : ℕ} {l t r b a d : Float} → Edges g n l t r b a d → Edges h n l t r b a d
@@ -53,3 +54,7 @@ module _ {g h : Given} (e : g ≡ h) where
   pub audit-in : {sites v : List Float} {off ix starts others : List ℕ} {bits r k s c o : ℕ} {m : Float} → Audit g sites v off ix starts others bits r k s c o m
       → Audit h sites v off ix starts others bits r k s c o m
   audit-in {sites} {v} {off} {ix} {starts} {others} {bits} {r} {k} {s} {c} {o} {m} a = subst (λ (x : Given). Audit x sites v off ix starts others bits r k s c o m) e a
+
+  pub certify-in : {sites v : List Float} {off ix : List ℕ} {bits : ℕ} {w w′ : List ℕ} {r k s c o : ℕ} → Certify g sites v off ix bits w w′ r k s c o
+      → Certify h sites v off ix bits w w′ r k s c o
+  certify-in {sites} {v} {off} {ix} {bits} {w} {w′} {r} {k} {s} {c} {o} a = subst (λ (x : Given). Certify x sites v off ix bits w w′ r k s c o) e a

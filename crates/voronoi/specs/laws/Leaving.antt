@@ -5,26 +5,27 @@ use mathlib.Core.List.{List, []}
 use mathlib.Core.Logic.{_↔_}
 use Prim.Native.Nat.{ℕ, suc, _<_}
 use lib.ListN.{length, take}
-use Rattle.given_box.specs.Finite.{Fits}
-use Rattle.given_box.specs.declared.Given.{Given}
+use Rattle.plane.specs.given.Finite.{Fits}
+use Rattle.plane.specs.declared.given.Given.{Given}
 use Rattle.mesh.specs.Mesh.{Used}
 use Rattle.mesh.specs.Accepted.{Mesh, tableOf, siteCount}
 use Rattle.definition.specs.declared.Fault.{Fault}
 use Rattle.definition.specs.Fault.{Outcome, ok}
 use Rattle.definition.specs.Build.{Built, build}
 use Rattle.definition.specs.laws.Gives.{gives-ok}
-use Rattle.definition.specs.Cell.{unmarked}
+use Rattle.definition.specs.Cell.{plain, unmarked}
 use Rattle.build_laws.specs.laws.VerticesFinite.{Each, FinitePoint, vertices-finite}
 use Rattle.build_laws.specs.laws.CellCount.{cell-count}
 use Rattle.build_laws.specs.laws.EmptyCell.{empty-cell}
-use Rattle.build_answers.specs.Promise.{BuildAnswer}
+use Rattle.building.specs.answers.Promise.{BuildAnswer}
 use Rattle.admission.specs.Slices.{Slices}
 use Rattle.build_laws.specs.LateRefusals.{build-late}
-use Rattle.asking.specs.laws.Asks.{box-answers}
-use Rattle.build_answers.specs.Success.{zero-succeeds, succeeds-zero}
-use Rattle.build_answers.specs.laws.Left.{left-work, left-vertices, left-indexes, left-offsets, left-counts, slice-finite, read-part, read-place}
+use Rattle.arguments.specs.asking.laws.Asks.{box-answers}
+use Rattle.building.specs.answers.Success.{zero-succeeds, succeeds-zero}
+use Rattle.building.specs.answers.laws.Left.{left-work, left-vertices, left-indexes, left-offsets, left-counts, slice-finite, read-part, read-place}
 use Rattle.voronoi.specs.Builds.{Build, CellPart}
 use Rattle.voronoi.specs.Leaves.{BuildAllowed, BuildLeaves}
+use Rattle.voronoi.specs.laws.Hollow as hollow
 
 leaves : {N : ℕ → Type 0} {table : List ℕ} {o : Outcome Fault Built} {old new : Slices} (n : ℕ) (b : Built) → o ≡ ok b → BuildAnswer N table o old new 0
     → Each FinitePoint (b .verts) → length (b .cells) ≡ n → BuildLeaves n table o old new

@@ -1,11 +1,11 @@
--- From the answer of crate check_mesh to the promise of the check.
+-- From the answer of mesh_check::whole to the promise of the check.
 use mathlib.Core.Path.{_≡_, sym, ap, _∙_}
 use mathlib.Core.List.{List}
 use Prim.Native.Nat.{ℕ}
 use Rattle.mesh.specs.declared.MeshFault.{MeshFault}
 use Rattle.mesh.specs.Faults.{numberOf}
 use Rattle.mesh.specs.Accepted.{Mesh}
-use Rattle.check_mesh.specs.Answers.{MeshAnswer, workAfter}
+use Rattle.mesh_check.specs.whole.Answers.{MeshAnswer, workAfter}
 use Rattle.voronoi.specs.Meshes.{Check}
 use Rattle.voronoi.specs.Accepted.{check-number}
 

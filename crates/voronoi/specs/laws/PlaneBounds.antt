@@ -1,4 +1,4 @@
--- What the calls on points and the box answer beside 0 is finite: each number is at most a power of 2. From the limits of docs/RULES.md, by the bounds of the crates below.
+-- What the calls on points and the box answer beside 0 is finite: each number is at most a power of 2. From the limits of docs/use/RULES.md, by the bounds of the crates below.
 use mathlib.Core.Path.{_≡_, refl, ap}
 use mathlib.Core.Bool.{Bool, true, _&&_}
 use mathlib.Core.List.{List, [], _∷_, _++_}
@@ -11,32 +11,32 @@ use lib.Dec.{eqb, leb, ltb, lit≤}
 use lib.Ieee.{Float, nan, ofBits}
 use lib.ListN.{length, getD, replicate, getD-replicate, length-replicate}
 use borrow.Author.Tests.{ltb-true, leb-true}
-use Rattle.laws.specs.Refusals.{once, Finds}
-use Rattle.laws.specs.laws.Refusals.{finds-keep}
-use Rattle.laws.specs.laws.And.{and-left, and-right}
-use Rattle.laws.specs.Binary64 as R
+use Rattle.base.specs.common.Refusals.{once, Finds}
+use Rattle.base.specs.common.laws.Refusals.{finds-keep}
+use Rattle.base.specs.common.laws.And.{and-left, and-right}
+use Rattle.base.specs.common.Binary64 as R
 use Rattle.root.specs.Bounded.{Bounded}
-use Rattle.utils.specs.Flat.{flat}
-use Rattle.utils.specs.Rules.{okSite}
-use Rattle.utils.specs.Finite.{site-dist2}
-use Rattle.utils.specs.declared.Point.{Point}
-use Rattle.centers.specs.Circumcenter.{centerOf}
-use Rattle.centers.specs.Centroid.{okCount}
-use Rattle.centers.specs.Finite.{center-bounded, mean-bounded}
-use Rattle.bounding_box.specs.Box.{cornersOf}
-use Rattle.bounding_box.specs.Finite.{BoundedBox, width-bounded, height-bounded}
-use Rattle.bounding_box.specs.declared.BoundingBox.{BoundingBox}
-use Rattle.given_box.specs.Given.{byEdges}
-use Rattle.given_box.specs.Finite as given
-use Rattle.given_box.specs.Finite.{Fits, edges-bounded}
-use Rattle.given_box.specs.declared.Given.{Given}
-use Rattle.crossings.specs.Ray.{rayOf}
-use Rattle.crossings.specs.Rules.{valuesOf}
-use Rattle.line_crossings.specs.Line.{lineOf}
-use Rattle.crossings.specs.Finite.{ray-bounded}
-use Rattle.line_crossings.specs.Finite.{BoundedCrossing, line-bounded}
-use Rattle.line_crossings.specs.declared.Crossing.{Crossing}
-use Rattle.line_crossings.specs.declared.Crossing.the-variants.{None, One, Two}
+use Rattle.plane.specs.points.Flat.{flat}
+use Rattle.plane.specs.points.Rules.{okSite}
+use Rattle.plane.specs.points.Finite.{site-dist2}
+use Rattle.plane.specs.declared.points.Point.{Point}
+use Rattle.plane.specs.centers.Circumcenter.{centerOf}
+use Rattle.plane.specs.centers.Centroid.{okCount}
+use Rattle.plane.specs.centers.Finite.{center-bounded, mean-bounded}
+use Rattle.plane.specs.boxes.Box.{cornersOf}
+use Rattle.plane.specs.boxes.Finite.{BoundedBox, width-bounded, height-bounded}
+use Rattle.plane.specs.declared.boxes.BoundingBox.{BoundingBox}
+use Rattle.plane.specs.given.Given.{byEdges}
+use Rattle.plane.specs.given.Finite as given
+use Rattle.plane.specs.given.Finite.{Fits, edges-bounded}
+use Rattle.plane.specs.declared.given.Given.{Given}
+use Rattle.plane.specs.rays.Ray.{rayOf}
+use Rattle.plane.specs.rays.Rules.{valuesOf}
+use Rattle.plane.specs.lines.Line.{lineOf}
+use Rattle.plane.specs.rays.Finite.{ray-bounded}
+use Rattle.plane.specs.lines.Finite.{BoundedCrossing, line-bounded}
+use Rattle.plane.specs.declared.lines.Crossing.{Crossing}
+use Rattle.plane.specs.declared.lines.Crossing.the-variants.{None, One, Two}
 use Rattle.voronoi.specs.Bounds.{BoundedEdges, BoundedCenter, BoundedMeeting}
 use Rattle.voronoi.specs.Plane.{Dist2, Circumcenter, Centroid, Edges, Centered, Corners, Meets}
 

@@ -7,26 +7,26 @@ use native.Mathlib.Omega.{arith}
 use lib.Ieee.{Float}
 use lib.ListN.{length, replicate}
 use borrow.Author.Tests.{ne-eqb, lt-ltb, le-ltb}
-use Rattle.numbers.specs.Numbers.{EMPTY}
-use Rattle.laws.specs.Binary64 as R
+use Rattle.base.specs.numbers.Numbers.{EMPTY}
+use Rattle.base.specs.common.Binary64 as R
 use Rattle.mesh.specs.Accepted.{Mesh}
-use Rattle.check_mesh.specs.Answers.{workAfter}
+use Rattle.mesh_check.specs.whole.Answers.{workAfter}
 use Rattle.queries.specs.Answers.{outAfter}
 use Rattle.definition.specs.declared.Fault.{Fault}
 use Rattle.definition.specs.Fault.{Outcome}
 use Rattle.definition.specs.Build.{Built}
-use Rattle.build_answers.specs.Promise.{BuildAnswer}
-use Rattle.check_mesh.specs.AtExit.{atExit}
+use Rattle.building.specs.answers.Promise.{BuildAnswer}
+use Rattle.mesh_check.specs.whole.AtExit.{atExit}
 use Rattle.admission.specs.Slices.{Slices}
-use Rattle.given_box.specs.declared.Given.{Given}
-use Rattle.cut_admission.specs.CutSlices.{CutSlices}
+use Rattle.plane.specs.declared.given.Given.{Given}
+use Rattle.cutting_calls.specs.cut_admission.CutSlices.{CutSlices}
 use Rattle.voronoi.specs.Cuts.{Cut}
 use Rattle.plane_calls.specs.Plane.{bit}
 use Rattle.voronoi.specs.Walks.{Handed}
-use Rattle.bulk_neighbours.specs.Promise.{madeAfter}
+use Rattle.queries.specs.bulk_neighbours.Promise.{madeAfter}
 use Rattle.voronoi.specs.Bulk.{AllNeighbours, EndsOfPaths}
-use Rattle.flip_call.specs.Flips.{FlipLists}
-use Rattle.flip_call.specs.FlipsTheorem.{flip-refused}
+use Rattle.flipping.specs.call.Flips.{FlipLists}
+use Rattle.flipping.specs.call.FlipsTheorem.{flip-refused}
 use Rattle.voronoi.specs.Flips.{Flip}
 use Rattle.all_wkb.specs.Promise.{startsAfter, imagesAfter}
 use Rattle.voronoi.specs.Maps.{AllWkb}

@@ -7,24 +7,24 @@ use Prim.Native.Nat.{ℕ, _≤_, _<_}
 use native.Mathlib.Omega.{arith}
 use lib.Ieee.{Float}
 use lib.ListN.{length, getD, take}
-use Rattle.laws.specs.Count.{occ}
-use Rattle.utils.specs.Rules.{okSite}
-use Rattle.utils.specs.declared.Point.{Point}
+use Rattle.base.specs.common.Count.{occ}
+use Rattle.plane.specs.points.Rules.{okSite}
+use Rattle.plane.specs.declared.points.Point.{Point}
 use Rattle.mesh.specs.Mesh.{Used, leftmostOf, wholeOf}
 use Rattle.mesh.specs.Accepted.{Mesh, mesh, Accepted, siteCount}
 use Rattle.mesh.specs.laws.Facts.{topology, paired, tab-cases}
 use Rattle.mesh.specs.laws.WalkSteps.{walk-done}
 use Rattle.mesh.specs.laws.Degree.{walk-degree}
 use Rattle.mesh.specs.WalkTheorem.{accepted-rounds}
-use Rattle.paths.specs.Path.{distOf, wholePath}
-use Rattle.paths.specs.laws.Used.{used-sum}
-use Rattle.paths.specs.PathRule.{usedOf, PathFrom}
-use Rattle.paths.specs.laws.WholePath.{in-use-or-alone, whole-short, whole-alone}
-use Rattle.paths.specs.PathTheorem.{path-holds}
-use Rattle.paths.specs.laws.PathNeeds.{ready, towards}
-use Rattle.paths.specs.laws.Parts.{rule-some, rule-first, rule-hops, rule-ends}
-use Rattle.paths.specs.laws.EachSite.{runs, never-twice, alone-walk, alone-neighbours, alone-path}
-use Rattle.iterator.specs.laws.Joined.{neighbour-joined, joined-neighbour}
+use Rattle.walks.specs.paths.Path.{distOf, wholePath}
+use Rattle.walks.specs.paths.laws.Used.{used-sum}
+use Rattle.walks.specs.paths.PathRule.{usedOf, PathFrom}
+use Rattle.walks.specs.paths.laws.WholePath.{in-use-or-alone, whole-short, whole-alone}
+use Rattle.walks.specs.paths.PathTheorem.{path-holds}
+use Rattle.walks.specs.paths.laws.PathNeeds.{ready, towards}
+use Rattle.walks.specs.paths.laws.Parts.{rule-some, rule-first, rule-hops, rule-ends}
+use Rattle.walks.specs.paths.laws.EachSite.{runs, never-twice, alone-walk, alone-neighbours, alone-path}
+use Rattle.walks.specs.neighbours.laws.Joined.{neighbour-joined, joined-neighbour}
 use Rattle.voronoi.specs.Walks.{Walk, Neighbours, Path}
 use Rattle.voronoi.specs.Leaves.{QueryAllowed}
 use Rattle.voronoi.specs.Approach.{WholeRound, nextTo, Joined, Approaches}

@@ -4,12 +4,13 @@ use mathlib.Core.List.{_∷_}
 use Prim.Native.Nat.{ℕ, suc, _+_, _/_, _<_}
 use native.Mathlib.Omega.{arith}
 use lib.ListN.{length, getD, drop}
-use Rattle.utils.specs.Flat.{pointAt}
-use Rattle.given_box.specs.Finite.{Fits}
-use Rattle.given_box.specs.declared.Given.{Given}
+use Rattle.plane.specs.points.Flat.{pointAt}
+use Rattle.plane.specs.given.Finite.{Fits}
+use Rattle.plane.specs.declared.given.Given.{Given}
 use Rattle.mesh.specs.Accepted.{Mesh, Accepted, tableOf, siteCount}
-use Rattle.bounding_box.specs.Box.{cornersOf}
-use Rattle.bounding_box.specs.Finite.{BoundedBox}
+use Rattle.plane.specs.boxes.Box.{cornersOf}
+use Rattle.plane.specs.boxes.Finite.{BoundedBox}
+use Rattle.definition.specs.Cell.{plain, wrapped}
 use Rattle.definition.specs.Fault.{ok}
 use Rattle.definition.specs.Build.{ownersFrom, Built, build}
 use Rattle.definition.specs.laws.Gives.{gives-ok}
@@ -19,9 +20,9 @@ use Rattle.build_laws.specs.laws.CornersAt.{Cornered, cornered}
 use Rattle.build_laws.specs.laws.OwnerPaths.{owner-path}
 use Rattle.admission.specs.Slices.{Slices}
 use Rattle.build_laws.specs.LateRefusals.{build-late}
-use Rattle.asking.specs.laws.Asks.{box-answers}
-use Rattle.build_answers.specs.Success.{zero-succeeds, clipped-sound}
-use Rattle.build_answers.specs.laws.Left.{left-vertices, left-indexes, left-offsets, left-counts, slice-point, count-owner, count-before, count-lost}
+use Rattle.arguments.specs.asking.laws.Asks.{box-answers}
+use Rattle.building.specs.answers.Success.{zero-succeeds, clipped-sound}
+use Rattle.building.specs.answers.laws.Left.{left-vertices, left-indexes, left-offsets, left-counts, slice-point, count-owner, count-before, count-lost}
 use Rattle.voronoi.specs.Builds.{Build}
 use Rattle.voronoi.specs.Wraps.{Wraps}
 use Rattle.voronoi.specs.laws.Hollow as hollow

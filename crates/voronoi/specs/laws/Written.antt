@@ -8,7 +8,7 @@ use lib.ListN.{length, take, drop}
 use lib.Seq.{take-at, drop-at, take-all}
 use borrow.Author.Tests.{leb-true, le-leb}
 use Rattle.mesh.specs.Accepted.{Mesh}
-use Rattle.check_mesh.specs.AtExit.{atExit}
+use Rattle.mesh_check.specs.whole.AtExit.{atExit}
 use Rattle.plane_calls.specs.Plane.{bit}
 use Rattle.voronoi.specs.Walks.{Handed}
 

@@ -2,7 +2,7 @@
 use native.Mathlib.Omega.{arith}
 use denote.Ref.{now}
 use Rattle.form.specs.laws.Lists.{bytes}
-use Rattle.why_text.specs.laws.ReasonLine.{line-short}
+use Rattle.why.specs.line.laws.ReasonLine.{line-short}
 use Rattle.why.specs.laws.ReadForm.{prints}
 use borrow.Author.Needs.{needs}
 use Rattle.why.proofs.answer.Statement.{statement}

@@ -1,6 +1,6 @@
 -- `why::of_mesh`: the box is the one that the form gives, and it fits.
 use borrow.Author.Needs.{needs}
-use Rattle.form_box.specs.Fits.{box-fits}
+use Rattle.form.specs.boxes.Fits.{box-fits}
 use Rattle.why.specs.laws.ReadForm.{in-given-box}
 use Rattle.why.proofs.of_mesh.Statement.{statement}
 use Rattle.why.proofs.of_mesh.Tie as tie

@@ -8,26 +8,26 @@ use native.Mathlib.Omega.{arith}
 use lib.Ieee.{Float}
 use lib.ListN.{length, take}
 use lib.Seq.{sets}
-use Rattle.laws.specs.laws.Stores.{sets-all}
+use Rattle.base.specs.common.laws.Stores.{sets-all}
 use Rattle.octets.specs.Bytes.{Bytes}
 use Rattle.octets.specs.Wrote.{Wrote}
 use Rattle.octets.specs.laws.Wrote.{wrote-all}
-use Rattle.given_box.specs.declared.Given.{Given}
-use Rattle.form_box.specs.FormBox.{boxBy}
+use Rattle.plane.specs.declared.given.Given.{Given}
+use Rattle.form.specs.boxes.FormBox.{boxBy}
 use Rattle.mesh.specs.Accepted.{Mesh}
 use Rattle.reasons.specs.declared.Question.{Question}
 use Rattle.reasons.specs.declared.Reason.{Reason}
 use Rattle.reasons.specs.declared.Reason.the-variants.{Number}
-use Rattle.form_step.specs.Reader.{start, reading}
-use Rattle.form_step.specs.Holds.{ListRoom, Reads}
-use Rattle.form_step.specs.declared.Form.{Form}
-use Rattle.form_step.specs.declared.Form.the-variants.{Sound}
+use Rattle.form.specs.step.Reader.{start, reading}
+use Rattle.form.specs.step.Holds.{ListRoom, Reads}
+use Rattle.form.specs.declared.step.Form.{Form}
+use Rattle.form.specs.declared.step.Form.the-variants.{Sound}
 use Rattle.form.specs.Form.{Outline, box, unclipped, edges, FormMesh, MeshFits, MayBegin, kindOf, outlineFloats}
 use Rattle.form.specs.Promise.{ReadSound, Refused, exact}
 use Rattle.form.specs.laws.Lists.{Put, sites-are, tri-is, he-is, hull-is}
 use Rattle.printing.specs.Printed.{meshOf}
-use Rattle.why_text.specs.ReasonLine.{reasonLine}
-use Rattle.why_text.specs.laws.ReasonLine.{line-short}
+use Rattle.why.specs.line.ReasonLine.{reasonLine}
+use Rattle.why.specs.line.laws.ReasonLine.{line-short}
 use Rattle.why.specs.Printed.{WhyInBox, WhyByClip, FormReason, sound, broken, WhyPrints}
 use Rattle.why.specs.Steps.{WhyByForm}
 

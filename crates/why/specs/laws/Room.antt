@@ -7,8 +7,8 @@ use Prim.Native.Nat.{ℕ, _+_, _*_, _/_}
 use native.Mathlib.Omega.{arith}
 use lib.ListN.{length}
 use borrow.Author.Tests.{le-leb, lt-ltb}
-use Rattle.laws.specs.Refusals.{Rule, once, reads, Judged}
-use Rattle.given_box.specs.declared.Given.{Given}
+use Rattle.base.specs.common.Refusals.{Rule, once, reads, Judged}
+use Rattle.plane.specs.declared.given.Given.{Given}
 use Rattle.mesh.specs.Accepted.{Mesh, siteCount, Counted}
 use Rattle.mesh.specs.declared.MeshFault.the-variants.{Counts, Room}
 use Rattle.mesh.specs.Faults.{coordinateRules, topologyRules}
@@ -21,7 +21,7 @@ use Rattle.reasons.specs.declared.Reason.{Reason}
 use Rattle.reasons.specs.declared.Reason.the-variants.{Number}
 use Rattle.reasons.specs.Reason.{ofMesh}
 use Rattle.reasons.specs.Rules.{buildRules, answered, ReasonFor}
-use Rattle.explaining.specs.Promise.{WhyAnswer, ClippedWhy}
+use Rattle.reasons.specs.explaining.Promise.{WhyAnswer, ClippedWhy}
 use Rattle.printing.specs.laws.BuildText.{ProgramSlices}
 use Rattle.why.specs.Printed.{WhyInBox}
 use Rattle.why.specs.Steps.{Sized}

@@ -4,7 +4,7 @@ use mathlib.Core.List.{_++_}
 use Prim.Native.Nat.{ℕ, _+_, _/_}
 use lib.ListN.{length}
 use denote.Ref.{now}
-use Rattle.laws.specs.laws.Decide as decide
+use Rattle.base.specs.common.laws.Decide as decide
 use Rattle.wkb.specs.Polygon.{patterns}
 use Rattle.wkb.specs.laws.Points.{length-both}
 use Rattle.wkb.specs.laws.Answer.{not-named, no-room, wrote-image}

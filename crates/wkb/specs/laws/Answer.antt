@@ -7,14 +7,14 @@ use native.Mathlib.Nat.{add-zero}
 use lib.ListN.{length}
 use borrow.Author.Tests.{eq-eqb, ne-eqb}
 use borrow.Author.Needs.{needs}
-use Rattle.laws.specs.laws.Refusals.{breaks, keeps, nothing, finds-keep, finds-first, finds-after}
-use Rattle.numbers.specs.Numbers.{refusedCount, refusedEntry, refusedRoom}
-use Rattle.shared.specs.Cells.{cellOf}
-use Rattle.asking.specs.Asks.{siteRules, cellRules}
+use Rattle.base.specs.common.laws.Refusals.{breaks, keeps, nothing, finds-keep, finds-first, finds-after}
+use Rattle.base.specs.numbers.Numbers.{refusedCount, refusedEntry, refusedRoom}
+use Rattle.walks.specs.shared.Cells.{cellOf}
+use Rattle.arguments.specs.asking.Asks.{siteRules, cellRules}
 use Rattle.cell_query.specs.Cells.{CellAnswer}
 use Rattle.octets.specs.Wrote.{Wrote}
 use Rattle.octets.specs.laws.Wrote.{wrote-none}
-use Rattle.entries.specs.Named.{EntriesNamed}
+use Rattle.arguments.specs.entries.Named.{EntriesNamed}
 use Rattle.wkb.specs.Promise.{ImageFits, image, entryRules, WkbAnswer, EntriesAnswer}
 
 -- of a cell's entries: n is the number of vertices

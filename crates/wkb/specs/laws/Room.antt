@@ -7,9 +7,9 @@ use native.Mathlib.Omega.{arith}
 use lib.Dec.{leb}
 use lib.ListN.{length, getD, take, length-map}
 use borrow.Author.Tests.{leb-true, leb-false, le-ltb, lt-ltb}
-use Rattle.laws.specs.Decide.{Says}
+use Rattle.base.specs.common.Decide.{Says}
 use Rattle.wkb.specs.Polygon.{headBytes, ringBytes, closed, patternAt, patternsOf, polygon, size}
-use Rattle.entries.specs.Named.{EntriesNamed}
+use Rattle.arguments.specs.entries.Named.{EntriesNamed}
 use Rattle.wkb.specs.Promise.{ImageFits, image}
 
 pub size-none : (n : ℕ) → n < 3 → size n ≡ 9

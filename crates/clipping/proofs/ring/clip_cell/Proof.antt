@@ -5,7 +5,7 @@ use mathlib.Core.Bool.{false, true≢false}
 use lib.ListN.{getD}
 use native.Mathlib.Omega.{arith}
 use denote.Ref.{now}
-use Rattle.utils.specs.Flat.{points}
+use Rattle.plane.specs.points.Flat.{points}
 use Rattle.definition.specs.Cell.{inBox}
 use Rattle.build_laws.specs.laws.Inside.{none-inside}
 use Rattle.clipping.specs.RingWalk.{ringOf}

@@ -5,7 +5,7 @@ use native.Mathlib.Omega.{arith}
 use native.Mathlib.Nat.{zero-add}
 use lib.ListN.{drop}
 use denote.Ref.{now}
-use Rattle.utils.specs.Flat.{points}
+use Rattle.plane.specs.points.Flat.{points}
 use Rattle.definition.specs.Cell.{firstInside}
 use Rattle.clipping.specs.RingWalk.{ringOf}
 use Rattle.clipping.specs.laws.RingWalk.{first-hit, first-miss, first-none, length-ring, ring-answer}

@@ -1,8 +1,8 @@
 -- `clipping::ring::in_box` meets its contract: below the circumcenters' number it asks the box, else it says no.
 use mathlib.Core.Path.{sym, ap, _∙_}
 use denote.Ref.{now}
-use Rattle.utils.specs.Flat.{points}
-use Rattle.box_sides.specs.Sides.{insideOf}
+use Rattle.plane.specs.points.Flat.{points}
+use Rattle.plane.specs.sides.Sides.{insideOf}
 use Rattle.clipping.specs.laws.EdgeCases.{in-center, in-none}
 use borrow.Author.Needs.{needs}
 use Rattle.clipping.proofs.ring.in_box.Statement.{statement}

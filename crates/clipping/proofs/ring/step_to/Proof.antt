@@ -2,7 +2,7 @@
 use native.Mathlib.Omega.{arith}
 use mathlib.Core.Path.{refl}
 use denote.Ref.{now}
-use Rattle.utils.specs.Flat.{points}
+use Rattle.plane.specs.points.Flat.{points}
 use Rattle.definition.specs.Cell.{clipStep}
 use Rattle.clipping.specs.laws.EdgeCases.{step-refused, step-done, changes-low, changes-out, clip-out, changes-ends, changes-shut}
 use Rattle.vertices.specs.laws.Points.{length-points}

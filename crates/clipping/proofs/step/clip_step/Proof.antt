@@ -1,7 +1,7 @@
 -- `clipping::step::clip_step` meets its contract: by the two tests it takes the definition's case.
 use mathlib.Core.List.{[], _∷_}
 use denote.Ref.{now}
-use Rattle.utils.specs.Flat.{points}
+use Rattle.plane.specs.points.Flat.{points}
 use Rattle.definition.specs.Fault.{ok}
 use Rattle.definition.specs.Cell.{entry, plain}
 use Rattle.definition.specs.Short.{change}

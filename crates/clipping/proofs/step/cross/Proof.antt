@@ -1,7 +1,7 @@
 -- `clipping::step::cross` meets its contract: the crossings as the store has them, then the edges along the box, case by case.
 use native.Mathlib.Omega.{arith}
 use denote.Ref.{now}
-use Rattle.utils.specs.Flat.{points}
+use Rattle.plane.specs.points.Flat.{points}
 use Prim.Native.Nat.{ℕ}
 use Rattle.definition.specs.Fault.{Outcome}
 use Rattle.definition.specs.Cell.{EdgeClip, Change, clipEdge, cross}

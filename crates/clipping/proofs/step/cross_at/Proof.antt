@@ -2,7 +2,7 @@
 use native.Mathlib.Omega.{arith}
 use lib.Dec.{eqb}
 use denote.Ref.{now}
-use Rattle.utils.specs.Flat.{points}
+use Rattle.plane.specs.points.Flat.{points}
 use Rattle.definition.specs.Cell.{crossAt}
 use Rattle.definition.specs.Short.{link}
 use Rattle.clipping.specs.laws.EdgeOutcome.{alters-cross}

@@ -3,7 +3,7 @@ use mathlib.Core.Path.{refl}
 use native.Mathlib.Omega.{arith}
 use denote.Ref.{now}
 use Prim.Native.Nat.{ℕ}
-use Rattle.utils.specs.Flat.{points}
+use Rattle.plane.specs.points.Flat.{points}
 use Rattle.definition.specs.Fault.{Outcome}
 use Rattle.definition.specs.Cell.{EdgeClip, Change, clipEdge, enter}
 use Rattle.definition.specs.Short.{tookOne, tookTwo}

@@ -2,7 +2,7 @@
 use mathlib.Core.Path.{refl}
 use denote.Ref.{now}
 use borrow.Author.Tests.{eq-eqb}
-use Rattle.utils.specs.Flat.{points}
+use Rattle.plane.specs.points.Flat.{points}
 use Rattle.definition.specs.Cell.{insertEdge, enterAt}
 use Rattle.clipping.specs.laws.EdgeOutcome.{alters-enter}
 use borrow.Author.Needs.{needs}

@@ -2,7 +2,7 @@
 use native.Mathlib.Omega.{arith}
 use mathlib.Core.Path.{refl}
 use Rattle.definition.specs.Cell.{plain, crossing}
-use Rattle.clip_corners.specs.laws.CellEntries.{puts-more, puts-then}
+use Rattle.clipping.specs.corners.laws.CellEntries.{puts-more, puts-then}
 use borrow.Author.Needs.{needs}
 use Rattle.clipping.proofs.step.leave_at.Statement.{statement}
 use Rattle.clipping.proofs.step.leave_at.Tie as tie

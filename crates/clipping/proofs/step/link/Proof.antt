@@ -1,7 +1,7 @@
 -- `clipping::step::link` meets its contract: an open cell gets the edge from its last entry, any other nothing.
 use native.Mathlib.Omega.{arith}
 use denote.Ref.{now}
-use Rattle.utils.specs.Flat.{points}
+use Rattle.plane.specs.points.Flat.{points}
 use Rattle.clipping.specs.laws.EdgeOutcome.{link-opened, link-closed}
 use borrow.Author.Needs.{needs}
 use Rattle.clipping.proofs.step.link.Statement.{statement}

@@ -2,7 +2,7 @@
 use native.Mathlib.Omega.{arith}
 use mathlib.Core.Path.{refl}
 use Rattle.definition.specs.Cell.{plain}
-use Rattle.clip_corners.specs.laws.CellEntries.{puts-more}
+use Rattle.clipping.specs.corners.laws.CellEntries.{puts-more}
 use Rattle.clipping.specs.laws.EdgeOutcome.{none-counted}
 use borrow.Author.Needs.{needs}
 use Rattle.clipping.proofs.step.stay.Statement.{statement}

@@ -4,9 +4,9 @@ use native.Mathlib.Omega.{arith}
 use lib.ListN.{length}
 use borrow.Author.Needs.{needs}
 use Rattle.mesh.specs.Mesh.{wholeOf}
-use Rattle.iterator.specs.Neighbours.{startsOf}
-use Rattle.iterator.specs.laws.Cursor.{neighboursLeft}
-use Rattle.iterator.specs.laws.Rest.{settled-start}
+use Rattle.walks.specs.neighbours.Neighbours.{startsOf}
+use Rattle.walks.specs.neighbours.laws.Cursor.{neighboursLeft}
+use Rattle.walks.specs.neighbours.laws.Rest.{settled-start}
 use Rattle.reasons.specs.laws.Search.{Seeks, seeks-start, seeks-found, seeks-step, seeks-less, seeks-none}
 use Rattle.reasons.proofs.asked.is_neighbour.Statement.{statement}
 use Rattle.reasons.proofs.asked.is_neighbour.Tie as tie

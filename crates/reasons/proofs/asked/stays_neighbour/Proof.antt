@@ -3,10 +3,10 @@ use native.Mathlib.Omega.{arith}
 use lib.ListN.{length}
 use borrow.Author.Needs.{needs}
 use Rattle.mesh.specs.Mesh.{wholeOf}
-use Rattle.shared.specs.Cells.{shareEdgeOf}
-use Rattle.iterator.specs.laws.Rest.{settled-start}
-use Rattle.clipped_iterator.specs.Clipped.{clippedOf}
-use Rattle.clipped_iterator.specs.ClippedCursor.{clippedLeft}
+use Rattle.walks.specs.shared.Cells.{shareEdgeOf}
+use Rattle.walks.specs.neighbours.laws.Rest.{settled-start}
+use Rattle.queries.specs.clipped.Clipped.{clippedOf}
+use Rattle.queries.specs.clipped.ClippedCursor.{clippedLeft}
 use Rattle.reasons.specs.laws.Search.{SeeksStaying, staying-start, staying-found, staying-step, staying-less, staying-none}
 use denote.Ref.{now}
 use Rattle.reasons.proofs.asked.stays_neighbour.Statement.{statement}

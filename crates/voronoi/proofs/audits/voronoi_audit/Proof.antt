@@ -1,5 +1,5 @@
 -- The box by its center and size, and the call in it.
-use Rattle.given_box.specs.Finite.{size-fits}
+use Rattle.plane.specs.given.Finite.{size-fits}
 use Rattle.voronoi.specs.laws.InGiven.{audit-in}
 use Rattle.voronoi.proofs.audits.voronoi_audit.Statement.{statement}
 use Rattle.voronoi.proofs.audits.voronoi_audit.Tie as tie

@@ -1,6 +1,6 @@
 -- The box by its center and size, and the call in it.
 use borrow.Author.Needs.{needs}
-use Rattle.cut_call.specs.laws.Order.{size-ordered}
+use Rattle.cutting_calls.specs.call.laws.Order.{size-ordered}
 use Rattle.voronoi.specs.laws.InGiven.{cut-in}
 use Rattle.voronoi.proofs.cuts.voronoi_cut.Statement.{statement}
 use Rattle.voronoi.proofs.cuts.voronoi_cut.Tie as tie

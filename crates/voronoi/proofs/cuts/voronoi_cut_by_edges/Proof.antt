@@ -1,6 +1,6 @@
 -- The box by its edges, and the call in it.
 use borrow.Author.Needs.{needs}
-use Rattle.cut_call.specs.laws.Order.{edges-ordered}
+use Rattle.cutting_calls.specs.call.laws.Order.{edges-ordered}
 use Rattle.voronoi.specs.laws.InGiven.{cut-in}
 use Rattle.voronoi.proofs.cuts.voronoi_cut_by_edges.Statement.{statement}
 use Rattle.voronoi.proofs.cuts.voronoi_cut_by_edges.Tie as tie

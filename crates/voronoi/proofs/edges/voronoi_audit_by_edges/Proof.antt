@@ -1,5 +1,5 @@
 -- The box by its edges, and the call in it.
-use Rattle.given_box.specs.Finite.{edges-fit}
+use Rattle.plane.specs.given.Finite.{edges-fit}
 use Rattle.voronoi.specs.laws.InGiven.{audit-in}
 use Rattle.voronoi.proofs.edges.voronoi_audit_by_edges.Statement.{statement}
 use Rattle.voronoi.proofs.edges.voronoi_audit_by_edges.Tie as tie

@@ -1,5 +1,5 @@
 -- The box by its edges, and the call in it.
-use Rattle.line_crossings.specs.Line.{lineOf}
+use Rattle.plane.specs.lines.Line.{lineOf}
 use Rattle.voronoi.specs.laws.InGiven.{meets-in}
 use Rattle.voronoi.proofs.edges.voronoi_intersect_line_by_edges.Statement.{statement}
 use Rattle.voronoi.proofs.edges.voronoi_intersect_line_by_edges.Tie as tie

@@ -1,5 +1,5 @@
 -- The box by its edges, and the call in it.
-use Rattle.crossings.specs.Ray.{rayOf}
+use Rattle.plane.specs.rays.Ray.{rayOf}
 use Rattle.voronoi.specs.laws.InGiven.{meets-in}
 use Rattle.voronoi.proofs.edges.voronoi_project_ray_by_edges.Statement.{statement}
 use Rattle.voronoi.proofs.edges.voronoi_project_ray_by_edges.Tie as tie

@@ -1,6 +1,6 @@
 -- The box by its edges, and the call in it.
 use borrow.Author.Needs.{needs}
-use Rattle.given_box.specs.Finite.{edges-fit}
+use Rattle.plane.specs.given.Finite.{edges-fit}
 use Rattle.voronoi.specs.laws.InGiven.{why-in}
 use Rattle.voronoi.proofs.edges.voronoi_why_by_edges.Statement.{statement}
 use Rattle.voronoi.proofs.edges.voronoi_why_by_edges.Tie as tie

@@ -1,6 +1,6 @@
 -- The box by its center and size, and the call in it.
 use borrow.Author.Needs.{needs}
-use Rattle.given_box.specs.Finite.{size-fits}
+use Rattle.plane.specs.given.Finite.{size-fits}
 use Rattle.voronoi.specs.laws.InGiven.{why-in}
 use Rattle.voronoi.proofs.explanations.voronoi_why.Statement.{statement}
 use Rattle.voronoi.proofs.explanations.voronoi_why.Tie as tie

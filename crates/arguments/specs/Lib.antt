@@ -1,0 +1,2 @@
+pub mod asking
+pub mod entries

@@ -1,0 +1,3 @@
+// What a call asks of its own arguments.
+pub mod asking;
+pub mod entries;

@@ -1,8 +1,0 @@
--- `box_sides::is_exclusively_inside`: the two tests are those of the definition.
-use Rattle.box_sides.specs.Sides.{exclusiveOf}
-use Rattle.box_sides.proofs.is_exclusively_inside.Statement.{statement}
-use Rattle.box_sides.proofs.is_exclusively_inside.Tie as tie
-
-pub is-exclusively-inside-spec : {M : Type 1} → statement M
-unfolding exclusiveOf
-is-exclusively-inside-spec = tie.close (tie.spec (λ c κs. tt) (λ c κs. tt) (λ c. cc))

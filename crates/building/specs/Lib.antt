@@ -1,0 +1,2 @@
+pub mod counts
+pub mod answers

@@ -1,0 +1,36 @@
+-- `cell_builder::rings::extensions::extend_voronoi_vertex` meets its contract: the circumcenter and the edge's two sites are the definition's.
+use Rattle.mesh.specs.laws.Next.{next-lt}
+use Rattle.cell_builder.specs.rings.laws.Extensions.{extended-is}
+use borrow.Author.Needs.{needs}
+use Rattle.cell_builder.proofs.rings.extensions.extend_voronoi_vertex.Statement.{statement}
+use Rattle.cell_builder.proofs.rings.extensions.extend_voronoi_vertex.Tie as tie
+
+point-at-requires : tie.Need-point-at-requires
+point-at-requires c κs =
+    let at-start = c .before .before .before .before .before .before in
+    rw (c .wide .ensures) (at-start .pre .0 _ (at-start .pre .2))
+
+point-at-requires-2 : tie.Need-point-at-requires-2
+point-at-requires-2 c κs =
+    let at-start = c .before .before .before .before .before .before .before .before .before in
+    rw (c .wide2 .ensures, c .before .end-site .ensures) (at-start .pre .0 _ (next-lt (at-start .pre .1) (at-start .pre .2)))
+
+returns : tie.Need-returns
+returns c =
+    let at-wide = c .before .before .before .before .before in
+    let at-vertex = at-wide .before .before in
+    cc (
+      extended-is _ _ _ _,
+      c .before .point-at2 .ensures,
+      c .before .before .wide2 .ensures,
+      c .before .before .before .end-site .ensures,
+      c .before .before .before .before .point-at .ensures,
+      at-wide .wide .ensures,
+      at-vertex .vertex .ensures,
+    )
+
+pub extend-voronoi-vertex-spec : {M : Type 1} → statement M
+extend-voronoi-vertex-spec =
+    tie.close
+    (tie.spec (λ c κs. search needs) (λ c. search needs) (λ c. search needs) (λ c κs. search needs) point-at-requires
+    (λ c κs. search needs) (λ c κs. search needs) point-at-requires-2 (λ c κs. search needs) returns)

@@ -1,0 +1,5 @@
+-- Laws that only proofs use.
+pub mod Early
+pub mod HullAndEdgeTries
+pub mod OneTry
+pub mod TriedRings

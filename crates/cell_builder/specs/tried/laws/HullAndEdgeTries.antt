@@ -1,0 +1,167 @@
+-- The two kinds of tries: at a hull place, from its ring with extensions, and at a half-edge, from the walk that starts there, where the cell is still empty.
+use mathlib.Core.Path.{_≡_, refl, sym, ap, _∙_}
+use mathlib.Core.Bool.{true}
+use mathlib.Core.List.{List, []}
+use mathlib.Core.Logic.{_≢_}
+use Prim.Native.Nat.{ℕ, suc, _+_, _-_, _/_, _≤_, _<_}
+use native.Mathlib.Omega.{arith}
+use lib.Ieee.{Float}
+use lib.ListN.{length, getD, drop, length-map, List·getD-map}
+use lib.Seq.{getD-drop, sets}
+use Rattle.base.specs.numbers.Numbers.{EMPTY}
+use Rattle.plane.specs.points.Flat.{points}
+use Rattle.mesh.specs.Mesh.{endOf, wholeOf}
+use Rattle.mesh.specs.laws.Occurs.{occ-there}
+use Rattle.mesh.specs.laws.Walks.{walk-ends}
+use Rattle.mesh.specs.laws.Facts.{paired, tab-length, end-site}
+use Rattle.definition.specs.declared.Fault.{Fault}
+use Rattle.definition.specs.Cell.{inBox}
+use Rattle.definition.specs.Build.{CellState, ringFrom, hullRing}
+use Rattle.definition.specs.Measures.{shareOf}
+use Rattle.build_laws.specs.laws.AllCells.{ring-share, hull-share}
+use Rattle.cell_memory.specs.staging.Staging.{Staged, Stages}
+use Rattle.cell_memory.specs.staging.laws.Staging.{ring-room}
+use Rattle.cell_memory.specs.outputs.laws.Marks.{empty-still, full-already}
+use Rattle.cell_builder.specs.tried.CellsInSlices.{plan, Ground, Amid, Does, hullTry, edgeTry}
+use Rattle.clipping.specs.declared.edges.Env.{Env}
+use Rattle.clipping.specs.RingWalk.{ringOf}
+use Rattle.clipping.specs.laws.RingWalk.{getD-ring}
+use Rattle.clipping.specs.interior.Interior.{AllInside, insideCell}
+use Rattle.clipping.specs.interior.laws.InsideWalk.{copiedAnswer, stays}
+use Rattle.cell_builder.specs.tried.Tries.{envOf, Ringed, Tried}
+use Rattle.cell_builder.specs.declared.tried.Frame.{Frame}
+use Rattle.cell_builder.specs.declared.finish.Progress.{Progress}
+use Rattle.cell_builder.specs.tried.laws.Early.{InsideSite}
+use Rattle.cell_builder.specs.tried.laws.TriedRings.{ring-below, ring-some, Below, hull-some, hull-below, hull-short, hull-same}
+use Rattle.cell_builder.specs.tried.laws.OneTry.{none-reused, region-room, region-within, count-is, corners-in, ring-is, ringed, tried}
+
+module _ {tri he hull table : List ℕ} {f : Frame} {off : List ℕ} {g : Ground} {s : CellState} {p : Progress} {v : List Float} {ix : List ℕ}
+    (a : Amid (plan tri he hull table f off) g s p v ix) where
+  begun : length (g .x .verts) ≤ p .count
+  begun = omega (arith, count-is a, a .held .grown .longer)
+
+  pub numbers-before : length hull ≤ f .limit
+  numbers-before = omega (arith, a .on .limit)
+
+  -- ---- at hull place i
+  module _ (i : ℕ) (place : i < length hull) where
+    pub hull-site : getD hull i 0 < g .sites
+    hull-site = a .on .mesh .border .fresh i place .0
+
+    pub hull-stages : Stages tri he hull table ix (f .stage) (f .limit - length hull) i
+    hull-stages = let on = a .on in record {
+      paired = paired (on .mesh);
+      place = place;
+      site = rw (on .table-is, tab-length (on .mesh)) hull-site;
+      stage = omega (arith, on .stage, on .limit, on .three-on-hull, on .mesh .same);
+      numbers = omega (arith, numbers-before, on .room-ix);
+    }
+
+    abbrev ring : List ℕ
+    ring = hullRing he hull table (g .x .at) i
+
+    -- the ring's vertices are paid for
+    paid : length ring ≤ shareOf tri hull (getD hull i 0)
+    paid = rw (a .on .table-is) (hull-share (a .on .mesh) (g .x .at) i place)
+
+    ring-now : hullRing he hull table (drop (f .limit - length hull) ix) i ≡ ring
+    ring-now = hull-same tri he hull table (g .x) i (drop (f .limit - length hull) ix) place (λ j h. getD-drop (f .limit - length hull) ix j 0 ∙ a .numbers j h)
+
+    module _ (blank : getD (s .cells) (getD hull i 0) [] ≡ []) {ix₁ : List ℕ} {end : ℕ}
+        (st : Staged (hullRing he hull table (drop (f .limit - length hull) ix) i) (f .stage) ix ix₁ end) where
+      staged : Staged ring (f .stage) ix ix₁ end
+      staged = rw ring-now at st
+
+      short : length ring ≤ length tri + 2
+      short = hull-short tri he hull table (g .x) i (paired (a .on .mesh)) (a .on .mesh .same)
+
+      below : Below (p .count) ring
+      below j l = let on = a .on in omega (
+        arith,
+        begun,
+        hull-below tri he hull table (g .x) i (paired (on .mesh)) (on .mesh .same) (on .beyond) (on .counted) (omega (arith, on .low)) place j l,
+      )
+
+      pub hull-ringed : Ringed f (getD hull i 0) p end v ix₁ off
+      hull-ringed = ringed a hull-site blank (hull-some tri he hull table (g .x) i) paid short below staged
+
+      pub hull-tried : {r : Progress} {v₂ : List Float} {ix₂ : List ℕ} → length v₂ ≡ length v → length ix₂ ≡ length ix₁
+          → Tried f (getD hull i 0) p end v ix₁ off r v₂ ix₂ → Does (plan tri he hull table f off) g (hullTry (plan tri he hull table f off) g i s) r v₂ ix₂
+      hull-tried lv li d = tried a hull-site blank (hull-some tri he hull table (g .x) i) paid short below staged lv li d
+
+  -- ---- at half-edge e, which ends at the site
+  module _ (e site : ℕ) (h : e < length tri) (q : site ≡ endOf tri e) where
+    in-mesh : e < length he
+    in-mesh = rw (a .on .mesh .same) h
+
+    pub edge-site : site < g .sites
+    edge-site = rw q (end-site (a .on .mesh) e in-mesh)
+
+    in-cells : site < length (s .cells)
+    in-cells = rw (a .held .width) edge-site
+
+    paid-edge : length (ringFrom he e) ≤ shareOf tri hull site
+    paid-edge = omega (arith, ring-share (a .on .mesh) site e (λ l. sym q))
+
+    pub region-some : getD off site 0 < getD off (suc site) 0
+    region-some = omega (arith, region-room (a .on) site edge-site, paid-edge, ring-some {tri = tri} (paired (a .on .mesh)) e in-mesh)
+
+    pub region-place : getD off site 0 < length ix
+    region-place = omega (arith, region-some, region-within (a .on) (suc site) edge-site, a .on .stage, a .on .limit, a .on .room-ix)
+
+    -- the cell is there
+    pub edge-kept : getD ix (getD off site 0) 0 ≢ EMPTY → Does (plan tri he hull table f off) g (edgeTry (plan tri he hull table f off) e s) p v ix
+    edge-kept n = let full = full-already ix off (s .cells) (a .regions) site in-cells region-some n in rw (← q, full) a
+
+    pub stage-room : f .stage + length he ≤ length ix
+    stage-room = omega (arith, a .on .stage, a .on .limit, a .on .room-ix, a .on .mesh .same)
+
+    module _ (m : getD ix (getD off site 0) 0 ≡ EMPTY) {ix₁ : List ℕ} {end : ℕ} (st : Staged (ringFrom he e) (f .stage) ix ix₁ end) where
+      blank-edge : getD (s .cells) site [] ≡ []
+      blank-edge = empty-still ix off (s .cells) (a .regions) site in-cells m
+
+      short-edge : length (ringFrom he e) ≤ length tri + 2
+      short-edge = omega (arith, ring-room tri he e 0 [] (paired (a .on .mesh)), a .on .mesh .same)
+
+      below-edge : Below (p .count) (ringFrom he e)
+      below-edge j l = omega (arith, ring-below {tri = tri} (paired (a .on .mesh)) e j l, corners-in a, a .on .mesh .same)
+
+      pub edge-ringed : Ringed f site p end v ix₁ off
+      edge-ringed = ringed a edge-site blank-edge (ring-some {tri = tri} (paired (a .on .mesh)) e in-mesh) paid-edge short-edge below-edge st
+
+      pub edge-tried : {r : Progress} {v₂ : List Float} {ix₂ : List ℕ} → length v₂ ≡ length v → length ix₂ ≡ length ix₁
+          → Tried f site p end v ix₁ off r v₂ ix₂ → Does (plan tri he hull table f off) g (edgeTry (plan tri he hull table f off) e s) r v₂ ix₂
+      edge-tried lv li d = rw (← q, blank-edge) (tried a edge-site blank-edge (ring-some {tri = tri} (paired (a .on .mesh)) e in-mesh) paid-edge short-edge below-edge st lv li d)
+
+      -- every circumcenter round the site is inside: the ring that stands there is its cell
+      module _ (inside : InsideSite (f .bounds) (length tri / 3) tri he (s .verts) site) where
+        abbrev len : ℕ
+        len = end - f .stage
+
+        now-inside : (j : ℕ) → j < length (ringFrom he e) → inBox (f .bounds) (f .centers) (points (p .count) v) (getD (ringFrom he e) j 0) ≡ true
+        now-inside j h =
+            let lj : j < length (wholeOf he e) = rw (length-map (wholeOf he e) (λ x. x / 3)) at h in
+            let w = walk-ends tri he (paired (a .on .mesh)) e (length he) e (getD (wholeOf he e) j 0) (occ-there (wholeOf he e) j lj) in
+            rw (a .on .centers, ← a .verts, List·getD-map (λ x. x / 3) (wholeOf he e) j 0) (inside (getD (wholeOf he e) j 0) (w .0) (w .1 ∙ sym q))
+
+        all-inside : AllInside (f .bounds) (f .centers) (points (p .count) v) ix₁ (f .stage) len
+        all-inside j h =
+            let r = ring-is a edge-site blank-edge (ring-some {tri = tri} (paired (a .on .mesh)) e in-mesh) paid-edge short-edge below-edge st in
+            let x : getD ix₁ (f .stage + j) 0 ≡ getD (ringFrom he e) j 0 = sym (getD-ring ix₁ (f .stage) len j h) ∙ ap (λ (l : List ℕ). getD l j 0) r in
+            rw x (now-inside j (omega (arith, st .ended)))
+
+        abbrev env : Env
+        env = envOf f site
+
+        pub edge-copied : {ix₂ : List ℕ} → length ix₂ ≡ length ix₁ → ix₂ ≡ sets ix₁ (getD off site 0) (insideCell (ringOf ix₁ (f .stage) len))
+            → Does (plan tri he hull table f off) g (edgeTry (plan tri he hull table f off) e s) p v ix₂
+        edge-copied {ix₂} li w =
+            edge-tried refl li (record {
+              stepped = copiedAnswer env (p .count) (p .owners) (getD off site 0) (f .stage) len v ix₁ (edge-ringed .room) (omega (arith, edge-ringed .some)) all-inside;
+              faulty = a .fine;
+              is = λ z. ap (λ (x : Fault). progress x) (a .fine) ∙ none-reused _ _ _ (p .reused);
+              steps = stays env (p .count) (p .owners) (getD off site 0) (f .stage) len v ix₁ (edge-ringed .room) (omega (arith, edge-ringed .some)) all-inside ix₂ w;
+            })
+          where
+            progress : Fault → Progress
+            progress x = record { fault = x; count = p .count; owners = p .owners; reused = p .reused }

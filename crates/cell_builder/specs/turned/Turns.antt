@@ -1,0 +1,66 @@
+-- The rest, half-edge by half-edge. An inner site, one whose table entry is paired, has its cell once that has come by, or is idle: no try gives it one.
+use mathlib.Core.Path.{_≡_}
+use mathlib.Core.Bool.{Bool, true, false}
+use mathlib.Core.List.{List, []}
+use mathlib.Core.Logic.{_⊎_, _≢_}
+use Prim.Native.Nat.{ℕ, _+_, _/_, _%_, _≤_, _<_}
+use lib.Dec.{leb, eqb}
+use lib.ListN.{length, getD}
+use Rattle.base.specs.common.Pick.{pick}
+use Rattle.base.specs.numbers.Numbers.{EMPTY}
+use Rattle.mesh.specs.Mesh.{endOf, pairOf}
+use Rattle.definition.specs.Build.{CellState, isEmpty}
+use Rattle.definition.specs.laws.Gives.{Gives}
+use Rattle.cell_builder.specs.turned.laws.IdleSites.{IdleSite}
+use Rattle.cell_builder.specs.turned.Marks.{markOf}
+use Rattle.cell_builder.specs.tried.CellsInSlices.{Plan, Ground, edgeTry}
+
+-- whether half-edge e is to be tried: its site's table entry has not come by; or it has, is unpaired, and a hull site's cell is empty
+unfoldable pub dueOf : List ℕ → List ℕ → List ℕ → Bool → ℕ → Bool
+dueOf tri he table full e =
+    let t = getD table (endOf tri e) 0 in
+    pick (leb e t) (λ _. true) (λ _. pick full (λ _. false) (λ _. eqb (pairOf he t) EMPTY))
+
+-- the site where half-edge e ends stands in the table, and its entry is a half-edge
+abbrev pub HasEntry : List ℕ → List ℕ → List ℕ → ℕ → Type 0
+HasEntry tri he table e = (endOf tri e < length table) × (getD table (endOf tri e) 0 < length he)
+
+pub record AllHaveEntries (tri he table : List ℕ) : Type 0 where
+  pub threes : length tri % 3 ≡ 0
+  pub few : length tri ≤ 393216
+  pub each : (e : ℕ) → e < length tri → HasEntry tri he table e
+
+-- half-edge e is passed by: it is not due, or, where all hull sites have their cells, not marked
+abbrev pub PassedBy : List ℕ → List ℕ → List ℕ → List ℕ → Bool → ℕ → Type 0
+PassedBy tri he table m full e = (dueOf tri he table full e ≡ false) ⊎ ((full ≡ true) × (markOf m e ≡ 0))
+
+-- from `from` on all are passed by before r, and r is due and marked, or ends the list
+pub record NextDue (tri he table m : List ℕ) (full : Bool) (from r : ℕ) : Type 0 where
+  pub low : from ≤ r
+  pub high : r ≤ length tri
+  pub passed : (e : ℕ) → from ≤ e → e < r → PassedBy tri he table m full e
+  pub due : r < length tri → (dueOf tri he table full r ≡ true) × (full ≡ true → markOf m r ≢ 0)
+
+-- where `full` says so every hull site has its cell
+abbrev pub HullsFilled : Plan → Bool → CellState → Type 0
+HullsFilled w full s = full ≡ true → (i : ℕ) → i < length (w .hull) → isEmpty (getD (s .cells) (getD (w .hull) i 0) []) ≡ false
+
+-- what is settled before half-edge e
+pub record SettledBefore (w : Plan) (g : Ground) (full : Bool) (e : ℕ) (s : CellState) : Type 0 where
+  pub inner : (k : ℕ) → k < g .sites → pairOf (w .halfedges) (getD (w .table) k 0) ≢ EMPTY → getD (w .table) k 0 < e
+      → (isEmpty (getD (s .cells) k []) ≡ false) ⊎ IdleSite (w .frame .bounds) (length (w .triangles) / 3) (w .triangles) (w .halfedges) (g .x .verts) k
+  pub hulls : HullsFilled w full s
+
+-- after it, and after the definition's try there
+abbrev pub SettledAfter : Plan → Ground → Bool → ℕ → CellState → Type 0
+SettledAfter w g full e s = Gives (SettledBefore w g full (e + 1)) (edgeTry w e s)
+
+-- the region of each hull site begins in the index list
+pub record HullRegions (hull ix off : List ℕ) : Type 0 where
+  pub starts : (i : ℕ) → i < length hull → getD hull i 0 < length off
+  pub places : (i : ℕ) → i < length hull → getD off (getD hull i 0) 0 < length ix
+  pub few : length hull ≤ 65536
+
+-- and its first entry is that of a cell
+abbrev pub RegionFilled : List ℕ → List ℕ → List ℕ → ℕ → Type 0
+RegionFilled hull ix off i = getD ix (getD off (getD hull i 0) 0) 0 ≢ EMPTY

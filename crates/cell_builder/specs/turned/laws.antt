@@ -1,0 +1,12 @@
+-- Laws that only proofs use.
+pub mod IdleRing
+pub mod IdleSites
+pub mod Due
+pub mod Onward
+pub mod OneTurn
+pub mod Quiet
+pub mod Leaving
+pub mod TryLoops
+pub mod Passing
+pub mod Filling
+pub mod Marking

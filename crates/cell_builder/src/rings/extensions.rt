@@ -1,0 +1,137 @@
+// The hull's extensions (extend_voronoi_vertex): far beyond the box, from a circumcenter orthogonally to its hull edge; rule 12.
+use base::numbers::wide;
+use mesh::end_site;
+use mesh::next_place;
+use plane::points::Point;
+use plane::points::point_at;
+use vertices::add_new_vertex;
+use vertices::vertex;
+ghost use mathlib.Core.Path.{_≡_};
+ghost use mathlib.Core.Bool.{_&&_};
+ghost use mathlib.Core.List.{[]};
+ghost use Prim.Native.Nat.{_+_, _*_, _/_, _%_, _^_, _≤_, _<_};
+ghost use lib.ListN.{length, getD};
+ghost use Rattle.plane.specs.points.Flat.{points};
+ghost use Rattle.mesh.specs.Hull.{nextSite};
+ghost use Rattle.definition.specs.Build.{finite, extended, extendFrom};
+ghost use Rattle.definition.specs.Short.{extensions};
+ghost use Rattle.definition.specs.Reused.{ifOld};
+ghost use Rattle.cell_builder.specs.rings.Centers.{Named};
+ghost use Rattle.cell_builder.specs.rings.Extensions.{projectedOf, Hulled, ExtendsInto, ExtendedBy};
+
+const VORONOI_INFINITY: f64 = 10000000000.0;
+
+const INFINITE: u64 = 0x7FF0_0000_0000_0000;
+
+fn is_finite(x: f64) -> bool
+    ensures { λ r. ⌜ r ≡ finite x ⌝ }
+{
+    root::magnitude(x) < f64::from_bits(INFINITE)
+}
+
+fn finite_point(p: Point) -> bool
+    ensures { λ r. ⌜ r ≡ (finite (p .x) && finite (p .y)) ⌝ }
+{
+    is_finite(p.x) & is_finite(p.y)
+}
+
+// From c, orthogonally to the edge from a to b.
+fn projected(c: Point, a: Point, b: Point) -> Point
+    ensures { λ r. ⌜ r ≡ projectedOf c a b ⌝ }
+{
+    let x = a.y - b.y;
+    let y = b.x - a.x;
+    let k = 1.0 / root::root(x * x + y * y);
+    Point {
+        x: c.x + x * k * VORONOI_INFINITY,
+        y: c.y + y * k * VORONOI_INFINITY,
+    }
+}
+
+// The extension over half-edge e.
+fn extend_voronoi_vertex(
+    sites: &[f64],
+    triangles: &[u32],
+    vertices: &[f64],
+    count: usize,
+    e: usize,
+) -> Point
+    requires { ⌜ Named (now sites) (now triangles) × (length (now triangles) % 3 ≡ 0) × (e < length (now triangles)) × (2 * count ≤ length (now vertices)) × (e / 3 < count) ⌝ }
+    ensures { λ r. ⌜ r ≡ extended (now (sites .entry)) (now (triangles .entry)) (points count (now (vertices .entry))) e ⌝ }
+{
+    projected(
+        vertex(vertices, count, e / 3),
+        point_at(sites, wide(triangles[e])),
+        point_at(sites, wide(end_site(triangles, e))),
+    )
+}
+
+// The half-edge over which hull place i is extended: the leftmost one of the site at the next place.
+fn hull_edge(hull: &[u32], table: &[u32], i: usize) -> usize
+    requires { ⌜ (i < length (now hull)) × Hulled (now hull) (now table) ⌝ }
+    ensures { λ r. ⌜ r ≡ getD (now (table .entry)) (nextSite (now (hull .entry)) i) 0 ⌝ }
+{
+    let b = wide(hull[next_place(hull.len(), i)]);
+    wide(table[b])
+}
+
+// Where the pass over the hull stopped, how many vertices there are then, and how many extensions took one again.
+pub struct Passed {
+    pub place: usize,
+    pub count: usize,
+    pub reused: usize,
+}
+
+// One more where the point was not new.
+fn count_old(n: usize, fresh: bool) -> usize
+    requires { ⌜ n < 2 ^ 32 ⌝ }
+    ensures { λ r. ⌜ r ≡ n + ifOld fresh 1 ⌝ }
+{
+    if fresh {
+        return n;
+    }
+    n + 1
+}
+
+// Extends every hull edge. The vertices' numbers go to the index list, from `at` on, which lies before the store's part of it.
+pub fn extend_hull(
+    sites: &[f64],
+    triangles: &[u32],
+    hull: &[u32],
+    table: &[u32],
+    vertices: &mut [f64],
+    indexes: &mut [u32],
+    at: usize,
+    limit: usize,
+    centers: usize,
+    count: usize,
+) -> Passed
+    requires { ⌜ ExtendsInto (now sites) (now triangles) (now hull) (now table) centers count limit at (now vertices) (now indexes) ⌝ }
+    ensures { λ r. ⌜ ExtendedBy (extendFrom (now (sites .entry)) (now (triangles .entry)) (now (hull .entry)) (now (table .entry)) centers 0
+        (length (now (hull .entry))) (extensions (points count (now (vertices .entry))) [] [])) (length (now (hull .entry))) centers limit at
+        (now (vertices .entry)) (now (indexes .entry)) r (now (vertices .exit)) (now (indexes .exit)) ⌝ }
+{
+    let mut n = count;
+    let mut old: usize = 0;
+    let mut i: usize = 0;
+    while i < hull.len() {
+        let p = extend_voronoi_vertex(sites, triangles, vertices, n, hull_edge(hull, table, i));
+        if !finite_point(p) {
+            return Passed {
+                place: i,
+                count: n,
+                reused: old,
+            };
+        }
+        let r = add_new_vertex(vertices, indexes, limit, centers, n, p);
+        indexes[at + i] = r.at as u32;
+        n = r.count;
+        old = count_old(old, r.fresh);
+        i += 1;
+    }
+    Passed {
+        place: i,
+        count: n,
+        reused: old,
+    }
+}

@@ -1,0 +1,3 @@
+pub mod layout
+pub mod outputs
+pub mod staging

@@ -1,4 +1,0 @@
--- Laws that only proofs use.
-pub mod HullAndEdgeTries
-pub mod OneTry
-pub mod TriedRings

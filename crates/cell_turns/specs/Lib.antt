@@ -1,4 +1,0 @@
--- The root of the crate's definitions.
-pub mod Turns
-pub mod Loops
-pub mod laws

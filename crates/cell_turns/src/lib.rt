@@ -1,3 +1,0 @@
-// All cells of a clipped build: the tries at the hull's places in their order, then those at the half-edges, turn by turn.
-pub mod turns; // turns.rt: one half-edge of the rest
-pub mod loops; // loops.rt: all of them

@@ -1,0 +1,8 @@
+-- The root of the crate's definitions.
+pub mod Printed
+pub mod Steps
+pub mod One
+pub mod Enough
+pub mod Certified
+pub mod laws
+pub mod text

@@ -1,0 +1,194 @@
+// Reads a mesh's form on standard input, makes its pieces by cutting and prints one line: `certified`, the first fault by its numbers, or `refused N`.
+pub mod text;
+
+use form::step::Form;
+use libc::STDIN_FILENO;
+use libc::STDOUT_FILENO;
+use plane::given::Given;
+ghost use Prim.Native.Nat.{_≤_};
+ghost use lib.ListN.{length, take};
+ghost use Rattle.plane.specs.given.Finite.{Fits};
+ghost use Rattle.mesh.specs.Accepted.{mesh};
+ghost use Rattle.cutting_calls.specs.call.Steps.{InOrder};
+ghost use Rattle.form.specs.boxes.FormBox.{boxBy};
+ghost use Rattle.form.specs.step.Holds.{ListRoom, Few};
+ghost use Rattle.printing.specs.Printed.{ShownIn};
+ghost use Rattle.certify.specs.Printed.{PiecesTold, CertifyTold, CertifyPrints};
+ghost use Rattle.certify.specs.Steps.{CertifyByForm};
+ghost use Rattle.certify.specs.text.CertifyLine.{certifyText};
+
+// The tolerance is 2^-32 of the box's reach.
+const CERTIFY_BITS: u32 = 32;
+
+// The line of a cutting and of the certificate of what it made.
+fn line(
+    out: &mut [u8],
+    cut: u32,
+    number: u32,
+    kind: u32,
+    site: u32,
+    vertex: u32,
+    other: u32,
+) -> usize
+    requires { ⌜ 65536 ≤ length (now out) ⌝ }
+    ensures { λ r. ⌜ ShownIn (certifyText cut number kind site vertex other) (now (out .exit)) (length (now (out .entry))) r ⌝ }
+{
+    if cut != 0 {
+        return printing::parts::refusal(out, cut);
+    }
+    if number != 0 {
+        return printing::parts::refusal(out, number);
+    }
+    crate::text::kind_line(out, kind, site, vertex, other)
+}
+
+// The certificate of pieces in these slices.
+fn of_pieces(
+    out: &mut [u8],
+    given: Given,
+    cut: u32,
+    sites: &[f64],
+    vertices: &[f64],
+    offsets: &[u32],
+    indexes: &[u32],
+) -> usize
+    requires { ⌜ Fits given × (65536 ≤ length (now out)) ⌝ }
+    ensures { λ r. ⌜ PiecesTold given cut (now (sites .entry)) (now (vertices .entry)) (now (offsets .entry)) (now (indexes .entry))
+        (take r (now (out .exit))) × (r ≤ length (now (out .entry))) ⌝ }
+{
+    let mut work = [0u32; 12640];
+    let c = certifying::call::certify(
+        given,
+        sites,
+        vertices,
+        offsets,
+        indexes,
+        CERTIFY_BITS,
+        &mut work,
+    );
+    line(out, cut, c.number, c.kind, c.site, c.vertex, c.other)
+}
+
+// Of a mesh in a box.
+fn in_box(
+    out: &mut [u8],
+    given: Given,
+    sites: &[f64],
+    triangles: &[u32],
+    halfedges: &[u32],
+    hull: &[u32],
+) -> usize
+    requires { ⌜ (length (now sites) ≤ 192) × Fits given × InOrder given × (65536 ≤ length (now out)) ⌝ }
+    ensures { λ r. ⌜ CertifyTold (mesh (now (sites .entry)) (now (triangles .entry)) (now (halfedges .entry)) (now (hull .entry))) given
+        (take r (now (out .exit))) × (r ≤ length (now (out .entry))) ⌝ }
+{
+    let mut work = [0u32; 96];
+    let mut vertices = [0.0f64; 3080];
+    let mut indexes = [0u32; 4128];
+    let mut offsets = [0u32; 97];
+    let d = cutting_calls::call::cut(
+        given,
+        sites,
+        triangles,
+        halfedges,
+        hull,
+        &mut work,
+        &mut vertices,
+        &mut indexes,
+        &mut offsets,
+    );
+    let n = sites.len() / 2;
+    of_pieces(
+        out,
+        given,
+        d.number,
+        sites,
+        &vertices,
+        &offsets[..n + 1],
+        &indexes,
+    )
+}
+
+// In the box that the form gives.
+fn of_mesh(
+    out: &mut [u8],
+    clip: u8,
+    bounds: [f64; 4],
+    sites: &[f64],
+    triangles: &[u32],
+    halfedges: &[u32],
+    hull: &[u32],
+) -> usize
+    requires { ⌜ (length (now sites) ≤ 192) × (65536 ≤ length (now out)) ⌝ }
+    ensures { λ r. ⌜ CertifyTold (mesh (now (sites .entry)) (now (triangles .entry)) (now (halfedges .entry)) (now (hull .entry))) (boxBy clip bounds)
+        (take r (now (out .exit))) × (r ≤ length (now (out .entry))) ⌝ }
+{
+    let given = form::boxes::box_of(clip, bounds);
+    in_box(out, given, sites, triangles, halfedges, hull)
+}
+
+// What is printed for a form that was read into these lists.
+fn of_form(
+    out: &mut [u8],
+    form: Form,
+    bounds: [f64; 4],
+    sites: &[f64],
+    triangles: &[u32],
+    halfedges: &[u32],
+    hull: &[u32],
+) -> usize
+    requires { ⌜ ListRoom bounds (now sites) (now triangles) (now halfedges) (now hull) × Few form × (65536 ≤ length (now out)) ⌝ }
+    ensures { λ r. ⌜ CertifyByForm form bounds (now (sites .entry)) (now (triangles .entry)) (now (halfedges .entry)) (now (hull .entry))
+        (take r (now (out .exit))) × (r ≤ length (now (out .entry))) ⌝ }
+{
+    let Form::Sound {
+        sites: n,
+        triangles: t,
+        hull: h,
+        clip,
+    } = form
+    else {
+        return printing::parts::refusal(out, form::step::number_of(form));
+    };
+    let numbers = 2 * n;
+    let links = 3 * t;
+    of_mesh(
+        out,
+        clip,
+        bounds,
+        &sites[..numbers],
+        &triangles[..links],
+        &halfedges[..links],
+        &hull[..h],
+    )
+}
+
+// What is printed for a form's bytes.
+fn answer(bytes: &[u8], out: &mut [u8]) -> usize
+    requires { ⌜ 65536 ≤ length (now out) ⌝ }
+    ensures { λ r. ⌜ CertifyPrints (now (bytes .entry)) (take r (now (out .exit))) × (r ≤ length (now (out .entry))) ⌝ }
+{
+    let mut bounds = [0.0f64; 4];
+    let mut sites = [0.0f64; 192];
+    let mut triangles = [0u32; 576];
+    let mut halfedges = [0u32; 576];
+    let mut hull = [0u32; 96];
+    let form = form::read(
+        false,
+        bytes,
+        &mut bounds,
+        &mut sites,
+        &mut triangles,
+        &mut halfedges,
+        &mut hull,
+    );
+    of_form(out, form, bounds, &sites, &triangles, &halfedges, &hull)
+}
+
+fn main() {
+    let mut bytes = [0u8; 6947];
+    let mut out = io::large_buffer();
+    let n = io::read_full(STDIN_FILENO, &mut bytes);
+    let m = answer(&bytes[..n], &mut out);
+    io::write_all(STDOUT_FILENO, &out[..m]);
+}

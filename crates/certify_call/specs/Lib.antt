@@ -1,5 +1,0 @@
-pub mod Verdict
-pub mod Sound
-pub mod Rows
-pub mod Steps
-pub mod laws

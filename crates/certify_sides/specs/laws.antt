@@ -1,6 +1,0 @@
--- Laws that only proofs use.
-pub mod Ends
-pub mod Tallies
-pub mod Slots
-pub mod Hanging
-pub mod Walking

@@ -1,7 +1,0 @@
--- Laws that only proofs use.
-pub mod Flat
-pub mod Equal
-pub mod Boxed
-pub mod Cancelling
-pub mod Leaving
-pub mod Nearest

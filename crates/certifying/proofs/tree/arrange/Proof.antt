@@ -1,0 +1,49 @@
+-- `certifying::tree::arrange` meets its contract: the numbers in turn, and exchanges.
+use mathlib.Core.Path.{_≡_, refl, _∙_}
+use Prim.Native.Nat.{_/_, _≤_}
+use lib.ListN.{length}
+use Rattle.certifying.specs.tree.Steps.{Order}
+use native.Mathlib.Omega.{arith}
+use Rattle.certifying.proofs.tree.arrange.Statement.{statement}
+use Rattle.certifying.proofs.tree.arrange.Tie as tie
+
+abbrev Inv-loop : tie.InvT-loop
+Inv-loop sites room₀ half₀ room half = Order (length sites / 2) room × (length room ≡ length room₀) × (half ≤ 32768)
+
+abbrev μ-loop : tie.MeasureT-loop
+μ-loop sites room₀ half₀ room half = half
+
+start-requires : tie.Need-start-requires Inv-loop μ-loop
+start-requires c κs =
+    let s = c .before .before .before in (s .pre .1, s .pre .2)
+
+loop-holds : tie.Need-loop-holds Inv-loop μ-loop
+loop-holds c =
+    let at-start = c .before .before in (at-start .start .ensures .0, refl, omega arith)
+
+halve-all-requires : tie.Need-halve-all-requires Inv-loop μ-loop
+halve-all-requires c κs =
+    let t = c .before in let l = t .before in let s = l .before .before .before .before .before .before .before in
+    (s .pre .0, l .loop .inv .0, omega (arith, t .loop-test .taken), l .loop .inv .2, s .pre .1)
+
+loop-less : tie.Need-loop-less Inv-loop μ-loop
+loop-less c =
+    let t = c .before .before .before .before in omega (arith, t .loop-test .taken)
+
+loop-again : tie.Need-loop-again Inv-loop μ-loop
+loop-again c =
+    let at-halve-all = c .before .before in let l = at-halve-all .before .before .before in
+    (at-halve-all .halve-all .ensures .order, at-halve-all .halve-all .ensures .same ∙ l .loop .inv .1, omega (arith, l .loop .inv .2))
+
+same-length : tie.Need-same-length Inv-loop μ-loop
+same-length c =
+    let l = c .before in let at-start = l .before .before .before in l .loop .inv .1 ∙ at-start .start .ensures .1
+
+returns : tie.Need-returns Inv-loop μ-loop
+returns c =
+    let l = c .before in let at-start = l .before .before .before in (l .loop .inv .0, l .loop .inv .1 ∙ at-start .start .ensures .1)
+
+pub arrange-spec : {M : Type 1} → statement M
+arrange-spec =
+    tie.close (tie.spec Inv-loop μ-loop start-requires loop-holds halve-all-requires loop-less loop-again
+    same-length returns)

@@ -1,0 +1,14 @@
+-- `certifying::tree::is_clear` meets its contract: the operations in their order.
+use mathlib.Core.Path.{refl}
+use Rattle.certifying.specs.tree.Tree.{clearOf}
+use Rattle.certifying.proofs.tree.is_clear.Statement.{statement}
+use Rattle.certifying.proofs.tree.is_clear.Tie as tie
+
+returns : tie.Need-returns
+unfolding clearOf
+returns c =
+    refl
+
+pub is-clear-spec : {M : Type 1} → statement M
+is-clear-spec =
+    tie.close (tie.spec returns)

@@ -1,0 +1,15 @@
+-- `certifying::tree::is_past` meets its contract: the operations in their order.
+use Rattle.auditing.specs.nearer.laws.Pieces.{past-is}
+use borrow.Author.Needs.{needs}
+use Rattle.certifying.proofs.tree.is_past.Statement.{statement}
+use Rattle.certifying.proofs.tree.is_past.Tie as tie
+
+returns : tie.Need-returns
+returns c =
+    let at-magnitude = c .before in
+    let s = at-magnitude .before .before .before .before .before .before .before .before .before .before .before .before .before in
+    past-is (s .args .far) (s .args .v) (s .args .s) (s .args .o) (at-magnitude .magnitude .ensures) (c .magnitude2 .ensures)
+
+pub is-past-spec : {M : Type 1} → statement M
+is-past-spec =
+    tie.close (tie.spec (λ c κs. search needs) (λ c κs. search needs) returns)

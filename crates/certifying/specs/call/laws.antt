@@ -1,0 +1,3 @@
+-- Laws that only proofs use.
+pub mod Stages
+pub mod Answers

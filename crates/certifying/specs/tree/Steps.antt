@@ -1,0 +1,219 @@
+-- What the steps of the search owe each other. Definitions only.
+use mathlib.Core.Path.{_≡_}
+use mathlib.Core.Bool.{Bool, true, false}
+use mathlib.Core.List.{List}
+use Prim.Native.Nat.{ℕ, _+_, _*_, _/_, _≤_, _<_}
+use lib.Ieee.{Float, nan, inf, fin}
+use lib.ListN.{length, getD, set}
+use Rattle.ring_area.specs.lowest.Lowest.{anyBelow}
+use Rattle.plane.specs.points.Finite.{BoundedPoint}
+use Rattle.plane.specs.points.Flat.{pointAt}
+use Rattle.plane.specs.declared.points.Point.{Point}
+use Rattle.walks.specs.shared.Cells.{cellOf}
+use Rattle.arguments.specs.entries.Named.{EntriesNamed}
+use Rattle.auditing.specs.nearer.Nearer.{beyond}
+use Rattle.auditing.specs.nearer.Steps.{PiecesKept}
+use Rattle.audit_truth.specs.Exact.{plusUnits, minusUnits}
+use Rattle.audit_truth.specs.Held.{HeldPoint}
+use Rattle.certifying.specs.declared.tree.Ring.{Ring}
+use Rattle.certifying.specs.tree.Tree.{ringFor, outOf, cornerPast}
+
+-- ---- values
+-- not below 0, and no -0
+abbrev pub NotMinus : Float → Type 0
+NotMinus nan = Unit {0}
+NotMinus (inf s) = s ≡ false
+NotMinus (fin s m e) = s ≡ false
+
+-- x is not above y, on whole numbers
+abbrev pub NotAbove : Float → Float → Type 0
+NotAbove x y = plusUnits x + minusUnits y ≤ minusUnits x + plusUnits y
+
+pub record SpanHolds (least most p : Point) : Type 0 where
+  pub left : NotAbove (least .x) (p .x)
+  pub right : NotAbove (p .x) (most .x)
+  pub top : NotAbove (least .y) (p .y)
+  pub bottom : NotAbove (p .y) (most .y)
+
+pub record SitesHeld (sites : List Float) : Type 0 where
+  pub each : (i : ℕ) → i < length sites / 2 → HeldPoint (pointAt sites i)
+
+pub record CornersHeld (v : List Float) (cell : List ℕ) : Type 0 where
+  pub each : (k : ℕ) → k < length cell → HeldPoint (pointAt v (getD cell k 0))
+
+-- the first n corners of a ring
+pub record Spans (v : List Float) (cell : List ℕ) (n : ℕ) (least most : Point) : Type 0 where
+  pub least-held : HeldPoint least
+  pub most-held : HeldPoint most
+  pub each : (k : ℕ) → k < n → SpanHolds least most (pointAt v (getD cell k 0))
+
+pub record RingHeld (c : Ring) : Type 0 where
+  pub is : c ≡ ringFor (c .site) (c .least) (c .most)
+  pub site-held : HeldPoint (c .site)
+  pub least-held : HeldPoint (c .least)
+  pub most-held : HeldPoint (c .most)
+
+-- no corner of c is beyond the bisector with o, whatever the tolerance
+abbrev pub LeftAlone : Ring → Point → Type 0
+LeftAlone c o = (far : Float) → NotMinus far → (v : Point) → HeldPoint v → SpanHolds (c .least) (c .most) v → beyond far v (c .site) o ≡ false
+
+-- ---- nodes: four sites whose coordinates hold those of others
+unfoldable pub coordAt : List Float → ℕ → ℕ → Float
+coordAt sites i axis = getD sites (2 * i + axis) nan
+
+pub record TwoSites (sites : List Float) (a b axis : ℕ) : Type 0 where
+  pub held : SitesHeld sites
+  pub first : a < length sites / 2
+  pub second : b < length sites / 2
+  pub flat : axis < 2
+
+pub record Lower (sites : List Float) (a b axis r : ℕ) : Type 0 where
+  pub named : r < length sites / 2
+  pub own : NotAbove (coordAt sites r axis) (coordAt sites a axis)
+  pub other : NotAbove (coordAt sites r axis) (coordAt sites b axis)
+
+pub record Higher (sites : List Float) (a b axis r : ℕ) : Type 0 where
+  pub named : r < length sites / 2
+  pub own : NotAbove (coordAt sites a axis) (coordAt sites r axis)
+  pub other : NotAbove (coordAt sites b axis) (coordAt sites r axis)
+
+pub record FourNamed (sites : List Float) (l t r b : ℕ) : Type 0 where
+  pub left : l < length sites / 2
+  pub top : t < length sites / 2
+  pub right : r < length sites / 2
+  pub bottom : b < length sites / 2
+
+pub record Boxes (sites : List Float) (l t r b o : ℕ) : Type 0 where
+  pub left : NotAbove (pointAt sites l .x) (pointAt sites o .x)
+  pub top : NotAbove (pointAt sites t .y) (pointAt sites o .y)
+  pub right : NotAbove (pointAt sites o .x) (pointAt sites r .x)
+  pub bottom : NotAbove (pointAt sites o .y) (pointAt sites b .y)
+
+pub record Widens (sites : List Float) (l t r b o l′ t′ r′ b′ : ℕ) : Type 0 where
+  pub named : FourNamed sites l′ t′ r′ b′
+  pub new : Boxes sites l′ t′ r′ b′ o
+  pub old : (p : ℕ) → Boxes sites l t r b p → Boxes sites l′ t′ r′ b′ p
+
+pub record BoxesFrom (sites : List Float) (room : List ℕ) (from to l t r b : ℕ) : Type 0 where
+  pub named : FourNamed sites l t r b
+  pub each : (j : ℕ) → from ≤ j → j < to → Boxes sites l t r b (getD room j 0)
+
+-- ---- the order: each of n numbers has a place
+pub record PlaceOf (n : ℕ) (room : List ℕ) (i : ℕ) : Type 0 where
+  pub place : ℕ
+  pub within : place < n
+  pub is : getD room place 0 ≡ i
+
+pub record Order (n : ℕ) (room : List ℕ) : Type 0 where
+  pub long : n ≤ length room
+  pub named : (j : ℕ) → j < n → getD room j 0 < n
+  pub placed : (i : ℕ) → i < n → PlaceOf n room i
+
+pub record Reordered (n : ℕ) (before after : List ℕ) : Type 0 where
+  pub order : Order n after
+  pub same : length after ≡ length before
+
+abbrev pub swapped : List ℕ → ℕ → ℕ → List ℕ
+swapped l i j = set (set l i (getD l j 0)) j (getD l i 0)
+
+-- ---- a level: the nodes of blocks of w places, four words each
+abbrev pub NodeNamed : List Float → List ℕ → ℕ → Type 0
+NodeNamed sites room at = FourNamed sites (getD room at 0) (getD room (at + 1) 0) (getD room (at + 2) 0) (getD room (at + 3) 0)
+
+abbrev pub NodeHolds : List Float → List ℕ → ℕ → ℕ → Type 0
+NodeHolds sites room at o = Boxes sites (getD room at 0) (getD room (at + 1) 0) (getD room (at + 2) 0) (getD room (at + 3) 0) o
+
+pub record NodeBoxes (sites : List Float) (w base b : ℕ) (room : List ℕ) : Type 0 where
+  pub named : NodeNamed sites room (base + 4 * b)
+  pub each : (j : ℕ) → b * w ≤ j → j < b * w + w → j < length sites / 2 → NodeHolds sites room (base + 4 * b) (getD room j 0)
+
+pub record FillSafe (sites : List Float) (room : List ℕ) (w base : ℕ) : Type 0 where
+  pub held : SitesHeld sites
+  pub order : Order (length sites / 2) room
+  pub few : length sites / 2 ≤ 65536
+  pub some : 0 < w
+  pub most : w ≤ 4096
+  pub after : length sites / 2 ≤ base
+  pub fits : base + 4 * (length sites / 2 / w + 1) ≤ length room
+
+-- what stands before a place is as it was
+pub record SameBefore (p : ℕ) (before after : List ℕ) : Type 0 where
+  pub same : length after ≡ length before
+  pub each : (i : ℕ) → i < p → getD after i 0 ≡ getD before i 0
+
+pub record NodeFilled (sites : List Float) (w base b : ℕ) (before after : List ℕ) : Type 0 where
+  pub kept : SameBefore (base + 4 * b) before after
+  pub node : NodeBoxes sites w base b after
+
+pub record NodesTo (sites : List Float) (w base b : ℕ) (before after : List ℕ) : Type 0 where
+  pub kept : SameBefore base before after
+  pub nodes : (i : ℕ) → i < b → NodeBoxes sites w base i after
+
+pub record Level (sites : List Float) (room : List ℕ) (w base : ℕ) : Type 0 where
+  pub some : 0 < w
+  pub after : length sites / 2 ≤ base
+  pub fits : base + 4 * (length sites / 2 / w + 1) ≤ length room
+  pub nodes : (i : ℕ) → i * w < length sites / 2 → NodeBoxes sites w base i room
+
+pub record LevelFilled (sites : List Float) (w base : ℕ) (before after : List ℕ) : Type 0 where
+  pub kept : SameBefore base before after
+  pub level : Level sites after w base
+
+abbrev pub base256 : ℕ → ℕ
+base256 n = n + 4 * (n / 16 + 1)
+
+abbrev pub base4096 : ℕ → ℕ
+base4096 n = n + 4 * (n / 16 + n / 256 + 2)
+
+pub record TreeOf (sites : List Float) (room : List ℕ) : Type 0 where
+  pub order : Order (length sites / 2) room
+  pub few : length sites / 2 ≤ 65536
+  pub fine : Level sites room 16 (length sites / 2)
+  pub middle : Level sites room 256 (base256 (length sites / 2))
+  pub coarse : Level sites room 4096 (base4096 (length sites / 2))
+
+-- ---- the search
+abbrev pub nodeOut : List Float → List ℕ → Ring → ℕ → Bool
+nodeOut sites room c at =
+    outOf c (pointAt sites (getD room at 0) .x) (pointAt sites (getD room (at + 1) 0) .y) (pointAt sites (getD room (at + 2) 0) .x) (pointAt sites (getD room (at + 3) 0) .y)
+
+abbrev pub AloneFrom : List Float → List ℕ → Ring → ℕ → ℕ → Type 0
+AloneFrom sites room c from to = (i : ℕ) → from ≤ i → i < to → i < length sites / 2 → LeftAlone c (pointAt sites (getD room i 0))
+
+pub record LevelSafe (sites : List Float) (room : List ℕ) (w base : ℕ) (c : Ring) : Type 0 where
+  pub held : SitesHeld sites
+  pub order : Order (length sites / 2) room
+  pub level : Level sites room w base
+  pub ring : RingHeld c
+
+pub record RingSafe (far : Float) (sites : List Float) (room : List ℕ) (c : Ring) (v : List Float) (cell : List ℕ) : Type 0 where
+  pub plus : NotMinus far
+  pub tree : TreeOf sites room
+  pub held : SitesHeld sites
+  pub ring : RingHeld c
+  pub named : EntriesNamed cell (length v / 2)
+  pub corners : CornersHeld v cell
+  pub spans : (k : ℕ) → k < length cell → SpanHolds (c .least) (c .most) (pointAt v (getD cell k 0))
+
+pub record PassedFrom (far : Float) (sites : List Float) (room : List ℕ) (c : Ring) (v : List Float) (cell : List ℕ) (j r : ℕ) : Type 0 where
+  pub none : (i : ℕ) → j ≤ i → i < j + r → i < length sites / 2 → (k : ℕ) → k < length cell → cornerPast far (c .site) (pointAt sites (getD room i 0)) v cell k ≡ false
+  pub stop : r ≡ 0 → anyBelow (cornerPast far (c .site) (pointAt sites (getD room j 0)) v cell) (length cell) ≡ true
+  pub most : r ≤ 4096
+
+pub record PieceSafe (far : Float) (sites : List Float) (room : List ℕ) (v : List Float) (cell : List ℕ) : Type 0 where
+  pub plus : NotMinus far
+  pub tree : TreeOf sites room
+  pub held : SitesHeld sites
+  pub named : EntriesNamed cell (length v / 2)
+  pub corners : CornersHeld v cell
+
+abbrev pub PiecesHeld : List Float → List Float → List ℕ → List ℕ → Type 0
+PiecesHeld sites v off ix = (s : ℕ) → s < length sites / 2 → CornersHeld v (cellOf off ix s)
+
+-- what a caller owes: rules 6, 16, 18 and 24, and a tolerance that is not below 0
+pub record TreeSafe (far : Float) (sites v : List Float) (off ix : List ℕ) : Type 0 where
+  pub plus : NotMinus far
+  pub pieces : PiecesKept sites v off ix
+  pub few : length sites / 2 ≤ 65536
+  pub sites-bounded : (i : ℕ) → i < length sites / 2 → BoundedPoint 400 (pointAt sites i)
+  pub corners-bounded : (s : ℕ) → s < length sites / 2 → (k : ℕ) → k < length (cellOf off ix s) → BoundedPoint 400 (pointAt v (getD (cellOf off ix s) k 0))

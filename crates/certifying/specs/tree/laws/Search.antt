@@ -1,0 +1,185 @@
+-- The search: what is left out is nearer to no corner, and where every place is passed no corner is nearer to any site.
+use mathlib.Core.Path.{_≡_, refl, sym, ap, _∙_, subst}
+use mathlib.Core.Bool.{Bool, true, false}
+use mathlib.Core.List.{List, []}
+use mathlib.Core.Logic.{⊎-elim}
+use Prim.{tt}
+use Prim.Native.Nat.{ℕ, _+_, _*_, _/_, _%_, _≤_, _<_}
+use native.Mathlib.Nat.{le-trans, le-of-eq, le-of-lt, lt-of-lt-of-le, mul-le-mul-right, div-add-mod'}
+use native.Mathlib.Omega.{arith}
+use borrow.Author.Tests.{ltb-true}
+use lib.Dec.{lit≤}
+use lib.Ieee.{Float}
+use lib.Ieee.Nearest.{div-mono}
+use lib.ListN.{length, getD}
+use Rattle.base.specs.common.laws.Decide.{lt-or-ge}
+use Rattle.ring_area.specs.lowest.Lowest.{lowest, anyBelow}
+use Rattle.ring_area.specs.lowest.laws.Loops.{lowest-takes, none-below, some-below, none-taken}
+use Rattle.plane.specs.points.Finite.{point-weaken, site-bounded}
+use Rattle.plane.specs.points.Flat.{pointAt}
+use Rattle.plane.specs.points.Rules.{okSite}
+use Rattle.plane.specs.declared.points.Point.{Point}
+use Rattle.walks.specs.shared.Cells.{cellOf}
+use Rattle.areas.specs.laws.Entries.{cell-corners}
+use Rattle.areas.specs.Steps.{RingsKept}
+use Rattle.auditing.specs.nearer.Nearer.{beyond, noLists, otherAt, heldCount, beyondAt, nearerAt, cornerNearer, cellNearer, siteNearer}
+use Rattle.auditing.specs.nearer.Steps.{PiecesKept}
+use Rattle.auditing.specs.nearer.laws.Pieces.{site-is}
+use Rattle.audit_truth.specs.Held.{HeldWithin, HeldPoint, AllHeld}
+use Rattle.certifying.specs.declared.tree.Ring.{Ring}
+use Rattle.certifying.specs.tree.Steps.{NotMinus, NotAbove, SitesHeld, RingHeld, LeftAlone, Order, NodeNamed, nodeOut, AloneFrom, LevelSafe, RingSafe, PassedFrom, PiecesHeld, TreeSafe}
+use Rattle.certifying.specs.tree.Tree.{outOf, cornerPast}
+use Rattle.certifying.specs.tree.laws.LeftOut.{left-out}
+use Rattle.certifying.specs.tree.laws.Spans.{at-most-self}
+
+-- ---- one rectangle
+alone : {c : Ring} → RingHeld c → (l t r b : Float) → HeldWithin 400 l → HeldWithin 400 t → HeldWithin 400 r → HeldWithin 400 b → (o : Point) → HeldPoint o
+    → NotAbove l (o .x) → NotAbove (o .x) r → NotAbove t (o .y) → NotAbove (o .y) b → outOf c l t r b ≡ true → LeftAlone c o
+alone {c} h l t r b Hl Ht Hr Hb o ho a d e f x =
+    subst (λ (k : Ring). LeftAlone k o) (sym (h .is))
+    (left-out (c .site) (c .least) (c .most) (h .site-held) (h .least-held) (h .most-held) l t r b Hl Ht Hr Hb o ho a d e f (subst (λ (k : Ring). outOf k l t r b ≡ true) (h .is) x))
+
+-- ---- blocks that are left out
+module _ {sites : List Float} {room : List ℕ} {w base : ℕ} {c : Ring} (s : LevelSafe sites room w base c) (j : ℕ) (J : j < length sites / 2) where
+  starts : j % w ≡ 0 → j / w * w ≡ j
+  starts e = go (j / w * w) (j % w) (div-add-mod' j w) e
+    where
+      go : (a b : ℕ) → a + b ≡ j → b ≡ 0 → a ≡ j
+      go a b h e = omega arith
+
+  block-there : j % w ≡ 0 → j / w * w < length sites / 2
+  block-there e = subst (λ (k : ℕ). k < length sites / 2) (sym (starts e)) J
+
+  pub block-named : j % w ≡ 0 → NodeNamed sites room (base + 4 * (j / w))
+  block-named e = s .level .nodes (j / w) (block-there e) .named
+
+  pub block-fits : base + 4 * (j / w) + 3 < length room
+  block-fits = go (j / w) (length sites / 2 / w) (div-mono j w (length sites / 2) w (s .level .some) (s .level .some) (mul-le-mul-right w (le-of-lt J))) (s .level .fits)
+    where
+      go : (i q : ℕ) → i ≤ q → base + 4 * (q + 1) ≤ length room → base + 4 * i + 3 < length room
+      go i q a b = omega arith
+
+  pub block-out : j % w ≡ 0 → nodeOut sites room c (base + 4 * (j / w)) ≡ true → AloneFrom sites room c j (j + w)
+  block-out e t i a b h =
+      let n = s .level .nodes (j / w) (block-there e) in
+      let k = n .each i (le-trans (le-of-eq (starts e)) a) (lt-of-lt-of-le b (le-of-eq (ap (λ (q : ℕ). q + w) (sym (starts e))))) h in
+      alone (s .ring) _ _ _ _ (s .held .each _ (n .named .left) .x) (s .held .each _ (n .named .top) .y) (s .held .each _ (n .named .right) .x) (s .held .each _ (n .named .bottom) .y)
+      (pointAt sites (getD room i 0))
+      (s .held .each _ (s .order .named i h)) (k .left) (k .right) (k .top) (k .bottom) t
+
+-- one site
+pub site-out : {sites : List Float} {room : List ℕ} {c : Ring} → SitesHeld sites → Order (length sites / 2) room → RingHeld c → (j : ℕ) → j < length sites / 2 → {w : ℕ} {o : Point}
+    → w ≡ getD room j 0 → o ≡ pointAt sites w → {t : Bool} → t ≡ outOf c (o .x) (o .y) (o .x) (o .y) → t ≡ true → AloneFrom sites room c j (j + 1)
+site-out {sites} {room} {c} held order h j J {w} {o} e f g t i a b k =
+    let p = pointAt sites (getD room i 0) in
+    let is : o ≡ p = f ∙ ap (pointAt sites) (e ∙ ap (λ (q : ℕ). getD room q 0) (only i a b)) in
+    let hp : HeldPoint p = held .each (getD room i 0) (order .named i k) in
+    alone h (p .x) (p .y) (p .x) (p .y) (hp .x) (hp .y) (hp .x) (hp .y) p hp (at-most-self (p .x)) (at-most-self (p .x)) (at-most-self (p .y)) (at-most-self (p .y))
+    (subst (λ (q : Point). outOf c (q .x) (q .y) (q .x) (q .y) ≡ true) is (sym g ∙ t))
+  where
+    only : (i : ℕ) → j ≤ i → i < j + 1 → j ≡ i
+    only i a b = omega arith
+
+-- ---- one step
+module _ {far : Float} {sites : List Float} {room : List ℕ} {c : Ring} {v : List Float} {cell : List ℕ} (s : RingSafe far sites room c v cell) (j : ℕ) (J : j < length sites / 2) where
+  pub passed-out : {r : ℕ} → AloneFrom sites room c j (j + r) → 0 < r → r ≤ 4096 → PassedFrom far sites room c v cell j r
+  unfolding cornerPast
+  passed-out {r} a p m = record {
+    none = λ i x y z k h. a i x y z far (s .plus) (pointAt v (getD cell k 0)) (s .corners .each k h) (s .spans k h);
+    stop = λ e. absurd (no r p e);
+    most = m;
+  }
+    where
+      no : (r : ℕ) → 0 < r → r ≡ 0 → ⊥
+      no r p e = omega arith
+
+  module _ {w : ℕ} {o : Point} {t : Bool} (e : w ≡ getD room j 0) (f : o ≡ pointAt sites w) (g : t ≡ anyBelow (cornerPast far (c .site) o v cell) (length cell)) where
+    here : t ≡ anyBelow (cornerPast far (c .site) (pointAt sites (getD room j 0)) v cell) (length cell)
+    here = g ∙ ap (λ (q : Point). anyBelow (cornerPast far (c .site) q v cell) (length cell)) (f ∙ ap (pointAt sites) e)
+
+    pub passed-stop : t ≡ true → PassedFrom far sites room c v cell j 0
+    passed-stop h = record { none = λ i x y z k l. absurd (omega arith); stop = λ _. sym here ∙ h; most = omega arith }
+
+    pub passed-one : t ≡ false → PassedFrom far sites room c v cell j 1
+    passed-one h = record {
+      none = λ i x y z k l. none-taken (cornerPast far (c .site) (pointAt sites (getD room i 0)) v cell) (length cell)
+          (subst (λ (q : ℕ). anyBelow (cornerPast far (c .site) (pointAt sites (getD room q 0)) v cell) (length cell) ≡ false) (only i x y) (sym here ∙ h)) k l;
+      stop = λ q. absurd (omega arith);
+      most = omega arith;
+    }
+      where
+        only : (i : ℕ) → j ≤ i → i < j + 1 → j ≡ i
+        only i a b = omega arith
+
+-- ---- all places
+abbrev pub NonePast : Float → List Float → List ℕ → Point → List Float → List ℕ → ℕ → Type 0
+NonePast far sites room s v cell j = (i : ℕ) → i < j → i < length sites / 2 → (k : ℕ) → k < length cell → cornerPast far s (pointAt sites (getD room i 0)) v cell k ≡ false
+
+pub none-more : {far : Float} {sites : List Float} {room : List ℕ} {c : Ring} {v : List Float} {cell : List ℕ} {j r : ℕ} → NonePast far sites room (c .site) v cell j
+    → PassedFrom far sites room c v cell j r → NonePast far sites room (c .site) v cell (j + r)
+none-more {j = j} a p i h n k l = ⊎-elim (λ b. a i b n k l) (λ b. p .none i b h n k l) (lt-or-ge i j)
+
+module _ (far : Float) (sites : List Float) (s : ℕ) (v : List Float) (cell : List ℕ) {room : List ℕ} (o : Order (length sites / 2) room) {p : Point} (P : p ≡ pointAt sites s) where
+  past-is : (i k : ℕ) → cornerPast far p (pointAt sites i) v cell k ≡ beyondAt far (pointAt v (getD cell k 0)) sites s [] true i
+  unfolding cornerPast beyondAt otherAt
+  past-is i k = ap (λ (q : Point). beyond far (pointAt v (getD cell k 0)) q (pointAt sites i)) P
+
+  pub ring-found : {j : ℕ} → j < length sites / 2 → anyBelow (cornerPast far p (pointAt sites (getD room j 0)) v cell) (length cell) ≡ true → true ≡ cellNearer far sites s [] true v cell
+  unfolding cellNearer cornerNearer nearerAt heldCount
+  ring-found {j} J t =
+      let q = cornerPast far p (pointAt sites (getD room j 0)) v cell in
+      let k = lowest q (length cell) in
+      let K = ltb-true k (length cell) t in
+      sym (some-below (cornerNearer far sites s [] true v cell) k K
+      (some-below (beyondAt far (pointAt v (getD cell k 0)) sites s [] true) (getD room j 0) (o .named j J) (sym (past-is (getD room j 0) k) ∙ lowest-takes q (length cell) K)))
+
+  pub ring-none : {j : ℕ} → NonePast far sites room p v cell j → length sites / 2 ≤ j → false ≡ cellNearer far sites s [] true v cell
+  unfolding cellNearer cornerNearer nearerAt heldCount
+  ring-none {j} a h =
+      sym (none-below (cornerNearer far sites s [] true v cell) (length cell) (λ k K.
+      none-below (beyondAt far (pointAt v (getD cell k 0)) sites s [] true) (length sites / 2) (λ i I.
+      let q = o .placed i I in
+      sym (past-is i k) ∙ ap (λ (n : ℕ). cornerPast far p (pointAt sites n) v cell k) (sym (q .is)) ∙ a (q .place) (lt-of-lt-of-le (q .within) h) (q .within) k K)))
+
+pub empty-none : (far : Float) (sites : List Float) (s : ℕ) (v : List Float) (cell : List ℕ) → length cell ≡ 0 → false ≡ cellNearer far sites s [] true v cell
+unfolding cellNearer
+empty-none far sites s v cell e = sym (none-below (cornerNearer far sites s [] true v cell) (length cell) (λ k h. absurd (no k (length cell) h e)))
+  where
+    no : (k n : ℕ) → k < n → n ≡ 0 → ⊥
+    no k n h e = omega arith
+
+pub piece-is : (far : Float) (sites v : List Float) (off ix : List ℕ) (s : ℕ) {t : Bool} {cell : List ℕ} → cell ≡ cellOf off ix s → t ≡ cellNearer far sites s [] true v cell
+    → t ≡ siteNearer far sites [] [] v off ix s
+unfolding noLists cellOf
+piece-is far sites v off ix s e f = site-is far sites [] [] v off ix s {all = true} {part = []} refl refl e f
+
+-- ---- what a caller owes follows from rules 6, 16, 18 and 24
+pub safe-by-rules : {far : Float} {sites v : List Float} {off ix : List ℕ} → NotMinus far → PiecesKept sites v off ix → length sites / 2 ≤ 65536
+    → ((i : ℕ) → i < length sites / 2 → okSite (pointAt sites i) ≡ true) → RingsKept v off ix → TreeSafe far sites v off ix
+safe-by-rules {sites = sites} p k few ok rings = record {
+  plus = p;
+  pieces = k;
+  few = few;
+  sites-bounded = λ i h. point-weaken {j = 400} (lit≤ tt) (site-bounded (pointAt sites i) (ok i h));
+  corners-bounded = λ s h. cell-corners rings s (omega (arith, k .cut .many)) .bounded;
+}
+
+-- ---- as the code makes them
+pub past-corner : (far : Float) (s o : Point) (v : List Float) (cell : List ℕ) (k : ℕ) {t : Bool} {p : Point} {w : ℕ} → w ≡ getD cell k 0 → p ≡ pointAt v w → t ≡ beyond far p s o
+    → t ≡ cornerPast far s o v cell k
+unfolding cornerPast
+past-corner far s o v cell k x y e = e ∙ ap (λ (q : Point). beyond far q s o) (y ∙ ap (pointAt v) x)
+
+pub node-parts : (sites : List Float) (room : List ℕ) (c : Ring) (at : ℕ) {i j k l : ℕ} {p q r b : Point} → i ≡ getD room at 0 → p ≡ pointAt sites i → j ≡ getD room (at + 1) 0 → q ≡ pointAt sites j
+    → k ≡ getD room (at + 2) 0 → r ≡ pointAt sites k → l ≡ getD room (at + 3) 0 → b ≡ pointAt sites l → outOf c (p .x) (q .y) (r .x) (b .y) ≡ nodeOut sites room c at
+node-parts sites room c at e f g h x y z w = rw (f, h, y, w, e, g, x, z) refl
+
+pub sites-held : {far : Float} {sites v : List Float} {off ix : List ℕ} → TreeSafe far sites v off ix → AllHeld sites → SitesHeld sites
+sites-held a h = record {
+  each = λ i g. let p = a .sites-bounded i g in record { x = record { held = h (2 * i); bounded = p .x }; y = record { held = h (2 * i + 1); bounded = p .y } };
+}
+
+pub pieces-held : {far : Float} {sites v : List Float} {off ix : List ℕ} → TreeSafe far sites v off ix → AllHeld v → PiecesHeld sites v off ix
+pieces-held a h s g = record {
+  each = λ k l. let p = a .corners-bounded s g k l in record { x = record { held = h _; bounded = p .x }; y = record { held = h _; bounded = p .y } };
+}

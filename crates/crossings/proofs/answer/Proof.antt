@@ -1,9 +1,0 @@
--- `crossings::answer`: each answer by the tests that lead to it.
-use Rattle.crossings.specs.Rules.{metBy}
-use Rattle.crossings.proofs.answer.Statement.{statement}
-use Rattle.crossings.proofs.answer.Tie as tie
-
-pub answer-spec : {M : Type 1} → statement M
-unfolding metBy
-answer-spec =
-    tie.close (tie.spec (λ c. rw (c .before .if1 .taken, c .if2 .taken)) (λ c. rw (c .before .if1 .taken, c .if2 .left)) (λ c. rw (c .if1 .left)))

@@ -1,1 +1,0 @@
-// No code: what an answer of the cutting is for is in specs/.

@@ -1,9 +1,0 @@
--- `cut_border::arrives`: an entry of the hull, and the table's of it.
-use Rattle.cut_border.proofs.arrives.Statement.{statement}
-use Rattle.cut_border.proofs.arrives.Tie as tie
-
-returns : tie.Need-returns
-returns c = rw (← c .before .before .entry-at .ensures, ← c .before .wide .ensures) (c .entry-at2 .ensures)
-
-pub arrives-spec : {M : Type 1} → statement M
-arrives-spec = tie.close (tie.spec (λ c κs. tt) (λ c κs. tt) (λ c κs. tt) returns)

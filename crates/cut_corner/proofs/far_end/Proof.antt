@@ -1,6 +1,0 @@
--- `cut_corner::far_end`: the place is on the side.
-use Rattle.cut_corner.proofs.far_end.Statement.{statement}
-use Rattle.cut_corner.proofs.far_end.Tie as tie
-
-pub far-end-spec : {M : Type 1} → statement M
-far-end-spec = tie.close (tie.spec (λ c κs. tt) (λ c κs. tt) (λ c. cc))

@@ -1,1 +1,0 @@
-// No code: that the slices which the cutting leaves hold pieces that fill the box is in specs/.

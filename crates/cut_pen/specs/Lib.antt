@@ -1,3 +1,0 @@
--- The root of the crate's definitions.
-pub mod Pen
-pub mod Room

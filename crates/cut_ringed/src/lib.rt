@@ -1,1 +1,0 @@
-// No code: that the rings which the cutting walks are those of its theorem is in specs/.

@@ -1,1 +1,0 @@
-// No code: that the entries of a piece stand for its places is in specs/.

@@ -1,0 +1,9 @@
+pub mod cuts
+pub mod corner
+pub mod pen
+pub mod sides
+pub mod meet
+pub mod border
+pub mod rings
+pub mod rooms
+pub mod whole

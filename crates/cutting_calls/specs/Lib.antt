@@ -1,0 +1,3 @@
+pub mod cut_admission
+pub mod call
+pub mod answer

@@ -1,0 +1,4 @@
+pub mod theorem
+pub mod ringed
+pub mod fills
+pub mod fit

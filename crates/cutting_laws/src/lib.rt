@@ -1,0 +1,1 @@
+// No code: what pieces by cutting are for, as theorems in specs/.

@@ -1,0 +1,67 @@
+-- `cutting_writer::site::leave`: the ring's end, by its test.
+use Rattle.cutting.specs.border.Border.{hullEnd}
+use Rattle.cutting.specs.declared.corner.Carrier.the-variants.{Infinity}
+use Rattle.cutting.specs.rings.Names.{onHull}
+use Rattle.cutting_writer.specs.site.laws.Walk.{none-made, one-asks, one-made, far-there, far-none}
+use Rattle.cutting_writer.specs.stream.Stages.{leftOf}
+use Rattle.mesh.specs.Mesh.{nextOf}
+use Rattle.mesh.specs.laws.Next.{next-sum}
+use borrow.Author.Needs.{needs}
+use denote.Ref.{now}
+use mathlib.Core.Bool.{true, false}
+use mathlib.Core.Path.{sym, ap, _∙_, _≡_}
+use native.Mathlib.Omega.{arith}
+use Rattle.cutting_writer.proofs.site.leave.Statement.{statement}
+use Rattle.cutting_writer.proofs.site.leave.Tie as tie
+
+next-halfedge-requires : tie.Need-next-halfedge-requires
+next-halfedge-requires c κs = omega (arith, c .wide .ensures)
+
+cast-hull-end : tie.Need-cast-hull-end
+cast-hull-end c = omega (
+  arith,
+  c .before .before .before .next-halfedge .ensures,
+  c .before .before .before .before .wide .ensures,
+  c .before .before .before .before .before
+      .before .before .before .before .before .pre .0,
+  next-sum (c .before .before .before .before .wide .result),
+)
+
+feed-left-requires : tie.Need-feed-left-requires
+feed-left-requires c κs =
+    let a = c .before .before .before .before .before .before .before .before .before .before .before .before .before .args in
+    let o : c .before .before .before .before .before .before .next-halfedge .result ≡ nextOf (a .e) = c .before .before .before .before .before .before .next-halfedge .ensures
+    ∙ ap nextOf (c .before .before .before .before .before .before .before .wide .ensures) in
+    let h : onHull (now (a .halfedges)) (nextOf (a .e)) ≡ true = sym (ap (onHull (now (a .halfedges))) o) ∙ sym (c .before .before .before .before .before .on-hull .ensures)
+    ∙ c .before .before .before .before .if1 .taken in
+    let p = c .before .before .hull-end .ensures ∙ ap (hullEnd (now (a .sites)) (now (a .triangles)) (now (a .vertices))) o in
+    one-asks (a .b) (now (a .sites)) (a .centers) (leftOf (a .stage) (now (a .vertices)) (now (a .indexes))) _
+    (far-there (now (a .sites)) (now (a .triangles)) (now (a .halfedges)) (now (a .vertices)) (a .e) h)
+    (λ i. record { corner = p i; on = Infinity }) (c .before .before .before .before .before .before .before .before .before .before .before .before .before .pre .1)
+
+returns : tie.Need-returns
+returns c =
+    let a = c .before .before .before .before .before .before .before .before .before .before .before .before .before .before .before .before .before .before .args in
+    let o : c .before .before .before .before .before .before .before .before .before .before .before .next-halfedge .result ≡ nextOf
+    (a .e) = c .before .before .before .before .before .before .before .before .before .before .before .next-halfedge .ensures ∙ ap nextOf
+    (c .before .before .before .before .before .before .before .before .before .before .before .before .wide .ensures) in
+    let h : onHull (now (a .halfedges)) (nextOf (a .e)) ≡ true = sym (ap (onHull (now (a .halfedges))) o) ∙ sym
+    (c .before .before .before .before .before .before .before .before .before .before .on-hull .ensures) ∙ c .before .before .before .before .before .before .before .before .before .if1 .taken in
+    let p = c .before .before .before .before .before .before .before .hull-end .ensures ∙ ap (hullEnd (now (a .sites)) (now (a .triangles)) (now (a .vertices))) o in
+    one-made (a .b) (now (a .sites)) (a .centers) (leftOf (a .stage) (now (a .vertices)) (now (a .indexes))) _
+    (far-there (now (a .sites)) (now (a .triangles)) (now (a .halfedges)) (now (a .vertices)) (a .e) h)
+    (λ i. record { corner = p i; on = Infinity }) (c .before .before .before .before .feed-left .ensures)
+
+returns-2 : tie.Need-returns-2
+returns-2 c =
+    let a = c .before .before .before .before .before .before .before .before .before .args in
+    let o : c .before .before .next-halfedge .result ≡ nextOf (a .e) = c .before .before .next-halfedge .ensures ∙ ap nextOf (c .before .before .before .wide .ensures) in
+    let h : onHull (now (a .halfedges)) (nextOf (a .e)) ≡ false = sym (ap (onHull (now (a .halfedges))) o) ∙ sym (c .before .on-hull .ensures) ∙ c .if1 .left in
+    none-made (a .b) (now (a .sites)) (a .centers) (leftOf (a .stage) (now (a .vertices)) (now (a .indexes)))
+    (far-none (now (a .sites)) (now (a .triangles)) (now (a .halfedges)) (now (a .vertices)) (a .e) h)
+
+pub leave-spec : {M : Type 1} → statement M
+leave-spec =
+    tie.close
+    (tie.spec (λ c κs. search needs) next-halfedge-requires (λ c κs. search needs) cast-hull-end (λ c κs. search needs) feed-left-requires (λ c. search needs)
+    (λ c. search needs) returns returns-2)

@@ -1,0 +1,49 @@
+-- `cutting_writer::site::walk_in`: the beginning, then the walk.
+use Rattle.cutting.specs.cuts.Stream.{feedAll}
+use Rattle.cutting.specs.pen.Room.{Ready}
+use Rattle.cutting_writer.specs.site.Ring.{rayOf}
+use Rattle.cutting_writer.specs.site.Walked.{pageOf}
+use Rattle.cutting_writer.specs.site.laws.Ringed.{begun-enter, begun-walk, begun-walked}
+use Rattle.cutting_writer.specs.stream.Stages.{leftOf, opened, feedLeft}
+use Rattle.cutting_writer.specs.declared.stream.LeftStage.{LeftStage}
+use borrow.Author.Needs.{needs}
+use denote.Ref.{now}
+use mathlib.Core.Path.{sym, ap, subst, _∙_}
+use Rattle.cutting_writer.proofs.site.walk_in.Statement.{statement}
+use Rattle.cutting_writer.proofs.site.walk_in.Tie as tie
+
+enter-requires : tie.Need-enter-requires
+enter-requires c κs =
+    let a = c .before .before .before .before .before .before .before .before .args in
+    subst (λ (s : LeftStage). Ready (a .centers) (pageOf (leftOf s (now (a .vertices)) (now (a .indexes))))
+    (pageOf (feedAll (feedLeft (a .b) (now (a .sites)) (a .centers)) (leftOf s (now (a .vertices)) (now (a .indexes)))
+    (rayOf (now (a .sites)) (now (a .triangles)) (now (a .halfedges)) (now (a .vertices)) (a .t))))) (sym (c .before .before .«open» .ensures))
+    (begun-enter (a .b) (now (a .sites)) (now (a .triangles)) (now (a .halfedges)) (a .centers) (a .t) (leftOf (opened (a .pen)) (now (a .vertices)) (now (a .indexes)))
+    (c .before .before .before .before .before .before .before .before .pre))
+
+walk-whole-requires : tie.Need-walk-whole-requires
+walk-whole-requires c κs =
+    let a = c .before .before .before .before .before .before .before .before .before .before .before .before .before .before .before .args in
+    begun-walk (a .b) (now (a .sites)) (now (a .triangles)) (now (a .halfedges)) (a .centers) (a .t) (leftOf (opened (a .pen)) (now (a .vertices)) (now (a .indexes)))
+    (c .before .before .before .before .before .before .before .before .before .before .before .before .before .before .before .pre) _
+    (c .before .before .before .before .before .before .enter .ensures ∙ ap
+    (λ (s : LeftStage). feedAll (feedLeft (a .b) (now (a .sites)) (a .centers)) (leftOf s (now (a .vertices)) (now (a .indexes)))
+    (rayOf (now (a .sites)) (now (a .triangles)) (now (a .halfedges)) (now (a .vertices)) (a .t))) (c .before .before .before .before .before .before .before .before .before .«open» .ensures))
+
+returns : tie.Need-returns
+returns c =
+    let a = c .before .before .before .before .before .before .before .before .before .before .before .before .before .before .before .before .before .before .before .before .args in
+    let w = c .before .before .before .before .walk-whole .ensures in (
+      begun-walked (a .b) (now (a .sites)) (now (a .triangles)) (now (a .halfedges)) (a .centers) (a .t) (leftOf (opened (a .pen)) (now (a .vertices)) (now (a .indexes)))
+          (c .before .before .before .before .before .before .before .before .before .before .before .before .before .before .before .before .before .before .before .before .pre) _
+          (c .before .before .before .before .before .before .before .before .before .before .before .enter .ensures ∙ ap
+          (λ (s : LeftStage). feedAll (feedLeft (a .b) (now (a .sites)) (a .centers)) (leftOf s (now (a .vertices)) (now (a .indexes)))
+          (rayOf (now (a .sites)) (now (a .triangles)) (now (a .halfedges)) (now (a .vertices)) (a .t)))
+          (c .before .before .before .before .before .before .before .before .before .before .before .before .before .before .«open» .ensures)) _ (w .stage),
+      w .last,
+    )
+
+pub walk-in-spec : {M : Type 1} → statement M
+walk-in-spec =
+    tie.close
+    (tie.spec (λ c κs. search needs) enter-requires walk-whole-requires (λ c. search needs) (λ c. search needs) returns)

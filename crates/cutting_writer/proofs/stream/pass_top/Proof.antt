@@ -1,0 +1,46 @@
+-- `cutting_writer::stream::pass_top`: the part is handed on corner by corner.
+use Rattle.cutting_writer.specs.stream.Stages.{feedTop, topOf}
+use Rattle.cutting_writer.specs.stream.laws.Handed.{pass-none, pass-one, pass-two, pass-one-asks, pass-two-asks, pass-two-then}
+use Rattle.cutting_writer.specs.stream.laws.Stages.{top-grows}
+use borrow.Author.Needs.{needs}
+use denote.Ref.{now}
+use Rattle.cutting_writer.proofs.stream.pass_top.Statement.{statement}
+use Rattle.cutting_writer.proofs.stream.pass_top.Tie as tie
+
+feed-top-requires : tie.Need-feed-top-requires
+feed-top-requires c κs = let a = c .before .before .before .before .before .before .before .before .args in pass-one-asks (λ t. t .next .next .next)
+    (feedTop (a .b) (now (a .sites)) (a .centers)) (a .centers) (c .before .before .before .part .given .1) (topOf (a .t) (now (a .vertices)) (now (a .indexes)))
+    (c .before .before .before .before .before .before .before .before .pre)
+
+feed-top-requires-2 : tie.Need-feed-top-requires-2
+feed-top-requires-2 c κs = let a = c .before .before .before .before .before .before .before .before .args in pass-two-asks (λ t. t .next .next .next)
+    (feedTop (a .b) (now (a .sites)) (a .centers)) (a .centers) (top-grows (a .b) (now (a .sites)) (a .centers)) (c .before .before .before .part2 .given .1)
+    (topOf (a .t) (now (a .vertices)) (now (a .indexes))) (c .before .before .before .before .before .before .before .before .pre)
+
+feed-top-requires-3 : tie.Need-feed-top-requires-3
+feed-top-requires-3 c κs = let a = c .before .before .before .before .before .before .before .before .before .before .before .before .before .before .before .args in pass-two-then
+    (λ t. t .next .next .next) (feedTop (a .b) (now (a .sites)) (a .centers)) (a .centers) (top-grows (a .b) (now (a .sites)) (a .centers))
+    (c .before .before .before .before .before .before .before .before .before .before .part2 .given .1) (topOf (a .t) (now (a .vertices)) (now (a .indexes)))
+    (c .before .before .before .before .before .before .before .before .before .before .before .before .before .before .before .pre) _
+    (c .before .before .before .before .before .before .feed-top2 .ensures)
+
+returns : tie.Need-returns
+returns c = let a = c .before .before .before .before .before .args in pass-none (λ t. t .next .next .next) (feedTop (a .b) (now (a .sites)) (a .centers)) (c .enum-told .given .1)
+    (topOf (a .t) (now (a .vertices)) (now (a .indexes)))
+
+returns-2 : tie.Need-returns-2
+returns-2 c = let a = c .before .before .before .before .before .before .before .before .before .before .before .before .before .args in pass-one (λ t. t .next .next .next)
+    (feedTop (a .b) (now (a .sites)) (a .centers)) (c .before .before .before .before .before .before .before .before .part .given .1) (c .before .before .before .before .feed-top .ensures)
+
+returns-3 : tie.Need-returns-3
+returns-3 c = let a = c .before .before .before .before .before .before .before .before .before .before .before .before .before .before .before .before .before .before .before
+    .before .args in pass-two (λ t. t .next .next .next) (feedTop (a .b) (now (a .sites)) (a .centers))
+    (c .before .before .before .before .before .before .before .before .before .before .before .before .before .before .before .part2 .given .1)
+    (topOf (a .t) (now (a .vertices)) (now (a .indexes))) (c .before .before .before .before .before .before .before .before .before .before .before .feed-top2 .ensures)
+    (c .before .before .before .before .feed-top3 .ensures)
+
+pub pass-top-spec : {M : Type 1} → statement M
+pass-top-spec =
+    tie.close
+    (tie.spec (λ c. search needs) (λ c. search needs) feed-top-requires (λ c. search needs) feed-top-requires-2 feed-top-requires-3 returns (λ c. search needs) (λ c.
+    search needs) returns-2 (λ c. search needs) (λ c. search needs) returns-3)

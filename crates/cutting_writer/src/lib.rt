@@ -1,0 +1,7 @@
+// The corners of a piece as they come, written into the lent slices.
+pub mod end;
+pub mod ring;
+pub mod site;
+pub mod sites;
+pub mod stream;
+pub mod turn;

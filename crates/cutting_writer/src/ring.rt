@@ -1,0 +1,116 @@
+// The ring of a site. Where it is bounded and lies wholly in the box no side cuts it, and its circumcenters go straight to the pen; any other goes through the four sides.
+use crate::site::cut_by_sides;
+use crate::site::on_hull;
+use crate::site::turn_from;
+use base::numbers::wide;
+use cutting::border::entry_at;
+use cutting::meet::site_at;
+use cutting::pen::Pen;
+use cutting::pen::ink_numbered;
+use mesh::next_halfedge;
+use plane::boxes::BoundingBox;
+use plane::sides::is_inside;
+ghost use mathlib.Core.Path.{_≡_};
+ghost use mathlib.Core.Bool.{true};
+ghost use Prim.Native.Nat.{_*_, _/_, _≤_, _<_};
+ghost use lib.ListN.{length};
+ghost use Rattle.base.specs.numbers.Numbers.{EMPTY};
+ghost use Rattle.plane.specs.points.Flat.{pointAt};
+ghost use Rattle.plane.specs.sides.Sides.{insideOf};
+ghost use Rattle.mesh.specs.Mesh.{wholeOf};
+ghost use Rattle.cutting.specs.cuts.Stream.{feedAll};
+ghost use Rattle.cutting.specs.pen.Pen.{page};
+ghost use Rattle.cutting.specs.pen.Room.{Ready};
+ghost use Rattle.cutting_writer.specs.stream.Stages.{inkAt, cutFour};
+ghost use Rattle.cutting_writer.specs.site.Ring.{siteRing};
+ghost use Rattle.cutting_writer.specs.ring.Inside.{RingInside, outOn};
+
+// Whether the circumcenter of the triangle of half-edge e is in the box.
+fn center_inside(b: BoundingBox, centers: &[f64], e: u32) -> bool
+    ensures { λ r. ⌜ r ≡ insideOf b (pointAt (now (centers .entry)) (e / 3)) ⌝ }
+{
+    is_inside(b, site_at(centers, e / 3))
+}
+
+// Yes only where the walk from t comes back to t and each of its circumcenters is in the box.
+fn lies_inside(b: BoundingBox, halfedges: &[u32], centers: &[f64], t: u32) -> bool
+    requires { ⌜ length (now halfedges) < EMPTY ⌝ }
+    ensures { λ r. ⌜ (r ≡ true → RingInside b (now (halfedges .entry)) (now (centers .entry)) t) ⌝ }
+{
+    if halfedges.len() <= wide(t) {
+        return false;
+    }
+    if on_hull(halfedges, wide(t)) {
+        return false;
+    }
+    let mut e = t;
+    let mut left = halfedges.len();
+    while left > 0 {
+        if !center_inside(b, centers, e) {
+            return false;
+        }
+        let a = entry_at(halfedges, next_halfedge(wide(e)));
+        if a == t {
+            return true;
+        }
+        if halfedges.len() <= wide(a) {
+            return false;
+        }
+        e = a;
+        left -= 1;
+    }
+    false
+}
+
+// The circumcenters of the whole walk from t, as the pen takes them.
+fn ink_walk(halfedges: &[u32], centers: &[f64], t: u32, start: Pen, indexes: &mut [u32]) -> Pen
+    requires { ⌜ feedAll outOn (page start (now centers) (now indexes)) (wholeOf (now halfedges) t) .pen .at ≤ length (now indexes) ⌝ }
+    ensures { λ r. ⌜ page r (now (centers .entry)) (now (indexes .exit)) ≡ feedAll outOn (page start (now (centers .entry)) (now (indexes .entry))) (wholeOf (now (halfedges .entry)) t) ⌝ }
+{
+    let mut pen = start;
+    let mut e = t;
+    let mut left = halfedges.len();
+    while left > 0 {
+        if halfedges.len() <= wide(e) {
+            return pen;
+        }
+        let q = e / 3;
+        pen = ink_numbered(pen, site_at(centers, q), q, indexes);
+        e = turn_from(halfedges, t, e);
+        left -= 1;
+    }
+    pen
+}
+
+// The ring of the site whose walk begins at t, cut and written.
+pub fn cut_ring(
+    b: BoundingBox,
+    sites: &[f64],
+    triangles: &[u32],
+    halfedges: &[u32],
+    centers: usize,
+    t: u32,
+    pen: Pen,
+    vertices: &mut [f64],
+    indexes: &mut [u32],
+) -> Pen
+    requires { ⌜ (length (now halfedges) ≤ 3 * centers) × (length (now halfedges) < EMPTY) × Ready centers (page pen (now vertices) (now indexes))
+        (feedAll (inkAt b centers) (page pen (now vertices) (now indexes)) (cutFour b (now sites) (siteRing (now sites) (now triangles) (now halfedges) (now vertices) t))) ⌝ }
+    ensures { λ r. ⌜ page r (now (vertices .exit)) (now (indexes .exit)) ≡ feedAll (inkAt b centers) (page pen (now (vertices .entry)) (now (indexes .entry)))
+        (cutFour b (now (sites .entry)) (siteRing (now (sites .entry)) (now (triangles .entry)) (now (halfedges .entry)) (now (vertices .entry)) t)) ⌝ }
+{
+    if lies_inside(b, halfedges, vertices, t) {
+        return ink_walk(halfedges, vertices, t, pen, indexes);
+    }
+    cut_by_sides(
+        b,
+        sites,
+        triangles,
+        halfedges,
+        centers,
+        t,
+        pen,
+        vertices,
+        indexes,
+    )
+}

@@ -1,0 +1,34 @@
+-- The entries are those of the work slice as it was; they are stored in the table, then in the work slice.
+use borrow.Author.Needs.{needs}
+use Rattle.flipping.specs.stores.laws.Changes.{retabled}
+use Rattle.flipping.proofs.stores.flip_tables.Statement.{statement}
+use Rattle.flipping.proofs.stores.flip_tables.Tie as tie
+
+entries-requires : tie.Need-entries-requires
+entries-requires c κs = rw (c .before .corners .ensures) (c .before .before .before .before .before .before .pre .tabled)
+
+put-requires : tie.Need-put-requires
+put-requires c κs = rw (c .before .before .before .corners .ensures) (c .before .before .before .before .before .before .before .before .pre .places)
+
+put-requires-2 : tie.Need-put-requires-2
+put-requires-2 c κs =
+    rw (c .before .before .before .before .before .before .before .corners .ensures)
+    (c .before .before .before .before .before .before .before .before .before .before .before .before .pre .tabled .places)
+
+returns : tie.Need-returns
+returns c =
+    let at-entries = c .before .before .before .before .before .before .before .before in
+    let at-corners = at-entries .before .before in
+    let s = at-corners .before .before .before .before .before in
+    let t = s .args in (
+      retabled (t .triangles .now) (t .halfedges .now) (t .work .now) (t .table .now) _ (t .a) (t .b) (t .r) (t .l) _ _ (at-corners .corners .ensures)
+          (at-entries .entries .ensures) (c .before .before .before .before .before .before .put .ensures),
+      retabled (t .triangles .now) (t .halfedges .now) (t .work .now) (t .work .now) _ (t .a) (t .b) (t .r) (t .l) _ _ (at-corners .corners .ensures)
+          (at-entries .entries .ensures) (c .before .before .put2 .ensures),
+    )
+
+pub flip-tables-spec : {M : Type 1} → statement M
+flip-tables-spec =
+    tie.close
+    (tie.spec (λ c κs. search needs) (λ c. search needs) (λ c. search needs) (λ c. search needs) (λ c. search needs)
+    entries-requires put-requires put-requires-2 (λ c. search needs) (λ c. search needs) returns)

@@ -1,7 +1,0 @@
--- `line_crossings::side_hit`: the crossing's coordinate and its tests are the definition's.
-use Rattle.line_crossings.specs.laws.Calls.{side-calls}
-use Rattle.line_crossings.proofs.side_hit.Statement.{statement}
-use Rattle.line_crossings.proofs.side_hit.Tie as tie
-
-pub side-hit-spec : {M : Type 1} → statement M
-side-hit-spec = tie.close (tie.spec (λ c κs. tt) (λ c κs. tt) (λ c. side-calls _ _ _ _ _ (c .before .before .before .magnitude .ensures) (c .one-if .ensures)))

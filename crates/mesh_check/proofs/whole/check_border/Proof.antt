@@ -1,0 +1,45 @@
+-- Rule 10 is tried where rule 9 answered 0; the three answers are the laws of the two rules together.
+use native.Mathlib.Nat.{lt-of-lt-of-le}
+use borrow.Author.Needs.{needs}
+use Rattle.mesh_check.specs.whole.laws.Steps.{named, paired, border-hull, border-fan, border-whole}
+use Rattle.mesh_check.proofs.whole.check_border.Statement.{statement}
+use Rattle.mesh_check.proofs.whole.check_border.Tie as tie
+
+check-hull-requires : tie.Need-check-hull-requires
+check-hull-requires c κs =
+    let s = c .before .before .before .before .before in
+    (s .pre .0, s .pre .1, s .pre .4, s .pre .3, λ k l. lt-of-lt-of-le (named _ _ _ (s .pre .0) (s .pre .5) (s .pre .6) k l) (s .pre .4))
+
+returns : tie.Need-returns
+returns c = border-hull _ _ _ _ _ _ _ (c .before .before .before .before .check-hull .ensures .0) (c .before .number .ensures) _ (c .if1 .taken)
+
+check-fan-requires : tie.Need-check-fan-requires
+check-fan-requires c κs =
+    let at-check-hull = c .before .before .before .before .before in
+    let s = c .before .before .before .before .before .before .before .before .before .before .before in (
+      s .pre .1,
+      paired _ _ (s .pre .0) (s .pre .1) (s .pre .2) (s .pre .6),
+      rw (at-check-hull .check-hull .kept .1 .1 .1 .1 .0) (s .pre .4),
+      named _ _ _ (s .pre .0) (s .pre .5) (s .pre .6),
+    )
+
+returns-2 : tie.Need-returns-2
+returns-2 c =
+    let at-if1 = c .before .before .before .before .before in
+    let at-number = at-if1 .before in
+    let at-check-hull = at-number .before .before .before in
+    border-fan _ _ _ _ _ _ _ (at-check-hull .check-hull .ensures .0) (at-number .number .ensures) (at-if1 .if1 .left) _ _ _ (c .before .before .before .check-fan .ensures) (c .if2 .taken)
+
+returns-3 : tie.Need-returns-3
+returns-3 c =
+    let at-if1 = c .before .before .before .before .before in
+    let at-number = at-if1 .before in
+    let at-check-hull = at-number .before .before .before in
+    border-whole _ _ _ _ _ _ _ (at-check-hull .check-hull .ensures .0) (at-number .number .ensures) (at-if1 .if1 .left) _ _ _
+    (c .before .before .before .check-fan .ensures) (c .if2 .left) (at-check-hull .check-hull .kept .1 .1 .1 .1 .0)
+
+pub check-border-spec : {M : Type 1} → statement M
+check-border-spec =
+    tie.close
+    (tie.spec check-hull-requires (λ c κs. search needs) (λ c. search needs) returns check-fan-requires
+    (λ c. search needs) returns-2 (λ c. search needs) returns-3)

@@ -1,0 +1,3 @@
+pub mod border
+pub mod fan
+pub mod whole

@@ -1,0 +1,120 @@
+-- In a box: refused with its reason, or what was asked is answered over the slices.
+use mathlib.Core.Path.{sym, ap, _∙_}
+use lib.Seq.{length-take-le}
+use native.Mathlib.Omega.{arith}
+use denote.Ref.{now}
+use borrow.Author.Needs.{needs}
+use Rattle.mesh.specs.Accepted.{siteCount}
+use Rattle.build_laws.specs.laws.CellCount.{cell-count}
+use Rattle.build_laws.specs.LateRefusals.{build-late}
+use Rattle.reasons.specs.declared.ReasonNumbers.{ReasonNumbers}
+use Rattle.reasons.specs.explaining.laws.Asked.{own-in-box, asked-keep, question-below}
+use Rattle.reasons.specs.explaining.laws.Why.{why-refused, why-settled, settled-work, settled-offsets, settled-asks, settled-below, why-answered}
+use Rattle.reasons.proofs.explaining.why.Statement.{statement}
+use Rattle.reasons.proofs.explaining.why.Tie as tie
+
+abbrev Built : tie.After-slice-known10 → tie.After-build-in-box
+Built c = c .before .before .before .before .before .before .before .before .before .before
+
+abbrev Ask : tie.After-build-in-box → tie.After-ask-in-box
+Ask c = c .before .before .before .before .before .before
+
+abbrev Begin : tie.After-build-in-box → tie.Start
+Begin c = Ask c .before .before .before .before .before .before .before .before .before .before
+
+build-in-box-requires : tie.Need-build-in-box-requires
+build-in-box-requires c κs =
+    let at = c .before .before .before .before .before in
+    let start = at .before .before .before .before .before .before .before .before .before .before in
+    let a = start .args in
+    let k = at .ask-in-box .ensures in
+    (k .small, λ z. asked-keep (own-in-box _ (siteCount (now (a .sites))) (a .q)) k z .0, start .pre)
+
+returns : tie.Need-returns
+returns c =
+    let at = c .before .before in
+    let b = Built (at .before) in
+    let a = Begin b .args in
+    why-refused _ (own-in-box _ (siteCount (now (a .sites))) (a .q)) (Ask b .ask-in-box .ensures) _ _ (b .build-in-box .ensures)
+    (λ z. c .if1 .taken (ap (λ (t : ReasonNumbers). t .number) (at .tell .ensures) ∙ z))
+
+add-end : tie.Need-add-end
+add-end c =
+    let e = c in
+    let at = e .before .before in
+    let b = Built (at .before) in
+    let a = Begin b .args in
+    let z = sym (ap (λ (t : ReasonNumbers). t .number) (at .tell .ensures)) ∙ e .if1 .left in
+    let s = why-settled _ (own-in-box _ (siteCount (now (a .sites))) (a .q)) (Ask b .ask-in-box .ensures) (build-late _ _) _ (b .build-in-box .ensures) z in
+    record { fits = omega (arith, s .mesh .counts .few-sites) }
+
+slice-reshare-prefix-answer : tie.Need-slice-reshare-prefix-answer
+slice-reshare-prefix-answer c =
+    let e = c in
+    let at = e .before .before in
+    let b = Built (at .before) in
+    let a = Begin b .args in
+    let z = sym (ap (λ (t : ReasonNumbers). t .number) (at .tell .ensures)) ∙ e .if1 .left in
+    let s = why-settled _ (own-in-box _ (siteCount (now (a .sites))) (a .q)) (Ask b .ask-in-box .ensures) (build-late _ _) _ (b .build-in-box .ensures) z in
+    settled-work s (cell-count _ _)
+
+slice-aggregate-answer : tie.Need-slice-aggregate-answer
+slice-aggregate-answer c =
+    let e = c .before in
+    let at = e .before .before in
+    let b = Built (at .before) in
+    let a = Begin b .args in
+    let z = sym (ap (λ (t : ReasonNumbers). t .number) (at .tell .ensures)) ∙ e .if1 .left in
+    let s = why-settled _ (own-in-box _ (siteCount (now (a .sites))) (a .q)) (Ask b .ask-in-box .ensures) (build-late _ _) _ (b .build-in-box .ensures) z in
+    sym (length-take-le _ _ (settled-work s (cell-count _ _)))
+
+slice-reshare-prefix-answer-2 : tie.Need-slice-reshare-prefix-answer-2
+slice-reshare-prefix-answer-2 c =
+    let e = c .before in
+    let at = e .before .before in
+    let b = Built (at .before) in
+    let a = Begin b .args in
+    let z = sym (ap (λ (t : ReasonNumbers). t .number) (at .tell .ensures)) ∙ e .if1 .left in
+    let s = why-settled _ (own-in-box _ (siteCount (now (a .sites))) (a .q)) (Ask b .ask-in-box .ensures) (build-late _ _) _ (b .build-in-box .ensures) z in
+    settled-offsets s (cell-count _ _)
+
+slice-aggregate-answer-2 : tie.Need-slice-aggregate-answer-2
+slice-aggregate-answer-2 c =
+    let e = c .before .before in
+    let at = e .before .before in
+    let b = Built (at .before) in
+    let a = Begin b .args in
+    let z = sym (ap (λ (t : ReasonNumbers). t .number) (at .tell .ensures)) ∙ e .if1 .left in
+    let s = why-settled _ (own-in-box _ (siteCount (now (a .sites))) (a .q)) (Ask b .ask-in-box .ensures) (build-late _ _) _ (b .build-in-box .ensures) z in
+    sym (length-take-le _ _ (settled-offsets s (cell-count _ _)))
+
+answer-requires : tie.Need-answer-requires
+answer-requires c κs =
+    let e = c .before .before .before in
+    let at = e .before .before in
+    let b = Built (at .before) in
+    let a = Begin b .args in
+    let z = sym (ap (λ (t : ReasonNumbers). t .number) (at .tell .ensures)) ∙ e .if1 .left in
+    let s = why-settled _ (own-in-box _ (siteCount (now (a .sites))) (a .q)) (Ask b .ask-in-box .ensures) (build-late _ _) _ (b .build-in-box .ensures) z in
+    let q = question-below (siteCount (now (a .sites))) (a .q) (s .kept .1) in (
+      settled-asks s (cell-count _ _),
+      settled-below s (cell-count _ _) (a .q) q,
+    )
+
+returns-2 : tie.Need-returns-2
+returns-2 c =
+    let e = c .before .before .before .before in
+    let at = e .before .before in
+    let b = Built (at .before) in
+    let a = Begin b .args in
+    let z = sym (ap (λ (t : ReasonNumbers). t .number) (at .tell .ensures)) ∙ e .if1 .left in
+    let s = why-settled _ (own-in-box _ (siteCount (now (a .sites))) (a .q)) (Ask b .ask-in-box .ensures) (build-late _ _) _ (b .build-in-box .ensures) z in
+    why-answered s (cell-count _ _) _ (c .answer .ensures)
+
+pub why-spec : {M : Type 1} → statement M
+why-spec =
+    tie.close
+    (tie.spec (λ c κs. search needs) build-in-box-requires (λ c κs. search needs) (λ c. search needs) (λ c. search needs)
+    (λ c. search needs) (λ c. search needs) (λ c. search needs) returns add-end slice-reshare-prefix-answer
+    slice-aggregate-answer slice-reshare-prefix-answer-2 slice-aggregate-answer-2 answer-requires (λ c. search needs)
+    (λ c. search needs) (λ c. search needs) (λ c. search needs) (λ c. search needs) returns-2)

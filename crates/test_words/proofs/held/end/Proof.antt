@@ -1,9 +1,0 @@
--- `test_words::held::end` meets its contract.
-use borrow.Author.Needs.{needs}
-use mathlib.Core.Path.{refl}
-use Rattle.test_words.specs.laws.Held.{after-of}
-use Rattle.test_words.proofs.held.end.Statement.{statement}
-use Rattle.test_words.proofs.held.end.Tie as tie
-
-pub end-spec : {M : Type 1} → statement M
-end-spec = tie.close (tie.spec (λ c κs. search needs) (λ c κs. search needs) (λ c. after-of (c .after .ensures) (c .before .starts .ensures) refl))

@@ -1,7 +1,0 @@
--- `test_words::held::rest` meets its contract.
-use Rattle.test_words.specs.laws.Held.{rest-before, rest-cleared}
-use Rattle.test_words.proofs.held.rest.Statement.{statement}
-use Rattle.test_words.proofs.held.rest.Tie as tie
-
-pub rest-spec : {M : Type 1} → statement M
-rest-spec = tie.close (tie.spec (λ c. rest-before _ (c .if1 .taken)) (λ c. rest-cleared _ (c .if1 .left)))

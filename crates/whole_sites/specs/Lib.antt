@@ -1,4 +1,0 @@
--- The root of the crate's definitions.
-pub mod Whole
-pub mod ReadBack
-pub mod laws

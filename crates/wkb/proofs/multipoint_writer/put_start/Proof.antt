@@ -1,0 +1,14 @@
+-- `wkb::multipoint_writer::put_start` meets its contract: two numbers, one after the other.
+use Rattle.octets.specs.laws.Wrote.{wrote-then}
+use borrow.Author.Needs.{needs}
+use Rattle.wkb.proofs.multipoint_writer.put_start.Statement.{statement}
+use Rattle.wkb.proofs.multipoint_writer.put_start.Tie as tie
+
+returns : tie.Need-returns
+returns c =
+    let at-put-le2 = c .before .before in
+    let at-put-le = at-put-le2 .before .before .before .before in
+    wrote-then (at-put-le .put-le .ensures) (at-put-le2 .put-le2 .ensures)
+
+pub put-start-spec : {M : Type 1} → statement M
+put-start-spec = tie.close (tie.spec (λ c κs. search needs) (λ c κs. search needs) (λ c. search needs) returns)

@@ -1,6 +1,0 @@
-#!/bin/sh
-# Mending a mesh through the C interface (tests/mend.c): tests/mend.sh [COUNT [SEED]].
-. "$(dirname "$0")/head.sh"
-program=target/tests/mend
-sh tests/archive.sh build "$program" tests/mend.c
-exec sh tests/archive.sh run "$program" "${1:-20000}" ${2+"$2"}

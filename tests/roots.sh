@@ -1,6 +1,0 @@
-#!/bin/sh
-# The archive's roots against the processor's: tests/roots.sh [COUNT [SEED]]. The full comparison is `tests/roots.sh 20,000,000`.
-. "$(dirname "$0")/head.sh"
-program=target/tests/roots
-sh tests/archive.sh build "$program" tests/roots.c
-exec sh tests/archive.sh run "$program" "${1:-1000000}" ${2+"$2"}
