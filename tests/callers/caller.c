@@ -1,5 +1,6 @@
 /* A caller in C, for its time beside Python's on the same gauges (bindings/python/tests/times.py): the mesh, the pieces by cutting, their areas, their polygons, with memory
- * of its own each time. Reads the count, the box and the gauges as binary numbers from standard input; prints the processor time of each round in milliseconds, and the total. */
+ * of its own each time. Reads the count, the box and the gauges as binary numbers from standard input, then a byte for each round: prints its processor time in milliseconds and
+ * the total, before it reads the next, so that rounds of both can be had in turn. */
 #define _POSIX_C_SOURCE 199309L
 #include <stdio.h>
 #include <stdlib.h>
@@ -52,22 +53,21 @@ static double map(const double *box, const double *gauges, size_t n, uint32_t *r
 
 int main(void)
 {
-    uint64_t n, rounds;
-    double box[4], total = 0;
-    if (fread(&n, sizeof n, 1, stdin) != 1 || fread(&rounds, sizeof rounds, 1, stdin) != 1 || fread(box, sizeof box, 1, stdin) != 1)
+    uint64_t n;
+    double box[4];
+    if (fread(&n, sizeof n, 1, stdin) != 1 || fread(box, sizeof box, 1, stdin) != 1)
         return 2;
     double *gauges = (double *)room(sizeof *gauges * 2 * n);
     if (fread(gauges, sizeof *gauges, 2 * n, stdin) != 2 * n)
         return 2;
-    for (uint64_t k = 0; k < rounds; k++) {
+    while (getchar() != EOF) {
         uint32_t refused;
-        const double began = milliseconds();
-        total = map(box, gauges, n, &refused);
-        printf("%.3f\n", milliseconds() - began);
+        const double began = milliseconds(), total = map(box, gauges, n, &refused), taken = milliseconds() - began;
         if (refused)
             return 1;
+        printf("%.3f %.17g\n", taken, total);
+        fflush(stdout);
     }
-    printf("%.17g\n", total);
     free(gauges);
     return 0;
 }

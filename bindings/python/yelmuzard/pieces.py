@@ -60,10 +60,9 @@ def edges_of(box: Any) -> Box:
 
 def built(box: Box, mesh: Mesh) -> Made:
     t, h, n = len(mesh.triangles), len(mesh.hull), len(mesh.sites)
-    vertices = numpy.empty(rooms.vertex_numbers(t, h))
-    indexes = numpy.empty(rooms.index_room(t, h), numpy.uint32)
+    vertices, indexes, work = block(rooms.vertex_numbers(t, h), rooms.index_room(t, h), n)
     offsets, counts = numpy.empty(n + 1, numpy.uint32), numpy.empty(rooms.COUNTS, numpy.uint32)
-    number, = library().call("voronoi_build_by_edges", *box, *mesh.lists(), numpy.empty(n, numpy.uint32), vertices, indexes, offsets, counts)
+    number, = library().call("voronoi_build_by_edges", *box, *mesh.lists(), work, vertices, indexes, offsets, counts)
     if number:
         raise Refusal(number, reasons.why(mesh, box).place)
     return (*trimmed(vertices, indexes, offsets, int(counts[rooms.COUNT_VERTICES])), counts)
@@ -71,14 +70,21 @@ def built(box: Box, mesh: Mesh) -> Made:
 
 def cut(box: Box, mesh: Mesh) -> Made:
     t, h, n = len(mesh.triangles), len(mesh.hull), len(mesh.sites)
-    vertices = numpy.empty(rooms.cut_vertex_numbers(t, h))
-    indexes = numpy.empty(rooms.cut_index_room(t, h), numpy.uint32)
+    vertices, indexes, work = block(rooms.cut_vertex_numbers(t, h), rooms.cut_index_room(t, h), n)
     offsets = numpy.empty(n + 1, numpy.uint32)
-    number, count = library().call("voronoi_cut_by_edges", *box, *mesh.lists(), numpy.empty(n, numpy.uint32), vertices, indexes, offsets)
+    number, count = library().call("voronoi_cut_by_edges", *box, *mesh.lists(), work, vertices, indexes, offsets)
     if number:
         # `why` knows the build's rules; those of the mesh itself, 6 to 11, are the same
         raise Refusal(number, reasons.why(mesh, box).place if 6 <= number <= 11 else None)
     return (*trimmed(vertices, indexes, offsets, count), None)
+
+
+def block(vertex_numbers: int, index_room: int, sites: int) -> tuple[numpy.ndarray, numpy.ndarray, numpy.ndarray]:
+    """The rooms of vertices, indexes and work side by side in one block of memory, as include/voronoi_pieces.h has them. The C library's malloc gives back to the system what
+    is free beyond twice the largest block that it had: with a block for each room it did so at every call, and 3,500 new pages were a tenth of the time at 65,472 gauges."""
+    numbers, entries = 2 * vertex_numbers, 2 * vertex_numbers + index_room
+    words = numpy.empty(entries + sites, numpy.uint32)
+    return words[:numbers].view(numpy.float64), words[numbers:entries], words[entries:]
 
 
 def trimmed(vertices: numpy.ndarray, indexes: numpy.ndarray, offsets: numpy.ndarray, count: int) -> tuple[numpy.ndarray, numpy.ndarray, numpy.ndarray]:
