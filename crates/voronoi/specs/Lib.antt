@@ -29,6 +29,7 @@ pub mod Nearest
 pub mod TrueReason
 pub mod SignedAreas
 pub mod Certified
+pub mod WholePieces
 pub mod Demands
 pub mod Restart
 pub mod Singles

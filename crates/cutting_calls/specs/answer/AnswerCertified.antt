@@ -22,7 +22,6 @@ use Rattle.plane.specs.sides.Sides.{insideOf}
 use Rattle.plane.specs.boxes.Box.{cornersOf}
 use Rattle.plane.specs.declared.boxes.BoundingBox.{BoundingBox}
 use Rattle.plane.specs.declared.given.Given.{Given}
-use Rattle.plane.specs.given.Given.{bySize, byEdges}
 use Rattle.mesh.specs.Accepted.{Mesh, siteCount}
 use Rattle.walks.specs.shared.Cells.{cellOf}
 use Rattle.auditing.specs.corners.Outside.{outsideAt, cellOutside, siteOutside}
@@ -51,7 +50,6 @@ use Rattle.certifying.specs.truth.laws.Flat.{flat-sum}
 use Rattle.cutting_calls.specs.cut_admission.CutSlices.{CutSlices}
 use Rattle.cutting_calls.specs.call.Promise.{CutAnswer}
 use Rattle.cutting_calls.specs.call.Steps.{InOrder}
-use Rattle.cutting_calls.specs.call.laws.Order.{size-ordered, edges-ordered}
 use Rattle.cutting_calls.specs.answer.AnswerWhole as answered
 use Rattle.cutting_calls.specs.answer.laws.Counting.{netCount, cells-sum}
 use Rattle.cutting_calls.specs.answer.laws.Corner.{leavesBy, cornerForm, box-once}
@@ -253,17 +251,3 @@ module _ (m : Mesh) (g : Given) (order : InOrder g) (old new : CutSlices) (count
   pub cut-kinds : (bits : ℕ) → (certifyKind (certifyOn b bits (m .sites) v pieceOffsets ix) ≡ 0) ⊎ (certifyKind (certifyOn b bits (m .sites) v pieceOffsets ix) ≡ 4)
       ⊎ (certifyKind (certifyOn b bits (m .sites) v pieceOffsets ix) ≡ 5)
   cut-kinds bits = rw (cut-certificate bits) (near-kinds (certifyFar b bits))
-
--- ---- of the two calls: at every place of the box the windings of all pieces add up to 1. (X, Y) is a place of the box, in units of 2 ^ -1074 / c; its left and its top edge are of it
-pub record CutCovers (b : BoundingBox) (m : Mesh) (new : CutSlices) (c X Y : ℕ) : Type 0 where
-  pub once : edgePlace c (b .left) ≤ X → X < edgePlace c (b .right) → edgePlace c (b .top) ≤ Y → Y < edgePlace c (b .bottom)
-      → sumAll (comesUp X Y) (allPieces c (new .vertices) (take (siteCount (m .sites) + 1) (new .offsets)) (new .indexes))
-      ≡ sumAll (λ p q. comesUp X Y q p) (allPieces c (new .vertices) (take (siteCount (m .sites) + 1) (new .offsets)) (new .indexes)) + 1
-
-pub cut-covered-by-size : (m : Mesh) (p : Point) (w h : Float) {old new : CutSlices} {count : ℕ} → CutAnswer m (bySize p w h) old new 0 count → (c X Y : ℕ)
-    → CutCovers (bySize p w h .bounds) m new c X Y
-cut-covered-by-size m p w h a c X Y = record { once = cut-covered m (bySize p w h) (size-ordered p w h) _ _ _ a c X Y }
-
-pub cut-covered-by-edges : (m : Mesh) (l t r b : Float) {old new : CutSlices} {count : ℕ} → CutAnswer m (byEdges l t r b) old new 0 count → (c X Y : ℕ)
-    → CutCovers (byEdges l t r b .bounds) m new c X Y
-cut-covered-by-edges m l t r b a c X Y = record { once = cut-covered m (byEdges l t r b) (edges-ordered l t r b) _ _ _ a c X Y }

@@ -1,6 +1,6 @@
 -- Theorem: where the cutting answers 0, the exact areas of the pieces in its slices add up to exactly the box's (`whole`), and every vertex that a piece names is in the box by exact
--- comparison (`inside`): on its promise alone, whatever the mesh. Of the two calls: `cut-whole-by-size`, `cut-whole-by-edges`. Any form of sides adds up to what it is round the box
--- (`forms`), and the offsets cut the entries into cells (`cells`).
+-- comparison (`inside`): on its promise alone, whatever the mesh. Any form of sides adds up to what it is round the box (`forms`), and the offsets cut the
+-- entries into cells (`cells`).
 use mathlib.Core.Path.{_≡_, refl, sym, _∙_}
 use mathlib.Core.Bool.{Bool, true, false}
 use mathlib.Core.List.{List, [], _∷_, _++_, map}
@@ -21,7 +21,6 @@ use Rattle.ring_area.specs.Steps.{gainsOf, lossesOf}
 use Rattle.plane.specs.boxes.Box.{cornersOf}
 use Rattle.plane.specs.declared.boxes.BoundingBox.{BoundingBox}
 use Rattle.plane.specs.declared.given.Given.{Given}
-use Rattle.plane.specs.given.Given.{bySize, byEdges}
 use Rattle.mesh.specs.Rules.{callRules}
 use Rattle.mesh.specs.Accepted.{Mesh, tableOf, siteCount}
 use Rattle.mesh.specs.laws.Facts.{topology, tab-length}
@@ -51,7 +50,6 @@ use Rattle.cutting_laws.specs.fills.SlicesWhole.{few-vertices, slices-offsets, 
 use Rattle.cutting_laws.specs.fit.laws.Room.{roomy-start}
 use Rattle.cutting_calls.specs.call.Promise.{centersOf, numberBy, sheetBy, cutNumber, cutOf, CutAnswer}
 use Rattle.cutting_calls.specs.call.Steps.{InOrder}
-use Rattle.cutting_calls.specs.call.laws.Order.{size-ordered, edges-ordered}
 
 -- the places of each cell's entries, in the slices at exit
 abbrev pub piecesIn : Mesh → CutSlices → List (List Point)
@@ -181,10 +179,3 @@ module _ (m : Mesh) (g : Given) (order : InOrder g) (old new : CutSlices) (count
 
   pub cells : Cells (take (siteCount (m .sites) + 1) (new .offsets)) (length (new .indexes))
   cells = stands .cut
-
--- ---- of the two calls: a box by its center and size or by its edges is in order where rule 3 holds
-pub cut-whole-by-size : (m : Mesh) (c : Point) (w h : Float) {old new : CutSlices} {count : ℕ} → CutAnswer m (bySize c w h) old new 0 count → FillsBox (bySize c w h .bounds) (piecesIn m new)
-cut-whole-by-size m c w h a = whole m (bySize c w h) (size-ordered c w h) _ _ _ a
-
-pub cut-whole-by-edges : (m : Mesh) (l t r b : Float) {old new : CutSlices} {count : ℕ} → CutAnswer m (byEdges l t r b) old new 0 count → FillsBox (byEdges l t r b .bounds) (piecesIn m new)
-cut-whole-by-edges m l t r b a = whole m (byEdges l t r b) (edges-ordered l t r b) _ _ _ a
