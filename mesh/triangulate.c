@@ -1,6 +1,6 @@
 /* The Delaunay mesh of gauges and ghosts: see triangulate.h.
  *
- * The gauges are put in one by one, in the order of a Hilbert curve, so that each is near the one before. A walk from the last triangle finds the one that it stands
+ * The gauges are put in one by one, in rounds along a Hilbert curve, so that each is near the one before. A walk from the last triangle finds the one that it stands
  * in; that is split, and edges about the new gauge are flipped until the circles are empty. All that decides is the sign of two determinants, and both signs are
  * exact: by floats where the bound of their error leaves no doubt, else by whole numbers of 128 bits, else by sums of floats (Shewchuk, Adaptive
  * precision floating-point arithmetic and fast robust geometric predicates, 1997). So the mesh is Delaunay after each gauge, and then every such walk ends.
@@ -511,15 +511,32 @@ static uint32_t add(mesh *m, uint32_t gauge, uint32_t *where, patience *p, uint3
     return number;
 }
 
-static uint32_t add_all(mesh *m, size_t count, const uint32_t *order, uint32_t *hull, patience *p, uint32_t *first, uint32_t *second)
+enum { EIGHT = 8 }; /* on trial with 2, 4, 8 and 16 */
+
+/* Every gauge whose place along the curve is a multiple of `stride`, in that order; then, of an eighth of it, those that are not in yet; and so on to 1. */
+static uint32_t add_by(size_t stride, mesh *m, size_t count, const uint32_t *order, uint32_t *hull, patience *p, uint32_t *first, uint32_t *second)
 {
     uint32_t where = 0, number = TRIANGULATE_DONE;
     begin(m, order[0], (uint32_t)count, hull);
-    for (size_t i = 1; i < count && !number; i++) {
-        p->gauges++;
-        number = stopped(p) ? TRIANGULATE_STOPPED : add(m, order[i], &where, p, first, second);
-    }
+    for (size_t before = count; stride && !number; before = stride, stride /= EIGHT)
+        for (size_t i = stride; i < count && !number; i += stride)
+            if (i % before) {
+                p->gauges++;
+                number = stopped(p) ? TRIANGULATE_STOPPED : add(m, order[i], &where, p, first, second);
+            }
     return number;
+}
+
+/* All gauges, in rounds, each along the curve and of eight times as many as the round before (Amenta, Choi and Rote, Incremental constructions con BRIO, 2003). Then a
+ * gauge is put among others on all sides, where along the curve alone it is put at the edge of those that are there, beside triangles that reach to the ghosts: 9 circles
+ * are asked for each and not 12. Of gauges at one place those are named that are the first along the curve. */
+static uint32_t add_all(mesh *m, size_t count, const uint32_t *order, uint32_t *hull, patience *p, uint32_t *first, uint32_t *second)
+{
+    size_t stride = 1;
+    while (EIGHT * stride < count)
+        stride *= EIGHT;
+    uint32_t number = add_by(stride, m, count, order, hull, p, first, second);
+    return number == TRIANGULATE_TWIN ? add_by(1, m, count, order, hull, p, first, second) : number;
 }
 
 /* Each triangle turned so that its first site is a gauge. A circumcenter is computed from the first site: from a ghost, far off, it would be off by that distance's last bits. */

@@ -55,7 +55,7 @@ uint32_t triangulate_gauges(const double *frame, double *sites, size_t sites_len
                             uint32_t *halfedges, size_t halfedges_len, uint32_t *hull, size_t hull_len, uint32_t *work, size_t work_len,
                             int (*stop)(void *), void *with, uint32_t *first, uint32_t *second);
 
-/* The same, and the gauges are moved to the order in which they are put in, that of a Hilbert curve: what is near in the plane is then near in memory, for whoever works on
+/* The same, and the gauges are moved to the order of a Hilbert curve, which they are put in along: what is near in the plane is then near in memory, for whoever works on
  * the mesh or on the pieces. was[i] is the number that gauge i had: was_len is N, or `was` is NULL, and then no gauge is moved. *first and *second are the numbers that
  * the gauges have at the end: after 6 those that they had. After 105 to 107 they are moved and `was` is written; after 1 to 6 all is as it was. */
 uint32_t triangulate_in_order(const double *frame, double *sites, size_t sites_len, uint32_t *triangles, size_t triangles_len,

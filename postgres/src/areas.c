@@ -13,7 +13,10 @@ SQL_FUNCTION(yelmuzard_areas)
 
 static Datum as_bytes(const uint8 *image, size_t length, void *with)
 {
-    return PointerGetDatum(bytes_of(image, length));
+    struct varlena *bytes = grown(with, VARHDRSZ + length);
+
+    memcpy(VARDATA(bytes), image, length);
+    return PointerGetDatum(bytes);
 }
 
 /* What a row shows of a gauge. */
@@ -24,10 +27,10 @@ typedef struct {
 } Shown;
 
 /* Of each gauge, in the order of the list; made in the order of the sites, which is that of memory. */
-static Shown *shown_of(const Survey *p)
+static Shown *shown_of(Survey *p)
 {
-    Shown *shown = palloc(sizeof(Shown) * p->n);
     Images images = all_images(p);
+    Shown *shown = palloc(sizeof(Shown) * p->n);
 
     for (size_t i = 0; i < p->n; i++) {
         Shown *one = shown + (p->was ? p->was[i] : i);
@@ -39,15 +42,15 @@ static Shown *shown_of(const Survey *p)
     return shown;
 }
 
-enum { GIVEN_BACK = 350 }; /* bytes a gauge: two triangles, each with seven vertices and sixteen indexes */
+enum { LISTS_TAKE = 350 }; /* bytes a gauge: two triangles, each with seven vertices and sixteen indexes */
 
-/* The rows stay in memory where they take no more than the lists that they are made of, which are given back before. */
+/* The rows stay in memory where they take no more than the lists that they are made of. */
 static void keep_rows(ReturnSetInfo *info, size_t n)
 {
     MemoryContext before = MemoryContextSwitchTo(info->econtext->ecxt_per_query_memory);
 
     tuplestore_end(info->setResult);
-    info->setResult = tuplestore_begin_heap((info->allowedModes & SFRM_Materialize_Random) != 0, false, Max(work_mem, (int)(n * GIVEN_BACK / 1024)));
+    info->setResult = tuplestore_begin_heap((info->allowedModes & SFRM_Materialize_Random) != 0, false, Max(work_mem, (int)(n * LISTS_TAKE / 1024)));
     MemoryContextSwitchTo(before);
 }
 
@@ -57,19 +60,21 @@ Datum put_pieces(FunctionCallInfo fcinfo, Survey *p, const Keys *keys, Maker mak
 {
     ReturnSetInfo *info = (ReturnSetInfo *)fcinfo->resultinfo;
     const Shown *shown = shown_of(p);
+    Growing own = {0};
 
-    give_back_pieces(p);
+    if (!make)
+        make = as_bytes, with = &own;
+    give_back(p);
     keep_rows(info, p->n);
     for (size_t i = 0; i < p->n; i++) {
         Datum values[4] = {keys ? keys->key[i] : Int32GetDatum((int32)i + 1), Float8GetDatum(shown[i].area), Float8GetDatum(shown[i].reach),
-                           (make ? make : as_bytes)(shown[i].image, shown[i].length, with)};
+                           make(shown[i].image, shown[i].length, with)};
         bool nulls[4] = {keys && keys->none[i], false, false, false};
 
         if (i + AHEAD < p->n)
             for (size_t k = 0; k < shown[i + AHEAD].length; k += 64)
                 __builtin_prefetch(shown[i + AHEAD].image + k);
         tuplestore_putvalues(info->setResult, info->setDesc, values, nulls);
-        pfree(DatumGetPointer(values[3]));
         if (i % 1024 == 0)
             CHECK_FOR_INTERRUPTS();
     }

@@ -65,7 +65,8 @@ Datum audit_row(FunctionCallInfo fcinfo, const Point *points, size_t n, const BO
         elog(ERROR, "a row is wanted");
     as_many(n, count, "pieces");
     set_frame(&p, frame);
-    set_gauges(&p, points, n);
+    set_gauges(&p, points, n, false);
+    p.was = NULL; /* they stand as in the list */
     sound = make_mesh(&p, &f);
     set_pieces(&p, pieces);
     turn_rings(&p);
@@ -75,7 +76,7 @@ Datum audit_row(FunctionCallInfo fcinfo, const Point *points, size_t n, const BO
     values[0] = BoolGetDatum(sound);
     values[1] = CStringGetTextDatum(fault_words(&f));
     nulls[1] = sound;
-    values[2] = Int32GetDatum((int32)(f.site + 1)); /* they stand as in the list */
+    values[2] = Int32GetDatum((int32)(f.site + 1));
     nulls[2] = f.site == VORONOI_EMPTY;
     values[3] = Int32GetDatum((int32)(f.other + 1));
     nulls[3] = f.other == VORONOI_EMPTY;

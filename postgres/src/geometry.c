@@ -1,5 +1,6 @@
-/* PostGIS's geometries, for the extension yelmuzard_postgis. They go in and out by the binary output and input of their type, which is Well-Known Binary with the reference
- * system in it; how PostGIS keeps them is its own affair, and nothing of it is needed to build or to load this module. */
+/* PostGIS's geometries, for the extension yelmuzard_postgis. They go in and out by the binary output and input of their type, which is Well-Known Binary with the reference system in
+ * it; or, faster, as PostGIS 3 keeps them (kept.c): points where they are kept so, pieces where the type's input makes the same bytes of the first one. No header and no symbol
+ * of PostGIS is needed to build or to load this module. */
 #include "yelmuzard.h"
 
 #include "catalog/pg_type.h"
@@ -64,8 +65,8 @@ static Point place_of(Wkb *w, size_t number)
     return place;
 }
 
-/* The places of a MultiPoint, or of a Point. */
-static Point *places_of(Wkb *w, size_t *n)
+/* The places of a MultiPoint, or of a Point, as it is sent. */
+static Point *places_sent(Wkb *w, size_t *n)
 {
     uint32 count = 1;
     Point *places;
@@ -87,6 +88,41 @@ static Point *places_of(Wkb *w, size_t *n)
     return places;
 }
 
+/* The places of a geometry, which must be of the frame's reference system. */
+static Point *places_of(FmgrInfo *send, Datum geometry, int32 srid, size_t *n)
+{
+    int32 own;
+    Point *places = kept_places((struct varlena *)PG_DETOAST_DATUM_PACKED(geometry), n, &own);
+
+    if (places)
+        same_system(own, srid);
+    else {
+        Wkb w = open_geometry(send, geometry);
+
+        same_system(w.srid, srid);
+        places = places_sent(&w, n);
+    }
+    return places;
+}
+
+/* The place of a Point, which must be of the frame's reference system; `number` is its gauge's in messages, or 0. */
+static Point place_in(FmgrInfo *send, Datum geometry, int32 srid, size_t number)
+{
+    struct varlena *value = (struct varlena *)PG_DETOAST_DATUM_PACKED(geometry);
+    Point place;
+    int32 own;
+
+    if (kept_place(value, &place, &own))
+        same_system(own, srid);
+    else {
+        Wkb w = open_geometry(send, geometry);
+
+        same_system(w.srid, srid);
+        place = place_of(&w, number);
+    }
+    return place;
+}
+
 /* The box that a rectangle along the axes is, its edges to the bit. */
 static BOX box_of(Wkb *w)
 {
@@ -103,8 +139,8 @@ static BOX box_of(Wkb *w)
     return (BOX){.low = {Min(c[0].x, c[2].x), Min(c[0].y, c[2].y)}, .high = {Max(c[0].x, c[2].x), Max(c[0].y, c[2].y)}};
 }
 
-/* The geometries of an array, as they are sent. A NULL is refused, or left empty where `what` is NULL. */
-static Wkb *geometries_of(FunctionCallInfo fcinfo, ArrayType *array, const char *what, size_t *n)
+/* The geometries of an array, as they are sent; empty for a NULL. */
+static Wkb *geometries_of(FunctionCallInfo fcinfo, ArrayType *array, size_t *n)
 {
     bool *none;
     Datum *parts;
@@ -113,9 +149,6 @@ static Wkb *geometries_of(FunctionCallInfo fcinfo, ArrayType *array, const char 
     Wkb *list = palloc0(sizeof(Wkb) * Max(count, 1));
 
     for (size_t i = 0; i < count; i++) {
-        if (none[i] && what)
-            ereport(ERROR, (errcode(ERRCODE_NULL_VALUE_NOT_ALLOWED), errmsg("a NULL among the %s", what), errdetail("It is gauge %zu.", i + 1),
-                            errhint("Leave out what has no place: array_agg(place) FILTER (WHERE place IS NOT NULL).")));
         if (!none[i])
             list[i] = open_geometry(send, parts[i]);
         if (i % 1024 == 0)
@@ -128,13 +161,22 @@ static Wkb *geometries_of(FunctionCallInfo fcinfo, ArrayType *array, const char 
 /* The places of an array of Points, all of the frame's reference system. */
 static Point *place_list(FunctionCallInfo fcinfo, ArrayType *array, int32 srid, size_t *n)
 {
-    Wkb *list = geometries_of(fcinfo, array, "points", n);
-    Point *places = palloc(sizeof(Point) * Max(*n, 1));
+    bool *none;
+    Datum *parts;
+    size_t count = elements_of(array, "geometries", &parts, &none);
+    FmgrInfo *send = sender(fcinfo, ARR_ELEMTYPE(array));
+    Point *places = palloc(sizeof(Point) * Max(count, 1));
 
-    for (size_t i = 0; i < *n; i++) {
-        same_system(list[i].srid, srid);
-        places[i] = place_of(list + i, i + 1);
+    for (size_t i = 0; i < count; i++)
+        if (none[i])
+            ereport(ERROR, (errcode(ERRCODE_NULL_VALUE_NOT_ALLOWED), errmsg("a NULL among the points"), errdetail("It is gauge %zu.", i + 1),
+                            errhint("Leave out what has no place: array_agg(place) FILTER (WHERE place IS NOT NULL).")));
+    for (size_t i = 0; i < count; i++) {
+        places[i] = place_in(send, parts[i], srid, i + 1);
+        if (i % 1024 == 0)
+            CHECK_FOR_INTERRUPTS();
     }
+    *n = count;
     return places;
 }
 
@@ -145,6 +187,9 @@ typedef struct {
     Oid parameter;
     int32 srid;
     StringInfoData bytes;
+    struct varlena *last; /* that was received, or NULL */
+    Growing value;
+    enum { NOT_TRIED, SAME, ANOTHER } form; /* whether kept_polygon makes what the type's input makes */
 } Writer;
 
 static void open_writer(Writer *w, Oid type, int32 srid)
@@ -155,18 +200,40 @@ static void open_writer(Writer *w, Oid type, int32 srid)
     fmgr_info(function, &w->receive);
     w->srid = srid;
     initStringInfo(&w->bytes);
+    w->last = NULL;
+    w->value = (Growing){0};
+    w->form = NOT_TRIED;
 }
 
-/* A piece as a geometry: the head of its Polygon with the reference system put in. */
-static Datum piece_geometry(const uint8 *image, size_t length, void *with)
+/* By the type's input: the head of the Polygon with the reference system put in. */
+static struct varlena *received(Writer *w, const uint8 *image, size_t length)
 {
-    Writer *w = with;
     const uint8 head[9] = {1, 3, 0, 0, 0x20, w->srid & 255, w->srid >> 8 & 255, w->srid >> 16 & 255, w->srid >> 24 & 255};
 
     resetStringInfo(&w->bytes);
     appendBinaryStringInfo(&w->bytes, (const char *)head, 9);
     appendBinaryStringInfo(&w->bytes, (const char *)image + 5, (int)length - 5);
-    return ReceiveFunctionCall(&w->receive, &w->bytes, w->parameter, -1);
+    if (w->last)
+        pfree(w->last);
+    w->last = (struct varlena *)DatumGetPointer(ReceiveFunctionCall(&w->receive, &w->bytes, w->parameter, -1));
+    return w->last;
+}
+
+/* A piece as a geometry. The first one is made by the type's input, and the others as it is kept only where that gives the same bytes. An empty one is always received. */
+static Datum piece_geometry(const uint8 *image, size_t length, void *with)
+{
+    Writer *w = with;
+    struct varlena *by_input, *own;
+
+    if (w->form == ANOTHER || length == EMPTY_IMAGE)
+        return PointerGetDatum(received(w, image, length));
+    own = kept_polygon(&w->value, w->srid, image, length);
+    if (w->form == NOT_TRIED) {
+        by_input = received(w, image, length);
+        w->form = VARSIZE(own) == VARSIZE(by_input) && memcmp(own, by_input, VARSIZE(own)) == 0 ? SAME : ANOTHER;
+        return PointerGetDatum(by_input);
+    }
+    return PointerGetDatum(own);
 }
 
 /* ---- the functions */
@@ -185,14 +252,13 @@ static Datum put_geometries(FunctionCallInfo fcinfo, const Point *places, size_t
 SQL_FUNCTION(yelmuzard_geometry_pieces) /* (points, frame) */
 {
     FmgrInfo *send = sender(fcinfo, get_fn_expr_argtype(fcinfo->flinfo, 0));
-    Wkb points = open_geometry(send, PG_GETARG_DATUM(0)), frame = open_geometry(send, PG_GETARG_DATUM(1));
+    Wkb frame = open_geometry(send, PG_GETARG_DATUM(1));
     BOX box = box_of(&frame);
     size_t n;
     Point *places;
 
     InitMaterializedSRF(fcinfo, 0);
-    same_system(points.srid, frame.srid);
-    places = places_of(&points, &n);
+    places = places_of(send, PG_GETARG_DATUM(0), frame.srid, &n);
     return put_geometries(fcinfo, places, n, &box, frame.srid, NULL);
 }
 
@@ -217,7 +283,7 @@ SQL_FUNCTION(yelmuzard_geometry_audit) /* (points, pieces, frame) */
     Point *places = place_list(fcinfo, PG_GETARG_ARRAYTYPE_P(0), frame.srid, &n);
     Bytes *pieces;
 
-    list = geometries_of(fcinfo, PG_GETARG_ARRAYTYPE_P(1), NULL, &count);
+    list = geometries_of(fcinfo, PG_GETARG_ARRAYTYPE_P(1), &count);
     pieces = palloc0(sizeof(Bytes) * Max(count, 1));
     for (size_t i = 0; i < count; i++)
         if (list[i].first) {
@@ -249,11 +315,8 @@ SQL_FUNCTION(yelmuzard_geometry_add) /* (state, place, reading, frame) */
             memcpy(g->geometry, frame, VARSIZE(frame));
         }
     }
-    if (!PG_ARGISNULL(1)) {
-        Wkb w = open_geometry(send, PG_GETARG_DATUM(1));
-        same_system(w.srid, g->srid);
-        place = place_of(&w, 0);
-    }
+    if (!PG_ARGISNULL(1))
+        place = place_in(send, PG_GETARG_DATUM(1), g->srid, 0);
     group_add(g, PG_ARGISNULL(1) ? NULL : &place, PG_ARGISNULL(2), PG_ARGISNULL(2) ? 0 : PG_GETARG_FLOAT8(2));
     PG_RETURN_POINTER(g);
 }

@@ -115,8 +115,7 @@ SQL_FUNCTION(yelmuzard_nearest)
     const Point *points = points_of(PG_GETARG_ARRAYTYPE_P(0), &n), *asked = points_of(PG_GETARG_ARRAYTYPE_P(1), &count);
     uint32 *out = palloc(sizeof(uint32) * Max(count, 1)), *work, number, from = 0;
 
-    set_gauges(&p, points, n);
-    p.was = palloc(sizeof(uint32) * n);
+    set_gauges(&p, points, n, false);
     for (size_t i = 0; i < count; i++)
         for (int c = 0; c < 2; c++) {
             double x = c ? asked[i].y : asked[i].x;

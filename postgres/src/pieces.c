@@ -46,6 +46,7 @@ static void lend_rooms(Survey *p, Rooms *r)
     p->vertices = palloc(sizeof(double) * VORONOI_VERTEX_NUMBERS(p->t, p->h));
     p->indexes = palloc(sizeof(uint32) * VORONOI_INDEX_ROOM(p->t, p->h));
     p->offsets = palloc(sizeof(uint32) * VORONOI_OFFSET_ROOM(p->s));
+    p->areas = palloc(sizeof(double) * p->n);
 }
 
 #define ROOMS_OF(p, r) (r).work, VORONOI_WORK_ROOM((p)->s), (p)->vertices, VORONOI_VERTEX_NUMBERS((p)->t, (p)->h), (p)->indexes, \
@@ -53,10 +54,7 @@ static void lend_rooms(Survey *p, Rooms *r)
 
 static void make_areas(Survey *p)
 {
-    uint32 number;
-
-    p->areas = palloc(sizeof(double) * p->n);
-    number = voronoi_areas(p->vertices, 2 * (size_t)p->v, p->offsets, p->n + 1, p->indexes, p->offsets[p->n], p->areas, p->n);
+    uint32 number = voronoi_areas(p->vertices, 2 * (size_t)p->v, p->offsets, p->n + 1, p->indexes, p->offsets[p->n], p->areas, p->n);
     if (number)
         refuse(number, NULL);
     CHECK_FOR_INTERRUPTS();
@@ -132,11 +130,13 @@ static void certify(void *with)
 
 /* Over the gauges alone: that their pieces cover the box once says that no ghost has ground; where one has, theirs do not. The call wants three sites: of one gauge or two
  * the first ghosts stand beside them, with no piece. */
-bool look_over(const Survey *p, Fault *f)
+bool look_over(Survey *p, Fault *f)
 {
     size_t sites = Max(p->n, VORONOI_LEAST_SITES), entries = p->offsets[p->n], room = VORONOI_CERTIFY_ROOM(sites, entries);
     uint32 few[VORONOI_LEAST_SITES + 1];
-    Certifying c = {p, sites, entries, room, p->n < sites ? few : p->offsets, palloc(sizeof(uint32) * room), 0, f};
+    char *spare = p->spare;
+    size_t spare_bytes = p->spare_bytes;
+    Certifying c = {p, sites, entries, room, p->n < sites ? few : p->offsets, room_in(p, sizeof(uint32) * room), 0, f};
 
     for (size_t i = 0; i <= VORONOI_LEAST_SITES; i++)
         few[i] = p->offsets[Min(i, p->n)];
@@ -144,7 +144,7 @@ bool look_over(const Survey *p, Fault *f)
     if (c.number)
         refuse(c.number, NULL);
     f->state = 1, f->missing = 0;
-    pfree(c.work);
+    p->spare = spare, p->spare_bytes = spare_bytes; /* its work may be written over */
     return f->kind == VORONOI_CERTIFY_SOUND;
 }
 
@@ -152,7 +152,7 @@ bool look_over(const Survey *p, Fault *f)
 
 typedef struct {
     Survey *p;
-    uint32 *work, number;
+    uint32 number;
 } Cutting;
 
 static void cut(void *with)
@@ -160,22 +160,18 @@ static void cut(void *with)
     Cutting *c = with;
     Survey *p = c->p;
 
-    c->number = voronoi_cut_by_edges(FRAME_OF(p), MESH_OF(p), c->work, VORONOI_WORK_ROOM(p->s), p->vertices, VORONOI_CUT_VERTEX_NUMBERS(p->t, p->h), p->indexes,
+    c->number = voronoi_cut_by_edges(FRAME_OF(p), MESH_OF(p), p->work, VORONOI_WORK_ROOM(p->s), p->vertices, VORONOI_CUT_VERTEX_NUMBERS(p->t, p->h), p->indexes,
                                      VORONOI_CUT_INDEX_ROOM(p->t, p->h), p->offsets, VORONOI_OFFSET_ROOM(p->s), &p->v);
 }
 
 bool make_pieces(Survey *p, Fault *f)
 {
-    Cutting c = {p, palloc(sizeof(uint32) * VORONOI_WORK_ROOM(p->s)), 0};
+    Cutting c = {p, 0};
 
-    p->vertices = palloc(sizeof(double) * VORONOI_CUT_VERTEX_NUMBERS(p->t, p->h));
-    p->indexes = palloc(sizeof(uint32) * VORONOI_CUT_INDEX_ROOM(p->t, p->h));
-    p->offsets = palloc(sizeof(uint32) * VORONOI_OFFSET_ROOM(p->s));
     run_cancellable(cut, &c);
     if (c.number)
         refuse(c.number, NULL);
-    pfree(c.work);
-    give_back_mesh(p);
+    leave_vertices(p);
     make_areas(p);
     return look_over(p, f);
 }

@@ -15,12 +15,12 @@ bool same_box(const BOX *a, const BOX *b)
     return a->low.x == b->low.x && a->low.y == b->low.y && a->high.x == b->high.x && a->high.y == b->high.y;
 }
 
-void set_gauges(Survey *p, const Point *points, size_t n)
+void set_gauges(Survey *p, const Point *points, size_t n, bool pieces)
 {
     if (n < 1 || n > TRIANGULATE_MOST_GAUGES)
         refuse(VORONOI_REFUSED_COUNT, psprintf("There are %zu gauges.", n));
     p->n = p->s = n;
-    p->sites = palloc(sizeof(double) * 2 * TRIANGULATE_SITES(n));
+    lay_out(p, n, pieces);
     memcpy(p->sites, points, sizeof(Point) * n);
 }
 
@@ -33,14 +33,9 @@ static int interrupted(void *with)
 bool make_mesh(Survey *p, Fault *f)
 {
     size_t triangles = TRIANGULATE_TRIANGLES(p->n);
-    uint32 *work = palloc(sizeof(uint32) * TRIANGULATE_WORK_ROOM(p->n)), number;
+    uint32 number = triangulate_in_order(p->frame, p->sites, 2 * TRIANGULATE_SITES(p->n), p->triangles, 3 * triangles, p->halfedges, 3 * triangles, p->hull,
+                                         TRIANGULATE_GHOSTS, p->was, p->n, p->work, TRIANGULATE_WORK_ROOM(p->n), interrupted, NULL, &f->other, &f->site);
 
-    p->triangles = palloc(sizeof(uint32) * 3 * triangles);
-    p->halfedges = palloc(sizeof(uint32) * 3 * triangles);
-    p->hull = palloc(sizeof(uint32) * TRIANGULATE_GHOSTS);
-    number = triangulate_in_order(p->frame, p->sites, 2 * TRIANGULATE_SITES(p->n), p->triangles, 3 * triangles, p->halfedges, 3 * triangles, p->hull,
-                                  TRIANGULATE_GHOSTS, p->was, p->n, work, TRIANGULATE_WORK_ROOM(p->n), interrupted, NULL, &f->other, &f->site);
-    pfree(work);
     f->state = 1, f->kind = VORONOI_AUDIT_SOUND, f->missing = 0;
     if (number == TRIANGULATE_TWIN) {
         f->kind = VORONOI_AUDIT_TWIN;
@@ -62,8 +57,7 @@ bool make_mesh(Survey *p, Fault *f)
 bool survey(Survey *p, const Point *points, size_t n, const BOX *frame, Fault *f)
 {
     set_frame(p, frame);
-    set_gauges(p, points, n);
-    p->was = palloc(sizeof(uint32) * p->n);
+    set_gauges(p, points, n, true);
     return make_mesh(p, f) && make_pieces(p, f);
 }
 
@@ -73,18 +67,6 @@ void sound_survey(Survey *p, const Point *points, size_t n, const BOX *frame)
 
     if (!survey(p, points, n, frame, &f))
         refuse_fault(p, &f);
-}
-
-void give_back_mesh(Survey *p)
-{
-    pfree(p->triangles), pfree(p->halfedges), pfree(p->hull);
-    p->triangles = p->halfedges = p->hull = NULL;
-}
-
-void give_back_pieces(Survey *p)
-{
-    pfree(p->vertices), pfree(p->indexes), pfree(p->offsets);
-    p->indexes = p->offsets = NULL, p->vertices = NULL;
 }
 
 Survey survey_of(FunctionCallInfo fcinfo, int points)

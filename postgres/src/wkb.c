@@ -84,19 +84,10 @@ bool read_ring(Wkb *w, Point *corners, size_t room, size_t *count)
     return w->at == w->end && (length == 0 || (corners[0].x == corners[length - 1].x && corners[0].y == corners[length - 1].y));
 }
 
-bytea *bytes_of(const uint8 *at, size_t length)
-{
-    bytea *bytes = palloc(VARHDRSZ + length);
-
-    SET_VARSIZE(bytes, VARHDRSZ + length);
-    memcpy(VARDATA(bytes), at, length);
-    return bytes;
-}
-
-Images all_images(const Survey *p)
+Images all_images(Survey *p)
 {
     size_t entries = p->offsets[p->n], room = VORONOI_ALL_WKB_ROOM(p->n, entries), written;
-    Images images = {palloc(room), palloc(sizeof(uint64) * VORONOI_START_ROOM(p->n))};
+    Images images = {palloc(room), room_in(p, sizeof(uint64) * VORONOI_START_ROOM(p->n))};
     uint32 number = voronoi_all_wkb(p->vertices, 2 * (size_t)p->v, p->offsets, p->n + 1, p->indexes, entries, images.starts, VORONOI_START_ROOM(p->n), images.at, room, &written);
 
     if (number)
@@ -106,7 +97,7 @@ Images all_images(const Survey *p)
 
 const uint8 *image_of(const Survey *p, const Images *images, size_t site, size_t *length)
 {
-    static const uint8 empty[9] = {1, 3, 0, 0, 0, 0, 0, 0, 0};
+    static const uint8 empty[EMPTY_IMAGE] = {1, 3, 0, 0, 0, 0, 0, 0, 0};
 
     *length = p->areas[site] == 0 ? sizeof empty : (size_t)(images->starts[site + 1] - images->starts[site]);
     return p->areas[site] == 0 ? empty : images->at + images->starts[site];
@@ -120,10 +111,11 @@ bytea *piece_wkb(const Survey *p, size_t site)
     Images images = all_images(&alone);
     size_t length;
     const uint8 *image = image_of(&alone, &images, 0, &length);
-    bytea *out = bytes_of(image, length);
+    Growing out = {0};
 
-    pfree(images.at), pfree(images.starts);
-    return out;
+    memcpy(VARDATA(grown(&out, VARHDRSZ + length)), image, length);
+    pfree(images.at), pfree(images.starts); /* they are in no block */
+    return out.value;
 }
 
 double piece_reach(const Survey *p, size_t site)

@@ -35,6 +35,10 @@ typedef struct {
     double *vertices;
     uint32 *indexes, *offsets;
     double *areas;     /* of each gauge */
+    uint32 *work;      /* lent to the calls that make mesh and pieces */
+    char *block;       /* what these lists are in, or NULL; what is left of it, and how many bytes: see room_in */
+    char *spare;
+    size_t spare_bytes;
 } Survey;
 
 /* What is wrong with pieces. */
@@ -67,7 +71,7 @@ extern uint32 gauge_number(const Survey *p, uint32 site);
 /* The pieces of a survey's mesh and their areas; whether they are sound, or in *f what is wrong. Refusals end with their error. */
 extern bool make_pieces(Survey *p, Fault *f);
 /* Whether the certificate passes the pieces of a survey, from anywhere: the gauges' own, in a box, with the ghosts behind them. */
-extern bool look_over(const Survey *p, Fault *f);
+extern bool look_over(Survey *p, Fault *f);
 /* voronoi_build on a lent mesh, its areas, and the audit. */
 extern bool build_pieces(Survey *p, Fault *f);
 /* What voronoi_why says of a lent mesh: the number, and the place in words or NULL. */
@@ -78,12 +82,31 @@ extern uint32 why_refused(Survey *p, char **place);
 /* A call of the library and nothing else: where the query is cancelled meanwhile it is left at once. */
 extern void run_cancellable(void (*call)(void *), void *with);
 
+/* ---- block.c */
+
+/* Room for the lists of n gauges, and of their pieces where they are to be made: one block for all. */
+extern void lay_out(Survey *p, size_t n, bool pieces);
+/* Room for what is made later: in what is left of the block, or where it does not fit there by palloc. It is given back with the block, never by pfree. */
+extern void *room_in(Survey *p, size_t bytes);
+/* The room behind the vertices, which are made, is left. */
+extern void leave_vertices(Survey *p);
+/* The lists: they are large, and what comes next may stand where they stood. */
+extern void give_back(Survey *p);
+
+/* Memory for one value after the other: of so many bytes, which are set as its length; what stood there is lost. */
+typedef struct {
+    struct varlena *value;
+    size_t room;
+} Growing;
+
+extern void *grown(Growing *g, size_t bytes);
+
 /* ---- survey.c */
 
 extern void set_frame(Survey *p, const BOX *frame);
-/* The gauges of a list; room for the ghosts. Ends with the error where they are too many or none, or a coordinate is none. */
-extern void set_gauges(Survey *p, const Point *points, size_t n);
-/* The mesh of gauges and ghosts; false where two gauges stand at one place. Where `was` is lent the gauges are put in the order of the curve. */
+/* The gauges of a list, and room for the ghosts, the mesh, and for pieces. Ends with the error where they are too many or none. */
+extern void set_gauges(Survey *p, const Point *points, size_t n, bool pieces);
+/* The mesh of gauges and ghosts; false where two gauges stand at one place. Where `was` is given the gauges are put in the order of the curve. */
 extern bool make_mesh(Survey *p, Fault *f);
 /* All of it: frame, gauges, mesh, pieces. */
 extern bool survey(Survey *p, const Point *points, size_t n, const BOX *frame, Fault *f);
@@ -94,9 +117,6 @@ extern Survey survey_of(FunctionCallInfo fcinfo, int points);
 /* In the order of the list: the site of each gauge, and its area. */
 extern uint32 *listed_sites(const Survey *p);
 extern double *listed_areas(const Survey *p);
-/* The lists of the mesh, and of the pieces: they are large, and what comes next may stand where they stood. */
-extern void give_back_mesh(Survey *p);
-extern void give_back_pieces(Survey *p);
 extern bool same_box(const BOX *a, const BOX *b);
 
 /* ---- areas.c */
@@ -108,7 +128,7 @@ typedef struct {
 } Keys;
 
 extern void read_keys(ArrayType *array, size_t n, Keys *keys);
-/* What is made of a piece's image in Well-Known Binary; given back by pfree. */
+/* What is made of a piece's image in Well-Known Binary; it may stand where the one before stood. */
 typedef Datum (*Maker)(const uint8 *image, size_t length, void *with);
 /* A row for each gauge: its key or else its number, area, reach, and its piece: what `make` makes of it, or where that is NULL its image. After InitMaterializedSRF. */
 extern Datum put_pieces(FunctionCallInfo fcinfo, Survey *p, const Keys *keys, Maker make, void *with);
@@ -144,6 +164,14 @@ typedef struct {
 extern Readings *group_of(FunctionCallInfo fcinfo);
 extern void group_add(Readings *g, const Point *place, bool no_reading, double reading);
 extern void refuse_boxes(void) pg_attribute_noreturn();
+
+/* ---- kept.c: geometries as PostGIS 3 keeps them */
+
+/* A Point, or a MultiPoint, of two coordinates: false, or NULL, where it is another geometry, has an empty Point, or is kept otherwise. */
+extern bool kept_place(const struct varlena *value, Point *place, int32 *srid);
+extern Point *kept_places(const struct varlena *value, size_t *n, int32 *srid);
+/* The Polygon of an image in Well-Known Binary, which is not the empty one's. */
+extern struct varlena *kept_polygon(Growing *g, int32 srid, const uint8 *image, size_t length);
 
 /* ---- lists.c: arguments and results */
 
@@ -181,12 +209,13 @@ typedef struct {
     uint64 *starts;
 } Images;
 
-extern Images all_images(const Survey *p);
+enum { EMPTY_IMAGE = 9 }; /* bytes of an empty one's; every other is longer */
+
+extern Images all_images(Survey *p);
 /* The image of one; a piece of no area is no polygon, and its image that of an empty one. */
 extern const uint8 *image_of(const Survey *p, const Images *images, size_t site, size_t *length);
 /* A piece as a Polygon, alone. */
 extern bytea *piece_wkb(const Survey *p, size_t site);
-extern bytea *bytes_of(const uint8 *at, size_t length);
 /* The distance from a gauge to its piece's farthest corner. */
 extern double piece_reach(const Survey *p, size_t site);
 

@@ -164,7 +164,7 @@ def postgis():
     session.ask("CREATE TABLE gauge (n int, id int, geom geometry(Point, 32633))")
     session.ask("SELECT setseed(.42)")
     frame = "ST_MakeEnvelope(300000, 5800000, 400000, 5900000, 32633)"
-    for n, times in (1000, 9), (10000, 5), (65000, 3):
+    for n, times in (1000, 60), (10000, 20), (65000, 9):
         session.ask(f"INSERT INTO gauge SELECT {n}, i, ST_Point(300000 + 100000 * random(), 5800000 + 100000 * random(), 32633) FROM generate_series(1, {n}) i")
         session.ask("ANALYZE gauge")
         ours = f"SELECT sum(area), count(geom) FROM (SELECT ST_Collect(geom) AS pts FROM gauge WHERE n = {n}) g, yelmuzard_pieces(pts, {frame})"
@@ -207,7 +207,7 @@ def year():
     naive = session.ask(f"""WITH a AS (SELECT id, yelmuzard_area(place, {frame}) OVER () AS area FROM gauge)
         SELECT avg(v), min(v) FROM (SELECT day, sum(mm * area) / 50000 AS v FROM a JOIN reading ON gauge = id GROUP BY day) q""")[0]
     check(float(naive[1]) < .97, f"beside it the pieces stored once and joined: {100 * float(naive[0]):.1f} percent on average, {100 * float(naive[1]):.1f} at worst, and nothing says so")
-    spent = session.took(query, 3)
+    spent = session.took(query, 7)
     check(spent <= 1000, f"the year takes {spent:.0f} ms of processor time")
     session.end()
 

@@ -176,6 +176,10 @@ static int beside(void)
             else
                 put(s, 32500000 + (double)(s * 7919 % 3000017) / 100, 5600000 + (double)draw(3000000) / 100);
         double ours = timed(said), all = timed(found);
+        for (int round = 1; round < 5; round++) { /* in turn, the best of five of each */
+            double again = timed(said), once_more = timed(found);
+            ours = again < ours ? again : ours, all = once_more < all ? once_more : all;
+        }
         printf("%zu sites, %s: %.4f s, all pairs %.4f s, ratio %.4f\n", n, names[k], ours, all, ours / all);
 #ifndef EMULATED
         if (ours > all / 2 && n >= 4 * BLOCK)
