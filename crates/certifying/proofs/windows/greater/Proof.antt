@@ -1,7 +1,7 @@
--- `certifying::tree::greater` meets its contract.
+-- `certifying::windows::greater` meets its contract.
 use Rattle.certifying.specs.call.laws.Stages.{larger-second, larger-first}
-use Rattle.certifying.proofs.tree.greater.Statement.{statement}
-use Rattle.certifying.proofs.tree.greater.Tie as tie
+use Rattle.certifying.proofs.windows.greater.Statement.{statement}
+use Rattle.certifying.proofs.windows.greater.Tie as tie
 
 returns : tie.Need-returns
 returns c =

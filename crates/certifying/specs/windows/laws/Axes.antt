@@ -6,7 +6,7 @@ use Prim.Native.Nat.{ℕ, _+_, _-_, _*_, _≤_, _<_}
 use native.Mathlib.Nat.{le-trans, le-of-eq, mul-comm, mul-le-mul}
 use native.Mathlib.Omega.{arith}
 use Rattle.base.specs.common.laws.Decide.{lt-or-ge}
-use Rattle.certifying.specs.tree.laws.Grid.{sumGrid, productGrid, sum-mono, product-mono, sum-none, product-none, sum-twice}
+use Rattle.certifying.specs.windows.laws.Grid.{sumGrid, productGrid, sum-mono, product-mono, sum-none, product-none, sum-twice}
 
 -- ---- small things
 none-of : {n : ℕ} → n ≤ 0 → sumGrid n ≡ 0

@@ -21,7 +21,7 @@ use Rattle.plane.specs.declared.boxes.BoundingBox.{BoundingBox}
 use Rattle.auditing.specs.nearer.Nearer.{toleranceOf}
 use Rattle.audit_truth.specs.Exact.{plusUnits}
 use Rattle.certifying.specs.call.Verdict.{largerOf, reachOf, certifyFar}
-use Rattle.certifying.specs.tree.Steps.{NotMinus}
+use Rattle.certifying.specs.windows.Windows.{NotMinus}
 
 odd-plus : (d q k l : ℕ) → NotMinus (odd d false q k l)
 unfolding odd

@@ -16,7 +16,7 @@ use Rattle.ring_area.specs.Area.{below}
 use Rattle.audit_truth.specs.Exact.{plusUnits, minusUnits}
 use Rattle.audit_truth.specs.laws.Operations.{product, below-c}
 use Rattle.audit_truth.specs.laws.Roundings.{units-exact, round-sign, round-units}
-use Rattle.certifying.specs.tree.laws.Grid.{sumGrid, productGrid, sum-none, product-none, grid-sum, grid-product}
+use Rattle.certifying.specs.windows.laws.Grid.{sumGrid, productGrid, sum-none, product-none, grid-sum, grid-product}
 
 -- z is q - n, rounded
 pub record SumIs (z : Float) (q n : ℕ) : Type 0 where

@@ -1,8 +1,8 @@
--- `certifying::tree::most_of` meets its contract.
-use Rattle.certifying.specs.tree.laws.Spans.{most-is}
+-- `certifying::windows::most_of` meets its contract.
+use Rattle.certifying.specs.windows.laws.LeftOut.{most-is}
 use borrow.Author.Needs.{needs}
-use Rattle.certifying.proofs.tree.most_of.Statement.{statement}
-use Rattle.certifying.proofs.tree.most_of.Tie as tie
+use Rattle.certifying.proofs.windows.most_of.Statement.{statement}
+use Rattle.certifying.proofs.windows.most_of.Tie as tie
 
 returns : tie.Need-returns
 returns c =

@@ -1,6 +1,7 @@
--- Theorem: where a rectangle passes the test of a ring, no corner of the ring is beyond the bisector with what stands in the rectangle, whatever the tolerance (`left-out`).
+-- Theorem: where a window passes the test of a corner, the corner is beyond no bisector with what stands at an edge of the window or past it, whatever the tolerance (`left-out`).
 use mathlib.Core.Path.{_≡_, refl, sym, ap, _∙_, subst}
 use mathlib.Core.Bool.{Bool, true, false, cond, _&&_, _||_}
+use mathlib.Core.List.{List}
 use mathlib.Core.Logic.{_⊎_, inl, inr, ⊎-elim}
 use Prim.{tt}
 use Prim.Native.Nat.{ℕ, zero, suc, _+_, _-_, _*_, _≤_, _<_}
@@ -10,6 +11,7 @@ use lib.Dec.{T, lit≤, ltb}
 use lib.Ieee.{Float, nan, inf, fin, binary64, up, down, fits, lt, le, ofBits}
 use lib.Ieee.Scale.{finite}
 use borrow.Author.Tests.{le-ltb}
+use lib.ListN.{getD}
 use Rattle.base.specs.common.Pick.{pick}
 use Rattle.root.specs.laws.UnitBounds.{some-units}
 use Rattle.ring_area.specs.lowest.laws.Loops.{no-both}
@@ -18,6 +20,8 @@ use Rattle.base.specs.common.Binary64 as B
 use Rattle.base.specs.common.laws.And.{and-left, and-right}
 use Rattle.root.specs.Root.{units, magnitude}
 use Rattle.ring_area.specs.Area.{below}
+use Rattle.base.specs.common.laws.Decide.{lt-or-ge}
+use Rattle.plane.specs.points.Flat.{pointAt}
 use Rattle.plane.specs.declared.points.Point.{Point}
 use Rattle.auditing.specs.nearer.Nearer.{beyond}
 use Rattle.audit_truth.specs.Exact.{plusUnits, minusUnits}
@@ -25,15 +29,26 @@ use Rattle.audit_truth.specs.Held.{HeldWithin, HeldPoint}
 use Rattle.audit_truth.specs.laws.Parts.{not-over, lt-turned, le-turned}
 use Rattle.audit_truth.specs.laws.Sides.{held-finite, sub-held, add-held, mul-held, bisectorPart, coordinate-held}
 use Rattle.certifying.specs.call.Verdict.{largerOf}
-use Rattle.certifying.specs.declared.tree.Ring.{Ring}
-use Rattle.certifying.specs.tree.Steps.{NotMinus, NotAbove, LeftAlone}
-use Rattle.certifying.specs.tree.Tree.{clearOf, mostOf, ringFor, outOf}
-use Rattle.certifying.specs.tree.laws.Axes.{wayPlus, wayMinus, twicePlus, twiceMinus, clear, taken-off, gained}
-use Rattle.certifying.specs.tree.laws.Grid.{sumGrid, productGrid, sum-mono, product-mono, sum-none, sum-held}
-use Rattle.certifying.specs.tree.laws.Plus.{magnitude-plus, add-plus, mul-plus, not-above}
-use Rattle.certifying.specs.tree.laws.Sums.{SumIs, ProductIs, add-is, sub-is, mul-is}
+use Rattle.certifying.specs.declared.windows.Window.{Window}
+use Rattle.certifying.specs.windows.Windows.{NotMinus, NotAbove, clearOf, mostOf, keptAlong, keptOf, offOf, EdgesHeld, OffWindow}
+use Rattle.certifying.specs.windows.laws.Axes.{wayPlus, wayMinus, twicePlus, twiceMinus, clear, taken-off, gained}
+use Rattle.certifying.specs.windows.laws.Grid.{sumGrid, productGrid, sum-mono, product-mono, sum-none, sum-held}
+use Rattle.certifying.specs.windows.laws.Plus.{magnitude-plus, add-plus, mul-plus, not-above}
+use Rattle.certifying.specs.windows.laws.Sums.{SumIs, ProductIs, add-is, sub-is, mul-is}
 
 -- ---- the order of two values, on whole numbers
+pub at-most-trans : (x y z : Float) → NotAbove x y → NotAbove y z → NotAbove x z
+at-most-trans x y z = go (plusUnits x) (minusUnits x) (plusUnits y) (minusUnits y) (plusUnits z) (minusUnits z)
+  where
+    go : (x x′ y y′ z z′ : ℕ) → x + y′ ≤ x′ + y → y + z′ ≤ y′ + z → x + z′ ≤ x′ + z
+    go x x′ y y′ z z′ h k = omega arith
+
+pub at-most-self : (x : Float) → NotAbove x x
+at-most-self x = go (plusUnits x) (minusUnits x)
+  where
+    go : (x x′ : ℕ) → x + x′ ≤ x′ + x
+    go x x′ = omega arith
+
 module _ (i j : ℕ) (x y : Float) (h : HeldWithin i x) (g : HeldWithin j y) where
   pub at-most-of-le : le x y ≡ true → NotAbove x y
   at-most-of-le e = not-over x y (held-finite h) (held-finite g) (le-turned x y e)
@@ -85,7 +100,7 @@ above-none (fin false (suc m) d) f t e = some-units m d f
 
 -- larger than both
 module _ {k : ℕ} (x y : Float) (h : HeldWithin k x) (g : HeldWithin k y) where
-  pub larger-held : HeldWithin k (largerOf x y)
+  larger-held : HeldWithin k (largerOf x y)
   unfolding largerOf
   larger-held = go (lt x y)
     where
@@ -93,7 +108,7 @@ module _ {k : ℕ} (x y : Float) (h : HeldWithin k x) (g : HeldWithin k y) where
       go true = g
       go false = h
 
-  pub larger-both : NotAbove x (largerOf x y) × NotAbove y (largerOf x y)
+  larger-both : NotAbove x (largerOf x y) × NotAbove y (largerOf x y)
   unfolding largerOf
   larger-both = go (lt x y) refl
     where
@@ -351,51 +366,81 @@ both-sides p p′ q q′ w e h k = omega arith
 both-sides′ : (p p′ q q′ w : ℕ) → q ≡ 0 → w ≤ q′ → p ≤ w → p + q ≤ p′ + q′
 both-sides′ p p′ q q′ w e h k = omega arith
 
-module _ (s least most : Point) (hs : HeldPoint s) (hl : HeldPoint least) (hm : HeldPoint most) (l t r b : Float) (Hl : HeldWithin 400 l) (Ht : HeldWithin 400 t) (Hr : HeldWithin 400 r)
-    (Hb : HeldWithin 400 b) (o : Point) (ho : HeldPoint o) (in-left : NotAbove l (o .x)) (in-right : NotAbove (o .x) r) (in-top : NotAbove t (o .y)) (in-bottom : NotAbove (o .y) b) where
-  abbrev ring : Ring
-  ring = ringFor s least most
+-- ---- along one axis
+module _ (v s o : Float) (hv : HeldWithin 400 v) (hs : HeldWithin 400 s) (ho : HeldWithin 400 o) (low high most : Float) (hl : HeldWithin 400 low) (hh : HeldWithin 400 high)
+    (hw : HeldWithin 803 most) where
+  kept-off : keptAlong s v low high most ≡ true → NotAbove high o ⊎ NotAbove o low → TakesOff most (bisectorPart v s o)
+  unfolding keptAlong
+  kept-off e =
+      ⊎-elim (λ i. ahead v s o hv hs ho high v most hh hv hw i (at-most-self v) (and-left _ (clearOf (s ⊟ low) ((v ⊟ low) ⊟ (s ⊟ v)) most) e))
+      (λ i. behind v s o hv hs ho low v most hl hv hw i (at-most-self v) (and-right (clearOf (high ⊟ s) ((high ⊟ v) ⊟ (v ⊟ s)) most) _ e))
 
-  pub left-out : outOf ring l t r b ≡ true → LeftAlone ring o
-  unfolding outOf ringFor
-  left-out e far P v hv i =
-      ⊎-elim (λ f. ⊎-elim (λ g. ⊎-elim right-of left-of
-      (or-cases (clearOf (l ⊟ s .x) ((l ⊟ most .x) ⊟ (most .x ⊟ s .x)) down) (clearOf (s .x ⊟ r) ((least .x ⊟ r) ⊟ (s .x ⊟ least .x)) down) g)) below-of
-      (or-cases (clearOf (l ⊟ s .x) ((l ⊟ most .x) ⊟ (most .x ⊟ s .x)) down || clearOf (s .x ⊟ r) ((least .x ⊟ r) ⊟ (s .x ⊟ least .x)) down)
-      (clearOf (t ⊟ s .y) ((t ⊟ most .y) ⊟ (most .y ⊟ s .y)) across) f)) above-of
-      (or-cases (clearOf (l ⊟ s .x) ((l ⊟ most .x) ⊟ (most .x ⊟ s .x)) down || clearOf (s .x ⊟ r) ((least .x ⊟ r) ⊟ (s .x ⊟ least .x)) down
-      || clearOf (t ⊟ s .y) ((t ⊟ most .y) ⊟ (most .y ⊟ s .y)) across) (clearOf (s .y ⊟ b) ((least .y ⊟ b) ⊟ (s .y ⊟ least .y)) across) e)
-    where
-      down : Float
-      down = mostOf (s .y) (least .y) (most .y)
+-- ---- the window
+module _ (w : Window) (W : EdgesHeld w) (s v : Point) (hs : HeldPoint s) (hv : HeldPoint v) (o : Point) (ho : HeldPoint o) (far : Float) (P : NotMinus far) where
+  abbrev most-down : Float
+  most-down = mostOf (s .y) (v .y) (v .y)
 
-      across : Float
-      across = mostOf (s .x) (least .x) (most .x)
+  abbrev most-across : Float
+  most-across = mostOf (s .x) (v .x) (v .x)
 
-      down-held : HeldWithin 803 down
-      down-held = most-held (v .y) (s .y) (o .y) (hv .y) (hs .y) (ho .y) (least .y) (most .y) (hl .y) (hm .y) (i .top) (i .bottom)
+  down-held : HeldWithin 803 most-down
+  down-held = most-held (v .y) (s .y) (o .y) (hv .y) (hs .y) (ho .y) (v .y) (v .y) (hv .y) (hv .y) (at-most-self (v .y)) (at-most-self (v .y))
 
-      across-held : HeldWithin 803 across
-      across-held = most-held (v .x) (s .x) (o .x) (hv .x) (hs .x) (ho .x) (least .x) (most .x) (hl .x) (hm .x) (i .left) (i .right)
+  across-held : HeldWithin 803 most-across
+  across-held = most-held (v .x) (s .x) (o .x) (hv .x) (hs .x) (ho .x) (v .x) (v .x) (hv .x) (hv .x) (at-most-self (v .x)) (at-most-self (v .x))
 
-      by-x : TakesOff down (bisectorPart (v .x) (s .x) (o .x)) → beyond far v s o ≡ false
-      by-x k =
-          not-past far v s o P hv hs ho
-          (both-sides _ _ _ _ (plusUnits down) (k .adds) (k .takes) (adds-most (v .y) (s .y) (o .y) (hv .y) (hs .y) (ho .y) (least .y) (most .y) (hl .y) (hm .y) (i .top) (i .bottom)))
+  by-x : TakesOff most-down (bisectorPart (v .x) (s .x) (o .x)) → beyond far v s o ≡ false
+  by-x k =
+      not-past far v s o P hv hs ho
+      (both-sides _ _ _ _ (plusUnits most-down) (k .adds) (k .takes)
+      (adds-most (v .y) (s .y) (o .y) (hv .y) (hs .y) (ho .y) (v .y) (v .y) (hv .y) (hv .y) (at-most-self (v .y)) (at-most-self (v .y))))
 
-      by-y : TakesOff across (bisectorPart (v .y) (s .y) (o .y)) → beyond far v s o ≡ false
-      by-y k =
-          not-past far v s o P hv hs ho
-          (both-sides′ _ _ _ _ (plusUnits across) (k .adds) (k .takes) (adds-most (v .x) (s .x) (o .x) (hv .x) (hs .x) (ho .x) (least .x) (most .x) (hl .x) (hm .x) (i .left) (i .right)))
+  by-y : TakesOff most-across (bisectorPart (v .y) (s .y) (o .y)) → beyond far v s o ≡ false
+  by-y k =
+      not-past far v s o P hv hs ho
+      (both-sides′ _ _ _ _ (plusUnits most-across) (k .adds) (k .takes)
+      (adds-most (v .x) (s .x) (o .x) (hv .x) (hs .x) (ho .x) (v .x) (v .x) (hv .x) (hv .x) (at-most-self (v .x)) (at-most-self (v .x))))
 
-      right-of : clearOf (l ⊟ s .x) ((l ⊟ most .x) ⊟ (most .x ⊟ s .x)) down ≡ true → beyond far v s o ≡ false
-      right-of f = by-x (ahead (v .x) (s .x) (o .x) (hv .x) (hs .x) (ho .x) l (most .x) down Hl (hm .x) down-held in-left (i .right) f)
+  pub left-out : keptOf w s v ≡ true → OffWindow w o → beyond far v s o ≡ false
+  unfolding keptOf
+  left-out e =
+      ⊎-elim
+      (λ i. by-x (kept-off (v .x) (s .x) (o .x) (hv .x) (hs .x) (ho .x) (w .left) (w .right) most-down (W .left) (W .right) down-held
+      (and-left _ (keptAlong (s .y) (v .y) (w .top) (w .bottom) most-across) e) i))
+      (λ i. by-y (kept-off (v .y) (s .y) (o .y) (hv .y) (hs .y) (ho .y) (w .top) (w .bottom) most-across (W .top) (W .bottom) across-held
+      (and-right (keptAlong (s .x) (v .x) (w .left) (w .right) most-down) _ e) i))
 
-      left-of : clearOf (s .x ⊟ r) ((least .x ⊟ r) ⊟ (s .x ⊟ least .x)) down ≡ true → beyond far v s o ≡ false
-      left-of f = by-x (behind (v .x) (s .x) (o .x) (hv .x) (hs .x) (ho .x) r (least .x) down Hr (hl .x) down-held in-right (i .left) f)
+-- ---- what stands in a rectangle that is off the window
+module _ (w : Window) (W : EdgesHeld w) (l t r b : Float) (Hl : HeldWithin 400 l) (Ht : HeldWithin 400 t) (Hr : HeldWithin 400 r) (Hb : HeldWithin 400 b) (o : Point)
+    (in-left : NotAbove l (o .x)) (in-top : NotAbove t (o .y)) (in-right : NotAbove (o .x) r) (in-bottom : NotAbove (o .y) b) where
+  pub off-window : offOf w l t r b ≡ true → OffWindow w o
+  unfolding offOf
+  off-window e =
+      ⊎-elim (λ f. ⊎-elim (λ g. ⊎-elim
+      (λ h. inl (inl (at-most-trans (w .right) l (o .x) (at-most-of-le 400 400 (w .right) l (W .right) Hl h) in-left)))
+      (λ h. inl (inr (at-most-trans (o .x) r (w .left) in-right (at-most-of-le 400 400 r (w .left) Hr (W .left) h))))
+      (or-cases (le (w .right) l) (le r (w .left)) g))
+      (λ h. inr (inl (at-most-trans (w .bottom) t (o .y) (at-most-of-le 400 400 (w .bottom) t (W .bottom) Ht h) in-top)))
+      (or-cases (le (w .right) l || le r (w .left)) (le (w .bottom) t) f))
+      (λ h. inr (inr (at-most-trans (o .y) b (w .top) in-bottom (at-most-of-le 400 400 b (w .top) Hb (W .top) h))))
+      (or-cases (le (w .right) l || le r (w .left) || le (w .bottom) t) (le b (w .top)) e)
 
-      below-of : clearOf (t ⊟ s .y) ((t ⊟ most .y) ⊟ (most .y ⊟ s .y)) across ≡ true → beyond far v s o ≡ false
-      below-of f = by-y (ahead (v .y) (s .y) (o .y) (hv .y) (hs .y) (ho .y) t (most .y) across Ht (hm .y) across-held in-top (i .bottom) f)
+-- ---- as the code makes it
+pub most-is : (s l r : Float) {u : Float} → u ≡ largerOf (r ⊟ s) (s ⊟ l) → (u ⊞ u) ⊠ u ≡ mostOf s l r
+unfolding mostOf
+most-is s l r e = rw e refl
 
-      above-of : clearOf (s .y ⊟ b) ((least .y ⊟ b) ⊟ (s .y ⊟ least .y)) across ≡ true → beyond far v s o ≡ false
-      above-of f = by-y (behind (v .y) (s .y) (o .y) (hv .y) (hs .y) (ho .y) b (least .y) across Hb (hl .y) across-held in-bottom (i .top) f)
+pub kept-more : (w : Window) (s : Point) (v : List Float) (cell : List ℕ) {k n : ℕ} {p : Point} → ((i : ℕ) → i < k → keptOf w s (pointAt v (getD cell i 0)) ≡ true)
+    → n ≡ getD cell k 0 → p ≡ pointAt v n → keptOf w s p ≡ true → (i : ℕ) → i < k + 1 → keptOf w s (pointAt v (getD cell i 0)) ≡ true
+kept-more w s v cell {k} a e f h i g =
+    ⊎-elim (a i) (λ b. subst (λ (q : Point). keptOf w s q ≡ true) (f ∙ ap (pointAt v) (e ∙ ap (λ (j : ℕ). getD cell j 0) (last i g b))) h) (lt-or-ge i k)
+  where
+    last : (i : ℕ) → i < k + 1 → k ≤ i → k ≡ i
+    last i g b = omega arith
+
+pub four-true : (a b c d : Bool) → (a && b && c && d) ≡ true → (a ≡ true) × (b ≡ true) × (c ≡ true) × (d ≡ true)
+four-true true true true true e = (refl, refl, refl, refl)
+four-true true true true false e = absurd (no-both (sym e))
+four-true true true false d e = absurd (no-both (sym e))
+four-true true false c d e = absurd (no-both (sym e))
+four-true false b c d e = absurd (no-both (sym e))
