@@ -30,16 +30,16 @@ three : {A : Type 0} (i k : ℕ) → (i < k → A) → (i ≡ k → A) → (suc 
 three i k f g h = ⊎-elim f (λ a. ⊎-elim (λ b. g (omega arith)) h (lt-or-ge i (suc k))) (lt-or-ge i k)
 
 -- as many back as there
-even-of : {v : List Float} {ix to : List ℕ} {n : ℕ} {p q : Point} {t b : ℕ} → WaysOf v ix to n p q t b → t ≤ b → moreOf v ix to n p q ≡ false
+pub even-of : {v : List Float} {ix to : List ℕ} {n : ℕ} {p q : Point} {t b : ℕ} → WaysOf v ix to n p q t b → t ≤ b → moreOf v ix to n p q ≡ false
 unfolding moreOf
 even-of {v} {ix} {to} {n} {p} {q} w o = le-ltb (howMany (runsAt v ix to q p) n) (howMany (runsAt v ix to p q) n) (omega (arith, w .there-is, w .back-is))
 
 -- sides k and j, as the code has them
 module _ (v : List Float) (ix to : List ℕ) where
-  abbrev from-of : ℕ → Point
+  abbrev pub from-of : ℕ → Point
   from-of k = pointAt v (getD ix k 0)
 
-  abbrev to-of : ℕ → Point
+  abbrev pub to-of : ℕ → Point
   to-of k = pointAt v (getD to k 0)
 
   pub record BackAt (k j : ℕ) : Type 0 where
