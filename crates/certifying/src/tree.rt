@@ -478,7 +478,57 @@ fn site_nearer(
     piece_nearer(far, sites, room, vertices, entries, s)
 }
 
-// The lowest site whose piece has such a corner, or their number. The room is the tree's.
+// Whether no piece has such a corner: in the tree's order, so that what one piece asks of memory is at hand for the next.
+fn none_nearer(
+    far: f64,
+    sites: &[f64],
+    room: &[u32],
+    vertices: &[f64],
+    offsets: &[u32],
+    indexes: &[u32],
+) -> bool
+    requires { ⌜ TreeSafe far (now sites) (now vertices) (now offsets) (now indexes) × TreeOf (now sites) (now room) × SitesHeld (now sites)
+        × PiecesHeld (now sites) (now vertices) (now offsets) (now indexes) ⌝ }
+    ensures { λ r. ⌜ (r ≡ true
+        → length (now (sites .entry)) / 2
+        ≡ lowest (siteNearer far (now (sites .entry)) [] [] (now (vertices .entry)) (now (offsets .entry)) (now (indexes .entry))) (length (now (sites .entry)) / 2)) ⌝ }
+{
+    let count = sites.len() / 2;
+    let mut j = 0;
+    while j < count {
+        if site_nearer(far, sites, room, vertices, offsets, indexes, wide(room[j])) {
+            return false;
+        }
+        j += 1;
+    }
+    true
+}
+
+// The lowest site whose piece has such a corner, or their number: one by one.
+fn first_in_order(
+    far: f64,
+    sites: &[f64],
+    room: &[u32],
+    vertices: &[f64],
+    offsets: &[u32],
+    indexes: &[u32],
+) -> usize
+    requires { ⌜ TreeSafe far (now sites) (now vertices) (now offsets) (now indexes) × TreeOf (now sites) (now room) × SitesHeld (now sites)
+        × PiecesHeld (now sites) (now vertices) (now offsets) (now indexes) ⌝ }
+    ensures { λ r. ⌜ r ≡ lowest (siteNearer far (now (sites .entry)) [] [] (now (vertices .entry)) (now (offsets .entry)) (now (indexes .entry))) (length (now (sites .entry)) / 2) ⌝ }
+{
+    let count = sites.len() / 2;
+    let mut s = 0;
+    while s < count {
+        if site_nearer(far, sites, room, vertices, offsets, indexes, s) {
+            return s;
+        }
+        s += 1;
+    }
+    s
+}
+
+// The same, one by one only where there is one. The room is the tree's.
 pub fn first_site_nearer_by_tree(
     far: f64,
     sites: &[f64],
@@ -492,13 +542,8 @@ pub fn first_site_nearer_by_tree(
         × (length (now (room .exit)) ≡ length (now (room .entry))) ⌝ }
 {
     plant(sites, room);
-    let count = sites.len() / 2;
-    let mut s = 0;
-    while s < count {
-        if site_nearer(far, sites, room, vertices, offsets, indexes, s) {
-            return s;
-        }
-        s += 1;
+    if none_nearer(far, sites, room, vertices, offsets, indexes) {
+        return sites.len() / 2;
     }
-    s
+    first_in_order(far, sites, room, vertices, offsets, indexes)
 }

@@ -14,7 +14,7 @@ use lib.Ieee.Nearest.{div-mono}
 use lib.ListN.{length, getD}
 use Rattle.base.specs.common.laws.Decide.{lt-or-ge}
 use Rattle.ring_area.specs.lowest.Lowest.{lowest, anyBelow}
-use Rattle.ring_area.specs.lowest.laws.Loops.{lowest-takes, none-below, some-below, none-taken}
+use Rattle.ring_area.specs.lowest.laws.Loops.{passed-end, lowest-takes, none-below, some-below, none-taken}
 use Rattle.plane.specs.points.Finite.{point-weaken, site-bounded}
 use Rattle.plane.specs.points.Flat.{pointAt}
 use Rattle.plane.specs.points.Rules.{okSite}
@@ -152,6 +152,21 @@ pub piece-is : (far : Float) (sites v : List Float) (off ix : List ℕ) (s : ℕ
     → t ≡ siteNearer far sites [] [] v off ix s
 unfolding noLists cellOf
 piece-is far sites v off ix s e f = site-is far sites [] [] v off ix s {all = true} {part = []} refl refl e f
+
+-- ---- the pieces in the order of the tree
+abbrev pub NoneBefore : (ℕ → Bool) → List ℕ → ℕ → Type 0
+NoneBefore p room j = (i : ℕ) → i < j → p (getD room i 0) ≡ false
+
+module _ (p : ℕ → Bool) (room : List ℕ) where
+  pub before-more : {j w : ℕ} {t : Bool} → NoneBefore p room j → w ≡ getD room j 0 → t ≡ p w → t ≡ false → NoneBefore p room (j + 1)
+  before-more {j} a e f g i h = ⊎-elim (a i) (λ b. ap (λ (k : ℕ). p (getD room k 0)) (last i h b) ∙ ap p (sym e) ∙ sym f ∙ g) (lt-or-ge i j)
+    where
+      last : (i : ℕ) → i < j + 1 → j ≤ i → i ≡ j
+      last i h b = omega arith
+
+  pub before-all : {n j : ℕ} → Order n room → NoneBefore p room j → n ≤ j → n ≡ lowest p n
+  before-all {n} {j} o a h =
+      passed-end (record { most = omega arith; none = λ i I. let q = o .placed i I in ap p (sym (q .is)) ∙ a (q .place) (lt-of-lt-of-le (q .within) h) }) (omega arith)
 
 -- ---- what a caller owes follows from rules 6, 16, 18 and 24
 pub safe-by-rules : {far : Float} {sites v : List Float} {off ix : List ℕ} → NotMinus far → PiecesKept sites v off ix → length sites / 2 ≤ 65536
