@@ -12,7 +12,7 @@ ghost use Rattle.plane.specs.points.Flat.{pointAt};
 ghost use Rattle.arguments.specs.entries.Named.{EntriesNamed};
 ghost use Rattle.audit_truth.specs.Held.{HeldWithin};
 ghost use Rattle.certifying.specs.call.Verdict.{largerOf};
-ghost use Rattle.certifying.specs.windows.Windows.{mostOf, clearOf, keptAlong, keptOf, offOf, EdgesHeld, Keeps};
+ghost use Rattle.certifying.specs.windows.Windows.{mostOf, clearOf, keptAlong, windowKept, offOf, EdgesHeld, WindowKeeps};
 
 pub struct Window {
     pub left: f64,
@@ -118,7 +118,7 @@ fn is_kept_along(s: f64, v: f64, low: f64, high: f64, most: f64) -> bool
 
 // Whether the window keeps what is nearer to the corner p of the piece of s.
 fn is_kept(w: Window, s: Point, p: Point) -> bool
-    ensures { λ r. ⌜ r ≡ keptOf w s p ⌝ }
+    ensures { λ r. ⌜ r ≡ windowKept w s p ⌝ }
 {
     let down = most_of(s.y, p.y, p.y);
     let across = most_of(s.x, p.x, p.x);
@@ -141,7 +141,7 @@ fn has_edges(w: Window) -> bool
 // Of every corner.
 fn all_kept(w: Window, s: Point, vertices: &[f64], entries: &[u32]) -> bool
     requires { ⌜ EntriesNamed (now entries) (length (now vertices) / 2) ⌝ }
-    ensures { λ r. ⌜ (r ≡ true → (k : ℕ) → k < length (now (entries .entry)) → keptOf w s (pointAt (now (vertices .entry)) (getD (now (entries .entry)) k 0)) ≡ true) ⌝ }
+    ensures { λ r. ⌜ (r ≡ true → (k : ℕ) → k < length (now (entries .entry)) → windowKept w s (pointAt (now (vertices .entry)) (getD (now (entries .entry)) k 0)) ≡ true) ⌝ }
 {
     let mut k = 0;
     while k < entries.len() {
@@ -156,7 +156,7 @@ fn all_kept(w: Window, s: Point, vertices: &[f64], entries: &[u32]) -> bool
 
 pub fn is_window(w: Window, s: Point, vertices: &[f64], entries: &[u32]) -> bool
     requires { ⌜ EntriesNamed (now entries) (length (now vertices) / 2) ⌝ }
-    ensures { λ r. ⌜ (r ≡ true → Keeps w s (now (vertices .entry)) (now (entries .entry))) ⌝ }
+    ensures { λ r. ⌜ (r ≡ true → WindowKeeps w s (now (vertices .entry)) (now (entries .entry))) ⌝ }
 {
     if has_edges(w) {
         return all_kept(w, s, vertices, entries);

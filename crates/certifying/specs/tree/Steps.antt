@@ -3,7 +3,7 @@ use mathlib.Core.Path.{_≡_}
 use mathlib.Core.Bool.{Bool, true, false}
 use mathlib.Core.List.{List}
 use Prim.Native.Nat.{ℕ, _+_, _*_, _/_, _≤_, _<_}
-use lib.Ieee.{Float, nan, inf, fin}
+use lib.Ieee.{Float, nan}
 use lib.ListN.{length, getD, set}
 use Rattle.ring_area.specs.lowest.Lowest.{anyBelow}
 use Rattle.plane.specs.points.Finite.{BoundedPoint}
@@ -14,7 +14,7 @@ use Rattle.arguments.specs.entries.Named.{EntriesNamed}
 use Rattle.auditing.specs.nearer.Steps.{PiecesKept}
 use Rattle.audit_truth.specs.Held.{HeldPoint}
 use Rattle.certifying.specs.declared.windows.Window.{Window}
-use Rattle.certifying.specs.windows.Windows.{NotMinus, NotAbove, offOf, EdgesHeld, Keeps, OffWindow}
+use Rattle.certifying.specs.windows.Windows.{NotMinus, NotAbove, offOf, EdgesHeld, WindowKeeps, OffWindow}
 use Rattle.certifying.specs.tree.Tree.{cornerPast}
 
 -- ---- values
@@ -159,7 +159,7 @@ pub record RingSafe (far : Float) (sites : List Float) (room : List ℕ) (w : Wi
   pub tree : TreeOf sites room
   pub held : SitesHeld sites
   pub own : HeldPoint s
-  pub keeps : Keeps w s v cell
+  pub keeps : WindowKeeps w s v cell
   pub named : EntriesNamed cell (length v / 2)
   pub corners : CornersHeld v cell
 

@@ -7,7 +7,6 @@ use Prim.Native.Nat.{ℕ, _+_, _≤_, _<_}
 use lib.Ieee.{Float, nan, inf, fin, lt, le}
 use lib.ListN.{length, getD}
 use Rattle.base.specs.common.Binary64.{_⊞_, _⊟_, _⊠_, zero}
-use Rattle.base.specs.common.Pick.{pick}
 use Rattle.plane.specs.points.Flat.{pointAt}
 use Rattle.plane.specs.declared.points.Point.{Point}
 use Rattle.audit_truth.specs.Exact.{plusUnits, minusUnits}
@@ -40,8 +39,8 @@ unfoldable pub keptAlong : Float → Float → Float → Float → Float → Boo
 keptAlong s v low high most = clearOf (high ⊟ s) ((high ⊟ v) ⊟ (v ⊟ s)) most && clearOf (s ⊟ low) ((v ⊟ low) ⊟ (s ⊟ v)) most
 
 -- the window keeps what is nearer to corner v of the piece of s
-unfoldable pub keptOf : Window → Point → Point → Bool
-keptOf w s v =
+unfoldable pub windowKept : Window → Point → Point → Bool
+windowKept w s v =
     keptAlong (s .x) (v .x) (w .left) (w .right) (mostOf (s .y) (v .y) (v .y)) && keptAlong (s .y) (v .y) (w .top) (w .bottom) (mostOf (s .x) (v .x) (v .x))
 
 -- what stands from l to r and from t to b is right of the window, left of it, below or above
@@ -56,9 +55,9 @@ pub record EdgesHeld (w : Window) : Type 0 where
   pub bottom : HeldWithin 400 (w .bottom)
 
 -- of a ring's corners
-pub record Keeps (w : Window) (s : Point) (v : List Float) (cell : List ℕ) : Type 0 where
+pub record WindowKeeps (w : Window) (s : Point) (v : List Float) (cell : List ℕ) : Type 0 where
   pub edges : EdgesHeld w
-  pub each : (k : ℕ) → k < length cell → keptOf w s (pointAt v (getD cell k 0)) ≡ true
+  pub each : (k : ℕ) → k < length cell → windowKept w s (pointAt v (getD cell k 0)) ≡ true
 
 abbrev pub OffWindow : Window → Point → Type 0
 OffWindow w o = (NotAbove (w .right) (o .x) ⊎ NotAbove (o .x) (w .left)) ⊎ (NotAbove (w .bottom) (o .y) ⊎ NotAbove (o .y) (w .top))

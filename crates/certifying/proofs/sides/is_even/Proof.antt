@@ -97,7 +97,8 @@ prior-requires-4 c κs =
     let h = s .pre .1 in
     let m = s .pre .0 in
     let x = w1 .wide .ensures in
-    let below = d-below h m x (omega (arith, e1 .if1 .left)) (p1 .prior .ensures) (omega (arith, e2 .if2 .left)) (p2 .prior2 .ensures) (omega (arith, e3 .if3 .left)) (p3 .prior3 .ensures) (omega (arith, e4 .if4 .left)) in
+    let below = d-below h m x (omega (arith, e1 .if1 .left)) (p1 .prior .ensures) (omega (arith, e2 .if2 .left)) (p2 .prior2 .ensures)
+    (omega (arith, e3 .if3 .left)) (p3 .prior3 .ensures) (omega (arith, e4 .if4 .left)) in
     (omega (arith, h .lie .few, below), omega (arith, h .lie .room, below))
 
 returns-5 : tie.Need-returns-5
@@ -121,7 +122,8 @@ is-two-pairs-requires c κs =
       first = number-safe (h .lie) (head-below h m x (omega (arith, e1 .if1 .left)));
       second = number-safe (h .lie) (y-below h m x (omega (arith, e1 .if1 .left)) (p1 .prior .ensures) (omega (arith, e2 .if2 .left)));
       third = number-safe (h .lie) (z-below h m x (omega (arith, e1 .if1 .left)) (p1 .prior .ensures) (omega (arith, e2 .if2 .left)) (p2 .prior2 .ensures) (omega (arith, e3 .if3 .left)));
-      fourth = number-safe (h .lie) (d-below h m x (omega (arith, e1 .if1 .left)) (p1 .prior .ensures) (omega (arith, e2 .if2 .left)) (p2 .prior2 .ensures) (omega (arith, e3 .if3 .left)) (p3 .prior3 .ensures) (omega (arith, e4 .if4 .left)));
+      fourth = number-safe (h .lie) (d-below h m x (omega (arith, e1 .if1 .left)) (p1 .prior .ensures) (omega (arith, e2 .if2 .left)) (p2 .prior2 .ensures)
+          (omega (arith, e3 .if3 .left)) (p3 .prior3 .ensures) (omega (arith, e4 .if4 .left)));
     }
 
 returns-6 : tie.Need-returns-6
@@ -141,7 +143,8 @@ returns-6 c =
     let m = s .pre .0 in
     let x = w1 .wide .ensures in
     λ e.
-    four-even h m x (omega (arith, e1 .if1 .left)) (p1 .prior .ensures) (omega (arith, e2 .if2 .left)) (p2 .prior2 .ensures) (omega (arith, e3 .if3 .left)) (p3 .prior3 .ensures) (omega (arith, e4 .if4 .left))
+    four-even h m x (omega (arith, e1 .if1 .left)) (p1 .prior .ensures) (omega (arith, e2 .if2 .left)) (p2 .prior2 .ensures)
+    (omega (arith, e3 .if3 .left)) (p3 .prior3 .ensures) (omega (arith, e4 .if4 .left))
     (omega (arith, p4 .prior4 .ensures, e5 .if5 .left)) (c .is-two-pairs .ensures e)
 
 pub is-even-spec : {M : Type 1} → statement M

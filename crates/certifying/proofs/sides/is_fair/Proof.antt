@@ -93,5 +93,6 @@ returns-4 c = let l = c .before in
 pub is-fair-spec : {M : Type 1} → statement M
 is-fair-spec =
     tie.close
-    (tie.spec Inv-loop μ-loop is-even-requires returns is-pair-requires returns-2 mul-wide mul-wide-2 shared-slice-read-wide (λ c κs. search needs) loop-holds (λ c. omega arith) is-surplus-requires returns-3
+    (tie.spec Inv-loop μ-loop is-even-requires returns is-pair-requires returns-2 mul-wide mul-wide-2 shared-slice-read-wide (λ c κs. search needs) loop-holds (λ c. omega arith)
+    is-surplus-requires returns-3
     mul-wide-3 add-wide mul-wide-4 shared-slice-read-wide-2 (λ c κs. search needs) loop-less loop-again returns-4)

@@ -1,5 +1,4 @@
 -- `certifying::tree::all_nearer` meets its contract.
-use mathlib.Core.Path.{_∙_}
 use denote.Ref.{now}
 use Rattle.certifying.specs.call.laws.Stages.{names-none}
 use Rattle.certifying.specs.tree.laws.Search.{all-asked}

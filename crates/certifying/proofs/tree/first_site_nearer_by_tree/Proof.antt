@@ -1,6 +1,5 @@
 -- `certifying::tree::first_site_nearer_by_tree` meets its contract.
 use Rattle.certifying.specs.tree.laws.Search.{sites-held, pieces-held}
-use borrow.Author.Needs.{needs}
 use Rattle.certifying.proofs.tree.first_site_nearer_by_tree.Statement.{statement}
 use Rattle.certifying.proofs.tree.first_site_nearer_by_tree.Tie as tie
 

@@ -1,9 +1,8 @@
 -- `certifying::tree::none_nearer` meets its contract: no piece that was passed has such a corner, and every site has a place.
 use mathlib.Core.Path.{sym}
 use mathlib.Core.List.{[]}
-use Prim.Native.Nat.{_-_, _/_}
+use Prim.Native.Nat.{_-_}
 use denote.Ref.{now}
-use lib.ListN.{length}
 use Rattle.ring_area.specs.lowest.laws.Loops.{no-both}
 use Rattle.auditing.specs.nearer.Nearer.{siteNearer}
 use Rattle.certifying.specs.tree.laws.Search.{NoneBefore, before-more, before-all}

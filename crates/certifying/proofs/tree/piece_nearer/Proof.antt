@@ -4,7 +4,6 @@ use denote.Ref.{now}
 use Rattle.ring_area.specs.lowest.laws.Loops.{named-twice}
 use Rattle.audit_truth.specs.Held.{HeldPoint}
 use Rattle.certifying.specs.tree.laws.Search.{empty-none}
-use borrow.Author.Needs.{needs}
 use Rattle.certifying.proofs.tree.piece_nearer.Statement.{statement}
 use Rattle.certifying.proofs.tree.piece_nearer.Tie as tie
 

@@ -1,5 +1,5 @@
 -- `certifying::windows::all_kept` meets its contract: every corner that was passed is kept.
-use mathlib.Core.Path.{_≡_, sym, _∙_, subst}
+use mathlib.Core.Path.{_≡_, sym, _∙_}
 use mathlib.Core.Bool.{true}
 use Prim.Native.Nat.{ℕ, _-_, _<_}
 use native.Mathlib.Nat.{lt-of-lt-of-le}
@@ -7,7 +7,7 @@ use denote.Ref.{now}
 use lib.ListN.{length, getD}
 use Rattle.ring_area.specs.lowest.laws.Loops.{named-twice, no-both}
 use Rattle.plane.specs.points.Flat.{pointAt}
-use Rattle.certifying.specs.windows.Windows.{keptOf}
+use Rattle.certifying.specs.windows.Windows.{windowKept}
 use Rattle.certifying.specs.windows.laws.LeftOut.{kept-more}
 use borrow.Author.Needs.{needs}
 use native.Mathlib.Omega.{arith}
@@ -15,7 +15,7 @@ use Rattle.certifying.proofs.windows.all_kept.Statement.{statement}
 use Rattle.certifying.proofs.windows.all_kept.Tie as tie
 
 abbrev Inv-loop : tie.InvT-loop
-Inv-loop w s vertices entries k₀ k = (i : ℕ) → i < k → keptOf w s (pointAt vertices (getD entries i 0)) ≡ true
+Inv-loop w s vertices entries k₀ k = (i : ℕ) → i < k → windowKept w s (pointAt vertices (getD entries i 0)) ≡ true
 
 abbrev μ-loop : tie.MeasureT-loop
 μ-loop w s vertices entries k₀ k = length entries - k
@@ -49,7 +49,8 @@ loop-again : tie.Need-loop-again Inv-loop μ-loop
 loop-again c =
     let at-is-kept = c .before in let at-point-at = at-is-kept .before in let at-wide = at-point-at .before in let t = at-wide .before .before in
     let l = t .before in let s = l .before .before .before in
-    kept-more (s .args .w) (s .args .s) (now (s .args .vertices)) (now (s .args .entries)) (l .loop .inv) (at-wide .wide .ensures) (at-point-at .point-at .ensures) (sym (at-is-kept .is-kept .ensures) ∙ c .if1 .taken)
+    kept-more (s .args .w) (s .args .s) (now (s .args .vertices)) (now (s .args .entries)) (l .loop .inv) (at-wide .wide .ensures) (at-point-at .point-at .ensures)
+    (sym (at-is-kept .is-kept .ensures) ∙ c .if1 .taken)
 
 returns : tie.Need-returns Inv-loop μ-loop
 returns c =

@@ -36,10 +36,10 @@ even-of {v} {ix} {to} {n} {p} {q} w o = le-ltb (howMany (runsAt v ix to q p) n) 
 
 -- sides k and j, as the code has them
 module _ (v : List Float) (ix to : List ℕ) where
-  abbrev pub from-of : ℕ → Point
+  abbrev from-of : ℕ → Point
   from-of k = pointAt v (getD ix k 0)
 
-  abbrev pub to-of : ℕ → Point
+  abbrev to-of : ℕ → Point
   to-of k = pointAt v (getD to k 0)
 
   pub record BackAt (k j : ℕ) : Type 0 where

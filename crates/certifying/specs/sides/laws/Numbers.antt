@@ -11,9 +11,9 @@ use Rattle.plane.specs.declared.points.Point.{Point}
 use Rattle.plane.specs.points.Flat.{pointAt}
 use Rattle.auditing.specs.places.Places.{sameOf}
 use Rattle.auditing.specs.places.Slots.{LastIn}
-use Rattle.certifying.specs.sides.Sides.{oneFor, runsAt, moreOf}
-use Rattle.certifying.specs.sides.Chains.{slotAt, SidesIn, HungTo, WaysOf, EvenIn, NumberSafe, FourSafe, Turned, TwoPairs}
-use Rattle.certifying.specs.sides.laws.Fair.{from-of, to-of, even-of, head-last, last-below, next-last}
+use Rattle.certifying.specs.sides.Sides.{oneFor, runsAt}
+use Rattle.certifying.specs.sides.Chains.{slotAt, SidesIn, HungTo, EvenIn, NumberSafe, Turned, TwoPairs}
+use Rattle.certifying.specs.sides.laws.Fair.{even-of, head-last, next-last}
 use Rattle.certifying.specs.sides.laws.Walking.{ways-start, ways-step, ways-end}
 
 both-ways : (a b : Bool) → (a && b) ≡ (b && a)

@@ -25,7 +25,7 @@ use Rattle.areas.specs.Steps.{RingsKept}
 use Rattle.auditing.specs.nearer.Nearer.{beyond, noLists, otherAt, heldCount, beyondAt, nearerAt, cornerNearer, cellNearer, siteNearer}
 use Rattle.auditing.specs.nearer.Steps.{PiecesKept}
 use Rattle.auditing.specs.nearer.laws.Pieces.{site-is}
-use Rattle.audit_truth.specs.Held.{HeldWithin, HeldPoint, AllHeld}
+use Rattle.audit_truth.specs.Held.{HeldPoint, AllHeld}
 use Rattle.certifying.specs.declared.windows.Window.{Window}
 use Rattle.certifying.specs.tree.Steps.{SitesHeld, Order, NodeNamed, nodeOff, OffFrom, LevelSafe, RingSafe, PassedFrom, PiecesHeld, TreeSafe}
 use Rattle.certifying.specs.tree.Tree.{cornerPast}

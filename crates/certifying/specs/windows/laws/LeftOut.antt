@@ -30,7 +30,7 @@ use Rattle.audit_truth.specs.laws.Parts.{not-over, lt-turned, le-turned}
 use Rattle.audit_truth.specs.laws.Sides.{held-finite, sub-held, add-held, mul-held, bisectorPart, coordinate-held}
 use Rattle.certifying.specs.call.Verdict.{largerOf}
 use Rattle.certifying.specs.declared.windows.Window.{Window}
-use Rattle.certifying.specs.windows.Windows.{NotMinus, NotAbove, clearOf, mostOf, keptAlong, keptOf, offOf, EdgesHeld, OffWindow}
+use Rattle.certifying.specs.windows.Windows.{NotMinus, NotAbove, clearOf, mostOf, keptAlong, windowKept, offOf, EdgesHeld, OffWindow}
 use Rattle.certifying.specs.windows.laws.Axes.{wayPlus, wayMinus, twicePlus, twiceMinus, clear, taken-off, gained}
 use Rattle.certifying.specs.windows.laws.Grid.{sumGrid, productGrid, sum-mono, product-mono, sum-none, sum-held}
 use Rattle.certifying.specs.windows.laws.Plus.{magnitude-plus, add-plus, mul-plus, not-above}
@@ -401,8 +401,8 @@ module _ (w : Window) (W : EdgesHeld w) (s v : Point) (hs : HeldPoint s) (hv : H
       (both-sides′ _ _ _ _ (plusUnits most-across) (k .adds) (k .takes)
       (adds-most (v .x) (s .x) (o .x) (hv .x) (hs .x) (ho .x) (v .x) (v .x) (hv .x) (hv .x) (at-most-self (v .x)) (at-most-self (v .x))))
 
-  pub left-out : keptOf w s v ≡ true → OffWindow w o → beyond far v s o ≡ false
-  unfolding keptOf
+  pub left-out : windowKept w s v ≡ true → OffWindow w o → beyond far v s o ≡ false
+  unfolding windowKept
   left-out e =
       ⊎-elim
       (λ i. by-x (kept-off (v .x) (s .x) (o .x) (hv .x) (hs .x) (ho .x) (w .left) (w .right) most-down (W .left) (W .right) down-held
@@ -430,10 +430,10 @@ pub most-is : (s l r : Float) {u : Float} → u ≡ largerOf (r ⊟ s) (s ⊟ l)
 unfolding mostOf
 most-is s l r e = rw e refl
 
-pub kept-more : (w : Window) (s : Point) (v : List Float) (cell : List ℕ) {k n : ℕ} {p : Point} → ((i : ℕ) → i < k → keptOf w s (pointAt v (getD cell i 0)) ≡ true)
-    → n ≡ getD cell k 0 → p ≡ pointAt v n → keptOf w s p ≡ true → (i : ℕ) → i < k + 1 → keptOf w s (pointAt v (getD cell i 0)) ≡ true
+pub kept-more : (w : Window) (s : Point) (v : List Float) (cell : List ℕ) {k n : ℕ} {p : Point} → ((i : ℕ) → i < k → windowKept w s (pointAt v (getD cell i 0)) ≡ true)
+    → n ≡ getD cell k 0 → p ≡ pointAt v n → windowKept w s p ≡ true → (i : ℕ) → i < k + 1 → windowKept w s (pointAt v (getD cell i 0)) ≡ true
 kept-more w s v cell {k} a e f h i g =
-    ⊎-elim (a i) (λ b. subst (λ (q : Point). keptOf w s q ≡ true) (f ∙ ap (pointAt v) (e ∙ ap (λ (j : ℕ). getD cell j 0) (last i g b))) h) (lt-or-ge i k)
+    ⊎-elim (a i) (λ b. subst (λ (q : Point). windowKept w s q ≡ true) (f ∙ ap (pointAt v) (e ∙ ap (λ (j : ℕ). getD cell j 0) (last i g b))) h) (lt-or-ge i k)
   where
     last : (i : ℕ) → i < k + 1 → k ≤ i → k ≡ i
     last i g b = omega arith
