@@ -6,3 +6,4 @@ pub mod call
 pub mod truth
 pub mod tree
 pub mod twins
+pub mod windows

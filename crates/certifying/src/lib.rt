@@ -5,3 +5,4 @@ pub mod rules;
 pub mod sides;
 pub mod tree;
 pub mod twins;
+pub mod windows;

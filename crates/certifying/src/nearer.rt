@@ -6,7 +6,7 @@ ghost use lib.ListN.{length};
 ghost use Rattle.ring_area.specs.lowest.Lowest.{lowest};
 ghost use Rattle.auditing.specs.nearer.Nearer.{siteNearer};
 ghost use Rattle.certifying.specs.nearer.Safe.{NearSafe};
-ghost use Rattle.certifying.specs.tree.Steps.{NotMinus};
+ghost use Rattle.certifying.specs.windows.Windows.{NotMinus};
 
 // The list of no others.
 pub fn no_others<'a>(indexes: &'a [u32]) -> &'a [u32]

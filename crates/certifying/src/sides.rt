@@ -15,7 +15,7 @@ ghost use Rattle.plane.specs.points.Flat.{pointAt};
 ghost use Rattle.auditing.specs.places.Places.{sameOf};
 ghost use Rattle.certifying.specs.sides.Sides.{ringEnds, oneFor, alongOf, surplusAt, leavesOf, leftOnce};
 ghost use Rattle.certifying.specs.sides.Chains.{placeNumber, sideSlot, laidEnds, SideSafe, SidesIn, HungTo, WaysOf, RingLaid, LaySafe, LaidTo, HungMore, HangSafe, HangsAll};
-ghost use Rattle.certifying.specs.sides.Chains.{RunsBack, EvenIn, FairIn};
+ghost use Rattle.certifying.specs.sides.Chains.{RunsBack, EvenIn, FairIn, NumberSafe, FourSafe, Turned, TwoPairs};
 
 // Two places of a side.
 pub struct SideEnds {
@@ -146,7 +146,7 @@ fn answers(s: SideEnds, t: SideEnds) -> bool
     runs(t, s.to, s.from)
 }
 
-// Whether two sides hang in slot m, one there and one back: what nearly every slot has that has any.
+// Whether two sides hang in slot m, one there and one back, by their places.
 fn is_pair(work: &[u32], vertices: &[f64], indexes: &[u32], count: usize, m: usize) -> bool
     requires { ⌜ (m < count) × HungTo (now vertices) (now indexes) (laidEnds (now work) count) count count (now work) ⌝ }
     ensures { λ r. ⌜ (r ≡ true → EvenIn (now (vertices .entry)) (now (indexes .entry)) (laidEnds (now (work .entry)) count) count m) ⌝ }
@@ -170,6 +170,82 @@ fn is_pair(work: &[u32], vertices: &[f64], indexes: &[u32], count: usize, m: usi
     false
 }
 
+// The side before side k in its slot, as one more than its entry, or 0.
+fn prior(work: &[u32], k: usize) -> usize
+    requires { ⌜ (k < 2 ^ 24) × (3 * k + 1 < length (now work)) ⌝ }
+    ensures { λ r. ⌜ r ≡ getD (now (work .entry)) (3 * k + 1) 0 ⌝ }
+{
+    wide(work[3 * k + 1])
+}
+
+// Where side k ends.
+fn end_of(work: &[u32], k: usize) -> u32
+    requires { ⌜ (k < 2 ^ 24) × (3 * k + 2 < length (now work)) ⌝ }
+    ensures { λ r. ⌜ r ≡ getD (now (work .entry)) (3 * k + 2) 0 ⌝ }
+{
+    work[3 * k + 2]
+}
+
+// Whether sides j and k are the same one there and back, by the numbers of their vertices.
+fn is_turned(work: &[u32], indexes: &[u32], j: usize, k: usize) -> bool
+    requires { ⌜ NumberSafe (now indexes) (now work) j × NumberSafe (now indexes) (now work) k ⌝ }
+    ensures { λ r. ⌜ (r ≡ true → Turned (now (indexes .entry)) (now (work .entry)) j k) ⌝ }
+{
+    let a = end_of(work, j);
+    let b = end_of(work, k);
+    if indexes[j] != b {
+        return false;
+    }
+    if indexes[k] != a {
+        return false;
+    }
+    true
+}
+
+// Whether four are two such pairs.
+fn is_two_pairs(work: &[u32], indexes: &[u32], i: usize, j: usize, k: usize, l: usize) -> bool
+    requires { ⌜ FourSafe (now indexes) (now work) i j k l ⌝ }
+    ensures { λ r. ⌜ (r ≡ true → TwoPairs (now (indexes .entry)) (now (work .entry)) i j k l) ⌝ }
+{
+    if is_turned(work, indexes, i, j) {
+        return is_turned(work, indexes, k, l);
+    }
+    if is_turned(work, indexes, i, k) {
+        return is_turned(work, indexes, j, l);
+    }
+    if is_turned(work, indexes, i, l) {
+        return is_turned(work, indexes, j, k);
+    }
+    false
+}
+
+// Whether two or four sides hang in slot m that are one or two such pairs: what nearly every slot has where pieces share their vertices. No coordinate is read.
+fn is_even(work: &[u32], vertices: &[f64], indexes: &[u32], count: usize, m: usize) -> bool
+    requires { ⌜ (m < count) × HungTo (now vertices) (now indexes) (laidEnds (now work) count) count count (now work) ⌝ }
+    ensures { λ r. ⌜ (r ≡ true → EvenIn (now (vertices .entry)) (now (indexes .entry)) (laidEnds (now (work .entry)) count) count m) ⌝ }
+{
+    let x = wide(work[3 * m]);
+    if x == 0 {
+        return false;
+    }
+    let y = prior(work, x - 1);
+    if y == 0 {
+        return false;
+    }
+    let z = prior(work, y - 1);
+    if z == 0 {
+        return is_turned(work, indexes, x - 1, y - 1);
+    }
+    let t = prior(work, z - 1);
+    if t == 0 {
+        return false;
+    }
+    if 0 < prior(work, t - 1) {
+        return false;
+    }
+    is_two_pairs(work, indexes, x - 1, y - 1, z - 1, t - 1)
+}
+
 // Whether no side that hangs in slot m has more run its way than back.
 fn is_fair(
     work: &[u32],
@@ -182,6 +258,9 @@ fn is_fair(
     requires { ⌜ (m < count) × HungTo (now vertices) (now indexes) (laidEnds (now work) count) count count (now work) ⌝ }
     ensures { λ r. ⌜ (r ≡ true → FairIn bounds (now (vertices .entry)) (now (indexes .entry)) (laidEnds (now (work .entry)) count) count m) ⌝ }
 {
+    if is_even(work, vertices, indexes, count, m) {
+        return true;
+    }
     if is_pair(work, vertices, indexes, count, m) {
         return true;
     }

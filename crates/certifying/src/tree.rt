@@ -1,6 +1,13 @@
-// The fourth test of the certificate by a tree of the sites: a site, or a block of them, that is far enough on one side of all corners of a ring is left out for the whole ring at once
-// (specs/tree/laws/LeftOut.antt). The tree is an order of the sites with the sites of least and greatest coordinates of each block of 16, of 256 and of 4096 places. Any order is sound; a
-// bad one costs time.
+// The fourth test of the certificate by a tree of the sites: a site, or a block of them, that is off the window of a ring is left out for the whole ring at once (crate::windows). The tree
+// is an order of the sites with the sites of least and greatest coordinates of each block of 16, of 256 and of 4096 places. Any order is sound; a bad one costs time.
+use crate::nearer::no_others;
+use crate::windows::Window;
+use crate::windows::greater;
+use crate::windows::is_off;
+use crate::windows::is_window;
+use crate::windows::lesser;
+use crate::windows::window_of;
+use auditing::nearer::first_nearer;
 use base::numbers::wide;
 use plane::points::Point;
 use plane::points::point_at;
@@ -14,25 +21,10 @@ ghost use Rattle.ring_area.specs.lowest.Lowest.{lowest, anyBelow};
 ghost use Rattle.plane.specs.points.Flat.{pointAt};
 ghost use Rattle.arguments.specs.entries.Named.{EntriesNamed};
 ghost use Rattle.auditing.specs.nearer.Nearer.{beyond, cellNearer, siteNearer};
-ghost use Rattle.certifying.specs.call.Verdict.{largerOf};
-ghost use Rattle.certifying.specs.tree.Tree.{lesserOf, clearOf, mostOf, outOf, spreadOf, ringFor, cornerPast};
-ghost use Rattle.certifying.specs.tree.Steps.{SitesHeld, CornersHeld, Spans, RingHeld, TwoSites, Lower, Higher, FourNamed, Widens, BoxesFrom, Order, Reordered, swapped, NodeNamed, FillSafe};
-ghost use Rattle.certifying.specs.tree.Steps.{NodeFilled, LevelFilled, base256, base4096, TreeOf, nodeOut, AloneFrom, LevelSafe, RingSafe, PassedFrom, PieceSafe, PiecesHeld, TreeSafe};
-
-// The least and the greatest coordinates of some points.
-struct Span {
-    least: Point,
-    most: Point,
-}
-
-// A ring: its site, what its corners span, and how much the bisector's test can add along either axis.
-pub struct Ring {
-    site: Point,
-    least: Point,
-    most: Point,
-    across: f64,
-    down: f64,
-}
+ghost use Rattle.certifying.specs.windows.Windows.{EdgesHeld};
+ghost use Rattle.certifying.specs.tree.Tree.{cornerPast};
+ghost use Rattle.certifying.specs.tree.Steps.{SitesHeld, TwoSites, Lower, Higher, FourNamed, Widens, BoxesFrom, Order, Reordered, swapped, NodeNamed, FillSafe};
+ghost use Rattle.certifying.specs.tree.Steps.{NodeFilled, LevelFilled, base256, base4096, TreeOf, nodeOff, OffFrom, LevelSafe, RingSafe, PassedFrom, PieceSafe, PiecesHeld, TreeSafe};
 
 // The sites of least and of greatest coordinates.
 struct Extremes {
@@ -40,105 +32,6 @@ struct Extremes {
     top: u32,
     right: u32,
     bottom: u32,
-}
-
-// ---- what is left out
-fn lesser(x: f64, y: f64) -> f64
-    ensures { λ r. ⌜ r ≡ lesserOf x y ⌝ }
-{
-    if y < x {
-        return y;
-    }
-    x
-}
-
-fn greater(x: f64, y: f64) -> f64
-    ensures { λ r. ⌜ r ≡ largerOf x y ⌝ }
-{
-    if x < y {
-        return y;
-    }
-    x
-}
-
-fn spread(c: Span, p: Point) -> Span
-    ensures { λ r. ⌜ r ≡ spreadOf c p ⌝ }
-{
-    let least = Point {
-        x: lesser(c.least.x, p.x),
-        y: lesser(c.least.y, p.y),
-    };
-    let most = Point {
-        x: greater(c.most.x, p.x),
-        y: greater(c.most.y, p.y),
-    };
-    Span { least, most }
-}
-
-// What the corners of a ring span.
-fn span_of(vertices: &[f64], entries: &[u32]) -> Span
-    requires { ⌜ (0 < length (now entries)) × EntriesNamed (now entries) (length (now vertices) / 2) × CornersHeld (now vertices) (now entries) ⌝ }
-    ensures { λ r. ⌜ Spans (now (vertices .entry)) (now (entries .entry)) (length (now (entries .entry))) (r .least) (r .most) ⌝ }
-{
-    let p = point_at(vertices, wide(entries[0]));
-    let mut c = Span { least: p, most: p };
-    let mut k = 1;
-    while k < entries.len() {
-        c = spread(c, point_at(vertices, wide(entries[k])));
-        k += 1;
-    }
-    c
-}
-
-fn most_of(s: f64, l: f64, r: f64) -> f64
-    ensures { λ m. ⌜ m ≡ mostOf s l r ⌝ }
-{
-    let u = greater(r - s, s - l);
-    (u + u) * u
-}
-
-fn ring_of(site: Point, c: Span) -> Ring
-    ensures { λ r. ⌜ r ≡ ringFor site (c .least) (c .most) ⌝ }
-{
-    let least = c.least;
-    let most = c.most;
-    let across = most_of(site.x, least.x, most.x);
-    let down = most_of(site.y, least.y, most.y);
-    Ring {
-        site,
-        least,
-        most,
-        across,
-        down,
-    }
-}
-
-fn is_clear(p: f64, q: f64, most: f64) -> bool
-    ensures { λ r. ⌜ r ≡ clearOf p q most ⌝ }
-{
-    (p > 0.0) & (q > 0.0) & (most <= p * q)
-}
-
-// Whether no corner of the ring is beyond the bisector with what stands from l to r and from t to b.
-fn is_out(c: Ring, l: f64, t: f64, r: f64, b: f64) -> bool
-    ensures { λ z. ⌜ z ≡ outOf c l t r b ⌝ }
-{
-    is_clear(l - c.site.x, (l - c.most.x) - (c.most.x - c.site.x), c.down)
-        | is_clear(
-            c.site.x - r,
-            (c.least.x - r) - (c.site.x - c.least.x),
-            c.down,
-        )
-        | is_clear(
-            t - c.site.y,
-            (t - c.most.y) - (c.most.y - c.site.y),
-            c.across,
-        )
-        | is_clear(
-            c.site.y - b,
-            (c.least.y - b) - (c.site.y - c.least.y),
-            c.across,
-        )
 }
 
 // ---- the nodes
@@ -415,22 +308,22 @@ fn plant(sites: &[f64], room: &mut [u32])
 }
 
 // ---- the search
-// Whether the block of the node is left out.
-fn node_out(sites: &[f64], room: &[u32], c: Ring, at: usize) -> bool
+// Whether the block of the node is off the window.
+fn node_out(sites: &[f64], room: &[u32], w: Window, at: usize) -> bool
     requires { ⌜ (at + 3 < length (now room)) × NodeNamed (now sites) (now room) at ⌝ }
-    ensures { λ r. ⌜ r ≡ nodeOut (now (sites .entry)) (now (room .entry)) c at ⌝ }
+    ensures { λ r. ⌜ r ≡ nodeOff (now (sites .entry)) (now (room .entry)) w at ⌝ }
 {
     let left = point_at(sites, wide(room[at]));
     let top = point_at(sites, wide(room[at + 1]));
     let right = point_at(sites, wide(room[at + 2]));
     let bottom = point_at(sites, wide(room[at + 3]));
-    is_out(c, left.x, top.y, right.x, bottom.y)
+    is_off(w, left.x, top.y, right.x, bottom.y)
 }
 
-// Whether a block of w places starts at j and is left out.
-fn level_out(sites: &[f64], room: &[u32], c: Ring, j: usize, w: usize, base: usize) -> bool
+// Whether a block of so many places starts at j and is off the window.
+fn level_out(sites: &[f64], room: &[u32], c: Window, j: usize, w: usize, base: usize) -> bool
     requires { ⌜ LevelSafe (now sites) (now room) w base c × (j < length (now sites) / 2) ⌝ }
-    ensures { λ r. ⌜ (r ≡ true → AloneFrom (now (sites .entry)) (now (room .entry)) c j (j + w)) ⌝ }
+    ensures { λ r. ⌜ (r ≡ true → OffFrom (now (sites .entry)) (now (room .entry)) c j (j + w)) ⌝ }
 {
     if j % w != 0 {
         return false;
@@ -438,10 +331,10 @@ fn level_out(sites: &[f64], room: &[u32], c: Ring, j: usize, w: usize, base: usi
     node_out(sites, room, c, base + 4 * (j / w))
 }
 
-// How many places from j on are left out at once.
-fn places_out(sites: &[f64], room: &[u32], c: Ring, j: usize) -> usize
-    requires { ⌜ TreeOf (now sites) (now room) × SitesHeld (now sites) × RingHeld c × (j < length (now sites) / 2) ⌝ }
-    ensures { λ r. ⌜ AloneFrom (now (sites .entry)) (now (room .entry)) c j (j + r) × (r ≤ 4096) ⌝ }
+// How many places from j on are off the window at once.
+fn places_out(sites: &[f64], room: &[u32], c: Window, j: usize) -> usize
+    requires { ⌜ TreeOf (now sites) (now room) × SitesHeld (now sites) × EdgesHeld c × (j < length (now sites) / 2) ⌝ }
+    ensures { λ r. ⌜ OffFrom (now (sites .entry)) (now (room .entry)) c j (j + r) × (r ≤ 4096) ⌝ }
 {
     let n = sites.len() / 2;
     if level_out(sites, room, c, j, 4096, base_4096(n)) {
@@ -454,7 +347,7 @@ fn places_out(sites: &[f64], room: &[u32], c: Ring, j: usize) -> usize
         return 16;
     }
     let o = point_at(sites, wide(room[j]));
-    if is_out(c, o.x, o.y, o.x, o.y) {
+    if is_off(c, o.x, o.y, o.x, o.y) {
         return 1;
     }
     0
@@ -490,25 +383,20 @@ fn passed(
     far: f64,
     sites: &[f64],
     room: &[u32],
-    c: Ring,
+    w: Window,
+    site: Point,
     vertices: &[f64],
     entries: &[u32],
     j: usize,
 ) -> usize
-    requires { ⌜ RingSafe far (now sites) (now room) c (now vertices) (now entries) × (j < length (now sites) / 2) ⌝ }
-    ensures { λ r. ⌜ PassedFrom far (now (sites .entry)) (now (room .entry)) c (now (vertices .entry)) (now (entries .entry)) j r ⌝ }
+    requires { ⌜ RingSafe far (now sites) (now room) w site (now vertices) (now entries) × (j < length (now sites) / 2) ⌝ }
+    ensures { λ r. ⌜ PassedFrom far (now (sites .entry)) (now (room .entry)) site (now (vertices .entry)) (now (entries .entry)) j r ⌝ }
 {
-    let r = places_out(sites, room, c, j);
+    let r = places_out(sites, room, w, j);
     if 0 < r {
         return r;
     }
-    if some_past(
-        far,
-        c.site,
-        point_at(sites, wide(room[j])),
-        vertices,
-        entries,
-    ) {
+    if some_past(far, site, point_at(sites, wide(room[j])), vertices, entries) {
         return 0;
     }
     1
@@ -519,24 +407,34 @@ fn ring_nearer(
     far: f64,
     sites: &[f64],
     room: &[u32],
-    c: Ring,
+    w: Window,
+    site: Point,
     vertices: &[f64],
     entries: &[u32],
     s: usize,
 ) -> bool
-    requires { ⌜ RingSafe far (now sites) (now room) c (now vertices) (now entries) × (c .site ≡ pointAt (now sites) s) ⌝ }
+    requires { ⌜ RingSafe far (now sites) (now room) w site (now vertices) (now entries) × (site ≡ pointAt (now sites) s) ⌝ }
     ensures { λ r. ⌜ r ≡ cellNearer far (now (sites .entry)) s [] true (now (vertices .entry)) (now (entries .entry)) ⌝ }
 {
     let n = sites.len() / 2;
     let mut j = 0;
     while j < n {
-        let k = passed(far, sites, room, c, vertices, entries, j);
+        let k = passed(far, sites, room, w, site, vertices, entries, j);
         if k == 0 {
             return true;
         }
         j += k;
     }
     false
+}
+
+// The same by all sites, where no window was found.
+fn all_nearer(far: f64, sites: &[f64], vertices: &[f64], entries: &[u32], s: usize) -> bool
+    requires { ⌜ (s < length (now sites) / 2) × EntriesNamed (now entries) (length (now vertices) / 2) ⌝ }
+    ensures { λ r. ⌜ r ≡ cellNearer far (now (sites .entry)) s [] true (now (vertices .entry)) (now (entries .entry)) ⌝ }
+{
+    let none = no_others(entries);
+    first_nearer(far, sites, s, none, true, vertices, entries) < entries.len()
 }
 
 // The same of the piece of s.
@@ -554,8 +452,12 @@ fn piece_nearer(
     if entries.len() == 0 {
         return false;
     }
-    let c = ring_of(point_at(sites, s), span_of(vertices, entries));
-    ring_nearer(far, sites, room, c, vertices, entries, s)
+    let site = point_at(sites, s);
+    let w = window_of(site, vertices, entries);
+    if is_window(w, site, vertices, entries) {
+        return ring_nearer(far, sites, room, w, site, vertices, entries, s);
+    }
+    all_nearer(far, sites, vertices, entries, s)
 }
 
 // Of the lists.
@@ -576,7 +478,57 @@ fn site_nearer(
     piece_nearer(far, sites, room, vertices, entries, s)
 }
 
-// The lowest site whose piece has such a corner, or their number. The room is the tree's.
+// Whether no piece has such a corner: in the tree's order, so that what one piece asks of memory is at hand for the next.
+fn none_nearer(
+    far: f64,
+    sites: &[f64],
+    room: &[u32],
+    vertices: &[f64],
+    offsets: &[u32],
+    indexes: &[u32],
+) -> bool
+    requires { ⌜ TreeSafe far (now sites) (now vertices) (now offsets) (now indexes) × TreeOf (now sites) (now room) × SitesHeld (now sites)
+        × PiecesHeld (now sites) (now vertices) (now offsets) (now indexes) ⌝ }
+    ensures { λ r. ⌜ (r ≡ true
+        → length (now (sites .entry)) / 2
+        ≡ lowest (siteNearer far (now (sites .entry)) [] [] (now (vertices .entry)) (now (offsets .entry)) (now (indexes .entry))) (length (now (sites .entry)) / 2)) ⌝ }
+{
+    let count = sites.len() / 2;
+    let mut j = 0;
+    while j < count {
+        if site_nearer(far, sites, room, vertices, offsets, indexes, wide(room[j])) {
+            return false;
+        }
+        j += 1;
+    }
+    true
+}
+
+// The lowest site whose piece has such a corner, or their number: one by one.
+fn first_in_order(
+    far: f64,
+    sites: &[f64],
+    room: &[u32],
+    vertices: &[f64],
+    offsets: &[u32],
+    indexes: &[u32],
+) -> usize
+    requires { ⌜ TreeSafe far (now sites) (now vertices) (now offsets) (now indexes) × TreeOf (now sites) (now room) × SitesHeld (now sites)
+        × PiecesHeld (now sites) (now vertices) (now offsets) (now indexes) ⌝ }
+    ensures { λ r. ⌜ r ≡ lowest (siteNearer far (now (sites .entry)) [] [] (now (vertices .entry)) (now (offsets .entry)) (now (indexes .entry))) (length (now (sites .entry)) / 2) ⌝ }
+{
+    let count = sites.len() / 2;
+    let mut s = 0;
+    while s < count {
+        if site_nearer(far, sites, room, vertices, offsets, indexes, s) {
+            return s;
+        }
+        s += 1;
+    }
+    s
+}
+
+// The same, one by one only where there is one. The room is the tree's.
 pub fn first_site_nearer_by_tree(
     far: f64,
     sites: &[f64],
@@ -590,13 +542,8 @@ pub fn first_site_nearer_by_tree(
         × (length (now (room .exit)) ≡ length (now (room .entry))) ⌝ }
 {
     plant(sites, room);
-    let count = sites.len() / 2;
-    let mut s = 0;
-    while s < count {
-        if site_nearer(far, sites, room, vertices, offsets, indexes, s) {
-            return s;
-        }
-        s += 1;
+    if none_nearer(far, sites, room, vertices, offsets, indexes) {
+        return sites.len() / 2;
     }
-    s
+    first_in_order(far, sites, room, vertices, offsets, indexes)
 }

@@ -3,6 +3,7 @@
 use mathlib.Core.Path.{_≡_}
 use mathlib.Core.Bool.{true, false, _&&_}
 use mathlib.Core.List.{List, [], _∷_}
+use mathlib.Core.Logic.{_⊎_}
 use Prim.Native.Nat.{ℕ, zero, suc, _+_, _-_, _*_, _/_, _%_, _^_, _≤_, _<_}
 use lib.Ieee.{Float, binary64, toBits}
 use lib.ListN.{length, getD}
@@ -74,6 +75,26 @@ pub record WaysOf (v : List Float) (ix to : List ℕ) (n : ℕ) (p q : Point) (t
 pub record RunsBack (p q a c : Point) : Type 0 where
   pub back : (sameOf q a && sameOf p c) ≡ true
   pub only : (sameOf p a && sameOf q c) ≡ false
+
+-- side k can be read by numbers
+pub record NumberSafe (ix w : List ℕ) (k : ℕ) : Type 0 where
+  pub few : k < 2 ^ 24
+  pub entry : k < length ix
+  pub room : 3 * k + 2 < length w
+
+pub record FourSafe (ix w : List ℕ) (i j k l : ℕ) : Type 0 where
+  pub first : NumberSafe ix w i
+  pub second : NumberSafe ix w j
+  pub third : NumberSafe ix w k
+  pub fourth : NumberSafe ix w l
+
+-- sides j and k are the same one there and back, by the numbers of their vertices
+pub record Turned (ix w : List ℕ) (j k : ℕ) : Type 0 where
+  pub there : getD ix j 0 ≡ getD w (3 * k + 2) 0
+  pub back : getD ix k 0 ≡ getD w (3 * j + 2) 0
+
+abbrev pub TwoPairs : List ℕ → List ℕ → ℕ → ℕ → ℕ → ℕ → Type 0
+TwoPairs ix w i j k l = (Turned ix w i j × Turned ix w k l) ⊎ ((Turned ix w i k × Turned ix w j l) ⊎ (Turned ix w i l × Turned ix w j k))
 
 -- of no side of slot m more run its way than back; for the second fault, none that is along an edge counts
 abbrev pub EvenIn : List Float → List ℕ → List ℕ → ℕ → ℕ → Type 0

@@ -5,3 +5,4 @@ pub mod Slots
 pub mod Hanging
 pub mod Walking
 pub mod Fair
+pub mod Numbers

@@ -3,7 +3,7 @@ use mathlib.Core.Path.{_≡_}
 use mathlib.Core.Bool.{Bool, true, false}
 use mathlib.Core.List.{List}
 use Prim.Native.Nat.{ℕ, _+_, _*_, _/_, _≤_, _<_}
-use lib.Ieee.{Float, nan, inf, fin}
+use lib.Ieee.{Float, nan}
 use lib.ListN.{length, getD, set}
 use Rattle.ring_area.specs.lowest.Lowest.{anyBelow}
 use Rattle.plane.specs.points.Finite.{BoundedPoint}
@@ -11,51 +11,18 @@ use Rattle.plane.specs.points.Flat.{pointAt}
 use Rattle.plane.specs.declared.points.Point.{Point}
 use Rattle.walks.specs.shared.Cells.{cellOf}
 use Rattle.arguments.specs.entries.Named.{EntriesNamed}
-use Rattle.auditing.specs.nearer.Nearer.{beyond}
 use Rattle.auditing.specs.nearer.Steps.{PiecesKept}
-use Rattle.audit_truth.specs.Exact.{plusUnits, minusUnits}
 use Rattle.audit_truth.specs.Held.{HeldPoint}
-use Rattle.certifying.specs.declared.tree.Ring.{Ring}
-use Rattle.certifying.specs.tree.Tree.{ringFor, outOf, cornerPast}
+use Rattle.certifying.specs.declared.windows.Window.{Window}
+use Rattle.certifying.specs.windows.Windows.{NotMinus, NotAbove, offOf, EdgesHeld, WindowKeeps, OffWindow}
+use Rattle.certifying.specs.tree.Tree.{cornerPast}
 
 -- ---- values
--- not below 0, and no -0
-abbrev pub NotMinus : Float → Type 0
-NotMinus nan = Unit {0}
-NotMinus (inf s) = s ≡ false
-NotMinus (fin s m e) = s ≡ false
-
--- x is not above y, on whole numbers
-abbrev pub NotAbove : Float → Float → Type 0
-NotAbove x y = plusUnits x + minusUnits y ≤ minusUnits x + plusUnits y
-
-pub record SpanHolds (least most p : Point) : Type 0 where
-  pub left : NotAbove (least .x) (p .x)
-  pub right : NotAbove (p .x) (most .x)
-  pub top : NotAbove (least .y) (p .y)
-  pub bottom : NotAbove (p .y) (most .y)
-
 pub record SitesHeld (sites : List Float) : Type 0 where
   pub each : (i : ℕ) → i < length sites / 2 → HeldPoint (pointAt sites i)
 
 pub record CornersHeld (v : List Float) (cell : List ℕ) : Type 0 where
   pub each : (k : ℕ) → k < length cell → HeldPoint (pointAt v (getD cell k 0))
-
--- the first n corners of a ring
-pub record Spans (v : List Float) (cell : List ℕ) (n : ℕ) (least most : Point) : Type 0 where
-  pub least-held : HeldPoint least
-  pub most-held : HeldPoint most
-  pub each : (k : ℕ) → k < n → SpanHolds least most (pointAt v (getD cell k 0))
-
-pub record RingHeld (c : Ring) : Type 0 where
-  pub is : c ≡ ringFor (c .site) (c .least) (c .most)
-  pub site-held : HeldPoint (c .site)
-  pub least-held : HeldPoint (c .least)
-  pub most-held : HeldPoint (c .most)
-
--- no corner of c is beyond the bisector with o, whatever the tolerance
-abbrev pub LeftAlone : Ring → Point → Type 0
-LeftAlone c o = (far : Float) → NotMinus far → (v : Point) → HeldPoint v → SpanHolds (c .least) (c .most) v → beyond far v (c .site) o ≡ false
 
 -- ---- nodes: four sites whose coordinates hold those of others
 unfoldable pub coordAt : List Float → ℕ → ℕ → Float
@@ -173,31 +140,32 @@ pub record TreeOf (sites : List Float) (room : List ℕ) : Type 0 where
   pub coarse : Level sites room 4096 (base4096 (length sites / 2))
 
 -- ---- the search
-abbrev pub nodeOut : List Float → List ℕ → Ring → ℕ → Bool
-nodeOut sites room c at =
-    outOf c (pointAt sites (getD room at 0) .x) (pointAt sites (getD room (at + 1) 0) .y) (pointAt sites (getD room (at + 2) 0) .x) (pointAt sites (getD room (at + 3) 0) .y)
+abbrev pub nodeOff : List Float → List ℕ → Window → ℕ → Bool
+nodeOff sites room w at =
+    offOf w (pointAt sites (getD room at 0) .x) (pointAt sites (getD room (at + 1) 0) .y) (pointAt sites (getD room (at + 2) 0) .x) (pointAt sites (getD room (at + 3) 0) .y)
 
-abbrev pub AloneFrom : List Float → List ℕ → Ring → ℕ → ℕ → Type 0
-AloneFrom sites room c from to = (i : ℕ) → from ≤ i → i < to → i < length sites / 2 → LeftAlone c (pointAt sites (getD room i 0))
+-- the sites at these places are off the window
+abbrev pub OffFrom : List Float → List ℕ → Window → ℕ → ℕ → Type 0
+OffFrom sites room w from to = (i : ℕ) → from ≤ i → i < to → i < length sites / 2 → OffWindow w (pointAt sites (getD room i 0))
 
-pub record LevelSafe (sites : List Float) (room : List ℕ) (w base : ℕ) (c : Ring) : Type 0 where
+pub record LevelSafe (sites : List Float) (room : List ℕ) (w base : ℕ) (c : Window) : Type 0 where
   pub held : SitesHeld sites
   pub order : Order (length sites / 2) room
   pub level : Level sites room w base
-  pub ring : RingHeld c
+  pub edges : EdgesHeld c
 
-pub record RingSafe (far : Float) (sites : List Float) (room : List ℕ) (c : Ring) (v : List Float) (cell : List ℕ) : Type 0 where
+pub record RingSafe (far : Float) (sites : List Float) (room : List ℕ) (w : Window) (s : Point) (v : List Float) (cell : List ℕ) : Type 0 where
   pub plus : NotMinus far
   pub tree : TreeOf sites room
   pub held : SitesHeld sites
-  pub ring : RingHeld c
+  pub own : HeldPoint s
+  pub keeps : WindowKeeps w s v cell
   pub named : EntriesNamed cell (length v / 2)
   pub corners : CornersHeld v cell
-  pub spans : (k : ℕ) → k < length cell → SpanHolds (c .least) (c .most) (pointAt v (getD cell k 0))
 
-pub record PassedFrom (far : Float) (sites : List Float) (room : List ℕ) (c : Ring) (v : List Float) (cell : List ℕ) (j r : ℕ) : Type 0 where
-  pub none : (i : ℕ) → j ≤ i → i < j + r → i < length sites / 2 → (k : ℕ) → k < length cell → cornerPast far (c .site) (pointAt sites (getD room i 0)) v cell k ≡ false
-  pub stop : r ≡ 0 → anyBelow (cornerPast far (c .site) (pointAt sites (getD room j 0)) v cell) (length cell) ≡ true
+pub record PassedFrom (far : Float) (sites : List Float) (room : List ℕ) (s : Point) (v : List Float) (cell : List ℕ) (j r : ℕ) : Type 0 where
+  pub none : (i : ℕ) → j ≤ i → i < j + r → i < length sites / 2 → (k : ℕ) → k < length cell → cornerPast far s (pointAt sites (getD room i 0)) v cell k ≡ false
+  pub stop : r ≡ 0 → anyBelow (cornerPast far s (pointAt sites (getD room j 0)) v cell) (length cell) ≡ true
   pub most : r ≤ 4096
 
 pub record PieceSafe (far : Float) (sites : List Float) (room : List ℕ) (v : List Float) (cell : List ℕ) : Type 0 where

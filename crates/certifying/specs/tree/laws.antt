@@ -1,10 +1,4 @@
 -- Laws that only proofs use.
-pub mod Grid
-pub mod Sums
-pub mod Axes
-pub mod Plus
-pub mod LeftOut
-pub mod Spans
 pub mod Orders
 pub mod Nodes
 pub mod Search

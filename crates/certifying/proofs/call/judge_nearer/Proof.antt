@@ -3,8 +3,8 @@ use borrow.Author.Needs.{needs}
 use denote.Ref.{now}
 use native.Mathlib.Omega.{arith}
 use mathlib.Core.Path.{sym, subst, _∙_}
-use Rattle.certifying.specs.tree.Steps.{NotMinus}
-use Rattle.certifying.specs.tree.laws.Plus.{far-plus}
+use Rattle.certifying.specs.windows.Windows.{NotMinus}
+use Rattle.certifying.specs.windows.laws.Plus.{far-plus}
 use Rattle.certifying.specs.call.laws.Stages.{near-far, near-named, near-after, near-taken}
 use Rattle.certifying.proofs.call.judge_nearer.Statement.{statement}
 use Rattle.certifying.proofs.call.judge_nearer.Tie as tie

@@ -36,8 +36,8 @@ returns c =
     let at-point-at = at-wide2 .before .before in
     let at-wide = at-point-at .before in
     let s = at-wide .before .before .before .before in
-    c .is-out .ensures
-    ∙ node-parts (now (s .args .sites)) (now (s .args .room)) (s .args .c) (s .args .at) (at-wide .wide .ensures) (at-point-at .point-at .ensures)
+    c .is-off .ensures
+    ∙ node-parts (now (s .args .sites)) (now (s .args .room)) (s .args .w) (s .args .at) (at-wide .wide .ensures) (at-point-at .point-at .ensures)
     (at-wide2 .wide2 .ensures) (at-point-at2 .point-at2 .ensures) (at-wide3 .wide3 .ensures) (at-point-at3 .point-at3 .ensures) (at-wide4 .wide4 .ensures) (at-point-at4 .point-at4 .ensures)
 
 pub node-out-spec : {M : Type 1} → statement M

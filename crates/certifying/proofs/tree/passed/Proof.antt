@@ -8,7 +8,7 @@ use Rattle.certifying.proofs.tree.passed.Tie as tie
 
 places-out-requires : tie.Need-places-out-requires
 places-out-requires c κs =
-    let s = c .before .before .before .before in (s .pre .0 .tree, s .pre .0 .held, s .pre .0 .ring, s .pre .1)
+    let s = c .before .before .before .before in (s .pre .0 .tree, s .pre .0 .held, s .pre .0 .keeps .edges, s .pre .1)
 
 returns : tie.Need-returns
 returns c =

@@ -13,7 +13,7 @@ base-4096-requires c κs =
 level-out-requires : tie.Need-level-out-requires
 level-out-requires c κs =
     let s = c .before .before .before in
-    (rw (c .base-4096 .ensures) (record { held = s .pre .1; order = s .pre .0 .order; level = s .pre .0 .coarse; ring = s .pre .2 }), s .pre .3)
+    (rw (c .base-4096 .ensures) (record { held = s .pre .1; order = s .pre .0 .order; level = s .pre .0 .coarse; edges = s .pre .2 }), s .pre .3)
 
 returns : tie.Need-returns
 returns c =
@@ -26,7 +26,7 @@ base-256-requires c κs =
 level-out-requires-2 : tie.Need-level-out-requires-2
 level-out-requires-2 c κs =
     let s = c .before .before .before .before .before .before in
-    (rw (c .base-256 .ensures) (record { held = s .pre .1; order = s .pre .0 .order; level = s .pre .0 .middle; ring = s .pre .2 }), s .pre .3)
+    (rw (c .base-256 .ensures) (record { held = s .pre .1; order = s .pre .0 .order; level = s .pre .0 .middle; edges = s .pre .2 }), s .pre .3)
 
 returns-2 : tie.Need-returns-2
 returns-2 c =
@@ -35,7 +35,7 @@ returns-2 c =
 level-out-requires-3 : tie.Need-level-out-requires-3
 level-out-requires-3 c κs =
     let s = c .before .before .before .before .before .before .before .before in
-    (record { held = s .pre .1; order = s .pre .0 .order; level = s .pre .0 .fine; ring = s .pre .2 }, s .pre .3)
+    (record { held = s .pre .1; order = s .pre .0 .order; level = s .pre .0 .fine; edges = s .pre .2 }, s .pre .3)
 
 returns-3 : tie.Need-returns-3
 returns-3 c =
@@ -56,9 +56,9 @@ point-at-requires c κs =
 
 returns-4 : tie.Need-returns-4
 returns-4 c =
-    let at-is-out = c .before in let at-point-at = at-is-out .before in let at-wide = at-point-at .before in
+    let at-is-off = c .before in let at-point-at = at-is-off .before in let at-wide = at-point-at .before in
     let s = at-wide .before .before .before .before .before .before .before .before .before .before .before .before in (
-      site-out (s .pre .1) (s .pre .0 .order) (s .pre .2) (s .args .j) (s .pre .3) (at-wide .wide .ensures) (at-point-at .point-at .ensures) (at-is-out .is-out .ensures)
+      site-out (s .pre .1) (s .pre .0 .order) (s .pre .2) (s .args .j) (s .pre .3) (at-wide .wide .ensures) (at-point-at .point-at .ensures) (at-is-off .is-off .ensures)
           (c .if4 .taken),
       omega arith,
     )

@@ -9,10 +9,10 @@ use Rattle.certifying.proofs.tree.ring_nearer.Statement.{statement}
 use Rattle.certifying.proofs.tree.ring_nearer.Tie as tie
 
 abbrev Inv-loop : tie.InvT-loop
-Inv-loop far sites room c vertices entries s n j₀ j = NonePast far sites room (c .site) vertices entries j × (j ≤ length sites / 2 + 4096)
+Inv-loop far sites room w site vertices entries s n j₀ j = NonePast far sites room site vertices entries j × (j ≤ length sites / 2 + 4096)
 
 abbrev μ-loop : tie.MeasureT-loop
-μ-loop far sites room c vertices entries s n j₀ j = length sites / 2 + 4096 - j
+μ-loop far sites room w site vertices entries s n j₀ j = length sites / 2 + 4096 - j
 
 loop-holds : tie.Need-loop-holds Inv-loop μ-loop
 loop-holds c =

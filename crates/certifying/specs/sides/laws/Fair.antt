@@ -30,7 +30,7 @@ three : {A : Type 0} (i k : ℕ) → (i < k → A) → (i ≡ k → A) → (suc 
 three i k f g h = ⊎-elim f (λ a. ⊎-elim (λ b. g (omega arith)) h (lt-or-ge i (suc k))) (lt-or-ge i k)
 
 -- as many back as there
-even-of : {v : List Float} {ix to : List ℕ} {n : ℕ} {p q : Point} {t b : ℕ} → WaysOf v ix to n p q t b → t ≤ b → moreOf v ix to n p q ≡ false
+pub even-of : {v : List Float} {ix to : List ℕ} {n : ℕ} {p q : Point} {t b : ℕ} → WaysOf v ix to n p q t b → t ≤ b → moreOf v ix to n p q ≡ false
 unfolding moreOf
 even-of {v} {ix} {to} {n} {p} {q} w o = le-ltb (howMany (runsAt v ix to q p) n) (howMany (runsAt v ix to p q) n) (omega (arith, w .there-is, w .back-is))
 

@@ -13,11 +13,11 @@ use Rattle.base.specs.common.laws.Decide.{eq-or-ne, lt-or-ge}
 use Rattle.plane.specs.points.Flat.{pointAt}
 use Rattle.plane.specs.declared.points.Point.{Point}
 use Rattle.audit_truth.specs.Held.{HeldWithin}
-use Rattle.certifying.specs.tree.Steps.{NotAbove, SitesHeld, coordAt, TwoSites, Lower, Higher, FourNamed, Boxes, Widens, BoxesFrom, Order, NodeBoxes, FillSafe, SameBefore, NodeFilled}
+use Rattle.certifying.specs.tree.Steps.{SitesHeld, coordAt, TwoSites, Lower, Higher, FourNamed, Boxes, Widens, BoxesFrom, Order, NodeBoxes, FillSafe, SameBefore, NodeFilled}
+use Rattle.certifying.specs.windows.Windows.{NotAbove}
 use Rattle.certifying.specs.tree.Steps.{NodesTo, Level, LevelFilled, base256, base4096, TreeOf}
-use Rattle.certifying.specs.tree.laws.LeftOut.{at-most-of-lt, at-most-of-not}
+use Rattle.certifying.specs.windows.laws.LeftOut.{at-most-of-lt, at-most-of-not, at-most-trans, at-most-self}
 use Rattle.certifying.specs.tree.laws.Orders.{order-kept}
-use Rattle.certifying.specs.tree.laws.Spans.{at-most-trans, at-most-self}
 
 -- ---- coordinates
 along-x : (sites : List Float) (i : ℕ) → coordAt sites i 0 ≡ getD sites (2 * i) nan

@@ -8,13 +8,13 @@ use Prim.Native.Nat.{ℕ, _+_, _*_, _/_, _%_, _≤_, _<_}
 use native.Mathlib.Nat.{le-trans, le-of-eq, le-of-lt, lt-of-lt-of-le, mul-le-mul-right, div-add-mod'}
 use native.Mathlib.Omega.{arith}
 use borrow.Author.Tests.{ltb-true}
-use lib.Dec.{lit≤}
+use lib.Dec.{lit≤, ltb}
 use lib.Ieee.{Float}
 use lib.Ieee.Nearest.{div-mono}
 use lib.ListN.{length, getD}
 use Rattle.base.specs.common.laws.Decide.{lt-or-ge}
 use Rattle.ring_area.specs.lowest.Lowest.{lowest, anyBelow}
-use Rattle.ring_area.specs.lowest.laws.Loops.{lowest-takes, none-below, some-below, none-taken}
+use Rattle.ring_area.specs.lowest.laws.Loops.{passed-end, lowest-takes, none-below, some-below, none-taken}
 use Rattle.plane.specs.points.Finite.{point-weaken, site-bounded}
 use Rattle.plane.specs.points.Flat.{pointAt}
 use Rattle.plane.specs.points.Rules.{okSite}
@@ -25,22 +25,15 @@ use Rattle.areas.specs.Steps.{RingsKept}
 use Rattle.auditing.specs.nearer.Nearer.{beyond, noLists, otherAt, heldCount, beyondAt, nearerAt, cornerNearer, cellNearer, siteNearer}
 use Rattle.auditing.specs.nearer.Steps.{PiecesKept}
 use Rattle.auditing.specs.nearer.laws.Pieces.{site-is}
-use Rattle.audit_truth.specs.Held.{HeldWithin, HeldPoint, AllHeld}
-use Rattle.certifying.specs.declared.tree.Ring.{Ring}
-use Rattle.certifying.specs.tree.Steps.{NotMinus, NotAbove, SitesHeld, RingHeld, LeftAlone, Order, NodeNamed, nodeOut, AloneFrom, LevelSafe, RingSafe, PassedFrom, PiecesHeld, TreeSafe}
-use Rattle.certifying.specs.tree.Tree.{outOf, cornerPast}
-use Rattle.certifying.specs.tree.laws.LeftOut.{left-out}
-use Rattle.certifying.specs.tree.laws.Spans.{at-most-self}
-
--- ---- one rectangle
-alone : {c : Ring} → RingHeld c → (l t r b : Float) → HeldWithin 400 l → HeldWithin 400 t → HeldWithin 400 r → HeldWithin 400 b → (o : Point) → HeldPoint o
-    → NotAbove l (o .x) → NotAbove (o .x) r → NotAbove t (o .y) → NotAbove (o .y) b → outOf c l t r b ≡ true → LeftAlone c o
-alone {c} h l t r b Hl Ht Hr Hb o ho a d e f x =
-    subst (λ (k : Ring). LeftAlone k o) (sym (h .is))
-    (left-out (c .site) (c .least) (c .most) (h .site-held) (h .least-held) (h .most-held) l t r b Hl Ht Hr Hb o ho a d e f (subst (λ (k : Ring). outOf k l t r b ≡ true) (h .is) x))
+use Rattle.audit_truth.specs.Held.{HeldPoint, AllHeld}
+use Rattle.certifying.specs.declared.windows.Window.{Window}
+use Rattle.certifying.specs.tree.Steps.{SitesHeld, Order, NodeNamed, nodeOff, OffFrom, LevelSafe, RingSafe, PassedFrom, PiecesHeld, TreeSafe}
+use Rattle.certifying.specs.tree.Tree.{cornerPast}
+use Rattle.certifying.specs.windows.Windows.{NotMinus, EdgesHeld, offOf}
+use Rattle.certifying.specs.windows.laws.LeftOut.{at-most-self, left-out, off-window}
 
 -- ---- blocks that are left out
-module _ {sites : List Float} {room : List ℕ} {w base : ℕ} {c : Ring} (s : LevelSafe sites room w base c) (j : ℕ) (J : j < length sites / 2) where
+module _ {sites : List Float} {room : List ℕ} {w base : ℕ} {c : Window} (s : LevelSafe sites room w base c) (j : ℕ) (J : j < length sites / 2) where
   starts : j % w ≡ 0 → j / w * w ≡ j
   starts e = go (j / w * w) (j % w) (div-add-mod' j w) e
     where
@@ -59,33 +52,34 @@ module _ {sites : List Float} {room : List ℕ} {w base : ℕ} {c : Ring} (s : L
       go : (i q : ℕ) → i ≤ q → base + 4 * (q + 1) ≤ length room → base + 4 * i + 3 < length room
       go i q a b = omega arith
 
-  pub block-out : j % w ≡ 0 → nodeOut sites room c (base + 4 * (j / w)) ≡ true → AloneFrom sites room c j (j + w)
+  pub block-out : j % w ≡ 0 → nodeOff sites room c (base + 4 * (j / w)) ≡ true → OffFrom sites room c j (j + w)
   block-out e t i a b h =
       let n = s .level .nodes (j / w) (block-there e) in
       let k = n .each i (le-trans (le-of-eq (starts e)) a) (lt-of-lt-of-le b (le-of-eq (ap (λ (q : ℕ). q + w) (sym (starts e))))) h in
-      alone (s .ring) _ _ _ _ (s .held .each _ (n .named .left) .x) (s .held .each _ (n .named .top) .y) (s .held .each _ (n .named .right) .x) (s .held .each _ (n .named .bottom) .y)
-      (pointAt sites (getD room i 0))
-      (s .held .each _ (s .order .named i h)) (k .left) (k .right) (k .top) (k .bottom) t
+      off-window c (s .edges) _ _ _ _ (s .held .each _ (n .named .left) .x) (s .held .each _ (n .named .top) .y) (s .held .each _ (n .named .right) .x) (s .held .each _ (n .named .bottom) .y)
+      (pointAt sites (getD room i 0)) (k .left) (k .top) (k .right) (k .bottom) t
 
 -- one site
-pub site-out : {sites : List Float} {room : List ℕ} {c : Ring} → SitesHeld sites → Order (length sites / 2) room → RingHeld c → (j : ℕ) → j < length sites / 2 → {w : ℕ} {o : Point}
-    → w ≡ getD room j 0 → o ≡ pointAt sites w → {t : Bool} → t ≡ outOf c (o .x) (o .y) (o .x) (o .y) → t ≡ true → AloneFrom sites room c j (j + 1)
+pub site-out : {sites : List Float} {room : List ℕ} {c : Window} → SitesHeld sites → Order (length sites / 2) room → EdgesHeld c → (j : ℕ) → j < length sites / 2 → {w : ℕ} {o : Point}
+    → w ≡ getD room j 0 → o ≡ pointAt sites w → {t : Bool} → t ≡ offOf c (o .x) (o .y) (o .x) (o .y) → t ≡ true → OffFrom sites room c j (j + 1)
 site-out {sites} {room} {c} held order h j J {w} {o} e f g t i a b k =
     let p = pointAt sites (getD room i 0) in
     let is : o ≡ p = f ∙ ap (pointAt sites) (e ∙ ap (λ (q : ℕ). getD room q 0) (only i a b)) in
     let hp : HeldPoint p = held .each (getD room i 0) (order .named i k) in
-    alone h (p .x) (p .y) (p .x) (p .y) (hp .x) (hp .y) (hp .x) (hp .y) p hp (at-most-self (p .x)) (at-most-self (p .x)) (at-most-self (p .y)) (at-most-self (p .y))
-    (subst (λ (q : Point). outOf c (q .x) (q .y) (q .x) (q .y) ≡ true) is (sym g ∙ t))
+    off-window c h (p .x) (p .y) (p .x) (p .y) (hp .x) (hp .y) (hp .x) (hp .y) p (at-most-self (p .x)) (at-most-self (p .y)) (at-most-self (p .x)) (at-most-self (p .y))
+    (subst (λ (q : Point). offOf c (q .x) (q .y) (q .x) (q .y) ≡ true) is (sym g ∙ t))
   where
     only : (i : ℕ) → j ≤ i → i < j + 1 → j ≡ i
     only i a b = omega arith
 
 -- ---- one step
-module _ {far : Float} {sites : List Float} {room : List ℕ} {c : Ring} {v : List Float} {cell : List ℕ} (s : RingSafe far sites room c v cell) (j : ℕ) (J : j < length sites / 2) where
-  pub passed-out : {r : ℕ} → AloneFrom sites room c j (j + r) → 0 < r → r ≤ 4096 → PassedFrom far sites room c v cell j r
+module _ {far : Float} {sites : List Float} {room : List ℕ} {w : Window} {q : Point} {v : List Float} {cell : List ℕ} (s : RingSafe far sites room w q v cell) (j : ℕ)
+    (J : j < length sites / 2) where
+  pub passed-out : {r : ℕ} → OffFrom sites room w j (j + r) → 0 < r → r ≤ 4096 → PassedFrom far sites room q v cell j r
   unfolding cornerPast
   passed-out {r} a p m = record {
-    none = λ i x y z k h. a i x y z far (s .plus) (pointAt v (getD cell k 0)) (s .corners .each k h) (s .spans k h);
+    none = λ i x y z k h. left-out w (s .keeps .edges) q (pointAt v (getD cell k 0)) (s .own) (s .corners .each k h) (pointAt sites (getD room i 0))
+        (s .held .each _ (s .tree .order .named i z)) far (s .plus) (s .keeps .each k h) (a i x y z);
     stop = λ e. absurd (no r p e);
     most = m;
   }
@@ -93,18 +87,18 @@ module _ {far : Float} {sites : List Float} {room : List ℕ} {c : Ring} {v : Li
       no : (r : ℕ) → 0 < r → r ≡ 0 → ⊥
       no r p e = omega arith
 
-  module _ {w : ℕ} {o : Point} {t : Bool} (e : w ≡ getD room j 0) (f : o ≡ pointAt sites w) (g : t ≡ anyBelow (cornerPast far (c .site) o v cell) (length cell)) where
-    here : t ≡ anyBelow (cornerPast far (c .site) (pointAt sites (getD room j 0)) v cell) (length cell)
-    here = g ∙ ap (λ (q : Point). anyBelow (cornerPast far (c .site) q v cell) (length cell)) (f ∙ ap (pointAt sites) e)
+  module _ {n : ℕ} {o : Point} {t : Bool} (e : n ≡ getD room j 0) (f : o ≡ pointAt sites n) (g : t ≡ anyBelow (cornerPast far q o v cell) (length cell)) where
+    here : t ≡ anyBelow (cornerPast far q (pointAt sites (getD room j 0)) v cell) (length cell)
+    here = g ∙ ap (λ (p : Point). anyBelow (cornerPast far q p v cell) (length cell)) (f ∙ ap (pointAt sites) e)
 
-    pub passed-stop : t ≡ true → PassedFrom far sites room c v cell j 0
+    pub passed-stop : t ≡ true → PassedFrom far sites room q v cell j 0
     passed-stop h = record { none = λ i x y z k l. absurd (omega arith); stop = λ _. sym here ∙ h; most = omega arith }
 
-    pub passed-one : t ≡ false → PassedFrom far sites room c v cell j 1
+    pub passed-one : t ≡ false → PassedFrom far sites room q v cell j 1
     passed-one h = record {
-      none = λ i x y z k l. none-taken (cornerPast far (c .site) (pointAt sites (getD room i 0)) v cell) (length cell)
-          (subst (λ (q : ℕ). anyBelow (cornerPast far (c .site) (pointAt sites (getD room q 0)) v cell) (length cell) ≡ false) (only i x y) (sym here ∙ h)) k l;
-      stop = λ q. absurd (omega arith);
+      none = λ i x y z k l. none-taken (cornerPast far q (pointAt sites (getD room i 0)) v cell) (length cell)
+          (subst (λ (n : ℕ). anyBelow (cornerPast far q (pointAt sites (getD room n 0)) v cell) (length cell) ≡ false) (only i x y) (sym here ∙ h)) k l;
+      stop = λ z. absurd (omega arith);
       most = omega arith;
     }
       where
@@ -115,8 +109,8 @@ module _ {far : Float} {sites : List Float} {room : List ℕ} {c : Ring} {v : Li
 abbrev pub NonePast : Float → List Float → List ℕ → Point → List Float → List ℕ → ℕ → Type 0
 NonePast far sites room s v cell j = (i : ℕ) → i < j → i < length sites / 2 → (k : ℕ) → k < length cell → cornerPast far s (pointAt sites (getD room i 0)) v cell k ≡ false
 
-pub none-more : {far : Float} {sites : List Float} {room : List ℕ} {c : Ring} {v : List Float} {cell : List ℕ} {j r : ℕ} → NonePast far sites room (c .site) v cell j
-    → PassedFrom far sites room c v cell j r → NonePast far sites room (c .site) v cell (j + r)
+pub none-more : {far : Float} {sites : List Float} {room : List ℕ} {s : Point} {v : List Float} {cell : List ℕ} {j r : ℕ} → NonePast far sites room s v cell j
+    → PassedFrom far sites room s v cell j r → NonePast far sites room s v cell (j + r)
 none-more {j = j} a p i h n k l = ⊎-elim (λ b. a i b n k l) (λ b. p .none i b h n k l) (lt-or-ge i j)
 
 module _ (far : Float) (sites : List Float) (s : ℕ) (v : List Float) (cell : List ℕ) {room : List ℕ} (o : Order (length sites / 2) room) {p : Point} (P : p ≡ pointAt sites s) where
@@ -148,10 +142,31 @@ empty-none far sites s v cell e = sym (none-below (cornerNearer far sites s [] t
     no : (k n : ℕ) → k < n → n ≡ 0 → ⊥
     no k n h e = omega arith
 
+-- where no window was found
+pub all-asked : (far : Float) (sites : List Float) (s : ℕ) (v : List Float) (cell : List ℕ) {none : List ℕ} {k : ℕ} → none ≡ []
+    → k ≡ lowest (cornerNearer far sites s none true v cell) (length cell) → ltb k (length cell) ≡ cellNearer far sites s [] true v cell
+unfolding cellNearer
+all-asked far sites s v cell e f = rw (f, e) refl
+
 pub piece-is : (far : Float) (sites v : List Float) (off ix : List ℕ) (s : ℕ) {t : Bool} {cell : List ℕ} → cell ≡ cellOf off ix s → t ≡ cellNearer far sites s [] true v cell
     → t ≡ siteNearer far sites [] [] v off ix s
 unfolding noLists cellOf
 piece-is far sites v off ix s e f = site-is far sites [] [] v off ix s {all = true} {part = []} refl refl e f
+
+-- ---- the pieces in the order of the tree
+abbrev pub NoneBefore : (ℕ → Bool) → List ℕ → ℕ → Type 0
+NoneBefore p room j = (i : ℕ) → i < j → p (getD room i 0) ≡ false
+
+module _ (p : ℕ → Bool) (room : List ℕ) where
+  pub before-more : {j w : ℕ} {t : Bool} → NoneBefore p room j → w ≡ getD room j 0 → t ≡ p w → t ≡ false → NoneBefore p room (j + 1)
+  before-more {j} a e f g i h = ⊎-elim (a i) (λ b. ap (λ (k : ℕ). p (getD room k 0)) (last i h b) ∙ ap p (sym e) ∙ sym f ∙ g) (lt-or-ge i j)
+    where
+      last : (i : ℕ) → i < j + 1 → j ≤ i → i ≡ j
+      last i h b = omega arith
+
+  pub before-all : {n j : ℕ} → Order n room → NoneBefore p room j → n ≤ j → n ≡ lowest p n
+  before-all {n} {j} o a h =
+      passed-end (record { most = omega arith; none = λ i I. let q = o .placed i I in ap p (sym (q .is)) ∙ a (q .place) (lt-of-lt-of-le (q .within) h) }) (omega arith)
 
 -- ---- what a caller owes follows from rules 6, 16, 18 and 24
 pub safe-by-rules : {far : Float} {sites v : List Float} {off ix : List ℕ} → NotMinus far → PiecesKept sites v off ix → length sites / 2 ≤ 65536
@@ -170,8 +185,8 @@ pub past-corner : (far : Float) (s o : Point) (v : List Float) (cell : List ℕ)
 unfolding cornerPast
 past-corner far s o v cell k x y e = e ∙ ap (λ (q : Point). beyond far q s o) (y ∙ ap (pointAt v) x)
 
-pub node-parts : (sites : List Float) (room : List ℕ) (c : Ring) (at : ℕ) {i j k l : ℕ} {p q r b : Point} → i ≡ getD room at 0 → p ≡ pointAt sites i → j ≡ getD room (at + 1) 0 → q ≡ pointAt sites j
-    → k ≡ getD room (at + 2) 0 → r ≡ pointAt sites k → l ≡ getD room (at + 3) 0 → b ≡ pointAt sites l → outOf c (p .x) (q .y) (r .x) (b .y) ≡ nodeOut sites room c at
+pub node-parts : (sites : List Float) (room : List ℕ) (c : Window) (at : ℕ) {i j k l : ℕ} {p q r b : Point} → i ≡ getD room at 0 → p ≡ pointAt sites i → j ≡ getD room (at + 1) 0 → q ≡ pointAt sites j
+    → k ≡ getD room (at + 2) 0 → r ≡ pointAt sites k → l ≡ getD room (at + 3) 0 → b ≡ pointAt sites l → offOf c (p .x) (q .y) (r .x) (b .y) ≡ nodeOff sites room c at
 node-parts sites room c at e f g h x y z w = rw (f, h, y, w, e, g, x, z) refl
 
 pub sites-held : {far : Float} {sites v : List Float} {off ix : List ℕ} → TreeSafe far sites v off ix → AllHeld sites → SitesHeld sites
