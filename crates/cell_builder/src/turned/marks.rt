@@ -4,7 +4,9 @@ use base::numbers::wide;
 use clipping::ring::in_box;
 use plane::boxes::BoundingBox;
 ghost use mathlib.Core.Path.{_≡_};
-ghost use Prim.Native.Nat.{_+_, _*_, _/_, _≤_, _<_};
+ghost use mathlib.Core.Bool.{true, false};
+ghost use mathlib.Core.Logic.{_≢_};
+ghost use Prim.Native.Nat.{ℕ, _+_, _*_, _/_, _≤_, _<_};
 ghost use lib.ListN.{length, getD, set};
 ghost use Rattle.base.specs.common.Decide.{Says};
 ghost use Rattle.plane.specs.points.Flat.{points};
@@ -51,8 +53,8 @@ pub fn mark_outside(
     marks: &mut [u8; 16384],
 )
     requires { ⌜ Markable (now triangles) (now table) count (length (now vertices)) ⌝ }
-    ensures { λ _. ⌜ (length (now (marks .entry)) ≡ 16384 → Covers bounds (points count (now (vertices .entry))) (now (triangles .entry)) (now (table .entry)) (now (marks .exit))
-        (length (now (triangles .entry)))) ⌝ }
+    ensures { λ _. ⌜ (length (now (marks .entry)) ≡ 16384 → (length (now (marks .exit)) ≡ 16384)
+        × Covers bounds (points count (now (vertices .entry))) (now (triangles .entry)) (now (table .entry)) (now (marks .exit)) (length (now (triangles .entry)))) ⌝ }
 {
     let mut t: usize = 0;
     while t < triangles.len() / 3 {
@@ -61,14 +63,33 @@ pub fn mark_outside(
     }
 }
 
-// Whether the cell of site s is made last.
-pub fn early(halfedges: &[u32], table: &[u32], marks: &[u8; 16384], full: bool, s: usize) -> bool
-    requires { ⌜ (s < length (now table)) × (length (now halfedges) ≤ 393216) ⌝ }
-    ensures { λ r. ⌜ Says r (MadeLast (now (halfedges .entry)) (now (table .entry)) (now (marks .entry)) full s) ⌝ }
+// Marks everything.
+fn mark_all(marks: &mut [u8; 16384])
+    ensures { λ _. ⌜ (length (now (marks .entry)) ≡ 16384 → (k : ℕ) → k < 16384 → getD (now (marks .exit)) k 0 ≢ 0) ⌝ }
 {
-    if !full {
-        return false;
+    let mut i: usize = 0;
+    while i < 16384 {
+        marks[i] = 1;
+        i += 1;
     }
+}
+
+// Marks all where some hull site has no cell: then no site is early.
+pub fn mark_rest(full: bool, marks: &mut [u8; 16384])
+    ensures { λ _. ⌜ (full ≡ true → now (marks .exit) ≡ now (marks .entry))
+        × (length (now (marks .entry)) ≡ 16384 → full ≡ false → (k : ℕ) → k < 16384 → getD (now (marks .exit)) k 0 ≢ 0) ⌝ }
+{
+    if full {
+        return;
+    }
+    mark_all(marks);
+}
+
+// Whether the cell of site s is made last.
+pub fn early(halfedges: &[u32], table: &[u32], marks: &[u8; 16384], s: usize) -> bool
+    requires { ⌜ (s < length (now table)) × (length (now halfedges) ≤ 393216) ⌝ }
+    ensures { λ r. ⌜ Says r (MadeLast (now (halfedges .entry)) (now (table .entry)) (now (marks .entry)) true s) ⌝ }
+{
     let t = wide(table[s]);
     if t >= halfedges.len() {
         return false;

@@ -3,12 +3,12 @@ use mathlib.Core.Path.{_≡_, refl, sym, ap, _∙_}
 use mathlib.Core.Bool.{Bool, true, false, not}
 use mathlib.Core.List.{List}
 use mathlib.Core.Logic.{_≢_, ⊎-elim}
-use Prim.Native.Nat.{ℕ, _+_, _*_, _/_, _<_}
+use Prim.Native.Nat.{ℕ, _+_, _*_, _/_, _≤_, _<_}
 use native.Mathlib.Omega.{arith}
 use lib.Dec.{eqb}
 use lib.ListN.{length, getD, set, replicate, length-set, length-replicate}
 use lib.Seq.{getD-set-same, getD-set-other}
-use borrow.Author.Tests.{eqb-true, eqb-false, not-false}
+use borrow.Author.Tests.{eqb-true, eqb-false}
 use Rattle.base.specs.common.Decide.{Says}
 use Rattle.base.specs.common.laws.Decide.{lt-or-ge, eq-or-ne}
 use Rattle.base.specs.numbers.Numbers.{EMPTY}
@@ -98,18 +98,22 @@ covers-three b vs tri table m t each l {m₁} {m₂} e₁ e₂ e₃ long cov = (
   rw (e₃, e₂, e₁) (covers-out b vs tri table m t _ _ _ refl refl refl long (each (3 * t) (omega arith) .1) (each (3 * t + 1) (omega arith) .1) (each (3 * t + 2) (omega arith) .1) cov),
 )
 
--- whether a site is early
-module _ (he table m : List ℕ) (full : Bool) (s t : ℕ) (q : t ≡ getD table s 0) where
-  pub early-not : (full ≡ true → t < length he → pairOf he t ≢ EMPTY → markOf m t ≡ 0 → ⊥) → MadeLast he table m full s → ⊥
-  early-not n e = n (e .filled) (rw q (e .entry)) (rw q (e .inner)) (rw q (e .unmarked))
+-- all marked: no site is early
+pub marked-none : (he table m : List ℕ) (few : length he ≤ 393216) → ((k : ℕ) → k < 16384 → getD m k 0 ≢ 0) → (s : ℕ) → MadeLast he table m true s → ⊥
+marked-none he table m few all s e = all (getD table s 0 / 24) (omega (arith, e .entry)) (e .unmarked)
 
-  pub early-says : not full ≡ false → t < length he → markOf m t ≡ 0 → (r : Bool) → r ≡ not (eqb (pairOf he t) EMPTY) → Says r (MadeLast he table m full s)
-  early-says f l z r k = by (eqb (pairOf he t) EMPTY) refl r k
+-- whether a site is early
+module _ (he table m : List ℕ) (s t : ℕ) (q : t ≡ getD table s 0) where
+  pub early-not : (t < length he → pairOf he t ≢ EMPTY → markOf m t ≡ 0 → ⊥) → MadeLast he table m true s → ⊥
+  early-not n e = n (rw q (e .entry)) (rw q (e .inner)) (rw q (e .unmarked))
+
+  pub early-says : t < length he → markOf m t ≡ 0 → (r : Bool) → r ≡ not (eqb (pairOf he t) EMPTY) → Says r (MadeLast he table m true s)
+  early-says l z r k = by (eqb (pairOf he t) EMPTY) refl r k
     where
-      by : (x : Bool) → eqb (pairOf he t) EMPTY ≡ x → (r : Bool) → r ≡ not x → Says r (MadeLast he table m full s)
+      by : (x : Bool) → eqb (pairOf he t) EMPTY ≡ x → (r : Bool) → r ≡ not x → Says r (MadeLast he table m true s)
       by true y true k = absurd (true-false refl k)
       by true y false k = λ e. e .inner (rw q at (eqb-true (pairOf he t) EMPTY y))
-      by false y true k = record { filled = not-false full f; entry = rw (← q) l; inner = rw (← q) (eqb-false (pairOf he t) EMPTY y); unmarked = rw (← q) z }
+      by false y true k = record { filled = refl; entry = rw (← q) l; inner = rw (← q) (eqb-false (pairOf he t) EMPTY y); unmarked = rw (← q) z }
       by false y false k = absurd (true-false k refl)
 
 -- whether a half-edge is not marked

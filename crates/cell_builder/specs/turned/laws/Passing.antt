@@ -4,24 +4,24 @@ use mathlib.Core.Path.{_≡_, refl, sym, ap, _∙_, subst}
 use mathlib.Core.Bool.{Bool, true, false}
 use mathlib.Core.List.{List, []}
 use mathlib.Core.Logic.{_≢_, ⊎-elim}
-use Prim.Native.Nat.{ℕ, zero, suc, _+_, _-_, _≤_, _<_}
+use Prim.Native.Nat.{ℕ, zero, suc, _+_, _-_, _/_, _≤_, _<_}
 use native.Mathlib.Omega.{arith}
 use lib.Ieee.{Float}
 use lib.ListN.{length, getD}
 use Rattle.mesh.specs.Mesh.{endOf}
 use Rattle.definition.specs.declared.Fault.{Fault}
 use Rattle.definition.specs.Fault.{Outcome, ok}
-use Rattle.definition.specs.Build.{CellState}
-use Rattle.definition.specs.laws.Gives.{gives-ok}
+use Rattle.definition.specs.Build.{CellState, ringFrom, clipInto, isEmpty}
+use Rattle.definition.specs.laws.Gives.{Gives, gives-ok, gives-map, picked}
 use Rattle.build_laws.specs.laws.Runs.{then-ok}
 use Rattle.cell_builder.specs.declared.finish.Progress.{Progress}
 use Rattle.cell_builder.specs.tried.CellsInSlices.{Plan, Ground, edgeTry}
 use Rattle.cell_builder.specs.tried.laws.Early.{earlyCell}
 use Rattle.cell_builder.specs.turned.Marks.{markOf, MadeLast, LeftOut}
 use Rattle.cell_builder.specs.turned.Turns.{dueOf, AllHaveEntries, PassedBy, NextDue, SettledBefore}
-use Rattle.cell_builder.specs.turned.Loops.{edgeTries, RestAmid, MarksCover}
+use Rattle.cell_builder.specs.turned.Loops.{edgeTries, RestAmid, MarksCover, EarlyBlank}
 use Rattle.cell_builder.specs.turned.laws.Leaving.{left-more, left-onward, try-alike, left-one}
-use Rattle.cell_builder.specs.turned.laws.Onward.{Onward, onward}
+use Rattle.cell_builder.specs.turned.laws.Onward.{Onward, onward, OthersStay, others-stay}
 use Rattle.cell_builder.specs.turned.laws.OneTurn.{leftmost, in-sites, due-inner, all-entries, turn-skipped, turn-tried}
 use Rattle.cell_builder.specs.turned.laws.Quiet.{MadeHere, quiet}
 use Rattle.cell_builder.specs.turned.laws.TryLoops.{edgesFrom, edge-next, TriedAlike, RestLeft, EdgesAlong, edges-start}
@@ -41,6 +41,7 @@ module _ (w : Plan) (g : Ground) (full : Bool) (m : List ℕ) (marked : MarksCov
       amid = t .amid;
       settled = s;
       left = o;
+      blank = t .blank;
       makes = sym (then-ok (edgesFrom w (e + 1)) q) ∙ edge-next w e (t .cells) l ∙ t .makes;
     }
 
@@ -81,6 +82,12 @@ module _ (w : Plan) (g : Ground) (full : Bool) (m : List ℕ) (marked : MarksCov
     fits d n = record {
       alike = try-alike (t .left) (t .amid .held .width) e inside (⊎-elim (λ x. x) (λ x. absurd (not-early (x .0 .0))) (t .left .each site inside));
       settled = turn-tried a (t .settled) l d;
+      blank = picked (Gives (EarlyBlank w g full m)) (isEmpty (getD (t .held .cells) site [])) _ _
+          (λ _. gives-map (OthersStay site (t .held)) (EarlyBlank w g full m)
+          (clipInto (w .frame .bounds) (length (w .triangles) / 3) site (ringFrom (w .halfedges) e) (t .held))
+          (others-stay (w .frame .bounds) (length (w .triangles) / 3) site (ringFrom (w .halfedges) e) (t .held))
+          (λ r stay k lk x. stay k (λ z. not-early (rw z at x)) ∙ t .blank k lk x))
+          (λ _. t .blank);
     }
       where
         a : Onward w g (t .cells)
@@ -104,8 +111,8 @@ module _ (w : Plan) (g : Ground) (full : Bool) (m : List ℕ) (marked : MarksCov
 module _ (w : Plan) (full : Bool) (m : List ℕ) (p₀ : Progress) (v₀ : List Float) (ix₀ : List ℕ) where
   module _ (e r : ℕ) (p : Progress) (v : List Float) (ix : List ℕ) (next : NextDue (w .triangles) (w .halfedges) (w .table) m full e r) where
     pub edges-pass : EdgesAlong w full m p₀ v₀ ix₀ e p v ix → EdgesAlong w full m p₀ v₀ ix₀ r p v ix
-    edges-pass along g s am filled marked =
-        pass w g full m marked (edgeTries w s) p v ix (r - e) e r (omega (arith, next .low)) (next .high) (next .passed) (along g s am filled marked)
+    edges-pass along g s am inner filled marked =
+        pass w g full m marked (edgeTries w s) p v ix (r - e) e r (omega (arith, next .low)) (next .high) (next .passed) (along g s am inner filled marked)
 
   pub edges-first : (r : ℕ) → NextDue (w .triangles) (w .halfedges) (w .table) m full 0 r → EdgesAlong w full m p₀ v₀ ix₀ r p₀ v₀ ix₀
   edges-first r next = edges-pass 0 r p₀ v₀ ix₀ next (edges-start w full m p₀ v₀ ix₀)
