@@ -1,10 +1,9 @@
 // The cells put in their places, one after the other in the order of the sites: those in regions are moved down, early ones are walked there.
 use crate::turned::marks::early;
-use base::numbers::EMPTY;
 use base::numbers::wide;
 use cell_memory::layout::cell_end;
-use cell_memory::layout::fill_from;
 use cell_memory::layout::move_down;
+use cell_memory::outputs::clear_after;
 ghost use mathlib.Core.Path.{_≡_};
 ghost use mathlib.Core.List.{List};
 ghost use Prim.Native.Nat.{ℕ, _+_, _-_, _≤_};
@@ -114,7 +113,6 @@ pub fn gather(
         → (r ≡ length (joined cells)) × Gathered cells (now (indexes .entry)) (now (offsets .entry)) (now (indexes .exit)) (now (offsets .exit))) ⌝ }
 {
     let used = place_cells(halfedges, table, marks, indexes, offsets, sites);
-    fill_from(indexes, used, EMPTY);
-    fill_from(offsets, sites + 1, EMPTY);
+    clear_after(indexes, offsets, used, sites);
     used
 }

@@ -5,13 +5,13 @@ use crate::layout::region_starts;
 use base::numbers::EMPTY;
 ghost use mathlib.Core.Path.{_≡_};
 ghost use mathlib.Core.List.{[]};
-ghost use Prim.Native.Nat.{_+_, _*_, _≤_};
+ghost use Prim.Native.Nat.{_+_, _*_, _≤_, _<_};
 ghost use lib.ListN.{length};
 ghost use Rattle.base.specs.common.Decide.{Says};
 ghost use Rattle.base.specs.common.Binary64.{zero};
 ghost use Rattle.base.specs.numbers.Numbers.{EMPTY};
 ghost use Rattle.cell_memory.specs.layout.Rooms.{Roomy};
-ghost use Rattle.cell_memory.specs.layout.Cleared.{padded};
+ghost use Rattle.cell_memory.specs.layout.Cleared.{clearedFrom, padded};
 ghost use Rattle.cell_memory.specs.outputs.Outputs.{Rooms, LaidOut};
 
 // Rule 2 on the lent vertices, indexes and offsets, by the numbers of triangles, hull sites and sites.
@@ -52,6 +52,15 @@ pub fn lay_out(
 {
     fill_from(indexes, 0, EMPTY);
     region_starts(triangles, hull, owners, offsets, sites);
+}
+
+// Clears what is left over of both slices: of the index list after `used` entries, of the offsets after those of all sites.
+pub fn clear_after(indexes: &mut [u32], offsets: &mut [u32], used: usize, sites: usize)
+    requires { ⌜ (used ≤ length (now indexes)) × (sites < length (now offsets)) ⌝ }
+    ensures { λ _. ⌜ (now (indexes .exit) ≡ clearedFrom used EMPTY (now (indexes .entry))) × (now (offsets .exit) ≡ clearedFrom (sites + 1) EMPTY (now (offsets .entry))) ⌝ }
+{
+    fill_from(indexes, used, EMPTY);
+    fill_from(offsets, sites + 1, EMPTY);
 }
 
 // Clears the three slices whole.

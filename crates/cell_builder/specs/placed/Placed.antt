@@ -56,12 +56,12 @@ pub record CellReady (he table m ix : List ℕ) (at from to s : ℕ) : Type 0 wh
   pub low : at ≤ from
   pub rise : from ≤ to
   pub within : to ≤ length ix
-  pub walk : MadeLast he table m true s → (c : List ℕ) × BackCell he (getD table s 0) ((to - from) / 3) c
+  pub walk : MadeLast he table m s → (c : List ℕ) × BackCell he (getD table s 0) ((to - from) / 3) c
 
 -- its cell c, in its region or to be walked
 pub record CellOf (he table m ix : List ℕ) (from to s : ℕ) (c : List ℕ) : Type 0 where
-  pub late : (MadeLast he table m true s → ⊥) → Region ix from to c
-  pub early : MadeLast he table m true s → BackCell he (getD table s 0) ((to - from) / 3) c
+  pub late : (MadeLast he table m s → ⊥) → Region ix from to c
+  pub early : MadeLast he table m s → BackCell he (getD table s 0) ((to - from) / 3) c
 
 -- ---- all cells
 
@@ -71,7 +71,7 @@ pub record Placeable (he table m ix off : List ℕ) (n : ℕ) : Type 0 where
   pub small : getD off n 0 < EMPTY
   pub sites : n ≤ length table
   pub few : length he ≤ 393216
-  pub walks : (s : ℕ) → s < n → MadeLast he table m true s → (c : List ℕ) × BackCell he (getD table s 0) ((getD off (s + 1) 0 - getD off s 0) / 3) c
+  pub walks : (s : ℕ) → s < n → MadeLast he table m s → (c : List ℕ) × BackCell he (getD table s 0) ((getD off (s + 1) 0 - getD off s 0) / 3) c
 
 -- the cells, in their regions or to be walked
 abbrev pub CellsReady : List ℕ → List ℕ → List ℕ → List ℕ → List ℕ → List (List ℕ) → Type 0

@@ -1,6 +1,5 @@
 -- The loops over tries: at all hull places, at all half-edges, and one after the other.
 use mathlib.Core.Path.{_≡_}
-use mathlib.Core.Bool.{Bool, true}
 use mathlib.Core.List.{List, []}
 use mathlib.Core.Logic.{_≢_}
 use Prim.Native.Nat.{ℕ, _/_, _<_}
@@ -15,7 +14,7 @@ use Rattle.cell_builder.specs.declared.finish.Progress.{Progress}
 use Rattle.cell_builder.specs.tried.CellsInSlices.{Plan, Ground, Amid, Does, AtRest}
 use Rattle.cell_builder.specs.tried.laws.Early.{earlyCell}
 use Rattle.cell_builder.specs.turned.Marks.{Covers, MadeLast, LeftOut}
-use Rattle.cell_builder.specs.turned.Turns.{HullsFilled, SettledBefore}
+use Rattle.cell_builder.specs.turned.Turns.{HullsMarked, SettledBefore}
 
 -- ---- the definition's loops, by a plan
 
@@ -42,24 +41,24 @@ MarksCover w g m = Covers (w .frame .bounds) (g .x .verts) (w .triangles) (w .ta
 abbrev pub InnerBlank : Plan → Ground → CellState → Type 0
 InnerBlank w g s = (k : ℕ) → k < g .sites → pairOf (w .halfedges) (getD (w .table) k 0) ≢ EMPTY → getD (s .cells) k [] ≡ []
 
--- those of inner sites empty, with all hull sites' filled where `full` says so
-pub record RestAmid (w : Plan) (full : Bool) (m : List ℕ) (p : Progress) (v : List Float) (ix : List ℕ) : Type 0 where
+-- those of inner sites empty, and of the hull's filled where not marked
+pub record RestAmid (w : Plan) (m : List ℕ) (p : Progress) (v : List Float) (ix : List ℕ) : Type 0 where
   pub g : Ground
   pub s : CellState
   pub amid : Amid w g s p v ix
   pub inner : InnerBlank w g s
-  pub filled : HullsFilled w full s
+  pub filled : HullsMarked w m s
   pub marked : MarksCover w g m
 
 -- early sites' cells are empty
-abbrev pub EarlyBlank : Plan → Ground → Bool → List ℕ → CellState → Type 0
-EarlyBlank w g full m t = (k : ℕ) → k < g .sites → MadeLast (w .halfedges) (w .table) m full k → getD (t .cells) k [] ≡ []
+abbrev pub EarlyBlank : Plan → Ground → List ℕ → CellState → Type 0
+EarlyBlank w g m t = (k : ℕ) → k < g .sites → MadeLast (w .halfedges) (w .table) m k → getD (t .cells) k [] ≡ []
 
 -- of cells that all half-edges have come by, the early ones are left out: they are c, and t are held
-pub record LeftAmid (w : Plan) (g : Ground) (full : Bool) (m : List ℕ) (c t : CellState) (p : Progress) (v : List Float) (ix : List ℕ) : Type 0 where
-  pub settled : SettledBefore w g full (length (w .triangles)) c
-  pub left : LeftOut w g (MadeLast (w .halfedges) (w .table) m full) c t
-  pub blank : EarlyBlank w g full m t
+pub record LeftAmid (w : Plan) (g : Ground) (m : List ℕ) (c t : CellState) (p : Progress) (v : List Float) (ix : List ℕ) : Type 0 where
+  pub settled : SettledBefore w g m (length (w .triangles)) c
+  pub left : LeftOut w g (MadeLast (w .halfedges) (w .table) m) c t
+  pub blank : EarlyBlank w g m t
   pub amid : Amid w g t p v ix
 
 -- the cells c, of which the slices hold all but those of early sites
@@ -70,8 +69,8 @@ pub record LateAmid (w : Plan) (g : Ground) (m : List ℕ) (c : CellState) (p : 
   pub owners : c .owners ≡ held .owners
   pub steps : c .steps ≡ held .steps
   pub width : length (c .cells) ≡ length (held .cells)
-  pub late : (k : ℕ) → k < g .sites → (MadeLast (w .halfedges) (w .table) m true k → ⊥) → getD (c .cells) k [] ≡ getD (held .cells) k []
-  pub early : (k : ℕ) → k < g .sites → MadeLast (w .halfedges) (w .table) m true k → getD (c .cells) k [] ≡ earlyCell (w .halfedges) (getD (w .table) k 0)
+  pub late : (k : ℕ) → k < g .sites → (MadeLast (w .halfedges) (w .table) m k → ⊥) → getD (c .cells) k [] ≡ getD (held .cells) k []
+  pub early : (k : ℕ) → k < g .sites → MadeLast (w .halfedges) (w .table) m k → getD (c .cells) k [] ≡ earlyCell (w .halfedges) (getD (w .table) k 0)
 
 -- ---- what the functions give, of whatever cells the slices v and ix held: the definition's outcome in r, v₁ and ix₁
 
@@ -85,13 +84,13 @@ abbrev pub HullsTried : Plan → Progress → List Float → List ℕ → Progre
 HullsTried w p v ix r v₁ ix₁ = AtFirst w p v ix (λ g s. Does w g (hullTries w g s) r v₁ ix₁)
 
 -- the outcome, but that early cells are left out
-abbrev pub DoesLeft : Plan → Ground → Bool → List ℕ → Outcome Fault CellState → Progress → List Float → List ℕ → Type 0
-DoesLeft w g full m (ok c) p v ix = (t : CellState) × LeftAmid w g full m c t p v ix
-DoesLeft w g full m (refused e) p v ix = (p .fault ≡ e) × (0 < e .number)
+abbrev pub DoesLeft : Plan → Ground → List ℕ → Outcome Fault CellState → Progress → List Float → List ℕ → Type 0
+DoesLeft w g m (ok c) p v ix = (t : CellState) × LeftAmid w g m c t p v ix
+DoesLeft w g m (refused e) p v ix = (p .fault ≡ e) × (0 < e .number)
 
 -- at all half-edges
-abbrev pub RestTried : Plan → Bool → List ℕ → Progress → List Float → List ℕ → Progress → List Float → List ℕ → Type 0
-RestTried w full m p v ix r v₁ ix₁ = AtRest w p v ix (λ g s. InnerBlank w g s → HullsFilled w full s → MarksCover w g m → DoesLeft w g full m (edgeTries w s) r v₁ ix₁)
+abbrev pub RestTried : Plan → List ℕ → Progress → List Float → List ℕ → Progress → List Float → List ℕ → Type 0
+RestTried w m p v ix r v₁ ix₁ = AtRest w p v ix (λ g s. InnerBlank w g s → HullsMarked w m s → MarksCover w g m → DoesLeft w g m (edgeTries w s) r v₁ ix₁)
 
 -- the same with the marks alone
 abbrev pub DoesLate : Plan → Ground → List ℕ → Outcome Fault CellState → Progress → List Float → List ℕ → Type 0

@@ -3,9 +3,8 @@ use crate::finish::Progress;
 use crate::tried::Frame;
 use crate::tried::tries::clip_at_edge;
 use crate::tried::tries::clip_at_hull;
+use crate::turned::marks::mark_hulls;
 use crate::turned::marks::mark_outside;
-use crate::turned::marks::mark_rest;
-use crate::turned::turns::hulls_filled;
 use crate::turned::turns::next_due;
 ghost use mathlib.Core.Path.{_≡_};
 ghost use mathlib.Core.List.{List};
@@ -66,14 +65,13 @@ fn clip_rest(
     offsets: &[u32],
     f: Frame,
     p: Progress,
-    full: bool,
 ) -> Progress
-    requires { ⌜ ((hull : List ℕ) × RestAmid (plan (now triangles) (now halfedges) hull (now table) f (now offsets)) full (now marks) p (now vertices) (now indexes)) ⌝ }
-    ensures { λ r. ⌜ ((hull : List ℕ) → RestTried (plan (now (triangles .entry)) (now (halfedges .entry)) hull (now (table .entry)) f (now (offsets .entry))) full (now (marks .entry)) p
+    requires { ⌜ ((hull : List ℕ) × RestAmid (plan (now triangles) (now halfedges) hull (now table) f (now offsets)) (now marks) p (now vertices) (now indexes)) ⌝ }
+    ensures { λ r. ⌜ ((hull : List ℕ) → RestTried (plan (now (triangles .entry)) (now (halfedges .entry)) hull (now (table .entry)) f (now (offsets .entry))) (now (marks .entry)) p
         (now (vertices .entry)) (now (indexes .entry)) r (now (vertices .exit)) (now (indexes .exit))) ⌝ }
 {
     let mut at = p;
-    let mut e = next_due(triangles, halfedges, table, marks, full, 0);
+    let mut e = next_due(triangles, halfedges, table, marks, 0);
     while e < triangles.len() {
         let r = clip_at_edge(triangles, halfedges, vertices, indexes, offsets, f, at, e);
         let fault = r.fault;
@@ -81,7 +79,7 @@ fn clip_rest(
             return r;
         }
         at = r;
-        e = next_due(triangles, halfedges, table, marks, full, e + 1);
+        e = next_due(triangles, halfedges, table, marks, e + 1);
     }
     at
 }
@@ -118,10 +116,10 @@ pub fn clip_cells(
     if fault.number != 0 {
         return r;
     }
-    let full = hulls_filled(hull, indexes, offsets);
     let bounds = f.bounds;
     mark_outside(triangles, table, vertices, r.count, bounds, marks);
-    let q = clip_rest(
+    mark_hulls(triangles, halfedges, hull, table, indexes, offsets, marks);
+    clip_rest(
         triangles,
         halfedges,
         table,
@@ -131,8 +129,5 @@ pub fn clip_cells(
         offsets,
         f,
         r,
-        full,
-    );
-    mark_rest(full, marks);
-    q
+    )
 }

@@ -4,19 +4,13 @@ use Rattle.cell_memory.specs.outputs.laws.Padded.{gathered}
 use Rattle.cell_builder.proofs.placed.gather.Statement.{statement}
 use Rattle.cell_builder.proofs.placed.gather.Tie as tie
 
-fill-from-requires-2 : tie.Need-fill-from-requires-2
-fill-from-requires-2 c κs = search needs
-
 returns : tie.Need-returns
 returns c =
-    let f = c .before .before .before .before .before .before in
-    let d = f .before .before .before .before .before .before in (
+    let k = c .before .before .before .before in
+    let d = k .before .before .before .before .before .before .before in (
       d .place-cells .ensures .0,
-      λ cells q r. gathered _ _ _ _ _ _ _ (d .place-cells .ensures .1 cells q r) q _ _ (search needs) (search needs) (f .fill-from .ensures) (c .before .before .fill-from2 .ensures),
+      λ cells q r. gathered _ _ _ _ _ _ _ (d .place-cells .ensures .1 cells q r) q _ _ (search needs) (search needs) (k .clear-after .ensures .0) (k .clear-after .ensures .1),
     )
 
 pub gather-spec : {M : Type 1} → statement M
-gather-spec =
-    tie.close
-    (tie.spec (λ c κs. search needs) (λ c κs. search needs) (λ c. search needs) fill-from-requires-2
-    (λ c. search needs) (λ c. search needs) returns)
+gather-spec = tie.close (tie.spec (λ c κs. search needs) (λ c κs. search needs) (λ c. search needs) (λ c. search needs) returns)

@@ -1,6 +1,6 @@
 -- `cell_builder::placed::place_cell` meets its contract: an early cell is walked to its place, another is moved there.
 use mathlib.Core.Path.{ap}
-use mathlib.Core.Bool.{not, true}
+use mathlib.Core.Bool.{not}
 use native.Mathlib.Omega.{arith}
 use borrow.Author.Needs.{needs}
 use Rattle.base.specs.common.laws.Decide.{refused, granted}
@@ -14,7 +14,7 @@ Entry a = a .before .before .before .before
 
 -- what is asked
 abbrev Site : tie.After-early → Type 0
-Site a = let i = Entry a .args in MadeLast (i .halfedges .now) (i .table .now) (i .marks .now) true (i .s)
+Site a = let i = Entry a .args in MadeLast (i .halfedges .now) (i .table .now) (i .marks .now) (i .s)
 
 -- the site is early
 abbrev Early : tie.After-wide → tie.After-early

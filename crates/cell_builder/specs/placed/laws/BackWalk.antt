@@ -86,9 +86,9 @@ plains-walked x (y ∷ ys) = ap (λ (l : List ℕ). x / 3 ∷ l) (plains-walked 
 early-walked : (he : List ℕ) (e : ℕ) → unmarked (earlyCell he e) ≡ backTriangles e (reverse (wholeOf he e))
 early-walked he e = ap (λ (l : List ℕ). unmarked (plains (e / 3) l)) (reverse-thirds (wholeOf he e) []) ∙ plains-walked e (reverse (wholeOf he e))
 
-module _ {tri he hull table : List ℕ} {f : Frame} {off : List ℕ} {g : Ground} {c : CellState} (a : Onward (plan tri he hull table f off) g c) {m : List ℕ} {full : Bool} where
+module _ {tri he hull table : List ℕ} {f : Frame} {off : List ℕ} {g : Ground} {c : CellState} (a : Onward (plan tri he hull table f off) g c) {m : List ℕ} where
   -- an early site's cell is a walk back for which its region has room
-  pub early-back : (k : ℕ) → k < g .sites → MadeLast he table m full k → BackCell he (getD table k 0) ((getD off (k + 1) 0 - getD off k 0) / 3) (unmarked (earlyCell he (getD table k 0)))
+  pub early-back : (k : ℕ) → k < g .sites → MadeLast he table m k → BackCell he (getD table k 0) ((getD off (k + 1) 0 - getD off k 0) / 3) (unmarked (earlyCell he (getD table k 0)))
   early-back k l x =
       let t = getD table k 0 in
       let top = a .on .mesh in

@@ -1,7 +1,6 @@
 -- The loops over tries. Before each try the definition on what is left, from the cells so far, is the whole, so a refusal there is the whole's. Hull sites are distinct:
 -- a try sets the cell of its own site only, and those still to come stay empty.
 use mathlib.Core.Path.{_≡_, refl, sym, ap, _∙_}
-use mathlib.Core.Bool.{Bool, true, false}
 use mathlib.Core.List.{List, []}
 use mathlib.Core.Logic.{_≢_, ⊎-elim}
 use Prim.Native.Nat.{ℕ, zero, suc, _+_, _-_, _/_, _≤_, _<_}
@@ -13,10 +12,10 @@ use lib.ListN.{length, getD}
 use Rattle.plane.specs.points.Flat.{points}
 use Rattle.plane.specs.declared.points.Point.{Point}
 use Rattle.base.specs.numbers.Numbers.{EMPTY}
-use Rattle.mesh.specs.Mesh.{nextOf, pairOf}
+use Rattle.mesh.specs.Mesh.{nextOf, endOf, pairOf}
 use Rattle.mesh.specs.Accepted.{Topology}
 use Rattle.mesh.specs.laws.Next.{next-thrice}
-use Rattle.mesh.specs.laws.Facts.{entry-site, next-in, start-used, tab-length, tab-used}
+use Rattle.mesh.specs.laws.Facts.{paired, entry-site, end-site, next-in, start-used, tab-length, tab-some, tab-used, walk-each}
 use Rattle.mesh.specs.laws.Occurs.{occ-there}
 use Rattle.cell_memory.specs.outputs.laws.Marks.{full-already}
 use Rattle.definition.specs.declared.Fault.{Fault}
@@ -47,13 +46,12 @@ use Rattle.cell_builder.specs.turned.Loops.{
   AllTried,
 }
 use Rattle.cell_builder.specs.turned.Marks.{Markable, Covers, MadeLast, LeftOut}
-use Rattle.cell_builder.specs.turned.Turns.{HullsFilled, SettledBefore, SettledAfter, HullRegions, RegionFilled}
+use Rattle.cell_builder.specs.turned.Turns.{HullsMarked, SettledBefore, SettledAfter, HullRegions, HullTold, HullWalks}
 use Rattle.cell_builder.specs.turned.laws.Leaving.{Alike, left-none, left-more, left-onward}
-use Rattle.cell_builder.specs.turned.laws.Marking.{marked-none}
 use Rattle.cell_builder.specs.turned.laws.Quiet.{early-filled}
 use Rattle.cell_builder.specs.tried.laws.Early.{earlyCell}
 use Rattle.cell_builder.specs.turned.laws.Onward.{Onward, onward, others-stay}
-use Rattle.cell_builder.specs.turned.laws.OneTurn.{closed}
+use Rattle.cell_builder.specs.turned.laws.OneTurn.{closed, on-hull}
 
 -- ---- one step
 
@@ -169,27 +167,27 @@ module _ (w : Plan) where
       rw z
 
 -- before half-edge e: the definition's cells so far, and those held
-pub record RestLeft (w : Plan) (g : Ground) (full : Bool) (m : List ℕ) (whole : Outcome Fault CellState) (e : ℕ) (p : Progress) (v : List Float) (ix : List ℕ) : Type 0 where
+pub record RestLeft (w : Plan) (g : Ground) (m : List ℕ) (whole : Outcome Fault CellState) (e : ℕ) (p : Progress) (v : List Float) (ix : List ℕ) : Type 0 where
   pub cells : CellState
   pub held : CellState
   pub amid : Amid w g held p v ix
-  pub settled : SettledBefore w g full e cells
-  pub left : LeftOut w g (λ (k : ℕ). MadeLast (w .halfedges) (w .table) m full k × (getD (w .table) k 0 < e)) cells held
-  pub blank : EarlyBlank w g full m held
+  pub settled : SettledBefore w g m e cells
+  pub left : LeftOut w g (λ (k : ℕ). MadeLast (w .halfedges) (w .table) m k × (getD (w .table) k 0 < e)) cells held
+  pub blank : EarlyBlank w g m held
   pub makes : edgesFrom w e cells ≡ whole
 
 -- a try that does the same with the cells c and t, and what it settles
-pub record TriedAlike (w : Plan) (g : Ground) (full : Bool) (m : List ℕ) (e : ℕ) (c t : CellState) : Type 0 where
-  pub alike : Alike (LeftOut w g (λ (k : ℕ). MadeLast (w .halfedges) (w .table) m full k × (getD (w .table) k 0 < e))) (edgeTry w e c) (edgeTry w e t)
-  pub settled : SettledAfter w g full e c
-  pub blank : Gives (EarlyBlank w g full m) (edgeTry w e t)
+pub record TriedAlike (w : Plan) (g : Ground) (m : List ℕ) (e : ℕ) (c t : CellState) : Type 0 where
+  pub alike : Alike (LeftOut w g (λ (k : ℕ). MadeLast (w .halfedges) (w .table) m k × (getD (w .table) k 0 < e))) (edgeTry w e c) (edgeTry w e t)
+  pub settled : SettledAfter w g m e c
+  pub blank : Gives (EarlyBlank w g m) (edgeTry w e t)
 
-module _ (w : Plan) (g : Ground) (full : Bool) (m : List ℕ) (e : ℕ) (r : Progress) (v : List Float) (ix : List ℕ) (whole : Outcome Fault CellState) where
+module _ (w : Plan) (g : Ground) (m : List ℕ) (e : ℕ) (r : Progress) (v : List Float) (ix : List ℕ) (whole : Outcome Fault CellState) where
   abbrev Out : CellState → CellState → Type 0
-  Out = LeftOut w g (λ (k : ℕ). MadeLast (w .halfedges) (w .table) m full k × (getD (w .table) k 0 < e))
+  Out = LeftOut w g (λ (k : ℕ). MadeLast (w .halfedges) (w .table) m k × (getD (w .table) k 0 < e))
 
-  stepped : (o q : Outcome Fault CellState) → Alike Out o q → Gives (SettledBefore w g full (e + 1)) o → Gives (EarlyBlank w g full m) q → andThen o (edgesFrom w (e + 1)) ≡ whole
-      → Does w g q r v ix → r .fault .number ≡ 0 → RestLeft w g full m whole (e + 1) r v ix
+  stepped : (o q : Outcome Fault CellState) → Alike Out o q → Gives (SettledBefore w g m (e + 1)) o → Gives (EarlyBlank w g m) q → andThen o (edgesFrom w (e + 1)) ≡ whole
+      → Does w g q r v ix → r .fault .number ≡ 0 → RestLeft w g m whole (e + 1) r v ix
   unfolding andThen
   stepped (ok c) (ok t) k s u q d z =
       record { cells = c; held = t; amid = d; settled = s; left = left-more (λ j lj x. (x .0, omega (arith, x .1))) k; blank = u; makes = q }
@@ -197,16 +195,16 @@ module _ (w : Plan) (g : Ground) (full : Bool) (m : List ℕ) (e : ℕ) (r : Pro
   stepped (refused x) (ok t) k s u q d z = absurd k
   stepped (refused x) (refused y) k s u q d z = absurd (omega (arith, d .1, rw (d .0) at z))
 
-  halted : (o q : Outcome Fault CellState) → Alike Out o q → andThen o (edgesFrom w (e + 1)) ≡ whole → Does w g q r v ix → r .fault .number ≢ 0 → DoesLeft w g full m whole r v ix
+  halted : (o q : Outcome Fault CellState) → Alike Out o q → andThen o (edgesFrom w (e + 1)) ≡ whole → Does w g q r v ix → r .fault .number ≢ 0 → DoesLeft w g m whole r v ix
   unfolding andThen
   halted (ok c) (ok t) k q d z = absurd (z (ap (λ (x : Fault). x .number) (d .fine)))
   halted (ok c) (refused y) k q d z = absurd k
   halted (refused x) (ok t) k q d z = absurd k
   halted (refused x) (refused y) k q d z = rw (← q, k) d
 
-module _ (w : Plan) (full : Bool) (m : List ℕ) (p₀ : Progress) (v₀ : List Float) (ix₀ : List ℕ) where
+module _ (w : Plan) (m : List ℕ) (p₀ : Progress) (v₀ : List Float) (ix₀ : List ℕ) where
   abbrev pub EdgesAlong : ℕ → Progress → List Float → List ℕ → Type 0
-  EdgesAlong e p v ix = AtRest w p₀ v₀ ix₀ (λ g s. InnerBlank w g s → HullsFilled w full s → MarksCover w g m → RestLeft w g full m (edgeTries w s) e p v ix)
+  EdgesAlong e p v ix = AtRest w p₀ v₀ ix₀ (λ g s. InnerBlank w g s → HullsMarked w m s → MarksCover w g m → RestLeft w g m (edgeTries w s) e p v ix)
 
   pub edges-start : EdgesAlong 0 p₀ v₀ ix₀
   edges-start g s a inner filled marked = record {
@@ -220,29 +218,29 @@ module _ (w : Plan) (full : Bool) (m : List ℕ) (p₀ : Progress) (v₀ : List 
   }
 
   module _ (e : ℕ) (p : Progress) (v : List Float) (ix : List ℕ) (along : EdgesAlong e p v ix) where
-    pub edges-amid : RestAmid w full m p₀ v₀ ix₀ → EdgesAmid w p v ix
+    pub edges-amid : RestAmid w m p₀ v₀ ix₀ → EdgesAmid w p v ix
     edges-amid h = let a = along (h .g) (h .s) (h .amid) (h .inner) (h .filled) (h .marked) in record { g = h .g; s = a .held; amid = a .amid }
 
-    pub edges-end : e ≡ length (w .triangles) → RestTried w full m p₀ v₀ ix₀ p v ix
+    pub edges-end : e ≡ length (w .triangles) → RestTried w m p₀ v₀ ix₀ p v ix
     edges-end l g s am inner filled marked =
         let a = along g s am inner filled marked in
         let q : edgeTries w s ≡ ok (a .cells) = sym (a .makes) ∙ edge-last w e (a .cells) (omega arith) in
         rw q (a .held, record { settled = rw l at (a .settled); left = left-more (λ k lk x. x .0) (a .left); blank = a .blank; amid = a .amid })
 
     module _ (l : e < length (w .triangles)) (r : Progress) (v₁ : List Float) (ix₁ : List ℕ) (try : EdgeTried w p v ix e r v₁ ix₁)
-        (fits : (g : Ground) (s : CellState) (o : Outcome Fault CellState) → MarksCover w g m → (a : RestLeft w g full m o e p v ix) → TriedAlike w g full m e (a .cells) (a .held)) where
+        (fits : (g : Ground) (s : CellState) (o : Outcome Fault CellState) → MarksCover w g m → (a : RestLeft w g m o e p v ix) → TriedAlike w g m e (a .cells) (a .held)) where
       -- what the try settles is said by OneTurn, that it is the same with early cells left out by Leaving
       pub edges-step : r .fault .number ≡ 0 → EdgesAlong (e + 1) r v₁ ix₁
       edges-step z g s am inner filled marked =
           let a = along g s am inner filled marked in
           let f = fits g s _ marked a in
-          stepped w g full m e r v₁ ix₁ (edgeTries w s) _ _ (f .alike) (f .settled) (f .blank) (edge-next w e (a .cells) l ∙ a .makes) (try g (a .held) (a .amid)) z
+          stepped w g m e r v₁ ix₁ (edgeTries w s) _ _ (f .alike) (f .settled) (f .blank) (edge-next w e (a .cells) l ∙ a .makes) (try g (a .held) (a .amid)) z
 
-      pub edges-refused : r .fault .number ≢ 0 → RestTried w full m p₀ v₀ ix₀ r v₁ ix₁
+      pub edges-refused : r .fault .number ≢ 0 → RestTried w m p₀ v₀ ix₀ r v₁ ix₁
       edges-refused z g s am inner filled marked =
           let a = along g s am inner filled marked in
           let f = fits g s _ marked a in
-          halted w g full m e r v₁ ix₁ (edgeTries w s) _ _ (f .alike) (edge-next w e (a .cells) l ∙ a .makes) (try g (a .held) (a .amid)) z
+          halted w g m e r v₁ ix₁ (edgeTries w s) _ _ (f .alike) (edge-next w e (a .cells) l ∙ a .makes) (try g (a .held) (a .amid)) z
 
 -- ---- whether all hull sites have their cells
 
@@ -275,43 +273,52 @@ module _ {w : Plan} {g : Ground} {s : CellState} {p : Progress} {v : List Float}
     room = a .holds .room;
   }
 
-  pub hulls-filled : (full : Bool) → (full ≡ true → (i : ℕ) → i < length (w .hull) → RegionFilled (w .hull) ix (w .offsets) i) → HullsFilled w full s
-  hulls-filled full told t i l =
-      full-already ix (w .offsets) (s .cells) (a .regions) (getD (w .hull) i 0) (rw (a .held .width) (hull-in i l)) (hull-some i l) (told t i l)
+  pub hull-walks : HullWalks (w .triangles) (w .halfedges) (w .hull) (w .table) ix (w .offsets)
+  hull-walks = record {
+    regions = hull-regions;
+    sites = λ i l. rw (a .on .table-is, tab-length (a .on .mesh)) (hull-in i l);
+    paired = paired (a .on .mesh);
+    few = omega (arith, a .on .few-entries, a .on .mesh .same);
+  }
+
+  -- a hull site without a cell has all of its half-edges marked
+  pub hulls-marked : (m : List ℕ) → ((i : ℕ) → i < length (w .hull) → HullTold (w .halfedges) (w .hull) (w .table) ix (w .offsets) m i) → HullsMarked w m s
+  hulls-marked m told h l u z =
+      let top = a .on .mesh in
+      let site = endOf (w .triangles) h in
+      let lh = in-mesh h l in
+      let there = tab-some top site (end-site top h lh) h lh refl in
+      let o = on-hull (onward a) site (rw (a .on .table-is) (there .0)) (rw (a .on .table-is) (there .1)) u in
+      ⊎-elim
+      (λ x. rw (← o .2) (full-already ix (w .offsets) (s .cells) (a .regions) (getD (w .hull) (o .0) 0) (rw (a .held .width) (hull-in (o .0) (o .1))) (hull-some (o .0) (o .1)) x))
+      (λ x. absurd (x h (rw (o .2, a .on .table-is) (omega (arith, walk-each top site (end-site top h lh) h lh refl))) z))
+      (told (o .0) (o .1))
 
 -- ---- the early ones
 
-module _ {w : Plan} {g : Ground} {full : Bool} {m : List ℕ} {c t : CellState} {p : Progress} {v : List Float} {ix : List ℕ} (marked : MarksCover w g m) (a : LeftAmid w g full m c t p v ix) where
+module _ {w : Plan} {g : Ground} {m : List ℕ} {c t : CellState} {p : Progress} {v : List Float} {ix : List ℕ} (marked : MarksCover w g m) (a : LeftAmid w g m c t p v ix) where
   -- an early site's cell is not empty in c, and so not t's
-  early-left : (k : ℕ) → k < g .sites → MadeLast (w .halfedges) (w .table) m full k → getD (c .cells) k [] ≡ earlyCell (w .halfedges) (getD (w .table) k 0)
+  early-left : (k : ℕ) → k < g .sites → MadeLast (w .halfedges) (w .table) m k → getD (c .cells) k [] ≡ earlyCell (w .halfedges) (getD (w .table) k 0)
   early-left k l x =
       ⊎-elim
       (λ q. absurd (true-false (ap isEmpty (q ∙ a .blank k l x)) (early-filled (left-onward (a .amid) (a .left)) m marked l x (a .settled))))
       (λ q. q .2)
       (a .left .each k l)
 
-  late-left : (k : ℕ) → k < g .sites → (MadeLast (w .halfedges) (w .table) m full k → ⊥) → getD (c .cells) k [] ≡ getD (t .cells) k []
+  late-left : (k : ℕ) → k < g .sites → (MadeLast (w .halfedges) (w .table) m k → ⊥) → getD (c .cells) k [] ≡ getD (t .cells) k []
   late-left k l n = ⊎-elim (λ q. q) (λ q. absurd (n (q .0))) (a .left .each k l)
 
-  late-amid : (x : Bool) → full ≡ x → (m₁ : List ℕ) → (full ≡ true → m₁ ≡ m) × (full ≡ false → (k : ℕ) → k < 16384 → getD m₁ k 0 ≢ 0) → LateAmid w g m₁ c p v ix
-  late-amid x f m₁ told = record {
+  late-amid : LateAmid w g m c p v ix
+  late-amid = record {
     held = t;
     amid = a .amid;
     verts = a .left .verts;
     owners = a .left .owners;
     steps = a .left .steps;
     width = a .left .width;
-    late = by x f .0;
-    early = by x f .1;
+    late = late-left;
+    early = early-left;
   }
-    where
-      by : (x : Bool) → full ≡ x → ((k : ℕ) → k < g .sites → (MadeLast (w .halfedges) (w .table) m₁ true k → ⊥) → getD (c .cells) k [] ≡ getD (t .cells) k [])
-          × ((k : ℕ) → k < g .sites → MadeLast (w .halfedges) (w .table) m₁ true k → getD (c .cells) k [] ≡ earlyCell (w .halfedges) (getD (w .table) k 0))
-      by true f = (λ k l n. late-left k l (λ x. n (rw (told .0 f, ← f) x)), λ k l x. early-left k l (rw (f, ← told .0 f) x))
-      by false f = (
-        λ k l n. late-left k l (λ x. absurd (true-false (x .filled) f)),
-        λ k l x. absurd (marked-none (w .halfedges) (w .table) m₁ (omega (arith, a .amid .on .few-entries, a .amid .on .mesh .same)) (told .1 f) k x),
-      )
 
 -- ---- the hull, then the rest
 
@@ -366,36 +373,35 @@ module _ (w : Plan) (p₀ : Progress) (v₀ : List Float) (ix₀ : List ℕ) whe
       pub cells-markable : HullsAmid w p₀ v₀ ix₀ → Markable (w .triangles) (w .table) (r .count) (length v)
       cells-markable h = markable (between (h .g) (h .s) (h .blank) (h .amid) .amid)
 
-      pub cells-regions : HullsAmid w p₀ v₀ ix₀ → HullRegions (w .hull) ix (w .offsets)
-      cells-regions h = hull-regions (between (h .g) (h .s) (h .blank) (h .amid) .amid)
+      pub cells-walks : HullsAmid w p₀ v₀ ix₀ → HullWalks (w .triangles) (w .halfedges) (w .hull) (w .table) ix (w .offsets)
+      cells-walks h = hull-walks (between (h .g) (h .s) (h .blank) (h .amid) .amid)
 
-      module _ (full : Bool) (told : full ≡ true → (i : ℕ) → i < length (w .hull) → RegionFilled (w .hull) ix (w .offsets) i) where
-        module _ (m : List ℕ) (covers : Covers (w .frame .bounds) (points (r .count) v) (w .triangles) (w .table) m (length (w .triangles))) where
+      module _ (m : List ℕ) (told : (i : ℕ) → i < length (w .hull) → HullTold (w .halfedges) (w .hull) (w .table) ix (w .offsets) m i) where
+        module _ (covers : Covers (w .frame .bounds) (points (r .count) v) (w .triangles) (w .table) m (length (w .triangles))) where
           -- what is outside among the vertices now was so before
           marked : (g : Ground) (s : CellState) → Amid w g s r v ix → MarksCover w g m
           marked g s a k l z =
               covers k l (ap (λ (vs : List Point). inBox (w .frame .bounds) (length (w .triangles) / 3) vs (k / 3)) (sym (a .verts))
               ∙ in-grown (w .frame .bounds) (length (w .triangles) / 3) (g .x .verts) (s .verts) (a .held .more) (k / 3) (omega (arith, a .on .low)) (a .held .grown) ∙ z)
 
-          pub cells-amid : HullsAmid w p₀ v₀ ix₀ → RestAmid w full m r v ix
+          pub cells-amid : HullsAmid w p₀ v₀ ix₀ → RestAmid w m r v ix
           cells-amid h =
               let a = between (h .g) (h .s) (h .blank) (h .amid) in
-              record { g = h .g; s = a .cells; amid = a .amid; inner = a .fit; filled = hulls-filled (a .amid) full told; marked = marked (h .g) (a .cells) (a .amid) }
+              record { g = h .g; s = a .cells; amid = a .amid; inner = a .fit; filled = hulls-marked (a .amid) m told; marked = marked (h .g) (a .cells) (a .amid) }
 
-          module _ (r₁ : Progress) (v₁ : List Float) (ix₁ : List ℕ) (edges : RestTried w full m r v ix r₁ v₁ ix₁) where
-            rest : AtFirst w p₀ v₀ ix₀ (λ g s. DoesLeft w g full m (allTries g s) r₁ v₁ ix₁ × MarksCover w g m)
+          module _ (r₁ : Progress) (v₁ : List Float) (ix₁ : List ℕ) (edges : RestTried w m r v ix r₁ v₁ ix₁) where
+            rest : AtFirst w p₀ v₀ ix₀ (λ g s. DoesLeft w g m (allTries g s) r₁ v₁ ix₁ × MarksCover w g m)
             rest g s blank am =
                 let a = between g s blank am in
                 let k = marked g (a .cells) (a .amid) in
-                rw (← a .makes) (edges g (a .cells) (a .amid) (a .fit) (hulls-filled (a .amid) full told) k, k)
+                rw (← a .makes) (edges g (a .cells) (a .amid) (a .fit) (hulls-marked (a .amid) m told) k, k)
 
-            -- the marks as they are where every hull site has its cell, else all set
-            pub cells-end : (m₁ : List ℕ) → (full ≡ true → m₁ ≡ m) × (full ≡ false → (k : ℕ) → k < 16384 → getD m₁ k 0 ≢ 0) → AllTried w p₀ v₀ ix₀ m₁ r₁ v₁ ix₁
-            cells-end m₁ told₁ g s blank am = by (allTries g s) (all .0)
+            pub cells-end : AllTried w p₀ v₀ ix₀ m r₁ v₁ ix₁
+            cells-end g s blank am = by (allTries g s) (all .0)
               where
-                all : DoesLeft w g full m (allTries g s) r₁ v₁ ix₁ × MarksCover w g m
+                all : DoesLeft w g m (allTries g s) r₁ v₁ ix₁ × MarksCover w g m
                 all = rest g s blank am
 
-                by : (o : Outcome Fault CellState) → DoesLeft w g full m o r₁ v₁ ix₁ → DoesLate w g m₁ o r₁ v₁ ix₁
-                by (ok c) d = late-amid (all .1) (d .1) full refl m₁ told₁
+                by : (o : Outcome Fault CellState) → DoesLeft w g m o r₁ v₁ ix₁ → DoesLate w g m o r₁ v₁ ix₁
+                by (ok c) d = late-amid (all .1) (d .1)
                 by (refused e) d = d
