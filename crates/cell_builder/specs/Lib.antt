@@ -4,5 +4,6 @@ pub mod Start
 pub mod laws
 pub mod rings
 pub mod finish
+pub mod placed
 pub mod tried
 pub mod turned

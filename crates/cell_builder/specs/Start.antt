@@ -20,7 +20,8 @@ use Rattle.cell_builder.specs.declared.finish.CellsAnswer.{CellsAnswer}
 use Rattle.cell_builder.specs.finish.Finish.{outcomeAnswer, SettledCells}
 use Rattle.cell_memory.specs.outputs.Outputs.{BuiltInto}
 use Rattle.cell_builder.specs.declared.finish.Progress.{Progress}
-use Rattle.cell_builder.specs.tried.CellsInSlices.{Plan, plan, ground, frameOf, Does}
+use Rattle.cell_builder.specs.tried.CellsInSlices.{Plan, plan, ground, frameOf}
+use Rattle.cell_builder.specs.turned.Loops.{DoesLate}
 use Rattle.cell_builder.specs.AdmittedBuild.{AdmittedBuild}
 
 -- ---- corners and extensions
@@ -64,17 +65,17 @@ pub record Makeable (m : Mesh) (table : List ℕ) (b : BoundingBox) (owners : Li
 abbrev pub planOf : Mesh → List ℕ → BoundingBox → List ℕ → Plan
 planOf m table b off = plan (m .triangles) (m .halfedges) (m .hull) table (frameOf b (length (m .triangles)) (length (m .hull))) off
 
--- by the outcome of the extensions: all cells on them, or their refusal
-abbrev pub Makes : Mesh → List ℕ → BoundingBox → List ℕ → Outcome Fault Extensions → Progress → List Float → List ℕ → List ℕ → Type 0
-Makes m table b owners (ok x) p v₁ ix₁ off₁ =
-    Does (planOf m table b off₁) (ground (siteCount (m .sites)) owners x)
+-- by the outcome of the extensions: all cells on them, but for the early ones, or their refusal
+abbrev pub Makes : Mesh → List ℕ → BoundingBox → List ℕ → Outcome Fault Extensions → List ℕ → Progress → List Float → List ℕ → List ℕ → Type 0
+Makes m table b owners (ok x) marks p v₁ ix₁ off₁ =
+    DoesLate (planOf m table b off₁) (ground (siteCount (m .sites)) owners x) marks
     (clipAll b (length (m .triangles) / 3) (m .triangles) (m .halfedges) (m .hull) table (siteCount (m .sites)) owners x) p v₁ ix₁
-Makes m table b owners (refused e) p v₁ ix₁ off₁ = (p .fault ≡ e) × (0 < e .number)
+Makes m table b owners (refused e) marks p v₁ ix₁ off₁ = (p .fault ≡ e) × (0 < e .number)
 
 -- on the circumcenters that stand in v
-abbrev pub MadeCells : Mesh → List ℕ → BoundingBox → List ℕ → List Float → Progress → List Float → List ℕ → List ℕ → Type 0
-MadeCells m table b owners v p v₁ ix₁ off₁ =
-    Makes m table b owners (extendedOf (m .sites) (m .triangles) (m .hull) table b (length (m .triangles) / 3) v) p v₁ ix₁ off₁
+abbrev pub MadeCells : Mesh → List ℕ → BoundingBox → List ℕ → List Float → List ℕ → Progress → List Float → List ℕ → List ℕ → Type 0
+MadeCells m table b owners v marks p v₁ ix₁ off₁ =
+    Makes m table b owners (extendedOf (m .sites) (m .triangles) (m .hull) table b (length (m .triangles) / 3) v) marks p v₁ ix₁ off₁
 
 -- ---- all cells, and the answer
 
@@ -86,11 +87,12 @@ AnsweredBuild o v ix off r v₁ ix₁ off₁ = (r ≡ outcomeAnswer o) × BuiltI
 pub record BuiltCells (m : Mesh) (table : List ℕ) (b : BoundingBox) (owners : List ℕ) (v : List Float) (ix off : List ℕ)
     (r : CellsAnswer) (v₁ : List Float) (ix₁ off₁ : List ℕ) : Type 0 where
   pub progress : Progress
+  pub marks : List ℕ
   pub made-v : List Float
   pub made-ix : List ℕ
   pub made-off : List ℕ
-  pub makes : MadeCells m table b owners v progress made-v made-ix made-off
-  pub settled : SettledCells (siteCount (m .sites)) (length (m .triangles) / 3) progress owners made-v made-ix made-off r v₁ ix₁ off₁
+  pub makes : MadeCells m table b owners v marks progress made-v made-ix made-off
+  pub settled : SettledCells (m .halfedges) table marks (siteCount (m .sites)) (length (m .triangles) / 3) progress owners made-v made-ix made-off r v₁ ix₁ off₁
   pub long-v : length made-v ≡ length v
   pub long-ix : length made-ix ≡ length ix
   pub long-off : length made-off ≡ length off

@@ -1,8 +1,8 @@
-// The end of a clipped build: the cells moved together and the lost corners counted, or all slices cleared.
+// The end of a clipped build: the cells put in their places and the lost corners counted, or all slices cleared.
+use crate::placed::gather;
 use base::numbers::EMPTY;
 use cell_memory::layout::clear_floats_from;
 use cell_memory::outputs::clear_all;
-use cell_memory::outputs::gather;
 use definition::Fault;
 use definition::Reused;
 use walks::shared::holds;
@@ -81,8 +81,11 @@ pub fn refuse(
     }
 }
 
-// The cells moved together, the vertices cleared past their count, and the answer with the owners as found and the corners lost; `centers` is the first corner's vertex.
+// The cells put in their places, the vertices cleared past their count, and the answer with the owners as found and the corners lost; `centers` is the first corner's vertex.
 fn finish(
+    halfedges: &[u32],
+    table: &[u32],
+    marks: &[u8; 16384],
     vertices: &mut [f64],
     indexes: &mut [u32],
     offsets: &mut [u32],
@@ -91,11 +94,11 @@ fn finish(
     p: Progress,
     owners: [u32; 4],
 ) -> CellsAnswer
-    requires { ⌜ Finishable sites centers (p .count) (length (now vertices)) (now indexes) (now offsets) ⌝ }
-    ensures { λ r. ⌜ FinishedCells sites centers p owners (now (vertices .entry)) (now (indexes .entry)) (now (offsets .entry)) r (now (vertices .exit))
-        (now (indexes .exit)) (now (offsets .exit)) ⌝ }
+    requires { ⌜ Finishable (now halfedges) (now table) (now marks) sites centers (p .count) (length (now vertices)) (now indexes) (now offsets) ⌝ }
+    ensures { λ r. ⌜ FinishedCells (now (halfedges .entry)) (now (table .entry)) (now (marks .entry)) sites centers p owners
+        (now (vertices .entry)) (now (indexes .entry)) (now (offsets .entry)) r (now (vertices .exit)) (now (indexes .exit)) (now (offsets .exit)) ⌝ }
 {
-    let used = gather(indexes, offsets, sites);
+    let used = gather(halfedges, table, marks, indexes, offsets, sites);
     clear_floats_from(vertices, 2 * p.count);
     let fault = p.fault;
     let left = p.owners;
@@ -109,8 +112,11 @@ fn finish(
     }
 }
 
-// The answer by the fault: refused, the slices are cleared, else the cells are moved together.
+// The answer by the fault: refused, the slices are cleared, else the cells are put in their places.
 pub fn settle(
+    halfedges: &[u32],
+    table: &[u32],
+    marks: &[u8; 16384],
     vertices: &mut [f64],
     indexes: &mut [u32],
     offsets: &mut [u32],
@@ -119,13 +125,24 @@ pub fn settle(
     p: Progress,
     owners: [u32; 4],
 ) -> CellsAnswer
-    requires { ⌜ (p .fault .number ≡ 0 → Finishable sites centers (p .count) (length (now vertices)) (now indexes) (now offsets)) ⌝ }
-    ensures { λ r. ⌜ SettledCells sites centers p owners (now (vertices .entry)) (now (indexes .entry)) (now (offsets .entry)) r (now (vertices .exit))
-        (now (indexes .exit)) (now (offsets .exit)) ⌝ }
+    requires { ⌜ (p .fault .number ≡ 0 → Finishable (now halfedges) (now table) (now marks) sites centers (p .count) (length (now vertices)) (now indexes) (now offsets)) ⌝ }
+    ensures { λ r. ⌜ SettledCells (now (halfedges .entry)) (now (table .entry)) (now (marks .entry)) sites centers p owners
+        (now (vertices .entry)) (now (indexes .entry)) (now (offsets .entry)) r (now (vertices .exit)) (now (indexes .exit)) (now (offsets .exit)) ⌝ }
 {
     let fault = p.fault;
     if fault.number != 0 {
         return refuse(vertices, indexes, offsets, fault);
     }
-    finish(vertices, indexes, offsets, sites, centers, p, owners)
+    finish(
+        halfedges,
+        table,
+        marks,
+        vertices,
+        indexes,
+        offsets,
+        sites,
+        centers,
+        p,
+        owners,
+    )
 }

@@ -1,5 +1,6 @@
-// The clipped build (CellBuilder with ClipBehavior::Clip) over lent slices: circumcenters, owners, extensions, the hull's cells, the rest, then all moved together.
+// The clipped build (CellBuilder with ClipBehavior::Clip) over lent slices: circumcenters, owners, extensions, the hull's cells, the rest, then all put in their places.
 pub mod finish;
+pub mod placed;
 pub mod rings;
 pub mod tried;
 pub mod turned;
@@ -17,28 +18,31 @@ use definition::Fault;
 use plane::boxes::BoundingBox;
 use start::extend;
 use start::frame;
+ghost use mathlib.Core.Path.{_≡_};
 ghost use lib.ListN.{length};
 ghost use Rattle.mesh.specs.Accepted.{mesh};
 ghost use Rattle.definition.specs.Build.{build};
 ghost use Rattle.cell_builder.specs.AdmittedBuild.{AdmittedBuild};
 ghost use Rattle.cell_builder.specs.Start.{Makeable, MadeCells, AnsweredBuild, BuiltCells};
 
-// The regions, the corners and extensions, and all cells in their regions.
+// The regions, the corners and extensions, and all cells but the early ones in their regions.
 fn make_cells(
     sites: &[f64],
     triangles: &[u32],
     halfedges: &[u32],
     hull: &[u32],
     table: &[u32],
+    marks: &mut [u8; 16384],
     bounds: BoundingBox,
     owners: [u32; 4],
     vertices: &mut [f64],
     indexes: &mut [u32],
     offsets: &mut [u32],
 ) -> Progress
-    requires { ⌜ Makeable (mesh (now sites) (now triangles) (now halfedges) (now hull)) (now table) bounds owners (length (now vertices)) (length (now indexes)) (length (now offsets)) ⌝ }
+    requires { ⌜ Makeable (mesh (now sites) (now triangles) (now halfedges) (now hull)) (now table) bounds owners (length (now vertices)) (length (now indexes)) (length (now offsets))
+        × (length (now marks) ≡ 16384) ⌝ }
     ensures { λ r. ⌜ MadeCells (mesh (now (sites .entry)) (now (triangles .entry)) (now (halfedges .entry)) (now (hull .entry))) (now (table .entry)) bounds
-        owners (now (vertices .entry)) r (now (vertices .exit)) (now (indexes .exit)) (now (offsets .exit)) ⌝ }
+        owners (now (vertices .entry)) (now (marks .exit)) r (now (vertices .exit)) (now (indexes .exit)) (now (offsets .exit)) ⌝ }
 {
     let f = frame(bounds, triangles.len(), hull.len());
     lay_out(triangles, hull, owners, indexes, offsets, sites.len() / 2);
@@ -52,6 +56,7 @@ fn make_cells(
         halfedges,
         hull,
         table,
+        marks,
         vertices,
         indexes,
         offsets,
@@ -78,12 +83,14 @@ fn clip_build(
     ensures { λ r. ⌜ BuiltCells (mesh (now (sites .entry)) (now (triangles .entry)) (now (halfedges .entry)) (now (hull .entry))) (now (table .entry)) bounds
         owners (now (vertices .entry)) (now (indexes .entry)) (now (offsets .entry)) r (now (vertices .exit)) (now (indexes .exit)) (now (offsets .exit)) ⌝ }
 {
+    let mut marks = [0u8; 16384];
     let p = make_cells(
         sites,
         triangles,
         halfedges,
         hull,
         table,
+        &mut marks,
         bounds,
         owners,
         vertices,
@@ -91,6 +98,9 @@ fn clip_build(
         offsets,
     );
     settle(
+        halfedges,
+        table,
+        &marks,
         vertices,
         indexes,
         offsets,

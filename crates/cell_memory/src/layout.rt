@@ -1,15 +1,14 @@
-// How cells share one index list: regions by site while they are built, moved together at the end, and what is left over cleared.
+// How cells share one index list: regions by site while they are built, moved down at the end, and what is left over cleared.
 use base::numbers::EMPTY;
 use base::numbers::wide;
 ghost use mathlib.Core.Path.{_≡_};
-ghost use mathlib.Core.List.{List, _++_};
-ghost use Prim.Native.Nat.{ℕ, _+_, _-_, _≤_, _<_};
-ghost use lib.ListN.{length, getD, take, drop};
+ghost use mathlib.Core.List.{_++_};
+ghost use Prim.Native.Nat.{_+_, _-_, _≤_};
+ghost use lib.ListN.{length, take, drop};
 ghost use Rattle.base.specs.common.Binary64.{zero};
-ghost use Rattle.base.specs.numbers.Numbers.{EMPTY};
 ghost use Rattle.cell_memory.specs.layout.Cleared.{clearedFrom};
 ghost use Rattle.cell_memory.specs.layout.Rooms.{Roomy, Started, Tallies, Tallied, Sums, Summed};
-ghost use Rattle.cell_memory.specs.layout.Regions.{Regions, Filled, StartsRise, Compacted};
+ghost use Rattle.cell_memory.specs.layout.Regions.{Filled};
 
 // Indexes from `from` on become `value`.
 pub fn fill_from(s: &mut [u32], from: usize, value: u32)
@@ -62,28 +61,6 @@ pub fn move_down(indexes: &mut [u32], at: usize, from: usize, to: usize)
         w += 1;
         i += 1;
     }
-}
-
-// Moves the cells of all sites together and turns the starts of their regions into offsets. Answers how many entries there are.
-pub fn compact(indexes: &mut [u32], offsets: &mut [u32], sites: usize) -> usize
-    requires { ⌜ StartsRise (now offsets) sites (length (now indexes)) × (getD (now offsets) sites 0 < EMPTY) ⌝ }
-    ensures { λ r. ⌜ (r ≤ length (now (indexes .entry))) × ((cells : List (List ℕ)) → length cells ≡ sites
-        → Regions (now (indexes .entry)) (now (offsets .entry)) cells → Compacted (now (indexes .entry)) (now (offsets .entry)) cells (now (indexes .exit)) (now (offsets .exit)) r) ⌝ }
-{
-    let mut w: usize = 0;
-    let mut from = wide(offsets[0]);
-    let mut s: usize = 0;
-    while s < sites {
-        let to = wide(offsets[s + 1]);
-        let end = cell_end(indexes, from, to);
-        move_down(indexes, w, from, end);
-        offsets[s] = w as u32;
-        w += end - from;
-        from = to;
-        s += 1;
-    }
-    offsets[sites] = w as u32;
-    w
 }
 
 // Adds `by` at the place after each entry of the list.

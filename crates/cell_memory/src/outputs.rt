@@ -1,20 +1,18 @@
 // What a build leaves in the lent slices: what it made, then +0 and `EMPTY`; after a refusal these alone.
 use crate::layout::clear_floats_from;
-use crate::layout::compact;
 use crate::layout::fill_from;
 use crate::layout::region_starts;
 use base::numbers::EMPTY;
 ghost use mathlib.Core.Path.{_≡_};
-ghost use mathlib.Core.List.{List, []};
-ghost use Prim.Native.Nat.{ℕ, _+_, _*_, _≤_, _<_};
-ghost use lib.ListN.{length, getD};
+ghost use mathlib.Core.List.{[]};
+ghost use Prim.Native.Nat.{_+_, _*_, _≤_, _<_};
+ghost use lib.ListN.{length};
 ghost use Rattle.base.specs.common.Decide.{Says};
 ghost use Rattle.base.specs.common.Binary64.{zero};
 ghost use Rattle.base.specs.numbers.Numbers.{EMPTY};
-ghost use Rattle.cell_memory.specs.layout.Regions.{joined, Regions, StartsRise};
 ghost use Rattle.cell_memory.specs.layout.Rooms.{Roomy};
-ghost use Rattle.cell_memory.specs.layout.Cleared.{padded};
-ghost use Rattle.cell_memory.specs.outputs.Outputs.{Rooms, LaidOut, Gathered};
+ghost use Rattle.cell_memory.specs.layout.Cleared.{clearedFrom, padded};
+ghost use Rattle.cell_memory.specs.outputs.Outputs.{Rooms, LaidOut};
 
 // Rule 2 on the lent vertices, indexes and offsets, by the numbers of triangles, hull sites and sites.
 pub fn rooms_ok(
@@ -56,16 +54,13 @@ pub fn lay_out(
     region_starts(triangles, hull, owners, offsets, sites);
 }
 
-// Moves the cells together, turns the starts of their regions into offsets, and clears what is left over of both slices. Answers how many entries there are.
-pub fn gather(indexes: &mut [u32], offsets: &mut [u32], sites: usize) -> usize
-    requires { ⌜ StartsRise (now offsets) sites (length (now indexes)) × (getD (now offsets) sites 0 < EMPTY) ⌝ }
-    ensures { λ r. ⌜ (r ≤ length (now (indexes .entry))) × ((cells : List (List ℕ)) → length cells ≡ sites → Regions (now (indexes .entry)) (now (offsets .entry)) cells
-        → (r ≡ length (joined cells)) × Gathered cells (now (indexes .entry)) (now (offsets .entry)) (now (indexes .exit)) (now (offsets .exit))) ⌝ }
+// Clears what is left over of both slices: of the index list after `used` entries, of the offsets after those of all sites.
+pub fn clear_after(indexes: &mut [u32], offsets: &mut [u32], used: usize, sites: usize)
+    requires { ⌜ (used ≤ length (now indexes)) × (sites < length (now offsets)) ⌝ }
+    ensures { λ _. ⌜ (now (indexes .exit) ≡ clearedFrom used EMPTY (now (indexes .entry))) × (now (offsets .exit) ≡ clearedFrom (sites + 1) EMPTY (now (offsets .entry))) ⌝ }
 {
-    let used = compact(indexes, offsets, sites);
     fill_from(indexes, used, EMPTY);
     fill_from(offsets, sites + 1, EMPTY);
-    used
 }
 
 // Clears the three slices whole.

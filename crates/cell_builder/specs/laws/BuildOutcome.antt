@@ -1,12 +1,12 @@
 -- From the outcomes of the circumcenters, the extensions and the cells to the build's: refused, all slices are cleared; else vertices and cells stand at their beginnings,
 -- and the corners still with their owners that stand in no cell are those lost.
-use mathlib.Core.Path.{_≡_, refl, sym, ap, _∙_}
+use mathlib.Core.Path.{_≡_, refl, sym, ap, _∙_, subst}
 use mathlib.Core.List.{List, [], _++_, map}
 use mathlib.Core.Logic.{_⊎_, inl, inr, ⊎-elim, _≢_}
 use Prim.Native.Nat.{ℕ, _/_, _≤_, _<_}
 use native.Mathlib.Omega.{arith}
 use lib.Ieee.{Float}
-use lib.ListN.{length, getD, length-map}
+use lib.ListN.{length, getD}
 use Rattle.base.specs.common.laws.Decide.{eq-or-ne}
 use Rattle.plane.specs.points.Flat.{points}
 use Rattle.plane.specs.declared.points.Point.{Point}
@@ -16,7 +16,6 @@ use Rattle.vertices.specs.laws.Points.{length-points, points-pour, pour-points}
 use Rattle.mesh.specs.Mesh.{leftmostOf}
 use Rattle.mesh.specs.Accepted.{Mesh, mesh, siteCount}
 use Rattle.cell_memory.specs.layout.Regions.{joined}
-use Rattle.cell_memory.specs.layout.laws.Regions.{regions-rising}
 use Rattle.cell_memory.specs.outputs.laws.Marks.{entries-joined}
 use Rattle.cell_memory.specs.outputs.Outputs.{ofBuilt}
 use Rattle.cell_memory.specs.outputs.laws.Padded.{poured-cleared}
@@ -25,7 +24,11 @@ use Rattle.definition.specs.declared.Fault.{Fault}
 use Rattle.definition.specs.declared.Reused.{Reused}
 use Rattle.definition.specs.Fault.{Outcome, ok, refused, andThen}
 use Rattle.definition.specs.Build.{Built, centersFrom, ownersFrom, Extensions, extendFrom, CellState, clipAll, lostFrom, build}
-use Rattle.definition.specs.Measures.{lostLeft}
+use Rattle.definition.specs.Measures.{lostLeft, shareOf}
+use Rattle.definition.specs.Reused.{reusedIn}
+use Rattle.definition.specs.laws.Gives.{gives-ok}
+use Rattle.build_laws.specs.laws.AllCells.{clip-all}
+use Rattle.build_laws.specs.laws.CellsSoFar.{CellsSoFar}
 use Rattle.build_laws.specs.laws.Built.{owner-of, lost-entries}
 use Rattle.build_laws.specs.laws.Owners.{owners-length, ready, towards-corner}
 use Rattle.cell_builder.specs.rings.Centers.{CentersBy}
@@ -34,37 +37,32 @@ use Rattle.definition.specs.Cell.{unmarked}
 use Rattle.definition.specs.Short.{fault, extensions}
 use Rattle.cell_builder.specs.declared.finish.Progress.{Progress}
 use Rattle.cell_builder.specs.declared.finish.CellsAnswer.{CellsAnswer}
-use Rattle.cell_builder.specs.tried.CellsInSlices.{ground, Amid, Does}
+use Rattle.cell_builder.specs.tried.CellsInSlices.{ground}
+use Rattle.cell_builder.specs.turned.Loops.{LateAmid, DoesLate}
+use Rattle.cell_builder.specs.placed.Placed.{CellsReady}
+use Rattle.cell_builder.specs.laws.LateCells.{late-width, late-placeable, late-placed}
 use Rattle.cell_builder.specs.finish.Finish.{RefusedCells, Finishable}
 use Rattle.cell_builder.specs.AdmittedBuild.{AdmittedBuild}
 use Rattle.cell_builder.specs.Start.{extendedOf, Makeable, planOf, Makes, AnsweredBuild, BuiltCells}
-use Rattle.cell_builder.specs.tried.laws.OneTry.{count-is, last-start}
+use Rattle.cell_builder.specs.tried.laws.OneTry.{count-is}
 
 answer-same : {f g : Fault} {c d : ℕ} {o w : List ℕ} {l k : ℕ} {u x : Reused} → f ≡ g → c ≡ d → o ≡ w → l ≡ k → u ≡ x
     → _≡_ {A = CellsAnswer} (record { fault = f; count = c; owners = o; lost = l; reused = u }) (record { fault = g; count = d; owners = w; lost = k; reused = x })
 answer-same p q r s t = rw (p, q, r, s, t)
 
--- cells that were made can be moved together
-module _ (m : Mesh) (table : List ℕ) (b : BoundingBox) (owners : List ℕ) (p : Progress) (v₂ : List Float) (ix₂ off₂ : List ℕ) where
-  amid-finishable : (x : Extensions) (s : CellState)
-      → Amid (planOf m table b off₂) (ground (siteCount (m .sites)) owners x) s p v₂ ix₂
-      → Finishable (siteCount (m .sites)) (length (m .triangles) / 3) (p .count) (length v₂) ix₂ off₂
-  amid-finishable x s a =
-      let wide : length (map unmarked (s .cells)) ≡ siteCount (m .sites) = length-map (s .cells) unmarked ∙ a .held .width in
-      record {
-        rising = rw wide at (regions-rising ix₂ off₂ (map unmarked (s .cells)) (a .regions));
-        small = omega (arith, last-start (a .on), a .on .stage, a .on .few-entries, a .on .few-on-hull);
-        corners = omega (arith, a .on .few-entries);
-        room = a .holds .room;
-      }
+-- cells that were made can be put in their places
+module _ (m : Mesh) (table : List ℕ) (b : BoundingBox) (owners marks : List ℕ) (p : Progress) (v₂ : List Float) (ix₂ off₂ : List ℕ) where
+  abbrev Fit : Type 0
+  Fit = Finishable (m .halfedges) table marks (siteCount (m .sites)) (length (m .triangles) / 3) (p .count) (length v₂) ix₂ off₂
 
-  pub finishable : (o : Outcome Fault Extensions) → Makes m table b owners o p v₂ ix₂ off₂ → p .fault .number ≡ 0
-      → Finishable (siteCount (m .sites)) (length (m .triangles) / 3) (p .count) (length v₂) ix₂ off₂
+  amid-finishable : (x : Extensions) (s : CellState) → LateAmid (planOf m table b off₂) (ground (siteCount (m .sites)) owners x) marks s p v₂ ix₂ → Fit
+  amid-finishable x s k = record { placeable = late-placeable k; corners = omega (arith, k .amid .on .few-entries); room = k .amid .holds .room }
+
+  pub finishable : (o : Outcome Fault Extensions) → Makes m table b owners o marks p v₂ ix₂ off₂ → p .fault .number ≡ 0 → Fit
   finishable (refused e) k q = absurd (omega (arith, k .1, ap (λ (d : Fault). d .number) (k .0)))
   finishable (ok x) k q = by (clipAll b (length (m .triangles) / 3) (m .triangles) (m .halfedges) (m .hull) table (siteCount (m .sites)) owners x) k
     where
-      by : (o : Outcome Fault CellState) → Does (planOf m table b off₂) (ground (siteCount (m .sites)) owners x) o p v₂ ix₂
-          → Finishable (siteCount (m .sites)) (length (m .triangles) / 3) (p .count) (length v₂) ix₂ off₂
+      by : (o : Outcome Fault CellState) → DoesLate (planOf m table b off₂) (ground (siteCount (m .sites)) owners x) marks o p v₂ ix₂ → Fit
       by (ok s) d = amid-finishable x s d
       by (refused e) d = absurd (omega (arith, d .1, ap (λ (f : Fault). f .number) (d .0)))
 
@@ -138,31 +136,41 @@ module _ {sites : List Float} {tri he hull table : List ℕ} {b : BoundingBox} {
 
   -- ---- the cells
 
-  module _ (owners : List ℕ) (qo : owners ≡ found) (p : Progress) (v₁ v₂ : List Float) (ix₂ off₂ : List ℕ) where
+  module _ (owners : List ℕ) (qo : owners ≡ found) (marks : List ℕ) (p : Progress) (v₁ v₂ : List Float) (ix₂ off₂ : List ℕ) where
     abbrev Refuses : Outcome Fault Built → Type 0
     Refuses o = (e : Fault) × (o ≡ refused e) × (p .fault ≡ e) × (0 < e .number)
 
     abbrev Builds : Outcome Fault Built → Type 0
-    Builds o = (x : Extensions) × (s : CellState) × (o ≡ ok (outcome s)) × Amid (planOf (mesh sites tri he hull) (leftmostOf tri he n) b off₂) (ground n found x) s p v₂ ix₂
+    Builds o = (x : Extensions) × (s : CellState) × (o ≡ ok (outcome s)) × LateAmid (planOf (mesh sites tri he hull) (leftmostOf tri he n) b off₂) (ground n found x) marks s p v₂ ix₂
+        × CellsSoFar b T n (shareOf tri hull) (x .verts) found (x .steps) s
 
-    told : Makes (mesh sites tri he hull) table b owners (extended v₁) p v₂ ix₂ off₂
+    told : Makes (mesh sites tri he hull) table b owners (extended v₁) marks p v₂ ix₂ off₂
         → Refuses (andThen (extended v₁) cellsThen) ⊎ Builds (andThen (extended v₁) cellsThen)
     unfolding andThen
     told k = by (extended v₁) (rw qo at k)
       where
-        cells-by : (x : Extensions) (o : Outcome Fault CellState)
-            → Does (planOf (mesh sites tri he hull) (leftmostOf tri he n) b off₂) (ground n found x) o p v₂ ix₂
+        cells-by : (x : Extensions) (o : Outcome Fault CellState) → clipAll b T tri he hull (leftmostOf tri he n) n found x ≡ o
+            → DoesLate (planOf (mesh sites tri he hull) (leftmostOf tri he n) b off₂) (ground n found x) marks o p v₂ ix₂
             → Refuses (andThen o (λ s. ok (outcome s))) ⊎ Builds (andThen o (λ s. ok (outcome s)))
-        cells-by x (ok s) d = inr (x, s, refl, d)
-        cells-by x (refused e) d = inl (e, refl, d .0, d .1)
+        cells-by x (ok s) q d =
+            let on = d .amid .on in
+            inr (
+              x,
+              s,
+              refl,
+              d,
+              gives-ok (CellsSoFar b T n (shareOf tri hull) (x .verts) found (x .steps))
+                  (clip-all (on .mesh) (omega (arith, on .few-sites)) b T found x (on .low) (on .four)) q,
+            )
+        cells-by x (refused e) q d = inl (e, refl, d .0, d .1)
 
-        by : (o : Outcome Fault Extensions) → Makes (mesh sites tri he hull) table b found o p v₂ ix₂ off₂ → Refuses (andThen o cellsThen) ⊎ Builds (andThen o cellsThen)
-        by (ok x) d = cells-by x (clipAll b T tri he hull (leftmostOf tri he n) n found x) (rw (m .table-is) at d)
+        by : (o : Outcome Fault Extensions) → Makes (mesh sites tri he hull) table b found o marks p v₂ ix₂ off₂ → Refuses (andThen o cellsThen) ⊎ Builds (andThen o cellsThen)
+        by (ok x) d = cells-by x (clipAll b T tri he hull (leftmostOf tri he n) n found x) refl (rw (m .table-is) at d)
         by (refused e) d = inl (e, refl, d .0, d .1)
 
-    module _ (k : Makes (mesh sites tri he hull) table b owners (extended v₁) p v₂ ix₂ off₂) where
+    module _ (k : Makes (mesh sites tri he hull) table b owners (extended v₁) marks p v₂ ix₂ off₂) where
       stopped : p .fault .number ≢ 0 → andThen (extended v₁) cellsThen ≡ refused (p .fault)
-      stopped q = ⊎-elim (λ r. r .1 ∙ ap refused (sym (r .2))) (λ r. absurd (q (ap (λ (d : Fault). d .number) (r .3 .fine)))) (told k)
+      stopped q = ⊎-elim (λ r. r .1 ∙ ap refused (sym (r .2))) (λ r. absurd (q (ap (λ (d : Fault). d .number) (r .3 .amid .fine)))) (told k)
 
       all-built : p .fault .number ≡ 0 → Builds (andThen (extended v₁) cellsThen)
       all-built q = ⊎-elim (λ r. absurd (omega (arith, r .3, ap (λ (d : Fault). d .number) (r .2)))) (λ r. r) (told k)
@@ -191,25 +199,28 @@ module _ {sites : List Float} {tri he hull table : List ℕ} {b : BoundingBox} {
       -- an extension or a cell is refused
       refused-later : p .fault .number ≢ 0 → With (build (mesh sites tri he hull) b)
       refused-later q =
-          rw (goes-on t v v₁ c h ∙ stopped owners qo p v₁ (w .made-v) (w .made-ix) (w .made-off) (w .makes) q)
+          rw (goes-on t v v₁ c h ∙ stopped owners qo (w .marks) p v₁ (w .made-v) (w .made-ix) (w .made-off) (w .makes) q)
           (emptied-with (p .fault) (w .made-v) (w .made-ix) (w .made-off) (w .long-v ∙ long) (w .long-ix) (w .long-off) (w .settled .on-refusal q))
 
       built-with : p .fault .number ≡ 0 → With (build (mesh sites tri he hull) b)
       unfolding ofBuilt
       built-with q =
           let z = w .settled .on-success q in
-          let m₂ = all-built owners qo p v₁ (w .made-v) (w .made-ix) (w .made-off) (w .makes) q in
+          let m₂ = all-built owners qo (w .marks) p v₁ (w .made-v) (w .made-ix) (w .made-off) (w .makes) q in
           let s = m₂ .1 in
-          let a = m₂ .3 in
-          let wide : length (map unmarked (s .cells)) ≡ n = length-map (s .cells) unmarked ∙ a .held .width in
-          let g = z .gathered (map unmarked (s .cells)) wide (a .regions) in
+          let k = m₂ .3 in
+          let a = k .amid in
+          let there : CellsReady he table (w .marks) (w .made-ix) (w .made-off) (map unmarked (s .cells)) =
+          subst (λ (tb : List ℕ). CellsReady he tb (w .marks) (w .made-ix) (w .made-off) (map unmarked (s .cells))) (sym (m .table-is)) (late-placed k) in
+          let g = z .gathered (map unmarked (s .cells)) (late-width k) there in
           let lost : lostLeft T (p .owners) (joined (map unmarked (s .cells))) ≡ lostFrom T 4 (s .cells) =
-          ap (λ (os : List ℕ). lostLeft T os (joined (map unmarked (s .cells)))) (sym (a .owners))
-          ∙ ap (lostLeft T (s .owners)) (entries-joined (s .cells)) ∙ sym (lost-entries (m .mesh) (m .box) _ _ _ s (a .held)) in
+          ap (λ (os : List ℕ). lostLeft T os (joined (map unmarked (s .cells)))) (sym (k .owners ∙ a .owners))
+          ∙ ap (lostLeft T (s .owners)) (entries-joined (s .cells)) ∙ sym (lost-entries (m .mesh) (m .box) _ _ _ s (m₂ .4)) in
           rw (goes-on t v v₁ c h ∙ m₂ .2) (
-            z .answer (map unmarked (s .cells)) wide (a .regions) ∙ answer-same (a .fine) (count-is a) qo lost (sym (a .reused)),
+            z .answer (map unmarked (s .cells)) (late-width k) there
+                ∙ answer-same (a .fine) (count-is a ∙ ap length (sym (k .verts))) qo lost (sym (ap reusedIn (k .steps) ∙ a .reused)),
             record {
-              vertices = rw (a .verts, ← (w .long-v ∙ long)) (poured-cleared (points (p .count) (w .made-v)) (p .count) (w .made-v) (w .made-v) v₃
+              vertices = rw (k .verts ∙ a .verts, ← (w .long-v ∙ long)) (poured-cleared (points (p .count) (w .made-v)) (p .count) (w .made-v) (w .made-v) v₃
                   (length-points (w .made-v) 0 (p .count)) (a .holds .room) (sym (pour-points (w .made-v) (p .count) (a .holds .room))) (z .vertices));
               indexes = rw (← w .long-ix) (g .indexes);
               offsets = rw (← w .long-off) (g .offsets);

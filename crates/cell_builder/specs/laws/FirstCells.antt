@@ -248,7 +248,7 @@ module _ {sites : List Float} {tri he hull table : List ℕ} {b : BoundingBox} {
       g = ground n owners x;
       s = none x;
       amid = standing x q g;
-      blank = λ i h. no-cell n (getD hull i 0);
+      blank = λ k h. no-cell n k;
     }
     hulls-amid (refused e) q g z = absurd (omega (arith, rw (g .0) at z, g .1))
 
@@ -260,25 +260,25 @@ module _ {sites : List Float} {tri he hull table : List ℕ} {b : BoundingBox} {
       can-clip z = rw fq (hulls-amid extended refl on-frame z)
 
       -- the extensions are refused
-      pub made-not : p .fault .number ≢ 0 → Makes (mesh sites tri he hull) table b owners extended p v₁ ix₁ off
-      made-not z = go extended on-frame
+      pub made-not : p .fault .number ≢ 0 → (marks : List ℕ) → Makes (mesh sites tri he hull) table b owners extended marks p v₁ ix₁ off
+      made-not z marks = go extended on-frame
         where
-          go : (o : Outcome Fault Extensions) → BegunBy (length hull) F owners o ix p v₁ ix₁ → Makes (mesh sites tri he hull) table b owners o p v₁ ix₁ off
+          go : (o : Outcome Fault Extensions) → BegunBy (length hull) F owners o ix p v₁ ix₁ → Makes (mesh sites tri he hull) table b owners o marks p v₁ ix₁ off
           go (ok x) k = absurd (z (no-fault (k .fine)))
           go (refused e) k = k
 
       -- all cells are clipped
       pub made-all :
-          p .fault .number ≡ 0 → (r : Progress) (v₂ : List Float) (ix₂ : List ℕ)
-          → AllTried (plan tri he hull table f off) p v₁ ix₁ r v₂ ix₂
-          → Makes (mesh sites tri he hull) table b owners extended r v₂ ix₂ off
+          p .fault .number ≡ 0 → (marks : List ℕ) (r : Progress) (v₂ : List Float) (ix₂ : List ℕ)
+          → AllTried (plan tri he hull table f off) p v₁ ix₁ marks r v₂ ix₂
+          → Makes (mesh sites tri he hull) table b owners extended marks r v₂ ix₂ off
       unfolding clipAll
-      made-all z r v₂ ix₂ clip = go extended refl on-frame
+      made-all z marks r v₂ ix₂ clip = go extended refl on-frame
         where
-          clipped : AllTried P p v₁ ix₁ r v₂ ix₂
+          clipped : AllTried P p v₁ ix₁ marks r v₂ ix₂
           clipped = rw fq at clip
 
           go : (o : Outcome Fault Extensions) → extended ≡ o → BegunBy (length hull) F owners o ix p v₁ ix₁
-              → Makes (mesh sites tri he hull) table b owners o r v₂ ix₂ off
-          go (ok x) q k = clipped (ground n owners x) (none x) (λ i h. no-cell n (getD hull i 0)) (standing x q k)
+              → Makes (mesh sites tri he hull) table b owners o marks r v₂ ix₂ off
+          go (ok x) q k = clipped (ground n owners x) (none x) (λ k h. no-cell n k) (standing x q k)
           go (refused e) q k = absurd (omega (arith, rw (k .0) at z, k .1))

@@ -23,7 +23,6 @@ use Rattle.definition.specs.Short.{fault}
 use Rattle.definition.specs.Sides.{SidedCorners}
 use Rattle.build_laws.specs.laws.Start.{Beyond}
 use Rattle.build_laws.specs.laws.CellsSoFar.{CellsSoFar}
-use Rattle.cell_builder.specs.tried.laws.Early.{InsideSite}
 use Rattle.cell_builder.specs.declared.tried.Frame.{Frame}
 use Rattle.cell_builder.specs.declared.finish.Progress.{Progress}
 
@@ -133,8 +132,3 @@ AtRest w p v ix P = (g : Ground) (s : CellState) → Amid w g s p v ix → P g s
 -- at half-edge e
 abbrev pub EdgeTried : Plan → Progress → List Float → List ℕ → ℕ → Progress → List Float → List ℕ → Type 0
 EdgeTried w p v ix e r v₁ ix₁ = AtRest w p v ix (λ g s. Does w g (edgeTry w e s) r v₁ ix₁)
-
--- at half-edge e, where every circumcenter round its site is inside: nothing but the index list has changed
-abbrev pub EdgeCopied : Plan → Progress → List Float → List ℕ → ℕ → List ℕ → Type 0
-EdgeCopied w p v ix e ix₁ =
-    AtRest w p v ix (λ g s. InsideSite (w .frame .bounds) (length (w .triangles) / 3) (w .triangles) (w .halfedges) (s .verts) (endOf (w .triangles) e) → Does w g (edgeTry w e s) p v ix₁)

@@ -1,7 +1,7 @@
 -- Inner sites whose cells are made last, in the order of the sites: every circumcenter round such a site is inside the box, so its cell is its ring, whatever was made before.
--- A mark, one for eight triangles, says that the table entry of some other site may stand there; a mark too many only costs time.
+-- A mark, one for eight triangles, says that the table entry of some other site may stand there, or a half-edge of a hull site without a cell; a mark too many only costs time.
 use mathlib.Core.Path.{_≡_}
-use mathlib.Core.Bool.{Bool, true, false}
+use mathlib.Core.Bool.{false}
 use mathlib.Core.List.{List, []}
 use mathlib.Core.Logic.{_⊎_, _≢_}
 use Prim.Native.Nat.{ℕ, _*_, _/_, _%_, _≤_, _<_}
@@ -9,7 +9,8 @@ use lib.ListN.{length, getD}
 use Rattle.base.specs.numbers.Numbers.{EMPTY}
 use Rattle.plane.specs.declared.points.Point.{Point}
 use Rattle.plane.specs.declared.boxes.BoundingBox.{BoundingBox}
-use Rattle.mesh.specs.Mesh.{pairOf}
+use Rattle.base.specs.common.Count.{occ}
+use Rattle.mesh.specs.Mesh.{pairOf, wholeOf}
 use Rattle.definition.specs.Cell.{inBox}
 use Rattle.definition.specs.Build.{CellState}
 use Rattle.cell_builder.specs.tried.laws.Early.{earlyCell}
@@ -31,12 +32,19 @@ pub record Markable (tri table : List ℕ) (count numbers : ℕ) : Type 0 where
   pub centers : length tri / 3 ≤ count
   pub room : 2 * count ≤ numbers
 
--- all hull sites have their cells, and the table entry of site k is a paired half-edge that is not marked
-pub record MadeLast (he table m : List ℕ) (full : Bool) (k : ℕ) : Type 0 where
-  pub filled : full ≡ true
+-- the table entry of site k is a paired half-edge that is not marked
+pub record MadeLast (he table m : List ℕ) (k : ℕ) : Type 0 where
   pub entry : getD table k 0 < length he
   pub inner : pairOf he (getD table k 0) ≢ EMPTY
   pub unmarked : markOf m (getD table k 0) ≡ 0
+
+-- a mark stays
+abbrev pub MarksStay : List ℕ → List ℕ → Type 0
+MarksStay m m₁ = (x : ℕ) → markOf m x ≢ 0 → markOf m₁ x ≢ 0
+
+-- all half-edges of the walk from s are marked
+abbrev pub WalkMarked : List ℕ → List ℕ → ℕ → Type 0
+WalkMarked he m s = (h : ℕ) → 0 < occ h (wholeOf he s) → markOf m h ≢ 0
 
 -- the cells c, but that some of those of sites of Q are left out in t
 pub record LeftOut (w : Plan) (g : Ground) (Q : ℕ → Type 0) (c t : CellState) : Type 0 where

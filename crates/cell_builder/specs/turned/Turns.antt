@@ -8,18 +8,18 @@ use lib.Dec.{leb, eqb}
 use lib.ListN.{length, getD}
 use Rattle.base.specs.common.Pick.{pick}
 use Rattle.base.specs.numbers.Numbers.{EMPTY}
-use Rattle.mesh.specs.Mesh.{endOf, pairOf}
+use Rattle.mesh.specs.Mesh.{endOf, pairOf, Paired}
 use Rattle.definition.specs.Build.{CellState, isEmpty}
 use Rattle.definition.specs.laws.Gives.{Gives}
 use Rattle.cell_builder.specs.turned.laws.IdleSites.{IdleSite}
-use Rattle.cell_builder.specs.turned.Marks.{markOf}
+use Rattle.cell_builder.specs.turned.Marks.{markOf, WalkMarked}
 use Rattle.cell_builder.specs.tried.CellsInSlices.{Plan, Ground, edgeTry}
 
--- whether half-edge e is to be tried: its site's table entry has not come by; or it has, is unpaired, and a hull site's cell is empty
-unfoldable pub dueOf : List ℕ → List ℕ → List ℕ → Bool → ℕ → Bool
-dueOf tri he table full e =
+-- whether half-edge e is to be tried: its site's table entry has not come by; or it has and is unpaired
+unfoldable pub dueOf : List ℕ → List ℕ → List ℕ → ℕ → Bool
+dueOf tri he table e =
     let t = getD table (endOf tri e) 0 in
-    pick (leb e t) (λ _. true) (λ _. pick full (λ _. false) (λ _. eqb (pairOf he t) EMPTY))
+    pick (leb e t) (λ _. true) (λ _. eqb (pairOf he t) EMPTY)
 
 -- the site where half-edge e ends stands in the table, and its entry is a half-edge
 abbrev pub HasEntry : List ℕ → List ℕ → List ℕ → ℕ → Type 0
@@ -30,30 +30,31 @@ pub record AllHaveEntries (tri he table : List ℕ) : Type 0 where
   pub few : length tri ≤ 393216
   pub each : (e : ℕ) → e < length tri → HasEntry tri he table e
 
--- half-edge e is passed by: it is not due, or, where all hull sites have their cells, not marked
-abbrev pub PassedBy : List ℕ → List ℕ → List ℕ → List ℕ → Bool → ℕ → Type 0
-PassedBy tri he table m full e = (dueOf tri he table full e ≡ false) ⊎ ((full ≡ true) × (markOf m e ≡ 0))
+-- half-edge e is passed by: it is not due, or not marked
+abbrev pub PassedBy : List ℕ → List ℕ → List ℕ → List ℕ → ℕ → Type 0
+PassedBy tri he table m e = (dueOf tri he table e ≡ false) ⊎ (markOf m e ≡ 0)
 
 -- from `from` on all are passed by before r, and r is due and marked, or ends the list
-pub record NextDue (tri he table m : List ℕ) (full : Bool) (from r : ℕ) : Type 0 where
+pub record NextDue (tri he table m : List ℕ) (from r : ℕ) : Type 0 where
   pub low : from ≤ r
   pub high : r ≤ length tri
-  pub passed : (e : ℕ) → from ≤ e → e < r → PassedBy tri he table m full e
-  pub due : r < length tri → (dueOf tri he table full r ≡ true) × (full ≡ true → markOf m r ≢ 0)
+  pub passed : (e : ℕ) → from ≤ e → e < r → PassedBy tri he table m e
+  pub due : r < length tri → (dueOf tri he table r ≡ true) × (markOf m r ≢ 0)
 
--- where `full` says so every hull site has its cell
-abbrev pub HullsFilled : Plan → Bool → CellState → Type 0
-HullsFilled w full s = full ≡ true → (i : ℕ) → i < length (w .hull) → isEmpty (getD (s .cells) (getD (w .hull) i 0) []) ≡ false
+-- a hull site with a half-edge that is not marked has its cell
+abbrev pub HullsMarked : Plan → List ℕ → CellState → Type 0
+HullsMarked w m s = (h : ℕ) → h < length (w .triangles) → pairOf (w .halfedges) (getD (w .table) (endOf (w .triangles) h) 0) ≡ EMPTY → markOf m h ≡ 0
+    → isEmpty (getD (s .cells) (endOf (w .triangles) h) []) ≡ false
 
 -- what is settled before half-edge e
-pub record SettledBefore (w : Plan) (g : Ground) (full : Bool) (e : ℕ) (s : CellState) : Type 0 where
+pub record SettledBefore (w : Plan) (g : Ground) (m : List ℕ) (e : ℕ) (s : CellState) : Type 0 where
   pub inner : (k : ℕ) → k < g .sites → pairOf (w .halfedges) (getD (w .table) k 0) ≢ EMPTY → getD (w .table) k 0 < e
       → (isEmpty (getD (s .cells) k []) ≡ false) ⊎ IdleSite (w .frame .bounds) (length (w .triangles) / 3) (w .triangles) (w .halfedges) (g .x .verts) k
-  pub hulls : HullsFilled w full s
+  pub hulls : HullsMarked w m s
 
 -- after it, and after the definition's try there
-abbrev pub SettledAfter : Plan → Ground → Bool → ℕ → CellState → Type 0
-SettledAfter w g full e s = Gives (SettledBefore w g full (e + 1)) (edgeTry w e s)
+abbrev pub SettledAfter : Plan → Ground → List ℕ → ℕ → CellState → Type 0
+SettledAfter w g m e s = Gives (SettledBefore w g m (e + 1)) (edgeTry w e s)
 
 -- the region of each hull site begins in the index list
 pub record HullRegions (hull ix off : List ℕ) : Type 0 where
@@ -64,3 +65,14 @@ pub record HullRegions (hull ix off : List ℕ) : Type 0 where
 -- and its first entry is that of a cell
 abbrev pub RegionFilled : List ℕ → List ℕ → List ℕ → ℕ → Type 0
 RegionFilled hull ix off i = getD ix (getD off (getD hull i 0) 0) 0 ≢ EMPTY
+
+-- or all half-edges that end at the site are marked
+abbrev pub HullTold : List ℕ → List ℕ → List ℕ → List ℕ → List ℕ → List ℕ → ℕ → Type 0
+HullTold he hull table ix off m i = RegionFilled hull ix off i ⊎ WalkMarked he m (getD table (getD hull i 0) 0)
+
+-- what marking the hull needs: its regions, its sites in the table, and walks
+pub record HullWalks (tri he hull table ix off : List ℕ) : Type 0 where
+  pub regions : HullRegions hull ix off
+  pub sites : (i : ℕ) → i < length hull → getD hull i 0 < length table
+  pub paired : Paired tri he
+  pub few : length he ≤ 393216

@@ -8,5 +8,4 @@ pub mod Quiet
 pub mod Leaving
 pub mod TryLoops
 pub mod Passing
-pub mod Filling
 pub mod Marking

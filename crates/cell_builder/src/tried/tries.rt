@@ -17,12 +17,10 @@ use mesh::end_site;
 ghost use mathlib.Core.Path.{_≡_};
 ghost use mathlib.Core.List.{List};
 ghost use Prim.Native.Nat.{ℕ, _<_};
-ghost use lib.Ieee.{Float};
 ghost use lib.ListN.{length};
 ghost use Rattle.definition.specs.Reused.{Addable};
-ghost use Rattle.cell_builder.specs.tried.CellsInSlices.{plan, HullAmid, EdgesAmid, HullTried, EdgeTried, EdgeCopied};
+ghost use Rattle.cell_builder.specs.tried.CellsInSlices.{plan, HullAmid, EdgesAmid, HullTried, EdgeTried};
 ghost use Rattle.cell_builder.specs.tried.Tries.{progressOf, Ringed, Tried};
-ghost use Rattle.cell_builder.specs.declared.finish.Progress.{Progress};
 
 // How far the build is after a ring, where `reused` points had been taken again before it.
 fn after_ring(reused: Reused, s: RingStepped) -> Progress
@@ -148,26 +146,4 @@ pub fn clip_at_edge(
     }
     let end = stage_ring(triangles, halfedges, e as u32, indexes, f.stage);
     clip_staged(vertices, indexes, offsets, f, site, p, end)
-}
-
-// The cell of the site where half-edge e ends, if it is still empty and every circumcenter round the site is inside: its walk, turned.
-pub fn copy_at_edge(
-    triangles: &[u32],
-    halfedges: &[u32],
-    indexes: &mut [u32],
-    offsets: &[u32],
-    f: Frame,
-    e: usize,
-)
-    requires { ⌜ ((e < length (now triangles)) × (hull : List ℕ) × (table : List ℕ) × (p : Progress) × (v : List Float)
-        × EdgesAmid (plan (now triangles) (now halfedges) hull table f (now offsets)) p v (now indexes)) ⌝ }
-    ensures { λ _. ⌜ ((hull table : List ℕ) (p : Progress) (v : List Float) → EdgeCopied (plan (now (triangles .entry)) (now (halfedges .entry)) hull table f (now (offsets .entry))) p v
-        (now (indexes .entry)) e (now (indexes .exit))) ⌝ }
-{
-    let site = end_site(triangles, e);
-    let base = wide(offsets[wide(site)]);
-    if indexes[base] == EMPTY {
-        let end = stage_ring(triangles, halfedges, e as u32, indexes, f.stage);
-        copy_ring(indexes, base, f.stage, end - f.stage);
-    }
 }

@@ -3,19 +3,15 @@ use crate::finish::Progress;
 use crate::tried::Frame;
 use crate::tried::tries::clip_at_edge;
 use crate::tried::tries::clip_at_hull;
-use crate::tried::tries::copy_at_edge;
-use crate::turned::marks::early;
+use crate::turned::marks::mark_hulls;
 use crate::turned::marks::mark_outside;
-use crate::turned::turns::hulls_filled;
 use crate::turned::turns::next_due;
-use base::numbers::wide;
+ghost use mathlib.Core.Path.{_≡_};
 ghost use mathlib.Core.List.{List};
-ghost use Prim.Native.Nat.{ℕ, _<_};
-ghost use lib.Ieee.{Float};
+ghost use Prim.Native.Nat.{ℕ};
 ghost use lib.ListN.{length};
-ghost use Rattle.cell_builder.specs.declared.finish.Progress.{Progress};
-ghost use Rattle.cell_builder.specs.tried.CellsInSlices.{plan, EdgesAmid};
-ghost use Rattle.cell_builder.specs.turned.Loops.{HullsAmid, RestAmid, SomeLeft, HullsTried, RestTried, SiteCopied, EarlyFilled, AllTried};
+ghost use Rattle.cell_builder.specs.tried.CellsInSlices.{plan};
+ghost use Rattle.cell_builder.specs.turned.Loops.{HullsAmid, RestAmid, HullsTried, RestTried, AllTried};
 
 // The cells of all hull sites.
 fn clip_hull(
@@ -58,7 +54,7 @@ fn clip_hull(
     at
 }
 
-// The cells still empty, from each half-edge in turn; early ones may be left out.
+// The cells still empty, from each half-edge in turn; early ones are left out.
 fn clip_rest(
     triangles: &[u32],
     halfedges: &[u32],
@@ -69,14 +65,13 @@ fn clip_rest(
     offsets: &[u32],
     f: Frame,
     p: Progress,
-    full: bool,
 ) -> Progress
-    requires { ⌜ ((hull : List ℕ) × RestAmid (plan (now triangles) (now halfedges) hull (now table) f (now offsets)) full (now marks) p (now vertices) (now indexes)) ⌝ }
-    ensures { λ r. ⌜ ((hull : List ℕ) → RestTried (plan (now (triangles .entry)) (now (halfedges .entry)) hull (now (table .entry)) f (now (offsets .entry))) full (now (marks .entry)) p
+    requires { ⌜ ((hull : List ℕ) × RestAmid (plan (now triangles) (now halfedges) hull (now table) f (now offsets)) (now marks) p (now vertices) (now indexes)) ⌝ }
+    ensures { λ r. ⌜ ((hull : List ℕ) → RestTried (plan (now (triangles .entry)) (now (halfedges .entry)) hull (now (table .entry)) f (now (offsets .entry))) (now (marks .entry)) p
         (now (vertices .entry)) (now (indexes .entry)) r (now (vertices .exit)) (now (indexes .exit))) ⌝ }
 {
     let mut at = p;
-    let mut e = next_due(triangles, halfedges, table, marks, full, 0);
+    let mut e = next_due(triangles, halfedges, table, marks, 0);
     while e < triangles.len() {
         let r = clip_at_edge(triangles, halfedges, vertices, indexes, offsets, f, at, e);
         let fault = r.fault;
@@ -84,80 +79,27 @@ fn clip_rest(
             return r;
         }
         at = r;
-        e = next_due(triangles, halfedges, table, marks, full, e + 1);
+        e = next_due(triangles, halfedges, table, marks, e + 1);
     }
     at
 }
 
-// The cell of site s, if it is early.
-fn copy_site(
-    triangles: &[u32],
-    halfedges: &[u32],
-    table: &[u32],
-    marks: &[u8; 16384],
-    indexes: &mut [u32],
-    offsets: &[u32],
-    f: Frame,
-    full: bool,
-    s: usize,
-)
-    requires { ⌜ ((s < length (now table)) × (hull : List ℕ) × (p : Progress) × (v : List Float)
-        × EdgesAmid (plan (now triangles) (now halfedges) hull (now table) f (now offsets)) p v (now indexes)) ⌝ }
-    ensures { λ _. ⌜ ((hull : List ℕ) (p : Progress) (v : List Float) → SiteCopied (plan (now (triangles .entry)) (now (halfedges .entry)) hull (now (table .entry)) f (now (offsets .entry)))
-        full (now (marks .entry)) p v (now (indexes .entry)) s (now (indexes .exit))) ⌝ }
-{
-    if early(halfedges, table, marks, full, s) {
-        copy_at_edge(triangles, halfedges, indexes, offsets, f, wide(table[s]));
-    }
-}
-
-// The early cells, in the order of their sites.
-fn copy_early(
-    triangles: &[u32],
-    halfedges: &[u32],
-    table: &[u32],
-    marks: &[u8; 16384],
-    indexes: &mut [u32],
-    offsets: &[u32],
-    f: Frame,
-    full: bool,
-)
-    requires { ⌜ ((hull : List ℕ) × (p : Progress) × (v : List Float) × SomeLeft (plan (now triangles) (now halfedges) hull (now table) f (now offsets)) full (now marks) p v (now indexes)) ⌝ }
-    ensures { λ _. ⌜ ((hull : List ℕ) (p : Progress) (v : List Float) → EarlyFilled (plan (now (triangles .entry)) (now (halfedges .entry)) hull (now (table .entry)) f (now (offsets .entry)))
-        full (now (marks .entry)) p v (now (indexes .entry)) (now (indexes .exit))) ⌝ }
-{
-    let mut s: usize = 0;
-    while s < table.len() {
-        copy_site(
-            triangles,
-            halfedges,
-            table,
-            marks,
-            indexes,
-            offsets,
-            f,
-            full,
-            s,
-        );
-        s += 1;
-    }
-}
-
-// All cells.
+// All cells but the early ones, of which the marks tell.
 pub fn clip_cells(
     triangles: &[u32],
     halfedges: &[u32],
     hull: &[u32],
     table: &[u32],
+    marks: &mut [u8; 16384],
     vertices: &mut [f64],
     indexes: &mut [u32],
     offsets: &[u32],
     f: Frame,
     p: Progress,
 ) -> Progress
-    requires { ⌜ HullsAmid (plan (now triangles) (now halfedges) (now hull) (now table) f (now offsets)) p (now vertices) (now indexes) ⌝ }
+    requires { ⌜ HullsAmid (plan (now triangles) (now halfedges) (now hull) (now table) f (now offsets)) p (now vertices) (now indexes) × (length (now marks) ≡ 16384) ⌝ }
     ensures { λ r. ⌜ AllTried (plan (now (triangles .entry)) (now (halfedges .entry)) (now (hull .entry)) (now (table .entry)) f (now (offsets .entry))) p
-        (now (vertices .entry)) (now (indexes .entry)) r (now (vertices .exit)) (now (indexes .exit)) ⌝ }
+        (now (vertices .entry)) (now (indexes .entry)) (now (marks .exit)) r (now (vertices .exit)) (now (indexes .exit)) ⌝ }
 {
     let r = clip_hull(
         triangles,
@@ -174,35 +116,18 @@ pub fn clip_cells(
     if fault.number != 0 {
         return r;
     }
-    let full = hulls_filled(hull, indexes, offsets);
     let bounds = f.bounds;
-    let mut marks = [0u8; 16384];
-    mark_outside(triangles, table, vertices, r.count, bounds, &mut marks);
-    let q = clip_rest(
+    mark_outside(triangles, table, vertices, r.count, bounds, marks);
+    mark_hulls(triangles, halfedges, hull, table, indexes, offsets, marks);
+    clip_rest(
         triangles,
         halfedges,
         table,
-        &marks,
+        marks,
         vertices,
         indexes,
         offsets,
         f,
         r,
-        full,
-    );
-    let late = q.fault;
-    if late.number != 0 {
-        return q;
-    }
-    copy_early(
-        triangles,
-        halfedges,
-        table,
-        &marks,
-        indexes,
-        offsets,
-        f,
-        full,
-    );
-    q
+    )
 }

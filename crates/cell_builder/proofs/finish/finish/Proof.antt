@@ -10,7 +10,7 @@ use Rattle.definition.specs.Measures.{lostLeft}
 use Rattle.cell_builder.proofs.finish.finish.Statement.{statement}
 use Rattle.cell_builder.proofs.finish.finish.Tie as tie
 
--- the vertices cleared, the cells moved together, and the start
+-- the vertices cleared, the cells put in their places, and the start
 abbrev Cleared : tie.After-reused → tie.After-clear-floats-from
 Cleared c = c .before .before .before .before .before
 
@@ -18,7 +18,10 @@ abbrev Indexed : tie.After-reused → tie.After-indexes
 Indexed c = Cleared c .before .before .before .before .before .before
 
 abbrev Entry : tie.After-gather → tie.Start
-Entry c = c .before .before .before .before .before .before
+Entry c = c .before .before .before .before .before .before .before .before
+
+gather-requires : tie.Need-gather-requires
+gather-requires c κs = c .before .before .before .before .before .before .before .pre .placeable
 
 slice-reshare-prefix-lost-corners : tie.Need-slice-reshare-prefix-lost-corners
 slice-reshare-prefix-lost-corners c = let i = Indexed c in omega (arith, i .before .gather .ensures .0, i .indexes .given)
@@ -44,5 +47,5 @@ returns c =
 pub finish-spec : {M : Type 1} → statement M
 finish-spec =
     tie.close
-    (tie.spec (λ c κs. search needs) (λ c. search needs) (λ c κs. search needs) slice-reshare-prefix-lost-corners slice-aggregate-lost-corners
+    (tie.spec gather-requires (λ c. search needs) (λ c κs. search needs) slice-reshare-prefix-lost-corners slice-aggregate-lost-corners
     lost-corners-requires (λ c. search needs) (λ c. search needs) (λ c. search needs) returns)

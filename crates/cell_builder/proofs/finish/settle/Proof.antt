@@ -12,7 +12,7 @@ returns c =
 finish-requires : tie.Need-finish-requires
 finish-requires c κs =
     let i = c .before .before .before in
-    i .before .before .before .before .before .before .pre (i .if1 .left)
+    i .before .before .before .before .before .before .before .before .pre (i .if1 .left)
 
 returns-2 : tie.Need-returns-2
 returns-2 c =

@@ -1,21 +1,15 @@
 -- The two kinds of tries: at a hull place, from its ring with extensions, and at a half-edge, from the walk that starts there, where the cell is still empty.
-use mathlib.Core.Path.{_≡_, refl, sym, ap, _∙_}
-use mathlib.Core.Bool.{true}
+use mathlib.Core.Path.{_≡_, sym, _∙_}
 use mathlib.Core.List.{List, []}
 use mathlib.Core.Logic.{_≢_}
-use Prim.Native.Nat.{ℕ, suc, _+_, _-_, _/_, _≤_, _<_}
+use Prim.Native.Nat.{ℕ, suc, _+_, _-_, _≤_, _<_}
 use native.Mathlib.Omega.{arith}
 use lib.Ieee.{Float}
-use lib.ListN.{length, getD, drop, length-map, List·getD-map}
-use lib.Seq.{getD-drop, sets}
+use lib.ListN.{length, getD, drop}
+use lib.Seq.{getD-drop}
 use Rattle.base.specs.numbers.Numbers.{EMPTY}
-use Rattle.plane.specs.points.Flat.{points}
-use Rattle.mesh.specs.Mesh.{endOf, wholeOf}
-use Rattle.mesh.specs.laws.Occurs.{occ-there}
-use Rattle.mesh.specs.laws.Walks.{walk-ends}
+use Rattle.mesh.specs.Mesh.{endOf}
 use Rattle.mesh.specs.laws.Facts.{paired, tab-length, end-site}
-use Rattle.definition.specs.declared.Fault.{Fault}
-use Rattle.definition.specs.Cell.{inBox}
 use Rattle.definition.specs.Build.{CellState, ringFrom, hullRing}
 use Rattle.definition.specs.Measures.{shareOf}
 use Rattle.build_laws.specs.laws.AllCells.{ring-share, hull-share}
@@ -23,17 +17,11 @@ use Rattle.cell_memory.specs.staging.Staging.{Staged, Stages}
 use Rattle.cell_memory.specs.staging.laws.Staging.{ring-room}
 use Rattle.cell_memory.specs.outputs.laws.Marks.{empty-still, full-already}
 use Rattle.cell_builder.specs.tried.CellsInSlices.{plan, Ground, Amid, Does, hullTry, edgeTry}
-use Rattle.clipping.specs.declared.edges.Env.{Env}
-use Rattle.clipping.specs.RingWalk.{ringOf}
-use Rattle.clipping.specs.laws.RingWalk.{getD-ring}
-use Rattle.clipping.specs.interior.Interior.{AllInside, insideCell}
-use Rattle.clipping.specs.interior.laws.InsideWalk.{copiedAnswer, stays}
-use Rattle.cell_builder.specs.tried.Tries.{envOf, Ringed, Tried}
+use Rattle.cell_builder.specs.tried.Tries.{Ringed, Tried}
 use Rattle.cell_builder.specs.declared.tried.Frame.{Frame}
 use Rattle.cell_builder.specs.declared.finish.Progress.{Progress}
-use Rattle.cell_builder.specs.tried.laws.Early.{InsideSite}
 use Rattle.cell_builder.specs.tried.laws.TriedRings.{ring-below, ring-some, Below, hull-some, hull-below, hull-short, hull-same}
-use Rattle.cell_builder.specs.tried.laws.OneTry.{none-reused, region-room, region-within, count-is, corners-in, ring-is, ringed, tried}
+use Rattle.cell_builder.specs.tried.laws.OneTry.{region-room, region-within, count-is, corners-in, ringed, tried}
 
 module _ {tri he hull table : List ℕ} {f : Frame} {off : List ℕ} {g : Ground} {s : CellState} {p : Progress} {v : List Float} {ix : List ℕ}
     (a : Amid (plan tri he hull table f off) g s p v ix) where
@@ -132,36 +120,3 @@ module _ {tri he hull table : List ℕ} {f : Frame} {off : List ℕ} {g : Ground
       pub edge-tried : {r : Progress} {v₂ : List Float} {ix₂ : List ℕ} → length v₂ ≡ length v → length ix₂ ≡ length ix₁
           → Tried f site p end v ix₁ off r v₂ ix₂ → Does (plan tri he hull table f off) g (edgeTry (plan tri he hull table f off) e s) r v₂ ix₂
       edge-tried lv li d = rw (← q, blank-edge) (tried a edge-site blank-edge (ring-some {tri = tri} (paired (a .on .mesh)) e in-mesh) paid-edge short-edge below-edge st lv li d)
-
-      -- every circumcenter round the site is inside: the ring that stands there is its cell
-      module _ (inside : InsideSite (f .bounds) (length tri / 3) tri he (s .verts) site) where
-        abbrev len : ℕ
-        len = end - f .stage
-
-        now-inside : (j : ℕ) → j < length (ringFrom he e) → inBox (f .bounds) (f .centers) (points (p .count) v) (getD (ringFrom he e) j 0) ≡ true
-        now-inside j h =
-            let lj : j < length (wholeOf he e) = rw (length-map (wholeOf he e) (λ x. x / 3)) at h in
-            let w = walk-ends tri he (paired (a .on .mesh)) e (length he) e (getD (wholeOf he e) j 0) (occ-there (wholeOf he e) j lj) in
-            rw (a .on .centers, ← a .verts, List·getD-map (λ x. x / 3) (wholeOf he e) j 0) (inside (getD (wholeOf he e) j 0) (w .0) (w .1 ∙ sym q))
-
-        all-inside : AllInside (f .bounds) (f .centers) (points (p .count) v) ix₁ (f .stage) len
-        all-inside j h =
-            let r = ring-is a edge-site blank-edge (ring-some {tri = tri} (paired (a .on .mesh)) e in-mesh) paid-edge short-edge below-edge st in
-            let x : getD ix₁ (f .stage + j) 0 ≡ getD (ringFrom he e) j 0 = sym (getD-ring ix₁ (f .stage) len j h) ∙ ap (λ (l : List ℕ). getD l j 0) r in
-            rw x (now-inside j (omega (arith, st .ended)))
-
-        abbrev env : Env
-        env = envOf f site
-
-        pub edge-copied : {ix₂ : List ℕ} → length ix₂ ≡ length ix₁ → ix₂ ≡ sets ix₁ (getD off site 0) (insideCell (ringOf ix₁ (f .stage) len))
-            → Does (plan tri he hull table f off) g (edgeTry (plan tri he hull table f off) e s) p v ix₂
-        edge-copied {ix₂} li w =
-            edge-tried refl li (record {
-              stepped = copiedAnswer env (p .count) (p .owners) (getD off site 0) (f .stage) len v ix₁ (edge-ringed .room) (omega (arith, edge-ringed .some)) all-inside;
-              faulty = a .fine;
-              is = λ z. ap (λ (x : Fault). progress x) (a .fine) ∙ none-reused _ _ _ (p .reused);
-              steps = stays env (p .count) (p .owners) (getD off site 0) (f .stage) len v ix₁ (edge-ringed .room) (omega (arith, edge-ringed .some)) all-inside ix₂ w;
-            })
-          where
-            progress : Fault → Progress
-            progress x = record { fault = x; count = p .count; owners = p .owners; reused = p .reused }

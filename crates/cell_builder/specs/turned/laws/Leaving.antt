@@ -91,7 +91,7 @@ module _ {w : Plan} {g : Ground} where
       by true = into-alike o wide l (ringFrom (w .halfedges) e)
       by false = o
 
-  -- a cell that is left out, filled in c alone, or in t too
+  -- a cell that is left out, filled in c alone
   module _ {Q R : ℕ → Type 0} {c t : CellState} (o : LeftOut w g Q c t) (wide : length (t .cells) ≡ g .sites) {site : ℕ} (l : site < g .sites)
       (others : (k : ℕ) → k ≢ site → Q k → R k) (new : List Entry) where
     pub left-one : R site → getD (t .cells) site [] ≡ [] → new ≡ earlyCell (w .halfedges) (getD (w .table) site 0)
@@ -107,20 +107,5 @@ module _ {w : Plan} {g : Ground} where
           (λ z.
           let x = getD-set-other (c .cells) site k new [] z in
           ⊎-elim (λ y. inl (x ∙ y)) (λ y. inr (others k z (y .0), y .1, x ∙ y .2)) (o .each k lk))
-          (eq-or-ne k site);
-    }
-
-    pub fill-one : getD (c .cells) site [] ≡ new → LeftOut w g R c (cellState (t .verts) (t .owners) (set (t .cells) site new) (t .steps))
-    fill-one q = record {
-      verts = o .verts;
-      owners = o .owners;
-      steps = o .steps;
-      width = o .width ∙ sym (length-set (t .cells) site new);
-      each = λ k lk.
-          ⊎-elim
-          (λ z. inl (rw z (q ∙ sym (getD-set-same (t .cells) site new [] (rw wide l)))))
-          (λ z.
-          let x = getD-set-other (t .cells) site k new [] z in
-          ⊎-elim (λ y. inl (y ∙ sym x)) (λ y. inr (others k z (y .0), x ∙ y .1, y .2)) (o .each k lk))
           (eq-or-ne k site);
     }

@@ -28,6 +28,7 @@ use Rattle.build_laws.specs.laws.Runs.{true-false}
 use Rattle.cell_builder.specs.turned.laws.IdleSites.{IdleSite, idle-grown, idle-shrunk, idle-try, try-idle}
 use Rattle.cell_builder.specs.declared.tried.Frame.{Frame}
 use Rattle.cell_builder.specs.tried.CellsInSlices.{plan, Ground, edgeTry}
+use Rattle.cell_builder.specs.turned.Marks.{markOf}
 use Rattle.cell_builder.specs.turned.Turns.{dueOf, HasEntry, AllHaveEntries, SettledBefore, SettledAfter}
 use Rattle.cell_builder.specs.turned.laws.Onward.{Onward, OthersStay, others-stay}
 
@@ -61,7 +62,7 @@ module _ {tri he hull table : List ℕ} {f : Frame} {off : List ℕ} {g : Ground
       closed-fan tri he hull (g .sites) k (paired top) (top .border) (λ e h q u. n (leftmost k l .last e (rw (← top .same) h) q u .1))
 
   -- an unpaired one that the site is on the hull
-  on-hull : (k : ℕ) → getD table k 0 < length he → endOf tri (getD table k 0) ≡ k → pairOf he (getD table k 0) ≡ EMPTY → (i : ℕ) × (i < length hull) × (getD hull i 0 ≡ k)
+  pub on-hull : (k : ℕ) → getD table k 0 < length he → endOf tri (getD table k 0) ≡ k → pairOf he (getD table k 0) ≡ EMPTY → (i : ℕ) × (i < length hull) × (getD hull i 0 ≡ k)
   on-hull k l q u =
       let o = hull-border tri he hull (g .sites) (a .on .mesh .border) (getD table k 0) l u .0 in
       (nextPlace (length hull) (o .0), after-lt (length hull) (o .0) (o .1), sym (o .3) ∙ q)
@@ -75,7 +76,7 @@ module _ {tri he hull table : List ℕ} {f : Frame} {off : List ℕ} {g : Ground
       (λ m. n (sym (m .1) ∙ ap (endOf tri) w))
       (tab-cases (a .on .mesh) k l)
 
-  module _ {full : Bool} {e : ℕ} (b : SettledBefore (plan tri he hull table f off) g full e s) (h : e < length tri) where
+  module _ {m : List ℕ} {e : ℕ} (b : SettledBefore (plan tri he hull table f off) g m e s) (h : e < length tri) where
     abbrev site : ℕ
     site = endOf tri e
 
@@ -108,47 +109,36 @@ module _ {tri he hull table : List ℕ} {f : Frame} {off : List ℕ} {g : Ground
     pub inner-nothing : pairOf he entry ≢ EMPTY → entry < e → try ≡ ok s
     inner-nothing n l = ⊎-elim there (λ i. idle (closed site in-sites n) i) (b .inner site in-sites n l)
 
-    pub hull-nothing : full ≡ true → pairOf he entry ≡ EMPTY → try ≡ ok s
-    hull-nothing t u =
-        let w = tab-some (a .on .mesh) site in-sites e (in-list h) refl in
-        let o = on-hull site (rw (a .on .table-is) (w .0)) (rw (a .on .table-is) (w .1)) u in
-        there (rw (o .2) at (b .hulls t (o .0) (o .1)))
+    pub hull-nothing : markOf m e ≡ 0 → pairOf he entry ≡ EMPTY → try ≡ ok s
+    hull-nothing z u = there (b .hulls e h u z)
 
     -- what is not due changes nothing, and its entry has come by
-    not-due : dueOf tri he table full e ≡ false → (try ≡ ok s) × (entry < e)
+    not-due : dueOf tri he table e ≡ false → (try ≡ ok s) × (entry < e)
     unfolding dueOf
     not-due = by (leb e entry) refl
       where
-        by : (t : Bool) → leb e entry ≡ t → pick t (λ _. true) (λ _. pick full (λ _. false) (λ _. eqb (pairOf he entry) EMPTY)) ≡ false → (try ≡ ok s) × (entry < e)
+        by : (t : Bool) → leb e entry ≡ t → pick t (λ _. true) (λ _. eqb (pairOf he entry) EMPTY) ≡ false → (try ≡ ok s) × (entry < e)
         by true q z = absurd (true-false refl z)
-        by false q z = (on full refl z, leb-false e entry q)
-          where
-            on : (x : Bool) → full ≡ x → pick x (λ _. false) (λ _. eqb (pairOf he entry) EMPTY) ≡ false → try ≡ ok s
-            on true y z = ⊎-elim (λ u. hull-nothing y u) (λ n. inner-nothing n (leb-false e entry q)) (eq-or-ne (pairOf he entry) EMPTY)
-            on false y z = inner-nothing (eqb-false _ _ z) (leb-false e entry q)
+        by false q z = (inner-nothing (eqb-false _ _ z) (leb-false e entry q), leb-false e entry q)
 
     -- what is due and inner has its entry to come
-    pub due-inner : dueOf tri he table full e ≡ true → pairOf he entry ≢ EMPTY → e ≤ entry
+    pub due-inner : dueOf tri he table e ≡ true → pairOf he entry ≢ EMPTY → e ≤ entry
     unfolding dueOf
     due-inner d n = by (leb e entry) refl d
       where
-        by : (t : Bool) → leb e entry ≡ t → pick t (λ _. true) (λ _. pick full (λ _. false) (λ _. eqb (pairOf he entry) EMPTY)) ≡ true → e ≤ entry
+        by : (t : Bool) → leb e entry ≡ t → pick t (λ _. true) (λ _. eqb (pairOf he entry) EMPTY) ≡ true → e ≤ entry
         by true q z = leb-true e entry q
-        by false q z = on full z
-          where
-            on : (x : Bool) → pick x (λ _. false) (λ _. eqb (pairOf he entry) EMPTY) ≡ true → e ≤ entry
-            on true z = absurd (true-false z refl)
-            on false z = absurd (n (eqb-true _ _ z))
+        by false q z = absurd (n (eqb-true _ _ z))
 
     -- ---- nothing to do
 
-    same-settled : entry < e → SettledBefore (plan tri he hull table f off) g full (e + 1) s
+    same-settled : entry < e → SettledBefore (plan tri he hull table f off) g m (e + 1) s
     same-settled l = record {
       inner = λ k lk n m. ⊎-elim (λ z. b .inner k lk n (rw z l)) (λ z. b .inner k lk n (omega (arith, other-entry k e lk h z))) (eq-or-ne k site);
       hulls = b .hulls;
     }
 
-    pub turn-skipped : dueOf tri he table full e ≡ false → (edgeTry (plan tri he hull table f off) e s ≡ ok s) × SettledBefore (plan tri he hull table f off) g full (e + 1) s
+    pub turn-skipped : dueOf tri he table e ≡ false → (edgeTry (plan tri he hull table f off) e s ≡ ok s) × SettledBefore (plan tri he hull table f off) g m (e + 1) s
     turn-skipped d = let w = not-due d in (w .0, same-settled (w .1))
 
     -- ---- a try
@@ -191,22 +181,22 @@ module _ {tri he hull table : List ℕ} {f : Frame} {off : List ℕ} {g : Ground
         by (ok r) q = left r q (isEmpty (getD (r .cells) site [])) refl
         by (refused x) q = tt
 
-    tried-settled : dueOf tri he table full e ≡ true → (o : Outcome Fault CellState) → Gives (OthersStay site s) o → Gives Kept o
-        → (pairOf he entry ≢ EMPTY → e ≡ entry → Gives Made o) → Gives (SettledBefore (plan tri he hull table f off) g full (e + 1)) o
+    tried-settled : dueOf tri he table e ≡ true → (o : Outcome Fault CellState) → Gives (OthersStay site s) o → Gives Kept o
+        → (pairOf he entry ≢ EMPTY → e ≡ entry → Gives Made o) → Gives (SettledBefore (plan tri he hull table f off) g m (e + 1)) o
     tried-settled d (ok r) others same new = record {
       inner = λ k lk n m.
           ⊎-elim
           (λ z. let n′ : pairOf he entry ≢ EMPTY = rw z at n in rw z (new n′ (omega (arith, due-inner d n′, rw z at m))))
           (λ z. ⊎-elim (λ x. inl (rw (others k z) x)) (λ x. inr x) (b .inner k lk n (omega (arith, other-entry k e lk h z))))
           (eq-or-ne k site);
-      hulls = λ t i li.
-          let x = b .hulls t i li in
+      hulls = λ k lk u y.
+          let x = b .hulls k lk u y in
           ⊎-elim
           (λ z. rw (same (rw z at x)) x)
-          (λ z. rw (others (getD hull i 0) z) x)
-          (eq-or-ne (getD hull i 0) site);
+          (λ z. rw (others (endOf tri k) z) x)
+          (eq-or-ne (endOf tri k) site);
     }
     tried-settled d (refused x) others same new = tt
 
-    pub turn-tried : dueOf tri he table full e ≡ true → SettledAfter (plan tri he hull table f off) g full e s
+    pub turn-tried : dueOf tri he table e ≡ true → SettledAfter (plan tri he hull table f off) g m e s
     turn-tried d = tried-settled d try stay kept made

@@ -35,7 +35,7 @@ module _ {tri he hull table : List ℕ} {f : Frame} {off : List ℕ} {g : Ground
   w = plan tri he hull table f off
 
   -- what round an early site is not outside is inside
-  pub early-inside : {full : Bool} {k : ℕ} → MadeLast he table m full k → InsideSite (f .bounds) nc tri he (g .x .verts) k
+  pub early-inside : {k : ℕ} → MadeLast he table m k → InsideSite (f .bounds) nc tri he (g .x .verts) k
   early-inside {k = k} early h l q = by (inBox (f .bounds) nc (g .x .verts) (h / 3)) refl
     where
       in-tri : nextOf h < length tri
@@ -48,11 +48,11 @@ module _ {tri he hull table : List ℕ} {f : Frame} {off : List ℕ} {g : Ground
       by true z = z
       by false z = absurd (covers (nextOf h) in-tri (ap (inBox (f .bounds) nc (g .x .verts)) one-triangle ∙ z) (ap (λ (s : ℕ). markOf m (getD table s 0)) q ∙ early .unmarked))
 
-  pub early-now : {full : Bool} {k : ℕ} → MadeLast he table m full k → InsideSite (f .bounds) nc tri he (c .verts) k
+  pub early-now : {k : ℕ} → MadeLast he table m k → InsideSite (f .bounds) nc tri he (c .verts) k
   early-now {k = k} early = inside-grown (f .bounds) nc tri he k (omega (arith, a .on .low)) (a .grown) (early-inside early)
 
   -- an early site is not idle, so once it is settled it has a cell
-  pub early-filled : {full : Bool} {k : ℕ} → k < g .sites → MadeLast he table m full k → SettledBefore w g full (length tri) c → isEmpty (getD (c .cells) k []) ≡ false
+  pub early-filled : {k : ℕ} → k < g .sites → MadeLast he table m k → SettledBefore w g m (length tri) c → isEmpty (getD (c .cells) k []) ≡ false
   early-filled {k = k} l early b =
       let entry : getD table k 0 < length tri = rw (← a .on .mesh .same) (early .entry) in
       let ends : endOf tri (getD table k 0) ≡ k = leftmost a k l .some (λ z. omega (arith, a .on .mesh .small)) .1 in
@@ -61,7 +61,7 @@ module _ {tri he hull table : List ℕ} {f : Frame} {off : List ℕ} {g : Ground
       (λ i. absurd (true-false (early-inside early (getD table k 0) (early .entry) ends) (i (getD table k 0) (early .entry) ends .outside)))
       (b .inner k l (early .inner) entry)
 
-  module _ {full : Bool} {e : ℕ} (b : SettledBefore w g full e c) (h : e < length tri) where
+  module _ {e : ℕ} (b : SettledBefore w g m e c) (h : e < length tri) where
     abbrev site : ℕ
     site = endOf tri e
 
@@ -70,16 +70,16 @@ module _ {tri he hull table : List ℕ} {f : Frame} {off : List ℕ} {g : Ground
 
     -- the site's cell is made here
     pub record MadeHere : Type 0 where
-      pub early : MadeLast he table m full site
+      pub early : MadeLast he table m site
       pub entry : getD table site 0 ≡ e
       pub blank : getD (c .cells) site [] ≡ []
       pub try : edgeTry w e c ≡ ok made
 
-    at-entry : full ≡ true → markOf m e ≡ 0 → pairOf he (getD table site 0) ≢ EMPTY → getD table site 0 ≡ e → (edgeTry w e c ≡ ok c) ⊎ MadeHere
-    at-entry t z n q = by (isEmpty (getD (c .cells) site [])) refl
+    at-entry : markOf m e ≡ 0 → pairOf he (getD table site 0) ≢ EMPTY → getD table site 0 ≡ e → (edgeTry w e c ≡ ok c) ⊎ MadeHere
+    at-entry z n q = by (isEmpty (getD (c .cells) site [])) refl
       where
-        early : MadeLast he table m full site
-        early = record { filled = t; entry = rw q (in-list a h); inner = n; unmarked = rw q z }
+        early : MadeLast he table m site
+        early = record { entry = rw q (in-list a h); inner = n; unmarked = rw q z }
 
         by : (x : Bool) → isEmpty (getD (c .cells) site []) ≡ x → (edgeTry w e c ≡ ok c) ⊎ MadeHere
         by false y = inl (there a b h y)
@@ -90,12 +90,12 @@ module _ {tri he hull table : List ℕ} {f : Frame} {off : List ℕ} {g : Ground
           try = rw y (early-try (f .bounds) nc site c tri he (paired (a .on .mesh)) e (in-list a h) refl (early-now early));
         })
 
-    pub quiet : full ≡ true → markOf m e ≡ 0 → (edgeTry w e c ≡ ok c) ⊎ MadeHere
-    quiet t z =
+    pub quiet : markOf m e ≡ 0 → (edgeTry w e c ≡ ok c) ⊎ MadeHere
+    quiet z =
         ⊎-elim
-        (λ u. inl (hull-nothing a b h t u))
+        (λ u. inl (hull-nothing a b h z u))
         (λ n. ⊎-elim
         (λ l. inl (inner-nothing a b h n l))
-        (λ l. at-entry t z n (omega (arith, leftmost a site (in-sites a b h) .lowest n e h refl)))
+        (λ l. at-entry z n (omega (arith, leftmost a site (in-sites a b h) .lowest n e h refl)))
         (lt-or-ge (getD table site 0) e))
         (eq-or-ne (pairOf he (getD table site 0)) EMPTY)

@@ -1,10 +1,9 @@
 -- The loops over tries. Before each try the definition on what is left, from the cells so far, is the whole, so a refusal there is the whole's. Hull sites are distinct:
 -- a try sets the cell of its own site only, and those still to come stay empty.
 use mathlib.Core.Path.{_≡_, refl, sym, ap, _∙_}
-use mathlib.Core.Bool.{Bool, true}
 use mathlib.Core.List.{List, []}
-use mathlib.Core.Logic.{_≢_}
-use Prim.Native.Nat.{ℕ, suc, _+_, _-_, _/_, _≤_, _<_}
+use mathlib.Core.Logic.{_≢_, ⊎-elim}
+use Prim.Native.Nat.{ℕ, zero, suc, _+_, _-_, _/_, _≤_, _<_}
 use native.Mathlib.Nat.{sub-zero}
 use native.Mathlib.Numerals.{add-one}
 use native.Mathlib.Omega.{arith}
@@ -12,24 +11,47 @@ use lib.Ieee.{Float}
 use lib.ListN.{length, getD}
 use Rattle.plane.specs.points.Flat.{points}
 use Rattle.plane.specs.declared.points.Point.{Point}
+use Rattle.base.specs.numbers.Numbers.{EMPTY}
+use Rattle.mesh.specs.Mesh.{nextOf, endOf, pairOf}
 use Rattle.mesh.specs.Accepted.{Topology}
-use Rattle.mesh.specs.laws.Facts.{entry-site, start-used, tab-length, tab-used}
+use Rattle.mesh.specs.laws.Next.{next-thrice}
+use Rattle.mesh.specs.laws.Facts.{paired, entry-site, end-site, next-in, start-used, tab-length, tab-some, tab-used, walk-each}
 use Rattle.mesh.specs.laws.Occurs.{occ-there}
 use Rattle.cell_memory.specs.outputs.laws.Marks.{full-already}
 use Rattle.definition.specs.declared.Fault.{Fault}
 use Rattle.definition.specs.Fault.{Outcome, ok, refused, andThen}
 use Rattle.definition.specs.Cell.{inBox}
-use Rattle.definition.specs.Build.{CellState, clipHull, clipRest}
-use Rattle.definition.specs.laws.Gives.{Gives, gives-map}
+use Rattle.definition.specs.Build.{CellState, clipHull, clipRest, isEmpty}
+use Rattle.definition.specs.laws.Gives.{Gives, gives-map, gives-then}
+use Rattle.build_laws.specs.laws.Runs.{true-false}
 use Rattle.build_laws.specs.laws.Inside.{in-grown}
 use Rattle.cell_builder.specs.declared.finish.Progress.{Progress}
 use Rattle.cell_builder.specs.tried.CellsInSlices.{Plan, Ground, Amid, Does, hullTry, edgeTry, HullAmid, EdgesAmid, AtRest, HullTried, EdgeTried}
 use Rattle.cell_builder.specs.tried.laws.OneTry.{region-room, region-within, corners-in}
-use Rattle.cell_builder.specs.turned.Loops.{hullTries, edgeTries, HullsAmid, RestAmid, MarksCover, SomeLeft, AtFirst, HullsTried, DoesLeft, RestTried, EarlyFilled, AllTried}
+use Rattle.cell_builder.specs.turned.Loops.{
+  hullTries,
+  edgeTries,
+  HullsAmid,
+  InnerBlank,
+  RestAmid,
+  MarksCover,
+  EarlyBlank,
+  LeftAmid,
+  LateAmid,
+  AtFirst,
+  HullsTried,
+  DoesLeft,
+  RestTried,
+  DoesLate,
+  AllTried,
+}
 use Rattle.cell_builder.specs.turned.Marks.{Markable, Covers, MadeLast, LeftOut}
-use Rattle.cell_builder.specs.turned.Turns.{HullsFilled, SettledBefore, SettledAfter, HullRegions, RegionFilled}
-use Rattle.cell_builder.specs.turned.laws.Leaving.{Alike, left-none, left-more}
-use Rattle.cell_builder.specs.turned.laws.Onward.{others-stay}
+use Rattle.cell_builder.specs.turned.Turns.{HullsMarked, SettledBefore, SettledAfter, HullRegions, HullTold, HullWalks}
+use Rattle.cell_builder.specs.turned.laws.Leaving.{Alike, left-none, left-more, left-onward}
+use Rattle.cell_builder.specs.turned.laws.Quiet.{early-filled}
+use Rattle.cell_builder.specs.tried.laws.Early.{earlyCell}
+use Rattle.cell_builder.specs.turned.laws.Onward.{Onward, onward, others-stay}
+use Rattle.cell_builder.specs.turned.laws.OneTurn.{closed, on-hull}
 
 -- ---- one step
 
@@ -92,7 +114,7 @@ module _ (w : Plan) (p₀ : Progress) (v₀ : List Float) (ix₀ : List ℕ) whe
   HullsAlong i p v ix = AtFirst w p₀ v₀ ix₀ (λ g s. HullAlong w g (hullTries w g s) i p v ix)
 
   pub hulls-start : HullsAlong 0 p₀ v₀ ix₀
-  hulls-start g s blank a = record { cells = s; amid = a; fit = λ j lo hi. blank j hi; makes = rw sub-zero }
+  hulls-start g s blank a = record { cells = s; amid = a; fit = λ j lo hi. blank (getD (w .hull) j 0) (a .on .mesh .border .fresh j hi .0); makes = rw sub-zero }
 
   module _ (i : ℕ) (p : Progress) (v : List Float) (ix : List ℕ) (along : HullsAlong i p v ix) where
     pub hulls-amid : HullsAmid w p₀ v₀ ix₀ → i < length (w .hull) → HullAmid w p v ix i
@@ -145,76 +167,80 @@ module _ (w : Plan) where
       rw z
 
 -- before half-edge e: the definition's cells so far, and those held
-pub record RestLeft (w : Plan) (g : Ground) (full : Bool) (m : List ℕ) (whole : Outcome Fault CellState) (e : ℕ) (p : Progress) (v : List Float) (ix : List ℕ) : Type 0 where
+pub record RestLeft (w : Plan) (g : Ground) (m : List ℕ) (whole : Outcome Fault CellState) (e : ℕ) (p : Progress) (v : List Float) (ix : List ℕ) : Type 0 where
   pub cells : CellState
   pub held : CellState
   pub amid : Amid w g held p v ix
-  pub settled : SettledBefore w g full e cells
-  pub left : LeftOut w g (λ (k : ℕ). MadeLast (w .halfedges) (w .table) m full k × (getD (w .table) k 0 < e)) cells held
+  pub settled : SettledBefore w g m e cells
+  pub left : LeftOut w g (λ (k : ℕ). MadeLast (w .halfedges) (w .table) m k × (getD (w .table) k 0 < e)) cells held
+  pub blank : EarlyBlank w g m held
   pub makes : edgesFrom w e cells ≡ whole
 
 -- a try that does the same with the cells c and t, and what it settles
-pub record TriedAlike (w : Plan) (g : Ground) (full : Bool) (m : List ℕ) (e : ℕ) (c t : CellState) : Type 0 where
-  pub alike : Alike (LeftOut w g (λ (k : ℕ). MadeLast (w .halfedges) (w .table) m full k × (getD (w .table) k 0 < e))) (edgeTry w e c) (edgeTry w e t)
-  pub settled : SettledAfter w g full e c
+pub record TriedAlike (w : Plan) (g : Ground) (m : List ℕ) (e : ℕ) (c t : CellState) : Type 0 where
+  pub alike : Alike (LeftOut w g (λ (k : ℕ). MadeLast (w .halfedges) (w .table) m k × (getD (w .table) k 0 < e))) (edgeTry w e c) (edgeTry w e t)
+  pub settled : SettledAfter w g m e c
+  pub blank : Gives (EarlyBlank w g m) (edgeTry w e t)
 
-module _ (w : Plan) (g : Ground) (full : Bool) (m : List ℕ) (e : ℕ) (r : Progress) (v : List Float) (ix : List ℕ) (whole : Outcome Fault CellState) where
+module _ (w : Plan) (g : Ground) (m : List ℕ) (e : ℕ) (r : Progress) (v : List Float) (ix : List ℕ) (whole : Outcome Fault CellState) where
   abbrev Out : CellState → CellState → Type 0
-  Out = LeftOut w g (λ (k : ℕ). MadeLast (w .halfedges) (w .table) m full k × (getD (w .table) k 0 < e))
+  Out = LeftOut w g (λ (k : ℕ). MadeLast (w .halfedges) (w .table) m k × (getD (w .table) k 0 < e))
 
-  stepped : (o q : Outcome Fault CellState) → Alike Out o q → Gives (SettledBefore w g full (e + 1)) o → andThen o (edgesFrom w (e + 1)) ≡ whole
-      → Does w g q r v ix → r .fault .number ≡ 0 → RestLeft w g full m whole (e + 1) r v ix
+  stepped : (o q : Outcome Fault CellState) → Alike Out o q → Gives (SettledBefore w g m (e + 1)) o → Gives (EarlyBlank w g m) q → andThen o (edgesFrom w (e + 1)) ≡ whole
+      → Does w g q r v ix → r .fault .number ≡ 0 → RestLeft w g m whole (e + 1) r v ix
   unfolding andThen
-  stepped (ok c) (ok t) k s q d z = record { cells = c; held = t; amid = d; settled = s; left = left-more (λ j lj x. (x .0, omega (arith, x .1))) k; makes = q }
-  stepped (ok c) (refused y) k s q d z = absurd k
-  stepped (refused x) (ok t) k s q d z = absurd k
-  stepped (refused x) (refused y) k s q d z = absurd (omega (arith, d .1, rw (d .0) at z))
+  stepped (ok c) (ok t) k s u q d z =
+      record { cells = c; held = t; amid = d; settled = s; left = left-more (λ j lj x. (x .0, omega (arith, x .1))) k; blank = u; makes = q }
+  stepped (ok c) (refused y) k s u q d z = absurd k
+  stepped (refused x) (ok t) k s u q d z = absurd k
+  stepped (refused x) (refused y) k s u q d z = absurd (omega (arith, d .1, rw (d .0) at z))
 
-  halted : (o q : Outcome Fault CellState) → Alike Out o q → andThen o (edgesFrom w (e + 1)) ≡ whole → Does w g q r v ix → r .fault .number ≢ 0 → DoesLeft w g full m whole r v ix
+  halted : (o q : Outcome Fault CellState) → Alike Out o q → andThen o (edgesFrom w (e + 1)) ≡ whole → Does w g q r v ix → r .fault .number ≢ 0 → DoesLeft w g m whole r v ix
   unfolding andThen
   halted (ok c) (ok t) k q d z = absurd (z (ap (λ (x : Fault). x .number) (d .fine)))
   halted (ok c) (refused y) k q d z = absurd k
   halted (refused x) (ok t) k q d z = absurd k
   halted (refused x) (refused y) k q d z = rw (← q, k) d
 
-module _ (w : Plan) (full : Bool) (m : List ℕ) (p₀ : Progress) (v₀ : List Float) (ix₀ : List ℕ) where
+module _ (w : Plan) (m : List ℕ) (p₀ : Progress) (v₀ : List Float) (ix₀ : List ℕ) where
   abbrev pub EdgesAlong : ℕ → Progress → List Float → List ℕ → Type 0
-  EdgesAlong e p v ix = AtRest w p₀ v₀ ix₀ (λ g s. HullsFilled w full s → MarksCover w g m → RestLeft w g full m (edgeTries w s) e p v ix)
+  EdgesAlong e p v ix = AtRest w p₀ v₀ ix₀ (λ g s. InnerBlank w g s → HullsMarked w m s → MarksCover w g m → RestLeft w g m (edgeTries w s) e p v ix)
 
   pub edges-start : EdgesAlong 0 p₀ v₀ ix₀
-  edges-start g s a filled marked = record {
+  edges-start g s a inner filled marked = record {
     cells = s;
     held = s;
     amid = a;
     settled = record { inner = λ k l n z. absurd (omega arith); hulls = filled };
     left = left-none s;
+    blank = λ k l x. inner k l (x .inner);
     makes = rw sub-zero;
   }
 
   module _ (e : ℕ) (p : Progress) (v : List Float) (ix : List ℕ) (along : EdgesAlong e p v ix) where
-    pub edges-amid : RestAmid w full m p₀ v₀ ix₀ → EdgesAmid w p v ix
-    edges-amid h = let a = along (h .g) (h .s) (h .amid) (h .filled) (h .marked) in record { g = h .g; s = a .held; amid = a .amid }
+    pub edges-amid : RestAmid w m p₀ v₀ ix₀ → EdgesAmid w p v ix
+    edges-amid h = let a = along (h .g) (h .s) (h .amid) (h .inner) (h .filled) (h .marked) in record { g = h .g; s = a .held; amid = a .amid }
 
-    pub edges-end : e ≡ length (w .triangles) → RestTried w full m p₀ v₀ ix₀ p v ix
-    edges-end l g s am filled marked =
-        let a = along g s am filled marked in
+    pub edges-end : e ≡ length (w .triangles) → RestTried w m p₀ v₀ ix₀ p v ix
+    edges-end l g s am inner filled marked =
+        let a = along g s am inner filled marked in
         let q : edgeTries w s ≡ ok (a .cells) = sym (a .makes) ∙ edge-last w e (a .cells) (omega arith) in
-        rw q (a .held, record { settled = rw l at (a .settled); left = left-more (λ k lk x. x .0) (a .left); amid = a .amid })
+        rw q (a .held, record { settled = rw l at (a .settled); left = left-more (λ k lk x. x .0) (a .left); blank = a .blank; amid = a .amid })
 
     module _ (l : e < length (w .triangles)) (r : Progress) (v₁ : List Float) (ix₁ : List ℕ) (try : EdgeTried w p v ix e r v₁ ix₁)
-        (fits : (g : Ground) (s : CellState) (o : Outcome Fault CellState) → MarksCover w g m → (a : RestLeft w g full m o e p v ix) → TriedAlike w g full m e (a .cells) (a .held)) where
+        (fits : (g : Ground) (s : CellState) (o : Outcome Fault CellState) → MarksCover w g m → (a : RestLeft w g m o e p v ix) → TriedAlike w g m e (a .cells) (a .held)) where
       -- what the try settles is said by OneTurn, that it is the same with early cells left out by Leaving
       pub edges-step : r .fault .number ≡ 0 → EdgesAlong (e + 1) r v₁ ix₁
-      edges-step z g s am filled marked =
-          let a = along g s am filled marked in
+      edges-step z g s am inner filled marked =
+          let a = along g s am inner filled marked in
           let f = fits g s _ marked a in
-          stepped w g full m e r v₁ ix₁ (edgeTries w s) _ _ (f .alike) (f .settled) (edge-next w e (a .cells) l ∙ a .makes) (try g (a .held) (a .amid)) z
+          stepped w g m e r v₁ ix₁ (edgeTries w s) _ _ (f .alike) (f .settled) (f .blank) (edge-next w e (a .cells) l ∙ a .makes) (try g (a .held) (a .amid)) z
 
-      pub edges-refused : r .fault .number ≢ 0 → RestTried w full m p₀ v₀ ix₀ r v₁ ix₁
-      edges-refused z g s am filled marked =
-          let a = along g s am filled marked in
+      pub edges-refused : r .fault .number ≢ 0 → RestTried w m p₀ v₀ ix₀ r v₁ ix₁
+      edges-refused z g s am inner filled marked =
+          let a = along g s am inner filled marked in
           let f = fits g s _ marked a in
-          halted w g full m e r v₁ ix₁ (edgeTries w s) _ _ (f .alike) (edge-next w e (a .cells) l ∙ a .makes) (try g (a .held) (a .amid)) z
+          halted w g m e r v₁ ix₁ (edgeTries w s) _ _ (f .alike) (edge-next w e (a .cells) l ∙ a .makes) (try g (a .held) (a .amid)) z
 
 -- ---- whether all hull sites have their cells
 
@@ -247,81 +273,135 @@ module _ {w : Plan} {g : Ground} {s : CellState} {p : Progress} {v : List Float}
     room = a .holds .room;
   }
 
-  pub hulls-filled : (full : Bool) → (full ≡ true → (i : ℕ) → i < length (w .hull) → RegionFilled (w .hull) ix (w .offsets) i) → HullsFilled w full s
-  hulls-filled full told t i l =
-      full-already ix (w .offsets) (s .cells) (a .regions) (getD (w .hull) i 0) (rw (a .held .width) (hull-in i l)) (hull-some i l) (told t i l)
+  pub hull-walks : HullWalks (w .triangles) (w .halfedges) (w .hull) (w .table) ix (w .offsets)
+  hull-walks = record {
+    regions = hull-regions;
+    sites = λ i l. rw (a .on .table-is, tab-length (a .on .mesh)) (hull-in i l);
+    paired = paired (a .on .mesh);
+    few = omega (arith, a .on .few-entries, a .on .mesh .same);
+  }
+
+  -- a hull site without a cell has all of its half-edges marked
+  pub hulls-marked : (m : List ℕ) → ((i : ℕ) → i < length (w .hull) → HullTold (w .halfedges) (w .hull) (w .table) ix (w .offsets) m i) → HullsMarked w m s
+  hulls-marked m told h l u z =
+      let top = a .on .mesh in
+      let site = endOf (w .triangles) h in
+      let lh = in-mesh h l in
+      let there = tab-some top site (end-site top h lh) h lh refl in
+      let o = on-hull (onward a) site (rw (a .on .table-is) (there .0)) (rw (a .on .table-is) (there .1)) u in
+      ⊎-elim
+      (λ x. rw (← o .2) (full-already ix (w .offsets) (s .cells) (a .regions) (getD (w .hull) (o .0) 0) (rw (a .held .width) (hull-in (o .0) (o .1))) (hull-some (o .0) (o .1)) x))
+      (λ x. absurd (x h (rw (o .2, a .on .table-is) (omega (arith, walk-each top site (end-site top h lh) h lh refl))) z))
+      (told (o .0) (o .1))
+
+-- ---- the early ones
+
+module _ {w : Plan} {g : Ground} {m : List ℕ} {c t : CellState} {p : Progress} {v : List Float} {ix : List ℕ} (marked : MarksCover w g m) (a : LeftAmid w g m c t p v ix) where
+  -- an early site's cell is not empty in c, and so not t's
+  early-left : (k : ℕ) → k < g .sites → MadeLast (w .halfedges) (w .table) m k → getD (c .cells) k [] ≡ earlyCell (w .halfedges) (getD (w .table) k 0)
+  early-left k l x =
+      ⊎-elim
+      (λ q. absurd (true-false (ap isEmpty (q ∙ a .blank k l x)) (early-filled (left-onward (a .amid) (a .left)) m marked l x (a .settled))))
+      (λ q. q .2)
+      (a .left .each k l)
+
+  late-left : (k : ℕ) → k < g .sites → (MadeLast (w .halfedges) (w .table) m k → ⊥) → getD (c .cells) k [] ≡ getD (t .cells) k []
+  late-left k l n = ⊎-elim (λ q. q) (λ q. absurd (n (q .0))) (a .left .each k l)
+
+  late-amid : LateAmid w g m c p v ix
+  late-amid = record {
+    held = t;
+    amid = a .amid;
+    verts = a .left .verts;
+    owners = a .left .owners;
+    steps = a .left .steps;
+    width = a .left .width;
+    late = late-left;
+    early = early-left;
+  }
 
 -- ---- the hull, then the rest
 
--- fit for the rest are any cells
-abbrev Any : CellState → Type 0
-Any s = Unit {0}
+-- the tries at hull places leave the cells of other sites as they are
+module _ (w : Plan) (g : Ground) where
+  abbrev OffHull : ℕ → Type 0
+  OffHull k = (i : ℕ) → i < length (w .hull) → k ≢ getD (w .hull) i 0
 
-gives-any : (o : Outcome Fault CellState) → Gives Any o
-gives-any (ok s) = tt
-gives-any (refused e) = tt
+  abbrev InnerStay : CellState → CellState → Type 0
+  InnerStay s r = (k : ℕ) → OffHull k → getD (r .cells) k [] ≡ getD (s .cells) k []
+
+  hulls-stay : (n i : ℕ) (s : CellState) → i + n ≤ length (w .hull)
+      → Gives (InnerStay s) (clipHull (w .frame .bounds) (length (w .triangles) / 3) (w .halfedges) (w .hull) (w .table) (g .x .at) i n s)
+  unfolding clipHull
+  hulls-stay zero i s l = λ k o. refl
+  hulls-stay (suc n) i s l =
+      gives-then _ (InnerStay s) (hullTry w g i s) _ (others-stay (w .frame .bounds) (length (w .triangles) / 3) (getD (w .hull) i 0) _ s)
+      (λ t stay. gives-map (InnerStay t) (InnerStay s)
+      (clipHull (w .frame .bounds) (length (w .triangles) / 3) (w .halfedges) (w .hull) (w .table) (g .x .at) (suc i) n t)
+      (hulls-stay n (suc i) t (omega arith)) (λ r h k o. h k o ∙ stay k (o i (omega arith))))
+
+-- where a table entry is paired no unpaired half-edge starts, so the site is not on the hull
+inner-off : {w : Plan} {g : Ground} {s : CellState} → Onward w g s → (k : ℕ) → k < g .sites → pairOf (w .halfedges) (getD (w .table) k 0) ≢ EMPTY → OffHull w g k
+inner-off {w} {g} a k l n i li q =
+    let top = a .on .mesh in
+    let e = top .border .edges i li in
+    let before = nextOf (nextOf (e .0)) in
+    let round : nextOf before ≡ e .0 = next-thrice (e .0) in
+    closed a k l n before (next-in top (next-in top (e .1))) (ap (λ (x : ℕ). getD (w .triangles) x 0) round ∙ e .3 ∙ sym q) (ap (pairOf (w .halfedges)) round ∙ e .2)
 
 module _ (w : Plan) (p₀ : Progress) (v₀ : List Float) (ix₀ : List ℕ) where
   abbrev allTries : Ground → CellState → Outcome Fault CellState
   allTries g s = andThen (hullTries w g s) (λ t. edgeTries w t)
 
   module _ (r : Progress) (v : List Float) (ix : List ℕ) (hulls : HullsTried w p₀ v₀ ix₀ r v ix) where
-    pub cells-refused : r .fault .number ≢ 0 → AllTried w p₀ v₀ ix₀ r v ix
-    cells-refused z g s blank am = stopped w g _ _ r v ix (hullTries w g s) refl (hulls g s blank am) z
+    pub cells-refused : r .fault .number ≢ 0 → (m : List ℕ) → AllTried w p₀ v₀ ix₀ m r v ix
+    unfolding andThen
+    cells-refused z m g s blank am = by (hullTries w g s) (hulls g s blank am)
+      where
+        by : (o : Outcome Fault CellState) → Does w g o r v ix → DoesLate w g m (andThen o (λ t. edgeTries w t)) r v ix
+        by (ok t) d = absurd (z (ap (λ (e : Fault). e .number) (d .fine)))
+        by (refused e) d = d
 
     module _ (z : r .fault .number ≡ 0) where
-      between : AtFirst w p₀ v₀ ix₀ (λ g s. TriesLeft w g (edgeTries w) Any (allTries g s) r v ix)
-      between g s blank am = let o = hullTries w g s in passed w g _ _ r v ix Any o (gives-any o) refl (hulls g s blank am) z
+      between : AtFirst w p₀ v₀ ix₀ (λ g s. TriesLeft w g (edgeTries w) (InnerBlank w g) (allTries g s) r v ix)
+      between g s blank am =
+          let o = hullTries w g s in
+          passed w g _ _ r v ix (InnerBlank w g) o
+          (gives-map (InnerStay w g s) (InnerBlank w g) o (hulls-stay w g (length (w .hull)) 0 s (omega arith)) (λ t h k l n. h k (inner-off (onward am) k l n) ∙ blank k l))
+          refl (hulls g s blank am) z
 
       pub cells-markable : HullsAmid w p₀ v₀ ix₀ → Markable (w .triangles) (w .table) (r .count) (length v)
       cells-markable h = markable (between (h .g) (h .s) (h .blank) (h .amid) .amid)
 
-      pub cells-regions : HullsAmid w p₀ v₀ ix₀ → HullRegions (w .hull) ix (w .offsets)
-      cells-regions h = hull-regions (between (h .g) (h .s) (h .blank) (h .amid) .amid)
+      pub cells-walks : HullsAmid w p₀ v₀ ix₀ → HullWalks (w .triangles) (w .halfedges) (w .hull) (w .table) ix (w .offsets)
+      cells-walks h = hull-walks (between (h .g) (h .s) (h .blank) (h .amid) .amid)
 
-      module _ (full : Bool) (told : full ≡ true → (i : ℕ) → i < length (w .hull) → RegionFilled (w .hull) ix (w .offsets) i) where
-        module _ (m : List ℕ) (covers : Covers (w .frame .bounds) (points (r .count) v) (w .triangles) (w .table) m (length (w .triangles))) where
+      module _ (m : List ℕ) (told : (i : ℕ) → i < length (w .hull) → HullTold (w .halfedges) (w .hull) (w .table) ix (w .offsets) m i) where
+        module _ (covers : Covers (w .frame .bounds) (points (r .count) v) (w .triangles) (w .table) m (length (w .triangles))) where
           -- what is outside among the vertices now was so before
           marked : (g : Ground) (s : CellState) → Amid w g s r v ix → MarksCover w g m
           marked g s a k l z =
               covers k l (ap (λ (vs : List Point). inBox (w .frame .bounds) (length (w .triangles) / 3) vs (k / 3)) (sym (a .verts))
               ∙ in-grown (w .frame .bounds) (length (w .triangles) / 3) (g .x .verts) (s .verts) (a .held .more) (k / 3) (omega (arith, a .on .low)) (a .held .grown) ∙ z)
 
-          pub cells-amid : HullsAmid w p₀ v₀ ix₀ → RestAmid w full m r v ix
+          pub cells-amid : HullsAmid w p₀ v₀ ix₀ → RestAmid w m r v ix
           cells-amid h =
               let a = between (h .g) (h .s) (h .blank) (h .amid) in
-              record { g = h .g; s = a .cells; amid = a .amid; filled = hulls-filled (a .amid) full told; marked = marked (h .g) (a .cells) (a .amid) }
+              record { g = h .g; s = a .cells; amid = a .amid; inner = a .fit; filled = hulls-marked (a .amid) m told; marked = marked (h .g) (a .cells) (a .amid) }
 
-          module _ (r₁ : Progress) (v₁ : List Float) (ix₁ : List ℕ) (edges : RestTried w full m r v ix r₁ v₁ ix₁) where
-            rest : AtFirst w p₀ v₀ ix₀ (λ g s. DoesLeft w g full m (allTries g s) r₁ v₁ ix₁ × MarksCover w g m)
+          module _ (r₁ : Progress) (v₁ : List Float) (ix₁ : List ℕ) (edges : RestTried w m r v ix r₁ v₁ ix₁) where
+            rest : AtFirst w p₀ v₀ ix₀ (λ g s. DoesLeft w g m (allTries g s) r₁ v₁ ix₁ × MarksCover w g m)
             rest g s blank am =
                 let a = between g s blank am in
                 let k = marked g (a .cells) (a .amid) in
-                rw (← a .makes) (edges g (a .cells) (a .amid) (hulls-filled (a .amid) full told) k, k)
+                rw (← a .makes) (edges g (a .cells) (a .amid) (a .fit) (hulls-marked (a .amid) m told) k, k)
 
-            pub rest-refused : r₁ .fault .number ≢ 0 → AllTried w p₀ v₀ ix₀ r₁ v₁ ix₁
-            rest-refused z g s blank am = by (allTries g s) (rest g s blank am .0)
+            pub cells-end : AllTried w p₀ v₀ ix₀ m r₁ v₁ ix₁
+            cells-end g s blank am = by (allTries g s) (all .0)
               where
-                by : (o : Outcome Fault CellState) → DoesLeft w g full m o r₁ v₁ ix₁ → Does w g o r₁ v₁ ix₁
-                by (ok c) d = absurd (z (ap (λ (x : Fault). x .number) (d .1 .amid .fine)))
-                by (refused e) d = d
-
-            pub rest-left : r₁ .fault .number ≡ 0 → HullsAmid w p₀ v₀ ix₀ → SomeLeft w full m r₁ v₁ ix₁
-            rest-left z h = by (allTries (h .g) (h .s)) (all .0)
-              where
-                all : DoesLeft w (h .g) full m (allTries (h .g) (h .s)) r₁ v₁ ix₁ × MarksCover w (h .g) m
-                all = rest (h .g) (h .s) (h .blank) (h .amid)
-
-                by : (o : Outcome Fault CellState) → DoesLeft w (h .g) full m o r₁ v₁ ix₁ → SomeLeft w full m r₁ v₁ ix₁
-                by (ok c) d = record { g = h .g; c = c; t = d .0; marked = all .1; amid = d .1 }
-                by (refused e) d = absurd (omega (arith, d .1, rw (d .0) at z))
-
-            pub cells-end : r₁ .fault .number ≡ 0 → (ix₂ : List ℕ) → EarlyFilled w full m r₁ v₁ ix₁ ix₂ → AllTried w p₀ v₀ ix₀ r₁ v₁ ix₂
-            cells-end z ix₂ fill g s blank am = by (allTries g s) (all .0)
-              where
-                all : DoesLeft w g full m (allTries g s) r₁ v₁ ix₁ × MarksCover w g m
+                all : DoesLeft w g m (allTries g s) r₁ v₁ ix₁ × MarksCover w g m
                 all = rest g s blank am
 
-                by : (o : Outcome Fault CellState) → DoesLeft w g full m o r₁ v₁ ix₁ → Does w g o r₁ v₁ ix₂
-                by (ok c) d = fill g c (d .0) (all .1) (d .1)
-                by (refused e) d = absurd (omega (arith, d .1, rw (d .0) at z))
+                by : (o : Outcome Fault CellState) → DoesLeft w g m o r₁ v₁ ix₁ → DoesLate w g m o r₁ v₁ ix₁
+                by (ok c) d = late-amid (all .1) (d .1)
+                by (refused e) d = d

@@ -1,4 +1,4 @@
--- The loop that moves cells together. What is read lies at or after what is written, so each region still holds its cell when its turn comes.
+-- The loop that puts cells together. What is read lies at or after what is written, so each region is still as it was when its turn comes.
 use mathlib.Core.Path.{_≡_, refl, sym, ap, _∙_, subst}
 use mathlib.Core.List.{List, [], _∷_, _++_, append-nil, append-assoc}
 use mathlib.Core.Logic.{⊎-elim}
@@ -7,9 +7,10 @@ use native.Mathlib.Nat.{add-zero, zero-add}
 use native.Mathlib.Numerals.{add-one}
 use native.Mathlib.Omega.{arith}
 use lib.ListN.{length, getD, set, take, drop, length-append, length-drop, length-set}
-use lib.Seq.{ext-getD, getD-take, getD-drop, take-suc, drop-cons, drop-drop, length-take-le, paste, take-paste, drop-paste, length-paste, set-at, take-all, drop-set-lt}
+use lib.Seq.{ext-getD, getD-take, getD-drop, take-suc, take-at, drop-cons, drop-drop, length-take-le, paste, sets, sets-eq, set-at, take-all, drop-set-lt}
+use Rattle.base.specs.common.laws.Stores.{drop-sets}
 use Rattle.base.specs.common.laws.Decide.{lt-or-ge}
-use Rattle.cell_memory.specs.layout.Regions.{joined, offsetsFrom, Region, Regions, Filled, StartsRise, Compacted}
+use Rattle.cell_memory.specs.layout.Regions.{joined, offsetsFrom, Region, Filled, StartsRise, Compacted}
 
 -- ---- cells and their offsets
 pub joined-snoc : (cs : List (List ℕ)) (c : List ℕ) → joined (cs ++ c ∷ []) ≡ joined cs ++ c
@@ -33,20 +34,17 @@ offsets-at n (c ∷ cs) zero h = sym (add-zero n)
 offsets-at n (c ∷ cs) (suc s) h = omega (arith, offsets-at (n + length c) cs s (omega arith), length-append c (joined (take s cs)))
 
 -- ---- one region
-module _ (ix₀ ix : List ℕ) (a b e : ℕ) (c : List ℕ) (same : drop a ix ≡ drop a ix₀) (r : Region ix₀ a b c) (f : Filled ix a b e) where
-  ahead : (k : ℕ) → getD ix (a + k) 0 ≡ getD ix₀ (a + k) 0
-  ahead k = sym (getD-drop a ix k 0) ∙ ap (λ (l : List ℕ). getD l k 0) same ∙ getD-drop a ix₀ k 0
-
+module _ (ix : List ℕ) (a b e : ℕ) (c : List ℕ) (r : Region ix a b c) (f : Filled ix a b e) where
   -- the cell ends where the region's first EMPTY, or its end, is
-  region-end : e ≡ a + length c
+  pub region-end : e ≡ a + length c
   region-end =
       ⊎-elim
       (λ h.
       let k = e - a in
       let q : a + k ≡ e = omega (arith, f .low) in
-      absurd (r .real k (omega (arith, f .low)) (sym (r .entries k (omega (arith, f .low))) ∙ sym (ahead k) ∙ rw q (f .ended (omega (arith, r .fits))))))
+      absurd (r .real k (omega (arith, f .low)) (sym (r .entries k (omega (arith, f .low))) ∙ rw q (f .ended (omega (arith, r .fits))))))
       (λ h. ⊎-elim
-      (λ g. absurd (f .real (a + length c) (omega arith) g (ahead (length c) ∙ r .after (a + length c) (omega arith) (omega (arith, f .high)))))
+      (λ g. absurd (f .real (a + length c) (omega arith) g (r .after (a + length c) (omega arith) (omega (arith, f .high)))))
       (λ g. omega arith)
       (lt-or-ge (a + length c) e))
       (lt-or-ge e (a + length c))
@@ -55,7 +53,25 @@ module _ (ix₀ ix : List ℕ) (a b e : ℕ) (c : List ℕ) (same : drop a ix �
   region-cell w =
       let l : length (take (e - a) (drop a ix)) ≡ length c = length-take-le (e - a) (drop a ix) (rw (length-drop a ix) (omega (arith, f .high))) ∙ omega (arith, region-end) in
       ext-getD 0 (take (e - a) (drop a ix)) c l
-      (λ i h. getD-take (e - a) (drop a ix) i 0 (omega (arith, region-end)) ∙ getD-drop a ix i 0 ∙ ahead i ∙ r .entries i (omega arith))
+      (λ i h. getD-take (e - a) (drop a ix) i 0 (omega (arith, region-end)) ∙ getD-drop a ix i 0 ∙ r .entries i (omega arith))
+
+  -- moved down to w
+  pub region-moved : b ≤ length ix → (w : ℕ) → w ≤ a → (new : List ℕ) → new ≡ paste ix w (drop a ix) (e - a) → new ≡ sets ix w c
+  region-moved l w h new q =
+      let n : e - a ≡ length c = omega (arith, region-end) in
+      q ∙ rw (region-cell l, n) (sym (sets-eq c ix w (omega (arith, region-end, f .high))))
+
+-- a region that stands ahead is as it was
+pub region-ahead : (ix₀ ix : List ℕ) (a b : ℕ) (c : List ℕ) → drop a ix ≡ drop a ix₀ → Region ix₀ a b c → Region ix a b c
+region-ahead ix₀ ix a b c same r = record {
+  fits = r .fits;
+  entries = λ i h. ahead i ∙ r .entries i h;
+  real = r .real;
+  after = λ k lo hi. let q : a + (k - a) ≡ k = omega (arith, lo) in rw (← q) (ahead (k - a) ∙ rw q (r .after k lo hi));
+}
+  where
+    ahead : (k : ℕ) → getD ix (a + k) 0 ≡ getD ix₀ (a + k) 0
+    ahead k = sym (getD-drop a ix k 0) ∙ ap (λ (l : List ℕ). getD l k 0) same ∙ getD-drop a ix₀ k 0
 
 -- ---- the loop: what it needs of no cell, and what it says of them
 pub record Compacting (ix₀ off₀ ix off : List ℕ) (n w from s : ℕ) : Type 0 where
@@ -89,66 +105,54 @@ rising-all l n len s r h = go (n - s) s (omega arith)
 
 module _ (ix₀ off₀ ix off : List ℕ) (n w from s to : ℕ) (g : Compacting ix₀ off₀ ix off n w from s) (h : s < n)
     (r : StartsRise off₀ n (length ix₀)) (t : to ≡ getD off (s + 1) 0) where
-  to-is : to ≡ getD off₀ (s + 1) 0
+  pub to-is : to ≡ getD off₀ (s + 1) 0
   to-is = t ∙ sym (getD-drop s off 1 0) ∙ ap (λ (l : List ℕ). getD l 1 0) (g .left) ∙ getD-drop s off₀ 1 0
 
   -- the region lies within the list
   pub region-within : (from ≤ to) × (to ≤ length ix)
   region-within = rw (g .place, to-is, g .long-ix) (r .rise s h, rising-all off₀ n (length ix₀) (s + 1) r (omega arith))
 
-  to-within : to ≤ length ix₀
-  to-within = omega (arith, region-within .1, g .long-ix)
-
   drop-off : drop (s + 1) (set off s w) ≡ drop (s + 1) off₀
   drop-off = drop-set-lt (s + 1) off s w (omega arith) ∙ sym (drop-drop 1 s off) ∙ ap (drop 1) (g .left) ∙ drop-drop 1 s off₀
 
-  pub compacting-step : (e : ℕ) → Filled ix from to e → (new : List ℕ) → new ≡ paste ix w (drop from ix) (e - from)
-      → Compacting ix₀ off₀ new (set off s w) n (w + (e - from)) to (s + 1)
-  compacting-step e f new q = record {
+  pub compacting-step : (e : ℕ) (new : List ℕ) → w ≤ e → e ≤ w + (to - from) → length new ≡ length ix → Compacting ix₀ off₀ new (set off s w) n e to (s + 1)
+  compacting-step e new lo hi long = record {
     place = to-is;
-    low = omega (arith, g .low, f .low, f .high);
+    low = omega (arith, g .low, region-within .0);
     within = omega arith;
-    long-ix = ap length q ∙ length-paste ix w (drop from ix) (e - from) (omega (arith, g .low, f .low, f .high, g .long-ix, to-within))
-        (rw (length-drop from ix) (omega (arith, f .high, g .long-ix, to-within))) ∙ g .long-ix;
+    long-ix = long ∙ g .long-ix;
     long-off = length-set off s w ∙ g .long-off;
     left = drop-off;
   }
 
-  module _ (e : ℕ) (f : Filled ix from to e) (cells : List (List ℕ)) (all : length cells ≡ n) (rs : Regions ix₀ off₀ cells) (m : Moved ix₀ off₀ ix off cells w from s) where
-    region : Region ix₀ from to (getD cells s [])
-    region = let q : suc s ≡ s + 1 = omega arith in rw (g .place, to-is, ← q) (rs .each s (omega arith))
+  module _ (cells : List (List ℕ)) (all : length cells ≡ n) (m : Moved ix₀ off₀ ix off cells w from s) where
+    abbrev c : List ℕ
+    c = getD cells s []
 
-    len : e - from ≡ length (getD cells s [])
-    len = omega (arith, region-end ix₀ ix from to e (getD cells s []) (m .ahead) region f)
-
-    cell : take (e - from) (drop from ix) ≡ getD cells s []
-    cell = region-cell ix₀ ix from to e (getD cells s []) (m .ahead) region f (omega (arith, g .long-ix, to-within))
-
-    room : w ≤ length ix
-    room = omega (arith, g .low, f .low, f .high, g .long-ix, to-within)
-
-    reach : e - from ≤ length (drop from ix)
-    reach = rw (length-drop from ix) (omega (arith, f .high, g .long-ix, to-within))
-
-    pub moved-step : (new : List ℕ) → new ≡ paste ix w (drop from ix) (e - from) → Moved ix₀ off₀ new (set off s w) cells (w + (e - from)) to (s + 1)
-    moved-step new q = record {
-      written = ap (take (w + (e - from))) q ∙ take-paste ix w (drop from ix) (e - from) room reach ∙ rw (cell, m .written) (sym (joined-take cells s (omega arith)));
-      counted = rw (joined-take cells s (omega arith), length-append, ← m .counted, len);
+    -- the cell written at w, which ends in its region or before it
+    pub moved-step : (e : ℕ) (new : List ℕ) → length c ≤ to - from → e ≡ w + length c → new ≡ sets ix w c → Moved ix₀ off₀ new (set off s w) cells e to (s + 1)
+    moved-step e new fits qe q = record {
+      written = ap (take e) new-is ∙ take-at (take w ix ++ c) (drop (w + length c) ix) e head ∙ rw (m .written) (sym (joined-take cells s (omega arith)));
+      counted = qe ∙ rw (joined-take cells s (omega arith), length-append, ← m .counted);
       ahead = tail;
       starts = off-is;
     }
       where
+        room : w + length c ≤ length ix
+        room = omega (arith, g .low, region-within)
+
+        new-is : new ≡ take w ix ++ c ++ drop (w + length c) ix
+        new-is = q ∙ sets-eq c ix w room
+
+        head : length (take w ix ++ c) ≡ e
+        head = length-append (take w ix) c ∙ rw (length-take-le w ix (omega (arith, room))) (sym qe)
+
         tail : drop to new ≡ drop to ix₀
         tail =
-            let k = to - (w + (e - from)) in
             let j = to - from in
-            let qk : w + (e - from) + k ≡ to = omega (arith, g .low, f .low, f .high) in
-            let qj : from + j ≡ to = omega (arith, f .low, f .high) in
-            rw q (subst (λ x. drop x (paste ix w (drop from ix) (e - from)) ≡ drop x ix₀) qk
-            (sym (drop-drop k (w + (e - from)) (paste ix w (drop from ix) (e - from)))
-            ∙ ap (drop k) (drop-paste ix w (drop from ix) (e - from) room reach)
-            ∙ drop-drop k (w + (e - from)) ix
-            ∙ subst (λ x. drop x ix ≡ drop x ix₀) (qj ∙ sym qk) (sym (drop-drop j from ix) ∙ ap (drop j) (m .ahead) ∙ drop-drop j from ix₀)))
+            let qj : from + j ≡ to = omega (arith, region-within .0) in
+            ap (drop to) q ∙ drop-sets to c ix w (omega (arith, g .low, region-within .0))
+            ∙ subst (λ x. drop x ix ≡ drop x ix₀) qj (sym (drop-drop j from ix) ∙ ap (drop j) (m .ahead) ∙ drop-drop j from ix₀)
 
         off-is : set off s w ≡ take (s + 1) (offsetsFrom 0 cells) ++ drop (s + 1) off₀
         off-is =

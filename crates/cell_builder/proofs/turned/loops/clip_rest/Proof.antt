@@ -16,12 +16,12 @@ use Rattle.cell_builder.proofs.turned.loops.clip_rest.Statement.{statem
 use Rattle.cell_builder.proofs.turned.loops.clip_rest.Tie as tie
 
 abbrev Inv-loop : tie.InvT-loop
-Inv-loop triangles halfedges table marks v₀ ix₀ off f full at₀ e₀ v ix at e =
-    (length v ≡ length v₀) × (length ix ≡ length ix₀) × ((hull : List ℕ) → EdgesAlong (plan triangles halfedges hull table f off) full marks at₀ v₀ ix₀ e at v ix)
-    × (e < length triangles → (dueOf triangles halfedges table full e ≡ true) × (full ≡ true → markOf marks e ≢ 0)) × (e ≤ length triangles)
+Inv-loop triangles halfedges table marks v₀ ix₀ off f at₀ e₀ v ix at e =
+    (length v ≡ length v₀) × (length ix ≡ length ix₀) × ((hull : List ℕ) → EdgesAlong (plan triangles halfedges hull table f off) marks at₀ v₀ ix₀ e at v ix)
+    × (e < length triangles → (dueOf triangles halfedges table e ≡ true) × (markOf marks e ≢ 0)) × (e ≤ length triangles)
 
 abbrev μ-loop : tie.MeasureT-loop
-μ-loop triangles halfedges table marks v₀ ix₀ off f full at₀ e₀ v ix at e = length triangles - e
+μ-loop triangles halfedges table marks v₀ ix₀ off f at₀ e₀ v ix at e = length triangles - e
 
 abbrev Entry : tie.At-loop Inv-loop μ-loop → tie.Start Inv-loop μ-loop
 Entry l = l .before .before .before .before .before .before .before .before
@@ -30,16 +30,16 @@ abbrev Loop : tie.After-clip-at-edge Inv-loop μ-loop → tie.At-loop Inv-loop �
 Loop t = t .before .before .before .before
 
 next-due-requires : tie.Need-next-due-requires Inv-loop μ-loop
-next-due-requires c κs = let s = c .before .before .before .before .before .before in (edges-entries _ _ _ _ _ _ (s .pre .1), omega arith)
+next-due-requires c κs = let s = c .before .before .before .before .before .before in (edges-entries _ _ _ _ _ (s .pre .1), omega arith)
 
 loop-holds : tie.Need-loop-holds Inv-loop μ-loop
-loop-holds c = (refl, refl, λ hull. edges-first _ _ _ _ _ _ _ (c .next-due .ensures), c .next-due .ensures .due, c .next-due .ensures .high)
+loop-holds c = (refl, refl, λ hull. edges-first _ _ _ _ _ _ (c .next-due .ensures), c .next-due .ensures .due, c .next-due .ensures .high)
 
 clip-at-edge-requires : tie.Need-clip-at-edge-requires Inv-loop μ-loop
 clip-at-edge-requires c κs =
     let l = c .before .before .before in
     let s = Entry l in
-    (c .before .before .loop-test .taken, s .pre .0, s .args .table .now, edges-amid _ _ _ _ _ _ _ _ _ _ (l .loop .inv .2 (s .pre .0)) (s .pre .1))
+    (c .before .before .loop-test .taken, s .pre .0, s .args .table .now, edges-amid _ _ _ _ _ _ _ _ _ (l .loop .inv .2 (s .pre .0)) (s .pre .1))
 
 same-length : tie.Need-same-length Inv-loop μ-loop
 same-length c = let v = c .before .before .before .before .before .before in v .vertices .given ∙ Loop (v .before) .loop .inv .0
@@ -52,8 +52,8 @@ returns c =
     let t = c .before .before .before .before .before .before .before in
     let l = Loop t in
     let h = t .before .before .before .loop-test .taken in
-    λ hull. edges-refused _ _ _ _ _ _ _ _ _ _ (l .loop .inv .2 hull) h _ _ _ (t .clip-at-edge .ensures hull (Entry l .args .table .now))
-    (tried-fits _ _ _ _ _ _ _ h (l .loop .inv .3 h)) (c .if1 .taken)
+    λ hull. edges-refused _ _ _ _ _ _ _ _ _ (l .loop .inv .2 hull) h _ _ _ (t .clip-at-edge .ensures hull (Entry l .args .table .now))
+    (tried-fits _ _ _ _ _ _ h (l .loop .inv .3 h)) (c .if1 .taken)
 
 add-next-due : tie.Need-add-next-due Inv-loop μ-loop
 add-next-due c =
@@ -63,7 +63,7 @@ add-next-due c =
 next-due-requires-2 : tie.Need-next-due-requires-2 Inv-loop μ-loop
 next-due-requires-2 c κs =
     let l = Loop (c .before .before .before .before .before .before .before) in
-    (edges-entries _ _ _ _ _ _ (Entry l .pre .1), omega (arith, c .before .before .before .before .before .before .before .before .before .before .loop-test .taken))
+    (edges-entries _ _ _ _ _ (Entry l .pre .1), omega (arith, c .before .before .before .before .before .before .before .before .before .before .loop-test .taken))
 
 loop-less : tie.Need-loop-less Inv-loop μ-loop
 loop-less c =
@@ -82,9 +82,9 @@ loop-again c =
     let h = t .before .before .before .loop-test .taken in (
       v .vertices .given ∙ l .loop .inv .0,
       x .indexes .given ∙ l .loop .inv .1,
-      λ hull. edges-pass _ _ _ _ _ _ _ _ _ _ _ n
-          (edges-step _ _ _ _ _ _ _ _ _ _ (l .loop .inv .2 hull) h _ _ _ (t .clip-at-edge .ensures hull (Entry l .args .table .now))
-          (tried-fits _ _ _ _ _ _ _ h (l .loop .inv .3 h)) (o .if1 .left)),
+      λ hull. edges-pass _ _ _ _ _ _ _ _ _ _ n
+          (edges-step _ _ _ _ _ _ _ _ _ (l .loop .inv .2 hull) h _ _ _ (t .clip-at-edge .ensures hull (Entry l .args .table .now))
+          (tried-fits _ _ _ _ _ _ h (l .loop .inv .3 h)) (o .if1 .left)),
       n .due,
       n .high,
     )
@@ -96,7 +96,7 @@ same-length-4 : tie.Need-same-length-4 Inv-loop μ-loop
 same-length-4 c = c .before .loop .inv .1
 
 returns-2 : tie.Need-returns-2 Inv-loop μ-loop
-returns-2 c = let l = c .before in λ hull. edges-end _ _ _ _ _ _ _ _ _ _ (l .loop .inv .2 hull) (omega (arith, c .loop-test .left, l .loop .inv .4))
+returns-2 c = let l = c .before in λ hull. edges-end _ _ _ _ _ _ _ _ _ (l .loop .inv .2 hull) (omega (arith, c .loop-test .left, l .loop .inv .4))
 
 pub clip-rest-spec : {M : Type 1} → statement M
 clip-rest-spec =

@@ -33,7 +33,7 @@ loop-again c =
 returns : tie.Need-returns Inv-loop μ-loop
 returns c =
     let l = c .before in
-    λ long k h. l .loop .inv .1 long .1 k (omega (arith, h, c .loop-test .left, Entry l .pre .threes))
+    λ long. (l .loop .inv .1 long .0, λ k h. l .loop .inv .1 long .1 k (omega (arith, h, c .loop-test .left, Entry l .pre .threes)))
 
 pub mark-outside-spec : {M : Type 1} → statement M
 mark-outside-spec =

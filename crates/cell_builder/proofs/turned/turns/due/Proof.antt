@@ -4,7 +4,7 @@ use native.Mathlib.Omega.{arith}
 use lib.ListN.{getD}
 use borrow.Author.Needs.{needs}
 use Rattle.mesh.specs.Mesh.{endOf}
-use Rattle.cell_builder.specs.turned.laws.Due.{due-to-come, due-filled, due-on-hull}
+use Rattle.cell_builder.specs.turned.laws.Due.{due-to-come, due-on-hull}
 use Rattle.cell_builder.proofs.turned.turns.due.Statement.{statement}
 use Rattle.cell_builder.proofs.turned.turns.due.Tie as tie
 
@@ -19,19 +19,16 @@ holds : (c : tie.After-wide2) → let i = Entry (Site c .before) .args in c .wid
 holds c = let w = Site c in c .wide2 .ensures ∙ ap (λ k. getD (Entry (w .before) .args .table .now) k 0) (w .wide .ensures ∙ w .before .end-site .ensures)
 
 returns : tie.Need-returns
-returns c = let t = c .before in due-to-come _ _ _ _ _ _ (holds t) (c .if1 .taken)
-
-returns-2 : tie.Need-returns-2
-returns-2 c = let t = c .before .before in due-filled _ _ _ _ _ _ (holds t) (c .before .if1 .left) (c .if2 .taken)
+returns c = let t = c .before in due-to-come _ _ _ _ _ (holds t) (c .if1 .taken)
 
 shared-slice-read-result : tie.Need-shared-slice-read-result
-shared-slice-read-result c = let t = c .before .before .before in omega (arith, holds t, Entry (Site t .before) .pre .2 .1)
+shared-slice-read-result c = let t = c .before .before in omega (arith, holds t, Entry (Site t .before) .pre .2 .1)
 
-returns-3 : tie.Need-returns-3
-returns-3 c = let t = c .before .before .before in due-on-hull _ _ _ _ _ _ (holds t) (c .before .before .if1 .left) (c .before .if2 .left)
+returns-2 : tie.Need-returns-2
+returns-2 c = let t = c .before .before in due-on-hull _ _ _ _ _ (holds t) (c .before .if1 .left)
 
 pub due-spec : {M : Type 1} → statement M
 due-spec =
     tie.close
-    (tie.spec (λ c κs. search needs) (λ c κs. search needs) (λ c. search needs) (λ c. search needs) (λ c κs. search needs) returns returns-2
-    (λ c. search needs) shared-slice-read-result returns-3)
+    (tie.spec (λ c κs. search needs) (λ c κs. search needs) (λ c. search needs) (λ c. search needs) (λ c κs. search needs) returns
+    (λ c. search needs) shared-slice-read-result returns-2)

@@ -1,6 +1,6 @@
 -- `cell_builder::turned::turns::next_due` meets its contract: all from `from` up to e are passed by.
 use mathlib.Core.Path.{_≡_, sym, ap, _∙_}
-use mathlib.Core.Bool.{true, not}
+use mathlib.Core.Bool.{not}
 use Prim.Native.Nat.{ℕ, _-_, _≤_, _<_}
 use native.Mathlib.Omega.{arith}
 use lib.ListN.{length}
@@ -12,11 +12,11 @@ use Rattle.cell_builder.proofs.turned.turns.next_due.Statement.{stateme
 use Rattle.cell_builder.proofs.turned.turns.next_due.Tie as tie
 
 abbrev Inv-loop : tie.InvT-loop
-Inv-loop triangles halfedges table marks full from e₀ e =
-    (from ≤ e) × ((j : ℕ) → from ≤ j → j < e → j < length triangles → PassedBy triangles halfedges table marks full j)
+Inv-loop triangles halfedges table marks from e₀ e =
+    (from ≤ e) × ((j : ℕ) → from ≤ j → j < e → j < length triangles → PassedBy triangles halfedges table marks j)
 
 abbrev μ-loop : tie.MeasureT-loop
-μ-loop triangles halfedges table marks full from e₀ e = length triangles - e
+μ-loop triangles halfedges table marks from e₀ e = length triangles - e
 
 abbrev Entry : tie.At-loop Inv-loop μ-loop → tie.Start Inv-loop μ-loop
 Entry l = l .before .before .before .before
@@ -40,8 +40,8 @@ loop-again c =
     let i = l .loop .inv in
     let a = Entry l .args in (
       omega (arith, i .0),
-      passed-eight (a .triangles .now) (a .halfedges .now) (a .table .now) (a .marks .now) (a .full) (a .from) (l .loop .e) (i .1)
-          (granted {P = (a .full ≡ true) × (markOf (a .marks .now) (l .loop .e) ≡ 0)} (u .unmarked .result) (ap not (c .if1 .taken)) (u .unmarked .ensures)),
+      passed-eight (a .triangles .now) (a .halfedges .now) (a .table .now) (a .marks .now) (a .from) (l .loop .e) (i .1)
+          (granted {P = markOf (a .marks .now) (l .loop .e) ≡ 0} (u .unmarked .result) (ap not (c .if1 .taken)) (u .unmarked .ensures)),
     )
 
 due-requires : tie.Need-due-requires Inv-loop μ-loop
@@ -66,7 +66,7 @@ returns c =
       passed = λ j lo hi. i .1 j lo hi (omega (arith, t .loop-test .taken));
       due = λ h. (
         sym (d .due .ensures) ∙ c .if2 .taken,
-        λ f z. refused {P = (a .full ≡ true) × (markOf (a .marks .now) (l .loop .e) ≡ 0)} (u .unmarked .result) (ap not (x .if1 .left)) (u .unmarked .ensures) (f, z),
+        λ z. refused {P = markOf (a .marks .now) (l .loop .e) ≡ 0} (u .unmarked .result) (ap not (x .if1 .left)) (u .unmarked .ensures) z,
       );
     }
 
@@ -80,7 +80,7 @@ loop-again-2 c =
     let i = l .loop .inv in
     let a = Entry l .args in (
       omega (arith, i .0),
-      passed-more (a .triangles .now) (a .halfedges .now) (a .table .now) (a .marks .now) (a .full) (a .from) (l .loop .e) (i .1) (sym (d .due .ensures) ∙ c .if2 .left),
+      passed-more (a .triangles .now) (a .halfedges .now) (a .table .now) (a .marks .now) (a .from) (l .loop .e) (i .1) (sym (d .due .ensures) ∙ c .if2 .left),
     )
 
 returns-2 : tie.Need-returns-2 Inv-loop μ-loop
