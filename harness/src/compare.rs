@@ -132,6 +132,12 @@ fn build(
         tally.corners[0] += b.lost as u64;
         tally.corners[1] += b.met_alone();
         (0..3).for_each(|kind| tally.reused[kind] += b.reused[kind] as u64);
+        let links = expect::links(&c.mesh, c.lengths.indexes);
+        let past = (c.mesh.triangle_count() + links) as u32;
+        tally.store[0] += b.again.iter().filter(|(_, across)| *across).count() as u64;
+        tally.store[1] += (b.vertices.len() as u32 > past) as u64;
+        tally.store[2] += b.again.iter().filter(|(at, _)| *at >= past).count() as u64;
+        tally.store[3] += b.again.iter().filter(|(at, across)| *at < past && !*across).count() as u64;
     }
     let entry = Slices::fresh(&c.lengths);
     let exit = expect::built(number, outcome, &entry);

@@ -484,8 +484,20 @@ pub struct Build {
     pub tries: Vec<u32>,
     /// How many extensions, first crossings and second crossings were a point that was there before.
     pub reused: [u32; 3],
+    /// The vertices that were taken again, each with whether another cell of the library's grid was the point's own.
+    pub again: Vec<(u32, bool)>,
     /// The edges, from vertex to vertex, whose meeting with the box was asked for, one after the other.
     pub met: Vec<(u32, u32)>,
+}
+
+/// The cell of the library's grid that x is hung in, and the one that it is searched for in (docs/work/ARCHITECTURE.md, the vertex store's part of the index list):
+/// where they differ, a search in that cell alone would miss a vertex that is there.
+fn hung_in(x: f64) -> f64 {
+    x.abs() + 2f64.powi(-49) + 2f64.powi(21)
+}
+
+fn searched_in(x: f64) -> f64 {
+    x.abs() + 2f64.powi(21)
 }
 
 /// Where a build stopped: the triangle of 11, the first hull place of 12's edge, the cell of 13 and 14 with the ring
@@ -543,6 +555,7 @@ struct Builder<'a> {
     vertices: Vec<Pt>,
     left_to_wrap: [u32; 4],
     reused: [u32; 3],
+    again: Vec<(u32, bool)>,
     met: Vec<(u32, u32)>,
     counts: &'a mut Counts,
 }
@@ -571,7 +584,7 @@ fn clipped(m: &Mesh, area: Edges, vertices: Vec<Pt>, counts: &mut Counts) -> Out
     }
 
     let first_corner = vertices.len();
-    let mut b = Builder { area, first_corner, vertices, left_to_wrap: owners, reused: [0; 3], met: Vec::new(), counts };
+    let mut b = Builder { area, first_corner, vertices, left_to_wrap: owners, reused: [0; 3], again: Vec::new(), met: Vec::new(), counts };
     b.vertices.extend(corners(&area));
 
     // Hull place i's edge runs from its site to the next one's.
@@ -634,7 +647,7 @@ fn clipped(m: &Mesh, area: Edges, vertices: Vec<Pt>, counts: &mut Counts) -> Out
     if lost > 0 {
         b.counts.at(Branch::CornersLost);
     }
-    Ok(Build { leftmost: left, owners: owners.to_vec(), lost, vertices: b.vertices, cells, tries, reused: b.reused, met: b.met })
+    Ok(Build { leftmost: left, owners: owners.to_vec(), lost, vertices: b.vertices, cells, tries, reused: b.reused, again: b.again, met: b.met })
 }
 
 impl Builder<'_> {
@@ -660,6 +673,8 @@ impl Builder<'_> {
         match found {
             Some(i) => {
                 self.reused[kind as usize] += 1;
+                let v = self.vertices[i];
+                self.again.push((i as u32, hung_in(v.x) != searched_in(p.x) || hung_in(v.y) != searched_in(p.y)));
                 i as u32
             }
             None => {

@@ -54,6 +54,9 @@ pub struct Tally {
     pub corners: [u64; 2],
     /// Points of accepted builds that were reused: extensions, first crossings, second crossings.
     pub reused: [u64; 3],
+    /// Of the vertex store of accepted builds: points reused across a border of the grid, builds with more vertices than links, points reused past the
+    /// links, points reused by their slots.
+    pub store: [u64; 4],
     pub most_vertices: f64,
     pub most_entries: f64,
     /// The same of pieces by cutting: vertices, entries.
@@ -159,6 +162,15 @@ impl Tally {
         for (i, name) in ["extension", "first crossing", "second crossing"].iter().enumerate() {
             if self.reused[i] == 0 {
                 holes.push(format!("reused {name}"));
+            }
+        }
+        println!(
+            "\nThe vertex store: reused across a border of the grid {}, builds with more vertices than links {}, reused past the links {}, reused by their slots {}",
+            self.store[0], self.store[1], self.store[2], self.store[3]
+        );
+        for (i, name) in ["reused across a border", "more vertices than links", "reused past the links", "reused by their slots"].iter().enumerate() {
+            if self.store[i] == 0 {
+                holes.push(format!("vertex store: {name}"));
             }
         }
         println!("\nRoom used at most: vertices {:.3}, entries {:.3}", self.most_vertices, self.most_entries);

@@ -22,7 +22,7 @@ pub fn frame(bounds: BoundingBox, entries: usize, hull: usize) -> Frame
         bounds: bounds,
         centers: entries / 3,
         stage: 3 * entries + 6 * hull + 4,
-        limit: 4 * entries + 8 * hull + 4,
+        limit: 3 * entries + entries / 3 + 7 * hull + 6,
     }
 }
 

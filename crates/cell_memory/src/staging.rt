@@ -4,7 +4,7 @@ use mesh::turn;
 ghost use mathlib.Core.List.{[], _∷_, _++_};
 ghost use Prim.Native.Nat.{_+_, _≤_};
 ghost use lib.ListN.{length, drop};
-ghost use Rattle.mesh.specs.Mesh.{Paired};
+ghost use Rattle.mesh.specs.Mesh.{wholeOf, Paired};
 ghost use Rattle.definition.specs.Build.{ringFrom, hullRing};
 ghost use Rattle.cell_memory.specs.staging.Staging.{Staged, Stages};
 
@@ -16,7 +16,7 @@ pub fn stage_ring(
     indexes: &mut [u32],
     at: usize,
 ) -> usize
-    requires { ⌜ Paired (now triangles) (now halfedges) × (at + length (now halfedges) ≤ length (now indexes)) ⌝ }
+    requires { ⌜ Paired (now triangles) (now halfedges) × (at + length (wholeOf (now halfedges) s) ≤ length (now indexes)) ⌝ }
     ensures { λ r. ⌜ Staged (ringFrom (now (halfedges .entry)) s) at (now (indexes .entry)) (now (indexes .exit)) r ⌝ }
 {
     let mut e = wide(s);
@@ -39,7 +39,7 @@ fn stage_first(
     after: u32,
     before: u32,
 ) -> usize
-    requires { ⌜ Paired (now triangles) (now halfedges) × (at + length (now halfedges) + 2 ≤ length (now indexes)) ⌝ }
+    requires { ⌜ Paired (now triangles) (now halfedges) × (at + length (wholeOf (now halfedges) e) + 2 ≤ length (now indexes)) ⌝ }
     ensures { λ r. ⌜ Staged (after ∷ before ∷ ringFrom (now (halfedges .entry)) e) at (now (indexes .entry)) (now (indexes .exit)) r ⌝ }
 {
     indexes[at] = after;
@@ -57,7 +57,7 @@ fn stage_later(
     before: u32,
     after: u32,
 ) -> usize
-    requires { ⌜ Paired (now triangles) (now halfedges) × (at + length (now halfedges) + 2 ≤ length (now indexes)) ⌝ }
+    requires { ⌜ Paired (now triangles) (now halfedges) × (at + length (wholeOf (now halfedges) e) + 2 ≤ length (now indexes)) ⌝ }
     ensures { λ r. ⌜ Staged (before ∷ ringFrom (now (halfedges .entry)) e ++ after ∷ []) at (now (indexes .entry)) (now (indexes .exit)) r ⌝ }
 {
     indexes[at] = before;

@@ -1,3 +1,4 @@
 pub mod Add
 pub mod Store
+pub mod buckets
 pub mod laws

@@ -1,7 +1,7 @@
 -- The vertex store as its callers know it: the vertex slice, the count and the index list's tail hold the vertices `points count v`.
 -- A caller never makes `Holds` by hand: `calculate_corners` begins it, `add_new_vertex` keeps it, and so does any write to the index list
 -- before the tail, since only the tail stands in it. How a near vertex is found is the store's own affair.
-use Prim.Native.Nat.{ℕ, _+_, _*_, _≤_, _<_}
+use Prim.Native.Nat.{ℕ, _+_, _-_, _*_, _≤_, _<_}
 use mathlib.Core.Path.{_≡_}
 use mathlib.Core.List.{List}
 use lib.Ieee.{Float}
@@ -9,12 +9,14 @@ use lib.ListN.{length, take, drop}
 use Rattle.plane.specs.points.Flat.{pour}
 use Rattle.plane.specs.declared.points.Point.{Point}
 use Rattle.vertices.specs.Add.{Added}
+use Rattle.vertices.specs.buckets.Slots.{hungOf, Hang}
 use Rattle.vertices.specs.declared.Placed.{Placed}
 
--- count vertices, the first nc of them circumcenters. The plain store keeps nothing in the tail.
+-- count vertices, the first nc of them circumcenters; as many of the others as have links hang in the tail
 pub record Holds (nc count : ℕ) (v : List Float) (tail : List ℕ) : Type 0 where
   pub centers : nc ≤ count
   pub room : 2 * count ≤ length v
+  pub hang : Hang nc (hungOf (count - nc) (length tail)) v tail
 
 -- v₁ is v with the vertices vs, count₁ in number, written over its beginning
 pub record Poured (vs : List Point) (v : List Float) (count₁ : ℕ) (v₁ : List Float) : Type 0 where

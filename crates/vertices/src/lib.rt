@@ -1,15 +1,19 @@
 // The vertex store of cell_builder.rs over lent slices: circumcenters, then the box's corners, then added points, x and y in turn.
+pub mod buckets;
+
+use crate::buckets::empty;
+use crate::buckets::find;
+use crate::buckets::hang;
 use plane::points::Point;
-use plane::points::abs_diff_eq;
 use plane::points::point_at;
 ghost use mathlib.Core.Path.{_≡_};
-ghost use mathlib.Core.List.{_++_};
-ghost use Prim.Native.Nat.{_+_, _-_, _*_, _≤_, _<_};
+ghost use mathlib.Core.List.{[], _∷_, _++_};
+ghost use Prim.Native.Nat.{_+_, _*_, _≤_, _<_};
 ghost use lib.Ieee.{nan};
 ghost use lib.ListN.{length, getD, set, drop};
 ghost use Rattle.plane.specs.points.Plane.{at};
-ghost use Rattle.plane.specs.points.Flat.{points, pointsFrom};
-ghost use Rattle.vertices.specs.Add.{nearPt, findNear, addVertex};
+ghost use Rattle.plane.specs.points.Flat.{points};
+ghost use Rattle.vertices.specs.Add.{addVertex};
 ghost use Rattle.vertices.specs.Store.{Holds, Leaves, PlacedAs};
 
 // Where a point stands among the vertices, whether it was added there, and how many vertices there are now.
@@ -27,32 +31,6 @@ pub fn vertex(vertices: &[f64], count: usize, i: usize) -> Point
     point_at(vertices, i)
 }
 
-fn near_point(p: Point, q: Point) -> bool
-    ensures { λ r. ⌜ r ≡ nearPt p q ⌝ }
-{
-    if abs_diff_eq(p.x, q.x) {
-        return abs_diff_eq(p.y, q.y);
-    }
-    false
-}
-
-// The first of the vertices from `from` on that is near p, else `count`.
-fn find_near(vertices: &[f64], from: usize, count: usize, p: Point) -> usize
-    requires { ⌜ (from ≤ count) × (2 * count ≤ length (now vertices)) ⌝ }
-    ensures { λ r. ⌜ r ≡ findNear p (pointsFrom (now (vertices .entry)) from (count - from)) from ⌝ }
-    ensures { λ r. ⌜ r ≤ count ⌝ }
-{
-    let mut i = from;
-    while i < count {
-        let q = point_at(vertices, i);
-        if near_point(q, p) {
-            return i;
-        }
-        i += 1;
-    }
-    i
-}
-
 // Writes p as vertex i.
 pub fn put(vertices: &mut [f64], i: usize, p: Point)
     requires { ⌜ 2 * i + 1 < length (now vertices) ⌝ }
@@ -60,6 +38,24 @@ pub fn put(vertices: &mut [f64], i: usize, p: Point)
 {
     vertices[2 * i] = p.x;
     vertices[2 * i + 1] = p.y;
+}
+
+// Puts p after the vertices, and hangs it.
+fn append(
+    vertices: &mut [f64],
+    indexes: &mut [u32],
+    limit: usize,
+    centers: usize,
+    count: usize,
+    p: Point,
+)
+    requires { ⌜ Holds centers count (now vertices) (drop limit (now indexes)) ⌝ }
+    requires { ⌜ 2 * count + 2 ≤ length (now vertices) ⌝ }
+    ensures { λ _. ⌜ Leaves centers limit (points count (now (vertices .entry)) ++ p ∷ []) (now (vertices .entry)) (now (indexes .entry)) (count + 1)
+        (now (vertices .exit)) (now (indexes .exit)) ⌝ }
+{
+    put(vertices, count, p);
+    hang(indexes, limit, count - centers, p);
 }
 
 // p's place among the vertices: the first near one after the circumcenters, else a new one.
@@ -78,7 +74,7 @@ pub fn add_new_vertex(
     ensures slices { λ r. ⌜ Leaves centers limit (addVertex centers (points count (now (vertices .entry))) p .verts)
         (now (vertices .entry)) (now (indexes .entry)) (r .count) (now (vertices .exit)) (now (indexes .exit)) ⌝ }
 {
-    let i = find_near(vertices, centers, count, p);
+    let i = find(vertices, indexes, limit, centers, count, p);
     if i < count {
         return Placed {
             at: i,
@@ -86,7 +82,7 @@ pub fn add_new_vertex(
             count: count,
         };
     }
-    put(vertices, count, p);
+    append(vertices, indexes, limit, centers, count, p);
     Placed {
         at: count,
         fresh: true,
@@ -107,9 +103,10 @@ pub fn calculate_corners(
     ensures slices { λ r. ⌜ Leaves centers limit (points centers (now (vertices .entry)) ++ corners) (now (vertices .entry))
         (now (indexes .entry)) r (now (vertices .exit)) (now (indexes .exit)) ⌝ }
 {
+    empty(indexes, limit);
     let mut k = 0;
     while k < 4 {
-        put(vertices, centers + k, corners[k]);
+        append(vertices, indexes, limit, centers, centers + k, corners[k]);
         k += 1;
     }
     centers + 4

@@ -5,8 +5,8 @@
 //!     bench --once SITES       one build by each side on uniform sites, for harness/count.sh
 //!     bench --has              the library's calls
 //!
-//! Without words: uniform sites and the other shapes. `--traps` adds the two traps of the source at 4,000 and 16,000
-//! sites, `--full` at 65,536 too (the Rust needs minutes there). Times are nanoseconds a site, the best and the median
+//! Without words: uniform sites and the other shapes, those at 65,536 sites by the library alone, which takes as long a site there as at 1,000.
+//! `--traps` adds the two traps of the source at 16,000 sites, `--full` at 65,536 too (the Rust needs minutes there). Times are nanoseconds a site, the best and the median
 //! of the rounds. The Rust's time is its circumcenters and CellBuilder, with no check; "freed" with the freeing of what it made, which its caller pays
 //! too. The library's is its whole public build, and its whole cutting: check, clearing and circumcenters included, in buffers that the caller lends
 //! and the call clears. A ratio is the library's best over the Rust's best, freed and not freed.
@@ -49,7 +49,7 @@ fn main() {
         "{:28}{:>8}{:>9}{:>10}{:>10}{:>10}{:>10}{:>10}{:>10}{:>7}{:>7}{:>10}{:>10}{:>7}{:>7}",
         "mesh", "sites", "centers", "Rust", "median", "freed", "median", "build", "median", "/freed", "/not", "cut", "median", "/freed", "/not"
     );
-    let mut row = |name: &str, m: &Mesh, area: &Area, most: usize| time(name, m, area, rounds.unwrap_or(most), &mut library);
+    let mut row = |name: &str, m: &Mesh, area: &Area, most: usize| time(name, m, area, rounds.unwrap_or(most), true, &mut library);
     for n in [1_000, 10_000, 65_536] {
         let count = 400_000 / n + 12;
         row("uniform, triangles swept", &uniform(n, false), &wide_box(), count);
@@ -60,6 +60,11 @@ fn main() {
         row("strip", &strip(n), &wide_box(), 9);
         row("hub with an empty cell", &hub(n), &small_box(), 5);
     }
+    let mut alone = |name: &str, m: &Mesh, area: &Area| time(name, m, area, rounds.unwrap_or(9), false, &mut library);
+    alone("circle", &circle(65_536), &wide_box());
+    alone("strip", &strip(65_536), &wide_box());
+    alone("hub with an empty cell", &hub(65_536), &small_box());
+    let mut row = |name: &str, m: &Mesh, area: &Area, most: usize| time(name, m, area, rounds.unwrap_or(most), true, &mut library);
     if has("--traps") || has("--full") {
         let sizes: &[usize] = if has("--full") { &[16_000, 65_536] } else { &[16_000] };
         for &n in sizes {
@@ -75,14 +80,17 @@ fn best_and_median(mut list: Vec<u64>, sites: usize) -> (f64, f64) {
     (list[0] as f64 / sites as f64, list[list.len() / 2] as f64 / sites as f64)
 }
 
-fn time(name: &str, m: &Mesh, area: &Area, rounds: usize, library: &mut Library) {
+/// Both sides in turn, or the library alone.
+fn time(name: &str, m: &Mesh, area: &Area, rounds: usize, both: bool, library: &mut Library) {
     assert!(Facts::of(m).accepted(), "{name}");
     let n = m.count();
     let lent = rust::Lent::new(m);
     let (mut rust, mut builds, mut cuts) = ([(); 3].map(|_| Vec::new()), Vec::new(), Vec::new());
     for _ in 0..rounds.max(1) {
-        for (list, t) in rust.iter_mut().zip(rust_once(&lent, area)) {
-            list.push(t);
+        if both {
+            for (list, t) in rust.iter_mut().zip(rust_once(&lent, area)) {
+                list.push(t);
+            }
         }
         if library.has("time_build") {
             builds.push(library_once(m, area, library));
@@ -91,12 +99,20 @@ fn time(name: &str, m: &Mesh, area: &Area, rounds: usize, library: &mut Library)
             cuts.push(cut_once(m, area, library));
         }
     }
-    let [(centers, _), (whole, median), (freed, freed_median)] = rust.map(|list| best_and_median(list, n));
-    print!("{name:28}{n:>8}{centers:>9.1}{whole:>10.1}{median:>10.1}{freed:>10.1}{freed_median:>10.1}");
+    print!("{name:28}{n:>8}");
+    let of_rust = both.then(|| rust.map(|list| best_and_median(list, n)));
+    match of_rust {
+        Some([(centers, _), (whole, median), (freed, freed_median)]) => print!("{centers:>9.1}{whole:>10.1}{median:>10.1}{freed:>10.1}{freed_median:>10.1}"),
+        None => print!("{:>9}{:>10}{:>10}{:>10}{:>10}", "-", "-", "-", "-", "-"),
+    }
     for list in [builds, cuts] {
         if !list.is_empty() {
             let (b, d) = best_and_median(list, n);
-            print!("{b:>10.1}{d:>10.1}{:>7.3}{:>7.3}", b / freed, b / whole);
+            print!("{b:>10.1}{d:>10.1}");
+            match of_rust {
+                Some([_, (whole, _), (freed, _)]) => print!("{:>7.3}{:>7.3}", b / freed, b / whole),
+                None => print!("{:>7}{:>7}", "-", "-"),
+            }
         }
     }
     println!();

@@ -218,7 +218,7 @@ pub fn sound(r: &mut Rng) -> Mesh {
 /// Some or all sites moved a little, a lot, onto each other, or to the limits.
 fn move_sites(r: &mut Rng, sites: &mut [f64]) {
     let n = sites.len() / 2;
-    match r.below(7) {
+    match r.below(8) {
         0 => {
             let by = floats::between(r, -50, -1).abs();
             sites.iter_mut().for_each(|x| *x += by * r.signed());
@@ -244,6 +244,11 @@ fn move_sites(r: &mut Rng, sites: &mut [f64]) {
             sites[i] = floats::admitted(r);
         }
         5 => sites.iter_mut().for_each(|x| *x = (*x * 4.0).round() / 4.0),
+        6 => {
+            // On or beside the borders of the grid that the library hangs vertices by.
+            let by = power(-32) + r.range(-1, 1) as f64 * power(-50);
+            sites.iter_mut().for_each(|x| *x = (*x * 4.0).round() / 4.0 + by);
+        }
         _ => {
             // A short hull edge beside the origin: its squares may underflow.
             let (a, b) = (r.below(n), r.below(n));

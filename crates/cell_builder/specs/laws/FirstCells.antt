@@ -161,7 +161,7 @@ module _ {sites : List Float} {tri he hull table : List ℕ} {b : BoundingBox} {
     room-v = omega (arith, m .admitted .rooms .vertices);
     small = omega (arith, few-entries, few-on-hull);
     after-numbers = omega arith;
-    room-ix = omega (arith, m .admitted .rooms .entries, whole-triangles);
+    room-ix = omega (arith, m .admitted .rooms .entries, whole-triangles, m .admitted .mesh .counts .three-on-hull);
     small-ix = omega (arith, few-entries, few-on-hull);
   })
 
@@ -210,7 +210,7 @@ module _ {sites : List Float} {tri he hull table : List ℕ} {b : BoundingBox} {
           high = omega (arith, e .grown .longer, four-more, e .few);
           sides = corners-kept b nc (before .verts) (x .verts) _ (e .grown) (omega (arith, four-more)) (corners-sided b (m .admitted .box) nc (points nc v) (length-points v 0 nc));
           room-v = omega (arith, m .admitted .rooms .vertices);
-          room-ix = omega (arith, m .admitted .rooms .entries, whole-triangles);
+          room-ix = omega (arith, m .admitted .rooms .entries, whole-triangles, a .counts .three-on-hull);
         }
 
     abbrev none : Extensions → CellState

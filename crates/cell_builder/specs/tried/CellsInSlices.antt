@@ -47,9 +47,9 @@ pub record Ground : Type 0 where
 abbrev pub ground : ℕ → List ℕ → Extensions → Ground
 ground n found x = record { sites = n; found = found; x = x }
 
--- the frame in the index list: regions, then the stage of one ring, then the extensions' numbers
+-- the frame in the index list: regions, then the stage of one ring, which has at most as many entries as there are triangles and two more, then the extensions' numbers
 abbrev pub frameOf : BoundingBox → ℕ → ℕ → Frame
-frameOf b entries hull = record { bounds = b; centers = entries / 3; stage = 3 * entries + 6 * hull + 4; limit = 4 * entries + 8 * hull + 4 }
+frameOf b entries hull = record { bounds = b; centers = entries / 3; stage = 3 * entries + 6 * hull + 4; limit = 3 * entries + entries / 3 + 7 * hull + 6 }
 
 -- that it is so: an accepted mesh with its table, the regions' starts, a box that rule 3 admits with its corners after the circumcenters,
 -- and slices of so many numbers and indexes with the room that rule 2 asks for
@@ -62,7 +62,7 @@ pub record Grounded (w : Plan) (g : Ground) (numbers indexes : ℕ) : Type 0 whe
   pub few-on-hull : length (w .hull) ≤ 65536
   pub centers : w .frame .centers ≡ length (w .triangles) / 3
   pub stage : w .frame .stage ≡ 3 * length (w .triangles) + 6 * length (w .hull) + 4
-  pub limit : w .frame .limit ≡ 4 * length (w .triangles) + 8 * length (w .hull) + 4
+  pub limit : w .frame .limit ≡ 3 * length (w .triangles) + length (w .triangles) / 3 + 7 * length (w .hull) + 6
   pub places : g .sites < length (w .offsets)
   pub started : Started (w .triangles) (w .hull) (g .found) (g .sites) (w .offsets)
   pub four : length (g .found) ≡ 4

@@ -2,4 +2,5 @@
 pub mod Early
 pub mod HullAndEdgeTries
 pub mod OneTry
+pub mod RingShort
 pub mod TriedRings

@@ -4,7 +4,7 @@ use mathlib.Core.List.{List}
 use Prim.Native.Nat.{ℕ, _+_, _≤_, _<_}
 use lib.ListN.{length, getD}
 use lib.Seq.{sets}
-use Rattle.mesh.specs.Mesh.{Paired}
+use Rattle.mesh.specs.Mesh.{wholeOf, Paired}
 
 -- l stands from `at` on, `end` is the place after it, and nothing else has changed
 pub record Staged (l : List ℕ) (at : ℕ) (old new : List ℕ) (end : ℕ) : Type 0 where
@@ -16,5 +16,5 @@ pub record Stages (tri he hull table ix : List ℕ) (at xs i : ℕ) : Type 0 whe
   pub paired : Paired tri he
   pub place : i < length hull
   pub site : getD hull i 0 < length table
-  pub stage : at + length he + 2 ≤ xs
+  pub stage : at + length (wholeOf he (getD table (getD hull i 0) 0)) + 2 ≤ xs
   pub numbers : xs + length hull ≤ length ix

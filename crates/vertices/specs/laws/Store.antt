@@ -1,22 +1,27 @@
 -- The store's laws: what is poured is held, and pouring goes on from where it was; the vertices that were there stay; what a reused and an added
 -- vertex leave.
-use Prim.Native.Nat.{ℕ, _+_, _-_, _*_, _≤_, _<_}
+use Prim.Native.Nat.{ℕ, suc, _+_, _-_, _*_, _≤_, _<_}
 use mathlib.Core.Path.{_≡_, refl, sym, ap, _∙_}
 use mathlib.Core.Bool.{Bool, true, false}
 use mathlib.Core.List.{List, [], _∷_, _++_, append-nil, append-assoc}
+use mathlib.Core.Logic.{⊎-elim}
 use native.Mathlib.Omega.{arith}
 use native.Mathlib.Numerals.{add-one}
 use native.Mathlib.Nat.{add-zero}
 use lib.Dec.{ltb}
 use lib.Ieee.{Float, nan}
-use lib.ListN.{length, getD, take, drop, set, length-set, length-append}
-use lib.Seq.{take-suc, take-all, take-at, getD-take, length-take-le}
+use lib.ListN.{length, getD, take, drop, set, length-set, length-append, length-drop}
+use lib.Seq.{take-suc, take-all, take-at, getD-take, length-take-le, take-set-le, drop-set-add, getD-drop, getD-set-same, getD-set-other}
 use Rattle.base.specs.common.Pick.{pick}
+use Rattle.base.specs.common.laws.Decide.{lt-or-ge}
 use Rattle.plane.specs.points.Plane.{at}
 use Rattle.plane.specs.declared.points.Point.{Point}
-use Rattle.plane.specs.points.Flat.{points, pointsFrom, flat, pour}
+use Rattle.plane.specs.points.Flat.{pointAt, points, pointsFrom, flat, pour}
 use Rattle.vertices.specs.Add.{findNear, addVertex}
 use Rattle.vertices.specs.Store.{Holds, Poured, Leaves, PlacedAs}
+use Rattle.vertices.specs.buckets.Slots.{midOf, slotBy, slotHung, headsOf, hungOf, Hang}
+use Rattle.vertices.specs.buckets.Steps.{SlotsFree, HangsIn}
+use Rattle.vertices.specs.buckets.laws.Hanging.{slot-small, hang-none, hang-kept, hang-more}
 use Rattle.vertices.specs.laws.Points.{add-old, add-new, length-points, points-pour, pour-points, pour-pour, pour-snoc, length-pour, flat-append, flat-points, getD-points}
 
 -- ---- poured vertices
@@ -79,6 +84,101 @@ kept-vertex v v₁ n m i d e h k =
     ∙ ap (λ (y : Float). at (getD v (2 * i) nan) y) (kept-at v v₁ n (2 * i + 1) e (omega arith))
     ∙ sym (getD-points v n i d (omega arith))
 
+-- ---- one point more after the vertices
+
+module _ (nc limit n : ℕ) (p : Point) (v : List Float) (ix ix₁ : List ℕ) (h : Holds nc n v (drop limit ix)) (r : 2 * n + 2 ≤ length v) (g : HangsIn limit (n - nc) p ix ix₁) where
+  abbrev after : List Float
+  after = set (set v (2 * n) (p .x)) (2 * n + 1) (p .y)
+
+  abbrev heads : ℕ
+  heads = headsOf (length (drop limit ix))
+
+  tail-long : length (drop limit ix) ≡ length ix - limit
+  tail-long = length-drop limit ix
+
+  -- what stood before n stands there still, and p at n
+  other : (j : ℕ) → j < n → pointAt after j ≡ pointAt v j
+  other j l =
+      rw (
+        getD-set-other (set v (2 * n) (p .x)) (2 * n + 1) (2 * j) (p .y) nan (λ q. omega arith),
+        getD-set-other v (2 * n) (2 * j) (p .x) nan (λ q. omega arith),
+        getD-set-other (set v (2 * n) (p .x)) (2 * n + 1) (2 * j + 1) (p .y) nan (λ q. omega arith),
+        getD-set-other v (2 * n) (2 * j + 1) (p .x) nan (λ q. omega arith),
+      )
+
+  there : pointAt after n ≡ p
+  there =
+      rw (
+        getD-set-other (set v (2 * n) (p .x)) (2 * n + 1) (2 * n) (p .y) nan (λ q. omega arith),
+        getD-set-same v (2 * n) (p .x) nan (omega arith),
+        getD-set-same (set v (2 * n) (p .x)) (2 * n + 1) (p .y) nan (rw (length-set v (2 * n) (p .x)) (omega arith)),
+      )
+
+  before : Hang nc (hungOf (n - nc) (length (drop limit ix))) after (drop limit ix)
+  before = hang-kept (λ k l. other (nc + k) (omega (arith, h .centers))) (h .hang)
+
+  -- with a link, and without one
+  module _ (l : n - nc < 3 * heads) where
+    abbrev m : ℕ
+    m = slotBy heads (midOf (p .x)) (midOf (p .y))
+
+    written : ix₁ ≡ set (set ix (limit + (heads + (n - nc))) (getD ix (limit + m) 0)) (limit + m) (suc (n - nc))
+    written = let w = g .linked (omega (arith, tail-long)) in rw (← tail-long) at w
+
+    tail-is : drop limit ix₁ ≡ set (set (drop limit ix) (heads + (n - nc)) (getD (drop limit ix) m 0)) m (suc (n - nc))
+    tail-is =
+        ap (drop limit) written
+        ∙ drop-set-add limit (set ix (limit + (heads + (n - nc))) (getD ix (limit + m) 0)) m (suc (n - nc))
+        ∙ ap (λ (t : List ℕ). set t m (suc (n - nc))) (drop-set-add limit ix (heads + (n - nc)) (getD ix (limit + m) 0) ∙ ap (set (drop limit ix) (heads + (n - nc))) (sym (getD-drop limit ix m 0)))
+
+    same-tail : length (drop limit ix₁) ≡ length (drop limit ix)
+    same-tail =
+        ap length tail-is
+        ∙ length-set (set (drop limit ix) (heads + (n - nc)) (getD (drop limit ix) m 0)) m (suc (n - nc))
+        ∙ length-set (drop limit ix) (heads + (n - nc)) (getD (drop limit ix) m 0)
+
+    linked-hang : Hang nc (hungOf (n + 1 - nc) (length (drop limit ix₁))) after (drop limit ix₁)
+    linked-hang =
+        let a : hungOf (n - nc) (length (drop limit ix)) ≡ n - nc = omega arith in
+        let b : hungOf (n + 1 - nc) (length (drop limit ix₁)) ≡ suc (n - nc) = omega (arith, same-tail, h .centers) in
+        let c : nc + (n - nc) ≡ n = omega (arith, h .centers) in
+        let s : slotHung heads after nc (n - nc) ≡ m = ap (λ (q : Point). slotBy heads (midOf (q .x)) (midOf (q .y))) (ap (pointAt after) c ∙ there) in
+        rw (b, tail-is) (hang-more (rw a at before) l s (slot-small heads (midOf (p .x)) (midOf (p .y)) (omega arith)))
+
+    linked-body : take limit ix₁ ≡ take limit ix
+    linked-body =
+        ap (take limit) written
+        ∙ take-set-le limit (set ix (limit + (heads + (n - nc))) (getD ix (limit + m) 0)) (limit + m) (suc (n - nc)) (omega arith)
+        ∙ take-set-le limit ix (limit + (heads + (n - nc))) (getD ix (limit + m) 0) (omega arith)
+
+  module _ (l : 3 * heads ≤ n - nc) where
+    same : ix₁ ≡ ix
+    same = g .past (omega (arith, tail-long))
+
+    past-hang : Hang nc (hungOf (n + 1 - nc) (length (drop limit ix₁))) after (drop limit ix₁)
+    past-hang =
+        let a : hungOf (n - nc) (length (drop limit ix)) ≡ hungOf (n + 1 - nc) (length (drop limit ix)) = omega arith in
+        rw (same, ← a) before
+
+  pub appended : Leaves nc limit (points n v ++ p ∷ []) v ix (n + 1) after ix₁
+  appended =
+      let c = h .centers in
+      record {
+        verts = poured-snoc p (poured-none n v (h .room)) r;
+        body = ⊎-elim linked-body (λ l. ap (take limit) (same l)) (lt-or-ge (n - nc) (3 * heads));
+        holds = record { centers = omega arith; room = simp length-set (omega arith); hang = ⊎-elim linked-hang past-hang (lt-or-ge (n - nc) (3 * heads)) };
+      }
+
+-- one after what was there
+pub leaves-then :
+    {nc limit n : ℕ} {vs : List Point} {v v₁ v₂ : List Float} {ix ix₁ ix₂ : List ℕ} (p : Point)
+    → Leaves nc limit vs v ix n v₁ ix₁ → 2 * n ≤ length v → Leaves nc limit (points n v₁ ++ p ∷ []) v₁ ix₁ (n + 1) v₂ ix₂ → Leaves nc limit (vs ++ p ∷ []) v ix (n + 1) v₂ ix₂
+leaves-then {n = n} {vs} {v} {v₁} {v₂} p a h b = record {
+  verts = poured-then (a .verts) (rw (poured-points (a .verts)) at (b .verts)) (omega arith) h;
+  body = b .body ∙ a .body;
+  holds = b .holds;
+}
+
 -- ---- one point added
 
 module _ (nc limit n : ℕ) (p : Point) (v : List Float) (ix : List ℕ) (h : Holds nc n v (drop limit ix)) (i : ℕ) (e : i ≡ findNear p (pointsFrom v nc (n - nc)) nc) where
@@ -92,50 +192,44 @@ module _ (nc limit n : ℕ) (p : Point) (v : List Float) (ix : List ℕ) (h : Ho
         record { verts = poured-none n v (h .room); body = refl; holds = h },
       )
 
-  pub appended :
-      i ≡ n
-      → 2 * n + 2 ≤ length v
+  pub fresh :
+      {v₁ : List Float} {ix₁ : List ℕ}
+      → i ≡ n
+      → Leaves nc limit (points n v ++ p ∷ []) v ix (n + 1) v₁ ix₁
       → PlacedAs n (addVertex nc (points n v) p) (record { at = n; fresh = true; count = n + 1 })
-      × Leaves nc limit (addVertex nc (points n v) p .verts) v ix (n + 1) (set (set v (2 * n) (p .x)) (2 * n + 1) (p .y)) ix
-  appended k r =
-      let c = h .centers in
-      rw (add-new v nc n i p (h .centers) k e) (
-        record { at = refl; fresh = refl; below = omega arith; low = omega arith; high = omega arith },
-        record {
-          verts = poured-snoc p (poured-none n v (h .room)) r;
-          body = refl;
-          holds = record { centers = omega arith; room = simp length-set (omega arith) };
-        },
-      )
+      × Leaves nc limit (addVertex nc (points n v) p .verts) v ix (n + 1) v₁ ix₁
+  fresh k l = rw (add-new v nc n i p (h .centers) k e) (record { at = refl; fresh = refl; below = omega arith; low = omega arith; high = omega arith }, l)
 
 -- ---- the corners
 
-module _ (nc : ℕ) (v : List Float) (corners : List Point) where
-  pub corner-none : 2 * nc ≤ length v → Poured (points nc v ++ take 0 corners) v (nc + 0) v
-  corner-none h = rw (append-nil (points nc v), add-zero nc) (poured-none nc v h)
+module _ (nc limit : ℕ) (v : List Float) (ix : List ℕ) (corners : List Point) where
+  pub corner-none : {old : List ℕ} → 2 * nc ≤ length v → SlotsFree limit old ix → Leaves nc limit (points nc v ++ take 0 corners) v ix (nc + 0) v ix
+  corner-none h g =
+      rw (append-nil (points nc v), add-zero nc) (record {
+        verts = poured-none nc v h;
+        body = refl;
+        holds = record {
+          centers = omega arith;
+          room = h;
+          hang =
+              (let z : hungOf (nc - nc) (length (drop limit ix)) ≡ 0 = omega arith in
+              rw z (hang-none nc v (drop limit ix) (λ m l. getD-drop limit ix m 0 ∙ g .free m (rw (length-drop limit ix) at l))));
+        };
+      })
 
   pub corner-more :
-      (k : ℕ) (v₁ : List Float) (d : Point)
-      → Poured (points nc v ++ take k corners) v (nc + k) v₁
+      (k : ℕ) {v₁ v₂ : List Float} {ix₁ ix₂ : List ℕ} (d : Point)
+      → Leaves nc limit (points nc v ++ take k corners) v ix (nc + k) v₁ ix₁
       → k < length corners
-      → 2 * (nc + k) + 2 ≤ length v
-      → Poured (points nc v ++ take (k + 1) corners) v (nc + (k + 1))
-      (set (set v₁ (2 * (nc + k)) (getD corners k d .x)) (2 * (nc + k) + 1) (getD corners k d .y))
-  corner-more k v₁ d h l r =
+      → 2 * (nc + k) ≤ length v
+      → Leaves nc limit (points (nc + k) v₁ ++ getD corners k d ∷ []) v₁ ix₁ (nc + k + 1) v₂ ix₂
+      → Leaves nc limit (points nc v ++ take (k + 1) corners) v ix (nc + (k + 1)) v₂ ix₂
+  corner-more k d h l r g =
       let e : nc + (k + 1) ≡ nc + k + 1 = omega arith in
-      rw (e, add-one k, take-suc corners k d l, ← append-assoc (points nc v) (take k corners) (getD corners k d ∷ []))
-      (poured-snoc (getD corners k d) h r)
+      rw (e, add-one k, take-suc corners k d l, ← append-assoc (points nc v) (take k corners) (getD corners k d ∷ [])) (leaves-then (getD corners k d) h r g)
 
-  pub corner-all :
-      (limit : ℕ) (ix : List ℕ) (k : ℕ) (v₁ : List Float)
-      → Poured (points nc v ++ take k corners) v (nc + k) v₁
-      → k ≡ 4
-      → length corners ≡ 4
-      → 2 * (nc + 4) ≤ length v₁
-      → Leaves nc limit (points nc v ++ corners) v ix (nc + 4) v₁ ix
-  corner-all limit ix k v₁ h e l r =
-      record {
-        verts = rw (← e) (rw (take-all k corners (omega arith)) at h);
-        body = refl;
-        holds = record { centers = omega arith; room = r };
-      }
+  pub corner-all : (k : ℕ) {v₁ : List Float} {old ix₁ : List ℕ} → SlotsFree limit old ix → Leaves nc limit (points nc v ++ take k corners) v ix (nc + k) v₁ ix₁ → k ≡ 4 → length corners ≡ 4
+      → Leaves nc limit (points nc v ++ corners) v old (nc + 4) v₁ ix₁
+  corner-all k {v₁} {old} {ix₁} g h e l =
+      let all : Leaves nc limit (points nc v ++ corners) v ix (nc + 4) v₁ ix₁ = rw (← e) (rw (take-all k corners (omega arith)) at h) in
+      record { verts = all .verts; body = all .body ∙ g .body; holds = all .holds }

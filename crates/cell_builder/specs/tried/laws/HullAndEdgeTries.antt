@@ -14,12 +14,13 @@ use Rattle.definition.specs.Build.{CellState, ringFrom, hullRing}
 use Rattle.definition.specs.Measures.{shareOf}
 use Rattle.build_laws.specs.laws.AllCells.{ring-share, hull-share}
 use Rattle.cell_memory.specs.staging.Staging.{Staged, Stages}
-use Rattle.cell_memory.specs.staging.laws.Staging.{ring-room}
 use Rattle.cell_memory.specs.outputs.laws.Marks.{empty-still, full-already}
 use Rattle.cell_builder.specs.tried.CellsInSlices.{plan, Ground, Amid, Does, hullTry, edgeTry}
 use Rattle.cell_builder.specs.tried.Tries.{Ringed, Tried}
 use Rattle.cell_builder.specs.declared.tried.Frame.{Frame}
 use Rattle.cell_builder.specs.declared.finish.Progress.{Progress}
+use Rattle.cell_builder.specs.tried.laws.Early.{InsideSite}
+use Rattle.cell_builder.specs.tried.laws.RingShort.{ring-short, walk-short}
 use Rattle.cell_builder.specs.tried.laws.TriedRings.{ring-below, ring-some, Below, hull-some, hull-below, hull-short, hull-same}
 use Rattle.cell_builder.specs.tried.laws.OneTry.{region-room, region-within, count-is, corners-in, ringed, tried}
 
@@ -41,7 +42,7 @@ module _ {tri he hull table : List ℕ} {f : Frame} {off : List ℕ} {g : Ground
       paired = paired (on .mesh);
       place = place;
       site = rw (on .table-is, tab-length (on .mesh)) hull-site;
-      stage = omega (arith, on .stage, on .limit, on .three-on-hull, on .mesh .same);
+      stage = omega (arith, on .stage, on .limit, walk-short (on .mesh) (getD table (getD hull i 0) 0));
       numbers = omega (arith, numbers-before, on .room-ix);
     }
 
@@ -60,8 +61,8 @@ module _ {tri he hull table : List ℕ} {f : Frame} {off : List ℕ} {g : Ground
       staged : Staged ring (f .stage) ix ix₁ end
       staged = rw ring-now at st
 
-      short : length ring ≤ length tri + 2
-      short = hull-short tri he hull table (g .x) i (paired (a .on .mesh)) (a .on .mesh .same)
+      short : length ring ≤ length tri / 3 + 2
+      short = hull-short tri he hull table (g .x) i (a .on .mesh)
 
       below : Below (p .count) ring
       below j l = let on = a .on in omega (
@@ -101,15 +102,15 @@ module _ {tri he hull table : List ℕ} {f : Frame} {off : List ℕ} {g : Ground
     pub edge-kept : getD ix (getD off site 0) 0 ≢ EMPTY → Does (plan tri he hull table f off) g (edgeTry (plan tri he hull table f off) e s) p v ix
     edge-kept n = let full = full-already ix off (s .cells) (a .regions) site in-cells region-some n in rw (← q, full) a
 
-    pub stage-room : f .stage + length he ≤ length ix
-    stage-room = omega (arith, a .on .stage, a .on .limit, a .on .room-ix, a .on .mesh .same)
+    pub stage-room : f .stage + length (wholeOf he e) ≤ length ix
+    stage-room = omega (arith, a .on .stage, a .on .limit, a .on .room-ix, walk-short (a .on .mesh) e)
 
     module _ (m : getD ix (getD off site 0) 0 ≡ EMPTY) {ix₁ : List ℕ} {end : ℕ} (st : Staged (ringFrom he e) (f .stage) ix ix₁ end) where
       blank-edge : getD (s .cells) site [] ≡ []
       blank-edge = empty-still ix off (s .cells) (a .regions) site in-cells m
 
-      short-edge : length (ringFrom he e) ≤ length tri + 2
-      short-edge = omega (arith, ring-room tri he e 0 [] (paired (a .on .mesh)), a .on .mesh .same)
+      short-edge : length (ringFrom he e) ≤ length tri / 3 + 2
+      short-edge = omega (arith, ring-short (a .on .mesh) e)
 
       below-edge : Below (p .count) (ringFrom he e)
       below-edge j l = omega (arith, ring-below {tri = tri} (paired (a .on .mesh)) e j l, corners-in a, a .on .mesh .same)

@@ -122,7 +122,7 @@ module _ {tri he hull table : List ℕ} {f : Frame} {off : List ℕ} {g : Ground
   sides-in = let on = a .on in rw (on .centers, ← a .verts) (corners-kept (f .bounds) (length tri / 3) (g .x .verts) (s .verts) _ (a .held .grown) (on .low) (on .sides))
 
   module _ {site : ℕ} (l : site < g .sites) (blank : getD (s .cells) site [] ≡ []) {ring : List ℕ} (some : 0 < length ring)
-      (paid : length ring ≤ shareOf tri hull site) (short : length ring ≤ length tri + 2)
+      (paid : length ring ≤ shareOf tri hull site) (short : length ring ≤ length tri / 3 + 2)
       (below : (j : ℕ) → j < length ring → getD ring j 0 < p .count) {ix₁ : List ℕ} {end : ℕ} (st : Staged ring (f .stage) ix ix₁ end) where
     before-numbers : f .stage + length ring ≤ f .limit - length hull
     before-numbers = let on = a .on in omega (arith, on .stage, on .limit, on .three-on-hull)

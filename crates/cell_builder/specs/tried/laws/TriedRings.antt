@@ -6,13 +6,14 @@ use native.Mathlib.Omega.{arith}
 use lib.Dec.{eqb}
 use lib.ListN.{length, getD, length-map, length-append, List·getD-map}
 use Rattle.mesh.specs.Mesh.{walkOf, wholeOf, Paired}
+use Rattle.mesh.specs.Accepted.{Topology}
 use Rattle.mesh.specs.laws.WalkSteps.{walk-go}
 use Rattle.mesh.specs.laws.Walks.{walk-ends}
 use Rattle.mesh.specs.laws.Occurs.{occ-there}
 use Rattle.definition.specs.Build.{ringFrom, hullRing, Extensions}
 use Rattle.definition.specs.laws.Gives.{picked}
 use Rattle.build_laws.specs.laws.Start.{Beyond}
-use Rattle.cell_memory.specs.staging.laws.Staging.{ring-room}
+use Rattle.cell_builder.specs.tried.laws.RingShort.{ring-short}
 
 -- of a walk
 module _ {tri he : List ℕ} (ok : Paired tri he) (e : ℕ) where
@@ -61,12 +62,12 @@ module _ (tri he hull table : List ℕ) (x : Extensions) (i : ℕ) where
       (λ t. below-append n (getD (x .at) (i - 1) 0 ∷ ring) (getD (x .at) i 0 ∷ [])
       (below-cons n (getD (x .at) (i - 1) 0) ring (beyond (i - 1) (omega (arith, counted)) .1) r) (below-one n (getD (x .at) i 0) (beyond i (omega (arith, counted)) .1)))
 
-  pub hull-short : Paired tri he → length he ≡ length tri → length (hullRing he hull table (x .at) i) ≤ length tri + 2
+  pub hull-short : {n : ℕ} → Topology tri he hull n → length (hullRing he hull table (x .at) i) ≤ length tri / 3 + 2
   unfolding hullRing
-  hull-short ok same =
+  hull-short top =
       let e = getD table (getD hull i 0) 0 in
-      let r : length (ringFrom he e) ≤ length tri = omega (arith, ring-room tri he e 0 [] ok, same) in
-      picked (λ (l : List ℕ). length l ≤ length tri + 2) (eqb i 0) _ _
+      let r = ring-short top e in
+      picked (λ (l : List ℕ). length l ≤ length tri / 3 + 2) (eqb i 0) _ _
       (λ t. omega arith)
       (λ t. omega (arith, length-append (ringFrom he e) (getD (x .at) i 0 ∷ [])))
 

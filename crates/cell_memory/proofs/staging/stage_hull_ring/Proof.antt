@@ -1,10 +1,28 @@
 -- `cell_memory::staging::stage_hull_ring` meets its contract: the first place's ring has its extension after it first.
-use mathlib.Core.Path.{refl, ap}
+use mathlib.Core.Path.{_≡_, refl, ap}
+use native.Mathlib.Omega.{arith}
 use lib.ListN.{getD}
 use Rattle.cell_memory.specs.staging.laws.HullRing.{first-ring, later-ring}
 use borrow.Author.Needs.{needs}
 use Rattle.cell_memory.proofs.staging.stage_hull_ring.Statement.{statement}
 use Rattle.cell_memory.proofs.staging.stage_hull_ring.Tie as tie
+
+-- the walk has room before the extensions' numbers
+stage-first-requires : tie.Need-stage-first-requires
+stage-first-requires c κs =
+    let at-wide = c .before .before .before .before .before in
+    let s = at-wide .before .before .before .before .before .before .before in
+    let t = s .args .table .now in
+    let q : getD t (at-wide .wide .result) 0 ≡ getD t (getD (s .args .hull .now) (s .args .i) 0) 0 = ap (λ k. getD t k 0) (at-wide .wide .ensures) in
+    (s .pre .paired, rw q (omega (arith, s .pre .stage, s .pre .numbers)))
+
+stage-later-requires : tie.Need-stage-later-requires
+stage-later-requires c κs =
+    let at-wide = c .before .before .before .before .before in
+    let s = at-wide .before .before .before .before .before .before .before in
+    let t = s .args .table .now in
+    let q : getD t (at-wide .wide .result) 0 ≡ getD t (getD (s .args .hull .now) (s .args .i) 0) 0 = ap (λ k. getD t k 0) (at-wide .wide .ensures) in
+    (s .pre .paired, rw q (omega (arith, s .pre .stage, s .pre .numbers)))
 
 returns : tie.Need-returns
 returns c =
@@ -27,6 +45,6 @@ stage-hull-ring-spec =
     tie.close
     (tie.spec (λ c. search needs) (λ c. search needs) (λ c κs. search needs) (λ c. search needs) (λ c. search needs)
     (λ c. search needs) (λ c. search needs) (λ c. search needs) (λ c. search needs) (λ c. search needs)
-    (λ c. search needs) (λ c κs. search needs) (λ c. search needs) returns (λ c. search needs) (λ c. search needs)
+    (λ c. search needs) stage-first-requires (λ c. search needs) returns (λ c. search needs) (λ c. search needs)
     (λ c. search needs) (λ c. search needs) (λ c. search needs) (λ c. search needs) (λ c. search needs)
-    (λ c κs. search needs) (λ c. search needs) returns-2)
+    stage-later-requires (λ c. search needs) returns-2)

@@ -3,7 +3,7 @@ use mathlib.Core.Path.{_∙_}
 use native.Mathlib.Omega.{arith}
 use lib.ListN.{length, length-set}
 use Prim.Native.Nat.{_<_}
-use Rattle.cell_memory.specs.staging.laws.Staging.{ring-room}
+use Rattle.cell_memory.specs.staging.laws.Staging.{ring-long}
 use Rattle.cell_memory.specs.staging.laws.HullRing.{staged-cons, staged-snoc}
 use borrow.Author.Needs.{needs}
 use Rattle.cell_memory.proofs.staging.stage_later.Statement.{statement}
@@ -16,7 +16,7 @@ stage-ring-requires c κs = (c .before .before .before .before .pre .0, simp len
 within : (c : tie.After-stage-ring) → c .stage-ring .result < length (c .before .before .before .before .before .args .indexes .now)
 within c =
     let s = c .before .before .before .before .before in
-    omega (arith, c .stage-ring .ensures .ended, ring-room (s .args .triangles .now) (s .args .halfedges .now) (s .args .e) 0 (s .args .indexes .now) (s .pre .0), s .pre .1)
+    omega (arith, c .stage-ring .ensures .ended, ring-long (s .args .halfedges .now) (s .args .e), s .pre .1)
 
 mul-indexes-2 : tie.Need-mul-indexes-2
 mul-indexes-2 c = omega (arith, within (c .before .before))
@@ -33,7 +33,7 @@ same-length c = simp length-set (c .before .before .stage-ring .kept .1 .1 .1 .0
 returns : tie.Need-returns
 returns c =
     let s = c .before .before .before .before .before .before .before in
-    let r = ring-room (s .args .triangles .now) (s .args .halfedges .now) (s .args .e) 0 (s .args .indexes .now) (s .pre .0) in
+    let r = ring-long (s .args .halfedges .now) (s .args .e) in
     staged-cons _ _ _ _ _ _ (omega arith) (staged-snoc _ _ _ _ _ _ (simp length-set (omega (arith, r, s .pre .1))) (c .before .before .stage-ring .ensures))
 
 pub stage-later-spec : {M : Type 1} → statement M

@@ -5,7 +5,7 @@ use native.Mathlib.Omega.{arith}
 use lib.ListN.{length}
 use borrow.Author.Needs.{needs}
 use Rattle.mesh.specs.Mesh.{wholeOf}
-use Rattle.cell_memory.specs.staging.laws.Staging.{Staging, staging-start, walk-room, staging-place, staging-less, staging-step, staging-end}
+use Rattle.cell_memory.specs.staging.laws.Staging.{Staging, staging-start, staging-place, staging-less, staging-step, staging-end}
 use Rattle.cell_memory.proofs.staging.stage_ring.Statement.{statement}
 use Rattle.cell_memory.proofs.staging.stage_ring.Tie as tie
 
@@ -20,7 +20,7 @@ Entry l = l .before .before .before .before .before
 
 -- the whole ring fits behind `at`
 room : (l : tie.At-loop Inv-loop μ-loop) → Entry l .args .at + length (wholeOf (Entry l .args .halfedges .now) (Entry l .args .s)) ≤ length (Entry l .args .indexes .now)
-room l = omega (arith, walk-room (Entry l .args .triangles .now) (Entry l .args .halfedges .now) (Entry l .args .s) 0 (Entry l .args .indexes .now) (Entry l .pre .0), Entry l .pre .1)
+room l = Entry l .pre .1
 
 place : (c : tie.In-loop Inv-loop μ-loop) → c .before .loop .n < length (c .before .loop .indexes)
 place c = staging-place _ _ _ _ _ _ _ _ (c .before .loop .inv) (c .loop-test .taken) (room (c .before))

@@ -1,16 +1,12 @@
 -- The loop that stages a ring: what is left of the walk is what is left to be written.
 use mathlib.Core.Path.{_≡_, refl, sym, ap, _∙_}
 use mathlib.Core.List.{List, [], _∷_}
-use mathlib.Core.Logic.{⊎-elim}
 use Prim.Native.Nat.{ℕ, zero, suc, _+_, _-_, _/_, _≤_, _<_}
 use native.Mathlib.Omega.{arith}
 use lib.ListN.{length, length-map, getD, set, drop, take, length-set, length-drop, List·getD-map}
 use lib.Seq.{sets, take-all}
 use Rattle.base.specs.common.laws.Stores.{sets-more}
-use Rattle.base.specs.common.laws.Decide.{lt-or-ge}
 use Rattle.mesh.specs.Mesh.{turnOf, wholeOf, Paired}
-use Rattle.mesh.specs.laws.WalkSteps.{walk-done}
-use Rattle.mesh.specs.laws.Walks.{walk-short}
 use Rattle.walks.specs.neighbours.laws.Rest.{settled-start, rest-step, rest-settled, rest-done}
 use Rattle.walks.specs.neighbours.Cursor.{restOf, Settled}
 use Rattle.definition.specs.Build.{ringFrom}
@@ -21,6 +17,10 @@ drop-head [] zero x r q = absurd (omega (arith, ap length q))
 drop-head [] (suc k) x r q = absurd (omega (arith, ap length q))
 drop-head (y ∷ l) zero x r q = (omega arith, cc, cc)
 drop-head (y ∷ l) (suc k) x r q = let h = drop-head l k x r q in (omega (arith, h .0), h .1, h .2)
+
+-- a ring is as long as its walk
+pub ring-long : (he : List ℕ) (s : ℕ) → length (ringFrom he s) ≡ length (wholeOf he s)
+ring-long he s = length-map (wholeOf he s) (λ f. f / 3)
 
 module _ (tri he : List ℕ) (s at : ℕ) (old : List ℕ) where
   -- k entries are written, and the walk stands at e
@@ -43,16 +43,6 @@ module _ (tri he : List ℕ) (s at : ℕ) (old : List ℕ) where
         written = rw z refl;
         long = refl;
       })
-
-  pub walk-room : Paired tri he → length (wholeOf he s) ≤ length he
-  walk-room ok =
-      ⊎-elim
-      (λ l. walk-short tri he ok s l (length he))
-      (λ l. omega (arith, ap length (walk-done he s (length he) s l)))
-      (lt-or-ge s (length he))
-
-  pub ring-room : Paired tri he → length (ringFrom he s) ≤ length he
-  ring-room ok = omega (arith, length-map (wholeOf he s) (λ f. f / 3), walk-room ok)
 
   module _ (new : List ℕ) (e n : ℕ) (g : Staging new e n) (h : e < length he) where
     next-entry : (n - at < length (wholeOf he s)) × (getD (wholeOf he s) (n - at) 0 ≡ e) × (drop (suc (n - at)) (wholeOf he s) ≡ restOf he s (turnOf he s e))

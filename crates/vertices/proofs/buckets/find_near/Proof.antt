@@ -1,4 +1,4 @@
--- `vertices::find_near` meets its contract: what the search finds from place i on is what it finds from the start, as nothing before i is near.
+-- `vertices::buckets::find_near` meets its contract: what the search finds from place i on is what it finds from the start, as nothing before i is near.
 use Prim.Native.Nat.{_-_, _≤_}
 use mathlib.Core.Path.{_≡_, refl, sym, ap, _∙_}
 use native.Mathlib.Omega.{arith}
@@ -6,8 +6,8 @@ use borrow.Author.Needs.{needs}
 use Rattle.vertices.specs.Add.{nearPt, findNear}
 use Rattle.plane.specs.points.Flat.{pointsFrom}
 use Rattle.vertices.specs.laws.Points.{near-hit, near-miss, near-end}
-use Rattle.vertices.proofs.find_near.Statement.{statement}
-use Rattle.vertices.proofs.find_near.Tie as tie
+use Rattle.vertices.proofs.buckets.find_near.Statement.{statement}
+use Rattle.vertices.proofs.buckets.find_near.Tie as tie
 
 abbrev Inv-loop : tie.InvT-loop
 Inv-loop v from count p i₀ i =

@@ -1,0 +1,54 @@
+-- `vertices::buckets::find` meets its contract: the chain of the point's slot has all that is near among those that hang, and the others are tried one by one.
+use denote.Ref.{now}
+use mathlib.Core.Path.{_≡_}
+use Prim.Native.Nat.{ℕ, _+_, _-_, _≤_, _<_, min}
+use native.Mathlib.Omega.{arith}
+use borrow.Author.Needs.{needs}
+use Rattle.vertices.specs.buckets.laws.Chains.{chained, found-hung, found-past}
+use Rattle.vertices.proofs.buckets.find.Statement.{statement}
+use Rattle.vertices.proofs.buckets.find.Tie as tie
+
+few-of : {h : ℕ} (c l : ℕ) → h ≡ min c l → h ≤ c
+few-of c l e = omega arith
+
+within-count : {i nc count h : ℕ} → nc ≤ count → h ≤ count - nc → i < nc + h → i ≤ count
+within-count a b c = omega arith
+
+in-chain-requires : tie.Need-in-chain-requires
+in-chain-requires c κs =
+    let at-slot = c in
+    let at-low2 = c .before in
+    let at-low = at-low2 .before in
+    let at-least = at-low .before in
+    let test = at-least .before in
+    let at-narrow2 = test .before in
+    let at-narrow = at-narrow2 .before in
+    let some = at-narrow .before in
+    let at-heads = some .before in
+    let s = at-heads .before .before .before in
+    chained (s .pre) (at-heads .heads-in .ensures) (some .if1 .left) (at-least .least .ensures) (at-narrow .narrow .ensures) (at-narrow2 .narrow2 .ensures) (test .if2 .taken)
+    (at-low .low .ensures) (at-low2 .low2 .ensures) (at-slot .slot .ensures)
+
+returns-2 : tie.Need-returns-2
+returns-2 c =
+    let at-chain = c .before in
+    let at-least = at-chain .before .before .before .before in
+    let s = at-least .before .before .before .before .before .before .before .before in
+    let few = few-of (s .args .count - s .args .centers) _ (at-least .least .ensures) in
+    (found-hung (now (s .args .vertices)) (s .args .p) (s .pre .centers) few (at-chain .in-chain .ensures) (c .if3 .taken), within-count (s .pre .centers) few (c .if3 .taken))
+
+returns-3 : tie.Need-returns-3
+returns-3 c =
+    let past = c .before in
+    let at-chain = past .before in
+    let at-least = at-chain .before .before .before .before in
+    let s = at-least .before .before .before .before .before .before .before .before in
+    let few = few-of (s .args .count - s .args .centers) _ (at-least .least .ensures) in
+    (found-past (now (s .args .vertices)) (s .args .p) (s .pre .centers) few (at-chain .in-chain .ensures) (past .if3 .left) (c .find-near2 .ensures .0), c .find-near2 .ensures .1)
+
+pub find-spec : {M : Type 1} → statement M
+find-spec =
+    tie.close
+    (tie.spec (λ c κs. search needs) (λ c κs. search needs) (λ c. search needs) (λ c κs. search needs) (λ c κs. search needs) (λ c. search needs) (λ c. search needs)
+    (λ c κs. search needs) (λ c κs. search needs) (λ c κs. search needs) (λ c κs. search needs) in-chain-requires (λ c. search needs) returns-2 (λ c. search needs)
+    (λ c κs. search needs) returns-3 (λ c κs. search needs) (λ c. search needs))

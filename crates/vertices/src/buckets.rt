@@ -1,0 +1,207 @@
+// How a near vertex is found: those that were added hang in slots by their places on a grid, in the tail of the index list (specs/buckets/Slots.antt). A point within 2^-48 of a border of
+// the grid, and a vertex past the links, is searched for one by one.
+use base::numbers::LARGE;
+use base::numbers::wide;
+use octets::patterns::pattern;
+use plane::points::Point;
+use plane::points::abs_diff_eq;
+use plane::points::point_at;
+use root::magnitude;
+ghost use mathlib.Core.Path.{_≡_};
+ghost use mathlib.Core.Bool.{cond};
+ghost use Prim.Native.Nat.{_-_, _*_, _≤_, min};
+ghost use lib.ListN.{length, drop};
+ghost use Rattle.plane.specs.points.Flat.{pointsFrom};
+ghost use Rattle.vertices.specs.Add.{nearPt, findNear};
+ghost use Rattle.vertices.specs.Store.{Holds};
+ghost use Rattle.vertices.specs.buckets.Slots.{lowOf, midOf, highOf, narrowOf, mixOf, slotBy, headsOf};
+ghost use Rattle.vertices.specs.buckets.Steps.{SlotsFree, HangsIn, SlotChain};
+
+// 2^-49, 2^-48 and 2^21.
+const REACH: f64 = 1.7763568394002505e-15;
+
+const TWICE: f64 = 3.552713678800501e-15;
+
+const SHIFT: f64 = 2097152.0;
+
+fn near_point(p: Point, q: Point) -> bool
+    ensures { λ r. ⌜ r ≡ nearPt p q ⌝ }
+{
+    if abs_diff_eq(p.x, q.x) {
+        return abs_diff_eq(p.y, q.y);
+    }
+    false
+}
+
+// The first of the vertices from `from` on that is near p, else `count`.
+fn find_near(vertices: &[f64], from: usize, count: usize, p: Point) -> usize
+    requires { ⌜ (from ≤ count) × (2 * count ≤ length (now vertices)) ⌝ }
+    ensures { λ r. ⌜ r ≡ findNear p (pointsFrom (now (vertices .entry)) from (count - from)) from ⌝ }
+    ensures { λ r. ⌜ r ≤ count ⌝ }
+{
+    let mut i = from;
+    while i < count {
+        let q = point_at(vertices, i);
+        if near_point(q, p) {
+            return i;
+        }
+        i += 1;
+    }
+    i
+}
+
+// The place of x on the grid, and the lowest and the highest of what is near x.
+fn middle(x: f64) -> f64
+    ensures { λ r. ⌜ r ≡ midOf x ⌝ }
+{
+    magnitude(x) + REACH + SHIFT
+}
+
+fn low(x: f64) -> f64
+    ensures { λ r. ⌜ r ≡ lowOf x ⌝ }
+{
+    magnitude(x) + 0.0 + SHIFT
+}
+
+fn high(x: f64) -> f64
+    ensures { λ r. ⌜ r ≡ highOf x ⌝ }
+{
+    magnitude(x) + TWICE + SHIFT
+}
+
+// Whether all that is near x has one place.
+fn narrow(x: f64) -> bool
+    ensures { λ r. ⌜ r ≡ narrowOf x ⌝ }
+{
+    let a = low(x);
+    let b = high(x);
+    (a == b) & (b <= LARGE)
+}
+
+// 22 digits of two patterns, all of theirs mixed.
+fn mix(a: u64, b: u64) -> u64
+    ensures { λ r. ⌜ r ≡ mixOf a b ⌝ }
+{
+    let x = a % 4294967296 + (a / 4294967296) * 40503;
+    let y = (b % 4294967296) * 60493 + (b / 4294967296) * 51749;
+    (((x + y) % 4294967296) * 2654435769 / 1024) % 4194304
+}
+
+fn broad(x: usize) -> u64
+    ensures { λ r. ⌜ r ≡ x ⌝ }
+{
+    x as u64
+}
+
+// The slot of two places on the grid, of so many.
+fn slot(heads: usize, x: f64, y: f64) -> usize
+    requires { ⌜ heads ≤ 262144 ⌝ }
+    ensures { λ r. ⌜ r ≡ slotBy heads x y ⌝ }
+{
+    (mix(pattern(x), pattern(y)) * broad(heads) / 4194304) as usize
+}
+
+// How many slots there are in so many entries from `limit` on.
+fn heads_in(entries: usize, limit: usize) -> usize
+    ensures { λ r. ⌜ r ≡ headsOf (entries - limit) ⌝ }
+{
+    if entries <= limit {
+        return 0;
+    }
+    let room = entries - limit;
+    if 1048576 < room {
+        return 262144;
+    }
+    room / 4
+}
+
+// Empties all slots.
+pub fn empty(indexes: &mut [u32], limit: usize)
+    ensures { λ _. ⌜ SlotsFree limit (now (indexes .entry)) (now (indexes .exit)) ⌝ }
+{
+    let heads = heads_in(indexes.len(), limit);
+    let mut m: usize = 0;
+    while m < heads {
+        indexes[limit + m] = 0;
+        m += 1;
+    }
+}
+
+// Hangs vertex k after the circumcenters, which is p, if it has a link.
+pub fn hang(indexes: &mut [u32], limit: usize, k: usize, p: Point)
+    ensures { λ _. ⌜ HangsIn limit k p (now (indexes .entry)) (now (indexes .exit)) ⌝ }
+{
+    let heads = heads_in(indexes.len(), limit);
+    if k < 3 * heads {
+        let at = limit + slot(heads, middle(p.x), middle(p.y));
+        indexes[limit + (heads + k)] = indexes[at];
+        indexes[at] = (k + 1) as u32;
+    }
+}
+
+fn choose(c: bool, x: usize, y: usize) -> usize
+    ensures { λ r. ⌜ r ≡ cond c x y ⌝ }
+{
+    if c { x } else { y }
+}
+
+fn least(x: usize, y: usize) -> usize
+    ensures { λ r. ⌜ r ≡ min x y ⌝ }
+{
+    if x < y { x } else { y }
+}
+
+// The first vertex near p among those that hang, which are so many, from the last one in the slot m back; else the number after them.
+fn in_chain(
+    vertices: &[f64],
+    indexes: &[u32],
+    limit: usize,
+    heads: usize,
+    centers: usize,
+    hung: usize,
+    m: usize,
+    p: Point,
+) -> usize
+    requires { ⌜ SlotChain (now vertices) (now indexes) limit heads centers hung m p ⌝ }
+    ensures { λ r. ⌜ r ≡ findNear p (pointsFrom (now (vertices .entry)) centers hung) centers ⌝ }
+{
+    let mut best = centers + hung;
+    let mut x = wide(indexes[limit + m]);
+    while 0 < x {
+        let k = x - 1;
+        let i = centers + k;
+        let near = near_point(point_at(vertices, i), p);
+        best = choose(near, i, best);
+        x = wide(indexes[limit + (heads + k)]);
+    }
+    best
+}
+
+// The first vertex near p after the circumcenters, else `count`.
+pub fn find(
+    vertices: &[f64],
+    indexes: &[u32],
+    limit: usize,
+    centers: usize,
+    count: usize,
+    p: Point,
+) -> usize
+    requires { ⌜ Holds centers count (now vertices) (drop limit (now indexes)) ⌝ }
+    ensures { λ r. ⌜ r ≡ findNear p (pointsFrom (now (vertices .entry)) centers (count - centers)) centers ⌝ }
+    ensures { λ r. ⌜ r ≤ count ⌝ }
+{
+    let heads = heads_in(indexes.len(), limit);
+    if heads == 0 {
+        return find_near(vertices, centers, count, p);
+    }
+    if narrow(p.x) & narrow(p.y) {
+        let hung = least(count - centers, 3 * heads);
+        let m = slot(heads, low(p.x), low(p.y));
+        let i = in_chain(vertices, indexes, limit, heads, centers, hung, m, p);
+        if i < centers + hung {
+            return i;
+        }
+        return find_near(vertices, centers + hung, count, p);
+    }
+    find_near(vertices, centers, count, p)
+}
