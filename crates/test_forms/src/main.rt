@@ -24,7 +24,7 @@ fn sound(sites: usize, triangles: usize, hull: usize) {
     number(hull);
 }
 
-// The kind that opened the form, where it is not a box by centre and size.
+// The kind that opened the form, where it is not a box by center and size.
 fn opened(clip: u8) {
     if clip == 6 {
         io::write_all(STDOUT_FILENO, b" unclipped");

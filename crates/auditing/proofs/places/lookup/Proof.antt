@@ -1,12 +1,12 @@
--- `auditing::places::hangs` meets its contract: none that was passed stands at the place of s, and what hangs in another slot does not.
+-- `auditing::places::lookup` meets its contract: none that was passed stands at the place of s, and what hangs in another slot does not.
 use Prim.{tt}
 use denote.Ref.{now}
 use native.Mathlib.Omega.{arith}
 use Rattle.ring_area.specs.lowest.laws.Loops.{named-twice}
-use Rattle.auditing.specs.places.laws.Passing.{PassedTo, held-slot, held-all, held-within, held-before, held-less, held-one, held-found, held-none}
+use Rattle.auditing.specs.places.laws.Passing.{PassedTo, held-bucket, held-all, held-within, held-before, held-less, held-one, held-found, held-none}
 use Rattle.auditing.specs.places.laws.Twins.{twin-is}
-use Rattle.auditing.proofs.places.hangs.Statement.{statement}
-use Rattle.auditing.proofs.places.hangs.Tie as tie
+use Rattle.auditing.proofs.places.lookup.Statement.{statement}
+use Rattle.auditing.proofs.places.lookup.Tie as tie
 
 abbrev Inv-loop : tie.InvT-loop
 Inv-loop heads links sites a s m place x₀ x = PassedTo sites a s x
@@ -18,10 +18,10 @@ point-at-requires : tie.Need-point-at-requires Inv-loop μ-loop
 point-at-requires c κs = named-twice _ _ (c .before .before .before .pre .in-block .site)
 
 mul-wide : tie.Need-mul-wide Inv-loop μ-loop
-mul-wide c = record { fits = omega (arith, held-slot (c .before .before .before .before .pre)) }
+mul-wide c = record { fits = omega (arith, held-bucket (c .before .before .before .before .pre)) }
 
 shared-slice-read-wide : tie.Need-shared-slice-read-wide Inv-loop μ-loop
-shared-slice-read-wide c = let h = c .before .before .before .before .before .pre in omega (arith, held-slot h, h .in-block .hung .wide)
+shared-slice-read-wide c = let h = c .before .before .before .before .before .pre in omega (arith, held-bucket h, h .in-block .chained .wide)
 
 loop-holds : tie.Need-loop-holds Inv-loop μ-loop
 loop-holds c = held-all (c .before .before .before .before .before .before .pre) (c .wide .ensures)
@@ -59,7 +59,7 @@ shared-slice-read-wide-2 c =
     let in-loop = c .before .before .before .before in
     let l = in-loop .before in
     let h = l .before .before .before .before .before .before .before .pre in
-    omega (arith, held-within h (l .loop .inv) (in-loop .loop-test .taken), h .in-block .hung .long)
+    omega (arith, held-within h (l .loop .inv) (in-loop .loop-test .taken), h .in-block .chained .long)
 
 loop-less : tie.Need-loop-less Inv-loop μ-loop
 loop-less c =
@@ -81,8 +81,8 @@ loop-again c =
 returns-2 : tie.Need-returns-2 Inv-loop μ-loop
 returns-2 c = let l = c .before in held-none (l .before .before .before .before .before .before .before .pre) (l .loop .inv) (c .loop-test .left)
 
-pub hangs-spec : {M : Type 1} → statement M
-hangs-spec =
+pub lookup-spec : {M : Type 1} → statement M
+lookup-spec =
     tie.close
     (tie.spec Inv-loop μ-loop point-at-requires mul-wide shared-slice-read-wide (λ c κs. tt) loop-holds (λ c. omega arith) add-point-at
     point-at-requires-2 (λ c κs. tt) returns mul-wide-2 shared-slice-read-wide-2 (λ c κs. tt) loop-less loop-again returns-2)

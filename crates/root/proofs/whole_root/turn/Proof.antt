@@ -1,12 +1,12 @@
--- `root::digits::turn` meets its contract: a pair brought down, then the digit settled.
+-- `root::whole_root::turn` meets its contract: a pair brought down, then the digit settled.
 use mathlib.Core.Path.{sym, subst, ap, _∙_}
 use Prim.Native.Nat.{_^_, _<_}
 use borrow.Author.Needs.{needs}
-use Rattle.root.specs.declared.digits.Page.{Page}
-use Rattle.root.specs.digits.Turn.{settled}
-use Rattle.root.specs.digits.Widths.{widths}
-use Rattle.root.proofs.digits.turn.Statement.{statement}
-use Rattle.root.proofs.digits.turn.Tie as tie
+use Rattle.root.specs.declared.whole_root.Page.{Page}
+use Rattle.root.specs.whole_root.Turn.{settled}
+use Rattle.root.specs.whole_root.Widths.{widths}
+use Rattle.root.proofs.whole_root.turn.Statement.{statement}
+use Rattle.root.proofs.whole_root.turn.Tie as tie
 
 settle-requires : tie.Need-settle-requires
 settle-requires c κs = subst (λ (q : Page). q .root < 2 ^ 53) (sym (c .bring-down .ensures)) (widths (c .before .pre) .root-moved)

@@ -3,8 +3,8 @@ use mathlib.Core.Path.{_≡_}
 use Prim.Native.Nat.{ℕ, zero, suc, _+_, _-_, _*_, _/_, _%_, _^_, _≤_, _<_}
 use lib.Dec.{leb}
 use Rattle.base.specs.common.Pick.{pick}
-use Rattle.root.specs.digits.Near.{sq}
-use Rattle.root.specs.declared.digits.Page.{Page}
+use Rattle.root.specs.whole_root.Near.{sq}
+use Rattle.root.specs.declared.whole_root.Page.{Page}
 
 -- a pair of digits is brought down beside what is left, and the root gets a place for its next digit
 abbrev pub broughtDown : Page → Page

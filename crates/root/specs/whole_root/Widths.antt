@@ -2,8 +2,8 @@
 -- 2 ^ 63.
 use Prim.Native.Nat.{ℕ, _+_, _-_, _*_, _/_, _%_, _^_, _≤_, _<_}
 use native.Mathlib.Omega.{arith}
-use Rattle.root.specs.declared.digits.Page.{Page}
-use Rattle.root.specs.digits.Turn.{broughtDown, tried, Narrow, Schoolbook}
+use Rattle.root.specs.declared.whole_root.Page.{Page}
+use Rattle.root.specs.whole_root.Turn.{broughtDown, tried, Narrow, Schoolbook}
 
 -- in a turn
 pub record Widths (p : Page) : Type 0 where

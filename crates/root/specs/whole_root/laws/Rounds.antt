@@ -2,7 +2,7 @@
 use mathlib.Core.Path.{_≡_, subst}
 use Prim.Native.Nat.{ℕ, zero, suc, _+_, _-_, _*_, _≤_, _<_}
 use native.Mathlib.Omega.{arith}
-use Rattle.root.specs.digits.Near.{sq, NearWhole}
+use Rattle.root.specs.whole_root.Near.{sq, NearWhole}
 
 -- what r * r leaves of n is at most r: √n is below r + 1/2
 pub near-down : (r n : ℕ) → sq r ≤ n → n ≤ r * r + r → 0 < n → NearWhole n r

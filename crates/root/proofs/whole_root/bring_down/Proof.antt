@@ -1,9 +1,9 @@
--- `root::digits::bring_down` meets its contract: no product and no sum is too wide (`widths`).
+-- `root::whole_root::bring_down` meets its contract: no product and no sum is too wide (`widths`).
 use mathlib.Core.Path.{refl}
 use native.Mathlib.Omega.{arith}
-use Rattle.root.specs.digits.Widths.{widths}
-use Rattle.root.proofs.digits.bring_down.Statement.{statement}
-use Rattle.root.proofs.digits.bring_down.Tie as tie
+use Rattle.root.specs.whole_root.Widths.{widths}
+use Rattle.root.proofs.whole_root.bring_down.Statement.{statement}
+use Rattle.root.proofs.whole_root.bring_down.Tie as tie
 
 mul-t2 : tie.Need-mul-t2
 mul-t2 c = omega (arith, widths (c .before .pre) .root-moved)

@@ -1,16 +1,16 @@
--- `root::digits::nearest_root` meets its contract. The loop keeps that the page is the one after i turns, and its measure is the turns to come.
+-- `root::whole_root::nearest_root` meets its contract. The loop keeps that the page is the one after i turns, and its measure is the turns to come.
 use Prim.Native.Nat.{ℕ, _+_, _-_, _^_, _≤_}
 use mathlib.Core.Path.{_≡_, refl, sym, ap, _∙_, subst}
 use native.Mathlib.Nat.{le-antisymm}
 use native.Mathlib.Numerals.{add-one}
 use native.Mathlib.Omega.{arith}
-use Rattle.root.specs.declared.digits.Page.{Page}
-use Rattle.root.specs.digits.Turn.{nextPage, after, Schoolbook}
-use Rattle.root.specs.digits.Schoolbook.{schoolbook}
-use Rattle.root.specs.digits.Widths.{last-widths}
-use Rattle.root.specs.digits.laws.Turns.{narrow, stays, goes-up}
-use Rattle.root.proofs.digits.nearest_root.Statement.{statement}
-use Rattle.root.proofs.digits.nearest_root.Tie as tie
+use Rattle.root.specs.declared.whole_root.Page.{Page}
+use Rattle.root.specs.whole_root.Turn.{nextPage, after, Schoolbook}
+use Rattle.root.specs.whole_root.Schoolbook.{schoolbook}
+use Rattle.root.specs.whole_root.Widths.{last-widths}
+use Rattle.root.specs.whole_root.laws.Turns.{narrow, stays, goes-up}
+use Rattle.root.proofs.whole_root.nearest_root.Statement.{statement}
+use Rattle.root.proofs.whole_root.nearest_root.Tie as tie
 
 abbrev Inv-loop : tie.InvT-loop
 Inv-loop m page₀ i₀ page i = (page ≡ after m i) × (i ≤ 53)

@@ -2,9 +2,9 @@
 use mathlib.Core.Path.{_≡_}
 use Prim.Native.Nat.{ℕ, zero, suc, _+_, _*_, _/_, _^_, _<_}
 use native.Mathlib.Omega.{arith}
-use Rattle.root.specs.digits.Near.{sq}
-use Rattle.root.specs.digits.Turn.{after, Schoolbook}
-use Rattle.root.specs.digits.laws.Turns.{begins, turns}
+use Rattle.root.specs.whole_root.Near.{sq}
+use Rattle.root.specs.whole_root.Turn.{after, Schoolbook}
+use Rattle.root.specs.whole_root.laws.Turns.{begins, turns}
 
 pub schoolbook : (m i : ℕ) → m < 2 ^ 54 → Schoolbook m i (after m i)
 unfolding after

@@ -1,8 +1,8 @@
 // The whole number nearest to a root, by the schoolbook method in binary: one digit of the root at a time. docs/trust/ROOT.md has it on a page.
 ghost use mathlib.Core.Path.{_≡_};
 ghost use Prim.Native.Nat.{_+_, _*_, _^_, _≤_, _<_};
-ghost use Rattle.root.specs.digits.Near.{NearWhole};
-ghost use Rattle.root.specs.digits.Turn.{broughtDown, settled, nextPage, Narrow};
+ghost use Rattle.root.specs.whole_root.Near.{NearWhole};
+ghost use Rattle.root.specs.whole_root.Turn.{broughtDown, settled, nextPage, Narrow};
 
 // 2^52: the weight of the leading digit of a significand. 27 pairs of digits, divided by it, give the first pair.
 pub const LEAD: u64 = 0x10_0000_0000_0000;

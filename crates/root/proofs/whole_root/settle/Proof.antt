@@ -1,9 +1,9 @@
--- `root::digits::settle` meets its contract: the digit is 1 where what is left is more than twice the root (`settled-one`), else 0 (`settled-zero`).
+-- `root::whole_root::settle` meets its contract: the digit is 1 where what is left is more than twice the root (`settled-one`), else 0 (`settled-zero`).
 use mathlib.Core.Path.{sym}
 use native.Mathlib.Omega.{arith}
-use Rattle.root.specs.digits.laws.Turns.{settled-zero, settled-one}
-use Rattle.root.proofs.digits.settle.Statement.{statement}
-use Rattle.root.proofs.digits.settle.Tie as tie
+use Rattle.root.specs.whole_root.laws.Turns.{settled-zero, settled-one}
+use Rattle.root.proofs.whole_root.settle.Statement.{statement}
+use Rattle.root.proofs.whole_root.settle.Tie as tie
 
 returns : tie.Need-returns
 returns c = sym (settled-one _ (c .before .before .if1 .taken))

@@ -7,10 +7,10 @@ use native.Mathlib.Omega.{arith}
 use lib.Dec.{T, leb, leb→le, nleb→lt}
 use lib.Pow.{pow-mono}
 use Rattle.base.specs.common.Pick.{pick}
-use Rattle.root.specs.digits.Near.{sq, NearWhole}
-use Rattle.root.specs.digits.Turn.{broughtDown, tried, taken, settled, nextPage, after, Schoolbook, Narrow}
-use Rattle.root.specs.digits.laws.Rounds.{near-down, near-up}
-use Rattle.root.specs.declared.digits.Page.{Page}
+use Rattle.root.specs.whole_root.Near.{sq, NearWhole}
+use Rattle.root.specs.whole_root.Turn.{broughtDown, tried, taken, settled, nextPage, after, Schoolbook, Narrow}
+use Rattle.root.specs.whole_root.laws.Rounds.{near-down, near-up}
+use Rattle.root.specs.declared.whole_root.Page.{Page}
 
 -- the digit of a page with a pair brought down
 module _ (p : Page) where
