@@ -76,7 +76,7 @@ if len(kinds) != 5:
 wrong += [f"docs/use/RULES.md, Certificate, has no row '{number} {name.lower()}'" for name, number in kinds if f"\n| {number} {name.lower()} | " not in section]
 
 # docs/trust/ROOT.md: its rows are the run's, its lines of code the code's, its bounds and facts the proof's
-page, code = read("docs/trust/ROOT.md"), read("crates/root/src/digits.rt")
+page, code = read("docs/trust/ROOT.md"), read("crates/root/src/whole_root.rt")
 *rows, rounded = read("crates/test_digits/stdout").splitlines()
 if "\n".join(rows[:8]) + "\n" not in page or rows[52] + "\n" not in page or len(rows) != 53:
     wrong.append("docs/trust/ROOT.md does not show the rows of crates/test_digits/stdout")
@@ -87,11 +87,11 @@ for row in rows:
     if root * root + left != 2**53 * 4**turn >> 54 or left > 2 * root:
         wrong.append(f"crates/test_digits/stdout: turn {turn} breaks the schoolbook's identity")
 lines = re.findall(r"^\| [^|`]+ \| `([^`]+)` \|$", page, re.M)
-wrong += [f"docs/trust/ROOT.md: `{line}` is no line of crates/root/src/digits.rt" for line in lines if line not in re.split(r"\n *", code)]
-proved = re.findall(r"pub ([\w-]+) : .*([<≤]) 2 \^ (\d+)$", read("crates/root/specs/digits/Widths.antt"), re.M)
+wrong += [f"docs/trust/ROOT.md: `{line}` is no line of crates/root/src/whole_root.rt" for line in lines if line not in re.split(r"\n *", code)]
+proved = re.findall(r"pub ([\w-]+) : .*([<≤]) 2 \^ (\d+)$", read("crates/root/specs/whole_root/Widths.antt"), re.M)
 shown = re.findall(r"\| ([<≤]) 2\^(\d+) \| `([\w-]+)` \|$", page, re.M)
 if len(lines) != 8 or {(name, sign, power) for name, sign, power in proved} != {(name, sign, power) for sign, power, name in shown}:
-    wrong.append("docs/trust/ROOT.md has other bounds than crates/root/specs/digits/Widths.antt, or not eight lines of code")
+    wrong.append("docs/trust/ROOT.md has other bounds than crates/root/specs/whole_root/Widths.antt, or not eight lines of code")
 for names, path in re.findall(r"\(((?:`[\w-]+`, )+)(crates/[\w/]+\.antt)\)", page):
     wrong += [f"docs/trust/ROOT.md: {path} has no {name}" for name in re.findall(r"`(.+?)`", names) if not re.search(rf"^ *pub {re.escape(name)} :", read(path), re.M)]
 

@@ -2,7 +2,7 @@
 use mathlib.Core.Bool.{cond}
 use Prim.Native.Nat.{ℕ, _+_, _-_}
 use lib.Ieee.{Float}
-use Rattle.root.specs.digits.Near.{sq}
+use Rattle.root.specs.whole_root.Near.{sq}
 use Rattle.root.specs.Root.{units}
 use Rattle.plane.specs.declared.points.Point.{Point}
 use Rattle.plane.specs.declared.boxes.BoundingBox.{BoundingBox}

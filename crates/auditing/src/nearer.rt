@@ -2,7 +2,7 @@
 use plane::boxes::BoundingBox;
 use plane::points::Point;
 use plane::points::point_at;
-use root::digits::LEAD;
+use root::whole_root::LEAD;
 ghost use mathlib.Core.Path.{_≡_};
 ghost use mathlib.Core.Bool.{true};
 ghost use mathlib.Core.Logic.{_⊎_};

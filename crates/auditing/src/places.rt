@@ -1,5 +1,5 @@
-// Whether two sites stand at one place. The sites are taken in blocks: those of a block hang in slots by their places, and each later site is held against
-// those that hang in its own slot.
+// Whether two sites stand at one place, by a hash table with chains. The sites are taken in blocks: those of a block are inserted into buckets by their places,
+// and each later site is looked up in its own bucket.
 use octets::patterns::pattern;
 use plane::points::Point;
 use plane::points::point_at;
@@ -8,12 +8,12 @@ ghost use Prim.Native.Nat.{_/_, _≤_, _<_};
 ghost use lib.ListN.{length};
 ghost use Rattle.ring_area.specs.lowest.Lowest.{lowest};
 ghost use Rattle.auditing.specs.places.Places.{sameOf, twinAt, hasTwin};
-ghost use Rattle.auditing.specs.places.Slots.{slotOf, twinIn, Hangs, HungAt, InSlot, Visited, BlockIn};
+ghost use Rattle.auditing.specs.places.Slots.{bucketOf, twinIn, CanInsert, Inserted, InBucket, Visited, BlockIn};
 
-// How many sites hang at a time, and in how many slots.
+// How many sites the table has at a time, and how many buckets.
 const BLOCK: usize = 512;
 
-const SLOTS: usize = 512;
+const BUCKETS: usize = 512;
 
 pub fn same_place(p: Point, q: Point) -> bool
     ensures { λ r. ⌜ r ≡ sameOf p q ⌝ }
@@ -37,9 +37,9 @@ pub fn first_twin(sites: &[f64], s: usize) -> usize
     j
 }
 
-// The slot of a place. -0 + 0 is 0, so that equal places have one. Two primes, as patterns of whole numbers end in many zeros.
-fn slot(p: Point) -> usize
-    ensures { λ r. ⌜ r ≡ slotOf p ⌝ }
+// The bucket of a place. -0 + 0 is 0, so that equal places have one. Two primes, as patterns of whole numbers end in many zeros.
+fn bucket(p: Point) -> usize
+    ensures { λ r. ⌜ r ≡ bucketOf p ⌝ }
 {
     let x = pattern(p.x + 0.0) % 2654435761;
     let y = pattern(p.y + 0.0) % 3266489917;
@@ -52,9 +52,9 @@ fn wide(x: u16) -> usize
     x as usize
 }
 
-// Whether one that hangs in the slot m, that of s, stands at the place of s: from the last one back.
-fn hangs(heads: &[u16], links: &[u16], sites: &[f64], a: usize, s: usize, m: usize) -> bool
-    requires { ⌜ InSlot (now sites) a s m (now heads) (now links) ⌝ }
+// Whether one in the bucket m, that of s, stands at the place of s: along its chain, from the last one back.
+fn lookup(heads: &[u16], links: &[u16], sites: &[f64], a: usize, s: usize, m: usize) -> bool
+    requires { ⌜ InBucket (now sites) a s m (now heads) (now links) ⌝ }
     ensures { λ r. ⌜ r ≡ twinIn (now (sites .entry)) a s ⌝ }
 {
     let place = point_at(sites, s);
@@ -69,27 +69,27 @@ fn hangs(heads: &[u16], links: &[u16], sites: &[f64], a: usize, s: usize, m: usi
     false
 }
 
-// Hangs the next, k, in the slot m.
-fn hang(heads: &mut [u16], links: &mut [u16], m: usize, k: usize)
-    requires { ⌜ Hangs (now heads) (now links) m k ⌝ }
-    ensures { λ _. ⌜ HungAt (now (heads .entry)) (now (links .entry)) m k (now (heads .exit)) (now (links .exit)) ⌝ }
+// Inserts the next, k, in front of the chain of bucket m.
+fn insert(heads: &mut [u16], links: &mut [u16], m: usize, k: usize)
+    requires { ⌜ CanInsert (now heads) (now links) m k ⌝ }
+    ensures { λ _. ⌜ Inserted (now (heads .entry)) (now (links .entry)) m k (now (heads .exit)) (now (links .exit)) ⌝ }
 {
     links[k] = heads[m];
     heads[m] = (k + 1) as u16;
 }
 
-// Whether one of the block from a on, before s, stands at the place of s. If none does, s hangs too while it is of the block.
+// Whether one of the block from a on, before s, stands at the place of s. If none does, s is inserted too while it is of the block.
 fn visit(heads: &mut [u16], links: &mut [u16], sites: &[f64], a: usize, s: usize) -> bool
     requires { ⌜ BlockIn (now sites) a s (now heads) (now links) ⌝ }
     ensures { λ r. ⌜ Visited (now (sites .entry)) a s (now (heads .exit)) (now (links .exit)) r ⌝ }
 {
-    let m = slot(point_at(sites, s));
-    if hangs(heads, links, sites, a, s, m) {
+    let m = bucket(point_at(sites, s));
+    if lookup(heads, links, sites, a, s, m) {
         return true;
     }
     let k = s - a;
     if k < BLOCK {
-        hang(heads, links, m, k);
+        insert(heads, links, m, k);
     }
     false
 }
@@ -99,7 +99,7 @@ fn first_in_block(sites: &[f64], a: usize, best: usize) -> usize
     requires { ⌜ (a < best) × (best ≤ length (now sites) / 2) ⌝ }
     ensures { λ r. ⌜ r ≡ lowest (twinIn (now (sites .entry)) a) best ⌝ }
 {
-    let mut heads = [0u16; SLOTS];
+    let mut heads = [0u16; BUCKETS];
     let mut links = [0u16; BLOCK];
     let mut s = a;
     while s < best {

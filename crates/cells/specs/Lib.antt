@@ -1,6 +1,5 @@
 -- The root of the crate's definitions.
 pub mod Printed
-pub mod Sized
 pub mod Square
 pub mod laws
 pub mod SquarePrints

@@ -28,7 +28,7 @@ use Rattle.form.specs.Square.{square, squareBytes, two-is}
 use Rattle.printing.specs.parts.Text.{ascii, digits, decimal}
 use Rattle.printing.specs.parts.Labelled.{entries, labelled}
 use Rattle.cells.specs.listing.Listing.{counts, cellLine, corners, reusedLine}
-use Rattle.printing.specs.Printed.{meshOf}
+use Rattle.printing.specs.OfForm.{meshOf}
 use Rattle.cells.specs.Printed.{linesOf, listingOf}
 
 -- the text of a build of n sites and T triangles, where it is not refused

@@ -5,7 +5,8 @@ use mathlib.Core.List.{List}
 use Prim.Native.Nat.{ℕ}
 use native.Mathlib.Omega.{arith}
 use lib.Ieee.{Float, ofBits, neg, lt, le, add, sub, div}
-use Rattle.printing.specs.Printed.{Shows, built, meshOf, Prints, sound}
+use Rattle.printing.specs.OfForm.{meshOf, sound}
+use Rattle.printing.specs.Printed.{Shows, built, Prints}
 use Rattle.cells.specs.Printed.{listingOf, listingText}
 use Rattle.plane.specs.points.Plane.{at}
 use Rattle.plane.specs.points.Rules.{okCoord, okSite}
@@ -64,7 +65,9 @@ shown {Rules} z (ok b) t e = let q : listingOf 4 2 b ≡ t = cc in subst (Shows 
 shown z (refused f) t e = let q : _≡_ {A = ℕ} 0 1 = cc in absurd (omega arith)
 
 pub square-prints : Prints listingText squareBytes text
-square-prints = sound square fits (sym (rows .1)) (shown (admits (record { accepted = accepted; roomed = refl; fit = (box-fits, tt) })) _ text (rows .2))
+square-prints =
+    sound square (bySize (at (float 0) (float 0)) (float two-is) (float two-is)) fits (sym (rows .1)) refl
+    (shown (admits (record { accepted = accepted; roomed = refl; fit = (box-fits, tt) })) _ text (rows .2))
 
 pub square-alone : {t : List ℕ} → Prints listingText squareBytes t → t ≡ text
 square-alone p = prints-one listingText p square-prints

@@ -2,27 +2,20 @@
 pub mod answer_text;
 pub mod listing;
 
-use form::step::Form;
+use form::COORDINATES;
+use form::HULL;
+use form::LINKS;
 use libc::STDIN_FILENO;
 use libc::STDOUT_FILENO;
 use plane::given::Given;
-ghost use mathlib.Core.Path.{_≡_};
-ghost use Prim.Native.Nat.{_<_, _≤_};
+use printing::parts::narrow;
+ghost use Prim.Native.Nat.{_≤_};
 ghost use lib.ListN.{length, take};
-ghost use Rattle.mesh.specs.Accepted.{mesh};
-ghost use Rattle.printing.specs.Printed.{InBox, Prints, ByForm};
-ghost use Rattle.cells.specs.Printed.{listingText};
 ghost use Rattle.plane.specs.given.Finite.{Fits};
-ghost use Rattle.form.specs.boxes.FormBox.{boxBy};
-ghost use Rattle.form.specs.step.Holds.{ListRoom, Few};
-ghost use Rattle.cells.specs.Sized.{SheetSized};
-
-fn narrow(n: usize) -> u32
-    requires { ⌜ n < 4294967296 ⌝ }
-    ensures { λ r. ⌜ r ≡ n ⌝ }
-{
-    n as u32
-}
+ghost use Rattle.mesh.specs.Accepted.{mesh};
+ghost use Rattle.form.specs.mesh.Read.{MeshSized};
+ghost use Rattle.printing.specs.Printed.{InBox, Prints};
+ghost use Rattle.cells.specs.Printed.{listingText};
 
 fn in_box(
     out: &mut [u8],
@@ -32,15 +25,15 @@ fn in_box(
     halfedges: &[u32],
     hull: &[u32],
 ) -> usize
-    requires { ⌜ SheetSized (length (now sites)) (length (now triangles)) (length (now hull)) (length (now out)) × Fits given ⌝ }
+    requires { ⌜ MeshSized (length (now sites)) (length (now triangles)) (length (now hull)) × Fits given × (65536 ≤ length (now out)) ⌝ }
     ensures { λ r. ⌜ InBox listingText (mesh (now (sites .entry)) (now (triangles .entry)) (now (halfedges .entry)) (now (hull .entry))) given
         (take r (now (out .exit))) × (r ≤ length (now (out .entry))) ⌝ }
 {
-    let mut work = [0u32; 96];
-    let mut vertices = [0.0f64; 3656];
-    let mut indexes = [0u32; 3076];
-    let mut offsets = [0u32; 97];
-    let mut counts = [0u32; 9];
+    let mut work = [0u32; form::SITES];
+    let mut vertices = [0.0f64; printing::VERTICES];
+    let mut indexes = [0u32; printing::INDEXES];
+    let mut offsets = [0u32; printing::OFFSETS];
+    let mut counts = [0u32; printing::COUNTS];
     let number = building::build(
         given,
         sites,
@@ -58,84 +51,42 @@ fn in_box(
     crate::answer_text::show_in_box(out, number, n, t, &offsets, &indexes, &counts)
 }
 
-// In the box that the form gives.
-fn of_mesh(
-    out: &mut [u8],
-    clip: u8,
-    bounds: [f64; 4],
-    sites: &[f64],
-    triangles: &[u32],
-    halfedges: &[u32],
-    hull: &[u32],
-) -> usize
-    requires { ⌜ SheetSized (length (now sites)) (length (now triangles)) (length (now hull)) (length (now out)) ⌝ }
-    ensures { λ r. ⌜ InBox listingText (mesh (now (sites .entry)) (now (triangles .entry)) (now (halfedges .entry)) (now (hull .entry))) (boxBy clip bounds)
-        (take r (now (out .exit))) × (r ≤ length (now (out .entry))) ⌝ }
-{
-    let given = form::boxes::box_of(clip, bounds);
-    in_box(out, given, sites, triangles, halfedges, hull)
-}
-
-// What is printed for a form that was read into these lists.
-fn of_form(
-    out: &mut [u8],
-    form: Form,
-    bounds: [f64; 4],
-    sites: &[f64],
-    triangles: &[u32],
-    halfedges: &[u32],
-    hull: &[u32],
-) -> usize
-    requires { ⌜ ListRoom bounds (now sites) (now triangles) (now halfedges) (now hull) × Few form × (65536 ≤ length (now out)) ⌝ }
-    ensures { λ r. ⌜ ByForm listingText form bounds (now (sites .entry)) (now (triangles .entry)) (now (halfedges .entry)) (now (hull .entry))
-        (take r (now (out .exit))) × (r ≤ length (now (out .entry))) ⌝ }
-{
-    let Form::Sound {
-        sites: n,
-        triangles: t,
-        hull: h,
-        clip,
-    } = form
-    else {
-        return printing::parts::refusal(out, form::step::number_of(form));
-    };
-    let numbers = 2 * n;
-    let links = 3 * t;
-    of_mesh(
-        out,
-        clip,
-        bounds,
-        &sites[..numbers],
-        &triangles[..links],
-        &halfedges[..links],
-        &hull[..h],
-    )
-}
-
 // What is printed for a form's bytes.
 fn answer(bytes: &[u8], out: &mut [u8]) -> usize
     requires { ⌜ 65536 ≤ length (now out) ⌝ }
     ensures { λ r. ⌜ Prints listingText (now (bytes .entry)) (take r (now (out .exit))) × (r ≤ length (now (out .entry))) ⌝ }
 {
-    let mut bounds = [0.0f64; 4];
-    let mut sites = [0.0f64; 192];
-    let mut triangles = [0u32; 576];
-    let mut halfedges = [0u32; 576];
-    let mut hull = [0u32; 96];
-    let form = form::read(
+    let mut sites = [0.0f64; COORDINATES];
+    let mut triangles = [0u32; LINKS];
+    let mut halfedges = [0u32; LINKS];
+    let mut hull = [0u32; HULL];
+    let read = form::mesh::read(
         false,
         bytes,
-        &mut bounds,
         &mut sites,
         &mut triangles,
         &mut halfedges,
         &mut hull,
     );
-    of_form(out, form, bounds, &sites, &triangles, &halfedges, &hull)
+    if read.number != 0 {
+        return printing::parts::refusal(out, read.number);
+    }
+    let given = read.given;
+    let n = read.coordinates;
+    let k = read.links;
+    let h = read.hull;
+    in_box(
+        out,
+        given,
+        &sites[..n],
+        &triangles[..k],
+        &halfedges[..k],
+        &hull[..h],
+    )
 }
 
 fn main() {
-    let mut bytes = [0u8; 6947];
+    let mut bytes = [0u8; form::BYTES];
     let mut out = io::large_buffer();
     let n = io::read_full(STDIN_FILENO, &mut bytes);
     let m = answer(&bytes[..n], &mut out);

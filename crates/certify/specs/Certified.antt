@@ -9,20 +9,19 @@ use lib.Dec.{eqb}
 use lib.ListN.{getD, take}
 use borrow.Author.Tests.{eqb-true, eq-eqb}
 use Rattle.base.specs.common.Pick.{pick}
-use Rattle.plane.specs.points.Plane.{at}
-use Rattle.plane.specs.given.Given.{bySize, byEdges}
 use Rattle.plane.specs.declared.given.Given.{Given}
 use Rattle.mesh.specs.Accepted.{Mesh, siteCount}
 use Rattle.auditing.specs.Promise.{unlessRefused}
 use Rattle.cutting_calls.specs.cut_admission.CutSlices.{CutSlices}
 use Rattle.cutting_calls.specs.call.Promise.{CutAnswer}
 use Rattle.certifying.specs.call.Verdict.{certifyOn, certifyKind}
-use Rattle.form.specs.Form.{Outline, box, unclipped, edges, FormMesh, formOf, float}
-use Rattle.printing.specs.Printed.{meshOf}
+use Rattle.form.specs.Form.{FormMesh, formOf}
+use Rattle.form.specs.mesh.Read.{BoxOf}
+use Rattle.printing.specs.OfForm.{meshOf, sound, broken}
 use Rattle.printing.specs.parts.Text.{ascii}
 use Rattle.printing.specs.parts.Labelled.{labelled, refusal}
 use Rattle.certify.specs.text.CertifyLine.{pairText, nearerText, kindText, certifyText}
-use Rattle.certify.specs.Printed.{lentZeros, CertifyTold, CertifyOutline, CertifyPrints, sound, broken}
+use Rattle.certify.specs.Printed.{lentZeros, CertifyTold, CertifyPrints}
 
 -- the pieces of a mesh in a box, by cutting, with kind 0
 pub record CertifiedPieces (m : Mesh) (g : Given) : Type 0 where
@@ -30,11 +29,6 @@ pub record CertifiedPieces (m : Mesh) (g : Given) : Type 0 where
   pub count : ℕ
   pub cut : CutAnswer m g lentZeros slices 0 count
   pub zero-kind : certifyKind (certifyOn (g .bounds) 32 (m .sites) (slices .vertices) (take (siteCount (m .sites) + 1) (slices .offsets)) (slices .indexes)) ≡ 0
-
-abbrev pub CertifiedIn : Outline → Mesh → Type 0
-CertifiedIn (box x y w h) m = CertifiedPieces m (bySize (at (float x) (float y)) (float w) (float h))
-CertifiedIn unclipped m = ⊥
-CertifiedIn (edges left top right bottom) m = CertifiedPieces m (byEdges (float left) (float top) (float right) (float bottom))
 
 -- ---- no other line has its text
 abbrev yes : List ℕ
@@ -84,14 +78,13 @@ told-certified m g x =
       zero-kind = sym (rw (eq-eqb _ _ (z .1)) at (t .answer .kind-is)) ∙ z .2;
     }
 
-by-outline : (clip : Outline) (m : Mesh) → CertifyOutline clip m yes → CertifiedIn clip m
-by-outline (box x y w h) m q = told-certified m (bySize (at (float x) (float y)) (float w) (float h)) q
-by-outline unclipped m q = absurd q
-by-outline (edges left top right bottom) m q = told-certified m (byEdges (float left) (float top) (float right) (float bottom)) q
+-- the form that was read, the box that it gives, and the pieces of its mesh in it
+abbrev pub FormCertified : List ℕ → Type 0
+FormCertified s = (m : FormMesh) × (g : Given) × (s ≡ formOf m) × BoxOf (m .clip) g × CertifiedPieces (meshOf m) g
 
-by-text : {s text : List ℕ} → CertifyPrints s text → yes ≡ text → (m : FormMesh) × (s ≡ formOf m) × CertifiedIn (m .clip) (meshOf m)
-by-text (sound m f a e x) q = (m, e, by-outline (m .clip) (meshOf m) (subst (CertifyOutline (m .clip) (meshOf m)) (sym q) x))
+by-text : {s text : List ℕ} → CertifyPrints s text → yes ≡ text → FormCertified s
+by-text (sound m g f e b x) q = (m, g, e, b, told-certified (meshOf m) g (subst (CertifyTold (meshOf m) g) (sym q) x))
 by-text (broken p n) q = absurd (no-refusal _ q)
 
-pub prints-certified : {s : List ℕ} → CertifyPrints s (ascii "certified\n") → (m : FormMesh) × (s ≡ formOf m) × CertifiedIn (m .clip) (meshOf m)
+pub prints-certified : {s : List ℕ} → CertifyPrints s (ascii "certified\n") → FormCertified s
 prints-certified p = by-text p refl

@@ -1,22 +1,19 @@
 -- What `certify` prints, said of the bytes of its input: the line of the cutting of the mesh whose form they are, in slices that are long enough for every form and hold zeros, and of
 -- the certificate, with 32 bits, of what the slices hold then; or of the reader's refusal. After a refusal of the cutting its number alone is told. Definitions only.
 use mathlib.Core.Path.{_≡_}
-use mathlib.Core.Bool.{false}
 use mathlib.Core.List.{List}
 use Prim.Native.Nat.{ℕ, _+_}
 use lib.Ieee.{Float}
 use lib.ListN.{replicate, take}
 use Rattle.base.specs.common.Binary64 as B
-use Rattle.plane.specs.points.Plane.{at}
-use Rattle.plane.specs.given.Given.{bySize, byEdges}
 use Rattle.plane.specs.declared.given.Given.{Given}
 use Rattle.mesh.specs.Accepted.{Mesh, siteCount}
 use Rattle.cutting_calls.specs.cut_admission.CutSlices.{CutSlices, cutSlices}
 use Rattle.cutting_calls.specs.call.Promise.{CutAnswer}
 use Rattle.certifying.specs.call.Promise.{CertifyAnswer}
-use Rattle.form.specs.Form.{Outline, box, unclipped, edges, FormMesh, MeshFits, MayBegin, formOf, float}
-use Rattle.form.specs.Place.{Place, NumberAt}
-use Rattle.printing.specs.Printed.{meshOf}
+use Rattle.form.specs.Limits.{mostSites}
+use Rattle.printing.specs.Rooms.{offsetRoom}
+use Rattle.printing.specs.OfForm.{OfForm}
 use Rattle.printing.specs.parts.Labelled.{refusal}
 use Rattle.certify.specs.text.CertifyLine.{certifyText}
 
@@ -33,7 +30,7 @@ pub record PiecesTold (g : Given) (cut : ℕ) (sites v : List Float) (off ix tex
 
 -- slices of zeros, for 96 sites, 192 triangles and 96 on the hull
 abbrev pub lentZeros : CutSlices
-lentZeros = cutSlices (replicate 96 0) (replicate 3080 B.zero) (replicate 4128 0) (replicate 97 0)
+lentZeros = cutSlices (replicate mostSites 0) (replicate 3080 B.zero) (replicate 4128 0) (replicate offsetRoom 0)
 
 -- of a mesh in a box
 pub record CertifyTold (m : Mesh) (g : Given) (text : List ℕ) : Type 0 where
@@ -43,12 +40,5 @@ pub record CertifyTold (m : Mesh) (g : Given) (text : List ℕ) : Type 0 where
   pub cut : CutAnswer m g lentZeros slices number count
   pub told : PiecesTold g number (m .sites) (slices .vertices) (take (siteCount (m .sites) + 1) (slices .offsets)) (slices .indexes) text
 
--- by the box of a form; no form is read that has none
-abbrev pub CertifyOutline : Outline → Mesh → List ℕ → Type 0
-CertifyOutline (box x y w h) m text = CertifyTold m (bySize (at (float x) (float y)) (float w) (float h)) text
-CertifyOutline unclipped m text = ⊥
-CertifyOutline (edges left top right bottom) m text = CertifyTold m (byEdges (float left) (float top) (float right) (float bottom)) text
-
-pub data CertifyPrints (s : List ℕ) : List ℕ → Type 0 where
-  sound : {text : List ℕ} (m : FormMesh) → MeshFits m → MayBegin false (m .clip) → s ≡ formOf m → CertifyOutline (m .clip) (meshOf m) text → CertifyPrints s text
-  broken : {k n : ℕ} → Place false s k → NumberAt false s k n → CertifyPrints s (refusal n)
+abbrev pub CertifyPrints : List ℕ → List ℕ → Type 0
+CertifyPrints = OfForm CertifyTold refusal

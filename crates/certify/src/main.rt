@@ -1,7 +1,9 @@
 // Reads a mesh's form on standard input, makes its pieces by cutting and prints one line: `certified`, the first fault by its numbers, or `refused N`.
 pub mod text;
 
-use form::step::Form;
+use form::COORDINATES;
+use form::HULL;
+use form::LINKS;
 use libc::STDIN_FILENO;
 use libc::STDOUT_FILENO;
 use plane::given::Given;
@@ -10,13 +12,17 @@ ghost use lib.ListN.{length, take};
 ghost use Rattle.plane.specs.given.Finite.{Fits};
 ghost use Rattle.mesh.specs.Accepted.{mesh};
 ghost use Rattle.cutting_calls.specs.call.Steps.{InOrder};
-ghost use Rattle.form.specs.boxes.FormBox.{boxBy};
-ghost use Rattle.form.specs.step.Holds.{ListRoom, Few};
+ghost use Rattle.form.specs.Limits.{mostCoordinates};
 ghost use Rattle.printing.specs.Printed.{ShownIn};
 ghost use Rattle.certify.specs.Printed.{PiecesTold, CertifyTold, CertifyPrints};
-ghost use Rattle.certify.specs.Steps.{CertifyByForm};
 ghost use Rattle.certify.specs.text.CertifyLine.{certifyText};
 
+// The slices of a cutting and of its certificate, as long as every form needs them.
+const CUT_VERTICES: usize = 3080;
+
+const CUT_INDEXES: usize = 4128;
+
+const CERTIFY_WORK: usize = 12640;
 // The tolerance is 2^-32 of the box's reach.
 const CERTIFY_BITS: u32 = 32;
 
@@ -56,7 +62,7 @@ fn of_pieces(
     ensures { λ r. ⌜ PiecesTold given cut (now (sites .entry)) (now (vertices .entry)) (now (offsets .entry)) (now (indexes .entry))
         (take r (now (out .exit))) × (r ≤ length (now (out .entry))) ⌝ }
 {
-    let mut work = [0u32; 12640];
+    let mut work = [0u32; CERTIFY_WORK];
     let c = certifying::call::certify(
         given,
         sites,
@@ -78,14 +84,14 @@ fn in_box(
     halfedges: &[u32],
     hull: &[u32],
 ) -> usize
-    requires { ⌜ (length (now sites) ≤ 192) × Fits given × InOrder given × (65536 ≤ length (now out)) ⌝ }
+    requires { ⌜ (length (now sites) ≤ mostCoordinates) × Fits given × InOrder given × (65536 ≤ length (now out)) ⌝ }
     ensures { λ r. ⌜ CertifyTold (mesh (now (sites .entry)) (now (triangles .entry)) (now (halfedges .entry)) (now (hull .entry))) given
         (take r (now (out .exit))) × (r ≤ length (now (out .entry))) ⌝ }
 {
-    let mut work = [0u32; 96];
-    let mut vertices = [0.0f64; 3080];
-    let mut indexes = [0u32; 4128];
-    let mut offsets = [0u32; 97];
+    let mut work = [0u32; form::SITES];
+    let mut vertices = [0.0f64; CUT_VERTICES];
+    let mut indexes = [0u32; CUT_INDEXES];
+    let mut offsets = [0u32; printing::OFFSETS];
     let d = cutting_calls::call::cut(
         given,
         sites,
@@ -109,84 +115,42 @@ fn in_box(
     )
 }
 
-// In the box that the form gives.
-fn of_mesh(
-    out: &mut [u8],
-    clip: u8,
-    bounds: [f64; 4],
-    sites: &[f64],
-    triangles: &[u32],
-    halfedges: &[u32],
-    hull: &[u32],
-) -> usize
-    requires { ⌜ (length (now sites) ≤ 192) × (65536 ≤ length (now out)) ⌝ }
-    ensures { λ r. ⌜ CertifyTold (mesh (now (sites .entry)) (now (triangles .entry)) (now (halfedges .entry)) (now (hull .entry))) (boxBy clip bounds)
-        (take r (now (out .exit))) × (r ≤ length (now (out .entry))) ⌝ }
-{
-    let given = form::boxes::box_of(clip, bounds);
-    in_box(out, given, sites, triangles, halfedges, hull)
-}
-
-// What is printed for a form that was read into these lists.
-fn of_form(
-    out: &mut [u8],
-    form: Form,
-    bounds: [f64; 4],
-    sites: &[f64],
-    triangles: &[u32],
-    halfedges: &[u32],
-    hull: &[u32],
-) -> usize
-    requires { ⌜ ListRoom bounds (now sites) (now triangles) (now halfedges) (now hull) × Few form × (65536 ≤ length (now out)) ⌝ }
-    ensures { λ r. ⌜ CertifyByForm form bounds (now (sites .entry)) (now (triangles .entry)) (now (halfedges .entry)) (now (hull .entry))
-        (take r (now (out .exit))) × (r ≤ length (now (out .entry))) ⌝ }
-{
-    let Form::Sound {
-        sites: n,
-        triangles: t,
-        hull: h,
-        clip,
-    } = form
-    else {
-        return printing::parts::refusal(out, form::step::number_of(form));
-    };
-    let numbers = 2 * n;
-    let links = 3 * t;
-    of_mesh(
-        out,
-        clip,
-        bounds,
-        &sites[..numbers],
-        &triangles[..links],
-        &halfedges[..links],
-        &hull[..h],
-    )
-}
-
 // What is printed for a form's bytes.
 fn answer(bytes: &[u8], out: &mut [u8]) -> usize
     requires { ⌜ 65536 ≤ length (now out) ⌝ }
     ensures { λ r. ⌜ CertifyPrints (now (bytes .entry)) (take r (now (out .exit))) × (r ≤ length (now (out .entry))) ⌝ }
 {
-    let mut bounds = [0.0f64; 4];
-    let mut sites = [0.0f64; 192];
-    let mut triangles = [0u32; 576];
-    let mut halfedges = [0u32; 576];
-    let mut hull = [0u32; 96];
-    let form = form::read(
+    let mut sites = [0.0f64; COORDINATES];
+    let mut triangles = [0u32; LINKS];
+    let mut halfedges = [0u32; LINKS];
+    let mut hull = [0u32; HULL];
+    let read = form::mesh::read(
         false,
         bytes,
-        &mut bounds,
         &mut sites,
         &mut triangles,
         &mut halfedges,
         &mut hull,
     );
-    of_form(out, form, bounds, &sites, &triangles, &halfedges, &hull)
+    if read.number != 0 {
+        return printing::parts::refusal(out, read.number);
+    }
+    let given = read.given;
+    let n = read.coordinates;
+    let k = read.links;
+    let h = read.hull;
+    in_box(
+        out,
+        given,
+        &sites[..n],
+        &triangles[..k],
+        &halfedges[..k],
+        &hull[..h],
+    )
 }
 
 fn main() {
-    let mut bytes = [0u8; 6947];
+    let mut bytes = [0u8; form::BYTES];
     let mut out = io::large_buffer();
     let n = io::read_full(STDIN_FILENO, &mut bytes);
     let m = answer(&bytes[..n], &mut out);

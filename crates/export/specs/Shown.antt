@@ -3,21 +3,16 @@ use mathlib.Core.List.{List}
 use Prim.Native.Nat.{ℕ, _/_, _≤_}
 use lib.Ieee.{Float}
 use lib.ListN.{getD}
+use Rattle.form.specs.Limits.{mostSites}
+use Rattle.printing.specs.Rooms.{indexRoom}
 use Rattle.wkb.specs.Polygon.{patterns}
 use Rattle.export.specs.map_text.MapText.{mapText, Drawn}
 
--- the lists of a form, and room for its text
-pub record MapSized (coordinates entries hull space : ℕ) : Type 0 where
-  pub few-sites : coordinates ≤ 192
-  pub few-triangles : entries ≤ 576
-  pub few-on-hull : hull ≤ 96
-  pub room : 106496 ≤ space
-
 -- n cells that can be drawn over a list of so many numbers, two to a vertex
 pub record CanDraw (n numbers : ℕ) (off ix : List ℕ) : Type 0 where
-  pub few : n ≤ 96
+  pub few : n ≤ mostSites
   pub drawn : Drawn off ix n (numbers / 2)
-  pub short : getD off n 0 ≤ 3076
+  pub short : getD off n 0 ≤ indexRoom
 
 abbrev pub lines : ℕ → List Float → List ℕ → List ℕ → List ℕ
 lines n vertices off ix = mapText (patterns vertices) off ix n

@@ -6,6 +6,7 @@ use Prim.Native.Nat.{ℕ, _^_, _≤_, _<_}
 use lib.Ieee.{Float, binary64, ofBits}
 use lib.ListN.{length}
 use Rattle.octets.specs.Bytes.{le, each, All}
+use Rattle.form.specs.Limits.{mostSites, mostTriangles, mostHull}
 
 -- floats are given by their patterns
 pub data Outline : Type 0 where
@@ -72,9 +73,9 @@ pub record MeshFits (m : FormMesh) : Type 0 where
   pub sites : All SiteFits (m .sites)
   pub triangles : All TriangleFits (m .triangles)
   pub hull : All HullFits (m .hull)
-  pub few-sites : length (m .sites) ≤ 96
-  pub few-triangles : length (m .triangles) ≤ 192
-  pub few-hull : length (m .hull) ≤ 96
+  pub few-sites : length (m .sites) ≤ mostSites
+  pub few-triangles : length (m .triangles) ≤ mostTriangles
+  pub few-hull : length (m .hull) ≤ mostHull
 
 -- the first records that a form may have; none without a box but in forms of old
 abbrev pub MayBegin : Bool → Outline → Type 0

@@ -6,6 +6,7 @@ use Prim.Native.Nat.{ℕ, _≤_, _<_}
 use native.Mathlib.Omega.{arith}
 use lib.ListN.{length, length-append}
 use Rattle.octets.specs.Bytes.{each}
+use Rattle.form.specs.Limits.{longestForm}
 use Rattle.form.specs.Form.{Outline, box, unclipped, edges, FormMesh, MeshFits, IsForm, formOf, outlineBytes, siteBytes, triangleBytes, hullBytes}
 use Rattle.form.specs.laws.Lists.{each-length}
 
@@ -14,7 +15,7 @@ clip-short (box x y w h) = omega arith
 clip-short unclipped = omega arith
 clip-short (edges l t r b) = omega arith
 
-pub form-short : (m : FormMesh) → MeshFits m → length (formOf m) ≤ 6946
+pub form-short : (m : FormMesh) → MeshFits m → length (formOf m) ≤ longestForm
 unfolding formOf
 form-short m f =
     let a = outlineBytes (m .clip) in
@@ -36,5 +37,5 @@ form-short m f =
       f .few-hull,
     )
 
-pub no-form : (old : Bool) (s : List ℕ) → 6946 < length s → IsForm old s → ⊥
+pub no-form : (old : Bool) (s : List ℕ) → longestForm < length s → IsForm old s → ⊥
 no-form old s h i = omega (arith, form-short (i .mesh) (i .fits), ap length (i .bytes))

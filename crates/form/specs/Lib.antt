@@ -1,4 +1,5 @@
 -- The root of the crate's definitions.
+pub mod Limits
 pub mod Form
 pub mod Length
 pub mod Place
@@ -7,3 +8,4 @@ pub mod Square
 pub mod laws
 pub mod step
 pub mod boxes
+pub mod mesh

@@ -1,5 +1,6 @@
 // Reads the program's form: one byte at a time by a state that is passed by value, each number stored as soon as its last byte has come.
 pub mod boxes;
+pub mod mesh;
 pub mod step;
 
 use crate::step::Form;
@@ -19,6 +20,21 @@ ghost use Rattle.base.specs.common.Pick.{pick};
 ghost use Rattle.form.specs.step.Reader.{broken, start, putFloat, putLink, reading, filledBy, take, takes};
 ghost use Rattle.form.specs.step.Holds.{ListRoom, Reads};
 ghost use Rattle.form.specs.step.Standing.{Ok};
+
+// The most sites, triangles and hull sites that a form has, and so many numbers of each list.
+pub const SITES: usize = 96;
+
+pub const TRIANGLES: usize = 192;
+
+pub const HULL: usize = 96;
+
+pub const COORDINATES: usize = 2 * SITES;
+
+pub const LINKS: usize = 3 * TRIANGLES;
+// The longest form, a record each of its kind: 6,946 bytes. One more decides what an input is, however long it goes on.
+pub const LONGEST: usize = 33 + 17 * SITES + 25 * TRIANGLES + 5 * HULL + 1;
+
+pub const BYTES: usize = LONGEST + 1;
 
 const TOP_LINK: u64 = 0x1_0000_0000;
 

@@ -86,13 +86,13 @@ fn room_for(r: Reader, kind: u64) -> bool
     ensures { λ a. ⌜ a ≡ roomLeft r kind ⌝ }
 {
     if kind == 2 {
-        return r.sites < 96;
+        return r.sites < crate::SITES as u64;
     }
     if kind == 3 {
-        return r.triangles < 192;
+        return r.triangles < crate::TRIANGLES as u64;
     }
     if kind == 4 {
-        return r.hull < 96;
+        return r.hull < crate::HULL as u64;
     }
     if kind == 5 {
         return r.stage < 5;

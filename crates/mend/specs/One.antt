@@ -1,25 +1,22 @@
 -- Theorem: no two texts may be printed for one input and one option.
-use mathlib.Core.Path.{_≡_, refl, sym, ap, _∙_, subst}
+use mathlib.Core.Path.{_≡_, refl, sym, ap, _∙_}
 use mathlib.Core.Bool.{Bool}
 use mathlib.Core.List.{List}
 use Prim.Native.Nat.{ℕ}
 use native.Mathlib.Omega.{arith}
 use lib.Ieee.{Float}
-use lib.ListN.{replicate, length-replicate}
-use Rattle.base.specs.common.Binary64 as B
+use lib.ListN.{length, getD}
 use Rattle.base.specs.common.laws.Refusals.{finds-one}
 use Rattle.printing.specs.parts.Labelled.{refusal}
-use Rattle.form.specs.step.Reader.{verdict, start, reading, takes, Reading}
-use Rattle.form.specs.step.Holds.{ListRoom}
-use Rattle.form.specs.declared.step.Form.{Form}
-use Rattle.form.specs.declared.step.Form.the-variants.{Sound, Broken}
-use Rattle.form.specs.Form.{FormMesh, MeshFits, MayBegin, formOf}
+use Rattle.form.specs.Form.{FormMesh, MayBegin, formOf, kindOf, siteFloats}
+use Rattle.form.specs.laws.Lists.{each-length}
 use Rattle.form.specs.laws.Longer.{same-number, place-refuses}
-use Rattle.form.specs.laws.Mesh.{WholeRead, complete}
+use Rattle.form.specs.mesh.One.{SameMesh, same-mesh}
 use Rattle.mend.specs.boxes.Option.{IsOption, outlineOf, gives}
-use Rattle.mend.specs.Printed.{PrintsMesh, MendPrints, sound, broken}
-use Rattle.mend.specs.Steps.{OfLists, refused, mended, PrintsRead}
-use Rattle.mend.specs.laws.ReadForm.{to-read}
+use Rattle.mend.specs.Printed.{MendPrints, sound, broken}
+use Rattle.mend.specs.Steps.{OfLists, refused, mended}
+use Rattle.mend.specs.laws.Heads.{form-kind}
+use Rattle.mend.specs.laws.ReadForm.{ByLists, from-mesh}
 
 module _ (form : Bool) (option : List ℕ) (o : IsOption option) where
   lists-one : {first records : List ℕ} {sites : List Float} {tri he hull a b : List ℕ}
@@ -29,44 +26,18 @@ module _ (form : Bool) (option : List ℕ) (o : IsOption option) where
   lists-one (mended p) (refused r s) = absurd (s (finds-one r p))
   lists-one (mended p) (mended r) = refl
 
-  form-one : (s : List ℕ) (a : Form) (ss : List Float) (ts es hs x y : List ℕ) → PrintsRead form option s a ss ts es hs x → PrintsRead form option s a ss ts es hs y → x ≡ y
-  form-one s (Broken n k) ss ts es hs x y p q = p ∙ sym q
-  form-one s (Sound n k h u) ss ts es hs x y p q = lists-one p q
-
-  -- the reader's lists, as long as a form needs them
-  abbrev floats : ℕ → List Float
-  floats n = replicate n B.zero
-
-  abbrev links : ℕ → List ℕ
-  links n = replicate n 0
-
-  abbrev read : List ℕ → Reading
-  read s = takes (reading (start (gives (outlineOf option))) (floats 4) (floats 192) (links 576) (links 576) (links 96)) s
-
-  abbrev Read : List ℕ → List ℕ → Type 0
-  Read s = PrintsRead form option s (verdict (read s .reader)) (read s .sites) (read s .triangles) (read s .halfedges) (read s .hull)
-
-  by-mesh : (text : List ℕ) (m : FormMesh) → MeshFits m → MayBegin (gives (outlineOf option)) (m .clip) → PrintsMesh (outlineOf option) m form text → Read (formOf m) text
-  by-mesh text m f a q =
-      let w : WholeRead m (floats 4) (floats 192) (links 576) (links 576) (links 96) (read (formOf m)) =
-      complete (floats 4) (floats 192) (links 576) (links 576) (links 96) (gives (outlineOf option)) m f a in
-      let room : ListRoom (floats 4) (floats 192) (links 576) (links 576)
-      (links 96) = record {
-        bounds = omega (arith, length-replicate 4 B.zero);
-        sites = omega (arith, length-replicate 192 B.zero);
-        triangles = omega (arith, length-replicate {A = ℕ} 576 0);
-        halfedges = omega (arith, length-replicate {A = ℕ} 576 0);
-        hull = omega (arith, length-replicate {A = ℕ} 96 0);
-      } in
-      rw (w .answer) (to-read option o m f a form room
-      (record { bounds = w .bounds; sites = w .sites; triangles = w .triangles; halfedges = w .halfedges; hull = w .hull }) text q)
-
-  by-reader : (s text : List ℕ) (m : FormMesh) → MeshFits m → MayBegin (gives (outlineOf option)) (m .clip) → s ≡ formOf m → PrintsMesh (outlineOf option) m form text → Read s text
-  by-reader s text m f a e q = subst (λ (z : List ℕ). Read z text) (sym e) (by-mesh text m f a q)
+  -- two meshes with one form, by their lists
+  as-lists : (m n : FormMesh) (i : MayBegin (gives (outlineOf option)) (m .clip)) (j : MayBegin (gives (outlineOf option)) (n .clip)) → formOf m ≡ formOf n → SameMesh m n
+      → {text : List ℕ} → ByLists option o m i form text → ByLists option o n j form text
+  as-lists m n i j e s q =
+      let kind : kindOf (m .clip) ≡ kindOf (n .clip) = sym (form-kind m) ∙ ap (λ (l : List ℕ). getD l 0 0) e ∙ form-kind n in
+      let count : length (m .sites) ≡ length (n .sites) =
+      omega (arith, ap length (s .sites), each-length siteFloats 2 (λ _. refl) (m .sites), each-length siteFloats 2 (λ _. refl) (n .sites)) in
+      rw (kind, e, count, s .sites, s .triangles, s .halfedges, s .hull) at q
 
   pub prints-one : {s a b : List ℕ} → MendPrints form (outlineOf option) s a → MendPrints form (outlineOf option) s b → a ≡ b
-  prints-one {s} {a} {b} (sound m f i e p) (sound n g j d q) =
-      form-one s (verdict (read s .reader)) (read s .sites) (read s .triangles) (read s .halfedges) (read s .hull) a b (by-reader s a m f i e p) (by-reader s b n g j d q)
+  prints-one (sound m f i e p) (sound n g j d q) =
+      lists-one (as-lists m n i j (sym e ∙ d) (same-mesh _ m n f g i j e d) (from-mesh option o m i form p)) (from-mesh option o n j form q)
   prints-one (sound m f i e p) (broken q n) = absurd (place-refuses q (record { mesh = m; fits = f; admits = i; bytes = e }))
   prints-one (broken q n) (sound m f i e p) = absurd (place-refuses q (record { mesh = m; fits = f; admits = i; bytes = e }))
   prints-one (broken p a) (broken q b) = ap refusal (same-number p a q b)

@@ -1,4 +1,4 @@
--- The steps of `mend`: a mending's answer as text, by its number and its lent slices; a form that was read, by its lists; and the sizes within which
+-- The steps of `mend`: a mending's answer as text, by its number and its lent slices; a mesh that was read, by its lists; and the sizes within which
 -- everything has room. Definitions only.
 use mathlib.Core.Path.{_≡_}
 use mathlib.Core.Bool.{Bool}
@@ -13,8 +13,7 @@ use Rattle.printing.specs.parts.Labelled.{refusal}
 use Rattle.mesh.specs.Accepted.{siteCount}
 use Rattle.mending.specs.pairs.Pairs.{pairsOf}
 use Rattle.mending.specs.Mending.{newHull, pairChanges, hullChanges}
-use Rattle.form.specs.declared.step.Form.{Form}
-use Rattle.form.specs.declared.step.Form.the-variants.{Sound, Broken}
+use Rattle.form.specs.Limits.{mostSites, mostHull, mostCoordinates, mostLinks}
 use Rattle.mend.specs.writer.Written.{writtenForm}
 use Rattle.mend.specs.boxes.Option.{outlineOf, putLength, keptFrom}
 use Rattle.mend.specs.text.MendText.{mendText}
@@ -26,26 +25,25 @@ use Rattle.mend.specs.Printed.{MendNumber, changesText}
 abbrev pub firstLength : ℕ → ℕ
 firstLength kind = pick (eqb kind 6) (λ _. 1) (λ _. 33)
 
--- a form that was read has its first record and its sites' records
-abbrev pub Headed : Form → ℕ → Type 0
-Headed (Sound n k h u) size = firstLength u + 17 * n ≤ size
-Headed (Broken n k) size = Unit {0}
+-- the most bytes of a form's first records: its box and its sites
+abbrev pub headRoom : ℕ
+headRoom = 33 + 17 * mostSites
 
 -- the first records of a form, its lists, and room for its text
 pub record MendSized (bytes coordinates entries hull space : ℕ) : Type 0 where
-  pub head : bytes ≤ 1665
-  pub few-sites : coordinates ≤ 192
-  pub few-triangles : entries ≤ 576
-  pub few-on-hull : hull ≤ 96
+  pub head : bytes ≤ headRoom
+  pub few-sites : coordinates ≤ mostCoordinates
+  pub few-triangles : entries ≤ mostLinks
+  pub few-on-hull : hull ≤ mostHull
   pub room : 32768 ≤ space
 
 -- p and h changes that stand in a list; a form that can be written
 pub record CanShow (first records tri he hull list : List ℕ) (p h space : ℕ) : Type 0 where
-  pub head : length first + length records ≤ 1665
+  pub head : length first + length records ≤ headRoom
   pub same : length he ≡ length tri
-  pub few-triangles : length tri ≤ 576
-  pub few-on-hull : length hull ≤ 96
-  pub few-changes : p + h ≤ 672
+  pub few-triangles : length tri ≤ mostLinks
+  pub few-on-hull : length hull ≤ mostHull
+  pub few-changes : p + h ≤ mostLinks + mostHull
   pub changes : 3 * (p + h) ≤ length list
   pub room : 32768 ≤ space
 
@@ -79,9 +77,3 @@ putBytes option kind = take (putLength kind (length option)) option
 
 abbrev pub keptBytes : List ℕ → ℕ → ℕ → List ℕ
 keptBytes s kind n = take (firstLength kind + 17 * n - keptFrom kind) (drop (keptFrom kind) s)
-
--- of a form of bytes s that was read into these lists
-abbrev pub PrintsRead : Bool → List ℕ → List ℕ → Form → List Float → List ℕ → List ℕ → List ℕ → List ℕ → Type 0
-PrintsRead form option s (Broken n k) ss ts es hs text = text ≡ refusal n
-PrintsRead form option s (Sound n k h u) ss ts es hs text =
-    OfLists form (putBytes option u) (keptBytes s u n) (take (2 * n) ss) (take (3 * k) ts) (take (3 * k) es) (take h hs) text

@@ -6,20 +6,25 @@ pub mod change_lines;
 pub mod text;
 pub mod writer;
 
-use form::step::Form;
+use form::COORDINATES;
+use form::HULL;
+use form::LINKS;
 use libc::STDERR_FILENO;
 use libc::STDIN_FILENO;
 use libc::STDOUT_FILENO;
 ghost use mathlib.Core.Path.{_≡_};
 ghost use mathlib.Core.Bool.{_&&_};
-ghost use Prim.Native.Nat.{_+_, _-_, _≤_};
+ghost use Prim.Native.Nat.{_+_, _-_, _*_, _/_, _≤_};
 ghost use lib.ListN.{length, take};
 ghost use Rattle.octets.specs.Wrote.{Wrote};
-ghost use Rattle.form.specs.step.Holds.{Few};
+ghost use Rattle.form.specs.mesh.Read.{MeshSized};
 ghost use Rattle.printing.specs.parts.Text.{ascii};
 ghost use Rattle.mend.specs.boxes.Option.{IsOption, outlineOf};
 ghost use Rattle.mend.specs.Printed.{sameBytes, isOption, wayIf, wayOf, MendPrints};
-ghost use Rattle.mend.specs.Steps.{firstLength, Headed, MendSized, CanShow, shownText, OfLists, PrintsRead};
+ghost use Rattle.mend.specs.Steps.{firstLength, MendSized, CanShow, shownText, OfLists, putBytes, keptBytes};
+
+// Three numbers to a change, of a pair or of a hull place.
+const CHANGES: usize = 3 * (LINKS + HULL);
 
 // What the arguments ask for.
 pub enum Way {
@@ -147,10 +152,10 @@ fn of_mesh(
     ensures { λ r. ⌜ OfLists form (now (first .entry)) (now (records .entry)) (now (sites .entry)) (now (triangles .entry)) (now (halfedges .entry))
         (now (hull .entry)) (take r (now (out .exit))) × (r ≤ length (now (out .entry))) ⌝ }
 {
-    let mut work = [0u32; 96];
-    let mut pairs = [0u32; 576];
-    let mut mended = [0u32; 96];
-    let mut changes = [0u32; 2016];
+    let mut work = [0u32; form::SITES];
+    let mut pairs = [0u32; LINKS];
+    let mut mended = [0u32; HULL];
+    let mut changes = [0u32; CHANGES];
     let m = mending::mend(
         sites,
         triangles,
@@ -179,46 +184,35 @@ fn of_mesh(
     )
 }
 
-// What is printed for a form that was read into these lists.
+// What is printed for a form whose first record is of this kind and whose mesh is in these lists.
 fn of_form(
     out: &mut [u8],
     form: bool,
     option: &[u8],
     bytes: &[u8],
-    read: Form,
+    kind: u8,
     sites: &[f64],
     triangles: &[u32],
     halfedges: &[u32],
     hull: &[u32],
 ) -> usize
-    requires { ⌜ IsOption (now option) × Headed read (length (now bytes)) × Few read × (192 ≤ length (now sites)) × (576 ≤ length (now triangles)) × (576 ≤ length (now halfedges))
-        × (96 ≤ length (now hull)) × (32768 ≤ length (now out)) ⌝ }
-    ensures { λ r. ⌜ PrintsRead form (now (option .entry)) (now (bytes .entry)) read (now (sites .entry)) (now (triangles .entry)) (now (halfedges .entry)) (now (hull .entry))
-        (take r (now (out .exit))) × (r ≤ length (now (out .entry))) ⌝ }
+    requires { ⌜ IsOption (now option) × (firstLength kind + 17 * (length (now sites) / 2) ≤ length (now bytes))
+        × MeshSized (length (now sites)) (length (now triangles)) (length (now hull)) × (32768 ≤ length (now out)) ⌝ }
+    ensures { λ r. ⌜ OfLists form (putBytes (now (option .entry)) kind) (keptBytes (now (bytes .entry)) kind (length (now (sites .entry)) / 2)) (now (sites .entry))
+        (now (triangles .entry)) (now (halfedges .entry)) (now (hull .entry)) (take r (now (out .exit))) × (r ≤ length (now (out .entry))) ⌝ }
 {
-    let Form::Sound {
-        sites: n,
-        triangles: t,
-        hull: h,
-        clip,
-    } = read
-    else {
-        return printing::parts::refusal(out, form::step::number_of(read));
-    };
-    let put = crate::boxes::put_length(clip, option.len());
-    let from = crate::boxes::kept_from(clip);
-    let end = first_length(clip) + 17 * n;
-    let coordinates = 2 * n;
-    let entries = 3 * t;
+    let put = crate::boxes::put_length(kind, option.len());
+    let from = crate::boxes::kept_from(kind);
+    let end = first_length(kind) + 17 * (sites.len() / 2);
     of_mesh(
         out,
         form,
         &option[..put],
         &bytes[from..end],
-        &sites[..coordinates],
-        &triangles[..entries],
-        &halfedges[..entries],
-        &hull[..h],
+        sites,
+        triangles,
+        halfedges,
+        hull,
     )
 }
 
@@ -227,37 +221,42 @@ fn answer(bytes: &[u8], form: bool, option: &[u8], out: &mut [u8]) -> usize
     requires { ⌜ IsOption (now option) × (32768 ≤ length (now out)) ⌝ }
     ensures { λ r. ⌜ MendPrints form (outlineOf (now (option .entry))) (now (bytes .entry)) (take r (now (out .exit))) × (r ≤ length (now (out .entry))) ⌝ }
 {
-    let mut bounds = [0.0f64; 4];
-    let mut sites = [0.0f64; 192];
-    let mut triangles = [0u32; 576];
-    let mut halfedges = [0u32; 576];
-    let mut hull = [0u32; 96];
     let old = crate::boxes::is_given(option);
-    let read = form::read(
+    let mut sites = [0.0f64; COORDINATES];
+    let mut triangles = [0u32; LINKS];
+    let mut halfedges = [0u32; LINKS];
+    let mut hull = [0u32; HULL];
+    let read = form::mesh::read(
         old,
         bytes,
-        &mut bounds,
         &mut sites,
         &mut triangles,
         &mut halfedges,
         &mut hull,
     );
+    if read.number != 0 {
+        return printing::parts::refusal(out, read.number);
+    }
+    let kind = read.kind;
+    let n = read.coordinates;
+    let k = read.links;
+    let h = read.hull;
     of_form(
         out,
         form,
         option,
         bytes,
-        read,
-        &sites,
-        &triangles,
-        &halfedges,
-        &hull,
+        kind,
+        &sites[..n],
+        &triangles[..k],
+        &halfedges[..k],
+        &hull[..h],
     )
 }
 
 // Prints what the form on standard input becomes.
 fn print(form: bool, boxed: bool, digits: &[u8]) {
-    let mut bytes = [0u8; 6947];
+    let mut bytes = [0u8; form::BYTES];
     let mut out = [0u8; 32768];
     let mut option = [0u8; 33];
     let k = crate::boxes::record_of(boxed, digits, &mut option);

@@ -1,10 +1,8 @@
 -- The root of the crate's definitions.
 pub mod Printed
-pub mod Steps
 pub mod One
 pub mod Enough
 pub mod Owners
-pub mod laws
 pub mod whole_sites
 pub mod corners
 pub mod line

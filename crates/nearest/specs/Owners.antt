@@ -15,7 +15,6 @@ use Rattle.base.specs.common.laws.Refusals.{Answers, finds-answers}
 use Rattle.base.specs.numbers.Numbers.{EMPTY, refusedCount, refusedBox, refusedGrid}
 use Rattle.plane.specs.points.Plane.{at}
 use Rattle.plane.specs.points.Rules.{okSite}
-use Rattle.plane.specs.given.Given.{bySize, byEdges}
 use Rattle.plane.specs.declared.given.Given.{Given}
 use Rattle.plane.specs.boxes.Box.{cornersOf}
 use Rattle.mesh.specs.Mesh.{Used}
@@ -33,8 +32,9 @@ use Rattle.definition.specs.laws.Gives.{gives-ok}
 use Rattle.build_laws.specs.laws.CellCount.{CellsTallied, tallied}
 use Rattle.nearest_laws.specs.Admitted.{AdmittedPoint, AreWhole}
 use Rattle.nearest_laws.specs.Profile.{NearestOf, owns-nearest-of}
-use Rattle.form.specs.Form.{Outline, box, unclipped, edges, FormMesh, formOf, float}
-use Rattle.printing.specs.Printed.{meshOf}
+use Rattle.form.specs.Form.{FormMesh, formOf}
+use Rattle.form.specs.mesh.Read.{BoxOf}
+use Rattle.printing.specs.OfForm.{meshOf, sound, broken}
 use Rattle.printing.specs.parts.Text.{ascii}
 use Rattle.nearest.specs.declared.line.NearestLine.{NearestLine}
 use Rattle.nearest.specs.declared.line.NearestLine.the-variants.{Nearest, Triangle, Halfedge, HullPlace, Unused, Corner, OffGrid, Refused}
@@ -43,13 +43,7 @@ use Rattle.nearest.specs.whole_sites.Whole.{wholeNumber, wholesOf}
 use Rattle.nearest.specs.whole_sites.Value.{sites-whole, coordinate-kept}
 use Rattle.nearest.specs.corners.Tried.{offCorner}
 use Rattle.nearest.specs.corners.Admits.{tried-corners}
-use Rattle.nearest.specs.Printed.{kindLine, withBox, answerLine, NearestTold, gridOf, ByOutline, FormLine, sound, broken, NearestPrints}
-
--- g is the box that a form gives
-abbrev pub BoxOf : Outline → Given → Type 0
-BoxOf (box x y w h) g = g ≡ bySize (at (float x) (float y)) (float w) (float h)
-BoxOf unclipped g = ⊥
-BoxOf (edges left top right bottom) g = g ≡ byEdges (float left) (float top) (float right) (float bottom)
+use Rattle.nearest.specs.Printed.{kindLine, withBox, answerLine, NearestTold, gridOf, ToldInBox, FormLine, NearestPrints}
 
 -- a mesh in a box whose corners have nearest owners
 pub record OwnersNearest (m : Mesh) (g : Given) : Type 0 where
@@ -226,15 +220,8 @@ module _ (m : Mesh) (g : Given) (x : NearestTold g (gridOf m) Nearest) where
       }
 
 -- ---- the form
-by-box : (m : Mesh) (clip : Outline) → ByOutline clip (gridOf m) Nearest → (g : Given) × BoxOf clip g × OwnersNearest m g
-by-box m (box x y w h) q = let g = bySize (at (float x) (float y)) (float w) (float h) in (g, refl, owners-nearest m g q)
-by-box m unclipped q = absurd q
-by-box m (edges left top right bottom) q = let g = byEdges (float left) (float top) (float right) (float bottom) in (g, refl, owners-nearest m g q)
-
 by-line : {s : List ℕ} {l : NearestLine} → FormLine s l → l ≡ Nearest → FormNearest s
-by-line {l = l} (sound m f a e x) q =
-    let r = by-box (meshOf m) (m .clip) (subst (ByOutline (m .clip) (gridOf (meshOf m))) q x) in
-    record { mesh = m; bytes = e; given = r .0; box-of = r .1; nearest = r .2 }
+by-line (sound m g f e b x) q = record { mesh = m; bytes = e; given = g; box-of = b; nearest = owners-nearest (meshOf m) g (subst (ToldInBox (meshOf m) g) q x) }
 by-line (broken p n) q = absurd (other refl q)
 
 pub nearest-owners : {s : List ℕ} → NearestPrints s (ascii "nearest\n") → FormNearest s

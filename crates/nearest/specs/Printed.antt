@@ -2,7 +2,7 @@
 -- numbers, by rule 3 on the box and by its corners, or of the reader's refusal. A site that is no whole number of the profile has 8,193 there, so that rule 22
 -- stands in its place among the others, and is told as `not on the grid`. Definitions only.
 use mathlib.Core.Path.{_≡_}
-use mathlib.Core.Bool.{Bool, false}
+use mathlib.Core.Bool.{Bool}
 use mathlib.Core.List.{List}
 use Prim.Native.Nat.{ℕ}
 use lib.Dec.{eqb}
@@ -10,8 +10,6 @@ use lib.ListN.{length}
 use Rattle.base.specs.common.Pick.{pick}
 use Rattle.base.specs.common.Decide.{First}
 use Rattle.base.specs.numbers.Numbers.{EMPTY, refusedCount, refusedBox, refusedGrid}
-use Rattle.plane.specs.points.Plane.{at}
-use Rattle.plane.specs.given.Given.{bySize, byEdges}
 use Rattle.plane.specs.declared.given.Given.{Given}
 use Rattle.mesh.specs.Accepted.{Mesh}
 use Rattle.grid.specs.Plane.{WithinAt}
@@ -19,9 +17,8 @@ use Rattle.grid.specs.check.Promise.{GridMesh, gridMesh, gridSites}
 use Rattle.grid.specs.nearest.Promise.{NearestChecks}
 use Rattle.nearest.specs.whole_sites.Whole.{wholesOf}
 use Rattle.nearest.specs.corners.Tried.{offCorner}
-use Rattle.form.specs.Form.{Outline, box, unclipped, edges, FormMesh, MeshFits, MayBegin, formOf, float}
-use Rattle.form.specs.Place.{Place, NumberAt}
-use Rattle.printing.specs.Printed.{meshOf}
+use Rattle.form.specs.Limits.{mostSites}
+use Rattle.printing.specs.OfForm.{OfForm}
 use Rattle.nearest.specs.declared.line.NearestLine.{NearestLine}
 use Rattle.nearest.specs.declared.line.NearestLine.the-variants.{Nearest, Triangle, Halfedge, HullPlace, Unused, Corner, OffGrid, Refused}
 use Rattle.nearest.specs.line.NearestLine.{nearestLine}
@@ -45,7 +42,7 @@ answerLine number kind place unused corner beyond =
 pub record NearestTold (g : Given) (m : GridMesh) (l : NearestLine) : Type 0 where
   pub old : List ℕ
   pub new : List ℕ
-  pub long : length old ≡ 96
+  pub long : length old ≡ mostSites
   pub number : ℕ
   pub kind : ℕ
   pub place : ℕ
@@ -59,16 +56,12 @@ pub record NearestTold (g : Given) (m : GridMesh) (l : NearestLine) : Type 0 whe
 abbrev pub gridOf : Mesh → GridMesh
 gridOf m = gridMesh (wholesOf (m .sites)) (m .triangles) (m .halfedges) (m .hull)
 
--- by the box of a form; no form is read that has none
-abbrev pub ByOutline : Outline → GridMesh → NearestLine → Type 0
-ByOutline (box x y w h) m l = NearestTold (bySize (at (float x) (float y)) (float w) (float h)) m l
-ByOutline unclipped m l = ⊥
-ByOutline (edges left top right bottom) m l = NearestTold (byEdges (float left) (float top) (float right) (float bottom)) m l
+abbrev pub ToldInBox : Mesh → Given → NearestLine → Type 0
+ToldInBox m g = NearestTold g (gridOf m)
 
 -- the line for the bytes of a form
-pub data FormLine (s : List ℕ) : NearestLine → Type 0 where
-  sound : {l : NearestLine} (m : FormMesh) → MeshFits m → MayBegin false (m .clip) → s ≡ formOf m → ByOutline (m .clip) (gridOf (meshOf m)) l → FormLine s l
-  broken : {k n : ℕ} → Place false s k → NumberAt false s k n → FormLine s (Refused n)
+abbrev pub FormLine : List ℕ → NearestLine → Type 0
+FormLine = OfForm ToldInBox Refused
 
 pub record NearestPrints (s text : List ℕ) : Type 0 where
   pub line : NearestLine

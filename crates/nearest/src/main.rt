@@ -5,7 +5,9 @@ pub mod whole_sites;
 
 use crate::line::NearestLine;
 use base::numbers::EMPTY;
-use form::step::Form;
+use form::COORDINATES;
+use form::HULL;
+use form::LINKS;
 use grid::nearest::check_nearest_lent;
 use libc::STDIN_FILENO;
 use libc::STDOUT_FILENO;
@@ -13,11 +15,10 @@ use plane::given::Given;
 ghost use mathlib.Core.Path.{_≡_};
 ghost use Prim.Native.Nat.{_≤_};
 ghost use lib.ListN.{length, take};
-ghost use Rattle.form.specs.step.Holds.{ListRoom, Few};
+ghost use Rattle.form.specs.Limits.{mostSites, mostCoordinates};
 ghost use Rattle.grid.specs.check.Promise.{gridMesh};
 ghost use Rattle.nearest.specs.whole_sites.Whole.{wholesOf};
-ghost use Rattle.nearest.specs.Printed.{kindLine, withBox, answerLine, NearestTold, NearestPrints};
-ghost use Rattle.nearest.specs.Steps.{NearestByForm};
+ghost use Rattle.nearest.specs.Printed.{kindLine, withBox, answerLine, NearestTold, FormLine, NearestPrints};
 
 // The line where nothing is refused.
 fn kind_line(kind: u32, place: u32, unused: u32, corner: u32) -> NearestLine
@@ -62,7 +63,7 @@ fn line_of(
     corner: u32,
     beyond: usize,
 ) -> NearestLine
-    requires { ⌜ beyond ≤ 96 ⌝ }
+    requires { ⌜ beyond ≤ mostSites ⌝ }
     ensures { λ r. ⌜ r ≡ answerLine number kind place unused corner beyond ⌝ }
 {
     if number == base::numbers::REFUSED_GRID {
@@ -82,10 +83,10 @@ fn of_grid(
     halfedges: &[u32],
     hull: &[u32],
 ) -> NearestLine
-    requires { ⌜ length (now grid) ≤ 192 ⌝ }
+    requires { ⌜ length (now grid) ≤ mostCoordinates ⌝ }
     ensures { λ r. ⌜ NearestTold given (gridMesh (now (grid .entry)) (now (triangles .entry)) (now (halfedges .entry)) (now (hull .entry))) r ⌝ }
 {
-    let mut work = [0u32; 96];
+    let mut work = [0u32; form::SITES];
     let mut kind = 0u32;
     let mut place = 0u32;
     let mut unused = 0u32;
@@ -113,44 +114,43 @@ fn of_mesh(
     halfedges: &[u32],
     hull: &[u32],
 ) -> NearestLine
-    requires { ⌜ length (now sites) ≤ 192 ⌝ }
+    requires { ⌜ length (now sites) ≤ mostCoordinates ⌝ }
     ensures { λ r. ⌜ NearestTold given (gridMesh (wholesOf (now (sites .entry))) (now (triangles .entry)) (now (halfedges .entry)) (now (hull .entry))) r ⌝ }
 {
-    let mut grid = [0i32; 192];
+    let mut grid = [0i32; COORDINATES];
     let count = sites.len();
     crate::whole_sites::to_grid(sites, &mut grid);
     of_grid(given, &grid[..count], triangles, halfedges, hull)
 }
 
-// The line for a form that was read into these lists.
-fn of_form(
-    form: Form,
-    bounds: [f64; 4],
-    sites: &[f64],
-    triangles: &[u32],
-    halfedges: &[u32],
-    hull: &[u32],
-) -> NearestLine
-    requires { ⌜ ListRoom bounds (now sites) (now triangles) (now halfedges) (now hull) × Few form ⌝ }
-    ensures { λ r. ⌜ NearestByForm form bounds (now (sites .entry)) (now (triangles .entry)) (now (halfedges .entry)) (now (hull .entry)) r ⌝ }
+// The line for a form's bytes.
+fn of_form(bytes: &[u8]) -> NearestLine
+    ensures { λ r. ⌜ FormLine (now (bytes .entry)) r ⌝ }
 {
-    let Form::Sound {
-        sites: n,
-        triangles: t,
-        hull: h,
-        clip,
-    } = form
-    else {
-        return NearestLine::Refused(form::step::number_of(form));
-    };
-    let coordinates = 2 * n;
-    let entries = 3 * t;
-    let given = form::boxes::box_of(clip, bounds);
+    let mut sites = [0.0f64; COORDINATES];
+    let mut triangles = [0u32; LINKS];
+    let mut halfedges = [0u32; LINKS];
+    let mut hull = [0u32; HULL];
+    let read = form::mesh::read(
+        false,
+        bytes,
+        &mut sites,
+        &mut triangles,
+        &mut halfedges,
+        &mut hull,
+    );
+    if read.number != 0 {
+        return NearestLine::Refused(read.number);
+    }
+    let given = read.given;
+    let n = read.coordinates;
+    let k = read.links;
+    let h = read.hull;
     of_mesh(
         given,
-        &sites[..coordinates],
-        &triangles[..entries],
-        &halfedges[..entries],
+        &sites[..n],
+        &triangles[..k],
+        &halfedges[..k],
         &hull[..h],
     )
 }
@@ -160,26 +160,12 @@ fn answer(bytes: &[u8], out: &mut [u8]) -> usize
     requires { ⌜ 128 ≤ length (now out) ⌝ }
     ensures { λ r. ⌜ NearestPrints (now (bytes .entry)) (take r (now (out .exit))) × (r ≤ length (now (out .entry))) ⌝ }
 {
-    let mut bounds = [0.0f64; 4];
-    let mut sites = [0.0f64; 192];
-    let mut triangles = [0u32; 576];
-    let mut halfedges = [0u32; 576];
-    let mut hull = [0u32; 96];
-    let form = form::read(
-        false,
-        bytes,
-        &mut bounds,
-        &mut sites,
-        &mut triangles,
-        &mut halfedges,
-        &mut hull,
-    );
-    let l = of_form(form, bounds, &sites, &triangles, &halfedges, &hull);
+    let l = of_form(bytes);
     crate::line::nearest_line(out, l)
 }
 
 fn main() {
-    let mut bytes = [0u8; 6947];
+    let mut bytes = [0u8; form::BYTES];
     let mut out = [0u8; 128];
     let n = io::read_full(STDIN_FILENO, &mut bytes);
     let m = answer(&bytes[..n], &mut out);

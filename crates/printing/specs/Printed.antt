@@ -1,30 +1,22 @@
 -- What a program prints for the bytes of a form, said for any text of a build: the text of what the build makes of the mesh whose form they are, or the line of a refusal.
 -- Definitions only.
+use mathlib.Core.Bool.{true}
 use mathlib.Core.Path.{_≡_}
-use mathlib.Core.Bool.{true, false}
 use mathlib.Core.List.{List}
 use mathlib.Core.Logic.{_≢_}
-use Prim.Native.Nat.{ℕ, _*_, _≤_}
-use lib.Ieee.{Float}
+use Prim.Native.Nat.{ℕ, _≤_}
+use lib.Dec.{eqb}
 use lib.ListN.{take}
-use Rattle.plane.specs.points.Plane.{at}
-use Rattle.plane.specs.given.Given.{bySize, byEdges}
+use Rattle.base.specs.common.Pick.{pick}
 use Rattle.plane.specs.declared.given.Given.{Given}
-use Rattle.octets.specs.Bytes.{each}
-use Rattle.form.specs.boxes.FormBox.{boxBy}
-use Rattle.mesh.specs.Accepted.{Mesh, mesh}
+use Rattle.mesh.specs.Accepted.{Mesh}
 use Rattle.admission.specs.Admits.{Admits}
 use Rattle.definition.specs.declared.Fault.{Fault}
 use Rattle.definition.specs.Fault.{Outcome, ok, refused}
 use Rattle.definition.specs.Build.{Built, build}
 use Rattle.arguments.specs.asking.Asks.{boxRules}
-use Rattle.form.specs.Form.{Outline, box, unclipped, edges, FormMesh, MeshFits, formOf, float, siteFloats, triangleSites, trianglePairs}
-use Rattle.form.specs.Place.{Place, NumberAt}
 use Rattle.printing.specs.parts.Labelled.{refusal}
-use lib.Dec.{eqb}
-use Rattle.base.specs.common.Pick.{pick}
-use Rattle.form.specs.declared.step.Form.{Form}
-use Rattle.form.specs.declared.step.Form.the-variants.{Sound, Broken}
+use Rattle.printing.specs.OfForm.{OfForm}
 
 -- the text of what was built of a mesh in a given box
 abbrev pub Text : Type 0
@@ -45,26 +37,8 @@ pub record ShownIn (text out : List ℕ) (space r : ℕ) : Type 0 where
   pub first : take r out ≡ text
   pub within : r ≤ space
 
--- the lists of a mesh that a form says
-abbrev pub meshOf : FormMesh → Mesh
-meshOf m = mesh (each siteFloats (m .sites)) (each triangleSites (m .triangles)) (each trianglePairs (m .triangles)) (m .hull)
+abbrev pub InBox : Text → Mesh → Given → List ℕ → Type 0
+InBox t m g = Shows (Admits m true (boxRules (g .sound))) (t m g) (build m (g .bounds))
 
-module _ (t : Text) where
-  module _ (m : Mesh) where
-    abbrev pub InBox : Given → List ℕ → Type 0
-    InBox g = Shows (Admits m true (boxRules (g .sound))) (t m g) (build m (g .bounds))
-
-    -- no form is read that has no box
-    abbrev pub ByClip : Outline → List ℕ → Type 0
-    ByClip (box x y w h) text = InBox (bySize (at (float x) (float y)) (float w) (float h)) text
-    ByClip unclipped text = ⊥
-    ByClip (edges left top right bottom) text = InBox (byEdges (float left) (float top) (float right) (float bottom)) text
-
-  -- the text of a form that was read into these lists: in the box by the kind of its first record and the four numbers in it
-  abbrev pub ByForm : Form → List Float → List Float → List ℕ → List ℕ → List ℕ → List ℕ → Type 0
-  ByForm (Broken n k) bs ss ts es hs text = text ≡ refusal n
-  ByForm (Sound s k h u) bs ss ts es hs text = InBox (mesh (take (2 * s) ss) (take (3 * k) ts) (take (3 * k) es) (take h hs)) (boxBy u bs) text
-
-  pub data Prints (s : List ℕ) : List ℕ → Type 0 where
-    sound : {text : List ℕ} (m : FormMesh) → MeshFits m → s ≡ formOf m → ByClip (meshOf m) (m .clip) text → Prints s text
-    broken : {k n : ℕ} → Place false s k → NumberAt false s k n → Prints s (refusal n)
+abbrev pub Prints : Text → List ℕ → List ℕ → Type 0
+Prints t = OfForm (InBox t) refusal

@@ -1,7 +1,7 @@
 -- Laws that only proofs use.
 pub mod BuildText
+pub mod BuiltSlices
 pub mod CellsInIndexes
-pub mod FormLists
 pub mod ReadForm
 pub mod TextRoom
 pub mod WholeBuild

@@ -1,10 +1,20 @@
 // Writes what the programs' texts share into a lent slice of bytes: a number in decimal digits, alone, after a blank or after a label, and the line of a refusal.
 // Each function writes its text from a place on and answers the place after it.
 use octets::put;
+ghost use mathlib.Core.Path.{_≡_};
 ghost use mathlib.Core.List.{[], _∷_, _++_};
+ghost use Prim.Native.Nat.{_<_};
 ghost use Rattle.printing.specs.parts.Text.{decimal};
 ghost use Rattle.printing.specs.parts.Labelled.{entries, refusal};
 ghost use Rattle.octets.specs.Wrote.{Wrote, HasRoom};
+
+// A count as the texts have it.
+pub fn narrow(n: usize) -> u32
+    requires { ⌜ n < 4294967296 ⌝ }
+    ensures { λ r. ⌜ r ≡ n ⌝ }
+{
+    n as u32
+}
 
 pub fn decimal(out: &mut [u8], at: usize, n: u32) -> usize
     requires { ⌜ HasRoom (now out) at (decimal n) ⌝ }

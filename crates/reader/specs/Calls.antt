@@ -8,6 +8,7 @@ use lib.Ieee.{Float}
 use lib.ListN.{length, replicate}
 use Rattle.base.specs.common.Pick.{pick}
 use Rattle.base.specs.numbers.Numbers.{refusedRoom}
+use Rattle.form.specs.Limits.{mostHull, mostCoordinates, mostLinks}
 use Rattle.form.specs.step.Reader.{Reading, reading, start, finished, takes}
 use Rattle.form.specs.declared.step.Reader.{Reader}
 use Rattle.reader.specs.state.Words.{stored}
@@ -37,9 +38,9 @@ listsOf d = formLists (d .bounds) (d .sites) (d .triangles) (d .halfedges) (d .h
 unfoldable pub roomy : FormLists → Bool
 roomy l =
     pick (ltb (length (l .bounds)) 4) (λ _. false)
-    (λ _. pick (ltb (length (l .sites)) 192) (λ _. false)
-    (λ _. pick (ltb (length (l .triangles)) 576) (λ _. false)
-    (λ _. pick (ltb (length (l .halfedges)) 576) (λ _. false) (λ _. leb 96 (length (l .hull))))))
+    (λ _. pick (ltb (length (l .sites)) mostCoordinates) (λ _. false)
+    (λ _. pick (ltb (length (l .triangles)) mostLinks) (λ _. false)
+    (λ _. pick (ltb (length (l .halfedges)) mostLinks) (λ _. false) (λ _. leb mostHull (length (l .hull))))))
 
 -- ---- begin
 

@@ -35,16 +35,16 @@ fn roomy(bounds: &[f64], sites: &[f64], triangles: &[u32], halfedges: &[u32], hu
     if bounds.len() < 4 {
         return false;
     }
-    if sites.len() < 192 {
+    if sites.len() < form::COORDINATES {
         return false;
     }
-    if triangles.len() < 576 {
+    if triangles.len() < form::LINKS {
         return false;
     }
-    if halfedges.len() < 576 {
+    if halfedges.len() < form::LINKS {
         return false;
     }
-    96 <= hull.len()
+    form::HULL <= hull.len()
 }
 
 // ---- begin

@@ -8,22 +8,22 @@ ghost use mathlib.Core.Path.{_≡_};
 ghost use mathlib.Core.Bool.{true};
 ghost use Prim.Native.Nat.{_+_, _-_, _^_, _≤_, _<_};
 ghost use Rattle.form.specs.step.Standing.{under, bodyOf, kinds, bodies};
-ghost use Rattle.reader.specs.standing.Stands.{both, few, numbered, opened, countAt, counted, placed, registered, given, stands};
+ghost use Rattle.reader.specs.standing.Stands.{both, validCounts, validRefusal, validKind, countAt, validRecords, validPlace, validRegister, validParts, isValid};
 
 // No number is past what a form can have.
-fn few(r: Reader) -> bool
-    ensures { λ a. ⌜ a ≡ few r ⌝ }
+fn valid_counts(r: Reader) -> bool
+    ensures { λ a. ⌜ a ≡ validCounts r ⌝ }
 {
     if 5 < r.stage {
         return false;
     }
-    if 96 < r.sites {
+    if (form::SITES as u64) < r.sites {
         return false;
     }
-    if 192 < r.triangles {
+    if (form::TRIANGLES as u64) < r.triangles {
         return false;
     }
-    if 96 < r.hull {
+    if (form::HULL as u64) < r.hull {
         return false;
     }
     if 32 < r.left {
@@ -33,8 +33,8 @@ fn few(r: Reader) -> bool
 }
 
 // A refusal's number, or 0. 20 stands only where a kind is expected and the form has not ended.
-fn numbered(refusal: u64, stage: u64, left: u64) -> bool
-    ensures { λ a. ⌜ a ≡ numbered refusal stage left ⌝ }
+fn valid_refusal(refusal: u64, stage: u64, left: u64) -> bool
+    ensures { λ a. ⌜ a ≡ validRefusal refusal stage left ⌝ }
 {
     if refusal == 0 {
         return true;
@@ -49,8 +49,8 @@ fn numbered(refusal: u64, stage: u64, left: u64) -> bool
 }
 
 // The kind that opened the form is one that opens forms.
-fn opened(old: bool, stage: u64, clip: u64) -> bool
-    ensures { λ a. ⌜ a ≡ opened old stage clip ⌝ }
+fn valid_kind(old: bool, stage: u64, clip: u64) -> bool
+    ensures { λ a. ⌜ a ≡ validKind old stage clip ⌝ }
 {
     if stage == 0 {
         return clip == 0;
@@ -98,13 +98,13 @@ pub fn both(a: bool, b: bool) -> bool
     false
 }
 
-fn counted(r: Reader) -> bool
-    requires { ⌜ few r ≡ true ⌝ }
-    ensures { λ a. ⌜ a ≡ counted r ⌝ }
+fn valid_records(r: Reader) -> bool
+    requires { ⌜ validCounts r ≡ true ⌝ }
+    ensures { λ a. ⌜ a ≡ validRecords r ⌝ }
 {
-    let sites = count_at(r.stage, 2, begun(r, 2, r.sites), 96);
-    let triangles = count_at(r.stage, 3, begun(r, 3, r.triangles), 192);
-    let hull = count_at(r.stage, 4, begun(r, 4, r.hull), 96);
+    let sites = count_at(r.stage, 2, begun(r, 2, r.sites), form::SITES as u64);
+    let triangles = count_at(r.stage, 3, begun(r, 3, r.triangles), form::TRIANGLES as u64);
+    let hull = count_at(r.stage, 4, begun(r, 4, r.hull), form::HULL as u64);
     both(sites, both(triangles, hull))
 }
 
@@ -120,7 +120,7 @@ fn body_of(r: Reader) -> u64
 
 // The bytes of all bodies that have begun.
 fn bodies(r: Reader) -> u64
-    requires { ⌜ few r ≡ true ⌝ }
+    requires { ⌜ validCounts r ≡ true ⌝ }
     ensures is { λ n. ⌜ n ≡ bodies r ⌝ }
     ensures small { λ n. ⌜ n < 10000 ⌝ }
 {
@@ -133,7 +133,7 @@ fn bodies(r: Reader) -> u64
 
 // How many records have begun.
 fn kinds(r: Reader) -> u64
-    requires { ⌜ few r ≡ true ⌝ }
+    requires { ⌜ validCounts r ≡ true ⌝ }
     ensures is { λ n. ⌜ n ≡ kinds r ⌝ }
     ensures small { λ n. ⌜ n < 1000 ⌝ }
 {
@@ -150,9 +150,9 @@ fn kinds(r: Reader) -> u64
 }
 
 // The byte is the one that the records give.
-fn placed(r: Reader) -> bool
-    requires { ⌜ few r ≡ true ⌝ }
-    ensures { λ a. ⌜ a ≡ placed r ⌝ }
+fn valid_place(r: Reader) -> bool
+    requires { ⌜ validCounts r ≡ true ⌝ }
+    ensures { λ a. ⌜ a ≡ validPlace r ⌝ }
 {
     if body_of(r) < r.left {
         return false;
@@ -188,8 +188,8 @@ fn low(n: u64) -> u64
 }
 
 // The register after n bytes: each comes in at its top, so that its low bytes are 0 before the eighth.
-fn registered(word: u64, n: u64) -> bool
-    ensures { λ a. ⌜ a ≡ registered word n ⌝ }
+fn valid_register(word: u64, n: u64) -> bool
+    ensures { λ a. ⌜ a ≡ validRegister word n ⌝ }
 {
     if n == 0 {
         return word == 0;
@@ -202,7 +202,7 @@ fn registered(word: u64, n: u64) -> bool
 
 // The bytes of bodies that have come.
 fn taken(r: Reader) -> u64
-    requires { ⌜ few r ≡ true ⌝ }
+    requires { ⌜ validCounts r ≡ true ⌝ }
     ensures { λ n. ⌜ n ≡ bodies r - r .left ⌝ }
 {
     let all = bodies(r);
@@ -212,24 +212,24 @@ fn taken(r: Reader) -> u64
     all - r.left
 }
 
-fn given(r: Reader) -> bool
-    requires { ⌜ few r ≡ true ⌝ }
-    ensures { λ a. ⌜ a ≡ given r ⌝ }
+fn valid_parts(r: Reader) -> bool
+    requires { ⌜ validCounts r ≡ true ⌝ }
+    ensures { λ a. ⌜ a ≡ validParts r ⌝ }
 {
     let first = both(
-        numbered(r.refusal, r.stage, r.left),
-        opened(r.old, r.stage, r.clip),
+        valid_refusal(r.refusal, r.stage, r.left),
+        valid_kind(r.old, r.stage, r.clip),
     );
-    let last = both(placed(r), registered(r.word, taken(r)));
-    both(first, both(counted(r), last))
+    let last = both(valid_place(r), valid_register(r.word, taken(r)));
+    both(first, both(valid_records(r), last))
 }
 
 // Whether bytes lead to this state.
-pub fn stands(r: Reader) -> bool
-    ensures { λ a. ⌜ a ≡ stands r ⌝ }
+pub fn is_valid(r: Reader) -> bool
+    ensures { λ a. ⌜ a ≡ isValid r ⌝ }
 {
-    if few(r) {
-        return given(r);
+    if valid_counts(r) {
+        return valid_parts(r);
     }
     false
 }

@@ -1,6 +1,6 @@
 // A reader's state between two calls: sixteen words that the caller keeps. Any words may come back; what no reading leaves is told apart.
 use crate::standing::both;
-use crate::standing::stands;
+use crate::standing::is_valid;
 use base::numbers::REFUSED_FORM;
 use form::step::Reader;
 use form::step::refused;
@@ -50,7 +50,7 @@ pub fn load(state: &[u64]) -> Reader
     ensures ok { λ r. ⌜ Ok r ⌝ }
 {
     let r = held(state);
-    if both(blank(&state[9..16]), stands(r)) {
+    if both(blank(&state[9..16]), is_valid(r)) {
         return r;
     }
     refused(start(false), REFUSED_FORM as u64)

@@ -15,8 +15,8 @@ use Rattle.form.specs.step.Standing.{bodyOf, Ok}
 use Rattle.form.specs.step.laws.Standing.{clip-small, sizes}
 use Rattle.form.specs.laws.Cut.{steps-append}
 use Rattle.form.specs.declared.step.Reader.{Reader}
-use Rattle.reader.specs.standing.Stands.{both, stands}
-use Rattle.reader.specs.standing.laws.Stands.{both-right, stands-ok}
+use Rattle.reader.specs.standing.Stands.{both, isValid}
+use Rattle.reader.specs.standing.laws.Stands.{both-right, is-valid-ok}
 use Rattle.reader.specs.state.Words.{readerOf}
 use Rattle.reader.specs.state.Entered.{blank}
 use Rattle.reader_reached.specs.laws.Earlier.{body-of-kind, earlier, at-first, ok-earlier, earlier-step}
@@ -97,5 +97,5 @@ is-left r o new w = ⊎-elim (λ f. inl (reached r o new f w)) (λ i. ⊎-elim n
         (eq-or-ne (r .left) 0)
 
 -- words that are taken for what they say are left by some reading
-pub taken-left : (ws : List ℕ) → both (blank (take 7 (drop 9 ws))) (stands (readerOf ws)) ≡ true → readerOf ws .word < 2 ^ 64 → ReachedState (readerOf ws) ⊎ EndedSo (readerOf ws)
-taken-left ws e w = is-left (readerOf ws) (stands-ok (readerOf ws) (both-right (blank (take 7 (drop 9 ws))) (stands (readerOf ws)) e)) refl w
+pub taken-left : (ws : List ℕ) → both (blank (take 7 (drop 9 ws))) (isValid (readerOf ws)) ≡ true → readerOf ws .word < 2 ^ 64 → ReachedState (readerOf ws) ⊎ EndedSo (readerOf ws)
+taken-left ws e w = is-left (readerOf ws) (is-valid-ok (readerOf ws) (both-right (blank (take 7 (drop 9 ws))) (isValid (readerOf ws)) e)) refl w

@@ -9,7 +9,7 @@ use crate::long::power;
 use crate::long::put_product;
 use plane::points::Point;
 use root::SIGN;
-use root::digits::LEAD;
+use root::whole_root::LEAD;
 ghost use mathlib.Core.Path.{_≡_};
 ghost use Prim.Native.Nat.{_+_, _*_, _<_};
 ghost use lib.Ieee.{binary64, ofBits, toBits};

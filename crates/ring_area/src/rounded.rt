@@ -3,7 +3,7 @@
 use crate::long::BASE;
 use crate::long::power;
 use root::SIGN;
-use root::digits::LEAD;
+use root::whole_root::LEAD;
 ghost use mathlib.Core.Path.{_≡_};
 ghost use Prim.Native.Nat.{_+_, _-_, _*_, _%_, _^_, _≤_, _<_};
 ghost use lib.Ieee.{binary64, round, size};

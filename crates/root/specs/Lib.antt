@@ -6,4 +6,4 @@ pub mod Unique
 pub mod SqrtIsRoot
 pub mod SqrtBounds
 pub mod laws
-pub mod digits
+pub mod whole_root

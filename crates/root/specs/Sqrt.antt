@@ -6,7 +6,7 @@ use Prim.Native.Nat.{ℕ, zero, suc, _+_, _-_, _*_, _/_, _^_}
 use lib.Dec.{leb, ltb}
 use lib.Ieee.{Float, nan, inf, fin, odd, size}
 use Rattle.base.specs.common.Pick.{pick}
-use Rattle.root.specs.digits.Near.{sq}
+use Rattle.root.specs.whole_root.Near.{sq}
 use Rattle.root.specs.Root.{units}
 
 -- the largest whole number whose square is at most n, of the numbers that have r's digits and k free ones below

@@ -10,7 +10,7 @@ use lib.IntN.{negsuc}
 use lib.Pow.{pow-add, pow-pos}
 use lib.Ieee.{Float, nan, inf, fin, binary64, fits, lt, le, ofBits}
 use Rattle.base.specs.common.Binary64 as B
-use Rattle.root.specs.digits.Near.{sq}
+use Rattle.root.specs.whole_root.Near.{sq}
 use Rattle.root.specs.Root.{units, Root}
 use Rattle.root.specs.Bounded.{Bounded}
 use Rattle.root.specs.laws.Tests.{minus-down, zero-not-above}

@@ -9,7 +9,7 @@ use native.Mathlib.Omega.{arith}
 use lib.Dec.{T}
 use lib.Ieee.{Float, nan, inf, fin, binary64, fits, isNan, ofBits, toBits, nanBits}
 use lib.Ieee.Bits.{toBits-ofBits, nanBits-is}
-use Rattle.root.specs.digits.Near.{sq}
+use Rattle.root.specs.whole_root.Near.{sq}
 use Rattle.root.specs.Root.{units, Plus, NearestRoot, Root, RootBits}
 use Rattle.root.specs.laws.Squares.{le-or-lt, sq-mono}
 use Rattle.root.specs.laws.OneUnits.{same-units, one-nearest}

@@ -1,9 +1,9 @@
 // The schoolbook root on 2, turn by turn, then what it is rounded to: docs/trust/ROOT.md shows the first eight rows and the last.
 use libc::STDOUT_FILENO;
-use root::digits::Page;
+use root::whole_root::Page;
 ghost use mathlib.Core.Path.{_≡_};
 ghost use Prim.Native.Nat.{_^_, _<_};
-ghost use Rattle.root.specs.digits.Turn.{nextPage, Narrow};
+ghost use Rattle.root.specs.whole_root.Turn.{nextPage, Narrow};
 
 // The number whose root is found digit by digit: 2 as its 27 pairs of binary digits.
 const TWO: u64 = 0x20_0000_0000_0000;
@@ -39,15 +39,15 @@ fn row(i: u64, p: Page) -> Page
 {
     io::write_all(STDOUT_FILENO, b"|");
     cell(i);
-    brought(root::digits::bring_down(p));
-    let q = root::digits::turn(p);
+    brought(root::whole_root::bring_down(p));
+    let q = root::whole_root::turn(p);
     settled(q);
     q
 }
 
 fn rounded() {
     io::write_all(STDOUT_FILENO, b"rounded ");
-    io::print_decimal(STDOUT_FILENO, root::digits::nearest_root(TWO));
+    io::print_decimal(STDOUT_FILENO, root::whole_root::nearest_root(TWO));
     io::write_all(STDOUT_FILENO, b"\n");
 }
 

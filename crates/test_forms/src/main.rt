@@ -24,7 +24,7 @@ fn sound(sites: usize, triangles: usize, hull: usize) {
     number(hull);
 }
 
-// The kind that opened the form, where it is not a box by centre and size.
+// The kind that opened the form, where it is not a box by center and size.
 fn opened(clip: u8) {
     if clip == 6 {
         io::write_all(STDOUT_FILENO, b" unclipped");
@@ -51,10 +51,10 @@ fn say(form: Form) {
 
 fn verdict(old: bool, bytes: &[u8]) {
     let mut bounds = [0.0f64; 4];
-    let mut sites = [0.0f64; 192];
-    let mut triangles = [0u32; 576];
-    let mut halfedges = [0u32; 576];
-    let mut hull = [0u32; 96];
+    let mut sites = [0.0f64; form::COORDINATES];
+    let mut triangles = [0u32; form::LINKS];
+    let mut halfedges = [0u32; form::LINKS];
+    let mut hull = [0u32; form::HULL];
     let form = form::read(
         old,
         bytes,

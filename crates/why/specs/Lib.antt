@@ -1,6 +1,5 @@
 -- The root of the crate's definitions.
 pub mod Printed
-pub mod Steps
 pub mod One
 pub mod Enough
 pub mod laws

@@ -1,3 +1,2 @@
 -- Laws that only proofs use.
 pub mod Room
-pub mod ReadForm

@@ -5,7 +5,9 @@ pub mod site_words;
 
 use crate::site_words::Command;
 use crate::site_words::words::command_of;
-use form::step::Form;
+use form::COORDINATES;
+use form::HULL;
+use form::LINKS;
 use libc::STDERR_FILENO;
 use libc::STDIN_FILENO;
 use libc::STDOUT_FILENO;
@@ -16,10 +18,8 @@ ghost use Prim.Native.Nat.{_≤_};
 ghost use lib.ListN.{length, take};
 ghost use Rattle.plane.specs.given.Finite.{Fits};
 ghost use Rattle.mesh.specs.Accepted.{mesh};
-ghost use Rattle.form.specs.boxes.FormBox.{boxBy};
-ghost use Rattle.form.specs.step.Holds.{ListRoom, Few};
-ghost use Rattle.why.specs.Printed.{WhyInBox, WhyPrints};
-ghost use Rattle.why.specs.Steps.{Sized, WhyByForm};
+ghost use Rattle.form.specs.mesh.Read.{MeshSized};
+ghost use Rattle.why.specs.Printed.{WhyInBox, FormReason, WhyPrints};
 
 fn in_box(
     given: Given,
@@ -29,14 +29,14 @@ fn in_box(
     hull: &[u32],
     q: Question,
 ) -> Reason
-    requires { ⌜ Sized (length (now sites)) (length (now triangles)) (length (now hull)) × Fits given ⌝ }
-    ensures { λ r. ⌜ WhyInBox (mesh (now (sites .entry)) (now (triangles .entry)) (now (halfedges .entry)) (now (hull .entry))) given q r ⌝ }
+    requires { ⌜ MeshSized (length (now sites)) (length (now triangles)) (length (now hull)) × Fits given ⌝ }
+    ensures { λ r. ⌜ WhyInBox q (mesh (now (sites .entry)) (now (triangles .entry)) (now (halfedges .entry)) (now (hull .entry))) given r ⌝ }
 {
-    let mut work = [0u32; 96];
-    let mut vertices = [0.0f64; 3656];
-    let mut indexes = [0u32; 3076];
-    let mut offsets = [0u32; 97];
-    let mut counts = [0u32; 9];
+    let mut work = [0u32; form::SITES];
+    let mut vertices = [0.0f64; printing::VERTICES];
+    let mut indexes = [0u32; printing::INDEXES];
+    let mut offsets = [0u32; printing::OFFSETS];
+    let mut counts = [0u32; printing::COUNTS];
     reasons::explaining::why(
         given,
         sites,
@@ -52,53 +52,34 @@ fn in_box(
     )
 }
 
-// In the box that the form gives.
-fn of_mesh(
-    clip: u8,
-    bounds: [f64; 4],
-    sites: &[f64],
-    triangles: &[u32],
-    halfedges: &[u32],
-    hull: &[u32],
-    q: Question,
-) -> Reason
-    requires { ⌜ Sized (length (now sites)) (length (now triangles)) (length (now hull)) ⌝ }
-    ensures { λ r. ⌜ WhyInBox (mesh (now (sites .entry)) (now (triangles .entry)) (now (halfedges .entry)) (now (hull .entry))) (boxBy clip bounds) q r ⌝ }
+// The reason for a form's bytes.
+fn of_form(bytes: &[u8], q: Question) -> Reason
+    ensures { λ r. ⌜ FormReason q (now (bytes .entry)) r ⌝ }
 {
-    let given = form::boxes::box_of(clip, bounds);
-    in_box(given, sites, triangles, halfedges, hull, q)
-}
-
-// The reason for a form that was read into these lists.
-fn of_form(
-    form: Form,
-    bounds: [f64; 4],
-    sites: &[f64],
-    triangles: &[u32],
-    halfedges: &[u32],
-    hull: &[u32],
-    q: Question,
-) -> Reason
-    requires { ⌜ ListRoom bounds (now sites) (now triangles) (now halfedges) (now hull) × Few form ⌝ }
-    ensures { λ r. ⌜ WhyByForm q form bounds (now (sites .entry)) (now (triangles .entry)) (now (halfedges .entry)) (now (hull .entry)) r ⌝ }
-{
-    let Form::Sound {
-        sites: n,
-        triangles: t,
-        hull: h,
-        clip,
-    } = form
-    else {
-        return Reason::Number(form::step::number_of(form));
-    };
-    let coordinates = 2 * n;
-    let entries = 3 * t;
-    of_mesh(
-        clip,
-        bounds,
-        &sites[..coordinates],
-        &triangles[..entries],
-        &halfedges[..entries],
+    let mut sites = [0.0f64; COORDINATES];
+    let mut triangles = [0u32; LINKS];
+    let mut halfedges = [0u32; LINKS];
+    let mut hull = [0u32; HULL];
+    let read = form::mesh::read(
+        false,
+        bytes,
+        &mut sites,
+        &mut triangles,
+        &mut halfedges,
+        &mut hull,
+    );
+    if read.number != 0 {
+        return Reason::Number(read.number);
+    }
+    let given = read.given;
+    let n = read.coordinates;
+    let k = read.links;
+    let h = read.hull;
+    in_box(
+        given,
+        &sites[..n],
+        &triangles[..k],
+        &halfedges[..k],
         &hull[..h],
         q,
     )
@@ -109,27 +90,13 @@ fn answer(bytes: &[u8], q: Question, out: &mut [u8]) -> usize
     requires { ⌜ 128 ≤ length (now out) ⌝ }
     ensures { λ r. ⌜ WhyPrints q (now (bytes .entry)) (take r (now (out .exit))) × (r ≤ length (now (out .entry))) ⌝ }
 {
-    let mut bounds = [0.0f64; 4];
-    let mut sites = [0.0f64; 192];
-    let mut triangles = [0u32; 576];
-    let mut halfedges = [0u32; 576];
-    let mut hull = [0u32; 96];
-    let form = form::read(
-        false,
-        bytes,
-        &mut bounds,
-        &mut sites,
-        &mut triangles,
-        &mut halfedges,
-        &mut hull,
-    );
-    let r = of_form(form, bounds, &sites, &triangles, &halfedges, &hull, q);
+    let r = of_form(bytes, q);
     crate::line::reason_line(out, r)
 }
 
 // Prints the reason for the form on standard input.
 fn print(q: Question) {
-    let mut bytes = [0u8; 6947];
+    let mut bytes = [0u8; form::BYTES];
     let mut out = [0u8; 128];
     let n = io::read_full(STDIN_FILENO, &mut bytes);
     let m = answer(&bytes[..n], q, &mut out);

@@ -1,26 +1,61 @@
--- `audit::answer` prints what is promised: the form was read, and its answer tells what its bytes are.
+-- `audit::answer` prints what is promised: the form was read, and its lists are the mesh of its bytes.
+use mathlib.Core.Path.{sym}
 use native.Mathlib.Omega.{arith}
-use Rattle.form.specs.laws.Lists.{bytes}
-use Rattle.printing.specs.laws.ReadForm.{printed}
-use Rattle.audit.specs.Printed.{auditText}
+use lib.Seq.{length-take-le}
+use Rattle.printing.specs.parts.laws.Labelled.{refusal-short}
+use Rattle.printing.specs.laws.TextRoom.{line-held}
+use Rattle.printing.specs.laws.ReadForm.{parts-sized, told, not-told}
 use borrow.Author.Needs.{needs}
 use Rattle.audit.proofs.answer.Statement.{statement}
 use Rattle.audit.proofs.answer.Tie as tie
 
+-- the function's entry, and where the form was read
+abbrev begin : tie.After-read → tie.Start
+begin c = c .before .before .before .before .before .before .before
+
+abbrev read : tie.After-sites3 → tie.After-read
+read c = c .before .before .before .before .before .before .before .before .before
+
+refusal-requires : tie.Need-refusal-requires
+refusal-requires c κs = let w = c .before .before .before .before .before .before .before in omega (arith, refusal-short (w .read .result .number), begin w .pre)
+
 returns : tie.Need-returns
 returns c =
-    let at-read = c .before .before .before .before .before .before .before .before .before .before .before .before .before in
-    let at-shared-slice-known = at-read .before .before .before .before .before .before .before in
-    let s = c .before .before .before .before .before .before .before .before .before .before .before .before .before .before .before .before .before .before .before .before .before in
-    let h = c .before .before .of-form .ensures in (
-      printed auditText (at-read .read .ensures) (bytes (s .args .bytes .now) (λ i. omega (arith, at-shared-slice-known .shared-slice-known .given i)))
-          (record { bounds = omega arith; sites = omega arith; triangles = omega arith; halfedges = omega arith; hull = omega arith }) (h .0),
-      h .1,
-    )
+    let at-refusal = c .before .before in
+    let test = at-refusal .before .before in
+    let w = test .before .before .before .before .before .before in
+    let h = line-held _ (omega (arith, begin w .pre)) (at-refusal .refusal .ensures) in
+    (not-told (w .read .ensures) (test .if1 .taken) (h .first), h .within)
+
+slice-aggregate-in-box : tie.Need-slice-aggregate-in-box
+slice-aggregate-in-box c = let r = read c .read in sym (length-take-le _ _ (omega (arith, r .ensures .sized .few-sites, r .kept .1 .1 .0)))
+
+slice-aggregate-in-box-2 : tie.Need-slice-aggregate-in-box-2
+slice-aggregate-in-box-2 c = let r = read (c .before) .read in sym (length-take-le _ _ (omega (arith, r .ensures .sized .few-triangles, r .kept .1 .1 .1 .0)))
+
+slice-aggregate-in-box-3 : tie.Need-slice-aggregate-in-box-3
+slice-aggregate-in-box-3 c = let r = read (c .before .before) .read in sym (length-take-le _ _ (omega (arith, r .ensures .sized .few-triangles, r .kept .1 .1 .1 .1 .0)))
+
+slice-aggregate-in-box-4 : tie.Need-slice-aggregate-in-box-4
+slice-aggregate-in-box-4 c = let r = read (c .before .before .before) .read in sym (length-take-le _ _ (omega (arith, r .ensures .sized .few-on-hull, r .kept .1 .1 .1 .1 .1 .0)))
+
+in-box-requires : tie.Need-in-box-requires
+in-box-requires c κs =
+    let w = read (c .before .before .before) in
+    let r = w .read .ensures in
+    (parts-sized _ _ _ (r .sized), r .box, begin w .pre)
+
+returns-2 : tie.Need-returns-2
+returns-2 c =
+    let at-in-box = c .before .before in
+    let test = at-in-box .before .before .before .before .before .before .before in
+    let w = test .before .before .before .before .before .before in
+    let h = at-in-box .in-box .ensures in
+    (told (w .read .ensures) (test .if1 .left) (h .0), h .1)
 
 pub answer-spec : {M : Type 1} → statement M
 answer-spec =
     tie.close
-    (tie.spec (λ c. search needs) (λ c. search needs) (λ c. search needs) (λ c. search needs) (λ c. search needs)
-    (λ c κs. search needs) (λ c. search needs) (λ c. search needs) (λ c. search needs) (λ c. search needs)
-    (λ c κs. search needs) (λ c. search needs) returns)
+    (tie.spec (λ c. search needs) (λ c. search needs) (λ c. search needs) (λ c. search needs) (λ c κs. search needs) refusal-requires (λ c. search needs) returns
+    (λ c. search needs) slice-aggregate-in-box (λ c. search needs) slice-aggregate-in-box-2 (λ c. search needs) slice-aggregate-in-box-3 (λ c. search needs) slice-aggregate-in-box-4
+    in-box-requires (λ c. search needs) returns-2)

@@ -1,7 +1,7 @@
 -- `audit::in_box`: the build has room, so its answer is by the other rules alone, and of its slices the used parts are what was built.
 use mathlib.Core.Path.{refl}
 use native.Mathlib.Omega.{arith}
-use Rattle.audit.specs.laws.BuildText.{cut-in-box, text-in-box}
+use Rattle.audit.specs.laws.BuildText.{cut-in-box, lines-in-box}
 use borrow.Author.Needs.{needs}
 use Rattle.audit.proofs.in_box.Statement.{statement}
 use Rattle.audit.proofs.in_box.Tie as tie
@@ -14,10 +14,10 @@ show-requires c κs =
     let at-build = c .before .before .before .before .before .before .before .before .before .before in
     let s = at-build .before .before .before .before .before .before .before .before .before .before .before in
     let b = at-build .build in (
-      λ z. cut-in-box _ _ (s .pre .0) _ _ (record { work = refl; vertices = refl; indexes = refl; offsets = refl; counts = refl }) _ _ (s .pre .1) (b .ensures)
+      λ z. cut-in-box _ (s .pre .0) _ _ (record { work = refl; vertices = refl; indexes = refl; offsets = refl; counts = refl }) _ _ (s .pre .1) (b .ensures)
           (b .kept .1 .1 .1 .1 .1 .1 .0) (b .kept .1 .1 .1 .1 .1 .1 .1 .0) z,
       omega (arith, b .kept .1 .1 .1 .1 .1 .1 .1 .1 .1 .0),
-      s .pre .0 .room,
+      s .pre .2,
     )
 
 returns : tie.Need-returns
@@ -26,7 +26,7 @@ returns c =
     let at-build = at-show .before .before .before .before .before .before .before .before .before .before .before in
     let s = at-build .before .before .before .before .before .before .before .before .before .before .before in
     let h = at-show .show .ensures in
-    (rw (h .first) (text-in-box _ _ (s .pre .0) _ _ (record { work = refl; vertices = refl; indexes = refl; offsets = refl; counts = refl }) _ _ (s .pre .1) (at-build .build .ensures)), h .within)
+    (rw (h .first) (lines-in-box _ (s .pre .0) _ _ (record { work = refl; vertices = refl; indexes = refl; offsets = refl; counts = refl }) _ _ (s .pre .1) (at-build .build .ensures)), h .within)
 
 pub in-box-spec : {M : Type 1} → statement M
 in-box-spec =

@@ -18,6 +18,8 @@ use Rattle.arguments.specs.asking.Asks.{CellsOf}
 use Rattle.arguments.specs.entries.Named.{EntriesNamed}
 use Rattle.areas.specs.Promise.{entriesOfAll, KeepsRule}
 use Rattle.auditing.specs.nearer.Nearer.{noLists}
+use Rattle.form.specs.Limits.{mostSites}
+use Rattle.printing.specs.Rooms.{indexRoom}
 use Rattle.auditing.specs.rules.Kept.{AuditKept}
 
 -- ---- entries that name one of n vertices
@@ -92,7 +94,7 @@ module _ (cs : List (List ℕ)) where
       let e : length off - 1 ≡ length cs = omega (arith, offsets-length 0 cs) in
       ap (λ (k : ℕ). take (getD off k 0) (joined cs)) e ∙ ap (λ (k : ℕ). take k (joined cs)) last-at ∙ take-all (length (joined cs)) (joined cs) (omega arith)
 
-  pub pieces-kept : (sites v : List Float) → length cs ≡ length sites / 2 → length cs ≤ 96 → length (joined cs) ≤ 3076 → EntriesNamed (joined cs) (length v / 2) → KeepsRule v (joined cs)
+  pub pieces-kept : (sites v : List Float) → length cs ≡ length sites / 2 → length cs ≤ mostSites → length (joined cs) ≤ indexRoom → EntriesNamed (joined cs) (length v / 2) → KeepsRule v (joined cs)
       → AuditKept true sites v off (joined cs) [] [] 20
   unfolding noLists
   pieces-kept sites v n few short named kept =

@@ -1,4 +1,4 @@
--- How twins are searched for, block by block: the sites of a block hang in slots by their places. What the inner functions promise.
+-- How twins are searched for, block by block: the sites of a block stand in a hash table with chains, by their places. What the inner functions promise.
 use mathlib.Core.Path.{_≡_}
 use mathlib.Core.Bool.{Bool, false}
 use mathlib.Core.List.{List}
@@ -15,61 +15,61 @@ use Rattle.auditing.specs.places.Places.{twinAt}
 abbrev pub block : ℕ
 block = 512
 
-abbrev pub slots : ℕ
-slots = 512
+abbrev pub buckets : ℕ
+buckets = 512
 
-unfoldable pub slotOf : Point → ℕ
-slotOf p = (toBits binary64 (p .x ⊞ zero) % 2654435761 + toBits binary64 (p .y ⊞ zero) % 3266489917) % slots
+unfoldable pub bucketOf : Point → ℕ
+bucketOf p = (toBits binary64 (p .x ⊞ zero) % 2654435761 + toBits binary64 (p .y ⊞ zero) % 3266489917) % buckets
 
 -- of site k of the block from a on
-abbrev pub slotIn : List Float → ℕ → ℕ → ℕ
-slotIn sites a k = slotOf (pointAt sites (a + k))
+abbrev pub bucketIn : List Float → ℕ → ℕ → ℕ
+bucketIn sites a k = bucketOf (pointAt sites (a + k))
 
 -- how many of that block stand before s
-abbrev pub hungTo : ℕ → ℕ → ℕ
-hungTo a s = min (s - a) block
+abbrev pub chainedTo : ℕ → ℕ → ℕ
+chainedTo a s = min (s - a) block
 
 -- one of these stands at the place of s
 unfoldable pub twinIn : List Float → ℕ → ℕ → Bool
-twinIn sites a s = anyBelow (λ (k : ℕ). twinAt sites s (a + k)) (hungTo a s)
+twinIn sites a s = anyBelow (λ (k : ℕ). twinAt sites s (a + k)) (chainedTo a s)
 
--- x is one more than the last number below n whose slot is m, or 0
-pub record LastIn (slot : ℕ → ℕ) (m n x : ℕ) : Type 0 where
+-- x is one more than the last number below n whose bucket is m, or 0
+pub record LastIn (bucket : ℕ → ℕ) (m n x : ℕ) : Type 0 where
   pub within : x ≤ n
-  pub there : (k : ℕ) → x ≡ suc k → slot k ≡ m
-  pub after : (k : ℕ) → x ≤ k → k < n → slot k ≢ m
+  pub there : (k : ℕ) → x ≡ suc k → bucket k ≡ m
+  pub after : (k : ℕ) → x ≤ k → k < n → bucket k ≢ m
 
--- the first n hang: the last of each slot, and for each the one before it in its slot
-pub record Hung (slot : ℕ → ℕ) (n : ℕ) (heads links : List ℕ) : Type 0 where
-  pub wide : length heads ≡ slots
+-- the first n are in the table: the last of each bucket, and for each the one before it in its chain
+pub record InTable (bucket : ℕ → ℕ) (n : ℕ) (heads links : List ℕ) : Type 0 where
+  pub wide : length heads ≡ buckets
   pub long : length links ≡ block
-  pub lasts : (m : ℕ) → m < slots → LastIn slot m n (getD heads m 0)
-  pub nexts : (k : ℕ) → k < n → LastIn slot (slot k) k (getD links k 0)
+  pub lasts : (m : ℕ) → m < buckets → LastIn bucket m n (getD heads m 0)
+  pub nexts : (k : ℕ) → k < n → LastIn bucket (bucket k) k (getD links k 0)
 
 -- those of the block from a on that stand before s
 pub record BlockIn (sites : List Float) (a s : ℕ) (heads links : List ℕ) : Type 0 where
   pub from : a ≤ s
   pub site : s < length sites / 2
-  pub hung : Hung (slotIn sites a) (hungTo a s) heads links
+  pub chained : InTable (bucketIn sites a) (chainedTo a s) heads links
 
--- m is the slot of s
-pub record InSlot (sites : List Float) (a s m : ℕ) (heads links : List ℕ) : Type 0 where
+-- m is the bucket of s
+pub record InBucket (sites : List Float) (a s m : ℕ) (heads links : List ℕ) : Type 0 where
   pub in-block : BlockIn sites a s heads links
-  pub slot : m ≡ slotOf (pointAt sites s)
+  pub bucket : m ≡ bucketOf (pointAt sites s)
 
--- k may hang in the slot m
-pub record Hangs (heads links : List ℕ) (m k : ℕ) : Type 0 where
-  pub wide : length heads ≡ slots
+-- k may be inserted into the bucket m
+pub record CanInsert (heads links : List ℕ) (m k : ℕ) : Type 0 where
+  pub wide : length heads ≡ buckets
   pub long : length links ≡ block
-  pub slot : m < slots
+  pub bucket : m < buckets
   pub room : k < block
 
--- it does, in front of what hung there
-pub record HungAt (heads links : List ℕ) (m k : ℕ) (heads′ links′ : List ℕ) : Type 0 where
+-- it is, in front of what was there
+pub record Inserted (heads links : List ℕ) (m k : ℕ) (heads′ links′ : List ℕ) : Type 0 where
   pub last : heads′ ≡ set heads m (suc k)
   pub next : links′ ≡ set links k (getD heads m 0)
 
--- what is said of s; where it has no twin in the block it hangs too
+-- what is said of s; where it has no twin in the block it is inserted too
 pub record Visited (sites : List Float) (a s : ℕ) (heads links : List ℕ) (r : Bool) : Type 0 where
   pub twin : r ≡ twinIn sites a s
-  pub hung : r ≡ false → Hung (slotIn sites a) (hungTo a (s + 1)) heads links
+  pub chained : r ≡ false → InTable (bucketIn sites a) (chainedTo a (s + 1)) heads links

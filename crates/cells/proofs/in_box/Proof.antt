@@ -1,7 +1,7 @@
 -- `cells::in_box`: the build has room, so its answer is by the other rules alone, and its slices hold what the listing goes by.
 use native.Mathlib.Omega.{arith}
 use mathlib.Core.Path.{refl}
-use Rattle.cells.specs.laws.BuildText.{laid-in-box, text-in-box}
+use Rattle.cells.specs.laws.BuildText.{laid-in-box, listing-in-box}
 use borrow.Author.Needs.{needs}
 use Rattle.cells.proofs.in_box.Statement.{statement}
 use Rattle.cells.proofs.in_box.Tie as tie
@@ -12,11 +12,11 @@ show-in-box-requires c κs =
     let at-build = at-narrow .before .before .before .before .before .before in
     let s = c .before .before .before .before .before .before .before .before .before .before .before .before .before .before .before .before .before .before .before .before .before .before in
     let b = at-build .build in (
-      λ z. rw (at-narrow .narrow .ensures) (laid-in-box _ _ (s .pre .0) _ _
-          (record { work = refl; vertices = refl; indexes = refl; offsets = refl; counts = refl }) _ _ (b .ensures)
+      λ z. rw (at-narrow .narrow .ensures) (laid-in-box _ (s .pre .0) _ _
+          (record { work = refl; vertices = refl; indexes = refl; offsets = refl; counts = refl }) _ _ (b .ensures) _ (s .pre .2)
           (b .kept .1 .1 .1 .1 .1 .1 .1 .0) z),
       omega (arith, b .kept .1 .1 .1 .1 .1 .1 .1 .1 .1 .0),
-      s .pre .0 .room,
+      s .pre .2,
     )
 
 returns : tie.Need-returns
@@ -30,7 +30,7 @@ returns c =
     let b = at-build .build in
     let h = c .before .before .show-in-box .ensures in (
       rw (h .first, at-narrow .narrow .ensures, at-narrow2 .narrow2 .ensures)
-          (text-in-box _ _ (s .pre .0) _ _ (record { work = refl; vertices = refl; indexes = refl; offsets = refl; counts = refl }) _ _ (b .ensures)),
+          (listing-in-box _ (s .pre .0) _ _ (record { work = refl; vertices = refl; indexes = refl; offsets = refl; counts = refl }) _ _ (b .ensures)),
       h .within,
     )
 

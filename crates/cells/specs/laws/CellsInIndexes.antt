@@ -8,6 +8,8 @@ use lib.ListN.{length, getD, take, drop, length-append}
 use Rattle.cell_memory.specs.layout.Regions.{joined, offsetsFrom}
 use Rattle.cell_memory.specs.layout.laws.Compacted.{offsets-length}
 use Rattle.cells.specs.listing.Listing.{cellLine, cellLines}
+use Rattle.form.specs.Limits.{mostSites}
+use Rattle.printing.specs.Rooms.{indexRoom}
 use Rattle.printing.specs.parts.Listed.{listedCell}
 use Rattle.cells.specs.Printed.{linesOf}
 use Rattle.cells.specs.answer_text.Shown.{Laid}
@@ -15,26 +17,26 @@ use Rattle.printing.specs.laws.CellsInIndexes.{joined-split, offset-at, next-at
 
 -- the offsets and the index list may go on after the cells
 module _ (cs : List (List ℕ)) (more rest : List ℕ) where
-  abbrev offs : List ℕ
-  offs = offsetsFrom 0 cs ++ more
+  abbrev off : List ℕ
+  off = offsetsFrom 0 cs ++ more
 
-  abbrev idx : List ℕ
-  idx = joined cs ++ rest
+  abbrev ix : List ℕ
+  ix = joined cs ++ rest
 
-  lines-by : (ds : List (List ℕ)) (i : ℕ) → ((k : ℕ) → k < length ds → listedCell offs idx (i + k) ≡ getD ds k []) → cellLines offs idx i (length ds) ≡ linesOf i ds
+  lines-by : (ds : List (List ℕ)) (i : ℕ) → ((k : ℕ) → k < length ds → listedCell off ix (i + k) ≡ getD ds k []) → cellLines off ix i (length ds) ≡ linesOf i ds
   unfolding cellLines linesOf
   lines-by [] i h = refl
   lines-by (d ∷ ds) i h =
-      let q : listedCell offs idx i ≡ d = subst (λ (j : ℕ). listedCell offs idx j ≡ d) (add-zero i) (h 0 (omega arith)) in
+      let q : listedCell off ix i ≡ d = subst (λ (j : ℕ). listedCell off ix j ≡ d) (add-zero i) (h 0 (omega arith)) in
       rw q (ap (λ (l : List ℕ). cellLine i d ++ l) (lines-by ds (suc i) (λ k l. let e : suc i + k ≡ i + suc k = omega arith in rw e (h (suc k) (omega arith)))))
 
-  pub lines-are : cellLines offs idx 0 (length cs) ≡ linesOf 0 cs
+  pub lines-are : cellLines off ix 0 (length cs) ≡ linesOf 0 cs
   lines-are = lines-by cs 0 (λ k h. let e : 0 + k ≡ k = omega arith in rw e (cell-at cs more rest k h))
 
   -- within the form's limits there is room for their listing
-  pub laid : (space : ℕ) → length cs ≤ 96 → length idx ≤ 3076 → 65536 ≤ space → Laid (length cs) offs idx space
+  pub laid : (space : ℕ) → length cs ≤ mostSites → length ix ≤ indexRoom → 65536 ≤ space → Laid (length cs) off ix space
   laid space few short room =
-      let all : length idx ≡ length (joined cs) + length rest = length-append (joined cs) rest in
+      let all : length ix ≡ length (joined cs) + length rest = length-append (joined cs) rest in
       record {
         few = few;
         layout = record {

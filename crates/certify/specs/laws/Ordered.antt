@@ -1,22 +1,12 @@
 -- Whichever box a form gives, it is in order where it keeps rule 3.
-use mathlib.Core.Bool.{Bool, true, false}
-use mathlib.Core.List.{List}
-use Prim.Native.Nat.{ℕ}
-use lib.Dec.{eqb}
-use lib.Ieee.{Float, nan}
-use lib.ListN.{getD}
-use Rattle.base.specs.common.Pick.{pick}
-use Rattle.plane.specs.points.Plane.{at}
-use Rattle.plane.specs.given.Given.{bySize, byEdges}
-use Rattle.form.specs.boxes.FormBox.{boxBy}
+use mathlib.Core.Path.{sym, subst}
+use Rattle.plane.specs.declared.given.Given.{Given}
+use Rattle.form.specs.Form.{Outline, box, unclipped, edges}
+use Rattle.form.specs.mesh.Read.{BoxOf}
 use Rattle.cutting_calls.specs.call.Steps.{InOrder}
 use Rattle.cutting_calls.specs.call.laws.Order.{size-ordered, edges-ordered}
 
-pub box-ordered : (kind : ℕ) (l : List Float) → InOrder (boxBy kind l)
-box-ordered kind l = go (eqb kind 7)
-  where
-    go : (edges : Bool) → InOrder (pick edges
-        (λ _. byEdges (getD l 0 nan) (getD l 1 nan) (getD l 2 nan) (getD l 3 nan))
-        (λ _. bySize (at (getD l 0 nan) (getD l 1 nan)) (getD l 2 nan) (getD l 3 nan)))
-    go true = edges-ordered _ _ _ _
-    go false = size-ordered _ _ _
+pub box-ordered : (c : Outline) (g : Given) → BoxOf c g → InOrder g
+box-ordered (box x y w h) g b = subst InOrder (sym b) (size-ordered _ _ _)
+box-ordered unclipped g b = absurd b
+box-ordered (edges x y u v) g b = subst InOrder (sym b) (edges-ordered _ _ _ _)

@@ -1,6 +1,6 @@
 -- `export::in_box`: the build has room, so its answer is by the other rules alone, and its slices hold what the lines go by.
 use mathlib.Core.Path.{refl}
-use Rattle.export.specs.laws.BuildText.{laid-in-box, text-in-box}
+use Rattle.export.specs.laws.BuildText.{laid-in-box, lines-in-box}
 use borrow.Author.Needs.{needs}
 use Rattle.export.proofs.in_box.Statement.{statement}
 use Rattle.export.proofs.in_box.Tie as tie
@@ -12,9 +12,9 @@ show-requires c κs =
     let start = at-build .before .before .before .before .before .before .before .before .before .before .before in
     let b = at-build .build in (
       λ z. rw (at-narrow .narrow .ensures, b .kept .1 .1 .1 .1 .1 .1 .0)
-          (laid-in-box _ _ (start .pre .0) _ _ (record { work = refl; vertices = refl; indexes = refl; offsets = refl; counts = refl }) _ _ (start .pre .1) (b .ensures)
+          (laid-in-box _ (start .pre .0) _ _ (record { work = refl; vertices = refl; indexes = refl; offsets = refl; counts = refl }) _ _ (start .pre .1) (b .ensures)
           (b .kept .1 .1 .1 .1 .1 .1 .1 .0) z),
-      start .pre .0 .room,
+      start .pre .2,
     )
 
 returns : tie.Need-returns
@@ -26,7 +26,7 @@ returns c =
     let b = at-build .build in
     let h = at-show .show .ensures in (
       rw (h .first, at-narrow .narrow .ensures)
-          (text-in-box _ _ (start .pre .0) _ _ (record { work = refl; vertices = refl; indexes = refl; offsets = refl; counts = refl }) _ _ (start .pre .1) (b .ensures)),
+          (lines-in-box _ (start .pre .0) _ _ (record { work = refl; vertices = refl; indexes = refl; offsets = refl; counts = refl }) _ _ (start .pre .1) (b .ensures)),
       h .within,
     )
 

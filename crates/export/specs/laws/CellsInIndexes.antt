@@ -7,6 +7,8 @@ use native.Mathlib.Nat.{add-zero}
 use lib.ListN.{length, getD, take, drop, length-append}
 use Rattle.cell_memory.specs.layout.Regions.{joined, offsetsFrom}
 use Rattle.cell_memory.specs.layout.laws.Compacted.{offsets-length}
+use Rattle.form.specs.Limits.{mostSites}
+use Rattle.printing.specs.Rooms.{indexRoom}
 use Rattle.printing.specs.parts.Listed.{listedCell, Layout}
 use Rattle.arguments.specs.entries.Named.{EntriesNamed}
 use Rattle.wkb.specs.Promise.{image}
@@ -17,26 +19,26 @@ use Rattle.printing.specs.laws.CellsInIndexes.{joined-split, offset-at, next-at
 
 -- the offsets and the index list may go on after the cells
 module _ (cs : List (List ℕ)) (more rest : List ℕ) where
-  abbrev offs : List ℕ
-  offs = offsetsFrom 0 cs ++ more
+  abbrev off : List ℕ
+  off = offsetsFrom 0 cs ++ more
 
-  abbrev idx : List ℕ
-  idx = joined cs ++ rest
+  abbrev ix : List ℕ
+  ix = joined cs ++ rest
 
   module _ (v w : List ℕ) where
-    lines-by : (ds : List (List ℕ)) (i : ℕ) → ((k : ℕ) → k < length ds → listedCell offs idx (i + k) ≡ getD ds k [])
-        → ((k : ℕ) → k < length ds → image v (getD ds k []) ≡ image w (getD ds k [])) → mapLines v offs idx i (length ds) ≡ drawnFrom w i ds
+    lines-by : (ds : List (List ℕ)) (i : ℕ) → ((k : ℕ) → k < length ds → listedCell off ix (i + k) ≡ getD ds k [])
+        → ((k : ℕ) → k < length ds → image v (getD ds k []) ≡ image w (getD ds k [])) → mapLines v off ix i (length ds) ≡ drawnFrom w i ds
     unfolding mapLines drawnFrom
     lines-by [] i h g = refl
     lines-by (d ∷ ds) i h g =
-        let q : listedCell offs idx i ≡ d = subst (λ (j : ℕ). listedCell offs idx j ≡ d) (add-zero i) (h 0 (omega arith)) in
+        let q : listedCell off ix i ≡ d = subst (λ (j : ℕ). listedCell off ix j ≡ d) (add-zero i) (h 0 (omega arith)) in
         let more = lines-by ds (suc i) (λ k l. let e : suc i + k ≡ i + suc k = omega arith in rw e (h (suc k) (omega arith))) (λ k l. g (suc k) (omega arith)) in
         rw (q, g 0 (omega arith)) (ap (λ (l : List ℕ). mapLine i (image w d) ++ l) more)
 
-    pub lines-are : ((k : ℕ) → k < length cs → image v (getD cs k []) ≡ image w (getD cs k [])) → mapLines v offs idx 0 (length cs) ≡ drawnFrom w 0 cs
+    pub lines-are : ((k : ℕ) → k < length cs → image v (getD cs k []) ≡ image w (getD cs k [])) → mapLines v off ix 0 (length cs) ≡ drawnFrom w 0 cs
     lines-are g = lines-by cs 0 (λ k h. let e : 0 + k ≡ k = omega arith in rw e (cell-at cs more rest k h)) g
 
-  laid : length cs ≤ 96 → Layout offs idx (length cs)
+  laid : length cs ≤ mostSites → Layout off ix (length cs)
   laid few = record {
     long = omega (arith, length-append (offsetsFrom 0 cs) more, offsets-length 0 cs);
     few = omega arith;
@@ -61,9 +63,9 @@ module _ (cs : List (List ℕ)) (more rest : List ℕ) where
   )
 
   -- within the form's limits they can be drawn
-  pub can-draw : (numbers : ℕ) → length cs ≤ 96 → length idx ≤ 3076 → ((i : ℕ) → i < length cs → EntriesNamed (getD cs i []) (numbers / 2)) → CanDraw (length cs) numbers offs idx
+  pub can-draw : (numbers : ℕ) → length cs ≤ mostSites → length ix ≤ indexRoom → ((i : ℕ) → i < length cs → EntriesNamed (getD cs i []) (numbers / 2)) → CanDraw (length cs) numbers off ix
   can-draw numbers few short named =
-      let all : length idx ≡ length (joined cs) + length rest = length-append (joined cs) rest in
+      let all : length ix ≡ length (joined cs) + length rest = length-append (joined cs) rest in
       record {
         few = few;
         drawn = record {

@@ -10,6 +10,7 @@ use Rattle.definition.specs.Build.{Built}
 use Rattle.definition.specs.Measures.{ValidEntry, ValidEntries}
 use Rattle.wkb.specs.Polygon.{patternAt, patternsOf, patterns, polygon}
 use Rattle.arguments.specs.entries.Named.{EntriesNamed}
+use Rattle.printing.specs.Rooms.{vertexRoom}
 use Rattle.wkb.specs.Promise.{image}
 
 same-points : (v w cell : List ℕ) (n : ℕ) → EntriesNamed cell n → ((k : ℕ) → k < 2 * n → getD v k 0 ≡ getD w k 0) → patternsOf v cell ≡ patternsOf w cell
@@ -48,4 +49,4 @@ placed-named P nc n (e ∷ es) h a = named-more (e .at) (unmarked es) n (placed-
 -- a build whose cells can be drawn
 pub record Drawable (b : Built) : Type 0 where
   pub named : (s : ℕ) → s < length (b .cells) → EntriesNamed (unmarked (getD (b .cells) s [])) (length (b .verts))
-  pub room : length (b .verts) ≤ 1828
+  pub room : 2 * length (b .verts) ≤ vertexRoom

@@ -8,6 +8,7 @@ use native.Mathlib.Omega.{arith}
 use lib.ListN.{length, getD, take, drop, length-append, take-append-drop}
 use lib.Seq.{take-take, length-take-le}
 use Rattle.base.specs.common.laws.Decide.{eq-or-ne, lt-or-ge}
+use Rattle.form.specs.Limits.{enoughBytes}
 use Rattle.form.specs.Form.{IsForm}
 use Rattle.form.specs.Length.{no-form}
 use Rattle.form.specs.laws.Place.{one-place}
@@ -44,35 +45,35 @@ get-take (suc n) k [] h = refl
 get-take (suc n) zero (b ∷ s) h = refl
 get-take (suc n) (suc k) (b ∷ s) h = get-take n k s (omega arith)
 
-module _ {old : Bool} (s : List ℕ) (k : ℕ) (long : 6947 ≤ length s) (p : Place old (take 6947 s) k) where
-  len : length (take 6947 s) ≡ 6947
-  len = length-take-le 6947 s long
+module _ {old : Bool} (s : List ℕ) (k : ℕ) (long : enoughBytes ≤ length s) (p : Place old (take enoughBytes s) k) where
+  len : length (take enoughBytes s) ≡ enoughBytes
+  len = length-take-le enoughBytes s long
 
   -- no form has so many bytes, so the place is before the cut
-  pub place-early : k < 6947
-  place-early = ⊎-elim (λ h. h) (λ h. absurd (late h)) (lt-or-ge k 6947)
+  pub place-early : k < enoughBytes
+  place-early = ⊎-elim (λ h. h) (λ h. absurd (late h)) (lt-or-ge k enoughBytes)
     where
-      late : 6947 ≤ k → ⊥
+      late : enoughBytes ≤ k → ⊥
       late h =
-          let t = take k (take 6947 s) in
+          let t = take k (take enoughBytes s) in
           let b = p .before in
-          no-form old (t ++ b .rest) (omega (arith, length-append t (b .rest), length-take-le k (take 6947 s) (p .within), len)) (b .form)
+          no-form old (t ++ b .rest) (omega (arith, length-append t (b .rest), length-take-le k (take enoughBytes s) (p .within), len)) (b .form)
 
   pub place-longer : Place old s k
   place-longer =
       let h = place-early in
       record {
         within = omega arith;
-        before = subst (StartsForm old) (take-take k 6947 s (omega arith)) (p .before);
-        at = λ l f. p .at (omega (arith, len)) (subst (StartsForm old) (sym (take-take (k + 1) 6947 s (omega arith))) f);
+        before = subst (StartsForm old) (take-take k enoughBytes s (omega arith)) (p .before);
+        at = λ l f. p .at (omega (arith, len)) (subst (StartsForm old) (sym (take-take (k + 1) enoughBytes s (omega arith))) f);
         ended = λ e f. absurd (omega arith);
       }
 
-  pub number-longer : {n : ℕ} → NumberAt old (take 6947 s) k n → NumberAt old s k n
+  pub number-longer : {n : ℕ} → NumberAt old (take enoughBytes s) k n → NumberAt old s k n
   number-longer {n} a =
-      let g : getD (take 6947 s) k 0 ≡ getD s k 0 = get-take 6947 k s place-early in
+      let g : getD (take enoughBytes s) k 0 ≡ getD s k 0 = get-take enoughBytes k s place-early in
       let h = place-early in
-      let t : take k (take 6947 s) ≡ take k s = take-take k 6947 s (omega arith) in
+      let t : take k (take enoughBytes s) ≡ take k s = take-take k enoughBytes s (omega arith) in
       record {
         six = λ x. a .six (g ∙ x .0, subst (Expects old) (sym t) (x .1));
         other = λ x. a .other (λ y. x (sym g ∙ y .0, subst (Expects old) t (y .1)));

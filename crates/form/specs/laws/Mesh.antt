@@ -11,6 +11,7 @@ use lib.Seq.{sets}
 use borrow.Author.Tests.{lt-ltb}
 use Rattle.base.specs.common.laws.Stores.{sets-join}
 use Rattle.octets.specs.Bytes.{each, All}
+use Rattle.form.specs.Limits.{mostSites, mostTriangles, mostHull}
 use Rattle.form.specs.Form.{FormMesh, Site, Triangle, MeshFits, MayBegin, SiteFits, TriangleFits, HullFits, outlineBytes, siteBytes, triangleBytes}
 use Rattle.form.specs.Form.{hullBytes, formOf, outlineFloats, siteFloats, triangleSites, trianglePairs, kindOf}
 use Rattle.form.specs.step.Reader.{opens, roomLeft, start, begun, Reading, reading, takes, verdict}
@@ -70,19 +71,19 @@ module _
     (lh : (a : A) → length (fh a) ≡ h)
     (one :
     (a : A) (r : Reader) (bs ss : List Float) (ts es hs : List ℕ)
-    → P a → AtRecord r k → r .sites + i ≤ 96 → r .triangles + j ≤ 192 → r .hull + h ≤ 96
+    → P a → AtRecord r k → r .sites + i ≤ mostSites → r .triangles + j ≤ mostTriangles → r .hull + h ≤ mostHull
     → Goes r k i j h bs ss ts es hs bs (sets ss (2 * r .sites) (fs a)) (sets ts (3 * r .triangles) (ft a)) (sets es (3 * r .triangles) (fe a)) (sets hs (r .hull) (fh a)) (f a))
   where
     abbrev Runs : List A → Type 0
     Runs l =
         (r : Reader) (bs ss : List Float) (ts es hs : List ℕ)
-        → All P l → AtRecord r k → r .sites + i * length l ≤ 96 → r .triangles + j * length l ≤ 192 → r .hull + h * length l ≤ 96
+        → All P l → AtRecord r k → r .sites + i * length l ≤ mostSites → r .triangles + j * length l ≤ mostTriangles → r .hull + h * length l ≤ mostHull
         → Goes r k (i * length l) (j * length l) (h * length l) bs ss ts es hs bs (sets ss (2 * r .sites) (each fs l))
         (sets ts (3 * r .triangles) (each ft l)) (sets es (3 * r .triangles) (each fe l)) (sets hs (r .hull) (each fh l)) (each f l)
 
     more :
         (x : A) (l : List A) → Runs l → (r : Reader) (bs ss : List Float) (ts es hs : List ℕ)
-        → All P l → r .sites + i * suc (length l) ≤ 96 → r .triangles + j * suc (length l) ≤ 192 → r .hull + h * suc (length l) ≤ 96
+        → All P l → r .sites + i * suc (length l) ≤ mostSites → r .triangles + j * suc (length l) ≤ mostTriangles → r .hull + h * suc (length l) ≤ mostHull
         → Goes r k i j h bs ss ts es hs bs (sets ss (2 * r .sites) (fs x)) (sets ts (3 * r .triangles) (ft x)) (sets es (3 * r .triangles) (fe x)) (sets hs (r .hull) (fh x)) (f x)
         → Goes r k (i * suc (length l)) (j * suc (length l)) (h * suc (length l)) bs ss ts es hs bs (sets ss (2 * r .sites) (each fs (x ∷ l)))
         (sets ts (3 * r .triangles) (each ft (x ∷ l))) (sets es (3 * r .triangles) (each fe (x ∷ l))) (sets hs (r .hull) (each fh (x ∷ l))) (each f (x ∷ l))
@@ -131,7 +132,7 @@ numbers-each (v ∷ l) = ap (λ (t : List ℕ). v ∷ t) (numbers-each l)
 
 module _ (r : Reader) (bs ss : List Float) (ts es hs : List ℕ) where
   pub sites-run :
-      (l : List Site) → All SiteFits l → AtRecord r 2 → r .sites + length l ≤ 96 → r .triangles ≤ 192 → r .hull ≤ 96
+      (l : List Site) → All SiteFits l → AtRecord r 2 → r .sites + length l ≤ mostSites → r .triangles ≤ mostTriangles → r .hull ≤ mostHull
       → Goes r 2 (length l) 0 0 bs ss ts es hs bs (sets ss (2 * r .sites) (each siteFloats l)) ts es hs (each siteBytes l)
   sites-run l f q a b c =
       goes-as
@@ -141,7 +142,7 @@ module _ (r : Reader) (bs ss : List Float) (ts es hs : List ℕ) where
       (omega arith) (omega arith) (omega arith) refl (same l ts _) (same l es _) (same l hs _)
 
   pub triangles-run :
-      (l : List Triangle) → All TriangleFits l → AtRecord r 3 → r .sites ≤ 96 → r .triangles + length l ≤ 192 → r .hull ≤ 96
+      (l : List Triangle) → All TriangleFits l → AtRecord r 3 → r .sites ≤ mostSites → r .triangles + length l ≤ mostTriangles → r .hull ≤ mostHull
       → Goes r 3 0 (length l) 0 bs ss ts es hs bs ss (sets ts (3 * r .triangles) (each triangleSites l)) (sets es (3 * r .triangles) (each trianglePairs l)) hs (each triangleBytes l)
   triangles-run l f q a b c =
       goes-as
@@ -151,7 +152,7 @@ module _ (r : Reader) (bs ss : List Float) (ts es hs : List ℕ) where
       (omega arith) (omega arith) (omega arith) (same l ss _) refl refl (same l hs _)
 
   pub hulls-run :
-      (l : List ℕ) → All HullFits l → AtRecord r 4 → r .sites ≤ 96 → r .triangles ≤ 192 → r .hull + length l ≤ 96
+      (l : List ℕ) → All HullFits l → AtRecord r 4 → r .sites ≤ mostSites → r .triangles ≤ mostTriangles → r .hull + length l ≤ mostHull
       → Goes r 4 0 0 (length l) bs ss ts es hs bs ss ts es (sets hs (r .hull) l) (each hullBytes l)
   hulls-run l f q a b c =
       goes-as
@@ -217,7 +218,7 @@ module _ (m : FormMesh) (fit : MeshFits m) (bs ss : List Float) (ts es hs : List
       refl refl refl (ap (λ (i : ℕ). sets ss i (each siteFloats (m .sites))) z) refl refl refl
 
   triangles-part :
-      (r : Reader) → AtRecord r 2 → r .sites ≤ 96 → r .triangles ≡ 0 → r .hull ≡ 0
+      (r : Reader) → AtRecord r 2 → r .sites ≤ mostSites → r .triangles ≡ 0 → r .hull ≡ 0
       → Goes r 3 0 (length (m .triangles)) 0 bs ss ts es hs bs ss (sets ts 0 (each triangleSites (m .triangles)))
       (sets es 0 (each trianglePairs (m .triangles))) hs (each triangleBytes (m .triangles))
   triangles-part r q ls zt zh =
@@ -225,7 +226,7 @@ module _ (m : FormMesh) (fit : MeshFits m) (bs ss : List Float) (ts es hs : List
       goes-as (triangles-run r bs ss ts es hs (m .triangles) (fit .triangles) (ready-up 3 (omega arith) q) ls (omega (arith, fit .few-triangles)) (omega arith))
       refl refl refl refl (ap (λ (i : ℕ). sets ts i (each triangleSites (m .triangles))) z) (ap (λ (i : ℕ). sets es i (each trianglePairs (m .triangles))) z) refl
 
-  hull-part : (r : Reader) → AtRecord r 3 → r .sites ≤ 96 → r .triangles ≤ 192 → r .hull ≡ 0
+  hull-part : (r : Reader) → AtRecord r 3 → r .sites ≤ mostSites → r .triangles ≤ mostTriangles → r .hull ≡ 0
       → Goes r 4 0 0 (length (m .hull)) bs ss ts es hs bs ss ts es (sets hs 0 (m .hull)) (each hullBytes (m .hull))
   hull-part r q ls lt zh =
       goes-as (hulls-run r bs ss ts es hs (m .hull) (fit .hull) (ready-up 4 (omega arith) q) ls lt (omega (arith, fit .few-hull)))
@@ -239,7 +240,7 @@ module _ (m : FormMesh) (fit : MeshFits m) (bs ss : List Float) (ts es hs : List
       (each siteBytes (m .sites) ++ each triangleBytes (m .triangles) ++ each hullBytes (m .hull))
   middle r q zs zt zh =
       let g = sites-part m fit bs ss ts es hs r q zs zt zh in
-      let ls : g .to .sites ≤ 96 = omega (arith, fit .few-sites, g .ran .sites) in
+      let ls : g .to .sites ≤ mostSites = omega (arith, fit .few-sites, g .ran .sites) in
       let h = goes-both g (triangles-part m fit bs _ ts es hs (g .to) (g .ran .ready) ls (omega (arith, g .ran .triangles)) (omega (arith, g .ran .hull))) in
       goes-as
       (goes-both h (hull-part m fit bs _ _ _ hs (h .to) (h .ran .ready) (omega (arith, fit .few-sites, h .ran .sites))

@@ -9,6 +9,7 @@ use lib.ListN.{set}
 use lib.Seq.{sets}
 use borrow.Author.Tests.{ne-eqb, le-ltb, lt-ltb}
 use Rattle.octets.specs.Bytes.{le}
+use Rattle.form.specs.Limits.{mostSites, mostTriangles, mostHull}
 use Rattle.form.specs.step.Register.{shifts}
 use Rattle.form.specs.Form.{Outline, box, unclipped, edges, Site, Triangle, MayBegin, outlineBytes, siteBytes, triangleBytes, hullBytes, OutlineFits, SiteFits}
 use Rattle.form.specs.Form.{TriangleFits, HullFits, outlineFloats, siteFloats, triangleSites, trianglePairs, kindOf}
@@ -159,7 +160,7 @@ module _ (r : Reader) (bs ss : List Float) (ts es hs : List ℕ) where
   kind-run k s e z f =
       ap (λ (d : Reading). takes d s) (sym (take-outside r k bs ss ts es hs e z) ∙ ap (λ (n : Reader). reading n bs ss ts es hs) (rw f))
 
-  pub site-run : (s : Site) → SiteFits s → AtRecord r 2 → r .sites < 96 → Goes r 2 1 0 0 bs ss ts es hs bs (sets ss (2 * r .sites) (siteFloats s)) ts es hs (siteBytes s)
+  pub site-run : (s : Site) → SiteFits s → AtRecord r 2 → r .sites < mostSites → Goes r 2 1 0 0 bs ss ts es hs bs (sets ss (2 * r .sites) (siteFloats s)) ts es hs (siteBytes s)
   unfolding begun opens sizeOf roomLeft
   site-run s fit q l =
       let w = r .word in
@@ -174,13 +175,13 @@ module _ (r : Reader) (bs ss : List Float) (ts es hs : List ℕ) where
         to = to;
         ran = there r 2 (shifts (shifts w (le 8 x)) (le 8 y)) at (n + 1) (r .triangles) (r .hull) 1 0 0 (omega arith) (rw e₂ (fit .1)) refl (omega arith) (omega arith);
         lists =
-            kind-run 2 _ (q .unbroken) (q .left) (kind-follows r 2 (q .low) (q .high) (lt-ltb n 96 l))
+            kind-run 2 _ (q .unbroken) (q .left) (kind-follows r 2 (q .low) (q .high) (lt-ltb n mostSites l))
             ∙ site-body (r .old) w (r .at + 1) (r .clip) n (r .triangles) (r .hull) bs ss ts es hs x y
             ∙ ap (λ (z : List Float). reading to bs z ts es hs) (set-two ss (omega arith) (ap (ofBits binary64) e₁) (omega arith) (ap (ofBits binary64) e₂));
       }
 
   pub triangle-run :
-      (t : Triangle) → TriangleFits t → AtRecord r 3 → r .triangles < 192
+      (t : Triangle) → TriangleFits t → AtRecord r 3 → r .triangles < mostTriangles
       → Goes r 3 0 1 0 bs ss ts es hs bs ss (sets ts (3 * r .triangles) (triangleSites t)) (sets es (3 * r .triangles) (trianglePairs t)) hs (triangleBytes t)
   unfolding begun opens sizeOf roomLeft
   triangle-run t fit q l =
@@ -204,14 +205,14 @@ module _ (r : Reader) (bs ss : List Float) (ts es hs : List ℕ) where
         to = to;
         ran = there r 3 w₆ at (r .sites) (m + 1) (r .hull) 0 1 0 (omega arith) s₆ (omega arith) refl (omega arith);
         lists =
-            kind-run 3 _ (q .unbroken) (q .left) (kind-follows r 3 (q .low) (q .high) (lt-ltb m 192 l))
+            kind-run 3 _ (q .unbroken) (q .left) (kind-follows r 3 (q .low) (q .high) (lt-ltb m mostTriangles l))
             ∙ triangle-body (r .old) (r .word) (r .at + 1) (r .clip) (r .sites) m (r .hull) bs ss ts es hs (t .a) (t .b) (t .c) (t .pair-a) (t .pair-b) (t .pair-c)
             ∙ ap₂ (λ (z z' : List ℕ). reading to bs ss z z' hs)
             (set-three ts (omega arith) (last-four (r .word) (q .word) (t .a) (fit .0)) (omega arith) (last-four w₁ s₁ (t .b) (fit .1)) (omega arith) (last-four w₂ s₂ (t .c) (fit .2)))
             (set-three es (omega arith) (last-four w₃ s₃ (t .pair-a) (fit .3)) (omega arith) (last-four w₄ s₄ (t .pair-b) (fit .4)) (omega arith) (last-four w₅ s₅ (t .pair-c) (fit .5)));
       }
 
-  pub hull-run : (v : ℕ) → HullFits v → AtRecord r 4 → r .hull < 96 → Goes r 4 0 0 1 bs ss ts es hs bs ss ts es (sets hs (r .hull) (v ∷ [])) (hullBytes v)
+  pub hull-run : (v : ℕ) → HullFits v → AtRecord r 4 → r .hull < mostHull → Goes r 4 0 0 1 bs ss ts es hs bs ss ts es (sets hs (r .hull) (v ∷ [])) (hullBytes v)
   unfolding begun opens sizeOf roomLeft
   hull-run v fit q l =
       let h = r .hull in
@@ -223,7 +224,7 @@ module _ (r : Reader) (bs ss : List Float) (ts es hs : List ℕ) where
         to = to;
         ran = there r 4 w₁ at (r .sites) (r .triangles) (h + 1) 0 0 1 (omega arith) s₁ (omega arith) (omega arith) refl;
         lists =
-            kind-run 4 _ (q .unbroken) (q .left) (kind-follows r 4 (q .low) (q .high) (lt-ltb h 96 l))
+            kind-run 4 _ (q .unbroken) (q .left) (kind-follows r 4 (q .low) (q .high) (lt-ltb h mostHull l))
             ∙ hull-body (r .old) (r .word) (r .at + 1) (r .clip) (r .sites) (r .triangles) h bs ss ts es hs v
             ∙ ap₂ (λ (i x : ℕ). reading to bs ss ts es (set hs i x)) (omega arith) (last-four (r .word) (q .word) v fit);
       }

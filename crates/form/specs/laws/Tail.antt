@@ -7,6 +7,7 @@ use Prim.Native.Nat.{ℕ, zero, suc, _+_, _≤_, _<_}
 use native.Mathlib.Omega.{arith}
 use lib.ListN.{length}
 use Rattle.octets.specs.Bytes.{Bytes, each, All}
+use Rattle.form.specs.Limits.{mostSites, mostTriangles, mostHull}
 use Rattle.form.specs.Form.{Site, Triangle, SiteFits, TriangleFits, HullFits, siteBytes, triangleBytes, hullBytes}
 use Rattle.form.specs.step.Reader.{sizeOf, opens, follows, broken, numberFor, refused, begun, outside, step, steps, Reading, reading}
 use Rattle.form.specs.step.laws.Steps.{RecordKind, site, triangle, hull, end, follows-cases, step-outside, number-broken}
@@ -15,9 +16,9 @@ use Rattle.form.specs.laws.Cut.{Ended, CutOff, steps-append, steps-broke
 use Rattle.form.specs.declared.step.Reader.{Reader}
 
 pub record FewRecords (r : Reader) : Type 0 where
-  pub sites : r .sites ≤ 96
-  pub triangles : r .triangles ≤ 192
-  pub hull : r .hull ≤ 96
+  pub sites : r .sites ≤ mostSites
+  pub triangles : r .triangles ≤ mostTriangles
+  pub hull : r .hull ≤ mostHull
 
 pub record Tail (r : Reader) (t : List ℕ) : Type 0 where
   pub sites : List Site
@@ -29,11 +30,11 @@ pub record Tail (r : Reader) (t : List ℕ) : Type 0 where
   pub bytes : t ≡ each siteBytes sites ++ each triangleBytes triangles ++ each hullBytes hull ++ 5 ∷ []
   pub no-sites : 2 < r .stage → sites ≡ []
   pub no-triangles : 3 < r .stage → triangles ≡ []
-  pub few-sites : r .sites + length sites ≤ 96
-  pub few-triangles : r .triangles + length triangles ≤ 192
-  pub few-hull : r .hull + length hull ≤ 96
+  pub few-sites : r .sites + length sites ≤ mostSites
+  pub few-triangles : r .triangles + length triangles ≤ mostTriangles
+  pub few-hull : r .hull + length hull ≤ mostHull
 
-few-on : {r n : Reader} {k a b c : ℕ} → Ran r n k a b c → r .sites + a ≤ 96 → r .triangles + b ≤ 192 → r .hull + c ≤ 96 → FewRecords n
+few-on : {r n : Reader} {k a b c : ℕ} → Ran r n k a b c → r .sites + a ≤ mostSites → r .triangles + b ≤ mostTriangles → r .hull + c ≤ mostHull → FewRecords n
 few-on v l m o = record { sites = omega (arith, v .sites); triangles = omega (arith, v .triangles); hull = omega (arith, v .hull) }
 
 -- ---- a record, and what follows it
@@ -127,7 +128,7 @@ module _ (n : ℕ) (below : Below n) (r : Reader) (t : List ℕ) (l : length t �
   unfolding begun
   whole-body k f d e = body-there t (begun r k) refl d (subst Ended (begins r k q f t) e)
 
-  site-tail : follows r 2 ≡ true → r .stage ≤ 2 → r .sites < 96 → Ended (steps r (2 ∷ t)) → Tail r (2 ∷ t)
+  site-tail : follows r 2 ≡ true → r .stage ≤ 2 → r .sites < mostSites → Ended (steps r (2 ∷ t)) → Tail r (2 ∷ t)
   unfolding begun opens sizeOf
   site-tail f o m e = go (cut-site t h (whole-body 2 f (λ z. omega arith) e))
     where
@@ -139,7 +140,7 @@ module _ (n : ℕ) (below : Below n) (r : Reader) (t : List ℕ) (l : length t �
           (few-on (g .ran) (omega arith) (omega (arith, w .triangles)) (omega (arith, w .hull)))
           (then-on (siteBytes (x .value)) g (x .rest) (subst (λ (z : List ℕ). Ended (steps r z)) (x .joined) e)))
 
-  triangle-tail : follows r 3 ≡ true → r .stage ≤ 3 → r .triangles < 192 → Ended (steps r (3 ∷ t)) → Tail r (3 ∷ t)
+  triangle-tail : follows r 3 ≡ true → r .stage ≤ 3 → r .triangles < mostTriangles → Ended (steps r (3 ∷ t)) → Tail r (3 ∷ t)
   unfolding begun opens sizeOf
   triangle-tail f o m e = go (cut-triangle t h (whole-body 3 f (λ z. omega arith) e))
     where
@@ -152,7 +153,7 @@ module _ (n : ℕ) (below : Below n) (r : Reader) (t : List ℕ) (l : length t �
           (few-on (g .ran) (omega (arith, w .sites)) (omega arith) (omega (arith, w .hull)))
           (then-on (triangleBytes (x .value)) g (x .rest) (subst (λ (z : List ℕ). Ended (steps r z)) (x .joined) e)))
 
-  hull-tail : follows r 4 ≡ true → r .hull < 96 → Ended (steps r (4 ∷ t)) → Tail r (4 ∷ t)
+  hull-tail : follows r 4 ≡ true → r .hull < mostHull → Ended (steps r (4 ∷ t)) → Tail r (4 ∷ t)
   unfolding begun opens sizeOf
   hull-tail f m e = go (cut-hull t h (whole-body 4 f (λ z. omega arith) e))
     where

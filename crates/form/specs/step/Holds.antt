@@ -4,20 +4,21 @@ use mathlib.Core.Path.{_≡_}
 use Prim.Native.Nat.{ℕ, _≤_}
 use lib.Ieee.{Float}
 use lib.ListN.{length}
+use Rattle.form.specs.Limits.{mostSites, mostTriangles, mostHull, mostCoordinates, mostLinks}
 use Rattle.form.specs.step.Reader.{Reading, takes, verdict}
 use Rattle.form.specs.declared.step.Form.{Form}
 use Rattle.form.specs.declared.step.Form.the-variants.{Sound, Broken}
 
 pub record ListRoom (bs ss : List Float) (ts es hs : List ℕ) : Type 0 where
   pub bounds : 4 ≤ length bs
-  pub sites : 192 ≤ length ss
-  pub triangles : 576 ≤ length ts
-  pub halfedges : 576 ≤ length es
-  pub hull : 96 ≤ length hs
+  pub sites : mostCoordinates ≤ length ss
+  pub triangles : mostLinks ≤ length ts
+  pub halfedges : mostLinks ≤ length es
+  pub hull : mostHull ≤ length hs
 
 -- the counts of a sound form are within their limits
 abbrev pub Few : Form → Type 0
-Few (Sound ss ts hs k) = (ss ≤ 96) × (ts ≤ 192) × (hs ≤ 96)
+Few (Sound ss ts hs k) = (ss ≤ mostSites) × (ts ≤ mostTriangles) × (hs ≤ mostHull)
 Few (Broken number at) = Unit {0}
 
 -- the number of a refused form, 0 for a sound one

@@ -7,6 +7,7 @@ use lib.Ieee.{Float, binary64, ofBits}
 use lib.ListN.{set}
 use Rattle.base.specs.common.Pick.{pick}
 use Rattle.base.specs.numbers.Numbers.{refusedForm, refusedUnclipped}
+use Rattle.form.specs.Limits.{mostSites, mostTriangles, mostHull}
 use Rattle.form.specs.step.Register.{shift}
 use Rattle.form.specs.declared.step.Reader.{Reader}
 use Rattle.form.specs.declared.step.Form.{Form}
@@ -30,9 +31,9 @@ opens old k = pick (eqb k 1) (λ _. true) (λ _. pick (eqb k 6) (λ _. old) (λ 
 -- after that: sites, triangles, hull sites within their limits, and one end
 unfoldable pub roomLeft : Reader → ℕ → Bool
 roomLeft r k =
-    pick (eqb k 2) (λ _. ltb (r .sites) 96)
-    (λ _. pick (eqb k 3) (λ _. ltb (r .triangles) 192)
-    (λ _. pick (eqb k 4) (λ _. ltb (r .hull) 96)
+    pick (eqb k 2) (λ _. ltb (r .sites) mostSites)
+    (λ _. pick (eqb k 3) (λ _. ltb (r .triangles) mostTriangles)
+    (λ _. pick (eqb k 4) (λ _. ltb (r .hull) mostHull)
     (λ _. pick (eqb k 5) (λ _. ltb (r .stage) 5) (λ _. false))))
 
 -- the order is that of the kinds

@@ -6,6 +6,7 @@ use Prim.Native.Nat.{ℕ, _+_, _-_, _*_, _%_, _^_, _≤_, _<_}
 use lib.Dec.{eqb}
 use Rattle.base.specs.common.Pick.{pick}
 use Rattle.base.specs.numbers.Numbers.{refusedForm, refusedUnclipped}
+use Rattle.form.specs.Limits.{mostSites, mostTriangles, mostHull}
 use Rattle.form.specs.step.Reader.{sizeOf, opens}
 use Rattle.form.specs.declared.step.Reader.{Reader}
 
@@ -52,9 +53,9 @@ pub record Ok (r : Reader) : Type 0 where
   pub no-clip : r .stage ≡ 0 → r .clip ≡ 0
   pub clip : r .stage ≢ 0 → opens (r .old) (r .clip) ≡ true
   pub left : r .left ≤ bodyOf r
-  pub sites : CountAt (r .stage) 2 (sitesBegun r) 96
-  pub triangles : CountAt (r .stage) 3 (trianglesBegun r) 192
-  pub hull : CountAt (r .stage) 4 (hullBegun r) 96
+  pub sites : CountAt (r .stage) 2 (sitesBegun r) mostSites
+  pub triangles : CountAt (r .stage) 3 (trianglesBegun r) mostTriangles
+  pub hull : CountAt (r .stage) 4 (hullBegun r) mostHull
   pub at : r .at + r .left ≡ kinds r + bodies r
   pub no-word : bodies r - r .left ≡ 0 → r .word ≡ 0
   pub word : r .word % 256 ^ (8 - (bodies r - r .left)) ≡ 0

@@ -6,6 +6,7 @@ use lib.ListN.{length, take, length-take}
 use lib.Seq.{length-take-le}
 use denote.Ref.{now}
 use Rattle.mending.specs.slices.Lent.{Lent, lent}
+use Rattle.form.specs.Limits.{mostHull, mostLinks}
 use Rattle.mend.specs.Steps.{CanShow}
 use Rattle.mend.specs.laws.Shows.{ProgramLent, few, held}
 use borrow.Author.Needs.{needs}
@@ -38,7 +39,7 @@ slice-aggregate-show : tie.Need-slice-aggregate-show
 slice-aggregate-show c = let w = c .before .before .before .before .before .before .before .before in sym (length-take-le _ _ (omega (arith, begin w .pre .1 .few-triangles, long w .pairs)))
 
 -- the numbers are within their limits
-bound : (c : tie.After-mend) → (c .mend .result .hull ≤ 96) × (c .mend .result .pairs + c .mend .result .places ≤ 672)
+bound : (c : tie.After-mend) → (c .mend .result .hull ≤ mostHull) × (c .mend .result .pairs + c .mend .result .places ≤ mostLinks + mostHull)
 bound c =
     few _ _ _ _ _ _ _ _ _ _ (c .mend .ensures) (record { work = omega arith; pairs = omega arith; mended = omega arith; changes = omega arith }) (long c)
 

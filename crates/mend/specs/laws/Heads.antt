@@ -6,11 +6,11 @@ use mathlib.Core.Logic.{inl, inr, ⊎-elim}
 use Prim.Native.Nat.{ℕ, _+_, _-_, _*_, _≤_}
 use native.Mathlib.Omega.{arith}
 use lib.Dec.{eqb}
-use lib.ListN.{length, take, drop, length-append, length-take}
+use lib.ListN.{length, getD, take, drop, length-append, length-take}
 use lib.Seq.{take-at, take-length}
 use Rattle.base.specs.common.Pick.{pick}
 use Rattle.octets.specs.Bytes.{each}
-use Rattle.form.specs.declared.step.Form.the-variants.{Sound}
+use Rattle.form.specs.Limits.{mostSites}
 use Rattle.form.specs.Form.{Outline, box, unclipped, edges, FormMesh, MayBegin, formOf, outlineBytes, siteBytes, triangleBytes, hullBytes, kindOf, siteFloats}
 use Rattle.form.specs.laws.Lists.{each-length}
 use Rattle.mend.specs.writer.Written.{lists, writtenForm}
@@ -23,7 +23,7 @@ use Rattle.mend.specs.boxes.Record.{holds}
 use Rattle.mend.specs.box_line.BoxLine.{boxLine}
 use Rattle.mend.specs.box_line.laws.BoxLine.{box-none}
 use Rattle.mend.specs.Printed.{changesText, triOf, heOf, count, textOf}
-use Rattle.mend.specs.Steps.{firstLength, Headed, listsText, putBytes, keptBytes}
+use Rattle.mend.specs.Steps.{firstLength, headRoom, listsText, putBytes, keptBytes}
 
 clip-length : (c : Outline) → length (outlineBytes c) ≡ firstLength (kindOf c)
 clip-length (box x y w h) = refl
@@ -41,7 +41,7 @@ module _ (m : FormMesh) where
   sites-length : length (each siteBytes (m .sites)) ≡ 17 * length (m .sites)
   sites-length = each-length siteBytes 17 (λ _. refl) (m .sites)
 
-  pub headed : Headed (Sound (length (m .sites)) (length (m .triangles)) (length (m .hull)) (kindOf (m .clip))) (length (formOf m))
+  pub headed : firstLength (kindOf (m .clip)) + 17 * length (m .sites) ≤ length (formOf m)
   headed =
       rw split
       (omega (
@@ -51,6 +51,15 @@ module _ (m : FormMesh) where
         sites-length,
         clip-length (m .clip),
       ))
+
+-- a form begins with the kind of its first record
+first-kind : (c : Outline) (t : List ℕ) → getD (outlineBytes c ++ t) 0 0 ≡ kindOf c
+first-kind (box x y w h) t = refl
+first-kind unclipped t = refl
+first-kind (edges x y u v) t = refl
+
+pub form-kind : (m : FormMesh) → getD (formOf m) 0 0 ≡ kindOf (m .clip)
+form-kind m = ap (λ (l : List ℕ). getD l 0 0) (split m) ∙ first-kind (m .clip) _
 
 -- ---- what is put in
 
@@ -92,17 +101,17 @@ module _ (option : List ℕ) where
   option-short = ⊎-elim (λ e. omega (arith, ap length e)) (λ r. omega (arith, r .long))
 
   -- the first records of a mended form
-  pub head-short : (u n : ℕ) → IsOption option → n ≤ 96 → putLength u (length option) + (firstLength u + 17 * n - keptFrom u) ≤ 1665
+  pub head-short : (u n : ℕ) → IsOption option → n ≤ mostSites → putLength u (length option) + (firstLength u + 17 * n - keptFrom u) ≤ headRoom
   unfolding putLength keptFrom
   head-short u n i h = go (eqb u 6)
     where
-      go : (b : Bool) → pick b (λ _. length option) (λ _. 0) + (pick b (λ _. 1) (λ _. 33) + 17 * n - pick b (λ _. 1) (λ _. 0)) ≤ 1665
+      go : (b : Bool) → pick b (λ _. length option) (λ _. 0) + (pick b (λ _. 1) (λ _. 33) + 17 * n - pick b (λ _. 1) (λ _. 0)) ≤ headRoom
       go true = omega (arith, option-short i)
       go false = omega arith
 
   -- the same by what the functions answer
-  pub heads-short : (s : List ℕ) (u n put from first : ℕ) → IsOption option → n ≤ 96 → put ≡ putLength u (length option) → from ≡ keptFrom u → first ≡ firstLength u
-      → length (take put option) + length (take (first + 17 * n - from) (drop from s)) ≤ 1665
+  pub heads-short : (s : List ℕ) (u n put from first : ℕ) → IsOption option → n ≤ mostSites → put ≡ putLength u (length option) → from ≡ keptFrom u → first ≡ firstLength u
+      → length (take put option) + length (take (first + 17 * n - from) (drop from s)) ≤ headRoom
   heads-short s u n put from first i h p q r = simp length-take (omega (arith, head-short u n i h, p, q, r))
 
   -- a form of old is read only where a box is given

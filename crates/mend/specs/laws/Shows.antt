@@ -3,7 +3,7 @@ use mathlib.Core.Path.{_≡_, refl, sym, ap, _∙_}
 use mathlib.Core.Bool.{Bool, true, false}
 use mathlib.Core.List.{List, _++_, append-assoc}
 use mathlib.Core.Logic.{⊎-elim, _≢_}
-use Prim.Native.Nat.{ℕ, _+_, _-_, _≤_}
+use Prim.Native.Nat.{ℕ, _+_, _-_, _*_, _≤_}
 use native.Mathlib.Omega.{arith}
 use lib.Ieee.{Float}
 use lib.ListN.{length, take, replicate, length-append, length-replicate}
@@ -22,6 +22,7 @@ use Rattle.mending.specs.changes.Changes.{Difference, flatChanges}
 use Rattle.mending.specs.changes.laws.Listing.{flat-append, flat-length}
 use Rattle.mending.specs.slices.Lent.{Lent, filled}
 use Rattle.mending.specs.Mending.{mendRoomOf, newHull, pairChanges, hullChanges, whenMade, Mends}
+use Rattle.form.specs.Limits.{mostSites, mostHull, mostLinks}
 use Rattle.mend.specs.writer.Written.{writtenForm}
 use Rattle.mend.specs.boxes.Option.{IsOption, numberWith}
 use Rattle.mend.specs.boxes.laws.Option.{number-zero}
@@ -40,10 +41,10 @@ filled-fits w l h = omega (arith, length-append l (replicate (w - length l) EMPT
 
 -- as long as every form needs them
 pub record ProgramLent (l : Lent) : Type 0 where
-  pub work : length (l .work) ≡ 96
-  pub pairs : length (l .pairs) ≡ 576
-  pub mended : length (l .mended) ≡ 96
-  pub changes : length (l .changes) ≡ 2016
+  pub work : length (l .work) ≡ mostSites
+  pub pairs : length (l .pairs) ≡ mostLinks
+  pub mended : length (l .mended) ≡ mostHull
+  pub changes : length (l .changes) ≡ 3 * (mostLinks + mostHull)
 
 roomy : {bytes hull space : ℕ} (sites : List Float) (tri : List ℕ) (l : Lent) → ProgramLent l → MendSized bytes (length sites) (length tri) hull space → mendRoomOf sites tri l
 roomy sites tri l a s =
@@ -87,7 +88,7 @@ module _ (sites : List Float) (tri he hull : List ℕ) (old new : Lent) (r k p q
     listed = changes-are ∙ ap (λ (l : List ℕ). l ++ replicate (length (old .changes) - length (flatChanges (ps ++ hs))) EMPTY) (flat-append ps hs)
         ∙ append-assoc (flatChanges ps) (flatChanges hs) _
 
-    few-made : (k ≤ 96) × (p + q ≤ 672)
+    few-made : (k ≤ mostHull) × (p + q ≤ mostLinks + mostHull)
     few-made =
         let x : length (filled (length (old .mended)) (newHull tri hull n)) ≡ length (old .mended) = sym (ap length (m .outcome .mended ∙ made _ _)) ∙ b .mended ∙ sym (a .mended) in
         let y : length (filled (length (old .changes)) (flatChanges (ps ++ hs))) ≡ length (old .changes) = sym (ap length changes-are) ∙ b .changes ∙ sym (a .changes) in (
@@ -108,7 +109,7 @@ module _ (sites : List Float) (tri he hull : List ℕ) (old new : Lent) (r k p q
   unfolding whenMade
   none z x = rw (ne-eqb r 0 z)
 
-  pub few : (k ≤ 96) × (p + q ≤ 672)
+  pub few : (k ≤ mostHull) × (p + q ≤ mostLinks + mostHull)
   few =
       ⊎-elim
       few-made

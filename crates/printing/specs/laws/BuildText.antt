@@ -1,33 +1,40 @@
 -- A build's answer gives the text that is promised: a refusal's line by its number, or the text of what was built.
 use mathlib.Core.Path.{_≡_, refl, _∙_}
-use mathlib.Core.Bool.{Bool}
+use mathlib.Core.Bool.{Bool, true}
 use mathlib.Core.List.{List}
 use mathlib.Core.Logic.{⊎-elim, _≢_}
-use Prim.Native.Nat.{ℕ}
+use Prim.Native.Nat.{ℕ, _+_, _*_, _/_}
 use native.Mathlib.Omega.{arith}
 use lib.ListN.{length}
-use borrow.Author.Tests.{ne-eqb}
-use Rattle.mesh.specs.Accepted.{Mesh}
+use borrow.Author.Tests.{ne-eqb, le-leb, lt-ltb}
 use Rattle.base.specs.common.Refusals.{Rule}
+use Rattle.plane.specs.declared.given.Given.{Given}
+use Rattle.mesh.specs.Accepted.{Mesh, siteCount}
 use Rattle.admission.specs.Admits.{Admits}
-use Rattle.arguments.specs.asking.laws.Asks.{NoneZero}
+use Rattle.admission.specs.Slices.{Slices, roomFor, roomOf}
+use Rattle.arguments.specs.asking.laws.Asks.{NoneZero, box-answers}
 use Rattle.definition.specs.declared.Fault.{Fault}
 use Rattle.definition.specs.Fault.{Outcome, ok, refused}
-use Rattle.definition.specs.Build.{Built}
-use Rattle.cell_memory.specs.outputs.Outputs.{faultOf}
-use Rattle.building.specs.answers.Promise.{Builds}
-use Rattle.building.specs.answers.laws.Promise.{builds-cases}
-use Rattle.admission.specs.Slices.{Slices}
+use Rattle.definition.specs.Build.{Built, build}
+use Rattle.definition.specs.laws.Gives.{gives-ok}
 use Rattle.build_laws.specs.Late.{Refuses, Numbered}
-use Rattle.printing.specs.Printed.{Shows, shown}
+use Rattle.build_laws.specs.LateRefusals.{build-late}
+use Rattle.cell_memory.specs.outputs.Outputs.{faultOf}
+use Rattle.building.specs.answers.Promise.{Builds, ClippedBuild}
+use Rattle.building.specs.answers.laws.Promise.{builds-cases}
+use Rattle.form.specs.Limits.{mostSites}
+use Rattle.form.specs.mesh.Read.{MeshSized}
+use Rattle.printing.specs.Printed.{Shows, shown, InBox, Text}
 use Rattle.printing.specs.Printed as printed
+use Rattle.printing.specs.Rooms.{vertexRoom, indexRoom, offsetRoom}
+use Rattle.printing.specs.laws.WholeBuild.{Whole, whole-in-box}
 
 -- slices as long as a program's
 pub record ProgramSlices (s : Slices) : Type 0 where
-  pub work : length (s .work) ≡ 96
-  pub vertices : length (s .vertices) ≡ 3656
-  pub indexes : length (s .indexes) ≡ 3076
-  pub offsets : length (s .offsets) ≡ 97
+  pub work : length (s .work) ≡ mostSites
+  pub vertices : length (s .vertices) ≡ vertexRoom
+  pub indexes : length (s .indexes) ≡ indexRoom
+  pub offsets : length (s .offsets) ≡ offsetRoom
   pub counts : length (s .counts) ≡ 9
 
 -- the text by the number, where the listing is that of what was built
@@ -47,3 +54,23 @@ shows text t some x late f =
     (λ y. rw (ne-eqb _ 0 (y .1)) (printed.early (y .0) (y .1)))
     (λ y. rw (y .1) (shows-built _ text t (y .0) late (λ b e z. f b e (y .1 ∙ z))))
     (builds-cases some x)
+
+-- ---- a build on lists within the form's limits, with slices of these lengths
+module _ (m : Mesh) (sized : MeshSized (length (m .sites)) (length (m .triangles)) (length (m .hull))) (old : Slices) (long : ProgramSlices old) where
+  pub roomy : roomOf m old ≡ true
+  unfolding roomFor
+  roomy =
+      rw (long .work, long .vertices, long .indexes, long .offsets, long .counts)
+      (rw (
+        le-leb (siteCount (m .sites)) mostSites (omega (arith, sized .few-sites)),
+        le-leb (7 * (length (m .triangles) / 3) + 5 * length (m .hull) + 4) (vertexRoom / 2) (omega (arith, sized .few-triangles, sized .few-on-hull)),
+        le-leb (12 * (length (m .triangles) / 3) + 8 * length (m .hull) + 4) indexRoom (omega (arith, sized .few-triangles, sized .few-on-hull)),
+        lt-ltb (siteCount (m .sites)) offsetRoom (omega (arith, sized .few-sites)),
+      ))
+
+  module _ (g : Given) {new : Slices} {r : ℕ} (a : ClippedBuild m g old new r) where
+    pub whole : (b : Built) → build m (g .bounds) ≡ ok b → Whole (siteCount (m .sites)) b
+    whole b e = gives-ok (Whole (siteCount (m .sites))) (whole-in-box m (g .bounds)) e
+
+    pub text-in-box : (t : Text) (text : List ℕ) → ((b : Built) → build m (g .bounds) ≡ ok b → r ≡ 0 → text ≡ t m g b) → InBox t m g (shown text r)
+    text-in-box t text f = shows (t m g) text (box-answers (g .sound)) (rw roomy at (a .number)) (build-late m (g .bounds)) f

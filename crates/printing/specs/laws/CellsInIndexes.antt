@@ -24,11 +24,11 @@ part a b c x y p q =
 
 -- the offsets and the index list may go on after the cells
 module _ (cs : List (List ℕ)) (more rest : List ℕ) where
-  abbrev offs : List ℕ
-  offs = offsetsFrom 0 cs ++ more
+  abbrev off : List ℕ
+  off = offsetsFrom 0 cs ++ more
 
-  abbrev idx : List ℕ
-  idx = joined cs ++ rest
+  abbrev ix : List ℕ
+  ix = joined cs ++ rest
 
   pub from : (ds : List (List ℕ)) (n k : ℕ) → k ≤ length ds → getD (offsetsFrom n ds ++ more) k 0 ≡ n + length (joined (take k ds))
   unfolding offsetsFrom joined
@@ -38,19 +38,19 @@ module _ (cs : List (List ℕ)) (more rest : List ℕ) where
   from (d ∷ ds) n (suc k) h = from ds (n + length d) k (omega arith) ∙ omega (arith, length-append d (joined (take k ds)))
 
   -- offset k is where the first k cells end
-  pub offset-at : (k : ℕ) → k ≤ length cs → getD offs k 0 ≡ length (joined (take k cs))
+  pub offset-at : (k : ℕ) → k ≤ length cs → getD off k 0 ≡ length (joined (take k cs))
   offset-at k h = from cs 0 k h ∙ omega arith
 
-  pub next-at : (k : ℕ) → k < length cs → getD offs (suc k) 0 ≡ length (joined (take k cs)) + length (getD cs k [])
+  pub next-at : (k : ℕ) → k < length cs → getD off (suc k) 0 ≡ length (joined (take k cs)) + length (getD cs k [])
   next-at k h = offset-at (suc k) h ∙ ap length (ap joined (take-suc cs k [] h) ∙ joined-snoc (take k cs) (getD cs k [])) ∙ length-append (joined (take k cs)) (getD cs k [])
 
-  pub cell-at : (k : ℕ) → k < length cs → listedCell offs idx k ≡ getD cs k []
+  pub cell-at : (k : ℕ) → k < length cs → listedCell off ix k ≡ getD cs k []
   cell-at k h =
       let a = joined (take k cs) in
       let b = getD cs k [] in
       let c = joined (drop (suc k) cs) in
-      let q : idx ≡ a ++ (b ++ (c ++ rest)) = ap (λ (l : List ℕ). l ++ rest) (joined-split cs k h) ∙ append-assoc (a ++ b) c rest ∙ append-assoc a b (c ++ rest) in
-      rw q (part a b (c ++ rest) (getD offs k 0) (getD offs (suc k) 0) (offset-at k (omega arith)) (next-at k h))
+      let q : ix ≡ a ++ (b ++ (c ++ rest)) = ap (λ (l : List ℕ). l ++ rest) (joined-split cs k h) ∙ append-assoc (a ++ b) c rest ∙ append-assoc a b (c ++ rest) in
+      rw q (part a b (c ++ rest) (getD off k 0) (getD off (suc k) 0) (offset-at k (omega arith)) (next-at k h))
 
-  pub total : getD offs (length cs) 0 ≡ length (joined cs)
+  pub total : getD off (length cs) 0 ≡ length (joined cs)
   total = offset-at (length cs) (omega arith) ∙ ap (λ (l : List (List ℕ)). length (joined l)) (take-all (length cs) cs (omega arith))

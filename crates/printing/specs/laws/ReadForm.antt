@@ -1,40 +1,33 @@
--- What a form's reader leaves in its lists is the mesh of the form, so what is printed by its answer is what is printed for its bytes.
+-- What was read of a form's bytes is its mesh, so what is answered for the lists is what is answered for the bytes.
 use mathlib.Core.Path.{_≡_}
 use mathlib.Core.Bool.{false}
 use mathlib.Core.List.{List}
-use mathlib.Core.Logic.{⊎-elim}
+use mathlib.Core.Logic.{_≢_}
 use Prim.Native.Nat.{ℕ}
+use native.Mathlib.Omega.{arith}
 use lib.Ieee.{Float}
-use Rattle.octets.specs.Bytes.{Bytes}
-use Rattle.form.specs.step.Reader.{start, reading}
-use Rattle.form.specs.step.Holds.{ListRoom, Reads}
-use Rattle.form.specs.Promise.{ReadSound, Refused, exact}
-use Rattle.form.specs.declared.step.Form.{Form}
-use Rattle.printing.specs.parts.Labelled.{refusal}
-use Rattle.printing.specs.laws.FormLists.{to-mesh}
-use Rattle.printing.specs.Printed.{Prints, sound, broken, ByForm, Text}
+use lib.ListN.{length, take, length-take}
+use Rattle.plane.specs.declared.given.Given.{Given}
+use Rattle.mesh.specs.Accepted.{Mesh, mesh}
+use Rattle.form.specs.mesh.Read.{MeshSized, MeshRead}
+use Rattle.form.specs.declared.mesh.MeshParts.{MeshParts}
+use Rattle.printing.specs.OfForm.{OfForm, sound, broken}
 
-module _ (t : Text) where
-  module _ (s : List ℕ) (bs ss : List Float) (ts es hs : List ℕ) (bs′ ss′ : List Float) (ts′ es′ hs′ : List ℕ) (text : List ℕ) (room : ListRoom bs ss ts es hs) where
-    by-mesh : {a : Form} → ReadSound false s bs ss ts es hs a bs′ ss′ ts′ es′ hs′ → ByForm t a bs′ ss′ ts′ es′ hs′ text → Prints t s text
-    by-mesh p q =
-        sound (p .mesh) (p .fits) (p .form)
-        (to-mesh t (p .mesh) (p .fits) bs ss ts es hs room bs′ ss′ ts′ es′ hs′
-        (record { bounds = p .bounds; sites = p .sites; triangles = p .triangles; halfedges = p .halfedges; hull = p .hull }) text (p .admits) (rw (p .answer) at q))
+-- the parts of the lists that are the mesh's
+pub parts-sized : {n k h : ℕ} (ss : List Float) (ts hs : List ℕ) → MeshSized n k h → MeshSized (length (take n ss)) (length (take k ts)) (length (take h hs))
+parts-sized ss ts hs s =
+    record {
+      few-sites = simp length-take (omega (arith, s .few-sites));
+      few-triangles = simp length-take (omega (arith, s .few-triangles));
+      few-on-hull = simp length-take (omega (arith, s .few-on-hull));
+    }
 
-    by-refusal : {a : Form} → Refused false s bs ss ts es hs a → ByForm t a bs′ ss′ ts′ es′ hs′ text → Prints t s text
-    by-refusal p q =
-        let e : text ≡ refusal (p .number) = rw (p .answer) at q in
-        rw e (broken (p .first) (p .number-at))
+module _ {A : Type 0} {Told : Mesh → Given → A → Type 0} {refused : ℕ → A} {s : List ℕ} {a : MeshParts} {ss : List Float} {ts es hs : List ℕ} (r : MeshRead false s a ss ts es hs) where
+  pub told : {x : A} → a .number ≡ 0 → Told (mesh (take (a .coordinates) ss) (take (a .links) ts) (take (a .links) es) (take (a .hull) hs)) (a .given) x → OfForm Told refused s x
+  told z t =
+      let p = r .sound z in
+      let h = p .holds in
+      sound (p .mesh) (a .given) (p .fits) (p .form) (h .given (p .admits)) (rw (h .sites, h .triangles, h .halfedges, h .hull) at t)
 
-    by-answer : {a : Form} → Bytes s → Reads s (reading (start false) bs ss ts es hs) a bs′ ss′ ts′ es′ hs′ → ByForm t a bs′ ss′ ts′ es′ hs′ text → Prints t s text
-    by-answer {a} h r q = ⊎-elim (λ p. by-mesh p q) (λ p. by-refusal p q) (exact false s bs ss ts es hs a bs′ ss′ ts′ es′ hs′ r h)
-
-  pub printed :
-      {s : List ℕ} {bs ss : List Float} {ts es hs : List ℕ} {a : Form} {bs′ ss′ : List Float} {ts′ es′ hs′ text : List ℕ}
-      → Reads s (reading (start false) bs ss ts es hs) a bs′ ss′ ts′ es′ hs′
-      → Bytes s
-      → ListRoom bs ss ts es hs
-      → ByForm t a bs′ ss′ ts′ es′ hs′ text
-      → Prints t s text
-  printed {s} {bs} {ss} {ts} {es} {hs} {a} {bs′} {ss′} {ts′} {es′} {hs′} {text} r h room q = by-answer s bs ss ts es hs bs′ ss′ ts′ es′ hs′ text room h r q
+  pub not-told : {x : A} → a .number ≢ 0 → x ≡ refused (a .number) → OfForm Told refused s x
+  not-told z e = let p = r .broken z in rw e (broken (p .first) (p .number-at))

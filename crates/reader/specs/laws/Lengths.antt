@@ -8,6 +8,7 @@ use lib.Ieee.{Float, binary64, ofBits}
 use lib.ListN.{length, length-set}
 use borrow.Author.Tests.{ltb-false, leb-true}
 use Rattle.base.specs.common.Pick.{pick}
+use Rattle.form.specs.Limits.{mostCoordinates, mostLinks}
 use Rattle.form.specs.step.Register.{shift}
 use Rattle.form.specs.step.Reader.{within, putFloat, putLink, boundsBy, sitesBy, trianglesBy, halfedgesBy, hullBy, Reading, take, takes}
 use Rattle.form.specs.step.Holds.{ListRoom}
@@ -80,9 +81,9 @@ pub roomy-told : (l : FormLists) → roomy l ≡ true → ListRoom (l .bounds) (
 unfolding roomy
 roomy-told l e =
     let a = past (ltb (length (l .bounds)) 4) _ e in
-    let b = past (ltb (length (l .sites)) 192) _ (a .1) in
-    let c = past (ltb (length (l .triangles)) 576) _ (b .1) in
-    let d = past (ltb (length (l .halfedges)) 576) _ (c .1) in
+    let b = past (ltb (length (l .sites)) mostCoordinates) _ (a .1) in
+    let c = past (ltb (length (l .triangles)) mostLinks) _ (b .1) in
+    let d = past (ltb (length (l .halfedges)) mostLinks) _ (c .1) in
     record {
       bounds = ltb-false _ _ (a .0);
       sites = ltb-false _ _ (b .0);

@@ -9,7 +9,7 @@ use Rattle.base.specs.common.Pick.{pick}
 use Rattle.base.specs.numbers.Numbers.{refusedForm}
 use Rattle.form.specs.step.Reader.{start, refused}
 use Rattle.form.specs.declared.step.Reader.{Reader}
-use Rattle.reader.specs.standing.Stands.{both, stands}
+use Rattle.reader.specs.standing.Stands.{both, isValid}
 use Rattle.reader.specs.state.Words.{readerOf}
 
 unfoldable pub blank : List ℕ → Bool
@@ -17,4 +17,4 @@ blank [] = true
 blank (w ∷ ws) = both (eqb w 0) (blank ws)
 
 unfoldable pub entered : List ℕ → Reader
-entered ws = pick (both (blank (take 7 (drop 9 ws))) (stands (readerOf ws))) (λ _. readerOf ws) (λ _. refused (start false) refusedForm)
+entered ws = pick (both (blank (take 7 (drop 9 ws))) (isValid (readerOf ws))) (λ _. readerOf ws) (λ _. refused (start false) refusedForm)

@@ -14,8 +14,8 @@ use Rattle.form.specs.step.Reader.{start, refused, steps, finished}
 use Rattle.form.specs.step.Standing.{Ok}
 use Rattle.form.specs.step.laws.Standing.{ok-start, ok-refused, ok-steps, ok-finished, old-steps, old-finished}
 use Rattle.form.specs.declared.step.Reader.{Reader}
-use Rattle.reader.specs.standing.Stands.{both, stands}
-use Rattle.reader.specs.standing.laws.Stands.{stands-ok, ok-stands, both-true}
+use Rattle.reader.specs.standing.Stands.{both, isValid}
+use Rattle.reader.specs.standing.laws.Stands.{is-valid-ok, ok-is-valid, both-true}
 use Rattle.reader.specs.state.Words.{wordsOf, readerOf, stored}
 use Rattle.reader.specs.state.Entered.{blank, entered}
 
@@ -34,11 +34,11 @@ stored-again ws r n h =
     ∙ ap (λ (t : List ℕ). wordsOf n ++ drop 16 t) (stored-is ws r h)
     ∙ sym (stored-is ws n h)
 
-pub entered-right : (ws : List ℕ) → both (blank (take 7 (drop 9 ws))) (stands (readerOf ws)) ≡ true → entered ws ≡ readerOf ws
+pub entered-right : (ws : List ℕ) → both (blank (take 7 (drop 9 ws))) (isValid (readerOf ws)) ≡ true → entered ws ≡ readerOf ws
 unfolding entered
 entered-right ws e = rw e
 
-pub entered-wrong : (ws : List ℕ) → both (blank (take 7 (drop 9 ws))) (stands (readerOf ws)) ≡ false → entered ws ≡ refused (start false) refusedForm
+pub entered-wrong : (ws : List ℕ) → both (blank (take 7 (drop 9 ws))) (isValid (readerOf ws)) ≡ false → entered ws ≡ refused (start false) refusedForm
 unfolding entered
 entered-wrong ws e = rw e
 
@@ -67,22 +67,22 @@ unfolding blank
 entered-stored ws r o h =
     let e = said r (drop 16 ws) (o .new) in
     ap entered (stored-is ws r h)
-    ∙ entered-right (wordsOf r ++ drop 16 ws) (both-true _ _ refl (ap stands e ∙ ok-stands r (o .ok)))
+    ∙ entered-right (wordsOf r ++ drop 16 ws) (both-true _ _ refl (ap isValid e ∙ ok-is-valid r (o .ok)))
     ∙ e
 
 -- a state is what its words say, or refused
 pub ok-entered : (ws : List ℕ) → Ok (entered ws)
 unfolding entered
-ok-entered ws = go (blank (take 7 (drop 9 ws))) (stands (readerOf ws)) refl
+ok-entered ws = go (blank (take 7 (drop 9 ws))) (isValid (readerOf ws)) refl
   where
-    go : (t u : Bool) → stands (readerOf ws) ≡ u → Ok (pick (both t u) (λ _. readerOf ws) (λ _. refused (start false) refusedForm))
-    go true true e = stands-ok (readerOf ws) e
+    go : (t u : Bool) → isValid (readerOf ws) ≡ u → Ok (pick (both t u) (λ _. readerOf ws) (λ _. refused (start false) refusedForm))
+    go true true e = is-valid-ok (readerOf ws) e
     go true false e = ok-refused refusedForm (inl refl) (λ q. absurd (omega arith)) (ok-start false)
     go false u e = ok-refused refusedForm (inl refl) (λ q. absurd (omega arith)) (ok-start false)
 
 pub new-entered : (ws : List ℕ) → New (entered ws)
 unfolding entered refused
-new-entered ws = record { ok = ok-entered ws; new = go (both (blank (take 7 (drop 9 ws))) (stands (readerOf ws))) }
+new-entered ws = record { ok = ok-entered ws; new = go (both (blank (take 7 (drop 9 ws))) (isValid (readerOf ws))) }
   where
     go : (t : Bool) → pick t (λ _. readerOf ws) (λ _. refused (start false) refusedForm) .old ≡ false
     go true = refl

@@ -8,6 +8,7 @@ use lib.Dec.{eqb}
 use borrow.Author.Tests.{eqb-true, eqb-false, lt-ltb}
 use Rattle.base.specs.common.Pick.{pick}
 use Rattle.base.specs.common.laws.Decide.{eq-or-ne}
+use Rattle.form.specs.Limits.{mostSites, mostTriangles, mostHull}
 use Rattle.form.specs.step.Reader.{sizeOf, opens, roomLeft, follows, broken, begun, outside, step}
 use Rattle.form.specs.step.Standing.{under, bodyOf, kinds, bodies, CountAt, Ok}
 use Rattle.form.specs.step.laws.Steps.{step-outside}
@@ -25,11 +26,11 @@ last n t h = pick (eqb h 0) (λ _. pick (eqb t 0) (λ _. pick (eqb n 0) (λ _. 1
 pub record Last (n t h k : ℕ) : Type 0 where
   low : 1 ≤ k
   high : k ≤ 4
-  sites : CountAt k 2 n 96
-  triangles : CountAt k 3 t 192
-  hull : CountAt k 4 h 96
+  sites : CountAt k 2 n mostSites
+  triangles : CountAt k 3 t mostTriangles
+  hull : CountAt k 4 h mostHull
 
-last-is : (n t h : ℕ) → n ≤ 96 → t ≤ 192 → h ≤ 96 → Last n t h (last n t h)
+last-is : (n t h : ℕ) → n ≤ mostSites → t ≤ mostTriangles → h ≤ mostHull → Last n t h (last n t h)
 unfolding last
 last-is n t h a b c = go (eqb h 0) (eqb t 0) (eqb n 0) refl refl refl
   where
@@ -93,7 +94,7 @@ beforeKind r =
     }
 
 module _ {r : Reader} (o : Ok r) (d : r .stage ≢ 0) (d₁ : r .stage ≢ 1) (h : r .left ≡ bodyOf r) where
-  few : (r .sites ≤ 96) × (r .triangles ≤ 192) × (r .hull ≤ 96)
+  few : (r .sites ≤ mostSites) × (r .triangles ≤ mostTriangles) × (r .hull ≤ mostHull)
   few = few-counts o
 
   is-last : Last (r .sites) (r .triangles) (r .hull) (beforeKind r .stage)
@@ -126,9 +127,9 @@ module _ {r : Reader} (o : Ok r) (d : r .stage ≢ 0) (d₁ : r .stage ≢ 1) (h
             no-clip = λ q. absurd (omega (arith, l .low));
             clip = λ q. o .clip d;
             left = omega arith;
-            sites = subst (λ (m : ℕ). CountAt (beforeKind r .stage) 2 m 96) (omega (arith, none-under 2)) (l .sites);
-            triangles = subst (λ (m : ℕ). CountAt (beforeKind r .stage) 3 m 192) (omega (arith, none-under 3)) (l .triangles);
-            hull = subst (λ (m : ℕ). CountAt (beforeKind r .stage) 4 m 96) (omega (arith, none-under 4)) (l .hull);
+            sites = subst (λ (m : ℕ). CountAt (beforeKind r .stage) 2 m mostSites) (omega (arith, none-under 2)) (l .sites);
+            triangles = subst (λ (m : ℕ). CountAt (beforeKind r .stage) 3 m mostTriangles) (omega (arith, none-under 3)) (l .triangles);
+            hull = subst (λ (m : ℕ). CountAt (beforeKind r .stage) 4 m mostHull) (omega (arith, none-under 4)) (l .hull);
             at = omega (arith, o .at, before-kinds, before-bodies, at-first o d);
             no-word = λ q. o .no-word (sym i ∙ q);
             word = subst (λ (m : ℕ). r .word % 256 ^ (8 - m) ≡ 0) (sym i) (o .word);
@@ -174,7 +175,7 @@ module _ {r : Reader} (o : Ok r) (f : r .refusal ≡ 0) (h : r .left ≡ bodyOf 
             ok-before o d d₁ h 2 16 e z (omega (arith, bodies-are r, u₂, u₃, u₄)) (omega (arith, kinds-between r d (λ q. omega arith), u₂, u₃, u₄));
         leads =
             outside-step (beforeKind r) 2 refl refl
-            (kind-follows (beforeKind r) 2 (l .low) (last-low 2 l (inr g) (inr t) (omega arith)) (lt-ltb (r .sites) 96 (omega (arith, o .sites .few, u₂))))
+            (kind-follows (beforeKind r) 2 (l .low) (last-low 2 l (inr g) (inr t) (omega arith)) (lt-ltb (r .sites) mostSites (omega (arith, o .sites .few, u₂))))
             ∙ same-state (begun (beforeKind r) 2) r refl (sym e) (sym z) refl (omega (arith, at-first o d)) (sym f) refl refl refl refl;
       }
 
@@ -196,7 +197,7 @@ module _ {r : Reader} (o : Ok r) (f : r .refusal ≡ 0) (h : r .left ≡ bodyOf 
             ok-before o d d₁ h 3 24 e z (omega (arith, bodies-are r, u₂, u₃, u₄)) (omega (arith, kinds-between r d (λ q. omega arith), u₂, u₃, u₄));
         leads =
             outside-step (beforeKind r) 3 refl refl
-            (kind-follows (beforeKind r) 3 (l .low) (last-low 3 l (inr g) (inl (omega arith)) (omega arith)) (lt-ltb (r .triangles) 192 (omega (arith, o .triangles .few, u₃))))
+            (kind-follows (beforeKind r) 3 (l .low) (last-low 3 l (inr g) (inl (omega arith)) (omega arith)) (lt-ltb (r .triangles) mostTriangles (omega (arith, o .triangles .few, u₃))))
             ∙ same-state (begun (beforeKind r) 3) r refl (sym e) (sym z) refl (omega (arith, at-first o d)) (sym f) refl refl refl refl;
       }
 
@@ -216,7 +217,7 @@ module _ {r : Reader} (o : Ok r) (f : r .refusal ≡ 0) (h : r .left ≡ bodyOf 
         ok =
             ok-before o d d₁ h 4 4 e z (omega (arith, bodies-are r, u₂, u₃, u₄)) (omega (arith, kinds-between r d (λ q. omega arith), u₂, u₃, u₄));
         leads =
-            outside-step (beforeKind r) 4 refl refl (kind-follows (beforeKind r) 4 (l .low) (l .high) (lt-ltb (r .hull) 96 (omega (arith, o .hull .few, u₄))))
+            outside-step (beforeKind r) 4 refl refl (kind-follows (beforeKind r) 4 (l .low) (l .high) (lt-ltb (r .hull) mostHull (omega (arith, o .hull .few, u₄))))
             ∙ same-state (begun (beforeKind r) 4) r refl (sym e) (sym z) refl (omega (arith, at-first o d)) (sym f) refl refl refl refl;
       }
 

@@ -9,6 +9,7 @@ use lib.Dec.{eqb}
 use borrow.Author.Tests.{ne-eqb, eq-eqb}
 use Rattle.base.specs.common.Pick.{pick}
 use Rattle.base.specs.common.laws.Decide.{eq-or-ne}
+use Rattle.form.specs.Limits.{mostSites, mostTriangles, mostHull}
 use Rattle.form.specs.step.Reader.{sizeOf, tally, inside, step}
 use Rattle.form.specs.step.Standing.{under, sitesBegun, trianglesBegun, hullBegun, bodyOf, kinds, bodies, CountAt, Ok}
 use Rattle.form.specs.step.laws.Steps.{step-inside}
@@ -175,9 +176,9 @@ module _ {r : Reader} (o : Ok r) (d : r .stage ≢ 0) (h : r .left < bodyOf r) w
         no-clip = o .no-clip;
         clip = o .clip;
         left = omega (arith, earlier-body, h);
-        sites = subst (λ (n : ℕ). CountAt (r .stage) 2 n 96) (sym (in-sites .0)) (o .sites);
-        triangles = subst (λ (n : ℕ). CountAt (r .stage) 3 n 192) (sym (in-triangles .0)) (o .triangles);
-        hull = subst (λ (n : ℕ). CountAt (r .stage) 4 n 96) (sym (in-hulls .0)) (o .hull);
+        sites = subst (λ (n : ℕ). CountAt (r .stage) 2 n mostSites) (sym (in-sites .0)) (o .sites);
+        triangles = subst (λ (n : ℕ). CountAt (r .stage) 3 n mostTriangles) (sym (in-triangles .0)) (o .triangles);
+        hull = subst (λ (n : ℕ). CountAt (r .stage) 4 n mostHull) (sym (in-hulls .0)) (o .hull);
         at = omega (arith, o .at, earlier-kinds, earlier-bodies, at-first o d);
         no-word = w .0;
         word = w .1;

@@ -6,7 +6,7 @@ use native.Mathlib.Nat.{mul-assoc, mul-comm, le-trans, le-of-eq, le-of-lt, lt-of
 use native.Mathlib.Nat.{mul-le-mul-right, mul-lt-mul-of-pos-right, lt-of-mul-lt-mul-right, add-sub-of-le}
 use native.Mathlib.Omega.{arith}
 use lib.Pow.{pow-mono, pow-add, shl-lt}
-use Rattle.root.specs.digits.Near.{sq, NearWhole}
+use Rattle.root.specs.whole_root.Near.{sq, NearWhole}
 use Rattle.root.specs.laws.Squares.{le-or-lt, sq-mono, sq-lt, sq-pos}
 
 -- no number with at most 53 digits and zeros lies between two neighbours of 53 digits and h zeros

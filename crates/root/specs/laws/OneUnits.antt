@@ -7,7 +7,7 @@ use native.Mathlib.Nat.{add-comm, le-antisymm, lt-irrefl, lt-of-lt-of-le, le-of-
 use lib.Dec.{T}
 use lib.Ieee.{Float, nan, inf, fin, binary64, fits, ofBits, toBits, size}
 use lib.Ieee.Bits.{ofBits-toBits}
-use Rattle.root.specs.digits.Near.{sq}
+use Rattle.root.specs.whole_root.Near.{sq}
 use Rattle.root.specs.Root.{units, Plus, NearestRoot}
 use Rattle.root.specs.laws.Squares.{le-or-lt}
 

@@ -6,7 +6,7 @@ use native.Mathlib.Nat.{mul-le-mul, lt-of-lt-of-le}
 use native.Mathlib.Omega.{arith}
 use lib.Pow.{pow-pos, pow-add}
 use Rattle.base.specs.common.laws.Decide.{lt-or-ge}
-use Rattle.root.specs.digits.Near.{sq}
+use Rattle.root.specs.whole_root.Near.{sq}
 
 pub le-or-lt : (a b : ℕ) → (a ≤ b) ⊎ (b < a)
 le-or-lt a b = ⊎-elim inr inl (lt-or-ge b a)

@@ -11,7 +11,7 @@ use lib.Pow.{pow-pos, pow-add, pow-lt}
 use lib.Ieee.{Float, nan, inf, fin, binary64, up, down, odd, fits}
 use lib.Ieee.Digits.{Equals, odd-val, back}
 use lib.Ieee.Fits.{and-l, and-r, down-pos}
-use Rattle.root.specs.digits.Near.{sq, NearWhole}
+use Rattle.root.specs.whole_root.Near.{sq, NearWhole}
 use Rattle.root.specs.Root.{units, Plus, NearestRoot}
 use Rattle.root.specs.laws.Gaps.{over, under}
 

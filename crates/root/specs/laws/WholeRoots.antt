@@ -10,8 +10,8 @@ use lib.Pow.{pow-mono, shl-lt}
 use lib.Ieee.{size}
 use lib.Ieee.Digits.{size-lt, size-le, size-reaches, back}
 use Rattle.base.specs.common.Pick.{pick}
-use Rattle.root.specs.digits.Near.{sq, NearWhole}
-use Rattle.root.specs.digits.laws.Rounds.{near-down, near-up}
+use Rattle.root.specs.whole_root.Near.{sq, NearWhole}
+use Rattle.root.specs.whole_root.laws.Rounds.{near-down, near-up}
 use Rattle.root.specs.Sqrt.{wholeRoot, nearestRoot}
 use Rattle.root.specs.laws.Squares.{sq-mono, sq-pos, pow-sq}
 

@@ -4,8 +4,8 @@ use Prim.Native.Nat.{suc, _-_, _^_, _≤_}
 use native.Mathlib.Numerals.{add-one}
 use native.Mathlib.Omega.{arith}
 use lib.Dec.{lit<}
-use Rattle.root.specs.digits.Turn.{after, Schoolbook}
-use Rattle.root.specs.digits.laws.Turns.{begins, turns, narrow}
+use Rattle.root.specs.whole_root.Turn.{after, Schoolbook}
+use Rattle.root.specs.whole_root.laws.Turns.{begins, turns, narrow}
 use Rattle.test_digits.proofs.main.Statement.{statement}
 use Rattle.test_digits.proofs.main.Tie as tie
 

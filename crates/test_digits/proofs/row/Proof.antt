@@ -2,8 +2,8 @@
 use mathlib.Core.Path.{sym, subst}
 use Prim.Native.Nat.{_^_, _<_}
 use borrow.Author.Needs.{needs}
-use Rattle.root.specs.digits.Widths.{widths}
-use Rattle.root.specs.declared.digits.Page.{Page}
+use Rattle.root.specs.whole_root.Widths.{widths}
+use Rattle.root.specs.declared.whole_root.Page.{Page}
 use Rattle.test_digits.proofs.row.Statement.{statement}
 use Rattle.test_digits.proofs.row.Tie as tie
 

@@ -1,35 +1,22 @@
--- `why::answer` prints what is promised: the form was read, and its answer tells what its bytes are.
+-- `why::answer` prints the line of the reason for the form's bytes, from the beginning of the output.
 use native.Mathlib.Omega.{arith}
-use denote.Ref.{now}
-use Rattle.form.specs.laws.Lists.{bytes}
+use Rattle.octets.specs.laws.Wrote.{wrote-all}
 use Rattle.why.specs.line.laws.ReasonLine.{line-short}
-use Rattle.why.specs.laws.ReadForm.{prints}
 use borrow.Author.Needs.{needs}
 use Rattle.why.proofs.answer.Statement.{statement}
 use Rattle.why.proofs.answer.Tie as tie
 
 reason-line-requires : tie.Need-reason-line-requires
-reason-line-requires c κs =
-    let at-of-form = c .before in
-    let s = at-of-form .before .before .before .before .before .before .before .before .before .before .before .before .before .before .before .before .before .before in
-    omega (arith, line-short (at-of-form .of-form .result), s .pre)
+reason-line-requires c κs = omega (arith, line-short (c .before .of-form .result), c .before .before .before .before .pre)
 
 returns : tie.Need-returns
 returns c =
-    let at-reason-line = c .before .before in
-    let at-of-form = at-reason-line .before .before in
-    let at-read = at-of-form .before .before .before .before .before .before .before .before .before .before in
-    let at-shared-slice-known = at-read .before .before .before .before .before .before .before in
-    let s = at-shared-slice-known .before in
-    let known = at-shared-slice-known in
-    let h = bytes (now (s .args .bytes)) (λ i. omega (arith, known .shared-slice-known .given i)) in
-    prints (s .args .q) _ _ _ _ _ _ _ _ _ _ _ _ (at-read .read .ensures) h
-    (record { bounds = omega arith; sites = omega arith; triangles = omega arith; halfedges = omega arith; hull = omega arith })
-    _ (at-of-form .of-form .ensures) (s .pre) (at-reason-line .reason-line .ensures)
+    let at-line = c .before .before in
+    let at-form = at-line .before .before in
+    let s = at-form .before .before .before in
+    let w = at-line .reason-line .ensures in
+    let r = at-form .of-form in
+    (record { reason = r .result; true = r .ensures; line = wrote-all w (omega (arith, line-short (r .result), s .pre)) }, omega (arith, w .place, line-short (r .result), s .pre))
 
 pub answer-spec : {M : Type 1} → statement M
-answer-spec =
-    tie.close
-    (tie.spec (λ c. search needs) (λ c. search needs) (λ c. search needs) (λ c. search needs)
-    (λ c. search needs) (λ c κs. search needs) (λ c. search needs) (λ c. search needs) (λ c. search needs)
-    (λ c. search needs) (λ c κs. search needs) reason-line-requires (λ c. search needs) returns)
+answer-spec = tie.close (tie.spec (λ c κs. search needs) reason-line-requires (λ c. search needs) returns)

@@ -1,75 +1,45 @@
--- `why::of_form`: the counts of a sound form are within its limits, so its parts lie within the lists.
-use mathlib.Core.Path.{sym, ap, _∙_}
+-- `why::of_form`: the form was read, and its lists are the mesh of its bytes.
+use mathlib.Core.Path.{refl, sym}
 use native.Mathlib.Omega.{arith}
-use lib.ListN.{length-take}
 use lib.Seq.{length-take-le}
-use Rattle.reasons.specs.declared.Reason.the-variants.{Number}
+use Rattle.printing.specs.laws.ReadForm.{parts-sized, told, not-told}
 use borrow.Author.Needs.{needs}
 use Rattle.why.proofs.of_form.Statement.{statement}
 use Rattle.why.proofs.of_form.Tie as tie
 
+-- where the form was read
+abbrev read : tie.After-sites3 → tie.After-read
+read c = c .before .before .before .before .before .before .before .before
+
 returns : tie.Need-returns
-returns c = rw (c .before .enum-told .given .1) (ap Number (c .number-of .ensures ∙ rw (c .before .enum-told .given .1)))
+returns c = let w = c .before .before .before .before .before .before in not-told (w .read .ensures) (c .if1 .taken) refl
 
-mul-coordinates : tie.Need-mul-coordinates
-mul-coordinates c =
-    let at-form = c .before in
-    let s = at-form .before .before .before .before .before .before in
-    let f = rw (at-form .form .given .1) at (s .pre .1) in omega (arith, f .0)
+slice-aggregate-in-box : tie.Need-slice-aggregate-in-box
+slice-aggregate-in-box c = let r = read c .read in sym (length-take-le _ _ (omega (arith, r .ensures .sized .few-sites, r .kept .1 .1 .0)))
 
-mul-entries : tie.Need-mul-entries
-mul-entries c =
-    let at-form = c .before in
-    let s = at-form .before .before .before .before .before .before in
-    let f = rw (at-form .form .given .1) at (s .pre .1) in omega (arith, f .1)
+slice-aggregate-in-box-2 : tie.Need-slice-aggregate-in-box-2
+slice-aggregate-in-box-2 c = let r = read (c .before) .read in sym (length-take-le _ _ (omega (arith, r .ensures .sized .few-triangles, r .kept .1 .1 .1 .0)))
 
-slice-aggregate-of-mesh : tie.Need-slice-aggregate-of-mesh
-slice-aggregate-of-mesh c =
-    let at-form = c .before .before in
-    let s = at-form .before .before .before .before .before .before in
-    let f = rw (at-form .form .given .1) at (s .pre .1) in
-    sym (length-take-le _ _ (omega (arith, f .0, s .pre .0 .sites)))
+slice-aggregate-in-box-3 : tie.Need-slice-aggregate-in-box-3
+slice-aggregate-in-box-3 c = let r = read (c .before .before) .read in sym (length-take-le _ _ (omega (arith, r .ensures .sized .few-triangles, r .kept .1 .1 .1 .1 .0)))
 
-slice-aggregate-of-mesh-2 : tie.Need-slice-aggregate-of-mesh-2
-slice-aggregate-of-mesh-2 c =
-    let at-form = c .before .before .before in
-    let s = at-form .before .before .before .before .before .before in
-    let f = rw (at-form .form .given .1) at (s .pre .1) in
-    sym (length-take-le _ _ (omega (arith, f .1, s .pre .0 .triangles)))
+slice-aggregate-in-box-4 : tie.Need-slice-aggregate-in-box-4
+slice-aggregate-in-box-4 c =
+    let r = read (c .before .before .before) .read in
+    sym (length-take-le _ _ (omega (arith, r .ensures .sized .few-on-hull, r .kept .1 .1 .1 .1 .1 .0)))
 
-slice-aggregate-of-mesh-3 : tie.Need-slice-aggregate-of-mesh-3
-slice-aggregate-of-mesh-3 c =
-    let at-form = c .before .before .before .before in
-    let s = at-form .before .before .before .before .before .before in
-    let f = rw (at-form .form .given .1) at (s .pre .1) in
-    sym (length-take-le _ _ (omega (arith, f .1, s .pre .0 .halfedges)))
-
-slice-aggregate-of-mesh-4 : tie.Need-slice-aggregate-of-mesh-4
-slice-aggregate-of-mesh-4 c =
-    let at-form = c .before .before .before .before .before in
-    let s = at-form .before .before .before .before .before .before in
-    let f = rw (at-form .form .given .1) at (s .pre .1) in
-    sym (length-take-le _ _ (omega (arith, f .2, s .pre .0 .hull)))
-
-of-mesh-requires : tie.Need-of-mesh-requires
-of-mesh-requires c κs =
-    let at-form = c .before .before .before .before .before in
-    let s = at-form .before .before .before .before .before .before in
-    let f = rw (at-form .form .given .1) at (s .pre .1) in
-    record {
-      few-sites = simp length-take (omega (arith, f .0));
-      few-triangles = simp length-take (omega (arith, f .1));
-      few-on-hull = simp length-take (omega (arith, f .2));
-    }
+in-box-requires : tie.Need-in-box-requires
+in-box-requires c κs = let r = read (c .before .before .before) .read .ensures in (parts-sized _ _ _ (r .sized), r .box)
 
 returns-2 : tie.Need-returns-2
 returns-2 c =
-    let at-form = c .before .before .before .before .before .before in
-    rw (at-form .form .given .1) (c .of-mesh .ensures)
+    let test = c .before .before .before .before .before .before in
+    let w = test .before .before .before .before .before .before in
+    told (w .read .ensures) (test .if1 .left) (c .in-box .ensures)
 
 pub of-form-spec : {M : Type 1} → statement M
 of-form-spec =
     tie.close
-    (tie.spec (λ c. search needs) (λ c. search needs) (λ c κs. search needs) returns mul-coordinates mul-entries
-    slice-aggregate-of-mesh slice-aggregate-of-mesh-2 slice-aggregate-of-mesh-3 slice-aggregate-of-mesh-4
-    of-mesh-requires returns-2)
+    (tie.spec (λ c. search needs) (λ c. search needs) (λ c. search needs) (λ c. search needs) (λ c κs. search needs) returns
+    (λ c. search needs) slice-aggregate-in-box (λ c. search needs) slice-aggregate-in-box-2 (λ c. search needs) slice-aggregate-in-box-3 (λ c. search needs) slice-aggregate-in-box-4
+    in-box-requires returns-2)

@@ -3,10 +3,8 @@ use mathlib.Core.Path.{_≡_}
 use mathlib.Core.Bool.{true}
 use mathlib.Core.List.{List, _∷_, _++_}
 use mathlib.Core.Logic.{inl, inr}
-use Prim.Native.Nat.{ℕ, _+_, _*_, _/_}
-use native.Mathlib.Omega.{arith}
+use Prim.Native.Nat.{ℕ}
 use lib.ListN.{length}
-use borrow.Author.Tests.{le-leb, lt-ltb}
 use Rattle.base.specs.common.Refusals.{Rule, once, reads, Judged}
 use Rattle.plane.specs.declared.given.Given.{Given}
 use Rattle.mesh.specs.Accepted.{Mesh, siteCount, Counted}
@@ -15,16 +13,16 @@ use Rattle.mesh.specs.Faults.{coordinateRules, topologyRules}
 use Rattle.definition.specs.declared.Fault.{Fault}
 use Rattle.definition.specs.Fault.{Outcome}
 use Rattle.definition.specs.Build.{Built}
-use Rattle.admission.specs.Slices.{Slices, roomFor, roomOf}
+use Rattle.admission.specs.Slices.{Slices, roomOf}
 use Rattle.reasons.specs.declared.Question.{Question}
 use Rattle.reasons.specs.declared.Reason.{Reason}
 use Rattle.reasons.specs.declared.Reason.the-variants.{Number}
 use Rattle.reasons.specs.Reason.{ofMesh}
 use Rattle.reasons.specs.Rules.{buildRules, answered, ReasonFor}
 use Rattle.reasons.specs.explaining.Promise.{WhyAnswer, ClippedWhy}
-use Rattle.printing.specs.laws.BuildText.{ProgramSlices}
+use Rattle.form.specs.mesh.Read.{MeshSized}
+use Rattle.printing.specs.laws.BuildText.{ProgramSlices, roomy}
 use Rattle.why.specs.Printed.{WhyInBox}
-use Rattle.why.specs.Steps.{Sized}
 
 -- the second rule of a list is kept, in one wording and in another
 judged-kept : (rest : List (Rule Reason)) (none r a c : Reason) (P Q S : Type 0) → Q → S → Judged (once a P ∷ once c Q ∷ rest) none r → Judged (once a P ∷ once c S ∷ rest) none r
@@ -32,24 +30,13 @@ judged-kept rest none r a c P Q S q s (inl x) = inl x
 judged-kept rest none r a c P Q S q s (inr (p, inl x)) = absurd (x .0 q)
 judged-kept rest none r a c P Q S q s (inr (p, inr (k, j))) = inr (p, inr (s, j))
 
-module _ (m : Mesh) (old : Slices) (long : ProgramSlices old) (sized : Sized (length (m .sites)) (length (m .triangles)) (length (m .hull))) where
-  roomy : roomOf m old ≡ true
-  unfolding roomFor
-  roomy =
-      rw (long .work, long .vertices, long .indexes, long .offsets, long .counts)
-      (rw (
-        le-leb (siteCount (m .sites)) 96 (omega (arith, sized .few-sites)),
-        le-leb (7 * (length (m .triangles) / 3) + 5 * length (m .hull) + 4) 1828 (omega (arith, sized .few-triangles, sized .few-on-hull)),
-        le-leb (12 * (length (m .triangles) / 3) + 8 * length (m .hull) + 4) 3076 (omega (arith, sized .few-triangles, sized .few-on-hull)),
-        lt-ltb (siteCount (m .sites)) 97 (omega (arith, sized .few-sites)),
-      ))
-
+module _ (m : Mesh) (old : Slices) (long : ProgramSlices old) (sized : MeshSized (length (m .sites)) (length (m .triangles)) (length (m .hull))) where
   module _ {own : List (Rule ℕ)} {q : Question} {o : Outcome Fault Built} {new : Slices} {r : Reason} where
     with-room : WhyAnswer m own q o old new r → ReasonFor m (Unit {0}) own q o r
     with-room a =
         let rest = reads Number own ++ reads ofMesh (coordinateRules (m .sites) ++ topologyRules (m .triangles) (m .halfedges) (m .hull) (siteCount (m .sites))) ++ buildRules o in
         let counted = Counted (length (m .sites)) (length (m .triangles)) (length (m .halfedges)) (length (m .hull)) in
-        record { judged = judged-kept rest (answered m q o) r (ofMesh Counts) (ofMesh Room) counted (roomOf m old ≡ true) (Unit {0}) roomy tt (a .reason .judged) }
+        record { judged = judged-kept rest (answered m q o) r (ofMesh Counts) (ofMesh Room) counted (roomOf m old ≡ true) (Unit {0}) (roomy m sized old long) tt (a .reason .judged) }
 
-  pub in-box : (g : Given) (q : Question) {new : Slices} {r : Reason} → ClippedWhy m g q old new r → WhyInBox m g q r
+  pub in-box : (g : Given) (q : Question) {new : Slices} {r : Reason} → ClippedWhy m g q old new r → WhyInBox q m g r
   in-box g q a = with-room a

@@ -17,17 +17,17 @@ loop-holds : tie.Need-loop-holds Inv-loop μ-loop
 loop-holds c = block-start _ (omega (arith, c .before .pre .0)) refl refl
 
 slice-aggregate-visit : tie.Need-slice-aggregate-visit Inv-loop μ-loop
-slice-aggregate-visit c = sym (c .before .before .loop .inv .hung .wide)
+slice-aggregate-visit c = sym (c .before .before .loop .inv .chained .wide)
 
 slice-aggregate-visit-2 : tie.Need-slice-aggregate-visit-2 Inv-loop μ-loop
-slice-aggregate-visit-2 c = sym (c .before .before .before .loop .inv .hung .long)
+slice-aggregate-visit-2 c = sym (c .before .before .before .loop .inv .chained .long)
 
 visit-requires : tie.Need-visit-requires Inv-loop μ-loop
 visit-requires c κs =
     let test = c .before .before in
     let l = test .before in
     let s = l .before .before in
-    record { from = l .loop .inv .from; site = omega (arith, test .loop-test .taken, s .pre .1); hung = l .loop .inv .hung }
+    record { from = l .loop .inv .from; site = omega (arith, test .loop-test .taken, s .pre .1); chained = l .loop .inv .chained }
 
 returns : tie.Need-returns Inv-loop μ-loop
 returns c =

@@ -12,41 +12,41 @@ use Rattle.base.specs.common.laws.Decide.{lt-or-ge}
 use Rattle.ring_area.specs.lowest.Lowest.{lowest}
 use Rattle.ring_area.specs.lowest.laws.Loops.{no-both, lowest-first, lowest-is, lowest-takes, none-taken, some-below, none-below, NoneTo, passed-step, passed-found}
 use Rattle.auditing.specs.places.Places.{twinAt, hasTwin}
-use Rattle.auditing.specs.places.Slots.{block, slots, slotIn, hungTo, twinIn, Hung, Visited}
-use Rattle.auditing.specs.places.laws.Hanging.{hung-none}
+use Rattle.auditing.specs.places.Slots.{block, buckets, bucketIn, chainedTo, twinIn, InTable, Visited}
+use Rattle.auditing.specs.places.laws.Hanging.{chained-none}
 
 module _ (sites : List Float) where
   -- what a no and a yes of one block say
   none-in : (a s : ℕ) → twinIn sites a s ≡ false → (j : ℕ) → a ≤ j → j < a + block → j < s → twinAt sites s j ≡ false
   unfolding twinIn
-  none-in a s e j l h g = ap (twinAt sites s) (omega arith) ∙ none-taken (λ (k : ℕ). twinAt sites s (a + k)) (hungTo a s) e (j - a) (omega arith)
+  none-in a s e j l h g = ap (twinAt sites s) (omega arith) ∙ none-taken (λ (k : ℕ). twinAt sites s (a + k)) (chainedTo a s) e (j - a) (omega arith)
 
   in-has : (a s : ℕ) → twinIn sites a s ≡ true → hasTwin sites s ≡ true
   unfolding twinIn hasTwin
   in-has a s e =
       let p : ℕ → Bool = λ k. twinAt sites s (a + k) in
-      let h : lowest p (hungTo a s) < hungTo a s = ltb-true (lowest p (hungTo a s)) (hungTo a s) e in
-      some-below (twinAt sites s) (a + lowest p (hungTo a s)) (omega arith) (lowest-takes p (hungTo a s) h)
+      let h : lowest p (chainedTo a s) < chainedTo a s = ltb-true (lowest p (chainedTo a s)) (chainedTo a s) e in
+      some-below (twinAt sites s) (a + lowest p (chainedTo a s)) (omega arith) (lowest-takes p (chainedTo a s) h)
 
-  -- ---- in one block: the sites before s have no twin in it, and those of the block before s hang
+  -- ---- in one block: the sites before s have no twin in it, and those of the block before s are in the table
   pub record BlockTo (a best s : ℕ) (heads links : List ℕ) : Type 0 where
     pub from : a ≤ s
     pub none : NoneTo (twinIn sites a) best s
-    pub hung : Hung (slotIn sites a) (hungTo a s) heads links
+    pub chained : InTable (bucketIn sites a) (chainedTo a s) heads links
 
   module _ {a best : ℕ} where
-    pub block-start : {heads links : List ℕ} → a ≤ best → heads ≡ replicate slots 0 → links ≡ replicate block 0 → BlockTo a best a heads links
+    pub block-start : {heads links : List ℕ} → a ≤ best → heads ≡ replicate buckets 0 → links ≡ replicate block 0 → BlockTo a best a heads links
     unfolding twinIn
     block-start l p q = record {
       from = omega arith;
-      none = record { most = l; none = λ s h. none-below _ (hungTo a s) (λ k g. absurd (omega arith)) };
-      hung = let n : hungTo a a ≡ 0 = omega arith in rw n (hung-none (slotIn sites a) p q);
+      none = record { most = l; none = λ s h. none-below _ (chainedTo a s) (λ k g. absurd (omega arith)) };
+      chained = let n : chainedTo a a ≡ 0 = omega arith in rw n (chained-none (bucketIn sites a) p q);
     }
 
     module _ {s : ℕ} {heads links heads′ links′ : List ℕ} {r : Bool} (b : BlockTo a best s heads links) (l : s < best)
         (v : Visited sites a s heads′ links′ r) where
       pub block-step : r ≡ false → BlockTo a best (s + 1) heads′ links′
-      block-step e = record { from = omega (arith, b .from); none = passed-step (b .none) l (v .twin) e; hung = v .hung e }
+      block-step e = record { from = omega (arith, b .from); none = passed-step (b .none) l (v .twin) e; chained = v .chained e }
 
       pub block-found : r ≡ true → s ≡ lowest (twinIn sites a) best
       block-found e = passed-found (b .none) l (v .twin) e

@@ -1,4 +1,4 @@
--- How the sites that hang in the slot of s are passed, from the last one back; and what is said of s in the end.
+-- How the sites in the bucket of s are passed, along its chain from the last one back; and what is said of s in the end.
 use mathlib.Core.Path.{_≡_, sym, ap, _∙_}
 use mathlib.Core.Bool.{Bool, true, false}
 use mathlib.Core.List.{List}
@@ -12,56 +12,56 @@ use Rattle.ring_area.specs.lowest.laws.Loops.{no-both, none-below, some-below}
 use Rattle.plane.specs.points.Flat.{pointAt}
 use Rattle.plane.specs.declared.points.Point.{Point}
 use Rattle.auditing.specs.places.Places.{twinAt}
-use Rattle.auditing.specs.places.Slots.{slots, slotOf, slotIn, hungTo, twinIn, LastIn, Hung, BlockIn, InSlot, Visited}
-use Rattle.auditing.specs.places.laws.Hanging.{slot-below, other-slot}
+use Rattle.auditing.specs.places.Slots.{buckets, bucketOf, bucketIn, chainedTo, twinIn, LastIn, InTable, BlockIn, InBucket, Visited}
+use Rattle.auditing.specs.places.laws.Hanging.{bucket-below, other-bucket}
 
-pub held-at : {sites : List Float} {a s m : ℕ} {heads links : List ℕ} {p : Point} → BlockIn sites a s heads links → p ≡ pointAt sites s → m ≡ slotOf p
-    → InSlot sites a s m heads links
-held-at g e f = record { in-block = g; slot = f ∙ ap slotOf e }
+pub held-at : {sites : List Float} {a s m : ℕ} {heads links : List ℕ} {p : Point} → BlockIn sites a s heads links → p ≡ pointAt sites s → m ≡ bucketOf p
+    → InBucket sites a s m heads links
+held-at g e f = record { in-block = g; bucket = f ∙ ap bucketOf e }
 
--- none of those from x on stands at the place of s, and the one before x hangs in its slot
+-- none of those from x on stands at the place of s, and the one before x is in its bucket
 pub record PassedTo (sites : List Float) (a s x : ℕ) : Type 0 where
-  pub within : x ≤ hungTo a s
-  pub there : (k : ℕ) → x ≡ suc k → slotIn sites a k ≡ slotOf (pointAt sites s)
-  pub none : (k : ℕ) → x ≤ k → k < hungTo a s → twinAt sites s (a + k) ≡ false
+  pub within : x ≤ chainedTo a s
+  pub there : (k : ℕ) → x ≡ suc k → bucketIn sites a k ≡ bucketOf (pointAt sites s)
+  pub none : (k : ℕ) → x ≤ k → k < chainedTo a s → twinAt sites s (a + k) ≡ false
 
-module _ {sites : List Float} {a s m : ℕ} {heads links : List ℕ} (h : InSlot sites a s m heads links) where
-  pub held-slot : m < slots
-  held-slot = slot-below (pointAt sites s) (h .slot)
+module _ {sites : List Float} {a s m : ℕ} {heads links : List ℕ} (h : InBucket sites a s m heads links) where
+  pub held-bucket : m < buckets
+  held-bucket = bucket-below (pointAt sites s) (h .bucket)
 
   pub held-all : {x : ℕ} → x ≡ getD heads m 0 → PassedTo sites a s x
   held-all e =
-      let l = h .in-block .hung .lasts m held-slot in
+      let l = h .in-block .chained .lasts m held-bucket in
       rw e (record {
         within = l .within;
-        there = λ k q. l .there k q ∙ h .slot;
-        none = λ k g i. other-slot sites s (a + k) (λ q. l .after k g i (q ∙ sym (h .slot)));
+        there = λ k q. l .there k q ∙ h .bucket;
+        none = λ k g i. other-bucket sites s (a + k) (λ q. l .after k g i (q ∙ sym (h .bucket)));
       })
 
   -- x is above 0, and the site there is held
   module _ {x : ℕ} (p : PassedTo sites a s x) (o : 0 < x) where
-    pub held-within : x - 1 < hungTo a s
+    pub held-within : x - 1 < chainedTo a s
     held-within = omega (arith, p .within)
 
     pub held-before : a + (x - 1) < s
     held-before = omega (arith, held-within)
 
-    slot-is : slotIn sites a (x - 1) ≡ slotOf (pointAt sites s)
-    slot-is = p .there (x - 1) (omega arith)
+    bucket-is : bucketIn sites a (x - 1) ≡ bucketOf (pointAt sites s)
+    bucket-is = p .there (x - 1) (omega arith)
 
     pub held-less : {y : ℕ} → y ≡ getD links (x - 1) 0 → y < x
-    held-less q = omega (arith, h .in-block .hung .nexts (x - 1) held-within .within)
+    held-less q = omega (arith, h .in-block .chained .nexts (x - 1) held-within .within)
 
     pub held-one : {y : ℕ} {b : Bool} → b ≡ twinAt sites s (a + (x - 1)) → b ≡ false → y ≡ getD links (x - 1) 0 → PassedTo sites a s y
     held-one {y} e f q =
-        let l : LastIn (slotIn sites a) (slotIn sites a (x - 1)) (x - 1) y = rw q (h .in-block .hung .nexts (x - 1) held-within) in
+        let l : LastIn (bucketIn sites a) (bucketIn sites a (x - 1)) (x - 1) y = rw q (h .in-block .chained .nexts (x - 1) held-within) in
         record {
           within = omega (arith, l .within, p .within);
-          there = λ k z. l .there k z ∙ slot-is;
+          there = λ k z. l .there k z ∙ bucket-is;
           none = λ k g i. ⊎-elim
               (λ z. ap (λ (j : ℕ). twinAt sites s (a + j)) z ∙ sym e ∙ f)
               (λ z. ⊎-elim
-              (λ w. other-slot sites s (a + k) (λ v. l .after k g w (v ∙ sym slot-is)))
+              (λ w. other-bucket sites s (a + k) (λ v. l .after k g w (v ∙ sym bucket-is)))
               (λ w. p .none k (over k w z) i)
               (lt-or-ge k (x - 1)))
               (eq-or-ne k (x - 1));
@@ -76,12 +76,12 @@ module _ {sites : List Float} {a s m : ℕ} {heads links : List ℕ} (h : InSlot
 
   pub held-none : {x : ℕ} → PassedTo sites a s x → x ≤ 0 → false ≡ twinIn sites a s
   unfolding twinIn
-  held-none p o = sym (none-below _ (hungTo a s) (λ k g. p .none k (omega arith) g))
+  held-none p o = sym (none-below _ (chainedTo a s) (λ k g. p .none k (omega arith) g))
 
 -- the answer
 module _ {sites : List Float} {a s : ℕ} {heads links : List ℕ} {b : Bool} (e : b ≡ twinIn sites a s) where
   pub visited-yes : b ≡ true → Visited sites a s heads links true
-  visited-yes f = record { twin = sym f ∙ e; hung = λ q. absurd (no-both q) }
+  visited-yes f = record { twin = sym f ∙ e; chained = λ q. absurd (no-both q) }
 
-  pub visited-no : b ≡ false → Hung (slotIn sites a) (hungTo a (s + 1)) heads links → Visited sites a s heads links false
-  visited-no f h = record { twin = sym f ∙ e; hung = λ _. h }
+  pub visited-no : b ≡ false → InTable (bucketIn sites a) (chainedTo a (s + 1)) heads links → Visited sites a s heads links false
+  visited-no f h = record { twin = sym f ∙ e; chained = λ _. h }

@@ -7,11 +7,11 @@ use lib.ListN.{length, getD}
 use Rattle.cells.specs.listing.laws.Listing.{listing-short}
 use Rattle.cells.specs.answer_text.Shown.{Laid, boxLines}
 
-module _ (T : ℕ) (counts : List ℕ) {n : ℕ} {offs idx : List ℕ} {space : ℕ} (p : Laid n offs idx space) where
-  pub box-fits : length (boxLines n T offs idx counts) ≤ space
+module _ (T : ℕ) (counts : List ℕ) {n : ℕ} {off ix : List ℕ} {space : ℕ} (p : Laid n off ix space) where
+  pub box-fits : length (boxLines n T off ix counts) ≤ space
   box-fits = omega (
     arith,
-    listing-short n T (getD counts 0 0) offs idx (p .layout)
+    listing-short n T (getD counts 0 0) off ix (p .layout)
         (getD counts 1 0 ∷ getD counts 2 0 ∷ getD counts 3 0 ∷ getD counts 4 0 ∷ []) (getD counts 5 0) (getD counts 6 0) (getD counts 7 0) (getD counts 8 0) refl,
     p .few,
     p .short,

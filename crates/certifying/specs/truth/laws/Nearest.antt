@@ -9,7 +9,7 @@ use native.Mathlib.Omega.{arith}
 use lib.Dec.{lit≤}
 use lib.Ieee.{Float, lt}
 use lib.Pow.{pow-pos}
-use Rattle.root.specs.digits.Near.{sq}
+use Rattle.root.specs.whole_root.Near.{sq}
 use Rattle.base.specs.common.laws.Decide.{lt-or-ge}
 use Rattle.base.specs.common.Binary64.{_⊠_}
 use Rattle.base.specs.common.Pick.{pick}

@@ -11,6 +11,7 @@ use borrow.Author.Tests.{eqb-true, eqb-false, ne-eqb, ltb-true}
 use Rattle.base.specs.common.Pick.{pick}
 use Rattle.base.specs.numbers.Numbers.{refusedForm, refusedUnclipped}
 use Rattle.base.specs.common.laws.Decide.{eq-or-ne}
+use Rattle.form.specs.Limits.{mostSites, mostTriangles, mostHull}
 use Rattle.form.specs.step.Register.{shift}
 use Rattle.form.specs.step.Reader.{sizeOf, opens, follows, numberFor, refused, begun, tally, inside, outside, step, steps, start, broken, finished}
 use Rattle.form.specs.step.Standing.{under, sitesBegun, trianglesBegun, hullBegun, bodyOf, kinds, bodies, CountAt, IsNumber, Ok}
@@ -68,7 +69,7 @@ at-small {r} o =
     let q = at-most-one (eqb (r .stage) 5) in
     omega (arith, o .at, p .0, q .1, size-small (r .clip), o .sites .few, o .triangles .few, o .hull .few)
 
-pub few-counts : {r : Reader} → Ok r → (r .sites ≤ 96) × (r .triangles ≤ 192) × (r .hull ≤ 96)
+pub few-counts : {r : Reader} → Ok r → (r .sites ≤ mostSites) × (r .triangles ≤ mostTriangles) × (r .hull ≤ mostHull)
 few-counts o = (omega (arith, o .sites .few), omega (arith, o .triangles .few), omega (arith, o .hull .few))
 
 -- ---- within a body
@@ -92,13 +93,13 @@ module _ {r : Reader} (o : Ok r) where
   pub in-box : r .stage ≡ 1 → r .left ≤ 32
   in-box e = omega (arith, o .left, body-first r e, size-small (r .clip))
 
-  pub in-site : r .stage ≡ 2 → 0 < r .left → (r .left ≤ 16) × (r .sites < 96)
+  pub in-site : r .stage ≡ 2 → 0 < r .left → (r .left ≤ 16) × (r .sites < mostSites)
   in-site e p = (omega (arith, o .left, body-is 2 (omega arith) e, sizes .1), omega (arith, o .sites .few, under-one r 2 e p))
 
-  pub in-triangle : r .stage ≡ 3 → 0 < r .left → (r .left ≤ 24) × (r .triangles < 192)
+  pub in-triangle : r .stage ≡ 3 → 0 < r .left → (r .left ≤ 24) × (r .triangles < mostTriangles)
   in-triangle e p = (omega (arith, o .left, body-is 3 (omega arith) e, sizes .2), omega (arith, o .triangles .few, under-one r 3 e p))
 
-  pub in-hull : r .stage ≡ 4 → 0 < r .left → (r .left ≤ 4) × (r .hull < 96)
+  pub in-hull : r .stage ≡ 4 → 0 < r .left → (r .left ≤ 4) × (r .hull < mostHull)
   in-hull e p = (omega (arith, o .left, body-is 4 (omega arith) e, sizes .3), omega (arith, o .hull .few, under-one r 4 e p))
 
   -- the end has no body
@@ -259,7 +260,7 @@ module _ {r : Reader} (o : Ok r) (z : r .left ≡ 0) (d : r .stage ≢ 0) where
       let i : bodies r - r .left ≡ n = omega arith in
       (λ h. o .no-word (i ∙ h), subst (λ (m : ℕ). r .word % 256 ^ (8 - m) ≡ 0) i (o .word))
 
-  ok-site : r .stage ≤ 2 → r .sites < 96 → Ok (begun r 2)
+  ok-site : r .stage ≤ 2 → r .sites < mostSites → Ok (begun r 2)
   unfolding begun opens sizeOf under bodyOf kinds bodies
   ok-site l m =
       let a = under-none r 2 z in
@@ -283,7 +284,7 @@ module _ {r : Reader} (o : Ok r) (z : r .left ≡ 0) (d : r .stage ≢ 0) where
         word = w .1;
       }
 
-  ok-triangle : r .stage ≤ 3 → r .triangles < 192 → Ok (begun r 3)
+  ok-triangle : r .stage ≤ 3 → r .triangles < mostTriangles → Ok (begun r 3)
   unfolding begun opens sizeOf under bodyOf kinds bodies
   ok-triangle l m =
       let a = under-none r 2 z in
@@ -306,7 +307,7 @@ module _ {r : Reader} (o : Ok r) (z : r .left ≡ 0) (d : r .stage ≢ 0) where
         word = w .1;
       }
 
-  ok-hull : r .stage ≤ 4 → r .hull < 96 → Ok (begun r 4)
+  ok-hull : r .stage ≤ 4 → r .hull < mostHull → Ok (begun r 4)
   unfolding begun opens sizeOf under bodyOf kinds bodies
   ok-hull l m =
       let a = under-none r 2 z in
@@ -416,9 +417,9 @@ ok-inside {r} b o p =
       no-clip = o .no-clip;
       clip = o .clip;
       left = omega (arith, o .left);
-      sites = subst (λ (n : ℕ). CountAt (r .stage) 2 n 96) (sym s) (o .sites);
-      triangles = subst (λ (n : ℕ). CountAt (r .stage) 3 n 192) (sym t) (o .triangles);
-      hull = subst (λ (n : ℕ). CountAt (r .stage) 4 n 96) (sym h) (o .hull);
+      sites = subst (λ (n : ℕ). CountAt (r .stage) 2 n mostSites) (sym s) (o .sites);
+      triangles = subst (λ (n : ℕ). CountAt (r .stage) 3 n mostTriangles) (sym t) (o .triangles);
+      hull = subst (λ (n : ℕ). CountAt (r .stage) 4 n mostHull) (sym h) (o .hull);
       at = kept-at r b p (o .at);
       no-word = λ e. absurd (omega arith);
       word = subst (λ (n : ℕ). shift (r .word) b % 256 ^ (8 - n) ≡ 0) (sym i) (shift-low (r .word) b (bodies r - r .left) (o .no-word) (o .word));

@@ -8,6 +8,7 @@ use lib.Dec.{eqb, ltb}
 use borrow.Author.Tests.{eqb-true, eqb-false, ltb-true, ltb-false, ne-eqb}
 use Rattle.base.specs.common.Pick.{pick}
 use Rattle.base.specs.numbers.Numbers.{refusedForm, refusedUnclipped}
+use Rattle.form.specs.Limits.{mostSites, mostTriangles, mostHull}
 use Rattle.form.specs.step.Reader.{opens, roomLeft, follows, numberFor, refused, inside, outside, step, within, broken, finished, verdict}
 use Rattle.form.specs.declared.step.Reader.{Reader}
 use Rattle.form.specs.declared.step.Form.the-variants.{Sound, Broken}
@@ -34,9 +35,9 @@ opens-cases old k e =
 
 -- a kind that there is room for
 pub data RecordKind (r : Reader) : ℕ → Type 0 where
-  site : r .sites < 96 → RecordKind r 2
-  triangle : r .triangles < 192 → RecordKind r 3
-  hull : r .hull < 96 → RecordKind r 4
+  site : r .sites < mostSites → RecordKind r 2
+  triangle : r .triangles < mostTriangles → RecordKind r 3
+  hull : r .hull < mostHull → RecordKind r 4
   end : r .stage < 5 → RecordKind r 5
 
 pub room-cases : (r : Reader) (k : ℕ) → roomLeft r k ≡ true → RecordKind r k

@@ -4,23 +4,23 @@ use Prim.Native.Nat.{_+_, _≤_}
 use native.Mathlib.Omega.{arith}
 use borrow.Author.Tests.{ne-eqb, eq-eqb}
 use Rattle.form.specs.step.Standing.{sitesBegun, trianglesBegun, hullBegun, kinds}
-use Rattle.reader.specs.standing.laws.Stands.{few-told}
+use Rattle.reader.specs.standing.laws.Stands.{valid-counts-told}
 use Rattle.reader.proofs.standing.kinds.Statement.{statement}
 use Rattle.reader.proofs.standing.kinds.Tie as tie
 
 begun-requires : tie.Need-begun-requires
-begun-requires c κs = let f = few-told _ (c .pre) in omega arith
+begun-requires c κs = let f = valid-counts-told _ (c .pre) in omega arith
 
 begun-requires-2 : tie.Need-begun-requires-2
-begun-requires-2 c κs = let f = few-told _ (c .before .pre) in omega arith
+begun-requires-2 c κs = let f = valid-counts-told _ (c .before .pre) in omega arith
 
 begun-requires-3 : tie.Need-begun-requires-3
-begun-requires-3 c κs = let f = few-told _ (c .before .before .pre) in omega arith
+begun-requires-3 c κs = let f = valid-counts-told _ (c .before .before .pre) in omega arith
 
 -- no summand is large
 small : (c : tie.After-begun3) → (c .before .before .begun .result ≤ 97) × (c .before .begun2 .result ≤ 193) × (c .begun3 .result ≤ 97)
 small c =
-    let f = few-told _ (c .before .before .before .pre) in
+    let f = valid-counts-told _ (c .before .before .before .pre) in
     (omega (arith, c .before .before .begun .ensures .1), omega (arith, c .before .begun2 .ensures .1), omega (arith, c .begun3 .ensures .1))
 
 sum : (c : tie.After-begun3)

@@ -8,7 +8,7 @@ use Rattle.base.specs.numbers.Numbers.{refusedForm}
 use Rattle.form.specs.step.Standing.{Ok}
 use Rattle.form.specs.declared.step.Reader.{Reader}
 use Rattle.reader.specs.state.Words.{readerOf}
-use Rattle.reader.specs.standing.Stands.{both, stands}
+use Rattle.reader.specs.standing.Stands.{both, isValid}
 use Rattle.reader.specs.state.Entered.{blank}
 use Rattle.reader.specs.state.Kept.{entered-right, entered-wrong, ok-entered}
 use borrow.Author.Needs.{needs}
@@ -19,8 +19,8 @@ returns : tie.Need-returns
 returns c =
     let ws = now (c .before .before .before .before .before .before .before .args .state) in
     let h = c .before .before .before .before .before .held .ensures in
-    let e : both (blank (take 7 (drop 9 ws))) (stands (readerOf ws)) ≡ true =
-    sym (c .before .both .ensures ∙ ap₂ both (c .before .before .before .blank .ensures) (c .before .before .stands .ensures ∙ ap stands h)) ∙ c .if1 .taken
+    let e : both (blank (take 7 (drop 9 ws))) (isValid (readerOf ws)) ≡ true =
+    sym (c .before .both .ensures ∙ ap₂ both (c .before .before .before .blank .ensures) (c .before .before .is-valid .ensures ∙ ap isValid h)) ∙ c .if1 .taken
     in
     let i = h ∙ sym (entered-right ws e) in
     (i, subst Ok (sym i) (ok-entered ws))
@@ -29,9 +29,9 @@ returns-2 : tie.Need-returns-2
 returns-2 c =
     let ws = now (c .before .before .before .before .before .before .before .before .before .args .state) in
     let h = c .before .before .before .before .before .before .before .held .ensures in
-    let e : both (blank (take 7 (drop 9 ws))) (stands (readerOf ws)) ≡ false =
+    let e : both (blank (take 7 (drop 9 ws))) (isValid (readerOf ws)) ≡ false =
     sym (c .before .before .before .both .ensures ∙ ap₂ both (c .before .before .before .before .before .blank .ensures)
-    (c .before .before .before .before .stands .ensures ∙ ap stands h)) ∙ c .before .before .if1 .left
+    (c .before .before .before .before .is-valid .ensures ∙ ap isValid h)) ∙ c .before .before .if1 .left
     in
     let i = c .refused .ensures ∙ ap (λ (r : Reader). refused r refusedForm) (c .before .start .ensures) ∙ sym (entered-wrong ws e) in
     (i, subst Ok (sym i) (ok-entered ws))
