@@ -2,3 +2,4 @@ pub mod theorem
 pub mod ringed
 pub mod fills
 pub mod fit
+pub mod convex

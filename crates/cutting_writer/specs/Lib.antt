@@ -1,8 +1,10 @@
 pub mod stream
+pub mod slots
 pub mod turn
 pub mod end
 pub mod join
 pub mod site
+pub mod short
 pub mod ring
 pub mod sites
 pub mod shown

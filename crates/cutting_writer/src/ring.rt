@@ -1,7 +1,11 @@
-// The ring of a site. Where it is bounded and lies wholly in the box no side cuts it, and its circumcenters go straight to the pen; any other goes through the four sides.
+// The ring of a site. Where it is bounded and lies wholly in the box no side cuts it, and its circumcenters go straight to the pen. Any other is cut in slots where it is short, and goes
+// through the four sides as a stream where it is not.
+use crate::short::cut_laid;
+use crate::short::ink_slots;
 use crate::site::cut_by_sides;
 use crate::site::on_hull;
 use crate::site::turn_from;
+use crate::slots::HALF;
 use base::numbers::wide;
 use cutting::border::entry_at;
 use cutting::meet::site_at;
@@ -23,6 +27,7 @@ ghost use Rattle.cutting.specs.pen.Pen.{page};
 ghost use Rattle.cutting.specs.pen.Room.{Ready};
 ghost use Rattle.cutting_writer.specs.stream.Stages.{inkAt, cutFour};
 ghost use Rattle.cutting_writer.specs.site.Ring.{siteRing};
+ghost use Rattle.cutting_writer.specs.slots.Slots.{Slotted};
 ghost use Rattle.cutting_writer.specs.ring.Inside.{RingInside, outOn};
 
 // Whether the circumcenter of the triangle of half-edge e is in the box.
@@ -82,6 +87,54 @@ fn ink_walk(halfedges: &[u32], centers: &[f64], t: u32, start: Pen, indexes: &mu
     pen
 }
 
+// A ring that may meet the border, with slots for a short one.
+fn cut_in_slots(
+    b: BoundingBox,
+    sites: &[f64],
+    triangles: &[u32],
+    halfedges: &[u32],
+    centers: usize,
+    t: u32,
+    pen: Pen,
+    floats: &mut [f64],
+    numbers: &mut [u32],
+    vertices: &mut [f64],
+    indexes: &mut [u32],
+) -> Pen
+    requires { ⌜ (length (now halfedges) ≤ 3 * centers) × (length (now halfedges) < EMPTY) × Slotted (now floats) (now numbers) × Ready centers (page pen (now vertices) (now indexes))
+        (feedAll (inkAt b centers) (page pen (now vertices) (now indexes)) (cutFour b (now sites) (siteRing (now sites) (now triangles) (now halfedges) (now vertices) t))) ⌝ }
+    ensures { λ r. ⌜ page r (now (vertices .exit)) (now (indexes .exit)) ≡ feedAll (inkAt b centers) (page pen (now (vertices .entry)) (now (indexes .entry)))
+        (cutFour b (now (sites .entry)) (siteRing (now (sites .entry)) (now (triangles .entry)) (now (halfedges .entry)) (now (vertices .entry)) t)) ⌝ }
+{
+    let l = cut_laid(b, sites, triangles, halfedges, vertices, t, floats, numbers);
+    let from = l.from;
+    let count = l.count;
+    if HALF < count {
+        return cut_by_sides(
+            b,
+            sites,
+            triangles,
+            halfedges,
+            centers,
+            t,
+            pen,
+            vertices,
+            indexes,
+        );
+    }
+    ink_slots(
+        b,
+        centers,
+        from,
+        count,
+        pen,
+        floats,
+        numbers,
+        vertices,
+        indexes,
+    )
+}
+
 // The ring of the site whose walk begins at t, cut and written.
 pub fn cut_ring(
     b: BoundingBox,
@@ -102,7 +155,9 @@ pub fn cut_ring(
     if lies_inside(b, halfedges, vertices, t) {
         return ink_walk(halfedges, vertices, t, pen, indexes);
     }
-    cut_by_sides(
+    let mut floats = [0.0; 128];
+    let mut numbers = [0u32; 160];
+    cut_in_slots(
         b,
         sites,
         triangles,
@@ -110,6 +165,8 @@ pub fn cut_ring(
         centers,
         t,
         pen,
+        &mut floats,
+        &mut numbers,
         vertices,
         indexes,
     )

@@ -37,7 +37,7 @@ pub struct Walk {
 }
 
 // The bisector of the sites that half-edge o joins, the lower number first.
-fn bisector(triangles: &[u32], o: usize) -> Carrier
+pub fn bisector(triangles: &[u32], o: usize) -> Carrier
     requires { ⌜ o ≤ EMPTY ⌝ }
     ensures { λ r. ⌜ r ≡ bisectorOf (now (triangles .entry)) o ⌝ }
 {
@@ -49,7 +49,7 @@ fn bisector(triangles: &[u32], o: usize) -> Carrier
     Carrier::Bisector(z, a)
 }
 
-fn out_spot(triangles: &[u32], centers: &[f64], e: u32) -> Spot
+pub fn out_spot(triangles: &[u32], centers: &[f64], e: u32) -> Spot
     requires { ⌜ e < EMPTY ⌝ }
     ensures { λ r. ⌜ atOf r ≡ outAt (now (triangles .entry)) (now (centers .entry)) e ⌝ }
 {

@@ -119,7 +119,7 @@ fn hold(h: Held, v: Spot) -> Held
 }
 
 // The pen takes a corner.
-fn ink_spot(
+pub fn ink_spot(
     b: BoundingBox,
     centers: usize,
     pen: Pen,

@@ -1,0 +1,3 @@
+-- A border that turns once.
+pub mod Once
+pub mod Rows

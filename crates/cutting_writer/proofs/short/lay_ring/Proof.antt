@@ -1,0 +1,70 @@
+-- The ring in three parts.
+use Rattle.cutting_writer.specs.short.laws.Laying.{ring-absent, ring-laid}
+use borrow.Author.Needs.{needs}
+use denote.Ref.{now}
+use mathlib.Core.Path.{_∙_}
+use native.Mathlib.Omega.{arith}
+use Rattle.cutting_writer.proofs.short.lay_ring.Statement.{statement}
+use Rattle.cutting_writer.proofs.short.lay_ring.Tie as tie
+
+returns : tie.Need-returns
+returns c =
+    let a = c .before .before .before .before .before .before .before .before .args in ring-absent (now (a .sites)) (now (a .triangles)) (now (a .halfedges)) (now (a
+    .centers)) (a .t) (now (a .floats)) (now (a .numbers)) (omega (arith, c .before .wide .ensures, c .if1 .taken))
+
+lay-ray-requires : tie.Need-lay-ray-requires
+lay-ray-requires c κs = c .before .before .before .before .before .before .before .before .before .before .pre .1
+
+lay-walk-requires : tie.Need-lay-walk-requires
+lay-walk-requires c κs =
+    let pre' = c .before .before .before .before .before .before .before .before .before .before .before .before .before .before .before .before .before .pre in (
+      pre' .0,
+      record {
+        floats = c .before .before .before .before .before .floats .given ∙ pre' .1 .floats;
+        numbers = c .before .before .before .numbers .given ∙ pre' .1
+            .numbers;
+      },
+    )
+
+lay-far-requires : tie.Need-lay-far-requires
+lay-far-requires c κs =
+    let pre' = c .before .before .before .before .before .before .before .before .before .before .before .before .before .before .before .before .before .before .before
+    .before .before .before .before .before .pre in (
+      omega (
+        arith,
+        c .before .before .before .before .before .before .lay-walk .ensures .there (omega (
+          arith,
+          c .before .before .before .before .before .before .before
+              .before .before .before .before .before .before .before .before .before .before .wide .ensures,
+          c .before .before .before .before .before .before .before .before .before
+              .before .before .before .before .before .before .before .if1 .left,
+        )),
+        pre' .0,
+      ),
+      record {
+        floats = c .before .before .before .before .before .floats2 .given ∙ c .before
+            .before .before .before .before .before .before .before .before .before .before .before .floats .given ∙ pre' .1 .floats;
+        numbers = c .before .before .before .numbers2
+            .given ∙ c .before .before .before .before .before .before .before .before .before .before .numbers .given ∙ pre' .1 .numbers;
+      },
+    )
+
+returns-2 : tie.Need-returns-2
+returns-2 c =
+    let a = c .before .before .before .before .before .before .before .before .before .before .before .before .before .before .before .before .before .before .before .before
+    .before .before .before .before .before .before .before .before .before .args in
+    ring-laid (now (a .sites)) (now (a .triangles)) (now (a .halfedges)) (now (a .centers)) (a .t) (now (a .floats)) (now (a .numbers)) (omega (
+      arith,
+      c .before .before
+          .before .before .before .before .before .before .before .before .before .before .before .before .before .before .before .before .before .before .before .before .wide
+          .ensures,
+      c .before .before .before .before .before .before .before .before .before .before .before .before .before .before .before .before .before .before .before
+          .before .before .if1 .left,
+    )) (c .before .before .before .before .before .before .before .before .before .before .before .before .before .before .before .before .before
+    .before .lay-ray .ensures) (c .before .before .before .before .before .before .before .before .before .before .before .lay-walk .ensures) (c .before .before .before
+    .before .lay-far .ensures)
+
+pub lay-ring-spec : {M : Type 1} → statement M
+lay-ring-spec =
+    tie.close
+    (tie.spec (λ c κs. search needs) returns lay-ray-requires lay-walk-requires lay-far-requires (λ c. search needs) (λ c. search needs) returns-2)

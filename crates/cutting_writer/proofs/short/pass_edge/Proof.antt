@@ -1,0 +1,114 @@
+-- The four cases of `keptBy`, by what is within.
+use Rattle.cutting_writer.specs.short.laws.Passing.{edge-none, edge-one, edge-two}
+use borrow.Author.Needs.{needs}
+use mathlib.Core.Path.{refl, sym, _∙_}
+use native.Mathlib.Omega.{arith}
+use Rattle.cutting_writer.proofs.short.pass_edge.Statement.{statement}
+use Rattle.cutting_writer.proofs.short.pass_edge.Tie as tie
+
+add-at : tie.Need-add-at
+add-at c =
+    let pre' = c .before .before .before .before .before .before .pre in
+    omega (arith, pre' .0, pre' .1)
+
+put-requires : tie.Need-put-requires
+put-requires c κs =
+    let pre' = c .before .before .before .before .before .before .before .before .before .pre in
+    (omega (arith, pre' .0, pre' .1), pre' .2)
+
+add-result : tie.Need-add-result
+add-result c = omega (arith, c .before .before .before .before .before .before .before .before .before .before .before .before .before .before .before .pre .1)
+
+returns : tie.Need-returns
+returns c =
+    let a = c .before .before .before .before .before .before .before .before .before .before .before .before .before .before .before .args in
+    edge-one (a .to) (a .k) (c .before .before .before .before .before .before .before .before .before .before .before .before .before .before .before .pre .1) (c .before
+    .before .before .before .before .put .ensures) (rw (
+      sym (c .before .before .before .before .before .before .before .before .before .before .within .ensures) ∙ c .before
+          .before .before .before .before .before .before .before .if1 .taken,
+      sym (c .before .before .before .before .before .before .before .before .before .within2 .ensures) ∙ c
+          .if2 .taken,
+    ) refl)
+
+add-put : tie.Need-add-put
+add-put c =
+    let pre' = c .before .before .before .before .before .before .before .before .before .before .before .before .before .before .before .before .before .before .pre in
+    omega (arith, pre' .0, pre' .1)
+
+put-requires-2 : tie.Need-put-requires-2
+put-requires-2 c κs =
+    let pre' = c .before .before .before .before .before .before .before .before .before .before .before .before .before .before .before .before .before .before .pre in (
+      omega (arith, pre' .0, pre' .1),
+      record {
+        floats = c .before .before .before .before .before .before .before .floats .given ∙ pre' .2 .floats;
+        numbers = c .before
+            .before .before .before .before .numbers .given ∙ pre' .2 .numbers;
+      },
+    )
+
+add-result-2 : tie.Need-add-result-2
+add-result-2 c =
+    omega (
+      arith,
+      c .before .before .before .before .before .before .before .before .before .before .before .before .before .before .before .before .before .before .before
+          .before .before .before .before .pre .1,
+    )
+
+same-length-3 : tie.Need-same-length-3
+same-length-3 c =
+    c .before .before .before .floats2 .given ∙ c .before .before .before .before .before .before .before .before .before .before .before .before .floats .given
+
+same-length-4 : tie.Need-same-length-4
+same-length-4 c = c .before .numbers2 .given ∙ c .before .before .before .before .before .before .before .before .before .before .numbers .given
+
+returns-2 : tie.Need-returns-2
+returns-2 c =
+    let a = c .before .before .before .before .before .before .before .before .before .before .before .before .before .before .before .before .before .before .before .before
+    .before .before .before .args in
+    edge-two (a .to) (a .k) (c .before .before .before .before .before .before .before .before .before .before .before .before .before .before .before .before .before .before
+    .before .before .before .before .before .pre .1) (c .before .before .before .before .before .before .before .before .before .before .before .before .before .put .ensures)
+    (c .before .before .before .before .put2 .ensures)
+    (rw (
+      sym (c .before .before .before .before .before .before .before .before .before .before .before .before .before .before .before .before .before .before .within
+          .ensures) ∙ c .before .before .before .before .before .before .before .before .before .before .before .before .before .before .before .before .if1 .taken,
+      sym (c .before
+          .before .before .before .before .before .before .before .before .before .before .before .before .before .before .before .before .within2 .ensures) ∙ c .before .before
+          .before .before .before .before .before .before .if2 .left,
+      c .before .before .before .before .before .before .before .meet .ensures,
+    ) refl)
+
+put-requires-3 : tie.Need-put-requires-3
+put-requires-3 c κs =
+    let pre' = c .before .before .before .before .before .before .before .before .before .before .before .pre in
+    (omega (arith, pre' .0, pre' .1), pre' .2)
+
+add-result-3 : tie.Need-add-result-3
+add-result-3 c = omega (arith, c .before .before .before .before .before .before .before .before .before .before .before .before .before .before .before .before .pre .1)
+
+returns-3 : tie.Need-returns-3
+returns-3 c =
+    let a = c .before .before .before .before .before .before .before .before .before .before .before .before .before .before .before .before .args in
+    edge-one (a .to) (a .k) (c .before .before .before .before .before .before .before .before .before .before .before .before .before .before .before .before .pre .1) (c
+    .before .before .before .before .put3 .ensures)
+    (rw (
+      sym (c .before .before .before .before .before .before .before .before .before .before .before .within .ensures) ∙ c .before .before .before .before .before .before
+          .before .before .before .if1 .left,
+      sym (c .before .before .before .before .before .before .before .before .before .before .within2 .ensures) ∙ c .before .before .before
+          .before .before .before .before .before .if3 .taken,
+      c .before .before .before .before .before .before .before .meet2 .ensures,
+    ) refl)
+
+returns-4 : tie.Need-returns-4
+returns-4 c =
+    let a = c .before .before .before .before .before .before .before .before .args in edge-none (a .to) (a .k) (rw (
+      sym (c .before .before .before .within .ensures) ∙ c
+          .before .if1 .left,
+      sym (c .before .before .within2 .ensures) ∙ c .if3 .left,
+    ) refl)
+
+pub pass-edge-spec : {M : Type 1} → statement M
+pass-edge-spec =
+    tie.close
+    (tie.spec (λ c κs. search needs) (λ c κs. search needs) add-at put-requires add-result (λ c. search needs) (λ c. search needs) returns (λ c κs. search needs) add-put
+    put-requires-2 add-result-2 same-length-3 same-length-4 returns-2 (λ c κs. search needs) put-requires-3 add-result-3 (λ c. search needs) (λ c. search needs) returns-3
+    returns-4)
