@@ -19,7 +19,6 @@ use Rattle.cell_builder.specs.tried.CellsInSlices.{plan, Ground, Amid, D
 use Rattle.cell_builder.specs.tried.Tries.{Ringed, Tried}
 use Rattle.cell_builder.specs.declared.tried.Frame.{Frame}
 use Rattle.cell_builder.specs.declared.finish.Progress.{Progress}
-use Rattle.cell_builder.specs.tried.laws.Early.{InsideSite}
 use Rattle.cell_builder.specs.tried.laws.RingShort.{ring-short, walk-short}
 use Rattle.cell_builder.specs.tried.laws.TriedRings.{ring-below, ring-some, Below, hull-some, hull-below, hull-short, hull-same}
 use Rattle.cell_builder.specs.tried.laws.OneTry.{region-room, region-within, count-is, corners-in, ringed, tried}
