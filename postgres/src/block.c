@@ -61,6 +61,8 @@ void give_back(Survey *p)
 {
     if (p->block)
         pfree(p->block);
+    else /* of a lent mesh */
+        pfree(p->vertices), pfree(p->indexes), pfree(p->offsets);
     *p = (Survey){.n = p->n};
 }
 
