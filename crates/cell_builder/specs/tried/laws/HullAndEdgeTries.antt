@@ -2,13 +2,13 @@
 use mathlib.Core.Path.{_≡_, sym, _∙_}
 use mathlib.Core.List.{List, []}
 use mathlib.Core.Logic.{_≢_}
-use Prim.Native.Nat.{ℕ, suc, _+_, _-_, _≤_, _<_}
+use Prim.Native.Nat.{ℕ, suc, _+_, _-_, _/_, _≤_, _<_}
 use native.Mathlib.Omega.{arith}
 use lib.Ieee.{Float}
 use lib.ListN.{length, getD, drop}
 use lib.Seq.{getD-drop}
 use Rattle.base.specs.numbers.Numbers.{EMPTY}
-use Rattle.mesh.specs.Mesh.{endOf}
+use Rattle.mesh.specs.Mesh.{endOf, wholeOf}
 use Rattle.mesh.specs.laws.Facts.{paired, tab-length, end-site}
 use Rattle.definition.specs.Build.{CellState, ringFrom, hullRing}
 use Rattle.definition.specs.Measures.{shareOf}
