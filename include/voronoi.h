@@ -41,9 +41,9 @@
  *   grid_nearest             N + T + H, the check of the mesh included
  *   grid_sites               the coordinates; no mesh, so no check
  *   flip                     T, to see whether the opposite sites are joined; the change itself the half-edges that end at two sites
- *   build                    usually N + T (0.3 to 0.9 microseconds a site). At worst the square of N: an added point is searched for among
- *                            all those added before (65,536 sites on a circle: 20 s), and a cell that stays empty is tried again from each
- *                            of its half-edges (one site with 65,535 neighbours: 5 minutes). docs/work/SPEED.md has the times.
+ *   build                    usually N + T (0.1 to 0.9 microseconds a site), sites on a circle, in a strip or about a hub too. At worst the square
+ *                            of N: where added points fall into one slot of the search for near ones, or between two, and where a hull site
+ *                            without a cell, which is tried from each of its half-edges, has very many. docs/work/SPEED.md has the times.
  *   why                      as build; where the mesh is refused by 6 to 10 the check is made twice; for a pair the first site's neighbours, and the
  *                            product of the lengths of two cells for each of its first and last */
 #ifndef VORONOI_H
