@@ -44,7 +44,23 @@ MESH
 grep -q '^audit, neighbours: 0, kind 0,' "$folder/five"
 grep -q '^audit of the cut, neighbours: 0, kind 0,' "$folder/five"
 grep -qxF 'certificate, cut: 0, kind 4, site 0, vertex 8, other 4; areas 1195.01 1701.83 4728 375.156 0' "$folder/five"
-echo "certify: the ear and the five gauges are named, and the audit against neighbours passes them"
+# five gauges about a small sheet: gauge 1 was moved, has no piece, and the whole sheet is nearest to it; three quarters are in the piece of gauge 0
+run mesh >"$folder/small" <<'MESH'
+box -1.75 -3.75 0.5 2.5
+site -4 -2
+site -0.5 -3
+site -4 3
+site 1.5 -4
+site 0.5 1.5
+triangle 0 2 4  E 7 3
+triangle 0 4 3  2 E E
+triangle 1 4 2  E 1 E
+hull 0 2 1 4 3
+MESH
+grep -q '^audit, neighbours: 0, kind 0,' "$folder/small"
+grep -q '^audit of the cut, neighbours: 0, kind 0,' "$folder/small"
+grep -qxF 'certificate, cut: 0, kind 4, site 0, vertex 3, other 1; areas 0.93679 0 0 0.31321 0' "$folder/small"
+echo "certify: the ear and twice five gauges are named, and the audit against neighbours passes them"
 
 program=target/tests/certify_truth
 MORE_FLAGS="${MORE_FLAGS-} -ffp-contract=off" sh tests/archive.sh build "$program" tests/calls/certify_truth.c
