@@ -1,3 +1,4 @@
 pub mod border
+pub mod degrees
 pub mod fan
 pub mod whole

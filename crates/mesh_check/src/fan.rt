@@ -101,6 +101,9 @@ pub fn check_fan(triangles: &[u32], halfedges: &[u32], sites: usize, work: &mut 
         × ((k : ℕ) → k < length (now triangles) → getD (now triangles) k 0 < sites) ⌝ }
     ensures { λ r. ⌜ FanAnswer (now (triangles .entry)) (now (halfedges .entry)) sites (now (work .entry)) (now (work .exit)) r ⌝ }
 {
+    if crate::degrees::whole_fans(triangles, halfedges, work) {
+        return sites;
+    }
     mesh::leftmost(triangles, halfedges, work);
     if walks_cover(halfedges, work) {
         return sites;
