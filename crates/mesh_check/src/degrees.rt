@@ -3,17 +3,15 @@ use base::numbers::EMPTY;
 use base::numbers::wide;
 ghost use mathlib.Core.Path.{_≡_};
 ghost use mathlib.Core.Bool.{true};
-ghost use mathlib.Core.List.{List};
 ghost use Prim.Native.Nat.{ℕ, _%_, _<_, _≤_};
 ghost use lib.ListN.{length, getD};
-ghost use Rattle.base.specs.numbers.Numbers.{EMPTY};
 ghost use Rattle.mesh.specs.Mesh.{wholeOf};
-ghost use Rattle.mesh_check.specs.degrees.Packed.{Lowests, Leftmosts, Reaching, Rounds};
+ghost use Rattle.mesh_check.specs.degrees.Packed.{Lowests, Leftmosts, Unpacks, LongWalks};
 
 // A packed entry is 524,288 times what is left of 8,191 when the site's half-edges are taken off it, and the half-edge; one of a site without any is `EMPTY`.
 const PLACES: u32 = 524288;
 
-const MOST: u32 = 8191;
+const ENDS: u32 = 8191;
 
 // Each site's lowest half-edge, packed. Answers whether no site has too many.
 fn pack_lowest(triangles: &[u32], work: &mut [u32]) -> bool
@@ -73,19 +71,19 @@ fn reaches(halfedges: &[u32], t: u32, d: usize) -> bool
     true
 }
 
-// Unpacks the entries. Answers whether from each of them as many half-edges are reached as it says.
+// Takes the entries apart. Answers whether from each of them as many half-edges are reached as it says.
 fn unpack(halfedges: &[u32], work: &mut [u32]) -> bool
     requires { ⌜ length (now halfedges) % 3 ≡ 0 ⌝ }
-    ensures { λ r. ⌜ (r ≡ true → Reaching (now (halfedges .entry)) (now (work .entry)) (now (work .exit)) (length (now (work .entry)))) ⌝ }
+    ensures { λ r. ⌜ (r ≡ true → Unpacks (now (halfedges .entry)) (now (work .entry)) (now (work .exit)) (length (now (work .entry)))) ⌝ }
 {
     let mut s = 0;
     while s < work.len() {
         let m = work[s];
         let left = m / PLACES;
-        if left < MOST {
+        if left < ENDS {
             let t = m % PLACES;
             work[s] = t;
-            if !reaches(halfedges, t, wide(MOST - left)) {
+            if !reaches(halfedges, t, wide(ENDS - left)) {
                 return false;
             }
         }
@@ -98,7 +96,7 @@ fn unpack(halfedges: &[u32], work: &mut [u32]) -> bool
 pub fn whole_fans(triangles: &[u32], halfedges: &[u32], work: &mut [u32]) -> bool
     requires { ⌜ (length (now triangles) % 3 ≡ 0) × (length (now halfedges) ≡ length (now triangles))
         × ((k : ℕ) → k < length (now triangles) → getD (now triangles) k 0 < length (now work)) ⌝ }
-    ensures { λ r. ⌜ (r ≡ true → Rounds (now (triangles .entry)) (now (halfedges .entry)) (length (now (work .entry))) (now (work .exit))) ⌝ }
+    ensures { λ r. ⌜ (r ≡ true → LongWalks (now (triangles .entry)) (now (halfedges .entry)) (length (now (work .entry))) (now (work .exit))) ⌝ }
 {
     if PLACES as usize <= triangles.len() {
         return false;

@@ -39,12 +39,12 @@ unfoldable pub unpacked : ℕ → ℕ
 unpacked m = pick (ltb (m / 524288) 8191) (λ _. m % 524288) (λ _. m)
 
 -- the entries below n are unpacked, and the walk from each has as many entries as it says at least; the others are the old ones
-pub record Reaching (he old new : List ℕ) (n : ℕ) : Type 0 where
+pub record Unpacks (he old new : List ℕ) (n : ℕ) : Type 0 where
   pub long : length new ≡ length old
   pub done : (s : ℕ) → s < n → (getD new s 0 ≡ unpacked (getD old s 0)) × (8191 - getD old s 0 / 524288 ≤ length (wholeOf he (getD new s 0)))
   pub rest : (s : ℕ) → n ≤ s → getD new s 0 ≡ getD old s 0
 
 -- the leftmost table of w entries, the walk from each as long at least as half-edges end at the site
-pub record Rounds (tri he : List ℕ) (w : ℕ) (new : List ℕ) : Type 0 where
+pub record LongWalks (tri he : List ℕ) (w : ℕ) (new : List ℕ) : Type 0 where
   pub table : new ≡ tableTo tri he w (length tri)
   pub reached : (s : ℕ) → s < w → endsTo tri s (length tri) ≤ length (wholeOf he (getD new s 0))

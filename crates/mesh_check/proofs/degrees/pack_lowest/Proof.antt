@@ -39,7 +39,9 @@ mul-work : tie.Need-mul-work Inv-loop μ-loop
 mul-work c = omega (arith, c .before .before .before .before .before .loop .inv .2 _ (in-work c) .within)
 
 add-work : tie.Need-add-work Inv-loop μ-loop
-add-work c = omega (arith, c .before .before .before .before .before .loop .inv .2 _ (in-work c) .within, c .before .before .before .before .before .before .before .before .before .before .before .before .pre .1)
+add-work c =
+    let s = c .before .before .before .before .before .before .before .before .before .before .before .before in
+    omega (arith, c .before .before .before .before .before .loop .inv .2 _ (in-work c) .within, s .pre .1)
 
 slice-write-work : tie.Need-slice-write-work Inv-loop μ-loop
 slice-write-work c = in-work c

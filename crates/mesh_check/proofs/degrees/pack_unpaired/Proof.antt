@@ -2,7 +2,7 @@
 use borrow.Author.Needs.{needs}
 use mathlib.Core.Path.{_≡_, refl, sym, ap, _∙_, subst}
 use mathlib.Core.Logic.{⊎-elim}
-use Prim.Native.Nat.{_+_, _-_, _≤_}
+use Prim.Native.Nat.{_+_, _-_, _≤_, _<_}
 use native.Mathlib.Omega.{arith}
 use lib.ListN.{length, length-set}
 use Rattle.mesh.specs.Mesh.{nextOf}
@@ -48,8 +48,10 @@ loop-again c =
       omega arith,
       ⊎-elim (λ w. ap length (w .4) ∙ length-set (l .work) _ _ ∙ l .inv .1) (λ w. ap length (w .1) ∙ l .inv .1) (c .if1 .came),
       ⊎-elim
-          (λ w. subst (λ k. Leftmosts tri he (l .e + 1) k) (sym (w .4)) (lefts-turn tri he (l .work) (l .e) (w .2 .result) _ (s .pre .2) (omega arith) (l .inv .2) (w .0 .taken) (w .2 .ensures ∙ w .1 .ensures)
-          refl (omega (arith, s .pre .3 (nextOf (l .e)) (next-lt (s .pre .0) (omega arith)), w .2 .ensures, w .1 .ensures, l .inv .1))))
+          (λ w.
+          let i : w .2 .result < length (l .work) = omega (arith, s .pre .3 (nextOf (l .e)) (next-lt (s .pre .0) (omega arith)), w .2 .ensures, w .1 .ensures, l .inv .1) in
+          subst (λ k. Leftmosts tri he (l .e + 1) k) (sym (w .4))
+          (lefts-turn tri he (l .work) (l .e) (w .2 .result) _ (s .pre .2) (omega arith) (l .inv .2) (w .0 .taken) (w .2 .ensures ∙ w .1 .ensures) refl i))
           (λ w. subst (λ k. Leftmosts tri he (l .e + 1) k) (sym (w .1)) (lefts-pass tri he (l .work) (l .e) (l .inv .2) (w .0 .left)))
           (c .if1 .came),
     )
@@ -64,4 +66,5 @@ pub pack-unpaired-spec : {M : Type 1} → statement M
 pack-unpaired-spec =
     tie.close
     (tie.spec Inv-loop μ-loop loop-holds (λ c. search needs) (λ c. search needs) (λ c κs. search needs) (λ c κs. search needs)
-    (λ c. search needs) slice-read-work mul-work-2 (λ c. search needs) add-work (λ c. search needs) slice-write-work (λ c. search needs) (λ c. search needs) loop-again (λ c. search needs) returns)
+    (λ c. search needs) slice-read-work mul-work-2 (λ c. search needs) add-work (λ c. search needs) slice-write-work (λ c. search needs)
+    (λ c. search needs) loop-again (λ c. search needs) returns)

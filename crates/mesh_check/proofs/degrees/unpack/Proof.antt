@@ -1,4 +1,4 @@
--- The loop keeps `Reaching` of the entries below s.
+-- The loop keeps `Unpacks` of the entries below s.
 use borrow.Author.Needs.{needs}
 use borrow.Author.Tests.{not-false}
 use mathlib.Core.Path.{_≡_, refl, sym, subst}
@@ -7,19 +7,19 @@ use mathlib.Core.Bool.{false≢true}
 use Prim.Native.Nat.{_+_, _-_, _≤_}
 use native.Mathlib.Omega.{arith}
 use lib.ListN.{length}
-use Rattle.mesh_check.specs.degrees.Packed.{Reaching}
-use Rattle.mesh_check.specs.degrees.laws.Packing.{reaching-start, reaching-pass, reaching-step}
+use Rattle.mesh_check.specs.degrees.Packed.{Unpacks}
+use Rattle.mesh_check.specs.degrees.laws.Packing.{unpacks-start, unpacks-pass, unpacks-step}
 use Rattle.mesh_check.proofs.degrees.unpack.Statement.{statement}
 use Rattle.mesh_check.proofs.degrees.unpack.Tie as tie
 
 abbrev Inv-loop : tie.InvT-loop
-Inv-loop halfedges work₀ s₀ work s = (s ≤ length work₀) × Reaching halfedges work₀ work s
+Inv-loop halfedges work₀ s₀ work s = (s ≤ length work₀) × Unpacks halfedges work₀ work s
 
 abbrev μ-loop : tie.MeasureT-loop
 μ-loop halfedges work₀ s₀ work s = length work₀ - s
 
 loop-holds : tie.Need-loop-holds Inv-loop μ-loop
-loop-holds c = (omega arith, reaching-start _ _)
+loop-holds c = (omega arith, unpacks-start _ _)
 
 sub-wide : tie.Need-sub-wide Inv-loop μ-loop
 sub-wide c = omega arith
@@ -32,9 +32,9 @@ loop-again c =
     let old = s .args .work .now in (
       omega arith,
       ⊎-elim
-          (λ w. subst (λ k. Reaching he old k (l .s + 1)) (sym (w .4)) (reaching-step he old (l .work) (l .s) (l .inv .1) (omega (arith, l .inv .1 .long)) _ (w .1 .result) (w .0 .taken)
+          (λ w. subst (λ k. Unpacks he old k (l .s + 1)) (sym (w .4)) (unpacks-step he old (l .work) (l .s) (l .inv .1) (omega (arith, l .inv .1 .long)) _ (w .1 .result) (w .0 .taken)
           refl (w .1 .ensures) (w .2 .ensures (not-false _ (w .3 .left)))))
-          (λ w. subst (λ k. Reaching he old k (l .s + 1)) (sym (w .1)) (reaching-pass he old (l .work) (l .s) (l .inv .1) (w .0 .left)))
+          (λ w. subst (λ k. Unpacks he old k (l .s + 1)) (sym (w .1)) (unpacks-pass he old (l .work) (l .s) (l .inv .1) (w .0 .left)))
           (c .if1 .came),
     )
 
@@ -42,7 +42,7 @@ returns-2 : tie.Need-returns-2 Inv-loop μ-loop
 returns-2 c =
     let s = c .before .before .before .before in
     let h : c .before .loop .s ≡ length (s .args .work .now) = omega (arith, c .before .loop .inv .1 .long) in
-    λ _. subst (λ k. Reaching (s .args .halfedges .now) (s .args .work .now) (c .before .loop .work) k) h (c .before .loop .inv .1)
+    λ _. subst (λ k. Unpacks (s .args .halfedges .now) (s .args .work .now) (c .before .loop .work) k) h (c .before .loop .inv .1)
 
 pub unpack-spec : {M : Type 1} → statement M
 unpack-spec =

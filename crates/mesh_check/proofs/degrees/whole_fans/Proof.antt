@@ -1,10 +1,10 @@
--- What is packed is unpacked to the leftmost table, by `rounds`.
+-- What is packed is unpacked to the leftmost table, by `long-walks`.
 use borrow.Author.Needs.{needs}
 use borrow.Author.Tests.{not-false}
 use mathlib.Core.Path.{_∙_}
 use mathlib.Core.Bool.{false≢true}
 use native.Mathlib.Omega.{arith}
-use Rattle.mesh_check.specs.degrees.laws.Packing.{rounds}
+use Rattle.mesh_check.specs.degrees.laws.Packing.{long-walks}
 use Rattle.mesh_check.proofs.degrees.whole_fans.Statement.{statement}
 use Rattle.mesh_check.proofs.degrees.whole_fans.Tie as tie
 
@@ -19,7 +19,8 @@ returns-3 c =
     let s = c .before .before .before .before .before .before .before .before .before .before .before .before .before .before .before .before .before in
     let p = c .before .before .before .before .before .before .before .before .before .before .before .pack-lowest in
     let u = c .before .before .before .before .before .before .pack-unpaired in
-    λ h. rounds (s .args .triangles .now) (s .args .halfedges .now) _ _ _ (s .pre .0) (omega arith) (s .pre .2) (u .kept .1 .1 .0 ∙ p .kept .1 .0) (u .ensures) (c .before .before .unpack .ensures h)
+    λ h. long-walks (s .args .triangles .now) (s .args .halfedges .now) _ _ _ (s .pre .0) (omega arith) (s .pre .2) (u .kept .1 .1 .0 ∙ p .kept .1 .0) (u .ensures)
+    (c .before .before .unpack .ensures h)
 
 pub whole-fans-spec : {M : Type 1} → statement M
 whole-fans-spec =

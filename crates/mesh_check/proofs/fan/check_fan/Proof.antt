@@ -4,7 +4,7 @@ use mathlib.Core.Path.{_∙_, ap}
 use borrow.Author.Needs.{needs}
 use lib.ListN.{length}
 use Rattle.mesh.specs.Mesh.{tableTo}
-use Rattle.mesh_check.specs.fan.laws.Loops.{fan-rounds, fan-whole, fan-broken}
+use Rattle.mesh_check.specs.fan.laws.Loops.{fan-long, fan-whole, fan-broken}
 use Rattle.mesh_check.proofs.fan.check_fan.Statement.{statement}
 use Rattle.mesh_check.proofs.fan.check_fan.Tie as tie
 
@@ -16,7 +16,7 @@ whole-fans-requires c κs =
 returns : tie.Need-returns
 returns c =
     let s = c .before .before .before .before .before .before .before .before in
-    fan-rounds _ _ _ _ _ (s .pre .0) (s .pre .1) (s .pre .2) (s .pre .3) (c .before .before .before .whole-fans .ensures (c .if1 .taken))
+    fan-long _ _ _ _ _ (s .pre .0) (s .pre .1) (s .pre .2) (s .pre .3) (c .before .before .before .whole-fans .ensures (c .if1 .taken))
 
 leftmost-requires : tie.Need-leftmost-requires
 leftmost-requires c κs =

@@ -1,8 +1,8 @@
 -- The loops that pack the table and unpack it: what each keeps from turn to turn, and that the table is the leftmost one.
-use mathlib.Core.Path.{_≡_, refl, sym, ap, _∙_}
+use mathlib.Core.Path.{_≡_, refl, sym, _∙_}
 use mathlib.Core.List.{List}
 use mathlib.Core.Logic.{⊎-elim, _≢_}
-use Prim.Native.Nat.{ℕ, zero, suc, _+_, _-_, _*_, _/_, _%_, _≤_, _<_}
+use Prim.Native.Nat.{ℕ, suc, _+_, _-_, _*_, _/_, _%_, _≤_, _<_}
 use native.Mathlib.Nat.{le-antisymm}
 use native.Mathlib.Numerals.{add-one}
 use native.Mathlib.Omega.{arith}
@@ -18,7 +18,7 @@ use Rattle.mesh.specs.laws.Next.{next-lt}
 use Rattle.mesh.specs.laws.Table.{table-length, table-leftmost}
 use Rattle.mesh.specs.laws.WalkSteps.{WalkCounting, walk-go}
 use Rattle.mesh_check.specs.fan.Counts.{endsTo}
-use Rattle.mesh_check.specs.degrees.Packed.{Lowest, Lowests, Lefts, Leftmosts, unpacked, Reaching, Rounds}
+use Rattle.mesh_check.specs.degrees.Packed.{Lowest, Lowests, Lefts, Leftmosts, unpacked, Unpacks, LongWalks}
 
 -- ---- the lowest, from above
 
@@ -136,14 +136,14 @@ lefts-turn tri he work n s₀ v few ln g u q h i = rw q (lefts-take tri he work 
 
 -- ---- unpacked
 
-pub reaching-start : (he old : List ℕ) → Reaching he old old 0
-reaching-start he old = record { long = refl; done = λ s l. absurd (omega arith); rest = λ s l. refl }
+pub unpacks-start : (he old : List ℕ) → Unpacks he old old 0
+unpacks-start he old = record { long = refl; done = λ s l. absurd (omega arith); rest = λ s l. refl }
 
-module _ (he old new : List ℕ) (n : ℕ) (g : Reaching he old new n) where
+module _ (he old new : List ℕ) (n : ℕ) (g : Unpacks he old new n) where
   -- an entry of a site without half-edges stays
-  pub reaching-pass : 8191 ≤ getD new n 0 / 524288 → Reaching he old new (n + 1)
+  pub unpacks-pass : 8191 ≤ getD new n 0 / 524288 → Unpacks he old new (n + 1)
   unfolding unpacked
-  reaching-pass h =
+  unpacks-pass h =
       let q = g .rest n (omega arith) in
       record {
         long = g .long;
@@ -155,10 +155,10 @@ module _ (he old new : List ℕ) (n : ℕ) (g : Reaching he old new n) where
         rest = λ s l. g .rest s (omega arith);
       }
 
-  pub reaching-step : n < length new → (t d : ℕ) → getD new n 0 / 524288 < 8191 → t ≡ getD new n 0 % 524288 → d ≡ 8191 - getD new n 0 / 524288
-      → d ≤ length (wholeOf he t) → Reaching he old (set new n t) (n + 1)
+  pub unpacks-step : n < length new → (t d : ℕ) → getD new n 0 / 524288 < 8191 → t ≡ getD new n 0 % 524288 → d ≡ 8191 - getD new n 0 / 524288
+      → d ≤ length (wholeOf he t) → Unpacks he old (set new n t) (n + 1)
   unfolding unpacked
-  reaching-step i t d h p q r =
+  unpacks-step i t d h p q r =
       let w = g .rest n (omega arith) in
       record {
         long = length-set new n t ∙ g .long;
@@ -206,9 +206,9 @@ module _ (tri he : List ℕ) (few : length tri < 524288) (s m : ℕ) (o : Lefts 
       }))
       (lt-or-ge (m / 524288) 8191)
 
-pub rounds : (tri he : List ℕ) (w : ℕ) (old new : List ℕ) → length tri % 3 ≡ 0 → length tri < 524288 → ((k : ℕ) → k < length tri → getD tri k 0 < w)
-    → length old ≡ w → Leftmosts tri he (length tri) old → Reaching he old new (length old) → Rounds tri he w new
-rounds tri he w old new threes few named q g r = record {
+pub long-walks : (tri he : List ℕ) (w : ℕ) (old new : List ℕ) → length tri % 3 ≡ 0 → length tri < 524288 → ((k : ℕ) → k < length tri → getD tri k 0 < w)
+    → length old ≡ w → Leftmosts tri he (length tri) old → Unpacks he old new (length old) → LongWalks tri he w new
+long-walks tri he w old new threes few named q g r = record {
   table =
       ext-getD 0 new (tableTo tri he w (length tri)) (r .long ∙ q ∙ sym (table-length tri he w (length tri))) (λ s l.
       let l′ : s < length old = rw (r .long) at l in

@@ -18,7 +18,7 @@ use Rattle.mesh.specs.laws.WalkSteps.{walk-done}
 use Rattle.mesh.specs.laws.Walks.{walk-short}
 use Rattle.mesh.specs.laws.Table.{table-length, table-leftmost, table-longer, longer-at}
 use Rattle.mesh_check.specs.fan.Answer.{FanAnswer}
-use Rattle.mesh_check.specs.degrees.Packed.{Rounds}
+use Rattle.mesh_check.specs.degrees.Packed.{LongWalks}
 use Rattle.mesh_check.specs.fan.laws.Total.{Ends, total-says}
 use Rattle.mesh_check.specs.fan.Counts.{totalTo, lessOf, owedTo, endsTo, WalkLengths, CountedDown}
 use Rattle.mesh_check.specs.fan.laws.Owed.{owed-at, spent, spent-debt, spent-paid, enough, all-reached}
@@ -111,9 +111,9 @@ module _ (tri he : List ℕ) (sites w : ℕ) (same : length he ≡ length tri) (
   table-fan table q f s l e le p = rw (← at s l, ← q, ← p) (f e le)
 
 -- walks as long as half-edges end at their sites: no fan is broken
-pub fan-rounds : (tri he : List ℕ) (sites : ℕ) (old new : List ℕ) → length he ≡ length tri → Paired tri he → sites ≤ length old → ((k : ℕ) → k < length tri → getD tri k 0 < sites)
-    → Rounds tri he (length old) new → FanAnswer tri he sites old new sites
-fan-rounds tri he sites old new same ok fits named r = record {
+pub fan-long : (tri he : List ℕ) (sites : ℕ) (old new : List ℕ) → length he ≡ length tri → Paired tri he → sites ≤ length old
+    → ((k : ℕ) → k < length tri → getD tri k 0 < sites) → LongWalks tri he (length old) new → FanAnswer tri he sites old new sites
+fan-long tri he sites old new same ok fits named r = record {
   first = record {
     within = omega arith;
     before = λ s l e le q.
