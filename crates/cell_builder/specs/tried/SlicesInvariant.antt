@@ -1,4 +1,4 @@
--- The clipped build on its way: what the slices hold between two tries. The vertices stand at the beginning of the vertex slice, each cell in its site's region of the
+-- The invariant of a build on its way: what the slices hold between two tries. The vertices stand at the beginning of the vertex slice, each cell in its site's region of the
 -- index list, the extensions' numbers before the store's part; the definition's `CellsSoFar` says how much room that has taken.
 use mathlib.Core.Path.{_≡_}
 use mathlib.Core.List.{List, [], map}
