@@ -8,6 +8,7 @@ use crate::generate::{damage, delaunay};
 use crate::library::{Call, Difference, Library};
 use crate::mesh::{next, Mesh, EMPTY};
 use crate::reference;
+use crate::tally;
 
 const LIMIT: i32 = 8192;
 
@@ -332,17 +333,10 @@ impl Seen {
 
     /// Prints what came up and gives what did not.
     pub fn report(&self) -> Vec<String> {
-        println!("\nHow often the calls on the grid answered each number, and what came up\n");
-        let mut holes = Vec::new();
         let names = NUMBERS.iter().map(|n| format!("grid_check {n}"));
         let names = names.chain(FLOAT_NUMBERS.iter().map(|n| format!("grid_sites {n}"))).chain(SEEN.iter().map(|s| s.to_string()));
-        for (name, count) in names.zip(self.numbers.iter().chain(&self.floats).chain(&self.seen)) {
-            println!("{name:40}{count:>9}");
-            if *count == 0 {
-                holes.push(format!("the grid: {name}"));
-            }
-        }
-        holes
+        let counts = self.numbers.iter().chain(&self.floats).chain(&self.seen).copied();
+        tally::report("How often the calls on the grid answered each number, and what came up", "the grid", names.zip(counts))
     }
 }
 

@@ -3,6 +3,19 @@
 use crate::reference::{Counts, BRANCHES};
 use crate::why;
 
+/// Prints how often each thing came up, and gives those that never did, with whose they are.
+pub fn report(title: &str, whose: &str, rows: impl Iterator<Item = (String, u64)>) -> Vec<String> {
+    println!("\n{title}\n");
+    let mut holes = Vec::new();
+    for (name, count) in rows {
+        println!("{name:50}{count:>9}");
+        if count == 0 {
+            holes.push(format!("{whose}: {name}"));
+        }
+    }
+    holes
+}
+
 pub struct Call {
     pub name: &'static str,
     /// The numbers that this call can answer.
