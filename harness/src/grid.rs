@@ -1,5 +1,5 @@
 //! The grid profile (request 2026-12): a second program with exact whole numbers, from the request's text, and what the calls owe. The circle
-//! is taken at its word here: its centre as a fraction, and which of two places is nearer to it.
+//! is taken at its word here: its center as a fraction, and which of two places is nearer to it.
 
 use crate::expect::padded;
 use crate::generate::rng::Rng;
@@ -50,8 +50,8 @@ fn square(a: Place) -> i128 {
     a.0 * a.0 + a.1 * a.1
 }
 
-/// How the squared distances of d and of a from the centre of the circle through a, b, c compare: below 0 where d is nearer. Seen from a the
-/// centre is u over w, and both are multiplied by w.
+/// How the squared distances of d and of a from the center of the circle through a, b, c compare: below 0 where d is nearer. Seen from a the
+/// center is u over w, and both are multiplied by w.
 fn against_the_circle(a: Place, b: Place, c: Place, d: Place) -> i128 {
     let (b, c, d) = (less(b, a), less(c, a), less(d, a));
     let w = 2 * cross(b, c);
