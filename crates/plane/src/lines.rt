@@ -4,7 +4,7 @@ use crate::choose;
 use crate::points::Point;
 ghost use mathlib.Core.Path.{_≡_};
 ghost use Rattle.plane.specs.lines.Line.{oneIf, twoIf, uprightHit, lineOf};
-ghost use Rattle.plane.specs.lines.Met.{onSide, onLevel, uprightBy, eachOf, levelsOf};
+ghost use Rattle.plane.specs.lines.Met.{sideMet, levelMet, uprightBy, eachOf, levelsOf};
 
 pub enum Crossing {
     None,
@@ -24,13 +24,13 @@ pub fn one_if(t: bool, x: f64, y: f64) -> Crossing
 
 // Whether a line meets the right or the left side at height y, and whether it meets the top or the bottom at x.
 fn on_side(b: BoundingBox, cx: f64, y: f64) -> bool
-    ensures { λ r. ⌜ r ≡ onSide b cx y ⌝ }
+    ensures { λ r. ⌜ r ≡ sideMet b cx y ⌝ }
 {
     (root::magnitude(cx) > base::numbers::TOLERANCE) & ((y >= b.top) & (y <= b.bottom))
 }
 
 fn on_level(b: BoundingBox, cy: f64, x: f64) -> bool
-    ensures { λ r. ⌜ r ≡ onLevel b cy x ⌝ }
+    ensures { λ r. ⌜ r ≡ levelMet b cy x ⌝ }
 {
     (root::magnitude(cy) > base::numbers::TOLERANCE) & ((x <= b.right) & (x >= b.left))
 }

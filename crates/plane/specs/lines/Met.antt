@@ -10,11 +10,11 @@ use Rattle.plane.specs.declared.lines.Crossing.{Crossing}
 use Rattle.plane.specs.declared.lines.Crossing.the-variants.{Two}
 
 -- the right or the left side is met at height y, the top or the bottom at x
-abbrev pub onSide : BoundingBox → Float → Float → Bool
-onSide b cx y = lt tolerance (magnitude cx) && (le (b .top) y && le y (b .bottom))
+abbrev pub sideMet : BoundingBox → Float → Float → Bool
+sideMet b cx y = lt tolerance (magnitude cx) && (le (b .top) y && le y (b .bottom))
 
-abbrev pub onLevel : BoundingBox → Float → Float → Bool
-onLevel b cy x = lt tolerance (magnitude cy) && (le x (b .right) && le (b .left) x)
+abbrev pub levelMet : BoundingBox → Float → Float → Bool
+levelMet b cy x = lt tolerance (magnitude cy) && (le x (b .right) && le (b .left) x)
 
 -- parallel to y
 abbrev pub uprightBy : Float → Float → Bool
@@ -27,6 +27,6 @@ eachOf s x y l u v = joinOf (oneIf s x y) (oneIf l u v)
 -- not both sides: right at y if f, left at z if g; the top's line at t, the bottom's at m
 unfoldable pub levelsOf : BoundingBox → Bool → Bool → Float → Float → Float → Float → Float → Crossing
 levelsOf b f g y z cy t m =
-    pick (onLevel b cy t && onLevel b cy m)
+    pick (levelMet b cy t && levelMet b cy m)
     (λ _. Two t (b .top) m (b .bottom))
-    (λ _. joinOf (orOf (oneIf f (b .right) y) (oneIf g (b .left) z)) (orOf (oneIf (onLevel b cy t) t (b .top)) (oneIf (onLevel b cy m) m (b .bottom))))
+    (λ _. joinOf (orOf (oneIf f (b .right) y) (oneIf g (b .left) z)) (orOf (oneIf (levelMet b cy t) t (b .top)) (oneIf (levelMet b cy m) m (b .bottom))))

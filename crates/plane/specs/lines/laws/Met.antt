@@ -1,15 +1,15 @@
 -- The line test by test is the line.
 use mathlib.Core.Path.{_≡_, refl, _∙_}
 use mathlib.Core.Bool.{Bool, true, false, _&&_, _||_, cond}
-use lib.Ieee.{Float, lt, le}
+use lib.Ieee.{Float}
 use Rattle.base.specs.common.Pick.{pick}
 use Rattle.base.specs.common.Binary64.{_⊞_, _⊟_, _⊠_, _⊘_}
 use Rattle.plane.specs.declared.points.Point.{Point}
 use Rattle.plane.specs.declared.boxes.BoundingBox.{BoundingBox}
 use Rattle.plane.specs.lines.Line.{oneIf, some, orOf, joinOf, firstHeld, settleOf, sideHit, levelHit, uprightHit, lineOf}
-use Rattle.plane.specs.lines.Met.{onSide, onLevel, uprightBy, eachOf, levelsOf}
+use Rattle.plane.specs.lines.Met.{sideMet, levelMet, uprightBy, eachOf, levelsOf}
 use Rattle.plane.specs.declared.lines.Crossing.{Crossing}
-use Rattle.plane.specs.declared.lines.Crossing.the-variants.{None, One, Two}
+use Rattle.plane.specs.declared.lines.Crossing.the-variants.{One, Two}
 
 -- ---- one of two points, by their tests
 pub either-one : (f g : Bool) (x y u v : Float) → orOf (oneIf f x y) (oneIf g u v) ≡ oneIf (f || g) (cond f x u) (cond f y v)
@@ -32,11 +32,6 @@ module _ (x y u v : Float) where
   each-level s l e k = rw (e) k
 
 -- ---- the settling, of points by their tests
-some-one : (t : Bool) (x y : Float) → some (oneIf t x y) ≡ t
-unfolding oneIf
-some-one true x y = refl
-some-one false x y = refl
-
 module _ (x y u v : Float) where
   both : (h i : Bool) (o : Crossing) → pick (some (oneIf h x y) && some (oneIf i u v)) (λ _. joinOf (oneIf h x y) (oneIf i u v)) (λ _. o) ≡ pick (h && i) (λ _. Two x y u v) (λ _. o)
   unfolding oneIf
@@ -90,25 +85,28 @@ module _ (b : BoundingBox) (p q : Point) where
   abbrev m : Float
   m = (b .bottom ⊟ d) ⊘ c
 
-  module _ {f g : Bool} (e : f ≡ onSide b cx y) (k : g ≡ onSide b cx z) where
+  module _ {f g : Bool} (e : f ≡ sideMet b cx y) (k : g ≡ sideMet b cx z) where
     pub line-sides : (f && g) ≡ true → Two (b .right) y (b .left) z ≡ lineOf b p q
     unfolding lineOf sideHit levelHit
     line-sides a =
-        settled-sides (onSide b cx y) (onSide b cx z) (onLevel b cy t) (onLevel b cy m) (uprightBy cx cy) (uprightHit b (p .x)) (b .right) y (b .left) z t (b .top) m (b .bottom) (rw (← e, ← k) a)
+        settled-sides (sideMet b cx y) (sideMet b cx z) (levelMet b cy t) (levelMet b cy m) (uprightBy cx cy) (uprightHit b (p .x)) (b .right) y (b .left) z t (b .top) m (b .bottom) (rw (← e, ← k) a)
 
     pub line-upright : {u : Bool} {r : Crossing} → (f && g) ≡ false → u ≡ uprightBy cx cy → u ≡ true → r ≡ uprightHit b (p .x) → r ≡ lineOf b p q
     unfolding lineOf sideHit levelHit
     line-upright a s o h =
-        h ∙ settled-upright (onSide b cx y) (onSide b cx z) (onLevel b cy t) (onLevel b cy m) (uprightBy cx cy) (uprightHit b (p .x)) (b .right) y (b .left) z t (b .top) m (b .bottom) (rw (← e, ← k) a) (rw (← s) o)
+        h
+        ∙ settled-upright (sideMet b cx y) (sideMet b cx z) (levelMet b cy t) (levelMet b cy m) (uprightBy cx cy) (uprightHit b (p .x)) (b .right) y (b .left) z t (b .top) m (b .bottom)
+        (rw (← e, ← k) a) (rw (← s) o)
 
     pub line-levels : {u : Bool} {r : Crossing} → (f && g) ≡ false → u ≡ uprightBy cx cy → u ≡ false → r ≡ levelsOf b f g y z cy t m → r ≡ lineOf b p q
     unfolding lineOf sideHit levelHit levelsOf
     line-levels a s o h =
         rw (e, k) at h
-        ∙ settled-levels (onSide b cx y) (onSide b cx z) (onLevel b cy t) (onLevel b cy m) (uprightBy cx cy) (uprightHit b (p .x)) (b .right) y (b .left) z t (b .top) m (b .bottom) (rw (← e, ← k) a) (rw (← s) o)
+        ∙ settled-levels (sideMet b cx y) (sideMet b cx z) (levelMet b cy t) (levelMet b cy m) (uprightBy cx cy) (uprightHit b (p .x)) (b .right) y (b .left) z t (b .top) m (b .bottom)
+        (rw (← e, ← k) a) (rw (← s) o)
 
 -- ---- where not both sides are met
-module _ (b : BoundingBox) (f g : Bool) (y z cy t m : Float) {h i : Bool} (e : h ≡ onLevel b cy t) (k : i ≡ onLevel b cy m) where
+module _ (b : BoundingBox) (f g : Bool) (y z cy t m : Float) {h i : Bool} (e : h ≡ levelMet b cy t) (k : i ≡ levelMet b cy m) where
   pub levels-both : (h && i) ≡ true → Two t (b .top) m (b .bottom) ≡ levelsOf b f g y z cy t m
   unfolding levelsOf
   levels-both a = rw (← e, ← k, a) refl
