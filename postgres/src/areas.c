@@ -35,41 +35,6 @@ static Shown *shown_images(Survey *p)
     return shown;
 }
 
-enum { LISTS_TAKE = 350 }; /* bytes a gauge: two triangles, each with seven vertices and sixteen indexes */
-
-/* The rows stay in memory where they take no more than the lists that they are made of. */
-static void keep_rows(ReturnSetInfo *info, size_t n)
-{
-    MemoryContext before = MemoryContextSwitchTo(info->econtext->ecxt_per_query_memory);
-
-    tuplestore_end(info->setResult);
-    info->setResult = tuplestore_begin_heap((info->allowedModes & SFRM_Materialize_Random) != 0, false, Max(work_mem, (int)(n * LISTS_TAKE / 1024)));
-    MemoryContextSwitchTo(before);
-}
-
-enum { AHEAD = 8 }; /* rows: the pieces lie elsewhere for each, and are fetched while others are written */
-
-Datum put_rows(FunctionCallInfo fcinfo, Survey *p, const Keys *keys, const Shown *shown, Maker make, void *with)
-{
-    ReturnSetInfo *info = (ReturnSetInfo *)fcinfo->resultinfo;
-
-    give_back(p);
-    keep_rows(info, p->n);
-    for (size_t i = 0; i < p->n; i++) {
-        Datum values[4] = {keys ? keys->key[i] : Int32GetDatum((int32)i + 1), Float8GetDatum(shown[i].area), Float8GetDatum(shown[i].reach),
-                           make ? make(shown[i].piece, shown[i].length, with) : PointerGetDatum(shown[i].piece)};
-        bool nulls[4] = {keys && keys->none[i], false, false, false};
-
-        if (i + AHEAD < p->n)
-            for (size_t k = 0; k < shown[i + AHEAD].length; k += 64)
-                __builtin_prefetch((const char *)shown[i + AHEAD].piece + k);
-        tuplestore_putvalues(info->setResult, info->setDesc, values, nulls);
-        if (i % 1024 == 0)
-            CHECK_FOR_INTERRUPTS();
-    }
-    return (Datum)0;
-}
-
 Datum put_pieces(FunctionCallInfo fcinfo, Survey *p, const Keys *keys, Maker make, void *with)
 {
     Growing own = {0};

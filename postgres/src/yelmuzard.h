@@ -139,7 +139,11 @@ typedef struct {
 typedef Datum (*Maker)(const uint8 *image, size_t length, void *with);
 /* A row for each gauge: its key or else its number, area, reach, and its piece: what `make` makes of its image, or where that is NULL the image. After InitMaterializedSRF. */
 extern Datum put_pieces(FunctionCallInfo fcinfo, Survey *p, const Keys *keys, Maker make, void *with);
-/* The same of what is to be shown, in the order of the list; where `make` is NULL the pieces are values. The lists of the survey are given back. */
+/* ---- rows.c */
+
+enum { ROW_BYTES = 40 }; /* before a piece that is a value: room for its row */
+
+/* A row for each of what is to be shown, in the order of the list; where `make` is NULL the pieces are values, with ROW_BYTES before each. The lists of the survey are given back. */
 extern Datum put_rows(FunctionCallInfo fcinfo, Survey *p, const Keys *keys, const Shown *shown, Maker make, void *with);
 
 /* ---- audit.c */
