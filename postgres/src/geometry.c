@@ -246,22 +246,22 @@ static bool is_kept_so(Writer *w, const Survey *p)
 static Shown *shown_kept(Writer *w, const Survey *p)
 {
     static const uint8 empty[9] = {1, 3, 0, 0, 0, 0, 0, 0, 0};
-    size_t nothing = VARSIZE(received(w, empty, sizeof empty));
+    struct varlena *nothing = received(w, empty, sizeof empty);
+    size_t room = ROW_BYTES + Max(kept_bytes(0), MAXALIGN(VARSIZE(nothing)));
     Shown *shown = palloc(sizeof(Shown) * p->n);
-    char *none = palloc(ROW_BYTES + nothing), *to = palloc(p->n * (ROW_BYTES + kept_bytes(0)) + sizeof(Point) * p->offsets[p->n]);
+    char *to = palloc(p->n * room + sizeof(Point) * p->offsets[p->n]);
 
-    memcpy(none + ROW_BYTES, w->last, nothing);
     for (size_t i = 0; i < p->n; i++) {
-        Shown *one = shown + (p->was ? p->was[i] : i);
+        uint32 place = p->was ? p->was[i] : (uint32)i;
+        Shown *one = shown + place;
 
-        one->area = p->areas[i];
+        one->area = p->areas[i], one->piece = to += ROW_BYTES;
         if (p->areas[i] == 0)
-            one->piece = none + ROW_BYTES, one->length = nothing, one->reach = piece_reach(p, i);
-        else {
-            to += ROW_BYTES;
-            one->piece = to, one->length = kept_polygon(to, w->srid, p, i, &one->reach);
-            to += one->length;
-        }
+            memcpy(to, nothing, one->length = VARSIZE(nothing)), one->reach = piece_reach(p, i);
+        else
+            one->length = kept_polygon(to, w->srid, p, i, &one->reach);
+        form_row(place + 1, one);
+        to += MAXALIGN(one->length);
     }
     CHECK_FOR_INTERRUPTS();
     return shown;

@@ -30,21 +30,25 @@ static void set_values(Datum *values, bool *nulls, const Keys *keys, size_t i, c
     nulls[1] = nulls[2] = nulls[3] = false;
 }
 
-/* Row i, formed before its piece: the head, the number, eight bytes for it, and the two floats. */
-static MinimalTuple form_row(size_t i, const Shown *one)
+/* The row before a piece: the head, the number, eight bytes for it, and the two floats. */
+static MinimalTuple row_of(const Shown *one)
+{
+    return (MinimalTuple)((char *)one->piece - ROW_BYTES);
+}
+
+void form_row(uint32 number, const Shown *one)
 {
     enum { HEAD = MAXALIGN(SizeofHeapTupleHeader) - MINIMAL_TUPLE_OFFSET };
-    char *row = (char *)one->piece - ROW_BYTES;
-    MinimalTuple head = (MinimalTuple)row;
-    const int32 number[2] = {(int32)i + 1, 0};
+    MinimalTuple head = row_of(one);
+    char *row = (char *)head;
+    const uint32 numbers[2] = {number, 0};
 
-    StaticAssertStmt(HEAD + sizeof number + 2 * sizeof(double) == ROW_BYTES, "a piece stands behind its row");
+    StaticAssertStmt(HEAD + sizeof numbers + 2 * sizeof(double) == ROW_BYTES, "a piece stands behind its row");
     memset(row, 0, HEAD);
     head->t_len = (uint32)(ROW_BYTES + one->length), head->t_hoff = MAXALIGN(SizeofHeapTupleHeader);
     head->t_infomask = HEAP_HASVARWIDTH, head->t_infomask2 = 4; /* columns */
-    memcpy(row + HEAD, number, sizeof number);
-    memcpy(row + HEAD + sizeof number, &one->area, sizeof(double)), memcpy(row + HEAD + sizeof number + sizeof(double), &one->reach, sizeof(double));
-    return head;
+    memcpy(row + HEAD, numbers, sizeof numbers);
+    memcpy(row + HEAD + sizeof numbers, &one->area, sizeof(double)), memcpy(row + HEAD + sizeof numbers + sizeof(double), &one->reach, sizeof(double));
 }
 
 /* Whether PostgreSQL forms the same: of a row whose piece it leaves as it is, because it is long. */
@@ -59,7 +63,7 @@ static bool is_formed_so(TupleDesc columns, const Shown *shown, size_t n)
         i++;
     if (i == n)
         return false;
-    own = form_row(i, shown + i);
+    own = row_of(shown + i);
     set_values(values, nulls, NULL, i, shown + i, PointerGetDatum(shown[i].piece));
     its = heap_form_minimal_tuple(columns, values, nulls);
     same = own->t_len == its->t_len && memcmp(own, its, own->t_len) == 0;
@@ -81,10 +85,10 @@ Datum put_rows(FunctionCallInfo fcinfo, Survey *p, const Keys *keys, const Shown
         slot = MakeSingleTupleTableSlot(info->setDesc, &TTSOpsMinimalTuple);
     for (size_t i = 0; i < n; i++) {
         if (i + AHEAD < n)
-            for (size_t k = 0; k < shown[i + AHEAD].length; k += 64)
-                __builtin_prefetch((const char *)shown[i + AHEAD].piece + k);
+            for (size_t k = 0; k < ROW_BYTES + shown[i + AHEAD].length; k += 64)
+                __builtin_prefetch((const char *)shown[i + AHEAD].piece - ROW_BYTES + k);
         if (slot) {
-            ExecStoreMinimalTuple(form_row(i, shown + i), slot, false);
+            ExecStoreMinimalTuple(row_of(shown + i), slot, false);
             tuplestore_puttupleslot(info->setResult, slot);
         } else {
             Datum values[4];

@@ -143,7 +143,9 @@ extern Datum put_pieces(FunctionCallInfo fcinfo, Survey *p, const Keys *keys, Ma
 
 enum { ROW_BYTES = 40 }; /* before a piece that is a value: room for its row */
 
-/* A row for each of what is to be shown, in the order of the list; where `make` is NULL the pieces are values, with ROW_BYTES before each. The lists of the survey are given back. */
+/* Forms the row of a number before its piece. */
+extern void form_row(uint32 number, const Shown *one);
+/* A row for each of what is to be shown, in the order of the list; where `make` is NULL the pieces are values, and where there are no keys too each stands behind its row. The lists of the survey are given back. */
 extern Datum put_rows(FunctionCallInfo fcinfo, Survey *p, const Keys *keys, const Shown *shown, Maker make, void *with);
 
 /* ---- audit.c */
