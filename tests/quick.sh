@@ -24,7 +24,7 @@ passed_over() { echo "  $1: passed over, $2"; }
 scripts_run() {
     for script in tests/*.sh tests/*/*.sh; do
         grep -q "$script" tests/all tests/quick.sh || case $script in
-        tests/head.sh | tests/prove.sh | tests/native.sh | tests/shared.sh | tests/callers/wheel.sh) ;;
+        tests/head.sh | tests/programs/asked.sh | tests/prove.sh | tests/native.sh | tests/shared.sh | tests/callers/wheel.sh) ;;
         *) echo "$script is run by nothing" && return 1 ;;
         esac
     done

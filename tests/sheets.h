@@ -348,6 +348,27 @@ static inline void in_one_piece(uint32_t j)
     set_box(sites[2 * s] + (j % 2 ? size / 4 : 0), sites[2 * s + 1], size, size);
 }
 
+static inline void sound_sheet(uint32_t family, uint32_t j) /* one of the eight families above, in a box of 100 by 80 unless the family has its own */
+{
+    set_box(50, 40, 100, 80), anywhere();
+    if (family == 0)
+        uniform(j % 7);
+    if (family == 1)
+        clustered(j);
+    if (family == 2)
+        grid(j);
+    if (family == 3)
+        uniform(7);
+    if (family == 4)
+        lattice(j);
+    if (family == 5)
+        circle(j);
+    if (family == 6)
+        away(j);
+    if (family == 7)
+        in_one_piece(j);
+}
+
 /* ---- the truth: the box cut by the bisectors to all other sites */
 
 enum { MOST_CORNERS = N + 8 };

@@ -5,6 +5,7 @@ use crate::areas::Sum;
 use crate::library::{Call, Difference, Library};
 use crate::mesh::{pt, Area, Pt, EMPTY};
 use crate::reference::{self, Edges};
+use crate::tally;
 use crate::text::power;
 use std::collections::HashMap;
 
@@ -270,20 +271,11 @@ impl Seen {
 
     /// Prints what came up and gives what did not.
     pub fn report(&self) -> Vec<String> {
-        println!("\nHow often the audits answered each number and each kind, and what came up\n");
-        let mut holes = Vec::new();
-        let mut tell = |name: String, count: u64| {
-            println!("{name:46}{count:>9}");
-            if count == 0 {
-                holes.push(format!("the audit: {name}"));
-            }
-        };
-        for (call, name) in CALLS.iter().enumerate() {
-            NUMBERS.iter().zip(self.numbers[call]).for_each(|(n, count)| tell(format!("{name} {n}"), count));
-            self.kinds[call].iter().enumerate().for_each(|(kind, &count)| tell(format!("{name} kind {kind}"), count));
-        }
-        SEEN.iter().zip(self.seen).for_each(|(name, count)| tell(name.to_string(), count));
-        holes
+        let numbers = |call: usize| NUMBERS.iter().zip(self.numbers[call]).map(move |(n, count)| (format!("{} {n}", CALLS[call]), count));
+        let kinds = |call: usize| self.kinds[call].iter().enumerate().map(move |(kind, &count)| (format!("{} kind {kind}", CALLS[call]), count));
+        let rows = (0..CALLS.len()).flat_map(|call| numbers(call).chain(kinds(call)));
+        let rows = rows.chain(SEEN.iter().zip(self.seen).map(|(name, count)| (name.to_string(), count)));
+        tally::report("How often the audits answered each number and each kind, and what came up", "the audit", rows)
     }
 }
 

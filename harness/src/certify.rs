@@ -5,6 +5,7 @@ use crate::audit::{cuts, Case as Pieces, Given};
 use crate::library::{Call, Difference, Library};
 use crate::mesh::{Pt, EMPTY};
 use crate::reference::{self, Edges};
+use crate::tally;
 use crate::text::power;
 use std::collections::HashMap;
 
@@ -249,23 +250,14 @@ impl Seen {
 
     /// Prints what came up and gives what did not.
     pub fn report(&self) -> Vec<String> {
-        println!("\nHow often the certificates answered each number and each kind, and what came up\n");
-        let mut holes = Vec::new();
-        let mut tell = |name: String, count: u64| {
-            println!("{name:50}{count:>9}");
-            if count == 0 {
-                holes.push(format!("the certificate: {name}"));
-            }
-        };
-        for (call, name) in CALLS.iter().enumerate() {
-            NUMBERS.iter().zip(self.numbers[call]).for_each(|(n, count)| tell(format!("{name} {n}"), count));
-            self.kinds[call].iter().enumerate().for_each(|(kind, &count)| tell(format!("{name} kind {kind}"), count));
-        }
-        SEEN.iter().zip(self.seen).for_each(|(name, count)| tell(name.to_string(), count));
-        STEPS.iter().zip(self.steps).for_each(|(kind, count)| tell(format!("one step from {kind} and another kind"), count));
+        let numbers = |call: usize| NUMBERS.iter().zip(self.numbers[call]).map(move |(n, count)| (format!("{} {n}", CALLS[call]), count));
+        let kinds = |call: usize| self.kinds[call].iter().enumerate().map(move |(kind, &count)| (format!("{} kind {kind}", CALLS[call]), count));
+        let rows = (0..CALLS.len()).flat_map(|call| numbers(call).chain(kinds(call)));
+        let rows = rows.chain(SEEN.iter().zip(self.seen).map(|(name, count)| (name.to_string(), count)));
+        let rows = rows.chain(STEPS.iter().zip(self.steps).map(|(kind, count)| (format!("one step from {kind} and another kind"), count)));
         let (count, least) = (BITS[0]..=BITS[1]).map(|b| (self.bits.get(&b).copied().unwrap_or(0), b)).min().unwrap();
-        tell(format!("with {least} bits, the rarest of {} to {}", BITS[0], BITS[1]), count);
-        holes
+        let rows = rows.chain([(format!("with {least} bits, the rarest of {} to {}", BITS[0], BITS[1]), count)]);
+        tally::report("How often the certificates answered each number and each kind, and what came up", "the certificate", rows)
     }
 }
 

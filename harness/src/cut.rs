@@ -301,7 +301,7 @@ fn left_behind(number: u32, made: Option<&Pieces>, leftmost: &[u32], entry: &Sli
     exit
 }
 
-/// The cutting by centre and size, and by edges.
+/// The cutting by center and size, and by edges.
 pub fn ask(index: u64, c: &Case, facts: &Facts, calls: &mut Vec<Call>, tally: &mut Tally) -> Result<(), String> {
     let r = &mut Rng::new(0x637574, index);
     let m = &c.mesh;

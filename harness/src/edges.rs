@@ -1,5 +1,5 @@
 //! Boxes by their four edges: what the calls owe by the words of request 2026-07, read a second time. The Rust has no such box; where the edges
-//! are those of a centre and a size, the build is the one that was held to it.
+//! are those of a center and a size, the build is the one that was held to it.
 
 use crate::cases::Case;
 use crate::expect::{self, Beside, Facts, Slices};
@@ -16,7 +16,7 @@ fn bits(e: &Edges) -> [u64; 4] {
     [e.left, e.top, e.right, e.bottom].map(f64::to_bits)
 }
 
-/// Edges to ask with: those of a centre and a size, the same some steps away, at the limit 2^101, or with one that breaks the rule.
+/// Edges to ask with: those of a center and a size, the same some steps away, at the limit 2^101, or with one that breaks the rule.
 pub fn given(r: &mut Rng, area: &Area) -> Edges {
     let e = reference::edges(area);
     let mut list = [e.left, e.top, e.right, e.bottom];
@@ -43,7 +43,7 @@ pub fn given(r: &mut Rng, area: &Area) -> Edges {
     Edges { left, top, right, bottom }
 }
 
-/// The build and the reason in a box by its edges; `clipped` is the build by centre and size, held to the Rust.
+/// The build and the reason in a box by its edges; `clipped` is the build by center and size, held to the Rust.
 pub fn ask(
     index: u64, c: &Case, facts: &Facts, clipped: Option<&Outcome>, calls: &mut Vec<Call>, tally: &mut Tally,
 ) -> Result<(), String> {

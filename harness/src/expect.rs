@@ -111,7 +111,7 @@ pub fn cell_number(offsets: &[u32], entries: usize, sites: &[u32]) -> u32 {
     }
 }
 
-/// How many vertices after the circumcenters the library can hang in an index list so long.
+/// How many vertices after the circumcenters the library can chain in an index list so long.
 pub fn links(m: &Mesh, indexes: usize) -> usize {
     let (t, h) = (m.triangle_count(), m.hull.len());
     3 * ((indexes.saturating_sub(10 * t + 7 * h + 6)).min(1 << 20) / 4)

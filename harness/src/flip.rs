@@ -8,7 +8,7 @@ use crate::generate::{damage, meshes};
 use crate::library::{Call, Difference, Library};
 use crate::mesh::{next, Mesh, EMPTY};
 use crate::reference;
-use crate::tally::Tally;
+use crate::tally::{self, Tally};
 use std::collections::HashSet;
 
 /// The half-edge that comes before e.
@@ -85,16 +85,9 @@ impl Seen {
 
     /// Prints what came up and gives what did not.
     pub fn report(&self) -> Vec<String> {
-        println!("\nHow often flipping answered each number, and what came up\n");
-        let mut holes = Vec::new();
         let names = NUMBERS.iter().map(|n| format!("flip {n}")).chain(SEEN.iter().map(|s| s.to_string()));
-        for (name, count) in names.zip(self.numbers.iter().chain(&self.seen)) {
-            println!("{name:40}{count:>9}");
-            if *count == 0 {
-                holes.push(format!("flipping: {name}"));
-            }
-        }
-        holes
+        let counts = self.numbers.iter().chain(&self.seen).copied();
+        tally::report("How often flipping answered each number, and what came up", "flipping", names.zip(counts))
     }
 }
 

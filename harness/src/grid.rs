@@ -1,5 +1,5 @@
 //! The grid profile (request 2026-12): a second program with exact whole numbers, from the request's text, and what the calls owe. The circle
-//! is taken at its word here: its centre as a fraction, and which of two places is nearer to it.
+//! is taken at its word here: its center as a fraction, and which of two places is nearer to it.
 
 use crate::expect::padded;
 use crate::generate::rng::Rng;
@@ -8,6 +8,7 @@ use crate::generate::{damage, delaunay};
 use crate::library::{Call, Difference, Library};
 use crate::mesh::{next, Mesh, EMPTY};
 use crate::reference;
+use crate::tally;
 
 const LIMIT: i32 = 8192;
 
@@ -49,8 +50,8 @@ fn square(a: Place) -> i128 {
     a.0 * a.0 + a.1 * a.1
 }
 
-/// How the squared distances of d and of a from the centre of the circle through a, b, c compare: below 0 where d is nearer. Seen from a the
-/// centre is u over w, and both are multiplied by w.
+/// How the squared distances of d and of a from the center of the circle through a, b, c compare: below 0 where d is nearer. Seen from a the
+/// center is u over w, and both are multiplied by w.
 fn against_the_circle(a: Place, b: Place, c: Place, d: Place) -> i128 {
     let (b, c, d) = (less(b, a), less(c, a), less(d, a));
     let w = 2 * cross(b, c);
@@ -332,17 +333,10 @@ impl Seen {
 
     /// Prints what came up and gives what did not.
     pub fn report(&self) -> Vec<String> {
-        println!("\nHow often the calls on the grid answered each number, and what came up\n");
-        let mut holes = Vec::new();
         let names = NUMBERS.iter().map(|n| format!("grid_check {n}"));
         let names = names.chain(FLOAT_NUMBERS.iter().map(|n| format!("grid_sites {n}"))).chain(SEEN.iter().map(|s| s.to_string()));
-        for (name, count) in names.zip(self.numbers.iter().chain(&self.floats).chain(&self.seen)) {
-            println!("{name:40}{count:>9}");
-            if *count == 0 {
-                holes.push(format!("the grid: {name}"));
-            }
-        }
-        holes
+        let counts = self.numbers.iter().chain(&self.floats).chain(&self.seen).copied();
+        tally::report("How often the calls on the grid answered each number, and what came up", "the grid", names.zip(counts))
     }
 }
 

@@ -9,6 +9,7 @@ use crate::generate::{meshes, topology};
 use crate::library::{Call, Difference, Library};
 use crate::mesh::{Mesh, EMPTY};
 use crate::reference;
+use crate::tally;
 use std::collections::{BTreeMap, HashMap, HashSet};
 
 /// A place with its old and its new value, `EMPTY` where a side has none.
@@ -202,16 +203,9 @@ impl Seen {
 
     /// Prints what came up and gives what did not.
     pub fn report(&self) -> Vec<String> {
-        println!("\nHow often mending answered each number, and what came up\n");
-        let mut holes = Vec::new();
         let names = NUMBERS.iter().map(|n| format!("mend {n}")).chain(SEEN.iter().map(|s| s.to_string()));
-        for (name, count) in names.zip(self.numbers.iter().chain(&self.seen)) {
-            println!("{name:40}{count:>9}");
-            if *count == 0 {
-                holes.push(format!("mending: {name}"));
-            }
-        }
-        holes
+        let counts = self.numbers.iter().chain(&self.seen).copied();
+        tally::report("How often mending answered each number, and what came up", "mending", names.zip(counts))
     }
 }
 

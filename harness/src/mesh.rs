@@ -12,7 +12,7 @@ pub fn pt(x: f64, y: f64) -> Pt {
     Pt { x, y }
 }
 
-/// A box by its centre and size.
+/// A box by its center and size.
 #[derive(Clone, Copy, Debug, PartialEq)]
 pub struct Area {
     pub x: f64,

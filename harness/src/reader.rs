@@ -4,6 +4,7 @@
 use crate::generate::floats;
 use crate::generate::rng::Rng;
 use crate::library::{Call, Difference, Library};
+use crate::tally;
 
 /// Numbers of each list: box, sites, triangles, half-edges, hull.
 const ROOM: [usize; 5] = [4, 192, 576, 576, 96];
@@ -190,15 +191,7 @@ impl Seen {
 
     /// Prints what came up and gives what did not.
     pub fn report(&self) -> Vec<String> {
-        println!("\nHow often the readers answered each number, and what came up\n");
-        let mut holes = Vec::new();
-        for (name, count) in SEEN.iter().zip(self.0) {
-            println!("{name:40}{count:>9}");
-            if count == 0 {
-                holes.push(format!("forms: {name}"));
-            }
-        }
-        holes
+        tally::report("How often the readers answered each number, and what came up", "forms", SEEN.iter().map(|s| s.to_string()).zip(self.0))
     }
 }
 

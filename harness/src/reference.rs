@@ -45,7 +45,7 @@ pub fn edges_sound(e: &Edges) -> bool {
     fits(e.left) && fits(e.top) && fits(e.right) && fits(e.bottom) && e.left < e.right && e.top < e.bottom
 }
 
-/// The centre of such a box.
+/// The center of such a box.
 pub fn center(e: &Edges) -> Pt {
     pt(e.left + (e.right - e.left) / 2.0, e.top + (e.bottom - e.top) / 2.0)
 }
@@ -490,9 +490,9 @@ pub struct Build {
     pub met: Vec<(u32, u32)>,
 }
 
-/// The cell of the library's grid that x is hung in, and the one that it is searched for in (docs/work/ARCHITECTURE.md, the vertex store's part of the index list):
+/// The cell of the library's grid that x is inserted in, and the one that it is searched for in (docs/work/ARCHITECTURE.md, the vertex store's part of the index list):
 /// where they differ, a search in that cell alone would miss a vertex that is there.
-fn hung_in(x: f64) -> f64 {
+fn inserted_in(x: f64) -> f64 {
     x.abs() + 2f64.powi(-49) + 2f64.powi(21)
 }
 
@@ -674,7 +674,7 @@ impl Builder<'_> {
             Some(i) => {
                 self.reused[kind as usize] += 1;
                 let v = self.vertices[i];
-                self.again.push((i as u32, hung_in(v.x) != searched_in(p.x) || hung_in(v.y) != searched_in(p.y)));
+                self.again.push((i as u32, inserted_in(v.x) != searched_in(p.x) || inserted_in(v.y) != searched_in(p.y)));
                 i as u32
             }
             None => {

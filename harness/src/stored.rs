@@ -6,7 +6,7 @@
 //!     words that follow in this record
 //!     mode: 1
 //!     lengths of the four mesh lists: S floats of sites, T triangle words, E half-edge words, H hull words
-//!     box: centre x, y, width, height (4 floats)
+//!     box: center x, y, width, height (4 floats)
 //!     the sites (S floats), the triangles (T words), the half-edges (E words), the hull (H words)
 //!     number: 0 where the build is accepted, else its refusal (every room exact)
 //!     where 0:     V, the vertex count; the 4 owners as found; lost corners; 3 counts of reused points;

@@ -3,6 +3,19 @@
 use crate::reference::{Counts, BRANCHES};
 use crate::why;
 
+/// Prints how often each thing came up, and gives those that never did, with whose they are.
+pub fn report(title: &str, whose: &str, rows: impl Iterator<Item = (String, u64)>) -> Vec<String> {
+    println!("\n{title}\n");
+    let mut holes = Vec::new();
+    for (name, count) in rows {
+        println!("{name:50}{count:>9}");
+        if count == 0 {
+            holes.push(format!("{whose}: {name}"));
+        }
+    }
+    holes
+}
+
 pub struct Call {
     pub name: &'static str,
     /// The numbers that this call can answer.
@@ -55,7 +68,7 @@ pub struct Tally {
     /// Points of accepted builds that were reused: extensions, first crossings, second crossings.
     pub reused: [u64; 3],
     /// Of the vertex store of accepted builds: points reused across a border of the grid, builds with more vertices than links, points reused past the
-    /// links, points reused by their slots.
+    /// links, points reused by their buckets.
     pub store: [u64; 4],
     pub most_vertices: f64,
     pub most_entries: f64,
@@ -165,10 +178,10 @@ impl Tally {
             }
         }
         println!(
-            "\nThe vertex store: reused across a border of the grid {}, builds with more vertices than links {}, reused past the links {}, reused by their slots {}",
+            "\nThe vertex store: reused across a border of the grid {}, builds with more vertices than links {}, reused past the links {}, reused by their buckets {}",
             self.store[0], self.store[1], self.store[2], self.store[3]
         );
-        for (i, name) in ["reused across a border", "more vertices than links", "reused past the links", "reused by their slots"].iter().enumerate() {
+        for (i, name) in ["reused across a border", "more vertices than links", "reused past the links", "reused by their buckets"].iter().enumerate() {
             if self.store[i] == 0 {
                 holes.push(format!("vertex store: {name}"));
             }

@@ -13,7 +13,7 @@ static int wrong(const char *what)
     return 1;
 }
 
-/* What the structs leave of each call, to the byte: the pieces by edges are those by centre and size, where both have the same edges. */
+/* What the structs leave of each call, to the byte: the pieces by edges are those by center and size, where both have the same edges. */
 static int by_edges(const voronoi_mesh *mesh, const voronoi_pieces *pieces, size_t bytes)
 {
     const voronoi_edges edges = { -1, -1, 1, 1 };
@@ -176,12 +176,12 @@ static int meet(const voronoi_mesh *mesh, voronoi_pieces *first, voronoi_pieces 
         if (memcmp(&a[4], &b[0], sizeof *a) != 0 || memcmp(&a[6], &b[2], sizeof *a) != 0)
             return wrong("two neighbouring boxes by their edges do not meet");
         if (voronoi_build_pieces(frame, mesh, second) != VORONOI_ACCEPTED)
-            return wrong("a box on tenths is refused by its centre and size");
+            return wrong("a box on tenths is refused by its center and size");
         apart += memcmp(&a[4], &b[0], sizeof *a) != 0;
     }
     if (pairs >= 1000 && apart == 0)
-        return wrong("by centre and size all boxes meet too: this test shows nothing");
-    printf("pieces: %lu pairs of boxes on tenths meet by their edges; by centre and size %lu do not\n", pairs, apart);
+        return wrong("by center and size all boxes meet too: this test shows nothing");
+    printf("pieces: %lu pairs of boxes on tenths meet by their edges; by center and size %lu do not\n", pairs, apart);
     return 0;
 }
 
@@ -246,6 +246,6 @@ int main(void)
     if (voronoi_build_pieces(box, &mesh, &pieces) != VORONOI_REFUSED_HULL)
         return wrong("a hull that is too short is not refused");
     free(block);
-    printf("pieces: as many bytes as are needed, by centre and size and by edges; cut; certified; corners, areas, neighbours, polygons; refusals\n");
+    printf("pieces: as many bytes as are needed, by center and size and by edges; cut; certified; corners, areas, neighbours, polygons; refusals\n");
     return 0;
 }

@@ -81,7 +81,7 @@ static void sound_rows(void)
     is("square", &i, 0, E, E, E, 0);
     i.starts_len = 5, i.others_len = 8;
     is("square against neighbours", &i, 0, E, E, E, 0);
-    told("by centre and size", voronoi_audit(0, 0, 2, 2, i.sites, 8, i.vertices, 18, i.offsets, 5, i.indexes, 16, i.starts, 5, i.others, 8, 52, &kind, &site,
+    told("by center and size", voronoi_audit(0, 0, 2, 2, i.sites, 8, i.vertices, 18, i.offsets, 5, i.indexes, 16, i.starts, 5, i.others, 8, 52, &kind, &site,
         &vertex, &other, &missing), 0, 0, E, E, E, 0);
     i = square;
     i.bits = 0;

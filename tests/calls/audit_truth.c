@@ -221,7 +221,7 @@ static void one(uint64_t build)
         classes[family][REFUSED]++;
         return;
     }
-    edges[0] = vertices[2 * t], edges[1] = vertices[2 * t + 1], edges[2] = vertices[2 * t + 4], edges[3] = vertices[2 * t + 5]; /* the box's corners follow the centres */
+    edges[0] = vertices[2 * t], edges[1] = vertices[2 * t + 1], edges[2] = vertices[2 * t + 4], edges[3] = vertices[2 * t + 5]; /* the box's corners follow the centers */
     double by = off();
     class = by > 1e-6 ? WRONG : by > 1e-9 ? SLIGHT : SOUND;
     classes[family][class]++;

@@ -105,7 +105,7 @@ static void sound_rows(void)
     i.bits = 0;
     is("square, 0 bits", &i, 0, E, E, E);
     hold();
-    told("by centre and size", voronoi_certify(0, 0, 2, 2, i.sites, 8, i.vertices, 18, i.offsets, 5, i.indexes, 16, 52, work, i.work_len, &kind, &site,
+    told("by center and size", voronoi_certify(0, 0, 2, 2, i.sites, 8, i.vertices, 18, i.offsets, 5, i.indexes, 16, 52, work, i.work_len, &kind, &site,
         &vertex, &other), i.work_len, 0, 0, E, E, E);
     i = square, i.work_len += 8;
     is("more work than the room", &i, 0, E, E, E);

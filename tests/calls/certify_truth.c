@@ -53,23 +53,7 @@ static void stations(uint32_t j) /* two to four gauges within 10^-5 to 10^-3 of 
 static void set(uint32_t family, uint32_t j)
 {
     n = 8 + below(51);
-    set_box(50, 40, 100, 80), anywhere();
-    if (family == 0)
-        uniform(j % 7);
-    if (family == 1)
-        clustered(j);
-    if (family == 2)
-        grid(j);
-    if (family == 3)
-        uniform(7);
-    if (family == 4)
-        lattice(j);
-    if (family == 5)
-        circle(j);
-    if (family == 6)
-        away(j);
-    if (family == 7)
-        in_one_piece(j);
+    sound_sheet(family, j);
     if (family == 8)
         stations(j);
     if (family == 10)

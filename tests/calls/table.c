@@ -80,7 +80,7 @@ static void put_hex(const uint8_t *bytes, size_t count)
 /* ---- the mesh */
 
 typedef struct {
-    uint8_t opening; /* 1 the box by centre and size, 7 by its edges */
+    uint8_t opening; /* 1 the box by center and size, 7 by its edges */
     double box[4], *sites;
     uint32_t *triangles, *halfedges, *hull;
     size_t n, t, h; /* sites, triangles, hull sites */

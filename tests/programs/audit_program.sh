@@ -2,20 +2,8 @@
 # The program `audit`: a mesh for each of its lines, turned, exchanged and flipped meshes, a lost corner, gauges at one place, boxes by edges, broken
 # forms; the same verdict as tests/calls/table.c on the stored meshes; and the word of ./yelmuzard with its status.
 . "$(dirname "$0")/../head.sh"
-sh tests/prove.sh check audit
-folder=$(mktemp -d)
-trap 'rm -rf "$folder"' EXIT
-
-answered() { # LINES FORM
-    sh tests/archive.sh run target/bin/audit <"$2" >"$folder/out"
-    echo "$1" | cmp - "$folder/out" || { printf 'audit:\n%s\nmust be\n%s\n' "$(cat "$folder/out")" "$1" && exit 1; }
-    echo "$1" >>"$folder/answers"
-}
-
-must() { # LINES, and the mesh as text on standard input
-    tools/mesh encode >"$folder/form" 2>/dev/null
-    answered "$1" "$folder/form"
-}
+program=audit
+. tests/programs/asked.sh
 
 # a mesh wound the other way: each triangle A B C becomes A C B with its half-edges, and the hull runs from behind
 turned() {

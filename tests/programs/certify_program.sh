@@ -3,20 +3,8 @@
 # tests/calls/certify.c on the stored meshes, by the C interface; and the word of ./yelmuzard with its status. Of pieces by cutting `outside`, `side` and `border`
 # cannot come (`cut-kinds`), so these lines are held by the rows of the crate alone.
 . "$(dirname "$0")/../head.sh"
-sh tests/prove.sh check certify
-folder=$(mktemp -d)
-trap 'rm -rf "$folder"' EXIT
-
-answered() { # LINE FORM
-    sh tests/archive.sh run target/bin/certify <"$2" >"$folder/out"
-    echo "$1" | cmp - "$folder/out" || { printf 'certify:\n%s\nmust be\n%s\n' "$(cat "$folder/out")" "$1" && exit 1; }
-    echo "$1" >>"$folder/answers"
-}
-
-must() { # LINE, and the mesh as text on standard input
-    tools/mesh encode >"$folder/form" 2>/dev/null
-    answered "$1" "$folder/form"
-}
+program=certify
+. tests/programs/asked.sh
 
 # the first two sites exchanged
 swapped() { awk '$1 == "site" && !n++ { first = $0; next } { print } $1 == "site" && n == 2 { print first; n++ }' "$1"; }
@@ -38,12 +26,12 @@ answered "refused 17" /dev/null
 cat examples/square.form examples/square.form >"$folder/twice"
 answered "refused 17" "$folder/twice"
 
-program=target/tests/certify
-sh tests/archive.sh keep "$program" tests/calls/certify.c
+call=target/tests/certify
+sh tests/archive.sh keep "$call" tests/calls/certify.c
 
 # what tests/calls/certify.c says of a mesh text, in the words of `certify`
 said() {
-    sh tests/archive.sh run "$program" mesh <"$1" | sed -n '
+    sh tests/archive.sh run "$call" mesh <"$1" | sed -n '
         s/^cut: \([0-9]*\)$/refused \1/p
         s/^certificate, cut: 0, kind 0, .*/certified/p
         s/^certificate, cut: 0, kind 4, site \([0-9]*\), vertex \([0-9]*\), other \([0-9]*\);.*/nearer \1 \2 \3/p

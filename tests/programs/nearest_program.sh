@@ -3,21 +3,9 @@
 # random ones beside fractions and the owners that `cells` names (tests/programs/nearest/boxes.py); the accident before and after its half-edge is flipped; and the word of
 # ./yelmuzard with its status.
 . "$(dirname "$0")/../head.sh"
-sh tests/prove.sh check nearest
 sh tests/prove.sh check cells
-folder=$(mktemp -d)
-trap 'rm -rf "$folder"' EXIT
-
-answered() { # LINE FORM
-    sh tests/archive.sh run target/bin/nearest <"$2" >"$folder/out"
-    echo "$1" | cmp - "$folder/out" || { echo "nearest: '$(cat "$folder/out")', must be '$1'" && exit 1; }
-    echo "$1" >>"$folder/answers"
-}
-
-must() { # LINE, and the mesh as text on standard input
-    tools/mesh encode >"$folder/form" 2>/dev/null
-    answered "$1" "$folder/form"
-}
+program=nearest
+. tests/programs/asked.sh
 
 square='triangle 0 1 2  E E 3
 triangle 0 2 3  2 E E

@@ -120,7 +120,7 @@ for way in "" form; do
     ./yelmuzard mend examples/square.form ${way:+"$way"} >/dev/full 2>"$folder/err" || status=$?
     [ "$status" = 2 ] || { echo "mend $way to a full disk: status $status" && exit 1; }
 done
-# a form of old, without a box: refused, and with a box given mended, by centre and size or by edges; a box that rule 3 refuses; words that are no numbers
+# a form of old, without a box: refused, and with a box given mended, by center and size or by edges; a box that rule 3 refuses; words that are no numbers
 { printf '\006' && tail -c +34 examples/square.form; } >"$folder/old"
 status=0
 ./yelmuzard mend "$folder/old" >"$folder/out" 2>"$folder/err" || status=$?

@@ -121,7 +121,7 @@ class Pieces(unittest.TestCase):
         self.assertEqual(found.nearest(numpy.zeros((0, 2))).tolist(), [])
 
     def test_neighbouring_boxes_meet(self):
-        """Sheets that share an edge on a tenth of a metre: 100,000 pairs, each cut over one mesh. By centre and size many would not meet."""
+        """Sheets that share an edge on a tenth of a metre: 100,000 pairs, each cut over one mesh. By center and size many would not meet."""
         at, mesh, apart = random.Random(7), yelmuzard.Mesh.of(SQUARE, *LISTS), 0
         pieces = lambda left, right: yelmuzard.pieces(mesh.sites, (left, -1.0, right, 1.0), mesh, WAYS[-1])
         for turn in range(100000):

@@ -2,7 +2,7 @@
 
 use crate::{calls, Point, Refusal};
 
-/// The box, by its centre and size or by its edges; y points down, so its top is its least y. By centre and size its edges are voronoice's, bit for bit;
+/// The box, by its center and size or by its edges; y points down, so its top is its least y. By center and size its edges are voronoice's, bit for bit;
 /// by its edges it has these numbers bit for bit, so that two boxes that share an edge meet there.
 /// Whatever is asked of a box that breaks its rule is refused (3), and so is what is asked about a point that does (6).
 #[derive(Clone, Debug, PartialEq)]
@@ -15,18 +15,18 @@ pub struct BoundingBox {
 /// How a box was given, in the order in which the library takes the four numbers.
 #[derive(Clone, Copy, Debug, PartialEq)]
 pub(crate) enum Given {
-    /// centre x and y, width, height
+    /// center x and y, width, height
     Sized([f64; 4]),
     /// left, top, right, bottom
     Edges([f64; 4]),
 }
 
 impl BoundingBox {
-    /// A box by its centre and size.
+    /// A box by its center and size.
     pub fn new(center: Point, width: f64, height: f64) -> Self {
         Self { center, given: Given::Sized([center.x, center.y, width, height]) }
     }
-    /// A box by its edges, left below right and top below bottom (y points down). Map sheets that share an edge are given so: by centre and size an
+    /// A box by its edges, left below right and top below bottom (y points down). Map sheets that share an edge are given so: by center and size an
     /// edge can move by a last bit, and two sheets then overlap or leave a gap.
     ///
     /// ```
@@ -52,7 +52,7 @@ impl BoundingBox {
     pub fn new_centered_square(width: f64) -> Self {
         Self::new_centered(width, width)
     }
-    /// Its centre.
+    /// Its center.
     pub fn center(&self) -> &Point {
         &self.center
     }

@@ -39,7 +39,7 @@ pub(crate) struct Audited {
     pub missing: f64,
 }
 
-// the calls that take a box: by its centre and size and by its edges they have the same arguments
+// the calls that take a box: by its center and size and by its edges they have the same arguments
 type Corners = unsafe extern "C" fn(f64, f64, f64, f64, *mut f64, usize) -> u32;
 type Inside = unsafe extern "C" fn(f64, f64, f64, f64, f64, f64, *mut u32) -> u32;
 type Build = unsafe extern "C" fn(

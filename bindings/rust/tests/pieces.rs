@@ -262,7 +262,7 @@ fn neighbouring_sheets_meet() {
         // the box's corners stand after the two triangles
         assert_eq!((west.vertices()[4].x, west.vertices()[5].x), (east.vertices()[2].x, east.vertices()[3].x));
     }
-    assert!(apart > 0, "by centre and size all sheets meet too: this test shows nothing");
+    assert!(apart > 0, "by center and size all sheets meet too: this test shows nothing");
 }
 
 /// One by one and all at once the polygons are the same bytes.

@@ -15,7 +15,7 @@ ghost use mathlib.Core.Path.{_≡_};
 ghost use Prim.Native.Nat.{_≤_};
 ghost use lib.ListN.{length, take};
 ghost use Rattle.mesh.specs.Accepted.{mesh};
-ghost use Rattle.printing.specs.Printed.{InBox, Prints, ShownIn, shown};
+ghost use Rattle.printing.specs.Printed.{OfMesh, Prints, ShownIn, shown};
 ghost use Rattle.audit.specs.Printed.{told, auditText};
 ghost use Rattle.plane.specs.given.Finite.{Fits};
 ghost use Rattle.form.specs.mesh.Read.{MeshSized};
@@ -92,7 +92,7 @@ fn show(
     )
 }
 
-fn in_box(
+fn of_mesh(
     out: &mut [u8],
     given: Given,
     sites: &[f64],
@@ -101,7 +101,7 @@ fn in_box(
     hull: &[u32],
 ) -> usize
     requires { ⌜ MeshSized (length (now sites)) (length (now triangles)) (length (now hull)) × Fits given × (65536 ≤ length (now out)) ⌝ }
-    ensures { λ r. ⌜ InBox auditText (mesh (now (sites .entry)) (now (triangles .entry)) (now (halfedges .entry)) (now (hull .entry))) given
+    ensures { λ r. ⌜ OfMesh auditText (mesh (now (sites .entry)) (now (triangles .entry)) (now (halfedges .entry)) (now (hull .entry))) given
         (take r (now (out .exit))) × (r ≤ length (now (out .entry))) ⌝ }
 {
     let mut work = [0u32; form::SITES];
@@ -158,7 +158,7 @@ fn answer(bytes: &[u8], out: &mut [u8]) -> usize
     let n = read.coordinates;
     let k = read.links;
     let h = read.hull;
-    in_box(
+    of_mesh(
         out,
         given,
         &sites[..n],

@@ -1,3 +1,3 @@
 pub mod Places
-pub mod Slots
+pub mod Buckets
 pub mod laws

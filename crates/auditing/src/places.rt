@@ -8,7 +8,7 @@ ghost use Prim.Native.Nat.{_/_, _≤_, _<_};
 ghost use lib.ListN.{length};
 ghost use Rattle.ring_area.specs.lowest.Lowest.{lowest};
 ghost use Rattle.auditing.specs.places.Places.{sameOf, twinAt, hasTwin};
-ghost use Rattle.auditing.specs.places.Slots.{bucketOf, twinIn, CanInsert, Inserted, InBucket, Visited, BlockIn};
+ghost use Rattle.auditing.specs.places.Buckets.{bucketOf, twinIn, CanInsert, Inserted, InBucket, Visited, BlockIn};
 
 // How many sites the table has at a time, and how many buckets.
 const BLOCK: usize = 512;

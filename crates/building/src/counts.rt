@@ -49,7 +49,7 @@ fn finish(
 }
 
 // The same of a build with this answer.
-pub fn finish_clipped(a: CellsAnswer, work: &mut [u32], counts: &mut [u32])
+pub fn finish_build(a: CellsAnswer, work: &mut [u32], counts: &mut [u32])
     requires { ⌜ (a .count < 4294967296) × ReusedFit (a .reused) × (9 ≤ length (now counts)) ⌝ }
     ensures { λ _. ⌜ EndedBuild (a .fault .number) (countsOf (a .count) (a .owners) (a .lost) (a .reused)) (now (work .entry)) (now (counts .entry)) (now (work .exit)) (now (counts .exit)) ⌝ }
 {

@@ -1,14 +1,14 @@
 // The build on a whole lent mesh, with its refusals and every lent slice at exit.
 pub mod counts;
 
-use crate::counts::finish_clipped;
+use crate::counts::finish_build;
 use admission::admit_build;
 use cell_builder::build_cells;
 use plane::given::Given;
 ghost use Rattle.mesh.specs.Accepted.{mesh};
 ghost use Rattle.admission.specs.Slices.{slices};
 ghost use Rattle.plane.specs.given.Finite.{Fits};
-ghost use Rattle.building.specs.answers.Promise.{ClippedBuild};
+ghost use Rattle.building.specs.answers.Promise.{Build};
 
 // The build in the given box.
 pub fn build(
@@ -24,7 +24,7 @@ pub fn build(
     counts: &mut [u32],
 ) -> u32
     requires { ⌜ Fits given ⌝ }
-    ensures { λ r. ⌜ ClippedBuild (mesh (now (sites .entry)) (now (triangles .entry)) (now (halfedges .entry)) (now (hull .entry))) given
+    ensures { λ r. ⌜ Build (mesh (now (sites .entry)) (now (triangles .entry)) (now (halfedges .entry)) (now (hull .entry))) given
         (slices (now (work .entry)) (now (vertices .entry)) (now (indexes .entry)) (now (offsets .entry)) (now (counts .entry)))
         (slices (now (work .exit)) (now (vertices .exit)) (now (indexes .exit)) (now (offsets .exit)) (now (counts .exit))) r ⌝ }
 {
@@ -57,6 +57,6 @@ pub fn build(
         offsets,
     );
     let fault = a.fault;
-    finish_clipped(a, work, counts);
+    finish_build(a, work, counts);
     fault.number
 }

@@ -1,4 +1,4 @@
--- What the clipped build needs.
+-- What the build needs.
 use mathlib.Core.Path.{_≡_}
 use mathlib.Core.List.{List}
 use Prim.Native.Nat.{ℕ, _/_}

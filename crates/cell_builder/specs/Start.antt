@@ -20,7 +20,7 @@ use Rattle.cell_builder.specs.declared.finish.CellsAnswer.{CellsAnswer}
 use Rattle.cell_builder.specs.finish.Finish.{outcomeAnswer, SettledCells}
 use Rattle.cell_memory.specs.outputs.Outputs.{BuiltInto}
 use Rattle.cell_builder.specs.declared.finish.Progress.{Progress}
-use Rattle.cell_builder.specs.tried.CellsInSlices.{Plan, plan, ground, frameOf}
+use Rattle.cell_builder.specs.tried.SlicesInvariant.{Plan, plan, ground, frameOf}
 use Rattle.cell_builder.specs.turned.Loops.{DoesLate}
 use Rattle.cell_builder.specs.AdmittedBuild.{AdmittedBuild}
 

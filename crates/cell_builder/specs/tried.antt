@@ -1,4 +1,4 @@
 -- The root of the crate's definitions.
-pub mod CellsInSlices
+pub mod SlicesInvariant
 pub mod Tries
 pub mod laws

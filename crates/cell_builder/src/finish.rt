@@ -1,4 +1,4 @@
-// The end of a clipped build: the cells put in their places and the lost corners counted, or all slices cleared.
+// The end of a build: the cells put in their places and the lost corners counted, or all slices cleared.
 use crate::placed::gather;
 use base::numbers::EMPTY;
 use cell_memory::layout::clear_floats_from;

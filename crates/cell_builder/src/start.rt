@@ -10,7 +10,7 @@ use vertices::calculate_corners;
 ghost use mathlib.Core.Path.{_≡_};
 ghost use Prim.Native.Nat.{_≤_};
 ghost use lib.ListN.{length};
-ghost use Rattle.cell_builder.specs.tried.CellsInSlices.{frameOf};
+ghost use Rattle.cell_builder.specs.tried.SlicesInvariant.{frameOf};
 ghost use Rattle.cell_builder.specs.Start.{extendedOf, Extendable, BegunBy};
 
 // For so many entries of the triangle list and so many hull sites.

@@ -1,4 +1,4 @@
-// One cell of a clipped build: the try's ring staged in the index list and clipped into its site's region.
+// One cell of a build: the try's ring staged in the index list and clipped into its site's region.
 use plane::boxes::BoundingBox;
 
 pub mod tries; // tries.rt: one try

@@ -1,4 +1,4 @@
-// All cells of a clipped build: the tries at the hull's places in their order, then those at the half-edges, turn by turn.
+// All cells of a build: the tries at the hull's places in their order, then those at the half-edges, turn by turn.
 pub mod marks; // marks.rt: the cells that are made last
 pub mod turns; // turns.rt: one half-edge of the rest
 pub mod loops; // loops.rt: all of them

@@ -22,7 +22,7 @@ use Rattle.definition.specs.Build.{Built}
 use Rattle.arguments.specs.asking.laws.Asks.{box-answers}
 use Rattle.admission.specs.Slices.{Slices, roomOf}
 use Rattle.building.specs.answers.Success.{Value, succeeds-zero}
-use Rattle.building.specs.answers.Promise.{ClippedBuild}
+use Rattle.building.specs.answers.Promise.{Build}
 use Rattle.octets.specs.Bytes.{each}
 use Rattle.form.specs.Form.{MeshFits, float, siteFloats}
 use Rattle.form.specs.Square.{square, squareBytes, two-is}
@@ -77,6 +77,6 @@ value : (o : Outcome Fault Built) (t : List ℕ) → texted 4 2 o ≡ ok t → V
 value (ok b) t e = record { value = b; is = refl }
 value (refused f) t e = let q : _≡_ {A = ℕ} 0 1 = cc in absurd (omega arith)
 
-pub square-answers : {old new : Slices} {r : ℕ} → ClippedBuild (meshOf square) (bySize (at (float 0) (float 0)) (float two-is) (float two-is)) old new r
+pub square-answers : {old new : Slices} {r : ℕ} → Build (meshOf square) (bySize (at (float 0) (float 0)) (float two-is) (float two-is)) old new r
     → roomOf (meshOf square) old ≡ true → r ≡ 0
 square-answers a room = succeeds-zero (box-answers _) (record { admission = record { accepted = accepted; roomed = room; fit = (box-fits, tt) }; outcome = value _ text (rows .2) }) a

@@ -6,7 +6,7 @@ ghost use Rattle.printing.specs.Printed.{ShownIn, shown};
 ghost use Rattle.cells.specs.answer_text.Shown.{Laid, boxLines};
 
 // The text of a build in a box that was answered by this number, put at the beginning of `out`; how many bytes it has.
-pub fn show_in_box(
+pub fn show(
     out: &mut [u8],
     number: u32,
     sites: u32,

@@ -14,10 +14,10 @@ ghost use lib.ListN.{length, take};
 ghost use Rattle.plane.specs.given.Finite.{Fits};
 ghost use Rattle.mesh.specs.Accepted.{mesh};
 ghost use Rattle.form.specs.mesh.Read.{MeshSized};
-ghost use Rattle.printing.specs.Printed.{InBox, Prints};
+ghost use Rattle.printing.specs.Printed.{OfMesh, Prints};
 ghost use Rattle.cells.specs.Printed.{listingText};
 
-fn in_box(
+fn of_mesh(
     out: &mut [u8],
     given: Given,
     sites: &[f64],
@@ -26,7 +26,7 @@ fn in_box(
     hull: &[u32],
 ) -> usize
     requires { ⌜ MeshSized (length (now sites)) (length (now triangles)) (length (now hull)) × Fits given × (65536 ≤ length (now out)) ⌝ }
-    ensures { λ r. ⌜ InBox listingText (mesh (now (sites .entry)) (now (triangles .entry)) (now (halfedges .entry)) (now (hull .entry))) given
+    ensures { λ r. ⌜ OfMesh listingText (mesh (now (sites .entry)) (now (triangles .entry)) (now (halfedges .entry)) (now (hull .entry))) given
         (take r (now (out .exit))) × (r ≤ length (now (out .entry))) ⌝ }
 {
     let mut work = [0u32; form::SITES];
@@ -48,7 +48,7 @@ fn in_box(
     );
     let n = narrow(sites.len() / 2);
     let t = narrow(triangles.len() / 3);
-    crate::answer_text::show_in_box(out, number, n, t, &offsets, &indexes, &counts)
+    crate::answer_text::show(out, number, n, t, &offsets, &indexes, &counts)
 }
 
 // What is printed for a form's bytes.
@@ -75,7 +75,7 @@ fn answer(bytes: &[u8], out: &mut [u8]) -> usize
     let n = read.coordinates;
     let k = read.links;
     let h = read.hull;
-    in_box(
+    of_mesh(
         out,
         given,
         &sites[..n],

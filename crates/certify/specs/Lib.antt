@@ -1,4 +1,5 @@
 -- The root of the crate's definitions.
+pub mod Rooms
 pub mod Printed
 pub mod One
 pub mod Enough

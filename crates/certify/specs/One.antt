@@ -10,12 +10,13 @@ use Rattle.cutting_calls.specs.cut_admission.CutSlices.{CutSlices}
 use Rattle.cutting_calls.specs.call.laws.Answer.{cut-one}
 use Rattle.certifying.specs.call.One.{one-certify}
 use Rattle.printing.specs.One.{of-form-one}
+use Rattle.certify.specs.Rooms.{certifyWork}
 use Rattle.certify.specs.text.CertifyLine.{certifyText}
 use Rattle.certify.specs.Printed.{PiecesTold, CertifyTold, CertifyPrints}
 
 pieces-one : (g : Given) (cut : ℕ) (sites v : List Float) (off ix a b : List ℕ) → PiecesTold g cut sites v off ix a → PiecesTold g cut sites v off ix b → a ≡ b
 pieces-one g cut sites v off ix a b x y =
-    let q = one-certify g sites v off ix 32 (replicate 12640 0) (x .answer) (y .answer) in
+    let q = one-certify g sites v off ix 32 (replicate certifyWork 0) (x .answer) (y .answer) in
     x .line ∙ same (q .0) (q .1) (q .2) (q .3) (q .4) ∙ sym (y .line)
   where
     same : {n n′ k k′ s s′ e e′ o o′ : ℕ} → n ≡ n′ → k ≡ k′ → s ≡ s′ → e ≡ e′ → o ≡ o′ → certifyText cut n k s e o ≡ certifyText cut n′ k′ s′ e′ o′

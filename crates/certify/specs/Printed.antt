@@ -15,6 +15,7 @@ use Rattle.form.specs.Limits.{mostSites}
 use Rattle.printing.specs.Rooms.{offsetRoom}
 use Rattle.printing.specs.OfForm.{OfForm}
 use Rattle.printing.specs.parts.Labelled.{refusal}
+use Rattle.certify.specs.Rooms.{cutVertexRoom, cutIndexRoom, certifyWork}
 use Rattle.certify.specs.text.CertifyLine.{certifyText}
 
 -- the certificate of pieces that were cut with this number
@@ -25,12 +26,12 @@ pub record PiecesTold (g : Given) (cut : ℕ) (sites v : List Float) (off ix tex
   pub site : ℕ
   pub vertex : ℕ
   pub other : ℕ
-  pub answer : CertifyAnswer g sites v off ix 32 (replicate 12640 0) work number kind site vertex other
+  pub answer : CertifyAnswer g sites v off ix 32 (replicate certifyWork 0) work number kind site vertex other
   pub line : text ≡ certifyText cut number kind site vertex other
 
--- slices of zeros, for 96 sites, 192 triangles and 96 on the hull
+-- slices of zeros, as long as every form needs them
 abbrev pub lentZeros : CutSlices
-lentZeros = cutSlices (replicate mostSites 0) (replicate 3080 B.zero) (replicate 4128 0) (replicate offsetRoom 0)
+lentZeros = cutSlices (replicate mostSites 0) (replicate cutVertexRoom B.zero) (replicate cutIndexRoom 0) (replicate offsetRoom 0)
 
 -- of a mesh in a box
 pub record CertifyTold (m : Mesh) (g : Given) (text : List ℕ) : Type 0 where

@@ -18,11 +18,12 @@ ghost use Rattle.certify.specs.Printed.{PiecesTold, CertifyTold, Certify
 ghost use Rattle.certify.specs.text.CertifyLine.{certifyText};
 
 // The slices of a cutting and of its certificate, as long as every form needs them.
-const CUT_VERTICES: usize = 3080;
+const CUT_VERTICES: usize = 2 * (7 * form::TRIANGLES + 2 * form::HULL + 4);
 
-const CUT_INDEXES: usize = 4128;
+const CUT_INDEXES: usize = 16 * form::TRIANGLES + 11 * form::HULL;
 
-const CERTIFY_WORK: usize = 12640;
+// Three words to an entry, two to a site, and 64.
+const CERTIFY_WORK: usize = 3 * CUT_INDEXES + 2 * form::SITES + 64;
 // The tolerance is 2^-32 of the box's reach.
 const CERTIFY_BITS: u32 = 32;
 
@@ -76,7 +77,7 @@ fn of_pieces(
 }
 
 // Of a mesh in a box.
-fn in_box(
+fn of_mesh(
     out: &mut [u8],
     given: Given,
     sites: &[f64],
@@ -139,7 +140,7 @@ fn answer(bytes: &[u8], out: &mut [u8]) -> usize
     let n = read.coordinates;
     let k = read.links;
     let h = read.hull;
-    in_box(
+    of_mesh(
         out,
         given,
         &sites[..n],

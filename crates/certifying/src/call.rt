@@ -2,7 +2,7 @@
 use crate::nearer::first_site_nearer;
 use crate::nearer::no_others;
 use crate::sides::first_surplus;
-use crate::sides::hang_all;
+use crate::sides::insert_all;
 use crate::sides::left_once;
 use crate::twins::first_site_twin;
 use auditing::corners::first_outside;
@@ -24,7 +24,7 @@ ghost use Rattle.auditing.specs.Steps.{OutsideNamed};
 ghost use Rattle.certifying.specs.sides.Sides.{sideCount};
 ghost use Rattle.certifying.specs.call.Verdict.{largerOf, certifyFar, certifyTwin, twinStage, certifyNearer, nearStage, borderStage, siteOfSide, certifySide, sideStage};
 ghost use Rattle.certifying.specs.call.Verdict.{certifyOutside, certifyOn, certifyKind, certifySite, certifyVertex, certifyOther};
-ghost use Rattle.certifying.specs.call.Steps.{NearNamed, JudgeSafe, SideNamed, SidesHung, VerdictTold, VerdictAnswer, RefusedAnswer};
+ghost use Rattle.certifying.specs.call.Steps.{NearNamed, JudgeSafe, SideNamed, SidesChained, VerdictTold, VerdictAnswer, RefusedAnswer};
 ghost use Rattle.certifying.specs.call.Promise.{CertifyAnswer};
 
 // Nothing; a corner of a site's piece is outside; a side of it comes more often than the same side back; the corner of the box is not left once; a corner is nearer to another site;
@@ -142,7 +142,7 @@ fn judge_nearer(
     judge_twins(work, sites)
 }
 
-// The third, then the fourth: the sides hang in the work.
+// The third, then the fourth: the sides are chained in the work.
 fn judge_border(
     work: &mut [u32],
     bounds: BoundingBox,
@@ -153,7 +153,7 @@ fn judge_border(
     indexes: &[u32],
     count: usize,
 ) -> CertifyVerdict
-    requires { ⌜ JudgeSafe bounds bits (now sites) (now vertices) (now offsets) (now indexes) (now work) × SidesHung (now vertices) (now offsets) (now indexes) count (now work) ⌝ }
+    requires { ⌜ JudgeSafe bounds bits (now sites) (now vertices) (now offsets) (now indexes) (now work) × SidesChained (now vertices) (now offsets) (now indexes) count (now work) ⌝ }
     ensures { λ r. ⌜ (r ≡ borderStage bounds bits (now (sites .entry)) (now (vertices .entry)) (now (offsets .entry)) (now (indexes .entry)))
         × (length (now (work .exit)) ≡ length (now (work .entry))) ⌝ }
 {
@@ -186,8 +186,8 @@ fn name_side(sites: &[f64], offsets: &[u32], indexes: &[u32], e: usize) -> Certi
     CertifyVerdict::Surplus(narrow(s), indexes[e])
 }
 
-// The second, then the third: the sides hang in the work.
-fn judge_hung(
+// The second, then the third: the sides are chained in the work.
+fn judge_chained(
     work: &mut [u32],
     bounds: BoundingBox,
     bits: u32,
@@ -197,7 +197,7 @@ fn judge_hung(
     indexes: &[u32],
     count: usize,
 ) -> CertifyVerdict
-    requires { ⌜ JudgeSafe bounds bits (now sites) (now vertices) (now offsets) (now indexes) (now work) × SidesHung (now vertices) (now offsets) (now indexes) count (now work) ⌝ }
+    requires { ⌜ JudgeSafe bounds bits (now sites) (now vertices) (now offsets) (now indexes) (now work) × SidesChained (now vertices) (now offsets) (now indexes) count (now work) ⌝ }
     ensures { λ r. ⌜ (r ≡ sideStage bounds bits (now (sites .entry)) (now (vertices .entry)) (now (offsets .entry)) (now (indexes .entry)))
         × (length (now (work .exit)) ≡ length (now (work .entry))) ⌝ }
 {
@@ -217,7 +217,7 @@ fn side_count(offsets: &[u32]) -> usize
     wide(offsets[last])
 }
 
-// The second, from sides that do not hang yet.
+// The second, from sides that are not chained yet.
 fn judge_sides(
     work: &mut [u32],
     bounds: BoundingBox,
@@ -232,8 +232,8 @@ fn judge_sides(
         × (length (now (work .exit)) ≡ length (now (work .entry))) ⌝ }
 {
     let count = side_count(offsets);
-    hang_all(work, vertices, offsets, indexes, count);
-    judge_hung(work, bounds, bits, sites, vertices, offsets, indexes, count)
+    insert_all(work, vertices, offsets, indexes, count);
+    judge_chained(work, bounds, bits, sites, vertices, offsets, indexes, count)
 }
 
 fn name_outside(

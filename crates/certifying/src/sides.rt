@@ -1,5 +1,5 @@
-// The sides of all rings: whether each way between two places comes as often as the other, and how often the top right corner of the box is left along the top edge. The sides hang in
-// slots by the two places between which they run, in lent work: three words to an entry (specs/Chains.antt).
+// The sides of all rings: whether each way between two places comes as often as the other, and how often the top right corner of the box is left along the top edge. The sides are chained in
+// buckets by the two places between which they run, in lent work: three words to an entry (specs/Chains.antt).
 use auditing::places::same_place;
 use base::numbers::wide;
 use octets::patterns::pattern;
@@ -14,7 +14,7 @@ ghost use Rattle.ring_area.specs.lowest.Lowest.{lowest};
 ghost use Rattle.plane.specs.points.Flat.{pointAt};
 ghost use Rattle.auditing.specs.places.Places.{sameOf};
 ghost use Rattle.certifying.specs.sides.Sides.{ringEnds, oneFor, alongOf, surplusAt, leavesOf, leftOnce};
-ghost use Rattle.certifying.specs.sides.Chains.{placeNumber, sideSlot, laidEnds, SideSafe, SidesIn, HungTo, WaysOf, RingLaid, LaySafe, LaidTo, HungMore, HangSafe, HangsAll};
+ghost use Rattle.certifying.specs.sides.Chains.{placeNumber, sideBucket, laidEnds, SideSafe, SidesIn, ChainedTo, WaysOf, RingLaid, LaySafe, LaidTo, ChainedMore, InsertSafe, InsertsAll};
 ghost use Rattle.certifying.specs.sides.Chains.{RunsBack, EvenIn, FairIn, NumberSafe, FourSafe, Turned, TwoPairs};
 
 // Two places of a side.
@@ -65,10 +65,10 @@ fn broad(x: usize) -> u64
     x as u64
 }
 
-// The slot of the sides between p and q, of so many.
-fn slot(p: Point, q: Point, count: usize) -> usize
+// The bucket of the sides between p and q, of so many.
+fn bucket(p: Point, q: Point, count: usize) -> usize
     requires { ⌜ (0 < count) × (count ≤ 2 ^ 24) ⌝ }
-    ensures { λ r. ⌜ (r ≡ sideSlot count p q) × (r < count) ⌝ }
+    ensures { λ r. ⌜ (r ≡ sideBucket count p q) × (r < count) ⌝ }
 {
     ((place_number(p) + place_number(q)) % broad(count)) as usize
 }
@@ -90,7 +90,7 @@ fn runs(side: SideEnds, p: Point, q: Point) -> bool
     same_place(p, side.from) & same_place(q, side.to)
 }
 
-// How many run from p to q, and back: those that hang in their slot.
+// How many run from p to q, and back: those that are chained in their bucket.
 fn count_ways(
     work: &[u32],
     vertices: &[f64],
@@ -99,10 +99,10 @@ fn count_ways(
     p: Point,
     q: Point,
 ) -> Ways
-    requires { ⌜ (0 < count) × HungTo (now vertices) (now indexes) (laidEnds (now work) count) count count (now work) ⌝ }
+    requires { ⌜ (0 < count) × ChainedTo (now vertices) (now indexes) (laidEnds (now work) count) count count (now work) ⌝ }
     ensures { λ r. ⌜ WaysOf (now (vertices .entry)) (now (indexes .entry)) (laidEnds (now (work .entry)) count) count p q (r .there) (r .back) ⌝ }
 {
-    let m = slot(p, q, count);
+    let m = bucket(p, q, count);
     let mut there = 0;
     let mut back = 0;
     let mut x = wide(work[3 * m]);
@@ -125,7 +125,7 @@ fn is_surplus(
     count: usize,
     k: usize,
 ) -> bool
-    requires { ⌜ (k < count) × HungTo (now vertices) (now indexes) (laidEnds (now work) count) count count (now work) ⌝ }
+    requires { ⌜ (k < count) × ChainedTo (now vertices) (now indexes) (laidEnds (now work) count) count count (now work) ⌝ }
     ensures { λ r. ⌜ r ≡ surplusAt bounds (now (vertices .entry)) (now (indexes .entry)) (laidEnds (now (work .entry)) count) count k ⌝ }
 {
     let side = side_at(work, vertices, indexes, k);
@@ -146,9 +146,9 @@ fn answers(s: SideEnds, t: SideEnds) -> bool
     runs(t, s.to, s.from)
 }
 
-// Whether two sides hang in slot m, one there and one back, by their places.
+// Whether two sides are chained in bucket m, one there and one back, by their places.
 fn is_pair(work: &[u32], vertices: &[f64], indexes: &[u32], count: usize, m: usize) -> bool
-    requires { ⌜ (m < count) × HungTo (now vertices) (now indexes) (laidEnds (now work) count) count count (now work) ⌝ }
+    requires { ⌜ (m < count) × ChainedTo (now vertices) (now indexes) (laidEnds (now work) count) count count (now work) ⌝ }
     ensures { λ r. ⌜ (r ≡ true → EvenIn (now (vertices .entry)) (now (indexes .entry)) (laidEnds (now (work .entry)) count) count m) ⌝ }
 {
     let x = wide(work[3 * m]);
@@ -170,7 +170,7 @@ fn is_pair(work: &[u32], vertices: &[f64], indexes: &[u32], count: usize, m: usi
     false
 }
 
-// The side before side k in its slot, as one more than its entry, or 0.
+// The side before side k in its bucket, as one more than its entry, or 0.
 fn prior(work: &[u32], k: usize) -> usize
     requires { ⌜ (k < 2 ^ 24) × (3 * k + 1 < length (now work)) ⌝ }
     ensures { λ r. ⌜ r ≡ getD (now (work .entry)) (3 * k + 1) 0 ⌝ }
@@ -219,9 +219,9 @@ fn is_two_pairs(work: &[u32], indexes: &[u32], i: usize, j: usize, k: usize, l: 
     false
 }
 
-// Whether two or four sides hang in slot m that are one or two such pairs: what nearly every slot has where pieces share their vertices. No coordinate is read.
+// Whether two or four sides are chained in bucket m that are one or two such pairs: what nearly every bucket has where pieces share their vertices. No coordinate is read.
 fn is_even(work: &[u32], vertices: &[f64], indexes: &[u32], count: usize, m: usize) -> bool
-    requires { ⌜ (m < count) × HungTo (now vertices) (now indexes) (laidEnds (now work) count) count count (now work) ⌝ }
+    requires { ⌜ (m < count) × ChainedTo (now vertices) (now indexes) (laidEnds (now work) count) count count (now work) ⌝ }
     ensures { λ r. ⌜ (r ≡ true → EvenIn (now (vertices .entry)) (now (indexes .entry)) (laidEnds (now (work .entry)) count) count m) ⌝ }
 {
     let x = wide(work[3 * m]);
@@ -246,7 +246,7 @@ fn is_even(work: &[u32], vertices: &[f64], indexes: &[u32], count: usize, m: usi
     is_two_pairs(work, indexes, x - 1, y - 1, z - 1, t - 1)
 }
 
-// Whether no side that hangs in slot m has more run its way than back.
+// Whether no side that is chained in bucket m has more run its way than back.
 fn is_fair(
     work: &[u32],
     vertices: &[f64],
@@ -255,7 +255,7 @@ fn is_fair(
     count: usize,
     m: usize,
 ) -> bool
-    requires { ⌜ (m < count) × HungTo (now vertices) (now indexes) (laidEnds (now work) count) count count (now work) ⌝ }
+    requires { ⌜ (m < count) × ChainedTo (now vertices) (now indexes) (laidEnds (now work) count) count count (now work) ⌝ }
     ensures { λ r. ⌜ (r ≡ true → FairIn bounds (now (vertices .entry)) (now (indexes .entry)) (laidEnds (now (work .entry)) count) count m) ⌝ }
 {
     if is_even(work, vertices, indexes, count, m) {
@@ -275,7 +275,7 @@ fn is_fair(
     true
 }
 
-// Whether no side has, slot by slot: each chain is walked once, while its sides are at hand.
+// Whether no side has, bucket by bucket: each chain is walked once, while its sides are at hand.
 fn all_fair(
     work: &[u32],
     vertices: &[f64],
@@ -283,7 +283,7 @@ fn all_fair(
     bounds: BoundingBox,
     count: usize,
 ) -> bool
-    requires { ⌜ HungTo (now vertices) (now indexes) (laidEnds (now work) count) count count (now work) ⌝ }
+    requires { ⌜ ChainedTo (now vertices) (now indexes) (laidEnds (now work) count) count count (now work) ⌝ }
     ensures { λ r. ⌜ (r ≡ true
         → count ≡ lowest (surplusAt bounds (now (vertices .entry)) (now (indexes .entry)) (laidEnds (now (work .entry)) count) count) count) ⌝ }
 {
@@ -306,7 +306,7 @@ pub fn first_surplus(
     bounds: BoundingBox,
     count: usize,
 ) -> usize
-    requires { ⌜ HungTo (now vertices) (now indexes) (laidEnds (now work) count) count count (now work) ⌝ }
+    requires { ⌜ ChainedTo (now vertices) (now indexes) (laidEnds (now work) count) count count (now work) ⌝ }
     ensures { λ r. ⌜ r ≡ lowest (surplusAt bounds (now (vertices .entry)) (now (indexes .entry)) (laidEnds (now (work .entry)) count) count) count ⌝ }
 {
     if all_fair(work, vertices, indexes, bounds, count) {
@@ -356,7 +356,7 @@ fn end_at(cell: &[u32], i: usize) -> u32
     cell[0]
 }
 
-// Lays the ends of a ring from entry `base` on, and empties the slots beside them.
+// Lays the ends of a ring from entry `base` on, and empties the buckets beside them.
 fn lay_ring(work: &mut [u32], cell: &[u32], base: usize)
     requires { ⌜ (3 * (base + length (now cell)) ≤ length (now work)) × (base + length (now cell) ≤ 2 ^ 24) ⌝ }
     ensures { λ _. ⌜ RingLaid base (now (cell .entry)) (length (now (cell .entry))) (now (work .entry)) (now (work .exit)) ⌝ }
@@ -387,8 +387,8 @@ fn lay(work: &mut [u32], offsets: &[u32], indexes: &[u32])
     }
 }
 
-// Hangs side k in the slot m.
-fn hang_in(work: &mut [u32], k: usize, m: usize)
+// Inserts side k into the bucket m.
+fn insert_in(work: &mut [u32], k: usize, m: usize)
     requires { ⌜ (3 * k + 1 < length (now work)) × (3 * m < length (now work)) × (k < 2 ^ 24) × (m < 2 ^ 24) ⌝ }
     ensures { λ _. ⌜ now (work .exit) ≡ set (set (now (work .entry)) (3 * k + 1) (getD (now (work .entry)) (3 * m) 0)) (3 * m) (suc k) ⌝ }
 {
@@ -396,25 +396,31 @@ fn hang_in(work: &mut [u32], k: usize, m: usize)
     work[3 * m] = (k + 1) as u32;
 }
 
-// Hangs side k.
-fn hang(work: &mut [u32], vertices: &[f64], indexes: &[u32], count: usize, k: usize)
-    requires { ⌜ (k < count) × HungTo (now vertices) (now indexes) (laidEnds (now work) count) count k (now work) ⌝ }
-    ensures { λ _. ⌜ HungMore (now (vertices .entry)) (now (indexes .entry)) count (k + 1) (now (work .entry)) (now (work .exit)) ⌝ }
+// Inserts side k.
+fn insert(work: &mut [u32], vertices: &[f64], indexes: &[u32], count: usize, k: usize)
+    requires { ⌜ (k < count) × ChainedTo (now vertices) (now indexes) (laidEnds (now work) count) count k (now work) ⌝ }
+    ensures { λ _. ⌜ ChainedMore (now (vertices .entry)) (now (indexes .entry)) count (k + 1) (now (work .entry)) (now (work .exit)) ⌝ }
 {
     let side = side_at(work, vertices, indexes, k);
-    let m = slot(side.from, side.to, count);
-    hang_in(work, k, m);
+    let m = bucket(side.from, side.to, count);
+    insert_in(work, k, m);
 }
 
-// Lays and hangs all sides.
-pub fn hang_all(work: &mut [u32], vertices: &[f64], offsets: &[u32], indexes: &[u32], count: usize)
-    requires { ⌜ HangSafe (now vertices) (now offsets) (now indexes) count (now work) ⌝ }
-    ensures { λ _. ⌜ HangsAll (now (vertices .entry)) (now (offsets .entry)) (now (indexes .entry)) count (now (work .entry)) (now (work .exit)) ⌝ }
+// Lays and inserts all sides.
+pub fn insert_all(
+    work: &mut [u32],
+    vertices: &[f64],
+    offsets: &[u32],
+    indexes: &[u32],
+    count: usize,
+)
+    requires { ⌜ InsertSafe (now vertices) (now offsets) (now indexes) count (now work) ⌝ }
+    ensures { λ _. ⌜ InsertsAll (now (vertices .entry)) (now (offsets .entry)) (now (indexes .entry)) count (now (work .entry)) (now (work .exit)) ⌝ }
 {
     lay(work, offsets, indexes);
     let mut k = 0;
     while k < count {
-        hang(work, vertices, indexes, count, k);
+        insert(work, vertices, indexes, count, k);
         k += 1;
     }
 }

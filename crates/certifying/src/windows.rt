@@ -12,7 +12,7 @@ ghost use Rattle.plane.specs.points.Flat.{pointAt};
 ghost use Rattle.arguments.specs.entries.Named.{EntriesNamed};
 ghost use Rattle.audit_truth.specs.Held.{HeldWithin};
 ghost use Rattle.certifying.specs.call.Verdict.{largerOf};
-ghost use Rattle.certifying.specs.windows.Windows.{mostOf, clearOf, keptAlong, windowKept, offOf, EdgesHeld, WindowKeeps};
+ghost use Rattle.certifying.specs.windows.Windows.{lesserOf, mostOf, clearOf, keptAlong, windowKept, offOf, EdgesHeld, WindowKeeps};
 
 pub struct Window {
     pub left: f64,
@@ -21,7 +21,9 @@ pub struct Window {
     pub bottom: f64,
 }
 
-pub fn lesser(x: f64, y: f64) -> f64 {
+pub fn lesser(x: f64, y: f64) -> f64
+    ensures { λ r. ⌜ r ≡ lesserOf x y ⌝ }
+{
     if y < x {
         return y;
     }

@@ -15,7 +15,7 @@ use Rattle.printing.specs.One.{of-form-one}
 use Rattle.nearest.specs.declared.line.NearestLine.{NearestLine}
 use Rattle.nearest.specs.line.NearestLine.{nearestLine}
 use Rattle.nearest.specs.corners.Tried.{offCorner}
-use Rattle.nearest.specs.Printed.{withBox, answerLine, NearestTold, gridOf, ToldInBox, NearestPrints}
+use Rattle.nearest.specs.Printed.{withBox, answerLine, NearestTold, gridOf, ToldOfMesh, NearestPrints}
 
 told-one : (g : Given) (m : GridMesh) (a b : NearestLine) → NearestTold g m a → NearestTold g m b → a ≡ b
 told-one g m a b x y =
@@ -38,4 +38,4 @@ told-one g m a b x y =
     same i j k l m = rw (i, j, k, l, m)
 
 pub prints-one : {s a b : List ℕ} → NearestPrints s a → NearestPrints s b → a ≡ b
-prints-one x y = x .shown ∙ ap nearestLine (of-form-one {Told = ToldInBox} (λ m g a b p q. told-one g (gridOf m) a b p q) (x .true) (y .true)) ∙ sym (y .shown)
+prints-one x y = x .shown ∙ ap nearestLine (of-form-one {Told = ToldOfMesh} (λ m g a b p q. told-one g (gridOf m) a b p q) (x .true) (y .true)) ∙ sym (y .shown)

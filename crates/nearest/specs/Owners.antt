@@ -43,7 +43,7 @@ use Rattle.nearest.specs.whole_sites.Whole.{wholeNumber, wholesOf}
 use Rattle.nearest.specs.whole_sites.Value.{sites-whole, coordinate-kept}
 use Rattle.nearest.specs.corners.Tried.{offCorner}
 use Rattle.nearest.specs.corners.Admits.{tried-corners}
-use Rattle.nearest.specs.Printed.{kindLine, withBox, answerLine, NearestTold, gridOf, ToldInBox, FormLine, NearestPrints}
+use Rattle.nearest.specs.Printed.{kindLine, withBox, answerLine, NearestTold, gridOf, ToldOfMesh, FormLine, NearestPrints}
 
 -- a mesh in a box whose corners have nearest owners
 pub record OwnersNearest (m : Mesh) (g : Given) : Type 0 where
@@ -221,7 +221,7 @@ module _ (m : Mesh) (g : Given) (x : NearestTold g (gridOf m) Nearest) where
 
 -- ---- the form
 by-line : {s : List ℕ} {l : NearestLine} → FormLine s l → l ≡ Nearest → FormNearest s
-by-line (sound m g f e b x) q = record { mesh = m; bytes = e; given = g; box-of = b; nearest = owners-nearest (meshOf m) g (subst (ToldInBox (meshOf m) g) q x) }
+by-line (sound m g f e b x) q = record { mesh = m; bytes = e; given = g; box-of = b; nearest = owners-nearest (meshOf m) g (subst (ToldOfMesh (meshOf m) g) q x) }
 by-line (broken p n) q = absurd (other refl q)
 
 pub nearest-owners : {s : List ℕ} → NearestPrints s (ascii "nearest\n") → FormNearest s

@@ -56,12 +56,12 @@ pub record NearestTold (g : Given) (m : GridMesh) (l : NearestLine) : Type 0 whe
 abbrev pub gridOf : Mesh → GridMesh
 gridOf m = gridMesh (wholesOf (m .sites)) (m .triangles) (m .halfedges) (m .hull)
 
-abbrev pub ToldInBox : Mesh → Given → NearestLine → Type 0
-ToldInBox m g = NearestTold g (gridOf m)
+abbrev pub ToldOfMesh : Mesh → Given → NearestLine → Type 0
+ToldOfMesh m g = NearestTold g (gridOf m)
 
 -- the line for the bytes of a form
 abbrev pub FormLine : List ℕ → NearestLine → Type 0
-FormLine = OfForm ToldInBox Refused
+FormLine = OfForm ToldOfMesh Refused
 
 pub record NearestPrints (s text : List ℕ) : Type 0 where
   pub line : NearestLine

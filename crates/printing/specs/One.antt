@@ -15,7 +15,7 @@ use Rattle.form.specs.mesh.Read.{BoxOf}
 use Rattle.form.specs.mesh.One.{SameMesh, same-mesh, box-begins}
 use Rattle.printing.specs.parts.Labelled.{refusal}
 use Rattle.printing.specs.OfForm.{meshOf, OfForm, sound, broken}
-use Rattle.printing.specs.Printed.{Shows, early, late, built, InBox, Prints, Text}
+use Rattle.printing.specs.Printed.{Shows, early, late, built, OfMesh, Prints, Text}
 
 is-form : {s : List ℕ} (m : FormMesh) (g : Given) → MeshFits m → s ≡ formOf m → BoxOf (m .clip) g → IsForm false s
 is-form m g f e b = record { mesh = m; fits = f; admits = box-begins (m .clip) g b; bytes = e }
@@ -43,4 +43,4 @@ module _ {Rules : ℕ → Type 0} {text : Built → List ℕ} (one : (a b : ℕ)
   shows-one (built p) (built r) = refl
 
 pub prints-one : (t : Text) {s a b : List ℕ} → Prints t s a → Prints t s b → a ≡ b
-prints-one t = of-form-one {Told = InBox t} (λ m g a b x y. shows-one (λ c d. admits-one) x y)
+prints-one t = of-form-one {Told = OfMesh t} (λ m g a b x y. shows-one (λ c d. admits-one) x y)

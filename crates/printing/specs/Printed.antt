@@ -37,8 +37,8 @@ pub record ShownIn (text out : List ℕ) (space r : ℕ) : Type 0 where
   pub first : take r out ≡ text
   pub within : r ≤ space
 
-abbrev pub InBox : Text → Mesh → Given → List ℕ → Type 0
-InBox t m g = Shows (Admits m true (boxRules (g .sound))) (t m g) (build m (g .bounds))
+abbrev pub OfMesh : Text → Mesh → Given → List ℕ → Type 0
+OfMesh t m g = Shows (Admits m true (boxRules (g .sound))) (t m g) (build m (g .bounds))
 
 abbrev pub Prints : Text → List ℕ → List ℕ → Type 0
-Prints t = OfForm (InBox t) refusal
+Prints t = OfForm (OfMesh t) refusal

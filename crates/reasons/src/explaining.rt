@@ -6,7 +6,7 @@ use crate::of_fault;
 use crate::of_mesh;
 use crate::tell;
 use admission::admit_build;
-use building::counts::finish_clipped;
+use building::counts::finish_build;
 use cell_builder::build_cells;
 use plane::given::Given;
 ghost use mathlib.Core.Path.{_≡_};
@@ -20,7 +20,7 @@ ghost use Rattle.definition.specs.Build.{build};
 ghost use Rattle.arguments.specs.asking.Asks.{boxRules, Asked};
 ghost use Rattle.admission.specs.Slices.{slices};
 ghost use Rattle.reasons.specs.Rules.{questionRules};
-ghost use Rattle.reasons.specs.explaining.Promise.{ClippedWhy};
+ghost use Rattle.reasons.specs.explaining.Promise.{Explained};
 ghost use Rattle.reasons.specs.explaining.Steps.{Located, Explains};
 
 // Rule 4 on each site asked about.
@@ -41,7 +41,7 @@ fn ask_question(sites: usize, q: Question) -> u32
 }
 
 // Rule 3, then rule 4.
-fn ask_in_box(sound: bool, sites: usize, q: Question) -> u32
+fn ask_arguments(sound: bool, sites: usize, q: Question) -> u32
     ensures { λ r. ⌜ Asked (boxRules sound ++ questionRules sites q) r ⌝ }
 {
     let r = arguments::asking::ask_box(sound);
@@ -69,7 +69,7 @@ fn locate(
 }
 
 // The build, with what it met as a reason; `asked` is what the call's own arguments gave.
-fn build_in_box(
+fn explain_build(
     given: Given,
     sites: &[f64],
     triangles: &[u32],
@@ -116,7 +116,7 @@ fn build_in_box(
         offsets,
     );
     let fault = a.fault;
-    finish_clipped(a, work, counts);
+    finish_build(a, work, counts);
     of_fault(fault)
 }
 
@@ -135,13 +135,13 @@ pub fn why(
     counts: &mut [u32],
 ) -> Reason
     requires { ⌜ Fits given ⌝ }
-    ensures { λ r. ⌜ ClippedWhy (mesh (now (sites .entry)) (now (triangles .entry)) (now (halfedges .entry)) (now (hull .entry))) given q
+    ensures { λ r. ⌜ Explained (mesh (now (sites .entry)) (now (triangles .entry)) (now (halfedges .entry)) (now (hull .entry))) given q
         (slices (now (work .entry)) (now (vertices .entry)) (now (indexes .entry)) (now (offsets .entry)) (now (counts .entry)))
         (slices (now (work .exit)) (now (vertices .exit)) (now (indexes .exit)) (now (offsets .exit)) (now (counts .exit))) r ⌝ }
 {
     let count = sites.len() / 2;
-    let asked = ask_in_box(given.sound, count, q);
-    let r = build_in_box(
+    let asked = ask_arguments(given.sound, count, q);
+    let r = explain_build(
         given,
         sites,
         triangles,

@@ -9,14 +9,14 @@ use lib.ListN.{length, take, drop}
 use Rattle.plane.specs.points.Flat.{pour}
 use Rattle.plane.specs.declared.points.Point.{Point}
 use Rattle.vertices.specs.Add.{Added}
-use Rattle.vertices.specs.buckets.Slots.{hungOf, Hang}
+use Rattle.vertices.specs.buckets.Buckets.{insertedOf, InChains}
 use Rattle.vertices.specs.declared.Placed.{Placed}
 
--- count vertices, the first nc of them circumcenters; as many of the others as have links hang in the tail
+-- count vertices, the first nc of them circumcenters; as many of the others as have links are chained in the tail
 pub record Holds (nc count : ℕ) (v : List Float) (tail : List ℕ) : Type 0 where
   pub centers : nc ≤ count
   pub room : 2 * count ≤ length v
-  pub hang : Hang nc (hungOf (count - nc) (length tail)) v tail
+  pub in-chains : InChains nc (insertedOf (count - nc) (length tail)) v tail
 
 -- v₁ is v with the vertices vs, count₁ in number, written over its beginning
 pub record Poured (vs : List Point) (v : List Float) (count₁ : ℕ) (v₁ : List Float) : Type 0 where

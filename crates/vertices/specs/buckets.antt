@@ -1,3 +1,3 @@
-pub mod Slots
+pub mod Buckets
 pub mod Steps
 pub mod laws

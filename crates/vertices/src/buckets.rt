@@ -1,4 +1,4 @@
-// How a near vertex is found: those that were added hang in slots by their places on a grid, in the tail of the index list (specs/buckets/Slots.antt). A point within 2^-48 of a border of
+// How a near vertex is found: those that were added are chained in buckets by their places on a grid, in the tail of the index list (specs/buckets/Buckets.antt). A point within 2^-48 of a border of
 // the grid, and a vertex past the links, is searched for one by one.
 use base::numbers::LARGE;
 use base::numbers::wide;
@@ -14,8 +14,8 @@ ghost use lib.ListN.{length, drop};
 ghost use Rattle.plane.specs.points.Flat.{pointsFrom};
 ghost use Rattle.vertices.specs.Add.{nearPt, findNear};
 ghost use Rattle.vertices.specs.Store.{Holds};
-ghost use Rattle.vertices.specs.buckets.Slots.{lowOf, midOf, highOf, narrowOf, mixOf, slotBy, headsOf};
-ghost use Rattle.vertices.specs.buckets.Steps.{SlotsFree, HangsIn, SlotChain};
+ghost use Rattle.vertices.specs.buckets.Buckets.{lowOf, midOf, highOf, narrowOf, mixOf, bucketBy, headsOf};
+ghost use Rattle.vertices.specs.buckets.Steps.{BucketsFree, InsertsIn, BucketChain};
 
 // 2^-49, 2^-48 and 2^21.
 const REACH: f64 = 1.7763568394002505e-15;
@@ -93,15 +93,15 @@ fn broad(x: usize) -> u64
     x as u64
 }
 
-// The slot of two places on the grid, of so many.
-fn slot(heads: usize, x: f64, y: f64) -> usize
+// The bucket of two places on the grid, of so many.
+fn bucket(heads: usize, x: f64, y: f64) -> usize
     requires { ⌜ heads ≤ 262144 ⌝ }
-    ensures { λ r. ⌜ r ≡ slotBy heads x y ⌝ }
+    ensures { λ r. ⌜ r ≡ bucketBy heads x y ⌝ }
 {
     (mix(pattern(x), pattern(y)) * broad(heads) / 4194304) as usize
 }
 
-// How many slots there are in so many entries from `limit` on.
+// How many buckets there are in so many entries from `limit` on.
 fn heads_in(entries: usize, limit: usize) -> usize
     ensures { λ r. ⌜ r ≡ headsOf (entries - limit) ⌝ }
 {
@@ -115,9 +115,9 @@ fn heads_in(entries: usize, limit: usize) -> usize
     room / 4
 }
 
-// Empties all slots.
+// Empties all buckets.
 pub fn empty(indexes: &mut [u32], limit: usize)
-    ensures { λ _. ⌜ SlotsFree limit (now (indexes .entry)) (now (indexes .exit)) ⌝ }
+    ensures { λ _. ⌜ BucketsFree limit (now (indexes .entry)) (now (indexes .exit)) ⌝ }
 {
     let heads = heads_in(indexes.len(), limit);
     let mut m: usize = 0;
@@ -127,13 +127,13 @@ pub fn empty(indexes: &mut [u32], limit: usize)
     }
 }
 
-// Hangs vertex k after the circumcenters, which is p, if it has a link.
-pub fn hang(indexes: &mut [u32], limit: usize, k: usize, p: Point)
-    ensures { λ _. ⌜ HangsIn limit k p (now (indexes .entry)) (now (indexes .exit)) ⌝ }
+// Inserts vertex k after the circumcenters, which is p, if it has a link.
+pub fn insert(indexes: &mut [u32], limit: usize, k: usize, p: Point)
+    ensures { λ _. ⌜ InsertsIn limit k p (now (indexes .entry)) (now (indexes .exit)) ⌝ }
 {
     let heads = heads_in(indexes.len(), limit);
     if k < 3 * heads {
-        let at = limit + slot(heads, middle(p.x), middle(p.y));
+        let at = limit + bucket(heads, middle(p.x), middle(p.y));
         indexes[limit + (heads + k)] = indexes[at];
         indexes[at] = (k + 1) as u32;
     }
@@ -151,21 +151,21 @@ fn least(x: usize, y: usize) -> usize
     if x < y { x } else { y }
 }
 
-// The first vertex near p among those that hang, which are so many, from the last one in the slot m back; else the number after them.
+// The first vertex near p among those that are chained, which are so many, from the last one in the bucket m back; else the number after them.
 fn in_chain(
     vertices: &[f64],
     indexes: &[u32],
     limit: usize,
     heads: usize,
     centers: usize,
-    hung: usize,
+    inserted: usize,
     m: usize,
     p: Point,
 ) -> usize
-    requires { ⌜ SlotChain (now vertices) (now indexes) limit heads centers hung m p ⌝ }
-    ensures { λ r. ⌜ r ≡ findNear p (pointsFrom (now (vertices .entry)) centers hung) centers ⌝ }
+    requires { ⌜ BucketChain (now vertices) (now indexes) limit heads centers inserted m p ⌝ }
+    ensures { λ r. ⌜ r ≡ findNear p (pointsFrom (now (vertices .entry)) centers inserted) centers ⌝ }
 {
-    let mut best = centers + hung;
+    let mut best = centers + inserted;
     let mut x = wide(indexes[limit + m]);
     while 0 < x {
         let k = x - 1;
@@ -195,13 +195,13 @@ pub fn find(
         return find_near(vertices, centers, count, p);
     }
     if narrow(p.x) & narrow(p.y) {
-        let hung = least(count - centers, 3 * heads);
-        let m = slot(heads, low(p.x), low(p.y));
-        let i = in_chain(vertices, indexes, limit, heads, centers, hung, m, p);
-        if i < centers + hung {
+        let inserted = least(count - centers, 3 * heads);
+        let m = bucket(heads, low(p.x), low(p.y));
+        let i = in_chain(vertices, indexes, limit, heads, centers, inserted, m, p);
+        if i < centers + inserted {
             return i;
         }
-        return find_near(vertices, centers + hung, count, p);
+        return find_near(vertices, centers + inserted, count, p);
     }
     find_near(vertices, centers, count, p)
 }

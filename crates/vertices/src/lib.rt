@@ -3,7 +3,7 @@ pub mod buckets;
 
 use crate::buckets::empty;
 use crate::buckets::find;
-use crate::buckets::hang;
+use crate::buckets::insert;
 use plane::points::Point;
 use plane::points::point_at;
 ghost use mathlib.Core.Path.{_≡_};
@@ -40,7 +40,7 @@ pub fn put(vertices: &mut [f64], i: usize, p: Point)
     vertices[2 * i + 1] = p.y;
 }
 
-// Puts p after the vertices, and hangs it.
+// Puts p after the vertices, and inserts it.
 fn append(
     vertices: &mut [f64],
     indexes: &mut [u32],
@@ -55,7 +55,7 @@ fn append(
         (now (vertices .exit)) (now (indexes .exit)) ⌝ }
 {
     put(vertices, count, p);
-    hang(indexes, limit, count - centers, p);
+    insert(indexes, limit, count - centers, p);
 }
 
 // p's place among the vertices: the first near one after the circumcenters, else a new one.

@@ -58,7 +58,7 @@ pub record Bounds : Type 0 where
   pub total : (k : ℕ) → suc k + suc k + 1 ≤ 1023 → (a b p : Point) → BoundedPoint k a → BoundedPoint k b → BoundedPoint k p
       → T (not (lt (dist2Of a p) (dist2Of b p))) → T (le (dist2Of b p) (dist2Of a p))
   -- an admitted circumcenter
-  pub centre : (p : Point) → okCenter p ≡ true → BoundedPoint 400 p
+  pub center : (p : Point) → okCenter p ≡ true → BoundedPoint 400 p
   -- the second point of a ray; where a line meets left and right, and top and bottom, in the branches that compute it
   pub ray : (k : ℕ) → suc k ≤ 1023 → (p dir : Point) → BoundedPoint k p → BoundedPoint k dir → BoundedPoint (suc k) (at (p .x ⊞ dir .x) (p .y ⊞ dir .y))
   pub sides : (k : ℕ) → k + k + 53 ≤ 1023 → (p q : Point) → BoundedPoint k p → BoundedPoint k q
@@ -77,7 +77,7 @@ bounds = record {
   sites = site-dist2;
   corners = λ b. corner-dist2;
   total = dist2-total;
-  centre = center-bounded;
+  center = center-bounded;
   ray = ray-end;
   sides = sides-finite;
   levels = levels-finite;

@@ -137,13 +137,13 @@ pub record Demand1 (m : Mesh) : Type 0 where
   -- voronoi_neighbours
   pub neighbours : (s : ℕ) (w o : List ℕ) → OneList (λ r w′ o′ k e. Neighbours m s w w′ o o′ k e r)
   -- voronoi_clipped_neighbours
-  pub clipped-neighbours : (offs idx : List ℕ) (s : ℕ) (w o : List ℕ) → OneList (λ r w′ o′ k e. ClippedNeighbours m offs idx s w w′ o o′ k e r)
+  pub clipped-neighbours : (off ix : List ℕ) (s : ℕ) (w o : List ℕ) → OneList (λ r w′ o′ k e. ClippedNeighbours m off ix s w w′ o o′ k e r)
   -- voronoi_path
   pub path : (s : ℕ) (p : Point) (w o : List ℕ) → OneList (λ r w′ o′ k e. Path m s p w w′ o o′ k e r)
   -- voronoi_shared_edge: the number, the work slice, the edge
   pub shared-edge : (a b : ℕ) (w : List ℕ) → One₃ (λ r w′ e. SharedEdge m a b w w′ e r)
   -- voronoi_cells_share_edge: the number, yes or no
-  pub cells-share-edge : (offs idx : List ℕ) (a b : ℕ) → One₂ (λ r y. CellsShareEdge offs idx a b y r)
+  pub cells-share-edge : (off ix : List ℕ) (a b : ℕ) → One₂ (λ r y. CellsShareEdge off ix a b y r)
   -- voronoi_build: the number, all five slices
   pub build : (g : Given) (old : Slices) → One₂ (λ r new. Build m g old new r)
   -- voronoi_cut: the number, all four slices, the count
@@ -151,9 +151,9 @@ pub record Demand1 (m : Mesh) : Type 0 where
   -- voronoi_why: the number, the kind and the places; all five slices
   pub why : (g : Given) (asked first second : ℕ) (old : Slices) → One₂ (λ t new. Why m g asked first second old new t)
   -- voronoi_cell: the number, start, length
-  pub cell : (offs idx : List ℕ) (s : ℕ) → One₃ (λ r start long. Cell offs idx s start long r)
+  pub cell : (off ix : List ℕ) (s : ℕ) → One₃ (λ r start long. Cell off ix s start long r)
   -- cell: the number, the part
-  pub cell-part : (offs idx : List ℕ) (s : ℕ) → One₂ (λ r part. CellPart offs idx s part r)
+  pub cell-part : (off ix : List ℕ) (s : ℕ) → One₂ (λ r part. CellPart off ix s part r)
   -- voronoi_cell_wkb_bits, voronoi_cell_wkb: the number, the bytes written, the output
   pub cell-wkb-bits : (v off ix : List ℕ) (s : ℕ) (out : List ℕ) → One₃ (λ r k new. CellWkbBits v off ix s out new k r)
   pub cell-wkb : (v : List Float) (off ix : List ℕ) (s : ℕ) (out : List ℕ) → One₃ (λ r k new. CellWkb v off ix s out new k r)
@@ -184,7 +184,7 @@ pub record Demand1 (m : Mesh) : Type 0 where
   -- voronoi_areas: the number, the areas
   pub areas : (v : List Float) (off ix : List ℕ) (old : List Float) → One₂ (λ r new. Areas v off ix old new r)
   -- voronoi_all_neighbours: the number, the work slice, the starts, the output slice
-  pub all-neighbours : (offs idx : List ℕ) (w st o : List ℕ) → OneAll (λ r w′ st′ o′. AllNeighbours m offs idx w w′ st st′ o o′ r)
+  pub all-neighbours : (off ix : List ℕ) (w st o : List ℕ) → OneAll (λ r w′ st′ o′. AllNeighbours m off ix w w′ st st′ o o′ r)
   -- voronoi_ends: the number, the work slice, the output slice
   pub ends : (s : ℕ) (points : List Float) (w o : List ℕ) → One₃ (λ r w′ o′. EndsOfPaths m s points w w′ o o′ r)
   -- voronoi_audit: the number, the kind, the site, the vertex, the other, the missing share
@@ -196,13 +196,13 @@ pub record Demand1 (m : Mesh) : Type 0 where
   -- by a call that hands out a list: the work slice, the output slice, the count, ended
   pub walk-refused : (s : ℕ) {w w′ o o′ : List ℕ} {k e r : ℕ} → Walk m s w w′ o o′ k e r → r ≢ 0 → ListRefused w w′ o o′ k e r
   pub neighbours-refused : (s : ℕ) {w w′ o o′ : List ℕ} {k e r : ℕ} → Neighbours m s w w′ o o′ k e r → r ≢ 0 → ListRefused w w′ o o′ k e r
-  pub clipped-refused : (offs idx : List ℕ) (s : ℕ) {w w′ o o′ : List ℕ} {k e r : ℕ}
-      → ClippedNeighbours m offs idx s w w′ o o′ k e r → r ≢ 0 → ListRefused w w′ o o′ k e r
+  pub clipped-refused : (off ix : List ℕ) (s : ℕ) {w w′ o o′ : List ℕ} {k e r : ℕ}
+      → ClippedNeighbours m off ix s w w′ o o′ k e r → r ≢ 0 → ListRefused w w′ o o′ k e r
   pub path-refused : (s : ℕ) (p : Point) {w w′ o o′ : List ℕ} {k e r : ℕ} → Path m s p w w′ o o′ k e r → r ≢ 0 → ListRefused w w′ o o′ k e r
   -- by voronoi_shared_edge: the work slice
   pub shared-edge-refused : (a b : ℕ) {w w′ : List ℕ} {e r : ℕ} → SharedEdge m a b w w′ e r → r ≢ 0 → SliceRefused EMPTY w w′ r
   -- by the calls for all gauges at once: the work slice, the starts, the output slice
-  pub all-neighbours-refused : (offs idx : List ℕ) {w w′ st st′ o o′ : List ℕ} {r : ℕ} → AllNeighbours m offs idx w w′ st st′ o o′ r → r ≢ 0
+  pub all-neighbours-refused : (off ix : List ℕ) {w w′ st st′ o o′ : List ℕ} {r : ℕ} → AllNeighbours m off ix w w′ st st′ o o′ r → r ≢ 0
       → AllRefused w w′ st st′ o o′ r
   pub ends-refused : (s : ℕ) (points : List Float) {w w′ o o′ : List ℕ} {r : ℕ} → EndsOfPaths m s points w w′ o o′ r → r ≢ 0
       → SliceRefused EMPTY w w′ r × SliceRefused EMPTY o o′ r
@@ -227,13 +227,13 @@ pub record Demand2 (m : Mesh) : Type 0 where
   pub walk-answers : (s : ℕ) {w w′ o o′ : List ℕ} {k e r : ℕ} → Walk m s w w′ o o′ k e r → (r ≡ 0) ↔ QueryAllowed m w (s < siteCount (m .sites))
   pub neighbours-answers : (s : ℕ) {w w′ o o′ : List ℕ} {k e r : ℕ} → Neighbours m s w w′ o o′ k e r
       → (r ≡ 0) ↔ QueryAllowed m w (s < siteCount (m .sites))
-  pub clipped-answers : (offs idx : List ℕ) (s : ℕ) {w w′ o o′ : List ℕ} {k e r : ℕ} → ClippedNeighbours m offs idx s w w′ o o′ k e r
-      → (r ≡ 0) ↔ QueryAllowed m w ((s < siteCount (m .sites)) × CellsOf offs idx (siteCount (m .sites)))
+  pub clipped-answers : (off ix : List ℕ) (s : ℕ) {w w′ o o′ : List ℕ} {k e r : ℕ} → ClippedNeighbours m off ix s w w′ o o′ k e r
+      → (r ≡ 0) ↔ QueryAllowed m w ((s < siteCount (m .sites)) × CellsOf off ix (siteCount (m .sites)))
   pub path-answers : (s : ℕ) (p : Point) {w w′ o o′ : List ℕ} {k e r : ℕ} → Path m s p w w′ o o′ k e r
       → (r ≡ 0) ↔ QueryAllowed m w ((s < siteCount (m .sites)) × (okSite p ≡ true))
   -- so do the calls for all gauges at once: room for starts and lists and sound cells where they are lent; an even list of points, room for their ends, a site, sound points
-  pub all-neighbours-answers : (offs idx : List ℕ) {w w′ st st′ o o′ : List ℕ} {r : ℕ} → AllNeighbours m offs idx w w′ st st′ o o′ r
-      → (r ≡ 0) ↔ QueryAllowed m w ((siteCount (m .sites) < length st) × (length (m .triangles) + length (m .hull) ≤ length o) × CellsLent offs idx (siteCount (m .sites)))
+  pub all-neighbours-answers : (off ix : List ℕ) {w w′ st st′ o o′ : List ℕ} {r : ℕ} → AllNeighbours m off ix w w′ st st′ o o′ r
+      → (r ≡ 0) ↔ QueryAllowed m w ((siteCount (m .sites) < length st) × (length (m .triangles) + length (m .hull) ≤ length o) × CellsLent off ix (siteCount (m .sites)))
   pub ends-answers : (s : ℕ) (points : List Float) {w w′ o o′ : List ℕ} {r : ℕ} → EndsOfPaths m s points w w′ o o′ r
       → (r ≡ 0) ↔ QueryAllowed m w ((length points % 2 ≡ 0) × (length points / 2 ≤ length o) × (s < siteCount (m .sites)) × PointsKept points)
   pub shared-edge-answers : (a b : ℕ) {w w′ : List ℕ} {e r : ℕ} → SharedEdge m a b w w′ e r → (r ≡ 0) ↔ QueryAllowed m w (Unit {0})
@@ -250,8 +250,8 @@ pub record Demand2 (m : Mesh) : Type 0 where
   pub walk : (s : ℕ) {w w′ o o′ : List ℕ} {k : ℕ} → Walk m s w w′ o o′ k 1 0 → take k o′ ≡ wholeOf (m .halfedges) (getD (tableOf m) s 0)
   -- so are neighbours, before clipping and after it
   pub neighbours : (s : ℕ) {w w′ o o′ : List ℕ} {k : ℕ} → Neighbours m s w w′ o o′ k 1 0 → take k o′ ≡ nextTo m s
-  pub clipped-neighbours : (offs idx : List ℕ) (s : ℕ) {w w′ o o′ : List ℕ} {k : ℕ} → ClippedNeighbours m offs idx s w w′ o o′ k 1 0
-      → take k o′ ≡ clippedNeighboursOf (m .triangles) (m .halfedges) (tableOf m) offs idx s
+  pub clipped-neighbours : (off ix : List ℕ) (s : ℕ) {w w′ o o′ : List ℕ} {k : ℕ} → ClippedNeighbours m off ix s w w′ o o′ k 1 0
+      → take k o′ ≡ clippedNeighboursOf (m .triangles) (m .halfedges) (tableOf m) off ix s
   -- so is a path
   pub path : (s : ℕ) (p : Point) {w w′ o o′ : List ℕ} {k : ℕ} → Path m s p w w′ o o′ k 1 0
       → take k o′ ≡ wholePath (m .sites) (m .triangles) (m .halfedges) (tableOf m) p s
@@ -331,15 +331,15 @@ demand1 m = record {
   check = λ w r s new other. one-check m w new other r s;
   walk = λ s w o _ _ _ _ _ _ _ _ _ _. one-walk m s;
   neighbours = λ s w o _ _ _ _ _ _ _ _ _ _. one-neighbours m s;
-  clipped-neighbours = λ offs idx s w o _ _ _ _ _ _ _ _ _ _. one-clipped m offs idx s;
+  clipped-neighbours = λ off ix s w o _ _ _ _ _ _ _ _ _ _. one-clipped m off ix s;
   path = λ s p w o _ _ _ _ _ _ _ _ _ _. one-path m s p;
   shared-edge = λ a b w _ _ _ _ _ _. one-shared-edge;
-  cells-share-edge = λ offs idx a b _ _ _ _. one-cells-share-edge;
+  cells-share-edge = λ off ix a b _ _ _ _. one-cells-share-edge;
   build = λ g old _ _ _ _. one-build m g;
   cut = λ g old _ _ _ _ _ _. one-cut;
   why = λ g asked first second old _ _ _ _. one-why g asked first second;
-  cell = λ offs idx s _ _ _ _ _ _. one-cell offs idx s;
-  cell-part = λ offs idx s _ _ _ _. one-cell-part offs idx s;
+  cell = λ off ix s _ _ _ _ _ _. one-cell off ix s;
+  cell-part = λ off ix s _ _ _ _. one-cell-part off ix s;
   cell-wkb-bits = λ v off ix s out _ _ _ _ _ _. one-cell-wkb-bits off ix s out v;
   cell-wkb = λ v off ix s out _ _ _ _ _ _. one-cell-wkb off ix s out v;
   all-wkb = λ v off ix st out _ _ _ _ _ _ _ _. one-all-wkb v off ix st out;
@@ -355,14 +355,14 @@ demand1 m = record {
   grid-sites = λ grid old _ _ _ _. one-grid-sites grid;
   flip = λ sites hull a old _ _ _ _. one-flip sites hull a;
   areas = λ v off ix old _ _ _ _. one-areas v off ix old;
-  all-neighbours = λ offs idx w st o _ _ _ _ _ _ _ _. one-all-neighbours m offs idx;
+  all-neighbours = λ off ix w st o _ _ _ _ _ _ _ _. one-all-neighbours m off ix;
   ends = λ s points w o _ _ _ _ _ _. one-ends m s points;
   audit = λ g sites v off ix starts others bits _ _ _ _ _ _ _ _ _ _ _ _. one-audit g sites v off ix starts others bits;
   certify = λ g sites v off ix bits w _ _ _ _ _ _ _ _ _ _ _ _. one-certify g sites v off ix bits w;
   check-refused = λ a. work-refused m (a .work);
   walk-refused = λ s. list-refused;
   neighbours-refused = λ s. list-refused;
-  clipped-refused = λ offs idx s. list-refused;
+  clipped-refused = λ off ix s. list-refused;
   path-refused = λ s p. list-refused;
   shared-edge-refused = λ a b x. work-refused m (x .work);
   all-neighbours-refused = all-refused m;
@@ -380,9 +380,9 @@ demand2 m = record {
   check-answers = check-answers m _;
   walk-answers = λ s a. site-answers m _ s (a .number);
   neighbours-answers = λ s a. site-answers m _ s (a .number);
-  clipped-answers = λ offs idx s a. cells-answers m _ offs idx s (a .number);
+  clipped-answers = λ off ix s a. cells-answers m _ off ix s (a .number);
   path-answers = λ s p a. path-answers m _ s p (a .number);
-  all-neighbours-answers = λ offs idx {w} {w′} {st} {st′} {o} a. all-answers m w offs idx st o (a .number);
+  all-neighbours-answers = λ off ix {w} {w′} {st} {st′} {o} a. all-answers m w off ix st o (a .number);
   ends-answers = λ s points {w} {w′} {o} a. ends-answers m w s points o (a .number);
   shared-edge-answers = λ a b x. edge-answers m _ (x .number);
   by-size = size-fits;
@@ -391,7 +391,7 @@ demand2 m = record {
   build-leaves = λ g f. build-leaves m g f;
   walk = λ s. written;
   neighbours = λ s. written;
-  clipped-neighbours = λ offs idx s. written;
+  clipped-neighbours = λ off ix s. written;
   path = λ s p. written;
   dist2 = dist2-answer;
   circumcenter = circumcenter-answer;

@@ -6,7 +6,7 @@ use Rattle.base.specs.common.laws.Refusals.{finds-one}
 use Rattle.reasons.specs.declared.Question.{Question}
 use Rattle.printing.specs.One.{of-form-one}
 use Rattle.why.specs.line.ReasonLine.{reasonLine}
-use Rattle.why.specs.Printed.{WhyInBox, WhyPrints}
+use Rattle.why.specs.Printed.{WhyOfMesh, WhyPrints}
 
 pub prints-one : (q : Question) {s a b : List ℕ} → WhyPrints q s a → WhyPrints q s b → a ≡ b
-prints-one q x y = x .line ∙ ap reasonLine (of-form-one {Told = WhyInBox q} (λ m g r t p u. finds-one p u) (x .true) (y .true)) ∙ sym (y .line)
+prints-one q x y = x .line ∙ ap reasonLine (of-form-one {Told = WhyOfMesh q} (λ m g r t p u. finds-one p u) (x .true) (y .true)) ∙ sym (y .line)

@@ -15,12 +15,12 @@ use Rattle.printing.specs.OfForm.{OfForm}
 use Rattle.why.specs.line.ReasonLine.{reasonLine}
 
 -- there is room for every form
-abbrev pub WhyInBox : Question → Mesh → Given → Reason → Type 0
-WhyInBox q m g = ReasonFor m (Unit {0}) (boxRules (g .sound) ++ questionRules (siteCount (m .sites)) q) q (build m (g .bounds))
+abbrev pub WhyOfMesh : Question → Mesh → Given → Reason → Type 0
+WhyOfMesh q m g = ReasonFor m (Unit {0}) (boxRules (g .sound) ++ questionRules (siteCount (m .sites)) q) q (build m (g .bounds))
 
 -- the reason for the bytes of a form
 abbrev pub FormReason : Question → List ℕ → Reason → Type 0
-FormReason q = OfForm (WhyInBox q) Number
+FormReason q = OfForm (WhyOfMesh q) Number
 
 pub record WhyPrints (q : Question) (s text : List ℕ) : Type 0 where
   pub reason : Reason

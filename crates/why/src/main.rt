@@ -19,9 +19,9 @@ ghost use lib.ListN.{length, take};
 ghost use Rattle.plane.specs.given.Finite.{Fits};
 ghost use Rattle.mesh.specs.Accepted.{mesh};
 ghost use Rattle.form.specs.mesh.Read.{MeshSized};
-ghost use Rattle.why.specs.Printed.{WhyInBox, FormReason, WhyPrints};
+ghost use Rattle.why.specs.Printed.{WhyOfMesh, FormReason, WhyPrints};
 
-fn in_box(
+fn of_mesh(
     given: Given,
     sites: &[f64],
     triangles: &[u32],
@@ -30,7 +30,7 @@ fn in_box(
     q: Question,
 ) -> Reason
     requires { ⌜ MeshSized (length (now sites)) (length (now triangles)) (length (now hull)) × Fits given ⌝ }
-    ensures { λ r. ⌜ WhyInBox q (mesh (now (sites .entry)) (now (triangles .entry)) (now (halfedges .entry)) (now (hull .entry))) given r ⌝ }
+    ensures { λ r. ⌜ WhyOfMesh q (mesh (now (sites .entry)) (now (triangles .entry)) (now (halfedges .entry)) (now (hull .entry))) given r ⌝ }
 {
     let mut work = [0u32; form::SITES];
     let mut vertices = [0.0f64; printing::VERTICES];
@@ -75,7 +75,7 @@ fn of_form(bytes: &[u8], q: Question) -> Reason
     let n = read.coordinates;
     let k = read.links;
     let h = read.hull;
-    in_box(
+    of_mesh(
         given,
         &sites[..n],
         &triangles[..k],

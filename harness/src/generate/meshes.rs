@@ -245,7 +245,7 @@ fn move_sites(r: &mut Rng, sites: &mut [f64]) {
         }
         5 => sites.iter_mut().for_each(|x| *x = (*x * 4.0).round() / 4.0),
         6 => {
-            // On or beside the borders of the grid that the library hangs vertices by.
+            // On or beside the borders of the grid that the library inserts vertices by.
             let by = power(-32) + r.range(-1, 1) as f64 * power(-50);
             sites.iter_mut().for_each(|x| *x = (*x * 4.0).round() / 4.0 + by);
         }

@@ -25,7 +25,7 @@ fn plan(bounding_box: BoundingBox, sites: Vec<Point>, to: Point, out: &mut impl 
     writeln!(out, "{:?}", voronoi.cell(0).iter_path(to).collect::<Vec<usize>>())
 }
 
-/// A line of four numbers is a box, its centre and size, and begins a set; a line of two is a gauge.
+/// A line of four numbers is a box, its center and size, and begins a set; a line of two is a gauge.
 fn main() -> std::io::Result<()> {
     let text = std::fs::read_to_string(std::env::args().nth(1).expect("the file of gauges"))?;
     let mut lines = text.lines().map(|l| l.split(',').map(|w| w.parse().expect(l)).collect::<Vec<f64>>()).peekable();

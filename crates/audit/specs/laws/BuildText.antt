@@ -25,13 +25,13 @@ use Rattle.definition.specs.Cell.{unmarked}
 use Rattle.definition.specs.Measures.{Room}
 use Rattle.build_laws.specs.LateRefusals.{build-late}
 use Rattle.build_laws.specs.laws.Runs.{ok-same}
-use Rattle.building.specs.answers.Promise.{BuildAnswer, ClippedBuild}
-use Rattle.building.specs.answers.Success.{zero-succeeds, clipped-sound}
+use Rattle.building.specs.answers.Promise.{BuildAnswer, Build}
+use Rattle.building.specs.answers.Success.{zero-succeeds, build-sound}
 use Rattle.audit.specs.turns.Turned.{TrianglesKept}
 use Rattle.form.specs.mesh.Read.{MeshSized}
 use Rattle.printing.specs.Rooms.{vertexRoom, indexRoom}
-use Rattle.printing.specs.Printed.{InBox, shown}
-use Rattle.printing.specs.laws.BuildText.{ProgramSlices, whole, text-in-box}
+use Rattle.printing.specs.Printed.{OfMesh, shown}
+use Rattle.printing.specs.laws.BuildText.{ProgramSlices, whole, text-of-mesh}
 use Rattle.printing.specs.laws.BuiltSlices.{cellsOf, offsetsAfter, indexesAfter, verticesAfter, offsets-are, indexes-are, vertices-are, counts-are, cells-are}
 use Rattle.audit.specs.Printed.{auditText}
 use Rattle.audit.specs.Shown.{UsedParts, cutTold}
@@ -86,7 +86,7 @@ module _ {Rules : ℕ → Type 0} {table : List ℕ} {o : Outcome Fault Built} {
 
 -- ---- a build on lists within the form's limits, with slices of these lengths
 module _ (m : Mesh) (sized : MeshSized (length (m .sites)) (length (m .triangles)) (length (m .hull))) (old new : Slices) (long : ProgramSlices old) (r : ℕ)
-    (g : Given) (fits : Fits g) (a : ClippedBuild m g old new r) where
+    (g : Given) (fits : Fits g) (a : Build m g old new r) where
   abbrev n : ℕ
   n = siteCount (m .sites)
 
@@ -100,7 +100,7 @@ module _ (m : Mesh) (sized : MeshSized (length (m .sites)) (length (m .triangles
     -- each entry of a clipped cell is a vertex (`room` of build_laws/specs/Theorems)
     room : Room (m .triangles) (m .hull) (g .bounds) b
     room =
-        let s = clipped-sound g fits a z in
+        let s = build-sound g fits a z in
         subst (Room (m .triangles) (m .hull) (g .bounds)) (ok-same (sym (s .outcome .is) ∙ e)) (s .fits)
 
     pub text-is : cutTold (g .bounds) (m .sites) (m .triangles) (new .vertices) (new .offsets) (new .indexes) (new .counts) ≡ auditText m g b
@@ -127,9 +127,9 @@ module _ (m : Mesh) (sized : MeshSized (length (m .sites)) (length (m .triangles
           });
         }
 
-  pub cut-in-box : length (new .vertices) ≡ vertexRoom → length (new .indexes) ≡ indexRoom → r ≡ 0
+  pub cut-of-mesh : length (new .vertices) ≡ vertexRoom → length (new .indexes) ≡ indexRoom → r ≡ 0
       → UsedParts (g .bounds) (m .sites) (m .triangles) (new .vertices) (new .offsets) (new .indexes) (new .counts)
-  cut-in-box wide short z = let o = zero-succeeds (box-answers (g .sound)) (build-late m (g .bounds)) a z .outcome in cut-ready (o .value) (o .is) z wide short
+  cut-of-mesh wide short z = let o = zero-succeeds (box-answers (g .sound)) (build-late m (g .bounds)) a z .outcome in cut-ready (o .value) (o .is) z wide short
 
-  pub lines-in-box : InBox auditText m g (shown (cutTold (g .bounds) (m .sites) (m .triangles) (new .vertices) (new .offsets) (new .indexes) (new .counts)) r)
-  lines-in-box = text-in-box m sized old long g a auditText _ (λ b e z. text-is b e z)
+  pub lines-of-mesh : OfMesh auditText m g (shown (cutTold (g .bounds) (m .sites) (m .triangles) (new .vertices) (new .offsets) (new .indexes) (new .counts)) r)
+  lines-of-mesh = text-of-mesh m sized old long g a auditText _ (λ b e z. text-is b e z)

@@ -1,6 +1,6 @@
 -- Laws that only proofs use.
 pub mod Twins
 pub mod Equal
-pub mod Hanging
+pub mod Inserting
 pub mod Passing
 pub mod Blocks

@@ -158,17 +158,17 @@ module _ (P : Point → Type 0) where
           (λ e. extends (suc i) k _ (add nc (x .verts) p h (from-finite p e)))
           (λ e. tt)
 
-  module _ (from-centre : (p : Point) → okCenter p ≡ true → P p) (sites : List Float) (tri : List ℕ) where
-    centres : (t k : ℕ) (vs : List Point) → Each vs → Gives Each (centersFrom sites tri t k vs)
+  module _ (from-center : (p : Point) → okCenter p ≡ true → P p) (sites : List Float) (tri : List ℕ) where
+    centers : (t k : ℕ) (vs : List Point) → Each vs → Gives Each (centersFrom sites tri t k vs)
     unfolding centersFrom
-    centres t zero vs h = h
-    centres t (suc k) vs h =
+    centers t zero vs h = h
+    centers t (suc k) vs h =
         let c = centerAt sites tri t in
-        picked (Gives Each) (okCenter c) _ _ (λ e. centres (suc t) k _ (each-append vs (c ∷ []) h (from-centre c e, tt))) (λ e. tt)
+        picked (Gives Each) (okCenter c) _ _ (λ e. centers (suc t) k _ (each-append vs (c ∷ []) h (from-center c e, tt))) (λ e. tt)
 
   -- what the four kinds of vertices have
   pub record Kinds (b : BoundingBox) : Type 0 where
-    pub of-centre : (p : Point) → okCenter p ≡ true → P p
+    pub of-center : (p : Point) → okCenter p ≡ true → P p
     pub of-finite : (p : Point) → (finite (p .x) && finite (p .y)) ≡ true → P p
     pub on-box : (p d : Point) → OfCrossing (rayOf b p d)
     pub of-corners : Each (cornersOf b)
@@ -180,7 +180,7 @@ module _ (P : Point → Type 0) where
         let n = siteCount (m .sites) in
         let nc = length (m .triangles) / 3 in
         let left = leftmostOf (m .triangles) (m .halfedges) n in
-        gives-then Each _ (centersFrom (m .sites) (m .triangles) 0 nc []) _ (centres (k .of-centre) (m .sites) (m .triangles) 0 nc [] tt) λ c hc.
+        gives-then Each _ (centersFrom (m .sites) (m .triangles) 0 nc []) _ (centers (k .of-center) (m .sites) (m .triangles) 0 nc [] tt) λ c hc.
         gives-then (λ (y : Extensions). Each (y .verts)) _ (extendFrom (m .sites) (m .triangles) (m .hull) left nc 0 (length (m .hull)) (extensions (c ++ cornersOf b) [] [])) _
         (extends b (k .on-box) nc (k .of-finite) (m .sites) (m .triangles) (m .hull) left 0 (length (m .hull)) _ (each-append c (cornersOf b) hc (k .of-corners))) λ x hx.
         gives-then (λ (s : CellState). Each (s .verts)) _ (clipAll b nc (m .triangles) (m .halfedges) (m .hull) left n _ x) _
@@ -209,7 +209,7 @@ pub vertices-finite : {b : BoundingBox} → BoundedBox 101 b → (m : Mesh) → 
 unfolding cornersOf
 vertices-finite {b} h =
     all-vertices FinitePoint b (record {
-      of-centre = λ p e. finite-both p 400 (center-bounded p e .x) (center-bounded p e .y);
+      of-center = λ p e. finite-both p 400 (center-bounded p e .x) (center-bounded p e .y);
       of-finite = λ p e. e;
       on-box = λ p d. crossing-finite 101 (rayOf b p d) (ray-bounded h p d);
       of-corners = (

@@ -7,7 +7,7 @@ use Rattle.mesh.specs.Accepted.{Mesh, mesh}
 use Rattle.admission.specs.Slices.{Slices, slices}
 use Rattle.admission.specs.Admission.{BuildAdmission}
 use Rattle.building.specs.answers.laws.BuildAnswer.{table-fits, nine-of}
-use Rattle.building.specs.answers.laws.ClippedBuild.{clipped-early, clipped-asks, count-fits, reused-fit, clipped-built}
+use Rattle.building.specs.answers.laws.Build.{build-early, build-asks, count-fits, reused-fit, build-built}
 use borrow.Author.Needs.{needs}
 use Rattle.building.proofs.build.Tie as tie
 use Rattle.building.proofs.build.Statement.{statement}
@@ -49,7 +49,7 @@ admits a = a .admit-build .ensures
 returns : tie.Need-returns
 returns c =
     let a = Admit (c .before) in
-    clipped-early (admits a) (Begin a .args .given) (Asked a .ask-box .ensures) (c .if1 .taken)
+    build-early (admits a) (Begin a .args .given) (Asked a .ask-box .ensures) (c .if1 .taken)
 
 slice-reshare-prefix-build-cells : tie.Need-slice-reshare-prefix-build-cells
 slice-reshare-prefix-build-cells c = table-fits (admits (Admit (c .before))) (c .if1 .left)
@@ -61,10 +61,10 @@ build-cells-requires : tie.Need-build-cells-requires
 build-cells-requires c κs =
     let e = c .before .before .before .before in
     let a = Admit (e .before) in
-    clipped-asks (admits a) (Begin a .args .given) (Asked a .ask-box .ensures) (Begin a .pre) (e .if1 .left)
+    build-asks (admits a) (Begin a .args .given) (Asked a .ask-box .ensures) (Begin a .pre) (e .if1 .left)
 
-finish-clipped-requires : tie.Need-finish-clipped-requires
-finish-clipped-requires c κs =
+finish-build-requires : tie.Need-finish-build-requires
+finish-build-requires c κs =
     let m = Made (c .before .before .before) in
     let e = Accepts m in
     let a = Admit (e .before) in (
@@ -98,13 +98,13 @@ returns-2 c =
     let e = Accepts m in
     let a = Admit (e .before) in
     let b = m .build-cells .ensures in
-    let f = c .before .before .before .before .finish-clipped .ensures in
-    clipped-built (admits a) (Begin a .args .given) (Asked a .ask-box .ensures) (Begin a .pre) (e .if1 .left) (m .build-cells .result) (b .0) (b .1) f
+    let f = c .before .before .before .before .finish-build .ensures in
+    build-built (admits a) (Begin a .args .given) (Asked a .ask-box .ensures) (Begin a .pre) (e .if1 .left) (m .build-cells .result) (b .0) (b .1) f
 
 pub build-spec : {M : Type 1} → statement M
 build-spec =
     tie.close
     (tie.spec (λ c κs. search needs) (λ c κs. search needs) (λ c. search needs) (λ c. search needs) (λ c. search needs)
     (λ c. search needs) (λ c. search needs) returns slice-reshare-prefix-build-cells
-    slice-aggregate-build-cells build-cells-requires finish-clipped-requires same-length-6 same-length-7
+    slice-aggregate-build-cells build-cells-requires finish-build-requires same-length-6 same-length-7
     same-length-8 same-length-9 same-length-10 returns-2)

@@ -42,5 +42,5 @@ module _ (m : Mesh) where
   BuildAnswers own o old = BuildAnswer (Builds m (roomOf m old) own o) (tableOf m) o old
 
   -- clipped to the given box
-  abbrev pub ClippedBuild : Given → Slices → Slices → ℕ → Type 0
-  ClippedBuild g old = BuildAnswer (Builds m (roomOf m old) (boxRules (g .sound)) (build m (g .bounds))) (tableOf m) (build m (g .bounds)) old
+  abbrev pub Build : Given → Slices → Slices → ℕ → Type 0
+  Build g old = BuildAnswer (Builds m (roomOf m old) (boxRules (g .sound)) (build m (g .bounds))) (tableOf m) (build m (g .bounds)) old

@@ -20,7 +20,7 @@ use Rattle.definition.specs.Measures.{Room}
 use Rattle.build_laws.specs.Theorems.{wrapping, room}
 use Rattle.build_laws.specs.Wrapping.{Wrapping}
 use Rattle.cell_memory.specs.outputs.Outputs.{faultOf}
-use Rattle.building.specs.answers.Promise.{BuildAnswers, ClippedBuild}
+use Rattle.building.specs.answers.Promise.{BuildAnswers, Build}
 use Rattle.building.specs.answers.laws.Promise.{built, builds-one, builds-cases}
 use Rattle.build_laws.specs.Late.{Refuses, Numbered}
 use Rattle.build_laws.specs.LateRefusals.{build-late}
@@ -58,8 +58,8 @@ pub record SoundBuild (m : Mesh) (b : BoundingBox) : Type 0 where
   pub wraps : Wrapping m b (outcome .value)
   pub fits : Room (m .triangles) (m .hull) b (outcome .value)
 
-pub clipped-sound : {m : Mesh} (g : Given) → Fits g → {old new : Slices} {r : ℕ} → ClippedBuild m g old new r → r ≡ 0 → SoundBuild m (g .bounds)
-clipped-sound {m} g fits a z =
+pub build-sound : {m : Mesh} (g : Given) → Fits g → {old new : Slices} {r : ℕ} → Build m g old new r → r ≡ 0 → SoundBuild m (g .bounds)
+build-sound {m} g fits a z =
     let s = zero-succeeds (box-answers (g .sound)) (build-late m (g .bounds)) a z in
     let box = fits .bounded (s .admission .fit .0) in
     record { outcome = s .outcome; wraps = wrapping (s .admission .accepted) box (s .outcome .is); fits = room (s .admission .accepted) box (s .outcome .is) }

@@ -1,5 +1,5 @@
 -- Laws that only proofs use.
 pub mod Promise
 pub mod BuildAnswer
-pub mod ClippedBuild
+pub mod Build
 pub mod Left

@@ -37,7 +37,7 @@ use Rattle.definition.specs.Cell.{unmarked}
 use Rattle.definition.specs.Short.{fault, extensions}
 use Rattle.cell_builder.specs.declared.finish.Progress.{Progress}
 use Rattle.cell_builder.specs.declared.finish.CellsAnswer.{CellsAnswer}
-use Rattle.cell_builder.specs.tried.CellsInSlices.{ground}
+use Rattle.cell_builder.specs.tried.SlicesInvariant.{ground}
 use Rattle.cell_builder.specs.turned.Loops.{LateAmid, DoesLate}
 use Rattle.cell_builder.specs.placed.Placed.{CellsReady}
 use Rattle.cell_builder.specs.laws.LateCells.{late-width, late-placeable, late-placed}

@@ -40,7 +40,7 @@ use Rattle.definition.specs.Cell.{unmarked}
 use Rattle.definition.specs.Short.{fault, extensions, cellState}
 use Rattle.cell_builder.specs.declared.tried.Frame.{Frame}
 use Rattle.cell_builder.specs.declared.finish.Progress.{Progress}
-use Rattle.cell_builder.specs.tried.CellsInSlices.{Plan, plan, ground, frameOf, Grounded, Amid}
+use Rattle.cell_builder.specs.tried.SlicesInvariant.{Plan, plan, ground, frameOf, Grounded, Amid}
 use Rattle.cell_builder.specs.turned.Loops.{HullsAmid, AllTried}
 use Rattle.cell_builder.specs.AdmittedBuild.{AdmittedBuild}
 use Rattle.cell_builder.specs.Start.{extendedOf, Extendable, Begun, BegunBy, Makeable, planOf, Makes}

@@ -11,7 +11,7 @@ use Rattle.definition.specs.Cell.{unmarked}
 use Rattle.definition.specs.Build.{CellState}
 use Rattle.cell_builder.specs.declared.finish.Progress.{Progress}
 use Rattle.cell_builder.specs.declared.tried.Frame.{Frame}
-use Rattle.cell_builder.specs.tried.CellsInSlices.{plan, Ground}
+use Rattle.cell_builder.specs.tried.SlicesInvariant.{plan, Ground}
 use Rattle.cell_builder.specs.tried.laws.OneTry.{last-start}
 use Rattle.cell_builder.specs.turned.Loops.{LateAmid}
 use Rattle.cell_builder.specs.turned.laws.Onward.{onward}

@@ -11,7 +11,7 @@ use Rattle.definition.specs.declared.Fault.{Fault}
 use Rattle.definition.specs.Fault.{Outcome, ok, refused, andThen}
 use Rattle.definition.specs.Build.{CellState, clipHull, clipRest}
 use Rattle.cell_builder.specs.declared.finish.Progress.{Progress}
-use Rattle.cell_builder.specs.tried.CellsInSlices.{Plan, Ground, Amid, Does, AtRest}
+use Rattle.cell_builder.specs.tried.SlicesInvariant.{Plan, Ground, Amid, Does, AtRest}
 use Rattle.cell_builder.specs.tried.laws.Early.{earlyCell}
 use Rattle.cell_builder.specs.turned.Marks.{Covers, MadeLast, LeftOut}
 use Rattle.cell_builder.specs.turned.Turns.{HullsMarked, SettledBefore}

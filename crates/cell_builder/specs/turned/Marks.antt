@@ -14,7 +14,7 @@ use Rattle.mesh.specs.Mesh.{pairOf, wholeOf}
 use Rattle.definition.specs.Cell.{inBox}
 use Rattle.definition.specs.Build.{CellState}
 use Rattle.cell_builder.specs.tried.laws.Early.{earlyCell}
-use Rattle.cell_builder.specs.tried.CellsInSlices.{Plan, Ground}
+use Rattle.cell_builder.specs.tried.SlicesInvariant.{Plan, Ground}
 
 -- the mark on the eight triangles of which one has half-edge e
 abbrev pub markOf : List ℕ → ℕ → ℕ

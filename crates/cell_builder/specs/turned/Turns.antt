@@ -13,7 +13,7 @@ use Rattle.definition.specs.Build.{CellState, isEmpty}
 use Rattle.definition.specs.laws.Gives.{Gives}
 use Rattle.cell_builder.specs.turned.laws.IdleSites.{IdleSite}
 use Rattle.cell_builder.specs.turned.Marks.{markOf, WalkMarked}
-use Rattle.cell_builder.specs.tried.CellsInSlices.{Plan, Ground, edgeTry}
+use Rattle.cell_builder.specs.tried.SlicesInvariant.{Plan, Ground, edgeTry}
 
 -- whether half-edge e is to be tried: its site's table entry has not come by; or it has and is unpaired
 unfoldable pub dueOf : List ℕ → List ℕ → List ℕ → ℕ → Bool

@@ -19,7 +19,7 @@ ghost use mathlib.Core.List.{List};
 ghost use Prim.Native.Nat.{ℕ, _<_};
 ghost use lib.ListN.{length};
 ghost use Rattle.definition.specs.Reused.{Addable};
-ghost use Rattle.cell_builder.specs.tried.CellsInSlices.{plan, HullAmid, EdgesAmid, HullTried, EdgeTried};
+ghost use Rattle.cell_builder.specs.tried.SlicesInvariant.{plan, HullAmid, EdgesAmid, HullTried, EdgeTried};
 ghost use Rattle.cell_builder.specs.tried.Tries.{progressOf, Ringed, Tried};
 
 // How far the build is after a ring, where `reused` points had been taken again before it.

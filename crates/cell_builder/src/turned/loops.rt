@@ -10,7 +10,7 @@ ghost use mathlib.Core.Path.{_≡_};
 ghost use mathlib.Core.List.{List};
 ghost use Prim.Native.Nat.{ℕ};
 ghost use lib.ListN.{length};
-ghost use Rattle.cell_builder.specs.tried.CellsInSlices.{plan};
+ghost use Rattle.cell_builder.specs.tried.SlicesInvariant.{plan};
 ghost use Rattle.cell_builder.specs.turned.Loops.{HullsAmid, RestAmid, HullsTried, RestTried, AllTried};
 
 // The cells of all hull sites.

@@ -15,14 +15,14 @@ use Rattle.definition.specs.Build.{Built}
 use Rattle.definition.specs.Cell.{StepKind, extension, firstCrossing, secondCrossing}
 use Rattle.definition.specs.Reused.{reusedOf}
 use Rattle.build_laws.specs.LateRefusals.{build-late}
-use Rattle.building.specs.answers.Promise.{BuildAnswer, ClippedBuild}
+use Rattle.building.specs.answers.Promise.{BuildAnswer, Build}
 use Rattle.building.specs.answers.Success.{zero-succeeds}
 use Rattle.form.specs.Limits.{mostSites}
 use Rattle.form.specs.mesh.Read.{MeshSized}
-use Rattle.printing.specs.Printed.{InBox, shown}
+use Rattle.printing.specs.Printed.{OfMesh, shown}
 use Rattle.printing.specs.Rooms.{indexRoom}
 use Rattle.printing.specs.laws.WholeBuild.{Whole}
-use Rattle.printing.specs.laws.BuildText.{ProgramSlices, whole, text-in-box}
+use Rattle.printing.specs.laws.BuildText.{ProgramSlices, whole, text-of-mesh}
 use Rattle.printing.specs.laws.BuiltSlices.{cellsOf, offsetsAfter, indexesAfter, countsAfter, offsets-are, indexes-are, counts-are, cells-are}
 use Rattle.cells.specs.listing.Listing.{countsAndCells, listing, cellLines}
 use Rattle.cells.specs.Printed.{linesOf, listingOf, listingText}
@@ -65,11 +65,11 @@ module _ {Rules : ℕ → Type 0} {table : List ℕ} {o : Outcome Fault Built} {
 
 -- ---- a build on lists within the form's limits, with slices of a program's lengths
 module _ (m : Mesh) (sized : MeshSized (length (m .sites)) (length (m .triangles)) (length (m .hull))) (old new : Slices) (long : ProgramSlices old) (r : ℕ)
-    (g : Given) (a : ClippedBuild m g old new r) where
-  pub laid-in-box : (space : ℕ) → 65536 ≤ space → length (new .indexes) ≡ indexRoom → r ≡ 0 → Laid (siteCount (m .sites)) (new .offsets) (new .indexes) space
-  laid-in-box space room short z =
+    (g : Given) (a : Build m g old new r) where
+  pub laid-of-mesh : (space : ℕ) → 65536 ≤ space → length (new .indexes) ≡ indexRoom → r ≡ 0 → Laid (siteCount (m .sites)) (new .offsets) (new .indexes) space
+  laid-of-mesh space room short z =
       let b = zero-succeeds (box-answers (g .sound)) (build-late m (g .bounds)) a z .outcome in
       laid-out a (b .value) (whole m sized old long g a (b .value) (b .is)) (b .is) z space (omega (arith, sized .few-sites)) short room
 
-  pub listing-in-box : InBox listingText m g (shown (boxLines (siteCount (m .sites)) (length (m .triangles) / 3) (new .offsets) (new .indexes) (new .counts)) r)
-  listing-in-box = text-in-box m sized old long g a listingText _ (λ b e z. box-lines a b (whole m sized old long g a b e) e z (length (m .triangles) / 3))
+  pub listing-of-mesh : OfMesh listingText m g (shown (boxLines (siteCount (m .sites)) (length (m .triangles) / 3) (new .offsets) (new .indexes) (new .counts)) r)
+  listing-of-mesh = text-of-mesh m sized old long g a listingText _ (λ b e z. box-lines a b (whole m sized old long g a b e) e z (length (m .triangles) / 3))

@@ -14,7 +14,7 @@ use Rattle.auditing.specs.nearer.Nearer.{siteNearer}
 use Rattle.auditing.specs.nearer.Steps.{PiecesKept}
 use Rattle.certifying.specs.nearer.Safe.{NearSafe}
 use Rattle.certifying.specs.sides.Sides.{endsOf, sideCount}
-use Rattle.certifying.specs.sides.Chains.{laidEnds, HungTo}
+use Rattle.certifying.specs.sides.Chains.{laidEnds, ChainedTo}
 use Rattle.certifying.specs.rules.Rules.{certifyRoom}
 use Rattle.certifying.specs.call.Verdict.{certifyOn, certifyKind, certifySite, certifyVertex, certifyOther}
 use Rattle.certifying.specs.declared.call.CertifyVerdict.{CertifyVerdict}
@@ -26,11 +26,11 @@ pub record JudgeSafe (b : BoundingBox) (bits : ℕ) (sites v : List Float) (off 
   pub room : certifyRoom (length sites) (length ix) ≤ length work
   pub near : NearSafe sites v off ix work
 
--- the sides of all rings hang in the work
-pub record SidesHung (v : List Float) (off ix : List ℕ) (n : ℕ) (work : List ℕ) : Type 0 where
+-- the sides of all rings are chained in the work
+pub record SidesChained (v : List Float) (off ix : List ℕ) (n : ℕ) (work : List ℕ) : Type 0 where
   pub count : n ≡ sideCount off
   pub ends : laidEnds work n ≡ endsOf off ix
-  pub hung : HungTo v ix (laidEnds work n) n n work
+  pub chained : ChainedTo v ix (laidEnds work n) n n work
 
 -- entry e is of a ring
 pub record SideNamed (sites : List Float) (off ix : List ℕ) (e : ℕ) : Type 0 where

@@ -1,5 +1,5 @@
--- How the sides hang in slots by the two places between which they run, in three words of work to an entry k: the last side of slot k, as one more than its entry, or 0; the one before
--- side k in its slot, in the same way; the vertex where side k ends. What the inner functions promise.
+-- How the sides are chained in buckets by the two places between which they run, in three words of work to an entry k: the last side of bucket k, as one more than its entry, or 0; the one before
+-- side k in its bucket, in the same way; the vertex where side k ends. What the inner functions promise.
 use mathlib.Core.Path.{_≡_}
 use mathlib.Core.Bool.{true, false, _&&_}
 use mathlib.Core.List.{List, [], _∷_}
@@ -16,19 +16,19 @@ use Rattle.walks.specs.shared.Cells.{Cells}
 use Rattle.arguments.specs.entries.Named.{EntriesNamed}
 use Rattle.areas.specs.Promise.{entriesOfAll}
 use Rattle.auditing.specs.places.Places.{sameOf}
-use Rattle.auditing.specs.places.Slots.{LastIn}
+use Rattle.auditing.specs.places.Buckets.{LastIn}
 use Rattle.certifying.specs.sides.Sides.{ringEnds, endsOf, sideCount, runsAt, howMany, moreOf, surplusAt}
 
--- ---- the slot of two places, of n; the same both ways. -0 + 0 is 0
+-- ---- the bucket of two places, of n; the same both ways. -0 + 0 is 0
 unfoldable pub placeNumber : Point → ℕ
 placeNumber p = toBits binary64 (p .x ⊞ B.zero) % 2654435761 + toBits binary64 (p .y ⊞ B.zero) % 3266489917
 
-unfoldable pub sideSlot : ℕ → Point → Point → ℕ
-sideSlot n p q = (placeNumber p + placeNumber q) % n
+unfoldable pub sideBucket : ℕ → Point → Point → ℕ
+sideBucket n p q = (placeNumber p + placeNumber q) % n
 
 -- of side k
-abbrev pub slotAt : List Float → List ℕ → List ℕ → ℕ → ℕ → ℕ
-slotAt v ix to n k = sideSlot n (pointAt v (getD ix k 0)) (pointAt v (getD to k 0))
+abbrev pub bucketAt : List Float → List ℕ → List ℕ → ℕ → ℕ → ℕ
+bucketAt v ix to n k = sideBucket n (pointAt v (getD ix k 0)) (pointAt v (getD to k 0))
 
 -- the ends that lie in the work w: of n sides from i on, of n
 unfoldable pub laidFrom : List ℕ → ℕ → ℕ → List ℕ
@@ -55,22 +55,22 @@ pub record SidesIn (v : List Float) (ix to : List ℕ) (n : ℕ) (w : List ℕ) 
   pub to-named : (k : ℕ) → k < n → getD to k 0 < length v / 2
   pub ends : (k : ℕ) → k < n → getD w (3 * k + 2) 0 ≡ getD to k 0
 
--- the first m of n hang
-pub record HungIn (slot : ℕ → ℕ) (n m : ℕ) (w : List ℕ) : Type 0 where
-  pub lasts : (j : ℕ) → j < n → LastIn slot j m (getD w (3 * j) 0)
-  pub nexts : (k : ℕ) → k < m → LastIn slot (slot k) k (getD w (3 * k + 1) 0)
+-- the first m of n are chained
+pub record ChainedIn (bucket : ℕ → ℕ) (n m : ℕ) (w : List ℕ) : Type 0 where
+  pub lasts : (j : ℕ) → j < n → LastIn bucket j m (getD w (3 * j) 0)
+  pub nexts : (k : ℕ) → k < m → LastIn bucket (bucket k) k (getD w (3 * k + 1) 0)
 
--- all lie there, and the first m hang
-pub record HungTo (v : List Float) (ix to : List ℕ) (n m : ℕ) (w : List ℕ) : Type 0 where
+-- all lie there, and the first m are chained
+pub record ChainedTo (v : List Float) (ix to : List ℕ) (n m : ℕ) (w : List ℕ) : Type 0 where
   pub lie : SidesIn v ix to n w
-  pub hung : HungIn (slotAt v ix to n) n m w
+  pub chained : ChainedIn (bucketAt v ix to n) n m w
 
 -- how many run from p to q and how many back
 pub record WaysOf (v : List Float) (ix to : List ℕ) (n : ℕ) (p q : Point) (there back : ℕ) : Type 0 where
   pub there-is : there ≡ howMany (runsAt v ix to p q) n
   pub back-is : back ≡ howMany (runsAt v ix to q p) n
 
--- ---- slot by slot
+-- ---- bucket by bucket
 -- a side from a to c runs back, and not there, as one from p to q does
 pub record RunsBack (p q a c : Point) : Type 0 where
   pub back : (sameOf q a && sameOf p c) ≡ true
@@ -96,14 +96,14 @@ pub record Turned (ix w : List ℕ) (j k : ℕ) : Type 0 where
 abbrev pub TwoPairs : List ℕ → List ℕ → ℕ → ℕ → ℕ → ℕ → Type 0
 TwoPairs ix w i j k l = (Turned ix w i j × Turned ix w k l) ⊎ ((Turned ix w i k × Turned ix w j l) ⊎ (Turned ix w i l × Turned ix w j k))
 
--- of no side of slot m more run its way than back; for the second fault, none that is along an edge counts
+-- of no side of bucket m more run its way than back; for the second fault, none that is along an edge counts
 abbrev pub EvenIn : List Float → List ℕ → List ℕ → ℕ → ℕ → Type 0
-EvenIn v ix to n m = (k : ℕ) → k < n → slotAt v ix to n k ≡ m → moreOf v ix to n (pointAt v (getD ix k 0)) (pointAt v (getD to k 0)) ≡ false
+EvenIn v ix to n m = (k : ℕ) → k < n → bucketAt v ix to n k ≡ m → moreOf v ix to n (pointAt v (getD ix k 0)) (pointAt v (getD to k 0)) ≡ false
 
 abbrev pub FairIn : BoundingBox → List Float → List ℕ → List ℕ → ℕ → ℕ → Type 0
-FairIn b v ix to n m = (k : ℕ) → k < n → slotAt v ix to n k ≡ m → surplusAt b v ix to n k ≡ false
+FairIn b v ix to n m = (k : ℕ) → k < n → bucketAt v ix to n k ≡ m → surplusAt b v ix to n k ≡ false
 
--- ---- the first n ends of a ring laid from entry `base` on, with empty slots beside them
+-- ---- the first n ends of a ring laid from entry `base` on, with empty buckets beside them
 pub record RingLaid (base : ℕ) (cell : List ℕ) (n : ℕ) (old new : List ℕ) : Type 0 where
   pub most : n ≤ length cell
   pub long : length new ≡ length old
@@ -124,19 +124,19 @@ pub record LaidTo (off ix : List ℕ) (s : ℕ) (old w : List ℕ) : Type 0 wher
   pub ends : (k : ℕ) → k < getD off s 0 → getD w (3 * k + 2) 0 ≡ getD (endsOf off ix) k 0
   pub free : (k : ℕ) → k < getD off s 0 → getD w (3 * k) 0 ≡ 0
 
--- ---- one more hangs, and the ends are as they were
-pub record HungMore (v : List Float) (ix : List ℕ) (n m : ℕ) (old new : List ℕ) : Type 0 where
-  pub hung : HungTo v ix (laidEnds new n) n m new
+-- ---- one more is chained, and the ends are as they were
+pub record ChainedMore (v : List Float) (ix : List ℕ) (n m : ℕ) (old new : List ℕ) : Type 0 where
+  pub chained : ChainedTo v ix (laidEnds new n) n m new
   pub ends : laidEnds new n ≡ laidEnds old n
   pub long : length new ≡ length old
 
--- what hanging all asks, and what it leaves
-pub record HangSafe (v : List Float) (off ix : List ℕ) (n : ℕ) (w : List ℕ) : Type 0 where
+-- what inserting all asks, and what it leaves
+pub record InsertSafe (v : List Float) (off ix : List ℕ) (n : ℕ) (w : List ℕ) : Type 0 where
   pub lay : LaySafe off ix w
   pub count : n ≡ sideCount off
   pub named : EntriesNamed (entriesOfAll off ix) (length v / 2)
 
-pub record HangsAll (v : List Float) (off ix : List ℕ) (n : ℕ) (old new : List ℕ) : Type 0 where
-  pub hung : HungTo v ix (laidEnds new n) n n new
+pub record InsertsAll (v : List Float) (off ix : List ℕ) (n : ℕ) (old new : List ℕ) : Type 0 where
+  pub chained : ChainedTo v ix (laidEnds new n) n n new
   pub ends : laidEnds new n ≡ endsOf off ix
   pub long : length new ≡ length old

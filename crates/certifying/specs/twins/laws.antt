@@ -1,3 +1,3 @@
 -- Laws that only proofs use.
-pub mod Hanging
+pub mod Inserting
 pub mod Passing

@@ -7,6 +7,7 @@ use Prim.Native.Nat.{ℕ, _+_, _≤_, _<_}
 use lib.Ieee.{Float, nan, inf, fin, lt, le}
 use lib.ListN.{length, getD}
 use Rattle.base.specs.common.Binary64.{_⊞_, _⊟_, _⊠_, zero}
+use Rattle.base.specs.common.Pick.{pick}
 use Rattle.plane.specs.points.Flat.{pointAt}
 use Rattle.plane.specs.declared.points.Point.{Point}
 use Rattle.audit_truth.specs.Exact.{plusUnits, minusUnits}
@@ -24,6 +25,10 @@ NotMinus (fin s m e) = s ≡ false
 -- x is not above y, on whole numbers
 abbrev pub NotAbove : Float → Float → Type 0
 NotAbove x y = plusUnits x + minusUnits y ≤ minusUnits x + plusUnits y
+
+-- y where it is below x, else x
+unfoldable pub lesserOf : Float → Float → Float
+lesserOf x y = pick (lt y x) (λ _. y) (λ _. x)
 
 -- ---- the tests
 -- twice the square of the corners' reach from s along an axis

@@ -27,35 +27,35 @@ returns c =
     let h = line-held _ (omega (arith, begin w .pre)) (at-refusal .refusal .ensures) in
     (not-told (w .read .ensures) (test .if1 .taken) (h .first), h .within)
 
-slice-aggregate-in-box : tie.Need-slice-aggregate-in-box
-slice-aggregate-in-box c = let r = read c .read in sym (length-take-le _ _ (omega (arith, r .ensures .sized .few-sites, r .kept .1 .1 .0)))
+slice-aggregate-of-mesh : tie.Need-slice-aggregate-of-mesh
+slice-aggregate-of-mesh c = let r = read c .read in sym (length-take-le _ _ (omega (arith, r .ensures .sized .few-sites, r .kept .1 .1 .0)))
 
-slice-aggregate-in-box-2 : tie.Need-slice-aggregate-in-box-2
-slice-aggregate-in-box-2 c = let r = read (c .before) .read in sym (length-take-le _ _ (omega (arith, r .ensures .sized .few-triangles, r .kept .1 .1 .1 .0)))
+slice-aggregate-of-mesh-2 : tie.Need-slice-aggregate-of-mesh-2
+slice-aggregate-of-mesh-2 c = let r = read (c .before) .read in sym (length-take-le _ _ (omega (arith, r .ensures .sized .few-triangles, r .kept .1 .1 .1 .0)))
 
-slice-aggregate-in-box-3 : tie.Need-slice-aggregate-in-box-3
-slice-aggregate-in-box-3 c = let r = read (c .before .before) .read in sym (length-take-le _ _ (omega (arith, r .ensures .sized .few-triangles, r .kept .1 .1 .1 .1 .0)))
+slice-aggregate-of-mesh-3 : tie.Need-slice-aggregate-of-mesh-3
+slice-aggregate-of-mesh-3 c = let r = read (c .before .before) .read in sym (length-take-le _ _ (omega (arith, r .ensures .sized .few-triangles, r .kept .1 .1 .1 .1 .0)))
 
-slice-aggregate-in-box-4 : tie.Need-slice-aggregate-in-box-4
-slice-aggregate-in-box-4 c = let r = read (c .before .before .before) .read in sym (length-take-le _ _ (omega (arith, r .ensures .sized .few-on-hull, r .kept .1 .1 .1 .1 .1 .0)))
+slice-aggregate-of-mesh-4 : tie.Need-slice-aggregate-of-mesh-4
+slice-aggregate-of-mesh-4 c = let r = read (c .before .before .before) .read in sym (length-take-le _ _ (omega (arith, r .ensures .sized .few-on-hull, r .kept .1 .1 .1 .1 .1 .0)))
 
-in-box-requires : tie.Need-in-box-requires
-in-box-requires c κs =
+of-mesh-requires : tie.Need-of-mesh-requires
+of-mesh-requires c κs =
     let w = read (c .before .before .before) in
     let r = w .read .ensures in
     (parts-sized _ _ _ (r .sized), r .box, begin w .pre)
 
 returns-2 : tie.Need-returns-2
 returns-2 c =
-    let at-in-box = c .before .before in
-    let test = at-in-box .before .before .before .before .before .before .before in
+    let at-of-mesh = c .before .before in
+    let test = at-of-mesh .before .before .before .before .before .before .before in
     let w = test .before .before .before .before .before .before in
-    let h = at-in-box .in-box .ensures in
+    let h = at-of-mesh .of-mesh .ensures in
     (told (w .read .ensures) (test .if1 .left) (h .0), h .1)
 
 pub answer-spec : {M : Type 1} → statement M
 answer-spec =
     tie.close
     (tie.spec (λ c. search needs) (λ c. search needs) (λ c. search needs) (λ c. search needs) (λ c κs. search needs) refusal-requires (λ c. search needs) returns
-    (λ c. search needs) slice-aggregate-in-box (λ c. search needs) slice-aggregate-in-box-2 (λ c. search needs) slice-aggregate-in-box-3 (λ c. search needs) slice-aggregate-in-box-4
-    in-box-requires (λ c. search needs) returns-2)
+    (λ c. search needs) slice-aggregate-of-mesh (λ c. search needs) slice-aggregate-of-mesh-2 (λ c. search needs) slice-aggregate-of-mesh-3 (λ c. search needs) slice-aggregate-of-mesh-4
+    of-mesh-requires (λ c. search needs) returns-2)

@@ -18,16 +18,16 @@ use Rattle.definition.specs.Fault.{Outcome, ok}
 use Rattle.definition.specs.Build.{Built, build}
 use Rattle.definition.specs.Cell.{unmarked}
 use Rattle.build_laws.specs.LateRefusals.{build-late}
-use Rattle.building.specs.answers.Promise.{BuildAnswer, ClippedBuild}
-use Rattle.building.specs.answers.Success.{zero-succeeds, clipped-sound}
+use Rattle.building.specs.answers.Promise.{BuildAnswer, Build}
+use Rattle.building.specs.answers.Success.{zero-succeeds, build-sound}
 use Rattle.wkb.specs.Polygon.{patterns}
 use Rattle.wkb.specs.Promise.{image}
 use Rattle.form.specs.Limits.{mostSites}
 use Rattle.form.specs.mesh.Read.{MeshSized}
-use Rattle.printing.specs.Printed.{InBox, shown}
+use Rattle.printing.specs.Printed.{OfMesh, shown}
 use Rattle.printing.specs.Rooms.{vertexRoom, indexRoom}
 use Rattle.printing.specs.laws.WholeBuild.{Whole}
-use Rattle.printing.specs.laws.BuildText.{ProgramSlices, whole, text-in-box}
+use Rattle.printing.specs.laws.BuildText.{ProgramSlices, whole, text-of-mesh}
 use Rattle.printing.specs.laws.BuiltSlices.{cellsOf, offsetsAfter, indexesAfter, offsets-are, indexes-are, vertices-are, cells-are}
 use Rattle.export.specs.map_text.MapText.{heading, mapText}
 use Rattle.export.specs.Printed.{exportText, exported}
@@ -68,11 +68,11 @@ module _ {Rules : ℕ → Type 0} {table : List ℕ} {o : Outcome Fault Built} {
 
 -- ---- a build on lists within the form's limits, with slices of a program's lengths
 module _ (m : Mesh) (sized : MeshSized (length (m .sites)) (length (m .triangles)) (length (m .hull))) (old new : Slices) (long : ProgramSlices old) (r : ℕ)
-    (g : Given) (fits : Fits g) (a : ClippedBuild m g old new r) where
+    (g : Given) (fits : Fits g) (a : Build m g old new r) where
   -- each entry of a clipped cell is a vertex (`room` of build_laws/specs/Theorems)
   can : (b : Built) → build m (g .bounds) ≡ ok b → r ≡ 0 → Drawable b
   can b e z =
-      let s = clipped-sound g fits a z in
+      let s = build-sound g fits a z in
       let q : s .outcome .value ≡ b = ok-one (s .outcome .is) e in
       let f = s .fits in
       subst Drawable q (record {
@@ -80,10 +80,10 @@ module _ (m : Mesh) (sized : MeshSized (length (m .sites)) (length (m .triangles
         room = omega (arith, f .vertices, sized .few-triangles, sized .few-on-hull);
       })
 
-  pub laid-in-box : length (new .indexes) ≡ indexRoom → r ≡ 0 → CanDraw (siteCount (m .sites)) vertexRoom (new .offsets) (new .indexes)
-  laid-in-box short z =
+  pub laid-of-mesh : length (new .indexes) ≡ indexRoom → r ≡ 0 → CanDraw (siteCount (m .sites)) vertexRoom (new .offsets) (new .indexes)
+  laid-of-mesh short z =
       let b = zero-succeeds (box-answers (g .sound)) (build-late m (g .bounds)) a z .outcome in
       laid-out a (b .value) (whole m sized old long g a (b .value) (b .is)) (can (b .value) (b .is) z) (b .is) z (omega (arith, sized .few-sites)) short
 
-  pub lines-in-box : InBox exportText m g (shown (lines (siteCount (m .sites)) (new .vertices) (new .offsets) (new .indexes)) r)
-  lines-in-box = text-in-box m sized old long g a exportText _ (λ b e z. lines-text a b (whole m sized old long g a b e) (can b e z) e z)
+  pub lines-of-mesh : OfMesh exportText m g (shown (lines (siteCount (m .sites)) (new .vertices) (new .offsets) (new .indexes)) r)
+  lines-of-mesh = text-of-mesh m sized old long g a exportText _ (λ b e z. lines-text a b (whole m sized old long g a b e) (can b e z) e z)

@@ -20,14 +20,14 @@ use Rattle.definition.specs.laws.Gives.{gives-ok}
 use Rattle.build_laws.specs.Late.{Refuses, Numbered}
 use Rattle.build_laws.specs.LateRefusals.{build-late}
 use Rattle.cell_memory.specs.outputs.Outputs.{faultOf}
-use Rattle.building.specs.answers.Promise.{Builds, ClippedBuild}
+use Rattle.building.specs.answers.Promise.{Builds, Build}
 use Rattle.building.specs.answers.laws.Promise.{builds-cases}
 use Rattle.form.specs.Limits.{mostSites}
 use Rattle.form.specs.mesh.Read.{MeshSized}
-use Rattle.printing.specs.Printed.{Shows, shown, InBox, Text}
+use Rattle.printing.specs.Printed.{Shows, shown, OfMesh, Text}
 use Rattle.printing.specs.Printed as printed
 use Rattle.printing.specs.Rooms.{vertexRoom, indexRoom, offsetRoom}
-use Rattle.printing.specs.laws.WholeBuild.{Whole, whole-in-box}
+use Rattle.printing.specs.laws.WholeBuild.{Whole, whole-of-mesh}
 
 -- slices as long as a program's
 pub record ProgramSlices (s : Slices) : Type 0 where
@@ -68,9 +68,9 @@ module _ (m : Mesh) (sized : MeshSized (length (m .sites)) (length (m .triangles
         lt-ltb (siteCount (m .sites)) offsetRoom (omega (arith, sized .few-sites)),
       ))
 
-  module _ (g : Given) {new : Slices} {r : ℕ} (a : ClippedBuild m g old new r) where
+  module _ (g : Given) {new : Slices} {r : ℕ} (a : Build m g old new r) where
     pub whole : (b : Built) → build m (g .bounds) ≡ ok b → Whole (siteCount (m .sites)) b
-    whole b e = gives-ok (Whole (siteCount (m .sites))) (whole-in-box m (g .bounds)) e
+    whole b e = gives-ok (Whole (siteCount (m .sites))) (whole-of-mesh m (g .bounds)) e
 
-    pub text-in-box : (t : Text) (text : List ℕ) → ((b : Built) → build m (g .bounds) ≡ ok b → r ≡ 0 → text ≡ t m g b) → InBox t m g (shown text r)
-    text-in-box t text f = shows (t m g) text (box-answers (g .sound)) (rw roomy at (a .number)) (build-late m (g .bounds)) f
+    pub text-of-mesh : (t : Text) (text : List ℕ) → ((b : Built) → build m (g .bounds) ≡ ok b → r ≡ 0 → text ≡ t m g b) → OfMesh t m g (shown text r)
+    text-of-mesh t text f = shows (t m g) text (box-answers (g .sound)) (rw roomy at (a .number)) (build-late m (g .bounds)) f

@@ -41,9 +41,9 @@ module _ (b : BoundingBox) (nc n : ℕ) where
   all-cells tri he hull left owners x =
       gives-then (Wide n) (Wide n) _ _ (on-hull he hull left (x .at) 0 (length hull) _ (length-replicate n [])) (λ s w. on-rest tri he 0 (length tri) s w)
 
-pub whole-in-box : (m : Mesh) (b : BoundingBox) → Gives (Whole (siteCount (m .sites))) (build m b)
+pub whole-of-mesh : (m : Mesh) (b : BoundingBox) → Gives (Whole (siteCount (m .sites))) (build m b)
 unfolding build cornersOf
-whole-in-box m b =
+whole-of-mesh m b =
     let n = siteCount (m .sites) in
     let left = leftmostOf (m .triangles) (m .halfedges) n in
     gives-next (Whole n) _ _ λ c.

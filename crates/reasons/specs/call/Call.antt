@@ -11,7 +11,7 @@ use Rattle.reasons.specs.declared.Question.the-variants.{Nothing, About,
 use Rattle.reasons.specs.declared.Reason.{Reason}
 use Rattle.reasons.specs.declared.ReasonNumbers.{ReasonNumbers}
 use Rattle.reasons.specs.Reason.{toldBy}
-use Rattle.reasons.specs.explaining.Promise.{ClippedWhy}
+use Rattle.reasons.specs.explaining.Promise.{Explained}
 
 -- asked: 0 for nothing, 1 for the first site, more for both
 unfoldable pub questionOf : ℕ → ℕ → ℕ → Question
@@ -19,5 +19,5 @@ questionOf asked first second = pick (eqb asked 0) (λ _. Nothing) (λ _. pick (
 
 pub record WhyCall (m : Mesh) (g : Given) (q : Question) (old new : Slices) (t : ReasonNumbers) : Type 0 where
   pub reason : Reason
-  pub why : ClippedWhy m g q old new reason
+  pub why : Explained m g q old new reason
   pub told : t ≡ toldBy reason

@@ -24,5 +24,5 @@ pub record WhyAnswer (m : Mesh) (own : List (Rule ℕ)) (q : Question) (o : Outc
 
 module _ (m : Mesh) where
   -- in the given box
-  abbrev pub ClippedWhy : Given → Question → Slices → Slices → Reason → Type 0
-  ClippedWhy g q = WhyAnswer m (boxRules (g .sound) ++ questionRules (siteCount (m .sites)) q) q (build m (g .bounds))
+  abbrev pub Explained : Given → Question → Slices → Slices → Reason → Type 0
+  Explained g q = WhyAnswer m (boxRules (g .sound) ++ questionRules (siteCount (m .sites)) q) q (build m (g .bounds))

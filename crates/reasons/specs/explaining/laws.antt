@@ -5,4 +5,4 @@ pub mod Early
 pub mod Built
 pub mod Answered
 pub mod Why
-pub mod InBox
+pub mod ExplainBuild

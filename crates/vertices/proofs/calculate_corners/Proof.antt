@@ -1,4 +1,4 @@
--- `vertices::calculate_corners` meets its contract. After k turns the vertices are the circumcenters and the first k corners, and those hang.
+-- `vertices::calculate_corners` meets its contract. After k turns the vertices are the circumcenters and the first k corners, and those are chained.
 use Prim.{tt}
 use Prim.Native.Nat.{_+_, _-_, _≤_}
 use mathlib.Core.Path.{_≡_, refl, _∙_}

@@ -1,4 +1,4 @@
 -- Laws that only proofs use.
 pub mod Chains
-pub mod Hanging
+pub mod Inserting
 pub mod Keys

@@ -19,9 +19,9 @@ use Rattle.plane.specs.declared.points.Point.{Point}
 use Rattle.plane.specs.points.Flat.{pointAt, points, pointsFrom, flat, pour}
 use Rattle.vertices.specs.Add.{findNear, addVertex}
 use Rattle.vertices.specs.Store.{Holds, Poured, Leaves, PlacedAs}
-use Rattle.vertices.specs.buckets.Slots.{midOf, slotBy, slotHung, headsOf, hungOf, Hang}
-use Rattle.vertices.specs.buckets.Steps.{SlotsFree, HangsIn}
-use Rattle.vertices.specs.buckets.laws.Hanging.{slot-small, hang-none, hang-kept, hang-more}
+use Rattle.vertices.specs.buckets.Buckets.{midOf, bucketBy, bucketFrom, headsOf, insertedOf, InChains}
+use Rattle.vertices.specs.buckets.Steps.{BucketsFree, InsertsIn}
+use Rattle.vertices.specs.buckets.laws.Inserting.{bucket-small, in-chains-none, in-chains-kept, in-chains-more}
 use Rattle.vertices.specs.laws.Points.{add-old, add-new, length-points, points-pour, pour-points, pour-pour, pour-snoc, length-pour, flat-append, flat-points, getD-points}
 
 -- ---- poured vertices
@@ -86,7 +86,7 @@ kept-vertex v v₁ n m i d e h k =
 
 -- ---- one point more after the vertices
 
-module _ (nc limit n : ℕ) (p : Point) (v : List Float) (ix ix₁ : List ℕ) (h : Holds nc n v (drop limit ix)) (r : 2 * n + 2 ≤ length v) (g : HangsIn limit (n - nc) p ix ix₁) where
+module _ (nc limit n : ℕ) (p : Point) (v : List Float) (ix ix₁ : List ℕ) (h : Holds nc n v (drop limit ix)) (r : 2 * n + 2 ≤ length v) (g : InsertsIn limit (n - nc) p ix ix₁) where
   abbrev after : List Float
   after = set (set v (2 * n) (p .x)) (2 * n + 1) (p .y)
 
@@ -114,13 +114,13 @@ module _ (nc limit n : ℕ) (p : Point) (v : List Float) (ix ix₁ : List ℕ) (
         getD-set-same (set v (2 * n) (p .x)) (2 * n + 1) (p .y) nan (rw (length-set v (2 * n) (p .x)) (omega arith)),
       )
 
-  before : Hang nc (hungOf (n - nc) (length (drop limit ix))) after (drop limit ix)
-  before = hang-kept (λ k l. other (nc + k) (omega (arith, h .centers))) (h .hang)
+  before : InChains nc (insertedOf (n - nc) (length (drop limit ix))) after (drop limit ix)
+  before = in-chains-kept (λ k l. other (nc + k) (omega (arith, h .centers))) (h .in-chains)
 
   -- with a link, and without one
   module _ (l : n - nc < 3 * heads) where
     abbrev m : ℕ
-    m = slotBy heads (midOf (p .x)) (midOf (p .y))
+    m = bucketBy heads (midOf (p .x)) (midOf (p .y))
 
     written : ix₁ ≡ set (set ix (limit + (heads + (n - nc))) (getD ix (limit + m) 0)) (limit + m) (suc (n - nc))
     written = let w = g .linked (omega (arith, tail-long)) in rw (← tail-long) at w
@@ -137,13 +137,13 @@ module _ (nc limit n : ℕ) (p : Point) (v : List Float) (ix ix₁ : List ℕ) (
         ∙ length-set (set (drop limit ix) (heads + (n - nc)) (getD (drop limit ix) m 0)) m (suc (n - nc))
         ∙ length-set (drop limit ix) (heads + (n - nc)) (getD (drop limit ix) m 0)
 
-    linked-hang : Hang nc (hungOf (n + 1 - nc) (length (drop limit ix₁))) after (drop limit ix₁)
-    linked-hang =
-        let a : hungOf (n - nc) (length (drop limit ix)) ≡ n - nc = omega arith in
-        let b : hungOf (n + 1 - nc) (length (drop limit ix₁)) ≡ suc (n - nc) = omega (arith, same-tail, h .centers) in
+    linked-in-chains : InChains nc (insertedOf (n + 1 - nc) (length (drop limit ix₁))) after (drop limit ix₁)
+    linked-in-chains =
+        let a : insertedOf (n - nc) (length (drop limit ix)) ≡ n - nc = omega arith in
+        let b : insertedOf (n + 1 - nc) (length (drop limit ix₁)) ≡ suc (n - nc) = omega (arith, same-tail, h .centers) in
         let c : nc + (n - nc) ≡ n = omega (arith, h .centers) in
-        let s : slotHung heads after nc (n - nc) ≡ m = ap (λ (q : Point). slotBy heads (midOf (q .x)) (midOf (q .y))) (ap (pointAt after) c ∙ there) in
-        rw (b, tail-is) (hang-more (rw a at before) l s (slot-small heads (midOf (p .x)) (midOf (p .y)) (omega arith)))
+        let s : bucketFrom heads after nc (n - nc) ≡ m = ap (λ (q : Point). bucketBy heads (midOf (q .x)) (midOf (q .y))) (ap (pointAt after) c ∙ there) in
+        rw (b, tail-is) (in-chains-more (rw a at before) l s (bucket-small heads (midOf (p .x)) (midOf (p .y)) (omega arith)))
 
     linked-body : take limit ix₁ ≡ take limit ix
     linked-body =
@@ -155,9 +155,9 @@ module _ (nc limit n : ℕ) (p : Point) (v : List Float) (ix ix₁ : List ℕ) (
     same : ix₁ ≡ ix
     same = g .past (omega (arith, tail-long))
 
-    past-hang : Hang nc (hungOf (n + 1 - nc) (length (drop limit ix₁))) after (drop limit ix₁)
-    past-hang =
-        let a : hungOf (n - nc) (length (drop limit ix)) ≡ hungOf (n + 1 - nc) (length (drop limit ix)) = omega arith in
+    past-in-chains : InChains nc (insertedOf (n + 1 - nc) (length (drop limit ix₁))) after (drop limit ix₁)
+    past-in-chains =
+        let a : insertedOf (n - nc) (length (drop limit ix)) ≡ insertedOf (n + 1 - nc) (length (drop limit ix)) = omega arith in
         rw (same, ← a) before
 
   pub appended : Leaves nc limit (points n v ++ p ∷ []) v ix (n + 1) after ix₁
@@ -166,7 +166,7 @@ module _ (nc limit n : ℕ) (p : Point) (v : List Float) (ix ix₁ : List ℕ) (
       record {
         verts = poured-snoc p (poured-none n v (h .room)) r;
         body = ⊎-elim linked-body (λ l. ap (take limit) (same l)) (lt-or-ge (n - nc) (3 * heads));
-        holds = record { centers = omega arith; room = simp length-set (omega arith); hang = ⊎-elim linked-hang past-hang (lt-or-ge (n - nc) (3 * heads)) };
+        holds = record { centers = omega arith; room = simp length-set (omega arith); in-chains = ⊎-elim linked-in-chains past-in-chains (lt-or-ge (n - nc) (3 * heads)) };
       }
 
 -- one after what was there
@@ -203,7 +203,7 @@ module _ (nc limit n : ℕ) (p : Point) (v : List Float) (ix : List ℕ) (h : Ho
 -- ---- the corners
 
 module _ (nc limit : ℕ) (v : List Float) (ix : List ℕ) (corners : List Point) where
-  pub corner-none : {old : List ℕ} → 2 * nc ≤ length v → SlotsFree limit old ix → Leaves nc limit (points nc v ++ take 0 corners) v ix (nc + 0) v ix
+  pub corner-none : {old : List ℕ} → 2 * nc ≤ length v → BucketsFree limit old ix → Leaves nc limit (points nc v ++ take 0 corners) v ix (nc + 0) v ix
   corner-none h g =
       rw (append-nil (points nc v), add-zero nc) (record {
         verts = poured-none nc v h;
@@ -211,9 +211,9 @@ module _ (nc limit : ℕ) (v : List Float) (ix : List ℕ) (corners : List Point
         holds = record {
           centers = omega arith;
           room = h;
-          hang =
-              (let z : hungOf (nc - nc) (length (drop limit ix)) ≡ 0 = omega arith in
-              rw z (hang-none nc v (drop limit ix) (λ m l. getD-drop limit ix m 0 ∙ g .free m (rw (length-drop limit ix) at l))));
+          in-chains =
+              (let z : insertedOf (nc - nc) (length (drop limit ix)) ≡ 0 = omega arith in
+              rw z (in-chains-none nc v (drop limit ix) (λ m l. getD-drop limit ix m 0 ∙ g .free m (rw (length-drop limit ix) at l))));
         };
       })
 
@@ -228,7 +228,7 @@ module _ (nc limit : ℕ) (v : List Float) (ix : List ℕ) (corners : List Point
       let e : nc + (k + 1) ≡ nc + k + 1 = omega arith in
       rw (e, add-one k, take-suc corners k d l, ← append-assoc (points nc v) (take k corners) (getD corners k d ∷ [])) (leaves-then (getD corners k d) h r g)
 
-  pub corner-all : (k : ℕ) {v₁ : List Float} {old ix₁ : List ℕ} → SlotsFree limit old ix → Leaves nc limit (points nc v ++ take k corners) v ix (nc + k) v₁ ix₁ → k ≡ 4 → length corners ≡ 4
+  pub corner-all : (k : ℕ) {v₁ : List Float} {old ix₁ : List ℕ} → BucketsFree limit old ix → Leaves nc limit (points nc v ++ take k corners) v ix (nc + k) v₁ ix₁ → k ≡ 4 → length corners ≡ 4
       → Leaves nc limit (points nc v ++ corners) v old (nc + 4) v₁ ix₁
   corner-all k {v₁} {old} {ix₁} g h e l =
       let all : Leaves nc limit (points nc v ++ corners) v ix (nc + 4) v₁ ix₁ = rw (← e) (rw (take-all k corners (omega arith)) at h) in

@@ -45,9 +45,9 @@ module _ (m : Mesh) (w : List ℕ) {r : ℕ} where
       (λ k. record { mesh = keep-accepted m (siteCount (m .sites) ≤ length w) k; room = k .1 .0; arguments = tt })
       (λ p. accepted-keep m (siteCount (m .sites) ≤ length w) (p .mesh) (p .room))
 
-  pub cells-answers : (offs idx : List ℕ) (s : ℕ) → Number m w (siteRules (siteCount (m .sites)) s) (cellRules offs idx (siteCount (m .sites))) r
-      → (r ≡ 0) ↔ QueryAllowed m w ((s < siteCount (m .sites)) × CellsOf offs idx (siteCount (m .sites)))
-  cells-answers offs idx s =
+  pub cells-answers : (off ix : List ℕ) (s : ℕ) → Number m w (siteRules (siteCount (m .sites)) s) (cellRules off ix (siteCount (m .sites))) r
+      → (r ≡ 0) ↔ QueryAllowed m w ((s < siteCount (m .sites)) × CellsOf off ix (siteCount (m .sites)))
+  cells-answers off ix s =
       exactly _ (search needs)
       (λ k. let u = k .1 .1 .1 in let t = u .1 in
       let sound = keep-accepted m (siteCount (m .sites) ≤ length w) (k .0, (k .1 .0, (u .0, (t .0, (t .1 .0, (t .1 .1 .0, (t .1 .1 .1 .0, (t .1 .1 .1 .1 .0, tt)))))))) in
@@ -56,9 +56,9 @@ module _ (m : Mesh) (w : List ℕ) {r : ℕ} where
       (k .0, (k .1 .0, (p .arguments .0, (u .0, (t .0, (t .1 .0, (t .1 .1 .0, (t .1 .1 .1 .0, (t .1 .1 .1 .1 .0, (p .arguments .1, tt)))))))))))
 
   -- the neighbours of all sites: room for the starts and the lists, and 16 on cells that are lent
-  pub all-answers : (offs idx st o : List ℕ) → Finds (callRules m (RoomFor m (length w) (length st) (length o)) [] ++ lentRules offs idx (siteCount (m .sites))) 0 r
-      → (r ≡ 0) ↔ QueryAllowed m w ((siteCount (m .sites) < length st) × (length (m .triangles) + length (m .hull) ≤ length o) × CellsLent offs idx (siteCount (m .sites)))
-  all-answers offs idx st o =
+  pub all-answers : (off ix st o : List ℕ) → Finds (callRules m (RoomFor m (length w) (length st) (length o)) [] ++ lentRules off ix (siteCount (m .sites))) 0 r
+      → (r ≡ 0) ↔ QueryAllowed m w ((siteCount (m .sites) < length st) × (length (m .triangles) + length (m .hull) ≤ length o) × CellsLent off ix (siteCount (m .sites)))
+  all-answers off ix st o =
       let room = RoomFor m (length w) (length st) (length o) in
       exactly _ (search needs)
       (λ k. let u = k .1 .1 in let t = u .1 in

@@ -21,7 +21,7 @@ use Rattle.build_laws.specs.laws.OwnerPaths.{owner-path}
 use Rattle.admission.specs.Slices.{Slices}
 use Rattle.build_laws.specs.LateRefusals.{build-late}
 use Rattle.arguments.specs.asking.laws.Asks.{box-answers}
-use Rattle.building.specs.answers.Success.{zero-succeeds, clipped-sound}
+use Rattle.building.specs.answers.Success.{zero-succeeds, build-sound}
 use Rattle.building.specs.answers.laws.Left.{left-vertices, left-indexes, left-offsets, left-counts, slice-point, count-owner, count-before, count-lost}
 use Rattle.voronoi.specs.Builds.{Build}
 use Rattle.voronoi.specs.Wraps.{Wraps}
@@ -69,7 +69,7 @@ module _ (m : Mesh) (g : Given) (fits : Fits g) {old new : Slices} (a : Build m 
   pub build-wraps : Wraps m (g .bounds) old new
   build-wraps =
       let s = zero-succeeds (box-answers (g .sound)) (build-late m (g .bounds)) a refl in
-      let t = clipped-sound g fits a refl in
+      let t = build-sound g fits a refl in
       wraps-of (s .admission .accepted) (fits .bounded (s .admission .fit .0)) (t .outcome .value) (t .outcome .is) (t .wraps)
 
 -- the owners in the counts, whatever the box's edges are

@@ -19,10 +19,10 @@ use Rattle.reasons.specs.declared.Reason.{Reason}
 use Rattle.reasons.specs.declared.Reason.the-variants.{Number}
 use Rattle.reasons.specs.Reason.{ofMesh}
 use Rattle.reasons.specs.Rules.{buildRules, answered, ReasonFor}
-use Rattle.reasons.specs.explaining.Promise.{WhyAnswer, ClippedWhy}
+use Rattle.reasons.specs.explaining.Promise.{WhyAnswer, Explained}
 use Rattle.form.specs.mesh.Read.{MeshSized}
 use Rattle.printing.specs.laws.BuildText.{ProgramSlices, roomy}
-use Rattle.why.specs.Printed.{WhyInBox}
+use Rattle.why.specs.Printed.{WhyOfMesh}
 
 -- the second rule of a list is kept, in one wording and in another
 judged-kept : (rest : List (Rule Reason)) (none r a c : Reason) (P Q S : Type 0) → Q → S → Judged (once a P ∷ once c Q ∷ rest) none r → Judged (once a P ∷ once c S ∷ rest) none r
@@ -38,5 +38,5 @@ module _ (m : Mesh) (old : Slices) (long : ProgramSlices old) (sized : MeshSized
         let counted = Counted (length (m .sites)) (length (m .triangles)) (length (m .halfedges)) (length (m .hull)) in
         record { judged = judged-kept rest (answered m q o) r (ofMesh Counts) (ofMesh Room) counted (roomOf m old ≡ true) (Unit {0}) (roomy m sized old long) tt (a .reason .judged) }
 
-  pub in-box : (g : Given) (q : Question) {new : Slices} {r : Reason} → ClippedWhy m g q old new r → WhyInBox q m g r
-  in-box g q a = with-room a
+  pub of-mesh : (g : Given) (q : Question) {new : Slices} {r : Reason} → Explained m g q old new r → WhyOfMesh q m g r
+  of-mesh g q a = with-room a

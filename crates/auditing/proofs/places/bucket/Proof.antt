@@ -1,6 +1,6 @@
 -- `auditing::places::bucket` meets its contract.
 use borrow.Author.Needs.{needs}
-use Rattle.auditing.specs.places.Slots.{bucketOf}
+use Rattle.auditing.specs.places.Buckets.{bucketOf}
 use Rattle.auditing.proofs.places.bucket.Statement.{statement}
 use Rattle.auditing.proofs.places.bucket.Tie as tie
 

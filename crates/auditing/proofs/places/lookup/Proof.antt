@@ -1,4 +1,4 @@
--- `auditing::places::lookup` meets its contract: none that was passed stands at the place of s, and what hangs in another slot does not.
+-- `auditing::places::lookup` meets its contract: none that was passed stands at the place of s, and what is chained in another bucket does not.
 use Prim.{tt}
 use denote.Ref.{now}
 use native.Mathlib.Omega.{arith}

@@ -1,7 +1,7 @@
 -- `auditing::places::visit` meets its contract: s is looked up in its bucket, and inserted while it is of the block.
 use native.Mathlib.Omega.{arith}
 use Rattle.ring_area.specs.lowest.laws.Loops.{named-twice}
-use Rattle.auditing.specs.places.laws.Hanging.{lookup-here, chained-here, chained-full}
+use Rattle.auditing.specs.places.laws.Inserting.{lookup-here, chained-here, chained-full}
 use Rattle.auditing.specs.places.laws.Passing.{held-at, visited-yes, visited-no}
 use borrow.Author.Needs.{needs}
 use Rattle.auditing.proofs.places.visit.Statement.{statement}

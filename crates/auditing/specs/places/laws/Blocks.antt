@@ -12,8 +12,8 @@ use Rattle.base.specs.common.laws.Decide.{lt-or-ge}
 use Rattle.ring_area.specs.lowest.Lowest.{lowest}
 use Rattle.ring_area.specs.lowest.laws.Loops.{no-both, lowest-first, lowest-is, lowest-takes, none-taken, some-below, none-below, NoneTo, passed-step, passed-found}
 use Rattle.auditing.specs.places.Places.{twinAt, hasTwin}
-use Rattle.auditing.specs.places.Slots.{block, buckets, bucketIn, chainedTo, twinIn, InTable, Visited}
-use Rattle.auditing.specs.places.laws.Hanging.{chained-none}
+use Rattle.auditing.specs.places.Buckets.{block, buckets, bucketIn, chainedTo, twinIn, InTable, Visited}
+use Rattle.auditing.specs.places.laws.Inserting.{chained-none}
 
 module _ (sites : List Float) where
   -- what a no and a yes of one block say

@@ -12,8 +12,8 @@ use Rattle.ring_area.specs.lowest.laws.Loops.{no-both, none-below, some-below}
 use Rattle.plane.specs.points.Flat.{pointAt}
 use Rattle.plane.specs.declared.points.Point.{Point}
 use Rattle.auditing.specs.places.Places.{twinAt}
-use Rattle.auditing.specs.places.Slots.{buckets, bucketOf, bucketIn, chainedTo, twinIn, LastIn, InTable, BlockIn, InBucket, Visited}
-use Rattle.auditing.specs.places.laws.Hanging.{bucket-below, other-bucket}
+use Rattle.auditing.specs.places.Buckets.{buckets, bucketOf, bucketIn, chainedTo, twinIn, LastIn, InTable, BlockIn, InBucket, Visited}
+use Rattle.auditing.specs.places.laws.Inserting.{bucket-below, other-bucket}
 
 pub held-at : {sites : List Float} {a s m : ℕ} {heads links : List ℕ} {p : Point} → BlockIn sites a s heads links → p ≡ pointAt sites s → m ≡ bucketOf p
     → InBucket sites a s m heads links

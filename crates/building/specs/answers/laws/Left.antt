@@ -79,20 +79,20 @@ slice-point (p ∷ vs) tail (suc i) l =
     rw (y, x) (slice-point vs tail i (omega arith))
 
 -- ---- the cells, by the offsets without their tail and the index list as it is left
-module _ (marked : List (List Entry)) (n : ℕ) (many : length marked ≡ n) (room : ℕ) (offs : List ℕ) (q : offs ≡ padded room EMPTY (offsetsFrom 0 (map unmarked marked))) where
-  pub offsets-head : take (suc n) offs ≡ offsetsFrom 0 (map unmarked marked)
+module _ (marked : List (List Entry)) (n : ℕ) (many : length marked ≡ n) (room : ℕ) (off : List ℕ) (q : off ≡ padded room EMPTY (offsetsFrom 0 (map unmarked marked))) where
+  pub offsets-head : take (suc n) off ≡ offsetsFrom 0 (map unmarked marked)
   offsets-head = rw q (take-at (offsetsFrom 0 (map unmarked marked)) _ (suc n) (offsets-length 0 (map unmarked marked) ∙ ap suc (length-map marked unmarked ∙ many)))
 
-  module _ (indexes : ℕ) (idx : List ℕ) (p : idx ≡ padded indexes EMPTY (joined (map unmarked marked))) (s : ℕ) (l : s < n) where
-    pub read-part : {part : List ℕ} {r : ℕ} → CellAnswer (take (suc n) offs) idx s part r → (r ≡ 0) × (part ≡ unmarked (getD marked s []))
+  module _ (indexes : ℕ) (ix : List ℕ) (p : ix ≡ padded indexes EMPTY (joined (map unmarked marked))) (s : ℕ) (l : s < n) where
+    pub read-part : {part : List ℕ} {r : ℕ} → CellAnswer (take (suc n) off) ix s part r → (r ≡ 0) × (part ≡ unmarked (getD marked s []))
     read-part {part} {r} x =
         let y = read-back (map unmarked marked) _ s {part = part} {r = r} (omega (arith, length-map marked unmarked)) (rw (offsets-head, p) at x) in
         (y .0, y .1 ∙ List·getD-map unmarked marked s [])
 
-    pub read-place : {start long r : ℕ} → PlaceAnswer (take (suc n) offs) idx s start long r → (r ≡ 0) × (take long (drop start idx) ≡ unmarked (getD marked s []))
+    pub read-place : {start long r : ℕ} → PlaceAnswer (take (suc n) off) ix s start long r → (r ≡ 0) × (take long (drop start ix) ≡ unmarked (getD marked s []))
     unfolding cellOf
     read-place {start} {long} {r} x =
-        let y = read-part {part = pick (eqb r 0) (λ _. cellOf (take (suc n) offs) idx s) (λ _. [])} {r = r} (record { number = x .number; entries = refl }) in
+        let y = read-part {part = pick (eqb r 0) (λ _. cellOf (take (suc n) off) ix s) (λ _. [])} {r = r} (record { number = x .number; entries = refl }) in
         (y .0, rw (x .from, x .many) (rw (eq-eqb r 0 (y .0)) (rw (eq-eqb r 0 (y .0)) at (y .1))))
 
 -- ---- the counts: the number of vertices, four owners, the lost corners, the points taken again, and what comes after them

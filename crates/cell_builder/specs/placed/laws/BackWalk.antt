@@ -24,7 +24,7 @@ use Rattle.definition.specs.Cell.{unmarked}
 use Rattle.definition.specs.Build.{CellState}
 use Rattle.clipping.specs.interior.laws.InsideWalk.{plains}
 use Rattle.cell_builder.specs.declared.tried.Frame.{Frame}
-use Rattle.cell_builder.specs.tried.CellsInSlices.{plan, Ground}
+use Rattle.cell_builder.specs.tried.SlicesInvariant.{plan, Ground}
 use Rattle.cell_builder.specs.tried.laws.Early.{earlyCell}
 use Rattle.cell_builder.specs.tried.laws.OneTry.{region-room}
 use Rattle.cell_builder.specs.turned.Marks.{MadeLast}

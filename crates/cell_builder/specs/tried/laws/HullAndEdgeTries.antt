@@ -15,7 +15,7 @@ use Rattle.definition.specs.Measures.{shareOf}
 use Rattle.build_laws.specs.laws.AllCells.{ring-share, hull-share}
 use Rattle.cell_memory.specs.staging.Staging.{Staged, Stages}
 use Rattle.cell_memory.specs.outputs.laws.Marks.{empty-still, full-already}
-use Rattle.cell_builder.specs.tried.CellsInSlices.{plan, Ground, Amid, Does, hullTry, edgeTry}
+use Rattle.cell_builder.specs.tried.SlicesInvariant.{plan, Ground, Amid, Does, hullTry, edgeTry}
 use Rattle.cell_builder.specs.tried.Tries.{Ringed, Tried}
 use Rattle.cell_builder.specs.declared.tried.Frame.{Frame}
 use Rattle.cell_builder.specs.declared.finish.Progress.{Progress}

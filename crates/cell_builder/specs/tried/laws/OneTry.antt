@@ -37,7 +37,7 @@ use Rattle.cell_memory.specs.staging.Staging.{Staged}
 use Rattle.clipping.specs.RingWalk.{Steps, ringOf, emptyAt}
 use Rattle.definition.specs.Short.{cellState}
 use Rattle.cell_memory.specs.outputs.laws.Marks.{cell-set}
-use Rattle.cell_builder.specs.tried.CellsInSlices.{plan, Ground, Grounded, Amid, Does}
+use Rattle.cell_builder.specs.tried.SlicesInvariant.{plan, Ground, Grounded, Amid, Does}
 use Rattle.clipping.specs.laws.RingWalk.{steps-small}
 use Rattle.clipping.specs.declared.RingStepped.{RingStepped}
 use Rattle.clipping.specs.declared.edges.Env.{Env}

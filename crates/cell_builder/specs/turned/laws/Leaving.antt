@@ -17,7 +17,7 @@ use Rattle.definition.specs.Cell.{Entry, Taken, RingPart, clipCell}
 use Rattle.definition.specs.Build.{CellState, ringFrom, clipInto, isEmpty}
 use Rattle.definition.specs.Short.{cellState}
 use Rattle.cell_builder.specs.declared.finish.Progress.{Progress}
-use Rattle.cell_builder.specs.tried.CellsInSlices.{Plan, Ground, Amid, edgeTry}
+use Rattle.cell_builder.specs.tried.SlicesInvariant.{Plan, Ground, Amid, edgeTry}
 use Rattle.cell_builder.specs.tried.laws.Early.{earlyCell}
 use Rattle.cell_builder.specs.turned.Marks.{LeftOut}
 use Rattle.cell_builder.specs.turned.laws.Onward.{Onward}

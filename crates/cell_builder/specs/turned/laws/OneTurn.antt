@@ -27,7 +27,7 @@ use Rattle.build_laws.specs.laws.AllCells.{is-empty}
 use Rattle.build_laws.specs.laws.Runs.{true-false}
 use Rattle.cell_builder.specs.turned.laws.IdleSites.{IdleSite, idle-grown, idle-shrunk, idle-try, try-idle}
 use Rattle.cell_builder.specs.declared.tried.Frame.{Frame}
-use Rattle.cell_builder.specs.tried.CellsInSlices.{plan, Ground, edgeTry}
+use Rattle.cell_builder.specs.tried.SlicesInvariant.{plan, Ground, edgeTry}
 use Rattle.cell_builder.specs.turned.Marks.{markOf}
 use Rattle.cell_builder.specs.turned.Turns.{dueOf, HasEntry, AllHaveEntries, SettledBefore, SettledAfter}
 use Rattle.cell_builder.specs.turned.laws.Onward.{Onward, OthersStay, others-stay}

@@ -12,7 +12,7 @@ use Rattle.definition.specs.Build.{CellState, clipInto}
 use Rattle.definition.specs.laws.Gives.{Gives, gives-next}
 use Rattle.build_laws.specs.laws.Grown.{Grown}
 use Rattle.cell_builder.specs.declared.finish.Progress.{Progress}
-use Rattle.cell_builder.specs.tried.CellsInSlices.{Plan, Ground, Grounded, Amid}
+use Rattle.cell_builder.specs.tried.SlicesInvariant.{Plan, Ground, Grounded, Amid}
 
 -- cells on this ground, whether slices hold them or not
 pub record Onward (w : Plan) (g : Ground) (s : CellState) : Type 0 where

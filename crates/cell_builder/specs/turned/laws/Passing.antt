@@ -15,7 +15,7 @@ use Rattle.definition.specs.Build.{CellState, ringFrom, clipInto, isEmpty}
 use Rattle.definition.specs.laws.Gives.{Gives, gives-ok, gives-map, picked}
 use Rattle.build_laws.specs.laws.Runs.{then-ok}
 use Rattle.cell_builder.specs.declared.finish.Progress.{Progress}
-use Rattle.cell_builder.specs.tried.CellsInSlices.{Plan, Ground, edgeTry}
+use Rattle.cell_builder.specs.tried.SlicesInvariant.{Plan, Ground, edgeTry}
 use Rattle.cell_builder.specs.tried.laws.Early.{earlyCell}
 use Rattle.cell_builder.specs.turned.Marks.{markOf, MadeLast, LeftOut}
 use Rattle.cell_builder.specs.turned.Turns.{dueOf, AllHaveEntries, PassedBy, NextDue, SettledBefore}

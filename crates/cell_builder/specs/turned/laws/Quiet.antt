@@ -19,7 +19,7 @@ use Rattle.definition.specs.Short.{cellState}
 use Rattle.build_laws.specs.laws.AllCells.{is-empty}
 use Rattle.build_laws.specs.laws.Runs.{true-false}
 use Rattle.cell_builder.specs.declared.tried.Frame.{Frame}
-use Rattle.cell_builder.specs.tried.CellsInSlices.{Plan, plan, Ground, edgeTry}
+use Rattle.cell_builder.specs.tried.SlicesInvariant.{Plan, plan, Ground, edgeTry}
 use Rattle.cell_builder.specs.tried.laws.Early.{InsideSite, inside-grown, earlyCell, early-try}
 use Rattle.cell_builder.specs.turned.Marks.{markOf, Covers, MadeLast}
 use Rattle.cell_builder.specs.turned.Turns.{SettledBefore}

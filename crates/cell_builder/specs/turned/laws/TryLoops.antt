@@ -26,7 +26,7 @@ use Rattle.definition.specs.laws.Gives.{Gives, gives-map, gives-then}
 use Rattle.build_laws.specs.laws.Runs.{true-false}
 use Rattle.build_laws.specs.laws.Inside.{in-grown}
 use Rattle.cell_builder.specs.declared.finish.Progress.{Progress}
-use Rattle.cell_builder.specs.tried.CellsInSlices.{Plan, Ground, Amid, Does, hullTry, edgeTry, HullAmid, EdgesAmid, AtRest, HullTried, EdgeTried}
+use Rattle.cell_builder.specs.tried.SlicesInvariant.{Plan, Ground, Amid, Does, hullTry, edgeTry, HullAmid, EdgesAmid, AtRest, HullTried, EdgeTried}
 use Rattle.cell_builder.specs.tried.laws.OneTry.{region-room, region-within, corners-in}
 use Rattle.cell_builder.specs.turned.Loops.{
   hullTries,

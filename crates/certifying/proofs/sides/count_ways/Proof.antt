@@ -1,6 +1,6 @@
 -- `certifying::sides::count_ways` meets its contract.
 use Rattle.certifying.specs.sides.laws.Walking.{WaysTo, ways-start, way-below, counts-few, next-less, ways-step, ways-end, runs-is}
-use Rattle.certifying.specs.sides.laws.Hanging.{side-safe, side-to}
+use Rattle.certifying.specs.sides.laws.Inserting.{side-safe, side-to}
 use Rattle.certifying.specs.sides.laws.Tallies.{bit-small}
 use Rattle.certifying.specs.sides.Chains.{laidEnds}
 use native.Mathlib.Omega.{arith}
@@ -14,23 +14,23 @@ Inv-loop work vertices indexes count p q m there₀ back₀ x₀ there back x = 
 abbrev μ-loop : tie.MeasureT-loop
 μ-loop work vertices indexes count p q m there₀ back₀ x₀ there back x = x
 
-slot-requires : tie.Need-slot-requires Inv-loop μ-loop
-slot-requires c κs = let s = c .before .before .before in (s .pre .0, s .pre .1 .lie .few)
+bucket-requires : tie.Need-bucket-requires Inv-loop μ-loop
+bucket-requires c κs = let s = c .before .before .before in (s .pre .0, s .pre .1 .lie .few)
 
 mul-wide : tie.Need-mul-wide Inv-loop μ-loop
-mul-wide c = let s = c .before .before .before .before in record { fits = omega (arith, s .pre .1 .lie .few, c .slot .ensures .1) }
+mul-wide c = let s = c .before .before .before .before in record { fits = omega (arith, s .pre .1 .lie .few, c .bucket .ensures .1) }
 
 mul-wide-2 : tie.Need-mul-wide-2 Inv-loop μ-loop
-mul-wide-2 c = let s = c .before .before .before .before in omega (arith, s .pre .1 .lie .few, c .slot .ensures .1)
+mul-wide-2 c = let s = c .before .before .before .before in omega (arith, s .pre .1 .lie .few, c .bucket .ensures .1)
 
 shared-slice-read-wide : tie.Need-shared-slice-read-wide Inv-loop μ-loop
-shared-slice-read-wide c = let s = c .before .before .before .before .before in omega (arith, s .pre .1 .lie .room, c .before .slot .ensures .1)
+shared-slice-read-wide c = let s = c .before .before .before .before .before in omega (arith, s .pre .1 .lie .room, c .before .bucket .ensures .1)
 
 wide-requires : tie.Need-wide-requires Inv-loop μ-loop
 wide-requires c κs = tt
 
 loop-holds : tie.Need-loop-holds Inv-loop μ-loop
-loop-holds c = let sl = c .before .before in let s = sl .before .before .before .before in ways-start (s .pre .1) _ _ (sl .slot .ensures .0) (sl .slot .ensures .1) (c .wide .ensures)
+loop-holds c = let sl = c .before .before in let s = sl .before .before .before .before in ways-start (s .pre .1) _ _ (sl .bucket .ensures .0) (sl .bucket .ensures .1) (c .wide .ensures)
 
 side-at-requires : tie.Need-side-at-requires Inv-loop μ-loop
 side-at-requires c κs =
@@ -111,6 +111,6 @@ returns c = let l = c .before in let s = l .before .before .before .before .befo
 pub count-ways-spec : {M : Type 1} → statement M
 count-ways-spec =
     tie.close
-    (tie.spec Inv-loop μ-loop slot-requires mul-wide mul-wide-2 shared-slice-read-wide wide-requires loop-holds
+    (tie.spec Inv-loop μ-loop bucket-requires mul-wide mul-wide-2 shared-slice-read-wide wide-requires loop-holds
     (λ c. omega arith) side-at-requires runs-requires one-if-requires add-there runs-requires-2 one-if-requires-2
     add-back mul-wide-3 add-wide mul-wide-4 shared-slice-read-wide-2 wide-requires-2 loop-less loop-again returns)

@@ -1,7 +1,7 @@
 -- `certifying::sides::is_pair` meets its contract.
 use mathlib.Core.Path.{sym}
 use Rattle.ring_area.specs.lowest.laws.Loops.{no-both}
-use Rattle.certifying.specs.sides.laws.Hanging.{side-safe, side-to}
+use Rattle.certifying.specs.sides.laws.Inserting.{side-safe, side-to}
 use Rattle.certifying.specs.sides.laws.Fair.{head-below, next-below, answered, pair-even}
 use native.Mathlib.Omega.{arith}
 use borrow.Author.Needs.{needs}

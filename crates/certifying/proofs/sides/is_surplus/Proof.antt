@@ -1,6 +1,6 @@
 -- `certifying::sides::is_surplus` meets its contract.
 use Rattle.certifying.specs.sides.laws.Walking.{surplus-none, surplus-is}
-use Rattle.certifying.specs.sides.laws.Hanging.{side-safe, side-to}
+use Rattle.certifying.specs.sides.laws.Inserting.{side-safe, side-to}
 use Rattle.certifying.specs.sides.Chains.{laidEnds}
 use denote.Ref.{now}
 use native.Mathlib.Omega.{arith}

@@ -1,5 +1,5 @@
 -- `certifying::sides::lay` meets its contract.
-use Rattle.certifying.specs.sides.laws.Hanging.{laid-all, laid-start, laid-step, ring-room}
+use Rattle.certifying.specs.sides.laws.Inserting.{laid-all, laid-start, laid-step, ring-room}
 use Rattle.certifying.specs.sides.Chains.{LaidTo}
 use borrow.Author.Needs.{needs}
 use native.Mathlib.Omega.{arith}

@@ -1,7 +1,7 @@
 -- `certifying::sides::lay_ring` meets its contract.
 use lib.ListN.{length, length-set}
 use borrow.Author.Needs.{needs}
-use Rattle.certifying.specs.sides.laws.Hanging.{ring-start, ring-step, ring-end}
+use Rattle.certifying.specs.sides.laws.Inserting.{ring-start, ring-step, ring-end}
 use Rattle.certifying.specs.sides.Chains.{RingLaid}
 use native.Mathlib.Omega.{arith}
 use Prim.Native.Nat.{_-_}

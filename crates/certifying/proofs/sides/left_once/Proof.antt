@@ -1,6 +1,6 @@
 -- `certifying::sides::left_once` meets its contract.
 use Rattle.certifying.specs.sides.laws.Walking.{leaves-is, once-is}
-use Rattle.certifying.specs.sides.laws.Hanging.{side-safe, side-to}
+use Rattle.certifying.specs.sides.laws.Inserting.{side-safe, side-to}
 use Rattle.certifying.specs.sides.laws.Tallies.{bit-small, TalliesTo, tallies-start, tallies-few, tallies-step, tallies-end}
 use Rattle.certifying.specs.sides.Chains.{laidEnds}
 use Rattle.certifying.specs.sides.Sides.{leavesAt, reachesAt}

@@ -1,8 +1,8 @@
--- `certifying::twins::empty` meets its contract: the slots that were passed are empty.
+-- `certifying::twins::empty` meets its contract: the buckets that were passed are empty.
 use Prim.Native.Nat.{_-_, _/_}
 use native.Mathlib.Omega.{arith}
 use lib.ListN.{length}
-use Rattle.certifying.specs.twins.laws.Hanging.{EmptyTo, empty-start, empty-step, empty-end}
+use Rattle.certifying.specs.twins.laws.Inserting.{EmptyTo, empty-start, empty-step, empty-end}
 use Rattle.certifying.proofs.twins.empty.Statement.{statement}
 use Rattle.certifying.proofs.twins.empty.Tie as tie
 

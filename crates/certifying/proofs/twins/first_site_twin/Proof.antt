@@ -1,10 +1,10 @@
--- `certifying::twins::first_site_twin` meets its contract: the sites that were passed have none before them, and hang.
+-- `certifying::twins::first_site_twin` meets its contract: the sites that were passed have none before them, and are chained.
 use mathlib.Core.Path.{_∙_}
 use Prim.Native.Nat.{_-_, _/_}
 use native.Mathlib.Omega.{arith}
 use lib.ListN.{length}
 use Rattle.ring_area.specs.lowest.laws.Loops.{named-twice, passed-found, passed-end}
-use Rattle.certifying.specs.twins.laws.Hanging.{HeldTo, held-start, held-step, held-at, hangs-at}
+use Rattle.certifying.specs.twins.laws.Inserting.{HeldTo, held-start, held-step, held-at, inserts-at}
 use Rattle.certifying.proofs.twins.first_site_twin.Statement.{statement}
 use Rattle.certifying.proofs.twins.first_site_twin.Tie as tie
 
@@ -23,15 +23,15 @@ loop-holds c = held-start (c .before .before .empty .ensures .0)
 point-at-requires : tie.Need-point-at-requires Inv-loop μ-loop
 point-at-requires c κs = named-twice _ _ (c .loop-test .taken)
 
-slot-requires : tie.Need-slot-requires Inv-loop μ-loop
-slot-requires c κs = omega (arith, c .before .loop-test .taken)
+bucket-requires : tie.Need-bucket-requires Inv-loop μ-loop
+bucket-requires c κs = omega (arith, c .before .loop-test .taken)
 
-hangs-requires : tie.Need-hangs-requires Inv-loop μ-loop
-hangs-requires c κs =
-    let at-slot = c .before in
-    let at-place = at-slot .before in
+lookup-requires : tie.Need-lookup-requires Inv-loop μ-loop
+lookup-requires c κs =
+    let at-bucket = c .before in
+    let at-place = at-bucket .before in
     let test = at-place .before in
-    held-at (test .before .loop .inv) (test .loop-test .taken) (at-place .point-at .ensures) (at-slot .slot .ensures)
+    held-at (test .before .loop .inv) (test .loop-test .taken) (at-place .point-at .ensures) (at-bucket .bucket .ensures)
 
 same-length : tie.Need-same-length Inv-loop μ-loop
 same-length c = let l = c .before .before .before .before .before .before in l .loop .inv .long ∙ l .before .before .before .empty .ensures .1
@@ -40,15 +40,15 @@ returns : tie.Need-returns Inv-loop μ-loop
 returns c =
     let test = c .before .before .before .before .before in
     let l = test .before in
-    (passed-found (l .loop .inv .none) (test .loop-test .taken) (c .before .hangs .ensures) (c .if1 .taken), l .loop .inv .long ∙ l .before .before .before .empty .ensures .1)
+    (passed-found (l .loop .inv .none) (test .loop-test .taken) (c .before .lookup .ensures) (c .if1 .taken), l .loop .inv .long ∙ l .before .before .before .empty .ensures .1)
 
-hang-requires : tie.Need-hang-requires Inv-loop μ-loop
-hang-requires c κs =
-    let at-hangs = c .before .before in
-    let at-slot = at-hangs .before .before in
-    let at-place = at-slot .before in
+insert-requires : tie.Need-insert-requires Inv-loop μ-loop
+insert-requires c κs =
+    let at-lookup = c .before .before in
+    let at-bucket = at-lookup .before .before in
+    let at-place = at-bucket .before in
     let test = at-place .before in
-    hangs-at (held-at (test .before .loop .inv) (test .loop-test .taken) (at-place .point-at .ensures) (at-slot .slot .ensures))
+    inserts-at (held-at (test .before .loop .inv) (test .loop-test .taken) (at-place .point-at .ensures) (at-bucket .bucket .ensures))
 
 add-s : tie.Need-add-s Inv-loop μ-loop
 add-s c =
@@ -61,13 +61,13 @@ loop-less c = let test = c .before .before .before .before .before .before .befo
 
 loop-again : tie.Need-loop-again Inv-loop μ-loop
 loop-again c =
-    let at-hang = c .before .before in
-    let at-hangs = at-hang .before .before .before in
-    let at-slot = at-hangs .before .before in
-    let at-place = at-slot .before in
+    let at-insert = c .before .before in
+    let at-lookup = at-insert .before .before .before in
+    let at-bucket = at-lookup .before .before in
+    let at-place = at-bucket .before in
     let test = at-place .before in
-    let h = held-at (test .before .loop .inv) (test .loop-test .taken) (at-place .point-at .ensures) (at-slot .slot .ensures) in
-    held-step (test .before .loop .inv) h (at-hangs .hangs .ensures) (at-hang .before .before .if1 .left) (at-hang .hang .ensures)
+    let h = held-at (test .before .loop .inv) (test .loop-test .taken) (at-place .point-at .ensures) (at-bucket .bucket .ensures) in
+    held-step (test .before .loop .inv) h (at-lookup .lookup .ensures) (at-insert .before .before .if1 .left) (at-insert .insert .ensures)
 
 same-length-2 : tie.Need-same-length-2 Inv-loop μ-loop
 same-length-2 c = let l = c .before in l .loop .inv .long ∙ l .before .before .before .empty .ensures .1
@@ -78,5 +78,5 @@ returns-2 c = let l = c .before in (passed-end (l .loop .inv .none) (c .loop-tes
 pub first-site-twin-spec : {M : Type 1} → statement M
 first-site-twin-spec =
     tie.close
-    (tie.spec Inv-loop μ-loop empty-requires loop-holds point-at-requires slot-requires hangs-requires same-length returns hang-requires
+    (tie.spec Inv-loop μ-loop empty-requires loop-holds point-at-requires bucket-requires lookup-requires same-length returns insert-requires
     add-s loop-less loop-again same-length-2 returns-2)

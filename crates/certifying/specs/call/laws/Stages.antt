@@ -25,8 +25,8 @@ use Rattle.auditing.specs.nearer.Nearer.{toleranceOf, noLists, heldCount, beyon
 use Rattle.auditing.specs.nearer.Steps.{HeldNames}
 use Rattle.auditing.specs.places.Places.{twinAt, hasTwin}
 use Rattle.certifying.specs.sides.Sides.{endsOf, sideCount, surplusAt, leftOnce}
-use Rattle.certifying.specs.sides.Chains.{laidEnds, HangSafe, HangsAll}
-use Rattle.certifying.specs.call.Steps.{JudgeSafe, SidesHung, SideNamed}
+use Rattle.certifying.specs.sides.Chains.{laidEnds, InsertSafe, InsertsAll}
+use Rattle.certifying.specs.call.Steps.{JudgeSafe, SidesChained, SideNamed}
 use Rattle.certifying.specs.call.Verdict.{largerOf, reachOf, certifyFar, certifyTwin, twinStage, certifyNearer, nearStage, borderStage, siteOfSide, certifySide, sideStage}
 use Rattle.certifying.specs.call.Verdict.{certifyOutside, certifyOn}
 use Rattle.certifying.specs.declared.call.CertifyVerdict.{CertifyVerdict}
@@ -115,7 +115,7 @@ pub near-far : (b : BoundingBox) (bits : ℕ) (sites v : List Float) (off ix : L
 near-far b bits sites v off ix e f g = g ∙ ap (λ (t : Float). nearStage t sites v off ix) (f ∙ ap (certifyFar b) e)
 
 -- ---- the third
-module _ (b : BoundingBox) (bits : ℕ) (sites v : List Float) (off ix : List ℕ) {n : ℕ} {w : List ℕ} (h : SidesHung v off ix n w) where
+module _ (b : BoundingBox) (bits : ℕ) (sites v : List Float) (off ix : List ℕ) {n : ℕ} {w : List ℕ} (h : SidesChained v off ix n w) where
   module _ {t : Bool} (e : t ≡ leftOnce b v ix (laidEnds w n) n) where
     once-there : t ≡ leftOnce b v ix (endsOf off ix) (sideCount off)
     once-there = e ∙ ap (λ (l : List ℕ). leftOnce b v ix l n) (h .ends) ∙ ap (leftOnce b v ix (endsOf off ix)) (h .count)
@@ -214,16 +214,16 @@ module _ (off : List ℕ) (e n : ℕ) {s : ℕ} (a : NoneTo (λ i. ltb e (getD o
   unfolding siteOfSide
   ring-end h = passed-end a h
 
--- ---- the sides laid and hung in the work
+-- ---- the sides laid and inserted in the work
 module _ {b : BoundingBox} {bits : ℕ} {sites v : List Float} {off ix work : List ℕ} (a : JudgeSafe b bits sites v off ix work) {n : ℕ} (e : n ≡ sideCount off) where
-  pub hang-safe : HangSafe v off ix n work
-  hang-safe =
+  pub insert-safe : InsertSafe v off ix n work
+  insert-safe =
       let c = a .near .rings .cut in
       let k : sideCount off ≤ length ix = c .within (length off - 1) (omega (arith, c .some)) in
       record { lay = record { cut = c; few = omega (arith, k, a .near .rings .few); room = omega (arith, k, a .room) }; count = e; named = a .near .rings .named }
 
-  pub hung-safe : {new : List ℕ} → HangsAll v off ix n work new → JudgeSafe b bits sites v off ix new × SidesHung v off ix n new
-  hung-safe h =
+  pub chained-safe : {new : List ℕ} → InsertsAll v off ix n work new → JudgeSafe b bits sites v off ix new × SidesChained v off ix n new
+  chained-safe h =
       let k = a .near in (
         record {
           box = a .box;
@@ -231,5 +231,5 @@ module _ {b : BoundingBox} {bits : ℕ} {sites v : List Float} {off ix work : Li
           room = omega (arith, a .room, h .long);
           near = record { pieces = k .pieces; rings = k .rings; sites-kept = k .sites-kept; few = k .few; roomy = omega (arith, k .roomy, h .long) };
         },
-        record { count = e; ends = h .ends; hung = h .hung },
+        record { count = e; ends = h .ends; chained = h .chained },
       )

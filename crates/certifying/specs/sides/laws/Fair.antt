@@ -1,4 +1,4 @@
--- Slot by slot: where two sides hang in a slot, one there and one back, none is in surplus; where no slot has one, there is none.
+-- Bucket by bucket: where two sides are chained in a bucket, one there and one back, none is in surplus; where no bucket has one, there is none.
 use mathlib.Core.Path.{_≡_, refl, sym, ap, subst, _∙_}
 use mathlib.Core.Bool.{Bool, true, false}
 use mathlib.Core.List.{List}
@@ -14,10 +14,10 @@ use Rattle.ring_area.specs.lowest.laws.Loops.{passed-end}
 use Rattle.plane.specs.declared.points.Point.{Point}
 use Rattle.plane.specs.points.Flat.{pointAt}
 use Rattle.plane.specs.declared.boxes.BoundingBox.{BoundingBox}
-use Rattle.auditing.specs.places.Slots.{LastIn}
+use Rattle.auditing.specs.places.Buckets.{LastIn}
 use Rattle.certifying.specs.sides.Sides.{oneFor, howMany, runsAt, alongOf, moreOf, surplusOf, surplusAt}
-use Rattle.certifying.specs.sides.Chains.{slotAt, HungTo, WaysOf, RunsBack, EvenIn, FairIn}
-use Rattle.certifying.specs.sides.laws.Slots.{slot-small}
+use Rattle.certifying.specs.sides.Chains.{bucketAt, ChainedTo, WaysOf, RunsBack, EvenIn, FairIn}
+use Rattle.certifying.specs.sides.laws.Buckets.{bucket-small}
 use Rattle.certifying.specs.sides.laws.Tallies.{bit-small, bit-none}
 use Rattle.certifying.specs.sides.laws.Walking.{ways-start, ways-step, ways-end}
 
@@ -58,22 +58,22 @@ module _ (v : List Float) (ix to : List ℕ) where
       go true g = rw g refl
       go false g = rw g (e k h s)
 
-module _ {v : List Float} {ix to : List ℕ} {n : ℕ} {w : List ℕ} (h : HungTo v ix to n n w) {m : ℕ} (s : m < n) where
-  -- the last side of slot m
+module _ {v : List Float} {ix to : List ℕ} {n : ℕ} {w : List ℕ} (h : ChainedTo v ix to n n w) {m : ℕ} (s : m < n) where
+  -- the last side of bucket m
   module _ {x : ℕ} (e : x ≡ getD w (3 * m) 0) where
-    pub head-last : LastIn (slotAt v ix to n) m n x
-    head-last = rw e (h .hung .lasts m s)
+    pub head-last : LastIn (bucketAt v ix to n) m n x
+    head-last = rw e (h .chained .lasts m s)
 
-  -- the one before side x - 1 of slot m, which is the last before j
-  module _ {x j : ℕ} (l : LastIn (slotAt v ix to n) m j x) (i : j ≤ n) (o : 0 < x) where
+  -- the one before side x - 1 of bucket m, which is the last before j
+  module _ {x j : ℕ} (l : LastIn (bucketAt v ix to n) m j x) (i : j ≤ n) (o : 0 < x) where
     pub last-below : x - 1 < n
     last-below = omega (arith, l .within)
 
-    last-slot : slotAt v ix to n (x - 1) ≡ m
-    last-slot = l .there (x - 1) (omega arith)
+    last-bucket : bucketAt v ix to n (x - 1) ≡ m
+    last-bucket = l .there (x - 1) (omega arith)
 
-    pub next-last : {y : ℕ} → y ≡ getD w (3 * (x - 1) + 1) 0 → LastIn (slotAt v ix to n) m (x - 1) y
-    next-last f = rw (f, ← last-slot) (h .hung .nexts (x - 1) last-below)
+    pub next-last : {y : ℕ} → y ≡ getD w (3 * (x - 1) + 1) 0 → LastIn (bucketAt v ix to n) m (x - 1) y
+    next-last f = rw (f, ← last-bucket) (h .chained .nexts (x - 1) last-below)
 
   pub head-below : {x : ℕ} → x ≡ getD w (3 * m) 0 → 0 < x → x - 1 < n
   head-below e o = omega (arith, head-last e .within)
@@ -81,19 +81,19 @@ module _ {v : List Float} {ix to : List ℕ} {n : ℕ} {w : List ℕ} (h : HungT
   pub next-below : {x y : ℕ} → x ≡ getD w (3 * m) 0 → 0 < x → y ≡ getD w (3 * (x - 1) + 1) 0 → 0 < y → y - 1 < n
   next-below e o f u = omega (arith, head-last e .within, next-last (head-last e) (omega arith) o f .within)
 
-  -- two hang there
+  -- two are chained there
   module _ {x y : ℕ} (e : x ≡ getD w (3 * m) 0) (o : 0 < x) (f : y ≡ getD w (3 * (x - 1) + 1) 0) (u : 0 < y) (g : getD w (3 * (y - 1) + 1) 0 ≤ 0) where
-    l1 : LastIn (slotAt v ix to n) m n x
+    l1 : LastIn (bucketAt v ix to n) m n x
     l1 = head-last e
 
-    l2 : LastIn (slotAt v ix to n) m (x - 1) y
+    l2 : LastIn (bucketAt v ix to n) m (x - 1) y
     l2 = next-last l1 (omega arith) o f
 
-    l3 : LastIn (slotAt v ix to n) m (y - 1) (getD w (3 * (y - 1) + 1) 0)
+    l3 : LastIn (bucketAt v ix to n) m (y - 1) (getD w (3 * (y - 1) + 1) 0)
     l3 = next-last l2 (omega (arith, l1 .within)) u refl
 
-    -- what runs between the places of a side of slot m is one of them
-    both : (i : ℕ) → slotAt v ix to n i ≡ m → (p q : Point) → p ≡ from-of v ix to i → q ≡ to-of v ix to i
+    -- what runs between the places of a side of bucket m is one of them
+    both : (i : ℕ) → bucketAt v ix to n i ≡ m → (p q : Point) → p ≡ from-of v ix to i → q ≡ to-of v ix to i
         → WaysOf v ix to n p q (0 + oneFor (runsAt v ix to p q (x - 1)) + oneFor (runsAt v ix to p q (y - 1))) (0 + oneFor (runsAt v ix to q p (x - 1)) + oneFor (runsAt v ix to q p (y - 1)))
     both i z p q c d =
         let st = ways-start h p q (sym z ∙ rw (c, d) refl) s e in
@@ -118,13 +118,13 @@ module _ {v : List Float} {ix to : List ℕ} {n : ℕ} {w : List ℕ} (h : HungT
         (λ q. subst EvenAt (sym q) (first a))
         (λ ge. absurd (l1 .after i (omega arith) b z))
 
--- a loop down the chain of slot m: those from x on have been asked
+-- a loop down the chain of bucket m: those from x on have been asked
 pub record FairTo (b : BoundingBox) (v : List Float) (ix to : List ℕ) (n m x : ℕ) : Type 0 where
-  pub last : (j : ℕ) → x ≡ suc j → slotAt v ix to n j ≡ m
+  pub last : (j : ℕ) → x ≡ suc j → bucketAt v ix to n j ≡ m
   pub within : x ≤ n
-  pub fair : (k : ℕ) → x ≤ k → k < n → slotAt v ix to n k ≡ m → surplusAt b v ix to n k ≡ false
+  pub fair : (k : ℕ) → x ≤ k → k < n → bucketAt v ix to n k ≡ m → surplusAt b v ix to n k ≡ false
 
-module _ {b : BoundingBox} {v : List Float} {ix to : List ℕ} {n : ℕ} {w : List ℕ} (h : HungTo v ix to n n w) {m : ℕ} where
+module _ {b : BoundingBox} {v : List Float} {ix to : List ℕ} {n : ℕ} {w : List ℕ} (h : ChainedTo v ix to n n w) {m : ℕ} where
   pub fair-start : m < n → {x : ℕ} → x ≡ getD w (3 * m) 0 → FairTo b v ix to n m x
   fair-start s e = let l = head-last h s e in record { last = l .there; within = l .within; fair = λ k i j z. absurd (l .after k i j z) }
 
@@ -132,8 +132,8 @@ module _ {b : BoundingBox} {v : List Float} {ix to : List ℕ} {n : ℕ} {w : Li
     pub fair-below : x - 1 < n
     fair-below = omega (arith, a .within)
 
-    next : {y : ℕ} → y ≡ getD w (3 * (x - 1) + 1) 0 → LastIn (slotAt v ix to n) m (x - 1) y
-    next f = rw (f, ← a .last (x - 1) (omega arith)) (h .hung .nexts (x - 1) fair-below)
+    next : {y : ℕ} → y ≡ getD w (3 * (x - 1) + 1) 0 → LastIn (bucketAt v ix to n) m (x - 1) y
+    next f = rw (f, ← a .last (x - 1) (omega arith)) (h .chained .nexts (x - 1) fair-below)
 
     pub fair-less : {y : ℕ} → y ≡ getD w (3 * (x - 1) + 1) 0 → y < x
     fair-less f = omega (arith, next f .within)
@@ -149,22 +149,22 @@ module _ {b : BoundingBox} {v : List Float} {ix to : List ℕ} {n : ℕ} {w : Li
   pub fair-end : {x : ℕ} → FairTo b v ix to n m x → x ≤ 0 → FairIn b v ix to n m
   fair-end a o k i z = a .fair k (omega arith) i z
 
--- a loop over the slots
-pub record SlotsFair (b : BoundingBox) (v : List Float) (ix to : List ℕ) (n m : ℕ) : Type 0 where
+-- a loop over the buckets
+pub record BucketsFair (b : BoundingBox) (v : List Float) (ix to : List ℕ) (n m : ℕ) : Type 0 where
   pub most : m ≤ n
-  pub fair : (k : ℕ) → k < n → slotAt v ix to n k < m → surplusAt b v ix to n k ≡ false
+  pub fair : (k : ℕ) → k < n → bucketAt v ix to n k < m → surplusAt b v ix to n k ≡ false
 
 module _ (b : BoundingBox) (v : List Float) (ix to : List ℕ) (n : ℕ) where
-  pub slots-start : SlotsFair b v ix to n 0
-  slots-start = record { most = omega arith; fair = λ k i z. absurd (omega arith) }
+  pub buckets-start : BucketsFair b v ix to n 0
+  buckets-start = record { most = omega arith; fair = λ k i z. absurd (omega arith) }
 
-  pub slots-step : {m : ℕ} → SlotsFair b v ix to n m → m < n → FairIn b v ix to n m → SlotsFair b v ix to n (m + 1)
-  slots-step {m} a s f =
-      record { most = omega arith; fair = λ k i z. three (slotAt v ix to n k) m (λ g. a .fair k i g) (λ g. f k i g) (λ g. absurd (omega arith)) }
+  pub buckets-step : {m : ℕ} → BucketsFair b v ix to n m → m < n → FairIn b v ix to n m → BucketsFair b v ix to n (m + 1)
+  buckets-step {m} a s f =
+      record { most = omega arith; fair = λ k i z. three (bucketAt v ix to n k) m (λ g. a .fair k i g) (λ g. f k i g) (λ g. absurd (omega arith)) }
 
-  pub slots-end : {m : ℕ} → SlotsFair b v ix to n m → n ≤ m → n ≡ lowest (surplusAt b v ix to n) n
-  slots-end {m} a o =
+  pub buckets-end : {m : ℕ} → BucketsFair b v ix to n m → n ≤ m → n ≡ lowest (surplusAt b v ix to n) n
+  buckets-end {m} a o =
       passed-end (record { most = omega arith; none = λ k i. a .fair k i (below k i) }) (omega arith)
     where
-      below : (k : ℕ) → k < n → slotAt v ix to n k < m
-      below k i = omega (arith, slot-small n (pointAt v (getD ix k 0)) (pointAt v (getD to k 0)) (omega arith))
+      below : (k : ℕ) → k < n → bucketAt v ix to n k < m
+      below k i = omega (arith, bucket-small n (pointAt v (getD ix k 0)) (pointAt v (getD to k 0)) (omega arith))

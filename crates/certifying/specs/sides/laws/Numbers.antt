@@ -1,4 +1,4 @@
--- Where the two or four sides of a slot are the same ones there and back by the numbers of their vertices, as many run one way as the other, whatever the places.
+-- Where the two or four sides of a bucket are the same ones there and back by the numbers of their vertices, as many run one way as the other, whatever the places.
 use mathlib.Core.Path.{_≡_, refl, sym, ap, _∙_}
 use mathlib.Core.Bool.{Bool, true, false, _&&_}
 use mathlib.Core.List.{List}
@@ -10,9 +10,9 @@ use lib.ListN.{getD}
 use Rattle.plane.specs.declared.points.Point.{Point}
 use Rattle.plane.specs.points.Flat.{pointAt}
 use Rattle.auditing.specs.places.Places.{sameOf}
-use Rattle.auditing.specs.places.Slots.{LastIn}
+use Rattle.auditing.specs.places.Buckets.{LastIn}
 use Rattle.certifying.specs.sides.Sides.{oneFor, runsAt}
-use Rattle.certifying.specs.sides.Chains.{slotAt, SidesIn, HungTo, EvenIn, NumberSafe, Turned, TwoPairs}
+use Rattle.certifying.specs.sides.Chains.{bucketAt, SidesIn, ChainedTo, EvenIn, NumberSafe, Turned, TwoPairs}
 use Rattle.certifying.specs.sides.laws.Fair.{even-of, head-last, next-last}
 use Rattle.certifying.specs.sides.laws.Walking.{ways-start, ways-step, ways-end}
 
@@ -39,12 +39,12 @@ module _ {v : List Float} {ix to : List ℕ} {n : ℕ} {w : List ℕ} (a : Sides
 pub number-safe : {v : List Float} {ix to : List ℕ} {n : ℕ} {w : List ℕ} → SidesIn v ix to n w → {k : ℕ} → k < n → NumberSafe ix w k
 number-safe a h = record { few = omega (arith, a .few); entry = omega (arith, a .entries); room = omega (arith, a .room) }
 
-module _ {v : List Float} {ix to : List ℕ} {n : ℕ} {w : List ℕ} (h : HungTo v ix to n n w) {m : ℕ} (s : m < n) {x y : ℕ} (e : x ≡ getD w (3 * m) 0) (o : 0 < x)
+module _ {v : List Float} {ix to : List ℕ} {n : ℕ} {w : List ℕ} (h : ChainedTo v ix to n n w) {m : ℕ} (s : m < n) {x y : ℕ} (e : x ≡ getD w (3 * m) 0) (o : 0 < x)
     (f : y ≡ getD w (3 * (x - 1) + 1) 0) (u : 0 < y) where
-  l1 : LastIn (slotAt v ix to n) m n x
+  l1 : LastIn (bucketAt v ix to n) m n x
   l1 = head-last h s e
 
-  l2 : LastIn (slotAt v ix to n) m (x - 1) y
+  l2 : LastIn (bucketAt v ix to n) m (x - 1) y
   l2 = next-last h s l1 (omega arith) o f
 
   x-below : x - 1 < n
@@ -53,7 +53,7 @@ module _ {v : List Float} {ix to : List ℕ} {n : ℕ} {w : List ℕ} (h : HungT
   pub y-below : y - 1 < n
   y-below = omega (arith, l1 .within, l2 .within)
 
-  -- two hang there
+  -- two are chained there
   pub two-even : getD w (3 * (y - 1) + 1) 0 ≤ 0 → Turned ix w (x - 1) (y - 1) → EvenIn v ix to n m
   two-even g t i b z =
       let p = pointAt v (getD ix i 0) in
@@ -63,16 +63,16 @@ module _ {v : List Float} {ix to : List ℕ} {n : ℕ} {w : List ℕ} (h : HungT
       let ones = turned-ones (h .lie) p q x-below y-below t in
       even-of (ways-end h p q (ways-step h p q s1 u refl refl refl) g) (omega (arith, ones .0, ones .1))
 
-  -- four hang there
+  -- four are chained there
   module _ {c : ℕ} (f₂ : c ≡ getD w (3 * (y - 1) + 1) 0) (o₂ : 0 < c) where
-    l3 : LastIn (slotAt v ix to n) m (y - 1) c
+    l3 : LastIn (bucketAt v ix to n) m (y - 1) c
     l3 = next-last h s l2 (omega (arith, l1 .within)) u f₂
 
     pub z-below : c - 1 < n
     z-below = omega (arith, l1 .within, l2 .within, l3 .within)
 
     module _ {d : ℕ} (f₃ : d ≡ getD w (3 * (c - 1) + 1) 0) (o₃ : 0 < d) where
-      l4 : LastIn (slotAt v ix to n) m (c - 1) d
+      l4 : LastIn (bucketAt v ix to n) m (c - 1) d
       l4 = next-last h s l3 (omega (arith, l1 .within, l2 .within)) o₂ f₃
 
       pub d-below : d - 1 < n

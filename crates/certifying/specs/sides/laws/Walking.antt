@@ -1,4 +1,4 @@
--- The sides that hang in one slot are passed from the last one back.
+-- The sides that are chained in one bucket are passed from the last one back.
 use mathlib.Core.Path.{_≡_, refl, ap, _∙_}
 use mathlib.Core.Bool.{Bool, true, false, _&&_}
 use mathlib.Core.List.{List}
@@ -10,32 +10,32 @@ use lib.ListN.{getD}
 use Rattle.plane.specs.declared.points.Point.{Point}
 use Rattle.plane.specs.points.Flat.{pointAt}
 use Rattle.auditing.specs.places.Places.{sameOf}
-use Rattle.auditing.specs.places.Slots.{LastIn}
+use Rattle.auditing.specs.places.Buckets.{LastIn}
 use Rattle.plane.specs.declared.boxes.BoundingBox.{BoundingBox}
 use Rattle.certifying.specs.sides.Sides.{oneFor, howMany, runsAt, alongOf, moreOf, surplusOf, leavesOf, leavesAt, reachesAt, leftOnce}
-use Rattle.certifying.specs.sides.Chains.{sideSlot, slotAt, HungTo, WaysOf}
-use Rattle.certifying.specs.sides.laws.Slots.{slot-back, other-slot}
+use Rattle.certifying.specs.sides.Chains.{sideBucket, bucketAt, ChainedTo, WaysOf}
+use Rattle.certifying.specs.sides.laws.Buckets.{bucket-back, other-bucket}
 use Rattle.certifying.specs.sides.laws.Tallies.{tally-skip, tally-most}
 
--- those from x on are counted, and the one before x hangs in the slot
+-- those from x on are counted, and the one before x is chained in the bucket
 pub record WaysTo (v : List Float) (ix to : List ℕ) (n : ℕ) (p q : Point) (x there back : ℕ) : Type 0 where
   pub within : x ≤ n
-  pub slot : (k : ℕ) → x ≡ suc k → slotAt v ix to n k ≡ sideSlot n p q
+  pub bucket : (k : ℕ) → x ≡ suc k → bucketAt v ix to n k ≡ sideBucket n p q
   pub there-is : there + howMany (runsAt v ix to p q) x ≡ howMany (runsAt v ix to p q) n
   pub back-is : back + howMany (runsAt v ix to q p) x ≡ howMany (runsAt v ix to q p) n
 
-module _ {v : List Float} {ix to : List ℕ} {n : ℕ} {w : List ℕ} (h : HungTo v ix to n n w) (p q : Point) where
+module _ {v : List Float} {ix to : List ℕ} {n : ℕ} {w : List ℕ} (h : ChainedTo v ix to n n w) (p q : Point) where
   -- a last one below j leaves nothing out
-  skipped : (j x : ℕ) → LastIn (slotAt v ix to n) (sideSlot n p q) j x → howMany (runsAt v ix to p q) j ≡ howMany (runsAt v ix to p q) x
-  skipped j x l = tally-skip (runsAt v ix to p q) j x (l .within) (λ k a b. other-slot v ix to n k p q (l .after k a b))
+  skipped : (j x : ℕ) → LastIn (bucketAt v ix to n) (sideBucket n p q) j x → howMany (runsAt v ix to p q) j ≡ howMany (runsAt v ix to p q) x
+  skipped j x l = tally-skip (runsAt v ix to p q) j x (l .within) (λ k a b. other-bucket v ix to n k p q (l .after k a b))
 
-  skipped-back : (j x : ℕ) → LastIn (slotAt v ix to n) (sideSlot n p q) j x → howMany (runsAt v ix to q p) j ≡ howMany (runsAt v ix to q p) x
-  skipped-back j x l = tally-skip (runsAt v ix to q p) j x (l .within) (λ k a b. other-slot v ix to n k q p (λ e. l .after k a b (e ∙ slot-back n q p)))
+  skipped-back : (j x : ℕ) → LastIn (bucketAt v ix to n) (sideBucket n p q) j x → howMany (runsAt v ix to q p) j ≡ howMany (runsAt v ix to q p) x
+  skipped-back j x l = tally-skip (runsAt v ix to q p) j x (l .within) (λ k a b. other-bucket v ix to n k q p (λ e. l .after k a b (e ∙ bucket-back n q p)))
 
-  pub ways-start : {m x : ℕ} → m ≡ sideSlot n p q → m < n → x ≡ getD w (3 * m) 0 → WaysTo v ix to n p q x 0 0
+  pub ways-start : {m x : ℕ} → m ≡ sideBucket n p q → m < n → x ≡ getD w (3 * m) 0 → WaysTo v ix to n p q x 0 0
   ways-start {m} {x} e s f =
-      let l : LastIn (slotAt v ix to n) (sideSlot n p q) n x = rw (f, ← e) (h .hung .lasts m s) in
-      record { within = l .within; slot = l .there; there-is = plain _ _ (skipped n x l); back-is = plain _ _ (skipped-back n x l) }
+      let l : LastIn (bucketAt v ix to n) (sideBucket n p q) n x = rw (f, ← e) (h .chained .lasts m s) in
+      record { within = l .within; bucket = l .there; there-is = plain _ _ (skipped n x l); back-is = plain _ _ (skipped-back n x l) }
     where
       plain : (a b : ℕ) → a ≡ b → 0 + b ≡ a
       plain a b e = omega arith
@@ -47,8 +47,8 @@ module _ {v : List Float} {ix to : List ℕ} {n : ℕ} {w : List ℕ} (h : HungT
     pub counts-few : (there ≤ n) × (back ≤ n)
     counts-few = (omega (arith, a .there-is, tally-most (runsAt v ix to p q) n), omega (arith, a .back-is, tally-most (runsAt v ix to q p) n))
 
-    next-last : {y : ℕ} → y ≡ getD w (3 * (x - 1) + 1) 0 → LastIn (slotAt v ix to n) (sideSlot n p q) (x - 1) y
-    next-last e = rw (e, ← a .slot (x - 1) (omega arith)) (h .hung .nexts (x - 1) way-below)
+    next-last : {y : ℕ} → y ≡ getD w (3 * (x - 1) + 1) 0 → LastIn (bucketAt v ix to n) (sideBucket n p q) (x - 1) y
+    next-last e = rw (e, ← a .bucket (x - 1) (omega arith)) (h .chained .nexts (x - 1) way-below)
 
     pub next-less : {y : ℕ} → y ≡ getD w (3 * (x - 1) + 1) 0 → y < x
     next-less e = omega (arith, next-last e .within)
@@ -60,7 +60,7 @@ module _ {v : List Float} {ix to : List ℕ} {n : ℕ} {w : List ℕ} (h : HungT
         let i : x ≡ suc (x - 1) = omega arith in
         record {
           within = omega (arith, l .within, a .within);
-          slot = l .there;
+          bucket = l .there;
           there-is = plain _ _ _ _ (rw i at (a .there-is)) e (skipped (x - 1) y l);
           back-is = plain _ _ _ _ (rw i at (a .back-is)) f (skipped-back (x - 1) y l);
         }

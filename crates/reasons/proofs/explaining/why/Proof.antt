@@ -8,34 +8,34 @@ use Rattle.mesh.specs.Accepted.{siteCount}
 use Rattle.build_laws.specs.laws.CellCount.{cell-count}
 use Rattle.build_laws.specs.LateRefusals.{build-late}
 use Rattle.reasons.specs.declared.ReasonNumbers.{ReasonNumbers}
-use Rattle.reasons.specs.explaining.laws.Asked.{own-in-box, asked-keep, question-below}
+use Rattle.reasons.specs.explaining.laws.Asked.{own-arguments, asked-keep, question-below}
 use Rattle.reasons.specs.explaining.laws.Why.{why-refused, why-settled, settled-work, settled-offsets, settled-asks, settled-below, why-answered}
 use Rattle.reasons.proofs.explaining.why.Statement.{statement}
 use Rattle.reasons.proofs.explaining.why.Tie as tie
 
-abbrev Built : tie.After-slice-known10 → tie.After-build-in-box
+abbrev Built : tie.After-slice-known10 → tie.After-explain-build
 Built c = c .before .before .before .before .before .before .before .before .before .before
 
-abbrev Ask : tie.After-build-in-box → tie.After-ask-in-box
+abbrev Ask : tie.After-explain-build → tie.After-ask-arguments
 Ask c = c .before .before .before .before .before .before
 
-abbrev Begin : tie.After-build-in-box → tie.Start
+abbrev Begin : tie.After-explain-build → tie.Start
 Begin c = Ask c .before .before .before .before .before .before .before .before .before .before
 
-build-in-box-requires : tie.Need-build-in-box-requires
-build-in-box-requires c κs =
+explain-build-requires : tie.Need-explain-build-requires
+explain-build-requires c κs =
     let at = c .before .before .before .before .before in
     let start = at .before .before .before .before .before .before .before .before .before .before in
     let a = start .args in
-    let k = at .ask-in-box .ensures in
-    (k .small, λ z. asked-keep (own-in-box _ (siteCount (now (a .sites))) (a .q)) k z .0, start .pre)
+    let k = at .ask-arguments .ensures in
+    (k .small, λ z. asked-keep (own-arguments _ (siteCount (now (a .sites))) (a .q)) k z .0, start .pre)
 
 returns : tie.Need-returns
 returns c =
     let at = c .before .before in
     let b = Built (at .before) in
     let a = Begin b .args in
-    why-refused _ (own-in-box _ (siteCount (now (a .sites))) (a .q)) (Ask b .ask-in-box .ensures) _ _ (b .build-in-box .ensures)
+    why-refused _ (own-arguments _ (siteCount (now (a .sites))) (a .q)) (Ask b .ask-arguments .ensures) _ _ (b .explain-build .ensures)
     (λ z. c .if1 .taken (ap (λ (t : ReasonNumbers). t .number) (at .tell .ensures) ∙ z))
 
 add-end : tie.Need-add-end
@@ -45,7 +45,7 @@ add-end c =
     let b = Built (at .before) in
     let a = Begin b .args in
     let z = sym (ap (λ (t : ReasonNumbers). t .number) (at .tell .ensures)) ∙ e .if1 .left in
-    let s = why-settled _ (own-in-box _ (siteCount (now (a .sites))) (a .q)) (Ask b .ask-in-box .ensures) (build-late _ _) _ (b .build-in-box .ensures) z in
+    let s = why-settled _ (own-arguments _ (siteCount (now (a .sites))) (a .q)) (Ask b .ask-arguments .ensures) (build-late _ _) _ (b .explain-build .ensures) z in
     record { fits = omega (arith, s .mesh .counts .few-sites) }
 
 slice-reshare-prefix-answer : tie.Need-slice-reshare-prefix-answer
@@ -55,7 +55,7 @@ slice-reshare-prefix-answer c =
     let b = Built (at .before) in
     let a = Begin b .args in
     let z = sym (ap (λ (t : ReasonNumbers). t .number) (at .tell .ensures)) ∙ e .if1 .left in
-    let s = why-settled _ (own-in-box _ (siteCount (now (a .sites))) (a .q)) (Ask b .ask-in-box .ensures) (build-late _ _) _ (b .build-in-box .ensures) z in
+    let s = why-settled _ (own-arguments _ (siteCount (now (a .sites))) (a .q)) (Ask b .ask-arguments .ensures) (build-late _ _) _ (b .explain-build .ensures) z in
     settled-work s (cell-count _ _)
 
 slice-aggregate-answer : tie.Need-slice-aggregate-answer
@@ -65,7 +65,7 @@ slice-aggregate-answer c =
     let b = Built (at .before) in
     let a = Begin b .args in
     let z = sym (ap (λ (t : ReasonNumbers). t .number) (at .tell .ensures)) ∙ e .if1 .left in
-    let s = why-settled _ (own-in-box _ (siteCount (now (a .sites))) (a .q)) (Ask b .ask-in-box .ensures) (build-late _ _) _ (b .build-in-box .ensures) z in
+    let s = why-settled _ (own-arguments _ (siteCount (now (a .sites))) (a .q)) (Ask b .ask-arguments .ensures) (build-late _ _) _ (b .explain-build .ensures) z in
     sym (length-take-le _ _ (settled-work s (cell-count _ _)))
 
 slice-reshare-prefix-answer-2 : tie.Need-slice-reshare-prefix-answer-2
@@ -75,7 +75,7 @@ slice-reshare-prefix-answer-2 c =
     let b = Built (at .before) in
     let a = Begin b .args in
     let z = sym (ap (λ (t : ReasonNumbers). t .number) (at .tell .ensures)) ∙ e .if1 .left in
-    let s = why-settled _ (own-in-box _ (siteCount (now (a .sites))) (a .q)) (Ask b .ask-in-box .ensures) (build-late _ _) _ (b .build-in-box .ensures) z in
+    let s = why-settled _ (own-arguments _ (siteCount (now (a .sites))) (a .q)) (Ask b .ask-arguments .ensures) (build-late _ _) _ (b .explain-build .ensures) z in
     settled-offsets s (cell-count _ _)
 
 slice-aggregate-answer-2 : tie.Need-slice-aggregate-answer-2
@@ -85,7 +85,7 @@ slice-aggregate-answer-2 c =
     let b = Built (at .before) in
     let a = Begin b .args in
     let z = sym (ap (λ (t : ReasonNumbers). t .number) (at .tell .ensures)) ∙ e .if1 .left in
-    let s = why-settled _ (own-in-box _ (siteCount (now (a .sites))) (a .q)) (Ask b .ask-in-box .ensures) (build-late _ _) _ (b .build-in-box .ensures) z in
+    let s = why-settled _ (own-arguments _ (siteCount (now (a .sites))) (a .q)) (Ask b .ask-arguments .ensures) (build-late _ _) _ (b .explain-build .ensures) z in
     sym (length-take-le _ _ (settled-offsets s (cell-count _ _)))
 
 answer-requires : tie.Need-answer-requires
@@ -95,7 +95,7 @@ answer-requires c κs =
     let b = Built (at .before) in
     let a = Begin b .args in
     let z = sym (ap (λ (t : ReasonNumbers). t .number) (at .tell .ensures)) ∙ e .if1 .left in
-    let s = why-settled _ (own-in-box _ (siteCount (now (a .sites))) (a .q)) (Ask b .ask-in-box .ensures) (build-late _ _) _ (b .build-in-box .ensures) z in
+    let s = why-settled _ (own-arguments _ (siteCount (now (a .sites))) (a .q)) (Ask b .ask-arguments .ensures) (build-late _ _) _ (b .explain-build .ensures) z in
     let q = question-below (siteCount (now (a .sites))) (a .q) (s .kept .1) in (
       settled-asks s (cell-count _ _),
       settled-below s (cell-count _ _) (a .q) q,
@@ -108,13 +108,13 @@ returns-2 c =
     let b = Built (at .before) in
     let a = Begin b .args in
     let z = sym (ap (λ (t : ReasonNumbers). t .number) (at .tell .ensures)) ∙ e .if1 .left in
-    let s = why-settled _ (own-in-box _ (siteCount (now (a .sites))) (a .q)) (Ask b .ask-in-box .ensures) (build-late _ _) _ (b .build-in-box .ensures) z in
+    let s = why-settled _ (own-arguments _ (siteCount (now (a .sites))) (a .q)) (Ask b .ask-arguments .ensures) (build-late _ _) _ (b .explain-build .ensures) z in
     why-answered s (cell-count _ _) _ (c .answer .ensures)
 
 pub why-spec : {M : Type 1} → statement M
 why-spec =
     tie.close
-    (tie.spec (λ c κs. search needs) build-in-box-requires (λ c κs. search needs) (λ c. search needs) (λ c. search needs)
+    (tie.spec (λ c κs. search needs) explain-build-requires (λ c κs. search needs) (λ c. search needs) (λ c. search needs)
     (λ c. search needs) (λ c. search needs) (λ c. search needs) returns add-end slice-reshare-prefix-answer
     slice-aggregate-answer slice-reshare-prefix-answer-2 slice-aggregate-answer-2 answer-requires (λ c. search needs)
     (λ c. search needs) (λ c. search needs) (λ c. search needs) (λ c. search needs) returns-2)

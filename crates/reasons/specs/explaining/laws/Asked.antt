@@ -25,8 +25,8 @@ own-question n Nothing = record { some = tt; small = tt }
 own-question n (About s) = record { some = (λ x e. omega arith, tt); small = (λ x. omega arith, tt) }
 own-question n (Between s t) = record { some = (λ x e. omega arith, (λ x e. omega arith, tt)); small = (λ x. omega arith, (λ x. omega arith, tt)) }
 
-pub own-in-box : (sound : Bool) (n : ℕ) (q : Question) → OwnRules (boxRules sound ++ questionRules n q)
-own-in-box sound n q = let o = own-question n q in
+pub own-arguments : (sound : Bool) (n : ℕ) (q : Question) → OwnRules (boxRules sound ++ questionRules n q)
+own-arguments sound n q = let o = own-question n q in
     record { some = (λ x e. omega arith, o .some); small = (λ x. omega arith, o .small) }
 
 -- ---- the questions

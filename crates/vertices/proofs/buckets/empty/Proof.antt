@@ -1,10 +1,10 @@
--- `vertices::buckets::empty` meets its contract: the slots that were passed are empty.
+-- `vertices::buckets::empty` meets its contract: the buckets that were passed are empty.
 use Prim.{tt}
 use denote.Ref.{now}
 use Prim.Native.Nat.{_+_, _-_, _<_}
 use native.Mathlib.Omega.{arith}
 use lib.ListN.{length}
-use Rattle.vertices.specs.buckets.laws.Hanging.{heads-room, FreeTo, empty-start, empty-step, empty-end}
+use Rattle.vertices.specs.buckets.laws.Inserting.{heads-room, FreeTo, empty-start, empty-step, empty-end}
 use Rattle.vertices.proofs.buckets.empty.Statement.{statement}
 use Rattle.vertices.proofs.buckets.empty.Tie as tie
 

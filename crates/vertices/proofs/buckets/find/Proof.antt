@@ -1,10 +1,10 @@
--- `vertices::buckets::find` meets its contract: the chain of the point's slot has all that is near among those that hang, and the others are tried one by one.
+-- `vertices::buckets::find` meets its contract: the chain of the point's bucket has all that is near among those that are chained, and the others are tried one by one.
 use denote.Ref.{now}
 use mathlib.Core.Path.{_≡_}
 use Prim.Native.Nat.{ℕ, _+_, _-_, _≤_, _<_, min}
 use native.Mathlib.Omega.{arith}
 use borrow.Author.Needs.{needs}
-use Rattle.vertices.specs.buckets.laws.Chains.{chained, found-hung, found-past}
+use Rattle.vertices.specs.buckets.laws.Chains.{chained, found-inserted, found-past}
 use Rattle.vertices.proofs.buckets.find.Statement.{statement}
 use Rattle.vertices.proofs.buckets.find.Tie as tie
 
@@ -16,7 +16,7 @@ within-count a b c = omega arith
 
 in-chain-requires : tie.Need-in-chain-requires
 in-chain-requires c κs =
-    let at-slot = c in
+    let at-bucket = c in
     let at-low2 = c .before in
     let at-low = at-low2 .before in
     let at-least = at-low .before in
@@ -27,7 +27,7 @@ in-chain-requires c κs =
     let at-heads = some .before in
     let s = at-heads .before .before .before in
     chained (s .pre) (at-heads .heads-in .ensures) (some .if1 .left) (at-least .least .ensures) (at-narrow .narrow .ensures) (at-narrow2 .narrow2 .ensures) (test .if2 .taken)
-    (at-low .low .ensures) (at-low2 .low2 .ensures) (at-slot .slot .ensures)
+    (at-low .low .ensures) (at-low2 .low2 .ensures) (at-bucket .bucket .ensures)
 
 returns-2 : tie.Need-returns-2
 returns-2 c =
@@ -35,7 +35,7 @@ returns-2 c =
     let at-least = at-chain .before .before .before .before in
     let s = at-least .before .before .before .before .before .before .before .before in
     let few = few-of (s .args .count - s .args .centers) _ (at-least .least .ensures) in
-    (found-hung (now (s .args .vertices)) (s .args .p) (s .pre .centers) few (at-chain .in-chain .ensures) (c .if3 .taken), within-count (s .pre .centers) few (c .if3 .taken))
+    (found-inserted (now (s .args .vertices)) (s .args .p) (s .pre .centers) few (at-chain .in-chain .ensures) (c .if3 .taken), within-count (s .pre .centers) few (c .if3 .taken))
 
 returns-3 : tie.Need-returns-3
 returns-3 c =

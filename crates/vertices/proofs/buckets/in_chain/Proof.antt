@@ -1,4 +1,4 @@
--- `vertices::buckets::in_chain` meets its contract: what was found among those that were passed is the first near one of them, and what hangs in another slot is not near.
+-- `vertices::buckets::in_chain` meets its contract: what was found among those that were passed is the first near one of them, and what is chained in another bucket is not near.
 use Prim.{tt}
 use denote.Ref.{now}
 use mathlib.Core.Path.{_∙_, ap}
@@ -11,10 +11,10 @@ use Rattle.vertices.proofs.buckets.in_chain.Statement.{statement}
 use Rattle.vertices.proofs.buckets.in_chain.Tie as tie
 
 abbrev Inv-loop : tie.InvT-loop
-Inv-loop vertices indexes limit heads centers hung m p best₀ x₀ best x = ChainPassed vertices indexes limit centers hung m p x best
+Inv-loop vertices indexes limit heads centers inserted m p best₀ x₀ best x = ChainPassed vertices indexes limit centers inserted m p x best
 
 abbrev μ-loop : tie.MeasureT-loop
-μ-loop vertices indexes limit heads centers hung m p best₀ x₀ best x = x
+μ-loop vertices indexes limit heads centers inserted m p best₀ x₀ best x = x
 
 -- heads and links lie within the list
 within : (c : tie.Start Inv-loop μ-loop) → c .args .limit + 4 * c .args .heads ≤ length (now (c .args .indexes))
@@ -23,7 +23,7 @@ within c = omega (arith, c .pre .heads-is, c .pre .below, length-drop (c .args .
 abbrev Entry : tie.At-loop Inv-loop μ-loop → tie.Start Inv-loop μ-loop
 Entry l = l .before .before .before .before .before
 
-before : (c : tie.In-loop Inv-loop μ-loop) → c .before .loop .x < Entry (c .before) .args .hung + 1
+before : (c : tie.In-loop Inv-loop μ-loop) → c .before .loop .x < Entry (c .before) .args .inserted + 1
 before c = omega (arith, chain-before (Entry (c .before) .pre) (c .before .loop .inv) (c .loop-test .taken))
 
 add-best : tie.Need-add-best Inv-loop μ-loop

@@ -1,8 +1,8 @@
 -- `vertices::buckets::mix`: sums and products of 32 digits fit.
 use native.Mathlib.Omega.{arith}
 use mathlib.Core.Path.{refl}
-use Rattle.vertices.specs.buckets.Slots.{mixOf}
-use Rattle.vertices.specs.buckets.laws.Hanging.{mix-fits}
+use Rattle.vertices.specs.buckets.Buckets.{mixOf}
+use Rattle.vertices.specs.buckets.laws.Inserting.{mix-fits}
 use Rattle.vertices.proofs.buckets.mix.Statement.{statement}
 use Rattle.vertices.proofs.buckets.mix.Tie as tie
 

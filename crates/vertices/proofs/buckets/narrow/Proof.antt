@@ -1,5 +1,5 @@
 -- `vertices::buckets::narrow`: the two tests are the definition's.
-use Rattle.vertices.specs.buckets.Slots.{narrowOf}
+use Rattle.vertices.specs.buckets.Buckets.{narrowOf}
 use Rattle.vertices.proofs.buckets.narrow.Statement.{statement}
 use Rattle.vertices.proofs.buckets.narrow.Tie as tie
 

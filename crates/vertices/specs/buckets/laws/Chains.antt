@@ -1,4 +1,4 @@
--- How the vertices that hang in the slot of what is near p are passed, from the last one back: what was found from place x on is what the definition finds there, as nothing in another slot is near.
+-- How the vertices in the bucket of what is near p are passed, from the last one back: what was found from place x on is what the definition finds there, as nothing in another bucket is near.
 use mathlib.Core.Path.{_≡_, refl, sym, ap, _∙_}
 use mathlib.Core.Bool.{Bool, true, false, cond, _&&_}
 use mathlib.Core.List.{List, _∷_}
@@ -16,10 +16,10 @@ use Rattle.vertices.specs.Add.{nearPt, findNear}
 use Rattle.base.specs.common.laws.And.{and-left, and-right}
 use Rattle.base.specs.common.laws.Decide.{lt-or-ge}
 use Rattle.vertices.specs.Store.{Holds}
-use Rattle.vertices.specs.buckets.Slots.{lowOf, narrowOf, slotBy, slotHung, headsOf, hungOf, LastHung}
-use Rattle.vertices.specs.buckets.Steps.{SlotChain}
-use Rattle.vertices.specs.buckets.laws.Hanging.{slot-small}
-use Rattle.vertices.specs.buckets.laws.Keys.{near-slot}
+use Rattle.vertices.specs.buckets.Buckets.{lowOf, narrowOf, bucketBy, bucketFrom, headsOf, insertedOf, LastChained}
+use Rattle.vertices.specs.buckets.Steps.{BucketChain}
+use Rattle.vertices.specs.buckets.laws.Inserting.{bucket-small}
+use Rattle.vertices.specs.buckets.laws.Keys.{near-bucket}
 use Rattle.vertices.specs.laws.Points.{near-hit, near-miss, near-end}
 
 -- ---- the definition's search from place i on, up to n
@@ -51,81 +51,82 @@ module _ (v : List Float) (p : Point) where
           let m = near-miss v p i n (omega arith) e in
           rw (e, ← s) (λ a. m ∙ rw (add-one i) (t .0 a), λ a. m ∙ rw (add-one i) (t .1 a))
 
--- ---- the vertices of one slot, m
+-- ---- the vertices of one bucket, m
 
--- best is what is found from place x on, and the one before x hangs in the slot
-pub record ChainPassed (v : List Float) (ix : List ℕ) (limit nc hung m : ℕ) (p : Point) (x best : ℕ) : Type 0 where
-  pub within : x ≤ hung
-  pub there : (k : ℕ) → x ≡ suc k → slotHung (headsOf (length (drop limit ix))) v nc k ≡ m
-  pub found : best ≡ from v p (nc + hung) (nc + x)
+-- best is what is found from place x on, and the one before x is chained in the bucket
+pub record ChainPassed (v : List Float) (ix : List ℕ) (limit nc inserted m : ℕ) (p : Point) (x best : ℕ) : Type 0 where
+  pub within : x ≤ inserted
+  pub there : (k : ℕ) → x ≡ suc k → bucketFrom (headsOf (length (drop limit ix))) v nc k ≡ m
+  pub found : best ≡ from v p (nc + inserted) (nc + x)
 
-module _ {v : List Float} {ix : List ℕ} {limit heads nc hung m : ℕ} {p : Point} (c : SlotChain v ix limit heads nc hung m p) where
-  abbrev slot : ℕ → ℕ
-  slot = slotHung (headsOf (length (drop limit ix))) v nc
+module _ {v : List Float} {ix : List ℕ} {limit heads nc inserted m : ℕ} {p : Point} (c : BucketChain v ix limit heads nc inserted m p) where
+  abbrev bucket : ℕ → ℕ
+  bucket = bucketFrom (headsOf (length (drop limit ix))) v nc
 
-  other-slot : (k : ℕ) → slot k ≢ m → nearPt (pointAt v (nc + k)) p ≡ false
-  other-slot k h = go (nearPt (pointAt v (nc + k)) p) refl
+  other-bucket : (k : ℕ) → bucket k ≢ m → nearPt (pointAt v (nc + k)) p ≡ false
+  other-bucket k h = go (nearPt (pointAt v (nc + k)) p) refl
     where
       go : (b : Bool) → nearPt (pointAt v (nc + k)) p ≡ b → b ≡ false
-      go true e = absurd (h (near-slot (headsOf (length (drop limit ix))) (pointAt v (nc + k)) p (c .x-narrow) (c .y-narrow) e ∙ sym (rw (c .heads-is) at (c .slot))))
+      go true e = absurd (h (near-bucket (headsOf (length (drop limit ix))) (pointAt v (nc + k)) p (c .x-narrow) (c .y-narrow) e ∙ sym (rw (c .heads-is) at (c .bucket))))
       go false e = refl
 
-  -- nothing between two of the slot is near
-  jump : (x y : ℕ) → y ≤ x → x ≤ hung → ((k : ℕ) → y ≤ k → k < x → slot k ≢ m) → from v p (nc + hung) (nc + y) ≡ from v p (nc + hung) (nc + x)
+  -- nothing between two of the bucket is near
+  jump : (x y : ℕ) → y ≤ x → x ≤ inserted → ((k : ℕ) → y ≤ k → k < x → bucket k ≢ m) → from v p (nc + inserted) (nc + y) ≡ from v p (nc + inserted) (nc + x)
   jump x y l h f =
       let e : nc + y + (x - y) ≡ nc + x = omega arith in
-      let g = skip v p (x - y) (nc + hung) (nc + y) (omega arith) (λ j a b. rw (let q : nc + (j - nc) ≡ j = omega arith in q) at (other-slot (j - nc) (f (j - nc) (omega arith) (omega arith)))) in
+      let g = skip v p (x - y) (nc + inserted) (nc + y) (omega arith)
+      (λ j a b. rw (let q : nc + (j - nc) ≡ j = omega arith in q) at (other-bucket (j - nc) (f (j - nc) (omega arith) (omega arith)))) in
       rw e at g
 
-  pub chain-start : {x : ℕ} → x ≡ getD ix (limit + m) 0 → ChainPassed v ix limit nc hung m p x (nc + hung)
+  pub chain-start : {x : ℕ} → x ≡ getD ix (limit + m) 0 → ChainPassed v ix limit nc inserted m p x (nc + inserted)
   chain-start {x} q =
-      let l : LastHung slot m hung x = rw (q, ← getD-drop limit ix m 0) (c .hang .lasts m (rw (c .heads-is) at (c .below))) in
+      let l : LastChained bucket m inserted x = rw (q, ← getD-drop limit ix m 0) (c .in-chains .lasts m (rw (c .heads-is) at (c .below))) in
       record {
         within = l .within;
         there = l .there;
-        found = sym (jump hung x (l .within) (omega arith) (l .after) ∙ near-end v p (nc + hung) (nc + hung) (omega arith));
+        found = sym (jump inserted x (l .within) (omega arith) (l .after) ∙ near-end v p (nc + inserted) (nc + inserted) (omega arith));
       }
 
-  module _ {x best : ℕ} (g : ChainPassed v ix limit nc hung m p x best) (o : 0 < x) where
-    pub chain-before : x - 1 < hung
+  module _ {x best : ℕ} (g : ChainPassed v ix limit nc inserted m p x best) (o : 0 < x) where
+    pub chain-before : x - 1 < inserted
     chain-before = omega (arith, g .within)
 
-    last : {y : ℕ} → y ≡ getD ix (limit + (heads + (x - 1))) 0 → LastHung slot (slot (x - 1)) (x - 1) y
-    last q = rw (q, c .heads-is, ← getD-drop limit ix (headsOf (length (drop limit ix)) + (x - 1)) 0) (c .hang .nexts (x - 1) chain-before)
+    last : {y : ℕ} → y ≡ getD ix (limit + (heads + (x - 1))) 0 → LastChained bucket (bucket (x - 1)) (x - 1) y
+    last q = rw (q, c .heads-is, ← getD-drop limit ix (headsOf (length (drop limit ix)) + (x - 1)) 0) (c .in-chains .nexts (x - 1) chain-before)
 
     pub chain-less : {y : ℕ} → y ≡ getD ix (limit + (heads + (x - 1))) 0 → y < x
     chain-less q = omega (arith, last q .within)
 
     pub chain-step : {y r : ℕ} {near : Bool} → near ≡ nearPt (pointAt v (nc + (x - 1))) p → r ≡ cond near (nc + (x - 1)) best → y ≡ getD ix (limit + (heads + (x - 1))) 0
-        → ChainPassed v ix limit nc hung m p y r
+        → ChainPassed v ix limit nc inserted m p y r
     chain-step {y} {r} {near} e f q =
         let l = last q in
-        let s : slot (x - 1) ≡ m = g .there (x - 1) (omega arith) in
+        let s : bucket (x - 1) ≡ m = g .there (x - 1) (omega arith) in
         record {
           within = omega (arith, l .within, g .within);
           there = λ k z. l .there k z ∙ s;
           found = f ∙ one near (sym e) ∙ sym (jump (x - 1) y (l .within) (omega (arith, g .within)) (λ k a b z. l .after k a b (z ∙ sym s)));
         }
       where
-        one : (b : Bool) → nearPt (pointAt v (nc + (x - 1))) p ≡ b → cond b (nc + (x - 1)) best ≡ from v p (nc + hung) (nc + (x - 1))
-        one true z = sym (near-hit v p (nc + (x - 1)) (nc + hung) (omega (arith, g .within)) z)
+        one : (b : Bool) → nearPt (pointAt v (nc + (x - 1))) p ≡ b → cond b (nc + (x - 1)) best ≡ from v p (nc + inserted) (nc + (x - 1))
+        one true z = sym (near-hit v p (nc + (x - 1)) (nc + inserted) (omega (arith, g .within)) z)
         one false z =
             let w : nc + (x - 1) + 1 ≡ nc + x = omega arith in
-            g .found ∙ sym (rw w at (near-miss v p (nc + (x - 1)) (nc + hung) (omega (arith, g .within)) z))
+            g .found ∙ sym (rw w at (near-miss v p (nc + (x - 1)) (nc + inserted) (omega (arith, g .within)) z))
 
-  pub chain-end : {x best : ℕ} → ChainPassed v ix limit nc hung m p x best → x ≤ 0 → best ≡ findNear p (pointsFrom v nc hung) nc
+  pub chain-end : {x best : ℕ} → ChainPassed v ix limit nc inserted m p x best → x ≤ 0 → best ≡ findNear p (pointsFrom v nc inserted) nc
   chain-end {x} g o =
       let z : nc + x ≡ nc = omega arith in
-      let w : nc + hung - nc ≡ hung = omega arith in
+      let w : nc + inserted - nc ≡ inserted = omega arith in
       rw (z, w) at (g .found)
 
--- ---- the search among those that hang, and one by one from there on
-module _ (v : List Float) (p : Point) {nc count hung i : ℕ} (h : nc ≤ count) (q : hung ≤ count - nc) (e : i ≡ findNear p (pointsFrom v nc hung) nc) where
-  pub found-hung : i < nc + hung → i ≡ findNear p (pointsFrom v nc (count - nc)) nc
-  found-hung l = e ∙ sym (longer v p hung count nc (omega arith) .0 (omega arith))
+-- ---- the search among those that are chained, and one by one from there on
+module _ (v : List Float) (p : Point) {nc count inserted i : ℕ} (h : nc ≤ count) (q : inserted ≤ count - nc) (e : i ≡ findNear p (pointsFrom v nc inserted) nc) where
+  pub found-inserted : i < nc + inserted → i ≡ findNear p (pointsFrom v nc (count - nc)) nc
+  found-inserted l = e ∙ sym (longer v p inserted count nc (omega arith) .0 (omega arith))
 
-  pub found-past : {r : ℕ} → nc + hung ≤ i → r ≡ findNear p (pointsFrom v (nc + hung) (count - (nc + hung))) (nc + hung) → r ≡ findNear p (pointsFrom v nc (count - nc)) nc
-  found-past l k = k ∙ sym (longer v p hung count nc (omega arith) .1 (omega arith))
+  pub found-past : {r : ℕ} → nc + inserted ≤ i → r ≡ findNear p (pointsFrom v (nc + inserted) (count - (nc + inserted))) (nc + inserted) → r ≡ findNear p (pointsFrom v nc (count - nc)) nc
+  found-past l k = k ∙ sym (longer v p inserted count nc (omega arith) .1 (omega arith))
 
 -- ---- what the chain needs, from what the functions give
 few-of : (h c l : ℕ) → h ≡ min c l → h ≤ l
@@ -138,28 +139,28 @@ twice-of : (a b n : ℕ) → a ≤ b → 2 * b ≤ n → 2 * a ≤ n
 twice-of a b n h g = omega arith
 
 pub chained :
-    {v : List Float} {ix : List ℕ} {limit nc count heads hung m : ℕ} {p : Point} {a b : Bool} {x y : Float}
+    {v : List Float} {ix : List ℕ} {limit nc count heads inserted m : ℕ} {p : Point} {a b : Bool} {x y : Float}
     → Holds nc count v (drop limit ix)
     → heads ≡ headsOf (length ix - limit)
     → heads ≢ 0
-    → hung ≡ min (count - nc) (3 * heads)
+    → inserted ≡ min (count - nc) (3 * heads)
     → a ≡ narrowOf (p .x)
     → b ≡ narrowOf (p .y)
     → a && b ≡ true
     → x ≡ lowOf (p .x)
     → y ≡ lowOf (p .y)
-    → m ≡ slotBy heads x y
-    → SlotChain v ix limit heads nc hung m p
-chained {v} {ix} {limit} {nc} {count} {heads} {hung} {m} {p} {a} {b} {x} {y} h e z w i j t k l q =
+    → m ≡ bucketBy heads x y
+    → BucketChain v ix limit heads nc inserted m p
+chained {v} {ix} {limit} {nc} {count} {heads} {inserted} {m} {p} {a} {b} {x} {y} h e z w i j t k l q =
     let g : heads ≡ headsOf (length (drop limit ix)) = e ∙ ap headsOf (sym (length-drop limit ix)) in
-    let u : hung ≡ hungOf (count - nc) (length (drop limit ix)) = w ∙ ap (λ (n : ℕ). min (count - nc) (3 * n)) g in
+    let u : inserted ≡ insertedOf (count - nc) (length (drop limit ix)) = w ∙ ap (λ (n : ℕ). min (count - nc) (3 * n)) g in
     record {
       heads-is = g;
-      few = few-of hung (count - nc) (3 * heads) w;
-      room = twice-of (nc + hung) count (length v) (room-of hung nc count (3 * heads) w (h .centers)) (h .room);
-      hang = rw u (h .hang);
+      few = few-of inserted (count - nc) (3 * heads) w;
+      room = twice-of (nc + inserted) count (length v) (room-of inserted nc count (3 * heads) w (h .centers)) (h .room);
+      in-chains = rw u (h .in-chains);
       x-narrow = sym i ∙ and-left a b t;
       y-narrow = sym j ∙ and-right a b t;
-      slot = cc;
-      below = rw q (slot-small heads x y (⊎-elim (λ o. o) (λ o. absurd (z (omega arith))) (lt-or-ge 0 heads)));
+      bucket = cc;
+      below = rw q (bucket-small heads x y (⊎-elim (λ o. o) (λ o. absurd (z (omega arith))) (lt-or-ge 0 heads)));
     }

@@ -28,7 +28,7 @@ use Rattle.root.specs.laws.OneUnits.{same-units}
 use Rattle.plane.specs.declared.points.Point.{Point}
 use Rattle.plane.specs.points.Plane.{nearOf}
 use Rattle.vertices.specs.Add.{nearPt}
-use Rattle.vertices.specs.buckets.Slots.{reach, farReach, coarse, lowOf, midOf, highOf, narrowOf, slotBy}
+use Rattle.vertices.specs.buckets.Buckets.{reach, farReach, coarse, lowOf, midOf, highOf, narrowOf, bucketBy}
 
 -- ---- a difference that is rounded to at most the tolerance
 reach-is : round binary64 false 1 (2 ^ 49) ≡ reach
@@ -330,11 +330,11 @@ near-place (fin s m e) (fin t n d) k h =
     between (fin false n d ⊞ B.zero) (fin false m e ⊞ reach) (fin false n d ⊞ farReach) (up-zero n d) (up-reach m e) (up-twice n d) (low-near s t m n e d h) (high-near s t m n e d h)
     (and-left a b k) (and-right a b k)
 
--- and so one slot
-pub near-slot : (h : ℕ) (v p : Point) → narrowOf (p .x) ≡ true → narrowOf (p .y) ≡ true → nearPt v p ≡ true → slotBy h (midOf (v .x)) (midOf (v .y)) ≡ slotBy h (lowOf (p .x)) (lowOf (p .y))
+-- and so one bucket
+pub near-bucket : (h : ℕ) (v p : Point) → narrowOf (p .x) ≡ true → narrowOf (p .y) ≡ true → nearPt v p ≡ true → bucketBy h (midOf (v .x)) (midOf (v .y)) ≡ bucketBy h (lowOf (p .x)) (lowOf (p .y))
 unfolding nearPt
-near-slot h v p a b q = go (nearOf (v .x) (p .x)) refl q
+near-bucket h v p a b q = go (nearOf (v .x) (p .x)) refl q
   where
-    go : (n : Bool) → nearOf (v .x) (p .x) ≡ n → pick n (λ _. nearOf (v .y) (p .y)) (λ _. false) ≡ true → slotBy h (midOf (v .x)) (midOf (v .y)) ≡ slotBy h (lowOf (p .x)) (lowOf (p .y))
+    go : (n : Bool) → nearOf (v .x) (p .x) ≡ n → pick n (λ _. nearOf (v .y) (p .y)) (λ _. false) ≡ true → bucketBy h (midOf (v .x)) (midOf (v .y)) ≡ bucketBy h (lowOf (p .x)) (lowOf (p .y))
     go true e k = rw (near-place (v .x) (p .x) a e, near-place (v .y) (p .y) b k)
     go false e k = absurd (false≢true k)

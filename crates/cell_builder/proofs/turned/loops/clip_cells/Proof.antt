@@ -3,7 +3,7 @@ use mathlib.Core.Path.{_∙_}
 use Prim.Native.Nat.{ℕ}
 use lib.ListN.{getD}
 use borrow.Author.Needs.{needs}
-use Rattle.cell_builder.specs.tried.CellsInSlices.{Plan, plan}
+use Rattle.cell_builder.specs.tried.SlicesInvariant.{Plan, plan}
 use Rattle.cell_builder.specs.turned.laws.TryLoops.{cells-refused, cells-markable, cells-walks, cells-amid, cells-end}
 use Rattle.cell_builder.proofs.turned.loops.clip_cells.Statement.{statement}
 use Rattle.cell_builder.proofs.turned.loops.clip_cells.Tie as tie

@@ -3,7 +3,7 @@ use mathlib.Core.Path.{_≡_, refl, _∙_}
 use Prim.Native.Nat.{_-_}
 use native.Mathlib.Omega.{arith}
 use lib.ListN.{length}
-use Rattle.cell_builder.specs.tried.CellsInSlices.{plan}
+use Rattle.cell_builder.specs.tried.SlicesInvariant.{plan}
 use Rattle.cell_builder.specs.turned.laws.TryLoops.{HullsAlong, hulls-start, hulls-amid, hulls-step, hulls-refused, hulls-end}
 use Rattle.cell_builder.proofs.turned.loops.clip_hull.Statement.{statement}
 use Rattle.cell_builder.proofs.turned.loops.clip_hull.Tie as tie

@@ -7,7 +7,7 @@ use mathlib.Core.Logic.{_≢_}
 use Prim.Native.Nat.{ℕ, _-_, _≤_, _<_}
 use native.Mathlib.Omega.{arith}
 use lib.ListN.{length}
-use Rattle.cell_builder.specs.tried.CellsInSlices.{plan}
+use Rattle.cell_builder.specs.tried.SlicesInvariant.{plan}
 use Rattle.cell_builder.specs.turned.Marks.{markOf}
 use Rattle.cell_builder.specs.turned.Turns.{dueOf}
 use Rattle.cell_builder.specs.turned.laws.TryLoops.{EdgesAlong, edges-amid, edges-step, edges-refused, edges-end}

@@ -1,0 +1,77 @@
+-- How a near vertex is found: added vertices are chained in buckets by their places, in the tail of the index list. A quarter of the tail is heads, one for each bucket; the rest are links, one
+-- for each of the first vertices after the circumcenters. A head has the last vertex of its bucket, a link the one before in the same bucket: one more than its number after the
+-- circumcenters, or 0. A vertex past the links is in no chain.
+-- The place of a vertex is rounded to a grid: its magnitude and 2^21 rounded, which is a multiple of 2^-31 up to 2^21. What is near a point has the same place unless the point is
+-- within 2^-48 below a border of the grid (laws/Keys.antt, `near-bucket`). Definitions only.
+use mathlib.Core.Path.{_≡_}
+use mathlib.Core.Bool.{Bool, _&&_}
+use mathlib.Core.List.{List}
+use mathlib.Core.Logic.{_≢_}
+use Prim.Native.Nat.{ℕ, suc, _+_, _*_, _/_, _%_, _≤_, _<_, min}
+use lib.Ieee.{Float, binary64, ofBits, toBits, eq, le}
+use lib.ListN.{length, getD}
+use Rattle.base.specs.common.Binary64.{_⊞_, zero}
+use Rattle.base.specs.numbers.Numbers.{large}
+use Rattle.root.specs.Root.{magnitude}
+use Rattle.plane.specs.points.Flat.{pointAt}
+
+-- ---- places on the grid
+
+-- 2^-49, 2^-48 and 2^21
+abbrev pub reach : Float
+reach = ofBits binary64 0x3ce0_0000_0000_0000
+
+abbrev pub farReach : Float
+farReach = ofBits binary64 0x3cf0_0000_0000_0000
+
+abbrev pub coarse : Float
+coarse = ofBits binary64 0x4140_0000_0000_0000
+
+-- where x stands, and between what all that is near x stands
+abbrev pub midOf : Float → Float
+midOf x = magnitude x ⊞ reach ⊞ coarse
+
+abbrev pub lowOf : Float → Float
+lowOf x = magnitude x ⊞ zero ⊞ coarse
+
+abbrev pub highOf : Float → Float
+highOf x = magnitude x ⊞ farReach ⊞ coarse
+
+-- these are one place
+unfoldable pub narrowOf : Float → Bool
+narrowOf x = eq (lowOf x) (highOf x) && le (highOf x) large
+
+-- ---- buckets
+
+-- 22 digits of two patterns, all of theirs mixed
+unfoldable pub mixOf : ℕ → ℕ → ℕ
+mixOf a b = (a % 4294967296 + a / 4294967296 * 40503 + (b % 4294967296 * 60493 + b / 4294967296 * 51749)) % 4294967296 * 2654435769 / 1024 % 4194304
+
+-- of h
+unfoldable pub bucketBy : ℕ → Float → Float → ℕ
+bucketBy h x y = mixOf (toBits binary64 x) (toBits binary64 y) * h / 4194304
+
+-- of vertex k after the first nc
+abbrev pub bucketFrom : ℕ → List Float → ℕ → ℕ → ℕ
+bucketFrom h v nc k = bucketBy h (midOf (pointAt v (nc + k) .x)) (midOf (pointAt v (nc + k) .y))
+
+-- ---- the tail
+
+-- how many heads a tail so long has; the links are three times as many
+abbrev pub headsOf : ℕ → ℕ
+headsOf room = min room 1048576 / 4
+
+-- how many of so many vertices are chained
+abbrev pub insertedOf : ℕ → ℕ → ℕ
+insertedOf count room = min count (3 * headsOf room)
+
+-- x is one more than the last number below n whose bucket is m, or 0
+pub record LastChained (bucket : ℕ → ℕ) (m n x : ℕ) : Type 0 where
+  pub within : x ≤ n
+  pub there : (k : ℕ) → x ≡ suc k → bucket k ≡ m
+  pub after : (k : ℕ) → x ≤ k → k < n → bucket k ≢ m
+
+-- of the vertices after the first nc so many are chained
+pub record InChains (nc n : ℕ) (v : List Float) (tail : List ℕ) : Type 0 where
+  pub lasts : (m : ℕ) → m < headsOf (length tail) → LastChained (bucketFrom (headsOf (length tail)) v nc) m n (getD tail m 0)
+  pub nexts : (k : ℕ) → k < n → LastChained (bucketFrom (headsOf (length tail)) v nc) (bucketFrom (headsOf (length tail)) v nc k) k (getD tail (headsOf (length tail) + k) 0)
