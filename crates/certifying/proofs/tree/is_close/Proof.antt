@@ -30,8 +30,12 @@ spanned-requires-2 c κs =
 loop-less : tie.Need-loop-less Inv-loop μ-loop
 loop-less c =
     let at-smaller = c .before .before .before in let t = at-smaller .before in let s = t .before .before .before .before .before in
-    omega (arith, t .loop-test .taken, at-smaller .smaller .ensures .1,
-    end-past _ _ _ _ (omega (arith, t .loop-test .taken)) (s .pre .0) (at-smaller .smaller .ensures .2))
+    omega (
+      arith,
+      t .loop-test .taken,
+      at-smaller .smaller .ensures .1,
+      end-past _ _ _ _ (omega (arith, t .loop-test .taken)) (s .pre .0) (at-smaller .smaller .ensures .2),
+    )
 
 pub is-close-spec : {M : Type 1} → statement M
 is-close-spec =
