@@ -12,7 +12,7 @@ use base::numbers::wide;
 use plane::points::Point;
 use plane::points::point_at;
 ghost use mathlib.Core.Path.{_≡_};
-ghost use mathlib.Core.Bool.{true};
+ghost use mathlib.Core.Bool.{true, false};
 ghost use mathlib.Core.List.{[]};
 ghost use mathlib.Core.Logic.{_⊎_};
 ghost use Prim.Native.Nat.{_+_, _*_, _/_, _≤_, _<_};
@@ -24,6 +24,7 @@ ghost use Rattle.auditing.specs.nearer.Nearer.{beyond, cellNearer, siteNearer};
 ghost use Rattle.certifying.specs.windows.Windows.{EdgesHeld};
 ghost use Rattle.certifying.specs.tree.Tree.{cornerPast};
 ghost use Rattle.certifying.specs.tree.Steps.{SitesHeld, TwoSites, Lower, Higher, FourNamed, Widens, BoxesFrom, Order, Reordered, swapped, NodeNamed, FillSafe};
+ghost use Rattle.certifying.specs.tree.Steps.{Sifted, PlacesNamed, ListedAsked};
 ghost use Rattle.certifying.specs.tree.Steps.{NodeFilled, LevelFilled, base256, base4096, TreeOf, nodeOff, OffFrom, LevelSafe, RingSafe, PassedFrom, PieceSafe, PiecesHeld, TreeSafe};
 
 // The sites of least and of greatest coordinates.
@@ -400,7 +401,7 @@ fn level_out(sites: &[f64], room: &[u32], c: Window, j: usize, w: usize, base: u
     node_out(sites, room, c, base + 4 * (j / w))
 }
 
-// How many places from j on are off the window at once.
+// How many places from j on are off the window at once, in blocks.
 fn places_out(sites: &[f64], room: &[u32], c: Window, j: usize) -> usize
     requires { ⌜ TreeOf (now sites) (now room) × SitesHeld (now sites) × EdgesHeld c × (j < length (now sites) / 2) ⌝ }
     ensures { λ r. ⌜ OffFrom (now (sites .entry)) (now (room .entry)) c j (j + r) × (r ≤ 4096) ⌝ }
@@ -414,10 +415,6 @@ fn places_out(sites: &[f64], room: &[u32], c: Window, j: usize) -> usize
     }
     if level_out(sites, room, c, j, 16, n) {
         return 16;
-    }
-    let o = point_at(sites, wide(room[j]));
-    if is_off(c, o.x, o.y, o.x, o.y) {
-        return 1;
     }
     0
 }
@@ -447,7 +444,54 @@ fn some_past(far: f64, s: Point, o: Point, vertices: &[f64], entries: &[u32]) ->
     false
 }
 
-// How many places from j on have no site that a corner is nearer to; 0: the one at j is such a site.
+fn one_unless(t: bool) -> usize
+    ensures { λ r. ⌜ (t ≡ true → r ≡ 0) × (t ≡ false → r ≡ 1) × (r ≤ 1) ⌝ }
+{
+    if t { 0 } else { 1 }
+}
+
+// Lists the places from one to another, at most 16, whose sites are not off the window, and says how many they are. Without a branch on what is off: nobody can foresee it.
+fn sift(sites: &[f64], room: &[u32], w: Window, from: usize, to: usize, list: &mut [u32]) -> usize
+    requires { ⌜ TreeOf (now sites) (now room) × SitesHeld (now sites) × EdgesHeld w × (to ≤ length (now sites) / 2) × (to ≤ from + 16) × (16 ≤ length (now list)) × (from ≤ to) ⌝ }
+    ensures { λ r. ⌜ Sifted (now (sites .entry)) (now (room .entry)) w from to r (now (list .exit)) × (length (now (list .exit)) ≡ length (now (list .entry))) ⌝ }
+{
+    let mut count = 0;
+    let mut j = from;
+    while j < to {
+        list[count] = narrow(j);
+        let o = point_at(sites, wide(room[j]));
+        count += one_unless(is_off(w, o.x, o.y, o.x, o.y));
+        j += 1;
+    }
+    count
+}
+
+// Whether a corner of the ring is nearer to the site of one of so many places.
+fn some_listed(
+    far: f64,
+    sites: &[f64],
+    room: &[u32],
+    site: Point,
+    vertices: &[f64],
+    entries: &[u32],
+    list: &[u32],
+    count: usize,
+) -> bool
+    requires { ⌜ Order (length (now sites) / 2) (now room) × EntriesNamed (now entries) (length (now vertices) / 2) × PlacesNamed (length (now sites) / 2) count (now list) ⌝ }
+    ensures { λ r. ⌜ ListedAsked far (now (sites .entry)) (now (room .entry)) site (now (vertices .entry)) (now (entries .entry)) (now (list .entry)) count r ⌝ }
+{
+    let mut k = 0;
+    while k < count {
+        let o = point_at(sites, wide(room[wide(list[k])]));
+        if some_past(far, site, o, vertices, entries) {
+            return true;
+        }
+        k += 1;
+    }
+    false
+}
+
+// How many places from j on have no site that a corner is nearer to; 0: there is such a site.
 fn passed(
     far: f64,
     sites: &[f64],
@@ -465,10 +509,13 @@ fn passed(
     if 0 < r {
         return r;
     }
-    if some_past(far, site, point_at(sites, wide(room[j])), vertices, entries) {
+    let to = smaller(j + 16, sites.len() / 2);
+    let mut list = [0u32; 16];
+    let count = sift(sites, room, w, j, to, &mut list);
+    if some_listed(far, sites, room, site, vertices, entries, &list, count) {
         return 0;
     }
-    1
+    to - j
 }
 
 // Whether some corner of the ring is nearer to another site.
