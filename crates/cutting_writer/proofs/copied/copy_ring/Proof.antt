@@ -24,10 +24,13 @@ same-length : tie.Need-same-length
 same-length c = c .before .before .before .indexes .given
 
 returns-6 : tie.Need-returns-6
-returns-6 c = (λ z. absurd (false≢true (sym z)), λ _.
-    let a = c .before .before .before .before .before .before .before .before .before .before .before .before .before .before .before .before .before .before .before .args in
-    lap-copied (a .b) (now (a .halfedges)) (now (a .centers)) (a .t) (a .n) _ _ _ (c .before .before .before .before .before .before .before .before .before .before .stage-ring .ensures (said-yes _ _ refl (c .before .before .before .before .before .before .before .if5 .left))) (a .pen) (now (a .indexes)) (c .before .before .before .before .before .before .before .before .before .before .before .before .before .before .if2 .left)
-    (c .before .before .before .before .put-back .ensures))
+returns-6 c = (
+  λ z. absurd (false≢true (sym z)),
+  λ _.
+      let a = c .before .before .before .before .before .before .before .before .before .before .before .before .before .before .before .before .before .before .before .args in
+      lap-copied (a .b) (now (a .halfedges)) (now (a .centers)) (a .t) (a .n) _ _ _ (c .before .before .before .before .before .before .before .before .before .before .stage-ring .ensures (said-yes _ _ refl (c .before .before .before .before .before .before .before .if5 .left))) (a .pen) (now (a .indexes)) (c .before .before .before .before .before .before .before .before .before .before .before .before .before .before .if2 .left)
+      (c .before .before .before .before .put-back .ensures),
+)
 
 pub copy-ring-spec : {M : Type 1} → statement M
 copy-ring-spec =

@@ -36,13 +36,12 @@ shared-slice-read-e c = omega (arith, c .before .next-halfedge .ensures, c .befo
 
 loop-holds : tie.Need-loop-holds Inv-loop μ-loop
 loop-holds c =
-    let a = c .before .before .before .before .before .before .before .before .before .before .before .before .before .before .before .before .before .before .args in
-    (
+    let a = c .before .before .before .before .before .before .before .before .before .before .before .before .before .before .before .before .before .before .args in (
       lapping-start (a .b) (now (a .halfedges)) (now (a .centers)) (a .t) (now (a .stage)) (omega (arith, c .before .before .before .before .before .before .before .before .before .before .before .before .before .before .if1 .left, c .before .before .before .before .before .before .before .before .before .before .before .before .before .before .before .before .before .before .pre .2)) (c .before .before .before .before .before .before .before .before .before .before .before .before .before .before .before .before .before .before .pre .0)
-      (omega (arith, c .before .before .before .before .before .before .before .before .before .before .if4 .left, c .before .before .before .before .before .before .before .before .before .before .before .wide .ensures))
-      (sym (ap (onHull (now (a .halfedges))) (c .before .before .before .before .before .before .before .before .before .wide2 .ensures)) ∙ sym (c .before .before .before .before .before .before .before .before .on-hull .ensures) ∙ c .before .before .before .before .before .before .before .if5 .left) _
-      (c .before .before .before .before .before .point-at .ensures ∙ ap (pointAt (now (a .centers))) (c .before .before .before .before .before .before .wide3 .ensures)) (said-yes _ _ (c .before .before .before .before .is-inside .ensures) (c .before .before .before .if6 .left)) _
-      (ap (λ k. getD (now (a .halfedges)) k 0) (c .before .next-halfedge .ensures ∙ ap nextOf (c .before .before .wide4 .ensures))),
+          (omega (arith, c .before .before .before .before .before .before .before .before .before .before .if4 .left, c .before .before .before .before .before .before .before .before .before .before .before .wide .ensures))
+          (sym (ap (onHull (now (a .halfedges))) (c .before .before .before .before .before .before .before .before .before .wide2 .ensures)) ∙ sym (c .before .before .before .before .before .before .before .before .on-hull .ensures) ∙ c .before .before .before .before .before .before .before .if5 .left) _
+          (c .before .before .before .before .before .point-at .ensures ∙ ap (pointAt (now (a .centers))) (c .before .before .before .before .before .before .wide3 .ensures)) (said-yes _ _ (c .before .before .before .before .is-inside .ensures) (c .before .before .before .if6 .left)) _
+          (ap (λ k. getD (now (a .halfedges)) k 0) (c .before .next-halfedge .ensures ∙ ap nextOf (c .before .before .wide4 .ensures))),
       refl,
       omega (arith, c .before .before .before .before .before .before .before .before .before .before .before .before .before .before .if1 .left),
     )
@@ -89,13 +88,12 @@ loop-less c = omega (arith, c .before .before .before .before .before .before .b
 loop-again : tie.Need-loop-again Inv-loop μ-loop
 loop-again c =
     let a = c .before .before .before .before .before .before .before .before .before .before .before .before .before .before .before .before .before .before .before .before .before .before .before .before .before .before .before .before .before .before .before .before .args in
-    let l = c .before .before .before .before .before .before .before .before .before .before .before .before .before .loop in
-    (
+    let l = c .before .before .before .before .before .before .before .before .before .before .before .before .before .loop in (
       lapping-step (a .b) (now (a .halfedges)) (now (a .centers)) (a .t) (l .stage) (l .i) (l .e) _ (l .last) (l .inv .0) (omega (arith, c .before .before .before .before .before .before .before .before .before .before .before .before .loop-test .taken, c .before .before .before .before .before .before .before .before .before .before .before .before .before .before .before .before .before .before .before .before .before .before .before .before .before .before .before .if2 .left))
-      (room (c .before .before .before)) (c .before .before .before .before .before .before .before .before .before .before .before .if7 .left) (omega (arith, c .before .before .before .before .before .before .before .before .before .if8 .left, c .before .before .before .before .before .before .before .before .before .before .wide5 .ensures)) _
-      (c .before .before .before .before .before .before .before .point-at2 .ensures ∙ ap (pointAt (now (a .centers))) (c .before .before .before .before .before .before .before .before .wide6 .ensures)) (said-yes _ _ (c .before .before .before .before .before .before .is-inside2 .ensures) (c .before .before .before .before .before .if9 .left))
-      (sym (c .before .before .before .before .same-place .ensures) ∙ c .before .before .before .if10 .left) _
-      (ap (λ k. getD (now (a .halfedges)) k 0) (c .before .next-halfedge2 .ensures ∙ ap nextOf (c .before .before .wide7 .ensures))),
+          (room (c .before .before .before)) (c .before .before .before .before .before .before .before .before .before .before .before .if7 .left) (omega (arith, c .before .before .before .before .before .before .before .before .before .if8 .left, c .before .before .before .before .before .before .before .before .before .before .wide5 .ensures)) _
+          (c .before .before .before .before .before .before .before .point-at2 .ensures ∙ ap (pointAt (now (a .centers))) (c .before .before .before .before .before .before .before .before .wide6 .ensures)) (said-yes _ _ (c .before .before .before .before .before .before .is-inside2 .ensures) (c .before .before .before .before .before .if9 .left))
+          (sym (c .before .before .before .before .same-place .ensures) ∙ c .before .before .before .if10 .left) _
+          (ap (λ k. getD (now (a .halfedges)) k 0) (c .before .next-halfedge2 .ensures ∙ ap nextOf (c .before .before .wide7 .ensures))),
       length-set (l .stage) (l .i) (l .e / 3) ∙ l .inv .1,
       omega (arith, c .before .before .before .before .before .before .before .before .before .before .before .before .loop-test .taken),
     )

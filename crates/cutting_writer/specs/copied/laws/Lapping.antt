@@ -69,7 +69,7 @@ module _ (b : BoundingBox) (he : List ℕ) (centers : List Float) (t : ℕ) wher
     some = omega arith;
     inked = λ pen ix none.
         let laid : laidTo (set stage 0 (t / 3)) (pen .at) 1 ix ≡ set ix (pen .at) (t / 3) =
-            laid-step stage (pen .at) 0 ix (t / 3) room ∙ (let z : pen .at + 0 ≡ pen .at = omega arith in ap (λ (k : ℕ). set ix k (t / 3)) z) in
+        laid-step stage (pen .at) 0 ix (t / 3) room ∙ (let z : pen .at + 0 ≡ pen .at = omega arith in ap (λ (k : ℕ). set ix k (t / 3)) z) in
         inking-step he t (page pen centers ix) pen ix (length he) t (record { all = refl; entries = refl }) (omega arith) there p here (penIn pen 1 p p)
         (laidTo (set stage 0 (t / 3)) (pen .at) 1 ix) (on-first pen p none, laid ∙ entries-first pen p (t / 3) ix none) (turnOf he t t) refl;
   }
@@ -92,7 +92,7 @@ module _ (b : BoundingBox) (he : List ℕ) (centers : List Float) (t : ℕ) wher
           let on : turnOf he t (x .from) ≡ e = rw (ne-eqb (around he (x .from)) t (λ z. other (x .next ∙ z))) (sym (x .next)) in
           let here-inked : Inking he t (page pen centers ix) (penIn pen i first last) (laidTo stage (pen .at) i ix) (length he - i) e = rw on at (x .inked pen ix none) in
           let laid : laidTo (set stage i (e / 3)) (pen .at) (i + 1) ix ≡ set (laidTo stage (pen .at) i ix) (pen .at + i) (e / 3) =
-              rw (add-one i) (laid-step stage (pen .at) i ix (e / 3) room) in
+          rw (add-one i) (laid-step stage (pen .at) i ix (e / 3) room) in
           let z : length he - i - 1 ≡ length he - (i + 1) = omega arith in
           rw z at (inking-step he t (page pen centers ix) (penIn pen i first last) (laidTo stage (pen .at) i ix) (length he - i) e here-inked (omega arith) there p here
           (penIn pen (i + 1) first p) (laidTo (set stage i (e / 3)) (pen .at) (i + 1) ix)
@@ -118,5 +118,5 @@ pub lap-copied : (b : BoundingBox) (he : List ℕ) (centers : List Float) (t n :
 lap-copied b he centers t n stage first last x pen ix none {m} q =
     let p = lap-ended pen n first last (x .apart) (x .many) in
     let k : m ≡ turnedRound (pen .at) (penEnded (pen .at) (penIn pen n first last) .at) (laidTo stage (pen .at) n ix) =
-        q ∙ ap (λ (z : Pen). turnedRound (pen .at) (z .at) (laidTo stage (pen .at) n ix)) p in
+    q ∙ ap (λ (z : Pen). turnedRound (pen .at) (z .at) (laidTo stage (pen .at) n ix)) p in
     record { inside = x .inside; made = (λ i. page (p i) centers (k i)) ∙ ap (ended (pen .at)) (x .inked pen ix none) }

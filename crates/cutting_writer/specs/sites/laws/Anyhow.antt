@@ -54,5 +54,5 @@ module _ (b : BoundingBox) (sites : List Float) (tri he : List ℕ) (centers : �
 pub alike-cleared : (n a : ℕ) (l m : List ℕ) → length l ≡ length m → ((k : ℕ) → k < n → getD l k 0 ≡ getD m k 0) → clearedFrom n a l ≡ clearedFrom n a m
 alike-cleared n a l m long same =
     let z : take n l ≡ take n m = ext-getD 0 (take n l) (take n m) (omega (arith, length-take n l, length-take n m, long)) (λ k p.
-        getD-take n l k 0 (omega (arith, length-take n l)) ∙ same k (omega (arith, length-take n l)) ∙ sym (getD-take n m k 0 (omega (arith, length-take n l)))) in
+    getD-take n l k 0 (omega (arith, length-take n l)) ∙ same k (omega (arith, length-take n l)) ∙ sym (getD-take n m k 0 (omega (arith, length-take n l)))) in
     λ i. z i ++ replicate (long i - n) a
