@@ -2,23 +2,21 @@
 use mathlib.Core.Path.{_≡_, refl, sym, ap, subst, _∙_}
 use mathlib.Core.Bool.{Bool, true, false, not, Bool·not-not}
 use mathlib.Core.List.{List}
-use Prim.Native.Nat.{ℕ, suc, _+_, _-_, _/_, _≤_, _<_}
+use Prim.Native.Nat.{ℕ, _+_, _-_, _/_, _≤_, _<_}
 use native.Mathlib.Omega.{arith}
 use native.Mathlib.Numerals.{add-one}
 use lib.Ieee.{Float}
-use lib.ListN.{length, set, length-set}
+use lib.ListN.{length, set}
 use borrow.Author.Tests.{eq-eqb, ne-eqb}
 use Rattle.base.specs.numbers.Numbers.{EMPTY}
 use Rattle.plane.specs.points.Flat.{pointAt}
 use Rattle.plane.specs.sides.Sides.{insideOf}
 use Rattle.plane.specs.declared.points.Point.{Point}
 use Rattle.plane.specs.declared.boxes.BoundingBox.{BoundingBox}
-use Rattle.mesh.specs.Mesh.{around, turnOf, wholeOf}
-use Rattle.cutting.specs.cuts.Stream.{feedAll}
+use Rattle.mesh.specs.Mesh.{around, turnOf}
 use Rattle.cutting.specs.rings.Names.{onHull}
 use Rattle.cutting.specs.declared.pen.Pen.{Pen}
-use Rattle.cutting.specs.pen.Pen.{samePlace, repeats, Page, page, penOn, entriesOn}
-use Rattle.cutting_writer.specs.ring.Inside.{RingInside, outOn}
+use Rattle.cutting.specs.pen.Pen.{samePlace, repeats, page, penOn, entriesOn}
 use Rattle.cutting_writer.specs.ring.laws.Walks.{Scan, scan-start, scan-step, scan-end, Inking, inking-over, inking-step}
 use Rattle.cutting_writer.specs.turn.Turned.{turnedRound}
 use Rattle.cutting_writer.specs.end.Ended.{penEnded, ended}
@@ -69,15 +67,12 @@ module _ (b : BoundingBox) (he : List ℕ) (centers : List Float) (t : ℕ) wher
     some = omega arith;
     inked = λ pen ix none.
         let laid : laidTo (set stage 0 (t / 3)) (pen .at) 1 ix ≡ set ix (pen .at) (t / 3) =
-            laid-step stage (pen .at) 0 ix (t / 3) room ∙ (let z : pen .at + 0 ≡ pen .at = omega arith in ap (λ (k : ℕ). set ix k (t / 3)) z) in
+        laid-step stage (pen .at) 0 ix (t / 3) room ∙ (let z : pen .at + 0 ≡ pen .at = omega arith in ap (λ (k : ℕ). set ix k (t / 3)) z) in
         inking-step he t (page pen centers ix) pen ix (length he) t (record { all = refl; entries = refl }) (omega arith) there p here (penIn pen 1 p p)
         (laidTo (set stage 0 (t / 3)) (pen .at) 1 ix) (on-first pen p none, laid ∙ entries-first pen p (t / 3) ix none) (turnOf he t t) refl;
   }
 
   module _ (stage : List ℕ) (i e : ℕ) (first last : Point) (x : Lapping stage i e first last) where
-    pub lapping-small : length he < EMPTY
-    lapping-small = x .scan .small
-
     pub lapping-step : i < length he → i < length stage → (e ≡ t → ⊥) → e < length he → (p : Point) → p ≡ pointAt centers (e / 3) → insideOf b p ≡ true
         → samePlace last p ≡ false → (a : ℕ) → a ≡ around he e → Lapping (set stage i (e / 3)) (i + 1) a first p
     unfolding turnOf
@@ -92,7 +87,7 @@ module _ (b : BoundingBox) (he : List ℕ) (centers : List Float) (t : ℕ) wher
           let on : turnOf he t (x .from) ≡ e = rw (ne-eqb (around he (x .from)) t (λ z. other (x .next ∙ z))) (sym (x .next)) in
           let here-inked : Inking he t (page pen centers ix) (penIn pen i first last) (laidTo stage (pen .at) i ix) (length he - i) e = rw on at (x .inked pen ix none) in
           let laid : laidTo (set stage i (e / 3)) (pen .at) (i + 1) ix ≡ set (laidTo stage (pen .at) i ix) (pen .at + i) (e / 3) =
-              rw (add-one i) (laid-step stage (pen .at) i ix (e / 3) room) in
+          rw (add-one i) (laid-step stage (pen .at) i ix (e / 3) room) in
           let z : length he - i - 1 ≡ length he - (i + 1) = omega arith in
           rw z at (inking-step he t (page pen centers ix) (penIn pen i first last) (laidTo stage (pen .at) i ix) (length he - i) e here-inked (omega arith) there p here
           (penIn pen (i + 1) first p) (laidTo (set stage i (e / 3)) (pen .at) (i + 1) ix)
@@ -118,5 +113,5 @@ pub lap-copied : (b : BoundingBox) (he : List ℕ) (centers : List Float) (t n :
 lap-copied b he centers t n stage first last x pen ix none {m} q =
     let p = lap-ended pen n first last (x .apart) (x .many) in
     let k : m ≡ turnedRound (pen .at) (penEnded (pen .at) (penIn pen n first last) .at) (laidTo stage (pen .at) n ix) =
-        q ∙ ap (λ (z : Pen). turnedRound (pen .at) (z .at) (laidTo stage (pen .at) n ix)) p in
+    q ∙ ap (λ (z : Pen). turnedRound (pen .at) (z .at) (laidTo stage (pen .at) n ix)) p in
     record { inside = x .inside; made = (λ i. page (p i) centers (k i)) ∙ ap (ended (pen .at)) (x .inked pen ix none) }
