@@ -25,7 +25,7 @@ pub struct Lap {
 }
 
 // Whether a ring was copied, and the pen after it.
-pub struct Copied {
+pub struct CopiedRing {
     pub done: bool,
     pub pen: Pen,
 }
@@ -124,13 +124,13 @@ pub fn copy_ring(
     n: usize,
     pen: Pen,
     indexes: &mut [u32],
-) -> Copied
+) -> CopiedRing
     requires { ⌜ (length (now halfedges) < EMPTY) × (2 * (length (now halfedges) / 3) ≤ length (now centers)) ⌝ }
     ensures { λ r. ⌜ (r .done ≡ false → now (indexes .exit) ≡ now (indexes .entry))
         × (r .done ≡ true → CopiedInto b (now (halfedges .entry)) t (page pen (now (centers .entry)) (now (indexes .entry))) (page (r .pen) (now (centers .entry)) (now (indexes .exit)))) ⌝ }
 {
     let begin = pen.at;
-    let no = Copied {
+    let no = CopiedRing {
         done: false,
         pen: pen,
     };
@@ -162,7 +162,7 @@ pub fn copy_ring(
         first: first,
         last: last,
     };
-    Copied {
+    CopiedRing {
         done: true,
         pen: after,
     }

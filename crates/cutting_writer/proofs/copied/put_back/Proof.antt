@@ -1,12 +1,12 @@
 -- `cutting_writer::copied::put_back`: as far as it came the stage stands there the other way round.
 use Prim.Native.Nat.{_-_}
-use Rattle.cutting_writer.specs.copied.laws.Laying.{Putting, putting-start, putting-step, putting-end}
+use Rattle.cutting_writer.specs.copied.laws.Laying.{PuttingBack, putting-start, putting-step, putting-end}
 use native.Mathlib.Omega.{arith}
 use Rattle.cutting_writer.proofs.copied.put_back.Statement.{statement}
 use Rattle.cutting_writer.proofs.copied.put_back.Tie as tie
 
 abbrev Inv-loop : tie.InvT-loop
-Inv-loop stage n at ix₀ i₀ ix i = Putting stage at ix₀ n i ix
+Inv-loop stage n at ix₀ i₀ ix i = PuttingBack stage at ix₀ n i ix
 
 abbrev μ-loop : tie.MeasureT-loop
 μ-loop stage n at ix₀ i₀ ix i = n - i

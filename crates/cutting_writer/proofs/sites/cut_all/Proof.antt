@@ -33,16 +33,34 @@ mul-d : tie.Need-mul-d Inv-loop μ-loop
 mul-d c = omega (arith, c .before .loop .inv .3, c .before .loop .inv .0 .place, c .before .before .before .before .before .before .before .before .before .pre .one-more)
 
 slice-read-d : tie.Need-slice-read-d Inv-loop μ-loop
-slice-read-d c = omega (arith, c .before .before .loop .inv .3, c .before .before .loop .inv .0 .place, c .before .before .before .before .before .before .before .before .before .before .pre .one-more)
+slice-read-d c = omega (
+  arith,
+  c .before .before .loop .inv .3,
+  c .before .before .loop .inv .0 .place,
+  c .before .before .before .before .before .before .before .before
+      .before .before .pre .one-more,
+)
 
 cast-offsets : tie.Need-cast-offsets Inv-loop μ-loop
 cast-offsets c = omega (arith, sheeting-at _ _ _ _ _ _ (c .before .before .before .loop .inv .0))
 
 mul-offsets : tie.Need-mul-offsets Inv-loop μ-loop
-mul-offsets c = omega (arith, c .before .before .before .loop .inv .3, c .before .before .before .loop .inv .0 .place, c .before .before .before .before .before .before .before .before .before .before .before .pre .one-more)
+mul-offsets c = omega (
+  arith,
+  c .before .before .before .loop .inv .3,
+  c .before .before .before .loop .inv .0 .place,
+  c .before .before .before .before .before .before
+      .before .before .before .before .before .pre .one-more,
+)
 
 slice-write-offsets : tie.Need-slice-write-offsets Inv-loop μ-loop
-slice-write-offsets c = omega (arith, c .before .before .before .loop .inv .3, c .before .before .before .loop .inv .0 .place, c .before .before .before .before .before .before .before .before .before .before .before .pre .one-more)
+slice-write-offsets c = omega (
+  arith,
+  c .before .before .before .loop .inv .3,
+  c .before .before .before .loop .inv .0 .place,
+  c .before .before .before .before .before
+      .before .before .before .before .before .before .pre .one-more,
+)
 
 mul-cut-site : tie.Need-mul-cut-site Inv-loop μ-loop
 mul-cut-site c = omega arith
@@ -51,7 +69,13 @@ shared-slice-read-cut-site : tie.Need-shared-slice-read-cut-site Inv-loop μ-loo
 shared-slice-read-cut-site c = omega arith
 
 cut-site-requires : tie.Need-cut-site-requires Inv-loop μ-loop
-cut-site-requires c κs = (c .before .before .before .before .before .before .before .before .before .before .before .before .before .before .pre .thirds, c .before .before .before .before .before .before .before .before .before .before .before .before .before .before .pre .small, sheeting-asks _ _ _ _ _ _ (c .before .before .before .before .before .before .loop .inv .0) (omega arith))
+cut-site-requires c κs = (
+  c .before .before .before .before .before .before .before .before .before .before .before .before .before .before .pre .thirds,
+  c .before
+      .before .before .before .before .before .before .before .before .before .before .before .before .before .pre .small,
+  sheeting-asks _ _ _ _ _ _ (c .before .before
+      .before .before .before .before .loop .inv .0) (omega arith),
+)
 
 add-s : tie.Need-add-s Inv-loop μ-loop
 add-s c = omega (arith, c .before .before .before .before .before .before .before .before .before .before .before .before .before .before .before .before .before .before .before .pre .few)
@@ -61,7 +85,8 @@ loop-less c = omega arith
 
 loop-again : tie.Need-loop-again Inv-loop μ-loop
 loop-again c = (
-  sheeting-step _ _ _ _ _ _ (c .before .before .before .before .before .before .before .before .before .before .before .loop .inv .0) (omega arith) (c .before .before .before .before .cut-site .ensures),
+  sheeting-step _ _ _ _ _ _ (c .before .before .before .before .before .before .before .before .before .before .before .loop .inv .0) (omega arith) (c .before .before
+      .before .before .cut-site .ensures),
   c .before .before .before .vertices .given ∙ c .before .before .before .before .before .before .before .before .before .before .before .loop .inv .1,
   c .before .indexes .given ∙ c .before .before .before .before .before .before .before .before .before .before .before .loop .inv .2,
   simp length-set (c .before .before .before .before .before .before .before .before .before .before .before .loop .inv .3),

@@ -31,13 +31,15 @@ cut-any-requires c κs =
       p .0,
       p .1,
       subst (λ (l : List ℕ). Ready (a .centers) (page (a .pen) (now (a .vertices)) l)
-          (siteInk (a .b) (now (a .sites)) (now (a .triangles)) (now (a .halfedges)) (a .centers) (page (a .pen) (now (a .vertices)) l) (a .t))) (sym (c .before .before .before .before .before .copy-ring .ensures .0 (c .before .before .if1 .left))) (p .2),
+          (siteInk (a .b) (now (a .sites)) (now (a .triangles)) (now (a .halfedges)) (a .centers) (page (a .pen) (now (a .vertices)) l) (a .t))) (sym (c .before .before
+          .before .before .before .copy-ring .ensures .0 (c .before .before .if1 .left))) (p .2),
     )
 
 returns-2 : tie.Need-returns-2
 returns-2 c =
     let a = c .before .before .before .before .before .before .before .before .before .before .before .before .before .before .before .before .before .before .before .args in
-    c .before .before .before .before .cut-any .ensures ∙ ap (λ (l : List ℕ). siteCut (a .b) (now (a .sites)) (now (a .triangles)) (now (a .halfedges)) (a .centers) (page (a .pen) (now (a .vertices)) l) (a .t))
+    c .before .before .before .before .cut-any .ensures ∙ ap (λ (l : List ℕ). siteCut (a .b) (now (a .sites)) (now (a .triangles)) (now (a .halfedges)) (a .centers)
+    (page (a .pen) (now (a .vertices)) l) (a .t))
     (c .before .before .before .before .before .before .before .before .before .before .copy-ring .ensures .0 (c .before .before .before .before .before .before .before .if1 .left))
 
 pub cut-site-spec : {M : Type 1} → statement M

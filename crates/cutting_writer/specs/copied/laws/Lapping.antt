@@ -2,23 +2,21 @@
 use mathlib.Core.Path.{_≡_, refl, sym, ap, subst, _∙_}
 use mathlib.Core.Bool.{Bool, true, false, not, Bool·not-not}
 use mathlib.Core.List.{List}
-use Prim.Native.Nat.{ℕ, suc, _+_, _-_, _/_, _≤_, _<_}
+use Prim.Native.Nat.{ℕ, _+_, _-_, _/_, _≤_, _<_}
 use native.Mathlib.Omega.{arith}
 use native.Mathlib.Numerals.{add-one}
 use lib.Ieee.{Float}
-use lib.ListN.{length, set, length-set}
+use lib.ListN.{length, set}
 use borrow.Author.Tests.{eq-eqb, ne-eqb}
 use Rattle.base.specs.numbers.Numbers.{EMPTY}
 use Rattle.plane.specs.points.Flat.{pointAt}
 use Rattle.plane.specs.sides.Sides.{insideOf}
 use Rattle.plane.specs.declared.points.Point.{Point}
 use Rattle.plane.specs.declared.boxes.BoundingBox.{BoundingBox}
-use Rattle.mesh.specs.Mesh.{around, turnOf, wholeOf}
-use Rattle.cutting.specs.cuts.Stream.{feedAll}
+use Rattle.mesh.specs.Mesh.{around, turnOf}
 use Rattle.cutting.specs.rings.Names.{onHull}
 use Rattle.cutting.specs.declared.pen.Pen.{Pen}
-use Rattle.cutting.specs.pen.Pen.{samePlace, repeats, Page, page, penOn, entriesOn}
-use Rattle.cutting_writer.specs.ring.Inside.{RingInside, outOn}
+use Rattle.cutting.specs.pen.Pen.{samePlace, repeats, page, penOn, entriesOn}
 use Rattle.cutting_writer.specs.ring.laws.Walks.{Scan, scan-start, scan-step, scan-end, Inking, inking-over, inking-step}
 use Rattle.cutting_writer.specs.turn.Turned.{turnedRound}
 use Rattle.cutting_writer.specs.end.Ended.{penEnded, ended}
@@ -75,9 +73,6 @@ module _ (b : BoundingBox) (he : List ℕ) (centers : List Float) (t : ℕ) wher
   }
 
   module _ (stage : List ℕ) (i e : ℕ) (first last : Point) (x : Lapping stage i e first last) where
-    pub lapping-small : length he < EMPTY
-    lapping-small = x .scan .small
-
     pub lapping-step : i < length he → i < length stage → (e ≡ t → ⊥) → e < length he → (p : Point) → p ≡ pointAt centers (e / 3) → insideOf b p ≡ true
         → samePlace last p ≡ false → (a : ℕ) → a ≡ around he e → Lapping (set stage i (e / 3)) (i + 1) a first p
     unfolding turnOf

@@ -1,6 +1,6 @@
 -- The entries of a stage laid into a list one by one, and the same turned round as they are put there the other way round (`putting-start`, `putting-step`, `putting-end`).
 use mathlib.Core.Path.{_≡_, refl, sym, ap, _∙_}
-use mathlib.Core.Bool.{Bool, true, false}
+use mathlib.Core.Bool.{false}
 use mathlib.Core.List.{List}
 use mathlib.Core.Logic.{⊎-elim}
 use Prim.Native.Nat.{ℕ, zero, suc, _+_, _-_, _≤_, _<_}
@@ -63,18 +63,18 @@ module _ (stage : List ℕ) (at : ℕ) (ix : List ℕ) where
       (eq-or-ne k n)
 
   -- ---- put there the other way round: the first i of n
-  pub record Putting (n i : ℕ) (m : List ℕ) : Type 0 where
+  pub record PuttingBack (n i : ℕ) (m : List ℕ) : Type 0 where
     pub some : i ≤ n
     pub long : length m ≡ length ix
     pub put : (k : ℕ) → k < i → getD m (at + k) 0 ≡ getD stage (n - 1 - k) 0
     pub before : (k : ℕ) → k < at → getD m k 0 ≡ getD ix k 0
     pub after : (k : ℕ) → at + i ≤ k → getD m k 0 ≡ getD ix k 0
 
-  pub putting-start : (n : ℕ) → Putting n 0 ix
+  pub putting-start : (n : ℕ) → PuttingBack n 0 ix
   putting-start n = record { some = omega arith; long = refl; put = λ k h. absurd (omega arith); before = λ k h. refl; after = λ k h. refl }
 
-  module _ (n i : ℕ) (m : List ℕ) (x : Putting n i m) (room : at + n ≤ length ix) where
-    pub putting-step : i < n → Putting n (i + 1) (set m (at + i) (getD stage (n - 1 - i) 0))
+  module _ (n i : ℕ) (m : List ℕ) (x : PuttingBack n i m) (room : at + n ≤ length ix) where
+    pub putting-step : i < n → PuttingBack n (i + 1) (set m (at + i) (getD stage (n - 1 - i) 0))
     putting-step more = record {
       some = omega arith;
       long = length-set m (at + i) (getD stage (n - 1 - i) 0) ∙ x .long;
@@ -89,7 +89,8 @@ module _ (stage : List ℕ) (at : ℕ) (ix : List ℕ) where
     }
 
     pub putting-end : n ≤ i → m ≡ turnedRound at (at + n) (laidTo stage at n ix)
-    putting-end over = ext-getD 0 m (turnedRound at (at + n) (laidTo stage at n ix)) (x .long ∙ sym (turned-length at (at + n) (laidTo stage at n ix) 0 low high ∙ laid-long stage at n ix)) (λ k p. ⊎-elim
+    putting-end over = ext-getD 0 m (turnedRound at (at + n) (laidTo stage at n ix)) (x .long ∙ sym (turned-length at (at + n) (laidTo stage at n ix) 0 low high ∙
+        laid-long stage at n ix)) (λ k p. ⊎-elim
         (λ h. x .before k h ∙ sym (before-part at (at + n) (laidTo stage at n ix) 0 low high k h ∙ laid-before n k h))
         (λ h. ⊎-elim
         (λ g. middle k h g)

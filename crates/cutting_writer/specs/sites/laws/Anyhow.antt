@@ -2,7 +2,7 @@
 use mathlib.Core.Path.{_≡_, refl, sym, ap, _∙_}
 use mathlib.Core.List.{List, [], _∷_, _++_}
 use mathlib.Core.Logic.{⊎-elim}
-use Prim.Native.Nat.{ℕ, suc, _+_, _-_, _≤_, _<_}
+use Prim.Native.Nat.{ℕ, suc, _+_, _-_, _<_}
 use native.Mathlib.Omega.{arith}
 use lib.Ieee.{Float}
 use lib.ListN.{length, getD, set, take, replicate, length-set, length-take}
@@ -49,7 +49,8 @@ module _ (b : BoundingBox) (sites : List Float) (tri he : List ℕ) (centers : �
 
   pub sheet-anyhow : (table : List ℕ) (g : Page) (off other : List ℕ) → length off ≡ length other → length table < length off
       → AlikeTo (length table + 1) (sheetFrom b sites tri he centers 0 table (on g off)) (sheetFrom b sites tri he centers 0 table (on g other))
-  sheet-anyhow table g off other long room = let z : 0 + length table + 1 ≡ length table + 1 = omega arith in rw z at (alike-from table 0 g off other long (omega arith) (λ k low. absurd (omega arith)))
+  sheet-anyhow table g off other long room = let z : 0 + length table + 1 ≡ length table + 1 = omega arith in rw z at (alike-from table 0 g off other long (omega arith)
+      (λ k low. absurd (omega arith)))
 
 pub alike-cleared : (n a : ℕ) (l m : List ℕ) → length l ≡ length m → ((k : ℕ) → k < n → getD l k 0 ≡ getD m k 0) → clearedFrom n a l ≡ clearedFrom n a m
 alike-cleared n a l m long same =
