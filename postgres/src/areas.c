@@ -19,15 +19,8 @@ static Datum as_bytes(const uint8 *image, size_t length, void *with)
     return PointerGetDatum(bytes);
 }
 
-/* What a row shows of a gauge. */
-typedef struct {
-    double area, reach;
-    const uint8 *image;
-    size_t length;
-} Shown;
-
-/* Of each gauge, in the order of the list; made in the order of the sites, which is that of memory. */
-static Shown *shown_of(Survey *p)
+/* With images, in the order of the list; made in the order of the sites, which is that of memory. */
+static Shown *shown_images(Survey *p)
 {
     Images images = all_images(p);
     Shown *shown = palloc(sizeof(Shown) * p->n);
@@ -36,49 +29,17 @@ static Shown *shown_of(Survey *p)
         Shown *one = shown + (p->was ? p->was[i] : i);
 
         one->area = p->areas[i], one->reach = piece_reach(p, i);
-        one->image = image_of(p, &images, i, &one->length);
+        one->piece = image_of(p, &images, i, &one->length);
     }
     CHECK_FOR_INTERRUPTS();
     return shown;
 }
 
-enum { LISTS_TAKE = 350 }; /* bytes a gauge: two triangles, each with seven vertices and sixteen indexes */
-
-/* The rows stay in memory where they take no more than the lists that they are made of. */
-static void keep_rows(ReturnSetInfo *info, size_t n)
-{
-    MemoryContext before = MemoryContextSwitchTo(info->econtext->ecxt_per_query_memory);
-
-    tuplestore_end(info->setResult);
-    info->setResult = tuplestore_begin_heap((info->allowedModes & SFRM_Materialize_Random) != 0, false, Max(work_mem, (int)(n * LISTS_TAKE / 1024)));
-    MemoryContextSwitchTo(before);
-}
-
-enum { AHEAD = 8 }; /* rows: the images lie elsewhere for each, and are fetched while others are written */
-
 Datum put_pieces(FunctionCallInfo fcinfo, Survey *p, const Keys *keys, Maker make, void *with)
 {
-    ReturnSetInfo *info = (ReturnSetInfo *)fcinfo->resultinfo;
-    const Shown *shown = shown_of(p);
     Growing own = {0};
 
-    if (!make)
-        make = as_bytes, with = &own;
-    give_back(p);
-    keep_rows(info, p->n);
-    for (size_t i = 0; i < p->n; i++) {
-        Datum values[4] = {keys ? keys->key[i] : Int32GetDatum((int32)i + 1), Float8GetDatum(shown[i].area), Float8GetDatum(shown[i].reach),
-                           make(shown[i].image, shown[i].length, with)};
-        bool nulls[4] = {keys && keys->none[i], false, false, false};
-
-        if (i + AHEAD < p->n)
-            for (size_t k = 0; k < shown[i + AHEAD].length; k += 64)
-                __builtin_prefetch(shown[i + AHEAD].image + k);
-        tuplestore_putvalues(info->setResult, info->setDesc, values, nulls);
-        if (i % 1024 == 0)
-            CHECK_FOR_INTERRUPTS();
-    }
-    return (Datum)0;
+    return make ? put_rows(fcinfo, p, keys, shown_images(p), make, with) : put_rows(fcinfo, p, keys, shown_images(p), as_bytes, &own);
 }
 
 void read_keys(ArrayType *array, size_t n, Keys *keys)

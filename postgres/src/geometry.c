@@ -188,8 +188,6 @@ typedef struct {
     int32 srid;
     StringInfoData bytes;
     struct varlena *last; /* that was received, or NULL */
-    Growing value;
-    enum { NOT_TRIED, SAME, ANOTHER } form; /* whether kept_polygon makes what the type's input makes */
 } Writer;
 
 static void open_writer(Writer *w, Oid type, int32 srid)
@@ -201,8 +199,6 @@ static void open_writer(Writer *w, Oid type, int32 srid)
     w->srid = srid;
     initStringInfo(&w->bytes);
     w->last = NULL;
-    w->value = (Growing){0};
-    w->form = NOT_TRIED;
 }
 
 /* By the type's input: the head of the Polygon with the reference system put in. */
@@ -219,21 +215,56 @@ static struct varlena *received(Writer *w, const uint8 *image, size_t length)
     return w->last;
 }
 
-/* A piece as a geometry. The first one is made by the type's input, and the others as it is kept only where that gives the same bytes. An empty one is always received. */
-static Datum piece_geometry(const uint8 *image, size_t length, void *with)
+static Datum by_input(const uint8 *image, size_t length, void *with)
 {
-    Writer *w = with;
-    struct varlena *by_input, *own;
+    return PointerGetDatum(received(with, image, length));
+}
 
-    if (w->form == ANOTHER || length == EMPTY_IMAGE)
-        return PointerGetDatum(received(w, image, length));
-    own = kept_polygon(&w->value, w->srid, image, length);
-    if (w->form == NOT_TRIED) {
-        by_input = received(w, image, length);
-        w->form = VARSIZE(own) == VARSIZE(by_input) && memcmp(own, by_input, VARSIZE(own)) == 0 ? SAME : ANOTHER;
-        return PointerGetDatum(by_input);
+/* Whether kept_polygon makes what the type's input makes, of the first piece that has ground. */
+static bool is_kept_so(Writer *w, const Survey *p)
+{
+    size_t site = 0, bytes;
+    bytea *image;
+    char *own;
+    double reach;
+    bool same;
+
+    while (site < p->n && p->areas[site] == 0)
+        site++;
+    if (site == p->n)
+        return false;
+    image = piece_wkb(p, site);
+    own = palloc(kept_bytes(p->offsets[site + 1] - p->offsets[site]));
+    bytes = kept_polygon(own, w->srid, p, site, &reach);
+    received(w, (const uint8 *)VARDATA(image), VARSIZE(image) - VARHDRSZ);
+    same = VARSIZE(w->last) == bytes && memcmp(own, w->last, bytes) == 0;
+    pfree(own), pfree(image);
+    return same;
+}
+
+/* The pieces as PostGIS keeps them, in the order of the list; made in the order of the sites, which is that of memory. A piece of no area is the empty polygon. */
+static Shown *shown_kept(Writer *w, const Survey *p)
+{
+    static const uint8 empty[9] = {1, 3, 0, 0, 0, 0, 0, 0, 0};
+    struct varlena *nothing = received(w, empty, sizeof empty);
+    size_t room = ROW_BYTES + Max(kept_bytes(0), MAXALIGN(VARSIZE(nothing)));
+    Shown *shown = palloc(sizeof(Shown) * p->n);
+    char *to = palloc(p->n * room + sizeof(Point) * p->offsets[p->n]);
+
+    for (size_t i = 0; i < p->n; i++) {
+        uint32 place = p->was ? p->was[i] : (uint32)i;
+        Shown *one = shown + place;
+
+        one->area = p->areas[i], one->piece = to += ROW_BYTES;
+        if (p->areas[i] == 0)
+            memcpy(to, nothing, one->length = VARSIZE(nothing)), one->reach = piece_reach(p, i);
+        else
+            one->length = kept_polygon(to, w->srid, p, i, &one->reach);
+        form_row(place + 1, one);
+        to += MAXALIGN(one->length);
     }
-    return PointerGetDatum(own);
+    CHECK_FOR_INTERRUPTS();
+    return shown;
 }
 
 /* ---- the functions */
@@ -246,7 +277,7 @@ static Datum put_geometries(FunctionCallInfo fcinfo, const Point *places, size_t
 
     sound_survey(&p, places, n, box);
     open_writer(&w, TupleDescAttr(((ReturnSetInfo *)fcinfo->resultinfo)->setDesc, 3)->atttypid, srid);
-    return put_pieces(fcinfo, &p, keys, piece_geometry, &w);
+    return is_kept_so(&w, &p) ? put_rows(fcinfo, &p, keys, shown_kept(&w, &p), NULL, NULL) : put_pieces(fcinfo, &p, keys, by_input, &w);
 }
 
 SQL_FUNCTION(yelmuzard_geometry_pieces) /* (points, frame) */

@@ -3,7 +3,6 @@
  * What has any other flag, Z and M too, is left to the type's own output. */
 #include "yelmuzard.h"
 
-#include <float.h>
 #include <math.h>
 
 enum { EXTENT = 0x04, VERSION = 0x40, SYSTEM_BYTES = 4, EXTENT_BYTES = 16, PART_BYTES = 24 };
@@ -74,12 +73,17 @@ Point *kept_places(const struct varlena *value, size_t *n, int32 *srid)
     return places;
 }
 
-/* The float next to a number that is not above it, and the one that is not below it. */
+/* The float next to a coordinate that is not above it, and the one that is not below it; no coordinate is near the greatest float. Without a branch: on which side the nearest one
+ * lies nobody can foresee. */
 static float down(double x)
 {
-    float near = (float)x;
+    union {
+        float number;
+        int32 pattern; /* the next float toward 0 has one less, the next away from it one more */
+    } near = {(float)x};
 
-    return near <= x ? near : nextafterf(near, -FLT_MAX);
+    near.pattern -= (near.pattern >> 31 | 1) * (near.number > x);
+    return near.number;
 }
 
 static float up(double x)
@@ -87,24 +91,39 @@ static float up(double x)
     return -down(-x);
 }
 
-struct varlena *kept_polygon(Growing *g, int32 srid, const uint8 *image, size_t length)
+/* The bytes before the places: of the length, the reference system, the extent, and the shape, which ends them at a multiple of eight. */
+enum { PLACES = VARHDRSZ + SYSTEM_BYTES + EXTENT_BYTES + 16 };
+
+size_t kept_bytes(size_t corners)
 {
-    enum { IMAGE_HEAD = 13, PLACES = VARHDRSZ + SYSTEM_BYTES + EXTENT_BYTES + 16 };
-    size_t bytes = length - IMAGE_HEAD;
-    struct varlena *value = grown(g, PLACES + bytes);
-    char *to = VARDATA(value), *places = (char *)value + PLACES;
+    return PLACES + sizeof(Point) * (corners + 1);
+}
+
+size_t kept_polygon(char *to, int32 srid, const Survey *p, size_t site, double *reach)
+{
+    const uint32 *index = p->indexes + p->offsets[site];
+    size_t corners = p->offsets[site + 1] - p->offsets[site], bytes = kept_bytes(corners);
+    const Point *vertices = (const Point *)p->vertices, own = ((const Point *)p->sites)[site];
     const uint8 system[SYSTEM_BYTES] = {srid >> 16 & 255, srid >> 8 & 255, srid & 255, VERSION | EXTENT};
-    const uint32 shape[4] = {A_POLYGON, 1, (uint32)(bytes / 16), 0}; /* one ring; the places stand at a multiple of eight */
-    const Point *at = (const Point *)places, *end = (const Point *)(places + bytes);
-    Point least, most;
+    const uint32 shape[4] = {A_POLYGON, 1, (uint32)corners + 1, 0}; /* one ring */
+    Point *place = (Point *)(to + PLACES), least = vertices[index[0]], most = least;
+    double farthest = 0; /* as in piece_reach */
     float extent[4];
 
-    memcpy(places, image + IMAGE_HEAD, bytes);
-    for (least = most = *at; at < end; at++) {
-        least.x = Min(least.x, at->x), least.y = Min(least.y, at->y);
-        most.x = Max(most.x, at->x), most.y = Max(most.y, at->y);
+    for (size_t i = 0; i < corners; i++) {
+        const Point at = vertices[index[i]];
+        double x = at.x - own.x, y = at.y - own.y;
+
+        place[i] = at;
+        least.x = Min(least.x, at.x), least.y = Min(least.y, at.y);
+        most.x = Max(most.x, at.x), most.y = Max(most.y, at.y);
+        farthest = Max(farthest, x * x + y * y);
     }
+    place[corners] = place[0];
     extent[0] = down(least.x), extent[1] = up(most.x), extent[2] = down(least.y), extent[3] = up(most.y);
-    memcpy(to, system, sizeof system), memcpy(to + SYSTEM_BYTES, extent, sizeof extent), memcpy(to + SYSTEM_BYTES + EXTENT_BYTES, shape, sizeof shape);
-    return value;
+    SET_VARSIZE(to, bytes);
+    memcpy(to + VARHDRSZ, system, sizeof system), memcpy(to + VARHDRSZ + SYSTEM_BYTES, extent, sizeof extent);
+    memcpy(to + VARHDRSZ + SYSTEM_BYTES + EXTENT_BYTES, shape, sizeof shape);
+    *reach = sqrt(farthest);
+    return bytes;
 }

@@ -97,7 +97,7 @@ Images all_images(Survey *p)
 
 const uint8 *image_of(const Survey *p, const Images *images, size_t site, size_t *length)
 {
-    static const uint8 empty[EMPTY_IMAGE] = {1, 3, 0, 0, 0, 0, 0, 0, 0};
+    static const uint8 empty[9] = {1, 3, 0, 0, 0, 0, 0, 0, 0};
 
     *length = p->areas[site] == 0 ? sizeof empty : (size_t)(images->starts[site + 1] - images->starts[site]);
     return p->areas[site] == 0 ? empty : images->at + images->starts[site];

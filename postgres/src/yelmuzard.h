@@ -128,10 +128,25 @@ typedef struct {
 } Keys;
 
 extern void read_keys(ArrayType *array, size_t n, Keys *keys);
-/* What is made of a piece's image in Well-Known Binary; it may stand where the one before stood. */
+/* What a row shows of a gauge: its area, its reach, and its piece, as the value itself or as an image in Well-Known Binary of so many bytes. */
+typedef struct {
+    double area, reach;
+    const void *piece;
+    size_t length;
+} Shown;
+
+/* What is made of an image; it may stand where the one before stood. */
 typedef Datum (*Maker)(const uint8 *image, size_t length, void *with);
-/* A row for each gauge: its key or else its number, area, reach, and its piece: what `make` makes of it, or where that is NULL its image. After InitMaterializedSRF. */
+/* A row for each gauge: its key or else its number, area, reach, and its piece: what `make` makes of its image, or where that is NULL the image. After InitMaterializedSRF. */
 extern Datum put_pieces(FunctionCallInfo fcinfo, Survey *p, const Keys *keys, Maker make, void *with);
+/* ---- rows.c */
+
+enum { ROW_BYTES = 40 }; /* before a piece that is a value: room for its row */
+
+/* Forms the row of a number before its piece. */
+extern void form_row(uint32 number, const Shown *one);
+/* A row for each of what is to be shown, in the order of the list; where `make` is NULL the pieces are values, and where there are no keys too each stands behind its row. The lists of the survey are given back. */
+extern Datum put_rows(FunctionCallInfo fcinfo, Survey *p, const Keys *keys, const Shown *shown, Maker make, void *with);
 
 /* ---- audit.c */
 
@@ -170,8 +185,9 @@ extern void refuse_boxes(void) pg_attribute_noreturn();
 /* A Point, or a MultiPoint, of two coordinates: false, or NULL, where it is another geometry, has an empty Point, or is kept otherwise. */
 extern bool kept_place(const struct varlena *value, Point *place, int32 *srid);
 extern Point *kept_places(const struct varlena *value, size_t *n, int32 *srid);
-/* The Polygon of an image in Well-Known Binary, which is not the empty one's. */
-extern struct varlena *kept_polygon(Growing *g, int32 srid, const uint8 *image, size_t length);
+/* The bytes of the Polygon of a piece of so many corners; and it, written there, with its reach. */
+extern size_t kept_bytes(size_t corners);
+extern size_t kept_polygon(char *to, int32 srid, const Survey *p, size_t site, double *reach);
 
 /* ---- lists.c: arguments and results */
 
@@ -208,8 +224,6 @@ typedef struct {
     uint8 *at;
     uint64 *starts;
 } Images;
-
-enum { EMPTY_IMAGE = 9 }; /* bytes of an empty one's; every other is longer */
 
 extern Images all_images(Survey *p);
 /* The image of one; a piece of no area is no polygon, and its image that of an empty one. */

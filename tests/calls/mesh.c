@@ -1,4 +1,5 @@
-/* The check of a mesh through the C interface: the checked inputs of docs/use/RULES.md by name, a check of its own beside it on damaged meshes, and the time of the largest mesh.
+/* The check of a mesh through the C interface: the checked inputs of docs/use/RULES.md by name, a check of its own beside it on damaged meshes,
+ * sites with many half-edges, and the time of the largest mesh.
  *
  *   mesh COUNT [SEED]    compares COUNT damaged meshes; exit status 1 where a number or a work slice differs, or a number never came up
  *
@@ -388,6 +389,44 @@ static void damaged(uint64_t cases)
     printf("\n");
 }
 
+/* ---- a site with many half-edges: amid `ring` others, with two triangles back to back beside them, which have the site too where its fan is to be broken */
+
+static void hub(uint32_t ring, int broken)
+{
+    uint32_t number = broken ? 10 : 0, got;
+    set_sites(ring + 4);
+    entry_count = halfedge_count = 3 * (size_t)ring + 6;
+    hull_count = ring;
+    for (uint32_t i = 0; i < ring; i++) {
+        uint32_t e = 3 * i, next_site = (i + 1) % ring;
+        triangles[e] = 0, triangles[e + 1] = 1 + i, triangles[e + 2] = 1 + next_site;
+        halfedges[e + 1] = E, halfedges[e + 2] = 3 * next_site, halfedges[3 * next_site] = e + 2;
+        hull[i] = 1 + i;
+    }
+    uint32_t back[] = {broken ? 0 : ring + 3, ring + 1, ring + 2, broken ? 0 : ring + 3, ring + 2, ring + 1};
+    for (uint32_t k = 0; k < 6; k++) {
+        triangles[3 * ring + k] = back[k];
+        halfedges[3 * ring + k] = 3 * ring + 5 - k;
+    }
+    make_table();
+    got = run();
+    if (got != number || !work_holds(number)) {
+        printf("FAILED: a site amid %u: %u, must be %u%s\n", ring, got, number, work_holds(number) ? "" : ", work slice wrong");
+        failures++;
+    }
+}
+
+/* 8,191 half-edges of a site are counted beside its table entry; where there are more the check goes another way */
+static void hubs(void)
+{
+    static const uint32_t rings[] = {3, 8188, 8189, 8190, 8191, 8192, 8193, 65532};
+    for (size_t i = 0; i < LENGTH(rings); i++) {
+        hub(rings[i], 0);
+        hub(rings[i], 1);
+    }
+    printf("sites amid 3 to 65,532 others, with whole and with broken fans\n");
+}
+
 /* ---- the largest mesh, its pairs by place: half-edge e of square c has its pair in the same square or a neighbour */
 
 static void largest(void)
@@ -442,6 +481,7 @@ int main(int words, char **word)
     }
     named();
     damaged(cases);
+    hubs();
     largest();
     printf(failures ? "mesh: %d failed\n" : "mesh: all as it must be\n", failures);
     return failures != 0;

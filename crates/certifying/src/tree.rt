@@ -12,7 +12,7 @@ use base::numbers::wide;
 use plane::points::Point;
 use plane::points::point_at;
 ghost use mathlib.Core.Path.{_≡_};
-ghost use mathlib.Core.Bool.{true};
+ghost use mathlib.Core.Bool.{true, false};
 ghost use mathlib.Core.List.{[]};
 ghost use mathlib.Core.Logic.{_⊎_};
 ghost use Prim.Native.Nat.{_+_, _*_, _/_, _≤_, _<_};
@@ -24,6 +24,7 @@ ghost use Rattle.auditing.specs.nearer.Nearer.{beyond, cellNearer, siteNearer};
 ghost use Rattle.certifying.specs.windows.Windows.{EdgesHeld};
 ghost use Rattle.certifying.specs.tree.Tree.{cornerPast};
 ghost use Rattle.certifying.specs.tree.Steps.{SitesHeld, TwoSites, Lower, Higher, FourNamed, Widens, BoxesFrom, Order, Reordered, swapped, NodeNamed, FillSafe};
+ghost use Rattle.certifying.specs.tree.Steps.{Sifted, PlacesNamed, ListedAsked};
 ghost use Rattle.certifying.specs.tree.Steps.{NodeFilled, LevelFilled, base256, base4096, TreeOf, nodeOff, OffFrom, LevelSafe, RingSafe, PassedFrom, PieceSafe, PiecesHeld, TreeSafe};
 
 // The sites of least and of greatest coordinates.
@@ -282,12 +283,81 @@ fn halve_all(sites: &[f64], room: &mut [u32], half: usize)
     }
 }
 
+// ---- whether an order is needed
+// With one place more.
+fn stretched(w: Window, p: Point) -> Window {
+    let left = lesser(w.left, p.x);
+    let top = lesser(w.top, p.y);
+    let right = greater(w.right, p.x);
+    let bottom = greater(w.bottom, p.y);
+    Window {
+        left,
+        top,
+        right,
+        bottom,
+    }
+}
+
+// What the sites from one number to another span.
+fn spanned(sites: &[f64], from: usize, to: usize) -> Window
+    requires { ⌜ (from < to) × (to ≤ length (now sites) / 2) ⌝ }
+{
+    let p = point_at(sites, from);
+    let mut w = Window {
+        left: p.x,
+        top: p.y,
+        right: p.x,
+        bottom: p.y,
+    };
+    let mut j = from + 1;
+    while j < to {
+        w = stretched(w, point_at(sites, j));
+        j += 1;
+    }
+    w
+}
+
+// Whether each so many sites stand near each other as they are numbered, along a curve that fills the plane: the squares of their widths and heights together are at most eight times
+// what all span. Along Hilbert's curve it is 3 to 6 times, in no order 4 times for each block. Nothing is promised of it: a bad order costs time.
+fn is_close(sites: &[f64], w: usize) -> bool
+    requires { ⌜ (0 < w) × (w ≤ 65536) × (length (now sites) / 2 ≤ 65536) ⌝ }
+{
+    let n = sites.len() / 2;
+    if n == 0 {
+        return true;
+    }
+    let all = spanned(sites, 0, n);
+    let mut sum = 0.0;
+    let mut from = 0;
+    while from < n {
+        let to = smaller(from + w, n);
+        let b = spanned(sites, from, to);
+        let side = (b.right - b.left) + (b.bottom - b.top);
+        sum = sum + side * side;
+        from = to;
+    }
+    sum <= 8.0 * ((all.right - all.left) * (all.bottom - all.top))
+}
+
+// Of blocks of 16 and of 256.
+fn is_arranged(sites: &[f64]) -> bool
+    requires { ⌜ length (now sites) / 2 ≤ 65536 ⌝ }
+{
+    if is_close(sites, 16) {
+        return is_close(sites, 256);
+    }
+    false
+}
+
 // Sites that stand near each other come near each other.
 fn arrange(sites: &[f64], room: &mut [u32])
     requires { ⌜ SitesHeld (now sites) × (length (now sites) / 2 ≤ 65536) × (length (now sites) / 2 ≤ length (now room)) ⌝ }
     ensures { λ _. ⌜ Order (length (now (sites .entry)) / 2) (now (room .exit)) × (length (now (room .exit)) ≡ length (now (room .entry))) ⌝ }
 {
     start(room, sites.len() / 2);
+    if is_arranged(sites) {
+        return;
+    }
     let mut half = 32768;
     while 16 <= half {
         halve_all(sites, room, half);
@@ -331,7 +401,7 @@ fn level_out(sites: &[f64], room: &[u32], c: Window, j: usize, w: usize, base: u
     node_out(sites, room, c, base + 4 * (j / w))
 }
 
-// How many places from j on are off the window at once.
+// How many places from j on are off the window at once, in blocks.
 fn places_out(sites: &[f64], room: &[u32], c: Window, j: usize) -> usize
     requires { ⌜ TreeOf (now sites) (now room) × SitesHeld (now sites) × EdgesHeld c × (j < length (now sites) / 2) ⌝ }
     ensures { λ r. ⌜ OffFrom (now (sites .entry)) (now (room .entry)) c j (j + r) × (r ≤ 4096) ⌝ }
@@ -345,10 +415,6 @@ fn places_out(sites: &[f64], room: &[u32], c: Window, j: usize) -> usize
     }
     if level_out(sites, room, c, j, 16, n) {
         return 16;
-    }
-    let o = point_at(sites, wide(room[j]));
-    if is_off(c, o.x, o.y, o.x, o.y) {
-        return 1;
     }
     0
 }
@@ -378,7 +444,54 @@ fn some_past(far: f64, s: Point, o: Point, vertices: &[f64], entries: &[u32]) ->
     false
 }
 
-// How many places from j on have no site that a corner is nearer to; 0: the one at j is such a site.
+fn one_unless(t: bool) -> usize
+    ensures { λ r. ⌜ (t ≡ true → r ≡ 0) × (t ≡ false → r ≡ 1) × (r ≤ 1) ⌝ }
+{
+    if t { 0 } else { 1 }
+}
+
+// Lists the places from one to another, at most 16, whose sites are not off the window, and says how many they are. Without a branch on what is off: nobody can foresee it.
+fn sift(sites: &[f64], room: &[u32], w: Window, from: usize, to: usize, list: &mut [u32]) -> usize
+    requires { ⌜ TreeOf (now sites) (now room) × SitesHeld (now sites) × EdgesHeld w × (to ≤ length (now sites) / 2) × (to ≤ from + 16) × (16 ≤ length (now list)) × (from ≤ to) ⌝ }
+    ensures { λ r. ⌜ Sifted (now (sites .entry)) (now (room .entry)) w from to r (now (list .exit)) × (length (now (list .exit)) ≡ length (now (list .entry))) ⌝ }
+{
+    let mut count = 0;
+    let mut j = from;
+    while j < to {
+        list[count] = narrow(j);
+        let o = point_at(sites, wide(room[j]));
+        count += one_unless(is_off(w, o.x, o.y, o.x, o.y));
+        j += 1;
+    }
+    count
+}
+
+// Whether a corner of the ring is nearer to the site of one of so many places.
+fn some_listed(
+    far: f64,
+    sites: &[f64],
+    room: &[u32],
+    site: Point,
+    vertices: &[f64],
+    entries: &[u32],
+    list: &[u32],
+    count: usize,
+) -> bool
+    requires { ⌜ Order (length (now sites) / 2) (now room) × EntriesNamed (now entries) (length (now vertices) / 2) × PlacesNamed (length (now sites) / 2) count (now list) ⌝ }
+    ensures { λ r. ⌜ ListedAsked far (now (sites .entry)) (now (room .entry)) site (now (vertices .entry)) (now (entries .entry)) (now (list .entry)) count r ⌝ }
+{
+    let mut k = 0;
+    while k < count {
+        let o = point_at(sites, wide(room[wide(list[k])]));
+        if some_past(far, site, o, vertices, entries) {
+            return true;
+        }
+        k += 1;
+    }
+    false
+}
+
+// How many places from j on have no site that a corner is nearer to; 0: there is such a site.
 fn passed(
     far: f64,
     sites: &[f64],
@@ -396,10 +509,13 @@ fn passed(
     if 0 < r {
         return r;
     }
-    if some_past(far, site, point_at(sites, wide(room[j])), vertices, entries) {
+    let to = smaller(j + 16, sites.len() / 2);
+    let mut list = [0u32; 16];
+    let count = sift(sites, room, w, j, to, &mut list);
+    if some_listed(far, sites, room, site, vertices, entries, &list, count) {
         return 0;
     }
-    1
+    to - j
 }
 
 // Whether some corner of the ring is nearer to another site.

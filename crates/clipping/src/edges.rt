@@ -17,12 +17,12 @@ ghost use Rattle.definition.specs.Cell as Def;
 ghost use Rattle.definition.specs.Reused as Counts;
 ghost use Rattle.clipping.specs.edges.EdgeClip.{ClipsEdge};
 
-// What stays while one cell is clipped: its site, the box, the number of circumcenters, and where the store's part of the index list begins.
+// What stays while one cell is clipped: the box, the number of circumcenters, where the store's part of the index list begins, and the cell's site.
 pub struct Env {
-    pub site: u32,
     pub bounds: BoundingBox,
     pub centers: usize,
     pub limit: usize,
+    pub site: u32,
 }
 
 // The vertices where an edge crosses the box, how many vertices there are then, and which of the crossings took one again.

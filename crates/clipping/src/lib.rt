@@ -10,13 +10,14 @@ use definition::Reused;
 pub mod step; // step.rt: one edge of the ring
 pub mod ring; // ring.rt: the whole ring
 
-// What one edge of the ring gives: a refusal, or 0, the vertices' count, whether the cell is open, the cell, and the points taken again.
+// What one edge of the ring gives: the cell, the vertices' count, the points taken again, a refusal or 0, and whether the cell is open.
+// The short fields stand last, here and in `Env`: between others they leave a gap, and what is copied with it is read before it is written whole.
 pub struct Changed {
-    pub refusal: u32,
-    pub count: usize,
-    pub opened: bool,
     pub cell: CellSoFar,
+    pub count: usize,
     pub reused: Reused,
+    pub refusal: u32,
+    pub opened: bool,
 }
 
 // Where the ring's walk stands: the cell, the vertices' count, the ring's vertex, whether that is inside, whether the cell is open.

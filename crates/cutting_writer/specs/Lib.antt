@@ -6,5 +6,6 @@ pub mod join
 pub mod site
 pub mod short
 pub mod ring
+pub mod copied
 pub mod sites
 pub mod shown

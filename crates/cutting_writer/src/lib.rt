@@ -1,4 +1,5 @@
 // The corners of a piece as they come, written into the lent slices.
+pub mod copied;
 pub mod end;
 pub mod ring;
 pub mod short;

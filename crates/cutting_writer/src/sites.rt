@@ -1,7 +1,9 @@
 // The pieces of all sites by cutting, written one after the other into the lent slices.
+use crate::copied::copy_ring;
 use crate::end::end_piece;
 use crate::ring::cut_ring;
 use base::numbers::EMPTY;
+use base::numbers::wide;
 use cell_memory::layout::clear_floats_from;
 use cell_memory::layout::fill_from;
 use cutting::pen::Pen;
@@ -19,8 +21,8 @@ ghost use Rattle.cutting.specs.pen.Room.{Ready};
 ghost use Rattle.cutting_writer.specs.sites.Pieces.{siteInk, siteCut, cornered, cutSheet, CutInto, Cuttable};
 ghost use Rattle.cutting_writer.specs.sites.Loop.{Sheeted, Sheetable};
 
-// The piece of the site whose walk begins at t.
-fn cut_site(
+// The piece of the site whose walk begins at t, by its ring.
+fn cut_any(
     b: BoundingBox,
     sites: &[f64],
     triangles: &[u32],
@@ -51,6 +53,41 @@ fn cut_site(
     end_piece(begin, p, indexes)
 }
 
+// The same, where its walk is expected to have d triangles.
+fn cut_site(
+    b: BoundingBox,
+    sites: &[f64],
+    triangles: &[u32],
+    halfedges: &[u32],
+    centers: usize,
+    t: u32,
+    d: u32,
+    pen: Pen,
+    vertices: &mut [f64],
+    indexes: &mut [u32],
+) -> Pen
+    requires { ⌜ (length (now halfedges) ≤ 3 * centers) × (length (now halfedges) < EMPTY) × Ready centers (page pen (now vertices) (now indexes))
+        (siteInk b (now sites) (now triangles) (now halfedges) centers (page pen (now vertices) (now indexes)) t) ⌝ }
+    ensures { λ r. ⌜ page r (now (vertices .exit)) (now (indexes .exit))
+        ≡ siteCut b (now (sites .entry)) (now (triangles .entry)) (now (halfedges .entry)) centers (page pen (now (vertices .entry)) (now (indexes .entry))) t ⌝ }
+{
+    let c = copy_ring(b, halfedges, vertices, t, wide(d), pen, indexes);
+    if c.done {
+        return c.pen;
+    }
+    cut_any(
+        b,
+        sites,
+        triangles,
+        halfedges,
+        centers,
+        t,
+        pen,
+        vertices,
+        indexes,
+    )
+}
+
 // All sites in turn.
 fn cut_all(
     b: BoundingBox,
@@ -71,6 +108,7 @@ fn cut_all(
     let mut pen = start;
     let mut s: usize = 0;
     while s < table.len() {
+        let d = offsets[s];
         offsets[s] = pen.at as u32;
         pen = cut_site(
             b,
@@ -79,6 +117,7 @@ fn cut_all(
             halfedges,
             centers,
             table[s],
+            d,
             pen,
             vertices,
             indexes,
@@ -87,6 +126,37 @@ fn cut_all(
     }
     offsets[s] = pen.at as u32;
     pen
+}
+
+// One more, up to 17.
+fn one_more(n: u32) -> u32
+    ensures { λ r. ⌜ r ≤ 4294967295 ⌝ }
+{
+    if 16 < n {
+        return n;
+    }
+    n + 1
+}
+
+fn expect_one(offsets: &mut [u32], s: usize)
+    ensures { λ _. ⌜ length (now (offsets .exit)) ≡ length (now (offsets .entry)) ⌝ }
+{
+    if offsets.len() <= s {
+        return;
+    }
+    offsets[s] = one_more(offsets[s]);
+}
+
+// In how many triangles each site stands, up to 17: so many its walk is expected to have. Nothing but the time depends on it.
+fn expect_walks(triangles: &[u32], offsets: &mut [u32])
+    ensures { λ _. ⌜ length (now (offsets .exit)) ≡ length (now (offsets .entry)) ⌝ }
+{
+    fill_from(offsets, 0, 0);
+    let mut i: usize = 0;
+    while i < triangles.len() {
+        expect_one(offsets, wide(triangles[i]));
+        i += 1;
+    }
 }
 
 // The box's corners after the circumcenters.
@@ -146,6 +216,7 @@ pub fn cut_sites(
         last: zero,
     };
     put_corners(b, centers, vertices);
+    expect_walks(triangles, offsets);
     let pen = cut_all(
         b,
         sites,

@@ -1,3 +1,5 @@
 pub mod border
+pub mod degrees
 pub mod fan
+pub mod pairing
 pub mod whole

@@ -95,12 +95,16 @@ fn first_broken(triangles: &[u32], halfedges: &[u32], sites: usize, work: &mut [
     first_owing(work, sites)
 }
 
-// Rule 10, with the leftmost table left in the work slice if it holds, else what counting down has left of it.
+// Rule 10, with the leftmost table left in the work slice if it holds, else what counting down has left of it. Where walks of known length do not say that it
+// holds, all are added up: a fan is broken, or a site has more half-edges than can be packed.
 pub fn check_fan(triangles: &[u32], halfedges: &[u32], sites: usize, work: &mut [u32]) -> usize
     requires { ⌜ (length (now halfedges) ≡ length (now triangles)) × Paired (now triangles) (now halfedges) × (sites ≤ length (now work))
         × ((k : ℕ) → k < length (now triangles) → getD (now triangles) k 0 < sites) ⌝ }
     ensures { λ r. ⌜ FanAnswer (now (triangles .entry)) (now (halfedges .entry)) sites (now (work .entry)) (now (work .exit)) r ⌝ }
 {
+    if crate::degrees::whole_fans(triangles, halfedges, work) {
+        return sites;
+    }
     mesh::leftmost(triangles, halfedges, work);
     if walks_cover(halfedges, work) {
         return sites;

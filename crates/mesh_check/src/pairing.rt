@@ -1,10 +1,12 @@
 // Rules 7 and 8: each triangle names three sites, and each half-edge is unpaired or has the one that runs the other way.
 use base::numbers::EMPTY;
 ghost use mathlib.Core.Path.{_≡_};
+ghost use mathlib.Core.Bool.{true};
 ghost use Prim.Native.Nat.{_/_, _%_, _<_};
 ghost use lib.ListN.{length};
 ghost use Rattle.base.specs.common.Decide.{Says, First};
-ghost use Rattle.mesh.specs.Mesh.{Sound, SoundAt, Mates, PairedAt};
+ghost use Rattle.mesh.specs.Mesh.{Sound, SoundAt, Mates, PairedAt, AllPaired};
+ghost use Rattle.mesh_check.specs.pairing.Half.{HalfPairedAt};
 
 // Three different sites below n.
 fn sound(n: usize, a: u32, b: u32, c: u32) -> bool
@@ -90,11 +92,52 @@ fn paired(triangles: &[u32], halfedges: &[u32], e: usize) -> bool
     mates(triangles, halfedges, e, p)
 }
 
+// Whether half-edge e is unpaired, or its pair names it back and starts where it ends.
+fn half_paired(triangles: &[u32], halfedges: &[u32], e: usize) -> bool
+    requires { ⌜ (length (now triangles) % 3 ≡ 0) × (length (now halfedges) ≡ length (now triangles)) × (e < length (now triangles)) ⌝ }
+    ensures { λ r. ⌜ (r ≡ true → HalfPairedAt (now (triangles .entry)) (now (halfedges .entry)) e) ⌝ }
+{
+    let p = halfedges[e];
+    if p == EMPTY {
+        return true;
+    }
+    let k = p as usize;
+    if halfedges.len() <= k {
+        return false;
+    }
+    if base::numbers::wide(halfedges[k]) != e {
+        return false;
+    }
+    let there = mesh::end_site(triangles, e);
+    triangles[k] == there
+}
+
+// Whether all half-edges are paired as they must be, with one look at the pair of each; no says nothing.
+fn all_half_paired(triangles: &[u32], halfedges: &[u32]) -> bool
+    requires { ⌜ (length (now triangles) % 3 ≡ 0) × (length (now halfedges) ≡ length (now triangles)) ⌝ }
+    ensures { λ r. ⌜ (r ≡ true → AllPaired (now (triangles .entry)) (now (halfedges .entry))) ⌝ }
+{
+    if EMPTY as usize <= triangles.len() {
+        return false;
+    }
+    let mut e = 0;
+    while e < triangles.len() {
+        if !half_paired(triangles, halfedges, e) {
+            return false;
+        }
+        e += 1;
+    }
+    true
+}
+
 // Check 8: the lowest half-edge whose pairing is broken; or the number of half-edges.
 pub fn check_pairs(triangles: &[u32], halfedges: &[u32]) -> usize
     requires { ⌜ (length (now triangles) % 3 ≡ 0) × (length (now halfedges) ≡ length (now triangles)) ⌝ }
     ensures { λ r. ⌜ First (PairedAt (now (triangles .entry)) (now (halfedges .entry))) (length (now (triangles .entry))) r ⌝ }
 {
+    if all_half_paired(triangles, halfedges) {
+        return triangles.len();
+    }
     let mut e = 0;
     while e < triangles.len() {
         if !paired(triangles, halfedges, e) {

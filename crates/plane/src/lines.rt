@@ -1,8 +1,10 @@
 // bounding_box.rs, the line: where it meets each side of the box, and what is answered of the four.
 use crate::boxes::BoundingBox;
+use crate::choose;
 use crate::points::Point;
 ghost use mathlib.Core.Path.{_≡_};
-ghost use Rattle.plane.specs.lines.Line.{oneIf, twoIf, some, orOf, afterOne, joinOf, firstHeld, settleOf, sideHit, levelHit, uprightHit, lineOf};
+ghost use Rattle.plane.specs.lines.Line.{oneIf, twoIf, uprightHit, lineOf};
+ghost use Rattle.plane.specs.lines.Met.{sideMet, levelMet, uprightBy, eachOf, levelsOf};
 
 pub enum Crossing {
     None,
@@ -20,26 +22,17 @@ pub fn one_if(t: bool, x: f64, y: f64) -> Crossing
     }
 }
 
-fn side_hit(b: BoundingBox, x: f64, cx: f64, c: f64, d: f64) -> Crossing
-    ensures { λ r. ⌜ r ≡ sideHit b x cx c d ⌝ }
+// Whether a line meets the right or the left side at height y, and whether it meets the top or the bottom at x.
+fn on_side(b: BoundingBox, cx: f64, y: f64) -> bool
+    ensures { λ r. ⌜ r ≡ sideMet b cx y ⌝ }
 {
-    let y = x * c + d;
-    one_if(
-        (root::magnitude(cx) > base::numbers::TOLERANCE) & ((y >= b.top) & (y <= b.bottom)),
-        x,
-        y,
-    )
+    (root::magnitude(cx) > base::numbers::TOLERANCE) & ((y >= b.top) & (y <= b.bottom))
 }
 
-fn level_hit(b: BoundingBox, y: f64, cy: f64, c: f64, d: f64) -> Crossing
-    ensures { λ r. ⌜ r ≡ levelHit b y cy c d ⌝ }
+fn on_level(b: BoundingBox, cy: f64, x: f64) -> bool
+    ensures { λ r. ⌜ r ≡ levelMet b cy x ⌝ }
 {
-    let x = (y - d) / c;
-    one_if(
-        (root::magnitude(cy) > base::numbers::TOLERANCE) & ((x <= b.right) & (x >= b.left)),
-        x,
-        y,
-    )
+    (root::magnitude(cy) > base::numbers::TOLERANCE) & ((x <= b.right) & (x >= b.left))
 }
 
 fn two_if(t: bool, x: f64, y: f64, u: f64, v: f64) -> Crossing
@@ -58,84 +51,46 @@ fn upright_hit(b: BoundingBox, x: f64) -> Crossing
     two_if((x <= b.right) & (x >= b.left), x, b.top, x, b.bottom)
 }
 
-// The second of two optional points that is there, after one that is.
-fn after_one(x: f64, y: f64, b: Crossing) -> Crossing
-    ensures { λ r. ⌜ r ≡ afterOne x y b ⌝ }
+fn upright(cx: f64, cy: f64) -> bool
+    ensures { λ r. ⌜ r ≡ uprightBy cx cy ⌝ }
 {
-    match b {
-        Crossing::None => Crossing::One(x, y),
-        Crossing::One(u, v) => Crossing::Two(x, y, u, v),
-        Crossing::Two(_, _, _, _) => b,
-    }
+    (root::magnitude(cy) > base::numbers::TOLERANCE)
+        & (root::magnitude(cx) < base::numbers::TOLERANCE)
 }
 
-fn pair(a: Crossing, b: Crossing) -> Crossing
-    ensures { λ r. ⌜ r ≡ joinOf a b ⌝ }
+// A point of a side if s holds, then one of the top or the bottom if l does.
+fn one_each(s: bool, x: f64, y: f64, l: bool, u: f64, v: f64) -> Crossing
+    ensures { λ r. ⌜ r ≡ eachOf s x y l u v ⌝ }
 {
-    match a {
-        Crossing::None => b,
-        Crossing::One(x, y) => after_one(x, y, b),
-        Crossing::Two(_, _, _, _) => a,
+    if s {
+        if l {
+            return Crossing::Two(x, y, u, v);
+        }
+        return Crossing::One(x, y);
     }
+    one_if(l, u, v)
 }
 
-fn or_else(a: Crossing, b: Crossing) -> Crossing
-    ensures { λ r. ⌜ r ≡ orOf a b ⌝ }
+// A line that is not upright and meets the right side at y if f holds, the left at z if g does, and not both; it meets the top's line at t and the bottom's at m.
+fn levels(b: BoundingBox, f: bool, g: bool, y: f64, z: f64, cy: f64, t: f64, m: f64) -> Crossing
+    ensures { λ r. ⌜ r ≡ levelsOf b f g y z cy t m ⌝ }
 {
-    match a {
-        Crossing::None => b,
-        Crossing::One(_, _) => a,
-        Crossing::Two(_, _, _, _) => a,
+    let h = on_level(b, cy, t);
+    let i = on_level(b, cy, m);
+    if h & i {
+        return Crossing::Two(t, b.top, m, b.bottom);
     }
-}
-
-fn is_some(a: Crossing) -> bool
-    ensures { λ r. ⌜ r ≡ some a ⌝ }
-{
-    match a {
-        Crossing::None => false,
-        Crossing::One(_, _) => true,
-        Crossing::Two(_, _, _, _) => true,
-    }
-}
-
-// The value of the first test that holds, and the last one where none does.
-fn first_held(
-    a: bool,
-    x: Crossing,
-    b: bool,
-    y: Crossing,
-    c: bool,
-    z: Crossing,
-    w: Crossing,
-) -> Crossing
-    ensures { λ r. ⌜ r ≡ firstHeld a x b y c z w ⌝ }
-{
-    if a {
-        x
-    } else if b {
-        y
-    } else if c {
-        z
-    } else {
-        w
-    }
-}
-
-fn settle(f: Crossing, g: Crossing, up: bool, u: Crossing, h: Crossing, i: Crossing) -> Crossing
-    ensures { λ r. ⌜ r ≡ settleOf f g up u h i ⌝ }
-{
-    first_held(
-        is_some(f) & is_some(g),
-        pair(f, g),
-        up,
-        u,
-        is_some(h) & is_some(i),
-        pair(h, i),
-        pair(or_else(f, g), or_else(h, i)),
+    one_each(
+        f | g,
+        choose(f, b.right, b.left),
+        choose(f, y, z),
+        h | i,
+        choose(h, t, m),
+        choose(h, b.top, b.bottom),
     )
 }
 
+// The top and the bottom are divided for only where the sides do not settle it.
 pub fn intersect_line(b: BoundingBox, p: Point, q: Point) -> Crossing
     ensures { λ r. ⌜ r ≡ lineOf b p q ⌝ }
 {
@@ -143,13 +98,15 @@ pub fn intersect_line(b: BoundingBox, p: Point, q: Point) -> Crossing
     let cy = q.y - p.y;
     let c = cy / cx;
     let d = p.y - p.x * c;
-    settle(
-        side_hit(b, b.right, cx, c, d),
-        side_hit(b, b.left, cx, c, d),
-        (root::magnitude(cy) > base::numbers::TOLERANCE)
-            & (root::magnitude(cx) < base::numbers::TOLERANCE),
-        upright_hit(b, p.x),
-        level_hit(b, b.top, cy, c, d),
-        level_hit(b, b.bottom, cy, c, d),
-    )
+    let y = b.right * c + d;
+    let z = b.left * c + d;
+    let f = on_side(b, cx, y);
+    let g = on_side(b, cx, z);
+    if f & g {
+        return Crossing::Two(b.right, y, b.left, z);
+    }
+    if upright(cx, cy) {
+        return upright_hit(b, p.x);
+    }
+    levels(b, f, g, y, z, cy, (b.top - d) / c, (b.bottom - d) / c)
 }

@@ -1,6 +1,6 @@
 // The plane part of utils.rs, but for circumcenters and centroids (crate::centers): points, the tolerance test, the squared distance, and rule 6.
+use crate::choose;
 ghost use mathlib.Core.Path.{_≡_};
-ghost use mathlib.Core.Bool.{cond};
 ghost use Prim.Native.Nat.{_+_, _*_, _/_, _<_};
 ghost use lib.ListN.{length};
 ghost use Rattle.base.specs.common.Decide.{First};
@@ -23,12 +23,6 @@ pub fn point_at(points: &[f64], i: usize) -> Point
         x: points[2 * i],
         y: points[2 * i + 1],
     }
-}
-
-fn choose(c: bool, x: f64, y: f64) -> f64
-    ensures { λ r. ⌜ r ≡ cond c x y ⌝ }
-{
-    if c { x } else { y }
 }
 
 pub fn abs_diff_eq(a: f64, b: f64) -> bool

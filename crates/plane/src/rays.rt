@@ -1,5 +1,6 @@
 // bounding_box.rs, the ray: the order of the points in which its line crosses the box; and the public line and ray.
 use crate::boxes::BoundingBox;
+use crate::choose;
 use crate::given::Given;
 use crate::lines::Crossing;
 use crate::lines::intersect_line;
@@ -7,14 +8,8 @@ use crate::lines::one_if;
 use crate::points::Point;
 use crate::points::site_ok;
 ghost use mathlib.Core.Path.{_≡_};
-ghost use Rattle.plane.specs.rays.Ray.{eitherOf, orderPick, orderBy, orderTwo, orderOne, orderOf, rayOf};
+ghost use Rattle.plane.specs.rays.Ray.{orderPick, orderBy, orderTwo, orderOne, orderOf, rayOf};
 ghost use Rattle.plane.specs.rays.Rules.{countOf, valuesOf, metBy, lineAnswer, rayAnswer, meetingNumber, pointsOf};
-
-fn either(t: bool, a: Crossing, b: Crossing) -> Crossing
-    ensures { λ r. ⌜ r ≡ eitherOf t a b ⌝ }
-{
-    if t { a } else { b }
-}
 
 fn order_pick(a: bool, b: bool, near: bool, x: f64, y: f64, u: f64, v: f64) -> Crossing
     ensures { λ r. ⌜ r ≡ orderPick a b near x y u v ⌝ }
@@ -54,10 +49,15 @@ fn order_by(d: f64, da: f64, db: f64, x: f64, y: f64, u: f64, v: f64) -> Crossin
 fn order_two(p: Point, dir: Point, x: f64, y: f64, u: f64, v: f64) -> Crossing
     ensures { λ r. ⌜ r ≡ orderTwo p dir x y u v ⌝ }
 {
-    either(
-        root::magnitude(dir.x) > root::magnitude(dir.y),
-        order_by(dir.x, x - p.x, u - p.x, x, y, u, v),
-        order_by(dir.y, y - p.y, v - p.y, x, y, u, v),
+    let along = root::magnitude(dir.x) > root::magnitude(dir.y);
+    order_by(
+        choose(along, dir.x, dir.y),
+        choose(along, x - p.x, y - p.y),
+        choose(along, u - p.x, v - p.y),
+        x,
+        y,
+        u,
+        v,
     )
 }
 

@@ -2,6 +2,7 @@
 use mathlib.Core.Path.{_≡_}
 use mathlib.Core.Bool.{Bool, true, false}
 use mathlib.Core.List.{List}
+use mathlib.Core.Logic.{_⊎_}
 use Prim.Native.Nat.{ℕ, _+_, _*_, _/_, _≤_, _<_}
 use lib.Ieee.{Float, nan}
 use lib.ListN.{length, getD, set}
@@ -163,10 +164,36 @@ pub record RingSafe (far : Float) (sites : List Float) (room : List ℕ) (w : Wi
   pub named : EntriesNamed cell (length v / 2)
   pub corners : CornersHeld v cell
 
+-- a place whose site a corner is nearer to
+pub record FoundPast (far : Float) (sites : List Float) (room : List ℕ) (s : Point) (v : List Float) (cell : List ℕ) : Type 0 where
+  pub place : ℕ
+  pub within : place < length sites / 2
+  pub past : anyBelow (cornerPast far s (pointAt sites (getD room place 0)) v cell) (length cell) ≡ true
+
 pub record PassedFrom (far : Float) (sites : List Float) (room : List ℕ) (s : Point) (v : List Float) (cell : List ℕ) (j r : ℕ) : Type 0 where
   pub none : (i : ℕ) → j ≤ i → i < j + r → i < length sites / 2 → (k : ℕ) → k < length cell → cornerPast far s (pointAt sites (getD room i 0)) v cell k ≡ false
-  pub stop : r ≡ 0 → anyBelow (cornerPast far s (pointAt sites (getD room j 0)) v cell) (length cell) ≡ true
+  pub stop : r ≡ 0 → FoundPast far sites room s v cell
   pub most : r ≤ 4096
+
+-- the places that are listed
+pub record ListedAt (list : List ℕ) (count i : ℕ) : Type 0 where
+  pub at : ℕ
+  pub below : at < count
+  pub is : getD list at 0 ≡ i
+
+pub record PlacesNamed (n count : ℕ) (list : List ℕ) : Type 0 where
+  pub few : count ≤ length list
+  pub each : (k : ℕ) → k < count → getD list k 0 < n
+
+pub record Sifted (sites : List Float) (room : List ℕ) (w : Window) (from to count : ℕ) (list : List ℕ) : Type 0 where
+  pub few : from + count ≤ to
+  pub named : (k : ℕ) → k < count → getD list k 0 < to
+  pub each : (i : ℕ) → from ≤ i → i < to → OffWindow w (pointAt sites (getD room i 0)) ⊎ ListedAt list count i
+
+-- every listed place was asked, or one was found
+pub record ListedAsked (far : Float) (sites : List Float) (room : List ℕ) (s : Point) (v : List Float) (cell list : List ℕ) (count : ℕ) (t : Bool) : Type 0 where
+  pub found : t ≡ true → FoundPast far sites room s v cell
+  pub none : t ≡ false → (k : ℕ) → k < count → anyBelow (cornerPast far s (pointAt sites (getD room (getD list k 0) 0)) v cell) (length cell) ≡ false
 
 pub record PieceSafe (far : Float) (sites : List Float) (room : List ℕ) (v : List Float) (cell : List ℕ) : Type 0 where
   pub plus : NotMinus far

@@ -6,10 +6,9 @@ use Rattle.grid.proofs.goes_up.Tie as tie
 
 returns : tie.Need-returns
 returns c =
-    let at-b = c .before in
-    let at-a = at-b .before .before in
+    let at-a = c .before .before .before in
     let h = at-a .before .pre in
-    rw (c .level2 .ensures, at-b .raise-site2 .ensures .0, at-b .before .level .ensures, at-a .raise-site .ensures .0)
+    rw (c .level2 .ensures, c .before .raise-site2 .ensures .0, c .before .before .level .ensures, at-a .raise-site .ensures .0)
     (up-is-up _ _ (record { x = h .0 .within .0; y = h .0 .within .1 }) (record { x = h .1 .within .0; y = h .1 .within .1 }))
 
 pub goes-up-spec : {M : Type 1} → statement M

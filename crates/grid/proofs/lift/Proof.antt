@@ -5,14 +5,14 @@ use Rattle.grid.proofs.lift.Tie as tie
 
 returns : tie.Need-returns
 returns c =
-    let t = c .before .before in
+    let at-area3 = c .before .before .before in
     rw (
       c .before .four .ensures,
       c .four2 .ensures,
-      t .area4 .ensures .0,
-      t .before .area3 .ensures .0,
-      t .before .before .area2 .ensures .0,
-      t .before .before .before .area .ensures .0,
+      c .before .before .area4 .ensures .0,
+      at-area3 .area3 .ensures .0,
+      at-area3 .before .area2 .ensures .0,
+      at-area3 .before .before .area .ensures .0,
     )
 
 pub lift-spec : {M : Type 1} → statement M

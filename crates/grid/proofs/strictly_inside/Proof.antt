@@ -6,15 +6,14 @@ use Rattle.grid.proofs.strictly_inside.Tie as tie
 
 returns : tie.Need-returns
 returns c =
-    let at-sites = c .before .before in
-    let start = at-sites .before .before .before .before in
-    let h = start .pre in
+    let at-raise-site3 = c .before .before .before in
+    let h = at-raise-site3 .before .before .before .pre in
     rw (
       c .before .lift .ensures,
-      at-sites .raise-site4 .ensures .0,
-      at-sites .before .raise-site3 .ensures .0,
-      at-sites .before .before .raise-site2 .ensures .0,
-      at-sites .before .before .before .raise-site .ensures .0,
+      c .before .before .raise-site4 .ensures .0,
+      at-raise-site3 .raise-site3 .ensures .0,
+      at-raise-site3 .before .raise-site2 .ensures .0,
+      at-raise-site3 .before .before .raise-site .ensures .0,
     )
     (inside-is _ _ _ _ (record { x = h .0 .within .0; y = h .0 .within .1 }) (record { x = h .1 .within .0; y = h .1 .within .1 }) (record { x = h .2 .within .0; y = h .2 .within .1 })
     (record { x = h .3 .within .0; y = h .3 .within .1 }))

@@ -6,10 +6,9 @@ use Rattle.grid.proofs.turns_left.Tie as tie
 
 returns : tie.Need-returns
 returns c =
-    let at-sites = c .before .before in
-    let start = at-sites .before .before .before in
-    let h = start .pre in
-    rw (c .before .area .ensures .0, at-sites .raise-site3 .ensures .0, at-sites .before .raise-site2 .ensures .0, at-sites .before .before .raise-site .ensures .0)
+    let at-raise-site2 = c .before .before .before in
+    let h = at-raise-site2 .before .before .pre in
+    rw (c .before .area .ensures .0, c .before .before .raise-site3 .ensures .0, at-raise-site2 .raise-site2 .ensures .0, at-raise-site2 .before .raise-site .ensures .0)
     (turns-is _ _ _ (record { x = h .0 .within .0; y = h .0 .within .1 }) (record { x = h .1 .within .0; y = h .1 .within .1 }) (record { x = h .2 .within .0; y = h .2 .within .1 }))
 
 pub turns-left-spec : {M : Type 1} → statement M

@@ -17,38 +17,29 @@ returns-2 c =
 returns-3 : tie.Need-returns-3
 returns-3 c =
     let at-room-ok = c .before .before .before in
-    let at-if1 = at-room-ok .before in
-    let at-counts-ok = at-if1 .before in
-    keeps (granted (at-counts-ok .counts-ok .result) (at-if1 .if1 .left) (at-counts-ok .counts-ok .ensures)) (keeps (granted (at-room-ok .room-ok
+    keeps (granted (at-room-ok .before .before .counts-ok .result) (at-room-ok .before .if1 .left) (at-room-ok .before .before .counts-ok .ensures)) (keeps (granted (at-room-ok .room-ok
     .result) (c .before .before .if2 .left) (at-room-ok .room-ok .ensures))
     (offends (c .before .first-bad-site .ensures) (c .if3 .taken)))
 
 check-triangles-requires : tie.Need-check-triangles-requires
 check-triangles-requires c κs =
     let at-if1 = c .before .before .before .before in
-    let at-counts-ok = at-if1 .before in
-    granted (at-counts-ok .counts-ok .result) (at-if1 .if1 .left) (at-counts-ok .counts-ok .ensures) .threes
+    granted (at-if1 .before .counts-ok .result) (at-if1 .if1 .left) (at-if1 .before .counts-ok .ensures) .threes
 
 returns-4 : tie.Need-returns-4
 returns-4 c =
     let at-first-bad-site = c .before .before .before in
-    let at-if2 = at-first-bad-site .before in
-    let at-room-ok = at-if2 .before in
-    let at-if1 = at-room-ok .before in
-    let at-counts-ok = at-if1 .before in
-    keeps (granted (at-counts-ok .counts-ok .result) (at-if1 .if1 .left) (at-counts-ok .counts-ok .ensures)) (keeps (granted (at-room-ok .room-ok
-    .result) (at-if2 .if2 .left) (at-room-ok .room-ok .ensures))
+    let at-room-ok = at-first-bad-site .before .before in
+    keeps (granted (at-room-ok .before .before .counts-ok .result) (at-room-ok .before .if1 .left) (at-room-ok .before .before .counts-ok .ensures)) (keeps (granted (at-room-ok .room-ok
+    .result) (at-first-bad-site .before .if2 .left) (at-room-ok .room-ok .ensures))
     (all-keep (first-all (at-first-bad-site .first-bad-site .ensures) (c .before .before .if3 .left)) (offends (c .before .check-triangles .ensures) (c .if4 .taken))))
 
 returns-5 : tie.Need-returns-5
 returns-5 c =
     let at-first-bad-site = c .before .before .before in
-    let at-if2 = at-first-bad-site .before in
-    let at-room-ok = at-if2 .before in
-    let at-if1 = at-room-ok .before in
-    let at-counts-ok = at-if1 .before in
-    keeps (granted (at-counts-ok .counts-ok .result) (at-if1 .if1 .left) (at-counts-ok .counts-ok .ensures)) (keeps (granted (at-room-ok .room-ok
-    .result) (at-if2 .if2 .left) (at-room-ok .room-ok .ensures))
+    let at-room-ok = at-first-bad-site .before .before in
+    keeps (granted (at-room-ok .before .before .counts-ok .result) (at-room-ok .before .if1 .left) (at-room-ok .before .before .counts-ok .ensures)) (keeps (granted (at-room-ok .room-ok
+    .result) (at-first-bad-site .before .if2 .left) (at-room-ok .room-ok .ensures))
     (all-keep (first-all (at-first-bad-site .first-bad-site .ensures) (c .before .before .if3 .left)) (all-keep (first-all (c .before
     .check-triangles .ensures) (c .if4 .left)) nothing)))
 

@@ -6,20 +6,27 @@ use borrow.Author.Needs.{needs}
 use Rattle.mending.proofs.mend.Statement.{statement}
 use Rattle.mending.proofs.mend.Tie as tie
 
+abbrev Mend-sound : tie.After-slice-known12 → tie.After-mend-sound
+Mend-sound c = c .before .before .before .before .before .before .before .before
+
+abbrev Start : tie.After-admit-mend → tie.Start
+Start c = c .before .before .before .before .before .before .before .before .before
+
+abbrev Clear-all : tie.After-refused → tie.After-clear-all
+Clear-all c = c .before .before .before .before .before .before .before .before .before
+
 returns : tie.Need-returns
 returns c =
-    let at-clear-all = c .before .before .before .before .before .before .before .before .before in
-    let at-if1 = at-clear-all .before .before .before .before .before in
-    let at-admit-mend = at-if1 .before in
-    let at-start = at-admit-mend .before .before .before .before .before .before .before .before .before in
+    let at-if1 = Clear-all c .before .before .before .before .before in
+    let at-start = Start (at-if1 .before) in
     mends-seven (mesh (at-start .args .sites .now) (at-start .args .triangles .now) (at-start .args .halfedges .now) (at-start .args .hull .now)) _ _
-    (at-admit-mend .admit-mend .ensures) _ _ _ _ (c .refused .ensures .0) (c .refused .ensures .1) (c .refused .ensures .2)
-    (c .refused .ensures .3) (at-if1 .if1 .taken) _ (at-clear-all .clear-all .ensures)
+    (at-if1 .before .admit-mend .ensures) _ _ _ _ (c .refused .ensures .0) (c .refused .ensures .1) (c .refused .ensures .2)
+    (c .refused .ensures .3) (at-if1 .if1 .taken) _ (Clear-all c .clear-all .ensures)
 
 returns-2 : tie.Need-returns-2
 returns-2 c =
     let at-admit-mend = c .before .before .before in
-    let at-start = at-admit-mend .before .before .before .before .before .before .before .before .before in
+    let at-start = Start at-admit-mend in
     mends-held (mesh (at-start .args .sites .now) (at-start .args .triangles .now) (at-start .args .halfedges .now) (at-start .args .hull .now)) _ _
     (at-admit-mend .admit-mend .ensures) _ _ _ _ (c .refused2 .ensures .0) (c .refused2 .ensures .1) (c .refused2 .ensures .2)
     (c .refused2 .ensures .3) (c .before .before .if1 .left) (c .before .if2 .taken)
@@ -28,7 +35,7 @@ mend-sound-requires : tie.Need-mend-sound-requires
 mend-sound-requires c κs =
     let at-if2 = c .before .before .before .before in
     let at-admit-mend = at-if2 .before .before in
-    let at-start = at-admit-mend .before .before .before .before .before .before .before .before .before in (
+    let at-start = Start at-admit-mend in (
       ready (mesh (at-start .args .sites .now) (at-start .args .triangles .now) (at-start .args .halfedges .now) (at-start .args .hull .now)) (lent (at-start
           .args .work .now) (at-start .args .pairs .now) (at-start .args .mended .now) (at-start .args .changes .now)) _ (at-admit-mend .admit-mend .ensures) (at-if2 .if2 .left),
       lists (mesh (at-start .args .sites .now) (at-start .args .triangles .now) (at-start .args .halfedges .now) (at-start .args .hull .now)) (lent (at-start
@@ -37,12 +44,10 @@ mend-sound-requires c κs =
 
 returns-3 : tie.Need-returns-3
 returns-3 c =
-    let at-mend-sound = c .before .before .before .before .before .before .before .before in
-    let at-if2 = at-mend-sound .before .before .before .before .before in
-    let at-admit-mend = at-if2 .before .before in
-    let at-start = at-admit-mend .before .before .before .before .before .before .before .before .before in
+    let at-if2 = Mend-sound c .before .before .before .before .before in
+    let at-start = Start (at-if2 .before .before) in
     mends-worked (mesh (at-start .args .sites .now) (at-start .args .triangles .now) (at-start .args .halfedges .now) (at-start .args .hull .now)) _ _
-    (at-admit-mend .admit-mend .ensures) (at-if2 .if2 .left) _ _ _ _ _ (at-mend-sound .mend-sound .ensures)
+    (at-if2 .before .before .admit-mend .ensures) (at-if2 .if2 .left) _ _ _ _ _ (Mend-sound c .mend-sound .ensures)
 
 pub mend-spec : {M : Type 1} → statement M
 mend-spec =

@@ -9,68 +9,77 @@ use borrow.Author.Needs.{needs}
 use Rattle.mending.proofs.mend_sound.Statement.{statement}
 use Rattle.mending.proofs.mend_sound.Tie as tie
 
+abbrev Entry : tie.After-shared-slice-known4 → tie.Start
+Entry c = c .before .before .before .before .before .before .before .before
+
+abbrev If1 : tie.After-struct-known2 → tie.Else1
+If1 c = c .before .before .before .before .before .before .before .before
+
+abbrev Work-out : tie.Else1 → tie.After-work-out
+Work-out c = c .before .before .before .before .before .before .before .before .before
+
+abbrev Start : tie.Else1 → tie.Start
+Start c = Entry (Work-out c .before .before .before .before .before)
+
+abbrev Clear-all : tie.After-refused → tie.After-clear-all
+Clear-all c = c .before .before .before .before .before .before .before .before .before
+
+abbrev At-work-out : tie.After-refused → tie.After-work-out
+At-work-out c = Clear-all c .before .before .before .before .before .before .before .before .before .before .before .before .before .before
+
 shared-slice-read-first : tie.Need-shared-slice-read-first
-shared-slice-read-first c = omega (arith, c .before .before .before .before .before .before .before .before .pre .1 .some)
+shared-slice-read-first c = omega (arith, Entry c .pre .1 .some)
 
 work-out-requires : tie.Need-work-out-requires
-work-out-requires c κs = c .before .before .before .before .before .before .before .before .before .before .before .before .pre .0
+work-out-requires c κs = Entry (c .before .before .before .before) .pre .0
 
 returns : tie.Need-returns
 returns c =
-    let at-clear-all = c .before .before .before .before .before .before .before .before .before in
-    let at-if1 = at-clear-all .before .before .before .before .before in
-    let at-work-out = at-if1 .before .before .before .before .before .before .before .before .before in
-    sound-refused _ _ _ _ _ _ _ _ _ _ _ _ (at-work-out .work-out .ensures .found) (at-if1 .if1 .taken) (c .refused .ensures) (at-clear-all .clear-all .ensures)
-    (at-work-out .work-out .kept .1 .1 .1 .0) (at-work-out .work-out .kept .1 .1 .1 .1 .0) (at-work-out .work-out .kept .1 .1 .1 .1 .1 .0)
-    (at-work-out .work-out .kept .1 .1 .1 .1 .1 .1 .0)
+    sound-refused _ _ _ _ _ _ _ _ _ _ _ _ (At-work-out c .work-out .ensures .found) (Clear-all c .before .before .before .before .before .if1 .taken)
+    (c .refused .ensures) (Clear-all c .clear-all .ensures)
+    (At-work-out c .work-out .kept .1 .1 .1 .0) (At-work-out c .work-out .kept .1 .1 .1 .1 .0) (At-work-out c .work-out .kept .1 .1 .1 .1 .1 .0)
+    (At-work-out c .work-out .kept .1 .1 .1 .1 .1 .1 .0)
 
 slice-reshare-prefix-new-pairs : tie.Need-slice-reshare-prefix-new-pairs
 slice-reshare-prefix-new-pairs c =
-    let at-work-out = c .before .before .before .before .before .before .before .before .before in
-    let at-start = at-work-out .before .before .before .before .before .before .before .before .before .before .before .before .before in
-    omega (arith, at-work-out .work-out .kept .1 .1 .1 .1 .0, at-start .pre .0 .for-pairs)
+    omega (arith, Work-out c .work-out .kept .1 .1 .1 .1 .0, Start c .pre .0 .for-pairs)
 
 slice-aggregate-new-pairs : tie.Need-slice-aggregate-new-pairs
 slice-aggregate-new-pairs c =
-    let at-work-out = c .before .before .before .before .before .before .before .before .before .before in
-    let at-start = at-work-out .before .before .before .before .before .before .before .before .before .before .before .before .before in
-    sym (length-take-le (length (at-start .args .triangles .now)) (at-work-out .work-out .last .1 .1 .1 .1 .0) (omega (
+    sym (length-take-le (length (Start (c .before) .args .triangles .now)) (Work-out (c .before) .work-out .last .1 .1 .1 .1 .0) (omega (
       arith,
-      at-work-out .work-out
+      Work-out (c .before) .work-out
           .kept .1 .1 .1 .1 .0,
-      at-start .pre .0 .for-pairs,
+      Start (c .before) .pre .0 .for-pairs,
     )))
 
 slice-reshare-prefix-new-hull : tie.Need-slice-reshare-prefix-new-hull
 slice-reshare-prefix-new-hull c =
-    let at-work-out = c .before .before .before .before .before .before .before .before .before .before in
-    let at-start = at-work-out .before .before .before .before .before .before .before .before .before .before .before .before .before in
     omega (
       arith,
-      part-few _ (at-start .args .halfedges .now) (at-start .args .hull .now) _ _ _ _ _ (at-work-out .work-out .ensures) (c .before .if1
+      part-few _ (Start (c .before) .args .halfedges .now) (Start (c .before) .args .hull .now) _ _ _ _ _ (Work-out (c .before) .work-out .ensures) (c .before .if1
           .left),
-      at-work-out .work-out .kept .1 .1 .1 .1 .1 .0,
-      at-start .pre .0 .for-hull,
+      Work-out (c .before) .work-out .kept .1 .1 .1 .1 .1 .0,
+      Start (c .before) .pre .0 .for-hull,
     )
 
 slice-aggregate-new-hull : tie.Need-slice-aggregate-new-hull
 slice-aggregate-new-hull c =
-    let at-work-out = c .before .before .before .before .before .before .before .before .before .before .before in
-    let at-start = at-work-out .before .before .before .before .before .before .before .before .before .before .before .before .before in
+    let at-work-out = Work-out (c .before .before) in
     sym (length-take-le (at-work-out .work-out .result .count) (at-work-out .work-out .last .1 .1 .1 .1 .1 .0)
     (omega (
       arith,
-      part-few _ (at-start .args .halfedges .now) (at-start .args .hull .now) _ _ _ _ _ (at-work-out .work-out .ensures) (c .before
+      part-few _ (Start (c .before .before) .args .halfedges .now) (Start (c .before .before) .args .hull .now) _ _ _ _ _ (at-work-out .work-out .ensures) (c .before
           .before .if1 .left),
       at-work-out .work-out .kept .1 .1 .1 .1 .1 .0,
-      at-start .pre .0 .for-hull,
+      Start (c .before .before) .pre .0 .for-hull,
     )))
 
 list-both-requires : tie.Need-list-both-requires
 list-both-requires c κs =
     let at-if1 = c .before .before .before in
-    let at-work-out = at-if1 .before .before .before .before .before .before .before .before .before in
-    let at-start = at-work-out .before .before .before .before .before .before .before .before .before .before .before .before .before in
+    let at-work-out = Work-out at-if1 in
+    let at-start = Start at-if1 in
     let f = part-few _ (at-start .args .halfedges .now) (at-start .args .hull .now) _ _ _ _ _ (at-work-out .work-out .ensures) (at-if1 .if1 .left) in
     let l = part-long _ (at-start .args .halfedges .now) (at-start .args .hull .now) _ _ _ _ _ (at-work-out .work-out .ensures) (at-if1 .if1 .left) in
     let m = length-take-le (at-work-out .work-out .result .count) (at-work-out .work-out .last .1 .1 .1 .1 .1 .0) (omega (
@@ -94,14 +103,12 @@ list-both-requires c κs =
 cast-t18 : tie.Need-cast-t18
 cast-t18 c =
     let at-if1 = c .before .before .before .before .before .before in
-    let at-work-out = at-if1 .before .before .before .before .before .before .before .before .before in
-    let at-start = at-work-out .before .before .before .before .before .before .before .before .before .before .before .before .before in
     record {
       fits = omega (
         arith,
-        part-few _ (at-start .args .halfedges .now) (at-start .args .hull .now) _ _ _ _ _ (at-work-out .work-out .ensures)
+        part-few _ (Start at-if1 .args .halfedges .now) (Start at-if1 .args .hull .now) _ _ _ _ _ (Work-out at-if1 .work-out .ensures)
             (at-if1 .if1 .left),
-        at-start .pre .0 .few,
+        Start at-if1 .pre .0 .few,
       );
     }
 
@@ -109,12 +116,11 @@ cast-t41 : tie.Need-cast-t41
 cast-t41 c =
     let at-list-both = c .before .before .before in
     let at-if1 = at-list-both .before .before .before .before in
-    let at-work-out = at-if1 .before .before .before .before .before .before .before .before .before in
-    let at-start = at-work-out .before .before .before .before .before .before .before .before .before .before .before .before .before in
+    let at-start = Start at-if1 in
     record {
       fits = omega (
         arith,
-        pairs-few _ (at-start .args .halfedges .now) (at-start .args .hull .now) _ _ _ _ _ (at-work-out .work-out .ensures)
+        pairs-few _ (at-start .args .halfedges .now) (at-start .args .hull .now) _ _ _ _ _ (Work-out at-if1 .work-out .ensures)
             (at-if1 .if1 .left) _ (at-start .pre .1 .same) (at-list-both .list-both .ensures .first),
         at-start .pre .0 .named .small,
       );
@@ -122,25 +128,20 @@ cast-t41 c =
 
 cast-t42 : tie.Need-cast-t42
 cast-t42 c =
-    let at-list-both = c .before .before .before .before in
-    let at-if1 = at-list-both .before .before .before .before in
-    let at-work-out = at-if1 .before .before .before .before .before .before .before .before .before in
-    let at-start = at-work-out .before .before .before .before .before .before .before .before .before .before .before .before .before in
+    let at-start = Start (If1 c) in
     record {
       fits = omega (
         arith,
-        places-few _ (at-start .args .halfedges .now) (at-start .args .hull .now) _ _ _ _ _ (at-work-out .work-out
-            .ensures) (at-if1 .if1 .left) _ (at-start .pre .1 .fits) (at-list-both .list-both .ensures .then),
+        places-few _ (at-start .args .halfedges .now) (at-start .args .hull .now) _ _ _ _ _ (Work-out (If1 c) .work-out
+            .ensures) (If1 c .if1 .left) _ (at-start .pre .1 .fits) (c .before .before .before .before .list-both .ensures .then),
         at-start .pre .0 .few,
       );
     }
 
 returns-2 : tie.Need-returns-2
 returns-2 c =
-    let at-list-both = c .before .before .before .before in
-    let at-if1 = at-list-both .before .before .before .before in
-    let at-work-out = at-if1 .before .before .before .before .before .before .before .before .before in
-    sound-made _ _ _ _ _ _ _ _ (at-work-out .work-out .ensures) (at-if1 .if1 .left) _ _ _ (at-list-both .list-both .ensures) (at-work-out .work-out .kept .1 .1 .1 .1 .1 .1 .0)
+    sound-made _ _ _ _ _ _ _ _ (Work-out (If1 c) .work-out .ensures) (If1 c .if1 .left) _ _ _ (c .before .before .before .before .list-both .ensures)
+    (Work-out (If1 c) .work-out .kept .1 .1 .1 .1 .1 .1 .0)
 
 pub mend-sound-spec : {M : Type 1} → statement M
 mend-sound-spec =

@@ -7,6 +7,7 @@ use lib.ListN.{length, getD, set}
 use Rattle.mesh.specs.Mesh.{endOf, wholeOf}
 use Rattle.base.specs.numbers.Numbers.{EMPTY}
 use Rattle.base.specs.common.Pick.{pick}
+use Rattle.base.specs.common.Count.{same, sumTo}
 
 -- the lengths of the walks from the table's first n entries, together
 unfoldable pub totalTo : List ℕ → List ℕ → ℕ → ℕ
@@ -32,3 +33,7 @@ owedTo tri t (suc e) =
 -- what is left of the table where a fan is broken: the length of each entry's walk, counted down by the half-edges that end at the site
 abbrev pub CountedDown : List ℕ → List ℕ → List ℕ → List ℕ → Type 0
 CountedDown tri he table new = (lens : List ℕ) × WalkLengths he table lens × (new ≡ owedTo tri lens (length tri))
+
+-- how many of the half-edges below n end at site s
+abbrev pub endsTo : List ℕ → ℕ → ℕ → ℕ
+endsTo tri s n = sumTo (λ e. same (endOf tri e) s) n

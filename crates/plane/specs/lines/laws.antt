@@ -1,2 +1,2 @@
 -- Laws that only proofs use.
-pub mod Calls
+pub mod Met

@@ -8,17 +8,13 @@ use Rattle.wkb.proofs.coordinate.Tie as tie
 
 returns : tie.Need-returns
 returns c =
-    let at-if1 = c .before .before in
-    let start = at-if1 .before .before .before in
-    let a = start .args in
-    c .pattern .ensures ∙ of-floats (now (a .floats)) (now (a .bits)) (a .k) (at-if1 .if1 .taken)
+    let a = c .before .before .before .before .before .args in
+    c .pattern .ensures ∙ of-floats (now (a .floats)) (now (a .bits)) (a .k) (c .before .before .if1 .taken)
 
 returns-2 : tie.Need-returns-2
 returns-2 c =
-    let at-if1 = c .before in
-    let start = at-if1 .before .before .before in
-    let a = start .args in
-    of-bits (now (a .floats)) (now (a .bits)) (a .k) (at-if1 .if1 .left)
+    let a = c .before .before .before .before .args in
+    of-bits (now (a .floats)) (now (a .bits)) (a .k) (c .before .if1 .left)
 
 pub coordinate-spec : {M : Type 1} → statement M
 coordinate-spec =

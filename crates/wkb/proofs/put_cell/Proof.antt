@@ -6,16 +6,16 @@ use borrow.Author.Needs.{needs}
 use Rattle.wkb.proofs.put_cell.Statement.{statement}
 use Rattle.wkb.proofs.put_cell.Tie as tie
 
+abbrev Start : tie.After-none → tie.Start
+Start c = c .before .before .before .before .before
+
 put-polygon-requires : tie.Need-put-polygon-requires
 put-polygon-requires c κs =
-    let start = c .before .before .before .before .before in
-    (no-bits-named (length (now (start .args .vertices))) (start .pre .0), start .pre .1)
+    (no-bits-named (length (now (Start c .args .vertices))) (Start c .pre .0), Start c .pre .1)
 
 returns : tie.Need-returns
 returns c =
-    let at-put-polygon = c .before .before in
-    let start = at-put-polygon .before .before .before .before .before .before in
-    no-bits-wrote _ (now (start .args .entries)) (at-put-polygon .put-polygon .ensures)
+    no-bits-wrote _ (now (Start (c .before .before .before) .args .entries)) (c .before .before .put-polygon .ensures)
 
 pub put-cell-spec : {M : Type 1} → statement M
 put-cell-spec =

@@ -8,10 +8,8 @@ use Rattle.wkb.proofs.put_head.Tie as tie
 returns : tie.Need-returns
 unfolding headBytes
 returns c =
-    let at-put-le3 = c .before .before in
-    let at-put-le2 = at-put-le3 .before .before .before .before in
-    let at-put-le = at-put-le2 .before .before .before .before in
-    wrote-then (wrote-then (at-put-le .put-le .ensures) (at-put-le2 .put-le2 .ensures)) (at-put-le3 .put-le3 .ensures)
+    let at-put-le2 = c .before .before .before .before .before .before in
+    wrote-then (wrote-then (at-put-le2 .before .before .before .before .put-le .ensures) (at-put-le2 .put-le2 .ensures)) (c .before .before .put-le3 .ensures)
 
 pub put-head-spec : {M : Type 1} → statement M
 put-head-spec =

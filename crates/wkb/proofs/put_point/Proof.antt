@@ -11,15 +11,11 @@ use Rattle.wkb.proofs.put_point.Tie as tie
 
 returns : tie.Need-returns
 returns c =
-    let at-put-le2 = c .before .before in
-    let at-put-le = at-put-le2 .before .before .before .before in
-    let at-coordinate2 = at-put-le .before .before in
-    let at-coordinate = at-coordinate2 .before in
-    let at-wide = at-coordinate .before in
-    let start = at-wide .before .before .before .before in
-    let a = start .args in
-    point-wrote (patterns (now (a .floats)) ++ now (a .bits)) (a .entry) _ (ap (λ (n : ℕ). 2 * n) (at-wide .wide .ensures))
-    (at-coordinate .coordinate .ensures) (at-coordinate2 .coordinate2 .ensures) (at-put-le .put-le .ensures) (at-put-le2 .put-le2 .ensures)
+    let at-put-le = c .before .before .before .before .before .before in
+    let at-coordinate = at-put-le .before .before .before in
+    let a = at-coordinate .before .before .before .before .before .args in
+    point-wrote (patterns (now (a .floats)) ++ now (a .bits)) (a .entry) _ (ap (λ (n : ℕ). 2 * n) (at-coordinate .before .wide .ensures))
+    (at-coordinate .coordinate .ensures) (at-put-le .before .before .coordinate2 .ensures) (at-put-le .put-le .ensures) (c .before .before .put-le2 .ensures)
 
 pub put-point-spec : {M : Type 1} → statement M
 put-point-spec =

@@ -25,13 +25,12 @@ loop-holds c = lined-start _ _ _ _ refl
 
 put-point-requires : tie.Need-put-point-requires Inv-loop μ-loop
 put-point-requires c κs =
-    let at-loop-test = c .before .before in
-    let at-loop = at-loop-test .before in
+    let at-loop = c .before .before .before in
     let start = at-loop .before .before .before .before .before in
     let l = at-loop .loop in
     let v = patterns (now (start .args .floats)) ++ now (start .args .bits) in
     let list = now (start .args .entries) in
-    let more = at-loop-test .loop-test .taken in (
+    let more = c .before .before .loop-test .taken in (
       omega (arith, start .pre .0 .each (l .i) more),
       omega (
         arith,
@@ -46,23 +45,18 @@ put-point-requires c κs =
 
 loop-again : tie.Need-loop-again Inv-loop μ-loop
 loop-again c =
-    let at-put-point = c .before .before in
-    let at-loop-test = at-put-point .before .before .before in
-    let at-loop = at-loop-test .before in
-    let start = at-loop .before .before .before .before .before in
-    let a = start .args in
-    let l = at-loop .loop in
+    let at-loop-test = c .before .before .before .before .before in
+    let a = at-loop-test .before .before .before .before .before .before .args in
+    let l = at-loop-test .before .loop in
     let v = patterns (now (a .floats)) ++ now (a .bits) in
     let list = now (a .entries) in
     let more = at-loop-test .loop-test .taken in
-    lined-step (l .inv) (pointBytes (patternAt v (getD list (l .i) 0))) more (points-more v list (l .i) more) (at-put-point .put-point .ensures)
+    lined-step (l .inv) (pointBytes (patternAt v (getD list (l .i) 0))) more (points-more v list (l .i) more) (c .before .before .put-point .ensures)
 
 returns : tie.Need-returns Inv-loop μ-loop
 returns c =
-    let at-loop = c .before in
-    let start = at-loop .before .before .before .before .before in
-    let a = start .args in
-    wrote-as (lined-end (at-loop .loop .inv) (c .loop-test .left))
+    let a = c .before .before .before .before .before .before .args in
+    wrote-as (lined-end (c .before .loop .inv) (c .loop-test .left))
     (ap (λ (l : List ℕ). each pointBytes (patternsOf (patterns (now (a .floats)) ++ now (a .bits)) l)) (take-length (now (a .entries))))
 
 pub put-points-spec : {M : Type 1} → statement M

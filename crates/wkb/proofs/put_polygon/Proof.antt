@@ -14,31 +14,26 @@ use Rattle.wkb.proofs.put_polygon.Tie as tie
 
 put-head-requires : tie.Need-put-head-requires
 put-head-requires c κs =
-    let at-if1 = c .before in
-    let start = at-if1 .before .before .before .before .before in
-    omega (arith, start .pre .1 .long, size-none (length (now (start .args .entries))) (omega (arith, at-if1 .if1 .taken)))
+    let start = c .before .before .before .before .before .before in
+    omega (arith, start .pre .1 .long, size-none (length (now (start .args .entries))) (omega (arith, c .before .if1 .taken)))
 
 returns : tie.Need-returns
 returns c =
-    let at-put-head = c .before .before in
-    let at-if1 = at-put-head .before .before in
-    let start = at-if1 .before .before .before .before .before in
-    let a = start .args in
-    wrote-as (at-put-head .put-head .ensures) (sym (image-none (patterns (now (a .floats)) ++ now (a .bits)) (now (a .entries)) (omega (arith, at-if1 .if1 .taken))))
+    let at-if1 = c .before .before .before .before in
+    let a = at-if1 .before .before .before .before .before .args in
+    wrote-as (c .before .before .put-head .ensures) (sym (image-none (patterns (now (a .floats)) ++ now (a .bits)) (now (a .entries)) (omega (arith, at-if1 .if1 .taken))))
 
 put-head-requires-2 : tie.Need-put-head-requires-2
 put-head-requires-2 c κs =
-    let at-if1 = c .before in
-    let start = at-if1 .before .before .before .before .before in
-    omega (arith, start .pre .1 .long, size-ring (length (now (start .args .entries))) (omega (arith, at-if1 .if1 .left)))
+    let start = c .before .before .before .before .before .before in
+    omega (arith, start .pre .1 .long, size-ring (length (now (start .args .entries))) (omega (arith, c .before .if1 .left)))
 
 put-ring-requires : tie.Need-put-ring-requires
 put-ring-requires c κs =
     let at-put-head2 = c .before .before .before in
-    let at-if1 = at-put-head2 .before .before in
-    let start = at-if1 .before .before .before .before .before in
+    let start = at-put-head2 .before .before .before .before .before .before .before in
     let list = now (start .args .entries) in
-    let three : 3 ≤ length list = omega (arith, at-if1 .if1 .left) in
+    let three : 3 ≤ length list = omega (arith, at-put-head2 .before .before .if1 .left) in
     let head = at-put-head2 .put-head2 .ensures in (
       start .pre .0,
       three,
@@ -48,13 +43,10 @@ put-ring-requires c κs =
 
 returns-2 : tie.Need-returns-2
 returns-2 c =
-    let at-put-ring = c .before .before in
-    let at-put-head2 = at-put-ring .before .before .before .before in
-    let at-if1 = at-put-head2 .before .before in
-    let start = at-if1 .before .before .before .before .before in
-    let a = start .args in
-    wrote-as (wrote-then (at-put-head2 .put-head2 .ensures) (at-put-ring .put-ring .ensures))
-    (sym (image-ring (patterns (now (a .floats)) ++ now (a .bits)) (now (a .entries)) (omega (arith, at-if1 .if1 .left))))
+    let at-put-head2 = c .before .before .before .before .before .before in
+    let a = at-put-head2 .before .before .before .before .before .before .before .args in
+    wrote-as (wrote-then (at-put-head2 .put-head2 .ensures) (c .before .before .put-ring .ensures))
+    (sym (image-ring (patterns (now (a .floats)) ++ now (a .bits)) (now (a .entries)) (omega (arith, at-put-head2 .before .before .if1 .left))))
 
 pub put-polygon-spec : {M : Type 1} → statement M
 put-polygon-spec =

@@ -13,14 +13,16 @@ use borrow.Author.Needs.{needs}
 use Rattle.wkb.proofs.put_ring.Statement.{statement}
 use Rattle.wkb.proofs.put_ring.Tie as tie
 
+abbrev Start : tie.After-put-points → tie.Start
+Start c = c .before .before .before .before .before .before .before .before .before .before
+
 put-points-requires-2 : tie.Need-put-points-requires-2
 put-points-requires-2 c κs =
     let at-put-points = c .before .before .before .before in
-    let at-put-le = at-put-points .before .before .before .before in
-    let start = at-put-le .before .before .before .before .before .before in
+    let start = Start at-put-points in
     let list = now (start .args .entries) in
     let v = patterns (now (start .args .floats)) ++ now (start .args .bits) in
-    let first = at-put-le .put-le .ensures in
+    let first = at-put-points .before .before .before .before .put-le .ensures in
     let last = at-put-points .put-points .ensures in (
       named-first list _ (start .pre .0),
       omega (
@@ -38,13 +40,10 @@ put-points-requires-2 c κs =
 
 returns : tie.Need-returns
 returns c =
-    let at-put-points2 = c .before .before in
-    let at-put-points = at-put-points2 .before .before .before .before .before in
-    let at-put-le = at-put-points .before .before .before .before in
-    let start = at-put-le .before .before .before .before .before .before in
-    let a = start .args in
-    ring-wrote (patterns (now (a .floats)) ++ now (a .bits)) (now (a .entries)) (omega (arith, start .pre .1)) refl
-    (at-put-le .put-le .ensures) (at-put-points .put-points .ensures) (at-put-points2 .put-points2 .ensures)
+    let at-put-points = c .before .before .before .before .before .before .before in
+    let a = Start at-put-points .args in
+    ring-wrote (patterns (now (a .floats)) ++ now (a .bits)) (now (a .entries)) (omega (arith, Start at-put-points .pre .1)) refl
+    (at-put-points .before .before .before .before .put-le .ensures) (at-put-points .put-points .ensures) (c .before .before .put-points2 .ensures)
 
 pub put-ring-spec : {M : Type 1} → statement M
 put-ring-spec =

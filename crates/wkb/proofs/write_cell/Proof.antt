@@ -15,26 +15,23 @@ use Rattle.wkb.proofs.write_cell.Tie as tie
 both : (s : tie.Start) → length (patterns (now (s .args .floats)) ++ now (s .args .bits)) % 2 ≡ (length (now (s .args .floats)) + length (now (s .args .bits))) % 2
 both s = ap (λ (n : ℕ). n % 2) (length-both (now (s .args .floats)) (now (s .args .bits)))
 
+abbrev Start : tie.Else1 → tie.Start
+Start c = c .before .before .before .before .before .before
+
 returns : tie.Need-returns
 returns c =
-    let start = c .before .before .before .before .before .before in
-    odd-list _ _ _ _ _ (λ e. c .if1 .taken (sym (both start) ∙ e))
+    odd-list _ _ _ _ _ (λ e. c .if1 .taken (sym (both (c .before .before .before .before .before .before)) ∙ e))
 
 returns-2 : tie.Need-returns-2
 returns-2 c =
-    let at-cell = c .before in
-    let at-if1 = at-cell .before .before in
-    let start = at-if1 .before .before .before .before .before .before in
-    no-cell _ _ _ _ _ (both start ∙ at-if1 .if1 .left) (at-cell .cell .ensures) (c .if2 .taken)
+    let at-if1 = c .before .before .before in
+    no-cell _ _ _ _ _ (both (Start at-if1) ∙ at-if1 .if1 .left) (c .before .cell .ensures) (c .if2 .taken)
 
 returns-3 : tie.Need-returns-3
 returns-3 c =
-    let at-write-entries = c .before .before in
-    let at-if2 = at-write-entries .before .before .before in
-    let at-cell = at-if2 .before in
-    let at-if1 = at-cell .before .before in
-    let start = at-if1 .before .before .before .before .before .before in
-    of-cell _ _ _ _ _ (both start ∙ at-if1 .if1 .left) (at-cell .cell .ensures) (at-if2 .if2 .left) (at-write-entries .write-entries .ensures)
+    let at-if2 = c .before .before .before .before .before in
+    let at-if1 = at-if2 .before .before .before in
+    of-cell _ _ _ _ _ (both (Start at-if1) ∙ at-if1 .if1 .left) (at-if2 .before .cell .ensures) (at-if2 .if2 .left) (c .before .before .write-entries .ensures)
 
 pub write-cell-spec : {M : Type 1} → statement M
 write-cell-spec =

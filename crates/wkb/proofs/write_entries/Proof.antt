@@ -19,38 +19,29 @@ half s = ap (λ (n : ℕ). n / 2) (sym (length-both (now (s .args .floats)) (now
 returns : tie.Need-returns
 returns c =
     let at-named = c .before in
-    let start = at-named .before .before .before .before .before in
-    not-named _ _ _ _ (half start) (decide.refused (at-named .named .result) (c .if1 .taken) (at-named .named .ensures))
+    not-named _ _ _ _ (half (at-named .before .before .before .before .before)) (decide.refused (at-named .named .result) (c .if1 .taken) (at-named .named .ensures))
 
 returns-2 : tie.Need-returns-2
 returns-2 c =
     let at-has-room = c .before in
-    let at-if1 = at-has-room .before in
-    let at-named = at-if1 .before in
-    let start = at-named .before .before .before .before .before in
-    no-room _ _ _ _ (half start) (decide.granted (at-named .named .result) (at-if1 .if1 .left) (at-named .named .ensures))
+    let at-named = c .before .before .before in
+    no-room _ _ _ _ (half (at-named .before .before .before .before .before)) (decide.granted (at-named .named .result) (c .before .before .if1 .left) (at-named .named .ensures))
     (decide.refused (at-has-room .has-room .result) (c .if2 .taken) (at-has-room .has-room .ensures))
 
 put-polygon-requires : tie.Need-put-polygon-requires
 put-polygon-requires c κs =
-    let at-if2 = c .before in
-    let at-has-room = at-if2 .before in
-    let at-if1 = at-has-room .before in
-    let at-named = at-if1 .before in (
-      decide.granted (at-named .named .result) (at-if1 .if1 .left) (at-named .named .ensures),
-      decide.granted (at-has-room .has-room .result) (at-if2 .if2 .left) (at-has-room .has-room .ensures),
+    let at-has-room = c .before .before in (
+      decide.granted (at-has-room .before .before .named .result) (at-has-room .before .if1 .left) (at-has-room .before .before .named .ensures),
+      decide.granted (at-has-room .has-room .result) (c .before .if2 .left) (at-has-room .has-room .ensures),
     )
 
 returns-3 : tie.Need-returns-3
 returns-3 c =
-    let at-put-polygon = c .before .before in
-    let at-if2 = at-put-polygon .before .before in
+    let at-if2 = c .before .before .before .before in
     let at-has-room = at-if2 .before in
-    let at-if1 = at-has-room .before in
-    let at-named = at-if1 .before in
-    let start = at-named .before .before .before .before .before in
-    wrote-image _ _ _ _ (half start) (decide.granted (at-named .named .result) (at-if1 .if1 .left) (at-named .named .ensures))
-    (decide.granted (at-has-room .has-room .result) (at-if2 .if2 .left) (at-has-room .has-room .ensures)) (at-put-polygon .put-polygon .ensures)
+    let at-named = at-has-room .before .before in
+    wrote-image _ _ _ _ (half (at-named .before .before .before .before .before)) (decide.granted (at-named .named .result) (at-has-room .before .if1 .left) (at-named .named .ensures))
+    (decide.granted (at-has-room .has-room .result) (at-if2 .if2 .left) (at-has-room .has-room .ensures)) (c .before .before .put-polygon .ensures)
 
 pub write-entries-spec : {M : Type 1} → statement M
 write-entries-spec =

@@ -1,7 +1,4 @@
 -- `certifying::tree::places_out` meets its contract.
-use Rattle.ring_area.specs.lowest.laws.Loops.{named-twice}
-use Rattle.certifying.specs.tree.laws.Search.{site-out}
-use borrow.Author.Needs.{needs}
 use native.Mathlib.Omega.{arith}
 use Rattle.certifying.proofs.tree.places_out.Statement.{statement}
 use Rattle.certifying.proofs.tree.places_out.Tie as tie
@@ -41,34 +38,11 @@ returns-3 : tie.Need-returns-3
 returns-3 c =
     let at-level-out3 = c .before in (at-level-out3 .level-out3 .ensures (c .if3 .taken), omega arith)
 
-mul-wide : tie.Need-mul-wide
-mul-wide c =
-    let s = c .before .before .before .before .before .before .before .before .before .before in omega (arith, s .pre .0 .order .long, s .pre .3)
-
-shared-slice-read-wide : tie.Need-shared-slice-read-wide
-shared-slice-read-wide c =
-    let s = c .before .before .before .before .before .before .before .before .before .before .before in omega (arith, s .pre .0 .order .long, s .pre .3)
-
-point-at-requires : tie.Need-point-at-requires
-point-at-requires c κs =
-    let s = c .before .before .before .before .before .before .before .before .before .before .before .before in
-    rw (c .wide .ensures) (named-twice _ _ (s .pre .0 .order .named (s .args .j) (s .pre .3)))
-
 returns-4 : tie.Need-returns-4
 returns-4 c =
-    let at-is-off = c .before in let at-point-at = at-is-off .before in let at-wide = at-point-at .before in
-    let s = at-wide .before .before .before .before .before .before .before .before .before .before .before .before in (
-      site-out (s .pre .1) (s .pre .0 .order) (s .pre .2) (s .args .j) (s .pre .3) (at-wide .wide .ensures) (at-point-at .point-at .ensures) (at-is-off .is-off .ensures)
-          (c .if4 .taken),
-      omega arith,
-    )
-
-returns-5 : tie.Need-returns-5
-returns-5 c =
     (λ i a b h. absurd (omega arith), omega arith)
 
 pub places-out-spec : {M : Type 1} → statement M
 places-out-spec =
     tie.close (tie.spec base-4096-requires level-out-requires returns base-256-requires level-out-requires-2
-    returns-2 level-out-requires-3 returns-3 mul-wide shared-slice-read-wide (λ c κs. search needs)
-    point-at-requires (λ c κs. search needs) returns-4 returns-5)
+    returns-2 level-out-requires-3 returns-3 returns-4)

@@ -25,8 +25,8 @@ passed-requires c κs =
 returns : tie.Need-returns Inv-loop μ-loop
 returns c =
     let at-passed = c .before in let t = at-passed .before in let s = t .before .before .before .before .before .before in
-    ring-found (s .args .far) (now (s .args .sites)) (s .args .s) (now (s .args .vertices)) (now (s .args .entries)) (s .pre .0 .tree .order) (s .pre .1) (t .loop-test
-    .taken) (at-passed .passed .ensures .stop (c .if1 .taken))
+    ring-found (s .args .far) (now (s .args .sites)) (s .args .s) (now (s .args .vertices)) (now (s .args .entries)) (s .pre .0 .tree .order) (s .pre .1)
+    (at-passed .passed .ensures .stop (c .if1 .taken))
 
 add-j : tie.Need-add-j Inv-loop μ-loop
 add-j c =

@@ -2,19 +2,21 @@
 use mathlib.Core.Path.{_≡_, refl, sym, ap, _∙_, subst}
 use mathlib.Core.Bool.{Bool, true, false}
 use mathlib.Core.List.{List, []}
-use mathlib.Core.Logic.{⊎-elim}
+use mathlib.Core.Logic.{_⊎_, inl, inr, ⊎-elim}
 use Prim.{tt}
-use Prim.Native.Nat.{ℕ, _+_, _*_, _/_, _%_, _≤_, _<_}
+use Prim.Native.Nat.{ℕ, _+_, _-_, _*_, _/_, _%_, _≤_, _<_}
 use native.Mathlib.Nat.{le-trans, le-of-eq, le-of-lt, lt-of-lt-of-le, mul-le-mul-right, div-add-mod'}
 use native.Mathlib.Omega.{arith}
 use borrow.Author.Tests.{ltb-true}
 use lib.Dec.{lit≤, ltb}
 use lib.Ieee.{Float}
 use lib.Ieee.Nearest.{div-mono}
-use lib.ListN.{length, getD}
+use borrow.Author.Needs.{read-below}
+use lib.ListN.{length, getD, set}
+use lib.Seq.{getD-set-same}
 use Rattle.base.specs.common.laws.Decide.{lt-or-ge}
 use Rattle.ring_area.specs.lowest.Lowest.{lowest, anyBelow}
-use Rattle.ring_area.specs.lowest.laws.Loops.{passed-end, lowest-takes, none-below, some-below, none-taken}
+use Rattle.ring_area.specs.lowest.laws.Loops.{no-both, passed-end, lowest-takes, none-below, some-below, none-taken}
 use Rattle.plane.specs.points.Finite.{point-weaken, site-bounded}
 use Rattle.plane.specs.points.Flat.{pointAt}
 use Rattle.plane.specs.points.Rules.{okSite}
@@ -27,9 +29,9 @@ use Rattle.auditing.specs.nearer.Steps.{PiecesKept}
 use Rattle.auditing.specs.nearer.laws.Pieces.{site-is}
 use Rattle.audit_truth.specs.Held.{HeldPoint, AllHeld}
 use Rattle.certifying.specs.declared.windows.Window.{Window}
-use Rattle.certifying.specs.tree.Steps.{SitesHeld, Order, NodeNamed, nodeOff, OffFrom, LevelSafe, RingSafe, PassedFrom, PiecesHeld, TreeSafe}
+use Rattle.certifying.specs.tree.Steps.{SitesHeld, Order, NodeNamed, nodeOff, OffFrom, LevelSafe, RingSafe, FoundPast, PassedFrom, ListedAt, Sifted, ListedAsked, PiecesHeld, TreeSafe}
 use Rattle.certifying.specs.tree.Tree.{cornerPast}
-use Rattle.certifying.specs.windows.Windows.{NotMinus, EdgesHeld, offOf}
+use Rattle.certifying.specs.windows.Windows.{NotMinus, EdgesHeld, OffWindow, offOf}
 use Rattle.certifying.specs.windows.laws.LeftOut.{at-most-self, left-out, off-window}
 
 -- ---- blocks that are left out
@@ -87,23 +89,99 @@ module _ {far : Float} {sites : List Float} {room : List ℕ} {w : Window} {q : 
       no : (r : ℕ) → 0 < r → r ≡ 0 → ⊥
       no r p e = omega arith
 
-  module _ {n : ℕ} {o : Point} {t : Bool} (e : n ≡ getD room j 0) (f : o ≡ pointAt sites n) (g : t ≡ anyBelow (cornerPast far q o v cell) (length cell)) where
-    here : t ≡ anyBelow (cornerPast far q (pointAt sites (getD room j 0)) v cell) (length cell)
-    here = g ∙ ap (λ (p : Point). anyBelow (cornerPast far q p v cell) (length cell)) (f ∙ ap (pointAt sites) e)
+  pub passed-stop : {t : Bool} {list : List ℕ} {count : ℕ} → ListedAsked far sites room q v cell list count t → t ≡ true → PassedFrom far sites room q v cell j 0
+  passed-stop a h = record { none = λ i x y z k l. absurd (omega arith); stop = λ _. a .found h; most = omega arith }
 
-    pub passed-stop : t ≡ true → PassedFrom far sites room q v cell j 0
-    passed-stop h = record { none = λ i x y z k l. absurd (omega arith); stop = λ _. sym here ∙ h; most = omega arith }
+  pub passed-block : {to count : ℕ} {list : List ℕ} {t : Bool} → j < to → to ≤ j + 16 → Sifted sites room w j to count list → ListedAsked far sites room q v cell list count t → t ≡ false
+      → PassedFrom far sites room q v cell j (to - j)
+  unfolding cornerPast
+  passed-block {to} {count} {list} p m a b e = record {
+    none = λ i x y z k h. ⊎-elim
+        (λ o. left-out w (s .keeps .edges) q (pointAt v (getD cell k 0)) (s .own) (s .corners .each k h) (pointAt sites (getD room i 0))
+        (s .held .each _ (s .tree .order .named i z)) far (s .plus) (s .keeps .each k h) o)
+        (λ l. none-taken (cornerPast far q (pointAt sites (getD room i 0)) v cell) (length cell)
+        (subst (λ (n : ℕ). anyBelow (cornerPast far q (pointAt sites (getD room n 0)) v cell) (length cell) ≡ false) (l .is) (b .none e (l .at) (l .below))) k h)
+        (a .each i x (within i y));
+    stop = λ z. absurd (no z);
+    most = omega arith;
+  }
+    where
+      within : (i : ℕ) → i < j + (to - j) → i < to
+      within i y = omega arith
 
-    pub passed-one : t ≡ false → PassedFrom far sites room q v cell j 1
-    passed-one h = record {
-      none = λ i x y z k l. none-taken (cornerPast far q (pointAt sites (getD room i 0)) v cell) (length cell)
-          (subst (λ (n : ℕ). anyBelow (cornerPast far q (pointAt sites (getD room n 0)) v cell) (length cell) ≡ false) (only i x y) (sym here ∙ h)) k l;
-      stop = λ z. absurd (omega arith);
-      most = omega arith;
+      no : to - j ≡ 0 → ⊥
+      no z = omega arith
+
+-- ---- the places of a block
+module _ {sites : List Float} {room : List ℕ} {w : Window} {from : ℕ} where
+  pub sift-none : (list : List ℕ) → Sifted sites room w from from 0 list
+  sift-none list = record { few = omega arith; named = λ k h. absurd (omega arith); each = λ i a b. absurd (omega arith) }
+
+  module _ (c : ℕ) {j count : ℕ} {list : List ℕ} (a : Sifted sites room w from j count list) (h : count < length list) (J : j < length sites / 2) where
+    carried : (i : ℕ) → OffWindow w (pointAt sites (getD room i 0)) ⊎ ListedAt list count i → OffWindow w (pointAt sites (getD room i 0)) ⊎ ListedAt (set list count j) (count + c) i
+    carried i = ⊎-elim inl (λ l. inr (record { at = l .at; below = omega (arith, l .below); is = read-below ℕ list count (l .at) j 0 i (l .below) (l .is) }))
+
+    before-named : (k : ℕ) → k < count → getD (set list count j) k 0 < j + 1
+    before-named k l = subst (λ (n : ℕ). n < j + 1) (sym (read-below ℕ list count k j 0 _ l refl)) (omega (arith, a .named k l))
+
+    sift-out : OffFrom sites room w j (j + 1) → c ≡ 0 → Sifted sites room w from (j + 1) (count + c) (set list count j)
+    sift-out g e = record {
+      few = omega (arith, a .few);
+      named = λ k l. before-named k (omega arith);
+      each = λ i x y. ⊎-elim (λ b. carried i (a .each i x b)) (λ b. inl (g i b y (omega arith))) (lt-or-ge i j);
+    }
+
+    sift-in : c ≡ 1 → Sifted sites room w from (j + 1) (count + c) (set list count j)
+    sift-in e = record {
+      few = omega (arith, a .few);
+      named = λ k l. ⊎-elim (before-named k) (λ b. subst (λ (n : ℕ). n < j + 1) (sym (last k l b)) (omega arith)) (lt-or-ge k count);
+      each = λ i x y. ⊎-elim (λ b. carried i (a .each i x b))
+          (λ b. inr (record { at = count; below = omega arith; is = getD-set-same list count j 0 h ∙ same i b y })) (lt-or-ge i j);
     }
       where
-        only : (i : ℕ) → j ≤ i → i < j + 1 → j ≡ i
-        only i a b = omega arith
+        same : (i : ℕ) → j ≤ i → i < j + 1 → j ≡ i
+        same i b y = omega arith
+
+        own : (k : ℕ) → k < count + c → count ≤ k → k ≡ count
+        own k l b = omega arith
+
+        last : (k : ℕ) → k < count + c → count ≤ k → getD (set list count j) k 0 ≡ j
+        last k l b = ap (λ (n : ℕ). getD (set list count j) n 0) (own k l b) ∙ getD-set-same list count j 0 h
+
+    pub sift-more : {t : Bool} {x : ℕ} → x ≡ j → (t ≡ true → OffFrom sites room w j (j + 1)) → (t ≡ true → c ≡ 0) → (t ≡ false → c ≡ 1)
+        → Sifted sites room w from (j + 1) (count + c) (set list count x)
+    sift-more {t = true} x g e f = subst (λ (y : ℕ). Sifted sites room w from (j + 1) (count + c) (set list count y)) (sym x) (sift-out (g refl) (e refl))
+    sift-more {t = false} x g e f = subst (λ (y : ℕ). Sifted sites room w from (j + 1) (count + c) (set list count y)) (sym x) (sift-in (f refl))
+
+-- the loop's end
+pub sift-to : {sites : List Float} {room : List ℕ} {w : Window} {from j to count : ℕ} {list : List ℕ} → Sifted sites room w from j count list → j ≤ to → to ≤ j → Sifted sites room w from to count list
+sift-to {sites} {room} {w} {from} {j} {to} {count} {list} a h g = subst (λ (n : ℕ). Sifted sites room w from n count list) (same h g) a
+  where
+    same : j ≤ to → to ≤ j → j ≡ to
+    same h g = omega arith
+
+-- ---- the listed places
+module _ (far : Float) (sites : List Float) (room : List ℕ) (s : Point) (v : List Float) (cell list : List ℕ) where
+  abbrev pub listedPast : ℕ → Bool
+  listedPast k = anyBelow (cornerPast far s (pointAt sites (getD room (getD list k 0) 0)) v cell) (length cell)
+
+  pub listed-is : (k : ℕ) {m n : ℕ} {o : Point} {t : Bool} → m ≡ getD list k 0 → n ≡ getD room m 0 → o ≡ pointAt sites n → t ≡ anyBelow (cornerPast far s o v cell) (length cell) → t ≡ listedPast k
+  listed-is k e f g h = h ∙ ap (λ (p : Point). anyBelow (cornerPast far s p v cell) (length cell)) (g ∙ ap (pointAt sites) (f ∙ ap (λ (m : ℕ). getD room m 0) e))
+
+  abbrev pub AskedTo : ℕ → Type 0
+  AskedTo k = (i : ℕ) → i < k → listedPast i ≡ false
+
+  pub asked-more : (k : ℕ) {t : Bool} → AskedTo k → t ≡ listedPast k → t ≡ false → AskedTo (k + 1)
+  asked-more k a e f i h = ⊎-elim (a i) (λ b. subst (λ (n : ℕ). listedPast n ≡ false) (last i h b) (sym e ∙ f)) (lt-or-ge i k)
+    where
+      last : (i : ℕ) → i < k + 1 → k ≤ i → k ≡ i
+      last i h b = omega arith
+
+  pub asked-found : (k count : ℕ) {t : Bool} → getD list k 0 < length sites / 2 → t ≡ listedPast k → t ≡ true → ListedAsked far sites room s v cell list count true
+  asked-found k count h e f = record { found = λ _. record { place = getD list k 0; within = h; past = sym e ∙ f }; none = λ z. absurd (no-both z) }
+
+  pub asked-all : (k count : ℕ) → AskedTo k → count ≤ k → ListedAsked far sites room s v cell list count false
+  asked-all k count a h = record { found = λ z. absurd (no-both (sym z)); none = λ _ i l. a i (omega arith) }
 
 -- ---- all places
 abbrev pub NonePast : Float → List Float → List ℕ → Point → List Float → List ℕ → ℕ → Type 0
@@ -118,14 +196,15 @@ module _ (far : Float) (sites : List Float) (s : ℕ) (v : List Float) (cell : L
   unfolding cornerPast beyondAt otherAt
   past-is i k = ap (λ (q : Point). beyond far (pointAt v (getD cell k 0)) q (pointAt sites i)) P
 
-  pub ring-found : {j : ℕ} → j < length sites / 2 → anyBelow (cornerPast far p (pointAt sites (getD room j 0)) v cell) (length cell) ≡ true → true ≡ cellNearer far sites s [] true v cell
+  pub ring-found : FoundPast far sites room p v cell → true ≡ cellNearer far sites s [] true v cell
   unfolding cellNearer cornerNearer nearerAt heldCount
-  ring-found {j} J t =
+  ring-found f =
+      let j = f .place in
       let q = cornerPast far p (pointAt sites (getD room j 0)) v cell in
       let k = lowest q (length cell) in
-      let K = ltb-true k (length cell) t in
+      let K = ltb-true k (length cell) (f .past) in
       sym (some-below (cornerNearer far sites s [] true v cell) k K
-      (some-below (beyondAt far (pointAt v (getD cell k 0)) sites s [] true) (getD room j 0) (o .named j J) (sym (past-is (getD room j 0) k) ∙ lowest-takes q (length cell) K)))
+      (some-below (beyondAt far (pointAt v (getD cell k 0)) sites s [] true) (getD room j 0) (o .named j (f .within)) (sym (past-is (getD room j 0) k) ∙ lowest-takes q (length cell) K)))
 
   pub ring-none : {j : ℕ} → NonePast far sites room p v cell j → length sites / 2 ≤ j → false ≡ cellNearer far sites s [] true v cell
   unfolding cellNearer cornerNearer nearerAt heldCount

@@ -29,19 +29,37 @@ loop-holds c = (
   refl,
 )
 
-cast-offsets : tie.Need-cast-offsets Inv-loop μ-loop
-cast-offsets c = omega (arith, sheeting-at _ _ _ _ _ _ (c .before .before .loop .inv .0))
+mul-d : tie.Need-mul-d Inv-loop μ-loop
+mul-d c = omega (arith, c .before .loop .inv .3, c .before .loop .inv .0 .place, c .before .before .before .before .before .before .before .before .before .pre .one-more)
 
-mul-offsets : tie.Need-mul-offsets Inv-loop μ-loop
-mul-offsets c = omega (arith, c .before .before .loop .inv .3, c .before .before .loop .inv .0 .place, c .before .before .before .before .before .before .before .before .before .before .pre .one-more)
-
-slice-write-offsets : tie.Need-slice-write-offsets Inv-loop μ-loop
-slice-write-offsets c = omega (
+slice-read-d : tie.Need-slice-read-d Inv-loop μ-loop
+slice-read-d c = omega (
   arith,
   c .before .before .loop .inv .3,
   c .before .before .loop .inv .0 .place,
   c .before .before .before .before .before .before .before .before
       .before .before .pre .one-more,
+)
+
+cast-offsets : tie.Need-cast-offsets Inv-loop μ-loop
+cast-offsets c = omega (arith, sheeting-at _ _ _ _ _ _ (c .before .before .before .loop .inv .0))
+
+mul-offsets : tie.Need-mul-offsets Inv-loop μ-loop
+mul-offsets c = omega (
+  arith,
+  c .before .before .before .loop .inv .3,
+  c .before .before .before .loop .inv .0 .place,
+  c .before .before .before .before .before .before
+      .before .before .before .before .before .pre .one-more,
+)
+
+slice-write-offsets : tie.Need-slice-write-offsets Inv-loop μ-loop
+slice-write-offsets c = omega (
+  arith,
+  c .before .before .before .loop .inv .3,
+  c .before .before .before .loop .inv .0 .place,
+  c .before .before .before .before .before
+      .before .before .before .before .before .before .pre .one-more,
 )
 
 mul-cut-site : tie.Need-mul-cut-site Inv-loop μ-loop
@@ -52,24 +70,26 @@ shared-slice-read-cut-site c = omega arith
 
 cut-site-requires : tie.Need-cut-site-requires Inv-loop μ-loop
 cut-site-requires c κs = (
-  c .before .before .before .before .before .before .before .before .before .before .before .before .before .pre .thirds,
-  c .before .before .before .before
-      .before .before .before .before .before .before .before .before .before .pre .small,
-  sheeting-asks _ _ _ _ _ _ (c .before .before .before .before .before .loop .inv .0) (omega arith),
+  c .before .before .before .before .before .before .before .before .before .before .before .before .before .before .pre .thirds,
+  c .before
+      .before .before .before .before .before .before .before .before .before .before .before .before .before .pre .small,
+  sheeting-asks _ _ _ _ _ _ (c .before .before
+      .before .before .before .before .loop .inv .0) (omega arith),
 )
 
 add-s : tie.Need-add-s Inv-loop μ-loop
-add-s c = omega (arith, c .before .before .before .before .before .before .before .before .before .before .before .before .before .before .before .before .before .before .pre .few)
+add-s c = omega (arith, c .before .before .before .before .before .before .before .before .before .before .before .before .before .before .before .before .before .before .before .pre .few)
 
 loop-less : tie.Need-loop-less Inv-loop μ-loop
 loop-less c = omega arith
 
 loop-again : tie.Need-loop-again Inv-loop μ-loop
 loop-again c = (
-  sheeting-step _ _ _ _ _ _ (c .before .before .before .before .before .before .before .before .before .before .loop .inv .0) (omega arith) (c .before .before .before .before .cut-site .ensures),
-  c .before .before .before .vertices .given ∙ c .before .before .before .before .before .before .before .before .before .before .loop .inv .1,
-  c .before .indexes .given ∙ c .before .before .before .before .before .before .before .before .before .before .loop .inv .2,
-  simp length-set (c .before .before .before .before .before .before .before .before .before .before .loop .inv .3),
+  sheeting-step _ _ _ _ _ _ (c .before .before .before .before .before .before .before .before .before .before .before .loop .inv .0) (omega arith) (c .before .before
+      .before .before .cut-site .ensures),
+  c .before .before .before .vertices .given ∙ c .before .before .before .before .before .before .before .before .before .before .before .loop .inv .1,
+  c .before .indexes .given ∙ c .before .before .before .before .before .before .before .before .before .before .before .loop .inv .2,
+  simp length-set (c .before .before .before .before .before .before .before .before .before .before .before .loop .inv .3),
 )
 
 cast-offsets-2 : tie.Need-cast-offsets-2 Inv-loop μ-loop
@@ -108,5 +128,5 @@ returns c = let e = sheeting-end _ _ _ _ _ _ (c .before .before .loop .inv .0) (
 pub cut-all-spec : {M : Type 1} → statement M
 cut-all-spec =
     tie.close
-    (tie.spec Inv-loop μ-loop loop-holds cast-offsets mul-offsets slice-write-offsets mul-cut-site shared-slice-read-cut-site cut-site-requires add-s loop-less
+    (tie.spec Inv-loop μ-loop loop-holds mul-d slice-read-d cast-offsets mul-offsets slice-write-offsets mul-cut-site shared-slice-read-cut-site cut-site-requires add-s loop-less
     loop-again cast-offsets-2 mul-offsets-2 slice-write-offsets-2 same-length same-length-2 same-length-3 returns)

@@ -1,37 +1,48 @@
--- `cutting_writer::sites::cut_site`: the ring, then the end of its piece.
+-- `cutting_writer::sites::cut_site`: a piece that was copied is the definition's, any other is cut.
 use Rattle.cutting.specs.pen.Pen.{page}
-use Rattle.cutting_writer.specs.sites.Pieces.{siteInk}
-use Rattle.cutting_writer.specs.sites.laws.Sheets.{piece-ends, piece-made}
+use Rattle.cutting.specs.pen.Room.{Ready}
+use Rattle.cutting_writer.specs.sites.Pieces.{siteInk, siteCut}
+use Rattle.cutting_writer.specs.sites.laws.Sheets.{center-room, copied-made}
 use borrow.Author.Needs.{needs}
 use denote.Ref.{now}
+use mathlib.Core.List.{List}
+use Prim.Native.Nat.{ℕ}
+use mathlib.Core.Path.{sym, ap, subst, _∙_}
 use Rattle.cutting_writer.proofs.sites.cut_site.Statement.{statement}
 use Rattle.cutting_writer.proofs.sites.cut_site.Tie as tie
 
-cut-ring-requires : tie.Need-cut-ring-requires
-unfolding siteInk
-cut-ring-requires c κs = c .before .before .before .before .before .before .before .pre
-
-end-piece-requires : tie.Need-end-piece-requires
-unfolding siteInk
-end-piece-requires c κs = let a = c .before .before .before .before .before .before .before .before .before .before .before .before .before .args in piece-ends (a .b)
-    (now (a .sites)) (now (a .triangles)) (now (a .halfedges)) (a .centers) (page (a .pen) (now (a .vertices)) (now (a .indexes))) _ (a .t)
-    (c .before .before .before .before .before .cut-ring .ensures) (c .before .before .before .before .before .before .before .before .before .before .before .before .before .pre .2 .room)
-
-same-length : tie.Need-same-length
-same-length c = search needs
-
-same-length-2 : tie.Need-same-length-2
-same-length-2 c = search needs
+copy-ring-requires : tie.Need-copy-ring-requires
+copy-ring-requires c κs =
+    let a = c .before .before .before .before .before .before .before .before .args in
+    let p = c .before .before .before .before .before .before .before .before .pre in
+    (p .1, center-room (a .b) (now (a .sites)) (now (a .triangles)) (now (a .halfedges)) (a .centers) (a .t) (p .0) (p .1) (page (a .pen) (now (a .vertices)) (now (a .indexes))) (p .2))
 
 returns : tie.Need-returns
-unfolding siteInk
 returns c =
-    let a = c .before .before .before .before .before .before .before .before .before .before .before .before .before .before .before .before .args in
-    let e = c .before .before .end-piece .ensures in
-    piece-made (a .b) (now (a .sites)) (now (a .triangles)) (now (a .halfedges)) (a .centers) (page (a .pen) (now (a .vertices)) (now (a .indexes))) _ (a .t)
-    (c .before .before .before .before .before .before .before .before .cut-ring .ensures) (e .0) (e .1)
+    let a = c .before .before .before .before .before .before .before .before .before .before .before .before .before .args in
+    let p = c .before .before .before .before .before .before .before .before .before .before .before .before .before .pre in
+    copied-made (a .b) (now (a .sites)) (now (a .triangles)) (now (a .halfedges)) (a .centers) (a .t) (p .0) (p .1) (page (a .pen) (now (a .vertices)) (now (a .indexes))) (p .2)
+    (c .before .before .before .before .copy-ring .ensures .1 (c .before .if1 .taken))
+
+cut-any-requires : tie.Need-cut-any-requires
+cut-any-requires c κs =
+    let a = c .before .before .before .before .before .before .before .before .before .before .before .before .before .before .args in
+    let p = c .before .before .before .before .before .before .before .before .before .before .before .before .before .before .pre in (
+      p .0,
+      p .1,
+      subst (λ (l : List ℕ). Ready (a .centers) (page (a .pen) (now (a .vertices)) l)
+          (siteInk (a .b) (now (a .sites)) (now (a .triangles)) (now (a .halfedges)) (a .centers) (page (a .pen) (now (a .vertices)) l) (a .t))) (sym (c .before .before
+          .before .before .before .copy-ring .ensures .0 (c .before .before .if1 .left))) (p .2),
+    )
+
+returns-2 : tie.Need-returns-2
+returns-2 c =
+    let a = c .before .before .before .before .before .before .before .before .before .before .before .before .before .before .before .before .before .before .before .args in
+    c .before .before .before .before .cut-any .ensures ∙ ap (λ (l : List ℕ). siteCut (a .b) (now (a .sites)) (now (a .triangles)) (now (a .halfedges)) (a .centers)
+    (page (a .pen) (now (a .vertices)) l) (a .t))
+    (c .before .before .before .before .before .before .before .before .before .before .copy-ring .ensures .0 (c .before .before .before .before .before .before .before .if1 .left))
 
 pub cut-site-spec : {M : Type 1} → statement M
 cut-site-spec =
     tie.close
-    (tie.spec cut-ring-requires end-piece-requires same-length same-length-2 returns)
+    (tie.spec (λ c κs. tt) copy-ring-requires (λ c. search needs) (λ c. search needs) returns cut-any-requires (λ c. search needs) (λ c. search needs) returns-2)

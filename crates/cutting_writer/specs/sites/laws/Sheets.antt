@@ -1,5 +1,5 @@
 -- The loop over all sites: the definition on what is left of the table, from the present sheet, is the whole (`sheeting-start`, `sheeting-step`, `sheeting-end`).
-use mathlib.Core.Path.{_≡_, sym, ap, subst, _∙_}
+use mathlib.Core.Path.{_≡_, refl, sym, ap, subst, _∙_}
 use mathlib.Core.List.{List, [], _∷_}
 use Prim.Native.Nat.{ℕ, suc, _+_, _*_, _/_, _≤_, _<_}
 use native.Mathlib.Numerals.{add-one}
@@ -11,16 +11,22 @@ use Rattle.base.specs.common.Binary64.{zero}
 use Rattle.base.specs.numbers.Numbers.{EMPTY}
 use Rattle.cell_memory.specs.layout.Cleared.{clearedFrom}
 use Rattle.plane.specs.declared.boxes.BoundingBox.{BoundingBox}
+use Rattle.mesh.specs.Mesh.{wholeOf}
+use Rattle.cutting.specs.cuts.Stream.{feedAll}
 use Rattle.cutting.specs.declared.pen.Pen.{Pen}
 use Rattle.cutting.specs.pen.Pen.{Page, page}
-use Rattle.cutting.specs.pen.Room.{Roomy, Later, Ready}
+use Rattle.cutting.specs.pen.Room.{Roomy, Later, Ready, roomy-before}
 use Rattle.cutting_writer.specs.stream.Stages.{inkAt, cutFour}
 use Rattle.cutting_writer.specs.stream.laws.Stages.{ink-grows, all-grows}
 use Rattle.cutting_writer.specs.turn.Turned.{turnedRound}
 use Rattle.cutting_writer.specs.end.Ended.{penEnded, ended}
 use Rattle.cutting_writer.specs.site.Ring.{siteRing}
+use Rattle.cutting_writer.specs.ring.Inside.{outOn}
+use Rattle.cutting_writer.specs.ring.laws.Inside.{inside-made}
+use Rattle.cutting_writer.specs.copied.Copied.{CopiedInto}
 use Rattle.cutting_writer.specs.sites.Pieces.{Sheet, siteInk, siteCut, sheetFrom, cornered, startPen, startSheet, cutSheet, CutInto, RoomyFrom, Cuttable}
 use Rattle.cutting_writer.specs.sites.Loop.{sheet, Sheetable}
+use Rattle.cutting_writer.specs.sites.laws.Anyhow.{sheet-anyhow, alike-cleared}
 
 module _ (b : BoundingBox) (sites : List Float) (tri he : List ℕ) (centers : ℕ) where
   pub ink-later : (g : Page) (t : ℕ) → Later g (siteInk b sites tri he centers g t)
@@ -95,6 +101,17 @@ module _ (b : BoundingBox) (sites : List Float) (tri he : List ℕ) (centers : �
       let w : page r (h .vertices) ix ≡ ended (g .pen .at) h = (λ i. page (q i) (h .vertices) (k i)) in
       w ∙ ap (ended (g .pen .at)) e
 
+-- ---- a piece that was copied
+module _ (b : BoundingBox) (sites : List Float) (tri he : List ℕ) (centers t : ℕ) (thirds : length he ≤ 3 * centers) (small : length he < EMPTY) (g : Page)
+    (r : Ready centers g (siteInk b sites tri he centers g t))
+  where
+    pub center-room : 2 * (length he / 3) ≤ length (g .vertices)
+    center-room = omega (arith, r .corners, roomy-before (ink-later b sites tri he centers g t) (r .room) .vertices)
+
+    pub copied-made : {h : Page} → CopiedInto b he t g h → h ≡ siteCut b sites tri he centers g t
+    unfolding siteCut siteInk
+    copied-made x = x .made ∙ ap (ended (g .pen .at)) (inside-made b tri he centers t thirds small sites g r (x .inside) (feedAll outOn g (wholeOf he t)) refl)
+
 -- ---- all of them
 module _ {b : BoundingBox} {sites : List Float} {tri he table : List ℕ} {v : List Float} {ix off : List ℕ} (k : Cuttable b sites tri he table v ix off) where
   pub cuttable-few : length tri / 3 < EMPTY
@@ -106,27 +123,29 @@ module _ {b : BoundingBox} {sites : List Float} {tri he table : List ℕ} {v : L
       go (t ∷ l) r = omega (arith, r .0 .small, ink-later b sites tri he (length tri / 3) (startSheet b (length tri / 3) v ix off .page) t .count)
 
   module _ {v₁ : List Float} (q : v₁ ≡ cornered b (length tri / 3) v) where
-    pub cuttable-sheet : Sheetable b sites tri he table (length tri / 3) (startPen (length tri / 3)) v₁ ix off
-    cuttable-sheet = record {
+    -- whatever the offsets hold
+    pub cuttable-sheet : (off₀ : List ℕ) → length off₀ ≡ length off → Sheetable b sites tri he table (length tri / 3) (startPen (length tri / 3)) v₁ ix off₀
+    cuttable-sheet off₀ long = record {
       thirds = k .thirds;
       small = k .small;
       corners = omega arith;
       few = k .few;
-      one-more = k .one-more;
+      one-more = omega (arith, long, k .one-more);
       room = subst (λ (u : List Float). RoomyFrom b sites tri he (length tri / 3) (page (startPen (length tri / 3)) u ix) table) (sym q) (k .room);
     }
 
-    pub sheet-cleared : {pen : Pen} {v₂ v₃ : List Float} {ix₁ ix₂ off₁ off₂ : List ℕ}
-        → sheet pen v₂ ix₁ off₁ ≡ sheetFrom b sites tri he (length tri / 3) 0 table (sheet (startPen (length tri / 3)) v₁ ix off)
+    pub sheet-cleared : {pen : Pen} {v₂ v₃ : List Float} {ix₁ ix₂ off₁ off₂ : List ℕ} (off₀ : List ℕ) → length off₀ ≡ length off
+        → sheet pen v₂ ix₁ off₁ ≡ sheetFrom b sites tri he (length tri / 3) 0 table (sheet (startPen (length tri / 3)) v₁ ix off₀)
         → Roomy (page pen v₂ ix₁) → v₃ ≡ clearedFrom (2 * pen .count) zero v₂ → ix₂ ≡ clearedFrom (pen .at) EMPTY ix₁ → off₂ ≡ clearedFrom (length table + 1) EMPTY off₁
         → CutInto (length table) (cutSheet b sites tri he table v ix off) (pen .count) v₃ ix₂ off₂
     unfolding cutSheet
-    sheet-cleared made room c₁ c₂ c₃ =
-        let m = made ∙ ap (λ (u : List Float). sheetFrom b sites tri he (length tri / 3) 0 table (sheet (startPen (length tri / 3)) u ix off)) q in
+    sheet-cleared off₀ long made room c₁ c₂ c₃ =
+        let m = made ∙ ap (λ (u : List Float). sheetFrom b sites tri he (length tri / 3) 0 table (sheet (startPen (length tri / 3)) u ix off₀)) q in
+        let a = sheet-anyhow b sites tri he (length tri / 3) table (page (startPen (length tri / 3)) (cornered b (length tri / 3) v) ix) off₀ off long (omega (arith, long, k .one-more)) in
         record {
-          count = ap (λ (s : Sheet). s .page .pen .count) m;
+          count = ap (λ (s : Sheet). s .page .pen .count) m ∙ ap (λ (g : Page). g .pen .count) (a .page);
           small = room .small;
-          vertices = c₁ ∙ ap (λ (s : Sheet). clearedFrom (2 * s .page .pen .count) zero (s .page .vertices)) m;
-          indexes = c₂ ∙ ap (λ (s : Sheet). clearedFrom (s .page .pen .at) EMPTY (s .page .indexes)) m;
-          offsets = c₃ ∙ ap (λ (s : Sheet). clearedFrom (length table + 1) EMPTY (s .offsets)) m;
+          vertices = c₁ ∙ ap (λ (s : Sheet). clearedFrom (2 * s .page .pen .count) zero (s .page .vertices)) m ∙ ap (λ (g : Page). clearedFrom (2 * g .pen .count) zero (g .vertices)) (a .page);
+          indexes = c₂ ∙ ap (λ (s : Sheet). clearedFrom (s .page .pen .at) EMPTY (s .page .indexes)) m ∙ ap (λ (g : Page). clearedFrom (g .pen .at) EMPTY (g .indexes)) (a .page);
+          offsets = c₃ ∙ ap (λ (s : Sheet). clearedFrom (length table + 1) EMPTY (s .offsets)) m ∙ alike-cleared (length table + 1) EMPTY _ _ (a .long) (a .entries);
         }

@@ -68,7 +68,7 @@ module _ {A : Type 0} (from to : ℕ) (l : List A) (d : A) (low : from ≤ to) (
       ∙ getD-drop from l (length middle - 1 - (k - from)) d
       ∙ ap (λ (n : ℕ). getD l n d) z
 
-  after-part : (k : ℕ) → to ≤ k → getD (turnedRound from to l) k d ≡ getD l k d
+  pub after-part : (k : ℕ) → to ≤ k → getD (turnedRound from to l) k d ≡ getD l k d
   unfolding middle
   after-part k h =
       let q : k ≡ length (take from l) + (length (backward middle) + (k - to)) = omega (arith, long-first, length-backward middle, long-middle) in

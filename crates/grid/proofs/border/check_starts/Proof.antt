@@ -26,13 +26,12 @@ counted-requires c κs = c .before .before .loop .inv .1
 
 returns : tie.Need-returns Inv-loop μ-loop
 returns c =
-    let at-count = c .before in
-    let at-start = at-count .before in
+    let at-start = c .before .before in
     let inv = at-start .before .before .loop .inv in
     record {
       within = omega arith;
       before = inv .3;
-      at = λ _. second (inv .2) (at-start .start-at .result) (at-start .start-at .ensures) (inv .1) (rw (at-count .counted .ensures) at (c .if1 .taken));
+      at = λ _. second (inv .2) (at-start .start-at .result) (at-start .start-at .ensures) (inv .1) (rw (c .before .counted .ensures) at (c .if1 .taken));
     }
 
 loop-again : tie.Need-loop-again Inv-loop μ-loop

@@ -8,9 +8,8 @@ returns : tie.Need-returns
 returns c =
     let after = c .before in
     let before = after .before in
-    let places = before .before in
     says-between (before .up-between .result) (after .up-between2 .result) _ _ _
-    (rw (before .up-between .ensures, places .before .prior-place .ensures .0)) (rw (after .up-between2 .ensures, places .next-place .ensures .0)) (c .if1 .taken)
+    (rw (before .up-between .ensures, before .before .before .prior-place .ensures .0)) (rw (after .up-between2 .ensures, before .before .next-place .ensures .0)) (c .if1 .taken)
 
 returns-2 : tie.Need-returns-2
 returns-2 c =

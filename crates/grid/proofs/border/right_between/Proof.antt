@@ -6,19 +6,18 @@ use Rattle.grid.proofs.border.right_between.Tie as tie
 
 turns-left-requires : tie.Need-turns-left-requires
 turns-left-requires c κs =
-    let at-b = c .before .before in
-    let at-a = at-b .before .before in
+    let at-a = c .before .before .before .before in
     let start = at-a .before .before .before in
     let n = start .pre .0 in (
       site-at n _ _ (start .pre .3) (c .wide3 .ensures),
-      site-at n _ _ (start .pre .2) (at-b .wide2 .ensures),
+      site-at n _ _ (start .pre .2) (c .before .before .wide2 .ensures),
       site-at n _ _ (start .pre .1) (at-a .wide .ensures),
     )
 
 returns : tie.Need-returns
 returns c =
-    let at-c = c .before in
-    rw (c .turns-left .ensures, at-c .wide3 .ensures, at-c .before .before .wide2 .ensures, at-c .before .before .before .before .wide .ensures)
+    let at-wide2 = c .before .before .before in
+    rw (c .turns-left .ensures, c .before .wide3 .ensures, at-wide2 .wide2 .ensures, at-wide2 .before .before .wide .ensures)
 
 pub right-between-spec : {M : Type 1} → statement M
 right-between-spec =

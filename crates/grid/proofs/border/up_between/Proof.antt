@@ -6,10 +6,9 @@ use Rattle.grid.proofs.border.up_between.Tie as tie
 
 goes-up-requires : tie.Need-goes-up-requires
 goes-up-requires c κs =
-    let at-a = c .before .before in
-    let start = at-a .before .before .before in
+    let start = c .before .before .before .before .before in
     let n = start .pre .0 in
-    (site-at n _ _ (start .pre .1) (at-a .wide .ensures), site-at n _ _ (start .pre .2) (c .wide2 .ensures))
+    (site-at n _ _ (start .pre .1) (c .before .before .wide .ensures), site-at n _ _ (start .pre .2) (c .wide2 .ensures))
 
 returns : tie.Need-returns
 returns c = rw (c .goes-up .ensures, c .before .wide2 .ensures, c .before .before .before .wide .ensures)

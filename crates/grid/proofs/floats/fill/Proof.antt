@@ -23,8 +23,8 @@ loop-holds c = (omega arith, search needs, λ k l. absurd (omega arith))
 
 loop-again : tie.Need-loop-again Inv-loop μ-loop
 loop-again c =
-    let inv = c .before .before .loop .inv in
     let start = c .before .before .before .before in
+    let inv = c .before .before .loop .inv in
     let grid = start .args .grid .now in
     let w = length (start .args .sites .now) in
     let i = c .before .before .loop .i in (
@@ -35,8 +35,8 @@ loop-again c =
 
 returns : tie.Need-returns Inv-loop μ-loop
 returns c =
-    let inv = c .before .loop .inv in
     let start = c .before .before .before in
+    let inv = c .before .loop .inv in
     ext-getD zero _ _ (inv .1 ∙ sym (made-length (start .args .grid .now) (length (start .args .sites .now)) (start .pre))) (λ k l. inv .2 k (omega arith))
 
 pub fill-spec : {M : Type 1} → statement M

@@ -18,24 +18,21 @@ returns-2 c = record {
 
 returns-3 : tie.Need-returns-3
 returns-3 c =
-    let at-room = c .before .before in
-    let at-counted = at-room .before .before in
+    let at-if1 = c .before .before .before in
     record {
-      number = keeps (granted (at-counted .sites-counted .result) (at-room .before .if1 .left) (at-counted .sites-counted .ensures))
-          (keeps (at-room .if2 .left) (offends (c .before .first-beyond .ensures) (c .if3 .taken)));
+      number = keeps (granted (at-if1 .before .sites-counted .result) (at-if1 .if1 .left) (at-if1 .before .sites-counted .ensures))
+          (keeps (c .before .before .if2 .left) (offends (c .before .first-beyond .ensures) (c .if3 .taken)));
       sites = refl;
     }
 
 returns-4 : tie.Need-returns-4
 returns-4 c =
-    let at-fill = c .before .before in
-    let at-beyond = at-fill .before .before .before in
-    let at-room = at-beyond .before in
-    let at-counted = at-room .before .before in
+    let at-if3 = c .before .before .before .before in
+    let at-if1 = at-if3 .before .before .before in
     record {
-      number = keeps (granted (at-counted .sites-counted .result) (at-room .before .if1 .left) (at-counted .sites-counted .ensures))
-          (keeps (at-room .if2 .left) (all-keep (first-all (at-beyond .first-beyond .ensures) (at-fill .before .before .if3 .left)) nothing));
-      sites = at-fill .fill .ensures;
+      number = keeps (granted (at-if1 .before .sites-counted .result) (at-if1 .if1 .left) (at-if1 .before .sites-counted .ensures))
+          (keeps (at-if3 .before .before .if2 .left) (all-keep (first-all (at-if3 .before .first-beyond .ensures) (at-if3 .if3 .left)) nothing));
+      sites = c .before .before .fill .ensures;
     }
 
 pub grid-sites-spec : {M : Type 1} → statement M

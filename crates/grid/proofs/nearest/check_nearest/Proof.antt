@@ -6,25 +6,19 @@ use Rattle.grid.proofs.nearest.check_nearest.Tie as tie
 
 returns : tie.Need-returns
 returns c =
-    let at-kind = c .before in
-    let at-answer = at-kind .before in
-    let at-check = at-answer .before .before .before in
-    by-grid _ _ _ (at-check .check-grid .result) (at-check .check-grid .ensures) _ (at-answer .of-grid .ensures) _ (at-kind .kind-of .ensures) (c .if1 .taken)
+    let at-check = c .before .before .before .before .before in
+    by-grid _ _ _ (at-check .check-grid .result) (at-check .check-grid .ensures) _ (c .before .before .of-grid .ensures) _ (c .before .kind-of .ensures) (c .if1 .taken)
 
 judge-requires : tie.Need-judge-requires
 judge-requires c κs =
-    let at-kind = c .before in
-    let at-answer = at-kind .before in
-    let at-check = at-answer .before .before .before in
-    ready _ _ _ (at-check .check-grid .result) (at-check .check-grid .ensures) _ (at-answer .of-grid .ensures) _ (at-kind .kind-of .ensures) (c .if1 .left)
+    let at-check = c .before .before .before .before .before in
+    ready _ _ _ (at-check .check-grid .result) (at-check .check-grid .ensures) _ (c .before .before .of-grid .ensures) _ (c .before .kind-of .ensures) (c .if1 .left)
 
 returns-2 : tie.Need-returns-2
 returns-2 c =
-    let at-else = c .before .before in
-    let at-kind = at-else .before in
-    let at-answer = at-kind .before in
-    let at-check = at-answer .before .before .before in
-    by-hull _ _ _ (at-check .check-grid .result) (at-check .check-grid .ensures) _ (at-answer .of-grid .ensures) _ (at-kind .kind-of .ensures) (at-else .if1 .left)
+    let at-kind = c .before .before .before in
+    let at-check = at-kind .before .before .before .before in
+    by-hull _ _ _ (at-check .check-grid .result) (at-check .check-grid .ensures) _ (at-kind .before .of-grid .ensures) _ (at-kind .kind-of .ensures) (c .before .before .if1 .left)
     (c .before .judge .result) (c .before .judge .ensures) _ (c .of-hull .ensures)
 
 pub check-nearest-spec : {M : Type 1} → statement M

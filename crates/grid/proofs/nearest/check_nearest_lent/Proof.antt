@@ -9,16 +9,14 @@ use Rattle.grid.proofs.nearest.check_nearest_lent.Tie as tie
 unused-after-requires : tie.Need-unused-after-requires
 unused-after-requires c κs =
     let at-number = c .before .before .before in
-    let at-check = at-number .before .before .before in
-    λ z. room _ _ _ _ (at-check .check-nearest .ensures) (sym (at-number .number-of .ensures) ∙ z)
+    λ z. room _ _ _ _ (at-number .before .before .before .check-nearest .ensures) (sym (at-number .number-of .ensures) ∙ z)
 
 returns : tie.Need-returns
 returns c =
     let at-place = c .before .before in
-    let at-number = at-place .before .before in
-    let at-check = at-number .before .before .before in
+    let at-check = at-place .before .before .before .before .before in
     let settled = at-check .check-nearest .ensures in
-    let number = at-number .number-of .ensures in
+    let number = at-place .before .before .number-of .ensures in
     record {
       answer = at-check .check-nearest .result;
       found = settled .found;

@@ -8,11 +8,11 @@ use Rattle.grid.proofs.scan.turn_at.Tie as tie
 
 turns-left-requires : tie.Need-turns-left-requires
 turns-left-requires c κs =
+    let at-wide = c .before .before .before .before in
     let third = c .wide3 in
     let second = c .before .before .wide2 in
-    let first = c .before .before .before .before .wide in
-    let start = c .before .before .before .before .before .before .before in
-    let n = start .pre .0 in (
+    let first = at-wide .wide in
+    let n = at-wide .before .before .before .pre .0 in (
       site-at n _ _ (omega arith) (first .ensures),
       site-at n _ _ (omega arith) (second .ensures),
       site-at n _ _ (omega arith) (third .ensures),

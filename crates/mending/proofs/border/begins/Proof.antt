@@ -15,15 +15,13 @@ returns-2 : tie.Need-returns-2
 returns-2 c =
     let at-if1 = c .before .before .before in
     let at-wide = at-if1 .before in
-    let at-start = at-wide .before .before in
-    c .lowest2 .ensures ∙ sym (begins-lowest _ _ (none-here (at-start .args .work .now) (at-start .args .first) (at-wide .wide .result) (at-wide
+    c .lowest2 .ensures ∙ sym (begins-lowest _ _ (none-here (at-wide .before .before .args .work .now) (at-wide .before .before .args .first) (at-wide .wide .result) (at-wide
     .wide .ensures) (at-if1 .if1 .left) (c .before .if2 .taken)))
 
 returns-3 : tie.Need-returns-3
 returns-3 c =
     let at-wide = c .before .before .before in
-    let at-start = at-wide .before .before in
-    sym (begins-first _ _ (some-here (at-start .args .work .now) (at-start .args .first) (at-wide .wide .result) (at-wide .wide .ensures) (c .before
+    sym (begins-first _ _ (some-here (at-wide .before .before .args .work .now) (at-wide .before .before .args .first) (at-wide .wide .result) (at-wide .wide .ensures) (c .before
     .before .if1 .left) (c .if2 .left)))
 
 pub begins-spec : {M : Type 1} → statement M

@@ -6,21 +6,22 @@ use borrow.Author.Needs.{needs}
 use Rattle.mending.proofs.border.lead.Statement.{statement}
 use Rattle.mending.proofs.border.lead.Tie as tie
 
+abbrev Start : tie.After-wide → tie.Start
+Start c = c .before .before .before .before .before .before .before
+
 returns : tie.Need-returns
 returns c = sym (lead-paired _ _ _ _ (c .if1 .taken))
 
 end-site-requires : tie.Need-end-site-requires
-end-site-requires c κs = (c .before .before .before .before .before .before .before .pre .0 .threes, c .before .before .before .before .before .before .before .pre .2)
+end-site-requires c κs = (Start c .pre .0 .threes, Start c .pre .2)
 
 mul-work : tie.Need-mul-work
 mul-work c =
-    let at-start = c .before .before .before .before .before .before .before .before in
-    record { fits = omega (arith, at-start .pre .0 .named _ (at-start .pre .2), c .before .wide .ensures) }
+    record { fits = omega (arith, Start (c .before) .pre .0 .named _ (Start (c .before) .pre .2), c .before .wide .ensures) }
 
 slice-write-work : tie.Need-slice-write-work
 slice-write-work c =
-    let at-start = c .before .before .before .before .before .before .before .before in
-    omega (arith, at-start .pre .0 .named _ (at-start .pre .2), c .before .wide .ensures)
+    omega (arith, Start (c .before) .pre .0 .named _ (Start (c .before) .pre .2), c .before .wide .ensures)
 
 returns-2 : tie.Need-returns-2
 returns-2 c = lead-set _ _ _ _ _ _ (c .before .before .before .if1 .left) (c .before .wide .ensures) (c .end-site .ensures)

@@ -31,7 +31,7 @@ loop-again c =
     (omega arith, c .before .before .lead .kept .1 .1 .0 ∙ at-loop .loop .inv .1, lead-next _ _ _ _ _ _ (at-loop .loop .inv .2) (c .before .before .lead .ensures))
 
 same-length : tie.Need-same-length Inv-loop μ-loop
-same-length c = c .before .loop .inv .1 ∙ c .before .before .before .before .clear .kept .0
+same-length c = c .before .loop .inv .1 ∙ (c .before .before .before .before) .clear .kept .0
 
 returns : tie.Need-returns Inv-loop μ-loop
 returns c = lead-done _ _ _ _ _ _ (c .before .loop .inv .2) (c .before .loop .inv .0) (c .loop-test .left) (c .before .before .before .before .clear .kept .0)

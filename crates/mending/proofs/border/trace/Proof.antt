@@ -36,8 +36,7 @@ loop-again : tie.Need-loop-again Inv-loop μ-loop
 loop-again c =
     let at-loop-test = c .before .before .before in
     let at-loop = at-loop-test .before in
-    let at-start = at-loop .before .before .before in
-    tracing-step _ _ _ _ _ _ (at-loop .loop .inv) (at-start .pre .0) (at-loop-test .loop-test .taken) (c .before .before .if1 .left) _ _ (c .before
+    tracing-step _ _ _ _ _ _ (at-loop .loop .inv) (at-loop .before .before .before .pre .0) (at-loop-test .loop-test .taken) (c .before .before .if1 .left) _ _ (c .before
     .wide .ensures) (c .step .ensures) _ (length-set (at-loop .loop .mended) (at-loop .loop .k) (at-loop .loop .s)) refl
 
 same-length-2 : tie.Need-same-length-2 Inv-loop μ-loop

@@ -25,8 +25,7 @@ put-change-requires c κs =
 loop-again : tie.Need-loop-again Inv-loop μ-loop
 loop-again c =
     let at-loop = c .before .before .before .before .before in
-    let at-longest = at-loop .before in
-    listing-step _ _ _ _ _ _ _ (at-loop .loop .inv) _ _ (omega (arith, at-longest .longest .ensures)) (c .before .before .put-change .kept .1 .1 .1
+    listing-step _ _ _ _ _ _ _ (at-loop .loop .inv) _ _ (omega (arith, at-loop .before .longest .ensures)) (c .before .before .put-change .kept .1 .1 .1
     .0) (c .before .before .put-change .ensures .0) (c .before .before .put-change .ensures .1)
 
 same-length : tie.Need-same-length Inv-loop μ-loop

@@ -15,6 +15,12 @@ Inv-loop triangles heads₀ links₀ e₀ heads links e = Chaining triangles hea
 abbrev μ-loop : tie.MeasureT-loop
 μ-loop triangles heads₀ links₀ e₀ heads links e = length triangles - e
 
+abbrev Loop : tie.After-slice-known4 Inv-loop μ-loop → tie.At-loop Inv-loop μ-loop
+Loop c = c .before .before .before .before
+
+abbrev Start : tie.After-slice-known4 Inv-loop μ-loop → tie.Start Inv-loop μ-loop
+Start c = Loop c .before .before .before .before .before .before .before .before
+
 loop-holds : tie.Need-loop-holds Inv-loop μ-loop
 loop-holds c = chaining-start _ _ _ _ refl (c .before .before .clear .ensures ∙ ap (λ n. replicate n EMPTY) (sym (c .before .before .clear .kept .0)))
 
@@ -33,68 +39,48 @@ mul-links c =
 
 slice-read-links : tie.Need-slice-read-links Inv-loop μ-loop
 slice-read-links c =
-    let at-loop-test = c .before .before .before in
-    let at-loop = at-loop-test .before in
-    let at-clear = at-loop .before .before .before in
-    let at-start = at-clear .before .before .before .before .before in
     omega (
       arith,
-      chaining-in _ _ _ _ _ _ _ (at-loop .loop .inv) (at-loop-test .loop-test .taken) (at-start .pre .1) (c .before .wide .ensures) (rw
-          (at-clear .clear .kept .0) (at-start .pre .0)),
+      chaining-in _ _ _ _ _ _ _ (Loop c .loop .inv) (c .before .before .before .loop-test .taken) (Start c .pre .1) (c .before .wide .ensures) (rw
+          (Loop c .before .before .before .clear .kept .0) (Start c .pre .0)),
     )
 
 mul-links-2 : tie.Need-mul-links-2 Inv-loop μ-loop
 mul-links-2 c =
-    let at-loop = c .before .before .before .before in
-    let at-start = at-loop .before .before .before .before .before .before .before .before in
-    record { fits = omega (arith, at-start .pre .1, at-loop .loop .inv .long) }
+    record { fits = omega (arith, Start c .pre .1, Loop c .loop .inv .long) }
 
 slice-write-links : tie.Need-slice-write-links Inv-loop μ-loop
 slice-write-links c =
-    let at-loop = c .before .before .before .before in
-    let at-start = at-loop .before .before .before .before .before .before .before .before in
-    omega (arith, at-start .pre .1, at-loop .loop .inv .long)
+    omega (arith, Start c .pre .1, Loop c .loop .inv .long)
 
 cast-heads : tie.Need-cast-heads Inv-loop μ-loop
-cast-heads c = omega (arith, c .before .before .before .before .before .before .before .before .before .before .before .before .pre .0 .small)
+cast-heads c = omega (arith, Start c .pre .0 .small)
 
 mul-heads : tie.Need-mul-heads Inv-loop μ-loop
 mul-heads c =
-    let at-loop-test = c .before .before .before in
-    let at-loop = at-loop-test .before in
-    let at-clear = at-loop .before .before .before in
-    let at-start = at-clear .before .before .before .before .before in
     record {
       fits = omega (
         arith,
-        chaining-in _ _ _ _ _ _ _ (at-loop .loop .inv) (at-loop-test .loop-test .taken) (at-start .pre .1) (c .before .wide
-            .ensures) (rw (at-clear .clear .kept .0) (at-start .pre .0)),
+        chaining-in _ _ _ _ _ _ _ (Loop c .loop .inv) (c .before .before .before .loop-test .taken) (Start c .pre .1) (c .before .wide
+            .ensures) (rw (Loop c .before .before .before .clear .kept .0) (Start c .pre .0)),
       );
     }
 
 slice-write-heads : tie.Need-slice-write-heads Inv-loop μ-loop
 slice-write-heads c =
-    let at-loop-test = c .before .before .before in
-    let at-loop = at-loop-test .before in
-    let at-clear = at-loop .before .before .before in
-    let at-start = at-clear .before .before .before .before .before in
     omega (
       arith,
-      chaining-in _ _ _ _ _ _ _ (at-loop .loop .inv) (at-loop-test .loop-test .taken) (at-start .pre .1) (c .before .wide .ensures) (rw
-          (at-clear .clear .kept .0) (at-start .pre .0)),
+      chaining-in _ _ _ _ _ _ _ (Loop c .loop .inv) (c .before .before .before .loop-test .taken) (Start c .pre .1) (c .before .wide .ensures) (rw
+          (Loop c .before .before .before .clear .kept .0) (Start c .pre .0)),
     )
 
 loop-again : tie.Need-loop-again Inv-loop μ-loop
 loop-again c =
-    let at-loop-test = c .before .before .before in
-    let at-loop = at-loop-test .before in
-    let at-clear = at-loop .before .before .before in
-    let at-start = at-clear .before .before .before .before .before in
-    chaining-step _ _ _ _ _ _ _ (at-loop .loop .inv) (at-loop-test .loop-test .taken) (at-start .pre .1) (c .before .wide .ensures) (rw (at-clear
-    .clear .kept .0) (at-start .pre .0))
+    chaining-step _ _ _ _ _ _ _ (Loop c .loop .inv) (c .before .before .before .loop-test .taken) (Start c .pre .1) (c .before .wide .ensures) (rw (Loop c .before .before .before
+    .clear .kept .0) (Start c .pre .0))
 
 same-length : tie.Need-same-length Inv-loop μ-loop
-same-length c = c .before .loop .inv .wide ∙ c .before .before .before .before .clear .kept .0
+same-length c = c .before .loop .inv .wide ∙ (c .before .before .before .before) .clear .kept .0
 
 same-length-2 : tie.Need-same-length-2 Inv-loop μ-loop
 same-length-2 c = c .before .loop .inv .long

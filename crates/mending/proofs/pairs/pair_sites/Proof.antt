@@ -16,16 +16,21 @@ Inv-loop triangles heads links marks₀ pairs₀ sites a₀ marks pairs a = Pair
 abbrev μ-loop : tie.MeasureT-loop
 μ-loop triangles heads links marks₀ pairs₀ sites a₀ marks pairs a = sites - a
 
+abbrev Loop : tie.Then1 Inv-loop μ-loop → tie.At-loop Inv-loop μ-loop
+Loop c = c .before .before .before .before .before .before
+
+abbrev Start : tie.After-slice-known3 Inv-loop μ-loop → tie.Start Inv-loop μ-loop
+Start c = c .before .before .before .before .before .before .before .before .before
+
 loop-holds : tie.Need-loop-holds Inv-loop μ-loop
 loop-holds c =
-    let at-start = c .before .before .before .before .before .before .before .before .before in
-    (pairing-start _ _ _ _ (length (at-start .args .marks .now)) (at-start .pre .0 .small) refl (c .before .before .clear .ensures), omega arith)
+    (pairing-start _ _ _ _ (length (Start c .args .marks .now)) (Start c .pre .0 .small) refl (c .before .before .clear .ensures), omega arith)
 
 mark-site-requires : tie.Need-mark-site-requires Inv-loop μ-loop
 mark-site-requires c κs =
-    let at-clear = c .before .before .before .before .before in
-    let at-start = at-clear .before .before .before .before .before .before .before in (
-      named-more _ _ _ (at-start .pre .0) (omega (arith, at-start .pre .4, c .before .before .loop .inv .0 .wide, at-clear .clear .kept .0)),
+    let at-slice-known3 = c .before .before .before in
+    let at-start = Start at-slice-known3 in (
+      named-more _ _ _ (at-start .pre .0) (omega (arith, at-start .pre .4, c .before .before .loop .inv .0 .wide, at-slice-known3 .before .before .clear .kept .0)),
       at-start
           .pre .2,
       at-start .pre .3,
@@ -35,28 +40,24 @@ mark-site-requires c κs =
 
 same-length : tie.Need-same-length Inv-loop μ-loop
 same-length c =
-    let at-mark-site = c .before .before .before in
-    let at-loop = at-mark-site .before .before .before in
-    let at-clear = at-loop .before .before .before in
-    omega (arith, at-mark-site .mark-site .kept .1 .1 .1 .0, at-loop .loop .inv .0 .wide, at-clear .clear .kept .0)
+    omega (arith, c .before .before .before .mark-site .kept .1 .1 .1 .0, Loop c .loop .inv .0 .wide, Loop c .before .before .before .clear .kept .0)
 
 same-length-2 : tie.Need-same-length-2 Inv-loop μ-loop
-same-length-2 c = c .before .before .before .before .before .before .loop .inv .0 .long
+same-length-2 c = Loop c .loop .inv .0 .long
 
 returns : tie.Need-returns Inv-loop μ-loop
-returns c = pairing-twice _ _ _ _ _ _ (c .before .before .before .before .before .before .loop .inv .0) _ _ (not-true _ (c .if1 .taken)) (c .before .before .before .mark-site .ensures)
+returns c = pairing-twice _ _ _ _ _ _ (Loop c .loop .inv .0) _ _ (not-true _ (c .if1 .taken)) (c .before .before .before .mark-site .ensures)
 
 pair-site-requires : tie.Need-pair-site-requires Inv-loop μ-loop
 pair-site-requires c κs =
     let at-mark-site = c .before .before .before .before .before in
     let at-loop = at-mark-site .before .before .before in
-    let at-clear = at-loop .before .before .before in
-    let at-start = at-clear .before .before .before .before .before .before .before in (
+    let at-start = Start (at-loop .before) in (
       named-more _ _ _ (at-start .pre .0) (omega (
         arith,
         at-start .pre .4,
         at-loop .loop .inv .0 .wide,
-        at-clear .clear .kept .0,
+        at-loop .before .before .before .clear .kept .0,
         at-mark-site
             .mark-site .kept .1 .1 .1 .0,
       )),
@@ -70,9 +71,8 @@ pair-site-requires c κs =
 loop-again : tie.Need-loop-again Inv-loop μ-loop
 loop-again c =
     let at-if1 = c .before .before .before .before .before in
-    let at-mark-site = at-if1 .before .before .before in
-    let at-loop = at-mark-site .before .before .before in (
-      pairing-step _ _ _ _ _ _ (at-loop .loop .inv .0) _ _ _ (at-mark-site .mark-site .kept .1 .1 .1 .0) (c .before .before .pair-site .kept .1 .1 .1
+    let at-mark-site = at-if1 .before .before .before in (
+      pairing-step _ _ _ _ _ _ (at-mark-site .before .before .before .loop .inv .0) _ _ _ (at-mark-site .mark-site .kept .1 .1 .1 .0) (c .before .before .pair-site .kept .1 .1 .1
           .1 .0) (not-false _ (at-if1 .if1 .left)) (at-mark-site .mark-site .ensures) (c .before .before .pair-site .ensures),
       omega arith,
     )
@@ -85,8 +85,7 @@ same-length-4 c = c .before .loop .inv .0 .long
 
 returns-2 : tie.Need-returns-2 Inv-loop μ-loop
 returns-2 c =
-    let at-start = c .before .before .before .before .before .before .before .before .before .before .before in
-    pairing-done _ _ _ _ _ _ (c .before .loop .inv .0) _ (at-start .pre .0) (c .loop-test .left) (at-start .pre .5)
+    pairing-done _ _ _ _ _ _ (c .before .loop .inv .0) _ (Start (c .before .before) .pre .0) (c .loop-test .left) (Start (c .before .before) .pre .5)
 
 pub pair-sites-spec : {M : Type 1} → statement M
 pair-sites-spec =

@@ -7,8 +7,7 @@ returns : tie.Need-returns
 returns c =
     let at-clear3 = c .before .before .before .before .before .before in
     let at-clear2 = at-clear3 .before .before .before .before in
-    let at-clear = at-clear2 .before .before .before .before in
-    record { work = at-clear .clear .ensures; pairs = at-clear2 .clear2 .ensures; mended = at-clear3 .clear3 .ensures; changes = c .before .before .clear4 .ensures }
+    record { work = at-clear2 .before .before .before .before .clear .ensures; pairs = at-clear2 .clear2 .ensures; mended = at-clear3 .clear3 .ensures; changes = c .before .before .clear4 .ensures }
 
 pub clear-all-spec : {M : Type 1} → statement M
 clear-all-spec =

@@ -7,26 +7,27 @@ use borrow.Author.Needs.{needs}
 use Rattle.mending.proofs.slices.list_both.Statement.{statement}
 use Rattle.mending.proofs.slices.list_both.Tie as tie
 
+abbrev Start : tie.After-list-changes-arg → tie.Start
+Start c = c .before .before .before .before .before .before .before .before .before .before
+
 list-changes-requires : tie.Need-list-changes-requires
 list-changes-requires c κs =
-    let at-clear = c .before .before .before in
-    let at-start = at-clear .before .before .before .before .before .before .before in
-    (at-start .pre .0, omega (arith, at-start .pre .2, at-clear .clear .kept .0))
+    (Start c .pre .0, omega (arith, Start c .pre .2, c .before .before .before .clear .kept .0))
 
 list-changes-requires-2 : tie.Need-list-changes-requires-2
 list-changes-requires-2 c κs =
     let at-list-changes = c .before .before .before in
-    let at-clear = at-list-changes .before .before .before .before in
-    let at-start = at-clear .before .before .before .before .before .before .before in
-    let f = changes-few (at-start .args .old .now) (at-start .args .new .now) (longer (at-start .args .old .now) (at-start .args .new .now)) in
-    (at-start .pre .1, omega (arith, at-start .pre .2, at-clear .clear .kept .0, at-list-changes .list-changes .kept .1 .1 .0, at-list-changes .list-changes .ensures .0))
+    let at-start = Start (at-list-changes .before) in
+    let f = changes-few (at-start .args .old .now) (at-start .args .new .now) (longer (at-start .args .old .now) (at-start .args .new .now)) in (
+      at-start .pre .1,
+      omega (arith, at-start .pre .2, at-list-changes .before .before .before .before .clear .kept .0, at-list-changes .list-changes .kept .1 .1 .0, at-list-changes .list-changes .ensures .0),
+    )
 
 returns : tie.Need-returns
 returns c =
     let at-list-changes = c .before .before .before .before .before .before in
     let at-clear = at-list-changes .before .before .before .before in
-    let at-start = at-clear .before .before .before .before .before .before .before in
-    listed _ _ _ _ _ _ _ _ _ _ (at-clear .clear .ensures) (at-clear .clear .kept .0) (at-start .pre .2) (at-list-changes .list-changes .ensures) (c
+    listed _ _ _ _ _ _ _ _ _ _ (at-clear .clear .ensures) (at-clear .clear .kept .0) (Start (at-list-changes .before) .pre .2) (at-list-changes .list-changes .ensures) (c
     .before .before .list-changes2 .ensures)
 
 pub list-both-spec : {M : Type 1} → statement M

@@ -1,7 +1,8 @@
--- All half-edges below e are right; the first that is not is the answer.
+-- Where the half holds of all there is none; else all half-edges below e are right, and the first that is not is the answer.
 use Rattle.base.specs.common.laws.Decide.{refused, granted}
 use Rattle.mesh.specs.Mesh.{PairedAt}
 use borrow.Author.Count.{below-none, below-more}
+use Rattle.mesh_check.specs.pairing.laws.Halves.{paired-first}
 use lib.ListN.{length}
 use Prim.Native.Nat.{ℕ, _≤_, _<_, _-_}
 use native.Mathlib.Omega.{arith}
@@ -15,17 +16,20 @@ Inv-loop triangles halfedges e₀ e = (e ≤ length triangles) × ((k : ℕ) →
 abbrev μ-loop : tie.MeasureT-loop
 μ-loop triangles halfedges e₀ e = length triangles - e
 
+returns : tie.Need-returns Inv-loop μ-loop
+returns c = paired-first _ _ (c .before .all-half-paired .ensures (c .if1 .taken))
+
 loop-holds : tie.Need-loop-holds Inv-loop μ-loop
 loop-holds c = (search needs, below-none _)
 
-returns : tie.Need-returns Inv-loop μ-loop
-returns c = record { within = omega arith; before = c .before .before .before .loop .inv .1; at = λ _. refused (c .before .paired .result) (c .if1 .taken) (c .before .paired .ensures) }
+returns-2 : tie.Need-returns-2 Inv-loop μ-loop
+returns-2 c = record { within = omega arith; before = c .before .before .before .loop .inv .1; at = λ _. refused (c .before .paired .result) (c .if2 .taken) (c .before .paired .ensures) }
 
 loop-again : tie.Need-loop-again Inv-loop μ-loop
-loop-again c = (search needs, below-more _ _ (c .before .before .before .loop .inv .1) (granted (c .before .paired .result) (c .if1 .left) (c .before .paired .ensures)))
+loop-again c = (search needs, below-more _ _ (c .before .before .before .loop .inv .1) (granted (c .before .paired .result) (c .if2 .left) (c .before .paired .ensures)))
 
 pub check-pairs-spec : {M : Type 1} → statement M
 check-pairs-spec =
     tie.close
-    (tie.spec Inv-loop μ-loop loop-holds (λ c κs. search needs) returns (λ c. search needs) (λ c. search needs)
+    (tie.spec Inv-loop μ-loop (λ c κs. search needs) returns loop-holds (λ c κs. search needs) returns-2 (λ c. search needs) (λ c. search needs)
     loop-again (λ c. search needs))

@@ -18,9 +18,10 @@ use Rattle.mesh.specs.laws.WalkSteps.{walk-done}
 use Rattle.mesh.specs.laws.Walks.{walk-short}
 use Rattle.mesh.specs.laws.Table.{table-length, table-leftmost, table-longer, longer-at}
 use Rattle.mesh_check.specs.fan.Answer.{FanAnswer}
+use Rattle.mesh_check.specs.degrees.Packed.{LongWalks}
 use Rattle.mesh_check.specs.fan.laws.Total.{Ends, total-says}
-use Rattle.mesh_check.specs.fan.Counts.{totalTo, lessOf, owedTo, WalkLengths, CountedDown}
-use Rattle.mesh_check.specs.fan.laws.Owed.{owed-at, spent, spent-debt, spent-paid, endsTo, enough, all-reached}
+use Rattle.mesh_check.specs.fan.Counts.{totalTo, lessOf, owedTo, endsTo, WalkLengths, CountedDown}
+use Rattle.mesh_check.specs.fan.laws.Owed.{owed-at, spent, spent-debt, spent-paid, enough, all-reached}
 
 -- the same of the entries below n; the others are the old ones
 pub record Measuring (he old new : List ℕ) (n : ℕ) : Type 0 where
@@ -108,6 +109,22 @@ module _ (tri he : List ℕ) (sites w : ℕ) (same : length he ≡ length tri) (
 
   table-fan : (table : List ℕ) → table ≡ tableTo tri he w (length tri) → Fan tri he table → (s : ℕ) → s < sites → FanAt tri he (leftmostOf tri he sites) s
   table-fan table q f s l e le p = rw (← at s l, ← q, ← p) (f e le)
+
+-- walks as long as half-edges end at their sites: no fan is broken
+pub fan-long : (tri he : List ℕ) (sites : ℕ) (old new : List ℕ) → length he ≡ length tri → Paired tri he → sites ≤ length old
+    → ((k : ℕ) → k < length tri → getD tri k 0 < sites) → LongWalks tri he (length old) new → FanAnswer tri he sites old new sites
+fan-long tri he sites old new same ok fits named r = record {
+  first = record {
+    within = omega arith;
+    before = λ s l e le q.
+        let t : getD new s 0 ≡ getD (leftmostOf tri he sites) s 0 = ap (λ k. getD k s 0) (r .table) ∙ at tri he sites (length old) same ok fits named s l in
+        all-reached tri he ok (getD (leftmostOf tri he sites) s 0) s (leftmost-ends tri he sites (length old) same ok fits named sites s l (ends tri he sites (length old) same ok fits named))
+        (rw (← t) (omega (arith, r .reached s (omega arith), ap (endsTo tri s) same))) e le q;
+    at = λ l. absurd (omega arith);
+  };
+  table = λ _. r .table ∙ table-longer tri he sites (length old) fits (ends tri he sites (length old) same ok fits named);
+  owed = λ l. absurd (omega arith);
+}
 
 module _ (tri he : List ℕ) (sites : ℕ) (old table : List ℕ) (same : length he ≡ length tri) (ok : Paired tri he) (fits : sites ≤ length old)
     (named : (k : ℕ) → k < length tri → getD tri k 0 < sites) (q : table ≡ tableTo tri he (length old) (length tri))

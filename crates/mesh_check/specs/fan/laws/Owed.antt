@@ -12,16 +12,12 @@ use lib.Seq.{getD-set-same, getD-set-other}
 use borrow.Author.Tests.{eq-eqb, ne-eqb, lt-ltb, le-ltb}
 use Rattle.base.specs.common.Pick.{pick}
 use Rattle.base.specs.common.laws.Decide.{lt-or-ge, eq-or-ne}
-use Rattle.base.specs.common.Count.{same, occ, sumTo}
+use Rattle.base.specs.common.Count.{same, occ}
 use Rattle.base.specs.common.laws.Count.{same-cases, all-weighed, weighed, weighed-le}
 use Rattle.base.specs.numbers.Numbers.{EMPTY}
 use Rattle.mesh.specs.Mesh.{endOf, Reached, here, wholeOf, Paired}
 use Rattle.mesh.specs.laws.Walks.{walk-in, walk-ends, walk-reached, reached-walk, whole-once}
-use Rattle.mesh_check.specs.fan.Counts.{lessOf, owedTo}
-
--- how many of the half-edges below n end at site s
-abbrev pub endsTo : List ℕ → ℕ → ℕ → ℕ
-endsTo tri s n = sumTo (λ e. same (endOf tri e) s) n
+use Rattle.mesh_check.specs.fan.Counts.{lessOf, owedTo, endsTo}
 
 -- the walk from t, where t is no half-edge or ends at s, is no longer than they are many, and as long exactly where they are all reached
 module _ (tri he : List ℕ) (ok : Paired tri he) (t s : ℕ) (ends : t < length he → endOf tri t ≡ s) where

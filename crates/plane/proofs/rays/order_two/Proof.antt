@@ -7,8 +7,9 @@ returns : tie.Need-returns
 returns c =
     let b = c .before in
     let a = b .before .before .before in
-    let m = a .before .before .before in
-    two-calls _ _ _ _ _ _ (m .before .magnitude .ensures) (m .magnitude2 .ensures) (a .order-by .ensures) (b .order-by2 .ensures) (c .either .ensures)
+    let s = a .before .before .before in
+    let m = s .before in
+    two-calls _ _ _ _ _ _ (m .before .magnitude .ensures) (m .magnitude2 .ensures) (s .choose .ensures) (a .choose2 .ensures) (b .choose3 .ensures) (c .order-by .ensures)
 
 pub order-two-spec : {M : Type 1} → statement M
-order-two-spec = tie.close (tie.spec (λ c κs. tt) (λ c κs. tt) (λ c κs. tt) (λ c κs. tt) (λ c κs. tt) returns)
+order-two-spec = tie.close (tie.spec (λ c κs. tt) (λ c κs. tt) (λ c κs. tt) (λ c κs. tt) (λ c κs. tt) (λ c κs. tt) returns)

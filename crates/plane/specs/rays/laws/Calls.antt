@@ -1,6 +1,6 @@
 -- A function's answer from the answers of its calls, which are the arguments: so no proof looks for them among all that it knows.
-use mathlib.Core.Path.{_≡_}
-use mathlib.Core.Bool.{Bool, _&&_}
+use mathlib.Core.Path.{_≡_, refl}
+use mathlib.Core.Bool.{Bool, true, false, _&&_, cond}
 use lib.Ieee.{Float, lt, eq}
 use Rattle.root.specs.Root.{magnitude, signum}
 use Rattle.base.specs.common.Binary64.{_⊞_, _⊟_}
@@ -23,6 +23,13 @@ pub by-calls :
 unfolding orderBy
 by-calls d da db x y u v e₁ e₂ e₃ e₄ e₅ k = rw (← e₁, ← e₂, ← e₃, ← e₄, ← e₅) k
 
+either-by :
+    (t : Bool) (d d₁ a a₁ b b₁ x y u v : Float)
+    → eitherOf t (orderBy d a b x y u v) (orderBy d₁ a₁ b₁ x y u v) ≡ orderBy (cond t d d₁) (cond t a a₁) (cond t b b₁) x y u v
+unfolding eitherOf
+either-by true d d₁ a a₁ b b₁ x y u v = refl
+either-by false d d₁ a a₁ b b₁ x y u v = refl
+
 pub one-calls :
     (dir : Point) (x y : Float) {s s₁ s₂ s₃ : Float} {r : Crossing}
     → s ≡ signum (dir .x) → s₁ ≡ signum x → s₂ ≡ signum (dir .y) → s₃ ≡ signum y → r ≡ oneIf (eq s s₁ && eq s₂ s₃) x y → r ≡ orderOne dir x y
@@ -31,11 +38,11 @@ one-calls dir x y e₁ e₂ e₃ e₄ k = rw (← e₁, ← e₂, ← e₃, ← 
 
 module _ (p dir : Point) where
   pub two-calls :
-      (x y u v : Float) {m m₁ : Float} {a b r : Crossing}
-      → m ≡ magnitude (dir .x) → m₁ ≡ magnitude (dir .y) → a ≡ orderBy (dir .x) (x ⊟ p .x) (u ⊟ p .x) x y u v → b ≡ orderBy (dir .y) (y ⊟ p .y) (v ⊟ p .y) x y u v
-      → r ≡ eitherOf (lt m₁ m) a b → r ≡ orderTwo p dir x y u v
+      (x y u v : Float) {m m₁ s a b : Float} {r : Crossing}
+      → m ≡ magnitude (dir .x) → m₁ ≡ magnitude (dir .y) → s ≡ cond (lt m₁ m) (dir .x) (dir .y) → a ≡ cond (lt m₁ m) (x ⊟ p .x) (y ⊟ p .y)
+      → b ≡ cond (lt m₁ m) (u ⊟ p .x) (v ⊟ p .y) → r ≡ orderBy s a b x y u v → r ≡ orderTwo p dir x y u v
   unfolding orderTwo
-  two-calls x y u v e₁ e₂ e₃ e₄ k = rw (← e₁, ← e₂, ← e₃, ← e₄) k
+  two-calls x y u v e₁ e₂ e₃ e₄ e₅ k = rw (← e₁, ← e₂, either-by _ (dir .x) (dir .y) (x ⊟ p .x) (y ⊟ p .y) (u ⊟ p .x) (v ⊟ p .y) x y u v, ← e₃, ← e₄, ← e₅) k
 
   pub order-one : (x y : Float) {c r : Crossing} → c ≡ One x y → r ≡ orderOne dir x y → r ≡ orderOf p dir c
   order-one x y e k = rw e k

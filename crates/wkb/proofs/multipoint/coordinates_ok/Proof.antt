@@ -22,24 +22,17 @@ loop-holds c = (omega arith, λ k h. absurd (omega arith))
 
 returns : tie.Need-returns Inv-loop μ-loop
 returns c =
-    let at-ok = c .before in
-    let at-loop-test = at-ok .before .before in
-    let at-loop = at-loop-test .before in
-    let start = at-loop .before .before in
-    λ all. coordinate-broken (at-ok .before .coordinate .ensures) (at-ok .coordinate-ok .ensures) (c .if1 .taken)
-    (all .each (at-loop .loop .k) (omega (arith, at-loop-test .loop-test .taken, start .pre .0)))
+    let at-loop-test = c .before .before .before in
+    λ all. coordinate-broken (c .before .before .coordinate .ensures) (c .before .coordinate-ok .ensures) (c .if1 .taken)
+    (all .each (at-loop-test .before .loop .k) (omega (arith, at-loop-test .loop-test .taken, at-loop-test .before .before .before .pre .0)))
 
 loop-again : tie.Need-loop-again Inv-loop μ-loop
 loop-again c =
-    let at-ok = c .before in
-    let at-loop = at-ok .before .before .before in
-    (search needs, below-more _ _ (at-loop .loop .inv .1) (coordinate-kept (at-ok .before .coordinate .ensures) (at-ok .coordinate-ok .ensures) (c .if1 .left)))
+    (search needs, below-more _ _ (c .before .before .before .before .loop .inv .1) (coordinate-kept (c .before .before .coordinate .ensures) (c .before .coordinate-ok .ensures) (c .if1 .left)))
 
 returns-2 : tie.Need-returns-2 Inv-loop μ-loop
 returns-2 c =
-    let at-loop = c .before in
-    let start = at-loop .before .before in
-    record { each = λ k h. at-loop .loop .inv .1 k (omega (arith, c .loop-test .left, start .pre .0)) }
+    record { each = λ k h. c .before .loop .inv .1 k (omega (arith, c .loop-test .left, c .before .before .before .pre .0)) }
 
 pub coordinates-ok-spec : {M : Type 1} → statement M
 coordinates-ok-spec =

@@ -12,9 +12,8 @@ returns c =
 
 returns-2 : tie.Need-returns-2
 returns-2 c =
-    let at-if1 = c .before in
-    let start = at-if1 .before .before in
-    entry-there (now (start .args .file)) (start .args .count) (start .args .k) (start .pre .0) (at-if1 .if1 .left) (c .coordinate .ensures)
+    let start = c .before .before .before in
+    entry-there (now (start .args .file)) (start .args .count) (start .args .k) (start .pre .0) (c .before .if1 .left) (c .coordinate .ensures)
 
 pub entry-spec : {M : Type 1} → statement M
 entry-spec = tie.close (tie.spec (λ c. search needs) returns (λ c κs. search needs) returns-2)

@@ -21,14 +21,12 @@ loop-holds c = (omega arith, λ k h. absurd (omega arith))
 returns : tie.Need-returns Inv-loop μ-loop
 returns c =
     let at-starts = c .before in
-    let at-loop-test = at-starts .before in
-    λ all. decide.refused (at-starts .starts .result) (c .if1 .taken) (at-starts .starts .ensures) (all (at-loop-test .before .loop .i) (at-loop-test .loop-test .taken))
+    λ all. decide.refused (at-starts .starts .result) (c .if1 .taken) (at-starts .starts .ensures) (all (c .before .before .before .loop .i) (c .before .before .loop-test .taken))
 
 loop-again : tie.Need-loop-again Inv-loop μ-loop
 loop-again c =
     let at-starts = c .before in
-    let at-loop = at-starts .before .before in
-    (search needs, below-more _ _ (at-loop .loop .inv .1) (decide.granted (at-starts .starts .result) (c .if1 .left) (at-starts .starts .ensures)))
+    (search needs, below-more _ _ (c .before .before .before .loop .inv .1) (decide.granted (at-starts .starts .result) (c .if1 .left) (at-starts .starts .ensures)))
 
 returns-2 : tie.Need-returns-2 Inv-loop μ-loop
 returns-2 c = λ k h. c .before .loop .inv .1 k (omega (arith, c .loop-test .left))

@@ -25,8 +25,7 @@ loop-less c = let l = c .before .before in omega (arith, pouring-length _ (l .lo
 
 loop-again : tie.Need-loop-again Inv-loop μ-loop
 loop-again c =
-    let l = c .before .before in
-    pouring-step _ (l .loop .inv) (omega (arith, pouring-length _ (l .loop .inv), c .before .loop-test .taken)) (c .entry .ensures)
+    pouring-step _ (c .before .before .loop .inv) (omega (arith, pouring-length _ (c .before .before .loop .inv), c .before .loop-test .taken)) (c .entry .ensures)
 
 returns : tie.Need-returns Inv-loop μ-loop
 returns c = let l = c .before in pouring-end _ (l .loop .inv) (omega (arith, pouring-length _ (l .loop .inv), c .loop-test .left))

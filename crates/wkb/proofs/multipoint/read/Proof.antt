@@ -10,16 +10,13 @@ returns c = let at-shape = c .before in no-shape _ _ (decide.refused (at-shape .
 
 read-sound-requires : tie.Need-read-sound-requires
 read-sound-requires c κs =
-    let at-if1 = c .before .before in
-    let at-shape = at-if1 .before in
-    decide.granted (at-shape .shape-ok .result) (at-if1 .if1 .left) (at-shape .shape-ok .ensures)
+    let at-shape = c .before .before .before in
+    decide.granted (at-shape .shape-ok .result) (c .before .before .if1 .left) (at-shape .shape-ok .ensures)
 
 returns-2 : tie.Need-returns-2
 returns-2 c =
-    let at-read = c .before .before in
-    let at-if1 = at-read .before .before .before in
-    let at-shape = at-if1 .before in
-    of-shape _ _ (decide.granted (at-shape .shape-ok .result) (at-if1 .if1 .left) (at-shape .shape-ok .ensures)) (at-read .read-sound .ensures)
+    let at-if1 = c .before .before .before .before .before in
+    of-shape _ _ (decide.granted (at-if1 .before .shape-ok .result) (at-if1 .if1 .left) (at-if1 .before .shape-ok .ensures)) (c .before .before .read-sound .ensures)
 
 pub read-spec : {M : Type 1} → statement M
 read-spec = tie.close (tie.spec (λ c κs. search needs) returns read-sound-requires (λ c. search needs) returns-2)

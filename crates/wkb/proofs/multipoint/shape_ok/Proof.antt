@@ -10,25 +10,21 @@ returns c = short-file _ (c .if1 .taken)
 
 returns-2 : tie.Need-returns-2
 returns-2 c =
-    let at-starts = c .before in
-    λ p. decide.refused (at-starts .starts .result) (c .if2 .taken) (at-starts .starts .ensures) (p .starts)
+    λ p. decide.refused (c .before .starts .result) (c .if2 .taken) (c .before .starts .ensures) (p .starts)
 
 returns-3 : tie.Need-returns-3
 returns-3 c =
     let at-count-of = c .before in
-    let at-if2 = at-count-of .before in
-    let at-starts = at-if2 .before in
-    other-length _ (at-starts .before .if1 .left) (decide.granted (at-starts .starts .result) (at-if2 .if2 .left) (at-starts .starts .ensures))
+    let at-starts = c .before .before .before in
+    other-length _ (at-starts .before .if1 .left) (decide.granted (at-starts .starts .result) (c .before .before .if2 .left) (at-starts .starts .ensures))
     (at-count-of .count-of .result) (at-count-of .count-of .ensures .0) (c .if3 .taken)
 
 returns-4 : tie.Need-returns-4
 returns-4 c =
-    let at-if3 = c .before in
-    let at-count-of = at-if3 .before in
-    let at-if2 = at-count-of .before in
-    let at-starts = at-if2 .before in
-    points-say _ (at-starts .before .if1 .left) (decide.granted (at-starts .starts .result) (at-if2 .if2 .left) (at-starts .starts .ensures))
-    (at-count-of .count-of .result) (at-count-of .count-of .ensures .0) (c .points-start .result) (at-if3 .if3 .left) (c .points-start .ensures)
+    let at-count-of = c .before .before in
+    let at-starts = at-count-of .before .before in
+    points-say _ (at-starts .before .if1 .left) (decide.granted (at-starts .starts .result) (at-count-of .before .if2 .left) (at-starts .starts .ensures))
+    (at-count-of .count-of .result) (at-count-of .count-of .ensures .0) (c .points-start .result) (c .before .if3 .left) (c .points-start .ensures)
 
 pub shape-ok-spec : {M : Type 1} → statement M
 shape-ok-spec =

@@ -14,9 +14,8 @@ returns c =
 
 returns-2 : tie.Need-returns-2
 returns-2 c =
-    let at-if1 = c .before in
-    let a = at-if1 .before .before .before .args in
-    types-say (now (a .file)) (a .at) (a .kind) (c .number-at .result) _ (omega (arith, at-if1 .if1 .left)) (c .number-at .ensures .0) refl
+    let a = c .before .before .before .before .args in
+    types-say (now (a .file)) (a .at) (a .kind) (c .number-at .result) _ (omega (arith, c .before .if1 .left)) (c .number-at .ensures .0) refl
 
 pub starts-spec : {M : Type 1} → statement M
 starts-spec = tie.close (tie.spec (λ c. search needs) returns (λ c κs. search needs) returns-2)

@@ -10,12 +10,11 @@ use Rattle.wkb.proofs.multipoint_writer.put_file.Tie as tie
 
 returns : tie.Need-returns
 returns c =
-    let at-put-points = c .before .before in
-    let at-put-le = at-put-points .before .before .before .before in
+    let at-put-le = c .before .before .before .before .before .before in
     let at-put-start = at-put-le .before .before .before .before in
     let a = at-put-start .before .before .before .before .args in
     file-wrote _ (sym (length-firsts (sitePoint (now (a .sites))) _)) (at-put-start .put-start .ensures) (at-put-le .put-le .ensures)
-    (at-put-points .put-points .ensures)
+    (c .before .before .put-points .ensures)
 
 pub put-file-spec : {M : Type 1} → statement M
 put-file-spec =

@@ -8,10 +8,8 @@ use Rattle.wkb.proofs.multipoint_writer.put_point.Tie as tie
 returns : tie.Need-returns
 unfolding filePointBytes
 returns c =
-    let at-put-le2 = c .before .before in
-    let at-put-le = at-put-le2 .before .before .before .before in
-    let at-put-start = at-put-le .before .before .before .before in
-    wrote-then (at-put-start .put-start .ensures) (wrote-then (at-put-le .put-le .ensures) (at-put-le2 .put-le2 .ensures))
+    let at-put-le = c .before .before .before .before .before .before in
+    wrote-then (at-put-le .before .before .before .before .put-start .ensures) (wrote-then (at-put-le .put-le .ensures) (c .before .before .put-le2 .ensures))
 
 pub put-point-spec : {M : Type 1} → statement M
 put-point-spec =

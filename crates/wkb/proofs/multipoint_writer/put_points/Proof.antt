@@ -26,10 +26,9 @@ loop-holds c = lined-start _ _ _ _ refl
 put-site-requires : tie.Need-put-site-requires Inv-loop μ-loop
 put-site-requires c κs =
     let at-loop-test = c .before in
-    let at-loop = at-loop-test .before in
-    let start = at-loop .before .before .before in
+    let start = c .before .before .before .before .before in
     let f = sitePoint (now (start .args .sites)) in
-    let l = at-loop .loop in (
+    let l = c .before .before .loop in (
       omega (
         arith,
         at-loop-test .loop-test .taken,
@@ -44,12 +43,10 @@ put-site-requires c κs =
 
 loop-again : tie.Need-loop-again Inv-loop μ-loop
 loop-again c =
-    let at-put-site = c .before .before in
-    let at-loop-test = at-put-site .before .before in
+    let at-loop-test = c .before .before .before .before in
     let at-loop = at-loop-test .before in
-    let start = at-loop .before .before .before in
-    let f = sitePoint (now (start .args .sites)) in
-    lined-step (at-loop .loop .inv) _ (at-loop-test .loop-test .taken) (each-firsts f filePointBytes (at-loop .loop .i)) (at-put-site .put-site .ensures)
+    let f = sitePoint (now (at-loop .before .before .before .args .sites)) in
+    lined-step (at-loop .loop .inv) _ (at-loop-test .loop-test .taken) (each-firsts f filePointBytes (at-loop .loop .i)) (c .before .before .put-site .ensures)
 
 returns : tie.Need-returns Inv-loop μ-loop
 returns c = lined-end (c .before .loop .inv) (c .loop-test .left)

@@ -7,11 +7,9 @@ use Rattle.wkb.proofs.multipoint_writer.put_site.Tie as tie
 
 returns : tie.Need-returns
 returns c =
-    let at-put-point = c .before .before in
-    let at-pattern2 = at-put-point .before .before in
-    let at-pattern = at-pattern2 .before .before in
-    let a = at-pattern .before .before .before .before .args in
-    site-wrote (now (a .sites)) (a .i) (at-pattern .pattern .ensures) (at-pattern2 .pattern2 .ensures) (at-put-point .put-point .ensures)
+    let at-pattern2 = c .before .before .before .before in
+    let a = at-pattern2 .before .before .before .before .before .before .args in
+    site-wrote (now (a .sites)) (a .i) (at-pattern2 .before .before .pattern .ensures) (at-pattern2 .pattern2 .ensures) (c .before .before .put-point .ensures)
 
 pub put-site-spec : {M : Type 1} → statement M
 put-site-spec =

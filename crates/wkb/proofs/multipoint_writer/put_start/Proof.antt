@@ -6,9 +6,7 @@ use Rattle.wkb.proofs.multipoint_writer.put_start.Tie as tie
 
 returns : tie.Need-returns
 returns c =
-    let at-put-le2 = c .before .before in
-    let at-put-le = at-put-le2 .before .before .before .before in
-    wrote-then (at-put-le .put-le .ensures) (at-put-le2 .put-le2 .ensures)
+    wrote-then (c .before .before .before .before .before .before .put-le .ensures) (c .before .before .put-le2 .ensures)
 
 pub put-start-spec : {M : Type 1} → statement M
 put-start-spec = tie.close (tie.spec (λ c κs. search needs) (λ c κs. search needs) (λ c. search needs) returns)

@@ -1,0 +1,3 @@
+-- A ring that is walked once and copied.
+pub mod Copied
+pub mod laws

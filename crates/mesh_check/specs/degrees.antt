@@ -1,0 +1,3 @@
+-- Rule 10 by walks of known length.
+pub mod Packed
+pub mod laws

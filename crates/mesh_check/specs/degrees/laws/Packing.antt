@@ -1,0 +1,224 @@
+-- The loops that pack the table and unpack it: what each keeps from turn to turn, and that the table is the leftmost one.
+use mathlib.Core.Path.{_≡_, refl, sym, _∙_}
+use mathlib.Core.List.{List}
+use mathlib.Core.Logic.{⊎-elim, _≢_}
+use Prim.Native.Nat.{ℕ, suc, _+_, _-_, _*_, _/_, _%_, _≤_, _<_}
+use native.Mathlib.Nat.{le-antisymm}
+use native.Mathlib.Numerals.{add-one}
+use native.Mathlib.Omega.{arith}
+use lib.ListN.{length, getD, set, replicate, length-set, length-replicate, getD-replicate}
+use lib.Seq.{getD-set-same, getD-set-other, ext-getD}
+use borrow.Author.Tests.{lt-ltb, le-ltb}
+use Rattle.base.specs.common.laws.Decide.{lt-or-ge, eq-or-ne}
+use Rattle.base.specs.common.Count.{same}
+use Rattle.base.specs.common.laws.Count.{same-cases}
+use Rattle.base.specs.numbers.Numbers.{EMPTY}
+use Rattle.mesh.specs.Mesh.{nextOf, endOf, pairOf, tableTo, wholeOf, Leftmost}
+use Rattle.mesh.specs.laws.Next.{next-lt}
+use Rattle.mesh.specs.laws.Table.{table-length, table-leftmost}
+use Rattle.mesh.specs.laws.WalkSteps.{WalkCounting, walk-go}
+use Rattle.mesh_check.specs.fan.Counts.{endsTo}
+use Rattle.mesh_check.specs.degrees.Packed.{Lowest, Lowests, Lefts, Leftmosts, unpacked, Unpacks, LongWalks}
+
+-- ---- the lowest, from above
+
+pub lowest-start : (tri : List ℕ) (w : ℕ) → Lowests tri (length tri) (replicate w EMPTY)
+lowest-start tri w s l =
+    let l′ : s < w = rw (length-replicate w EMPTY) at l in
+    rw (getD-replicate w s EMPTY 0 l′) (record {
+      within = omega arith;
+      counted = omega arith;
+      none = λ _. (refl, λ e h k. absurd (omega arith));
+      some = λ h. absurd (omega arith);
+      lowest = λ e h k. absurd (omega arith);
+    })
+
+module _ (tri work : List ℕ) (n v : ℕ) (few : length tri < 524288) (ln : n < length tri) (g : Lowests tri (n + 1) work)
+    (h : v ≡ (getD work (endOf tri n) 0 / 524288 - 1) * 524288 + n) (room : 0 < getD work (endOf tri n) 0 / 524288) where
+  more : (s : ℕ) → endsTo tri s (n + 1) ≡ endsTo tri s n + same (endOf tri n) s
+  more s = rw add-one
+
+  here : endOf tri n < length work → Lowest tri n (endOf tri n) v
+  here l =
+      let m = getD work (endOf tri n) 0 in
+      let o = g (endOf tri n) l in
+      let q : v / 524288 ≡ m / 524288 - 1 = omega (arith, h) in
+      let r : v % 524288 ≡ n = omega (arith, h) in
+      record {
+        within = omega (arith, o .within);
+        counted = ⊎-elim (λ z. omega (arith, o .within, o .counted, more (endOf tri n), z .1)) (λ z. absurd (z .0 refl)) (same-cases (endOf tri n) (endOf tri n));
+        none = λ k. absurd (omega (arith, o .within));
+        some = λ _. rw r (ln, refl);
+        lowest = λ e k _ _. rw r k;
+      }
+
+  elsewhere : (s : ℕ) → s < length work → endOf tri n ≢ s → Lowest tri n s (getD work s 0)
+  elsewhere s l d =
+      let o = g s l in
+      record {
+        within = o .within;
+        counted = ⊎-elim (λ z. absurd (d (z .0))) (λ z. omega (arith, o .counted, more s, z .1)) (same-cases (endOf tri n) s);
+        none = λ k. let p = o .none k in (p .0, λ e a b q. ⊎-elim (λ z. d (rw z at q)) (λ z. p .1 e (omega arith) b q) (eq-or-ne e n));
+        some = o .some;
+        lowest = λ e a b q. ⊎-elim (λ z. absurd (d (rw z at q))) (λ z. o .lowest e (omega arith) b q) (eq-or-ne e n);
+      }
+
+  pub lowest-step : endOf tri n < length work → Lowests tri n (set work (endOf tri n) v)
+  lowest-step i s l =
+      let l′ : s < length work = rw (length-set work (endOf tri n) v) at l in
+      ⊎-elim
+      (λ z. rw (← z, getD-set-same work (endOf tri n) v 0 i) (here i))
+      (λ z. rw (getD-set-other work (endOf tri n) s v 0 (λ y. z (sym y))) (elsewhere s l′ z))
+      (eq-or-ne (endOf tri n) s)
+
+-- the same at the site s₀ that half-edge n ends at
+pub lowest-turn : (tri work : List ℕ) (e n s₀ v : ℕ) → length tri < 524288 → e ≡ n + 1 → n < length tri → Lowests tri e work → s₀ ≡ endOf tri n
+    → v ≡ (getD work s₀ 0 / 524288 - 1) * 524288 + n → 0 < getD work s₀ 0 / 524288 → s₀ < length work → Lowests tri n (set work s₀ v)
+lowest-turn tri work e n s₀ v few p ln g q h r i = rw q (lowest-step tri work n v few ln (rw p at g) (rw q at h) (rw q at r) (rw q at i))
+
+-- ---- then the unpaired
+
+pub lefts-start : (tri he work : List ℕ) → Lowests tri 0 work → Leftmosts tri he 0 work
+lefts-start tri he work g s l =
+    let o = g s l in
+    record {
+      within = o .within;
+      counted = omega (arith, o .counted);
+      none = λ k. let p = o .none k in (p .0, λ e. p .1 e (omega arith));
+      some = o .some;
+      last = λ e k. absurd (omega arith);
+      lowest = λ _ e. o .lowest e (omega arith);
+    }
+
+module _ (tri he work : List ℕ) (n : ℕ) (g : Leftmosts tri he n work) where
+  -- half-edge n changes nothing at site s: it ends elsewhere, or it is paired
+  left : (s : ℕ) → s < length work → (endOf tri n ≡ s → pairOf he n ≢ EMPTY) → Lefts tri he (n + 1) s (getD work s 0)
+  left s l d =
+      let o = g s l in
+      record {
+        within = o .within;
+        counted = o .counted;
+        none = o .none;
+        some = o .some;
+        last = λ e k q u. ⊎-elim (λ z. absurd (d (rw z at q) (rw z at u))) (λ z. o .last e (omega arith) q u) (eq-or-ne e n);
+        lowest = o .lowest;
+      }
+
+  pub lefts-pass : pairOf he n ≢ EMPTY → Leftmosts tri he (n + 1) work
+  lefts-pass h s l = left s l (λ _. h)
+
+  module _ (v : ℕ) (few : length tri < 524288) (ln : n < length tri) (u : pairOf he n ≡ EMPTY) (h : v ≡ getD work (endOf tri n) 0 / 524288 * 524288 + n) where
+    taken : endOf tri n < length work → Lefts tri he (n + 1) (endOf tri n) v
+    taken l =
+        let o = g (endOf tri n) l in
+        let q : v / 524288 ≡ getD work (endOf tri n) 0 / 524288 = omega (arith, h) in
+        let r : v % 524288 ≡ n = omega (arith, h) in
+        record {
+          within = rw q (o .within);
+          counted = rw q (o .counted);
+          none = λ k. absurd (o .none (rw q at k) .1 n ln refl);
+          some = λ _. rw r (ln, refl);
+          last = λ e k _ _. rw r (omega arith, u);
+          lowest = λ d. absurd (d (rw r u));
+        }
+
+    pub lefts-take : endOf tri n < length work → Leftmosts tri he (n + 1) (set work (endOf tri n) v)
+    lefts-take i s l =
+        let l′ : s < length work = rw (length-set work (endOf tri n) v) at l in
+        ⊎-elim
+        (λ z. rw (← z, getD-set-same work (endOf tri n) v 0 i) (taken i))
+        (λ z. rw (getD-set-other work (endOf tri n) s v 0 (λ y. z (sym y))) (left s l′ (λ y. absurd (z y))))
+        (eq-or-ne (endOf tri n) s)
+
+pub lefts-turn : (tri he work : List ℕ) (n s₀ v : ℕ) → length tri < 524288 → n < length tri → Leftmosts tri he n work → pairOf he n ≡ EMPTY → s₀ ≡ endOf tri n
+    → v ≡ getD work s₀ 0 / 524288 * 524288 + n → s₀ < length work → Leftmosts tri he (n + 1) (set work s₀ v)
+lefts-turn tri he work n s₀ v few ln g u q h i = rw q (lefts-take tri he work n g v few ln u (rw q at h) (rw q at i))
+
+-- ---- unpacked
+
+pub unpacks-start : (he old : List ℕ) → Unpacks he old old 0
+unpacks-start he old = record { long = refl; done = λ s l. absurd (omega arith); rest = λ s l. refl }
+
+module _ (he old new : List ℕ) (n : ℕ) (g : Unpacks he old new n) where
+  -- an entry of a site without half-edges stays
+  pub unpacks-pass : 8191 ≤ getD new n 0 / 524288 → Unpacks he old new (n + 1)
+  unfolding unpacked
+  unpacks-pass h =
+      let q = g .rest n (omega arith) in
+      record {
+        long = g .long;
+        done = λ s l.
+            ⊎-elim
+            (λ z. rw z (rw (le-ltb (getD old n 0 / 524288) 8191 (rw q at h)) q, omega (arith, rw q at h)))
+            (λ z. g .done s (omega arith))
+            (eq-or-ne s n);
+        rest = λ s l. g .rest s (omega arith);
+      }
+
+  pub unpacks-step : n < length new → (t d : ℕ) → getD new n 0 / 524288 < 8191 → t ≡ getD new n 0 % 524288 → d ≡ 8191 - getD new n 0 / 524288
+      → d ≤ length (wholeOf he t) → Unpacks he old (set new n t) (n + 1)
+  unfolding unpacked
+  unpacks-step i t d h p q r =
+      let w = g .rest n (omega arith) in
+      record {
+        long = length-set new n t ∙ g .long;
+        done = λ s l.
+            ⊎-elim
+            (λ z. rw z (rw (getD-set-same new n t 0 i) (rw (lt-ltb (getD old n 0 / 524288) 8191 (rw w at h)) (rw (← w) p), rw (← w) (rw (← q) r))))
+            (λ z. rw (getD-set-other new n s t 0 z) (g .done s (omega arith)))
+            (eq-or-ne s n);
+        rest = λ s l. getD-set-other new n s t 0 (omega arith) ∙ g .rest s (omega arith);
+      }
+
+-- ---- the table
+
+-- the leftmost half-edge is one
+one : (tri he : List ℕ) (n s r q : ℕ) → n < EMPTY → Leftmost tri he n s r → Leftmost tri he n s q → r ≡ q
+one tri he n s r q small a b =
+    ⊎-elim
+    (λ z. ⊎-elim (λ y. z ∙ sym y) (λ y. absurd (a .none z q (b .some y .0) (b .some y .1))) (eq-or-ne q EMPTY))
+    (λ z. ⊎-elim (λ y. absurd (b .none y r (a .some z .0) (a .some z .1))) (λ y. both (a .some z) (b .some y)) (eq-or-ne q EMPTY))
+    (eq-or-ne r EMPTY)
+  where
+    both : (r < n) × (endOf tri r ≡ s) → (q < n) × (endOf tri q ≡ s) → r ≡ q
+    both (lr, er) (lq, eq) =
+        ⊎-elim
+        (λ u. let x = b .last r lr er u in le-antisymm (x .0) (a .last q lq eq (x .1) .0))
+        (λ u. le-antisymm (a .lowest u q lq eq) (b .lowest (λ w. u (a .last q lq eq w .1)) r lr er))
+        (eq-or-ne (pairOf he r) EMPTY)
+
+module _ (tri he : List ℕ) (few : length tri < 524288) (s m : ℕ) (o : Lefts tri he (length tri) s m) where
+  lefts-leftmost : Leftmost tri he (length tri) s (unpacked m)
+  unfolding unpacked
+  lefts-leftmost =
+      ⊎-elim
+      (λ k. rw (lt-ltb (m / 524288) 8191 k) (record {
+        none = λ z. absurd (omega (arith, o .some k .0));
+        some = λ _. o .some k;
+        last = o .last;
+        lowest = o .lowest;
+      }))
+      (λ k. rw (le-ltb (m / 524288) 8191 k) (record {
+        none = λ _. o .none k .1;
+        some = λ z. absurd (z (o .none k .0));
+        last = λ e l q. absurd (o .none k .1 e l q);
+        lowest = λ _ e l q. absurd (o .none k .1 e l q);
+      }))
+      (lt-or-ge (m / 524288) 8191)
+
+pub long-walks : (tri he : List ℕ) (w : ℕ) (old new : List ℕ) → length tri % 3 ≡ 0 → length tri < 524288 → ((k : ℕ) → k < length tri → getD tri k 0 < w)
+    → length old ≡ w → Leftmosts tri he (length tri) old → Unpacks he old new (length old) → LongWalks tri he w new
+long-walks tri he w old new threes few named q g r = record {
+  table =
+      ext-getD 0 new (tableTo tri he w (length tri)) (r .long ∙ q ∙ sym (table-length tri he w (length tri))) (λ s l.
+      let l′ : s < length old = rw (r .long) at l in
+      r .done s l′ .0 ∙ one tri he (length tri) s _ _ (omega arith) (lefts-leftmost tri he few s _ (g s l′))
+      (table-leftmost tri he w (length tri) s (omega arith) (λ e h. named (nextOf e) (next-lt threes h)) (rw q at l′)));
+  reached = λ s l. let l′ : s < length old = rw q l in rw (← g s l′ .counted) (r .done s l′ .1);
+}
+
+-- a walk that has come to a half-edge of the mesh has one entry more than before it
+pub counted-on : (he : List ℕ) (t e n : ℕ) → WalkCounting he t e n → n < length he → e < length he → n + 1 ≤ length (wholeOf he t)
+counted-on he t e n g l h =
+    let k : length he - n ≡ suc (length he - (n + 1)) = omega arith in
+    omega (arith, rw (k, walk-go he t (length he - (n + 1)) e h) at (g .sum))
