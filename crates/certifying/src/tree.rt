@@ -23,8 +23,7 @@ ghost use Rattle.arguments.specs.entries.Named.{EntriesNamed};
 ghost use Rattle.auditing.specs.nearer.Nearer.{beyond, cellNearer, siteNearer};
 ghost use Rattle.certifying.specs.windows.Windows.{EdgesHeld};
 ghost use Rattle.certifying.specs.tree.Tree.{cornerPast};
-ghost use Rattle.certifying.specs.tree.Steps.{SitesHeld, TwoSites, Lower, Higher, FourNamed, Widens, BoxesFrom, Order, Reordered, swapped, NodeNamed, FillSafe};
-ghost use Rattle.certifying.specs.tree.Steps.{Sifted, PlacesNamed, ListedAsked};
+ghost use Rattle.certifying.specs.tree.Steps.{SitesHeld, TwoSites, Lower, Higher, FourNamed, Widens, BoxesFrom, Order, Reordered, swapped, NodeNamed, FillSafe, Sifted, PlacesNamed, ListedAsked};
 ghost use Rattle.certifying.specs.tree.Steps.{NodeFilled, LevelFilled, base256, base4096, TreeOf, nodeOff, OffFrom, LevelSafe, RingSafe, PassedFrom, PieceSafe, PiecesHeld, TreeSafe};
 
 // The sites of least and of greatest coordinates.

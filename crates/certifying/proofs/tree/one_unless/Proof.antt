@@ -1,5 +1,5 @@
 -- `certifying::tree::one_unless` meets its contract.
-use mathlib.Core.Path.{_≡_, refl, sym, _∙_}
+use mathlib.Core.Path.{refl, sym, _∙_}
 use native.Mathlib.Omega.{arith}
 use Rattle.ring_area.specs.lowest.laws.Loops.{no-both}
 use Rattle.certifying.proofs.tree.one_unless.Statement.{statement}

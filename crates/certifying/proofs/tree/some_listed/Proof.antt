@@ -1,7 +1,6 @@
 -- `certifying::tree::some_listed` meets its contract: no site that was passed is one.
 use Prim.Native.Nat.{_-_}
 use denote.Ref.{now}
-use lib.ListN.{length}
 use Rattle.ring_area.specs.lowest.laws.Loops.{named-twice}
 use Rattle.certifying.specs.tree.laws.Search.{AskedTo, listed-is, asked-more, asked-found, asked-all}
 use borrow.Author.Needs.{needs}
