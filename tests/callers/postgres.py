@@ -176,8 +176,7 @@ def postgis():
             for k, query in enumerate((ours, core, theirs)):
                 best[k] = min(best[k], session.took(query, 1))
         total = float(session.ask(ours)[0][0]) / 1e10 - 1
-        # the goal is 8 times, which is not met at each size; 6 is held until it is (docs/DECISIONS.md, "PostgreSQL")
-        check(abs(total) < 1e-12 and best[2] >= 6 * best[0], f"{n} gauges: geometries {best[0]:.1f} ms, areas {best[1]:.1f} ms, ST_VoronoiPolygons with ST_Intersection and ST_Area {best[2]:.1f} ms: "
+        check(abs(total) < 1e-12 and best[2] >= 8 * best[0], f"{n} gauges: geometries {best[0]:.1f} ms, areas {best[1]:.1f} ms, ST_VoronoiPolygons with ST_Intersection and ST_Area {best[2]:.1f} ms: "
               f"{best[2] / best[0]:.1f} times as fast; the total is off by {total:.1e} of the box")
     session.ask("CREATE INDEX ON gauge USING gist (geom)")
     worst = session.ask(f"""
