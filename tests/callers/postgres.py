@@ -279,7 +279,7 @@ def rain(session, table, sheets, days, gauges, partitioned):
     session.ask(f"ANALYZE {table}")
 
 
-def boxes(session, table, options, count=64, gauges=300):
+def boxes(session, table, options, count=64, gauges=3000): # so many that the leader has not done all before a worker has started
     session.ask("SELECT setseed(.4)")
     session.ask(f"CREATE TABLE {table} (id int, frame box, pts point[], mm float8[]) WITH (parallel_workers = 4{options})")
     session.ask(f"""INSERT INTO {table} SELECT s, box(point(1000 * s, 0), point(1000 * s + 1000, 1000)), array_agg(point(1000 * s + 1000 * random(), 1000 * random())), array_agg(5 * random())
