@@ -1,5 +1,5 @@
 #!/bin/sh
-# Times the Rust and the library on the same meshes, in turn: harness/bench.sh [--rounds N] [--traps] [--full].
+# Times the Rust and the library on the same meshes, in turn: harness/bench.sh [--rounds N] [--traps] [--full] [--again].
 # On x86-64 the library is its archive. On another machine, where the archive would run under an emulator and its time
 # say nothing, it is the archive for the machine's own processor (tests/native.sh).
 set -eu
