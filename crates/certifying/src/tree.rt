@@ -316,34 +316,50 @@ fn spanned(sites: &[f64], from: usize, to: usize) -> Window
     w
 }
 
-// Whether each so many sites stand near each other as they are numbered, along a curve that fills the plane: the squares of their widths and heights together are at most eight times
-// what all span. Along Hilbert's curve it is 3 to 6 times, in no order 4 times for each block. Nothing is promised of it: a bad order costs time.
-fn is_close(sites: &[f64], w: usize) -> bool
-    requires { ⌜ (0 < w) × (w ≤ 65536) × (length (now sites) / 2 ≤ 65536) ⌝ }
+// Width and height together.
+fn side_of(w: Window) -> f64 {
+    (w.right - w.left) + (w.bottom - w.top)
+}
+
+// Whether blocks of so many stand near each other, of the sites from one number to another: the squares of their sides, width and height together, are at most twice that of all.
+// Along Hilbert's curve sixteen blocks have 0.1 to 1.7 times, in no order 3 to 16. Nothing is promised of it: a bad order costs time.
+fn is_close(sites: &[f64], w: usize, first: usize, end: usize) -> bool
+    requires { ⌜ (0 < w) × (w ≤ 65536) × (first < end) × (end ≤ length (now sites) / 2) × (length (now sites) / 2 ≤ 65536) ⌝ }
 {
-    let n = sites.len() / 2;
-    if n == 0 {
-        return true;
-    }
-    let all = spanned(sites, 0, n);
+    let all = side_of(spanned(sites, first, end));
     let mut sum = 0.0;
-    let mut from = 0;
-    while from < n {
-        let to = smaller(from + w, n);
-        let b = spanned(sites, from, to);
-        let side = (b.right - b.left) + (b.bottom - b.top);
+    let mut from = first;
+    while from < end {
+        let to = smaller(from + w, end);
+        let side = side_of(spanned(sites, from, to));
         sum = sum + side * side;
         from = to;
     }
-    sum <= 8.0 * ((all.right - all.left) * (all.bottom - all.top))
+    sum <= 2.0 * (all * all)
+}
+
+// Whether each sixteen blocks do, along a curve that fills the plane: by themselves, so that a site far off speaks for its own sixteen alone.
+fn all_close(sites: &[f64], w: usize) -> bool
+    requires { ⌜ (0 < w) × (w ≤ 4096) × (length (now sites) / 2 ≤ 65536) ⌝ }
+{
+    let n = sites.len() / 2;
+    let mut from = 0;
+    while from < n {
+        let to = smaller(from + 16 * w, n);
+        if !is_close(sites, w, from, to) {
+            return false;
+        }
+        from = to;
+    }
+    true
 }
 
 // Of blocks of 16 and of 256.
 fn is_arranged(sites: &[f64]) -> bool
     requires { ⌜ length (now sites) / 2 ≤ 65536 ⌝ }
 {
-    if is_close(sites, 16) {
-        return is_close(sites, 256);
+    if all_close(sites, 16) {
+        return all_close(sites, 256);
     }
     false
 }
