@@ -1,7 +1,7 @@
 #!/bin/sh
 # The certificate through the C interface: rows and refusals, sheets by name that the audit passes (tests/calls/certify.c); examples/ear.txt and five gauges on a whole sheet, as they
 # are shown in docs/use/AUDIT.md; SHEETS sheets of twelve families, each as it is and damaged, before and after the cut, against half-planes in 113-bit floats: none that nothing
-# was done to is named and no wrong one is passed (tests/calls/certify_truth.c); the theorem at exact places (tests/calls/certify.py); times at 2,000 gauges beside the build's and the
+# was done to is named and no wrong one is passed (tests/calls/certify_truth.c); the theorem at exact places (tests/calls/certify.py); times at 2,000 and 10,000 gauges beside the build's and the
 # audit's (tests/calls/certify_times.c; target/tests/certify_times 65,472 has the largest).
 #
 #   tests/calls/certify.sh [SHEETS [SEED]]    1,056 sheets each way unless it is given
@@ -70,3 +70,4 @@ python3 tests/calls/certify.py <"$folder/places"
 program=target/tests/certify_times
 sh tests/archive.sh build "$program" tests/calls/certify_times.c mesh/triangulate.c
 run 2,000 3
+run 10,000 2

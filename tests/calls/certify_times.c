@@ -2,18 +2,20 @@
  * of one call in ms, the least of several, and the certificate's as ratios.
  *
  *   certify_times [GAUGES [ROUNDS]]    so many gauges, 2,000 unless it is given and 65,472 at most: uniform, whole metres, a strip of 1 : 1000, a crowd on a thousandth of the
- *                                      sheet, a lattice; on a circle and round a hub, 4,000 at most; above that also a hub with all round it, where neither the build nor
- *                                      the audit is asked
+ *                                      sheet, a lattice, uniform but for one that is a thousand sheets off; on a circle and round a hub, 4,000 at most; above that also a hub
+ *                                      with all round it, where neither the build nor the audit is asked
  *
  * The meshes are mesh/triangulate.c's, the pieces that are certified and audited those by cutting. Every sheet must be certified; exit
- * status 1 where one is not, or where the certificate of uniform gauges takes more than twice as long as the audit against all of them (under the emulator a note).
+ * status 1 where one is not, where the certificate of uniform gauges takes more than twice as long as the audit against all of them, or where a crowd's, or that with
+ * one far off, takes more than four times as long as theirs (under the emulator a note).
  * The C library's headers are not used (tests/archive.sh says why). */
 #include "../mesh/triangulate.h"
 #include "../lent.h"
 #include "../number.h"
 
-enum { MOST = TRIANGULATE_MOST_GAUGES, SITES = TRIANGULATE_SITES(MOST), T = TRIANGULATE_TRIANGLES(MOST), H = TRIANGULATE_GHOSTS, FAMILIES = 8 };
-static const char *const families[FAMILIES] = {"uniform", "whole metres", "strip 1 : 1000", "crowd", "lattice", "circle", "hub", "large hub"};
+enum { MOST = TRIANGULATE_MOST_GAUGES, SITES = TRIANGULATE_SITES(MOST), T = TRIANGULATE_TRIANGLES(MOST), H = TRIANGULATE_GHOSTS };
+enum { UNIFORM, METRES, STRIP, CROWD, LATTICE, FAR, CIRCLE, HUB, LARGE_HUB, FAMILIES };
+static const char *const families[FAMILIES] = {"uniform", "whole metres", "strip 1 : 1000", "crowd", "lattice", "one far off", "circle", "hub", "large hub"};
 
 static double frame[4], sites[2 * SITES], vertices[VORONOI_VERTEX_NUMBERS(T, H)]; /* a build takes more than a cutting */
 static uint32_t triangles[3 * T], halfedges[3 * T], hull[H], table[TRIANGULATE_WORK_ROOM(MOST)], indexes[VORONOI_CUT_INDEX_ROOM(T, H)], offsets[SITES + 1];
@@ -39,25 +41,27 @@ static void on_circle(size_t k, size_t of, double *x, double *y)
 static void gauges(int family)
 {
     const double edges[4] = {300000, 5800000, 400000, 5900000};
-    n = (family == 5 || family == 6) && most > 4000 ? 4000 : most;
+    n = (family == CIRCLE || family == HUB) && most > 4000 ? 4000 : most;
     for (int k = 0; k < 4; k++)
         frame[k] = edges[k];
-    if (family == 2)
+    if (family == STRIP)
         frame[3] = frame[1] + 100;
     for (size_t s = 0; s < n; s++) {
         double x = unit(), y = unit();
-        if (family == 3 && s >= n / 100)
+        if (family == CROWD && s >= n / 100)
             x = .5 + x / 32, y = .5 + y / 32;
-        if (family == 4)
+        if (family == LATTICE)
             x = ((double)(s % 256) + .5) / 256, y = ((double)(s / 256) + .5) / 256;
-        if (family >= 5) {
-            on_circle(family == 5 ? s : s - (s > 0), family == 5 ? n : n - n % 4, &x, &y);
+        if (family == FAR && s == n / 2)
+            x = 1000;
+        if (family >= CIRCLE) {
+            on_circle(family == CIRCLE ? s : s - (s > 0), family == CIRCLE ? n : n - n % 4, &x, &y);
             x = .5 + .45 * x, y = .5 + .45 * y;
         }
-        if (family >= 6 && s == 0)
+        if (family >= HUB && s == 0)
             x = y = .5;
         sites[2 * s] = frame[0] + x * (frame[2] - frame[0]), sites[2 * s + 1] = frame[1] + y * (frame[3] - frame[1]);
-        if (family == 1) /* no two on one metre: a row and a column of its own square of 390 m */
+        if (family == METRES) /* no two on one metre: a row and a column of its own square of 390 m */
             sites[2 * s] = frame[0] + 390 * (double)(s % 256) + (double)(int)(390 * x), sites[2 * s + 1] = frame[1] + 390 * (double)(s / 256) + (double)(int)(390 * y);
     }
 }
@@ -86,7 +90,7 @@ static void round_of(int family, Times *times)
     size_t t = TRIANGULATE_TRIANGLES(n);
     uint32_t kind = 0, site = 0, vertex, other, count, number;
     double missing;
-    int asked = family != 7; /* neither the build nor the audit of a hub of 65,471, which take minutes */
+    int asked = family != LARGE_HUB; /* neither the build nor the audit of a hub of 65,471, which take minutes */
     long began;
     for (int way = !asked; way < 2; way++) { /* the build with its audit, then the cutting with its certificate */
         began = clock();
@@ -120,9 +124,19 @@ static void round_of(int family, Times *times)
     told("the audit against all", families[family], number, kind, site);
 }
 
+static void late(const char *than)
+{
+#ifdef EMULATED
+    printf("note: more than %s, but under the emulator a time says nothing\n", than);
+#else
+    printf("FAILED: the certificate takes more than %s\n", than), failures++;
+#endif
+}
+
 int main(int words, char **word)
 {
     uint64_t rounds = 1, given = 2000;
+    double uniform = 0;
     if (!count_and_seed(words, word, &given, &rounds) || given < 100 || given > MOST)
         return printf("certify_times [GAUGES [ROUNDS]]\n"), 2;
     most = given - given % 4;
@@ -142,13 +156,12 @@ int main(int words, char **word)
                 printf("%10.2f", times.certify / by);
         }
         printf("\n");
-        if (f == 0 && times.all > 0 && times.certify > 2 * times.all) {
-#ifdef EMULATED
-            printf("note: under the emulator a time says nothing\n");
-#else
-            printf("FAILED: the certificate takes more than twice as long as the audit against all gauges\n"), failures++;
-#endif
-        }
+        if (f == UNIFORM)
+            uniform = times.certify;
+        if (f == UNIFORM && times.all > 0 && times.certify > 2 * times.all)
+            late("twice as long as the audit against all gauges");
+        if ((f == CROWD || f == FAR) && times.certify > 4 * uniform)
+            late("four times as long as with uniform gauges");
     }
     return failures > 0;
 }
