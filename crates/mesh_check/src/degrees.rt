@@ -3,9 +3,9 @@ use base::numbers::EMPTY;
 use base::numbers::wide;
 ghost use mathlib.Core.Path.{_≡_};
 ghost use mathlib.Core.Bool.{true};
-ghost use Prim.Native.Nat.{ℕ, _%_, _<_, _≤_};
+ghost use Prim.Native.Nat.{ℕ, _+_, _*_, _/_, _%_, _<_, _≤_};
 ghost use lib.ListN.{length, getD};
-ghost use Rattle.mesh.specs.Mesh.{wholeOf};
+ghost use Rattle.mesh.specs.Mesh.{nextOf, wholeOf};
 ghost use Rattle.mesh_check.specs.degrees.Packed.{Lowests, Leftmosts, Unpacks, LongWalks};
 
 // A packed entry is 524,288 times what is left of 8,191 when the site's half-edges are taken off it, and the half-edge; one of a site without any is `EMPTY`.
@@ -13,23 +13,73 @@ const PLACES: u32 = 524288;
 
 const ENDS: u32 = 8191;
 
+// Half-edge e, lower than all before, is packed at the site where it ends and its next one, k, starts. Answers whether the site has not too many.
+fn pack_end(triangles: &[u32], work: &mut [u32], e: usize, k: usize) -> bool
+    requires { ⌜ (length (now triangles) < 524288) × (e < length (now triangles)) × (k < length (now triangles)) × (k ≡ nextOf e)
+        × (getD (now triangles) k 0 < length (now work)) × Lowests (now triangles) (e + 1) (now work) ⌝ }
+    ensures { λ r. ⌜ (r ≡ true → Lowests (now (triangles .entry)) e (now (work .exit))) ⌝ }
+{
+    let s = wide(triangles[k]);
+    let left = work[s] / PLACES;
+    if left == 0 {
+        return false;
+    }
+    work[s] = (left - 1) * PLACES + e as u32;
+    true
+}
+
+// The same of the three half-edges of triangle t.
+fn pack_ends(triangles: &[u32], work: &mut [u32], t: usize) -> bool
+    requires { ⌜ (length (now triangles) < 524288) × ((k : ℕ) → k < length (now triangles) → getD (now triangles) k 0 < length (now work))
+        × (t < length (now triangles) / 3) × Lowests (now triangles) (3 * t + 3) (now work) ⌝ }
+    ensures { λ r. ⌜ (r ≡ true → Lowests (now (triangles .entry)) (3 * t) (now (work .exit))) ⌝ }
+{
+    if !pack_end(triangles, work, 3 * t + 2, 3 * t) {
+        return false;
+    }
+    if !pack_end(triangles, work, 3 * t + 1, 3 * t + 2) {
+        return false;
+    }
+    pack_end(triangles, work, 3 * t, 3 * t + 1)
+}
+
 // Each site's lowest half-edge, packed. Answers whether no site has too many.
 fn pack_lowest(triangles: &[u32], work: &mut [u32]) -> bool
     requires { ⌜ (length (now triangles) % 3 ≡ 0) × (length (now triangles) < 524288) × ((k : ℕ) → k < length (now triangles) → getD (now triangles) k 0 < length (now work)) ⌝ }
     ensures { λ r. ⌜ (r ≡ true → Lowests (now (triangles .entry)) 0 (now (work .exit))) ⌝ }
 {
     mesh::clear(work);
-    let mut e: usize = triangles.len();
-    while 0 < e {
-        e -= 1;
-        let s = wide(mesh::end_site(triangles, e));
-        let left = work[s] / PLACES;
-        if left == 0 {
+    let mut t: usize = triangles.len() / 3;
+    while 0 < t {
+        t -= 1;
+        if !pack_ends(triangles, work, t) {
             return false;
         }
-        work[s] = (left - 1) * PLACES + e as u32;
     }
     true
+}
+
+// Half-edge e, if it is unpaired, takes the place of the lowest one of the site where it ends and its next one, k, starts.
+fn pack_open(triangles: &[u32], halfedges: &[u32], work: &mut [u32], e: usize, k: usize)
+    requires { ⌜ (length (now halfedges) ≡ length (now triangles)) × (length (now triangles) < 524288) × (e < length (now triangles)) × (k < length (now triangles)) × (k ≡ nextOf e)
+        × (getD (now triangles) k 0 < length (now work)) × Leftmosts (now triangles) (now halfedges) e (now work) ⌝ }
+    ensures { λ _. ⌜ Leftmosts (now (triangles .entry)) (now (halfedges .entry)) (e + 1) (now (work .exit)) ⌝ }
+{
+    if halfedges[e] == EMPTY {
+        let s = wide(triangles[k]);
+        work[s] = work[s] / PLACES * PLACES + e as u32;
+    }
+}
+
+// The same of the three half-edges of triangle t.
+fn pack_opens(triangles: &[u32], halfedges: &[u32], work: &mut [u32], t: usize)
+    requires { ⌜ (length (now halfedges) ≡ length (now triangles)) × (length (now triangles) < 524288) × ((k : ℕ) → k < length (now triangles) → getD (now triangles) k 0 < length (now work))
+        × (t < length (now triangles) / 3) × Leftmosts (now triangles) (now halfedges) (3 * t) (now work) ⌝ }
+    ensures { λ _. ⌜ Leftmosts (now (triangles .entry)) (now (halfedges .entry)) (3 * t + 3) (now (work .exit)) ⌝ }
+{
+    pack_open(triangles, halfedges, work, 3 * t, 3 * t + 1);
+    pack_open(triangles, halfedges, work, 3 * t + 1, 3 * t + 2);
+    pack_open(triangles, halfedges, work, 3 * t + 2, 3 * t);
 }
 
 // An unpaired half-edge takes the place of its site's lowest one.
@@ -38,13 +88,11 @@ fn pack_unpaired(triangles: &[u32], halfedges: &[u32], work: &mut [u32])
         × ((k : ℕ) → k < length (now triangles) → getD (now triangles) k 0 < length (now work)) × Lowests (now triangles) 0 (now work) ⌝ }
     ensures { λ _. ⌜ Leftmosts (now (triangles .entry)) (now (halfedges .entry)) (length (now (triangles .entry))) (now (work .exit)) ⌝ }
 {
-    let mut e: usize = 0;
-    while e < triangles.len() {
-        if halfedges[e] == EMPTY {
-            let s = wide(mesh::end_site(triangles, e));
-            work[s] = work[s] / PLACES * PLACES + e as u32;
-        }
-        e += 1;
+    let count = triangles.len() / 3;
+    let mut t = 0;
+    while t < count {
+        pack_opens(triangles, halfedges, work, t);
+        t += 1;
     }
 }
 

@@ -1,26 +1,28 @@
 -- Half-edge 3 t ends at the triangle's second site, 3 t + 1 at its third, 3 t + 2 at its first.
+use mathlib.Core.Path.{ap}
 use mathlib.Core.Bool.{false≢true}
 use native.Mathlib.Omega.{arith}
+use lib.ListN.{getD}
 use borrow.Author.Needs.{needs}
 use borrow.Author.Tests.{not-false}
-use Rattle.mesh_check.specs.pairing.laws.Threes.{first-end, second-end, third-end}
+use Rattle.mesh_check.specs.pairing.laws.Threes.{first-next, second-next, third-next}
 use Rattle.mesh_check.proofs.pairing.three_half_paired.Statement.{statement}
 use Rattle.mesh_check.proofs.pairing.three_half_paired.Tie as tie
 
 half-paired-requires : tie.Need-half-paired-requires
 half-paired-requires c κs =
     let s = c .before .before .before .before .before in
-    (s .pre .0, omega arith, first-end (s .args .triangles .now) (s .args .t))
+    (s .pre .0, omega arith, ap (λ k. getD (s .args .triangles .now) k 0) (first-next (s .args .t)))
 
 half-paired-requires-2 : tie.Need-half-paired-requires-2
 half-paired-requires-2 c κs =
     let s = c .before .before .before .before .before .before .before in
-    (s .pre .0, omega arith, second-end (s .args .triangles .now) (s .args .t))
+    (s .pre .0, omega arith, ap (λ k. getD (s .args .triangles .now) k 0) (second-next (s .args .t)))
 
 half-paired-requires-3 : tie.Need-half-paired-requires-3
 half-paired-requires-3 c κs =
     let s = c .before .before .before .before .before .before .before .before .before in
-    (s .pre .0, omega arith, third-end (s .args .triangles .now) (s .args .t))
+    (s .pre .0, omega arith, ap (λ k. getD (s .args .triangles .now) k 0) (third-next (s .args .t)))
 
 returns-3 : tie.Need-returns-3
 returns-3 c =

@@ -22,10 +22,10 @@ use Rattle.mesh_check.specs.degrees.Packed.{Lowest, Lowests, Lefts, Left
 
 -- ---- the lowest, from above
 
-pub lowest-start : (tri : List ℕ) (w : ℕ) → Lowests tri (length tri) (replicate w EMPTY)
-lowest-start tri w s l =
+pub lowest-start : (tri : List ℕ) (w n : ℕ) → n ≡ length tri → Lowests tri n (replicate w EMPTY)
+lowest-start tri w n q s l =
     let l′ : s < w = rw (length-replicate w EMPTY) at l in
-    rw (getD-replicate w s EMPTY 0 l′) (record {
+    rw (q, getD-replicate w s EMPTY 0 l′) (record {
       within = omega arith;
       counted = omega arith;
       none = λ _. (refl, λ e h k. absurd (omega arith));
@@ -72,9 +72,9 @@ module _ (tri work : List ℕ) (n v : ℕ) (few : length tri < 524288) (ln : n <
       (eq-or-ne (endOf tri n) s)
 
 -- the same at the site s₀ that half-edge n ends at
-pub lowest-turn : (tri work : List ℕ) (e n s₀ v : ℕ) → length tri < 524288 → e ≡ n + 1 → n < length tri → Lowests tri e work → s₀ ≡ endOf tri n
+pub lowest-turn : (tri work : List ℕ) (n s₀ v : ℕ) → length tri < 524288 → n < length tri → Lowests tri (n + 1) work → s₀ ≡ endOf tri n
     → v ≡ (getD work s₀ 0 / 524288 - 1) * 524288 + n → 0 < getD work s₀ 0 / 524288 → s₀ < length work → Lowests tri n (set work s₀ v)
-lowest-turn tri work e n s₀ v few p ln g q h r i = rw q (lowest-step tri work n v few ln (rw p at g) (rw q at h) (rw q at r) (rw q at i))
+lowest-turn tri work n s₀ v few ln g q h r i = rw q (lowest-step tri work n v few ln g (rw q at h) (rw q at r) (rw q at i))
 
 -- ---- then the unpaired
 
