@@ -5,8 +5,8 @@ ghost use mathlib.Core.Path.{_≡_};
 ghost use mathlib.Core.Bool.{true};
 ghost use Prim.Native.Nat.{ℕ, _+_, _*_, _/_, _%_, _<_, _≤_};
 ghost use lib.ListN.{length, getD};
-ghost use Rattle.mesh.specs.Mesh.{nextOf, wholeOf};
-ghost use Rattle.mesh_check.specs.degrees.Packed.{Lowests, Leftmosts, Unpacks, LongWalks};
+ghost use Rattle.mesh.specs.Mesh.{nextOf, wholeOf, Paired};
+ghost use Rattle.mesh_check.specs.degrees.Packed.{EndsApart, Lowests, Leftmosts, spare, Unpacks, LongWalks};
 
 // A packed entry is 524,288 times what is left of 8,191 when the site's half-edges are taken off it, and the half-edge; one of a site without any is `EMPTY`.
 const PLACES: u32 = 524288;
@@ -96,10 +96,10 @@ fn pack_unpaired(triangles: &[u32], halfedges: &[u32], work: &mut [u32])
     }
 }
 
-// Whether the walk from t has d entries at least.
+// Whether the walk from t has d entries at least, or one less if t is paired: where d half-edges end at its site, all of them paired, just one is never left out.
 fn reaches(halfedges: &[u32], t: u32, d: usize) -> bool
     requires { ⌜ length (now halfedges) % 3 ≡ 0 ⌝ }
-    ensures { λ r. ⌜ (r ≡ true → d ≤ length (wholeOf (now (halfedges .entry)) t)) ⌝ }
+    ensures { λ r. ⌜ (r ≡ true → d ≤ length (wholeOf (now (halfedges .entry)) t) + spare (now (halfedges .entry)) t) ⌝ }
 {
     let mut e = wide(t);
     if halfedges.len() <= e {
@@ -108,7 +108,16 @@ fn reaches(halfedges: &[u32], t: u32, d: usize) -> bool
     if halfedges.len() < d {
         return false;
     }
-    let mut n: usize = 1;
+    if halfedges[e] == EMPTY {
+        if d < 2 {
+            return true;
+        }
+        e = wide(mesh::turn(halfedges, t, e));
+        if halfedges.len() <= e {
+            return false;
+        }
+    }
+    let mut n: usize = 2;
     while n < d {
         e = wide(mesh::turn(halfedges, t, e));
         if halfedges.len() <= e {
@@ -119,7 +128,7 @@ fn reaches(halfedges: &[u32], t: u32, d: usize) -> bool
     true
 }
 
-// Takes the entries apart. Answers whether from each of them as many half-edges are reached as it says.
+// Takes the entries apart. Answers whether from each of them as many half-edges are reached as it says, or one less from a paired one.
 fn unpack(halfedges: &[u32], work: &mut [u32]) -> bool
     requires { ⌜ length (now halfedges) % 3 ≡ 0 ⌝ }
     ensures { λ r. ⌜ (r ≡ true → Unpacks (now (halfedges .entry)) (now (work .entry)) (now (work .exit)) (length (now (work .entry)))) ⌝ }
@@ -143,7 +152,7 @@ fn unpack(halfedges: &[u32], work: &mut [u32]) -> bool
 // Whether rule 10 holds, with the leftmost table left in the work slice; no says nothing.
 pub fn whole_fans(triangles: &[u32], halfedges: &[u32], work: &mut [u32]) -> bool
     requires { ⌜ (length (now triangles) % 3 ≡ 0) × (length (now halfedges) ≡ length (now triangles))
-        × ((k : ℕ) → k < length (now triangles) → getD (now triangles) k 0 < length (now work)) ⌝ }
+        × ((k : ℕ) → k < length (now triangles) → getD (now triangles) k 0 < length (now work)) × Paired (now triangles) (now halfedges) × EndsApart (now triangles) ⌝ }
     ensures { λ r. ⌜ (r ≡ true → LongWalks (now (triangles .entry)) (now (halfedges .entry)) (length (now (work .entry))) (now (work .exit))) ⌝ }
 {
     if PLACES as usize <= triangles.len() {

@@ -3,7 +3,6 @@ use borrow.Author.Needs.{needs}
 use mathlib.Core.Path.{_≡_}
 use Prim.Native.Nat.{_+_, _*_, _-_, _≤_}
 use native.Mathlib.Omega.{arith}
-use lib.ListN.{length}
 use Rattle.mesh_check.specs.border.Marks.{Unmarking}
 use Rattle.mesh_check.specs.border.laws.Loops.{unmarking-start, unmarking-done}
 use Rattle.mesh_check.proofs.border.unmark.Statement.{statement}

@@ -3,7 +3,7 @@ use borrow.Author.Needs.{needs}
 use borrow.Author.Tests.{not-false}
 use mathlib.Core.Path.{_≡_, refl, _∙_, sym, subst}
 use mathlib.Core.Bool.{false≢true}
-use Prim.Native.Nat.{_-_, _+_, _*_, _/_, _≤_, _<_}
+use Prim.Native.Nat.{_-_, _+_, _*_, _/_, _≤_}
 use native.Mathlib.Omega.{arith}
 use lib.ListN.{length}
 use Rattle.mesh_check.specs.degrees.Packed.{Lowests}

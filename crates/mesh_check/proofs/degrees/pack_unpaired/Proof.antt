@@ -1,7 +1,7 @@
 -- The loop keeps `Leftmosts` of the unpaired half-edges below triangle t.
 use borrow.Author.Needs.{needs}
 use mathlib.Core.Path.{_≡_, refl, _∙_, subst}
-use Prim.Native.Nat.{_+_, _*_, _/_, _-_, _≤_}
+use Prim.Native.Nat.{_+_, _*_, _-_, _≤_}
 use native.Mathlib.Omega.{arith}
 use lib.ListN.{length}
 use Rattle.mesh_check.specs.degrees.Packed.{Leftmosts}

@@ -1,10 +1,12 @@
 -- The three half-edges of a triangle: which is next to each, and that what holds of the three of each triangle holds of all.
-use mathlib.Core.Path.{_≡_}
-use mathlib.Core.Logic.{⊎-elim}
+use mathlib.Core.Path.{_≡_, sym, ap, _∙_}
+use mathlib.Core.List.{List}
+use mathlib.Core.Logic.{⊎-elim, _≢_}
 use Prim.Native.Nat.{ℕ, _+_, _*_, _/_, _%_, _<_}
 use native.Mathlib.Omega.{arith}
+use lib.ListN.{length}
 use Rattle.base.specs.common.laws.Decide.{eq-or-ne}
-use Rattle.mesh.specs.Mesh.{nextOf}
+use Rattle.mesh.specs.Mesh.{nextOf, startOf, endOf, AllSound}
 use Rattle.mesh.specs.laws.Next.{next-sum}
 
 module _ (t : ℕ) where
@@ -27,3 +29,13 @@ by-threes P n threes all e l =
     (λ k. let q : e ≡ 3 * (e / 3) + 2 = omega arith in rw q (g .2))
     (eq-or-ne (e % 3) 1))
     (eq-or-ne (e % 3) 0)
+
+-- no half-edge of sound triangles ends where it starts
+pub sound-ends : (tri : List ℕ) (sites : ℕ) → length tri % 3 ≡ 0 → AllSound tri sites → (e : ℕ) → e < length tri → startOf tri e ≢ endOf tri e
+sound-ends tri sites threes sound =
+    by-threes (λ e. startOf tri e ≢ endOf tri e) (length tri) threes (λ t l.
+    let s = sound t l in (
+      λ z. s .ab (z ∙ ap (startOf tri) (sym (first-next t))),
+      λ z. s .bc (z ∙ ap (startOf tri) (sym (second-next t))),
+      λ z. s .ca (z ∙ ap (startOf tri) (sym (third-next t))),
+    ))
