@@ -65,7 +65,8 @@ fn pack_open(triangles: &[u32], halfedges: &[u32], work: &mut [u32], e: usize, k
         × (getD (now triangles) k 0 < length (now work)) × Leftmosts (now triangles) (now halfedges) e (now work) ⌝ }
     ensures { λ _. ⌜ Leftmosts (now (triangles .entry)) (now (halfedges .entry)) (e + 1) (now (work .exit)) ⌝ }
 {
-    if halfedges[e] == EMPTY {
+    let p = halfedges[e];
+    if p == EMPTY {
         let s = wide(triangles[k]);
         work[s] = work[s] / PLACES * PLACES + e as u32;
     }
