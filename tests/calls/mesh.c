@@ -285,6 +285,24 @@ static void named(void)
     pair_up();
     must("a closed part that shares one site", 10);
 
+    /* closed fans at site 0: one of two triangles alone, beside another of two, beside one of three, and beside an open one of two */
+    static const uint32_t pillow[] = {0, 1, 2, 0, 2, 1, 3, 4, 5}, last_three[] = {3, 4, 5};
+    MESH(6, pillow, pillow, last_three);
+    pair_up();
+    must("a closed fan of two triangles", 0);
+    static const uint32_t pillows[] = {0, 1, 2, 0, 2, 1, 0, 3, 4, 0, 4, 3, 5, 6, 7}, beside[] = {5, 6, 7};
+    MESH(8, pillows, pillows, beside);
+    pair_up();
+    must("two closed fans of two triangles at one site", 10);
+    static const uint32_t amid[] = {0, 4, 5, 0, 5, 4, 0, 1, 2, 0, 2, 3, 0, 3, 1}, around_it[] = {1, 2, 3};
+    MESH(6, amid, amid, around_it);
+    pair_up();
+    must("a closed fan of two triangles, then one of three, at one site", 10);
+    static const uint32_t hanging[] = {0, 1, 2, 0, 2, 3, 0, 4, 5, 0, 5, 4};
+    MESH(6, hanging, hanging, square_hull);
+    pair_up();
+    must("an open fan of two triangles and a closed one at one site", 10);
+
     static const uint32_t one[] = {0, 1, 2}, turning[] = {1, 2, 1};
     MESH(3, one, turning, first_three);
     must("one triangle, pairs 1 2 1", 8);

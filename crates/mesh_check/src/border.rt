@@ -1,14 +1,14 @@
 // Rule 9: the hull names distinct sites, each has an unpaired half-edge to the next, and there is no unpaired half-edge besides.
 use base::numbers::EMPTY;
 ghost use mathlib.Core.Path.{_≡_};
-ghost use Prim.Native.Nat.{ℕ, _%_, _<_, _≤_};
+ghost use Prim.Native.Nat.{ℕ, _+_, _*_, _/_, _%_, _<_, _≤_};
 ghost use lib.ListN.{length, getD};
 ghost use Rattle.base.specs.numbers.Numbers.{EMPTY};
 ghost use Rattle.base.specs.common.Decide.{Says, First};
 ghost use Rattle.mesh.specs.Mesh.{startOf};
 ghost use Rattle.mesh.specs.Hull.{FreshAt};
 ghost use Rattle.mesh_check.specs.border.Answer.{HullAnswer, MarksLeft};
-ghost use Rattle.mesh_check.specs.border.Marks.{marksTo, leadsOf, unmarkAt, leftTo, TakesAt, GoneAt, lowestOf, hullFaultOf};
+ghost use Rattle.mesh_check.specs.border.Marks.{marksTo, leadsOf, unmarkAt, leftTo, TakesAt, Unmarks, GoneAt, lowestOf, hullFaultOf};
 use mesh::MeshFault;
 
 // Whether m is a place, and site b stands at the place after it.
@@ -83,6 +83,40 @@ fn lowest(old: usize, e: usize, sound: bool) -> usize
     old
 }
 
+// A turn at half-edge e, with the lowest offender before it. Answers the lowest with it.
+fn unmark_edge(
+    triangles: &[u32],
+    halfedges: &[u32],
+    hull: &[u32],
+    work: &mut [u32],
+    e: usize,
+    stray: usize,
+) -> usize
+    requires { ⌜ (length (now triangles) % 3 ≡ 0) × (length (now halfedges) ≡ length (now triangles)) × (e < length (now triangles)) × (startOf (now triangles) e < length (now work)) ⌝ }
+    ensures { λ r. ⌜ Unmarks (now (triangles .entry)) (now (halfedges .entry)) (now (hull .entry)) (now (work .entry)) e stray (now (work .exit)) (e + 1) r ⌝ }
+{
+    let sound = unmark_one(triangles, halfedges, hull, work, e);
+    lowest(stray, e, sound)
+}
+
+// The same of the three half-edges of triangle t.
+fn unmark_edges(
+    triangles: &[u32],
+    halfedges: &[u32],
+    hull: &[u32],
+    work: &mut [u32],
+    t: usize,
+    stray: usize,
+) -> usize
+    requires { ⌜ (length (now triangles) % 3 ≡ 0) × (length (now halfedges) ≡ length (now triangles)) × (t < length (now triangles) / 3)
+        × ((k : ℕ) → k < length (now triangles) → getD (now triangles) k 0 < length (now work)) ⌝ }
+    ensures { λ r. ⌜ Unmarks (now (triangles .entry)) (now (halfedges .entry)) (now (hull .entry)) (now (work .entry)) (3 * t) stray (now (work .exit)) (3 * t + 3) r ⌝ }
+{
+    let first = unmark_edge(triangles, halfedges, hull, work, 3 * t, stray);
+    let second = unmark_edge(triangles, halfedges, hull, work, 3 * t + 1, first);
+    unmark_edge(triangles, halfedges, hull, work, 3 * t + 2, second)
+}
+
 // Takes the mark off each site that has an unpaired half-edge to the next site of the hull. Answers the lowest unpaired half-edge that took
 // no mark off, or the number of half-edges.
 fn unmark(triangles: &[u32], halfedges: &[u32], hull: &[u32], work: &mut [u32]) -> usize
@@ -93,11 +127,11 @@ fn unmark(triangles: &[u32], halfedges: &[u32], hull: &[u32], work: &mut [u32]) 
         (leftTo (now (triangles .entry)) (now (halfedges .entry)) (now (hull .entry)) (now (work .entry)) e) e) (length (now (triangles .entry))) r ⌝ }
 {
     let mut stray = triangles.len();
-    let mut e: usize = 0;
-    while e < triangles.len() {
-        let sound = unmark_one(triangles, halfedges, hull, work, e);
-        stray = lowest(stray, e, sound);
-        e += 1;
+    let count = triangles.len() / 3;
+    let mut t = 0;
+    while t < count {
+        stray = unmark_edges(triangles, halfedges, hull, work, t, stray);
+        t += 1;
     }
     stray
 }

@@ -7,7 +7,7 @@ ghost use lib.Dec.{eqb};
 ghost use lib.ListN.{length, getD};
 ghost use Rattle.base.specs.common.Decide.{First};
 ghost use Rattle.base.specs.numbers.Numbers.{EMPTY};
-ghost use Rattle.mesh.specs.Mesh.{leftmostOf, tableTo, FanAt, Paired};
+ghost use Rattle.mesh.specs.Mesh.{leftmostOf, tableTo, FanAt, Paired, AllSound};
 ghost use Rattle.mesh_check.specs.fan.Answer.{FanAnswer};
 ghost use Rattle.mesh_check.specs.fan.Counts.{totalTo, lessOf, owedTo, WalkLengths, CountedDown};
 
@@ -99,7 +99,7 @@ fn first_broken(triangles: &[u32], halfedges: &[u32], sites: usize, work: &mut [
 // holds, all are added up: a fan is broken, or a site has more half-edges than can be packed.
 pub fn check_fan(triangles: &[u32], halfedges: &[u32], sites: usize, work: &mut [u32]) -> usize
     requires { ⌜ (length (now halfedges) ≡ length (now triangles)) × Paired (now triangles) (now halfedges) × (sites ≤ length (now work))
-        × ((k : ℕ) → k < length (now triangles) → getD (now triangles) k 0 < sites) ⌝ }
+        × ((k : ℕ) → k < length (now triangles) → getD (now triangles) k 0 < sites) × AllSound (now triangles) sites ⌝ }
     ensures { λ r. ⌜ FanAnswer (now (triangles .entry)) (now (halfedges .entry)) sites (now (work .entry)) (now (work .exit)) r ⌝ }
 {
     if crate::degrees::whole_fans(triangles, halfedges, work) {

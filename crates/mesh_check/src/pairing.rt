@@ -5,8 +5,8 @@ ghost use mathlib.Core.Bool.{true};
 ghost use Prim.Native.Nat.{_/_, _%_, _<_};
 ghost use lib.ListN.{length};
 ghost use Rattle.base.specs.common.Decide.{Says, First};
-ghost use Rattle.mesh.specs.Mesh.{Sound, SoundAt, Mates, PairedAt, AllPaired};
-ghost use Rattle.mesh_check.specs.pairing.Half.{HalfPairedAt};
+ghost use Rattle.mesh.specs.Mesh.{endOf, Sound, SoundAt, Mates, PairedAt, AllPaired};
+ghost use Rattle.mesh_check.specs.pairing.Half.{HalfPairedAt, HalvesPairedAt};
 
 // Three different sites below n.
 fn sound(n: usize, a: u32, b: u32, c: u32) -> bool
@@ -92,9 +92,9 @@ fn paired(triangles: &[u32], halfedges: &[u32], e: usize) -> bool
     mates(triangles, halfedges, e, p)
 }
 
-// Whether half-edge e is unpaired, or its pair names it back and starts where it ends.
-fn half_paired(triangles: &[u32], halfedges: &[u32], e: usize) -> bool
-    requires { ⌜ (length (now triangles) % 3 ≡ 0) × (length (now halfedges) ≡ length (now triangles)) × (e < length (now triangles)) ⌝ }
+// Whether half-edge e, which ends at site `there`, is unpaired, or its pair names it back and starts there.
+fn half_paired(triangles: &[u32], halfedges: &[u32], e: usize, there: u32) -> bool
+    requires { ⌜ (length (now halfedges) ≡ length (now triangles)) × (e < length (now triangles)) × (there ≡ endOf (now triangles) e) ⌝ }
     ensures { λ r. ⌜ (r ≡ true → HalfPairedAt (now (triangles .entry)) (now (halfedges .entry)) e) ⌝ }
 {
     let p = halfedges[e];
@@ -108,8 +108,24 @@ fn half_paired(triangles: &[u32], halfedges: &[u32], e: usize) -> bool
     if base::numbers::wide(halfedges[k]) != e {
         return false;
     }
-    let there = mesh::end_site(triangles, e);
     triangles[k] == there
+}
+
+// Whether the three half-edges of triangle t are, each of its sites read once.
+fn three_half_paired(triangles: &[u32], halfedges: &[u32], t: usize) -> bool
+    requires { ⌜ (length (now halfedges) ≡ length (now triangles)) × (t < length (now triangles) / 3) ⌝ }
+    ensures { λ r. ⌜ (r ≡ true → HalvesPairedAt (now (triangles .entry)) (now (halfedges .entry)) t) ⌝ }
+{
+    let a = triangles[3 * t];
+    let b = triangles[3 * t + 1];
+    let c = triangles[3 * t + 2];
+    if !half_paired(triangles, halfedges, 3 * t, b) {
+        return false;
+    }
+    if !half_paired(triangles, halfedges, 3 * t + 1, c) {
+        return false;
+    }
+    half_paired(triangles, halfedges, 3 * t + 2, a)
 }
 
 // Whether all half-edges are paired as they must be, with one look at the pair of each; no says nothing.
@@ -120,12 +136,13 @@ fn all_half_paired(triangles: &[u32], halfedges: &[u32]) -> bool
     if EMPTY as usize <= triangles.len() {
         return false;
     }
-    let mut e = 0;
-    while e < triangles.len() {
-        if !half_paired(triangles, halfedges, e) {
+    let count = triangles.len() / 3;
+    let mut t = 0;
+    while t < count {
+        if !three_half_paired(triangles, halfedges, t) {
             return false;
         }
-        e += 1;
+        t += 1;
     }
     true
 }

@@ -3,36 +3,14 @@
 use mathlib.Core.Path.{_≡_, refl, sym, ap, _∙_}
 use mathlib.Core.List.{List}
 use mathlib.Core.Logic.{⊎-elim, _≢_}
-use Prim.Native.Nat.{ℕ, _+_, _*_, _/_, _%_, _<_}
-use native.Mathlib.Omega.{arith}
-use lib.ListN.{length, getD}
-use Rattle.base.specs.common.laws.Decide.{eq-or-ne}
-use Rattle.mesh.specs.Mesh.{nextOf, startOf, endOf, pairOf, AllSound, Mates}
+use Prim.Native.Nat.{ℕ, _<_}
+use lib.ListN.{length}
+use Rattle.mesh.specs.Mesh.{nextOf, startOf, endOf, pairOf, Mates}
 use Rattle.mesh.specs.Accepted.{Topology}
-use Rattle.mesh.specs.laws.Next.{next-sum, next-thrice}
+use Rattle.mesh.specs.laws.Next.{next-thrice}
 use Rattle.mesh.specs.laws.Facts.{paired, next-in}
+use Rattle.mesh_check.specs.pairing.laws.Threes.{sound-ends}
 use Rattle.flipping.specs.Flip.{beforeOf, Flippable}
-
--- the sites of a triangle differ: no half-edge ends where it starts
-pub sound-ends : (tri : List ℕ) (sites : ℕ) → length tri % 3 ≡ 0 → AllSound tri sites → (e : ℕ) → e < length tri → startOf tri e ≢ endOf tri e
-sound-ends tri sites threes all e l h =
-    let s = all (e / 3) (omega arith) in
-    ⊎-elim
-    (λ z.
-    let q : e ≡ 3 * (e / 3) = omega arith in
-    let n : nextOf e ≡ 3 * (e / 3) + 1 = omega (arith, next-sum e) in
-    s .ab (ap (λ k. getD tri k 0) (sym q) ∙ h ∙ ap (λ k. getD tri k 0) n))
-    (λ w. ⊎-elim
-    (λ z.
-    let q : e ≡ 3 * (e / 3) + 1 = omega arith in
-    let n : nextOf e ≡ 3 * (e / 3) + 2 = omega (arith, next-sum e) in
-    s .bc (ap (λ k. getD tri k 0) (sym q) ∙ h ∙ ap (λ k. getD tri k 0) n))
-    (λ z.
-    let q : e ≡ 3 * (e / 3) + 2 = omega arith in
-    let n : nextOf e ≡ 3 * (e / 3) = omega (arith, next-sum e) in
-    s .ca (ap (λ k. getD tri k 0) (sym q) ∙ h ∙ ap (λ k. getD tri k 0) n))
-    (eq-or-ne (e % 3) 1))
-    (eq-or-ne (e % 3) 0)
 
 pub record Quad (tri he : List ℕ) (a b r l : ℕ) : Type 0 where
   pub a-in : a < length he

@@ -12,7 +12,8 @@ use Rattle.mesh.specs.Mesh.{nextOf, startOf, endOf, AllSound}
 use Rattle.mesh.specs.laws.Next.{next-sum, next-inj}
 use Rattle.mesh.specs.laws.Facts.{sound-site}
 use Rattle.flipping.specs.Flip.{turnedSites}
-use Rattle.flipping.specs.laws.Quad.{Quad, sound-ends}
+use Rattle.mesh_check.specs.pairing.laws.Threes.{sound-ends}
+use Rattle.flipping.specs.laws.Quad.{Quad}
 
 pub turned-length : (tri : List ℕ) (a b r l : ℕ) → length (turnedSites tri a b r l) ≡ length tri
 turned-length tri a b r l = length-set (set tri a (startOf tri l)) b (startOf tri r) ∙ length-set tri a (startOf tri l)

@@ -3,7 +3,7 @@
 use mathlib.Core.Path.{_≡_}
 use mathlib.Core.List.{List}
 use mathlib.Core.Bool.{Bool, false}
-use Prim.Native.Nat.{ℕ, zero, suc, _<_}
+use Prim.Native.Nat.{ℕ, zero, suc, _≤_, _<_}
 use lib.Dec.{ltb, eqb}
 use lib.ListN.{length, getD, set, replicate}
 use Rattle.base.specs.common.Pick.{pick}
@@ -38,6 +38,19 @@ leftTo tri he hull t (suc e) = unmarkAt tri he hull (leftTo tri he hull t e) e
 -- half-edge e is paired, or takes a mark off
 abbrev pub TakesAt : List ℕ → List ℕ → List ℕ → List ℕ → ℕ → Type 0
 TakesAt tri he hull t e = pairOf he e ≡ EMPTY → Leads hull (getD t (startOf tri e) 0) (endOf tri e)
+
+-- the marks t after the half-edges below e are left in work, and stray is the first offender below e, or the number of half-edges
+pub record Unmarking (tri he hull t work : List ℕ) (e stray : ℕ) : Type 0 where
+  pub room : e ≤ length tri
+  pub long : length work ≡ length t
+  pub left : work ≡ leftTo tri he hull t e
+  pub within : stray ≤ length tri
+  pub before : (k : ℕ) → k < e → k < stray → TakesAt tri he hull (leftTo tri he hull t k) k
+  pub at : stray < length tri → (stray < e) × (TakesAt tri he hull (leftTo tri he hull t stray) stray → ⊥)
+
+-- from half-edge d to half-edge e the marks and the first offender are brought along, whichever marks were first
+abbrev pub Unmarks : List ℕ → List ℕ → List ℕ → List ℕ → ℕ → ℕ → List ℕ → ℕ → ℕ → Type 0
+Unmarks tri he hull old d was new e stray = (t : List ℕ) → Unmarking tri he hull t old d was → Unmarking tri he hull t new e stray
 
 -- the site at place i has lost its mark
 abbrev pub GoneAt : List ℕ → List ℕ → ℕ → Type 0

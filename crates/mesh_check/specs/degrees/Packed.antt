@@ -4,12 +4,16 @@ use mathlib.Core.Path.{_≡_}
 use mathlib.Core.Logic.{_≢_}
 use mathlib.Core.List.{List}
 use Prim.Native.Nat.{ℕ, _+_, _-_, _/_, _%_, _≤_, _<_}
-use lib.Dec.{ltb}
+use lib.Dec.{ltb, eqb}
 use lib.ListN.{length, getD}
 use Rattle.base.specs.common.Pick.{pick}
 use Rattle.base.specs.numbers.Numbers.{EMPTY}
-use Rattle.mesh.specs.Mesh.{endOf, pairOf, tableTo, wholeOf}
+use Rattle.mesh.specs.Mesh.{startOf, endOf, pairOf, tableTo, wholeOf}
 use Rattle.mesh_check.specs.fan.Counts.{endsTo}
+
+-- no half-edge ends where it starts
+abbrev pub EndsApart : List ℕ → Type 0
+EndsApart tri = (e : ℕ) → e < length tri → startOf tri e ≢ endOf tri e
 
 -- the entry m of site s holds the number of half-edges from n on that end there, and the lowest of them
 pub record Lowest (tri : List ℕ) (n s m : ℕ) : Type 0 where
@@ -38,10 +42,14 @@ Leftmosts tri he n work = (s : ℕ) → s < length work → Lefts tri he n s (ge
 unfoldable pub unpacked : ℕ → ℕ
 unpacked m = pick (ltb (m / 524288) 8191) (λ _. m % 524288) (λ _. m)
 
--- the entries below n are unpacked, and the walk from each has as many entries as it says at least; the others are the old ones
+-- how many entries a walk from t may lack: one where t is paired
+unfoldable pub spare : List ℕ → ℕ → ℕ
+spare he t = pick (eqb (pairOf he t) EMPTY) (λ _. 0) (λ _. 1)
+
+-- the entries below n are unpacked, and the walk from each has as many entries as it says at least, but for what it may lack; the others are the old ones
 pub record Unpacks (he old new : List ℕ) (n : ℕ) : Type 0 where
   pub long : length new ≡ length old
-  pub done : (s : ℕ) → s < n → (getD new s 0 ≡ unpacked (getD old s 0)) × (8191 - getD old s 0 / 524288 ≤ length (wholeOf he (getD new s 0)))
+  pub done : (s : ℕ) → s < n → (getD new s 0 ≡ unpacked (getD old s 0)) × (8191 - getD old s 0 / 524288 ≤ length (wholeOf he (getD new s 0)) + spare he (getD new s 0))
   pub rest : (s : ℕ) → n ≤ s → getD new s 0 ≡ getD old s 0
 
 -- the leftmost table of w entries, the walk from each as long at least as half-edges end at the site

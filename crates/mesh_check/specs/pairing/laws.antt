@@ -1,2 +1,3 @@
 -- Laws that only proofs use.
 pub mod Halves
+pub mod Threes

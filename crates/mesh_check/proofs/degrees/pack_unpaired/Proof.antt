@@ -1,70 +1,45 @@
--- The loop keeps `Leftmosts` of the unpaired half-edges below e.
+-- The loop keeps `Leftmosts` of the unpaired half-edges below triangle t.
 use borrow.Author.Needs.{needs}
-use mathlib.Core.Path.{_≡_, refl, sym, ap, _∙_, subst}
-use mathlib.Core.Logic.{⊎-elim}
-use Prim.Native.Nat.{_+_, _-_, _≤_, _<_}
+use mathlib.Core.Path.{_≡_, refl, _∙_, subst}
+use Prim.Native.Nat.{_+_, _*_, _-_, _≤_}
 use native.Mathlib.Omega.{arith}
-use lib.ListN.{length, length-set}
-use Rattle.mesh.specs.Mesh.{nextOf}
-use Rattle.mesh.specs.laws.Next.{next-lt}
+use lib.ListN.{length}
 use Rattle.mesh_check.specs.degrees.Packed.{Leftmosts}
-use Rattle.mesh_check.specs.degrees.laws.Packing.{lefts-start, lefts-pass, lefts-turn}
+use Rattle.mesh_check.specs.degrees.laws.Packing.{lefts-start}
 use Rattle.mesh_check.proofs.degrees.pack_unpaired.Statement.{statement}
 use Rattle.mesh_check.proofs.degrees.pack_unpaired.Tie as tie
 
 abbrev Inv-loop : tie.InvT-loop
-Inv-loop triangles halfedges work₀ e₀ work e = (e ≤ length triangles) × (length work ≡ length work₀) × Leftmosts triangles halfedges e work
+Inv-loop triangles halfedges work₀ count t₀ work t = (t ≤ count) × (length work ≡ length work₀) × Leftmosts triangles halfedges (3 * t) work
 
 abbrev μ-loop : tie.MeasureT-loop
-μ-loop triangles halfedges work₀ e₀ work e = length triangles - e
+μ-loop triangles halfedges work₀ count t₀ work t = count - t
 
 loop-holds : tie.Need-loop-holds Inv-loop μ-loop
 loop-holds c =
     let s = c .before .before .before in
     (search needs, refl, lefts-start (s .args .triangles .now) (s .args .halfedges .now) (s .args .work .now) (s .pre .4))
 
-slice-read-work : tie.Need-slice-read-work Inv-loop μ-loop
-slice-read-work c =
-    let s = c .before .before .before .before .before .before .before .before .before .before in
-    omega (arith, s .pre .3 (nextOf (c .before .before .before .before .before .before .loop .e)) (next-lt (s .pre .0) (omega arith)))
-
-mul-work-2 : tie.Need-mul-work-2 Inv-loop μ-loop
-mul-work-2 c = omega (arith, c .slice-known2 .given (c .before .wide .result))
-
-add-work : tie.Need-add-work Inv-loop μ-loop
-add-work c =
-    let s = c .before .before .before .before .before .before .before .before .before .before in
-    omega (arith, s .pre .2, c .before .before .before .before .before .before .loop .inv .2 _ (slice-read-work c) .within)
-
-slice-write-work : tie.Need-slice-write-work Inv-loop μ-loop
-slice-write-work c = slice-read-work c
+pack-opens-requires : tie.Need-pack-opens-requires Inv-loop μ-loop
+pack-opens-requires c κs =
+    let l = c .before .before .loop in
+    let s = c .before .before .before .before .before .before in
+    (s .pre .1, s .pre .2, λ k h. omega (arith, s .pre .3 k h, l .inv .1), omega arith, l .inv .2)
 
 loop-again : tie.Need-loop-again Inv-loop μ-loop
 loop-again c =
-    let l = c .before .before .before .loop in
-    let s = c .before .before .before .before .before .before .before in
-    let tri = s .args .triangles .now in
-    let he = s .args .halfedges .now in (
-      omega arith,
-      ⊎-elim (λ w. ap length (w .4) ∙ length-set (l .work) _ _ ∙ l .inv .1) (λ w. ap length (w .1) ∙ l .inv .1) (c .if1 .came),
-      ⊎-elim
-          (λ w.
-          let i : w .2 .result < length (l .work) = omega (arith, s .pre .3 (nextOf (l .e)) (next-lt (s .pre .0) (omega arith)), w .2 .ensures, w .1 .ensures, l .inv .1) in
-          subst (λ k. Leftmosts tri he (l .e + 1) k) (sym (w .4))
-          (lefts-turn tri he (l .work) (l .e) (w .2 .result) _ (s .pre .2) (omega arith) (l .inv .2) (w .0 .taken) (w .2 .ensures ∙ w .1 .ensures) refl i))
-          (λ w. subst (λ k. Leftmosts tri he (l .e + 1) k) (sym (w .1)) (lefts-pass tri he (l .work) (l .e) (l .inv .2) (w .0 .left)))
-          (c .if1 .came),
-    )
+    let p = c .before .before .pack-opens in
+    let l = c .before .before .before .before .before .loop in
+    let q : 3 * l .t + 3 ≡ 3 * (l .t + 1) = omega arith in
+    (omega arith, p .kept .1 .1 .0 ∙ l .inv .1, rw q at (p .ensures))
 
 returns : tie.Need-returns Inv-loop μ-loop
 returns c =
     let s = c .before .before .before .before .before in
-    let h : c .before .loop .e ≡ length (s .args .triangles .now) = omega arith in
+    let h : 3 * c .before .loop .t ≡ length (s .args .triangles .now) = omega (arith, s .pre .0) in
     subst (λ k. Leftmosts (s .args .triangles .now) (s .args .halfedges .now) k (c .before .loop .work)) h (c .before .loop .inv .2)
 
 pub pack-unpaired-spec : {M : Type 1} → statement M
 pack-unpaired-spec =
     tie.close
-    (tie.spec Inv-loop μ-loop loop-holds (λ c. search needs) (λ c. search needs) (λ c κs. search needs) (λ c κs. search needs)
-    (λ c. search needs) slice-read-work mul-work-2 (λ c. search needs) add-work (λ c. search needs) slice-write-work (λ c. search needs)
-    (λ c. search needs) loop-again (λ c. search needs) returns)
+    (tie.spec Inv-loop μ-loop loop-holds pack-opens-requires (λ c. search needs) (λ c. search needs) loop-again (λ c. search needs) returns)

@@ -20,7 +20,7 @@ returns-3 c =
     let p = c .before .before .before .before .before .before .before .before .before .before .before .pack-lowest in
     let u = c .before .before .before .before .before .before .pack-unpaired in
     λ h. long-walks (s .args .triangles .now) (s .args .halfedges .now) _ _ _ (s .pre .0) (omega arith) (s .pre .2) (u .kept .1 .1 .0 ∙ p .kept .1 .0) (u .ensures)
-    (c .before .before .unpack .ensures h)
+    (c .before .before .unpack .ensures h) (s .pre .1) (s .pre .3) (s .pre .4)
 
 pub whole-fans-spec : {M : Type 1} → statement M
 whole-fans-spec =

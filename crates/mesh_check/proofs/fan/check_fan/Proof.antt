@@ -1,9 +1,11 @@
 -- Where the walks are as long as half-edges end at their sites, no fan is broken; else the sum of the lengths decides whether one is, and the lowest is searched for.
 use native.Mathlib.Nat.{lt-of-lt-of-le}
-use mathlib.Core.Path.{_∙_, ap}
+use mathlib.Core.Path.{_≡_, _∙_, ap}
+use Prim.Native.Nat.{_%_}
 use borrow.Author.Needs.{needs}
 use lib.ListN.{length}
 use Rattle.mesh.specs.Mesh.{tableTo}
+use Rattle.mesh_check.specs.pairing.laws.Threes.{sound-ends}
 use Rattle.mesh_check.specs.fan.laws.Loops.{fan-long, fan-whole, fan-broken}
 use Rattle.mesh_check.proofs.fan.check_fan.Statement.{statement}
 use Rattle.mesh_check.proofs.fan.check_fan.Tie as tie
@@ -11,7 +13,8 @@ use Rattle.mesh_check.proofs.fan.check_fan.Tie as tie
 whole-fans-requires : tie.Need-whole-fans-requires
 whole-fans-requires c κs =
     let s = c .before .before .before .before in
-    (rw (← s .pre .0) (s .pre .1 .threes), s .pre .0, λ k l. lt-of-lt-of-le (s .pre .3 k l) (s .pre .2))
+    let threes : length (s .args .triangles .now) % 3 ≡ 0 = rw (← s .pre .0) (s .pre .1 .threes) in
+    (threes, s .pre .0, λ k l. lt-of-lt-of-le (s .pre .3 k l) (s .pre .2), s .pre .1, sound-ends (s .args .triangles .now) (s .args .sites) threes (s .pre .4))
 
 returns : tie.Need-returns
 returns c =

@@ -16,14 +16,16 @@ cast-k c = omega (arith, c .before .shared-slice-known3 .given (c .before .befor
 
 returns-4 : tie.Need-returns-4
 returns-4 c =
+    let at-if3 = c .before in
+    let s = at-if3 .before .before .before .before .before .before .before .before in
     λ h. inr (record {
       inside = omega arith;
-      back = sym (c .before .before .before .wide .ensures) ∙ c .before .before .if3 .left;
-      from = eqb-true _ _ h ∙ c .before .end-site .ensures;
+      back = sym (at-if3 .before .wide .ensures) ∙ at-if3 .if3 .left;
+      from = eqb-true _ _ h ∙ s .pre .2;
     })
 
 pub half-paired-spec : {M : Type 1} → statement M
 half-paired-spec =
     tie.close
     (tie.spec (λ c. search needs) (λ c. search needs) returns cast-k (λ c h. absurd (false≢true h)) (λ c. search needs) (λ c. search needs) (λ c κs. search needs)
-    (λ c h. absurd (false≢true h)) (λ c κs. search needs) (λ c. search needs) (λ c. search needs) returns-4)
+    (λ c h. absurd (false≢true h)) (λ c. search needs) (λ c. search needs) returns-4)

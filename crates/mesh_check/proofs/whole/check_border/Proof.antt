@@ -21,6 +21,7 @@ check-fan-requires c κs =
       paired _ _ (s .pre .0) (s .pre .1) (s .pre .2) (s .pre .6),
       rw (at-check-hull .check-hull .kept .1 .1 .1 .1 .0) (s .pre .4),
       named _ _ _ (s .pre .0) (s .pre .5) (s .pre .6),
+      s .pre .5,
     )
 
 returns-2 : tie.Need-returns-2

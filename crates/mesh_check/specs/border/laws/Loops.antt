@@ -15,7 +15,7 @@ use Rattle.base.specs.numbers.Numbers.{EMPTY}
 use Rattle.mesh.specs.Hull.{FreshAt}
 use Rattle.mesh.specs.declared.MeshFault.{MeshFault}
 use Rattle.mesh_check.specs.border.Answer.{HullAnswer, MarksLeft}
-use Rattle.mesh_check.specs.border.Marks.{marksTo, unmarkAt, leftTo, TakesAt, GoneAt, lowestOf, hullFaultOf}
+use Rattle.mesh_check.specs.border.Marks.{marksTo, unmarkAt, leftTo, TakesAt, Unmarking, GoneAt, lowestOf, hullFaultOf}
 use Rattle.mesh_check.specs.border.laws.Marks.{MarkAt, marks-at}
 use Rattle.mesh_check.specs.border.laws.Unmarked.{Unmarked, answer-place, answer-edge, answer-right}
 
@@ -58,15 +58,7 @@ module _ (hull : List ℕ) (sites : ℕ) (old work : List ℕ) (i h : ℕ) (g : 
 pub all-marked : (hull : List ℕ) (sites : ℕ) (old work : List ℕ) (i : ℕ) → Marking hull sites old work i → length hull ≤ i → First (FreshAt hull sites) (length hull) i
 all-marked hull sites old work i g l = record { within = g .room; before = g .fresh; at = λ h. absurd (omega arith) }
 
--- the loop that takes marks off: stray is the first offender below e, or the number of half-edges
-pub record Unmarking (tri he hull t work : List ℕ) (e stray : ℕ) : Type 0 where
-  pub room : e ≤ length tri
-  pub long : length work ≡ length t
-  pub left : work ≡ leftTo tri he hull t e
-  pub within : stray ≤ length tri
-  pub before : (k : ℕ) → k < e → k < stray → TakesAt tri he hull (leftTo tri he hull t k) k
-  pub at : stray < length tri → (stray < e) × (TakesAt tri he hull (leftTo tri he hull t stray) stray → ⊥)
-
+-- the loop that takes marks off
 pub unmarking-start : (tri he hull t : List ℕ) → Unmarking tri he hull t t 0 (length tri)
 unfolding leftTo
 unmarking-start tri he hull t = record { room = omega arith; long = refl; left = refl; within = omega arith; before = λ k h. absurd (omega arith); at = λ h. absurd (omega arith) }

@@ -1,5 +1,5 @@
 -- The loops that pack the table and unpack it: what each keeps from turn to turn, and that the table is the leftmost one.
-use mathlib.Core.Path.{_≡_, refl, sym, _∙_}
+use mathlib.Core.Path.{_≡_, refl, sym, ap, _∙_}
 use mathlib.Core.List.{List}
 use mathlib.Core.Logic.{⊎-elim, _≢_}
 use Prim.Native.Nat.{ℕ, suc, _+_, _-_, _*_, _/_, _%_, _≤_, _<_}
@@ -8,24 +8,25 @@ use native.Mathlib.Numerals.{add-one}
 use native.Mathlib.Omega.{arith}
 use lib.ListN.{length, getD, set, replicate, length-set, length-replicate, getD-replicate}
 use lib.Seq.{getD-set-same, getD-set-other, ext-getD}
-use borrow.Author.Tests.{lt-ltb, le-ltb}
+use borrow.Author.Tests.{eq-eqb, ne-eqb, lt-ltb, le-ltb}
 use Rattle.base.specs.common.laws.Decide.{lt-or-ge, eq-or-ne}
 use Rattle.base.specs.common.Count.{same}
 use Rattle.base.specs.common.laws.Count.{same-cases}
 use Rattle.base.specs.numbers.Numbers.{EMPTY}
-use Rattle.mesh.specs.Mesh.{nextOf, endOf, pairOf, tableTo, wholeOf, Leftmost}
+use Rattle.mesh.specs.Mesh.{nextOf, endOf, pairOf, tableTo, turnOf, wholeOf, Leftmost, Paired}
 use Rattle.mesh.specs.laws.Next.{next-lt}
 use Rattle.mesh.specs.laws.Table.{table-length, table-leftmost}
-use Rattle.mesh.specs.laws.WalkSteps.{WalkCounting, walk-go}
+use Rattle.mesh.specs.laws.WalkSteps.{WalkCounting, walk-go, counting-start, counting-step}
 use Rattle.mesh_check.specs.fan.Counts.{endsTo}
-use Rattle.mesh_check.specs.degrees.Packed.{Lowest, Lowests, Lefts, Leftmosts, unpacked, Unpacks, LongWalks}
+use Rattle.mesh_check.specs.fan.laws.Owed.{never-one}
+use Rattle.mesh_check.specs.degrees.Packed.{EndsApart, Lowest, Lowests, Lefts, Leftmosts, unpacked, spare, Unpacks, LongWalks}
 
 -- ---- the lowest, from above
 
-pub lowest-start : (tri : List ℕ) (w : ℕ) → Lowests tri (length tri) (replicate w EMPTY)
-lowest-start tri w s l =
+pub lowest-start : (tri : List ℕ) (w n : ℕ) → n ≡ length tri → Lowests tri n (replicate w EMPTY)
+lowest-start tri w n q s l =
     let l′ : s < w = rw (length-replicate w EMPTY) at l in
-    rw (getD-replicate w s EMPTY 0 l′) (record {
+    rw (q, getD-replicate w s EMPTY 0 l′) (record {
       within = omega arith;
       counted = omega arith;
       none = λ _. (refl, λ e h k. absurd (omega arith));
@@ -72,9 +73,9 @@ module _ (tri work : List ℕ) (n v : ℕ) (few : length tri < 524288) (ln : n <
       (eq-or-ne (endOf tri n) s)
 
 -- the same at the site s₀ that half-edge n ends at
-pub lowest-turn : (tri work : List ℕ) (e n s₀ v : ℕ) → length tri < 524288 → e ≡ n + 1 → n < length tri → Lowests tri e work → s₀ ≡ endOf tri n
+pub lowest-turn : (tri work : List ℕ) (n s₀ v : ℕ) → length tri < 524288 → n < length tri → Lowests tri (n + 1) work → s₀ ≡ endOf tri n
     → v ≡ (getD work s₀ 0 / 524288 - 1) * 524288 + n → 0 < getD work s₀ 0 / 524288 → s₀ < length work → Lowests tri n (set work s₀ v)
-lowest-turn tri work e n s₀ v few p ln g q h r i = rw q (lowest-step tri work n v few ln (rw p at g) (rw q at h) (rw q at r) (rw q at i))
+lowest-turn tri work n s₀ v few ln g q h r i = rw q (lowest-step tri work n v few ln g (rw q at h) (rw q at r) (rw q at i))
 
 -- ---- then the unpaired
 
@@ -156,7 +157,7 @@ module _ (he old new : List ℕ) (n : ℕ) (g : Unpacks he old new n) where
       }
 
   pub unpacks-step : n < length new → (t d : ℕ) → getD new n 0 / 524288 < 8191 → t ≡ getD new n 0 % 524288 → d ≡ 8191 - getD new n 0 / 524288
-      → d ≤ length (wholeOf he t) → Unpacks he old (set new n t) (n + 1)
+      → d ≤ length (wholeOf he t) + spare he t → Unpacks he old (set new n t) (n + 1)
   unfolding unpacked
   unpacks-step i t d h p q r =
       let w = g .rest n (omega arith) in
@@ -169,6 +170,33 @@ module _ (he old new : List ℕ) (n : ℕ) (g : Unpacks he old new n) where
             (eq-or-ne s n);
         rest = λ s l. getD-set-other new n s t 0 (omega arith) ∙ g .rest s (omega arith);
       }
+
+-- ---- what a walk may lack
+
+pub spare-open : (he : List ℕ) (t : ℕ) → pairOf he t ≡ EMPTY → spare he t ≡ 0
+unfolding spare
+spare-open he t u = rw (eq-eqb (pairOf he t) EMPTY u)
+
+pub spare-paired : (he : List ℕ) (t : ℕ) → pairOf he t ≢ EMPTY → spare he t ≡ 1
+unfolding spare
+spare-paired he t u = rw (ne-eqb (pairOf he t) EMPTY u)
+
+pub spare-one : (he : List ℕ) (t : ℕ) → spare he t ≤ 1
+spare-one he t = ⊎-elim (λ u. omega (arith, spare-open he t u)) (λ u. omega (arith, spare-paired he t u)) (eq-or-ne (pairOf he t) EMPTY)
+
+-- it does not lack: the leftmost half-edge of site s is paired only where all are
+none-lacking : (tri he : List ℕ) → length he ≡ length tri → Paired tri he → EndsApart tri → (s t : ℕ) → Leftmost tri he (length tri) s t
+    → endsTo tri s (length tri) ≤ length (wholeOf he t) + spare he t → endsTo tri s (length tri) ≤ length (wholeOf he t)
+none-lacking tri he long ok apart s t o h =
+    let k : endsTo tri s (length he) ≡ endsTo tri s (length tri) = ap (endsTo tri s) long in
+    ⊎-elim
+    (λ u. omega (arith, h, spare-open he t u))
+    (λ u. omega (
+      arith,
+      never-one tri he ok t s (λ l. o .some (omega (arith, ok .small)) .1) (λ e l. apart e (rw (← long) l)) (λ e l q z. u (o .last e (rw (← long) l) q z .1))
+          (omega (arith, h, spare-paired he t u)),
+    ))
+    (eq-or-ne (pairOf he t) EMPTY)
 
 -- ---- the table
 
@@ -206,16 +234,34 @@ module _ (tri he : List ℕ) (few : length tri < 524288) (s m : ℕ) (o : Lefts 
       }))
       (lt-or-ge (m / 524288) 8191)
 
-pub long-walks : (tri he : List ℕ) (w : ℕ) (old new : List ℕ) → length tri % 3 ≡ 0 → length tri < 524288 → ((k : ℕ) → k < length tri → getD tri k 0 < w)
-    → length old ≡ w → Leftmosts tri he (length tri) old → Unpacks he old new (length old) → LongWalks tri he w new
-long-walks tri he w old new threes few named q g r = record {
-  table =
-      ext-getD 0 new (tableTo tri he w (length tri)) (r .long ∙ q ∙ sym (table-length tri he w (length tri))) (λ s l.
-      let l′ : s < length old = rw (r .long) at l in
-      r .done s l′ .0 ∙ one tri he (length tri) s _ _ (omega arith) (lefts-leftmost tri he few s _ (g s l′))
-      (table-leftmost tri he w (length tri) s (omega arith) (λ e h. named (nextOf e) (next-lt threes h)) (rw q at l′)));
-  reached = λ s l. let l′ : s < length old = rw q l in rw (← g s l′ .counted) (r .done s l′ .1);
-}
+module _ (tri he : List ℕ) (w : ℕ) (old new : List ℕ) (threes : length tri % 3 ≡ 0) (few : length tri < 524288) (named : (k : ℕ) → k < length tri → getD tri k 0 < w)
+    (q : length old ≡ w) (g : Leftmosts tri he (length tri) old) (r : Unpacks he old new (length old)) where
+  new-left : (s : ℕ) → s < length old → Leftmost tri he (length tri) s (getD new s 0)
+  new-left s l = rw (r .done s l .0) (lefts-leftmost tri he few s _ (g s l))
+
+  pub long-walks : length he ≡ length tri → Paired tri he → EndsApart tri → LongWalks tri he w new
+  long-walks long ok apart = record {
+    table =
+        ext-getD 0 new (tableTo tri he w (length tri)) (r .long ∙ q ∙ sym (table-length tri he w (length tri))) (λ s l.
+        let l′ : s < length old = rw (r .long) at l in
+        one tri he (length tri) s _ _ (omega arith) (new-left s l′)
+        (table-leftmost tri he w (length tri) s (omega arith) (λ e h. named (nextOf e) (next-lt threes h)) (rw q at l′)));
+    reached = λ s l. let l′ : s < length old = rw q l in none-lacking tri he long ok apart s (getD new s 0) (new-left s l′) (rw (← g s l′ .counted) (r .done s l′ .1));
+  }
+
+-- ---- the walk
+
+-- it is counted from t where that is paired, as if one entry were before it; else from the next
+module _ (he : List ℕ) (t e x : ℕ) (q : e ≡ t) where
+  pub counting-first : e < length he → pairOf he e ≡ EMPTY → x ≡ turnOf he t e → WalkCounting he t x (2 - 1 - spare he t)
+  counting-first l u r =
+      let k : 2 - 1 - spare he t ≡ 1 = omega (arith, spare-open he t (rw q at u)) in
+      rw k (counting-step he t e 0 x (rw q (counting-start he t)) (omega arith) l r)
+
+  pub counting-there : pairOf he e ≢ EMPTY → x ≡ e → WalkCounting he t x (2 - 1 - spare he t)
+  counting-there u r =
+      let k : 2 - 1 - spare he t ≡ 0 = omega (arith, spare-paired he t (rw q at u)) in
+      rw (k, r, q) (counting-start he t)
 
 -- a walk that has come to a half-edge of the mesh has one entry more than before it
 pub counted-on : (he : List ℕ) (t e n : ℕ) → WalkCounting he t e n → n < length he → e < length he → n + 1 ≤ length (wholeOf he t)
