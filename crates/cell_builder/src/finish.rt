@@ -94,11 +94,11 @@ fn finish(
     p: Progress,
     owners: [u32; 4],
 ) -> CellsAnswer
-    requires { ⌜ Finishable (now halfedges) (now table) (now marks) sites centers (p .count) (length (now vertices)) (now indexes) (now offsets) ⌝ }
+    requires { ⌜ Finishable (now halfedges) (now table) (now marks) sites centers (p .count) (length (now vertices)) (now indexes) (now offsets) owners ⌝ }
     ensures { λ r. ⌜ FinishedCells (now (halfedges .entry)) (now (table .entry)) (now (marks .entry)) sites centers p owners
         (now (vertices .entry)) (now (indexes .entry)) (now (offsets .entry)) r (now (vertices .exit)) (now (indexes .exit)) (now (offsets .exit)) ⌝ }
 {
-    let used = gather(halfedges, table, marks, indexes, offsets, sites);
+    let used = gather(halfedges, table, marks, indexes, offsets, sites, owners);
     clear_floats_from(vertices, 2 * p.count);
     let fault = p.fault;
     let left = p.owners;
@@ -125,7 +125,7 @@ pub fn settle(
     p: Progress,
     owners: [u32; 4],
 ) -> CellsAnswer
-    requires { ⌜ (p .fault .number ≡ 0 → Finishable (now halfedges) (now table) (now marks) sites centers (p .count) (length (now vertices)) (now indexes) (now offsets)) ⌝ }
+    requires { ⌜ (p .fault .number ≡ 0 → Finishable (now halfedges) (now table) (now marks) sites centers (p .count) (length (now vertices)) (now indexes) (now offsets) owners) ⌝ }
     ensures { λ r. ⌜ SettledCells (now (halfedges .entry)) (now (table .entry)) (now (marks .entry)) sites centers p owners
         (now (vertices .entry)) (now (indexes .entry)) (now (offsets .entry)) r (now (vertices .exit)) (now (indexes .exit)) (now (offsets .exit)) ⌝ }
 {

@@ -4,14 +4,19 @@ use base::numbers::wide;
 use cell_memory::layout::cell_end;
 use cell_memory::layout::move_down;
 use cell_memory::outputs::clear_after;
+use mesh::next_halfedge;
 ghost use mathlib.Core.Path.{_≡_};
+ghost use mathlib.Core.Bool.{false};
 ghost use mathlib.Core.List.{List};
-ghost use Prim.Native.Nat.{ℕ, _+_, _-_, _≤_};
+ghost use mathlib.Core.Logic.{_≢_};
+ghost use Prim.Native.Nat.{ℕ, _+_, _-_, _≤_, _<_};
 ghost use lib.ListN.{length};
+ghost use Rattle.base.specs.common.Count.{occ};
+ghost use Rattle.mesh.specs.Mesh.{nextOf, around};
 ghost use Rattle.cell_memory.specs.layout.Regions.{joined, Compacted};
 ghost use Rattle.cell_memory.specs.outputs.Outputs.{Gathered};
 ghost use Rattle.cell_memory.specs.staging.Staging.{Staged};
-ghost use Rattle.cell_builder.specs.placed.Placed.{backOf, InPair, BackCell, CellReady, CellOf, Placeable, CellsReady};
+ghost use Rattle.cell_builder.specs.placed.Placed.{backOf, InPair, BackCell, RoundTrip, CellReady, CellOf, Placeable, CellsReady};
 
 // One step back round a site: the half-edge before the pair of e.
 fn step_back(halfedges: &[u32], e: usize) -> usize
@@ -25,8 +30,15 @@ fn step_back(halfedges: &[u32], e: usize) -> usize
     p - 1
 }
 
+// One step on round a site: the pair of the half-edge after e.
+fn step_on(halfedges: &[u32], e: usize) -> usize
+    requires { ⌜ (nextOf e < length (now halfedges)) × (length (now halfedges) ≤ 393216) ⌝ }
+    ensures { λ r. ⌜ r ≡ around (now (halfedges .entry)) e ⌝ }
+{
+    wide(halfedges[next_halfedge(e)])
+}
+
 // The triangles round the site where half-edge t ends, a step back each, from `at` on and not past `end`. Answers the place after them.
-// A walk ends where its room does, but for a corner's owner: so the next one need not wait for it.
 fn walk_back(halfedges: &[u32], indexes: &mut [u32], at: usize, end: usize, t: usize) -> usize
     requires { ⌜ (at ≤ end) × (end ≤ length (now indexes)) × (length (now halfedges) ≤ 393216) × ((c : List ℕ) × BackCell (now halfedges) t (end - at) c) ⌝ }
     ensures { λ r. ⌜ ((c : List ℕ) → BackCell (now (halfedges .entry)) t (end - at) c → Staged c at (now (indexes .entry)) (now (indexes .exit)) r) ⌝ }
@@ -45,6 +57,48 @@ fn walk_back(halfedges: &[u32], indexes: &mut [u32], at: usize, end: usize, t: u
     n
 }
 
+// The same where they are as many as there are places: from both ends at once, forwards from the last place down. Two chains of reads are half as long as one; in the middle the
+// two may write one triangle twice.
+fn walk_round(halfedges: &[u32], indexes: &mut [u32], at: usize, end: usize, t: usize)
+    requires { ⌜ RoundTrip (now halfedges) t (end - at) × (at ≤ end) × (end ≤ length (now indexes)) × (length (now halfedges) ≤ 393216)
+        × ((c : List ℕ) × BackCell (now halfedges) t (end - at) c) ⌝ }
+    ensures { λ _. ⌜ ((c : List ℕ) → BackCell (now (halfedges .entry)) t (end - at) c → Staged c at (now (indexes .entry)) (now (indexes .exit)) end) ⌝ }
+{
+    indexes[at] = (t / 3) as u32;
+    let mut n = at + 1;
+    let mut m = end;
+    let mut e = t;
+    let mut f = t;
+    while n < m {
+        e = step_back(halfedges, e);
+        indexes[n] = (e / 3) as u32;
+        f = step_on(halfedges, f);
+        m -= 1;
+        indexes[m] = (f / 3) as u32;
+        n += 1;
+    }
+}
+
+// The one or the other: only the site that owns three corners or more has more room than steps.
+fn walk_cell(
+    halfedges: &[u32],
+    indexes: &mut [u32],
+    at: usize,
+    end: usize,
+    t: usize,
+    crowded: bool,
+) -> usize
+    requires { ⌜ (crowded ≡ false → RoundTrip (now halfedges) t (end - at)) × (at ≤ end) × (end ≤ length (now indexes)) × (length (now halfedges) ≤ 393216)
+        × ((c : List ℕ) × BackCell (now halfedges) t (end - at) c) ⌝ }
+    ensures { λ r. ⌜ ((c : List ℕ) → BackCell (now (halfedges .entry)) t (end - at) c → Staged c at (now (indexes .entry)) (now (indexes .exit)) r) ⌝ }
+{
+    if crowded {
+        return walk_back(halfedges, indexes, at, end, t);
+    }
+    walk_round(halfedges, indexes, at, end, t);
+    end
+}
+
 // The cell of site s, whose region is from..to, put at `at`. Answers the place after it.
 fn place_cell(
     halfedges: &[u32],
@@ -55,18 +109,29 @@ fn place_cell(
     from: usize,
     to: usize,
     s: usize,
+    crowd: usize,
 ) -> usize
-    requires { ⌜ CellReady (now halfedges) (now table) (now marks) (now indexes) at from to s ⌝ }
+    requires { ⌜ CellReady (now halfedges) (now table) (now marks) (now indexes) at from to s crowd ⌝ }
     ensures { λ r. ⌜ (at ≤ r) × (r ≤ at + (to - from)) × ((c : List ℕ) → CellOf (now (halfedges .entry)) (now (table .entry)) (now (marks .entry)) (now (indexes .entry)) from to s c
         → Staged c at (now (indexes .entry)) (now (indexes .exit)) r) ⌝ }
 {
     if early(halfedges, table, marks, s) {
         let t = wide(table[s]);
-        return walk_back(halfedges, indexes, at, at + (to - from) / 3, t);
+        return walk_cell(halfedges, indexes, at, at + (to - from) / 3, t, s == crowd);
     }
     let end = cell_end(indexes, from, to);
     move_down(indexes, at, from, end);
     at + (end - from)
+}
+
+// The site that owns three corners or more, if there is one.
+fn crowd_of(owners: [u32; 4]) -> u32
+    ensures { λ r. ⌜ ((s : ℕ) → s ≢ r → occ s owners ≤ 2) ⌝ }
+{
+    if owners[0] == owners[1] {
+        return owners[0];
+    }
+    owners[2]
 }
 
 // All cells; the starts of their regions become their offsets. Answers how many entries there are.
@@ -77,18 +142,20 @@ fn place_cells(
     indexes: &mut [u32],
     offsets: &mut [u32],
     sites: usize,
+    owners: [u32; 4],
 ) -> usize
-    requires { ⌜ Placeable (now halfedges) (now table) (now marks) (now indexes) (now offsets) sites ⌝ }
+    requires { ⌜ Placeable (now halfedges) (now table) (now marks) (now indexes) (now offsets) sites owners ⌝ }
     ensures { λ r. ⌜ (r ≤ length (now (indexes .entry))) × ((cells : List (List ℕ)) → length cells ≡ sites
         → CellsReady (now (halfedges .entry)) (now (table .entry)) (now (marks .entry)) (now (indexes .entry)) (now (offsets .entry)) cells
         → Compacted (now (indexes .entry)) (now (offsets .entry)) cells (now (indexes .exit)) (now (offsets .exit)) r) ⌝ }
 {
+    let crowd = wide(crowd_of(owners));
     let mut w: usize = 0;
     let mut from = wide(offsets[0]);
     let mut s: usize = 0;
     while s < sites {
         let to = wide(offsets[s + 1]);
-        let end = place_cell(halfedges, table, marks, indexes, w, from, to, s);
+        let end = place_cell(halfedges, table, marks, indexes, w, from, to, s, crowd);
         offsets[s] = w as u32;
         w = end;
         from = to;
@@ -106,13 +173,14 @@ pub fn gather(
     indexes: &mut [u32],
     offsets: &mut [u32],
     sites: usize,
+    owners: [u32; 4],
 ) -> usize
-    requires { ⌜ Placeable (now halfedges) (now table) (now marks) (now indexes) (now offsets) sites ⌝ }
+    requires { ⌜ Placeable (now halfedges) (now table) (now marks) (now indexes) (now offsets) sites owners ⌝ }
     ensures { λ r. ⌜ (r ≤ length (now (indexes .entry))) × ((cells : List (List ℕ)) → length cells ≡ sites
         → CellsReady (now (halfedges .entry)) (now (table .entry)) (now (marks .entry)) (now (indexes .entry)) (now (offsets .entry)) cells
         → (r ≡ length (joined cells)) × Gathered cells (now (indexes .entry)) (now (offsets .entry)) (now (indexes .exit)) (now (offsets .exit))) ⌝ }
 {
-    let used = place_cells(halfedges, table, marks, indexes, offsets, sites);
+    let used = place_cells(halfedges, table, marks, indexes, offsets, sites, owners);
     clear_after(indexes, offsets, used, sites);
     used
 }

@@ -33,8 +33,8 @@ pub record RefusedCells (e : Fault) (v : List Float) (ix off : List ℕ) (r : Ce
   pub offsets : off₁ ≡ padded (length off) EMPTY []
 
 -- cells of n sites that can be put in their places, corners after the circumcenters, and a count of vertices that the slice of so many numbers holds
-pub record Finishable (he table m : List ℕ) (n centers count numbers : ℕ) (ix off : List ℕ) : Type 0 where
-  pub placeable : Placeable he table m ix off n
+pub record Finishable (he table m : List ℕ) (n centers count numbers : ℕ) (ix off owners : List ℕ) : Type 0 where
+  pub placeable : Placeable he table m ix off n owners
   pub corners : centers + 4 ≤ EMPTY
   pub room : 2 * count ≤ numbers
 

@@ -53,7 +53,7 @@ answer-same p q r s t = rw (p, q, r, s, t)
 -- cells that were made can be put in their places
 module _ (m : Mesh) (table : List ℕ) (b : BoundingBox) (owners marks : List ℕ) (p : Progress) (v₂ : List Float) (ix₂ off₂ : List ℕ) where
   abbrev Fit : Type 0
-  Fit = Finishable (m .halfedges) table marks (siteCount (m .sites)) (length (m .triangles) / 3) (p .count) (length v₂) ix₂ off₂
+  Fit = Finishable (m .halfedges) table marks (siteCount (m .sites)) (length (m .triangles) / 3) (p .count) (length v₂) ix₂ off₂ owners
 
   amid-finishable : (x : Extensions) (s : CellState) → LateAmid (planOf m table b off₂) (ground (siteCount (m .sites)) owners x) marks s p v₂ ix₂ → Fit
   amid-finishable x s k = record { placeable = late-placeable k; corners = omega (arith, k .amid .on .few-entries); room = k .amid .holds .room }

@@ -16,7 +16,7 @@ use Rattle.cell_builder.specs.tried.laws.OneTry.{last-start}
 use Rattle.cell_builder.specs.turned.Loops.{LateAmid}
 use Rattle.cell_builder.specs.turned.laws.Onward.{onward}
 use Rattle.cell_builder.specs.placed.Placed.{Placeable, CellsReady}
-use Rattle.cell_builder.specs.placed.laws.BackWalk.{early-back}
+use Rattle.cell_builder.specs.placed.laws.BackWalk.{early-back, early-round}
 
 module _ {tri he hull table : List ℕ} {f : Frame} {off : List ℕ} {g : Ground} {m : List ℕ} {c : CellState} {p : Progress} {v : List Float} {ix : List ℕ}
     (k : LateAmid (plan tri he hull table f off) g m c p v ix) where
@@ -26,7 +26,7 @@ module _ {tri he hull table : List ℕ} {f : Frame} {off : List ℕ} {g : Ground
   held-width : length (map unmarked (k .held .cells)) ≡ g .sites
   held-width = length-map (k .held .cells) unmarked ∙ k .amid .held .width
 
-  pub late-placeable : Placeable he table m ix off (g .sites)
+  pub late-placeable : Placeable he table m ix off (g .sites) (g .found)
   late-placeable =
       let on = k .amid .on in
       record {
@@ -35,6 +35,7 @@ module _ {tri he hull table : List ℕ} {f : Frame} {off : List ℕ} {g : Ground
         sites = omega (arith, ap length (on .table-is) ∙ tab-length (on .mesh));
         few = omega (arith, on .few-entries, on .mesh .same);
         walks = λ s l x. (_, early-back (onward (k .amid)) s l x);
+        rounds = early-round (onward (k .amid));
       }
 
   pub late-placed : CellsReady he table m ix off (map unmarked (c .cells))

@@ -3,9 +3,10 @@ use mathlib.Core.Path.{ap}
 use mathlib.Core.Bool.{not}
 use native.Mathlib.Omega.{arith}
 use borrow.Author.Needs.{needs}
+use borrow.Author.Tests.{eqb-false}
 use Rattle.base.specs.common.laws.Decide.{refused, granted}
 use Rattle.cell_builder.specs.turned.Marks.{MadeLast}
-use Rattle.cell_builder.specs.placed.laws.Placing.{back-fits, back-at, late-placed}
+use Rattle.cell_builder.specs.placed.laws.Placing.{back-fits, back-at, round-at, late-placed}
 use Rattle.cell_builder.proofs.placed.place_cell.Statement.{statement}
 use Rattle.cell_builder.proofs.placed.place_cell.Tie as tie
 
@@ -23,12 +24,17 @@ Early w = w .before .before .before
 is-early : (w : tie.After-wide) → Site (Early w)
 is-early w = let a = Early w in granted {P = Site a} (a .early .result) (ap not (w .before .before .if1 .taken)) (a .early .ensures)
 
-walk-back-requires : tie.Need-walk-back-requires
-walk-back-requires c κs =
+walk-cell-requires : tie.Need-walk-cell-requires
+walk-cell-requires c κs =
     let w = c .before in
     let r = Entry (Early w) .pre in
-    let b = r .walk (is-early w) in
-    (omega arith, omega (arith, r .low, r .rise, r .within), r .few, (b .0, back-at _ _ _ _ _ _ (w .wide .ensures) (b .1)))
+    let b = r .walk (is-early w) in (
+      λ z. round-at _ _ _ _ _ (w .wide .ensures) (r .round (is-early w) (eqb-false _ _ z)),
+      omega arith,
+      omega (arith, r .low, r .rise, r .within),
+      r .few,
+      (b .0, back-at _ _ _ _ _ _ (w .wide .ensures) (b .1)),
+    )
 
 returns : tie.Need-returns
 returns c =
@@ -37,8 +43,8 @@ returns c =
     let r = Entry (Early w) .pre in
     let e = is-early w in
     let b = r .walk e in
-    let f = back-fits (b .1) (k .walk-back .ensures (b .0) (back-at _ _ _ _ _ _ (w .wide .ensures) (b .1))) in
-    (f .0, omega (arith, f .1), λ x h. k .walk-back .ensures x (back-at _ _ _ _ _ _ (w .wide .ensures) (h .early e)))
+    let f = back-fits (b .1) (k .walk-cell .ensures (b .0) (back-at _ _ _ _ _ _ (w .wide .ensures) (b .1))) in
+    (f .0, omega (arith, f .1), λ x h. k .walk-cell .ensures x (back-at _ _ _ _ _ _ (w .wide .ensures) (h .early e)))
 
 returns-2 : tie.Need-returns-2
 returns-2 c =
@@ -55,5 +61,5 @@ returns-2 c =
 pub place-cell-spec : {M : Type 1} → statement M
 place-cell-spec =
     tie.close
-    (tie.spec (λ c κs. search needs) (λ c. search needs) (λ c. search needs) (λ c κs. search needs) (λ c. search needs) (λ c. search needs) walk-back-requires
+    (tie.spec (λ c κs. search needs) (λ c. search needs) (λ c. search needs) (λ c κs. search needs) (λ c. search needs) (λ c. search needs) walk-cell-requires
     (λ c. search needs) returns (λ c κs. search needs) (λ c κs. search needs) (λ c. search needs) (λ c. search needs) (λ c. search needs) returns-2)

@@ -1,10 +1,12 @@
 -- `cell_builder::placed::place_cells` meets its contract: after s turns the first s cells stand together, what lies ahead is untouched, and the starts passed are offsets.
-use mathlib.Core.Path.{_≡_}
+use mathlib.Core.Path.{_≡_, sym, _∙_}
 use mathlib.Core.List.{List}
-use Prim.Native.Nat.{ℕ, _-_}
+use mathlib.Core.Logic.{_≢_}
+use Prim.Native.Nat.{ℕ, _-_, _≤_}
 use native.Mathlib.Omega.{arith}
 use lib.ListN.{length, length-set}
 use borrow.Author.Needs.{needs}
+use Rattle.base.specs.common.Count.{occ}
 use Rattle.cell_memory.specs.layout.laws.Compacted.{Compacting, Moved, compacting-start, moved-start, compacting-step, moved-end, compacting-below, compacting-within}
 use Rattle.cell_builder.specs.placed.Placed.{CellsReady}
 use Rattle.cell_builder.specs.placed.laws.Placing.{cell-ready, cell-placed}
@@ -12,23 +14,31 @@ use Rattle.cell_builder.proofs.placed.place_cells.Statement.{statement}
 use Rattle.cell_builder.proofs.placed.place_cells.Tie as tie
 
 abbrev Inv-loop : tie.InvT-loop
-Inv-loop halfedges table marks ix₀ off₀ sites w₀ from₀ s₀ ix off w from s =
+Inv-loop halfedges table marks ix₀ off₀ sites crowd w₀ from₀ s₀ ix off w from s =
     Compacting ix₀ off₀ ix off sites w from s × ((cells : List (List ℕ)) → length cells ≡ sites → CellsReady halfedges table marks ix₀ off₀ cells → Moved ix₀ off₀ ix off cells w from s)
 
 abbrev μ-loop : tie.MeasureT-loop
-μ-loop halfedges table marks ix₀ off₀ sites w₀ from₀ s₀ ix off w from s = sites - s
+μ-loop halfedges table marks ix₀ off₀ sites crowd w₀ from₀ s₀ ix off w from s = sites - s
+
+-- the crowd found, and the start
+abbrev Found : tie.At-loop Inv-loop μ-loop → tie.After-wide Inv-loop μ-loop
+Found l = l .before .before .before
 
 abbrev Entry : tie.At-loop Inv-loop μ-loop → tie.Start Inv-loop μ-loop
-Entry l = l .before .before .before .before .before .before .before
+Entry l = Found l .before .before .before .before .before .before
+
+-- every site but the crowd's owns two corners at most
+few : (l : tie.At-loop Inv-loop μ-loop) (k : ℕ) → k ≢ Found l .wide .result → occ k (Entry l .args .owners) ≤ 2
+few l k n = Found l .before .crowd-of .ensures k (λ z. n (z ∙ sym (Found l .wide .ensures)))
 
 abbrev Loop : tie.After-place-cell Inv-loop μ-loop → tie.At-loop Inv-loop μ-loop
 Loop k = k .before .before .before .before .before
 
 slice-read-wide : tie.Need-slice-read-wide Inv-loop μ-loop
-slice-read-wide c = omega (arith, c .before .before .before .before .before .pre .rising .long)
+slice-read-wide c = omega (arith, c .before .before .before .before .before .before .before .pre .rising .long)
 
 loop-holds : tie.Need-loop-holds Inv-loop μ-loop
-loop-holds c = (compacting-start _ _ _ _ (c .wide .ensures), λ cells q r. moved-start _ _ _ _)
+loop-holds c = (compacting-start _ _ _ _ (c .wide2 .ensures), λ cells q r. moved-start _ _ _ _)
 
 add-wide : tie.Need-add-wide Inv-loop μ-loop
 add-wide c = omega (arith, c .before .loop .inv .0 .long-off, Entry (c .before) .pre .rising .long)
@@ -44,7 +54,7 @@ place-cell-requires c κs =
     let d = c .before in
     let t = d .before .before in
     let l = t .before in
-    cell-ready _ _ _ _ _ _ _ _ _ _ _ _ (l .loop .inv .0) (t .loop-test .taken) (Entry l .pre) (d .wide2 .ensures)
+    cell-ready _ _ _ _ _ _ _ _ _ _ _ _ (l .loop .inv .0) (t .loop-test .taken) _ (Entry l .pre) (d .wide3 .ensures) _ (few l)
 
 cast-offsets : tie.Need-cast-offsets Inv-loop μ-loop
 cast-offsets c =
@@ -68,8 +78,8 @@ loop-again c =
     let h = t .loop-test .taken in
     let p = Entry l .pre in
     let e = k .place-cell .ensures in (
-      compacting-step _ _ _ _ _ _ _ _ _ g h (p .rising) (d .wide2 .ensures) _ _ (e .0) (e .1) (x .indexes .given),
-      λ cells n r. cell-placed _ _ _ _ _ _ _ _ _ _ _ _ g h p (d .wide2 .ensures) _ _ (e .1) (e .2) cells n r (l .loop .inv .1 cells n r),
+      compacting-step _ _ _ _ _ _ _ _ _ g h (p .rising) (d .wide3 .ensures) _ _ (e .0) (e .1) (x .indexes .given),
+      λ cells n r. cell-placed _ _ _ _ _ _ _ _ _ _ _ _ g h _ p (d .wide3 .ensures) _ _ (e .1) (e .2) cells n r (l .loop .inv .1 cells n r),
     )
 
 cast-offsets-2 : tie.Need-cast-offsets-2 Inv-loop μ-loop
@@ -97,5 +107,6 @@ returns c =
 pub place-cells-spec : {M : Type 1} → statement M
 place-cells-spec =
     tie.close
-    (tie.spec Inv-loop μ-loop slice-read-wide (λ c κs. search needs) loop-holds add-wide mul-wide slice-read-wide-2 (λ c κs. search needs) place-cell-requires cast-offsets
-    mul-offsets slice-write-offsets (λ c. search needs) (λ c. omega arith) loop-again cast-offsets-2 mul-offsets-2 slice-write-offsets-2 same-length same-length-2 returns)
+    (tie.spec Inv-loop μ-loop (λ c κs. search needs) (λ c κs. search needs) slice-read-wide (λ c κs. search needs) loop-holds add-wide mul-wide slice-read-wide-2
+    (λ c κs. search needs) place-cell-requires cast-offsets mul-offsets slice-write-offsets (λ c. search needs) (λ c. omega arith) loop-again cast-offsets-2 mul-offsets-2
+    slice-write-offsets-2 same-length same-length-2 returns)

@@ -1,19 +1,18 @@
 -- The loop that puts all cells in their places: what stands ahead of it is as it was.
-use mathlib.Core.Path.{_≡_, refl, ap}
-use mathlib.Core.List.{List, [], _∷_, _++_}
-use Prim.Native.Nat.{ℕ, suc, _+_, _-_, _≤_, _<_}
+use mathlib.Core.Path.{_≡_, ap}
+use mathlib.Core.List.{List, [], _++_}
+use mathlib.Core.Logic.{_≢_}
+use Prim.Native.Nat.{ℕ, _+_, _-_, _≤_, _<_}
 use native.Mathlib.Omega.{arith}
 use lib.ListN.{length, getD, set, take, drop}
+use Rattle.base.specs.common.Count.{occ}
 use Rattle.cell_memory.specs.layout.Regions.{Region, Filled}
 use Rattle.cell_memory.specs.layout.laws.Compacted.{Compacting, Moved, to-is, region-within, region-end, region-moved, region-ahead, moved-step}
 use Rattle.cell_memory.specs.staging.Staging.{Staged}
-use Rattle.cell_builder.specs.placed.Placed.{backTriangles, BackCell, CellReady, CellOf, Placeable, CellsReady}
+use Rattle.cell_builder.specs.placed.Placed.{BackCell, RoundTrip, CellReady, CellOf, Placeable, CellsReady}
+use Rattle.cell_builder.specs.placed.laws.BothEnds.{walked-length}
 
 -- ---- one cell
-
-walked-length : (x : ℕ) (ys : List ℕ) → length (backTriangles x ys) ≡ length ys
-walked-length x [] = refl
-walked-length x (y ∷ ys) = ap suc (walked-length y ys)
 
 -- what is walked ends where its region has room
 pub back-fits : {he : List ℕ} {t n : ℕ} {c : List ℕ} {at : ℕ} {old new : List ℕ} {end : ℕ} → BackCell he t n c → Staged c at old new end → (at ≤ end) × (end ≤ at + n)
@@ -25,8 +24,13 @@ back-at he t u at n c q b =
     let z : at + n - at ≡ n = omega arith in
     rw (q, z) b
 
+pub round-at : (he : List ℕ) (t u at n : ℕ) → t ≡ u → RoundTrip he u n → RoundTrip he t (at + n - at)
+round-at he t u at n q b =
+    let z : at + n - at ≡ n = omega arith in
+    rw (q, z) b
+
 -- what is moved down
-pub late-placed : {he table m ix : List ℕ} {at from to s end : ℕ} → CellReady he table m ix at from to s → Filled ix from to end → (new : List ℕ)
+pub late-placed : {he table m ix : List ℕ} {at from to s crowd end : ℕ} → CellReady he table m ix at from to s crowd → Filled ix from to end → (new : List ℕ)
     → new ≡ take at ix ++ take (end - from) (drop from ix) ++ drop (at + (end - from)) ix → (c : List ℕ) → Region ix from to c → Staged c at ix new (at + (end - from))
 late-placed {ix = ix} {at = at} {from = from} {to = to} {end = end} r f new q c k = record {
   ended = omega (arith, region-end ix from to end c k f);
@@ -36,12 +40,12 @@ late-placed {ix = ix} {at = at} {from = from} {to = to} {end = end} r f new q c 
 -- ---- the loop
 
 module _ (he table m ix₀ off₀ ix off : List ℕ) (n w from s to : ℕ) (g : Compacting ix₀ off₀ ix off n w from s) (h : s < n)
-    (p : Placeable he table m ix₀ off₀ n) (t : to ≡ getD off (s + 1) 0) where
+    (owners : List ℕ) (p : Placeable he table m ix₀ off₀ n owners) (t : to ≡ getD off (s + 1) 0) where
   next : to ≡ getD off₀ (s + 1) 0
   next = to-is ix₀ off₀ ix off n w from s to g h (p .rising) t
 
-  pub cell-ready : CellReady he table m ix w from to s
-  cell-ready =
+  pub cell-ready : (crowd : ℕ) → ((k : ℕ) → k ≢ crowd → occ k owners ≤ 2) → CellReady he table m ix w from to s crowd
+  cell-ready crowd few =
       let r = region-within ix₀ off₀ ix off n w from s to g h (p .rising) t in
       record {
         site = omega (arith, p .sites);
@@ -50,6 +54,7 @@ module _ (he table m ix₀ off₀ ix off : List ℕ) (n w from s to : ℕ) (g : 
         rise = r .0;
         within = r .1;
         walk = rw (g .place, next) (p .walks s h);
+        round = λ x o. rw (g .place, next) (p .rounds s h x (few s o));
       }
 
   pub cell-placed : (e : ℕ) (new : List ℕ) → e ≤ w + (to - from) → ((c : List ℕ) → CellOf he table m ix from to s c → Staged c w ix new e)
