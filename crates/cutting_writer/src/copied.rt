@@ -17,7 +17,7 @@ ghost use Rattle.base.specs.numbers.Numbers.{EMPTY};
 ghost use Rattle.mesh.specs.Mesh.{nextOf};
 ghost use Rattle.cutting.specs.pen.Pen.{page};
 ghost use Rattle.cutting_writer.specs.turn.Turned.{turnedRound};
-ghost use Rattle.cutting_writer.specs.copied.Copied.{laidTo, Steppable, CornerAt, JoinedTo, BothStepped, Met, Begun, Round, Lapped, CopiedInto};
+ghost use Rattle.cutting_writer.specs.copied.Copied.{laidTo, Steppable, LapCorner, JoinedTo, BothStepped, EndsMeet, Begun, LapLaid, Lapped, CopiedInto};
 
 // Whether a walk came back as expected, wholly in the box and with no place twice in a row; and the first and the last of its places.
 pub struct Lap {
@@ -34,7 +34,7 @@ pub struct Step {
 }
 
 // The same from both ends: e was come to by a step on, f by a step back.
-pub struct Ends {
+pub struct TwoEnds {
     pub going: bool,
     pub e: u32,
     pub last: Point,
@@ -73,7 +73,7 @@ fn joined(halfedges: &[u32], e: u32, last: Point, f: u32, next: Point) -> bool
 // One step of the walk from t, from e, whose place is `last`.
 fn step_on(b: BoundingBox, halfedges: &[u32], centers: &[f64], t: u32, e: u32, last: Point) -> Step
     requires { ⌜ Steppable (now halfedges) (now centers) × (e < length (now halfedges)) ⌝ }
-    ensures { λ r. ⌜ (r .going ≡ true → CornerAt b (now (halfedges .entry)) (now (centers .entry)) t (r .e) (r .place)
+    ensures { λ r. ⌜ (r .going ≡ true → LapCorner b (now (halfedges .entry)) (now (centers .entry)) t (r .e) (r .place)
         × JoinedTo (now (halfedges .entry)) e last (r .e) (r .place)) ⌝ }
 {
     let none = Point { x: 0.0, y: 0.0 };
@@ -113,12 +113,12 @@ fn step_both(
     last: Point,
     f: u32,
     next: Point,
-) -> Ends
+) -> TwoEnds
     requires { ⌜ Steppable (now halfedges) (now centers) × (e < length (now halfedges)) × (f < length (now halfedges)) ⌝ }
     ensures { λ r. ⌜ (r .going ≡ true → BothStepped b (now (halfedges .entry)) (now (centers .entry)) t e last f next (r .e) (r .last) (r .f) (r .next)) ⌝ }
 {
     let none = Point { x: 0.0, y: 0.0 };
-    let no = Ends {
+    let no = TwoEnds {
         going: false,
         e: 0,
         last: none,
@@ -151,7 +151,7 @@ fn step_both(
     if same_place(last, x) | same_place(y, next) {
         return no;
     }
-    Ends {
+    TwoEnds {
         going: true,
         e: a,
         last: x,
@@ -175,7 +175,7 @@ fn meet(
     stage: &mut [u32],
 ) -> bool
     requires { ⌜ Steppable (now halfedges) (now centers) × (e < length (now halfedges)) × (i < length (now halfedges)) × (i < length (now stage)) ⌝ }
-    ensures { λ r. ⌜ (r ≡ true → Met b (now (halfedges .entry)) (now (centers .entry)) t i j e last f next (now (stage .entry)) (now (stage .exit))) ⌝ }
+    ensures { λ r. ⌜ (r ≡ true → EndsMeet b (now (halfedges .entry)) (now (centers .entry)) t i j e last f next (now (stage .entry)) (now (stage .exit))) ⌝ }
 {
     if i == j {
         return joined(halfedges, e, last, f, next);
@@ -200,7 +200,7 @@ fn stage_both(
     stage: &mut [u32],
 ) -> bool
     requires { ⌜ Begun b (now halfedges) (now centers) t n first (now stage) ⌝ }
-    ensures { λ r. ⌜ (r ≡ true → Round b (now (halfedges .entry)) (now (centers .entry)) t n first (now (stage .exit))) ⌝ }
+    ensures { λ r. ⌜ (r ≡ true → LapLaid b (now (halfedges .entry)) (now (centers .entry)) t n first (now (stage .exit))) ⌝ }
 {
     stage[0] = t / 3;
     let mut last = first;

@@ -35,7 +35,7 @@ pub record Steppable (he : List ℕ) (centers : List Float) : Type 0 where
 
 module _ (b : BoundingBox) (he : List ℕ) (centers : List Float) (t : ℕ) where
   -- half-edge a of the walk from t, and its place
-  pub record CornerAt (a : ℕ) (p : Point) : Type 0 where
+  pub record LapCorner (a : ℕ) (p : Point) : Type 0 where
     pub other : a ≡ t → ⊥
     pub there : a < length he
     pub here : p ≡ pointAt centers (a / 3)
@@ -49,24 +49,24 @@ pub record JoinedTo (he : List ℕ) (e : ℕ) (p : Point) (f : ℕ) (q : Point) 
 module _ (b : BoundingBox) (he : List ℕ) (centers : List Float) (t : ℕ) where
   -- on from e to a, and back from f to g
   pub record BothStepped (e : ℕ) (last : Point) (f : ℕ) (next : Point) (a : ℕ) (p : Point) (g : ℕ) (q : Point) : Type 0 where
-    pub on : CornerAt b he centers t a p
+    pub on : LapCorner b he centers t a p
     pub from : JoinedTo he e last a p
-    pub back : CornerAt b he centers t g q
+    pub back : LapCorner b he centers t g q
     pub to : JoinedTo he g q f next
 
   -- one triangle between two ends, its entry in the stage
-  pub record Between (i e : ℕ) (last : Point) (f : ℕ) (next : Point) (old new : List ℕ) : Type 0 where
+  pub record OneBetween (i e : ℕ) (last : Point) (f : ℕ) (next : Point) (old new : List ℕ) : Type 0 where
     pub a : ℕ
     pub p : Point
     pub laid : new ≡ set old i (a / 3)
-    pub on : CornerAt b he centers t a p
+    pub on : LapCorner b he centers t a p
     pub from : JoinedTo he e last a p
     pub to : JoinedTo he a p f next
 
   -- two ends that meet, with none between them or one
-  pub record Met (i j e : ℕ) (last : Point) (f : ℕ) (next : Point) (old new : List ℕ) : Type 0 where
+  pub record EndsMeet (i j e : ℕ) (last : Point) (f : ℕ) (next : Point) (old new : List ℕ) : Type 0 where
     pub none : i ≡ j → (new ≡ old) × JoinedTo he e last f next
-    pub one : (i ≡ j → ⊥) → Between i e last f next old new
+    pub one : (i ≡ j → ⊥) → OneBetween i e last f next old new
 
 -- the walk from t lies inside, and of its n circumcenters the pen takes the numbers in the stage as they are
 pub record Lapped (b : BoundingBox) (he : List ℕ) (centers : List Float) (t n : ℕ) (stage : List ℕ) (first last : Point) : Type 0 where
@@ -89,7 +89,7 @@ module _ (b : BoundingBox) (he : List ℕ) (centers : List Float) (t n : ℕ) (f
     pub inside : insideOf b first ≡ true
 
   -- it lies in the stage and is a lap, where its last place is not its first
-  pub record Round : Type 0 where
+  pub record LapLaid : Type 0 where
     pub end : getD stage (n - 1) 0 < length he / 3
     pub lap : (last : Point) → last ≡ pointAt centers (getD stage (n - 1) 0) → samePlace first last ≡ false → Lapped b he centers t n stage first last
 

@@ -1,10 +1,9 @@
 -- `cutting_writer::copied::joined`: both tests as facts.
 use Rattle.mesh.specs.Mesh.{nextOf}
 use Rattle.mesh.specs.laws.Next.{next-sum}
-use Rattle.cutting_writer.specs.copied.laws.Closing.{said-no}
 use denote.Ref.{now}
 use lib.ListN.{getD}
-use mathlib.Core.Bool.{false≢true}
+use mathlib.Core.Bool.{not, Bool·not-not, false≢true}
 use mathlib.Core.Path.{sym, ap, _∙_}
 use native.Mathlib.Omega.{arith}
 use Rattle.cutting_writer.proofs.copied.joined.Statement.{statement}
@@ -31,7 +30,7 @@ returns-2 c = λ z.
     let he = now (c .before .before .before .before .before .before .args .halfedges) in
     record {
       step = sym (c .before .if1 .left) ∙ ap (λ k. getD he k 0) (c .before .before .before .next-halfedge .ensures ∙ ap nextOf (c .before .before .before .before .wide .ensures));
-      apart = sym (c .same-place .ensures) ∙ said-no _ z;
+      apart = sym (c .same-place .ensures) ∙ (sym (Bool·not-not _) ∙ ap not z);
     }
 
 pub joined-spec : {M : Type 1} → statement M

@@ -1,6 +1,5 @@
 -- `cutting_writer::copied::meet`: with none between them, or with one.
 use Rattle.cutting_writer.specs.copied.laws.Lapping.{said-yes}
-use lib.ListN.{length-set}
 use mathlib.Core.Bool.{false≢true}
 use mathlib.Core.Path.{refl}
 use native.Mathlib.Omega.{arith}

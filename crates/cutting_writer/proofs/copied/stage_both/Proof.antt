@@ -1,7 +1,7 @@
 -- `cutting_writer::copied::stage_both`: the two ends near each other, and what lies in the stage is a walk where they meet.
 use Prim.Native.Nat.{ℕ, _-_, _/_, _<_}
 use Rattle.cutting_writer.specs.copied.laws.Lapping.{said-yes}
-use Rattle.cutting_writer.specs.copied.laws.Closing.{Nearing, nearing-start, nearing-step, met-round}
+use Rattle.cutting_writer.specs.copied.laws.Closing.{EndsNearing, nearing-start, nearing-step, met-round}
 use denote.Ref.{now}
 use lib.ListN.{length, set, length-set}
 use mathlib.Core.Bool.{false≢true}
@@ -11,7 +11,7 @@ use Rattle.cutting_writer.proofs.copied.stage_both.Statement.{statement
 use Rattle.cutting_writer.proofs.copied.stage_both.Tie as tie
 
 abbrev Inv-loop : tie.InvT-loop
-Inv-loop b he centers t n stage₀ first next₀ e₀ f₀ i₀ j₀ stage last next e f i j = Nearing b he centers t n first stage i e last j f next × (length stage ≡ length stage₀)
+Inv-loop b he centers t n stage₀ first next₀ e₀ f₀ i₀ j₀ stage last next e f i j = EndsNearing b he centers t n first stage i e last j f next × (length stage ≡ length stage₀)
 
 abbrev μ-loop : tie.MeasureT-loop
 μ-loop b he centers t n stage₀ first next₀ e₀ f₀ i₀ j₀ stage last next e f i j = j - i

@@ -1,7 +1,7 @@
 -- A walk laid in the stage from both ends: what comes from the other end closes any walk that leads there (`closing-start`, `closing-back`, `closing-ahead`), so where the two ends meet the
 -- walk is round (`met-round`).
 use mathlib.Core.Path.{_≡_, refl, sym, ap, _∙_}
-use mathlib.Core.Bool.{Bool, true, false, not, _||_, Bool·not-not, false≢true}
+use mathlib.Core.Bool.{Bool, true, false, _||_, false≢true}
 use mathlib.Core.List.{List}
 use mathlib.Core.Logic.{⊎-elim}
 use Prim.Native.Nat.{ℕ, _+_, _-_, _/_, _%_, _≤_, _<_}
@@ -14,14 +14,10 @@ use Rattle.plane.specs.points.Flat.{pointAt}
 use Rattle.plane.specs.declared.points.Point.{Point}
 use Rattle.plane.specs.declared.boxes.BoundingBox.{BoundingBox}
 use Rattle.mesh.specs.Mesh.{around}
-use Rattle.cutting.specs.pen.Pen.{samePlace}
-use Rattle.cutting_writer.specs.copied.Copied.{CornerAt, JoinedTo, Between, Met, Begun, Round, BothStepped}
+use Rattle.cutting_writer.specs.copied.Copied.{LapCorner, JoinedTo, EndsMeet, Begun, LapLaid, BothStepped}
 use Rattle.cutting_writer.specs.copied.laws.Lapping.{Lapping, lapping-start, lapping-step, lapping-ahead, lapping-end}
 
--- what was denied; and neither of two
-pub said-no : (r : Bool) → not r ≡ true → r ≡ false
-said-no r h = sym (Bool·not-not r) ∙ ap not h
-
+-- neither of two
 pub neither-left : (a b : Bool) → (a || b) ≡ false → a ≡ false
 neither-left true b h = h
 neither-left false b h = refl
@@ -32,7 +28,7 @@ neither-right false b h = h
 
 module _ (b : BoundingBox) (he : List ℕ) (centers : List Float) (t n : ℕ) (first : Point) where
   -- a walk of n that comes back to t
-  pub record Rounded (stage : List ℕ) : Type 0 where
+  pub record LapClosed (stage : List ℕ) : Type 0 where
     pub from : ℕ
     pub last : Point
     pub lap : Lapping b he centers t stage n from first last
@@ -42,7 +38,7 @@ module _ (b : BoundingBox) (he : List ℕ) (centers : List Float) (t n : ℕ) (f
   pub record Closing (stage : List ℕ) (j f : ℕ) (next : Point) : Type 0 where
     pub there : f < length he
     pub rest : (s : List ℕ) → ((k : ℕ) → j ≤ k → k < n → getD s k 0 ≡ getD stage k 0) → (e : ℕ) (last : Point) → Lapping b he centers t s j e first last
-        → JoinedTo he e last f next → Rounded s
+        → JoinedTo he e last f next → LapClosed s
 
   pub closing-start : (stage : List ℕ) → t < length he → Closing stage n t first
   closing-start stage there = record { there = there; rest = λ s same e last x y. record { from = e; last = last; lap = x; back = sym (y .step) } }
@@ -56,7 +52,7 @@ module _ (b : BoundingBox) (he : List ℕ) (centers : List Float) (t n : ℕ) (f
     }
 
     -- one more
-    pub closing-back : (i : ℕ) → j ≡ i + 1 → j ≤ n → j ≤ length he → j ≤ length stage → (g : ℕ) (p : Point) → CornerAt b he centers t g p → JoinedTo he g p f next
+    pub closing-back : (i : ℕ) → j ≡ i + 1 → j ≤ n → j ≤ length he → j ≤ length stage → (g : ℕ) (p : Point) → LapCorner b he centers t g p → JoinedTo he g p f next
         → Closing (set stage i (g / 3)) i g p
     closing-back i one low few room g p at to = record {
       there = at .there;
@@ -67,13 +63,13 @@ module _ (b : BoundingBox) (he : List ℕ) (centers : List Float) (t n : ℕ) (f
     }
 
   -- ---- both ends
-  pub record Nearing (stage : List ℕ) (i e : ℕ) (last : Point) (j f : ℕ) (next : Point) : Type 0 where
+  pub record EndsNearing (stage : List ℕ) (i e : ℕ) (last : Point) (j f : ℕ) (next : Point) : Type 0 where
     pub sum : i + j ≡ n + 1
     pub order : i ≤ j
     pub on : Lapping b he centers t stage i e first last
     pub back : Closing stage j f next
 
-  pub nearing-start : (stage : List ℕ) → Begun b he centers t n first stage → Nearing (set stage 0 (t / 3)) 1 t first n t first
+  pub nearing-start : (stage : List ℕ) → Begun b he centers t n first stage → EndsNearing (set stage 0 (t / 3)) 1 t first n t first
   nearing-start stage x = record {
     sum = omega arith;
     order = omega (arith, x .many);
@@ -81,12 +77,12 @@ module _ (b : BoundingBox) (he : List ℕ) (centers : List Float) (t n : ℕ) (f
     back = closing-start (set stage 0 (t / 3)) (x .there);
   }
 
-  module _ (stage : List ℕ) (i e : ℕ) (last : Point) (j f : ℕ) (next : Point) (x : Nearing stage i e last j f next) (few : n ≤ length he) (room : n ≤ length stage) where
+  module _ (stage : List ℕ) (i e : ℕ) (last : Point) (j f : ℕ) (next : Point) (x : EndsNearing stage i e last j f next) (few : n ≤ length he) (room : n ≤ length stage) where
     low : j ≤ n
     low = omega (arith, x .sum, x .on .some)
 
     pub nearing-step : i + 1 < j → (a : ℕ) (p : Point) (g : ℕ) (q : Point) → BothStepped b he centers t e last f next a p g q
-        → Nearing (set (set stage i (a / 3)) (j - 1) (g / 3)) (i + 1) a p (j - 1) g q
+        → EndsNearing (set (set stage i (a / 3)) (j - 1) (g / 3)) (i + 1) a p (j - 1) g q
     nearing-step more a p g q y =
         let one : j ≡ j - 1 + 1 = omega arith in
         let laid : List ℕ = set stage i (a / 3) in
@@ -101,8 +97,8 @@ module _ (b : BoundingBox) (he : List ℕ) (centers : List Float) (t n : ℕ) (f
           back = closing-back laid j f next (closing-ahead stage j f next (x .back) i (a / 3) (omega arith)) (j - 1) one low (omega (arith, low)) (omega (arith, low, long)) g q (y .back) (y .to);
         }
 
-    module _ (over : j ≤ i + 1) (many : 3 ≤ n) (new : List ℕ) (m : Met b he centers t i j e last f next stage new) where
-      all-round : Rounded new
+    module _ (over : j ≤ i + 1) (many : 3 ≤ n) (new : List ℕ) (m : EndsMeet b he centers t i j e last f next stage new) where
+      all-round : LapClosed new
       all-round = ⊎-elim
           (λ z. let y = m .none z in
           rw (sym (y .0)) at (x .back .rest stage (λ k h l. refl) e last (rw z at (x .on)) (y .1)))
@@ -115,7 +111,7 @@ module _ (b : BoundingBox) (he : List ℕ) (centers : List Float) (t n : ℕ) (f
           rw (sym (y .laid)) at (x .back .rest laid (λ k h l. getD-set-other stage i k (y .a / 3) 0 (λ r. omega arith)) (y .a) (y .p) (rw (sym next-is) at on) (y .to)))
           (eq-or-ne i j)
 
-      pub met-round : length he % 3 ≡ 0 → Round b he centers t n first new
+      pub met-round : length he % 3 ≡ 0 → LapLaid b he centers t n first new
       met-round thirds =
           let r = all-round in
           record {

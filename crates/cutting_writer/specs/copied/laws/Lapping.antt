@@ -21,7 +21,7 @@ use Rattle.cutting.specs.pen.Pen.{samePlace, repeats, page, penOn, entriesOn}
 use Rattle.cutting_writer.specs.ring.laws.Walks.{Scan, scan-start, scan-step, scan-end, Inking, inking-over, inking-step}
 use Rattle.cutting_writer.specs.turn.Turned.{turnedRound}
 use Rattle.cutting_writer.specs.end.Ended.{penEnded, ended}
-use Rattle.cutting_writer.specs.copied.Copied.{laidTo, penIn, CornerAt, JoinedTo, Lapped, CopiedInto}
+use Rattle.cutting_writer.specs.copied.Copied.{laidTo, penIn, LapCorner, JoinedTo, Lapped, CopiedInto}
 use Rattle.cutting_writer.specs.copied.laws.Laying.{laid-ahead, laid-step, lap-ended}
 
 -- what was asked and not denied
@@ -86,7 +86,7 @@ module _ (b : BoundingBox) (he : List ℕ) (centers : List Float) (t : ℕ) wher
 
   module _ (stage : List ℕ) (i from : ℕ) (first last : Point) (x : Lapping stage i from first last) where
     -- one more, which stands in the stage
-    pub lapping-step : i < length he → (e : ℕ) (p : Point) → CornerAt b he centers t e p → JoinedTo he from last e p → getD stage i 0 ≡ e / 3 → Lapping stage (i + 1) e first p
+    pub lapping-step : i < length he → (e : ℕ) (p : Point) → LapCorner b he centers t e p → JoinedTo he from last e p → getD stage i 0 ≡ e / 3 → Lapping stage (i + 1) e first p
     unfolding turnOf laidTo
     lapping-step more e p at to laid = record {
       scan = let z : length he + 1 - i - 1 ≡ length he + 1 - (i + 1) = omega arith in
