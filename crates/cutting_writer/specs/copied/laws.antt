@@ -1,3 +1,4 @@
 -- Laws that only proofs use.
-pub mod Laying
+pub mod Closing
 pub mod Lapping
+pub mod Laying

@@ -6,7 +6,8 @@ use Prim.Native.Nat.{ℕ, _+_, _-_, _/_, _≤_, _<_}
 use native.Mathlib.Omega.{arith}
 use native.Mathlib.Numerals.{add-one}
 use lib.Ieee.{Float}
-use lib.ListN.{length, set}
+use lib.ListN.{length, getD, set}
+use lib.Seq.{getD-set-same, getD-set-other}
 use borrow.Author.Tests.{eq-eqb, ne-eqb}
 use Rattle.base.specs.numbers.Numbers.{EMPTY}
 use Rattle.plane.specs.points.Flat.{pointAt}
@@ -20,8 +21,8 @@ use Rattle.cutting.specs.pen.Pen.{samePlace, repeats, page, penOn, entriesOn}
 use Rattle.cutting_writer.specs.ring.laws.Walks.{Scan, scan-start, scan-step, scan-end, Inking, inking-over, inking-step}
 use Rattle.cutting_writer.specs.turn.Turned.{turnedRound}
 use Rattle.cutting_writer.specs.end.Ended.{penEnded, ended}
-use Rattle.cutting_writer.specs.copied.Copied.{laidTo, penIn, Lapped, CopiedInto}
-use Rattle.cutting_writer.specs.copied.laws.Laying.{laid-step, lap-ended}
+use Rattle.cutting_writer.specs.copied.Copied.{laidTo, penIn, LapCorner, JoinedTo, Lapped, CopiedInto}
+use Rattle.cutting_writer.specs.copied.laws.Laying.{laid-ahead, laid-step, lap-ended}
 
 -- what was asked and not denied
 pub said-yes : (r x : Bool) → r ≡ x → not r ≡ false → x ≡ true
@@ -46,24 +47,24 @@ unfolding entriesOn repeats
 entries-next pen i first last p q ix other = rw other refl
 
 module _ (b : BoundingBox) (he : List ℕ) (centers : List Float) (t : ℕ) where
-  -- after i half-edges, the last of them `from`, with e to come
-  pub record Lapping (stage : List ℕ) (i e : ℕ) (first last : Point) : Type 0 where
-    pub from : ℕ
+  -- after i half-edges, the last of them `from`
+  pub record Lapping (stage : List ℕ) (i from : ℕ) (first last : Point) : Type 0 where
     pub scan : Scan b he centers t (length he + 1 - i) from
     pub inside : insideOf b (pointAt centers (from / 3)) ≡ true
-    pub next : e ≡ around he from
+    pub here : last ≡ pointAt centers (from / 3)
+    pub entry : getD stage (i - 1) 0 ≡ from / 3
     pub some : 1 ≤ i
     pub inked : (pen : Pen) (ix : List ℕ) → pen .any ≡ false
         → Inking he t (page pen centers ix) (penIn pen i first last) (laidTo stage (pen .at) i ix) (length he - i) (turnOf he t from)
 
   pub lapping-start : (stage : List ℕ) → 0 < length stage → length he < EMPTY → t < length he → onHull he t ≡ false → (p : Point) → p ≡ pointAt centers (t / 3)
-      → insideOf b p ≡ true → (e : ℕ) → e ≡ around he t → Lapping (set stage 0 (t / 3)) 1 e p p
+      → insideOf b p ≡ true → Lapping (set stage 0 (t / 3)) 1 t p p
   unfolding laidTo
-  lapping-start stage room small there begins p here inside e next = record {
-    from = t;
+  lapping-start stage room small there begins p here inside = record {
     scan = let z : length he ≡ length he + 1 - 1 = omega arith in subst (λ (k : ℕ). Scan b he centers t k t) z (scan-start b he centers t small there begins);
     inside = sym (ap (insideOf b) here) ∙ inside;
-    next = next;
+    here = here;
+    entry = getD-set-same stage 0 (t / 3) 0 room;
     some = omega arith;
     inked = λ pen ix none.
         let laid : laidTo (set stage 0 (t / 3)) (pen .at) 1 ix ≡ set ix (pen .at) (t / 3) =
@@ -72,37 +73,48 @@ module _ (b : BoundingBox) (he : List ℕ) (centers : List Float) (t : ℕ) wher
         (laidTo (set stage 0 (t / 3)) (pen .at) 1 ix) (on-first pen p none, laid ∙ entries-first pen p (t / 3) ix none) (turnOf he t t) refl;
   }
 
-  module _ (stage : List ℕ) (i e : ℕ) (first last : Point) (x : Lapping stage i e first last) where
-    pub lapping-step : i < length he → i < length stage → (e ≡ t → ⊥) → e < length he → (p : Point) → p ≡ pointAt centers (e / 3) → insideOf b p ≡ true
-        → samePlace last p ≡ false → (a : ℕ) → a ≡ around he e → Lapping (set stage i (e / 3)) (i + 1) a first p
-    unfolding turnOf
-    lapping-step more room other there p here inside apart a next = record {
-      from = e;
+  -- what is not reached yet may change
+  pub lapping-ahead : (stage : List ℕ) (i from : ℕ) (first last : Point) → Lapping stage i from first last → (k q : ℕ) → i ≤ k → Lapping (set stage k q) i from first last
+  lapping-ahead stage i from first last x k q ahead = record {
+    scan = x .scan;
+    inside = x .inside;
+    here = x .here;
+    entry = getD-set-other stage k (i - 1) q 0 (λ z. omega (arith, x .some)) ∙ x .entry;
+    some = x .some;
+    inked = λ pen ix none. rw (laid-ahead stage (pen .at) i ix k q ahead) (x .inked pen ix none);
+  }
+
+  module _ (stage : List ℕ) (i from : ℕ) (first last : Point) (x : Lapping stage i from first last) where
+    -- one more, which stands in the stage
+    pub lapping-step : i < length he → (e : ℕ) (p : Point) → LapCorner b he centers t e p → JoinedTo he from last e p → getD stage i 0 ≡ e / 3 → Lapping stage (i + 1) e first p
+    unfolding turnOf laidTo
+    lapping-step more e p at to laid = record {
       scan = let z : length he + 1 - i - 1 ≡ length he + 1 - (i + 1) = omega arith in
-          rw z at (scan-step b he centers t (length he + 1 - i) (x .from) (omega (arith, x .some)) (x .scan) true (sym (x .inside)) refl e (x .next) other there);
-      inside = sym (ap (insideOf b) here) ∙ inside;
-      next = next;
+          rw z at (scan-step b he centers t (length he + 1 - i) from (omega (arith, x .some)) (x .scan) true (sym (x .inside)) refl e (to .step) (at .other) (at .there));
+      inside = sym (ap (insideOf b) (at .here)) ∙ at .inside;
+      here = at .here;
+      entry = let z : i ≡ i + 1 - 1 = omega arith in ap (λ (k : ℕ). getD stage k 0) (sym z) ∙ laid;
       some = omega arith;
       inked = λ pen ix none.
-          let on : turnOf he t (x .from) ≡ e = rw (ne-eqb (around he (x .from)) t (λ z. other (x .next ∙ z))) (sym (x .next)) in
+          let on : turnOf he t from ≡ e = rw (ne-eqb (around he from) t (λ z. at .other (to .step ∙ z))) (sym (to .step)) in
           let here-inked : Inking he t (page pen centers ix) (penIn pen i first last) (laidTo stage (pen .at) i ix) (length he - i) e = rw on at (x .inked pen ix none) in
-          let laid : laidTo (set stage i (e / 3)) (pen .at) (i + 1) ix ≡ set (laidTo stage (pen .at) i ix) (pen .at + i) (e / 3) =
-          rw (add-one i) (laid-step stage (pen .at) i ix (e / 3) room) in
+          let more-laid : laidTo stage (pen .at) (i + 1) ix ≡ set (laidTo stage (pen .at) i ix) (pen .at + i) (e / 3) =
+          rw (add-one i) (ap (set (laidTo stage (pen .at) i ix) (pen .at + i)) laid) in
           let z : length he - i - 1 ≡ length he - (i + 1) = omega arith in
-          rw z at (inking-step he t (page pen centers ix) (penIn pen i first last) (laidTo stage (pen .at) i ix) (length he - i) e here-inked (omega arith) there p here
-          (penIn pen (i + 1) first p) (laidTo (set stage i (e / 3)) (pen .at) (i + 1) ix)
-          (on-next pen i first last p apart, laid ∙ entries-next pen i first last p (e / 3) (laidTo stage (pen .at) i ix) apart) (turnOf he t e) refl);
+          rw z at (inking-step he t (page pen centers ix) (penIn pen i first last) (laidTo stage (pen .at) i ix) (length he - i) e here-inked (omega arith) (at .there) p (at .here)
+          (penIn pen (i + 1) first p) (laidTo stage (pen .at) (i + 1) ix)
+          (on-next pen i first last p (to .apart), more-laid ∙ entries-next pen i first last p (e / 3) (laidTo stage (pen .at) i ix) (to .apart)) (turnOf he t e) refl);
     }
 
-    pub lapping-end : i ≤ length he → e ≡ t → samePlace first last ≡ false → 3 ≤ i → Lapped b he centers t i stage first last
+    pub lapping-end : i ≤ length he → around he from ≡ t → samePlace first last ≡ false → 3 ≤ i → Lapped b he centers t i stage first last
     unfolding turnOf
     lapping-end few back apart many = record {
-      inside = scan-end b he centers t (length he + 1 - i) (x .from) (omega (arith, x .some)) (x .scan) true (sym (x .inside)) refl e (x .next) back;
+      inside = scan-end b he centers t (length he + 1 - i) from (omega (arith, x .some)) (x .scan) true (sym (x .inside)) refl (around he from) refl back;
       apart = apart;
       many = many;
       inked = λ pen ix none.
-          let on : turnOf he t (x .from) ≡ EMPTY = rw (eq-eqb (around he (x .from)) t (sym (x .next) ∙ back)) refl in
-          inking-over he t (page pen centers ix) (penIn pen i first last) (laidTo stage (pen .at) i ix) (length he - i) (turnOf he t (x .from)) (x .inked pen ix none)
+          let on : turnOf he t from ≡ EMPTY = rw (eq-eqb (around he from) t back) refl in
+          inking-over he t (page pen centers ix) (penIn pen i first last) (laidTo stage (pen .at) i ix) (length he - i) (turnOf he t from) (x .inked pen ix none)
           (omega (arith, on, x .scan .small));
     }
 
