@@ -6,6 +6,7 @@ use crate::cases::Case;
 use crate::cut;
 use crate::edges;
 use crate::expect::{self, Beside, Facts, Slices};
+use crate::fans;
 use crate::gauges;
 use crate::library::{Call, Difference, Library};
 use crate::maps;
@@ -85,6 +86,7 @@ fn ask(index: u64, c: &Case, calls: &mut Vec<Call>, tally: &mut Tally) -> Told {
     why::ask(index, c, &facts, clipped.as_ref(), calls, tally)?;
     edges::ask(index, c, &facts, clipped.as_ref(), calls, tally)?;
     cut::ask(index, c, &facts, calls, tally)?;
+    fans::ask(index, c, clipped.as_ref(), calls, tally)?;
 
     let built = clipped.as_ref().and_then(|o| o.as_ref().ok());
     let cells = match built {
@@ -110,7 +112,7 @@ fn check(c: &Case, facts: &Facts, calls: &mut Vec<Call>, tally: &mut Tally) {
     calls.push(Call::new("check").gives(number).mesh(&c.mesh).lent_indexes(&work, &after));
 }
 
-fn build(
+pub fn build(
     c: &Case, facts: &Facts, outcome: Option<&Outcome>, calls: &mut Vec<Call>, tally: &mut Tally,
 ) -> Told {
     let beside = Beside { room: c.lengths.suffice(&c.mesh), area: Some(&c.area), site: None, to: None };
@@ -119,6 +121,9 @@ fn build(
         number = f.number;
     }
     tally.number("build", number);
+    if number == 10 {
+        tally.fan("build", fans::built_without(&c.mesh, &reference::edges(&c.area)));
+    }
     if let (0, Some(Ok(b))) = (number, outcome) {
         let exact = expect::Lengths::exact(&c.mesh);
         let entries: usize = b.cells.iter().map(|c| c.len()).sum();

@@ -5,6 +5,7 @@ use crate::areas::Sum;
 use crate::cases::Case;
 use crate::edges;
 use crate::expect::{self, Beside, Facts, Lengths, Slices};
+use crate::fans;
 use crate::generate::rng::Rng;
 use crate::library::Call;
 use crate::mesh::{cut_index_room, cut_vertex_room, next, pt, Mesh, Pt, EMPTY};
@@ -320,6 +321,9 @@ pub fn ask(index: u64, c: &Case, facts: &Facts, calls: &mut Vec<Call>, tally: &m
             n => n,
         };
         tally.number(name, number);
+        if number == 10 {
+            tally.fan(name, fans::cut_without(m, &e));
+        }
         let made = made.and_then(Result::ok);
         if let (0, Some(p)) = (number, &made) {
             let (vertices, entries) = (cut_vertex_room(m), cut_index_room(m));

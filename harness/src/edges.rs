@@ -3,6 +3,7 @@
 
 use crate::cases::Case;
 use crate::expect::{self, Beside, Facts, Slices};
+use crate::fans;
 use crate::generate::floats::{self, step};
 use crate::generate::rng::Rng;
 use crate::library::Call;
@@ -73,6 +74,10 @@ pub fn ask(
     };
     let number = built(rules);
     tally.number("build_by_edges", number);
+    let without = if rules == 10 { fans::built_without(m, &e) } else { 0 };
+    if number == 10 {
+        tally.fan("build_by_edges", without);
+    }
     let entry = Slices::fresh(&c.lengths);
     let exit = expect::built(number, outcome, &entry);
     calls.push(Call::new("build_by_edges").gives(number).edges(&e).mesh(m).lent_slices(&entry, &exit));
@@ -88,6 +93,9 @@ pub fn ask(
         return Err(format!("why by edges: the number is {number}, the place says {reason:?} (asked {q:?})"));
     }
     tally.number("why_by_edges", number);
+    if number == 10 {
+        tally.fan("why_by_edges", without);
+    }
     let exit = expect::built(number, outcome, &entry);
     let call = Call::new("why_by_edges").gives(number).edges(&e).mesh(m).number(q.asked).number(q.first).number(q.second);
     calls.push(reason.numbers().into_iter().fold(call.lent_slices(&entry, &exit), Call::gives));

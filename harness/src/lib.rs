@@ -10,6 +10,7 @@ pub mod compare;
 pub mod cut;
 pub mod edges;
 pub mod expect;
+pub mod fans;
 pub mod flip;
 pub mod form;
 pub mod gauges;

@@ -52,10 +52,52 @@ pub const CALLS: &[Call] = &[
 
 const NUMBERS: usize = 27;
 
+/// The calls that try rules after rule 10, with what each can answer without rule 10 where a fan is broken.
+const FANS: &[Call] = &[
+    Call { name: "build", numbers: BUILT },
+    Call { name: "why", numbers: BUILT },
+    Call { name: "build_by_edges", numbers: BUILT },
+    Call { name: "why_by_edges", numbers: BUILT },
+    Call { name: "cut", numbers: &[0, 11, 25] },
+    Call { name: "cut_by_edges", numbers: &[0, 11, 25] },
+];
+const BUILT: &[u32] = &[0, 11, 12, 13, 14];
+
+/// Prints how often each call had each number of the columns, and gives the names of those that never came up and of those that it cannot have.
+fn table(calls: &[Call], rows: &[[u64; NUMBERS]], columns: impl IntoIterator<Item = usize> + Clone, named: impl Fn(&str, usize) -> String) -> Vec<String> {
+    let mut holes = Vec::new();
+    print!("{:20}", "");
+    for n in columns.clone() {
+        print!("{n:>9}");
+    }
+    println!();
+    for (call, row) in calls.iter().zip(rows) {
+        print!("{:20}", call.name);
+        for n in columns.clone() {
+            let count = row[n];
+            if call.numbers.contains(&(n as u32)) {
+                print!("{count:>9}");
+                if count == 0 {
+                    holes.push(named(call.name, n));
+                }
+            } else if count > 0 {
+                print!("{:>9}", format!("{count}!"));
+                holes.push(format!("{}, which is no answer of that call", named(call.name, n)));
+            } else {
+                print!("{:>9}", "");
+            }
+        }
+        println!();
+    }
+    holes
+}
+
 #[derive(Default)]
 pub struct Tally {
     pub cases: u64,
     pub numbers: Vec<[u64; NUMBERS]>,
+    /// How often each call of FANS refused a broken fan, by what it would answer without rule 10.
+    fans: Vec<[u64; NUMBERS]>,
     pub branches: Counts,
     /// How often each reason was given (why::ROWS), by what was asked: nothing, a site, a pair, more than 2.
     pub reasons: Vec<[u64; 4]>,
@@ -78,12 +120,18 @@ pub struct Tally {
 
 impl Tally {
     pub fn new() -> Tally {
-        Tally { numbers: vec![[0; NUMBERS]; CALLS.len()], reasons: vec![[0; 4]; why::ROWS.len()], ..Tally::default() }
+        Tally { numbers: vec![[0; NUMBERS]; CALLS.len()], fans: vec![[0; NUMBERS]; FANS.len()], reasons: vec![[0; 4]; why::ROWS.len()], ..Tally::default() }
     }
 
     pub fn number(&mut self, call: &str, number: u32) {
         let i = CALLS.iter().position(|c| c.name == call).unwrap();
         self.numbers[i][number as usize] += 1;
+    }
+
+    /// A broken fan, by what the call would answer without rule 10.
+    pub fn fan(&mut self, call: &str, without: u32) {
+        let i = FANS.iter().position(|c| c.name == call).unwrap();
+        self.fans[i][without as usize] += 1;
     }
 
     /// A reason by its row.
@@ -107,31 +155,10 @@ impl Tally {
 
     /// Prints the table and gives the names of what never came up.
     pub fn report(&self) -> Vec<String> {
-        let mut holes = Vec::new();
         println!("\nHow often each call answered each number (0: accepted)\n");
-        print!("{:20}", "");
-        for n in 0..NUMBERS - 1 {
-            print!("{n:>9}");
-        }
-        println!();
-        for (call, row) in CALLS.iter().zip(&self.numbers) {
-            print!("{:20}", call.name);
-            for n in 0..NUMBERS - 1 {
-                let count = row[n];
-                if call.numbers.contains(&(n as u32)) {
-                    print!("{count:>9}");
-                    if count == 0 {
-                        holes.push(format!("{} {n}", call.name));
-                    }
-                } else if count > 0 {
-                    print!("{:>9}", format!("{count}!"));
-                    holes.push(format!("{} {n} is no answer of that call", call.name));
-                } else {
-                    print!("{:>9}", "");
-                }
-            }
-            println!();
-        }
+        let mut holes = table(CALLS, &self.numbers, 0..NUMBERS - 1, |call, n| format!("{call} {n}"));
+        println!("\nHow often each call refused a broken fan (10), by what it would answer without rule 10\n");
+        holes.extend(table(FANS, &self.fans, [0, 11, 12, 13, 14, 25], |call, n| format!("{call}: 10 before {n}")));
         println!("\nAllowances: 0 {}, short {}, exact {}, more {}", self.allowances[0], self.allowances[1], self.allowances[2], self.allowances[3]);
         for (i, name) in ["0", "short", "exact", "more"].iter().enumerate() {
             if self.allowances[i] == 0 {

@@ -4,6 +4,7 @@
 use crate::cases::Case;
 use crate::compare::build_both;
 use crate::expect::{self, Beside, Facts, Lengths, Slices};
+use crate::fans;
 use crate::form;
 use crate::generate::damage;
 use crate::generate::rng::Rng;
@@ -354,7 +355,7 @@ pub fn ask(
     put(r, &Case { lengths: Lengths::exact(&mesh), mesh, ..c.clone() }, &facts, outcome.as_ref(), calls, tally)
 }
 
-fn put(
+pub fn put(
     r: &mut Rng, c: &Case, facts: &Facts, outcome: Option<&Outcome>, calls: &mut Vec<Call>, tally: &mut Tally,
 ) -> Result<(), String> {
     let m = &c.mesh;
@@ -379,6 +380,9 @@ fn put(
         }
     }
     tally.number("why", reason.number);
+    if reason.number == 10 {
+        tally.fan("why", fans::built_without(m, &reference::edges(&c.area)));
+    }
     tally.reason(reason.row(), q.asked);
     let entry = Slices::fresh(&c.lengths);
     let exit = expect::built(reason.number, outcome, &entry);

@@ -14,10 +14,12 @@
 //! The library is served by the command in VORONOI_SERVER (harness/serve.sh makes it).
 
 use harness::cases::Case;
+use harness::expect::Facts;
 use harness::library::{Call, Difference, Library};
+use harness::reference::{self, Counts};
 use harness::tally::{Tally, CALLS};
 use harness::words::Words;
-use harness::{audit, certify, compare, flip, grid, mend, plane, reader, roots, rust, text, why};
+use harness::{audit, certify, compare, fans, flip, grid, mend, plane, reader, roots, rust, text, why};
 use std::time::{Duration, Instant};
 
 const USAGE: &str = "compare [--cases N] [--mends N] [--grids N] [--flips N] [--audits N] [--certificates N] [--forms N] [--plane N] [--roots N] [--seed S] [--from I]
@@ -47,6 +49,11 @@ fn main() {
         println!("{:?}", Case { mesh: Default::default(), ..case.clone() });
         if let Some(mesh) = why::worse(i, &case) {
             print!("and made worse, where the reason alone is asked for:\n{}", text::write(&mesh, Some(&case.area)));
+        }
+        let sound = Facts::of(&case.mesh).accepted() && reference::box_sound(&case.area);
+        let outcome = sound.then(|| reference::build(&case.mesh, &case.area, &mut Counts::default()));
+        if let Some(mesh) = fans::broken(i, &case, outcome.as_ref()) {
+            print!("and with a broken fan, where the calls that would refuse without it are asked:\n{}", text::write(&mesh, Some(&case.area)));
         }
         let told = compare::run(i, &case, &mut library, &mut Tally::new()).and_then(|()| library.flush());
         match told {

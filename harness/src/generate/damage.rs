@@ -39,14 +39,19 @@ pub fn several(r: &mut Rng, m: &mut Mesh) {
             2 => pairing(r, m),
             3 => hull(r, m),
             4 => along_the_border(r, m),
-            _ => closed_at_a_site(r, m),
+            _ => closed_at_a_site(r, m, None),
         }
     }
     if which > 3 && r.chance(1, 2) {
-        let mut t = Topology { triangles: m.triangles.clone(), halfedges: m.halfedges.clone(), hull: Vec::new() };
-        topology::shuffle_triangles(r, &mut t);
-        (m.triangles, m.halfedges) = (t.triangles, t.halfedges);
+        shuffle(r, m);
     }
+}
+
+/// Another order of the triangles.
+fn shuffle(r: &mut Rng, m: &mut Mesh) {
+    let mut t = Topology { triangles: m.triangles.clone(), halfedges: m.halfedges.clone(), hull: Vec::new() };
+    topology::shuffle_triangles(r, &mut t);
+    (m.triangles, m.halfedges) = (t.triangles, t.halfedges);
 }
 
 /// A triangle more, unpaired, of which one half-edge runs as an unpaired one does.
@@ -59,8 +64,8 @@ fn along_the_border(r: &mut Rng, m: &mut Mesh) {
     }
 }
 
-/// A closed part that shares one site with the rest.
-fn closed_at_a_site(r: &mut Rng, m: &mut Mesh) {
+/// A closed part that shares one site with the rest: the given one, or any.
+fn closed_at_a_site(r: &mut Rng, m: &mut Mesh, at: Option<u32>) {
     let first = m.count() as u32;
     let mut t = Topology { triangles: m.triangles.clone(), halfedges: m.halfedges.clone(), hull: Vec::new() };
     let steps = r.below(3);
@@ -68,9 +73,48 @@ fn closed_at_a_site(r: &mut Rng, m: &mut Mesh) {
     t.append(&part, first);
     m.sites.extend((0..2 * n).map(|_| r.signed()));
     let from = first + r.below(n as usize) as u32;
-    let to = r.below(first as usize) as u32;
+    let to = at.unwrap_or_else(|| r.below(first as usize) as u32);
     t.triangles.iter_mut().filter(|s| **s == from).for_each(|s| *s = to);
     (m.triangles, m.halfedges) = (t.triangles, t.halfedges);
+}
+
+/// Breaks a fan of a sound mesh and no rule before 10: an inner site's number replaced by another's, a closed part at a site in use,
+/// or two closed parts that share a site of their own.
+pub fn fan(r: &mut Rng, m: &mut Mesh) {
+    let mut used = m.triangles.clone();
+    used.sort_unstable();
+    used.dedup();
+    let at = r.pick(&used);
+    match r.below(3) {
+        0 if replaced(r, m, &used) => {}
+        0 | 1 => closed_at_a_site(r, m, Some(at)),
+        _ => {
+            let own = m.count() as u32;
+            m.sites.extend([r.signed(), r.signed()]);
+            closed_at_a_site(r, m, Some(own));
+            closed_at_a_site(r, m, Some(own));
+        }
+    }
+    if r.chance(1, 2) {
+        shuffle(r, m);
+    }
+}
+
+/// An inner site's number replaced by one in use that stands in none of its triangles; false where there are none such.
+fn replaced(r: &mut Rng, m: &mut Mesh, used: &[u32]) -> bool {
+    let inner: Vec<u32> = used.iter().copied().filter(|s| !m.hull.contains(s)).collect();
+    if inner.is_empty() {
+        return false;
+    }
+    let from = r.pick(&inner);
+    let beside: Vec<u32> = m.triangles.chunks_exact(3).filter(|t| t.contains(&from)).flatten().copied().collect();
+    let far: Vec<u32> = used.iter().copied().filter(|s| !beside.contains(s)).collect();
+    if far.is_empty() {
+        return false;
+    }
+    let to = r.pick(&far);
+    m.triangles.iter_mut().filter(|s| **s == from).for_each(|s| *s = to);
+    true
 }
 
 /// Lengths at and about their limits.
@@ -162,7 +206,7 @@ pub fn surface(r: &mut Rng, m: &mut Mesh) {
     let first = m.count() as u32;
     let mut t = Topology { triangles: m.triangles.clone(), halfedges: m.halfedges.clone(), hull: m.hull.clone() };
     match r.below(5) {
-        0 | 1 => return closed_at_a_site(r, m),
+        0 | 1 => return closed_at_a_site(r, m, None),
         2 => {
             t.append(&topology::single(), first);
             m.sites.extend((0..6).map(|_| r.signed()));
