@@ -12,61 +12,57 @@ use native.Mathlib.Omega.{arith}
 use Rattle.cutting_calls.proofs.call.cut_mesh.Statement.{statement}
 use Rattle.cutting_calls.proofs.call.cut_mesh.Tie as tie
 
+abbrev Start : tie.After-calculate-circumcenters-arg → tie.Start
+Start c = c .before .before .before .before .before .before .before .before .before
+
+abbrev Calculate-circumcenters : tie.After-cut-centered-arg3 → tie.After-calculate-circumcenters
+Calculate-circumcenters c = c .before .before .before .before .before .before
+
+abbrev Then1 : tie.After-slice-known7 → tie.Then1
+Then1 c = c .before .before .before .before .before .before .before .before .before .before
+
+abbrev Else1 : tie.After-slice-known10 → tie.Else1
+Else1 c = c .before .before .before .before .before .before .before .before .before .before
+
 calculate-circumcenters-requires : tie.Need-calculate-circumcenters-requires
-calculate-circumcenters-requires c κs = (
-  c .before .before .before .before .before .before .before .before .before .pre .named,
-  c .before .before .before .before .before .before
-      .before .before .before .pre .room,
-)
+calculate-circumcenters-requires c κs = (Start c .pre .named, Start c .pre .room)
 
 same-length : tie.Need-same-length
-same-length c = c .before .before .before .before .before .vertices2 .given ∙ c .before .before .before .before .before .before .before .before .before .before .before .before .vertices .given
+same-length c = c .before .before .before .before .before .vertices2 .given ∙ Then1 c .before .before .vertices .given
 
 returns : tie.Need-returns
 returns c =
-    let a = c .before .before .before .before .before .before .before .before .before .before .before .before .before .before .before .before .before .before .before .before
-    .before .before .before .args in
+    let at-calculate-circumcenters = Then1 c .before .before .before in
+    let a = Start (at-calculate-circumcenters .before) .args in
     let k = c .before .before .before .before .before .before .clear-all .ensures in
     record {
       number = sym (refused-number (a .b) (now (a .sites)) (now (a .triangles)) (now (a .halfedges)) (now (a .hull)) (now (a .table)) (now (a .vertices)) (now (a .indexes))
-          (now (a .offsets)) (c .before .before .before .before .before .before .before .before .before .before .before .before .before .calculate-circumcenters .result)
-          (c .before .before .before .before .before .before .before .before .before .before .before .before .before .calculate-circumcenters .last .1 .1 .0)
-          (centersOf (now (a .sites)) (now (a .triangles))) (c .before .before .before .before .before .before .before .before .before .before .before .before .before
-          .calculate-circumcenters .ensures) (c .before .before .before .before .before .before .before .before .before .before .if1 .taken));
+          (now (a .offsets)) (at-calculate-circumcenters .calculate-circumcenters .result) (at-calculate-circumcenters .calculate-circumcenters .last .1 .1 .0)
+          (centersOf (now (a .sites)) (now (a .triangles))) (at-calculate-circumcenters .calculate-circumcenters .ensures) (Then1 c .if1 .taken));
       made = λ z. absurd (omega (arith, z));
       late = λ z. omega arith;
-      none = λ z. record {
-        none = refl;
-        vertices = k .0 ∙ ap (λ (n : ℕ). padded n zero [])
-            (c .before .before .before .before .before .before .before .before .before .before .before .before .vertices .given);
-        indexes = k .1;
-        offsets = k .2;
-      };
+      none = λ z. record { none = refl; vertices = k .0 ∙ ap (λ (n : ℕ). padded n zero []) (Then1 c .before .before .vertices .given); indexes = k .1; offsets = k .2 };
     }
 
 cut-centered-requires : tie.Need-cut-centered-requires
 cut-centered-requires c κs =
-    let a = c .before .before .before .before .before .before .before .before .before .before .before .before .before .before .before .before .args in
+    let a = Start (Calculate-circumcenters c .before) .args in
     centered-asks (a .b) (now (a .sites)) (now (a .triangles)) (now (a .halfedges)) (now (a .hull)) (now (a .table)) (now (a .vertices)) (now (a .indexes)) (now (a .offsets))
-    (c .before .before .before .before .before .before .calculate-circumcenters .result)
-    (c .before .before .before .before .before .before .calculate-circumcenters .last .1 .1 .0) (centersOf (now (a .sites)) (now (a .triangles))) refl
-    (c .before .before .before .before .before .before .calculate-circumcenters .ensures) (omega (arith, c .before .before .before .if1 .left))
-    (c .before .before .before .before .before .vertices .given) (c .before .before .before .before .before .before .before .before .before .before .before .before .before
-    .before .before .before .pre)
+    (Calculate-circumcenters c .calculate-circumcenters .result) (Calculate-circumcenters c .calculate-circumcenters .last .1 .1 .0) (centersOf (now (a .sites)) (now (a .triangles)))
+    refl (Calculate-circumcenters c .calculate-circumcenters .ensures) (omega (arith, c .before .before .before .if1 .left)) (c .before .before .before .before .before .vertices .given)
+    (Start (Calculate-circumcenters c .before) .pre)
 
 same-length-4 : tie.Need-same-length-4
-same-length-4 c = c .before .before .before .before .before .vertices3 .given ∙ c .before .before .before .before .before .before .before .before .before .before .before .before .vertices .given
+same-length-4 c = c .before .before .before .before .before .vertices3 .given ∙ Else1 c .before .before .vertices .given
 
 returns-2 : tie.Need-returns-2
 returns-2 c =
-    let a = c .before .before .before .before .before .before .before .before .before .before .before .before .before .before .before .before .before .before .before .before
-    .before .before .before .args in
+    let at-calculate-circumcenters = Else1 c .before .before .before in
+    let a = Start (at-calculate-circumcenters .before) .args in
     centered-made (a .b) (now (a .sites)) (now (a .triangles)) (now (a .halfedges)) (now (a .hull)) (now (a .table)) (now (a .vertices)) (now (a .indexes)) (now (a .offsets))
-    (c .before .before .before .before .before .before .before .before .before .before .before .before .before .calculate-circumcenters .result)
-    (c .before .before .before .before .before .before .before .before .before .before .before .before .before .calculate-circumcenters .last .1 .1 .0)
-    (centersOf (now (a .sites)) (now (a .triangles))) (c .before .before .before .before .before .before .before .before .before .before .before .before .before
-    .calculate-circumcenters .ensures) (omega (arith, c .before .before .before .before .before .before .before .before .before .before .if1 .left))
-    (c .before .before .before .before .before .before .before .before .before .before .before .before .vertices .given) (c .before .before .before .before .before .before .cut-centered .ensures)
+    (at-calculate-circumcenters .calculate-circumcenters .result) (at-calculate-circumcenters .calculate-circumcenters .last .1 .1 .0) (centersOf (now (a .sites)) (now (a .triangles)))
+    (at-calculate-circumcenters .calculate-circumcenters .ensures) (omega (arith, Else1 c .if1 .left)) (Else1 c .before .before .vertices .given)
+    (c .before .before .before .before .before .before .cut-centered .ensures)
 
 pub cut-mesh-spec : {M : Type 1} → statement M
 cut-mesh-spec =

@@ -4,18 +4,17 @@ use Rattle.cutting_calls.specs.cut_admission.laws.CutAdmission.{left-alo
 use Rattle.cutting_calls.proofs.cut_admission.admit_cut.Statement.{statement}
 use Rattle.cutting_calls.proofs.cut_admission.admit_cut.Tie as tie
 
+abbrev Else1 : tie.After-slice-known8 → tie.Else1
+Else1 c = c .before .before .before .before .before .before .before .before .before .before
+
 returns : tie.Need-returns
-returns c =
-    let at-room-for = c .before .before .before .before .before in
-    left-alone _ _ _ _ _ _ _ _ _ (at-room-for .room-for .ensures) (c .before .before .before .admit .ensures) (c .if1 .taken)
+returns c = left-alone _ _ _ _ _ _ _ _ _ (c .before .before .before .before .before .room-for .ensures) (c .before .before .before .admit .ensures) (c .if1 .taken)
 
 returns-2 : tie.Need-returns-2
 returns-2 c =
-    let d = c .before .before .before .before .before .before in
-    let e = d .before .before .before .before in
-    let q = d .clear-all .ensures in
-    all-cleared _ _ _ _ _ _ _ _ _ (e .before .before .before .before .before .room-for .ensures) (e .before .before .before .admit .ensures)
-    (e .if1 .left) _ _ _ (q .0) (q .1) (q .2)
+    let q = c .before .before .before .before .before .before .clear-all .ensures in
+    all-cleared _ _ _ _ _ _ _ _ _ (Else1 c .before .before .before .before .before .room-for .ensures) (Else1 c .before .before .before .admit .ensures) (Else1 c .if1 .left) _ _ _ (q .0)
+    (q .1) (q .2)
 
 pub admit-cut-spec : {M : Type 1} → statement M
 admit-cut-spec =

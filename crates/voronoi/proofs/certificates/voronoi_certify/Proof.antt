@@ -9,7 +9,7 @@ certify-requires : tie.Need-certify-requires
 certify-requires c κs = rw (c .before .by-size .ensures) (size-fits _ _ _)
 
 returns : tie.Need-returns
-returns c = let called = c .before .before in certify-in (called .before .before .by-size .ensures) (called .certify .ensures)
+returns c = certify-in (c .before .before .before .before .by-size .ensures) (c .before .before .certify .ensures)
 
 pub voronoi-certify-spec : {M : Type 1} → statement M
 voronoi-certify-spec = tie.close (tie.spec (λ c κs. tt) certify-requires (λ c. search needs) returns)

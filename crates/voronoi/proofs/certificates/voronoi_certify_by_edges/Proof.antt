@@ -9,7 +9,7 @@ certify-requires : tie.Need-certify-requires
 certify-requires c κs = rw (c .before .by-edges .ensures) (edges-fit _ _ _ _)
 
 returns : tie.Need-returns
-returns c = let called = c .before .before in certify-in (called .before .before .by-edges .ensures) (called .certify .ensures)
+returns c = certify-in (c .before .before .before .before .by-edges .ensures) (c .before .before .certify .ensures)
 
 pub voronoi-certify-by-edges-spec : {M : Type 1} → statement M
 voronoi-certify-by-edges-spec = tie.close (tie.spec (λ c κs. tt) certify-requires (λ c. search needs) returns)

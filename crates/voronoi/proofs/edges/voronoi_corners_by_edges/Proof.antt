@@ -5,9 +5,7 @@ use Rattle.voronoi.proofs.edges.voronoi_corners_by_edges.Statement.{sta
 use Rattle.voronoi.proofs.edges.voronoi_corners_by_edges.Tie as tie
 
 returns : tie.Need-returns
-returns c =
-    let called = c .before .before in
-    corners-in (called .before .before .by-edges .ensures) (called .corners .ensures)
+returns c = corners-in (c .before .before .before .before .by-edges .ensures) (c .before .before .corners .ensures)
 
 pub voronoi-corners-by-edges-spec : {M : Type 1} → statement M
 voronoi-corners-by-edges-spec = tie.close (tie.spec (λ c κs. tt) (λ c κs. search needs) (λ c. search needs) returns)

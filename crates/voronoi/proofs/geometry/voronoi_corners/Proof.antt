@@ -5,9 +5,7 @@ use Rattle.voronoi.proofs.geometry.voronoi_corners.Statement.{statement
 use Rattle.voronoi.proofs.geometry.voronoi_corners.Tie as tie
 
 returns : tie.Need-returns
-returns c =
-    let called = c .before .before in
-    corners-in (called .before .before .by-size .ensures) (called .corners .ensures)
+returns c = corners-in (c .before .before .before .before .by-size .ensures) (c .before .before .corners .ensures)
 
 pub voronoi-corners-spec : {M : Type 1} → statement M
 voronoi-corners-spec = tie.close (tie.spec (λ c κs. tt) (λ c κs. search needs) (λ c. search needs) returns)
