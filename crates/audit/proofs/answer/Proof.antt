@@ -17,14 +17,15 @@ abbrev read : tie.After-sites3 → tie.After-read
 read c = c .before .before .before .before .before .before .before .before .before
 
 refusal-requires : tie.Need-refusal-requires
-refusal-requires c κs = let w = c .before .before .before .before .before .before .before in omega (arith, refusal-short (w .read .result .number), begin w .pre)
+refusal-requires c κs =
+    let w = c .before .before .before .before .before .before .before in
+    omega (arith, refusal-short (w .read .result .number), begin w .pre)
 
 returns : tie.Need-returns
 returns c =
-    let at-refusal = c .before .before in
-    let test = at-refusal .before .before in
+    let test = c .before .before .before .before in
     let w = test .before .before .before .before .before .before in
-    let h = line-held _ (omega (arith, begin w .pre)) (at-refusal .refusal .ensures) in
+    let h = line-held _ (omega (arith, begin w .pre)) (c .before .before .refusal .ensures) in
     (not-told (w .read .ensures) (test .if1 .taken) (h .first), h .within)
 
 slice-aggregate-of-mesh : tie.Need-slice-aggregate-of-mesh
@@ -48,10 +49,8 @@ of-mesh-requires c κs =
 returns-2 : tie.Need-returns-2
 returns-2 c =
     let at-of-mesh = c .before .before in
-    let test = at-of-mesh .before .before .before .before .before .before .before in
-    let w = test .before .before .before .before .before .before in
     let h = at-of-mesh .of-mesh .ensures in
-    (told (w .read .ensures) (test .if1 .left) (h .0), h .1)
+    (told (read (at-of-mesh .before .before .before .before) .read .ensures) (at-of-mesh .before .before .before .before .before .before .before .if1 .left) (h .0), h .1)
 
 pub answer-spec : {M : Type 1} → statement M
 answer-spec =

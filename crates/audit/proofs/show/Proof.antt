@@ -9,63 +9,49 @@ use borrow.Author.Needs.{needs}
 use Rattle.audit.proofs.show.Statement.{statement}
 use Rattle.audit.proofs.show.Tie as tie
 
+abbrev Start : tie.After-shared-slice-known6 → tie.Start
+Start c = c .before .before .before .before .before .before .before
+
+abbrev Else1 : tie.After-wide2 → tie.Else1
+Else1 c = c .before .before .before .before
+
 refusal-requires : tie.Need-refusal-requires
-refusal-requires c κs = let s = c .before .before .before .before .before .before .before .before .before in omega (arith, refusal-short (s .args .number), s .pre .2)
+refusal-requires c κs = omega (arith, refusal-short (Start (c .before .before) .args .number), Start (c .before .before) .pre .2)
 
 returns : tie.Need-returns
 returns c =
-    let at-refusal = c .before .before in
-    let test = at-refusal .before .before in
-    let s = test .before .before .before .before .before .before .before .before in
-    refusal-held _ (s .args .number) (test .if1 .taken) (s .pre .2) (at-refusal .refusal .ensures)
+    let test = c .before .before .before .before in
+    refusal-held _ (Start (test .before) .args .number) (test .if1 .taken) (Start (test .before) .pre .2) (c .before .before .refusal .ensures)
 
 mul-used : tie.Need-mul-used
-mul-used c =
-    let test = c .before .before in
-    let s = test .before .before .before .before .before .before .before .before in
-    omega (arith, c .wide .ensures, s .pre .0 (test .if1 .left) .few)
+mul-used c = omega (arith, c .wide .ensures, Start (c .before .before .before) .pre .0 (c .before .before .if1 .left) .few)
 
 read-end : tie.Need-shared-slice-read-wide-2
-read-end c =
-    let test = c .before .before .before in
-    let s = test .before .before .before .before .before .before .before .before in
-    omega (arith, s .pre .0 (test .if1 .left) .offsets)
+read-end c = omega (arith, Start (c .before .before .before .before) .pre .0 (c .before .before .before .if1 .left) .offsets)
 
 slice-aggregate-lines : tie.Need-slice-aggregate-lines
 slice-aggregate-lines c =
-    let at-wide = c .before .before .before .before in
-    let test = at-wide .before .before in
-    let s = test .before .before .before .before .before .before .before .before in
-    sym (length-take-le _ _ (omega (arith, at-wide .wide .ensures, s .pre .0 (test .if1 .left) .vertices)))
+    sym (length-take-le _ _ (omega (arith, c .before .before .before .before .wide .ensures, Start (Else1 (c .before .before) .before) .pre .0 (Else1 (c .before .before) .if1 .left) .vertices)))
 
 slice-aggregate-lines-2 : tie.Need-slice-aggregate-lines-2
 slice-aggregate-lines-2 c =
-    let test = c .before .before .before .before .before .before .before in
-    let s = test .before .before .before .before .before .before .before .before in
-    sym (length-take-le _ _ (s .pre .0 (test .if1 .left) .offsets))
+    let test = Else1 (c .before .before .before) in
+    sym (length-take-le _ _ (Start (test .before) .pre .0 (test .if1 .left) .offsets))
 
 slice-aggregate-lines-3 : tie.Need-slice-aggregate-lines-3
 slice-aggregate-lines-3 c =
     let at-end = c .before .before .before .before in
-    let test = at-end .before .before .before .before in
-    let s = test .before .before .before .before .before .before .before .before in
-    sym (length-take-le _ _ (omega (arith, at-end .wide2 .ensures, s .pre .0 (test .if1 .left) .entries)))
+    sym (length-take-le _ _ (omega (arith, at-end .wide2 .ensures, Start (Else1 at-end .before) .pre .0 (Else1 at-end .if1 .left) .entries)))
 
 lines-requires : tie.Need-lines-requires
 lines-requires c κs =
     let at-end = c .before .before .before .before in
-    let at-wide = at-end .before .before in
-    let test = at-wide .before .before in
-    let s = test .before .before .before .before .before .before .before .before in
-    (rw (at-wide .wide .ensures, at-end .wide2 .ensures) (s .pre .0 (test .if1 .left) .ready), s .pre .2)
+    (rw (at-end .before .before .wide .ensures, at-end .wide2 .ensures) (Start (Else1 at-end .before) .pre .0 (Else1 at-end .if1 .left) .ready), Start (Else1 at-end .before) .pre .2)
 
 returns-2 : tie.Need-returns-2
 returns-2 c =
-    let at-lines = c .before .before in
-    let at-end = at-lines .before .before .before .before .before in
-    let at-wide = at-end .before .before in
-    let test = at-wide .before .before in
-    rw (eq-eqb _ _ (test .if1 .left)) (rw (at-wide .wide .ensures, at-end .wide2 .ensures) at (at-lines .lines .ensures))
+    let at-end = c .before .before .before .before .before .before .before in
+    rw (eq-eqb _ _ (Else1 at-end .if1 .left)) (rw (at-end .before .before .wide .ensures, at-end .wide2 .ensures) at (c .before .before .lines .ensures))
 
 pub show-spec : {M : Type 1} → statement M
 show-spec =

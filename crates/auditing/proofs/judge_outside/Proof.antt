@@ -6,34 +6,34 @@ use borrow.Author.Needs.{needs}
 use Rattle.auditing.proofs.judge_outside.Statement.{statement}
 use Rattle.auditing.proofs.judge_outside.Tie as tie
 
+abbrev Start : tie.After-first-site-outside → tie.Start
+Start c = c .before .before .before .before .before .before .before
+
 name-outside-requires : tie.Need-name-outside-requires
 name-outside-requires c κs =
-    let at-first = c .before in
-    let s = at-first .before .before .before .before .before .before .before in
+    let s = Start (c .before) in
     record {
       cut = s .pre .rings .cut;
       named = s .pre .rings .named;
       own = omega (arith, c .if1 .taken, s .pre .pieces .cut .many);
       few = s .pre .many;
       outside = outside-taken (s .args .whole) (s .args .bounds) (s .args .bits) (now (s .args .sites)) (now (s .args .starts)) (now (s .args .others)) (now
-          (s .args .vertices)) (now (s .args .offsets)) (now (s .args .indexes)) (s .pre .pieces) (at-first .first-site-outside .ensures) (c .if1 .taken);
+          (s .args .vertices)) (now (s .args .offsets)) (now (s .args .indexes)) (s .pre .pieces) (c .before .first-site-outside .ensures) (c .if1 .taken);
     }
 
 returns : tie.Need-returns
 returns c =
-    let at-first = c .before .before in
-    let s = at-first .before .before .before .before .before .before .before in
+    let s = Start (c .before .before) in
     outside-stage (s .args .whole) (s .args .bounds) (s .args .bits) (now (s .args .sites)) (now (s .args .starts)) (now (s .args .others)) (now (s .args .vertices)) (now
-    (s .args .offsets)) (now (s .args .indexes)) (s .pre .pieces) (at-first .first-site-outside .ensures) (c .before .if1 .taken) (c .name-outside .ensures)
+    (s .args .offsets)) (now (s .args .indexes)) (s .pre .pieces) (c .before .before .first-site-outside .ensures) (c .before .if1 .taken) (c .name-outside .ensures)
 
 returns-2 : tie.Need-returns-2
 returns-2 c =
-    let at-broad = c .before .before in
-    let at-first = at-broad .before .before in
-    let s = at-first .before .before .before .before .before .before .before in
+    let at-else1 = c .before .before .before in
+    let s = Start (at-else1 .before) in
     outside-after (s .args .whole) (s .args .bounds) (s .args .bits) (now (s .args .sites)) (now (s .args .starts)) (now (s .args .others)) (now (s .args .vertices)) (now
-    (s .args .offsets)) (now (s .args .indexes)) (s .pre .pieces) (at-first .first-site-outside .ensures) (at-broad .broad .ensures) (c .before .far .ensures)
-    (at-broad .before .if1 .left) (c .judge-nearer .ensures)
+    (s .args .offsets)) (now (s .args .indexes)) (s .pre .pieces) (at-else1 .before .first-site-outside .ensures) (c .before .before .broad .ensures) (c .before .far .ensures)
+    (at-else1 .if1 .left) (c .judge-nearer .ensures)
 
 pub judge-outside-spec : {M : Type 1} → statement M
 judge-outside-spec =

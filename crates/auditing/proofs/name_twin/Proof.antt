@@ -15,9 +15,8 @@ narrow-requires-2 c κs =
 
 returns : tie.Need-returns
 returns c =
-    let at-first = c .before .before in
-    let s = at-first .before .before in
-    twin-named (now (s .args .sites)) (s .args .s) (c .before .narrow .ensures) (at-first .first-twin .ensures) (c .narrow2 .ensures)
+    let s = c .before .before .before .before in
+    twin-named (now (s .args .sites)) (s .args .s) (c .before .narrow .ensures) (c .before .before .first-twin .ensures) (c .narrow2 .ensures)
 
 pub name-twin-spec : {M : Type 1} → statement M
 name-twin-spec = tie.close (tie.spec (λ c κs. search needs) (λ c κs. search needs) narrow-requires-2 returns)

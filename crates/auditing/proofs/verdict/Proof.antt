@@ -8,14 +8,14 @@ use Rattle.auditing.proofs.verdict.Tie as tie
 
 returns : tie.Need-returns
 returns c =
-    let at-rings = c in
-    let at-total = at-rings .before .before in
+    let at-total = c .before .before in
     let at-limit = at-total .before .before in
-    let s = at-limit .before .before .before .before .before .before .before .before in
+    let at-shared-slice-known5 = at-limit .before .before .before in
+    let s = at-shared-slice-known5 .before .before .before .before .before in
     let q = limit-of (s .args .bounds) (s .args .bits) (at-limit .before .wide .ensures) (at-limit .limit .ensures) in (
       verdict-is (s .args .bounds) (now (s .args .sites)) (now (s .args .vertices)) (now (s .args .offsets)) (now (s .args .indexes)) (now (s .args .starts))
           (now (s .args .others)) (s .args .bits) (at-total .total .ensures .1 (boxTwice (s .args .bounds)) (s .args .bits) q)
-          (at-rings .judge-rings .ensures (boxTwice (s .args .bounds)) q),
+          (c .judge-rings .ensures (boxTwice (s .args .bounds)) q),
       at-total .total .ensures .0,
     )
 

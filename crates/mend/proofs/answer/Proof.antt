@@ -23,15 +23,16 @@ abbrev read : tie.After-sites3 → tie.After-read
 read c = c .before .before .before .before .before .before .before .before
 
 refusal-requires : tie.Need-refusal-requires
-refusal-requires c κs = let w = c .before .before .before .before .before .before .before in omega (arith, refusal-short (w .read .result .number), begin w .pre .1)
+refusal-requires c κs =
+    let w = c .before .before .before .before .before .before .before in
+    omega (arith, refusal-short (w .read .result .number), begin w .pre .1)
 
 returns : tie.Need-returns
 returns c =
-    let at-refusal = c .before .before in
-    let test = at-refusal .before .before in
+    let test = c .before .before .before .before in
     let w = test .before .before .before .before .before .before in
     let s = begin w in
-    let q = at-refusal .refusal .ensures in
+    let q = c .before .before .refusal .ensures in
     let short = refusal-short (w .read .result .number) in (
       prints-refusal (w .read .ensures) (now (s .args .option)) (s .pre .0) (given w .is-given .ensures) (s .args .form) (test .if1 .taken)
           (wrote-all q (omega (arith, short, s .pre .1))),
@@ -59,19 +60,18 @@ slice-aggregate-of-form-4 c =
 of-form-requires : tie.Need-of-form-requires
 of-form-requires c κs =
     let w = read (c .before .before .before) in
-    let test = c .before .before .before .before .before in
     let r = w .read .ensures in
-    let s = begin w in
-    (s .pre .0, rw (many w) (read-headed r (test .if1 .left)), parts-sized _ _ _ (r .sized), s .pre .1)
+    (begin w .pre .0, rw (many w) (read-headed r (c .before .before .before .before .before .if1 .left)), parts-sized _ _ _ (r .sized), begin w .pre .1)
 
 returns-2 : tie.Need-returns-2
 returns-2 c =
-    let at-of-form = c .before .before in
-    let test = at-of-form .before .before .before .before .before .before in
-    let w = test .before .before .before .before .before .before in
-    let s = begin w in
-    let h = at-of-form .of-form .ensures in
-    (prints (w .read .ensures) (now (s .args .option)) (s .pre .0) (given w .is-given .ensures) (s .args .form) (test .if1 .left) (rw (many w) at (h .0)), h .1)
+    let at-sites3 = c .before .before .before .before .before .before in
+    let w = read at-sites3 in
+    let h = c .before .before .of-form .ensures in (
+      prints (w .read .ensures) (now (begin w .args .option)) (begin w .pre .0) (given w .is-given .ensures) (begin w .args .form) (at-sites3 .before .before .if1 .left)
+          (rw (many w) at (h .0)),
+      h .1,
+    )
 
 pub answer-spec : {M : Type 1} → statement M
 answer-spec =

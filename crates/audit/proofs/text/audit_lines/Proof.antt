@@ -21,15 +21,12 @@ turned-line-requires c κs = let s = c .before .before in fits-left (now (s .arg
 verdict-line-requires : tie.Need-verdict-line-requires
 unfolding auditLines
 verdict-line-requires c κs =
-    let at-first = c .before .before .before in
-    let s = at-first .before .before .before in
-    fits-then (before s) (after s) (at-first .turned-line .ensures) (s .pre)
+    let s = c .before .before .before .before .before .before in
+    fits-then (before s) (after s) (c .before .before .before .turned-line .ensures) (s .pre)
 
 returns : tie.Need-returns
 unfolding auditLines
-returns c =
-    let at-second = c .before .before in
-    wrote-then (at-second .before .before .before .before .turned-line .ensures) (at-second .verdict-line .ensures)
+returns c = wrote-then (c .before .before .before .before .before .before .turned-line .ensures) (c .before .before .verdict-line .ensures)
 
 pub audit-lines-spec : {M : Type 1} → statement M
 audit-lines-spec = tie.close (tie.spec turned-line-requires verdict-line-requires (λ c. search needs) returns)

@@ -19,16 +19,14 @@ truncating-requires c κs = in-range (c .before .before .args .v) (c .before .if
 returns-3 : tie.Need-returns-3
 unfolding ofBits neg
 returns-3 c =
-    let at-cut = c .before in
-    let test = at-cut .before in
-    below-most (test .before .before .args .v) (test .before .if1 .left) (test .if2 .left) (at-cut .truncating-f64-to-u64 .ensures) (c .if3 .taken)
+    let test = c .before .before in
+    below-most (test .before .before .args .v) (test .before .if1 .left) (test .if2 .left) (c .before .truncating-f64-to-u64 .ensures) (c .if3 .taken)
 
 returns-4 : tie.Need-returns-4
 unfolding ofBits neg
 returns-4 c =
-    let at-cut = c .before in
-    let test = at-cut .before in
-    at-most (test .before .before .args .v) (test .before .if1 .left) (test .if2 .left) (at-cut .truncating-f64-to-u64 .ensures) (c .if3 .left)
+    let test = c .before .before in
+    at-most (test .before .before .args .v) (test .before .if1 .left) (test .if2 .left) (c .before .truncating-f64-to-u64 .ensures) (c .if3 .left)
 
 pub billionths-spec : {M : Type 1} → statement M
 billionths-spec = tie.close (tie.spec returns returns-2 truncating-requires returns-3 returns-4)

@@ -11,15 +11,13 @@ decimal-requires c κs = let s = c .before .before in omega (arith, fraction-lon
 
 slice-write-out : tie.Need-slice-write-out
 slice-write-out c =
-    let at-digits = c .before .before in
-    let s = at-digits .before .before .before in
-    omega (arith, wrote-length (at-digits .decimal .ensures), ten-some (s .args .f) (s .pre .0), fraction-long (s .args .f) (s .pre .0), s .pre .1)
+    let s = c .before .before .before .before .before in
+    omega (arith, wrote-length (c .before .before .decimal .ensures), ten-some (s .args .f) (s .pre .0), fraction-long (s .args .f) (s .pre .0), s .pre .1)
 
 returns : tie.Need-returns
 returns c =
-    let at-digits = c .before .before in
-    let s = at-digits .before .before .before in
-    fraction-put (s .args .f) (s .pre .0) (at-digits .decimal .ensures)
+    let s = c .before .before .before .before .before in
+    fraction-put (s .args .f) (s .pre .0) (c .before .before .decimal .ensures)
 
 pub fraction-spec : {M : Type 1} → statement M
 fraction-spec = tie.close (tie.spec (λ c. omega (arith, c .before .before .pre .0)) decimal-requires slice-write-out (λ c. search needs) returns)

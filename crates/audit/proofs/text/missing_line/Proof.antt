@@ -17,6 +17,9 @@ word = ascii "missing "
 abbrev end : List ℕ
 end = ascii "\n"
 
+abbrev Entry : tie.After-share-arg → tie.Start
+Entry c = c .before .before .before .before .before .before .before
+
 -- room for all but the end
 without : (s : tie.Start) → HasRoom (now (s .args .out)) (s .args .at) (word ++ shareText (s .args .missing))
 unfolding missingLine
@@ -26,25 +29,20 @@ put-requires : tie.Need-put-requires
 put-requires c κs = let s = c .before .before .before in fits-left (now (s .args .out)) (s .args .at) word (shareText (s .args .missing)) (without s)
 
 share-requires : tie.Need-share-requires
-share-requires c κs =
-    let at-put = c .before .before .before in
-    let s = at-put .before .before .before .before in
-    fits-then word (shareText (s .args .missing)) (at-put .put .ensures) (without s)
+share-requires c κs = fits-then word (shareText (Entry c .args .missing)) (c .before .before .before .put .ensures) (without (Entry c))
 
 put-requires-2 : tie.Need-put-requires-2
 unfolding missingLine
 put-requires-2 c κs =
     let at-share = c .before .before .before .before in
-    let at-put = at-share .before .before .before .before in
-    let s = at-put .before .before .before .before in
-    fits-then (word ++ shareText (s .args .missing)) end (wrote-then (at-put .put .ensures) (at-share .share .ensures)) (s .pre)
+    fits-then (word ++ shareText (Entry (at-share .before) .args .missing)) end (wrote-then (at-share .before .before .before .before .put .ensures) (at-share .share .ensures))
+    (Entry (at-share .before) .pre)
 
 returns : tie.Need-returns
 unfolding missingLine
 returns c =
-    let at-end = c .before .before in
-    let at-share = at-end .before .before .before .before .before in
-    wrote-then (wrote-then (at-share .before .before .before .before .put .ensures) (at-share .share .ensures)) (at-end .put2 .ensures)
+    let at-share = c .before .before .before .before .before .before .before in
+    wrote-then (wrote-then (at-share .before .before .before .before .put .ensures) (at-share .share .ensures)) (c .before .before .put2 .ensures)
 
 pub missing-line-spec : {M : Type 1} → statement M
 missing-line-spec =

@@ -17,7 +17,9 @@ after s = labelledLine (now (s .args .second)) (s .args .n) (now (s .args .end))
 
 labelled-requires : tie.Need-labelled-requires
 unfolding pairLine
-labelled-requires c κs = let s = c .before .before .before .before .before in fits-left (now (s .args .out)) (s .args .at) (before s) (after s) (s .pre)
+labelled-requires c κs =
+    let s = c .before .before .before .before .before in
+    fits-left (now (s .args .out)) (s .args .at) (before s) (after s) (s .pre)
 
 number-line-requires : tie.Need-number-line-requires
 unfolding pairLine
@@ -28,9 +30,7 @@ number-line-requires c κs =
 
 returns : tie.Need-returns
 unfolding pairLine
-returns c =
-    let at-second = c .before .before in
-    wrote-then (at-second .before .before .before .before .labelled .ensures) (at-second .number-line .ensures)
+returns c = wrote-then (c .before .before .before .before .before .before .labelled .ensures) (c .before .before .number-line .ensures)
 
 pub pair-line-spec : {M : Type 1} → statement M
 pair-line-spec = tie.close (tie.spec labelled-requires number-line-requires (λ c. search needs) returns)

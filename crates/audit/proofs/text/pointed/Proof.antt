@@ -18,15 +18,12 @@ decimal-requires c κs =
 fraction-requires : tie.Need-fraction-requires
 unfolding pointed
 fraction-requires c κs =
-    let at-whole = c .before .before .before in
-    let s = at-whole .before .before .before in
-    (omega arith, fits-then (decimal (s .args .n / 1000000000)) (fraction (s .args .n % 1000000000)) (at-whole .decimal .ensures) (s .pre .1))
+    let s = c .before .before .before .before .before .before in
+    (omega arith, fits-then (decimal (s .args .n / 1000000000)) (fraction (s .args .n % 1000000000)) (c .before .before .before .decimal .ensures) (s .pre .1))
 
 returns : tie.Need-returns
 unfolding pointed
-returns c =
-    let at-fraction = c .before .before in
-    wrote-then (at-fraction .before .before .before .before .decimal .ensures) (at-fraction .fraction .ensures)
+returns c = wrote-then (c .before .before .before .before .before .before .decimal .ensures) (c .before .before .fraction .ensures)
 
 pub pointed-spec : {M : Type 1} → statement M
 pointed-spec =

@@ -24,46 +24,39 @@ over s = pointed (billionths (s .args .missing ⊠ billion))
 put-requires : tie.Need-put-requires
 unfolding ofBits neg
 put-requires c κs =
-    let test = c .before .before in
-    let s = test .before .before in
+    let s = c .before .before .before .before in
     fits-left (now (s .args .out)) (s .args .at) (ascii "-") (under s)
-    (subst (HasRoom (now (s .args .out)) (s .args .at)) (share-below (s .args .missing) (test .if1 .taken)) (s .pre))
+    (subst (HasRoom (now (s .args .out)) (s .args .at)) (share-below (s .args .missing) (c .before .before .if1 .taken)) (s .pre))
 
 pointed-requires : tie.Need-pointed-requires
 unfolding ofBits neg
 pointed-requires c κs =
     let at-put = c .before .before .before .before in
-    let test = at-put .before .before .before in
-    let s = test .before .before in
-    let room = subst (HasRoom (now (s .args .out)) (s .args .at)) (share-below (s .args .missing) (test .if1 .taken)) (s .pre) in
+    let s = at-put .before .before .before .before .before in
+    let room = subst (HasRoom (now (s .args .out)) (s .args .at)) (share-below (s .args .missing) (at-put .before .before .before .if1 .taken)) (s .pre) in
     rw (c .billionths .ensures) (billionths-most _, fits-then (ascii "-") (under s) (at-put .put .ensures) room)
 
 returns : tie.Need-returns
 unfolding ofBits neg
 returns c =
     let at-pointed = c .before .before in
-    let at-billionths = at-pointed .before in
-    let at-put = at-billionths .before .before .before .before in
-    let test = at-put .before .before .before in
-    let s = test .before .before in
-    let digits = rw (at-billionths .billionths .ensures) at (at-pointed .pointed .ensures) in
-    wrote-as (wrote-then {s = ascii "-"} {t = under s} (at-put .put .ensures) digits) (sym (share-below (s .args .missing) (test .if1 .taken)))
+    let at-put = at-pointed .before .before .before .before .before in
+    let s = at-put .before .before .before .before .before in
+    let digits = rw (at-pointed .before .billionths .ensures) at (at-pointed .pointed .ensures) in
+    wrote-as (wrote-then {s = ascii "-"} {t = under s} (at-put .put .ensures) digits) (sym (share-below (s .args .missing) (at-put .before .before .before .if1 .taken)))
 
 pointed-requires-2 : tie.Need-pointed-requires-2
 unfolding ofBits neg
 pointed-requires-2 c κs =
-    let test = c .before .before in
-    let s = test .before .before in
-    rw (c .billionths2 .ensures) (billionths-most _, subst (HasRoom (now (s .args .out)) (s .args .at)) (share-above (s .args .missing) (test .if1 .left)) (s .pre))
+    let s = c .before .before .before .before in
+    rw (c .billionths2 .ensures) (billionths-most _, subst (HasRoom (now (s .args .out)) (s .args .at)) (share-above (s .args .missing) (c .before .before .if1 .left)) (s .pre))
 
 returns-2 : tie.Need-returns-2
 unfolding ofBits neg
 returns-2 c =
     let at-pointed = c .before .before in
-    let at-billionths = at-pointed .before in
-    let test = at-billionths .before .before in
-    let s = test .before .before in
-    wrote-as {s = over s} (rw (at-billionths .billionths2 .ensures) at (at-pointed .pointed2 .ensures)) (sym (share-above (s .args .missing) (test .if1 .left)))
+    let s = at-pointed .before .before .before .before .before in
+    wrote-as {s = over s} (rw (at-pointed .before .billionths2 .ensures) at (at-pointed .pointed2 .ensures)) (sym (share-above (s .args .missing) (at-pointed .before .before .before .if1 .left)))
 
 pub share-spec : {M : Type 1} → statement M
 share-spec =

@@ -18,7 +18,9 @@ after s = pairLine (now (s .args .second)) (s .args .m) (now (s .args .third)) (
 
 labelled-requires : tie.Need-labelled-requires
 unfolding tripleLine
-labelled-requires c κs = let s = c .before .before .before .before .before in fits-left (now (s .args .out)) (s .args .at) (before s) (after s) (s .pre)
+labelled-requires c κs =
+    let s = c .before .before .before .before .before in
+    fits-left (now (s .args .out)) (s .args .at) (before s) (after s) (s .pre)
 
 pair-line-requires : tie.Need-pair-line-requires
 unfolding tripleLine
@@ -29,9 +31,7 @@ pair-line-requires c κs =
 
 returns : tie.Need-returns
 unfolding tripleLine
-returns c =
-    let at-second = c .before .before in
-    wrote-then (at-second .before .before .before .before .before .labelled .ensures) (at-second .pair-line .ensures)
+returns c = wrote-then (c .before .before .before .before .before .before .before .labelled .ensures) (c .before .before .pair-line .ensures)
 
 pub triple-line-spec : {M : Type 1} → statement M
 triple-line-spec = tie.close (tie.spec labelled-requires (λ c. search needs) pair-line-requires (λ c. search needs) returns)

@@ -18,9 +18,7 @@ triple-line-requires c κs =
 
 returns-2 : tie.Need-returns-2
 unfolding turnedLine
-returns-2 c =
-    let at-line = c .before .before in
-    rw (ne-eqb _ _ (at-line .before .before .before .before .before .if1 .left)) (at-line .triple-line .ensures)
+returns-2 c = rw (ne-eqb _ _ (c .before .before .before .before .before .before .before .if1 .left)) (c .before .before .triple-line .ensures)
 
 pub turned-line-spec : {M : Type 1} → statement M
 turned-line-spec =

@@ -4,9 +4,7 @@ use Rattle.audit.proofs.text.verdict_line.Statement.{statement}
 use Rattle.audit.proofs.text.verdict_line.Tie as tie
 
 put-requires : tie.Need-put-requires
-put-requires c κs =
-    let told = c .before .before in
-    rw (told .enum-told .given .1) at (told .before .before .before .pre)
+put-requires c κs = rw (c .before .before .enum-told .given .1) at (c .before .before .before .before .before .pre)
 
 number-line-requires : tie.Need-number-line-requires
 number-line-requires c κs =
@@ -24,9 +22,7 @@ triple-line-requires c κs =
     rw (told .verdict3 .given .1) at (told .before .before .before .pre)
 
 missing-line-requires : tie.Need-missing-line-requires
-missing-line-requires c κs =
-    let told = c .before in
-    rw (told .enum-told2 .given .1) at (told .before .before .before .pre)
+missing-line-requires c κs = rw (c .before .enum-told2 .given .1) at (c .before .before .before .before .pre)
 
 pair-line-requires-2 : tie.Need-pair-line-requires-2
 pair-line-requires-2 c κs =
@@ -34,14 +30,10 @@ pair-line-requires-2 c κs =
     rw (told .verdict4 .given .1) at (told .before .before .before .pre)
 
 returns : tie.Need-returns
-returns c =
-    let at-line = c .before .before in
-    rw (at-line .before .before .before .enum-told .given .1) (at-line .put .ensures)
+returns c = rw (c .before .before .before .before .before .enum-told .given .1) (c .before .before .put .ensures)
 
 returns-2 : tie.Need-returns-2
-returns-2 c =
-    let at-line = c .before .before in
-    rw (at-line .before .before .before .before .before .verdict .given .1) (at-line .number-line .ensures)
+returns-2 c = rw (c .before .before .before .before .before .before .before .verdict .given .1) (c .before .before .number-line .ensures)
 
 returns-3 : tie.Need-returns-3
 returns-3 c =
@@ -54,9 +46,7 @@ returns-4 c =
     rw (at-line .before .before .before .before .before .before .verdict3 .given .1) (at-line .triple-line .ensures)
 
 returns-5 : tie.Need-returns-5
-returns-5 c =
-    let at-line = c .before .before in
-    rw (at-line .before .before .enum-told2 .given .1) (at-line .missing-line .ensures)
+returns-5 c = rw (c .before .before .before .before .enum-told2 .given .1) (c .before .before .missing-line .ensures)
 
 returns-6 : tie.Need-returns-6
 returns-6 c =

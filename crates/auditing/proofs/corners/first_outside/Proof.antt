@@ -18,21 +18,13 @@ loop-holds : tie.Need-loop-holds Inv-loop μ-loop
 loop-holds c = passed-start _ _
 
 is-outside-requires : tie.Need-is-outside-requires Inv-loop μ-loop
-is-outside-requires c κs =
-    let l = c .before .before in
-    named-twice _ _ (l .before .before .before .pre .each (l .loop .k) (omega arith))
+is-outside-requires c κs = named-twice _ _ (c .before .before .before .before .before .pre .each (c .before .before .loop .k) (omega arith))
 
 returns : tie.Need-returns Inv-loop μ-loop
-returns c =
-    let at-test = c .before in
-    let l = at-test .before .before .before in
-    passed-found (l .loop .inv) (omega arith) (corner-outside _ _ _ _ (at-test .is-outside .ensures)) (c .if1 .taken)
+returns c = passed-found (c .before .before .before .before .loop .inv) (omega arith) (corner-outside _ _ _ _ (c .before .is-outside .ensures)) (c .if1 .taken)
 
 loop-again : tie.Need-loop-again Inv-loop μ-loop
-loop-again c =
-    let at-test = c .before in
-    let l = at-test .before .before .before in
-    passed-step (l .loop .inv) (omega arith) (corner-outside _ _ _ _ (at-test .is-outside .ensures)) (c .if1 .left)
+loop-again c = passed-step (c .before .before .before .before .loop .inv) (omega arith) (corner-outside _ _ _ _ (c .before .is-outside .ensures)) (c .if1 .left)
 
 returns-2 : tie.Need-returns-2 Inv-loop μ-loop
 returns-2 c = passed-end (c .before .loop .inv) (omega arith)

@@ -17,6 +17,9 @@ Inv-loop bounds vertices offsets indexes count s₀ s = NoneTo (siteOutside boun
 abbrev μ-loop : tie.MeasureT-loop
 μ-loop bounds vertices offsets indexes count s₀ s = count - s
 
+abbrev Start : tie.At-loop Inv-loop μ-loop → tie.Start Inv-loop μ-loop
+Start c = c .before .before .before .before .before
+
 cell-count-requires : tie.Need-cell-count-requires Inv-loop μ-loop
 cell-count-requires c κs = tt
 
@@ -24,32 +27,26 @@ loop-holds : tie.Need-loop-holds Inv-loop μ-loop
 loop-holds c = passed-start _ _
 
 cell-requires : tie.Need-cell-requires Inv-loop μ-loop
-cell-requires c κs =
-    let l = c .before in
-    (l .before .before .before .before .before .pre .0, omega (arith, l .before .cell-count .ensures))
+cell-requires c κs = (Start (c .before) .pre .0, omega (arith, c .before .before .cell-count .ensures))
 
 cell-outside-requires : tie.Need-cell-outside-requires Inv-loop μ-loop
 cell-outside-requires c κs =
     let l = c .before .before in
-    let s = l .before .before .before .before .before in
-    rw (c .cell .ensures) (cell-named (now (s .args .offsets)) (now (s .args .indexes)) (s .pre .0) (l .loop .s) (omega (arith, l .before .cell-count .ensures)) (s .pre .1))
+    rw (c .cell .ensures) (cell-named (now (Start l .args .offsets)) (now (Start l .args .indexes)) (Start l .pre .0) (l .loop .s) (omega (arith, l .before .cell-count .ensures))
+    (Start l .pre .1))
 
 returns : tie.Need-returns Inv-loop μ-loop
 returns c =
-    let at-cell = c .before .before in
-    let l = at-cell .before .before in
-    let s = l .before .before .before .before .before in
+    let l = c .before .before .before .before in
     passed-found (l .loop .inv) (omega (arith, l .before .cell-count .ensures))
-    (site-outside (s .args .bounds) (now (s .args .vertices)) (now (s .args .offsets)) (now (s .args .indexes)) (l .loop .s) (at-cell .cell .ensures)
+    (site-outside (Start l .args .bounds) (now (Start l .args .vertices)) (now (Start l .args .offsets)) (now (Start l .args .indexes)) (l .loop .s) (c .before .before .cell .ensures)
     (c .before .cell-outside .ensures)) (c .if1 .taken)
 
 loop-again : tie.Need-loop-again Inv-loop μ-loop
 loop-again c =
-    let at-cell = c .before .before in
-    let l = at-cell .before .before in
-    let s = l .before .before .before .before .before in
+    let l = c .before .before .before .before in
     passed-step (l .loop .inv) (omega (arith, l .before .cell-count .ensures))
-    (site-outside (s .args .bounds) (now (s .args .vertices)) (now (s .args .offsets)) (now (s .args .indexes)) (l .loop .s) (at-cell .cell .ensures)
+    (site-outside (Start l .args .bounds) (now (Start l .args .vertices)) (now (Start l .args .offsets)) (now (Start l .args .indexes)) (l .loop .s) (c .before .before .cell .ensures)
     (c .before .cell-outside .ensures)) (c .if1 .left)
 
 returns-2 : tie.Need-returns-2 Inv-loop μ-loop

@@ -13,15 +13,12 @@ box-sums-requires c κs = let z = open-zeros 4 (lit≤ tt) in (c .before .before
 settled-over-requires : tie.Need-settled-over-requires
 settled-over-requires c κs =
     let at-sums = c .before .before .before .before in
-    let s = at-sums .before .before .before in
-    box-fits _ (s .pre) (at-sums .box-sums .ensures)
+    box-fits _ (at-sums .before .before .before .pre) (at-sums .box-sums .ensures)
 
 returns : tie.Need-returns
 returns c =
-    let at-over = c .before .before in
-    let at-sums = at-over .before .before .before .before .before in
-    let s = at-sums .before .before .before in
-    box-over _ (s .pre) (at-sums .box-sums .ensures) (at-over .settled-over .ensures)
+    let at-sums = c .before .before .before .before .before .before .before in
+    box-over _ (at-sums .before .before .before .pre) (at-sums .box-sums .ensures) (c .before .before .settled-over .ensures)
 
 pub box-twice-spec : {M : Type 1} → statement M
 box-twice-spec =

@@ -16,6 +16,9 @@ Inv-loop far corner sites s part all site count j₀ j = NoneTo (beyondAt far co
 abbrev μ-loop : tie.MeasureT-loop
 μ-loop far corner sites s part all site count j₀ j = count - j
 
+abbrev Start : tie.At-loop Inv-loop μ-loop → tie.Start Inv-loop μ-loop
+Start c = c .before .before .before .before .before
+
 point-at-requires : tie.Need-point-at-requires Inv-loop μ-loop
 point-at-requires c κs = named-twice _ _ (c .before .before .pre .own)
 
@@ -26,44 +29,39 @@ loop-holds : tie.Need-loop-holds Inv-loop μ-loop
 loop-holds c = passed-start _ _
 
 other-at-requires : tie.Need-other-at-requires Inv-loop μ-loop
-other-at-requires c κs =
-    let l = c .before in
-    let s = l .before .before .before .before .before in
-    other-there (s .args .all) (now (s .args .part)) _ (l .loop .j) (l .before .held-count .ensures) (c .loop-test .taken)
+other-at-requires c κs = other-there (Start (c .before) .args .all) (now (Start (c .before) .args .part)) _ (c .before .loop .j) (c .before .before .held-count .ensures) (c .loop-test .taken)
 
 point-at-requires-2 : tie.Need-point-at-requires-2 Inv-loop μ-loop
 point-at-requires-2 c κs =
     let l = c .before .before in
-    let s = l .before .before .before .before .before in
-    named-twice _ _ (rw (c .other-at .ensures) (other-site (s .args .all) (now (s .args .part)) _ (l .loop .j) (l .before .held-count .ensures) (c .before .loop-test .taken) (s .pre .named)))
+    named-twice _ _ (rw (c .other-at .ensures) (other-site (Start l .args .all) (now (Start l .args .part)) _ (l .loop .j) (l .before .held-count .ensures)
+    (c .before .loop-test .taken) (Start l .pre .named)))
 
 is-beyond-requires : tie.Need-is-beyond-requires Inv-loop μ-loop
 is-beyond-requires c κs = tt
 
 returns : tie.Need-returns Inv-loop μ-loop
 returns c =
-    let at-test = c .before in
-    let at-other = at-test .before .before in
+    let at-other = c .before .before .before in
     let l = at-other .before .before in
-    let s = l .before .before .before .before .before in
+    let s = Start l in
     passed-found (l .loop .inv) (rw (l .before .held-count .ensures) at (at-other .before .loop-test .taken))
     (beyond-is (s .args .far) (s .args .corner) (now (s .args .sites)) (s .args .s) (now (s .args .part)) (s .args .all) (l .loop .j) (l .before .before .point-at .ensures)
     (at-other .other-at .ensures)
-    (at-test .before .point-at2 .ensures) (at-test .is-beyond .ensures)) (c .if1 .taken)
+    (c .before .before .point-at2 .ensures) (c .before .is-beyond .ensures)) (c .if1 .taken)
 
 loop-again : tie.Need-loop-again Inv-loop μ-loop
 loop-again c =
-    let at-test = c .before in
-    let at-other = at-test .before .before in
+    let at-other = c .before .before .before in
     let l = at-other .before .before in
-    let s = l .before .before .before .before .before in
+    let s = Start l in
     passed-step (l .loop .inv) (rw (l .before .held-count .ensures) at (at-other .before .loop-test .taken))
     (beyond-is (s .args .far) (s .args .corner) (now (s .args .sites)) (s .args .s) (now (s .args .part)) (s .args .all) (l .loop .j) (l .before .before .point-at .ensures)
     (at-other .other-at .ensures)
-    (at-test .before .point-at2 .ensures) (at-test .is-beyond .ensures)) (c .if1 .left)
+    (c .before .before .point-at2 .ensures) (c .before .is-beyond .ensures)) (c .if1 .left)
 
 returns-2 : tie.Need-returns-2 Inv-loop μ-loop
-returns-2 c = let l = c .before in passed-end (l .loop .inv) (rw (l .before .held-count .ensures) at (c .loop-test .left))
+returns-2 c = passed-end (c .before .loop .inv) (rw (c .before .before .held-count .ensures) at (c .loop-test .left))
 
 pub first-beyond-spec : {M : Type 1} → statement M
 first-beyond-spec =

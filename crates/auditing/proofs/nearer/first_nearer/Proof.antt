@@ -16,6 +16,9 @@ Inv-loop far sites s part all vertices entries k₀ k = NoneTo (cornerNearer far
 abbrev μ-loop : tie.MeasureT-loop
 μ-loop far sites s part all vertices entries k₀ k = length entries - k
 
+abbrev Start : tie.In-loop Inv-loop μ-loop → tie.Start Inv-loop μ-loop
+Start c = c .before .before .before .before .before .before
+
 loop-holds : tie.Need-loop-holds Inv-loop μ-loop
 loop-holds c = passed-start _ _
 
@@ -24,33 +27,31 @@ wide-requires c κs = tt
 
 point-at-requires : tie.Need-point-at-requires Inv-loop μ-loop
 point-at-requires c κs =
-    let l = c .before .before .before in
-    let s = l .before .before .before .before .before in
-    rw (c .wide .ensures) (named-twice _ _ (s .pre .1 .each (l .loop .k) (c .before .before .loop-test .taken)))
+    let in-loop = c .before .before in
+    rw (c .wide .ensures) (named-twice _ _ (Start in-loop .pre .1 .each (in-loop .before .loop .k) (in-loop .loop-test .taken)))
 
 is-nearer-requires : tie.Need-is-nearer-requires Inv-loop μ-loop
-is-nearer-requires c κs =
-    c .before .before .before .before .before .before .before .before .before .pre .0
+is-nearer-requires c κs = Start (c .before .before .before) .pre .0
 
 returns : tie.Need-returns Inv-loop μ-loop
 returns c =
-    let at-test = c .before in
-    let at-wide = at-test .before .before in
-    let l = at-wide .before .before .before in
-    let s = l .before .before .before .before .before in
-    passed-found (l .loop .inv) (at-wide .before .before .loop-test .taken)
-    (corner-is (s .args .far) (now (s .args .sites)) (s .args .s) (now (s .args .part)) (s .args .all) (now (s .args .vertices)) (now (s .args .entries)) (l .loop .k) (at-wide .wide .ensures)
-    (at-test .before .point-at .ensures) (at-test .is-nearer .ensures)) (c .if1 .taken)
+    let at-point-at = c .before .before in
+    let in-loop = at-point-at .before .before .before in
+    let s = Start in-loop in
+    passed-found (in-loop .before .loop .inv) (in-loop .loop-test .taken)
+    (corner-is (s .args .far) (now (s .args .sites)) (s .args .s) (now (s .args .part)) (s .args .all) (now (s .args .vertices)) (now (s .args .entries)) (in-loop .before .loop .k)
+    (at-point-at .before .wide .ensures)
+    (at-point-at .point-at .ensures) (c .before .is-nearer .ensures)) (c .if1 .taken)
 
 loop-again : tie.Need-loop-again Inv-loop μ-loop
 loop-again c =
-    let at-test = c .before in
-    let at-wide = at-test .before .before in
-    let l = at-wide .before .before .before in
-    let s = l .before .before .before .before .before in
-    passed-step (l .loop .inv) (at-wide .before .before .loop-test .taken)
-    (corner-is (s .args .far) (now (s .args .sites)) (s .args .s) (now (s .args .part)) (s .args .all) (now (s .args .vertices)) (now (s .args .entries)) (l .loop .k) (at-wide .wide .ensures)
-    (at-test .before .point-at .ensures) (at-test .is-nearer .ensures)) (c .if1 .left)
+    let at-point-at = c .before .before in
+    let in-loop = at-point-at .before .before .before in
+    let s = Start in-loop in
+    passed-step (in-loop .before .loop .inv) (in-loop .loop-test .taken)
+    (corner-is (s .args .far) (now (s .args .sites)) (s .args .s) (now (s .args .part)) (s .args .all) (now (s .args .vertices)) (now (s .args .entries)) (in-loop .before .loop .k)
+    (at-point-at .before .wide .ensures)
+    (at-point-at .point-at .ensures) (c .before .is-nearer .ensures)) (c .if1 .left)
 
 returns-2 : tie.Need-returns-2 Inv-loop μ-loop
 returns-2 c = passed-end (c .before .loop .inv) (omega arith)

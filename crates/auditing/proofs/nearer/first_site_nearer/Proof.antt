@@ -18,14 +18,14 @@ loop-holds c = passed-start _ _
 
 site-nearer-requires : tie.Need-site-nearer-requires Inv-loop μ-loop
 site-nearer-requires c κs =
-    let s = c .before .before .before .before .before .before .before .before in
-    (s .pre .0, s .pre .1, c .loop-test .taken)
+    let at-shared-slice-known = c .before .before .before .before .before .before .before in
+    (at-shared-slice-known .before .pre .0, at-shared-slice-known .before .pre .1, c .loop-test .taken)
 
 returns : tie.Need-returns Inv-loop μ-loop
-returns c = let l = c .before .before .before in passed-found (l .loop .inv) (c .before .before .loop-test .taken) (c .before .site-nearer .ensures) (c .if1 .taken)
+returns c = passed-found (c .before .before .before .loop .inv) (c .before .before .loop-test .taken) (c .before .site-nearer .ensures) (c .if1 .taken)
 
 loop-again : tie.Need-loop-again Inv-loop μ-loop
-loop-again c = let l = c .before .before .before in passed-step (l .loop .inv) (c .before .before .loop-test .taken) (c .before .site-nearer .ensures) (c .if1 .left)
+loop-again c = passed-step (c .before .before .before .loop .inv) (c .before .before .loop-test .taken) (c .before .site-nearer .ensures) (c .if1 .left)
 
 returns-2 : tie.Need-returns-2 Inv-loop μ-loop
 returns-2 c = passed-end (c .before .loop .inv) (c .loop-test .left)

@@ -6,7 +6,8 @@ use Rattle.auditing.proofs.nearer.is_beyond.Tie as tie
 
 returns : tie.Need-returns
 returns c =
-    let s = c .before .before .before .before .before .before .before .before .before .before .before .before .before .before in
+    let at-struct-known7 = c .before .before .before .before .before .before .before in
+    let s = at-struct-known7 .before .before .before .before .before .before .before in
     past-is (s .args .far) (s .args .v) (s .args .s) (s .args .o) (c .before .magnitude .ensures) (c .magnitude2 .ensures)
 
 pub is-beyond-spec : {M : Type 1} → statement M

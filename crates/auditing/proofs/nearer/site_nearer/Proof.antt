@@ -5,22 +5,23 @@ use borrow.Author.Needs.{needs}
 use Rattle.auditing.proofs.nearer.site_nearer.Statement.{statement}
 use Rattle.auditing.proofs.nearer.site_nearer.Tie as tie
 
+abbrev Start : tie.After-no-lists → tie.Start
+Start c = c .before .before .before .before .before .before .before
+
 held-requires : tie.Need-held-requires
-held-requires c κs =
-    let s = c .before .before .before .before .before .before .before in
-    held-cut (s .pre .0) (s .args .s) (s .pre .2)
+held-requires c κs = held-cut (Start c .pre .0) (Start c .args .s) (Start c .pre .2)
 
 cell-nearer-requires : tie.Need-cell-nearer-requires
 cell-nearer-requires c κs =
-    let s = c .before .before .before .before .before .before .before .before .before in
+    let s = Start (c .before .before) in
     (held-names (s .pre .0) (s .args .s) (s .pre .2) (c .before .before .no-lists .ensures) (c .before .held .ensures), piece-names (s .pre .1) (s .args .s) (s .pre .2) (c .cell .ensures))
 
 returns : tie.Need-returns
 returns c =
-    let at-cell = c .before in
-    let s = at-cell .before .before .before .before .before .before .before .before .before in
+    let at-held = c .before .before in
+    let s = Start (at-held .before) in
     site-is (s .args .far) (now (s .args .sites)) (now (s .args .starts)) (now (s .args .others)) (now (s .args .vertices)) (now (s .args .offsets)) (now (s .args .indexes)) (s .args .s)
-    (at-cell .before .before .no-lists .ensures) (at-cell .before .held .ensures) (at-cell .cell .ensures) (c .cell-nearer .ensures)
+    (at-held .before .no-lists .ensures) (at-held .held .ensures) (c .before .cell .ensures) (c .cell-nearer .ensures)
 
 pub site-nearer-spec : {M : Type 1} → statement M
 site-nearer-spec =

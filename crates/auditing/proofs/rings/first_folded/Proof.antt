@@ -20,30 +20,24 @@ loop-holds : tie.Need-loop-holds Inv-loop μ-loop
 loop-holds c = rings-start _ _ _ _ _
 
 cell-requires : tie.Need-cell-requires Inv-loop μ-loop
-cell-requires c κs =
-    let l = c .before in
-    let s = l .before .before .before .before .before .before in
-    (s .pre .1 .cut, omega (arith, l .before .cell-count .ensures))
+cell-requires c κs = (c .before .before .before .before .before .before .before .pre .1 .cut, omega (arith, c .before .before .cell-count .ensures))
 
 ring-folds-requires : tie.Need-ring-folds-requires Inv-loop μ-loop
 ring-folds-requires c κs =
-    let l = c .before .before in
-    let s = l .before .before .before .before .before .before in
-    (s .pre .0, rw (c .cell .ensures) (cell-corners (s .pre .1) (l .loop .s) (omega (arith, l .before .cell-count .ensures))))
+    let at-cell-count = c .before .before .before in
+    let s = at-cell-count .before .before .before .before .before in
+    (s .pre .0, rw (c .cell .ensures) (cell-corners (s .pre .1) (c .before .before .loop .s) (omega (arith, at-cell-count .cell-count .ensures))))
 
 returns : tie.Need-returns Inv-loop μ-loop
 returns c =
-    let at-fold = c .before in
-    let at-cell = at-fold .before in
-    let l = at-cell .before .before in
-    rings-found (l .loop .inv) (at-cell .before .loop-test .taken) (at-cell .cell .ensures) (at-fold .ring-folds .ensures) _ (l .before .cell-count .ensures) (c .if1 .taken)
+    let in-loop = c .before .before .before in
+    rings-found (in-loop .before .loop .inv) (in-loop .loop-test .taken) (c .before .before .cell .ensures) (c .before .ring-folds .ensures) _
+    (in-loop .before .before .cell-count .ensures) (c .if1 .taken)
 
 loop-again : tie.Need-loop-again Inv-loop μ-loop
 loop-again c =
-    let at-fold = c .before in
-    let at-cell = at-fold .before in
-    let l = at-cell .before .before in
-    rings-step (l .loop .inv) (at-cell .before .loop-test .taken) (at-cell .cell .ensures) (at-fold .ring-folds .ensures) (c .if1 .left)
+    let at-cell = c .before .before in
+    rings-step (at-cell .before .before .loop .inv) (at-cell .before .loop-test .taken) (at-cell .cell .ensures) (c .before .ring-folds .ensures) (c .if1 .left)
 
 returns-2 : tie.Need-returns-2 Inv-loop μ-loop
 returns-2 c = rings-end (c .before .loop .inv) _ (c .before .before .cell-count .ensures) (omega arith)

@@ -24,17 +24,13 @@ folds-at-requires c κs =
     (s .pre .0, s .pre .1, omega arith)
 
 returns : tie.Need-returns Inv-loop μ-loop
-returns c =
-    let at-fold = c .before in
-    fan-yes (at-fold .before .before .loop .inv) (at-fold .before .loop-test .taken) (at-fold .folds-at .ensures) (c .if1 .taken)
+returns c = fan-yes (c .before .before .before .loop .inv) (c .before .before .loop-test .taken) (c .before .folds-at .ensures) (c .if1 .taken)
 
 add-k : tie.Need-add-k Inv-loop μ-loop
 add-k c = omega (arith, c .before .before .before .loop .inv .most)
 
 loop-again : tie.Need-loop-again Inv-loop μ-loop
-loop-again c =
-    let at-fold = c .before in
-    fan-step (at-fold .before .before .loop .inv) (at-fold .before .loop-test .taken) (at-fold .folds-at .ensures) (c .if1 .left)
+loop-again c = fan-step (c .before .before .before .loop .inv) (c .before .before .loop-test .taken) (c .before .folds-at .ensures) (c .if1 .left)
 
 returns-2 : tie.Need-returns-2 Inv-loop μ-loop
 returns-2 c = fan-no (c .before .loop .inv) (omega arith)

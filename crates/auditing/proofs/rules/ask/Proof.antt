@@ -6,27 +6,29 @@ use borrow.Author.Needs.{needs}
 use Rattle.auditing.proofs.rules.ask.Statement.{statement}
 use Rattle.auditing.proofs.rules.ask.Tie as tie
 
+abbrev Start : tie.After-ask-given → tie.Start
+Start c = c .before .before .before .before .before .before .before
+
 returns : tie.Need-returns
 returns c =
-    let s = c .before .before .before .before .before .before .before .before in
+    let s = Start (c .before) in
     bad-given (s .args .sound) (now (s .args .sites)) (now (s .args .vertices)) (now (s .args .offsets)) (now (s .args .indexes)) (now (s .args .starts)) (now
     (s .args .others)) (s .args .bits) (c .before .ask-given .ensures) (c .if1 .taken)
 
 returns-2 : tie.Need-returns-2
 returns-2 c =
     let first = c .before .before in
-    let s = first .before .before .before .before .before .before .before .before in
+    let s = Start (first .before) in
     no-cells (s .args .sound) (now (s .args .sites)) (now (s .args .vertices)) (now (s .args .offsets)) (now (s .args .indexes)) (now (s .args .starts)) (now
     (s .args .others)) (s .args .bits) (first .before .ask-given .ensures) (first .if1 .left) (refused (c .before .cells-ok .result) (c .if2 .taken) (c .before .cells-ok .ensures))
 
 returns-3 : tie.Need-returns-3
 returns-3 c =
-    let second = c .before .before in
-    let first = second .before .before in
-    let s = first .before .before .before .before .before .before .before .before in
+    let at-cells-ok = c .before .before .before in
+    let s = Start (at-cells-ok .before .before) in
     no-starts (s .args .sound) (now (s .args .sites)) (now (s .args .vertices)) (now (s .args .offsets)) (now (s .args .indexes)) (now (s .args .starts)) (now
-    (s .args .others)) (s .args .bits) (first .before .ask-given .ensures) (first .if1 .left) (granted (second .before .cells-ok .result) (second .if2 .left)
-    (second .before .cells-ok .ensures))
+    (s .args .others)) (s .args .bits) (at-cells-ok .before .before .ask-given .ensures) (at-cells-ok .before .if1 .left) (granted (at-cells-ok .cells-ok .result) (c .before .before .if2 .left)
+    (at-cells-ok .cells-ok .ensures))
     (refused (c .before .lists-ok .result) (c .if3 .taken) (c .before .lists-ok .ensures))
 
 used-requires : tie.Need-used-requires
@@ -36,20 +38,20 @@ used-requires c κs =
 
 held-requires : tie.Need-held-requires
 held-requires c κs =
-    let third = c .before in
-    let s = third .before .before .before .before .before .before .before .before .before .before .before .before in
-    cut-only (now (s .args .starts)) (now (s .args .others)) _ (granted (third .before .lists-ok .result) (third .if3 .left) (third .before .lists-ok .ensures))
+    let at-lists-ok = c .before .before in
+    let s = Start (at-lists-ok .before .before .before .before) in
+    cut-only (now (s .args .starts)) (now (s .args .others)) _ (granted (at-lists-ok .lists-ok .result) (c .before .if3 .left) (at-lists-ok .lists-ok .ensures))
 
 returns-4 : tie.Need-returns-4
 returns-4 c =
-    let third = c .before .before .before in
-    let second = third .before .before in
-    let first = second .before .before in
-    let s = first .before .before .before .before .before .before .before .before in
+    let at-used = c .before .before in
+    let at-lists-ok = at-used .before .before in
+    let at-cells-ok = at-lists-ok .before .before in
+    let s = Start (at-cells-ok .before .before) in
     by-entries (s .args .sound) (now (s .args .sites)) (now (s .args .vertices)) (now (s .args .offsets)) (now (s .args .indexes)) (now (s .args .starts)) (now
-    (s .args .others)) (s .args .bits) (first .before .ask-given .ensures) (first .if1 .left) (granted (second .before .cells-ok .result) (second .if2 .left)
-    (second .before .cells-ok .ensures))
-    (granted (third .before .lists-ok .result) (third .if3 .left) (third .before .lists-ok .ensures)) (c .before .before .used .ensures) (c .before .held .ensures) (c .ask-entries .ensures)
+    (s .args .others)) (s .args .bits) (at-cells-ok .before .before .ask-given .ensures) (at-cells-ok .before .if1 .left) (granted (at-cells-ok .cells-ok .result) (at-lists-ok .before .if2 .left)
+    (at-cells-ok .cells-ok .ensures))
+    (granted (at-lists-ok .lists-ok .result) (at-used .before .if3 .left) (at-lists-ok .lists-ok .ensures)) (at-used .used .ensures) (c .before .held .ensures) (c .ask-entries .ensures)
 
 pub ask-spec : {M : Type 1} → statement M
 ask-spec =

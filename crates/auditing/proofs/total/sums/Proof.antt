@@ -4,15 +4,18 @@ use borrow.Author.Needs.{needs}
 use Rattle.auditing.proofs.total.sums.Statement.{statement}
 use Rattle.auditing.proofs.total.sums.Tie as tie
 
+abbrev Start : tie.After-box-sums-arg2 → tie.Start
+Start c = c .before .before .before .before .before .before .before
+
 box-sums-requires : tie.Need-box-sums-requires
 box-sums-requires c κs =
-    let p = c .before .before .before .before .before .before .before .pre in
+    let p = Start c .pre in
     (p .0, open-box (p .2), open-box (p .3))
 
 rings-requires : tie.Need-rings-requires
 rings-requires c κs =
     let first = c .before .before .before .before .before .before in
-    let p = first .before .before .before .before .before .before .before .before .pre in
+    let p = Start (first .before) .pre in
     (p .1, open-rings (p .1 .few) (p .2) (first .box-sums .ensures .added), open-rings (p .1 .few) (p .3) (first .box-sums .ensures .taken))
 
 returns : tie.Need-returns

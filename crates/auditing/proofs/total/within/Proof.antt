@@ -8,11 +8,10 @@ use Rattle.auditing.proofs.total.within.Tie as tie
 
 returns : tie.Need-returns
 returns c =
-    let at-first = c .before .before in
-    let at-over2 = at-first .before .before in
+    let at-over2 = c .before .before .before .before in
     let s = at-over2 .before .before .before .before .before in
     within-is (amount (now (s .args .plus))) (amount (now (s .args .minus))) (now (s .args .limit)) (at-over2 .before .over .ensures) (at-over2 .over2 .ensures)
-    (at-first .less .ensures) (c .less2 .ensures)
+    (c .before .before .less .ensures) (c .less2 .ensures)
 
 pub within-spec : {M : Type 1} → statement M
 within-spec =

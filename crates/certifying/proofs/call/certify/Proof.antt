@@ -5,43 +5,40 @@ use Rattle.certifying.specs.call.laws.Answers.{refused-certify, judge-sa
 use Rattle.certifying.proofs.call.certify.Statement.{statement}
 use Rattle.certifying.proofs.call.certify.Tie as tie
 
+abbrev Start : tie.After-ask → tie.Start
+Start c = c .before .before .before .before .before .before
+
 returns : tie.Need-returns
 returns c =
-    let at-refuse = c .before .before in
-    let at-then1 = at-refuse .before .before in
-    let at-ask = at-then1 .before in
-    let s = at-ask .before .before .before .before .before .before in
+    let at-then1 = c .before .before .before .before in
+    let s = Start (at-then1 .before) in
     let sites = now (s .args .sites) in
     let v = now (s .args .vertices) in
     let off = now (s .args .offsets) in
     let ix = now (s .args .indexes) in
     let work = now (s .args .work) in
-    refused-certify (s .args .given) sites v off ix (s .args .bits) work (at-ask .ask .ensures) (at-then1 .if1 .taken) (at-refuse .refuse .ensures)
+    refused-certify (s .args .given) sites v off ix (s .args .bits) work (at-then1 .before .ask .ensures) (at-then1 .if1 .taken) (c .before .before .refuse .ensures)
 
 judge-requires : tie.Need-judge-requires
 judge-requires c κs =
-    let at-else1 = c .before in
-    let at-ask = at-else1 .before in
-    let s = at-ask .before .before .before .before .before .before in
+    let s = Start (c .before .before) in
     let sites = now (s .args .sites) in
     let v = now (s .args .vertices) in
     let off = now (s .args .offsets) in
     let ix = now (s .args .indexes) in
     let work = now (s .args .work) in
-    judge-safe (s .args .given) sites v off ix (s .args .bits) work (at-ask .ask .ensures) (at-else1 .if1 .left) (s .pre)
+    judge-safe (s .args .given) sites v off ix (s .args .bits) work (c .before .before .ask .ensures) (c .before .if1 .left) (s .pre)
 
 returns-2 : tie.Need-returns-2
 returns-2 c =
-    let at-judge = c .before .before in
-    let at-else1 = at-judge .before .before in
-    let at-ask = at-else1 .before in
-    let s = at-ask .before .before .before .before .before .before in
+    let at-else1 = c .before .before .before .before in
+    let s = Start (at-else1 .before) in
     let sites = now (s .args .sites) in
     let v = now (s .args .vertices) in
     let off = now (s .args .offsets) in
     let ix = now (s .args .indexes) in
     let work = now (s .args .work) in
-    given-certify (s .args .given) sites v off ix (s .args .bits) work (at-ask .ask .ensures) (at-else1 .if1 .left) (at-judge .judge .ensures)
+    given-certify (s .args .given) sites v off ix (s .args .bits) work (at-else1 .before .ask .ensures) (at-else1 .if1 .left) (c .before .before .judge .ensures)
 
 pub certify-spec : {M : Type 1} → statement M
 certify-spec =

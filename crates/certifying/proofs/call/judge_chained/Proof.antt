@@ -6,16 +6,17 @@ use Rattle.certifying.specs.call.laws.Stages.{side-named, side-after}
 use Rattle.certifying.proofs.call.judge_chained.Statement.{statement}
 use Rattle.certifying.proofs.call.judge_chained.Tie as tie
 
+abbrev Start : tie.After-first-surplus → tie.Start
+Start c = c .before .before .before .before .before .before .before
+
 returns : tie.Need-returns
 returns c =
-    let at-then1 = c .before in
-    let at-first-surplus = at-then1 .before in
-    let s = at-first-surplus .before .before .before .before .before .before .before in
+    let s = Start (c .before .before) in
     let sites = now (s .args .sites) in
     let v = now (s .args .vertices) in
     let off = now (s .args .offsets) in
     let ix = now (s .args .indexes) in (
-      side-named (s .args .bounds) (s .args .bits) sites v off ix (s .pre .1) (at-first-surplus .first-surplus .ensures) (at-then1 .if1 .taken) (c .name-side .ensures),
+      side-named (s .args .bounds) (s .args .bits) sites v off ix (s .pre .1) (c .before .before .first-surplus .ensures) (c .before .if1 .taken) (c .name-side .ensures),
       refl,
     )
 
@@ -23,13 +24,12 @@ returns-2 : tie.Need-returns-2
 returns-2 c =
     let at-judge-border = c .before .before in
     let at-else1 = at-judge-border .before .before in
-    let at-first-surplus = at-else1 .before in
-    let s = at-first-surplus .before .before .before .before .before .before .before in
+    let s = Start (at-else1 .before) in
     let sites = now (s .args .sites) in
     let v = now (s .args .vertices) in
     let off = now (s .args .offsets) in
     let ix = now (s .args .indexes) in (
-      side-after (s .args .bounds) (s .args .bits) sites v off ix (s .pre .1) (at-first-surplus .first-surplus .ensures) (at-else1 .if1 .left)
+      side-after (s .args .bounds) (s .args .bits) sites v off ix (s .pre .1) (at-else1 .before .first-surplus .ensures) (at-else1 .if1 .left)
           (at-judge-border .judge-border .ensures .0),
       at-judge-border .judge-border .ensures .1,
     )

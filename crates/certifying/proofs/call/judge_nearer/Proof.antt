@@ -9,17 +9,16 @@ use Rattle.certifying.specs.call.laws.Stages.{near-far, near-named, near
 use Rattle.certifying.proofs.call.judge_nearer.Statement.{statement}
 use Rattle.certifying.proofs.call.judge_nearer.Tie as tie
 
+abbrev Start : tie.After-far → tie.Start
+Start c = c .before .before .before .before .before .before .before
+
 first-site-nearer-requires : tie.Need-first-site-nearer-requires
-first-site-nearer-requires c κs =
-    let at-far = c .before in
-    let s = at-far .before .before .before .before .before .before .before in
-    (subst NotMinus (sym (at-far .far .ensures)) (far-plus (s .args .bounds) _), s .pre .near)
+first-site-nearer-requires c κs = (subst NotMinus (sym (c .before .far .ensures)) (far-plus (Start (c .before) .args .bounds) _), Start (c .before) .pre .near)
 
 name-nearer-requires : tie.Need-name-nearer-requires
 name-nearer-requires c κs =
-    let at-first-site-nearer = c .before .before .before in
-    let at-far = at-first-site-nearer .before .before in
-    let s = at-far .before .before .before .before .before .before .before in
+    let at-far = c .before .before .before .before .before in
+    let s = Start at-far in
     let sites = now (s .args .sites) in
     let v = now (s .args .vertices) in
     let off = now (s .args .offsets) in
@@ -29,50 +28,45 @@ name-nearer-requires c κs =
       few = s .pre .near .few;
       own = c .if1 .taken;
       nearer = near-taken (at-far .far .result) sites v off ix
-          (at-first-site-nearer .first-site-nearer .ensures .0) (c .if1 .taken);
+          (c .before .before .before .first-site-nearer .ensures .0) (c .if1 .taken);
     }
 
 returns : tie.Need-returns
 returns c =
-    let at-then1 = c .before in
-    let at-first-site-nearer = at-then1 .before .before .before in
+    let at-first-site-nearer = c .before .before .before .before in
     let at-far = at-first-site-nearer .before .before in
-    let at-broad = at-far .before in
-    let s = at-broad .before .before .before .before .before .before in
+    let s = Start at-far in
     let sites = now (s .args .sites) in
     let v = now (s .args .vertices) in
     let off = now (s .args .offsets) in
     let ix = now (s .args .indexes) in (
-      near-far (s .args .bounds) (s .args .bits) sites v off ix (at-broad .broad .ensures) (at-far .far .ensures) (near-named (at-far .far .result)
-          sites v off ix (at-first-site-nearer .first-site-nearer .ensures .0) (at-then1 .if1 .taken) (c .name-nearer .ensures)),
+      near-far (s .args .bounds) (s .args .bits) sites v off ix (at-far .before .broad .ensures) (at-far .far .ensures) (near-named (at-far .far .result)
+          sites v off ix (at-first-site-nearer .first-site-nearer .ensures .0) (c .before .if1 .taken) (c .name-nearer .ensures)),
       at-first-site-nearer .first-site-nearer .ensures .1,
     )
 
 judge-twins-requires : tie.Need-judge-twins-requires
 judge-twins-requires c κs =
-    let at-first-site-nearer = c .before .before .before .before in
-    let s = at-first-site-nearer .before .before .before .before .before .before .before .before .before in
-    (omega (arith, s .pre .near .roomy, at-first-site-nearer .first-site-nearer .ensures .1), s .pre .near .few)
+    let at-first-site-nearer = c .before .before .before .before in (
+      omega (arith, Start (at-first-site-nearer .before .before) .pre .near .roomy, at-first-site-nearer .first-site-nearer .ensures .1),
+      Start (at-first-site-nearer .before .before) .pre .near .few,
+    )
 
 same-length-2 : tie.Need-same-length-2
-same-length-2 c =
-    let at-judge-twins = c .before .before in
-    at-judge-twins .judge-twins .ensures .1 ∙ at-judge-twins .before .before .before .before .before .first-site-nearer .ensures .1
+same-length-2 c = c .before .before .judge-twins .ensures .1 ∙ c .before .before .before .before .before .before .before .first-site-nearer .ensures .1
 
 returns-2 : tie.Need-returns-2
 returns-2 c =
     let at-judge-twins = c .before .before in
-    let at-else1 = at-judge-twins .before .before in
-    let at-first-site-nearer = at-else1 .before .before .before in
+    let at-first-site-nearer = at-judge-twins .before .before .before .before .before in
     let at-far = at-first-site-nearer .before .before in
-    let at-broad = at-far .before in
-    let s = at-broad .before .before .before .before .before .before in
+    let s = Start at-far in
     let sites = now (s .args .sites) in
     let v = now (s .args .vertices) in
     let off = now (s .args .offsets) in
     let ix = now (s .args .indexes) in (
-      near-far (s .args .bounds) (s .args .bits) sites v off ix (at-broad .broad .ensures) (at-far .far .ensures) (near-after (at-far .far .result)
-          sites v off ix (at-first-site-nearer .first-site-nearer .ensures .0) (at-else1 .if1 .left) (at-judge-twins .judge-twins .ensures .0)),
+      near-far (s .args .bounds) (s .args .bits) sites v off ix (at-far .before .broad .ensures) (at-far .far .ensures) (near-after (at-far .far .result)
+          sites v off ix (at-first-site-nearer .first-site-nearer .ensures .0) (at-judge-twins .before .before .if1 .left) (at-judge-twins .judge-twins .ensures .0)),
       at-judge-twins .judge-twins .ensures .1 ∙ at-first-site-nearer .first-site-nearer .ensures .1,
     )
 

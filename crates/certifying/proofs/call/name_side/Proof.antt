@@ -32,13 +32,11 @@ shared-slice-read-t10 c =
 
 returns : tie.Need-returns
 returns c =
-    let at-narrow = c .before in
-    let at-site-of-side = at-narrow .before in
-    let s = at-site-of-side .before .before .before .before in
+    let s = c .before .before .before .before .before .before in
     let sites = now (s .args .sites) in
     let off = now (s .args .offsets) in
     let ix = now (s .args .indexes) in
-    side-is sites off ix (s .args .e) (at-site-of-side .site-of-side .ensures) (at-narrow .narrow .ensures)
+    side-is sites off ix (s .args .e) (c .before .before .site-of-side .ensures) (c .before .narrow .ensures)
 
 pub name-side-spec : {M : Type 1} → statement M
 name-side-spec =

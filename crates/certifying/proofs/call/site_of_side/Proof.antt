@@ -21,20 +21,20 @@ loop-holds c = passed-start _ _
 
 returns : tie.Need-returns Inv-loop μ-loop
 returns c =
-    let at-wide = c .before in
-    let l = at-wide .before .before .before in
+    let l = c .before .before .before .before in
     let s = l .before .before in
-    ring-found (now (s .args .offsets)) (s .args .e) (s .args .count) (l .loop .inv) (at-wide .before .before .loop-test .taken) (at-wide .wide .ensures) (c .if1 .taken)
+    ring-found (now (s .args .offsets)) (s .args .e) (s .args .count) (l .loop .inv) (c .before .before .before .loop-test .taken) (c .before .wide .ensures) (c .if1 .taken)
 
 loop-again : tie.Need-loop-again Inv-loop μ-loop
 loop-again c =
-    let at-wide = c .before in
-    let l = at-wide .before .before .before in
+    let l = c .before .before .before .before in
     let s = l .before .before in
-    ring-passed (now (s .args .offsets)) (s .args .e) (s .args .count) (l .loop .inv) (at-wide .before .before .loop-test .taken) (at-wide .wide .ensures) (c .if1 .left)
+    ring-passed (now (s .args .offsets)) (s .args .e) (s .args .count) (l .loop .inv) (c .before .before .before .loop-test .taken) (c .before .wide .ensures) (c .if1 .left)
 
 returns-2 : tie.Need-returns-2 Inv-loop μ-loop
-returns-2 c = let s = c .before .before .before in ring-end (now (s .args .offsets)) (s .args .e) (s .args .count) (c .before .loop .inv) (c .loop-test .left)
+returns-2 c =
+    let s = c .before .before .before in
+    ring-end (now (s .args .offsets)) (s .args .e) (s .args .count) (c .before .loop .inv) (c .loop-test .left)
 
 pub site-of-side-spec : {M : Type 1} → statement M
 site-of-side-spec =

@@ -7,10 +7,12 @@ use Rattle.certifying.specs.call.laws.Stages.{outside-named, outside-aft
 use Rattle.certifying.proofs.call.verdict.Statement.{statement}
 use Rattle.certifying.proofs.call.verdict.Tie as tie
 
+abbrev Start : tie.After-first-site-outside → tie.Start
+Start c = c .before .before .before .before .before .before
+
 name-outside-requires : tie.Need-name-outside-requires
 name-outside-requires c κs =
-    let at-first-site-outside = c .before in
-    let s = at-first-site-outside .before .before .before .before .before .before in
+    let s = Start (c .before) in
     let sites = now (s .args .sites) in
     let v = now (s .args .vertices) in
     let off = now (s .args .offsets) in
@@ -21,20 +23,18 @@ name-outside-requires c κs =
       own = omega (arith, c .if1 .taken, s .pre .near .pieces .cut .many);
       few = omega (arith, s .pre .near .few, s .pre .near .pieces .cut .many);
       outside = outside-taken (s .args .bounds) (s .args .bits) sites v off ix
-          (s .pre .near .pieces .cut) (at-first-site-outside .first-site-outside .ensures) (c .if1 .taken);
+          (s .pre .near .pieces .cut) (c .before .first-site-outside .ensures) (c .if1 .taken);
     }
 
 returns : tie.Need-returns
 returns c =
-    let at-then1 = c .before in
-    let at-first-site-outside = at-then1 .before in
-    let s = at-first-site-outside .before .before .before .before .before .before in
+    let s = Start (c .before .before) in
     let sites = now (s .args .sites) in
     let v = now (s .args .vertices) in
     let off = now (s .args .offsets) in
     let ix = now (s .args .indexes) in (
-      outside-named (s .args .bounds) (s .args .bits) sites v off ix (s .pre .near .pieces .cut) (at-first-site-outside .first-site-outside .ensures)
-          (at-then1 .if1 .taken) (c .name-outside .ensures),
+      outside-named (s .args .bounds) (s .args .bits) sites v off ix (s .pre .near .pieces .cut) (c .before .before .first-site-outside .ensures)
+          (c .before .if1 .taken) (c .name-outside .ensures),
       refl,
     )
 
@@ -42,13 +42,12 @@ returns-2 : tie.Need-returns-2
 returns-2 c =
     let at-judge-sides = c .before .before in
     let at-else1 = at-judge-sides .before .before in
-    let at-first-site-outside = at-else1 .before in
-    let s = at-first-site-outside .before .before .before .before .before .before in
+    let s = Start (at-else1 .before) in
     let sites = now (s .args .sites) in
     let v = now (s .args .vertices) in
     let off = now (s .args .offsets) in
     let ix = now (s .args .indexes) in (
-      outside-after (s .args .bounds) (s .args .bits) sites v off ix (s .pre .near .pieces .cut) (at-first-site-outside .first-site-outside .ensures)
+      outside-after (s .args .bounds) (s .args .bits) sites v off ix (s .pre .near .pieces .cut) (at-else1 .before .first-site-outside .ensures)
           (at-else1 .if1 .left) (at-judge-sides .judge-sides .ensures .0),
       at-judge-sides .judge-sides .ensures .1,
     )

@@ -14,27 +14,34 @@ Inv-loop work vertices indexes count p q m there₀ back₀ x₀ there back x = 
 abbrev μ-loop : tie.MeasureT-loop
 μ-loop work vertices indexes count p q m there₀ back₀ x₀ there back x = x
 
+abbrev Start : tie.At-loop Inv-loop μ-loop → tie.Start Inv-loop μ-loop
+Start c = c .before .before .before .before .before .before .before
+
+abbrev InLoop : tie.After-one-if2 Inv-loop μ-loop → tie.In-loop Inv-loop μ-loop
+InLoop c = c .before .before .before .before .before
+
 bucket-requires : tie.Need-bucket-requires Inv-loop μ-loop
-bucket-requires c κs = let s = c .before .before .before in (s .pre .0, s .pre .1 .lie .few)
+bucket-requires c κs = (c .before .before .before .pre .0, c .before .before .before .pre .1 .lie .few)
 
 mul-wide : tie.Need-mul-wide Inv-loop μ-loop
-mul-wide c = let s = c .before .before .before .before in record { fits = omega (arith, s .pre .1 .lie .few, c .bucket .ensures .1) }
+mul-wide c = record { fits = omega (arith, c .before .before .before .before .pre .1 .lie .few, c .bucket .ensures .1) }
 
 mul-wide-2 : tie.Need-mul-wide-2 Inv-loop μ-loop
-mul-wide-2 c = let s = c .before .before .before .before in omega (arith, s .pre .1 .lie .few, c .bucket .ensures .1)
+mul-wide-2 c = omega (arith, c .before .before .before .before .pre .1 .lie .few, c .bucket .ensures .1)
 
 shared-slice-read-wide : tie.Need-shared-slice-read-wide Inv-loop μ-loop
-shared-slice-read-wide c = let s = c .before .before .before .before .before in omega (arith, s .pre .1 .lie .room, c .before .bucket .ensures .1)
+shared-slice-read-wide c = omega (arith, c .before .before .before .before .before .pre .1 .lie .room, c .before .bucket .ensures .1)
 
 wide-requires : tie.Need-wide-requires Inv-loop μ-loop
 wide-requires c κs = tt
 
 loop-holds : tie.Need-loop-holds Inv-loop μ-loop
-loop-holds c = let sl = c .before .before in let s = sl .before .before .before .before in ways-start (s .pre .1) _ _ (sl .bucket .ensures .0) (sl .bucket .ensures .1) (c .wide .ensures)
+loop-holds c =
+    let sl = c .before .before in
+    ways-start (sl .before .before .before .before .pre .1) _ _ (sl .bucket .ensures .0) (sl .bucket .ensures .1) (c .wide .ensures)
 
 side-at-requires : tie.Need-side-at-requires Inv-loop μ-loop
-side-at-requires c κs =
-    let l = c .before in let s = l .before .before .before .before .before .before .before in side-safe (s .pre .1 .lie) (way-below (s .pre .1) _ _ (l .loop .inv) (c .loop-test .taken))
+side-at-requires c κs = side-safe (Start (c .before) .pre .1 .lie) (way-below (Start (c .before) .pre .1) _ _ (c .before .loop .inv) (c .loop-test .taken))
 
 runs-requires : tie.Need-runs-requires Inv-loop μ-loop
 runs-requires c κs = tt
@@ -43,10 +50,18 @@ one-if-requires : tie.Need-one-if-requires Inv-loop μ-loop
 one-if-requires c κs = tt
 
 add-there : tie.Need-add-there Inv-loop μ-loop
-add-there c = let il = c .before .before .before in
-    let l = il .before in
-    let s = l .before .before .before .before .before .before .before in
-    record { fits = omega (arith, s .pre .1 .lie .few, counts-few (s .pre .1) _ _ (l .loop .inv) (il .loop-test .taken) .0, c .one-if .ensures, bit-small (c .before .runs .result)) }
+add-there c =
+    let il = c .before .before .before in
+    record {
+      fits = omega (
+        arith,
+        Start (il .before) .pre .1 .lie .few,
+        counts-few (Start (il .before) .pre .1) _ _ (il .before .loop .inv)
+            (il .loop-test .taken) .0,
+        c .one-if .ensures,
+        bit-small (c .before .runs .result),
+      );
+    }
 
 runs-requires-2 : tie.Need-runs-requires-2 Inv-loop μ-loop
 runs-requires-2 c κs = tt
@@ -55,58 +70,60 @@ one-if-requires-2 : tie.Need-one-if-requires-2 Inv-loop μ-loop
 one-if-requires-2 c κs = tt
 
 add-back : tie.Need-add-back Inv-loop μ-loop
-add-back c = let il = c .before .before .before .before .before in
-    let l = il .before in
-    let s = l .before .before .before .before .before .before .before in
-    record { fits = omega (arith, s .pre .1 .lie .few, counts-few (s .pre .1) _ _ (l .loop .inv) (il .loop-test .taken) .1, c .one-if2 .ensures, bit-small (c .before .runs2 .result)) }
+add-back c =
+    let l = InLoop c .before in
+    record {
+      fits = omega (
+        arith,
+        Start l .pre .1 .lie .few,
+        counts-few (Start l .pre .1) _ _ (l .loop .inv) (InLoop c .loop-test .taken) .1,
+        c .one-if2 .ensures,
+        bit-small
+            (c .before .runs2 .result),
+      );
+    }
 
 mul-wide-3 : tie.Need-mul-wide-3 Inv-loop μ-loop
-mul-wide-3 c = let il = c .before .before .before .before .before in
-    let l = il .before in
-    let s = l .before .before .before .before .before .before .before in
-    record { fits = omega (arith, s .pre .1 .lie .few, way-below (s .pre .1) _ _ (l .loop .inv) (il .loop-test .taken)) }
+mul-wide-3 c =
+    let l = InLoop c .before in
+    record { fits = omega (arith, Start l .pre .1 .lie .few, way-below (Start l .pre .1) _ _ (l .loop .inv) (InLoop c .loop-test .taken)) }
 
 add-wide : tie.Need-add-wide Inv-loop μ-loop
-add-wide c = let il = c .before .before .before .before .before in
-    let l = il .before in
-    let s = l .before .before .before .before .before .before .before in
-    record { fits = omega (arith, s .pre .1 .lie .few, way-below (s .pre .1) _ _ (l .loop .inv) (il .loop-test .taken)) }
+add-wide c =
+    let l = InLoop c .before in
+    record { fits = omega (arith, Start l .pre .1 .lie .few, way-below (Start l .pre .1) _ _ (l .loop .inv) (InLoop c .loop-test .taken)) }
 
 mul-wide-4 : tie.Need-mul-wide-4 Inv-loop μ-loop
-mul-wide-4 c = let il = c .before .before .before .before .before in
-    let l = il .before in
-    let s = l .before .before .before .before .before .before .before in
-    omega (arith, s .pre .1 .lie .few, way-below (s .pre .1) _ _ (l .loop .inv) (il .loop-test .taken))
+mul-wide-4 c =
+    let l = InLoop c .before in
+    omega (arith, Start l .pre .1 .lie .few, way-below (Start l .pre .1) _ _ (l .loop .inv) (InLoop c .loop-test .taken))
 
 shared-slice-read-wide-2 : tie.Need-shared-slice-read-wide-2 Inv-loop μ-loop
-shared-slice-read-wide-2 c = let il = c .before .before .before .before .before .before in
-    let l = il .before in
-    let s = l .before .before .before .before .before .before .before in
-    omega (arith, s .pre .1 .lie .room, way-below (s .pre .1) _ _ (l .loop .inv) (il .loop-test .taken))
+shared-slice-read-wide-2 c =
+    let l = InLoop (c .before) .before in
+    omega (arith, Start l .pre .1 .lie .room, way-below (Start l .pre .1) _ _ (l .loop .inv) (InLoop (c .before) .loop-test .taken))
 
 wide-requires-2 : tie.Need-wide-requires-2 Inv-loop μ-loop
 wide-requires-2 c κs = tt
 
 loop-less : tie.Need-loop-less Inv-loop μ-loop
-loop-less c = let il = c .before .before .before .before .before .before .before in
-    let l = il .before in
-    let s = l .before .before .before .before .before .before .before in
-    next-less (s .pre .1) _ _ (l .loop .inv) (il .loop-test .taken) (c .wide2 .ensures)
+loop-less c =
+    let il = InLoop (c .before .before) in
+    next-less (Start (il .before) .pre .1) _ _ (il .before .loop .inv) (il .loop-test .taken) (c .wide2 .ensures)
 
 loop-again : tie.Need-loop-again Inv-loop μ-loop
-loop-again c = let o2 = c .before .before in
-    let o1 = o2 .before .before in
-    let sd = o1 .before .before in
-    let il = sd .before in
-    let l = il .before in
-    let s = l .before .before .before .before .before .before .before in
-    let below = way-below (s .pre .1) _ _ (l .loop .inv) (il .loop-test .taken) in
-    let to = side-to (s .pre .1 .lie) below (sd .side-at .ensures .1) in
-    ways-step (s .pre .1) _ _ (l .loop .inv) (il .loop-test .taken) (runs-is _ _ _ _ _ _ (sd .side-at .ensures .0) to (o1 .before .runs .ensures) (o1 .one-if .ensures))
-    (runs-is _ _ _ _ _ _ (sd .side-at .ensures .0) to (o2 .before .runs2 .ensures) (o2 .one-if2 .ensures)) (c .wide2 .ensures)
+loop-again c =
+    let at-runs2 = c .before .before .before in
+    let sd = at-runs2 .before .before .before in
+    let l = sd .before .before in
+    let below = way-below (Start l .pre .1) _ _ (l .loop .inv) (sd .before .loop-test .taken) in
+    let to = side-to (Start l .pre .1 .lie) below (sd .side-at .ensures .1) in
+    ways-step (Start l .pre .1) _ _ (l .loop .inv) (sd .before .loop-test .taken) (runs-is _ _ _ _ _ _ (sd .side-at .ensures .0) to (at-runs2 .before .before .runs .ensures)
+    (at-runs2 .before .one-if .ensures))
+    (runs-is _ _ _ _ _ _ (sd .side-at .ensures .0) to (at-runs2 .runs2 .ensures) (c .before .before .one-if2 .ensures)) (c .wide2 .ensures)
 
 returns : tie.Need-returns Inv-loop μ-loop
-returns c = let l = c .before in let s = l .before .before .before .before .before .before .before in ways-end (s .pre .1) _ _ (l .loop .inv) (omega (arith, c .loop-test .left))
+returns c = ways-end (Start (c .before) .pre .1) _ _ (c .before .loop .inv) (omega (arith, c .loop-test .left))
 
 pub count-ways-spec : {M : Type 1} → statement M
 count-ways-spec =

@@ -11,15 +11,14 @@ side-at-requires : tie.Need-side-at-requires
 side-at-requires c κs = let s = c .before .before .before .before in side-safe (s .pre .1 .lie) (s .pre .0)
 
 returns : tie.Need-returns
-returns c = let at-insert = c .before .before in
-    let at-bucket = at-insert .before .before in
-    let sd = at-bucket .before in
-    let s = sd .before .before .before .before .before in
-    let to = side-to (s .pre .1 .lie) (s .pre .0) (sd .side-at .ensures .1) in
+returns c =
+    let at-bucket = c .before .before .before .before in
+    let s = at-bucket .before .before .before .before .before .before in
+    let to = side-to (s .pre .1 .lie) (s .pre .0) (at-bucket .before .side-at .ensures .1) in
     inserts-one (s .pre .1) (s .pre .0)
-    (bucket-of (now (s .args .vertices)) (now (s .args .indexes)) (laidEnds (now (s .args .work)) (s .args .count)) (s .args .count) (s .args .k) (sd .side-at .ensures .0) to
+    (bucket-of (now (s .args .vertices)) (now (s .args .indexes)) (laidEnds (now (s .args .work)) (s .args .count)) (s .args .count) (s .args .k) (at-bucket .before .side-at .ensures .0) to
     (at-bucket .bucket .ensures .0))
-    (at-bucket .bucket .ensures .1) (at-insert .insert-in .ensures)
+    (at-bucket .bucket .ensures .1) (c .before .before .insert-in .ensures)
 
 pub insert-spec : {M : Type 1} → statement M
 insert-spec =

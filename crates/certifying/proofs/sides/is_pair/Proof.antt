@@ -8,115 +8,92 @@ use borrow.Author.Needs.{needs}
 use Rattle.certifying.proofs.sides.is_pair.Statement.{statement}
 use Rattle.certifying.proofs.sides.is_pair.Tie as tie
 
+abbrev Start : tie.Else1 → tie.Start
+Start c = c .before .before .before .before .before .before
+
 returns : tie.Need-returns
 returns c = λ q. absurd (no-both (sym q))
 
 mul-wide-3 : tie.Need-mul-wide-3
-mul-wide-3 c = let e1 = c in
-    let w1 = e1 .before in
-    let s = w1 .before .before .before .before .before in
-    let below = head-below (s .pre .1) (s .pre .0) (w1 .wide .ensures) (omega (arith, e1 .if1 .left)) in
-    record { fits = omega (arith, s .pre .1 .lie .few, below) }
+mul-wide-3 c =
+    let below = head-below (Start c .pre .1) (Start c .pre .0) (c .before .wide .ensures) (omega (arith, c .if1 .left)) in
+    record { fits = omega (arith, Start c .pre .1 .lie .few, below) }
 
 add-wide : tie.Need-add-wide
-add-wide c = let e1 = c in
-    let w1 = e1 .before in
-    let s = w1 .before .before .before .before .before in
-    let below = head-below (s .pre .1) (s .pre .0) (w1 .wide .ensures) (omega (arith, e1 .if1 .left)) in
-    record { fits = omega (arith, s .pre .1 .lie .few, below) }
+add-wide c =
+    let below = head-below (Start c .pre .1) (Start c .pre .0) (c .before .wide .ensures) (omega (arith, c .if1 .left)) in
+    record { fits = omega (arith, Start c .pre .1 .lie .few, below) }
 
 mul-wide-4 : tie.Need-mul-wide-4
-mul-wide-4 c = let e1 = c in
-    let w1 = e1 .before in
-    let s = w1 .before .before .before .before .before in
-    let below = head-below (s .pre .1) (s .pre .0) (w1 .wide .ensures) (omega (arith, e1 .if1 .left)) in
-    omega (arith, s .pre .1 .lie .few, below)
+mul-wide-4 c =
+    let below = head-below (Start c .pre .1) (Start c .pre .0) (c .before .wide .ensures) (omega (arith, c .if1 .left)) in
+    omega (arith, Start c .pre .1 .lie .few, below)
 
 shared-slice-read-wide-2 : tie.Need-shared-slice-read-wide-2
-shared-slice-read-wide-2 c = let e1 = c .before in
-    let w1 = e1 .before in
-    let s = w1 .before .before .before .before .before in
-    let below = head-below (s .pre .1) (s .pre .0) (w1 .wide .ensures) (omega (arith, e1 .if1 .left)) in
-    omega (arith, s .pre .1 .lie .room, below)
+shared-slice-read-wide-2 c =
+    let e1 = c .before in
+    let below = head-below (Start e1 .pre .1) (Start e1 .pre .0) (e1 .before .wide .ensures) (omega (arith, e1 .if1 .left)) in
+    omega (arith, Start e1 .pre .1 .lie .room, below)
 
 returns-2 : tie.Need-returns-2
 returns-2 c = λ q. absurd (no-both (sym q))
 
 mul-if3 : tie.Need-mul-if3
-mul-if3 c = let e2 = c in
-    let w2 = e2 .before in
-    let e1 = w2 .before .before in
-    let w1 = e1 .before in
-    let s = w1 .before .before .before .before .before in
-    let below = next-below (s .pre .1) (s .pre .0) (w1 .wide .ensures) (omega (arith, e1 .if1 .left)) (w2 .wide2 .ensures) (omega (arith, e2 .if2 .left)) in
-    record { fits = omega (arith, s .pre .1 .lie .few, below) }
+mul-if3 c =
+    let e1 = c .before .before .before in
+    let below = next-below (Start e1 .pre .1) (Start e1 .pre .0) (e1 .before .wide .ensures) (omega (arith, e1 .if1 .left)) (c .before .wide2 .ensures) (omega (arith, c .if2 .left)) in
+    record { fits = omega (arith, Start e1 .pre .1 .lie .few, below) }
 
 add-if3 : tie.Need-add-if3
-add-if3 c = let e2 = c in
-    let w2 = e2 .before in
-    let e1 = w2 .before .before in
-    let w1 = e1 .before in
-    let s = w1 .before .before .before .before .before in
-    let below = next-below (s .pre .1) (s .pre .0) (w1 .wide .ensures) (omega (arith, e1 .if1 .left)) (w2 .wide2 .ensures) (omega (arith, e2 .if2 .left)) in
-    record { fits = omega (arith, s .pre .1 .lie .few, below) }
+add-if3 c =
+    let e1 = c .before .before .before in
+    let below = next-below (Start e1 .pre .1) (Start e1 .pre .0) (e1 .before .wide .ensures) (omega (arith, e1 .if1 .left)) (c .before .wide2 .ensures) (omega (arith, c .if2 .left)) in
+    record { fits = omega (arith, Start e1 .pre .1 .lie .few, below) }
 
 mul-if3-2 : tie.Need-mul-if3-2
-mul-if3-2 c = let e2 = c in
-    let w2 = e2 .before in
-    let e1 = w2 .before .before in
-    let w1 = e1 .before in
-    let s = w1 .before .before .before .before .before in
-    let below = next-below (s .pre .1) (s .pre .0) (w1 .wide .ensures) (omega (arith, e1 .if1 .left)) (w2 .wide2 .ensures) (omega (arith, e2 .if2 .left)) in
-    omega (arith, s .pre .1 .lie .few, below)
+mul-if3-2 c =
+    let e1 = c .before .before .before in
+    let below = next-below (Start e1 .pre .1) (Start e1 .pre .0) (e1 .before .wide .ensures) (omega (arith, e1 .if1 .left)) (c .before .wide2 .ensures) (omega (arith, c .if2 .left)) in
+    omega (arith, Start e1 .pre .1 .lie .few, below)
 
 shared-slice-read-if3 : tie.Need-shared-slice-read-if3
-shared-slice-read-if3 c = let e2 = c .before in
-    let w2 = e2 .before in
-    let e1 = w2 .before .before in
-    let w1 = e1 .before in
-    let s = w1 .before .before .before .before .before in
-    let below = next-below (s .pre .1) (s .pre .0) (w1 .wide .ensures) (omega (arith, e1 .if1 .left)) (w2 .wide2 .ensures) (omega (arith, e2 .if2 .left)) in
-    omega (arith, s .pre .1 .lie .room, below)
+shared-slice-read-if3 c =
+    let e1 = c .before .before .before .before in
+    let below = next-below (Start e1 .pre .1) (Start e1 .pre .0) (e1 .before .wide .ensures) (omega (arith, e1 .if1 .left)) (c .before .before .wide2 .ensures)
+    (omega (arith, c .before .if2 .left)) in
+    omega (arith, Start e1 .pre .1 .lie .room, below)
 
 returns-3 : tie.Need-returns-3
 returns-3 c = λ q. absurd (no-both (sym q))
 
 side-at-requires : tie.Need-side-at-requires
-side-at-requires c κs = let e1 = c .before .before .before .before .before in
-    let w1 = e1 .before in
-    let s = w1 .before .before .before .before .before in
-    let below = head-below (s .pre .1) (s .pre .0) (w1 .wide .ensures) (omega (arith, e1 .if1 .left)) in
-    side-safe (s .pre .1 .lie) below
+side-at-requires c κs =
+    let e1 = c .before .before .before .before .before in
+    let below = head-below (Start e1 .pre .1) (Start e1 .pre .0) (e1 .before .wide .ensures) (omega (arith, e1 .if1 .left)) in
+    side-safe (Start e1 .pre .1 .lie) below
 
 side-at-requires-2 : tie.Need-side-at-requires-2
-side-at-requires-2 c κs = let e2 = c .before .before .before in
-    let w2 = e2 .before in
-    let e1 = w2 .before .before in
-    let w1 = e1 .before in
-    let s = w1 .before .before .before .before .before in
-    let below = next-below (s .pre .1) (s .pre .0) (w1 .wide .ensures) (omega (arith, e1 .if1 .left)) (w2 .wide2 .ensures) (omega (arith, e2 .if2 .left)) in
-    side-safe (s .pre .1 .lie) below
+side-at-requires-2 c κs =
+    let e2 = c .before .before .before in
+    let e1 = e2 .before .before .before in
+    let below = next-below (Start e1 .pre .1) (Start e1 .pre .0) (e1 .before .wide .ensures) (omega (arith, e1 .if1 .left)) (e2 .before .wide2 .ensures) (omega (arith, e2 .if2 .left)) in
+    side-safe (Start e1 .pre .1 .lie) below
 
 returns-4 : tie.Need-returns-4
-returns-4 c = let th = c .before in
-    let an = th .before in
-    let s2 = an .before in
+returns-4 c =
+    let s2 = c .before .before .before in
     let s1 = s2 .before in
-    let e3 = s1 .before in
-    let e2 = e3 .before .before in
-    let w2 = e2 .before in
-    let e1 = w2 .before .before in
-    let w1 = e1 .before in
-    let s = w1 .before .before .before .before .before in
-    let h = s .pre .1 in
-    let m = s .pre .0 in
-    let x = w1 .wide .ensures in
-    let y = w2 .wide2 .ensures in
+    let e2 = s1 .before .before .before in
+    let e1 = e2 .before .before .before in
+    let h = Start e1 .pre .1 in
+    let m = Start e1 .pre .0 in
+    let x = e1 .before .wide .ensures in
+    let y = e2 .before .wide2 .ensures in
     let to1 = side-to (h .lie) (head-below h m x (omega (arith, e1 .if1 .left))) (s1 .side-at .ensures .1) in
     let to2 = side-to (h .lie) (next-below h m x (omega (arith, e1 .if1 .left)) y (omega (arith, e2 .if2 .left))) (s2 .side-at2 .ensures .1) in
     λ q.
-    pair-even h m x (omega (arith, e1 .if1 .left)) y (omega (arith, e2 .if2 .left)) (e3 .if3 .left)
-    (answered _ _ _ _ _ (s1 .side-at .ensures .0) to1 (s2 .side-at2 .ensures .0) to2 (an .answers .ensures (th .if4 .taken)))
+    pair-even h m x (omega (arith, e1 .if1 .left)) y (omega (arith, e2 .if2 .left)) (s1 .before .if3 .left)
+    (answered _ _ _ _ _ (s1 .side-at .ensures .0) to1 (s2 .side-at2 .ensures .0) to2 (c .before .before .answers .ensures (c .before .if4 .taken)))
     (answered _ _ _ _ _ (s2 .side-at2 .ensures .0) to2 (s1 .side-at .ensures .0) to1 (c .answers2 .ensures q))
 
 returns-5 : tie.Need-returns-5

@@ -9,26 +9,24 @@ use Rattle.certifying.proofs.sides.is_surplus.Statement.{statement}
 use Rattle.certifying.proofs.sides.is_surplus.Tie as tie
 
 side-at-requires : tie.Need-side-at-requires
-side-at-requires c κs = let s = c .before .before .before in side-safe (s .pre .1 .lie) (s .pre .0)
+side-at-requires c κs = side-safe (c .before .before .before .pre .1 .lie) (c .before .before .before .pre .0)
 
 returns : tie.Need-returns
-returns c = let al = c .before in
-    let sd = al .before in
+returns c =
+    let sd = c .before .before in
     let s = sd .before .before .before .before in
     surplus-none _ (now (s .args .vertices)) (now (s .args .indexes)) (laidEnds (now (s .args .work)) (s .args .count)) (s .args .count) (sd .side-at .ensures .0)
-    (side-to (s .pre .1 .lie) (s .pre .0) (sd .side-at .ensures .1)) (al .is-along .ensures) (c .if1 .taken)
+    (side-to (s .pre .1 .lie) (s .pre .0) (sd .side-at .ensures .1)) (c .before .is-along .ensures) (c .if1 .taken)
 
 count-ways-requires : tie.Need-count-ways-requires
 count-ways-requires c κs = let s = c .before .before .before .before .before .before in (omega (arith, s .pre .0), s .pre .1)
 
 returns-2 : tie.Need-returns-2
-returns-2 c = let at-ways = c .before in
-    let el = at-ways .before in
-    let al = el .before in
-    let sd = al .before in
-    let s = sd .before .before .before .before in
-    surplus-is _ (now (s .args .vertices)) (now (s .args .indexes)) (laidEnds (now (s .args .work)) (s .args .count)) (s .args .count) (sd .side-at .ensures .0)
-    (side-to (s .pre .1 .lie) (s .pre .0) (sd .side-at .ensures .1)) (al .is-along .ensures) (el .if1 .left) (at-ways .count-ways .ensures)
+returns-2 c =
+    let al = c .before .before .before in
+    let s = al .before .before .before .before .before in
+    surplus-is _ (now (s .args .vertices)) (now (s .args .indexes)) (laidEnds (now (s .args .work)) (s .args .count)) (s .args .count) (al .before .side-at .ensures .0)
+    (side-to (s .pre .1 .lie) (s .pre .0) (al .before .side-at .ensures .1)) (al .is-along .ensures) (c .before .before .if1 .left) (c .before .count-ways .ensures)
 
 pub is-surplus-spec : {M : Type 1} → statement M
 is-surplus-spec =

@@ -21,31 +21,28 @@ loop-holds : tie.Need-loop-holds Inv-loop μ-loop
 loop-holds c = laid-start (c .before .before .before .pre .cut)
 
 cell-requires : tie.Need-cell-requires Inv-loop μ-loop
-cell-requires c κs = let l = c .before .before in let s = l .before .before .before .before in (s .pre .cut, omega (arith, c .before .loop-test .taken))
+cell-requires c κs = (c .before .before .before .before .before .before .pre .cut, omega (arith, c .before .loop-test .taken))
 
 shared-slice-read-wide : tie.Need-shared-slice-read-wide Inv-loop μ-loop
-shared-slice-read-wide c = let il = c .before .before .before in omega (arith, il .loop-test .taken)
+shared-slice-read-wide c = omega (arith, c .before .before .before .loop-test .taken)
 
 wide-requires : tie.Need-wide-requires Inv-loop μ-loop
 wide-requires c κs = tt
 
 lay-ring-requires : tie.Need-lay-ring-requires Inv-loop μ-loop
-lay-ring-requires c κs = let il = c .before .before .before .before in
-    let l = il .before in
-    let s = l .before .before .before .before in
-    ring-room (s .pre) (l .loop .inv) (il .loop-test .taken) (c .before .before .cell .ensures) (c .wide .ensures)
+lay-ring-requires c κs =
+    let il = c .before .before .before .before in
+    ring-room (il .before .before .before .before .before .pre) (il .before .loop .inv) (il .loop-test .taken) (c .before .before .cell .ensures) (c .wide .ensures)
 
 loop-less : tie.Need-loop-less Inv-loop μ-loop
-loop-less c = let il = c .before .before .before .before .before .before .before in omega (arith, il .loop-test .taken)
+loop-less c = omega (arith, c .before .before .before .before .before .before .before .loop-test .taken)
 
 loop-again : tie.Need-loop-again Inv-loop μ-loop
-loop-again c = let at-lay = c .before .before in
-    let at-wide = at-lay .before in
-    let at-cell = at-wide .before .before in
-    let il = at-cell .before .before in
-    let l = il .before in
-    let s = l .before .before .before .before in
-    laid-step (s .pre .cut) (l .loop .inv) (il .loop-test .taken) (at-cell .cell .ensures) (at-wide .wide .ensures) (at-lay .lay-ring .ensures)
+loop-again c =
+    let at-lay = c .before .before in
+    let il = at-lay .before .before .before .before .before in
+    laid-step (il .before .before .before .before .before .pre .cut) (il .before .loop .inv) (il .loop-test .taken) (at-lay .before .before .before .cell .ensures)
+    (at-lay .before .wide .ensures) (at-lay .lay-ring .ensures)
 
 same-length : tie.Need-same-length Inv-loop μ-loop
 same-length c = c .before .loop .inv .long

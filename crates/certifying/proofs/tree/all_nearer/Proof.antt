@@ -13,8 +13,8 @@ first-nearer-requires c κs =
 
 returns : tie.Need-returns
 returns c =
-    let at-no-others = c .before in let s = at-no-others .before .before .before .before in
-    all-asked (s .args .far) (now (s .args .sites)) (s .args .s) (now (s .args .vertices)) (now (s .args .entries)) (at-no-others .no-others .ensures) (c .first-nearer .ensures)
+    let s = c .before .before .before .before .before in
+    all-asked (s .args .far) (now (s .args .sites)) (s .args .s) (now (s .args .vertices)) (now (s .args .entries)) (c .before .no-others .ensures) (c .first-nearer .ensures)
 
 pub all-nearer-spec : {M : Type 1} → statement M
 all-nearer-spec =

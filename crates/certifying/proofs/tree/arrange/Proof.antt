@@ -13,47 +13,46 @@ Inv-loop sites room₀ half₀ room half = Order (length sites / 2) room × (len
 abbrev μ-loop : tie.MeasureT-loop
 μ-loop sites room₀ half₀ room half = half
 
+abbrev Start : tie.Else1 Inv-loop μ-loop → tie.After-start Inv-loop μ-loop
+Start c = c .before .before .before .before
+
 start-requires : tie.Need-start-requires Inv-loop μ-loop
-start-requires c κs =
-    let s = c .before .before .before in (s .pre .1, s .pre .2)
+start-requires c κs = (c .before .before .before .pre .1, c .before .before .before .pre .2)
 
 is-arranged-requires : tie.Need-is-arranged-requires Inv-loop μ-loop
-is-arranged-requires c κs =
-    let s = c .before .before .before .before .before .before in s .pre .1
+is-arranged-requires c κs = c .before .before .before .before .before .before .pre .1
 
 same-length : tie.Need-same-length Inv-loop μ-loop
-same-length c =
-    let at-start = c .before .before .before .before in at-start .start .ensures .1
+same-length c = c .before .before .before .before .start .ensures .1
 
 returns : tie.Need-returns Inv-loop μ-loop
-returns c =
-    let at-start = c .before .before .before .before in at-start .start .ensures
+returns c = c .before .before .before .before .start .ensures
 
 loop-holds : tie.Need-loop-holds Inv-loop μ-loop
-loop-holds c =
-    let at-start = c .before .before .before .before in (at-start .start .ensures .0, refl, omega arith)
+loop-holds c = (Start c .start .ensures .0, refl, omega arith)
 
 halve-all-requires : tie.Need-halve-all-requires Inv-loop μ-loop
 halve-all-requires c κs =
-    let t = c .before in let l = t .before in let s = l .before .before .before .before .before .before .before .before .before in
-    (s .pre .0, l .loop .inv .0, omega (arith, t .loop-test .taken), l .loop .inv .2, s .pre .1)
+    let l = c .before .before in
+    let s = Start (l .before) .before .before .before .before in
+    (s .pre .0, l .loop .inv .0, omega (arith, c .before .loop-test .taken), l .loop .inv .2, s .pre .1)
 
 loop-less : tie.Need-loop-less Inv-loop μ-loop
-loop-less c =
-    let t = c .before .before .before .before in omega (arith, t .loop-test .taken)
+loop-less c = omega (arith, c .before .before .before .before .loop-test .taken)
 
 loop-again : tie.Need-loop-again Inv-loop μ-loop
 loop-again c =
-    let at-halve-all = c .before .before in let l = at-halve-all .before .before .before in
-    (at-halve-all .halve-all .ensures .order, at-halve-all .halve-all .ensures .same ∙ l .loop .inv .1, omega (arith, l .loop .inv .2))
+    let at-halve-all = c .before .before in (
+      at-halve-all .halve-all .ensures .order,
+      at-halve-all .halve-all .ensures .same ∙ at-halve-all .before .before .before .loop .inv .1,
+      omega (arith, at-halve-all .before .before .before .loop .inv .2),
+    )
 
 same-length-2 : tie.Need-same-length-2 Inv-loop μ-loop
-same-length-2 c =
-    let l = c .before in let at-start = l .before .before .before .before .before in l .loop .inv .1 ∙ at-start .start .ensures .1
+same-length-2 c = c .before .loop .inv .1 ∙ Start (c .before .before) .start .ensures .1
 
 returns-2 : tie.Need-returns-2 Inv-loop μ-loop
-returns-2 c =
-    let l = c .before in let at-start = l .before .before .before .before .before in (l .loop .inv .0, l .loop .inv .1 ∙ at-start .start .ensures .1)
+returns-2 c = (c .before .loop .inv .0, c .before .loop .inv .1 ∙ Start (c .before .before) .start .ensures .1)
 
 pub arrange-spec : {M : Type 1} → statement M
 arrange-spec =

@@ -15,34 +15,27 @@ abbrev μ-loop : tie.MeasureT-loop
 μ-loop far sites room vertices offsets indexes count s₀ s = count - s
 
 loop-holds : tie.Need-loop-holds Inv-loop μ-loop
-loop-holds c =
-    passed-start _ _
+loop-holds c = passed-start _ _
 
 site-nearer-requires : tie.Need-site-nearer-requires Inv-loop μ-loop
 site-nearer-requires c κs =
-    let s = c .before .before .before .before .before .before .before in (s .pre .0, s .pre .1, s .pre .2, s .pre .3, c .loop-test .taken)
+    let s = c .before .before .before .before .before .before .before in
+    (s .pre .0, s .pre .1, s .pre .2, s .pre .3, c .loop-test .taken)
 
 returns : tie.Need-returns Inv-loop μ-loop
-returns c =
-    let at-site-nearer = c .before in let t = at-site-nearer .before in let l = t .before in
-    passed-found (l .loop .inv) (t .loop-test .taken) (at-site-nearer .site-nearer .ensures) (c .if1 .taken)
+returns c = passed-found (c .before .before .before .loop .inv) (c .before .before .loop-test .taken) (c .before .site-nearer .ensures) (c .if1 .taken)
 
 add-s : tie.Need-add-s Inv-loop μ-loop
-add-s c =
-    let t = c .before .before in omega (arith, t .loop-test .taken)
+add-s c = omega (arith, c .before .before .loop-test .taken)
 
 loop-less : tie.Need-loop-less Inv-loop μ-loop
-loop-less c =
-    let t = c .before .before in omega (arith, t .loop-test .taken)
+loop-less c = omega (arith, c .before .before .loop-test .taken)
 
 loop-again : tie.Need-loop-again Inv-loop μ-loop
-loop-again c =
-    let at-site-nearer = c .before in let t = at-site-nearer .before in let l = t .before in
-    passed-step (l .loop .inv) (t .loop-test .taken) (at-site-nearer .site-nearer .ensures) (c .if1 .left)
+loop-again c = passed-step (c .before .before .before .loop .inv) (c .before .before .loop-test .taken) (c .before .site-nearer .ensures) (c .if1 .left)
 
 returns-2 : tie.Need-returns-2 Inv-loop μ-loop
-returns-2 c =
-    let l = c .before in passed-end (l .loop .inv) (c .loop-test .left)
+returns-2 c = passed-end (c .before .loop .inv) (c .loop-test .left)
 
 pub first-in-order-spec : {M : Type 1} → statement M
 first-in-order-spec =

@@ -6,9 +6,9 @@ use Rattle.certifying.proofs.tree.is_past.Tie as tie
 
 returns : tie.Need-returns
 returns c =
-    let at-magnitude = c .before in
-    let s = at-magnitude .before .before .before .before .before .before .before .before .before .before .before .before .before in
-    past-is (s .args .far) (s .args .v) (s .args .s) (s .args .o) (at-magnitude .magnitude .ensures) (c .magnitude2 .ensures)
+    let at-struct-known7 = c .before .before .before .before .before .before .before in
+    let s = at-struct-known7 .before .before .before .before .before .before .before in
+    past-is (s .args .far) (s .args .v) (s .args .s) (s .args .o) (c .before .magnitude .ensures) (c .magnitude2 .ensures)
 
 pub is-past-spec : {M : Type 1} → statement M
 is-past-spec =

@@ -21,45 +21,42 @@ abbrev Start : tie.At-loop Inv-loop μ-loop → tie.Start Inv-loop μ-loop
 Start l = l .before .before .before .before .before .before
 
 loop-holds : tie.Need-loop-holds Inv-loop μ-loop
-loop-holds c =
-    λ i h. absurd (omega arith)
+loop-holds c = λ i h. absurd (omega arith)
 
 mul-wide : tie.Need-mul-wide Inv-loop μ-loop
-mul-wide c =
-    let s = Start (c .before) in omega (arith, c .loop-test .taken, s .pre .1 .order .long)
+mul-wide c = omega (arith, c .loop-test .taken, Start (c .before) .pre .1 .order .long)
 
 shared-slice-read-wide : tie.Need-shared-slice-read-wide Inv-loop μ-loop
-shared-slice-read-wide c =
-    let t = c .before in let s = Start (t .before) in omega (arith, t .loop-test .taken, s .pre .1 .order .long)
+shared-slice-read-wide c = omega (arith, c .before .loop-test .taken, Start (c .before .before) .pre .1 .order .long)
 
 site-nearer-requires : tie.Need-site-nearer-requires Inv-loop μ-loop
 site-nearer-requires c κs =
-    let t = c .before .before in let l = t .before in let s = Start l in
-    (s .pre .0, s .pre .1, s .pre .2, s .pre .3, rw (c .wide .ensures) (s .pre .1 .order .named (l .loop .j) (t .loop-test .taken)))
+    let t = c .before .before in
+    let s = Start (t .before) in
+    (s .pre .0, s .pre .1, s .pre .2, s .pre .3, rw (c .wide .ensures) (s .pre .1 .order .named (t .before .loop .j) (t .loop-test .taken)))
 
 returns : tie.Need-returns Inv-loop μ-loop
-returns c =
-    λ e. absurd (no-both (sym e))
+returns c = λ e. absurd (no-both (sym e))
 
 add-j : tie.Need-add-j Inv-loop μ-loop
-add-j c =
-    let t = c .before .before .before .before in omega (arith, t .loop-test .taken)
+add-j c = omega (arith, c .before .before .before .before .loop-test .taken)
 
 loop-less : tie.Need-loop-less Inv-loop μ-loop
-loop-less c =
-    let t = c .before .before .before .before in omega (arith, t .loop-test .taken)
+loop-less c = omega (arith, c .before .before .before .before .loop-test .taken)
 
 loop-again : tie.Need-loop-again Inv-loop μ-loop
 loop-again c =
-    let at-site-nearer = c .before in let at-wide = at-site-nearer .before in let l = at-wide .before .before .before in let s = Start l in
+    let l = c .before .before .before .before .before in
+    let s = Start l in
     before-more (siteNearer (s .args .far) (now (s .args .sites)) [] [] (now (s .args .vertices)) (now (s .args .offsets)) (now (s .args .indexes))) (now (s .args .room))
-    (l .loop .inv) (at-wide .wide .ensures) (at-site-nearer .site-nearer .ensures) (c .if1 .left)
+    (l .loop .inv) (c .before .before .wide .ensures) (c .before .site-nearer .ensures) (c .if1 .left)
 
 returns-2 : tie.Need-returns-2 Inv-loop μ-loop
 returns-2 c =
-    let l = c .before in let s = Start l in λ _.
+    let s = Start (c .before) in
+    λ _.
     before-all (siteNearer (s .args .far) (now (s .args .sites)) [] [] (now (s .args .vertices)) (now (s .args .offsets)) (now (s .args .indexes))) (now (s .args .room))
-    (s .pre .1 .order) (l .loop .inv) (omega (arith, c .loop-test .left))
+    (s .pre .1 .order) (c .before .loop .inv) (omega (arith, c .loop-test .left))
 
 pub none-nearer-spec : {M : Type 1} → statement M
 none-nearer-spec =

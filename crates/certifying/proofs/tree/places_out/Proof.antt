@@ -3,9 +3,11 @@ use native.Mathlib.Omega.{arith}
 use Rattle.certifying.proofs.tree.places_out.Statement.{statement}
 use Rattle.certifying.proofs.tree.places_out.Tie as tie
 
+abbrev Start : tie.Else1 → tie.Start
+Start c = c .before .before .before .before .before
+
 base-4096-requires : tie.Need-base-4096-requires
-base-4096-requires c κs =
-    let s = c .before .before in s .pre .0 .few
+base-4096-requires c κs = c .before .before .pre .0 .few
 
 level-out-requires : tie.Need-level-out-requires
 level-out-requires c κs =
@@ -13,34 +15,29 @@ level-out-requires c κs =
     (rw (c .base-4096 .ensures) (record { held = s .pre .1; order = s .pre .0 .order; level = s .pre .0 .coarse; edges = s .pre .2 }), s .pre .3)
 
 returns : tie.Need-returns
-returns c =
-    let at-level-out = c .before in (at-level-out .level-out .ensures (c .if1 .taken), omega arith)
+returns c = (c .before .level-out .ensures (c .if1 .taken), omega arith)
 
 base-256-requires : tie.Need-base-256-requires
-base-256-requires c κs =
-    let s = c .before .before .before .before .before in s .pre .0 .few
+base-256-requires c κs = Start c .pre .0 .few
 
 level-out-requires-2 : tie.Need-level-out-requires-2
 level-out-requires-2 c κs =
-    let s = c .before .before .before .before .before .before in
+    let s = Start (c .before) in
     (rw (c .base-256 .ensures) (record { held = s .pre .1; order = s .pre .0 .order; level = s .pre .0 .middle; edges = s .pre .2 }), s .pre .3)
 
 returns-2 : tie.Need-returns-2
-returns-2 c =
-    let at-level-out2 = c .before in (at-level-out2 .level-out2 .ensures (c .if2 .taken), omega arith)
+returns-2 c = (c .before .level-out2 .ensures (c .if2 .taken), omega arith)
 
 level-out-requires-3 : tie.Need-level-out-requires-3
 level-out-requires-3 c κs =
-    let s = c .before .before .before .before .before .before .before .before in
+    let s = Start (c .before .before .before) in
     (record { held = s .pre .1; order = s .pre .0 .order; level = s .pre .0 .fine; edges = s .pre .2 }, s .pre .3)
 
 returns-3 : tie.Need-returns-3
-returns-3 c =
-    let at-level-out3 = c .before in (at-level-out3 .level-out3 .ensures (c .if3 .taken), omega arith)
+returns-3 c = (c .before .level-out3 .ensures (c .if3 .taken), omega arith)
 
 returns-4 : tie.Need-returns-4
-returns-4 c =
-    (λ i a b h. absurd (omega arith), omega arith)
+returns-4 c = (λ i a b h. absurd (omega arith), omega arith)
 
 pub places-out-spec : {M : Type 1} → statement M
 places-out-spec =

@@ -6,54 +6,57 @@ use native.Mathlib.Omega.{arith}
 use Rattle.certifying.proofs.tree.plant.Statement.{statement}
 use Rattle.certifying.proofs.tree.plant.Tie as tie
 
+abbrev Start : tie.After-arrange → tie.Start
+Start c = c .before .before .before .before
+
+abbrev Arrange : tie.After-fill-arg2 → tie.After-arrange
+Arrange c = c .before .before .before .before .before .before .before
+
 arrange-requires : tie.Need-arrange-requires
 arrange-requires c κs =
-    let s = c .before .before .before in (s .pre .0, s .pre .1, omega (arith, s .pre .2))
+    let s = c .before .before .before in
+    (s .pre .0, s .pre .1, omega (arith, s .pre .2))
 
 fill-requires : tie.Need-fill-requires
 fill-requires c κs =
-    let at-arrange = c .before .before .before in let s = at-arrange .before .before .before .before in
-    first-safe (now (s .args .room)) (s .pre .0) (s .pre .1) (s .pre .2) (at-arrange .arrange .ensures .0) (at-arrange .arrange .ensures .1)
+    let at-arrange = c .before .before .before in
+    first-safe (now (Start at-arrange .args .room)) (Start at-arrange .pre .0) (Start at-arrange .pre .1) (Start at-arrange .pre .2) (at-arrange .arrange .ensures .0)
+    (at-arrange .arrange .ensures .1)
 
 base-256-requires : tie.Need-base-256-requires
-base-256-requires c κs =
-    let s = c .before .before .before .before .before .before .before .before .before .before .before in s .pre .1
+base-256-requires c κs = Start (Arrange c) .pre .1
 
 fill-requires-2 : tie.Need-fill-requires-2
 fill-requires-2 c κs =
-    let at-fill = c .before .before .before .before in let at-arrange = at-fill .before .before .before .before in
-    let s = at-arrange .before .before .before .before in
-    second-safe (now (s .args .room)) (s .pre .0) (s .pre .1) (s .pre .2) (at-arrange .arrange .ensures .0) (at-arrange .arrange .ensures .1) (at-fill .fill .ensures) (c
-    .base-256 .ensures)
+    let at-arrange = Arrange (c .before) in
+    second-safe (now (Start at-arrange .args .room)) (Start at-arrange .pre .0) (Start at-arrange .pre .1) (Start at-arrange .pre .2) (at-arrange .arrange .ensures .0)
+    (at-arrange .arrange .ensures .1) (c .before .before .before .before .fill .ensures) (c .base-256 .ensures)
 
 base-4096-requires : tie.Need-base-4096-requires
-base-4096-requires c κs =
-    let s = c .before .before .before .before .before .before .before .before .before .before .before .before .before .before .before .before in s .pre .1
+base-4096-requires c κs = Start (Arrange (c .before .before .before .before .before)) .pre .1
 
 fill-requires-3 : tie.Need-fill-requires-3
 fill-requires-3 c κs =
-    let at-fill2 = c .before .before .before .before in let at-base-256 = at-fill2 .before in let at-fill = at-base-256 .before .before .before .before in
-    let at-arrange = at-fill .before .before .before .before in let s = at-arrange .before .before .before .before in
-    third-safe (now (s .args .room)) (s .pre .0) (s .pre .1) (s .pre .2) (at-arrange .arrange .ensures .0) (at-arrange .arrange .ensures .1) (at-fill .fill .ensures)
-    (at-base-256 .base-256 .ensures) (at-fill2 .fill2 .ensures) (c .base-4096 .ensures)
+    let at-fill2 = c .before .before .before .before in
+    let at-arrange = Arrange (at-fill2 .before .before) in
+    third-safe (now (Start at-arrange .args .room)) (Start at-arrange .pre .0) (Start at-arrange .pre .1) (Start at-arrange .pre .2) (at-arrange .arrange .ensures .0)
+    (at-arrange .arrange .ensures .1) (at-fill2 .before .before .before .before .before .fill .ensures)
+    (at-fill2 .before .base-256 .ensures) (at-fill2 .fill2 .ensures) (c .base-4096 .ensures)
 
 same-length : tie.Need-same-length
 same-length c =
-    let at-fill3 = c .before .before in let at-fill2 = at-fill3 .before .before .before .before .before in
-    let at-fill = at-fill2 .before .before .before .before .before in let at-arrange = at-fill .before .before .before .before in
-    at-fill3 .fill3 .ensures .kept .same ∙ at-fill2 .fill2 .ensures .kept .same ∙ at-fill .fill .ensures .kept .same ∙ at-arrange .arrange .ensures .1
+    let at-fill2 = c .before .before .before .before .before .before .before in
+    c .before .before .fill3 .ensures .kept .same ∙ at-fill2 .fill2 .ensures .kept .same ∙ at-fill2 .before .before .before .before .before .fill .ensures .kept .same
+    ∙ Arrange (at-fill2 .before .before) .arrange .ensures .1
 
 returns : tie.Need-returns
 returns c =
     let at-fill3 = c .before .before in
-    let at-base-4096 = at-fill3 .before in
-    let at-fill2 = at-base-4096 .before .before .before .before in
-    let at-base-256 = at-fill2 .before in
-    let at-fill = at-base-256 .before .before .before .before in
-    let at-arrange = at-fill .before .before .before .before in
-    let s = at-arrange .before .before .before .before in (
-      tree-of (s .pre .1) (at-arrange .arrange .ensures .0) (at-fill .fill .ensures) (level-at (at-base-256 .base-256 .ensures) (at-fill2 .fill2 .ensures))
-          (level-at (at-base-4096 .base-4096 .ensures) (at-fill3 .fill3 .ensures)),
+    let at-fill2 = at-fill3 .before .before .before .before .before in
+    let at-fill = at-fill2 .before .before .before .before .before in
+    let at-arrange = Arrange (at-fill2 .before .before) in (
+      tree-of (Start at-arrange .pre .1) (at-arrange .arrange .ensures .0) (at-fill .fill .ensures) (level-at (at-fill2 .before .base-256 .ensures) (at-fill2 .fill2 .ensures))
+          (level-at (at-fill3 .before .base-4096 .ensures) (at-fill3 .fill3 .ensures)),
       at-fill3 .fill3 .ensures .kept .same ∙ at-fill2 .fill2 .ensures .kept .same ∙ at-fill .fill .ensures .kept .same ∙ at-arrange .arrange .ensures .1,
     )
 

@@ -14,39 +14,35 @@ Inv-loop far sites room w site vertices entries s n j₀ j = NonePast far sites 
 abbrev μ-loop : tie.MeasureT-loop
 μ-loop far sites room w site vertices entries s n j₀ j = length sites / 2 + 4096 - j
 
+abbrev Start : tie.At-loop Inv-loop μ-loop → tie.Start Inv-loop μ-loop
+Start c = c .before .before .before .before .before
+
 loop-holds : tie.Need-loop-holds Inv-loop μ-loop
-loop-holds c =
-    (λ i h. absurd (omega arith), omega arith)
+loop-holds c = (λ i h. absurd (omega arith), omega arith)
 
 passed-requires : tie.Need-passed-requires Inv-loop μ-loop
-passed-requires c κs =
-    let s = c .before .before .before .before .before .before in (s .pre .0, c .loop-test .taken)
+passed-requires c κs = (Start (c .before) .pre .0, c .loop-test .taken)
 
 returns : tie.Need-returns Inv-loop μ-loop
 returns c =
-    let at-passed = c .before in let t = at-passed .before in let s = t .before .before .before .before .before .before in
+    let s = Start (c .before .before .before) in
     ring-found (s .args .far) (now (s .args .sites)) (s .args .s) (now (s .args .vertices)) (now (s .args .entries)) (s .pre .0 .tree .order) (s .pre .1)
-    (at-passed .passed .ensures .stop (c .if1 .taken))
+    (c .before .passed .ensures .stop (c .if1 .taken))
 
 add-j : tie.Need-add-j Inv-loop μ-loop
-add-j c =
-    let at-passed = c .before in let t = at-passed .before in omega (arith, t .loop-test .taken, at-passed .passed .ensures .most)
+add-j c = omega (arith, c .before .before .loop-test .taken, c .before .passed .ensures .most)
 
 loop-less : tie.Need-loop-less Inv-loop μ-loop
-loop-less c =
-    let at-passed = c .before in let t = at-passed .before in
-    omega (arith, t .loop-test .taken, at-passed .passed .ensures .most, pos-of-ne-zero (c .if1 .left))
+loop-less c = omega (arith, c .before .before .loop-test .taken, c .before .passed .ensures .most, pos-of-ne-zero (c .if1 .left))
 
 loop-again : tie.Need-loop-again Inv-loop μ-loop
-loop-again c =
-    let at-passed = c .before in let t = at-passed .before in let l = t .before in
-    (none-more (l .loop .inv .0) (at-passed .passed .ensures), omega (arith, t .loop-test .taken, at-passed .passed .ensures .most))
+loop-again c = (none-more (c .before .before .before .loop .inv .0) (c .before .passed .ensures), omega (arith, c .before .before .loop-test .taken, c .before .passed .ensures .most))
 
 returns-2 : tie.Need-returns-2 Inv-loop μ-loop
 returns-2 c =
-    let l = c .before in let s = l .before .before .before .before .before in
-    ring-none (s .args .far) (now (s .args .sites)) (s .args .s) (now (s .args .vertices)) (now (s .args .entries)) (s .pre .0 .tree .order) (s .pre .1) (l .loop .inv
-    .0) (c .loop-test .left)
+    let s = Start (c .before) in
+    ring-none (s .args .far) (now (s .args .sites)) (s .args .s) (now (s .args .vertices)) (now (s .args .entries)) (s .pre .0 .tree .order) (s .pre .1) (c .before .loop .inv .0)
+    (c .loop-test .left)
 
 pub ring-nearer-spec : {M : Type 1} → statement M
 ring-nearer-spec =

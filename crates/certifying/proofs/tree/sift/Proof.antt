@@ -16,70 +16,72 @@ Inv-loop sites room w from to list₀ count₀ j₀ list count j = Sifted sites 
 abbrev μ-loop : tie.MeasureT-loop
 μ-loop sites room w from to list₀ count₀ j₀ list count j = to - j
 
+abbrev Start : tie.In-loop Inv-loop μ-loop → tie.Start Inv-loop μ-loop
+Start c = c .before .before .before .before .before
+
+abbrev Narrow : tie.After-one-unless Inv-loop μ-loop → tie.After-narrow Inv-loop μ-loop
+Narrow c = c .before .before .before .before .before
+
 loop-holds : tie.Need-loop-holds Inv-loop μ-loop
-loop-holds c =
-    let s = c .before .before .before in (sift-none _, refl, omega arith, s .pre .6)
+loop-holds c = (sift-none _, refl, omega arith, c .before .before .before .pre .6)
 
 narrow-requires : tie.Need-narrow-requires Inv-loop μ-loop
-narrow-requires c κs =
-    let s = c .before .before .before .before .before in omega (arith, c .loop-test .taken, s .pre .3, s .pre .0 .few)
+narrow-requires c κs = omega (arith, c .loop-test .taken, Start c .pre .3, Start c .pre .0 .few)
 
 mul-list : tie.Need-mul-list Inv-loop μ-loop
 mul-list c =
-    let t = c .before in let l = t .before in let s = l .before .before .before .before in
-    omega (arith, l .loop .inv .0 .few, l .loop .inv .1, t .loop-test .taken, s .pre .3, s .pre .4, s .pre .5, s .pre .0 .few)
+    let t = c .before in
+    omega (arith, t .before .loop .inv .0 .few, t .before .loop .inv .1, t .loop-test .taken, Start t .pre .3, Start t .pre .4, Start t .pre .5, Start t .pre .0 .few)
 
 slice-write-list : tie.Need-slice-write-list Inv-loop μ-loop
 slice-write-list c =
-    let t = c .before in let l = t .before in let s = l .before .before .before .before in
-    omega (arith, l .loop .inv .0 .few, l .loop .inv .1, t .loop-test .taken, s .pre .4, s .pre .5)
+    let t = c .before in
+    omega (arith, t .before .loop .inv .0 .few, t .before .loop .inv .1, t .loop-test .taken, Start t .pre .4, Start t .pre .5)
 
 mul-wide : tie.Need-mul-wide Inv-loop μ-loop
-mul-wide c =
-    let t = c .before in let s = t .before .before .before .before .before in omega (arith, s .pre .0 .order .long, t .loop-test .taken, s .pre .3)
+mul-wide c = omega (arith, Start (c .before) .pre .0 .order .long, c .before .loop-test .taken, Start (c .before) .pre .3)
 
 shared-slice-read-wide : tie.Need-shared-slice-read-wide Inv-loop μ-loop
 shared-slice-read-wide c =
-    let t = c .before .before in let s = t .before .before .before .before .before in omega (arith, s .pre .0 .order .long, t .loop-test .taken, s .pre .3)
+    let t = c .before .before in
+    omega (arith, Start t .pre .0 .order .long, t .loop-test .taken, Start t .pre .3)
 
 point-at-requires : tie.Need-point-at-requires Inv-loop μ-loop
 point-at-requires c κs =
-    let t = c .before .before .before in let l = t .before in let s = l .before .before .before .before in
-    rw (c .wide .ensures) (named-twice _ _ (s .pre .0 .order .named (l .loop .j) (omega (arith, t .loop-test .taken, s .pre .3))))
+    let t = c .before .before .before in
+    rw (c .wide .ensures) (named-twice _ _ (Start t .pre .0 .order .named (t .before .loop .j) (omega (arith, t .loop-test .taken, Start t .pre .3))))
 
 add-count : tie.Need-add-count Inv-loop μ-loop
 add-count c =
-    let t = c .before .before .before .before .before .before in let l = t .before in let s = l .before .before .before .before in
-    omega (arith, l .loop .inv .0 .few, t .loop-test .taken, s .pre .3, s .pre .0 .few, c .one-unless .ensures .2)
+    let t = Narrow c .before in
+    omega (arith, t .before .loop .inv .0 .few, t .loop-test .taken, Start t .pre .3, Start t .pre .0 .few, c .one-unless .ensures .2)
 
 add-j : tie.Need-add-j Inv-loop μ-loop
-add-j c =
-    let t = c .before .before .before .before .before .before in omega (arith, t .loop-test .taken)
+add-j c = omega (arith, Narrow c .before .loop-test .taken)
 
 loop-less : tie.Need-loop-less Inv-loop μ-loop
-loop-less c =
-    let t = c .before .before .before .before .before .before in omega (arith, t .loop-test .taken)
+loop-less c = omega (arith, Narrow c .before .loop-test .taken)
 
 loop-again : tie.Need-loop-again Inv-loop μ-loop
 loop-again c =
-    let at-is-off = c .before in let at-point-at = at-is-off .before in let at-wide = at-point-at .before in let at-narrow = at-wide .before .before in
-    let t = at-narrow .before in let l = t .before in let s = l .before .before .before .before in (
+    let t = Narrow c .before in
+    let l = t .before in
+    let s = Start t in (
       sift-more _ (l .loop .inv .0) (omega (arith, l .loop .inv .0 .few, l .loop .inv .1, t .loop-test .taken, s .pre .4, s .pre .5))
-          (omega (arith, t .loop-test .taken, s .pre .3)) (at-narrow .narrow .ensures)
-          (site-out (s .pre .1) (s .pre .0 .order) (s .pre .2) (l .loop .j) (omega (arith, t .loop-test .taken, s .pre .3)) (at-wide .wide .ensures) (at-point-at .point-at .ensures)
-          (at-is-off .is-off .ensures)) (c .one-unless .ensures .0) (c .one-unless .ensures .1),
-      length-set (l .loop .list) (l .loop .count) (at-narrow .narrow .result) ∙ l .loop .inv .1,
+          (omega (arith, t .loop-test .taken, s .pre .3)) (Narrow c .narrow .ensures)
+          (site-out (s .pre .1) (s .pre .0 .order) (s .pre .2) (l .loop .j) (omega (arith, t .loop-test .taken, s .pre .3)) (c .before .before .before .wide .ensures)
+          (c .before .before .point-at .ensures)
+          (c .before .is-off .ensures)) (c .one-unless .ensures .0) (c .one-unless .ensures .1),
+      length-set (l .loop .list) (l .loop .count) (Narrow c .narrow .result) ∙ l .loop .inv .1,
       omega (arith, l .loop .inv .2),
       omega (arith, t .loop-test .taken),
     )
 
 same-length : tie.Need-same-length Inv-loop μ-loop
-same-length c =
-    let l = c .before in l .loop .inv .1
+same-length c = c .before .loop .inv .1
 
 returns : tie.Need-returns Inv-loop μ-loop
-returns c =
-    let l = c .before in (sift-to (l .loop .inv .0) (l .loop .inv .3) (c .loop-test .left), l .loop .inv .1)
+returns c = (sift-to (c .before .loop .inv .0) (c .before .loop .inv .3) (c .loop-test .left), c .before .loop .inv .1)
 
 pub sift-spec : {M : Type 1} → statement M
 sift-spec =

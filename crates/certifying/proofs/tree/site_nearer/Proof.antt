@@ -10,7 +10,8 @@ use Rattle.certifying.proofs.tree.site_nearer.Tie as tie
 
 cell-requires : tie.Need-cell-requires
 cell-requires c κs =
-    let s = c .before .before .before .before .before in (s .pre .0 .pieces .cut .cut, omega (arith, s .pre .0 .pieces .cut .many, s .pre .4))
+    let s = c .before .before .before .before .before in
+    (s .pre .0 .pieces .cut .cut, omega (arith, s .pre .0 .pieces .cut .many, s .pre .4))
 
 piece-nearer-requires : tie.Need-piece-nearer-requires
 piece-nearer-requires c κs =
@@ -27,9 +28,8 @@ piece-nearer-requires c κs =
 
 returns : tie.Need-returns
 returns c =
-    let at-cell = c .before in let s = at-cell .before .before .before .before .before .before in
-    piece-is (s .args .far) (now (s .args .sites)) (now (s .args .vertices)) (now (s .args .offsets)) (now (s .args .indexes)) (s .args .s) (at-cell .cell .ensures) (c
-    .piece-nearer .ensures)
+    let s = c .before .before .before .before .before .before .before in
+    piece-is (s .args .far) (now (s .args .sites)) (now (s .args .vertices)) (now (s .args .offsets)) (now (s .args .indexes)) (s .args .s) (c .before .cell .ensures) (c .piece-nearer .ensures)
 
 pub site-nearer-spec : {M : Type 1} → statement M
 site-nearer-spec =

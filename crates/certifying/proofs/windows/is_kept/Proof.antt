@@ -7,9 +7,7 @@ use Rattle.certifying.proofs.windows.is_kept.Tie as tie
 
 returns : tie.Need-returns
 unfolding windowKept
-returns c =
-    let at-is-kept-along = c .before in let at-most-of2 = at-is-kept-along .before in let at-most-of = at-most-of2 .before in
-    rw (at-is-kept-along .is-kept-along .ensures, c .is-kept-along2 .ensures, at-most-of .most-of .ensures, at-most-of2 .most-of2 .ensures) refl
+returns c = rw (c .before .is-kept-along .ensures, c .is-kept-along2 .ensures, c .before .before .before .most-of .ensures, c .before .before .most-of2 .ensures) refl
 
 pub is-kept-spec : {M : Type 1} → statement M
 is-kept-spec =

@@ -6,17 +6,13 @@ use Rattle.certifying.proofs.windows.is_window.Statement.{statement}
 use Rattle.certifying.proofs.windows.is_window.Tie as tie
 
 all-kept-requires : tie.Need-all-kept-requires
-all-kept-requires c κs =
-    let s = c .before .before .before .before in s .pre
+all-kept-requires c κs = c .before .before .before .before .pre
 
 returns : tie.Need-returns
-returns c =
-    let at-if1 = c .before in
-    λ e. record { edges = at-if1 .before .has-edges .ensures (at-if1 .if1 .taken); each = c .all-kept .ensures e }
+returns c = λ e. record { edges = c .before .before .has-edges .ensures (c .before .if1 .taken); each = c .all-kept .ensures e }
 
 returns-2 : tie.Need-returns-2
-returns-2 c =
-    λ e. absurd (no-both (sym e))
+returns-2 c = λ e. absurd (no-both (sym e))
 
 pub is-window-spec : {M : Type 1} → statement M
 is-window-spec =

@@ -9,10 +9,10 @@ use Rattle.clipping.proofs.corners.insert_sides.Tie as tie
 
 returns : tie.Need-returns
 returns c =
-    let at-start = c .before .before .before .before .before .before .before in
-    let a = at-start .args in
+    let at-then1 = c .before .before .before .before in
+    let a = at-then1 .before .before .before .args in
     let w = c .before .before .around-corners in
-    (led-yes (a .centers) (a .site) (a .f) (a .s) (a .first) (a .second) (a .cell) _ (now (a .indexes)) _ (c .before .before .before .before .if1 .taken) (w .ensures .0), w .ensures .1)
+    (led-yes (a .centers) (a .site) (a .f) (a .s) (a .first) (a .second) (a .cell) _ (now (a .indexes)) _ (at-then1 .if1 .taken) (w .ensures .0), w .ensures .1)
 
 around-corners-requires-2 : tie.Need-around-corners-requires-2
 around-corners-requires-2 c κs =
@@ -24,12 +24,10 @@ around-corners-requires-2 c κs =
 returns-2 : tie.Need-returns-2
 returns-2 c =
     let at-push = c .before .before .before .before .before .before in
-    let at-if1 = at-push .before .before in
-    let at-start = at-if1 .before .before .before in
-    let a = at-start .args in
+    let a = at-push .before .before .before .before .before .args in
     let p = at-push .push in
     let w = c .before .before .around-corners2 in (
-      led-not (a .centers) (a .site) (a .f) (a .s) (a .first) (a .second) (a .cell) _ _ (now (a .indexes)) _ _ (at-if1 .if1 .left) (p .ensures .0 crossing) (w .ensures .0),
+      led-not (a .centers) (a .site) (a .f) (a .s) (a .first) (a .second) (a .cell) _ _ (now (a .indexes)) _ _ (at-push .before .before .if1 .left) (p .ensures .0 crossing) (w .ensures .0),
       w .ensures .1,
     )
 

@@ -27,6 +27,9 @@ Inv-loop ix₀ centers site stop edge owners₀ end₀ last₀ c₀ ix owners en
 abbrev μ-loop : tie.MeasureT-loop
 μ-loop ix₀ centers site stop edge owners₀ end₀ last₀ c₀ ix owners end last c = occ site owners
 
+abbrev Start : tie.Then1 Inv-loop μ-loop → tie.Start Inv-loop μ-loop
+Start c = c .before .before .before .before .before
+
 loop-holds : tie.Need-loop-holds Inv-loop μ-loop
 loop-holds c =
     let a = c .before .before .args in
@@ -36,11 +39,10 @@ loop-holds c =
 -- a corner that is taken is one owner less
 struck :
     (c : tie.Then1 Inv-loop μ-loop)
-    → occ (c .before .before .before .before .before .args .site) (set (c .before .before .loop .owners) (c .before .before .loop .c) EMPTY) + 1
-    ≡ occ (c .before .before .before .before .before .args .site) (c .before .before .loop .owners)
+    → occ (Start c .args .site) (set (c .before .before .loop .owners) (c .before .before .loop .c) EMPTY) + 1
+    ≡ occ (Start c .args .site) (c .before .before .loop .owners)
 struck c =
-    let at-start = c .before .before .before .before .before in
-    let a = at-start .args in
+    let a = Start c .args in
     let l = c .before .before .loop in
     occ-set (a .site) EMPTY (l .owners) (l .c) (omega arith)
     (goes-own (a .site) (a .stop) (l .c) (l .owners) (sym (c .before .goes .ensures) ∙ c .if1 .taken))
@@ -60,8 +62,7 @@ loop-less c = omega (arith, struck c)
 
 loop-again : tie.Need-loop-again Inv-loop μ-loop
 loop-again c =
-    let at-start = c .before .before .before .before .before in
-    let a = at-start .args in
+    let a = Start c .args in
     let l = c .before .before .loop in
     let few : occ (a .site) (a .cell .owners) ≤ length (a .cell .owners) = occ-length (a .site) (a .cell .owners) in
     let one = struck c in
@@ -77,8 +78,7 @@ loop-again c =
 
 returns : tie.Need-returns Inv-loop μ-loop
 returns c =
-    let at-start = c .before .before .before .before .before in
-    let a = at-start .args in
+    let a = c .before .before .before .before .before .args in
     let l = c .before .before .loop in (
       going-end (l .inv .5) (a .site) (l .owners) (wraps-stop _ _ _ _ _ _ (sym (c .before .goes .ensures) ∙ c .if1 .left)) (a .cell) _ refl refl refl refl refl (l .inv .1) (omega arith),
       l .inv .6,

@@ -20,9 +20,10 @@ walk-ring-requires c κs =
 
 returns : tie.Need-returns
 returns c =
-    let s = c .before .before .before .before .before .before .before .before .before .before in
+    let at-walk-ring = c .before .before .before .before in
+    let s = at-walk-ring .before .before .before .before .before .before in
     let a = s .args in
-    rw (getD-ring (now (a .indexes)) (a .ring) (a .len) (a .f) (s .pre .1 .0)) (c .before .before .before .before .walk-ring .ensures)
+    rw (getD-ring (now (a .indexes)) (a .ring) (a .len) (a .f) (s .pre .1 .0)) (at-walk-ring .walk-ring .ensures)
 
 pub clip-from-spec : {M : Type 1} → statement M
 clip-from-spec =

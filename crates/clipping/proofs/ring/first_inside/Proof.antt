@@ -21,33 +21,34 @@ Inv-loop v ix env count ring len bounds k₀ k =
 abbrev μ-loop : tie.MeasureT-loop
 μ-loop v ix env count ring len bounds k₀ k = len - k
 
+abbrev Start : tie.In-loop Inv-loop μ-loop → tie.Start Inv-loop μ-loop
+Start c = c .before .before .before .before .before
+
 loop-holds : tie.Need-loop-holds Inv-loop μ-loop
 loop-holds c = (omega arith, sym (zero-add _))
 
 in-box-requires : tie.Need-in-box-requires Inv-loop μ-loop
-in-box-requires c κs =
-    let s = c .before .before .before .before .before .before in
-    (s .pre .0, s .pre .2 (c .before .before .loop .k) (c .before .loop-test .taken))
+in-box-requires c κs = (Start (c .before) .pre .0, Start (c .before) .pre .2 (c .before .before .loop .k) (c .before .loop-test .taken))
 
 returns : tie.Need-returns Inv-loop μ-loop
 returns c =
-    let s = c .before .before .before .before .before .before .before .before in
-    let a = s .args in
-    let l = c .before .before .before .before .loop in
+    let in-loop = c .before .before .before in
+    let a = Start in-loop .args in
+    let l = in-loop .before .loop in
     let vs = points (a .count) (now (a .vertices)) in
-    let h = c .before .before .before .loop-test .taken in
-    let n = length-ring (now (a .indexes)) (a .ring) (a .len) (s .pre .1) in
+    let h = in-loop .loop-test .taken in
+    let n = length-ring (now (a .indexes)) (a .ring) (a .len) (Start in-loop .pre .1) in
     let e = ring-answer (a .env .bounds) (a .env .centers) vs (now (a .indexes)) (a .ring) (a .len) (l .k) _ _ h (c .before .in-box .ensures) (c .if1 .taken) in
     (sym (l .inv .1 ∙ first-hit (a .env .bounds) (a .env .centers) vs (ringOf (now (a .indexes)) (a .ring) (a .len)) (l .k) (rw n h) e), omega arith)
 
 loop-again : tie.Need-loop-again Inv-loop μ-loop
 loop-again c =
-    let s = c .before .before .before .before .before .before .before .before in
-    let a = s .args in
-    let l = c .before .before .before .before .loop in
+    let in-loop = c .before .before .before in
+    let a = Start in-loop .args in
+    let l = in-loop .before .loop in
     let vs = points (a .count) (now (a .vertices)) in
-    let h = c .before .before .before .loop-test .taken in
-    let n = length-ring (now (a .indexes)) (a .ring) (a .len) (s .pre .1) in
+    let h = in-loop .loop-test .taken in
+    let n = length-ring (now (a .indexes)) (a .ring) (a .len) (Start in-loop .pre .1) in
     let e = ring-answer (a .env .bounds) (a .env .centers) vs (now (a .indexes)) (a .ring) (a .len) (l .k) _ _ h (c .before .in-box .ensures) (c .if1 .left) in
     (omega arith, l .inv .1 ∙ first-miss (a .env .bounds) (a .env .centers) vs (ringOf (now (a .indexes)) (a .ring) (a .len)) (l .k) (rw n h) e)
 

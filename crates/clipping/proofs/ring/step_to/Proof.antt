@@ -21,17 +21,17 @@ returns : tie.Need-returns
 returns c =
     let at-clip-step = c .before .before .before .before .before .before .before in
     let at-in-box = at-clip-step .before .before .before in
-    let s = c .before .before .before .before .before .before .before .before .before .before .before .before .before .before .before in
-    let a = s .args in (
+    let a = at-in-box .before .before .before .before .before .args in (
       step-refused (a .env) (a .tip) (a .q) _ (now (a .vertices)) (now (a .indexes)) _ _ _ (at-in-box .in-box .ensures) (at-clip-step .clip-step .ensures) (c .if1 .taken) _ refl,
       λ e. absurd (c .if1 .taken e),
     )
 
 returns-2 : tie.Need-returns-2
 returns-2 c =
-    let at-clip-step = c .before .before .before .before .before .before .before .before in
+    let at-else1 = c .before in
+    let at-clip-step = at-else1 .before .before .before .before .before .before .before in
     let at-in-box = at-clip-step .before .before .before in
-    let s = c .before .before .before .before .before .before .before .before .before .before .before .before .before .before .before .before in
+    let s = at-in-box .before .before .before .before .before in
     let a = s .args in
     let t = a .tip in
     let stood = s .pre .1 .0 in
@@ -39,8 +39,8 @@ returns-2 c =
     let l = changes-low (a .env) (t .count) (t .cell) (now (a .vertices)) (now (a .indexes)) (g .result) _ _
     (clipStep (a .env .bounds) (a .env .centers) (a .env .site) (t .vertex) (t .inside) (a .q) (at-in-box .in-box .result)
     (points (t .count) (now (a .vertices))) (t .cell .owners) (t .opened) (t .cell .last))
-    (g .ensures) (c .before .if1 .left) in (
-      step-done (a .env) (a .tip) (a .q) _ (now (a .vertices)) (now (a .indexes)) _ _ _ (at-in-box .in-box .ensures) (g .ensures) (c .before .if1 .left),
+    (g .ensures) (at-else1 .if1 .left) in (
+      step-done (a .env) (a .tip) (a .q) _ (now (a .vertices)) (now (a .indexes)) _ _ _ (at-in-box .in-box .ensures) (g .ensures) (at-else1 .if1 .left),
       λ e. (
         record {
           vertex = omega arith;
@@ -49,21 +49,22 @@ returns-2 c =
               (points (t .count) (now (a .vertices))) (t .cell .owners) (t .opened) (t .cell .last))
               (step-shuts (a .env .bounds) (a .env .centers) (a .env .site) (t .vertex) (t .inside) (a .q) (at-in-box .in-box .result)
               (points (t .count) (now (a .vertices))) (t .cell .owners) (t .opened) (t .cell .last) i (stood .shut))
-              (g .ensures) (c .before .if1 .left);
+              (g .ensures) (at-else1 .if1 .left);
           low = l .1;
           ends = changes-ends (a .env) (t .count) (t .cell) (now (a .vertices)) (now (a .indexes)) (g .result) _ _
               (clipStep (a .env .bounds) (a .env .centers) (a .env .site) (t .vertex) (t .inside) (a .q) (at-in-box .in-box .result)
               (points (t .count) (now (a .vertices))) (t .cell .owners) (t .opened) (t .cell .last))
-              (step-ends (a .env .bounds) (a .env .centers) (a .env .site) (points (t .count) (now (a .vertices))) (omega (arith, s .pre .0 .corners, length-points (now (a .vertices)) 0 (t .count)))
+              (step-ends (a .env .bounds) (a .env .centers) (a .env .site) (points (t .count) (now (a .vertices)))
+              (omega (arith, s .pre .0 .corners, length-points (now (a .vertices)) 0 (t .count)))
               (s .pre .0 .sides) (t .cell .owners) (t .cell .last) (t .vertex) (t .inside) (a .q) (at-in-box .in-box .result) (t .opened) (stood .ends) (stood .shut))
-              (g .ensures) (c .before .if1 .left);
+              (g .ensures) (at-else1 .if1 .left);
         },
         λ i o. changes-out (a .env) (t .count) (t .cell) (now (a .vertices)) (now (a .indexes)) (g .result) _ _ (t .inside) (t .opened)
             (clipStep (a .env .bounds) (a .env .centers) (a .env .site) (t .vertex) (t .inside) (a .q) (at-in-box .in-box .result)
             (points (t .count) (now (a .vertices))) (t .cell .owners) (t .opened) (t .cell .last))
             (clip-out (a .env .bounds) (a .env .centers) (a .env .site) (points (t .count) (now (a .vertices))) (t .cell .owners) (t .opened)
             (t .cell .last) (t .vertex) (t .inside) (a .q) (at-in-box .in-box .result) i)
-            (g .ensures) (c .before .if1 .left) o,
+            (g .ensures) (at-else1 .if1 .left) o,
       ),
     )
 

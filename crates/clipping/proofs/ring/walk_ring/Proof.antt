@@ -17,6 +17,18 @@ Inv-loop v₀ ix₀ env ring len f at₀ u₀ k₀ v ix at u k = (length v ≡ l
 abbrev μ-loop : tie.MeasureT-loop
 μ-loop v₀ ix₀ env ring len f at₀ u₀ k₀ v ix at u k = len - k
 
+abbrev Start : tie.After-turned Inv-loop μ-loop → tie.Start Inv-loop μ-loop
+Start c = c .before .before .before .before .before
+
+abbrev Loop : tie.After-turned Inv-loop μ-loop → tie.At-loop Inv-loop μ-loop
+Loop c = c .before .before
+
+abbrev StepTo : tie.After-struct-known Inv-loop μ-loop → tie.After-step-to Inv-loop μ-loop
+StepTo c = c .before .before .before .before .before .before
+
+abbrev Turned : tie.After-struct-known Inv-loop μ-loop → tie.After-turned Inv-loop μ-loop
+Turned c = StepTo c .before .before .before .before
+
 loop-holds : tie.Need-loop-holds Inv-loop μ-loop
 loop-holds c =
     let s = c .before .before in
@@ -26,117 +38,94 @@ loop-holds c =
 -- the vertex that is read is the turned ring's k-th
 read :
     (c : tie.After-turned Inv-loop μ-loop)
-    → getD (Def.turned (c .before .before .before .before .before .args .f)
-    (ringOf (now (c .before .before .before .before .before .args .indexes)) (c .before .before .before .before .before .args .ring)
-    (c .before .before .before .before .before .args .len))) (c .before .before .loop .k) 0
-    ≡ getD (c .before .before .loop .indexes) (c .before .before .before .before .before .args .ring + c .turned .result) 0
+    → getD (Def.turned (Start c .args .f)
+    (ringOf (now (Start c .args .indexes)) (Start c .args .ring)
+    (Start c .args .len))) (Loop c .loop .k) 0
+    ≡ getD (Loop c .loop .indexes) (Start c .args .ring + c .turned .result) 0
 read c =
-    let s = c .before .before .before .before .before in
-    let a = s .args in
-    let l = c .before .before .loop in
-    let ends = s .pre .0 .ends in
-    let list = s .pre .0 .list in
+    let a = Start c .args in
+    let l = Loop c .loop in
+    let ends = Start c .pre .0 .ends in
+    let list = Start c .pre .0 .list in
     c .turned .ensures .1 (ringOf (now (a .indexes)) (a .ring) (a .len)) (length-ring (now (a .indexes)) (a .ring) (a .len) (omega arith))
     ∙ getD-ring (now (a .indexes)) (a .ring) (a .len) (c .turned .result) (c .turned .ensures .0)
     ∙ sym (ring-same (a .env) (a .ring) (a .len) (a .f) (a .tip) (now (a .vertices)) (now (a .indexes)) (l .k) (l .at) (l .reused) (l .vertices)
     (l .indexes) (l .inv .2) (c .turned .result) (c .turned .ensures .0))
 
 add-place : tie.Need-add-place Inv-loop μ-loop
-add-place c =
-    let at-good = c .before .before .before .before .before in
-    omega (arith, c .before .before .loop .inv .2 .room .ends, c .before .before .loop .inv .2 .room .list, at-good .good .1 .0)
+add-place c = omega (arith, Loop c .loop .inv .2 .room .ends, Loop c .loop .inv .2 .room .list, Start c .good .1 .0)
 
 mul-q : tie.Need-mul-q Inv-loop μ-loop
-mul-q c =
-    let at-good = c .before .before .before .before .before in
-    omega (arith, c .turned .ensures .0, c .before .before .loop .inv .2 .room .ends, c .before .before .loop .inv .2 .room .list, c .before .before .loop .inv .1, at-good .good .1 .0)
+mul-q c = omega (arith, c .turned .ensures .0, Loop c .loop .inv .2 .room .ends, Loop c .loop .inv .2 .room .list, Loop c .loop .inv .1, Start c .good .1 .0)
 
 slice-read-q : tie.Need-slice-read-q Inv-loop μ-loop
-slice-read-q c = omega (arith, c .before .turned .ensures .0, c .before .before .before .loop .inv .2 .room .ends, c .before .before .before .loop .inv .2 .room .list)
+slice-read-q c = omega (arith, c .before .turned .ensures .0, Loop (c .before) .loop .inv .2 .room .ends, Loop (c .before) .loop .inv .2 .room .list)
 
 step-to-requires : tie.Need-step-to-requires Inv-loop μ-loop
 step-to-requires c κs =
-    let at-loop = c .before .before .before .before .before in
-    let s = c .before .before .before .before .before .before .before .before in
-    let a = s .args in
-    let l = at-loop .loop in
-    let j = c .before .before .before .turned .ensures .0 in (
+    let at-turned = c .before .before .before in
+    let a = Start at-turned .args in
+    let l = Loop at-turned .loop in
+    let j = at-turned .turned .ensures .0 in (
       round-ready (a .env) (a .ring) (a .len) (a .f) (a .tip) (now (a .vertices)) (now (a .indexes)) (l .k) (l .at) (l .reused) (l .vertices)
-          (l .indexes) (l .inv .2) (c .before .before .before .before .loop-test .taken),
+          (l .indexes) (l .inv .2) (at-turned .before .loop-test .taken),
       (
         l .inv .2 .stands,
         (
-          l .inv .2 .room .below (c .before .before .before .turned .result) j,
+          l .inv .2 .room .below (at-turned .turned .result) j,
           round-last (a .env) (a .ring) (a .len) (a .f) (a .tip) (now (a .vertices)) (now (a .indexes)) (l .k) (l .at) (l .reused) (l .vertices)
-              (l .indexes) (l .inv .2) (c .before .before .before .turned .result) j,
+              (l .indexes) (l .inv .2) (at-turned .turned .result) j,
         ),
       ),
     )
 
 same-length : tie.Need-same-length Inv-loop μ-loop
-same-length c =
-    let at-step-to = c .before .before .before .before .before .before .before in
-    let at-loop = at-step-to .before .before .before .before .before .before in
-    at-step-to .step-to .kept .0 ∙ at-loop .loop .inv .0
+same-length c = StepTo (c .before) .step-to .kept .0 ∙ Loop (Turned (c .before)) .loop .inv .0
 
 same-length-2 : tie.Need-same-length-2 Inv-loop μ-loop
-same-length-2 c =
-    let at-step-to = c .before .before .before .before .before .before .before in
-    let at-loop = at-step-to .before .before .before .before .before .before in
-    at-step-to .step-to .kept .1 .0 ∙ at-loop .loop .inv .1
+same-length-2 c = StepTo (c .before) .step-to .kept .1 .0 ∙ Loop (Turned (c .before)) .loop .inv .1
 
 returns : tie.Need-returns Inv-loop μ-loop
 returns c =
-    let at-step-to = c .before .before .before .before .before .before .before in
-    let at-loop-test = at-step-to .before .before .before .before .before in
-    let at-loop = at-loop-test .before in
-    let s = c .before .before .before .before .before .before .before .before .before .before .before .before .before .before .before .before in
-    let a = s .args in
-    let l = at-loop .loop in
-    let g = at-step-to .step-to in
-    round-stop (a .env) (a .ring) (a .len) (a .f) (a .tip) (now (a .vertices)) (now (a .indexes)) (l .k) (l .at) (l .reused) (l .vertices) (l .indexes) (l .inv .2) (s .pre .1 .1 .0)
-    (l .inv .1) _ _ _ _ (at-loop-test .loop-test .taken) (read (c .before .before .before .before .before .before .before .before .before .before .before)) (g .ensures .0) (c .if1 .taken)
+    let at-turned = Turned (c .before) in
+    let a = Start at-turned .args in
+    let l = Loop at-turned .loop in
+    let g = StepTo (c .before) .step-to in
+    round-stop (a .env) (a .ring) (a .len) (a .f) (a .tip) (now (a .vertices)) (now (a .indexes)) (l .k) (l .at) (l .reused) (l .vertices) (l .indexes) (l .inv .2) (Start at-turned .pre .1 .1 .0)
+    (l .inv .1) _ _ _ _ (at-turned .before .loop-test .taken) (read at-turned) (g .ensures .0) (c .if1 .taken)
 
 together-requires : tie.Need-together-requires Inv-loop μ-loop
 together-requires c κs =
-    let at-step-to = c .before .before .before .before .before .before .before .before .before in
-    let at-loop-test = at-step-to .before .before .before .before .before in
-    let at-loop = at-loop-test .before in
-    let s = at-loop .before .before .before in
-    let a = s .args in
-    let l = at-loop .loop in
-    let few = s .pre .0 .small in
-    round-small (a .env) (a .ring) (a .len) (a .f) (a .tip) (now (a .vertices)) (now (a .indexes)) (l .k) (l .at) (l .reused) (l .vertices) (l .indexes) (l .inv .2) (s .pre .1 .1 .0)
-    (l .inv .1) _ _ _ _ (at-loop-test .loop-test .taken) (read (at-step-to .before .before .before .before)) (at-step-to .step-to .ensures .0) (c .before .before .if1 .left) (omega arith)
+    let at-else1 = c .before .before in
+    let at-turned = Turned (at-else1 .before) in
+    let a = Start at-turned .args in
+    let l = Loop at-turned .loop in
+    let few = Start at-turned .pre .0 .small in
+    round-small (a .env) (a .ring) (a .len) (a .f) (a .tip) (now (a .vertices)) (now (a .indexes)) (l .k) (l .at) (l .reused) (l .vertices) (l .indexes) (l .inv .2) (Start at-turned .pre .1 .1 .0)
+    (l .inv .1) _ _ _ _ (at-turned .before .loop-test .taken) (read at-turned) (StepTo (at-else1 .before) .step-to .ensures .0) (at-else1 .if1 .left) (omega arith)
 
 add-k : tie.Need-add-k Inv-loop μ-loop
-add-k c =
-    let at-loop-test = c .before .before .before .before .before .before .before .before .before .before .before .before .before .before .before in
-    let at-fits = at-loop-test .before .before .before .before in
-    omega (arith, at-loop-test .loop-test .taken, at-fits .fits .len)
+add-k c = omega (arith, Turned (c .before .before .before .before) .before .loop-test .taken, Start (Turned (c .before .before .before .before)) .fits .len)
 
 loop-less : tie.Need-loop-less Inv-loop μ-loop
-loop-less c =
-    let at-loop-test = c .before .before .before .before .before .before .before .before .before .before .before .before .before .before .before in
-    omega (arith, at-loop-test .loop-test .taken)
+loop-less c = omega (arith, Turned (c .before .before .before .before) .before .loop-test .taken)
 
 loop-again : tie.Need-loop-again Inv-loop μ-loop
 loop-again c =
-    let at-step-to = c .before .before .before .before .before .before .before .before .before .before in
-    let at-loop-test = at-step-to .before .before .before .before .before in
-    let at-loop = at-loop-test .before in
-    let s = c .before .before .before .before .before .before .before .before .before .before .before .before .before .before .before .before .before .before .before in
-    let a = s .args in
-    let l = at-loop .loop in
-    let g = at-step-to .step-to in
+    let at-else1 = c .before .before .before in
+    let at-turned = Turned (at-else1 .before) in
+    let a = Start at-turned .args in
+    let l = Loop at-turned .loop in
+    let g = StepTo (at-else1 .before) .step-to in
     let kv = g .kept .0 in
     let kx = g .kept .1 .0 in (
       kv ∙ l .inv .0,
       kx ∙ l .inv .1,
-      round-next (a .env) (a .ring) (a .len) (a .f) (a .tip) (now (a .vertices)) (now (a .indexes)) (l .k) (l .at) (l .reused) (l .vertices) (l .indexes) (l .inv .2) (s .pre .1 .1 .0)
-          (l .inv .1) _ _ _ _ (at-loop-test .loop-test .taken)
-          (read (c .before .before .before .before .before .before .before .before .before .before .before .before .before .before)) (g .ensures .0)
-          (c .before .before .before .if1 .left) (g .ensures .1 (c .before .before .before .if1 .left)) (l .inv .0) kv kx _ (c .together .ensures),
+      round-next (a .env) (a .ring) (a .len) (a .f) (a .tip) (now (a .vertices)) (now (a .indexes)) (l .k) (l .at) (l .reused) (l .vertices) (l .indexes) (l .inv .2)
+          (Start at-turned .pre .1 .1 .0)
+          (l .inv .1) _ _ _ _ (at-turned .before .loop-test .taken)
+          (read at-turned) (g .ensures .0)
+          (at-else1 .if1 .left) (g .ensures .1 (at-else1 .if1 .left)) (l .inv .0) kv kx _ (c .together .ensures),
     )
 
 same-length-3 : tie.Need-same-length-3 Inv-loop μ-loop

@@ -12,8 +12,9 @@ use Rattle.clipping.proofs.step.cross_at.Tie as tie
 
 insert-edge-requires : tie.Need-insert-edge-requires
 insert-edge-requires c κs =
-    let g = c .before .before .before .link in
-    let s = c .before .before .before .before .before .before .before in
+    let at-link = c .before .before .before in
+    let s = at-link .before .before .before .before in
+    let g = at-link .link in
     let k = g .kept in
     let h = g .ensures .fit in
     (record { four = g .ensures .four; real = omega arith; room = omega arith }, (omega arith, (s .pre .1 .1 .1, s .pre .1 .1 .2)))
@@ -21,12 +22,10 @@ insert-edge-requires c κs =
 returns : tie.Need-returns
 unfolding crossAt
 returns c =
-    let at-insert = c .before .before in
-    let at-link = at-insert .before .before .before .before in
-    let at-start = at-link .before .before .before .before in
-    let a = at-start .args in
+    let at-link = c .before .before .before .before .before .before in
+    let a = at-link .before .before .before .before .args in
     let g = at-link .link in
-    let i = at-insert .insert-edge in
+    let i = c .before .before .insert-edge in
     let vs = points (a .count) (now (a .vertices)) in
     λ ts u. alters-cross (a .env .site) (a .count) vs (a .cell) (now (a .indexes)) (g .result) _ (a .env .bounds) (a .env .centers) (a .first) (a .second)
     (a .opened) (eqb (g .result .last) (a .first)) ts (a .reused) u (i .result) _

@@ -12,8 +12,7 @@ use Rattle.clipping.proofs.step.enter_at.Tie as tie
 returns : tie.Need-returns
 unfolding enterAt
 returns c =
-    let at-start = c .before .before .before .before .before .before in
-    let a = at-start .args in
+    let a = c .before .before .before .before .before .before .args in
     let g = c .before .before .insert-edge in
     let vs = points (a .count) (now (a .vertices)) in
     λ ts u. alters-enter (a .env .site) (a .count) vs (a .cell) (now (a .indexes)) (g .result) _ ts (a .reused)

@@ -16,8 +16,7 @@ push-requires-2 c κs =
 
 returns : tie.Need-returns
 returns c =
-    let at-push = c .before .before .before .before .before .before in
-    let p = at-push .push in
+    let p = c .before .before .before .before .before .before .push in
     let q = c .before .before .push2 in
     let h = p .ensures .0 plain in
     λ vs ts u. (refl, refl, refl, refl, λ e. (let g = q .ensures .1 in omega arith), puts-more 3 (omega arith) (rw (h .owners) at (puts-then h (q .ensures .0 crossing))), u)

@@ -16,6 +16,9 @@ use borrow.Author.Needs.{needs}
 use Rattle.mend.proofs.box_line.box_line.Statement.{statement}
 use Rattle.mend.proofs.box_line.box_line.Tie as tie
 
+abbrev LabelPut : tie.After-patterns-arg2 → tie.After-labelled
+LabelPut c = c .before .before .before .before
+
 returns : tie.Need-returns
 returns c =
     let a = c .before .before .before .args in
@@ -42,20 +45,19 @@ First c = c .before .before .before .before
 
 patterns-requires : tie.Need-patterns-requires
 patterns-requires c κs =
-    let e = First (c .before .before .before .before) in
+    let e = First (LabelPut c) in
     (length-take-le 32 (drop 1 (bytes e)) (omega (arith, long e, length-drop 1 (bytes e))), omega (arith, simp length-append at (room e)))
 
 returns-2 : tie.Need-returns-2
 returns-2 c =
-    let three = c .before .before in
-    let two = three .before .before .before .before .before in
-    let one = two .before .before .before .before .before in
-    wrote-as (wrote-then (wrote-then (one .labelled .ensures) (two .patterns .ensures)) (three .put .ensures)) (sym (box-is (bytes (First one)) (long (First one))))
+    let two = c .before .before .before .before .before .before .before in
+    let one = LabelPut (two .before) in
+    wrote-as (wrote-then (wrote-then (one .labelled .ensures) (two .patterns .ensures)) (c .before .before .put .ensures)) (sym (box-is (bytes (First one)) (long (First one))))
 
 pub box-line-spec : {M : Type 1} → statement M
 box-line-spec =
     tie.close
     (tie.spec returns (λ c. search needs) (λ c. search needs) (λ c. omega (arith, c .shared-slice-known2 .given 0 .fits))
     (λ c κs. omega (arith, simp length-append at (room (c .before .before .before)))) (λ c. search needs) (λ c. search needs)
-    (λ c. omega (arith, long (c .before .before .before .before .before .before .before))) patterns-requires (λ c. search needs)
-    (λ c κs. omega (arith, simp length-append at (room (First (c .before .before .before .before .before .before .before .before .before))))) (λ c. search needs) returns-2)
+    (λ c. omega (arith, long (First (c .before .before .before)))) patterns-requires (λ c. search needs)
+    (λ c κs. omega (arith, simp length-append at (room (First (LabelPut (c .before .before .before .before .before)))))) (λ c. search needs) returns-2)

@@ -12,18 +12,12 @@ returns c = sym (other-length (now (c .before .before .args .word)) (c .if1 .tak
 
 returns-2 : tie.Need-returns-2
 returns-2 c =
-    let at-byte = c .before in
-    let at-then = at-byte .before .before .before in
-    let at-digits = at-then .before in
-    let at-else = at-digits .before in
-    c .box-kind .ensures ∙ ap boxKind (at-byte .byte-of .ensures)
-    ∙ sym (by-kind (now (at-else .before .before .args .word)) (at-else .if1 .left) (sym (at-digits .all-digits .ensures) ∙ at-then .if2 .taken))
+    let at-then = c .before .before .before .before in
+    c .box-kind .ensures ∙ ap boxKind (c .before .byte-of .ensures)
+    ∙ sym (by-kind (now (at-then .before .before .before .before .args .word)) (at-then .before .before .if1 .left) (sym (at-then .before .all-digits .ensures) ∙ at-then .if2 .taken))
 
 returns-3 : tie.Need-returns-3
-returns-3 c =
-    let at-digits = c .before in
-    let at-else = at-digits .before in
-    sym (no-digits (now (at-else .before .before .args .word)) (at-else .if1 .left) (sym (at-digits .all-digits .ensures) ∙ c .if2 .left))
+returns-3 c = sym (no-digits (now (c .before .before .before .before .args .word)) (c .before .before .if1 .left) (sym (c .before .all-digits .ensures) ∙ c .if2 .left))
 
 pub is-box-spec : {M : Type 1} → statement M
 is-box-spec =

@@ -10,31 +10,26 @@ use Rattle.mend.proofs.change_lines.value.Tie as tie
 
 put-requires : tie.Need-put-requires
 put-requires c κs =
-    let at-if = c .before .before in
-    let start = at-if .before .before in
+    let start = c .before .before .before .before in
     let a = start .args in
-    subst (HasRoom (now (a .out)) (a .at)) (is-none (a .v) (at-if .if1 .taken)) (start .pre)
+    subst (HasRoom (now (a .out)) (a .at)) (is-none (a .v) (c .before .before .if1 .taken)) (start .pre)
 
 returns : tie.Need-returns
 returns c =
-    let at-put = c .before .before in
-    let at-if = at-put .before .before .before in
+    let at-if = c .before .before .before .before .before in
     let a = at-if .before .before .args in
-    wrote-as (at-put .put .ensures) (sym (is-none (a .v) (at-if .if1 .taken)))
+    wrote-as (c .before .before .put .ensures) (sym (is-none (a .v) (at-if .if1 .taken)))
 
 entry-requires : tie.Need-entry-requires
 entry-requires c κs =
-    let at-if = c .before in
-    let start = at-if .before .before in
-    let a = start .args in
-    subst (HasRoom (now (a .out)) (a .at)) (is-some (a .v) (at-if .if1 .left)) (start .pre)
+    let a = c .before .before .before .args in
+    subst (HasRoom (now (a .out)) (a .at)) (is-some (a .v) (c .before .if1 .left)) (c .before .before .before .pre)
 
 returns-2 : tie.Need-returns-2
 returns-2 c =
-    let at-entry = c .before .before in
-    let at-if = at-entry .before .before in
+    let at-if = c .before .before .before .before in
     let a = at-if .before .before .args in
-    wrote-as (at-entry .entry .ensures) (sym (is-some (a .v) (at-if .if1 .left)))
+    wrote-as (c .before .before .entry .ensures) (sym (is-some (a .v) (at-if .if1 .left)))
 
 pub value-spec : {M : Type 1} → statement M
 value-spec =

@@ -25,29 +25,22 @@ loop-holds c = let a = c .before .before .args in lined-start _ (length (now (a 
 put-hull-site-requires : tie.Need-put-hull-site-requires Inv-loop μ-loop
 put-hull-site-requires c κs =
     let at-loop-test = c .before .before in
-    let at-loop = at-loop-test .before in
-    let start = at-loop .before .before .before in
-    let l = at-loop .loop in
+    let start = at-loop-test .before .before .before .before in
+    let l = at-loop-test .before .loop in
     let list = now (start .args .hull) in
     lined-fits (l .inv) (hullBytes (getD list (l .i) 0)) (each hullBytes (drop (l .i + 1) list)) (each-more hullBytes list (l .i) 0 (at-loop-test .loop-test .taken))
     (each-whole hullBytes list (l .i + 1)) (subst (HasRoom (now (start .args .out)) (start .args .at)) (ap (each hullBytes) (sym (take-length list))) (start .pre))
 
 loop-again : tie.Need-loop-again Inv-loop μ-loop
 loop-again c =
-    let at-put = c .before .before in
-    let at-loop-test = at-put .before .before .before in
-    let at-loop = at-loop-test .before in
-    let start = at-loop .before .before .before in
-    let l = at-loop .loop in
-    let list = now (start .args .hull) in
+    let at-loop-test = c .before .before .before .before .before in
+    let l = at-loop-test .before .loop in
+    let list = now (at-loop-test .before .before .before .before .args .hull) in
     let more = at-loop-test .loop-test .taken in
-    lined-step (l .inv) (hullBytes (getD list (l .i) 0)) more (each-more hullBytes list (l .i) 0 more) (at-put .put-hull-site .ensures)
+    lined-step (l .inv) (hullBytes (getD list (l .i) 0)) more (each-more hullBytes list (l .i) 0 more) (c .before .before .put-hull-site .ensures)
 
 returns : tie.Need-returns Inv-loop μ-loop
-returns c =
-    let at-loop = c .before in
-    let start = at-loop .before .before .before in
-    wrote-as (lined-end (at-loop .loop .inv) (c .loop-test .left)) (ap (each hullBytes) (take-length (now (start .args .hull))))
+returns c = wrote-as (lined-end (c .before .loop .inv) (c .loop-test .left)) (ap (each hullBytes) (take-length (now (c .before .before .before .before .args .hull))))
 
 pub put-hull-spec : {M : Type 1} → statement M
 put-hull-spec =

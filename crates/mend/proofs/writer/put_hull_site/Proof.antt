@@ -15,9 +15,8 @@ slice-write-out c = omega (arith, c .before .pre)
 
 put-le-requires : tie.Need-put-le-requires
 put-le-requires c κs =
-    let start = c .before .before .before in
-    let a = start .args in
-    fits-then (4 ∷ []) (le 4 (a .site)) (wrote-one (now (a .out)) (a .at) 4) (start .pre)
+    let a = c .before .before .before .args in
+    fits-then (4 ∷ []) (le 4 (a .site)) (wrote-one (now (a .out)) (a .at) 4) (c .before .before .before .pre)
 
 same-length : tie.Need-same-length
 same-length c = c .before .before .put-le .kept .0 ∙ simp length-set
@@ -25,9 +24,8 @@ same-length c = c .before .before .put-le .kept .0 ∙ simp length-set
 returns : tie.Need-returns
 returns c =
     let at-put-le = c .before .before in
-    let at-widest = at-put-le .before in
-    let a = at-widest .before .before .before .args in
-    wrote-then (wrote-one (now (a .out)) (a .at) 4) (wrote-as (at-put-le .put-le .ensures) (ap (le 4) (at-widest .widest .ensures)))
+    let a = at-put-le .before .before .before .before .args in
+    wrote-then (wrote-one (now (a .out)) (a .at) 4) (wrote-as (at-put-le .put-le .ensures) (ap (le 4) (at-put-le .before .widest .ensures)))
 
 pub put-hull-site-spec : {M : Type 1} → statement M
 put-hull-site-spec = tie.close (tie.spec slice-write-out (λ c. search needs) (λ c κs. search needs) put-le-requires same-length returns)

@@ -25,9 +25,8 @@ loop-holds c = let a = c .before .before .args in lined-start _ (length (now (a 
 put-le-requires : tie.Need-put-le-requires Inv-loop μ-loop
 put-le-requires c κs =
     let at-loop-test = c .before .before .before in
-    let at-loop = at-loop-test .before in
-    let start = at-loop .before .before .before in
-    let l = at-loop .loop in
+    let start = at-loop-test .before .before .before .before in
+    let l = at-loop-test .before .loop in
     let list = now (start .args .numbers) in
     lined-fits (l .inv) (le 4 (getD list (l .i) 0)) (links (drop (l .i + 1) list)) (each-more (le 4) list (l .i) 0 (at-loop-test .loop-test .taken))
     (each-whole (le 4) list (l .i + 1)) (subst (HasRoom (now (start .args .out)) (start .args .at)) (ap links (sym (take-length list))) (start .pre))
@@ -35,20 +34,14 @@ put-le-requires c κs =
 loop-again : tie.Need-loop-again Inv-loop μ-loop
 loop-again c =
     let at-put-le = c .before .before in
-    let at-widest = at-put-le .before in
-    let at-loop-test = at-widest .before .before .before in
-    let at-loop = at-loop-test .before in
-    let start = at-loop .before .before .before in
-    let l = at-loop .loop in
-    let list = now (start .args .numbers) in
+    let at-loop-test = at-put-le .before .before .before .before in
+    let l = at-loop-test .before .loop in
+    let list = now (at-loop-test .before .before .before .before .args .numbers) in
     let more = at-loop-test .loop-test .taken in
-    lined-step (l .inv) (le 4 (getD list (l .i) 0)) more (each-more (le 4) list (l .i) 0 more) (wrote-as (at-put-le .put-le .ensures) (ap (le 4) (at-widest .widest .ensures)))
+    lined-step (l .inv) (le 4 (getD list (l .i) 0)) more (each-more (le 4) list (l .i) 0 more) (wrote-as (at-put-le .put-le .ensures) (ap (le 4) (at-put-le .before .widest .ensures)))
 
 returns : tie.Need-returns Inv-loop μ-loop
-returns c =
-    let at-loop = c .before in
-    let start = at-loop .before .before .before in
-    wrote-as (lined-end (at-loop .loop .inv) (c .loop-test .left)) (ap links (take-length (now (start .args .numbers))))
+returns c = wrote-as (lined-end (c .before .loop .inv) (c .loop-test .left)) (ap links (take-length (now (c .before .before .before .before .args .numbers))))
 
 pub put-links-spec : {M : Type 1} → statement M
 put-links-spec =

@@ -28,17 +28,13 @@ put-links-requires-2 c κs =
     fits-then (3 ∷ links (now (a .sites))) (links (now (a .pairs))) (wrote-then (wrote-one (now (a .out)) (a .at) 3) (at-put .put-links .ensures)) (start .pre)
 
 same-length : tie.Need-same-length
-same-length c =
-    let at-put = c .before .before .before .before .before .before in
-    c .before .before .put-links2 .kept .0 ∙ at-put .put-links .kept .0 ∙ simp length-set
+same-length c = c .before .before .put-links2 .kept .0 ∙ c .before .before .before .before .before .before .put-links .kept .0 ∙ simp length-set
 
 returns : tie.Need-returns
 returns c =
-    let at-put2 = c .before .before in
-    let at-put = at-put2 .before .before .before .before in
-    let start = at-put .before .before .before .before .before in
-    let a = start .args in
-    wrote-then (wrote-then (wrote-one (now (a .out)) (a .at) 3) (at-put .put-links .ensures)) (at-put2 .put-links2 .ensures)
+    let at-put = c .before .before .before .before .before .before in
+    let a = at-put .before .before .before .before .before .args in
+    wrote-then (wrote-then (wrote-one (now (a .out)) (a .at) 3) (at-put .put-links .ensures)) (c .before .before .put-links2 .ensures)
 
 pub put-triangle-spec : {M : Type 1} → statement M
 put-triangle-spec = tie.close (tie.spec slice-write-out (λ c. search needs) put-links-requires put-links-requires-2 same-length returns)

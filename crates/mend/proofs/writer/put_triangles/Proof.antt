@@ -47,22 +47,19 @@ loop-holds c =
 put-triangle-requires : tie.Need-put-triangle-requires Inv-loop μ-loop
 put-triangle-requires c κs =
     let w = c .before .before .before in
-    let s = begin w in
     let i = number w in
     let l = w .before .loop in
-    subst (HasRoom (l .out) (l .end)) (sym (record-is (tri w) (he w) i (3 * i) (3 * i + 3) (omega arith) (omega arith) (inside w) (s .pre .0)))
+    subst (HasRoom (l .out) (l .end)) (sym (record-is (tri w) (he w) i (3 * i) (3 * i + 3) (omega arith) (omega arith) (inside w) (begin w .pre .0)))
     (lined-fits (l .inv) (triangleBytes (triangleAt (tri w) (he w) i)) (triangleRecords (tri w) (he w) (i + 1) (length (tri w) / 3 - (i + 1))) (records-more (tri w) (he w) i)
-    (records-split (tri w) (he w) (i + 1) (length (tri w) / 3) (omega (arith, turn w))) (s .pre .1))
+    (records-split (tri w) (he w) (i + 1) (length (tri w) / 3) (omega (arith, turn w))) (begin w .pre .1))
 
 loop-again : tie.Need-loop-again Inv-loop μ-loop
 loop-again c =
-    let at-put = c .before .before in
-    let w = at-put .before .before .before .before in
-    let s = begin w in
+    let w = c .before .before .before .before .before .before in
     let i = number w in
     let l = w .before .loop in
     lined-step (l .inv) (triangleBytes (triangleAt (tri w) (he w) i)) (turn w) (records-more (tri w) (he w) i)
-    (wrote-as (at-put .put-triangle .ensures) (record-is (tri w) (he w) i (3 * i) (3 * i + 3) (omega arith) (omega arith) (inside w) (s .pre .0)))
+    (wrote-as (c .before .before .put-triangle .ensures) (record-is (tri w) (he w) i (3 * i) (3 * i + 3) (omega arith) (omega arith) (inside w) (begin w .pre .0)))
 
 pub put-triangles-spec : {M : Type 1} → statement M
 put-triangles-spec =

@@ -21,19 +21,17 @@ loop-holds c = (refl, omega arith)
 
 returns : tie.Need-returns Inv-loop μ-loop
 returns c =
-    let at-value = c .before in
-    let w = at-value .before .before in
+    let w = c .before .before .before in
     let l = w .before .loop in
     let s = now (w .before .before .before .args .text) in
-    sym (digits-none s (l .i) (w .loop-test .taken) (omega (arith, at-value .value .ensures, c .if1 .taken))) ∙ l .inv .0
+    sym (digits-none s (l .i) (w .loop-test .taken) (omega (arith, c .before .value .ensures, c .if1 .taken))) ∙ l .inv .0
 
 loop-again : tie.Need-loop-again Inv-loop μ-loop
 loop-again c =
-    let at-value = c .before in
-    let w = at-value .before .before in
+    let w = c .before .before .before in
     let l = w .before .loop in
     let s = now (w .before .before .before .args .text) in
-    (sym (digits-more s (l .i) (w .loop-test .taken) (omega (arith, at-value .value .ensures, c .if1 .left))) ∙ l .inv .0, omega (arith, w .loop-test .taken))
+    (sym (digits-more s (l .i) (w .loop-test .taken) (omega (arith, c .before .value .ensures, c .if1 .left))) ∙ l .inv .0, omega (arith, w .loop-test .taken))
 
 returns-2 : tie.Need-returns-2 Inv-loop μ-loop
 returns-2 c =

@@ -9,20 +9,17 @@ use Rattle.octets.proofs.hex.put_byte.Statement.{statement}
 use Rattle.octets.proofs.hex.put_byte.Tie as tie
 
 slice-write-out : tie.Need-slice-write-out
-slice-write-out c = let s = c .before .before .before in omega (arith, s .pre, hex-length (s .args .b ∷ []))
+slice-write-out c = omega (arith, c .before .before .before .pre, hex-length (c .before .before .before .args .b ∷ []))
 
 slice-write-out-2 : tie.Need-slice-write-out-2
 slice-write-out-2 c =
-    let at-digit = c .before in
-    let start = at-digit .before .before in
-    omega (arith, start .pre, hex-length (start .args .b ∷ []), length-set (now (start .args .out)) (start .args .at) (at-digit .digit .result))
+    let start = c .before .before .before in
+    omega (arith, start .pre, hex-length (start .args .b ∷ []), length-set (now (start .args .out)) (start .args .at) (c .before .digit .result))
 
 returns : tie.Need-returns
 returns c =
-    let at-digit = c .before in
-    let start = at-digit .before .before in
-    let a = start .args in
-    byte-wrote (a .b) (now (a .out)) (a .at) (at-digit .digit .ensures) (c .digit2 .ensures)
+    let a = c .before .before .before .args in
+    byte-wrote (a .b) (now (a .out)) (a .at) (c .before .digit .ensures) (c .digit2 .ensures)
 
 pub put-byte-spec : {M : Type 1} → statement M
 put-byte-spec =

@@ -25,29 +25,22 @@ loop-holds c = let a = c .before .before .args in lined-start _ (length (now (a 
 put-byte-requires : tie.Need-put-byte-requires Inv-loop μ-loop
 put-byte-requires c κs =
     let at-loop-test = c .before .before in
-    let at-loop = at-loop-test .before in
-    let start = at-loop .before .before .before in
-    let l = at-loop .loop in
+    let start = at-loop-test .before .before .before .before in
+    let l = at-loop-test .before .loop in
     let list = now (start .args .bytes) in
     lined-fits (l .inv) (hex (getD list (l .i) 0 ∷ [])) (hex (drop (l .i + 1) list)) (hex-more list (l .i) (at-loop-test .loop-test .taken))
     (hex-whole list (l .i + 1)) (subst (HasRoom (now (start .args .out)) (start .args .at)) (ap hex (sym (take-length list))) (start .pre))
 
 loop-again : tie.Need-loop-again Inv-loop μ-loop
 loop-again c =
-    let at-put-byte = c .before .before in
-    let at-loop-test = at-put-byte .before .before .before in
-    let at-loop = at-loop-test .before in
-    let start = at-loop .before .before .before in
-    let l = at-loop .loop in
-    let list = now (start .args .bytes) in
+    let at-loop-test = c .before .before .before .before .before in
+    let l = at-loop-test .before .loop in
+    let list = now (at-loop-test .before .before .before .before .args .bytes) in
     let more = at-loop-test .loop-test .taken in
-    lined-step (l .inv) (hex (getD list (l .i) 0 ∷ [])) more (hex-more list (l .i) more) (at-put-byte .put-byte .ensures)
+    lined-step (l .inv) (hex (getD list (l .i) 0 ∷ [])) more (hex-more list (l .i) more) (c .before .before .put-byte .ensures)
 
 returns : tie.Need-returns Inv-loop μ-loop
-returns c =
-    let at-loop = c .before in
-    let start = at-loop .before .before .before in
-    wrote-as (lined-end (at-loop .loop .inv) (c .loop-test .left)) (ap hex (take-length (now (start .args .bytes))))
+returns c = wrote-as (lined-end (c .before .loop .inv) (c .loop-test .left)) (ap hex (take-length (now (c .before .before .before .before .args .bytes))))
 
 pub put-hex-spec : {M : Type 1} → statement M
 put-hex-spec =

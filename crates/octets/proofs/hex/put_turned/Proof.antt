@@ -26,29 +26,24 @@ loop-holds c = let a = c .before .before .args in lined-start _ (length (reverse
 put-byte-requires : tie.Need-put-byte-requires Inv-loop μ-loop
 put-byte-requires c κs =
     let w = c .before .before in
-    let at-loop = w .before in
-    let start = at-loop .before .before .before in
-    let l = at-loop .loop in
+    let start = w .before .before .before .before in
+    let l = w .before .loop in
     let s = now (start .args .bytes) in
     lined-fits (l .inv) (hex (getD s (length s - 1 - l .i) 0 ∷ [])) (hex (drop (l .i + 1) (reverse s))) (turned-more s (l .i) (w .loop-test .taken))
     (hex-whole (reverse s) (l .i + 1)) (subst (HasRoom (now (start .args .out)) (start .args .at)) (ap hex (sym (take-length (reverse s)))) (start .pre))
 
 loop-again : tie.Need-loop-again Inv-loop μ-loop
 loop-again c =
-    let at-put-byte = c .before .before in
-    let w = at-put-byte .before .before .before in
-    let at-loop = w .before in
-    let start = at-loop .before .before .before in
-    let l = at-loop .loop in
-    let s = now (start .args .bytes) in
-    lined-step (l .inv) (hex (getD s (length s - 1 - l .i) 0 ∷ [])) (omega (arith, w .loop-test .taken, length-reverse s)) (turned-more s (l .i) (w .loop-test .taken)) (at-put-byte .put-byte .ensures)
+    let w = c .before .before .before .before .before in
+    let l = w .before .loop in
+    let s = now (w .before .before .before .before .args .bytes) in
+    lined-step (l .inv) (hex (getD s (length s - 1 - l .i) 0 ∷ [])) (omega (arith, w .loop-test .taken, length-reverse s)) (turned-more s (l .i) (w .loop-test .taken))
+    (c .before .before .put-byte .ensures)
 
 returns : tie.Need-returns Inv-loop μ-loop
 returns c =
-    let at-loop = c .before in
-    let start = at-loop .before .before .before in
-    let s = now (start .args .bytes) in
-    wrote-as (lined-end (at-loop .loop .inv) (omega (arith, c .loop-test .left, length-reverse s))) (ap hex (take-length (reverse s)))
+    let s = now (c .before .before .before .before .args .bytes) in
+    wrote-as (lined-end (c .before .loop .inv) (omega (arith, c .loop-test .left, length-reverse s))) (ap hex (take-length (reverse s)))
 
 pub put-turned-spec : {M : Type 1} → statement M
 put-turned-spec =
