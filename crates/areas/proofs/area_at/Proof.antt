@@ -18,11 +18,7 @@ ring-area-requires c κs =
     subst (Corners (now (s .args .vertices))) (sym (c .cell .ensures)) (cell-corners (s .pre) (s .args .s) (omega (arith, c .before .before .cell-count .ensures, c .before .if1 .left)))
 
 returns-2 : tie.Need-returns-2
-returns-2 c =
-    let test = c .before .before in
-    c .ring-area .ensures ∙ of-cell _ _ _ _ _ (test .before .cell-count .ensures) _ (test .if1 .left) (c .before .cell .ensures)
+returns-2 c = c .ring-area .ensures ∙ of-cell _ _ _ _ _ (c .before .before .before .cell-count .ensures) _ (c .before .before .if1 .left) (c .before .cell .ensures)
 
 pub area-at-spec : {M : Type 1} → statement M
-area-at-spec =
-    tie.close
-    (tie.spec (λ c κs. search needs) returns (λ c κs. search needs) ring-area-requires returns-2)
+area-at-spec = tie.close (tie.spec (λ c κs. search needs) returns (λ c κs. search needs) ring-area-requires returns-2)

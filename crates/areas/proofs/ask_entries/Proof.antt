@@ -13,17 +13,13 @@ within-requires c κs = granted (c .before .named .result) (c .if1 .left) (c .be
 
 returns-2 : tie.Need-returns-2
 returns-2 c =
-    let test = c .before .before in
-    not-kept _ _ (granted (test .before .named .result) (test .if1 .left) (test .before .named .ensures))
+    not-kept _ _ (granted (c .before .before .before .named .result) (c .before .before .if1 .left) (c .before .before .before .named .ensures))
     (refused (c .before .within .result) (c .if2 .taken) (c .before .within .ensures))
 
 returns-3 : tie.Need-returns-3
 returns-3 c =
-    let test = c .before .before in
-    all-kept _ _ (granted (test .before .named .result) (test .if1 .left) (test .before .named .ensures))
+    all-kept _ _ (granted (c .before .before .before .named .result) (c .before .before .if1 .left) (c .before .before .before .named .ensures))
     (granted (c .before .within .result) (c .if2 .left) (c .before .within .ensures))
 
 pub ask-entries-spec : {M : Type 1} → statement M
-ask-entries-spec =
-    tie.close
-    (tie.spec (λ c κs. search needs) returns within-requires returns-2 returns-3)
+ask-entries-spec = tie.close (tie.spec (λ c κs. search needs) returns within-requires returns-2 returns-3)

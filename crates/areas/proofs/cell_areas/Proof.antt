@@ -11,12 +11,7 @@ write-areas-requires : tie.Need-write-areas-requires
 write-areas-requires c κs = admitted (c .before .before .ask .ensures) (c .before .if1 .left)
 
 returns-2 : tie.Need-returns-2
-returns-2 c =
-    let at-write = c .before .before in
-    let test = at-write .before .before in
-    given-areas (test .before .ask .ensures) (test .if1 .left) (at-write .write-areas .ensures)
+returns-2 c = given-areas (c .before .before .before .before .before .ask .ensures) (c .before .before .before .before .if1 .left) (c .before .before .write-areas .ensures)
 
 pub cell-areas-spec : {M : Type 1} → statement M
-cell-areas-spec =
-    tie.close
-    (tie.spec (λ c κs. search needs) returns write-areas-requires (λ c. search needs) returns-2)
+cell-areas-spec = tie.close (tie.spec (λ c κs. search needs) returns write-areas-requires (λ c. search needs) returns-2)

@@ -20,29 +20,26 @@ Inv-loop vertices entries i₀ i = EntriesPassed (λ (e : ℕ). okCenter (pointA
 abbrev μ-loop : tie.MeasureT-loop
 μ-loop vertices entries i₀ i = length entries - i
 
+abbrev InLoop : tie.After-center-ok Inv-loop μ-loop → tie.In-loop Inv-loop μ-loop
+InLoop c = c .before .before .before .before
+
 loop-holds : tie.Need-loop-holds Inv-loop μ-loop
 loop-holds c = passed-start _ _
 
 point-at-requires : tie.Need-point-at-requires Inv-loop μ-loop
 point-at-requires c κs =
-    let test = c .before .before in
-    omega (arith, c .wide .ensures, test .before .before .before .before .pre .each (test .before .loop .i) (test .loop-test .taken))
+    omega (arith, c .wide .ensures, c .before .before .before .before .before .before .pre .each (c .before .before .before .loop .i) (c .before .before .loop-test .taken))
 
 returns : tie.Need-returns Inv-loop μ-loop
 returns c =
-    let at-ok = c .before in
-    let test = at-ok .before .before .before .before in
-    let s = test .before .before .before .before in
-    λ k. true≢false (sym (k .each (test .before .loop .i) (test .loop-test .taken))
-    ∙ sym (tested (now (s .args .vertices)) _ (at-ok .center-ok .ensures) (at-ok .before .point-at .ensures) (at-ok .before .before .wide .ensures)) ∙ not-true _ (c .if1 .taken))
+    λ k. true≢false (sym (k .each (InLoop (c .before) .before .loop .i) (InLoop (c .before) .loop-test .taken)) ∙ sym (tested
+    (now (InLoop (c .before) .before .before .before .before .args .vertices)) _ (c .before .center-ok .ensures) (c .before .before .point-at .ensures)
+    (c .before .before .before .wide .ensures)) ∙ not-true _ (c .if1 .taken))
 
 loop-again : tie.Need-loop-again Inv-loop μ-loop
 loop-again c =
-    let at-ok = c .before in
-    let test = at-ok .before .before .before .before in
-    let s = test .before .before .before .before in
-    passed-step (test .before .loop .inv) (test .loop-test .taken)
-    (sym (tested (now (s .args .vertices)) _ (at-ok .center-ok .ensures) (at-ok .before .point-at .ensures) (at-ok .before .before .wide .ensures)) ∙ not-false _ (c .if1 .left))
+    passed-step (InLoop (c .before) .before .loop .inv) (InLoop (c .before) .loop-test .taken) (sym (tested (now (InLoop (c .before) .before .before .before .before .args .vertices)) _
+    (c .before .center-ok .ensures) (c .before .before .point-at .ensures) (c .before .before .before .wide .ensures)) ∙ not-false _ (c .if1 .left))
 
 returns-2 : tie.Need-returns-2 Inv-loop μ-loop
 returns-2 c = record { each = passed-all (c .before .loop .inv) (c .loop-test .left) }

@@ -13,15 +13,15 @@ returns c = (rw (lt-ltb _ _ (c .if1 .taken)), omega arith, omega arith)
 
 returns-2 : tie.Need-returns-2
 unfolding closedAt
-returns-2 c =
-    let e = c .before .before in
-    (rw (le-ltb _ _ (e .before .if1 .left), sym (e .same-place .ensures) ∙ c .before .if2 .taken), omega (arith, e .before .if1 .left), omega arith)
+returns-2 c = (
+  rw (le-ltb _ _ (c .before .before .before .if1 .left), sym (c .before .before .same-place .ensures) ∙ c .before .if2 .taken),
+  omega (arith, c .before .before .before .if1 .left),
+  omega arith,
+)
 
 returns-3 : tie.Need-returns-3
 unfolding closedAt
-returns-3 c =
-    let e = c .before in
-    (rw (le-ltb _ _ (e .before .if1 .left), sym (e .same-place .ensures) ∙ c .if2 .left), omega (arith, e .before .if1 .left), omega arith)
+returns-3 c = (rw (le-ltb _ _ (c .before .before .if1 .left), sym (c .before .same-place .ensures) ∙ c .if2 .left), omega (arith, c .before .before .if1 .left), omega arith)
 
 pub closed-at-spec : {M : Type 1} → statement M
 closed-at-spec = tie.close (tie.spec (λ c. search needs) returns (λ c κs. search needs) (λ c. search needs) returns-2 returns-3)

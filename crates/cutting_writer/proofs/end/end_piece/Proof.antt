@@ -9,19 +9,19 @@ use Rattle.cutting_writer.specs.end.Ended.{keptAt}
 use Rattle.cutting_writer.proofs.end.end_piece.Statement.{statement}
 use Rattle.cutting_writer.proofs.end.end_piece.Tie as tie
 
+abbrev Kept-at : tie.After-last → tie.After-kept-at
+Kept-at c = c .before .before .before .before .before .before
+
 turn-round-requires : tie.Need-turn-round-requires
-turn-round-requires c κs =
-    let k = c .before in
-    (k .kept-at .ensures .1, omega (arith, k .kept-at .ensures .2, k .before .closed-at .ensures .2))
+turn-round-requires c κs = (c .before .kept-at .ensures .1, omega (arith, c .before .kept-at .ensures .2, c .before .before .closed-at .ensures .2))
 
 returns : tie.Need-returns
 returns c =
-    let t = c .before .before .before .before in
-    let k = t .before .before in
-    let begin = k .before .before .before .args .begin in
-    let pen : Pen = k .before .before .before .args .pen in (
-      ap (λ (n : ℕ). record { at = n; count = pen .count; any = false; first = pen .first; last = pen .last }) (k .kept-at .ensures .0 ∙ ap (keptAt begin) (k .before .closed-at .ensures .0)),
-      t .turn-round .ensures,
+    let begin = Kept-at c .before .before .before .args .begin in
+    let pen : Pen = Kept-at c .before .before .before .args .pen in (
+      ap (λ (n : ℕ). record { at = n; count = pen .count; any = false; first = pen .first; last = pen .last })
+          (Kept-at c .kept-at .ensures .0 ∙ ap (keptAt begin) (Kept-at c .before .closed-at .ensures .0)),
+      c .before .before .before .before .turn-round .ensures,
     )
 
 pub end-piece-spec : {M : Type 1} → statement M

@@ -12,6 +12,12 @@ Inv-loop he centers t ix₀ pen₀ e₀ left₀ ix pen e left = Inking he t (pag
 abbrev μ-loop : tie.MeasureT-loop
 μ-loop he centers t ix₀ pen₀ e₀ left₀ ix pen e left = left
 
+abbrev InLoop : tie.After-ink-numbered-arg Inv-loop μ-loop → tie.In-loop Inv-loop μ-loop
+InLoop c = c .before .before .before .before
+
+abbrev Else1 : tie.After-turn-from Inv-loop μ-loop → tie.Else1 Inv-loop μ-loop
+Else1 c = c .before .before .before .before .before .before
+
 loop-holds : tie.Need-loop-holds Inv-loop μ-loop
 loop-holds c = record { all = refl; entries = refl }
 
@@ -23,9 +29,8 @@ returns c = inking-over _ _ _ _ _ (c .before .before .before .loop .left) _ (c .
 
 ink-numbered-requires : tie.Need-ink-numbered-requires Inv-loop μ-loop
 ink-numbered-requires c κs =
-    let s = c .before .before .before .before .before in
-    inking-asks _ _ _ _ _ (s .loop .left) _ (s .loop .inv) (omega (arith, c .before .before .before .before .loop-test .taken))
-    (omega (arith, c .before .before .before .wide .ensures, c .before .before .if1 .left)) _ (c .before .site-at .ensures) (s .before .before .before .before .pre)
+    inking-asks _ _ _ _ _ (InLoop c .before .loop .left) _ (InLoop c .before .loop .inv) (omega (arith, InLoop c .loop-test .taken))
+    (omega (arith, c .before .before .before .wide .ensures, c .before .before .if1 .left)) _ (c .before .site-at .ensures) (InLoop c .before .before .before .before .before .pre)
 
 sub-left : tie.Need-sub-left Inv-loop μ-loop
 sub-left c = omega arith
@@ -35,10 +40,9 @@ loop-less c = omega arith
 
 loop-again : tie.Need-loop-again Inv-loop μ-loop
 loop-again c =
-    let s = c .before .before .before .before .before .before .before .before .before in
-    let p = c .before .before .before .before .before in
-    inking-step _ _ _ _ _ (s .loop .left) _ (s .loop .inv) (omega (arith, p .before .before .before .loop-test .taken)) (omega (arith, p .before .before .wide .ensures, p .before .if1 .left)) _
-    (p .site-at .ensures) _ _ (c .before .before .before .ink-numbered .ensures) _ (c .turn-from .ensures)
+    let s = Else1 c .before .before .before in
+    inking-step _ _ _ _ _ (s .loop .left) _ (s .loop .inv) (omega (arith, Else1 c .before .before .loop-test .taken)) (omega (arith, Else1 c .before .wide .ensures, Else1 c .if1 .left))
+    _ (c .before .before .before .before .before .site-at .ensures) _ _ (c .before .before .before .ink-numbered .ensures) _ (c .turn-from .ensures)
 
 same-length-2 : tie.Need-same-length-2 Inv-loop μ-loop
 same-length-2 c = c .before .loop .inv .entries

@@ -14,6 +14,9 @@ Inv-loop b he centers t e₀ left₀ e left = Scan b he centers t left e
 abbrev μ-loop : tie.MeasureT-loop
 μ-loop b he centers t e₀ left₀ e left = left
 
+abbrev InLoop : tie.After-entry-at Inv-loop μ-loop → tie.In-loop Inv-loop μ-loop
+InLoop c = c .before .before .before .before .before
+
 loop-holds : tie.Need-loop-holds Inv-loop μ-loop
 loop-holds c =
     scan-start _ _ _ _ (c .before .before .before .before .before .before .before .pre) (omega (arith, c .before .before .before .before .wide .ensures, c .before .before .before .if1 .left))
@@ -25,9 +28,8 @@ next-halfedge-requires c κs = omega (arith, c .wide3 .ensures)
 returns-4 : tie.Need-returns-4 Inv-loop μ-loop
 returns-4 c =
     let q = rw (c .before .before .next-halfedge .ensures, c .before .before .before .wide3 .ensures) at (c .before .entry-at .ensures) in
-    λ _. scan-end _ _ _ _ (c .before .before .before .before .before .before .before .loop .left) _ (omega (arith, c .before .before .before .before .before .before .loop-test .taken))
-    (c .before .before .before .before .before .before .before .loop .inv) _ (c .before .before .before .before .before .center-inside .ensures)
-    (c .before .before .before .before .if3 .left) _ q (c .if4 .taken)
+    λ _. scan-end _ _ _ _ (InLoop (c .before) .before .loop .left) _ (omega (arith, InLoop (c .before) .loop-test .taken)) (InLoop (c .before) .before .loop .inv) _
+    (c .before .before .before .before .before .center-inside .ensures) (c .before .before .before .before .if3 .left) _ q (c .if4 .taken)
 
 sub-left : tie.Need-sub-left Inv-loop μ-loop
 sub-left c = omega arith
@@ -38,9 +40,8 @@ loop-less c = omega arith
 loop-again : tie.Need-loop-again Inv-loop μ-loop
 loop-again c =
     let q = rw (c .before .before .before .before .next-halfedge .ensures, c .before .before .before .before .before .wide3 .ensures) at (c .before .before .before .entry-at .ensures) in
-    scan-step _ _ _ _ (c .before .before .before .before .before .before .before .before .before .loop .left) _
-    (omega (arith, c .before .before .before .before .before .before .before .before .loop-test .taken))
-    (c .before .before .before .before .before .before .before .before .before .loop .inv) _ (c .before .before .before .before .before .before .before .center-inside .ensures)
+    scan-step _ _ _ _ (InLoop (c .before .before .before) .before .loop .left) _ (omega (arith, InLoop (c .before .before .before) .loop-test .taken))
+    (InLoop (c .before .before .before) .before .loop .inv) _ (c .before .before .before .before .before .before .before .center-inside .ensures)
     (c .before .before .before .before .before .before .if3 .left) _ q (c .before .before .if4 .left) (omega (arith, c .before .wide4 .ensures, c .if5 .left))
 
 pub lies-inside-spec : {M : Type 1} → statement M

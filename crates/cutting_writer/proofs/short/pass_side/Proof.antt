@@ -14,6 +14,18 @@ Inv-loop b sites s from count f₀ m₀ to i₀ k₀ f m i k = Passing (sideAt b
 abbrev μ-loop : tie.MeasureT-loop
 μ-loop b sites s from count f₀ m₀ to i₀ k₀ f m i k = count - i
 
+abbrev Start : tie.Else1 Inv-loop μ-loop → tie.Start Inv-loop μ-loop
+Start c = c .before .before .before .before .before .before
+
+abbrev Loop : tie.After-spot-at-arg2 Inv-loop μ-loop → tie.At-loop Inv-loop μ-loop
+Loop c = c .before .before .before .before
+
+abbrev Else1 : tie.After-pass-edge-arg2 Inv-loop μ-loop → tie.Else1 Inv-loop μ-loop
+Else1 c = c .before .before .before .before .before .before .before .before .before
+
+abbrev Passed-edge-arg2 : tie.After-slice-known4 Inv-loop μ-loop → tie.After-pass-edge-arg2 Inv-loop μ-loop
+Passed-edge-arg2 c = c .before .before .before .before .before
+
 sub-to : tie.Need-sub-to Inv-loop μ-loop
 sub-to c = omega (arith, half-low _ (c .before .before .before .pre .0))
 
@@ -36,82 +48,53 @@ returns : tie.Need-returns Inv-loop μ-loop
 returns c = no-room _ _ _ _ _ _ _
 
 add-spot-at : tie.Need-add-spot-at Inv-loop μ-loop
-add-spot-at c =
-    let pre' = c .before .before .before .before .before .before .before .before .pre in
-    omega (arith, half-low _ (pre' .0), pre' .1, c .before .before .before .loop-test .taken)
+add-spot-at c = let pre' = Start (c .before .before) .pre in omega (arith, half-low _ (pre' .0), pre' .1, c .before .before .before .loop-test .taken)
 
 spot-at-requires : tie.Need-spot-at-requires Inv-loop μ-loop
 spot-at-requires c κs =
-    let pre' = c .before .before .before .before .before .before .before .before .pre in
-    let loop' = c .before .before .before .before .loop in (
+    let pre' = Start (c .before .before) .pre in
+    let loop' = Loop c .loop in (
       omega (arith, half-low _ (pre' .0), pre' .1, c .before .before .before .loop-test .taken),
-      record {
-        floats = loop' .inv .floats ∙ pre' .2 .floats;
-        numbers = loop' .inv
-            .numbers ∙ pre' .2 .numbers;
-      },
+      record { floats = loop' .inv .floats ∙ pre' .2 .floats; numbers = loop' .inv .numbers ∙ pre' .2 .numbers },
     )
 
 next-slot-requires : tie.Need-next-slot-requires Inv-loop μ-loop
 next-slot-requires c κs =
     let loop-test' = c .before .before .before .before .before .before .loop-test in
-    let pre' = c .before .before .before .before .before .before .before .before .before .before .before .pre in
+    let pre' = Start (c .before .before .before .before .before) .pre in
     (loop-test' .taken, omega (arith, half-low _ (pre' .0), pre' .1, loop-test' .taken))
 
 corner-at-requires : tie.Need-corner-at-requires Inv-loop μ-loop
 corner-at-requires c κs =
-    let pre' = c .before .before .before .before .before .before .before .before .before .before .before .before .pre in
-    let loop' = c .before .before .before .before .before .before .before .before .loop in
-    let a = c .before .before .before .before .before .before .before .before .before .before .before .before .args in (
-      next-low (sideAt (a .b) (now (a .sites)) (a .s)) (a .from) (a .count) (now (a .floats)) (now (a .numbers)) (pre' .0) (pre' .1) (loop' .i) (loop' .k) _ _ (loop' .inv) (c
-          .before .before .before .before .before .before .before .loop-test .taken) _ (c .next-slot .ensures),
-      record {
-        floats = loop' .inv .floats ∙ pre' .2 .floats;
-        numbers =
-            loop' .inv .numbers ∙ pre' .2 .numbers;
-      },
+    let pre' = Start (c .before .before .before .before .before .before) .pre in
+    let loop' = Loop (c .before .before .before .before) .loop in
+    let a = Start (c .before .before .before .before .before .before) .args in (
+      next-low (sideAt (a .b) (now (a .sites)) (a .s)) (a .from) (a .count) (now (a .floats)) (now (a .numbers)) (pre' .0) (pre' .1) (loop' .i) (loop' .k) _ _ (loop' .inv)
+          (c .before .before .before .before .before .before .before .loop-test .taken) _ (c .next-slot .ensures),
+      record { floats = loop' .inv .floats ∙ pre' .2 .floats; numbers = loop' .inv .numbers ∙ pre' .2 .numbers },
     )
 
 pass-edge-requires : tie.Need-pass-edge-requires Inv-loop μ-loop
 pass-edge-requires c κs =
-    let loop' = c .before .before .before .before .before .before .before .before .before .before .before .loop in
-    let pre' = c .before .before .before .before .before .before .before .before .before .before .before .before .before .before .before .pre in (
-      omega arith,
-      omega (arith, c .before .before .before .before .before .before .before .before .before .if1 .left),
-      record {
-        floats = loop' .inv .floats ∙ pre' .2 .floats;
-        numbers = loop' .inv .numbers ∙ pre' .2 .numbers;
-      },
-    )
+    let loop' = Else1 c .before .before .loop in
+    let pre' = Start (Else1 c) .pre in
+    (omega arith, omega (arith, Else1 c .if1 .left), record { floats = loop' .inv .floats ∙ pre' .2 .floats; numbers = loop' .inv .numbers ∙ pre' .2 .numbers })
 
 add-i : tie.Need-add-i Inv-loop μ-loop
-add-i c =
-    omega (
-      arith,
-      c .before .before .before .before .before .before .before .before .before .before .before .before .before .before .before .loop-test .taken,
-      c .before
-          .before .before .before .before .before .before .before .before .before .before .before .before .before .before .before .before .before .before .before .pre .1,
-    )
+add-i c = omega (arith, Else1 (Passed-edge-arg2 c) .before .loop-test .taken, Start (Else1 (Passed-edge-arg2 c)) .pre .1)
 
 loop-less : tie.Need-loop-less Inv-loop μ-loop
-loop-less c = omega (arith, c .before .before .before .before .before .before .before .before .before .before .before .before .before .before .before .loop-test .taken)
+loop-less c = omega (arith, Else1 (Passed-edge-arg2 c) .before .loop-test .taken)
 
 loop-again : tie.Need-loop-again Inv-loop μ-loop
 loop-again c =
-    let pre' = c .before .before .before .before .before .before .before .before .before .before .before .before .before .before .before .before .before .before .before
-    .before .pre in
-    let loop' = c .before .before .before .before .before .before .before .before .before .before .before .before .before .before .before .before .loop in
-    let a = c .before .before .before .before .before .before .before .before .before .before .before .before .before .before .before .before .before .before .before .before
-    .args in
+    let pre' = Start (Else1 (Passed-edge-arg2 c)) .pre in
+    let loop' = Else1 (Passed-edge-arg2 c) .before .before .loop in
+    let a = Start (Else1 (Passed-edge-arg2 c)) .args in
     passing-step (sideAt (a .b) (now (a .sites)) (a .s)) (a .from) (a .count) (now (a .floats)) (now (a .numbers)) (pre' .0) (pre' .1) (loop' .i) (loop' .k) _ _ (loop' .inv)
-    (c .before .before .before .before .before .before .before .before .before .before .before .before .before .before .before .loop-test .taken)
-    (c .before .before .before .before .before .before .before .before .before .before .before .spot-at .ensures) (c .before .before .before .before .before .before .before
-    .before .next-slot .ensures) (c .before .before .before .before .before .before .before .corner-at .ensures) (omega (
-      arith,
-      c .before .before .before .before .before
-          .before .before .before .before .before .before .before .before .before .if1 .left,
-    )) (c .before .before .before .before .pass-edge .ensures) (c .before .before .before
-    .floats .given) (c .before .numbers .given)
+    (Else1 (Passed-edge-arg2 c) .before .loop-test .taken) (Passed-edge-arg2 c .before .before .before .before .before .before .spot-at .ensures)
+    (Passed-edge-arg2 c .before .before .before .next-slot .ensures) (Passed-edge-arg2 c .before .before .corner-at .ensures) (omega (arith, Else1 (Passed-edge-arg2 c) .if1 .left))
+    (c .before .before .before .before .pass-edge .ensures) (c .before .before .before .floats .given) (c .before .numbers .given)
 
 same-length-3 : tie.Need-same-length-3 Inv-loop μ-loop
 same-length-3 c = c .before .loop .inv .floats

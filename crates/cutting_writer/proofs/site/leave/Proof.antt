@@ -14,6 +14,15 @@ use native.Mathlib.Omega.{arith}
 use Rattle.cutting_writer.proofs.site.leave.Statement.{statement}
 use Rattle.cutting_writer.proofs.site.leave.Tie as tie
 
+abbrev Start : tie.After-on-hull → tie.Start
+Start c = c .before .before .before .before .before .before .before .before
+
+abbrev On-hull : tie.After-feed-left-arg2 → tie.After-on-hull
+On-hull c = c .before .before .before .before .before
+
+abbrev Then1 : tie.After-slice-known4 → tie.Then1
+Then1 c = c .before .before .before .before .before .before .before .before .before
+
 next-halfedge-requires : tie.Need-next-halfedge-requires
 next-halfedge-requires c κs = omega (arith, c .wide .ensures)
 
@@ -22,39 +31,34 @@ cast-hull-end c = omega (
   arith,
   c .before .before .before .next-halfedge .ensures,
   c .before .before .before .before .wide .ensures,
-  c .before .before .before .before .before
-      .before .before .before .before .before .pre .0,
+  Start (c .before .before) .pre .0,
   next-sum (c .before .before .before .before .wide .result),
 )
 
 feed-left-requires : tie.Need-feed-left-requires
 feed-left-requires c κs =
-    let a = c .before .before .before .before .before .before .before .before .before .before .before .before .before .args in
-    let o : c .before .before .before .before .before .before .next-halfedge .result ≡ nextOf (a .e) = c .before .before .before .before .before .before .next-halfedge .ensures
-    ∙ ap nextOf (c .before .before .before .before .before .before .before .wide .ensures) in
-    let h : onHull (now (a .halfedges)) (nextOf (a .e)) ≡ true = sym (ap (onHull (now (a .halfedges))) o) ∙ sym (c .before .before .before .before .before .on-hull .ensures)
+    let a = Start (On-hull c) .args in
+    let o : On-hull c .before .next-halfedge .result ≡ nextOf (a .e) = On-hull c .before .next-halfedge .ensures ∙ ap nextOf (On-hull c .before .before .wide .ensures) in
+    let h : onHull (now (a .halfedges)) (nextOf (a .e)) ≡ true = sym (ap (onHull (now (a .halfedges))) o) ∙ sym (On-hull c .on-hull .ensures)
     ∙ c .before .before .before .before .if1 .taken in
     let p = c .before .before .hull-end .ensures ∙ ap (hullEnd (now (a .sites)) (now (a .triangles)) (now (a .vertices))) o in
     one-asks (a .b) (now (a .sites)) (a .centers) (leftOf (a .stage) (now (a .vertices)) (now (a .indexes))) _
-    (far-there (now (a .sites)) (now (a .triangles)) (now (a .halfedges)) (now (a .vertices)) (a .e) h)
-    (λ i. record { corner = p i; on = Infinity }) (c .before .before .before .before .before .before .before .before .before .before .before .before .before .pre .1)
+    (far-there (now (a .sites)) (now (a .triangles)) (now (a .halfedges)) (now (a .vertices)) (a .e) h) (λ i. record { corner = p i; on = Infinity }) (Start (On-hull c) .pre .1)
 
 returns : tie.Need-returns
 returns c =
-    let a = c .before .before .before .before .before .before .before .before .before .before .before .before .before .before .before .before .before .before .args in
-    let o : c .before .before .before .before .before .before .before .before .before .before .before .next-halfedge .result ≡ nextOf
-    (a .e) = c .before .before .before .before .before .before .before .before .before .before .before .next-halfedge .ensures ∙ ap nextOf
-    (c .before .before .before .before .before .before .before .before .before .before .before .before .wide .ensures) in
-    let h : onHull (now (a .halfedges)) (nextOf (a .e)) ≡ true = sym (ap (onHull (now (a .halfedges))) o) ∙ sym
-    (c .before .before .before .before .before .before .before .before .before .before .on-hull .ensures) ∙ c .before .before .before .before .before .before .before .before .before .if1 .taken in
+    let a = Start (Then1 c .before) .args in
+    let o : Then1 c .before .before .next-halfedge .result ≡ nextOf (a .e) = Then1 c .before .before .next-halfedge .ensures ∙ ap nextOf (Then1 c .before .before .before .wide .ensures)
+    in
+    let h : onHull (now (a .halfedges)) (nextOf (a .e)) ≡ true = sym (ap (onHull (now (a .halfedges))) o) ∙ sym (Then1 c .before .on-hull .ensures) ∙ Then1 c .if1 .taken in
     let p = c .before .before .before .before .before .before .before .hull-end .ensures ∙ ap (hullEnd (now (a .sites)) (now (a .triangles)) (now (a .vertices))) o in
     one-made (a .b) (now (a .sites)) (a .centers) (leftOf (a .stage) (now (a .vertices)) (now (a .indexes))) _
-    (far-there (now (a .sites)) (now (a .triangles)) (now (a .halfedges)) (now (a .vertices)) (a .e) h)
-    (λ i. record { corner = p i; on = Infinity }) (c .before .before .before .before .feed-left .ensures)
+    (far-there (now (a .sites)) (now (a .triangles)) (now (a .halfedges)) (now (a .vertices)) (a .e) h) (λ i. record { corner = p i; on = Infinity })
+    (c .before .before .before .before .feed-left .ensures)
 
 returns-2 : tie.Need-returns-2
 returns-2 c =
-    let a = c .before .before .before .before .before .before .before .before .before .args in
+    let a = Start (c .before) .args in
     let o : c .before .before .next-halfedge .result ≡ nextOf (a .e) = c .before .before .next-halfedge .ensures ∙ ap nextOf (c .before .before .before .wide .ensures) in
     let h : onHull (now (a .halfedges)) (nextOf (a .e)) ≡ false = sym (ap (onHull (now (a .halfedges))) o) ∙ sym (c .before .on-hull .ensures) ∙ c .if1 .left in
     none-made (a .b) (now (a .sites)) (a .centers) (leftOf (a .stage) (now (a .vertices)) (now (a .indexes)))

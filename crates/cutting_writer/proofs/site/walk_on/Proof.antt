@@ -7,22 +7,25 @@ use mathlib.Core.Path.{refl}
 use Rattle.cutting_writer.proofs.site.walk_on.Statement.{statement}
 use Rattle.cutting_writer.proofs.site.walk_on.Tie as tie
 
+abbrev Start : tie.After-feed-left-arg2 → tie.Start
+Start c = c .before .before .before .before .before .before .before .before .before .before
+
+abbrev Fed-left : tie.After-turn-from → tie.After-feed-left
+Fed-left c = c .before .before .before .before .before
+
 feed-left-requires : tie.Need-feed-left-requires
-feed-left-requires c κs = let a = c .before .before .before .before .before .before .before .before .before .before .args in one-asks (a .b) (now (a .sites)) (a .centers)
-    (leftOf (a .w .stage) (now (a .vertices)) (now (a .indexes))) _ refl (c .before .before .out-spot .ensures)
-    (c .before .before .before .before .before .before .before .before .before .before .pre .1)
+feed-left-requires c κs = let a = Start c .args in one-asks (a .b) (now (a .sites)) (a .centers) (leftOf (a .w .stage) (now (a .vertices)) (now (a .indexes))) _ refl
+    (c .before .before .out-spot .ensures) (Start c .pre .1)
 
 returns : tie.Need-returns
 returns c =
-    let a = c .before .before .before .before .before .before .before .before .before .before .before .before .before .before .before .before .args in
+    let a = Start (Fed-left c .before) .args in
     record {
-      stage = one-made (a .b) (now (a .sites)) (a .centers) (leftOf (a .w .stage) (now (a .vertices)) (now (a .indexes))) _ refl
-          (c .before .before .before .before .before .before .before .before .out-spot .ensures) (c .before .before .before .before .before .feed-left .ensures);
+      stage = one-made (a .b) (now (a .sites)) (a .centers) (leftOf (a .w .stage) (now (a .vertices)) (now (a .indexes))) _ refl (Fed-left c .before .before .before .out-spot .ensures)
+          (Fed-left c .feed-left .ensures);
       next = c .turn-from .ensures;
       last = refl;
     }
 
 pub walk-on-spec : {M : Type 1} → statement M
-walk-on-spec =
-    tie.close
-    (tie.spec (λ c κs. search needs) feed-left-requires (λ c κs. search needs) (λ c. search needs) (λ c. search needs) returns)
+walk-on-spec = tie.close (tie.spec (λ c κs. search needs) feed-left-requires (λ c κs. search needs) (λ c. search needs) (λ c. search needs) returns)

@@ -15,6 +15,12 @@ Inv-loop b sites tri he table centers v₀ ix₀ off₀ pen₀ s₀ v ix off pen
 abbrev μ-loop : tie.MeasureT-loop
 μ-loop b sites tri he table centers v₀ ix₀ off₀ pen₀ s₀ v ix off pen s = length table - s
 
+abbrev Start : tie.At-loop Inv-loop μ-loop → tie.Start Inv-loop μ-loop
+Start c = c .before .before .before .before .before .before .before .before
+
+abbrev At-Loop : tie.After-slice-known6 Inv-loop μ-loop → tie.At-loop Inv-loop μ-loop
+At-Loop c = c .before .before .before .before .before .before .before .before .before .before .before
+
 loop-holds : tie.Need-loop-holds Inv-loop μ-loop
 loop-holds c = (
   record {
@@ -30,37 +36,19 @@ loop-holds c = (
 )
 
 mul-d : tie.Need-mul-d Inv-loop μ-loop
-mul-d c = omega (arith, c .before .loop .inv .3, c .before .loop .inv .0 .place, c .before .before .before .before .before .before .before .before .before .pre .one-more)
+mul-d c = omega (arith, c .before .loop .inv .3, c .before .loop .inv .0 .place, Start (c .before) .pre .one-more)
 
 slice-read-d : tie.Need-slice-read-d Inv-loop μ-loop
-slice-read-d c = omega (
-  arith,
-  c .before .before .loop .inv .3,
-  c .before .before .loop .inv .0 .place,
-  c .before .before .before .before .before .before .before .before
-      .before .before .pre .one-more,
-)
+slice-read-d c = omega (arith, c .before .before .loop .inv .3, c .before .before .loop .inv .0 .place, Start (c .before .before) .pre .one-more)
 
 cast-offsets : tie.Need-cast-offsets Inv-loop μ-loop
 cast-offsets c = omega (arith, sheeting-at _ _ _ _ _ _ (c .before .before .before .loop .inv .0))
 
 mul-offsets : tie.Need-mul-offsets Inv-loop μ-loop
-mul-offsets c = omega (
-  arith,
-  c .before .before .before .loop .inv .3,
-  c .before .before .before .loop .inv .0 .place,
-  c .before .before .before .before .before .before
-      .before .before .before .before .before .pre .one-more,
-)
+mul-offsets c = omega (arith, c .before .before .before .loop .inv .3, c .before .before .before .loop .inv .0 .place, Start (c .before .before .before) .pre .one-more)
 
 slice-write-offsets : tie.Need-slice-write-offsets Inv-loop μ-loop
-slice-write-offsets c = omega (
-  arith,
-  c .before .before .before .loop .inv .3,
-  c .before .before .before .loop .inv .0 .place,
-  c .before .before .before .before .before
-      .before .before .before .before .before .before .pre .one-more,
-)
+slice-write-offsets c = omega (arith, c .before .before .before .loop .inv .3, c .before .before .before .loop .inv .0 .place, Start (c .before .before .before) .pre .one-more)
 
 mul-cut-site : tie.Need-mul-cut-site Inv-loop μ-loop
 mul-cut-site c = omega arith
@@ -70,48 +58,33 @@ shared-slice-read-cut-site c = omega arith
 
 cut-site-requires : tie.Need-cut-site-requires Inv-loop μ-loop
 cut-site-requires c κs = (
-  c .before .before .before .before .before .before .before .before .before .before .before .before .before .before .pre .thirds,
-  c .before
-      .before .before .before .before .before .before .before .before .before .before .before .before .before .pre .small,
-  sheeting-asks _ _ _ _ _ _ (c .before .before
-      .before .before .before .before .loop .inv .0) (omega arith),
+  Start (c .before .before .before .before .before .before) .pre .thirds,
+  Start (c .before .before .before .before .before .before) .pre .small,
+  sheeting-asks _ _ _ _ _ _ (c .before .before .before .before .before .before .loop .inv .0) (omega arith),
 )
 
 add-s : tie.Need-add-s Inv-loop μ-loop
-add-s c = omega (arith, c .before .before .before .before .before .before .before .before .before .before .before .before .before .before .before .before .before .before .before .pre .few)
+add-s c = omega (arith, Start (At-Loop c) .pre .few)
 
 loop-less : tie.Need-loop-less Inv-loop μ-loop
 loop-less c = omega arith
 
 loop-again : tie.Need-loop-again Inv-loop μ-loop
 loop-again c = (
-  sheeting-step _ _ _ _ _ _ (c .before .before .before .before .before .before .before .before .before .before .before .loop .inv .0) (omega arith) (c .before .before
-      .before .before .cut-site .ensures),
-  c .before .before .before .vertices .given ∙ c .before .before .before .before .before .before .before .before .before .before .before .loop .inv .1,
-  c .before .indexes .given ∙ c .before .before .before .before .before .before .before .before .before .before .before .loop .inv .2,
-  simp length-set (c .before .before .before .before .before .before .before .before .before .before .before .loop .inv .3),
+  sheeting-step _ _ _ _ _ _ (At-Loop c .loop .inv .0) (omega arith) (c .before .before .before .before .cut-site .ensures),
+  c .before .before .before .vertices .given ∙ At-Loop c .loop .inv .1,
+  c .before .indexes .given ∙ At-Loop c .loop .inv .2,
+  simp length-set (At-Loop c .loop .inv .3),
 )
 
 cast-offsets-2 : tie.Need-cast-offsets-2 Inv-loop μ-loop
 cast-offsets-2 c = omega (arith, sheeting-at _ _ _ _ _ _ (c .before .before .loop .inv .0))
 
 mul-offsets-2 : tie.Need-mul-offsets-2 Inv-loop μ-loop
-mul-offsets-2 c = omega (
-  arith,
-  c .before .before .loop .inv .3,
-  c .before .before .loop .inv .0 .place,
-  c .before .before .before .before .before .before .before .before .before
-      .before .pre .one-more,
-)
+mul-offsets-2 c = omega (arith, c .before .before .loop .inv .3, c .before .before .loop .inv .0 .place, Start (c .before .before) .pre .one-more)
 
 slice-write-offsets-2 : tie.Need-slice-write-offsets-2 Inv-loop μ-loop
-slice-write-offsets-2 c = omega (
-  arith,
-  c .before .before .loop .inv .3,
-  c .before .before .loop .inv .0 .place,
-  c .before .before .before .before .before .before .before .before
-      .before .before .pre .one-more,
-)
+slice-write-offsets-2 c = omega (arith, c .before .before .loop .inv .3, c .before .before .loop .inv .0 .place, Start (c .before .before) .pre .one-more)
 
 same-length : tie.Need-same-length Inv-loop μ-loop
 same-length c = c .before .before .loop .inv .1

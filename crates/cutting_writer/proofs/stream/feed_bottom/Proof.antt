@@ -7,21 +7,23 @@ use denote.Ref.{now}
 use Rattle.cutting_writer.proofs.stream.feed_bottom.Statement.{statement}
 use Rattle.cutting_writer.proofs.stream.feed_bottom.Tie as tie
 
+abbrev Start : tie.After-pass-pen-arg2 → tie.Start
+Start c = c .before .before .before .before .before .before .before .before .before
+
+abbrev Passed-pen : tie.After-hold → tie.After-pass-pen
+Passed-pen c = c .before .before .before .before .before
+
 pass-pen-requires : tie.Need-pass-pen-requires
 unfolding feedBottom
-pass-pen-requires c κs = let a = c .before .before .before .before .before .before .before .before .before .args in feed-asks (λ g. g) (sideAt (a .b) (now (a .sites)) Bottom)
-    (inkAt (a .b) (a .centers)) (a .centers) (bottomOf (a .t) (now (a .vertices)) (now (a .indexes))) (atOf (a .v)) (c .before .before .give .result)
-    (c .before .before .give .ensures) (c .before .before .before .before .before .before .before .before .before .pre)
+pass-pen-requires c κs = let a = Start c .args in feed-asks (λ g. g) (sideAt (a .b) (now (a .sites)) Bottom) (inkAt (a .b) (a .centers)) (a .centers)
+    (bottomOf (a .t) (now (a .vertices)) (now (a .indexes))) (atOf (a .v)) (c .before .before .give .result) (c .before .before .give .ensures) (Start c .pre)
 
 returns : tie.Need-returns
 unfolding feedBottom
 returns c =
-    let a = c .before .before .before .before .before .before .before .before .before .before .before .before .before .before .before .args in
+    let a = Start (Passed-pen c .before) .args in
     feed-made (λ g. g) (sideAt (a .b) (now (a .sites)) Bottom) (inkAt (a .b) (a .centers)) (a .centers) (bottomOf (a .t) (now (a .vertices)) (now (a .indexes))) (atOf (a .v))
-    (c .before .before .before .before .before .before .before .before .give .result) (c .before .before .before .before .before .before .before .before .give .ensures)
-    (c .before .before .before .before .before .pass-pen .ensures) (c .hold .ensures)
+    (Passed-pen c .before .before .before .give .result) (Passed-pen c .before .before .before .give .ensures) (Passed-pen c .pass-pen .ensures) (c .hold .ensures)
 
 pub feed-bottom-spec : {M : Type 1} → statement M
-feed-bottom-spec =
-    tie.close
-    (tie.spec (λ c κs. search needs) pass-pen-requires (λ c κs. search needs) (λ c. search needs) (λ c. search needs) returns)
+feed-bottom-spec = tie.close (tie.spec (λ c κs. search needs) pass-pen-requires (λ c κs. search needs) (λ c. search needs) (λ c. search needs) returns)

@@ -7,21 +7,30 @@ use denote.Ref.{now}
 use Rattle.cutting_writer.proofs.stream.pass_bottom.Statement.{statement}
 use Rattle.cutting_writer.proofs.stream.pass_bottom.Tie as tie
 
+abbrev Start : tie.After-part2 → tie.Start
+Start c = c .before .before .before .before .before
+
+abbrev Part : tie.After-feed-bottom-arg2 → tie.After-part
+Part c = c .before .before .before
+
+abbrev Part2 : tie.After-feed-bottom-arg6 → tie.After-part2
+Part2 c = c .before .before .before .before .before .before .before .before .before .before
+
+abbrev Fed-bottom2 : tie.After-slice-known8 → tie.After-feed-bottom2
+Fed-bottom2 c = c .before .before .before .before .before .before .before .before .before .before .before
+
 feed-bottom-requires : tie.Need-feed-bottom-requires
-feed-bottom-requires c κs = let a = c .before .before .before .before .before .before .before .before .args in pass-one-asks (λ t. t .next)
-    (feedBottom (a .b) (now (a .sites)) (a .centers)) (a .centers) (c .before .before .before .part .given .1) (bottomOf (a .t) (now (a .vertices)) (now (a .indexes)))
-    (c .before .before .before .before .before .before .before .before .pre)
+feed-bottom-requires c κs = let a = Part c .before .before .before .before .before .args in pass-one-asks (λ t. t .next) (feedBottom (a .b) (now (a .sites)) (a .centers)) (a .centers)
+    (Part c .part .given .1) (bottomOf (a .t) (now (a .vertices)) (now (a .indexes))) (Part c .before .before .before .before .before .pre)
 
 feed-bottom-requires-2 : tie.Need-feed-bottom-requires-2
-feed-bottom-requires-2 c κs = let a = c .before .before .before .before .before .before .before .before .args in pass-two-asks (λ t. t .next)
-    (feedBottom (a .b) (now (a .sites)) (a .centers)) (a .centers) (bottom-grows (a .b) (now (a .sites)) (a .centers)) (c .before .before .before .part2 .given .1)
-    (bottomOf (a .t) (now (a .vertices)) (now (a .indexes))) (c .before .before .before .before .before .before .before .before .pre)
+feed-bottom-requires-2 c κs = let a = Start (c .before .before .before) .args in pass-two-asks (λ t. t .next) (feedBottom (a .b) (now (a .sites)) (a .centers)) (a .centers)
+    (bottom-grows (a .b) (now (a .sites)) (a .centers)) (c .before .before .before .part2 .given .1) (bottomOf (a .t) (now (a .vertices)) (now (a .indexes)))
+    (Start (c .before .before .before) .pre)
 
 feed-bottom-requires-3 : tie.Need-feed-bottom-requires-3
-feed-bottom-requires-3 c κs = let a = c .before .before .before .before .before .before .before .before .before .before .before .before .before .before .before .args in
-    pass-two-then (λ t. t .next) (feedBottom (a .b) (now (a .sites)) (a .centers)) (a .centers) (bottom-grows (a .b) (now (a .sites)) (a .centers))
-    (c .before .before .before .before .before .before .before .before .before .before .part2 .given .1) (bottomOf (a .t) (now (a .vertices)) (now (a .indexes)))
-    (c .before .before .before .before .before .before .before .before .before .before .before .before .before .before .before .pre) _
+feed-bottom-requires-3 c κs = let a = Start (Part2 c) .args in pass-two-then (λ t. t .next) (feedBottom (a .b) (now (a .sites)) (a .centers)) (a .centers)
+    (bottom-grows (a .b) (now (a .sites)) (a .centers)) (Part2 c .part2 .given .1) (bottomOf (a .t) (now (a .vertices)) (now (a .indexes))) (Start (Part2 c) .pre) _
     (c .before .before .before .before .before .before .feed-bottom2 .ensures)
 
 returns : tie.Need-returns
@@ -29,14 +38,12 @@ returns c = let a = c .before .before .before .before .before .args in pass-none
     (bottomOf (a .t) (now (a .vertices)) (now (a .indexes)))
 
 returns-2 : tie.Need-returns-2
-returns-2 c = let a = c .before .before .before .before .before .before .before .before .before .before .before .before .before .args in pass-one (λ t. t .next)
-    (feedBottom (a .b) (now (a .sites)) (a .centers)) (c .before .before .before .before .before .before .before .before .part .given .1) (c .before .before .before .before .feed-bottom .ensures)
+returns-2 c = let a = Part (c .before .before .before .before .before) .before .before .before .before .before .args in pass-one (λ t. t .next)
+    (feedBottom (a .b) (now (a .sites)) (a .centers)) (Part (c .before .before .before .before .before) .part .given .1) (c .before .before .before .before .feed-bottom .ensures)
 
 returns-3 : tie.Need-returns-3
-returns-3 c = let a = c .before .before .before .before .before .before .before .before .before .before .before .before .before .before .before .before .before .before .before
-    .before .args in pass-two (λ t. t .next) (feedBottom (a .b) (now (a .sites)) (a .centers))
-    (c .before .before .before .before .before .before .before .before .before .before .before .before .before .before .before .part2 .given .1)
-    (bottomOf (a .t) (now (a .vertices)) (now (a .indexes))) (c .before .before .before .before .before .before .before .before .before .before .before .feed-bottom2 .ensures)
+returns-3 c = let a = Start (Fed-bottom2 c .before .before .before .before) .args in pass-two (λ t. t .next) (feedBottom (a .b) (now (a .sites)) (a .centers))
+    (Fed-bottom2 c .before .before .before .before .part2 .given .1) (bottomOf (a .t) (now (a .vertices)) (now (a .indexes))) (Fed-bottom2 c .feed-bottom2 .ensures)
     (c .before .before .before .before .feed-bottom3 .ensures)
 
 pub pass-bottom-spec : {M : Type 1} → statement M
