@@ -7,6 +7,9 @@ use Rattle.flipping.specs.rule.laws.Tests.{far, alone, together, linked,
 use Rattle.flipping.proofs.rule.may_flip.Statement.{statement}
 use Rattle.flipping.proofs.rule.may_flip.Tie as tie
 
+abbrev Start : tie.After-opposite → tie.Start
+Start c = c .before .before .before .before .before .before .before .before .before .before
+
 returns : tie.Need-returns
 returns c =
     let s = c .before .before .before .before .before in
@@ -18,41 +21,35 @@ returns-2 c =
     alone (s .args .triangles .now) (s .args .halfedges .now) (s .args .table .now) (s .args .work .now) (s .args .sites) (s .args .a) (c .if2 .taken)
 
 opposite-requires-2 : tie.Need-opposite-requires-2
-opposite-requires-2 c κs =
-    let w = c .before in
-    let at-if2 = w .before .before in
-    let at-if1 = at-if2 .before .before in
-    let s = at-if1 .before .before .before .before .before in
-    (s .pre .threes, s .pre .small, rw (w .wide .ensures) (s .pre .inside (s .args .a) (at-if1 .if1 .left) (at-if2 .if2 .left)))
+opposite-requires-2 c κs = (
+  Start c .pre .threes,
+  Start c .pre .small,
+  rw (c .before .wide .ensures) (Start c .pre .inside (Start c .args .a) (c .before .before .before .before .before .if1 .left)
+      (c .before .before .before .if2 .left)),
+)
 
 returns-3 : tie.Need-returns-3
 returns-3 c =
-    let at-y = c .before in
-    let at-b = at-y .before .before in
-    let s = at-b .before .before .before .before .before .before .before .before .before in
+    let s = Start (c .before .before) in
     together (s .args .triangles .now) (s .args .halfedges .now) (s .args .table .now) (s .args .work .now) (s .args .sites) (s .args .a) _ _ _
-    (at-b .wide .ensures) (at-y .before .opposite .ensures) (at-y .opposite2 .ensures) (c .if3 .taken)
+    (c .before .before .before .wide .ensures) (c .before .before .opposite .ensures) (c .before .opposite2 .ensures) (c .if3 .taken)
 
 returns-4 : tie.Need-returns-4
 returns-4 c =
-    let at-joined = c .before in
-    let at-y = at-joined .before .before in
-    let at-b = at-y .before .before in
-    let s = at-b .before .before .before .before .before .before .before .before .before in
-    linked (s .args .triangles .now) (s .args .halfedges .now) (s .args .table .now) (s .args .work .now) (s .args .sites) (s .args .a) _ _ _
-    (at-b .wide .ensures) (at-y .before .opposite .ensures) (at-y .opposite2 .ensures) (granted (at-joined .joined .result) (ap not (c .if4 .taken)) (at-joined .joined .ensures))
+    let at-opposite = c .before .before .before .before in
+    linked (Start at-opposite .args .triangles .now) (Start at-opposite .args .halfedges .now) (Start at-opposite .args .table .now) (Start at-opposite .args .work .now)
+    (Start at-opposite .args .sites) (Start at-opposite .args .a) _ _ _
+    (at-opposite .before .wide .ensures) (at-opposite .opposite .ensures) (c .before .before .before .opposite2 .ensures)
+    (granted (c .before .joined .result) (ap not (c .if4 .taken)) (c .before .joined .ensures))
 
 returns-5 : tie.Need-returns-5
 returns-5 c =
     let at-joined = c .before .before in
-    let at-if3 = at-joined .before in
-    let at-y = at-if3 .before in
-    let at-b = at-y .before .before in
-    let at-if2 = at-b .before .before in
-    let at-if1 = at-if2 .before .before in
-    let s = at-if1 .before .before .before .before .before in
-    by-table (s .args .triangles .now) (s .args .halfedges .now) (s .args .table .now) (s .args .work .now) (s .args .sites) (s .args .a) _ _ _
-    (at-b .wide .ensures) (at-y .before .opposite .ensures) (at-y .opposite2 .ensures) (s .pre) (at-if1 .if1 .left) (at-if2 .if2 .left) (at-if3 .if3 .left)
+    let at-opposite = at-joined .before .before .before in
+    by-table (Start at-opposite .args .triangles .now) (Start at-opposite .args .halfedges .now) (Start at-opposite .args .table .now) (Start at-opposite .args .work .now)
+    (Start at-opposite .args .sites) (Start at-opposite .args .a) _ _ _
+    (at-opposite .before .wide .ensures) (at-opposite .opposite .ensures) (at-joined .before .before .opposite2 .ensures) (Start at-opposite .pre)
+    (at-opposite .before .before .before .before .before .if1 .left) (at-opposite .before .before .before .if2 .left) (at-joined .before .if3 .left)
     (refused (at-joined .joined .result) (ap not (c .before .if4 .left)) (at-joined .joined .ensures)) (c .same-first .result) (c .same-first .ensures)
 
 pub may-flip-spec : {M : Type 1} → statement M

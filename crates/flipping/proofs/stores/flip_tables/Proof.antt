@@ -4,26 +4,28 @@ use Rattle.flipping.specs.stores.laws.Changes.{retabled}
 use Rattle.flipping.proofs.stores.flip_tables.Statement.{statement}
 use Rattle.flipping.proofs.stores.flip_tables.Tie as tie
 
+abbrev Start : tie.After-entries-arg → tie.Start
+Start c = c .before .before .before .before .before .before
+
 entries-requires : tie.Need-entries-requires
-entries-requires c κs = rw (c .before .corners .ensures) (c .before .before .before .before .before .before .pre .tabled)
+entries-requires c κs = rw (c .before .corners .ensures) (Start c .pre .tabled)
 
 put-requires : tie.Need-put-requires
-put-requires c κs = rw (c .before .before .before .corners .ensures) (c .before .before .before .before .before .before .before .before .pre .places)
+put-requires c κs = rw (c .before .before .before .corners .ensures) (Start (c .before .before) .pre .places)
 
 put-requires-2 : tie.Need-put-requires-2
 put-requires-2 c κs =
     rw (c .before .before .before .before .before .before .before .corners .ensures)
-    (c .before .before .before .before .before .before .before .before .before .before .before .before .pre .tabled .places)
+    (Start (c .before .before .before .before .before .before) .pre .tabled .places)
 
 returns : tie.Need-returns
 returns c =
-    let at-entries = c .before .before .before .before .before .before .before .before in
-    let at-corners = at-entries .before .before in
-    let s = at-corners .before .before .before .before .before in
-    let t = s .args in (
-      retabled (t .triangles .now) (t .halfedges .now) (t .work .now) (t .table .now) _ (t .a) (t .b) (t .r) (t .l) _ _ (at-corners .corners .ensures)
-          (at-entries .entries .ensures) (c .before .before .before .before .before .before .put .ensures),
-      retabled (t .triangles .now) (t .halfedges .now) (t .work .now) (t .work .now) _ (t .a) (t .b) (t .r) (t .l) _ _ (at-corners .corners .ensures)
+    let at-put = c .before .before .before .before .before .before in
+    let at-entries = at-put .before .before in
+    let t = Start (at-entries .before) .args in (
+      retabled (t .triangles .now) (t .halfedges .now) (t .work .now) (t .table .now) _ (t .a) (t .b) (t .r) (t .l) _ _ (at-entries .before .before .corners .ensures)
+          (at-entries .entries .ensures) (at-put .put .ensures),
+      retabled (t .triangles .now) (t .halfedges .now) (t .work .now) (t .work .now) _ (t .a) (t .b) (t .r) (t .l) _ _ (at-entries .before .before .corners .ensures)
           (at-entries .entries .ensures) (c .before .before .put2 .ensures),
     )
 

@@ -7,24 +7,26 @@ use Rattle.flipping.specs.laws.Pairs.{crossed-length}
 use Rattle.flipping.proofs.stores.relink.Statement.{statement}
 use Rattle.flipping.proofs.stores.relink.Tie as tie
 
+abbrev Start : tie.After-name-back → tie.Start
+Start c = c .before .before .before .before .before
+
 name-back-requires : tie.Need-name-back-requires
 name-back-requires c κs = λ n. rw (length-set, length-set, length-set, length-set) (c .before .before .before .before .pre .outer-l n)
 
 name-back-requires-2 : tie.Need-name-back-requires-2
-name-back-requires-2 c κs =
-    let s = c .before .before .before .before .before .before .before .before in
-    λ n. rw (c .before .before .before .name-back .kept .0, length-set, length-set, length-set, length-set) (s .pre .outer-r n)
+name-back-requires-2 c κs = λ n. rw (c .before .before .before .name-back .kept .0, length-set, length-set, length-set, length-set) (Start (c .before .before .before) .pre .outer-r n)
 
 same-length : tie.Need-same-length
 same-length c =
-    let s = c .before .before .before .before .before .before .before .before .before .before .before in
-    c .before .before .name-back2 .kept .0 ∙ c .before .before .before .before .before .before .name-back .kept .0
-    ∙ crossed-length (s .args .halfedges .now) (s .args .a) (s .args .b) (s .args .r) (s .args .l)
+    let at-name-back = c .before .before .before .before .before .before in
+    c .before .before .name-back2 .kept .0 ∙ at-name-back .name-back .kept .0
+    ∙ crossed-length (Start at-name-back .args .halfedges .now) (Start at-name-back .args .a) (Start at-name-back .args .b) (Start at-name-back .args .r) (Start at-name-back .args .l)
 
 returns : tie.Need-returns
 returns c =
-    let s = c .before .before .before .before .before .before .before .before .before .before .before in
-    c .before .before .name-back2 .ensures ∙ ap (λ h. naming h (getD (s .args .halfedges .now) (s .args .r) 0) (s .args .b)) (c .before .before .before .before .before .before .name-back .ensures)
+    let at-name-back = c .before .before .before .before .before .before in
+    c .before .before .name-back2 .ensures ∙ ap (λ h. naming h (getD (Start at-name-back .args .halfedges .now) (Start at-name-back .args .r) 0) (Start at-name-back .args .b))
+    (at-name-back .name-back .ensures)
 
 pub relink-spec : {M : Type 1} → statement M
 relink-spec =
