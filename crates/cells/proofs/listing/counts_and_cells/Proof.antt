@@ -10,7 +10,8 @@ use Rattle.cells.proofs.listing.counts_and_cells.Tie as tie
 cell-lines-requires : tie.Need-cell-lines-requires
 unfolding countsAndCells
 cell-lines-requires c κs =
-    let s = c .before .before .before .before .before .before .before .before .before in
+    let one = c .before .before .before .before in
+    let s = one .before .before .before .before .before in
     rw (c .wide .ensures) (s .pre .0, omega (arith, simp length-append at (s .pre .1)))
 
 returns : tie.Need-returns
