@@ -29,9 +29,8 @@ listing-requires c κs =
 returns-2 : tie.Need-returns-2
 returns-2 c =
     let test = Built (c .before .before .before) in
-    let at-start = test .before .before .before .before .before in
-    let z = test .if1 .left in
-    text-held _ (at-start .args .number) z (box-fits (at-start .args .triangles) (at-start .args .counts .now) (at-start .pre .0 z)) (c .before .before .listing .ensures)
+    let s = test .before .before .before .before .before in
+    let z = test .if1 .left in text-held _ (s .args .number) z (box-fits (s .args .triangles) (s .args .counts .now) (s .pre .0 z)) (c .before .before .listing .ensures)
 
 pub show-spec : {M : Type 1} → statement M
 show-spec =

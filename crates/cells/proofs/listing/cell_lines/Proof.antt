@@ -23,16 +23,14 @@ abbrev μ-loop : tie.MeasureT-loop
 μ-loop out₀ at sites offsets cells end₀ i₀ out end i = sites - i
 
 -- in a turn: the function's entry, the cell's number, and the part that its two offsets name
-abbrev begin : tie.After-wide2 Inv-loop μ-loop → tie.Start Inv-loop μ-loop
-begin c = c .before .before .before .before .before .before .before .before .before
-
-abbrev number : tie.After-wide2 Inv-loop μ-loop → ℕ
-number c =
-    let at-loop = c .before .before .before .before .before in
-    at-loop .loop .i
-
 abbrev Entry : tie.In-loop Inv-loop μ-loop → tie.Start Inv-loop μ-loop
 Entry c = c .before .before .before .before .before
+
+abbrev begin : tie.After-wide2 Inv-loop μ-loop → tie.Start Inv-loop μ-loop
+begin c = Entry (c .before .before .before .before)
+
+abbrev number : tie.After-wide2 Inv-loop μ-loop → ℕ
+number c = c .before .before .before .before .before .loop .i
 
 turn : (c : tie.After-wide2 Inv-loop μ-loop) → number c < begin c .args .sites
 turn c = c .before .before .before .before .loop-test .taken
