@@ -4,16 +4,17 @@ use borrow.Author.Needs.{needs}
 use Rattle.admission.proofs.admit_build.Statement.{statement}
 use Rattle.admission.proofs.admit_build.Tie as tie
 
+abbrev Cleared : tie.After-slice-known10 → tie.After-clear-all
+Cleared c = c .before .before .before .before .before .before .before .before .before .before
+
 returns : tie.Need-returns
 returns c =
-    let at-room-for = c .before .before .before .before .before in
-    left-alone _ _ _ _ _ _ _ _ _ _ (at-room-for .room-for .ensures) (c .before .before .before .admit .ensures) (c .if1 .taken)
+    left-alone _ _ _ _ _ _ _ _ _ _ (c .before .before .before .before .before .room-for .ensures) (c .before .before .before .admit .ensures) (c .if1 .taken)
 
 returns-2 : tie.Need-returns-2
 returns-2 c =
-    let d = c .before .before .before .before .before .before .before .before .before .before in
-    let e = d .before .before .before .before in
-    let q = d .clear-all .ensures in
+    let e = Cleared c .before .before .before .before in
+    let q = Cleared c .clear-all .ensures in
     all-cleared _ _ _ _ _ _ _ _ _ _ (e .before .before .before .before .before .room-for .ensures) (e .before .before .before .admit .ensures)
     (e .if1 .left) _ _ _ _ (q .0) (q .1) (q .2) (c .before .before .clear .ensures)
 

@@ -33,6 +33,9 @@ Ends c = c .before .before .before .before .before .before .before .before
 abbrev Known : tie.After-slice-known15 → tie.After-slice-known10
 Known c = Accepts (Made (Ends c)) .before
 
+abbrev Vertices : tie.After-slice-known10 → tie.After-vertices
+Vertices c = c .before .before .before .before .before .before .before
+
 -- what the call was lent, and what the slices hold once it is admitted
 abbrev Lent : tie.After-admit-build → Mesh
 Lent a = let g = Begin a .args in mesh (now (g .sites)) (now (g .triangles)) (now (g .halfedges)) (now (g .hull))
@@ -74,14 +77,10 @@ finish-build-requires c κs =
     )
 
 same-length-6 : tie.Need-same-length-6
-same-length-6 c =
-    let k = Known c .before .before .before .before .before .before .before .before .before in
-    c .before .before .before .work2 .given ∙ k .work .given
+same-length-6 c = c .before .before .before .work2 .given ∙ Vertices (Known c) .before .before .work .given
 
 same-length-7 : tie.Need-same-length-7
-same-length-7 c =
-    let k = Known c .before .before .before .before .before .before .before in
-    Ends c .before .before .before .before .before .vertices2 .given ∙ k .vertices .given
+same-length-7 c = Ends c .before .before .before .before .before .vertices2 .given ∙ Vertices (Known c) .vertices .given
 
 same-length-8 : tie.Need-same-length-8
 same-length-8 c = Ends c .before .before .before .indexes2 .given ∙ Known c .before .before .before .before .before .indexes .given

@@ -10,20 +10,20 @@ use Rattle.cell_builder.specs.turned.laws.Marking.{no-marks}
 use Rattle.cell_builder.proofs.clip_build.Statement.{statement}
 use Rattle.cell_builder.proofs.clip_build.Tie as tie
 
--- the cells made, and the start
+-- the cells made, and the start from where they are asked for
 abbrev Made : tie.After-slice-known6 → tie.After-make-cells
 Made c = c .before .before .before .before .before .before
 
-abbrev Entry : tie.After-make-cells → tie.Start
-Entry c = c .before .before .before .before .before .before .before .before .before .before .before .before .before
+abbrev Entry : tie.After-make-cells-arg3 → tie.Start
+Entry c = c .before .before .before .before .before .before .before .before .before .before .before .before
 
 make-cells-requires : tie.Need-make-cells-requires
-make-cells-requires c κs = (c .before .before .before .before .before .before .before .before .before .before .before .before .pre, no-marks)
+make-cells-requires c κs = (Entry c .pre, no-marks)
 
 settle-requires : tie.Need-settle-requires
 settle-requires c κs =
     let m = Made (c .before .before .before .before) in
-    let a = Entry m .args in
+    let a = Entry (m .before) .args in
     finishable (mesh (now (a .sites)) (now (a .triangles)) (now (a .halfedges)) (now (a .hull))) (now (a .table)) (a .bounds) (a .owners) _ _ _ _ _
     (extendedOf (now (a .sites)) (now (a .triangles)) (now (a .hull)) (now (a .table)) (a .bounds) (length (now (a .triangles)) / 3) (now (a .vertices)))
     (m .make-cells .ensures)

@@ -6,11 +6,14 @@ use borrow.Author.Needs.{needs}
 use Rattle.cells.proofs.of_mesh.Statement.{statement}
 use Rattle.cells.proofs.of_mesh.Tie as tie
 
+abbrev Start : tie.After-counts → tie.Start
+Start c = c .before .before .before .before .before .before .before .before .before .before
+
 show-requires : tie.Need-show-requires
 show-requires c κs =
     let at-narrow = c .before .before .before .before .before in
     let at-build = at-narrow .before .before .before .before .before .before in
-    let s = c .before .before .before .before .before .before .before .before .before .before .before .before .before .before .before .before .before .before .before .before .before .before in
+    let s = Start (at-build .before) in
     let b = at-build .build in (
       λ z. rw (at-narrow .narrow .ensures) (laid-of-mesh _ (s .pre .0) _ _
           (record { work = refl; vertices = refl; indexes = refl; offsets = refl; counts = refl }) _ _ (b .ensures) _ (s .pre .2)
@@ -22,20 +25,16 @@ show-requires c κs =
 returns : tie.Need-returns
 returns c =
     let at-narrow2 = c .before .before .before .before .before .before .before in
-    let at-narrow = at-narrow2 .before in
-    let at-build = at-narrow .before .before .before .before .before .before in
-    let half = c .before .before .before .before .before .before .before .before .before .before .before .before in
-    let s = half .before .before .before .before .before .before .before .before .before .before .before .before .before
-    in
+    let at-build = at-narrow2 .before .before .before .before .before .before .before in
     let b = at-build .build in
     let h = c .before .before .show .ensures in (
-      rw (h .first, at-narrow .narrow .ensures, at-narrow2 .narrow2 .ensures)
-          (listing-of-mesh _ (s .pre .0) _ _ (record { work = refl; vertices = refl; indexes = refl; offsets = refl; counts = refl }) _ _ (b .ensures)),
+      rw (h .first, at-narrow2 .before .narrow .ensures, at-narrow2 .narrow2 .ensures)
+          (listing-of-mesh _ (Start (at-build .before) .pre .0) _ _ (record { work = refl; vertices = refl; indexes = refl; offsets = refl; counts = refl }) _ _ (b .ensures)),
       h .within,
     )
 
 build-requires : tie.Need-build-requires
-build-requires c κs = c .before .before .before .before .before .before .before .before .before .before .pre .1
+build-requires c κs = Start c .pre .1
 
 pub of-mesh-spec : {M : Type 1} → statement M
 of-mesh-spec =

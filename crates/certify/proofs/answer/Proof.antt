@@ -23,10 +23,9 @@ refusal-requires c κs = let w = c .before .before .before .before .before .befo
 
 returns : tie.Need-returns
 returns c =
-    let at-refusal = c .before .before in
-    let test = at-refusal .before .before in
+    let test = c .before .before .before .before in
     let w = test .before .before .before .before .before .before in
-    let h = line-held _ (omega (arith, begin w .pre)) (at-refusal .refusal .ensures) in
+    let h = line-held _ (omega (arith, begin w .pre)) (c .before .before .refusal .ensures) in
     (not-told (w .read .ensures) (test .if1 .taken) (h .first), h .within)
 
 slice-aggregate-of-mesh : tie.Need-slice-aggregate-of-mesh

@@ -9,7 +9,8 @@ use Rattle.certify.proofs.of_mesh.Tie as tie
 slice-aggregate-of-pieces-2 : tie.Need-slice-aggregate-of-pieces-2
 slice-aggregate-of-pieces-2 c =
     let at-cut = c .before .before .before .before .before .before .before in
-    let s = at-cut .before .before .before .before .before .before .before .before .before .before in
+    let at-work = at-cut .before .before .before .before in
+    let s = at-work .before .before .before .before .before .before in
     sym (length-take-le _ _ (omega (arith, s .pre .0, at-cut .cut .kept .1 .1 .1 .1 .1 .1 .1 .1 .0)))
 
 pub of-mesh-spec : {M : Type 1} → statement M

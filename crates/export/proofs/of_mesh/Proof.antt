@@ -5,12 +5,17 @@ use borrow.Author.Needs.{needs}
 use Rattle.export.proofs.of_mesh.Statement.{statement}
 use Rattle.export.proofs.of_mesh.Tie as tie
 
+abbrev Start : tie.After-counts → tie.Start
+Start c = c .before .before .before .before .before .before .before .before .before .before
+
+abbrev Built : tie.After-narrow → tie.After-build
+Built c = c .before .before .before .before .before .before
+
 show-requires : tie.Need-show-requires
 show-requires c κs =
     let at-narrow = c .before .before .before .before in
-    let at-build = at-narrow .before .before .before .before .before .before in
-    let start = at-build .before .before .before .before .before .before .before .before .before .before .before in
-    let b = at-build .build in (
+    let start = Start (Built at-narrow .before) in
+    let b = Built at-narrow .build in (
       λ z. rw (at-narrow .narrow .ensures, b .kept .1 .1 .1 .1 .1 .1 .0)
           (laid-of-mesh _ (start .pre .0) _ _ (record { work = refl; vertices = refl; indexes = refl; offsets = refl; counts = refl }) _ _ (start .pre .1) (b .ensures)
           (b .kept .1 .1 .1 .1 .1 .1 .1 .0) z),
@@ -19,19 +24,17 @@ show-requires c κs =
 
 returns : tie.Need-returns
 returns c =
-    let at-show = c .before .before in
-    let at-narrow = at-show .before .before .before .before .before in
-    let at-build = at-narrow .before .before .before .before .before .before in
-    let start = at-build .before .before .before .before .before .before .before .before .before .before .before in
-    let b = at-build .build in
-    let h = at-show .show .ensures in (
+    let at-narrow = c .before .before .before .before .before .before .before in
+    let start = Start (Built at-narrow .before) in
+    let b = Built at-narrow .build in
+    let h = c .before .before .show .ensures in (
       rw (h .first, at-narrow .narrow .ensures)
           (lines-of-mesh _ (start .pre .0) _ _ (record { work = refl; vertices = refl; indexes = refl; offsets = refl; counts = refl }) _ _ (start .pre .1) (b .ensures)),
       h .within,
     )
 
 build-requires : tie.Need-build-requires
-build-requires c κs = c .before .before .before .before .before .before .before .before .before .before .pre .1
+build-requires c κs = Start c .pre .1
 
 pub of-mesh-spec : {M : Type 1} → statement M
 of-mesh-spec =

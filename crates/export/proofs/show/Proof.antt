@@ -16,8 +16,9 @@ refusal-requires c κs =
 
 returns : tie.Need-returns
 returns c =
-    let s = c .before .before .before .before .before .before .before .before .before in
-    refusal-held _ (s .args .number) (c .before .before .before .before .if1 .taken) (omega (arith, s .pre .1)) (c .before .before .refusal .ensures)
+    let test = c .before .before .before .before in
+    let s = test .before .before .before .before .before in
+    refusal-held _ (s .args .number) (test .if1 .taken) (omega (arith, s .pre .1)) (c .before .before .refusal .ensures)
 
 map-text-requires : tie.Need-map-text-requires
 map-text-requires c κs =
@@ -27,8 +28,9 @@ map-text-requires c κs =
 
 returns-2 : tie.Need-returns-2
 returns-2 c =
-    let s = c .before .before .before .before .before .before .before .before .before in
-    let z = c .before .before .before .before .if1 .left in
+    let test = c .before .before .before .before in
+    let s = test .before .before .before .before .before in
+    let z = test .if1 .left in
     text-held _ (s .args .number) z (lines-fit (now (s .args .vertices)) (length (now (s .args .out))) (s .pre .0 z) (s .pre .1)) (c .before .before .map-text .ensures)
 
 pub show-spec : {M : Type 1} → statement M

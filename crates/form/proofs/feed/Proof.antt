@@ -16,24 +16,25 @@ abbrev μ-loop : tie.MeasureT-loop
 μ-loop bytes bounds₀ sites₀ triangles₀ halfedges₀ hull₀ n₀ i₀ bounds sites triangles halfedges hull n i =
     length bytes - i
 
+abbrev Start : tie.In-loop Inv-loop μ-loop → tie.Start Inv-loop μ-loop
+Start c = c .before .before .before .before .before .before .before .before
+
+abbrev Taken : tie.After-slice-known10 Inv-loop μ-loop → tie.After-take Inv-loop μ-loop
+Taken c = c .before .before .before .before .before .before .before .before .before .before
+
 loop-holds : tie.Need-loop-holds Inv-loop μ-loop
 loop-holds c = let s = c .before .before .before .before .before .before in
     let a = s .args in
     feeding-start (now (a .bytes)) (reading (a .r) (now (a .bounds)) (now (a .sites)) (now (a .triangles)) (now (a .halfedges)) (now (a .hull))) (s .pre .0)
 
 take-requires : tie.Need-take-requires Inv-loop μ-loop
-take-requires c κs = let l = c .before .before .before .before .before .before .before in
-    let s = l .before .before .before .before .before .before .before in
-    (l .loop .inv .ok, room-same (s .pre .1) (l .loop .inv .same))
+take-requires c κs = let u = c .before .before .before .before .before .before in (u .before .loop .inv .ok, room-same (Start u .pre .1) (u .before .loop .inv .same))
 
 short : tie.Need-add-i Inv-loop μ-loop
-short c = let t = c .before .before .before .before .before .before .before .before .before .before in
-    let u = t .before .before .before .before .before .before .before in
-    let s = u .before .before .before .before .before .before .before .before in
-    omega (arith, u .loop-test .taken, s .good .1 .0 .0)
+short c = let u = Taken c .before .before .before .before .before .before .before in omega (arith, u .loop-test .taken, Start u .good .1 .0 .0)
 
 loop-again : tie.Need-loop-again Inv-loop μ-loop
-loop-again c = let t = c .before .before .before .before .before .before .before .before .before .before in
+loop-again c = let t = Taken c in
     let u = t .before .before .before .before .before .before .before in
     let k = t .take .kept in
     feeding-step (u .before .loop .inv) _ (u .loop-test .taken) (t .take .ensures)

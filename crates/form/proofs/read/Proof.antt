@@ -6,13 +6,16 @@ use borrow.Author.Needs.{needs}
 use Rattle.form.proofs.read.Statement.{statement}
 use Rattle.form.proofs.read.Tie as tie
 
+abbrev Fed : tie.After-finish → tie.After-feed
+Fed c = c .before .before .before .before .before .before .before .before .before .before .before
+
 feed-requires : tie.Need-feed-requires
 feed-requires c κs = let b = c .before .before .before .before .before in
     let s = b .before .before .before .before .before .before .before in
     (rw (b .start .ensures) (ok-start (s .args .old)), s .pre)
 
 returns : tie.Need-returns
-returns c = let f = c .before .before .before .before .before .before .before .before .before .before .before in
+returns c = let f = Fed c in
     let b = f .before .before .before .before .before .before in
     let a = b .before .before .before .before .before .before .before .args in
     reads-all (a .old) (now (a .bytes)) (b .start .result) (f .feed .result) (now (a .bounds)) (now (a .sites)) (now (a .triangles)) (now (a .halfedges)) (now (a .hull)) _ _ _ _ _ (c .finish .result)

@@ -5,11 +5,11 @@ use borrow.Author.Needs.{needs}
 use Rattle.nearest.proofs.of_grid.Statement.{statement}
 use Rattle.nearest.proofs.of_grid.Tie as tie
 
+abbrev Begin : tie.After-first-beyond → tie.Start
+Begin c = c .before .before .before .before .before .before .before .before .before .before
+
 line-of-requires : tie.Need-line-of-requires
-line-of-requires c κs =
-    let beyond = c .before .before in
-    let s = beyond .before .before .before .before .before .before .before .before .before .before in
-    omega (arith, beyond .first-beyond .ensures .within, s .pre)
+line-of-requires c κs = let beyond = c .before .before in omega (arith, beyond .first-beyond .ensures .within, Begin beyond .pre)
 
 returns : tie.Need-returns
 returns c = record {

@@ -7,15 +7,14 @@ use Rattle.nearest.specs.whole_sites.Whole.{wholeNumber}
 use Rattle.nearest.proofs.of_mesh.Statement.{statement}
 use Rattle.nearest.proofs.of_mesh.Tie as tie
 
+abbrev Begin : tie.After-to-grid → tie.Start
+Begin c = c .before .before .before .before .before .before
+
 slice-aggregate-of-grid : tie.Need-slice-aggregate-of-grid
-slice-aggregate-of-grid c =
-    let s = c .before .before .before .before .before .before .before .before in
-    sym (ap length (c .before .before .to-grid .ensures) ∙ length-map (s .args .sites .now) wholeNumber)
+slice-aggregate-of-grid c = let g = c .before .before in sym (ap length (g .to-grid .ensures) ∙ length-map (Begin g .args .sites .now) wholeNumber)
 
 of-grid-requires : tie.Need-of-grid-requires
-of-grid-requires c κs =
-    let s = c .before .before .before .before .before .before .before .before in
-    omega (arith, ap length (c .before .before .to-grid .ensures), length-map (s .args .sites .now) wholeNumber, s .pre)
+of-grid-requires c κs = let g = c .before .before in omega (arith, ap length (g .to-grid .ensures), length-map (Begin g .args .sites .now) wholeNumber, Begin g .pre)
 
 returns : tie.Need-returns
 returns c = rw (c .before .before .before .to-grid .ensures) at (c .of-grid .ensures)

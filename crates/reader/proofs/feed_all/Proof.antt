@@ -8,21 +8,24 @@ use borrow.Author.Needs.{needs}
 use Rattle.reader.proofs.feed_all.Statement.{statement}
 use Rattle.reader.proofs.feed_all.Tie as tie
 
+abbrev Fed : tie.After-store-arg → tie.After-feed
+Fed c = c .before .before .before .before .before .before .before .before .before .before .before
+
+abbrev Start : tie.After-feed → tie.Start
+Start c = c .before .before .before .before .before .before .before .before .before .before .before .before .before .before .before
+
 store-requires : tie.Need-store-requires
-store-requires c κs =
-    let half = c .before .before .before .before .before .before .before .before .before .before .before .before .before in
-    half .before .before .before .before .before .before .before .before .before .before .before .before .before .pre .0
+store-requires c κs = Start (Fed c) .pre .0
 
 returns : tie.Need-returns
 returns c =
-    let at-feed = c .before .before .before .before .before .before .before .before .before .before .before .before .before .before .before in
-    let at-load = at-feed .before .before .before .before .before .before in
-    let a = at-load .before .before .before .before .before .before .before .before .before .args in
+    let f = Fed (c .before .before .before .before) in
+    let a = Start f .args in
     rw (c .answered .ensures, c .before .before .before .store .ensures)
     (ap (fedBy (now (a .state)))
-    (at-feed .feed .ensures .0
+    (f .feed .ensures .0
     ∙ ap (λ (r : Reader). takes (reading r (now (a .bounds)) (now (a .sites)) (now (a .triangles)) (now (a .halfedges)) (now (a .hull))) (now (a .block)))
-    (at-load .load .ensures .0)))
+    (f .before .before .before .before .before .before .load .ensures .0)))
 
 pub feed-all-spec : {M : Type 1} → statement M
 feed-all-spec =

@@ -10,23 +10,25 @@ use borrow.Author.Needs.{needs}
 use Rattle.reader.proofs.read_all.Statement.{statement}
 use Rattle.reader.proofs.read_all.Tie as tie
 
+abbrev Fed : tie.After-finished → tie.After-feed
+Fed c = c .before .before .before .before .before .before .before .before .before .before .before
+
 feed-requires : tie.Need-feed-requires
-feed-requires c κs =
-    (rw (c .before .before .before .before .before .start .ensures) (ok-start false), c .before .before .before .before .before .before .before .before .before .before .before .before .pre)
+feed-requires c κs = let s = c .before .before .before .before .before in (rw (s .start .ensures) (ok-start false), s .before .before .before .before .before .before .before .pre)
 
 reported-requires : tie.Need-reported-requires
-reported-requires c κs = rw (c .finished .ensures) (ok-finished _ (c .before .before .before .before .before .before .before .before .before .before .before .feed .ensures .1))
+reported-requires c κs = rw (c .finished .ensures) (ok-finished _ (Fed c .feed .ensures .1))
 
 returns : tie.Need-returns
 returns c =
-    let at-feed = c .before .before .before .before .before .before .before .before .before .before .before .before in
-    let at-start = at-feed .before .before .before .before .before .before in
-    let a = at-start .before .before .before .before .before .before .before .args in
+    let f = Fed (c .before) in
+    let s = f .before .before .before .before .before .before in
+    let a = s .before .before .before .before .before .before .before .args in
     rw (c .reported .ensures, c .before .finished .ensures)
     (ap readBy
-    (at-feed .feed .ensures .0
+    (f .feed .ensures .0
     ∙ ap (λ (r : Reader). takes (reading r (now (a .bounds)) (now (a .sites)) (now (a .triangles)) (now (a .halfedges)) (now (a .hull))) (now (a .form)))
-    (at-start .start .ensures)))
+    (s .start .ensures)))
 
 pub read-all-spec : {M : Type 1} → statement M
 read-all-spec =

@@ -10,37 +10,44 @@ use borrow.Author.Needs.{needs}
 use Rattle.reader.proofs.try_feed.Statement.{statement}
 use Rattle.reader.proofs.try_feed.Tie as tie
 
+abbrev Wide : tie.After-roomy → tie.Else1
+Wide c = c .before .before .before .before .before .before
+
+abbrev Start : tie.Else1 → tie.Start
+Start c = c .before .before .before .before .before .before .before .before
+
+abbrev FedAll : tie.After-slice-known12 → tie.After-feed-all
+FedAll c = c .before .before .before .before .before .before .before .before .before .before .before .before
+
 returns : tie.Need-returns
 unfolding feedCall
 returns c = rw (lt-ltb _ _ (c .before .if1 .taken), c .no-room .ensures)
 
 feed-all-requires : tie.Need-feed-all-requires
 feed-all-requires c κs =
-    let at-roomy = c .before .before .before .before .before .before .before in
-    let at-if1 = at-roomy .before .before .before .before .before .before in
-    let a = at-if1 .before .before .before .before .before .before .before .before .args in (
-      at-if1 .if1 .left,
+    let r = c .before .before .before .before .before .before .before in
+    let a = Start (Wide r) .args in (
+      Wide r .if1 .left,
       roomy-told (formLists (now (a .bounds)) (now (a .sites)) (now (a .triangles)) (now (a .halfedges)) (now (a .hull)))
-          (sym (at-roomy .roomy .ensures) ∙ c .before .before .before .before .before .before .if2 .taken),
+          (sym (r .roomy .ensures) ∙ c .before .before .before .before .before .before .if2 .taken),
     )
 
 returns-2 : tie.Need-returns-2
 returns-2 c =
-    let at-all = c .before .before .before .before .before .before .before .before .before .before .before .before in
-    let at-roomy = at-all .before .before .before .before .before .before .before .before in
-    let at-if1 = at-roomy .before .before .before .before .before .before in
-    let a = at-if1 .before .before .before .before .before .before .before .before .args in
-    at-all .feed-all .ensures
+    let t = FedAll c .before .before .before .before .before .before .before in
+    let r = t .before in
+    let a = Start (Wide r) .args in
+    FedAll c .feed-all .ensures
     ∙ sym (feed-wide (now (a .state)) (formLists (now (a .bounds)) (now (a .sites)) (now (a .triangles)) (now (a .halfedges)) (now (a .hull))) (now (a .block))
-    (le-ltb _ _ (at-if1 .if1 .left)) (sym (at-roomy .roomy .ensures) ∙ at-all .before .before .before .before .before .before .before .if2 .taken))
+    (le-ltb _ _ (Wide r .if1 .left)) (sym (r .roomy .ensures) ∙ t .if2 .taken))
 
 returns-3 : tie.Need-returns-3
 returns-3 c =
-    let at-if1 = c .before .before .before .before .before .before .before .before in
-    let a = at-if1 .before .before .before .before .before .before .before .before .args in
+    let r = c .before .before in
+    let a = Start (Wide r) .args in
     ap (λ (x : Answer). fed x (now (a .state)) (formLists (now (a .bounds)) (now (a .sites)) (now (a .triangles)) (now (a .halfedges)) (now (a .hull)))) (c .no-room2 .ensures)
     ∙ sym (feed-close (now (a .state)) (formLists (now (a .bounds)) (now (a .sites)) (now (a .triangles)) (now (a .halfedges)) (now (a .hull))) (now (a .block))
-    (le-ltb _ _ (at-if1 .if1 .left)) (sym (c .before .before .roomy .ensures) ∙ c .before .if2 .left))
+    (le-ltb _ _ (Wide r .if1 .left)) (sym (r .roomy .ensures) ∙ c .before .if2 .left))
 
 pub try-feed-spec : {M : Type 1} → statement M
 try-feed-spec =

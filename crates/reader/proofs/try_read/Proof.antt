@@ -9,28 +9,33 @@ use borrow.Author.Needs.{needs}
 use Rattle.reader.proofs.try_read.Statement.{statement}
 use Rattle.reader.proofs.try_read.Tie as tie
 
+abbrev Start : tie.After-roomy → tie.Start
+Start c = c .before .before .before .before .before .before .before .before .before .before .before .before
+
+abbrev ReadAll : tie.After-slice-known10 → tie.After-read-all
+ReadAll c = c .before .before .before .before .before .before .before .before .before .before
+
 read-all-requires : tie.Need-read-all-requires
 read-all-requires c κs =
-    let at-roomy = c .before .before .before .before .before .before in
-    let a = at-roomy .before .before .before .before .before .before .before .before .before .before .before .before .args in
+    let r = c .before .before .before .before .before .before in
+    let a = Start r .args in
     roomy-told (formLists (now (a .bounds)) (now (a .sites)) (now (a .triangles)) (now (a .halfedges)) (now (a .hull)))
-    (sym (at-roomy .roomy .ensures) ∙ c .before .before .before .before .before .if1 .taken)
+    (sym (r .roomy .ensures) ∙ c .before .before .before .before .before .if1 .taken)
 
 returns : tie.Need-returns
 returns c =
-    let at-all = c .before .before .before .before .before .before .before .before .before .before in
-    let at-roomy = at-all .before .before .before .before .before .before .before in
-    let a = at-roomy .before .before .before .before .before .before .before .before .before .before .before .before .args in
-    at-all .read-all .ensures
+    let t = ReadAll c .before .before .before .before .before .before in
+    let a = Start (t .before) .args in
+    ReadAll c .read-all .ensures
     ∙ sym (read-wide (formLists (now (a .bounds)) (now (a .sites)) (now (a .triangles)) (now (a .halfedges)) (now (a .hull))) (now (a .form))
-    (sym (at-roomy .roomy .ensures) ∙ at-all .before .before .before .before .before .before .if1 .taken))
+    (sym (t .before .roomy .ensures) ∙ t .if1 .taken))
 
 returns-2 : tie.Need-returns-2
 returns-2 c =
-    let at-roomy = c .before .before in
-    let a = at-roomy .before .before .before .before .before .before .before .before .before .before .before .before .args in
+    let r = c .before .before in
+    let a = Start r .args in
     ap (λ (x : Report). readForm x (formLists (now (a .bounds)) (now (a .sites)) (now (a .triangles)) (now (a .halfedges)) (now (a .hull)))) (c .no-report .ensures)
-    ∙ sym (read-close (formLists (now (a .bounds)) (now (a .sites)) (now (a .triangles)) (now (a .halfedges)) (now (a .hull))) (now (a .form)) (sym (at-roomy .roomy .ensures) ∙ c .before .if1 .left))
+    ∙ sym (read-close (formLists (now (a .bounds)) (now (a .sites)) (now (a .triangles)) (now (a .halfedges)) (now (a .hull))) (now (a .form)) (sym (r .roomy .ensures) ∙ c .before .if1 .left))
 
 pub try-read-spec : {M : Type 1} → statement M
 try-read-spec =

@@ -5,15 +5,16 @@ use borrow.Author.Needs.{needs}
 use Rattle.why.proofs.of_mesh.Statement.{statement}
 use Rattle.why.proofs.of_mesh.Tie as tie
 
+abbrev Start : tie.After-counts → tie.Start
+Start c = c .before .before .before .before .before .before .before .before .before
+
 returns : tie.Need-returns
 returns c =
     let at-why = c .before .before .before .before .before in
-    let s = at-why .before .before .before .before .before .before .before .before .before .before in
-    of-mesh _ _ (record { work = refl; vertices = refl; indexes = refl; offsets = refl; counts = refl })
-    (s .pre .0) _ _ (at-why .why .ensures)
+    of-mesh _ _ (record { work = refl; vertices = refl; indexes = refl; offsets = refl; counts = refl }) (Start (at-why .before) .pre .0) _ _ (at-why .why .ensures)
 
 why-requires : tie.Need-why-requires
-why-requires c κs = c .before .before .before .before .before .before .before .before .before .pre .1
+why-requires c κs = Start c .pre .1
 
 pub of-mesh-spec : {M : Type 1} → statement M
 of-mesh-spec =

@@ -6,10 +6,10 @@ use Rattle.building.proofs.counts.finish.Tie as tie
 
 returns : tie.Need-returns
 returns c =
-    let at-clear = c .before .before .before .before .before .before in
-    let t = c .before .before .before .before .before .before .before .before in
+    let first = c .before .before .before .before .before .before in
+    let t = first .before .before in
     let n = ne-eqb _ 0 (t .if1 .taken) in
-    record { work = rw n (at-clear .clear .ensures); counts = rw n (c .before .before .clear2 .ensures) }
+    record { work = rw n (first .clear .ensures); counts = rw n (c .before .before .clear2 .ensures) }
 
 returns-2 : tie.Need-returns-2
 returns-2 c =

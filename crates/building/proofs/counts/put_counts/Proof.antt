@@ -39,9 +39,10 @@ same-length c = c .before .counts .given ∙ simp length-set
 
 returns : tie.Need-returns
 returns c =
-    let s = c .before .before .before .before .before .before .before .before in
+    let f = c .before .before in
+    let s = f .before .before .before .before .before .before in
     let n : length (s .args .t2) ≡ 4 = omega (arith, s .good .1 .0) in
-    counted (s .args .counts .now) (s .args .vertices) (s .args .t2) (s .args .lost) (s .args .reused) _ (s .pre .1) n (c .before .before .fill-from .ensures)
+    counted (s .args .counts .now) (s .args .vertices) (s .args .t2) (s .args .lost) (s .args .reused) _ (s .pre .1) n (f .fill-from .ensures)
 
 pub put-counts-spec : {M : Type 1} → statement M
 put-counts-spec =

@@ -11,8 +11,8 @@ returns c =
 
 finish-requires : tie.Need-finish-requires
 finish-requires c κs =
-    let i = c .before .before .before in
-    i .before .before .before .before .before .before .before .before .pre (i .if1 .left)
+    let n = c .before .before .before .before in
+    n .before .before .before .before .before .before .before .pre (c .before .before .before .if1 .left)
 
 returns-2 : tie.Need-returns-2
 returns-2 c =

@@ -4,41 +4,41 @@ use Rattle.cell_memory.specs.layout.laws.Rooms.{tallies-tri, tallies-hul
 use Rattle.cell_memory.proofs.layout.region_starts.Statement.{statement}
 use Rattle.cell_memory.proofs.layout.region_starts.Tie as tie
 
+-- the function's entry, and the zeros
+abbrev Start : tie.After-fill-from → tie.Start
+Start c = c .before .before .before .before .before
+
+abbrev Filled : tie.After-tally → tie.After-fill-from
+Filled c = c .before .before .before .before
+
 tally-requires : tie.Need-tally-requires
-tally-requires c κs =
-    let at-start = c .before .before .before .before .before .before .before .before in
-    tallies-tri _ _ _ _ _ (at-start .pre) _ (c .before .before .before .fill-from .ensures)
+tally-requires c κs = tallies-tri _ _ _ _ _ (Start (c .before .before .before) .pre) _ (c .before .before .before .fill-from .ensures)
 
 tally-requires-2 : tie.Need-tally-requires-2
 tally-requires-2 c κs =
-    let at-fill-from = c .before .before .before .before .before .before .before in
-    let at-start = at-fill-from .before .before .before .before .before in
-    tallies-hull _ _ _ _ _ (at-start .pre) _ (at-fill-from .fill-from .ensures) _ (c .before .before .before .tally .ensures)
+    let tally = c .before .before .before in
+    tallies-hull _ _ _ _ _ (Start (Filled tally) .pre) _ (Filled tally .fill-from .ensures) _ (tally .tally .ensures)
 
 tally-requires-3 : tie.Need-tally-requires-3
 tally-requires-3 c κs =
-    let at-tally = c .before .before .before .before .before .before .before .before in
-    let at-fill-from = at-tally .before .before .before .before in
-    let at-start = at-fill-from .before .before .before .before .before in
-    tallies-owners _ _ _ _ _ (at-start .pre) _ (at-fill-from .fill-from .ensures) _ (at-tally .tally .ensures) _ (c .before .before .before .before .tally2 .ensures)
+    let tally2 = c .before .before .before .before in
+    let tally = tally2 .before .before .before .before in
+    tallies-owners _ _ _ _ _ (Start (Filled tally) .pre) _ (Filled tally .fill-from .ensures) _ (tally .tally .ensures) _ (tally2 .tally2 .ensures)
 
 sum-up-requires : tie.Need-sum-up-requires
 sum-up-requires c κs =
-    let at-tally2 = c .before .before .before .before .before .before .before .before in
-    let at-tally = at-tally2 .before .before .before .before in
-    let at-fill-from = at-tally .before .before .before .before in
-    let at-start = at-fill-from .before .before .before .before .before in
-    sums-rooms _ _ _ _ _ (at-start .pre) _ (at-fill-from .fill-from .ensures) _ (at-tally .tally .ensures) _ (at-tally2 .tally2 .ensures) _ (c .before .before .before .tally3 .ensures)
+    let tally3 = c .before .before .before in
+    let tally2 = tally3 .before .before .before .before .before in
+    let tally = tally2 .before .before .before .before in
+    sums-rooms _ _ _ _ _ (Start (Filled tally) .pre) _ (Filled tally .fill-from .ensures) _ (tally .tally .ensures) _ (tally2 .tally2 .ensures) _ (tally3 .tally3 .ensures)
 
 returns : tie.Need-returns
 returns c =
-    let at-tally3 = c .before .before .before .before .before .before in
-    let at-tally2 = at-tally3 .before .before .before .before .before in
-    let at-tally = at-tally2 .before .before .before .before in
-    let at-fill-from = at-tally .before .before .before .before in
-    let at-start = at-fill-from .before .before .before .before .before in
-    started _ _ _ _ _ (at-start .pre) _ (at-fill-from .fill-from .ensures) _ (at-tally .tally .ensures) _ (at-tally2 .tally2 .ensures) _
-    (at-tally3 .tally3 .ensures) _ (c .before .before .sum-up .ensures)
+    let tally3 = c .before .before .before .before .before .before in
+    let tally2 = tally3 .before .before .before .before .before in
+    let tally = tally2 .before .before .before .before in
+    started _ _ _ _ _ (Start (Filled tally) .pre) _ (Filled tally .fill-from .ensures) _ (tally .tally .ensures) _ (tally2 .tally2 .ensures) _
+    (tally3 .tally3 .ensures) _ (c .before .before .sum-up .ensures)
 
 pub region-starts-spec : {M : Type 1} → statement M
 region-starts-spec =

@@ -7,6 +7,9 @@ use borrow.Author.Needs.{needs}
 use Rattle.cells.proofs.answer_text.show.Statement.{statement}
 use Rattle.cells.proofs.answer_text.show.Tie as tie
 
+abbrev Built : tie.After-shared-slice-known12 → tie.Else1
+Built c = c .before .before .before .before .before .before .before .before .before .before
+
 refusal-requires : tie.Need-refusal-requires
 refusal-requires c κs =
     let at-start = c .before .before .before .before .before .before in
@@ -14,20 +17,20 @@ refusal-requires c κs =
 
 returns : tie.Need-returns
 returns c =
-    let at-start = c .before .before .before .before .before .before .before .before .before in
-    refusal-held _ (at-start .args .number) (c .before .before .before .before .if1 .taken) (at-start .pre .2) (c .before .before .refusal .ensures)
+    let test = c .before .before .before .before in
+    let at-start = test .before .before .before .before .before in
+    refusal-held _ (at-start .args .number) (test .if1 .taken) (at-start .pre .2) (c .before .before .refusal .ensures)
 
 listing-requires : tie.Need-listing-requires
 listing-requires c κs =
-    let at-if1 = c .before .before .before .before .before .before .before .before .before .before in
-    let at-start = at-if1 .before .before .before .before .before in
-    let p = at-start .pre .0 (at-if1 .if1 .left) in (p .layout, omega (arith, box-fits (at-start .args .triangles) (at-start .args .counts .now) p))
+    let at-start = Built c .before .before .before .before .before in
+    let p = at-start .pre .0 (Built c .if1 .left) in (p .layout, omega (arith, box-fits (at-start .args .triangles) (at-start .args .counts .now) p))
 
 returns-2 : tie.Need-returns-2
 returns-2 c =
-    let at-if1 = c .before .before .before .before .before .before .before .before .before .before .before .before .before in
-    let s = at-if1 .before .before .before .before .before in
-    let z = at-if1 .if1 .left in text-held _ (s .args .number) z (box-fits (s .args .triangles) (s .args .counts .now) (s .pre .0 z)) (c .before .before .listing .ensures)
+    let test = Built (c .before .before .before) in
+    let s = test .before .before .before .before .before in
+    let z = test .if1 .left in text-held _ (s .args .number) z (box-fits (s .args .triangles) (s .args .counts .now) (s .pre .0 z)) (c .before .before .listing .ensures)
 
 pub show-spec : {M : Type 1} → statement M
 show-spec =

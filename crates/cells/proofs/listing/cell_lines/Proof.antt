@@ -23,13 +23,14 @@ abbrev μ-loop : tie.MeasureT-loop
 μ-loop out₀ at sites offsets cells end₀ i₀ out end i = sites - i
 
 -- in a turn: the function's entry, the cell's number, and the part that its two offsets name
+abbrev Entry : tie.In-loop Inv-loop μ-loop → tie.Start Inv-loop μ-loop
+Entry c = c .before .before .before .before .before
+
 abbrev begin : tie.After-wide2 Inv-loop μ-loop → tie.Start Inv-loop μ-loop
-begin c = c .before .before .before .before .before .before .before .before .before
+begin c = Entry (c .before .before .before .before)
 
 abbrev number : tie.After-wide2 Inv-loop μ-loop → ℕ
-number c =
-    let at-loop = c .before .before .before .before .before in
-    at-loop .loop .i
+number c = c .before .before .before .before .before .loop .i
 
 turn : (c : tie.After-wide2 Inv-loop μ-loop) → number c < begin c .args .sites
 turn c = c .before .before .before .before .loop-test .taken
@@ -47,36 +48,36 @@ loop-holds : tie.Need-loop-holds Inv-loop μ-loop
 loop-holds c = let a = c .before .before .before .args in lined-start _ (a .sites) (now (a .out)) (a .at) refl
 
 mul-wide : tie.Need-mul-wide Inv-loop μ-loop
-mul-wide c = let s = c .before .before .before .before .before in omega (arith, s .pre .0 .long, s .good .1 .1 .1 .0 .1)
+mul-wide c = omega (arith, Entry c .pre .0 .long, Entry c .good .1 .1 .1 .0 .1)
 
 shared-slice-read-wide : tie.Need-shared-slice-read-wide Inv-loop μ-loop
-shared-slice-read-wide c = let s = c .before .before .before .before .before .before in omega (arith, s .pre .0 .long)
+shared-slice-read-wide c = omega (arith, Entry (c .before) .pre .0 .long)
 
 add-wide : tie.Need-add-wide Inv-loop μ-loop
-add-wide c = let s = c .before .before .before .before .before .before .before in omega (arith, s .pre .0 .few)
+add-wide c = omega (arith, Entry (c .before .before) .pre .0 .few)
 
 mul-wide-2 : tie.Need-mul-wide-2 Inv-loop μ-loop
-mul-wide-2 c = let s = c .before .before .before .before .before .before .before in omega (arith, s .pre .0 .long, s .good .1 .1 .1 .0 .1)
+mul-wide-2 c = omega (arith, Entry (c .before .before) .pre .0 .long, Entry (c .before .before) .good .1 .1 .1 .0 .1)
 
 shared-slice-read-wide-2 : tie.Need-shared-slice-read-wide-2 Inv-loop μ-loop
-shared-slice-read-wide-2 c = let s = c .before .before .before .before .before .before .before .before in omega (arith, s .pre .0 .long)
+shared-slice-read-wide-2 c = omega (arith, Entry (c .before .before .before) .pre .0 .long)
 
 cast-cell-line : tie.Need-cast-cell-line Inv-loop μ-loop
-cast-cell-line c = let s = begin (c .before) in omega (arith, s .pre .0 .few, turn (c .before))
+cast-cell-line c = omega (arith, begin (c .before) .pre .0 .few, turn (c .before))
 
 mul-cell-line : tie.Need-mul-cell-line Inv-loop μ-loop
-mul-cell-line c = let s = begin (c .before) in omega (arith, bounds (c .before), s .good .1 .1 .1 .1 .0 .1)
+mul-cell-line c = omega (arith, bounds (c .before), begin (c .before) .good .1 .1 .1 .1 .0 .1)
 
 cell-line-requires : tie.Need-cell-line-requires Inv-loop μ-loop
 cell-line-requires c κs =
     let w = c .before .before in
-    let a = begin w .args in
     let l = w .before .before .before .before .before in
+    let a = begin w .args in
     subst (λ (z : List ℕ). HasRoom (l .loop .out) (l .loop .end) (cellLine (number w) z)) (sym (part w))
     (line-fits (l .loop .inv) (turn w) (zero-add (number w)) (subst (HasRoom (now (a .out)) (a .at)) (lines-are (now (a .offsets)) (now (a .cells)) (a .sites) 0) (begin w .pre .1)))
 
 add-i : tie.Need-add-i Inv-loop μ-loop
-add-i c = let w = c .before .before .before .before .before in let s = begin w in omega (arith, s .pre .0 .few, turn w)
+add-i c = let w = c .before .before .before .before .before in omega (arith, begin w .pre .0 .few, turn w)
 
 loop-again : tie.Need-loop-again Inv-loop μ-loop
 loop-again c =

@@ -10,15 +10,14 @@ use Rattle.cells.proofs.listing.counts_and_cells.Tie as tie
 cell-lines-requires : tie.Need-cell-lines-requires
 unfolding countsAndCells
 cell-lines-requires c κs =
-    let s = c .before .before .before .before .before .before .before .before .before in
+    let one = c .before .before .before .before in let s = one .before .before .before .before .before in
     rw (c .wide .ensures) (s .pre .0, omega (arith, simp length-append at (s .pre .1)))
 
 returns : tie.Need-returns
 unfolding countsAndCells
 returns c =
     let two = c .before .before in
-    let one = two .before .before .before .before .before in
-    wrote-then (one .counts .ensures) (rw (two .before .wide .ensures) at (two .cell-lines .ensures))
+    wrote-then (two .before .before .before .before .before .counts .ensures) (rw (two .before .wide .ensures) at (two .cell-lines .ensures))
 
 pub counts-and-cells-spec : {M : Type 1} → statement M
 unfolding countsAndCells

@@ -23,9 +23,7 @@ loop-holds : tie.Need-loop-holds Inv-loop μ-loop
 loop-holds c = let a = c .before .before .args in lined-start _ (length (now (a .list))) (now (a .out)) (a .at) (entries-none (now (a .list)))
 
 mul-entry : tie.Need-mul-entry Inv-loop μ-loop
-mul-entry c =
-    let at-good = c .before .before .before .before .before in
-    omega (arith, at-good .good .1 .1 .0)
+mul-entry c = let at-good = c .before .before .before .before .before in omega (arith, at-good .good .1 .1 .0)
 
 entry-requires : tie.Need-entry-requires Inv-loop μ-loop
 entry-requires c κs = let l = c .before .before .before in

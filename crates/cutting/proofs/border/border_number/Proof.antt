@@ -11,16 +11,19 @@ returns c =
     let a = c .before .before .before .before .before .before .before .args in
     no-way (a .b) (now (a .sites)) (now (a .triangles)) (now (a .hull)) (now (a .table)) (now (a .centers)) (c .before .first-undirected .ensures) (omega (arith, c .if1 .taken))
 
+abbrev Start : tie.Else1 → tie.Start
+Start c = c .before .before .before .before .before .before .before
+
 once-requires : tie.Need-once-requires
 once-requires c κs =
-    let a = c .before .before .before .before .before .before .before .before .args in
+    let a = Start (c .before) .args in
     let s = turns-small (a .b) (now (a .sites)) (now (a .triangles)) (now (a .hull)) (now (a .table)) (now (a .centers)) (length (now (a .hull))) in
     rw (c .border-turns .ensures) (omega (arith, s .1))
 
 returns-2 : tie.Need-returns-2
 returns-2 c =
     let f = c .before .before in
-    let a = f .before .before .before .before .before .before .before .args in
+    let a = Start f .args in
     by-turns (a .b) (now (a .sites)) (now (a .triangles)) (now (a .hull)) (now (a .table)) (now (a .centers)) (f .before .first-undirected .ensures) (λ h. omega (arith, f .if1 .left))
     (c .before .border-turns .ensures) (c .once .ensures)
 

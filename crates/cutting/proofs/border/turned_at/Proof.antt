@@ -5,7 +5,7 @@ use Rattle.cutting.proofs.border.turned_at.Statement.{statement}
 use Rattle.cutting.proofs.border.turned_at.Tie as tie
 
 turned-requires : tie.Need-turned-requires
-turned-requires c κs = c .before .before .before .before .before .before .before .before .before .before .before .before .pre
+turned-requires c κs = let w = c .before .before .before .before .before in w .before .before .before .before .before .before .before .pre
 
 returns : tie.Need-returns
 returns c =

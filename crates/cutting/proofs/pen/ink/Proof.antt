@@ -22,11 +22,11 @@ write-requires c κs = writable _ _ _ _ _ (sym (c .before .before .before .befor
 
 returns-2 : tie.Need-returns-2
 returns-2 c =
-    let a = c .before .before .before .before .before .before .before .before .before .before .before .before .args in
-    let w = c .before .before .before .before in
+    let w = c .before .before .before .before in let test = w .before .before .before .before in
+    let a = test .before .before .before .before .args in
     w .write .ensures
     ∙ ap (λ (n : ℕ). writtenAs n (page (a .pen) (now (a .vertices)) (now (a .indexes))) (a .p)) (w .before .before .before .number-for .ensures)
-    ∙ sym (inked-new _ _ _ _ _ (sym (w .before .before .before .before .before .repeats-last .ensures) ∙ w .before .before .before .before .if1 .left))
+    ∙ sym (inked-new _ _ _ _ _ (sym (test .before .repeats-last .ensures) ∙ test .if1 .left))
 
 pub ink-spec : {M : Type 1} → statement M
 ink-spec =

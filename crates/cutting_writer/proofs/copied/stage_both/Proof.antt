@@ -16,6 +16,16 @@ Inv-loop b he centers t n stage₀ first next₀ e₀ f₀ i₀ j₀ stage last 
 abbrev μ-loop : tie.MeasureT-loop
 μ-loop b he centers t n stage₀ first next₀ e₀ f₀ i₀ j₀ stage last next e f i j = j - i
 
+-- names for places on the way
+abbrev Entry : tie.At-loop Inv-loop μ-loop → tie.Start Inv-loop μ-loop
+Entry c = c .before .before .before .before
+
+abbrev Turn : tie.After-next Inv-loop μ-loop → tie.At-loop Inv-loop μ-loop
+Turn c = c .before .before .before .before .before .before
+
+abbrev Ended : tie.After-slice-known2 Inv-loop μ-loop → tie.At-loop Inv-loop μ-loop
+Ended c = c .before .before .before .before .before
+
 slice-write-stage : tie.Need-slice-write-stage Inv-loop μ-loop
 slice-write-stage c = let p = c .before .before .before .pre in omega (arith, p .many, p .room)
 
@@ -26,29 +36,29 @@ loop-holds c =
     (nearing-start (a .b) (now (a .halfedges)) (now (a .centers)) (a .t) (a .n) (a .first) (now (a .stage)) (s .pre), refl)
 
 -- the stage is as long as it was
-long : (c : tie.At-loop Inv-loop μ-loop) → length (c .loop .stage) ≡ length (now (c .before .before .before .before .args .stage))
-long c = let a = c .before .before .before .before .args in c .loop .inv .1 ∙ length-set (now (a .stage)) 0 (a .t / 3)
+long : (c : tie.At-loop Inv-loop μ-loop) → length (c .loop .stage) ≡ length (now (Entry c .args .stage))
+long c = let a = Entry c .args in c .loop .inv .1 ∙ length-set (now (a .stage)) 0 (a .t / 3)
 
 add-loop : tie.Need-add-loop Inv-loop μ-loop
 add-loop c =
-    let p = c .before .before .before .before .pre in
+    let p = Entry c .pre in
     omega (arith, c .loop .inv .0 .sum, c .loop .inv .0 .order, p .few, p .steps .small)
 
 step-both-requires : tie.Need-step-both-requires Inv-loop μ-loop
 step-both-requires c κs =
     let n = c .before .loop .inv .0 in
-    (c .before .before .before .before .before .pre .steps, n .on .scan .here, n .back .there)
+    (Entry (c .before) .pre .steps, n .on .scan .here, n .back .there)
 
 same-length : tie.Need-same-length Inv-loop μ-loop
 same-length c = long (c .before .before .before .before)
 
 -- there is room at both ends
-rooms : (c : tie.After-next Inv-loop μ-loop) → let l = c .before .before .before .before .before .before .loop in (l .i < length (l .stage)) × (l .j - 1 < length (l .stage))
+rooms : (c : tie.After-next Inv-loop μ-loop) → let l = Turn c .loop in (l .i < length (l .stage)) × (l .j - 1 < length (l .stage))
 rooms c =
-    let l = c .before .before .before .before .before .before in
+    let l = Turn c in
     let n = l .loop .inv .0 in
     let more = c .before .before .before .before .before .loop-test .taken in
-    let room = c .before .before .before .before .before .before .before .before .before .before .pre .room in
+    let room = Entry l .pre .room in
     (omega (arith, n .sum, n .on .some, more, long l, room), omega (arith, n .sum, n .on .some, more, long l, room))
 
 sub-j : tie.Need-sub-j Inv-loop μ-loop
@@ -60,8 +70,8 @@ mul-stage c = omega (arith, rooms c .0)
 slice-write-stage-2 : tie.Need-slice-write-stage-2 Inv-loop μ-loop
 slice-write-stage-2 c = omega (arith, rooms c .0)
 
-long-2 : (c : tie.After-next Inv-loop μ-loop) → let l = c .before .before .before .before .before .before .loop in (q : ℕ) → length (set (l .stage) (l .i) q) ≡ length (l .stage)
-long-2 c q = let l = c .before .before .before .before .before .before .loop in length-set (l .stage) (l .i) q
+long-2 : (c : tie.After-next Inv-loop μ-loop) → let l = Turn c .loop in (q : ℕ) → length (set (l .stage) (l .i) q) ≡ length (l .stage)
+long-2 c q = let l = Turn c .loop in length-set (l .stage) (l .i) q
 
 mul-stage-2 : tie.Need-mul-stage-2 Inv-loop μ-loop
 mul-stage-2 c = omega (arith, rooms c .1)
@@ -77,12 +87,12 @@ loop-less c = omega (arith, c .before .before .before .before .before .loop-test
 
 loop-again : tie.Need-loop-again Inv-loop μ-loop
 loop-again c =
-    let a = c .before .before .before .before .before .before .before .before .before .before .args in
-    let p = c .before .before .before .before .before .before .before .before .before .before .pre in
-    let l = c .before .before .before .before .before .before .loop in
+    let a = Entry (Turn c) .args in
+    let p = Entry (Turn c) .pre in
+    let l = Turn c .loop in
     let r = c .before .before .before .before .step-both .result in (
       nearing-step (a .b) (now (a .halfedges)) (now (a .centers)) (a .t) (a .n) (a .first) (l .stage) (l .i) (l .e) (l .last) (l .j) (l .f) (l .next) (l .inv .0) (p .few)
-          (omega (arith, p .room, long (c .before .before .before .before .before .before))) (c .before .before .before .before .before .loop-test .taken) (r .e) (r .last) (r .f) (r .next)
+          (omega (arith, p .room, long (Turn c))) (c .before .before .before .before .before .loop-test .taken) (r .e) (r .last) (r .f) (r .next)
           (c .before .before .before .before .step-both .ensures (said-yes _ _ refl (c .before .before .if1 .left))),
       length-set (set (l .stage) (l .i) (r .e / 3)) (l .j - 1) (r .f / 3) ∙ length-set (l .stage) (l .i) (r .e / 3) ∙ l .inv .1,
     )
@@ -90,7 +100,7 @@ loop-again c =
 meet-requires : tie.Need-meet-requires Inv-loop μ-loop
 meet-requires c κs =
     let n = c .before .before .loop .inv .0 in
-    let p = c .before .before .before .before .before .before .pre in (
+    let p = Entry (c .before .before) .pre in (
       p .steps,
       n .on .scan .here,
       omega (arith, n .sum, n .order, p .many, p .few),
@@ -98,15 +108,15 @@ meet-requires c κs =
     )
 
 same-length-2 : tie.Need-same-length-2 Inv-loop μ-loop
-same-length-2 c = c .before .stage .given ∙ long (c .before .before .before .before .before)
+same-length-2 c = c .before .stage .given ∙ long (Ended c)
 
 returns-2 : tie.Need-returns-2 Inv-loop μ-loop
 returns-2 c = λ z.
-    let a = c .before .before .before .before .before .before .before .before .before .args in
-    let p = c .before .before .before .before .before .before .before .before .before .pre in
-    let l = c .before .before .before .before .before .loop in
+    let a = Entry (Ended c) .args in
+    let p = Entry (Ended c) .pre in
+    let l = Ended c .loop in
     met-round (a .b) (now (a .halfedges)) (now (a .centers)) (a .t) (a .n) (a .first) (l .stage) (l .i) (l .e) (l .last) (l .j) (l .f) (l .next) (l .inv .0) (p .few)
-    (omega (arith, p .room, long (c .before .before .before .before .before))) (omega (arith, c .before .before .before .before .loop-test .left)) (p .many) _
+    (omega (arith, p .room, long (Ended c))) (omega (arith, c .before .before .before .before .loop-test .left)) (p .many) _
     (c .before .before .meet .ensures z) (p .steps .thirds)
 
 pub stage-both-spec : {M : Type 1} → statement M

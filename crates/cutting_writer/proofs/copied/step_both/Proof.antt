@@ -13,63 +13,6 @@ use native.Mathlib.Omega.{arith}
 use Rattle.cutting_writer.proofs.copied.step_both.Statement.{statement}
 use Rattle.cutting_writer.proofs.copied.step_both.Tie as tie
 
-next-halfedge-requires : tie.Need-next-halfedge-requires
-next-halfedge-requires c κs = omega (arith, c .wide .ensures)
-
-mul-a : tie.Need-mul-a
-mul-a c =
-    let p = c .before .before .before .before .pre in
-    omega (arith, c .next-halfedge .ensures, c .before .wide .ensures, next-sum (c .before .wide .result), p .0 .small, p .1)
-
-shared-slice-read-a : tie.Need-shared-slice-read-a
-shared-slice-read-a c = omega (
-  arith,
-  c .before .next-halfedge .ensures,
-  c .before .before .wide .ensures,
-  next-sum (c .before .before .wide .result),
-  c .before .before .before .before .before .pre .0 .thirds,
-  c .before .before .before .before .before .pre .1,
-)
-
-mul-p : tie.Need-mul-p
-mul-p c = omega (arith, c .wide2 .ensures, c .before .before .before .before .before .before .pre .0 .small, c .before .before .before .before .before .before .pre .2)
-
-shared-slice-read-p : tie.Need-shared-slice-read-p
-shared-slice-read-p c = omega (arith, c .before .wide2 .ensures, c .before .before .before .before .before .before .before .pre .2)
-
-previous-requires : tie.Need-previous-requires
-previous-requires c κs = omega (arith, c .if2 .left, c .before .wide4 .ensures, c .before .before .before .before .before .before .before .before .before .before .before .pre .0 .small)
-
-point-at-requires : tie.Need-point-at-requires
-point-at-requires c κs = omega (
-  arith,
-  c .wide5 .ensures,
-  c .before .before .before .before .if1 .left,
-  c .before .before .before .before .before .wide3 .ensures,
-  c .before .before .before .before .before .before .before .before .before .before .before .before .before .pre .0 .thirds,
-  c .before .before .before .before .before .before .before .before .before .before .before .before .before .pre .0 .room,
-)
-
-point-at-requires-2 : tie.Need-point-at-requires-2
-point-at-requires-2 c κs = omega (
-  arith,
-  c .wide6 .ensures,
-  c .before .before .before .before .if2 .left,
-  c .before .before .before .before .before .wide4 .ensures,
-  c .before .before .before .before .before .before .before .before .before .before .before .before .before .before .before .pre .0 .thirds,
-  c .before .before .before .before .before .before .before .before .before .before .before .before .before .before .before .pre .0 .room,
-)
-
-mul-if5 : tie.Need-mul-if5
-mul-if5 c =
-    let k = c .before .before .before .before .before .before .before .before in
-    omega (arith, c .wide7 .ensures, k .if2 .left, k .before .wide4 .ensures, k .before .before .before .before .before .before .before .before .before .before .before .pre .0 .small)
-
-shared-slice-read-if5 : tie.Need-shared-slice-read-if5
-shared-slice-read-if5 c =
-    let k = c .before .before .before .before .before .before .before .before .before in
-    omega (arith, c .before .wide7 .ensures, k .if2 .left, k .before .wide4 .ensures, k .before .before .before .before .before .before .before .before .before .before .before .pre .0 .small)
-
 -- names for places on the way
 abbrev Tested : tie.Else7 → tie.Else5
 Tested c = c .before .before .before .before .before .before
@@ -83,6 +26,58 @@ Known c = c .before .before .before .before .before
 abbrev Read : tie.Else2 → tie.After-next-halfedge
 Read c = c .before .before .before .before .before .before .before
 
+abbrev Entry : tie.After-next-halfedge → tie.Start
+Entry c = c .before .before .before .before
+
+next-halfedge-requires : tie.Need-next-halfedge-requires
+next-halfedge-requires c κs = omega (arith, c .wide .ensures)
+
+mul-a : tie.Need-mul-a
+mul-a c =
+    let p = Entry c .pre in
+    omega (arith, c .next-halfedge .ensures, c .before .wide .ensures, next-sum (c .before .wide .result), p .0 .small, p .1)
+
+shared-slice-read-a : tie.Need-shared-slice-read-a
+shared-slice-read-a c = omega (
+  arith,
+  c .before .next-halfedge .ensures,
+  c .before .before .wide .ensures,
+  next-sum (c .before .before .wide .result),
+  Entry (c .before) .pre .0 .thirds,
+  Entry (c .before) .pre .1,
+)
+
+mul-p : tie.Need-mul-p
+mul-p c = omega (arith, c .wide2 .ensures, Entry (c .before .before) .pre .0 .small, Entry (c .before .before) .pre .2)
+
+shared-slice-read-p : tie.Need-shared-slice-read-p
+shared-slice-read-p c = omega (arith, c .before .wide2 .ensures, Entry (c .before .before .before) .pre .2)
+
+previous-requires : tie.Need-previous-requires
+previous-requires c κs = omega (arith, c .if2 .left, c .before .wide4 .ensures, Entry (Read c) .pre .0 .small)
+
+point-at-requires : tie.Need-point-at-requires
+point-at-requires c κs =
+    let k = c .before .before in
+    let p = Entry (Read k) .pre .0 in
+    omega (arith, c .wide5 .ensures, k .before .before .if1 .left, k .before .before .before .wide3 .ensures, p .thirds, p .room)
+
+point-at-requires-2 : tie.Need-point-at-requires-2
+point-at-requires-2 c κs =
+    let k = c .before .before .before .before in
+    let p = Entry (Read k) .pre .0 in
+    omega (arith, c .wide6 .ensures, k .if2 .left, k .before .wide4 .ensures, p .thirds, p .room)
+
+mul-if5 : tie.Need-mul-if5
+mul-if5 c =
+    let k = Known (c .before .before .before) in
+    omega (arith, c .wide7 .ensures, k .if2 .left, k .before .wide4 .ensures, Entry (Read k) .pre .0 .small)
+
+shared-slice-read-if5 : tie.Need-shared-slice-read-if5
+shared-slice-read-if5 c =
+    let k = Known (c .before .before .before .before) in
+    omega (arith, c .before .wide7 .ensures, k .if2 .left, k .before .wide4 .ensures, Entry (Read k) .pre .0 .small)
+
 returns-8 : tie.Need-returns-8
 returns-8 c = λ _.
     let d = c .before .before in
@@ -91,7 +86,7 @@ returns-8 c = λ _.
     let s = Seen g in
     let k = Known s in
     let r = Read k in
-    let a = r .before .before .before .before .args in
+    let a = Entry r .args in
     let he = now (a .halfedges) in
     let at = pointAt (now (a .centers)) in
     let back = s .before .before .before .before .previous .ensures in
@@ -109,7 +104,7 @@ returns-8 c = λ _.
       };
       back = record {
         other = g .before .before .before .if4 .left;
-        there = omega (arith, k .if2 .left, k .before .wide4 .ensures, back .1, r .before .before .before .before .pre .0 .thirds);
+        there = omega (arith, k .if2 .left, k .before .wide4 .ensures, back .1, Entry r .pre .0 .thirds);
         here = s .point-at2 .ensures ∙ ap at (s .before .wide6 .ensures ∙ sym (back .1));
         inside = sym (d .before .before .is-inside2 .ensures)
             ∙ and-right (i .is-inside .result) (d .before .before .is-inside2 .result) both;

@@ -26,15 +26,14 @@ abbrev μ-loop : tie.MeasureT-loop
 μ-loop out₀ at sites vertices offsets indexes end₀ i₀ out end i = sites - i
 
 -- in a turn: the function's entry, its lists, the cell's number, and the part that its two offsets name
+abbrev Entry : tie.In-loop Inv-loop μ-loop → tie.Start Inv-loop μ-loop
+Entry c = c .before .before .before .before .before .before
+
 abbrev begin : tie.After-wide2 Inv-loop μ-loop → tie.Start Inv-loop μ-loop
-begin c =
-    let start = c .before .before .before .before .before .before .before .before .before .before in
-    start
+begin c = Entry (c .before .before .before .before)
 
 abbrev number : tie.After-wide2 Inv-loop μ-loop → ℕ
-number c =
-    let start = c .before .before .before .before .before in
-    let l = start in l .loop .i
+number c = c .before .before .before .before .before .loop .i
 
 abbrev off : tie.After-wide2 Inv-loop μ-loop → List ℕ
 off c = now (begin c .args .offsets)
@@ -46,9 +45,7 @@ abbrev vs : tie.After-wide2 Inv-loop μ-loop → List ℕ
 vs c = patterns (now (begin c .args .vertices))
 
 turn : (c : tie.After-wide2 Inv-loop μ-loop) → number c < begin c .args .sites
-turn c =
-    let at-loop-test = c .before .before .before .before in
-    at-loop-test .loop-test .taken
+turn c = c .before .before .before .before .loop-test .taken
 
 bounds : (c : tie.After-wide2 Inv-loop μ-loop) → (c .before .before .wide .result ≤ c .wide2 .result) × (c .wide2 .result ≤ length (ix c))
 bounds c = part-bounds (begin c .pre .0 .layout) (turn c) (c .before .before .wide .ensures) (c .wide2 .ensures)
@@ -58,56 +55,45 @@ part c = part-is (begin c .pre .0 .layout) (turn c) (c .before .before .wide .en
 
 loop-holds : tie.Need-loop-holds Inv-loop μ-loop
 loop-holds c =
-    let start = c .before .before .before .before in
-    let a = start .args in
+    let a = c .before .before .before .before .args in
     lined-start _ (a .sites) (now (a .out)) (a .at) refl
 
 mul-wide : tie.Need-mul-wide Inv-loop μ-loop
-mul-wide c =
-    let start = c .before .before .before .before .before .before in
-    omega (arith, start .pre .0 .layout .long, start .good .1 .1 .1 .1 .0 .1)
+mul-wide c = omega (arith, Entry c .pre .0 .layout .long, Entry c .good .1 .1 .1 .1 .0 .1)
 
 shared-slice-read-wide : tie.Need-shared-slice-read-wide Inv-loop μ-loop
-shared-slice-read-wide c =
-    let start = c .before .before .before .before .before .before .before in
-    omega (arith, start .pre .0 .layout .long)
+shared-slice-read-wide c = omega (arith, Entry (c .before) .pre .0 .layout .long)
 
 add-wide : tie.Need-add-wide Inv-loop μ-loop
-add-wide c =
-    let start = c .before .before .before .before .before .before .before .before in
-    omega (arith, start .pre .0 .layout .few)
+add-wide c = omega (arith, Entry (c .before .before) .pre .0 .layout .few)
 
 mul-wide-2 : tie.Need-mul-wide-2 Inv-loop μ-loop
-mul-wide-2 c =
-    let start = c .before .before .before .before .before .before .before .before in
-    omega (arith, start .pre .0 .layout .long, start .good .1 .1 .1 .1 .0 .1)
+mul-wide-2 c = omega (arith, Entry (c .before .before) .pre .0 .layout .long, Entry (c .before .before) .good .1 .1 .1 .1 .0 .1)
 
 shared-slice-read-wide-2 : tie.Need-shared-slice-read-wide-2 Inv-loop μ-loop
-shared-slice-read-wide-2 c =
-    let start = c .before .before .before .before .before .before .before .before .before in
-    omega (arith, start .pre .0 .layout .long)
+shared-slice-read-wide-2 c = omega (arith, Entry (c .before .before .before) .pre .0 .layout .long)
 
 cast-cell-line : tie.Need-cast-cell-line Inv-loop μ-loop
-cast-cell-line c = let s = begin (c .before) in omega (arith, s .pre .0 .layout .few, turn (c .before))
+cast-cell-line c = omega (arith, begin (c .before) .pre .0 .layout .few, turn (c .before))
 
 mul-cell-line : tie.Need-mul-cell-line Inv-loop μ-loop
-mul-cell-line c = let s = begin (c .before) in omega (arith, bounds (c .before), s .good .1 .1 .1 .1 .1 .0 .1)
+mul-cell-line c = omega (arith, bounds (c .before), begin (c .before) .good .1 .1 .1 .1 .1 .0 .1)
 
 cell-line-requires : tie.Need-cell-line-requires Inv-loop μ-loop
 cell-line-requires c κs =
     let w = c .before .before in
-    let s = begin w in
-    let l = w .before .before .before .before .before in
+    let start = begin w in
     rw (part w) (
-      s .pre .0 .named (number w) (turn w),
-      s .pre .0 .short (number w) (turn w),
-      line-fits (l .loop .inv) (turn w) (zero-add (number w)) (subst (HasRoom (now (s .args .out)) (s .args .at)) (lines-are (vs w) (off w) (ix w) (s .args .sites) 0) (s .pre .1)),
+      start .pre .0 .named (number w) (turn w),
+      start .pre .0 .short (number w) (turn w),
+      line-fits (w .before .before .before .before .before .loop .inv) (turn w) (zero-add (number w))
+          (subst (HasRoom (now (start .args .out)) (start .args .at)) (lines-are (vs w) (off w) (ix w) (start .args .sites) 0) (start .pre .1)),
     )
 
 add-i : tie.Need-add-i Inv-loop μ-loop
 add-i c =
-    let start = c .before .before .before .before .before in
-    let w = start in let s = begin w in omega (arith, s .pre .0 .layout .few, turn w)
+    let w = c .before .before .before .before .before in
+    omega (arith, begin w .pre .0 .layout .few, turn w)
 
 loop-again : tie.Need-loop-again Inv-loop μ-loop
 loop-again c =

@@ -7,13 +7,18 @@ use borrow.Author.Needs.{needs}
 use Rattle.form.proofs.mesh.read.Statement.{statement}
 use Rattle.form.proofs.mesh.read.Tie as tie
 
+abbrev Read : tie.After-mesh-parts → tie.After-read
+Read c = c .before .before .before .before .before .before .before .before .before .before
+
+abbrev Known : tie.After-read → tie.After-shared-slice-known
+Known c = c .before .before .before .before .before .before .before .before .before .before
+
 returns : tie.Need-returns
 returns c =
-    let at-read = c .before .before .before .before .before .before .before .before .before .before in
-    let at-known = at-read .before .before .before .before .before .before .before .before .before .before in
-    let s = at-known .before in
+    let k = Known (Read c) in
+    let s = k .before in
     rw (c .mesh-parts .ensures)
-    (mesh-read (at-read .read .ensures) (bytes (now (s .args .bytes)) (λ i. omega (arith, at-known .shared-slice-known .given i)))
+    (mesh-read (Read c .read .ensures) (bytes (now (s .args .bytes)) (λ i. omega (arith, k .shared-slice-known .given i)))
     (record { bounds = omega arith; sites = s .pre .sites; triangles = s .pre .triangles; halfedges = s .pre .halfedges; hull = s .pre .hull }))
 
 pub read-spec : {M : Type 1} → statement M

@@ -17,24 +17,16 @@ loop-holds : tie.Need-loop-holds Inv-loop μ-loop
 loop-holds c = (search needs, below-none _)
 
 mul-m : tie.Need-mul-m Inv-loop μ-loop
-mul-m c =
-    let at-start = c .before .before .before .before .before .before in
-    record { fits = omega (arith, at-start .pre .1 (c .before .before .before .loop .i) (omega arith)) }
+mul-m c = record { fits = omega (arith, c .before .before .before .before .before .before .pre .1 (c .before .before .before .loop .i) (omega arith)) }
 
 shared-slice-read-m : tie.Need-shared-slice-read-m Inv-loop μ-loop
-shared-slice-read-m c =
-    let at-start = c .before .before .before .before .before .before .before in
-    omega (arith, at-start .pre .1 (c .before .before .before .before .loop .i) (omega arith))
+shared-slice-read-m c = omega (arith, c .before .before .before .before .before .before .before .pre .1 (c .before .before .before .before .loop .i) (omega arith))
 
 returns : tie.Need-returns Inv-loop μ-loop
-returns c =
-    let at-loop = c .before .before .before .before .before in
-    record { within = omega arith; before = at-loop .loop .inv .1; at = λ _. rw (← c .before .before .wide .ensures) (c .if1 .taken) }
+returns c = record { within = omega arith; before = c .before .before .before .before .before .loop .inv .1; at = λ _. rw (← c .before .before .wide .ensures) (c .if1 .taken) }
 
 loop-again : tie.Need-loop-again Inv-loop μ-loop
-loop-again c =
-    let at-loop = c .before .before .before .before .before in
-    (omega arith, below-more _ _ (at-loop .loop .inv .1) (rw (← c .before .before .wide .ensures) (c .if1 .left)))
+loop-again c = (omega arith, below-more _ _ (c .before .before .before .before .before .loop .inv .1) (rw (← c .before .before .wide .ensures) (c .if1 .left)))
 
 pub first-kept-spec : {M : Type 1} → statement M
 first-kept-spec =

@@ -26,13 +26,12 @@ returns-2 : tie.Need-returns-2 Inv-loop μ-loop
 returns-2 c =
     let at-loop = c .before .before .before .before .before .before in
     let l = at-loop .loop in
-    let k = c .before .before .before .before .before .before .before .before .before in
+    let k = at-loop .before .before .before in
     (twice _ _ _ _ _ _ (l .inv) (omega arith) (omega arith) (omega arith) (c .before .before .before .wide .ensures) (omega arith) (c .if2 .taken), rw (← k .clear .kept .0) (l .inv .marks))
 
 loop-again : tie.Need-loop-again Inv-loop μ-loop
 loop-again c =
-    let at-loop = c .before .before .before .before .before .before in
-    let l = at-loop .loop in
+    let l = c .before .before .before .before .before .before .loop in
     marking-step _ _ _ _ _ _ (l .inv) (omega arith) (omega arith) (omega arith) (c .before .before .before .wide .ensures) (omega arith) (c .if2 .left)
 
 returns-3 : tie.Need-returns-3 Inv-loop μ-loop

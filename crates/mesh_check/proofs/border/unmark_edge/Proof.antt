@@ -6,9 +6,9 @@ use Rattle.mesh_check.proofs.border.unmark_edge.Tie as tie
 
 returns : tie.Need-returns
 returns c =
-    let u = c .before .before .before .unmark-one in
-    let s = c .before .before .before .before .before .before .before .before .before in
-    λ t g. unmarking-step _ _ _ t _ _ _ _ g (s .pre .2) (u .kept .1 .1 .1 .0) (u .ensures .0) _ _ (u .ensures .1) (c .lowest .ensures)
+    let at-unmark-one = c .before .before .before in
+    let u = at-unmark-one .unmark-one in
+    λ t g. unmarking-step _ _ _ t _ _ _ _ g (at-unmark-one .before .before .before .before .before .before .pre .2) (u .kept .1 .1 .1 .0) (u .ensures .0) _ _ (u .ensures .1) (c .lowest .ensures)
 
 pub unmark-edge-spec : {M : Type 1} → statement M
 unmark-edge-spec = tie.close (tie.spec (λ c κs. search needs) (λ c κs. search needs) (λ c. search needs) returns)

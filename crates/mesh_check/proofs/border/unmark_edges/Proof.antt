@@ -6,33 +6,33 @@ use native.Mathlib.Omega.{arith}
 use Rattle.mesh_check.proofs.border.unmark_edges.Statement.{statement}
 use Rattle.mesh_check.proofs.border.unmark_edges.Tie as tie
 
+abbrev Start : tie.After-unmark-edge-arg2 → tie.Start
+Start c = c .before .before .before .before .before .before .before .before .before
+
 unmark-edge-requires : tie.Need-unmark-edge-requires
-unmark-edge-requires c κs =
-    let s = c .before .before .before .before .before in
-    (s .pre .0, s .pre .1, omega arith, s .pre .3 _ (omega arith))
+unmark-edge-requires c κs = let s = c .before .before .before .before .before in (s .pre .0, s .pre .1, omega arith, s .pre .3 _ (omega arith))
 
 unmark-edge-requires-2 : tie.Need-unmark-edge-requires-2
 unmark-edge-requires-2 c κs =
     let u = c .before .before .before .unmark-edge in
-    let s = c .before .before .before .before .before .before .before .before .before in
-    (s .pre .0, s .pre .1, omega arith, rw (u .kept .1 .1 .1 .0) (s .pre .3 _ (omega arith)))
+    (Start c .pre .0, Start c .pre .1, omega arith, rw (u .kept .1 .1 .1 .0) (Start c .pre .3 _ (omega arith)))
 
 unmark-edge-requires-3 : tie.Need-unmark-edge-requires-3
 unmark-edge-requires-3 c κs =
-    let u = c .before .before .before .unmark-edge2 in
-    let u1 = c .before .before .before .before .before .before .before .unmark-edge in
-    let s = c .before .before .before .before .before .before .before .before .before .before .before .before .before in
-    (s .pre .0, s .pre .1, omega arith, rw (u .kept .1 .1 .1 .0 ∙ u1 .kept .1 .1 .1 .0) (s .pre .3 _ (omega arith)))
+    let at-unmark-edge2 = c .before .before .before in
+    let u = at-unmark-edge2 .unmark-edge2 in
+    let s = Start (at-unmark-edge2 .before) in
+    (s .pre .0, s .pre .1, omega arith, rw (u .kept .1 .1 .1 .0 ∙ at-unmark-edge2 .before .before .before .before .unmark-edge .kept .1 .1 .1 .0) (s .pre .3 _ (omega arith)))
 
 returns : tie.Need-returns
 returns c =
+    let at-unmark-edge2 = c .before .before .before .before .before .before in
     let u = c .before .before .unmark-edge3 in
-    let u2 = c .before .before .before .before .before .before .unmark-edge2 in
-    let u1 = c .before .before .before .before .before .before .before .before .before .before .unmark-edge in
-    let t = c .before .before .before .before .before .before .before .before .before .before .before .before .before .before .before .before .args .t in
+    let u1 = at-unmark-edge2 .before .before .before .before .unmark-edge in
+    let t = Start (at-unmark-edge2 .before) .args .t in
     let q : 3 * t + 2 + 1 ≡ 3 * t + 3 = omega arith in
     let r : 3 * t + 1 + 1 ≡ 3 * t + 2 = omega arith in
-    λ m g. rw q at (u .ensures m (rw r at (u2 .ensures m (u1 .ensures m g))))
+    λ m g. rw q at (u .ensures m (rw r at (at-unmark-edge2 .unmark-edge2 .ensures m (u1 .ensures m g))))
 
 pub unmark-edges-spec : {M : Type 1} → statement M
 unmark-edges-spec =

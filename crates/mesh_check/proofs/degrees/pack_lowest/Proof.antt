@@ -17,19 +17,20 @@ Inv-loop triangles work₀ t₀ work t = (t ≤ length triangles / 3) × (length
 abbrev μ-loop : tie.MeasureT-loop
 μ-loop triangles work₀ t₀ work t = t
 
+abbrev Start : tie.After-slice-known2 Inv-loop μ-loop → tie.Start Inv-loop μ-loop
+Start c = c .before .before .before .before .before .before
+
 loop-holds : tie.Need-loop-holds Inv-loop μ-loop
 loop-holds c =
-    let s = c .before .before .before .before .before .before in
-    let tri = s .args .triangles .now in
+    let tri = Start c .args .triangles .now in
     let n = 3 * (length tri / 3) in
-    (search needs, refl, subst (λ w. Lowests tri n w) (sym (c .before .before .clear .ensures)) (lowest-start tri (length (s .args .work .now)) n (omega (arith, s .pre .0))))
+    (search needs, refl, subst (λ w. Lowests tri n w) (sym (c .before .before .clear .ensures)) (lowest-start tri (length (Start c .args .work .now)) n (omega (arith, Start c .pre .0))))
 
 pack-ends-requires : tie.Need-pack-ends-requires Inv-loop μ-loop
 pack-ends-requires c κs =
     let l = c .before .before .loop in
-    let s = c .before .before .before .before .before .before .before .before .before in
     let q : 3 * l .t ≡ 3 * (l .t - 1) + 3 = omega arith in
-    (s .pre .1, λ k h. omega (arith, s .pre .2 k h, l .inv .1), omega arith, rw q at (l .inv .2))
+    (Start (c .before .before .before) .pre .1, λ k h. omega (arith, Start (c .before .before .before) .pre .2 k h, l .inv .1), omega arith, rw q at (l .inv .2))
 
 loop-again : tie.Need-loop-again Inv-loop μ-loop
 loop-again c =
@@ -39,7 +40,7 @@ loop-again c =
 returns-2 : tie.Need-returns-2 Inv-loop μ-loop
 returns-2 c =
     let h : 3 * c .before .loop .t ≡ 0 = omega arith in
-    λ _. subst (λ k. Lowests (c .before .before .before .before .before .before .before .before .args .triangles .now) k (c .before .loop .work)) h (c .before .loop .inv .2)
+    λ _. subst (λ k. Lowests (Start (c .before .before) .args .triangles .now) k (c .before .loop .work)) h (c .before .loop .inv .2)
 
 pub pack-lowest-spec : {M : Type 1} → statement M
 pack-lowest-spec =

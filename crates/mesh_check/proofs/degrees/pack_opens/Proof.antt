@@ -7,32 +7,31 @@ use Rattle.mesh_check.specs.pairing.laws.Threes.{first-next, second-next
 use Rattle.mesh_check.proofs.degrees.pack_opens.Statement.{statement}
 use Rattle.mesh_check.proofs.degrees.pack_opens.Tie as tie
 
+abbrev Start : tie.After-pack-open-arg2 → tie.Start
+Start c = c .before .before .before .before .before .before .before .before
+
 pack-open-requires : tie.Need-pack-open-requires
-pack-open-requires c κs =
-    let s = c .before .before .before .before in
-    (s .pre .0, s .pre .1, omega arith, omega arith, first-next (s .args .t), s .pre .2 _ (omega arith), s .pre .4)
+pack-open-requires c κs = let s = c .before .before .before .before in (s .pre .0, s .pre .1, omega arith, omega arith, first-next (s .args .t), s .pre .2 _ (omega arith), s .pre .4)
 
 pack-open-requires-2 : tie.Need-pack-open-requires-2
 pack-open-requires-2 c κs =
     let p = c .before .before .before .pack-open in
-    let s = c .before .before .before .before .before .before .before .before in
-    (s .pre .0, s .pre .1, omega arith, omega arith, second-next (s .args .t), rw (p .kept .1 .1 .0) (s .pre .2 _ (omega arith)), p .ensures)
+    (Start c .pre .0, Start c .pre .1, omega arith, omega arith, second-next (Start c .args .t), rw (p .kept .1 .1 .0) (Start c .pre .2 _ (omega arith)), p .ensures)
 
 pack-open-requires-3 : tie.Need-pack-open-requires-3
 pack-open-requires-3 c κs =
+    let s = Start (c .before .before .before .before) in
     let p = c .before .before .before .pack-open2 in
     let p1 = c .before .before .before .before .before .before .before .pack-open in
-    let s = c .before .before .before .before .before .before .before .before .before .before .before .before in
     let t = s .args .t in
     let q : 3 * t + 1 + 1 ≡ 3 * t + 2 = omega arith in
     (s .pre .0, s .pre .1, omega arith, omega arith, third-next t, rw (p .kept .1 .1 .0 ∙ p1 .kept .1 .1 .0) (s .pre .2 _ (omega arith)), rw q at (p .ensures))
 
 returns : tie.Need-returns
 returns c =
-    let p = c .before .before .pack-open3 in
-    let t = c .before .before .before .before .before .before .before .before .before .before .before .before .before .before .before .args .t in
+    let t = Start (c .before .before .before .before .before .before .before) .args .t in
     let q : 3 * t + 2 + 1 ≡ 3 * t + 3 = omega arith in
-    rw q at (p .ensures)
+    rw q at (c .before .before .pack-open3 .ensures)
 
 pub pack-opens-spec : {M : Type 1} → statement M
 pack-opens-spec =

@@ -18,31 +18,33 @@ Inv-loop halfedges t d e₀ n₀ e n = (2 ≤ n) × (n ≤ length halfedges) × 
 abbrev μ-loop : tie.MeasureT-loop
 μ-loop halfedges t d e₀ n₀ e n = d - n
 
+abbrev Start : tie.Joined3 Inv-loop μ-loop → tie.Start Inv-loop μ-loop
+Start c = c .before .before .before .before .before .before
+
 returns-3 : tie.Need-returns-3 Inv-loop μ-loop
 returns-3 c =
-    let w = c .before .before .before .before .before .wide in
-    let s = c .before .before .before .before .before .before .before in
-    let he = s .args .halfedges .now in
-    λ _. omega (arith, counted-on he (s .args .t) (w .result) 0 (rw (w .ensures) (counting-start he (s .args .t))) (omega arith) (omega arith))
+    let at-wide = c .before .before .before .before .before in
+    let w = at-wide .wide in
+    let he = at-wide .before .before .args .halfedges .now in
+    λ _. omega (arith, counted-on he (at-wide .before .before .args .t) (w .result) 0 (rw (w .ensures) (counting-start he (at-wide .before .before .args .t))) (omega arith) (omega arith))
 
 loop-holds : tie.Need-loop-holds Inv-loop μ-loop
 loop-holds c =
     let w = c .before .before .before .before .wide in
-    let s = c .before .before .before .before .before .before in
-    let he = s .args .halfedges .now in (
+    let he = Start c .args .halfedges .now in (
       omega arith,
-      omega (arith, s .pre),
+      omega (arith, Start c .pre),
       ⊎-elim (λ a. omega (arith, a .4 .left, a .5)) (λ a. omega (arith, a .1)) (c .if3 .came),
       ⊎-elim
-          (λ a. counting-first he (s .args .t) (w .result) _ (w .ensures) (omega arith) (a .0 .taken) (a .5 ∙ a .3 .ensures ∙ a .2 .ensures))
-          (λ a. counting-there he (s .args .t) (w .result) _ (w .ensures) (a .0 .left) (a .1))
+          (λ a. counting-first he (Start c .args .t) (w .result) _ (w .ensures) (omega arith) (a .0 .taken) (a .5 ∙ a .3 .ensures ∙ a .2 .ensures))
+          (λ a. counting-there he (Start c .args .t) (w .result) _ (w .ensures) (a .0 .left) (a .1))
           (c .if3 .came),
     )
 
 loop-again : tie.Need-loop-again Inv-loop μ-loop
 loop-again c =
+    let s = Start (c .before .before .before .before .before) in
     let l = c .before .before .before .before .loop in
-    let s = c .before .before .before .before .before .before .before .before .before .before .before in
     let x = spare (s .args .halfedges .now) (s .args .t) in
     let k = spare-one (s .args .halfedges .now) (s .args .t) in
     let q : l .n + 1 - 1 - x ≡ l .n - 1 - x + 1 = omega arith in
@@ -51,8 +53,7 @@ loop-again c =
 returns-6 : tie.Need-returns-6 Inv-loop μ-loop
 returns-6 c =
     let l = c .before .loop in
-    let s = c .before .before .before .before .before .before .before .before in
-    let k = spare-one (s .args .halfedges .now) (s .args .t) in
+    let k = spare-one (Start (c .before .before) .args .halfedges .now) (Start (c .before .before) .args .t) in
     λ _. omega (arith, counted-on _ _ _ _ (l .inv .3) (omega arith) (l .inv .2))
 
 pub reaches-spec : {M : Type 1} → statement M

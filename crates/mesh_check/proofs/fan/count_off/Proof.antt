@@ -36,8 +36,7 @@ slice-write-work c = omega (arith, in-work (c .before .before .before .before))
 
 loop-again : tie.Need-loop-again Inv-loop μ-loop
 loop-again c =
-    let at-loop = c .before .before .before .before .before in
-    let l = at-loop .loop in
+    let l = c .before .before .before .before .before .loop in
     (omega arith, length-set (l .work) _ _ ∙ l .inv .1, owed-next _ _ _ _ _ _ _ (l .inv .2) (c .before .before .wide .ensures) (c .before .before .before .end-site .ensures) (c .less .ensures))
 
 returns : tie.Need-returns Inv-loop μ-loop

@@ -19,13 +19,11 @@ loop-holds c = (search needs, below-none _)
 
 returns : tie.Need-returns Inv-loop μ-loop
 returns c =
-    let at-loop = c .before .before .before .before .before .before in
-    record { within = omega arith; before = at-loop .loop .inv .1; at = λ _. refused (c .before .sound .result) (c .if1 .taken) (c .before .sound .ensures) }
+    let l = c .before .before .before .before .before .before .loop in
+    record { within = omega arith; before = l .inv .1; at = λ _. refused (c .before .sound .result) (c .if1 .taken) (c .before .sound .ensures) }
 
 loop-again : tie.Need-loop-again Inv-loop μ-loop
-loop-again c =
-    let at-loop = c .before .before .before .before .before .before in
-    (search needs, below-more _ _ (at-loop .loop .inv .1) (granted (c .before .sound .result) (c .if1 .left) (c .before .sound .ensures)))
+loop-again c = (search needs, below-more _ _ (c .before .before .before .before .before .before .loop .inv .1) (granted (c .before .sound .result) (c .if1 .left) (c .before .sound .ensures)))
 
 pub check-triangles-spec : {M : Type 1} → statement M
 check-triangles-spec =

@@ -16,12 +16,11 @@ cast-k c = omega (arith, c .before .shared-slice-known3 .given (c .before .befor
 
 returns-4 : tie.Need-returns-4
 returns-4 c =
-    let at-if3 = c .before in
-    let s = at-if3 .before .before .before .before .before .before .before .before in
+    let at-wide = c .before .before in
     λ h. inr (record {
       inside = omega arith;
-      back = sym (at-if3 .before .wide .ensures) ∙ at-if3 .if3 .left;
-      from = eqb-true _ _ h ∙ s .pre .2;
+      back = sym (at-wide .wide .ensures) ∙ c .before .if3 .left;
+      from = eqb-true _ _ h ∙ at-wide .before .before .before .before .before .before .before .pre .2;
     })
 
 pub half-paired-spec : {M : Type 1} → statement M

@@ -9,26 +9,25 @@ use Rattle.mesh_check.specs.pairing.laws.Threes.{first-next, second-next
 use Rattle.mesh_check.proofs.pairing.three_half_paired.Statement.{statement}
 use Rattle.mesh_check.proofs.pairing.three_half_paired.Tie as tie
 
+abbrev Start : tie.After-shared-slice-known5 → tie.Start
+Start c = c .before .before .before .before .before
+
 half-paired-requires : tie.Need-half-paired-requires
-half-paired-requires c κs =
-    let s = c .before .before .before .before .before in
-    (s .pre .0, omega arith, ap (λ k. getD (s .args .triangles .now) k 0) (first-next (s .args .t)))
+half-paired-requires c κs = (Start c .pre .0, omega arith, ap (λ k. getD (Start c .args .triangles .now) k 0) (first-next (Start c .args .t)))
 
 half-paired-requires-2 : tie.Need-half-paired-requires-2
 half-paired-requires-2 c κs =
-    let s = c .before .before .before .before .before .before .before in
-    (s .pre .0, omega arith, ap (λ k. getD (s .args .triangles .now) k 0) (second-next (s .args .t)))
+    (Start (c .before .before) .pre .0, omega arith, ap (λ k. getD (Start (c .before .before) .args .triangles .now) k 0) (second-next (Start (c .before .before) .args .t)))
 
 half-paired-requires-3 : tie.Need-half-paired-requires-3
 half-paired-requires-3 c κs =
-    let s = c .before .before .before .before .before .before .before .before .before in
+    let s = Start (c .before .before .before .before) in
     (s .pre .0, omega arith, ap (λ k. getD (s .args .triangles .now) k 0) (third-next (s .args .t)))
 
 returns-3 : tie.Need-returns-3
 returns-3 c =
-    let at-if2 = c .before in
-    let at-if1 = at-if2 .before .before in
-    λ h. (at-if1 .before .half-paired .ensures (not-false _ (at-if1 .if1 .left)), at-if2 .before .half-paired2 .ensures (not-false _ (at-if2 .if2 .left)), c .half-paired3 .ensures h)
+    let i = c .before .before .before in
+    λ h. (i .before .half-paired .ensures (not-false _ (i .if1 .left)), c .before .before .half-paired2 .ensures (not-false _ (c .before .if2 .left)), c .half-paired3 .ensures h)
 
 pub three-half-paired-spec : {M : Type 1} → statement M
 three-half-paired-spec =

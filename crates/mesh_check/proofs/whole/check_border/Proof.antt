@@ -5,6 +5,9 @@ use Rattle.mesh_check.specs.whole.laws.Steps.{named, paired, border-hull
 use Rattle.mesh_check.proofs.whole.check_border.Statement.{statement}
 use Rattle.mesh_check.proofs.whole.check_border.Tie as tie
 
+abbrev CheckHull : tie.After-check-fan-arg → tie.After-check-hull
+CheckHull c = c .before .before .before .before .before
+
 check-hull-requires : tie.Need-check-hull-requires
 check-hull-requires c κs =
     let s = c .before .before .before .before .before in
@@ -15,29 +18,25 @@ returns c = border-hull _ _ _ _ _ _ _ (c .before .before .before .before .check-
 
 check-fan-requires : tie.Need-check-fan-requires
 check-fan-requires c κs =
-    let at-check-hull = c .before .before .before .before .before in
-    let s = c .before .before .before .before .before .before .before .before .before .before .before in (
+    let s = CheckHull c .before .before .before .before .before .before in (
       s .pre .1,
       paired _ _ (s .pre .0) (s .pre .1) (s .pre .2) (s .pre .6),
-      rw (at-check-hull .check-hull .kept .1 .1 .1 .1 .0) (s .pre .4),
+      rw (CheckHull c .check-hull .kept .1 .1 .1 .1 .0) (s .pre .4),
       named _ _ _ (s .pre .0) (s .pre .5) (s .pre .6),
       s .pre .5,
     )
 
 returns-2 : tie.Need-returns-2
 returns-2 c =
-    let at-if1 = c .before .before .before .before .before in
-    let at-number = at-if1 .before in
-    let at-check-hull = at-number .before .before .before in
-    border-fan _ _ _ _ _ _ _ (at-check-hull .check-hull .ensures .0) (at-number .number .ensures) (at-if1 .if1 .left) _ _ _ (c .before .before .before .check-fan .ensures) (c .if2 .taken)
+    let at-check-fan = c .before .before .before in
+    border-fan _ _ _ _ _ _ _ (CheckHull (at-check-fan .before) .check-hull .ensures .0) (at-check-fan .before .before .before .number .ensures)
+    (at-check-fan .before .before .if1 .left) _ _ _ (at-check-fan .check-fan .ensures) (c .if2 .taken)
 
 returns-3 : tie.Need-returns-3
 returns-3 c =
-    let at-if1 = c .before .before .before .before .before in
-    let at-number = at-if1 .before in
-    let at-check-hull = at-number .before .before .before in
-    border-whole _ _ _ _ _ _ _ (at-check-hull .check-hull .ensures .0) (at-number .number .ensures) (at-if1 .if1 .left) _ _ _
-    (c .before .before .before .check-fan .ensures) (c .if2 .left) (at-check-hull .check-hull .kept .1 .1 .1 .1 .0)
+    let at-check-fan = c .before .before .before in
+    border-whole _ _ _ _ _ _ _ (CheckHull (at-check-fan .before) .check-hull .ensures .0) (at-check-fan .before .before .before .number .ensures) (at-check-fan .before .before .if1 .left) _ _ _
+    (at-check-fan .check-fan .ensures) (c .if2 .left) (CheckHull (at-check-fan .before) .check-hull .kept .1 .1 .1 .1 .0)
 
 pub check-border-spec : {M : Type 1} → statement M
 check-border-spec =

@@ -5,24 +5,24 @@ use Rattle.mesh_check.specs.whole.laws.Steps.{shape-keep, topology-shape
 use Rattle.mesh_check.proofs.whole.check_topology.Statement.{statement}
 use Rattle.mesh_check.proofs.whole.check_topology.Tie as tie
 
+abbrev Start : tie.After-check-border-arg → tie.Start
+Start c = c .before .before .before .before .before .before .before .before
+
 returns : tie.Need-returns
 returns c =
-    let at-number = c .before .before .before .before .before in
-    let at-check-shape = at-number .before in
-    topology-shape _ _ _ _ _ _ _ (at-check-shape .check-shape .ensures) (at-number .number .ensures) _ (c .before .before .before .before .if1 .taken) (c .before .before .clear .ensures)
+    let at-then1 = c .before .before .before .before in
+    topology-shape _ _ _ _ _ _ _ (at-then1 .before .before .check-shape .ensures) (at-then1 .before .number .ensures) _ (at-then1 .if1 .taken) (c .before .before .clear .ensures)
 
 check-border-requires : tie.Need-check-border-requires
 check-border-requires c κs =
-    let s = c .before .before .before .before .before .before .before .before in
     let k = shape-keep _ _ _ (c .before .before .before .check-shape .ensures) (sym (c .before .before .number .ensures) ∙ c .before .if1 .left) in
-    (s .pre .0, s .pre .1, s .pre .2, s .pre .3, s .pre .4, k .0, k .1 .0)
+    (Start c .pre .0, Start c .pre .1, Start c .pre .2, Start c .pre .3, Start c .pre .4, k .0, k .1 .0)
 
 returns-2 : tie.Need-returns-2
 returns-2 c =
     let at-number2 = c .before .before .before .before .before in
-    let at-check-border = at-number2 .before .before .before in
-    let a = c .before .before .before .before .before .before .before .before .before .before in
-    let b = at-check-border .check-border in
+    let a = at-number2 .before .before .before .before .before in
+    let b = at-number2 .before .before .before .check-border in
     topology-border _ _ _ _ _ _ _ (a .before .before .check-shape .ensures) (a .before .number .ensures) (a .if1 .left) _ _ _ (b .ensures)
     (at-number2 .number2 .ensures) _ (c .before .before .before .before .if2 .taken) (b .kept .1 .1 .1 .1 .0) (c .before .before .clear2 .ensures)
 

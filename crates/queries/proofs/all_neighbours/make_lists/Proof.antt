@@ -7,12 +7,12 @@ use Rattle.queries.proofs.all_neighbours.make_lists.Tie as tie
 
 returns : tie.Need-returns
 returns c =
-    let second = c .before .before in
-    let first = second .before .before .before .before in
+    let first = c .before .before .before .before .before .before in
     let written = first .before .before .before .before .before .before in
-    let s = written .before .before .before .before .before .before .before .before .before .before in
+    let known = written .before .before .before .before .before in
+    let s = known .before .before .before .before .before in
     made-lists _ _ (now (s .args .starts)) (now (s .args .out)) (s .pre .one-more) (s .pre .room) (written .write-lists .ensures)
-    (first .fill-from .ensures) (second .fill-from2 .ensures)
+    (first .fill-from .ensures) (c .before .before .fill-from2 .ensures)
 
 pub make-lists-spec : {M : Type 1} → statement M
 make-lists-spec =

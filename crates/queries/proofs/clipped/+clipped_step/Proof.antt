@@ -60,8 +60,9 @@ clipped-step-judge-requires : (t : ℕ) → clipped-step-lts.Need-judge-requires
   clipped-step.Post,
 ) (clipped-step-at t) clipped-step.Post
 clipped-step-judge-requires t c κs =
-    let at-start = c .before .before .before .before .before .before .before .before in
-    (at-start .pre .1 .0 .cells, at-start .pre .1 .1, coming-cell (at-start .pre .1 .0) _ (at-start .pre .1 .2) (sym (c .before .x .given .1) ∙ c .before .before .before .step .ensures))
+    let at-step = c .before .before .before in
+    let at-start = at-step .before .before .before .before .before in
+    (at-start .pre .1 .0 .cells, at-start .pre .1 .1, coming-cell (at-start .pre .1 .0) _ (at-start .pre .1 .2) (sym (c .before .x .given .1) ∙ at-step .step .ensures))
 
 clipped-step-enum-told : (t : ℕ) → clipped-step-lts.Need-enum-told (
   step-reads.Asked,
@@ -147,10 +148,9 @@ clipped-step-returns-2 : (t : ℕ) → clipped-step-lts.Need-returns-2 (
   clipped-step.Post,
 ) (clipped-step-at t) clipped-step.Post
 clipped-step-returns-2 t c =
-    let at-x = c .before .before .before .before .before in
-    let at-step = at-x .before .before in
+    let at-step = c .before .before .before .before .before .before .before in
     let at-start = at-step .before .before .before .before .before in
-    dropped-takes (at-start .pre .1 .0) _ (at-start .pre .1 .2) (sym (at-x .x .given .1) ∙ at-step .step .ensures) _
+    dropped-takes (at-start .pre .1 .0) _ (at-start .pre .1 .2) (sym (c .before .before .before .before .before .x .given .1) ∙ at-step .step .ensures) _
     (sym (c .before .enum-told2 .given .1) ∙ c .before .before .before .judge .ensures) (c .clipped-step .result) (c .clipped-step .ensures)
 
 clipped-step-returns-3 : (t : ℕ) → clipped-step-lts.Need-returns-3 (

@@ -29,10 +29,11 @@ returns-4 c =
 returns-5 : tie.Need-returns-5
 unfolding validCounts
 returns-5 c =
+    let e = c .before .before .before .before in
     rw (
-      le-ltb _ _ (c .before .before .before .before .before .before .before .before .if1 .left),
-      le-ltb _ _ (c .before .before .before .before .before .before .if2 .left),
-      le-ltb _ _ (c .before .before .before .before .if3 .left),
+      le-ltb _ _ (e .before .before .before .before .if1 .left),
+      le-ltb _ _ (e .before .before .if2 .left),
+      le-ltb _ _ (e .if3 .left),
       le-ltb _ _ (c .before .before .if4 .left),
       lt-ltb _ _ (c .if5 .taken),
     )
@@ -40,10 +41,11 @@ returns-5 c =
 returns-6 : tie.Need-returns-6
 unfolding validCounts
 returns-6 c =
+    let e = c .before .before .before .before .before in
     rw (
-      le-ltb _ _ (c .before .before .before .before .before .before .before .before .before .if1 .left),
-      le-ltb _ _ (c .before .before .before .before .before .before .before .if2 .left),
-      le-ltb _ _ (c .before .before .before .before .before .if3 .left),
+      le-ltb _ _ (e .before .before .before .before .if1 .left),
+      le-ltb _ _ (e .before .before .if2 .left),
+      le-ltb _ _ (e .if3 .left),
       le-ltb _ _ (c .before .before .before .if4 .left),
       le-ltb _ _ (c .before .if5 .left),
     )

@@ -7,17 +7,18 @@ use Rattle.reader.proofs.standing.valid_parts.Tie as tie
 returns : tie.Need-returns
 unfolding validParts
 returns c =
+    let t = c .before .before .before .before .before in
     rw (
       c .both4 .ensures,
       c .before .both3 .ensures,
       c .before .before .valid-records .ensures,
       c .before .before .before .both2 .ensures,
       c .before .before .before .before .valid-register .ensures,
-      c .before .before .before .before .before .taken .ensures,
-      c .before .before .before .before .before .before .valid-place .ensures,
-      c .before .before .before .before .before .before .before .both .ensures,
-      c .before .before .before .before .before .before .before .before .valid-kind .ensures,
-      c .before .before .before .before .before .before .before .before .before .valid-refusal .ensures,
+      t .taken .ensures,
+      t .before .valid-place .ensures,
+      t .before .before .both .ensures,
+      t .before .before .before .valid-kind .ensures,
+      t .before .before .before .before .valid-refusal .ensures,
     )
 
 pub valid-parts-spec : {M : Type 1} → statement M

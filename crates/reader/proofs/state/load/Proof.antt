@@ -27,11 +27,11 @@ returns c =
 
 returns-2 : tie.Need-returns-2
 returns-2 c =
-    let ws = now (c .before .before .before .before .before .before .before .before .before .args .state) in
-    let h = c .before .before .before .before .before .before .before .held .ensures in
+    let b = c .before .before .before in
+    let ws = now (b .before .before .before .before .before .before .args .state) in
+    let h = b .before .before .before .before .held .ensures in
     let e : both (blank (take 7 (drop 9 ws))) (isValid (readerOf ws)) ≡ false =
-    sym (c .before .before .before .both .ensures ∙ ap₂ both (c .before .before .before .before .before .blank .ensures)
-    (c .before .before .before .before .is-valid .ensures ∙ ap isValid h)) ∙ c .before .before .if1 .left
+    sym (b .both .ensures ∙ ap₂ both (b .before .before .blank .ensures) (b .before .is-valid .ensures ∙ ap isValid h)) ∙ c .before .before .if1 .left
     in
     let i = c .refused .ensures ∙ ap (λ (r : Reader). refused r refusedForm) (c .before .start .ensures) ∙ sym (entered-wrong ws e) in
     (i, subst Ok (sym i) (ok-entered ws))

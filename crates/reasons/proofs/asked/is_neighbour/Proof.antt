@@ -17,6 +17,12 @@ Inv-loop triangles halfedges start t c₀ c = Seeks triangles halfedges t (start
 abbrev μ-loop : tie.MeasureT-loop
 μ-loop triangles halfedges start t c₀ c = length (neighboursLeft triangles halfedges c)
 
+abbrev Begin : tie.After-step Inv-loop μ-loop → tie.Start Inv-loop μ-loop
+Begin c = c .before .before .before .before
+
+abbrev Step : tie.After-known-told Inv-loop μ-loop → tie.After-step Inv-loop μ-loop
+Step c = c .before .before .before
+
 loop-holds : tie.Need-loop-holds Inv-loop μ-loop
 loop-holds c =
     let p = c .before .before .pre .0 in
@@ -24,34 +30,23 @@ loop-holds c =
 
 returns : tie.Need-returns Inv-loop μ-loop
 returns c =
-    let at-x = c .before .before in
-    let at-step = at-x .before .before in
-    let at-loop = at-step .before in
-    let at-start = at-loop .before .before .before in
-    seeks-found _ _ (omega (arith, at-start .pre .0 .small)) _ (at-loop .loop .inv) _ _ (sym (at-x .x .given .1) ∙ at-step .step .ensures) (c .if1 .taken)
+    let s = Step (c .before) in
+    seeks-found _ _ (omega (arith, Begin s .pre .0 .small)) _ (s .before .loop .inv) _ _ (sym (c .before .before .x .given .1) ∙ s .step .ensures) (c .if1 .taken)
 
 loop-less : tie.Need-loop-less Inv-loop μ-loop
 loop-less c =
-    let at-x = c .before .before in
-    let at-step = at-x .before .before in
-    let at-loop = at-step .before in
-    let at-start = at-loop .before .before .before in
-    seeks-less _ _ (omega (arith, at-start .pre .0 .small)) (at-start .args .t) (at-loop .loop .inv) _ _ (sym (at-x .x .given .1) ∙ at-step .step .ensures)
+    let s = Step (c .before) in
+    seeks-less _ _ (omega (arith, Begin s .pre .0 .small)) (Begin s .args .t) (s .before .loop .inv) _ _ (sym (c .before .before .x .given .1) ∙ s .step .ensures)
 
 loop-again : tie.Need-loop-again Inv-loop μ-loop
 loop-again c =
-    let at-x = c .before .before in
-    let at-step = at-x .before .before in
-    let at-loop = at-step .before in
-    let at-start = at-loop .before .before .before in
-    seeks-step _ _ (omega (arith, at-start .pre .0 .small)) _ (at-loop .loop .inv) _ _ (sym (at-x .x .given .1) ∙ at-step .step .ensures) (c .if1 .left)
+    let s = Step (c .before) in
+    seeks-step _ _ (omega (arith, Begin s .pre .0 .small)) _ (s .before .loop .inv) _ _ (sym (c .before .before .x .given .1) ∙ s .step .ensures) (c .if1 .left)
 
 returns-2 : tie.Need-returns-2 Inv-loop μ-loop
 returns-2 c =
-    let at-step = c .before .before in
-    let at-loop = at-step .before in
-    let at-start = at-loop .before .before .before in
-    seeks-none _ _ (omega (arith, at-start .pre .0 .small)) _ (at-loop .loop .inv) (sym (c .enum-told .given .1) ∙ at-step .step .ensures)
+    let s = c .before .before in
+    seeks-none _ _ (omega (arith, Begin s .pre .0 .small)) _ (s .before .loop .inv) (sym (c .enum-told .given .1) ∙ s .step .ensures)
 
 pub is-neighbour-spec : {M : Type 1} → statement M
 is-neighbour-spec =

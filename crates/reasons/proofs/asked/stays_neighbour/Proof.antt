@@ -19,52 +19,48 @@ Inv-loop triangles halfedges offsets indexes s start t c₀ c =
 abbrev μ-loop : tie.MeasureT-loop
 μ-loop triangles halfedges offsets indexes s start t c₀ c = length (clippedLeft triangles halfedges (shareEdgeOf offsets indexes s) c)
 
+abbrev Begin : tie.After-shared-slice-known4 Inv-loop μ-loop → tie.Start Inv-loop μ-loop
+Begin c = c .before .before .before .before
+
+abbrev Step : tie.After-known-told Inv-loop μ-loop → tie.After-clipped-step Inv-loop μ-loop
+Step c = c .before .before .before
+
 loop-holds : tie.Need-loop-holds Inv-loop μ-loop
 loop-holds c =
-    let at-start = c .before .before .before .before in
-    let a = at-start .args in
-    let p = at-start .pre .0 .paired in
+    let a = Begin c .args in
+    let p = Begin c .pre .0 .paired in
     staying-start (now (a .triangles)) (now (a .halfedges)) (shareEdgeOf (now (a .offsets)) (now (a .indexes)) (a .s)) (a .t) (omega (arith, p .small)) _ (settled-start _ _ p _)
 
 clipped-step-requires : tie.Need-clipped-step-requires Inv-loop μ-loop
-clipped-step-requires c κs =
-    let at-start = c .before .before .before .before .before in
-    (at-start .pre .0, at-start .pre .1, c .loop .inv .sound)
+clipped-step-requires c κs = (Begin (c .before) .pre .0, Begin (c .before) .pre .1, c .loop .inv .sound)
 
 returns : tie.Need-returns Inv-loop μ-loop
 returns c =
-    let at-x = c .before .before in
-    let at-step = at-x .before .before in
-    let at-loop = at-step .before in
-    let a = at-loop .before .before .before .before .before .args in
-    staying-found (now (a .triangles)) (now (a .halfedges)) (shareEdgeOf (now (a .offsets)) (now (a .indexes)) (a .s)) (a .t) (at-loop .loop .inv)
-    (at-step .clipped-step .result) (at-step .clipped-step .ensures) _ _ (at-x .x .given .1) (c .if1 .taken)
+    let s = Step (c .before) in
+    let a = Begin (s .before .before) .args in
+    staying-found (now (a .triangles)) (now (a .halfedges)) (shareEdgeOf (now (a .offsets)) (now (a .indexes)) (a .s)) (a .t) (s .before .loop .inv)
+    (s .clipped-step .result) (s .clipped-step .ensures) _ _ (c .before .before .x .given .1) (c .if1 .taken)
 
 loop-less : tie.Need-loop-less Inv-loop μ-loop
 loop-less c =
-    let at-x = c .before .before in
-    let at-step = at-x .before .before in
-    let at-loop = at-step .before in
-    let a = at-loop .before .before .before .before .before .args in
-    staying-less (now (a .triangles)) (now (a .halfedges)) (shareEdgeOf (now (a .offsets)) (now (a .indexes)) (a .s)) (a .t) (at-loop .loop .inv)
-    (at-step .clipped-step .result) (at-step .clipped-step .ensures) _ _ (at-x .x .given .1)
+    let s = Step (c .before) in
+    let a = Begin (s .before .before) .args in
+    staying-less (now (a .triangles)) (now (a .halfedges)) (shareEdgeOf (now (a .offsets)) (now (a .indexes)) (a .s)) (a .t) (s .before .loop .inv)
+    (s .clipped-step .result) (s .clipped-step .ensures) _ _ (c .before .before .x .given .1)
 
 loop-again : tie.Need-loop-again Inv-loop μ-loop
 loop-again c =
-    let at-x = c .before .before in
-    let at-step = at-x .before .before in
-    let at-loop = at-step .before in
-    let a = at-loop .before .before .before .before .before .args in
-    staying-step (now (a .triangles)) (now (a .halfedges)) (shareEdgeOf (now (a .offsets)) (now (a .indexes)) (a .s)) (a .t) (at-loop .loop .inv)
-    (at-step .clipped-step .result) (at-step .clipped-step .ensures) _ _ (at-x .x .given .1) (c .if1 .left)
+    let s = Step (c .before) in
+    let a = Begin (s .before .before) .args in
+    staying-step (now (a .triangles)) (now (a .halfedges)) (shareEdgeOf (now (a .offsets)) (now (a .indexes)) (a .s)) (a .t) (s .before .loop .inv)
+    (s .clipped-step .result) (s .clipped-step .ensures) _ _ (c .before .before .x .given .1) (c .if1 .left)
 
 returns-2 : tie.Need-returns-2 Inv-loop μ-loop
 returns-2 c =
-    let at-step = c .before .before in
-    let at-loop = at-step .before in
-    let a = at-loop .before .before .before .before .before .args in
-    staying-none (now (a .triangles)) (now (a .halfedges)) (shareEdgeOf (now (a .offsets)) (now (a .indexes)) (a .s)) (a .t) (at-loop .loop .inv)
-    (at-step .clipped-step .result) (at-step .clipped-step .ensures) (c .enum-told .given .1)
+    let s = c .before .before in
+    let a = Begin (s .before .before) .args in
+    staying-none (now (a .triangles)) (now (a .halfedges)) (shareEdgeOf (now (a .offsets)) (now (a .indexes)) (a .s)) (a .t) (s .before .loop .inv)
+    (s .clipped-step .result) (s .clipped-step .ensures) (c .enum-told .given .1)
 
 pub stays-neighbour-spec : {M : Type 1} → statement M
 stays-neighbour-spec =

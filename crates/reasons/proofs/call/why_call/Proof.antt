@@ -10,6 +10,9 @@ Told c = c .before .before .before .before .before
 abbrev Reasoned : tie.After-tell → tie.After-why
 Reasoned c = c .before .before .before .before .before .before .before .before .before .before .before
 
+abbrev Begin : tie.After-why-arg5 → tie.Start
+Begin c = c .before .before .before .before .before .before .before .before .before .before .before .before .before .before .before
+
 abbrev Asked : tie.After-why → tie.After-question
 Asked c = c .before .before .before .before .before .before
 
@@ -20,7 +23,7 @@ returns c =
     called (w .why .result) (Asked w .question .ensures) (w .why .ensures) (c .put-numbers .ensures) (t .tell .ensures)
 
 why-requires : tie.Need-why-requires
-why-requires c κs = c .before .before .before .before .before .before .before .before .before .before .before .before .before .before .before .pre
+why-requires c κs = Begin c .pre
 
 pub why-call-spec : {M : Type 1} → statement M
 why-call-spec =

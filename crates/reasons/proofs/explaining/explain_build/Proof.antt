@@ -13,8 +13,11 @@ use Rattle.reasons.proofs.explaining.explain_build.Tie as tie
 abbrev Admit : tie.After-slice-known10 → tie.After-admit-build
 Admit c = c .before .before .before .before .before .before .before .before .before .before
 
+abbrev Entry : tie.After-admit-build-arg5 → tie.Start
+Entry c = c .before .before .before .before .before .before .before .before .before .before .before .before .before .before
+
 abbrev Begin : tie.After-admit-build → tie.Start
-Begin c = c .before .before .before .before .before .before .before .before .before .before .before .before .before .before .before
+Begin c = Entry (c .before)
 
 abbrev Located : tie.After-slice-known11 → tie.After-slice-known10
 Located c = c .before .before .before .before .before
@@ -31,16 +34,17 @@ Ends c = c .before .before .before .before .before .before .before .before .befo
 abbrev Known : tie.After-of-fault → tie.After-slice-known10
 Known c = Accepts (Made (Ends c)) .before
 
+abbrev Vertices : tie.After-slice-known10 → tie.After-vertices
+Vertices c = c .before .before .before .before .before .before .before
+
 admit-build-requires : tie.Need-admit-build-requires
-admit-build-requires c κs = c .before .before .before .before .before .before .before .before .before .before .before .before .before .before .pre .0
+admit-build-requires c κs = Entry c .pre .0
 
 same-length : tie.Need-same-length
-same-length c = c .before .work2 .given ∙ Located c .before .before .before .before .before .before .before .before .before .work .given
+same-length c = c .before .work2 .given ∙ Vertices (Located c) .before .before .work .given
 
 returns : tie.Need-returns
-returns c =
-    let k = Located c in
-    early (Admit k .admit-build .ensures) (c .before .before .before .before .if1 .taken) (c .before .before .locate .ensures) refl
+returns c = early (Admit (Located c) .admit-build .ensures) (c .before .before .before .before .if1 .taken) (c .before .before .locate .ensures) refl
 
 slice-reshare-prefix-build-cells : tie.Need-slice-reshare-prefix-build-cells
 slice-reshare-prefix-build-cells c = table-fits (Admit (c .before) .admit-build .ensures) (c .if1 .left)
@@ -57,22 +61,17 @@ build-cells-requires c κs =
 finish-build-requires : tie.Need-finish-build-requires
 finish-build-requires c κs =
     let m = Made (c .before .before .before) in
-    let e = Accepts m in
-    let a = Admit (e .before) in (
-      boxed-count (a .admit-build .ensures) _ (Begin a .pre .2) (Begin a .pre .1) (e .if1 .left) _ (m .build-cells .ensures .0),
-      boxed-reused (a .admit-build .ensures) _ (Begin a .pre .2) (Begin a .pre .1) (e .if1 .left) _ (m .build-cells .ensures .0),
-      nine-of (a .admit-build .ensures) (e .if1 .left),
+    let a = Admit (Accepts m .before) in (
+      boxed-count (a .admit-build .ensures) _ (Begin a .pre .2) (Begin a .pre .1) (Accepts m .if1 .left) _ (m .build-cells .ensures .0),
+      boxed-reused (a .admit-build .ensures) _ (Begin a .pre .2) (Begin a .pre .1) (Accepts m .if1 .left) _ (m .build-cells .ensures .0),
+      nine-of (a .admit-build .ensures) (Accepts m .if1 .left),
     )
 
 same-length-6 : tie.Need-same-length-6
-same-length-6 c =
-    let k = Known c .before .before .before .before .before .before .before .before .before in
-    c .before .before .before .before .work3 .given ∙ k .work .given
+same-length-6 c = c .before .before .before .before .work3 .given ∙ Vertices (Known c) .before .before .work .given
 
 same-length-7 : tie.Need-same-length-7
-same-length-7 c =
-    let k = Known c .before .before .before .before .before .before .before in
-    Ends c .before .before .before .before .before .vertices2 .given ∙ k .vertices .given
+same-length-7 c = Ends c .before .before .before .before .before .vertices2 .given ∙ Vertices (Known c) .vertices .given
 
 same-length-8 : tie.Need-same-length-8
 same-length-8 c = Ends c .before .before .before .indexes2 .given ∙ Known c .before .before .before .before .before .indexes .given
@@ -85,12 +84,10 @@ same-length-10 c = c .before .before .counts2 .given ∙ Known c .before .counts
 
 returns-2 : tie.Need-returns-2
 returns-2 c =
-    let m = Made (Ends c) in
-    let e = Accepts m in
-    let a = Admit (e .before) in
-    let b = m .build-cells .ensures in
+    let a = Admit (Known c) in
+    let b = Made (Ends c) .build-cells .ensures in
     let f = c .before .before .before .before .before .finish-build .ensures in
-    explains-build (a .admit-build .ensures) (e .if1 .left) _ (Begin a .pre .2) (Begin a .pre .1) _ (b .0) (b .1) f (c .of-fault .ensures)
+    explains-build (a .admit-build .ensures) (Accepts (Made (Ends c)) .if1 .left) _ (Begin a .pre .2) (Begin a .pre .1) _ (b .0) (b .1) f (c .of-fault .ensures)
 
 pub explain-build-spec : {M : Type 1} → statement M
 explain-build-spec =

@@ -17,14 +17,10 @@ loop-holds : tie.Need-loop-holds Inv-loop μ-loop
 loop-holds c = clear-to-start _ _
 
 returns : tie.Need-returns Inv-loop μ-loop
-returns c =
-    let l = c .before .before .before in
-    clear-to-not _ (l .loop .inv) (c .before .limb .ensures) (c .before .before .loop-test .taken) (c .if1 .taken)
+returns c = clear-to-not _ (c .before .before .before .loop .inv) (c .before .limb .ensures) (c .before .before .loop-test .taken) (c .if1 .taken)
 
 loop-again : tie.Need-loop-again Inv-loop μ-loop
-loop-again c =
-    let l = c .before .before .before in
-    clear-to-step _ (l .loop .inv) (c .before .limb .ensures) (c .before .before .loop-test .taken) (c .if1 .left)
+loop-again c = clear-to-step _ (c .before .before .before .loop .inv) (c .before .limb .ensures) (c .before .before .loop-test .taken) (c .if1 .left)
 
 returns-2 : tie.Need-returns-2 Inv-loop μ-loop
 returns-2 c = clear-to-end _ (c .before .loop .inv) (c .loop-test .left)

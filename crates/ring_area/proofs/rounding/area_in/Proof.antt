@@ -9,6 +9,9 @@ use Rattle.ring_area.specs.rounding.laws.Differences.{ready-zeros, few-p
 use Rattle.ring_area.proofs.rounding.area_in.Statement.{statement}
 use Rattle.ring_area.proofs.rounding.area_in.Tie as tie
 
+abbrev Start : tie.After-sides-from → tie.Start
+Start c = c .before .before .before .before .before .before .before .before
+
 sides-from-requires : tie.Need-sides-from-requires
 sides-from-requires c κs =
     let p = c .before .before .before .before .before .before .before .pre in
@@ -17,18 +20,18 @@ sides-from-requires c κs =
 settle-requires : tie.Need-settle-requires
 settle-requires c κs =
     let at-sides = c .before .before .before .before .before .before .before in
-    let p = at-sides .before .before .before .before .before .before .before .before .pre in
+    let p = Start at-sides .pre in
     let r = at-sides .sides-from .ensures in
     let few = few-puts _ (p .0 .few) in
     (sum-long _ (p .3) _ (r .added), sum-long _ (p .4) _ (r .taken), sum-fits _ (p .3) _ (r .added) few, sum-fits _ (p .4) _ (r .taken) few, p .5)
 
 returns : tie.Need-returns
 returns c =
-    let at-settle = c .before .before .before .before .before .before in
-    let at-sides = at-settle .before .before .before .before .before .before .before .before in
-    let s = at-sides .before .before .before .before .before .before .before .before in
+    let summed = c .before .before .before .before .before .before .before in
+    let at-sides = summed .before .before .before .before .before .before .before in
+    let s = Start at-sides in
     let p = s .pre in
-    at-settle .settle .ensures
+    c .before .before .before .before .before .before .settle .ensures
     ∙ sums-are _ (p .3) (p .4) _ _ (at-sides .sides-from .ensures)
     ∙ ring-is (now (s .args .vertices)) (now (s .args .entries)) (λ e. omega (arith, e, p .2))
 

@@ -14,11 +14,12 @@ few-of c l e = omega arith
 within-count : {i nc count h : ℕ} → nc ≤ count → h ≤ count - nc → i < nc + h → i ≤ count
 within-count a b c = omega arith
 
+abbrev Start : tie.After-least → tie.Start
+Start c = c .before .before .before .before .before .before .before .before
+
 in-chain-requires : tie.Need-in-chain-requires
 in-chain-requires c κs =
-    let at-bucket = c in
-    let at-low2 = c .before in
-    let at-low = at-low2 .before in
+    let at-low = c .before .before in
     let at-least = at-low .before in
     let test = at-least .before in
     let at-narrow2 = test .before in
@@ -27,22 +28,21 @@ in-chain-requires c κs =
     let at-heads = some .before in
     let s = at-heads .before .before .before in
     chained (s .pre) (at-heads .heads-in .ensures) (some .if1 .left) (at-least .least .ensures) (at-narrow .narrow .ensures) (at-narrow2 .narrow2 .ensures) (test .if2 .taken)
-    (at-low .low .ensures) (at-low2 .low2 .ensures) (at-bucket .bucket .ensures)
+    (at-low .low .ensures) (c .before .low2 .ensures) (c .bucket .ensures)
 
 returns-2 : tie.Need-returns-2
 returns-2 c =
-    let at-chain = c .before in
-    let at-least = at-chain .before .before .before .before in
-    let s = at-least .before .before .before .before .before .before .before .before in
+    let at-least = c .before .before .before .before .before in
+    let s = Start at-least in
     let few = few-of (s .args .count - s .args .centers) _ (at-least .least .ensures) in
-    (found-inserted (now (s .args .vertices)) (s .args .p) (s .pre .centers) few (at-chain .in-chain .ensures) (c .if3 .taken), within-count (s .pre .centers) few (c .if3 .taken))
+    (found-inserted (now (s .args .vertices)) (s .args .p) (s .pre .centers) few (c .before .in-chain .ensures) (c .if3 .taken), within-count (s .pre .centers) few (c .if3 .taken))
 
 returns-3 : tie.Need-returns-3
 returns-3 c =
     let past = c .before in
     let at-chain = past .before in
     let at-least = at-chain .before .before .before .before in
-    let s = at-least .before .before .before .before .before .before .before .before in
+    let s = Start at-least in
     let few = few-of (s .args .count - s .args .centers) _ (at-least .least .ensures) in
     (found-past (now (s .args .vertices)) (s .args .p) (s .pre .centers) few (at-chain .in-chain .ensures) (past .if3 .left) (c .find-near2 .ensures .0), c .find-near2 .ensures .1)
 

@@ -17,24 +17,26 @@ Inv-loop triangles halfedges s out₀ c₀ n₀ out c n = NeighboursWritten tria
 abbrev μ-loop : tie.MeasureT-loop
 μ-loop triangles halfedges s out₀ c₀ n₀ out c n = length out₀ - n
 
+abbrev Begin : tie.At-loop Inv-loop μ-loop → tie.Start Inv-loop μ-loop
+Begin c = c .before .before .before .before
+
 loop-holds : tie.Need-loop-holds Inv-loop μ-loop
 loop-holds c = handing-start _ _ _ (omega (arith, c .before .before .before .pre .0 .small)) _ (settled-start _ _ (c .before .before .before .pre .0) _)
 
 loop-again : tie.Need-loop-again Inv-loop μ-loop
 loop-again c =
-    let at-loop = c .before .before .before .before .before in
-    let at-start = at-loop .before .before .before .before in
-    handing-site _ _ _ (omega (arith, at-start .pre .0 .small)) (at-loop .loop .inv) _ _ (omega arith) (sym (c .before .x .given .1) ∙ c .before .before .before .step .ensures)
+    let l = c .before .before .before .before .before in
+    handing-site _ _ _ (omega (arith, Begin l .pre .0 .small)) (l .loop .inv) _ _ (omega arith) (sym (c .before .x .given .1) ∙ c .before .before .before .step .ensures)
 
 returns : tie.Need-returns Inv-loop μ-loop
 returns c =
-    let at-start = c .before .before .before .before .before .before .before .before in
-    handing-end _ _ _ (omega (arith, at-start .pre .0 .small)) (c .before .before .before .before .loop .inv) (sym (c .enum-told .given .1) ∙ c .before .before .step .ensures)
+    let l = c .before .before .before .before in
+    handing-end _ _ _ (omega (arith, Begin l .pre .0 .small)) (l .loop .inv) (sym (c .enum-told .given .1) ∙ c .before .before .step .ensures)
 
 returns-2 : tie.Need-returns-2 Inv-loop μ-loop
 returns-2 c =
-    let at-start = c .before .before .before .before .before .before in
-    handing-full _ _ _ (omega (arith, at-start .pre .0 .small)) (c .before .before .loop .inv) (omega arith) _ (c .over .ensures)
+    let l = c .before .before in
+    handing-full _ _ _ (omega (arith, Begin l .pre .0 .small)) (l .loop .inv) (omega arith) _ (c .over .ensures)
 
 pub neighbours-spec : {M : Type 1} → statement M
 neighbours-spec =

@@ -16,6 +16,9 @@ Inv-loop sites triangles halfedges table s p start c₀ best₀ c best =
 abbrev μ-loop : tie.MeasureT-loop
 μ-loop sites triangles halfedges table s p start c₀ best₀ c best = length (neighboursLeft triangles halfedges c)
 
+abbrev Begin : tie.At-loop Inv-loop μ-loop → tie.Start Inv-loop μ-loop
+Begin c = c .before .before .before .before .before .before .before .before
+
 loop-holds : tie.Need-loop-holds Inv-loop μ-loop
 loop-holds c =
     let at-start = c .before .before .before .before .before .before .before in
@@ -23,28 +26,24 @@ loop-holds c =
 
 distance-requires-2 : tie.Need-distance-requires-2 Inv-loop μ-loop
 distance-requires-2 c κs =
-    let at-start = c .before .before .before .before .before .before .before .before .before .before .before .before in
-    nearing-below _ _ _ _ _ _ (at-start .pre .0) (c .before .before .before .before .loop .inv) _ _ (sym (c .before .n .given .1) ∙ c .before .before .before .step .ensures)
+    let l = c .before .before .before .before in
+    nearing-below _ _ _ _ _ _ (Begin l .pre .0) (l .loop .inv) _ _ (sym (c .before .n .given .1) ∙ c .before .before .before .step .ensures)
 
 loop-less : tie.Need-loop-less Inv-loop μ-loop
 loop-less c =
-    let at-step = c .before .before .before .before .before in
-    let at-loop = at-step .before in
-    let at-start = at-loop .before .before .before .before .before .before .before .before in
-    nearing-less _ _ _ _ _ _ (at-start .pre .0) (at-loop .loop .inv) _ _ (sym (c .before .before .before .n .given .1) ∙ at-step .step .ensures)
+    let s = c .before .before .before .before .before in
+    nearing-less _ _ _ _ _ _ (Begin (s .before) .pre .0) (s .before .loop .inv) _ _ (sym (c .before .before .before .n .given .1) ∙ s .step .ensures)
 
 loop-again : tie.Need-loop-again Inv-loop μ-loop
 loop-again c =
-    let at-step = c .before .before .before .before .before in
-    let at-loop = at-step .before in
-    let at-start = at-loop .before .before .before .before .before .before .before .before in
-    rw (c .nearer .ensures) (nearing-site _ _ _ _ _ _ (at-start .pre .0) (at-loop .loop .inv) _ _
-    (sym (c .before .before .before .n .given .1) ∙ at-step .step .ensures) _ (c .before .distance2 .ensures))
+    let s = c .before .before .before .before .before in
+    rw (c .nearer .ensures) (nearing-site _ _ _ _ _ _ (Begin (s .before) .pre .0) (s .before .loop .inv) _ _
+    (sym (c .before .before .before .n .given .1) ∙ s .step .ensures) _ (c .before .distance2 .ensures))
 
 returns : tie.Need-returns Inv-loop μ-loop
 returns c =
-    let at-start = c .before .before .before .before .before .before .before .before .before .before .before in
-    nearing-end _ _ _ _ _ _ (at-start .pre .0) (c .before .before .before .loop .inv) (sym (c .enum-told .given .1) ∙ c .before .before .step .ensures)
+    let l = c .before .before .before in
+    nearing-end _ _ _ _ _ _ (Begin l .pre .0) (l .loop .inv) (sym (c .enum-told .given .1) ∙ c .before .before .step .ensures)
 
 pub hop-spec : {M : Type 1} → statement M
 hop-spec =

@@ -13,30 +13,29 @@ Inv-loop sites triangles halfedges table s p out₀ at₀ count₀ out at count 
 abbrev μ-loop : tie.MeasureT-loop
 μ-loop sites triangles halfedges table s p out₀ at₀ count₀ out at count = length out₀ - count
 
+abbrev Begin : tie.At-loop Inv-loop μ-loop → tie.Start Inv-loop μ-loop
+Begin c = c .before .before .before .before .before .before
+
 loop-holds : tie.Need-loop-holds Inv-loop μ-loop
 loop-holds c =
     let at-start = c .before .before .before .before .before in
     writing-start _ _ _ _ _ (at-start .pre .0) (at-start .pre .1) _ _ (at-start .pre .2)
 
 hop-requires : tie.Need-hop-requires Inv-loop μ-loop
-hop-requires c κs =
-    let at-start = c .before .before .before .before .before .before .before in
-    (at-start .pre .0, c .before .loop .inv .below)
+hop-requires c κs = (Begin (c .before) .pre .0, c .before .loop .inv .below)
 
 returns : tie.Need-returns Inv-loop μ-loop
 returns c =
-    let at-start = c .before .before .before .before .before .before .before .before .before in
-    writing-stop _ _ _ _ _ (at-start .pre .0) (at-start .pre .1) _ _ (c .before .before .before .loop .inv) _ (c .before .hop .ensures .0) (omega arith) (c .if1 .taken)
+    let l = c .before .before .before in
+    writing-stop _ _ _ _ _ (Begin l .pre .0) (Begin l .pre .1) _ _ (l .loop .inv) _ (c .before .hop .ensures .0) (omega arith) (c .if1 .taken)
 
 loop-again : tie.Need-loop-again Inv-loop μ-loop
 loop-again c =
-    let at-start = c .before .before .before .before .before .before .before .before .before in
-    writing-go _ _ _ _ _ (at-start .pre .0) (at-start .pre .1) _ _ (c .before .before .before .loop .inv) _ (c .before .hop .ensures .0) (omega arith) (c .if1 .left) (c .before .hop .ensures .1)
+    let l = c .before .before .before in
+    writing-go _ _ _ _ _ (Begin l .pre .0) (Begin l .pre .1) _ _ (l .loop .inv) _ (c .before .hop .ensures .0) (omega arith) (c .if1 .left) (c .before .hop .ensures .1)
 
 returns-2 : tie.Need-returns-2 Inv-loop μ-loop
-returns-2 c =
-    let at-start = c .before .before .before .before .before .before .before in
-    writing-full _ _ _ _ _ (at-start .pre .0) (at-start .pre .1) _ _ (c .before .loop .inv) (omega arith)
+returns-2 c = let l = c .before in writing-full _ _ _ _ _ (Begin l .pre .0) (Begin l .pre .1) _ _ (l .loop .inv) (omega arith)
 
 pub path-spec : {M : Type 1} → statement M
 path-spec =

@@ -14,25 +14,26 @@ abbrev μ-loop : tie.MeasureT-loop
 loop-holds : tie.Need-loop-holds Inv-loop μ-loop
 loop-holds c = following-start _ _ _ _ _ (c .before .before .before .before .pre .0) (c .before .before .before .before .pre .1) _ (c .before .before .before .before .pre .2)
 
+abbrev Begin : tie.At-loop Inv-loop μ-loop → tie.Start Inv-loop μ-loop
+Begin c = c .before .before .before .before .before
+
 hop-requires : tie.Need-hop-requires Inv-loop μ-loop
-hop-requires c κs =
-    let at-start = c .before .before .before .before .before in
-    (at-start .pre .0, c .loop .inv .below)
+hop-requires c κs = (Begin c .pre .0, c .loop .inv .below)
 
 returns : tie.Need-returns Inv-loop μ-loop
 returns c =
-    let at-start = c .before .before .before .before .before .before .before in
-    following-stop _ _ _ _ _ (at-start .pre .0) (at-start .pre .1) (c .before .before .loop .inv) _ (c .before .hop .ensures .0) (at-start .pre .2) (c .if1 .taken)
+    let l = c .before .before in
+    following-stop _ _ _ _ _ (Begin l .pre .0) (Begin l .pre .1) (l .loop .inv) _ (c .before .hop .ensures .0) (Begin l .pre .2) (c .if1 .taken)
 
 loop-less : tie.Need-loop-less Inv-loop μ-loop
 loop-less c =
-    let at-start = c .before .before .before .before .before .before .before in
-    following-less _ _ _ _ _ (at-start .pre .0) (at-start .pre .1) (c .before .before .loop .inv) _ (c .before .hop .ensures .0) (c .if1 .left)
+    let l = c .before .before in
+    following-less _ _ _ _ _ (Begin l .pre .0) (Begin l .pre .1) (l .loop .inv) _ (c .before .hop .ensures .0) (c .if1 .left)
 
 loop-again : tie.Need-loop-again Inv-loop μ-loop
 loop-again c =
-    let at-start = c .before .before .before .before .before .before .before in
-    following-go _ _ _ _ _ (at-start .pre .0) (at-start .pre .1) (c .before .before .loop .inv) _ (c .before .hop .ensures .0) (c .if1 .left) (c .before .hop .ensures .1)
+    let l = c .before .before in
+    following-go _ _ _ _ _ (Begin l .pre .0) (Begin l .pre .1) (l .loop .inv) _ (c .before .hop .ensures .0) (c .if1 .left) (c .before .hop .ensures .1)
 
 pub path-end-spec : {M : Type 1} → statement M
 path-end-spec =

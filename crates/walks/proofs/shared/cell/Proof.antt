@@ -6,25 +6,20 @@ use borrow.Author.Needs.{needs}
 use Rattle.walks.proofs.shared.cell.Statement.{statement}
 use Rattle.walks.proofs.shared.cell.Tie as tie
 
+abbrev Begin : tie.After-wide2 → tie.Start
+Begin c = c .before .before .before .before .before .before
+
 mul-result : tie.Need-mul-result
-mul-result c =
-    let at-start = c .before .before .before .before .before .before in
-    let b = between _ _ _ _ _ (at-start .pre .0) (at-start .pre .1) (c .before .before .wide .ensures) (c .wide2 .ensures) in record { fits = omega arith }
+mul-result c = let b = between _ _ _ _ _ (Begin c .pre .0) (Begin c .pre .1) (c .before .before .wide .ensures) (c .wide2 .ensures) in record { fits = omega arith }
 
 sub-result : tie.Need-sub-result
-sub-result c =
-    let at-start = c .before .before .before .before .before .before in
-    between _ _ _ _ _ (at-start .pre .0) (at-start .pre .1) (c .before .before .wide .ensures) (c .wide2 .ensures) .order
+sub-result c = between _ _ _ _ _ (Begin c .pre .0) (Begin c .pre .1) (c .before .before .wide .ensures) (c .wide2 .ensures) .order
 
 part-result-start : tie.Need-part-result-start
-part-result-start c =
-    let at-start = c .before .before .before .before .before .before in
-    between _ _ _ _ _ (at-start .pre .0) (at-start .pre .1) (c .before .before .wide .ensures) (c .wide2 .ensures) .order
+part-result-start c = between _ _ _ _ _ (Begin c .pre .0) (Begin c .pre .1) (c .before .before .wide .ensures) (c .wide2 .ensures) .order
 
 part-result-end : tie.Need-part-result-end
-part-result-end c =
-    let at-start = c .before .before .before .before .before .before in
-    between _ _ _ _ _ (at-start .pre .0) (at-start .pre .1) (c .before .before .wide .ensures) (c .wide2 .ensures) .within
+part-result-end c = between _ _ _ _ _ (Begin c .pre .0) (Begin c .pre .1) (c .before .before .wide .ensures) (c .wide2 .ensures) .within
 
 returns : tie.Need-returns
 unfolding cellOf

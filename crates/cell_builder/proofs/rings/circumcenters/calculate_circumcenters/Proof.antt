@@ -18,28 +18,25 @@ loop-holds : tie.Need-loop-holds Inv-loop μ-loop
 loop-holds c = centers-start _ _ _ _
 
 center-at-requires : tie.Need-center-at-requires Inv-loop μ-loop
-center-at-requires c κs =
-    let at-start = c .before .before .before .before .before in
-    (at-start .pre .0, omega arith)
+center-at-requires c κs = (c .before .before .before .before .before .pre .0, omega arith)
 
 same-length : tie.Need-same-length Inv-loop μ-loop
 same-length c = c .before .before .before .before .loop .inv .long
 
 returns : tie.Need-returns Inv-loop μ-loop
 returns c =
-    let l = c .before .before .before .before in
-    centers-bad _ _ _ _ _ _ (l .loop .inv) (omega arith) _ _ (c .before .before .center-at .ensures) (sym (c .before .center-ok .ensures) ∙ not-true _ (c .if1 .taken))
+    centers-bad _ _ _ _ _ _ (c .before .before .before .before .loop .inv) (omega arith) _ _ (c .before .before .center-at .ensures)
+    (sym (c .before .center-ok .ensures) ∙ not-true _ (c .if1 .taken))
 
 put-requires : tie.Need-put-requires Inv-loop μ-loop
 put-requires c κs = let l = c .before .before .before .before .before in omega (arith, l .loop .inv .long, l .before .before .before .before .pre .1)
 
 loop-again : tie.Need-loop-again Inv-loop μ-loop
 loop-again c =
-    let at-center-ok = c .before .before .before .before .before in
-    let at-center-at = at-center-ok .before in
-    let l = c .before .before .before .before .before .before .before .before in
+    let at-else1 = c .before .before .before .before in
+    let l = at-else1 .before .before .before .before in
     centers-step _ _ _ _ _ _ (l .loop .inv) (omega arith) (l .before .before .before .before .pre .1) _ _ (c .before .before .put .ensures)
-    (at-center-at .center-at .ensures) (sym (at-center-ok .center-ok .ensures) ∙ not-false _ (c .before .before .before .before .if1 .left))
+    (at-else1 .before .before .center-at .ensures) (sym (at-else1 .before .center-ok .ensures) ∙ not-false _ (at-else1 .if1 .left))
 
 same-length-2 : tie.Need-same-length-2 Inv-loop μ-loop
 same-length-2 c = c .before .loop .inv .long

@@ -5,32 +5,29 @@ use borrow.Author.Needs.{needs}
 use Rattle.cell_builder.proofs.rings.circumcenters.center_at.Statement.{statement}
 use Rattle.cell_builder.proofs.rings.circumcenters.center_at.Tie as tie
 
+abbrev Start : tie.After-wide2 → tie.Start
+Start c = c .before .before .before .before .before .before .before
+
 point-at-requires : tie.Need-point-at-requires
 point-at-requires c κs = rw (c .wide .ensures) (c .before .before .before .before .pre .0 _ (omega arith))
 
 point-at-requires-2 : tie.Need-point-at-requires-2
-point-at-requires-2 c κs =
-    let at-start = c .before .before .before .before .before .before .before in
-    rw (c .wide2 .ensures) (at-start .pre .0 _ (omega arith))
+point-at-requires-2 c κs = rw (c .wide2 .ensures) (Start c .pre .0 _ (omega arith))
 
 point-at-requires-3 : tie.Need-point-at-requires-3
-point-at-requires-3 c κs =
-    let at-start = c .before .before .before .before .before .before .before .before .before .before in
-    rw (c .wide3 .ensures) (at-start .pre .0 _ (omega arith))
+point-at-requires-3 c κs = rw (c .wide3 .ensures) (Start (c .before .before .before) .pre .0 _ (omega arith))
 
 returns : tie.Need-returns
 unfolding centerAt
 returns c =
-    let at-wide2 = c .before .before .before .before .before in
-    let at-point-at = at-wide2 .before .before in
-    let at-wide = at-point-at .before in
+    let at-point-at2 = c .before .before .before .before in
     cc (
       c .before .point-at3 .ensures,
       c .before .before .wide3 .ensures,
-      c .before .before .before .before .point-at2 .ensures,
-      at-wide2 .wide2 .ensures,
-      at-point-at .point-at .ensures,
-      at-wide .wide .ensures,
+      at-point-at2 .point-at2 .ensures,
+      at-point-at2 .before .wide2 .ensures,
+      at-point-at2 .before .before .before .point-at .ensures,
+      at-point-at2 .before .before .before .before .wide .ensures,
     )
 
 pub center-at-spec : {M : Type 1} → statement M

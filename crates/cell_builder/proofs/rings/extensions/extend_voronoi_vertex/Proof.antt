@@ -5,28 +5,28 @@ use borrow.Author.Needs.{needs}
 use Rattle.cell_builder.proofs.rings.extensions.extend_voronoi_vertex.Statement.{statement}
 use Rattle.cell_builder.proofs.rings.extensions.extend_voronoi_vertex.Tie as tie
 
+abbrev Start : tie.After-wide → tie.Start
+Start c = c .before .before .before .before .before .before
+
 point-at-requires : tie.Need-point-at-requires
-point-at-requires c κs =
-    let at-start = c .before .before .before .before .before .before in
-    rw (c .wide .ensures) (at-start .pre .0 _ (at-start .pre .2))
+point-at-requires c κs = rw (c .wide .ensures) (Start c .pre .0 _ (Start c .pre .2))
 
 point-at-requires-2 : tie.Need-point-at-requires-2
 point-at-requires-2 c κs =
-    let at-start = c .before .before .before .before .before .before .before .before .before in
+    let at-start = Start (c .before .before .before) in
     rw (c .wide2 .ensures, c .before .end-site .ensures) (at-start .pre .0 _ (next-lt (at-start .pre .1) (at-start .pre .2)))
 
 returns : tie.Need-returns
 returns c =
-    let at-wide = c .before .before .before .before .before in
-    let at-vertex = at-wide .before .before in
+    let at-end-site = c .before .before .before in
     cc (
       extended-is _ _ _ _,
       c .before .point-at2 .ensures,
       c .before .before .wide2 .ensures,
-      c .before .before .before .end-site .ensures,
-      c .before .before .before .before .point-at .ensures,
-      at-wide .wide .ensures,
-      at-vertex .vertex .ensures,
+      at-end-site .end-site .ensures,
+      at-end-site .before .point-at .ensures,
+      at-end-site .before .before .wide .ensures,
+      at-end-site .before .before .before .before .vertex .ensures,
     )
 
 pub extend-voronoi-vertex-spec : {M : Type 1} → statement M

@@ -5,14 +5,10 @@ use Rattle.cell_builder.proofs.rings.extensions.hull_edge.Statement.{st
 use Rattle.cell_builder.proofs.rings.extensions.hull_edge.Tie as tie
 
 mul-wide-2 : tie.Need-mul-wide-2
-mul-wide-2 c =
-    let at-start = c .before .before .before .before .before in
-    omega (arith, c .wide .ensures, at-start .pre .1 _ (c .before .before .next-place .ensures .1))
+mul-wide-2 c = omega (arith, c .wide .ensures, c .before .before .before .before .before .pre .1 _ (c .before .before .next-place .ensures .1))
 
 shared-slice-read-wide-2 : tie.Need-shared-slice-read-wide-2
-shared-slice-read-wide-2 c =
-    let at-start = c .before .before .before .before .before .before in
-    omega (arith, c .before .wide .ensures, at-start .pre .1 _ (c .before .before .before .next-place .ensures .1))
+shared-slice-read-wide-2 c = omega (arith, c .before .wide .ensures, c .before .before .before .before .before .before .pre .1 _ (c .before .before .before .next-place .ensures .1))
 
 returns : tie.Need-returns
 returns c = cc (c .before .before .wide .ensures, c .before .before .before .before .next-place .ensures .0)

@@ -62,8 +62,8 @@ add-next-due c =
 
 next-due-requires-2 : tie.Need-next-due-requires-2 Inv-loop μ-loop
 next-due-requires-2 c κs =
-    let l = Loop (c .before .before .before .before .before .before .before) in
-    (edges-entries _ _ _ _ _ (Entry l .pre .1), omega (arith, c .before .before .before .before .before .before .before .before .before .before .loop-test .taken))
+    let t = c .before .before .before .before .before .before .before in
+    (edges-entries _ _ _ _ _ (Entry (Loop t) .pre .1), omega (arith, t .before .before .before .loop-test .taken))
 
 loop-less : tie.Need-loop-less Inv-loop μ-loop
 loop-less c =
