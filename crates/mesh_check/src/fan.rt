@@ -7,9 +7,9 @@ ghost use lib.Dec.{eqb};
 ghost use lib.ListN.{length, getD};
 ghost use Rattle.base.specs.common.Decide.{First};
 ghost use Rattle.base.specs.numbers.Numbers.{EMPTY};
-ghost use Rattle.mesh.specs.Mesh.{leftmostOf, tableTo, FanAt, Paired, AllSound};
+ghost use Rattle.mesh.specs.Mesh.{leftmostOf, tableTo, totalTo, FanAt, Paired, AllSound};
 ghost use Rattle.mesh_check.specs.fan.Answer.{FanAnswer};
-ghost use Rattle.mesh_check.specs.fan.Counts.{totalTo, lessOf, owedTo, WalkLengths, CountedDown};
+ghost use Rattle.mesh_check.specs.fan.Counts.{lessOf, owedTo, WalkLengths, CountedDown};
 
 // Whether the walks from the table's entries have as many entries together as there are half-edges.
 fn walks_cover(halfedges: &[u32], table: &[u32]) -> bool

@@ -10,7 +10,7 @@ use Rattle.base.specs.common.laws.Decide.{eq-or-ne}
 use Rattle.base.specs.common.Count.{occ}
 use Rattle.base.specs.numbers.Numbers.{EMPTY}
 use Rattle.mesh.specs.Mesh.{nextOf, startOf, endOf, pairOf, Used, AllSound, leftmostOf, Leftmost, walkOf, wholeOf, Paired}
-use Rattle.mesh.specs.Accepted.{Mesh, Shaped, Topology, Counted, Accepted, siteCount}
+use Rattle.mesh.specs.Accepted.{Mesh, TopologyWith, Topology, Counted, AcceptedWith, Accepted, siteCount}
 use Rattle.mesh.specs.laws.Next.{next-lt, next-thrice}
 use Rattle.mesh.specs.laws.Walks.{walk-ends, walk-in, whole-once, reached-walk, walk-fuel}
 use Rattle.mesh.specs.laws.Table.{table-length, table-leftmost, the-unpaired, the-lowest, the-none}
@@ -23,7 +23,7 @@ few-entries n = omega (arith, n .few-triangles, n .threes)
 pub few-on-hull : {c t e h : ℕ} → Counted c t e h → h < EMPTY
 few-on-hull n = omega (arith, n .hull-of-sites, n .few-sites)
 
-pub topology : {m : Mesh} → Accepted m → Topology (m .triangles) (m .halfedges) (m .hull) (siteCount (m .sites))
+pub topology : {Fans : Type 0} {m : Mesh} → AcceptedWith Fans m → TopologyWith Fans (m .triangles) (m .halfedges) (m .hull) (siteCount (m .sites))
 topology a = a .topology
 
 -- sound triangles name sites
@@ -40,11 +40,14 @@ module _ (tri : List ℕ) (sites : ℕ) (threes : length tri % 3 ≡ 0) (all : A
       (eq-or-ne (k % 3) 0)
 
 -- what rule 10 adds to rules 7 to 9, and what it leaves out
-module _ {Fans : Type 0} {tri he hull : List ℕ} {sites : ℕ} (ok : Shaped Fans tri he hull sites) where
-  pub with-fans : {Others : Type 0} → Others → Shaped Others tri he hull sites
+module _ {Fans : Type 0} {tri he hull : List ℕ} {sites : ℕ} (ok : TopologyWith Fans tri he hull sites) where
+  pub with-fans : {Others : Type 0} → Others → TopologyWith Others tri he hull sites
   with-fans fan = record { threes = ok .threes; same = ok .same; small = ok .small; sound = ok .sound; pairs = ok .pairs; border = ok .border; fan = fan }
 
-module _ {Fans : Type 0} {tri he hull : List ℕ} {sites : ℕ} (ok : Shaped Fans tri he hull sites) where
+pub accepted-with : {Fans Others : Type 0} {m : Mesh} → AcceptedWith Fans m → Others → AcceptedWith Others m
+accepted-with a fan = record { counts = a .counts; coordinates = a .coordinates; topology = with-fans (a .topology) fan }
+
+module _ {Fans : Type 0} {tri he hull : List ℕ} {sites : ℕ} (ok : TopologyWith Fans tri he hull sites) where
   pub paired : Paired tri he
   paired = record { threes = rw (ok .same) (ok .threes); small = rw (ok .same) (ok .small); pairs = λ e l. ok .pairs e (rw (← ok .same) l) }
 

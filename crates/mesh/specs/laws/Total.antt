@@ -14,9 +14,8 @@ use Rattle.base.specs.common.laws.Decide.{lt-or-ge}
 use Rattle.base.specs.common.Decide.{Says}
 use Rattle.base.specs.common.Count.{occ}
 use Rattle.base.specs.common.laws.Count.{same-cases, occ-append, all-there, all-counted}
-use Rattle.mesh.specs.Mesh.{endOf, here, wholeOf, Fan, Paired}
+use Rattle.mesh.specs.Mesh.{endOf, here, wholeOf, totalTo, Fan, Paired}
 use Rattle.mesh.specs.laws.Walks.{walk-in, walk-ends, walk-reached, reached-walk, whole-once}
-use Rattle.mesh_check.specs.fan.Counts.{totalTo}
 
 -- the walks from the first n entries of a table, one after the other
 allOf : List ℕ → List ℕ → ℕ → List ℕ
