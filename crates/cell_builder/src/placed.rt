@@ -80,20 +80,20 @@ fn walk_round(halfedges: &[u32], indexes: &mut [u32], at: usize, end: usize, t: 
     indexes[at] = (t / 3) as u32;
     let mut n = at + 1;
     let mut m = end;
-    let mut e = t;
-    let mut f = t;
+    let mut back = t;
+    let mut on = t;
     while n < m {
-        e = step_back(halfedges, e);
-        if e == t {
+        back = step_back(halfedges, back);
+        if back == t {
             return false;
         }
-        indexes[n] = (e / 3) as u32;
-        f = step_on(halfedges, f);
+        indexes[n] = (back / 3) as u32;
+        on = step_on(halfedges, on);
         m -= 1;
-        indexes[m] = (f / 3) as u32;
+        indexes[m] = (on / 3) as u32;
         n += 1;
     }
-    meets(halfedges, e, f, n == m)
+    meets(halfedges, back, on, n == m)
 }
 
 // The place after a cell, and how long the walk of its site is, or 0 where that is not known.

@@ -10,11 +10,11 @@ use Rattle.cell_builder.proofs.placed.walk_round.Statement.{statement}
 use Rattle.cell_builder.proofs.placed.walk_round.Tie as tie
 
 abbrev Inv-loop : tie.InvT-loop
-Inv-loop halfedges indexes₀ at end t n₀ m₀ e₀ f₀ indexes n m e f =
-    (old : List ℕ) → indexes₀ ≡ set old at (t / 3) → end ≤ length old → WalkingRound halfedges t at end old indexes n m e f
+Inv-loop halfedges indexes₀ at end t n₀ m₀ back₀ on₀ indexes n m back on =
+    (old : List ℕ) → indexes₀ ≡ set old at (t / 3) → end ≤ length old → WalkingRound halfedges t at end old indexes n m back on
 
 abbrev μ-loop : tie.MeasureT-loop
-μ-loop halfedges indexes₀ at end t n₀ m₀ e₀ f₀ indexes n m e f = m - n
+μ-loop halfedges indexes₀ at end t n₀ m₀ back₀ on₀ indexes n m back on = m - n
 
 abbrev First : tie.After-slice-known Inv-loop μ-loop → tie.Start Inv-loop μ-loop
 First c = c .before .before
@@ -28,7 +28,7 @@ room c = let b = First c .pre .4 .1 in omega (arith, b .some, b .short)
 
 -- what is written by now
 Now : (l : tie.At-loop Inv-loop μ-loop) → let a = Entry l .args in
-    RoundEnds (a .halfedges .now) (a .t) (a .at) (a .end) (a .indexes .now) (Entry l .pre .4 .1 .along) (l .loop .indexes) (l .loop .n) (l .loop .m) (l .loop .e) (l .loop .f)
+    RoundEnds (a .halfedges .now) (a .t) (a .at) (a .end) (a .indexes .now) (Entry l .pre .4 .1 .along) (l .loop .indexes) (l .loop .n) (l .loop .m) (l .loop .back) (l .loop .on)
 Now l = l .loop .inv (Entry l .args .indexes .now) refl (Entry l .pre .2) _ (Entry l .pre .4 .1)
 
 cast-indexes : tie.Need-cast-indexes Inv-loop μ-loop
