@@ -14,7 +14,7 @@ use Rattle.cell_builder.specs.declared.finish.Progress.{Progress}
 use Rattle.cell_builder.specs.tried.SlicesInvariant.{Plan, Ground, Amid, Does, AtRest}
 use Rattle.cell_builder.specs.tried.laws.Early.{earlyCell}
 use Rattle.cell_builder.specs.turned.Marks.{Covers, MadeLast, LeftOut}
-use Rattle.cell_builder.specs.turned.Turns.{HullsMarked, SettledBefore}
+use Rattle.cell_builder.specs.turned.Turns.{HullsKnown, SettledBefore}
 
 -- ---- the definition's loops, by a plan
 
@@ -41,13 +41,13 @@ MarksCover w g m = Covers (w .frame .bounds) (g .x .verts) (w .triangles) (w .ta
 abbrev pub InnerBlank : Plan → Ground → CellState → Type 0
 InnerBlank w g s = (k : ℕ) → k < g .sites → pairOf (w .halfedges) (getD (w .table) k 0) ≢ EMPTY → getD (s .cells) k [] ≡ []
 
--- those of inner sites empty, and of the hull's filled where not marked
+-- those of inner sites empty, and of the hull's filled where not marked, or idle
 pub record RestAmid (w : Plan) (m : List ℕ) (p : Progress) (v : List Float) (ix : List ℕ) : Type 0 where
   pub g : Ground
   pub s : CellState
   pub amid : Amid w g s p v ix
   pub inner : InnerBlank w g s
-  pub filled : HullsMarked w m s
+  pub filled : HullsKnown w g m s
   pub marked : MarksCover w g m
 
 -- early sites' cells are empty
@@ -90,7 +90,7 @@ DoesLeft w g m (refused e) p v ix = (p .fault ≡ e) × (0 < e .number)
 
 -- at all half-edges
 abbrev pub RestTried : Plan → List ℕ → Progress → List Float → List ℕ → Progress → List Float → List ℕ → Type 0
-RestTried w m p v ix r v₁ ix₁ = AtRest w p v ix (λ g s. InnerBlank w g s → HullsMarked w m s → MarksCover w g m → DoesLeft w g m (edgeTries w s) r v₁ ix₁)
+RestTried w m p v ix r v₁ ix₁ = AtRest w p v ix (λ g s. InnerBlank w g s → HullsKnown w g m s → MarksCover w g m → DoesLeft w g m (edgeTries w s) r v₁ ix₁)
 
 -- the same with the marks alone
 abbrev pub DoesLate : Plan → Ground → List ℕ → Outcome Fault CellState → Progress → List Float → List ℕ → Type 0

@@ -1,0 +1,52 @@
+// The tries of hull sites whose cells stay empty. At the hull place no circumcenter of such a site was inside and no edge between two of them crossed the box. A ring from one of its
+// half-edges has those edges again, and one more, which closes it from its first triangle to its last; that one alone is asked.
+use base::numbers::EMPTY;
+use base::numbers::wide;
+use clipping::edges::misses;
+use mesh::end_site;
+use mesh::turn;
+use plane::boxes::BoundingBox;
+ghost use mathlib.Core.Path.{_≡_};
+ghost use Prim.Native.Nat.{_%_, _<_};
+ghost use lib.ListN.{length};
+ghost use Rattle.base.specs.common.Decide.{Says};
+ghost use Rattle.plane.specs.points.Flat.{points};
+ghost use Rattle.walks.specs.neighbours.Cursor.{Settled};
+ghost use Rattle.cell_builder.specs.turned.Turns.{Retries, ClosedRetry};
+ghost use Rattle.cell_builder.specs.turned.laws.IdleSites.{walkEnd};
+
+// The last half-edge of the walk from s.
+fn walk_end(halfedges: &[u32], s: u32) -> usize
+    requires { ⌜ (length (now halfedges) % 3 ≡ 0) × (s < length (now halfedges)) × Settled (now halfedges) s s ⌝ }
+    ensures { λ r. ⌜ (r ≡ walkEnd (now (halfedges .entry)) s) × (r < length (now (halfedges .entry))) ⌝ }
+{
+    let mut last = wide(s);
+    let mut e = wide(s);
+    while e < halfedges.len() {
+        last = e;
+        e = wide(turn(halfedges, s, e));
+    }
+    last
+}
+
+// Whether half-edge e ends at a hull site and the edge that closes its ring misses the box.
+pub fn closes_outside(
+    triangles: &[u32],
+    halfedges: &[u32],
+    table: &[u32],
+    vertices: &[f64],
+    count: usize,
+    bounds: BoundingBox,
+    e: usize,
+) -> bool
+    requires { ⌜ Retries (now triangles) (now halfedges) (now table) count (length (now vertices)) e ⌝ }
+    ensures { λ r. ⌜ Says r (ClosedRetry (now (triangles .entry)) (now (halfedges .entry)) (now (table .entry)) bounds (points count (now (vertices .entry))) e) ⌝ }
+{
+    let site = wide(end_site(triangles, e));
+    let t = wide(table[site]);
+    if halfedges[t] != EMPTY {
+        return false;
+    }
+    let last = walk_end(halfedges, e as u32);
+    misses(vertices, count, bounds, (e / 3) as u32, (last / 3) as u32)
+}
