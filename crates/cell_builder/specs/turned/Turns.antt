@@ -97,19 +97,26 @@ pub record HullWalks (tri he hull table ix off : List ℕ) : Type 0 where
 
 -- ---- retries
 
--- the site where half-edge e ends is on the hull, and the edge that closes the ring from there misses the box
-pub record ClosedRetry (tri he table : List ℕ) (b : BoundingBox) (vs : List Point) (e : ℕ) : Type 0 where
-  pub on-hull : pairOf he (getD table (endOf tri e) 0) ≡ EMPTY
+-- a site is on the hull, and the first entry of its region is that of no cell
+pub record HullBlank (he table ix off : List ℕ) (site : ℕ) : Type 0 where
+  pub blank : getD ix (getD off site 0) 0 ≡ EMPTY
+  pub on-hull : pairOf he (getD table site 0) ≡ EMPTY
+
+-- so is the site where half-edge e ends, and the edge that closes the ring from there misses the box
+pub record ClosedRetry (tri he table ix off : List ℕ) (b : BoundingBox) (vs : List Point) (e : ℕ) : Type 0 where
+  pub site : HullBlank he table ix off (endOf tri e)
   pub outside : ClosesOutside b he vs e
 
 -- what telling it needs
-pub record Retries (tri he table : List ℕ) (count numbers e : ℕ) : Type 0 where
+pub record Retries (tri he table ix off : List ℕ) (count numbers e : ℕ) : Type 0 where
   pub paired : Paired tri he
   pub threes : length tri % 3 ≡ 0
   pub same : length he ≡ length tri
   pub few : length tri ≤ 393216
   pub in-mesh : e < length tri
   pub entry : HasEntry tri he table e
+  pub starts : endOf tri e < length off
+  pub place : getD off (endOf tri e) 0 < length ix
   pub centers : length tri / 3 ≤ count
   pub room : 2 * count ≤ numbers
 

@@ -73,7 +73,17 @@ fn clip_due(
         (now (vertices .entry)) (now (indexes .entry)) e r (now (vertices .exit)) (now (indexes .exit))) ⌝ }
 {
     let bounds = f.bounds;
-    if closes_outside(triangles, halfedges, table, vertices, p.count, bounds, e) {
+    if closes_outside(
+        triangles,
+        halfedges,
+        table,
+        vertices,
+        indexes,
+        offsets,
+        p.count,
+        bounds,
+        e,
+    ) {
         return p;
     }
     clip_at_edge(triangles, halfedges, vertices, indexes, offsets, f, p, e)

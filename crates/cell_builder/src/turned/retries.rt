@@ -8,11 +8,11 @@ use mesh::turn;
 use plane::boxes::BoundingBox;
 ghost use mathlib.Core.Path.{_≡_};
 ghost use Prim.Native.Nat.{_%_, _<_};
-ghost use lib.ListN.{length};
+ghost use lib.ListN.{length, getD};
 ghost use Rattle.base.specs.common.Decide.{Says};
 ghost use Rattle.plane.specs.points.Flat.{points};
 ghost use Rattle.walks.specs.neighbours.Cursor.{Settled};
-ghost use Rattle.cell_builder.specs.turned.Turns.{Retries, ClosedRetry};
+ghost use Rattle.cell_builder.specs.turned.Turns.{HullBlank, Retries, ClosedRetry};
 ghost use Rattle.cell_builder.specs.turned.laws.IdleSites.{walkEnd};
 
 // The last half-edge of the walk from s.
@@ -29,22 +29,37 @@ fn walk_end(halfedges: &[u32], s: u32) -> usize
     last
 }
 
-// Whether half-edge e ends at a hull site and the edge that closes its ring misses the box.
+// Whether a site is on the hull and has no cell.
+fn hull_blank(halfedges: &[u32], table: &[u32], indexes: &[u32], offsets: &[u32], site: u32) -> bool
+    requires { ⌜ (site < length (now table)) × (getD (now table) site 0 < length (now halfedges)) × (site < length (now offsets)) × (getD (now offsets) site 0 < length (now indexes)) ⌝ }
+    ensures { λ r. ⌜ Says r (HullBlank (now (halfedges .entry)) (now (table .entry)) (now (indexes .entry)) (now (offsets .entry)) site) ⌝ }
+{
+    let base = wide(offsets[wide(site)]);
+    if indexes[base] != EMPTY {
+        return false;
+    }
+    let t = wide(table[wide(site)]);
+    halfedges[t] == EMPTY
+}
+
+// Whether half-edge e ends at a hull site without a cell and the edge that closes its ring misses the box.
 pub fn closes_outside(
     triangles: &[u32],
     halfedges: &[u32],
     table: &[u32],
     vertices: &[f64],
+    indexes: &[u32],
+    offsets: &[u32],
     count: usize,
     bounds: BoundingBox,
     e: usize,
 ) -> bool
-    requires { ⌜ Retries (now triangles) (now halfedges) (now table) count (length (now vertices)) e ⌝ }
-    ensures { λ r. ⌜ Says r (ClosedRetry (now (triangles .entry)) (now (halfedges .entry)) (now (table .entry)) bounds (points count (now (vertices .entry))) e) ⌝ }
+    requires { ⌜ Retries (now triangles) (now halfedges) (now table) (now indexes) (now offsets) count (length (now vertices)) e ⌝ }
+    ensures { λ r. ⌜ Says r (ClosedRetry (now (triangles .entry)) (now (halfedges .entry)) (now (table .entry)) (now (indexes .entry)) (now (offsets .entry)) bounds
+        (points count (now (vertices .entry))) e) ⌝ }
 {
-    let site = wide(end_site(triangles, e));
-    let t = wide(table[site]);
-    if halfedges[t] != EMPTY {
+    let site = end_site(triangles, e);
+    if !hull_blank(halfedges, table, indexes, offsets, site) {
         return false;
     }
     let last = walk_end(halfedges, e as u32);

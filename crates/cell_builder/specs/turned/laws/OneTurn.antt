@@ -29,7 +29,7 @@ use Rattle.cell_builder.specs.turned.laws.IdleSites.{IdleSite, ClosesOut
 use Rattle.cell_builder.specs.declared.tried.Frame.{Frame}
 use Rattle.cell_builder.specs.tried.SlicesInvariant.{plan, Ground, edgeTry}
 use Rattle.cell_builder.specs.turned.Marks.{markOf}
-use Rattle.cell_builder.specs.turned.Turns.{dueOf, HasEntry, AllHaveEntries, HullsIdle, SettledBefore, SettledAfter, ClosedRetry}
+use Rattle.cell_builder.specs.turned.Turns.{dueOf, HasEntry, AllHaveEntries, HullsIdle, SettledBefore, SettledAfter}
 use Rattle.cell_builder.specs.turned.laws.Onward.{Onward, OthersStay, others-stay}
 
 gives-all : (P : CellState → Type 0) (o : Outcome Fault CellState) → ((r : CellState) → P r) → Gives P o
@@ -88,12 +88,13 @@ module _ {tri he hull table : List ℕ} {f : Frame} {off : List ℕ} {g : Ground
         (λ t. refl)
 
     -- on the hull
-    pub retry-nothing : HullsIdle (plan tri he hull table f off) g s → ClosedRetry tri he table (f .bounds) (s .verts) e → edgeTry (plan tri he hull table f off) e s ≡ ok s
-    retry-nothing known c =
+    pub retry-nothing : HullsIdle (plan tri he hull table f off) g s → pairOf he (getD table (endOf tri e) 0) ≡ EMPTY → ClosesOutside (f .bounds) he (s .verts) e
+        → edgeTry (plan tri he hull table f off) e s ≡ ok s
+    retry-nothing known u c =
         ⊎-elim
         (λ q. rw q)
-        (λ i. idle i (λ _. c .outside))
-        (known e h (c .on-hull))
+        (λ i. idle i (λ _. c))
+        (known e h u)
 
   module _ {m : List ℕ} {e : ℕ} (b : SettledBefore (plan tri he hull table f off) g m e s) (h : e < length tri) where
     abbrev site : ℕ

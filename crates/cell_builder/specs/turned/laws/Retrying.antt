@@ -1,11 +1,13 @@
 -- A hull site's half-edge whose try is known to put nothing: where its walk ends, and that the slices hold what the definition's try there gives.
-use mathlib.Core.Path.{_≡_, refl, sym, ap, _∙_}
+use mathlib.Core.Path.{_≡_, refl, sym, ap, _∙_, subst}
 use mathlib.Core.Bool.{Bool, true, false}
 use mathlib.Core.List.{List}
 use Prim.Native.Nat.{ℕ, _/_, _≤_, _<_}
 use native.Mathlib.Omega.{arith}
+use lib.Dec.{eqb}
 use lib.Ieee.{Float}
 use lib.ListN.{length, getD}
+use borrow.Author.Tests.{eqb-true, eqb-false}
 use Rattle.base.specs.common.Decide.{Says}
 use Rattle.base.specs.numbers.Numbers.{EMPTY}
 use Rattle.plane.specs.points.Flat.{points}
@@ -21,7 +23,8 @@ use Rattle.definition.specs.Build.{CellState}
 use Rattle.cell_builder.specs.declared.finish.Progress.{Progress}
 use Rattle.cell_builder.specs.tried.SlicesInvariant.{Plan, Ground, Amid, Does, edgeTry}
 use Rattle.cell_builder.specs.tried.laws.OneTry.{corners-in}
-use Rattle.cell_builder.specs.turned.Turns.{HullsIdle, ClosedRetry, Retries}
+use Rattle.cell_builder.specs.tried.laws.HullAndEdgeTries.{edge-site, region-place}
+use Rattle.cell_builder.specs.turned.Turns.{HullsIdle, HullBlank, ClosedRetry, Retries}
 use Rattle.cell_builder.specs.turned.laws.IdleRing.{idleEnd}
 use Rattle.cell_builder.specs.turned.laws.IdleSites.{walkEnd}
 use Rattle.cell_builder.specs.turned.laws.Onward.{onward}
@@ -53,16 +56,25 @@ module _ (he : List ℕ) (s : ℕ) where
 
 -- ---- what is asked there
 
-module _ (tri he table : List ℕ) (b : BoundingBox) (vs : List Point) (e last : ℕ) (q : last ≡ walkEnd he e) where
-  pub retry-says : pairOf he (getD table (endOf tri e) 0) ≡ EMPTY → (r : Bool) → Says r (edgeCrossing b (vertexAt vs (e / 3)) (vertexAt vs (last / 3)) ≡ None)
-      → Says r (ClosedRetry tri he table b vs e)
-  retry-says u true m = record { on-hull = u; outside = rw q at m }
+-- the first entry of a region, then the table's entry
+pub blank-says : (he table ix off : List ℕ) (site : ℕ) → getD ix (getD off site 0) 0 ≡ EMPTY → (r : Bool) → r ≡ eqb (pairOf he (getD table site 0)) EMPTY
+    → Says r (HullBlank he table ix off site)
+blank-says he table ix off site z true q = record { blank = z; on-hull = eqb-true _ _ (sym q) }
+blank-says he table ix off site z false q = λ b. eqb-false _ _ (sym q) (b .on-hull)
+
+pub blank-at : (he table ix off : List ℕ) {j k : ℕ} → j ≡ k → HullBlank he table ix off j → HullBlank he table ix off k
+blank-at he table ix off q b = subst (HullBlank he table ix off) q b
+
+module _ (tri he table ix off : List ℕ) (b : BoundingBox) (vs : List Point) (e last : ℕ) (q : last ≡ walkEnd he e) where
+  pub retry-says : HullBlank he table ix off (endOf tri e) → (r : Bool) → Says r (edgeCrossing b (vertexAt vs (e / 3)) (vertexAt vs (last / 3)) ≡ None)
+      → Says r (ClosedRetry tri he table ix off b vs e)
+  retry-says u true m = record { site = u; outside = rw q at m }
   retry-says u false m = λ c. m (rw q (c .outside))
 
 -- ---- the slices
 
 module _ {w : Plan} {g : Ground} {s : CellState} {p : Progress} {v : List Float} {ix : List ℕ} (a : Amid w g s p v ix) {e : ℕ} (h : e < length (w .triangles)) where
-  pub retries : Retries (w .triangles) (w .halfedges) (w .table) (p .count) (length v) e
+  pub retries : Retries (w .triangles) (w .halfedges) (w .table) ix (w .offsets) (p .count) (length v) e
   retries = record {
     paired = paired (a .on .mesh);
     threes = a .on .mesh .threes;
@@ -70,9 +82,11 @@ module _ {w : Plan} {g : Ground} {s : CellState} {p : Progress} {v : List Float}
     few = a .on .few-entries;
     in-mesh = h;
     entry = all-entries (onward a) .each e h;
+    starts = omega (arith, edge-site a e _ h refl, a .on .places);
+    place = region-place a e _ h refl;
     centers = omega (arith, corners-in a);
     room = a .holds .room;
   }
 
-  pub retry-kept : HullsIdle w g s → ClosedRetry (w .triangles) (w .halfedges) (w .table) (w .frame .bounds) (points (p .count) v) e → Does w g (edgeTry w e s) p v ix
-  retry-kept known c = rw (retry-nothing (onward a) h known (rw (a .verts) c)) a
+  pub retry-kept : HullsIdle w g s → ClosedRetry (w .triangles) (w .halfedges) (w .table) ix (w .offsets) (w .frame .bounds) (points (p .count) v) e → Does w g (edgeTry w e s) p v ix
+  retry-kept known c = rw (retry-nothing (onward a) h known (c .site .on-hull) (rw (a .verts) (c .outside))) a

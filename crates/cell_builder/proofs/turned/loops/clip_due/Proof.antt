@@ -7,8 +7,8 @@ use Rattle.cell_builder.specs.turned.laws.Retrying.{retries, retry-kept}
 use Rattle.cell_builder.proofs.turned.loops.clip_due.Statement.{statement}
 use Rattle.cell_builder.proofs.turned.loops.clip_due.Tie as tie
 
-abbrev Entry : tie.After-closes-outside-arg → tie.Start
-Entry c = c .before .before .before .before .before .before .before .before
+abbrev Entry : tie.After-closes-outside-arg2 → tie.Start
+Entry c = c .before .before .before .before .before .before .before .before .before
 
 closes-outside-requires : tie.Need-closes-outside-requires
 closes-outside-requires c κs = let s = Entry c in retries (s .pre .2 .amid) (s .pre .0)
@@ -27,4 +27,4 @@ returns-2 c =
 pub clip-due-spec : {M : Type 1} → statement M
 clip-due-spec =
     tie.close
-    (tie.spec closes-outside-requires (λ c. search needs) returns (λ c κs. search needs) (λ c. search needs) (λ c. search needs) returns-2)
+    (tie.spec closes-outside-requires (λ c. search needs) (λ c. search needs) returns (λ c κs. search needs) (λ c. search needs) (λ c. search needs) returns-2)
