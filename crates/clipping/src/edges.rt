@@ -10,6 +10,7 @@ use vertices::vertex;
 ghost use mathlib.Core.Path.{_≡_};
 ghost use Prim.Native.Nat.{_+_, _*_, _≤_, _<_, _^_};
 ghost use lib.ListN.{length, drop};
+ghost use Rattle.base.specs.common.Decide.{Says};
 ghost use Rattle.plane.specs.points.Plane.{at};
 ghost use Rattle.plane.specs.points.Flat.{points};
 ghost use Rattle.vertices.specs.Store.{Holds};
@@ -103,6 +104,19 @@ fn crossing_between(vertices: &[f64], count: usize, bounds: BoundingBox, p: u32,
     let from = vertex(vertices, count, p as usize);
     let to = vertex(vertices, count, q as usize);
     edge_crossing(bounds, from, to)
+}
+
+// Whether the edge from vertex p to vertex q does not cross the box.
+pub fn misses(vertices: &[f64], count: usize, bounds: BoundingBox, p: u32, q: u32) -> bool
+    requires { ⌜ (2 * count ≤ length (now vertices)) × (p < count) × (q < count) ⌝ }
+    ensures { λ r. ⌜ Says r (Def.edgeCrossing bounds (Def.vertexAt (points count (now (vertices .entry))) p) (Def.vertexAt (points count (now (vertices .entry))) q) ≡ Crossing.None) ⌝ }
+{
+    let c = crossing_between(vertices, count, bounds, p, q);
+    match c {
+        Crossing::None => true,
+        Crossing::One(_, _) => false,
+        Crossing::Two(_, _, _, _) => false,
+    }
 }
 
 fn clip_once(

@@ -2,7 +2,7 @@
 -- a try sets the cell of its own site only, and those still to come stay empty.
 use mathlib.Core.Path.{_≡_, refl, sym, ap, _∙_}
 use mathlib.Core.List.{List, []}
-use mathlib.Core.Logic.{_≢_, ⊎-elim}
+use mathlib.Core.Logic.{inl, inr, _≢_, ⊎-elim}
 use Prim.Native.Nat.{ℕ, zero, suc, _+_, _-_, _/_, _≤_, _<_}
 use native.Mathlib.Nat.{sub-zero}
 use native.Mathlib.Numerals.{add-one}
@@ -26,7 +26,7 @@ use Rattle.definition.specs.laws.Gives.{Gives, gives-map, gives-then}
 use Rattle.build_laws.specs.laws.Runs.{true-false}
 use Rattle.build_laws.specs.laws.Inside.{in-grown}
 use Rattle.cell_builder.specs.declared.finish.Progress.{Progress}
-use Rattle.cell_builder.specs.tried.SlicesInvariant.{Plan, Ground, Fanned, Amid, Does, Stands, hullTry, edgeTry, HullAmid, EdgesAmid, AtRest, HullTried, EdgeTried}
+use Rattle.cell_builder.specs.tried.SlicesInvariant.{Plan, Ground, Fanned, Amid, Does, hullTry, edgeTry, HullAmid, EdgesAmid, AtRest, HullTried}
 use Rattle.cell_builder.specs.tried.laws.OneTry.{region-room, region-within, corners-in}
 use Rattle.cell_builder.specs.turned.Loops.{
   hullTries,
@@ -45,7 +45,8 @@ use Rattle.cell_builder.specs.turned.Loops.{
   AllTried,
 }
 use Rattle.cell_builder.specs.turned.Marks.{Markable, Covers, MadeLast, LeftOut}
-use Rattle.cell_builder.specs.turned.Turns.{HullsMarked, SettledBefore, SettledAfter, HullRegions, HullTold, HullWalks}
+use Rattle.cell_builder.specs.turned.Turns.{HullsMarked, HullsIdle, HullsKnown, SettledBefore, SettledAfter, HullRegions, HullTold, HullWalks, DueTried}
+use Rattle.cell_builder.specs.turned.laws.HullTries.{OffHull, HullsDone, hulls-done}
 use Rattle.cell_builder.specs.turned.laws.Leaving.{Alike, left-none, left-more, left-onward}
 use Rattle.cell_builder.specs.turned.laws.Quiet.{early-filled}
 use Rattle.cell_builder.specs.tried.laws.Early.{earlyCell}
@@ -75,11 +76,6 @@ module _ (w : Plan) (g : Ground) where
     unfolding andThen
     stopped (ok s) q d z = absurd (z (ap (λ (e : Fault). e .number) (d .fine)))
     stopped (refused e) q d z = rw (← q) d
-
-  -- whatever the outcome, without a fault there are cells
-  pub stands : (o : Outcome Fault CellState) {r : Progress} {v : List Float} {ix : List ℕ} → Does w g o r v ix → Stands w g r v ix
-  stands (ok s) d z = (s, d)
-  stands (refused e) d z = absurd (omega (arith, d .1, rw (d .0) at z))
 
 -- ---- the hull
 
@@ -180,6 +176,14 @@ pub record RestLeft (w : Plan) (g : Ground) (m : List ℕ) (whole : Outcome Faul
   pub blank : EarlyBlank w g m held
   pub makes : edgesFrom w e cells ≡ whole
 
+-- early sites are not on the hull, so what is known of hull sites is known of those held
+held-idle : {w : Plan} {g : Ground} {m : List ℕ} {o : Outcome Fault CellState} {e : ℕ} {p : Progress} {v : List Float} {ix : List ℕ}
+    → (a : RestLeft w g m o e p v ix) → HullsIdle w g (a .held)
+held-idle {w = w} a h l u =
+    let top = a .amid .on .mesh in
+    let same = ⊎-elim (λ q. q) (λ q. absurd (q .0 .0 .inner u)) (a .left .each (endOf (w .triangles) h) (end-site top h (rw (top .same) l))) in
+    ⊎-elim (λ x. inl (rw (← same) x)) (λ x. inr x) (a .settled .hulls .idle h l u)
+
 -- a try that does the same with the cells c and t, and what it settles
 pub record TriedAlike (w : Plan) (g : Ground) (m : List ℕ) (e : ℕ) (c t : CellState) : Type 0 where
   pub alike : Alike (LeftOut w g (λ (k : ℕ). MadeLast (w .halfedges) (w .table) m k × (getD (w .table) k 0 < e))) (edgeTry w e c) (edgeTry w e t)
@@ -210,7 +214,7 @@ module _ (w : Plan) (m : List ℕ) (p₀ : Progress) (v₀ : List Float) (ix₀ 
   -- some cells, and where rule 10 holds those of the definition
   abbrev pub EdgesAlong : ℕ → Progress → List Float → List ℕ → Type 0
   EdgesAlong e p v ix =
-      AtRest w p₀ v₀ ix₀ (λ g s. ((t : CellState) × Amid w g t p v ix) × (Fanned w g → InnerBlank w g s → HullsMarked w m s → MarksCover w g m → RestLeft w g m (edgeTries w s) e p v ix))
+      AtRest w p₀ v₀ ix₀ (λ g s. ((t : CellState) × Amid w g t p v ix) × (Fanned w g → InnerBlank w g s → HullsKnown w g m s → MarksCover w g m → RestLeft w g m (edgeTries w s) e p v ix))
 
   pub edges-start : EdgesAlong 0 p₀ v₀ ix₀
   edges-start g s a = (
@@ -239,16 +243,16 @@ module _ (w : Plan) (m : List ℕ) (p₀ : Progress) (v₀ : List Float) (ix₀ 
           rw q (a .held, record { settled = rw l at (a .settled); left = left-more (λ k lk x. x .0) (a .left); blank = a .blank; amid = a .amid }),
     )
 
-    module _ (l : e < length (w .triangles)) (r : Progress) (v₁ : List Float) (ix₁ : List ℕ) (try : EdgeTried w p v ix e r v₁ ix₁)
+    module _ (l : e < length (w .triangles)) (r : Progress) (v₁ : List Float) (ix₁ : List ℕ) (try : DueTried w p v ix e r v₁ ix₁)
         (fits : (g : Ground) (s : CellState) (o : Outcome Fault CellState) → Fanned w g → MarksCover w g m → (a : RestLeft w g m o e p v ix) → TriedAlike w g m e (a .cells) (a .held)) where
       -- what the try settles is said by OneTurn, that it is the same with early cells left out by Leaving
       pub edges-step : r .fault .number ≡ 0 → EdgesAlong (e + 1) r v₁ ix₁
       edges-step z g s am = (
-        let a = along g s am .0 in stands w g (edgeTry w e (a .0)) (try g (a .0) (a .1)) z,
+        let a = along g s am .0 in try g (a .0) (a .1) .0 z,
         λ fan inner filled marked.
             let a = along g s am .1 fan inner filled marked in
             let f = fits g s _ fan marked a in
-            stepped w g m e r v₁ ix₁ (edgeTries w s) _ _ (f .alike) (f .settled) (f .blank) (edge-next w e (a .cells) l ∙ a .makes) (try g (a .held) (a .amid)) z,
+            stepped w g m e r v₁ ix₁ (edgeTries w s) _ _ (f .alike) (f .settled) (f .blank) (edge-next w e (a .cells) l ∙ a .makes) (try g (a .held) (a .amid) .1 (held-idle a)) z,
       )
 
       pub edges-refused : r .fault .number ≢ 0 → RestTried w m p₀ v₀ ix₀ r v₁ ix₁
@@ -257,7 +261,7 @@ module _ (w : Plan) (m : List ℕ) (p₀ : Progress) (v₀ : List Float) (ix₀ 
         λ fan inner filled marked.
             let a = along g s am .1 fan inner filled marked in
             let f = fits g s _ fan marked a in
-            halted w g m e r v₁ ix₁ (edgeTries w s) _ _ (f .alike) (edge-next w e (a .cells) l ∙ a .makes) (try g (a .held) (a .amid)) z,
+            halted w g m e r v₁ ix₁ (edgeTries w s) _ _ (f .alike) (edge-next w e (a .cells) l ∙ a .makes) (try g (a .held) (a .amid) .1 (held-idle a)) z,
       )
 
 -- ---- whether all hull sites have their cells
@@ -299,14 +303,21 @@ module _ {w : Plan} {g : Ground} {s : CellState} {p : Progress} {v : List Float}
     few = omega (arith, a .on .few-entries, a .on .mesh .same);
   }
 
+  -- where the table entry of a half-edge's site is unpaired, the site stands at a hull place
+  hull-place : (h : ℕ) → h < length (w .triangles) → pairOf (w .halfedges) (getD (w .table) (endOf (w .triangles) h) 0) ≡ EMPTY
+      → (i : ℕ) × (i < length (w .hull)) × (getD (w .hull) i 0 ≡ endOf (w .triangles) h)
+  hull-place h l u =
+      let top = a .on .mesh in
+      let there = tab-some top (endOf (w .triangles) h) (end-site top h (in-mesh h l)) h (in-mesh h l) refl in
+      on-hull (onward a) (endOf (w .triangles) h) (rw (a .on .table-is) (there .0)) (rw (a .on .table-is) (there .1)) u
+
   -- a hull site without a cell has all of its half-edges marked
   pub hulls-marked : Fanned w g → (m : List ℕ) → ((i : ℕ) → i < length (w .hull) → HullTold (w .halfedges) (w .hull) (w .table) ix (w .offsets) m i) → HullsMarked w m s
   hulls-marked fan m told h l u z =
       let top = with-fans (a .on .mesh) fan in
       let site = endOf (w .triangles) h in
       let lh = in-mesh h l in
-      let there = tab-some top site (end-site top h lh) h lh refl in
-      let o = on-hull (onward a) site (rw (a .on .table-is) (there .0)) (rw (a .on .table-is) (there .1)) u in
+      let o = hull-place h l u in
       ⊎-elim
       (λ x. rw (← o .2) (full-already ix (w .offsets) (s .cells) (a .regions) (getD (w .hull) (o .0) 0) (rw (a .held .width) (hull-in (o .0) (o .1))) (hull-some (o .0) (o .1)) x))
       (λ x. absurd (x h (rw (o .2, a .on .table-is) (omega (arith, walk-each top site (end-site top h lh) h lh refl))) z))
@@ -340,27 +351,9 @@ module _ {w : Plan} {g : Ground} {m : List ℕ} {c t : CellState} {p : Progress}
 
 -- ---- the hull, then the rest
 
--- the tries at hull places leave the cells of other sites as they are
-module _ (w : Plan) (g : Ground) where
-  abbrev OffHull : ℕ → Type 0
-  OffHull k = (i : ℕ) → i < length (w .hull) → k ≢ getD (w .hull) i 0
-
-  abbrev InnerStay : CellState → CellState → Type 0
-  InnerStay s r = (k : ℕ) → OffHull k → getD (r .cells) k [] ≡ getD (s .cells) k []
-
-  hulls-stay : (n i : ℕ) (s : CellState) → i + n ≤ length (w .hull)
-      → Gives (InnerStay s) (clipHull (w .frame .bounds) (length (w .triangles) / 3) (w .halfedges) (w .hull) (w .table) (g .x .at) i n s)
-  unfolding clipHull
-  hulls-stay zero i s l = λ k o. refl
-  hulls-stay (suc n) i s l =
-      gives-then _ (InnerStay s) (hullTry w g i s) _ (others-stay (w .frame .bounds) (length (w .triangles) / 3) (getD (w .hull) i 0) _ s)
-      (λ t stay. gives-map (InnerStay t) (InnerStay s)
-      (clipHull (w .frame .bounds) (length (w .triangles) / 3) (w .halfedges) (w .hull) (w .table) (g .x .at) (suc i) n t)
-      (hulls-stay n (suc i) t (omega arith)) (λ r h k o. h k o ∙ stay k (o i (omega arith))))
-
 -- where a table entry is paired no unpaired half-edge starts, so the site is not on the hull
-inner-off : {w : Plan} {g : Ground} {s : CellState} → Onward w g s → (k : ℕ) → k < g .sites → pairOf (w .halfedges) (getD (w .table) k 0) ≢ EMPTY → OffHull w g k
-inner-off {w} {g} a k l n i li q =
+inner-off : {w : Plan} {g : Ground} {s : CellState} → Onward w g s → (k : ℕ) → k < g .sites → pairOf (w .halfedges) (getD (w .table) k 0) ≢ EMPTY → OffHull w k 0
+inner-off {w} {g} a k l n i lo li q =
     let top = a .on .mesh in
     let e = top .border .edges i li in
     let before = nextOf (nextOf (e .0)) in
@@ -381,11 +374,19 @@ module _ (w : Plan) (p₀ : Progress) (v₀ : List Float) (ix₀ : List ℕ) whe
         by (refused e) d = d
 
     module _ (z : r .fault .number ≡ 0) where
-      between : AtFirst w p₀ v₀ ix₀ (λ g s. TriesLeft w g (edgeTries w) (InnerBlank w g) (allTries g s) r v ix)
+      abbrev BetweenFit : Ground → CellState → Type 0
+      BetweenFit g t = InnerBlank w g t × (Fanned w g → HullsIdle w g t)
+
+      between : AtFirst w p₀ v₀ ix₀ (λ g s. TriesLeft w g (edgeTries w) (BetweenFit g) (allTries g s) r v ix)
       between g s blank am =
           let o = hullTries w g s in
-          passed w g _ _ r v ix (InnerBlank w g) o
-          (gives-map (InnerStay w g s) (InnerBlank w g) o (hulls-stay w g (length (w .hull)) 0 s (omega arith)) (λ t h k l n. h k (inner-off (onward am) k l n) ∙ blank k l))
+          passed w g _ _ r v ix (BetweenFit g) o
+          (gives-map (HullsDone w g 0 s) (BetweenFit g) o
+          (hulls-done w g (am .on) (length (w .hull)) 0 s (omega arith) (am .held) (λ j lo hi. blank (getD (w .hull) j 0) (am .on .mesh .border .fresh j hi .0)))
+          (λ t h. (
+            λ k l n. h .stay k (inner-off (onward am) k l n) ∙ blank k l,
+            λ fan k l u. let y = hull-place am k l u in rw (← y .2) (h .idle fan (y .0) (omega arith) (y .1) (rw (y .2) u)),
+          )))
           refl (hulls g s blank am) z
 
       pub cells-markable : HullsAmid w p₀ v₀ ix₀ → Markable (w .triangles) (w .table) (r .count) (length v)
@@ -410,7 +411,7 @@ module _ (w : Plan) (p₀ : Progress) (v₀ : List Float) (ix₀ : List ℕ) whe
           rest g s blank am fan =
               let a = between g s blank am in
               let k = marked g (a .cells) (a .amid) in
-              rw (← a .makes) (edges g (a .cells) (a .amid) .1 fan (a .fit) (hulls-marked (a .amid) fan m told) k, k)
+              rw (← a .makes) (edges g (a .cells) (a .amid) .1 fan (a .fit .0) (record { marked = hulls-marked (a .amid) fan m told; idle = a .fit .1 fan }) k, k)
 
           pub cells-end : AllTried w p₀ v₀ ix₀ m r₁ v₁ ix₁
           cells-end g s blank am = (let a = between g s blank am in edges g (a .cells) (a .amid) .0, late)

@@ -33,6 +33,13 @@ module _ (p q d : Point) (x y u v : Float) (o : Crossing) (t : Bool) (e : o ≡ 
   pub comes-after : t ≡ false → None ≡ onEdge p q d (Two x y u v)
   comes-after g = rw (← e, ← f, g)
 
+-- what crosses does not miss
+pub not-one : {x y : Float} → One x y ≡ None → ⊥
+not-one q = let z : _≡_ {A = ℕ} 0 1 = cc in omega arith
+
+pub not-two : {x y u v : Float} → Two x y u v ≡ None → ⊥
+not-two q = let z : _≡_ {A = ℕ} 0 1 = cc in omega arith
+
 -- ---- the crossings added
 
 pub grown-then :
