@@ -3,7 +3,7 @@ use mathlib.Core.Path.{_≡_, sym, subst}
 use mathlib.Core.Bool.{true}
 use borrow.Author.Needs.{needs}
 use lib.Dec.{T}
-use lib.Ieee.{binary64, fits, le, ofBits}
+use lib.Ieee.{binary64, le, ofBits}
 use Rattle.base.specs.common.Binary64 as B
 use Rattle.base.specs.common.laws.And.{and-left, and-right}
 use Rattle.root.specs.Root.{Root}

@@ -1,2 +1,2 @@
 -- Laws that only proofs use.
-pub mod Rows
+pub mod Slips

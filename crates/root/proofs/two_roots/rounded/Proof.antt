@@ -1,7 +1,7 @@
 -- `root::two_roots::rounded` meets its contract, case by case (`rounded-up`, `rounded-down`).
 use mathlib.Core.Path.{sym}
 use native.Mathlib.Omega.{arith}
-use Rattle.root.specs.two_roots.laws.Rows.{rounded-up, rounded-down}
+use Rattle.root.specs.two_roots.laws.Slips.{rounded-up, rounded-down}
 use Rattle.root.proofs.two_roots.rounded.Statement.{statement}
 use Rattle.root.proofs.two_roots.rounded.Tie as tie
 

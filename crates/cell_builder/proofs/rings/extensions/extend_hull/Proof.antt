@@ -33,8 +33,7 @@ loop-holds c = (extending-start _ _ _ _ _ _ _ _ _ _ (c .before .before .before .
 points-from-requires : tie.Need-points-from-requires Inv-loop μ-loop
 points-from-requires c κs =
     let at-loop-test = c .before in
-    let l = at-loop-test .before in
-    (
+    let l = at-loop-test .before in (
       (turn-reaches _ _ _ _ _ _ _ _ _ _ (Entry l .pre) _ _ _ _ _ (l .loop .inv .0) (at-loop-test .loop-test .taken), at-loop-test .loop-test .taken),
       l .loop .inv .1,
     )
@@ -88,8 +87,7 @@ loop-again c =
     let at-if1 = at-add-new-vertex .before .before .before in
     let at-points = at-if1 .before .before .before in
     let at-loop-test = InLoop (c .before .before) in
-    let added = at-add-new-vertex .add-new-vertex in
-    (
+    let added = at-add-new-vertex .add-new-vertex in (
       extending-step _ _ _ _ _ _ _ _ _ _ _ _ _ _ _ (at-loop-test .before .loop .inv .0) (at-loop-test .loop-test .taken) _
           (at-points .points-from .ensures .first) (sym (at-if1 .before .finite-point .ensures) ∙ not-false _ (at-if1 .if1 .left))
           (Entry (at-loop-test .before) .pre) (added .result) (added .last .0) (added .last .1 .0) (added .kept .0) (added .kept .1 .0)
