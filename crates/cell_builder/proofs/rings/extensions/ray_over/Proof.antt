@@ -1,9 +1,8 @@
--- `cell_builder::rings::extensions::extend_voronoi_vertex` meets its contract: the circumcenter and the edge's two sites are the definition's.
+-- `cell_builder::rings::extensions::ray_over` meets its contract: the circumcenter and the edge's two sites are the definition's.
 use Rattle.mesh.specs.laws.Next.{next-lt}
-use Rattle.cell_builder.specs.rings.laws.Extensions.{extended-is}
 use borrow.Author.Needs.{needs}
-use Rattle.cell_builder.proofs.rings.extensions.extend_voronoi_vertex.Statement.{statement}
-use Rattle.cell_builder.proofs.rings.extensions.extend_voronoi_vertex.Tie as tie
+use Rattle.cell_builder.proofs.rings.extensions.ray_over.Statement.{statement}
+use Rattle.cell_builder.proofs.rings.extensions.ray_over.Tie as tie
 
 abbrev Start : tie.After-wide → tie.Start
 Start c = c .before .before .before .before .before .before
@@ -20,7 +19,7 @@ returns : tie.Need-returns
 returns c =
     let at-end-site = c .before .before .before in
     cc (
-      extended-is _ _ _ _,
+      c .outward .ensures,
       c .before .point-at2 .ensures,
       c .before .before .wide2 .ensures,
       at-end-site .end-site .ensures,
@@ -29,8 +28,8 @@ returns c =
       at-end-site .before .before .before .before .vertex .ensures,
     )
 
-pub extend-voronoi-vertex-spec : {M : Type 1} → statement M
-extend-voronoi-vertex-spec =
+pub ray-over-spec : {M : Type 1} → statement M
+ray-over-spec =
     tie.close
     (tie.spec (λ c κs. search needs) (λ c. search needs) (λ c. search needs) (λ c κs. search needs) point-at-requires
     (λ c κs. search needs) (λ c κs. search needs) point-at-requires-2 (λ c κs. search needs) returns)
