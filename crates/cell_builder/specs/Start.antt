@@ -23,7 +23,7 @@ use Rattle.cell_builder.specs.declared.finish.Finished.{Finished}
 use Rattle.cell_builder.specs.finish.Finish.{outcomeAnswer, SettledCells}
 use Rattle.cell_memory.specs.outputs.Outputs.{BuiltInto}
 use Rattle.cell_builder.specs.declared.finish.Progress.{Progress}
-use Rattle.cell_builder.specs.tried.SlicesInvariant.{Plan, plan, ground, frameOf, Fanned, Stands}
+use Rattle.cell_builder.specs.tried.SlicesInvariant.{Plan, plan, ground, frameOf, Fanned, SomeHeld}
 use Rattle.cell_builder.specs.turned.Loops.{DoesLate}
 use Rattle.cell_builder.specs.AdmittedBuild.{AdmittedBuild}
 
@@ -71,7 +71,7 @@ planOf m table b off = plan (m .triangles) (m .halfedges) (m .hull) table (frame
 -- by the outcome of the extensions: all cells on them, but for the early ones, where rule 10 holds, else some cells; or their refusal
 abbrev pub Makes : Mesh → List ℕ → BoundingBox → List ℕ → Outcome Fault Extensions → List ℕ → Progress → List Float → List ℕ → List ℕ → Type 0
 Makes m table b owners (ok x) marks p v₁ ix₁ off₁ =
-    Stands (planOf m table b off₁) (ground (siteCount (m .sites)) owners x) p v₁ ix₁ × (Fanned (planOf m table b off₁) (ground (siteCount (m .sites)) owners x)
+    SomeHeld (planOf m table b off₁) (ground (siteCount (m .sites)) owners x) p v₁ ix₁ × (Fanned (planOf m table b off₁) (ground (siteCount (m .sites)) owners x)
     → DoesLate (planOf m table b off₁) (ground (siteCount (m .sites)) owners x) marks
     (clipAll b (length (m .triangles) / 3) (m .triangles) (m .halfedges) (m .hull) table (siteCount (m .sites)) owners x) p v₁ ix₁)
 Makes m table b owners (refused e) marks p v₁ ix₁ off₁ = (p .fault ≡ e) × (0 < e .number)

@@ -98,8 +98,8 @@ Does w g (ok s) p v ix = Amid w g s p v ix
 Does w g (refused e) p v ix = (p .fault ≡ e) × (0 < e .number)
 
 -- where there is no fault, some cells that the slices hold
-abbrev pub Stands : Plan → Ground → Progress → List Float → List ℕ → Type 0
-Stands w g p v ix = p .fault .number ≡ 0 → (t : CellState) × Amid w g t p v ix
+abbrev pub SomeHeld : Plan → Ground → Progress → List Float → List ℕ → Type 0
+SomeHeld w g p v ix = p .fault .number ≡ 0 → (t : CellState) × Amid w g t p v ix
 
 -- ---- the definition's tries, by a plan
 

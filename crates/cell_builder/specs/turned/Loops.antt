@@ -11,7 +11,7 @@ use Rattle.definition.specs.declared.Fault.{Fault}
 use Rattle.definition.specs.Fault.{Outcome, ok, refused, andThen}
 use Rattle.definition.specs.Build.{CellState, clipHull, clipRest}
 use Rattle.cell_builder.specs.declared.finish.Progress.{Progress}
-use Rattle.cell_builder.specs.tried.SlicesInvariant.{Plan, Ground, Fanned, Amid, Does, Stands, AtRest}
+use Rattle.cell_builder.specs.tried.SlicesInvariant.{Plan, Ground, Fanned, Amid, Does, SomeHeld, AtRest}
 use Rattle.cell_builder.specs.tried.laws.Early.{earlyCell}
 use Rattle.cell_builder.specs.turned.Marks.{Covers, MadeLast, LeftOut}
 use Rattle.cell_builder.specs.turned.Turns.{HullsKnown, SettledBefore}
@@ -82,7 +82,7 @@ DoesLeft w g m (refused e) p v ix = (p .fault ≡ e) × (0 < e .number)
 -- at all half-edges, where rule 10 holds; else some cells
 abbrev pub RestTried : Plan → List ℕ → Progress → List Float → List ℕ → Progress → List Float → List ℕ → Type 0
 RestTried w m p v ix r v₁ ix₁ =
-    AtRest w p v ix (λ g s. Stands w g r v₁ ix₁ × (Fanned w g → InnerBlank w g s → HullsKnown w g m s → MarksCover w g m → DoesLeft w g m (edgeTries w s) r v₁ ix₁))
+    AtRest w p v ix (λ g s. SomeHeld w g r v₁ ix₁ × (Fanned w g → InnerBlank w g s → HullsKnown w g m s → MarksCover w g m → DoesLeft w g m (edgeTries w s) r v₁ ix₁))
 
 -- the same with the marks alone
 abbrev pub DoesLate : Plan → Ground → List ℕ → Outcome Fault CellState → Progress → List Float → List ℕ → Type 0
@@ -92,4 +92,4 @@ DoesLate w g m (refused e) p v ix = (p .fault ≡ e) × (0 < e .number)
 -- at all hull places, and then at all half-edges, where rule 10 holds; else some cells
 abbrev pub AllTried : Plan → Progress → List Float → List ℕ → List ℕ → Progress → List Float → List ℕ → Type 0
 AllTried w p v ix m r v₁ ix₁ =
-    AtFirst w p v ix (λ g s. Stands w g r v₁ ix₁ × (Fanned w g → DoesLate w g m (andThen (hullTries w g s) (λ t. edgeTries w t)) r v₁ ix₁))
+    AtFirst w p v ix (λ g s. SomeHeld w g r v₁ ix₁ × (Fanned w g → DoesLate w g m (andThen (hullTries w g s) (λ t. edgeTries w t)) r v₁ ix₁))

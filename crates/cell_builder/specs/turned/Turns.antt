@@ -18,7 +18,7 @@ use Rattle.definition.specs.laws.Gives.{Gives}
 use Rattle.cell_builder.specs.turned.laws.IdleSites.{IdleSite, ClosesOutside}
 use Rattle.cell_builder.specs.turned.Marks.{markOf, WalkMarked}
 use Rattle.cell_builder.specs.declared.finish.Progress.{Progress}
-use Rattle.cell_builder.specs.tried.SlicesInvariant.{Plan, Ground, Does, Stands, AtRest, edgeTry}
+use Rattle.cell_builder.specs.tried.SlicesInvariant.{Plan, Ground, Does, SomeHeld, AtRest, edgeTry}
 
 -- whether half-edge e is to be tried: its site's table entry has not come by; or it has and is unpaired
 unfoldable pub dueOf : List ℕ → List ℕ → List ℕ → ℕ → Bool
@@ -122,4 +122,4 @@ pub record Retries (tri he table ix off : List ℕ) (count numbers e : ℕ) : Ty
 
 -- some cells; the definition's try at half-edge e, where hull sites without a cell are idle
 abbrev pub DueTried : Plan → Progress → List Float → List ℕ → ℕ → Progress → List Float → List ℕ → Type 0
-DueTried w p v ix e r v₁ ix₁ = AtRest w p v ix (λ g s. Stands w g r v₁ ix₁ × (HullsIdle w g s → Does w g (edgeTry w e s) r v₁ ix₁))
+DueTried w p v ix e r v₁ ix₁ = AtRest w p v ix (λ g s. SomeHeld w g r v₁ ix₁ × (HullsIdle w g s → Does w g (edgeTry w e s) r v₁ ix₁))

@@ -10,7 +10,7 @@ use Rattle.base.specs.common.laws.Decide.{eq-or-ne}
 use Rattle.base.specs.common.Count.{occ}
 use Rattle.base.specs.numbers.Numbers.{EMPTY}
 use Rattle.mesh.specs.Mesh.{nextOf, startOf, endOf, pairOf, Used, AllSound, leftmostOf, Leftmost, walkOf, wholeOf, Paired}
-use Rattle.mesh.specs.Accepted.{Mesh, TopologyWith, Topology, Counted, AcceptedWith, Accepted, siteCount}
+use Rattle.mesh.specs.Accepted.{Mesh, TopologyWith, Topology, Counted, AcceptedWith, siteCount}
 use Rattle.mesh.specs.laws.Next.{next-lt, next-thrice}
 use Rattle.mesh.specs.laws.Walks.{walk-ends, walk-in, whole-once, reached-walk, walk-fuel}
 use Rattle.mesh.specs.laws.Table.{table-length, table-leftmost, the-unpaired, the-lowest, the-none}

@@ -1,7 +1,4 @@
 -- `cell_builder::placed::meets` meets its contract: the test is its definition's, by the one bit.
-use mathlib.Core.Path.{_≡_, ap}
-use borrow.Author.Needs.{needs}
-use lib.Dec.{eqb}
 use Rattle.cell_builder.specs.placed.Placed.{meetsOf}
 use Rattle.cell_builder.proofs.placed.meets.Statement.{statement}
 use Rattle.cell_builder.proofs.placed.meets.Tie as tie

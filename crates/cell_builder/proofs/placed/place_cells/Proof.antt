@@ -8,9 +8,10 @@ use lib.ListN.{length, getD, length-set}
 use borrow.Author.Needs.{needs}
 use Rattle.base.specs.common.Count.{occ}
 use Rattle.mesh.specs.Mesh.{wholeOf, totalTo}
+use Rattle.mesh.specs.laws.WalkSteps.{walk-length}
 use Rattle.cell_memory.specs.layout.laws.Compacted.{Compacting, Moved, compacting-start, moved-start, compacting-step, moved-end, compacting-below, compacting-within}
 use Rattle.cell_builder.specs.placed.Placed.{CellsReady}
-use Rattle.cell_builder.specs.placed.laws.Placing.{walk-most, steps-more, steps-all, cell-ready, cell-placed}
+use Rattle.cell_builder.specs.placed.laws.Placing.{steps-more, steps-all, cell-ready, cell-placed}
 use Rattle.cell_builder.proofs.placed.place_cells.Statement.{statement}
 use Rattle.cell_builder.proofs.placed.place_cells.Tie as tie
 
@@ -36,7 +37,7 @@ few l k n = Found l .before .crowd-of .ensures k (λ z. n (z ∙ sym (Found l .w
 
 -- a walk is not longer than the list of half-edges
 steps-few : (l : tie.At-loop Inv-loop μ-loop) → let a = Entry l .args in length (wholeOf (a .halfedges .now) (getD (a .table .now) (l .loop .s) 0)) ≤ 393216
-steps-few l = let a = Entry l .args in let t = getD (a .table .now) (l .loop .s) 0 in omega (arith, walk-most (a .halfedges .now) t (length (a .halfedges .now)) t, Entry l .pre .few)
+steps-few l = let a = Entry l .args in let t = getD (a .table .now) (l .loop .s) 0 in omega (arith, walk-length (a .halfedges .now) t (length (a .halfedges .now)) t, Entry l .pre .few)
 
 abbrev Loop : tie.After-place-cell Inv-loop μ-loop → tie.At-loop Inv-loop μ-loop
 Loop k = k .before .before .before .before .before

@@ -1,7 +1,6 @@
 -- The walk round an inner site, backwards: from its first half-edge one comes to the last of the walk, then to the one before it, and at the end back to the first. So the cell of
 -- an early site is walked, a step back each. It has a step for each triangle of the site, and its region has room for as many, but for the owner of three corners or more.
 use mathlib.Core.Path.{_≡_, refl, sym, ap, _∙_}
-use mathlib.Core.Bool.{false}
 use mathlib.Core.List.{List, [], _∷_, map, reverse, reverseAux}
 use mathlib.Core.Logic.{⊎-elim, _≢_}
 use Prim.Native.Nat.{ℕ, zero, suc, _+_, _-_, _/_, _≤_, _<_}
@@ -23,7 +22,6 @@ use Rattle.mesh.specs.laws.WalkSteps.{walk-go, walk-done}
 use Rattle.mesh.specs.laws.Walks.{mate, turn-cases, turn-there, turn-end, turn-start, walk-short, walk-whole}
 use Rattle.definition.specs.Cell.{unmarked}
 use Rattle.definition.specs.Build.{CellState}
-use Rattle.build_laws.specs.laws.Runs.{true-false}
 use Rattle.clipping.specs.interior.laws.InsideWalk.{plains}
 use Rattle.cell_builder.specs.declared.tried.Frame.{Frame}
 use Rattle.cell_builder.specs.tried.SlicesInvariant.{plan, Ground, Fanned}
@@ -32,7 +30,7 @@ use Rattle.cell_builder.specs.tried.laws.OneTry.{region-room}
 use Rattle.cell_builder.specs.turned.Marks.{MadeLast}
 use Rattle.cell_builder.specs.turned.laws.Onward.{Onward}
 use Rattle.cell_builder.specs.turned.laws.OneTurn.{leftmost, closed}
-use Rattle.cell_builder.specs.placed.Placed.{previousOf, backOf, InPair, isNil, Backs, backTriangles, Mutual, BackCell, EarlyWalk}
+use Rattle.cell_builder.specs.placed.Placed.{previousOf, backOf, isNil, Backs, backTriangles, Mutual, BackCell, EarlyWalk}
 use Rattle.cell_builder.specs.placed.laws.BothEnds.{previous-sum}
 
 previous-next : (e : ℕ) → previousOf (nextOf e) ≡ e

@@ -3,14 +3,12 @@ use mathlib.Core.Path.{_≡_, refl, ap, _∙_}
 use mathlib.Core.Bool.{Bool, true, false}
 use mathlib.Core.List.{List, [], _++_}
 use mathlib.Core.Logic.{_≢_}
-use Prim.Native.Nat.{ℕ, zero, suc, _+_, _-_, _≤_, _<_}
+use Prim.Native.Nat.{ℕ, _+_, _-_, _≤_, _<_}
 use native.Mathlib.Numerals.{add-one}
 use native.Mathlib.Omega.{arith}
-use lib.Dec.{ltb}
 use lib.ListN.{length, getD, set, take, drop}
 use Rattle.base.specs.common.Count.{occ}
-use Rattle.mesh.specs.Mesh.{turnOf, walkOf, wholeOf, totalTo}
-use Rattle.definition.specs.laws.Gives.{picked}
+use Rattle.mesh.specs.Mesh.{wholeOf, totalTo}
 use Rattle.build_laws.specs.laws.Runs.{true-false}
 use Rattle.cell_memory.specs.layout.Regions.{Region, Filled}
 use Rattle.cell_memory.specs.layout.laws.Compacted.{Compacting, Moved, to-is, region-within, region-end, region-moved, region-ahead, moved-step}
@@ -34,12 +32,6 @@ back-at he t u at n c q b = record { along = b .along; backs = rw q (b .backs); 
 
 pub full-at : (at n k : ℕ) → n ≤ k → at + n - at ≤ k
 full-at at n k h = omega arith
-
--- a walk has no more entries than it is given steps
-pub walk-most : (he : List ℕ) (s k e : ℕ) → length (walkOf he s k e) ≤ k
-unfolding walkOf
-walk-most he s zero e = omega arith
-walk-most he s (suc k) e = picked (λ (l : List ℕ). length l ≤ suc k) (ltb e (length he)) _ _ (λ _. omega (arith, walk-most he s k (turnOf he s e))) (λ _. omega arith)
 
 -- ---- what is walked
 

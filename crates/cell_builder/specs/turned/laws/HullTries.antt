@@ -1,21 +1,21 @@
 -- What the tries at all hull places leave behind: the cells of other sites stay, and a hull site whose cell is empty is idle, as its own try put nothing and no later one is its own.
-use mathlib.Core.Path.{_≡_, refl, sym, ap, _∙_}
+use mathlib.Core.Path.{_≡_, refl, sym, _∙_}
 use mathlib.Core.Bool.{Bool, true, false}
-use mathlib.Core.List.{List, []}
+use mathlib.Core.List.{[]}
 use mathlib.Core.Logic.{inl, inr, _≢_, ⊎-elim}
 use Prim.Native.Nat.{ℕ, zero, suc, _+_, _/_, _≤_, _<_}
 use Prim.{tt}
 use native.Mathlib.Omega.{arith}
 use lib.ListN.{length, getD}
-use Rattle.base.specs.common.laws.Decide.{lt-or-ge, eq-or-ne}
+use Rattle.base.specs.common.laws.Decide.{eq-or-ne}
 use Rattle.base.specs.numbers.Numbers.{EMPTY}
 use Rattle.mesh.specs.Mesh.{endOf, pairOf, leftmostOf}
 use Rattle.mesh.specs.laws.Facts.{start-used, tab-used}
 use Rattle.definition.specs.declared.Fault.{Fault}
 use Rattle.definition.specs.Fault.{Outcome, ok, refused}
-use Rattle.definition.specs.Build.{CellState, clipInto, clipHull, hullRing, isEmpty}
+use Rattle.definition.specs.Build.{CellState, clipHull, hullRing, isEmpty}
 use Rattle.definition.specs.Measures.{shareOf}
-use Rattle.definition.specs.laws.Gives.{Gives, gives-both, gives-map, gives-then}
+use Rattle.definition.specs.laws.Gives.{Gives, gives-map, gives-then}
 use Rattle.build_laws.specs.laws.AllCells.{is-empty, hull-share}
 use Rattle.build_laws.specs.laws.CellsSoFar.{CellsSoFar, clip-into}
 use Rattle.cell_builder.specs.tried.SlicesInvariant.{Plan, Ground, Grounded, Fanned, hullTry}

@@ -23,7 +23,7 @@ use Rattle.definition.specs.Fault.{Outcome, ok, refused}
 use Rattle.definition.specs.Cell.{vertexAt, edgeCrossing}
 use Rattle.definition.specs.Build.{CellState}
 use Rattle.cell_builder.specs.declared.finish.Progress.{Progress}
-use Rattle.cell_builder.specs.tried.SlicesInvariant.{Plan, Ground, Amid, Does, Stands, edgeTry}
+use Rattle.cell_builder.specs.tried.SlicesInvariant.{Plan, Ground, Amid, Does, SomeHeld, edgeTry}
 use Rattle.cell_builder.specs.tried.laws.OneTry.{corners-in}
 use Rattle.cell_builder.specs.tried.laws.HullAndEdgeTries.{edge-site, region-place}
 use Rattle.cell_builder.specs.turned.Turns.{HullsIdle, HullBlank, ClosedRetry, Retries}
@@ -76,7 +76,7 @@ module _ (tri he table ix off : List ℕ) (b : BoundingBox) (vs : List Point) (e
 -- ---- the slices
 
 -- whatever the outcome of a try, without a fault there are cells
-pub stands : {w : Plan} {g : Ground} (o : Outcome Fault CellState) {r : Progress} {v : List Float} {ix : List ℕ} → Does w g o r v ix → Stands w g r v ix
+pub stands : {w : Plan} {g : Ground} (o : Outcome Fault CellState) {r : Progress} {v : List Float} {ix : List ℕ} → Does w g o r v ix → SomeHeld w g r v ix
 stands (ok s) d z = (s, d)
 stands (refused e) d z = absurd (omega (arith, d .1, rw (d .0) at z))
 
