@@ -80,7 +80,7 @@ edit program/eight main.rt '    good::seven()' '    good::eight()'
     exit 1
 }
 says 0 good <<'END'
-good: 3 edits and 2 twins in 3 checks, over [1-9][0-9]* modules that rt proved
+good: 3 edits and 2 twins in 3 checks, from [1-9][0-9]* modules that rt proved
 good/nine: refused, as it must be, with 1 others
 good/six: refused, as it must be, with 1 others
 good/six_promised: refused, as it must be (
@@ -89,7 +89,7 @@ good: proved with all edits taken back (
 3 refused, 2 twins proved, 1 of 1 crates proved again, 0 failed
 END
 says 0 program <<'END'
-program: 1 edits and 0 twins in 1 checks, over 0 modules
+program: 1 edits and 0 twins in 1 checks, from nothing
 program/eight: refused, as it must be (
 1 refused, 0 twins proved, 1 of 1 crates proved again, 0 failed
 END
