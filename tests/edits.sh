@@ -77,7 +77,7 @@ edit program/eight main.rt '    good::seven()' '    good::eight()'
 
 # beside rt, as tests/all has it: a library is tried once it is proved
 {
-    (cd "$folder" && rt check good bad program) >"$folder/log" 2>&1 || echo "rt check failed" >>"$folder/log"
+    (cd "$folder" && rt check good bad) >"$folder/log" 2>&1 || echo "rt check failed" >>"$folder/log"
     : >"$folder/ended"
 } &
 says 0 good --beside "$folder/ended" <<'END'
