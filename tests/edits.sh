@@ -6,7 +6,7 @@ trap 'rm -rf "$folder"' EXIT
 mkdir -p "$folder/make" "$folder/tools"
 cp make/edits "$folder/make/"
 cp tools/reading.py "$folder/tools/"
-printf 'good:\nbad:\nbroken:\nprogram: good\n' >"$folder/crates.txt"
+printf 'good:\nbad:\nbroken:\nabove: broken\nprogram: good\n' >"$folder/crates.txt"
 
 crate() { # NAME FILE: the folders of a crate, its root file on standard input
     mkdir -p "$folder/crates/$1/src" "$folder/crates/$1/edits"
@@ -59,6 +59,8 @@ edit bad/twin lib.rt '    7' '    6' '    5'
 
 echo "$numbers" | sed 's/^    7/    70/' | crate broken lib.rt
 edit broken/nine lib.rt '    8' '    9'
+echo "$numbers" | crate above lib.rt
+edit above/nine lib.rt '    8' '    9'
 
 crate program main.rt <<'END'
 ghost use mathlib.Core.Path.{_≡_};
@@ -112,8 +114,13 @@ says 1 broken <<'END'
 broken: FAILED: not proved when its edits are taken back
 1 refused, 0 twins proved, 0 of 1 crates proved again, 1 failed
 END
+says 1 above <<'END'
+above/nine: FAILED: it did not reach the prover
+above: FAILED: not proved when its edits are taken back
+0 refused, 0 twins proved, 0 of 1 crates proved again, 2 failed
+END
 says 1 broken --beside "$folder/ended" <<'END'
 broken: FAILED: it, or what it is made of, is not proved
 0 refused, 0 twins proved, 0 of 1 crates proved again, 1 failed
 END
-echo "make/edits: 5 runs on four small crates, what is as it must be and each kind of failure said to be so"
+echo "make/edits: 6 runs on five small crates, what is as it must be and each kind of failure said to be so"
