@@ -1,12 +1,29 @@
 -- What is near a point stands between two places on the grid, and so where these are one: a difference that is computed within the tolerance is below 2^-49 (`near-exact`), rounding
--- keeps the order, and so does adding 2^21 (`plus-mono`).
+-- keeps the order, and so does adding 2^21 (`plus-mono`). Near floats have one sign but at 0 on the grid (`one-sign`), so what is near a point has its keys (`near-keys`).
 use mathlib.Core.Path.{_≡_, refl, sym, ap, ap₂, _∙_, subst}
 use mathlib.Core.Bool.{Bool, true, false, not, cond, _&&_, _||_, true≢false, false≢true, and-false}
 use mathlib.Core.Logic.{_⊎_, inl, inr, ⊎-elim}
 use Prim.{tt, Unit}
 use Prim.Native.Nat.{ℕ, zero, suc, _+_, _-_, _*_, _^_, _≤_, _<_}
 use native.Mathlib.Omega.{arith}
-use native.Mathlib.Nat.{le-of-mul-le-mul-right, le-trans, le-of-eq, le-antisymm, add-le-add, mul-le-mul-right, mul-pos, add-mul, mul-assoc, mul-comm, mul-left-comm, mul-right-comm, mul-one, one-mul, zero-mul, add-zero}
+use native.Mathlib.Nat.{
+  le-trans,
+  le-of-eq,
+  le-antisymm,
+  le-of-mul-le-mul-right,
+  add-le-add,
+  mul-le-mul-right,
+  mul-pos,
+  add-mul,
+  mul-assoc,
+  mul-comm,
+  mul-left-comm,
+  mul-right-comm,
+  mul-one,
+  one-mul,
+  zero-mul,
+  add-zero,
+}
 use borrow.Author.Tests.{lt-ltb, le-ltb}
 use lib.Dec.{T, ltb, eqb, eqb→eq, ltb→lt, lit<}
 use lib.Pow.{pow-pos}
