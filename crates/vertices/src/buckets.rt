@@ -14,7 +14,7 @@ ghost use lib.ListN.{length, drop};
 ghost use Rattle.plane.specs.points.Flat.{pointsFrom};
 ghost use Rattle.vertices.specs.Add.{nearPt, findNear};
 ghost use Rattle.vertices.specs.Store.{Holds};
-ghost use Rattle.vertices.specs.buckets.Buckets.{lowOf, midOf, highOf, narrowOf, mixOf, entryOf, headsOf};
+ghost use Rattle.vertices.specs.buckets.Buckets.{lowOf, midOf, highOf, keyOf, narrowOf, mixOf, entryWith, headsOf};
 ghost use Rattle.vertices.specs.buckets.Steps.{BucketsFree, HomeAt, HomeOf, HomeIn, InsertsIn, BucketChain};
 
 // 2^-49, 2^-48 and 2^21.
@@ -85,6 +85,17 @@ fn narrow(x: f64) -> bool
     (a == b) & (b <= LARGE)
 }
 
+// Where x stands, and on which side of 0.
+fn key(x: f64, place: f64) -> f64
+    requires { ⌜ place ≡ midOf x ⌝ }
+    ensures { λ r. ⌜ r ≡ keyOf x ⌝ }
+{
+    if (x < 0.0) & (place != SHIFT) {
+        return place + place;
+    }
+    place
+}
+
 // 22 digits of two patterns, all of theirs mixed.
 fn mix(a: u64, b: u64) -> u64
     ensures { λ r. ⌜ r ≡ mixOf a b ⌝ }
@@ -119,9 +130,9 @@ pub fn home_of(heads: usize, p: Point) -> Home
     ensures { λ r. ⌜ HomeOf heads p r ⌝ }
 {
     if narrow(p.x) & narrow(p.y) {
-        return home_at(heads, low(p.x), low(p.y), true);
+        return home_at(heads, key(p.x, low(p.x)), key(p.y, low(p.y)), true);
     }
-    home_at(heads, middle(p.x), middle(p.y), false)
+    home_at(heads, key(p.x, middle(p.x)), key(p.y, middle(p.y)), false)
 }
 
 // How many buckets there are in so many entries from `limit` on.
@@ -153,7 +164,7 @@ pub fn empty(indexes: &mut [u32], limit: usize)
 // The entry of vertex k in front of entry e, with the marks of both.
 fn entry(e: u32, k: usize, mark: usize) -> u32
     requires { ⌜ (k < 786432) × (mark < 32) ⌝ }
-    ensures { λ r. ⌜ r ≡ entryOf e k mark ⌝ }
+    ensures { λ r. ⌜ r ≡ entryWith e k mark ⌝ }
 {
     (e / 1048576 * 1048576 + (k + 1) as u32) | (1u32 << mark)
 }

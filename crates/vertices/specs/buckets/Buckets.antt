@@ -1,15 +1,16 @@
 -- How a near vertex is found: added vertices are chained in buckets by their places, in the tail of the index list. A quarter of the tail is heads, one for each bucket; the rest are links, one
 -- for each of the first vertices after the circumcenters. A head has the last vertex of its bucket, a link the one before in the same bucket: one more than its number after the
--- circumcenters, or 0, in 20 digits; the 12 digits above these are marks, and that of each vertex from there back is set. So a search ends where its mark is not. A vertex past the links is in no chain.
--- The place of a vertex is rounded to a grid: its magnitude and 2^21 rounded, which is a multiple of 2^-31 up to 2^21. What is near a point has the same place unless the point is
--- within 2^-48 below a border of the grid (laws/Keys.antt, `near-bucket`). Definitions only.
+-- circumcenters, or 0, in 20 digits; the 12 digits above these are marks, and that of each vertex from there back is set. So a search ends where its mark is not set. A vertex past the links is
+-- in no chain.
+-- The place of a vertex is rounded to a grid: its magnitude and 2^21 rounded, which is a multiple of 2^-31 up to 2^21. What is near a point has the same place, and stands on the same side of 0
+-- or at 0 on the grid, unless the point is within 2^-48 below a border of the grid (laws/Keys.antt, `near-keys`). Definitions only.
 use mathlib.Core.Path.{_≡_}
-use mathlib.Core.Bool.{Bool, _&&_}
+use mathlib.Core.Bool.{Bool, cond, _&&_}
 use mathlib.Core.List.{List}
 use mathlib.Core.Logic.{_≢_}
 use Prim.Native.Nat.{ℕ, suc, _+_, _*_, _/_, _%_, _^_, _≤_, _<_, min}
 use lib.Bits.{bitOr}
-use lib.Ieee.{Float, binary64, ofBits, toBits, eq, le}
+use lib.Ieee.{Float, binary64, ofBits, toBits, eq, ne, le, lt}
 use lib.ListN.{length, getD}
 use Rattle.base.specs.common.Binary64.{_⊞_, zero}
 use Rattle.base.specs.numbers.Numbers.{large}
@@ -38,6 +39,13 @@ lowOf x = magnitude x ⊞ zero ⊞ coarse
 abbrev pub highOf : Float → Float
 highOf x = magnitude x ⊞ farReach ⊞ coarse
 
+-- where x stands and on which side of 0, as a float: what stands below 0, and not at 0 on the grid, has twice its place
+unfoldable pub belowOf : Float → Bool
+belowOf x = lt x zero && ne (midOf x) coarse
+
+unfoldable pub keyOf : Float → Float
+keyOf x = cond (belowOf x) (midOf x ⊞ midOf x) (midOf x)
+
 -- these are one place
 unfoldable pub narrowOf : Float → Bool
 narrowOf x = eq (lowOf x) (highOf x) && le (highOf x) large
@@ -54,14 +62,14 @@ bucketBy h x y = mixOf (toBits binary64 x) (toBits binary64 y) * h / 4194304
 
 -- of vertex k after the first nc
 abbrev pub bucketFrom : ℕ → List Float → ℕ → ℕ → ℕ
-bucketFrom h v nc k = bucketBy h (midOf (pointAt v (nc + k) .x)) (midOf (pointAt v (nc + k) .y))
+bucketFrom h v nc k = bucketBy h (keyOf (pointAt v (nc + k) .x)) (keyOf (pointAt v (nc + k) .y))
 
 -- the digit of an entry that is the mark of two places
 unfoldable pub markBy : Float → Float → ℕ
 markBy x y = 20 + mixOf (toBits binary64 x) (toBits binary64 y) % 12
 
 abbrev pub markFrom : List Float → ℕ → ℕ → ℕ
-markFrom v nc k = markBy (midOf (pointAt v (nc + k) .x)) (midOf (pointAt v (nc + k) .y))
+markFrom v nc k = markBy (keyOf (pointAt v (nc + k) .x)) (keyOf (pointAt v (nc + k) .y))
 
 -- ---- the tail
 
@@ -74,20 +82,20 @@ abbrev pub insertedOf : ℕ → ℕ → ℕ
 insertedOf count room = min count (3 * headsOf room)
 
 -- what an entry has of a number
-abbrev pub numberOf : ℕ → ℕ
-numberOf e = e % 1048576
+abbrev pub numberIn : ℕ → ℕ
+numberIn e = e % 1048576
 
 -- vertex k with its mark in front of entry e
-unfoldable pub entryOf : ℕ → ℕ → ℕ → ℕ
-entryOf e k mark = bitOr (e / 1048576 * 1048576 + suc k) (2 ^ mark)
+unfoldable pub entryWith : ℕ → ℕ → ℕ → ℕ
+entryWith e k mark = bitOr (e / 1048576 * 1048576 + suc k) (2 ^ mark)
 
 -- entry e has one more than the last number below n whose bucket is m, and the marks of all of them; or it is 0
 pub record LastChained (bucket mark : ℕ → ℕ) (m n e : ℕ) : Type 0 where
-  pub within : numberOf e ≤ n
-  pub there : (k : ℕ) → numberOf e ≡ suc k → bucket k ≡ m
-  pub after : (k : ℕ) → numberOf e ≤ k → k < n → bucket k ≢ m
+  pub within : numberIn e ≤ n
+  pub there : (k : ℕ) → numberIn e ≡ suc k → bucket k ≡ m
+  pub after : (k : ℕ) → numberIn e ≤ k → k < n → bucket k ≢ m
   pub marked : (k : ℕ) → k < n → bucket k ≡ m → e / 2 ^ mark k % 2 ≡ 1
-  pub none : numberOf e ≡ 0 → e ≡ 0
+  pub none : numberIn e ≡ 0 → e ≡ 0
 
 -- of the vertices after the first nc so many are chained
 pub record InChains (nc n : ℕ) (v : List Float) (tail : List ℕ) : Type 0 where
