@@ -1,5 +1,5 @@
 -- What the tries at all hull places leave behind: the cells of other sites stay, and a hull site whose cell is empty is idle, as its own try put nothing and no later one is its own.
-use mathlib.Core.Path.{_≡_, refl, sym, ap, _∙_}
+use mathlib.Core.Path.{_≡_, refl, sym, _∙_}
 use mathlib.Core.Bool.{Bool, true, false}
 use mathlib.Core.List.{List, []}
 use mathlib.Core.Logic.{inl, inr, _≢_, ⊎-elim}
@@ -7,21 +7,25 @@ use Prim.Native.Nat.{ℕ, zero, suc, _+_, _/_, _≤_, _<_}
 use Prim.{tt}
 use native.Mathlib.Omega.{arith}
 use lib.ListN.{length, getD}
-use Rattle.base.specs.common.laws.Decide.{lt-or-ge, eq-or-ne}
+use Rattle.base.specs.common.laws.Decide.{eq-or-ne}
 use Rattle.base.specs.numbers.Numbers.{EMPTY}
 use Rattle.mesh.specs.Mesh.{endOf, pairOf, leftmostOf}
 use Rattle.mesh.specs.laws.Facts.{start-used, tab-used}
 use Rattle.definition.specs.declared.Fault.{Fault}
 use Rattle.definition.specs.Fault.{Outcome, ok, refused}
-use Rattle.definition.specs.Build.{CellState, clipInto, clipHull, hullRing, isEmpty}
+use Rattle.definition.specs.Build.{CellState, clipHull, hullRing, isEmpty}
 use Rattle.definition.specs.Measures.{shareOf}
-use Rattle.definition.specs.laws.Gives.{Gives, gives-both, gives-map, gives-then}
+use Rattle.definition.specs.laws.Gives.{Gives, gives-map, gives-then}
 use Rattle.build_laws.specs.laws.AllCells.{is-empty, hull-share}
 use Rattle.build_laws.specs.laws.CellsSoFar.{CellsSoFar, clip-into}
 use Rattle.cell_builder.specs.tried.SlicesInvariant.{Plan, Ground, Grounded, hullTry}
 use Rattle.cell_builder.specs.turned.Turns.{FullOrIdle}
 use Rattle.cell_builder.specs.turned.laws.IdleSites.{idle-shrunk, hull-idle}
 use Rattle.cell_builder.specs.turned.laws.Onward.{OthersStay}
+
+-- from hull place i on, cells are empty
+abbrev pub BlankFrom : List ℕ → ℕ → CellState → Type 0
+BlankFrom hull i s = (j : ℕ) → i ≤ j → j < length hull → getD (s .cells) (getD hull j 0) [] ≡ []
 
 -- site k stands at no hull place from i on
 abbrev pub OffHull : Plan → ℕ → ℕ → Type 0
@@ -38,9 +42,6 @@ module _ (w : Plan) (g : Ground) {numbers indexes : ℕ} (on : Grounded w g numb
 
   abbrev site : ℕ → ℕ
   site i = getD (w .hull) i 0
-
-  abbrev BlankFrom : ℕ → CellState → Type 0
-  BlankFrom i s = (j : ℕ) → i ≤ j → j < length (w .hull) → getD (s .cells) (site j) [] ≡ []
 
   -- one place
   pub record PlaceDone (i : ℕ) (s t : CellState) : Type 0 where
@@ -77,7 +78,7 @@ module _ (w : Plan) (g : Ground) {numbers indexes : ℕ} (on : Grounded w g numb
         by (ok t) q h = record { good = h .0; others = h .1; here = λ u. left t q u (isEmpty (getD (t .cells) (site i) [])) refl }
         by (refused x) q h = tt
 
-  pub hulls-done : (n i : ℕ) (s : CellState) → i + n ≡ length (w .hull) → Good s → BlankFrom i s
+  pub hulls-done : (n i : ℕ) (s : CellState) → i + n ≡ length (w .hull) → Good s → BlankFrom (w .hull) i s
       → Gives (HullsDone w g i s) (clipHull (w .frame .bounds) (length (w .triangles) / 3) (w .halfedges) (w .hull) (w .table) (g .x .at) i n s)
   unfolding clipHull
   hulls-done zero i s q good blank = record { stay = λ k o. refl; idle = λ j lo hi. absurd (omega arith) }

@@ -18,7 +18,7 @@ use Rattle.base.specs.numbers.Numbers.{EMPTY}
 use Rattle.plane.specs.declared.points.Point.{Point}
 use Rattle.plane.specs.declared.boxes.BoundingBox.{BoundingBox}
 use Rattle.plane.specs.declared.lines.Crossing.the-variants.{None}
-use Rattle.mesh.specs.Mesh.{nextOf, endOf, pairOf, around, turnOf, walkOf, wholeOf, leftmostOf, Paired}
+use Rattle.mesh.specs.Mesh.{endOf, pairOf, around, turnOf, walkOf, wholeOf, leftmostOf, Paired}
 use Rattle.mesh.specs.Accepted.{Topology}
 use Rattle.mesh.specs.laws.Closed.{ClosedAt}
 use Rattle.mesh.specs.laws.Facts.{paired, walk-each, next-in}

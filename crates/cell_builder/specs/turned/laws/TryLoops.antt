@@ -3,7 +3,7 @@
 use mathlib.Core.Path.{_≡_, refl, sym, ap, _∙_}
 use mathlib.Core.List.{List, []}
 use mathlib.Core.Logic.{inl, inr, _≢_, ⊎-elim}
-use Prim.Native.Nat.{ℕ, zero, suc, _+_, _-_, _/_, _≤_, _<_}
+use Prim.Native.Nat.{ℕ, suc, _+_, _-_, _/_, _≤_, _<_}
 use native.Mathlib.Nat.{sub-zero}
 use native.Mathlib.Numerals.{add-one}
 use native.Mathlib.Omega.{arith}
@@ -22,7 +22,7 @@ use Rattle.definition.specs.declared.Fault.{Fault}
 use Rattle.definition.specs.Fault.{Outcome, ok, refused, andThen}
 use Rattle.definition.specs.Cell.{inBox}
 use Rattle.definition.specs.Build.{CellState, clipHull, clipRest, isEmpty}
-use Rattle.definition.specs.laws.Gives.{Gives, gives-map, gives-then}
+use Rattle.definition.specs.laws.Gives.{Gives, gives-map}
 use Rattle.build_laws.specs.laws.Runs.{true-false}
 use Rattle.build_laws.specs.laws.Inside.{in-grown}
 use Rattle.cell_builder.specs.declared.finish.Progress.{Progress}
@@ -47,7 +47,7 @@ use Rattle.cell_builder.specs.turned.Loops.{
 }
 use Rattle.cell_builder.specs.turned.Marks.{Markable, Covers, MadeLast, LeftOut}
 use Rattle.cell_builder.specs.turned.Turns.{HullsMarked, HullsIdle, HullsKnown, SettledBefore, SettledAfter, HullRegions, HullTold, HullWalks, DueTried}
-use Rattle.cell_builder.specs.turned.laws.HullTries.{OffHull, HullsDone, hulls-done}
+use Rattle.cell_builder.specs.turned.laws.HullTries.{BlankFrom, OffHull, HullsDone, hulls-done}
 use Rattle.cell_builder.specs.turned.laws.Leaving.{Alike, left-none, left-more, left-onward}
 use Rattle.cell_builder.specs.turned.laws.Quiet.{early-filled}
 use Rattle.cell_builder.specs.tried.laws.Early.{earlyCell}
@@ -79,10 +79,6 @@ module _ (w : Plan) (g : Ground) where
     stopped (refused e) q d z = rw (← q) d
 
 -- ---- the hull
-
--- from hull place i on, cells are empty
-abbrev pub BlankFrom : List ℕ → ℕ → CellState → Type 0
-BlankFrom hull i s = (j : ℕ) → i ≤ j → j < length hull → getD (s .cells) (getD hull j 0) [] ≡ []
 
 abbrev pub hullsFrom : Plan → Ground → ℕ → CellState → Outcome Fault CellState
 hullsFrom w g i s = clipHull (w .frame .bounds) (length (w .triangles) / 3) (w .halfedges) (w .hull) (w .table) (g .x .at) i (length (w .hull) - i) s

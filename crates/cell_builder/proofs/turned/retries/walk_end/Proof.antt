@@ -1,6 +1,5 @@
 -- `cell_builder::turned::retries::walk_end` meets its contract: at each half-edge the walk ends where the whole walk does.
-use mathlib.Core.Path.{_≡_, _∙_}
-use native.Mathlib.Omega.{arith}
+use mathlib.Core.Path.{_∙_}
 use lib.ListN.{length}
 use borrow.Author.Needs.{needs}
 use Rattle.walks.specs.neighbours.Cursor.{restOf}
