@@ -23,6 +23,10 @@ use Rattle.cell_builder.specs.turned.Turns.{FullOrIdle}
 use Rattle.cell_builder.specs.turned.laws.IdleSites.{idle-shrunk, hull-idle}
 use Rattle.cell_builder.specs.turned.laws.Onward.{OthersStay}
 
+-- from hull place i on, cells are empty
+abbrev pub BlankFrom : List ℕ → ℕ → CellState → Type 0
+BlankFrom hull i s = (j : ℕ) → i ≤ j → j < length hull → getD (s .cells) (getD hull j 0) [] ≡ []
+
 -- site k stands at no hull place from i on
 abbrev pub OffHull : Plan → ℕ → ℕ → Type 0
 OffHull w k i = (j : ℕ) → i ≤ j → j < length (w .hull) → k ≢ getD (w .hull) j 0
@@ -38,9 +42,6 @@ module _ (w : Plan) (g : Ground) {numbers indexes : ℕ} (on : Grounded w g numb
 
   abbrev site : ℕ → ℕ
   site i = getD (w .hull) i 0
-
-  abbrev BlankFrom : ℕ → CellState → Type 0
-  BlankFrom i s = (j : ℕ) → i ≤ j → j < length (w .hull) → getD (s .cells) (site j) [] ≡ []
 
   -- one place
   pub record PlaceDone (i : ℕ) (s t : CellState) : Type 0 where
@@ -77,7 +78,7 @@ module _ (w : Plan) (g : Ground) {numbers indexes : ℕ} (on : Grounded w g numb
         by (ok t) q h = record { good = h .0; others = h .1; here = λ fan u. left fan t q u (isEmpty (getD (t .cells) (site i) [])) refl }
         by (refused x) q h = tt
 
-  pub hulls-done : (n i : ℕ) (s : CellState) → i + n ≡ length (w .hull) → Good s → BlankFrom i s
+  pub hulls-done : (n i : ℕ) (s : CellState) → i + n ≡ length (w .hull) → Good s → BlankFrom (w .hull) i s
       → Gives (HullsDone w g i s) (clipHull (w .frame .bounds) (length (w .triangles) / 3) (w .halfedges) (w .hull) (w .table) (g .x .at) i n s)
   unfolding clipHull
   hulls-done zero i s q good blank = record { stay = λ k o. refl; idle = λ fan j lo hi. absurd (omega arith) }

@@ -1,5 +1,6 @@
 -- One turn at a half-edge. Where the table's entry of its site has come by and the fan is closed, the cell is there or the site is idle, and a try changes nothing; where
--- the site is on the hull, its cell is there, or it is idle and a try changes nothing if the edge that closes its ring misses the box. A site whose table entry is e ends at e, so the try there settles it. The cells of other sites stay.
+-- the site is on the hull, its cell is there, or it is idle and a try changes nothing if the edge that closes its ring misses the box.
+-- A site whose table entry is e ends at e, so the try there settles it. The cells of other sites stay.
 use mathlib.Core.Path.{_≡_, refl, sym, ap, _∙_}
 use mathlib.Core.Bool.{Bool, true, false}
 use mathlib.Core.List.{List, []}

@@ -46,7 +46,7 @@ use Rattle.cell_builder.specs.turned.Loops.{
 }
 use Rattle.cell_builder.specs.turned.Marks.{Markable, Covers, MadeLast, LeftOut}
 use Rattle.cell_builder.specs.turned.Turns.{HullsMarked, HullsIdle, HullsKnown, SettledBefore, SettledAfter, HullRegions, HullTold, HullWalks, DueTried}
-use Rattle.cell_builder.specs.turned.laws.HullTries.{OffHull, HullsDone, hulls-done}
+use Rattle.cell_builder.specs.turned.laws.HullTries.{BlankFrom, OffHull, HullsDone, hulls-done}
 use Rattle.cell_builder.specs.turned.laws.Leaving.{Alike, left-none, left-more, left-onward}
 use Rattle.cell_builder.specs.turned.laws.Quiet.{early-filled}
 use Rattle.cell_builder.specs.tried.laws.Early.{earlyCell}
@@ -78,10 +78,6 @@ module _ (w : Plan) (g : Ground) where
     stopped (refused e) q d z = rw (← q) d
 
 -- ---- the hull
-
--- from hull place i on, cells are empty
-abbrev pub BlankFrom : List ℕ → ℕ → CellState → Type 0
-BlankFrom hull i s = (j : ℕ) → i ≤ j → j < length hull → getD (s .cells) (getD hull j 0) [] ≡ []
 
 abbrev pub hullsFrom : Plan → Ground → ℕ → CellState → Outcome Fault CellState
 hullsFrom w g i s = clipHull (w .frame .bounds) (length (w .triangles) / 3) (w .halfedges) (w .hull) (w .table) (g .x .at) i (length (w .hull) - i) s
