@@ -2,10 +2,10 @@
 use definition::Reused;
 use plane::boxes::BoundingBox;
 use plane::lines::Crossing;
+use plane::lines::intersect_line;
 use plane::points::Point;
 use plane::rays::order_points_on_ray;
-use plane::rays::project_ray;
-use vertices::add_new_vertex;
+use vertices::add_at;
 use vertices::vertex;
 ghost use mathlib.Core.Path.{_≡_};
 ghost use mathlib.Core.Bool.{cond};
@@ -16,7 +16,7 @@ ghost use Rattle.plane.specs.points.Flat.{points};
 ghost use Rattle.vertices.specs.Store.{Holds};
 ghost use Rattle.definition.specs.Cell as Def;
 ghost use Rattle.definition.specs.Reused as Counts;
-ghost use Rattle.clipping.specs.edges.EdgeClip.{Asked, ClipsEdge};
+ghost use Rattle.clipping.specs.edges.EdgeClip.{CrossingsAsked, ClipsEdge};
 
 // What stays while one cell is clipped: the box, the number of circumcenters, where the store's part of the index list begins, and the cell's site.
 pub struct Env {
@@ -87,6 +87,7 @@ fn on_edge(p: Point, q: Point, d: Point, c: Crossing) -> Crossing
     }
 }
 
+// The line and its order on the ray are called here, not `project_ray`: the public calls share that, and it would be no part of the walk's code.
 fn edge_crossing(bounds: BoundingBox, p: Point, q: Point) -> Crossing
     ensures { λ r. ⌜ r ≡ Def.edgeCrossing bounds p q ⌝ }
 {
@@ -94,7 +95,13 @@ fn edge_crossing(bounds: BoundingBox, p: Point, q: Point) -> Crossing
         x: q.x - p.x,
         y: q.y - p.y,
     };
-    on_edge(p, q, d, project_ray(bounds, p, d))
+    let second = Point {
+        x: p.x + d.x,
+        y: p.y + d.y,
+    };
+    let met = intersect_line(bounds, p, second);
+    let ordered = order_points_on_ray(p, d, met);
+    on_edge(p, q, d, ordered)
 }
 
 fn crossing_between(vertices: &[f64], count: usize, bounds: BoundingBox, p: u32, q: u32) -> Crossing
@@ -124,7 +131,7 @@ pub fn crossing_of(
     q_in: bool,
 ) -> Crossing
     requires { ⌜ (2 * count ≤ length (now vertices)) × (p < count) × (q < count) ⌝ }
-    ensures { λ r. ⌜ Asked bounds (points count (now (vertices .entry))) p p_in q q_in r ⌝ }
+    ensures { λ r. ⌜ CrossingsAsked bounds (points count (now (vertices .entry))) p p_in q q_in r ⌝ }
 {
     if q_in & p_in {
         return Crossing::None;
@@ -147,14 +154,7 @@ fn clip_once(
     ensures { λ r. ⌜ ClipsEdge (env .centers) (env .limit) count (Def.clipWith (env .centers) (points count (now (vertices .entry))) (Crossing.One x y))
         (now (vertices .entry)) (now (indexes .entry)) r (now (vertices .exit)) (now (indexes .exit)) ⌝ }
 {
-    let a = add_new_vertex(
-        vertices,
-        indexes,
-        env.limit,
-        env.centers,
-        count,
-        Point { x: x, y: y },
-    );
+    let a = add_at(vertices, indexes, env.limit, env.centers, count, x, y);
     let at = a.at as u32;
     let reused = Reused {
         extensions: 0,
@@ -179,22 +179,8 @@ fn clip_twice(
     ensures { λ r. ⌜ ClipsEdge (env .centers) (env .limit) count (Def.clipWith (env .centers) (points count (now (vertices .entry))) (Crossing.Two x y z w))
         (now (vertices .entry)) (now (indexes .entry)) r (now (vertices .exit)) (now (indexes .exit)) ⌝ }
 {
-    let a = add_new_vertex(
-        vertices,
-        indexes,
-        env.limit,
-        env.centers,
-        count,
-        Point { x: x, y: y },
-    );
-    let b = add_new_vertex(
-        vertices,
-        indexes,
-        env.limit,
-        env.centers,
-        a.count,
-        Point { x: z, y: w },
-    );
+    let a = add_at(vertices, indexes, env.limit, env.centers, count, x, y);
+    let b = add_at(vertices, indexes, env.limit, env.centers, a.count, z, w);
     let reused = Reused {
         extensions: 0,
         firsts: if_old(a.fresh),

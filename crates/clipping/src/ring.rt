@@ -21,7 +21,7 @@ ghost use lib.ListN.{length, getD};
 ghost use Rattle.plane.specs.points.Flat.{points};
 ghost use Rattle.definition.specs.Cell as Def;
 ghost use Rattle.definition.specs.Short;
-ghost use Rattle.clipping.specs.edges.EdgeClip.{Asked};
+ghost use Rattle.clipping.specs.edges.EdgeClip.{CrossingsAsked};
 ghost use Rattle.clipping.specs.EdgeOutcome.{EdgeRoom};
 ghost use Rattle.clipping.specs.RingWalk.{tipOf, Stands, Steps, ringOf, emptyAt, RingRoom};
 
@@ -67,7 +67,7 @@ fn step_to(
     requires { ⌜ EdgeRoom env (tip .count) (tip .cell) (now vertices) (now indexes) ⌝ }
     requires { ⌜ Stands env tip (now vertices) × (tip .inside ≡ false → q_in ≡ true → tip .opened ≡ true) ⌝ }
     requires { ⌜ (q < tip .count) × (q_in ≡ Def.inBox (env .bounds) (env .centers) (points (tip .count) (now vertices)) q)
-        × Asked (env .bounds) (points (tip .count) (now vertices)) (tip .vertex) (tip .inside) q q_in c ⌝ }
+        × CrossingsAsked (env .bounds) (points (tip .count) (now vertices)) (tip .vertex) (tip .inside) q q_in c ⌝ }
     ensures steps { λ r. ⌜ Steps env 1 (Def.stepTo (env .bounds) (env .centers) (env .site) (tipOf tip (now (vertices .entry))) q) (tip .count) (tip .cell)
         (now (vertices .entry)) (now (indexes .entry)) r (now (vertices .exit)) (now (indexes .exit)) ⌝ }
     ensures stands { λ r. ⌜ (r .fault .number ≡ 0 → Stands env (r .tip) (now (vertices .exit))

@@ -24,7 +24,7 @@ ghost use Rattle.definition.specs.Reused.{CountsReused};
 ghost use Rattle.definition.specs.Sides.{Sided};
 ghost use Rattle.build_laws.specs.laws.SidedEdge.{ClipSided};
 ghost use Rattle.clipping.specs.corners.CellEntries.{EntryRoom, EntriesPut};
-ghost use Rattle.clipping.specs.edges.EdgeClip.{Asked};
+ghost use Rattle.clipping.specs.edges.EdgeClip.{CrossingsAsked};
 ghost use Rattle.clipping.specs.EdgeOutcome.{EdgeRoom, Alters, Changes};
 ghost use Rattle.clipping.specs.RingWalk.{Stands};
 
@@ -353,8 +353,8 @@ pub fn clip_step(
 ) -> Changed
     requires { ⌜ EdgeRoom env (tip .count) (tip .cell) (now vertices) (now indexes) ⌝ }
     requires { ⌜ Stands env tip (now vertices) × (tip .inside ≡ false → q_in ≡ true → tip .opened ≡ true) ⌝ }
-    requires { ⌜ ((q : ℕ) × Asked (env .bounds) (points (tip .count) (now vertices)) (tip .vertex) (tip .inside) q q_in c) ⌝ }
-    ensures { λ r. ⌜ ((q : ℕ) → Asked (env .bounds) (points (tip .count) (now (vertices .entry))) (tip .vertex) (tip .inside) q q_in c
+    requires { ⌜ ((q : ℕ) × CrossingsAsked (env .bounds) (points (tip .count) (now vertices)) (tip .vertex) (tip .inside) q q_in c) ⌝ }
+    ensures { λ r. ⌜ ((q : ℕ) → CrossingsAsked (env .bounds) (points (tip .count) (now (vertices .entry))) (tip .vertex) (tip .inside) q q_in c
         → Changes env (tip .count) (Def.clipStep (env .bounds) (env .centers) (env .site) (tip .vertex) (tip .inside) q q_in
         (points (tip .count) (now (vertices .entry))) (tip .cell .owners) (tip .opened) (tip .cell .last)) (tip .cell)
         (now (vertices .entry)) (now (indexes .entry)) r (now (vertices .exit)) (now (indexes .exit))) ⌝ }

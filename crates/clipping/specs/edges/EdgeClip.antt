@@ -16,7 +16,7 @@ use Rattle.clipping.specs.declared.edges.Crossed.{Crossed}
 use Rattle.clipping.specs.declared.edges.Crossed.the-variants.{Missed, Once, Twice}
 
 -- c is the crossings of the edge from p to q, found from its end inside where one is; where both are it is not asked for
-pub record Asked (b : BoundingBox) (vs : List Point) (p : ℕ) (pIn : Bool) (q : ℕ) (qIn : Bool) (c : Crossing) : Type 0 where
+pub record CrossingsAsked (b : BoundingBox) (vs : List Point) (p : ℕ) (pIn : Bool) (q : ℕ) (qIn : Bool) (c : Crossing) : Type 0 where
   pub enters : pIn ≡ false → qIn ≡ true → c ≡ edgeCrossing b (vertexAt vs q) (vertexAt vs p)
   pub others : qIn ≡ false → c ≡ edgeCrossing b (vertexAt vs p) (vertexAt vs q)
 

@@ -25,7 +25,7 @@ use Rattle.definition.specs.Short.{fault, change, moved}
 use Rattle.definition.specs.Sides.{Sided}
 use Rattle.definition.specs.laws.Gives.{Gives}
 use Rattle.build_laws.specs.laws.SidedEdge.{ClipSided, clip-sided, EndsOnSide, Shut}
-use Rattle.clipping.specs.edges.EdgeClip.{Asked}
+use Rattle.clipping.specs.edges.EdgeClip.{CrossingsAsked}
 use Rattle.clipping.specs.edges.laws.EdgeClip.{clip-is}
 use Rattle.clipping.specs.EdgeOutcome.{Changes}
 use Rattle.clipping.specs.RingWalk.{tipOf, Steps}
@@ -43,7 +43,7 @@ module _ (b : BoundingBox) (nc site p : ℕ) (pIn : Bool) (q : ℕ) (qIn : Bool)
   step-stay h k = rw (h, k)
 
   -- with the crossings c that were asked for
-  module _ (c : Crossing) (a : Asked b vs p pIn q qIn c) where
+  module _ (c : Crossing) (a : CrossingsAsked b vs p pIn q qIn c) where
     pub step-leave : pIn ≡ true → qIn ≡ false → clipStep b nc site p pIn q qIn vs os opened last ≡ leave p os (clipWith nc vs c)
     unfolding clipStep
     step-leave h k = rw (h, k) (ap (leave p os) (clip-is b nc vs p q c (a .others k)))

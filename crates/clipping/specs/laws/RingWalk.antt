@@ -30,7 +30,7 @@ use Rattle.definition.specs.Short.{fault, ins, part, partsJoined}
 use Rattle.definition.specs.declared.Reused.{Reused}
 use Rattle.definition.specs.Reused.{reused, together, Addable, CountsReused}
 use Rattle.definition.specs.laws.Reused.{counts-none, counts-then, counts-small, together-none}
-use Rattle.clipping.specs.edges.EdgeClip.{Asked, VerticesGrown}
+use Rattle.clipping.specs.edges.EdgeClip.{CrossingsAsked, VerticesGrown}
 use Rattle.clipping.specs.EdgeOutcome.{EdgeRoom, Did}
 use Rattle.clipping.specs.RingWalk.{tipOf, Stands, Steps, ringOf, RingRoom}
 use Rattle.clipping.specs.declared.edges.Env.{Env}
@@ -123,7 +123,7 @@ module _ (env : Env) (t : Tip) (v : List Float) (ix : List ℕ) (q : ℕ) where
       → EdgeRoom env (t .count) (t .cell) v ix
       → Stands env t v
       → qIn ≡ inBox (env .bounds) (env .centers) vs q
-      → Asked (env .bounds) vs (t .vertex) (t .inside) q qIn c
+      → CrossingsAsked (env .bounds) vs (t .vertex) (t .inside) q qIn c
       → (t .inside ≡ false) × (qIn ≡ false) × (c ≡ None)
       → Steps env 1 (stepTo (env .bounds) (env .centers) (env .site) (tipOf t v) q) (t .count) (t .cell) v ix
       (record { fault = fault 0 0 0 0; tip = movedTo t q; reused = reused 0 0 0 }) v ix
@@ -340,7 +340,7 @@ module _ (env : Env) (ring len f : ℕ) (t₀ : Tip) (v₀ : List Float) (ix₀ 
           → getD (turned f (ringOf ix₀ ring len)) k 0 ≡ q
           → q < t .count
           → qIn ≡ inBox (env .bounds) (env .centers) (points (t .count) v) q
-          → Asked (env .bounds) (points (t .count) v) (t .vertex) (t .inside) q qIn c
+          → CrossingsAsked (env .bounds) (points (t .count) v) (t .vertex) (t .inside) q qIn c
           → (t .inside ≡ false) × (qIn ≡ false) × (c ≡ None)
           → length v ≡ length v₀
           → Round env ring len f t₀ v₀ ix₀ (k + 1) (movedTo t q) u v ix

@@ -21,7 +21,7 @@ use Rattle.vertices.specs.laws.Store.{poured-points, poured-then, added-kept}
 use Rattle.definition.specs.Cell.{firstIs, onEdge, missed, clipWith, clipEdge, edgeCrossing, vertexAt}
 use Rattle.definition.specs.Short.{tookOne, tookTwo}
 use Rattle.definition.specs.Reused.{ifOld, reused, CountsReused}
-use Rattle.clipping.specs.edges.EdgeClip.{Asked, ClipsEdge, VerticesGrown}
+use Rattle.clipping.specs.edges.EdgeClip.{CrossingsAsked, ClipsEdge, VerticesGrown}
 use Rattle.clipping.specs.declared.edges.Crossed.the-variants.{Once, Twice}
 
 -- ---- which crossings are on the edge
@@ -136,7 +136,7 @@ module _ (nc limit count : ℕ) (x y : Float) (v : List Float) (ix : List ℕ) (
 -- ---- the crossings that were asked for
 
 module _ (b : BoundingBox) (vs : List Point) (p : ℕ) (pIn : Bool) (q : ℕ) (qIn : Bool) (c : Crossing) where
-  pub asked-inside : qIn && pIn ≡ true → Asked b vs p pIn q qIn c
+  pub asked-inside : qIn && pIn ≡ true → CrossingsAsked b vs p pIn q qIn c
   asked-inside h = record { enters = λ i j. absurd (false≢true (rw (i, j) at h)); others = λ j. absurd (false≢true (rw j at h)) }
 
   pub asked-found :
@@ -144,7 +144,7 @@ module _ (b : BoundingBox) (vs : List Point) (p : ℕ) (pIn : Bool) (q : ℕ) (q
       → from ≡ cond qIn q p
       → to ≡ cond qIn p q
       → c ≡ edgeCrossing b (vertexAt vs from) (vertexAt vs to)
-      → Asked b vs p pIn q qIn c
+      → CrossingsAsked b vs p pIn q qIn c
   asked-found from to f t e = record { enters = λ i j. rw (f, t, j) at e; others = λ j. rw (f, t, j) at e }
 
 pub either-below : (b : Bool) (x y n r : ℕ) → r ≡ cond b x y → x < n → y < n → r < n

@@ -21,8 +21,8 @@ Entry l = l .before .before .before .before .before .before .before
 abbrev InLoop : tie.After-struct-known Inv-loop μ-loop → tie.In-loop Inv-loop μ-loop
 InLoop c = c .before .before .before .before .before .before .before .before .before .before .before .before .before
 
-abbrev AddNewVertex : tie.After-struct-known Inv-loop μ-loop → tie.After-add-new-vertex Inv-loop μ-loop
-AddNewVertex c = c .before .before .before .before .before
+abbrev AddAt : tie.After-struct-known Inv-loop μ-loop → tie.After-add-at Inv-loop μ-loop
+AddAt c = c .before .before .before .before .before
 
 loop-holds : tie.Need-loop-holds Inv-loop μ-loop
 loop-holds c = extending-start _ _ _ _ _ _ _ _ _ _ (c .before .before .before .before .before .before .pre .holds)
@@ -58,41 +58,41 @@ returns c =
     extending-bad _ _ _ _ _ _ _ _ _ _ _ _ _ _ _ (at-hull-edge .before .before .before .loop .inv) (at-hull-edge .before .before .loop-test .taken) _ _ (at-hull-edge .hull-edge .ensures)
     (c .before .before .extend-voronoi-vertex .ensures) (sym (c .before .finite-point .ensures) ∙ not-true _ (c .if1 .taken)) _ refl _ _
 
-add-new-vertex-requires : tie.Need-add-new-vertex-requires Inv-loop μ-loop
-add-new-vertex-requires c κs =
+add-at-requires : tie.Need-add-at-requires Inv-loop μ-loop
+add-at-requires c κs =
     let at-loop-test = c .before .before .before .before .before .before .before in
     (at-loop-test .before .loop .inv .holds, turn-room _ _ _ _ _ _ _ _ _ _ (Entry (at-loop-test .before) .pre) _ _ _ _ _ (at-loop-test .before .loop .inv) (at-loop-test .loop-test .taken))
 
 cast-indexes : tie.Need-cast-indexes Inv-loop μ-loop
 cast-indexes c =
-    let a = AddNewVertex c .add-new-vertex .ensures .0 in omega (arith, a .below, a .high, InLoop c .before .loop .inv .grown, InLoop c .loop-test .taken, Entry (InLoop c .before) .pre .small)
+    let a = AddAt c .add-at .ensures .0 in omega (arith, a .below, a .high, InLoop c .before .loop .inv .grown, InLoop c .loop-test .taken, Entry (InLoop c .before) .pre .small)
 
 add-indexes : tie.Need-add-indexes Inv-loop μ-loop
 add-indexes c =
-    let x = Entry (InLoop c .before) .pre in omega (arith, InLoop c .loop-test .taken, x .room-ix, x .limited, InLoop c .before .loop .inv .long-ix, AddNewVertex c .add-new-vertex .kept .1 .0)
+    let x = Entry (InLoop c .before) .pre in omega (arith, InLoop c .loop-test .taken, x .room-ix, x .limited, InLoop c .before .loop .inv .long-ix, AddAt c .add-at .kept .1 .0)
 
 mul-indexes : tie.Need-mul-indexes Inv-loop μ-loop
 mul-indexes c =
     let x = Entry (InLoop c .before) .pre in
-    omega (arith, InLoop c .loop-test .taken, x .room-ix, x .limited, InLoop c .before .loop .inv .long-ix, AddNewVertex c .add-new-vertex .kept .1 .0, x .small-ix)
+    omega (arith, InLoop c .loop-test .taken, x .room-ix, x .limited, InLoop c .before .loop .inv .long-ix, AddAt c .add-at .kept .1 .0, x .small-ix)
 
 slice-write-indexes : tie.Need-slice-write-indexes Inv-loop μ-loop
 slice-write-indexes c =
-    let x = Entry (InLoop c .before) .pre in omega (arith, InLoop c .loop-test .taken, x .room-ix, x .limited, InLoop c .before .loop .inv .long-ix, AddNewVertex c .add-new-vertex .kept .1 .0)
+    let x = Entry (InLoop c .before) .pre in omega (arith, InLoop c .loop-test .taken, x .room-ix, x .limited, InLoop c .before .loop .inv .long-ix, AddAt c .add-at .kept .1 .0)
 
 count-old-requires : tie.Need-count-old-requires Inv-loop μ-loop
 count-old-requires c κs = omega (arith, InLoop c .before .loop .inv .few, InLoop c .loop-test .taken, Entry (InLoop c .before) .pre .small)
 
 loop-again : tie.Need-loop-again Inv-loop μ-loop
 loop-again c =
-    let at-add-new-vertex = AddNewVertex (c .before) in
-    let at-if1 = at-add-new-vertex .before .before .before in
+    let at-add-at = AddAt (c .before) in
+    let at-if1 = at-add-at .before .before .before in
     let at-loop-test = InLoop (c .before) in
     extending-step _ _ _ _ _ _ _ _ _ _ _ _ _ _ _ (at-loop-test .before .loop .inv) (at-loop-test .loop-test .taken) _ _ (at-if1 .before .before .before .hull-edge .ensures)
     (at-if1 .before .before .extend-voronoi-vertex .ensures) (sym (at-if1 .before .finite-point .ensures) ∙ not-false _ (at-if1 .if1 .left))
-    (Entry (at-loop-test .before) .pre) (at-add-new-vertex .add-new-vertex .result) (at-add-new-vertex .add-new-vertex .last .0)
-    (at-add-new-vertex .add-new-vertex .last .1 .0) (at-add-new-vertex .add-new-vertex .kept .0) (at-add-new-vertex .add-new-vertex .kept .1 .0)
-    (at-add-new-vertex .add-new-vertex .ensures .0) (at-add-new-vertex .add-new-vertex .ensures .1) _ _ refl (c .count-old .ensures)
+    (Entry (at-loop-test .before) .pre) (at-add-at .add-at .result) (at-add-at .add-at .last .0)
+    (at-add-at .add-at .last .1 .0) (at-add-at .add-at .kept .0) (at-add-at .add-at .kept .1 .0)
+    (at-add-at .add-at .ensures .0) (at-add-at .add-at .ensures .1) _ _ refl (c .count-old .ensures)
 
 same-length-3 : tie.Need-same-length-3 Inv-loop μ-loop
 same-length-3 c = c .before .loop .inv .long-v
@@ -107,5 +107,5 @@ pub extend-hull-spec : {M : Type 1} → statement M
 extend-hull-spec =
     tie.close
     (tie.spec Inv-loop μ-loop loop-holds hull-edge-requires extend-voronoi-vertex-requires (λ c κs. search needs)
-    same-length same-length-2 returns add-new-vertex-requires cast-indexes add-indexes mul-indexes slice-write-indexes count-old-requires (λ c. omega arith)
+    same-length same-length-2 returns add-at-requires cast-indexes add-indexes mul-indexes slice-write-indexes count-old-requires (λ c. omega arith)
     (λ c. omega arith) loop-again same-length-3 same-length-4 returns-2)
