@@ -13,12 +13,13 @@ ghost use Rattle.base.specs.numbers.Numbers.{EMPTY};
 ghost use Rattle.definition.specs.Measures.{ifLost, lostLeft};
 ghost use Rattle.cell_builder.specs.finish.Finish.{RefusedCells, Finishable, FinishedCells, SettledCells};
 
-// How far the build is: its fault, whose number is 0 where there is none, the number of vertices, the owners of corners not yet wrapped, and the points taken again.
+// How far the build is: the number of vertices, the owners of corners not yet wrapped, the points taken again, and its fault, whose number is 0 where there is none.
+// The fault stands last, as the short fields of `clipping::Changed` do.
 pub struct Progress {
-    pub fault: Fault,
     pub count: usize,
     pub owners: [u32; 4],
     pub reused: Reused,
+    pub fault: Fault,
 }
 
 // A build's answer beside the slices: the fault, the number of vertices, the owners as found, the lost corners, the points taken again.

@@ -67,7 +67,7 @@ fn append(
 
 // p's place among the vertices: the first near one after the circumcenters, else a new one.
 // The index list from `limit` on belongs to the store.
-pub fn add_new_vertex(
+fn add_new_vertex(
     vertices: &mut [f64],
     indexes: &mut [u32],
     limit: usize,
@@ -96,6 +96,32 @@ pub fn add_new_vertex(
         fresh: true,
         count: count + 1,
     }
+}
+
+// The same of the point (x, y). Callers hand its coordinates on as numbers: a record is written one coordinate at a time and read whole, and that read waits.
+pub fn add_at(
+    vertices: &mut [f64],
+    indexes: &mut [u32],
+    limit: usize,
+    centers: usize,
+    count: usize,
+    x: f64,
+    y: f64,
+) -> Placed
+    requires { ⌜ Holds centers count (now vertices) (drop limit (now indexes)) ⌝ }
+    requires { ⌜ 2 * count + 2 ≤ length (now vertices) ⌝ }
+    ensures placed { λ r. ⌜ PlacedAs count (addVertex centers (points count (now (vertices .entry))) (at x y)) r ⌝ }
+    ensures slices { λ r. ⌜ Leaves centers limit (addVertex centers (points count (now (vertices .entry))) (at x y) .verts)
+        (now (vertices .entry)) (now (indexes .entry)) (r .count) (now (vertices .exit)) (now (indexes .exit)) ⌝ }
+{
+    add_new_vertex(
+        vertices,
+        indexes,
+        limit,
+        centers,
+        count,
+        Point { x: x, y: y },
+    )
 }
 
 // The box's corners after the circumcenters: with them the store begins.

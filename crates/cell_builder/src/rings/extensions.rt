@@ -4,7 +4,7 @@ use mesh::end_site;
 use mesh::next_place;
 use plane::points::Point;
 use plane::points::point_at;
-use vertices::add_new_vertex;
+use vertices::add_at;
 use vertices::vertex;
 ghost use mathlib.Core.Path.{_≡_};
 ghost use mathlib.Core.Bool.{_&&_};
@@ -194,7 +194,7 @@ pub fn extend_hull(
                 reused: old,
             };
         }
-        let r = add_new_vertex(vertices, indexes, limit, centers, n, p);
+        let r = add_at(vertices, indexes, limit, centers, n, p.x, p.y);
         indexes[at + i] = r.at as u32;
         n = r.count;
         old = count_old(old, r.fresh);

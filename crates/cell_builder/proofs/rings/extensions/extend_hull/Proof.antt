@@ -24,8 +24,8 @@ Entry l = l .before .before .before .before .before .before .before
 abbrev InLoop : tie.After-struct-known Inv-loop μ-loop → tie.In-loop Inv-loop μ-loop
 InLoop c = c .before .before .before .before .before .before .before .before .before .before .before .before .before
 
-abbrev AddNewVertex : tie.After-struct-known Inv-loop μ-loop → tie.After-add-new-vertex Inv-loop μ-loop
-AddNewVertex c = c .before .before .before .before .before
+abbrev AddAt : tie.After-struct-known Inv-loop μ-loop → tie.After-add-at Inv-loop μ-loop
+AddAt c = c .before .before .before .before .before
 
 loop-holds : tie.Need-loop-holds Inv-loop μ-loop
 loop-holds c = (extending-start _ _ _ _ _ _ _ _ _ _ (c .before .before .before .before .before .before .pre .holds), λ k o. absurd (omega arith))
@@ -50,27 +50,27 @@ returns c =
     extending-bad _ _ _ _ _ _ _ _ _ _ _ _ _ _ _ (at-points .before .before .before .loop .inv .0) (at-points .before .before .loop-test .taken) _
     (at-points .points-from .ensures .first) (sym (c .before .finite-point .ensures) ∙ not-true _ (c .if1 .taken)) _ refl _ _
 
-add-new-vertex-requires : tie.Need-add-new-vertex-requires Inv-loop μ-loop
-add-new-vertex-requires c κs =
+add-at-requires : tie.Need-add-at-requires Inv-loop μ-loop
+add-at-requires c κs =
     let at-loop-test = c .before .before .before .before .before .before .before in
     (at-loop-test .before .loop .inv .0 .holds, turn-room _ _ _ _ _ _ _ _ _ _ (Entry (at-loop-test .before) .pre) _ _ _ _ _ (at-loop-test .before .loop .inv .0) (at-loop-test .loop-test .taken))
 
 cast-indexes : tie.Need-cast-indexes Inv-loop μ-loop
 cast-indexes c =
-    let a = AddNewVertex c .add-new-vertex .ensures .0 in omega (arith, a .below, a .high, InLoop c .before .loop .inv .0 .grown, InLoop c .loop-test .taken, Entry (InLoop c .before) .pre .small)
+    let a = AddAt c .add-at .ensures .0 in omega (arith, a .below, a .high, InLoop c .before .loop .inv .0 .grown, InLoop c .loop-test .taken, Entry (InLoop c .before) .pre .small)
 
 add-indexes : tie.Need-add-indexes Inv-loop μ-loop
 add-indexes c =
-    let x = Entry (InLoop c .before) .pre in omega (arith, InLoop c .loop-test .taken, x .room-ix, x .limited, InLoop c .before .loop .inv .0 .long-ix, AddNewVertex c .add-new-vertex .kept .1 .0)
+    let x = Entry (InLoop c .before) .pre in omega (arith, InLoop c .loop-test .taken, x .room-ix, x .limited, InLoop c .before .loop .inv .0 .long-ix, AddAt c .add-at .kept .1 .0)
 
 mul-indexes : tie.Need-mul-indexes Inv-loop μ-loop
 mul-indexes c =
     let x = Entry (InLoop c .before) .pre in
-    omega (arith, InLoop c .loop-test .taken, x .room-ix, x .limited, InLoop c .before .loop .inv .0 .long-ix, AddNewVertex c .add-new-vertex .kept .1 .0, x .small-ix)
+    omega (arith, InLoop c .loop-test .taken, x .room-ix, x .limited, InLoop c .before .loop .inv .0 .long-ix, AddAt c .add-at .kept .1 .0, x .small-ix)
 
 slice-write-indexes : tie.Need-slice-write-indexes Inv-loop μ-loop
 slice-write-indexes c =
-    let x = Entry (InLoop c .before) .pre in omega (arith, InLoop c .loop-test .taken, x .room-ix, x .limited, InLoop c .before .loop .inv .0 .long-ix, AddNewVertex c .add-new-vertex .kept .1 .0)
+    let x = Entry (InLoop c .before) .pre in omega (arith, InLoop c .loop-test .taken, x .room-ix, x .limited, InLoop c .before .loop .inv .0 .long-ix, AddAt c .add-at .kept .1 .0)
 
 count-old-requires : tie.Need-count-old-requires Inv-loop μ-loop
 count-old-requires c κs = omega (arith, InLoop c .before .loop .inv .0 .few, InLoop c .loop-test .taken, Entry (InLoop c .before) .pre .small)
@@ -83,11 +83,11 @@ loop-less c = omega (arith, InLoop (c .before .before) .loop-test .taken)
 
 loop-again : tie.Need-loop-again Inv-loop μ-loop
 loop-again c =
-    let at-add-new-vertex = AddNewVertex (c .before .before) in
-    let at-if1 = at-add-new-vertex .before .before .before in
+    let at-add-at = AddAt (c .before .before) in
+    let at-if1 = at-add-at .before .before .before in
     let at-points = at-if1 .before .before .before in
     let at-loop-test = InLoop (c .before .before) in
-    let added = at-add-new-vertex .add-new-vertex in (
+    let added = at-add-at .add-at in (
       extending-step _ _ _ _ _ _ _ _ _ _ _ _ _ _ _ (at-loop-test .before .loop .inv .0) (at-loop-test .loop-test .taken) _
           (at-points .points-from .ensures .first) (sym (at-if1 .before .finite-point .ensures) ∙ not-false _ (at-if1 .if1 .left))
           (Entry (at-loop-test .before) .pre) (added .result) (added .last .0) (added .last .1 .0) (added .kept .0) (added .kept .1 .0)
@@ -108,6 +108,6 @@ returns-2 c = extending-end _ _ _ _ _ _ _ _ _ _ _ _ _ _ _ (c .before .loop .inv 
 pub extend-hull-spec : {M : Type 1} → statement M
 extend-hull-spec =
     tie.close
-    (tie.spec Inv-loop μ-loop loop-holds points-from-requires (λ c κs. search needs) same-length same-length-2 returns add-new-vertex-requires
+    (tie.spec Inv-loop μ-loop loop-holds points-from-requires (λ c κs. search needs) same-length same-length-2 returns add-at-requires
     cast-indexes add-indexes mul-indexes slice-write-indexes count-old-requires add-i loop-less loop-again same-length-3
     same-length-4 returns-2)
