@@ -1,5 +1,5 @@
 -- Rule 10 apart: how its number comes about, and how it follows the rules up to 9.
-use mathlib.Core.Path.{_≡_, refl, sym, ap, _∙_}
+use mathlib.Core.Path.{_≡_, refl, sym, ap, _∙_, subst}
 use mathlib.Core.Bool.{Bool, true}
 use mathlib.Core.List.{List, [], _++_}
 use mathlib.Core.Logic.{⊎-elim, _≢_}
@@ -23,7 +23,7 @@ use Rattle.mesh_check.specs.whole.laws.AtExit.{exit-made, exit-blank}
 use Rattle.cell_memory.specs.layout.Cleared.{padded}
 use Rattle.admission.specs.Admits.{askedRules, earlyRules, lateOutline, Admits}
 use Rattle.admission.specs.Slices.{Slices, slices, roomOf}
-use Rattle.admission.specs.Admission.{tableIn, TryableFans, FanAdmission, OutlineAdmission, BuildAdmission}
+use Rattle.admission.specs.Admission.{SlicesAdmission, tableIn, TryableFans, FanAdmission, OutlineAdmission, BuildAdmission}
 use Rattle.admission.specs.laws.Outlined.{outline-keep, long-of, same-vertices, same-indexes, same-offsets, same-counts}
 
 -- ---- how the number comes about
@@ -57,6 +57,17 @@ module _ {tri he : List ℕ} {sites : ℕ} {w : List ℕ} (t : TryableFans tri h
       offsets = qo ∙ rw sub-zero;
       counts = qc;
     }
+
+-- where it holds the slices are as they were
+pub fans-kept : {Number : ℕ → Type 0} {old new : Slices} {k : ℕ} → SlicesAdmission Number (old .work) old new k → k ≡ 0 → new ≡ old
+fans-kept {old = old} {k = k} f y =
+    let l = lt-ltb k refusedTriangle (omega arith) in
+    let w = f .work ∙ exit-made EMPTY (old .work) (old .work) k y in
+    let v = rw l at (f .vertices) in
+    let x = rw l at (f .indexes) in
+    let o = rw l at (f .offsets) in
+    let c = rw l at (f .counts) in
+    λ i. slices (w i) (v i) (x i) (o i) (c i)
 
 -- ---- after the rules up to 9
 module _ {m : Mesh} {asked : ℕ} {old mid : Slices} {r : ℕ} (a : OutlineAdmission m asked old mid r) where
@@ -106,18 +117,8 @@ module _ {m : Mesh} {asked : ℕ} {old mid : Slices} {r : ℕ} (a : OutlineAdmis
 -- tried at once
 pub fans-after : {m : Mesh} {asked : ℕ} {old mid new : Slices} {r k : ℕ} → OutlineAdmission m asked old mid r → r ≡ 0
     → FanAdmission (m .triangles) (m .halfedges) (siteCount (m .sites)) mid new k → BuildAdmission m asked old new k
-fans-after {mid = mid} {k = k} a z f =
+fans-after {m} {asked} {old} {new = new} {k = k} a z f =
     ⊎-elim
-    (λ y.
-    let b = fans-whole a z f y in
-    let l = lt-ltb k refusedTriangle (omega arith) in
-    record {
-      number = b .number;
-      work = f .work ∙ exit-made EMPTY (mid .work) (mid .work) k y ∙ b .work;
-      vertices = (rw l at (f .vertices)) ∙ b .vertices;
-      indexes = (rw l at (f .indexes)) ∙ b .indexes;
-      offsets = (rw l at (f .offsets)) ∙ b .offsets;
-      counts = (rw l at (f .counts)) ∙ b .counts;
-    })
+    (λ y. subst (λ (s : Slices). BuildAdmission m asked old s k) (sym (fans-kept f y)) (fans-whole a z f y))
     (λ n. fans-refused a z f n (long-of a z) (ap length (same-vertices a z)) (ap length (same-indexes a z)) (ap length (same-offsets a z)) (ap length (same-counts a z)))
     (eq-or-ne k 0)
