@@ -30,6 +30,12 @@ pub struct CellsAnswer {
     pub reused: Reused,
 }
 
+// The answer, and whether every fan was seen to be whole.
+pub struct Finished {
+    pub answer: CellsAnswer,
+    pub whole: bool,
+}
+
 // 1 where the corner of vertex v is lost: with its owner still, and in no cell.
 fn lost_corner(entries: &[u32], v: u32, owner: u32) -> u32
     ensures { λ r. ⌜ (r ≡ ifLost v owner (now (entries .entry))) × (r ≤ 1) ⌝ }
@@ -93,22 +99,25 @@ fn finish(
     centers: usize,
     p: Progress,
     owners: [u32; 4],
-) -> CellsAnswer
-    requires { ⌜ Finishable (now halfedges) (now table) (now marks) sites centers (p .count) (length (now vertices)) (now indexes) (now offsets) owners ⌝ }
+) -> Finished
+    requires { ⌜ Finishable (now halfedges) (now table) (now marks) sites centers (p .count) (length (now vertices)) (now indexes) (now offsets) ⌝ }
     ensures { λ r. ⌜ FinishedCells (now (halfedges .entry)) (now (table .entry)) (now (marks .entry)) sites centers p owners
         (now (vertices .entry)) (now (indexes .entry)) (now (offsets .entry)) r (now (vertices .exit)) (now (indexes .exit)) (now (offsets .exit)) ⌝ }
 {
-    let used = gather(halfedges, table, marks, indexes, offsets, sites, owners);
+    let put = gather(halfedges, table, marks, indexes, offsets, sites, owners);
     clear_floats_from(vertices, 2 * p.count);
     let fault = p.fault;
     let left = p.owners;
     let reused = p.reused;
-    CellsAnswer {
-        fault: fault,
-        count: p.count,
-        owners: owners,
-        lost: lost_corners(&indexes[..used], centers, left),
-        reused: reused,
+    Finished {
+        answer: CellsAnswer {
+            fault: fault,
+            count: p.count,
+            owners: owners,
+            lost: lost_corners(&indexes[..put.used], centers, left),
+            reused: reused,
+        },
+        whole: put.steps == halfedges.len(),
     }
 }
 
@@ -124,14 +133,17 @@ pub fn settle(
     centers: usize,
     p: Progress,
     owners: [u32; 4],
-) -> CellsAnswer
-    requires { ⌜ (p .fault .number ≡ 0 → Finishable (now halfedges) (now table) (now marks) sites centers (p .count) (length (now vertices)) (now indexes) (now offsets) owners) ⌝ }
+) -> Finished
+    requires { ⌜ (p .fault .number ≡ 0 → Finishable (now halfedges) (now table) (now marks) sites centers (p .count) (length (now vertices)) (now indexes) (now offsets)) ⌝ }
     ensures { λ r. ⌜ SettledCells (now (halfedges .entry)) (now (table .entry)) (now (marks .entry)) sites centers p owners
         (now (vertices .entry)) (now (indexes .entry)) (now (offsets .entry)) r (now (vertices .exit)) (now (indexes .exit)) (now (offsets .exit)) ⌝ }
 {
     let fault = p.fault;
     if fault.number != 0 {
-        return refuse(vertices, indexes, offsets, fault);
+        return Finished {
+            answer: refuse(vertices, indexes, offsets, fault),
+            whole: false,
+        };
     }
     finish(
         halfedges,

@@ -10,8 +10,8 @@ ghost use mathlib.Core.Path.{_≡_};
 ghost use mathlib.Core.List.{List};
 ghost use Prim.Native.Nat.{ℕ};
 ghost use lib.ListN.{length};
-ghost use Rattle.cell_builder.specs.tried.SlicesInvariant.{plan};
-ghost use Rattle.cell_builder.specs.turned.Loops.{HullsAmid, RestAmid, HullsTried, RestTried, AllTried};
+ghost use Rattle.cell_builder.specs.tried.SlicesInvariant.{plan, EdgesAmid};
+ghost use Rattle.cell_builder.specs.turned.Loops.{HullsAmid, HullsTried, RestTried, AllTried};
 
 // The cells of all hull sites.
 fn clip_hull(
@@ -66,7 +66,7 @@ fn clip_rest(
     f: Frame,
     p: Progress,
 ) -> Progress
-    requires { ⌜ ((hull : List ℕ) × RestAmid (plan (now triangles) (now halfedges) hull (now table) f (now offsets)) (now marks) p (now vertices) (now indexes)) ⌝ }
+    requires { ⌜ ((hull : List ℕ) × EdgesAmid (plan (now triangles) (now halfedges) hull (now table) f (now offsets)) p (now vertices) (now indexes)) ⌝ }
     ensures { λ r. ⌜ ((hull : List ℕ) → RestTried (plan (now (triangles .entry)) (now (halfedges .entry)) hull (now (table .entry)) f (now (offsets .entry))) (now (marks .entry)) p
         (now (vertices .entry)) (now (indexes .entry)) r (now (vertices .exit)) (now (indexes .exit))) ⌝ }
 {

@@ -13,7 +13,7 @@ use borrow.Author.Tests.{eqb-true, eqb-false, ne-eqb}
 use Rattle.base.specs.common.laws.Decide.{lt-or-ge}
 use Rattle.base.specs.common.Decide.{Says}
 use Rattle.base.specs.common.Count.{occ}
-use Rattle.base.specs.common.laws.Count.{same-cases, occ-append, all-there, all-counted}
+use Rattle.base.specs.common.laws.Count.{same-cases, occ-append, pigeonhole, all-there, all-counted}
 use Rattle.mesh.specs.Mesh.{endOf, here, wholeOf, totalTo, Fan, Paired}
 use Rattle.mesh.specs.laws.Walks.{walk-in, walk-ends, walk-reached, reached-walk, whole-once}
 
@@ -90,6 +90,13 @@ module _ (tri he table : List ℕ) (ok : Paired tri he) (t : Ends tri he table) 
   total-fan q e l =
       let s : ℕ = getD table (endOf tri e) 0 in
       walk-reached tri he ok s (length he) s e here (omega (arith, total-each q e l))
+
+  -- they are never more
+  total-most : totalTo he table (length table) ≤ length he
+  total-most = rw (← all-length (length table)) (pigeonhole (length he) (allOf he table (length table)) (all-below (length table)) all-once)
+
+  pub total-whole : length he ≤ totalTo he table (length table) → Fan tri he table
+  total-whole h = total-fan (omega (arith, total-most))
 
   -- the sum decides the fan
   pub total-says : (b : Bool) → b ≡ eqb (totalTo he table (length table)) (length he) → Says b (Fan tri he table)

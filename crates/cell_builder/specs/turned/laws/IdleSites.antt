@@ -16,7 +16,7 @@ use Rattle.plane.specs.declared.points.Point.{Point}
 use Rattle.plane.specs.declared.boxes.BoundingBox.{BoundingBox}
 use Rattle.plane.specs.declared.lines.Crossing.the-variants.{None}
 use Rattle.mesh.specs.Mesh.{endOf, around, turnOf, walkOf, wholeOf, leftmostOf, Paired}
-use Rattle.mesh.specs.Accepted.{Topology}
+use Rattle.mesh.specs.Accepted.{TopologyWith, Topology}
 use Rattle.mesh.specs.laws.Closed.{ClosedAt}
 use Rattle.mesh.specs.laws.Facts.{paired, walk-each}
 use Rattle.mesh.specs.laws.WalkSteps.{walk-go, walk-done}
@@ -116,7 +116,7 @@ module _ (tri he : List ℕ) (paired : Paired tri he) (b : BoundingBox) (nc : �
 
 -- ---- tries
 
-module _ {tri he hull : List ℕ} {n : ℕ} (top : Topology tri he hull n) (b : BoundingBox) (site : ℕ) (closed : ClosedAt tri he site) where
+module _ {Fans : Type 0} {tri he hull : List ℕ} {n : ℕ} (top : TopologyWith Fans tri he hull n) (b : BoundingBox) (site : ℕ) (closed : ClosedAt tri he site) where
   abbrev nc : ℕ
   nc = length tri / 3
 
@@ -151,13 +151,15 @@ module _ {tri he hull : List ℕ} {n : ℕ} (top : Topology tri he hull n) (b : 
           append-nil (s .steps),
         )
 
-    -- a try from the table's entry that leaves its cell empty is that of an idle site
-    pub try-idle : site < n → e ≡ getD (leftmostOf tri he n) site 0 → site < length (s .cells) → {r : CellState} → clipInto b nc site (ringFrom he e) s ≡ ok r
-        → getD (r .cells) site [] ≡ [] → IdleSite b nc tri he (s .verts) site
-    try-idle in-mesh is wide {r} t empty h m z =
-        let w = into-ok b nc site (ringFrom he e) s t in
-        let c = w .0 in
-        let none : c .new ≡ [] = sym (getD-set-same (s .cells) site (c .new) [] wide) ∙ sym (ap (λ (x : CellState). getD (x .cells) site []) (w .2)) ∙ empty in
-        idle-ring tri he (paired top) b nc (s .verts) site closed e l q
-        (nothing-idle b nc site (ringFrom he e) (s .verts) (s .owners) (some tri he (paired top) b nc (s .verts) site closed e l q) (w .1) none)
-        h (rw is (omega (arith, walk-each top site in-mesh h m z)))
+module _ {tri he hull : List ℕ} {n : ℕ} (top : Topology tri he hull n) (b : BoundingBox) (site : ℕ) (closed : ClosedAt tri he site) (s : CellState) (e : ℕ) (l : e < length he)
+    (q : endOf tri e ≡ site) where
+  -- a try from the table's entry that leaves its cell empty is that of an idle site
+  pub try-idle : site < n → e ≡ getD (leftmostOf tri he n) site 0 → site < length (s .cells) → {r : CellState} → clipInto b (length tri / 3) site (ringFrom he e) s ≡ ok r
+      → getD (r .cells) site [] ≡ [] → IdleSite b (length tri / 3) tri he (s .verts) site
+  try-idle in-mesh is wide {r} t empty h m z =
+      let w = into-ok b (length tri / 3) site (ringFrom he e) s t in
+      let c = w .0 in
+      let none : c .new ≡ [] = sym (getD-set-same (s .cells) site (c .new) [] wide) ∙ sym (ap (λ (x : CellState). getD (x .cells) site []) (w .2)) ∙ empty in
+      idle-ring tri he (paired top) b (length tri / 3) (s .verts) site closed e l q
+      (nothing-idle b (length tri / 3) site (ringFrom he e) (s .verts) (s .owners) (some tri he (paired top) b (length tri / 3) (s .verts) site closed e l q) (w .1) none)
+      h (rw is (omega (arith, walk-each top site in-mesh h m z)))

@@ -17,7 +17,7 @@ use Rattle.mesh.specs.Mesh.{endOf, pairOf, leftmostOf, Leftmost}
 use Rattle.mesh.specs.Hull.{nextPlace}
 use Rattle.mesh.specs.laws.Border.{after-lt, hull-border, closed-fan}
 use Rattle.mesh.specs.laws.Closed.{ClosedAt}
-use Rattle.mesh.specs.laws.Facts.{paired, end-site, tab-cases, tab-length, tab-some}
+use Rattle.mesh.specs.laws.Facts.{with-fans, paired, end-site, tab-cases, tab-length, tab-some}
 use Rattle.mesh.specs.laws.Table.{table-leftmost}
 use Rattle.definition.specs.declared.Fault.{Fault}
 use Rattle.definition.specs.Fault.{Outcome, ok, refused}
@@ -27,7 +27,7 @@ use Rattle.build_laws.specs.laws.AllCells.{is-empty}
 use Rattle.build_laws.specs.laws.Runs.{true-false}
 use Rattle.cell_builder.specs.turned.laws.IdleSites.{IdleSite, idle-grown, idle-shrunk, idle-try, try-idle}
 use Rattle.cell_builder.specs.declared.tried.Frame.{Frame}
-use Rattle.cell_builder.specs.tried.SlicesInvariant.{plan, Ground, edgeTry}
+use Rattle.cell_builder.specs.tried.SlicesInvariant.{plan, Ground, Fanned, edgeTry}
 use Rattle.cell_builder.specs.turned.Marks.{markOf}
 use Rattle.cell_builder.specs.turned.Turns.{dueOf, HasEntry, AllHaveEntries, SettledBefore, SettledAfter}
 use Rattle.cell_builder.specs.turned.laws.Onward.{Onward, OthersStay, others-stay}
@@ -159,8 +159,8 @@ module _ {tri he hull table : List ℕ} {f : Frame} {off : List ℕ} {g : Ground
         (λ _ z. refl)
 
     -- at the table's entry of an inner site
-    made : pairOf he entry ≢ EMPTY → e ≡ entry → Gives Made try
-    made n is =
+    made : Fanned (plan tri he hull table f off) g → pairOf he entry ≢ EMPTY → e ≡ entry → Gives Made try
+    made fan n is =
         picked (Gives Made) (isEmpty (getD (s .cells) site [])) _ _
         (λ t. by (clipInto (f .bounds) nc site (ringFrom he e) s) refl)
         (λ t. inl t)
@@ -174,7 +174,7 @@ module _ {tri he hull table : List ℕ} {f : Frame} {off : List ℕ} {g : Ground
         left : (r : CellState) → clipInto (f .bounds) nc site (ringFrom he e) s ≡ ok r → (t : Bool) → isEmpty (getD (r .cells) site []) ≡ t → Made r
         left r q true t =
             inr (idle-shrunk (a .on .mesh) (f .bounds) site c grown-room (a .grown)
-            (try-idle (a .on .mesh) (f .bounds) site c s e (in-list h) refl in-sites (is ∙ ap (λ (l : List ℕ). getD l site 0) (a .on .table-is)) wide q (is-empty _ t)))
+            (try-idle (with-fans (a .on .mesh) fan) (f .bounds) site c s e (in-list h) refl in-sites (is ∙ ap (λ (l : List ℕ). getD l site 0) (a .on .table-is)) wide q (is-empty _ t)))
         left r q false t = inl t
 
         by : (o : Outcome Fault CellState) → clipInto (f .bounds) nc site (ringFrom he e) s ≡ o → Gives Made o
@@ -198,5 +198,5 @@ module _ {tri he hull table : List ℕ} {f : Frame} {off : List ℕ} {g : Ground
     }
     tried-settled d (refused x) others same new = tt
 
-    pub turn-tried : dueOf tri he table e ≡ true → SettledAfter (plan tri he hull table f off) g m e s
-    turn-tried d = tried-settled d try stay kept made
+    pub turn-tried : Fanned (plan tri he hull table f off) g → dueOf tri he table e ≡ true → SettledAfter (plan tri he hull table f off) g m e s
+    turn-tried fan d = tried-settled d try stay kept (made fan)

@@ -13,9 +13,9 @@ use Rattle.plane.specs.points.Flat.{points}
 use Rattle.plane.specs.declared.points.Point.{Point}
 use Rattle.base.specs.numbers.Numbers.{EMPTY}
 use Rattle.mesh.specs.Mesh.{nextOf, endOf, pairOf}
-use Rattle.mesh.specs.Accepted.{Topology}
+use Rattle.mesh.specs.Accepted.{TopologyWith}
 use Rattle.mesh.specs.laws.Next.{next-thrice}
-use Rattle.mesh.specs.laws.Facts.{paired, entry-site, end-site, next-in, start-used, tab-length, tab-some, tab-used, walk-each}
+use Rattle.mesh.specs.laws.Facts.{with-fans, paired, entry-site, end-site, next-in, start-used, tab-length, tab-some, tab-used, walk-each}
 use Rattle.mesh.specs.laws.Occurs.{occ-there}
 use Rattle.cell_memory.specs.outputs.laws.Marks.{full-already}
 use Rattle.definition.specs.declared.Fault.{Fault}
@@ -26,14 +26,13 @@ use Rattle.definition.specs.laws.Gives.{Gives, gives-map, gives-then}
 use Rattle.build_laws.specs.laws.Runs.{true-false}
 use Rattle.build_laws.specs.laws.Inside.{in-grown}
 use Rattle.cell_builder.specs.declared.finish.Progress.{Progress}
-use Rattle.cell_builder.specs.tried.SlicesInvariant.{Plan, Ground, Amid, Does, hullTry, edgeTry, HullAmid, EdgesAmid, AtRest, HullTried, EdgeTried}
+use Rattle.cell_builder.specs.tried.SlicesInvariant.{Plan, Ground, Fanned, Amid, Does, Stands, hullTry, edgeTry, HullAmid, EdgesAmid, AtRest, HullTried, EdgeTried}
 use Rattle.cell_builder.specs.tried.laws.OneTry.{region-room, region-within, corners-in}
 use Rattle.cell_builder.specs.turned.Loops.{
   hullTries,
   edgeTries,
   HullsAmid,
   InnerBlank,
-  RestAmid,
   MarksCover,
   EarlyBlank,
   LeftAmid,
@@ -77,6 +76,11 @@ module _ (w : Plan) (g : Ground) where
     stopped (ok s) q d z = absurd (z (ap (λ (e : Fault). e .number) (d .fine)))
     stopped (refused e) q d z = rw (← q) d
 
+  -- whatever the outcome, without a fault there are cells
+  pub stands : (o : Outcome Fault CellState) {r : Progress} {v : List Float} {ix : List ℕ} → Does w g o r v ix → Stands w g r v ix
+  stands (ok s) d z = (s, d)
+  stands (refused e) d z = absurd (omega (arith, d .1, rw (d .0) at z))
+
 -- ---- the hull
 
 -- from hull place i on, cells are empty
@@ -99,7 +103,7 @@ module _ (w : Plan) (g : Ground) where
       let z : length (w .hull) - i ≡ 0 = omega arith in
       rw z
 
-  blank-next : {n : ℕ} (i : ℕ) (s : CellState) → Topology (w .triangles) (w .halfedges) (w .hull) n → i < length (w .hull) → BlankFrom (w .hull) i s
+  blank-next : {Fans : Type 0} {n : ℕ} (i : ℕ) (s : CellState) → TopologyWith Fans (w .triangles) (w .halfedges) (w .hull) n → i < length (w .hull) → BlankFrom (w .hull) i s
       → Gives (BlankFrom (w .hull) (i + 1)) (hullTry w g i s)
   blank-next i s top l blank =
       gives-map _ (BlankFrom (w .hull) (i + 1)) (hullTry w g i s) (others-stay (w .frame .bounds) (length (w .triangles) / 3) (getD (w .hull) i 0) _ s)
@@ -203,44 +207,58 @@ module _ (w : Plan) (g : Ground) (m : List ℕ) (e : ℕ) (r : Progress) (v : Li
   halted (refused x) (refused y) k q d z = rw (← q, k) d
 
 module _ (w : Plan) (m : List ℕ) (p₀ : Progress) (v₀ : List Float) (ix₀ : List ℕ) where
+  -- some cells, and where rule 10 holds those of the definition
   abbrev pub EdgesAlong : ℕ → Progress → List Float → List ℕ → Type 0
-  EdgesAlong e p v ix = AtRest w p₀ v₀ ix₀ (λ g s. InnerBlank w g s → HullsMarked w m s → MarksCover w g m → RestLeft w g m (edgeTries w s) e p v ix)
+  EdgesAlong e p v ix =
+      AtRest w p₀ v₀ ix₀ (λ g s. ((t : CellState) × Amid w g t p v ix) × (Fanned w g → InnerBlank w g s → HullsMarked w m s → MarksCover w g m → RestLeft w g m (edgeTries w s) e p v ix))
 
   pub edges-start : EdgesAlong 0 p₀ v₀ ix₀
-  edges-start g s a inner filled marked = record {
-    cells = s;
-    held = s;
-    amid = a;
-    settled = record { inner = λ k l n z. absurd (omega arith); hulls = filled };
-    left = left-none s;
-    blank = λ k l x. inner k l (x .inner);
-    makes = rw sub-zero;
-  }
+  edges-start g s a = (
+    (s, a),
+    λ fan inner filled marked. record {
+      cells = s;
+      held = s;
+      amid = a;
+      settled = record { inner = λ k l n z. absurd (omega arith); hulls = filled };
+      left = left-none s;
+      blank = λ k l x. inner k l (x .inner);
+      makes = rw sub-zero;
+    },
+  )
 
   module _ (e : ℕ) (p : Progress) (v : List Float) (ix : List ℕ) (along : EdgesAlong e p v ix) where
-    pub edges-amid : RestAmid w m p₀ v₀ ix₀ → EdgesAmid w p v ix
-    edges-amid h = let a = along (h .g) (h .s) (h .amid) (h .inner) (h .filled) (h .marked) in record { g = h .g; s = a .held; amid = a .amid }
+    pub edges-amid : EdgesAmid w p₀ v₀ ix₀ → EdgesAmid w p v ix
+    edges-amid h = let a = along (h .g) (h .s) (h .amid) .0 in record { g = h .g; s = a .0; amid = a .1 }
 
     pub edges-end : e ≡ length (w .triangles) → RestTried w m p₀ v₀ ix₀ p v ix
-    edges-end l g s am inner filled marked =
-        let a = along g s am inner filled marked in
-        let q : edgeTries w s ≡ ok (a .cells) = sym (a .makes) ∙ edge-last w e (a .cells) (omega arith) in
-        rw q (a .held, record { settled = rw l at (a .settled); left = left-more (λ k lk x. x .0) (a .left); blank = a .blank; amid = a .amid })
+    edges-end l g s am = (
+      λ _. along g s am .0,
+      λ fan inner filled marked.
+          let a = along g s am .1 fan inner filled marked in
+          let q : edgeTries w s ≡ ok (a .cells) = sym (a .makes) ∙ edge-last w e (a .cells) (omega arith) in
+          rw q (a .held, record { settled = rw l at (a .settled); left = left-more (λ k lk x. x .0) (a .left); blank = a .blank; amid = a .amid }),
+    )
 
     module _ (l : e < length (w .triangles)) (r : Progress) (v₁ : List Float) (ix₁ : List ℕ) (try : EdgeTried w p v ix e r v₁ ix₁)
-        (fits : (g : Ground) (s : CellState) (o : Outcome Fault CellState) → MarksCover w g m → (a : RestLeft w g m o e p v ix) → TriedAlike w g m e (a .cells) (a .held)) where
+        (fits : (g : Ground) (s : CellState) (o : Outcome Fault CellState) → Fanned w g → MarksCover w g m → (a : RestLeft w g m o e p v ix) → TriedAlike w g m e (a .cells) (a .held)) where
       -- what the try settles is said by OneTurn, that it is the same with early cells left out by Leaving
       pub edges-step : r .fault .number ≡ 0 → EdgesAlong (e + 1) r v₁ ix₁
-      edges-step z g s am inner filled marked =
-          let a = along g s am inner filled marked in
-          let f = fits g s _ marked a in
-          stepped w g m e r v₁ ix₁ (edgeTries w s) _ _ (f .alike) (f .settled) (f .blank) (edge-next w e (a .cells) l ∙ a .makes) (try g (a .held) (a .amid)) z
+      edges-step z g s am = (
+        let a = along g s am .0 in stands w g (edgeTry w e (a .0)) (try g (a .0) (a .1)) z,
+        λ fan inner filled marked.
+            let a = along g s am .1 fan inner filled marked in
+            let f = fits g s _ fan marked a in
+            stepped w g m e r v₁ ix₁ (edgeTries w s) _ _ (f .alike) (f .settled) (f .blank) (edge-next w e (a .cells) l ∙ a .makes) (try g (a .held) (a .amid)) z,
+      )
 
       pub edges-refused : r .fault .number ≢ 0 → RestTried w m p₀ v₀ ix₀ r v₁ ix₁
-      edges-refused z g s am inner filled marked =
-          let a = along g s am inner filled marked in
-          let f = fits g s _ marked a in
-          halted w g m e r v₁ ix₁ (edgeTries w s) _ _ (f .alike) (edge-next w e (a .cells) l ∙ a .makes) (try g (a .held) (a .amid)) z
+      edges-refused z g s am = (
+        λ q. absurd (z q),
+        λ fan inner filled marked.
+            let a = along g s am .1 fan inner filled marked in
+            let f = fits g s _ fan marked a in
+            halted w g m e r v₁ ix₁ (edgeTries w s) _ _ (f .alike) (edge-next w e (a .cells) l ∙ a .makes) (try g (a .held) (a .amid)) z,
+      )
 
 -- ---- whether all hull sites have their cells
 
@@ -282,9 +300,9 @@ module _ {w : Plan} {g : Ground} {s : CellState} {p : Progress} {v : List Float}
   }
 
   -- a hull site without a cell has all of its half-edges marked
-  pub hulls-marked : (m : List ℕ) → ((i : ℕ) → i < length (w .hull) → HullTold (w .halfedges) (w .hull) (w .table) ix (w .offsets) m i) → HullsMarked w m s
-  hulls-marked m told h l u z =
-      let top = a .on .mesh in
+  pub hulls-marked : Fanned w g → (m : List ℕ) → ((i : ℕ) → i < length (w .hull) → HullTold (w .halfedges) (w .hull) (w .table) ix (w .offsets) m i) → HullsMarked w m s
+  hulls-marked fan m told h l u z =
+      let top = with-fans (a .on .mesh) fan in
       let site = endOf (w .triangles) h in
       let lh = in-mesh h l in
       let there = tab-some top site (end-site top h lh) h lh refl in
@@ -356,7 +374,7 @@ module _ (w : Plan) (p₀ : Progress) (v₀ : List Float) (ix₀ : List ℕ) whe
   module _ (r : Progress) (v : List Float) (ix : List ℕ) (hulls : HullsTried w p₀ v₀ ix₀ r v ix) where
     pub cells-refused : r .fault .number ≢ 0 → (m : List ℕ) → AllTried w p₀ v₀ ix₀ m r v ix
     unfolding andThen
-    cells-refused z m g s blank am = by (hullTries w g s) (hulls g s blank am)
+    cells-refused z m g s blank am = (λ q. absurd (z q), λ fan. by (hullTries w g s) (hulls g s blank am))
       where
         by : (o : Outcome Fault CellState) → Does w g o r v ix → DoesLate w g m (andThen o (λ t. edgeTries w t)) r v ix
         by (ok t) d = absurd (z (ap (λ (e : Fault). e .number) (d .fine)))
@@ -376,32 +394,33 @@ module _ (w : Plan) (p₀ : Progress) (v₀ : List Float) (ix₀ : List ℕ) whe
       pub cells-walks : HullsAmid w p₀ v₀ ix₀ → HullWalks (w .triangles) (w .halfedges) (w .hull) (w .table) ix (w .offsets)
       cells-walks h = hull-walks (between (h .g) (h .s) (h .blank) (h .amid) .amid)
 
-      module _ (m : List ℕ) (told : (i : ℕ) → i < length (w .hull) → HullTold (w .halfedges) (w .hull) (w .table) ix (w .offsets) m i) where
-        module _ (covers : Covers (w .frame .bounds) (points (r .count) v) (w .triangles) (w .table) m (length (w .triangles))) where
-          -- what is outside among the vertices now was so before
-          marked : (g : Ground) (s : CellState) → Amid w g s r v ix → MarksCover w g m
-          marked g s a k l z =
-              covers k l (ap (λ (vs : List Point). inBox (w .frame .bounds) (length (w .triangles) / 3) vs (k / 3)) (sym (a .verts))
-              ∙ in-grown (w .frame .bounds) (length (w .triangles) / 3) (g .x .verts) (s .verts) (a .held .more) (k / 3) (omega (arith, a .on .low)) (a .held .grown) ∙ z)
+      pub cells-amid : HullsAmid w p₀ v₀ ix₀ → EdgesAmid w r v ix
+      cells-amid h = let a = between (h .g) (h .s) (h .blank) (h .amid) in record { g = h .g; s = a .cells; amid = a .amid }
 
-          pub cells-amid : HullsAmid w p₀ v₀ ix₀ → RestAmid w m r v ix
-          cells-amid h =
-              let a = between (h .g) (h .s) (h .blank) (h .amid) in
-              record { g = h .g; s = a .cells; amid = a .amid; inner = a .fit; filled = hulls-marked (a .amid) m told; marked = marked (h .g) (a .cells) (a .amid) }
+      module _ (m : List ℕ) (told : (i : ℕ) → i < length (w .hull) → HullTold (w .halfedges) (w .hull) (w .table) ix (w .offsets) m i)
+          (covers : Covers (w .frame .bounds) (points (r .count) v) (w .triangles) (w .table) m (length (w .triangles))) where
+        -- what is outside among the vertices now was so before
+        marked : (g : Ground) (s : CellState) → Amid w g s r v ix → MarksCover w g m
+        marked g s a k l z =
+            covers k l (ap (λ (vs : List Point). inBox (w .frame .bounds) (length (w .triangles) / 3) vs (k / 3)) (sym (a .verts))
+            ∙ in-grown (w .frame .bounds) (length (w .triangles) / 3) (g .x .verts) (s .verts) (a .held .more) (k / 3) (omega (arith, a .on .low)) (a .held .grown) ∙ z)
 
-          module _ (r₁ : Progress) (v₁ : List Float) (ix₁ : List ℕ) (edges : RestTried w m r v ix r₁ v₁ ix₁) where
-            rest : AtFirst w p₀ v₀ ix₀ (λ g s. DoesLeft w g m (allTries g s) r₁ v₁ ix₁ × MarksCover w g m)
-            rest g s blank am =
-                let a = between g s blank am in
-                let k = marked g (a .cells) (a .amid) in
-                rw (← a .makes) (edges g (a .cells) (a .amid) (a .fit) (hulls-marked (a .amid) m told) k, k)
+        module _ (r₁ : Progress) (v₁ : List Float) (ix₁ : List ℕ) (edges : RestTried w m r v ix r₁ v₁ ix₁) where
+          rest : AtFirst w p₀ v₀ ix₀ (λ g s. Fanned w g → DoesLeft w g m (allTries g s) r₁ v₁ ix₁ × MarksCover w g m)
+          rest g s blank am fan =
+              let a = between g s blank am in
+              let k = marked g (a .cells) (a .amid) in
+              rw (← a .makes) (edges g (a .cells) (a .amid) .1 fan (a .fit) (hulls-marked (a .amid) fan m told) k, k)
 
-            pub cells-end : AllTried w p₀ v₀ ix₀ m r₁ v₁ ix₁
-            cells-end g s blank am = by (allTries g s) (all .0)
-              where
-                all : DoesLeft w g m (allTries g s) r₁ v₁ ix₁ × MarksCover w g m
-                all = rest g s blank am
+          pub cells-end : AllTried w p₀ v₀ ix₀ m r₁ v₁ ix₁
+          cells-end g s blank am = (let a = between g s blank am in edges g (a .cells) (a .amid) .0, late)
+            where
+              late : Fanned w g → DoesLate w g m (allTries g s) r₁ v₁ ix₁
+              late fan = by (allTries g s) (all .0)
+                where
+                  all : DoesLeft w g m (allTries g s) r₁ v₁ ix₁ × MarksCover w g m
+                  all = rest g s blank am fan
 
-                by : (o : Outcome Fault CellState) → DoesLeft w g m o r₁ v₁ ix₁ → DoesLate w g m o r₁ v₁ ix₁
-                by (ok c) d = late-amid (all .1) (d .1)
-                by (refused e) d = d
+                  by : (o : Outcome Fault CellState) → DoesLeft w g m o r₁ v₁ ix₁ → DoesLate w g m o r₁ v₁ ix₁
+                  by (ok c) d = late-amid (all .1) (d .1)
+                  by (refused e) d = d

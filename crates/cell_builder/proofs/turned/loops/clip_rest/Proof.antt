@@ -30,7 +30,7 @@ abbrev Loop : tie.After-clip-at-edge Inv-loop μ-loop → tie.At-loop Inv-loop �
 Loop t = t .before .before .before .before
 
 next-due-requires : tie.Need-next-due-requires Inv-loop μ-loop
-next-due-requires c κs = let s = c .before .before .before .before .before .before in (edges-entries _ _ _ _ _ (s .pre .1), omega arith)
+next-due-requires c κs = let s = c .before .before .before .before .before .before in (edges-entries _ _ _ _ (s .pre .1), omega arith)
 
 loop-holds : tie.Need-loop-holds Inv-loop μ-loop
 loop-holds c = (refl, refl, λ hull. edges-first _ _ _ _ _ _ (c .next-due .ensures), c .next-due .ensures .due, c .next-due .ensures .high)
@@ -63,7 +63,7 @@ add-next-due c =
 next-due-requires-2 : tie.Need-next-due-requires-2 Inv-loop μ-loop
 next-due-requires-2 c κs =
     let t = c .before .before .before .before .before .before .before in
-    (edges-entries _ _ _ _ _ (Entry (Loop t) .pre .1), omega (arith, t .before .before .before .loop-test .taken))
+    (edges-entries _ _ _ _ (Entry (Loop t) .pre .1), omega (arith, t .before .before .before .loop-test .taken))
 
 loop-less : tie.Need-loop-less Inv-loop μ-loop
 loop-less c =
