@@ -96,7 +96,7 @@ pub fn check_outline(
         mesh::clear(work);
         return g;
     }
-    mesh::leftmost(triangles, halfedges, work);
+    crate::table::put_leftmost(triangles, halfedges, work);
     g
 }
 

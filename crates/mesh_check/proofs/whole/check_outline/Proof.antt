@@ -32,8 +32,8 @@ returns-2 c =
     outline-hull _ _ _ _ _ _ _ (a .before .before .check-shape .ensures) (a .before .number .ensures) (a .if1 .left) _ (b .check-hull .kept .1 .1 .1 .1 .0) _ _
     (b .check-hull .ensures .0) (at-number2 .number2 .ensures) _ (c .before .before .before .before .if2 .taken) (c .before .before .clear2 .ensures)
 
-leftmost-requires : tie.Need-leftmost-requires
-leftmost-requires c κs =
+put-leftmost-requires : tie.Need-put-leftmost-requires
+put-leftmost-requires c κs =
     let b = c .before .before .before .before .before in
     let a = b .before .before in
     let s = Start a in (
@@ -50,11 +50,11 @@ returns-3 c =
     let b = at-else2 .before .before .before .before in
     let a = b .before .before in
     outline-whole _ _ _ _ _ _ _ (a .before .before .check-shape .ensures) (a .before .number .ensures) (a .if1 .left) _ (b .check-hull .kept .1 .1 .1 .1 .0) _ _
-    (b .check-hull .ensures .0) (at-else2 .before .number2 .ensures) _ (at-else2 .if2 .left) (Start a .pre .0) (Start a .pre .4) (c .before .before .leftmost .ensures)
+    (b .check-hull .ensures .0) (at-else2 .before .number2 .ensures) _ (at-else2 .if2 .left) (Start a .pre .0) (Start a .pre .4) (c .before .before .put-leftmost .ensures)
 
 pub check-outline-spec : {M : Type 1} → statement M
 check-outline-spec =
     tie.close
     (tie.spec (λ c κs. search needs) (λ c κs. search needs) (λ c κs. search needs) (λ c. search needs) returns
     check-hull-requires (λ c κs. search needs) (λ c κs. search needs) (λ c. search needs) returns-2
-    leftmost-requires (λ c. search needs) returns-3)
+    put-leftmost-requires (λ c. search needs) returns-3)
