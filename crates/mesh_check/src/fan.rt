@@ -105,7 +105,7 @@ pub fn check_fan(triangles: &[u32], halfedges: &[u32], sites: usize, work: &mut 
     if crate::degrees::whole_fans(triangles, halfedges, work) {
         return sites;
     }
-    mesh::leftmost(triangles, halfedges, work);
+    crate::table::put_leftmost(triangles, halfedges, work);
     if walks_cover(halfedges, work) {
         return sites;
     }
