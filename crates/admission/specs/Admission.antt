@@ -11,7 +11,7 @@ use Rattle.base.specs.common.Binary64.{zero}
 use Rattle.base.specs.numbers.Numbers.{EMPTY}
 use Rattle.mesh.specs.Mesh.{leftmostIn}
 use Rattle.mesh.specs.Faults.{numberOf, fanRules}
-use Rattle.mesh.specs.Accepted.{Mesh, Counted, siteCount, Outline}
+use Rattle.mesh.specs.Accepted.{Mesh, Counted, siteCount, OutlinedTopology}
 use Rattle.mesh_check.specs.whole.Answers.{workAfter}
 use Rattle.mesh_check.specs.whole.AtExit.{atExit, whenRefused}
 use Rattle.admission.specs.Admits.{askedRules, Outlines, Admits}
@@ -60,7 +60,7 @@ OutlineAdmission m asked old = SlicesAdmission (Outlines m (roomOf m old) asked)
 -- what rule 10 is tried on: a mesh that rules 7 to 9 accept, its leftmost table in the work slice
 pub record TryableFans (tri he : List ℕ) (sites : ℕ) (work : List ℕ) : Type 0 where
   pub hull : List ℕ
-  pub outline : Outline tri he hull sites
+  pub outline : OutlinedTopology tri he hull sites
   pub room : sites ≤ length work
   pub table : work ≡ leftmostIn tri he sites (length work)
 

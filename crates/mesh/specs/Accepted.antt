@@ -50,8 +50,8 @@ pub record TopologyWith (Fans : Type 0) (tri he hull : List ℕ) (sites : ℕ) :
   pub fan : Fans
 
 -- rules 7 to 9 alone
-abbrev pub Outline : List ℕ → List ℕ → List ℕ → ℕ → Type 0
-Outline tri he hull sites = TopologyWith (Unit {0}) tri he hull sites
+abbrev pub OutlinedTopology : List ℕ → List ℕ → List ℕ → ℕ → Type 0
+OutlinedTopology tri he hull sites = TopologyWith (Unit {0}) tri he hull sites
 
 -- rules 7 to 10
 abbrev pub Topology : List ℕ → List ℕ → List ℕ → ℕ → Type 0

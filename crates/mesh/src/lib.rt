@@ -63,33 +63,6 @@ pub fn clear(work: &mut [u32])
     }
 }
 
-fn choose(old: u32, p: u32, e: u32) -> u32
-    ensures { λ r. ⌜ r ≡ chosen old p e ⌝ }
-{
-    if old == EMPTY {
-        return e;
-    }
-    if p == EMPTY {
-        return e;
-    }
-    old
-}
-
-// Fills the table of leftmost half-edges.
-pub fn leftmost(triangles: &[u32], halfedges: &[u32], work: &mut [u32])
-    requires { ⌜ (length (now triangles) % 3 ≡ 0) × (length (now halfedges) ≡ length (now triangles)) × (length (now triangles) < EMPTY)
-        × ((k : ℕ) → k < length (now triangles) → getD (now triangles) k 0 < length (now work)) ⌝ }
-    ensures { λ _. ⌜ now (work .exit) ≡ tableTo (now (triangles .entry)) (now (halfedges .entry)) (length (now (work .entry))) (length (now (triangles .entry))) ⌝ }
-{
-    clear(work);
-    let mut e: usize = 0;
-    while e < triangles.len() {
-        let s = wide(end_site(triangles, e));
-        work[s] = choose(work[s], halfedges[e], e as u32);
-        e += 1;
-    }
-}
-
 // One step of the walk that started at s.
 pub fn turn(halfedges: &[u32], s: u32, e: usize) -> u32
     requires { ⌜ (length (now halfedges) % 3 ≡ 0) × (e < length (now halfedges)) ⌝ }

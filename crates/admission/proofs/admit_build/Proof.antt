@@ -6,22 +6,22 @@ use Rattle.admission.specs.laws.Fans.{outline-refused, fans-after}
 use Rattle.admission.proofs.admit_build.Statement.{statement}
 use Rattle.admission.proofs.admit_build.Tie as tie
 
-abbrev Outline : tie.After-slice-known10 → tie.After-admit-outline
-Outline c = c .before .before .before .before .before .before .before .before .before .before
+abbrev OutlinedTopology : tie.After-slice-known10 → tie.After-admit-outline
+OutlinedTopology c = c .before .before .before .before .before .before .before .before .before .before
 
 returns : tie.Need-returns
-returns c = outline-refused (Outline (c .before) .admit-outline .ensures) (c .if1 .taken)
+returns c = outline-refused (OutlinedTopology (c .before) .admit-outline .ensures) (c .if1 .taken)
 
 admit-fans-requires : tie.Need-admit-fans-requires
 admit-fans-requires c κs =
     let e = c .before .before .before .before .before in
-    (fans-tryable (Outline (e .before) .admit-outline .ensures) (e .if1 .left), λ w. absurd (false≢true w))
+    (fans-tryable (OutlinedTopology (e .before) .admit-outline .ensures) (e .if1 .left), λ w. absurd (false≢true w))
 
 returns-2 : tie.Need-returns-2
 returns-2 c =
     let f = c .before .before .before .before .before .before .before .before .before .before in
     let e = f .before .before .before .before .before .before in
-    fans-after (Outline (e .before) .admit-outline .ensures) (e .if1 .left) (f .admit-fans .ensures)
+    fans-after (OutlinedTopology (e .before) .admit-outline .ensures) (e .if1 .left) (f .admit-fans .ensures)
 
 pub admit-build-spec : {M : Type 1} → statement M
 admit-build-spec =

@@ -1,9 +1,9 @@
 -- `building::build` meets its contract: refused by the rules up to 9, or by rule 10, or the outcome of the clipped definition decides.
 use mathlib.Core.Path.{sym, _∙_}
 use native.Mathlib.Omega.{arith}
-use lib.ListN.{take, length-take}
+use lib.ListN.{length-take}
 use denote.Ref.{now}
-use Rattle.mesh.specs.Accepted.{Mesh, mesh, siteCount}
+use Rattle.mesh.specs.Accepted.{Mesh, mesh}
 use Rattle.admission.specs.Slices.{Slices, slices}
 use Rattle.admission.specs.Admission.{OutlineAdmission}
 use Rattle.admission.specs.laws.Outlined.{table-fits, fans-tryable}

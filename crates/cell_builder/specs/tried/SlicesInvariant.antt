@@ -10,7 +10,7 @@ use Rattle.plane.specs.points.Flat.{points}
 use Rattle.plane.specs.declared.boxes.BoundingBox.{BoundingBox}
 use Rattle.vertices.specs.Store.{Holds}
 use Rattle.mesh.specs.Mesh.{endOf, leftmostOf, Fan}
-use Rattle.mesh.specs.Accepted.{Outline}
+use Rattle.mesh.specs.Accepted.{OutlinedTopology}
 use Rattle.cell_memory.specs.layout.Regions.{Regions}
 use Rattle.cell_memory.specs.layout.Rooms.{Started}
 use Rattle.definition.specs.declared.Fault.{Fault}
@@ -54,7 +54,7 @@ frameOf b entries hull = record { bounds = b; centers = entries / 3; stage = 3 *
 -- that it is so: a mesh that rules 7 to 9 accept with its table, the regions' starts, a box that rule 3 admits with its corners after the circumcenters,
 -- and slices of so many numbers and indexes with the room that rule 2 asks for
 pub record Grounded (w : Plan) (g : Ground) (numbers indexes : ℕ) : Type 0 where
-  pub mesh : Outline (w .triangles) (w .halfedges) (w .hull) (g .sites)
+  pub mesh : OutlinedTopology (w .triangles) (w .halfedges) (w .hull) (g .sites)
   pub table-is : w .table ≡ leftmostOf (w .triangles) (w .halfedges) (g .sites)
   pub few-sites : g .sites ≤ 65536
   pub few-entries : length (w .triangles) ≤ 393216

@@ -44,9 +44,6 @@ module _ {Fans : Type 0} {tri he hull : List ℕ} {sites : ℕ} (ok : TopologyWi
   pub with-fans : {Others : Type 0} → Others → TopologyWith Others tri he hull sites
   with-fans fan = record { threes = ok .threes; same = ok .same; small = ok .small; sound = ok .sound; pairs = ok .pairs; border = ok .border; fan = fan }
 
-pub accepted-with : {Fans Others : Type 0} {m : Mesh} → AcceptedWith Fans m → Others → AcceptedWith Others m
-accepted-with a fan = record { counts = a .counts; coordinates = a .coordinates; topology = with-fans (a .topology) fan }
-
 module _ {Fans : Type 0} {tri he hull : List ℕ} {sites : ℕ} (ok : TopologyWith Fans tri he hull sites) where
   pub paired : Paired tri he
   paired = record { threes = rw (ok .same) (ok .threes); small = rw (ok .same) (ok .small); pairs = λ e l. ok .pairs e (rw (← ok .same) l) }

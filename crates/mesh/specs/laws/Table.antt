@@ -136,3 +136,23 @@ module _ (tri he : List ℕ) (n s r : ℕ) (g : Leftmost tri he n s r) where
 
   pub the-none : ((k : ℕ) → k < n → endOf tri k ≢ s) → r ≡ EMPTY
   the-none h = ⊎-elim (λ q. q) (λ q. absurd (h r (g .some q .0) (g .some q .1))) (eq-or-ne r EMPTY)
+
+-- a site has one leftmost half-edge
+pub leftmost-one : (tri he : List ℕ) (n s t u : ℕ) → Leftmost tri he n s t → Leftmost tri he n s u → t ≡ u
+leftmost-one tri he n s t u x y =
+    ⊎-elim
+    (λ z. ⊎-elim (λ w. z ∙ sym w) (λ w. absurd (x .none z u (y .some w .0) (y .some w .1))) (eq-or-ne u EMPTY))
+    (λ z. ⊎-elim
+    (λ w. absurd (y .none w t (x .some z .0) (x .some z .1)))
+    (λ w.
+    let p = x .some z in
+    let q = y .some w in
+    ⊎-elim
+    (λ o. let v = y .last t (p .0) (p .1) o in le-antisymm (v .0) (x .last u (q .0) (q .1) (v .1) .0))
+    (λ o. ⊎-elim
+    (λ v. absurd (o (x .last u (q .0) (q .1) v .1)))
+    (λ v. le-antisymm (x .lowest o u (q .0) (q .1)) (y .lowest v t (p .0) (p .1)))
+    (eq-or-ne (pairOf he u) EMPTY))
+    (eq-or-ne (pairOf he t) EMPTY))
+    (eq-or-ne u EMPTY))
+    (eq-or-ne t EMPTY)

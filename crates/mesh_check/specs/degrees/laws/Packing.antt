@@ -14,11 +14,10 @@ use Rattle.base.specs.common.laws.Count.{same-cases}
 use Rattle.base.specs.numbers.Numbers.{EMPTY}
 use Rattle.mesh.specs.Mesh.{nextOf, endOf, pairOf, tableTo, turnOf, wholeOf, Leftmost, Paired}
 use Rattle.mesh.specs.laws.Next.{next-lt}
-use Rattle.mesh.specs.laws.Table.{table-length, table-leftmost}
+use Rattle.mesh.specs.laws.Table.{table-length, table-leftmost, leftmost-one}
 use Rattle.mesh.specs.laws.WalkSteps.{WalkCounting, walk-go, counting-start, counting-step}
 use Rattle.mesh_check.specs.fan.Counts.{endsTo}
 use Rattle.mesh_check.specs.fan.laws.Owed.{never-one}
-use Rattle.mesh_check.specs.table.laws.Filling.{leftmost-one}
 use Rattle.mesh_check.specs.degrees.Packed.{EndsApart, Lowest, Lowests, Lefts, Leftmosts, unpacked, spare, Unpacks, LongWalks}
 
 -- ---- the lowest, from above

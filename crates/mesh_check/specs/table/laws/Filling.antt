@@ -2,7 +2,7 @@
 use mathlib.Core.Path.{_≡_, refl, sym, _∙_}
 use mathlib.Core.List.{List}
 use mathlib.Core.Logic.{⊎-elim, _≢_}
-use Prim.Native.Nat.{ℕ, _+_, _%_, _≤_, _<_}
+use Prim.Native.Nat.{ℕ, _+_, _%_, _<_}
 use native.Mathlib.Nat.{le-antisymm}
 use native.Mathlib.Omega.{arith}
 use lib.ListN.{length, getD, set, replicate, length-set, length-replicate, getD-replicate}
@@ -11,7 +11,7 @@ use Rattle.base.specs.common.laws.Decide.{eq-or-ne}
 use Rattle.base.specs.numbers.Numbers.{EMPTY}
 use Rattle.mesh.specs.Mesh.{nextOf, endOf, pairOf, tableTo, Leftmost}
 use Rattle.mesh.specs.laws.Next.{next-lt}
-use Rattle.mesh.specs.laws.Table.{table-length, table-leftmost}
+use Rattle.mesh.specs.laws.Table.{table-length, table-leftmost, leftmost-one}
 use Rattle.mesh_check.specs.table.Filled.{LowestFrom, LowestsFrom, LeftTo, LeftsTo}
 
 -- ---- the lowest, from above
@@ -86,21 +86,6 @@ pub lefts-turn : (tri he work : List ℕ) (n s₀ : ℕ) → length tri < EMPTY 
 lefts-turn tri he work n s₀ few ln g u q i = rw q (lefts-take tri he work n g few ln u (rw q at i))
 
 -- ---- the table
-
--- the leftmost half-edge is one
-pub leftmost-one : (tri he : List ℕ) (n s r q : ℕ) → Leftmost tri he n s r → Leftmost tri he n s q → r ≡ q
-leftmost-one tri he n s r q a b =
-    ⊎-elim
-    (λ z. ⊎-elim (λ y. z ∙ sym y) (λ y. absurd (a .none z q (b .some y .0) (b .some y .1))) (eq-or-ne q EMPTY))
-    (λ z. ⊎-elim (λ y. absurd (b .none y r (a .some z .0) (a .some z .1))) (λ y. both (a .some z) (b .some y)) (eq-or-ne q EMPTY))
-    (eq-or-ne r EMPTY)
-  where
-    both : (r < n) × (endOf tri r ≡ s) → (q < n) × (endOf tri q ≡ s) → r ≡ q
-    both (lr, er) (lq, eq) =
-        ⊎-elim
-        (λ u. let x = b .last r lr er u in le-antisymm (x .0) (a .last q lq eq (x .1) .0))
-        (λ u. le-antisymm (a .lowest u q lq eq) (b .lowest (λ w. u (a .last q lq eq w .1)) r lr er))
-        (eq-or-ne (pairOf he r) EMPTY)
 
 pub filled : (tri he : List ℕ) (w : ℕ) (new : List ℕ) → length tri % 3 ≡ 0 → length tri < EMPTY → ((k : ℕ) → k < length tri → getD tri k 0 < w) → length new ≡ w
     → LeftsTo tri he (length tri) new → new ≡ tableTo tri he w (length tri)
