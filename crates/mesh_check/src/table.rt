@@ -2,7 +2,7 @@
 use base::numbers::EMPTY;
 use base::numbers::wide;
 ghost use mathlib.Core.Path.{_≡_};
-ghost use Prim.Native.Nat.{ℕ, _+_, _*_, _/_, _%_, _<_, _≤_};
+ghost use Prim.Native.Nat.{ℕ, _+_, _*_, _/_, _%_, _<_};
 ghost use lib.ListN.{length, getD};
 ghost use Rattle.base.specs.numbers.Numbers.{EMPTY};
 ghost use Rattle.mesh.specs.Mesh.{nextOf, tableTo};

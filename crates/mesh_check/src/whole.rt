@@ -91,13 +91,13 @@ pub fn check_outline(
         mesh::clear(work);
         return f;
     }
-    let g = crate::border::check_hull(triangles, halfedges, hull, sites, work);
-    if number(g) != 0 {
+    let h = crate::border::check_hull(triangles, halfedges, hull, sites, work);
+    if number(h) != 0 {
         mesh::clear(work);
-        return g;
+        return h;
     }
     crate::table::put_leftmost(triangles, halfedges, work);
-    g
+    h
 }
 
 // The whole check of a lent mesh.

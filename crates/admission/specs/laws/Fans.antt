@@ -1,20 +1,19 @@
 -- Rule 10 apart: how its number comes about, and how it follows the rules up to 9.
 use mathlib.Core.Path.{_≡_, refl, sym, ap, _∙_, subst}
-use mathlib.Core.Bool.{Bool, true}
 use mathlib.Core.List.{List, [], _++_}
 use mathlib.Core.Logic.{⊎-elim, _≢_}
-use Prim.Native.Nat.{ℕ, _+_, _-_, _≤_, _<_}
+use Prim.Native.Nat.{ℕ, _≤_, _<_}
 use native.Mathlib.Nat.{sub-zero}
 use native.Mathlib.Omega.{arith}
 use lib.Ieee.{Float}
 use lib.ListN.{length, replicate}
 use borrow.Author.Tests.{lt-ltb, le-ltb}
 use Rattle.base.specs.common.laws.Decide.{eq-or-ne, first-all}
-use Rattle.base.specs.common.Refusals.{reads, Keep, Finds}
-use Rattle.base.specs.common.laws.Refusals.{offends, all-keep, nothing, finds-keep, finds-answers, finds-first, finds-after}
+use Rattle.base.specs.common.Refusals.{reads}
+use Rattle.base.specs.common.laws.Refusals.{offends, all-keep, nothing, finds-answers, finds-first, finds-after}
 use Rattle.base.specs.common.Binary64.{zero}
 use Rattle.base.specs.numbers.Numbers.{EMPTY, refusedTriangle, refusedFan}
-use Rattle.mesh.specs.Mesh.{leftmostOf, leftmostIn, Fan}
+use Rattle.mesh.specs.Mesh.{leftmostOf, Fan}
 use Rattle.mesh.specs.Faults.{numberOf, fanRules}
 use Rattle.mesh.specs.Accepted.{Mesh, siteCount}
 use Rattle.mesh_check.specs.fan.Answer.{FanAnswer}

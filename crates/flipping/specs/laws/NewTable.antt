@@ -17,7 +17,7 @@ use Rattle.flipping.specs.Entries.{flipCorners, entriesOf, storedFour}
 use Rattle.flipping.specs.laws.Quad.{Quad, quad-turn}
 use Rattle.flipping.specs.laws.Sites.{turned-length, turned-turn}
 use Rattle.flipping.specs.laws.Pairs.{relinked-turn}
-use Rattle.flipping.specs.laws.Least.{leftmost-one}
+use Rattle.mesh_check.specs.table.laws.Filling.{leftmost-one}
 use Rattle.flipping.specs.laws.NewEntries.{left-else, left-gained, left-lost}
 use Rattle.flipping.specs.laws.Rule10.{leftmost-again}
 

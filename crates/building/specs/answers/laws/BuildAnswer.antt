@@ -1,23 +1,20 @@
 -- From the rules up to 10 and the build's outcome to the promise: refused early; refused by the build, all is cleared; or built.
 use mathlib.Core.Path.{_≡_, refl, sym, ap, _∙_}
-use mathlib.Core.Bool.{true}
 use mathlib.Core.List.{List, []}
 use mathlib.Core.Logic.{_≢_}
-use Prim.Native.Nat.{ℕ, _/_, _≤_}
+use Prim.Native.Nat.{ℕ, _≤_}
 use native.Mathlib.Omega.{arith}
 use native.Mathlib.Nat.{sub-zero}
-use lib.Dec.{ltb}
 use lib.Ieee.{Float}
-use lib.ListN.{length, take, replicate}
-use borrow.Author.Tests.{ne-eqb, lt-ltb}
+use lib.ListN.{length, replicate}
+use borrow.Author.Tests.{ne-eqb}
 use Rattle.base.specs.common.Refusals.{Rule, Finds}
 use Rattle.base.specs.common.Binary64.{zero}
 use Rattle.base.specs.numbers.Numbers.{EMPTY, refusedTriangle}
-use Rattle.mesh.specs.Mesh.{leftmostIn}
-use Rattle.mesh.specs.Accepted.{Mesh, tableOf, Accepted, siteCount}
+use Rattle.mesh.specs.Accepted.{Mesh, tableOf, Accepted}
 use Rattle.mesh.specs.laws.Facts.{topology, tab-length}
 use Rattle.mesh_check.specs.whole.AtExit.{atExit}
-use Rattle.mesh_check.specs.whole.laws.AtExit.{exit-made, exit-blank}
+use Rattle.mesh_check.specs.whole.laws.AtExit.{exit-blank}
 use Rattle.admission.specs.Slices.{Slices, slices}
 use Rattle.admission.specs.Admission.{OutlineAdmission, BuildAdmission}
 use Rattle.arguments.specs.asking.laws.Asks.{NoneZero}
@@ -27,7 +24,7 @@ use Rattle.definition.specs.declared.Fault.{Fault}
 use Rattle.definition.specs.Fault.{Outcome, ok, refused}
 use Rattle.definition.specs.Build.{Built}
 use Rattle.cell_memory.specs.layout.Cleared.{padded}
-use Rattle.cell_memory.specs.outputs.Outputs.{Rooms, ofBuilt, faultOf, BuiltInto, countsMade}
+use Rattle.cell_memory.specs.outputs.Outputs.{ofBuilt, faultOf, BuiltInto, countsMade}
 use Rattle.building.specs.counts.Counts.{EndedBuild}
 use Rattle.building.specs.answers.Promise.{BuildAnswers}
 use Rattle.build_laws.specs.Late.{Refuses, Numbered}
@@ -75,13 +72,14 @@ module _ {m : Mesh} {asked : ℕ} {old new : Slices} {r : ℕ} (a : BuildAdmissi
       go (refused e) late l f q =
           let n : e .number ≢ 0 = λ x. omega (arith, late .least) in
           let big : refusedTriangle ≤ e .number = omega (arith, late .least) in
+          let long = ap length (same-counts outline-of z) in
           record {
             number = built t (admits-own own t found (rw z at (a .number)));
             work = (rw (ne-eqb (e .number) 0 n) at (f .work)) ∙ blanked EMPTY (padded (length (old .work)) EMPTY (tableOf m)) (new .work) (old .work) (e .number) big (long-of outline-of z);
             vertices = (rw sub-zero at (l .vertices)) ∙ blanked zero (padded (length (old .vertices)) zero []) (new .vertices) (old .vertices) (e .number) big (ap length (same-vertices outline-of z));
             indexes = (rw sub-zero at (l .indexes)) ∙ blanked EMPTY (padded (length (old .indexes)) EMPTY []) (new .indexes) (old .indexes) (e .number) big (ap length (same-indexes outline-of z));
             offsets = (rw sub-zero at (l .offsets)) ∙ blanked EMPTY (padded (length (old .offsets)) EMPTY []) (new .offsets) (old .offsets) (e .number) big (ap length (same-offsets outline-of z));
-            counts = (rw (ne-eqb (e .number) 0 n) at (f .counts)) ∙ blanked EMPTY (padded (length (old .counts)) EMPTY []) (new .counts) (old .counts) (e .number) big (ap length (same-counts outline-of z));
+            counts = (rw (ne-eqb (e .number) 0 n) at (f .counts)) ∙ blanked EMPTY (padded (length (old .counts)) EMPTY []) (new .counts) (old .counts) (e .number) big long;
           }
 
       pub answers-built : (o : Outcome Fault Built) → Refuses Numbered o → (f : Fault) → f ≡ faultOf o
