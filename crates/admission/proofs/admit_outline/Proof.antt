@@ -9,7 +9,8 @@ Cleared c = c .before .before .before .before .before .before .before .before .b
 
 returns : tie.Need-returns
 returns c =
-    left-alone _ _ _ _ _ _ _ _ _ _ (c .before .before .before .before .before .room-for .ensures) (c .before .before .before .outline .ensures .0) (c .before .before .before .outline .ensures .1) (c .if1 .taken)
+    let o = c .before .before .before in
+    left-alone _ _ _ _ _ _ _ _ _ _ (o .before .before .room-for .ensures) (o .outline .ensures .0) (o .outline .ensures .1) (c .if1 .taken)
 
 returns-2 : tie.Need-returns-2
 returns-2 c =

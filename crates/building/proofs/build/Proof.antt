@@ -73,18 +73,33 @@ admit-fans-requires c κs =
     let a = Admit (e .before) in
     (fans-tryable (admits a) (e .if1 .left), build-fans (admits a) (Begin a .args .given) (Asked a .ask-box .ensures) (Begin a .pre) (e .if1 .left) (m .build-cells .ensures))
 
--- the slices are as long at the end of rule 10 as they were lent
+-- the slices once rule 10 is tried, one after the other, and once the rules up to 9 were
 abbrev Known : tie.After-slice-known18 → tie.After-slice-known10
 Known c = Accepts (Made (Told (Tried c))) .before
 
+abbrev Vertices3 : tie.After-slice-known18 → tie.After-vertices3
+Vertices3 c = c .before .before .before .before .before .before .before
+
+abbrev Vertices2 : tie.After-slice-known18 → tie.After-vertices2
+Vertices2 c = Told (Tried c) .before .before .before .before .before
+
+abbrev Indexes2 : tie.After-slice-known18 → tie.After-indexes2
+Indexes2 c = Told (Tried c) .before .before .before
+
+abbrev Vertices : tie.After-slice-known18 → tie.After-vertices
+Vertices c = Known c .before .before .before .before .before .before .before
+
+abbrev Indexes : tie.After-slice-known18 → tie.After-indexes
+Indexes c = Known c .before .before .before .before .before
+
 same-length-6 : tie.Need-same-length-6
-same-length-6 c = c .before .before .before .before .before .before .before .before .before .before .work2 .given ∙ Known (c .before) .before .before .before .before .before .before .before .before .before .work .given
+same-length-6 c = Vertices3 (c .before) .before .before .work2 .given ∙ Vertices (c .before) .before .before .work .given
 
 same-length-7 : tie.Need-same-length-7
-same-length-7 c = c .before .before .before .before .before .before .before .before .vertices3 .given ∙ Told (Tried (c .before)) .before .before .before .before .before .vertices2 .given ∙ Known (c .before) .before .before .before .before .before .before .before .vertices .given
+same-length-7 c = Vertices3 (c .before) .vertices3 .given ∙ Vertices2 (c .before) .vertices2 .given ∙ Vertices (c .before) .vertices .given
 
 same-length-8 : tie.Need-same-length-8
-same-length-8 c = c .before .before .before .before .before .before .indexes3 .given ∙ Told (Tried (c .before)) .before .before .before .indexes2 .given ∙ Known (c .before) .before .before .before .before .before .indexes .given
+same-length-8 c = c .before .before .before .before .before .before .indexes3 .given ∙ Indexes2 (c .before) .indexes2 .given ∙ Indexes (c .before) .indexes .given
 
 same-length-9 : tie.Need-same-length-9
 same-length-9 c = c .before .before .before .before .offsets3 .given ∙ Told (Tried (c .before)) .before .offsets2 .given ∙ Known (c .before) .before .before .before .offsets .given
@@ -115,13 +130,13 @@ abbrev Ended : tie.After-slice-known20 → tie.After-slice-known18
 Ended c = Whole (c .before .before .before .before) .before
 
 same-length-11 : tie.Need-same-length-11
-same-length-11 c = c .before .before .before .work3 .given ∙ Ended c .before .before .before .before .before .before .before .before .before .work2 .given ∙ Known (Ended c) .before .before .before .before .before .before .before .before .before .work .given
+same-length-11 c = c .before .before .before .work3 .given ∙ Vertices3 (Ended c) .before .before .work2 .given ∙ Vertices (Ended c) .before .before .work .given
 
 same-length-12 : tie.Need-same-length-12
-same-length-12 c = Ended c .before .before .before .before .before .before .before .vertices3 .given ∙ Told (Tried (Ended c)) .before .before .before .before .before .vertices2 .given ∙ Known (Ended c) .before .before .before .before .before .before .before .vertices .given
+same-length-12 c = Vertices3 (Ended c) .vertices3 .given ∙ Vertices2 (Ended c) .vertices2 .given ∙ Vertices (Ended c) .vertices .given
 
 same-length-13 : tie.Need-same-length-13
-same-length-13 c = Ended c .before .before .before .before .before .indexes3 .given ∙ Told (Tried (Ended c)) .before .before .before .indexes2 .given ∙ Known (Ended c) .before .before .before .before .before .indexes .given
+same-length-13 c = Ended c .before .before .before .before .before .indexes3 .given ∙ Indexes2 (Ended c) .indexes2 .given ∙ Indexes (Ended c) .indexes .given
 
 same-length-14 : tie.Need-same-length-14
 same-length-14 c = Ended c .before .before .before .offsets3 .given ∙ Told (Tried (Ended c)) .before .offsets2 .given ∙ Known (Ended c) .before .before .before .offsets .given

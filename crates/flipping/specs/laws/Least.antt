@@ -1,16 +1,15 @@
--- The least of a list, the cases of an entry, and that a site has one leftmost half-edge.
-use mathlib.Core.Path.{_≡_, refl, sym, _∙_}
+-- The least of a list, and the cases of an entry.
+use mathlib.Core.Path.{_≡_, refl, _∙_}
 use mathlib.Core.List.{List, [], _∷_}
 use mathlib.Core.Logic.{_⊎_, inl, inr, ⊎-elim, _≢_}
 use Prim.Native.Nat.{ℕ, _≤_, _<_}
-use native.Mathlib.Nat.{le-antisymm}
 use native.Mathlib.Omega.{arith}
 use borrow.Author.Tests.{eq-eqb, ne-eqb, lt-ltb, le-ltb}
 use Rattle.base.specs.common.Count.{occ}
 use Rattle.base.specs.common.laws.Count.{same-cases}
 use Rattle.base.specs.common.laws.Decide.{lt-or-ge, eq-or-ne}
 use Rattle.base.specs.numbers.Numbers.{EMPTY}
-use Rattle.mesh.specs.Mesh.{pairOf, Leftmost}
+use Rattle.mesh.specs.Mesh.{pairOf}
 use Rattle.flipping.specs.Entries.{lesser, leastOf, gainOf, leastRound, lossOf}
 
 pub lesser-cases : (x m : ℕ) → ((x < m) × (lesser x m ≡ x)) ⊎ ((m ≤ x) × (lesser x m ≡ m))

@@ -72,13 +72,14 @@ module _ {m : Mesh} {asked : ℕ} {old new : Slices} {r : ℕ} (a : BuildAdmissi
       go (refused e) late l f q =
           let n : e .number ≢ 0 = λ x. omega (arith, late .least) in
           let big : refusedTriangle ≤ e .number = omega (arith, late .least) in
+          let long = ap length (same-counts outline-of z) in
           record {
             number = built t (admits-own own t found (rw z at (a .number)));
             work = (rw (ne-eqb (e .number) 0 n) at (f .work)) ∙ blanked EMPTY (padded (length (old .work)) EMPTY (tableOf m)) (new .work) (old .work) (e .number) big (long-of outline-of z);
             vertices = (rw sub-zero at (l .vertices)) ∙ blanked zero (padded (length (old .vertices)) zero []) (new .vertices) (old .vertices) (e .number) big (ap length (same-vertices outline-of z));
             indexes = (rw sub-zero at (l .indexes)) ∙ blanked EMPTY (padded (length (old .indexes)) EMPTY []) (new .indexes) (old .indexes) (e .number) big (ap length (same-indexes outline-of z));
             offsets = (rw sub-zero at (l .offsets)) ∙ blanked EMPTY (padded (length (old .offsets)) EMPTY []) (new .offsets) (old .offsets) (e .number) big (ap length (same-offsets outline-of z));
-            counts = (rw (ne-eqb (e .number) 0 n) at (f .counts)) ∙ blanked EMPTY (padded (length (old .counts)) EMPTY []) (new .counts) (old .counts) (e .number) big (ap length (same-counts outline-of z));
+            counts = (rw (ne-eqb (e .number) 0 n) at (f .counts)) ∙ blanked EMPTY (padded (length (old .counts)) EMPTY []) (new .counts) (old .counts) (e .number) big long;
           }
 
       pub answers-built : (o : Outcome Fault Built) → Refuses Numbered o → (f : Fault) → f ≡ faultOf o
