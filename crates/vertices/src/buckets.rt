@@ -14,7 +14,7 @@ ghost use lib.ListN.{length, drop};
 ghost use Rattle.plane.specs.points.Flat.{pointsFrom};
 ghost use Rattle.vertices.specs.Add.{nearPt, findNear};
 ghost use Rattle.vertices.specs.Store.{Holds};
-ghost use Rattle.vertices.specs.buckets.Buckets.{lowOf, midOf, highOf, narrowOf, mixOf, entryOf, headsOf};
+ghost use Rattle.vertices.specs.buckets.Buckets.{lowOf, midOf, highOf, narrowOf, mixOf, entryWith, headsOf};
 ghost use Rattle.vertices.specs.buckets.Steps.{BucketsFree, HomeAt, HomeOf, HomeIn, InsertsIn, BucketChain};
 
 // 2^-49, 2^-48 and 2^21.
@@ -153,7 +153,7 @@ pub fn empty(indexes: &mut [u32], limit: usize)
 // The entry of vertex k in front of entry e, with the marks of both.
 fn entry(e: u32, k: usize, mark: usize) -> u32
     requires { ⌜ (k < 786432) × (mark < 32) ⌝ }
-    ensures { λ r. ⌜ r ≡ entryOf e k mark ⌝ }
+    ensures { λ r. ⌜ r ≡ entryWith e k mark ⌝ }
 {
     (e / 1048576 * 1048576 + (k + 1) as u32) | (1u32 << mark)
 }

@@ -21,7 +21,8 @@ returns c =
     let at-put = at-insert .before .before .before .before in
     let s = Start at-put in
     rw (at-put .put .ensures)
-    (appended (s .args .centers) (s .args .limit) (s .args .count) (s .args .p) (now (s .args .vertices)) (now (s .args .indexes)) _ (s .pre .0) (s .pre .1 .1) (s .pre .1 .0) (at-insert .insert .ensures))
+    (appended (s .args .centers) (s .args .limit) (s .args .count) (s .args .p) (now (s .args .vertices)) (now (s .args .indexes)) _ (s .pre .0) (s .pre .1 .1) (s .pre .1 .0)
+    (at-insert .insert .ensures))
 
 pub append-spec : {M : Type 1} → statement M
 append-spec = tie.close (tie.spec (λ c κs. search needs) (λ c. search needs) insert-requires (λ c. search needs) (λ c. search needs) returns)

@@ -1,8 +1,9 @@
 -- How a near vertex is found: added vertices are chained in buckets by their places, in the tail of the index list. A quarter of the tail is heads, one for each bucket; the rest are links, one
 -- for each of the first vertices after the circumcenters. A head has the last vertex of its bucket, a link the one before in the same bucket: one more than its number after the
--- circumcenters, or 0, in 20 digits; the 12 digits above these are marks, and that of each vertex from there back is set. So a search ends where its mark is not. A vertex past the links is in no chain.
+-- circumcenters, or 0, in 20 digits; the 12 digits above these are marks, and that of each vertex from there back is set. So a search ends where its mark is not set. A vertex past the links is
+-- in no chain.
 -- The place of a vertex is rounded to a grid: its magnitude and 2^21 rounded, which is a multiple of 2^-31 up to 2^21. What is near a point has the same place unless the point is
--- within 2^-48 below a border of the grid (laws/Keys.antt, `near-bucket`). Definitions only.
+-- within 2^-48 below a border of the grid (laws/Keys.antt, `near-places`). Definitions only.
 use mathlib.Core.Path.{_≡_}
 use mathlib.Core.Bool.{Bool, _&&_}
 use mathlib.Core.List.{List}
@@ -74,20 +75,20 @@ abbrev pub insertedOf : ℕ → ℕ → ℕ
 insertedOf count room = min count (3 * headsOf room)
 
 -- what an entry has of a number
-abbrev pub numberOf : ℕ → ℕ
-numberOf e = e % 1048576
+abbrev pub numberIn : ℕ → ℕ
+numberIn e = e % 1048576
 
 -- vertex k with its mark in front of entry e
-unfoldable pub entryOf : ℕ → ℕ → ℕ → ℕ
-entryOf e k mark = bitOr (e / 1048576 * 1048576 + suc k) (2 ^ mark)
+unfoldable pub entryWith : ℕ → ℕ → ℕ → ℕ
+entryWith e k mark = bitOr (e / 1048576 * 1048576 + suc k) (2 ^ mark)
 
 -- entry e has one more than the last number below n whose bucket is m, and the marks of all of them; or it is 0
 pub record LastChained (bucket mark : ℕ → ℕ) (m n e : ℕ) : Type 0 where
-  pub within : numberOf e ≤ n
-  pub there : (k : ℕ) → numberOf e ≡ suc k → bucket k ≡ m
-  pub after : (k : ℕ) → numberOf e ≤ k → k < n → bucket k ≢ m
+  pub within : numberIn e ≤ n
+  pub there : (k : ℕ) → numberIn e ≡ suc k → bucket k ≡ m
+  pub after : (k : ℕ) → numberIn e ≤ k → k < n → bucket k ≢ m
   pub marked : (k : ℕ) → k < n → bucket k ≡ m → e / 2 ^ mark k % 2 ≡ 1
-  pub none : numberOf e ≡ 0 → e ≡ 0
+  pub none : numberIn e ≡ 0 → e ≡ 0
 
 -- of the vertices after the first nc so many are chained
 pub record InChains (nc n : ℕ) (v : List Float) (tail : List ℕ) : Type 0 where

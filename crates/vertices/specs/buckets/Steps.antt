@@ -2,12 +2,12 @@
 use mathlib.Core.Path.{_≡_}
 use mathlib.Core.Bool.{Bool, true, _&&_}
 use mathlib.Core.List.{List}
-use Prim.Native.Nat.{ℕ, suc, _+_, _-_, _*_, _≤_, _<_}
+use Prim.Native.Nat.{ℕ, _+_, _-_, _*_, _≤_, _<_}
 use lib.Ieee.{Float}
 use lib.ListN.{length, getD, set, take, drop}
 use Rattle.plane.specs.declared.points.Point.{Point}
 use Rattle.vertices.specs.declared.buckets.Home.{Home}
-use Rattle.vertices.specs.buckets.Buckets.{midOf, narrowOf, bucketBy, markBy, entryOf, headsOf, InChains}
+use Rattle.vertices.specs.buckets.Buckets.{midOf, narrowOf, bucketBy, markBy, entryWith, headsOf, InChains}
 
 -- all buckets are empty, and nothing before the tail has changed
 pub record BucketsFree (limit : ℕ) (old new : List ℕ) : Type 0 where
@@ -33,7 +33,7 @@ pub record HomeIn (h m mark : ℕ) : Type 0 where
 -- vertex k after the circumcenters goes in front of the chain of bucket m, with its mark, if it has a link
 pub record InsertsIn (limit k m mark : ℕ) (old new : List ℕ) : Type 0 where
   pub linked : k < 3 * headsOf (length old - limit)
-      → new ≡ set (set old (limit + (headsOf (length old - limit) + k)) (getD old (limit + m) 0)) (limit + m) (entryOf (getD old (limit + m) 0) k mark)
+      → new ≡ set (set old (limit + (headsOf (length old - limit) + k)) (getD old (limit + m) 0)) (limit + m) (entryWith (getD old (limit + m) 0) k mark)
   pub past : 3 * headsOf (length old - limit) ≤ k → new ≡ old
 
 -- the first `inserted` vertices after the circumcenters are chained, and bucket m and the mark are those of all that is near p

@@ -20,7 +20,7 @@ use Rattle.plane.specs.points.Flat.{pointAt, points, pointsFrom, flat, pour}
 use Rattle.vertices.specs.Add.{findNear, addVertex}
 use Rattle.vertices.specs.Store.{Holds, Poured, Leaves, PlacedAs}
 use Rattle.vertices.specs.declared.buckets.Home.{Home}
-use Rattle.vertices.specs.buckets.Buckets.{midOf, bucketBy, bucketFrom, markBy, markFrom, headsOf, entryOf, insertedOf, InChains}
+use Rattle.vertices.specs.buckets.Buckets.{midOf, bucketBy, bucketFrom, markBy, markFrom, headsOf, entryWith, insertedOf, InChains}
 use Rattle.vertices.specs.buckets.Steps.{BucketsFree, HomeOf, InsertsIn}
 use Rattle.vertices.specs.buckets.laws.Inserting.{home-in, in-chains-none, in-chains-kept, in-chains-more}
 use Rattle.vertices.specs.laws.Points.{add-old, add-new, length-points, points-pour, pour-points, pour-pour, pour-snoc, length-pour, flat-append, flat-points, getD-points}
@@ -128,23 +128,23 @@ module _ (nc limit n : ℕ) (p : Point) (v : List Float) (ix ix₁ : List ℕ) {
     m = s .bucket
 
     abbrev front : ℕ
-    front = entryOf (getD ix (limit + m) 0) (n - nc) (s .mark)
+    front = entryWith (getD ix (limit + m) 0) (n - nc) (s .mark)
 
     written : ix₁ ≡ set (set ix (limit + (heads + (n - nc))) (getD ix (limit + m) 0)) (limit + m) front
     written = let w = g .linked (omega (arith, tail-long)) in rw (← tail-long) at w
 
-    tail-is : drop limit ix₁ ≡ set (set (drop limit ix) (heads + (n - nc)) (getD (drop limit ix) m 0)) m (entryOf (getD (drop limit ix) m 0) (n - nc) (s .mark))
+    tail-is : drop limit ix₁ ≡ set (set (drop limit ix) (heads + (n - nc)) (getD (drop limit ix) m 0)) m (entryWith (getD (drop limit ix) m 0) (n - nc) (s .mark))
     tail-is =
         ap (drop limit) written
         ∙ drop-set-add limit (set ix (limit + (heads + (n - nc))) (getD ix (limit + m) 0)) m front
-        ∙ ap₂ (λ (t : List ℕ) (x : ℕ). set t m (entryOf x (n - nc) (s .mark)))
+        ∙ ap₂ (λ (t : List ℕ) (x : ℕ). set t m (entryWith x (n - nc) (s .mark)))
         (drop-set-add limit ix (heads + (n - nc)) (getD ix (limit + m) 0) ∙ ap (set (drop limit ix) (heads + (n - nc))) (sym (getD-drop limit ix m 0)))
         (sym (getD-drop limit ix m 0))
 
     same-tail : length (drop limit ix₁) ≡ length (drop limit ix)
     same-tail =
         ap length tail-is
-        ∙ length-set (set (drop limit ix) (heads + (n - nc)) (getD (drop limit ix) m 0)) m (entryOf (getD (drop limit ix) m 0) (n - nc) (s .mark))
+        ∙ length-set (set (drop limit ix) (heads + (n - nc)) (getD (drop limit ix) m 0)) m (entryWith (getD (drop limit ix) m 0) (n - nc) (s .mark))
         ∙ length-set (drop limit ix) (heads + (n - nc)) (getD (drop limit ix) m 0)
 
     linked-in-chains : InChains nc (insertedOf (n + 1 - nc) (length (drop limit ix₁))) after (drop limit ix₁)

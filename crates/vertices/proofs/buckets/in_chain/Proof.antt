@@ -7,7 +7,7 @@ use Prim.Native.Nat.{_+_, _-_, _*_, _≤_, _<_}
 use native.Mathlib.Omega.{arith}
 use lib.ListN.{length, length-drop}
 use Rattle.vertices.specs.Add.{nearPt}
-use Rattle.vertices.specs.buckets.Buckets.{numberOf}
+use Rattle.vertices.specs.buckets.Buckets.{numberIn}
 use Rattle.vertices.specs.buckets.laws.Chains.{ChainPassed, chain-start, chain-some, chain-before, chain-less, chain-step, chain-end}
 use Rattle.vertices.proofs.buckets.in_chain.Statement.{statement}
 use Rattle.vertices.proofs.buckets.in_chain.Tie as tie
@@ -16,7 +16,7 @@ abbrev Inv-loop : tie.InvT-loop
 Inv-loop vertices indexes limit heads centers inserted m mark p best₀ e₀ best e = ChainPassed vertices indexes limit centers inserted m p e best
 
 abbrev μ-loop : tie.MeasureT-loop
-μ-loop vertices indexes limit heads centers inserted m mark p best₀ e₀ best e = numberOf e
+μ-loop vertices indexes limit heads centers inserted m mark p best₀ e₀ best e = numberIn e
 
 -- heads and links lie within the list
 within : (c : tie.Start Inv-loop μ-loop) → c .args .limit + 4 * c .args .heads ≤ length (now (c .args .indexes))

@@ -19,7 +19,7 @@ use Rattle.vertices.specs.Add.{nearPt, findNear}
 use Rattle.base.specs.common.laws.And.{and-left, and-right}
 use Rattle.base.specs.common.laws.Decide.{lt-or-ge}
 use Rattle.vertices.specs.Store.{Holds}
-use Rattle.vertices.specs.buckets.Buckets.{narrowOf, bucketBy, bucketFrom, markBy, markFrom, headsOf, insertedOf, numberOf, LastChained}
+use Rattle.vertices.specs.buckets.Buckets.{narrowOf, bucketBy, bucketFrom, markBy, markFrom, headsOf, insertedOf, numberIn, LastChained}
 use Rattle.vertices.specs.buckets.Steps.{HomeOf, BucketChain}
 use Rattle.vertices.specs.buckets.laws.Inserting.{home-in}
 use Rattle.vertices.specs.buckets.laws.Keys.{near-places}
@@ -58,11 +58,11 @@ module _ (v : List Float) (p : Point) where
 
 -- best is what is found from entry e on; the one before is chained in the bucket, and of all before the marks are there
 pub record ChainPassed (v : List Float) (ix : List ℕ) (limit nc inserted m : ℕ) (p : Point) (e best : ℕ) : Type 0 where
-  pub within : numberOf e ≤ inserted
-  pub there : (k : ℕ) → numberOf e ≡ suc k → bucketFrom (headsOf (length (drop limit ix))) v nc k ≡ m
-  pub marked : (k : ℕ) → k < numberOf e → bucketFrom (headsOf (length (drop limit ix))) v nc k ≡ m → e / 2 ^ markFrom v nc k % 2 ≡ 1
-  pub none : numberOf e ≡ 0 → e ≡ 0
-  pub found : best ≡ from v p (nc + inserted) (nc + numberOf e)
+  pub within : numberIn e ≤ inserted
+  pub there : (k : ℕ) → numberIn e ≡ suc k → bucketFrom (headsOf (length (drop limit ix))) v nc k ≡ m
+  pub marked : (k : ℕ) → k < numberIn e → bucketFrom (headsOf (length (drop limit ix))) v nc k ≡ m → e / 2 ^ markFrom v nc k % 2 ≡ 1
+  pub none : numberIn e ≡ 0 → e ≡ 0
+  pub found : best ≡ from v p (nc + inserted) (nc + numberIn e)
 
 module _ {v : List Float} {ix : List ℕ} {limit heads nc inserted m mark : ℕ} {p : Point} (c : BucketChain v ix limit heads nc inserted m mark p) where
   abbrev bucket : ℕ → ℕ
@@ -97,10 +97,10 @@ module _ {v : List Float} {ix : List ℕ} {limit heads nc inserted m mark : ℕ}
         there = l .there;
         marked = λ k i o. l .marked k (omega (arith, l .within)) o;
         none = l .none;
-        found = sym (jump inserted (numberOf e) (l .within) (omega arith) (λ k i j o _. l .after k i j o) ∙ near-end v p (nc + inserted) (nc + inserted) (omega arith));
+        found = sym (jump inserted (numberIn e) (l .within) (omega arith) (λ k i j o _. l .after k i j o) ∙ near-end v p (nc + inserted) (nc + inserted) (omega arith));
       }
 
-  module _ {e x best : ℕ} (g : ChainPassed v ix limit nc inserted m p e best) (o : e / 2 ^ mark % 2 ≡ 1) (w : x ≡ numberOf e) where
+  module _ {e x best : ℕ} (g : ChainPassed v ix limit nc inserted m p e best) (o : e / 2 ^ mark % 2 ≡ 1) (w : x ≡ numberIn e) where
     -- an entry with a mark has a number
     pub chain-some : 0 < x
     chain-some = ⊎-elim (λ l. l) (λ l. absurd (bare (g .none (omega arith)))) (lt-or-ge 0 x)
@@ -114,7 +114,7 @@ module _ {v : List Float} {ix : List ℕ} {limit heads nc inserted m mark : ℕ}
     last : {y : ℕ} → y ≡ getD ix (limit + (heads + (x - 1))) 0 → LastChained bucket (markFrom v nc) (bucket (x - 1)) (x - 1) y
     last q = rw (q, c .heads-is, ← getD-drop limit ix (headsOf (length (drop limit ix)) + (x - 1)) 0) (c .in-chains .nexts (x - 1) chain-before)
 
-    pub chain-less : {y : ℕ} → y ≡ getD ix (limit + (heads + (x - 1))) 0 → numberOf y < numberOf e
+    pub chain-less : {y : ℕ} → y ≡ getD ix (limit + (heads + (x - 1))) 0 → numberIn y < numberIn e
     chain-less q = omega (arith, last q .within, chain-some)
 
     pub chain-step : {y r : ℕ} {near : Bool} → near ≡ nearPt (pointAt v (nc + (x - 1))) p → r ≡ cond near (nc + (x - 1)) best → y ≡ getD ix (limit + (heads + (x - 1))) 0
@@ -127,20 +127,20 @@ module _ {v : List Float} {ix : List ℕ} {limit heads nc inserted m mark : ℕ}
           there = λ k z. l .there k z ∙ s;
           marked = λ k i z. l .marked k (omega (arith, l .within)) (z ∙ sym s);
           none = l .none;
-          found = f ∙ one near (sym n) ∙ sym (jump (x - 1) (numberOf y) (l .within) (omega (arith, g .within)) (λ k a b z _. l .after k a b (z ∙ sym s)));
+          found = f ∙ one near (sym n) ∙ sym (jump (x - 1) (numberIn y) (l .within) (omega (arith, g .within)) (λ k a b z _. l .after k a b (z ∙ sym s)));
         }
       where
         one : (b : Bool) → nearPt (pointAt v (nc + (x - 1))) p ≡ b → cond b (nc + (x - 1)) best ≡ from v p (nc + inserted) (nc + (x - 1))
         one true z = sym (near-hit v p (nc + (x - 1)) (nc + inserted) (omega (arith, g .within, chain-some)) z)
         one false z =
-            let k : nc + (x - 1) + 1 ≡ nc + numberOf e = omega (arith, chain-some) in
+            let k : nc + (x - 1) + 1 ≡ nc + numberIn e = omega (arith, chain-some) in
             g .found ∙ sym (rw k at (near-miss v p (nc + (x - 1)) (nc + inserted) (omega (arith, g .within, chain-some)) z))
 
   -- without p's mark there is none of it before
   pub chain-end : {e best : ℕ} → ChainPassed v ix limit nc inserted m p e best → (e / 2 ^ mark % 2 ≡ 1 → ⊥) → best ≡ findNear p (pointsFrom v nc inserted) nc
   chain-end {e} {best} g o =
       let w : nc + inserted - nc ≡ inserted = omega arith in
-      let j = jump (numberOf e) 0 (omega arith) (g .within) (λ k a b x y. o (rw y at (g .marked k b x))) in
+      let j = jump (numberIn e) 0 (omega arith) (g .within) (λ k a b x y. o (rw y at (g .marked k b x))) in
       g .found ∙ sym (rw (add-zero nc, w) at j)
 
 -- ---- the search among those that are chained, and one by one from there on

@@ -16,7 +16,7 @@ use Rattle.base.specs.common.laws.Decide.{lt-or-ge, eq-or-ne}
 use Rattle.plane.specs.points.Flat.{pointAt}
 use Rattle.plane.specs.declared.points.Point.{Point}
 use Rattle.vertices.specs.declared.buckets.Home.{Home}
-use Rattle.vertices.specs.buckets.Buckets.{mixOf, bucketBy, bucketFrom, markBy, markFrom, midOf, headsOf, numberOf, entryOf, LastChained, InChains}
+use Rattle.vertices.specs.buckets.Buckets.{mixOf, bucketBy, bucketFrom, markBy, markFrom, midOf, headsOf, numberIn, entryWith, LastChained, InChains}
 use Rattle.vertices.specs.buckets.Steps.{BucketsFree, HomeOf, HomeIn, InsertsIn}
 
 -- ---- a bucket is one of them
@@ -65,7 +65,7 @@ pub empty-end : {limit m h : ℕ} {old new : List ℕ} → FreeTo limit m old ne
 empty-end {limit} {m} {h} {old} {new} a e l = record { long = a .long; body = a .body; free = λ j g. a .free j (lt-of-lt-of-le (rw (a .long, ← e) at g) l) }
 
 -- ---- what a function has written
-pub inserted-is : (limit k : ℕ) (ix : List ℕ) {h m t e : ℕ} → h ≡ headsOf (length ix - limit) → e ≡ entryOf (getD ix (limit + m) 0) k t → k < 3 * h
+pub inserted-is : (limit k : ℕ) (ix : List ℕ) {h m t e : ℕ} → h ≡ headsOf (length ix - limit) → e ≡ entryWith (getD ix (limit + m) 0) k t → k < 3 * h
     → InsertsIn limit k m t ix (set (set ix (limit + (h + k)) (getD ix (limit + m) 0)) (limit + m) e)
 inserted-is limit k ix a b l = record { linked = λ _. rw (b, a) refl; past = λ g. absurd (omega arith) }
 
@@ -92,21 +92,21 @@ renumbered e r j l h =
     rw (← q) (sym (shr-shr (e / 1048576 * 1048576 + r) 20 (j - 20)) ∙ ap (λ (x : ℕ). x / 2 ^ (j - 20)) (high (e / 1048576) 20 l) ∙ shr-shr e 20 (j - 20))
 
 module _ (e k t : ℕ) (l : suc k < 1048576) (h : 20 ≤ t) where
-  pub entry-number : numberOf (entryOf e k t) ≡ suc k
-  unfolding entryOf
+  pub entry-number : numberIn (entryWith e k t) ≡ suc k
+  unfolding entryWith
   entry-number = or-mod (e / 1048576 * 1048576 + suc k) (2 ^ t) 20 ∙ ap₂ bitOr (low (e / 1048576) 20 l) even ∙ or-zero-r (suc k)
     where
       even : 2 ^ t % 2 ^ 20 ≡ 0
       even = let q : t - 20 + 20 ≡ t = omega arith in rw (← q, pow-add 2 (t - 20) 20) (mul-mod-left (2 ^ (t - 20)) (2 ^ 20))
 
-  pub entry-mark : entryOf e k t / 2 ^ t % 2 ≡ 1
-  unfolding entryOf
+  pub entry-mark : entryWith e k t / 2 ^ t % 2 ≡ 1
+  unfolding entryWith
   entry-mark =
       ap (λ (x : ℕ). x / 2 ^ t % 2) (or-comm (e / 1048576 * 1048576 + suc k) (2 ^ t))
       ∙ digit-or (2 ^ t) (e / 1048576 * 1048576 + suc k) t (ap (λ (x : ℕ). x % 2) (ap (λ (x : ℕ). x / 2 ^ t) (sym (one-mul (2 ^ t))) ∙ shl-shr 1 t))
 
-  pub entry-keeps : (j : ℕ) → 20 ≤ j → e / 2 ^ j % 2 ≡ 1 → entryOf e k t / 2 ^ j % 2 ≡ 1
-  unfolding entryOf
+  pub entry-keeps : (j : ℕ) → 20 ≤ j → e / 2 ^ j % 2 ≡ 1 → entryWith e k t / 2 ^ j % 2 ≡ 1
+  unfolding entryWith
   entry-keeps j i o = digit-or (e / 1048576 * 1048576 + suc k) (2 ^ t) j (ap (λ (x : ℕ). x % 2) (renumbered e (suc k) j l i) ∙ o)
 
 pub mark-high : (x y : Float) → 20 ≤ markBy x y
@@ -132,7 +132,7 @@ module _ (bucket mark : ℕ → ℕ) where
   below : (n k : ℕ) → k < suc n → k ≢ n → k < n
   below n k i q = ⊎-elim (λ l. l) (λ l. absurd (q (omega arith))) (lt-or-ge k n)
 
-  inserted-last : (m n e : ℕ) → suc n < 1048576 → ((k : ℕ) → 20 ≤ mark k) → bucket n ≡ m → LastChained bucket mark m n e → LastChained bucket mark m (suc n) (entryOf e n (mark n))
+  inserted-last : (m n e : ℕ) → suc n < 1048576 → ((k : ℕ) → 20 ≤ mark k) → bucket n ≡ m → LastChained bucket mark m n e → LastChained bucket mark m (suc n) (entryWith e n (mark n))
   inserted-last m n e i high b l =
       let q = entry-number e n (mark n) i (high n) in
       record {
@@ -201,7 +201,7 @@ module _ {nc n m : ℕ} {v : List Float} {tail : List ℕ} (g : InChains nc n v 
   linked = set tail (h + n) (getD tail m 0)
 
   abbrev front : ℕ
-  front = entryOf (getD tail m 0) n (mark n)
+  front = entryWith (getD tail m 0) n (mark n)
 
   abbrev inserted : List ℕ
   inserted = set linked m front
