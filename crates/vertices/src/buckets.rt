@@ -14,7 +14,11 @@ ghost use lib.ListN.{length, drop};
 ghost use Rattle.plane.specs.points.Flat.{pointsFrom};
 ghost use Rattle.vertices.specs.Add.{nearPt, findNear};
 ghost use Rattle.vertices.specs.Store.{Holds};
+<<<<<<< HEAD
 ghost use Rattle.vertices.specs.buckets.Buckets.{lowOf, midOf, highOf, keyOf, narrowOf, mixOf, entryWith, headsOf};
+=======
+ghost use Rattle.vertices.specs.buckets.Buckets.{lowOf, midOf, highOf, narrowOf, mixOf, entryWith, headsOf};
+>>>>>>> 22e4eb27a83ab2543db5ce8d894be5b884cf6076
 ghost use Rattle.vertices.specs.buckets.Steps.{BucketsFree, HomeAt, HomeOf, HomeIn, InsertsIn, BucketChain};
 
 // 2^-49, 2^-48 and 2^21.

@@ -2,8 +2,13 @@
 -- for each of the first vertices after the circumcenters. A head has the last vertex of its bucket, a link the one before in the same bucket: one more than its number after the
 -- circumcenters, or 0, in 20 digits; the 12 digits above these are marks, and that of each vertex from there back is set. So a search ends where its mark is not set. A vertex past the links is
 -- in no chain.
+<<<<<<< HEAD
 -- The place of a vertex is rounded to a grid: its magnitude and 2^21 rounded, which is a multiple of 2^-31 up to 2^21. What is near a point has the same place, and stands on the same side of 0
 -- or at 0 on the grid, unless the point is within 2^-48 below a border of the grid (laws/Keys.antt, `near-keys`). Definitions only.
+=======
+-- The place of a vertex is rounded to a grid: its magnitude and 2^21 rounded, which is a multiple of 2^-31 up to 2^21. What is near a point has the same place unless the point is
+-- within 2^-48 below a border of the grid (laws/Keys.antt, `near-places`). Definitions only.
+>>>>>>> 22e4eb27a83ab2543db5ce8d894be5b884cf6076
 use mathlib.Core.Path.{_≡_}
 use mathlib.Core.Bool.{Bool, cond, _&&_}
 use mathlib.Core.List.{List}

@@ -7,7 +7,11 @@ use lib.Ieee.{Float}
 use lib.ListN.{length, getD, set, take, drop}
 use Rattle.plane.specs.declared.points.Point.{Point}
 use Rattle.vertices.specs.declared.buckets.Home.{Home}
+<<<<<<< HEAD
 use Rattle.vertices.specs.buckets.Buckets.{keyOf, narrowOf, bucketBy, markBy, entryWith, headsOf, InChains}
+=======
+use Rattle.vertices.specs.buckets.Buckets.{midOf, narrowOf, bucketBy, markBy, entryWith, headsOf, InChains}
+>>>>>>> 22e4eb27a83ab2543db5ce8d894be5b884cf6076
 
 -- all buckets are empty, and nothing before the tail has changed
 pub record BucketsFree (limit : ℕ) (old new : List ℕ) : Type 0 where

@@ -20,7 +20,11 @@ use Rattle.plane.specs.points.Flat.{pointAt, points, pointsFrom, flat, pour}
 use Rattle.vertices.specs.Add.{findNear, addVertex}
 use Rattle.vertices.specs.Store.{Holds, Poured, Leaves, PlacedAs}
 use Rattle.vertices.specs.declared.buckets.Home.{Home}
+<<<<<<< HEAD
 use Rattle.vertices.specs.buckets.Buckets.{keyOf, bucketBy, bucketFrom, markBy, markFrom, headsOf, entryWith, insertedOf, InChains}
+=======
+use Rattle.vertices.specs.buckets.Buckets.{midOf, bucketBy, bucketFrom, markBy, markFrom, headsOf, entryWith, insertedOf, InChains}
+>>>>>>> 22e4eb27a83ab2543db5ce8d894be5b884cf6076
 use Rattle.vertices.specs.buckets.Steps.{BucketsFree, HomeOf, InsertsIn}
 use Rattle.vertices.specs.buckets.laws.Inserting.{home-in, in-chains-none, in-chains-kept, in-chains-more}
 use Rattle.vertices.specs.laws.Points.{add-old, add-new, length-points, points-pour, pour-points, pour-pour, pour-snoc, length-pour, flat-append, flat-points, getD-points}

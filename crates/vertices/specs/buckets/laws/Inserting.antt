@@ -16,7 +16,11 @@ use Rattle.base.specs.common.laws.Decide.{lt-or-ge, eq-or-ne}
 use Rattle.plane.specs.points.Flat.{pointAt}
 use Rattle.plane.specs.declared.points.Point.{Point}
 use Rattle.vertices.specs.declared.buckets.Home.{Home}
+<<<<<<< HEAD
 use Rattle.vertices.specs.buckets.Buckets.{mixOf, bucketBy, bucketFrom, markBy, markFrom, keyOf, headsOf, numberIn, entryWith, LastChained, InChains}
+=======
+use Rattle.vertices.specs.buckets.Buckets.{mixOf, bucketBy, bucketFrom, markBy, markFrom, midOf, headsOf, numberIn, entryWith, LastChained, InChains}
+>>>>>>> 22e4eb27a83ab2543db5ce8d894be5b884cf6076
 use Rattle.vertices.specs.buckets.Steps.{BucketsFree, HomeOf, HomeIn, InsertsIn}
 
 -- ---- a bucket is one of them
