@@ -14,11 +14,7 @@ ghost use lib.ListN.{length, drop};
 ghost use Rattle.plane.specs.points.Flat.{pointsFrom};
 ghost use Rattle.vertices.specs.Add.{nearPt, findNear};
 ghost use Rattle.vertices.specs.Store.{Holds};
-<<<<<<< HEAD
-ghost use Rattle.vertices.specs.buckets.Buckets.{lowOf, midOf, highOf, keyOf, narrowOf, mixOf, entryWith, headsOf};
-=======
 ghost use Rattle.vertices.specs.buckets.Buckets.{lowOf, midOf, highOf, narrowOf, mixOf, entryWith, headsOf};
->>>>>>> 22e4eb27a83ab2543db5ce8d894be5b884cf6076
 ghost use Rattle.vertices.specs.buckets.Steps.{BucketsFree, HomeAt, HomeOf, HomeIn, InsertsIn, BucketChain};
 
 // 2^-49, 2^-48 and 2^21.
@@ -89,17 +85,6 @@ fn narrow(x: f64) -> bool
     (a == b) & (b <= LARGE)
 }
 
-// Where x stands, and on which side of 0.
-fn key(x: f64, place: f64) -> f64
-    requires { ⌜ place ≡ midOf x ⌝ }
-    ensures { λ r. ⌜ r ≡ keyOf x ⌝ }
-{
-    if (x < 0.0) & (place != SHIFT) {
-        return place + place;
-    }
-    place
-}
-
 // 22 digits of two patterns, all of theirs mixed.
 fn mix(a: u64, b: u64) -> u64
     ensures { λ r. ⌜ r ≡ mixOf a b ⌝ }
@@ -134,9 +119,9 @@ pub fn home_of(heads: usize, p: Point) -> Home
     ensures { λ r. ⌜ HomeOf heads p r ⌝ }
 {
     if narrow(p.x) & narrow(p.y) {
-        return home_at(heads, key(p.x, low(p.x)), key(p.y, low(p.y)), true);
+        return home_at(heads, low(p.x), low(p.y), true);
     }
-    home_at(heads, key(p.x, middle(p.x)), key(p.y, middle(p.y)), false)
+    home_at(heads, middle(p.x), middle(p.y), false)
 }
 
 // How many buckets there are in so many entries from `limit` on.

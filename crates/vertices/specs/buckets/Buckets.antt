@@ -2,20 +2,15 @@
 -- for each of the first vertices after the circumcenters. A head has the last vertex of its bucket, a link the one before in the same bucket: one more than its number after the
 -- circumcenters, or 0, in 20 digits; the 12 digits above these are marks, and that of each vertex from there back is set. So a search ends where its mark is not set. A vertex past the links is
 -- in no chain.
-<<<<<<< HEAD
--- The place of a vertex is rounded to a grid: its magnitude and 2^21 rounded, which is a multiple of 2^-31 up to 2^21. What is near a point has the same place, and stands on the same side of 0
--- or at 0 on the grid, unless the point is within 2^-48 below a border of the grid (laws/Keys.antt, `near-keys`). Definitions only.
-=======
 -- The place of a vertex is rounded to a grid: its magnitude and 2^21 rounded, which is a multiple of 2^-31 up to 2^21. What is near a point has the same place unless the point is
 -- within 2^-48 below a border of the grid (laws/Keys.antt, `near-places`). Definitions only.
->>>>>>> 22e4eb27a83ab2543db5ce8d894be5b884cf6076
 use mathlib.Core.Path.{_≡_}
-use mathlib.Core.Bool.{Bool, cond, _&&_}
+use mathlib.Core.Bool.{Bool, _&&_}
 use mathlib.Core.List.{List}
 use mathlib.Core.Logic.{_≢_}
 use Prim.Native.Nat.{ℕ, suc, _+_, _*_, _/_, _%_, _^_, _≤_, _<_, min}
 use lib.Bits.{bitOr}
-use lib.Ieee.{Float, binary64, ofBits, toBits, eq, ne, le, lt}
+use lib.Ieee.{Float, binary64, ofBits, toBits, eq, le}
 use lib.ListN.{length, getD}
 use Rattle.base.specs.common.Binary64.{_⊞_, zero}
 use Rattle.base.specs.numbers.Numbers.{large}
@@ -44,13 +39,6 @@ lowOf x = magnitude x ⊞ zero ⊞ coarse
 abbrev pub highOf : Float → Float
 highOf x = magnitude x ⊞ farReach ⊞ coarse
 
--- where x stands and on which side of 0, as a float: what stands below 0, and not at 0 on the grid, has twice its place
-unfoldable pub belowOf : Float → Bool
-belowOf x = lt x zero && ne (midOf x) coarse
-
-unfoldable pub keyOf : Float → Float
-keyOf x = cond (belowOf x) (midOf x ⊞ midOf x) (midOf x)
-
 -- these are one place
 unfoldable pub narrowOf : Float → Bool
 narrowOf x = eq (lowOf x) (highOf x) && le (highOf x) large
@@ -67,14 +55,14 @@ bucketBy h x y = mixOf (toBits binary64 x) (toBits binary64 y) * h / 4194304
 
 -- of vertex k after the first nc
 abbrev pub bucketFrom : ℕ → List Float → ℕ → ℕ → ℕ
-bucketFrom h v nc k = bucketBy h (keyOf (pointAt v (nc + k) .x)) (keyOf (pointAt v (nc + k) .y))
+bucketFrom h v nc k = bucketBy h (midOf (pointAt v (nc + k) .x)) (midOf (pointAt v (nc + k) .y))
 
 -- the digit of an entry that is the mark of two places
 unfoldable pub markBy : Float → Float → ℕ
 markBy x y = 20 + mixOf (toBits binary64 x) (toBits binary64 y) % 12
 
 abbrev pub markFrom : List Float → ℕ → ℕ → ℕ
-markFrom v nc k = markBy (keyOf (pointAt v (nc + k) .x)) (keyOf (pointAt v (nc + k) .y))
+markFrom v nc k = markBy (midOf (pointAt v (nc + k) .x)) (midOf (pointAt v (nc + k) .y))
 
 -- ---- the tail
 

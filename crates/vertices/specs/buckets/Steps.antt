@@ -7,11 +7,7 @@ use lib.Ieee.{Float}
 use lib.ListN.{length, getD, set, take, drop}
 use Rattle.plane.specs.declared.points.Point.{Point}
 use Rattle.vertices.specs.declared.buckets.Home.{Home}
-<<<<<<< HEAD
-use Rattle.vertices.specs.buckets.Buckets.{keyOf, narrowOf, bucketBy, markBy, entryWith, headsOf, InChains}
-=======
 use Rattle.vertices.specs.buckets.Buckets.{midOf, narrowOf, bucketBy, markBy, entryWith, headsOf, InChains}
->>>>>>> 22e4eb27a83ab2543db5ce8d894be5b884cf6076
 
 -- all buckets are empty, and nothing before the tail has changed
 pub record BucketsFree (limit : ℕ) (old new : List ℕ) : Type 0 where
@@ -27,7 +23,7 @@ pub record HomeAt (h : ℕ) (x y : Float) (all : Bool) (r : Home) : Type 0 where
 
 -- where p belongs, and whether all that is near p does
 abbrev pub HomeOf : ℕ → Point → Home → Type 0
-HomeOf h p = HomeAt h (keyOf (p .x)) (keyOf (p .y)) (narrowOf (p .x) && narrowOf (p .y))
+HomeOf h p = HomeAt h (midOf (p .x)) (midOf (p .y)) (narrowOf (p .x) && narrowOf (p .y))
 
 -- there is such a bucket of h, and such a digit
 pub record HomeIn (h m mark : ℕ) : Type 0 where
@@ -48,7 +44,7 @@ pub record BucketChain (v : List Float) (ix : List ℕ) (limit heads nc inserted
   pub in-chains : InChains nc inserted v (drop limit ix)
   pub x-narrow : narrowOf (p .x) ≡ true
   pub y-narrow : narrowOf (p .y) ≡ true
-  pub bucket : m ≡ bucketBy heads (keyOf (p .x)) (keyOf (p .y))
-  pub mark-is : mark ≡ markBy (keyOf (p .x)) (keyOf (p .y))
+  pub bucket : m ≡ bucketBy heads (midOf (p .x)) (midOf (p .y))
+  pub mark-is : mark ≡ markBy (midOf (p .x)) (midOf (p .y))
   pub below : m < heads
   pub digit : mark < 32

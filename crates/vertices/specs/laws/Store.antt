@@ -20,11 +20,7 @@ use Rattle.plane.specs.points.Flat.{pointAt, points, pointsFrom, flat, pour}
 use Rattle.vertices.specs.Add.{findNear, addVertex}
 use Rattle.vertices.specs.Store.{Holds, Poured, Leaves, PlacedAs}
 use Rattle.vertices.specs.declared.buckets.Home.{Home}
-<<<<<<< HEAD
-use Rattle.vertices.specs.buckets.Buckets.{keyOf, bucketBy, bucketFrom, markBy, markFrom, headsOf, entryWith, insertedOf, InChains}
-=======
 use Rattle.vertices.specs.buckets.Buckets.{midOf, bucketBy, bucketFrom, markBy, markFrom, headsOf, entryWith, insertedOf, InChains}
->>>>>>> 22e4eb27a83ab2543db5ce8d894be5b884cf6076
 use Rattle.vertices.specs.buckets.Steps.{BucketsFree, HomeOf, InsertsIn}
 use Rattle.vertices.specs.buckets.laws.Inserting.{home-in, in-chains-none, in-chains-kept, in-chains-more}
 use Rattle.vertices.specs.laws.Points.{add-old, add-new, length-points, points-pour, pour-points, pour-pour, pour-snoc, length-pour, flat-append, flat-points, getD-points}
@@ -158,8 +154,8 @@ module _ (nc limit n : ℕ) (p : Point) (v : List Float) (ix ix₁ : List ℕ) {
         let c : nc + (n - nc) ≡ n = omega (arith, h .centers) in
         let q : pointAt after (nc + (n - nc)) ≡ p = ap (pointAt after) c ∙ there in
         let w : HomeOf heads p s = rw (← tail-long) at o in
-        let d : bucketFrom heads after nc (n - nc) ≡ m = ap (λ (q : Point). bucketBy heads (keyOf (q .x)) (keyOf (q .y))) q ∙ sym (w .bucket) in
-        let e : markFrom after nc (n - nc) ≡ s .mark = ap (λ (q : Point). markBy (keyOf (q .x)) (keyOf (q .y))) q ∙ sym (o .mark) in
+        let d : bucketFrom heads after nc (n - nc) ≡ m = ap (λ (q : Point). bucketBy heads (midOf (q .x)) (midOf (q .y))) q ∙ sym (w .bucket) in
+        let e : markFrom after nc (n - nc) ≡ s .mark = ap (λ (q : Point). markBy (midOf (q .x)) (midOf (q .y))) q ∙ sym (o .mark) in
         rw (b, tail-is, ← e) (in-chains-more (rw a at before) l d (home-in heads p w .below (some (n - nc) heads l)))
 
     linked-body : take limit ix₁ ≡ take limit ix

@@ -22,7 +22,7 @@ use Rattle.vertices.specs.Store.{Holds}
 use Rattle.vertices.specs.buckets.Buckets.{narrowOf, bucketBy, bucketFrom, markBy, markFrom, headsOf, insertedOf, numberIn, LastChained}
 use Rattle.vertices.specs.buckets.Steps.{HomeOf, BucketChain}
 use Rattle.vertices.specs.buckets.laws.Inserting.{home-in}
-use Rattle.vertices.specs.buckets.laws.Keys.{near-keys}
+use Rattle.vertices.specs.buckets.laws.Keys.{near-places}
 use Rattle.vertices.specs.laws.Points.{near-hit, near-miss, near-end}
 
 -- ---- the definition's search from place i on, up to n
@@ -70,7 +70,7 @@ module _ {v : List Float} {ix : List ℕ} {limit heads nc inserted m mark : ℕ}
 
   near-home : (k : ℕ) → nearPt (pointAt v (nc + k)) p ≡ true → (bucket k ≡ m) × (markFrom v nc k ≡ mark)
   near-home k e =
-      let (x, y) = near-keys (pointAt v (nc + k)) p (c .x-narrow) (c .y-narrow) e in
+      let (x, y) = near-places (pointAt v (nc + k)) p (c .x-narrow) (c .y-narrow) e in
       (ap₂ (bucketBy (headsOf (length (drop limit ix)))) x y ∙ sym (rw (c .heads-is) at (c .bucket)), ap₂ markBy x y ∙ sym (c .mark-is))
 
   -- what belongs elsewhere is not near

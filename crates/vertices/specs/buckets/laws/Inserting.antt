@@ -16,11 +16,7 @@ use Rattle.base.specs.common.laws.Decide.{lt-or-ge, eq-or-ne}
 use Rattle.plane.specs.points.Flat.{pointAt}
 use Rattle.plane.specs.declared.points.Point.{Point}
 use Rattle.vertices.specs.declared.buckets.Home.{Home}
-<<<<<<< HEAD
-use Rattle.vertices.specs.buckets.Buckets.{mixOf, bucketBy, bucketFrom, markBy, markFrom, keyOf, headsOf, numberIn, entryWith, LastChained, InChains}
-=======
 use Rattle.vertices.specs.buckets.Buckets.{mixOf, bucketBy, bucketFrom, markBy, markFrom, midOf, headsOf, numberIn, entryWith, LastChained, InChains}
->>>>>>> 22e4eb27a83ab2543db5ce8d894be5b884cf6076
 use Rattle.vertices.specs.buckets.Steps.{BucketsFree, HomeOf, HomeIn, InsertsIn}
 
 -- ---- a bucket is one of them
@@ -124,8 +120,8 @@ mark-small x y = omega arith
 -- where a point belongs there is a bucket and a digit
 pub home-in : (h : ℕ) (p : Point) {r : Home} → HomeOf h p r → HomeIn h (r .bucket) (r .mark)
 home-in h p g = record {
-  below = λ o. rw (g .bucket) (bucket-small h (keyOf (p .x)) (keyOf (p .y)) o);
-  digit = rw (g .mark) (mark-small (keyOf (p .x)) (keyOf (p .y)));
+  below = λ o. rw (g .bucket) (bucket-small h (midOf (p .x)) (midOf (p .y)) o);
+  digit = rw (g .mark) (mark-small (midOf (p .x)) (midOf (p .y)));
 }
 
 -- ---- the last of a bucket
@@ -184,10 +180,10 @@ in-chains-kept {nc} {n} {v} {w} {tail} f g = record {
 }
   where
     buckets : (k : ℕ) → k < n → bucketFrom (headsOf (length tail)) w nc k ≡ bucketFrom (headsOf (length tail)) v nc k
-    buckets k l = ap (λ (q : Point). bucketBy (headsOf (length tail)) (keyOf (q .x)) (keyOf (q .y))) (f k l)
+    buckets k l = ap (λ (q : Point). bucketBy (headsOf (length tail)) (midOf (q .x)) (midOf (q .y))) (f k l)
 
     marks : (k : ℕ) → k < n → markFrom w nc k ≡ markFrom v nc k
-    marks k l = ap (λ (q : Point). markBy (keyOf (q .x)) (keyOf (q .y))) (f k l)
+    marks k l = ap (λ (q : Point). markBy (midOf (q .x)) (midOf (q .y))) (f k l)
 
 -- ---- the next one goes in front of the chain of its bucket
 module _ {nc n m : ℕ} {v : List Float} {tail : List ℕ} (g : InChains nc n v tail) (r : n < 3 * headsOf (length tail)) (b : bucketFrom (headsOf (length tail)) v nc n ≡ m)

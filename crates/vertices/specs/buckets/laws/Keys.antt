@@ -1,34 +1,17 @@
 -- What is near a point stands between two places on the grid, and so where these are one: a difference that is computed within the tolerance is below 2^-49 (`near-exact`), rounding
--- keeps the order, and so does adding 2^21 (`plus-mono`). Near floats have one sign but at 0 on the grid (`one-sign`), so what is near a point has its keys (`near-keys`).
-use mathlib.Core.Path.{_≡_, refl, sym, ap, ap₂, _∙_, subst}
-use mathlib.Core.Bool.{Bool, true, false, not, cond, _&&_, _||_, true≢false, false≢true, and-false}
-use mathlib.Core.Logic.{_⊎_, inl, inr, ⊎-elim}
+-- keeps the order, and so does adding 2^21 (`plus-mono`).
+use mathlib.Core.Path.{_≡_, refl, sym, ap, _∙_, subst}
+use mathlib.Core.Bool.{Bool, true, false, not, cond, _&&_, _||_, true≢false, false≢true}
+use mathlib.Core.Logic.{⊎-elim}
 use Prim.{tt, Unit}
 use Prim.Native.Nat.{ℕ, zero, suc, _+_, _-_, _*_, _^_, _≤_, _<_}
 use native.Mathlib.Omega.{arith}
-use native.Mathlib.Nat.{
-  le-trans,
-  le-of-eq,
-  le-antisymm,
-  le-of-mul-le-mul-right,
-  add-le-add,
-  mul-le-mul-right,
-  mul-pos,
-  add-mul,
-  mul-assoc,
-  mul-comm,
-  mul-left-comm,
-  mul-right-comm,
-  mul-one,
-  one-mul,
-  zero-mul,
-  add-zero,
-}
+use native.Mathlib.Nat.{le-trans, le-of-eq, le-antisymm, add-le-add, mul-le-mul-right, mul-pos, add-mul, mul-assoc, mul-comm, mul-left-comm, mul-right-comm, mul-one, one-mul, zero-mul, add-zero}
 use borrow.Author.Tests.{lt-ltb, le-ltb}
 use lib.Dec.{T, ltb, eqb, eqb→eq, ltb→lt, lit<}
 use lib.Pow.{pow-pos}
 use lib.IntN.{ℤ, pos, negsuc}
-use lib.Ieee.{Float, nan, inf, fin, Format, binary64, up, down, odd, round, sum, add, sub, neg, lt, le, eq, ne, below, ofBits, isNan}
+use lib.Ieee.{Float, nan, inf, fin, Format, binary64, up, down, odd, round, sum, add, sub, neg, lt, le, eq, below, ofBits, isNan}
 use lib.Ieee as I
 use lib.Ieee.Fits.{down-pos, round-is, add-fits}
 use lib.Ieee.Nearest.{div-mono}
@@ -45,7 +28,7 @@ use Rattle.root.specs.laws.OneUnits.{same-units}
 use Rattle.plane.specs.declared.points.Point.{Point}
 use Rattle.plane.specs.points.Plane.{nearOf}
 use Rattle.vertices.specs.Add.{nearPt}
-use Rattle.vertices.specs.buckets.Buckets.{reach, farReach, coarse, lowOf, midOf, highOf, belowOf, keyOf, narrowOf}
+use Rattle.vertices.specs.buckets.Buckets.{reach, farReach, coarse, lowOf, midOf, highOf, narrowOf}
 
 -- ---- a difference that is rounded to at most the tolerance
 reach-is : round binary64 false 1 (2 ^ 49) ≡ reach
@@ -370,105 +353,11 @@ own-place (fin s m e) k = let a = m * up e * down e * 2 ^ 49 in let c = down e *
     le-add : (a c : ℕ) → a ≤ a + c
     le-add a c = omega arith
 
--- ---- the side of 0
--- a magnitude of at most 2^-49 stands at 0 on the grid
-zero-is : round binary64 false 0 1 ≡ B.zero
-unfolding round ofBits
-zero-is = refl
-
-far-is : round binary64 false 1 (2 ^ 48) ≡ farReach
-unfolding round ofBits
-far-is = refl
-
-zero-cross : (n c : ℕ) → 0 * c ≤ n * 1
-zero-cross n c = omega arith
-
-small-cross : (m p : ℕ) → m * 2 ^ 49 ≤ p → (m * 2 ^ 49 + 1 * 1 * p) * 2 ^ 48 ≤ 1 * (p * 2 ^ 49)
-small-cross m p h = omega arith
-
-zero-place : (s : Bool) (m : ℕ) (e : ℤ) → m * up e * 2 ^ 49 ≤ down e → midOf (fin s m e) ≡ coarse
-unfolding add sum ofBits le lt eq
-zero-place s m e h =
-    let num = m * up e * 2 ^ 49 + 1 * 1 * down e in
-    let den = down e * 2 ^ 49 in
-    let pos = mul-pos (down-pos e) (pow-pos 49) in
-    between B.zero (fin false m e ⊞ reach) farReach refl (up-reach m e) refl
-    (subst (λ (x : Float). T (le x (round binary64 false num den))) zero-is (round-mono binary64 0 1 num den (lit< tt) pos (zero-cross num den)))
-    (subst (λ (x : Float). T (le (round binary64 false num den) x)) far-is (round-mono binary64 num den 1 (2 ^ 48) pos (pow-pos 48) (small-cross (m * up e) (down e) h)))
-    refl refl
-
--- near floats have one sign, or both stand at 0
-apart : (s t : Bool) (a b c k : ℕ) → 0 < c → k ≡ c → le (cond (below t b s a) (sum binary64 s a (not t) b c) (sum binary64 t b (not s) a k)) tolerance ≡ true → (s ≡ t) ⊎ (a * 2 ^ 49 ≤ c)
-unfolding sum
-apart false false a b c k C e h = inl refl
-apart true true a b c k C e h = inl refl
-apart false true a b c k C e h =
-    inr (⊎-elim (λ l. let g = small (a + b) c C (rw (lt-ltb 0 (b + a) l) at h) in omega arith) (λ l. omega arith) (lt-or-ge 0 (b + a)))
-apart true false a b c k C e h = let g = small (b + a) c C (rw e at h) in inr (omega arith)
-
-one-sign : (s t : Bool) (m n : ℕ) (e d : ℤ) → nearOf (fin s m e) (fin t n d) ≡ true → (s ≡ t) ⊎ (midOf (fin s m e) ≡ coarse)
-unfolding nearOf lt sub add neg
-one-sign s t m n e d h =
-    ⊎-elim inl (λ l. inr (zero-place s m e (le-of-mul-le-mul-right (le-trans (le-of-eq (mul-right-comm (m * up e) (2 ^ 49) (down d))) l) (down-pos d))))
-    (apart s t (m * up e * down d) (n * up d * down e) (down e * down d) (down d * down e) (mul-pos (down-pos e) (down-pos d)) (mul-comm (down d) (down e)) h)
-
--- so they are on one side of it
-over-zero : (m : ℕ) (e : ℤ) → lt (fin false m e) B.zero ≡ false
-unfolding lt ofBits
-over-zero m e = le-ltb (m * up e * 1) (0 * 1 * down e) (least (m * up e) (down e))
-  where
-    least : (a c : ℕ) → 0 * 1 * c ≤ a * 1
-    least a c = omega arith
-
-under-zero : (m : ℕ) (e : ℤ) → 0 < m * up e → lt (fin true m e) B.zero ≡ true
-unfolding lt ofBits
-under-zero m e h = lt-ltb 0 (m * up e * 1 + 0 * 1 * down e) (more (m * up e) (down e) h)
-  where
-    more : (a c : ℕ) → 0 < a → 0 < a * 1 + 0 * 1 * c
-    more a c h = omega arith
-
-none-zero : (s : Bool) (m : ℕ) (e : ℤ) → m * up e ≤ 0 → midOf (fin s m e) ≡ coarse
-none-zero s m e h = zero-place s m e (none (m * up e) (down e) h)
-  where
-    none : (a c : ℕ) → a ≤ 0 → a * 2 ^ 49 ≤ c
-    none a c h = omega arith
-
-same-side : (s : Bool) (m n : ℕ) (e d : ℤ) → (lt (fin s m e) B.zero ≡ lt (fin s n d) B.zero) ⊎ ((midOf (fin s m e) ≡ coarse) ⊎ (midOf (fin s n d) ≡ coarse))
-same-side false m n e d = inl (over-zero m e ∙ sym (over-zero n d))
-same-side true m n e d =
-    ⊎-elim
-    (λ a. ⊎-elim (λ b. inl (under-zero m e a ∙ sym (under-zero n d b))) (λ b. inr (inr (none-zero true n d b))) (lt-or-ge 0 (n * up d)))
-    (λ a. inr (inl (none-zero true m e a)))
-    (lt-or-ge 0 (m * up e))
-
-at-zero : (b : Bool) (y : Float) → y ≡ coarse → (b && ne y coarse) ≡ false
-unfolding ne eq ofBits
-at-zero b y e = rw e (and-false b)
-
-near-below : (v x : Float) → midOf v ≡ midOf x → nearOf v x ≡ true → belowOf v ≡ belowOf x
-unfolding belowOf
-near-below nan x q h = absurd (nan-near x h)
-near-below (inf s) x q h = absurd (inf-near s x h)
-near-below (fin s m e) nan q h = absurd (near-nan s m e h)
-near-below (fin s m e) (inf t) q h = absurd (near-inf s m e t h)
-near-below (fin s m e) (fin t n d) q h = ⊎-elim (λ g. one (rw (← g) (same-side s m n e d))) zero-both (one-sign s t m n e d h)
-  where
-    zero-both : midOf (fin s m e) ≡ coarse → (lt (fin s m e) B.zero && ne (midOf (fin s m e)) coarse) ≡ (lt (fin t n d) B.zero && ne (midOf (fin t n d)) coarse)
-    zero-both z = at-zero (lt (fin s m e) B.zero) (midOf (fin s m e)) z ∙ sym (at-zero (lt (fin t n d) B.zero) (midOf (fin t n d)) (sym q ∙ z))
-
-    one : (lt (fin s m e) B.zero ≡ lt (fin t n d) B.zero) ⊎ ((midOf (fin s m e) ≡ coarse) ⊎ (midOf (fin t n d) ≡ coarse))
-        → (lt (fin s m e) B.zero && ne (midOf (fin s m e)) coarse) ≡ (lt (fin t n d) B.zero && ne (midOf (fin t n d)) coarse)
-    one = ⊎-elim (λ l. ap₂ (λ (b : Bool) (y : Float). b && ne y coarse) l q) (⊎-elim zero-both (λ z. zero-both (q ∙ z)))
-
-near-key : (v x : Float) → narrowOf x ≡ true → nearOf v x ≡ true → keyOf v ≡ keyOf x
-unfolding keyOf
-near-key v x k h = let q = near-place v x k h ∙ sym (own-place x k) in rw (near-below v x q h, q)
-
 -- so what is near p belongs where p does
-pub near-keys : (v p : Point) → narrowOf (p .x) ≡ true → narrowOf (p .y) ≡ true → nearPt v p ≡ true → (keyOf (v .x) ≡ keyOf (p .x)) × (keyOf (v .y) ≡ keyOf (p .y))
+pub near-places : (v p : Point) → narrowOf (p .x) ≡ true → narrowOf (p .y) ≡ true → nearPt v p ≡ true → (midOf (v .x) ≡ midOf (p .x)) × (midOf (v .y) ≡ midOf (p .y))
 unfolding nearPt
-near-keys v p a b q = go (nearOf (v .x) (p .x)) refl q
+near-places v p a b q = go (nearOf (v .x) (p .x)) refl q
   where
-    go : (n : Bool) → nearOf (v .x) (p .x) ≡ n → pick n (λ _. nearOf (v .y) (p .y)) (λ _. false) ≡ true → (keyOf (v .x) ≡ keyOf (p .x)) × (keyOf (v .y) ≡ keyOf (p .y))
-    go true e k = (near-key (v .x) (p .x) a e, near-key (v .y) (p .y) b k)
+    go : (n : Bool) → nearOf (v .x) (p .x) ≡ n → pick n (λ _. nearOf (v .y) (p .y)) (λ _. false) ≡ true → (midOf (v .x) ≡ midOf (p .x)) × (midOf (v .y) ≡ midOf (p .y))
+    go true e k = (near-place (v .x) (p .x) a e ∙ sym (own-place (p .x) a), near-place (v .y) (p .y) b k ∙ sym (own-place (p .y) b))
     go false e k = absurd (false≢true k)
