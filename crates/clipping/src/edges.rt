@@ -5,6 +5,7 @@ use plane::lines::Crossing;
 use plane::lines::intersect_line;
 use plane::points::Point;
 use plane::rays::order_points_on_ray;
+use plane::rays::project_ray;
 use vertices::add_at;
 use vertices::vertex;
 ghost use mathlib.Core.Path.{_≡_};
@@ -114,12 +115,25 @@ fn crossing_between(vertices: &[f64], count: usize, bounds: BoundingBox, p: u32,
     edge_crossing(bounds, from, to)
 }
 
+// The same by `project_ray`: with one caller `edge_crossing` is a part of the walk's code, and what asks for a crossing elsewhere has this.
+fn ray_crossing(bounds: BoundingBox, p: Point, q: Point) -> Crossing
+    ensures { λ r. ⌜ r ≡ Def.edgeCrossing bounds p q ⌝ }
+{
+    let d = Point {
+        x: q.x - p.x,
+        y: q.y - p.y,
+    };
+    on_edge(p, q, d, project_ray(bounds, p, d))
+}
+
 // Whether the edge from vertex p to vertex q does not cross the box.
 pub fn misses(vertices: &[f64], count: usize, bounds: BoundingBox, p: u32, q: u32) -> bool
     requires { ⌜ (2 * count ≤ length (now vertices)) × (p < count) × (q < count) ⌝ }
     ensures { λ r. ⌜ Says r (Def.edgeCrossing bounds (Def.vertexAt (points count (now (vertices .entry))) p) (Def.vertexAt (points count (now (vertices .entry))) q) ≡ Crossing.None) ⌝ }
 {
-    let c = crossing_between(vertices, count, bounds, p, q);
+    let from = vertex(vertices, count, p as usize);
+    let to = vertex(vertices, count, q as usize);
+    let c = ray_crossing(bounds, from, to);
     match c {
         Crossing::None => true,
         Crossing::One(_, _) => false,

@@ -9,12 +9,12 @@ use lib.ListN.{length, take}
 use lib.Seq.{take-all, length-take-le}
 use Rattle.base.specs.common.laws.Decide.{lt-or-ge}
 use Rattle.form.specs.Limits.{enoughBytes}
-use Rattle.form.specs.Form.{OutlinedTopology}
+use Rattle.form.specs.Form.{Outline}
 use Rattle.form.specs.Length.{form-short}
 use Rattle.form.specs.laws.Longer.{place-longer, number-longer}
 use Rattle.mend.specs.Printed.{MendPrints, sound, broken}
 
-module _ (form : Bool) (o : OutlinedTopology) where
+module _ (form : Bool) (o : Outline) where
   pub enough : (s text : List ℕ) → MendPrints form o (take enoughBytes s) text → MendPrints form o s text
   enough s text p =
       ⊎-elim

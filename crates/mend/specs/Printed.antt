@@ -21,7 +21,7 @@ use Rattle.mesh.specs.Accepted.{Counted, siteCount}
 use Rattle.mending.specs.pairs.Pairs.{pairsOf}
 use Rattle.mending.specs.changes.Changes.{Difference}
 use Rattle.mending.specs.Mending.{workRules, newHull, pairChanges, hullChanges}
-use Rattle.form.specs.Form.{OutlinedTopology, FormMesh, MeshFits, MayBegin, formOf, outlineBytes, siteFloats, triangleSites, trianglePairs}
+use Rattle.form.specs.Form.{Outline, FormMesh, MeshFits, MayBegin, formOf, outlineBytes, siteFloats, triangleSites, trianglePairs}
 use Rattle.form.specs.Place.{Place, NumberAt}
 use Rattle.mend.specs.writer.FormOf.{meshWith}
 use Rattle.mend.specs.boxes.Option.{isBox, gives, keepsBox, inPlace, firstAfter}
@@ -68,20 +68,20 @@ changesText first ps hs =
 -- ---- the number
 
 -- 1; 3 of a box that is put in; 6, 7, 19, 9 and 10. There is room for every form
-abbrev pub putRules : OutlinedTopology → List Float → List ℕ → List ℕ → List ℕ → List (Rule ℕ)
+abbrev pub putRules : Outline → List Float → List ℕ → List ℕ → List ℕ → List (Rule ℕ)
 putRules put sites tri he hull =
     once refusedCount (Counted (length sites) (length tri) (length he) (length hull))
     ∷ once refusedBox (keepsBox put ≡ true)
     ∷ reads numberOf (coordinateRules sites ++ every Triangle (length tri / 3) (SoundAt tri (siteCount sites)) ∷ []) ++ workRules tri (siteCount sites)
 
 -- that of the first rule that is broken
-abbrev pub MendNumber : OutlinedTopology → List Float → List ℕ → List ℕ → List ℕ → ℕ → Type 0
+abbrev pub MendNumber : Outline → List Float → List ℕ → List ℕ → List ℕ → ℕ → Type 0
 MendNumber put sites tri he hull r = Finds (putRules put sites tri he hull) 0 r
 
 -- ---- of a mesh
 
 -- o is the option's box, `unclipped` where none is given
-module _ (o : OutlinedTopology) (m : FormMesh) where
+module _ (o : Outline) (m : FormMesh) where
   abbrev pub triOf : List ℕ
   triOf = each triangleSites (m .triangles)
 
@@ -92,7 +92,7 @@ module _ (o : OutlinedTopology) (m : FormMesh) where
   count = siteCount (each siteFloats (m .sites))
 
   -- the box that is put in
-  abbrev pub putIn : OutlinedTopology
+  abbrev pub putIn : Outline
   putIn = inPlace o (m .clip)
 
   -- the same sites and triangles, and the same first record or the option's in its place
@@ -113,6 +113,6 @@ module _ (o : OutlinedTopology) (m : FormMesh) where
     mended : NumberOf 0 → PrintsMesh form (textOf form)
 
 -- whether a form is asked for, and the option's box: with it a form of old is read
-pub data MendPrints (form : Bool) (o : OutlinedTopology) (s : List ℕ) : List ℕ → Type 0 where
+pub data MendPrints (form : Bool) (o : Outline) (s : List ℕ) : List ℕ → Type 0 where
   sound : {text : List ℕ} (m : FormMesh) → MeshFits m → MayBegin (gives o) (m .clip) → s ≡ formOf m → PrintsMesh o m form text → MendPrints form o s text
   broken : {k n : ℕ} → Place (gives o) s k → NumberAt (gives o) s k n → MendPrints form o s (refusal n)

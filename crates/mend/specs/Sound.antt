@@ -21,7 +21,7 @@ use Rattle.mesh_check.specs.whole.AtExit.{atExit}
 use Rattle.mending.specs.slices.Lent.{Lent, lent, filled}
 use Rattle.mending.specs.Mending.{mendRoomOf, newHull, pairChanges, hullChanges, whenMade, Mends}
 use Rattle.mending.specs.MendTheorem.{mended-accepted}
-use Rattle.form.specs.Form.{OutlinedTopology, box, unclipped, edges, FormMesh, MeshFits, OutlineFits, HullFits, MayBegin, IsForm, siteFloats, triangleSites}
+use Rattle.form.specs.Form.{Outline, box, unclipped, edges, FormMesh, MeshFits, OutlineFits, HullFits, MayBegin, IsForm, siteFloats, triangleSites}
 use Rattle.form.specs.laws.Lists.{each-length}
 use Rattle.mend.specs.writer.laws.Records.{triangles-count, triangles-fit}
 use Rattle.mend.specs.boxes.Option.{IsOption, outlineOf, gives, inPlace, firstAfter}
@@ -48,7 +48,7 @@ module _ (sites : List Float) (tri he hull : List ℕ) where
         for-changes = omega (arith, length-replicate {A = ℕ} (3 * (length tri + n)) 0);
       }
 
-  number-accepted : (put : OutlinedTopology) → MendNumber put sites tri he hull 0 → Accepted (mesh sites tri (pairsOf tri) (newHull tri hull n))
+  number-accepted : (put : Outline) → MendNumber put sites tri he hull 0 → Accepted (mesh sites tri (pairsOf tri) (newHull tri hull n))
   number-accepted put z =
       let all = flatChanges (pairChanges tri he ++ hullChanges tri hull n) in
       let after = lent (atExit EMPTY (leftmostIn tri (pairsOf tri) n (length (before .work))) (before .work) 0)
@@ -73,13 +73,13 @@ all-fit (x ∷ l) h = (h 0 (omega arith), all-fit l (λ k q. h (suc k) (omega ar
 
 -- the first record of the mended form
 module _ (option : List ℕ) (i : IsOption option) where
-  begins : (c : OutlinedTopology) → MayBegin (gives (outlineOf option)) c → OutlineFits c → MayBegin false (firstAfter (outlineOf option) c) × OutlineFits (firstAfter (outlineOf option) c)
+  begins : (c : Outline) → MayBegin (gives (outlineOf option)) c → OutlineFits c → MayBegin false (firstAfter (outlineOf option) c) × OutlineFits (firstAfter (outlineOf option) c)
   begins (box x y w h) b f = (tt, f)
   begins unclipped b f = ⊎-elim (λ e. absurd (none-gives (rw e at b))) (λ r. (holds option r .begins, holds option r .fits)) i
   begins (edges x y u v) b f = (tt, f)
 
   module _ (m : FormMesh) (b : MayBegin (gives (outlineOf option)) (m .clip)) where
-    abbrev o : OutlinedTopology
+    abbrev o : Outline
     o = outlineOf option
 
     abbrev sites : List Float

@@ -2,11 +2,11 @@
 use base::numbers::EMPTY;
 use base::numbers::wide;
 ghost use mathlib.Core.Path.{_≡_};
-ghost use Prim.Native.Nat.{ℕ, _%_, _<_, _≤_};
-ghost use lib.ListN.{length, getD, replicate};
+ghost use Prim.Native.Nat.{_%_, _<_, _≤_};
+ghost use lib.ListN.{length, replicate};
 ghost use Rattle.base.specs.numbers.Numbers.{EMPTY};
 ghost use Rattle.mesh.specs.Hull.{nextPlace};
-ghost use Rattle.mesh.specs.Mesh.{nextOf, endOf, chosen, tableTo, turnOf, wholeOf, Walks};
+ghost use Rattle.mesh.specs.Mesh.{nextOf, endOf, turnOf, wholeOf, Walks};
 
 // What a check finds wrong with a mesh, and the lowest site, triangle, half-edge or hull place that has the fault.
 pub enum MeshFault {

@@ -12,7 +12,7 @@ use Rattle.plane.specs.points.Plane.{at}
 use Rattle.plane.specs.given.Given.{bySize, byEdges}
 use Rattle.octets.specs.Bytes.{Bytes, word}
 use Rattle.octets.specs.hex.Hex.{allHex, byteOf, unhex}
-use Rattle.form.specs.Form.{OutlinedTopology, box, unclipped, edges, float}
+use Rattle.form.specs.Form.{Outline, box, unclipped, edges, float}
 
 -- ---- its digits
 
@@ -44,7 +44,7 @@ abbrev pub wordAt : List ℕ → ℕ → ℕ
 wordAt s i = word (take 8 (drop i s))
 
 -- the box of a record; none where there is none
-unfoldable pub outlineOf : List ℕ → OutlinedTopology
+unfoldable pub outlineOf : List ℕ → Outline
 outlineOf [] = unclipped
 outlineOf (kind ∷ body) =
     pick (eqb kind 7)
@@ -52,14 +52,14 @@ outlineOf (kind ∷ body) =
     (λ _. box (wordAt body 0) (wordAt body 8) (wordAt body 16) (wordAt body 24))
 
 -- whether a box is given
-abbrev pub gives : OutlinedTopology → Bool
+abbrev pub gives : Outline → Bool
 gives unclipped = false
 gives (box x y width height) = true
 gives (edges left top right bottom) = true
 
 -- ---- rule 3
 
-abbrev pub keepsBox : OutlinedTopology → Bool
+abbrev pub keepsBox : Outline → Bool
 keepsBox unclipped = true
 keepsBox (box x y width height) = bySize (at (float x) (float y)) (float width) (float height) .sound
 keepsBox (edges left top right bottom) = byEdges (float left) (float top) (float right) (float bottom) .sound
@@ -74,13 +74,13 @@ numberWith first number =
 -- ---- where it goes
 
 -- the box that is put in, by the option's and the form's; none where the form has one
-abbrev pub inPlace : OutlinedTopology → OutlinedTopology → OutlinedTopology
+abbrev pub inPlace : Outline → Outline → Outline
 inPlace o unclipped = o
 inPlace o (box x y width height) = unclipped
 inPlace o (edges left top right bottom) = unclipped
 
 -- the first record after that
-abbrev pub firstAfter : OutlinedTopology → OutlinedTopology → OutlinedTopology
+abbrev pub firstAfter : Outline → Outline → Outline
 firstAfter o unclipped = o
 firstAfter o (box x y width height) = box x y width height
 firstAfter o (edges left top right bottom) = edges left top right bottom

@@ -11,7 +11,7 @@ use lib.Seq.{take-at, take-length}
 use Rattle.base.specs.common.Pick.{pick}
 use Rattle.octets.specs.Bytes.{each}
 use Rattle.form.specs.Limits.{mostSites}
-use Rattle.form.specs.Form.{OutlinedTopology, box, unclipped, edges, FormMesh, MayBegin, formOf, outlineBytes, siteBytes, triangleBytes, hullBytes, kindOf, siteFloats}
+use Rattle.form.specs.Form.{Outline, box, unclipped, edges, FormMesh, MayBegin, formOf, outlineBytes, siteBytes, triangleBytes, hullBytes, kindOf, siteFloats}
 use Rattle.form.specs.laws.Lists.{each-length}
 use Rattle.mend.specs.writer.Written.{lists, writtenForm}
 use Rattle.mend.specs.writer.FormOf.{writes-form}
@@ -25,7 +25,7 @@ use Rattle.mend.specs.box_line.laws.BoxLine.{box-none}
 use Rattle.mend.specs.Printed.{changesText, triOf, heOf, count, textOf}
 use Rattle.mend.specs.Steps.{firstLength, headRoom, listsText, putBytes, keptBytes}
 
-clip-length : (c : OutlinedTopology) → length (outlineBytes c) ≡ firstLength (kindOf c)
+clip-length : (c : Outline) → length (outlineBytes c) ≡ firstLength (kindOf c)
 clip-length (box x y w h) = refl
 clip-length unclipped = refl
 clip-length (edges x y u v) = refl
@@ -53,7 +53,7 @@ module _ (m : FormMesh) where
       ))
 
 -- a form begins with the kind of its first record
-first-kind : (c : OutlinedTopology) (t : List ℕ) → getD (outlineBytes c ++ t) 0 0 ≡ kindOf c
+first-kind : (c : Outline) (t : List ℕ) → getD (outlineBytes c ++ t) 0 0 ≡ kindOf c
 first-kind (box x y w h) t = refl
 first-kind unclipped t = refl
 first-kind (edges x y u v) t = refl
@@ -72,7 +72,7 @@ module _ (option : List ℕ) where
   unfolding putLength
   all-put = take-length option
 
-  pub put-is : (c : OutlinedTopology) → outlineOf (putBytes option (kindOf c)) ≡ inPlace (outlineOf option) c
+  pub put-is : (c : Outline) → outlineOf (putBytes option (kindOf c)) ≡ inPlace (outlineOf option) c
   unfolding putLength outlineOf
   put-is (box x y w h) = refl
   put-is unclipped = ap outlineOf all-put
@@ -128,21 +128,21 @@ module _ (m : FormMesh) where
   kept-old : m .clip ≡ unclipped → keptBytes (formOf m) 6 N ≡ each siteBytes (m .sites)
   unfolding keptFrom
   kept-old e =
-      let s = split m ∙ ap (λ (c : OutlinedTopology). outlineBytes c ++ (each siteBytes (m .sites) ++ rest m)) e in
+      let s = split m ∙ ap (λ (c : Outline). outlineBytes c ++ (each siteBytes (m .sites) ++ rest m)) e in
       rw s (take-at (each siteBytes (m .sites)) (rest m) (1 + 17 * N - 1) (omega (arith, sites-length m)))
 
   -- with a box: the first record too
-  kept-box : (c : OutlinedTopology) → m .clip ≡ c → length (outlineBytes c) ≡ 33 → (n : ℕ) → n ≡ 33 + 17 * N → take n (formOf m) ≡ outlineBytes c ++ each siteBytes (m .sites)
+  kept-box : (c : Outline) → m .clip ≡ c → length (outlineBytes c) ≡ 33 → (n : ℕ) → n ≡ 33 + 17 * N → take n (formOf m) ≡ outlineBytes c ++ each siteBytes (m .sites)
   kept-box c e l n q =
-      let s = split m ∙ ap (λ (d : OutlinedTopology). outlineBytes d ++ (each siteBytes (m .sites) ++ rest m)) e in
+      let s = split m ∙ ap (λ (d : Outline). outlineBytes d ++ (each siteBytes (m .sites) ++ rest m)) e in
       ap (take n) (s ∙ sym (append-assoc (outlineBytes c) (each siteBytes (m .sites)) (rest m)))
       ∙ take-at (outlineBytes c ++ each siteBytes (m .sites)) (rest m) n (omega (arith, length-append (outlineBytes c) (each siteBytes (m .sites)), sites-length m))
 
 module _ (option : List ℕ) (i : IsOption option) (m : FormMesh) where
-  abbrev o : OutlinedTopology
+  abbrev o : Outline
   o = outlineOf option
 
-  heads : (c : OutlinedTopology) → m .clip ≡ c → MayBegin (gives o) c
+  heads : (c : Outline) → m .clip ≡ c → MayBegin (gives o) c
       → putBytes option (kindOf c) ++ keptBytes (formOf m) (kindOf c) (length (m .sites)) ≡ outlineBytes (firstAfter o c) ++ each siteBytes (m .sites)
   unfolding putLength keptFrom
   heads (box x y w h) e b = kept-box m (box x y w h) e refl (33 + 17 * length (m .sites) - 0) (omega arith)
@@ -150,7 +150,7 @@ module _ (option : List ℕ) (i : IsOption option) (m : FormMesh) where
       ap₂ (λ (x y : List ℕ). x ++ y) (all-put option) (kept-old m e) ∙ ap (λ (x : List ℕ). x ++ each siteBytes (m .sites)) (sym (back option i b))
   heads (edges x y u v) e b = kept-box m (edges x y u v) e refl (33 + 17 * length (m .sites) - 0) (omega arith)
 
-  line-same : (c : OutlinedTopology) → MayBegin (gives o) c → boxLine (putBytes option (kindOf c)) ≡ boxLine (outlineBytes (inPlace o c))
+  line-same : (c : Outline) → MayBegin (gives o) c → boxLine (putBytes option (kindOf c)) ≡ boxLine (outlineBytes (inPlace o c))
   unfolding putLength
   line-same (box x y w h) b = box-none [] (λ z. omega arith) ∙ sym (box-none (6 ∷ []) (λ z. omega arith))
   line-same unclipped b = ap boxLine (all-put option ∙ sym (back option i b))

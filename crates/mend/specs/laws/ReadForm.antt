@@ -9,7 +9,7 @@ use lib.Ieee.{Float}
 use lib.ListN.{length, take}
 use Rattle.octets.specs.Bytes.{each}
 use Rattle.printing.specs.parts.Labelled.{refusal}
-use Rattle.form.specs.Form.{OutlinedTopology, FormMesh, MayBegin, formOf, kindOf, siteFloats}
+use Rattle.form.specs.Form.{Outline, FormMesh, MayBegin, formOf, kindOf, siteFloats}
 use Rattle.form.specs.Place.{Place, NumberAt}
 use Rattle.form.specs.mesh.Read.{MeshRead}
 use Rattle.form.specs.declared.mesh.MeshParts.{MeshParts}
@@ -23,7 +23,7 @@ use Rattle.mend.specs.laws.Heads.{headed, put-is, text-same}
 -- ---- by lists and by mesh
 
 module _ (option : List ℕ) (i : IsOption option) (m : FormMesh) (b : MayBegin (gives (outlineOf option)) (m .clip)) where
-  abbrev o : OutlinedTopology
+  abbrev o : Outline
   o = outlineOf option
 
   abbrev pub ByLists : Bool → List ℕ → Type 0
@@ -31,7 +31,7 @@ module _ (option : List ℕ) (i : IsOption option) (m : FormMesh) (b : MayBegin 
       OfLists form (putBytes option (kindOf (m .clip))) (keptBytes (formOf m) (kindOf (m .clip)) (length (m .sites))) (each siteFloats (m .sites))
       (printed.triOf o m) (printed.heOf o m) (m .hull)
 
-  abbrev NumberBy : ℕ → OutlinedTopology → Type 0
+  abbrev NumberBy : ℕ → Outline → Type 0
   NumberBy r p = MendNumber p (each siteFloats (m .sites)) (printed.triOf o m) (printed.heOf o m) (m .hull) r
 
   to-mesh : (form : Bool) {text : List ℕ} → ByLists form text → PrintsMesh o m form text

@@ -14,7 +14,7 @@ use Rattle.mesh.specs.Mesh.{SoundAt}
 use Rattle.mesh.specs.Faults.{numberOf, coordinateRules}
 use Rattle.mesh.specs.Accepted.{Counted, mesh, siteCount}
 use Rattle.mending.specs.Mending.{workRules, mendRules}
-use Rattle.form.specs.Form.{OutlinedTopology}
+use Rattle.form.specs.Form.{Outline}
 use Rattle.mend.specs.boxes.Option.{IsRecord, IsOption, outlineOf, keepsBox, numberWith}
 use Rattle.mend.specs.boxes.laws.Option.{number-none, number-kept, number-first, number-box}
 use Rattle.mend.specs.Printed.{putRules}
@@ -83,6 +83,6 @@ module _ (sites : List Float) (tri he hull : List ℕ) where
       none e = rw e (kept [] Q q r none-keeps (number-none [] r (λ z. omega arith)) (x .judged))
 
   -- what is not refused with a box put in is not refused without
-  pub without-box : (put : OutlinedTopology) (S : Type 0) → S → Finds (putRules put sites tri he hull) 0 0 → Finds (mendRules (mesh sites tri he hull) S) 0 0
+  pub without-box : (put : Outline) (S : Type 0) → S → Finds (putRules put sites tri he hull) 0 0 → Finds (mendRules (mesh sites tri he hull) S) 0 0
   without-box put S s x =
       record { judged = judged-through rest refusedCount refusedBox refusedRoom Counts (keepsBox put ≡ true) S (λ e. omega arith) (λ e. omega arith) s (x .judged) }

@@ -9,7 +9,7 @@ use lib.Ieee.{Float}
 use lib.ListN.{length, length-append}
 use lib.Seq.{sets}
 use Rattle.octets.specs.Bytes.{each}
-use Rattle.form.specs.Form.{OutlinedTopology, Site, FormMesh, MeshFits, MayBegin, formOf, outlineBytes, siteBytes, triangleBytes, hullBytes, outlineFloats, siteFloats, triangleSites, trianglePairs, kindOf}
+use Rattle.form.specs.Form.{Outline, Site, FormMesh, MeshFits, MayBegin, formOf, outlineBytes, siteBytes, triangleBytes, hullBytes, outlineFloats, siteFloats, triangleSites, trianglePairs, kindOf}
 use Rattle.form.specs.step.Reader.{start, reading, takes}
 use Rattle.form.specs.step.Holds.{Reads}
 use Rattle.form.specs.declared.step.Form.{Form}
@@ -20,11 +20,11 @@ use Rattle.mend.specs.writer.Written.{trianglesOf, triangleRecords, list
 use Rattle.mend.specs.writer.laws.Records.{numbers-from, triangles-count}
 
 -- the mesh of a first record, sites and the three lists
-abbrev pub meshWith : OutlinedTopology → List Site → List ℕ → List ℕ → List ℕ → FormMesh
+abbrev pub meshWith : Outline → List Site → List ℕ → List ℕ → List ℕ → FormMesh
 meshWith clip ss tri he hull = record { clip = clip; sites = ss; triangles = trianglesOf tri he; hull = hull }
 
 -- what a reader of bytes answers and leaves in lists that were bs to hs, where it finds this first record, these sites and these lists
-pub record ReadAs (clip : OutlinedTopology) (ps : List Site) (tri he round : List ℕ) (bs ss : List Float) (ts es hs : List ℕ) (a : Form)
+pub record ReadAs (clip : Outline) (ps : List Site) (tri he round : List ℕ) (bs ss : List Float) (ts es hs : List ℕ) (a : Form)
     (bs′ ss′ : List Float) (ts′ es′ hs′ : List ℕ) : Type 0 where
   pub answer : a ≡ Sound (length ps) (length tri / 3) (length round) (kindOf clip)
   pub bounds : bs′ ≡ sets bs 0 (outlineFloats clip)
@@ -51,7 +51,7 @@ length-written first sites tri he hull =
       each-length hullBytes 5 (λ _. refl) hull,
     )
 
-module _ (clip : OutlinedTopology) (ps : List Site) (tri he hull : List ℕ) where
+module _ (clip : Outline) (ps : List Site) (tri he hull : List ℕ) where
   abbrev mesh : FormMesh
   mesh = meshWith clip ps tri he hull
 

@@ -3,7 +3,6 @@ use mathlib.Core.Path.{_≡_, refl, sym, _∙_, subst}
 use mathlib.Core.List.{List, _++_}
 use mathlib.Core.Logic.{⊎-elim, _≢_, _⊎_, inl, inr}
 use Prim.Native.Nat.{ℕ, zero, suc, _+_, _-_, _≤_, _<_}
-use native.Mathlib.Numerals.{add-one}
 use native.Mathlib.Omega.{arith}
 use lib.ListN.{length, getD, set, length-set, replicate, length-replicate, getD-replicate, replicate-append-replicate, List·getD-append}
 use native.Mathlib.Nat.{le-antisymm}
@@ -12,12 +11,6 @@ use borrow.Author.Tests.{eq-eqb, ne-eqb}
 use Rattle.base.specs.common.laws.Decide.{lt-or-ge, eq-or-ne}
 use Rattle.base.specs.numbers.Numbers.{EMPTY}
 use Rattle.mesh.specs.Mesh.{endOf, pairOf, chosen, tableTo, leftmostOf, leftmostIn, Leftmost}
-
--- a turn of the loop that fills the table
-pub table-step : (tri he work : List ℕ) (w e s s′ v : ℕ) → work ≡ tableTo tri he w e → s ≡ s′ → s′ ≡ endOf tri e
-    → v ≡ chosen (getD work s 0) (pairOf he e) e → set work s v ≡ tableTo tri he w (e + 1)
-unfolding tableTo
-table-step tri he work w e s s′ v p q r h = rw add-one (cc)
 
 module _ (tri he : List ℕ) (n s r : ℕ) (small : n < EMPTY) (g : Leftmost tri he n s r) where
   -- half-edge n ends elsewhere

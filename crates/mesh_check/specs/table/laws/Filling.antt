@@ -3,13 +3,12 @@ use mathlib.Core.Path.{_≡_, refl, sym, _∙_}
 use mathlib.Core.List.{List}
 use mathlib.Core.Logic.{⊎-elim, _≢_}
 use Prim.Native.Nat.{ℕ, _+_, _%_, _<_}
-use native.Mathlib.Nat.{le-antisymm}
 use native.Mathlib.Omega.{arith}
 use lib.ListN.{length, getD, set, replicate, length-set, length-replicate, getD-replicate}
 use lib.Seq.{getD-set-same, getD-set-other, ext-getD}
 use Rattle.base.specs.common.laws.Decide.{eq-or-ne}
 use Rattle.base.specs.numbers.Numbers.{EMPTY}
-use Rattle.mesh.specs.Mesh.{nextOf, endOf, pairOf, tableTo, Leftmost}
+use Rattle.mesh.specs.Mesh.{nextOf, endOf, pairOf, tableTo}
 use Rattle.mesh.specs.laws.Next.{next-lt}
 use Rattle.mesh.specs.laws.Table.{table-length, table-leftmost, leftmost-one}
 use Rattle.mesh_check.specs.table.Filled.{LowestFrom, LowestsFrom, LeftTo, LeftsTo}
