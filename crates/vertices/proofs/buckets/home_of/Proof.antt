@@ -1,6 +1,6 @@
 -- `vertices::buckets::home_of` meets its contract: where p is narrow its place is the lowest one (`own-place`).
 use mathlib.Core.Path.{_≡_, sym, ap₂, _∙_}
-use mathlib.Core.Bool.{true, _&&_}
+use mathlib.Core.Bool.{_&&_}
 use Rattle.base.specs.common.laws.And.{and-left, and-right}
 use Rattle.vertices.specs.buckets.Buckets.{narrowOf}
 use Rattle.vertices.specs.buckets.laws.Keys.{own-place}
