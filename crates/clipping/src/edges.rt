@@ -126,14 +126,21 @@ fn ray_crossing(bounds: BoundingBox, p: Point, q: Point) -> Crossing
     on_edge(p, q, d, project_ray(bounds, p, d))
 }
 
+fn ray_between(vertices: &[f64], count: usize, bounds: BoundingBox, p: u32, q: u32) -> Crossing
+    requires { ⌜ (2 * count ≤ length (now vertices)) × (p < count) × (q < count) ⌝ }
+    ensures { λ r. ⌜ r ≡ Def.edgeCrossing bounds (Def.vertexAt (points count (now (vertices .entry))) p) (Def.vertexAt (points count (now (vertices .entry))) q) ⌝ }
+{
+    let start = vertex(vertices, count, p as usize);
+    let end = vertex(vertices, count, q as usize);
+    ray_crossing(bounds, start, end)
+}
+
 // Whether the edge from vertex p to vertex q does not cross the box.
 pub fn misses(vertices: &[f64], count: usize, bounds: BoundingBox, p: u32, q: u32) -> bool
     requires { ⌜ (2 * count ≤ length (now vertices)) × (p < count) × (q < count) ⌝ }
     ensures { λ r. ⌜ Says r (Def.edgeCrossing bounds (Def.vertexAt (points count (now (vertices .entry))) p) (Def.vertexAt (points count (now (vertices .entry))) q) ≡ Crossing.None) ⌝ }
 {
-    let from = vertex(vertices, count, p as usize);
-    let to = vertex(vertices, count, q as usize);
-    let c = ray_crossing(bounds, from, to);
+    let c = ray_between(vertices, count, bounds, p, q);
     match c {
         Crossing::None => true,
         Crossing::One(_, _) => false,
