@@ -1,7 +1,7 @@
 -- What the tries at all hull places leave behind: the cells of other sites stay, and a hull site whose cell is empty is idle, as its own try put nothing and no later one is its own.
 use mathlib.Core.Path.{_≡_, refl, sym, _∙_}
 use mathlib.Core.Bool.{Bool, true, false}
-use mathlib.Core.List.{[]}
+use mathlib.Core.List.{List, []}
 use mathlib.Core.Logic.{inl, inr, _≢_, ⊎-elim}
 use Prim.Native.Nat.{ℕ, zero, suc, _+_, _/_, _≤_, _<_}
 use Prim.{tt}
