@@ -13,7 +13,7 @@
  * frames along the deepest chain of calls (x86-64); the audit's as measured
  * too, on four sites as on 65,536. Nothing recurses with the mesh.
  *
- * Cost, for N sites, T triangles and H hull sites: every call on a mesh checks the whole mesh first, N + T steps (some 5 ms at 65,536
+ * Cost, for N sites, T triangles and H hull sites: every call on a mesh checks the whole mesh first, N + T steps (some 2 ms at 65,536
  * sites), so ask for many things at once rather than often. On top of that, at worst:
  *
  *   roots, points, the box   a fixed number of steps; the centroid one for each point
@@ -32,7 +32,7 @@
  *   areas                    the offsets and the entries, some tenth of a microsecond to one for each entry; no mesh, so no check
  *   audit                    the offsets, some microseconds for each entry, the entries times the sites that each piece is held against, and for sites
  *                            at one place usually N times N / 1,024 look-ups, at worst N times N / 2; no mesh, so no check
- *   certify                  the offsets, some tenths of a microsecond for each entry and some two microseconds for each site. At worst the entries
+ *   certify                  the offsets, some tenths of a microsecond for each entry and one to two microseconds for each site. At worst the entries
  *                            times the sites, where sites stand on a circle, and the square of the entries or of the sites, where all sides or all
  *                            sites fall into one slot of the search; no mesh, so no check
  *   mend                     N + T, the check of what was mended included; a site of any degree
@@ -41,7 +41,7 @@
  *   grid_nearest             N + T + H, the check of the mesh included
  *   grid_sites               the coordinates; no mesh, so no check
  *   flip                     T, to see whether the opposite sites are joined; the change itself the half-edges that end at two sites
- *   build                    usually N + T (0.1 to 0.9 microseconds a site), sites on a circle, in a strip or about a hub too. At worst the square
+ *   build                    usually N + T (0.1 to 0.4 microseconds a site), sites on a circle, in a strip or about a hub too. At worst the square
  *                            of N: where added points fall into one slot of the search for near ones, or between two, and where a hull site
  *                            without a cell, which is tried from each of its half-edges, has very many. docs/work/SPEED.md has the times.
  *   why                      as build; where the mesh is refused by 6 to 10 the check is made twice; for a pair the first site's neighbours, and the

@@ -6,9 +6,9 @@ use Prim.Native.Nat.{ℕ}
 use lib.Ieee.{Float}
 use lib.ListN.{length}
 use Rattle.base.specs.common.Refusals.{Rule, once, reads, Keep, Finds}
-use Rattle.mesh.specs.Faults.{numberOf, startRules, coordinateRules}
+use Rattle.mesh.specs.Faults.{numberOf, startRules, coordinateRules, shapeRules, hullRules}
 use Rattle.mesh.specs.Rules.{callRules}
-use Rattle.mesh.specs.Accepted.{Mesh, Accepted}
+use Rattle.mesh.specs.Accepted.{Mesh, Accepted, siteCount}
 
 -- what the call's own arguments gave: a number, 0 where they are sound
 abbrev pub askedRules : ℕ → List (Rule ℕ)
@@ -21,6 +21,14 @@ earlyRules sites entries halfedges hull roomy asked =
 
 pub record Early (sites : List Float) (entries halfedges hull : ℕ) (roomy : Bool) (asked r : ℕ) : Type 0 where
   pub found : Finds (earlyRules sites entries halfedges hull roomy asked) 0 r
+
+-- 7 to 9
+abbrev pub lateOutline : Mesh → List (Rule ℕ)
+lateOutline m = reads numberOf (shapeRules (m .triangles) (m .halfedges) (siteCount (m .sites)) ++ hullRules (m .triangles) (m .halfedges) (m .hull) (siteCount (m .sites)))
+
+-- up to rule 9
+pub record Outlines (m : Mesh) (roomy : Bool) (asked r : ℕ) : Type 0 where
+  pub found : Finds (earlyRules (m .sites) (length (m .triangles)) (length (m .halfedges)) (length (m .hull)) roomy asked ++ lateOutline m) 0 r
 
 -- up to rule 10, `own` being what the call asks of its own arguments
 pub record Admits (m : Mesh) (roomy : Bool) (own : List (Rule ℕ)) (r : ℕ) : Type 0 where

@@ -5,3 +5,5 @@ pub mod Lists
 pub mod LeftmostTable
 pub mod BuildRoom
 pub mod BuildAdmission
+pub mod Outlined
+pub mod Fans

@@ -2,7 +2,8 @@
 pub mod counts;
 
 use crate::counts::finish_build;
-use admission::admit_build;
+use admission::admit_fans;
+use admission::admit_outline;
 use cell_builder::build_cells;
 use plane::given::Given;
 ghost use Rattle.mesh.specs.Accepted.{mesh};
@@ -10,7 +11,7 @@ ghost use Rattle.admission.specs.Slices.{slices};
 ghost use Rattle.plane.specs.given.Finite.{Fits};
 ghost use Rattle.building.specs.answers.Promise.{Build};
 
-// The build in the given box.
+// The build in the given box. Rule 10 is tried after the cells are made, and only where making them has not shown that it holds.
 pub fn build(
     given: Given,
     sites: &[f64],
@@ -29,7 +30,7 @@ pub fn build(
         (slices (now (work .exit)) (now (vertices .exit)) (now (indexes .exit)) (now (offsets .exit)) (now (counts .exit))) r ⌝ }
 {
     let asked = arguments::asking::ask_box(given.sound);
-    let r = admit_build(
+    let r = admit_outline(
         sites,
         triangles,
         halfedges,
@@ -45,7 +46,7 @@ pub fn build(
         return r;
     }
     let count = sites.len() / 2;
-    let a = build_cells(
+    let told = build_cells(
         sites,
         triangles,
         halfedges,
@@ -56,6 +57,21 @@ pub fn build(
         indexes,
         offsets,
     );
+    let k = admit_fans(
+        told.whole,
+        triangles,
+        halfedges,
+        count,
+        work,
+        vertices,
+        indexes,
+        offsets,
+        counts,
+    );
+    if k != 0 {
+        return k;
+    }
+    let a = told.answer;
     let fault = a.fault;
     finish_build(a, work, counts);
     fault.number

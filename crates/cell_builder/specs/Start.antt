@@ -1,5 +1,6 @@
 -- What the cells begin with, and what all of them come to, by the definition's outcome.
 use mathlib.Core.Path.{_≡_}
+use mathlib.Core.Bool.{true}
 use mathlib.Core.List.{List, [], _++_}
 use Prim.Native.Nat.{ℕ, _+_, _-_, _*_, _/_, _^_, _≤_, _<_}
 use lib.Ieee.{Float}
@@ -8,19 +9,21 @@ use Rattle.plane.specs.points.Flat.{points}
 use Rattle.plane.specs.boxes.Box.{cornersOf}
 use Rattle.plane.specs.declared.boxes.BoundingBox.{BoundingBox}
 use Rattle.vertices.specs.Store.{Holds}
+use Rattle.mesh.specs.Mesh.{Fan}
 use Rattle.mesh.specs.Accepted.{Mesh, siteCount}
 use Rattle.definition.specs.declared.Fault.{Fault}
 use Rattle.definition.specs.Fault.{Outcome, ok, refused}
-use Rattle.definition.specs.Build.{Built, Extensions, extendFrom, clipAll}
+use Rattle.definition.specs.Build.{Built, Extensions, extendFrom, clipAll, build}
 use Rattle.definition.specs.Short.{fault, extensions}
 use Rattle.definition.specs.Reused.{reusedIn}
 use Rattle.cell_builder.specs.rings.Extensions.{Extends}
 use Rattle.cell_builder.specs.declared.tried.Frame.{Frame}
 use Rattle.cell_builder.specs.declared.finish.CellsAnswer.{CellsAnswer}
+use Rattle.cell_builder.specs.declared.finish.Finished.{Finished}
 use Rattle.cell_builder.specs.finish.Finish.{outcomeAnswer, SettledCells}
 use Rattle.cell_memory.specs.outputs.Outputs.{BuiltInto}
 use Rattle.cell_builder.specs.declared.finish.Progress.{Progress}
-use Rattle.cell_builder.specs.tried.SlicesInvariant.{Plan, plan, ground, frameOf}
+use Rattle.cell_builder.specs.tried.SlicesInvariant.{Plan, plan, ground, frameOf, Fanned, SomeHeld}
 use Rattle.cell_builder.specs.turned.Loops.{DoesLate}
 use Rattle.cell_builder.specs.AdmittedBuild.{AdmittedBuild}
 
@@ -65,11 +68,12 @@ pub record Makeable (m : Mesh) (table : List ℕ) (b : BoundingBox) (owners : Li
 abbrev pub planOf : Mesh → List ℕ → BoundingBox → List ℕ → Plan
 planOf m table b off = plan (m .triangles) (m .halfedges) (m .hull) table (frameOf b (length (m .triangles)) (length (m .hull))) off
 
--- by the outcome of the extensions: all cells on them, but for the early ones, or their refusal
+-- by the outcome of the extensions: all cells on them, but for the early ones, where rule 10 holds, else some cells; or their refusal
 abbrev pub Makes : Mesh → List ℕ → BoundingBox → List ℕ → Outcome Fault Extensions → List ℕ → Progress → List Float → List ℕ → List ℕ → Type 0
 Makes m table b owners (ok x) marks p v₁ ix₁ off₁ =
-    DoesLate (planOf m table b off₁) (ground (siteCount (m .sites)) owners x) marks
-    (clipAll b (length (m .triangles) / 3) (m .triangles) (m .halfedges) (m .hull) table (siteCount (m .sites)) owners x) p v₁ ix₁
+    SomeHeld (planOf m table b off₁) (ground (siteCount (m .sites)) owners x) p v₁ ix₁ × (Fanned (planOf m table b off₁) (ground (siteCount (m .sites)) owners x)
+    → DoesLate (planOf m table b off₁) (ground (siteCount (m .sites)) owners x) marks
+    (clipAll b (length (m .triangles) / 3) (m .triangles) (m .halfedges) (m .hull) table (siteCount (m .sites)) owners x) p v₁ ix₁)
 Makes m table b owners (refused e) marks p v₁ ix₁ off₁ = (p .fault ≡ e) × (0 < e .number)
 
 -- on the circumcenters that stand in v
@@ -83,9 +87,14 @@ MadeCells m table b owners v marks p v₁ ix₁ off₁ =
 abbrev pub AnsweredBuild : Outcome Fault Built → List Float → List ℕ → List ℕ → CellsAnswer → List Float → List ℕ → List ℕ → Type 0
 AnsweredBuild o v ix off r v₁ ix₁ off₁ = (r ≡ outcomeAnswer o) × BuiltInto o v ix off v₁ ix₁ off₁
 
+-- the same where every fan is whole, and whether they are
+pub record BuildTold (m : Mesh) (table : List ℕ) (b : BoundingBox) (v : List Float) (ix off : List ℕ) (r : Finished) (v₁ : List Float) (ix₁ off₁ : List ℕ) : Type 0 where
+  pub answered : Fan (m .triangles) (m .halfedges) table → AnsweredBuild (build m b) v ix off (r .answer) v₁ ix₁ off₁
+  pub whole : r .whole ≡ true → Fan (m .triangles) (m .halfedges) table
+
 -- all cells made, by the outcome of the extensions, and settled from there
 pub record BuiltCells (m : Mesh) (table : List ℕ) (b : BoundingBox) (owners : List ℕ) (v : List Float) (ix off : List ℕ)
-    (r : CellsAnswer) (v₁ : List Float) (ix₁ off₁ : List ℕ) : Type 0 where
+    (r : Finished) (v₁ : List Float) (ix₁ off₁ : List ℕ) : Type 0 where
   pub progress : Progress
   pub marks : List ℕ
   pub made-v : List Float

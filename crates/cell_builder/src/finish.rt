@@ -13,12 +13,13 @@ ghost use Rattle.base.specs.numbers.Numbers.{EMPTY};
 ghost use Rattle.definition.specs.Measures.{ifLost, lostLeft};
 ghost use Rattle.cell_builder.specs.finish.Finish.{RefusedCells, Finishable, FinishedCells, SettledCells};
 
-// How far the build is: its fault, whose number is 0 where there is none, the number of vertices, the owners of corners not yet wrapped, and the points taken again.
+// How far the build is: the number of vertices, the owners of corners not yet wrapped, the points taken again, and its fault, whose number is 0 where there is none.
+// The fault stands last, as the short fields of `clipping::Changed` do.
 pub struct Progress {
-    pub fault: Fault,
     pub count: usize,
     pub owners: [u32; 4],
     pub reused: Reused,
+    pub fault: Fault,
 }
 
 // A build's answer beside the slices: the fault, the number of vertices, the owners as found, the lost corners, the points taken again.
@@ -28,6 +29,12 @@ pub struct CellsAnswer {
     pub owners: [u32; 4],
     pub lost: u32,
     pub reused: Reused,
+}
+
+// The answer, and whether every fan was seen to be whole.
+pub struct Finished {
+    pub answer: CellsAnswer,
+    pub whole: bool,
 }
 
 // 1 where the corner of vertex v is lost: with its owner still, and in no cell.
@@ -93,22 +100,25 @@ fn finish(
     centers: usize,
     p: Progress,
     owners: [u32; 4],
-) -> CellsAnswer
-    requires { ⌜ Finishable (now halfedges) (now table) (now marks) sites centers (p .count) (length (now vertices)) (now indexes) (now offsets) owners ⌝ }
+) -> Finished
+    requires { ⌜ Finishable (now halfedges) (now table) (now marks) sites centers (p .count) (length (now vertices)) (now indexes) (now offsets) ⌝ }
     ensures { λ r. ⌜ FinishedCells (now (halfedges .entry)) (now (table .entry)) (now (marks .entry)) sites centers p owners
         (now (vertices .entry)) (now (indexes .entry)) (now (offsets .entry)) r (now (vertices .exit)) (now (indexes .exit)) (now (offsets .exit)) ⌝ }
 {
-    let used = gather(halfedges, table, marks, indexes, offsets, sites, owners);
+    let put = gather(halfedges, table, marks, indexes, offsets, sites, owners);
     clear_floats_from(vertices, 2 * p.count);
     let fault = p.fault;
     let left = p.owners;
     let reused = p.reused;
-    CellsAnswer {
-        fault: fault,
-        count: p.count,
-        owners: owners,
-        lost: lost_corners(&indexes[..used], centers, left),
-        reused: reused,
+    Finished {
+        answer: CellsAnswer {
+            fault: fault,
+            count: p.count,
+            owners: owners,
+            lost: lost_corners(&indexes[..put.used], centers, left),
+            reused: reused,
+        },
+        whole: put.steps == halfedges.len(),
     }
 }
 
@@ -124,14 +134,17 @@ pub fn settle(
     centers: usize,
     p: Progress,
     owners: [u32; 4],
-) -> CellsAnswer
-    requires { ⌜ (p .fault .number ≡ 0 → Finishable (now halfedges) (now table) (now marks) sites centers (p .count) (length (now vertices)) (now indexes) (now offsets) owners) ⌝ }
+) -> Finished
+    requires { ⌜ (p .fault .number ≡ 0 → Finishable (now halfedges) (now table) (now marks) sites centers (p .count) (length (now vertices)) (now indexes) (now offsets)) ⌝ }
     ensures { λ r. ⌜ SettledCells (now (halfedges .entry)) (now (table .entry)) (now (marks .entry)) sites centers p owners
         (now (vertices .entry)) (now (indexes .entry)) (now (offsets .entry)) r (now (vertices .exit)) (now (indexes .exit)) (now (offsets .exit)) ⌝ }
 {
     let fault = p.fault;
     if fault.number != 0 {
-        return refuse(vertices, indexes, offsets, fault);
+        return Finished {
+            answer: refuse(vertices, indexes, offsets, fault),
+            whole: false,
+        };
     }
     finish(
         halfedges,

@@ -6,7 +6,7 @@ pub mod tried;
 pub mod turned;
 pub mod start; // start.rt: what the cells begin with
 
-use crate::finish::CellsAnswer;
+use crate::finish::Finished;
 use crate::finish::Progress;
 use crate::finish::refuse;
 use crate::finish::settle;
@@ -21,9 +21,8 @@ use start::frame;
 ghost use mathlib.Core.Path.{_≡_};
 ghost use lib.ListN.{length};
 ghost use Rattle.mesh.specs.Accepted.{mesh};
-ghost use Rattle.definition.specs.Build.{build};
 ghost use Rattle.cell_builder.specs.AdmittedBuild.{AdmittedBuild};
-ghost use Rattle.cell_builder.specs.Start.{Makeable, MadeCells, AnsweredBuild, BuiltCells};
+ghost use Rattle.cell_builder.specs.Start.{Makeable, MadeCells, BuildTold, BuiltCells};
 
 // The regions, the corners and extensions, and all cells but the early ones in their regions.
 fn make_cells(
@@ -77,7 +76,7 @@ fn clip_build(
     vertices: &mut [f64],
     indexes: &mut [u32],
     offsets: &mut [u32],
-) -> CellsAnswer
+) -> Finished
     requires { ⌜ Makeable (mesh (now sites) (now triangles) (now halfedges) (now hull)) (now table) bounds owners
         (length (now vertices)) (length (now indexes)) (length (now offsets)) ⌝ }
     ensures { λ r. ⌜ BuiltCells (mesh (now (sites .entry)) (now (triangles .entry)) (now (halfedges .entry)) (now (hull .entry))) (now (table .entry)) bounds
@@ -111,7 +110,8 @@ fn clip_build(
     )
 }
 
-// On an accepted mesh and slices with room. Refused, all three slices are cleared.
+// On a mesh that the rules up to 9 accept and slices with room. Where every fan is whole it is the definition's build, and refused all three slices are cleared; whether they are
+// is told, but for a build that is refused.
 pub fn build_cells(
     sites: &[f64],
     triangles: &[u32],
@@ -122,24 +122,23 @@ pub fn build_cells(
     vertices: &mut [f64],
     indexes: &mut [u32],
     offsets: &mut [u32],
-) -> CellsAnswer
+) -> Finished
     requires { ⌜ AdmittedBuild (mesh (now sites) (now triangles) (now halfedges) (now hull)) (now table) bounds (length (now vertices)) (length (now indexes)) (length (now offsets)) ⌝ }
-    ensures { λ r. ⌜ AnsweredBuild (build (mesh (now (sites .entry)) (now (triangles .entry)) (now (halfedges .entry)) (now (hull .entry))) bounds)
+    ensures { λ r. ⌜ BuildTold (mesh (now (sites .entry)) (now (triangles .entry)) (now (halfedges .entry)) (now (hull .entry))) (now (table .entry)) bounds
         (now (vertices .entry)) (now (indexes .entry)) (now (offsets .entry)) r (now (vertices .exit)) (now (indexes .exit)) (now (offsets .exit)) ⌝ }
 {
     let t = calculate_circumcenters(sites, triangles, vertices);
     if t < triangles.len() / 3 {
-        return refuse(
-            vertices,
-            indexes,
-            offsets,
-            Fault {
-                number: base::numbers::REFUSED_CIRCUMCENTER,
-                place: t as u32,
-                from: 0,
-                to: 0,
-            },
-        );
+        let fault = Fault {
+            number: base::numbers::REFUSED_CIRCUMCENTER,
+            place: t as u32,
+            from: 0,
+            to: 0,
+        };
+        return Finished {
+            answer: refuse(vertices, indexes, offsets, fault),
+            whole: false,
+        };
     }
     let owners = calculate_corner_ownership(sites, triangles, halfedges, table, bounds, hull[0]);
     clip_build(

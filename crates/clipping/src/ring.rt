@@ -3,12 +3,14 @@ use crate::RingStepped;
 use crate::Tip;
 use crate::corners::CellSoFar;
 use crate::edges::Env;
+use crate::edges::crossing_of;
 use crate::edges::together;
 use crate::step::clip_step;
 use base::numbers::EMPTY;
 use definition::Fault;
 use definition::Reused;
 use plane::boxes::BoundingBox;
+use plane::lines::Crossing;
 use plane::sides::is_inside;
 use vertices::vertex;
 ghost use mathlib.Core.Path.{_≡_};
@@ -19,6 +21,7 @@ ghost use lib.ListN.{length, getD};
 ghost use Rattle.plane.specs.points.Flat.{points};
 ghost use Rattle.definition.specs.Cell as Def;
 ghost use Rattle.definition.specs.Short;
+ghost use Rattle.clipping.specs.edges.EdgeClip.{CrossingsAsked};
 ghost use Rattle.clipping.specs.EdgeOutcome.{EdgeRoom};
 ghost use Rattle.clipping.specs.RingWalk.{tipOf, Stands, Steps, ringOf, emptyAt, RingRoom};
 
@@ -34,20 +37,43 @@ pub fn in_box(vertices: &[f64], count: usize, bounds: BoundingBox, centers: usiz
     false
 }
 
+// Whether an edge passes the box by: both ends outside, and no crossing.
+fn passes(p_in: bool, q_in: bool, c: Crossing) -> bool
+    ensures { λ r. ⌜ (r ≡ true → (p_in ≡ false) × (q_in ≡ false) × (c ≡ Crossing.None)) ⌝ }
+{
+    if p_in {
+        return false;
+    }
+    if q_in {
+        return false;
+    }
+    match c {
+        Crossing::None => true,
+        Crossing::One(_, _) => false,
+        Crossing::Two(_, _, _, _) => false,
+    }
+}
+
 // The edge to the ring's vertex q.
-fn step_to(vertices: &mut [f64], indexes: &mut [u32], env: Env, tip: Tip, q: u32) -> RingStepped
+fn step_to(
+    vertices: &mut [f64],
+    indexes: &mut [u32],
+    env: Env,
+    tip: Tip,
+    q: u32,
+    q_in: bool,
+    c: Crossing,
+) -> RingStepped
     requires { ⌜ EdgeRoom env (tip .count) (tip .cell) (now vertices) (now indexes) ⌝ }
-    requires { ⌜ Stands env tip (now vertices) ⌝ }
-    requires { ⌜ (q < tip .count) × (tip .inside ≡ false → Def.inBox (env .bounds) (env .centers) (points (tip .count) (now vertices)) q ≡ true → tip .opened ≡ true) ⌝ }
+    requires { ⌜ Stands env tip (now vertices) × (tip .inside ≡ false → q_in ≡ true → tip .opened ≡ true) ⌝ }
+    requires { ⌜ (q < tip .count) × (q_in ≡ Def.inBox (env .bounds) (env .centers) (points (tip .count) (now vertices)) q)
+        × CrossingsAsked (env .bounds) (points (tip .count) (now vertices)) (tip .vertex) (tip .inside) q q_in c ⌝ }
     ensures steps { λ r. ⌜ Steps env 1 (Def.stepTo (env .bounds) (env .centers) (env .site) (tipOf tip (now (vertices .entry))) q) (tip .count) (tip .cell)
         (now (vertices .entry)) (now (indexes .entry)) r (now (vertices .exit)) (now (indexes .exit)) ⌝ }
     ensures stands { λ r. ⌜ (r .fault .number ≡ 0 → Stands env (r .tip) (now (vertices .exit))
         × (r .tip .inside ≡ false → r .tip .opened ≡ false → (tip .inside ≡ false) × (tip .opened ≡ false))) ⌝ }
 {
-    let bounds = env.bounds;
-    let count = tip.count;
-    let q_in = in_box(vertices, count, bounds, env.centers, q);
-    let d = clip_step(vertices, indexes, env, tip, q, q_in);
+    let d = clip_step(vertices, indexes, env, tip, q_in, c);
     let reused = d.reused;
     if d.refusal != 0 {
         return RingStepped {
@@ -92,7 +118,7 @@ fn turned(f: usize, len: usize, k: usize) -> usize
     len - 1 - (k - f)
 }
 
-// The edges from the tip on, to the ring's vertices reversed and cyclic from place f.
+// The edges from the tip on, to the ring's vertices reversed and cyclic from place f. One that passes the box by moves the tip's vertex alone.
 fn walk_ring(
     vertices: &mut [f64],
     indexes: &mut [u32],
@@ -109,6 +135,7 @@ fn walk_ring(
     ensures { λ r. ⌜ Steps env len (Def.stepsTo (env .bounds) (env .centers) (env .site) (Def.turned f (ringOf (now (indexes .entry)) ring len))
         (tipOf tip (now (vertices .entry)))) (tip .count) (tip .cell) (now (vertices .entry)) (now (indexes .entry)) r (now (vertices .exit)) (now (indexes .exit)) ⌝ }
 {
+    let bounds = env.bounds;
     let mut at = tip;
     let mut reused = Reused {
         extensions: 0,
@@ -119,7 +146,14 @@ fn walk_ring(
     while k < len {
         let place = ring + turned(f, len, k);
         let q = indexes[place];
-        let s = step_to(vertices, indexes, env, at, q);
+        let q_in = in_box(vertices, at.count, bounds, env.centers, q);
+        let c = crossing_of(vertices, at.count, bounds, at.vertex, at.inside, q, q_in);
+        if passes(at.inside, q_in, c) {
+            at.vertex = q;
+            k += 1;
+            continue;
+        }
+        let s = step_to(vertices, indexes, env, at, q, q_in, c);
         let fault = s.fault;
         if fault.number != 0 {
             return s;
@@ -196,6 +230,17 @@ fn clip_from(
     walk_ring(vertices, indexes, env, tip, ring, len, f)
 }
 
+// Where the walk starts: at the first vertex inside, which is at place f, else at the first.
+fn start_at(f: usize, len: usize) -> usize
+    requires { ⌜ 0 < len ⌝ }
+    ensures { λ r. ⌜ (r < len) × (f < len → r ≡ f) × (len ≤ f → r ≡ 0) ⌝ }
+{
+    if f < len {
+        return f;
+    }
+    0
+}
+
 // The cell of the ring of `len` vertices at place `ring` of the index list, written from place `base` on.
 pub fn clip_cell(
     vertices: &mut [f64],
@@ -218,8 +263,16 @@ pub fn clip_cell(
         last: EMPTY,
     };
     let f = first_inside(vertices, indexes, env, count, ring, len);
-    if f < len {
-        return clip_from(vertices, indexes, env, count, cell, ring, len, f, true);
-    }
-    clip_from(vertices, indexes, env, count, cell, ring, len, 0, false)
+    let start = start_at(f, len);
+    clip_from(
+        vertices,
+        indexes,
+        env,
+        count,
+        cell,
+        ring,
+        len,
+        start,
+        f < len,
+    )
 }

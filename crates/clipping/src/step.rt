@@ -6,12 +6,13 @@ use crate::corners::insert_edge;
 use crate::corners::push;
 use crate::edges::Crossed;
 use crate::edges::Env;
-use crate::edges::clip_voronoi_edge;
+use crate::edges::add_crossings;
 use definition::Reused;
+use plane::lines::Crossing;
 ghost use mathlib.Core.Path.{_≡_};
 ghost use mathlib.Core.Bool.{true, false};
 ghost use mathlib.Core.List.{List, [], _∷_};
-ghost use Prim.Native.Nat.{_+_, _*_, _≤_, _<_, _^_};
+ghost use Prim.Native.Nat.{ℕ, _+_, _*_, _≤_, _<_, _^_};
 ghost use lib.ListN.{length};
 ghost use Rattle.base.specs.numbers.Numbers.{refusedOneCrossing};
 ghost use Rattle.plane.specs.points.Flat.{points};
@@ -21,7 +22,9 @@ ghost use Rattle.definition.specs.Cell as Def;
 ghost use Rattle.definition.specs.Short;
 ghost use Rattle.definition.specs.Reused.{CountsReused};
 ghost use Rattle.definition.specs.Sides.{Sided};
+ghost use Rattle.build_laws.specs.laws.SidedEdge.{ClipSided};
 ghost use Rattle.clipping.specs.corners.CellEntries.{EntryRoom, EntriesPut};
+ghost use Rattle.clipping.specs.edges.EdgeClip.{CrossingsAsked};
 ghost use Rattle.clipping.specs.EdgeOutcome.{EdgeRoom, Alters, Changes};
 ghost use Rattle.clipping.specs.RingWalk.{Stands};
 
@@ -85,14 +88,14 @@ fn leave(
     count: usize,
     cell: CellSoFar,
     p: u32,
-    q: u32,
+    c: Crossing,
 ) -> Changed
     requires { ⌜ EdgeRoom env count cell (now vertices) (now indexes) ⌝ }
-    requires { ⌜ (p < count) × (q < count) ⌝ }
-    ensures { λ r. ⌜ Changes env count (Def.leave p (cell .owners) (Def.clipEdge (env .bounds) (env .centers) (points count (now (vertices .entry))) p q))
+    requires { ⌜ ClipSided (env .bounds) (env .centers) (env .site) (Def.clipWith (env .centers) (points count (now vertices)) c) ⌝ }
+    ensures { λ r. ⌜ Changes env count (Def.leave p (cell .owners) (Def.clipWith (env .centers) (points count (now (vertices .entry))) c))
         cell (now (vertices .entry)) (now (indexes .entry)) r (now (vertices .exit)) (now (indexes .exit)) ⌝ }
 {
-    let clip = clip_voronoi_edge(vertices, indexes, env, count, p, q);
+    let clip = add_crossings(vertices, indexes, env, count, c);
     match clip {
         Crossed::Missed => Changed {
             refusal: base::numbers::REFUSED_NO_CROSSING,
@@ -153,15 +156,15 @@ fn enter(
     env: Env,
     count: usize,
     cell: CellSoFar,
-    p: u32,
-    q: u32,
+    c: Crossing,
 ) -> Changed
     requires { ⌜ EdgeRoom env count cell (now vertices) (now indexes) ⌝ }
-    requires { ⌜ (p < count) × (q < count) × (cell .last < count) × Sided (env .bounds) (points count (now vertices)) (cell .last) ⌝ }
+    requires { ⌜ ClipSided (env .bounds) (env .centers) (env .site) (Def.clipWith (env .centers) (points count (now vertices)) c) ⌝ }
+    requires { ⌜ (cell .last < count) × Sided (env .bounds) (points count (now vertices)) (cell .last) ⌝ }
     ensures { λ r. ⌜ Changes env count (Def.enter (env .bounds) (env .centers) (env .site) (cell .owners) (cell .last)
-        (Def.clipEdge (env .bounds) (env .centers) (points count (now (vertices .entry))) q p)) cell (now (vertices .entry)) (now (indexes .entry)) r (now (vertices .exit)) (now (indexes .exit)) ⌝ }
+        (Def.clipWith (env .centers) (points count (now (vertices .entry))) c)) cell (now (vertices .entry)) (now (indexes .entry)) r (now (vertices .exit)) (now (indexes .exit)) ⌝ }
 {
-    let clip = clip_voronoi_edge(vertices, indexes, env, count, q, p);
+    let clip = add_crossings(vertices, indexes, env, count, c);
     match clip {
         Crossed::Missed => Changed {
             refusal: base::numbers::REFUSED_NO_CROSSING,
@@ -293,16 +296,16 @@ fn cross(
     count: usize,
     cell: CellSoFar,
     opened: bool,
-    p: u32,
-    q: u32,
+    c: Crossing,
 ) -> Changed
     requires { ⌜ EdgeRoom env count cell (now vertices) (now indexes) ⌝ }
-    requires { ⌜ (p < count) × (q < count) × (opened ≡ true → cell .last < count) × (opened ≡ true → Sided (env .bounds) (points count (now vertices)) (cell .last)) ⌝ }
+    requires { ⌜ ClipSided (env .bounds) (env .centers) (env .site) (Def.clipWith (env .centers) (points count (now vertices)) c) ⌝ }
+    requires { ⌜ (opened ≡ true → cell .last < count) × (opened ≡ true → Sided (env .bounds) (points count (now vertices)) (cell .last)) ⌝ }
     ensures { λ r. ⌜ Changes env count (Def.cross (env .bounds) (env .centers) (env .site) (points count (now (vertices .entry))) (cell .owners) opened
-        (cell .last) (Def.clipEdge (env .bounds) (env .centers) (points count (now (vertices .entry))) p q)) cell (now (vertices .entry))
+        (cell .last) (Def.clipWith (env .centers) (points count (now (vertices .entry))) c)) cell (now (vertices .entry))
         (now (indexes .entry)) r (now (vertices .exit)) (now (indexes .exit)) ⌝ }
 {
-    let clip = clip_voronoi_edge(vertices, indexes, env, count, p, q);
+    let clip = add_crossings(vertices, indexes, env, count, c);
     match clip {
         Crossed::Missed => Changed {
             refusal: 0,
@@ -339,33 +342,33 @@ fn cross(
     }
 }
 
-// The four cases: whether the walk's vertex and q are inside.
+// The four cases: whether the walk's vertex and the ring's next one are inside; c is what `crossing_of` says of the edge between them.
 pub fn clip_step(
     vertices: &mut [f64],
     indexes: &mut [u32],
     env: Env,
     tip: Tip,
-    q: u32,
     q_in: bool,
+    c: Crossing,
 ) -> Changed
     requires { ⌜ EdgeRoom env (tip .count) (tip .cell) (now vertices) (now indexes) ⌝ }
-    requires { ⌜ Stands env tip (now vertices) ⌝ }
-    requires { ⌜ (q < tip .count) × (tip .inside ≡ false → q_in ≡ true → tip .opened ≡ true) ⌝ }
-    ensures { λ r. ⌜ Changes env (tip .count) (Def.clipStep (env .bounds) (env .centers) (env .site) (tip .vertex) (tip .inside) q q_in
+    requires { ⌜ Stands env tip (now vertices) × (tip .inside ≡ false → q_in ≡ true → tip .opened ≡ true) ⌝ }
+    requires { ⌜ ((q : ℕ) × CrossingsAsked (env .bounds) (points (tip .count) (now vertices)) (tip .vertex) (tip .inside) q q_in c) ⌝ }
+    ensures { λ r. ⌜ ((q : ℕ) → CrossingsAsked (env .bounds) (points (tip .count) (now (vertices .entry))) (tip .vertex) (tip .inside) q q_in c
+        → Changes env (tip .count) (Def.clipStep (env .bounds) (env .centers) (env .site) (tip .vertex) (tip .inside) q q_in
         (points (tip .count) (now (vertices .entry))) (tip .cell .owners) (tip .opened) (tip .cell .last)) (tip .cell)
-        (now (vertices .entry)) (now (indexes .entry)) r (now (vertices .exit)) (now (indexes .exit)) ⌝ }
+        (now (vertices .entry)) (now (indexes .entry)) r (now (vertices .exit)) (now (indexes .exit))) ⌝ }
 {
     let cell = tip.cell;
     let count = tip.count;
-    let p = tip.vertex;
     if tip.inside {
         if q_in {
-            return stay(indexes, env, count, cell, tip.opened, p);
+            return stay(indexes, env, count, cell, tip.opened, tip.vertex);
         }
-        return leave(vertices, indexes, env, count, cell, p, q);
+        return leave(vertices, indexes, env, count, cell, tip.vertex, c);
     }
     if q_in {
-        return enter(vertices, indexes, env, count, cell, p, q);
+        return enter(vertices, indexes, env, count, cell, c);
     }
-    cross(vertices, indexes, env, count, cell, tip.opened, p, q)
+    cross(vertices, indexes, env, count, cell, tip.opened, c)
 }

@@ -39,18 +39,34 @@ siteCount sites = length sites / 2
 abbrev pub tableOf : Mesh → List ℕ
 tableOf m = leftmostOf (m .triangles) (m .halfedges) (siteCount (m .sites))
 
--- a mesh that rules 7 to 10 accept; its lists are of fitting lengths
-pub record Topology (tri he hull : List ℕ) (sites : ℕ) : Type 0 where
+-- a mesh that rules 7 to 9 accept, its lists of fitting lengths; and what is known of its fans
+pub record TopologyWith (Fans : Type 0) (tri he hull : List ℕ) (sites : ℕ) : Type 0 where
   pub threes : length tri % 3 ≡ 0
   pub same : length he ≡ length tri
   pub small : length tri < EMPTY
   pub sound : AllSound tri sites
   pub pairs : AllPaired tri he
   pub border : Hull tri he hull sites
-  pub fan : Fan tri he (leftmostOf tri he sites)
+  pub fan : Fans
 
--- rules 1, 6 and 7 to 10
-pub record Accepted (m : Mesh) : Type 0 where
+-- rules 7 to 9 alone
+abbrev pub OutlinedTopology : List ℕ → List ℕ → List ℕ → ℕ → Type 0
+OutlinedTopology tri he hull sites = TopologyWith (Unit {0}) tri he hull sites
+
+-- rules 7 to 10
+abbrev pub Topology : List ℕ → List ℕ → List ℕ → ℕ → Type 0
+Topology tri he hull sites = TopologyWith (Fan tri he (leftmostOf tri he sites)) tri he hull sites
+
+-- rules 1, 6 and 7 to 9, and what is known of the fans
+pub record AcceptedWith (Fans : Type 0) (m : Mesh) : Type 0 where
   pub counts : Counted (length (m .sites)) (length (m .triangles)) (length (m .halfedges)) (length (m .hull))
   pub coordinates : (s : ℕ) → s < siteCount (m .sites) → KeptAt (m .sites) s
-  pub topology : Topology (m .triangles) (m .halfedges) (m .hull) (siteCount (m .sites))
+  pub topology : TopologyWith Fans (m .triangles) (m .halfedges) (m .hull) (siteCount (m .sites))
+
+-- rules 1, 6 and 7 to 9 alone
+abbrev pub Outlined : Mesh → Type 0
+Outlined m = AcceptedWith (Unit {0}) m
+
+-- rules 1, 6 and 7 to 10
+abbrev pub Accepted : Mesh → Type 0
+Accepted m = AcceptedWith (Fan (m .triangles) (m .halfedges) (tableOf m)) m

@@ -105,6 +105,11 @@ Fan tri he table = (e : ℕ) → e < length he → Reached he (getD table (endOf
 abbrev pub wholeOf : List ℕ → ℕ → List ℕ
 wholeOf he s = walkOf he s (length he) s
 
+-- the lengths of the walks from the table's first n entries, together
+unfoldable pub totalTo : List ℕ → List ℕ → ℕ → ℕ
+totalTo he table zero = 0
+totalTo he table (suc n) = totalTo he table n + length (wholeOf he (getD table n 0))
+
 -- what a walk from s leaves in a lent list: its beginning, up to the list's length, then what was there; and whether that is all of it
 pub record Walks (he : List ℕ) (s : ℕ) (old new : List ℕ) (count : ℕ) (ended : Bool) : Type 0 where
   pub counted : count ≡ length (walkOf he s (length old) s)

@@ -2,6 +2,7 @@
 pub mod Next
 pub mod WalkSteps
 pub mod Walks
+pub mod Total
 pub mod Table
 pub mod Border
 pub mod Facts

@@ -2,11 +2,11 @@
 use base::numbers::EMPTY;
 use base::numbers::wide;
 ghost use mathlib.Core.Path.{_≡_};
-ghost use Prim.Native.Nat.{ℕ, _%_, _<_, _≤_};
-ghost use lib.ListN.{length, getD, replicate};
+ghost use Prim.Native.Nat.{_%_, _<_, _≤_};
+ghost use lib.ListN.{length, replicate};
 ghost use Rattle.base.specs.numbers.Numbers.{EMPTY};
 ghost use Rattle.mesh.specs.Hull.{nextPlace};
-ghost use Rattle.mesh.specs.Mesh.{nextOf, endOf, chosen, tableTo, turnOf, wholeOf, Walks};
+ghost use Rattle.mesh.specs.Mesh.{nextOf, endOf, turnOf, wholeOf, Walks};
 
 // What a check finds wrong with a mesh, and the lowest site, triangle, half-edge or hull place that has the fault.
 pub enum MeshFault {
@@ -60,33 +60,6 @@ pub fn clear(work: &mut [u32])
     while i < work.len() {
         work[i] = EMPTY;
         i += 1;
-    }
-}
-
-fn choose(old: u32, p: u32, e: u32) -> u32
-    ensures { λ r. ⌜ r ≡ chosen old p e ⌝ }
-{
-    if old == EMPTY {
-        return e;
-    }
-    if p == EMPTY {
-        return e;
-    }
-    old
-}
-
-// Fills the table of leftmost half-edges.
-pub fn leftmost(triangles: &[u32], halfedges: &[u32], work: &mut [u32])
-    requires { ⌜ (length (now triangles) % 3 ≡ 0) × (length (now halfedges) ≡ length (now triangles)) × (length (now triangles) < EMPTY)
-        × ((k : ℕ) → k < length (now triangles) → getD (now triangles) k 0 < length (now work)) ⌝ }
-    ensures { λ _. ⌜ now (work .exit) ≡ tableTo (now (triangles .entry)) (now (halfedges .entry)) (length (now (work .entry))) (length (now (triangles .entry))) ⌝ }
-{
-    clear(work);
-    let mut e: usize = 0;
-    while e < triangles.len() {
-        let s = wide(end_site(triangles, e));
-        work[s] = choose(work[s], halfedges[e], e as u32);
-        e += 1;
     }
 }
 

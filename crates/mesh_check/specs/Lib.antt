@@ -2,4 +2,5 @@ pub mod border
 pub mod degrees
 pub mod fan
 pub mod pairing
+pub mod table
 pub mod whole

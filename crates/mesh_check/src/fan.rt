@@ -7,9 +7,9 @@ ghost use lib.Dec.{eqb};
 ghost use lib.ListN.{length, getD};
 ghost use Rattle.base.specs.common.Decide.{First};
 ghost use Rattle.base.specs.numbers.Numbers.{EMPTY};
-ghost use Rattle.mesh.specs.Mesh.{leftmostOf, tableTo, FanAt, Paired, AllSound};
+ghost use Rattle.mesh.specs.Mesh.{leftmostOf, tableTo, totalTo, FanAt, Paired, AllSound};
 ghost use Rattle.mesh_check.specs.fan.Answer.{FanAnswer};
-ghost use Rattle.mesh_check.specs.fan.Counts.{totalTo, lessOf, owedTo, WalkLengths, CountedDown};
+ghost use Rattle.mesh_check.specs.fan.Counts.{lessOf, owedTo, WalkLengths, CountedDown};
 
 // Whether the walks from the table's entries have as many entries together as there are half-edges.
 fn walks_cover(halfedges: &[u32], table: &[u32]) -> bool
@@ -105,7 +105,7 @@ pub fn check_fan(triangles: &[u32], halfedges: &[u32], sites: usize, work: &mut 
     if crate::degrees::whole_fans(triangles, halfedges, work) {
         return sites;
     }
-    mesh::leftmost(triangles, halfedges, work);
+    crate::table::put_leftmost(triangles, halfedges, work);
     if walks_cover(halfedges, work) {
         return sites;
     }

@@ -5,7 +5,7 @@ ghost use lib.ListN.{length};
 ghost use Rattle.base.specs.numbers.Numbers.{EMPTY};
 ghost use Rattle.mesh.specs.Mesh.{AllSound, AllPaired};
 ghost use Rattle.mesh.specs.Accepted.{mesh};
-ghost use Rattle.mesh_check.specs.whole.Answers.{ShapeAnswer, BorderAnswer, TopologyAnswer, MeshAnswer};
+ghost use Rattle.mesh_check.specs.whole.Answers.{ShapeAnswer, BorderAnswer, TopologyAnswer, OutlineAnswer, MeshAnswer};
 use crate::counts::counts_ok;
 use crate::counts::number;
 use mesh::MeshFault;
@@ -72,6 +72,32 @@ pub fn check_topology(
         return g;
     }
     g
+}
+
+// Rules 7 to 9 alone. The work slice is left as by rules 7 to 10.
+pub fn check_outline(
+    triangles: &[u32],
+    halfedges: &[u32],
+    hull: &[u32],
+    sites: usize,
+    work: &mut [u32],
+) -> MeshFault
+    requires { ⌜ (length (now triangles) % 3 ≡ 0) × (length (now halfedges) ≡ length (now triangles)) × (length (now triangles) < EMPTY)
+        × (length (now hull) < EMPTY) × (sites ≤ length (now work)) ⌝ }
+    ensures { λ r. ⌜ OutlineAnswer (now (triangles .entry)) (now (halfedges .entry)) (now (hull .entry)) sites (now (work .entry)) (now (work .exit)) r ⌝ }
+{
+    let f = check_shape(triangles, halfedges, sites);
+    if number(f) != 0 {
+        mesh::clear(work);
+        return f;
+    }
+    let h = crate::border::check_hull(triangles, halfedges, hull, sites, work);
+    if number(h) != 0 {
+        mesh::clear(work);
+        return h;
+    }
+    crate::table::put_leftmost(triangles, halfedges, work);
+    h
 }
 
 // The whole check of a lent mesh.

@@ -104,7 +104,7 @@ fn explain_build(
         return locate(r, sites, triangles, halfedges, hull, work);
     }
     let count = sites.len() / 2;
-    let a = build_cells(
+    let told = build_cells(
         sites,
         triangles,
         halfedges,
@@ -115,6 +115,7 @@ fn explain_build(
         indexes,
         offsets,
     );
+    let a = told.answer;
     let fault = a.fault;
     finish_build(a, work, counts);
     of_fault(fault)

@@ -7,3 +7,4 @@ pub mod SqrtIsRoot
 pub mod SqrtBounds
 pub mod laws
 pub mod whole_root
+pub mod two_roots

@@ -16,7 +16,7 @@ use Rattle.mesh.specs.Rules.{callRules}
 use Rattle.mesh.specs.Accepted.{Mesh, Counted, siteCount}
 use Rattle.mesh.specs.laws.Verdicts.{accepted-keep, keep-accepted}
 use Rattle.arguments.specs.asking.laws.Asks.{NoneZero}
-use Rattle.admission.specs.Admits.{askedRules, Admits, Admitted}
+use Rattle.admission.specs.Admits.{askedRules, lateOutline, Outlines, Admits, Admitted}
 
 pub finds-asked : (asked : ℕ) → Finds (askedRules asked) 0 asked
 finds-asked asked = ⊎-elim (λ z. keeps z (record { judged = z })) breaks (eq-or-ne asked 0)
@@ -36,7 +36,7 @@ both-answer [] more t u = u
 both-answer (once a Q ∷ own) more t u = (t .0, both-answer own more (t .1) u)
 both-answer (each f n Q ∷ own) more t u = (t .0, both-answer own more (t .1) u)
 
-keep-parts : (own more : List (Rule ℕ)) → Keep (own ++ more) → Keep own × Keep more
+pub keep-parts : (own more : List (Rule ℕ)) → Keep (own ++ more) → Keep own × Keep more
 keep-parts [] more k = (tt, k)
 keep-parts (r ∷ own) more k = let p = keep-parts own more (k .1) in ((k .0, p .0), p .1)
 
@@ -83,6 +83,13 @@ module _ (m : Mesh) where
     -- the rules that the number came from, in its place
     pub admits-rules : (own : List (Rule ℕ)) → NoneZero own → Finds own 0 asked → Finds (callRules m room own) 0 r
     admits-rules own t f = finds-own (once refusedCount Counts ∷ once refusedRoom room ∷ []) own (late m) t f admits-room
+
+  -- and up to rule 9
+  pub outlines-room : {roomy other : Bool} {asked r : ℕ} → (Counts → (roomy ≡ true) ↔ (other ≡ true)) → Outlines m roomy asked r → Outlines m other asked r
+  outlines-room {roomy} {other} {asked} e x = record {
+    found = finds-instead (once refusedCount Counts ∷ []) refusedRoom (roomy ≡ true) (other ≡ true)
+        (askedRules asked ++ reads numberOf (coordinateRules (m .sites)) ++ lateOutline m) (λ k. e (k .0)) (x .found);
+  }
 
 -- the same with the test of rule 2 as it is
 pub admits-own : {m : Mesh} {roomy : Bool} {asked r : ℕ} (own : List (Rule ℕ)) → NoneZero own → Finds own 0 asked → Admits m roomy (askedRules asked) r → Admits m roomy own r

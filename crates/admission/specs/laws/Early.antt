@@ -1,4 +1,4 @@
--- How the tests before rule 7 lead to their number, and how what rules 7 to 10 find follows them.
+-- How the tests before rule 7 lead to their number, and how what rules 7 to 10, or 7 to 9, find follows them.
 use mathlib.Core.Path.{_≡_, sym, ap, _∙_}
 use mathlib.Core.Bool.{Bool}
 use mathlib.Core.List.{List}
@@ -14,13 +14,13 @@ use Rattle.mesh.specs.declared.MeshFault.{MeshFault}
 use Rattle.mesh.specs.Faults.{numberOf, topologyRules}
 use Rattle.mesh.specs.Accepted.{Mesh, siteCount}
 use Rattle.mesh.specs.Mesh.{leftmostIn}
-use Rattle.mesh_check.specs.whole.Answers.{TopologyAnswer, workAfter}
+use Rattle.mesh_check.specs.whole.Answers.{TopologyAnswer, OutlineAnswer, workAfter}
 use Rattle.mesh_check.specs.whole.laws.AtExit.{exit-held}
 use Rattle.base.specs.numbers.Numbers.{EMPTY, refusedTriangle}
-use Rattle.admission.specs.Admits.{earlyRules, Early}
+use Rattle.admission.specs.Admits.{earlyRules, Early, lateOutline, Outlines}
 use Rattle.admission.specs.Admission.{Admission}
 
--- what rules 7 to 10 are told
+-- what the rules after them are told
 pub passed : {sites : List Float} {entries halfedges hull : ℕ} {roomy : Bool} {asked r : ℕ} → Early sites entries halfedges hull roomy asked r
     → r ≡ 0 → Keep (earlyRules sites entries halfedges hull roomy asked)
 passed e z = finds-keep (λ r. r ≡ 0) (search needs) z (e .found)
@@ -45,3 +45,17 @@ module _ (m : Mesh) (roomy : Bool) (asked : ℕ) {r : ℕ} (e : Early (m .sites)
     });
     work = a .work ∙ ap (workAfter m old) (sym q);
   }
+
+  -- up to rule 9 alone
+  pub outline-early : {old : List ℕ} → asked < refusedTriangle → r ≢ 0 → Outlines m roomy asked r × (old ≡ workAfter m old r)
+  outline-early {old} l n = (record { found = finds-first (lateOutline m) n (e .found) }, refused-early old l n .work)
+
+  pub outline-late : r ≡ 0 → {s : ℕ} {f : MeshFault} {old new : List ℕ} → OutlineAnswer (m .triangles) (m .halfedges) (m .hull) (siteCount (m .sites)) old new f
+      → s ≡ numberOf f → Outlines m roomy asked s × (new ≡ workAfter m old s)
+  outline-late z {old = old} a q = (
+    rw q (record {
+      found = finds-after (earlyRules (m .sites) (length (m .triangles)) (length (m .halfedges)) (length (m .hull)) roomy asked)
+          (passed e z) (finds-reads numberOf (a .verdict));
+    }),
+    a .work ∙ ap (workAfter m old) (sym q),
+  )

@@ -1,4 +1,4 @@
--- The leftmost table of an accepted mesh as it stands in a work slice of w entries.
+-- The leftmost table of a mesh that rules 7 to 9 accept as it stands in a work slice of w entries.
 use mathlib.Core.Path.{_≡_, _∙_}
 use mathlib.Core.List.{List}
 use Prim.Native.Nat.{ℕ, _-_, _≤_, _<_}
@@ -7,10 +7,10 @@ use lib.ListN.{length, getD, take, replicate, length-append, length-replicate, L
 use lib.Seq.{take-at}
 use Rattle.base.specs.numbers.Numbers.{EMPTY}
 use Rattle.mesh.specs.Mesh.{leftmostOf, leftmostIn}
-use Rattle.mesh.specs.Accepted.{Topology}
+use Rattle.mesh.specs.Accepted.{TopologyWith}
 use Rattle.mesh.specs.laws.Facts.{tab-length}
 
-module _ (tri he hull : List ℕ) (n : ℕ) (t : Topology tri he hull n) (w : ℕ) (room : n ≤ w) where
+module _ {Fans : Type 0} (tri he hull : List ℕ) (n : ℕ) (t : TopologyWith Fans tri he hull n) (w : ℕ) (room : n ≤ w) where
   pub table-long : length (leftmostIn tri he n w) ≡ w
   table-long = length-append (leftmostOf tri he n) (replicate (w - n) EMPTY) ∙ omega (arith, tab-length t, length-replicate (w - n) EMPTY)
 

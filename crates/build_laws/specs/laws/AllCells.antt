@@ -15,7 +15,7 @@ use Rattle.base.specs.numbers.Numbers.{EMPTY}
 use Rattle.plane.specs.declared.points.Point.{Point}
 use Rattle.plane.specs.declared.boxes.BoundingBox.{BoundingBox}
 use Rattle.mesh.specs.Mesh.{endOf, leftmostOf, wholeOf}
-use Rattle.mesh.specs.Accepted.{Topology}
+use Rattle.mesh.specs.Accepted.{TopologyWith}
 use Rattle.mesh.specs.laws.Facts.{paired, end-site, tab-cases}
 use Rattle.mesh.specs.laws.WalkSteps.{walk-done}
 use Rattle.mesh.specs.laws.Degree.{walk-degree}
@@ -44,7 +44,7 @@ filled-le u i (e ∷ es) = omega arith
 pub all-filled : (tri hull : List ℕ) (cs : List (List Entry)) → weigh (filledShare (shareOf tri hull)) 0 cs ≤ length tri + 2 * length hull
 all-filled tri hull cs = omega (arith, weigh-le (filledShare (shareOf tri hull)) (share (shareOf tri hull)) 0 cs (filled-le (shareOf tri hull)), shares tri hull cs)
 
-module _ {tri he hull : List ℕ} {n : ℕ} (top : Topology tri he hull n) where
+module _ {Fans : Type 0} {tri he hull : List ℕ} {n : ℕ} (top : TopologyWith Fans tri he hull n) where
   -- a ring at a site has no more vertices than half-edges end there
   pub ring-share : (s e : ℕ) → (e < length he → endOf tri e ≡ s) → length (ringFrom he e) ≤ occ s tri
   ring-share s e h =
@@ -71,7 +71,7 @@ pub is-empty : (c : List Entry) → isEmpty c ≡ true → c ≡ []
 is-empty [] h = refl
 is-empty (e ∷ es) h = let z : _≡_ {A = ℕ} 0 1 = cc in absurd (omega arith)
 
-module _ {tri he hull : List ℕ} {n : ℕ} (top : Topology tri he hull n) (few : n < EMPTY) (b : BoundingBox) (nc : ℕ) (vs : List Point)
+module _ {Fans : Type 0} {tri he hull : List ℕ} {n : ℕ} (top : TopologyWith Fans tri he hull n) (few : n < EMPTY) (b : BoundingBox) (nc : ℕ) (vs : List Point)
     (found : List ℕ) (begun : List Taken) (room : nc + 4 ≤ length vs) where
   abbrev Good : CellState → Type 0
   Good s = CellsSoFar b nc n (shareOf tri hull) vs found begun s
@@ -154,10 +154,10 @@ begin b nc n u vs found ts four = record {
 }
 
 -- what holds at the end
-pub clip-all : {tri he hull : List ℕ} {n : ℕ} → Topology tri he hull n → n < EMPTY → (b : BoundingBox) (nc : ℕ) (found : List ℕ) (x : Extensions)
+pub clip-all : {Fans : Type 0} {tri he hull : List ℕ} {n : ℕ} → TopologyWith Fans tri he hull n → n < EMPTY → (b : BoundingBox) (nc : ℕ) (found : List ℕ) (x : Extensions)
     → nc + 4 ≤ length (x .verts) → length found ≡ 4 → Gives (CellsSoFar b nc n (shareOf tri hull) (x .verts) found (x .steps))
     (clipAll b nc tri he hull (leftmostOf tri he n) n found x)
 unfolding clipAll
-clip-all {tri} {he} {hull} {n} top few b nc found x room four =
+clip-all {Fans} {tri} {he} {hull} {n} top few b nc found x room four =
     all-loop top few b nc (x .verts) found (x .steps) room x (cellState (x .verts) found (replicate n []) (x .steps))
     (begin b nc n (shareOf tri hull) (x .verts) found (x .steps) four) (no-cell n)

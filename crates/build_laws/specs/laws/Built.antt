@@ -16,7 +16,7 @@ use Rattle.plane.specs.boxes.Box.{cornersOf}
 use Rattle.plane.specs.boxes.Finite.{BoundedBox}
 use Rattle.plane.specs.declared.boxes.BoundingBox.{BoundingBox}
 use Rattle.mesh.specs.Mesh.{leftmostOf}
-use Rattle.mesh.specs.Accepted.{mesh, Accepted, siteCount}
+use Rattle.mesh.specs.Accepted.{mesh, AcceptedWith, siteCount}
 use Rattle.mesh.specs.laws.Facts.{topology}
 use Rattle.walks.specs.paths.Path.{lastOf}
 use Rattle.definition.specs.Cell.{Mark, plain, crossing, wrapped, Entry, Taken, inBox}
@@ -45,7 +45,7 @@ wrapped-placed P nc n v (e ∷ es) h o = by (e .mark) (e .at) (h .0) (wrapped-pl
     by crossing w p k l = k l
     by wrapped w p k l = ⊎-elim (λ q. rw (q .0) p) (λ q. k (omega (arith, q .1))) (same-cases v w)
 
-module _ {sites : List Float} {tri he hull : List ℕ} (a : Accepted (mesh sites tri he hull)) {b : BoundingBox} (box : BoundedBox 101 b) where
+module _ {Fans : Type 0} {sites : List Float} {tri he hull : List ℕ} (a : AcceptedWith Fans (mesh sites tri he hull)) {b : BoundingBox} (box : BoundedBox 101 b) where
   abbrev table : List ℕ
   table = leftmostOf tri he (siteCount sites)
 

@@ -16,7 +16,7 @@ use Rattle.plane.specs.declared.points.Point.{Point}
 use Rattle.plane.specs.boxes.Box.{cornersOf}
 use Rattle.plane.specs.boxes.Finite.{BoundedBox, corner-bounded}
 use Rattle.plane.specs.declared.boxes.BoundingBox.{BoundingBox}
-use Rattle.mesh.specs.Accepted.{Mesh, tableOf, Accepted, siteCount}
+use Rattle.mesh.specs.Accepted.{Mesh, tableOf, AcceptedWith, siteCount}
 use Rattle.mesh.specs.laws.Facts.{topology, paired, entry-site, tab-length, tab-cases}
 use Rattle.walks.specs.paths.Path.{distOf, hopOf, pathEnd, wholePath, lastOf}
 use Rattle.walks.specs.paths.PathNeeds.{Walkable, Towards}
@@ -60,8 +60,8 @@ module _ (sites : List Float) (tri he table : List ℕ) (n : ℕ) (m : Walkable 
       subst (λ (v : ℕ). (getD (ownersFrom sites tri he table n o ps) c 0 ≡ lastOf (getD (cornerPaths sites tri he table v ps) c [])) × (getD (ownersFrom sites tri he table n o ps) c 0 < n)) e
       (owner ps o (end-below p n s (t 0 (omega arith)) l) (λ d k. t (suc d) (omega arith)) c (omega arith))
 
--- on an accepted mesh, with a box that rule 3 admits
-module _ {m : Mesh} (a : Accepted m) where
+-- on a mesh that the rules up to 9 accept, with a box that rule 3 admits
+module _ {Fans : Type 0} {m : Mesh} (a : AcceptedWith Fans m) where
   pub ready : Walkable (m .triangles) (m .halfedges) (tableOf m) (siteCount (m .sites))
   ready =
       let ok = topology a in

@@ -1,4 +1,5 @@
 -- `cell_builder::build_cells` meets its contract: the circumcenters decide, then extensions and cells; refused, all is cleared, else the cells are moved together.
+use mathlib.Core.Path.{refl}
 use native.Mathlib.Omega.{arith}
 use borrow.Author.Needs.{needs}
 use Rattle.cell_builder.specs.laws.FirstCells.{named}
@@ -26,7 +27,7 @@ returns c =
     let w = i .before .before in
     let t = w .before in
     let e = Entry (t .before) in
-    refused-first (e .pre) _ _ _ _ _ _ _ _ _ (t .calculate-circumcenters .ensures) (i .if1 .taken) (w .vertices .given) (k .refuse .ensures)
+    refused-first (e .pre) _ _ _ _ _ _ _ _ _ (t .calculate-circumcenters .ensures) (i .if1 .taken) (w .vertices .given) (k .refuse .ensures) refl
 
 calculate-corner-ownership-requires : tie.Need-calculate-corner-ownership-requires
 calculate-corner-ownership-requires c κs = let e = Entry (Circumcenters (c .before) .before) in owned (e .pre)

@@ -1,6 +1,7 @@
 -- From the outcomes of the circumcenters, the extensions and the cells to the build's: refused, all slices are cleared; else vertices and cells stand at their beginnings,
 -- and the corners still with their owners that stand in no cell are those lost.
 use mathlib.Core.Path.{_≡_, refl, sym, ap, _∙_, subst}
+use mathlib.Core.Bool.{true, false}
 use mathlib.Core.List.{List, [], _++_, map}
 use mathlib.Core.Logic.{_⊎_, inl, inr, ⊎-elim, _≢_}
 use Prim.Native.Nat.{ℕ, _/_, _≤_, _<_}
@@ -13,7 +14,9 @@ use Rattle.plane.specs.declared.points.Point.{Point}
 use Rattle.plane.specs.boxes.Box.{cornersOf}
 use Rattle.plane.specs.declared.boxes.BoundingBox.{BoundingBox}
 use Rattle.vertices.specs.laws.Points.{length-points, points-pour, pour-points}
-use Rattle.mesh.specs.Mesh.{leftmostOf}
+use Rattle.mesh.specs.Mesh.{leftmostOf, Fan}
+use Rattle.mesh.specs.laws.Facts.{paired, end-site, tab-length, tab-cases}
+use Rattle.mesh.specs.laws.Total.{total-whole}
 use Rattle.mesh.specs.Accepted.{Mesh, mesh, siteCount}
 use Rattle.cell_memory.specs.layout.Regions.{joined}
 use Rattle.cell_memory.specs.outputs.laws.Marks.{entries-joined}
@@ -28,6 +31,7 @@ use Rattle.definition.specs.Measures.{lostLeft, shareOf}
 use Rattle.definition.specs.Reused.{reusedIn}
 use Rattle.definition.specs.laws.Gives.{gives-ok}
 use Rattle.build_laws.specs.laws.AllCells.{clip-all}
+use Rattle.build_laws.specs.laws.Runs.{true-false}
 use Rattle.build_laws.specs.laws.CellsSoFar.{CellsSoFar}
 use Rattle.build_laws.specs.laws.Built.{owner-of, lost-entries}
 use Rattle.build_laws.specs.laws.Owners.{owners-length, ready, towards-corner}
@@ -37,13 +41,14 @@ use Rattle.definition.specs.Cell.{unmarked}
 use Rattle.definition.specs.Short.{fault, extensions}
 use Rattle.cell_builder.specs.declared.finish.Progress.{Progress}
 use Rattle.cell_builder.specs.declared.finish.CellsAnswer.{CellsAnswer}
-use Rattle.cell_builder.specs.tried.SlicesInvariant.{ground}
+use Rattle.cell_builder.specs.declared.finish.Finished.{Finished}
+use Rattle.cell_builder.specs.tried.SlicesInvariant.{ground, Amid}
 use Rattle.cell_builder.specs.turned.Loops.{LateAmid, DoesLate}
 use Rattle.cell_builder.specs.placed.Placed.{CellsReady}
-use Rattle.cell_builder.specs.laws.LateCells.{late-width, late-placeable, late-placed}
+use Rattle.cell_builder.specs.laws.LateCells.{placeable, late-width, late-placed}
 use Rattle.cell_builder.specs.finish.Finish.{RefusedCells, Finishable}
 use Rattle.cell_builder.specs.AdmittedBuild.{AdmittedBuild}
-use Rattle.cell_builder.specs.Start.{extendedOf, Makeable, planOf, Makes, AnsweredBuild, BuiltCells}
+use Rattle.cell_builder.specs.Start.{extendedOf, Makeable, planOf, Makes, AnsweredBuild, BuildTold, BuiltCells}
 use Rattle.cell_builder.specs.tried.laws.OneTry.{count-is}
 
 answer-same : {f g : Fault} {c d : ℕ} {o w : List ℕ} {l k : ℕ} {u x : Reused} → f ≡ g → c ≡ d → o ≡ w → l ≡ k → u ≡ x
@@ -53,18 +58,14 @@ answer-same p q r s t = rw (p, q, r, s, t)
 -- cells that were made can be put in their places
 module _ (m : Mesh) (table : List ℕ) (b : BoundingBox) (owners marks : List ℕ) (p : Progress) (v₂ : List Float) (ix₂ off₂ : List ℕ) where
   abbrev Fit : Type 0
-  Fit = Finishable (m .halfedges) table marks (siteCount (m .sites)) (length (m .triangles) / 3) (p .count) (length v₂) ix₂ off₂ owners
+  Fit = Finishable (m .halfedges) table marks (siteCount (m .sites)) (length (m .triangles) / 3) (p .count) (length v₂) ix₂ off₂
 
-  amid-finishable : (x : Extensions) (s : CellState) → LateAmid (planOf m table b off₂) (ground (siteCount (m .sites)) owners x) marks s p v₂ ix₂ → Fit
-  amid-finishable x s k = record { placeable = late-placeable k; corners = omega (arith, k .amid .on .few-entries); room = k .amid .holds .room }
+  amid-finishable : (x : Extensions) (s : CellState) → Amid (planOf m table b off₂) (ground (siteCount (m .sites)) owners x) s p v₂ ix₂ → Fit
+  amid-finishable x s a = record { placeable = placeable a; corners = omega (arith, a .on .few-entries); room = a .holds .room }
 
   pub finishable : (o : Outcome Fault Extensions) → Makes m table b owners o marks p v₂ ix₂ off₂ → p .fault .number ≡ 0 → Fit
   finishable (refused e) k q = absurd (omega (arith, k .1, ap (λ (d : Fault). d .number) (k .0)))
-  finishable (ok x) k q = by (clipAll b (length (m .triangles) / 3) (m .triangles) (m .halfedges) (m .hull) table (siteCount (m .sites)) owners x) k
-    where
-      by : (o : Outcome Fault CellState) → DoesLate (planOf m table b off₂) (ground (siteCount (m .sites)) owners x) marks o p v₂ ix₂ → Fit
-      by (ok s) d = amid-finishable x s d
-      by (refused e) d = absurd (omega (arith, d .1, ap (λ (f : Fault). f .number) (d .0)))
+  finishable (ok x) k q = let a = k .0 q in amid-finishable x (a .0) (a .1)
 
 module _ {sites : List Float} {tri he hull table : List ℕ} {b : BoundingBox} {numbers indexes offsets : ℕ} (m : AdmittedBuild (mesh sites tri he hull) table b numbers indexes offsets) where
   abbrev n : ℕ
@@ -136,7 +137,7 @@ module _ {sites : List Float} {tri he hull table : List ℕ} {b : BoundingBox} {
 
   -- ---- the cells
 
-  module _ (owners : List ℕ) (qo : owners ≡ found) (marks : List ℕ) (p : Progress) (v₁ v₂ : List Float) (ix₂ off₂ : List ℕ) where
+  module _ (fan : Fan tri he (leftmostOf tri he n)) (owners : List ℕ) (qo : owners ≡ found) (marks : List ℕ) (p : Progress) (v₁ v₂ : List Float) (ix₂ off₂ : List ℕ) where
     abbrev Refuses : Outcome Fault Built → Type 0
     Refuses o = (e : Fault) × (o ≡ refused e) × (p .fault ≡ e) × (0 < e .number)
 
@@ -165,7 +166,7 @@ module _ {sites : List Float} {tri he hull table : List ℕ} {b : BoundingBox} {
         cells-by x (refused e) q d = inl (e, refl, d .0, d .1)
 
         by : (o : Outcome Fault Extensions) → Makes (mesh sites tri he hull) table b found o marks p v₂ ix₂ off₂ → Refuses (andThen o cellsThen) ⊎ Builds (andThen o cellsThen)
-        by (ok x) d = cells-by x (clipAll b T tri he hull (leftmostOf tri he n) n found x) refl (rw (m .table-is) at d)
+        by (ok x) d = cells-by x (clipAll b T tri he hull (leftmostOf tri he n) n found x) refl (rw (m .table-is) at (d .1 fan))
         by (refused e) d = inl (e, refl, d .0, d .1)
 
     module _ (k : Makes (mesh sites tri he hull) table b owners (extended v₁) marks p v₂ ix₂ off₂) where
@@ -177,19 +178,25 @@ module _ {sites : List Float} {tri he hull table : List ℕ} {b : BoundingBox} {
 
   -- ---- the build's answer and slices
 
-  module _ (v : List Float) (ix off : List ℕ) (r : CellsAnswer) (v₃ : List Float) (ix₃ off₃ : List ℕ) where
+  module _ (v : List Float) (ix off : List ℕ) (r : Finished) (v₃ : List Float) (ix₃ off₃ : List ℕ) where
     abbrev With : Outcome Fault Built → Type 0
-    With o = AnsweredBuild o v ix off r v₃ ix₃ off₃
+    With o = AnsweredBuild o v ix off (r .answer) v₃ ix₃ off₃
+
+    abbrev Told : Type 0
+    Told = BuildTold (mesh sites tri he hull) table b v ix off r v₃ ix₃ off₃
 
     emptied-with : (e : Fault) (v₂ : List Float) (ix₂ off₂ : List ℕ) → length v₂ ≡ length v → length ix₂ ≡ length ix → length off₂ ≡ length off
-        → RefusedCells e v₂ ix₂ off₂ r v₃ ix₃ off₃ → With (refused e)
+        → RefusedCells e v₂ ix₂ off₂ (r .answer) v₃ ix₃ off₃ → With (refused e)
     unfolding ofBuilt
     emptied-with e v₂ ix₂ off₂ qv qi qo z = (z .answer, record { vertices = rw (← qv) (z .vertices); indexes = rw (← qi) (z .indexes); offsets = rw (← qo) (z .offsets) })
 
     -- a triangle offends
     pub refused-first : (t : ℕ) (v₁ : List Float) → CentersBy (centersFrom sites tri 0 T []) T t v v₁ → t < T → length v₁ ≡ length v
-        → RefusedCells (fault refusedCircumcenter t 0 0) v₁ ix off r v₃ ix₃ off₃ → With (build (mesh sites tri he hull) b)
-    refused-first t v₁ c h qv z = rw (offends t v v₁ c h) (emptied-with (fault refusedCircumcenter t 0 0) v₁ ix off qv refl refl z)
+        → RefusedCells (fault refusedCircumcenter t 0 0) v₁ ix off (r .answer) v₃ ix₃ off₃ → r .whole ≡ false → Told
+    refused-first t v₁ c h qv z q = record {
+      answered = λ fan. rw (offends t v v₁ c h) (emptied-with (fault refusedCircumcenter t 0 0) v₁ ix off qv refl refl z);
+      whole = λ w. absurd (true-false w q);
+    }
 
     module _ (t : ℕ) (v₁ : List Float) (c : CentersBy (centersFrom sites tri 0 T []) T t v v₁) (h : T ≤ t) (long : length v₁ ≡ length v)
         (owners : List ℕ) (qo : owners ≡ found) (w : BuiltCells (mesh sites tri he hull) table b owners v₁ ix off r v₃ ix₃ off₃) where
@@ -197,27 +204,28 @@ module _ {sites : List Float} {tri he hull table : List ℕ} {b : BoundingBox} {
       p = w .progress
 
       -- an extension or a cell is refused
-      refused-later : p .fault .number ≢ 0 → With (build (mesh sites tri he hull) b)
-      refused-later q =
-          rw (goes-on t v v₁ c h ∙ stopped owners qo (w .marks) p v₁ (w .made-v) (w .made-ix) (w .made-off) (w .makes) q)
-          (emptied-with (p .fault) (w .made-v) (w .made-ix) (w .made-off) (w .long-v ∙ long) (w .long-ix) (w .long-off) (w .settled .on-refusal q))
+      refused-later : Fan tri he (leftmostOf tri he n) → p .fault .number ≢ 0 → With (build (mesh sites tri he hull) b)
+      refused-later fan q =
+          rw (goes-on t v v₁ c h ∙ stopped fan owners qo (w .marks) p v₁ (w .made-v) (w .made-ix) (w .made-off) (w .makes) q)
+          (emptied-with (p .fault) (w .made-v) (w .made-ix) (w .made-off) (w .long-v ∙ long) (w .long-ix) (w .long-off) (w .settled .on-refusal q .0))
 
-      built-with : p .fault .number ≡ 0 → With (build (mesh sites tri he hull) b)
+      built-with : Fan tri he (leftmostOf tri he n) → p .fault .number ≡ 0 → With (build (mesh sites tri he hull) b)
       unfolding ofBuilt
-      built-with q =
+      built-with fan q =
           let z = w .settled .on-success q in
-          let m₂ = all-built owners qo (w .marks) p v₁ (w .made-v) (w .made-ix) (w .made-off) (w .makes) q in
+          let m₂ = all-built fan owners qo (w .marks) p v₁ (w .made-v) (w .made-ix) (w .made-off) (w .makes) q in
           let s = m₂ .1 in
           let k = m₂ .3 in
           let a = k .amid in
-          let there : CellsReady he table (w .marks) (w .made-ix) (w .made-off) (map unmarked (s .cells)) =
-          subst (λ (tb : List ℕ). CellsReady he tb (w .marks) (w .made-ix) (w .made-off) (map unmarked (s .cells))) (sym (m .table-is)) (late-placed k) in
-          let g = z .gathered (map unmarked (s .cells)) (late-width k) there in
+          let there : CellsReady he table (w .marks) (w .made-ix) (w .made-off) owners (map unmarked (s .cells)) =
+          subst (λ (os : List ℕ). CellsReady he table (w .marks) (w .made-ix) (w .made-off) os (map unmarked (s .cells))) (sym qo)
+          (subst (λ (tb : List ℕ). CellsReady he tb (w .marks) (w .made-ix) (w .made-off) found (map unmarked (s .cells))) (sym (m .table-is)) (late-placed fan k)) in
+          let g = z .gathered (map unmarked (s .cells)) (late-width fan k) there in
           let lost : lostLeft T (p .owners) (joined (map unmarked (s .cells))) ≡ lostFrom T 4 (s .cells) =
           ap (λ (os : List ℕ). lostLeft T os (joined (map unmarked (s .cells)))) (sym (k .owners ∙ a .owners))
           ∙ ap (lostLeft T (s .owners)) (entries-joined (s .cells)) ∙ sym (lost-entries (m .mesh) (m .box) _ _ _ s (m₂ .4)) in
           rw (goes-on t v v₁ c h ∙ m₂ .2) (
-            z .answer (map unmarked (s .cells)) (late-width k) there
+            z .answer (map unmarked (s .cells)) (late-width fan k) there
                 ∙ answer-same (a .fine) (count-is a ∙ ap length (sym (k .verts))) qo lost (sym (ap reusedIn (k .steps) ∙ a .reused)),
             record {
               vertices = rw (k .verts ∙ a .verts, ← (w .long-v ∙ long)) (poured-cleared (points (p .count) (w .made-v)) (p .count) (w .made-v) (w .made-v) v₃
@@ -227,5 +235,23 @@ module _ {sites : List Float} {tri he hull table : List ℕ} {b : BoundingBox} {
             },
           )
 
-      pub built-by : With (build (mesh sites tri he hull) b)
-      built-by = ⊎-elim built-with refused-later (eq-or-ne (p .fault .number) 0)
+      -- the walks have all half-edges, so no fan is broken
+      all-whole : r .whole ≡ true → Fan tri he table
+      all-whole q =
+          let top = m .mesh .topology in
+          let long : length table ≡ n = ap length (m .table-is) ∙ tab-length top in
+          ⊎-elim
+          (λ z. total-whole tri he table (paired top) (record {
+            sites = λ e l. rw long (end-site top e l);
+            ends = λ s l h. rw (m .table-is) (⊎-elim (λ x. absurd (omega (arith, x, top .small, top .same, rw (m .table-is) at h))) (λ x. x .1) (tab-cases top s (rw long at l)));
+          }) (rw long (w .settled .on-success z .whole q)))
+          (λ z. absurd (true-false q (w .settled .on-refusal z .1)))
+          (eq-or-ne (p .fault .number) 0)
+
+      pub built-by : Told
+      built-by = record {
+        answered = λ fan.
+            let f : Fan tri he (leftmostOf tri he n) = rw (m .table-is) at fan in
+            ⊎-elim (built-with f) (refused-later f) (eq-or-ne (p .fault .number) 0);
+        whole = all-whole;
+      }

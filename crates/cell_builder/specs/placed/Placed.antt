@@ -7,10 +7,12 @@ use Prim.Native.Nat.{ℕ, _+_, _-_, _/_, _%_, _≤_, _<_}
 use lib.Dec.{eqb}
 use lib.ListN.{length, getD}
 use Rattle.base.specs.common.Count.{occ}
+use Rattle.base.specs.common.Decide.{Says}
 use Rattle.base.specs.common.Pick.{pick}
 use Rattle.base.specs.numbers.Numbers.{EMPTY}
-use Rattle.mesh.specs.Mesh.{pairOf}
+use Rattle.mesh.specs.Mesh.{pairOf, wholeOf}
 use Rattle.cell_memory.specs.layout.Regions.{Region, StartsRise}
+use Rattle.cell_memory.specs.staging.Staging.{Staged}
 use Rattle.cell_builder.specs.turned.Marks.{MadeLast}
 
 -- ---- steps back
@@ -49,39 +51,67 @@ pub record BackCell (he : List ℕ) (t n : ℕ) (c : List ℕ) : Type 0 where
   pub short : length along ≤ n
   pub is : c ≡ backTriangles t along
 
--- pairs are mutual, and a walk back from t to t of at most n steps has n: so it is a walk on from t to t as well
-pub record RoundTrip (he : List ℕ) (t n : ℕ) : Type 0 where
-  pub pairs : (e : ℕ) → InPair he e → pairOf he (pairOf he e) ≡ e
-  pub long : (c : List ℕ) (b : BackCell he t n c) → n ≤ length (b .along)
+-- pairs are mutual
+abbrev pub Mutual : List ℕ → Type 0
+Mutual he = (e : ℕ) → InPair he e → pairOf he (pairOf he e) ≡ e
+
+-- ---- from both ends
+
+-- whether a walk back that is at e and a walk on that is at f have come together, or are one step apart
+unfoldable pub meetsOf : List ℕ → ℕ → ℕ → Bool → Bool
+meetsOf he e f apart = pick apart (λ _. eqb (backOf he e) f) (λ _. eqb e f)
+
+-- what walking from both ends tells of a walk of so many steps: whether they are as many as the places; then all of them are written
+pub record WalkedRound (at end : ℕ) (old new : List ℕ) (c : List ℕ) (steps : ℕ) (r : Bool) : Type 0 where
+  pub says : Says r (end - at ≤ steps)
+  pub written : end - at ≤ steps → Staged c at old new end
+
+-- the place after the cell, and the steps that were counted; a crowd's walk may be shorter than its room
+pub record WalkedCell (at end : ℕ) (old new : List ℕ) (c : List ℕ) (steps : ℕ) (crowded : Bool) (last counted : ℕ) : Type 0 where
+  pub low : at ≤ last
+  pub high : last ≤ end
+  pub counts : counted ≤ steps
+  pub written : (crowded ≡ false → end - at ≤ steps) → Staged c at old new last
 
 -- ---- one cell
 
--- site s with the region from..to of ix; an early site has a walk that the region has room for, and no more room but for the crowd's
-pub record CellReady (he table m ix : List ℕ) (at from to s crowd : ℕ) : Type 0 where
+-- a walk back from t to t of at most n steps, which has as many as the walk on
+pub record EarlyWalk (he : List ℕ) (t n : ℕ) : Type 0 where
+  pub cell : List ℕ
+  pub back : BackCell he t n cell
+  pub long : length (back .along) ≡ length (wholeOf he t)
+
+-- site s with the region from..to of ix; an early site has a walk that the region has room for
+pub record CellReady (he table m ix : List ℕ) (at from to s : ℕ) : Type 0 where
   pub site : s < length table
+  pub threes : length he % 3 ≡ 0
   pub few : length he ≤ 393216
+  pub pairs : Mutual he
   pub low : at ≤ from
   pub rise : from ≤ to
   pub within : to ≤ length ix
-  pub walk : MadeLast he table m s → (c : List ℕ) × BackCell he (getD table s 0) ((to - from) / 3) c
-  pub round : MadeLast he table m s → s ≢ crowd → RoundTrip he (getD table s 0) ((to - from) / 3)
+  pub walk : MadeLast he table m s → EarlyWalk he (getD table s 0) ((to - from) / 3)
 
--- its cell c, in its region or to be walked
-pub record CellOf (he table m ix : List ℕ) (from to s : ℕ) (c : List ℕ) : Type 0 where
+-- its cell c, in its region or to be walked; but for the crowd's the walk takes all of the region's room
+pub record CellOf (he table m ix : List ℕ) (from to s crowd : ℕ) (c : List ℕ) : Type 0 where
   pub late : (MadeLast he table m s → ⊥) → Region ix from to c
   pub early : MadeLast he table m s → BackCell he (getD table s 0) ((to - from) / 3) c
+  pub full : (x : MadeLast he table m s) → s ≢ crowd → (to - from) / 3 ≤ length (early x .along)
 
 -- ---- all cells
 
--- n regions in ix, and a walk for each early site; more room has only one that owns three corners or more
-pub record Placeable (he table m ix off : List ℕ) (n : ℕ) (owners : List ℕ) : Type 0 where
+-- n regions in ix, and a walk for each early site
+pub record Placeable (he table m ix off : List ℕ) (n : ℕ) : Type 0 where
   pub rising : StartsRise off n (length ix)
   pub small : getD off n 0 < EMPTY
   pub sites : n ≤ length table
+  pub few-sites : n ≤ 65536
+  pub threes : length he % 3 ≡ 0
   pub few : length he ≤ 393216
-  pub walks : (s : ℕ) → s < n → MadeLast he table m s → (c : List ℕ) × BackCell he (getD table s 0) ((getD off (s + 1) 0 - getD off s 0) / 3) c
-  pub rounds : (s : ℕ) → s < n → MadeLast he table m s → occ s owners ≤ 2 → RoundTrip he (getD table s 0) ((getD off (s + 1) 0 - getD off s 0) / 3)
+  pub pairs : Mutual he
+  pub walks : (s : ℕ) → s < n → MadeLast he table m s → EarlyWalk he (getD table s 0) ((getD off (s + 1) 0 - getD off s 0) / 3)
 
--- the cells, in their regions or to be walked
-abbrev pub CellsReady : List ℕ → List ℕ → List ℕ → List ℕ → List ℕ → List (List ℕ) → Type 0
-CellsReady he table m ix off cells = (s : ℕ) → s < length cells → CellOf he table m ix (getD off s 0) (getD off (s + 1) 0) s (getD cells s [])
+-- the cells, in their regions or to be walked, whichever site it is that alone may own three corners or more
+abbrev pub CellsReady : List ℕ → List ℕ → List ℕ → List ℕ → List ℕ → List ℕ → List (List ℕ) → Type 0
+CellsReady he table m ix off owners cells =
+    (crowd : ℕ) → ((k : ℕ) → k ≢ crowd → occ k owners ≤ 2) → (s : ℕ) → s < length cells → CellOf he table m ix (getD off s 0) (getD off (s + 1) 0) s crowd (getD cells s [])

@@ -1,31 +1,50 @@
 -- What the pass over the hull's edges answers, by the definition's outcome.
 use mathlib.Core.Path.{_≡_}
 use mathlib.Core.List.{List}
-use Prim.Native.Nat.{ℕ, _+_, _*_, _^_, _≤_, _<_}
+use Prim.Native.Nat.{ℕ, _+_, _*_, _/_, _%_, _^_, _≤_, _<_}
 use lib.Ieee.{Float}
 use lib.ListN.{length, getD, take, drop}
 use lib.Seq.{sets}
 use Rattle.base.specs.common.Binary64.{_⊞_, _⊟_, _⊠_, _⊘_, one}
 use Rattle.root.specs.Sqrt.{sqrtOf}
 use Rattle.plane.specs.points.Plane.{at}
+use Rattle.plane.specs.points.Flat.{pointAt}
 use Rattle.plane.specs.declared.points.Point.{Point}
 use Rattle.vertices.specs.Store.{Holds, Poured}
 use Rattle.base.specs.numbers.Numbers.{refusedExtension}
 use Rattle.definition.specs.declared.Fault.{Fault}
 use Rattle.definition.specs.Fault.{Outcome, ok, refused}
-use Rattle.definition.specs.Build.{infinity, Extensions}
+use Rattle.mesh.specs.Mesh.{startOf, endOf}
+use Rattle.mesh.specs.Hull.{nextPlace, nextSite}
+use Rattle.definition.specs.Cell.{vertexAt}
+use Rattle.definition.specs.Build.{infinity, extended, Extensions}
 use Rattle.definition.specs.Short.{fault}
 use Rattle.definition.specs.Reused.{reused, reusedIn}
 use Rattle.cell_builder.specs.rings.Centers.{Named}
+use Rattle.cell_builder.specs.declared.rings.extensions.Ray.{Ray}
+use Rattle.cell_builder.specs.declared.rings.extensions.TwoPoints.{TwoPoints}
 use Rattle.cell_builder.specs.declared.rings.extensions.Passed.{Passed}
 
 -- from c, orthogonally to the edge from a to b
-unfoldable pub projectedOf : Point → Point → Point → Point
-projectedOf c a b =
-    let x = a .y ⊟ b .y in
-    let y = b .x ⊟ a .x in
-    let k = one ⊘ sqrtOf (x ⊠ x ⊞ y ⊠ y) in
-    at (c .x ⊞ x ⊠ k ⊠ infinity) (c .y ⊞ y ⊠ k ⊠ infinity)
+unfoldable pub rayOf : Point → Point → Point → Ray
+rayOf c a b = record { start = c; x = a .y ⊟ b .y; y = b .x ⊟ a .x }
+
+-- from the circumcenter of half-edge e, orthogonally to it
+abbrev pub rayOver : List Float → List ℕ → List Point → ℕ → Ray
+rayOver sites tri vs e = rayOf (vertexAt vs (e / 3)) (pointAt sites (startOf tri e)) (pointAt sites (endOf tri e))
+
+-- far along a ray whose direction has length l
+unfoldable pub farAlong : Ray → Float → Point
+farAlong r l =
+    let k = one ⊘ l in
+    at (r .start .x ⊞ r .x ⊠ k ⊠ infinity) (r .start .y ⊞ r .y ⊠ k ⊠ infinity)
+
+abbrev pub extendedRay : Ray → Point
+extendedRay r = farAlong r (sqrtOf (r .x ⊠ r .x ⊞ r .y ⊠ r .y))
+
+-- the half-edge over which hull place i is extended
+abbrev pub edgeAt : List ℕ → List ℕ → ℕ → ℕ
+edgeAt hull table i = getD table (nextSite hull i) 0
 
 -- each hull site has an entry in the table
 abbrev pub Hulled : List ℕ → List ℕ → Type 0
@@ -37,6 +56,22 @@ pub record Extends (sites : List Float) (tri hull table : List ℕ) (nc : ℕ) :
   pub threes : length tri ≡ 3 * nc
   pub hulled : Hulled hull table
   pub edges : (i : ℕ) → i < length hull → getD table (getD hull i 0) 0 < length tri
+
+-- and count vertices that begin with the circumcenters
+pub record HullReached (sites : List Float) (tri hull table : List ℕ) (v : List Float) (count : ℕ) : Type 0 where
+  pub nc : ℕ
+  pub extends : Extends sites tri hull table nc
+  pub centers : nc ≤ count
+  pub room : 2 * count ≤ length v
+
+-- at every second hull place its extension was worked out before
+abbrev pub PointAhead : List Float → List ℕ → List ℕ → List ℕ → List Point → ℕ → Point → Type 0
+PointAhead sites tri hull table vs i p = i < length hull → i % 2 ≡ 1 → p ≡ extended sites tri vs (edgeAt hull table i)
+
+-- the extension of hull place i, and at the others the one of the place after it
+pub record PointsFrom (sites : List Float) (tri hull table : List ℕ) (vs : List Point) (i : ℕ) (r : TwoPoints) : Type 0 where
+  pub first : r .first ≡ extended sites tri vs (edgeAt hull table i)
+  pub second : i % 2 ≡ 0 → r .second ≡ extended sites tri vs (edgeAt hull table (nextPlace (length hull) i))
 
 -- and of the two lent lists: count vertices with room for one more for each hull place, and a place for each number before the store's part
 pub record ExtendsInto (sites : List Float) (tri hull table : List ℕ) (nc count limit at : ℕ) (v : List Float) (ix : List ℕ) : Type 0 where

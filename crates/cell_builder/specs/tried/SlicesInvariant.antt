@@ -9,8 +9,8 @@ use Rattle.base.specs.common.Pick.{pick}
 use Rattle.plane.specs.points.Flat.{points}
 use Rattle.plane.specs.declared.boxes.BoundingBox.{BoundingBox}
 use Rattle.vertices.specs.Store.{Holds}
-use Rattle.mesh.specs.Mesh.{endOf, leftmostOf}
-use Rattle.mesh.specs.Accepted.{Topology}
+use Rattle.mesh.specs.Mesh.{endOf, leftmostOf, Fan}
+use Rattle.mesh.specs.Accepted.{OutlinedTopology}
 use Rattle.cell_memory.specs.layout.Regions.{Regions}
 use Rattle.cell_memory.specs.layout.Rooms.{Started}
 use Rattle.definition.specs.declared.Fault.{Fault}
@@ -51,10 +51,10 @@ ground n found x = record { sites = n; found = found; x = x }
 abbrev pub frameOf : BoundingBox → ℕ → ℕ → Frame
 frameOf b entries hull = record { bounds = b; centers = entries / 3; stage = 3 * entries + 6 * hull + 4; limit = 3 * entries + entries / 3 + 7 * hull + 6 }
 
--- that it is so: an accepted mesh with its table, the regions' starts, a box that rule 3 admits with its corners after the circumcenters,
+-- that it is so: a mesh that rules 7 to 9 accept with its table, the regions' starts, a box that rule 3 admits with its corners after the circumcenters,
 -- and slices of so many numbers and indexes with the room that rule 2 asks for
 pub record Grounded (w : Plan) (g : Ground) (numbers indexes : ℕ) : Type 0 where
-  pub mesh : Topology (w .triangles) (w .halfedges) (w .hull) (g .sites)
+  pub mesh : OutlinedTopology (w .triangles) (w .halfedges) (w .hull) (g .sites)
   pub table-is : w .table ≡ leftmostOf (w .triangles) (w .halfedges) (g .sites)
   pub few-sites : g .sites ≤ 65536
   pub few-entries : length (w .triangles) ≤ 393216
@@ -76,6 +76,10 @@ pub record Grounded (w : Plan) (g : Ground) (numbers indexes : ℕ) : Type 0 whe
   pub room-v : 2 * (7 * (length (w .triangles) / 3) + 5 * length (w .hull) + 4) ≤ numbers
   pub room-ix : w .frame .limit ≤ indexes
 
+-- rule 10 on it
+abbrev pub Fanned : Plan → Ground → Type 0
+Fanned w g = Fan (w .triangles) (w .halfedges) (leftmostOf (w .triangles) (w .halfedges) (g .sites))
+
 -- the definition's cells s, held by the slices v and ix, with p beside them
 pub record Amid (w : Plan) (g : Ground) (s : CellState) (p : Progress) (v : List Float) (ix : List ℕ) : Type 0 where
   pub on : Grounded w g (length v) (length ix)
@@ -92,6 +96,10 @@ pub record Amid (w : Plan) (g : Ground) (s : CellState) (p : Progress) (v : List
 abbrev pub Does : Plan → Ground → Outcome Fault CellState → Progress → List Float → List ℕ → Type 0
 Does w g (ok s) p v ix = Amid w g s p v ix
 Does w g (refused e) p v ix = (p .fault ≡ e) × (0 < e .number)
+
+-- where there is no fault, some cells that the slices hold
+abbrev pub SomeHeld : Plan → Ground → Progress → List Float → List ℕ → Type 0
+SomeHeld w g p v ix = p .fault .number ≡ 0 → (t : CellState) × Amid w g t p v ix
 
 -- ---- the definition's tries, by a plan
 

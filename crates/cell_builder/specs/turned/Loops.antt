@@ -11,10 +11,10 @@ use Rattle.definition.specs.declared.Fault.{Fault}
 use Rattle.definition.specs.Fault.{Outcome, ok, refused, andThen}
 use Rattle.definition.specs.Build.{CellState, clipHull, clipRest}
 use Rattle.cell_builder.specs.declared.finish.Progress.{Progress}
-use Rattle.cell_builder.specs.tried.SlicesInvariant.{Plan, Ground, Amid, Does, AtRest}
+use Rattle.cell_builder.specs.tried.SlicesInvariant.{Plan, Ground, Fanned, Amid, Does, SomeHeld, AtRest}
 use Rattle.cell_builder.specs.tried.laws.Early.{earlyCell}
 use Rattle.cell_builder.specs.turned.Marks.{Covers, MadeLast, LeftOut}
-use Rattle.cell_builder.specs.turned.Turns.{HullsMarked, SettledBefore}
+use Rattle.cell_builder.specs.turned.Turns.{HullsKnown, SettledBefore}
 
 -- ---- the definition's loops, by a plan
 
@@ -40,15 +40,6 @@ MarksCover w g m = Covers (w .frame .bounds) (g .x .verts) (w .triangles) (w .ta
 -- inner sites' cells are empty
 abbrev pub InnerBlank : Plan → Ground → CellState → Type 0
 InnerBlank w g s = (k : ℕ) → k < g .sites → pairOf (w .halfedges) (getD (w .table) k 0) ≢ EMPTY → getD (s .cells) k [] ≡ []
-
--- those of inner sites empty, and of the hull's filled where not marked
-pub record RestAmid (w : Plan) (m : List ℕ) (p : Progress) (v : List Float) (ix : List ℕ) : Type 0 where
-  pub g : Ground
-  pub s : CellState
-  pub amid : Amid w g s p v ix
-  pub inner : InnerBlank w g s
-  pub filled : HullsMarked w m s
-  pub marked : MarksCover w g m
 
 -- early sites' cells are empty
 abbrev pub EarlyBlank : Plan → Ground → List ℕ → CellState → Type 0
@@ -88,15 +79,17 @@ abbrev pub DoesLeft : Plan → Ground → List ℕ → Outcome Fault CellState �
 DoesLeft w g m (ok c) p v ix = (t : CellState) × LeftAmid w g m c t p v ix
 DoesLeft w g m (refused e) p v ix = (p .fault ≡ e) × (0 < e .number)
 
--- at all half-edges
+-- at all half-edges, where rule 10 holds; else some cells
 abbrev pub RestTried : Plan → List ℕ → Progress → List Float → List ℕ → Progress → List Float → List ℕ → Type 0
-RestTried w m p v ix r v₁ ix₁ = AtRest w p v ix (λ g s. InnerBlank w g s → HullsMarked w m s → MarksCover w g m → DoesLeft w g m (edgeTries w s) r v₁ ix₁)
+RestTried w m p v ix r v₁ ix₁ =
+    AtRest w p v ix (λ g s. SomeHeld w g r v₁ ix₁ × (Fanned w g → InnerBlank w g s → HullsKnown w g m s → MarksCover w g m → DoesLeft w g m (edgeTries w s) r v₁ ix₁))
 
 -- the same with the marks alone
 abbrev pub DoesLate : Plan → Ground → List ℕ → Outcome Fault CellState → Progress → List Float → List ℕ → Type 0
 DoesLate w g m (ok c) p v ix = LateAmid w g m c p v ix
 DoesLate w g m (refused e) p v ix = (p .fault ≡ e) × (0 < e .number)
 
--- at all hull places, and then at all half-edges
+-- at all hull places, and then at all half-edges, where rule 10 holds; else some cells
 abbrev pub AllTried : Plan → Progress → List Float → List ℕ → List ℕ → Progress → List Float → List ℕ → Type 0
-AllTried w p v ix m r v₁ ix₁ = AtFirst w p v ix (λ g s. DoesLate w g m (andThen (hullTries w g s) (λ t. edgeTries w t)) r v₁ ix₁)
+AllTried w p v ix m r v₁ ix₁ =
+    AtFirst w p v ix (λ g s. SomeHeld w g r v₁ ix₁ × (Fanned w g → DoesLate w g m (andThen (hullTries w g s) (λ t. edgeTries w t)) r v₁ ix₁))

@@ -5,13 +5,15 @@ use crate::tried::tries::clip_at_edge;
 use crate::tried::tries::clip_at_hull;
 use crate::turned::marks::mark_hulls;
 use crate::turned::marks::mark_outside;
+use crate::turned::retries::closes_outside;
 use crate::turned::turns::next_due;
 ghost use mathlib.Core.Path.{_≡_};
 ghost use mathlib.Core.List.{List};
-ghost use Prim.Native.Nat.{ℕ};
+ghost use Prim.Native.Nat.{ℕ, _<_};
 ghost use lib.ListN.{length};
-ghost use Rattle.cell_builder.specs.tried.SlicesInvariant.{plan};
-ghost use Rattle.cell_builder.specs.turned.Loops.{HullsAmid, RestAmid, HullsTried, RestTried, AllTried};
+ghost use Rattle.cell_builder.specs.tried.SlicesInvariant.{plan, EdgesAmid};
+ghost use Rattle.cell_builder.specs.turned.Turns.{DueTried};
+ghost use Rattle.cell_builder.specs.turned.Loops.{HullsAmid, HullsTried, RestTried, AllTried};
 
 // The cells of all hull sites.
 fn clip_hull(
@@ -54,6 +56,39 @@ fn clip_hull(
     at
 }
 
+// The cell of the site where half-edge e ends, if it is still empty, unless a try there is known to put nothing.
+fn clip_due(
+    triangles: &[u32],
+    halfedges: &[u32],
+    table: &[u32],
+    vertices: &mut [f64],
+    indexes: &mut [u32],
+    offsets: &[u32],
+    f: Frame,
+    p: Progress,
+    e: usize,
+) -> Progress
+    requires { ⌜ ((e < length (now triangles)) × (hull : List ℕ) × EdgesAmid (plan (now triangles) (now halfedges) hull (now table) f (now offsets)) p (now vertices) (now indexes)) ⌝ }
+    ensures { λ r. ⌜ ((hull : List ℕ) → DueTried (plan (now (triangles .entry)) (now (halfedges .entry)) hull (now (table .entry)) f (now (offsets .entry))) p
+        (now (vertices .entry)) (now (indexes .entry)) e r (now (vertices .exit)) (now (indexes .exit))) ⌝ }
+{
+    let bounds = f.bounds;
+    if closes_outside(
+        triangles,
+        halfedges,
+        table,
+        vertices,
+        indexes,
+        offsets,
+        p.count,
+        bounds,
+        e,
+    ) {
+        return p;
+    }
+    clip_at_edge(triangles, halfedges, vertices, indexes, offsets, f, p, e)
+}
+
 // The cells still empty, from each half-edge in turn; early ones are left out.
 fn clip_rest(
     triangles: &[u32],
@@ -66,14 +101,24 @@ fn clip_rest(
     f: Frame,
     p: Progress,
 ) -> Progress
-    requires { ⌜ ((hull : List ℕ) × RestAmid (plan (now triangles) (now halfedges) hull (now table) f (now offsets)) (now marks) p (now vertices) (now indexes)) ⌝ }
+    requires { ⌜ ((hull : List ℕ) × EdgesAmid (plan (now triangles) (now halfedges) hull (now table) f (now offsets)) p (now vertices) (now indexes)) ⌝ }
     ensures { λ r. ⌜ ((hull : List ℕ) → RestTried (plan (now (triangles .entry)) (now (halfedges .entry)) hull (now (table .entry)) f (now (offsets .entry))) (now (marks .entry)) p
         (now (vertices .entry)) (now (indexes .entry)) r (now (vertices .exit)) (now (indexes .exit))) ⌝ }
 {
     let mut at = p;
     let mut e = next_due(triangles, halfedges, table, marks, 0);
     while e < triangles.len() {
-        let r = clip_at_edge(triangles, halfedges, vertices, indexes, offsets, f, at, e);
+        let r = clip_due(
+            triangles,
+            halfedges,
+            table,
+            vertices,
+            indexes,
+            offsets,
+            f,
+            at,
+            e,
+        );
         let fault = r.fault;
         if fault.number != 0 {
             return r;

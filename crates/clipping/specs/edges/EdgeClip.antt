@@ -1,15 +1,24 @@
--- The vertices where an edge crosses the box, as the code gives them, and what adding them leaves of the slices.
+-- The crossings of an edge, found and added: the vertices as the code gives them, and what adding them leaves of the slices.
 use Prim.Native.Nat.{ℕ, _+_, _*_, _≤_, _<_}
 use mathlib.Core.Path.{_≡_}
+use mathlib.Core.Bool.{Bool, true, false}
 use mathlib.Core.List.{List}
 use lib.Ieee.{Float}
 use lib.ListN.{take}
+use Rattle.plane.specs.declared.points.Point.{Point}
+use Rattle.plane.specs.declared.boxes.BoundingBox.{BoundingBox}
+use Rattle.plane.specs.declared.lines.Crossing.{Crossing}
 use Rattle.vertices.specs.Store.{Leaves}
-use Rattle.definition.specs.Cell.{EdgeClip, missed, once, twice}
+use Rattle.definition.specs.Cell.{EdgeClip, missed, once, twice, edgeCrossing, vertexAt}
 use Rattle.definition.specs.Short.{tookOne, tookTwo}
 use Rattle.definition.specs.Reused.{CountsReused}
 use Rattle.clipping.specs.declared.edges.Crossed.{Crossed}
 use Rattle.clipping.specs.declared.edges.Crossed.the-variants.{Missed, Once, Twice}
+
+-- c is the crossings of the edge from p to q, found from its end inside where one is; where both are it is not asked for
+pub record CrossingsAsked (b : BoundingBox) (vs : List Point) (p : ℕ) (pIn : Bool) (q : ℕ) (qIn : Bool) (c : Crossing) : Type 0 where
+  pub enters : pIn ≡ false → qIn ≡ true → c ≡ edgeCrossing b (vertexAt vs q) (vertexAt vs p)
+  pub others : qIn ≡ false → c ≡ edgeCrossing b (vertexAt vs p) (vertexAt vs q)
 
 -- count vertices became n, by `most` at most; those that were there stay
 pub record VerticesGrown (most count n : ℕ) (v v₁ : List Float) : Type 0 where

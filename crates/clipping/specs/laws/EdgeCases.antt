@@ -1,28 +1,32 @@
 -- One edge of the ring as the definition has it: the four cases, the refusal's place, the walk's next state.
 use Prim.Native.Nat.{ℕ, _*_, _≤_, _<_}
-use mathlib.Core.Path.{_≡_, refl, sym, ap, _∙_}
+use mathlib.Core.Path.{_≡_, refl, sym, ap, _∙_, subst}
 use mathlib.Core.Bool.{Bool, true, false, true≢false}
 use mathlib.Core.List.{List, [], _∷_}
 use mathlib.Core.Logic.{⊎-elim}
 use native.Mathlib.Omega.{arith}
 use lib.Ieee.{Float, nan}
-use lib.ListN.{take}
+use lib.ListN.{length, take}
 use borrow.Author.Tests.{lt-ltb, le-ltb}
 use Rattle.base.specs.common.laws.Decide.{lt-or-ge}
 use Rattle.plane.specs.points.Plane.{at}
 use Rattle.plane.specs.declared.points.Point.{Point}
 use Rattle.plane.specs.points.Flat.{points}
 use Rattle.plane.specs.sides.Sides.{insideOf}
+use Rattle.plane.specs.boxes.Finite.{BoundedBox}
 use Rattle.plane.specs.declared.boxes.BoundingBox.{BoundingBox}
+use Rattle.plane.specs.declared.lines.Crossing.{Crossing}
 use Rattle.vertices.specs.laws.Store.{poured-points, kept-vertex}
 use Rattle.definition.specs.Fault.{Outcome, ok, refused, andThen, atEdge}
 use Rattle.definition.specs.declared.Fault.{Fault}
 use Rattle.definition.specs.Cell as Def
-use Rattle.definition.specs.Cell.{entry, plain, EdgeClip, missed, once, twice, Change, clipStep, clipEdge, leave, enter, crossAt, cross, inBox, vertexAt, stepTo}
+use Rattle.definition.specs.Cell.{entry, plain, EdgeClip, missed, once, twice, Change, clipStep, clipEdge, clipWith, leave, enter, crossAt, cross, inBox, vertexAt, stepTo}
 use Rattle.definition.specs.Short.{fault, change, moved}
 use Rattle.definition.specs.Sides.{Sided}
 use Rattle.definition.specs.laws.Gives.{Gives}
-use Rattle.build_laws.specs.laws.SidedEdge.{EndsOnSide, Shut}
+use Rattle.build_laws.specs.laws.SidedEdge.{ClipSided, clip-sided, EndsOnSide, Shut}
+use Rattle.clipping.specs.edges.EdgeClip.{CrossingsAsked}
+use Rattle.clipping.specs.edges.laws.EdgeClip.{clip-is}
 use Rattle.clipping.specs.EdgeOutcome.{Changes}
 use Rattle.clipping.specs.RingWalk.{tipOf, Steps}
 use Rattle.clipping.specs.declared.edges.Env.{Env}
@@ -38,17 +42,28 @@ module _ (b : BoundingBox) (nc site p : ℕ) (pIn : Bool) (q : ℕ) (qIn : Bool)
   unfolding clipStep
   step-stay h k = rw (h, k)
 
-  pub step-leave : pIn ≡ true → qIn ≡ false → clipStep b nc site p pIn q qIn vs os opened last ≡ leave p os (clipEdge b nc vs p q)
-  unfolding clipStep
-  step-leave h k = rw (h, k)
+  -- with the crossings c that were asked for
+  module _ (c : Crossing) (a : CrossingsAsked b vs p pIn q qIn c) where
+    pub step-leave : pIn ≡ true → qIn ≡ false → clipStep b nc site p pIn q qIn vs os opened last ≡ leave p os (clipWith nc vs c)
+    unfolding clipStep
+    step-leave h k = rw (h, k) (ap (leave p os) (clip-is b nc vs p q c (a .others k)))
 
-  pub step-enter : pIn ≡ false → qIn ≡ true → clipStep b nc site p pIn q qIn vs os opened last ≡ enter b nc site os last (clipEdge b nc vs q p)
-  unfolding clipStep
-  step-enter h k = rw (h, k)
+    pub step-enter : pIn ≡ false → qIn ≡ true → clipStep b nc site p pIn q qIn vs os opened last ≡ enter b nc site os last (clipWith nc vs c)
+    unfolding clipStep
+    step-enter h k = rw (h, k) (ap (enter b nc site os last) (clip-is b nc vs q p c (a .enters h k)))
 
-  pub step-cross : pIn ≡ false → qIn ≡ false → clipStep b nc site p pIn q qIn vs os opened last ≡ cross b nc site vs os opened last (clipEdge b nc vs p q)
-  unfolding clipStep
-  step-cross h k = rw (h, k)
+    pub step-cross : pIn ≡ false → qIn ≡ false → clipStep b nc site p pIn q qIn vs os opened last ≡ cross b nc site vs os opened last (clipWith nc vs c)
+    unfolding clipStep
+    step-cross h k = rw (h, k) (ap (cross b nc site vs os opened last) (clip-is b nc vs p q c (a .others k)))
+
+    -- they are on the sides, unless both ends are inside
+    pub asked-sided : (pIn ≡ true → qIn ≡ true → ⊥) → BoundedBox 101 b → nc ≤ length vs → ClipSided b nc site (clipWith nc vs c)
+    asked-sided n box h = go pIn qIn refl refl
+      where
+        go : (i j : Bool) → pIn ≡ i → qIn ≡ j → ClipSided b nc site (clipWith nc vs c)
+        go i false x y = subst (ClipSided b nc site) (clip-is b nc vs p q c (a .others y)) (clip-sided b nc site box vs p q h)
+        go false true x y = subst (ClipSided b nc site) (clip-is b nc vs q p c (a .enters x y)) (clip-sided b nc site box vs q p h)
+        go true true x y = absurd (n x y)
 
 -- ---- inside
 

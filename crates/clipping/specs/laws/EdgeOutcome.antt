@@ -17,13 +17,12 @@ use Rattle.plane.specs.declared.boxes.BoundingBox.{BoundingBox}
 use Rattle.vertices.specs.Add.{Added}
 use Rattle.vertices.specs.Store.{Holds, Leaves}
 use Rattle.vertices.specs.laws.Store.{poured-points, poured-none, kept-vertex}
-use Rattle.vertices.specs.laws.Points.{length-points}
 use Rattle.definition.specs.Fault.{Outcome, ok, refused}
-use Rattle.definition.specs.Cell.{Entry, Taken, Ins, lastOr, insertEdge, Change, EdgeClip, missed, once, twice, clipEdge, unmarked}
+use Rattle.definition.specs.Cell.{Entry, Taken, Ins, lastOr, insertEdge, Change, EdgeClip, missed, once, twice, unmarked}
 use Rattle.definition.specs.declared.Reused.{Reused}
 use Rattle.definition.specs.Reused.{reused, CountsReused}
 use Rattle.definition.specs.Sides.{Sided, SidedCorners}
-use Rattle.build_laws.specs.laws.SidedEdge.{ClipSided, clip-sided}
+use Rattle.build_laws.specs.laws.SidedEdge.{ClipSided}
 use Rattle.clipping.specs.corners.CellEntries.{EntryRoom, EntriesPut, places}
 use Rattle.definition.specs.Short.{link, change, tookOne, tookTwo}
 use Rattle.clipping.specs.edges.EdgeClip.{ClipsEdge, VerticesGrown}
@@ -169,15 +168,12 @@ pub record CrossedRoom (env : Env) (count : ℕ) (cell : CellSoFar) (v : List Fl
   -- a last entry that was on a side is
   pub last : cell .last < count → Sided (env .bounds) (points count v) (cell .last) → Sided (env .bounds) (points n v₁) (cell .last)
 
--- the crossings are those of the edge from vertex p to vertex q
-module _ (env : Env) (count : ℕ) (cell : CellSoFar) (v : List Float) (ix : List ℕ) (p q : ℕ) (g : Crossed) (v₁ : List Float) (ix₁ : List ℕ)
-    (m : EdgeRoom env count cell v ix) (c : ClipsEdge (env .centers) (env .limit) count (clipEdge (env .bounds) (env .centers) (points count v) p q) v ix g v₁ ix₁)
+-- the crossings are on the sides
+module _ (env : Env) (count : ℕ) (cell : CellSoFar) (v : List Float) (ix : List ℕ) (k : EdgeClip) (g : Crossed) (v₁ : List Float) (ix₁ : List ℕ)
+    (m : EdgeRoom env count cell v ix) (on-sides : ClipSided (env .bounds) (env .centers) (env .site) k) (c : ClipsEdge (env .centers) (env .limit) count k v ix g v₁ ix₁)
     (same : length ix₁ ≡ length ix) where
   abbrev OnSides : EdgeClip → Type 0
   OnSides = ClipSided (env .bounds) (env .centers) (env .site)
-
-  on-sides : OnSides (clipEdge (env .bounds) (env .centers) (points count v) p q)
-  on-sides = clip-sided (env .bounds) (env .centers) (env .site) (m .sides .box) (points count v) p q (omega (arith, m .corners, length-points v 0 count))
 
   room-for : (n first : ℕ) → first < n → VerticesGrown 2 count n v v₁ → Holds (env .centers) n v₁ (drop (env .limit) ix₁) → Sided (env .bounds) (points n v₁) first
       → CrossedRoom env count cell v n first v₁ ix₁
@@ -197,7 +193,7 @@ module _ (env : Env) (count : ℕ) (cell : CellSoFar) (v : List Float) (ix : Lis
   stored n f r ws e i s = rw (e, i) s
 
   pub room-once : {f n : ℕ} {u : Reused} → g ≡ Once f n u → CrossedRoom env count cell v n f v₁ ix₁
-  room-once {f} {n} {u} is = go (clipEdge (env .bounds) (env .centers) (points count v) p q) (rw is at c) on-sides
+  room-once {f} {n} {u} is = go k (rw is at c) on-sides
     where
       go : (k : EdgeClip) → ClipsEdge (env .centers) (env .limit) count k v ix (Once f n u) v₁ ix₁ → OnSides k → CrossedRoom env count cell v n f v₁ ix₁
       go missed d s = absurd d
@@ -205,7 +201,7 @@ module _ (env : Env) (count : ℕ) (cell : CellSoFar) (v : List Float) (ix : Lis
       go (twice a t) d s = absurd d
 
   pub room-twice : {f s n : ℕ} {u : Reused} → g ≡ Twice f s n u → CrossedRoom env count cell v n f v₁ ix₁ × (s < n) × Sided (env .bounds) (points n v₁) s
-  room-twice {f} {s} {n} {u} is = go (clipEdge (env .bounds) (env .centers) (points count v) p q) (rw is at c) on-sides
+  room-twice {f} {s} {n} {u} is = go k (rw is at c) on-sides
     where
       go : (k : EdgeClip) → ClipsEdge (env .centers) (env .limit) count k v ix (Twice f s n u) v₁ ix₁ → OnSides k
           → CrossedRoom env count cell v n f v₁ ix₁ × (s < n) × Sided (env .bounds) (points n v₁) s

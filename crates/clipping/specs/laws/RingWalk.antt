@@ -1,31 +1,36 @@
 -- The walk round the ring: what is done so far, put before what the definition does on the rest, is the whole.
 use Prim.Native.Nat.{ℕ, _+_, _-_, _*_, _^_, _≤_, _<_}
 use mathlib.Core.Path.{_≡_, refl, sym, ap, _∙_, subst}
-use mathlib.Core.Bool.{Bool, true, false}
+use mathlib.Core.Bool.{Bool, true, false, true≢false}
 use mathlib.Core.List.{List, [], _∷_, _++_, append-assoc, append-nil}
+use mathlib.Core.Logic.{⊎-elim}
 use native.Mathlib.Omega.{arith}
 use native.Mathlib.Numerals.{add-one}
 use native.Mathlib.Nat.{sub-zero, add-zero}
 use lib.Ieee.{Float}
+use lib.Dec.{ltb}
 use borrow.Author.Tests.{lt-ltb, le-ltb}
 use lib.ListN.{length, getD, take, drop, length-drop, length-map, drop-of-length-le}
 use lib.Seq.{getD-take, getD-drop, drop-cons, length-take-le}
+use Rattle.base.specs.common.laws.Decide.{lt-or-ge}
 use Rattle.base.specs.common.laws.Stores.{sets-behind}
 use Rattle.base.specs.numbers.Numbers.{EMPTY}
 use Rattle.plane.specs.declared.points.Point.{Point}
 use Rattle.plane.specs.points.Flat.{points}
 use Rattle.plane.specs.declared.boxes.BoundingBox.{BoundingBox}
+use Rattle.plane.specs.declared.lines.Crossing.{Crossing}
+use Rattle.plane.specs.declared.lines.Crossing.the-variants.{None}
 use Rattle.vertices.specs.laws.Store.{poured-then, poured-none}
 use Rattle.definition.specs.Fault.{Outcome, ok, refused, andThen}
 use Rattle.definition.specs.declared.Fault.{Fault}
 use Rattle.definition.specs.Cell as Def
 use Rattle.definition.specs.Short
-use Rattle.definition.specs.Cell.{Entry, Ins, RingPart, inBox, firstInside, stepTo, stepsTo, turned, clipFrom, clipCell, unmarked}
+use Rattle.definition.specs.Cell.{Entry, Ins, RingPart, inBox, firstInside, stepTo, stepsTo, turned, clipFrom, clipCell, cross, unmarked}
 use Rattle.definition.specs.Short.{fault, ins, part, partsJoined}
 use Rattle.definition.specs.declared.Reused.{Reused}
 use Rattle.definition.specs.Reused.{reused, together, Addable, CountsReused}
-use Rattle.definition.specs.laws.Reused.{counts-none, counts-then, counts-small}
-use Rattle.clipping.specs.edges.EdgeClip.{VerticesGrown}
+use Rattle.definition.specs.laws.Reused.{counts-none, counts-then, counts-small, together-none}
+use Rattle.clipping.specs.edges.EdgeClip.{CrossingsAsked, VerticesGrown}
 use Rattle.clipping.specs.EdgeOutcome.{EdgeRoom, Did}
 use Rattle.clipping.specs.RingWalk.{tipOf, Stands, Steps, ringOf, RingRoom}
 use Rattle.clipping.specs.declared.edges.Env.{Env}
@@ -33,9 +38,9 @@ use Rattle.clipping.specs.declared.corners.CellSoFar.{CellSoFar}
 use Rattle.clipping.specs.declared.Tip.{Tip}
 use Rattle.clipping.specs.declared.RingStepped.{RingStepped}
 use Rattle.clipping.specs.corners.laws.CellEntries.{puts-then, puts-none}
-use Rattle.clipping.specs.edges.laws.EdgeClip.{grown-then}
-use Rattle.clipping.specs.laws.EdgeCases.{in-kept}
-use Rattle.clipping.specs.laws.EdgeOutcome.{corners-still}
+use Rattle.clipping.specs.edges.laws.EdgeClip.{grown-then, with-none}
+use Rattle.clipping.specs.laws.EdgeCases.{in-kept, step-cross, step-done}
+use Rattle.clipping.specs.laws.EdgeOutcome.{corners-still, changes-none}
 use Rattle.clipping.specs.laws.ReversedRing.{length-turned}
 
 -- ---- the ring is past the cell
@@ -103,6 +108,41 @@ steps-small env edges count cell v ix r v₁ ix₁ (refused f) h z l =
     let a : r .fault .number ≡ f .number = ap (λ (x : Fault). x .number) (h .0) in
     absurd (omega (arith, h .1))
 
+-- ---- an edge that passes the box by
+
+abbrev pub movedTo : Tip → ℕ → Tip
+movedTo t q = record { cell = t .cell; count = t .count; vertex = q; inside = t .inside; opened = t .opened }
+
+module _ (env : Env) (t : Tip) (v : List Float) (ix : List ℕ) (q : ℕ) where
+  abbrev vs : List Point
+  vs = points (t .count) v
+
+  -- it changes nothing but where the walk stands
+  step-passed :
+      (qIn : Bool) (c : Crossing)
+      → EdgeRoom env (t .count) (t .cell) v ix
+      → Stands env t v
+      → qIn ≡ inBox (env .bounds) (env .centers) vs q
+      → CrossingsAsked (env .bounds) vs (t .vertex) (t .inside) q qIn c
+      → (t .inside ≡ false) × (qIn ≡ false) × (c ≡ None)
+      → Steps env 1 (stepTo (env .bounds) (env .centers) (env .site) (tipOf t v) q) (t .count) (t .cell) v ix
+      (record { fault = fault 0 0 0 0; tip = movedTo t q; reused = reused 0 0 0 }) v ix
+  unfolding cross
+  step-passed qIn c m s e a o =
+      let same : t .inside ≡ qIn = o .0 ∙ sym (o .1) in
+      rw (← same) at
+      (step-done env t q qIn v ix (record { cell = t .cell; count = t .count; reused = reused 0 0 0; refusal = 0; opened = t .opened }) v ix e
+      (rw (
+        step-cross (env .bounds) (env .centers) (env .site) (t .vertex) (t .inside) q qIn vs (t .cell .owners) (t .opened) (t .cell .last) c a (o .0) (o .1),
+        o .2,
+        with-none (env .centers) vs,
+      )
+      (changes-none env (t .count) (t .cell) v ix (t .opened) m (s .low)))
+      refl)
+
+  still-stands : Stands env t v → q < t .count → Stands env (movedTo t q) v
+  still-stands s l = record { vertex = l; shut = s .shut; low = s .low; ends = s .ends }
+
 -- ---- the walk after k edges
 
 -- the walk round the ring of len vertices at place ring, turned at place f: from the state t₀ and the slices v₀, ix₀ it has come to t, v, ix
@@ -169,19 +209,17 @@ module _ (env : Env) (ring len f : ℕ) (t₀ : Tip) (v₀ : List Float) (ix₀ 
         }
 
     pub round-last :
-        (j : ℕ)
+        (j : ℕ) (qIn : Bool)
         → j < len
+        → qIn ≡ inBox (env .bounds) (env .centers) (points (t .count) v) (getD ix (ring + j) 0)
         → t .inside ≡ false
-        → inBox (env .bounds) (env .centers) (points (t .count) v) (getD ix (ring + j) 0) ≡ true
+        → qIn ≡ true
         → t .opened ≡ true
-    round-last j h i e = go (t .opened) refl
+    round-last j qIn h e i x = go (t .opened) refl
       where
         go : (o : Bool) → t .opened ≡ o → t .opened ≡ true
         go true p = p
-        go false p =
-            let n : inBox (env .bounds) (env .centers) (points (t .count) v) (getD ix (ring + j) 0) ≡ false = r .out i p j h in
-            let z : _≡_ {A = ℕ} 0 1 = cc in
-            absurd (omega arith)
+        go false p = absurd (true≢false (sym x ∙ e ∙ r .out i p j h))
 
     module _ (f-within : f ≤ len) (same : length ix ≡ length ix₀) where
       turned-length : length (turned f (ringOf ix₀ ring len)) ≡ len
@@ -296,6 +334,20 @@ module _ (env : Env) (ring len f : ℕ) (t₀ : Tip) (v₀ : List Float) (ix₀ 
                 ∙ ap (onto (r .done)) (steps-refused (env .bounds) (env .centers) (env .site) q (drop (k + 1) (turned f (ringOf ix₀ ring len))) (tipOf t v) w p))
                 u
 
+      pub round-pass :
+          (q : ℕ) (qIn : Bool) (c : Crossing)
+          → k < len
+          → getD (turned f (ringOf ix₀ ring len)) k 0 ≡ q
+          → q < t .count
+          → qIn ≡ inBox (env .bounds) (env .centers) (points (t .count) v) q
+          → CrossingsAsked (env .bounds) (points (t .count) v) (t .vertex) (t .inside) q qIn c
+          → (t .inside ≡ false) × (qIn ≡ false) × (c ≡ None)
+          → length v ≡ length v₀
+          → Round env ring len f t₀ v₀ ix₀ (k + 1) (movedTo t q) u v ix
+      round-pass q qIn c h e l j a o lv =
+          round-next q (record { fault = fault 0 0 0 0; tip = movedTo t q; reused = reused 0 0 0 }) v ix h e
+          (step-passed env t v ix q qIn c (round-ready h) (r .stands) j a o) refl (still-stands env t v ix q (r .stands) l, λ x y. (x, y)) lv refl refl u (sym (together-none u))
+
       -- after the last edge the whole is done
       pub round-end :
           len ≤ k
@@ -341,6 +393,16 @@ module _ (b : BoundingBox) (nc site : ℕ) (ring : List ℕ) (vs : List Point) (
   unfolding clipCell clipFrom
   cell-inside h = rw (← e, lt-ltb f (length ring) h)
 
-  pub cell-outside : length ring ≤ f → clipCell b nc site ring vs os ≡ stepsTo b nc site (turned 0 ring) (Short.tip vs os EMPTY (getD ring 0 0) false false)
+  cell-outside : length ring ≤ f → clipCell b nc site ring vs os ≡ stepsTo b nc site (turned 0 ring) (Short.tip vs os EMPTY (getD ring 0 0) false false)
   unfolding clipCell clipFrom
   cell-outside h = rw (← e, le-ltb f (length ring) h)
+
+  pub cell-from :
+      (start : ℕ)
+      → (f < length ring → start ≡ f)
+      → (length ring ≤ f → start ≡ 0)
+      → clipCell b nc site ring vs os ≡ stepsTo b nc site (turned start ring) (Short.tip vs os EMPTY (getD ring start 0) (ltb f (length ring)) false)
+  cell-from start h k =
+      ⊎-elim (λ (l : f < length ring). rw (h l, lt-ltb f (length ring) l) (cell-inside l))
+      (λ (l : length ring ≤ f). rw (k l, le-ltb f (length ring) l) (cell-outside l))
+      (lt-or-ge f (length ring))

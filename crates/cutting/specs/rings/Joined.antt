@@ -10,6 +10,7 @@ use lib.ListN.{length}
 use Rattle.base.specs.common.Count.{same, occ}
 use Rattle.base.specs.common.laws.Count.{same-cases}
 use Rattle.base.specs.common.laws.Decide.{lt-or-ge}
+use Rattle.base.specs.numbers.Numbers.{EMPTY}
 use Rattle.mesh.specs.Mesh.{startOf, pairOf}
 use Rattle.mesh.specs.Accepted.{Topology}
 use Rattle.mesh.specs.laws.Facts.{paired, start-site, tab-cases}
@@ -65,7 +66,7 @@ module _ {tri he hull : List ℕ} {sites : ℕ} (ok : Topology tri he hull sites
 
       pub one-closed : (s : ℕ) → s < sites → ClosedEdges edges (siteNames ok s)
       one-closed s l = ⊎-elim
-          (λ q. rw (walk-done he (startsAt ok s) (length he) (startsAt ok s) (omega (arith, paired ok .small, q))) tt)
+          (λ (q : startsAt ok s ≡ EMPTY). rw (walk-done he (startsAt ok s) (length he) (startsAt ok s) (omega (arith, paired ok .small, q))) tt)
           (λ w. site-closed ok center end on line s l (w .0) (w .1))
           (tab-cases ok s l)
 

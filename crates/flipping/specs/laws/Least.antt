@@ -1,16 +1,15 @@
--- The least of a list, the cases of an entry, and that a site has one leftmost half-edge.
-use mathlib.Core.Path.{_≡_, refl, sym, _∙_}
+-- The least of a list, and the cases of an entry.
+use mathlib.Core.Path.{_≡_, refl, _∙_}
 use mathlib.Core.List.{List, [], _∷_}
 use mathlib.Core.Logic.{_⊎_, inl, inr, ⊎-elim, _≢_}
 use Prim.Native.Nat.{ℕ, _≤_, _<_}
-use native.Mathlib.Nat.{le-antisymm}
 use native.Mathlib.Omega.{arith}
 use borrow.Author.Tests.{eq-eqb, ne-eqb, lt-ltb, le-ltb}
 use Rattle.base.specs.common.Count.{occ}
 use Rattle.base.specs.common.laws.Count.{same-cases}
 use Rattle.base.specs.common.laws.Decide.{lt-or-ge, eq-or-ne}
 use Rattle.base.specs.numbers.Numbers.{EMPTY}
-use Rattle.mesh.specs.Mesh.{pairOf, Leftmost}
+use Rattle.mesh.specs.Mesh.{pairOf}
 use Rattle.flipping.specs.Entries.{lesser, leastOf, gainOf, leastRound, lossOf}
 
 pub lesser-cases : (x m : ℕ) → ((x < m) × (lesser x m ≡ x)) ⊎ ((m ≤ x) × (lesser x m ≡ m))
@@ -59,23 +58,3 @@ module _ (he : List ℕ) (t lost kept : ℕ) where
   pub loss-round : t ≡ lost → pairOf he lost ≢ EMPTY → lossOf he t lost kept ≡ leastRound he lost kept
   unfolding lossOf
   loss-round z u = rw (eq-eqb t lost z, ne-eqb (pairOf he lost) EMPTY u)
-
--- a site has one leftmost half-edge
-pub leftmost-one : (tri he : List ℕ) (n s t u : ℕ) → Leftmost tri he n s t → Leftmost tri he n s u → t ≡ u
-leftmost-one tri he n s t u x y =
-    ⊎-elim
-    (λ z. ⊎-elim (λ w. z ∙ sym w) (λ w. absurd (x .none z u (y .some w .0) (y .some w .1))) (eq-or-ne u EMPTY))
-    (λ z. ⊎-elim
-    (λ w. absurd (y .none w t (x .some z .0) (x .some z .1)))
-    (λ w.
-    let p = x .some z in
-    let q = y .some w in
-    ⊎-elim
-    (λ o. let v = y .last t (p .0) (p .1) o in le-antisymm (v .0) (x .last u (q .0) (q .1) (v .1) .0))
-    (λ o. ⊎-elim
-    (λ v. absurd (o (x .last u (q .0) (q .1) v .1)))
-    (λ v. le-antisymm (x .lowest o u (q .0) (q .1)) (y .lowest v t (p .0) (p .1)))
-    (eq-or-ne (pairOf he u) EMPTY))
-    (eq-or-ne (pairOf he t) EMPTY))
-    (eq-or-ne u EMPTY))
-    (eq-or-ne t EMPTY)

@@ -9,7 +9,7 @@ use lib.Seq.{getD-set-same, getD-set-other, ext-getD}
 use Rattle.base.specs.common.laws.Decide.{eq-or-ne}
 use Rattle.mesh.specs.Mesh.{startOf, leftmostOf, Leftmost}
 use Rattle.mesh.specs.Accepted.{Topology}
-use Rattle.mesh.specs.laws.Table.{table-length, table-leftmost}
+use Rattle.mesh.specs.laws.Table.{table-length, table-leftmost, leftmost-one}
 use Rattle.mesh.specs.laws.Facts.{paired, end-site}
 use Rattle.flipping.specs.Flip.{turnedSites, relinked}
 use Rattle.flipping.specs.declared.Four.{Four}
@@ -17,7 +17,6 @@ use Rattle.flipping.specs.Entries.{flipCorners, entriesOf, storedFour}
 use Rattle.flipping.specs.laws.Quad.{Quad, quad-turn}
 use Rattle.flipping.specs.laws.Sites.{turned-length, turned-turn}
 use Rattle.flipping.specs.laws.Pairs.{relinked-turn}
-use Rattle.flipping.specs.laws.Least.{leftmost-one}
 use Rattle.flipping.specs.laws.NewEntries.{left-else, left-gained, left-lost}
 use Rattle.flipping.specs.laws.Rule10.{leftmost-again}
 

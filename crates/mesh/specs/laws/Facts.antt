@@ -1,4 +1,4 @@
--- What holds on every mesh that rules 7 to 10 accept: its numbers are in range, the table holds the leftmost half-edges, and the walk of a
+-- What holds on every mesh that rules 7 to 9 accept: its numbers are in range, and the table holds the leftmost half-edges; where rule 10 holds too the walk of a
 -- site lists each half-edge that ends there exactly once.
 use mathlib.Core.Path.{_≡_, refl, sym, _∙_}
 use mathlib.Core.List.{List}
@@ -10,7 +10,7 @@ use Rattle.base.specs.common.laws.Decide.{eq-or-ne}
 use Rattle.base.specs.common.Count.{occ}
 use Rattle.base.specs.numbers.Numbers.{EMPTY}
 use Rattle.mesh.specs.Mesh.{nextOf, startOf, endOf, pairOf, Used, AllSound, leftmostOf, Leftmost, walkOf, wholeOf, Paired}
-use Rattle.mesh.specs.Accepted.{Mesh, Topology, Counted, Accepted, siteCount}
+use Rattle.mesh.specs.Accepted.{Mesh, TopologyWith, Topology, Counted, AcceptedWith, siteCount}
 use Rattle.mesh.specs.laws.Next.{next-lt, next-thrice}
 use Rattle.mesh.specs.laws.Walks.{walk-ends, walk-in, whole-once, reached-walk, walk-fuel}
 use Rattle.mesh.specs.laws.Table.{table-length, table-leftmost, the-unpaired, the-lowest, the-none}
@@ -23,7 +23,7 @@ few-entries n = omega (arith, n .few-triangles, n .threes)
 pub few-on-hull : {c t e h : ℕ} → Counted c t e h → h < EMPTY
 few-on-hull n = omega (arith, n .hull-of-sites, n .few-sites)
 
-pub topology : {m : Mesh} → Accepted m → Topology (m .triangles) (m .halfedges) (m .hull) (siteCount (m .sites))
+pub topology : {Fans : Type 0} {m : Mesh} → AcceptedWith Fans m → TopologyWith Fans (m .triangles) (m .halfedges) (m .hull) (siteCount (m .sites))
 topology a = a .topology
 
 -- sound triangles name sites
@@ -39,7 +39,12 @@ module _ (tri : List ℕ) (sites : ℕ) (threes : length tri % 3 ≡ 0) (all : A
       (eq-or-ne (k % 3) 1))
       (eq-or-ne (k % 3) 0)
 
-module _ {tri he hull : List ℕ} {sites : ℕ} (ok : Topology tri he hull sites) where
+-- what rule 10 adds to rules 7 to 9, and what it leaves out
+module _ {Fans : Type 0} {tri he hull : List ℕ} {sites : ℕ} (ok : TopologyWith Fans tri he hull sites) where
+  pub with-fans : {Others : Type 0} → Others → TopologyWith Others tri he hull sites
+  with-fans fan = record { threes = ok .threes; same = ok .same; small = ok .small; sound = ok .sound; pairs = ok .pairs; border = ok .border; fan = fan }
+
+module _ {Fans : Type 0} {tri he hull : List ℕ} {sites : ℕ} (ok : TopologyWith Fans tri he hull sites) where
   pub paired : Paired tri he
   paired = record { threes = rw (ok .same) (ok .threes); small = rw (ok .same) (ok .small); pairs = λ e l. ok .pairs e (rw (← ok .same) l) }
 
@@ -101,12 +106,6 @@ module _ {tri he hull : List ℕ} {sites : ℕ} (ok : Topology tri he hull sites
         → ((k : ℕ) → k < e → endOf tri k ≢ s) → getD (leftmostOf tri he sites) s 0 ≡ e
     leftmost-lowest e h q p = the-lowest tri he (length tri) s _ tab-at e (rw (← ok .same) h) q (λ k lk. p k (rw (ok .same) lk))
 
-    -- demand 3: the walk lists each half-edge that ends at the site exactly once, and no other
-    pub walk-each : (e : ℕ) → e < length he → endOf tri e ≡ s → occ e (wholeOf he (getD (leftmostOf tri he sites) s 0)) ≡ 1
-    walk-each e h q =
-        let t = getD (leftmostOf tri he sites) s 0 in
-        omega (arith, reached-walk tri he paired t (rw q at (ok .fan e h)) h, whole-once tri he paired t e)
-
     pub walk-only : (e : ℕ) → 0 < occ e (wholeOf he (getD (leftmostOf tri he sites) s 0)) → (e < length he) × (endOf tri e ≡ s)
     walk-only e h =
         let t = getD (leftmostOf tri he sites) s 0 in
@@ -117,3 +116,10 @@ module _ {tri he hull : List ℕ} {sites : ℕ} (ok : Topology tri he hull sites
     -- it stops by its own rule: more fuel gives the same list
     pub walk-stops : (k : ℕ) → length he ≤ k → walkOf he (getD (leftmostOf tri he sites) s 0) k (getD (leftmostOf tri he sites) s 0) ≡ wholeOf he (getD (leftmostOf tri he sites) s 0)
     walk-stops = walk-fuel tri he paired (getD (leftmostOf tri he sites) s 0)
+
+-- demand 3: the walk lists each half-edge that ends at the site exactly once, and by walk-only no other
+module _ {tri he hull : List ℕ} {sites : ℕ} (ok : Topology tri he hull sites) (s : ℕ) (l : s < sites) where
+  pub walk-each : (e : ℕ) → e < length he → endOf tri e ≡ s → occ e (wholeOf he (getD (leftmostOf tri he sites) s 0)) ≡ 1
+  walk-each e h q =
+      let t = getD (leftmostOf tri he sites) s 0 in
+      omega (arith, reached-walk tri he (paired ok) t (rw q at (ok .fan e h)) h, whole-once tri he (paired ok) t e)

@@ -3,7 +3,6 @@ use mathlib.Core.Path.{_≡_, refl, sym, _∙_, subst}
 use mathlib.Core.List.{List, _++_}
 use mathlib.Core.Logic.{⊎-elim, _≢_, _⊎_, inl, inr}
 use Prim.Native.Nat.{ℕ, zero, suc, _+_, _-_, _≤_, _<_}
-use native.Mathlib.Numerals.{add-one}
 use native.Mathlib.Omega.{arith}
 use lib.ListN.{length, getD, set, length-set, replicate, length-replicate, getD-replicate, replicate-append-replicate, List·getD-append}
 use native.Mathlib.Nat.{le-antisymm}
@@ -12,12 +11,6 @@ use borrow.Author.Tests.{eq-eqb, ne-eqb}
 use Rattle.base.specs.common.laws.Decide.{lt-or-ge, eq-or-ne}
 use Rattle.base.specs.numbers.Numbers.{EMPTY}
 use Rattle.mesh.specs.Mesh.{endOf, pairOf, chosen, tableTo, leftmostOf, leftmostIn, Leftmost}
-
--- a turn of the loop that fills the table
-pub table-step : (tri he work : List ℕ) (w e s s′ v : ℕ) → work ≡ tableTo tri he w e → s ≡ s′ → s′ ≡ endOf tri e
-    → v ≡ chosen (getD work s 0) (pairOf he e) e → set work s v ≡ tableTo tri he w (e + 1)
-unfolding tableTo
-table-step tri he work w e s s′ v p q r h = rw add-one (cc)
 
 module _ (tri he : List ℕ) (n s r : ℕ) (small : n < EMPTY) (g : Leftmost tri he n s r) where
   -- half-edge n ends elsewhere
@@ -136,3 +129,23 @@ module _ (tri he : List ℕ) (n s r : ℕ) (g : Leftmost tri he n s r) where
 
   pub the-none : ((k : ℕ) → k < n → endOf tri k ≢ s) → r ≡ EMPTY
   the-none h = ⊎-elim (λ q. q) (λ q. absurd (h r (g .some q .0) (g .some q .1))) (eq-or-ne r EMPTY)
+
+-- a site has one leftmost half-edge
+pub leftmost-one : (tri he : List ℕ) (n s t u : ℕ) → Leftmost tri he n s t → Leftmost tri he n s u → t ≡ u
+leftmost-one tri he n s t u x y =
+    ⊎-elim
+    (λ z. ⊎-elim (λ w. z ∙ sym w) (λ w. absurd (x .none z u (y .some w .0) (y .some w .1))) (eq-or-ne u EMPTY))
+    (λ z. ⊎-elim
+    (λ w. absurd (y .none w t (x .some z .0) (x .some z .1)))
+    (λ w.
+    let p = x .some z in
+    let q = y .some w in
+    ⊎-elim
+    (λ o. let v = y .last t (p .0) (p .1) o in le-antisymm (v .0) (x .last u (q .0) (q .1) (v .1) .0))
+    (λ o. ⊎-elim
+    (λ v. absurd (o (x .last u (q .0) (q .1) v .1)))
+    (λ v. le-antisymm (x .lowest o u (q .0) (q .1)) (y .lowest v t (p .0) (p .1)))
+    (eq-or-ne (pairOf he u) EMPTY))
+    (eq-or-ne (pairOf he t) EMPTY))
+    (eq-or-ne u EMPTY))
+    (eq-or-ne t EMPTY)

@@ -24,6 +24,16 @@ unfolding walkOf
 walk-done he s zero e h = refl
 walk-done he s (suc j) e h = simp (le-ltb _ _ h)
 
+-- no more entries than it is given steps
+pub walk-length : (he : List ℕ) (s k e : ℕ) → length (walkOf he s k e) ≤ k
+unfolding walkOf
+walk-length he s zero e = omega arith
+walk-length he s (suc k) e =
+    ⊎-elim
+    (λ l. omega (arith, ap length (walk-go he s k e l), walk-length he s k (turnOf he s e)))
+    (λ l. omega (arith, ap length (walk-done he s (suc k) e l)))
+    (lt-or-ge e (length he))
+
 -- a walk with an allowance is the beginning of the whole one
 pub walk-take : (he : List ℕ) (s k j e : ℕ) → walkOf he s k e ≡ take k (walkOf he s (k + j) e)
 unfolding walkOf

@@ -1,18 +1,13 @@
--- How rule 10 is tested by counting: the lengths of the walks together, and each site's walk counted down by the half-edges that end there.
+-- How rule 10 is tested by counting: each site's walk counted down by the half-edges that end there. The lengths of the walks together are mesh's `totalTo`.
 use mathlib.Core.Path.{_≡_}
 use mathlib.Core.List.{List}
-use Prim.Native.Nat.{ℕ, zero, suc, _+_, _-_, _<_}
+use Prim.Native.Nat.{ℕ, zero, suc, _-_, _<_}
 use lib.Dec.{eqb}
 use lib.ListN.{length, getD, set}
 use Rattle.mesh.specs.Mesh.{endOf, wholeOf}
 use Rattle.base.specs.numbers.Numbers.{EMPTY}
 use Rattle.base.specs.common.Pick.{pick}
 use Rattle.base.specs.common.Count.{same, sumTo}
-
--- the lengths of the walks from the table's first n entries, together
-unfoldable pub totalTo : List ℕ → List ℕ → ℕ → ℕ
-totalTo he table zero = 0
-totalTo he table (suc n) = totalTo he table n + length (wholeOf he (getD table n 0))
 
 -- each entry is the length of the walk that started at the old one
 pub record WalkLengths (he old new : List ℕ) : Type 0 where

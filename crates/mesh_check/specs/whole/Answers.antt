@@ -30,6 +30,11 @@ pub record TopologyAnswer (tri he hull : List ℕ) (sites : ℕ) (old new : List
   pub verdict : Finds (topologyRules tri he hull sites) None f
   pub work : new ≡ atExit EMPTY (leftmostIn tri he sites (length old)) old (numberOf f)
 
+-- rules 7 to 9 alone
+pub record OutlineAnswer (tri he hull : List ℕ) (sites : ℕ) (old new : List ℕ) (f : MeshFault) : Type 0 where
+  pub verdict : Finds (shapeRules tri he sites ++ hullRules tri he hull sites) None f
+  pub work : new ≡ atExit EMPTY (leftmostIn tri he sites (length old)) old (numberOf f)
+
 -- rules 1, 2 and 6 to 10, of a work slice of w entries
 abbrev pub Finding : Mesh → ℕ → MeshFault → Type 0
 Finding m w = Finds (meshRules m (siteCount (m .sites) ≤ w)) None

@@ -9,26 +9,16 @@ use lib.Dec.{eqb}
 use lib.Ieee.{Float}
 use lib.ListN.{length, length-take, length-append}
 use Rattle.base.specs.common.Pick.{pick}
-use Rattle.base.specs.common.laws.Decide.{lt-or-ge, eq-or-ne}
+use Rattle.base.specs.common.laws.Decide.{eq-or-ne}
 use Rattle.base.specs.numbers.Numbers.{EMPTY}
 use Rattle.plane.specs.declared.points.Point.{Point}
-use Rattle.mesh.specs.Mesh.{startOf, pairOf, endOf, nextOf, around, turnOf, walkOf}
-use Rattle.mesh.specs.laws.WalkSteps.{walk-go, walk-done}
+use Rattle.mesh.specs.Mesh.{startOf, pairOf, endOf, nextOf, around}
 use Rattle.walks.specs.neighbours.Neighbours.{lastEnd, startsOf}
 use Rattle.walks.specs.neighbours.laws.Neighbours.{sitesFrom, starts-cons}
 use Rattle.walks.specs.paths.Path.{hopOf, pathOf}
 use Rattle.walks.specs.paths.laws.WholePath.{path-stop, path-go}
 use Rattle.walks.specs.neighbours.Fills.{Fills}
 use Rattle.queries.specs.clipped.Clipped.{keptOf, clippedFrom, clippedFirst, clippedOf}
-
-pub walk-length : (he : List ℕ) (s k e : ℕ) → length (walkOf he s k e) ≤ k
-unfolding walkOf
-walk-length he s zero e = omega arith
-walk-length he s (suc k) e =
-    ⊎-elim
-    (λ l. omega (arith, ap length (walk-go he s k e l), walk-length he s k (turnOf he s e)))
-    (λ l. omega (arith, ap length (walk-done he s (suc k) e l)))
-    (lt-or-ge e (length he))
 
 end-length : (tri he : List ℕ) (l : ℕ) → length (lastEnd tri he l) ≤ 1
 unfolding lastEnd

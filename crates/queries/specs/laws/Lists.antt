@@ -18,6 +18,7 @@ use Rattle.mesh.specs.Mesh.{leftmostOf, leftmostIn, wholeOf, Walks}
 use Rattle.mesh.specs.Rules.{callRules}
 use Rattle.mesh.specs.Accepted.{Mesh, mesh, tableOf, Accepted, siteCount}
 use Rattle.mesh.specs.laws.Facts.{topology, paired}
+use Rattle.mesh.specs.laws.WalkSteps.{walk-length}
 use Rattle.mesh_check.specs.whole.AtExit.{atExit}
 use Rattle.mesh_check.specs.whole.Answers.{workAfter}
 use Rattle.mesh_check.specs.whole.laws.AtExit.{exit-made, exit-blank}
@@ -37,7 +38,7 @@ use Rattle.admission.specs.laws.Admits.{asked-answers, admitted, admits-few, ad
 use Rattle.queries.specs.declared.Listed.{Listed}
 use Rattle.queries.specs.Answers.{outAfter, countAfter, endedAfter, listedOf, ListAnswer, Number, ClippedAnswer}
 use Rattle.admission.specs.laws.LeftmostTable.{table-long, table-at, table-part}
-use Rattle.queries.specs.laws.Lengths.{walk-length, starts-length, path-length, clipped-length, few}
+use Rattle.queries.specs.laws.Lengths.{starts-length, path-length, clipped-length, few}
 
 -- an admitted mesh, and what it gives a query about site s
 pub record Served (m : Mesh) (s : ℕ) (w′ o o′ : List ℕ) : Type 0 where

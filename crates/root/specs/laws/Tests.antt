@@ -7,12 +7,12 @@ use native.Mathlib.Nat.{mul-pos, mul-one, zero-mul, zero-lt-suc}
 use native.Mathlib.Omega.{arith}
 use lib.Dec.{T, ltb, eqb, eqb→eq, lt→ltb, not-T}
 use lib.IntN.{ℤ}
-use lib.Ieee.{Float, nan, inf, fin, up, down, odd, isNan, ofFields, ofBits, below, level, le, lt, eq, ne}
+use lib.Ieee.{Float, nan, inf, fin, binary64, up, down, odd, fits, isNan, nanBits, ofFields, ofBits, toBits, below, level, le, lt, eq, ne}
 use lib.Ieee.Compare.{differs-from-itself}
 use lib.Ieee.Fits.{up-pos}
-use lib.Ieee.Bits.{is-true, is-false}
+use lib.Ieee.Bits.{is-true, is-false, ofBits-toBits, nanBits-is}
 use Rattle.base.specs.common.Binary64 as B
-use Rattle.root.specs.Root.{Root, Plus}
+use Rattle.root.specs.Root.{Root, RootBits, Plus}
 
 pub no-nan : (x : Float) → ne x x ≡ false → T (not (isNan x))
 unfolding ne eq isNan
@@ -81,6 +81,13 @@ root-no-nan (fin false (suc m) e) r h k = go r (k .plus)
     go nan p = p
     go (inf s) p = tt
     go (fin s m e) p = tt
+
+-- what is said of bits, of x itself
+pub root-of-bits : (x : Float) (b : ℕ) → T (fits binary64 x) → RootBits (toBits binary64 x) b → Root x (ofBits binary64 b)
+root-of-bits x b f h = subst (λ (v : Float). Root v (ofBits binary64 b)) (ofBits-toBits binary64 x f) (h .value)
+
+pub root-no-nan-bits : (x : Float) (b : ℕ) → le B.zero x ≡ true → Root x (ofBits binary64 b) → T (not (nanBits binary64 b))
+root-no-nan-bits x b h k = subst (λ (t : Bool). T (not t)) (sym (nanBits-is binary64 b)) (root-no-nan x (ofBits binary64 b) h k)
 
 -- 0.0 < x
 lt-is : (s : Bool) (m : ℕ) (e : ℤ) → lt B.zero (fin s m e) ≡ below false 0 s (m * up e)

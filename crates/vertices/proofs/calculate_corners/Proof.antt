@@ -8,6 +8,7 @@ use denote.Ref.{now}
 use lib.ListN.{length, take}
 use Rattle.plane.specs.points.Flat.{points}
 use Rattle.vertices.specs.Store.{Leaves}
+use Rattle.vertices.specs.buckets.laws.Inserting.{heads-room}
 use Rattle.vertices.specs.laws.Store.{corner-none, corner-more, corner-all}
 use Rattle.vertices.proofs.calculate_corners.Statement.{statement}
 use Rattle.vertices.proofs.calculate_corners.Tie as tie
@@ -33,14 +34,18 @@ loop-holds c =
 
 append-requires : tie.Need-append-requires Inv-loop μ-loop
 append-requires c κs =
-    let t = c .before .before .before in
+    let at-home = c .before .before .before in
+    let at-heads = at-home .before .before in
+    let t = at-heads .before in
     let l = t .before in
-    (l .loop .inv .3 .holds, omega (arith, l .loop .inv .1, t .loop-test .taken, Entry l .pre))
+    let there = rw (at-heads .heads-in .ensures) at (at-home .home-of .ensures) in
+    (l .loop .inv .3 .holds, (there, omega (arith, l .loop .inv .1, t .loop-test .taken, Entry l .pre)))
 
 loop-again : tie.Need-loop-again Inv-loop μ-loop
 loop-again c =
     let at-append = c .before .before .before .before in
-    let t = at-append .before .before .before .before in
+    let at-home = at-append .before .before .before .before in
+    let t = at-home .before .before .before in
     let l = t .before in
     let s = Entry l in
     let f = four s in (
@@ -67,5 +72,6 @@ returns c =
 pub calculate-corners-spec : {M : Type 1} → statement M
 calculate-corners-spec =
     tie.close
-    (tie.spec Inv-loop μ-loop (λ c κs. tt) loop-holds (λ c. omega arith) (λ c. omega arith) (λ c. omega arith) append-requires (λ c. omega arith) (λ c. omega arith) loop-again
+    (tie.spec Inv-loop μ-loop (λ c κs. tt) loop-holds (λ c κs. tt) (λ c. omega arith) (λ c. omega arith) (λ c κs. heads-room _ _ _ (c .before .heads-in .ensures) .1)
+    (λ c. omega arith) (λ c. omega arith) (λ c. omega arith) append-requires (λ c. omega arith) (λ c. omega arith) loop-again
     (λ c. omega arith) (λ c. c .before .loop .inv .1) same-length-2 returns)

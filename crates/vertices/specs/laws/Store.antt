@@ -1,7 +1,7 @@
 -- The store's laws: what is poured is held, and pouring goes on from where it was; the vertices that were there stay; what a reused and an added
 -- vertex leave.
 use Prim.Native.Nat.{ℕ, suc, _+_, _-_, _*_, _≤_, _<_}
-use mathlib.Core.Path.{_≡_, refl, sym, ap, _∙_}
+use mathlib.Core.Path.{_≡_, refl, sym, ap, ap₂, _∙_}
 use mathlib.Core.Bool.{Bool, true, false}
 use mathlib.Core.List.{List, [], _∷_, _++_, append-nil, append-assoc}
 use mathlib.Core.Logic.{⊎-elim}
@@ -19,9 +19,10 @@ use Rattle.plane.specs.declared.points.Point.{Point}
 use Rattle.plane.specs.points.Flat.{pointAt, points, pointsFrom, flat, pour}
 use Rattle.vertices.specs.Add.{findNear, addVertex}
 use Rattle.vertices.specs.Store.{Holds, Poured, Leaves, PlacedAs}
-use Rattle.vertices.specs.buckets.Buckets.{midOf, bucketBy, bucketFrom, headsOf, insertedOf, InChains}
-use Rattle.vertices.specs.buckets.Steps.{BucketsFree, InsertsIn}
-use Rattle.vertices.specs.buckets.laws.Inserting.{bucket-small, in-chains-none, in-chains-kept, in-chains-more}
+use Rattle.vertices.specs.declared.buckets.Home.{Home}
+use Rattle.vertices.specs.buckets.Buckets.{midOf, bucketBy, bucketFrom, markBy, markFrom, headsOf, entryWith, insertedOf, InChains}
+use Rattle.vertices.specs.buckets.Steps.{BucketsFree, HomeOf, InsertsIn}
+use Rattle.vertices.specs.buckets.laws.Inserting.{home-in, in-chains-none, in-chains-kept, in-chains-more}
 use Rattle.vertices.specs.laws.Points.{add-old, add-new, length-points, points-pour, pour-points, pour-pour, pour-snoc, length-pour, flat-append, flat-points, getD-points}
 
 -- ---- poured vertices
@@ -86,7 +87,8 @@ kept-vertex v v₁ n m i d e h k =
 
 -- ---- one point more after the vertices
 
-module _ (nc limit n : ℕ) (p : Point) (v : List Float) (ix ix₁ : List ℕ) (h : Holds nc n v (drop limit ix)) (r : 2 * n + 2 ≤ length v) (g : InsertsIn limit (n - nc) p ix ix₁) where
+module _ (nc limit n : ℕ) (p : Point) (v : List Float) (ix ix₁ : List ℕ) {s : Home} (h : Holds nc n v (drop limit ix)) (r : 2 * n + 2 ≤ length v)
+    (o : HomeOf (headsOf (length ix - limit)) p s) (g : InsertsIn limit (n - nc) (s .bucket) (s .mark) ix ix₁) where
   abbrev after : List Float
   after = set (set v (2 * n) (p .x)) (2 * n + 1) (p .y)
 
@@ -117,24 +119,32 @@ module _ (nc limit n : ℕ) (p : Point) (v : List Float) (ix ix₁ : List ℕ) (
   before : InChains nc (insertedOf (n - nc) (length (drop limit ix))) after (drop limit ix)
   before = in-chains-kept (λ k l. other (nc + k) (omega (arith, h .centers))) (h .in-chains)
 
+  some : (k h : ℕ) → k < 3 * h → 0 < h
+  some k h l = omega arith
+
   -- with a link, and without one
   module _ (l : n - nc < 3 * heads) where
     abbrev m : ℕ
-    m = bucketBy heads (midOf (p .x)) (midOf (p .y))
+    m = s .bucket
 
-    written : ix₁ ≡ set (set ix (limit + (heads + (n - nc))) (getD ix (limit + m) 0)) (limit + m) (suc (n - nc))
+    abbrev front : ℕ
+    front = entryWith (getD ix (limit + m) 0) (n - nc) (s .mark)
+
+    written : ix₁ ≡ set (set ix (limit + (heads + (n - nc))) (getD ix (limit + m) 0)) (limit + m) front
     written = let w = g .linked (omega (arith, tail-long)) in rw (← tail-long) at w
 
-    tail-is : drop limit ix₁ ≡ set (set (drop limit ix) (heads + (n - nc)) (getD (drop limit ix) m 0)) m (suc (n - nc))
+    tail-is : drop limit ix₁ ≡ set (set (drop limit ix) (heads + (n - nc)) (getD (drop limit ix) m 0)) m (entryWith (getD (drop limit ix) m 0) (n - nc) (s .mark))
     tail-is =
         ap (drop limit) written
-        ∙ drop-set-add limit (set ix (limit + (heads + (n - nc))) (getD ix (limit + m) 0)) m (suc (n - nc))
-        ∙ ap (λ (t : List ℕ). set t m (suc (n - nc))) (drop-set-add limit ix (heads + (n - nc)) (getD ix (limit + m) 0) ∙ ap (set (drop limit ix) (heads + (n - nc))) (sym (getD-drop limit ix m 0)))
+        ∙ drop-set-add limit (set ix (limit + (heads + (n - nc))) (getD ix (limit + m) 0)) m front
+        ∙ ap₂ (λ (t : List ℕ) (x : ℕ). set t m (entryWith x (n - nc) (s .mark)))
+        (drop-set-add limit ix (heads + (n - nc)) (getD ix (limit + m) 0) ∙ ap (set (drop limit ix) (heads + (n - nc))) (sym (getD-drop limit ix m 0)))
+        (sym (getD-drop limit ix m 0))
 
     same-tail : length (drop limit ix₁) ≡ length (drop limit ix)
     same-tail =
         ap length tail-is
-        ∙ length-set (set (drop limit ix) (heads + (n - nc)) (getD (drop limit ix) m 0)) m (suc (n - nc))
+        ∙ length-set (set (drop limit ix) (heads + (n - nc)) (getD (drop limit ix) m 0)) m (entryWith (getD (drop limit ix) m 0) (n - nc) (s .mark))
         ∙ length-set (drop limit ix) (heads + (n - nc)) (getD (drop limit ix) m 0)
 
     linked-in-chains : InChains nc (insertedOf (n + 1 - nc) (length (drop limit ix₁))) after (drop limit ix₁)
@@ -142,13 +152,16 @@ module _ (nc limit n : ℕ) (p : Point) (v : List Float) (ix ix₁ : List ℕ) (
         let a : insertedOf (n - nc) (length (drop limit ix)) ≡ n - nc = omega arith in
         let b : insertedOf (n + 1 - nc) (length (drop limit ix₁)) ≡ suc (n - nc) = omega (arith, same-tail, h .centers) in
         let c : nc + (n - nc) ≡ n = omega (arith, h .centers) in
-        let s : bucketFrom heads after nc (n - nc) ≡ m = ap (λ (q : Point). bucketBy heads (midOf (q .x)) (midOf (q .y))) (ap (pointAt after) c ∙ there) in
-        rw (b, tail-is) (in-chains-more (rw a at before) l s (bucket-small heads (midOf (p .x)) (midOf (p .y)) (omega arith)))
+        let q : pointAt after (nc + (n - nc)) ≡ p = ap (pointAt after) c ∙ there in
+        let w : HomeOf heads p s = rw (← tail-long) at o in
+        let d : bucketFrom heads after nc (n - nc) ≡ m = ap (λ (q : Point). bucketBy heads (midOf (q .x)) (midOf (q .y))) q ∙ sym (w .bucket) in
+        let e : markFrom after nc (n - nc) ≡ s .mark = ap (λ (q : Point). markBy (midOf (q .x)) (midOf (q .y))) q ∙ sym (o .mark) in
+        rw (b, tail-is, ← e) (in-chains-more (rw a at before) l d (home-in heads p w .below (some (n - nc) heads l)))
 
     linked-body : take limit ix₁ ≡ take limit ix
     linked-body =
         ap (take limit) written
-        ∙ take-set-le limit (set ix (limit + (heads + (n - nc))) (getD ix (limit + m) 0)) (limit + m) (suc (n - nc)) (omega arith)
+        ∙ take-set-le limit (set ix (limit + (heads + (n - nc))) (getD ix (limit + m) 0)) (limit + m) front (omega arith)
         ∙ take-set-le limit ix (limit + (heads + (n - nc))) (getD ix (limit + m) 0) (omega arith)
 
   module _ (l : 3 * heads ≤ n - nc) where

@@ -1,5 +1,5 @@
--- The clipped build: what rule 3 and the rules up to 10 give the cell builder, and the promise from its answer.
-use mathlib.Core.Path.{_≡_, refl}
+-- The clipped build: what rule 3 and the rules up to 9 give the cell builder, and the promise from its answer and rule 10.
+use mathlib.Core.Path.{_≡_, refl, ap, _∙_}
 use mathlib.Core.Bool.{true}
 use mathlib.Core.List.{List}
 use mathlib.Core.Logic.{_≢_}
@@ -12,7 +12,8 @@ use Rattle.base.specs.common.laws.Refusals.{finds-keep}
 use Rattle.plane.specs.boxes.Finite.{BoundedBox}
 use Rattle.plane.specs.given.Finite.{Fits}
 use Rattle.plane.specs.declared.given.Given.{Given}
-use Rattle.mesh.specs.Accepted.{Mesh, siteCount}
+use Rattle.mesh.specs.Mesh.{Fan}
+use Rattle.mesh.specs.Accepted.{Mesh, tableOf, siteCount}
 use Rattle.definition.specs.declared.Fault.{Fault}
 use Rattle.definition.specs.Fault.{Outcome, ok, refused}
 use Rattle.definition.specs.Cell.{extension, firstCrossing, secondCrossing}
@@ -22,17 +23,21 @@ use Rattle.definition.specs.laws.Gives.{Gives, gives-map}
 use Rattle.build_laws.specs.laws.Built as theorems
 use Rattle.cell_memory.specs.outputs.Outputs.{ofBuilt, faultOf, BuiltInto, countsMade}
 use Rattle.cell_builder.specs.declared.finish.CellsAnswer.{CellsAnswer}
+use Rattle.cell_builder.specs.declared.finish.Finished.{Finished}
 use Rattle.cell_builder.specs.AdmittedBuild.{AdmittedBuild}
+use Rattle.cell_builder.specs.Start.{AnsweredBuild, BuildTold}
 use Rattle.cell_builder.specs.finish.Finish.{outcomeAnswer}
 use Rattle.arguments.specs.asking.Asks.{boxRules, Asked}
 use Rattle.arguments.specs.asking.laws.Asks.{NoneZero, box-answers}
 use Rattle.admission.specs.Slices.{Slices, slices}
-use Rattle.admission.specs.Admission.{BuildAdmission}
+use Rattle.admission.specs.Admission.{OutlineAdmission, FanAdmission, BuildAdmission}
+use Rattle.admission.specs.laws.Outlined.{mesh-outlined, asked-fit, rooms-of, nine-of, table-is, long-of, same-vertices, same-indexes, same-offsets, same-counts}
+use Rattle.admission.specs.laws.Fans.{outline-refused, fans-whole, fans-refused, fans-kept}
 use Rattle.building.specs.counts.Counts.{countsOf, ReusedFit, EndedBuild}
 use Rattle.building.specs.answers.Promise.{BuildAnswers, Build}
 use Rattle.build_laws.specs.Late.{Refuses, Numbered}
 use Rattle.build_laws.specs.LateRefusals.{build-late}
-use Rattle.building.specs.answers.laws.BuildAnswer.{answers-early, mesh-of, fit-of, rooms-of, table-is, answers-built}
+use Rattle.building.specs.answers.laws.BuildAnswer.{answers-early, mesh-of, fit-of, answers-built}
 
 -- ---- the builder's answer
 module _ (o : Outcome Fault Built) (x : CellsAnswer) (q : x ≡ outcomeAnswer o) where
@@ -69,14 +74,23 @@ module _ (o : Outcome Fault Built) (x : CellsAnswer) (q : x ≡ outcomeAnswer o)
           (omega (arith, reused-le extension (b .steps)), omega (arith, reused-le firstCrossing (b .steps)), omega (arith, reused-le secondCrossing (b .steps)))
       go (refused f) h = omega arith
 
--- ---- the whole: `asked` is what the call's own arguments gave, and 0 only where rule 3 holds
+-- ---- what the rules up to 9 give the builder: `asked` is what the call's own arguments gave, and 0 only where rule 3 holds
+module _ {m : Mesh} {asked : ℕ} {old new : Slices} {r : ℕ} (a : OutlineAdmission m asked old new r)
+    (g : Given) (fits : Fits g) (fit : asked ≡ 0 → g .sound ≡ true) (z : r ≡ 0) where
+  pub boxed-asks : AdmittedBuild m (take (siteCount (m .sites)) (new .work)) (g .bounds) (length (new .vertices)) (length (new .indexes)) (length (new .offsets))
+  boxed-asks = record { mesh = mesh-outlined a z; table-is = table-is a z; box = fits .bounded (fit (asked-fit a z)); rooms = rooms-of a z }
+
+-- ---- the whole, where rule 10 holds too
 module _ {m : Mesh} {asked : ℕ} {old new : Slices} {r : ℕ} (a : BuildAdmission m asked old new r)
     (g : Given) (fits : Fits g) (fit : asked ≡ 0 → g .sound ≡ true) (z : r ≡ 0) where
   bounded : BoundedBox 101 (g .bounds)
   bounded = fits .bounded (fit (fit-of a z))
 
-  pub boxed-asks : AdmittedBuild m (take (siteCount (m .sites)) (new .work)) (g .bounds) (length (new .vertices)) (length (new .indexes)) (length (new .offsets))
-  boxed-asks = record { mesh = mesh-of a z; table-is = table-is a z; box = bounded; rooms = rooms-of a z }
+  -- the builder's answer is then the definition's
+  pub boxed-told : {x : Finished} {v : List Float} {ix off : List ℕ} {table : List ℕ} → table ≡ tableOf m
+      → BuildTold m table (g .bounds) (new .vertices) (new .indexes) (new .offsets) x v ix off
+      → AnsweredBuild (build m (g .bounds)) (new .vertices) (new .indexes) (new .offsets) (x .answer) v ix off
+  boxed-told q t = t .answered (rw q (mesh-of a z .topology .fan))
 
   module _ (x : CellsAnswer) (q : x ≡ outcomeAnswer (build m (g .bounds))) where
     pub boxed-fault : x .fault ≡ faultOf (build m (g .bounds))
@@ -106,27 +120,48 @@ module _ {m : Mesh} {asked : ℕ} {old new : Slices} {r : ℕ} (a : BuildAdmissi
         answers-built a z own t found o late (x .fault) (answer-fault o x q) l f (answer-counts o x q late)
 
 -- where nothing but the box is asked
-module _ {m : Mesh} {asked : ℕ} {old new : Slices} {r : ℕ} (a : BuildAdmission m asked old new r)
+module _ {m : Mesh} {asked : ℕ} {old mid : Slices} {r : ℕ} (a : OutlineAdmission m asked old mid r)
     (g : Given) (ask : Asked (boxRules (g .sound)) asked) where
-  pub build-early : r ≢ 0 → Build m g old new r
-  build-early n = answers-early a (boxRules (g .sound)) (box-answers (g .sound)) (ask .found) (build m (g .bounds)) n
+  pub build-early : r ≢ 0 → Build m g old mid r
+  build-early n = answers-early (outline-refused a n) (boxRules (g .sound)) (box-answers (g .sound)) (ask .found) (build m (g .bounds)) n
 
   fit : asked ≡ 0 → g .sound ≡ true
   fit e = finds-keep (λ k. k ≡ 0) (box-answers (g .sound)) e (ask .found) .0
 
   module _ (fits : Fits g) (z : r ≡ 0) where
-    pub build-asks : AdmittedBuild m (take (siteCount (m .sites)) (new .work)) (g .bounds) (length (new .vertices)) (length (new .indexes)) (length (new .offsets))
+    pub build-asks : AdmittedBuild m (take (siteCount (m .sites)) (mid .work)) (g .bounds) (length (mid .vertices)) (length (mid .indexes)) (length (mid .offsets))
     build-asks = boxed-asks a g fits fit z
 
-    module _ (x : CellsAnswer) (q : x ≡ outcomeAnswer (build m (g .bounds))) where
-      pub count-fits : x .count < 4294967296
-      count-fits = boxed-count a g fits fit z x q
+    module _ {x : Finished} {v : List Float} {ix off : List ℕ}
+        (t : BuildTold m (take (siteCount (m .sites)) (mid .work)) (g .bounds) (mid .vertices) (mid .indexes) (mid .offsets) x v ix off) where
+      -- rule 10 is tried where the builder does not say that it holds
+      pub build-fans : x .whole ≡ true → Fan (m .triangles) (m .halfedges) (tableOf m)
+      build-fans h = rw (table-is a z) at (t .whole h)
 
-      pub reused-fit : ReusedFit (x .reused)
-      reused-fit = boxed-reused a g fits fit z x q
+      module _ {end : Slices} {k : ℕ} (f : FanAdmission (m .triangles) (m .halfedges) (siteCount (m .sites)) (slices (mid .work) v ix off (mid .counts)) end k) where
+        pub build-broken : k ≢ 0 → length v ≡ length (mid .vertices) → length ix ≡ length (mid .indexes) → length off ≡ length (mid .offsets) → Build m g old end k
+        build-broken n lv li lo =
+            answers-early (fans-refused a z f n (long-of a z) (lv ∙ ap length (same-vertices a z)) (li ∙ ap length (same-indexes a z)) (lo ∙ ap length (same-offsets a z))
+            (ap length (same-counts a z))) (boxRules (g .sound)) (box-answers (g .sound)) (ask .found) (build m (g .bounds)) n
 
-      pub build-built : {v : List Float} {ix off w₂ c₂ : List ℕ}
-          → BuiltInto (build m (g .bounds)) (new .vertices) (new .indexes) (new .offsets) v ix off
-          → EndedBuild (x .fault .number) (countsOf (x .count) (x .owners) (x .lost) (x .reused)) (new .work) (new .counts) w₂ c₂
-          → Build m g old (slices w₂ v ix off c₂) (x .fault .number)
-      build-built l f = boxed-built a g fits fit z x q (boxRules (g .sound)) (box-answers (g .sound)) (ask .found) l f
+        module _ (y : k ≡ 0) where
+          told : AnsweredBuild (build m (g .bounds)) (mid .vertices) (mid .indexes) (mid .offsets) (x .answer) v ix off
+          told = boxed-told (fans-whole a z f y) g fits fit y (table-is a z) t
+
+          kept : end ≡ slices (mid .work) v ix off (mid .counts)
+          kept = fans-kept f y
+
+          pub count-fits : x .answer .count < 4294967296
+          count-fits = boxed-count (fans-whole a z f y) g fits fit y (x .answer) (told .0)
+
+          pub reused-fit : ReusedFit (x .answer .reused)
+          reused-fit = boxed-reused (fans-whole a z f y) g fits fit y (x .answer) (told .0)
+
+          pub nine-fit : 9 ≤ length (end .counts)
+          nine-fit = rw kept (nine-of a z)
+
+          pub build-built : {w₂ c₂ : List ℕ}
+              → EndedBuild (x .answer .fault .number) (countsOf (x .answer .count) (x .answer .owners) (x .answer .lost) (x .answer .reused)) (end .work) (end .counts) w₂ c₂
+              → Build m g old (slices w₂ (end .vertices) (end .indexes) (end .offsets) c₂) (x .answer .fault .number)
+          build-built e =
+              rw kept (boxed-built (fans-whole a z f y) g fits fit y (x .answer) (told .0) (boxRules (g .sound)) (box-answers (g .sound)) (ask .found) (told .1) (rw kept at e))

@@ -3,8 +3,9 @@ use mathlib.Core.Path.{sym, ap, _∙_}
 use mathlib.Core.List.{List}
 use Prim.Native.Nat.{ℕ}
 use native.Mathlib.Omega.{arith}
-use lib.ListN.{length-take}
+use lib.ListN.{length, length-take}
 use borrow.Author.Needs.{needs}
+use borrow.Author.Tests.{eqb-true}
 use Rattle.cell_memory.specs.outputs.laws.Padded.{used-part}
 use Rattle.definition.specs.Measures.{lostLeft}
 use Rattle.cell_builder.proofs.finish.finish.Statement.{statement}
@@ -34,14 +35,16 @@ lost-corners-requires c κs = Entry (Indexed (c .before) .before) .pre .corners
 
 returns : tie.Need-returns
 returns c =
-    let l = c .before .before in
+    let k = c .before in
+    let l = k .before .before in
     let g = Indexed l .before in
     let a = Entry g .args in
     record {
       answer = λ cells q r.
-          rw (c .lost-corners .ensures ∙ ap (λ (es : List ℕ). lostLeft (a .centers) (a .p .owners) es) (used-part cells _ _ _ _ _ (g .gather .ensures .1 cells q r)));
+          rw (k .lost-corners .ensures ∙ ap (λ (es : List ℕ). lostLeft (a .centers) (a .p .owners) es) (used-part cells _ _ _ _ _ (g .gather .ensures .2 cells q r)));
       vertices = Cleared l .clear-floats-from .ensures;
-      gathered = λ cells q r. g .gather .ensures .1 cells q r .1;
+      gathered = λ cells q r. g .gather .ensures .2 cells q r .1;
+      whole = λ q. omega (arith, eqb-true (g .gather .result .steps) (length (a .halfedges .now)) q, g .gather .ensures .1);
     }
 
 pub finish-spec : {M : Type 1} → statement M

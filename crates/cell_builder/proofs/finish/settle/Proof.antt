@@ -1,4 +1,5 @@
 -- `cell_builder::finish::settle` meets its contract: the fault's number decides, and each way is its callee's promise.
+use mathlib.Core.Path.{refl}
 use borrow.Author.Needs.{needs}
 use Rattle.cell_builder.proofs.finish.settle.Statement.{statement}
 use Rattle.cell_builder.proofs.finish.settle.Tie as tie
@@ -7,7 +8,7 @@ returns : tie.Need-returns
 returns c =
     let k = c .before .before .before .before .before .before in
     let i = k .before .before .before .before in
-    record { on-refusal = λ n. k .refuse .ensures; on-success = λ z. absurd (i .if1 .taken z) }
+    record { on-refusal = λ n. (k .refuse .ensures, refl); on-success = λ z. absurd (i .if1 .taken z) }
 
 finish-requires : tie.Need-finish-requires
 finish-requires c κs =

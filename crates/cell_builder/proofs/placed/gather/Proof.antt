@@ -9,7 +9,8 @@ returns c =
     let k = c .before .before .before .before in
     let d = k .before .before .before .before .before .before .before in (
       d .place-cells .ensures .0,
-      λ cells q r. gathered _ _ _ _ _ _ _ (d .place-cells .ensures .1 cells q r) q _ _ (search needs) (search needs) (k .clear-after .ensures .0) (k .clear-after .ensures .1),
+      d .place-cells .ensures .1,
+      λ cells q r. gathered _ _ _ _ _ _ _ (d .place-cells .ensures .2 cells q r) q _ _ (search needs) (search needs) (k .clear-after .ensures .0) (k .clear-after .ensures .1),
     )
 
 pub gather-spec : {M : Type 1} → statement M

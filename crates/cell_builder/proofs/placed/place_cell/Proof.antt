@@ -6,7 +6,7 @@ use borrow.Author.Needs.{needs}
 use borrow.Author.Tests.{eqb-false}
 use Rattle.base.specs.common.laws.Decide.{refused, granted}
 use Rattle.cell_builder.specs.turned.Marks.{MadeLast}
-use Rattle.cell_builder.specs.placed.laws.Placing.{back-fits, back-at, round-at, late-placed}
+use Rattle.cell_builder.specs.placed.laws.Placing.{back-at, full-at, late-placed}
 use Rattle.cell_builder.proofs.placed.place_cell.Statement.{statement}
 use Rattle.cell_builder.proofs.placed.place_cell.Tie as tie
 
@@ -29,11 +29,11 @@ walk-cell-requires c κs =
     let w = c .before in
     let r = Entry (Early w) .pre in
     let b = r .walk (is-early w) in (
-      λ z. round-at _ _ _ _ _ (w .wide .ensures) (r .round (is-early w) (eqb-false _ _ z)),
+      r .pairs,
       omega arith,
       omega (arith, r .low, r .rise, r .within),
       r .few,
-      (b .0, back-at _ _ _ _ _ _ (w .wide .ensures) (b .1)),
+      (b .cell, back-at _ _ _ _ _ _ (w .wide .ensures) (b .back)),
     )
 
 returns : tie.Need-returns
@@ -43,18 +43,23 @@ returns c =
     let r = Entry (Early w) .pre in
     let e = is-early w in
     let b = r .walk e in
-    let f = back-fits (b .1) (k .walk-cell .ensures (b .0) (back-at _ _ _ _ _ _ (w .wide .ensures) (b .1))) in
-    (f .0, omega (arith, f .1), λ x h. k .walk-cell .ensures x (back-at _ _ _ _ _ _ (w .wide .ensures) (h .early e)))
+    let d = k .walk-cell .ensures (b .cell) (back-at _ _ _ _ _ _ (w .wide .ensures) (b .back)) in (
+      d .low,
+      omega (arith, d .high),
+      omega (arith, d .counts, b .long),
+      λ x h. k .walk-cell .ensures x (back-at _ _ _ _ _ _ (w .wide .ensures) (h .early e)) .written (λ z. full-at _ _ _ (h .full e (eqb-false _ _ z))),
+    )
 
 returns-2 : tie.Need-returns-2
 returns-2 c =
-    let d = c .before .before in
+    let d = c .before .before .before .before in
     let l = d .before .before in
     let o = l .before .before in
     let a = o .before in
     let f = l .cell-end .ensures in (
       omega arith,
       omega (arith, f .low, f .high),
+      omega (arith, c .walk-length .ensures .0),
       λ x h. late-placed (Entry a .pre) f _ (d .move-down .ensures) x (h .late (refused {P = Site a} (a .early .result) (ap not (o .if1 .left)) (a .early .ensures))),
     )
 
@@ -62,4 +67,5 @@ pub place-cell-spec : {M : Type 1} → statement M
 place-cell-spec =
     tie.close
     (tie.spec (λ c κs. search needs) (λ c. search needs) (λ c. search needs) (λ c κs. search needs) (λ c. search needs) (λ c. search needs) walk-cell-requires
-    (λ c. search needs) returns (λ c κs. search needs) (λ c κs. search needs) (λ c. search needs) (λ c. search needs) (λ c. search needs) returns-2)
+    (λ c. search needs) returns (λ c κs. search needs) (λ c κs. search needs) (λ c. search needs) (λ c. search needs) (λ c. search needs) (λ c. search needs)
+    (λ c κs. search needs) (λ c. search needs) returns-2)

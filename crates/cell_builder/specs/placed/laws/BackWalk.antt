@@ -1,7 +1,6 @@
 -- The walk round an inner site, backwards: from its first half-edge one comes to the last of the walk, then to the one before it, and at the end back to the first. So the cell of
 -- an early site is walked, a step back each. It has a step for each triangle of the site, and its region has room for as many, but for the owner of three corners or more.
 use mathlib.Core.Path.{_≡_, refl, sym, ap, _∙_}
-use mathlib.Core.Bool.{false}
 use mathlib.Core.List.{List, [], _∷_, map, reverse, reverseAux}
 use mathlib.Core.Logic.{⊎-elim, _≢_}
 use Prim.Native.Nat.{ℕ, zero, suc, _+_, _-_, _/_, _≤_, _<_}
@@ -18,21 +17,20 @@ use Rattle.mesh.specs.Mesh.{nextOf, endOf, pairOf, around, turnOf, walkOf, whol
 use Rattle.mesh.specs.laws.Next.{next-sum, next-lt, next-thrice}
 use Rattle.mesh.specs.laws.Closed.{ClosedAt}
 use Rattle.mesh.specs.laws.Degree.{ends-counted, walk-degree}
-use Rattle.mesh.specs.laws.Facts.{paired, walk-each, walk-only}
+use Rattle.mesh.specs.laws.Facts.{with-fans, paired, walk-each, walk-only}
 use Rattle.mesh.specs.laws.WalkSteps.{walk-go, walk-done}
 use Rattle.mesh.specs.laws.Walks.{mate, turn-cases, turn-there, turn-end, turn-start, walk-short, walk-whole}
 use Rattle.definition.specs.Cell.{unmarked}
 use Rattle.definition.specs.Build.{CellState}
-use Rattle.build_laws.specs.laws.Runs.{true-false}
 use Rattle.clipping.specs.interior.laws.InsideWalk.{plains}
 use Rattle.cell_builder.specs.declared.tried.Frame.{Frame}
-use Rattle.cell_builder.specs.tried.SlicesInvariant.{plan, Ground}
+use Rattle.cell_builder.specs.tried.SlicesInvariant.{plan, Ground, Fanned}
 use Rattle.cell_builder.specs.tried.laws.Early.{earlyCell}
 use Rattle.cell_builder.specs.tried.laws.OneTry.{region-room}
 use Rattle.cell_builder.specs.turned.Marks.{MadeLast}
 use Rattle.cell_builder.specs.turned.laws.Onward.{Onward}
 use Rattle.cell_builder.specs.turned.laws.OneTurn.{leftmost, closed}
-use Rattle.cell_builder.specs.placed.Placed.{previousOf, backOf, InPair, isNil, Backs, backTriangles, BackCell, RoundTrip}
+use Rattle.cell_builder.specs.placed.Placed.{previousOf, backOf, isNil, Backs, backTriangles, Mutual, BackCell, EarlyWalk}
 use Rattle.cell_builder.specs.placed.laws.BothEnds.{previous-sum}
 
 previous-next : (e : ℕ) → previousOf (nextOf e) ≡ e
@@ -68,20 +66,6 @@ module _ (tri he : List ℕ) (ok : Paired tri he) where
     walk-backs e l q =
         rw (walk-whole tri he ok e l) at (backs e l (suc (length he)) e [] l q (omega (arith, walk-short tri he ok e l (suc (length he)))) (eq-eqb e e refl) tt)
 
--- there is one walk back to s
-one-walk : (he : List ℕ) (s x : ℕ) (ys zs : List ℕ) → isNil ys ≡ isNil zs → Backs he s x ys → Backs he s x zs → ys ≡ zs
-one-walk he s x [] [] q b d = refl
-one-walk he s x [] (z ∷ zs) q b d = absurd (true-false refl q)
-one-walk he s x (y ∷ ys) [] q b d = absurd (true-false q refl)
-one-walk he s x (y ∷ ys) (z ∷ zs) q b d =
-    let e : y ≡ z = sym (b .1) ∙ d .1 in
-    let d′ : (eqb y s ≡ isNil zs) × Backs he s y zs = rw e (d .2, d .3) in
-    rw (← e) (ap (λ (l : List ℕ). y ∷ l) (one-walk he s y ys zs (sym (b .2) ∙ d′ .0) (b .3) (d′ .1)))
-
-not-nil : (l : List ℕ) → 0 < length l → isNil l ≡ false
-not-nil [] h = absurd (omega arith)
-not-nil (x ∷ l) h = refl
-
 -- ---- the cell
 
 reverse-thirds : (l rs : List ℕ) → reverseAux (map (λ f. f / 3) l) (map (λ f. f / 3) rs) ≡ map (λ f. f / 3) (reverseAux l rs)
@@ -100,10 +84,10 @@ nowhere v [] h = refl
 nowhere v (x ∷ l) h = ⊎-elim (λ w. absurd (h 0 (omega arith) (sym (w .0)))) (λ w. omega (arith, w .1, nowhere v l (λ i p. h (suc i) (omega arith)))) (same-cases v x)
 
 module _ {tri he hull table : List ℕ} {f : Frame} {off : List ℕ} {g : Ground} {c : CellState} (a : Onward (plan tri he hull table f off) g c) where
-  -- a step for each triangle
-  all-steps : (k : ℕ) → k < g .sites → length (wholeOf he (getD table k 0)) ≡ occ k tri
-  all-steps k l =
-      let top = a .on .mesh in
+  -- a step for each triangle, where rule 10 holds
+  all-steps : Fanned (plan tri he hull table f off) g → (k : ℕ) → k < g .sites → length (wholeOf he (getD table k 0)) ≡ occ k tri
+  all-steps fan k l =
+      let top = with-fans (a .on .mesh) fan in
       let walk : List ℕ = wholeOf he (getD (leftmostOf tri he (g .sites)) k 0) in
       rw (a .on .table-is) (weighed (λ v. same k (endOf tri v)) (length tri) walk (λ v p. rw (top .same) at (walk-only top k l v p .0))
       (λ v p. ⊎-elim
@@ -121,7 +105,7 @@ module _ {tri he hull table : List ℕ} {f : Frame} {off : List ℕ} {g : Ground
       let threes = paired top .threes in
       shut (nextOf (nextOf e)) (next-lt threes (next-lt threes (o .1))) (ap (λ (j : ℕ). getD tri j 0) (next-thrice e) ∙ o .3 ∙ q) (ap (pairOf he) (next-thrice e) ∙ o .2))
 
-  pair-back : (e : ℕ) → InPair he e → pairOf he (pairOf he e) ≡ e
+  pub pair-back : Mutual he
   pair-back e h = let ok = paired (a .on .mesh) in ⊎-elim (λ w. absurd (omega (arith, ok .small, h .1, w))) (λ w. w .back) (ok .pairs e (h .0))
 
   module _ {m : List ℕ} where
@@ -141,16 +125,16 @@ module _ {tri he hull table : List ℕ} {f : Frame} {off : List ℕ} {g : Ground
           is = early-walked he t;
         }
 
-    -- so a walk back takes all of its region's room
-    pub early-round : (k : ℕ) → k < g .sites → MadeLast he table m k → occ k (g .found) ≤ 2 → RoundTrip he (getD table k 0) ((getD off (k + 1) 0 - getD off k 0) / 3)
+    back-long : (k : ℕ) (l : k < g .sites) (x : MadeLast he table m k) → length (early-back k l x .along) ≡ length (wholeOf he (getD table k 0))
     unfolding early-back
-    early-round k l x few =
-        let w = early-back k l x in
+    back-long k l x = length-reverseAux (wholeOf he (getD table k 0)) [] ∙ omega arith
+
+    pub early-walk : (k : ℕ) → k < g .sites → MadeLast he table m k → EarlyWalk he (getD table k 0) ((getD off (k + 1) 0 - getD off k 0) / 3)
+    early-walk k l x = record { cell = _; back = early-back k l x; long = back-long k l x }
+
+    -- where rule 10 holds it takes all of its region's room
+    pub early-full : Fanned (plan tri he hull table f off) g → (k : ℕ) (l : k < g .sites) (x : MadeLast he table m k) → occ k (g .found) ≤ 2
+        → (getD off (k + 1) 0 - getD off k 0) / 3 ≤ length (early-back k l x .along)
+    early-full fan k l x few =
         let next : k + 1 ≡ suc k = omega arith in
-        let long : length (w .along) ≡ occ k tri = length-reverseAux (wholeOf he (getD table k 0)) [] ∙ omega (arith, all-steps k l) in
-        record {
-          pairs = pair-back;
-          long = λ c b.
-              let one : b .along ≡ w .along = one-walk he _ _ (b .along) (w .along) (not-nil (b .along) (b .some) ∙ sym (not-nil (w .along) (w .some))) (b .backs) (w .backs) in
-              rw (one, next) (omega (arith, long, off-hull k (closed a k l (x .inner)), region-room (a .on) k l));
-        }
+        rw next (omega (arith, back-long k l x, all-steps fan k l, off-hull k (closed a k l (x .inner)), region-room (a .on) k l))

@@ -1,5 +1,6 @@
 -- The loop over the hull's edges follows the definition: what is left of it, from the vertices and numbers that stand, is the whole.
 use mathlib.Core.Path.{_≡_, refl, sym, ap, _∙_, subst}
+use mathlib.Core.Logic.{⊎-elim}
 use mathlib.Core.Bool.{Bool, true, false, _&&_}
 use mathlib.Core.List.{List, [], _∷_, _++_}
 use Prim.Native.Nat.{ℕ, suc, _+_, _-_, _*_, _/_, _≤_, _<_}
@@ -7,7 +8,7 @@ use native.Mathlib.Nat.{sub-zero, add-zero}
 use native.Mathlib.Numerals.{add-one}
 use native.Mathlib.Omega.{arith}
 use lib.Ieee.{Float}
-use lib.ListN.{length, getD, set, take, drop, length-set, length-append}
+use lib.ListN.{length, set, take, drop, length-set, length-append}
 use lib.Seq.{sets, take-set-lt, drop-set-lt}
 use Rattle.base.specs.common.laws.Stores.{sets-join}
 use Rattle.plane.specs.points.Flat.{points, pointAt}
@@ -15,24 +16,51 @@ use Rattle.plane.specs.declared.points.Point.{Point}
 use Rattle.vertices.specs.Add.{addVertex}
 use Rattle.vertices.specs.Store.{Holds, Poured, Leaves, PlacedAs}
 use Rattle.vertices.specs.declared.Placed.{Placed}
-use Rattle.vertices.specs.laws.Store.{poured-points, poured-none, poured-then}
+use Rattle.vertices.specs.laws.Store.{poured-points, poured-none, poured-then, added-kept, kept-vertex}
 use Rattle.mesh.specs.Mesh.{startOf, endOf}
-use Rattle.mesh.specs.Hull.{nextPlace, nextSite}
-use Rattle.mesh.specs.laws.Border.{after-lt}
-use Rattle.definition.specs.Cell.{vertexAt, Taken, took, extension}
+use Rattle.mesh.specs.Hull.{nextPlace}
+use Rattle.mesh.specs.laws.Border.{after-lt, after-cases}
+use Rattle.definition.specs.Cell.{Taken, took, extension}
 use Rattle.definition.specs.Build.{finite, extended, extendFrom}
 use Rattle.definition.specs.Short.{extensions}
 use Rattle.definition.specs.declared.Reused.{Reused}
 use Rattle.definition.specs.Reused.{ifOld, reused, reusedIn, together}
 use Rattle.definition.specs.laws.Reused.{reused-join}
-use Rattle.cell_builder.specs.rings.Extensions.{projectedOf, ExtendedBy, ExtendsInto}
+use Rattle.cell_builder.specs.rings.Extensions.{rayOf, rayOver, farAlong, extendedRay, edgeAt, HullReached, PointAhead, PointsFrom, ExtendedBy, ExtendsInto}
+use Rattle.cell_builder.specs.declared.rings.extensions.Ray.{Ray}
 use Rattle.cell_builder.specs.declared.rings.extensions.Passed.{Passed}
+use Rattle.cell_builder.specs.declared.rings.extensions.TwoPoints.{TwoPoints}
 
--- the extension is the circumcenter projected from its half-edge
-pub extended-is : (sites : List Float) (tri : List ℕ) (vs : List Point) (e : ℕ)
-    → extended sites tri vs e ≡ projectedOf (vertexAt vs (e / 3)) (pointAt sites (startOf tri e)) (pointAt sites (endOf tri e))
-unfolding extended projectedOf
+-- the extension is the circumcenter's ray, extended
+pub extended-is : (sites : List Float) (tri : List ℕ) (vs : List Point) (e : ℕ) → extended sites tri vs e ≡ extendedRay (rayOver sites tri vs e)
+unfolding extended rayOf farAlong
 extended-is sites tri vs e = refl
+
+-- and stays the same when a vertex is added
+pub extended-kept :
+    (sites : List Float) (tri : List ℕ) (nc n : ℕ) (p : Point) (v v₁ : List Float) (m e : ℕ) → Poured (addVertex nc (points n v) p .verts) v m v₁ → 2 * n ≤ length v → n ≤ m → e / 3 < n
+    → extended sites tri (points m v₁) e ≡ extended sites tri (points n v) e
+extended-kept sites tri nc n p v v₁ m e h r l c =
+    extended-is sites tri (points m v₁) e
+    ∙ ap (λ (q : Point). extendedRay (rayOf q (pointAt sites (startOf tri e)) (pointAt sites (endOf tri e)))) (kept-vertex v v₁ n m (e / 3) _ (added-kept nc n p v v₁ m h r) l c)
+    ∙ sym (extended-is sites tri (points n v) e)
+
+-- the half-edge of a hull place, and its circumcenter among the vertices
+module _ {sites : List Float} {tri hull table : List ℕ} {v : List Float} {count : ℕ} (x : HullReached sites tri hull table v count) (i : ℕ) (h : i < length hull) where
+  pub reached-edge : edgeAt hull table i < length tri
+  reached-edge = x .extends .edges (nextPlace (length hull) i) (after-lt (length hull) i h)
+
+  pub reached-center : edgeAt hull table i / 3 < count
+  reached-center = omega (arith, reached-edge, x .extends .threes, x .centers)
+
+-- two rays extended are the extensions of a hull place and of the one after it
+pub two-rays :
+    (sites : List Float) (tri hull table : List ℕ) (vs : List Point) (i j : ℕ) (r s : Ray) (t : TwoPoints) → r ≡ rayOver sites tri vs (edgeAt hull table i)
+    → s ≡ rayOver sites tri vs (edgeAt hull table j) → j ≡ nextPlace (length hull) i → (t .first ≡ extendedRay r) × (t .second ≡ extendedRay s) → PointsFrom sites tri hull table vs i t
+two-rays sites tri hull table vs i j r s t a b e h = record {
+  first = h .0 ∙ ap extendedRay a ∙ sym (extended-is sites tri vs (edgeAt hull table i));
+  second = λ _. h .1 ∙ ap extendedRay (b ∙ ap (λ (k : ℕ). rayOver sites tri vs (edgeAt hull table k)) e) ∙ sym (extended-is sites tri vs (edgeAt hull table (nextPlace (length hull) i)));
+}
 
 one-le : (b : Bool) → ifOld b 1 ≤ 1
 one-le true = omega arith
@@ -78,22 +106,26 @@ module _ (sites : List Float) (tri hull table : List ℕ) (nc limit at count : �
     long-ix = refl;
   }
 
-  -- the half-edge of a turn, and its circumcenter among the vertices
   module _ (x : ExtendsInto sites tri hull table nc count limit at v₀ ix₀) (v : List Float) (ix : List ℕ) (n old i : ℕ) (g : Extending v ix n old i) (h : i < length hull) where
-    pub turn-edge : getD table (nextSite hull i) 0 < length tri
-    turn-edge = x .extends .edges (nextPlace (length hull) i) (after-lt (length hull) i h)
-
-    pub turn-center : getD table (nextSite hull i) 0 / 3 < n
-    turn-center = omega (arith, turn-edge, x .extends .threes, g .holds .centers)
-
     pub turn-room : 2 * n + 2 ≤ length v
     turn-room = omega (arith, x .room-v, g .grown, g .long-v)
 
-  module _ (v : List Float) (ix : List ℕ) (n old i : ℕ) (g : Extending v ix n old i) (h : i < length hull) (p : Point) (e : ℕ)
-      (qe : e ≡ getD table (nextSite hull i) 0) (qp : p ≡ extended sites tri (points n v) e) where
-    q : p ≡ extended sites tri (points n v) (getD table (nextSite hull i) 0)
-    q = rw (← qe) qp
+    pub turn-reaches : HullReached sites tri hull table v n
+    turn-reaches = record { nc = nc; extends = x .extends; centers = g .holds .centers; room = g .holds .room }
 
+    -- the extension that was worked out ahead, after a turn's vertex was added
+    pub turn-ahead :
+        (p : Point) (t : TwoPoints) → PointsFrom sites tri hull table (points n v) i t → (v₁ : List Float) (m : ℕ) → Poured (addVertex nc (points n v) p .verts) v m v₁ → n ≤ m
+        → PointAhead sites tri hull table (points m v₁) (i + 1) (t .second)
+    turn-ahead p t f v₁ m w l k o = f .second (omega arith) ∙ ap (λ (j : ℕ). extended sites tri (points n v) (edgeAt hull table j)) place ∙ sym kept
+      where
+        place : nextPlace (length hull) i ≡ i + 1
+        place = ⊎-elim (λ u. absurd (omega arith)) (λ u. u .1) (after-cases (length hull) i)
+
+        kept : extended sites tri (points m v₁) (edgeAt hull table (i + 1)) ≡ extended sites tri (points n v) (edgeAt hull table (i + 1))
+        kept = extended-kept sites tri nc n p v v₁ m (edgeAt hull table (i + 1)) w (g .holds .room) l (reached-center turn-reaches (i + 1) k)
+
+  module _ (v : List Float) (ix : List ℕ) (n old i : ℕ) (g : Extending v ix n old i) (h : i < length hull) (p : Point) (q : p ≡ extended sites tri (points n v) (edgeAt hull table i)) where
     rest :
         extendFrom sites tri hull table nc 0 (length hull) (extensions (points count v₀) [] [])
         ≡ extendFrom sites tri hull table nc i (suc (length hull - (i + 1))) (extensions (points n v) (g .xs) (g .ts))

@@ -9,7 +9,7 @@ use lib.Seq.{take-length}
 use Rattle.base.specs.common.Count.{same, occ}
 use Rattle.base.specs.common.laws.Count.{same-cases}
 use Rattle.mesh.specs.Mesh.{endOf, wholeOf, AllSound}
-use Rattle.mesh.specs.Accepted.{Topology}
+use Rattle.mesh.specs.Accepted.{TopologyWith}
 use Rattle.mesh.specs.laws.Degree.{occ-next}
 use Rattle.definition.specs.Build.{ringFrom}
 use Rattle.build_laws.specs.laws.AllCells.{ring-share}
@@ -39,7 +39,7 @@ named-once tri n s (suc t) sound h =
     let c = rw w at (occ-next s (3 * t + 1 + 1) tri (omega arith)) in
     rw (q, w) (omega (arith, a, rw w at b, c, one-of s (getD tri (3 * t) 0) (getD tri (3 * t + 1) 0) (getD tri (3 * t + 2) 0) (g .ab) (g .bc) (g .ca), named-once tri n s t sound (omega arith)))
 
-module _ {tri he hull : List ℕ} {n : ℕ} (top : Topology tri he hull n) (e : ℕ) where
+module _ {Fans : Type 0} {tri he hull : List ℕ} {n : ℕ} (top : TopologyWith Fans tri he hull n) (e : ℕ) where
   pub ring-short : length (ringFrom he e) ≤ length tri / 3
   ring-short =
       let s = endOf tri e in

@@ -6,7 +6,7 @@ use native.Mathlib.Omega.{arith}
 use lib.Dec.{eqb}
 use lib.ListN.{length, getD, length-map, length-append, List·getD-map}
 use Rattle.mesh.specs.Mesh.{walkOf, wholeOf, Paired}
-use Rattle.mesh.specs.Accepted.{Topology}
+use Rattle.mesh.specs.Accepted.{TopologyWith}
 use Rattle.mesh.specs.laws.WalkSteps.{walk-go}
 use Rattle.mesh.specs.laws.Walks.{walk-ends}
 use Rattle.mesh.specs.laws.Occurs.{occ-there}
@@ -62,7 +62,7 @@ module _ (tri he hull table : List ℕ) (x : Extensions) (i : ℕ) where
       (λ t. below-append n (getD (x .at) (i - 1) 0 ∷ ring) (getD (x .at) i 0 ∷ [])
       (below-cons n (getD (x .at) (i - 1) 0) ring (beyond (i - 1) (omega (arith, counted)) .1) r) (below-one n (getD (x .at) i 0) (beyond i (omega (arith, counted)) .1)))
 
-  pub hull-short : {n : ℕ} → Topology tri he hull n → length (hullRing he hull table (x .at) i) ≤ length tri / 3 + 2
+  pub hull-short : {Fans : Type 0} {n : ℕ} → TopologyWith Fans tri he hull n → length (hullRing he hull table (x .at) i) ≤ length tri / 3 + 2
   unfolding hullRing
   hull-short top =
       let e = getD table (getD hull i 0) 0 in

@@ -1,5 +1,6 @@
 -- One turn at a half-edge. Where the table's entry of its site has come by and the fan is closed, the cell is there or the site is idle, and a try changes nothing; where
--- the site is on the hull, its cell is there. A site whose table entry is e ends at e, so the try there settles it. The cells of other sites stay.
+-- the site is on the hull, its cell is there, or it is idle and a try changes nothing if the edge that closes its ring misses the box.
+-- A site whose table entry is e ends at e, so the try there settles it. The cells of other sites stay.
 use mathlib.Core.Path.{_≡_, refl, sym, ap, _∙_}
 use mathlib.Core.Bool.{Bool, true, false}
 use mathlib.Core.List.{List, []}
@@ -25,11 +26,11 @@ use Rattle.definition.specs.Build.{CellState, ringFrom, clipInto, isEmpty}
 use Rattle.definition.specs.laws.Gives.{Gives, picked}
 use Rattle.build_laws.specs.laws.AllCells.{is-empty}
 use Rattle.build_laws.specs.laws.Runs.{true-false}
-use Rattle.cell_builder.specs.turned.laws.IdleSites.{IdleSite, idle-grown, idle-shrunk, idle-try, try-idle}
+use Rattle.cell_builder.specs.turned.laws.IdleSites.{IdleSite, ClosesOutside, idle-grown, idle-shrunk, idle-try, closed-closes, try-idle}
 use Rattle.cell_builder.specs.declared.tried.Frame.{Frame}
-use Rattle.cell_builder.specs.tried.SlicesInvariant.{plan, Ground, edgeTry}
+use Rattle.cell_builder.specs.tried.SlicesInvariant.{plan, Ground, Fanned, edgeTry}
 use Rattle.cell_builder.specs.turned.Marks.{markOf}
-use Rattle.cell_builder.specs.turned.Turns.{dueOf, HasEntry, AllHaveEntries, SettledBefore, SettledAfter}
+use Rattle.cell_builder.specs.turned.Turns.{dueOf, HasEntry, AllHaveEntries, HullsIdle, SettledBefore, SettledAfter}
 use Rattle.cell_builder.specs.turned.laws.Onward.{Onward, OthersStay, others-stay}
 
 gives-all : (P : CellState → Type 0) (o : Outcome Fault CellState) → ((r : CellState) → P r) → Gives P o
@@ -76,6 +77,26 @@ module _ {tri he hull table : List ℕ} {f : Frame} {off : List ℕ} {g : Ground
       (λ m. n (sym (m .1) ∙ ap (endOf tri) w))
       (tab-cases (a .on .mesh) k l)
 
+  -- ---- an idle site's try, where the edge that closes its ring misses the box
+
+  module _ {e : ℕ} (h : e < length tri) where
+    idle : IdleSite (f .bounds) (length tri / 3) tri he (g .x .verts) (endOf tri e)
+        → (IdleSite (f .bounds) (length tri / 3) tri he (s .verts) (endOf tri e) → ClosesOutside (f .bounds) he (s .verts) e) → edgeTry (plan tri he hull table f off) e s ≡ ok s
+    idle i closes =
+        let now = idle-grown (a .on .mesh) (f .bounds) (endOf tri e) (omega (arith, a .on .low)) (a .grown) i in
+        picked (λ (o : Outcome Fault CellState). o ≡ ok s) (isEmpty (getD (s .cells) (endOf tri e) [])) _ _
+        (λ t. idle-try (a .on .mesh) (f .bounds) (endOf tri e) s e (in-list h) refl now (closes now) (is-empty _ t))
+        (λ t. refl)
+
+    -- on the hull
+    pub retry-nothing : HullsIdle (plan tri he hull table f off) g s → pairOf he (getD table (endOf tri e) 0) ≡ EMPTY → ClosesOutside (f .bounds) he (s .verts) e
+        → edgeTry (plan tri he hull table f off) e s ≡ ok s
+    retry-nothing known u c =
+        ⊎-elim
+        (λ q. rw q)
+        (λ i. idle i (λ _. c))
+        (known e h u)
+
   module _ {m : List ℕ} {e : ℕ} (b : SettledBefore (plan tri he hull table f off) g m e s) (h : e < length tri) where
     abbrev site : ℕ
     site = endOf tri e
@@ -99,18 +120,15 @@ module _ {tri he hull table : List ℕ} {f : Frame} {off : List ℕ} {g : Ground
     pub there : isEmpty (getD (s .cells) site []) ≡ false → try ≡ ok s
     there q = rw q
 
-    -- an idle site's try
-    idle : ClosedAt tri he site → IdleSite (f .bounds) nc tri he (g .x .verts) site → try ≡ ok s
-    idle c i =
-        picked (λ (o : Outcome Fault CellState). o ≡ ok s) (isEmpty (getD (s .cells) site [])) _ _
-        (λ t. idle-try (a .on .mesh) (f .bounds) site c s e (in-list h) refl (idle-grown (a .on .mesh) (f .bounds) site c grown-room (a .grown) i) (is-empty _ t))
-        (λ t. refl)
-
     pub inner-nothing : pairOf he entry ≢ EMPTY → entry < e → try ≡ ok s
-    inner-nothing n l = ⊎-elim there (λ i. idle (closed site in-sites n) i) (b .inner site in-sites n l)
+    inner-nothing n l =
+        ⊎-elim
+        there
+        (λ i. idle h i (λ now. closed-closes (a .on .mesh) (f .bounds) site s e (in-list h) refl (closed site in-sites n) now))
+        (b .inner site in-sites n l)
 
     pub hull-nothing : markOf m e ≡ 0 → pairOf he entry ≡ EMPTY → try ≡ ok s
-    hull-nothing z u = there (b .hulls e h u z)
+    hull-nothing z u = there (b .hulls .marked e h u z)
 
     -- what is not due changes nothing, and its entry has come by
     not-due : dueOf tri he table e ≡ false → (try ≡ ok s) × (entry < e)
@@ -159,8 +177,8 @@ module _ {tri he hull table : List ℕ} {f : Frame} {off : List ℕ} {g : Ground
         (λ _ z. refl)
 
     -- at the table's entry of an inner site
-    made : pairOf he entry ≢ EMPTY → e ≡ entry → Gives Made try
-    made n is =
+    made : Fanned (plan tri he hull table f off) g → pairOf he entry ≢ EMPTY → e ≡ entry → Gives Made try
+    made fan n is =
         picked (Gives Made) (isEmpty (getD (s .cells) site [])) _ _
         (λ t. by (clipInto (f .bounds) nc site (ringFrom he e) s) refl)
         (λ t. inl t)
@@ -168,13 +186,10 @@ module _ {tri he hull table : List ℕ} {f : Frame} {off : List ℕ} {g : Ground
         wide : site < length (s .cells)
         wide = rw (a .width) in-sites
 
-        c : ClosedAt tri he site
-        c = closed site in-sites n
-
         left : (r : CellState) → clipInto (f .bounds) nc site (ringFrom he e) s ≡ ok r → (t : Bool) → isEmpty (getD (r .cells) site []) ≡ t → Made r
         left r q true t =
-            inr (idle-shrunk (a .on .mesh) (f .bounds) site c grown-room (a .grown)
-            (try-idle (a .on .mesh) (f .bounds) site c s e (in-list h) refl in-sites (is ∙ ap (λ (l : List ℕ). getD l site 0) (a .on .table-is)) wide q (is-empty _ t)))
+            inr (idle-shrunk (a .on .mesh) (f .bounds) site grown-room (a .grown)
+            (try-idle (a .on .mesh) (f .bounds) site s e (in-list h) refl fan in-sites (is ∙ ap (λ (l : List ℕ). getD l site 0) (a .on .table-is)) wide q (is-empty _ t)))
         left r q false t = inl t
 
         by : (o : Outcome Fault CellState) → clipInto (f .bounds) nc site (ringFrom he e) s ≡ o → Gives Made o
@@ -189,14 +204,21 @@ module _ {tri he hull table : List ℕ} {f : Frame} {off : List ℕ} {g : Ground
           (λ z. let n′ : pairOf he entry ≢ EMPTY = rw z at n in rw z (new n′ (omega (arith, due-inner d n′, rw z at m))))
           (λ z. ⊎-elim (λ x. inl (rw (others k z) x)) (λ x. inr x) (b .inner k lk n (omega (arith, other-entry k e lk h z))))
           (eq-or-ne k site);
-      hulls = λ k lk u y.
-          let x = b .hulls k lk u y in
-          ⊎-elim
-          (λ z. rw (same (rw z at x)) x)
-          (λ z. rw (others (endOf tri k) z) x)
-          (eq-or-ne (endOf tri k) site);
+      hulls = record {
+        marked = λ k lk u y.
+            let x = b .hulls .marked k lk u y in
+            ⊎-elim
+            (λ z. rw (same (rw z at x)) x)
+            (λ z. rw (others (endOf tri k) z) x)
+            (eq-or-ne (endOf tri k) site);
+        idle = λ k lk u.
+            ⊎-elim
+            (λ x. ⊎-elim (λ z. inl (rw (same (rw z at x)) x)) (λ z. inl (rw (others (endOf tri k) z) x)) (eq-or-ne (endOf tri k) site))
+            (λ x. inr x)
+            (b .hulls .idle k lk u);
+      };
     }
     tried-settled d (refused x) others same new = tt
 
-    pub turn-tried : dueOf tri he table e ≡ true → SettledAfter (plan tri he hull table f off) g m e s
-    turn-tried d = tried-settled d try stay kept made
+    pub turn-tried : Fanned (plan tri he hull table f off) g → dueOf tri he table e ≡ true → SettledAfter (plan tri he hull table f off) g m e s
+    turn-tried fan d = tried-settled d try stay kept (made fan)

@@ -15,18 +15,18 @@ use Rattle.definition.specs.Build.{CellState, ringFrom, clipInto, isEmpty}
 use Rattle.definition.specs.laws.Gives.{Gives, gives-ok, gives-map, picked}
 use Rattle.build_laws.specs.laws.Runs.{then-ok}
 use Rattle.cell_builder.specs.declared.finish.Progress.{Progress}
-use Rattle.cell_builder.specs.tried.SlicesInvariant.{Plan, Ground, edgeTry}
+use Rattle.cell_builder.specs.tried.SlicesInvariant.{Plan, Ground, Fanned, edgeTry, EdgesAmid}
 use Rattle.cell_builder.specs.tried.laws.Early.{earlyCell}
 use Rattle.cell_builder.specs.turned.Marks.{markOf, MadeLast, LeftOut}
 use Rattle.cell_builder.specs.turned.Turns.{dueOf, AllHaveEntries, PassedBy, NextDue, SettledBefore}
-use Rattle.cell_builder.specs.turned.Loops.{edgeTries, RestAmid, MarksCover, EarlyBlank}
+use Rattle.cell_builder.specs.turned.Loops.{edgeTries, MarksCover, EarlyBlank}
 use Rattle.cell_builder.specs.turned.laws.Leaving.{left-more, left-onward, try-alike, left-one}
 use Rattle.cell_builder.specs.turned.laws.Onward.{Onward, onward, OthersStay, others-stay}
 use Rattle.cell_builder.specs.turned.laws.OneTurn.{leftmost, in-sites, due-inner, all-entries, turn-skipped, turn-tried}
 use Rattle.cell_builder.specs.turned.laws.Quiet.{MadeHere, quiet}
 use Rattle.cell_builder.specs.turned.laws.TryLoops.{edgesFrom, edge-next, TriedAlike, RestLeft, EdgesAlong, edges-start}
 
-module _ (w : Plan) (g : Ground) (m : List ℕ) (marked : MarksCover w g m) (whole : Outcome Fault CellState) (p : Progress) (v : List Float) (ix : List ℕ) where
+module _ (w : Plan) (g : Ground) (fan : Fanned w g) (m : List ℕ) (marked : MarksCover w g m) (whole : Outcome Fault CellState) (p : Progress) (v : List Float) (ix : List ℕ) where
   abbrev Left : ℕ → Type 0
   Left e = RestLeft w g m whole e p v ix
 
@@ -58,7 +58,7 @@ module _ (w : Plan) (g : Ground) (m : List ℕ) (marked : MarksCover w g m) (who
         let site = endOf (w .triangles) e in
         let blank : getD (t .held .cells) site [] ≡ [] =
         ⊎-elim (λ x. sym x ∙ h .blank) (λ x. absurd (omega (arith, x .0 .1, h .entry))) (t .left .each site (in-sites a (t .settled) l)) in
-        goes-on _ (h .try) (gives-ok (SettledBefore w g m (e + 1)) (turn-tried a (t .settled) l d) (h .try))
+        goes-on _ (h .try) (gives-ok (SettledBefore w g m (e + 1)) (turn-tried a (t .settled) l fan d) (h .try))
         (left-one (t .left) (t .amid .held .width) (in-sites a (t .settled) l) (λ k z x. (x .0, omega (arith, x .1))) (earlyCell (w .halfedges) e)
         (h .early, omega (arith, h .entry)) blank (ap (earlyCell (w .halfedges)) (sym (h .entry))))
 
@@ -70,7 +70,7 @@ module _ (w : Plan) (g : Ground) (m : List ℕ) (marked : MarksCover w g m) (who
         by true d =
             let a = left-onward (t .amid) (t .left) in
             ⊎-elim
-            (λ q. goes-on (t .cells) q (gives-ok (SettledBefore w g m (e + 1)) (turn-tried a (t .settled) l d) q) later)
+            (λ q. goes-on (t .cells) q (gives-ok (SettledBefore w g m (e + 1)) (turn-tried a (t .settled) l fan d) q) later)
             (λ h. made-here d h)
             (quiet a m marked (t .settled) l z)
 
@@ -81,7 +81,7 @@ module _ (w : Plan) (g : Ground) (m : List ℕ) (marked : MarksCover w g m) (who
     pub fits : dueOf (w .triangles) (w .halfedges) (w .table) e ≡ true → (markOf m e ≢ 0) → TriedAlike w g m e (t .cells) (t .held)
     fits d n = record {
       alike = try-alike (t .left) (t .amid .held .width) e inside (⊎-elim (λ x. x) (λ x. absurd (not-early (x .0 .0))) (t .left .each site inside));
-      settled = turn-tried a (t .settled) l d;
+      settled = turn-tried a (t .settled) l fan d;
       blank = picked (Gives (EarlyBlank w g m)) (isEmpty (getD (t .held .cells) site [])) _ _
           (λ _. gives-map (OthersStay site (t .held)) (EarlyBlank w g m)
           (clipInto (w .frame .bounds) (length (w .triangles) / 3) site (ringFrom (w .halfedges) e) (t .held))
@@ -111,17 +111,20 @@ module _ (w : Plan) (g : Ground) (m : List ℕ) (marked : MarksCover w g m) (who
 module _ (w : Plan) (m : List ℕ) (p₀ : Progress) (v₀ : List Float) (ix₀ : List ℕ) where
   module _ (e r : ℕ) (p : Progress) (v : List Float) (ix : List ℕ) (next : NextDue (w .triangles) (w .halfedges) (w .table) m e r) where
     pub edges-pass : EdgesAlong w m p₀ v₀ ix₀ e p v ix → EdgesAlong w m p₀ v₀ ix₀ r p v ix
-    edges-pass along g s am inner filled marked =
-        pass w g m marked (edgeTries w s) p v ix (r - e) e r (omega (arith, next .low)) (next .high) (next .passed) (along g s am inner filled marked)
+    edges-pass along g s am = (
+      along g s am .0,
+      λ fan inner filled marked.
+          pass w g fan m marked (edgeTries w s) p v ix (r - e) e r (omega (arith, next .low)) (next .high) (next .passed) (along g s am .1 fan inner filled marked),
+    )
 
   pub edges-first : (r : ℕ) → NextDue (w .triangles) (w .halfedges) (w .table) m 0 r → EdgesAlong w m p₀ v₀ ix₀ r p₀ v₀ ix₀
   edges-first r next = edges-pass 0 r p₀ v₀ ix₀ next (edges-start w m p₀ v₀ ix₀)
 
-  pub edges-entries : RestAmid w m p₀ v₀ ix₀ → AllHaveEntries (w .triangles) (w .halfedges) (w .table)
-  edges-entries h = all-entries (onward (h .amid))
+pub edges-entries : (w : Plan) (p : Progress) (v : List Float) (ix : List ℕ) → EdgesAmid w p v ix → AllHaveEntries (w .triangles) (w .halfedges) (w .table)
+edges-entries w p v ix h = all-entries (onward (h .amid))
 
 -- what is tried
 pub tried-fits : (w : Plan) (m : List ℕ) (e : ℕ) (p : Progress) (v : List Float) (ix : List ℕ) → e < length (w .triangles)
     → (dueOf (w .triangles) (w .halfedges) (w .table) e ≡ true) × (markOf m e ≢ 0)
-    → (g : Ground) (s : CellState) (o : Outcome Fault CellState) → MarksCover w g m → (a : RestLeft w g m o e p v ix) → TriedAlike w g m e (a .cells) (a .held)
-tried-fits w m e p v ix l d g s o marked a = fits w g m marked o p v ix e l a (d .0) (d .1)
+    → (g : Ground) (s : CellState) (o : Outcome Fault CellState) → Fanned w g → MarksCover w g m → (a : RestLeft w g m o e p v ix) → TriedAlike w g m e (a .cells) (a .held)
+tried-fits w m e p v ix l d g s o fan marked a = fits w g fan m marked o p v ix e l a (d .0) (d .1)

@@ -2,8 +2,8 @@
 -- a try sets the cell of its own site only, and those still to come stay empty.
 use mathlib.Core.Path.{_≡_, refl, sym, ap, _∙_}
 use mathlib.Core.List.{List, []}
-use mathlib.Core.Logic.{_≢_, ⊎-elim}
-use Prim.Native.Nat.{ℕ, zero, suc, _+_, _-_, _/_, _≤_, _<_}
+use mathlib.Core.Logic.{inl, inr, _≢_, ⊎-elim}
+use Prim.Native.Nat.{ℕ, suc, _+_, _-_, _/_, _≤_, _<_}
 use native.Mathlib.Nat.{sub-zero}
 use native.Mathlib.Numerals.{add-one}
 use native.Mathlib.Omega.{arith}
@@ -13,27 +13,26 @@ use Rattle.plane.specs.points.Flat.{points}
 use Rattle.plane.specs.declared.points.Point.{Point}
 use Rattle.base.specs.numbers.Numbers.{EMPTY}
 use Rattle.mesh.specs.Mesh.{nextOf, endOf, pairOf}
-use Rattle.mesh.specs.Accepted.{Topology}
+use Rattle.mesh.specs.Accepted.{TopologyWith}
 use Rattle.mesh.specs.laws.Next.{next-thrice}
-use Rattle.mesh.specs.laws.Facts.{paired, entry-site, end-site, next-in, start-used, tab-length, tab-some, tab-used, walk-each}
+use Rattle.mesh.specs.laws.Facts.{with-fans, paired, entry-site, end-site, next-in, start-used, tab-length, tab-some, tab-used, walk-each}
 use Rattle.mesh.specs.laws.Occurs.{occ-there}
 use Rattle.cell_memory.specs.outputs.laws.Marks.{full-already}
 use Rattle.definition.specs.declared.Fault.{Fault}
 use Rattle.definition.specs.Fault.{Outcome, ok, refused, andThen}
 use Rattle.definition.specs.Cell.{inBox}
 use Rattle.definition.specs.Build.{CellState, clipHull, clipRest, isEmpty}
-use Rattle.definition.specs.laws.Gives.{Gives, gives-map, gives-then}
+use Rattle.definition.specs.laws.Gives.{Gives, gives-map}
 use Rattle.build_laws.specs.laws.Runs.{true-false}
 use Rattle.build_laws.specs.laws.Inside.{in-grown}
 use Rattle.cell_builder.specs.declared.finish.Progress.{Progress}
-use Rattle.cell_builder.specs.tried.SlicesInvariant.{Plan, Ground, Amid, Does, hullTry, edgeTry, HullAmid, EdgesAmid, AtRest, HullTried, EdgeTried}
+use Rattle.cell_builder.specs.tried.SlicesInvariant.{Plan, Ground, Fanned, Amid, Does, hullTry, edgeTry, HullAmid, EdgesAmid, AtRest, HullTried}
 use Rattle.cell_builder.specs.tried.laws.OneTry.{region-room, region-within, corners-in}
 use Rattle.cell_builder.specs.turned.Loops.{
   hullTries,
   edgeTries,
   HullsAmid,
   InnerBlank,
-  RestAmid,
   MarksCover,
   EarlyBlank,
   LeftAmid,
@@ -46,7 +45,8 @@ use Rattle.cell_builder.specs.turned.Loops.{
   AllTried,
 }
 use Rattle.cell_builder.specs.turned.Marks.{Markable, Covers, MadeLast, LeftOut}
-use Rattle.cell_builder.specs.turned.Turns.{HullsMarked, SettledBefore, SettledAfter, HullRegions, HullTold, HullWalks}
+use Rattle.cell_builder.specs.turned.Turns.{HullsMarked, HullsIdle, HullsKnown, SettledBefore, SettledAfter, HullRegions, HullTold, HullWalks, DueTried}
+use Rattle.cell_builder.specs.turned.laws.HullTries.{BlankFrom, OffHull, HullsDone, hulls-done}
 use Rattle.cell_builder.specs.turned.laws.Leaving.{Alike, left-none, left-more, left-onward}
 use Rattle.cell_builder.specs.turned.laws.Quiet.{early-filled}
 use Rattle.cell_builder.specs.tried.laws.Early.{earlyCell}
@@ -79,10 +79,6 @@ module _ (w : Plan) (g : Ground) where
 
 -- ---- the hull
 
--- from hull place i on, cells are empty
-abbrev pub BlankFrom : List ℕ → ℕ → CellState → Type 0
-BlankFrom hull i s = (j : ℕ) → i ≤ j → j < length hull → getD (s .cells) (getD hull j 0) [] ≡ []
-
 abbrev pub hullsFrom : Plan → Ground → ℕ → CellState → Outcome Fault CellState
 hullsFrom w g i s = clipHull (w .frame .bounds) (length (w .triangles) / 3) (w .halfedges) (w .hull) (w .table) (g .x .at) i (length (w .hull) - i) s
 
@@ -99,7 +95,7 @@ module _ (w : Plan) (g : Ground) where
       let z : length (w .hull) - i ≡ 0 = omega arith in
       rw z
 
-  blank-next : {n : ℕ} (i : ℕ) (s : CellState) → Topology (w .triangles) (w .halfedges) (w .hull) n → i < length (w .hull) → BlankFrom (w .hull) i s
+  blank-next : {Fans : Type 0} {n : ℕ} (i : ℕ) (s : CellState) → TopologyWith Fans (w .triangles) (w .halfedges) (w .hull) n → i < length (w .hull) → BlankFrom (w .hull) i s
       → Gives (BlankFrom (w .hull) (i + 1)) (hullTry w g i s)
   blank-next i s top l blank =
       gives-map _ (BlankFrom (w .hull) (i + 1)) (hullTry w g i s) (others-stay (w .frame .bounds) (length (w .triangles) / 3) (getD (w .hull) i 0) _ s)
@@ -176,6 +172,14 @@ pub record RestLeft (w : Plan) (g : Ground) (m : List ℕ) (whole : Outcome Faul
   pub blank : EarlyBlank w g m held
   pub makes : edgesFrom w e cells ≡ whole
 
+-- early sites are not on the hull, so what is known of hull sites is known of those held
+held-idle : {w : Plan} {g : Ground} {m : List ℕ} {o : Outcome Fault CellState} {e : ℕ} {p : Progress} {v : List Float} {ix : List ℕ}
+    → (a : RestLeft w g m o e p v ix) → HullsIdle w g (a .held)
+held-idle {w = w} a h l u =
+    let top = a .amid .on .mesh in
+    let same = ⊎-elim (λ q. q) (λ q. absurd (q .0 .0 .inner u)) (a .left .each (endOf (w .triangles) h) (end-site top h (rw (top .same) l))) in
+    ⊎-elim (λ x. inl (rw (← same) x)) (λ x. inr x) (a .settled .hulls .idle h l u)
+
 -- a try that does the same with the cells c and t, and what it settles
 pub record TriedAlike (w : Plan) (g : Ground) (m : List ℕ) (e : ℕ) (c t : CellState) : Type 0 where
   pub alike : Alike (LeftOut w g (λ (k : ℕ). MadeLast (w .halfedges) (w .table) m k × (getD (w .table) k 0 < e))) (edgeTry w e c) (edgeTry w e t)
@@ -203,44 +207,58 @@ module _ (w : Plan) (g : Ground) (m : List ℕ) (e : ℕ) (r : Progress) (v : Li
   halted (refused x) (refused y) k q d z = rw (← q, k) d
 
 module _ (w : Plan) (m : List ℕ) (p₀ : Progress) (v₀ : List Float) (ix₀ : List ℕ) where
+  -- some cells, and where rule 10 holds those of the definition
   abbrev pub EdgesAlong : ℕ → Progress → List Float → List ℕ → Type 0
-  EdgesAlong e p v ix = AtRest w p₀ v₀ ix₀ (λ g s. InnerBlank w g s → HullsMarked w m s → MarksCover w g m → RestLeft w g m (edgeTries w s) e p v ix)
+  EdgesAlong e p v ix =
+      AtRest w p₀ v₀ ix₀ (λ g s. ((t : CellState) × Amid w g t p v ix) × (Fanned w g → InnerBlank w g s → HullsKnown w g m s → MarksCover w g m → RestLeft w g m (edgeTries w s) e p v ix))
 
   pub edges-start : EdgesAlong 0 p₀ v₀ ix₀
-  edges-start g s a inner filled marked = record {
-    cells = s;
-    held = s;
-    amid = a;
-    settled = record { inner = λ k l n z. absurd (omega arith); hulls = filled };
-    left = left-none s;
-    blank = λ k l x. inner k l (x .inner);
-    makes = rw sub-zero;
-  }
+  edges-start g s a = (
+    (s, a),
+    λ fan inner filled marked. record {
+      cells = s;
+      held = s;
+      amid = a;
+      settled = record { inner = λ k l n z. absurd (omega arith); hulls = filled };
+      left = left-none s;
+      blank = λ k l x. inner k l (x .inner);
+      makes = rw sub-zero;
+    },
+  )
 
   module _ (e : ℕ) (p : Progress) (v : List Float) (ix : List ℕ) (along : EdgesAlong e p v ix) where
-    pub edges-amid : RestAmid w m p₀ v₀ ix₀ → EdgesAmid w p v ix
-    edges-amid h = let a = along (h .g) (h .s) (h .amid) (h .inner) (h .filled) (h .marked) in record { g = h .g; s = a .held; amid = a .amid }
+    pub edges-amid : EdgesAmid w p₀ v₀ ix₀ → EdgesAmid w p v ix
+    edges-amid h = let a = along (h .g) (h .s) (h .amid) .0 in record { g = h .g; s = a .0; amid = a .1 }
 
     pub edges-end : e ≡ length (w .triangles) → RestTried w m p₀ v₀ ix₀ p v ix
-    edges-end l g s am inner filled marked =
-        let a = along g s am inner filled marked in
-        let q : edgeTries w s ≡ ok (a .cells) = sym (a .makes) ∙ edge-last w e (a .cells) (omega arith) in
-        rw q (a .held, record { settled = rw l at (a .settled); left = left-more (λ k lk x. x .0) (a .left); blank = a .blank; amid = a .amid })
+    edges-end l g s am = (
+      λ _. along g s am .0,
+      λ fan inner filled marked.
+          let a = along g s am .1 fan inner filled marked in
+          let q : edgeTries w s ≡ ok (a .cells) = sym (a .makes) ∙ edge-last w e (a .cells) (omega arith) in
+          rw q (a .held, record { settled = rw l at (a .settled); left = left-more (λ k lk x. x .0) (a .left); blank = a .blank; amid = a .amid }),
+    )
 
-    module _ (l : e < length (w .triangles)) (r : Progress) (v₁ : List Float) (ix₁ : List ℕ) (try : EdgeTried w p v ix e r v₁ ix₁)
-        (fits : (g : Ground) (s : CellState) (o : Outcome Fault CellState) → MarksCover w g m → (a : RestLeft w g m o e p v ix) → TriedAlike w g m e (a .cells) (a .held)) where
+    module _ (l : e < length (w .triangles)) (r : Progress) (v₁ : List Float) (ix₁ : List ℕ) (try : DueTried w p v ix e r v₁ ix₁)
+        (fits : (g : Ground) (s : CellState) (o : Outcome Fault CellState) → Fanned w g → MarksCover w g m → (a : RestLeft w g m o e p v ix) → TriedAlike w g m e (a .cells) (a .held)) where
       -- what the try settles is said by OneTurn, that it is the same with early cells left out by Leaving
       pub edges-step : r .fault .number ≡ 0 → EdgesAlong (e + 1) r v₁ ix₁
-      edges-step z g s am inner filled marked =
-          let a = along g s am inner filled marked in
-          let f = fits g s _ marked a in
-          stepped w g m e r v₁ ix₁ (edgeTries w s) _ _ (f .alike) (f .settled) (f .blank) (edge-next w e (a .cells) l ∙ a .makes) (try g (a .held) (a .amid)) z
+      edges-step z g s am = (
+        let a = along g s am .0 in try g (a .0) (a .1) .0 z,
+        λ fan inner filled marked.
+            let a = along g s am .1 fan inner filled marked in
+            let f = fits g s _ fan marked a in
+            stepped w g m e r v₁ ix₁ (edgeTries w s) _ _ (f .alike) (f .settled) (f .blank) (edge-next w e (a .cells) l ∙ a .makes) (try g (a .held) (a .amid) .1 (held-idle a)) z,
+      )
 
       pub edges-refused : r .fault .number ≢ 0 → RestTried w m p₀ v₀ ix₀ r v₁ ix₁
-      edges-refused z g s am inner filled marked =
-          let a = along g s am inner filled marked in
-          let f = fits g s _ marked a in
-          halted w g m e r v₁ ix₁ (edgeTries w s) _ _ (f .alike) (edge-next w e (a .cells) l ∙ a .makes) (try g (a .held) (a .amid)) z
+      edges-refused z g s am = (
+        λ q. absurd (z q),
+        λ fan inner filled marked.
+            let a = along g s am .1 fan inner filled marked in
+            let f = fits g s _ fan marked a in
+            halted w g m e r v₁ ix₁ (edgeTries w s) _ _ (f .alike) (edge-next w e (a .cells) l ∙ a .makes) (try g (a .held) (a .amid) .1 (held-idle a)) z,
+      )
 
 -- ---- whether all hull sites have their cells
 
@@ -281,14 +299,21 @@ module _ {w : Plan} {g : Ground} {s : CellState} {p : Progress} {v : List Float}
     few = omega (arith, a .on .few-entries, a .on .mesh .same);
   }
 
-  -- a hull site without a cell has all of its half-edges marked
-  pub hulls-marked : (m : List ℕ) → ((i : ℕ) → i < length (w .hull) → HullTold (w .halfedges) (w .hull) (w .table) ix (w .offsets) m i) → HullsMarked w m s
-  hulls-marked m told h l u z =
+  -- where the table entry of a half-edge's site is unpaired, the site stands at a hull place
+  hull-place : (h : ℕ) → h < length (w .triangles) → pairOf (w .halfedges) (getD (w .table) (endOf (w .triangles) h) 0) ≡ EMPTY
+      → (i : ℕ) × (i < length (w .hull)) × (getD (w .hull) i 0 ≡ endOf (w .triangles) h)
+  hull-place h l u =
       let top = a .on .mesh in
+      let there = tab-some top (endOf (w .triangles) h) (end-site top h (in-mesh h l)) h (in-mesh h l) refl in
+      on-hull (onward a) (endOf (w .triangles) h) (rw (a .on .table-is) (there .0)) (rw (a .on .table-is) (there .1)) u
+
+  -- a hull site without a cell has all of its half-edges marked
+  pub hulls-marked : Fanned w g → (m : List ℕ) → ((i : ℕ) → i < length (w .hull) → HullTold (w .halfedges) (w .hull) (w .table) ix (w .offsets) m i) → HullsMarked w m s
+  hulls-marked fan m told h l u z =
+      let top = with-fans (a .on .mesh) fan in
       let site = endOf (w .triangles) h in
       let lh = in-mesh h l in
-      let there = tab-some top site (end-site top h lh) h lh refl in
-      let o = on-hull (onward a) site (rw (a .on .table-is) (there .0)) (rw (a .on .table-is) (there .1)) u in
+      let o = hull-place h l u in
       ⊎-elim
       (λ x. rw (← o .2) (full-already ix (w .offsets) (s .cells) (a .regions) (getD (w .hull) (o .0) 0) (rw (a .held .width) (hull-in (o .0) (o .1))) (hull-some (o .0) (o .1)) x))
       (λ x. absurd (x h (rw (o .2, a .on .table-is) (omega (arith, walk-each top site (end-site top h lh) h lh refl))) z))
@@ -322,27 +347,9 @@ module _ {w : Plan} {g : Ground} {m : List ℕ} {c t : CellState} {p : Progress}
 
 -- ---- the hull, then the rest
 
--- the tries at hull places leave the cells of other sites as they are
-module _ (w : Plan) (g : Ground) where
-  abbrev OffHull : ℕ → Type 0
-  OffHull k = (i : ℕ) → i < length (w .hull) → k ≢ getD (w .hull) i 0
-
-  abbrev InnerStay : CellState → CellState → Type 0
-  InnerStay s r = (k : ℕ) → OffHull k → getD (r .cells) k [] ≡ getD (s .cells) k []
-
-  hulls-stay : (n i : ℕ) (s : CellState) → i + n ≤ length (w .hull)
-      → Gives (InnerStay s) (clipHull (w .frame .bounds) (length (w .triangles) / 3) (w .halfedges) (w .hull) (w .table) (g .x .at) i n s)
-  unfolding clipHull
-  hulls-stay zero i s l = λ k o. refl
-  hulls-stay (suc n) i s l =
-      gives-then _ (InnerStay s) (hullTry w g i s) _ (others-stay (w .frame .bounds) (length (w .triangles) / 3) (getD (w .hull) i 0) _ s)
-      (λ t stay. gives-map (InnerStay t) (InnerStay s)
-      (clipHull (w .frame .bounds) (length (w .triangles) / 3) (w .halfedges) (w .hull) (w .table) (g .x .at) (suc i) n t)
-      (hulls-stay n (suc i) t (omega arith)) (λ r h k o. h k o ∙ stay k (o i (omega arith))))
-
 -- where a table entry is paired no unpaired half-edge starts, so the site is not on the hull
-inner-off : {w : Plan} {g : Ground} {s : CellState} → Onward w g s → (k : ℕ) → k < g .sites → pairOf (w .halfedges) (getD (w .table) k 0) ≢ EMPTY → OffHull w g k
-inner-off {w} {g} a k l n i li q =
+inner-off : {w : Plan} {g : Ground} {s : CellState} → Onward w g s → (k : ℕ) → k < g .sites → pairOf (w .halfedges) (getD (w .table) k 0) ≢ EMPTY → OffHull w k 0
+inner-off {w} {g} a k l n i lo li q =
     let top = a .on .mesh in
     let e = top .border .edges i li in
     let before = nextOf (nextOf (e .0)) in
@@ -356,18 +363,26 @@ module _ (w : Plan) (p₀ : Progress) (v₀ : List Float) (ix₀ : List ℕ) whe
   module _ (r : Progress) (v : List Float) (ix : List ℕ) (hulls : HullsTried w p₀ v₀ ix₀ r v ix) where
     pub cells-refused : r .fault .number ≢ 0 → (m : List ℕ) → AllTried w p₀ v₀ ix₀ m r v ix
     unfolding andThen
-    cells-refused z m g s blank am = by (hullTries w g s) (hulls g s blank am)
+    cells-refused z m g s blank am = (λ q. absurd (z q), λ fan. by (hullTries w g s) (hulls g s blank am))
       where
         by : (o : Outcome Fault CellState) → Does w g o r v ix → DoesLate w g m (andThen o (λ t. edgeTries w t)) r v ix
         by (ok t) d = absurd (z (ap (λ (e : Fault). e .number) (d .fine)))
         by (refused e) d = d
 
     module _ (z : r .fault .number ≡ 0) where
-      between : AtFirst w p₀ v₀ ix₀ (λ g s. TriesLeft w g (edgeTries w) (InnerBlank w g) (allTries g s) r v ix)
+      abbrev BetweenFit : Ground → CellState → Type 0
+      BetweenFit g t = InnerBlank w g t × (Fanned w g → HullsIdle w g t)
+
+      between : AtFirst w p₀ v₀ ix₀ (λ g s. TriesLeft w g (edgeTries w) (BetweenFit g) (allTries g s) r v ix)
       between g s blank am =
           let o = hullTries w g s in
-          passed w g _ _ r v ix (InnerBlank w g) o
-          (gives-map (InnerStay w g s) (InnerBlank w g) o (hulls-stay w g (length (w .hull)) 0 s (omega arith)) (λ t h k l n. h k (inner-off (onward am) k l n) ∙ blank k l))
+          passed w g _ _ r v ix (BetweenFit g) o
+          (gives-map (HullsDone w g 0 s) (BetweenFit g) o
+          (hulls-done w g (am .on) (length (w .hull)) 0 s (omega arith) (am .held) (λ j lo hi. blank (getD (w .hull) j 0) (am .on .mesh .border .fresh j hi .0)))
+          (λ t h. (
+            λ k l n. h .stay k (inner-off (onward am) k l n) ∙ blank k l,
+            λ fan k l u. let y = hull-place am k l u in rw (← y .2) (h .idle fan (y .0) (omega arith) (y .1) (rw (y .2) u)),
+          )))
           refl (hulls g s blank am) z
 
       pub cells-markable : HullsAmid w p₀ v₀ ix₀ → Markable (w .triangles) (w .table) (r .count) (length v)
@@ -376,32 +391,33 @@ module _ (w : Plan) (p₀ : Progress) (v₀ : List Float) (ix₀ : List ℕ) whe
       pub cells-walks : HullsAmid w p₀ v₀ ix₀ → HullWalks (w .triangles) (w .halfedges) (w .hull) (w .table) ix (w .offsets)
       cells-walks h = hull-walks (between (h .g) (h .s) (h .blank) (h .amid) .amid)
 
-      module _ (m : List ℕ) (told : (i : ℕ) → i < length (w .hull) → HullTold (w .halfedges) (w .hull) (w .table) ix (w .offsets) m i) where
-        module _ (covers : Covers (w .frame .bounds) (points (r .count) v) (w .triangles) (w .table) m (length (w .triangles))) where
-          -- what is outside among the vertices now was so before
-          marked : (g : Ground) (s : CellState) → Amid w g s r v ix → MarksCover w g m
-          marked g s a k l z =
-              covers k l (ap (λ (vs : List Point). inBox (w .frame .bounds) (length (w .triangles) / 3) vs (k / 3)) (sym (a .verts))
-              ∙ in-grown (w .frame .bounds) (length (w .triangles) / 3) (g .x .verts) (s .verts) (a .held .more) (k / 3) (omega (arith, a .on .low)) (a .held .grown) ∙ z)
+      pub cells-amid : HullsAmid w p₀ v₀ ix₀ → EdgesAmid w r v ix
+      cells-amid h = let a = between (h .g) (h .s) (h .blank) (h .amid) in record { g = h .g; s = a .cells; amid = a .amid }
 
-          pub cells-amid : HullsAmid w p₀ v₀ ix₀ → RestAmid w m r v ix
-          cells-amid h =
-              let a = between (h .g) (h .s) (h .blank) (h .amid) in
-              record { g = h .g; s = a .cells; amid = a .amid; inner = a .fit; filled = hulls-marked (a .amid) m told; marked = marked (h .g) (a .cells) (a .amid) }
+      module _ (m : List ℕ) (told : (i : ℕ) → i < length (w .hull) → HullTold (w .halfedges) (w .hull) (w .table) ix (w .offsets) m i)
+          (covers : Covers (w .frame .bounds) (points (r .count) v) (w .triangles) (w .table) m (length (w .triangles))) where
+        -- what is outside among the vertices now was so before
+        marked : (g : Ground) (s : CellState) → Amid w g s r v ix → MarksCover w g m
+        marked g s a k l z =
+            covers k l (ap (λ (vs : List Point). inBox (w .frame .bounds) (length (w .triangles) / 3) vs (k / 3)) (sym (a .verts))
+            ∙ in-grown (w .frame .bounds) (length (w .triangles) / 3) (g .x .verts) (s .verts) (a .held .more) (k / 3) (omega (arith, a .on .low)) (a .held .grown) ∙ z)
 
-          module _ (r₁ : Progress) (v₁ : List Float) (ix₁ : List ℕ) (edges : RestTried w m r v ix r₁ v₁ ix₁) where
-            rest : AtFirst w p₀ v₀ ix₀ (λ g s. DoesLeft w g m (allTries g s) r₁ v₁ ix₁ × MarksCover w g m)
-            rest g s blank am =
-                let a = between g s blank am in
-                let k = marked g (a .cells) (a .amid) in
-                rw (← a .makes) (edges g (a .cells) (a .amid) (a .fit) (hulls-marked (a .amid) m told) k, k)
+        module _ (r₁ : Progress) (v₁ : List Float) (ix₁ : List ℕ) (edges : RestTried w m r v ix r₁ v₁ ix₁) where
+          rest : AtFirst w p₀ v₀ ix₀ (λ g s. Fanned w g → DoesLeft w g m (allTries g s) r₁ v₁ ix₁ × MarksCover w g m)
+          rest g s blank am fan =
+              let a = between g s blank am in
+              let k = marked g (a .cells) (a .amid) in
+              rw (← a .makes) (edges g (a .cells) (a .amid) .1 fan (a .fit .0) (record { marked = hulls-marked (a .amid) fan m told; idle = a .fit .1 fan }) k, k)
 
-            pub cells-end : AllTried w p₀ v₀ ix₀ m r₁ v₁ ix₁
-            cells-end g s blank am = by (allTries g s) (all .0)
-              where
-                all : DoesLeft w g m (allTries g s) r₁ v₁ ix₁ × MarksCover w g m
-                all = rest g s blank am
+          pub cells-end : AllTried w p₀ v₀ ix₀ m r₁ v₁ ix₁
+          cells-end g s blank am = (let a = between g s blank am in edges g (a .cells) (a .amid) .0, late)
+            where
+              late : Fanned w g → DoesLate w g m (allTries g s) r₁ v₁ ix₁
+              late fan = by (allTries g s) (all .0)
+                where
+                  all : DoesLeft w g m (allTries g s) r₁ v₁ ix₁ × MarksCover w g m
+                  all = rest g s blank am fan
 
-                by : (o : Outcome Fault CellState) → DoesLeft w g m o r₁ v₁ ix₁ → DoesLate w g m o r₁ v₁ ix₁
-                by (ok c) d = late-amid (all .1) (d .1)
-                by (refused e) d = d
+                  by : (o : Outcome Fault CellState) → DoesLeft w g m o r₁ v₁ ix₁ → DoesLate w g m o r₁ v₁ ix₁
+                  by (ok c) d = late-amid (all .1) (d .1)
+                  by (refused e) d = d

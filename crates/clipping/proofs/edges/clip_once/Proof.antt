@@ -7,10 +7,10 @@ use Rattle.clipping.proofs.edges.clip_once.Tie as tie
 
 returns : tie.Need-returns
 returns c =
-    let at-add-new-vertex = c .before .before .before .before .before .before in
-    let at-start = at-add-new-vertex .before .before .before .before .before in
+    let at-add-at = c .before .before .before .before .before .before in
+    let at-start = at-add-at .before .before .before .before .before in
     let a = at-start .args in
-    let g = at-add-new-vertex .add-new-vertex .ensures in
+    let g = at-add-at .add-at .ensures in
     clips-once (a .env .centers) (a .env .limit) (a .count) (a .x) (a .y) (now (a .vertices)) (now (a .indexes)) _ _ _ (g .0) (g .1) (at-start .pre .1 .0) _ (c .if-old .ensures)
 
 pub clip-once-spec : {M : Type 1} → statement M

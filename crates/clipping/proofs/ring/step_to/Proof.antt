@@ -13,16 +13,15 @@ use Rattle.clipping.proofs.ring.step_to.Tie as tie
 
 clip-step-requires : tie.Need-clip-step-requires
 clip-step-requires c κs =
-    let s = c .before .before .before .before .before .before .before in
-    let i = c .before .before .in-box in
-    (s .pre .0, (s .pre .1 .0, (s .pre .1 .1 .0, λ e f. s .pre .1 .1 .1 e (rw (← i .ensures) f))))
+    let s = c .before .before .before .before in
+    (s .pre .0, (s .pre .1 .0, (s .args .q, s .pre .1 .1 .2)))
 
 returns : tie.Need-returns
 returns c =
     let at-clip-step = c .before .before .before .before .before .before .before in
-    let at-in-box = at-clip-step .before .before .before in
-    let a = at-in-box .before .before .before .before .before .args in (
-      step-refused (a .env) (a .tip) (a .q) _ (now (a .vertices)) (now (a .indexes)) _ _ _ (at-in-box .in-box .ensures) (at-clip-step .clip-step .ensures) (c .if1 .taken) _ refl,
+    let s = at-clip-step .before .before .before .before .before in
+    let a = s .args in (
+      step-refused (a .env) (a .tip) (a .q) _ (now (a .vertices)) (now (a .indexes)) _ _ _ (s .pre .1 .1 .1) (at-clip-step .clip-step .ensures (a .q) (s .pre .1 .1 .2)) (c .if1 .taken) _ refl,
       λ e. absurd (c .if1 .taken e),
     )
 
@@ -30,46 +29,46 @@ returns-2 : tie.Need-returns-2
 returns-2 c =
     let at-else1 = c .before in
     let at-clip-step = at-else1 .before .before .before .before .before .before .before in
-    let at-in-box = at-clip-step .before .before .before in
-    let s = at-in-box .before .before .before .before .before in
+    let s = at-clip-step .before .before .before .before .before in
     let a = s .args in
     let t = a .tip in
-    let stood = s .pre .1 .0 in
+    let stood = s .pre .1 .0 .0 in
     let g = at-clip-step .clip-step in
+    let changed = g .ensures (a .q) (s .pre .1 .1 .2) in
     let l = changes-low (a .env) (t .count) (t .cell) (now (a .vertices)) (now (a .indexes)) (g .result) _ _
-    (clipStep (a .env .bounds) (a .env .centers) (a .env .site) (t .vertex) (t .inside) (a .q) (at-in-box .in-box .result)
+    (clipStep (a .env .bounds) (a .env .centers) (a .env .site) (t .vertex) (t .inside) (a .q) (a .q-in)
     (points (t .count) (now (a .vertices))) (t .cell .owners) (t .opened) (t .cell .last))
-    (g .ensures) (at-else1 .if1 .left) in (
-      step-done (a .env) (a .tip) (a .q) _ (now (a .vertices)) (now (a .indexes)) _ _ _ (at-in-box .in-box .ensures) (g .ensures) (at-else1 .if1 .left),
+    changed (at-else1 .if1 .left) in (
+      step-done (a .env) (a .tip) (a .q) _ (now (a .vertices)) (now (a .indexes)) _ _ _ (s .pre .1 .1 .1) changed (at-else1 .if1 .left),
       λ e. (
         record {
-          vertex = omega arith;
+          vertex = omega (arith, s .pre .1 .1 .0, l .0);
           shut = λ i. changes-shut (a .env) (t .count) (t .cell) (now (a .vertices)) (now (a .indexes)) (g .result) _ _
-              (clipStep (a .env .bounds) (a .env .centers) (a .env .site) (t .vertex) (t .inside) (a .q) (at-in-box .in-box .result)
+              (clipStep (a .env .bounds) (a .env .centers) (a .env .site) (t .vertex) (t .inside) (a .q) (a .q-in)
               (points (t .count) (now (a .vertices))) (t .cell .owners) (t .opened) (t .cell .last))
-              (step-shuts (a .env .bounds) (a .env .centers) (a .env .site) (t .vertex) (t .inside) (a .q) (at-in-box .in-box .result)
+              (step-shuts (a .env .bounds) (a .env .centers) (a .env .site) (t .vertex) (t .inside) (a .q) (a .q-in)
               (points (t .count) (now (a .vertices))) (t .cell .owners) (t .opened) (t .cell .last) i (stood .shut))
-              (g .ensures) (at-else1 .if1 .left);
+              changed (at-else1 .if1 .left);
           low = l .1;
           ends = changes-ends (a .env) (t .count) (t .cell) (now (a .vertices)) (now (a .indexes)) (g .result) _ _
-              (clipStep (a .env .bounds) (a .env .centers) (a .env .site) (t .vertex) (t .inside) (a .q) (at-in-box .in-box .result)
+              (clipStep (a .env .bounds) (a .env .centers) (a .env .site) (t .vertex) (t .inside) (a .q) (a .q-in)
               (points (t .count) (now (a .vertices))) (t .cell .owners) (t .opened) (t .cell .last))
               (step-ends (a .env .bounds) (a .env .centers) (a .env .site) (points (t .count) (now (a .vertices)))
               (omega (arith, s .pre .0 .corners, length-points (now (a .vertices)) 0 (t .count)))
-              (s .pre .0 .sides) (t .cell .owners) (t .cell .last) (t .vertex) (t .inside) (a .q) (at-in-box .in-box .result) (t .opened) (stood .ends) (stood .shut))
-              (g .ensures) (at-else1 .if1 .left);
+              (s .pre .0 .sides) (t .cell .owners) (t .cell .last) (t .vertex) (t .inside) (a .q) (a .q-in) (t .opened) (stood .ends) (stood .shut))
+              changed (at-else1 .if1 .left);
         },
         λ i o. changes-out (a .env) (t .count) (t .cell) (now (a .vertices)) (now (a .indexes)) (g .result) _ _ (t .inside) (t .opened)
-            (clipStep (a .env .bounds) (a .env .centers) (a .env .site) (t .vertex) (t .inside) (a .q) (at-in-box .in-box .result)
+            (clipStep (a .env .bounds) (a .env .centers) (a .env .site) (t .vertex) (t .inside) (a .q) (a .q-in)
             (points (t .count) (now (a .vertices))) (t .cell .owners) (t .opened) (t .cell .last))
             (clip-out (a .env .bounds) (a .env .centers) (a .env .site) (points (t .count) (now (a .vertices))) (t .cell .owners) (t .opened)
-            (t .cell .last) (t .vertex) (t .inside) (a .q) (at-in-box .in-box .result) i)
-            (g .ensures) (at-else1 .if1 .left) o,
+            (t .cell .last) (t .vertex) (t .inside) (a .q) (a .q-in) i)
+            changed (at-else1 .if1 .left) o,
       ),
     )
 
 pub step-to-spec : {M : Type 1} → statement M
 step-to-spec =
     tie.close
-    (tie.spec (λ c κs. search needs) clip-step-requires (λ c. search needs) (λ c. search needs) returns
+    (tie.spec clip-step-requires (λ c. search needs) (λ c. search needs) returns
     (λ c. search needs) (λ c. search needs) returns-2)

@@ -1,7 +1,7 @@
--- The crossings of an edge added as vertices: one, or two one after the other.
-use Prim.Native.Nat.{ℕ, _+_, _*_, _≤_}
+-- The crossings of an edge: which were asked for, and how they are added as vertices, one, or two one after the other.
+use Prim.Native.Nat.{ℕ, _+_, _*_, _≤_, _<_}
 use mathlib.Core.Path.{_≡_, refl, sym, ap, _∙_}
-use mathlib.Core.Bool.{Bool, true, false}
+use mathlib.Core.Bool.{Bool, true, false, cond, _&&_, false≢true}
 use mathlib.Core.List.{List}
 use native.Mathlib.Omega.{arith}
 use lib.Ieee.{Float}
@@ -21,7 +21,7 @@ use Rattle.vertices.specs.laws.Store.{poured-points, poured-then, added-kept}
 use Rattle.definition.specs.Cell.{firstIs, onEdge, missed, clipWith, clipEdge, edgeCrossing, vertexAt}
 use Rattle.definition.specs.Short.{tookOne, tookTwo}
 use Rattle.definition.specs.Reused.{ifOld, reused, CountsReused}
-use Rattle.clipping.specs.edges.EdgeClip.{ClipsEdge, VerticesGrown}
+use Rattle.clipping.specs.edges.EdgeClip.{CrossingsAsked, ClipsEdge, VerticesGrown}
 use Rattle.clipping.specs.declared.edges.Crossed.the-variants.{Once, Twice}
 
 -- ---- which crossings are on the edge
@@ -32,6 +32,13 @@ module _ (p q d : Point) (x y u v : Float) (o : Crossing) (t : Bool) (e : o ≡ 
 
   pub comes-after : t ≡ false → None ≡ onEdge p q d (Two x y u v)
   comes-after g = rw (← e, ← f, g)
+
+-- what crosses does not miss
+pub not-one : {x y : Float} → One x y ≡ None → ⊥
+not-one q = let z : _≡_ {A = ℕ} 0 1 = cc in omega arith
+
+pub not-two : {x y u v : Float} → Two x y u v ≡ None → ⊥
+not-two q = let z : _≡_ {A = ℕ} 0 1 = cc in omega arith
 
 -- ---- the crossings added
 
@@ -133,11 +140,28 @@ module _ (nc limit count : ℕ) (x y : Float) (v : List Float) (ix : List ℕ) (
               (ek ∙ ap (λ (t : Bool). ifOld t 1) (b .fresh ∙ ap (λ (vs : List Point). addVertex nc vs (at z w) .fresh) e)),
         )
 
--- the crossing that was asked for, as the match has it
-module _ (b : BoundingBox) (nc : ℕ) (vs : List Point) (p q : ℕ) (asked c : Crossing) where
-  pub clip-is : asked ≡ edgeCrossing b (vertexAt vs p) (vertexAt vs q) → asked ≡ c → clipEdge b nc vs p q ≡ clipWith nc vs c
+-- ---- the crossings that were asked for
+
+module _ (b : BoundingBox) (vs : List Point) (p : ℕ) (pIn : Bool) (q : ℕ) (qIn : Bool) (c : Crossing) where
+  pub asked-inside : qIn && pIn ≡ true → CrossingsAsked b vs p pIn q qIn c
+  asked-inside h = record { enters = λ i j. absurd (false≢true (rw (i, j) at h)); others = λ j. absurd (false≢true (rw j at h)) }
+
+  pub asked-found :
+      (from to : ℕ)
+      → from ≡ cond qIn q p
+      → to ≡ cond qIn p q
+      → c ≡ edgeCrossing b (vertexAt vs from) (vertexAt vs to)
+      → CrossingsAsked b vs p pIn q qIn c
+  asked-found from to f t e = record { enters = λ i j. rw (f, t, j) at e; others = λ j. rw (f, t, j) at e }
+
+pub either-below : (b : Bool) (x y n r : ℕ) → r ≡ cond b x y → x < n → y < n → r < n
+either-below true x y n r e h k = rw e h
+either-below false x y n r e h k = rw e k
+
+module _ (b : BoundingBox) (nc : ℕ) (vs : List Point) (p q : ℕ) (c : Crossing) where
+  pub clip-is : c ≡ edgeCrossing b (vertexAt vs p) (vertexAt vs q) → clipEdge b nc vs p q ≡ clipWith nc vs c
   unfolding clipEdge
-  clip-is e f = rw (← e, f)
+  clip-is e = rw (← e)
 
 pub with-none : (nc : ℕ) (vs : List Point) → clipWith nc vs None ≡ missed
 unfolding clipWith

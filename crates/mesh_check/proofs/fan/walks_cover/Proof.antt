@@ -1,6 +1,6 @@
 -- The sum so far is `totalTo` at s; once it passes the number of half-edges it can no longer be that number.
-use Rattle.mesh_check.specs.fan.laws.Total.{total-turn, total-over}
-use Rattle.mesh_check.specs.fan.Counts.{totalTo}
+use Rattle.mesh.specs.Mesh.{totalTo}
+use Rattle.mesh.specs.laws.Total.{total-turn, total-over}
 use lib.ListN.{length}
 use Prim.Native.Nat.{_≤_, _-_}
 use native.Mathlib.Omega.{arith}

@@ -3,7 +3,6 @@ use mathlib.Core.Path.{_≡_, refl, sym, ap, _∙_}
 use mathlib.Core.List.{List}
 use mathlib.Core.Logic.{⊎-elim, _≢_}
 use Prim.Native.Nat.{ℕ, suc, _+_, _-_, _*_, _/_, _%_, _≤_, _<_}
-use native.Mathlib.Nat.{le-antisymm}
 use native.Mathlib.Numerals.{add-one}
 use native.Mathlib.Omega.{arith}
 use lib.ListN.{length, getD, set, replicate, length-set, length-replicate, getD-replicate}
@@ -15,7 +14,7 @@ use Rattle.base.specs.common.laws.Count.{same-cases}
 use Rattle.base.specs.numbers.Numbers.{EMPTY}
 use Rattle.mesh.specs.Mesh.{nextOf, endOf, pairOf, tableTo, turnOf, wholeOf, Leftmost, Paired}
 use Rattle.mesh.specs.laws.Next.{next-lt}
-use Rattle.mesh.specs.laws.Table.{table-length, table-leftmost}
+use Rattle.mesh.specs.laws.Table.{table-length, table-leftmost, leftmost-one}
 use Rattle.mesh.specs.laws.WalkSteps.{WalkCounting, walk-go, counting-start, counting-step}
 use Rattle.mesh_check.specs.fan.Counts.{endsTo}
 use Rattle.mesh_check.specs.fan.laws.Owed.{never-one}
@@ -200,21 +199,6 @@ none-lacking tri he long ok apart s t o h =
 
 -- ---- the table
 
--- the leftmost half-edge is one
-one : (tri he : List ℕ) (n s r q : ℕ) → n < EMPTY → Leftmost tri he n s r → Leftmost tri he n s q → r ≡ q
-one tri he n s r q small a b =
-    ⊎-elim
-    (λ z. ⊎-elim (λ y. z ∙ sym y) (λ y. absurd (a .none z q (b .some y .0) (b .some y .1))) (eq-or-ne q EMPTY))
-    (λ z. ⊎-elim (λ y. absurd (b .none y r (a .some z .0) (a .some z .1))) (λ y. both (a .some z) (b .some y)) (eq-or-ne q EMPTY))
-    (eq-or-ne r EMPTY)
-  where
-    both : (r < n) × (endOf tri r ≡ s) → (q < n) × (endOf tri q ≡ s) → r ≡ q
-    both (lr, er) (lq, eq) =
-        ⊎-elim
-        (λ u. let x = b .last r lr er u in le-antisymm (x .0) (a .last q lq eq (x .1) .0))
-        (λ u. le-antisymm (a .lowest u q lq eq) (b .lowest (λ w. u (a .last q lq eq w .1)) r lr er))
-        (eq-or-ne (pairOf he r) EMPTY)
-
 module _ (tri he : List ℕ) (few : length tri < 524288) (s m : ℕ) (o : Lefts tri he (length tri) s m) where
   lefts-leftmost : Leftmost tri he (length tri) s (unpacked m)
   unfolding unpacked
@@ -244,7 +228,7 @@ module _ (tri he : List ℕ) (w : ℕ) (old new : List ℕ) (threes : length tri
     table =
         ext-getD 0 new (tableTo tri he w (length tri)) (r .long ∙ q ∙ sym (table-length tri he w (length tri))) (λ s l.
         let l′ : s < length old = rw (r .long) at l in
-        one tri he (length tri) s _ _ (omega arith) (new-left s l′)
+        leftmost-one tri he (length tri) s _ _ (new-left s l′)
         (table-leftmost tri he w (length tri) s (omega arith) (λ e h. named (nextOf e) (next-lt threes h)) (rw q at l′)));
     reached = λ s l. let l′ : s < length old = rw q l in none-lacking tri he long ok apart s (getD new s 0) (new-left s l′) (rw (← g s l′ .counted) (r .done s l′ .1));
   }

@@ -12,15 +12,15 @@ use lib.Seq.{getD-set-same, getD-set-other}
 use Rattle.base.specs.common.laws.Decide.{lt-or-ge, eq-or-ne, first-all}
 use Rattle.base.specs.common.Decide.{First, Says}
 use Rattle.base.specs.numbers.Numbers.{EMPTY}
-use Rattle.mesh.specs.Mesh.{endOf, tableTo, leftmostOf, wholeOf, FanAt, Fan, Paired, leftmostIn}
+use Rattle.mesh.specs.Mesh.{endOf, tableTo, leftmostOf, wholeOf, FanAt, Fan, Paired, leftmostIn, totalTo}
 use Rattle.mesh.specs.laws.Next.{next-lt}
 use Rattle.mesh.specs.laws.WalkSteps.{walk-done}
 use Rattle.mesh.specs.laws.Walks.{walk-short}
 use Rattle.mesh.specs.laws.Table.{table-length, table-leftmost, table-longer, longer-at}
 use Rattle.mesh_check.specs.fan.Answer.{FanAnswer}
 use Rattle.mesh_check.specs.degrees.Packed.{LongWalks}
-use Rattle.mesh_check.specs.fan.laws.Total.{Ends, total-says}
-use Rattle.mesh_check.specs.fan.Counts.{totalTo, lessOf, owedTo, endsTo, WalkLengths, CountedDown}
+use Rattle.mesh.specs.laws.Total.{Ends, total-says}
+use Rattle.mesh_check.specs.fan.Counts.{lessOf, owedTo, endsTo, WalkLengths, CountedDown}
 use Rattle.mesh_check.specs.fan.laws.Owed.{owed-at, spent, spent-debt, spent-paid, enough, all-reached}
 
 -- the same of the entries below n; the others are the old ones

@@ -3,6 +3,7 @@ use mathlib.Core.Path.{_≡_, sym, ap, _∙_}
 use mathlib.Core.List.{List, _++_}
 use mathlib.Core.Logic.{_≢_}
 use Prim.Native.Nat.{ℕ, _%_, _≤_, _<_}
+use native.Mathlib.Nat.{lt-of-lt-of-le}
 use native.Mathlib.Omega.{arith}
 use lib.ListN.{length, getD, replicate}
 use borrow.Author.Needs.{needs}
@@ -14,15 +15,17 @@ use Rattle.base.specs.numbers.Numbers.{EMPTY, refusedTriangle}
 use Rattle.plane.specs.points.Sites.{KeptAt}
 use Rattle.mesh.specs.declared.MeshFault.{MeshFault}
 use Rattle.mesh.specs.declared.MeshFault.the-variants.{None, Counts, Room, Coordinate, BrokenFan}
-use Rattle.mesh.specs.Mesh.{leftmostIn, AllSound, AllPaired, Paired}
+use Rattle.mesh.specs.Mesh.{nextOf, tableTo, leftmostIn, AllSound, AllPaired, Paired}
 use Rattle.mesh.specs.Faults.{numberOf, shapeRules, hullRules, fanRules, topologyRules}
 use Rattle.mesh.specs.Accepted.{Mesh, Counted, siteCount}
+use Rattle.mesh.specs.laws.Next.{next-lt}
+use Rattle.mesh.specs.laws.Table.{table-longer}
 use Rattle.mesh.specs.laws.Facts.{sound-site}
 use Rattle.mesh.specs.laws.Verdicts.{topology-late}
 use Rattle.mesh_check.specs.border.Answer.{HullAnswer}
 use Rattle.mesh_check.specs.fan.Answer.{FanAnswer}
 use Rattle.mesh_check.specs.whole.laws.AtExit.{exit-made, exit-held, exit-blank}
-use Rattle.mesh_check.specs.whole.Answers.{ShapeAnswer, BorderAnswer, TopologyAnswer, Finding, MeshAnswer}
+use Rattle.mesh_check.specs.whole.Answers.{ShapeAnswer, BorderAnswer, TopologyAnswer, OutlineAnswer, Finding, MeshAnswer}
 
 -- the number 0: the rules hold
 pub shape-keep : (tri he : List ℕ) (sites : ℕ) {f : MeshFault} → ShapeAnswer tri he sites f → numberOf f ≡ 0 → Keep (shapeRules tri he sites)
@@ -33,6 +36,11 @@ hull-keep tri he hull sites a z = finds-keep (λ f. numberOf f ≡ 0) (search ne
 
 pub named : (tri he : List ℕ) (sites : ℕ) → length tri % 3 ≡ 0 → AllSound tri sites → AllPaired tri he → (k : ℕ) → k < length tri → getD tri k 0 < sites
 named tri he sites threes sound pairs = sound-site tri sites threes sound
+
+-- where rules 7 and 8 hold, each entry names an entry of a slice with room for the sites
+pub shape-named : (tri he : List ℕ) (sites w : ℕ) {f : MeshFault} → ShapeAnswer tri he sites f → numberOf f ≡ 0 → length tri % 3 ≡ 0 → sites ≤ w
+    → (k : ℕ) → k < length tri → getD tri k 0 < w
+shape-named tri he sites w a z threes room k l = lt-of-lt-of-le (sound-site tri sites threes (shape-keep tri he sites a z .0) k l) room
 
 pub paired : (tri he : List ℕ) → length tri % 3 ≡ 0 → length he ≡ length tri → length tri < EMPTY → AllPaired tri he → Paired tri he
 paired tri he threes same small pairs = record { threes = rw same threes; small = rw same small; pairs = λ e l. pairs e (rw (← same) l) }
@@ -71,6 +79,34 @@ module _ (tri he hull : List ℕ) (sites : ℕ) (old : List ℕ) where
 
       pub topology-whole : m ≡ 0 → TopologyAnswer tri he hull sites old mid g
       topology-whole y = record { verdict = whole; work = b .table (sym p ∙ y) ∙ sym (exit-made EMPTY (leftmostIn tri he sites (length old)) old (numberOf g) (sym p ∙ y)) }
+
+  -- rules 7 to 9 alone: a refusal by them is one by rules 7 to 10
+  outline-cleared : (new : List ℕ) (f : MeshFault) → Finds (shapeRules tri he sites ++ hullRules tri he hull sites) None f → numberOf f ≢ 0
+      → new ≡ replicate (length old) EMPTY → OutlineAnswer tri he hull sites old new f
+  outline-cleared new f v n e =
+      let t = topology-cleared new f (finds-first (fanRules tri he sites) (λ q. n (ap numberOf q)) v) n e in
+      record { verdict = v; work = t .work }
+
+  module _ (f : MeshFault) (k : ℕ) (a : ShapeAnswer tri he sites f) (q : k ≡ numberOf f) where
+    pub outline-shape : (new : List ℕ) → k ≢ 0 → new ≡ replicate (length old) EMPTY → OutlineAnswer tri he hull sites old new f
+    outline-shape new n = outline-cleared new f (finds-first (hullRules tri he hull sites) (λ e. n (q ∙ ap numberOf e)) a) (rw (← q) n)
+
+    module _ (z : k ≡ 0) (w : ℕ) (long : w ≡ length old) (g : MeshFault) (m : ℕ) (b : HullAnswer tri he hull sites g) (p : m ≡ numberOf g) where
+      outlined : Finds (shapeRules tri he sites ++ hullRules tri he hull sites) None g
+      outlined = finds-after (shapeRules tri he sites) (shape-keep tri he sites a (sym q ∙ z)) b
+
+      pub outline-hull : (new : List ℕ) → m ≢ 0 → new ≡ replicate w EMPTY → OutlineAnswer tri he hull sites old new g
+      outline-hull new n e = outline-cleared new g outlined (rw (← p) n) (e ∙ ap (λ v. replicate v EMPTY) long)
+
+      pub outline-whole : (new : List ℕ) → m ≡ 0 → length tri % 3 ≡ 0 → sites ≤ length old → new ≡ tableTo tri he w (length tri)
+          → OutlineAnswer tri he hull sites old new g
+      outline-whole new y threes room e =
+          let sound = shape-keep tri he sites a (sym q ∙ z) .0 in
+          let table = table-longer tri he sites (length old) room (λ d l. sound-site tri sites threes sound (nextOf d) (next-lt threes l)) in
+          record {
+            verdict = outlined;
+            work = e ∙ ap (λ v. tableTo tri he v (length tri)) long ∙ table ∙ sym (exit-made EMPTY (leftmostIn tri he sites (length old)) old (numberOf g) (sym p ∙ y));
+          }
 
 -- the whole check: a rule that stands before rule 7 leaves the slice as it was
 module _ (m : Mesh) (old : List ℕ) where

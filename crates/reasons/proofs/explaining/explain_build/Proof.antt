@@ -2,8 +2,8 @@
 use mathlib.Core.Path.{refl, sym, _∙_}
 use native.Mathlib.Omega.{arith}
 use lib.ListN.{length-take}
-use Rattle.building.specs.answers.laws.BuildAnswer.{table-fits, nine-of}
-use Rattle.building.specs.answers.laws.Build.{boxed-asks, boxed-count, boxed-reused}
+use Rattle.admission.specs.laws.Outlined.{build-outlined, table-fits, nine-of, table-is}
+use Rattle.building.specs.answers.laws.Build.{boxed-asks, boxed-told, boxed-count, boxed-reused}
 use Rattle.reasons.specs.explaining.Steps.{early}
 use Rattle.reasons.specs.explaining.laws.ExplainBuild.{explains-build}
 use borrow.Author.Needs.{needs}
@@ -29,7 +29,7 @@ abbrev Accepts : tie.After-build-cells → tie.Else1
 Accepts c = c .before .before .before .before .before
 
 abbrev Ends : tie.After-of-fault → tie.After-slice-known14
-Ends c = c .before .before .before .before .before .before .before .before .before
+Ends c = c .before .before .before .before .before .before .before .before .before .before
 
 abbrev Known : tie.After-of-fault → tie.After-slice-known10
 Known c = Accepts (Made (Ends c)) .before
@@ -47,24 +47,29 @@ returns : tie.Need-returns
 returns c = early (Admit (Located c) .admit-build .ensures) (c .before .before .before .before .if1 .taken) (c .before .before .locate .ensures) refl
 
 slice-reshare-prefix-build-cells : tie.Need-slice-reshare-prefix-build-cells
-slice-reshare-prefix-build-cells c = table-fits (Admit (c .before) .admit-build .ensures) (c .if1 .left)
+slice-reshare-prefix-build-cells c = table-fits (build-outlined (Admit (c .before) .admit-build .ensures) (c .if1 .left)) (c .if1 .left)
 
 slice-aggregate-build-cells : tie.Need-slice-aggregate-build-cells
-slice-aggregate-build-cells c = sym (simp length-take (omega (arith, table-fits (Admit (c .before .before) .admit-build .ensures) (c .before .if1 .left))))
+slice-aggregate-build-cells c =
+    let e = c .before in
+    sym (simp length-take (omega (arith, table-fits (build-outlined (Admit (e .before) .admit-build .ensures) (e .if1 .left)) (e .if1 .left))))
 
 build-cells-requires : tie.Need-build-cells-requires
 build-cells-requires c κs =
     let e = c .before .before .before .before in
     let a = Admit (e .before) in
-    boxed-asks (a .admit-build .ensures) _ (Begin a .pre .2) (Begin a .pre .1) (e .if1 .left)
+    boxed-asks (build-outlined (a .admit-build .ensures) (e .if1 .left)) _ (Begin a .pre .2) (Begin a .pre .1) (e .if1 .left)
 
 finish-build-requires : tie.Need-finish-build-requires
 finish-build-requires c κs =
-    let m = Made (c .before .before .before) in
-    let a = Admit (Accepts m .before) in (
-      boxed-count (a .admit-build .ensures) _ (Begin a .pre .2) (Begin a .pre .1) (Accepts m .if1 .left) _ (m .build-cells .ensures .0),
-      boxed-reused (a .admit-build .ensures) _ (Begin a .pre .2) (Begin a .pre .1) (Accepts m .if1 .left) _ (m .build-cells .ensures .0),
-      nine-of (a .admit-build .ensures) (Accepts m .if1 .left),
+    let m = Made (c .before .before .before .before) in
+    let z = Accepts m .if1 .left in
+    let a = Admit (Accepts m .before) in
+    let o = build-outlined (a .admit-build .ensures) z in
+    let b = boxed-told (a .admit-build .ensures) _ (Begin a .pre .2) (Begin a .pre .1) z (table-is o z) (m .build-cells .ensures) in (
+      boxed-count (a .admit-build .ensures) _ (Begin a .pre .2) (Begin a .pre .1) z _ (b .0),
+      boxed-reused (a .admit-build .ensures) _ (Begin a .pre .2) (Begin a .pre .1) z _ (b .0),
+      nine-of o z,
     )
 
 same-length-6 : tie.Need-same-length-6
@@ -84,10 +89,12 @@ same-length-10 c = c .before .before .counts2 .given ∙ Known c .before .counts
 
 returns-2 : tie.Need-returns-2
 returns-2 c =
+    let m = Made (Ends c) in
+    let z = Accepts m .if1 .left in
     let a = Admit (Known c) in
-    let b = Made (Ends c) .build-cells .ensures in
+    let b = boxed-told (a .admit-build .ensures) _ (Begin a .pre .2) (Begin a .pre .1) z (table-is (build-outlined (a .admit-build .ensures) z) z) (m .build-cells .ensures) in
     let f = c .before .before .before .before .before .finish-build .ensures in
-    explains-build (a .admit-build .ensures) (Accepts (Made (Ends c)) .if1 .left) _ (Begin a .pre .2) (Begin a .pre .1) _ (b .0) (b .1) f (c .of-fault .ensures)
+    explains-build (a .admit-build .ensures) z _ (Begin a .pre .2) (Begin a .pre .1) _ (b .0) (b .1) f (c .of-fault .ensures)
 
 pub explain-build-spec : {M : Type 1} → statement M
 explain-build-spec =

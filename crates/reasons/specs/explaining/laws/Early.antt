@@ -116,7 +116,7 @@ module _ (m : Mesh) (asked : ℕ) (old mid : Slices) {n : ℕ} (a : BuildAdmissi
   table w = leftmostIn (m .triangles) (m .halfedges) (siteCount (m .sites)) w
 
   blank : refusedTriangle ≤ n → mid .work ≡ replicate (length (old .work)) EMPTY
-  blank l = a .admission .work ∙ exit-blank EMPTY (table (length (old .work))) (old .work) n l
+  blank l = a .work ∙ exit-blank EMPTY (table (length (old .work))) (old .work) n l
 
   work-same : {v : List ℕ} {r : Reason} → toldBy r .number ≡ n → Located m n (mid .work) v r → v ≡ mid .work
   work-same q (alone h e) = e

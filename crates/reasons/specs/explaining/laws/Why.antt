@@ -69,21 +69,21 @@ module _ (m : Mesh) {asked : ℕ} (old : Slices) (own : List (Rule ℕ)) (rules 
       let g = granted _ _ _ _ _ _ _ _ k .table in
       let t = leftmostIn (m .triangles) (m .halfedges) (siteCount (m .sites)) (length (old .work)) in
       ⊎-elim
-      (λ l. omega (arith, g, ap length (a .admission .work ∙ exit-held EMPTY t (old .work) n z l)))
-      (λ l. omega (arith, g, ap length (a .admission .work ∙ exit-blank EMPTY t (old .work) n l), length-replicate (length (old .work)) EMPTY))
+      (λ l. omega (arith, g, ap length (a .work ∙ exit-held EMPTY t (old .work) n z l)))
+      (λ l. omega (arith, g, ap length (a .work ∙ exit-blank EMPTY t (old .work) n l), length-replicate (length (old .work)) EMPTY))
       (lt-or-ge n refusedTriangle)
 
   reasoned : {mid : Slices} {n : ℕ} {v : List ℕ} {r : Reason} → BuildAdmission m asked old mid n → n ≢ 0 → Located m n (mid .work) v r
       → Reasoned m (roomOf m old ≡ true) own n r
   reasoned a z l =
       early-reason m (roomOf m old ≡ true) own rules z (room-fits a z) l
-      (admits-rules m (roomOf m old ≡ true) (λ k. (λ e. e, λ e. e)) (a .admission .number) own (rules .some) (ask .found))
+      (admits-rules m (roomOf m old ≡ true) (λ k. (λ e. e, λ e. e)) (a .number) own (rules .some) (ask .found))
 
   kept-of : {mid : Slices} {n : ℕ} → BuildAdmission m asked old mid n → n ≡ 0 → Keep own
   kept-of a z = asked-keep rules ask (fit-of a z)
 
   roomed-of : {mid : Slices} {n : ℕ} → BuildAdmission m asked old mid n → n ≡ 0 → roomOf m old ≡ true
-  roomed-of a z = admitted (asked-answers asked) (a .admission .number) z .roomed
+  roomed-of a z = admitted (asked-answers asked) (a .number) z .roomed
 
 module _ {m : Mesh} {asked : ℕ} {o : Outcome Fault Built} {old new : Slices} (own : List (Rule ℕ)) (rules : OwnRules own) (ask : Asked own asked) where
   pub why-refused : (q : Question) (r : Reason) → Explains m asked o old new r → toldBy r .number ≢ 0 → WhyAnswer m own q o old new r

@@ -1,20 +1,23 @@
 -- How vertices are inserted, one after the other: a bucket is one of the heads, each vertex goes in front of the chain of its bucket, and those that are chained do not move when more are written.
-use mathlib.Core.Path.{_≡_, refl, sym, ap, _∙_}
+use mathlib.Core.Path.{_≡_, refl, sym, ap, ap₂, _∙_}
 use mathlib.Core.List.{List}
 use mathlib.Core.Logic.{⊎-elim, _≢_}
-use Prim.Native.Nat.{ℕ, suc, _+_, _-_, _*_, _/_, _%_, _≤_, _<_}
+use Prim.Native.Nat.{ℕ, zero, suc, _+_, _-_, _*_, _/_, _%_, _^_, _≤_, _<_}
 use native.Mathlib.Omega.{arith}
-use native.Mathlib.Nat.{lt-of-le-of-lt, lt-of-lt-of-le, le-of-lt, mul-le-mul, mul-lt-mul-of-pos-right, mul-comm, div-lt-iff-lt-mul}
+use native.Mathlib.Nat.{lt-of-le-of-lt, lt-of-lt-of-le, le-of-lt, mul-le-mul, mul-lt-mul-of-pos-right, mul-comm, one-mul, mul-mod-left, mod-lt, div-lt-iff-lt-mul}
 use lib.Ieee.{Float, binary64, toBits}
+use lib.Bits.{bitOr, or-comm, or-zero-r, or-shr, or-mod}
 use lib.Dec.{lit<}
+use lib.Pow.{pow-add, shr-shr, shl-shr, high, low}
 use Prim.{tt}
 use lib.ListN.{length, getD, set, take, length-set}
 use lib.Seq.{getD-set-same, getD-set-other, take-set-le}
 use Rattle.base.specs.common.laws.Decide.{lt-or-ge, eq-or-ne}
 use Rattle.plane.specs.points.Flat.{pointAt}
 use Rattle.plane.specs.declared.points.Point.{Point}
-use Rattle.vertices.specs.buckets.Buckets.{mixOf, bucketBy, bucketFrom, midOf, headsOf, LastChained, InChains}
-use Rattle.vertices.specs.buckets.Steps.{BucketsFree, InsertsIn}
+use Rattle.vertices.specs.declared.buckets.Home.{Home}
+use Rattle.vertices.specs.buckets.Buckets.{mixOf, bucketBy, bucketFrom, markBy, markFrom, midOf, headsOf, numberIn, entryWith, LastChained, InChains}
+use Rattle.vertices.specs.buckets.Steps.{BucketsFree, HomeOf, HomeIn, InsertsIn}
 
 -- ---- a bucket is one of them
 pub mix-small : (a b : ℕ) → mixOf a b < 4194304
@@ -62,60 +65,128 @@ pub empty-end : {limit m h : ℕ} {old new : List ℕ} → FreeTo limit m old ne
 empty-end {limit} {m} {h} {old} {new} a e l = record { long = a .long; body = a .body; free = λ j g. a .free j (lt-of-lt-of-le (rw (a .long, ← e) at g) l) }
 
 -- ---- what a function has written
-pub inserted-is : (limit k : ℕ) (p : Point) (ix : List ℕ) {h s : ℕ} {x y : Float} → h ≡ headsOf (length ix - limit) → x ≡ midOf (p .x) → y ≡ midOf (p .y) → s ≡ bucketBy h x y → k < 3 * h
-    → InsertsIn limit k p ix (set (set ix (limit + (h + k)) (getD ix (limit + s) 0)) (limit + s) (suc k))
-inserted-is limit k p ix {h} {s} {x} {y} a b c d l =
-    let e : s ≡ bucketBy (headsOf (length ix - limit)) (midOf (p .x)) (midOf (p .y)) = cc in
-    record { linked = λ _. rw (e, a) refl; past = λ g. absurd (omega arith) }
+pub inserted-is : (limit k : ℕ) (ix : List ℕ) {h m t e : ℕ} → h ≡ headsOf (length ix - limit) → e ≡ entryWith (getD ix (limit + m) 0) k t → k < 3 * h
+    → InsertsIn limit k m t ix (set (set ix (limit + (h + k)) (getD ix (limit + m) 0)) (limit + m) e)
+inserted-is limit k ix a b l = record { linked = λ _. rw (b, a) refl; past = λ g. absurd (omega arith) }
 
-pub inserted-not : (limit k : ℕ) (p : Point) (ix : List ℕ) {h : ℕ} → h ≡ headsOf (length ix - limit) → 3 * h ≤ k → InsertsIn limit k p ix ix
-inserted-not limit k p ix a l = record { linked = λ g. absurd (omega arith); past = λ _. refl }
+pub inserted-not : (limit k m t : ℕ) (ix : List ℕ) {h : ℕ} → h ≡ headsOf (length ix - limit) → 3 * h ≤ k → InsertsIn limit k m t ix ix
+inserted-not limit k m t ix a l = record { linked = λ g. absurd (omega arith); past = λ _. refl }
+
+-- ---- an entry: its number, and its marks
+or-one : (x y : ℕ) → y < 2 → x ≡ 1 → bitOr x y ≡ 1
+or-one x y l e = rw e (go y l)
+  where
+    go : (y : ℕ) → y < 2 → bitOr 1 y ≡ 1
+    go zero l = refl
+    go (suc zero) l = refl
+    go (suc (suc y)) l = absurd (omega arith)
+
+-- a digit of two that are joined
+digit-or : (a b j : ℕ) → a / 2 ^ j % 2 ≡ 1 → bitOr a b / 2 ^ j % 2 ≡ 1
+digit-or a b j e = ap (λ (x : ℕ). x % 2) (or-shr a b j) ∙ or-mod (a / 2 ^ j) (b / 2 ^ j) 1 ∙ or-one (a / 2 ^ j % 2) (b / 2 ^ j % 2) (mod-lt (b / 2 ^ j) (lit< tt)) e
+
+-- another number below the same marks
+renumbered : (e r j : ℕ) → r < 1048576 → 20 ≤ j → (e / 1048576 * 1048576 + r) / 2 ^ j ≡ e / 2 ^ j
+renumbered e r j l h =
+    let q : 20 + (j - 20) ≡ j = omega arith in
+    rw (← q) (sym (shr-shr (e / 1048576 * 1048576 + r) 20 (j - 20)) ∙ ap (λ (x : ℕ). x / 2 ^ (j - 20)) (high (e / 1048576) 20 l) ∙ shr-shr e 20 (j - 20))
+
+module _ (e k t : ℕ) (l : suc k < 1048576) (h : 20 ≤ t) where
+  pub entry-number : numberIn (entryWith e k t) ≡ suc k
+  unfolding entryWith
+  entry-number = or-mod (e / 1048576 * 1048576 + suc k) (2 ^ t) 20 ∙ ap₂ bitOr (low (e / 1048576) 20 l) even ∙ or-zero-r (suc k)
+    where
+      even : 2 ^ t % 2 ^ 20 ≡ 0
+      even = let q : t - 20 + 20 ≡ t = omega arith in rw (← q, pow-add 2 (t - 20) 20) (mul-mod-left (2 ^ (t - 20)) (2 ^ 20))
+
+  pub entry-mark : entryWith e k t / 2 ^ t % 2 ≡ 1
+  unfolding entryWith
+  entry-mark =
+      ap (λ (x : ℕ). x / 2 ^ t % 2) (or-comm (e / 1048576 * 1048576 + suc k) (2 ^ t))
+      ∙ digit-or (2 ^ t) (e / 1048576 * 1048576 + suc k) t (ap (λ (x : ℕ). x % 2) (ap (λ (x : ℕ). x / 2 ^ t) (sym (one-mul (2 ^ t))) ∙ shl-shr 1 t))
+
+  pub entry-keeps : (j : ℕ) → 20 ≤ j → e / 2 ^ j % 2 ≡ 1 → entryWith e k t / 2 ^ j % 2 ≡ 1
+  unfolding entryWith
+  entry-keeps j i o = digit-or (e / 1048576 * 1048576 + suc k) (2 ^ t) j (ap (λ (x : ℕ). x % 2) (renumbered e (suc k) j l i) ∙ o)
+
+pub mark-high : (x y : Float) → 20 ≤ markBy x y
+unfolding markBy
+mark-high x y = omega arith
+
+pub mark-small : (x y : Float) → markBy x y < 32
+unfolding markBy
+mark-small x y = omega arith
+
+-- where a point belongs there is a bucket and a digit
+pub home-in : (h : ℕ) (p : Point) {r : Home} → HomeOf h p r → HomeIn h (r .bucket) (r .mark)
+home-in h p g = record {
+  below = λ o. rw (g .bucket) (bucket-small h (midOf (p .x)) (midOf (p .y)) o);
+  digit = rw (g .mark) (mark-small (midOf (p .x)) (midOf (p .y)));
+}
 
 -- ---- the last of a bucket
-module _ (bucket : ℕ → ℕ) where
-  none-inserted : (m : ℕ) → LastChained bucket m 0 0
-  none-inserted m = record { within = omega arith; there = λ k e. absurd (omega arith); after = λ k l h. absurd (omega arith) }
+module _ (bucket mark : ℕ → ℕ) where
+  none-inserted : (m : ℕ) → LastChained bucket mark m 0 0
+  none-inserted m = record { within = omega arith; there = λ k e. absurd (omega arith); after = λ k l h. absurd (omega arith); marked = λ k l. absurd (omega arith); none = λ _. refl }
 
-  inserted-last : (m n : ℕ) → bucket n ≡ m → LastChained bucket m (suc n) (suc n)
-  inserted-last m n e = record { within = omega arith; there = λ k q. ap bucket (same k q) ∙ e; after = λ k l h. absurd (omega arith) }
+  below : (n k : ℕ) → k < suc n → k ≢ n → k < n
+  below n k i q = ⊎-elim (λ l. l) (λ l. absurd (q (omega arith))) (lt-or-ge k n)
+
+  inserted-last : (m n e : ℕ) → suc n < 1048576 → ((k : ℕ) → 20 ≤ mark k) → bucket n ≡ m → LastChained bucket mark m n e → LastChained bucket mark m (suc n) (entryWith e n (mark n))
+  inserted-last m n e i high b l =
+      let q = entry-number e n (mark n) i (high n) in
+      record {
+        within = omega (arith, q);
+        there = λ k z. ap bucket (same k (sym q ∙ z)) ∙ b;
+        after = λ k z h. absurd (omega (arith, q));
+        marked = λ k z o. ⊎-elim
+            (λ y. rw y (entry-mark e n (mark n) i (high n)))
+            (λ y. entry-keeps e n (mark n) i (high n) (mark k) (high k) (l .marked k (below n k z y) o))
+            (eq-or-ne k n);
+        none = λ z. absurd (omega (arith, q));
+      }
     where
       same : (k : ℕ) → suc n ≡ suc k → k ≡ n
       same k q = omega arith
 
-  last-still : (m n x : ℕ) → bucket n ≢ m → LastChained bucket m n x → LastChained bucket m (suc n) x
-  last-still m n x h l = record {
+  last-still : (m n e : ℕ) → bucket n ≢ m → LastChained bucket mark m n e → LastChained bucket mark m (suc n) e
+  last-still m n e h l = record {
     within = omega (arith, l .within);
     there = l .there;
-    after = λ k g i. ⊎-elim (λ q e. h (ap bucket (sym q) ∙ e)) (λ q. l .after k g (below k i q)) (eq-or-ne k n);
+    after = λ k g i. ⊎-elim (λ q o. h (ap bucket (sym q) ∙ o)) (λ q. l .after k g (below n k i q)) (eq-or-ne k n);
+    marked = λ k i o. ⊎-elim (λ q. absurd (h (ap bucket (sym q) ∙ o))) (λ q. l .marked k (below n k i q) o) (eq-or-ne k n);
+    none = l .none;
   }
-    where
-      below : (k : ℕ) → k < suc n → k ≢ n → k < n
-      below k i q = ⊎-elim (λ l. l) (λ l. absurd (q (omega arith))) (lt-or-ge k n)
 
--- by another bucket function that agrees below n
-last-agree : (f g : ℕ → ℕ) (m n x : ℕ) → ((k : ℕ) → k < n → g k ≡ f k) → LastChained f m n x → LastChained g m n x
-last-agree f g m n x a l = record {
+-- by other functions that agree below n
+last-agree : (f g s t : ℕ → ℕ) (m n e : ℕ) → ((k : ℕ) → k < n → g k ≡ f k) → ((k : ℕ) → k < n → t k ≡ s k) → LastChained f s m n e → LastChained g t m n e
+last-agree f g s t m n e a b l = record {
   within = l .within;
   there = λ k q. a k (omega (arith, l .within)) ∙ l .there k q;
-  after = λ k i j e. l .after k i j (sym (a k j) ∙ e);
+  after = λ k i j o. l .after k i j (sym (a k j) ∙ o);
+  marked = λ k i o. rw (b k i) (l .marked k i (sym (a k i) ∙ o));
+  none = l .none;
 }
 
 -- ---- none is chained
 pub in-chains-none : (nc : ℕ) (v : List Float) (tail : List ℕ) → ((m : ℕ) → m < headsOf (length tail) → getD tail m 0 ≡ 0) → InChains nc 0 v tail
-in-chains-none nc v tail f = record { lasts = λ m l. rw (f m l) (none-inserted _ m); nexts = λ k l. absurd (omega arith) }
+in-chains-none nc v tail f = record { lasts = λ m l. rw (f m l) (none-inserted _ _ m); nexts = λ k l. absurd (omega arith) }
 
 -- ---- more vertices are written after those that are chained
 pub in-chains-kept : {nc n : ℕ} {v w : List Float} {tail : List ℕ} → ((k : ℕ) → k < n → pointAt w (nc + k) ≡ pointAt v (nc + k)) → InChains nc n v tail → InChains nc n w tail
 in-chains-kept {nc} {n} {v} {w} {tail} f g = record {
-  lasts = λ m l. last-agree _ _ m n _ buckets (g .lasts m l);
-  nexts = λ k l. rw (buckets k l) (last-agree _ _ _ k _ (λ j i. buckets j (omega arith)) (g .nexts k l));
+  lasts = λ m l. last-agree _ _ _ _ m n _ buckets marks (g .lasts m l);
+  nexts = λ k l. rw (buckets k l) (last-agree _ _ _ _ _ k _ (λ j i. buckets j (omega arith)) (λ j i. marks j (omega arith)) (g .nexts k l));
 }
   where
     buckets : (k : ℕ) → k < n → bucketFrom (headsOf (length tail)) w nc k ≡ bucketFrom (headsOf (length tail)) v nc k
     buckets k l = ap (λ (q : Point). bucketBy (headsOf (length tail)) (midOf (q .x)) (midOf (q .y))) (f k l)
 
+    marks : (k : ℕ) → k < n → markFrom w nc k ≡ markFrom v nc k
+    marks k l = ap (λ (q : Point). markBy (midOf (q .x)) (midOf (q .y))) (f k l)
+
 -- ---- the next one goes in front of the chain of its bucket
-module _ {nc n m : ℕ} {v : List Float} {tail : List ℕ} (g : InChains nc n v tail) (r : n < 3 * headsOf (length tail)) (e : bucketFrom (headsOf (length tail)) v nc n ≡ m)
+module _ {nc n m : ℕ} {v : List Float} {tail : List ℕ} (g : InChains nc n v tail) (r : n < 3 * headsOf (length tail)) (b : bucketFrom (headsOf (length tail)) v nc n ≡ m)
     (small : m < headsOf (length tail)) where
   abbrev h : ℕ
   h = headsOf (length tail)
@@ -123,30 +194,40 @@ module _ {nc n m : ℕ} {v : List Float} {tail : List ℕ} (g : InChains nc n v 
   abbrev bucket : ℕ → ℕ
   bucket = bucketFrom h v nc
 
+  abbrev mark : ℕ → ℕ
+  mark = markFrom v nc
+
   abbrev linked : List ℕ
   linked = set tail (h + n) (getD tail m 0)
 
+  abbrev front : ℕ
+  front = entryWith (getD tail m 0) n (mark n)
+
   abbrev inserted : List ℕ
-  inserted = set linked m (suc n)
+  inserted = set linked m front
 
   long : length linked ≡ length tail
   long = length-set tail (h + n) (getD tail m 0)
 
   same-long : length inserted ≡ length tail
-  same-long = length-set linked m (suc n) ∙ long
+  same-long = length-set linked m front ∙ long
 
-  last-at : (t : ℕ) → t < h → LastChained bucket t (suc n) (getD inserted t 0)
+  first : LastChained bucket mark m (suc n) front
+  first = inserted-last bucket mark m n (getD tail m 0) (omega arith) (λ k. mark-high _ _) b (g .lasts m small)
+
+  last-at : (t : ℕ) → t < h → LastChained bucket mark t (suc n) (getD inserted t 0)
   last-at t i =
       ⊎-elim
-      (λ z. rw (z, getD-set-same linked m (suc n) 0 (omega (arith, long))) (inserted-last bucket m n e))
-      (λ z. rw (getD-set-other linked m t (suc n) 0 z, getD-set-other tail (h + n) t (getD tail m 0) 0 (λ q. omega arith)) (last-still bucket t n (getD tail t 0) (λ y. z (sym y ∙ e)) (g .lasts t i)))
+      (λ z. rw (z, getD-set-same linked m front 0 (omega (arith, long))) first)
+      (λ z. rw (getD-set-other linked m t front 0 z, getD-set-other tail (h + n) t (getD tail m 0) 0 (λ q. omega arith))
+      (last-still bucket mark t n (getD tail t 0) (λ y. z (sym y ∙ b)) (g .lasts t i)))
       (eq-or-ne t m)
 
-  next-at : (k : ℕ) → k < suc n → LastChained bucket (bucket k) k (getD inserted (h + k) 0)
+  next-at : (k : ℕ) → k < suc n → LastChained bucket mark (bucket k) k (getD inserted (h + k) 0)
   next-at k i =
       ⊎-elim
-      (λ z. rw (z, getD-set-other linked m (h + n) (suc n) 0 (λ q. omega arith), getD-set-same tail (h + n) (getD tail m 0) 0 (omega arith), e) (g .lasts m small))
-      (λ z. rw (getD-set-other linked m (h + k) (suc n) 0 (λ q. omega arith), getD-set-other tail (h + n) (h + k) (getD tail m 0) 0 (λ q. z (omega arith)))
+      (λ z. rw (z, getD-set-other linked m (h + n) front 0 (λ q. omega arith), getD-set-same tail (h + n) (getD tail m 0) 0 (omega arith), b) (g .lasts m small))
+      (λ z. rw (getD-set-other linked m (h + k) front 0 (λ q. omega arith), getD-set-other tail (h + n) (h + k) (getD tail m 0) 0 (λ q. z (omega arith)))
       (g .nexts k (⊎-elim (λ w. w) (λ w. absurd (z (omega arith))) (lt-or-ge k n))))
       (eq-or-ne k n)
 

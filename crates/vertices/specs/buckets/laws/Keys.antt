@@ -28,7 +28,7 @@ use Rattle.root.specs.laws.OneUnits.{same-units}
 use Rattle.plane.specs.declared.points.Point.{Point}
 use Rattle.plane.specs.points.Plane.{nearOf}
 use Rattle.vertices.specs.Add.{nearPt}
-use Rattle.vertices.specs.buckets.Buckets.{reach, farReach, coarse, lowOf, midOf, highOf, narrowOf, bucketBy}
+use Rattle.vertices.specs.buckets.Buckets.{reach, farReach, coarse, lowOf, midOf, highOf, narrowOf}
 
 -- ---- a difference that is rounded to at most the tolerance
 reach-is : round binary64 false 1 (2 ^ 49) ≡ reach
@@ -98,8 +98,10 @@ tell false true a b c k C e h =
 tell true false a b c k C e h = let g = small (b + a) c C (rw e at h) in both a b c (omega arith)
 
 -- of two floats
-pub near-exact : (s t : Bool) (m n : ℕ) (e d : ℤ) → nearOf (fin s m e) (fin t n d) ≡ true
-    → (m * up e * down d * 2 ^ 49 ≤ n * up d * down e * 2 ^ 49 + down e * down d) × (n * up d * down e * 2 ^ 49 ≤ m * up e * down d * 2 ^ 49 + down e * down d)
+abbrev Close : ℕ → ℤ → ℕ → ℤ → Type 0
+Close m e n d = (m * up e * down d * 2 ^ 49 ≤ n * up d * down e * 2 ^ 49 + down e * down d) × (n * up d * down e * 2 ^ 49 ≤ m * up e * down d * 2 ^ 49 + down e * down d)
+
+pub near-exact : (s t : Bool) (m n : ℕ) (e d : ℤ) → nearOf (fin s m e) (fin t n d) ≡ true → Close m e n d
 unfolding nearOf lt sub add neg
 near-exact s t m n e d h = tell s t (m * up e * down d) (n * up d * down e) (down e * down d) (down d * down e) (mul-pos (down-pos e) (down-pos d)) (mul-comm (down d) (down e)) h
 
@@ -130,19 +132,19 @@ high-cross m n p q h = le-trans (le-of-eq left) (le-trans (go (m * p) (n * q) (q
         sym (simp (one-mul, add-mul) (ap (λ (x : ℕ). x + p * (q * 2 ^ 49)) (four n q (2 ^ 48) (2 ^ 49))
         ∙ ap (λ (x : ℕ). n * q * 2 ^ 97 + x) (sym (mul-assoc p q (2 ^ 49)) ∙ ap (λ (x : ℕ). x * 2 ^ 49) (mul-comm p q))))
 
-module _ (s t : Bool) (m n : ℕ) (e d : ℤ) (h : nearOf (fin s m e) (fin t n d) ≡ true) where
+module _ (m n : ℕ) (e d : ℤ) (h : Close m e n d) where
   low-near : T (le (fin false n d ⊞ B.zero) (fin false m e ⊞ reach))
   unfolding add sum ofBits
   low-near =
       round-mono binary64 (n * up d * 1 + 0 * 1 * down d) (down d * 1) (m * up e * 2 ^ 49 + 1 * 1 * down e) (down e * 2 ^ 49) (mul-pos (down-pos d) (lit< tt)) (mul-pos (down-pos e) (pow-pos 49))
-      (low-cross (m * up e) (n * up d) (down d) (down e) (near-exact s t m n e d h .1))
+      (low-cross (m * up e) (n * up d) (down d) (down e) (h .1))
 
   high-near : T (le (fin false m e ⊞ reach) (fin false n d ⊞ farReach))
   unfolding add sum ofBits
   high-near =
       round-mono binary64 (m * up e * 2 ^ 49 + 1 * 1 * down e) (down e * 2 ^ 49) (n * up d * 2 ^ 48 + 1 * 1 * down d) (down d * 2 ^ 48)
       (mul-pos (down-pos e) (pow-pos 49)) (mul-pos (down-pos d) (pow-pos 48))
-      (high-cross (m * up e) (n * up d) (down d) (down e) (near-exact s t m n e d h .0))
+      (high-cross (m * up e) (n * up d) (down d) (down e) (h .0))
 
 -- ---- values that are not below 0
 abbrev Up : Float → Type 0
@@ -318,23 +320,44 @@ near-inf s m e true h = false≢true h
 near-inf s m e false h = false≢true h
 
 -- so a float that is near x, and x within the grid, have one place
-pub near-place : (v x : Float) → narrowOf x ≡ true → nearOf v x ≡ true → midOf v ≡ lowOf x
+close-place : (s t : Bool) (m n : ℕ) (e d : ℤ) → narrowOf (fin t n d) ≡ true → Close m e n d → midOf (fin s m e) ≡ lowOf (fin t n d)
 unfolding narrowOf
+close-place s t m n e d k h =
+    let a = eq (lowOf (fin t n d)) (highOf (fin t n d)) in
+    let b = le (highOf (fin t n d)) large in
+    between (fin false n d ⊞ B.zero) (fin false m e ⊞ reach) (fin false n d ⊞ farReach) (up-zero n d) (up-reach m e) (up-twice n d) (low-near m n e d h) (high-near m n e d h)
+    (and-left a b k) (and-right a b k)
+
+pub near-place : (v x : Float) → narrowOf x ≡ true → nearOf v x ≡ true → midOf v ≡ lowOf x
 near-place nan x k h = absurd (nan-near x h)
 near-place (inf s) x k h = absurd (inf-near s x h)
 near-place (fin s m e) nan k h = absurd (near-nan s m e h)
 near-place (fin s m e) (inf t) k h = absurd (near-inf s m e t h)
-near-place (fin s m e) (fin t n d) k h =
-    let a = eq (lowOf (fin t n d)) (highOf (fin t n d)) in
-    let b = le (highOf (fin t n d)) large in
-    between (fin false n d ⊞ B.zero) (fin false m e ⊞ reach) (fin false n d ⊞ farReach) (up-zero n d) (up-reach m e) (up-twice n d) (low-near s t m n e d h) (high-near s t m n e d h)
-    (and-left a b k) (and-right a b k)
+near-place (fin s m e) (fin t n d) k h = close-place s t m n e d k (near-exact s t m n e d h)
 
--- and so one bucket
-pub near-bucket : (h : ℕ) (v p : Point) → narrowOf (p .x) ≡ true → narrowOf (p .y) ≡ true → nearPt v p ≡ true → bucketBy h (midOf (v .x)) (midOf (v .y)) ≡ bucketBy h (lowOf (p .x)) (lowOf (p .y))
-unfolding nearPt
-near-bucket h v p a b q = go (nearOf (v .x) (p .x)) refl q
+nan-broad : narrowOf nan ≡ true → ⊥
+unfolding narrowOf eq add
+nan-broad h = false≢true h
+
+inf-broad : (s : Bool) → narrowOf (inf s) ≡ true → ⊥
+unfolding narrowOf le lt eq add ofBits
+inf-broad true h = false≢true h
+inf-broad false h = false≢true h
+
+-- and so has x itself
+pub own-place : (x : Float) → narrowOf x ≡ true → midOf x ≡ lowOf x
+own-place nan k = absurd (nan-broad k)
+own-place (inf s) k = absurd (inf-broad s k)
+own-place (fin s m e) k = let a = m * up e * down e * 2 ^ 49 in let c = down e * down e in close-place s s m m e e k (le-add a c, le-add a c)
   where
-    go : (n : Bool) → nearOf (v .x) (p .x) ≡ n → pick n (λ _. nearOf (v .y) (p .y)) (λ _. false) ≡ true → bucketBy h (midOf (v .x)) (midOf (v .y)) ≡ bucketBy h (lowOf (p .x)) (lowOf (p .y))
-    go true e k = rw (near-place (v .x) (p .x) a e, near-place (v .y) (p .y) b k)
+    le-add : (a c : ℕ) → a ≤ a + c
+    le-add a c = omega arith
+
+-- so what is near p belongs where p does
+pub near-places : (v p : Point) → narrowOf (p .x) ≡ true → narrowOf (p .y) ≡ true → nearPt v p ≡ true → (midOf (v .x) ≡ midOf (p .x)) × (midOf (v .y) ≡ midOf (p .y))
+unfolding nearPt
+near-places v p a b q = go (nearOf (v .x) (p .x)) refl q
+  where
+    go : (n : Bool) → nearOf (v .x) (p .x) ≡ n → pick n (λ _. nearOf (v .y) (p .y)) (λ _. false) ≡ true → (midOf (v .x) ≡ midOf (p .x)) × (midOf (v .y) ≡ midOf (p .y))
+    go true e k = (near-place (v .x) (p .x) a e ∙ sym (own-place (p .x) a), near-place (v .y) (p .y) b k ∙ sym (own-place (p .y) b))
     go false e k = absurd (false≢true k)

@@ -48,15 +48,9 @@ mark-hulls-requires c κs =
 
 clip-rest-requires : tie.Need-clip-rest-requires
 clip-rest-requires c κs =
-    let k = c .before .before .before in
-    let o = Outside k in
-    let e = Went o in
+    let e = Went (Outside (c .before .before .before)) in
     let h = Hulls e in
-    let m = o .mark-outside .ensures (Entry h .pre .1) in
-    let w = k .mark-hulls .ensures (m .0) in (
-      Entry h .args .hull .now,
-      cells-amid (Planned h) _ _ _ _ _ _ (h .clip-hull .ensures) (e .if1 .left) _ (w .told) (λ i l z. w .stay (Entries h i) (m .1 i l z)) (Entry h .pre .0),
-    )
+    (Entry h .args .hull .now, cells-amid (Planned h) _ _ _ _ _ _ (h .clip-hull .ensures) (e .if1 .left) (Entry h .pre .0))
 
 -- the slices keep their lengths, in the hull's tries and in the rest's
 abbrev First : tie.After-clip-rest → tie.Else1

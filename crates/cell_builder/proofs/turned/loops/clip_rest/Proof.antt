@@ -26,20 +26,20 @@ abbrev μ-loop : tie.MeasureT-loop
 abbrev Entry : tie.At-loop Inv-loop μ-loop → tie.Start Inv-loop μ-loop
 Entry l = l .before .before .before .before .before .before .before .before
 
-abbrev Loop : tie.After-clip-at-edge Inv-loop μ-loop → tie.At-loop Inv-loop μ-loop
+abbrev Loop : tie.After-clip-due Inv-loop μ-loop → tie.At-loop Inv-loop μ-loop
 Loop t = t .before .before .before .before
 
 next-due-requires : tie.Need-next-due-requires Inv-loop μ-loop
-next-due-requires c κs = let s = c .before .before .before .before .before .before in (edges-entries _ _ _ _ _ (s .pre .1), omega arith)
+next-due-requires c κs = let s = c .before .before .before .before .before .before in (edges-entries _ _ _ _ (s .pre .1), omega arith)
 
 loop-holds : tie.Need-loop-holds Inv-loop μ-loop
 loop-holds c = (refl, refl, λ hull. edges-first _ _ _ _ _ _ (c .next-due .ensures), c .next-due .ensures .due, c .next-due .ensures .high)
 
-clip-at-edge-requires : tie.Need-clip-at-edge-requires Inv-loop μ-loop
-clip-at-edge-requires c κs =
+clip-due-requires : tie.Need-clip-due-requires Inv-loop μ-loop
+clip-due-requires c κs =
     let l = c .before .before .before in
     let s = Entry l in
-    (c .before .before .loop-test .taken, s .pre .0, s .args .table .now, edges-amid _ _ _ _ _ _ _ _ _ (l .loop .inv .2 (s .pre .0)) (s .pre .1))
+    (c .before .before .loop-test .taken, s .pre .0, edges-amid _ _ _ _ _ _ _ _ _ (l .loop .inv .2 (s .pre .0)) (s .pre .1))
 
 same-length : tie.Need-same-length Inv-loop μ-loop
 same-length c = let v = c .before .before .before .before .before .before in v .vertices .given ∙ Loop (v .before) .loop .inv .0
@@ -52,7 +52,7 @@ returns c =
     let t = c .before .before .before .before .before .before .before in
     let l = Loop t in
     let h = t .before .before .before .loop-test .taken in
-    λ hull. edges-refused _ _ _ _ _ _ _ _ _ (l .loop .inv .2 hull) h _ _ _ (t .clip-at-edge .ensures hull (Entry l .args .table .now))
+    λ hull. edges-refused _ _ _ _ _ _ _ _ _ (l .loop .inv .2 hull) h _ _ _ (t .clip-due .ensures hull)
     (tried-fits _ _ _ _ _ _ h (l .loop .inv .3 h)) (c .if1 .taken)
 
 add-next-due : tie.Need-add-next-due Inv-loop μ-loop
@@ -63,7 +63,7 @@ add-next-due c =
 next-due-requires-2 : tie.Need-next-due-requires-2 Inv-loop μ-loop
 next-due-requires-2 c κs =
     let t = c .before .before .before .before .before .before .before in
-    (edges-entries _ _ _ _ _ (Entry (Loop t) .pre .1), omega (arith, t .before .before .before .loop-test .taken))
+    (edges-entries _ _ _ _ (Entry (Loop t) .pre .1), omega (arith, t .before .before .before .loop-test .taken))
 
 loop-less : tie.Need-loop-less Inv-loop μ-loop
 loop-less c =
@@ -83,7 +83,7 @@ loop-again c =
       v .vertices .given ∙ l .loop .inv .0,
       x .indexes .given ∙ l .loop .inv .1,
       λ hull. edges-pass _ _ _ _ _ _ _ _ _ _ n
-          (edges-step _ _ _ _ _ _ _ _ _ (l .loop .inv .2 hull) h _ _ _ (t .clip-at-edge .ensures hull (Entry l .args .table .now))
+          (edges-step _ _ _ _ _ _ _ _ _ (l .loop .inv .2 hull) h _ _ _ (t .clip-due .ensures hull)
           (tried-fits _ _ _ _ _ _ h (l .loop .inv .3 h)) (o .if1 .left)),
       n .due,
       n .high,
@@ -101,5 +101,5 @@ returns-2 c = let l = c .before in λ hull. edges-end _ _ _ _ _ _ _ _ _ (l .loop
 pub clip-rest-spec : {M : Type 1} → statement M
 clip-rest-spec =
     tie.close
-    (tie.spec Inv-loop μ-loop next-due-requires loop-holds clip-at-edge-requires same-length same-length-2 returns add-next-due next-due-requires-2 loop-less
+    (tie.spec Inv-loop μ-loop next-due-requires loop-holds clip-due-requires same-length same-length-2 returns add-next-due next-due-requires-2 loop-less
     loop-again same-length-3 same-length-4 returns-2)

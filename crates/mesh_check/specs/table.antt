@@ -1,0 +1,3 @@
+-- The leftmost table.
+pub mod Filled
+pub mod laws
