@@ -28,7 +28,7 @@ use plane::boxes::BoundingBox;
 use plane::given::Given;
 
 // Nothing; the ring of a site folds; a corner of a site's piece is outside; it is nearer to another site; the total is not the box's; a site stands where one before it does.
-#[derive(Drop)]
+#[derive(Clone, Copy)]
 pub enum AuditVerdict {
     Sound,
     Ring(u32),
@@ -38,13 +38,13 @@ pub enum AuditVerdict {
     Twin(u32, u32),
 }
 
-#[derive(Drop)]
+#[derive(Clone, Copy)]
 pub struct AuditJudgement {
     pub verdict: AuditVerdict,
     pub missing: f64,
 }
 
-#[derive(Drop)]
+#[derive(Clone, Copy)]
 pub struct AuditNumbers {
     pub number: u32,
     pub kind: u32,

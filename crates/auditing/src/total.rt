@@ -74,7 +74,7 @@ fn within(limit: &[u64], plus: &[u64], minus: &[u64]) -> bool
     !less(limit, &a) & !less(limit, &b)
 }
 
-#[derive(Drop)]
+#[derive(Clone, Copy)]
 pub struct Share {
     pub whole: bool,
     pub missing: f64,

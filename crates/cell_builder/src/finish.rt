@@ -13,7 +13,7 @@ use walks::shared::holds;
 
 // How far the build is: the number of vertices, the owners of corners not yet wrapped, the points taken again, and its fault, whose number is 0 where there is none.
 // The fault stands last, as the short fields of `clipping::Changed` do.
-#[derive(Drop)]
+#[derive(Clone, Copy)]
 pub struct Progress {
     pub count: usize,
     pub owners: [u32; 4],
@@ -22,7 +22,7 @@ pub struct Progress {
 }
 
 // A build's answer beside the slices: the fault, the number of vertices, the owners as found, the lost corners, the points taken again.
-#[derive(Drop)]
+#[derive(Clone, Copy)]
 pub struct CellsAnswer {
     pub fault: Fault,
     pub count: usize,
@@ -32,7 +32,7 @@ pub struct CellsAnswer {
 }
 
 // The answer, and whether every fan was seen to be whole.
-#[derive(Drop)]
+#[derive(Clone, Copy)]
 pub struct Finished {
     pub answer: CellsAnswer,
     pub whole: bool,

@@ -91,7 +91,7 @@ fn walk_round(halfedges: &[u32], indexes: &mut [u32], at: usize, end: usize, t: 
 }
 
 // The place after a cell, and how long the walk of its site is, or 0 where that is not known.
-#[derive(Drop)]
+#[derive(Clone, Copy)]
 struct PutCell {
     end: usize,
     steps: usize,
@@ -167,7 +167,7 @@ fn crowd_of(owners: [u32; 4]) -> u32
 }
 
 // How many entries all cells have, and how long the walks of all sites are together, as far as that is known.
-#[derive(Drop)]
+#[derive(Clone, Copy)]
 pub struct PutCells {
     pub used: usize,
     pub steps: usize,

@@ -34,7 +34,7 @@ pub fn cell<'a>(offsets: &[u32], indexes: &'a [u32], site: u32, number: &mut u32
 }
 
 // Where the cell stands: a number, where it starts and how long it is, 0 and 0 where it is refused.
-#[derive(Drop)]
+#[derive(Clone, Copy)]
 pub struct CellPlace {
     pub number: u32,
     pub start: u32,
@@ -63,7 +63,7 @@ pub fn place(offsets: &[u32], indexes: &[u32], site: u32) -> CellPlace
 }
 
 // A number, and an answer.
-#[derive(Drop)]
+#[derive(Clone, Copy)]
 pub struct Told {
     pub number: u32,
     pub yes: bool,

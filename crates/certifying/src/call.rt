@@ -21,7 +21,7 @@ use plane::given::Given;
 
 // Nothing; a corner of a site's piece is outside; a side of it comes more often than the same side back; the corner of the box is not left once; a corner is nearer to another site;
 // a site stands where one before it does.
-#[derive(Drop)]
+#[derive(Clone, Copy)]
 pub enum CertifyVerdict {
     Certified,
     Outside(u32, u32),
@@ -317,7 +317,7 @@ fn other_of(v: CertifyVerdict) -> u32
     }
 }
 
-#[derive(Drop)]
+#[derive(Clone, Copy)]
 pub struct CertifyNumbers {
     pub number: u32,
     pub kind: u32,

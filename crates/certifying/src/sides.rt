@@ -15,14 +15,14 @@ use plane::boxes::BoundingBox;
 use plane::points::{Point, point_at};
 
 // Two places of a side.
-#[derive(Drop)]
+#[derive(Clone, Copy)]
 pub struct SideEnds {
     pub from: Point,
     pub to: Point,
 }
 
 // How many sides run one way, and how many the other.
-#[derive(Drop)]
+#[derive(Clone, Copy)]
 struct Ways {
     there: usize,
     back: usize,

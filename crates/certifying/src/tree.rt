@@ -17,7 +17,7 @@ use base::numbers::wide;
 use plane::points::{Point, point_at};
 
 // The sites of least and of greatest coordinates.
-#[derive(Drop)]
+#[derive(Clone, Copy)]
 struct Extremes {
     left: u32,
     top: u32,

@@ -10,7 +10,7 @@ ghost use Rattle.certifying.specs.windows.Windows.{lesser_of, most_of, clear_of,
 use base::numbers::wide;
 use plane::points::{Point, coordinate_ok, point_at};
 
-#[derive(Drop)]
+#[derive(Clone, Copy)]
 pub struct Window {
     pub left: f64,
     pub top: f64,

@@ -14,7 +14,7 @@ use plane::sides::which_edge;
 use vertices::vertex;
 
 // A cell as far as it is written: the owners left, the place after its last entry, and that entry, EMPTY where there is none.
-#[derive(Drop)]
+#[derive(Clone, Copy)]
 pub struct CellSoFar {
     pub owners: [u32; 4],
     pub end: usize,

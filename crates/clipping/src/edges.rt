@@ -16,7 +16,7 @@ use plane::rays::{order_points_on_ray, project_ray};
 use vertices::{add_at, vertex};
 
 // What stays while one cell is clipped: the box, the number of circumcenters, where the store's part of the index list begins, and the cell's site.
-#[derive(Drop)]
+#[derive(Clone, Copy)]
 pub struct Env {
     pub bounds: BoundingBox,
     pub centers: usize,
@@ -25,7 +25,7 @@ pub struct Env {
 }
 
 // The vertices where an edge crosses the box, how many vertices there are then, and which of the crossings took one again.
-#[derive(Drop)]
+#[derive(Clone, Copy)]
 pub enum Crossed {
     Missed,
     Once(u32, usize, Reused),

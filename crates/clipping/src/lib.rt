@@ -11,7 +11,7 @@ pub mod ring; // ring.rt: the whole ring
 
 // What one edge of the ring gives: the cell, the vertices' count, the points taken again, a refusal or 0, and whether the cell is open.
 // The short fields stand last, here and in `Env`: between others they leave a gap, and what is copied with it is read before it is written whole.
-#[derive(Drop)]
+#[derive(Clone, Copy)]
 pub struct Changed {
     pub cell: CellSoFar,
     pub count: usize,
@@ -21,7 +21,7 @@ pub struct Changed {
 }
 
 // Where the ring's walk stands: the cell, the vertices' count, the ring's vertex, whether that is inside, whether the cell is open.
-#[derive(Drop)]
+#[derive(Clone, Copy)]
 pub struct Tip {
     pub cell: CellSoFar,
     pub count: usize,
@@ -31,7 +31,7 @@ pub struct Tip {
 }
 
 // Where some edges of the ring lead, and the points that they took again; its fault's number is 0 where they refuse nothing.
-#[derive(Drop)]
+#[derive(Clone, Copy)]
 pub struct RingStepped {
     pub fault: Fault,
     pub tip: Tip,

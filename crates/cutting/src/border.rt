@@ -14,7 +14,7 @@ use plane::points::Point;
 pub const REFUSED_BORDER: u32 = 25;
 
 // How often the border comes in over the upper end of the left side, and how often it goes out there.
-#[derive(Drop)]
+#[derive(Clone, Copy)]
 pub struct Turns {
     pub comes: usize,
     pub goes: usize,

@@ -6,7 +6,7 @@ use plane::boxes::BoundingBox;
 use plane::points::Point;
 
 // The sides in the order of the cuts.
-#[derive(Drop)]
+#[derive(Clone, Copy)]
 pub enum SideName {
     Left,
     Top,
@@ -15,7 +15,7 @@ pub enum SideName {
 }
 
 // A place, the center of a triangle's circle with the triangle's number, or a corner at infinity: the direction, and a place on the line that runs there.
-#[derive(Drop)]
+#[derive(Clone, Copy)]
 pub struct Corner {
     pub place: Point,
     pub far: bool,
@@ -24,7 +24,7 @@ pub struct Corner {
 }
 
 // What an edge lies on: the bisector of two sites, the lower number first, a side, or the line at infinity.
-#[derive(Drop)]
+#[derive(Clone, Copy)]
 pub enum Carrier {
     Bisector(u32, u32),
     Along(SideName),

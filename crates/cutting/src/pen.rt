@@ -9,7 +9,7 @@ use plane::boxes::BoundingBox;
 use plane::points::Point;
 
 // Where the next entry goes, how many vertices there are, and of the ring that is being written whether it has any place yet, its first and its last.
-#[derive(Drop)]
+#[derive(Clone, Copy)]
 pub struct Pen {
     pub at: usize,
     pub count: usize,

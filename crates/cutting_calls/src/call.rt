@@ -17,7 +17,7 @@ use plane::boxes::BoundingBox;
 use plane::given::Given;
 
 // The number, and how many vertices there are.
-#[derive(Drop)]
+#[derive(Clone, Copy)]
 pub struct CutDone {
     pub number: u32,
     pub count: u32,

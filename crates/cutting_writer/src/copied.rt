@@ -16,7 +16,7 @@ use plane::points::{Point, point_at};
 use plane::sides::is_inside;
 
 // Whether a walk came back as expected, wholly in the box and with no place twice in a row; and the first and the last of its places.
-#[derive(Drop)]
+#[derive(Clone, Copy)]
 pub struct Lap {
     pub whole: bool,
     pub first: Point,
@@ -24,7 +24,7 @@ pub struct Lap {
 }
 
 // Whether a step was as expected; the half-edge that it came to, and its place.
-#[derive(Drop)]
+#[derive(Clone, Copy)]
 pub struct Step {
     pub going: bool,
     pub e: u32,
@@ -32,7 +32,7 @@ pub struct Step {
 }
 
 // The same from both ends: e was come to by a step on, f by a step back.
-#[derive(Drop)]
+#[derive(Clone, Copy)]
 pub struct TwoEnds {
     pub going: bool,
     pub e: u32,
@@ -42,7 +42,7 @@ pub struct TwoEnds {
 }
 
 // Whether a ring was copied, and the pen after it.
-#[derive(Drop)]
+#[derive(Clone, Copy)]
 pub struct CopiedRing {
     pub done: bool,
     pub pen: Pen,

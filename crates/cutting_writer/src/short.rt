@@ -24,14 +24,14 @@ use mesh::next_halfedge;
 use plane::boxes::BoundingBox;
 
 // Where a ring lies: in `count` slots from `from` on, where a half begins. More than a half holds: it has no room.
-#[derive(Drop)]
+#[derive(Clone, Copy)]
 pub struct Lying {
     pub from: usize,
     pub count: usize,
 }
 
 // How many slots a walk has filled, and its last half-edge.
-#[derive(Drop)]
+#[derive(Clone, Copy)]
 pub struct SlotTrail {
     pub count: usize,
     pub last: u32,

@@ -21,7 +21,7 @@ use mesh::next_halfedge;
 use plane::boxes::BoundingBox;
 
 // Where the walk is: the four sides, the half-edge that comes, and the last one that came.
-#[derive(Drop)]
+#[derive(Clone, Copy)]
 pub struct Walk {
     pub stage: LeftStage,
     pub e: u32,

@@ -16,14 +16,14 @@ use plane::boxes::BoundingBox;
 use plane::points::Point;
 
 // A corner, and what the edge from it on lies on.
-#[derive(Drop)]
+#[derive(Clone, Copy)]
 pub struct Spot {
     pub corner: Corner,
     pub on: Carrier,
 }
 
 // What is left of an edge.
-#[derive(Drop)]
+#[derive(Clone, Copy)]
 pub enum Part {
     None,
     One(Spot),
@@ -31,32 +31,32 @@ pub enum Part {
 }
 
 // Whether any corner came, the first of them, and the last.
-#[derive(Drop)]
+#[derive(Clone, Copy)]
 pub struct Held {
     pub any: bool,
     pub first: Corner,
     pub last: Spot,
 }
 
-#[derive(Drop)]
+#[derive(Clone, Copy)]
 pub struct BottomStage {
     pub held: Held,
     pub next: Pen,
 }
 
-#[derive(Drop)]
+#[derive(Clone, Copy)]
 pub struct RightStage {
     pub held: Held,
     pub next: BottomStage,
 }
 
-#[derive(Drop)]
+#[derive(Clone, Copy)]
 pub struct TopStage {
     pub held: Held,
     pub next: RightStage,
 }
 
-#[derive(Drop)]
+#[derive(Clone, Copy)]
 pub struct LeftStage {
     pub held: Held,
     pub next: TopStage,

@@ -2,7 +2,7 @@
 
 // Why a build is refused. `number` is the refusal's, `place` the triangle for 11, the hull edge's first hull place
 // for 12 and the cell for 13 and 14; `from` and `to` are then the edge's two vertices, and 0 for 11 and 12.
-#[derive(Drop)]
+#[derive(Clone, Copy)]
 pub struct Fault {
     pub number: u32,
     pub place: u32,
@@ -11,7 +11,7 @@ pub struct Fault {
 }
 
 // How often a vertex was taken again where a point was to be added: as an extension, as the first or the second crossing of an edge.
-#[derive(Drop)]
+#[derive(Clone, Copy)]
 pub struct Reused {
     pub extensions: usize,
     pub firsts: usize,

@@ -9,7 +9,7 @@ ghost use Rattle.flipping.specs.Flip.{before_of};
 
 // Four sites, or the table's entries of four sites: of the two that lose a half-edge, where a and b start, then of the two that gain one, where r and
 // l start.
-#[derive(Drop)]
+#[derive(Clone, Copy)]
 pub struct Four {
     pub first: u32,
     pub second: u32,

@@ -6,7 +6,7 @@ ghost use Rattle.form.specs.mesh.Read.{MeshRoom, mesh_parts, MeshRead};
 use crate::step::Form;
 use plane::given::Given;
 
-#[derive(Drop)]
+#[derive(Clone, Copy)]
 pub struct MeshParts {
     // 0, or the number of the refusal: then the lists are not filled
     pub number: u32,

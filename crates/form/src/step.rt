@@ -12,7 +12,7 @@ const TOP_BYTE: u64 = 0x100_0000_0000_0000;
 const EDGES_SIZE: u64 = 32;
 
 // What is known between two bytes. All but the flag in words of 64 bits, so that it can be kept as such between two calls.
-#[derive(Drop)]
+#[derive(Clone, Copy)]
 pub struct Reader {
     // whether a form may begin with kind 6, as forms of old did: set at the start, and it stays
     pub old: bool,
@@ -34,7 +34,7 @@ pub struct Reader {
     pub hull: u64,
 }
 
-#[derive(Drop)]
+#[derive(Clone, Copy)]
 pub enum Form {
     Sound {
         sites: usize,

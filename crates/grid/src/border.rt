@@ -13,7 +13,7 @@ use base::numbers::wide;
 use mesh::next_place;
 
 // The short form holds; or the hull place where it fails.
-#[derive(Drop)]
+#[derive(Clone, Copy)]
 pub enum HullVerdict {
     Convex,
     Place(u32),

@@ -12,7 +12,7 @@ ghost use Rattle.grid.specs.Plane.{Within, place_at, WithinAt, SiteAt, turns_lef
 ghost use Rattle.grid.specs.Raised.{up, raised_of, area_of, lift_of, level_of, Low, Small};
 
 // A place moved up by 8,192 in both coordinates, and its height x² + y².
-#[derive(Drop)]
+#[derive(Clone, Copy)]
 pub struct Raised {
     pub x: u64,
     pub y: u64,
@@ -20,7 +20,7 @@ pub struct Raised {
 }
 
 // A number with a sign: what is added, and what is taken off.
-#[derive(Drop)]
+#[derive(Clone, Copy)]
 pub struct Signed {
     pub plus: u64,
     pub minus: u64,

@@ -14,7 +14,7 @@ use crate::scan::GridAnswer;
 use base::numbers::EMPTY;
 
 // Everything holds; or what the check on the grid names; or, where that holds, the hull place where the short form fails; or a refusal with its number.
-#[derive(Drop)]
+#[derive(Clone, Copy)]
 pub enum NearestAnswer {
     Nearest,
     Triangle(u32),

@@ -14,7 +14,7 @@ use mesh::{end_site, next_halfedge};
 
 // Everything holds; or the lowest triangle that does not turn as it must; or, where all do, the lowest half-edge whose far site is inside the circle; or
 // a refusal with its number.
-#[derive(Drop)]
+#[derive(Clone, Copy)]
 pub enum GridAnswer {
     Good,
     Triangle(u32),

@@ -21,7 +21,7 @@ use libc::{STDERR_FILENO, STDIN_FILENO, STDOUT_FILENO};
 const CHANGES: usize = 3 * (LINKS + HULL);
 
 // What the arguments ask for.
-#[derive(Drop)]
+#[derive(Clone, Copy)]
 pub enum Way {
     // the changes, or the mended mesh as a form; with a box given or without
     Print { form: bool, boxed: bool },

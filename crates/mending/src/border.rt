@@ -126,7 +126,7 @@ fn trace_hull(
 }
 
 // A number, and how many sites the hull has.
-#[derive(Drop)]
+#[derive(Clone, Copy)]
 pub struct Traced {
     pub number: u32,
     pub count: usize,

@@ -18,7 +18,7 @@ use crate::slices::{clear_all, list_both};
 use mesh_check::pairing::check_triangles;
 
 // A number, the hull's length, and how many entries of the pairs and of the hull have changed.
-#[derive(Drop)]
+#[derive(Clone, Copy)]
 pub struct Mended {
     pub number: u32,
     pub hull: u32,

@@ -19,7 +19,7 @@ pub fn clear_all(work: &mut [u32], pairs: &mut [u32], hull: &mut [u32], changes:
 }
 
 // Two counts.
-#[derive(Drop)]
+#[derive(Clone, Copy)]
 pub struct Two {
     pub first: usize,
     pub then: usize,

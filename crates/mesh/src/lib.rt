@@ -7,7 +7,7 @@ ghost use Rattle.mesh.specs.Mesh.{next_of, end_of, turn_of, whole_of, Walks};
 use base::numbers::{EMPTY, wide};
 
 // What a check finds wrong with a mesh, and the lowest site, triangle, half-edge or hull place that has the fault.
-#[derive(Drop)]
+#[derive(Clone, Copy)]
 pub enum MeshFault {
     None,
     Counts,
@@ -74,7 +74,7 @@ pub fn turn(halfedges: &[u32], s: u32, e: usize) -> u32
     p
 }
 
-#[derive(Drop)]
+#[derive(Clone, Copy)]
 pub struct Walked {
     pub count: usize,
     pub ended: bool,

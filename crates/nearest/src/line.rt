@@ -7,7 +7,7 @@ use printing::parts::labelled;
 
 // Every walk ends at a nearest site; or what offends; or a site that no walk reaches; or the lowest corner of the box that is no admitted destination; or the lowest
 // site that is not on the grid; or a refusal.
-#[derive(Drop)]
+#[derive(Clone, Copy)]
 pub enum NearestLine {
     Nearest,
     Triangle(u32),

@@ -5,7 +5,7 @@ ghost use Rattle.plane.specs.boxes.Rules.{ok_box};
 
 use crate::points::{Point, site_ok};
 
-#[derive(Drop)]
+#[derive(Clone, Copy)]
 pub struct BoundingBox {
     pub center: Point,
     pub left: f64,

@@ -6,7 +6,7 @@ ghost use Rattle.plane.specs.centers.Centroid.{point_sum, mean_of, centroid_answ
 use crate::points::{Point, first_bad_site, site_ok};
 
 // A point, or the number of a refusal.
-#[derive(Drop)]
+#[derive(Clone, Copy)]
 pub enum Center {
     Refused(u32),
     At(Point),

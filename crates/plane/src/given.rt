@@ -7,7 +7,7 @@ use crate::boxes::{BoundingBox, box_ok};
 use crate::points::Point;
 
 // sound: the box keeps rule 3.
-#[derive(Drop)]
+#[derive(Clone, Copy)]
 pub struct Given {
     pub sound: bool,
     pub bounds: BoundingBox,

@@ -8,7 +8,7 @@ ghost use Rattle.plane.specs.points.Sites.{KeptAt};
 
 use crate::choose;
 
-#[derive(Drop)]
+#[derive(Clone, Copy)]
 pub struct Point {
     pub x: f64,
     pub y: f64,

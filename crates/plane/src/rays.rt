@@ -111,7 +111,7 @@ fn values_of(c: Crossing) -> [f64; 4]
 }
 
 // What a line or a ray meets, or the number of a refusal: the box's, or a coordinate's of a point.
-#[derive(Drop)]
+#[derive(Clone, Copy)]
 pub enum Meeting {
     Refused(u32),
     Met(Crossing),

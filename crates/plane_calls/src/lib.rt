@@ -61,7 +61,7 @@ pub fn abs_diff_eq(a: f64, b: f64) -> u32
     yes(plane::points::abs_diff_eq(a, b))
 }
 
-#[derive(Drop)]
+#[derive(Clone, Copy)]
 pub struct Distance {
     pub number: u32,
     pub value: f64,
@@ -79,7 +79,7 @@ pub fn dist2(a: Point, b: Point) -> Distance
     }
 }
 
-#[derive(Drop)]
+#[derive(Clone, Copy)]
 pub struct Spot {
     pub number: u32,
     pub x: f64,
@@ -114,7 +114,7 @@ pub fn centroid(points: &[f64]) -> Spot
     }
 }
 
-#[derive(Drop)]
+#[derive(Clone, Copy)]
 pub struct BoxEdges {
     pub number: u32,
     pub left: f64,
@@ -148,7 +148,7 @@ pub fn box_edges(given: Given) -> BoxEdges
     }
 }
 
-#[derive(Drop)]
+#[derive(Clone, Copy)]
 pub struct BoxCenter {
     pub number: u32,
     pub x: f64,
@@ -206,7 +206,7 @@ pub fn corners(given: Given, out: &mut [f64]) -> u32
     0
 }
 
-#[derive(Drop)]
+#[derive(Clone, Copy)]
 pub struct Verdict {
     pub number: u32,
     pub yes: u32,
@@ -236,7 +236,7 @@ pub fn is_exclusively_inside(given: Given, p: Point) -> Verdict
     }
 }
 
-#[derive(Drop)]
+#[derive(Clone, Copy)]
 pub struct OnSide {
     pub number: u32,
     pub side: u32,
@@ -257,7 +257,7 @@ pub fn which_edge(given: Given, p: Point) -> OnSide
     }
 }
 
-#[derive(Drop)]
+#[derive(Clone, Copy)]
 pub struct Met {
     pub number: u32,
     pub count: u32,

@@ -14,7 +14,7 @@ use mesh::Walked;
 use walks::neighbours::{Cursor, Stepped, step};
 
 // How a neighbour that comes is judged: it counts; it is the first and dropped, so the next is asked for; it is the last and dropped.
-#[derive(Drop)]
+#[derive(Clone, Copy)]
 enum Judgement {
     Counts,
     Dropped,

@@ -15,7 +15,7 @@ use mesh::Walked;
 use plane::points::Point;
 
 // A number; how many entries of a list were written; whether the last one written ends it.
-#[derive(Drop)]
+#[derive(Clone, Copy)]
 pub struct Listed {
     pub number: u32,
     pub count: u32,
@@ -142,7 +142,7 @@ pub fn clipped_neighbours(
 }
 
 // A number, and a half-edge or `EMPTY`.
-#[derive(Drop)]
+#[derive(Clone, Copy)]
 pub struct Found {
     pub number: u32,
     pub edge: u32,

@@ -10,14 +10,14 @@ use form::step::Reader;
 const NOWHERE: u64 = 0xffff_ffff_ffff_ffff;
 
 // A number and the byte that it is given at.
-#[derive(Drop)]
+#[derive(Clone, Copy)]
 pub struct Answer {
     pub number: u32,
     pub at: u64,
 }
 
 // The same with the kind that opened the form, and how many sites, triangles and hull sites it has.
-#[derive(Drop)]
+#[derive(Clone, Copy)]
 pub struct Report {
     pub number: u32,
     pub at: u64,

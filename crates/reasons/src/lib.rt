@@ -13,7 +13,7 @@ use mesh::MeshFault;
 
 // Nothing wrong; a refusal's number alone; a refusal with its site, triangle, half-edge or hull place; with the cell and the ring edge's two vertices;
 // an empty cell whose site is in no triangle, or whose every try gave nothing; a dropped neighbour: the two sites and how many entries they share.
-#[derive(Drop)]
+#[derive(Clone, Copy)]
 pub enum Reason {
     NoFault,
     Number(u32),
@@ -28,7 +28,7 @@ pub enum Reason {
 }
 
 // Nothing, the cell of a site, or the second of two sites as a neighbour of the first.
-#[derive(Drop)]
+#[derive(Clone, Copy)]
 pub enum Question {
     Nothing,
     About(u32),
@@ -36,7 +36,7 @@ pub enum Question {
 }
 
 // A reason as numbers: the refusal's, 0 where nothing is refused, the kind, and the places, `EMPTY` where the kind has none.
-#[derive(Drop)]
+#[derive(Clone, Copy)]
 pub struct ReasonNumbers {
     pub number: u32,
     pub kind: u32,

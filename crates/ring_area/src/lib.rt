@@ -25,7 +25,7 @@ use root::whole_root::LEAD;
 pub const LIMBS: usize = 94;
 
 // m * 2^p units of 2^-1074
-#[derive(Drop)]
+#[derive(Clone, Copy)]
 pub struct Significand {
     pub m: u64,
     pub p: usize,

@@ -76,7 +76,7 @@ fn pair(limbs: &[u64], from: usize, i: usize) -> u64
 }
 
 // What is left of the number without its lowest t bits, and whether these are all 0.
-#[derive(Drop)]
+#[derive(Clone, Copy)]
 struct LeadingPart {
     whole: u64,
     exact: bool,

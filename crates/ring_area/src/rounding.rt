@@ -121,7 +121,7 @@ fn higher(a: usize, b: usize) -> usize
 }
 
 // The least and the greatest exponent of coordinates that are not 0.
-#[derive(Drop)]
+#[derive(Clone, Copy)]
 struct Exponents {
     least: usize,
     most: usize,

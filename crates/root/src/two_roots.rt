@@ -7,7 +7,7 @@ ghost use Rattle.root.specs.two_roots.Slip.{next_slip, rounded_slip, SlipRoom};
 use crate::whole_root::LEAD;
 
 // What stands between two turns.
-#[derive(Drop)]
+#[derive(Clone, Copy)]
 pub struct Slip {
     // twice the root so far
     pub twice: u64,
@@ -44,7 +44,7 @@ fn rounded(r: Slip) -> u64
 }
 
 // Two whole numbers, or two patterns.
-#[derive(Drop)]
+#[derive(Clone, Copy)]
 pub struct TwoWhole {
     pub first: u64,
     pub second: u64,

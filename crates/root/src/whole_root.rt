@@ -7,7 +7,7 @@ ghost use Rattle.root.specs.whole_root.Turn.{brought_down, settled, next_page, N
 pub const LEAD: u64 = 0x10_0000_0000_0000;
 
 // What stands on the page between two turns.
-#[derive(Drop)]
+#[derive(Clone, Copy)]
 pub struct Page {
     // the root of the pairs of digits brought down so far
     pub root: u64,

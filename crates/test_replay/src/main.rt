@@ -21,7 +21,7 @@ const REFUSED: u32 = 1;
 
 const DIFFERENT: u32 = 2;
 
-#[derive(Drop)]
+#[derive(Clone, Copy)]
 struct Tally {
     built: u32,
     refused: u32,

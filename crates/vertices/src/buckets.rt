@@ -20,7 +20,7 @@ const TWICE: f64 = 3.552713678800501e-15;
 const SHIFT: f64 = 2097152.0;
 
 // Where a point belongs: its bucket, the digit of an entry that is its mark, and whether all that is near it has both.
-#[derive(Drop)]
+#[derive(Clone, Copy)]
 pub struct Home {
     pub bucket: usize,
     pub mark: usize,

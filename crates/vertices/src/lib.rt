@@ -14,7 +14,7 @@ use crate::buckets::{Home, empty, find, heads_in, home_of, insert};
 use plane::points::{Point, point_at};
 
 // Where a point stands among the vertices, whether it was added there, and how many vertices there are now.
-#[derive(Drop)]
+#[derive(Clone, Copy)]
 pub struct Placed {
     pub at: usize,
     pub fresh: bool,

@@ -10,14 +10,14 @@ use base::numbers::EMPTY;
 use mesh::Walked;
 
 // Where the walk round a site stands: the half-edge that it began with, the one that comes next, the one that it passed last.
-#[derive(Drop)]
+#[derive(Clone, Copy)]
 pub struct Cursor {
     pub start: u32,
     pub next: u32,
     pub last: u32,
 }
 
-#[derive(Drop)]
+#[derive(Clone, Copy)]
 pub enum Stepped {
     Site(u32, Cursor),
     End,

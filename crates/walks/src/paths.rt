@@ -18,7 +18,7 @@ fn distance(sites: &[f64], s: u32, p: Point) -> f64
 }
 
 // The nearest site so far, and its distance.
-#[derive(Drop)]
+#[derive(Clone, Copy)]
 struct Best {
     site: u32,
     dist: f64,

@@ -4,14 +4,14 @@ pub mod words; // words.rt: how they are read
 use reasons::Question;
 
 // A word as a site's number.
-#[derive(Drop)]
+#[derive(Clone, Copy)]
 pub enum Word {
     Site(u32),
     Other,
 }
 
 // What is asked, or that the words are none that the program takes.
-#[derive(Drop)]
+#[derive(Clone, Copy)]
 pub enum Command {
     Ask(Question),
     Usage,

@@ -29,7 +29,7 @@ fn finite_point(p: Point) -> bool
 }
 
 // Where an extension begins, and its direction.
-#[derive(Drop)]
+#[derive(Clone, Copy)]
 pub struct Ray {
     pub start: Point,
     pub x: f64,
@@ -70,7 +70,7 @@ fn far_along(r: Ray, length: f64) -> Point
 }
 
 // Two extensions.
-#[derive(Drop)]
+#[derive(Clone, Copy)]
 pub struct TwoPoints {
     pub first: Point,
     pub second: Point,
@@ -141,7 +141,7 @@ fn points_from(
 }
 
 // Where the pass over the hull stopped, how many vertices there are then, and how many extensions took one again.
-#[derive(Drop)]
+#[derive(Clone, Copy)]
 pub struct Passed {
     pub place: usize,
     pub count: usize,
