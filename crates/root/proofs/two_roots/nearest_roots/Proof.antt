@@ -6,35 +6,35 @@ use Rattle.root.specs.two_roots.laws.Slips.{slips_start, slips_next, slips_room,
 use Rattle.root.proofs.two_roots.nearest_roots.Statement.{statement}
 use Rattle.root.proofs.two_roots.nearest_roots.Tie as tie
 
-abbrev invariant-loop : tie.invariant-loop
+abbrev invariant-loop : tie.invariant-loop-weight
 invariant-loop m n p₀ q₀ weight₀ p q weight = Slips m n weight p q
 
-abbrev decreases-loop : tie.decreases-loop
+abbrev decreases-loop : tie.decreases-loop-weight
 decreases-loop m n p₀ q₀ weight₀ p q weight = weight
 
-loop-holds : tie.Need-loop-init invariant-loop decreases-loop
+loop-holds : tie.Need-loop-weight-init invariant-loop decreases-loop
 loop-holds c = slips_start _ _
 
-next-slip-requires : tie.Need-next-slip-requires invariant-loop decreases-loop
-next-slip-requires c κs = (slips_room c.before.loop.invariant c.loop-test.true c.before.before.requires.0.1 c.before.before.requires.1.1).0
+next_slip-requires : tie.Need-next_slip-p-requires invariant-loop decreases-loop
+next_slip-requires c κs = (slips_room c.before.loop-weight.invariant c.loop-weight-test.true c.before.before.requires.0.1 c.before.before.requires.1.1).0
 
-next-slip-requires-2 : tie.Need-next-slip-requires-2 invariant-loop decreases-loop
-next-slip-requires-2 c κs =
+next_slip-requires-2 : tie.Need-next_slip-q-requires invariant-loop decreases-loop
+next_slip-requires-2 c κs =
     let l = c.before in
-    (slips_room l.before.loop.invariant l.loop-test.true l.before.before.requires.0.1 l.before.before.requires.1.1).1
+    (slips_room l.before.loop-weight.invariant l.loop-weight-test.true l.before.before.requires.0.1 l.before.before.requires.1.1).1
 
-loop-again : tie.Need-loop-preserved invariant-loop decreases-loop
+loop-again : tie.Need-loop-weight-preserved invariant-loop decreases-loop
 loop-again c =
     let l = c.before.before in
-    rw (c.before.next-slip.ensures, c.next-slip2.ensures) (slips_next l.before.loop.invariant l.loop-test.true)
+    rw (c.before.next_slip-p.ensures, c.next_slip-q.ensures) (slips_next l.before.loop-weight.invariant l.loop-weight-test.true)
 
 returns : tie.Need-returns invariant-loop decreases-loop
 returns c =
     let l = c.before.before in
-    rw (c.before.rounded.ensures, c.rounded2.ensures) (slips_end l.before.loop.invariant l.loop-test.false l.before.before.requires.0 l.before.before.requires.1)
+    rw (c.before.rounded.ensures, c.rounded-2.ensures) (slips_end l.before.loop-weight.invariant l.loop-weight-test.false l.before.before.requires.0 l.before.before.requires.1)
 
-pub nearest-roots-spec : {M : Type 1} → statement M
-nearest-roots-spec =
+pub nearest_roots_spec : {M : Type 1} → statement M
+nearest_roots_spec =
     tie.close
-    (tie.spec invariant-loop decreases-loop loop-holds next-slip-requires next-slip-requires-2 (λ c. omega arith) loop-again (λ c κs. search rules)
+    (tie.spec invariant-loop decreases-loop loop-holds next_slip-requires next_slip-requires-2 (λ c. omega arith) loop-again (λ c κs. search rules)
     (λ c κs. search rules) returns)

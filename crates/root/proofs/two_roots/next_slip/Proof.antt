@@ -5,11 +5,11 @@ use Rattle.root.specs.two_roots.laws.Slips.{next_one, next_zero}
 use Rattle.root.proofs.two_roots.next_slip.Statement.{statement}
 use Rattle.root.proofs.two_roots.next_slip.Tie as tie
 
-returns : tie.Need-returns
-returns c = sym (next_one _ _ c.before.if1.true)
+returns : tie.Need-returns-then-tried-r
+returns c = sym (next_one _ _ c.before.if-tried-r.true)
 
-returns-2 : tie.Need-returns-2
-returns-2 c = sym (next_zero _ _ c.before.if1.false)
+returns-2 : tie.Need-returns
+returns-2 c = sym (next_zero _ _ c.before.if-tried-r.false)
 
-pub next-slip-spec : {M : Type 1} → statement M
-next-slip-spec = tie.close (tie.spec (λ c. omega arith) (λ c. omega arith) (λ c. omega arith) returns (λ c. omega arith) returns-2)
+pub next_slip_spec : {M : Type 1} → statement M
+next_slip_spec = tie.close (tie.spec (λ c. omega arith) (λ c. omega arith) (λ c. omega arith) returns (λ c. omega arith) returns-2)

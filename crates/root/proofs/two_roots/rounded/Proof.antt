@@ -5,11 +5,11 @@ use Rattle.root.specs.two_roots.laws.Slips.{rounded_up, rounded_down}
 use Rattle.root.proofs.two_roots.rounded.Statement.{statement}
 use Rattle.root.proofs.two_roots.rounded.Tie as tie
 
-returns : tie.Need-returns
-returns c = sym (rounded_up _ c.before.if1.true)
+returns : tie.Need-returns-then-r
+returns c = sym (rounded_up _ c.before.if-r.true)
 
-returns-2 : tie.Need-returns-2
-returns-2 c = sym (rounded_down _ c.before.if1.false)
+returns-2 : tie.Need-returns
+returns-2 c = sym (rounded_down _ c.before.if-r.false)
 
-pub rounded-spec : {M : Type 1} → statement M
-rounded-spec = tie.close (tie.spec (λ c. omega arith) returns returns-2)
+pub rounded_spec : {M : Type 1} → statement M
+rounded_spec = tie.close (tie.spec (λ c. omega arith) returns returns-2)

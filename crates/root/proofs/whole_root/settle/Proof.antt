@@ -5,13 +5,13 @@ use Rattle.root.specs.whole_root.laws.Turns.{settled_zero, settled_one}
 use Rattle.root.proofs.whole_root.settle.Statement.{statement}
 use Rattle.root.proofs.whole_root.settle.Tie as tie
 
-returns : tie.Need-returns
-returns c = sym (settled_one _ c.before.before.if1.true)
+returns : tie.Need-returns-then-twice-p
+returns c = sym (settled_one _ c.before.before.if-twice-p.true)
 
-returns-2 : tie.Need-returns-2
-returns-2 c = sym (settled_zero _ c.if1.false)
+returns-2 : tie.Need-returns
+returns-2 c = sym (settled_zero _ c.if-twice-p.false)
 
-pub settle-spec : {M : Type 1} → statement M
-settle-spec =
+pub settle_spec : {M : Type 1} → statement M
+settle_spec =
     tie.close
     (tie.spec (λ c. omega arith) (λ c. omega arith) (λ c. omega arith) (λ c. omega arith) returns returns-2)

@@ -9,10 +9,10 @@ use Rattle.root.proofs.whole_root.turn.Statement.{statement}
 use Rattle.root.proofs.whole_root.turn.Tie as tie
 
 settle-requires : tie.Need-settle-requires
-settle-requires c κs = subst (λ (q : Page). q.root < 2 ^ 53) (sym c.bring-down.ensures) (widths c.before.requires).root_moved
+settle-requires c κs = subst (λ (q : Page). q.root < 2 ^ 53) (sym c.bring_down.ensures) (widths c.before.requires).root_moved
 
 returns : tie.Need-returns
-returns c = c.settle.ensures ∙ ap settled c.before.bring-down.ensures
+returns c = c.settle.ensures ∙ ap settled c.before.bring_down.ensures
 
 pub turn_spec : {M : Type 1} → statement M
 turn_spec = tie.close (tie.spec (λ c κs. search rules) settle-requires returns)
