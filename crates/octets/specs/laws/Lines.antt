@@ -27,7 +27,7 @@ module _ (line : ℕ → List ℕ) where
       ap (lines_from line i) e ∙ lines_append m (n - m) i
 
 -- i of them are written, and the next is that of thing k
-module _ {line : ℕ → List ℕ} {from n : ℕ} {l m : List ℕ} {at end i : ℕ} (p : Lined (lines_from line from) n l m at end i) (h : i < n) {k : ℕ} (q : from + i ≡ k) where
+module _ (line : ℕ → List ℕ) {from n : ℕ} {l m : List ℕ} {at end i : ℕ} (p : Lined (lines_from line from) n l m at end i) (h : i < n) {k : ℕ} (q : from + i ≡ k) where
   grown : lines_from line from (i + 1) ≡ lines_from line from i ++ line k
   grown = rw q at (lines_more line from i)
 

@@ -9,10 +9,10 @@ use Rattle.test_digits.proofs.row.Tie as tie
 
 brought-requires : tie.Need-brought-requires
 brought-requires c κs =
-    subst (λ (q : Page). q.root < 2 ^ 53) (sym c.bring-down.ensures) (widths c.before.before.before.before.requires).root_moved
+    subst (λ (q : Page). q.root < 2 ^ 53) (sym c.bring_down.ensures) (widths c.before.before.before.before.requires).root_moved
 
-pub row-spec : {M : Type 1} → statement M
-row-spec =
+pub row_spec : {M : Type 1} → statement M
+row_spec =
     tie.close
     (tie.spec (λ c. search rules) (λ c κs. search rules) (λ c κs. search rules) (λ c κs. search rules) brought-requires
     (λ c κs. search rules) (λ c κs. search rules) (λ c. search rules))

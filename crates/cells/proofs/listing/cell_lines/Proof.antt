@@ -73,7 +73,7 @@ cell-line-requires c κs =
     let l = w.before.before.before.before.before in
     let a = (begin w).args in
     subst (λ (z : List ℕ). HasRoom l.loop.out l.loop.end (cell_line (number w) z)) (sym (part w))
-    (line_fits l.loop.invariant (turn w) (zero-add (number w)) (subst (HasRoom a.out.now a.at) (lines_are a.offsets.now a.cells.now a.sites 0) (begin w).requires.1))
+    (line_fits _ l.loop.invariant (turn w) (zero-add (number w)) (subst (HasRoom a.out.now a.at) (lines_are a.offsets.now a.cells.now a.sites 0) (begin w).requires.1))
 
 add-i : tie.Need-overflow-add-i invariant-loop decreases-loop
 add-i c = let w = c.before.before.before.before.before in omega (arith, (begin w).requires.0.few, turn w)

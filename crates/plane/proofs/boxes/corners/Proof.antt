@@ -3,6 +3,6 @@ use Rattle.plane.specs.boxes.Box.{corners_of}
 use Rattle.plane.proofs.boxes.corners.Statement.{statement}
 use Rattle.plane.proofs.boxes.corners.Tie as tie
 
-pub corners-spec : {M : Type 1} → statement M
+pub corners_spec : {M : Type 1} → statement M
 unfolding corners_of
-corners-spec = tie.close (tie.spec (λ c. cc))
+corners_spec = tie.close (tie.spec (λ c. cc))

@@ -3,6 +3,6 @@ use Rattle.plane.specs.centers.Circumcenter.{ok_center}
 use Rattle.plane.proofs.centers.center_ok.Statement.{statement}
 use Rattle.plane.proofs.centers.center_ok.Tie as tie
 
-pub center-ok-spec : {M : Type 1} → statement M
+pub center_ok_spec : {M : Type 1} → statement M
 unfolding ok_center
-center-ok-spec = tie.close (tie.spec (λ c κs. tt) (λ c κs. tt) (λ c. cc))
+center_ok_spec = tie.close (tie.spec (λ c κs. tt) (λ c κs. tt) (λ c. cc))

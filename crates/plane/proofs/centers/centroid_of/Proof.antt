@@ -8,13 +8,13 @@ use Rattle.plane.specs.centers.Centroid.{mean_of}
 use Rattle.plane.proofs.centers.centroid_of.Statement.{statement}
 use Rattle.plane.proofs.centers.centroid_of.Tie as tie
 
-int-to-float-n : tie.Need-int-to-float-n
+int_to_float-n : tie.Need-int_to_float-n
 unfolding in_float
-int-to-float-n c = le→leb c.before.before.before.args.count (2 ^ 53) (omega arith)
+int_to_float-n c = le→leb c.before.before.before.args.count (2 ^ 53) (omega arith)
 
 returns : tie.Need-returns
 unfolding mean_of
-returns c = rw (← c.before.before.before.sum_of.ensures)
+returns c = rw (← c.before.before.before.sum_of-r.ensures)
 
-pub centroid-of-spec : {M : Type 1} → statement M
-centroid-of-spec = tie.close (tie.spec (λ c κs. search rules) int-to-float-n returns)
+pub centroid_of_spec : {M : Type 1} → statement M
+centroid_of_spec = tie.close (tie.spec (λ c κs. search rules) int_to_float-n returns)

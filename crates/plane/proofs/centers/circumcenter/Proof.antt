@@ -7,8 +7,8 @@ returns : tie.Need-returns
 returns c =
     let s = c.before.before in
     let p = s.before.before.before in
-    center_calls _ _ _ p.circumcenter-of.ensures s.before.before.site-ok.ensures s.before.site-ok2.ensures s.site-ok3.ensures
-    c.before.center-ok.ensures c.answer.ensures
+    center_calls _ _ _ p.circumcenter_of-p.ensures s.before.before.site_ok.ensures s.before.site_ok-2.ensures s.site_ok-3.ensures
+    c.before.center_ok.ensures c.answer.ensures
 
-pub circumcenter-spec : {M : Type 1} → statement M
-circumcenter-spec = tie.close (tie.spec (λ c κs. tt) (λ c κs. tt) (λ c κs. tt) (λ c κs. tt) (λ c κs. tt) (λ c κs. tt) returns)
+pub circumcenter_spec : {M : Type 1} → statement M
+circumcenter_spec = tie.close (tie.spec (λ c κs. tt) (λ c κs. tt) (λ c κs. tt) (λ c κs. tt) (λ c κs. tt) (λ c κs. tt) returns)

@@ -3,6 +3,6 @@ use Rattle.plane.specs.centers.Circumcenter.{center_of}
 use Rattle.plane.proofs.centers.circumcenter_of.Statement.{statement}
 use Rattle.plane.proofs.centers.circumcenter_of.Tie as tie
 
-pub circumcenter-of-spec : {M : Type 1} → statement M
+pub circumcenter_of_spec : {M : Type 1} → statement M
 unfolding center_of
-circumcenter-of-spec = tie.close (tie.spec (λ c. cc))
+circumcenter_of_spec = tie.close (tie.spec (λ c. cc))

@@ -2,5 +2,5 @@
 use Rattle.plane.proofs.given.by_edges.Statement.{statement}
 use Rattle.plane.proofs.given.by_edges.Tie as tie
 
-pub by-edges-spec : {M : Type 1} → statement M
-by-edges-spec = tie.close (tie.spec (λ c κs. tt) (λ c κs. tt) (λ c. cc))
+pub by_edges_spec : {M : Type 1} → statement M
+by_edges_spec = tie.close (tie.spec (λ c κs. tt) (λ c κs. tt) (λ c. cc))

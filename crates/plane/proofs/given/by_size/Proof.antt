@@ -2,5 +2,5 @@
 use Rattle.plane.proofs.given.by_size.Statement.{statement}
 use Rattle.plane.proofs.given.by_size.Tie as tie
 
-pub by-size-spec : {M : Type 1} → statement M
-by-size-spec = tie.close (tie.spec (λ c κs. tt) (λ c κs. tt) (λ c. cc))
+pub by_size_spec : {M : Type 1} → statement M
+by_size_spec = tie.close (tie.spec (λ c κs. tt) (λ c κs. tt) (λ c. cc))

@@ -3,6 +3,6 @@ use Rattle.plane.specs.given.Given.{ok_edges}
 use Rattle.plane.proofs.given.edges_ok.Statement.{statement}
 use Rattle.plane.proofs.given.edges_ok.Tie as tie
 
-pub edges-ok-spec : {M : Type 1} → statement M
+pub edges_ok_spec : {M : Type 1} → statement M
 unfolding ok_edges
-edges-ok-spec = tie.close (tie.spec (λ c κs. tt) (λ c κs. tt) (λ c. cc))
+edges_ok_spec = tie.close (tie.spec (λ c κs. tt) (λ c κs. tt) (λ c. cc))

@@ -3,6 +3,6 @@ use Rattle.plane.specs.given.Given.{edges_of}
 use Rattle.plane.proofs.given.from_edges.Statement.{statement}
 use Rattle.plane.proofs.given.from_edges.Tie as tie
 
-pub from-edges-spec : {M : Type 1} → statement M
+pub from_edges_spec : {M : Type 1} → statement M
 unfolding edges_of
-from-edges-spec = tie.close (tie.spec (λ c. cc))
+from_edges_spec = tie.close (tie.spec (λ c. cc))

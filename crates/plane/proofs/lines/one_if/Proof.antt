@@ -3,6 +3,6 @@ use Rattle.plane.specs.lines.Line.{one_if}
 use Rattle.plane.proofs.lines.one_if.Statement.{statement}
 use Rattle.plane.proofs.lines.one_if.Tie as tie
 
-pub one-if-spec : {M : Type 1} → statement M
+pub one_if_spec : {M : Type 1} → statement M
 unfolding one_if
-one-if-spec = tie.close (tie.spec (λ c. cc) (λ c. cc))
+one_if_spec = tie.close (tie.spec (λ c. cc) (λ c. cc))

@@ -3,6 +3,6 @@ use Rattle.plane.specs.lines.Line.{upright_hit}
 use Rattle.plane.proofs.lines.upright_hit.Statement.{statement}
 use Rattle.plane.proofs.lines.upright_hit.Tie as tie
 
-pub upright-hit-spec : {M : Type 1} → statement M
+pub upright_hit_spec : {M : Type 1} → statement M
 unfolding upright_hit
-upright-hit-spec = tie.close (tie.spec (λ c κs. tt) (λ c. c.two-if.ensures))
+upright_hit_spec = tie.close (tie.spec (λ c κs. tt) (λ c. c.two_if.ensures))

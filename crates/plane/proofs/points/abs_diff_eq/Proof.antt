@@ -3,6 +3,6 @@ use Rattle.plane.specs.points.Plane.{near_of}
 use Rattle.plane.proofs.points.abs_diff_eq.Statement.{statement}
 use Rattle.plane.proofs.points.abs_diff_eq.Tie as tie
 
-pub abs-diff-eq-spec : {M : Type 1} → statement M
+pub abs_diff_eq_spec : {M : Type 1} → statement M
 unfolding near_of
-abs-diff-eq-spec = tie.close (tie.spec (λ c κs. tt) (λ c. cc))
+abs_diff_eq_spec = tie.close (tie.spec (λ c κs. tt) (λ c. cc))

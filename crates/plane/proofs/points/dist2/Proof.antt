@@ -3,6 +3,6 @@ use Rattle.plane.specs.points.Plane.{dist2_of}
 use Rattle.plane.proofs.points.dist2.Statement.{statement}
 use Rattle.plane.proofs.points.dist2.Tie as tie
 
-pub dist2-spec : {M : Type 1} → statement M
+pub dist2_spec : {M : Type 1} → statement M
 unfolding dist2_of
-dist2-spec = tie.close (tie.spec (λ c. cc))
+dist2_spec = tie.close (tie.spec (λ c. cc))

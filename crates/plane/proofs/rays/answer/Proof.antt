@@ -3,7 +3,7 @@ use Rattle.plane.specs.rays.Rules.{met_by}
 use Rattle.plane.proofs.rays.answer.Statement.{statement}
 use Rattle.plane.proofs.rays.answer.Tie as tie
 
-pub answer-spec : {M : Type 1} → statement M
+pub answer_spec : {M : Type 1} → statement M
 unfolding met_by
-answer-spec =
-    tie.close (tie.spec (λ c. rw (c.before.if1.true, c.if2.true)) (λ c. rw (c.before.if1.true, c.if2.false)) (λ c. rw c.if1.false))
+answer_spec =
+    tie.close (tie.spec (λ c. rw (c.before.if-frame.true, c.if-points.true)) (λ c. rw (c.before.if-frame.true, c.if-points.false)) (λ c. rw c.if-frame.false))

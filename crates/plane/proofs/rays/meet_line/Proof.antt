@@ -8,7 +8,7 @@ returns : tie.Need-returns
 unfolding line_answer
 returns c =
     let s = c.before.before in
-    met_calls _ _ _ _ s.before.site-ok.ensures s.site-ok2.ensures c.before.intersect-line.ensures c.answer.ensures
+    met_calls _ _ _ _ s.before.site_ok.ensures s.site_ok-2.ensures c.before.intersect_line.ensures c.answer.ensures
 
-pub meet-line-spec : {M : Type 1} → statement M
-meet-line-spec = tie.close (tie.spec (λ c κs. tt) (λ c κs. tt) (λ c κs. tt) (λ c κs. tt) returns)
+pub meet_line_spec : {M : Type 1} → statement M
+meet_line_spec = tie.close (tie.spec (λ c κs. tt) (λ c κs. tt) (λ c κs. tt) (λ c κs. tt) returns)

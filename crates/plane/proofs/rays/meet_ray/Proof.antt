@@ -8,7 +8,7 @@ returns : tie.Need-returns
 unfolding ray_answer
 returns c =
     let s = c.before.before in
-    met_calls _ _ _ _ s.before.site-ok.ensures s.site-ok2.ensures c.before.project-ray.ensures c.answer.ensures
+    met_calls _ _ _ _ s.before.site_ok.ensures s.site_ok-2.ensures c.before.project_ray.ensures c.answer.ensures
 
-pub meet-ray-spec : {M : Type 1} → statement M
-meet-ray-spec = tie.close (tie.spec (λ c κs. tt) (λ c κs. tt) (λ c κs. tt) (λ c κs. tt) returns)
+pub meet_ray_spec : {M : Type 1} → statement M
+meet_ray_spec = tie.close (tie.spec (λ c κs. tt) (λ c κs. tt) (λ c κs. tt) (λ c κs. tt) returns)

@@ -7,7 +7,7 @@ returns : tie.Need-returns
 returns c =
     let m = c.before.before in
     let s = m.before.before in
-    by_calls _ _ _ _ _ _ _ s.before.signum.ensures s.signum2.ensures m.before.signum3.ensures m.magnitude.ensures c.before.magnitude2.ensures c.order-pick.ensures
+    by_calls _ _ _ _ _ _ _ s.before.signum-s.ensures s.signum.ensures m.before.signum-2.ensures m.magnitude.ensures c.before.magnitude-2.ensures c.order_pick.ensures
 
-pub order-by-spec : {M : Type 1} → statement M
-order-by-spec = tie.close (tie.spec (λ c κs. tt) (λ c κs. tt) (λ c κs. tt) (λ c κs. tt) (λ c κs. tt) (λ c κs. tt) returns)
+pub order_by_spec : {M : Type 1} → statement M
+order_by_spec = tie.close (tie.spec (λ c κs. tt) (λ c κs. tt) (λ c κs. tt) (λ c κs. tt) (λ c κs. tt) (λ c κs. tt) returns)

@@ -6,7 +6,7 @@ use Rattle.plane.proofs.rays.order_one.Tie as tie
 returns : tie.Need-returns
 returns c =
     let s = c.before.before in
-    one_calls _ _ _ s.before.before.signum.ensures s.before.signum2.ensures s.signum3.ensures c.before.signum4.ensures c.one-if.ensures
+    one_calls _ _ _ s.before.before.signum.ensures s.before.signum-2.ensures s.signum-3.ensures c.before.signum-4.ensures c.one_if.ensures
 
-pub order-one-spec : {M : Type 1} → statement M
-order-one-spec = tie.close (tie.spec (λ c κs. tt) (λ c κs. tt) (λ c κs. tt) (λ c κs. tt) (λ c κs. tt) returns)
+pub order_one_spec : {M : Type 1} → statement M
+order_one_spec = tie.close (tie.spec (λ c κs. tt) (λ c κs. tt) (λ c κs. tt) (λ c κs. tt) (λ c κs. tt) returns)

@@ -3,6 +3,6 @@ use Rattle.plane.specs.rays.Ray.{order_pick}
 use Rattle.plane.proofs.rays.order_pick.Statement.{statement}
 use Rattle.plane.proofs.rays.order_pick.Tie as tie
 
-pub order-pick-spec : {M : Type 1} → statement M
+pub order_pick_spec : {M : Type 1} → statement M
 unfolding order_pick
-order-pick-spec = tie.close (tie.spec (λ c. cc) (λ c. cc) (λ c. cc) (λ c. cc) (λ c. cc))
+order_pick_spec = tie.close (tie.spec (λ c. cc) (λ c. cc) (λ c. cc) (λ c. cc) (λ c. cc))

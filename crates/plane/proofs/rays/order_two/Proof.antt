@@ -9,7 +9,7 @@ returns c =
     let a = b.before.before.before in
     let s = a.before.before.before in
     let m = s.before in
-    two_calls _ _ _ _ _ _ m.before.magnitude.ensures m.magnitude2.ensures s.choose.ensures a.choose2.ensures b.choose3.ensures c.order-by.ensures
+    two_calls _ _ _ _ _ _ m.before.magnitude.ensures m.magnitude-2.ensures s.choose.ensures a.choose-2.ensures b.choose-3.ensures c.order_by.ensures
 
-pub order-two-spec : {M : Type 1} → statement M
-order-two-spec = tie.close (tie.spec (λ c κs. tt) (λ c κs. tt) (λ c κs. tt) (λ c κs. tt) (λ c κs. tt) (λ c κs. tt) returns)
+pub order_two_spec : {M : Type 1} → statement M
+order_two_spec = tie.close (tie.spec (λ c κs. tt) (λ c κs. tt) (λ c κs. tt) (λ c κs. tt) (λ c κs. tt) (λ c κs. tt) returns)

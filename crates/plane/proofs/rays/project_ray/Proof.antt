@@ -3,5 +3,5 @@ use Rattle.plane.specs.rays.laws.Calls.{ray_calls}
 use Rattle.plane.proofs.rays.project_ray.Statement.{statement}
 use Rattle.plane.proofs.rays.project_ray.Tie as tie
 
-pub project-ray-spec : {M : Type 1} → statement M
-project-ray-spec = tie.close (tie.spec (λ c κs. tt) (λ c κs. tt) (λ c. ray_calls _ _ _ c.before.intersect-line.ensures c.order-points-on-ray.ensures))
+pub project_ray_spec : {M : Type 1} → statement M
+project_ray_spec = tie.close (tie.spec (λ c κs. tt) (λ c κs. tt) (λ c. ray_calls _ _ _ c.before.intersect_line.ensures c.order_points_on_ray.ensures))

@@ -3,6 +3,6 @@ use Rattle.plane.specs.sides.Sides.{exclusive_of}
 use Rattle.plane.proofs.sides.is_exclusively_inside.Statement.{statement}
 use Rattle.plane.proofs.sides.is_exclusively_inside.Tie as tie
 
-pub is-exclusively-inside-spec : {M : Type 1} → statement M
+pub is_exclusively_inside_spec : {M : Type 1} → statement M
 unfolding exclusive_of
-is-exclusively-inside-spec = tie.close (tie.spec (λ c κs. tt) (λ c κs. tt) (λ c. cc))
+is_exclusively_inside_spec = tie.close (tie.spec (λ c κs. tt) (λ c κs. tt) (λ c. cc))

@@ -3,6 +3,6 @@ use Rattle.plane.specs.sides.Sides.{which_of}
 use Rattle.plane.proofs.sides.which_edge.Statement.{statement}
 use Rattle.plane.proofs.sides.which_edge.Tie as tie
 
-pub which-edge-spec : {M : Type 1} → statement M
+pub which_edge_spec : {M : Type 1} → statement M
 unfolding which_of
-which-edge-spec = tie.close (tie.spec (λ c κs. tt) (λ c κs. tt) (λ c κs. tt) (λ c κs. tt) (λ c κs. tt) (λ c. cc))
+which_edge_spec = tie.close (tie.spec (λ c κs. tt) (λ c κs. tt) (λ c κs. tt) (λ c κs. tt) (λ c κs. tt) (λ c. cc))
