@@ -106,7 +106,9 @@ module _ (tri he : List ℕ) (ok : Paired tri he) (s : ℕ) (in_mesh : s < lengt
       (λ w.
       let more = alive_more i alive w.0 in
       rw w.1 (⊎_elim
-      (λ u. rw u.0 (omega (arith, passed n (suc i) i (omega arith) more, rw u.0 at u.1)))
+      (λ u.
+      let rest : occ v (walk_of he s n (pos_of he s (suc i))) ≡ 0 = rw u.0 (passed n (suc i) i (omega arith) more) in
+      omega (arith, rest, u.1))
       (λ u. omega (arith, once n (suc i) v more))
       (same_cases v (pos_of he s i))))
       (λ w. rw w.1 (omega arith))

@@ -6,51 +6,51 @@ use Rattle.octets.specs.laws.Get.{Climbing, room_for, climbing_start, climbing_s
 use Rattle.octets.proofs.get_be.Statement.{statement}
 use Rattle.octets.proofs.get_be.Tie as tie
 
-abbrev invariant-loop : tie.invariant-loop
+abbrev invariant-loop : tie.invariant-loop-i
 invariant-loop bytes at n x₀ i₀ x i = Climbing bytes at n x i
 
-abbrev decreases-loop : tie.decreases-loop
+abbrev decreases-loop : tie.decreases-loop-i
 decreases-loop bytes at n x₀ i₀ x i = n - i
 
-room : (c : tie.In-loop invariant-loop decreases-loop) → 256 * c.before.loop.x + 255 < 2 ^ 64
-room c = let l = c.before.loop in room_for l.x l.i (omega (arith, c.loop-test.true, c.before.before.requires.0)) l.invariant.small
+room : (c : tie.In-loop-i invariant-loop decreases-loop) → 256 * c.loop-i.x + 255 < 2 ^ 64
+room c = let l = c.loop-i in room_for l.x l.i (omega (arith, c.loop-i-test.true, c.requires.0)) l.invariant.small
 
-byte : (c : tie.After-shared-slice-known invariant-loop decreases-loop) → get_or c.before.before.before.args.bytes.now (c.before.before.before.args.at + c.before.before.loop.i) 0 < 256
-byte c = (c.shared-slice-known.given (c.before.before.before.args.at + c.before.before.loop.i)).fits
+byte : (c : tie.After-shared_slice_known-1 invariant-loop decreases-loop) → get_or c.args.bytes.now (c.args.at + c.loop-i.i) 0 < 256
+byte c = (c.shared_slice_known-1.given (c.args.at + c.loop-i.i)).fits
 
-loop-holds : tie.Need-loop-init invariant-loop decreases-loop
+loop-holds : tie.Need-loop-i-init invariant-loop decreases-loop
 loop-holds c = climbing_start _ _ _
 
-mul-x : tie.Need-overflow-mul-x invariant-loop decreases-loop
+mul-x : tie.Need-overflow_mul-x invariant-loop decreases-loop
 mul-x c = omega (arith, room c)
 
-add-x : tie.Need-overflow-add-x invariant-loop decreases-loop
+add-x : tie.Need-overflow_add-x invariant-loop decreases-loop
 add-x c = omega arith
 
-shared-slice-read-x : tie.Need-shared-slice-read-x invariant-loop decreases-loop
-shared-slice-read-x c = omega arith
+shared_slice_read-x : tie.Need-bounds-bytes-at invariant-loop decreases-loop
+shared_slice_read-x c = omega arith
 
-cast-x : tie.Need-overflow-cast-x invariant-loop decreases-loop
+cast-x : tie.Need-overflow_cast-x invariant-loop decreases-loop
 cast-x c = omega (arith, byte c)
 
-add-x-2 : tie.Need-overflow-add-x-2 invariant-loop decreases-loop
+add-x-2 : tie.Need-overflow_add-x-in-loop-i invariant-loop decreases-loop
 add-x-2 c = omega (arith, room c.before, byte c)
 
-add-i : tie.Need-overflow-add-i invariant-loop decreases-loop
+add-i : tie.Need-overflow_add-i invariant-loop decreases-loop
 add-i c = omega arith
 
-loop-less : tie.Need-loop-smaller invariant-loop decreases-loop
+loop-less : tie.Need-loop-i-smaller invariant-loop decreases-loop
 loop-less c = omega arith
 
-loop-again : tie.Need-loop-preserved invariant-loop decreases-loop
+loop-again : tie.Need-loop-i-preserved invariant-loop decreases-loop
 loop-again c =
-    let l = c.before.before in
-    climbing_step l.before.requires.1 l.loop.invariant c.before.loop-test.true (byte c)
+    let l = c in
+    climbing_step l.requires.1 l.loop-i.invariant c.loop-i-test.true (byte c)
 
 returns : tie.Need-returns invariant-loop decreases-loop
-returns c = climbing_end c.before.loop.invariant c.loop-test.false
+returns c = climbing_end c.loop-i.invariant c.loop-i-test.false
 
-pub get-be-spec : {M : Type 1} → statement M
-get-be-spec =
+pub get_be_spec : {M : Type 1} → statement M
+get_be_spec =
     tie.close
-    (tie.spec invariant-loop decreases-loop loop-holds mul-x add-x shared-slice-read-x cast-x add-x-2 add-i loop-less loop-again returns)
+    (tie.spec invariant-loop decreases-loop loop-holds mul-x add-x shared_slice_read-x cast-x add-x-2 add-i loop-less loop-again returns)

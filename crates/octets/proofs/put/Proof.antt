@@ -6,35 +6,35 @@ use Rattle.octets.specs.laws.Wrote.{Putting, putting_start, putting_step, puttin
 use Rattle.octets.proofs.put.Statement.{statement}
 use Rattle.octets.proofs.put.Tie as tie
 
-abbrev invariant-loop : tie.invariant-loop
+abbrev invariant-loop : tie.invariant-loop-i
 invariant-loop out₀ at text i₀ out i = Putting out₀ out at text i
 
-abbrev decreases-loop : tie.decreases-loop
+abbrev decreases-loop : tie.decreases-loop-i
 decreases-loop out₀ at text i₀ out i = length text - i
 
-loop-holds : tie.Need-loop-init invariant-loop decreases-loop
+loop-holds : tie.Need-loop-i-init invariant-loop decreases-loop
 loop-holds c = putting_start _ _ _
 
-add-out : tie.Need-overflow-add-out invariant-loop decreases-loop
-add-out c = let l = c.before.before in omega (arith, l.loop.invariant.within, l.before.requires)
+add-out : tie.Need-overflow_add-out invariant-loop decreases-loop
+add-out c = let l = c in omega (arith, l.loop-i.invariant.within, l.requires)
 
-slice-write-out : tie.Need-slice-write-out invariant-loop decreases-loop
-slice-write-out c = let l = c.before.before in omega (arith, l.loop.invariant.within, l.before.requires, wrote_length l.loop.invariant.wrote)
+slice_write-out : tie.Need-bounds-out-at invariant-loop decreases-loop
+slice_write-out c = let l = c in omega (arith, l.loop-i.invariant.within, l.requires, wrote_length l.loop-i.invariant.wrote)
 
-loop-again : tie.Need-loop-preserved invariant-loop decreases-loop
-loop-again c = putting_step c.before.before.loop.invariant c.before.loop-test.true
+loop-again : tie.Need-loop-i-preserved invariant-loop decreases-loop
+loop-again c = putting_step c.loop-i.invariant c.loop-i-test.true
 
-add-result : tie.Need-overflow-add-result invariant-loop decreases-loop
-add-result c = let l = c.before in omega (arith, l.loop.invariant.within, l.before.requires)
+add-result : tie.Need-overflow_add-result invariant-loop decreases-loop
+add-result c = let l = c in omega (arith, l.loop-i.invariant.within, l.requires)
 
-same_length : tie.Need-same-length invariant-loop decreases-loop
-same_length c = wrote_length c.before.loop.invariant.wrote
+same_length : tie.Need-shape_of-out invariant-loop decreases-loop
+same_length c = wrote_length c.loop-i.invariant.wrote
 
 returns : tie.Need-returns invariant-loop decreases-loop
-returns c = putting_end c.before.loop.invariant c.loop-test.false
+returns c = putting_end c.loop-i.invariant c.loop-i-test.false
 
 pub put_spec : {M : Type 1} → statement M
 put_spec =
     tie.close
-    (tie.spec invariant-loop decreases-loop loop-holds (λ c. omega arith) add-out slice-write-out (λ c. omega arith)
+    (tie.spec invariant-loop decreases-loop loop-holds (λ c. omega arith) add-out slice_write-out (λ c. omega arith)
     (λ c. omega arith) loop-again add-result same_length returns)

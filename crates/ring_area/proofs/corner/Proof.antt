@@ -6,9 +6,9 @@ use Rattle.ring_area.proofs.corner.Statement.{statement}
 use Rattle.ring_area.proofs.corner.Tie as tie
 
 returns : tie.Need-returns
-returns c = c.point_at.ensures ∙ ap (point_at c.before.before.before.args.vertices.now) c.before.wide.ensures
+returns c = c.point_at.ensures ∙ ap (point_at c.args.vertices.now) c.wide.ensures
 
-pub corner-spec : {M : Type 1} → statement M
-corner-spec =
+pub corner_spec : {M : Type 1} → statement M
+corner_spec =
     tie.close
     (tie.spec (λ c κs. search rules) (λ c κs. search rules) returns)

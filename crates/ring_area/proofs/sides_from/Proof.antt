@@ -9,85 +9,85 @@ use Rattle.ring_area.specs.laws.Rings.{SidesTo, walked_start, ready_side, walked
 use Rattle.ring_area.proofs.sides_from.Statement.{statement}
 use Rattle.ring_area.proofs.sides_from.Tie as tie
 
-abbrev invariant-loop : tie.invariant-loop
+abbrev invariant-loop : tie.invariant-loop-i
 invariant-loop plus₀ minus₀ from vertices entries first p₀ i₀ plus minus p i =
     SidesTo from (length plus₀) vertices entries (lifted from plus₀) (lifted from plus) (lifted from minus₀) (lifted from minus) first p i
 
-abbrev decreases-loop : tie.decreases-loop
+abbrev decreases-loop : tie.decreases-loop-i
 decreases-loop plus₀ minus₀ from vertices entries first p₀ i₀ plus minus p i = length entries - i
 
-corner-requires : tie.Need-corner-requires invariant-loop decreases-loop
+corner-requires : tie.Need-corner-first-requires invariant-loop decreases-loop
 corner-requires c κs =
-    let s = c.before.before.before.before.before in
+    let s = c in
     s.requires.0.named 0 s.requires.2
 
-loop-holds : tie.Need-loop-init invariant-loop decreases-loop
+loop-holds : tie.Need-loop-i-init invariant-loop decreases-loop
 loop-holds c =
-    let s = c.before.before.before.before.before.before in
-    walked_start _ _ _ _ _ s.requires.1 s.requires.2 c.corner.ensures
+    let s = c in
+    walked_start _ _ _ _ _ s.requires.1 s.requires.2 c.corner-first.ensures
 
-corner-requires-2 : tie.Need-corner-requires-2 invariant-loop decreases-loop
+corner-requires-2 : tie.Need-corner-q-requires invariant-loop decreases-loop
 corner-requires-2 c κs =
-    let l = c.before.before in
-    let s = l.before.before.before.before.before.before.before in
-    s.requires.0.named l.loop.i c.before.loop-test.true
+    let l = c in
+    let s = l in
+    s.requires.0.named l.loop-i.i c.loop-i-test.true
 
 -- as long as at the start
-same_plus : (l : tie.At-loop invariant-loop decreases-loop) → length l.loop.plus ≡ length l.before.before.before.before.before.before.before.args.plus.now
-same_plus l = lifted_same _ _ _ l.loop.invariant.added.long
+same_plus : (l : tie.At-loop-i invariant-loop decreases-loop) → length l.loop-i.plus ≡ length l.args.plus.now
+same_plus l = lifted_same _ _ _ l.loop-i.invariant.added.long
 
-same_minus : (l : tie.At-loop invariant-loop decreases-loop) → length l.loop.minus ≡ length l.before.before.before.before.before.before.before.args.minus.now
-same_minus l = lifted_same _ _ _ l.loop.invariant.taken.long
+same_minus : (l : tie.At-loop-i invariant-loop decreases-loop) → length l.loop-i.minus ≡ length l.args.minus.now
+same_minus l = lifted_same _ _ _ l.loop-i.invariant.taken.long
 
 side-requires : tie.Need-side-requires invariant-loop decreases-loop
 side-requires c κs =
-    let at_corner = c.before.before in
-    let test = at_corner.before.before in
-    let l = test.before in
-    let s = l.before.before.before.before.before.before.before in
-    let w = l.loop.invariant in
-    let i = l.loop.i in (
-      rw (same_plus l) w.last,
-      rw (same_plus l, at_corner.corner2.ensures) (s.requires.1.each i test.loop-test.true),
+    let at_corner = c in
+    let test = at_corner in
+    let l = test in
+    let s = l in
+    let w = l.loop-i.invariant in
+    let i = l.loop-i.i in (
+      rw (same_plus l.before.before.before.before.before) w.last,
+      rw (same_plus l.before.before.before.before.before, at_corner.corner-q.ensures) (s.requires.1.each i test.loop-i-test.true),
       ready_side _ i s.requires.3 w.added w.taken w.some w.most,
     )
 
-loop-again : tie.Need-loop-preserved invariant-loop decreases-loop
+loop-again : tie.Need-loop-i-preserved invariant-loop decreases-loop
 loop-again c =
-    let at_Side = c.before.before.before.before in
-    let at_corner = at_Side.before.before.before in
-    let test = at_corner.before.before in
-    let l = test.before in
-    let s = l.before.before.before.before.before.before.before in
-    walked_step l.loop.invariant s.requires.1 test.loop-test.true at_corner.corner2.ensures at_Side.side.ensures
+    let at_Side = c in
+    let at_corner = at_Side in
+    let test = at_corner in
+    let l = test in
+    let s = l in
+    walked_step l.loop-i.invariant s.requires.1 test.loop-i-test.true at_corner.corner-q.ensures at_Side.side.ensures
 
 side-requires-2 : tie.Need-side-requires-2 invariant-loop decreases-loop
 side-requires-2 c κs =
-    let l = c.before.before.before in
-    let s = l.before.before.before.before.before.before.before in
-    let w = l.loop.invariant in
-    let i = l.loop.i in
-    (rw (same_plus l) w.last, rw (same_plus l) w.first, ready_side _ i s.requires.3 w.added w.taken w.some w.most)
+    let l = c in
+    let s = l in
+    let w = l.loop-i.invariant in
+    let i = l.loop-i.i in
+    (rw (same_plus l.before.before.before) w.last, rw (same_plus l.before.before.before) w.first, ready_side _ i s.requires.3 w.added w.taken w.some w.most)
 
-same_length : tie.Need-same-length invariant-loop decreases-loop
+same_length : tie.Need-shape_of-plus invariant-loop decreases-loop
 same_length c =
-    let at_Side = c.before.before.before.before in
-    lifted_same _ _ _ at_Side.side2.ensures.added.long ∙ same_plus at_Side.before.before.before.before
+    let at_Side = c in
+    lifted_same _ _ _ at_Side.side-2.ensures.added.long ∙ same_plus at_Side.before.before.before.before.before.before.before.before
 
-same-length-2 : tie.Need-same-length-2 invariant-loop decreases-loop
-same-length-2 c =
-    let at_Side = c.before.before.before.before in
-    lifted_same _ _ _ at_Side.side2.ensures.taken.long ∙ same_minus at_Side.before.before.before.before
+same_length-2 : tie.Need-shape_of-minus invariant-loop decreases-loop
+same_length-2 c =
+    let at_Side = c in
+    lifted_same _ _ _ at_Side.side-2.ensures.taken.long ∙ same_minus at_Side.before.before.before.before.before.before.before.before
 
 returns : tie.Need-returns invariant-loop decreases-loop
 returns c =
-    let at_Side = c.before.before.before.before in
-    let test = at_Side.before.before.before in
-    walked_end test.before.loop.invariant test.loop-test.false at_Side.side2.ensures
+    let at_Side = c in
+    let test = at_Side in
+    walked_end test.loop-i.invariant test.loop-i-test.false at_Side.side-2.ensures
 
-pub sides-from-spec : {M : Type 1} → statement M
-sides-from-spec =
+pub sides_from_spec : {M : Type 1} → statement M
+sides_from_spec =
     tie.close
     (tie.spec invariant-loop decreases-loop (λ c. search rules) corner-requires loop-holds (λ c. search rules) (λ c. search rules)
     corner-requires-2 side-requires (λ c. search rules) (λ c. search rules) loop-again side-requires-2 same_length
-    same-length-2 returns)
+    same_length-2 returns)

@@ -4,13 +4,13 @@ use Rattle.ring_area.specs.laws.Splits.{split_low, split_high}
 use Rattle.ring_area.proofs.split.Statement.{statement}
 use Rattle.ring_area.proofs.split.Tie as tie
 
-returns : tie.Need-returns
-returns c = split_low _ c.if1.true
+returns : tie.Need-returns-then-e-eq0
+returns c = split_low _ c.if-e-eq0.true
 
-returns-2 : tie.Need-returns-2
-returns-2 c = split_high _ c.before.requires c.if1.false
+returns-2 : tie.Need-returns
+returns-2 c = split_high _ c.requires c.if-e-eq0.false
 
-pub split-spec : {M : Type 1} → statement M
-split-spec =
+pub split_spec : {M : Type 1} → statement M
+split_spec =
     tie.close
     (tie.spec returns (λ c. search rules) (λ c. search rules) returns-2)

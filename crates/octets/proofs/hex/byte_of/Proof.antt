@@ -6,7 +6,7 @@ use Rattle.octets.proofs.hex.byte_of.Statement.{statement}
 use Rattle.octets.proofs.hex.byte_of.Tie as tie
 
 returns : tie.Need-returns
-returns c = ap₂ (λ (x y : ℕ). x % 16 * 16 + y % 16) c.before.value.ensures c.value2.ensures
+returns c = ap₂ (λ (x y : ℕ). x % 16 * 16 + y % 16) c.value.ensures c.value-2.ensures
 
-pub byte-of-spec : {M : Type 1} → statement M
-byte-of-spec = tie.close (tie.spec (λ c κs. search rules) (λ c. search rules) (λ c κs. search rules) (λ c. search rules) returns)
+pub byte_of_spec : {M : Type 1} → statement M
+byte_of_spec = tie.close (tie.spec (λ c κs. search rules) (λ c. search rules) (λ c κs. search rules) (λ c. search rules) returns)

@@ -8,34 +8,34 @@ use borrow.Author.Rules.{rules}
 use Rattle.octets.proofs.hex.get_hex.Statement.{statement}
 use Rattle.octets.proofs.hex.get_hex.Tie as tie
 
-abbrev invariant-loop : tie.invariant-loop
+abbrev invariant-loop : tie.invariant-loop-i
 invariant-loop text out₀ i₀ out i = Unhexing text out₀ out i
 
-abbrev decreases-loop : tie.decreases-loop
+abbrev decreases-loop : tie.decreases-loop-i
 decreases-loop text out₀ i₀ out i = length out₀ - i
 
-loop-holds : tie.Need-loop-init invariant-loop decreases-loop
-loop-holds c = record { long = c.before.before.requires; within = omega arith; list = refl }
+loop-holds : tie.Need-loop-i-init invariant-loop decreases-loop
+loop-holds c = record { long = c.requires; within = omega arith; list = refl }
 
 -- in a turn: the text has two digits for the next byte, and can be counted
-inside : (c : tie.In-loop invariant-loop decreases-loop) → 2 * c.before.loop.i + 1 < length c.before.before.before.before.args.text.now
+inside : (c : tie.In-loop-i invariant-loop decreases-loop) → 2 * c.loop-i.i + 1 < length c.args.text.now
 inside c =
-    let l = c.before.loop in
-    omega (arith, c.loop-test.true, l.invariant.long, reading_length l.invariant)
+    let l = c.loop-i in
+    omega (arith, c.loop-i-test.true, l.invariant.long, reading_length l.invariant)
 
-counted : (c : tie.In-loop invariant-loop decreases-loop) → 2 * c.before.loop.i + 1 < 18446744073709551616
-counted c = omega (arith, inside c, c.before.before.before.before.well-formed.0.1)
+counted : (c : tie.In-loop-i invariant-loop decreases-loop) → 2 * c.loop-i.i + 1 < 18446744073709551616
+counted c = omega (arith, inside c, c.well_formed.0.1)
 
-loop-again : tie.Need-loop-preserved invariant-loop decreases-loop
+loop-again : tie.Need-loop-i-preserved invariant-loop decreases-loop
 loop-again c =
-    let w = c.before.before.before in
-    let l = w.before.loop in
-    reading_step l.invariant (omega (arith, w.loop-test.true, reading_length l.invariant)) c.byte_of.ensures
+    let w = c in
+    let l = w.loop-i in
+    reading_step l.invariant (omega (arith, w.loop-i-test.true, reading_length l.invariant)) c.byte_of.ensures
 
-pub get-hex-spec : {M : Type 1} → statement M
-get-hex-spec =
+pub get_hex_spec : {M : Type 1} → statement M
+get_hex_spec =
     tie.close
     (tie.spec invariant-loop decreases-loop loop-holds (λ c. omega (arith, counted c)) (λ c. omega (arith, inside c.before)) (λ c. omega (arith, counted c.before))
-    (λ c. omega (arith, counted c.before)) (λ c. inside c.before.before) (λ c κs. search rules) (λ c. c.before.before.before.loop-test.true)
-    (λ c. search rules) (λ c. omega (arith, c.before.before.before.loop-test.true, reading_length c.before.before.before.before.loop.invariant)) loop-again
-    (λ c. reading_length c.before.loop.invariant) (λ c. reading_end c.before.loop.invariant (omega (arith, c.loop-test.false, reading_length c.before.loop.invariant))))
+    (λ c. omega (arith, counted c.before)) (λ c. inside c.before.before) (λ c κs. search rules) (λ c. c.before.before.before.loop-i-test.true)
+    (λ c. search rules) (λ c. omega (arith, c.before.before.before.loop-i-test.true, reading_length c.before.before.before.before.loop-i.invariant)) loop-again
+    (λ c. reading_length c.before.loop-i.invariant) (λ c. reading_end c.before.loop-i.invariant (omega (arith, c.loop-i-test.false, reading_length c.before.loop-i.invariant))))

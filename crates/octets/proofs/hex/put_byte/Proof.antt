@@ -7,21 +7,21 @@ use borrow.Author.Rules.{rules}
 use Rattle.octets.proofs.hex.put_byte.Statement.{statement}
 use Rattle.octets.proofs.hex.put_byte.Tie as tie
 
-slice-write-out : tie.Need-slice-write-out
-slice-write-out c = omega (arith, c.before.before.before.requires, hex_length (c.before.before.before.args.b ∷ []))
+slice_write-out : tie.Need-bounds-out-at
+slice_write-out c = omega (arith, c.requires, hex_length (c.args.b ∷ []))
 
-slice-write-out-2 : tie.Need-slice-write-out-2
-slice-write-out-2 c =
-    let start = c.before.before.before in
-    omega (arith, start.requires, hex_length (start.args.b ∷ []), length-set start.args.out.now start.args.at c.before.digit.result)
+slice_write-out-2 : tie.Need-bounds-out-at-2
+slice_write-out-2 c =
+    let start = c in
+    omega (arith, start.requires, hex_length (start.args.b ∷ []), length-set start.args.out.now start.args.at c.digit-high.result)
 
 returns : tie.Need-returns
 returns c =
-    let a = c.before.before.before.args in
-    byte_wrote a.b a.out.now a.at c.before.digit.ensures c.digit2.ensures
+    let a = c.args in
+    byte_wrote a.b a.out.now a.at c.digit-high.ensures c.digit-low.ensures
 
-pub put-byte-spec : {M : Type 1} → statement M
-put-byte-spec =
+pub put_byte_spec : {M : Type 1} → statement M
+put_byte_spec =
     tie.close
-    (tie.spec (λ c κs. search rules) (λ c κs. search rules) slice-write-out (λ c. search rules)
-    slice-write-out-2 (λ c. search rules) (λ c. search rules) returns)
+    (tie.spec (λ c κs. search rules) (λ c κs. search rules) slice_write-out (λ c. search rules)
+    slice_write-out-2 (λ c. search rules) (λ c. search rules) returns)

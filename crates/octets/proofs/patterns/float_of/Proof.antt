@@ -9,11 +9,11 @@ use borrow.Author.Rules.{rules}
 use Rattle.octets.proofs.patterns.float_of.Statement.{statement}
 use Rattle.octets.proofs.patterns.float_of.Tie as tie
 
-returns : tie.Need-returns
-returns c = no_quotient ∙ sym (above_nan c.before.args.bits c.if1.true)
+returns : tie.Need-returns-then-bits-gt-INFINITY
+returns c = no_quotient ∙ sym (above_nan c.args.bits c.if-bits-gt-INFINITY.true)
 
-float-from-bits-result : tie.Need-float-from-bits-result
-float-from-bits-result c = subst (λ (b : Bool). T (not b)) (sym (nan_bits_is binary64 c.before.args.bits)) (up_to_no_nan c.before.args.bits c.if1.false)
+float_from_bits-result : tie.Need-float_from_bits-result
+float_from_bits-result c = subst (λ (b : Bool). T (not b)) (sym (nan_bits_is binary64 c.args.bits)) (up_to_no_nan c.args.bits c.if-bits-gt-INFINITY.false)
 
-pub float-of-spec : {M : Type 1} → statement M
-float-of-spec = tie.close (tie.spec returns float-from-bits-result (λ c. search rules))
+pub float_of_spec : {M : Type 1} → statement M
+float_of_spec = tie.close (tie.spec returns float_from_bits-result (λ c. search rules))

@@ -7,8 +7,8 @@ use borrow.Author.Rules.{rules}
 use Rattle.octets.proofs.patterns.pattern.Statement.{statement}
 use Rattle.octets.proofs.patterns.pattern.Tie as tie
 
-returns : tie.Need-returns
-returns c = sym (ap (to_bits binary64) (self_nan _ c.if1.true) ∙ bits_nan)
+returns : tie.Need-returns-then-x
+returns c = sym (ap (to_bits binary64) (self_nan _ c.if-x.true) ∙ bits_nan)
 
-pub pattern-spec : {M : Type 1} → statement M
-pattern-spec = tie.close (tie.spec returns (λ c. no_nan _ c.if1.false) (λ c. search rules))
+pub pattern_spec : {M : Type 1} → statement M
+pattern_spec = tie.close (tie.spec returns (λ c. no_nan _ c.if-x.false) (λ c. search rules))

@@ -5,7 +5,7 @@ use Rattle.ring_area.proofs.limits.less.Statement.{statement}
 use Rattle.ring_area.proofs.limits.less.Tie as tie
 
 returns : tie.Need-returns
-returns c = less_is c.before.difference.ensures
+returns c = less_is c.difference.ensures
 
-pub less-spec : {M : Type 1} → statement M
-less-spec = tie.close (tie.spec (λ c. search rules) (λ c κs. search rules) returns)
+pub less_spec : {M : Type 1} → statement M
+less_spec = tie.close (tie.spec (λ c. search rules) (λ c κs. search rules) returns)

@@ -6,11 +6,11 @@ use Rattle.ring_area.specs.limits.laws.Overs.{over_kept, over_none}
 use Rattle.ring_area.proofs.limits.over.Statement.{statement}
 use Rattle.ring_area.proofs.limits.over.Tie as tie
 
-returns : tie.Need-returns
-returns c = over_kept c.before.before.difference.ensures (length-replicate {A = ℕ} 94 0) c.if1.true
+returns : tie.Need-returns-then-difference-eq0
+returns c = over_kept c.difference.ensures (length-replicate {A = ℕ} 94 0) c.if-difference-eq0.true
 
-returns-2 : tie.Need-returns-2
-returns-2 c = over_none c.before.before.difference.ensures c.if1.false
+returns-2 : tie.Need-returns
+returns-2 c = over_none c.difference.ensures c.if-difference-eq0.false
 
-pub over-spec : {M : Type 1} → statement M
-over-spec = tie.close (tie.spec (λ c. search rules) (λ c κs. search rules) returns returns-2)
+pub over_spec : {M : Type 1} → statement M
+over_spec = tie.close (tie.spec (λ c. search rules) (λ c κs. search rules) returns returns-2)

@@ -7,24 +7,24 @@ use Rattle.ring_area.proofs.limits.scale.Tie as tie
 
 divide-requires : tie.Need-divide-requires
 divide-requires c κs =
-    let s = c.before.before.before in
+    let s = c in
     let g = power_good _ _ c.power.ensures (omega (arith, s.requires.0)) in
     (g.0, g.1, s.requires.1)
 
 divide-requires-2 : tie.Need-divide-requires-2
 divide-requires-2 c κs =
-    let first = c.before.before.before.before in
-    let s = first.before.before.before.before in
-    let g = power_good _ _ c.power2.ensures (omega (arith, s.requires.0)) in
+    let first = c in
+    let s = first in
+    let g = power_good _ _ c.power-2.ensures (omega (arith, s.requires.0)) in
     (g.0, g.1, first.divide.ensures.settled)
 
 returns : tie.Need-returns
 returns c =
-    let at_second = c.before.before in
-    let first = at_second.before.before.before.before.before in
-    scaled _ _ _ first.before.power.ensures at_second.before.power2.ensures first.divide.ensures at_second.divide2.ensures
+    let at_second = c in
+    let first = at_second in
+    scaled _ _ _ first.power.ensures at_second.power-2.ensures first.divide.ensures at_second.divide-2.ensures
 
-pub scale-spec : {M : Type 1} → statement M
-scale-spec =
+pub scale_spec : {M : Type 1} → statement M
+scale_spec =
     tie.close
     (tie.spec (λ c κs. search rules) divide-requires (λ c. search rules) (λ c κs. search rules) divide-requires-2 (λ c. search rules) returns)

@@ -6,19 +6,19 @@ use Rattle.ring_area.proofs.limits.settled_over.Tie as tie
 
 over-requires : tie.Need-over-requires
 over-requires c κs =
-    let second = c.before.before.before.before in
-    let first = second.before.before.before.before in
-    let s = first.before.before.before.before in
-    (long_self (carried_long s.requires.0 first.carry.ensures), long_self (carried_long s.requires.1 second.carry2.ensures))
+    let second = c in
+    let first = second in
+    let s = first in
+    (long_self (carried_long s.requires.0 first.carry.ensures), long_self (carried_long s.requires.1 second.carry-2.ensures))
 
 returns : tie.Need-returns
 returns c =
-    let second = c.before.before.before.before.before in
-    let first = second.before.before.before.before in
-    let s = first.before.before.before.before in
-    carried_over s.requires.0 s.requires.1 first.carry.ensures second.carry2.ensures c.over.ensures
+    let second = c in
+    let first = second in
+    let s = first in
+    carried_over s.requires.0 s.requires.1 first.carry.ensures second.carry-2.ensures c.over.ensures
 
-pub settled-over-spec : {M : Type 1} → statement M
-settled-over-spec =
+pub settled_over_spec : {M : Type 1} → statement M
+settled_over_spec =
     tie.close
     (tie.spec (λ c κs. search rules) (λ c κs. search rules) over-requires (λ c. search rules) (λ c. search rules) returns)

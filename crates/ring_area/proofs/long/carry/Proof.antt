@@ -7,32 +7,32 @@ use Rattle.ring_area.specs.long.laws.Carries.{Carrying, carrying_start, carrying
 use Rattle.ring_area.proofs.long.carry.Statement.{statement}
 use Rattle.ring_area.proofs.long.carry.Tie as tie
 
-abbrev invariant-loop : tie.invariant-loop
+abbrev invariant-loop : tie.invariant-loop-i
 invariant-loop limbs₀ c₀ i₀ limbs c i = Carrying limbs₀ limbs c i
 
-abbrev decreases-loop : tie.decreases-loop
+abbrev decreases-loop : tie.decreases-loop-i
 decreases-loop limbs₀ c₀ i₀ limbs c i = length limbs₀ - i
 
-loop-holds : tie.Need-loop-init invariant-loop decreases-loop
+loop-holds : tie.Need-loop-i-init invariant-loop decreases-loop
 loop-holds c = carrying_start _
 
-add-x : tie.Need-overflow-add-x invariant-loop decreases-loop
-add-x c = let l = c.before.before in omega (arith, carrying_fits l.loop.invariant l.before.requires)
+add-x : tie.Need-overflow_add-x invariant-loop decreases-loop
+add-x c = let l = c in omega (arith, carrying_fits l.loop-i.invariant l.requires)
 
-loop-less : tie.Need-loop-smaller invariant-loop decreases-loop
-loop-less c = omega (arith, c.before.before.loop.invariant.long)
+loop-less : tie.Need-loop-i-smaller invariant-loop decreases-loop
+loop-less c = omega (arith, c.loop-i.invariant.long)
 
-loop-again : tie.Need-loop-preserved invariant-loop decreases-loop
-loop-again c = let l = c.before.before in carrying_step l.loop.invariant (omega arith) l.before.requires
+loop-again : tie.Need-loop-i-preserved invariant-loop decreases-loop
+loop-again c = let l = c in carrying_step l.loop-i.invariant (omega arith) l.requires
 
-same_length : tie.Need-same-length invariant-loop decreases-loop
-same_length c = c.before.loop.invariant.long
+same_length : tie.Need-shape_of-limbs invariant-loop decreases-loop
+same_length c = c.loop-i.invariant.long
 
 returns : tie.Need-returns invariant-loop decreases-loop
-returns c = carrying_end c.before.loop.invariant (omega arith)
+returns c = carrying_end c.loop-i.invariant (omega arith)
 
-pub carry-spec : {M : Type 1} → statement M
-carry-spec =
+pub carry_spec : {M : Type 1} → statement M
+carry_spec =
     tie.close
     (tie.spec invariant-loop decreases-loop loop-holds (λ c. search rules) (λ c. search rules) add-x (λ c. search rules) (λ c. search rules)
     (λ c. search rules) loop-less loop-again same_length returns)

@@ -7,65 +7,65 @@ use Rattle.ring_area.specs.long.laws.Differences.{Differing, differing_start, di
 use Rattle.ring_area.proofs.long.difference.Statement.{statement}
 use Rattle.ring_area.proofs.long.difference.Tie as tie
 
-abbrev invariant-loop : tie.invariant-loop
+abbrev invariant-loop : tie.invariant-loop-i
 invariant-loop out₀ a b borrowed₀ i₀ out borrowed i = Differing a b out₀ out borrowed i
 
-abbrev decreases-loop : tie.decreases-loop
+abbrev decreases-loop : tie.decreases-loop-i
 decreases-loop out₀ a b borrowed₀ i₀ out borrowed i = length out₀ - i
 
-loop-holds : tie.Need-loop-init invariant-loop decreases-loop
+loop-holds : tie.Need-loop-i-init invariant-loop decreases-loop
 loop-holds c = differing_start _ _ _
 
-shared-slice-read-x : tie.Need-shared-slice-read-x invariant-loop decreases-loop
-shared-slice-read-x c =
-    let l = c.before.before in
-    omega (arith, l.loop.invariant.long, l.before.requires.0)
+shared_slice_read-x : tie.Need-bounds-a-i invariant-loop decreases-loop
+shared_slice_read-x c =
+    let l = c in
+    omega (arith, l.loop-i.invariant.long, l.requires.0)
 
-add-x : tie.Need-overflow-add-x invariant-loop decreases-loop
+add-x : tie.Need-overflow_add-x invariant-loop decreases-loop
 add-x c =
-    let l = c.before.before in
-    omega (arith, l.before.requires.2.each l.loop.i)
+    let l = c in
+    omega (arith, l.requires.2.each l.loop-i.i)
 
-shared-slice-read-x-2 : tie.Need-shared-slice-read-x-2 invariant-loop decreases-loop
-shared-slice-read-x-2 c =
-    let l = c.before.before.before in
-    omega (arith, l.loop.invariant.long, l.before.requires.1)
+shared_slice_read-x-2 : tie.Need-bounds-b-i invariant-loop decreases-loop
+shared_slice_read-x-2 c =
+    let l = c in
+    omega (arith, l.loop-i.invariant.long, l.requires.1)
 
-sub-x : tie.Need-overflow-sub-x invariant-loop decreases-loop
+sub-x : tie.Need-overflow_sub-x invariant-loop decreases-loop
 sub-x c =
-    let l = c.before.before.before in
-    omega (arith, l.before.requires.3.each l.loop.i)
+    let l = c in
+    omega (arith, l.requires.3.each l.loop-i.i)
 
-sub-x-2 : tie.Need-overflow-sub-x-2 invariant-loop decreases-loop
+sub-x-2 : tie.Need-overflow_sub-x-in-loop-i invariant-loop decreases-loop
 sub-x-2 c =
-    let l = c.before.before.before in
-    omega (arith, l.before.requires.3.each l.loop.i, l.loop.invariant.borrowed)
+    let l = c in
+    omega (arith, l.requires.3.each l.loop-i.i, l.loop-i.invariant.borrowed)
 
-sub-borrowed : tie.Need-overflow-sub-borrowed invariant-loop decreases-loop
+sub-borrowed : tie.Need-overflow_sub-borrowed invariant-loop decreases-loop
 sub-borrowed c =
-    let l = c.before.before.before in
-    omega (arith, l.before.requires.2.each l.loop.i)
+    let l = c in
+    omega (arith, l.requires.2.each l.loop-i.i)
 
-loop-less : tie.Need-loop-smaller invariant-loop decreases-loop
-loop-less c = omega (arith, c.before.before.before.loop.invariant.long)
+loop-less : tie.Need-loop-i-smaller invariant-loop decreases-loop
+loop-less c = omega (arith, c.loop-i.invariant.long)
 
-loop-again : tie.Need-loop-preserved invariant-loop decreases-loop
+loop-again : tie.Need-loop-i-preserved invariant-loop decreases-loop
 loop-again c =
-    let l = c.before.before.before in
-    let p = l.before.requires in
-    differing_step l.loop.invariant p.0 p.1 p.2 p.3 (omega arith)
+    let l = c in
+    let p = l.requires in
+    differing_step l.loop-i.invariant p.0 p.1 p.2 p.3 (omega arith)
 
-same_length : tie.Need-same-length invariant-loop decreases-loop
-same_length c = c.before.loop.invariant.long
+same_length : tie.Need-shape_of-out invariant-loop decreases-loop
+same_length c = c.loop-i.invariant.long
 
 returns : tie.Need-returns invariant-loop decreases-loop
 returns c =
-    let p = c.before.before.requires in
-    differing_end c.before.loop.invariant p.0 p.1 (omega arith)
+    let p = c.requires in
+    differing_end c.loop-i.invariant p.0 p.1 (omega arith)
 
-pub difference-spec : {M : Type 1} → statement M
-difference-spec =
+pub difference_spec : {M : Type 1} → statement M
+difference_spec =
     tie.close
-    (tie.spec invariant-loop decreases-loop loop-holds (λ c. search rules) shared-slice-read-x add-x (λ c. search rules) shared-slice-read-x-2
+    (tie.spec invariant-loop decreases-loop loop-holds (λ c. search rules) shared_slice_read-x add-x (λ c. search rules) shared_slice_read-x-2
     sub-x sub-x-2 (λ c. search rules) (λ c. search rules) sub-borrowed (λ c. search rules) loop-less loop-again
     same_length returns)

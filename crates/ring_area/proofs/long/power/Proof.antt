@@ -11,7 +11,7 @@ use Rattle.ring_area.proofs.long.power.Tie as tie
 returns : tie.Need-returns
 returns c = shl_exact 1 c.args.b 64 (lit< tt) (omega arith) ∙ one-mul _
 
-pub power-spec : {M : Type 1} → statement M
-power-spec =
+pub power_spec : {M : Type 1} → statement M
+power_spec =
     tie.close
     (tie.spec (λ c. search rules) returns)

@@ -5,15 +5,15 @@ use borrow.Author.Rules.{rules}
 use Rattle.ring_area.proofs.rounded.pair.Statement.{statement}
 use Rattle.ring_area.proofs.rounded.pair.Tie as tie
 
-mul-result : tie.Need-overflow-mul-result
+mul-result : tie.Need-overflow_mul-result
 mul-result c =
-    let s = c.before.before.before in
-    omega (arith, c.limb2.ensures, s.requires.0.each (s.args.i + 1))
+    let s = c in
+    omega (arith, c.limb-2.ensures, s.requires.0.each (s.args.i + 1))
 
-add-result : tie.Need-overflow-add-result
+add-result : tie.Need-overflow_add-result
 add-result c =
-    let s = c.before.before.before in
-    omega (arith, c.limb2.ensures, c.before.limb.ensures, s.requires.0.each s.args.i, s.requires.0.each (s.args.i + 1))
+    let s = c in
+    omega (arith, c.limb-2.ensures, c.limb.ensures, s.requires.0.each s.args.i, s.requires.0.each (s.args.i + 1))
 
 pub pair_spec : {M : Type 1} → statement M
 pair_spec =

@@ -11,31 +11,31 @@ use Rattle.ring_area.specs.rounded.laws.Patterns.{pattern_rounds, no_nan}
 use Rattle.ring_area.proofs.rounded.rounded.Statement.{statement}
 use Rattle.ring_area.proofs.rounded.rounded.Tie as tie
 
-float-from-bits-result : tie.Need-float-from-bits-result
-float-from-bits-result c = no_nan _ c.before.pattern.result (omega (arith, c.before.pattern.ensures.1)) c.before.pattern.ensures.1
+float_from_bits-result : tie.Need-float_from_bits-result
+float_from_bits-result c = no_nan _ c.pattern-b.result (omega (arith, c.pattern-b.ensures.1)) c.pattern-b.ensures.1
 
-returns : tie.Need-returns
+returns : tie.Need-returns-then-minus
 returns c =
-    let s = c.before.before.before in
+    let s = c in
     pattern_rounds (amount (lifted s.args.from s.args.limbs.now)) (amount_under (lifted s.args.from s.args.limbs.now) s.requires.0 s.requires.1) s.args.minus _
-    (signed s.args.minus c.before.pattern.result (rounded_pattern (amount (lifted s.args.from s.args.limbs.now))) c.if1.true c.before.pattern.ensures.0)
+    (signed s.args.minus c.pattern-b.result (rounded_pattern (amount (lifted s.args.from s.args.limbs.now))) c.if-minus.true c.pattern-b.ensures.0)
   where
     signed : (s : Bool) (r p : ℕ) → s ≡ true → r ≡ p → 2 ^ 63 + r ≡ cond s (2 ^ 63) 0 + p
     signed s r p e h = rw e (ap (λ (x : ℕ). 2 ^ 63 + x) h)
 
-float-from-bits-result-2 : tie.Need-float-from-bits-result-2
-float-from-bits-result-2 c = no_nan _ c.before.pattern.result (omega (arith, c.before.pattern.ensures.1)) c.before.pattern.ensures.1
+float_from_bits-result-2 : tie.Need-float_from_bits-result-2
+float_from_bits-result-2 c = no_nan _ c.pattern-b.result (omega (arith, c.pattern-b.ensures.1)) c.pattern-b.ensures.1
 
-returns-2 : tie.Need-returns-2
+returns-2 : tie.Need-returns
 returns-2 c =
-    let s = c.before.before.before in
+    let s = c in
     pattern_rounds (amount (lifted s.args.from s.args.limbs.now)) (amount_under (lifted s.args.from s.args.limbs.now) s.requires.0 s.requires.1) s.args.minus _
-    (plain s.args.minus c.before.pattern.result (rounded_pattern (amount (lifted s.args.from s.args.limbs.now))) c.if1.false c.before.pattern.ensures.0)
+    (plain s.args.minus c.pattern-b.result (rounded_pattern (amount (lifted s.args.from s.args.limbs.now))) c.if-minus.false c.pattern-b.ensures.0)
   where
     plain : (s : Bool) (r p : ℕ) → s ≡ false → r ≡ p → r ≡ cond s (2 ^ 63) 0 + p
     plain s r p e h = rw e (omega arith)
 
-pub rounded-spec : {M : Type 1} → statement M
-rounded-spec =
+pub rounded_spec : {M : Type 1} → statement M
+rounded_spec =
     tie.close
-    (tie.spec (λ c κs. search rules) (λ c. search rules) float-from-bits-result returns float-from-bits-result-2 returns-2)
+    (tie.spec (λ c κs. search rules) (λ c. search rules) float_from_bits-result returns float_from_bits-result-2 returns-2)

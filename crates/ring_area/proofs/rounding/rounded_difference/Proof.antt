@@ -6,9 +6,9 @@ use Rattle.ring_area.proofs.rounding.rounded_difference.Statement.{statement}
 use Rattle.ring_area.proofs.rounding.rounded_difference.Tie as tie
 
 returns : tie.Need-returns
-returns c = c.before.rounded-from.ensures ∙ whole_half _ _
+returns c = c.rounded_from.ensures ∙ whole_half _ _
 
-pub rounded-difference-spec : {M : Type 1} → statement M
-rounded-difference-spec =
+pub rounded_difference_spec : {M : Type 1} → statement M
+rounded_difference_spec =
     tie.close
     (tie.spec (λ c. search rules) (λ c κs. search rules) returns)

@@ -6,10 +6,10 @@ use Rattle.ring_area.proofs.rounding.widen_corner.Tie as tie
 
 returns : tie.Need-returns
 returns c =
-    let first = c.before in (
-      widened_then first.widen.ensures.0 c.widen2.ensures.0,
-      record { x = reached_still c.widen2.ensures.0 first.widen.ensures.1; y = c.widen2.ensures.1 },
+    let first = c in (
+      widened_then first.widen.ensures.0 c.widen-2.ensures.0,
+      record { x = reached_still c.widen-2.ensures.0 first.widen.ensures.1; y = c.widen-2.ensures.1 },
     )
 
-pub widen-corner-spec : {M : Type 1} → statement M
-widen-corner-spec = tie.close (tie.spec (λ c κs. search rules) (λ c κs. search rules) returns)
+pub widen_corner_spec : {M : Type 1} → statement M
+widen_corner_spec = tie.close (tie.spec (λ c κs. search rules) (λ c κs. search rules) returns)
