@@ -7,58 +7,58 @@ use Rattle.form.specs.laws.Feed.{Feeding, feeding_start, feeding_step, feeding_e
 use Rattle.form.proofs.feed.Statement.{statement}
 use Rattle.form.proofs.feed.Tie as tie
 
-abbrev invariant-loop : tie.invariant-loop
+abbrev invariant-loop : tie.invariant-loop-i
 invariant-loop bytes bounds₀ sites₀ triangles₀ halfedges₀ hull₀ n₀ i₀ bounds sites triangles halfedges hull n i =
     Feeding bytes (reading n₀ bounds₀ sites₀ triangles₀ halfedges₀ hull₀) (reading n bounds sites triangles halfedges hull) i
 
-abbrev decreases-loop : tie.decreases-loop
+abbrev decreases-loop : tie.decreases-loop-i
 decreases-loop bytes bounds₀ sites₀ triangles₀ halfedges₀ hull₀ n₀ i₀ bounds sites triangles halfedges hull n i =
     length bytes - i
 
-abbrev Start : tie.In-loop invariant-loop decreases-loop → tie.Start invariant-loop decreases-loop
+abbrev Start : tie.In-loop-i invariant-loop decreases-loop → tie.Start invariant-loop decreases-loop
 Start c = c.before.before.before.before.before.before.before.before
 
-abbrev Taken : tie.After-slice-known10 invariant-loop decreases-loop → tie.After-take invariant-loop decreases-loop
+abbrev Taken : tie.After-slice_known-in-loop-i-5-1 invariant-loop decreases-loop → tie.After-take-n invariant-loop decreases-loop
 Taken c = c.before.before.before.before.before.before.before.before.before.before
 
-loop-holds : tie.Need-loop-init invariant-loop decreases-loop
-loop-holds c = let s = c.before.before.before.before.before.before in
+loop-holds : tie.Need-loop-i-init invariant-loop decreases-loop
+loop-holds c = let s = c in
     let a = s.args in
     feeding_start a.bytes.now (reading a.r a.bounds.now a.sites.now a.triangles.now a.halfedges.now a.hull.now) s.requires.0
 
-take-requires : tie.Need-take-requires invariant-loop decreases-loop
-take-requires c κs = let u = c.before.before.before.before.before.before in (u.before.loop.invariant.ok, room_same (Start u).requires.1 u.before.loop.invariant.same)
+take-requires : tie.Need-take-n-requires invariant-loop decreases-loop
+take-requires c κs = let u = c in (u.loop-i.invariant.ok, room_same (Start u.before.before.before.before.before.before).requires.1 u.loop-i.invariant.same)
 
-short : tie.Need-overflow-add-i invariant-loop decreases-loop
-short c = let u = (Taken c).before.before.before.before.before.before.before in omega (arith, u.loop-test.taken, (Start u).good.1.0.0)
+short : tie.Need-overflow_add-i invariant-loop decreases-loop
+short c = let u = Taken c in omega (arith, u.loop-i-test.true, (Start u.before.before.before.before.before.before.before).well_formed.1.0.0)
 
-loop-again : tie.Need-loop-preserved invariant-loop decreases-loop
+loop-again : tie.Need-loop-i-preserved invariant-loop decreases-loop
 loop-again c = let t = Taken c in
-    let u = t.before.before.before.before.before.before.before in
-    let k = t.take.kept in
-    feeding_step u.before.loop.inv _ u.loop-test.taken t.take.ensures
-    (record { bounds = k.1.1.0; sites = k.1.1.1.0; triangles = k.1.1.1.1.0; halfedges = k.1.1.1.1.1.0; hull = k.1.1.1.1.1.1.0 })
+    let u = t in
+    let k = t.take-n.auto in
+    feeding_step u.loop-i.invariant _ u.loop-i-test.true t.take-n.ensures
+    (record { bounds = k.bounds; sites = k.sites; triangles = k.triangles; halfedges = k.halfedges; hull = k.hull })
 
-same_length : tie.Need-same-length invariant-loop decreases-loop
-same_length c = c.before.loop.invariant.same.bounds
+same_length : tie.Need-shape_of-bounds invariant-loop decreases-loop
+same_length c = c.loop-i.invariant.same.bounds
 
-same-length-2 : tie.Need-same-length-2 invariant-loop decreases-loop
-same-length-2 c = c.before.loop.invariant.same.sites
+same_length-2 : tie.Need-shape_of-sites invariant-loop decreases-loop
+same_length-2 c = c.loop-i.invariant.same.sites
 
-same-length-3 : tie.Need-same-length-3 invariant-loop decreases-loop
-same-length-3 c = c.before.loop.invariant.same.triangles
+same_length-3 : tie.Need-shape_of-triangles invariant-loop decreases-loop
+same_length-3 c = c.loop-i.invariant.same.triangles
 
-same-length-4 : tie.Need-same-length-4 invariant-loop decreases-loop
-same-length-4 c = c.before.loop.invariant.same.halfedges
+same_length-4 : tie.Need-shape_of-halfedges invariant-loop decreases-loop
+same_length-4 c = c.loop-i.invariant.same.halfedges
 
-same-length-5 : tie.Need-same-length-5 invariant-loop decreases-loop
-same-length-5 c = c.before.loop.invariant.same.hull
+same_length-5 : tie.Need-shape_of-hull invariant-loop decreases-loop
+same_length-5 c = c.loop-i.invariant.same.hull
 
 returns : tie.Need-returns invariant-loop decreases-loop
-returns c = (feeding_end c.before.loop.invariant c.loop-test.false, c.before.loop.invariant.ok)
+returns c = (feeding_end c.loop-i.invariant c.loop-i-test.false, c.loop-i.invariant.ok)
 
-pub feed-spec : {M : Type 1} → statement M
-feed-spec =
+pub feed_spec : {M : Type 1} → statement M
+feed_spec =
     tie.close
     (tie.spec invariant-loop decreases-loop loop-holds (λ c. omega arith) take-requires short (λ c. omega arith)
-    loop-again same_length same-length-2 same-length-3 same-length-4 same-length-5 returns)
+    loop-again same_length same_length-2 same_length-3 same_length-4 same_length-5 returns)

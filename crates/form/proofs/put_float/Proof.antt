@@ -5,15 +5,15 @@ use borrow.Author.Rules.{rules}
 use Rattle.form.proofs.put_float.Statement.{statement}
 use Rattle.form.proofs.put_float.Tie as tie
 
-returns : tie.Need-returns
+returns : tie.Need-returns-then-left-ne0
 unfolding put_float
-returns c = rw (ne_eqb _ _ c.if1.true)
+returns c = rw (ne_eqb _ _ c.if-left-ne0.true)
 
-returns-2 : tie.Need-returns-2
+returns-2 : tie.Need-returns
 unfolding put_float
-returns-2 c = rw (eq-eqb _ _ c.before.if1.false, c.float_of.ensures)
+returns-2 c = rw (eq-eqb _ _ c.if-left-ne0.false, c.float_of.ensures)
 
-pub put-float-spec : {M : Type 1} → statement M
-put-float-spec =
+pub put_float_spec : {M : Type 1} → statement M
+put_float_spec =
     tie.close (tie.spec returns (λ c κs. search rules) (λ c. search rules) (λ c. search rules) (λ c. search rules)
     (λ c. search rules) returns-2)

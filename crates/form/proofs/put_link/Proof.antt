@@ -5,16 +5,16 @@ use borrow.Author.Rules.{rules}
 use Rattle.form.proofs.put_link.Statement.{statement}
 use Rattle.form.proofs.put_link.Tie as tie
 
-returns : tie.Need-returns
+returns : tie.Need-returns-then-left-ne0
 unfolding put_link
-returns c = rw (ne_eqb _ _ c.if1.true)
+returns c = rw (ne_eqb _ _ c.if-left-ne0.true)
 
-returns-2 : tie.Need-returns-2
+returns-2 : tie.Need-returns
 unfolding put_link
-returns-2 c = rw (eq-eqb _ _ c.if1.false)
+returns-2 c = rw (eq-eqb _ _ c.if-left-ne0.false)
 
-pub put-link-spec : {M : Type 1} → statement M
-put-link-spec =
+pub put_link_spec : {M : Type 1} → statement M
+put_link_spec =
     tie.close
     (tie.spec returns (λ c. search rules) (λ c. search rules) (λ c. search rules) (λ c. search rules)
     (λ c. search rules) returns-2)

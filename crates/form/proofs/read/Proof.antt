@@ -5,20 +5,20 @@ use borrow.Author.Rules.{rules}
 use Rattle.form.proofs.read.Statement.{statement}
 use Rattle.form.proofs.read.Tie as tie
 
-abbrev Fed : tie.After-finish → tie.After-feed
+abbrev Fed : tie.After-finish → tie.After-feed-r
 Fed c = c.before.before.before.before.before.before.before.before.before.before.before
 
-feed-requires : tie.Need-feed-requires
-feed-requires c κs = let b = c.before.before.before.before.before in
-    let s = b.before.before.before.before.before.before.before in
+feed-requires : tie.Need-feed-r-requires
+feed-requires c κs = let b = c in
+    let s = b in
     (rw b.start.ensures (ok_start s.args.old), s.requires)
 
 returns : tie.Need-returns
 returns c = let f = Fed c in
-    let b = f.before.before.before.before.before.before in
-    let a = b.before.before.before.before.before.before.before.args in
-    reads_all a.old a.bytes.now b.start.result f.feed.result a.bounds.now a.sites.now a.triangles.now a.halfedges.now a.hull.now _ _ _ _ _ c.finish.result
-    b.start.ensures f.feed.ensures.0 f.feed.ensures.1 c.finish.ensures
+    let b = f in
+    let a = b.args in
+    reads_all a.old a.bytes.now b.start.result f.feed-r.result a.bounds.now a.sites.now a.triangles.now a.halfedges.now a.hull.now _ _ _ _ _ c.finish.result
+    b.start.ensures f.feed-r.ensures.0 f.feed-r.ensures.1 c.finish.ensures
 
 pub read_spec : {M : Type 1} → statement M
 read_spec =

@@ -4,7 +4,7 @@ use Rattle.vertices.proofs.add_at.Statement.{statement}
 use Rattle.vertices.proofs.add_at.Tie as tie
 
 returns : tie.Need-returns
-returns c = c.before.before.before.before.add-new-vertex.ensures
+returns c = c.add_new_vertex.ensures
 
-pub add-at-spec : {M : Type 1} → statement M
-add-at-spec = tie.close (tie.spec (λ c κs. search rules) (λ c. search rules) (λ c. search rules) returns)
+pub add_at_spec : {M : Type 1} → statement M
+add_at_spec = tie.close (tie.spec (λ c κs. search rules) (λ c. search rules) (λ c. search rules) returns)

@@ -12,16 +12,16 @@ abbrev Start : tie.After-put → tie.Start
 Start c = c.before.before.before.before
 
 insert-requires : tie.Need-insert-requires
-insert-requires c κs = let s = Start c.before.before.before in home_in (heads_of (length s.args.indexes.now - s.args.limit)) s.args.p s.pre.1.0
+insert-requires c κs = let s = Start c.before.before.before in home_in (heads_of (length s.args.indexes.now - s.args.limit)) s.args.p s.requires.1.0
 
 returns : tie.Need-returns
 returns c =
-    let at-insert = c.before.before in
-    let at-put = at-insert.before.before.before.before in
-    let s = Start at-put in
+    let at-insert = c in
+    let at-put = at-insert in
+    let s = Start at-put.before.before.before.before.before.before in
     rw at-put.put.ensures
-    (appended s.args.centers s.args.limit s.args.count s.args.p s.args.vertices.now s.args.indexes.now _ s.pre.0 s.pre.1.1 s.pre.1.0
+    (appended s.args.centers s.args.limit s.args.count s.args.p s.args.vertices.now s.args.indexes.now _ s.requires.0 s.requires.1.1 s.requires.1.0
     at-insert.insert.ensures)
 
-pub append-spec : {M : Type 1} → statement M
-append-spec = tie.close (tie.spec (λ c κs. search rules) (λ c. search rules) insert-requires (λ c. search rules) (λ c. search rules) returns)
+pub append_spec : {M : Type 1} → statement M
+append_spec = tie.close (tie.spec (λ c κs. search rules) (λ c. search rules) insert-requires (λ c. search rules) (λ c. search rules) returns)

@@ -10,8 +10,8 @@ use Rattle.vertices.proofs.vertex.Tie as tie
 
 returns : tie.Need-returns
 returns c =
-    let a = c.before.before.args in
+    let a = c.args in
     c.point_at.ensures ∙ sym (get_d_points a.vertices.now a.count a.i (at nan nan) (omega arith))
 
-pub vertex-spec : {M : Type 1} → statement M
-vertex-spec = tie.close (tie.spec (λ c κs. search rules) returns)
+pub vertex_spec : {M : Type 1} → statement M
+vertex_spec = tie.close (tie.spec (λ c κs. search rules) returns)

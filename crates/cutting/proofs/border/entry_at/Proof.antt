@@ -6,8 +6,8 @@ use borrow.Author.Rules.{rules}
 use Rattle.cutting.proofs.border.entry_at.Statement.{statement}
 use Rattle.cutting.proofs.border.entry_at.Tie as tie
 
-returns-2 : tie.Need-returns-2
-returns-2 c = sym (get_or-eq_default c.before.args.list.now 0 {n = c.before.args.k} (omega (arith, c.if1.false)))
+returns-2 : tie.Need-returns
+returns-2 c = sym (get_or-eq_default c.args.list.now 0 {n = c.args.k} (omega (arith, c.if-k-list.false)))
 
-pub entry-at-spec : {M : Type 1} → statement M
-entry-at-spec = tie.close (tie.spec (λ c. search rules) (λ c. search rules) (λ c. search rules) returns-2)
+pub entry_at_spec : {M : Type 1} → statement M
+entry_at_spec = tie.close (tie.spec (λ c. search rules) (λ c. search rules) (λ c. search rules) returns-2)

@@ -7,23 +7,23 @@ use Rattle.cutting.specs.border.Border.{undirected_at}
 use Rattle.cutting.proofs.border.first_undirected.Statement.{statement}
 use Rattle.cutting.proofs.border.first_undirected.Tie as tie
 
-abbrev invariant-loop : tie.invariant-loop
+abbrev invariant-loop : tie.invariant-loop-i
 invariant-loop sites triangles hull table i₀ i = NoneTo (undirected_at sites triangles hull table) (length hull) i
 
-abbrev decreases-loop : tie.decreases-loop
+abbrev decreases-loop : tie.decreases-loop-i
 decreases-loop sites triangles hull table i₀ i = length hull - i
 
-loop-holds : tie.Need-loop-init invariant-loop decreases-loop
+loop-holds : tie.Need-loop-i-init invariant-loop decreases-loop
 loop-holds c = passed_start _ _
 
-returns : tie.Need-returns invariant-loop decreases-loop
-returns c = passed_found c.before.before.before.loop.invariant (omega arith) c.before.is-undirected.ensures c.if1.true
+returns : tie.Need-returns-then-is_undirected invariant-loop decreases-loop
+returns c = passed_found c.loop-i.invariant (omega arith) c.is_undirected.ensures c.if-is_undirected.true
 
-loop-again : tie.Need-loop-preserved invariant-loop decreases-loop
-loop-again c = passed_step c.before.before.before.loop.invariant (omega arith) c.before.is-undirected.ensures c.if1.false
+loop-again : tie.Need-loop-i-preserved invariant-loop decreases-loop
+loop-again c = passed_step c.loop-i.invariant (omega arith) c.is_undirected.ensures c.if-is_undirected.false
 
-returns-2 : tie.Need-returns-2 invariant-loop decreases-loop
-returns-2 c = passed_end c.before.loop.invariant (omega arith)
+returns-2 : tie.Need-returns invariant-loop decreases-loop
+returns-2 c = passed_end c.loop-i.invariant (omega arith)
 
-pub first-undirected-spec : {M : Type 1} → statement M
-first-undirected-spec = tie.close (tie.spec invariant-loop decreases-loop loop-holds (λ c κs. tt) returns (λ c. omega arith) (λ c. omega arith) loop-again returns-2)
+pub first_undirected_spec : {M : Type 1} → statement M
+first_undirected_spec = tie.close (tie.spec invariant-loop decreases-loop loop-holds (λ c κs. tt) returns (λ c. omega arith) (λ c. omega arith) loop-again returns-2)

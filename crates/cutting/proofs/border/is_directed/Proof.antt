@@ -8,5 +8,5 @@ returns : tie.Need-returns
 unfolding directed
 returns c = refl
 
-pub is-directed-spec : {M : Type 1} → statement M
-is-directed-spec = tie.close (tie.spec returns)
+pub is_directed_spec : {M : Type 1} → statement M
+is_directed_spec = tie.close (tie.spec returns)

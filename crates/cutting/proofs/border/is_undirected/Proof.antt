@@ -6,7 +6,7 @@ use Rattle.cutting.proofs.border.is_undirected.Tie as tie
 
 returns : tie.Need-returns
 unfolding undirected_at
-returns c = rw (← c.before.before.arrives.ensures, ← c.before.toward.ensures, ← c.is-directed.ensures) refl
+returns c = rw (← c.arrives.ensures, ← c.toward.ensures, ← c.is_directed.ensures) refl
 
-pub is-undirected-spec : {M : Type 1} → statement M
-is-undirected-spec = tie.close (tie.spec (λ c κs. tt) (λ c κs. tt) (λ c κs. tt) returns)
+pub is_undirected_spec : {M : Type 1} → statement M
+is_undirected_spec = tie.close (tie.spec (λ c κs. tt) (λ c κs. tt) (λ c κs. tt) returns)

@@ -8,5 +8,5 @@ returns : tie.Need-returns
 unfolding normal_of
 returns c = refl
 
-pub normal-spec : {M : Type 1} → statement M
-normal-spec = tie.close (tie.spec returns)
+pub normal_spec : {M : Type 1} → statement M
+normal_spec = tie.close (tie.spec returns)

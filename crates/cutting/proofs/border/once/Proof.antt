@@ -4,11 +4,11 @@ use Rattle.cutting.specs.border.laws.Counting.{once_is, once_not}
 use Rattle.cutting.proofs.border.once.Statement.{statement}
 use Rattle.cutting.proofs.border.once.Tie as tie
 
-returns : tie.Need-returns
-returns c = once_is c.before.before.before.args.t c.if1.true
+returns : tie.Need-returns-then-t
+returns c = once_is c.args.t c.if-t.true
 
-returns-2 : tie.Need-returns-2
-returns-2 c = once_not c.before.before.before.args.t c.if1.false
+returns-2 : tie.Need-returns-else-t
+returns-2 c = once_not c.args.t c.if-t.false
 
-pub once-spec : {M : Type 1} → statement M
-once-spec = tie.close (tie.spec (λ c. search rules) returns returns-2)
+pub once_spec : {M : Type 1} → statement M
+once_spec = tie.close (tie.spec (λ c. search rules) returns returns-2)

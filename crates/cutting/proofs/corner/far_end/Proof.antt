@@ -2,5 +2,5 @@
 use Rattle.cutting.proofs.corner.far_end.Statement.{statement}
 use Rattle.cutting.proofs.corner.far_end.Tie as tie
 
-pub far-end-spec : {M : Type 1} → statement M
-far-end-spec = tie.close (tie.spec (λ c κs. tt) (λ c κs. tt) (λ c. cc))
+pub far_end_spec : {M : Type 1} → statement M
+far_end_spec = tie.close (tie.spec (λ c κs. tt) (λ c κs. tt) (λ c. cc))

@@ -3,5 +3,5 @@ use borrow.Author.Rules.{rules}
 use Rattle.cutting.proofs.corner.on_side.Statement.{statement}
 use Rattle.cutting.proofs.corner.on_side.Tie as tie
 
-pub on-side-spec : {M : Type 1} → statement M
-on-side-spec = tie.close (tie.spec (λ c. search rules) (λ c. search rules) (λ c. search rules) (λ c. search rules) (λ c. cc) (λ c. cc) (λ c. cc) (λ c. cc))
+pub on_side_spec : {M : Type 1} → statement M
+on_side_spec = tie.close (tie.spec (λ c. search rules) (λ c. search rules) (λ c. search rules) (λ c. search rules) (λ c. cc) (λ c. cc) (λ c. cc) (λ c. cc))

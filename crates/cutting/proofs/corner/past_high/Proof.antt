@@ -3,17 +3,17 @@ use mathlib.Core.Path.{refl}
 use Rattle.cutting.proofs.corner.past_high.Statement.{statement}
 use Rattle.cutting.proofs.corner.past_high.Tie as tie
 
-returns : tie.Need-returns
-returns c = rw (c.before.if1.true, c.if2.true) refl
+returns : tie.Need-returns-then-d
+returns c = rw (c.if-far.true, c.if-d.true) refl
 
-returns-2 : tie.Need-returns-2
-returns-2 c = rw (c.before.before.if1.true, c.before.if2.false, c.if3.true) refl
+returns-2 : tie.Need-returns-then-d-2
+returns-2 c = rw (c.if-far.true, c.if-d.false, c.if-d-2.true) refl
 
-returns-3 : tie.Need-returns-3
-returns-3 c = rw (c.before.before.if1.true, c.before.if2.false, c.if3.false) refl
+returns-3 : tie.Need-returns-else-d-2
+returns-3 c = rw (c.if-far.true, c.if-d.false, c.if-d-2.false) refl
 
-returns-4 : tie.Need-returns-4
-returns-4 c = rw c.if1.false refl
+returns-4 : tie.Need-returns-else-far
+returns-4 c = rw c.if-far.false refl
 
-pub past-high-spec : {M : Type 1} → statement M
-past-high-spec = tie.close (tie.spec returns returns-2 returns-3 returns-4)
+pub past_high_spec : {M : Type 1} → statement M
+past_high_spec = tie.close (tie.spec returns returns-2 returns-3 returns-4)

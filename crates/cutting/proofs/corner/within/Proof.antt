@@ -3,8 +3,8 @@ use borrow.Author.Rules.{rules}
 use Rattle.cutting.proofs.corner.within.Statement.{statement}
 use Rattle.cutting.proofs.corner.within.Tie as tie
 
-pub within-spec : {M : Type 1} → statement M
-within-spec =
+pub within_spec : {M : Type 1} → statement M
+within_spec =
     tie.close
     (tie.spec (λ c. search rules) (λ c κs. tt) (λ c. search rules) (λ c κs. tt) (λ c. search rules) (λ c κs. tt) (λ c. search rules) (λ c κs. tt)
     (λ c. cc) (λ c. cc) (λ c. cc) (λ c. cc))

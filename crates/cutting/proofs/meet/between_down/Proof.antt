@@ -4,13 +4,13 @@ use Rattle.cutting.specs.meet.Crossing.{between_down}
 use Rattle.cutting.proofs.meet.between_down.Statement.{statement}
 use Rattle.cutting.proofs.meet.between_down.Tie as tie
 
-returns : tie.Need-returns
+returns : tie.Need-returns-then-a-z
 unfolding between_down
-returns c = rw c.if1.true refl
+returns c = rw c.if-a-z.true refl
 
-returns-2 : tie.Need-returns-2
+returns-2 : tie.Need-returns-else-a-z
 unfolding between_down
-returns-2 c = rw (c.before.before.if1.false, ← c.before.magnitude.ensures, ← c.magnitude2.ensures) refl
+returns-2 c = rw (c.if-a-z.false, ← c.magnitude.ensures, ← c.magnitude-else-a-z.ensures) refl
 
-pub between-down-spec : {M : Type 1} → statement M
-between-down-spec = tie.close (tie.spec (λ c κs. tt) (λ c κs. tt) returns returns-2)
+pub between_down_spec : {M : Type 1} → statement M
+between_down_spec = tie.close (tie.spec (λ c κs. tt) (λ c κs. tt) returns returns-2)

@@ -4,29 +4,29 @@ use Rattle.cutting.specs.meet.Crossing.{cross_by}
 use Rattle.cutting.proofs.meet.cross_by.Statement.{statement}
 use Rattle.cutting.proofs.meet.cross_by.Tie as tie
 
-returns : tie.Need-returns
+returns : tie.Need-returns-then-there
 unfolding cross_by
 returns c =
-    let t = c.before.before in
-    rw (← t.before.within.ensures, ← t.within2.ensures, c.before.if1.true, c.if2.true) refl
+    let t = c in
+    rw (← t.within-here.ensures, ← t.within-there.ensures, c.if-here.true, c.if-there.true) refl
 
-returns-2 : tie.Need-returns-2
+returns-2 : tie.Need-returns-else-there
 unfolding cross_by
 returns-2 c =
-    let t = c.before.before.before in
-    rw (← t.before.within.ensures, ← t.within2.ensures, c.before.before.if1.true, c.before.if2.false) c.cross-from.ensures
+    let t = c in
+    rw (← t.within-here.ensures, ← t.within-there.ensures, c.if-here.true, c.if-there.false) c.cross_from.ensures
 
-returns-3 : tie.Need-returns-3
+returns-3 : tie.Need-returns-then-there-2
 unfolding cross_by
 returns-3 c =
-    let t = c.before.before.before in
-    rw (← t.before.within.ensures, ← t.within2.ensures, c.before.before.if1.false, c.before.if3.true) c.cross-from2.ensures
+    let t = c in
+    rw (← t.within-here.ensures, ← t.within-there.ensures, c.if-here.false, c.if-there-2.true) c.cross_from-then-there-2.ensures
 
-returns-4 : tie.Need-returns-4
+returns-4 : tie.Need-returns-else-there-2
 unfolding cross_by
 returns-4 c =
-    let t = c.before.before in
-    rw (← t.before.within.ensures, ← t.within2.ensures, c.before.if1.false, c.if3.false) refl
+    let t = c in
+    rw (← t.within-here.ensures, ← t.within-there.ensures, c.if-here.false, c.if-there-2.false) refl
 
-pub cross-by-spec : {M : Type 1} → statement M
-cross-by-spec = tie.close (tie.spec (λ c κs. tt) (λ c κs. tt) (λ c κs. tt) (λ c κs. tt) returns returns-2 returns-3 returns-4)
+pub cross_by_spec : {M : Type 1} → statement M
+cross_by_spec = tie.close (tie.spec (λ c κs. tt) (λ c κs. tt) (λ c κs. tt) (λ c κs. tt) returns returns-2 returns-3 returns-4)

@@ -6,10 +6,10 @@ use Rattle.cutting.proofs.meet.cross_from.Tie as tie
 returns : tie.Need-returns
 unfolding cross_from
 returns c =
-    let a = c.before in
-    let f = a.before in
-    let k = f.before in
-    rw (← k.before.before.reach.ensures, ← k.before.reach2.ensures, ← k.coordinate.ensures, ← f.flat-of.ensures, ← a.bisector-at.ensures) c.bounded.ensures
+    let a = c in
+    let f = a in
+    let k = f in
+    rw (← k.reach.ensures, ← k.reach-2.ensures, ← k.coordinate.ensures, ← f.flat_of.ensures, ← a.bisector_at.ensures) c.bounded.ensures
 
-pub cross-from-spec : {M : Type 1} → statement M
-cross-from-spec = tie.close (tie.spec (λ c κs. tt) (λ c κs. tt) (λ c κs. tt) (λ c κs. tt) (λ c κs. tt) (λ c κs. tt) returns)
+pub cross_from_spec : {M : Type 1} → statement M
+cross_from_spec = tie.close (tie.spec (λ c κs. tt) (λ c κs. tt) (λ c κs. tt) (λ c κs. tt) (λ c κs. tt) (λ c κs. tt) returns)

@@ -3,13 +3,13 @@ use Rattle.cutting.specs.meet.Crossing.{line_meet}
 use Rattle.cutting.proofs.meet.line_meet.Statement.{statement}
 use Rattle.cutting.proofs.meet.line_meet.Tie as tie
 
-returns : tie.Need-returns
+returns : tie.Need-returns-then-up_at
 unfolding line_meet
-returns c = rw (← c.before.before.up_at.ensures, c.before.if1.true) c.upper-end.ensures
+returns c = rw (← c.up_at.ensures, c.if-up_at.true) c.upper_end.ensures
 
-returns-2 : tie.Need-returns-2
+returns-2 : tie.Need-returns-else-up_at
 unfolding line_meet
-returns-2 c = rw (← c.before.before.up_at.ensures, c.before.if1.false) c.line-end.ensures
+returns-2 c = rw (← c.up_at.ensures, c.if-up_at.false) c.line_end.ensures
 
-pub line-meet-spec : {M : Type 1} → statement M
-line-meet-spec = tie.close (tie.spec (λ c κs. tt) (λ c κs. tt) (λ c κs. tt) returns returns-2)
+pub line_meet_spec : {M : Type 1} → statement M
+line_meet_spec = tie.close (tie.spec (λ c κs. tt) (λ c κs. tt) (λ c κs. tt) returns returns-2)

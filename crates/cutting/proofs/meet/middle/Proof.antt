@@ -8,5 +8,5 @@ returns : tie.Need-returns
 unfolding middle_of
 returns c = refl
 
-pub middle-spec : {M : Type 1} → statement M
-middle-spec = tie.close (tie.spec returns)
+pub middle_spec : {M : Type 1} → statement M
+middle_spec = tie.close (tie.spec returns)

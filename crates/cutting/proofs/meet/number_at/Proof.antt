@@ -8,8 +8,8 @@ use Rattle.root.specs.laws.Signs.{no_quotient}
 use Rattle.cutting.proofs.meet.number_at.Statement.{statement}
 use Rattle.cutting.proofs.meet.number_at.Tie as tie
 
-returns-2 : tie.Need-returns-2
-returns-2 c = no_quotient ∙ sym (get_or-eq_default c.before.args.list.now nan {n = c.before.args.k} (omega (arith, c.if1.false)))
+returns-2 : tie.Need-returns
+returns-2 c = no_quotient ∙ sym (get_or-eq_default c.args.list.now nan {n = c.args.k} (omega (arith, c.if-k-list.false)))
 
-pub number-at-spec : {M : Type 1} → statement M
-number-at-spec = tie.close (tie.spec (λ c. search rules) (λ c. search rules) (λ c. search rules) returns-2)
+pub number_at_spec : {M : Type 1} → statement M
+number_at_spec = tie.close (tie.spec (λ c. search rules) (λ c. search rules) (λ c. search rules) returns-2)

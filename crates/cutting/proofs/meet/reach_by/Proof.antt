@@ -5,29 +5,29 @@ use Rattle.cutting.specs.meet.Crossing.{reach_by}
 use Rattle.cutting.proofs.meet.reach_by.Statement.{statement}
 use Rattle.cutting.proofs.meet.reach_by.Tie as tie
 
-float-from-bits-result : tie.Need-float-from-bits-result
+float_from_bits-result : tie.Need-float_from_bits-result
 unfolding nan_bits
-float-from-bits-result c = tt
+float_from_bits-result c = tt
 
-float-from-bits-result-2 : tie.Need-float-from-bits-result-2
+float_from_bits-result-2 : tie.Need-float_from_bits-result-then-d-2
 unfolding nan_bits
-float-from-bits-result-2 c = tt
+float_from_bits-result-2 c = tt
 
-returns : tie.Need-returns
+returns : tie.Need-returns-then-d
 unfolding reach_by
-returns c = rw (c.before.if1.true, c.if2.true) refl
+returns c = rw (c.if-far.true, c.if-d.true) refl
 
-returns-2 : tie.Need-returns-2
+returns-2 : tie.Need-returns-then-d-2
 unfolding reach_by
-returns-2 c = rw (c.before.before.if1.true, c.before.if2.false, c.if3.true) refl
+returns-2 c = rw (c.if-far.true, c.if-d.false, c.if-d-2.true) refl
 
-returns-3 : tie.Need-returns-3
+returns-3 : tie.Need-returns-else-d-2
 unfolding reach_by
-returns-3 c = rw (c.before.before.if1.true, c.before.if2.false, c.if3.false) refl
+returns-3 c = rw (c.if-far.true, c.if-d.false, c.if-d-2.false) refl
 
-returns-4 : tie.Need-returns-4
+returns-4 : tie.Need-returns-else-far
 unfolding reach_by
-returns-4 c = rw c.if1.false refl
+returns-4 c = rw c.if-far.false refl
 
-pub reach-by-spec : {M : Type 1} → statement M
-reach-by-spec = tie.close (tie.spec float-from-bits-result float-from-bits-result-2 returns returns-2 returns-3 returns-4)
+pub reach_by_spec : {M : Type 1} → statement M
+reach_by_spec = tie.close (tie.spec float_from_bits-result float_from_bits-result-2 returns returns-2 returns-3 returns-4)

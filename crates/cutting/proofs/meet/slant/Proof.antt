@@ -6,7 +6,7 @@ use Rattle.cutting.proofs.meet.slant.Tie as tie
 
 returns : tie.Need-returns
 unfolding slant_of
-returns c = rw (← c.before.middle.ensures, ← c.middle2.ensures) refl
+returns c = rw (← c.middle.ensures, ← c.middle-2.ensures) refl
 
-pub slant-spec : {M : Type 1} → statement M
-slant-spec = tie.close (tie.spec (λ c κs. tt) (λ c κs. tt) returns)
+pub slant_spec : {M : Type 1} → statement M
+slant_spec = tie.close (tie.spec (λ c κs. tt) (λ c κs. tt) returns)

@@ -7,37 +7,37 @@ use native.Mathlib.Omega.{arith}
 use Rattle.cutting.proofs.pen.add_vertex.Statement.{statement}
 use Rattle.cutting.proofs.pen.add_vertex.Tie as tie
 
-returns : tie.Need-returns
+returns : tie.Need-returns-then-n-count
 unfolding added_vertex
-returns c = simp (ne_eqb _ _ c.if1.true)
+returns c = simp (ne_eqb _ _ c.if-n-count.true)
 
-mul-vertices : tie.Need-overflow-mul-vertices
-mul-vertices c = omega (arith, c.before.requires c.if1.false)
+mul-vertices : tie.Need-overflow_mul-vertices
+mul-vertices c = omega (arith, c.requires c.if-n-count.false)
 
-mul-vertices-2 : tie.Need-overflow-mul-vertices-2
-mul-vertices-2 c = omega (arith, c.before.requires c.if1.false)
+mul-vertices-2 : tie.Need-offset_bounds-vertices-n
+mul-vertices-2 c = omega (arith, c.requires c.if-n-count.false)
 
-slice-write-vertices : tie.Need-slice-write-vertices
-slice-write-vertices c = omega (arith, c.before.requires c.if1.false)
+slice_write-vertices : tie.Need-bounds-vertices-n
+slice_write-vertices c = omega (arith, c.requires c.if-n-count.false)
 
-mul-vertices-3 : tie.Need-overflow-mul-vertices-3
-mul-vertices-3 c = omega (arith, c.before.requires c.if1.false)
+mul-vertices-3 : tie.Need-overflow_mul-vertices-2
+mul-vertices-3 c = omega (arith, c.requires c.if-n-count.false)
 
-add-vertices : tie.Need-overflow-add-vertices
-add-vertices c = omega (arith, c.before.requires c.if1.false)
+add-vertices : tie.Need-overflow_add-vertices
+add-vertices c = omega (arith, c.requires c.if-n-count.false)
 
-mul-vertices-4 : tie.Need-overflow-mul-vertices-4
-mul-vertices-4 c = omega (arith, c.before.requires c.if1.false)
+mul-vertices-4 : tie.Need-offset_bounds-vertices-n-2
+mul-vertices-4 c = omega (arith, c.requires c.if-n-count.false)
 
-slice-write-vertices-2 : tie.Need-slice-write-vertices-2
-slice-write-vertices-2 c = simp length-set (omega (arith, c.before.requires c.if1.false))
+slice_write-vertices-2 : tie.Need-bounds-vertices-n-2
+slice_write-vertices-2 c = simp length-set (omega (arith, c.requires c.if-n-count.false))
 
-returns-2 : tie.Need-returns-2
+returns-2 : tie.Need-returns
 unfolding added_vertex
-returns-2 c = simp (eq-eqb _ _ c.if1.false)
+returns-2 c = simp (eq-eqb _ _ c.if-n-count.false)
 
-pub add-vertex-spec : {M : Type 1} → statement M
-add-vertex-spec =
+pub add_vertex_spec : {M : Type 1} → statement M
+add_vertex_spec =
     tie.close
-    (tie.spec returns mul-vertices mul-vertices-2 slice-write-vertices mul-vertices-3 add-vertices mul-vertices-4 slice-write-vertices-2 (λ c. search rules)
+    (tie.spec returns mul-vertices mul-vertices-2 slice_write-vertices mul-vertices-3 add-vertices mul-vertices-4 slice_write-vertices-2 (λ c. search rules)
     returns-2)

@@ -5,15 +5,15 @@ use borrow.Author.Tests.{eq-eqb, ne_eqb}
 use Rattle.cutting.proofs.pen.number_for.Statement.{statement}
 use Rattle.cutting.proofs.pen.number_for.Tie as tie
 
-returns : tie.Need-returns
+returns : tie.Need-returns-then-number-eq-EMPTY
 unfolding number_for
-returns c = rw (eq-eqb _ _ c.before.if1.true) c.corner-number.ensures
+returns c = rw (eq-eqb _ _ c.if-number-eq-EMPTY.true) c.corner_number.ensures
 
-returns-2 : tie.Need-returns-2
+returns-2 : tie.Need-returns
 unfolding number_for
-returns-2 c = rw (ne_eqb _ _ c.before.if1.false) c.wide.ensures
+returns-2 c = rw (ne_eqb _ _ c.if-number-eq-EMPTY.false) c.wide.ensures
 
-pub number-for-spec : {M : Type 1} → statement M
-number-for-spec =
+pub number_for_spec : {M : Type 1} → statement M
+number_for_spec =
     tie.close
     (tie.spec (λ c κs. search rules) returns (λ c κs. search rules) returns-2)

@@ -4,15 +4,15 @@ use borrow.Author.Rules.{rules}
 use Rattle.cutting.proofs.pen.repeats_last.Statement.{statement}
 use Rattle.cutting.proofs.pen.repeats_last.Tie as tie
 
-returns : tie.Need-returns
+returns : tie.Need-returns-then-pen
 unfolding repeats
-returns c = rw c.before.if1.true c.same_place.ensures
+returns c = rw c.if-pen.true c.same_place.ensures
 
-returns-2 : tie.Need-returns-2
+returns-2 : tie.Need-returns
 unfolding repeats
-returns-2 c = rw c.if1.false
+returns-2 c = rw c.if-pen.false
 
-pub repeats-last-spec : {M : Type 1} → statement M
-repeats-last-spec =
+pub repeats_last_spec : {M : Type 1} → statement M
+repeats_last_spec =
     tie.close
     (tie.spec (λ c κs. search rules) returns returns-2)

@@ -7,7 +7,7 @@ use Rattle.cutting.proofs.pen.write.Tie as tie
 
 returns : tie.Need-returns
 unfolding written_as
-returns c = rw (c.before.count-with.ensures, c.first_of.ensures, c.before.before.before.before.add-vertex.ensures) refl
+returns c = rw (c.count_with.ensures, c.first_of.ensures, c.add_vertex.ensures) refl
 
 pub write_spec : {M : Type 1} → statement M
 write_spec =

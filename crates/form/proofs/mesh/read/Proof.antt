@@ -6,19 +6,19 @@ use borrow.Author.Rules.{rules}
 use Rattle.form.proofs.mesh.read.Statement.{statement}
 use Rattle.form.proofs.mesh.read.Tie as tie
 
-abbrev Read : tie.After-mesh-parts → tie.After-read
+abbrev Read : tie.After-mesh_parts → tie.After-read-form
 Read c = c.before.before.before.before.before.before.before.before.before.before
 
-abbrev Known : tie.After-read → tie.After-shared-slice-known
+abbrev Known : tie.After-read-form → tie.After-shared_slice_known-1
 Known c = c.before.before.before.before.before.before.before.before.before.before
 
 returns : tie.Need-returns
 returns c =
     let k = Known (Read c) in
     let s = k.before in
-    rw c.mesh-parts.ensures
-    (mesh_read (Read c).read.ensures (bytes s.args.bytes.now (λ i. omega (arith, k.shared-slice-known.given i)))
-    (record { bounds = omega arith; sites = s.pre.sites; triangles = s.pre.triangles; halfedges = s.pre.halfedges; hull = s.pre.hull }))
+    rw c.mesh_parts.ensures
+    (mesh_read (Read c).read-form.ensures (bytes s.args.bytes.now (λ i. omega (arith, k.shared_slice_known-1.given i)))
+    (record { bounds = omega arith; sites = s.requires.sites; triangles = s.requires.triangles; halfedges = s.requires.halfedges; hull = s.requires.hull }))
 
 pub read_spec : {M : Type 1} → statement M
 read_spec =

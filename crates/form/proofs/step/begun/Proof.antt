@@ -7,13 +7,13 @@ use borrow.Author.Rules.{rules}
 use Rattle.form.proofs.step.begun.Statement.{statement}
 use Rattle.form.proofs.step.begun.Tie as tie
 
-returns : tie.Need-returns
+returns : tie.Need-returns-then-opens
 unfolding begun
-returns c = rw (c.before.before.before.size.ensures, sym c.before.opens.ensures ∙ c.if1.true)
+returns c = rw (c.size.ensures, sym c.opens.ensures ∙ c.if-opens.true)
 
-returns-2 : tie.Need-returns-2
+returns-2 : tie.Need-returns
 unfolding begun
-returns-2 c = rw (c.before.before.before.size.ensures, sym c.before.opens.ensures ∙ c.if1.false)
+returns-2 c = rw (c.size.ensures, sym c.opens.ensures ∙ c.if-opens.false)
 
-pub begun-spec : {M : Type 1} → statement M
-begun-spec = tie.close (tie.spec (λ c κs. search rules) (λ c. omega (arith, at_small c.before.before.requires)) (λ c κs. search rules) returns returns-2)
+pub begun_spec : {M : Type 1} → statement M
+begun_spec = tie.close (tie.spec (λ c κs. search rules) (λ c. omega (arith, at_small c.before.before.requires)) (λ c κs. search rules) returns returns-2)

@@ -10,19 +10,19 @@ use borrow.Author.Rules.{rules}
 use Rattle.form.proofs.step.finish.Statement.{statement}
 use Rattle.form.proofs.step.finish.Tie as tie
 
-returns : tie.Need-returns
+returns : tie.Need-returns-then-n-ne0
 returns c =
-    let k = c.before.before.before.finished in
-    let e : broken k.result ≡ true = rw (ne_eqb _ _ c.before.if1.true) in
-    rw k.ensures (sym (verdict_broken c.before.before.before.before.args.r (sym (ap broken k.ensures) ∙ e)))
+    let k = c.finished-n in
+    let e : broken k.result ≡ true = rw (ne_eqb _ _ c.if-n-ne0.true) in
+    rw k.ensures (sym (verdict_broken c.args.r (sym (ap broken k.ensures) ∙ e)))
 
-returns-2 : tie.Need-returns-2
+returns-2 : tie.Need-returns
 returns-2 c =
-    let k = c.before.before.before.finished in
-    let e : broken k.result ≡ false = rw (eq-eqb _ _ c.before.if1.false) in
-    rw k.ensures (sym (verdict_sound c.before.before.before.before.args.r (sym (ap broken k.ensures) ∙ e)))
+    let k = c.finished-n in
+    let e : broken k.result ≡ false = rw (eq-eqb _ _ c.if-n-ne0.false) in
+    rw k.ensures (sym (verdict_sound c.args.r (sym (ap broken k.ensures) ∙ e)))
 
 pub finish_spec : {M : Type 1} → statement M
 finish_spec = tie.close (tie.spec (λ c κs. search rules)
-    (λ c. rw c.before.before.before.finished.ensures (omega (arith, refusal_small (ok_finished _ c.before.before.before.before.requires)))) returns
-    (λ c. rw c.before.before.before.finished.ensures (omega (arith, clip_small (ok_finished _ c.before.before.before.before.requires)))) returns-2)
+    (λ c. rw c.before.before.before.finished-n.ensures (omega (arith, refusal_small (ok_finished _ c.before.before.before.before.requires)))) returns
+    (λ c. rw c.before.before.before.finished-n.ensures (omega (arith, clip_small (ok_finished _ c.before.before.before.before.requires)))) returns-2)

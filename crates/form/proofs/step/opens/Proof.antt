@@ -4,17 +4,17 @@ use borrow.Author.Tests.{ne_eqb}
 use Rattle.form.proofs.step.opens.Statement.{statement}
 use Rattle.form.proofs.step.opens.Tie as tie
 
-returns : tie.Need-returns
+returns : tie.Need-returns-then-kind-eq1
 unfolding opens
-returns c = rw c.if1.true
+returns c = rw c.if-kind-eq1.true
 
-returns-2 : tie.Need-returns-2
+returns-2 : tie.Need-returns-then-kind-eq6
 unfolding opens
-returns-2 c = rw c.if2.true
+returns-2 c = rw c.if-kind-eq6.true
 
-returns-3 : tie.Need-returns-3
+returns-3 : tie.Need-returns
 unfolding opens
-returns-3 c = rw (ne_eqb _ _ c.before.if1.false, ne_eqb _ _ c.if2.false)
+returns-3 c = rw (ne_eqb _ _ c.if-kind-eq1.false, ne_eqb _ _ c.if-kind-eq6.false)
 
-pub opens-spec : {M : Type 1} → statement M
-opens-spec = tie.close (tie.spec returns returns-2 returns-3)
+pub opens_spec : {M : Type 1} → statement M
+opens_spec = tie.close (tie.spec returns returns-2 returns-3)

@@ -6,15 +6,15 @@ use borrow.Author.Rules.{rules}
 use Rattle.form.proofs.step.outside.Statement.{statement}
 use Rattle.form.proofs.step.outside.Tie as tie
 
-returns : tie.Need-returns
+returns : tie.Need-returns-then-follows
 unfolding outside
-returns c = rw (sym c.before.before.follows.ensures ∙ c.before.if1.true) c.begun.ensures
+returns c = rw (sym c.follows.ensures ∙ c.if-follows.true) c.begun.ensures
 
-returns-2 : tie.Need-returns-2
+returns-2 : tie.Need-returns
 unfolding outside
-returns-2 c = rw (sym c.before.before.before.follows.ensures ∙ c.before.before.if1.false)
-    (c.refused.ensures ∙ ap (λ (n : ℕ). refused c.before.before.before.before.args.r n) c.before.number-for.ensures)
+returns-2 c = rw (sym c.follows.ensures ∙ c.if-follows.false)
+    (c.refused.ensures ∙ ap (λ (n : ℕ). refused c.args.r n) c.number_for.ensures)
 
-pub outside-spec : {M : Type 1} → statement M
-outside-spec =
+pub outside_spec : {M : Type 1} → statement M
+outside_spec =
     tie.close (tie.spec (λ c κs. search rules) (λ c κs. search rules) returns (λ c κs. search rules) (λ c κs. search rules) returns-2)

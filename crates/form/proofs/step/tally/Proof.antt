@@ -5,17 +5,17 @@ use borrow.Author.Rules.{rules}
 use Rattle.form.proofs.step.tally.Statement.{statement}
 use Rattle.form.proofs.step.tally.Tie as tie
 
-returns : tie.Need-returns
+returns : tie.Need-returns-then-r-kind
 unfolding tally
-returns c = rw (ne_eqb _ _ c.if1.true)
+returns c = rw (ne_eqb _ _ c.if-r-kind.true)
 
-returns-2 : tie.Need-returns-2
+returns-2 : tie.Need-returns-then-r-ne1
 unfolding tally
-returns-2 c = rw (eq-eqb _ _ c.before.before.if1.false, ne_eqb _ _ c.if2.true)
+returns-2 c = rw (eq-eqb _ _ c.if-r-kind.false, ne_eqb _ _ c.if-r-ne1.true)
 
-returns-3 : tie.Need-returns-3
+returns-3 : tie.Need-returns
 unfolding tally
-returns-3 c = rw (eq-eqb _ _ c.before.before.if1.false, c.if2.false)
+returns-3 c = rw (eq-eqb _ _ c.if-r-kind.false, c.if-r-ne1.false)
 
-pub tally-spec : {M : Type 1} → statement M
-tally-spec = tie.close (tie.spec returns returns-2 (λ c. search rules) returns-3)
+pub tally_spec : {M : Type 1} → statement M
+tally_spec = tie.close (tie.spec returns returns-2 (λ c. search rules) returns-3)

@@ -4,17 +4,17 @@ use Rattle.mesh_check.specs.border.Marks.{hull_fault_of}
 use Rattle.mesh_check.proofs.border.hull_fault.Statement.{statement}
 use Rattle.mesh_check.proofs.border.hull_fault.Tie as tie
 
-returns : tie.Need-returns
+returns : tie.Need-returns-then-kept-places
 unfolding hull_fault_of
-returns c = simp (lt-ltb _ _ c.if1.true)
+returns c = simp (lt-ltb _ _ c.if-kept-places.true)
 
-returns-2 : tie.Need-returns-2
+returns-2 : tie.Need-returns-then-stray-edges
 unfolding hull_fault_of
-returns-2 c = simp (le-ltb _ _ c.before.if1.false, lt-ltb _ _ c.if2.true)
+returns-2 c = simp (le-ltb _ _ c.if-kept-places.false, lt-ltb _ _ c.if-stray-edges.true)
 
-returns-3 : tie.Need-returns-3
+returns-3 : tie.Need-returns
 unfolding hull_fault_of
-returns-3 c = simp (le-ltb _ _ c.before.if1.false, le-ltb _ _ c.if2.false)
+returns-3 c = simp (le-ltb _ _ c.if-kept-places.false, le-ltb _ _ c.if-stray-edges.false)
 
-pub hull-fault-spec : {M : Type 1} → statement M
-hull-fault-spec = tie.close (tie.spec returns returns-2 returns-3)
+pub hull_fault_spec : {M : Type 1} → statement M
+hull_fault_spec = tie.close (tie.spec returns returns-2 returns-3)

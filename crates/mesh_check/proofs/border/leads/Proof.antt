@@ -5,14 +5,14 @@ use borrow.Author.Rules.{rules}
 use Rattle.mesh_check.proofs.border.leads.Statement.{statement}
 use Rattle.mesh_check.proofs.border.leads.Tie as tie
 
-returns : tie.Need-returns
+returns : tie.Need-returns-then-hull-m
 unfolding leads_of
-returns c = simp (le-ltb _ _ c.if1.true)
+returns c = simp (le-ltb _ _ c.if-hull-m.true)
 
-returns-2 : tie.Need-returns-2
+returns-2 : tie.Need-returns
 unfolding leads_of
-returns-2 c = simp (lt-ltb _ _ c.before.before.if1.false, ← c.before.next_place.ensures.0)
+returns-2 c = simp (lt-ltb _ _ c.if-hull-m.false, ← c.next_place-next.ensures.0)
 
-pub leads-spec : {M : Type 1} → statement M
-leads-spec =
+pub leads_spec : {M : Type 1} → statement M
+leads_spec =
     tie.close (tie.spec returns (λ c κs. search rules) (λ c. search rules) (λ c. search rules) returns-2)

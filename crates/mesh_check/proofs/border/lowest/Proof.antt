@@ -4,17 +4,17 @@ use Rattle.mesh_check.specs.border.Marks.{lowest_of}
 use Rattle.mesh_check.proofs.border.lowest.Statement.{statement}
 use Rattle.mesh_check.proofs.border.lowest.Tie as tie
 
-returns : tie.Need-returns
+returns : tie.Need-returns-then-sound
 unfolding lowest_of
-returns c = simp c.if1.true
+returns c = simp c.if-sound.true
 
-returns-2 : tie.Need-returns-2
+returns-2 : tie.Need-returns-then-e-old
 unfolding lowest_of
-returns-2 c = simp (c.before.if1.false, lt-ltb _ _ c.if2.true)
+returns-2 c = simp (c.if-sound.false, lt-ltb _ _ c.if-e-old.true)
 
-returns-3 : tie.Need-returns-3
+returns-3 : tie.Need-returns
 unfolding lowest_of
-returns-3 c = simp (c.before.if1.false, le-ltb _ _ c.if2.false)
+returns-3 c = simp (c.if-sound.false, le-ltb _ _ c.if-e-old.false)
 
-pub lowest-spec : {M : Type 1} → statement M
-lowest-spec = tie.close (tie.spec returns returns-2 returns-3)
+pub lowest_spec : {M : Type 1} → statement M
+lowest_spec = tie.close (tie.spec returns returns-2 returns-3)

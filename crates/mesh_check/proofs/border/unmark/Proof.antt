@@ -8,33 +8,33 @@ use Rattle.mesh_check.specs.border.laws.Loops.{unmarking_start, unmarking_done}
 use Rattle.mesh_check.proofs.border.unmark.Statement.{statement}
 use Rattle.mesh_check.proofs.border.unmark.Tie as tie
 
-abbrev invariant-loop : tie.invariant-loop
+abbrev invariant-loop : tie.invariant-loop-t
 invariant-loop triangles halfedges hull work₀ stray₀ count t₀ work stray t = (t ≤ count) × Unmarking triangles halfedges hull work₀ work (3 * t) stray
 
-abbrev decreases-loop : tie.decreases-loop
+abbrev decreases-loop : tie.decreases-loop-t
 decreases-loop triangles halfedges hull work₀ stray₀ count t₀ work stray t = count - t
 
-loop-holds : tie.Need-loop-init invariant-loop decreases-loop
+loop-holds : tie.Need-loop-t-init invariant-loop decreases-loop
 loop-holds c = (omega arith, unmarking_start _ _ _ _)
 
-unmark-edges-requires : tie.Need-unmark-edges-requires invariant-loop decreases-loop
-unmark-edges-requires c κs =
-    let s = c.before.before.before.before.before.before.before in
-    let l = c.before.before.loop in
+unmark_edges-requires : tie.Need-unmark_edges-stray-requires invariant-loop decreases-loop
+unmark_edges-requires c κs =
+    let s = c in
+    let l = c.loop-t in
     (s.requires.0, s.requires.1, omega arith, λ k h. omega (arith, s.requires.2 k h, l.invariant.1.long))
 
-loop-again : tie.Need-loop-preserved invariant-loop decreases-loop
+loop-again : tie.Need-loop-t-preserved invariant-loop decreases-loop
 loop-again c =
-    let l = c.before.before.before.before.before.loop in
+    let l = c.loop-t in
     let q : 3 * l.t + 3 ≡ 3 * (l.t + 1) = omega arith in
-    (omega arith, rw q at (c.before.before.unmark-edges.ensures _ l.invariant.1))
+    (omega arith, rw q at (c.unmark_edges-stray.ensures _ l.invariant.1))
 
 returns : tie.Need-returns invariant-loop decreases-loop
 returns c =
-    let s = c.before.before.before.before.before.before in
-    unmarking_done _ _ _ _ _ _ _ c.before.loop.invariant.1 (omega (arith, s.requires.0))
+    let s = c in
+    unmarking_done _ _ _ _ _ _ _ c.loop-t.invariant.1 (omega (arith, s.requires.0))
 
-pub unmark-spec : {M : Type 1} → statement M
-unmark-spec =
+pub unmark_spec : {M : Type 1} → statement M
+unmark_spec =
     tie.close
-    (tie.spec invariant-loop decreases-loop loop-holds unmark-edges-requires (λ c. search rules) (λ c. search rules) loop-again (λ c. search rules) returns)
+    (tie.spec invariant-loop decreases-loop loop-holds unmark_edges-requires (λ c. search rules) (λ c. search rules) loop-again (λ c. search rules) returns)

@@ -9,37 +9,37 @@ use Rattle.mesh_check.specs.degrees.laws.Packing.{lefts_start}
 use Rattle.mesh_check.proofs.degrees.pack_unpaired.Statement.{statement}
 use Rattle.mesh_check.proofs.degrees.pack_unpaired.Tie as tie
 
-abbrev invariant-loop : tie.invariant-loop
+abbrev invariant-loop : tie.invariant-loop-t
 invariant-loop triangles halfedges work₀ count t₀ work t = (t ≤ count) × (length work ≡ length work₀) × Leftmosts triangles halfedges (3 * t) work
 
-abbrev decreases-loop : tie.decreases-loop
+abbrev decreases-loop : tie.decreases-loop-t
 decreases-loop triangles halfedges work₀ count t₀ work t = count - t
 
-loop-holds : tie.Need-loop-init invariant-loop decreases-loop
+loop-holds : tie.Need-loop-t-init invariant-loop decreases-loop
 loop-holds c =
-    let s = c.before.before.before in
+    let s = c in
     (search rules, refl, lefts_start s.args.triangles.now s.args.halfedges.now s.args.work.now s.requires.4)
 
-pack-opens-requires : tie.Need-pack-opens-requires invariant-loop decreases-loop
-pack-opens-requires c κs =
-    let l = c.before.before.loop in
-    let s = c.before.before.before.before.before.before in
+pack_opens-requires : tie.Need-pack_opens-requires invariant-loop decreases-loop
+pack_opens-requires c κs =
+    let l = c.loop-t in
+    let s = c in
     (s.requires.1, s.requires.2, λ k h. omega (arith, s.requires.3 k h, l.invariant.1), omega arith, l.invariant.2)
 
-loop-again : tie.Need-loop-preserved invariant-loop decreases-loop
+loop-again : tie.Need-loop-t-preserved invariant-loop decreases-loop
 loop-again c =
-    let p = c.before.before.pack-opens in
-    let l = c.before.before.before.before.before.loop in
+    let p = c.pack_opens in
+    let l = c.loop-t in
     let q : 3 * l.t + 3 ≡ 3 * (l.t + 1) = omega arith in
-    (omega arith, p.auto.1.1.0 ∙ l.invariant.1, rw q at p.ensures)
+    (omega arith, p.auto.work ∙ l.invariant.1, rw q at p.ensures)
 
 returns : tie.Need-returns invariant-loop decreases-loop
 returns c =
-    let s = c.before.before.before.before.before in
-    let h : 3 * c.before.loop.t ≡ length s.args.triangles.now = omega (arith, s.requires.0) in
-    subst (λ k. Leftmosts s.args.triangles.now s.args.halfedges.now k c.before.loop.work) h c.before.loop.invariant.2
+    let s = c in
+    let h : 3 * c.loop-t.t ≡ length s.args.triangles.now = omega (arith, s.requires.0) in
+    subst (λ k. Leftmosts s.args.triangles.now s.args.halfedges.now k c.loop-t.work) h c.loop-t.invariant.2
 
-pub pack-unpaired-spec : {M : Type 1} → statement M
-pack-unpaired-spec =
+pub pack_unpaired_spec : {M : Type 1} → statement M
+pack_unpaired_spec =
     tie.close
-    (tie.spec invariant-loop decreases-loop loop-holds pack-opens-requires (λ c. search rules) (λ c. search rules) loop-again (λ c. search rules) returns)
+    (tie.spec invariant-loop decreases-loop loop-holds pack_opens-requires (λ c. search rules) (λ c. search rules) loop-again (λ c. search rules) returns)

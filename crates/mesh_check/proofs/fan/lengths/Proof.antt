@@ -7,23 +7,23 @@ use Rattle.mesh_check.specs.fan.laws.Loops.{Measuring, measuring_start, measurin
 use Rattle.mesh_check.proofs.fan.lengths.Statement.{statement}
 use Rattle.mesh_check.proofs.fan.lengths.Tie as tie
 
-abbrev invariant-loop : tie.invariant-loop
+abbrev invariant-loop : tie.invariant-loop-s
 invariant-loop halfedges work₀ s₀ work s = Measuring halfedges work₀ work s
 
-abbrev decreases-loop : tie.decreases-loop
+abbrev decreases-loop : tie.decreases-loop-s
 decreases-loop halfedges work₀ s₀ work s = length work₀ - s
 
-loop-holds : tie.Need-loop-init invariant-loop decreases-loop
+loop-holds : tie.Need-loop-s-init invariant-loop decreases-loop
 loop-holds c = measuring_start _ _
 
-loop-again : tie.Need-loop-preserved invariant-loop decreases-loop
-loop-again c = measuring_step _ _ _ _ _ c.before.before.before.loop.invariant (omega arith) c.walk-length.ensures.0
+loop-again : tie.Need-loop-s-preserved invariant-loop decreases-loop
+loop-again c = measuring_step _ _ _ _ _ c.loop-s.invariant (omega arith) c.walk_length-n.ensures.0
 
 returns : tie.Need-returns invariant-loop decreases-loop
-returns c = measuring_done _ _ _ _ c.before.loop.invariant (omega arith)
+returns c = measuring_done _ _ _ _ c.loop-s.invariant (omega arith)
 
-pub lengths-spec : {M : Type 1} → statement M
-lengths-spec =
+pub lengths_spec : {M : Type 1} → statement M
+lengths_spec =
     tie.close
     (tie.spec invariant-loop decreases-loop loop-holds (λ c. search rules) (λ c. search rules) (λ c κs. search rules)
     (λ c. search rules) (λ c. search rules) (λ c. search rules) (λ c. search rules) (λ c. search rules) loop-again

@@ -5,17 +5,17 @@ use borrow.Author.Rules.{rules}
 use Rattle.mesh_check.proofs.fan.less.Statement.{statement}
 use Rattle.mesh_check.proofs.fan.less.Tie as tie
 
-returns : tie.Need-returns
+returns : tie.Need-returns-then-m-eq0
 unfolding less_of
-returns c = simp (eq-eqb _ _ c.if1.true)
+returns c = simp (eq-eqb _ _ c.if-m-eq0.true)
 
-returns-2 : tie.Need-returns-2
+returns-2 : tie.Need-returns-then-m-eq-EMPTY
 unfolding less_of
-returns-2 c = simp (ne_eqb _ _ c.before.if1.false, eq-eqb _ _ c.if2.true)
+returns-2 c = simp (ne_eqb _ _ c.if-m-eq0.false, eq-eqb _ _ c.if-m-eq-EMPTY.true)
 
-returns-3 : tie.Need-returns-3
+returns-3 : tie.Need-returns
 unfolding less_of
-returns-3 c = simp (ne_eqb _ _ c.before.if1.false, ne_eqb _ _ c.if2.false)
+returns-3 c = simp (ne_eqb _ _ c.if-m-eq0.false, ne_eqb _ _ c.if-m-eq-EMPTY.false)
 
-pub less-spec : {M : Type 1} → statement M
-less-spec = tie.close (tie.spec returns returns-2 (λ c. search rules) returns-3)
+pub less_spec : {M : Type 1} → statement M
+less_spec = tie.close (tie.spec returns returns-2 (λ c. search rules) returns-3)

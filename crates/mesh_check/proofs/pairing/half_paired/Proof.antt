@@ -8,23 +8,23 @@ use borrow.Author.Tests.{eqb-true}
 use Rattle.mesh_check.proofs.pairing.half_paired.Statement.{statement}
 use Rattle.mesh_check.proofs.pairing.half_paired.Tie as tie
 
-returns : tie.Need-returns
-returns c = λ _. inl c.if1.true
+returns : tie.Need-returns-then-p
+returns c = λ _. inl c.if-p.true
 
-cast-k : tie.Need-overflow-cast-k
-cast-k c = omega (arith, c.before.shared-slice-known3.given c.before.before.before.before.args.e)
+cast-k : tie.Need-overflow_cast-k
+cast-k c = omega (arith, c.shared_slice_known-3-1.given c.args.e)
 
-returns-4 : tie.Need-returns-4
+returns-4 : tie.Need-returns
 returns-4 c =
-    let at_wide = c.before.before in
+    let at_wide = c in
     λ h. inr (record {
       inside = omega arith;
-      back = sym at_wide.wide.ensures ∙ c.before.if3.false;
-      from = eqb-true _ _ h ∙ at_wide.before.before.before.before.before.before.before.requires.2;
+      back = sym at_wide.wide.ensures ∙ c.if-wide-e.false;
+      from = eqb-true _ _ h ∙ at_wide.requires.2;
     })
 
-pub half-paired-spec : {M : Type 1} → statement M
-half-paired-spec =
+pub half_paired_spec : {M : Type 1} → statement M
+half_paired_spec =
     tie.close
     (tie.spec (λ c. search rules) (λ c. search rules) returns cast-k (λ c h. absurd (false≢true h)) (λ c. search rules) (λ c. search rules) (λ c κs. search rules)
     (λ c h. absurd (false≢true h)) (λ c. search rules) (λ c. search rules) returns-4)

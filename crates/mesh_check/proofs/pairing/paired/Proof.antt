@@ -5,11 +5,11 @@ use Rattle.base.specs.common.laws.Decide.{says_or}
 use Rattle.mesh_check.proofs.pairing.paired.Statement.{statement}
 use Rattle.mesh_check.proofs.pairing.paired.Tie as tie
 
-returns : tie.Need-returns
-returns c = inl c.if1.true
+returns : tie.Need-returns-then-p
+returns c = inl c.if-p.true
 
-returns-2 : tie.Need-returns-2
-returns-2 c = says_or _ c.mates.result c.before.if1.false c.mates.ensures
+returns-2 : tie.Need-returns
+returns-2 c = says_or _ c.mates.result c.if-p.false c.mates.ensures
 
-pub paired-spec : {M : Type 1} → statement M
-paired-spec = tie.close (tie.spec (λ c. search rules) (λ c. search rules) returns (λ c κs. search rules) returns-2)
+pub paired_spec : {M : Type 1} → statement M
+paired_spec = tie.close (tie.spec (λ c. search rules) (λ c. search rules) returns (λ c κs. search rules) returns-2)

@@ -1,6 +1,6 @@
 -- Half-edge 3 t ends at the triangle's second site, 3 t + 1 at its third, 3 t + 2 at its first.
 use mathlib.Core.Path.{ap}
-use mathlib.Core.Bool.{false≢true}
+use mathlib.Core.Bool.{not, false≢true}
 use native.Mathlib.Omega.{arith}
 use lib.ListN.{get_or}
 use borrow.Author.Rules.{rules}
@@ -9,29 +9,29 @@ use Rattle.mesh_check.specs.pairing.laws.Threes.{first_next, second_next, third_
 use Rattle.mesh_check.proofs.pairing.three_half_paired.Statement.{statement}
 use Rattle.mesh_check.proofs.pairing.three_half_paired.Tie as tie
 
-abbrev Start : tie.After-shared-slice-known5 → tie.Start
+abbrev Start : tie.After-shared_slice_known-5-1 → tie.Start
 Start c = c.before.before.before.before.before
 
-half-paired-requires : tie.Need-half-paired-requires
-half-paired-requires c κs = ((Start c).requires.0, omega arith, ap (λ k. get_or (Start c).args.triangles.now k 0) (first_next (Start c).args.t))
+half_paired-requires : tie.Need-half_paired-requires
+half_paired-requires c κs = ((Start c).requires.0, omega arith, ap (λ k. get_or (Start c).args.triangles.now k 0) (first_next (Start c).args.t))
 
-half-paired-requires-2 : tie.Need-half-paired-requires-2
-half-paired-requires-2 c κs =
+half_paired-requires-2 : tie.Need-half_paired-requires-2
+half_paired-requires-2 c κs =
     ((Start c.before.before).requires.0, omega arith, ap (λ k. get_or (Start c.before.before).args.triangles.now k 0) (second_next (Start c.before.before).args.t))
 
-half-paired-requires-3 : tie.Need-half-paired-requires-3
-half-paired-requires-3 c κs =
+half_paired-requires-3 : tie.Need-half_paired-requires-3
+half_paired-requires-3 c κs =
     let s = Start c.before.before.before.before in
-    (s.pre.0, omega arith, ap (λ k. get_or s.args.triangles.now k 0) (third_next s.args.t))
+    (s.requires.0, omega arith, ap (λ k. get_or s.args.triangles.now k 0) (third_next s.args.t))
 
-returns-3 : tie.Need-returns-3
+returns-3 : tie.Need-returns
 returns-3 c =
-    let i = c.before.before.before in
-    λ h. (i.before.half-paired.ensures (not-false _ i.if1.false), c.before.before.half-paired2.ensures (not-false _ c.before.if2.false), c.half-paired3.ensures h)
+    let i = c in
+    λ h. (i.half_paired.ensures (not-false _ (ap not i.if-not-half_paired.false)), c.half_paired-2.ensures (not-false _ (ap not c.if-not-half_paired-2.false)), c.half_paired-3.ensures h)
 
-pub three-half-paired-spec : {M : Type 1} → statement M
-three-half-paired-spec =
+pub three_half_paired_spec : {M : Type 1} → statement M
+three_half_paired_spec =
     tie.close
     (tie.spec (λ c. search rules) (λ c. search rules) (λ c. search rules) (λ c. search rules) (λ c. search rules) (λ c. search rules) (λ c. search rules)
-    (λ c. search rules) (λ c. search rules) (λ c. search rules) (λ c. search rules) (λ c. search rules) half-paired-requires (λ c h. absurd (false≢true h))
-    (λ c. search rules) (λ c. search rules) half-paired-requires-2 (λ c h. absurd (false≢true h)) (λ c. search rules) (λ c. search rules) half-paired-requires-3 returns-3)
+    (λ c. search rules) (λ c. search rules) (λ c. search rules) (λ c. search rules) (λ c. search rules) half_paired-requires (λ c h. absurd (false≢true h))
+    (λ c. search rules) (λ c. search rules) half_paired-requires-2 (λ c h. absurd (false≢true h)) (λ c. search rules) (λ c. search rules) half_paired-requires-3 returns-3)

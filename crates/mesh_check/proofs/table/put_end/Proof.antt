@@ -9,11 +9,11 @@ use Rattle.mesh_check.proofs.table.put_end.Tie as tie
 
 returns : tie.Need-returns
 returns c =
-    let s = c.before.before.before.before in
+    let s = c in
     let tri = s.args.triangles.now in
-    lowest_turn tri s.args.work.now s.args.e c.wide.result s.requires.0 s.requires.1 s.requires.5 (c.wide.ensures ∙ ap (λ k. get_or tri k 0) s.requires.3) (omega arith)
+    lowest_turn tri s.args.work.now s.args.e c.wide-s.result s.requires.0 s.requires.1 s.requires.5 (c.wide-s.ensures ∙ ap (λ k. get_or tri k 0) s.requires.3) (omega arith)
 
-pub put-end-spec : {M : Type 1} → statement M
-put-end-spec =
+pub put_end_spec : {M : Type 1} → statement M
+put_end_spec =
     tie.close
     (tie.spec (λ c. search rules) (λ c. search rules) (λ c κs. search rules) (λ c. search rules) (λ c. search rules) (λ c. search rules) (λ c. search rules) returns)

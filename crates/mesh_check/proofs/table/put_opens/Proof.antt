@@ -7,34 +7,34 @@ use Rattle.mesh_check.specs.pairing.laws.Threes.{first_next, second_next, third_
 use Rattle.mesh_check.proofs.table.put_opens.Statement.{statement}
 use Rattle.mesh_check.proofs.table.put_opens.Tie as tie
 
-abbrev Start : tie.After-put-open-arg2 → tie.Start
+abbrev Start : tie.After-put_open-arg-2-1 → tie.Start
 Start c = c.before.before.before.before.before.before.before.before
 
-put-open-requires : tie.Need-put-open-requires
-put-open-requires c κs = let s = c.before.before.before.before in (s.requires.0, s.requires.1, omega arith, omega arith, first_next s.args.t, s.requires.2 _ (omega arith), s.requires.4)
+put_open-requires : tie.Need-put_open-requires
+put_open-requires c κs = let s = c in (s.requires.0, s.requires.1, omega arith, omega arith, first_next s.args.t, s.requires.2 _ (omega arith), s.requires.4)
 
-put-open-requires-2 : tie.Need-put-open-requires-2
-put-open-requires-2 c κs =
-    let p = c.before.before.before.put-open in
-    ((Start c).requires.0, (Start c).requires.1, omega arith, omega arith, second_next (Start c).args.t, rw p.auto.1.1.0 ((Start c).requires.2 _ (omega arith)), p.ensures)
+put_open-requires-2 : tie.Need-put_open-requires-2
+put_open-requires-2 c κs =
+    let p = c.put_open in
+    ((Start c).requires.0, (Start c).requires.1, omega arith, omega arith, second_next (Start c).args.t, rw p.auto.work ((Start c).requires.2 _ (omega arith)), p.ensures)
 
-put-open-requires-3 : tie.Need-put-open-requires-3
-put-open-requires-3 c κs =
+put_open-requires-3 : tie.Need-put_open-requires-3
+put_open-requires-3 c κs =
     let s = Start c.before.before.before.before in
-    let p = c.before.before.before.put-open2 in
-    let p1 = c.before.before.before.before.before.before.before.put-open in
+    let p = c.put_open-2 in
+    let p1 = c.put_open in
     let t = s.args.t in
     let q : 3 * t + 1 + 1 ≡ 3 * t + 2 = omega arith in
-    (s.pre.0, s.pre.1, omega arith, omega arith, third_next t, rw (p.auto.1.1.0 ∙ p1.auto.1.1.0) (s.pre.2 _ (omega arith)), rw q at p.ensures)
+    (s.requires.0, s.requires.1, omega arith, omega arith, third_next t, rw (p.auto.work ∙ p1.auto.work) (s.requires.2 _ (omega arith)), rw q at p.ensures)
 
 returns : tie.Need-returns
 returns c =
     let t = (Start c.before.before.before.before.before.before.before).args.t in
     let q : 3 * t + 2 + 1 ≡ 3 * t + 3 = omega arith in
-    rw q at c.before.before.put-open3.ensures
+    rw q at c.put_open-3.ensures
 
-pub put-opens-spec : {M : Type 1} → statement M
-put-opens-spec =
+pub put_opens_spec : {M : Type 1} → statement M
+put_opens_spec =
     tie.close
-    (tie.spec (λ c. search rules) (λ c. search rules) (λ c. search rules) put-open-requires (λ c. search rules) (λ c. search rules) (λ c. search rules) (λ c. search rules)
-    put-open-requires-2 (λ c. search rules) (λ c. search rules) (λ c. search rules) put-open-requires-3 (λ c. search rules) returns)
+    (tie.spec (λ c. search rules) (λ c. search rules) (λ c. search rules) put_open-requires (λ c. search rules) (λ c. search rules) (λ c. search rules) (λ c. search rules)
+    put_open-requires-2 (λ c. search rules) (λ c. search rules) (λ c. search rules) put_open-requires-3 (λ c. search rules) returns)

@@ -5,36 +5,36 @@ use Rattle.mesh_check.specs.whole.laws.Steps.{shape_keep, topology_shape, topolo
 use Rattle.mesh_check.proofs.whole.check_topology.Statement.{statement}
 use Rattle.mesh_check.proofs.whole.check_topology.Tie as tie
 
-abbrev Start : tie.After-check-border-arg → tie.Start
+abbrev Start : tie.After-check_border-arg-1 → tie.Start
 Start c = c.before.before.before.before.before.before.before.before
 
-returns : tie.Need-returns
+returns : tie.Need-returns-then-number-ne0
 returns c =
-    let at-then1 = c.before.before.before.before in
-    topology_shape _ _ _ _ _ _ _ at-then1.before.before.check-shape.ensures at-then1.before.number.ensures _ at-then1.if1.true c.before.before.clear.ensures
+    let at-then1 = c in
+    topology_shape _ _ _ _ _ _ _ at-then1.check_shape-f.ensures at-then1.number.ensures _ at-then1.if-number-ne0.true c.clear.ensures
 
-check-border-requires : tie.Need-check-border-requires
-check-border-requires c κs =
-    let k = shape_keep _ _ _ c.before.before.before.check-shape.ensures (sym c.before.before.number.ensures ∙ c.before.if1.false) in
+check_border-requires : tie.Need-check_border-g-requires
+check_border-requires c κs =
+    let k = shape_keep _ _ _ c.check_shape-f.ensures (sym c.number.ensures ∙ c.if-number-ne0.false) in
     ((Start c).requires.0, (Start c).requires.1, (Start c).requires.2, (Start c).requires.3, (Start c).requires.4, k.0, k.1.0)
 
-returns-2 : tie.Need-returns-2
+returns-2 : tie.Need-returns-then-number-ne0-2
 returns-2 c =
-    let at-number2 = c.before.before.before.before.before in
-    let a = at-number2.before.before.before.before.before in
-    let b = at-number2.before.before.before.check-border in
-    topology_border _ _ _ _ _ _ _ a.before.before.check-shape.ensures a.before.number.ensures a.if1.false _ _ _ b.ensures
-    at-number2.number2.ensures _ c.before.before.before.before.if2.true b.auto.1.1.1.1.0 c.before.before.clear2.ensures
+    let at-number2 = c in
+    let a = at-number2 in
+    let b = at-number2.check_border-g in
+    topology_border _ _ _ _ _ _ _ a.check_shape-f.ensures a.number.ensures a.if-number-ne0.false _ _ _ b.ensures
+    at-number2.number-2.ensures _ c.if-number-ne0-2.true b.auto.work c.clear-then-number-ne0-2.ensures
 
-returns-3 : tie.Need-returns-3
+returns-3 : tie.Need-returns
 returns-3 c =
-    let a = c.before.before.before.before.before.before in
-    topology_whole _ _ _ _ _ _ _ a.before.before.check-shape.ensures a.before.number.ensures a.if1.false _ _ _
-    c.before.before.before.before.check-border.ensures c.before.number2.ensures c.if2.false
+    let a = c in
+    topology_whole _ _ _ _ _ _ _ a.check_shape-f.ensures a.number.ensures a.if-number-ne0.false _ _ _
+    c.check_border-g.ensures c.number-2.ensures c.if-number-ne0-2.false
 
-pub check-topology-spec : {M : Type 1} → statement M
-check-topology-spec =
+pub check_topology_spec : {M : Type 1} → statement M
+check_topology_spec =
     tie.close
     (tie.spec (λ c κs. search rules) (λ c κs. search rules) (λ c κs. search rules) (λ c. search rules) returns
-    check-border-requires (λ c κs. search rules) (λ c κs. search rules) (λ c. search rules) returns-2
+    check_border-requires (λ c κs. search rules) (λ c κs. search rules) (λ c. search rules) returns-2
     (λ c. search rules) returns-3)

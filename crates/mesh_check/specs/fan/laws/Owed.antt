@@ -3,6 +3,7 @@
 use Rattle.std.specs.Prelude.{◌≡◌, refl, List, ◌∷◌, ◌≢◌, ℕ, zero, suc, ◌+◌, ◌-◌, ◌≤◌, ◌<◌, ltb, length, get_or, set}
 use Rattle.std.proofs.Common.{sym, ap, ◌∙◌, ⊎_elim, arith, length-set, get_or-set_same, get_or-set_other, eq-eqb, ne_eqb, lt-ltb, le-ltb}
 use Rattle.std.proofs.Math.Nat.{sub-zero}
+use Rattle.std.proofs.Math.Path.{subst}
 use Rattle.base.specs.common.Pick.{pick}
 use Rattle.base.specs.common.laws.Decide.{lt_or_ge, eq_or_ne}
 use Rattle.base.specs.common.Count.{same, occ}
@@ -68,7 +69,9 @@ module _ (tri he : List ℕ) (ok : Paired tri he) (t s : ℕ) (ends : t < length
       let w : List ℕ = r ∷ whole_of he t in
       let below : (v : ℕ) → 0 < occ v w → v < length he = λ v p. ⊎_elim (λ z. rw z.0 lr) (λ z. in_mesh v (omega arith)) (same_cases v r) in
       let most : (v : ℕ) → occ v w ≤ u v = λ v. ⊎_elim
-      (λ z. rw z.0 (⊎_elim (λ y. omega (arith, rw z.0 at z.1)) (λ y. absurd (y.0 er)) (same_cases (end_of tri r) s)))
+      (λ z. subst (λ (k : ℕ). occ k w ≤ u k) (sym z.0)
+          (let one : same r r ≡ 1 = subst (λ (k : ℕ). same k r ≡ 1) z.0 z.1 in
+          ⊎_elim (λ y. omega (arith, one, y.1, nr)) (λ y. absurd (y.0 er)) (same_cases (end_of tri r) s)))
       (λ z. omega (arith, at_most v))
       (same_cases v r) in
       let q = all_weighed u (length he) w below most (omega (arith, weighed_le u (length he) w below most)) g lg in

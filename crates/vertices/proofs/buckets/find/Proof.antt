@@ -13,35 +13,35 @@ few_of c l e = omega arith
 within_count : {i nc count h : ℕ} → nc ≤ count → h ≤ count - nc → i < nc + h → i ≤ count
 within_count a b c = omega arith
 
-abbrev Start : tie.After-least → tie.Start
+abbrev Start : tie.After-least-inserted → tie.Start
 Start c = c.before.before.before.before.before.before
 
-in-chain-requires : tie.Need-in-chain-requires
-in-chain-requires c κs =
-    let narrow = c.before in
-    let some = narrow.before in
-    let at-heads = some.before in
+in_chain-requires : tie.Need-in_chain-i-requires
+in_chain-requires c κs =
+    let narrow = c in
+    let some = narrow in
+    let at-heads = some in
     let s = Start c in
-    chained s.pre.0 s.pre.1 at-heads.heads-in.ensures some.if1.false c.least.ensures narrow.if2.true
+    chained s.requires.0 s.requires.1 at-heads.heads_in-heads.ensures some.if-heads-eq0.false c.least-inserted.ensures narrow.if-there.true
 
-returns-2 : tie.Need-returns-2
+returns-2 : tie.Need-returns-then-i-centers
 returns-2 c =
-    let at_least_lem = c.before.before in
-    let s = Start at_least_lem in
-    let few = few_of (s.args.count - s.args.centers) _ at_least_lem.least.ensures in
-    (found_inserted s.args.vertices.now s.args.p s.pre.0.centers few c.before.in-chain.ensures c.if3.true, within_count s.pre.0.centers few c.if3.true)
+    let at_least_lem = c in
+    let s = Start at_least_lem.before.before in
+    let few = few_of (s.args.count - s.args.centers) _ at_least_lem.least-inserted.ensures in
+    (found_inserted s.args.vertices.now s.args.p s.requires.0.centers few c.in_chain-i.ensures c.if-i-centers.true, within_count s.requires.0.centers few c.if-i-centers.true)
 
-returns-3 : tie.Need-returns-3
+returns-3 : tie.Need-returns-then-there
 returns-3 c =
-    let past = c.before in
-    let at-chain = past.before in
-    let at_least_lem = at-chain.before in
-    let s = Start at_least_lem in
-    let few = few_of (s.args.count - s.args.centers) _ at_least_lem.least.ensures in
-    (found_past s.args.vertices.now s.args.p s.pre.0.centers few at-chain.in-chain.ensures past.if3.false c.find-near2.ensures.0, c.find-near2.ensures.1)
+    let past = c in
+    let at-chain = past in
+    let at_least_lem = at-chain in
+    let s = Start at_least_lem.before.before.before in
+    let few = few_of (s.args.count - s.args.centers) _ at_least_lem.least-inserted.ensures in
+    (found_past s.args.vertices.now s.args.p s.requires.0.centers few at-chain.in_chain-i.ensures past.if-i-centers.false c.find_near-then-there.ensures.0, c.find_near-then-there.ensures.1)
 
 pub find_spec : {M : Type 1} → statement M
 find_spec =
     tie.close
-    (tie.spec (λ c κs. search rules) (λ c κs. search rules) (λ c. search rules) (λ c. search rules) (λ c. search rules) (λ c κs. search rules) in-chain-requires (λ c. search rules)
+    (tie.spec (λ c κs. search rules) (λ c κs. search rules) (λ c. search rules) (λ c. search rules) (λ c. search rules) (λ c κs. search rules) in_chain-requires (λ c. search rules)
     returns-2 (λ c. search rules) (λ c κs. search rules) returns-3 (λ c κs. search rules) (λ c. search rules))

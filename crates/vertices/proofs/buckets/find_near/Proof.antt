@@ -9,35 +9,35 @@ use Rattle.vertices.specs.laws.Points.{near_hit, near_miss, near_end}
 use Rattle.vertices.proofs.buckets.find_near.Statement.{statement}
 use Rattle.vertices.proofs.buckets.find_near.Tie as tie
 
-abbrev invariant-loop : tie.invariant-loop
+abbrev invariant-loop : tie.invariant-loop-i
 invariant-loop v from count p i₀ i =
     (i ≤ count) × (find_near p (points_from v from (count - from)) from ≡ find_near p (points_from v i (count - i)) i)
 
-abbrev decreases-loop : tie.decreases-loop
+abbrev decreases-loop : tie.decreases-loop-i
 decreases-loop v from count p i₀ i = count - i
 
-loop-holds : tie.Need-loop-init invariant-loop decreases-loop
+loop-holds : tie.Need-loop-i-init invariant-loop decreases-loop
 loop-holds c = (omega arith, refl)
 
-returns : tie.Need-returns invariant-loop decreases-loop
+returns : tie.Need-returns-then-near_point invariant-loop decreases-loop
 returns c =
-    let s = c.before.before.before.before.before.before in
-    let l = c.before.before.before.before in
-    let e = ap (λ q. near_pt q s.args.p) c.before.before.point_at.ensures in
-    (sym (l.loop.invariant.1 ∙ near_hit _ _ _ _ (omega arith) (sym e ∙ sym c.before.near-point.ensures ∙ c.if1.true)), omega arith)
+    let s = c in
+    let l = c in
+    let e = ap (λ q. near_pt q s.args.p) c.point_at-q.ensures in
+    (sym (l.loop-i.invariant.1 ∙ near_hit _ _ _ _ (omega arith) (sym e ∙ sym c.near_point.ensures ∙ c.if-near_point.true)), omega arith)
 
-loop-again : tie.Need-loop-preserved invariant-loop decreases-loop
+loop-again : tie.Need-loop-i-preserved invariant-loop decreases-loop
 loop-again c =
-    let s = c.before.before.before.before.before.before in
-    let l = c.before.before.before.before in
-    let e = ap (λ q. near_pt q s.args.p) c.before.before.point_at.ensures in
-    (omega arith, l.loop.invariant.1 ∙ near_miss _ _ _ _ (omega arith) (sym e ∙ sym c.before.near-point.ensures ∙ c.if1.false))
+    let s = c in
+    let l = c in
+    let e = ap (λ q. near_pt q s.args.p) c.point_at-q.ensures in
+    (omega arith, l.loop-i.invariant.1 ∙ near_miss _ _ _ _ (omega arith) (sym e ∙ sym c.near_point.ensures ∙ c.if-near_point.false))
 
-returns-2 : tie.Need-returns-2 invariant-loop decreases-loop
-returns-2 c = (sym (c.before.loop.invariant.1 ∙ near_end _ _ _ _ (omega arith)), omega arith)
+returns-2 : tie.Need-returns invariant-loop decreases-loop
+returns-2 c = (sym (c.loop-i.invariant.1 ∙ near_end _ _ _ _ (omega arith)), omega arith)
 
-pub find-near-spec : {M : Type 1} → statement M
-find-near-spec =
+pub find_near_spec : {M : Type 1} → statement M
+find_near_spec =
     tie.close
     (tie.spec invariant-loop decreases-loop loop-holds (λ c κs. omega arith) (λ c κs. search rules) returns (λ c. omega arith)
     (λ c. omega arith) loop-again returns-2)

@@ -3,5 +3,5 @@ use native.Mathlib.Omega.{arith}
 use Rattle.vertices.proofs.buckets.heads_in.Statement.{statement}
 use Rattle.vertices.proofs.buckets.heads_in.Tie as tie
 
-pub heads-in-spec : {M : Type 1} → statement M
-heads-in-spec = tie.close (tie.spec (λ c. omega arith) (λ c. omega arith) (λ c. omega arith) (λ c. omega arith))
+pub heads_in_spec : {M : Type 1} → statement M
+heads_in_spec = tie.close (tie.spec (λ c. omega arith) (λ c. omega arith) (λ c. omega arith) (λ c. omega arith))

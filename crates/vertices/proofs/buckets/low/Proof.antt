@@ -2,5 +2,5 @@
 use Rattle.vertices.proofs.buckets.low.Statement.{statement}
 use Rattle.vertices.proofs.buckets.low.Tie as tie
 
-pub low-spec : {M : Type 1} → statement M
-low-spec = tie.close (tie.spec (λ c κs. tt) (λ c. cc))
+pub low_spec : {M : Type 1} → statement M
+low_spec = tie.close (tie.spec (λ c κs. tt) (λ c. cc))

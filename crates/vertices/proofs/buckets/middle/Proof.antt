@@ -2,5 +2,5 @@
 use Rattle.vertices.proofs.buckets.middle.Statement.{statement}
 use Rattle.vertices.proofs.buckets.middle.Tie as tie
 
-pub middle-spec : {M : Type 1} → statement M
-middle-spec = tie.close (tie.spec (λ c κs. tt) (λ c. cc))
+pub middle_spec : {M : Type 1} → statement M
+middle_spec = tie.close (tie.spec (λ c κs. tt) (λ c. cc))

@@ -7,25 +7,25 @@ use Rattle.walks.specs.neighbours.Cursor.{last_step}
 use Rattle.walks.proofs.neighbours.last_step.Statement.{statement}
 use Rattle.walks.proofs.neighbours.last_step.Tie as tie
 
-mul-if1 : tie.Need-overflow-mul-if1
-mul-if1 c = record { fits = omega (arith, next_sum c.before.before.before.args.e) }
+mul-if1 : tie.Need-offset_bounds-halfedges-o
+mul-if1 c = record { fits = omega (arith, next_sum c.args.e) }
 
-shared-slice-read-if1 : tie.Need-shared-slice-read-if1
-shared-slice-read-if1 c = omega (arith, next_sum c.before.before.before.before.args.e)
+shared_slice_read-if1 : tie.Need-bounds-halfedges-o
+shared_slice_read-if1 c = omega (arith, next_sum c.args.e)
 
-end-site-requires : tie.Need-end-site-requires
-end-site-requires c κs =
-    let at_start = c.before.before.before.before.before in
+end_site-requires : tie.Need-end_site-requires
+end_site-requires c κs =
+    let at_start = c in
     omega (arith, next_sum at_start.args.e)
 
-returns : tie.Need-returns
+returns : tie.Need-returns-then-halfedges-o
 unfolding last_step
-returns c = simp (← c.before.before.before.next-halfedge.ensures, eq-eqb _ _ c.before.if1.true, c.end-site.ensures)
+returns c = simp (← c.next_halfedge-o.ensures, eq-eqb _ _ c.if-halfedges-o.true, c.end_site.ensures)
 
-returns-2 : tie.Need-returns-2
+returns-2 : tie.Need-returns
 unfolding last_step
-returns-2 c = simp (← c.before.before.next-halfedge.ensures, ne_eqb _ _ c.if1.false)
+returns-2 c = simp (← c.next_halfedge-o.ensures, ne_eqb _ _ c.if-halfedges-o.false)
 
-pub last-step-spec : {M : Type 1} → statement M
-last-step-spec =
-    tie.close (tie.spec (λ c κs. search rules) mul-if1 shared-slice-read-if1 end-site-requires returns returns-2)
+pub last_step_spec : {M : Type 1} → statement M
+last_step_spec =
+    tie.close (tie.spec (λ c κs. search rules) mul-if1 shared_slice_read-if1 end_site-requires returns returns-2)

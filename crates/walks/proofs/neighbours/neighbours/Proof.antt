@@ -11,35 +11,35 @@ use Rattle.walks.specs.neighbours.laws.NeighboursLoop.{NeighboursWritten, handin
 use Rattle.walks.proofs.neighbours.neighbours.Statement.{statement}
 use Rattle.walks.proofs.neighbours.neighbours.Tie as tie
 
-abbrev invariant-loop : tie.invariant-loop
+abbrev invariant-loop : tie.invariant-loop-n
 invariant-loop triangles halfedges s out₀ c₀ n₀ out c n = NeighboursWritten triangles halfedges (starts_of triangles halfedges (whole_of halfedges s)) out₀ out c n
 
-abbrev decreases-loop : tie.decreases-loop
+abbrev decreases-loop : tie.decreases-loop-n
 decreases-loop triangles halfedges s out₀ c₀ n₀ out c n = length out₀ - n
 
-abbrev Begin : tie.At-loop invariant-loop decreases-loop → tie.Start invariant-loop decreases-loop
+abbrev Begin : tie.At-loop-n invariant-loop decreases-loop → tie.Start invariant-loop decreases-loop
 Begin c = c.before.before.before.before
 
-loop-holds : tie.Need-loop-init invariant-loop decreases-loop
-loop-holds c = handing_start _ _ _ (omega (arith, c.before.before.before.requires.0.small)) _ (settled_start _ _ c.before.before.before.requires.0 _)
+loop-holds : tie.Need-loop-n-init invariant-loop decreases-loop
+loop-holds c = handing_start _ _ _ (omega (arith, c.requires.0.small)) _ (settled_start _ _ c.requires.0 _)
 
-loop-again : tie.Need-loop-preserved invariant-loop decreases-loop
+loop-again : tie.Need-loop-n-preserved invariant-loop decreases-loop
 loop-again c =
-    let l = c.before.before.before.before.before in
-    handing_site _ _ _ (omega (arith, (Begin l).requires.0.small)) l.loop.invariant _ _ (omega arith) (sym c.before.x.given.1 ∙ c.before.before.before.step.ensures)
+    let l = c in
+    handing_site _ _ _ (omega (arith, (Begin l.before.before.before).requires.0.small)) l.loop-n.invariant _ _ (omega arith) (sym c.in-Site.is ∙ c.step.ensures)
 
-returns : tie.Need-returns invariant-loop decreases-loop
+returns : tie.Need-returns-in-End invariant-loop decreases-loop
 returns c =
-    let l = c.before.before.before.before in
-    handing_end _ _ _ (omega (arith, (Begin l).requires.0.small)) l.loop.invariant (sym c.enum_told.given.1 ∙ c.before.before.step.ensures)
+    let l = c in
+    handing_end _ _ _ (omega (arith, (Begin l.before.before.before).requires.0.small)) l.loop-n.invariant (sym c.in-End.is ∙ c.step.ensures)
 
-returns-2 : tie.Need-returns-2 invariant-loop decreases-loop
+returns-2 : tie.Need-returns invariant-loop decreases-loop
 returns-2 c =
-    let l = c.before.before in
-    handing_full _ _ _ (omega (arith, (Begin l).requires.0.small)) l.loop.invariant (omega arith) _ c.over.ensures
+    let l = c in
+    handing_full _ _ _ (omega (arith, (Begin l.before.before).requires.0.small)) l.loop-n.invariant (omega arith) _ c.over.ensures
 
-pub neighbours-spec : {M : Type 1} → statement M
-neighbours-spec =
+pub neighbours_spec : {M : Type 1} → statement M
+neighbours_spec =
     tie.close
     (tie.spec invariant-loop decreases-loop loop-holds (λ c κs. search rules) (λ c. search rules) (λ c. search rules)
     (λ c. search rules) (λ c. search rules) (λ c. search rules) loop-again (λ c. search rules) (λ c. search rules)

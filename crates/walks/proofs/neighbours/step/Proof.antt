@@ -5,15 +5,15 @@ use Rattle.walks.specs.neighbours.laws.Cursor.{step_walks, step_last, step_end}
 use Rattle.walks.proofs.neighbours.step.Statement.{statement}
 use Rattle.walks.proofs.neighbours.step.Tie as tie
 
-returns : tie.Need-returns
-returns c = step_walks _ _ _ _ _ _ c.before.before.before.wide.ensures c.before.before.if1.true refl c.turn.ensures
+returns : tie.Need-returns-then-next-halfedges
+returns c = step_walks _ _ _ _ _ _ c.wide-next.ensures c.if-next-halfedges.true refl c.turn.ensures
 
-returns-2 : tie.Need-returns-2
-returns-2 c = step_last _ _ _ _ _ _ c.before.before.before.before.wide.ensures c.before.before.before.if1.false
-    c.before.before.wide2.ensures c.before.if2.true c.last_step.ensures
+returns-2 : tie.Need-returns-then-last-halfedges
+returns-2 c = step_last _ _ _ _ _ _ c.wide-next.ensures c.if-next-halfedges.false
+    c.wide-last.ensures c.if-last-halfedges.true c.last_step.ensures
 
-returns-3 : tie.Need-returns-3
-returns-3 c = step_end _ _ _ _ _ c.before.before.before.wide.ensures c.before.before.if1.false c.before.wide2.ensures c.if2.false
+returns-3 : tie.Need-returns
+returns-3 c = step_end _ _ _ _ _ c.wide-next.ensures c.if-next-halfedges.false c.wide-last.ensures c.if-last-halfedges.false
 
 pub step_spec : {M : Type 1} → statement M
 step_spec =

@@ -6,7 +6,7 @@ use Rattle.walks.proofs.paths.distance.Tie as tie
 
 returns : tie.Need-returns
 unfolding dist_of
-returns c = rw (c.dist2.ensures, c.before.point_at.ensures, c.before.before.wide.ensures)
+returns c = rw (c.dist2.ensures, c.point_at.ensures, c.wide.ensures)
 
-pub distance-spec : {M : Type 1} → statement M
-distance-spec = tie.close (tie.spec (λ c κs. search rules) (λ c κs. search rules) (λ c κs. search rules) returns)
+pub distance_spec : {M : Type 1} → statement M
+distance_spec = tie.close (tie.spec (λ c κs. search rules) (λ c κs. search rules) (λ c κs. search rules) returns)

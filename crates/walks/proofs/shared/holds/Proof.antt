@@ -7,26 +7,26 @@ use borrow.Author.Rules.{rules}
 use Rattle.walks.proofs.shared.holds.Statement.{statement}
 use Rattle.walks.proofs.shared.holds.Tie as tie
 
-abbrev invariant-loop : tie.invariant-loop
+abbrev invariant-loop : tie.invariant-loop-i
 invariant-loop b x i₀ i = Seeking b x i
 
-abbrev decreases-loop : tie.decreases-loop
+abbrev decreases-loop : tie.decreases-loop-i
 decreases-loop b x i₀ i = length b - i
 
-loop-holds : tie.Need-loop-init invariant-loop decreases-loop
+loop-holds : tie.Need-loop-i-init invariant-loop decreases-loop
 loop-holds c = seeking_start _ _
 
-returns : tie.Need-returns invariant-loop decreases-loop
-returns c = seeking_found _ _ _ c.before.before.before.loop.invariant (omega arith) c.if1.true
+returns : tie.Need-returns-then-b-i invariant-loop decreases-loop
+returns c = seeking_found _ _ _ c.loop-i.invariant (omega arith) c.if-b-i.true
 
-loop-again : tie.Need-loop-preserved invariant-loop decreases-loop
-loop-again c = seeking_step _ _ _ c.before.before.before.loop.invariant (omega arith) c.if1.false
+loop-again : tie.Need-loop-i-preserved invariant-loop decreases-loop
+loop-again c = seeking_step _ _ _ c.loop-i.invariant (omega arith) c.if-b-i.false
 
-returns-2 : tie.Need-returns-2 invariant-loop decreases-loop
-returns-2 c = seeking_end _ _ _ c.before.loop.invariant (omega arith)
+returns-2 : tie.Need-returns invariant-loop decreases-loop
+returns-2 c = seeking_end _ _ _ c.loop-i.invariant (omega arith)
 
-pub holds-spec : {M : Type 1} → statement M
-holds-spec =
+pub holds_spec : {M : Type 1} → statement M
+holds_spec =
     tie.close
     (tie.spec invariant-loop decreases-loop loop-holds (λ c. search rules) (λ c. search rules) returns (λ c. search rules)
     (λ c. search rules) loop-again returns-2)

@@ -6,8 +6,8 @@ use Rattle.walks.proofs.shared.share_edge.Tie as tie
 
 returns : tie.Need-returns
 unfolding share_edge_of
-returns c = rw (c.shared-entries.ensures, c.before.before.cell.ensures, c.before.cell2.ensures)
+returns c = rw (c.shared_entries.ensures, c.cell.ensures, c.cell-2.ensures)
 
-pub share-edge-spec : {M : Type 1} → statement M
-share-edge-spec =
+pub share_edge_spec : {M : Type 1} → statement M
+share_edge_spec =
     tie.close (tie.spec (λ c κs. search rules) (λ c κs. search rules) (λ c κs. search rules) returns)

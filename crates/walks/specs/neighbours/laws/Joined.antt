@@ -26,7 +26,7 @@ abbrev pub Joins : List ℕ → ℕ → ℕ → ℕ → Type 0
 Joins tri s v e = ((start_of tri e ≡ v) × (end_of tri e ≡ s)) ⊎ ((start_of tri e ≡ s) × (end_of tri e ≡ v))
 
 head_in : (v x : ℕ) (l : List ℕ) → v ≡ x → 0 < occ v (x ∷ l)
-head_in v x l q = rw q (occ_there (x ∷ l) 0 (omega arith))
+head_in v x l q = subst (λ (k : ℕ). 0 < occ k (x ∷ l)) (sym q) (occ_there (x ∷ l) 0 (omega arith))
 
 tail_in : (v x : ℕ) (l : List ℕ) → 0 < occ v l → 0 < occ v (x ∷ l)
 tail_in v x l h = omega arith
