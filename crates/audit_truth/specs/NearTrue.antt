@@ -5,7 +5,7 @@ use Rattle.std.specs.Prelude.{◌≡◌, Bool, ◌&&◌, List, ℕ, ◌+◌, ◌
 use Rattle.std.proofs.Math.Path.{refl, sym}
 use Rattle.std.proofs.Math.Bool.{true, false, not}
 use Prim.{tt}
-use Rattle.std.proofs.Common.{le_refl, le_trans, le_of_eq, add_comm, arith, lit≤, rules}
+use Rattle.std.proofs.Common.{le_refl, le_trans, le_of_eq, add_comm, arith, lit≤, rules as by_rules}
 use Rattle.std.specs.Float.{binary64}
 use Rattle.std.specs.Float.Ieee.{fits, le}
 use Rattle.std.specs.Float.Ieee.Fits.{add-fits, sub-fits}
@@ -127,7 +127,7 @@ module _ {g : Given} {sites v : List Float} {off ix starts others : List ℕ} {b
 
   site_held : (i : ℕ) → i < length sites / 2 → HeldPoint (point_at sites i)
   site_held i h =
-      let p = point_weaken {j = 400} (lit≤ tt) (site_bounded (point_at sites i) ((finds_keep (λ r. r ≡ 0) (search rules) refl a.number.found).1.1.0 i h)) in
+      let p = point_weaken {j = 400} (lit≤ tt) (site_bounded (point_at sites i) ((finds_keep (λ r. r ≡ 0) (search by_rules) refl a.number.found).1.1.0 i h)) in
       record { x = record { held = sites_held (2 * i); bounded = p.x }; y = record { held = sites_held (2 * i + 1); bounded = p.y } }
 
   -- corner i of the piece of a site

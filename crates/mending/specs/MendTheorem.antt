@@ -1,7 +1,7 @@
 -- Theorem: a mended mesh is accepted by rules 1, 6 and 7 to 10. An accepted mesh comes through with an empty list if each ordered pair of sites has at
 -- most one half-edge; then every half-edge whose reverse is in the mesh is paired. What was mended is mended again with an empty list.
 use Rattle.std.specs.Prelude.{◌≡◌, refl, List, [], ◌≢◌, ℕ, ◌≤◌, ◌<◌, length, get_or}
-use Rattle.std.proofs.Common.{sym, ap, ◌∙◌, ⊎_elim, arith, ext_get_or, rules}
+use Rattle.std.proofs.Common.{sym, ap, ◌∙◌, ⊎_elim, arith, ext_get_or, rules as by_rules}
 use Rattle.base.specs.common.Refusals.{Keep}
 use Rattle.base.specs.common.laws.Refusals.{finds_one, finds_none, finds_keep}
 use Rattle.base.specs.numbers.Numbers.{EMPTY}
@@ -44,7 +44,7 @@ module _ (m : Mesh) (old : Lent) where
 
   module _ {new : Lent} {k p q : ℕ} (x : Mends m old new 0 k p q) where
     keep : rules
-    keep = finds_keep (λ r. r ≡ 0) (search rules) refl x.number
+    keep = finds_keep (λ r. r ≡ 0) (search by_rules) refl x.number
 
     pub mended_single : AllSingle m.triangles
     mended_single = keep.1.1.1.1.0

@@ -5,21 +5,21 @@ use borrow.Author.Rules.{rules}
 use Rattle.admission.proofs.admit.Statement.{statement}
 use Rattle.admission.proofs.admit.Tie as tie
 
-returns : tie.Need-returns
-returns c = refused_early _ _ _ c.before.early.ensures _ c.before.before.before.before.before.before.before.requires.1 c.if1.true
+returns : tie.Need-returns-then-e-ne0
+returns c = refused_early _ _ _ c.early-e.ensures _ c.requires.1 c.if-e-ne0.true
 
-check-topology-requires : tie.Need-check-topology-requires
-check-topology-requires c κs =
-    let e = c.before.before in
-    let p = passed e.early.ensures c.before.if1.false in let r = e.before.before.before.before.before.before.requires.0 p.1.0 in omega (arith, p.0.threes, p.0.same)
+check_topology-requires : tie.Need-check_topology-requires
+check_topology-requires c κs =
+    let e = c in
+    let p = passed e.early-e.ensures c.if-e-ne0.false in let r = e.requires.0 p.1.0 in omega (arith, p.0.threes, p.0.same)
 
-returns-2 : tie.Need-returns-2
+returns-2 : tie.Need-returns
 returns-2 c =
-    let e = c.before.before.before.before.before in
-    judged_late _ _ _ e.before.early.ensures e.if1.false c.before.before.before.check-topology.ensures c.number.ensures
+    let e = c in
+    judged_late _ _ _ e.early-e.ensures e.if-e-ne0.false c.check_topology.ensures c.number.ensures
 
-pub admit-spec : {M : Type 1} → statement M
-admit-spec =
+pub admit_spec : {M : Type 1} → statement M
+admit_spec =
     tie.close
-    (tie.spec (λ c κs. search rules) returns check-topology-requires (λ c κs. search rules) (λ c. search rules)
+    (tie.spec (λ c κs. search rules) returns check_topology-requires (λ c κs. search rules) (λ c. search rules)
     returns-2)

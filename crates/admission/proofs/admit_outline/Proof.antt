@@ -4,23 +4,23 @@ use borrow.Author.Rules.{rules}
 use Rattle.admission.proofs.admit_outline.Statement.{statement}
 use Rattle.admission.proofs.admit_outline.Tie as tie
 
-abbrev Cleared : tie.After-slice-known10 → tie.After-clear-all
+abbrev Cleared : tie.After-slice_known-10-1 → tie.After-clear_all
 Cleared c = c.before.before.before.before.before.before.before.before.before.before
 
-returns : tie.Need-returns
+returns : tie.Need-returns-then-r-lt-REFUSED_TRIANGLE
 returns c =
-    let o = c.before.before.before in
-    left_alone _ _ _ _ _ _ _ _ _ _ o.before.before.room_for.ensures o.outline.ensures.0 o.outline.ensures.1 c.if1.true
+    let o = c in
+    left_alone _ _ _ _ _ _ _ _ _ _ o.room_for-roomy.ensures o.outline-r.ensures.0 o.outline-r.ensures.1 c.if-r-lt-REFUSED_TRIANGLE.true
 
-returns-2 : tie.Need-returns-2
+returns-2 : tie.Need-returns
 returns-2 c =
-    let e = (Cleared c).before.before.before.before in
-    let q = (Cleared c).clear-all.ensures in
-    all_cleared _ _ _ _ _ _ _ _ _ _ e.before.before.before.before.before.room_for.ensures e.before.before.before.outline.ensures.0 e.before.before.before.outline.ensures.1
-    e.if1.left _ _ _ _ q.0 q.1 q.2 c.before.before.clear.ensures
+    let e = Cleared c in
+    let q = (Cleared c).clear_all.ensures in
+    all_cleared _ _ _ _ _ _ _ _ _ _ e.room_for-roomy.ensures e.outline-r.ensures.0 e.outline-r.ensures.1
+    e.if-r-lt-REFUSED_TRIANGLE.false _ _ _ _ q.0 q.1 q.2 c.clear.ensures
 
-pub admit-outline-spec : {M : Type 1} → statement M
-admit-outline-spec =
+pub admit_outline_spec : {M : Type 1} → statement M
+admit_outline_spec =
     tie.close
     (tie.spec (λ c κs. search rules) (λ c κs. search rules) (λ c. search rules) returns (λ c κs. search rules)
     (λ c κs. search rules) (λ c. search rules) (λ c. search rules) (λ c. search rules) (λ c. search rules)

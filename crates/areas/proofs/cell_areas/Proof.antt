@@ -4,14 +4,14 @@ use Rattle.areas.specs.laws.Answers.{admitted, refused_areas, given_areas}
 use Rattle.areas.proofs.cell_areas.Statement.{statement}
 use Rattle.areas.proofs.cell_areas.Tie as tie
 
-returns : tie.Need-returns
-returns c = refused_areas c.before.ask.ensures c.if1.true
+returns : tie.Need-returns-then-r-ne0
+returns c = refused_areas c.ask-r.ensures c.if-r-ne0.true
 
-write-areas-requires : tie.Need-write-areas-requires
-write-areas-requires c κs = admitted c.before.before.ask.ensures c.before.if1.false
+write_areas-requires : tie.Need-write_areas-requires
+write_areas-requires c κs = admitted c.ask-r.ensures c.if-r-ne0.false
 
-returns-2 : tie.Need-returns-2
-returns-2 c = given_areas c.before.before.before.before.before.ask.ensures c.before.before.before.before.if1.false c.before.before.write-areas.ensures
+returns-2 : tie.Need-returns
+returns-2 c = given_areas c.ask-r.ensures c.if-r-ne0.false c.write_areas.ensures
 
-pub cell-areas-spec : {M : Type 1} → statement M
-cell-areas-spec = tie.close (tie.spec (λ c κs. search rules) returns write-areas-requires (λ c. search rules) returns-2)
+pub cell_areas_spec : {M : Type 1} → statement M
+cell_areas_spec = tie.close (tie.spec (λ c κs. search rules) returns write_areas-requires (λ c. search rules) returns-2)

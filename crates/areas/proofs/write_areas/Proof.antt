@@ -8,29 +8,29 @@ use Rattle.areas.specs.laws.Writes.{AreasTo, writing_start, writing_step, writin
 use Rattle.areas.proofs.write_areas.Statement.{statement}
 use Rattle.areas.proofs.write_areas.Tie as tie
 
-abbrev invariant-loop : tie.invariant-loop
+abbrev invariant-loop : tie.invariant-loop-s
 invariant-loop vertices offsets indexes areas₀ s₀ areas s = AreasTo (area_at vertices offsets indexes) areas₀ areas s
 
-abbrev decreases-loop : tie.decreases-loop
+abbrev decreases-loop : tie.decreases-loop-s
 decreases-loop vertices offsets indexes areas₀ s₀ areas s = length areas₀ - s
 
-loop-holds : tie.Need-loop-init invariant-loop decreases-loop
+loop-holds : tie.Need-loop-s-init invariant-loop decreases-loop
 loop-holds c = writing_start _ _
 
-loop-less : tie.Need-loop-smaller invariant-loop decreases-loop
-loop-less c = omega (arith, c.before.before.loop.invariant.long)
+loop-less : tie.Need-loop-s-smaller invariant-loop decreases-loop
+loop-less c = omega (arith, c.loop-s.invariant.long)
 
-loop-again : tie.Need-loop-preserved invariant-loop decreases-loop
-loop-again c = writing_step c.before.before.loop.invariant c.before.loop-test.true c.area-at.ensures
+loop-again : tie.Need-loop-s-preserved invariant-loop decreases-loop
+loop-again c = writing_step c.loop-s.invariant c.loop-s-test.true c.area_at.ensures
 
-same_length : tie.Need-same-length invariant-loop decreases-loop
-same_length c = c.before.loop.invariant.long
+same_length : tie.Need-shape_of-areas invariant-loop decreases-loop
+same_length c = c.loop-s.invariant.long
 
 returns : tie.Need-returns invariant-loop decreases-loop
-returns c = record { areas = writing_end c.before.loop.invariant c.loop-test.false }
+returns c = record { areas = writing_end c.loop-s.invariant c.loop-s-test.false }
 
-pub write-areas-spec : {M : Type 1} → statement M
-write-areas-spec =
+pub write_areas_spec : {M : Type 1} → statement M
+write_areas_spec =
     tie.close
     (tie.spec invariant-loop decreases-loop loop-holds (λ c κs. search rules) (λ c. search rules) (λ c. search rules) (λ c. search rules)
     loop-less loop-again same_length returns)

@@ -4,16 +4,16 @@ use borrow.Author.Rules.{rules}
 use Rattle.cell_query.proofs.cell.Tie as tie
 use Rattle.cell_query.proofs.cell.Statement.{statement}
 
-returns : tie.Need-returns
-returns c = part_refused _ _ _ _ c.before.before.ask-cell.ensures c.before.if1.true
+returns : tie.Need-returns-then-r-ne0
+returns c = part_refused _ _ _ _ c.ask_cell-r.ensures c.if-r-ne0.true
 
 cell-requires : tie.Need-cell-requires
-cell-requires c κs = part_asks _ _ _ _ c.before.before.ask-cell.ensures c.before.if1.false _ c.wide.ensures
+cell-requires c κs = part_asks _ _ _ _ c.ask_cell-r.ensures c.if-r-ne0.false _ c.wide.ensures
 
-returns-2 : tie.Need-returns-2
-returns-2 c = part_given _ _ _ _ c.before.before.before.ask-cell.ensures c.before.before.if1.false _ c.before.wide.ensures _ c.cell.ensures
+returns-2 : tie.Need-returns
+returns-2 c = part_given _ _ _ _ c.ask_cell-r.ensures c.if-r-ne0.false _ c.wide.ensures _ c.cell.ensures
 
-pub cell-spec : {M : Type 1} → statement M
-cell-spec =
+pub cell_spec : {M : Type 1} → statement M
+cell_spec =
     tie.close
     (tie.spec (λ c κs. search rules) (λ c. search rules) returns (λ c κs. search rules) cell-requires returns-2)

@@ -1,48 +1,50 @@
 -- Rule 4 on either site, rule 16 on the offsets, then the count of shared entries.
+use mathlib.Core.Bool.{not}
+use mathlib.Core.Path.{ap}
 use Rattle.cell_query.specs.laws.SharedEdge.{no_first, no_second, none_cut, shares_asks, shares_told}
 use Rattle.base.specs.common.laws.Decide.{granted, refused}
 use borrow.Author.Rules.{rules}
 use Rattle.cell_query.proofs.cells_share_edge.Statement.{statement}
 use Rattle.cell_query.proofs.cells_share_edge.Tie as tie
 
-returns : tie.Need-returns
-returns c = no_first _ _ _ _ _ _ _ c.before.before.before.before.cell-count.ensures c.before.before.before.wide.ensures
-    c.before.before.wide2.ensures _ c.before.if1.true c.denied.ensures
+returns : tie.Need-returns-then-count-s
+returns c = no_first _ _ _ _ _ _ _ c.cell_count-count.ensures c.wide-s.ensures
+    c.wide-t.ensures _ c.if-count-s.true c.denied.ensures
 
-returns-2 : tie.Need-returns-2
+returns-2 : tie.Need-returns-then-count-t
 returns-2 c =
-    let at-cell-count = c.before.before.before.before.before in
-    no_second _ _ _ _ _ _ _ at-cell-count.cell-count.ensures c.before.before.before.before.wide.ensures
-    c.before.before.before.wide2.ensures _ c.before.if2.true c.denied2.ensures
+    let at-cell-count = c in
+    no_second _ _ _ _ _ _ _ at-cell-count.cell_count-count.ensures c.wide-s.ensures
+    c.wide-t.ensures _ c.if-count-t.true c.denied-then-count-t.ensures
 
-returns-3 : tie.Need-returns-3
+returns-3 : tie.Need-returns-then-not-cells_ok
 returns-3 c =
-    let at-wide2 = c.before.before.before.before.before in
-    let at_wide = at-wide2.before in
-    let at-cell-count = at_wide.before in
-    none_cut _ _ _ _ _ _ _ at-cell-count.cell-count.ensures at_wide.wide.ensures at-wide2.wide2.ensures
-    c.before.before.before.before.if1.false c.before.before.before.if2.false _
-    (refused c.before.before.cells-ok.result c.before.if3.true c.before.before.cells-ok.ensures) c.denied3.ensures
+    let at-wide2 = c in
+    let at_wide = at-wide2 in
+    let at-cell-count = at_wide in
+    none_cut _ _ _ _ _ _ _ at-cell-count.cell_count-count.ensures at_wide.wide-s.ensures at-wide2.wide-t.ensures
+    c.if-count-s.false c.if-count-t.false _
+    (refused c.cells_ok.result (ap not c.if-not-cells_ok.true) c.cells_ok.ensures) c.denied-then-not-cells_ok.ensures
 
-share-edge-requires : tie.Need-share-edge-requires
-share-edge-requires c κs =
-    let at_wide = c.before.before.before.before.before in
-    let at-cell-count = at_wide.before in
-    shares_asks _ _ _ _ _ _ _ at-cell-count.cell-count.ensures at_wide.wide.ensures c.before.before.before.before.wide2.ensures
-    c.before.before.before.if1.false c.before.before.if2.false (granted c.before.cells-ok.result c.if3.false c.before.cells-ok.ensures)
+share_edge-requires : tie.Need-share_edge-requires
+share_edge-requires c κs =
+    let at_wide = c in
+    let at-cell-count = at_wide in
+    shares_asks _ _ _ _ _ _ _ at-cell-count.cell_count-count.ensures at_wide.wide-s.ensures c.wide-t.ensures
+    c.if-count-s.false c.if-count-t.false (granted c.cells_ok.result (ap not c.if-not-cells_ok.false) c.cells_ok.ensures)
 
-returns-4 : tie.Need-returns-4
+returns-4 : tie.Need-returns
 returns-4 c =
-    let at-wide2 = c.before.before.before.before.before in
-    let at_wide = at-wide2.before in
-    let at-cell-count = at_wide.before in
-    shares_told _ _ _ _ _ _ _ at-cell-count.cell-count.ensures at_wide.wide.ensures at-wide2.wide2.ensures
-    c.before.before.before.before.if1.false c.before.before.before.if2.false _
-    (granted c.before.before.cells-ok.result c.before.if3.false c.before.before.cells-ok.ensures) c.share-edge.ensures
+    let at-wide2 = c in
+    let at_wide = at-wide2 in
+    let at-cell-count = at_wide in
+    shares_told _ _ _ _ _ _ _ at-cell-count.cell_count-count.ensures at_wide.wide-s.ensures at-wide2.wide-t.ensures
+    c.if-count-s.false c.if-count-t.false _
+    (granted c.cells_ok.result (ap not c.if-not-cells_ok.false) c.cells_ok.ensures) c.share_edge.ensures
 
-pub cells-share-edge-spec : {M : Type 1} → statement M
-cells-share-edge-spec =
+pub cells_share_edge_spec : {M : Type 1} → statement M
+cells_share_edge_spec =
     tie.close
     (tie.spec (λ c κs. search rules) (λ c κs. search rules) (λ c κs. search rules) (λ c κs. search rules) returns
-    (λ c κs. search rules) returns-2 (λ c κs. search rules) (λ c κs. search rules) returns-3 share-edge-requires
+    (λ c κs. search rules) returns-2 (λ c κs. search rules) (λ c κs. search rules) returns-3 share_edge-requires
     returns-4)

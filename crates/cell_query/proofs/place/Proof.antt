@@ -5,23 +5,23 @@ use borrow.Author.Rules.{rules}
 use Rattle.cell_query.proofs.place.Tie as tie
 use Rattle.cell_query.proofs.place.Statement.{statement}
 
-returns : tie.Need-returns
-returns c = place_refused _ _ _ _ c.before.ask-cell.ensures c.if1.true
+returns : tie.Need-returns-then-r-ne0
+returns c = place_refused _ _ _ _ c.ask_cell-r.ensures c.if-r-ne0.true
 
-shared-slice-read-from : tie.Need-shared-slice-read-from
-shared-slice-read-from c = omega (arith, (part_asks _ _ _ _ c.before.before.before.ask-cell.ensures c.before.before.if1.false _ c.before.wide.ensures).1)
+shared_slice_read-from : tie.Need-bounds-offsets-s
+shared_slice_read-from c = omega (arith, (part_asks _ _ _ _ c.ask_cell-r.ensures c.if-r-ne0.false _ c.wide-s.ensures).1)
 
-shared-slice-read-to : tie.Need-shared-slice-read-to
-shared-slice-read-to c = (part_asks _ _ _ _ c.before.before.before.before.ask-cell.ensures c.before.before.before.if1.false _ c.before.before.wide.ensures).1
+shared_slice_read-to : tie.Need-bounds-offsets-s-2
+shared_slice_read-to c = (part_asks _ _ _ _ c.ask_cell-r.ensures c.if-r-ne0.false _ c.wide-s.ensures).1
 
-sub-t11 : tie.Need-overflow-sub-t11
-sub-t11 c = in_order _ _ _ _ c.before.before.before.before.ask-cell.ensures c.before.before.before.if1.false _ c.before.before.wide.ensures
+sub-t11 : tie.Need-overflow_sub-result
+sub-t11 c = in_order _ _ _ _ c.ask_cell-r.ensures c.if-r-ne0.false _ c.wide-s.ensures
 
-returns-2 : tie.Need-returns-2
-returns-2 c = place_given _ _ _ _ c.before.before.before.before.ask-cell.ensures c.before.before.before.if1.false _ c.before.before.wide.ensures
+returns-2 : tie.Need-returns
+returns-2 c = place_given _ _ _ _ c.ask_cell-r.ensures c.if-r-ne0.false _ c.wide-s.ensures
 
-pub place-spec : {M : Type 1} → statement M
-place-spec =
+pub place_spec : {M : Type 1} → statement M
+place_spec =
     tie.close
-    (tie.spec (λ c κs. search rules) returns (λ c κs. search rules) (λ c. search rules) shared-slice-read-from
-    (λ c. search rules) (λ c. search rules) shared-slice-read-to sub-t11 returns-2)
+    (tie.spec (λ c κs. search rules) returns (λ c κs. search rules) (λ c. search rules) shared_slice_read-from
+    (λ c. search rules) (λ c. search rules) shared_slice_read-to sub-t11 returns-2)

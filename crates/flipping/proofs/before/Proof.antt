@@ -7,11 +7,11 @@ use Rattle.mesh.specs.laws.Next.{next_sum}
 use Rattle.flipping.proofs.before.Statement.{statement}
 use Rattle.flipping.proofs.before.Tie as tie
 
-next-halfedge-requires-2 : tie.Need-next-halfedge-requires-2
-next-halfedge-requires-2 c κs = omega (arith, c.next-halfedge.ensures, next_sum c.before.args.e)
+next_halfedge-requires-2 : tie.Need-next_halfedge-requires
+next_halfedge-requires-2 c κs = omega (arith, c.next_halfedge-o.ensures, next_sum c.args.e)
 
 returns : tie.Need-returns
-returns c = c.next-halfedge2.ensures ∙ ap next_of c.before.next-halfedge.ensures
+returns c = c.next_halfedge.ensures ∙ ap next_of c.next_halfedge-o.ensures
 
-pub before-spec : {M : Type 1} → statement M
-before-spec = tie.close (tie.spec (λ c κs. search rules) next-halfedge-requires-2 returns)
+pub before_spec : {M : Type 1} → statement M
+before_spec = tie.close (tie.spec (λ c κs. search rules) next_halfedge-requires-2 returns)

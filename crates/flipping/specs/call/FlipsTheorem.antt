@@ -2,7 +2,7 @@
 -- triangles, their outer pairs or their four sites is unchanged; a mesh that was accepted with its sites is accepted with them again. A flip at the pair
 -- is the same flip.
 use Rattle.std.specs.Prelude.{◌≡◌, refl, List, ◌++◌, ◌≢◌, ℕ, length, drop}
-use Rattle.std.proofs.Common.{sym, ap, ◌∙◌, rules, ne_eqb}
+use Rattle.std.proofs.Common.{sym, ap, ◌∙◌, rules as by_rules, ne_eqb}
 use Rattle.base.specs.common.Refusals.{Keep}
 use Rattle.base.specs.common.laws.Refusals.{finds_keep, finds_none}
 use Rattle.base.specs.numbers.Numbers.{EMPTY}
@@ -39,7 +39,7 @@ mesh_in l m = mesh m.sites l.triangles l.halfedges m.hull
 
 module _ (sites : ℕ) (hull : List ℕ) (a : ℕ) (old new : FlipLists) (x : Flips sites hull a old new 0) where
   rules : Keep (flip_rules sites hull a old)
-  rules = finds_keep (λ r. r ≡ 0) (search rules) refl x.number
+  rules = finds_keep (λ r. r ≡ 0) (search by_rules) refl x.number
 
   pub was_accepted : Topology old.triangles old.halfedges hull sites
   was_accepted =

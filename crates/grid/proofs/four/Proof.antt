@@ -5,15 +5,15 @@ use Rattle.grid.specs.laws.Bounds.{tall}
 use Rattle.grid.proofs.four.Statement.{statement}
 use Rattle.grid.proofs.four.Tie as tie
 
-mul-result : tie.Need-overflow-mul-result
+mul-result : tie.Need-overflow_mul-result
 mul-result c =
     omega (arith, tall c.args.a c.args.b c.requires.0 c.requires.1)
 
-mul-result-2 : tie.Need-overflow-mul-result-2
+mul-result-2 : tie.Need-overflow_mul-result-2
 mul-result-2 c =
     omega (arith, tall c.args.c c.args.d c.requires.2 c.requires.3)
 
-add-result : tie.Need-overflow-add-result
+add-result : tie.Need-overflow_add-result
 add-result c =
     omega (
       arith,
@@ -21,11 +21,11 @@ add-result c =
       tall c.args.c c.args.d c.requires.2 c.requires.3,
     )
 
-mul-result-3 : tie.Need-overflow-mul-result-3
+mul-result-3 : tie.Need-overflow_mul-result-3
 mul-result-3 c =
     omega (arith, tall c.args.e c.args.f c.requires.4 c.requires.5)
 
-add-result-2 : tie.Need-overflow-add-result-2
+add-result-2 : tie.Need-overflow_add-result-2
 add-result-2 c =
     omega (
       arith,
@@ -34,11 +34,11 @@ add-result-2 c =
       tall c.args.e c.args.f c.requires.4 c.requires.5,
     )
 
-mul-result-4 : tie.Need-overflow-mul-result-4
+mul-result-4 : tie.Need-overflow_mul-result-4
 mul-result-4 c =
     omega (arith, tall c.args.g c.args.h c.requires.6 c.requires.7)
 
-add-result-3 : tie.Need-overflow-add-result-3
+add-result-3 : tie.Need-overflow_add-result-3
 add-result-3 c =
     omega (
       arith,
@@ -51,5 +51,5 @@ add-result-3 c =
 returns : tie.Need-returns
 returns c = refl
 
-pub four-spec : {M : Type 1} → statement M
-four-spec = tie.close (tie.spec mul-result mul-result-2 add-result mul-result-3 add-result-2 mul-result-4 add-result-3 returns)
+pub four_spec : {M : Type 1} → statement M
+four_spec = tie.close (tie.spec mul-result mul-result-2 add-result mul-result-3 add-result-2 mul-result-4 add-result-3 returns)

@@ -6,11 +6,11 @@ use Rattle.grid.proofs.goes_up.Tie as tie
 
 returns : tie.Need-returns
 returns c =
-    let at_a = c.before.before.before in
-    let h = at_a.before.requires in
-    rw (c.level2.ensures, c.before.raise-site2.ensures.0, c.before.before.level.ensures, at_a.raise-site.ensures.0)
+    let at_a = c in
+    let h = at_a.requires in
+    rw (c.level-2.ensures, c.raise_site-2.ensures.0, c.level.ensures, at_a.raise_site.ensures.0)
     (up_is_up _ _ (record { x = h.0.within.0; y = h.0.within.1 }) (record { x = h.1.within.0; y = h.1.within.1 }))
 
-pub goes-up-spec : {M : Type 1} → statement M
-goes-up-spec =
+pub goes_up_spec : {M : Type 1} → statement M
+goes_up_spec =
     tie.close (tie.spec (λ c κs. search rules) (λ c κs. search rules) (λ c κs. search rules) (λ c κs. search rules) returns)

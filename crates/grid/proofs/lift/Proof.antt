@@ -5,17 +5,17 @@ use Rattle.grid.proofs.lift.Tie as tie
 
 returns : tie.Need-returns
 returns c =
-    let at-area3 = c.before.before.before in
+    let at-area3 = c in
     rw (
-      c.before.four.ensures,
-      c.four2.ensures,
-      c.before.before.area4.ensures.0,
-      at-area3.area3.ensures.0,
-      at-area3.before.area2.ensures.0,
-      at-area3.before.before.area.ensures.0,
+      c.four-plus.ensures,
+      c.four-minus.ensures,
+      c.area-t.ensures.0,
+      at-area3.area-s.ensures.0,
+      at-area3.area-q.ensures.0,
+      at-area3.area-p.ensures.0,
     )
 
-pub lift-spec : {M : Type 1} → statement M
-lift-spec =
+pub lift_spec : {M : Type 1} → statement M
+lift_spec =
     tie.close
     (tie.spec (λ c κs. search rules) (λ c κs. search rules) (λ c κs. search rules) (λ c κs. search rules) (λ c κs. search rules) (λ c κs. search rules) returns)

@@ -11,14 +11,14 @@ use Rattle.grid.proofs.site_within.Tie as tie
 
 returns : tie.Need-returns
 returns c =
-    let x = c.before.before.before.coordinate in
-    let y = c.before.coordinate2 in
-    both c.before.before.within.result c.within2.result _ _
-    (subst (λ z. Says c.before.before.within.result (Within z)) (to_z-of_z w32 x.result (sfits_of x.type-inv) ∙ x.ensures) c.before.before.within.ensures)
-    (subst (λ z. Says c.within2.result (Within z)) (to_z-of_z w32 y.result (sfits_of y.type-inv) ∙ y.ensures) c.within2.ensures)
+    let x = c.coordinate in
+    let y = c.coordinate-2 in
+    both c.within.result c.within-2.result _ _
+    (subst (λ z. Says c.within.result (Within z)) (to_z-of_z w32 x.result (sfits_of x.type_inv) ∙ x.ensures) c.within.ensures)
+    (subst (λ z. Says c.within-2.result (Within z)) (to_z-of_z w32 y.result (sfits_of y.type_inv) ∙ y.ensures) c.within-2.ensures)
 
-pub site-within-spec : {M : Type 1} → statement M
-site-within-spec =
+pub site_within_spec : {M : Type 1} → statement M
+site_within_spec =
     tie.close
     (tie.spec (λ c. search rules) (λ c κs. search rules) (λ c κs. search rules) (λ c. search rules) (λ c. search rules) (λ c κs. search rules)
     (λ c κs. search rules) returns)

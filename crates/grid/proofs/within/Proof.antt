@@ -3,14 +3,14 @@ use Rattle.grid.specs.laws.Machine.{too_low, too_high, between}
 use Rattle.grid.proofs.within.Statement.{statement}
 use Rattle.grid.proofs.within.Tie as tie
 
-returns : tie.Need-returns
-returns c = too_low c.before.args.v c.before.ranges.v c.if1.true
+returns : tie.Need-returns-then-v-ltminus8192
+returns c = too_low c.args.v c.ranges.v c.if-v-ltminus8192.true
 
-returns-2 : tie.Need-returns-2
-returns-2 c = too_high c.before.before.args.v c.before.before.ranges.v c.if2.true
+returns-2 : tie.Need-returns-then-v-gt8192
+returns-2 c = too_high c.args.v c.ranges.v c.if-v-gt8192.true
 
-returns-3 : tie.Need-returns-3
-returns-3 c = between c.before.before.args.v c.before.before.ranges.v c.before.if1.false c.if2.false
+returns-3 : tie.Need-returns
+returns-3 c = between c.args.v c.ranges.v c.if-v-ltminus8192.false c.if-v-gt8192.false
 
-pub within-spec : {M : Type 1} → statement M
-within-spec = tie.close (tie.spec returns returns-2 returns-3)
+pub within_spec : {M : Type 1} → statement M
+within_spec = tie.close (tie.spec returns returns-2 returns-3)

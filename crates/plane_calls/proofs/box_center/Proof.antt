@@ -5,10 +5,10 @@ use Rattle.plane_calls.proofs.box_center.Tie as tie
 
 returns : tie.Need-returns
 returns c =
-    let d = c.before.before.before.before.before in
-    centered _ d.before.value-if.ensures d.value-if2.ensures
-    c.before.before.before.before.width.ensures c.before.before.before.value-if3.ensures
-    c.before.before.height.ensures c.before.value-if4.ensures c.number.ensures
+    let d = c in
+    centered _ d.value_if-x.ensures d.value_if-y.ensures
+    c.width.ensures c.value_if-across.ensures
+    c.height.ensures c.value_if-down.ensures c.number.ensures
 
-pub box-center-spec : {M : Type 1} → statement M
-box-center-spec = tie.close (tie.spec (λ c κs. tt) (λ c κs. tt) (λ c κs. tt) (λ c κs. tt) (λ c κs. tt) (λ c κs. tt) (λ c κs. tt) returns)
+pub box_center_spec : {M : Type 1} → statement M
+box_center_spec = tie.close (tie.spec (λ c κs. tt) (λ c κs. tt) (λ c κs. tt) (λ c κs. tt) (λ c κs. tt) (λ c κs. tt) (λ c κs. tt) returns)

@@ -5,8 +5,8 @@ use Rattle.plane_calls.proofs.dist2.Tie as tie
 
 returns : tie.Need-returns
 returns c =
-    let d = c.before.before in
-    distance _ _ d.before.before.site-ok.ensures d.before.site-ok2.ensures d.dist2.ensures c.before.value-if.ensures c.number.ensures
+    let d = c in
+    distance _ _ d.site_ok.ensures d.site_ok-2.ensures d.dist2.ensures c.value_if-value.ensures c.number.ensures
 
-pub dist2-spec : {M : Type 1} → statement M
-dist2-spec = tie.close (tie.spec (λ c κs. tt) (λ c κs. tt) (λ c κs. tt) (λ c κs. tt) (λ c κs. tt) returns)
+pub dist2_spec : {M : Type 1} → statement M
+dist2_spec = tie.close (tie.spec (λ c κs. tt) (λ c κs. tt) (λ c κs. tt) (λ c κs. tt) (λ c κs. tt) returns)

@@ -5,8 +5,8 @@ use Rattle.plane_calls.proofs.intersect_line.Statement.{statement}
 use Rattle.plane_calls.proofs.intersect_line.Tie as tie
 
 returns : tie.Need-returns
-returns c = line_meets _ c.before.before.met-values.ensures c.before.met-count.ensures c.number_of.ensures _ _ _ c.before.before.before.meet-line.ensures
+returns c = line_meets _ c.met_values-w.ensures c.met_count-count.ensures c.number_of.ensures _ _ _ c.meet_line-m.ensures
 
-pub intersect-line-spec : {M : Type 1} → statement M
-intersect-line-spec = tie.close (tie.spec (λ c κs. tt) (λ c κs. tt) (λ c κs. tt) (λ c. search rules) (λ c. search rules)
+pub intersect_line_spec : {M : Type 1} → statement M
+intersect_line_spec = tie.close (tie.spec (λ c κs. tt) (λ c κs. tt) (λ c κs. tt) (λ c. search rules) (λ c. search rules)
     (λ c. search rules) (λ c. search rules) (λ c κs. tt) returns)

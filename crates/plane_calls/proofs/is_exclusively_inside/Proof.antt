@@ -5,8 +5,8 @@ use Rattle.plane_calls.proofs.is_exclusively_inside.Tie as tie
 
 returns : tie.Need-returns
 returns c =
-    let b = c.before.before in
-    exclusively _ _ b.before.before.site-ok.ensures c.number.ensures b.is-exclusively-inside.ensures c.before.yes.ensures
+    let b = c in
+    exclusively _ _ b.site_ok-point.ensures c.number.ensures b.is_exclusively_inside.ensures c.yes-inside.ensures
 
-pub is-exclusively-inside-spec : {M : Type 1} → statement M
-is-exclusively-inside-spec = tie.close (tie.spec (λ c κs. tt) (λ c κs. tt) (λ c κs. tt) (λ c κs. tt) returns)
+pub is_exclusively_inside_spec : {M : Type 1} → statement M
+is_exclusively_inside_spec = tie.close (tie.spec (λ c κs. tt) (λ c κs. tt) (λ c κs. tt) (λ c κs. tt) returns)

@@ -5,8 +5,8 @@ use Rattle.plane_calls.proofs.is_inside.Tie as tie
 
 returns : tie.Need-returns
 returns c =
-    let b = c.before.before in
-    inside _ _ b.before.before.site-ok.ensures c.number.ensures b.is-inside.ensures c.before.yes.ensures
+    let b = c in
+    inside _ _ b.site_ok-point.ensures c.number.ensures b.is_inside.ensures c.yes-inside.ensures
 
-pub is-inside-spec : {M : Type 1} → statement M
-is-inside-spec = tie.close (tie.spec (λ c κs. tt) (λ c κs. tt) (λ c κs. tt) (λ c κs. tt) returns)
+pub is_inside_spec : {M : Type 1} → statement M
+is_inside_spec = tie.close (tie.spec (λ c κs. tt) (λ c κs. tt) (λ c κs. tt) (λ c κs. tt) returns)

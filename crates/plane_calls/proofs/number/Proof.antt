@@ -3,6 +3,6 @@ use Rattle.plane_calls.specs.Tested.{number_by}
 use Rattle.plane_calls.proofs.number.Statement.{statement}
 use Rattle.plane_calls.proofs.number.Tie as tie
 
-pub number-spec : {M : Type 1} → statement M
+pub number_spec : {M : Type 1} → statement M
 unfolding number_by
-number-spec = tie.close (tie.spec (λ c. cc) (λ c. cc) (λ c. cc))
+number_spec = tie.close (tie.spec (λ c. cc) (λ c. cc) (λ c. cc))

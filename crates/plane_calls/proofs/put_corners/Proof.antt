@@ -12,7 +12,7 @@ returns : tie.Need-returns
 unfolding pour flat corners_of
 returns c = eight c.args.out.now _ _ _ _ _ _ _ _ c.requires
 
-pub put-corners-spec : {M : Type 1} → statement M
-put-corners-spec = tie.close (tie.spec (λ c. search rules) (λ c. simp length-set (omega arith)) (λ c. simp length-set (omega arith))
+pub put_corners_spec : {M : Type 1} → statement M
+put_corners_spec = tie.close (tie.spec (λ c. search rules) (λ c. simp length-set (omega arith)) (λ c. simp length-set (omega arith))
     (λ c. simp length-set (omega arith)) (λ c. simp length-set (omega arith)) (λ c. simp length-set (omega arith))
     (λ c. simp length-set (omega arith)) (λ c. simp length-set (omega arith)) (λ c. simp length-set) returns)

@@ -3,6 +3,6 @@ use Rattle.plane_calls.specs.Tested.{value_if}
 use Rattle.plane_calls.proofs.value_if.Statement.{statement}
 use Rattle.plane_calls.proofs.value_if.Tie as tie
 
-pub value-if-spec : {M : Type 1} → statement M
+pub value_if_spec : {M : Type 1} → statement M
 unfolding value_if
-value-if-spec = tie.close (tie.spec (λ c. cc) (λ c. cc))
+value_if_spec = tie.close (tie.spec (λ c. cc) (λ c. cc))

@@ -5,8 +5,8 @@ use Rattle.plane_calls.proofs.which_edge.Tie as tie
 
 returns : tie.Need-returns
 returns c =
-    let b = c.before.before in
-    side _ _ b.before.before.site-ok.ensures c.number.ensures b.which-edge.ensures c.before.side-if.ensures
+    let b = c in
+    side _ _ b.site_ok-point.ensures c.number.ensures b.which_edge.ensures c.side_if-side.ensures
 
-pub which-edge-spec : {M : Type 1} → statement M
-which-edge-spec = tie.close (tie.spec (λ c κs. tt) (λ c κs. tt) (λ c κs. tt) (λ c κs. tt) returns)
+pub which_edge_spec : {M : Type 1} → statement M
+which_edge_spec = tie.close (tie.spec (λ c κs. tt) (λ c κs. tt) (λ c κs. tt) (λ c κs. tt) returns)

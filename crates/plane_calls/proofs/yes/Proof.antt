@@ -3,6 +3,6 @@ use Rattle.plane_calls.specs.Plane.{bit}
 use Rattle.plane_calls.proofs.yes.Statement.{statement}
 use Rattle.plane_calls.proofs.yes.Tie as tie
 
-pub yes-spec : {M : Type 1} → statement M
+pub yes_spec : {M : Type 1} → statement M
 unfolding bit
-yes-spec = tie.close (tie.spec (λ c. cc) (λ c. cc))
+yes_spec = tie.close (tie.spec (λ c. cc) (λ c. cc))

@@ -4,17 +4,17 @@ use borrow.Author.Rules.{rules}
 use Rattle.queries.proofs.shared_edge.Statement.{statement}
 use Rattle.queries.proofs.shared_edge.Tie as tie
 
-returns : tie.Need-returns
-returns c = edge_refused c.before.before.before.before.admit.ensures _ _ _ c.before.if1.true c.no_edge.ensures
+returns : tie.Need-returns-then-r-ne0
+returns c = edge_refused c.admit-r.ensures _ _ _ c.if-r-ne0.true c.no_edge.ensures
 
-shared-edge-requires : tie.Need-shared-edge-requires
-shared-edge-requires c κs = edge_asks c.before.before.before.admit.ensures c.if1.false
+shared_edge-requires : tie.Need-shared_edge-requires
+shared_edge-requires c κs = edge_asks c.admit-r.ensures c.if-r-ne0.false
 
-returns-2 : tie.Need-returns-2
-returns-2 c = edge_found c.before.before.before.before.admit.ensures _ _ _ c.before.if1.false c.shared-edge.ensures
+returns-2 : tie.Need-returns
+returns-2 c = edge_found c.admit-r.ensures _ _ _ c.if-r-ne0.false c.shared_edge.ensures
 
-pub shared-edge-spec : {M : Type 1} → statement M
-shared-edge-spec =
+pub shared_edge_spec : {M : Type 1} → statement M
+shared_edge_spec =
     tie.close
-    (tie.spec (λ c κs. search rules) (λ c κs. search rules) (λ c. search rules) returns shared-edge-requires
+    (tie.spec (λ c κs. search rules) (λ c κs. search rules) (λ c. search rules) returns shared_edge-requires
     (λ c. search rules) returns-2)

@@ -10,19 +10,19 @@ use borrow.Author.Rules.{rules}
 use Rattle.reader.proofs.clear.Statement.{statement}
 use Rattle.reader.proofs.clear.Tie as tie
 
-abbrev invariant-loop : tie.invariant-loop
+abbrev invariant-loop : tie.invariant-loop-i
 invariant-loop state₀ i₀ state i = (state ≡ replicate i 0 ++ drop i state₀) × (i ≤ length state₀) × (length state ≡ length state₀)
 
-abbrev decreases-loop : tie.decreases-loop
+abbrev decreases-loop : tie.decreases-loop-i
 decreases-loop state₀ i₀ state i = length state₀ - i
 
-loop-again : tie.Need-loop-preserved invariant-loop decreases-loop
-loop-again c = (cc (fill_more c.before.loop.i 0 c.before.before.args.state.now (omega arith)), omega arith, simp length-set c.before.loop.invariant.2)
+loop-again : tie.Need-loop-i-preserved invariant-loop decreases-loop
+loop-again c = (cc (fill_more c.loop-i.i 0 c.args.state.now (omega arith)), omega arith, simp length-set c.loop-i.invariant.2)
 
 returns : tie.Need-returns invariant-loop decreases-loop
 returns c =
-    let h : c.before.loop.i ≡ length c.before.before.args.state.now = omega arith in
-    c.before.loop.invariant.0 ∙ rw (h, drop-length, append-nil)
+    let h : c.loop-i.i ≡ length c.args.state.now = omega arith in
+    c.loop-i.invariant.0 ∙ rw (h, drop-length, append-nil)
 
 pub clear_spec : {M : Type 1} → statement M
 clear_spec =

@@ -9,48 +9,48 @@ use borrow.Author.Rules.{rules}
 use Rattle.reader.proofs.try_feed.Statement.{statement}
 use Rattle.reader.proofs.try_feed.Tie as tie
 
-abbrev Wide : tie.After-roomy → tie.Else1
-Wide c = c.before.before.before.before.before.before
+abbrev Wide : tie.After-roomy → tie.Else-state-lt-STATE_WORDS
+Wide c = c.before
 
-abbrev Start : tie.Else1 → tie.Start
+abbrev Start : tie.Else-state-lt-STATE_WORDS → tie.Start
 Start c = c.before.before.before.before.before.before.before.before
 
-abbrev FedAll : tie.After-slice-known12 → tie.After-feed-all
+abbrev FedAll : tie.After-slice_known-then-roomy-6-1 → tie.After-feed_all
 FedAll c = c.before.before.before.before.before.before.before.before.before.before.before.before
 
-returns : tie.Need-returns
+returns : tie.Need-returns-then-state-lt-STATE_WORDS
 unfolding feed_call
-returns c = rw (lt-ltb _ _ c.before.if1.true, c.no_room.ensures)
+returns c = rw (lt-ltb _ _ c.if-state-lt-STATE_WORDS.true, c.no_room.ensures)
 
-feed-all-requires : tie.Need-feed-all-requires
-feed-all-requires c κs =
-    let r = c.before.before.before.before.before.before.before in
-    let a = (Start (Wide r)).args in (
-      (Wide r).if1.false,
+feed_all-requires : tie.Need-feed_all-requires
+feed_all-requires c κs =
+    let r = c in
+    let a = (Start (Wide r.before.before.before.before.before.before.before)).args in (
+      (Wide r.before.before.before.before.before.before.before).if-state-lt-STATE_WORDS.false,
       roomy_told (form_lists a.bounds.now a.sites.now a.triangles.now a.halfedges.now a.hull.now)
-          (sym r.roomy.ensures ∙ c.before.before.before.before.before.before.if2.true),
+          (sym r.roomy.ensures ∙ c.if-roomy.true),
     )
 
-returns-2 : tie.Need-returns-2
+returns-2 : tie.Need-returns-then-roomy
 returns-2 c =
-    let t = (FedAll c).before.before.before.before.before.before.before in
-    let r = t.before in
-    let a = (Start (Wide r)).args in
-    (FedAll c).feed-all.ensures
+    let t = FedAll c in
+    let r = t in
+    let a = (Start (Wide r.before.before.before.before.before.before.before.before)).args in
+    (FedAll c).feed_all.ensures
     ∙ sym (feed_wide a.state.now (form_lists a.bounds.now a.sites.now a.triangles.now a.halfedges.now a.hull.now) a.block.now
-    (le-ltb _ _ (Wide r).if1.left) (sym r.roomy.ensures ∙ t.if2.taken))
+    (le-ltb _ _ (Wide r.before.before.before.before.before.before.before.before).if-state-lt-STATE_WORDS.false) (sym r.roomy.ensures ∙ t.if-roomy.true))
 
-returns-3 : tie.Need-returns-3
+returns-3 : tie.Need-returns
 returns-3 c =
-    let r = c.before.before in
-    let a = (Start (Wide r)).args in
-    ap (λ (x : Answer). fed x a.state.now (form_lists a.bounds.now a.sites.now a.triangles.now a.halfedges.now a.hull.now)) c.no-room2.ensures
+    let r = c in
+    let a = (Start (Wide r.before.before)).args in
+    ap (λ (x : Answer). fed x a.state.now (form_lists a.bounds.now a.sites.now a.triangles.now a.halfedges.now a.hull.now)) c.no_room-2.ensures
     ∙ sym (feed_close a.state.now (form_lists a.bounds.now a.sites.now a.triangles.now a.halfedges.now a.hull.now) a.block.now
-    (le-ltb _ _ (Wide r).if1.false) (sym r.roomy.ensures ∙ c.before.if2.false))
+    (le-ltb _ _ (Wide r.before.before).if-state-lt-STATE_WORDS.false) (sym r.roomy.ensures ∙ c.if-roomy.false))
 
-pub try-feed-spec : {M : Type 1} → statement M
-try-feed-spec =
+pub try_feed_spec : {M : Type 1} → statement M
+try_feed_spec =
     tie.close
-    (tie.spec (λ c κs. search rules) returns (λ c κs. search rules) feed-all-requires (λ c. search rules) (λ c. search rules) (λ c. search rules)
+    (tie.spec (λ c κs. search rules) returns (λ c κs. search rules) feed_all-requires (λ c. search rules) (λ c. search rules) (λ c. search rules)
     (λ c. search rules) (λ c. search rules) (λ c. search rules) returns-2 (λ c κs. search rules) (λ c. search rules) (λ c. search rules)
     (λ c. search rules) (λ c. search rules) (λ c. search rules) returns-3)

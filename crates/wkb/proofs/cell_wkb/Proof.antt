@@ -5,9 +5,9 @@ use Rattle.wkb.proofs.cell_wkb.Statement.{statement}
 use Rattle.wkb.proofs.cell_wkb.Tie as tie
 
 returns : tie.Need-returns
-returns c = no_bits c.before.before.write_cell.ensures
+returns c = no_bits c.write_cell.ensures
 
-pub cell-wkb-spec : {M : Type 1} → statement M
-cell-wkb-spec =
+pub cell_wkb_spec : {M : Type 1} → statement M
+cell_wkb_spec =
     tie.close
     (tie.spec (λ c. search rules) (λ c. search rules) (λ c κs. search rules) (λ c. search rules) returns)

@@ -8,10 +8,10 @@ use Rattle.wkb.proofs.put_head.Tie as tie
 returns : tie.Need-returns
 unfolding head_bytes
 returns c =
-    let at-put-le2 = c.before.before.before.before.before.before in
-    wrote_then (wrote_then at-put-le2.before.before.before.before.put-le.ensures at-put-le2.put-le2.ensures) c.before.before.put-le3.ensures
+    let at-put-le2 = c in
+    wrote_then (wrote_then at-put-le2.put_le-kind.ensures at-put-le2.put_le-count.ensures) c.put_le.ensures
 
-pub put-head-spec : {M : Type 1} → statement M
-put-head-spec =
+pub put_head_spec : {M : Type 1} → statement M
+put_head_spec =
     tie.close
     (tie.spec (λ c κs. search rules) (λ c κs. search rules) (λ c κs. search rules) (λ c. search rules) returns)

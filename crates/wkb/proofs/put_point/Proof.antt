@@ -10,14 +10,14 @@ use Rattle.wkb.proofs.put_point.Tie as tie
 
 returns : tie.Need-returns
 returns c =
-    let at-put-le = c.before.before.before.before.before.before in
-    let at-coordinate = at-put-le.before.before.before in
-    let a = at-coordinate.before.before.before.before.before.args in
-    point_wrote (patterns a.floats.now ++ a.bits.now) a.entry _ (ap (λ (n : ℕ). 2 * n) at-coordinate.before.wide.ensures)
-    at-coordinate.coordinate.ensures at-put-le.before.before.coordinate2.ensures at-put-le.put-le.ensures c.before.before.put-le2.ensures
+    let at-put-le = c in
+    let at-coordinate = at-put-le in
+    let a = at-coordinate.args in
+    point_wrote (patterns a.floats.now ++ a.bits.now) a.entry _ (ap (λ (n : ℕ). 2 * n) at-coordinate.wide-k.ensures)
+    at-coordinate.coordinate-x.ensures at-put-le.coordinate-y.ensures at-put-le.put_le-middle.ensures c.put_le.ensures
 
-pub put-point-spec : {M : Type 1} → statement M
-put-point-spec =
+pub put_point_spec : {M : Type 1} → statement M
+put_point_spec =
     tie.close
     (tie.spec (λ c κs. search rules) (λ c. search rules) (λ c κs. search rules) (λ c. search rules)
     (λ c κs. search rules) (λ c κs. search rules) (λ c κs. search rules) (λ c. search rules) returns)

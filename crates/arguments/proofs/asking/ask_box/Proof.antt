@@ -6,11 +6,11 @@ use Rattle.base.specs.common.laws.Refusals.{breaks, keeps, nothing}
 use Rattle.arguments.proofs.asking.ask_box.Statement.{statement}
 use Rattle.arguments.proofs.asking.ask_box.Tie as tie
 
-returns : tie.Need-returns
-returns c = record { found = keeps c.if1.true nothing; small = omega arith }
+returns : tie.Need-returns-then-sound
+returns c = record { found = keeps c.if-sound.true nothing; small = omega arith }
 
-returns-2 : tie.Need-returns-2
-returns-2 c = record { found = breaks (λ e. false≢true (sym c.if1.false ∙ e)); small = omega arith }
+returns-2 : tie.Need-returns
+returns-2 c = record { found = breaks (λ e. false≢true (sym c.if-sound.false ∙ e)); small = omega arith }
 
-pub ask-box-spec : {M : Type 1} → statement M
-ask-box-spec = tie.close (tie.spec returns returns-2)
+pub ask_box_spec : {M : Type 1} → statement M
+ask_box_spec = tie.close (tie.spec returns returns-2)

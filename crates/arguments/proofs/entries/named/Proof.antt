@@ -7,30 +7,30 @@ use Rattle.arguments.specs.entries.laws.Passed.{EntriesPassed, passed_start, pas
 use Rattle.arguments.proofs.entries.named.Statement.{statement}
 use Rattle.arguments.proofs.entries.named.Tie as tie
 
-abbrev invariant-loop : tie.invariant-loop
+abbrev invariant-loop : tie.invariant-loop-i
 invariant-loop entries count i₀ i = EntriesPassed (λ (e : ℕ). e < count) entries i
 
-abbrev decreases-loop : tie.decreases-loop
+abbrev decreases-loop : tie.decreases-loop-i
 decreases-loop entries count i₀ i = length entries - i
 
-loop-holds : tie.Need-loop-init invariant-loop decreases-loop
+loop-holds : tie.Need-loop-i-init invariant-loop decreases-loop
 loop-holds c = passed_start _ _
 
-returns : tie.Need-returns invariant-loop decreases-loop
+returns : tie.Need-returns-then-wide-count invariant-loop decreases-loop
 returns c =
-    let test = c.before.before.before in
-    λ n. omega (arith, n.each test.before.loop.i test.loop-test.true, c.before.wide.ensures, c.if1.true)
+    let test = c in
+    λ n. omega (arith, n.each test.loop-i.i test.loop-i-test.true, c.wide.ensures, c.if-wide-count.true)
 
-loop-again : tie.Need-loop-preserved invariant-loop decreases-loop
+loop-again : tie.Need-loop-i-preserved invariant-loop decreases-loop
 loop-again c =
-    let test = c.before.before.before in
-    passed_step test.before.loop.invariant test.loop-test.true (omega (arith, c.before.wide.ensures, c.if1.false))
+    let test = c in
+    passed_step test.loop-i.invariant test.loop-i-test.true (omega (arith, c.wide.ensures, c.if-wide-count.false))
 
-returns-2 : tie.Need-returns-2 invariant-loop decreases-loop
-returns-2 c = record { each = passed_all c.before.loop.invariant c.loop-test.false }
+returns-2 : tie.Need-returns invariant-loop decreases-loop
+returns-2 c = record { each = passed_all c.loop-i.invariant c.loop-i-test.false }
 
-pub named-spec : {M : Type 1} → statement M
-named-spec =
+pub named_spec : {M : Type 1} → statement M
+named_spec =
     tie.close
     (tie.spec invariant-loop decreases-loop loop-holds (λ c. search rules) (λ c. search rules) (λ c κs. search rules) returns (λ c. search rules)
     (λ c. search rules) loop-again returns-2)

@@ -6,11 +6,11 @@ use Rattle.cell_memory.proofs.outputs.lay_out.Tie as tie
 
 returns : tie.Need-returns
 returns c =
-    let f = c.before.before.before.before.before.before in
-    let i = f.before.before.before.before.before.before in
-    laid_out _ _ _ _ i.args.indexes.now _ _ _ i.requires.0 i.requires.1 f.fill-from.ensures c.before.offsets.given c.before.before.region-starts.ensures
+    let f = c in
+    let i = f in
+    laid_out _ _ _ _ i.args.indexes.now _ _ _ i.requires.0 i.requires.1 f.fill_from.ensures c.offsets-1.given c.region_starts.ensures
 
-pub lay-out-spec : {M : Type 1} → statement M
-lay-out-spec =
+pub lay_out_spec : {M : Type 1} → statement M
+lay_out_spec =
     tie.close
     (tie.spec (λ c κs. search rules) (λ c κs. search rules) (λ c. search rules) (λ c. search rules) returns)

@@ -5,15 +5,15 @@ use Rattle.clipping.specs.corners.laws.CornerWrap.{goes_stop, goes_on}
 use Rattle.clipping.proofs.corners.goes.Statement.{statement}
 use Rattle.clipping.proofs.corners.goes.Tie as tie
 
-returns : tie.Need-returns
+returns : tie.Need-returns-then-c-stop
 returns c =
-    let a = c.before.args in
-    sym (goes_stop a.site a.stop a.c a.t1 c.if1.true)
+    let a = c.args in
+    sym (goes_stop a.site a.stop a.c a.t1 c.if-c-stop.true)
 
-returns-2 : tie.Need-returns-2
+returns-2 : tie.Need-returns
 returns-2 c =
-    let a = c.before.args in
-    sym (goes_on a.site a.stop a.c a.t1 c.if1.false)
+    let a = c.args in
+    sym (goes_on a.site a.stop a.c a.t1 c.if-c-stop.false)
 
-pub goes-spec : {M : Type 1} → statement M
-goes-spec = tie.close (tie.spec returns (λ c. search rules) (λ c. search rules) returns-2)
+pub goes_spec : {M : Type 1} → statement M
+goes_spec = tie.close (tie.spec returns (λ c. search rules) (λ c. search rules) returns-2)

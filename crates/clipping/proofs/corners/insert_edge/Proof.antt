@@ -6,22 +6,22 @@ use borrow.Author.Rules.{rules}
 use Rattle.clipping.proofs.corners.insert_edge.Statement.{statement}
 use Rattle.clipping.proofs.corners.insert_edge.Tie as tie
 
-insert-sides-requires : tie.Need-insert-sides-requires
-insert-sides-requires c κs =
-    let two = c.before in
-    let s = two.before.before.before.before in
-    (s.requires.0, (omega (arith, two.before.side-of.ensures, s.requires.1.1.0), omega (arith, two.side-of2.ensures, s.requires.1.1.1), omega arith))
+insert_sides-requires : tie.Need-insert_sides-requires
+insert_sides-requires c κs =
+    let two = c in
+    let s = two in
+    (s.requires.0, (omega (arith, two.side_of-f.ensures, s.requires.1.1.0), omega (arith, two.side_of-s.ensures, s.requires.1.1.1), omega arith))
 
 returns : tie.Need-returns
 returns c =
-    let two = c.before.before.before.before in
-    let s = two.before.before.before.before in
+    let two = c in
+    let s = two in
     let a = s.args in
-    let w = c.before.before.insert-sides.ensures in
+    let w = c.insert_sides.ensures in
     let vs = points a.count a.vertices.now in (
-      rw (insert_on a.bounds a.centers a.site vs a.cell.owners a.cell.last a.first a.second _ _ two.before.side-of.ensures two.side-of2.ensures) w.0,
+      rw (insert_on a.bounds a.centers a.site vs a.cell.owners a.cell.last a.first a.second _ _ two.side_of-f.ensures two.side_of-s.ensures) w.0,
       w.1 a.count (omega arith) (omega arith),
     )
 
-pub insert-edge-spec : {M : Type 1} → statement M
-insert-edge-spec = tie.close (tie.spec (λ c κs. search rules) (λ c κs. search rules) insert-sides-requires (λ c. search rules) returns)
+pub insert_edge_spec : {M : Type 1} → statement M
+insert_edge_spec = tie.close (tie.spec (λ c κs. search rules) (λ c κs. search rules) insert_sides-requires (λ c. search rules) returns)

@@ -13,5 +13,5 @@ returns c =
     let a = c.args in
     ap (λ o. eqb o a.site) (owner_same a.t1 a.c 0 EMPTY (omega arith))
 
-pub owns-spec : {M : Type 1} → statement M
-owns-spec = tie.close (tie.spec (λ c. search rules) (λ c. search rules) returns)
+pub owns_spec : {M : Type 1} → statement M
+owns_spec = tie.close (tie.spec (λ c. search rules) (λ c. search rules) returns)

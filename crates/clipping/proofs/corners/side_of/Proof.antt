@@ -6,7 +6,7 @@ use Rattle.clipping.proofs.corners.side_of.Statement.{statement}
 use Rattle.clipping.proofs.corners.side_of.Tie as tie
 
 returns : tie.Need-returns
-returns c = c.which-edge.ensures ∙ ap (which_of c.before.before.before.args.bounds) c.before.vertex.ensures
+returns c = c.which_edge.ensures ∙ ap (which_of c.args.bounds) c.vertex.ensures
 
-pub side-of-spec : {M : Type 1} → statement M
-side-of-spec = tie.close (tie.spec (λ c κs. search rules) (λ c κs. search rules) (λ c. search rules) returns)
+pub side_of_spec : {M : Type 1} → statement M
+side_of_spec = tie.close (tie.spec (λ c κs. search rules) (λ c κs. search rules) (λ c. search rules) returns)

@@ -6,6 +6,6 @@ use Rattle.clipping.proofs.edges.crossing_between.Tie as tie
 returns : tie.Need-returns
 returns c = cc
 
-pub crossing-between-spec : {M : Type 1} → statement M
-crossing-between-spec =
+pub crossing_between_spec : {M : Type 1} → statement M
+crossing_between_spec =
     tie.close (tie.spec (λ c κs. search rules) (λ c κs. search rules) (λ c κs. search rules) returns)

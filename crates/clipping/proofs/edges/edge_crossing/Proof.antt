@@ -9,5 +9,5 @@ returns : tie.Need-returns
 unfolding edge_crossing ray_of
 returns c = cc
 
-pub edge-crossing-spec : {M : Type 1} → statement M
-edge-crossing-spec = tie.close (tie.spec (λ c κs. search rules) (λ c κs. search rules) (λ c κs. search rules) returns)
+pub edge_crossing_spec : {M : Type 1} → statement M
+edge_crossing_spec = tie.close (tie.spec (λ c κs. search rules) (λ c κs. search rules) (λ c κs. search rules) returns)

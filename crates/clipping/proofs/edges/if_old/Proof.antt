@@ -3,11 +3,11 @@ use mathlib.Core.Path.{refl}
 use Rattle.clipping.proofs.edges.if_old.Statement.{statement}
 use Rattle.clipping.proofs.edges.if_old.Tie as tie
 
-returns : tie.Need-returns
-returns c = rw c.if1.true refl
+returns : tie.Need-returns-then-fresh
+returns c = rw c.if-fresh.true refl
 
-returns-2 : tie.Need-returns-2
-returns-2 c = rw c.if1.false refl
+returns-2 : tie.Need-returns
+returns-2 c = rw c.if-fresh.false refl
 
-pub if-old-spec : {M : Type 1} → statement M
-if-old-spec = tie.close (tie.spec returns returns-2)
+pub if_old_spec : {M : Type 1} → statement M
+if_old_spec = tie.close (tie.spec returns returns-2)

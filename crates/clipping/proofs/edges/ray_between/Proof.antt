@@ -6,6 +6,6 @@ use Rattle.clipping.proofs.edges.ray_between.Tie as tie
 returns : tie.Need-returns
 returns c = cc
 
-pub ray-between-spec : {M : Type 1} → statement M
-ray-between-spec =
+pub ray_between_spec : {M : Type 1} → statement M
+ray_between_spec =
     tie.close (tie.spec (λ c κs. search rules) (λ c κs. search rules) (λ c κs. search rules) returns)

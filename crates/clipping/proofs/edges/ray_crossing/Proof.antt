@@ -8,5 +8,5 @@ returns : tie.Need-returns
 unfolding edge_crossing
 returns c = cc
 
-pub ray-crossing-spec : {M : Type 1} → statement M
-ray-crossing-spec = tie.close (tie.spec (λ c κs. search rules) (λ c κs. search rules) returns)
+pub ray_crossing_spec : {M : Type 1} → statement M
+ray_crossing_spec = tie.close (tie.spec (λ c κs. search rules) (λ c κs. search rules) returns)

@@ -4,5 +4,5 @@ use mathlib.Core.Path.{refl}
 use Rattle.clipping.proofs.edges.together.Statement.{statement}
 use Rattle.clipping.proofs.edges.together.Tie as tie
 
-pub together-spec : {M : Type 1} → statement M
-together-spec = tie.close (tie.spec (λ c. omega arith) (λ c. omega arith) (λ c. omega arith) (λ c. refl))
+pub together_spec : {M : Type 1} → statement M
+together_spec = tie.close (tie.spec (λ c. omega arith) (λ c. omega arith) (λ c. omega arith) (λ c. refl))

@@ -11,59 +11,59 @@ use Rattle.clipping.specs.laws.RingWalk.{first_hit, first_miss, first_none, leng
 use Rattle.clipping.proofs.ring.first_inside.Statement.{statement}
 use Rattle.clipping.proofs.ring.first_inside.Tie as tie
 
-abbrev invariant-loop : tie.invariant-loop
+abbrev invariant-loop : tie.invariant-loop-k
 invariant-loop v ix env count ring len bounds k₀ k =
     (k ≤ len)
     × (first_inside env.bounds env.centers (points count v) (ring_of ix ring len)
     ≡ k + first_inside env.bounds env.centers (points count v) (drop k (ring_of ix ring len)))
 
-abbrev decreases-loop : tie.decreases-loop
+abbrev decreases-loop : tie.decreases-loop-k
 decreases-loop v ix env count ring len bounds k₀ k = len - k
 
-abbrev Start : tie.In-loop invariant-loop decreases-loop → tie.Start invariant-loop decreases-loop
+abbrev Start : tie.In-loop-k invariant-loop decreases-loop → tie.Start invariant-loop decreases-loop
 Start c = c.before.before.before.before.before
 
-loop-holds : tie.Need-loop-init invariant-loop decreases-loop
+loop-holds : tie.Need-loop-k-init invariant-loop decreases-loop
 loop-holds c = (omega arith, sym (zero-add _))
 
-in-box-requires : tie.Need-in-box-requires invariant-loop decreases-loop
-in-box-requires c κs = ((Start c.before).pre.0, (Start c.before).pre.2 c.before.before.loop.k c.before.loop-test.true)
+in_box-requires : tie.Need-in_box-requires invariant-loop decreases-loop
+in_box-requires c κs = ((Start c.before).requires.0, (Start c.before).requires.2 c.loop-k.k c.loop-k-test.true)
 
-returns : tie.Need-returns invariant-loop decreases-loop
+returns : tie.Need-returns-then-in_box invariant-loop decreases-loop
 returns c =
-    let in-loop = c.before.before.before in
+    let in-loop = c in
     let a = (Start in-loop).args in
-    let l = in-loop.before.loop in
+    let l = in-loop.loop-k in
     let vs = points a.count a.vertices.now in
-    let h = in-loop.loop-test.true in
+    let h = in-loop.loop-k-test.true in
     let n = length_ring a.indexes.now a.ring a.len (Start in-loop).requires.1 in
-    let e = ring_answer a.env.bounds a.env.centers vs a.indexes.now a.ring a.len l.k _ _ h c.before.in-box.ensures c.if1.true in
+    let e = ring_answer a.env.bounds a.env.centers vs a.indexes.now a.ring a.len l.k _ _ h c.in_box.ensures c.if-in_box.true in
     (sym (l.invariant.1 ∙ first_hit a.env.bounds a.env.centers vs (ring_of a.indexes.now a.ring a.len) l.k (rw n h) e), omega arith)
 
-loop-again : tie.Need-loop-preserved invariant-loop decreases-loop
+loop-again : tie.Need-loop-k-preserved invariant-loop decreases-loop
 loop-again c =
-    let in-loop = c.before.before.before in
+    let in-loop = c in
     let a = (Start in-loop).args in
-    let l = in-loop.before.loop in
+    let l = in-loop.loop-k in
     let vs = points a.count a.vertices.now in
-    let h = in-loop.loop-test.true in
+    let h = in-loop.loop-k-test.true in
     let n = length_ring a.indexes.now a.ring a.len (Start in-loop).requires.1 in
-    let e = ring_answer a.env.bounds a.env.centers vs a.indexes.now a.ring a.len l.k _ _ h c.before.in-box.ensures c.if1.false in
+    let e = ring_answer a.env.bounds a.env.centers vs a.indexes.now a.ring a.len l.k _ _ h c.in_box.ensures c.if-in_box.false in
     (omega arith, l.invariant.1 ∙ first_miss a.env.bounds a.env.centers vs (ring_of a.indexes.now a.ring a.len) l.k (rw n h) e)
 
-returns-2 : tie.Need-returns-2 invariant-loop decreases-loop
+returns-2 : tie.Need-returns invariant-loop decreases-loop
 returns-2 c =
-    let s = c.before.before.before.before.before in
+    let s = c in
     let a = s.args in
-    let l = c.before.loop in
+    let l = c.loop-k in
     let n = length_ring a.indexes.now a.ring a.len s.requires.1 in (
       sym (l.invariant.1 ∙ first_none a.env.bounds a.env.centers (points a.count a.vertices.now)
-          (ring_of a.indexes.now a.ring a.len) l.k (rw n c.loop-test.false)),
+          (ring_of a.indexes.now a.ring a.len) l.k (rw n c.loop-k-test.false)),
       l.invariant.0,
     )
 
-pub first-inside-spec : {M : Type 1} → statement M
-first-inside-spec =
+pub first_inside_spec : {M : Type 1} → statement M
+first_inside_spec =
     tie.close
-    (tie.spec invariant-loop decreases-loop loop-holds (λ c. omega arith) (λ c. omega arith) (λ c. omega arith) in-box-requires
+    (tie.spec invariant-loop decreases-loop loop-holds (λ c. omega arith) (λ c. omega arith) (λ c. omega arith) in_box-requires
     returns (λ c. omega arith) (λ c. omega arith) loop-again returns-2)

@@ -7,17 +7,17 @@ use borrow.Author.Rules.{rules}
 use Rattle.clipping.proofs.ring.in_box.Statement.{statement}
 use Rattle.clipping.proofs.ring.in_box.Tie as tie
 
-returns : tie.Need-returns
+returns : tie.Need-returns-then-at-centers
 returns c =
-    let a = c.before.before.before.before.args in
-    c.is-inside.ensures
-    ∙ ap (inside_of a.bounds) c.before.vertex.ensures
-    ∙ sym (in_center a.bounds a.centers (points a.count a.vertices.now) a.i c.before.before.if1.true)
+    let a = c.args in
+    c.is_inside.ensures
+    ∙ ap (inside_of a.bounds) c.vertex.ensures
+    ∙ sym (in_center a.bounds a.centers (points a.count a.vertices.now) a.i c.if-at-centers.true)
 
-returns-2 : tie.Need-returns-2
+returns-2 : tie.Need-returns
 returns-2 c =
-    let a = c.before.before.args in
-    sym (in_none a.bounds a.centers (points a.count a.vertices.now) a.i c.if1.false)
+    let a = c.args in
+    sym (in_none a.bounds a.centers (points a.count a.vertices.now) a.i c.if-at-centers.false)
 
-pub in-box-spec : {M : Type 1} → statement M
-in-box-spec = tie.close (tie.spec (λ c κs. search rules) (λ c κs. search rules) returns returns-2)
+pub in_box_spec : {M : Type 1} → statement M
+in_box_spec = tie.close (tie.spec (λ c κs. search rules) (λ c κs. search rules) returns returns-2)

@@ -4,19 +4,19 @@ use borrow.Author.Rules.{rules}
 use Rattle.clipping.proofs.ring.passes.Statement.{statement}
 use Rattle.clipping.proofs.ring.passes.Tie as tie
 
-returns : tie.Need-returns
+returns : tie.Need-returns-then-p_in
 returns c = λ e. absurd (false≢true e)
 
-returns-2 : tie.Need-returns-2
+returns-2 : tie.Need-returns-then-q_in
 returns-2 c = λ e. absurd (false≢true e)
 
-returns-4 : tie.Need-returns-4
+returns-4 : tie.Need-returns-in-One
 returns-4 c = λ e. absurd (false≢true e)
 
-returns-5 : tie.Need-returns-5
+returns-5 : tie.Need-returns-in-Two
 returns-5 c = λ e. absurd (false≢true e)
 
-pub passes-spec : {M : Type 1} → statement M
-passes-spec =
+pub passes_spec : {M : Type 1} → statement M
+passes_spec =
     tie.close
     (tie.spec returns returns-2 (λ c. search rules) (λ c. search rules) (λ c. search rules) (λ c. search rules) returns-4 returns-5)

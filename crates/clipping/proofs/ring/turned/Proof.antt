@@ -8,17 +8,17 @@ use borrow.Author.Rules.{rules}
 use Rattle.clipping.proofs.ring.turned.Statement.{statement}
 use Rattle.clipping.proofs.ring.turned.Tie as tie
 
-returns : tie.Need-returns
+returns : tie.Need-returns-then-k-f
 returns c =
-    let a = c.before.args in
-    (omega arith, λ ring e. turned_front a.f ring (omega arith) a.k c.if1.true)
+    let a = c.args in
+    (omega arith, λ ring e. turned_front a.f ring (omega arith) a.k c.if-k-f.true)
 
-returns-2 : tie.Need-returns-2
+returns-2 : tie.Need-returns
 returns-2 c =
-    let a = c.before.args in
-    (omega arith, λ ring e. turned_back a.f ring (omega arith) a.k c.if1.false (omega arith) ∙ ap (λ (n : ℕ). get_or ring (n - 1 - (a.k - a.f)) 0) e)
+    let a = c.args in
+    (omega arith, λ ring e. turned_back a.f ring (omega arith) a.k c.if-k-f.false (omega arith) ∙ ap (λ (n : ℕ). get_or ring (n - 1 - (a.k - a.f)) 0) e)
 
-pub turned-spec : {M : Type 1} → statement M
-turned-spec =
+pub turned_spec : {M : Type 1} → statement M
+turned_spec =
     tie.close (tie.spec (λ c. search rules) (λ c. search rules) returns (λ c. search rules) (λ c. search rules)
     returns-2)

@@ -11,36 +11,36 @@ use borrow.Author.Rules.{rules}
 use Rattle.clipping.proofs.ring.walk_ring.Statement.{statement}
 use Rattle.clipping.proofs.ring.walk_ring.Tie as tie
 
-abbrev invariant-loop : tie.invariant-loop
+abbrev invariant-loop : tie.invariant-loop-k
 invariant-loop v₀ ix₀ env ring len f b at₀ u₀ k₀ v ix at u k = (length v ≡ length v₀) × (length ix ≡ length ix₀) × Round env ring len f at₀ v₀ ix₀ k at u v ix
 
-abbrev decreases-loop : tie.decreases-loop
+abbrev decreases-loop : tie.decreases-loop-k
 decreases-loop v₀ ix₀ env ring len f b at₀ u₀ k₀ v ix at u k = len - k
 
 abbrev Start : tie.After-turned invariant-loop decreases-loop → tie.Start invariant-loop decreases-loop
 Start c = c.before.before.before.before.before.before
 
-abbrev Loop : tie.After-turned invariant-loop decreases-loop → tie.At-loop invariant-loop decreases-loop
+abbrev Loop : tie.After-turned invariant-loop decreases-loop → tie.At-loop-k invariant-loop decreases-loop
 Loop c = c.before.before
 
-abbrev Asked : tie.After-passes invariant-loop decreases-loop → tie.After-crossing-of invariant-loop decreases-loop
+abbrev Asked : tie.After-passes invariant-loop decreases-loop → tie.After-crossing_of-c invariant-loop decreases-loop
 Asked c = c.before
 
-abbrev InBox : tie.After-passes invariant-loop decreases-loop → tie.After-in-box invariant-loop decreases-loop
+abbrev InBox : tie.After-passes invariant-loop decreases-loop → tie.After-in_box-q_in invariant-loop decreases-loop
 InBox c = (Asked c).before.before
 
 abbrev Read : tie.After-passes invariant-loop decreases-loop → tie.After-turned invariant-loop decreases-loop
 Read c = (InBox c).before.before.before
 
-abbrev StepTo : tie.After-struct-known invariant-loop decreases-loop → tie.After-step-to invariant-loop decreases-loop
+abbrev StepTo : tie.After-struct_known-1 invariant-loop decreases-loop → tie.After-step_to-s invariant-loop decreases-loop
 StepTo c = c.before.before.before.before.before.before
 
-abbrev Turned : tie.After-struct-known invariant-loop decreases-loop → tie.After-turned invariant-loop decreases-loop
+abbrev Turned : tie.After-struct_known-1 invariant-loop decreases-loop → tie.After-turned invariant-loop decreases-loop
 Turned c = Read (StepTo c).before.before.before.before
 
-loop-holds : tie.Need-loop-init invariant-loop decreases-loop
+loop-holds : tie.Need-loop-k-init invariant-loop decreases-loop
 loop-holds c =
-    let s = c.before.before.before in
+    let s = c in
     let a = s.args in
     (refl, refl, round_start a.env a.ring a.len a.f a.tip a.vertices.now a.indexes.now s.requires.0 s.requires.1.0 s.requires.1.1.1)
 
@@ -49,145 +49,145 @@ read :
     (c : tie.After-turned invariant-loop decreases-loop)
     → get_or (Def.turned (Start c).args.f
     (ring_of (Start c).args.indexes.now (Start c).args.ring
-    (Start c).args.len)) (Loop c).loop.k 0
-    ≡ get_or (Loop c).loop.indexes ((Start c).args.ring + c.turned.result) 0
+    (Start c).args.len)) (Loop c).loop-k.k 0
+    ≡ get_or (Loop c).loop-k.indexes ((Start c).args.ring + c.turned.result) 0
 read c =
     let a = (Start c).args in
-    let l = (Loop c).loop in
+    let l = (Loop c).loop-k in
     let ends = (Start c).requires.0.ends in
     let list = (Start c).requires.0.list in
     c.turned.ensures.1 (ring_of a.indexes.now a.ring a.len) (length_ring a.indexes.now a.ring a.len (omega arith))
     ∙ get_d_ring a.indexes.now a.ring a.len c.turned.result c.turned.ensures.0
     ∙ sym (ring_same a.env a.ring a.len a.f a.tip a.vertices.now a.indexes.now l.k l.at l.reused l.vertices
-    l.indexes l.inv.2 c.turned.result c.turned.ensures.0)
+    l.indexes l.invariant.2 c.turned.result c.turned.ensures.0)
 
-add-place : tie.Need-overflow-add-place invariant-loop decreases-loop
-add-place c = omega (arith, (Loop c).loop.invariant.2.room.ends, (Loop c).loop.invariant.2.room.list, (Start c).well-formed.1.0)
+add-place : tie.Need-overflow_add-place invariant-loop decreases-loop
+add-place c = omega (arith, (Loop c).loop-k.invariant.2.room.ends, (Loop c).loop-k.invariant.2.room.list, (Start c).well_formed.1.0)
 
-mul-q : tie.Need-overflow-mul-q invariant-loop decreases-loop
-mul-q c = omega (arith, c.turned.ensures.0, (Loop c).loop.invariant.2.room.ends, (Loop c).loop.invariant.2.room.list, (Loop c).loop.invariant.1, (Start c).well-formed.1.0)
+mul-q : tie.Need-offset_bounds-indexes-place invariant-loop decreases-loop
+mul-q c = omega (arith, c.turned.ensures.0, (Loop c).loop-k.invariant.2.room.ends, (Loop c).loop-k.invariant.2.room.list, (Loop c).loop-k.invariant.1, (Start c).well_formed.1.0)
 
-slice-read-q : tie.Need-slice-read-q invariant-loop decreases-loop
-slice-read-q c = omega (arith, c.before.turned.ensures.0, (Loop c.before).loop.inv.2.room.ends, (Loop c.before).loop.inv.2.room.list)
+slice_read-q : tie.Need-bounds-indexes-place invariant-loop decreases-loop
+slice_read-q c = omega (arith, c.turned.ensures.0, (Loop c.before).loop-k.invariant.2.room.ends, (Loop c.before).loop-k.invariant.2.room.list)
 
-in-box-requires : tie.Need-in-box-requires invariant-loop decreases-loop
-in-box-requires c κs =
-    let at-turned = c.before.before in
-    let m = (Loop at-turned).loop.invariant.2.room in
+in_box-requires : tie.Need-in_box-q_in-requires invariant-loop decreases-loop
+in_box-requires c κs =
+    let at-turned = c in
+    let m = (Loop at-turned.before).loop-k.invariant.2.room in
     (m.holds.room, m.below at-turned.turned.result at-turned.turned.ensures.0)
 
-crossing-of-requires : tie.Need-crossing-of-requires invariant-loop decreases-loop
-crossing-of-requires c κs =
-    let at-turned = c.before.before.before.before in
-    let r = (Loop at-turned).loop.invariant.2 in
+crossing_of-requires : tie.Need-crossing_of-c-requires invariant-loop decreases-loop
+crossing_of-requires c κs =
+    let at-turned = c in
+    let r = (Loop at-turned.before.before).loop-k.invariant.2 in
     (r.room.holds.room, r.stands.vertex, r.room.below at-turned.turned.result at-turned.turned.ensures.0)
 
-add-k : tie.Need-overflow-add-k invariant-loop decreases-loop
-add-k c = omega (arith, (Read c.before).before.loop-test.taken, (Start (Read c.before)).fits.len)
+add-k : tie.Need-overflow_add-k invariant-loop decreases-loop
+add-k c = omega (arith, (Read c.before).loop-k-test.true, (Start (Read c.before)).fits.len)
 
-loop-less : tie.Need-loop-smaller invariant-loop decreases-loop
-loop-less c = omega (arith, (Read c.before).before.loop-test.taken)
+loop-less : tie.Need-loop-k-smaller-then-passes invariant-loop decreases-loop
+loop-less c = omega (arith, (Read c.before).loop-k-test.true)
 
-loop-again : tie.Need-loop-preserved invariant-loop decreases-loop
+loop-again : tie.Need-loop-k-preserved-then-passes invariant-loop decreases-loop
 loop-again c =
-    let at-passes = c.before in
-    let at-turned = Read at-passes in
+    let at-passes = c in
+    let at-turned = Read at-passes.before in
     let a = (Start at-turned).args in
-    let l = (Loop at-turned).loop in (
-      l.inv.0,
-      l.inv.1,
-      round_pass a.env a.ring a.len a.f a.tip a.vertices.now a.indexes.now l.k l.at l.reused l.vertices l.indexes l.inv.2
-          (Start at-turned).pre.1.1.0 l.inv.1 _ _ _ at-turned.before.loop-test.taken (read at-turned)
-          (l.inv.2.room.below at-turned.turned.result at-turned.turned.ensures.0) (InBox at-passes).in-box.ensures (Asked at-passes).crossing-of.ensures
-          (at-passes.passes.ensures c.if1.true) l.inv.0,
+    let l = (Loop at-turned).loop-k in (
+      l.invariant.0,
+      l.invariant.1,
+      round_pass a.env a.ring a.len a.f a.tip a.vertices.now a.indexes.now l.k l.at l.reused l.vertices l.indexes l.invariant.2
+          (Start at-turned).requires.1.1.0 l.invariant.1 _ _ _ at-turned.loop-k-test.true (read at-turned)
+          (l.invariant.2.room.below at-turned.turned.result at-turned.turned.ensures.0) (InBox at-passes.before).in_box-q_in.ensures (Asked at-passes.before).crossing_of-c.ensures
+          (at-passes.passes.ensures c.if-passes.true) l.invariant.0,
     )
 
-step-to-requires : tie.Need-step-to-requires invariant-loop decreases-loop
-step-to-requires c κs =
-    let at-passes = c.before.before.before in
-    let at-turned = Read at-passes in
+step_to-requires : tie.Need-step_to-s-requires invariant-loop decreases-loop
+step_to-requires c κs =
+    let at-passes = c in
+    let at-turned = Read at-passes.before.before.before in
     let a = (Start at-turned).args in
-    let l = (Loop at-turned).loop in
+    let l = (Loop at-turned).loop-k in
     let j = at-turned.turned.ensures.0 in
-    let i = (InBox at-passes).in-box.ensures in (
+    let i = (InBox at-passes.before.before.before).in_box-q_in.ensures in (
       round_ready a.env a.ring a.len a.f a.tip a.vertices.now a.indexes.now l.k l.at l.reused l.vertices
-          l.indexes l.inv.2 at-turned.before.loop-test.taken,
+          l.indexes l.invariant.2 at-turned.loop-k-test.true,
       (
         (
-          l.inv.2.stands,
+          l.invariant.2.stands,
           round_last a.env a.ring a.len a.f a.tip a.vertices.now a.indexes.now l.k l.at l.reused l.vertices
-              l.indexes l.inv.2 at-turned.turned.result _ j i,
+              l.indexes l.invariant.2 at-turned.turned.result _ j i,
         ),
-        (l.inv.2.room.below at-turned.turned.result j, i, (Asked at-passes).crossing-of.ensures),
+        (l.invariant.2.room.below at-turned.turned.result j, i, (Asked at-passes.before.before.before).crossing_of-c.ensures),
       ),
     )
 
-same_length : tie.Need-same-length invariant-loop decreases-loop
-same_length c = (StepTo c.before).step-to.kept.0 ∙ (Loop (Turned c.before)).loop.inv.0
+same_length : tie.Need-shape_of-vertices-then-fault-ne0 invariant-loop decreases-loop
+same_length c = (StepTo c.before).step_to-s.auto.vertices ∙ (Loop (Turned c.before)).loop-k.invariant.0
 
-same-length-2 : tie.Need-same-length-2 invariant-loop decreases-loop
-same-length-2 c = (StepTo c.before).step-to.kept.1.0 ∙ (Loop (Turned c.before)).loop.inv.1
+same_length-2 : tie.Need-shape_of-indexes-then-fault-ne0 invariant-loop decreases-loop
+same_length-2 c = (StepTo c.before).step_to-s.auto.indexes ∙ (Loop (Turned c.before)).loop-k.invariant.1
 
-returns : tie.Need-returns invariant-loop decreases-loop
+returns : tie.Need-returns-then-fault-ne0 invariant-loop decreases-loop
 returns c =
     let at-turned = Turned c.before in
     let a = (Start at-turned).args in
-    let l = (Loop at-turned).loop in
-    let g = (StepTo c.before).step-to in
-    round_stop a.env a.ring a.len a.f a.tip a.vertices.now a.indexes.now l.k l.at l.reused l.vertices l.indexes l.inv.2 (Start at-turned).pre.1.1.0
-    l.inv.1 _ _ _ _ at-turned.before.loop-test.taken (read at-turned) g.ensures.0 c.if2.true
+    let l = (Loop at-turned).loop-k in
+    let g = (StepTo c.before).step_to-s in
+    round_stop a.env a.ring a.len a.f a.tip a.vertices.now a.indexes.now l.k l.at l.reused l.vertices l.indexes l.invariant.2 (Start at-turned).requires.1.1.0
+    l.invariant.1 _ _ _ _ at-turned.loop-k-test.true (read at-turned) g.ensures.0 c.if-fault-ne0.true
 
-together-requires : tie.Need-together-requires invariant-loop decreases-loop
+together-requires : tie.Need-together-reused-requires invariant-loop decreases-loop
 together-requires c κs =
-    let at-else2 = c.before.before in
-    let at-turned = Turned at-else2.before in
+    let at-else2 = c in
+    let at-turned = Turned at-else2.before.before.before in
     let a = (Start at-turned).args in
-    let l = (Loop at-turned).loop in
-    let few = (Start at-turned).pre.0.small in
-    round_small a.env a.ring a.len a.f a.tip a.vertices.now a.indexes.now l.k l.at l.reused l.vertices l.indexes l.inv.2 (Start at-turned).pre.1.1.0
-    l.inv.1 _ _ _ _ at-turned.before.loop-test.taken (read at-turned) (StepTo at-else2.before).step-to.ensures.0 at-else2.if2.false (omega arith)
+    let l = (Loop at-turned).loop-k in
+    let few = (Start at-turned).requires.0.small in
+    round_small a.env a.ring a.len a.f a.tip a.vertices.now a.indexes.now l.k l.at l.reused l.vertices l.indexes l.invariant.2 (Start at-turned).requires.1.1.0
+    l.invariant.1 _ _ _ _ at-turned.loop-k-test.true (read at-turned) (StepTo at-else2.before.before.before).step_to-s.ensures.0 at-else2.if-fault-ne0.false (omega arith)
 
-add-k-2 : tie.Need-overflow-add-k-2 invariant-loop decreases-loop
-add-k-2 c = omega (arith, (Turned c.before.before.before.before).before.loop-test.taken, (Start (Turned c.before.before.before.before)).fits.len)
+add-k-2 : tie.Need-overflow_add-k-in-loop-k invariant-loop decreases-loop
+add-k-2 c = omega (arith, (Turned c.before.before.before.before).loop-k-test.true, (Start (Turned c.before.before.before.before)).fits.len)
 
-loop-less-2 : tie.Need-loop-smaller-2 invariant-loop decreases-loop
-loop-less-2 c = omega (arith, (Turned c.before.before.before.before).before.loop-test.taken)
+loop-less-2 : tie.Need-loop-k-smaller invariant-loop decreases-loop
+loop-less-2 c = omega (arith, (Turned c.before.before.before.before).loop-k-test.true)
 
-loop-again-2 : tie.Need-loop-preserved-2 invariant-loop decreases-loop
+loop-again-2 : tie.Need-loop-k-preserved invariant-loop decreases-loop
 loop-again-2 c =
-    let at-else2 = c.before.before.before in
-    let at-turned = Turned at-else2.before in
+    let at-else2 = c in
+    let at-turned = Turned at-else2.before.before.before.before in
     let a = (Start at-turned).args in
-    let l = (Loop at-turned).loop in
-    let g = (StepTo at-else2.before).step-to in
-    let kv = g.kept.0 in
-    let kx = g.kept.1.0 in (
-      kv ∙ l.inv.0,
-      kx ∙ l.inv.1,
-      round_next a.env a.ring a.len a.f a.tip a.vertices.now a.indexes.now l.k l.at l.reused l.vertices l.indexes l.inv.2
-          (Start at-turned).pre.1.1.0
-          l.inv.1 _ _ _ _ at-turned.before.loop-test.taken
+    let l = (Loop at-turned).loop-k in
+    let g = (StepTo at-else2.before.before.before.before).step_to-s in
+    let kv = g.auto.vertices in
+    let kx = g.auto.indexes in (
+      kv ∙ l.invariant.0,
+      kx ∙ l.invariant.1,
+      round_next a.env a.ring a.len a.f a.tip a.vertices.now a.indexes.now l.k l.at l.reused l.vertices l.indexes l.invariant.2
+          (Start at-turned).requires.1.1.0
+          l.invariant.1 _ _ _ _ at-turned.loop-k-test.true
           (read at-turned) g.ensures.0
-          at-else2.if2.false (g.ensures.1 at-else2.if2.false) l.inv.0 kv kx _ c.together.ensures,
+          at-else2.if-fault-ne0.false (g.ensures.1 at-else2.if-fault-ne0.false) l.invariant.0 kv kx _ c.together-reused.ensures,
     )
 
-same-length-3 : tie.Need-same-length-3 invariant-loop decreases-loop
-same-length-3 c = c.before.loop.invariant.0
+same_length-3 : tie.Need-shape_of-vertices invariant-loop decreases-loop
+same_length-3 c = c.loop-k.invariant.0
 
-same-length-4 : tie.Need-same-length-4 invariant-loop decreases-loop
-same-length-4 c = c.before.loop.invariant.1
+same_length-4 : tie.Need-shape_of-indexes invariant-loop decreases-loop
+same_length-4 c = c.loop-k.invariant.1
 
-returns-2 : tie.Need-returns-2 invariant-loop decreases-loop
+returns-2 : tie.Need-returns invariant-loop decreases-loop
 returns-2 c =
-    let s = c.before.before.before.before.before in
+    let s = c in
     let a = s.args in
-    let l = c.before.loop in
+    let l = c.loop-k in
     round_end a.env a.ring a.len a.f a.tip a.vertices.now a.indexes.now l.k l.at l.reused l.vertices l.indexes
-    l.invariant.2 s.requires.1.1.0 l.invariant.1 c.loop-test.false
+    l.invariant.2 s.requires.1.1.0 l.invariant.1 c.loop-k-test.false
 
-pub walk-ring-spec : {M : Type 1} → statement M
-walk-ring-spec =
+pub walk_ring_spec : {M : Type 1} → statement M
+walk_ring_spec =
     tie.close
-    (tie.spec invariant-loop decreases-loop loop-holds (λ c κs. omega arith) add-place mul-q slice-read-q in-box-requires crossing-of-requires (λ c κs. search rules)
-    add-k loop-less loop-again step-to-requires same_length same-length-2 returns together-requires add-k-2 loop-less-2 loop-again-2
-    same-length-3 same-length-4 returns-2)
+    (tie.spec invariant-loop decreases-loop loop-holds (λ c κs. omega arith) add-place mul-q slice_read-q in_box-requires crossing_of-requires (λ c κs. search rules)
+    add-k loop-less loop-again step_to-requires same_length same_length-2 returns together-requires add-k-2 loop-less-2 loop-again-2
+    same_length-3 same_length-4 returns-2)

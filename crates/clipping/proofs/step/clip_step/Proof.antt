@@ -15,6 +15,7 @@ use borrow.Author.Rules.{rules}
 use Rattle.clipping.proofs.step.clip_step.Statement.{statement}
 use Rattle.clipping.proofs.step.clip_step.Tie as tie
 
+
 -- the crossings are on the sides where not both ends are inside
 sided :
     (s : tie.Start)
@@ -28,75 +29,75 @@ sided s n =
     t.cell.owners t.opened t.cell.last a.c s.requires.1.1.1 n s.requires.0.sides.box
     (omega (arith, s.requires.0.corners, length_points a.vertices.now 0 t.count))
 
-returns : tie.Need-returns
+returns : tie.Need-returns-then-q_in
 returns c = λ q asked.
-    (let at-then2 = c.before.before.before.before in
-    let s = at-then2.before.before.before.before.before in
+    (let at-then2 = c in
+    let s = at-then2 in
     let a = s.args in
     let t = a.tip in
     let vs = points t.count a.vertices.now in
     rw (step_stay a.env.bounds a.env.centers a.env.site t.vertex t.inside q a.q_in vs t.cell.owners t.opened
-    t.cell.last at-then2.before.if1.true at-then2.if2.true)
+    t.cell.last at-then2.if-tip.true at-then2.if-q_in.true)
     (changes a.env t.count _ _ (ok (change vs t.cell.owners (entry plain t.vertex ∷ []) t.opened [])) s.requires.0.fits
-    (leaves_none s.requires.0.holds) (grown_none 2 t.count a.vertices.now) (c.before.before.stay.ensures vs)))
+    (leaves_none s.requires.0.holds) (grown_none 2 t.count a.vertices.now) (c.stay.ensures vs)))
 
 leave-requires : tie.Need-leave-requires
 leave-requires c κs =
-    let at-if2 = c.before.before in
-    let s = at-if2.before.before.before.before.before in
-    (s.requires.0, sided s (λ x y. true≢false (sym y ∙ at-if2.if2.false)))
+    let at-if2 = c in
+    let s = at-if2 in
+    (s.requires.0, sided s.before.before.before.before.before.before.before (λ x y. true≢false (sym y ∙ at-if2.if-q_in.false)))
 
-returns-2 : tie.Need-returns-2
+returns-2 : tie.Need-returns-then-tip
 returns-2 c = λ q asked.
-    (let at-leave = c.before.before.before.before in
-    let at-if2 = at-leave.before.before.before in
-    let a = at-if2.before.before.before.before.before.args in
+    (let at-leave = c in
+    let at-if2 = at-leave in
+    let a = at-if2.args in
     let t = a.tip in
     let vs = points t.count a.vertices.now in
     rw (step_leave a.env.bounds a.env.centers a.env.site t.vertex t.inside q a.q_in vs t.cell.owners t.opened t.cell.last a.c asked
-    at-if2.before.if1.true at-if2.if2.false)
+    at-if2.if-tip.true at-if2.if-q_in.false)
     at-leave.leave.ensures)
 
 enter-requires : tie.Need-enter-requires
 enter-requires c κs =
-    let at-if3 = c.before.before in
-    let at-else1 = at-if3.before in
-    let s = at-else1.before.before.before.before in
+    let at-if3 = c in
+    let at-else1 = at-if3 in
+    let s = at-else1 in
     let stands = s.requires.1.0.0 in
-    let o = s.requires.1.0.1 at-else1.if1.false at-if3.if3.true in
-    (s.requires.0, (sided s (λ x y. true≢false (sym x ∙ at-else1.if1.false)), (stands.low o, stands.ends o)))
+    let o = s.requires.1.0.1 at-else1.if-tip.false at-if3.if-q_in-2.true in
+    (s.requires.0, (sided s.before.before.before.before.before.before.before (λ x y. true≢false (sym x ∙ at-else1.if-tip.false)), (stands.low o, stands.ends o)))
 
-returns-3 : tie.Need-returns-3
+returns-3 : tie.Need-returns-then-q_in-2
 returns-3 c = λ q asked.
-    (let at-enter = c.before.before.before.before in
-    let at-if3 = at-enter.before.before.before in
-    let a = at-if3.before.before.before.before.before.args in
+    (let at-enter = c in
+    let at-if3 = at-enter in
+    let a = at-if3.args in
     let t = a.tip in
     let vs = points t.count a.vertices.now in
     rw (step_enter a.env.bounds a.env.centers a.env.site t.vertex t.inside q a.q_in vs t.cell.owners t.opened t.cell.last a.c asked
-    at-if3.before.if1.false at-if3.if3.true)
+    at-if3.if-tip.false at-if3.if-q_in-2.true)
     at-enter.enter.ensures)
 
 cross-requires : tie.Need-cross-requires
 cross-requires c κs =
-    let at-else1 = c.before.before.before in
-    let s = at-else1.before.before.before.before in
+    let at-else1 = c in
+    let s = at-else1 in
     let stands = s.requires.1.0.0 in
-    (s.requires.0, (sided s (λ x y. true≢false (sym x ∙ at-else1.if1.false)), (stands.low, stands.ends)))
+    (s.requires.0, (sided s.before.before.before.before.before.before.before (λ x y. true≢false (sym x ∙ at-else1.if-tip.false)), (stands.low, stands.ends)))
 
-returns-4 : tie.Need-returns-4
+returns-4 : tie.Need-returns
 returns-4 c = λ q asked.
-    (let at-cross = c.before.before.before.before in
-    let at-if3 = at-cross.before.before.before in
-    let a = at-if3.before.before.before.before.before.args in
+    (let at-cross = c in
+    let at-if3 = at-cross in
+    let a = at-if3.args in
     let t = a.tip in
     let vs = points t.count a.vertices.now in
     rw (step_cross a.env.bounds a.env.centers a.env.site t.vertex t.inside q a.q_in vs t.cell.owners t.opened t.cell.last a.c asked
-    at-if3.before.if1.false at-if3.if3.false)
+    at-if3.if-tip.false at-if3.if-q_in-2.false)
     at-cross.cross.ensures)
 
-pub clip-step-spec : {M : Type 1} → statement M
-clip-step-spec =
+pub clip_step_spec : {M : Type 1} → statement M
+clip_step_spec =
     tie.close
     (tie.spec (λ c κs. search rules) (λ c. search rules) returns leave-requires (λ c. search rules)
     (λ c. search rules) returns-2 enter-requires (λ c. search rules) (λ c. search rules) returns-3

@@ -9,11 +9,11 @@ use borrow.Author.Rules.{rules}
 use Rattle.clipping.proofs.step.cross_at.Statement.{statement}
 use Rattle.clipping.proofs.step.cross_at.Tie as tie
 
-insert-edge-requires : tie.Need-insert-edge-requires
-insert-edge-requires c κs =
-    let at-link = c.before.before.before in
-    let s = at-link.before.before.before.before in
-    let g = at-link.link in
+insert_edge-requires : tie.Need-insert_edge-done-requires
+insert_edge-requires c κs =
+    let at-link = c in
+    let s = at-link in
+    let g = at-link.link-led in
     let k = g.auto in
     let h = g.ensures.fit in
     (record { four = g.ensures.four; real = omega arith; room = omega arith }, (omega arith, (s.requires.1.1.1, s.requires.1.1.2)))
@@ -21,15 +21,15 @@ insert-edge-requires c κs =
 returns : tie.Need-returns
 unfolding cross_at
 returns c =
-    let at-link = c.before.before.before.before.before.before in
-    let a = at-link.before.before.before.before.args in
-    let g = at-link.link in
-    let i = c.before.before.insert-edge in
+    let at-link = c in
+    let a = at-link.args in
+    let g = at-link.link-led in
+    let i = c.insert_edge-done in
     let vs = points a.count a.vertices.now in
     λ ts u. alters_cross a.env.site a.count vs a.cell a.indexes.now g.result _ a.env.bounds a.env.centers a.first a.second
     a.opened (eqb g.result.last a.first) ts a.reused u i.result _
     (link a.env.bounds a.env.centers a.env.site vs a.cell.owners a.opened a.cell.last a.first)
     g.ensures i.ensures.0 i.ensures.1
 
-pub cross-at-spec : {M : Type 1} → statement M
-cross-at-spec = tie.close (tie.spec (λ c κs. search rules) insert-edge-requires (λ c. search rules) returns)
+pub cross_at_spec : {M : Type 1} → statement M
+cross_at_spec = tie.close (tie.spec (λ c κs. search rules) insert_edge-requires (λ c. search rules) returns)

@@ -4,5 +4,5 @@ use borrow.Author.Rules.{rules}
 use Rattle.clipping.proofs.step.cross_once.Statement.{statement}
 use Rattle.clipping.proofs.step.cross_once.Tie as tie
 
-pub cross-once-spec : {M : Type 1} → statement M
-cross-once-spec = tie.close (tie.spec (λ c κs. search rules) (λ c. search rules) (λ c. refl))
+pub cross_once_spec : {M : Type 1} → statement M
+cross_once_spec = tie.close (tie.spec (λ c κs. search rules) (λ c. search rules) (λ c. refl))

@@ -11,71 +11,72 @@ use borrow.Author.Rules.{rules}
 use Rattle.clipping.proofs.step.enter.Statement.{statement}
 use Rattle.clipping.proofs.step.enter.Tie as tie
 
+
 -- after the crossings, and the start
-abbrev Crossings : tie.After-slice-known4 → tie.After-add-crossings
+abbrev Crossings : tie.After-slice_known-4-1 → tie.After-add_crossings-clip
 Crossings c = c.before.before.before.before
 
-abbrev Entry : tie.After-slice-known4 → tie.Start
+abbrev Entry : tie.After-slice_known-4-1 → tie.Start
 Entry c = (Crossings c).before.before.before.before.before
 
-abbrev clip : tie.After-slice-known4 → EdgeClip
+abbrev clip : tie.After-slice_known-4-1 → EdgeClip
 clip c = let a = (Entry c).args in clip_with a.env.centers (points a.count a.vertices.now) a.c
 
-abbrev does : tie.After-slice-known4 → EdgeClip → Outcome ℕ Change
+abbrev does : tie.After-slice_known-4-1 → EdgeClip → Outcome ℕ Change
 does c = let a = (Entry c).args in enter a.env.bounds a.env.centers a.env.site a.cell.owners a.cell.last
 
-enter-at-requires : tie.Need-enter-at-requires
-enter-at-requires c κs =
-    let m = c.before.before.before in
-    let k = m.before.before in
-    let g = (Crossings k).add-crossings in
-    let s = Entry k in
+enter_at-requires : tie.Need-enter_at-requires
+enter_at-requires c κs =
+    let m = c in
+    let k = m in
+    let g = (Crossings k.before.before).add_crossings-clip in
+    let s = Entry k.before.before in
     let a = s.args in
-    let h = room_once a.env a.count a.cell a.vertices.now a.indexes.now (clip k) _ _ _ s.pre.0 s.pre.1.0 g.ensures g.kept.1.0 m.clip.given.1 in
-    (h.fits, ((h.room, h.first, omega (arith, h.more, s.pre.1.1.0), h.corners, h.small), (h.last s.pre.1.1.0 s.pre.1.1.1, h.sided)))
+    let h = room_once a.env a.count a.cell a.vertices.now a.indexes.now (clip k.before.before) _ _ _ s.requires.0 s.requires.1.0 g.ensures g.auto.indexes m.in-Once.is in
+    (h.fits, ((h.room, h.first, omega (arith, h.more, s.requires.1.1.0), h.corners, h.small), (h.last s.requires.1.1.0 s.requires.1.1.1, h.sided)))
 
-enter-at-requires-2 : tie.Need-enter-at-requires-2
-enter-at-requires-2 c κs =
-    let m = c.before.before.before in
-    let k = m.before.before in
-    let g = (Crossings k).add-crossings in
-    let s = Entry k in
+enter_at-requires-2 : tie.Need-enter_at-requires-in-Twice
+enter_at-requires-2 c κs =
+    let m = c in
+    let k = m in
+    let g = (Crossings k.before.before).add_crossings-clip in
+    let s = Entry k.before.before in
     let a = s.args in
-    let h = room_twice a.env a.count a.cell a.vertices.now a.indexes.now (clip k) _ _ _ s.pre.0 s.pre.1.0 g.ensures g.kept.1.0 m.clip2.given.1 in
-    (h.0.fits, ((h.0.room, h.0.first, omega (arith, h.0.more, s.pre.1.1.0), h.0.corners, h.0.small), (h.0.last s.pre.1.1.0 s.pre.1.1.1, h.0.sided)))
+    let h = room_twice a.env a.count a.cell a.vertices.now a.indexes.now (clip k.before.before) _ _ _ s.requires.0 s.requires.1.0 g.ensures g.auto.indexes m.in-Twice.is in
+    (h.0.fits, ((h.0.room, h.0.first, omega (arith, h.0.more, s.requires.1.1.0), h.0.corners, h.0.small), (h.0.last s.requires.1.1.0 s.requires.1.1.1, h.0.sided)))
 
-returns : tie.Need-returns
+returns : tie.Need-returns-in-Missed
 unfolding enter
 returns c =
-    let k = c.before.before in
-    let s = Entry k in
+    let k = c in
+    let s = Entry k.before in
     let a = s.args in
-    by_missed a.env a.count a.cell a.vertices.now a.indexes.now _ (clip k) _ _ _ s.pre.0.fits (does k) (Crossings k).add-crossings.ensures
-    c.enum_told.given.1 (refl, omega arith)
+    by_missed a.env a.count a.cell a.vertices.now a.indexes.now _ (clip k.before) _ _ _ s.requires.0.fits (does k.before) (Crossings k.before).add_crossings-clip.ensures
+    c.in-Missed.is (refl, omega arith)
 
-returns-2 : tie.Need-returns-2
+returns-2 : tie.Need-returns-in-Once
 unfolding enter
 returns-2 c =
-    let m = c.before.before.before.before.before.before in
-    let k = m.before.before in
-    let s = Entry k in
+    let m = c in
+    let k = m in
+    let s = Entry k.before.before.before.before.before in
     let a = s.args in
-    by_once a.env a.count a.cell a.vertices.now a.indexes.now _ (clip k) _ _ _ s.pre.0.fits (does k) (Crossings k).add-crossings.ensures _ m.clip.given.1
-    (λ x e w. rw (e, w) at (c.before.before.enter-at.ensures (took_one x)))
+    by_once a.env a.count a.cell a.vertices.now a.indexes.now _ (clip k.before.before.before.before.before) _ _ _ s.requires.0.fits (does k.before.before.before.before.before) (Crossings k.before.before.before.before.before).add_crossings-clip.ensures _ m.in-Once.is
+    (λ x e w. rw (e, w) at (c.enter_at.ensures (took_one x)))
 
-returns-3 : tie.Need-returns-3
+returns-3 : tie.Need-returns-in-Twice
 unfolding enter
 returns-3 c =
-    let m = c.before.before.before.before.before.before in
-    let k = m.before.before in
-    let s = Entry k in
+    let m = c in
+    let k = m in
+    let s = Entry k.before.before.before.before.before in
     let a = s.args in
-    by_twice a.env a.count a.cell a.vertices.now a.indexes.now _ (clip k) _ _ _ s.pre.0.fits (does k) (Crossings k).add-crossings.ensures _ m.clip2.given.1
-    (λ x y e f w. rw (e, w) at (c.before.before.enter-at2.ensures (took_two x y)))
+    by_twice a.env a.count a.cell a.vertices.now a.indexes.now _ (clip k.before.before.before.before.before) _ _ _ s.requires.0.fits (does k.before.before.before.before.before) (Crossings k.before.before.before.before.before).add_crossings-clip.ensures _ m.in-Twice.is
+    (λ x y e f w. rw (e, w) at (c.enter_at-in-Twice.ensures (took_two x y)))
 
 pub enter_spec : {M : Type 1} → statement M
 enter_spec =
     tie.close
-    (tie.spec (λ c κs. search rules) (λ c. search rules) (λ c. search rules) enter-at-requires (λ c. search rules)
-    enter-at-requires-2 (λ c. search rules) (λ c. search rules) returns (λ c. search rules) (λ c. search rules)
+    (tie.spec (λ c κs. search rules) (λ c. search rules) (λ c. search rules) enter_at-requires (λ c. search rules)
+    enter_at-requires-2 (λ c. search rules) (λ c. search rules) returns (λ c. search rules) (λ c. search rules)
     returns-2 (λ c. search rules) (λ c. search rules) returns-3)

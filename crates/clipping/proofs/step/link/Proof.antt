@@ -6,26 +6,26 @@ use borrow.Author.Rules.{rules}
 use Rattle.clipping.proofs.step.link.Statement.{statement}
 use Rattle.clipping.proofs.step.link.Tie as tie
 
-insert-edge-requires : tie.Need-insert-edge-requires
-insert-edge-requires c κs =
-    let s = c.before.before.before.before in
-    let o = c.before.if1.true in
+insert_edge-requires : tie.Need-insert_edge-requires
+insert_edge-requires c κs =
+    let s = c in
+    let o = c.if-opened.true in
     let h = s.requires.1.0.2 o in
     (record { four = omega arith; real = omega arith; room = omega arith }, (omega arith, (s.requires.1.1.0 o, s.requires.1.1.1)))
 
-returns : tie.Need-returns
+returns : tie.Need-returns-then-opened
 returns c =
-    let at_start = c.before.before.before.before.before.before.before in
+    let at_start = c in
     let a = at_start.args in
-    let g = c.before.before.insert-edge in
+    let g = c.insert_edge in
     link_opened a.env.bounds a.env.centers a.env.site (points a.count a.vertices.now) a.cell a.indexes.now a.first a.opened
-    g.result _ c.before.before.before.before.if1.true g.ensures.0
+    g.result _ c.if-opened.true g.ensures.0
 
-returns-2 : tie.Need-returns-2
+returns-2 : tie.Need-returns
 returns-2 c =
-    let a = c.before.before.before.args in
+    let a = c.args in
     link_closed a.env.bounds a.env.centers a.env.site (points a.count a.vertices.now) a.cell a.indexes.now a.first a.opened
-    c.if1.false c.before.before.before.requires.0.four
+    c.if-opened.false c.requires.0.four
 
-pub link-spec : {M : Type 1} → statement M
-link-spec = tie.close (tie.spec insert-edge-requires (λ c. search rules) returns returns-2)
+pub link_spec : {M : Type 1} → statement M
+link_spec = tie.close (tie.spec insert_edge-requires (λ c. search rules) returns returns-2)

@@ -10,8 +10,8 @@ use Rattle.clipping.proofs.step.stay.Tie as tie
 
 returns : tie.Need-returns
 returns c =
-    let p = c.before.before.push in
+    let p = c.push-put in
     λ vs. (refl, refl, refl, refl, λ e. (let h = p.ensures.1 in omega arith), puts_more 3 (omega arith) (p.ensures.0 plain), none_counted)
 
-pub stay-spec : {M : Type 1} → statement M
-stay-spec = tie.close (tie.spec (λ c κs. search rules) (λ c. search rules) returns)
+pub stay_spec : {M : Type 1} → statement M
+stay_spec = tie.close (tie.spec (λ c κs. search rules) (λ c. search rules) returns)

@@ -7,21 +7,21 @@ use Rattle.cutting_writer.specs.end.Ended.{closed_at}
 use Rattle.cutting_writer.proofs.end.closed_at.Statement.{statement}
 use Rattle.cutting_writer.proofs.end.closed_at.Tie as tie
 
-returns : tie.Need-returns
+returns : tie.Need-returns-then-pen-begin-lt2
 unfolding closed_at
-returns c = (rw (lt-ltb _ _ c.if1.true), omega arith, omega arith)
+returns c = (rw (lt-ltb _ _ c.if-pen-begin-lt2.true), omega arith, omega arith)
 
-returns-2 : tie.Need-returns-2
+returns-2 : tie.Need-returns-then-same_place
 unfolding closed_at
 returns-2 c = (
-  rw (le-ltb _ _ c.before.before.before.if1.false, sym c.before.before.same_place.ensures ∙ c.before.if2.true),
-  omega (arith, c.before.before.before.if1.false),
+  rw (le-ltb _ _ c.if-pen-begin-lt2.false, sym c.same_place.ensures ∙ c.if-same_place.true),
+  omega (arith, c.if-pen-begin-lt2.false),
   omega arith,
 )
 
-returns-3 : tie.Need-returns-3
+returns-3 : tie.Need-returns
 unfolding closed_at
-returns-3 c = (rw (le-ltb _ _ c.before.before.if1.false, sym c.before.same_place.ensures ∙ c.if2.false), omega (arith, c.before.before.if1.false), omega arith)
+returns-3 c = (rw (le-ltb _ _ c.if-pen-begin-lt2.false, sym c.same_place.ensures ∙ c.if-same_place.false), omega (arith, c.if-pen-begin-lt2.false), omega arith)
 
-pub closed-at-spec : {M : Type 1} → statement M
-closed-at-spec = tie.close (tie.spec (λ c. search rules) returns (λ c κs. search rules) (λ c. search rules) returns-2 returns-3)
+pub closed_at_spec : {M : Type 1} → statement M
+closed_at_spec = tie.close (tie.spec (λ c. search rules) returns (λ c κs. search rules) (λ c. search rules) returns-2 returns-3)

@@ -9,20 +9,20 @@ use Rattle.cutting_writer.specs.end.Ended.{kept_at}
 use Rattle.cutting_writer.proofs.end.end_piece.Statement.{statement}
 use Rattle.cutting_writer.proofs.end.end_piece.Tie as tie
 
-abbrev Kept-at : tie.After-last → tie.After-kept-at
+abbrev Kept-at : tie.After-last-1 → tie.After-kept_at-at
 Kept-at c = c.before.before.before.before.before.before
 
-turn-round-requires : tie.Need-turn-round-requires
-turn-round-requires c κs = (c.before.kept-at.ensures.1, omega (arith, c.before.kept-at.ensures.2, c.before.before.closed_at.ensures.2))
+turn_round-requires : tie.Need-turn_round-requires
+turn_round-requires c κs = (c.kept_at-at.ensures.1, omega (arith, c.kept_at-at.ensures.2, c.closed_at-closed.ensures.2))
 
 returns : tie.Need-returns
 returns c =
-    let begin = (Kept-at c).before.before.before.args.begin in
-    let pen : Pen = (Kept-at c).before.before.before.args.pen in (
+    let begin = (Kept-at c).args.begin in
+    let pen : Pen = (Kept-at c).args.pen in (
       ap (λ (n : ℕ). record { at = n; count = pen.count; any = false; first = pen.first; last = pen.last })
-          ((Kept-at c).kept-at.ensures.0 ∙ ap (kept_at begin) (Kept-at c).before.closed_at.ensures.0),
-      c.before.before.before.before.turn-round.ensures,
+          ((Kept-at c).kept_at-at.ensures.0 ∙ ap (kept_at begin) (Kept-at c).closed_at-closed.ensures.0),
+      c.turn_round.ensures,
     )
 
-pub end-piece-spec : {M : Type 1} → statement M
-end-piece-spec = tie.close (tie.spec (λ c κs. search rules) (λ c κs. search rules) turn-round-requires (λ c. search rules) returns)
+pub end_piece_spec : {M : Type 1} → statement M
+end_piece_spec = tie.close (tie.spec (λ c κs. search rules) (λ c κs. search rules) turn_round-requires (λ c. search rules) returns)

@@ -6,7 +6,7 @@ use Rattle.cutting_writer.proofs.ring.center_inside.Statement.{statement}
 use Rattle.cutting_writer.proofs.ring.center_inside.Tie as tie
 
 returns : tie.Need-returns
-returns c = c.is-inside.ensures ∙ ap (inside_of _) c.before.site-at.ensures
+returns c = c.is_inside.ensures ∙ ap (inside_of _) c.site_at.ensures
 
-pub center-inside-spec : {M : Type 1} → statement M
-center-inside-spec = tie.close (tie.spec (λ c κs. search rules) (λ c κs. search rules) returns)
+pub center_inside_spec : {M : Type 1} → statement M
+center_inside_spec = tie.close (tie.spec (λ c κs. search rules) (λ c κs. search rules) returns)

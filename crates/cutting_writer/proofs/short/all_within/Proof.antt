@@ -2,53 +2,53 @@
 use Rattle.cutting.specs.corner.Corner.{within_of}
 use Rattle.cutting_writer.specs.short.laws.Passing.{AllFrom, all_start, all_step, all_end}
 use borrow.Author.Tests.{not-false}
-use mathlib.Core.Bool.{false≢true}
+use mathlib.Core.Bool.{not, false≢true}
 use mathlib.Core.Path.{sym, ap, ◌∙◌}
 use native.Mathlib.Omega.{arith}
 use Rattle.cutting_writer.proofs.short.all_within.Statement.{statement}
 use Rattle.cutting_writer.proofs.short.all_within.Tie as tie
 
-abbrev invariant-loop : tie.invariant-loop
+abbrev invariant-loop : tie.invariant-loop-i
 invariant-loop b s from count f m i₀ i = AllFrom b s from count f m i
 
-abbrev decreases-loop : tie.decreases-loop
+abbrev decreases-loop : tie.decreases-loop-i
 decreases-loop b s from count f m i₀ i = i
 
-loop-holds : tie.Need-loop-init invariant-loop decreases-loop
+loop-holds : tie.Need-loop-i-init invariant-loop decreases-loop
 loop-holds c = all_start _ _ _ _ _ _
 
-sub-i : tie.Need-overflow-sub-i invariant-loop decreases-loop
-sub-i c = omega (arith, c.loop-test.true)
+sub-i : tie.Need-overflow_sub-i invariant-loop decreases-loop
+sub-i c = omega (arith, c.loop-i-test.true)
 
-add-corner-at : tie.Need-overflow-add-corner-at invariant-loop decreases-loop
-add-corner-at c = omega (arith, c.loop-test.true, c.before.loop.invariant.low, c.before.before.before.before.requires.0)
+add-corner_at : tie.Need-overflow_add-from invariant-loop decreases-loop
+add-corner_at c = omega (arith, c.loop-i-test.true, c.loop-i.invariant.low, c.requires.0)
 
-corner-at-requires : tie.Need-corner-at-requires invariant-loop decreases-loop
-corner-at-requires c κs =
-    let pre' = c.before.before.before.before.requires in
-    (omega (arith, c.loop-test.true, c.before.loop.invariant.low, pre'.0), pre'.1)
+corner_at-requires : tie.Need-corner_at-requires invariant-loop decreases-loop
+corner_at-requires c κs =
+    let pre' = c.requires in
+    (omega (arith, c.loop-i-test.true, c.loop-i.invariant.low, pre'.0), pre'.1)
 
 within-requires : tie.Need-within-requires invariant-loop decreases-loop
 within-requires c κs = tt
 
-returns : tie.Need-returns invariant-loop decreases-loop
+returns : tie.Need-returns-then-not-within invariant-loop decreases-loop
 returns c = λ z. absurd (false≢true z)
 
-loop-less : tie.Need-loop-smaller invariant-loop decreases-loop
-loop-less c = omega (arith, c.before.before.before.loop-test.true)
+loop-less : tie.Need-loop-i-smaller invariant-loop decreases-loop
+loop-less c = omega (arith, c.loop-i-test.true)
 
-loop-again : tie.Need-loop-preserved invariant-loop decreases-loop
+loop-again : tie.Need-loop-i-preserved invariant-loop decreases-loop
 loop-again c =
-    let loop' = c.before.before.before.before.loop in
-    let a = c.before.before.before.before.before.before.before.args in
-    all_step a.b a.s a.from a.count a.floats.now a.numbers.now loop'.i loop'.invariant (omega (arith, c.before.before.before.loop-test.true))
-    (sym (ap (within_of a.b a.s) c.before.before.corner-at.ensures) ∙ sym c.before.within.ensures ∙ not-false _ c.if1.false)
+    let loop' = c.loop-i in
+    let a = c.args in
+    all_step a.b a.s a.from a.count a.floats.now a.numbers.now loop'.i loop'.invariant (omega (arith, c.loop-i-test.true))
+    (sym (ap (within_of a.b a.s) c.corner_at.ensures) ∙ sym c.within.ensures ∙ not-false _ (ap not c.if-not-within.false))
 
-returns-2 : tie.Need-returns-2 invariant-loop decreases-loop
+returns-2 : tie.Need-returns invariant-loop decreases-loop
 returns-2 c =
-    let a = c.before.before.before.before.args in λ _. all_end a.b a.s a.from a.count a.floats.now a.numbers.now c.before.loop.i c.before.loop.invariant (omega arith)
+    let a = c.args in λ _. all_end a.b a.s a.from a.count a.floats.now a.numbers.now c.loop-i.i c.loop-i.invariant (omega arith)
 
-pub all-within-spec : {M : Type 1} → statement M
-all-within-spec =
+pub all_within_spec : {M : Type 1} → statement M
+all_within_spec =
     tie.close
-    (tie.spec invariant-loop decreases-loop loop-holds sub-i add-corner-at corner-at-requires within-requires returns loop-less loop-again returns-2)
+    (tie.spec invariant-loop decreases-loop loop-holds sub-i add-corner_at corner_at-requires within-requires returns loop-less loop-again returns-2)

@@ -6,25 +6,25 @@ use mathlib.Core.Path.{refl, ap, ◌∙◌}
 use Rattle.cutting_writer.proofs.short.cut_laid.Statement.{statement}
 use Rattle.cutting_writer.proofs.short.cut_laid.Tie as tie
 
-abbrev Start : tie.After-lay-ring-arg2 → tie.Start
+abbrev Start : tie.After-lay_ring-arg-2-1 → tie.Start
 Start c = c.before.before.before.before.before.before.before.before
 
-abbrev Floats : tie.After-slice-known6 → tie.After-floats
+abbrev Floats : tie.After-slice_known-6-1 → tie.After-floats-1
 Floats c = c.before.before.before.before.before.before.before.before.before.before
 
-lay-ring-requires : tie.Need-lay-ring-requires
-lay-ring-requires c κs = (Start c).requires
+lay_ring-requires : tie.Need-lay_ring-k-requires
+lay_ring-requires c κs = (Start c).requires
 
-cut-four-requires : tie.Need-cut-four-requires
-cut-four-requires c κs =
+cut_four-requires : tie.Need-cut_four-requires
+cut_four-requires c κs =
     let pre' = (Start c.before.before.before.before.before.before.before).requires in
-    (inl refl, record { floats = c.before.before.before.before.before.floats.given ∙ pre'.1.floats; numbers = c.before.before.before.numbers.given ∙ pre'.1.numbers })
+    (inl refl, record { floats = c.floats-1.given ∙ pre'.1.floats; numbers = c.numbers-1.given ∙ pre'.1.numbers })
 
 returns : tie.Need-returns
 returns c =
     let a = (Start (Floats c).before.before).args in
-    let d = c.before.before.before.before.cut-four.ensures in
-    (d.half, λ h. d.made h ∙ ap (cut_four a.b a.sites.now) ((Floats c).before.lay-ring.ensures.made (d.fits h)))
+    let d = c.cut_four.ensures in
+    (d.half, λ h. d.made h ∙ ap (cut_four a.b a.sites.now) ((Floats c).lay_ring-k.ensures.made (d.fits h)))
 
-pub cut-laid-spec : {M : Type 1} → statement M
-cut-laid-spec = tie.close (tie.spec lay-ring-requires cut-four-requires (λ c. search rules) (λ c. search rules) returns)
+pub cut_laid_spec : {M : Type 1} → statement M
+cut_laid_spec = tie.close (tie.spec lay_ring-requires cut_four-requires (λ c. search rules) (λ c. search rules) returns)

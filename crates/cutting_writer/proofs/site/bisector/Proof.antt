@@ -8,25 +8,25 @@ use native.Mathlib.Omega.{arith}
 use Rattle.cutting_writer.proofs.site.bisector.Statement.{statement}
 use Rattle.cutting_writer.proofs.site.bisector.Tie as tie
 
-returns : tie.Need-returns
+returns : tie.Need-returns-then-a-z
 returns c =
-    let a = c.before.before.before.before.before.args in
-    let s = c.before.before.before.entry_at.ensures in
-    let e : c.before.entry-at2.result ≡ end_of a.triangles.now a.o = rw c.before.before.next-halfedge.ensures at c.before.entry-at2.ensures in
-    let x : c.before.before.before.entry_at.result ≡ min (start_of a.triangles.now a.o) (end_of a.triangles.now a.o) = omega (arith, s, e, c.if1.true) in
-    let y : c.before.entry-at2.result ≡ max (start_of a.triangles.now a.o) (end_of a.triangles.now a.o) = omega (arith, s, e, c.if1.true) in
+    let a = c.args in
+    let s = c.entry_at-a.ensures in
+    let e : c.entry_at-z.result ≡ end_of a.triangles.now a.o = rw c.next_halfedge.ensures at c.entry_at-z.ensures in
+    let x : c.entry_at-a.result ≡ min (start_of a.triangles.now a.o) (end_of a.triangles.now a.o) = omega (arith, s, e, c.if-a-z.true) in
+    let y : c.entry_at-z.result ≡ max (start_of a.triangles.now a.o) (end_of a.triangles.now a.o) = omega (arith, s, e, c.if-a-z.true) in
     λ i. Bisector (x i) (y i)
 
-returns-2 : tie.Need-returns-2
+returns-2 : tie.Need-returns
 returns-2 c =
-    let a = c.before.before.before.before.before.args in
-    let s = c.before.before.before.entry_at.ensures in
-    let e : c.before.entry-at2.result ≡ end_of a.triangles.now a.o = rw c.before.before.next-halfedge.ensures at c.before.entry-at2.ensures in
-    let x : c.before.entry-at2.result ≡ min (start_of a.triangles.now a.o) (end_of a.triangles.now a.o) = omega (arith, s, e, c.if1.false) in
-    let y : c.before.before.before.entry_at.result ≡ max (start_of a.triangles.now a.o) (end_of a.triangles.now a.o) = omega (arith, s, e, c.if1.false) in
+    let a = c.args in
+    let s = c.entry_at-a.ensures in
+    let e : c.entry_at-z.result ≡ end_of a.triangles.now a.o = rw c.next_halfedge.ensures at c.entry_at-z.ensures in
+    let x : c.entry_at-z.result ≡ min (start_of a.triangles.now a.o) (end_of a.triangles.now a.o) = omega (arith, s, e, c.if-a-z.false) in
+    let y : c.entry_at-a.result ≡ max (start_of a.triangles.now a.o) (end_of a.triangles.now a.o) = omega (arith, s, e, c.if-a-z.false) in
     λ i. Bisector (x i) (y i)
 
-pub bisector-spec : {M : Type 1} → statement M
-bisector-spec =
+pub bisector_spec : {M : Type 1} → statement M
+bisector_spec =
     tie.close
     (tie.spec (λ c κs. search rules) (λ c κs. search rules) (λ c κs. search rules) returns returns-2)

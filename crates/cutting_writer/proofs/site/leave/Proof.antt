@@ -13,58 +13,58 @@ use native.Mathlib.Omega.{arith}
 use Rattle.cutting_writer.proofs.site.leave.Statement.{statement}
 use Rattle.cutting_writer.proofs.site.leave.Tie as tie
 
-abbrev Start : tie.After-on-hull → tie.Start
+abbrev Start : tie.After-on_hull → tie.Start
 Start c = c.before.before.before.before.before.before.before.before
 
-abbrev On-hull : tie.After-feed-left-arg2 → tie.After-on-hull
-On-hull c = c.before.before.before.before.before
+abbrev On-hull : tie.After-feed_left-arg-then-on_hull-1 → tie.After-on_hull
+On-hull c = c.before.before.before.before
 
-abbrev Then1 : tie.After-slice-known4 → tie.Then1
-Then1 c = c.before.before.before.before.before.before.before.before.before
+abbrev Then1 : tie.After-slice_known-then-on_hull-2-1 → tie.Then-on_hull
+Then1 c = c.before.before.before.before.before.before.before.before
 
-next-halfedge-requires : tie.Need-next-halfedge-requires
-next-halfedge-requires c κs = omega (arith, c.wide.ensures)
+next_halfedge-requires : tie.Need-next_halfedge-o-requires
+next_halfedge-requires c κs = omega (arith, c.wide.ensures)
 
-cast-hull-end : tie.Need-overflow-cast-hull-end
-cast-hull-end c = omega (
+cast-hull_end : tie.Need-overflow_cast-o
+cast-hull_end c = omega (
   arith,
-  c.before.before.before.next-halfedge.ensures,
-  c.before.before.before.before.wide.ensures,
-  (Start c.before.before).requires.0,
-  next_sum c.before.before.before.before.wide.result,
+  c.next_halfedge-o.ensures,
+  c.wide.ensures,
+  (Start c.before).requires.0,
+  next_sum c.wide.result,
 )
 
-feed-left-requires : tie.Need-feed-left-requires
-feed-left-requires c κs =
+feed_left-requires : tie.Need-feed_left-requires
+feed_left-requires c κs =
     let a = (Start (On-hull c)).args in
-    let o : (On-hull c).before.next-halfedge.result ≡ next_of a.e = (On-hull c).before.next-halfedge.ensures ∙ ap next_of (On-hull c).before.before.wide.ensures in
-    let h : on_hull a.halfedges.now (next_of a.e) ≡ true = sym (ap (on_hull a.halfedges.now) o) ∙ sym (On-hull c).on-hull.ensures
-    ∙ c.before.before.before.before.if1.true in
-    let p = c.before.before.hull-end.ensures ∙ ap (hull_end a.sites.now a.triangles.now a.vertices.now) o in
+    let o : (On-hull c).next_halfedge-o.result ≡ next_of a.e = (On-hull c).next_halfedge-o.ensures ∙ ap next_of (On-hull c).wide.ensures in
+    let h : on_hull a.halfedges.now (next_of a.e) ≡ true = sym (ap (on_hull a.halfedges.now) o) ∙ sym (On-hull c).on_hull.ensures
+    ∙ c.if-on_hull.true in
+    let p = c.hull_end.ensures ∙ ap (hull_end a.sites.now a.triangles.now a.vertices.now) o in
     one_asks a.b a.sites.now a.centers (left_of a.stage a.vertices.now a.indexes.now) _
     (far_there a.sites.now a.triangles.now a.halfedges.now a.vertices.now a.e h) (λ i. record { corner = p i; on = Infinity }) (Start (On-hull c)).requires.1
 
-returns : tie.Need-returns
+returns : tie.Need-returns-then-on_hull
 returns c =
     let a = (Start (Then1 c).before).args in
-    let o : (Then1 c).before.before.next-halfedge.result ≡ next_of a.e = (Then1 c).before.before.next-halfedge.ensures ∙ ap next_of (Then1 c).before.before.before.wide.ensures
+    let o : (Then1 c).next_halfedge-o.result ≡ next_of a.e = (Then1 c).next_halfedge-o.ensures ∙ ap next_of (Then1 c).wide.ensures
     in
-    let h : on_hull a.halfedges.now (next_of a.e) ≡ true = sym (ap (on_hull a.halfedges.now) o) ∙ sym (Then1 c).before.on-hull.ensures ∙ (Then1 c).if1.true in
-    let p = c.before.before.before.before.before.before.before.hull-end.ensures ∙ ap (hull_end a.sites.now a.triangles.now a.vertices.now) o in
+    let h : on_hull a.halfedges.now (next_of a.e) ≡ true = sym (ap (on_hull a.halfedges.now) o) ∙ sym (Then1 c).on_hull.ensures ∙ (Then1 c).if-on_hull.true in
+    let p = c.hull_end.ensures ∙ ap (hull_end a.sites.now a.triangles.now a.vertices.now) o in
     one_made a.b a.sites.now a.centers (left_of a.stage a.vertices.now a.indexes.now) _
     (far_there a.sites.now a.triangles.now a.halfedges.now a.vertices.now a.e h) (λ i. record { corner = p i; on = Infinity })
-    c.before.before.before.before.feed-left.ensures
+    c.feed_left.ensures
 
-returns-2 : tie.Need-returns-2
+returns-2 : tie.Need-returns
 returns-2 c =
     let a = (Start c.before).args in
-    let o : c.before.before.next-halfedge.result ≡ next_of a.e = c.before.before.next-halfedge.ensures ∙ ap next_of c.before.before.before.wide.ensures in
-    let h : on_hull a.halfedges.now (next_of a.e) ≡ false = sym (ap (on_hull a.halfedges.now) o) ∙ sym c.before.on-hull.ensures ∙ c.if1.false in
+    let o : c.next_halfedge-o.result ≡ next_of a.e = c.next_halfedge-o.ensures ∙ ap next_of c.wide.ensures in
+    let h : on_hull a.halfedges.now (next_of a.e) ≡ false = sym (ap (on_hull a.halfedges.now) o) ∙ sym c.on_hull.ensures ∙ c.if-on_hull.false in
     none_made a.b a.sites.now a.centers (left_of a.stage a.vertices.now a.indexes.now)
     (far_none a.sites.now a.triangles.now a.halfedges.now a.vertices.now a.e h)
 
 pub leave_spec : {M : Type 1} → statement M
 leave_spec =
     tie.close
-    (tie.spec (λ c κs. search rules) next-halfedge-requires (λ c κs. search rules) cast-hull-end (λ c κs. search rules) feed-left-requires (λ c. search rules)
+    (tie.spec (λ c κs. search rules) next_halfedge-requires (λ c κs. search rules) cast-hull_end (λ c κs. search rules) feed_left-requires (λ c. search rules)
     (λ c. search rules) returns returns-2)

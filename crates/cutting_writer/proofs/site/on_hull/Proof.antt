@@ -7,9 +7,9 @@ use Rattle.cutting_writer.proofs.site.on_hull.Statement.{statement}
 use Rattle.cutting_writer.proofs.site.on_hull.Tie as tie
 
 returns : tie.Need-returns
-returns c = ap (leb (length c.before.before.before.args.halfedges.now)) (c.wide.ensures ∙ c.before.entry_at.ensures)
+returns c = ap (leb (length c.args.halfedges.now)) (c.wide.ensures ∙ c.entry_at.ensures)
 
-pub on-hull-spec : {M : Type 1} → statement M
-on-hull-spec =
+pub on_hull_spec : {M : Type 1} → statement M
+on_hull_spec =
     tie.close
     (tie.spec (λ c κs. search rules) (λ c κs. search rules) returns)

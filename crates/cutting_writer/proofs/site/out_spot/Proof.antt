@@ -12,16 +12,16 @@ use Rattle.cutting_writer.proofs.site.out_spot.Statement.{statement}
 use Rattle.cutting_writer.proofs.site.out_spot.Tie as tie
 
 bisector-requires : tie.Need-bisector-requires
-bisector-requires c κs = omega (arith, c.next-halfedge.ensures, c.before.wide.ensures, c.before.before.before.before.before.before.requires, next_sum c.before.wide.result)
+bisector-requires c κs = omega (arith, c.next_halfedge.ensures, c.wide.ensures, c.requires, next_sum c.wide.result)
 
 returns : tie.Need-returns
 returns c =
-    let a = c.before.before.before.before.before.before.before.args in
-    let p = c.before.before.before.circle-center.ensures ∙ ap (λ (z : Point). circle_center z (a.e / 3)) c.before.before.before.before.site-at.ensures in
-    let k = c.bisector.ensures ∙ ap (bisector_of a.triangles.now) (c.before.next-halfedge.ensures ∙ ap next_of c.before.before.wide.ensures) in
+    let a = c.args in
+    let p = c.circle_center.ensures ∙ ap (λ (z : Point). circle_center z (a.e / 3)) c.site_at.ensures in
+    let k = c.bisector.ensures ∙ ap (bisector_of a.triangles.now) (c.next_halfedge.ensures ∙ ap next_of c.wide.ensures) in
     λ i. record { corner = p i; on = k i }
 
-pub out-spot-spec : {M : Type 1} → statement M
-out-spot-spec =
+pub out_spot_spec : {M : Type 1} → statement M
+out_spot_spec =
     tie.close
     (tie.spec (λ c κs. search rules) (λ c κs. search rules) (λ c κs. search rules) (λ c κs. search rules) bisector-requires returns)

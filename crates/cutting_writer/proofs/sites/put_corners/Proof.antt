@@ -7,19 +7,19 @@ use mathlib.Core.Path.{ap, ◌∙◌}
 use Rattle.cutting_writer.proofs.sites.put_corners.Statement.{statement}
 use Rattle.cutting_writer.proofs.sites.put_corners.Tie as tie
 
-abbrev Put2 : tie.After-slice-known5 → tie.After-put2
+abbrev Put2 : tie.After-slice_known-5-1 → tie.After-put-2
 Put2 c = c.before.before.before.before.before.before.before.before.before.before
 
 returns : tie.Need-returns
 unfolding cornered
 returns c =
-    let a = (Put2 c).before.before.before.before.before.before.before.args in
-    c.before.before.put4.ensures ∙ ap (put_at (a.centers + 3) (at a.b.right a.b.top)) (c.before.before.before.before.before.before.put3.ensures ∙ ap
+    let a = (Put2 c).args in
+    c.put-4.ensures ∙ ap (put_at (a.centers + 3) (at a.b.right a.b.top)) (c.put-3.ensures ∙ ap
     (put_at (a.centers + 2) (at a.b.right a.b.bottom))
-    ((Put2 c).put2.ensures ∙ ap (put_at (a.centers + 1) (at a.b.left a.b.bottom)) (Put2 c).before.before.before.before.put.ensures))
+    ((Put2 c).put-2.ensures ∙ ap (put_at (a.centers + 1) (at a.b.left a.b.bottom)) (Put2 c).put.ensures))
 
-pub put-corners-spec : {M : Type 1} → statement M
-put-corners-spec =
+pub put_corners_spec : {M : Type 1} → statement M
+put_corners_spec =
     tie.close
     (tie.spec (λ c κs. search rules) (λ c. search rules) (λ c κs. search rules) (λ c. search rules) (λ c κs. search rules) (λ c. search rules) (λ c κs. search rules)
     (λ c. search rules) returns)

@@ -5,56 +5,56 @@ use mathlib.Core.Path.{refl}
 use Rattle.cutting_writer.proofs.slots.carrier_from.Statement.{statement}
 use Rattle.cutting_writer.proofs.slots.carrier_from.Tie as tie
 
-returns : tie.Need-returns
+returns : tie.Need-returns-then-kind-eq-BISECTOR
 unfolding carrier_from
-returns c = let a = c.before.args in rw (eq-eqb a.kind 0 c.if1.true) refl
+returns c = let a = c.args in rw (eq-eqb a.kind 0 c.if-kind-eq-BISECTOR.true) refl
 
-returns-2 : tie.Need-returns-2
+returns-2 : tie.Need-returns-then-kind-eq-ALONG_LEFT
 unfolding carrier_from
-returns-2 c = let a = c.before.before.args in rw (ne_eqb a.kind 0 c.before.if1.false, eq-eqb a.kind 1 c.if2.true) refl
+returns-2 c = let a = c.args in rw (ne_eqb a.kind 0 c.if-kind-eq-BISECTOR.false, eq-eqb a.kind 1 c.if-kind-eq-ALONG_LEFT.true) refl
 
-returns-3 : tie.Need-returns-3
+returns-3 : tie.Need-returns-then-kind-eq-ALONG_TOP
 unfolding carrier_from
 returns-3 c =
-    let a = c.before.before.before.args in rw (
-      ne_eqb a.kind 0 c.before.before.if1.false,
-      ne_eqb a.kind 1 c.before.if2.false,
-      eq-eqb a.kind 2 c.if3.true,
+    let a = c.args in rw (
+      ne_eqb a.kind 0 c.if-kind-eq-BISECTOR.false,
+      ne_eqb a.kind 1 c.if-kind-eq-ALONG_LEFT.false,
+      eq-eqb a.kind 2 c.if-kind-eq-ALONG_TOP.true,
     ) refl
 
-returns-4 : tie.Need-returns-4
+returns-4 : tie.Need-returns-then-kind-eq-ALONG_RIGHT
 unfolding carrier_from
 returns-4 c =
-    let a = c.before.before.before.before.args in rw (
-      ne_eqb a.kind 0 c.before.before.before.if1.false,
-      ne_eqb a.kind 1 c.before.before.if2.false,
-      ne_eqb a.kind 2 c.before.if3.false,
-      eq-eqb a.kind 3 c.if4.true,
+    let a = c.args in rw (
+      ne_eqb a.kind 0 c.if-kind-eq-BISECTOR.false,
+      ne_eqb a.kind 1 c.if-kind-eq-ALONG_LEFT.false,
+      ne_eqb a.kind 2 c.if-kind-eq-ALONG_TOP.false,
+      eq-eqb a.kind 3 c.if-kind-eq-ALONG_RIGHT.true,
     ) refl
 
-returns-5 : tie.Need-returns-5
+returns-5 : tie.Need-returns-then-kind-eq-ALONG_BOTTOM
 unfolding carrier_from
 returns-5 c =
-    let a = c.before.before.before.before.before.args in rw (
-      ne_eqb a.kind 0 c.before.before.before.before.if1.false,
-      ne_eqb a.kind 1 c.before.before.before.if2.false,
-      ne_eqb a.kind 2 c.before.before.if3.false,
-      ne_eqb a.kind 3 c.before.if4.false,
-      eq-eqb a.kind 4 c.if5.true,
+    let a = c.args in rw (
+      ne_eqb a.kind 0 c.if-kind-eq-BISECTOR.false,
+      ne_eqb a.kind 1 c.if-kind-eq-ALONG_LEFT.false,
+      ne_eqb a.kind 2 c.if-kind-eq-ALONG_TOP.false,
+      ne_eqb a.kind 3 c.if-kind-eq-ALONG_RIGHT.false,
+      eq-eqb a.kind 4 c.if-kind-eq-ALONG_BOTTOM.true,
     ) refl
 
-returns-6 : tie.Need-returns-6
+returns-6 : tie.Need-returns
 unfolding carrier_from
 returns-6 c =
-    let a = c.before.before.before.before.before.args in rw (
-      ne_eqb a.kind 0 c.before.before.before.before.if1.false,
-      ne_eqb a.kind 1 c.before.before.before.if2.false,
-      ne_eqb a.kind 2 c.before.before.if3.false,
-      ne_eqb a.kind 3 c.before.if4.false,
-      ne_eqb a.kind 4 c.if5.false,
+    let a = c.args in rw (
+      ne_eqb a.kind 0 c.if-kind-eq-BISECTOR.false,
+      ne_eqb a.kind 1 c.if-kind-eq-ALONG_LEFT.false,
+      ne_eqb a.kind 2 c.if-kind-eq-ALONG_TOP.false,
+      ne_eqb a.kind 3 c.if-kind-eq-ALONG_RIGHT.false,
+      ne_eqb a.kind 4 c.if-kind-eq-ALONG_BOTTOM.false,
     ) refl
 
-pub carrier-from-spec : {M : Type 1} → statement M
-carrier-from-spec =
+pub carrier_from_spec : {M : Type 1} → statement M
+carrier_from_spec =
     tie.close
     (tie.spec returns returns-2 returns-3 returns-4 returns-5 returns-6)

@@ -7,24 +7,24 @@ use native.Mathlib.Omega.{arith}
 use Rattle.cutting_writer.proofs.slots.put_numbers.Statement.{statement}
 use Rattle.cutting_writer.proofs.slots.put_numbers.Tie as tie
 
-slice-write-numbers-2 : tie.Need-slice-write-numbers-2
-slice-write-numbers-2 c = simp length-set (omega (arith, c.requires.0, c.requires.1))
+slice_write-numbers-2 : tie.Need-bounds-numbers-at-2
+slice_write-numbers-2 c = simp length-set (omega (arith, c.requires.0, c.requires.1))
 
-slice-write-numbers-3 : tie.Need-slice-write-numbers-3
-slice-write-numbers-3 c = simp length-set (omega (arith, c.requires.0, c.requires.1))
+slice_write-numbers-3 : tie.Need-bounds-numbers-at-3
+slice_write-numbers-3 c = simp length-set (omega (arith, c.requires.0, c.requires.1))
 
-slice-write-numbers-4 : tie.Need-slice-write-numbers-4
-slice-write-numbers-4 c = simp length-set (omega (arith, c.requires.0, c.requires.1))
+slice_write-numbers-4 : tie.Need-bounds-numbers-at-4
+slice_write-numbers-4 c = simp length-set (omega (arith, c.requires.0, c.requires.1))
 
-slice-write-numbers-5 : tie.Need-slice-write-numbers-5
-slice-write-numbers-5 c = simp length-set (omega (arith, c.requires.0, c.requires.1))
+slice_write-numbers-5 : tie.Need-bounds-numbers-at-5
+slice_write-numbers-5 c = simp length-set (omega (arith, c.requires.0, c.requires.1))
 
 returns : tie.Need-returns
 returns c = let a = c.args in sets_five a.numbers.now (5 * a.k) a.n a.far a.kind a.i a.j
 
-pub put-numbers-spec : {M : Type 1} → statement M
-put-numbers-spec =
+pub put_numbers_spec : {M : Type 1} → statement M
+put_numbers_spec =
     tie.close
-    (tie.spec (λ c. search rules) (λ c. search rules) (λ c. search rules) (λ c. search rules) (λ c. search rules) slice-write-numbers-2 (λ c. search rules) (λ c. search
-    rules) slice-write-numbers-3 (λ c. search rules) (λ c. search rules) slice-write-numbers-4 (λ c. search rules) (λ c. search rules) slice-write-numbers-5 (λ c. search
+    (tie.spec (λ c. search rules) (λ c. search rules) (λ c. search rules) (λ c. search rules) (λ c. search rules) slice_write-numbers-2 (λ c. search rules) (λ c. search
+    rules) slice_write-numbers-3 (λ c. search rules) (λ c. search rules) slice_write-numbers-4 (λ c. search rules) (λ c. search rules) slice_write-numbers-5 (λ c. search
     rules) returns)

@@ -6,10 +6,10 @@ use Rattle.cutting_writer.proofs.slots.spot_at.Tie as tie
 
 returns : tie.Need-returns
 unfolding on_in
-returns c = λ i. record { corner = c.before.before.before.before.corner-at.ensures i; on = c.carrier-from.ensures i }
+returns c = λ i. record { corner = c.corner_at.ensures i; on = c.carrier_from.ensures i }
 
-pub spot-at-spec : {M : Type 1} → statement M
-spot-at-spec =
+pub spot_at_spec : {M : Type 1} → statement M
+spot_at_spec =
     tie.close
     (tie.spec (λ c. search rules) (λ c κs. search rules) (λ c. search rules) (λ c. search rules) (λ c. search rules) (λ c. search rules) (λ c. search rules) (λ c. search
     rules) (λ c. search rules) (λ c. search rules) (λ c. search rules) (λ c κs. search rules) returns)

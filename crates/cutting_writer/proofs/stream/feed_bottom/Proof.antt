@@ -6,23 +6,23 @@ use borrow.Author.Rules.{rules}
 use Rattle.cutting_writer.proofs.stream.feed_bottom.Statement.{statement}
 use Rattle.cutting_writer.proofs.stream.feed_bottom.Tie as tie
 
-abbrev Start : tie.After-pass-pen-arg2 → tie.Start
+abbrev Start : tie.After-pass_pen-arg-2-1 → tie.Start
 Start c = c.before.before.before.before.before.before.before.before.before
 
-abbrev Passed-pen : tie.After-hold → tie.After-pass-pen
+abbrev Passed-pen : tie.After-hold → tie.After-pass_pen
 Passed-pen c = c.before.before.before.before.before
 
-pass-pen-requires : tie.Need-pass-pen-requires
+pass_pen-requires : tie.Need-pass_pen-requires
 unfolding feed_bottom
-pass-pen-requires c κs = let a = (Start c).args in feed_asks (λ g. g) (side_at a.b a.sites.now Bottom) (ink_at a.b a.centers) a.centers
-    (bottom_of a.t a.vertices.now a.indexes.now) (at_of a.v) c.before.before.give.result c.before.before.give.ensures (Start c).requires
+pass_pen-requires c κs = let a = (Start c).args in feed_asks (λ g. g) (side_at a.b a.sites.now Bottom) (ink_at a.b a.centers) a.centers
+    (bottom_of a.t a.vertices.now a.indexes.now) (at_of a.v) c.give-part.result c.give-part.ensures (Start c).requires
 
 returns : tie.Need-returns
 unfolding feed_bottom
 returns c =
     let a = (Start (Passed-pen c).before).args in
     feed_made (λ g. g) (side_at a.b a.sites.now Bottom) (ink_at a.b a.centers) a.centers (bottom_of a.t a.vertices.now a.indexes.now) (at_of a.v)
-    (Passed-pen c).before.before.before.give.result (Passed-pen c).before.before.before.give.ensures (Passed-pen c).pass-pen.ensures c.hold.ensures
+    (Passed-pen c).give-part.result (Passed-pen c).give-part.ensures (Passed-pen c).pass_pen.ensures c.hold.ensures
 
-pub feed-bottom-spec : {M : Type 1} → statement M
-feed-bottom-spec = tie.close (tie.spec (λ c κs. search rules) pass-pen-requires (λ c κs. search rules) (λ c. search rules) (λ c. search rules) returns)
+pub feed_bottom_spec : {M : Type 1} → statement M
+feed_bottom_spec = tie.close (tie.spec (λ c κs. search rules) pass_pen-requires (λ c κs. search rules) (λ c. search rules) (λ c. search rules) returns)

@@ -6,24 +6,24 @@ use borrow.Author.Rules.{rules}
 use Rattle.cutting_writer.proofs.stream.feed_right.Statement.{statement}
 use Rattle.cutting_writer.proofs.stream.feed_right.Tie as tie
 
-abbrev Start : tie.After-pass-bottom-arg2 → tie.Start
+abbrev Start : tie.After-pass_bottom-arg-2-1 → tie.Start
 Start c = c.before.before.before.before.before.before.before.before.before
 
-abbrev Passed-bottom : tie.After-hold → tie.After-pass-bottom
+abbrev Passed-bottom : tie.After-hold → tie.After-pass_bottom
 Passed-bottom c = c.before.before.before.before.before
 
-pass-bottom-requires : tie.Need-pass-bottom-requires
+pass_bottom-requires : tie.Need-pass_bottom-requires
 unfolding feed_right
-pass-bottom-requires c κs = let a = (Start c).args in feed_asks (λ t. t.next) (side_at a.b a.sites.now Right) (feed_bottom a.b a.sites.now a.centers) a.centers
-    (right_of a.t a.vertices.now a.indexes.now) (at_of a.v) c.before.before.give.result c.before.before.give.ensures (Start c).requires
+pass_bottom-requires c κs = let a = (Start c).args in feed_asks (λ t. t.next) (side_at a.b a.sites.now Right) (feed_bottom a.b a.sites.now a.centers) a.centers
+    (right_of a.t a.vertices.now a.indexes.now) (at_of a.v) c.give-part.result c.give-part.ensures (Start c).requires
 
 returns : tie.Need-returns
 unfolding feed_right
 returns c =
     let a = (Start (Passed-bottom c).before).args in
     feed_made (λ t. t.next) (side_at a.b a.sites.now Right) (feed_bottom a.b a.sites.now a.centers) a.centers (right_of a.t a.vertices.now a.indexes.now)
-    (at_of a.v) (Passed-bottom c).before.before.before.give.result (Passed-bottom c).before.before.before.give.ensures (Passed-bottom c).pass-bottom.ensures
+    (at_of a.v) (Passed-bottom c).give-part.result (Passed-bottom c).give-part.ensures (Passed-bottom c).pass_bottom.ensures
     c.hold.ensures
 
-pub feed-right-spec : {M : Type 1} → statement M
-feed-right-spec = tie.close (tie.spec (λ c κs. search rules) pass-bottom-requires (λ c κs. search rules) (λ c. search rules) (λ c. search rules) returns)
+pub feed_right_spec : {M : Type 1} → statement M
+feed_right_spec = tie.close (tie.spec (λ c κs. search rules) pass_bottom-requires (λ c κs. search rules) (λ c. search rules) (λ c. search rules) returns)

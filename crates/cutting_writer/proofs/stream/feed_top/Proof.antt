@@ -6,24 +6,24 @@ use borrow.Author.Rules.{rules}
 use Rattle.cutting_writer.proofs.stream.feed_top.Statement.{statement}
 use Rattle.cutting_writer.proofs.stream.feed_top.Tie as tie
 
-abbrev Start : tie.After-pass-right-arg2 → tie.Start
+abbrev Start : tie.After-pass_right-arg-2-1 → tie.Start
 Start c = c.before.before.before.before.before.before.before.before.before
 
-abbrev Passed-right : tie.After-hold → tie.After-pass-right
+abbrev Passed-right : tie.After-hold → tie.After-pass_right
 Passed-right c = c.before.before.before.before.before
 
-pass-right-requires : tie.Need-pass-right-requires
+pass_right-requires : tie.Need-pass_right-requires
 unfolding feed_top
-pass-right-requires c κs = let a = (Start c).args in feed_asks (λ t. t.next.next) (side_at a.b a.sites.now Top) (feed_right a.b a.sites.now a.centers) a.centers
-    (top_of a.t a.vertices.now a.indexes.now) (at_of a.v) c.before.before.give.result c.before.before.give.ensures (Start c).requires
+pass_right-requires c κs = let a = (Start c).args in feed_asks (λ t. t.next.next) (side_at a.b a.sites.now Top) (feed_right a.b a.sites.now a.centers) a.centers
+    (top_of a.t a.vertices.now a.indexes.now) (at_of a.v) c.give-part.result c.give-part.ensures (Start c).requires
 
 returns : tie.Need-returns
 unfolding feed_top
 returns c =
     let a = (Start (Passed-right c).before).args in
     feed_made (λ t. t.next.next) (side_at a.b a.sites.now Top) (feed_right a.b a.sites.now a.centers) a.centers
-    (top_of a.t a.vertices.now a.indexes.now) (at_of a.v) (Passed-right c).before.before.before.give.result (Passed-right c).before.before.before.give.ensures
-    (Passed-right c).pass-right.ensures c.hold.ensures
+    (top_of a.t a.vertices.now a.indexes.now) (at_of a.v) (Passed-right c).give-part.result (Passed-right c).give-part.ensures
+    (Passed-right c).pass_right.ensures c.hold.ensures
 
-pub feed-top-spec : {M : Type 1} → statement M
-feed-top-spec = tie.close (tie.spec (λ c κs. search rules) pass-right-requires (λ c κs. search rules) (λ c. search rules) (λ c. search rules) returns)
+pub feed_top_spec : {M : Type 1} → statement M
+feed_top_spec = tie.close (tie.spec (λ c κs. search rules) pass_right-requires (λ c κs. search rules) (λ c. search rules) (λ c. search rules) returns)

@@ -4,11 +4,11 @@ use mathlib.Core.Path.{refl}
 use Rattle.cutting_writer.proofs.stream.give.Statement.{statement}
 use Rattle.cutting_writer.proofs.stream.give.Tie as tie
 
-returns : tie.Need-returns
-returns c = rw c.before.before.if1.true c.keep.ensures
+returns : tie.Need-returns-then-h
+returns c = rw c.if-h.true c.keep.ensures
 
-returns-2 : tie.Need-returns-2
-returns-2 c = rw c.if1.false refl
+returns-2 : tie.Need-returns
+returns-2 c = rw c.if-h.false refl
 
 pub give_spec : {M : Type 1} → statement M
 give_spec =

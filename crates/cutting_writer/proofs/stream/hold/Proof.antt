@@ -5,9 +5,9 @@ use Rattle.cutting_writer.proofs.stream.hold.Statement.{statement}
 use Rattle.cutting_writer.proofs.stream.hold.Tie as tie
 
 returns : tie.Need-returns
-returns c = rw c.first-corner.ensures refl
+returns c = rw c.first_corner.ensures refl
 
-pub hold-spec : {M : Type 1} → statement M
-hold-spec =
+pub hold_spec : {M : Type 1} → statement M
+hold_spec =
     tie.close
     (tie.spec (λ c κs. search rules) returns)

@@ -6,13 +6,13 @@ use Rattle.cutting_writer.proofs.stream.ink_spot.Tie as tie
 
 ink-requires : tie.Need-ink-requires
 unfolding ink_at
-ink-requires c κs = c.before.before.before.before.before.before.requires
+ink-requires c κs = c.requires
 
 returns : tie.Need-returns
 unfolding ink_at
-returns c = c.before.before.before.before.ink.ensures
+returns c = c.ink.ensures
 
-pub ink-spot-spec : {M : Type 1} → statement M
-ink-spot-spec =
+pub ink_spot_spec : {M : Type 1} → statement M
+ink_spot_spec =
     tie.close
     (tie.spec ink-requires (λ c. search rules) (λ c. search rules) returns)

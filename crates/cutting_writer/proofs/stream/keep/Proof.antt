@@ -4,19 +4,19 @@ use mathlib.Core.Path.{refl, sym, ◌∙◌}
 use Rattle.cutting_writer.proofs.stream.keep.Statement.{statement}
 use Rattle.cutting_writer.proofs.stream.keep.Tie as tie
 
-returns : tie.Need-returns
-returns c = rw (sym c.before.before.before.within.ensures ∙ c.before.if1.true, sym c.before.before.within2.ensures ∙ c.if2.true) refl
+returns : tie.Need-returns-then-c
+returns c = rw (sym c.within-a.ensures ∙ c.if-a.true, sym c.within-c.ensures ∙ c.if-c.true) refl
 
-returns-2 : tie.Need-returns-2
+returns-2 : tie.Need-returns-then-a
 returns-2 c =
-    rw (sym c.before.before.before.before.within.ensures ∙ c.before.before.if1.true, sym c.before.before.before.within2.ensures ∙ c.before.if2.false, c.meet.ensures) refl
+    rw (sym c.within-a.ensures ∙ c.if-a.true, sym c.within-c.ensures ∙ c.if-c.false, c.meet.ensures) refl
 
-returns-3 : tie.Need-returns-3
+returns-3 : tie.Need-returns-then-c-2
 returns-3 c =
-    rw (sym c.before.before.before.before.within.ensures ∙ c.before.before.if1.false, sym c.before.before.before.within2.ensures ∙ c.before.if3.true, c.meet2.ensures) refl
+    rw (sym c.within-a.ensures ∙ c.if-a.false, sym c.within-c.ensures ∙ c.if-c-2.true, c.meet-then-c-2.ensures) refl
 
-returns-4 : tie.Need-returns-4
-returns-4 c = rw (sym c.before.before.before.within.ensures ∙ c.before.if1.false, sym c.before.before.within2.ensures ∙ c.if3.false) refl
+returns-4 : tie.Need-returns
+returns-4 c = rw (sym c.within-a.ensures ∙ c.if-a.false, sym c.within-c.ensures ∙ c.if-c-2.false) refl
 
 pub keep_spec : {M : Type 1} → statement M
 keep_spec =

@@ -5,7 +5,7 @@ use Rattle.cutting_writer.proofs.stream.open.Statement.{statement}
 use Rattle.cutting_writer.proofs.stream.open.Tie as tie
 
 returns : tie.Need-returns
-returns c = rw c.hold-nothing.ensures refl
+returns c = rw c.hold_nothing-h.ensures refl
 
 pub open_spec : {M : Type 1} → statement M
 open_spec =

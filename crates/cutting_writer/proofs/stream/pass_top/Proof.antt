@@ -6,47 +6,47 @@ use borrow.Author.Rules.{rules}
 use Rattle.cutting_writer.proofs.stream.pass_top.Statement.{statement}
 use Rattle.cutting_writer.proofs.stream.pass_top.Tie as tie
 
-abbrev Start : tie.After-part2 → tie.Start
+abbrev Start : tie.In-Two-2 → tie.Start
 Start c = c.before.before.before.before.before
 
-abbrev Part : tie.After-feed-top-arg2 → tie.After-part
+abbrev Part : tie.After-feed_top-arg-in-One-1 → tie.In-One-2
 Part c = c.before.before.before
 
-abbrev Part2 : tie.After-feed-top-arg6 → tie.After-part2
+abbrev Part2 : tie.After-feed_top-arg-in-Two-4-1 → tie.In-Two-2
 Part2 c = c.before.before.before.before.before.before.before.before.before.before
 
-abbrev Fed-top2 : tie.After-slice-known8 → tie.After-feed-top2
+abbrev Fed-top2 : tie.After-slice_known-in-Two-4-1 → tie.After-feed_top-u
 Fed-top2 c = c.before.before.before.before.before.before.before.before.before.before.before
 
-feed-top-requires : tie.Need-feed-top-requires
-feed-top-requires c κs = let a = (Part c).before.before.before.before.before.args in pass_one_asks (λ t. t.next.next.next) (feed_top a.b a.sites.now a.centers)
-    a.centers (Part c).part.given.1 (top_of a.t a.vertices.now a.indexes.now) (Part c).before.before.before.before.before.requires
+feed_top-requires : tie.Need-feed_top-requires
+feed_top-requires c κs = let a = (Part c).args in pass_one_asks (λ t. t.next.next.next) (feed_top a.b a.sites.now a.centers)
+    a.centers (Part c).in-One.is (top_of a.t a.vertices.now a.indexes.now) (Part c).requires
 
-feed-top-requires-2 : tie.Need-feed-top-requires-2
-feed-top-requires-2 c κs = let a = (Start c.before.before.before).args in pass_two_asks (λ t. t.next.next.next) (feed_top a.b a.sites.now a.centers) a.centers
-    (top_grows a.b a.sites.now a.centers) c.before.before.before.part2.given.1 (top_of a.t a.vertices.now a.indexes.now)
+feed_top-requires-2 : tie.Need-feed_top-u-requires
+feed_top-requires-2 c κs = let a = (Start c.before.before.before).args in pass_two_asks (λ t. t.next.next.next) (feed_top a.b a.sites.now a.centers) a.centers
+    (top_grows a.b a.sites.now a.centers) c.before.before.before.in-Two.is (top_of a.t a.vertices.now a.indexes.now)
     (Start c.before.before.before).requires
 
-feed-top-requires-3 : tie.Need-feed-top-requires-3
-feed-top-requires-3 c κs = let a = (Start (Part2 c)).args in pass_two_then (λ t. t.next.next.next) (feed_top a.b a.sites.now a.centers) a.centers
-    (top_grows a.b a.sites.now a.centers) (Part2 c).part2.given.1 (top_of a.t a.vertices.now a.indexes.now) (Start (Part2 c)).requires _
-    c.before.before.before.before.before.before.feed-top2.ensures
+feed_top-requires-3 : tie.Need-feed_top-requires-in-Two
+feed_top-requires-3 c κs = let a = (Start (Part2 c)).args in pass_two_then (λ t. t.next.next.next) (feed_top a.b a.sites.now a.centers) a.centers
+    (top_grows a.b a.sites.now a.centers) (Part2 c).in-Two.is (top_of a.t a.vertices.now a.indexes.now) (Start (Part2 c)).requires _
+    c.feed_top-u.ensures
 
-returns : tie.Need-returns
-returns c = let a = c.before.before.before.before.before.args in pass_none (λ t. t.next.next.next) (feed_top a.b a.sites.now a.centers) c.enum_told.given.1
+returns : tie.Need-returns-in-None
+returns c = let a = c.args in pass_none (λ t. t.next.next.next) (feed_top a.b a.sites.now a.centers) c.in-None.is
     (top_of a.t a.vertices.now a.indexes.now)
 
-returns-2 : tie.Need-returns-2
-returns-2 c = let a = (Part c.before.before.before.before.before).before.before.before.before.before.args in pass_one (λ t. t.next.next.next)
-    (feed_top a.b a.sites.now a.centers) (Part c.before.before.before.before.before).part.given.1 c.before.before.before.before.feed-top.ensures
+returns-2 : tie.Need-returns-in-One
+returns-2 c = let a = (Part c.before.before.before.before.before).args in pass_one (λ t. t.next.next.next)
+    (feed_top a.b a.sites.now a.centers) (Part c.before.before.before.before.before).in-One.is c.feed_top.ensures
 
-returns-3 : tie.Need-returns-3
+returns-3 : tie.Need-returns-in-Two
 returns-3 c = let a = (Start (Fed-top2 c).before.before.before.before).args in pass_two (λ t. t.next.next.next) (feed_top a.b a.sites.now a.centers)
-    (Fed-top2 c).before.before.before.before.part2.given.1 (top_of a.t a.vertices.now a.indexes.now) (Fed-top2 c).feed-top2.ensures
-    c.before.before.before.before.feed-top3.ensures
+    (Fed-top2 c).before.before.before.before.in-Two.is (top_of a.t a.vertices.now a.indexes.now) (Fed-top2 c).feed_top-u.ensures
+    c.feed_top-in-Two.ensures
 
-pub pass-top-spec : {M : Type 1} → statement M
-pass-top-spec =
+pub pass_top_spec : {M : Type 1} → statement M
+pass_top_spec =
     tie.close
-    (tie.spec (λ c. search rules) (λ c. search rules) feed-top-requires (λ c. search rules) feed-top-requires-2 feed-top-requires-3 returns (λ c. search rules) (λ c.
+    (tie.spec (λ c. search rules) (λ c. search rules) feed_top-requires (λ c. search rules) feed_top-requires-2 feed_top-requires-3 returns (λ c. search rules) (λ c.
     search rules) returns-2 (λ c. search rules) (λ c. search rules) returns-3)

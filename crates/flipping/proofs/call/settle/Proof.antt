@@ -5,13 +5,13 @@ use Rattle.flipping.specs.call.laws.Outcomes.{settled_cleared, settled_kept}
 use Rattle.flipping.proofs.call.settle.Statement.{statement}
 use Rattle.flipping.proofs.call.settle.Tie as tie
 
-returns : tie.Need-returns
+returns : tie.Need-returns-then-number-eq-REFUSED_FLIP
 returns c =
-    let s = c.before.before.before.before.before.before in
-    c.before.before.clear.ensures ∙ sym (settled_cleared s.args.work.now s.args.number c.before.before.before.before.if1.true)
+    let s = c in
+    c.clear.ensures ∙ sym (settled_cleared s.args.work.now s.args.number c.if-number-eq-REFUSED_FLIP.true)
 
-returns-2 : tie.Need-returns-2
-returns-2 c = let s = c.before.before in sym (settled_kept s.args.work.now s.args.number c.if1.false)
+returns-2 : tie.Need-returns-else-number-eq-REFUSED_FLIP
+returns-2 c = let s = c in sym (settled_kept s.args.work.now s.args.number c.if-number-eq-REFUSED_FLIP.false)
 
-pub settle-spec : {M : Type 1} → statement M
-settle-spec = tie.close (tie.spec (λ c κs. search rules) (λ c. search rules) returns returns-2)
+pub settle_spec : {M : Type 1} → statement M
+settle_spec = tie.close (tie.spec (λ c κs. search rules) (λ c. search rules) returns returns-2)

@@ -3,13 +3,13 @@ use Rattle.flipping.specs.call.Steps.{verdict_of}
 use Rattle.flipping.proofs.call.verdict.Statement.{statement}
 use Rattle.flipping.proofs.call.verdict.Tie as tie
 
-returns : tie.Need-returns
+returns : tie.Need-returns-then-holds
 unfolding verdict_of
-returns c = rw c.if1.true
+returns c = rw c.if-holds.true
 
-returns-2 : tie.Need-returns-2
+returns-2 : tie.Need-returns
 unfolding verdict_of
-returns-2 c = rw c.if1.false
+returns-2 c = rw c.if-holds.false
 
-pub verdict-spec : {M : Type 1} → statement M
-verdict-spec = tie.close (tie.spec returns returns-2)
+pub verdict_spec : {M : Type 1} → statement M
+verdict_spec = tie.close (tie.spec returns returns-2)

@@ -7,53 +7,53 @@ use Rattle.flipping.specs.rule.laws.Tests.{far, alone, together, linked, by_tabl
 use Rattle.flipping.proofs.rule.may_flip.Statement.{statement}
 use Rattle.flipping.proofs.rule.may_flip.Tie as tie
 
-abbrev Start : tie.After-opposite → tie.Start
+abbrev Start : tie.After-opposite-x → tie.Start
 Start c = c.before.before.before.before.before.before.before.before.before.before
 
-returns : tie.Need-returns
+returns : tie.Need-returns-then-halfedges-a
 returns c =
-    let s = c.before.before.before.before.before in
-    far s.args.triangles.now s.args.halfedges.now s.args.table.now s.args.work.now s.args.sites s.args.a c.if1.true
+    let s = c in
+    far s.args.triangles.now s.args.halfedges.now s.args.table.now s.args.work.now s.args.sites s.args.a c.if-halfedges-a.true
 
-returns-2 : tie.Need-returns-2
+returns-2 : tie.Need-returns-then-halfedges-a-2
 returns-2 c =
-    let s = c.before.before.before.before.before.before.before in
-    alone s.args.triangles.now s.args.halfedges.now s.args.table.now s.args.work.now s.args.sites s.args.a c.if2.true
+    let s = c in
+    alone s.args.triangles.now s.args.halfedges.now s.args.table.now s.args.work.now s.args.sites s.args.a c.if-halfedges-a-2.true
 
-opposite-requires-2 : tie.Need-opposite-requires-2
+opposite-requires-2 : tie.Need-opposite-y-requires
 opposite-requires-2 c κs = (
   (Start c).requires.threes,
   (Start c).requires.small,
-  rw c.before.wide.ensures ((Start c).requires.inside (Start c).args.a c.before.before.before.before.before.if1.false
-      c.before.before.before.if2.false),
+  rw c.wide-b.ensures ((Start c).requires.inside (Start c).args.a c.if-halfedges-a.false
+      c.if-halfedges-a-2.false),
 )
 
-returns-3 : tie.Need-returns-3
+returns-3 : tie.Need-returns-then-x-y
 returns-3 c =
     let s = Start c.before.before in
     together s.args.triangles.now s.args.halfedges.now s.args.table.now s.args.work.now s.args.sites s.args.a _ _ _
-    c.before.before.before.wide.ensures c.before.before.opposite.ensures c.before.opposite2.ensures c.if3.true
+    c.wide-b.ensures c.opposite-x.ensures c.opposite-y.ensures c.if-x-y.true
 
-returns-4 : tie.Need-returns-4
+returns-4 : tie.Need-returns-then-joined
 returns-4 c =
-    let at-opposite = c.before.before.before.before in
-    linked (Start at-opposite).args.triangles.now (Start at-opposite).args.halfedges.now (Start at-opposite).args.table.now (Start at-opposite).args.work.now
-    (Start at-opposite).args.sites (Start at-opposite).args.a _ _ _
-    at-opposite.before.wide.ensures at-opposite.opposite.ensures c.before.before.before.opposite2.ensures
-    (granted c.before.joined.result (ap not c.if4.true) c.before.joined.ensures)
+    let at-opposite = c in
+    linked (Start at-opposite.before.before.before.before).args.triangles.now (Start at-opposite.before.before.before.before).args.halfedges.now (Start at-opposite.before.before.before.before).args.table.now (Start at-opposite.before.before.before.before).args.work.now
+    (Start at-opposite.before.before.before.before).args.sites (Start at-opposite.before.before.before.before).args.a _ _ _
+    at-opposite.wide-b.ensures at-opposite.opposite-x.ensures c.opposite-y.ensures
+    (granted c.joined.result (ap not c.if-joined.true) c.joined.ensures)
 
-returns-5 : tie.Need-returns-5
+returns-5 : tie.Need-returns
 returns-5 c =
-    let at_joined = c.before.before in
-    let at-opposite = at_joined.before.before.before in
-    by_table (Start at-opposite).args.triangles.now (Start at-opposite).args.halfedges.now (Start at-opposite).args.table.now (Start at-opposite).args.work.now
-    (Start at-opposite).args.sites (Start at-opposite).args.a _ _ _
-    at-opposite.before.wide.ensures at-opposite.opposite.ensures at_joined.before.before.opposite2.ensures (Start at-opposite).requires
-    at-opposite.before.before.before.before.before.if1.false at-opposite.before.before.before.if2.false at_joined.before.if3.false
-    (refused at_joined.joined.result (ap not c.before.if4.false) at_joined.joined.ensures) c.same_first.result c.same_first.ensures
+    let at_joined = c in
+    let at-opposite = at_joined in
+    by_table (Start at-opposite.before.before.before.before.before).args.triangles.now (Start at-opposite.before.before.before.before.before).args.halfedges.now (Start at-opposite.before.before.before.before.before).args.table.now (Start at-opposite.before.before.before.before.before).args.work.now
+    (Start at-opposite.before.before.before.before.before).args.sites (Start at-opposite.before.before.before.before.before).args.a _ _ _
+    at-opposite.wide-b.ensures at-opposite.opposite-x.ensures at_joined.opposite-y.ensures (Start at-opposite.before.before.before.before.before).requires
+    at-opposite.if-halfedges-a.false at-opposite.if-halfedges-a-2.false at_joined.if-x-y.false
+    (refused at_joined.joined.result (ap not c.if-joined.false) at_joined.joined.ensures) c.same_first.result c.same_first.ensures
 
-pub may-flip-spec : {M : Type 1} → statement M
-may-flip-spec =
+pub may_flip_spec : {M : Type 1} → statement M
+may_flip_spec =
     tie.close
     (tie.spec returns (λ c. search rules) (λ c. search rules) returns-2 (λ c. search rules) (λ c. search rules)
     (λ c κs. search rules) (λ c κs. search rules) opposite-requires-2 returns-3 (λ c κs. search rules) returns-4

@@ -4,13 +4,13 @@ use Rattle.flipping.specs.Entries.{lesser}
 use Rattle.flipping.proofs.stores.less.Statement.{statement}
 use Rattle.flipping.proofs.stores.less.Tie as tie
 
-returns : tie.Need-returns
+returns : tie.Need-returns-then-x-m
 unfolding lesser
-returns c = rw (lt-ltb _ _ c.if1.true)
+returns c = rw (lt-ltb _ _ c.if-x-m.true)
 
-returns-2 : tie.Need-returns-2
+returns-2 : tie.Need-returns
 unfolding lesser
-returns-2 c = rw (le-ltb _ _ c.if1.false)
+returns-2 c = rw (le-ltb _ _ c.if-x-m.false)
 
-pub less-spec : {M : Type 1} → statement M
-less-spec = tie.close (tie.spec returns returns-2)
+pub less_spec : {M : Type 1} → statement M
+less_spec = tie.close (tie.spec returns returns-2)

@@ -5,18 +5,18 @@ use Rattle.flipping.specs.Flip.{naming}
 use Rattle.flipping.proofs.stores.name_back.Statement.{statement}
 use Rattle.flipping.proofs.stores.name_back.Tie as tie
 
-returns : tie.Need-returns
+returns : tie.Need-returns-then-p-eq-EMPTY
 unfolding naming
-returns c = simp (eq-eqb _ _ c.if1.true)
+returns c = simp (eq-eqb _ _ c.if-p-eq-EMPTY.true)
 
-slice-write-halfedges : tie.Need-slice-write-halfedges
-slice-write-halfedges c = rw c.wide.ensures (c.before.before.before.requires c.before.if1.false)
+slice_write-halfedges : tie.Need-bounds-halfedges-wide
+slice_write-halfedges c = rw c.wide.ensures (c.requires c.if-p-eq-EMPTY.false)
 
-returns-2 : tie.Need-returns-2
+returns-2 : tie.Need-returns
 unfolding naming
-returns-2 c = simp (ne_eqb _ _ c.before.if1.false, c.wide.ensures)
+returns-2 c = simp (ne_eqb _ _ c.if-p-eq-EMPTY.false, c.wide.ensures)
 
-pub name-back-spec : {M : Type 1} → statement M
-name-back-spec =
+pub name_back_spec : {M : Type 1} → statement M
+name_back_spec =
     tie.close
-    (tie.spec returns (λ c κs. search rules) (λ c. search rules) slice-write-halfedges (λ c. search rules) returns-2)
+    (tie.spec returns (λ c κs. search rules) (λ c. search rules) slice_write-halfedges (λ c. search rules) returns-2)

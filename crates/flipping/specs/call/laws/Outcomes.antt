@@ -1,6 +1,6 @@
 -- How the promise comes about: refused by 1 or 2, by 7 to 10 or 23, or made.
 use Rattle.std.specs.Prelude.{◌≡◌, refl, Bool, List, [], ◌∷◌, ◌++◌, ◌≢◌, ℕ, ◌-◌, ◌*◌, ◌≤◌, ◌<◌, eqb, take, drop}
-use Rattle.std.proofs.Common.{sym, ap, ◌∙◌, subst, ⊎_elim, arith, length-append, take-append-drop, rules, eq-eqb, ne_eqb}
+use Rattle.std.proofs.Common.{sym, ap, ◌∙◌, subst, ⊎_elim, arith, length-append, take-append-drop, rules as by_rules, eq-eqb, ne_eqb}
 use Rattle.std.proofs.Math.Bool.{true, false}
 use Rattle.std.proofs.Math.ListN.{length, replicate}
 use Rattle.std.proofs.lemmas.List.{length-replicate}
@@ -42,10 +42,10 @@ table_first tri he sites w =
 -- ---- rules 1 and 2
 module _ (sites t e h tl wl : ℕ) where
   pub start_keep : {r : ℕ} → Finds (flip_start sites t e h tl wl) 0 r → r ≡ 0 → Keep (flip_start sites t e h tl wl)
-  start_keep x z = finds_keep (λ r. r ≡ 0) (search rules) z x
+  start_keep x z = finds_keep (λ r. r ≡ 0) (search by_rules) z x
 
   pub start_few : {r : ℕ} → Finds (flip_start sites t e h tl wl) 0 r → r ≤ refused_room
-  start_few x = finds_answers (λ r. r ≤ refused_room) (omega arith) (search rules) x
+  start_few x = finds_answers (λ r. r ≤ refused_room) (omega arith) (search by_rules) x
 
   pub no_counts : (Counted (2 * sites) t e h → ⊥) → Finds (flip_start sites t e h tl wl) 0 1
   no_counts n = breaks n
@@ -91,7 +91,7 @@ module _ (tri he hull table : List ℕ) (sites a : ℕ) (old : List ℕ) (c : Ch
 
     module _ (z : k ≡ 0) where
       kept : Keep (topology_rules tri he hull sites)
-      kept = finds_keep (λ g. number_of g ≡ 0) (search rules) (sym is ∙ z) x.verdict
+      kept = finds_keep (λ g. number_of g ≡ 0) (search by_rules) (sym is ∙ z) x.verdict
 
       top : Topology tri he hull sites
       top = keep_topology tri he hull sites c.threes c.same c.small kept
@@ -179,7 +179,7 @@ module _ (sites : ℕ) (hull : List ℕ) (a : ℕ) (old : FlipLists) where
 
       module _ (z : r ≡ 0) where
         rules : Keep (flip_late old.triangles old.halfedges hull old.table sites a)
-        rules = finds_keep (λ k. k ≡ 0) (search rules) z j.number
+        rules = finds_keep (λ k. k ≡ 0) (search by_rules) z j.number
 
         top_again : Topology old.triangles old.halfedges hull sites
         top_again =

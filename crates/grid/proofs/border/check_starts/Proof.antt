@@ -8,48 +8,48 @@ use Rattle.grid.specs.border.laws.Hulls.{RunBegun, begun_next, lone, second}
 use Rattle.grid.proofs.border.check_starts.Statement.{statement}
 use Rattle.grid.proofs.border.check_starts.Tie as tie
 
-abbrev invariant-loop : tie.invariant-loop
+abbrev invariant-loop : tie.invariant-loop-i
 invariant-loop grid hull starts₀ i₀ starts i =
     (i ≤ length hull) × (starts ≤ 1) × RunBegun (StartAt grid hull) i starts × ((k : ℕ) → k < i → LoneAt grid hull k)
 
-abbrev decreases-loop : tie.decreases-loop
+abbrev decreases-loop : tie.decreases-loop-i
 decreases-loop grid hull starts₀ i₀ starts i = length hull - i
 
-loop-holds : tie.Need-loop-init invariant-loop decreases-loop
+loop-holds : tie.Need-loop-i-init invariant-loop decreases-loop
 loop-holds c = (omega arith, omega arith, record { none = λ _ j l. absurd (omega arith); some = λ q. absurd (q (omega arith)) }, below_none _)
 
-start-at-requires : tie.Need-start-at-requires invariant-loop decreases-loop
-start-at-requires c κs = (c.before.before.before.requires, omega arith)
+start_at-requires : tie.Need-start_at-requires invariant-loop decreases-loop
+start_at-requires c κs = (c.requires, omega arith)
 
-counted-requires : tie.Need-counted-requires invariant-loop decreases-loop
-counted-requires c κs = c.before.before.loop.invariant.1
+counted-requires : tie.Need-counted-starts-requires invariant-loop decreases-loop
+counted-requires c κs = c.loop-i.invariant.1
 
-returns : tie.Need-returns invariant-loop decreases-loop
+returns : tie.Need-returns-then-starts-gt1 invariant-loop decreases-loop
 returns c =
-    let at_start = c.before.before in
-    let inv = at_start.before.before.loop.invariant in
+    let at_start = c in
+    let inv = at_start.loop-i.invariant in
     record {
       within = omega arith;
       before = inv.3;
-      at = λ _. second inv.2 at_start.start-at.result at_start.start-at.ensures inv.1 (rw c.before.counted.ensures at c.if1.true);
+      at = λ _. second inv.2 at_start.start_at.result at_start.start_at.ensures inv.1 (rw c.counted-starts.ensures at c.if-starts-gt1.true);
     }
 
-loop-again : tie.Need-loop-preserved invariant-loop decreases-loop
+loop-again : tie.Need-loop-i-preserved invariant-loop decreases-loop
 loop-again c =
-    let at_count = c.before in
-    let at_start = at_count.before in
-    let inv = at_start.before.before.loop.invariant in (
+    let at_count = c in
+    let at_start = at_count in
+    let inv = at_start.loop-i.invariant in (
       omega arith,
       omega arith,
-      rw at_count.counted.ensures (begun_next inv.2 at_start.start-at.result at_start.start-at.ensures),
+      rw at_count.counted-starts.ensures (begun_next inv.2 at_start.start_at.result at_start.start_at.ensures),
       below_more _ _ inv.3
-          (lone inv.2 at_start.start-at.result at_start.start-at.ensures (rw at_count.counted.ensures at c.if1.false)),
+          (lone inv.2 at_start.start_at.result at_start.start_at.ensures (rw at_count.counted-starts.ensures at c.if-starts-gt1.false)),
     )
 
-returns-2 : tie.Need-returns-2 invariant-loop decreases-loop
-returns-2 c = record { within = omega arith; before = c.before.loop.invariant.3; at = λ h. absurd (omega arith) }
+returns-2 : tie.Need-returns invariant-loop decreases-loop
+returns-2 c = record { within = omega arith; before = c.loop-i.invariant.3; at = λ h. absurd (omega arith) }
 
-pub check-starts-spec : {M : Type 1} → statement M
-check-starts-spec =
+pub check_starts_spec : {M : Type 1} → statement M
+check_starts_spec =
     tie.close
-    (tie.spec invariant-loop decreases-loop loop-holds start-at-requires counted-requires returns (λ c. omega arith) (λ c. omega arith) loop-again returns-2)
+    (tie.spec invariant-loop decreases-loop loop-holds start_at-requires counted-requires returns (λ c. omega arith) (λ c. omega arith) loop-again returns-2)

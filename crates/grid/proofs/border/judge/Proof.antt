@@ -6,19 +6,19 @@ use Rattle.base.specs.common.laws.Refusals.{offends, all_keep, nothing}
 use Rattle.grid.proofs.border.judge.Statement.{statement}
 use Rattle.grid.proofs.border.judge.Tie as tie
 
-returns : tie.Need-returns
-returns c = offends c.before.check-corners.ensures c.if1.true
+returns : tie.Need-returns-then-right-hull
+returns c = offends c.check_corners-right.ensures c.if-right-hull.true
 
-returns-2 : tie.Need-returns-2
-returns-2 c = all_keep (first_all c.before.before.before.check-corners.ensures c.before.before.if1.false) (offends c.before.check-starts.ensures c.if2.true)
+returns-2 : tie.Need-returns-then-second-hull
+returns-2 c = all_keep (first_all c.check_corners-right.ensures c.if-right-hull.false) (offends c.check_starts-second.ensures c.if-second-hull.true)
 
-returns-3 : tie.Need-returns-3
+returns-3 : tie.Need-returns
 returns-3 c =
-    all_keep (first_all c.before.before.before.check-corners.ensures c.before.before.if1.false)
-    (all_keep (first_all c.before.check-starts.ensures c.if2.false) nothing)
+    all_keep (first_all c.check_corners-right.ensures c.if-right-hull.false)
+    (all_keep (first_all c.check_starts-second.ensures c.if-second-hull.false) nothing)
 
-pub judge-spec : {M : Type 1} → statement M
-judge-spec =
+pub judge_spec : {M : Type 1} → statement M
+judge_spec =
     tie.close
-    (tie.spec (λ c κs. search rules) (λ c. omega (arith, c.before.before.before.requires.small)) returns (λ c κs. search rules)
-    (λ c. omega (arith, c.before.before.before.before.before.requires.small)) returns-2 returns-3)
+    (tie.spec (λ c κs. search rules) (λ c. omega (arith, c.requires.small)) returns (λ c κs. search rules)
+    (λ c. omega (arith, c.requires.small)) returns-2 returns-3)

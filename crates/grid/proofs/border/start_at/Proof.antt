@@ -6,9 +6,9 @@ use Rattle.grid.proofs.border.start_at.Tie as tie
 
 returns : tie.Need-returns
 returns c =
-    let at_before = c.before in
-    says_start at_before.up-between.result c.up-between2.result _ _
-    (rw (at_before.up-between.ensures, c.before.before.before.prior-place.ensures.0)) (rw (c.up-between2.ensures, c.before.before.next_place.ensures.0))
+    let at_before = c in
+    says_start at_before.up_between.result c.up_between-2.result _ _
+    (rw (at_before.up_between.ensures, c.prior_place-before.ensures.0)) (rw (c.up_between-2.ensures, c.next_place-after.ensures.0))
 
-pub start-at-spec : {M : Type 1} → statement M
-start-at-spec = tie.close (tie.spec (λ c κs. search rules) (λ c κs. search rules) (λ c κs. search rules) (λ c κs. search rules) returns)
+pub start_at_spec : {M : Type 1} → statement M
+start_at_spec = tie.close (tie.spec (λ c κs. search rules) (λ c κs. search rules) (λ c κs. search rules) (λ c κs. search rules) returns)

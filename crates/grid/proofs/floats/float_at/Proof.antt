@@ -8,13 +8,13 @@ use Rattle.grid.specs.floats.laws.Filled.{float_at, none_at}
 use Rattle.grid.proofs.floats.float_at.Statement.{statement}
 use Rattle.grid.proofs.floats.float_at.Tie as tie
 
-returns : tie.Need-returns
+returns : tie.Need-returns-then-i-grid
 returns c =
-    let x = c.before.coordinate in
-    ap as_float (to_z-of_z w32 x.result (sfits_of x.type-inv) ∙ x.ensures) ∙ float_at c.before.before.before.args.grid.now _ c.before.before.if1.true
+    let x = c.coordinate in
+    ap as_float (to_z-of_z w32 x.result (sfits_of x.type_inv) ∙ x.ensures) ∙ float_at c.args.grid.now _ c.if-i-grid.true
 
-returns-2 : tie.Need-returns-2
-returns-2 c = none_at c.before.args.grid.now _ c.if1.false
+returns-2 : tie.Need-returns
+returns-2 c = none_at c.args.grid.now _ c.if-i-grid.false
 
-pub float-at-spec : {M : Type 1} → statement M
-float-at-spec = tie.close (tie.spec (λ c κs. search rules) (λ c. search rules) returns returns-2)
+pub float_at_spec : {M : Type 1} → statement M
+float_at_spec = tie.close (tie.spec (λ c κs. search rules) (λ c. search rules) returns returns-2)

@@ -3,16 +3,16 @@ use borrow.Author.Rules.{rules}
 use Rattle.grid.proofs.nearest.of_grid.Statement.{statement}
 use Rattle.grid.proofs.nearest.of_grid.Tie as tie
 
-returns-2 : tie.Need-returns-2
-returns-2 c = rw c.before.a.given.1
+returns-2 : tie.Need-returns-in-Triangle
+returns-2 c = rw c.in-Triangle.is
 
-returns-3 : tie.Need-returns-3
-returns-3 c = rw c.before.a2.given.1
+returns-3 : tie.Need-returns-in-Halfedge
+returns-3 c = rw c.in-Halfedge.is
 
-returns-4 : tie.Need-returns-4
-returns-4 c = rw c.before.a3.given.1
+returns-4 : tie.Need-returns-in-Refused
+returns-4 c = rw c.in-Refused.is
 
-pub of-grid-spec : {M : Type 1} → statement M
-of-grid-spec =
+pub of_grid_spec : {M : Type 1} → statement M
+of_grid_spec =
     tie.close
     (tie.spec (λ c. search rules) (λ c. search rules) (λ c. search rules) (λ c. search rules) (λ c. search rules) returns-2 returns-3 returns-4)

@@ -5,18 +5,18 @@ use Rattle.grid.specs.scan.laws.Scannable.{pair_in}
 use Rattle.grid.proofs.scan.circle_at.Statement.{statement}
 use Rattle.grid.proofs.scan.circle_at.Tie as tie
 
-returns : tie.Need-returns
-returns c = λ n. absurd (n c.if1.true)
+returns : tie.Need-returns-then-p
+returns c = λ n. absurd (n c.if-p.true)
 
-far-inside-requires : tie.Need-far-inside-requires
-far-inside-requires c κs =
-    let start = c.before.before.before.before.before in
-    (start.requires.0.named, start.requires.1, rw c.wide.ensures (pair_in start.requires.0 _ start.requires.1 c.before.if1.false))
+far_inside-requires : tie.Need-far_inside-requires
+far_inside-requires c κs =
+    let start = c in
+    (start.requires.0.named, start.requires.1, rw c.wide.ensures (pair_in start.requires.0 _ start.requires.1 c.if-p.false))
 
-returns-2 : tie.Need-returns-2
+returns-2 : tie.Need-returns
 returns-2 c =
-    let w = c.before.wide.ensures in
-    says_outside c.far-inside.result _ c.before.before.if1.false (rw (c.far-inside.ensures, w))
+    let w = c.wide.ensures in
+    says_outside c.far_inside.result _ c.if-p.false (rw (c.far_inside.ensures, w))
 
-pub circle-at-spec : {M : Type 1} → statement M
-circle-at-spec = tie.close (tie.spec (λ c. search rules) (λ c. search rules) returns (λ c κs. search rules) far-inside-requires returns-2)
+pub circle_at_spec : {M : Type 1} → statement M
+circle_at_spec = tie.close (tie.spec (λ c. search rules) (λ c. search rules) returns (λ c κs. search rules) far_inside-requires returns-2)

@@ -2,7 +2,7 @@
 -- rule 7 leaves the work slice alone.
 use Rattle.std.specs.Prelude.{◌≡◌, List, ◌≢◌, ℕ, ◌≤◌, ◌<◌, length}
 use Rattle.std.proofs.Math.Path.{refl, sym, ap}
-use Rattle.std.proofs.Common.{◌∙◌, arith, rules, ne_eqb}
+use Rattle.std.proofs.Common.{◌∙◌, arith, rules as by_rules, ne_eqb}
 use Rattle.base.specs.common.Pick.{pick}
 use Rattle.base.specs.common.Decide.{First}
 use Rattle.base.specs.common.Refusals.{Rule, Keep, Finds, reads}
@@ -73,7 +73,7 @@ module _ (m : GridMesh) (old : List ℕ) where
 
         module _ (z : k ≡ 0) where
           hold : Keep rules
-          hold = finds_keep (λ b. number_of b ≡ 0) (search rules) (sym q ∙ z) t.verdict
+          hold = finds_keep (λ b. number_of b ≡ 0) (search by_rules) (sym q ∙ z) t.verdict
 
           pub ready : Scannable m.grid m.triangles m.halfedges
           ready = record {

@@ -7,90 +7,90 @@ use borrow.Author.Rules.{rules}
 use Rattle.mending.proofs.border.mend_hull.Statement.{statement}
 use Rattle.mending.proofs.border.mend_hull.Tie as tie
 
-abbrev Start : tie.After-trace-hull-arg2 → tie.Start
+abbrev Start : tie.After-trace_hull-arg-2-1 → tie.Start
 Start c = c.before.before.before.before.before.before
 
-abbrev Trace-hull : tie.After-number → tie.After-trace-hull
-Trace-hull c = c.before.before.before.before.before.before.before.before.before.before.before
+abbrev Trace-hull : tie.After-number → tie.After-trace_hull-count
+Trace-hull c = c.before.before.before.before.before.before.before.before.before.before
 
-slice-aggregate-trace-hull : tie.Need-slice-aggregate-trace-hull
-slice-aggregate-trace-hull c = sym (length-take-le _ _ c.before.before.before.before.before.requires.3)
+slice_aggregate-trace_hull : tie.Need-slice_bounds-trace_hull-end-2
+slice_aggregate-trace_hull c = sym (length-take-le _ _ c.requires.3)
 
-trace-hull-requires : tie.Need-trace-hull-requires
-trace-hull-requires c κs = (
+trace_hull-requires : tie.Need-trace_hull-count-requires
+trace_hull-requires c κs = (
   rw (length-take-le _ _ (Start c).requires.3) (Start c).requires.0,
   (Start c).requires.1,
   rw (length-take-le _ _ (Start c).requires.3) (Start c).requires.2,
   rw (length-take-le _ _ (Start c).requires.3) (Start c).requires.4,
 )
 
-same_length : tie.Need-same-length
+same_length : tie.Need-shape_of-work-then-count-lt3
 same_length c =
-    let at-trace-hull = c.before.before.before.before.before in
-    length_front (Start at-trace-hull.before).args.work.now at-trace-hull.trace-hull.new.1.1.1.0 (Start at-trace-hull.before).args.sites
-    at-trace-hull.trace-hull.auto.1.1.1.0
+    let at-trace-hull = c in
+    length_front (Start at-trace-hull.before.before.before.before.before.before).args.work.now at-trace-hull.trace_hull-count.new.work (Start at-trace-hull.before.before.before.before.before.before).args.sites
+    at-trace-hull.trace_hull-count.auto.work
 
-same-length-2 : tie.Need-same-length-2
-same-length-2 c = c.before.before.before.before.before.trace-hull.auto.1.1.1.1.0
+same_length-2 : tie.Need-shape_of-mended-then-count-lt3
+same_length-2 c = c.trace_hull-count.auto.mended
 
-returns : tie.Need-returns
+returns : tie.Need-returns-then-count-lt3
 returns c =
-    let at-trace-hull = c.before.before.before.before.before in
-    let at_start = Start at-trace-hull.before in
-    traced_short _ _ _ _ at_start.pre.0 at_start.pre.1 at_start.pre.2 _ _ _ _ _ _ (length-take-le _ _ at_start.pre.3) at-trace-hull.trace-hull.ensures.0 at-trace-hull.trace-hull.ensures.1 c.if1.true
+    let at-trace-hull = c in
+    let at_start = Start at-trace-hull.before.before.before.before.before.before in
+    traced_short _ _ _ _ at_start.requires.0 at_start.requires.1 at_start.requires.2 _ _ _ _ _ _ (length-take-le _ _ at_start.requires.3) at-trace-hull.trace_hull-count.ensures.0 at-trace-hull.trace_hull-count.ensures.1 c.if-count-lt3.true
 
-slice-reshare-prefix-check-border : tie.Need-slice-reshare-prefix-check-border
-slice-reshare-prefix-check-border c =
-    let at-trace-hull = c.before.before.before.before.before in
-    let at_start = Start at-trace-hull.before in
-    let r = hull_room _ _ _ _ at_start.pre.0 at_start.pre.1 at_start.pre.2 at_start.args.work.now at_start.args.work.now _ _ _
-    _ (length-take-le _ _ at_start.pre.3) at-trace-hull.trace-hull.ensures.0 at-trace-hull.trace-hull.ensures.1 at_start.pre.4 in
-    omega (arith, at-trace-hull.trace-hull.auto.1.1.1.1.0)
+slice_reshare_prefix-check_border : tie.Need-slice_bounds-check_border-end
+slice_reshare_prefix-check_border c =
+    let at-trace-hull = c in
+    let at_start = Start at-trace-hull.before.before.before.before.before.before in
+    let r = hull_room _ _ _ _ at_start.requires.0 at_start.requires.1 at_start.requires.2 at_start.args.work.now at_start.args.work.now _ _ _
+    _ (length-take-le _ _ at_start.requires.3) at-trace-hull.trace_hull-count.ensures.0 at-trace-hull.trace_hull-count.ensures.1 at_start.requires.4 in
+    omega (arith, at-trace-hull.trace_hull-count.auto.mended)
 
-slice-aggregate-check-border : tie.Need-slice-aggregate-check-border
-slice-aggregate-check-border c =
-    let at-trace-hull = c.before.before.before.before.before.before in
-    let at_start = Start at-trace-hull.before in
-    let r = hull_room _ _ _ _ at_start.pre.0 at_start.pre.1 at_start.pre.2 at_start.args.work.now at_start.args.work.now _ _ _
-    _ (length-take-le _ _ at_start.pre.3) at-trace-hull.trace-hull.ensures.0 at-trace-hull.trace-hull.ensures.1 at_start.pre.4 in
-    sym (length-take-le _ _ (omega (arith, at-trace-hull.trace-hull.auto.1.1.1.1.0)))
+slice_aggregate-check_border : tie.Need-slice_bounds-check_border-end-2
+slice_aggregate-check_border c =
+    let at-trace-hull = c in
+    let at_start = Start at-trace-hull.before.before.before.before.before.before in
+    let r = hull_room _ _ _ _ at_start.requires.0 at_start.requires.1 at_start.requires.2 at_start.args.work.now at_start.args.work.now _ _ _
+    _ (length-take-le _ _ at_start.requires.3) at-trace-hull.trace_hull-count.ensures.0 at-trace-hull.trace_hull-count.ensures.1 at_start.requires.4 in
+    sym (length-take-le _ _ (omega (arith, at-trace-hull.trace_hull-count.auto.mended)))
 
-check-border-requires : tie.Need-check-border-requires
-check-border-requires c κs =
-    let at-trace-hull = c.before.before.before.before.before.before.before in
-    let at_start = Start at-trace-hull.before in
-    let k = few_on _ _ _ _ at_start.pre.0 at_start.pre.1 at_start.pre.2 at_start.args.work.now at_start.args.work.now _ _ _ _
-    (length-take-le _ _ at_start.pre.3) at-trace-hull.trace-hull.ensures.0 at-trace-hull.trace-hull.ensures.1 in
-    let r = hull_room _ _ _ _ at_start.pre.0 at_start.pre.1 at_start.pre.2 at_start.args.work.now at_start.args.work.now _ _ _
-    _ (length-take-le _ _ at_start.pre.3) at-trace-hull.trace-hull.ensures.0 at-trace-hull.trace-hull.ensures.1 at_start.pre.4 in (
-      at_start.pre.0.threes,
-      at_start.pre.1,
-      at_start.pre.0.small,
-      rw (length-take-le at-trace-hull.trace-hull.result at-trace-hull.trace-hull.new.1.1.1.1.0 (omega (arith, at-trace-hull.trace-hull.auto.1.1.1.1.0))) (omega (arith, at_start.pre.2)),
-      rw (length_front at_start.args.work.now at-trace-hull.trace-hull.new.1.1.1.0 at_start.args.sites at-trace-hull.trace-hull.auto.1.1.1.0) at_start.pre.3,
-      at_start.pre.5,
-      at_start.pre.6,
+check_border-requires : tie.Need-check_border-fault-requires
+check_border-requires c κs =
+    let at-trace-hull = c in
+    let at_start = Start at-trace-hull.before.before.before.before.before.before.before in
+    let k = few_on _ _ _ _ at_start.requires.0 at_start.requires.1 at_start.requires.2 at_start.args.work.now at_start.args.work.now _ _ _ _
+    (length-take-le _ _ at_start.requires.3) at-trace-hull.trace_hull-count.ensures.0 at-trace-hull.trace_hull-count.ensures.1 in
+    let r = hull_room _ _ _ _ at_start.requires.0 at_start.requires.1 at_start.requires.2 at_start.args.work.now at_start.args.work.now _ _ _
+    _ (length-take-le _ _ at_start.requires.3) at-trace-hull.trace_hull-count.ensures.0 at-trace-hull.trace_hull-count.ensures.1 at_start.requires.4 in (
+      at_start.requires.0.threes,
+      at_start.requires.1,
+      at_start.requires.0.small,
+      rw (length-take-le at-trace-hull.trace_hull-count.result at-trace-hull.trace_hull-count.new.mended (omega (arith, at-trace-hull.trace_hull-count.auto.mended))) (omega (arith, at_start.requires.2)),
+      rw (length_front at_start.args.work.now at-trace-hull.trace_hull-count.new.work at_start.args.sites at-trace-hull.trace_hull-count.auto.work) at_start.requires.3,
+      at_start.requires.5,
+      at_start.requires.6,
     )
 
-same-length-3 : tie.Need-same-length-3
-same-length-3 c =
-    c.before.before.before.check-border.auto.1.1.1.1.0 ∙ length_front (Start (Trace-hull c).before).args.work.now (Trace-hull c).trace-hull.new.1.1.1.0
-    (Start (Trace-hull c).before).args.sites (Trace-hull c).trace-hull.auto.1.1.1.0
+same_length-3 : tie.Need-shape_of-work
+same_length-3 c =
+    c.check_border-fault.auto.work ∙ length_front (Start (Trace-hull c).before).args.work.now (Trace-hull c).trace_hull-count.new.work
+    (Start (Trace-hull c).before).args.sites (Trace-hull c).trace_hull-count.auto.work
 
-same-length-4 : tie.Need-same-length-4
-same-length-4 c = (Trace-hull c).trace-hull.auto.1.1.1.1.0
+same_length-4 : tie.Need-shape_of-mended
+same_length-4 c = (Trace-hull c).trace_hull-count.auto.mended
 
-returns-2 : tie.Need-returns-2
+returns-2 : tie.Need-returns
 returns-2 c =
-    let at-check-border = c.before.before.before in
+    let at-check-border = c in
     let at_start = Start (Trace-hull c).before in
-    traced_checked _ _ _ _ at_start.pre.0 at_start.pre.1 at_start.pre.2 _ _ _ _ _ _ (length-take-le _ _ at_start.pre.3)
-    (Trace-hull c).trace-hull.ensures.0 (Trace-hull c).trace-hull.ensures.1 at-check-border.before.before.before.if1.false at_start.pre.4 _
-    (length_front at_start.args.work.now (Trace-hull c).trace-hull.new.1.1.1.0 at_start.args.sites (Trace-hull c).trace-hull.auto.1.1.1.0) _ at-check-border.check-border.ensures _ c.number.ensures
+    traced_checked _ _ _ _ at_start.requires.0 at_start.requires.1 at_start.requires.2 _ _ _ _ _ _ (length-take-le _ _ at_start.requires.3)
+    (Trace-hull c).trace_hull-count.ensures.0 (Trace-hull c).trace_hull-count.ensures.1 at-check-border.if-count-lt3.false at_start.requires.4 _
+    (length_front at_start.args.work.now (Trace-hull c).trace_hull-count.new.work at_start.args.sites (Trace-hull c).trace_hull-count.auto.work) _ at-check-border.check_border-fault.ensures _ c.number.ensures
 
-pub mend-hull-spec : {M : Type 1} → statement M
-mend-hull-spec =
+pub mend_hull_spec : {M : Type 1} → statement M
+mend_hull_spec =
     tie.close
-    (tie.spec (λ c. search rules) slice-aggregate-trace-hull trace-hull-requires same_length same-length-2
-    returns slice-reshare-prefix-check-border slice-aggregate-check-border check-border-requires
-    (λ c κs. search rules) same-length-3 same-length-4 returns-2)
+    (tie.spec (λ c. search rules) slice_aggregate-trace_hull trace_hull-requires same_length same_length-2
+    returns slice_reshare_prefix-check_border slice_aggregate-check_border check_border-requires
+    (λ c κs. search rules) same_length-3 same_length-4 returns-2)

@@ -4,19 +4,19 @@ use Rattle.mending.specs.border.Loop.{sooner_of}
 use Rattle.mending.proofs.border.sooner.Statement.{statement}
 use Rattle.mending.proofs.border.sooner.Tie as tie
 
-returns : tie.Need-returns
+returns : tie.Need-returns-then-found-ne-EMPTY
 unfolding sooner_of
-returns c = simp (ne_eqb _ _ c.if1.true)
+returns c = simp (ne_eqb _ _ c.if-found-ne-EMPTY.true)
 
-returns-2 : tie.Need-returns-2
+returns-2 : tie.Need-returns-then-next-eq-EMPTY
 unfolding sooner_of
-returns-2 c = simp (eq-eqb _ _ c.before.if1.false, eq-eqb _ _ c.if2.true)
+returns-2 c = simp (eq-eqb _ _ c.if-found-ne-EMPTY.false, eq-eqb _ _ c.if-next-eq-EMPTY.true)
 
-returns-3 : tie.Need-returns-3
+returns-3 : tie.Need-returns
 unfolding sooner_of
-returns-3 c = simp (eq-eqb _ _ c.before.if1.false, ne_eqb _ _ c.if2.false)
+returns-3 c = simp (eq-eqb _ _ c.if-found-ne-EMPTY.false, ne_eqb _ _ c.if-next-eq-EMPTY.false)
 
-pub sooner-spec : {M : Type 1} → statement M
-sooner-spec =
+pub sooner_spec : {M : Type 1} → statement M
+sooner_spec =
     tie.close
     (tie.spec returns returns-2 returns-3)

@@ -5,11 +5,11 @@ use borrow.Author.Rules.{rules}
 use Rattle.mending.proofs.border.step.Statement.{statement}
 use Rattle.mending.proofs.border.step.Tie as tie
 
-returns : tie.Need-returns
-returns c = sym (step_closed _ _ _ c.if1.true)
+returns : tie.Need-returns-then-next-begin
+returns c = sym (step_closed _ _ _ c.if-next-begin.true)
 
-returns-2 : tie.Need-returns-2
-returns-2 c = sym (step_open _ _ _ c.if1.false)
+returns-2 : tie.Need-returns
+returns-2 c = sym (step_open _ _ _ c.if-next-begin.false)
 
 pub step_spec : {M : Type 1} → statement M
 step_spec =

@@ -7,11 +7,11 @@ use borrow.Author.Rules.{rules}
 use Rattle.mending.proofs.changes.entry.Statement.{statement}
 use Rattle.mending.proofs.changes.entry.Tie as tie
 
-returns : tie.Need-returns
-returns c = sym (get_or-eq_default c.before.args.list.now EMPTY c.if1.true)
+returns : tie.Need-returns-then-list-i
+returns c = sym (get_or-eq_default c.args.list.now EMPTY c.if-list-i.true)
 
-returns-2 : tie.Need-returns-2
-returns-2 c = entry_any c.before.before.args.list.now c.before.before.args.i c.before.if1.false
+returns-2 : tie.Need-returns
+returns-2 c = entry_any c.args.list.now c.args.i c.if-list-i.false
 
 pub entry_spec : {M : Type 1} → statement M
 entry_spec =

@@ -7,34 +7,34 @@ use borrow.Author.Rules.{rules}
 use Rattle.mending.proofs.changes.list_changes.Statement.{statement}
 use Rattle.mending.proofs.changes.list_changes.Tie as tie
 
-abbrev invariant-loop : tie.invariant-loop
+abbrev invariant-loop : tie.invariant-loop-i
 invariant-loop old new changes₀ from end n₀ i₀ changes n i = Listing old new changes₀ changes from n i
 
-abbrev decreases-loop : tie.decreases-loop
+abbrev decreases-loop : tie.decreases-loop-i
 decreases-loop old new changes₀ from end n₀ i₀ changes n i = end - i
 
-loop-holds : tie.Need-loop-init invariant-loop decreases-loop
+loop-holds : tie.Need-loop-i-init invariant-loop decreases-loop
 loop-holds c = listing_start _ _ _ _
 
-put-change-requires : tie.Need-put-change-requires invariant-loop decreases-loop
-put-change-requires c κs =
-    let at-longest = c.before.before.before in
-    let at_start = at-longest.before.before.before.before in
-    (omega (arith, at-longest.longest.ensures), omega (arith, at_start.requires.0), omega (arith, at_start.requires.1, c.before.before.loop.invariant.few, at-longest.longest.ensures))
+put_change-requires : tie.Need-put_change-n-requires invariant-loop decreases-loop
+put_change-requires c κs =
+    let at-longest = c in
+    let at_start = at-longest in
+    (omega (arith, at-longest.longest-end.ensures), omega (arith, at_start.requires.0), omega (arith, at_start.requires.1, c.loop-i.invariant.few, at-longest.longest-end.ensures))
 
-loop-again : tie.Need-loop-preserved invariant-loop decreases-loop
+loop-again : tie.Need-loop-i-preserved invariant-loop decreases-loop
 loop-again c =
-    let at-loop = c.before.before.before.before.before in
-    listing_step _ _ _ _ _ _ _ at-loop.loop.invariant _ _ (omega (arith, at-loop.before.longest.ensures)) c.before.before.put-change.auto.1.1.1.0 c.before.before.put-change.ensures.0 c.before.before.put-change.ensures.1
+    let at-loop = c in
+    listing_step _ _ _ _ _ _ _ at-loop.loop-i.invariant _ _ (omega (arith, at-loop.longest-end.ensures)) c.put_change-n.auto.changes c.put_change-n.ensures.0 c.put_change-n.ensures.1
 
-same_length : tie.Need-same-length invariant-loop decreases-loop
-same_length c = c.before.loop.invariant.long
+same_length : tie.Need-shape_of-changes invariant-loop decreases-loop
+same_length c = c.loop-i.invariant.long
 
 returns : tie.Need-returns invariant-loop decreases-loop
-returns c = listing_done _ _ _ _ _ _ _ c.before.loop.invariant _ refl (omega (arith, c.before.before.longest.ensures))
+returns c = listing_done _ _ _ _ _ _ _ c.loop-i.invariant _ refl (omega (arith, c.longest-end.ensures))
 
-pub list-changes-spec : {M : Type 1} → statement M
-list-changes-spec =
+pub list_changes_spec : {M : Type 1} → statement M
+list_changes_spec =
     tie.close
-    (tie.spec invariant-loop decreases-loop (λ c κs. search rules) loop-holds put-change-requires (λ c. search rules)
+    (tie.spec invariant-loop decreases-loop (λ c κs. search rules) loop-holds put_change-requires (λ c. search rules)
     (λ c. search rules) loop-again (λ c. search rules) same_length returns)

@@ -7,22 +7,22 @@ use borrow.Author.Rules.{rules}
 use Rattle.mending.proofs.changes.put_change.Statement.{statement}
 use Rattle.mending.proofs.changes.put_change.Tie as tie
 
-returns : tie.Need-returns
-returns c = same_put _ _ _ _ _ (sym c.before.same_at.ensures ∙ c.if1.true)
+returns : tie.Need-returns-then-same_at
+returns c = same_put _ _ _ _ _ (sym c.same_at.ensures ∙ c.if-same_at.true)
 
-slice-write-changes-2 : tie.Need-slice-write-changes-2
-slice-write-changes-2 c = simp length-set (omega (arith, c.before.before.before.before.before.before.requires.2))
+slice_write-changes-2 : tie.Need-bounds-changes-at-2
+slice_write-changes-2 c = simp length-set (omega (arith, c.requires.2))
 
-slice-write-changes-3 : tie.Need-slice-write-changes-3
-slice-write-changes-3 c = simp length-set (omega (arith, c.before.before.before.before.before.before.before.requires.2))
+slice_write-changes-3 : tie.Need-bounds-changes-at-3
+slice_write-changes-3 c = simp length-set (omega (arith, c.requires.2))
 
-returns-2 : tie.Need-returns-2
-returns-2 c = other_put _ _ _ _ _ _ _ (sym c.before.before.before.same_at.ensures ∙ c.before.before.if1.false) c.before.entry.ensures c.entry2.ensures
+returns-2 : tie.Need-returns
+returns-2 c = other_put _ _ _ _ _ _ _ (sym c.same_at.ensures ∙ c.if-same_at.false) c.entry.ensures c.entry-2.ensures
 
-pub put-change-spec : {M : Type 1} → statement M
-put-change-spec =
+pub put_change_spec : {M : Type 1} → statement M
+put_change_spec =
     tie.close
     (tie.spec (λ c κs. search rules) returns (λ c. search rules) (λ c. search rules) (λ c. search rules)
-    (λ c. search rules) (λ c κs. search rules) (λ c. search rules) (λ c. search rules) slice-write-changes-2
-    (λ c κs. search rules) (λ c. search rules) (λ c. search rules) slice-write-changes-3 (λ c. search rules)
+    (λ c. search rules) (λ c κs. search rules) (λ c. search rules) (λ c. search rules) slice_write-changes-2
+    (λ c κs. search rules) (λ c. search rules) (λ c. search rules) slice_write-changes-3 (λ c. search rules)
     (λ c. search rules) returns-2)

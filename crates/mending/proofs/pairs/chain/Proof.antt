@@ -9,85 +9,85 @@ use borrow.Author.Rules.{rules}
 use Rattle.mending.proofs.pairs.chain.Statement.{statement}
 use Rattle.mending.proofs.pairs.chain.Tie as tie
 
-abbrev invariant-loop : tie.invariant-loop
+abbrev invariant-loop : tie.invariant-loop-e
 invariant-loop triangles heads₀ links₀ e₀ heads links e = Chaining triangles heads links (length heads₀) (length links₀) e
 
-abbrev decreases-loop : tie.decreases-loop
+abbrev decreases-loop : tie.decreases-loop-e
 decreases-loop triangles heads₀ links₀ e₀ heads links e = length triangles - e
 
-abbrev Loop : tie.After-slice-known4 invariant-loop decreases-loop → tie.At-loop invariant-loop decreases-loop
-Loop c = c.before.before.before.before
+abbrev Loop : tie.After-wide-s invariant-loop decreases-loop → tie.At-loop-e invariant-loop decreases-loop
+Loop c = c.before.before.before
 
-abbrev Start : tie.After-slice-known4 invariant-loop decreases-loop → tie.Start invariant-loop decreases-loop
+abbrev Start : tie.After-wide-s invariant-loop decreases-loop → tie.Start invariant-loop decreases-loop
 Start c = (Loop c).before.before.before.before.before.before.before.before
 
-loop-holds : tie.Need-loop-init invariant-loop decreases-loop
-loop-holds c = chaining_start _ _ _ _ refl (c.before.before.clear.ensures ∙ ap (λ n. replicate n EMPTY) (sym c.before.before.clear.auto.0))
+loop-holds : tie.Need-loop-e-init invariant-loop decreases-loop
+loop-holds c = chaining_start _ _ _ _ refl (c.clear.ensures ∙ ap (λ n. replicate n EMPTY) (sym c.clear.auto.work))
 
-mul-links : tie.Need-overflow-mul-links invariant-loop decreases-loop
+mul-links : tie.Need-offset_bounds-heads-s invariant-loop decreases-loop
 mul-links c =
-    let at-loop = c.before.before.before in
-    let at_clear = at-loop.before.before.before in
-    let at_start = at_clear.before.before.before.before.before in
+    let at-loop = c in
+    let at_clear = at-loop in
+    let at_start = at_clear in
     record {
       fits = omega (
         arith,
-        chaining_in _ _ _ _ _ _ _ at-loop.loop.invariant c.before.before.loop-test.true at_start.requires.1 c.wide.ensures (rw at_clear.clear.auto.0 at_start.requires.0),
+        chaining_in _ _ _ _ _ _ _ at-loop.loop-e.invariant c.loop-e-test.true at_start.requires.1 c.wide-s.ensures (rw at_clear.clear.auto.work at_start.requires.0),
       );
     }
 
-slice-read-links : tie.Need-slice-read-links invariant-loop decreases-loop
-slice-read-links c =
+slice_read-links : tie.Need-bounds-heads-s invariant-loop decreases-loop
+slice_read-links c =
     omega (
       arith,
-      chaining_in _ _ _ _ _ _ _ (Loop c).loop.invariant c.before.before.before.loop-test.true (Start c).requires.1 c.before.wide.ensures (rw
-          (Loop c).before.before.before.clear.auto.0 (Start c).requires.0),
+      chaining_in _ _ _ _ _ _ _ (Loop c.before).loop-e.invariant c.loop-e-test.true (Start c.before).requires.1 c.wide-s.ensures (rw
+          (Loop c.before).clear.auto.work (Start c.before).requires.0),
     )
 
-mul-links-2 : tie.Need-overflow-mul-links-2 invariant-loop decreases-loop
+mul-links-2 : tie.Need-offset_bounds-links-e invariant-loop decreases-loop
 mul-links-2 c =
-    record { fits = omega (arith, (Start c).requires.1, (Loop c).loop.invariant.long) }
+    record { fits = omega (arith, (Start c.before).requires.1, (Loop c.before).loop-e.invariant.long) }
 
-slice-write-links : tie.Need-slice-write-links invariant-loop decreases-loop
-slice-write-links c =
-    omega (arith, (Start c).requires.1, (Loop c).loop.invariant.long)
+slice_write-links : tie.Need-bounds-links-e invariant-loop decreases-loop
+slice_write-links c =
+    omega (arith, (Start c.before).requires.1, (Loop c.before).loop-e.invariant.long)
 
-cast-heads : tie.Need-overflow-cast-heads invariant-loop decreases-loop
-cast-heads c = omega (arith, (Start c).requires.0.small)
+cast-heads : tie.Need-overflow_cast-heads invariant-loop decreases-loop
+cast-heads c = omega (arith, (Start c.before).requires.0.small)
 
-mul-heads : tie.Need-overflow-mul-heads invariant-loop decreases-loop
+mul-heads : tie.Need-offset_bounds-heads-s-in-loop-e invariant-loop decreases-loop
 mul-heads c =
     record {
       fits = omega (
         arith,
-        chaining_in _ _ _ _ _ _ _ (Loop c).loop.invariant c.before.before.before.loop-test.true (Start c).requires.1 c.before.wide.ensures (rw (Loop c).before.before.before.clear.auto.0 (Start c).requires.0),
+        chaining_in _ _ _ _ _ _ _ (Loop c.before).loop-e.invariant c.loop-e-test.true (Start c.before).requires.1 c.wide-s.ensures (rw (Loop c.before).clear.auto.work (Start c.before).requires.0),
       );
     }
 
-slice-write-heads : tie.Need-slice-write-heads invariant-loop decreases-loop
-slice-write-heads c =
+slice_write-heads : tie.Need-bounds-heads-s-in-loop-e invariant-loop decreases-loop
+slice_write-heads c =
     omega (
       arith,
-      chaining_in _ _ _ _ _ _ _ (Loop c).loop.invariant c.before.before.before.loop-test.true (Start c).requires.1 c.before.wide.ensures (rw
-          (Loop c).before.before.before.clear.auto.0 (Start c).requires.0),
+      chaining_in _ _ _ _ _ _ _ (Loop c.before).loop-e.invariant c.loop-e-test.true (Start c.before).requires.1 c.wide-s.ensures (rw
+          (Loop c.before).clear.auto.work (Start c.before).requires.0),
     )
 
-loop-again : tie.Need-loop-preserved invariant-loop decreases-loop
+loop-again : tie.Need-loop-e-preserved invariant-loop decreases-loop
 loop-again c =
-    chaining_step _ _ _ _ _ _ _ (Loop c).loop.invariant c.before.before.before.loop-test.true (Start c).requires.1 c.before.wide.ensures (rw (Loop c).before.before.before.clear.auto.0 (Start c).requires.0)
+    chaining_step _ _ _ _ _ _ _ (Loop c.before).loop-e.invariant c.loop-e-test.true (Start c.before).requires.1 c.wide-s.ensures (rw (Loop c.before).clear.auto.work (Start c.before).requires.0)
 
-same_length : tie.Need-same-length invariant-loop decreases-loop
-same_length c = c.before.loop.invariant.wide ∙ c.before.before.before.before.clear.auto.0
+same_length : tie.Need-shape_of-heads invariant-loop decreases-loop
+same_length c = c.loop-e.invariant.wide ∙ c.clear.auto.work
 
-same-length-2 : tie.Need-same-length-2 invariant-loop decreases-loop
-same-length-2 c = c.before.loop.invariant.long
+same_length-2 : tie.Need-shape_of-links invariant-loop decreases-loop
+same_length-2 c = c.loop-e.invariant.long
 
 returns : tie.Need-returns invariant-loop decreases-loop
-returns c = chaining_done _ _ _ _ _ _ c.before.loop.invariant c.loop-test.false
+returns c = chaining_done _ _ _ _ _ _ c.loop-e.invariant c.loop-e-test.false
 
-pub chain-spec : {M : Type 1} → statement M
-chain-spec =
+pub chain_spec : {M : Type 1} → statement M
+chain_spec =
     tie.close
     (tie.spec invariant-loop decreases-loop (λ c κs. search rules) loop-holds (λ c. search rules) (λ c. search rules)
-    (λ c κs. search rules) mul-links slice-read-links mul-links-2 slice-write-links cast-heads mul-heads
-    slice-write-heads (λ c. search rules) (λ c. search rules) loop-again same_length same-length-2 returns)
+    (λ c κs. search rules) mul-links slice_read-links mul-links-2 slice_write-links cast-heads mul-heads
+    slice_write-heads (λ c. search rules) (λ c. search rules) loop-again same_length same_length-2 returns)

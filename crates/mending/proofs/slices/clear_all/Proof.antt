@@ -5,12 +5,12 @@ use Rattle.mending.proofs.slices.clear_all.Tie as tie
 
 returns : tie.Need-returns
 returns c =
-    let at-clear3 = c.before.before.before.before.before.before in
-    let at-clear2 = at-clear3.before.before.before.before in
-    record { work = at-clear2.before.before.before.before.clear.ensures; pairs = at-clear2.clear2.ensures; mended = at-clear3.clear3.ensures; changes = c.before.before.clear4.ensures }
+    let at-clear3 = c in
+    let at-clear2 = at-clear3 in
+    record { work = at-clear2.clear.ensures; pairs = at-clear2.clear-2.ensures; mended = at-clear3.clear-3.ensures; changes = c.clear-4.ensures }
 
-pub clear-all-spec : {M : Type 1} → statement M
-clear-all-spec =
+pub clear_all_spec : {M : Type 1} → statement M
+clear_all_spec =
     tie.close
     (tie.spec (λ c κs. search rules) (λ c κs. search rules) (λ c κs. search rules) (λ c κs. search rules)
     (λ c. search rules) (λ c. search rules) (λ c. search rules) (λ c. search rules) returns)

@@ -7,29 +7,29 @@ use borrow.Author.Rules.{rules}
 use Rattle.mending.proofs.slices.list_both.Statement.{statement}
 use Rattle.mending.proofs.slices.list_both.Tie as tie
 
-abbrev Start : tie.After-list-changes-arg → tie.Start
+abbrev Start : tie.After-list_changes-arg-1 → tie.Start
 Start c = c.before.before.before.before.before.before.before.before.before.before
 
-list-changes-requires : tie.Need-list-changes-requires
-list-changes-requires c κs =
-    ((Start c).requires.0, omega (arith, (Start c).requires.2, c.before.before.before.clear.auto.0))
+list_changes-requires : tie.Need-list_changes-first-requires
+list_changes-requires c κs =
+    ((Start c).requires.0, omega (arith, (Start c).requires.2, c.clear.auto.work))
 
-list-changes-requires-2 : tie.Need-list-changes-requires-2
-list-changes-requires-2 c κs =
-    let at-list-changes = c.before.before.before in
-    let at_start = Start at-list-changes.before in
+list_changes-requires-2 : tie.Need-list_changes-then-requires
+list_changes-requires-2 c κs =
+    let at-list-changes = c in
+    let at_start = Start at-list-changes.before.before.before.before in
     let f = changes_few at_start.args.old.now at_start.args.new.now (longer at_start.args.old.now at_start.args.new.now) in (
-      at_start.pre.1,
-      omega (arith, at_start.pre.2, at-list-changes.before.before.before.before.clear.auto.0, at-list-changes.list-changes.auto.1.1.0, at-list-changes.list-changes.ensures.0),
+      at_start.requires.1,
+      omega (arith, at_start.requires.2, at-list-changes.clear.auto.work, at-list-changes.list_changes-first.auto.changes, at-list-changes.list_changes-first.ensures.0),
     )
 
 returns : tie.Need-returns
 returns c =
-    let at-list-changes = c.before.before.before.before.before.before in
-    let at_clear = at-list-changes.before.before.before.before in
-    listed _ _ _ _ _ _ _ _ _ _ at_clear.clear.ensures at_clear.clear.auto.0 (Start at-list-changes.before).requires.2 at-list-changes.list-changes.ensures c.before.before.list-changes2.ensures
+    let at-list-changes = c in
+    let at_clear = at-list-changes in
+    listed _ _ _ _ _ _ _ _ _ _ at_clear.clear.ensures at_clear.clear.auto.work (Start at-list-changes.before.before.before.before.before.before.before).requires.2 at-list-changes.list_changes-first.ensures c.list_changes-then.ensures
 
-pub list-both-spec : {M : Type 1} → statement M
-list-both-spec =
+pub list_both_spec : {M : Type 1} → statement M
+list_both_spec =
     tie.close
-    (tie.spec (λ c κs. search rules) list-changes-requires list-changes-requires-2 (λ c. search rules) returns)
+    (tie.spec (λ c κs. search rules) list_changes-requires list_changes-requires-2 (λ c. search rules) returns)

@@ -3,11 +3,11 @@ use Rattle.queries.specs.all_neighbours.laws.Lent.{some_offsets, no_offsets}
 use Rattle.queries.proofs.all_neighbours.nothing_lent.Statement.{statement}
 use Rattle.queries.proofs.all_neighbours.nothing_lent.Tie as tie
 
-returns : tie.Need-returns
-returns c = some_offsets c.before.args.offsets c.before.args.indexes c.if1.true
+returns : tie.Need-returns-then-offsets-ne0
+returns c = some_offsets c.args.offsets c.args.indexes c.if-offsets-ne0.true
 
-returns-2 : tie.Need-returns-2
-returns-2 c = no_offsets c.before.args.offsets c.before.args.indexes c.if1.false
+returns-2 : tie.Need-returns
+returns-2 c = no_offsets c.args.offsets c.args.indexes c.if-offsets-ne0.false
 
-pub nothing-lent-spec : {M : Type 1} → statement M
-nothing-lent-spec = tie.close (tie.spec returns returns-2)
+pub nothing_lent_spec : {M : Type 1} → statement M
+nothing_lent_spec = tie.close (tie.spec returns returns-2)

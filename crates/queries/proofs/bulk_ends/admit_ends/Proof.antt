@@ -5,32 +5,32 @@ use Rattle.queries.specs.bulk_ends.laws.Answers.{room_table, odd_points, ends_le
 use Rattle.queries.proofs.bulk_ends.admit_ends.Statement.{statement}
 use Rattle.queries.proofs.bulk_ends.admit_ends.Tie as tie
 
-returns : tie.Need-returns
-returns c = odd_points _ _ _ _ _ c.if1.true
+returns : tie.Need-returns-then-points-ne0
+returns c = odd_points _ _ _ _ _ c.if-points-ne0.true
 
-admit-requires : tie.Need-admit-requires
+admit-requires : tie.Need-admit-number-requires
 admit-requires c κs =
-    ((λ q. room_table _ _ _ _ (sym c.before.room.ensures ∙ q)), c.before.before.ask-points.ensures.small)
+    ((λ q. room_table _ _ _ _ (sym c.room-roomy.ensures ∙ q)), c.ask_points-asked.ensures.small)
 
-returns-2 : tie.Need-returns-2
+returns-2 : tie.Need-returns-then-number-lt-REFUSED_TRIANGLE
 returns-2 c =
-    let a = c.before.before.before in
-    let tested = a.before.before in
-    let asked = tested.before in
-    ends_left _ _ _ _ asked.before.if1.false asked.ask-points.ensures tested.room.result tested.room.ensures a.admit.ensures c.if2.true
+    let a = c in
+    let tested = a in
+    let asked = tested in
+    ends_left _ _ _ _ asked.if-points-ne0.false asked.ask_points-asked.ensures tested.room-roomy.result tested.room-roomy.ensures a.admit-number.ensures c.if-number-lt-REFUSED_TRIANGLE.true
 
-returns-3 : tie.Need-returns-3
+returns-3 : tie.Need-returns
 returns-3 c =
-    let cleared = c.before.before in
-    let e = cleared.before.before in
-    let a = e.before.before.before in
-    let tested = a.before.before in
-    let asked = tested.before in
-    ends_cleared _ _ _ _ asked.before.if1.false asked.ask-points.ensures tested.room.result tested.room.ensures a.admit.ensures
-    e.if2.false cleared.clear.ensures
+    let cleared = c in
+    let e = cleared in
+    let a = e in
+    let tested = a in
+    let asked = tested in
+    ends_cleared _ _ _ _ asked.if-points-ne0.false asked.ask_points-asked.ensures tested.room-roomy.result tested.room-roomy.ensures a.admit-number.ensures
+    e.if-number-lt-REFUSED_TRIANGLE.false cleared.clear.ensures
 
-pub admit-ends-spec : {M : Type 1} → statement M
-admit-ends-spec =
+pub admit_ends_spec : {M : Type 1} → statement M
+admit_ends_spec =
     tie.close
     (tie.spec returns (λ c κs. search rules) (λ c κs. search rules) admit-requires (λ c. search rules) returns-2 (λ c κs. search rules)
     (λ c. search rules) (λ c. search rules) returns-3)

@@ -6,29 +6,29 @@ use Rattle.queries.specs.bulk_ends.laws.Answers.{ends_refused, count_long, reach
 use Rattle.queries.proofs.bulk_ends.ends.Statement.{statement}
 use Rattle.queries.proofs.bulk_ends.ends.Tie as tie
 
-abbrev Admit : tie.After-slice-known4 → tie.After-admit-ends
+abbrev Admit : tie.After-slice_known-4-1 → tie.After-admit_ends-r
 Admit c = c.before.before.before.before
 
-returns : tie.Need-returns
-returns c = ends_refused (Admit c.before).admit-ends.ensures c.if1.true
+returns : tie.Need-returns-then-r-ne0
+returns c = ends_refused (Admit c.before).admit_ends-r.ensures c.if-r-ne0.true
 
-slice-reshare-prefix-write-ends : tie.Need-slice-reshare-prefix-write-ends
-slice-reshare-prefix-write-ends c = count_long (Admit c.before).admit-ends.ensures c.if1.false
+slice_reshare_prefix-write_ends : tie.Need-slice_bounds-write_ends-end
+slice_reshare_prefix-write_ends c = count_long (Admit c.before).admit_ends-r.ensures c.if-r-ne0.false
 
-slice-aggregate-write-ends : tie.Need-slice-aggregate-write-ends
-slice-aggregate-write-ends c = sym (length-take-le _ _ (count_long (Admit c.before.before).admit-ends.ensures c.before.if1.false))
+slice_aggregate-write_ends : tie.Need-slice_bounds-write_ends-end-2
+slice_aggregate-write_ends c = sym (length-take-le _ _ (count_long (Admit c.before).admit_ends-r.ensures c.if-r-ne0.false))
 
-write-ends-requires : tie.Need-write-ends-requires
-write-ends-requires c κs = reachable (Admit c.before.before.before).admit-ends.ensures c.before.before.if1.false
+write_ends-requires : tie.Need-write_ends-requires
+write_ends-requires c κs = reachable (Admit c.before.before).admit_ends-r.ensures c.if-r-ne0.false
 
-returns-2 : tie.Need-returns-2
+returns-2 : tie.Need-returns
 returns-2 c =
-    let written = c.before.before in
-    let test = written.before.before.before in
-    ends_given (Admit test.before).admit-ends.ensures test.if1.false written.write-ends.ensures
+    let written = c in
+    let test = written in
+    ends_given (Admit test.before.before.before.before.before).admit_ends-r.ensures test.if-r-ne0.false written.write_ends.ensures
 
-pub ends-spec : {M : Type 1} → statement M
-ends-spec =
+pub ends_spec : {M : Type 1} → statement M
+ends_spec =
     tie.close
-    (tie.spec (λ c κs. search rules) (λ c. search rules) (λ c. search rules) returns slice-reshare-prefix-write-ends slice-aggregate-write-ends
-    write-ends-requires (λ c. search rules) (λ c. search rules) returns-2)
+    (tie.spec (λ c κs. search rules) (λ c. search rules) (λ c. search rules) returns slice_reshare_prefix-write_ends slice_aggregate-write_ends
+    write_ends-requires (λ c. search rules) (λ c. search rules) returns-2)

@@ -10,54 +10,54 @@ use Rattle.queries.specs.bulk_ends.laws.Writes.{Reaching, reaching_start, reachi
 use Rattle.queries.proofs.bulk_ends.write_ends.Statement.{statement}
 use Rattle.queries.proofs.bulk_ends.write_ends.Tie as tie
 
-abbrev invariant-loop : tie.invariant-loop
+abbrev invariant-loop : tie.invariant-loop-i
 invariant-loop sites triangles halfedges table site points out₀ at₀ i₀ out at i =
     Reaching (end_from sites triangles halfedges table) points site (length sites / 2) out₀ out at i
 
-abbrev decreases-loop : tie.decreases-loop
+abbrev decreases-loop : tie.decreases-loop-i
 decreases-loop sites triangles halfedges table site points out₀ at₀ i₀ out at i = length points / 2 - i
 
-abbrev Begin : tie.At-loop invariant-loop decreases-loop → tie.Start invariant-loop decreases-loop
+abbrev Begin : tie.At-loop-i invariant-loop decreases-loop → tie.Start invariant-loop decreases-loop
 Begin c = c.before.before.before.before.before.before.before
 
-loop-holds : tie.Need-loop-init invariant-loop decreases-loop
-loop-holds c = reaching_start _ _ _ _ _ c.before.before.before.before.before.before.requires.site
+loop-holds : tie.Need-loop-i-init invariant-loop decreases-loop
+loop-holds c = reaching_start _ _ _ _ _ c.requires.site
 
-point-at-requires : tie.Need-point-at-requires invariant-loop decreases-loop
-point-at-requires c κs = omega (arith, c.loop-test.true)
+point_at-requires : tie.Need-point_at-requires invariant-loop decreases-loop
+point_at-requires c κs = omega (arith, c.loop-i-test.true)
 
-path-end-requires : tie.Need-path-end-requires invariant-loop decreases-loop
-path-end-requires c κs =
-    let test = c.before in
-    let s = Begin test.before in
-    (s.pre.walkable, rw c.point_at.ensures (s.pre.towards _ test.loop-test.true), test.before.loop.invariant.below)
+path_end-requires : tie.Need-path_end-end-requires invariant-loop decreases-loop
+path_end-requires c κs =
+    let test = c in
+    let s = Begin test.before.before in
+    (s.requires.walkable, rw c.point_at.ensures (s.requires.towards _ test.loop-i-test.true), test.loop-i.invariant.below)
 
-slice-write-out : tie.Need-slice-write-out invariant-loop decreases-loop
-slice-write-out c =
-    let test = c.before.before in
-    omega (arith, test.loop-test.true, test.before.loop.invariant.long, (Begin test.before).pre.room)
+slice_write-out : tie.Need-bounds-out-i invariant-loop decreases-loop
+slice_write-out c =
+    let test = c in
+    omega (arith, test.loop-i-test.true, test.loop-i.invariant.long, (Begin test.before.before.before).requires.room)
 
-loop-less : tie.Need-loop-smaller invariant-loop decreases-loop
-loop-less c = omega (arith, c.before.before.loop-test.true)
+loop-less : tie.Need-loop-i-smaller invariant-loop decreases-loop
+loop-less c = omega (arith, c.loop-i-test.true)
 
-loop-again : tie.Need-loop-preserved invariant-loop decreases-loop
+loop-again : tie.Need-loop-i-preserved invariant-loop decreases-loop
 loop-again c =
-    let test = c.before.before in
-    let s = Begin test.before in
-    let end = c.path-end.ensures in
+    let test = c in
+    let s = Begin test.before.before.before in
+    let end = c.path_end-end.ensures in
     let from = end_from s.args.sites.now s.args.triangles.now s.args.halfedges.now s.args.table.now in
-    reaching_step _ _ _ test.before.loop.invariant test.loop-test.true
-    (end.last ∙ ap (λ (p : Point). from p test.before.loop.at) c.before.point_at.ensures)
+    reaching_step _ _ _ test.loop-i.invariant test.loop-i-test.true
+    (end.last ∙ ap (λ (p : Point). from p test.loop-i.at) c.point_at.ensures)
     end.below
 
-same_length : tie.Need-same-length invariant-loop decreases-loop
-same_length c = c.before.loop.invariant.long
+same_length : tie.Need-shape_of-out invariant-loop decreases-loop
+same_length c = c.loop-i.invariant.long
 
 returns : tie.Need-returns invariant-loop decreases-loop
-returns c = reaching_end _ _ _ c.before.loop.invariant c.loop-test.false
+returns c = reaching_end _ _ _ c.loop-i.invariant c.loop-i-test.false
 
-pub write-ends-spec : {M : Type 1} → statement M
-write-ends-spec =
+pub write_ends_spec : {M : Type 1} → statement M
+write_ends_spec =
     tie.close
-    (tie.spec invariant-loop decreases-loop loop-holds point-at-requires path-end-requires (λ c. search rules) slice-write-out (λ c. search rules) loop-less loop-again same_length
+    (tie.spec invariant-loop decreases-loop loop-holds point_at-requires path_end-requires (λ c. search rules) slice_write-out (λ c. search rules) loop-less loop-again same_length
     returns)

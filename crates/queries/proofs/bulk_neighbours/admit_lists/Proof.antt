@@ -5,25 +5,25 @@ use Rattle.queries.specs.bulk_neighbours.laws.Answers.{says_true, lists_left, li
 use Rattle.queries.proofs.bulk_neighbours.admit_lists.Statement.{statement}
 use Rattle.queries.proofs.bulk_neighbours.admit_lists.Tie as tie
 
-admit-requires : tie.Need-admit-requires
-admit-requires c κs = ((λ q. (says_true c.before.room.result c.before.room.ensures q).table), omega arith)
+admit-requires : tie.Need-admit-number-requires
+admit-requires c κs = ((λ q. (says_true c.room-roomy.result c.room-roomy.ensures q).table), omega arith)
 
-returns : tie.Need-returns
+returns : tie.Need-returns-then-number-lt-REFUSED_TRIANGLE
 returns c =
-    let a = c.before.before.before in
-    lists_left _ _ a.before.before.room.result a.before.before.room.ensures a.admit.ensures c.if1.true
+    let a = c in
+    lists_left _ _ a.room-roomy.result a.room-roomy.ensures a.admit-number.ensures c.if-number-lt-REFUSED_TRIANGLE.true
 
-returns-2 : tie.Need-returns-2
+returns-2 : tie.Need-returns
 returns-2 c =
-    let second = c.before.before in
-    let first = second.before.before.before.before in
-    let e = first.before.before in
-    let a = e.before.before.before in
-    lists_cleared _ _ a.before.before.room.result a.before.before.room.ensures a.admit.ensures e.if1.false
-    first.clear.ensures second.clear2.ensures
+    let second = c in
+    let first = second in
+    let e = first in
+    let a = e in
+    lists_cleared _ _ a.room-roomy.result a.room-roomy.ensures a.admit-number.ensures e.if-number-lt-REFUSED_TRIANGLE.false
+    first.clear.ensures second.clear-2.ensures
 
-pub admit-lists-spec : {M : Type 1} → statement M
-admit-lists-spec =
+pub admit_lists_spec : {M : Type 1} → statement M
+admit_lists_spec =
     tie.close
     (tie.spec (λ c κs. search rules) admit-requires (λ c. search rules) returns (λ c κs. search rules) (λ c κs. search rules)
     (λ c. search rules) (λ c. search rules) (λ c. search rules) returns-2)

@@ -4,8 +4,8 @@ use Rattle.queries.specs.bulk_neighbours.laws.Answers.{last_test}
 use Rattle.queries.proofs.bulk_neighbours.room.Statement.{statement}
 use Rattle.queries.proofs.bulk_neighbours.room.Tie as tie
 
-returns-4 : tie.Need-returns-4
-returns-4 c = last_test _ _ _ _ _ _ c.before.before.if1.false c.before.if2.false c.if3.false
+returns-4 : tie.Need-returns
+returns-4 c = last_test _ _ _ _ _ _ c.if-work-sites.false c.if-starts-sites.false c.if-out-hull.false
 
-pub room-spec : {M : Type 1} → statement M
-room-spec = tie.close (tie.spec (λ c. search rules) (λ c. search rules) (λ c. search rules) returns-4)
+pub room_spec : {M : Type 1} → statement M
+room_spec = tie.close (tie.spec (λ c. search rules) (λ c. search rules) (λ c. search rules) returns-4)

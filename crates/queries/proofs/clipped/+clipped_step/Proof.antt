@@ -41,7 +41,7 @@ clipped-step-step-requires : (t : ℕ) → clipped-step-lts.Need-step-requires (
 ) (clipped-step-at t) clipped-step.Post
 clipped-step-step-requires t c κs = (c.before.before.before.before.requires.1.0.paired.threes, c.before.before.before.before.requires.1.0.even)
 
-clipped-step-enum-known-x : (t : ℕ) → clipped-step-lts.Need-enum-known-x (
+clipped-step-enum-known-x : (t : ℕ) → clipped-step-lts.Need-enum_known-x (
   step-reads.Asked,
   step-reads.Learnt,
   judge-reads.Asked,
@@ -64,7 +64,7 @@ clipped-step-judge-requires t c κs =
     let at_start = at-step.before.before.before.before.before in
     (at_start.requires.1.0.cells, at_start.requires.1.1, coming_cell at_start.requires.1.0 _ at_start.requires.1.2 (sym c.before.x.given.1 ∙ at-step.step.ensures))
 
-clipped-step-enum-told : (t : ℕ) → clipped-step-lts.Need-enum-told (
+clipped-step-enum-told : (t : ℕ) → clipped-step-lts.Need-enum_told (
   step-reads.Asked,
   step-reads.Learnt,
   judge-reads.Asked,
@@ -74,7 +74,7 @@ clipped-step-enum-told : (t : ℕ) → clipped-step-lts.Need-enum-told (
 ) (clipped-step-at t) clipped-step.Post
 clipped-step-enum-told t c = search rules
 
-clipped-step-enum-told-2 : (t : ℕ) → clipped-step-lts.Need-enum-told-2 (
+clipped-step-enum-told-2 : (t : ℕ) → clipped-step-lts.Need-enum_told-2 (
   step-reads.Asked,
   step-reads.Learnt,
   judge-reads.Asked,
@@ -84,7 +84,7 @@ clipped-step-enum-told-2 : (t : ℕ) → clipped-step-lts.Need-enum-told-2 (
 ) (clipped-step-at t) clipped-step.Post
 clipped-step-enum-told-2 t c = search rules
 
-clipped-step-clipped-step-requires : (t : ℕ) → clipped-step-lts.Need-clipped-step-requires (
+clipped-step-clipped-step-requires : (t : ℕ) → clipped-step-lts.Need-clipped_step-requires (
   step-reads.Asked,
   step-reads.Learnt,
   judge-reads.Asked,
@@ -96,16 +96,16 @@ clipped-step-clipped-step-requires t c κs =
     let at-step = c.before.before.before.before.before.before in
     let at_start = at-step.before.before.before.before.before in (
       dropped_less at_start.requires.1.0 _ at_start.requires.1.2 (sym c.before.before.before.before.x.given.1 ∙ at-step.step.ensures) _
-          (sym c.enum-told2.given.1 ∙ c.before.before.judge.ensures) at_start.requires.0,
+          (sym c.enum_told2.given.1 ∙ c.before.before.judge.ensures) at_start.requires.0,
       (
         at_start.requires.1.0,
         at_start.requires.1.1,
         dropped_sound at_start.requires.1.0 _ at_start.requires.1.2
-            (sym c.before.before.before.before.x.given.1 ∙ at-step.step.ensures) _ (sym c.enum-told2.given.1 ∙ c.before.before.judge.ensures),
+            (sym c.before.before.before.before.x.given.1 ∙ at-step.step.ensures) _ (sym c.enum_told2.given.1 ∙ c.before.before.judge.ensures),
       ),
     )
 
-clipped-step-enum-told-3 : (t : ℕ) → clipped-step-lts.Need-enum-told-3 (
+clipped-step-enum-told-3 : (t : ℕ) → clipped-step-lts.Need-enum_told-3 (
   step-reads.Asked,
   step-reads.Learnt,
   judge-reads.Asked,
@@ -115,7 +115,7 @@ clipped-step-enum-told-3 : (t : ℕ) → clipped-step-lts.Need-enum-told-3 (
 ) (clipped-step-at t) clipped-step.Post
 clipped-step-enum-told-3 t c = search rules
 
-clipped-step-enum-told-4 : (t : ℕ) → clipped-step-lts.Need-enum-told-4 (
+clipped-step-enum-told-4 : (t : ℕ) → clipped-step-lts.Need-enum_told-4 (
   step-reads.Asked,
   step-reads.Learnt,
   judge-reads.Asked,
@@ -151,7 +151,7 @@ clipped-step-returns-2 t c =
     let at-step = c.before.before.before.before.before.before.before in
     let at_start = at-step.before.before.before.before.before in
     dropped_takes at_start.requires.1.0 _ at_start.requires.1.2 (sym c.before.before.before.before.before.x.given.1 ∙ at-step.step.ensures) _
-    (sym c.before.enum-told2.given.1 ∙ c.before.before.before.judge.ensures) c.clipped-step.result c.clipped-step.ensures
+    (sym c.before.enum_told2.given.1 ∙ c.before.before.before.judge.ensures) c.clipped_step.result c.clipped_step.ensures
 
 clipped-step-returns-3 : (t : ℕ) → clipped-step-lts.Need-returns-3 (
   step-reads.Asked,
@@ -165,7 +165,7 @@ clipped-step-returns-3 t c =
     let at-step = c.before.before.before.before.before.before in
     let at_start = at-step.before.before.before.before.before in
     ends at_start.requires.1.0 _ at_start.requires.1.2 (sym c.before.before.before.before.x.given.1 ∙ at-step.step.ensures) _
-    (sym c.enum-told3.given.1 ∙ c.before.before.judge.ensures)
+    (sym c.enum_told3.given.1 ∙ c.before.before.judge.ensures)
 
 clipped-step-returns-4 : (t : ℕ) → clipped-step-lts.Need-returns-4 (
   step-reads.Asked,
@@ -177,10 +177,10 @@ clipped-step-returns-4 : (t : ℕ) → clipped-step-lts.Need-returns-4 (
 ) (clipped-step-at t) clipped-step.Post
 clipped-step-returns-4 t c =
     let at_start = c.before.before.before.before.before.before.before in
-    nothing_left at_start.requires.1.0 _ at_start.requires.1.2 _ (sym c.enum-told4.given.1 ∙ c.before.before.step.ensures)
+    nothing_left at_start.requires.1.0 _ at_start.requires.1.2 _ (sym c.enum_told4.given.1 ∙ c.before.before.step.ensures)
 
-pub +clipped-step-spec : {M : Type 1} → statement M
-+clipped-step-spec = close μ-clipped-step λ t. clipped-step-lts.spec (
+pub +clipped_step_spec : {M : Type 1} → statement M
++clipped_step_spec = close μ-clipped-step λ t. clipped-step-lts.spec (
   step-reads.Asked,
   step-reads.Learnt,
   judge-reads.Asked,

@@ -7,20 +7,20 @@ use borrow.Author.Rules.{rules}
 use Rattle.queries.proofs.clipped.clipped_over.Statement.{statement}
 use Rattle.queries.proofs.clipped.clipped_over.Tie as tie
 
-returns : tie.Need-returns
+returns : tie.Need-returns-in-Site
 returns c =
-    let at_start = c.before.before.before.before.before.before.before in
-    let a = at_start.args in ap is_end (sym c.enum_told.given.1)
+    let at_start = c in
+    let a = at_start.args in ap is_end (sym c.in-Site.is)
     ∙ step_over a.triangles.now a.halfedges.now (share_edge_of a.offsets.now a.indexes.now a.s) a.c
-    c.before.before.clipped-step.result c.before.before.clipped-step.ensures
+    c.clipped_step.result c.clipped_step.ensures
 
-returns-2 : tie.Need-returns-2
+returns-2 : tie.Need-returns-in-End
 returns-2 c =
-    let at_start = c.before.before.before.before.before.before.before in
-    let a = at_start.args in ap is_end (sym c.enum-told2.given.1)
+    let at_start = c in
+    let a = at_start.args in ap is_end (sym c.in-End.is)
     ∙ step_over a.triangles.now a.halfedges.now (share_edge_of a.offsets.now a.indexes.now a.s) a.c
-    c.before.before.clipped-step.result c.before.before.clipped-step.ensures
+    c.clipped_step.result c.clipped_step.ensures
 
-pub clipped-over-spec : {M : Type 1} → statement M
-clipped-over-spec =
+pub clipped_over_spec : {M : Type 1} → statement M
+clipped_over_spec =
     tie.close (tie.spec (λ c κs. search rules) (λ c. search rules) (λ c. search rules) returns returns-2)

@@ -3,12 +3,12 @@ use borrow.Author.Rules.{rules}
 use Rattle.queries.proofs.clipped.if_shared.Statement.{statement}
 use Rattle.queries.proofs.clipped.if_shared.Tie as tie
 
-returns : tie.Need-returns
-returns c = rw (← c.before.before.before.wide.ensures, ← c.before.before.wide2.ensures, ← c.before.share-edge.ensures, c.if1.true)
+returns : tie.Need-returns-then-share_edge
+returns c = rw (← c.wide.ensures, ← c.wide-2.ensures, ← c.share_edge.ensures, c.if-share_edge.true)
 
-returns-2 : tie.Need-returns-2
-returns-2 c = rw (← c.before.before.before.wide.ensures, ← c.before.before.wide2.ensures, ← c.before.share-edge.ensures, c.if1.false)
+returns-2 : tie.Need-returns
+returns-2 c = rw (← c.wide.ensures, ← c.wide-2.ensures, ← c.share_edge.ensures, c.if-share_edge.false)
 
-pub if-shared-spec : {M : Type 1} → statement M
-if-shared-spec =
+pub if_shared_spec : {M : Type 1} → statement M
+if_shared_spec =
     tie.close (tie.spec (λ c κs. search rules) (λ c κs. search rules) (λ c κs. search rules) returns returns-2)

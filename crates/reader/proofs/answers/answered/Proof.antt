@@ -6,15 +6,15 @@ use Rattle.reader.specs.answers.Answers.{answer_of}
 use Rattle.reader.proofs.answers.answered.Statement.{statement}
 use Rattle.reader.proofs.answers.answered.Tie as tie
 
-returns : tie.Need-returns
+returns : tie.Need-returns-then-r-ne0
 unfolding answer_of
-returns c = rw (ne_eqb _ _ c.before.if1.true)
+returns c = rw (ne_eqb _ _ c.if-r-ne0.true)
 
-returns-2 : tie.Need-returns-2
+returns-2 : tie.Need-returns
 unfolding answer_of
-returns-2 c = rw (eq-eqb _ _ c.if1.false)
+returns-2 c = rw (eq-eqb _ _ c.if-r-ne0.false)
 
-pub answered-spec : {M : Type 1} → statement M
-answered-spec =
+pub answered_spec : {M : Type 1} → statement M
+answered_spec =
     tie.close
     (tie.spec (λ c. omega (arith, refusal_small c.before.before.before.requires)) returns returns-2)

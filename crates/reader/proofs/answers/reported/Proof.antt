@@ -6,16 +6,16 @@ use Rattle.reader.specs.answers.Answers.{report_of}
 use Rattle.reader.proofs.answers.reported.Statement.{statement}
 use Rattle.reader.proofs.answers.reported.Tie as tie
 
-returns : tie.Need-returns
+returns : tie.Need-returns-then-r-eq0
 unfolding report_of
-returns c = rw (eq-eqb _ _ c.before.before.before.before.if1.true)
+returns c = rw (eq-eqb _ _ c.if-r-eq0.true)
 
-returns-2 : tie.Need-returns-2
+returns-2 : tie.Need-returns
 unfolding report_of
-returns-2 c = rw (ne_eqb _ _ c.before.if1.false)
+returns-2 c = rw (ne_eqb _ _ c.if-r-eq0.false)
 
-pub reported-spec : {M : Type 1} → statement M
-reported-spec =
+pub reported_spec : {M : Type 1} → statement M
+reported_spec =
     tie.close
     (tie.spec (λ c. omega (arith, clip_small c.before.before.before.requires)) (λ c. let n = few_counts c.before.before.before.before.requires in omega arith)
     (λ c. let n = few_counts c.before.before.before.before.before.requires in omega arith) (λ c. let n = few_counts c.before.before.before.before.before.before.requires in omega arith) returns

@@ -6,19 +6,19 @@ use borrow.Author.Rules.{rules}
 use Rattle.reader.proofs.standing.begun.Statement.{statement}
 use Rattle.reader.proofs.standing.begun.Tie as tie
 
-returns : tie.Need-returns
+returns : tie.Need-returns-then-r-kind
 unfolding under
-returns c = (rw (ne_eqb _ _ c.if1.true) (omega arith), omega arith)
+returns c = (rw (ne_eqb _ _ c.if-r-kind.true) (omega arith), omega arith)
 
-returns-2 : tie.Need-returns-2
+returns-2 : tie.Need-returns-then-r-eq0
 unfolding under
-returns-2 c = (rw (eq-eqb _ _ c.before.before.if1.false, c.if2.true) (omega arith), omega arith)
+returns-2 c = (rw (eq-eqb _ _ c.if-r-kind.false, c.if-r-eq0.true) (omega arith), omega arith)
 
-returns-3 : tie.Need-returns-3
+returns-3 : tie.Need-returns
 unfolding under
-returns-3 c = (rw (eq-eqb _ _ c.before.before.if1.false, ne_eqb _ _ c.if2.false), omega arith)
+returns-3 c = (rw (eq-eqb _ _ c.if-r-kind.false, ne_eqb _ _ c.if-r-eq0.false), omega arith)
 
-pub begun-spec : {M : Type 1} → statement M
-begun-spec =
+pub begun_spec : {M : Type 1} → statement M
+begun_spec =
     tie.close
     (tie.spec returns returns-2 (λ c. search rules) returns-3)

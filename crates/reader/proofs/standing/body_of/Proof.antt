@@ -5,15 +5,15 @@ use borrow.Author.Rules.{rules}
 use Rattle.reader.proofs.standing.body_of.Statement.{statement}
 use Rattle.reader.proofs.standing.body_of.Tie as tie
 
-returns : tie.Need-returns
+returns : tie.Need-returns-then-r-eq1
 unfolding body_of
-returns c = rw c.before.if1.true c.size.ensures
+returns c = rw c.if-r-eq1.true c.size.ensures
 
-returns-2 : tie.Need-returns-2
+returns-2 : tie.Need-returns
 unfolding body_of
-returns-2 c = rw (ne_eqb _ _ c.before.if1.false) c.size2.ensures
+returns-2 c = rw (ne_eqb _ _ c.if-r-eq1.false) c.size-2.ensures
 
-pub body-of-spec : {M : Type 1} → statement M
-body-of-spec =
+pub body_of_spec : {M : Type 1} → statement M
+body_of_spec =
     tie.close
     (tie.spec (λ c κs. search rules) returns (λ c κs. search rules) returns-2)

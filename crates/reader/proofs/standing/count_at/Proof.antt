@@ -4,21 +4,21 @@ use Rattle.reader.specs.standing.Stands.{count_at}
 use Rattle.reader.proofs.standing.count_at.Statement.{statement}
 use Rattle.reader.proofs.standing.count_at.Tie as tie
 
-returns : tie.Need-returns
+returns : tie.Need-returns-then-limit-n
 unfolding count_at
-returns c = rw (lt-ltb _ _ c.if1.true)
+returns c = rw (lt-ltb _ _ c.if-limit-n.true)
 
-returns-2 : tie.Need-returns-2
+returns-2 : tie.Need-returns-then-stage-kind
 unfolding count_at
-returns-2 c = rw (le-ltb _ _ c.before.if1.false, lt-ltb _ _ c.if2.true)
+returns-2 c = rw (le-ltb _ _ c.if-limit-n.false, lt-ltb _ _ c.if-stage-kind.true)
 
-returns-3 : tie.Need-returns-3
+returns-3 : tie.Need-returns-then-stage-kind-2
 unfolding count_at
-returns-3 c = rw (le-ltb _ _ c.before.before.if1.false, le-ltb _ _ c.before.if2.false, eq-eqb _ _ c.if3.true)
+returns-3 c = rw (le-ltb _ _ c.if-limit-n.false, le-ltb _ _ c.if-stage-kind.false, eq-eqb _ _ c.if-stage-kind-2.true)
 
-returns-4 : tie.Need-returns-4
+returns-4 : tie.Need-returns
 unfolding count_at
-returns-4 c = rw (le-ltb _ _ c.before.before.if1.false, le-ltb _ _ c.before.if2.false, ne_eqb _ _ c.if3.false)
+returns-4 c = rw (le-ltb _ _ c.if-limit-n.false, le-ltb _ _ c.if-stage-kind.false, ne_eqb _ _ c.if-stage-kind-2.false)
 
-pub count-at-spec : {M : Type 1} → statement M
-count-at-spec = tie.close (tie.spec returns returns-2 returns-3 returns-4)
+pub count_at_spec : {M : Type 1} → statement M
+count_at_spec = tie.close (tie.spec returns returns-2 returns-3 returns-4)

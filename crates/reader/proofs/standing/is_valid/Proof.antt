@@ -5,16 +5,16 @@ use borrow.Author.Rules.{rules}
 use Rattle.reader.proofs.standing.is_valid.Statement.{statement}
 use Rattle.reader.proofs.standing.is_valid.Tie as tie
 
-valid-parts-requires : tie.Need-valid-parts-requires
-valid-parts-requires c κs = sym c.before.valid-counts.ensures ∙ c.if1.true
+valid_parts-requires : tie.Need-valid_parts-requires
+valid_parts-requires c κs = sym c.valid_counts.ensures ∙ c.if-valid_counts.true
 
-returns : tie.Need-returns
+returns : tie.Need-returns-then-valid_counts
 unfolding is_valid
-returns c = rw (sym c.before.before.valid-counts.ensures ∙ c.before.if1.true) c.valid-parts.ensures
+returns c = rw (sym c.valid_counts.ensures ∙ c.if-valid_counts.true) c.valid_parts.ensures
 
-returns-2 : tie.Need-returns-2
+returns-2 : tie.Need-returns
 unfolding is_valid
-returns-2 c = rw (sym c.before.valid-counts.ensures ∙ c.if1.false)
+returns-2 c = rw (sym c.valid_counts.ensures ∙ c.if-valid_counts.false)
 
-pub is-valid-spec : {M : Type 1} → statement M
-is-valid-spec = tie.close (tie.spec (λ c κs. search rules) valid-parts-requires returns returns-2)
+pub is_valid_spec : {M : Type 1} → statement M
+is_valid_spec = tie.close (tie.spec (λ c κs. search rules) valid_parts-requires returns returns-2)

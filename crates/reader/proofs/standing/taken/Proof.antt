@@ -4,13 +4,13 @@ use borrow.Author.Rules.{rules}
 use Rattle.reader.proofs.standing.taken.Statement.{statement}
 use Rattle.reader.proofs.standing.taken.Tie as tie
 
-returns : tie.Need-returns
-returns c = omega (arith, c.before.before.bodies.ensures.0, c.if1.true)
+returns : tie.Need-returns-then-all-r
+returns c = omega (arith, c.bodies-all.ensures.0, c.if-all-r.true)
 
-returns-2 : tie.Need-returns-2
-returns-2 c = rw c.before.before.before.bodies.ensures.0
+returns-2 : tie.Need-returns
+returns-2 c = rw c.bodies-all.ensures.0
 
-pub taken-spec : {M : Type 1} → statement M
-taken-spec =
+pub taken_spec : {M : Type 1} → statement M
+taken_spec =
     tie.close
     (tie.spec (λ c κs. search rules) returns returns-2)

@@ -5,13 +5,13 @@ use borrow.Author.Rules.{rules}
 use Rattle.reader.proofs.standing.valid_kind.Statement.{statement}
 use Rattle.reader.proofs.standing.valid_kind.Tie as tie
 
-returns : tie.Need-returns
+returns : tie.Need-returns-then-stage-eq0
 unfolding valid_kind
-returns c = rw c.if1.true
+returns c = rw c.if-stage-eq0.true
 
-returns-2 : tie.Need-returns-2
+returns-2 : tie.Need-returns
 unfolding valid_kind
-returns-2 c = rw (ne_eqb _ _ c.before.if1.false) c.opens.ensures
+returns-2 c = rw (ne_eqb _ _ c.if-stage-eq0.false) c.opens.ensures
 
-pub valid-kind-spec : {M : Type 1} → statement M
-valid-kind-spec = tie.close (tie.spec returns (λ c κs. search rules) returns-2)
+pub valid_kind_spec : {M : Type 1} → statement M
+valid_kind_spec = tie.close (tie.spec returns (λ c κs. search rules) returns-2)

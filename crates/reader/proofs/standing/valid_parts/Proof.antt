@@ -7,22 +7,22 @@ use Rattle.reader.proofs.standing.valid_parts.Tie as tie
 returns : tie.Need-returns
 unfolding valid_parts
 returns c =
-    let t = c.before.before.before.before.before in
+    let t = c in
     rw (
-      c.both4.ensures,
-      c.before.both3.ensures,
-      c.before.before.valid-records.ensures,
-      c.before.before.before.both2.ensures,
-      c.before.before.before.before.valid-register.ensures,
+      c.both-2.ensures,
+      c.both.ensures,
+      c.valid_records.ensures,
+      c.both-last.ensures,
+      c.valid_register.ensures,
       t.taken.ensures,
-      t.before.valid-place.ensures,
-      t.before.before.both.ensures,
-      t.before.before.before.valid-kind.ensures,
-      t.before.before.before.before.valid-refusal.ensures,
+      t.valid_place.ensures,
+      t.both-first.ensures,
+      t.valid_kind.ensures,
+      t.valid_refusal.ensures,
     )
 
-pub valid-parts-spec : {M : Type 1} → statement M
-valid-parts-spec =
+pub valid_parts_spec : {M : Type 1} → statement M
+valid_parts_spec =
     tie.close
     (tie.spec (λ c κs. search rules) (λ c κs. search rules) (λ c κs. search rules) (λ c κs. search rules) (λ c κs. search rules)
     (λ c κs. search rules) (λ c κs. search rules) (λ c κs. search rules) (λ c κs. search rules) (λ c κs. search rules) returns)

@@ -10,27 +10,27 @@ begun-requires : tie.Need-begun-requires
 begun-requires c κs = let f = valid_counts_told _ c.requires in omega arith
 
 begun-requires-2 : tie.Need-begun-requires-2
-begun-requires-2 c κs = let f = valid_counts_told _ c.before.before.requires in omega arith
+begun-requires-2 c κs = let f = valid_counts_told _ c.requires in omega arith
 
 begun-requires-3 : tie.Need-begun-requires-3
-begun-requires-3 c κs = let f = valid_counts_told _ c.before.before.before.before.requires in omega arith
+begun-requires-3 c κs = let f = valid_counts_told _ c.requires in omega arith
 
 returns : tie.Need-returns
 unfolding valid_records
 returns c =
     rw (
-      c.both2.ensures,
-      c.before.both.ensures,
-      c.before.before.count-at3.ensures,
-      c.before.before.before.begun3.ensures.0,
-      c.before.before.before.before.count-at2.ensures,
-      c.before.before.before.before.before.begun2.ensures.0,
-      c.before.before.before.before.before.before.count_at.ensures,
-      c.before.before.before.before.before.before.before.begun.ensures.0,
+      c.both-2.ensures,
+      c.both.ensures,
+      c.count_at-hull.ensures,
+      c.begun-3.ensures.0,
+      c.count_at-triangles.ensures,
+      c.begun-2.ensures.0,
+      c.count_at-sites.ensures,
+      c.begun.ensures.0,
     )
 
-pub valid-records-spec : {M : Type 1} → statement M
-valid-records-spec =
+pub valid_records_spec : {M : Type 1} → statement M
+valid_records_spec =
     tie.close
     (tie.spec begun-requires (λ c κs. search rules) begun-requires-2 (λ c κs. search rules) begun-requires-3 (λ c κs. search rules)
     (λ c κs. search rules) (λ c κs. search rules) returns)

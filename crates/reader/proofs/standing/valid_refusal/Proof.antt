@@ -5,21 +5,21 @@ use borrow.Author.Rules.{rules}
 use Rattle.reader.proofs.standing.valid_refusal.Statement.{statement}
 use Rattle.reader.proofs.standing.valid_refusal.Tie as tie
 
-returns : tie.Need-returns
+returns : tie.Need-returns-then-refusal-eq0
 unfolding valid_refusal
-returns c = rw c.if1.true
+returns c = rw c.if-refusal-eq0.true
 
-returns-2 : tie.Need-returns-2
+returns-2 : tie.Need-returns-then-refusal
 unfolding valid_refusal
-returns-2 c = rw (ne_eqb _ _ c.before.if1.false, ne_eqb _ _ c.if2.true)
+returns-2 c = rw (ne_eqb _ _ c.if-refusal-eq0.false, ne_eqb _ _ c.if-refusal.true)
 
-returns-3 : tie.Need-returns-3
+returns-3 : tie.Need-returns-then-left-ne0
 unfolding valid_refusal
-returns-3 c = rw (ne_eqb _ _ c.before.before.if1.false, c.before.if2.false, ne_eqb _ _ c.if3.true)
+returns-3 c = rw (ne_eqb _ _ c.if-refusal-eq0.false, c.if-refusal.false, ne_eqb _ _ c.if-left-ne0.true)
 
-returns-4 : tie.Need-returns-4
+returns-4 : tie.Need-returns
 unfolding valid_refusal
-returns-4 c = rw (ne_eqb _ _ c.before.before.if1.false, c.before.if2.false, c.if3.false)
+returns-4 c = rw (ne_eqb _ _ c.if-refusal-eq0.false, c.if-refusal.false, c.if-left-ne0.false)
 
-pub valid-refusal-spec : {M : Type 1} → statement M
-valid-refusal-spec = tie.close (tie.spec returns (λ c. search rules) (λ c. search rules) returns-2 returns-3 returns-4)
+pub valid_refusal_spec : {M : Type 1} → statement M
+valid_refusal_spec = tie.close (tie.spec returns (λ c. search rules) (λ c. search rules) returns-2 returns-3 returns-4)

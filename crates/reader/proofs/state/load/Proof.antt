@@ -14,25 +14,25 @@ use borrow.Author.Rules.{rules}
 use Rattle.reader.proofs.state.load.Statement.{statement}
 use Rattle.reader.proofs.state.load.Tie as tie
 
-returns : tie.Need-returns
+returns : tie.Need-returns-then-both
 returns c =
-    let ws = c.before.before.before.before.before.before.before.args.state.now in
-    let h = c.before.before.before.before.before.held.ensures in
+    let ws = c.args.state.now in
+    let h = c.held-r.ensures in
     let e : both (blank (take 7 (drop 9 ws))) (is_valid (reader_of ws)) ≡ true =
-    sym (c.before.both.ensures ∙ ap₂ both c.before.before.before.blank.ensures (c.before.before.is-valid.ensures ∙ ap is_valid h)) ∙ c.if1.true
+    sym (c.both.ensures ∙ ap₂ both c.blank.ensures (c.is_valid.ensures ∙ ap is_valid h)) ∙ c.if-both.true
     in
     let i = h ∙ sym (entered_right ws e) in
     (i, subst Ok (sym i) (ok_entered ws))
 
-returns-2 : tie.Need-returns-2
+returns-2 : tie.Need-returns
 returns-2 c =
-    let b = c.before.before.before in
-    let ws = b.before.before.before.before.before.before.args.state.now in
-    let h = b.before.before.before.before.held.ensures in
+    let b = c in
+    let ws = b.args.state.now in
+    let h = b.held-r.ensures in
     let e : both (blank (take 7 (drop 9 ws))) (is_valid (reader_of ws)) ≡ false =
-    sym (b.both.ensures ∙ ap₂ both b.before.before.blank.ensures (b.before.is-valid.ensures ∙ ap is_valid h)) ∙ c.before.before.if1.false
+    sym (b.both.ensures ∙ ap₂ both b.blank.ensures (b.is_valid.ensures ∙ ap is_valid h)) ∙ c.if-both.false
     in
-    let i = c.refused.ensures ∙ ap (λ (r : Reader). refused r refused_form) c.before.start.ensures ∙ sym (entered_wrong ws e) in
+    let i = c.refused.ensures ∙ ap (λ (r : Reader). refused r refused_form) c.start.ensures ∙ sym (entered_wrong ws e) in
     (i, subst Ok (sym i) (ok_entered ws))
 
 pub load_spec : {M : Type 1} → statement M

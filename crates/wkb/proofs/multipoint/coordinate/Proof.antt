@@ -8,10 +8,10 @@ use Rattle.wkb.proofs.multipoint.coordinate.Tie as tie
 
 returns : tie.Need-returns
 unfolding file_pattern
-returns c = c.float_of.ensures ∙ ap (of_bits binary64) c.before.number_at.ensures.0
+returns c = c.float_of.ensures ∙ ap (of_bits binary64) c.number_at.ensures.0
 
-pub coordinate-spec : {M : Type 1} → statement M
-coordinate-spec =
+pub coordinate_spec : {M : Type 1} → statement M
+coordinate_spec =
     tie.close
     (tie.spec (λ c. search rules) (λ c. search rules) (λ c. search rules) (λ c. search rules) (λ c κs. search rules)
     (λ c κs. search rules) returns)

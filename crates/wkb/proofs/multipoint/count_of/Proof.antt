@@ -7,5 +7,5 @@ use Rattle.wkb.proofs.multipoint.count_of.Tie as tie
 returns : tie.Need-returns
 returns c = (c.number_at.ensures.0, omega (arith, c.number_at.ensures.1))
 
-pub count-of-spec : {M : Type 1} → statement M
-count-of-spec = tie.close (tie.spec (λ c κs. search rules) returns)
+pub count_of_spec : {M : Type 1} → statement M
+count_of_spec = tie.close (tie.spec (λ c κs. search rules) returns)

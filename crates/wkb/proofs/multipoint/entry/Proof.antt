@@ -4,15 +4,15 @@ use borrow.Author.Rules.{rules}
 use Rattle.wkb.proofs.multipoint.entry.Statement.{statement}
 use Rattle.wkb.proofs.multipoint.entry.Tie as tie
 
-returns : tie.Need-returns
+returns : tie.Need-returns-then-k-count
 returns c =
-    let start = c.before.before in
-    entry_past start.args.file.now start.args.count start.args.k start.requires.0 c.if1.true
+    let start = c in
+    entry_past start.args.file.now start.args.count start.args.k start.requires.0 c.if-k-count.true
 
-returns-2 : tie.Need-returns-2
+returns-2 : tie.Need-returns
 returns-2 c =
-    let start = c.before.before.before in
-    entry_there start.args.file.now start.args.count start.args.k start.requires.0 c.before.if1.false c.coordinate.ensures
+    let start = c in
+    entry_there start.args.file.now start.args.count start.args.k start.requires.0 c.if-k-count.false c.coordinate.ensures
 
 pub entry_spec : {M : Type 1} → statement M
 entry_spec = tie.close (tie.spec (λ c. search rules) returns (λ c κs. search rules) returns-2)

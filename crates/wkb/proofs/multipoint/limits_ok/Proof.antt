@@ -15,5 +15,5 @@ says : (n : ℕ) (b : Bool) → 3 ≤ n → leb n 65536 ≡ b → Says b (SiteLi
 says n true h e = record { many = h; few = leb-true n 65536 e }
 says n false h e = λ l. omega (arith, l.few, leb-false n 65536 e)
 
-pub limits-ok-spec : {M : Type 1} → statement M
-limits-ok-spec = tie.close (tie.spec (λ c. search rules) (λ c. says _ _ c.if1.false refl))
+pub limits_ok_spec : {M : Type 1} → statement M
+limits_ok_spec = tie.close (tie.spec (λ c. search rules) (λ c. says _ _ c.if-count-lt3.false refl))

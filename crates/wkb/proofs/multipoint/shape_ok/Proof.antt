@@ -1,33 +1,35 @@
 -- `wkb::multipoint::shape_ok` meets its contract: the length, the head, the count, the points.
+use mathlib.Core.Bool.{not}
+use mathlib.Core.Path.{ap}
 use Rattle.base.specs.common.laws.Decide as decide
 use Rattle.wkb.specs.multipoint.laws.Answers.{short_file, other_length, points_say}
 use borrow.Author.Rules.{rules}
 use Rattle.wkb.proofs.multipoint.shape_ok.Statement.{statement}
 use Rattle.wkb.proofs.multipoint.shape_ok.Tie as tie
 
-returns : tie.Need-returns
-returns c = short_file _ c.if1.true
+returns : tie.Need-returns-then-file-lt9
+returns c = short_file _ c.if-file-lt9.true
 
-returns-2 : tie.Need-returns-2
+returns-2 : tie.Need-returns-then-not-starts
 returns-2 c =
-    λ p. decide.refused c.before.starts.result c.if2.true c.before.starts.ensures p.starts
+    λ p. decide.refused c.starts.result (ap not c.if-not-starts.true) c.starts.ensures p.starts
 
-returns-3 : tie.Need-returns-3
+returns-3 : tie.Need-returns-then-file-count
 returns-3 c =
-    let at-count-of = c.before in
-    let at-starts = c.before.before.before in
-    other_length _ at-starts.before.if1.false (decide.granted at-starts.starts.result c.before.before.if2.false at-starts.starts.ensures)
-    at-count-of.count_of.result at-count-of.count_of.ensures.0 c.if3.true
+    let at-count-of = c in
+    let at-starts = c in
+    other_length _ at-starts.if-file-lt9.false (decide.granted at-starts.starts.result (ap not c.if-not-starts.false) at-starts.starts.ensures)
+    at-count-of.count_of-count.result at-count-of.count_of-count.ensures.0 c.if-file-count.true
 
-returns-4 : tie.Need-returns-4
+returns-4 : tie.Need-returns
 returns-4 c =
-    let at-count-of = c.before.before in
-    let at-starts = at-count-of.before.before in
-    points_say _ at-starts.before.if1.false (decide.granted at-starts.starts.result at-count-of.before.if2.false at-starts.starts.ensures)
-    at-count-of.count_of.result at-count-of.count_of.ensures.0 c.points-start.result c.before.if3.false c.points-start.ensures
+    let at-count-of = c in
+    let at-starts = at-count-of in
+    points_say _ at-starts.if-file-lt9.false (decide.granted at-starts.starts.result (ap not at-count-of.if-not-starts.false) at-starts.starts.ensures)
+    at-count-of.count_of-count.result at-count-of.count_of-count.ensures.0 c.points_start.result c.if-file-count.false c.points_start.ensures
 
-pub shape-ok-spec : {M : Type 1} → statement M
-shape-ok-spec =
+pub shape_ok_spec : {M : Type 1} → statement M
+shape_ok_spec =
     tie.close
     (tie.spec returns (λ c κs. search rules) returns-2 (λ c κs. search rules) (λ c. search rules) (λ c. search rules) returns-3
     (λ c κs. search rules) returns-4)

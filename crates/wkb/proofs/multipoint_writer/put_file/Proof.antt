@@ -9,12 +9,12 @@ use Rattle.wkb.proofs.multipoint_writer.put_file.Tie as tie
 
 returns : tie.Need-returns
 returns c =
-    let at-put-le = c.before.before.before.before.before.before in
-    let at-put-start = at-put-le.before.before.before.before in
-    let a = at-put-start.before.before.before.before.args in
-    file_wrote _ (sym (length_firsts (site_point a.sites.now) _)) at-put-start.put-start.ensures at-put-le.put-le.ensures
-    c.before.before.put-points.ensures
+    let at-put-le = c in
+    let at-put-start = at-put-le in
+    let a = at-put-start.args in
+    file_wrote _ (sym (length_firsts (site_point a.sites.now) _)) at-put-start.put_start-number.ensures at-put-le.put_le-points.ensures
+    c.put_points.ensures
 
-pub put-file-spec : {M : Type 1} → statement M
-put-file-spec =
+pub put_file_spec : {M : Type 1} → statement M
+put_file_spec =
     tie.close (tie.spec (λ c κs. search rules) (λ c κs. search rules) (λ c κs. search rules) (λ c. search rules) returns)

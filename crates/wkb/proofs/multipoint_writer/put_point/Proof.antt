@@ -8,9 +8,9 @@ use Rattle.wkb.proofs.multipoint_writer.put_point.Tie as tie
 returns : tie.Need-returns
 unfolding file_point_bytes
 returns c =
-    let at-put-le = c.before.before.before.before.before.before in
-    wrote_then at-put-le.before.before.before.before.put-start.ensures (wrote_then at-put-le.put-le.ensures c.before.before.put-le2.ensures)
+    let at-put-le = c in
+    wrote_then at-put-le.put_start-first.ensures (wrote_then at-put-le.put_le-second.ensures c.put_le.ensures)
 
-pub put-point-spec : {M : Type 1} → statement M
-put-point-spec =
+pub put_point_spec : {M : Type 1} → statement M
+put_point_spec =
     tie.close (tie.spec (λ c κs. search rules) (λ c κs. search rules) (λ c κs. search rules) (λ c. search rules) returns)

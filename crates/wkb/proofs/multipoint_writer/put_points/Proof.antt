@@ -13,45 +13,45 @@ use borrow.Author.Rules.{rules}
 use Rattle.wkb.proofs.multipoint_writer.put_points.Statement.{statement}
 use Rattle.wkb.proofs.multipoint_writer.put_points.Tie as tie
 
-abbrev invariant-loop : tie.invariant-loop
+abbrev invariant-loop : tie.invariant-loop-i
 invariant-loop out₀ at sites count end₀ i₀ out end i = Lined (λ k. each file_point_bytes (firsts (site_point sites) k)) count out₀ out at end i
 
-abbrev decreases-loop : tie.decreases-loop
+abbrev decreases-loop : tie.decreases-loop-i
 decreases-loop out₀ at sites count end₀ i₀ out end i = count - i
 
-loop-holds : tie.Need-loop-init invariant-loop decreases-loop
+loop-holds : tie.Need-loop-i-init invariant-loop decreases-loop
 loop-holds c = lined_start _ _ _ _ refl
 
-put-site-requires : tie.Need-put-site-requires invariant-loop decreases-loop
-put-site-requires c κs =
-    let at-loop-test = c.before in
-    let start = c.before.before.before.before.before in
+put_site-requires : tie.Need-put_site-end-requires invariant-loop decreases-loop
+put_site-requires c κs =
+    let at-loop-test = c in
+    let start = c in
     let f = site_point start.args.sites.now in
-    let l = c.before.before.loop in (
+    let l = c.loop-i in (
       omega (
         arith,
-        at-loop-test.loop-test.true,
+        at-loop-test.loop-i-test.true,
         l.invariant.wrote.place,
         points_length (firsts f l.i),
         length_firsts f l.i,
         wrote_length l.invariant.wrote,
         start.requires,
       ),
-      omega (arith, at-loop-test.loop-test.true),
+      omega (arith, at-loop-test.loop-i-test.true),
     )
 
-loop-again : tie.Need-loop-preserved invariant-loop decreases-loop
+loop-again : tie.Need-loop-i-preserved invariant-loop decreases-loop
 loop-again c =
-    let at-loop-test = c.before.before.before.before in
-    let at-loop = at-loop-test.before in
-    let f = site_point at-loop.before.before.before.args.sites.now in
-    lined_step at-loop.loop.invariant _ at-loop-test.loop-test.true (each_firsts f file_point_bytes at-loop.loop.i) c.before.before.put-site.ensures
+    let at-loop-test = c in
+    let at-loop = at-loop-test in
+    let f = site_point at-loop.args.sites.now in
+    lined_step at-loop.loop-i.invariant _ at-loop-test.loop-i-test.true (each_firsts f file_point_bytes at-loop.loop-i.i) c.put_site-end.ensures
 
 returns : tie.Need-returns invariant-loop decreases-loop
-returns c = lined_end c.before.loop.invariant c.loop-test.false
+returns c = lined_end c.loop-i.invariant c.loop-i-test.false
 
-pub put-points-spec : {M : Type 1} → statement M
-put-points-spec =
+pub put_points_spec : {M : Type 1} → statement M
+put_points_spec =
     tie.close
-    (tie.spec invariant-loop decreases-loop loop-holds put-site-requires (λ c. search rules) (λ c. search rules) loop-again
-    (λ c. wrote_length c.before.loop.invariant.wrote) returns)
+    (tie.spec invariant-loop decreases-loop loop-holds put_site-requires (λ c. search rules) (λ c. search rules) loop-again
+    (λ c. wrote_length c.loop-i.invariant.wrote) returns)

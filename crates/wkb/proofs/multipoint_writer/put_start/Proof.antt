@@ -6,7 +6,7 @@ use Rattle.wkb.proofs.multipoint_writer.put_start.Tie as tie
 
 returns : tie.Need-returns
 returns c =
-    wrote_then c.before.before.before.before.before.before.put-le.ensures c.before.before.put-le2.ensures
+    wrote_then c.put_le-number.ensures c.put_le.ensures
 
-pub put-start-spec : {M : Type 1} → statement M
-put-start-spec = tie.close (tie.spec (λ c κs. search rules) (λ c κs. search rules) (λ c. search rules) returns)
+pub put_start_spec : {M : Type 1} → statement M
+put_start_spec = tie.close (tie.spec (λ c κs. search rules) (λ c κs. search rules) (λ c. search rules) returns)
