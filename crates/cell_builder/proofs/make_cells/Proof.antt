@@ -34,28 +34,28 @@ returns c =
 
 clip_cells-requires : tie.Need-clip_cells-requires
 clip_cells-requires c κs =
-    let i = (Indexes2 c) in
-    let o = Offsets i in (
-      can_clip (Entry (Framed o)).requires.0 _ _ _ o.offsets-1.given (LaidOut o).lay_out.ensures _ _ i.before.before.vertices.given
-          (i.indexes2.given ∙ o.indexes-1.given) _ _ (Framed o).frame-f.ensures i.extend-p.ensures c.if-fault-ne0.false,
+    let i = c in
+    let o = Offsets i.before.before.before.before.before.before.before in (
+      can_clip (Entry (Framed o)).requires.0 _ _ _ o.offsets-1.given (LaidOut o).lay_out.ensures _ _ i.vertices-1.given
+          (i.indexes-2-1.given ∙ o.indexes-1.given) _ _ (Framed o).frame-f.ensures i.extend-p.ensures c.if-fault-ne0.false,
       (Entry (Framed o)).requires.1,
     )
 
 same_length-5 : tie.Need-shape_of-indexes
 same_length-5 c =
-    let i = (Indexes2 c.before.before.before.before.before) in
-    c.indexes-3-1.given ∙ i.indexes2.given ∙ (Offsets i).indexes-1.given
+    let i = c in
+    c.indexes-3-1.given ∙ i.indexes-2-1.given ∙ (Offsets i.before.before.before.before.before.before.before.before.before.before.before.before).indexes-1.given
 
 same_length-6 : tie.Need-shape_of-offsets
-same_length-6 c = (Offsets c.before.before.before.before.before.before.before.before.before.before.before.before).offsets.given
+same_length-6 c = (Offsets c.before.before.before.before.before.before.before.before.before.before.before.before).offsets-1.given
 
 returns-2 : tie.Need-returns
 returns-2 c =
     let k = c in
-    let i = (Indexes2 k.before) in
-    let o = Offsets i in
-    made_all (Entry (Framed o)).requires.0 _ _ _ o.offsets-1.given (LaidOut o).lay_out.ensures _ _ i.before.before.vertices.given
-    (i.indexes2.given ∙ o.indexes-1.given) _ _ (Framed o).frame-f.ensures i.extend-p.ensures
+    let i = k in
+    let o = Offsets i.before.before.before.before.before.before.before.before.before.before.before.before in
+    made_all (Entry (Framed o)).requires.0 _ _ _ o.offsets-1.given (LaidOut o).lay_out.ensures _ _ i.vertices-1.given
+    (i.indexes-2-1.given ∙ o.indexes-1.given) _ _ (Framed o).frame-f.ensures i.extend-p.ensures
     k.if-fault-ne0.false _ _ _ _ k.clip_cells.ensures
 
 pub make_cells_spec : {M : Type 1} → statement M

@@ -19,7 +19,7 @@ abbrev Entry : tie.At-loop-k invariant-loop decreases-loop → tie.Start invaria
 Entry l = l.before.before
 
 loop-holds : tie.Need-loop-k-init invariant-loop decreases-loop
-loop-holds c = let a = c.args in (search rules, omega arith, omega arith, lost_start a.first a.t3 a.entries.now)
+loop-holds c = let a = c.args in (search rules, omega arith, omega arith, lost_start a.first a.left a.entries.now)
 
 add-lost_corner : tie.Need-overflow_add-first invariant-loop decreases-loop
 add-lost_corner c = omega (arith, (Entry c.before).requires)
@@ -38,7 +38,7 @@ loop-again c =
       i.0,
       omega (arith, c.lost_corner-n.ensures.1),
       omega arith,
-      lost_step a.first a.t3 a.entries.now l.loop-k.k l.loop-k.n _ (omega (arith, i.0)) i.3 c.lost_corner-n.ensures.0,
+      lost_step a.first a.left a.entries.now l.loop-k.k l.loop-k.n _ (omega (arith, i.0)) i.3 c.lost_corner-n.ensures.0,
     )
 
 returns : tie.Need-returns invariant-loop decreases-loop
@@ -46,7 +46,7 @@ returns c =
     let l = c in
     let a = (Entry l.before).args in
     let i = l.loop-k.invariant in
-    lost_all a.first a.t3 a.entries.now l.loop-k.k _ (omega (arith, i.0)) i.3
+    lost_all a.first a.left a.entries.now l.loop-k.k _ (omega (arith, i.0)) i.3
 
 pub lost_corners_spec : {M : Type 1} → statement M
 lost_corners_spec =

@@ -5,10 +5,10 @@ use Rattle.cell_builder.proofs.placed.crowd_of.Statement.{statement}
 use Rattle.cell_builder.proofs.placed.crowd_of.Tie as tie
 
 returns : tie.Need-returns-then-owners
-returns c = crowd_first c.args.t1 (search rules) c.if-owners.true
+returns c = crowd_first c.args.owners (search rules) c.if-owners.true
 
 returns-2 : tie.Need-returns
-returns-2 c = crowd_third c.args.t1 (search rules) c.if-owners.false
+returns-2 c = crowd_third c.args.owners (search rules) c.if-owners.false
 
 pub crowd_of_spec : {M : Type 1} → statement M
 crowd_of_spec =

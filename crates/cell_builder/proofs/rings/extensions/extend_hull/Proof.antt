@@ -91,7 +91,7 @@ loop-again c =
     let added = at-add-at.add_at-r in (
       extending_step _ _ _ _ _ _ _ _ _ _ _ _ _ _ _ at-loop-test.loop-i.invariant.0 at-loop-test.loop-i-test.true _
           at-points.points_from-two.ensures.first (sym at-if1.finite_point.ensures ∙ not-false _ (ap not at-if1.if-not-finite_point.false))
-          (Entry at-loop-test.before).requires added.result added.new.vertices added.new.indexes added.kept.vertices added.kept.indexes
+          (Entry at-loop-test.before).requires added.result added.new.vertices added.new.indexes added.auto.vertices added.auto.indexes
           added.ensures.0 added.ensures.1 _ _ refl c.count_old-old.ensures,
       turn_ahead _ _ _ _ _ _ _ _ _ _ (Entry at-loop-test.before).requires _ _ _ _ _ at-loop-test.loop-i.invariant.0 at-loop-test.loop-i-test.true _ _
           at-points.points_from-two.ensures added.new.vertices _ added.ensures.1.verts added.ensures.0.low,

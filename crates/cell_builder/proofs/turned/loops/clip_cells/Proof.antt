@@ -50,7 +50,7 @@ clip_rest-requires : tie.Need-clip_rest-requires
 clip_rest-requires c κs =
     let e = Went (Outside c.before.before) in
     let h = Hulls e in
-    ((Entry h).args.hull.now, cells_amid (Planned h) _ _ _ _ _ _ h.clip_hull-r.ensures e.if-fault-ne0.left (Entry h).requires.0)
+    ((Entry h).args.hull.now, cells_amid (Planned h) _ _ _ _ _ _ h.clip_hull-r.ensures e.if-fault-ne0.false (Entry h).requires.0)
 
 -- the slices keep their lengths, in the hull's tries and in the rest's
 abbrev First : tie.After-clip_rest → tie.Else-fault-ne0

@@ -9,7 +9,7 @@ use Rattle.cell_builder.proofs.turned.loops.clip_due.Statement.{statement}
 use Rattle.cell_builder.proofs.turned.loops.clip_due.Tie as tie
 
 closes_outside-requires : tie.Need-closes_outside-requires
-closes_outside-requires c κs = let s = (Entry c) in retries s.requires.2.amid s.requires.0
+closes_outside-requires c κs = let s = c in retries s.requires.2.amid s.requires.0
 
 returns : tie.Need-returns-then-closes_outside
 returns c =
