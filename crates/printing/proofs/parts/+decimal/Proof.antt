@@ -28,7 +28,7 @@ decimal-below t = and 1 decimal-kinds.ps (falls 1 decimal-kinds.ps ◌<◌ μ-de
 
 -- the digit after those that the call wrote has room
 room :
-    (t : ℕ) (c : decimal-lts.After-slice-known2 (decimal-below t, decimal.Post) (decimal-at t) decimal.Post)
+    (t : ℕ) (c : decimal-lts.After-slice_known2 (decimal-below t, decimal.Post) (decimal-at t) decimal.Post)
     → HasRoom c.before.before.decimal.new.0 c.before.before.decimal.result ((48 + c.before.before.before.before.before.before.args.n % 10) ∷ [])
 room t c =
     let s = c.before.before.before.before.before.before in
@@ -38,14 +38,14 @@ room t c =
 
 decimal-cast-out :
     (t : ℕ) →
-    decimal-lts.Need-overflow-cast-out (decimal-below t, decimal.Post) (decimal-at t) decimal.Post
+    decimal-lts.Need-overflow_cast-out (decimal-below t, decimal.Post) (decimal-at t) decimal.Post
 decimal-cast-out t c = omega arith
 
 decimal-add-out :
-    (t : ℕ) → decimal-lts.Need-overflow-add-out (decimal-below t, decimal.Post) (decimal-at t) decimal.Post
+    (t : ℕ) → decimal-lts.Need-overflow_add-out (decimal-below t, decimal.Post) (decimal-at t) decimal.Post
 decimal-add-out t c = omega arith
 
-decimal-slice-write-out : (t : ℕ) → decimal-lts.Need-slice-write-out (
+decimal-slice-write-out : (t : ℕ) → decimal-lts.Need-slice_write-out (
   decimal-below t,
   decimal.Post,
 ) (decimal-at t) decimal.Post
@@ -53,12 +53,12 @@ decimal-slice-write-out t c = let s = c.before.before in omega (arith, s.require
 
 decimal-add-result :
     (t : ℕ) →
-    decimal-lts.Need-overflow-add-result (decimal-below t, decimal.Post) (decimal-at t) decimal.Post
+    decimal-lts.Need-overflow_add-result (decimal-below t, decimal.Post) (decimal-at t) decimal.Post
 decimal-add-result t c = let s = c.before.before in omega (arith, s.requires.1, ap length (decimal_one s.args.n c.if1.true))
 
 decimal-same-length :
     (t : ℕ) →
-    decimal-lts.Need-same-length (decimal-below t, decimal.Post) (decimal-at t) decimal.Post
+    decimal-lts.Need-same_length (decimal-below t, decimal.Post) (decimal-at t) decimal.Post
 decimal-same-length t c = simp length-set
 
 decimal-returns :
@@ -76,15 +76,15 @@ decimal-decimal-requires t c κs = let s = c.before.before.before in
 
 decimal-cast-out-2 :
     (t : ℕ) →
-    decimal-lts.Need-overflow-cast-out-2 (decimal-below t, decimal.Post) (decimal-at t) decimal.Post
+    decimal-lts.Need-overflow_cast-out-2 (decimal-below t, decimal.Post) (decimal-at t) decimal.Post
 decimal-cast-out-2 t c = omega arith
 
 decimal-add-out-2 :
     (t : ℕ) →
-    decimal-lts.Need-overflow-add-out-2 (decimal-below t, decimal.Post) (decimal-at t) decimal.Post
+    decimal-lts.Need-overflow_add-out-2 (decimal-below t, decimal.Post) (decimal-at t) decimal.Post
 decimal-add-out-2 t c = omega arith
 
-decimal-slice-write-out-2 : (t : ℕ) → decimal-lts.Need-slice-write-out-2 (
+decimal-slice-write-out-2 : (t : ℕ) → decimal-lts.Need-slice_write-out-2 (
   decimal-below t,
   decimal.Post,
 ) (decimal-at t) decimal.Post
@@ -92,14 +92,14 @@ decimal-slice-write-out-2 t c = omega (arith, room t c)
 
 decimal-add-result-2 :
     (t : ℕ) →
-    decimal-lts.Need-overflow-add-result-2 (decimal-below t, decimal.Post) (decimal-at t) decimal.Post
+    decimal-lts.Need-overflow_add-result-2 (decimal-below t, decimal.Post) (decimal-at t) decimal.Post
 decimal-add-result-2 t c =
     let at-good = c.before.before.before.before.before.before in
-    omega (arith, room t c, c.before.before.decimal.auto.0, at-good.well-formed.0.0)
+    omega (arith, room t c, c.before.before.decimal.auto.0, at-good.well_formed.0.0)
 
 decimal-same-length-2 :
     (t : ℕ) →
-    decimal-lts.Need-same-length-2 (decimal-below t, decimal.Post) (decimal-at t) decimal.Post
+    decimal-lts.Need-same_length-2 (decimal-below t, decimal.Post) (decimal-at t) decimal.Post
 decimal-same-length-2 t c = simp length-set c.before.before.decimal.auto.0
 
 decimal-returns-2 :
@@ -110,8 +110,8 @@ decimal-returns-2 t c = let s = c.before.before.before.before.before.before in
     wrote_as (wrote_then c.before.before.decimal.ensures (wrote_one c.before.before.decimal.new.0 c.before.before.decimal.result (48 + n % 10)))
     (sym (decimal_more n c.before.before.before.before.if1.false s.ranges.n.fits))
 
-pub +decimal-spec : {M : Type 1} → statement M
-+decimal-spec =
+pub +decimal_spec : {M : Type 1} → statement M
++decimal_spec =
     close
     μ-decimal
     λ t. decimal-lts.spec

@@ -7,19 +7,19 @@ use borrow.Author.Rules.{rules}
 use Rattle.printing.proofs.parts.refusal.Statement.{statement}
 use Rattle.printing.proofs.parts.refusal.Tie as tie
 
-abbrev Entry : tie.After-labelled → tie.Start
-Entry c = c.before.before.before.before
+abbrev Entry : tie.After-labelled-end → tie.Start
+Entry c = c.before.before.before.before.before
 
 returns : tie.Need-returns
 unfolding refusalOf labelledOf
 returns c =
-    let two = c.before.before in
-    let one = two.before.before.before.before.before in
-    wrote_then one.labelled.ensures two.put.ensures
+    let two = c in
+    let one = two in
+    wrote_then one.labelled-end.ensures two.put.ensures
 
-pub refusal-spec : {M : Type 1} → statement M
+pub refusal_spec : {M : Type 1} → statement M
 unfolding refusalOf labelledOf
-refusal-spec =
+refusal_spec =
     tie.close
-    (tie.spec (λ c. search rules) (λ c κs. omega (arith, simp length-append at c.before.before.before.requires)) (λ c. search rules)
+    (tie.spec (λ c. search rules) (λ c κs. omega (arith, simp length-append at c.requires)) (λ c. search rules)
     (λ c κs. omega (arith, simp length-append at (Entry c.before.before.before.before).requires)) (λ c. search rules) returns)
