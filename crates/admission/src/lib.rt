@@ -1,5 +1,8 @@
 // The rules up to 10 that a call tries on what it is lent: 1 and 2 on counts and room, 3 to 5 by the number that its own arguments gave, 6 on coordinates, 7 to 10 on the mesh.
 // A build tries them up to 9, and rule 10 apart.
+
+#![tactic(auto)]
+
 ghost use Rattle.std.specs.Prelude.{◌≡◌, true, ◌/◌, ◌<◌, ◌≤◌, length};
 ghost use Rattle.base.specs.numbers.Numbers.{refused_triangle};
 ghost use Rattle.mesh.specs.Mesh.{leftmost_of, Fan};

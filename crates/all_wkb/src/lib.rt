@@ -1,4 +1,7 @@
 // The polygons of all cells in Well-Known Binary, one after the other, and where each begins: the rules in their order once, then the image of each cell.
+
+#![tactic(auto)]
+
 ghost use Rattle.std.specs.Prelude.{◌≡◌, ◌+◌, ◌-◌, ◌/◌, ◌≤◌, ◌<◌, length};
 ghost use Rattle.base.specs.common.Count.{sum_to};
 ghost use Rattle.base.specs.common.Decide.{Says};

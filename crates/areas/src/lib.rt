@@ -1,4 +1,7 @@
 // The area of each cell on lent slices: the rules in their order, then each ring's area.
+
+#![tactic(auto)]
+
 ghost use Rattle.std.specs.Prelude.{◌≡◌, ◌/◌, length};
 ghost use Rattle.base.specs.common.Decide.{Says};
 ghost use Rattle.arguments.specs.entries.Named.{EntriesNamed};

@@ -1,3 +1,6 @@
 // What a call asks of its own arguments.
+
+#![tactic(auto)]
+
 pub mod asking;
 pub mod entries;

@@ -1,4 +1,7 @@
 // The audit: the first fault of the pieces as they lie, by the rules in their order, and the share of the box that is missing.
+
+#![tactic(auto)]
+
 pub mod corners;
 pub mod limit;
 pub mod nearer;

@@ -1,2 +1,5 @@
 // What every floor uses: the numbers that have a name, and the words of specs (tests, choices, counts, refusals) with their laws.
+
+#![tactic(auto)]
+
 pub mod numbers;

@@ -1,4 +1,7 @@
 // The build on a whole lent mesh, with its refusals and every lent slice at exit.
+
+#![tactic(auto)]
+
 pub mod counts;
 
 ghost use Rattle.mesh.specs.Accepted.{mesh};

@@ -1,4 +1,7 @@
 // The clipped build (CellBuilder with ClipBehavior::Clip) over lent slices: circumcenters, owners, extensions, the hull's cells, the rest, then all put in their places.
+
+#![tactic(auto)]
+
 pub mod finish;
 pub mod placed;
 pub mod rings;

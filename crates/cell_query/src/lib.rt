@@ -1,5 +1,8 @@
 // The queries on lent cells, each the part of the index list between two offsets: one cell, and whether two cells share an edge.
 // There is a site less than offsets; 4, then 16.
+
+#![tactic(auto)]
+
 ghost use Rattle.std.specs.Prelude.{◌≡◌, false};
 ghost use Rattle.cell_query.specs.Cells.{CellNumber, CellAnswer, PlaceAnswer};
 ghost use Rattle.cell_query.specs.SharedEdge.{told_of, SharesAnswer};

@@ -1,4 +1,7 @@
 // When pieces of any origin are the true ones.
+
+#![tactic(auto)]
+
 pub mod call;
 pub mod nearer;
 pub mod rules;

@@ -1,4 +1,7 @@
 // clip_cell of cell_builder.rs over lent slices: one ring clipped into the cell of its site.
+
+#![tactic(auto)]
+
 pub mod corners;
 pub mod edges;
 pub mod interior;

@@ -1,1 +1,3 @@
 // No code: what pieces by cutting are for, as theorems in specs/.
+
+#![tactic(auto)]

@@ -1,4 +1,7 @@
 // The corners of a piece as they come, written into the lent slices.
+
+#![tactic(auto)]
+
 pub mod copied;
 pub mod end;
 pub mod ring;

@@ -1,5 +1,8 @@
 // What flipping an edge is, and that the flipped mesh is accepted again, is in specs/. Here is the type
 // that the code shares with it, and the step back in a triangle.
+
+#![tactic(auto)]
+
 pub mod call;
 pub mod rule;
 pub mod stores;

@@ -1,4 +1,7 @@
 // Reads the program's form: one byte at a time by a state that is passed by value, each number stored as soon as its last byte has come.
+
+#![tactic(auto)]
+
 pub mod boxes;
 pub mod mesh;
 pub mod step;

@@ -1,5 +1,8 @@
 // Places of whole coordinates, each of magnitude at most 8,192: which way three of them turn, and whether a fourth lies inside their circle. Signs are
 // avoided: coordinates are moved up by 8,192, and a number with a sign is what is added and what is taken off. No sum or product reaches 2^61.
+
+#![tactic(auto)]
+
 pub mod border;
 pub mod check;
 pub mod floats;

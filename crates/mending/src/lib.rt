@@ -1,4 +1,7 @@
 // Mending a hand-edited mesh: sites and triangles are kept, pairs and hull worked out afresh, and what has changed is listed.
+
+#![tactic(auto)]
+
 pub mod border;
 pub mod changes;
 pub mod pairs;

@@ -1,4 +1,7 @@
 // Half-edge steps, the table of leftmost half-edges, and walks round a site, over lent triangles and half-edges.
+
+#![tactic(auto)]
+
 ghost use Rattle.std.specs.Prelude.{◌≡◌, ◌%◌, ◌<◌, ◌≤◌, length, replicate};
 ghost use Rattle.base.specs.numbers.Numbers.{EMPTY};
 ghost use Rattle.mesh.specs.Hull.{next_place};

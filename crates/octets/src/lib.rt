@@ -1,5 +1,8 @@
 // Bytes written into a lent slice from a place on; each function that writes answers the place after them. Numbers go out with the lowest byte first, and
 // are read in either order.
+
+#![tactic(auto)]
+
 pub mod hex;
 pub mod patterns;
 

@@ -1,4 +1,7 @@
 // Points, circumcenters, the box and how lines and rays meet it: the plane part of utils.rs, and bounding_box.rs.
+
+#![tactic(auto)]
+
 pub mod boxes;
 pub mod centers;
 pub mod given;

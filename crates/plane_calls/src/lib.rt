@@ -1,5 +1,8 @@
 // The bodies of the public calls on points and the box. A box is given by its size or by its edges; 3 is tried on it, then 6 on each point.
 // A refused call answers 0 beside its number (a side: EMPTY).
+
+#![tactic(auto)]
+
 ghost use Rattle.std.specs.Prelude.{◌≡◌, ◌≤◌, length};
 ghost use Rattle.plane.specs.points.Flat.{pour};
 ghost use Rattle.plane.specs.boxes.Box.{corners_of};

@@ -1,4 +1,7 @@
 // What a program prints for a form's bytes, whatever the text of a build is, is in specs/. In code: how long the slices are in which the build of every form has room (rule 2).
+
+#![tactic(auto)]
+
 pub mod parts;
 
 // Two numbers to a vertex.

@@ -1,4 +1,7 @@
 // The queries on a lent mesh, each with its refusals and every lent slice at exit.
+
+#![tactic(auto)]
+
 pub mod all_neighbours;
 pub mod bulk_ends;
 pub mod bulk_neighbours;

@@ -1,4 +1,7 @@
 // The form's reader for forms that arrive in parts: begin, feed, end, with a state that the caller keeps; and the whole form at once, by the same steps.
+
+#![tactic(auto)]
+
 pub mod answers;
 pub mod standing;
 pub mod state;

@@ -1,1 +1,3 @@
 // No code: that a told reason is the true one is in specs/.
+
+#![tactic(auto)]

@@ -1,4 +1,7 @@
 // The one reason why a mesh is refused, a cell is empty or a neighbour is gone: as an enum, as numbers, and what was asked answered over a build's slices.
+
+#![tactic(auto)]
+
 pub mod call;
 pub mod explaining;
 pub mod asked; // asked.rt: what was asked, answered

@@ -1,5 +1,8 @@
 // The sums of a ring of corners: the products of its sides as long numbers, what is added and what is taken off apart.
 // The limbs may begin at any number that no product of the ring begins below.
+
+#![tactic(auto)]
+
 pub mod limits;
 pub mod long;
 pub mod rounded;

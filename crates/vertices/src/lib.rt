@@ -1,4 +1,7 @@
 // The vertex store of cell_builder.rs over lent slices: circumcenters, then the box's corners, then added points, x and y in turn.
+
+#![tactic(auto)]
+
 pub mod buckets;
 
 ghost use Rattle.std.specs.Prelude.{◌≡◌, [], ◌∷◌, ◌++◌, ◌+◌, ◌-◌, ◌*◌, ◌≤◌, ◌<◌, length, get_or, set, drop};

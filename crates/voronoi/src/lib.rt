@@ -1,5 +1,8 @@
 // The public surface: every public call, exported to C under the prefix `voronoi_`, a module for each subject.
 // No call has a `requires`. Each says its result and every lent slice at exit, and specs/One.antt says that no two results are allowed for one input.
+
+#![tactic(auto)]
+
 pub mod audits;
 pub mod builds;
 pub mod bulk;

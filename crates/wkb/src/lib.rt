@@ -1,5 +1,8 @@
 // The cell of a site written as a Polygon in Well-Known Binary (OGC 06-103r4, 8.2), little-endian. The vertices come as floats or as patterns: the functions
 // inside take both lists, one after the other, of which one is empty.
+
+#![tactic(auto)]
+
 pub mod multipoint;
 pub mod multipoint_writer;
 

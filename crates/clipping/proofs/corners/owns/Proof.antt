@@ -11,7 +11,7 @@ use Rattle.clipping.proofs.corners.owns.Tie as tie
 returns : tie.Need-returns
 returns c =
     let a = c.args in
-    ap (λ o. eqb o a.site) (owner_same a.t1 a.c 0 EMPTY (omega arith))
+    ap (λ o. eqb o a.site) (owner_same a.owners a.c 0 EMPTY (omega arith))
 
 pub owns_spec : {M : Type 1} → statement M
 owns_spec = tie.close (tie.spec (λ c. search rules) (λ c. search rules) returns)

@@ -9,7 +9,7 @@ abbrev Second : tie.After-struct_known-2-1 → tie.After-add_at-b
 Second c = c.before.before.before.before.before.before.before.before
 
 abbrev First : tie.After-struct_known-2-1 → tie.After-add_at-a
-First c = (Second c).before.before.before.before.before.before.before
+First c = c.before.before.before.before.before.before.before.before.before.before.before.before.before.before.before
 
 cast-t23 : tie.Need-overflow_cast-result-2
 cast-t23 c =

@@ -32,22 +32,22 @@ in_box-requires c κs = ((Start c.before).requires.0, (Start c.before).requires.
 returns : tie.Need-returns-then-in_box invariant-loop decreases-loop
 returns c =
     let in-loop = c in
-    let a = (Start in-loop).args in
+    let a = (Start in-loop.before.before.before).args in
     let l = in-loop.loop-k in
     let vs = points a.count a.vertices.now in
     let h = in-loop.loop-k-test.true in
-    let n = length_ring a.indexes.now a.ring a.len (Start in-loop).requires.1 in
+    let n = length_ring a.indexes.now a.ring a.len (Start in-loop.before.before.before).requires.1 in
     let e = ring_answer a.env.bounds a.env.centers vs a.indexes.now a.ring a.len l.k _ _ h c.in_box.ensures c.if-in_box.true in
     (sym (l.invariant.1 ∙ first_hit a.env.bounds a.env.centers vs (ring_of a.indexes.now a.ring a.len) l.k (rw n h) e), omega arith)
 
 loop-again : tie.Need-loop-k-preserved invariant-loop decreases-loop
 loop-again c =
     let in-loop = c in
-    let a = (Start in-loop).args in
+    let a = (Start in-loop.before.before.before).args in
     let l = in-loop.loop-k in
     let vs = points a.count a.vertices.now in
     let h = in-loop.loop-k-test.true in
-    let n = length_ring a.indexes.now a.ring a.len (Start in-loop).requires.1 in
+    let n = length_ring a.indexes.now a.ring a.len (Start in-loop.before.before.before).requires.1 in
     let e = ring_answer a.env.bounds a.env.centers vs a.indexes.now a.ring a.len l.k _ _ h c.in_box.ensures c.if-in_box.false in
     (omega arith, l.invariant.1 ∙ first_miss a.env.bounds a.env.centers vs (ring_of a.indexes.now a.ring a.len) l.k (rw n h) e)
 

@@ -27,10 +27,10 @@ abbrev Asked : tie.After-passes invariant-loop decreases-loop → tie.After-cros
 Asked c = c.before
 
 abbrev InBox : tie.After-passes invariant-loop decreases-loop → tie.After-in_box-q_in invariant-loop decreases-loop
-InBox c = (Asked c).before.before
+InBox c = c.before.before
 
 abbrev Read : tie.After-passes invariant-loop decreases-loop → tie.After-turned invariant-loop decreases-loop
-Read c = (InBox c).before.before.before
+Read c = c.before.before.before.before
 
 abbrev StepTo : tie.After-struct_known-1 invariant-loop decreases-loop → tie.After-step_to-s invariant-loop decreases-loop
 StepTo c = c.before.before.before.before.before.before
@@ -83,7 +83,7 @@ crossing_of-requires c κs =
     (r.room.holds.room, r.stands.vertex, r.room.below at-turned.turned.result at-turned.turned.ensures.0)
 
 add-k : tie.Need-overflow_add-k invariant-loop decreases-loop
-add-k c = omega (arith, (Read c.before).loop-k-test.true, (Start (Read c.before)).fits.len)
+add-k c = omega (arith, (Read c.before).loop-k-test.true, (Start (Read c.before)).ranges.len)
 
 loop-less : tie.Need-loop-k-smaller-then-passes invariant-loop decreases-loop
 loop-less c = omega (arith, (Read c.before).loop-k-test.true)
@@ -148,7 +148,7 @@ together-requires c κs =
     l.invariant.1 _ _ _ _ at-turned.loop-k-test.true (read at-turned) (StepTo at-else2.before.before.before).step_to-s.ensures.0 at-else2.if-fault-ne0.false (omega arith)
 
 add-k-2 : tie.Need-overflow_add-k-in-loop-k invariant-loop decreases-loop
-add-k-2 c = omega (arith, (Turned c.before.before.before.before).loop-k-test.true, (Start (Turned c.before.before.before.before)).fits.len)
+add-k-2 c = omega (arith, (Turned c.before.before.before.before).loop-k-test.true, (Start (Turned c.before.before.before.before)).ranges.len)
 
 loop-less-2 : tie.Need-loop-k-smaller invariant-loop decreases-loop
 loop-less-2 c = omega (arith, (Turned c.before.before.before.before).loop-k-test.true)

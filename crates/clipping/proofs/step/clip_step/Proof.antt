@@ -15,7 +15,6 @@ use borrow.Author.Rules.{rules}
 use Rattle.clipping.proofs.step.clip_step.Statement.{statement}
 use Rattle.clipping.proofs.step.clip_step.Tie as tie
 
-
 -- the crossings are on the sides where not both ends are inside
 sided :
     (s : tie.Start)

@@ -10,13 +10,12 @@ use borrow.Author.Rules.{rules}
 use Rattle.clipping.proofs.step.cross.Statement.{statement}
 use Rattle.clipping.proofs.step.cross.Tie as tie
 
-
 -- after the crossings, and the start
 abbrev Crossings : tie.After-slice_known-4-1 → tie.After-add_crossings-clip
 Crossings c = c.before.before.before.before
 
 abbrev Entry : tie.After-slice_known-4-1 → tie.Start
-Entry c = (Crossings c).before.before.before.before.before
+Entry c = c.before.before.before.before.before.before.before.before.before
 
 abbrev clip : tie.After-slice_known-4-1 → EdgeClip
 clip c = let a = (Entry c).args in clip_with a.env.centers (points a.count a.vertices.now) a.c

@@ -70,8 +70,8 @@ module _ (tri he : List ℕ) (ok : Paired tri he) (t s : ℕ) (ends : t < length
       let below : (v : ℕ) → 0 < occ v w → v < length he = λ v p. ⊎_elim (λ z. rw z.0 lr) (λ z. in_mesh v (omega arith)) (same_cases v r) in
       let most : (v : ℕ) → occ v w ≤ u v = λ v. ⊎_elim
       (λ z. subst (λ (k : ℕ). occ k w ≤ u k) (sym z.0)
-          (let one : same r r ≡ 1 = subst (λ (k : ℕ). same k r ≡ 1) z.0 z.1 in
-          ⊎_elim (λ y. omega (arith, one, y.1, nr)) (λ y. absurd (y.0 er)) (same_cases (end_of tri r) s)))
+      (let one : same r r ≡ 1 = subst (λ (k : ℕ). same k r ≡ 1) z.0 z.1 in
+      ⊎_elim (λ y. omega (arith, one, y.1, nr)) (λ y. absurd (y.0 er)) (same_cases (end_of tri r) s)))
       (λ z. omega (arith, at_most v))
       (same_cases v r) in
       let q = all_weighed u (length he) w below most (omega (arith, weighed_le u (length he) w below most)) g lg in

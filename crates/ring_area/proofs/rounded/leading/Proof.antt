@@ -9,7 +9,6 @@ use Rattle.ring_area.specs.rounded.laws.Limbs.{LimbParts, leading_small, leading
 use Rattle.ring_area.proofs.rounded.leading.Statement.{statement}
 use Rattle.ring_area.proofs.rounded.leading.Tie as tie
 
-
 -- the parts, as the calls gave them
 parts : (c : tie.After-none_below-clear)
     → LimbParts (lifted c.args.from c.args.limbs.now)

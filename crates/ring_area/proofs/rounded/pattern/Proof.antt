@@ -11,7 +11,6 @@ use Rattle.ring_area.specs.rounded.laws.Patterns.{pattern_small, room_for, few, 
 use Rattle.ring_area.proofs.rounded.pattern.Statement.{statement}
 use Rattle.ring_area.proofs.rounded.pattern.Tie as tie
 
-
 -- the number that the limbs are
 abbrev number : tie.Start → ℕ
 number s = amount (lifted s.args.from s.args.limbs.now)
