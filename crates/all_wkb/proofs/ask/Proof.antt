@@ -1,4 +1,6 @@
 -- `all_wkb::ask` meets its contract: the cells, then 2 twice.
+use mathlib.Core.Bool.{not}
+use mathlib.Core.Path.{ap}
 use native.Mathlib.Omega.{arith}
 use borrow.Author.Rules.{rules}
 use Rattle.base.specs.common.laws.Decide.{granted, refused}
@@ -6,32 +8,26 @@ use Rattle.all_wkb.specs.laws.Answers.{cells_given, bad_cells, no_starts, no_roo
 use Rattle.all_wkb.proofs.ask.Statement.{statement}
 use Rattle.all_wkb.proofs.ask.Tie as tie
 
-returns : tie.Need-returns
-returns c = bad_cells _ _ c.before.ask-cells.ensures c.if1.true
+returns : tie.Need-returns-then-asked-ne0
+returns c = bad_cells _ _ c.ask_cells-asked.ensures c.if-asked-ne0.true
 
-returns-2 : tie.Need-returns-2
+returns-2 : tie.Need-returns-then-starts-offsets
 returns-2 c =
-    let first = c.before in
-    no_starts _ _ first.before.ask-cells.ensures first.if1.false (λ h. omega (arith, c.if2.true))
+    no_starts _ _ c.ask_cells-asked.ensures c.if-asked-ne0.false (λ h. omega (arith, c.if-starts-offsets.true))
 
 fits-requires : tie.Need-fits-requires
 fits-requires c κs =
-    let first = c.before in
-    cells_given first.before.ask-cells.ensures first.if1.false
+    cells_given c.ask_cells-asked.ensures c.if-asked-ne0.false
 
-returns-3 : tie.Need-returns-3
+returns-3 : tie.Need-returns-then-not-fits
 returns-3 c =
-    let second = c.before.before in
-    let first = second.before in
-    no_room _ _ first.before.ask-cells.ensures first.if1.false second.if2.false
-    (refused c.before.fits2.result c.if3.true c.before.fits2.ensures)
+    no_room _ _ c.ask_cells-asked.ensures c.if-asked-ne0.false c.if-starts-offsets.false
+    (refused c.fits.result (ap not c.if-not-fits.true) c.fits.ensures)
 
-returns-4 : tie.Need-returns-4
+returns-4 : tie.Need-returns
 returns-4 c =
-    let second = c.before.before in
-    let first = second.before in
-    has_room _ _ first.before.ask-cells.ensures first.if1.false second.if2.false
-    (granted c.before.fits2.result c.if3.false c.before.fits2.ensures)
+    has_room _ _ c.ask_cells-asked.ensures c.if-asked-ne0.false c.if-starts-offsets.false
+    (granted c.fits.result (ap not c.if-not-fits.false) c.fits.ensures)
 
-pub ask-spec : {M : Type 1} → statement M
-ask-spec = tie.close (tie.spec (λ c κs. search rules) returns returns-2 fits-requires returns-3 returns-4)
+pub ask_spec : {M : Type 1} → statement M
+ask_spec = tie.close (tie.spec (λ c κs. search rules) returns returns-2 fits-requires returns-3 returns-4)

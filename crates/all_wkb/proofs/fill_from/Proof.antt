@@ -7,26 +7,26 @@ use Rattle.cell_memory.specs.layout.laws.Overwritten.{Clearing, clearing_start, 
 use Rattle.all_wkb.proofs.fill_from.Statement.{statement}
 use Rattle.all_wkb.proofs.fill_from.Tie as tie
 
-abbrev invariant-loop : tie.invariant-loop
+abbrev invariant-loop : tie.invariant-loop-i
 invariant-loop starts₀ from value i₀ starts i = Clearing starts₀ value from starts i
 
-abbrev decreases-loop : tie.decreases-loop
+abbrev decreases-loop : tie.decreases-loop-i
 decreases-loop starts₀ from value i₀ starts i = length starts₀ - i
 
-loop-holds : tie.Need-loop-init invariant-loop decreases-loop
+loop-holds : tie.Need-loop-i-init invariant-loop decreases-loop
 loop-holds c = clearing_start _ _ _ c.requires
 
-loop-again : tie.Need-loop-preserved invariant-loop decreases-loop
-loop-again c = clearing_step _ _ _ _ _ c.before.loop.invariant (omega arith)
+loop-again : tie.Need-loop-i-preserved invariant-loop decreases-loop
+loop-again c = clearing_step _ _ _ _ _ c.loop-i.invariant (omega arith)
 
-same_length : tie.Need-same-length invariant-loop decreases-loop
-same_length c = c.before.loop.invariant.long
+same_length : tie.Need-shape_of-starts invariant-loop decreases-loop
+same_length c = c.loop-i.invariant.long
 
 returns : tie.Need-returns invariant-loop decreases-loop
-returns c = clearing_end _ _ _ _ _ c.before.loop.invariant (omega arith)
+returns c = clearing_end _ _ _ _ _ c.loop-i.invariant (omega arith)
 
-pub fill-from-spec : {M : Type 1} → statement M
-fill-from-spec =
+pub fill_from_spec : {M : Type 1} → statement M
+fill_from_spec =
     tie.close
     (tie.spec invariant-loop decreases-loop loop-holds (λ c. search rules) (λ c. search rules) (λ c. search rules) (λ c. omega arith)
     loop-again same_length returns)

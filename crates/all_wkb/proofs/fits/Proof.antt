@@ -8,45 +8,45 @@ use Rattle.all_wkb.specs.laws.Sizes.{Counting, counting_start, counting_next, co
 use Rattle.all_wkb.proofs.fits.Statement.{statement}
 use Rattle.all_wkb.proofs.fits.Tie as tie
 
-abbrev invariant-loop : tie.invariant-loop
+abbrev invariant-loop : tie.invariant-loop-s
 invariant-loop offsets indexes room count left₀ s₀ left s = Counting (size_at offsets indexes) (length offsets - 1) room left s
 
-abbrev decreases-loop : tie.decreases-loop
+abbrev decreases-loop : tie.decreases-loop-s
 decreases-loop offsets indexes room count left₀ s₀ left s = count - s
 
-abbrev Begin : tie.At-loop invariant-loop decreases-loop → tie.Start invariant-loop decreases-loop
+abbrev Begin : tie.At-loop-s invariant-loop decreases-loop → tie.Start invariant-loop decreases-loop
 Begin c = c.before.before.before.before
 
-loop-holds : tie.Need-loop-init invariant-loop decreases-loop
+loop-holds : tie.Need-loop-s-init invariant-loop decreases-loop
 loop-holds c = counting_start _ _ _
 
 -- the cell is one of them
-inside : (c : tie.In-loop invariant-loop decreases-loop) → c.before.loop.s < length (Begin c.before).args.offsets.now - 1
-inside c = omega (arith, c.loop-test.true, c.before.before.cell-count.ensures)
+inside : (c : tie.In-loop-s invariant-loop decreases-loop) → c.loop-s.s < length (Begin c.before).args.offsets.now - 1
+inside c = omega (arith, c.loop-s-test.true, c.cell_count-count.ensures)
 
-size-at-requires : tie.Need-size-at-requires invariant-loop decreases-loop
-size-at-requires c κs = ((Begin c.before).pre, omega (arith, inside c))
+size_at-requires : tie.Need-size_at-n-requires invariant-loop decreases-loop
+size_at-requires c κs = ((Begin c.before).requires, omega (arith, inside c))
 
-returns : tie.Need-returns invariant-loop decreases-loop
+returns : tie.Need-returns-then-left-n invariant-loop decreases-loop
 returns c =
-    let turn = c.before.before in
-    counting_over _ _ turn.before.loop.invariant (inside turn) c.before.size-at.ensures c.if1.true
+    let turn = c in
+    counting_over _ _ turn.loop-s.invariant (inside turn.before.before) c.size_at-n.ensures c.if-left-n.true
 
-add-s : tie.Need-overflow-add-s invariant-loop decreases-loop
-add-s c = omega (arith, c.before.before.loop-test.true)
+add-s : tie.Need-overflow_add-s invariant-loop decreases-loop
+add-s c = omega (arith, c.loop-s-test.true)
 
-loop-less : tie.Need-loop-smaller invariant-loop decreases-loop
-loop-less c = omega (arith, c.before.before.loop-test.true)
+loop-less : tie.Need-loop-s-smaller invariant-loop decreases-loop
+loop-less c = omega (arith, c.loop-s-test.true)
 
-loop-again : tie.Need-loop-preserved invariant-loop decreases-loop
+loop-again : tie.Need-loop-s-preserved invariant-loop decreases-loop
 loop-again c =
-    let turn = c.before.before in
-    counting_next _ _ turn.before.loop.invariant (inside turn) c.before.size-at.ensures c.if1.false
+    let turn = c in
+    counting_next _ _ turn.loop-s.invariant (inside turn.before.before) c.size_at-n.ensures c.if-left-n.false
 
-returns-2 : tie.Need-returns-2 invariant-loop decreases-loop
-returns-2 c = counting_end _ _ c.before.loop.invariant (omega (arith, c.loop-test.false, c.before.before.cell-count.ensures))
+returns-2 : tie.Need-returns invariant-loop decreases-loop
+returns-2 c = counting_end _ _ c.loop-s.invariant (omega (arith, c.loop-s-test.false, c.cell_count-count.ensures))
 
-pub fits-spec : {M : Type 1} → statement M
-fits-spec =
+pub fits_spec : {M : Type 1} → statement M
+fits_spec =
     tie.close
-    (tie.spec invariant-loop decreases-loop (λ c κs. search rules) loop-holds size-at-requires returns add-s loop-less loop-again returns-2)
+    (tie.spec invariant-loop decreases-loop (λ c κs. search rules) loop-holds size_at-requires returns add-s loop-less loop-again returns-2)

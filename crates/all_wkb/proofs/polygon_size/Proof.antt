@@ -6,11 +6,11 @@ use Rattle.wkb.specs.laws.Room.{size_none, size_ring}
 use Rattle.all_wkb.proofs.polygon_size.Statement.{statement}
 use Rattle.all_wkb.proofs.polygon_size.Tie as tie
 
-returns : tie.Need-returns
-returns c = sym (size_none _ c.if1.true)
+returns : tie.Need-returns-then-entries-lt3
+returns c = sym (size_none _ c.if-entries-lt3.true)
 
-returns-2 : tie.Need-returns-2
-returns-2 c = omega (arith, size_ring _ c.if1.false)
+returns-2 : tie.Need-returns
+returns-2 c = omega (arith, size_ring _ c.if-entries-lt3.false)
 
-pub polygon-size-spec : {M : Type 1} → statement M
-polygon-size-spec = tie.close (tie.spec returns (λ c. search rules) (λ c. search rules) returns-2)
+pub polygon_size_spec : {M : Type 1} → statement M
+polygon_size_spec = tie.close (tie.spec returns (λ c. search rules) (λ c. search rules) returns-2)

@@ -12,83 +12,83 @@ use borrow.Author.Rules.{rules}
 use Rattle.auditing.proofs.name_nearer.Statement.{statement}
 use Rattle.auditing.proofs.name_nearer.Tie as tie
 
-abbrev Start : tie.After-no-lists → tie.Start
+abbrev Start : tie.After-no_lists-all → tie.Start
 Start c = c.before.before.before.before.before.before.before
 
-abbrev Held : tie.After-first-beyond → tie.After-held
+abbrev Held : tie.After-first_beyond-j → tie.After-held-part
 Held c = c.before.before.before.before.before.before
 
-held-requires : tie.Need-held-requires
+held-requires : tie.Need-held-part-requires
 held-requires c κs = held_cut (Start c).requires.held (Start c).args.s (Start c).requires.own
 
 -- the list names sites, or there are none
-names : (c : tie.After-held) → HeldNames (Start c.before).args.sites.now (Start c.before).args.s c.held.result.now c.before.no-lists.result
+names : (c : tie.After-held-part) → HeldNames (Start c.before).args.sites.now (Start c.before).args.s c.held-part.result.now c.no_lists-all.result
 names c =
     let s = Start c.before in
-    held_names s.pre.held s.args.s s.pre.own c.before.no-lists.ensures c.held.ensures
+    held_names s.requires.held s.args.s s.requires.own c.no_lists-all.ensures c.held-part.ensures
 
-first-nearer-requires : tie.Need-first-nearer-requires
-first-nearer-requires c κs =
+first_nearer-requires : tie.Need-first_nearer-k-requires
+first_nearer-requires c κs =
     let s = Start c.before.before in
-    (names c.before, piece_names s.pre.pieces s.args.s s.pre.own c.cell.ensures)
+    (names c.before, piece_names s.requires.pieces s.args.s s.requires.own c.cell-entries.ensures)
 
 -- the corner is one of the cell's
-corner : (c : tie.After-first-nearer) → c.first-nearer.result < length c.before.cell.result.now
+corner : (c : tie.After-first_nearer-k) → c.first_nearer-k.result < length c.cell-entries.result.now
 corner c =
-    let at_held = c.before.before in
-    let s = Start at_held.before in
+    let at_held = c in
+    let s = Start at_held.before.before.before in
     corner_below s.args.far s.args.sites.now s.args.starts.now s.args.others.now s.args.vertices.now s.args.offsets.now s.args.indexes.now s.args.s
-    at_held.before.no-lists.ensures at_held.held.ensures c.before.cell.ensures c.first-nearer.ensures s.pre.nearer
+    at_held.no_lists-all.ensures at_held.held-part.ensures c.cell-entries.ensures c.first_nearer-k.ensures s.requires.nearer
 
-mul-e : tie.Need-overflow-mul-e
+mul-e : tie.Need-offset_bounds-entries-k
 mul-e c = omega (arith, corner c)
 
-shared-slice-read-e : tie.Need-shared-slice-read-e
-shared-slice-read-e c = corner c.before
+shared_slice_read-e : tie.Need-bounds-entries-k
+shared_slice_read-e c = corner c.before
 
-point-at-requires : tie.Need-point-at-requires
-point-at-requires c κs =
-    let at_first = c.before.before in
-    let s = Start at_first.before.before.before in
-    rw c.wide.ensures (named_twice _ _ ((piece_names s.pre.pieces s.args.s s.pre.own at_first.before.cell.ensures).each _ (corner at_first)))
+point_at-requires : tie.Need-point_at-requires
+point_at-requires c κs =
+    let at_first = c in
+    let s = Start at_first.before.before.before.before.before in
+    rw c.wide.ensures (named_twice _ _ ((piece_names s.requires.pieces s.args.s s.requires.own at_first.cell-entries.ensures).each _ (corner at_first.before.before)))
 
-first-beyond-requires : tie.Need-first-beyond-requires
-first-beyond-requires c κs = names c.before.before.before.before.before
+first_beyond-requires : tie.Need-first_beyond-j-requires
+first_beyond-requires c κs = names c.before.before.before.before.before
 
 -- and the other is one of those held against it
-other : (c : tie.After-first-beyond) → c.first-beyond.result < held_count (Held c).before.no-lists.result (Held c).held.result.now (length (Start (Held c).before).args.sites.now / 2)
+other : (c : tie.After-first_beyond-j) → c.first_beyond-j.result < held_count (Held c).no_lists-all.result (Held c).held-part.result.now (length (Start (Held c).before).args.sites.now / 2)
 other c =
-    let at_first = c.before.before.before.before in
+    let at_first = c in
     let s = Start (Held c).before in
     other_below s.args.far s.args.sites.now s.args.starts.now s.args.others.now s.args.vertices.now s.args.offsets.now s.args.indexes.now s.args.s
-    (Held c).before.no-lists.ensures (Held c).held.ensures at_first.before.cell.ensures at_first.first-nearer.ensures
-    c.before.before.wide.ensures c.before.point_at.ensures c.first-beyond.ensures (corner at_first)
+    (Held c).no_lists-all.ensures (Held c).held-part.ensures at_first.cell-entries.ensures at_first.first_nearer-k.ensures
+    c.wide.ensures c.point_at.ensures c.first_beyond-j.ensures (corner at_first.before.before.before.before)
 
-other-at-requires : tie.Need-other-at-requires
-other-at-requires c κs = other_there (Held c).before.no-lists.result _ _ _ refl (other c)
+other_at-requires : tie.Need-other_at-o-requires
+other_at-requires c κs = other_there (Held c).no_lists-all.result _ _ _ refl (other c)
 
 narrow-requires-2 : tie.Need-narrow-requires-2
 narrow-requires-2 c κs =
-    let at-beyond = c.before.before in
+    let at-beyond = c in
     omega (
       arith,
-      c.before.other_at.ensures,
-      (Start (Held at-beyond).before).requires.few,
-      other_site (Held at-beyond).before.no-lists.result (Held at-beyond).held.result.now _ at-beyond.first-beyond.result refl (other at-beyond) (names (Held at-beyond)).named,
+      c.other_at-o.ensures,
+      (Start (Held at-beyond.before.before).before).requires.few,
+      other_site (Held at-beyond.before.before).no_lists-all.result (Held at-beyond.before.before).held-part.result.now _ at-beyond.first_beyond-j.result refl (other at-beyond.before.before) (names (Held at-beyond.before.before)).named,
     )
 
 returns : tie.Need-returns
 returns c =
-    let at-beyond = c.before.before.before in
-    let at_wide = at-beyond.before.before in
-    let s = Start (Held at-beyond).before in
-    nearer_named s.args.far s.args.sites.now s.args.starts.now s.args.others.now s.args.vertices.now s.args.offsets.now s.args.indexes.now s.args.s (Held at-beyond).before.no-lists.ensures (Held at-beyond).held.ensures at_wide.before.before.before.cell.ensures
-    at_wide.before.before.first-nearer.ensures
-    at_wide.wide.ensures at-beyond.before.point_at.ensures at-beyond.first-beyond.ensures c.before.narrow.ensures c.before.before.other_at.ensures c.narrow2.ensures
+    let at-beyond = c in
+    let at_wide = at-beyond in
+    let s = Start (Held at-beyond.before.before.before).before in
+    nearer_named s.args.far s.args.sites.now s.args.starts.now s.args.others.now s.args.vertices.now s.args.offsets.now s.args.indexes.now s.args.s (Held at-beyond.before.before.before).no_lists-all.ensures (Held at-beyond.before.before.before).held-part.ensures at_wide.cell-entries.ensures
+    at_wide.first_nearer-k.ensures
+    at_wide.wide.ensures at-beyond.point_at.ensures at-beyond.first_beyond-j.ensures c.narrow.ensures c.other_at-o.ensures c.narrow-2.ensures
 
-pub name-nearer-spec : {M : Type 1} → statement M
-name-nearer-spec =
+pub name_nearer_spec : {M : Type 1} → statement M
+name_nearer_spec =
     tie.close
-    (tie.spec (λ c κs. search rules) held-requires (λ c κs. search rules) first-nearer-requires mul-e
-    shared-slice-read-e (λ c κs. search rules) point-at-requires first-beyond-requires other-at-requires
+    (tie.spec (λ c κs. search rules) held-requires (λ c κs. search rules) first_nearer-requires mul-e
+    shared_slice_read-e (λ c κs. search rules) point_at-requires first_beyond-requires other_at-requires
     (λ c κs. search rules) narrow-requires-2 returns)

@@ -9,13 +9,13 @@ use Rattle.auditing.proofs.name_twin.Tie as tie
 
 narrow-requires-2 : tie.Need-narrow-requires-2
 narrow-requires-2 c κs =
-    let s = c.before.before.before in
-    omega (arith, s.requires.0, s.requires.1, c.before.first-twin.ensures, (lowest_first (twin_at s.args.sites.now s.args.s) s.args.s).within)
+    let s = c in
+    omega (arith, s.requires.0, s.requires.1, c.first_twin-o.ensures, (lowest_first (twin_at s.args.sites.now s.args.s) s.args.s).within)
 
 returns : tie.Need-returns
 returns c =
-    let s = c.before.before.before.before in
-    twin_named s.args.sites.now s.args.s c.before.narrow.ensures c.before.before.first-twin.ensures c.narrow2.ensures
+    let s = c in
+    twin_named s.args.sites.now s.args.s c.narrow.ensures c.first_twin-o.ensures c.narrow-2.ensures
 
-pub name-twin-spec : {M : Type 1} → statement M
-name-twin-spec = tie.close (tie.spec (λ c κs. search rules) (λ c κs. search rules) narrow-requires-2 returns)
+pub name_twin_spec : {M : Type 1} → statement M
+name_twin_spec = tie.close (tie.spec (λ c κs. search rules) (λ c κs. search rules) narrow-requires-2 returns)

@@ -7,19 +7,19 @@ use Rattle.auditing.proofs.verdict.Tie as tie
 
 returns : tie.Need-returns
 returns c =
-    let at-total = c.before.before in
-    let at-limit = at-total.before.before in
-    let at-shared-slice-known5 = at-limit.before.before.before in
-    let s = at-shared-slice-known5.before.before.before.before.before in
-    let q = limit_of s.args.bounds s.args.bits at-limit.before.wide.ensures at-limit.limit.ensures in (
+    let at-total = c in
+    let at-limit = at-total in
+    let at-shared-slice-known5 = at-limit in
+    let s = at-shared-slice-known5 in
+    let q = limit_of s.args.bounds s.args.bits at-limit.wide.ensures at-limit.limit-limit.ensures in (
       verdict_is s.args.bounds s.args.sites.now s.args.vertices.now s.args.offsets.now s.args.indexes.now s.args.starts.now
-          s.args.others.now s.args.bits (at-total.total.ensures.1 (box_twice s.args.bounds) s.args.bits q)
-          (c.judge-rings.ensures (box_twice s.args.bounds) q),
-      at-total.total.ensures.0,
+          s.args.others.now s.args.bits (at-total.total-share.ensures.1 (box_twice s.args.bounds) s.args.bits q)
+          (c.judge_rings-v.ensures (box_twice s.args.bounds) q),
+      at-total.total-share.ensures.0,
     )
 
-pub verdict-spec : {M : Type 1} → statement M
-verdict-spec =
+pub verdict_spec : {M : Type 1} → statement M
+verdict_spec =
     tie.close
     (tie.spec (λ c κs. search rules) (λ c κs. search rules) (λ c. search rules) (λ c κs. search rules)
     (λ c. search rules) (λ c κs. search rules) returns)

@@ -7,51 +7,51 @@ use Rattle.cell_builder.specs.laws.BuildOutcome.{owned, owners_are, makeable, re
 use Rattle.cell_builder.proofs.build_cells.Statement.{statement}
 use Rattle.cell_builder.proofs.build_cells.Tie as tie
 
-abbrev Entry : tie.After-calculate-circumcenters-arg → tie.Start
+abbrev Entry : tie.After-calculate_circumcenters-arg-1 → tie.Start
 Entry a = a.before.before.before.before.before.before.before.before.before
 
 -- the test after the circumcenters, and what stands before it
-abbrev Circumcenters : tie.Else1 → tie.After-calculate-circumcenters
+abbrev Circumcenters : tie.Else-t-triangles → tie.After-calculate_circumcenters-t
 Circumcenters c = c.before.before.before
 
-abbrev Tested : tie.After-calculate-corner-ownership → tie.Else1
+abbrev Tested : tie.After-calculate_corner_ownership-owners → tie.Else-t-triangles
 Tested c = c.before.before
 
-calculate-circumcenters-requires : tie.Need-calculate-circumcenters-requires
-calculate-circumcenters-requires c κs = let e = Entry c in (named e.pre, omega (arith, e.pre.rooms.vertices))
+calculate_circumcenters-requires : tie.Need-calculate_circumcenters-t-requires
+calculate_circumcenters-requires c κs = let e = Entry c in (named e.requires, omega (arith, e.requires.rooms.vertices))
 
-returns : tie.Need-returns
+returns : tie.Need-returns-then-t-triangles
 returns c =
-    let k = c.before.before.before.before.before.before in
-    let i = k.before.before.before.before in
-    let w = i.before.before in
-    let t = w.before in
+    let k = c in
+    let i = k in
+    let w = i in
+    let t = w in
+    let e = Entry t.before.before.before.before.before.before.before.before.before.before.before.before.before.before in
+    refused_first e.requires _ _ _ _ _ _ _ _ _ t.calculate_circumcenters-t.ensures i.if-t-triangles.true w.vertices-1.given k.refuse.ensures refl
+
+calculate_corner_ownership-requires : tie.Need-calculate_corner_ownership-owners-requires
+calculate_corner_ownership-requires c κs = let e = Entry (Circumcenters c.before).before in owned e.requires
+
+clip_build-requires : tie.Need-clip_build-requires
+clip_build-requires c κs =
+    let o = c in
+    let t = Circumcenters (Tested o.before.before.before) in
     let e = Entry t.before in
-    refused_first e.pre _ _ _ _ _ _ _ _ _ t.calculate-circumcenters.ensures i.if1.true w.vertices.given k.refuse.ensures refl
+    makeable e.requires _ _ (owners_are e.requires o.calculate_corner_ownership-owners.ensures) (Tested o.before.before.before).vertices-1.given
 
-calculate-corner-ownership-requires : tie.Need-calculate-corner-ownership-requires
-calculate-corner-ownership-requires c κs = let e = Entry (Circumcenters c.before).before in owned e.pre
-
-clip-build-requires : tie.Need-clip-build-requires
-clip-build-requires c κs =
-    let o = c.before.before.before in
-    let t = Circumcenters (Tested o) in
-    let e = Entry t.before in
-    makeable e.pre _ _ (owners_are e.pre o.calculate-corner-ownership.ensures) (Tested o).before.before.vertices.given
-
-returns-2 : tie.Need-returns-2
+returns-2 : tie.Need-returns
 returns-2 c =
-    let k = c.before.before.before.before.before.before in
-    let o = k.before.before.before.before in
-    let w = Tested o in
+    let k = c in
+    let o = k in
+    let w = Tested o.before.before.before.before.before.before.before.before.before.before in
     let t = Circumcenters w in
     let e = Entry t.before in
-    built_by e.pre _ _ _ _ _ _ _ _ _ t.calculate-circumcenters.ensures w.if1.left w.before.before.vertices.given _
-    (owners_are e.pre o.calculate-corner-ownership.ensures) k.clip-build.ensures
+    built_by e.requires _ _ _ _ _ _ _ _ _ t.calculate_circumcenters-t.ensures w.if-t-triangles.false w.vertices-1.given _
+    (owners_are e.requires o.calculate_corner_ownership-owners.ensures) k.clip_build.ensures
 
-pub build-cells-spec : {M : Type 1} → statement M
-build-cells-spec =
+pub build_cells_spec : {M : Type 1} → statement M
+build_cells_spec =
     tie.close
-    (tie.spec calculate-circumcenters-requires (λ c. search rules) (λ c κs. search rules) (λ c. search rules)
-    (λ c. search rules) (λ c. search rules) returns (λ c. search rules) calculate-corner-ownership-requires
-    clip-build-requires (λ c. search rules) (λ c. search rules) (λ c. search rules) returns-2)
+    (tie.spec calculate_circumcenters-requires (λ c. search rules) (λ c κs. search rules) (λ c. search rules)
+    (λ c. search rules) (λ c. search rules) returns (λ c. search rules) calculate_corner_ownership-requires
+    clip_build-requires (λ c. search rules) (λ c. search rules) (λ c. search rules) returns-2)

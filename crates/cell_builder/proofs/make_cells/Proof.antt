@@ -5,64 +5,61 @@ use Rattle.cell_builder.specs.laws.FirstCells.{roomy, rooms_fit, extendable, can
 use Rattle.cell_builder.proofs.make_cells.Statement.{statement}
 use Rattle.cell_builder.proofs.make_cells.Tie as tie
 
-abbrev LaidOut : tie.After-offsets → tie.After-lay-out
+abbrev LaidOut : tie.After-offsets-1 → tie.After-lay_out
 LaidOut o = o.before.before.before
 
-abbrev Framed : tie.After-offsets → tie.After-frame
-Framed o = (LaidOut o).before.before.before
+abbrev Framed : tie.After-offsets-1 → tie.After-frame-f
+Framed o = o.before.before.before.before.before.before
 
-abbrev Entry : tie.After-frame → tie.Start
+abbrev Entry : tie.After-frame-f → tie.Start
 Entry f = f.before.before.before.before.before.before.before.before.before
 
-abbrev Offsets : tie.After-indexes2 → tie.After-offsets
+abbrev Offsets : tie.After-indexes-2-1 → tie.After-offsets-1
 Offsets c = c.before.before.before.before.before.before.before
 
-abbrev Indexes2 : tie.After-clip-cells-arg4 → tie.After-indexes2
-Indexes2 c = c.before.before.before.before.before.before.before.before
+lay_out-requires : tie.Need-lay_out-requires
+lay_out-requires c κs = (roomy (Entry c.before.before).requires.0 _ refl, rooms_fit (Entry c.before.before).requires.0)
 
-lay-out-requires : tie.Need-lay-out-requires
-lay-out-requires c κs = (roomy (Entry c.before.before).requires.0 _ refl, rooms_fit (Entry c.before.before).requires.0)
-
-extend-requires : tie.Need-extend-requires
+extend-requires : tie.Need-extend-p-requires
 extend-requires c κs =
     let f = Framed c.before.before.before in
-    extendable (Entry f).pre.0 _ f.frame.ensures _ _ refl c.before.before.before.before.before.indexes.given
+    extendable (Entry f).requires.0 _ f.frame-f.ensures _ _ refl c.indexes-1.given
 
-returns : tie.Need-returns
+returns : tie.Need-returns-then-fault-ne0
 returns c =
-    let i = c.before.before.before.before in
-    let o = Offsets i in
-    made_not (Entry (Framed o)).requires.0 _ _ _ o.offsets.given (LaidOut o).lay-out.ensures _ _ i.before.before.vertices.given
-    (i.indexes2.given ∙ o.before.before.indexes.given) _ _ (Framed o).frame.ensures i.before.before.before.extend.ensures c.if1.true _
+    let i = c in
+    let o = Offsets i.before.before.before.before in
+    made_not (Entry (Framed o)).requires.0 _ _ _ o.offsets-1.given (LaidOut o).lay_out.ensures _ _ i.vertices-1.given
+    (i.indexes-2-1.given ∙ o.indexes-1.given) _ _ (Framed o).frame-f.ensures i.extend-p.ensures c.if-fault-ne0.true _
 
-clip-cells-requires : tie.Need-clip-cells-requires
-clip-cells-requires c κs =
-    let i = Indexes2 c in
-    let o = Offsets i in (
-      can_clip (Entry (Framed o)).requires.0 _ _ _ o.offsets.given (LaidOut o).lay-out.ensures _ _ i.before.before.vertices.given
-          (i.indexes2.given ∙ o.before.before.indexes.given) _ _ (Framed o).frame.ensures i.before.before.before.extend.ensures c.before.before.before.before.if1.false,
+clip_cells-requires : tie.Need-clip_cells-requires
+clip_cells-requires c κs =
+    let i = c in
+    let o = Offsets i.before.before.before.before.before.before.before in (
+      can_clip (Entry (Framed o)).requires.0 _ _ _ o.offsets-1.given (LaidOut o).lay_out.ensures _ _ i.vertices-1.given
+          (i.indexes-2-1.given ∙ o.indexes-1.given) _ _ (Framed o).frame-f.ensures i.extend-p.ensures c.if-fault-ne0.false,
       (Entry (Framed o)).requires.1,
     )
 
-same-length-5 : tie.Need-same-length-5
-same-length-5 c =
-    let i = Indexes2 c.before.before.before.before.before in
-    c.before.indexes3.given ∙ i.indexes2.given ∙ (Offsets i).before.before.indexes.given
+same_length-5 : tie.Need-shape_of-indexes
+same_length-5 c =
+    let i = c in
+    c.indexes-3-1.given ∙ i.indexes-2-1.given ∙ (Offsets i.before.before.before.before.before.before.before.before.before.before.before.before).indexes-1.given
 
-same-length-6 : tie.Need-same-length-6
-same-length-6 c = (Offsets (Indexes2 c.before.before.before.before.before)).offsets.given
+same_length-6 : tie.Need-shape_of-offsets
+same_length-6 c = (Offsets c.before.before.before.before.before.before.before.before.before.before.before.before).offsets-1.given
 
-returns-2 : tie.Need-returns-2
+returns-2 : tie.Need-returns
 returns-2 c =
-    let k = c.before.before.before.before in
-    let i = Indexes2 k.before in
-    let o = Offsets i in
-    made_all (Entry (Framed o)).requires.0 _ _ _ o.offsets.given (LaidOut o).lay-out.ensures _ _ i.before.before.vertices.given
-    (i.indexes2.given ∙ o.before.before.indexes.given) _ _ (Framed o).frame.ensures i.before.before.before.extend.ensures
-    k.before.before.before.before.before.if1.false _ _ _ _ k.clip-cells.ensures
+    let k = c in
+    let i = k in
+    let o = Offsets i.before.before.before.before.before.before.before.before.before.before.before.before in
+    made_all (Entry (Framed o)).requires.0 _ _ _ o.offsets-1.given (LaidOut o).lay_out.ensures _ _ i.vertices-1.given
+    (i.indexes-2-1.given ∙ o.indexes-1.given) _ _ (Framed o).frame-f.ensures i.extend-p.ensures
+    k.if-fault-ne0.false _ _ _ _ k.clip_cells.ensures
 
-pub make-cells-spec : {M : Type 1} → statement M
-make-cells-spec =
+pub make_cells_spec : {M : Type 1} → statement M
+make_cells_spec =
     tie.close
-    (tie.spec (λ c κs. search rules) lay-out-requires extend-requires (λ c. search rules) (λ c. search rules)
-    (λ c. search rules) returns clip-cells-requires (λ c. search rules) same-length-5 same-length-6 returns-2)
+    (tie.spec (λ c κs. search rules) lay_out-requires extend-requires (λ c. search rules) (λ c. search rules)
+    (λ c. search rules) returns clip_cells-requires (λ c. search rules) same_length-5 same_length-6 returns-2)

@@ -18,7 +18,7 @@ module _ (G : ℕ → Type 0) (f : ℕ → ℕ) where
   good g stop = g
   good g (on w t h q) = h
 
-  pub off : {x k z : ℕ} (w : ℕ) → G w → f x ≡ w → Trail G f w k z → Trail G f x (suc k) z
+  pub off : {x : ℕ} (w : ℕ) {k z : ℕ} → G w → f x ≡ w → Trail G f w k z → Trail G f x (suc k) z
   off w g q stop = on w stop g q
   off w g q (on v t h p) = on v (off w g q t) h p
 

@@ -1,5 +1,5 @@
 -- What reading promises: a number by rules in order, a count, and the output. Definitions only.
-use Rattle.std.specs.Prelude.{◌≡◌, true, List, [], ◌∷◌, ◌++◌, ℕ, zero, suc, ◌*◌, ◌%◌, ◌≤◌, ◌<◌, eqb, ltb, length, Float}
+use Rattle.std.specs.Prelude.{◌≡◌, true, List, [], ◌∷◌, ◌++◌, ℕ, zero, suc, ◌*◌, ◌≤◌, ◌<◌, eqb, ltb, length, Float}
 use Rattle.base.specs.common.Binary64 as R
 use Rattle.base.specs.common.Pick.{pick}
 use Rattle.base.specs.common.Refusals.{Rule, once, Finds}

@@ -5,7 +5,7 @@ use Rattle.auditing.proofs.corners.cell_outside.Statement.{statement}
 use Rattle.auditing.proofs.corners.cell_outside.Tie as tie
 
 returns : tie.Need-returns
-returns c = let s = c.before.before.before in cell_outside_lem s.args.bounds s.args.vertices.now s.args.entries.now c.first-outside.ensures
+returns c = let s = c in cell_outside_lem s.args.bounds s.args.vertices.now s.args.entries.now c.first_outside.ensures
 
-pub cell-outside-spec : {M : Type 1} → statement M
-cell-outside-spec = tie.close (tie.spec (λ c κs. search rules) returns)
+pub cell_outside_spec : {M : Type 1} → statement M
+cell_outside_spec = tie.close (tie.spec (λ c κs. search rules) returns)

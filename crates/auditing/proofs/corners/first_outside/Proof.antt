@@ -8,29 +8,29 @@ use Rattle.auditing.specs.corners.laws.Corners.{corner_outside}
 use Rattle.auditing.proofs.corners.first_outside.Statement.{statement}
 use Rattle.auditing.proofs.corners.first_outside.Tie as tie
 
-abbrev invariant-loop : tie.invariant-loop
+abbrev invariant-loop : tie.invariant-loop-k
 invariant-loop bounds vertices entries k₀ k = NoneTo (outside_at bounds vertices entries) (length entries) k
 
-abbrev decreases-loop : tie.decreases-loop
+abbrev decreases-loop : tie.decreases-loop-k
 decreases-loop bounds vertices entries k₀ k = length entries - k
 
-loop-holds : tie.Need-loop-init invariant-loop decreases-loop
+loop-holds : tie.Need-loop-k-init invariant-loop decreases-loop
 loop-holds c = passed_start _ _
 
-is-outside-requires : tie.Need-is-outside-requires invariant-loop decreases-loop
-is-outside-requires c κs = named_twice _ _ (c.before.before.before.before.before.requires.each c.before.before.loop.k (omega arith))
+is_outside-requires : tie.Need-is_outside-requires invariant-loop decreases-loop
+is_outside-requires c κs = named_twice _ _ (c.requires.each c.loop-k.k (omega arith))
 
-returns : tie.Need-returns invariant-loop decreases-loop
-returns c = passed_found c.before.before.before.before.loop.invariant (omega arith) (corner_outside _ _ _ _ c.before.is-outside.ensures) c.if1.true
+returns : tie.Need-returns-then-is_outside invariant-loop decreases-loop
+returns c = passed_found c.loop-k.invariant (omega arith) (corner_outside _ _ _ _ c.is_outside.ensures) c.if-is_outside.true
 
-loop-again : tie.Need-loop-preserved invariant-loop decreases-loop
-loop-again c = passed_step c.before.before.before.before.loop.invariant (omega arith) (corner_outside _ _ _ _ c.before.is-outside.ensures) c.if1.false
+loop-again : tie.Need-loop-k-preserved invariant-loop decreases-loop
+loop-again c = passed_step c.loop-k.invariant (omega arith) (corner_outside _ _ _ _ c.is_outside.ensures) c.if-is_outside.false
 
-returns-2 : tie.Need-returns-2 invariant-loop decreases-loop
-returns-2 c = passed_end c.before.loop.invariant (omega arith)
+returns-2 : tie.Need-returns invariant-loop decreases-loop
+returns-2 c = passed_end c.loop-k.invariant (omega arith)
 
-pub first-outside-spec : {M : Type 1} → statement M
-first-outside-spec =
+pub first_outside_spec : {M : Type 1} → statement M
+first_outside_spec =
     tie.close
-    (tie.spec invariant-loop decreases-loop loop-holds (λ c. omega arith) (λ c. omega arith) is-outside-requires returns
+    (tie.spec invariant-loop decreases-loop loop-holds (λ c. omega arith) (λ c. omega arith) is_outside-requires returns
     (λ c. omega arith) (λ c. omega arith) loop-again returns-2)

@@ -6,8 +6,8 @@ use Rattle.auditing.proofs.corners.is_outside.Tie as tie
 
 returns : tie.Need-returns
 returns c =
-    let s = c.before.before.before.before in
-    outside_is s.args.bounds s.args.vertices.now s.args.entry c.before.before.wide.ensures c.before.point_at.ensures c.is-inside.ensures
+    let s = c in
+    outside_is s.args.bounds s.args.vertices.now s.args.entry c.wide.ensures c.point_at.ensures c.is_inside.ensures
 
-pub is-outside-spec : {M : Type 1} → statement M
-is-outside-spec = tie.close (tie.spec (λ c κs. search rules) (λ c κs. search rules) (λ c κs. search rules) returns)
+pub is_outside_spec : {M : Type 1} → statement M
+is_outside_spec = tie.close (tie.spec (λ c κs. search rules) (λ c κs. search rules) (λ c κs. search rules) returns)

@@ -6,11 +6,11 @@ use Rattle.auditing.specs.limit.laws.Boxes.{as_corners, box_corners}
 use Rattle.auditing.proofs.limit.box_area.Statement.{statement}
 use Rattle.auditing.proofs.limit.box_area.Tie as tie
 
-ring-area-requires : tie.Need-ring-area-requires
-ring-area-requires c κs = let s = c.before.before in box_corners s.args.bounds s.requires
+ring_area-requires : tie.Need-ring_area-requires
+ring_area-requires c κs = let s = c in box_corners s.args.bounds s.requires
 
 returns : tie.Need-returns
-returns c = c.ring-area.ensures ∙ ap area (as_corners c.before.before.before.args.bounds)
+returns c = c.ring_area.ensures ∙ ap area (as_corners c.args.bounds)
 
-pub box-area-spec : {M : Type 1} → statement M
-box-area-spec = tie.close (tie.spec (λ c. search rules) (λ c. search rules) ring-area-requires returns)
+pub box_area_spec : {M : Type 1} → statement M
+box_area_spec = tie.close (tie.spec (λ c. search rules) (λ c. search rules) ring_area-requires returns)

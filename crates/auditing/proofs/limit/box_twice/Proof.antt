@@ -7,21 +7,21 @@ use Rattle.auditing.specs.limit.laws.Boxes.{box_fits, box_over}
 use Rattle.auditing.proofs.limit.box_twice.Statement.{statement}
 use Rattle.auditing.proofs.limit.box_twice.Tie as tie
 
-box-sums-requires : tie.Need-box-sums-requires
-box-sums-requires c κs = let z = open_zeros 4 (lit≤ tt) in (c.before.before.requires, z, z)
+box_sums-requires : tie.Need-box_sums-requires
+box_sums-requires c κs = let z = open_zeros 4 (lit≤ tt) in (c.requires, z, z)
 
-settled-over-requires : tie.Need-settled-over-requires
-settled-over-requires c κs =
-    let at-sums = c.before.before.before.before in
-    box_fits _ at-sums.before.before.before.requires at-sums.box-sums.ensures
+settled_over-requires : tie.Need-settled_over-requires
+settled_over-requires c κs =
+    let at-sums = c in
+    box_fits _ at-sums.requires at-sums.box_sums.ensures
 
 returns : tie.Need-returns
 returns c =
-    let at-sums = c.before.before.before.before.before.before.before in
-    box_over _ at-sums.before.before.before.requires at-sums.box-sums.ensures c.before.before.settled-over.ensures
+    let at-sums = c in
+    box_over _ at-sums.requires at-sums.box_sums.ensures c.settled_over.ensures
 
-pub box-twice-spec : {M : Type 1} → statement M
-box-twice-spec =
+pub box_twice_spec : {M : Type 1} → statement M
+box_twice_spec =
     tie.close
-    (tie.spec (λ c. search rules) (λ c. search rules) box-sums-requires (λ c. search rules) (λ c. search rules) settled-over-requires
+    (tie.spec (λ c. search rules) (λ c. search rules) box_sums-requires (λ c. search rules) (λ c. search rules) settled_over-requires
     returns)

@@ -5,7 +5,7 @@ use Rattle.auditing.proofs.limit.limit.Statement.{statement}
 use Rattle.auditing.proofs.limit.limit.Tie as tie
 
 returns : tie.Need-returns
-returns c = limit_is c.before.before.before.box_twice.ensures c.before.scale.ensures
+returns c = limit_is c.box_twice-out.ensures c.scale.ensures
 
-pub limit-spec : {M : Type 1} → statement M
-limit-spec = tie.close (tie.spec (λ c κs. search rules) (λ c. search rules) (λ c κs. search rules) returns)
+pub limit_spec : {M : Type 1} → statement M
+limit_spec = tie.close (tie.spec (λ c κs. search rules) (λ c. search rules) (λ c κs. search rules) returns)

@@ -6,8 +6,8 @@ use Rattle.auditing.proofs.nearer.cell_nearer.Tie as tie
 
 returns : tie.Need-returns
 returns c =
-    let s = c.before.before.before.before.before in
-    cell_is s.args.far s.args.sites.now s.args.s s.args.part.now s.args.all s.args.vertices.now s.args.entries.now c.first-nearer.ensures
+    let s = c in
+    cell_is s.args.far s.args.sites.now s.args.s s.args.part.now s.args.all s.args.vertices.now s.args.entries.now c.first_nearer.ensures
 
-pub cell-nearer-spec : {M : Type 1} → statement M
-cell-nearer-spec = tie.close (tie.spec (λ c κs. search rules) returns)
+pub cell_nearer_spec : {M : Type 1} → statement M
+cell_nearer_spec = tie.close (tie.spec (λ c κs. search rules) returns)

@@ -5,7 +5,7 @@ use Rattle.auditing.proofs.nearer.far.Statement.{statement}
 use Rattle.auditing.proofs.nearer.far.Tie as tie
 
 returns : tie.Need-returns
-returns c = far_is _ _ c.before.before.width.ensures c.before.height.ensures c.tolerance.ensures
+returns c = far_is _ _ c.width.ensures c.height.ensures c.tolerance.ensures
 
-pub far-spec : {M : Type 1} → statement M
-far-spec = tie.close (tie.spec (λ c κs. search rules) (λ c κs. search rules) (λ c κs. search rules) returns)
+pub far_spec : {M : Type 1} → statement M
+far_spec = tie.close (tie.spec (λ c κs. search rules) (λ c κs. search rules) (λ c κs. search rules) returns)

@@ -4,11 +4,11 @@ use borrow.Author.Rules.{rules}
 use Rattle.auditing.proofs.nearer.held.Statement.{statement}
 use Rattle.auditing.proofs.nearer.held.Tie as tie
 
-returns : tie.Need-returns
-returns c = let s = c.before.before.before.before in part_none s.args.starts.now s.args.others.now s.args.s (list_of c.before.no-lists.ensures c.if1.true)
+returns : tie.Need-returns-then-no_lists
+returns c = let s = c in part_none s.args.starts.now s.args.others.now s.args.s (list_of c.no_lists.ensures c.if-no_lists.true)
 
 cell-requires : tie.Need-cell-requires
-cell-requires c κs = let s = c.before.before.before.before in not_none s.args.starts.now s.args.others.now c.before.no-lists.ensures c.if1.false s.requires
+cell-requires c κs = let s = c in not_none s.args.starts.now s.args.others.now c.no_lists.ensures c.if-no_lists.false s.requires
 
 pub held_spec : {M : Type 1} → statement M
 held_spec = tie.close (tie.spec (λ c κs. search rules) returns cell-requires (λ c. search rules))

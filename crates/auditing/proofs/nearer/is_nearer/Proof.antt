@@ -6,8 +6,8 @@ use Rattle.auditing.proofs.nearer.is_nearer.Tie as tie
 
 returns : tie.Need-returns
 returns c =
-    let s = c.before.before.before.before in
-    nearer_is s.args.far s.args.corner s.args.sites.now s.args.s s.args.part.now s.args.all c.before.first-beyond.ensures c.held-count.ensures
+    let s = c in
+    nearer_is s.args.far s.args.corner s.args.sites.now s.args.s s.args.part.now s.args.all c.first_beyond.ensures c.held_count.ensures
 
-pub is-nearer-spec : {M : Type 1} → statement M
-is-nearer-spec = tie.close (tie.spec (λ c κs. search rules) (λ c κs. search rules) returns)
+pub is_nearer_spec : {M : Type 1} → statement M
+is_nearer_spec = tie.close (tie.spec (λ c κs. search rules) (λ c κs. search rules) returns)

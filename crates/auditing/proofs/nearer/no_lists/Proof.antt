@@ -8,5 +8,5 @@ returns : tie.Need-returns
 unfolding no_lists
 returns c = refl
 
-pub no-lists-spec : {M : Type 1} → statement M
-no-lists-spec = tie.close (tie.spec returns)
+pub no_lists_spec : {M : Type 1} → statement M
+no_lists_spec = tie.close (tie.spec returns)

@@ -6,12 +6,12 @@ use borrow.Author.Rules.{rules}
 use Rattle.auditing.proofs.nearer.tolerance.Statement.{statement}
 use Rattle.auditing.proofs.nearer.tolerance.Tie as tie
 
-float-from-bits-result : tie.Need-float-from-bits-result
-float-from-bits-result c = tolerance_number c.args.bits c.requires
+float_from_bits-result : tie.Need-float_from_bits-result
+float_from_bits-result c = tolerance_number c.args.bits c.requires
 
 returns : tie.Need-returns
 unfolding tolerance_of
 returns c = refl
 
-pub tolerance-spec : {M : Type 1} → statement M
-tolerance-spec = tie.close (tie.spec (λ c. search rules) (λ c. search rules) float-from-bits-result returns)
+pub tolerance_spec : {M : Type 1} → statement M
+tolerance_spec = tie.close (tie.spec (λ c. search rules) (λ c. search rules) float_from_bits-result returns)

@@ -6,7 +6,7 @@ use Rattle.auditing.proofs.places.bucket.Tie as tie
 
 returns : tie.Need-returns
 unfolding bucket_of
-returns c = cc (c.before.before.pattern.ensures, c.pattern2.ensures)
+returns c = cc (c.pattern-x.ensures, c.pattern-y.ensures)
 
-pub bucket-spec : {M : Type 1} → statement M
-bucket-spec = tie.close (tie.spec (λ c κs. search rules) (λ c κs. search rules) (λ c. search rules) returns)
+pub bucket_spec : {M : Type 1} → statement M
+bucket_spec = tie.close (tie.spec (λ c κs. search rules) (λ c κs. search rules) (λ c. search rules) returns)

@@ -8,45 +8,45 @@ use Rattle.auditing.specs.places.laws.Twins.{twin_is}
 use Rattle.auditing.proofs.places.first_twin.Statement.{statement}
 use Rattle.auditing.proofs.places.first_twin.Tie as tie
 
-abbrev invariant-loop : tie.invariant-loop
+abbrev invariant-loop : tie.invariant-loop-j
 invariant-loop sites s place j₀ j = NoneTo (twin_at sites s) s j
 
-abbrev decreases-loop : tie.decreases-loop
+abbrev decreases-loop : tie.decreases-loop-j
 decreases-loop sites s place j₀ j = s - j
 
-point-at-requires : tie.Need-point-at-requires invariant-loop decreases-loop
-point-at-requires c κs = named_twice _ _ c.before.requires
+point_at-requires : tie.Need-point_at-place-requires invariant-loop decreases-loop
+point_at-requires c κs = named_twice _ _ c.requires
 
-loop-holds : tie.Need-loop-init invariant-loop decreases-loop
+loop-holds : tie.Need-loop-j-init invariant-loop decreases-loop
 loop-holds c = passed_start _ _
 
-point-at-requires-2 : tie.Need-point-at-requires-2 invariant-loop decreases-loop
-point-at-requires-2 c κs = let s = c.before.before.before.before in named_twice _ _ (omega (arith, s.requires, c.loop-test.true))
+point_at-requires-2 : tie.Need-point_at-requires invariant-loop decreases-loop
+point_at-requires-2 c κs = let s = c in named_twice _ _ (omega (arith, s.requires, c.loop-j-test.true))
 
-same-place-requires : tie.Need-same-place-requires invariant-loop decreases-loop
-same-place-requires c κs = tt
+same_place-requires : tie.Need-same_place-requires invariant-loop decreases-loop
+same_place-requires c κs = tt
 
-returns : tie.Need-returns invariant-loop decreases-loop
+returns : tie.Need-returns-then-same_place invariant-loop decreases-loop
 returns c =
-    let at_test = c.before in
-    let l = at_test.before.before.before in
-    let s = l.before.before.before in
-    passed_found l.loop.invariant at_test.before.before.loop-test.true
-    (twin_is s.args.sites.now s.args.s l.loop.j l.before.point_at.ensures at_test.before.point-at2.ensures at_test.same_place.ensures) c.if1.true
+    let at_test = c in
+    let l = at_test in
+    let s = l in
+    passed_found l.loop-j.invariant at_test.loop-j-test.true
+    (twin_is s.args.sites.now s.args.s l.loop-j.j l.point_at-place.ensures at_test.point_at.ensures at_test.same_place.ensures) c.if-same_place.true
 
-loop-again : tie.Need-loop-preserved invariant-loop decreases-loop
+loop-again : tie.Need-loop-j-preserved invariant-loop decreases-loop
 loop-again c =
-    let at_test = c.before in
-    let l = at_test.before.before.before in
-    let s = l.before.before.before in
-    passed_step l.loop.invariant at_test.before.before.loop-test.true
-    (twin_is s.args.sites.now s.args.s l.loop.j l.before.point_at.ensures at_test.before.point-at2.ensures at_test.same_place.ensures) c.if1.false
+    let at_test = c in
+    let l = at_test in
+    let s = l in
+    passed_step l.loop-j.invariant at_test.loop-j-test.true
+    (twin_is s.args.sites.now s.args.s l.loop-j.j l.point_at-place.ensures at_test.point_at.ensures at_test.same_place.ensures) c.if-same_place.false
 
-returns-2 : tie.Need-returns-2 invariant-loop decreases-loop
-returns-2 c = passed_end c.before.loop.invariant c.loop-test.false
+returns-2 : tie.Need-returns invariant-loop decreases-loop
+returns-2 c = passed_end c.loop-j.invariant c.loop-j-test.false
 
-pub first-twin-spec : {M : Type 1} → statement M
-first-twin-spec =
+pub first_twin_spec : {M : Type 1} → statement M
+first_twin_spec =
     tie.close
-    (tie.spec invariant-loop decreases-loop point-at-requires loop-holds point-at-requires-2 same-place-requires returns
+    (tie.spec invariant-loop decreases-loop point_at-requires loop-holds point_at-requires-2 same_place-requires returns
     (λ c. omega arith) (λ c. omega arith) loop-again returns-2)

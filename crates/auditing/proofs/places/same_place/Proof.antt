@@ -8,5 +8,5 @@ returns : tie.Need-returns
 unfolding same_of
 returns c = refl
 
-pub same-place-spec : {M : Type 1} → statement M
-same-place-spec = tie.close (tie.spec returns)
+pub same_place_spec : {M : Type 1} → statement M
+same_place_spec = tie.close (tie.spec returns)

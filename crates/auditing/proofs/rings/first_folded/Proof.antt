@@ -7,43 +7,43 @@ use Rattle.auditing.specs.rings.laws.Fans.{FoldsTo, rings_start, rings_step, rin
 use Rattle.auditing.proofs.rings.first_folded.Statement.{statement}
 use Rattle.auditing.proofs.rings.first_folded.Tie as tie
 
-abbrev invariant-loop : tie.invariant-loop
+abbrev invariant-loop : tie.invariant-loop-s
 invariant-loop limit vertices offsets indexes count s₀ s = FoldsTo limit vertices offsets indexes count s
 
-abbrev decreases-loop : tie.decreases-loop
+abbrev decreases-loop : tie.decreases-loop-s
 decreases-loop limit vertices offsets indexes count s₀ s = count - s
 
-cell-count-requires : tie.Need-cell-count-requires invariant-loop decreases-loop
-cell-count-requires c κs = tt
+cell_count-requires : tie.Need-cell_count-count-requires invariant-loop decreases-loop
+cell_count-requires c κs = tt
 
-loop-holds : tie.Need-loop-init invariant-loop decreases-loop
+loop-holds : tie.Need-loop-s-init invariant-loop decreases-loop
 loop-holds c = rings_start _ _ _ _ _
 
 cell-requires : tie.Need-cell-requires invariant-loop decreases-loop
-cell-requires c κs = (c.before.before.before.before.before.before.before.requires.1.cut, omega (arith, c.before.before.cell-count.ensures))
+cell-requires c κs = (c.requires.1.cut, omega (arith, c.cell_count-count.ensures))
 
-ring-folds-requires : tie.Need-ring-folds-requires invariant-loop decreases-loop
-ring-folds-requires c κs =
-    let at-cell-count = c.before.before.before in
-    let s = at-cell-count.before.before.before.before.before in
-    (s.requires.0, rw c.cell.ensures (cell_corners s.requires.1 c.before.before.loop.s (omega (arith, at-cell-count.cell-count.ensures))))
+ring_folds-requires : tie.Need-ring_folds-requires invariant-loop decreases-loop
+ring_folds-requires c κs =
+    let at-cell-count = c in
+    let s = at-cell-count in
+    (s.requires.0, rw c.cell.ensures (cell_corners s.requires.1 c.loop-s.s (omega (arith, at-cell-count.cell_count-count.ensures))))
 
-returns : tie.Need-returns invariant-loop decreases-loop
+returns : tie.Need-returns-then-ring_folds invariant-loop decreases-loop
 returns c =
-    let in-loop = c.before.before.before in
-    rings_found in-loop.before.loop.invariant in-loop.loop-test.true c.before.before.cell.ensures c.before.ring-folds.ensures _
-    in-loop.before.before.cell-count.ensures c.if1.true
+    let in-loop = c in
+    rings_found in-loop.loop-s.invariant in-loop.loop-s-test.true c.cell.ensures c.ring_folds.ensures _
+    in-loop.cell_count-count.ensures c.if-ring_folds.true
 
-loop-again : tie.Need-loop-preserved invariant-loop decreases-loop
+loop-again : tie.Need-loop-s-preserved invariant-loop decreases-loop
 loop-again c =
-    let at-cell = c.before.before in
-    rings_step at-cell.before.before.loop.invariant at-cell.before.loop-test.true at-cell.cell.ensures c.before.ring-folds.ensures c.if1.false
+    let at-cell = c in
+    rings_step at-cell.loop-s.invariant at-cell.loop-s-test.true at-cell.cell.ensures c.ring_folds.ensures c.if-ring_folds.false
 
-returns-2 : tie.Need-returns-2 invariant-loop decreases-loop
-returns-2 c = rings_end c.before.loop.invariant _ c.before.before.cell-count.ensures (omega arith)
+returns-2 : tie.Need-returns invariant-loop decreases-loop
+returns-2 c = rings_end c.loop-s.invariant _ c.cell_count-count.ensures (omega arith)
 
-pub first-folded-spec : {M : Type 1} → statement M
-first-folded-spec =
+pub first_folded_spec : {M : Type 1} → statement M
+first_folded_spec =
     tie.close
-    (tie.spec invariant-loop decreases-loop cell-count-requires loop-holds cell-requires ring-folds-requires returns
+    (tie.spec invariant-loop decreases-loop cell_count-requires loop-holds cell-requires ring_folds-requires returns
     (λ c. omega arith) (λ c. omega arith) loop-again returns-2)

@@ -1,55 +1,57 @@
 -- `auditing::rules::ask` meets its contract: each rule is tried where those before it hold.
+use mathlib.Core.Bool.{not}
+use mathlib.Core.Path.{ap}
 use Rattle.base.specs.common.laws.Decide.{refused, granted}
 use Rattle.auditing.specs.rules.laws.Asking.{bad_given, no_cells, no_starts, cut_only, by_entries}
 use borrow.Author.Rules.{rules}
 use Rattle.auditing.proofs.rules.ask.Statement.{statement}
 use Rattle.auditing.proofs.rules.ask.Tie as tie
 
-abbrev Start : tie.After-ask-given → tie.Start
+abbrev Start : tie.After-ask_given-given → tie.Start
 Start c = c.before.before.before.before.before.before.before
 
-returns : tie.Need-returns
+returns : tie.Need-returns-then-given-ne0
 returns c =
     let s = Start c.before in
-    bad_given s.args.sound s.args.sites.now s.args.vertices.now s.args.offsets.now s.args.indexes.now s.args.starts.now s.args.others.now s.args.bits c.before.ask-given.ensures c.if1.true
+    bad_given s.args.sound s.args.sites.now s.args.vertices.now s.args.offsets.now s.args.indexes.now s.args.starts.now s.args.others.now s.args.bits c.ask_given-given.ensures c.if-given-ne0.true
 
-returns-2 : tie.Need-returns-2
+returns-2 : tie.Need-returns-then-not-cells_ok
 returns-2 c =
-    let first = c.before.before in
-    let s = Start first.before in
-    no_cells s.args.sound s.args.sites.now s.args.vertices.now s.args.offsets.now s.args.indexes.now s.args.starts.now s.args.others.now s.args.bits first.before.ask-given.ensures first.if1.false (refused c.before.cells-ok.result c.if2.true c.before.cells-ok.ensures)
+    let first = c in
+    let s = Start first.before.before.before in
+    no_cells s.args.sound s.args.sites.now s.args.vertices.now s.args.offsets.now s.args.indexes.now s.args.starts.now s.args.others.now s.args.bits first.ask_given-given.ensures first.if-given-ne0.false (refused c.cells_ok.result (ap not c.if-not-cells_ok.true) c.cells_ok.ensures)
 
-returns-3 : tie.Need-returns-3
+returns-3 : tie.Need-returns-then-not-lists_ok
 returns-3 c =
-    let at-cells-ok = c.before.before.before in
-    let s = Start at-cells-ok.before.before in
-    no_starts s.args.sound s.args.sites.now s.args.vertices.now s.args.offsets.now s.args.indexes.now s.args.starts.now s.args.others.now s.args.bits at-cells-ok.before.before.ask-given.ensures at-cells-ok.before.if1.false (granted at-cells-ok.cells-ok.result c.before.before.if2.false
-    at-cells-ok.cells-ok.ensures)
-    (refused c.before.lists-ok.result c.if3.true c.before.lists-ok.ensures)
+    let at-cells-ok = c in
+    let s = Start at-cells-ok.before.before.before.before.before in
+    no_starts s.args.sound s.args.sites.now s.args.vertices.now s.args.offsets.now s.args.indexes.now s.args.starts.now s.args.others.now s.args.bits at-cells-ok.ask_given-given.ensures at-cells-ok.if-given-ne0.false (granted at-cells-ok.cells_ok.result (ap not c.if-not-cells_ok.false)
+    at-cells-ok.cells_ok.ensures)
+    (refused c.lists_ok.result (ap not c.if-not-lists_ok.true) c.lists_ok.ensures)
 
 used-requires : tie.Need-used-requires
 used-requires c κs =
-    let second = c.before.before in
-    (granted second.before.cells-ok.result second.if2.false second.before.cells-ok.ensures).cut
+    let second = c in
+    (granted second.cells_ok.result (ap not second.if-not-cells_ok.false) second.cells_ok.ensures).cut
 
 held-requires : tie.Need-held-requires
 held-requires c κs =
-    let at-lists-ok = c.before.before in
-    let s = Start at-lists-ok.before.before.before.before in
-    cut_only s.args.starts.now s.args.others.now _ (granted at-lists-ok.lists-ok.result c.before.if3.false at-lists-ok.lists-ok.ensures)
+    let at-lists-ok = c in
+    let s = Start at-lists-ok.before.before.before.before.before.before in
+    cut_only s.args.starts.now s.args.others.now _ (granted at-lists-ok.lists_ok.result (ap not c.if-not-lists_ok.false) at-lists-ok.lists_ok.ensures)
 
-returns-4 : tie.Need-returns-4
+returns-4 : tie.Need-returns
 returns-4 c =
-    let at-used = c.before.before in
-    let at-lists-ok = at-used.before.before in
-    let at-cells-ok = at-lists-ok.before.before in
-    let s = Start at-cells-ok.before.before in
-    by_entries s.args.sound s.args.sites.now s.args.vertices.now s.args.offsets.now s.args.indexes.now s.args.starts.now s.args.others.now s.args.bits at-cells-ok.before.before.ask-given.ensures at-cells-ok.before.if1.false (granted at-cells-ok.cells-ok.result at-lists-ok.before.if2.false
-    at-cells-ok.cells-ok.ensures)
-    (granted at-lists-ok.lists-ok.result at-used.before.if3.false at-lists-ok.lists-ok.ensures) at-used.used.ensures c.before.held.ensures c.ask-entries.ensures
+    let at-used = c in
+    let at-lists-ok = at-used in
+    let at-cells-ok = at-lists-ok in
+    let s = Start at-cells-ok.before.before.before.before.before.before.before.before in
+    by_entries s.args.sound s.args.sites.now s.args.vertices.now s.args.offsets.now s.args.indexes.now s.args.starts.now s.args.others.now s.args.bits at-cells-ok.ask_given-given.ensures at-cells-ok.if-given-ne0.false (granted at-cells-ok.cells_ok.result (ap not at-lists-ok.if-not-cells_ok.false)
+    at-cells-ok.cells_ok.ensures)
+    (granted at-lists-ok.lists_ok.result (ap not at-used.if-not-lists_ok.false) at-lists-ok.lists_ok.ensures) at-used.used.ensures c.held.ensures c.ask_entries.ensures
 
-pub ask-spec : {M : Type 1} → statement M
-ask-spec =
+pub ask_spec : {M : Type 1} → statement M
+ask_spec =
     tie.close
     (tie.spec (λ c κs. search rules) returns (λ c κs. search rules) returns-2 (λ c κs. search rules) returns-3
     used-requires held-requires (λ c κs. search rules) returns-4)

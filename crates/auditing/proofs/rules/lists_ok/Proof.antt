@@ -4,13 +4,13 @@ use borrow.Author.Rules.{rules}
 use Rattle.auditing.proofs.rules.lists_ok.Statement.{statement}
 use Rattle.auditing.proofs.rules.lists_ok.Tie as tie
 
-returns : tie.Need-returns
-returns c = lists_none _ c.before.no-lists.ensures c.if1.true
+returns : tie.Need-returns-then-no_lists
+returns c = lists_none _ c.no_lists.ensures c.if-no_lists.true
 
-returns-2 : tie.Need-returns-2
+returns-2 : tie.Need-returns
 returns-2 c =
-    let s = c.before.before.before.before.before in
-    lists_cut s.args.starts.now s.args.others.now s.args.count c.cells-ok.result c.before.before.no-lists.ensures c.before.if1.false c.cells-ok.ensures
+    let s = c in
+    lists_cut s.args.starts.now s.args.others.now s.args.count c.cells_ok.result c.no_lists.ensures c.if-no_lists.false c.cells_ok.ensures
 
-pub lists-ok-spec : {M : Type 1} → statement M
-lists-ok-spec = tie.close (tie.spec (λ c κs. search rules) returns (λ c κs. search rules) returns-2)
+pub lists_ok_spec : {M : Type 1} → statement M
+lists_ok_spec = tie.close (tie.spec (λ c κs. search rules) returns (λ c κs. search rules) returns-2)

@@ -8,16 +8,16 @@ use borrow.Author.Rules.{rules}
 use Rattle.auditing.proofs.rules.used.Statement.{statement}
 use Rattle.auditing.proofs.rules.used.Tie as tie
 
-slice-aggregate-result : tie.Need-slice-aggregate-result
-slice-aggregate-result c =
-    let s = c.before.before.before.before.before in
-    sym (length-take-le c.before.wide.result s.args.indexes.now (le_trans (le_of_eq c.before.wide.ensures) (s.requires.within _ (omega (arith, s.requires.some)))))
+slice_aggregate-result : tie.Need-slice_bounds-result-end
+slice_aggregate-result c =
+    let s = c in
+    sym (length-take-le c.wide-end.result s.args.indexes.now (le_trans (le_of_eq c.wide-end.ensures) (s.requires.within _ (omega (arith, s.requires.some)))))
 
 returns : tie.Need-returns
-returns c = let s = c.before.before.before.before.before in used_is s.args.offsets.now s.args.indexes.now _ c.before.wide.result refl c.before.wide.ensures
+returns c = let s = c in used_is s.args.offsets.now s.args.indexes.now _ c.wide-end.result refl c.wide-end.ensures
 
-pub used-spec : {M : Type 1} → statement M
-used-spec =
+pub used_spec : {M : Type 1} → statement M
+used_spec =
     tie.close
-    (tie.spec (λ c. search rules) (λ c. search rules) (λ c. search rules) (λ c κs. search rules) slice-aggregate-result
+    (tie.spec (λ c. search rules) (λ c. search rules) (λ c. search rules) (λ c κs. search rules) slice_aggregate-result
     returns)

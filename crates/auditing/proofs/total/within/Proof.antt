@@ -7,13 +7,13 @@ use Rattle.auditing.proofs.total.within.Tie as tie
 
 returns : tie.Need-returns
 returns c =
-    let at-over2 = c.before.before.before.before in
-    let s = at-over2.before.before.before.before.before in
-    within_is (amount s.args.plus.now) (amount s.args.minus.now) s.args.limit.now at-over2.before.over.ensures at-over2.over2.ensures
-    c.before.before.less.ensures c.less2.ensures
+    let at-over2 = c in
+    let s = at-over2 in
+    within_is (amount s.args.plus.now) (amount s.args.minus.now) s.args.limit.now at-over2.over-a.ensures at-over2.over-b.ensures
+    c.less.ensures c.less-2.ensures
 
-pub within-spec : {M : Type 1} → statement M
-within-spec =
+pub within_spec : {M : Type 1} → statement M
+within_spec =
     tie.close
     (tie.spec (λ c κs. search rules) (λ c κs. search rules) (λ c. search rules) (λ c κs. search rules)
     (λ c. search rules) (λ c κs. search rules) returns)

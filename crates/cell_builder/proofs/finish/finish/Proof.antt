@@ -12,43 +12,43 @@ use Rattle.cell_builder.proofs.finish.finish.Statement.{statement}
 use Rattle.cell_builder.proofs.finish.finish.Tie as tie
 
 -- the vertices cleared, the cells put in their places, and the start
-abbrev Cleared : tie.After-reused → tie.After-clear-floats-from
+abbrev Cleared : tie.After-reused-1 → tie.After-clear_floats_from
 Cleared c = c.before.before.before.before.before
 
-abbrev Indexed : tie.After-reused → tie.After-indexes
-Indexed c = (Cleared c).before.before.before.before.before.before
+abbrev Indexed : tie.After-reused-1 → tie.After-indexes-1
+Indexed c = c.before.before.before.before.before.before.before.before.before.before.before
 
-abbrev Entry : tie.After-gather → tie.Start
+abbrev Entry : tie.After-gather-put → tie.Start
 Entry c = c.before.before.before.before.before.before.before.before
 
-gather-requires : tie.Need-gather-requires
-gather-requires c κs = c.before.before.before.before.before.before.before.requires.placeable
+gather-requires : tie.Need-gather-put-requires
+gather-requires c κs = c.requires.placeable
 
-slice-reshare-prefix-lost-corners : tie.Need-slice-reshare-prefix-lost-corners
-slice-reshare-prefix-lost-corners c = let i = Indexed c in omega (arith, i.before.gather.ensures.0, i.indexes.given)
+slice_reshare_prefix-lost_corners : tie.Need-slice_bounds-lost_corners-end
+slice_reshare_prefix-lost_corners c = let i = Indexed c in omega (arith, i.gather-put.ensures.0, i.indexes-1.given)
 
-slice-aggregate-lost-corners : tie.Need-slice-aggregate-lost-corners
-slice-aggregate-lost-corners c = let i = Indexed c.before in sym (simp length-take (omega (arith, i.before.gather.ensures.0, i.indexes.given)))
+slice_aggregate-lost_corners : tie.Need-slice_bounds-lost_corners-end-2
+slice_aggregate-lost_corners c = let i = Indexed c in sym (simp length-take (omega (arith, i.gather-put.ensures.0, i.indexes-1.given)))
 
-lost-corners-requires : tie.Need-lost-corners-requires
-lost-corners-requires c κs = (Entry (Indexed c.before).before).requires.corners
+lost_corners-requires : tie.Need-lost_corners-requires
+lost_corners-requires c κs = (Entry (Indexed c).before).requires.corners
 
 returns : tie.Need-returns
 returns c =
-    let k = c.before in
-    let l = k.before.before in
-    let g = (Indexed l).before in
-    let a = (Entry g).args in
+    let k = c in
+    let l = k in
+    let g = Indexed l.before.before in
+    let a = (Entry g.before).args in
     record {
       answer = λ cells q r.
-          rw (k.lost-corners.ensures ∙ ap (λ (es : List ℕ). lost_left a.centers a.p.owners es) (used_part cells _ _ _ _ _ (g.gather.ensures.2 cells q r)));
-      vertices = (Cleared l).clear-floats-from.ensures;
-      gathered = λ cells q r. (g.gather.ensures.2 cells q r).1;
-      whole = λ q. omega (arith, eqb-true g.gather.result.steps (length a.halfedges.now) q, g.gather.ensures.1);
+          rw (k.lost_corners.ensures ∙ ap (λ (es : List ℕ). lost_left a.centers a.p.owners es) (used_part cells _ _ _ _ _ (g.gather-put.ensures.2 cells q r)));
+      vertices = (Cleared l.before.before).clear_floats_from.ensures;
+      gathered = λ cells q r. (g.gather-put.ensures.2 cells q r).1;
+      whole = λ q. omega (arith, eqb-true g.gather-put.result.steps (length a.halfedges.now) q, g.gather-put.ensures.1);
     }
 
 pub finish_spec : {M : Type 1} → statement M
 finish_spec =
     tie.close
-    (tie.spec gather-requires (λ c. search rules) (λ c κs. search rules) slice-reshare-prefix-lost-corners slice-aggregate-lost-corners
-    lost-corners-requires (λ c. search rules) (λ c. search rules) (λ c. search rules) returns)
+    (tie.spec gather-requires (λ c. search rules) (λ c κs. search rules) slice_reshare_prefix-lost_corners slice_aggregate-lost_corners
+    lost_corners-requires (λ c. search rules) (λ c. search rules) (λ c. search rules) returns)

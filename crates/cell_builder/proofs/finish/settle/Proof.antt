@@ -4,25 +4,25 @@ use borrow.Author.Rules.{rules}
 use Rattle.cell_builder.proofs.finish.settle.Statement.{statement}
 use Rattle.cell_builder.proofs.finish.settle.Tie as tie
 
-returns : tie.Need-returns
+returns : tie.Need-returns-then-fault-ne0
 returns c =
-    let k = c.before.before.before.before.before.before in
-    let i = k.before.before.before.before in
-    record { on_refusal = λ n. (k.refuse.ensures, refl); on_success = λ z. absurd (i.if1.true z) }
+    let k = c in
+    let i = k in
+    record { on_refusal = λ n. (k.refuse.ensures, refl); on_success = λ z. absurd (i.if-fault-ne0.true z) }
 
 finish-requires : tie.Need-finish-requires
 finish-requires c κs =
-    let n = c.before.before.before.before in
-    n.before.before.before.before.before.before.before.requires c.before.before.before.if1.false
+    let n = c in
+    n.requires c.if-fault-ne0.false
 
-returns-2 : tie.Need-returns-2
+returns-2 : tie.Need-returns
 returns-2 c =
-    let k = c.before.before.before.before.before.before in
-    let i = k.before.before.before.before in
-    record { on_refusal = λ n. absurd (n i.if1.false); on_success = λ z. k.finish.ensures }
+    let k = c in
+    let i = k in
+    record { on_refusal = λ n. absurd (n i.if-fault-ne0.false); on_success = λ z. k.finish.ensures }
 
-pub settle-spec : {M : Type 1} → statement M
-settle-spec =
+pub settle_spec : {M : Type 1} → statement M
+settle_spec =
     tie.close
     (tie.spec (λ c κs. search rules) (λ c. search rules) (λ c. search rules) (λ c. search rules) returns finish-requires
     (λ c. search rules) (λ c. search rules) (λ c. search rules) returns-2)

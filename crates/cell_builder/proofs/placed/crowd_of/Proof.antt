@@ -4,13 +4,13 @@ use Rattle.cell_builder.specs.placed.laws.Crowd.{crowd_first, crowd_third}
 use Rattle.cell_builder.proofs.placed.crowd_of.Statement.{statement}
 use Rattle.cell_builder.proofs.placed.crowd_of.Tie as tie
 
-returns : tie.Need-returns
-returns c = crowd_first c.before.args.t1 (search rules) c.if1.true
+returns : tie.Need-returns-then-owners
+returns c = crowd_first c.args.owners (search rules) c.if-owners.true
 
-returns-2 : tie.Need-returns-2
-returns-2 c = crowd_third c.before.args.t1 (search rules) c.if1.false
+returns-2 : tie.Need-returns
+returns-2 c = crowd_third c.args.owners (search rules) c.if-owners.false
 
-pub crowd-of-spec : {M : Type 1} → statement M
-crowd-of-spec =
+pub crowd_of_spec : {M : Type 1} → statement M
+crowd_of_spec =
     tie.close
     (tie.spec (λ c. search rules) (λ c. search rules) (λ c. search rules) returns (λ c. search rules) returns-2)

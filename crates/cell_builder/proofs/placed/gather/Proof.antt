@@ -6,12 +6,12 @@ use Rattle.cell_builder.proofs.placed.gather.Tie as tie
 
 returns : tie.Need-returns
 returns c =
-    let k = c.before.before.before.before in
-    let d = k.before.before.before.before.before.before.before in (
-      d.place-cells.ensures.0,
-      d.place-cells.ensures.1,
-      λ cells q r. gathered _ _ _ _ _ _ _ (d.place-cells.ensures.2 cells q r) q _ _ (search rules) (search rules) k.clear-after.ensures.0 k.clear-after.ensures.1,
+    let k = c in
+    let d = k in (
+      d.place_cells-p.ensures.0,
+      d.place_cells-p.ensures.1,
+      λ cells q r. gathered _ _ _ _ _ _ _ (d.place_cells-p.ensures.2 cells q r) q _ _ (search rules) (search rules) k.clear_after.ensures.0 k.clear_after.ensures.1,
     )
 
-pub gather-spec : {M : Type 1} → statement M
-gather-spec = tie.close (tie.spec (λ c κs. search rules) (λ c κs. search rules) (λ c. search rules) (λ c. search rules) returns)
+pub gather_spec : {M : Type 1} → statement M
+gather_spec = tie.close (tie.spec (λ c κs. search rules) (λ c κs. search rules) (λ c. search rules) (λ c. search rules) returns)

@@ -3,16 +3,16 @@ use Rattle.cell_builder.specs.placed.Placed.{meets_of}
 use Rattle.cell_builder.proofs.placed.meets.Statement.{statement}
 use Rattle.cell_builder.proofs.placed.meets.Tie as tie
 
-step-back-requires : tie.Need-step-back-requires
-step-back-requires c κs = let p = c.before.before.requires in (p.0 c.if1.true, p.1)
+step_back-requires : tie.Need-step_back-requires
+step_back-requires c κs = let p = c.requires in (p.0 c.if-apart.true, p.1)
 
-returns : tie.Need-returns
+returns : tie.Need-returns-then-apart
 unfolding meets_of
-returns c = let i = c.before in rw (i.if1.true, c.step_back.ensures)
+returns c = let i = c in rw (i.if-apart.true, c.step_back.ensures)
 
-returns-2 : tie.Need-returns-2
+returns-2 : tie.Need-returns
 unfolding meets_of
-returns-2 c = rw c.if1.false
+returns-2 c = rw c.if-apart.false
 
-pub meets-spec : {M : Type 1} → statement M
-meets-spec = tie.close (tie.spec step-back-requires returns returns-2)
+pub meets_spec : {M : Type 1} → statement M
+meets_spec = tie.close (tie.spec step_back-requires returns returns-2)

@@ -15,115 +15,115 @@ use Rattle.cell_builder.specs.placed.laws.Placing.{steps_more, steps_all, cell_r
 use Rattle.cell_builder.proofs.placed.place_cells.Statement.{statement}
 use Rattle.cell_builder.proofs.placed.place_cells.Tie as tie
 
-abbrev invariant-loop : tie.invariant-loop
+abbrev invariant-loop : tie.invariant-loop-s
 invariant-loop halfedges table marks ix₀ off₀ sites crowd w₀ steps₀ from₀ s₀ ix off w steps from s =
     Compacting ix₀ off₀ ix off sites w from s × (steps ≤ total_to halfedges table s) × (steps ≤ 393216 * s)
     × ((owners : List ℕ) → ((k : ℕ) → k ≢ crowd → occ k owners ≤ 2) → (cells : List (List ℕ)) → length cells ≡ sites
     → CellsReady halfedges table marks ix₀ off₀ owners cells → Moved ix₀ off₀ ix off cells w from s)
 
-abbrev decreases-loop : tie.decreases-loop
+abbrev decreases-loop : tie.decreases-loop-s
 decreases-loop halfedges table marks ix₀ off₀ sites crowd w₀ steps₀ from₀ s₀ ix off w steps from s = sites - s
 
 -- the crowd found, and the start
-abbrev Found : tie.At-loop invariant-loop decreases-loop → tie.After-wide invariant-loop decreases-loop
+abbrev Found : tie.At-loop-s invariant-loop decreases-loop → tie.After-wide-crowd invariant-loop decreases-loop
 Found l = l.before.before.before
 
-abbrev Entry : tie.At-loop invariant-loop decreases-loop → tie.Start invariant-loop decreases-loop
-Entry l = (Found l).before.before.before.before.before.before
+abbrev Entry : tie.At-loop-s invariant-loop decreases-loop → tie.Start invariant-loop decreases-loop
+Entry l = l.before.before.before.before.before.before.before.before.before
 
 -- every site but the crowd's owns two corners at most
-few : (l : tie.At-loop invariant-loop decreases-loop) (k : ℕ) → k ≢ (Found l).wide.result → occ k (Entry l).args.owners ≤ 2
-few l k n = (Found l).before.crowd-of.ensures k (λ z. n (z ∙ sym (Found l).wide.ensures))
+few : (l : tie.At-loop-s invariant-loop decreases-loop) (k : ℕ) → k ≢ (Found l).wide-crowd.result → occ k (Entry l).args.owners ≤ 2
+few l k n = (Found l).crowd_of.ensures k (λ z. n (z ∙ sym (Found l).wide-crowd.ensures))
 
 -- a walk is not longer than the list of half-edges
-steps-few : (l : tie.At-loop invariant-loop decreases-loop) → let a = (Entry l).args in length (whole_of a.halfedges.now (get_or a.table.now l.loop.s 0)) ≤ 393216
-steps-few l = let a = (Entry l).args in let t = get_or a.table.now l.loop.s 0 in omega (arith, walk_length a.halfedges.now t (length a.halfedges.now) t, (Entry l).requires.few)
+steps-few : (l : tie.At-loop-s invariant-loop decreases-loop) → let a = (Entry l).args in length (whole_of a.halfedges.now (get_or a.table.now l.loop-s.s 0)) ≤ 393216
+steps-few l = let a = (Entry l).args in let t = get_or a.table.now l.loop-s.s 0 in omega (arith, walk_length a.halfedges.now t (length a.halfedges.now) t, (Entry l).requires.few)
 
-abbrev Loop : tie.After-place-cell invariant-loop decreases-loop → tie.At-loop invariant-loop decreases-loop
+abbrev Loop : tie.After-place_cell-p invariant-loop decreases-loop → tie.At-loop-s invariant-loop decreases-loop
 Loop k = k.before.before.before.before.before
 
-slice-read-wide : tie.Need-slice-read-wide invariant-loop decreases-loop
-slice-read-wide c = omega (arith, c.before.before.before.before.before.before.before.requires.rising.long)
+slice_read-wide : tie.Need-bounds-offsets-0 invariant-loop decreases-loop
+slice_read-wide c = omega (arith, c.requires.rising.long)
 
-loop-holds : tie.Need-loop-init invariant-loop decreases-loop
-loop-holds c = (compacting_start _ _ _ _ c.wide2.ensures, omega arith, omega arith, λ owners few cells q r. moved_start _ _ _ _)
+loop-holds : tie.Need-loop-s-init invariant-loop decreases-loop
+loop-holds c = (compacting_start _ _ _ _ c.wide-from.ensures, omega arith, omega arith, λ owners few cells q r. moved_start _ _ _ _)
 
-add_wide : tie.Need-overflow-add-wide invariant-loop decreases-loop
-add_wide c = omega (arith, c.before.loop.invariant.0.long_off, (Entry c.before).pre.rising.long)
+add_wide : tie.Need-overflow_add-s invariant-loop decreases-loop
+add_wide c = omega (arith, c.loop-s.invariant.0.long_off, (Entry c.before).requires.rising.long)
 
-mul_wide : tie.Need-overflow-mul-wide invariant-loop decreases-loop
-mul_wide c = omega (arith, c.before.loop.invariant.0.long_off, (Entry c.before).pre.rising.long)
+mul_wide : tie.Need-offset_bounds-offsets-s invariant-loop decreases-loop
+mul_wide c = omega (arith, c.loop-s.invariant.0.long_off, (Entry c.before).requires.rising.long)
 
-slice-read-wide-2 : tie.Need-slice-read-wide-2 invariant-loop decreases-loop
-slice-read-wide-2 c = let l = c.before.before in omega (arith, l.loop.invariant.0.long_off, (Entry l).requires.rising.long)
+slice_read-wide-2 : tie.Need-bounds-offsets-s invariant-loop decreases-loop
+slice_read-wide-2 c = let l = c in omega (arith, l.loop-s.invariant.0.long_off, (Entry l.before.before).requires.rising.long)
 
-place-cell-requires : tie.Need-place-cell-requires invariant-loop decreases-loop
-place-cell-requires c κs =
-    let d = c.before in
-    let t = d.before.before in
-    let l = t.before in
-    cell_ready _ _ _ _ _ _ _ _ _ _ _ _ l.loop.invariant.0 t.loop-test.true (Entry l).requires d.wide3.ensures
+place_cell-requires : tie.Need-place_cell-p-requires invariant-loop decreases-loop
+place_cell-requires c κs =
+    let d = c in
+    let t = d in
+    let l = t in
+    cell_ready _ _ _ _ _ _ _ _ _ _ _ _ l.loop-s.invariant.0 t.loop-s-test.true (Entry l.before.before.before.before).requires d.wide-to.ensures
 
-cast-offsets : tie.Need-overflow-cast-offsets invariant-loop decreases-loop
+cast-offsets : tie.Need-overflow_cast-offsets invariant-loop decreases-loop
 cast-offsets c =
     let l = Loop c.before.before in
-    omega (arith, compacting_below _ _ _ _ _ _ _ _ l.loop.inv.0 (Entry l).pre.rising, (Entry l).pre.small)
+    omega (arith, compacting_below _ _ _ _ _ _ _ _ l.loop-s.invariant.0 (Entry l).requires.rising, (Entry l).requires.small)
 
-mul-offsets : tie.Need-overflow-mul-offsets invariant-loop decreases-loop
-mul-offsets c = let l = Loop c.before.before in omega (arith, l.loop.inv.0.long_off, (Entry l).pre.rising.long)
+mul-offsets : tie.Need-offset_bounds-offsets-s-in-loop-s invariant-loop decreases-loop
+mul-offsets c = let l = Loop c.before.before in omega (arith, l.loop-s.invariant.0.long_off, (Entry l).requires.rising.long)
 
-slice-write-offsets : tie.Need-slice-write-offsets invariant-loop decreases-loop
-slice-write-offsets c = let l = Loop c.before.before in omega (arith, l.loop.inv.0.long_off, (Entry l).pre.rising.long)
+slice_write-offsets : tie.Need-bounds-offsets-s-in-loop-s invariant-loop decreases-loop
+slice_write-offsets c = let l = Loop c.before.before in omega (arith, l.loop-s.invariant.0.long_off, (Entry l).requires.rising.long)
 
-add-steps : tie.Need-overflow-add-steps invariant-loop decreases-loop
+add-steps : tie.Need-overflow_add-steps invariant-loop decreases-loop
 add-steps c =
-    let k = c.before.before.before in
-    let l = Loop k in
-    omega (arith, l.loop.inv.2, k.place-cell.ensures.2, steps-few l, k.before.before.before.before.loop-test.true, (Entry l).pre.few_sites)
+    let k = c in
+    let l = Loop k.before.before.before in
+    omega (arith, l.loop-s.invariant.2, k.place_cell-p.ensures.2, steps-few l, k.loop-s-test.true, (Entry l).requires.few_sites)
 
-loop-again : tie.Need-loop-preserved invariant-loop decreases-loop
+loop-again : tie.Need-loop-s-preserved invariant-loop decreases-loop
 loop-again c =
-    let x = c.before.before in
-    let k = x.before in
-    let d = k.before.before in
-    let t = d.before.before in
-    let l = t.before in
-    let g = l.loop.invariant.0 in
-    let h = t.loop-test.true in
-    let p = (Entry l).requires in
-    let e = k.place-cell.ensures in (
-      compacting_step _ _ _ _ _ _ _ _ _ g h p.rising d.wide3.ensures _ _ e.0 e.1 x.indexes.given,
-      steps_more _ _ _ _ _ l.loop.invariant.1 e.2,
-      omega (arith, l.loop.invariant.2, e.2, steps-few l),
-      λ owners few cells n r. cell_placed _ _ _ _ _ _ _ _ _ _ _ _ g h p d.wide3.ensures _ _ e.1 _ e.3 owners few cells n r (l.loop.invariant.3 owners few cells n r),
+    let x = c in
+    let k = x in
+    let d = k in
+    let t = d in
+    let l = t in
+    let g = l.loop-s.invariant.0 in
+    let h = t.loop-s-test.true in
+    let p = (Entry l.before.before.before.before.before.before.before.before).requires in
+    let e = k.place_cell-p.ensures in (
+      compacting_step _ _ _ _ _ _ _ _ _ g h p.rising d.wide-to.ensures _ _ e.0 e.1 x.indexes-1.given,
+      steps_more _ _ _ _ _ l.loop-s.invariant.1 e.2,
+      omega (arith, l.loop-s.invariant.2, e.2, steps-few l.before.before.before.before.before.before.before.before),
+      λ owners few cells n r. cell_placed _ _ _ _ _ _ _ _ _ _ _ _ g h p d.wide-to.ensures _ _ e.1 _ e.3 owners few cells n r (l.loop-s.invariant.3 owners few cells n r),
     )
 
-cast-offsets-2 : tie.Need-overflow-cast-offsets-2 invariant-loop decreases-loop
-cast-offsets-2 c = omega (arith, compacting_below _ _ _ _ _ _ _ _ c.before.loop.invariant.0 (Entry c.before).pre.rising, (Entry c.before).pre.small)
+cast-offsets-2 : tie.Need-overflow_cast-offsets-2 invariant-loop decreases-loop
+cast-offsets-2 c = omega (arith, compacting_below _ _ _ _ _ _ _ _ c.loop-s.invariant.0 (Entry c.before).requires.rising, (Entry c.before).requires.small)
 
-mul-offsets-2 : tie.Need-overflow-mul-offsets-2 invariant-loop decreases-loop
-mul-offsets-2 c = let l = c.before in omega (arith, l.loop.invariant.0.long_off, (Entry l).requires.rising.long)
+mul-offsets-2 : tie.Need-offset_bounds-offsets-sites invariant-loop decreases-loop
+mul-offsets-2 c = let l = c in omega (arith, l.loop-s.invariant.0.long_off, (Entry l.before).requires.rising.long)
 
-slice-write-offsets-2 : tie.Need-slice-write-offsets-2 invariant-loop decreases-loop
-slice-write-offsets-2 c = let l = c.before in omega (arith, l.loop.invariant.0.long_off, (Entry l).requires.rising.long)
+slice_write-offsets-2 : tie.Need-bounds-offsets-sites invariant-loop decreases-loop
+slice_write-offsets-2 c = let l = c in omega (arith, l.loop-s.invariant.0.long_off, (Entry l.before).requires.rising.long)
 
-same_length : tie.Need-same-length invariant-loop decreases-loop
-same_length c = c.before.loop.invariant.0.long_ix
+same_length : tie.Need-shape_of-indexes invariant-loop decreases-loop
+same_length c = c.loop-s.invariant.0.long_ix
 
-same-length-2 : tie.Need-same-length-2 invariant-loop decreases-loop
-same-length-2 c = simp length-set c.before.loop.invariant.0.long_off
+same_length-2 : tie.Need-shape_of-offsets invariant-loop decreases-loop
+same_length-2 c = simp length-set c.loop-s.invariant.0.long_off
 
 returns : tie.Need-returns invariant-loop decreases-loop
 returns c =
-    let l = c.before in (
-      compacting_within _ _ _ _ _ _ _ _ l.loop.invariant.0 (Entry l).requires.rising,
-      steps_all _ _ _ _ _ (omega (arith, l.loop.invariant.0.within, c.loop-test.false)) l.loop.invariant.1,
-      λ cells n r. moved_end _ _ _ _ _ _ _ _ l.loop.invariant.0 (omega arith) (Entry l).requires.rising cells n (l.loop.invariant.3 (Entry l).args.owners (few l) cells n r),
+    let l = c in (
+      compacting_within _ _ _ _ _ _ _ _ l.loop-s.invariant.0 (Entry l.before).requires.rising,
+      steps_all _ _ _ _ _ (omega (arith, l.loop-s.invariant.0.within, c.loop-s-test.false)) l.loop-s.invariant.1,
+      λ cells n r. moved_end _ _ _ _ _ _ _ _ l.loop-s.invariant.0 (omega arith) (Entry l.before).requires.rising cells n (l.loop-s.invariant.3 (Entry l.before).args.owners (few l.before) cells n r),
     )
 
-pub place-cells-spec : {M : Type 1} → statement M
-place-cells-spec =
+pub place_cells_spec : {M : Type 1} → statement M
+place_cells_spec =
     tie.close
-    (tie.spec invariant-loop decreases-loop (λ c κs. search rules) (λ c κs. search rules) slice-read-wide (λ c κs. search rules) loop-holds add_wide mul_wide slice-read-wide-2
-    (λ c κs. search rules) place-cell-requires cast-offsets mul-offsets slice-write-offsets add-steps (λ c. search rules) (λ c. omega arith) loop-again cast-offsets-2 mul-offsets-2
-    slice-write-offsets-2 same_length same-length-2 returns)
+    (tie.spec invariant-loop decreases-loop (λ c κs. search rules) (λ c κs. search rules) slice_read-wide (λ c κs. search rules) loop-holds add_wide mul_wide slice_read-wide-2
+    (λ c κs. search rules) place_cell-requires cast-offsets mul-offsets slice_write-offsets add-steps (λ c. search rules) (λ c. omega arith) loop-again cast-offsets-2 mul-offsets-2
+    slice_write-offsets-2 same_length same_length-2 returns)

@@ -7,15 +7,15 @@ use Rattle.mesh.specs.laws.Next.{next_sum}
 use Rattle.cell_builder.proofs.placed.step_on.Statement.{statement}
 use Rattle.cell_builder.proofs.placed.step_on.Tie as tie
 
-next-halfedge-requires : tie.Need-next-halfedge-requires
-next-halfedge-requires c κs = omega (arith, next_sum c.before.args.e, c.before.requires)
+next_halfedge-requires : tie.Need-next_halfedge-requires
+next_halfedge-requires c κs = omega (arith, next_sum c.args.e, c.requires)
 
 returns : tie.Need-returns
 returns c =
-    let n = c.before.before in
-    c.wide.ensures ∙ ap (pair_of n.before.before.args.halfedges.now) n.next-halfedge.ensures
+    let n = c in
+    c.wide.ensures ∙ ap (pair_of n.args.halfedges.now) n.next_halfedge.ensures
 
-pub step-on-spec : {M : Type 1} → statement M
-step-on-spec =
+pub step_on_spec : {M : Type 1} → statement M
+step_on_spec =
     tie.close
-    (tie.spec next-halfedge-requires (λ c. search rules) (λ c. search rules) (λ c κs. search rules) returns)
+    (tie.spec next_halfedge-requires (λ c. search rules) (λ c. search rules) (λ c κs. search rules) returns)

@@ -5,20 +5,20 @@ use Rattle.certifying.specs.call.laws.Stages.{insert_safe, chained_safe}
 use Rattle.certifying.proofs.call.judge_sides.Statement.{statement}
 use Rattle.certifying.proofs.call.judge_sides.Tie as tie
 
-insert-all-requires : tie.Need-insert-all-requires
-insert-all-requires c κs = insert_safe c.before.before.before.before.before.before.before.requires c.before.side-count.ensures
+insert_all-requires : tie.Need-insert_all-requires
+insert_all-requires c κs = insert_safe c.requires c.side_count-count.ensures
 
-judge-chained-requires : tie.Need-judge-chained-requires
-judge-chained-requires c κs =
-    let at-side-count = c.before.before.before.before.before in
-    chained_safe at-side-count.before.before.before.before.before.before.requires at-side-count.side-count.ensures c.before.before.before.insert_all.ensures
+judge_chained-requires : tie.Need-judge_chained-requires
+judge_chained-requires c κs =
+    let at-side-count = c in
+    chained_safe at-side-count.requires at-side-count.side_count-count.ensures c.insert_all.ensures
 
 returns : tie.Need-returns
 returns c =
-    let at-judge-chained = c.before.before in
-    (at-judge-chained.judge-chained.ensures.0, at-judge-chained.judge-chained.ensures.1 ∙ at-judge-chained.before.before.before.before.insert_all.ensures.long)
+    let at-judge-chained = c in
+    (at-judge-chained.judge_chained.ensures.0, at-judge-chained.judge_chained.ensures.1 ∙ at-judge-chained.insert_all.ensures.long)
 
-pub judge-sides-spec : {M : Type 1} → statement M
-judge-sides-spec =
+pub judge_sides_spec : {M : Type 1} → statement M
+judge_sides_spec =
     tie.close
-    (tie.spec (λ c κs. search rules) insert-all-requires judge-chained-requires (λ c. search rules) returns)
+    (tie.spec (λ c κs. search rules) insert_all-requires judge_chained-requires (λ c. search rules) returns)

@@ -7,23 +7,23 @@ use Rattle.certifying.proofs.call.name_side.Tie as tie
 
 narrow-requires : tie.Need-narrow-requires
 narrow-requires c κs =
-    let s = c.before.before.before.before in
+    let s = c in
     let sites = s.args.sites.now in
     let off = s.args.offsets.now in
     let ix = s.args.indexes.now in
-    omega (arith, side_site sites off ix s.args.e s.requires c.site-of-side.ensures, s.requires.few)
+    omega (arith, side_site sites off ix s.args.e s.requires c.site_of_side-s.ensures, s.requires.few)
 
-mul-t6 : tie.Need-overflow-mul-t6
+mul-t6 : tie.Need-offset_bounds-indexes-e
 mul-t6 c =
-    let s = c.before.before.before.before.before in
+    let s = c in
     let sites = s.args.sites.now in
     let off = s.args.offsets.now in
     let ix = s.args.indexes.now in
     omega (arith, side_entry sites off ix s.args.e s.requires)
 
-shared-slice-read-t10 : tie.Need-shared-slice-read-t10
-shared-slice-read-t10 c =
-    let s = c.before.before.before.before.before.before in
+shared_slice_read-t10 : tie.Need-bounds-indexes-e
+shared_slice_read-t10 c =
+    let s = c in
     let sites = s.args.sites.now in
     let off = s.args.offsets.now in
     let ix = s.args.indexes.now in
@@ -31,13 +31,13 @@ shared-slice-read-t10 c =
 
 returns : tie.Need-returns
 returns c =
-    let s = c.before.before.before.before.before.before in
+    let s = c in
     let sites = s.args.sites.now in
     let off = s.args.offsets.now in
     let ix = s.args.indexes.now in
-    side_is sites off ix s.args.e c.before.before.site-of-side.ensures c.before.narrow.ensures
+    side_is sites off ix s.args.e c.site_of_side-s.ensures c.narrow.ensures
 
-pub name-side-spec : {M : Type 1} → statement M
-name-side-spec =
+pub name_side_spec : {M : Type 1} → statement M
+name_side_spec =
     tie.close
-    (tie.spec (λ c κs. search rules) narrow-requires mul-t6 shared-slice-read-t10 returns)
+    (tie.spec (λ c κs. search rules) narrow-requires mul-t6 shared_slice_read-t10 returns)

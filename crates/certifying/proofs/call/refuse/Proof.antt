@@ -4,16 +4,16 @@ use Rattle.certifying.specs.call.laws.Answers.{refused_cleared, refused_kept}
 use Rattle.certifying.proofs.call.refuse.Statement.{statement}
 use Rattle.certifying.proofs.call.refuse.Tie as tie
 
-returns : tie.Need-returns
-returns c = let s = c.before.before.before in refused_kept s.args.number s.args.work.now c.refused.ensures c.before.if1.true
+returns : tie.Need-returns-then-number-lt-REFUSED_TRIANGLE
+returns c = let s = c in refused_kept s.args.number s.args.work.now c.refused.ensures c.if-number-lt-REFUSED_TRIANGLE.true
 
-returns-2 : tie.Need-returns-2
+returns-2 : tie.Need-returns
 returns-2 c =
-    let cleared = c.before.before.before in
-    let s = cleared.before.before.before.before in
-    refused_cleared s.args.number s.args.work.now c.refused2.ensures cleared.before.before.if1.false cleared.clear.ensures
+    let cleared = c in
+    let s = cleared in
+    refused_cleared s.args.number s.args.work.now c.refused-2.ensures cleared.if-number-lt-REFUSED_TRIANGLE.false cleared.clear.ensures
 
-pub refuse-spec : {M : Type 1} → statement M
-refuse-spec =
+pub refuse_spec : {M : Type 1} → statement M
+refuse_spec =
     tie.close
     (tie.spec (λ c κs. search rules) returns (λ c κs. search rules) (λ c κs. search rules) (λ c. search rules) returns-2)

@@ -3,5 +3,5 @@ use mathlib.Core.Path.{refl}
 use Rattle.certifying.proofs.nearer.no_others.Statement.{statement}
 use Rattle.certifying.proofs.nearer.no_others.Tie as tie
 
-pub no-others-spec : {M : Type 1} → statement M
-no-others-spec = tie.close (tie.spec (λ c. refl) (λ c. refl))
+pub no_others_spec : {M : Type 1} → statement M
+no_others_spec = tie.close (tie.spec (λ c. refl) (λ c. refl))

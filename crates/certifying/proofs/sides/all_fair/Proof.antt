@@ -8,27 +8,27 @@ use Prim.Native.Nat.{◌-◌}
 use Rattle.certifying.proofs.sides.all_fair.Statement.{statement}
 use Rattle.certifying.proofs.sides.all_fair.Tie as tie
 
-abbrev invariant-loop : tie.invariant-loop
+abbrev invariant-loop : tie.invariant-loop-m
 invariant-loop work vertices indexes bounds count m₀ m = BucketsFair bounds vertices indexes (laid_ends work count) count m
 
-abbrev decreases-loop : tie.decreases-loop
+abbrev decreases-loop : tie.decreases-loop-m
 decreases-loop work vertices indexes bounds count m₀ m = count - m
 
-loop-holds : tie.Need-loop-init invariant-loop decreases-loop
+loop-holds : tie.Need-loop-m-init invariant-loop decreases-loop
 loop-holds c = buckets_start _ _ _ _ _
 
-is-fair-requires : tie.Need-is-fair-requires invariant-loop decreases-loop
-is-fair-requires c κs = let s = c.before.before.before.before.before in (c.loop-test.true, s.requires)
+is_fair-requires : tie.Need-is_fair-requires invariant-loop decreases-loop
+is_fair-requires c κs = let s = c in (c.loop-m-test.true, s.requires)
 
-loop-again : tie.Need-loop-preserved invariant-loop decreases-loop
-loop-again c = let at = c.before in buckets_step _ _ _ _ _ at.before.before.loop.invariant at.before.loop-test.true (at.is-fair.ensures c.if1.true)
+loop-again : tie.Need-loop-m-preserved invariant-loop decreases-loop
+loop-again c = let at = c in buckets_step _ _ _ _ _ at.loop-m.invariant at.loop-m-test.true (at.is_fair.ensures c.if-is_fair.true)
 
-returns : tie.Need-returns invariant-loop decreases-loop
+returns : tie.Need-returns-else-is_fair invariant-loop decreases-loop
 returns c = λ q. absurd (no_both (sym q))
 
-returns-2 : tie.Need-returns-2 invariant-loop decreases-loop
-returns-2 c = λ _. buckets_end _ _ _ _ _ c.before.loop.invariant (omega (arith, c.loop-test.false))
+returns-2 : tie.Need-returns invariant-loop decreases-loop
+returns-2 c = λ _. buckets_end _ _ _ _ _ c.loop-m.invariant (omega (arith, c.loop-m-test.false))
 
-pub all-fair-spec : {M : Type 1} → statement M
-all-fair-spec =
-    tie.close (tie.spec invariant-loop decreases-loop loop-holds is-fair-requires (λ c. omega arith) (λ c. omega arith) loop-again returns returns-2)
+pub all_fair_spec : {M : Type 1} → statement M
+all_fair_spec =
+    tie.close (tie.spec invariant-loop decreases-loop loop-holds is_fair-requires (λ c. omega arith) (λ c. omega arith) loop-again returns returns-2)

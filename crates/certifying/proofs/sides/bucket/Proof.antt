@@ -7,10 +7,10 @@ use Rattle.certifying.proofs.sides.bucket.Tie as tie
 
 returns : tie.Need-returns
 unfolding side_bucket
-returns c = bucket_is _ _ _ c.before.before.place-number.ensures.0 c.before.place-number2.ensures.0 c.broad.ensures c.before.before.before.requires.0
+returns c = bucket_is _ _ _ c.place_number.ensures.0 c.place_number-2.ensures.0 c.broad.ensures c.requires.0
 
-pub bucket-spec : {M : Type 1} → statement M
-bucket-spec =
+pub bucket_spec : {M : Type 1} → statement M
+bucket_spec =
     tie.close
     (tie.spec (λ c κs. search rules) (λ c κs. search rules) (λ c. search rules) (λ c κs. search rules)
     (λ c. search rules) returns)

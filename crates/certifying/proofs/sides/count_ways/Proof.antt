@@ -8,126 +8,126 @@ use Prim.{tt}
 use Rattle.certifying.proofs.sides.count_ways.Statement.{statement}
 use Rattle.certifying.proofs.sides.count_ways.Tie as tie
 
-abbrev invariant-loop : tie.invariant-loop
+abbrev invariant-loop : tie.invariant-loop-x
 invariant-loop work vertices indexes count p q m there₀ back₀ x₀ there back x = WaysTo vertices indexes (laid_ends work count) count p q x there back
 
-abbrev decreases-loop : tie.decreases-loop
+abbrev decreases-loop : tie.decreases-loop-x
 decreases-loop work vertices indexes count p q m there₀ back₀ x₀ there back x = x
 
-abbrev Start : tie.At-loop invariant-loop decreases-loop → tie.Start invariant-loop decreases-loop
+abbrev Start : tie.At-loop-x invariant-loop decreases-loop → tie.Start invariant-loop decreases-loop
 Start c = c.before.before.before.before.before.before.before
 
-abbrev InLoop : tie.After-one-if2 invariant-loop decreases-loop → tie.In-loop invariant-loop decreases-loop
+abbrev InLoop : tie.After-one_if-back invariant-loop decreases-loop → tie.In-loop-x invariant-loop decreases-loop
 InLoop c = c.before.before.before.before.before
 
-bucket-requires : tie.Need-bucket-requires invariant-loop decreases-loop
-bucket-requires c κs = (c.before.before.before.requires.0, c.before.before.before.requires.1.lie.few)
+bucket-requires : tie.Need-bucket-m-requires invariant-loop decreases-loop
+bucket-requires c κs = (c.requires.0, c.requires.1.lie.few)
 
-mul_wide : tie.Need-overflow-mul-wide invariant-loop decreases-loop
-mul_wide c = record { fits = omega (arith, c.before.before.before.before.requires.1.lie.few, c.bucket.ensures.1) }
+mul_wide : tie.Need-overflow_mul-m invariant-loop decreases-loop
+mul_wide c = record { fits = omega (arith, c.requires.1.lie.few, c.bucket-m.ensures.1) }
 
-mul-wide-2 : tie.Need-overflow-mul-wide-2 invariant-loop decreases-loop
-mul-wide-2 c = omega (arith, c.before.before.before.before.requires.1.lie.few, c.bucket.ensures.1)
+mul-wide-2 : tie.Need-offset_bounds-work-m invariant-loop decreases-loop
+mul-wide-2 c = omega (arith, c.requires.1.lie.few, c.bucket-m.ensures.1)
 
-shared-slice-read-wide : tie.Need-shared-slice-read-wide invariant-loop decreases-loop
-shared-slice-read-wide c = omega (arith, c.before.before.before.before.before.requires.1.lie.room, c.before.bucket.ensures.1)
+shared_slice_read-wide : tie.Need-bounds-work-m invariant-loop decreases-loop
+shared_slice_read-wide c = omega (arith, c.requires.1.lie.room, c.bucket-m.ensures.1)
 
-wide-requires : tie.Need-wide-requires invariant-loop decreases-loop
+wide-requires : tie.Need-wide-x-requires invariant-loop decreases-loop
 wide-requires c κs = tt
 
-loop-holds : tie.Need-loop-init invariant-loop decreases-loop
+loop-holds : tie.Need-loop-x-init invariant-loop decreases-loop
 loop-holds c =
-    let sl = c.before.before in
-    ways_start sl.before.before.before.before.requires.1 _ _ sl.bucket.ensures.0 sl.bucket.ensures.1 c.wide.ensures
+    let sl = c in
+    ways_start sl.requires.1 _ _ sl.bucket-m.ensures.0 sl.bucket-m.ensures.1 c.wide-x.ensures
 
-side-at-requires : tie.Need-side-at-requires invariant-loop decreases-loop
-side-at-requires c κs = side_safe (Start c.before).pre.1.lie (way_below (Start c.before).pre.1 _ _ c.before.loop.invariant c.loop-test.true)
+side_at-requires : tie.Need-side_at-side-requires invariant-loop decreases-loop
+side_at-requires c κs = side_safe (Start c.before).requires.1.lie (way_below (Start c.before).requires.1 _ _ c.loop-x.invariant c.loop-x-test.true)
 
 runs-requires : tie.Need-runs-requires invariant-loop decreases-loop
 runs-requires c κs = tt
 
-one-if-requires : tie.Need-one-if-requires invariant-loop decreases-loop
-one-if-requires c κs = tt
+one_if-requires : tie.Need-one_if-there-requires invariant-loop decreases-loop
+one_if-requires c κs = tt
 
-add-there : tie.Need-overflow-add-there invariant-loop decreases-loop
+add-there : tie.Need-overflow_add-there invariant-loop decreases-loop
 add-there c =
-    let il = c.before.before.before in
+    let il = c in
     record {
       fits = omega (
         arith,
-        (Start il.before).pre.1.lie.few,
-        (counts_few (Start il.before).pre.1 _ _ il.before.loop.invariant
-            il.loop-test.true).0,
-        c.one-if.ensures,
-        bit_small c.before.runs.result,
+        (Start il.before.before.before.before).requires.1.lie.few,
+        (counts_few (Start il.before.before.before.before).requires.1 _ _ il.loop-x.invariant
+            il.loop-x-test.true).0,
+        c.one_if-there.ensures,
+        bit_small c.runs.result,
       );
     }
 
-runs-requires-2 : tie.Need-runs-requires-2 invariant-loop decreases-loop
+runs-requires-2 : tie.Need-runs-requires-in-loop-x invariant-loop decreases-loop
 runs-requires-2 c κs = tt
 
-one-if-requires-2 : tie.Need-one-if-requires-2 invariant-loop decreases-loop
-one-if-requires-2 c κs = tt
+one_if-requires-2 : tie.Need-one_if-back-requires invariant-loop decreases-loop
+one_if-requires-2 c κs = tt
 
-add_back : tie.Need-overflow-add-back invariant-loop decreases-loop
+add_back : tie.Need-overflow_add-back invariant-loop decreases-loop
 add_back c =
-    let l = (InLoop c).before in
+    let l = InLoop c in
     record {
       fits = omega (
         arith,
-        (Start l).pre.1.lie.few,
-        (counts_few (Start l).pre.1 _ _ l.loop.inv (InLoop c).loop-test.true).1,
-        c.one-if2.ensures,
+        (Start l.before).requires.1.lie.few,
+        (counts_few (Start l.before).requires.1 _ _ l.loop-x.invariant (InLoop c).loop-x-test.true).1,
+        c.one_if-back.ensures,
         bit_small
-            c.before.runs2.result,
+            c.runs-in-loop-x.result,
       );
     }
 
-mul-wide-3 : tie.Need-overflow-mul-wide-3 invariant-loop decreases-loop
+mul-wide-3 : tie.Need-overflow_mul-k invariant-loop decreases-loop
 mul-wide-3 c =
-    let l = (InLoop c).before in
-    record { fits = omega (arith, (Start l).pre.1.lie.few, way_below (Start l).pre.1 _ _ l.loop.inv (InLoop c).loop-test.true) }
+    let l = InLoop c in
+    record { fits = omega (arith, (Start l.before).requires.1.lie.few, way_below (Start l.before).requires.1 _ _ l.loop-x.invariant (InLoop c).loop-x-test.true) }
 
-add_wide : tie.Need-overflow-add-wide invariant-loop decreases-loop
+add_wide : tie.Need-overflow_add-k invariant-loop decreases-loop
 add_wide c =
-    let l = (InLoop c).before in
-    record { fits = omega (arith, (Start l).pre.1.lie.few, way_below (Start l).pre.1 _ _ l.loop.inv (InLoop c).loop-test.true) }
+    let l = InLoop c in
+    record { fits = omega (arith, (Start l.before).requires.1.lie.few, way_below (Start l.before).requires.1 _ _ l.loop-x.invariant (InLoop c).loop-x-test.true) }
 
-mul-wide-4 : tie.Need-overflow-mul-wide-4 invariant-loop decreases-loop
+mul-wide-4 : tie.Need-offset_bounds-work-k invariant-loop decreases-loop
 mul-wide-4 c =
-    let l = (InLoop c).before in
-    omega (arith, (Start l).pre.1.lie.few, way_below (Start l).pre.1 _ _ l.loop.inv (InLoop c).loop-test.true)
+    let l = InLoop c in
+    omega (arith, (Start l.before).requires.1.lie.few, way_below (Start l.before).requires.1 _ _ l.loop-x.invariant (InLoop c).loop-x-test.true)
 
-shared-slice-read-wide-2 : tie.Need-shared-slice-read-wide-2 invariant-loop decreases-loop
-shared-slice-read-wide-2 c =
-    let l = (InLoop c.before).before in
-    omega (arith, (Start l).pre.1.lie.room, way_below (Start l).pre.1 _ _ l.loop.inv (InLoop c.before).loop-test.taken)
+shared_slice_read-wide-2 : tie.Need-bounds-work-k invariant-loop decreases-loop
+shared_slice_read-wide-2 c =
+    let l = InLoop c.before in
+    omega (arith, (Start l.before).requires.1.lie.room, way_below (Start l.before).requires.1 _ _ l.loop-x.invariant (InLoop c.before).loop-x-test.true)
 
-wide-requires-2 : tie.Need-wide-requires-2 invariant-loop decreases-loop
+wide-requires-2 : tie.Need-wide-x-requires-in-loop-x invariant-loop decreases-loop
 wide-requires-2 c κs = tt
 
-loop-less : tie.Need-loop-smaller invariant-loop decreases-loop
+loop-less : tie.Need-loop-x-smaller invariant-loop decreases-loop
 loop-less c =
     let il = InLoop c.before.before in
-    next_less (Start il.before).pre.1 _ _ il.before.loop.inv il.loop-test.taken c.wide2.ensures
+    next_less (Start il.before).requires.1 _ _ il.loop-x.invariant il.loop-x-test.true c.wide-x-in-loop-x.ensures
 
-loop-again : tie.Need-loop-preserved invariant-loop decreases-loop
+loop-again : tie.Need-loop-x-preserved invariant-loop decreases-loop
 loop-again c =
-    let at-runs2 = c.before.before.before in
-    let sd = at-runs2.before.before.before in
-    let l = sd.before.before in
-    let below = way_below (Start l).requires.1 _ _ l.loop.invariant sd.before.loop-test.true in
-    let to = side_to (Start l).requires.1.lie below sd.side-at.ensures.1 in
-    ways_step (Start l).requires.1 _ _ l.loop.invariant sd.before.loop-test.true (runs_is _ _ _ _ _ _ sd.side-at.ensures.0 to at-runs2.before.before.runs.ensures
-    at-runs2.before.one-if.ensures)
-    (runs_is _ _ _ _ _ _ sd.side-at.ensures.0 to at-runs2.runs2.ensures c.before.before.one-if2.ensures) c.wide2.ensures
+    let at-runs2 = c in
+    let sd = at-runs2 in
+    let l = sd in
+    let below = way_below (Start l.before.before.before.before.before.before.before.before).requires.1 _ _ l.loop-x.invariant sd.loop-x-test.true in
+    let to = side_to (Start l.before.before.before.before.before.before.before.before).requires.1.lie below sd.side_at-side.ensures.1 in
+    ways_step (Start l.before.before.before.before.before.before.before.before).requires.1 _ _ l.loop-x.invariant sd.loop-x-test.true (runs_is _ _ _ _ _ _ sd.side_at-side.ensures.0 to at-runs2.runs.ensures
+    at-runs2.one_if-there.ensures)
+    (runs_is _ _ _ _ _ _ sd.side_at-side.ensures.0 to at-runs2.runs-in-loop-x.ensures c.one_if-back.ensures) c.wide-x-in-loop-x.ensures
 
 returns : tie.Need-returns invariant-loop decreases-loop
-returns c = ways_end (Start c.before).pre.1 _ _ c.before.loop.invariant (omega (arith, c.loop-test.false))
+returns c = ways_end (Start c.before).requires.1 _ _ c.loop-x.invariant (omega (arith, c.loop-x-test.false))
 
-pub count-ways-spec : {M : Type 1} → statement M
-count-ways-spec =
+pub count_ways_spec : {M : Type 1} → statement M
+count_ways_spec =
     tie.close
-    (tie.spec invariant-loop decreases-loop bucket-requires mul_wide mul-wide-2 shared-slice-read-wide wide-requires loop-holds
-    (λ c. omega arith) side-at-requires runs-requires one-if-requires add-there runs-requires-2 one-if-requires-2
-    add_back mul-wide-3 add_wide mul-wide-4 shared-slice-read-wide-2 wide-requires-2 loop-less loop-again returns)
+    (tie.spec invariant-loop decreases-loop bucket-requires mul_wide mul-wide-2 shared_slice_read-wide wide-requires loop-holds
+    (λ c. omega arith) side_at-requires runs-requires one_if-requires add-there runs-requires-2 one_if-requires-2
+    add_back mul-wide-3 add_wide mul-wide-4 shared_slice_read-wide-2 wide-requires-2 loop-less loop-again returns)

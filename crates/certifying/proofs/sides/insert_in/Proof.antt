@@ -6,10 +6,10 @@ use Rattle.certifying.proofs.sides.insert_in.Statement.{statement}
 use Rattle.certifying.proofs.sides.insert_in.Tie as tie
 
 returns : tie.Need-returns
-returns c = rw (add-one c.before.args.k) refl
+returns c = rw (add-one c.args.k) refl
 
-pub insert-in-spec : {M : Type 1} → statement M
-insert-in-spec =
+pub insert_in_spec : {M : Type 1} → statement M
+insert_in_spec =
     tie.close
     (tie.spec (λ c. search rules) (λ c. search rules) (λ c. search rules) (λ c. search rules) (λ c. search rules)
     (λ c. search rules) (λ c. search rules) (λ c. search rules) (λ c. search rules) (λ c. search rules)

@@ -8,5 +8,5 @@ returns : tie.Need-returns
 unfolding along_of leaves_of
 returns c = refl
 
-pub is-along-spec : {M : Type 1} → statement M
-is-along-spec = tie.close (tie.spec returns)
+pub is_along_spec : {M : Type 1} → statement M
+is_along_spec = tie.close (tie.spec returns)

@@ -9,80 +9,80 @@ use borrow.Author.Rules.{rules}
 use Rattle.certifying.proofs.sides.is_fair.Statement.{statement}
 use Rattle.certifying.proofs.sides.is_fair.Tie as tie
 
-abbrev invariant-loop : tie.invariant-loop
+abbrev invariant-loop : tie.invariant-loop-x
 invariant-loop work vertices indexes bounds count m x₀ x = FairTo bounds vertices indexes (laid_ends work count) count m x
 
-abbrev decreases-loop : tie.decreases-loop
+abbrev decreases-loop : tie.decreases-loop-x
 decreases-loop work vertices indexes bounds count m x₀ x = x
 
-abbrev Start : tie.Else2 invariant-loop decreases-loop → tie.Start invariant-loop decreases-loop
+abbrev Start : tie.Else-is_pair invariant-loop decreases-loop → tie.Start invariant-loop decreases-loop
 Start c = c.before.before.before.before.before.before.before
 
-is-even-requires : tie.Need-is-even-requires invariant-loop decreases-loop
-is-even-requires c κs = c.before.before.before.requires
+is_even-requires : tie.Need-is_even-requires invariant-loop decreases-loop
+is_even-requires c κs = c.requires
 
-returns : tie.Need-returns invariant-loop decreases-loop
-returns c = λ q. even_fair _ _ _ _ _ _ (c.before.is-even.ensures c.if1.true)
+returns : tie.Need-returns-then-is_even invariant-loop decreases-loop
+returns c = λ q. even_fair _ _ _ _ _ _ (c.is_even.ensures c.if-is_even.true)
 
-is-pair-requires : tie.Need-is-pair-requires invariant-loop decreases-loop
-is-pair-requires c κs = c.before.before.before.before.before.requires
+is_pair-requires : tie.Need-is_pair-requires invariant-loop decreases-loop
+is_pair-requires c κs = c.requires
 
-returns-2 : tie.Need-returns-2 invariant-loop decreases-loop
-returns-2 c = λ q. even_fair _ _ _ _ _ _ (c.before.is-pair.ensures c.if2.true)
+returns-2 : tie.Need-returns-then-is_pair invariant-loop decreases-loop
+returns-2 c = λ q. even_fair _ _ _ _ _ _ (c.is_pair.ensures c.if-is_pair.true)
 
-mul_wide : tie.Need-overflow-mul-wide invariant-loop decreases-loop
+mul_wide : tie.Need-overflow_mul-m invariant-loop decreases-loop
 mul_wide c = record { fits = omega (arith, (Start c).requires.1.lie.few, (Start c).requires.0) }
 
-mul-wide-2 : tie.Need-overflow-mul-wide-2 invariant-loop decreases-loop
+mul-wide-2 : tie.Need-offset_bounds-work-m invariant-loop decreases-loop
 mul-wide-2 c = omega (arith, (Start c).requires.1.lie.few, (Start c).requires.0)
 
-shared-slice-read-wide : tie.Need-shared-slice-read-wide invariant-loop decreases-loop
-shared-slice-read-wide c = omega (arith, (Start c.before).pre.1.lie.room, (Start c.before).pre.0)
+shared_slice_read-wide : tie.Need-bounds-work-m invariant-loop decreases-loop
+shared_slice_read-wide c = omega (arith, (Start c.before).requires.1.lie.room, (Start c.before).requires.0)
 
-loop-holds : tie.Need-loop-init invariant-loop decreases-loop
-loop-holds c = fair_start (Start c.before.before).pre.1 (Start c.before.before).pre.0 c.wide.ensures
+loop-holds : tie.Need-loop-x-init invariant-loop decreases-loop
+loop-holds c = fair_start (Start c.before.before).requires.1 (Start c.before.before).requires.0 c.wide-x.ensures
 
 -- in a turn: the way is one of them
-below : (c : tie.In-loop invariant-loop decreases-loop) → c.before.loop.x - 1 < (Start c.before.before.before.before).args.count
-below c = fair_below (Start c.before.before.before.before).pre.1 c.before.loop.invariant c.loop-test.true
+below : (c : tie.In-loop-x invariant-loop decreases-loop) → c.loop-x.x - 1 < (Start c.before.before.before.before).args.count
+below c = fair_below (Start c.before.before.before.before).requires.1 c.loop-x.invariant c.loop-x-test.true
 
-is-surplus-requires : tie.Need-is-surplus-requires invariant-loop decreases-loop
-is-surplus-requires c κs = (below c, (Start c.before.before.before.before).pre.1)
+is_surplus-requires : tie.Need-is_surplus-requires invariant-loop decreases-loop
+is_surplus-requires c κs = (below c, (Start c.before.before.before.before).requires.1)
 
-returns-3 : tie.Need-returns-3 invariant-loop decreases-loop
+returns-3 : tie.Need-returns-then-is_surplus invariant-loop decreases-loop
 returns-3 c = λ q. absurd (no_both (sym q))
 
-mul-wide-3 : tie.Need-overflow-mul-wide-3 invariant-loop decreases-loop
-mul-wide-3 c = record { fits = omega (arith, (Start c.before.before.before.before.before.before).pre.1.lie.few, below c.before.before) }
+mul-wide-3 : tie.Need-overflow_mul-k invariant-loop decreases-loop
+mul-wide-3 c = record { fits = omega (arith, (Start c.before.before.before.before.before.before).requires.1.lie.few, below c.before.before) }
 
-add_wide : tie.Need-overflow-add-wide invariant-loop decreases-loop
-add_wide c = record { fits = omega (arith, (Start c.before.before.before.before.before.before).pre.1.lie.few, below c.before.before) }
+add_wide : tie.Need-overflow_add-k invariant-loop decreases-loop
+add_wide c = record { fits = omega (arith, (Start c.before.before.before.before.before.before).requires.1.lie.few, below c.before.before) }
 
-mul-wide-4 : tie.Need-overflow-mul-wide-4 invariant-loop decreases-loop
-mul-wide-4 c = omega (arith, (Start c.before.before.before.before.before.before).pre.1.lie.few, below c.before.before)
+mul-wide-4 : tie.Need-offset_bounds-work-k invariant-loop decreases-loop
+mul-wide-4 c = omega (arith, (Start c.before.before.before.before.before.before).requires.1.lie.few, below c.before.before)
 
-shared-slice-read-wide-2 : tie.Need-shared-slice-read-wide-2 invariant-loop decreases-loop
-shared-slice-read-wide-2 c =
-    let il = c.before.before.before in
-    omega (arith, (Start il.before.before.before.before).pre.1.lie.room, below il)
+shared_slice_read-wide-2 : tie.Need-bounds-work-k invariant-loop decreases-loop
+shared_slice_read-wide-2 c =
+    let il = c in
+    omega (arith, (Start il.before.before.before.before.before.before.before).requires.1.lie.room, below il.before.before.before)
 
-loop-less : tie.Need-loop-smaller invariant-loop decreases-loop
+loop-less : tie.Need-loop-x-smaller invariant-loop decreases-loop
 loop-less c =
-    let il = c.before.before.before.before in
-    fair_less (Start il.before.before.before.before).pre.1 il.before.loop.invariant il.loop-test.true c.wide2.ensures
+    let il = c in
+    fair_less (Start il.before.before.before.before.before.before.before.before).requires.1 il.loop-x.invariant il.loop-x-test.true c.wide-x-in-loop-x.ensures
 
-loop-again : tie.Need-loop-preserved invariant-loop decreases-loop
+loop-again : tie.Need-loop-x-preserved invariant-loop decreases-loop
 loop-again c =
-    let su = c.before.before.before in
-    fair_step (Start su.before.before.before.before.before).pre.1 su.before.before.loop.invariant su.before.loop-test.true su.is-surplus.ensures
-    c.before.before.if3.false c.wide2.ensures
+    let su = c in
+    fair_step (Start su.before.before.before.before.before.before.before.before).requires.1 su.loop-x.invariant su.loop-x-test.true su.is_surplus.ensures
+    c.if-is_surplus.false c.wide-x-in-loop-x.ensures
 
-returns-4 : tie.Need-returns-4 invariant-loop decreases-loop
-returns-4 c = λ _. fair_end (Start c.before.before.before.before).pre.1 c.before.loop.invariant (omega (arith, c.loop-test.false))
+returns-4 : tie.Need-returns invariant-loop decreases-loop
+returns-4 c = λ _. fair_end (Start c.before.before.before.before).requires.1 c.loop-x.invariant (omega (arith, c.loop-x-test.false))
 
-pub is-fair-spec : {M : Type 1} → statement M
-is-fair-spec =
+pub is_fair_spec : {M : Type 1} → statement M
+is_fair_spec =
     tie.close
-    (tie.spec invariant-loop decreases-loop is-even-requires returns is-pair-requires returns-2 mul_wide mul-wide-2 shared-slice-read-wide (λ c κs. search rules) loop-holds (λ c. omega arith)
-    is-surplus-requires returns-3
-    mul-wide-3 add_wide mul-wide-4 shared-slice-read-wide-2 (λ c κs. search rules) loop-less loop-again returns-4)
+    (tie.spec invariant-loop decreases-loop is_even-requires returns is_pair-requires returns-2 mul_wide mul-wide-2 shared_slice_read-wide (λ c κs. search rules) loop-holds (λ c. omega arith)
+    is_surplus-requires returns-3
+    mul-wide-3 add_wide mul-wide-4 shared_slice_read-wide-2 (λ c κs. search rules) loop-less loop-again returns-4)

@@ -7,26 +7,26 @@ use borrow.Author.Rules.{rules}
 use Rattle.certifying.proofs.sides.is_surplus.Statement.{statement}
 use Rattle.certifying.proofs.sides.is_surplus.Tie as tie
 
-side-at-requires : tie.Need-side-at-requires
-side-at-requires c κs = side_safe c.before.before.before.requires.1.lie c.before.before.before.requires.0
+side_at-requires : tie.Need-side_at-side-requires
+side_at-requires c κs = side_safe c.requires.1.lie c.requires.0
 
-returns : tie.Need-returns
+returns : tie.Need-returns-then-is_along
 returns c =
-    let sd = c.before.before in
-    let s = sd.before.before.before.before in
-    surplus_none _ s.args.vertices.now s.args.indexes.now (laid_ends s.args.work.now s.args.count) s.args.count sd.side-at.ensures.0
-    (side_to s.requires.1.lie s.requires.0 sd.side-at.ensures.1) c.before.is-along.ensures c.if1.true
+    let sd = c in
+    let s = sd in
+    surplus_none _ s.args.vertices.now s.args.indexes.now (laid_ends s.args.work.now s.args.count) s.args.count sd.side_at-side.ensures.0
+    (side_to s.requires.1.lie s.requires.0 sd.side_at-side.ensures.1) c.is_along.ensures c.if-is_along.true
 
-count-ways-requires : tie.Need-count-ways-requires
-count-ways-requires c κs = let s = c.before.before.before.before.before.before in (omega (arith, s.requires.0), s.requires.1)
+count_ways-requires : tie.Need-count_ways-w-requires
+count_ways-requires c κs = let s = c in (omega (arith, s.requires.0), s.requires.1)
 
-returns-2 : tie.Need-returns-2
+returns-2 : tie.Need-returns
 returns-2 c =
-    let al = c.before.before.before in
-    let s = al.before.before.before.before.before in
-    surplus_is _ s.args.vertices.now s.args.indexes.now (laid_ends s.args.work.now s.args.count) s.args.count al.before.side-at.ensures.0
-    (side_to s.requires.1.lie s.requires.0 al.before.side-at.ensures.1) al.is-along.ensures c.before.before.if1.false c.before.count-ways.ensures
+    let al = c in
+    let s = al in
+    surplus_is _ s.args.vertices.now s.args.indexes.now (laid_ends s.args.work.now s.args.count) s.args.count al.side_at-side.ensures.0
+    (side_to s.requires.1.lie s.requires.0 al.side_at-side.ensures.1) al.is_along.ensures c.if-is_along.false c.count_ways-w.ensures
 
-pub is-surplus-spec : {M : Type 1} → statement M
-is-surplus-spec =
-    tie.close (tie.spec side-at-requires (λ c κs. search rules) returns count-ways-requires returns-2)
+pub is_surplus_spec : {M : Type 1} → statement M
+is_surplus_spec =
+    tie.close (tie.spec side_at-requires (λ c κs. search rules) returns count_ways-requires returns-2)

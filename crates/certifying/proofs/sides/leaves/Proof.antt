@@ -8,5 +8,5 @@ returns : tie.Need-returns
 unfolding along_of leaves_of
 returns c = refl
 
-pub leaves-spec : {M : Type 1} → statement M
-leaves-spec = tie.close (tie.spec returns)
+pub leaves_spec : {M : Type 1} → statement M
+leaves_spec = tie.close (tie.spec returns)

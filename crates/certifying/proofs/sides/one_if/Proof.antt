@@ -4,13 +4,13 @@ use mathlib.Core.Path.{refl}
 use Rattle.certifying.proofs.sides.one_if.Statement.{statement}
 use Rattle.certifying.proofs.sides.one_if.Tie as tie
 
-returns : tie.Need-returns
+returns : tie.Need-returns-then-t
 unfolding one_for
-returns c = rw c.if1.true refl
+returns c = rw c.if-t.true refl
 
-returns-2 : tie.Need-returns-2
+returns-2 : tie.Need-returns-else-t
 unfolding one_for
-returns-2 c = rw c.if1.false refl
+returns-2 c = rw c.if-t.false refl
 
-pub one-if-spec : {M : Type 1} → statement M
-one-if-spec = tie.close (tie.spec returns returns-2)
+pub one_if_spec : {M : Type 1} → statement M
+one_if_spec = tie.close (tie.spec returns returns-2)

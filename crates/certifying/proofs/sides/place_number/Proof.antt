@@ -7,7 +7,7 @@ use Rattle.certifying.proofs.sides.place_number.Tie as tie
 
 returns : tie.Need-returns
 unfolding place_number
-returns c = (cc (c.before.before.pattern.ensures, c.pattern2.ensures), omega arith)
+returns c = (cc (c.pattern.ensures, c.pattern-2.ensures), omega arith)
 
-pub place-number-spec : {M : Type 1} → statement M
-place-number-spec = tie.close (tie.spec (λ c κs. search rules) (λ c κs. search rules) (λ c. search rules) returns)
+pub place_number_spec : {M : Type 1} → statement M
+place_number_spec = tie.close (tie.spec (λ c κs. search rules) (λ c κs. search rules) (λ c. search rules) returns)

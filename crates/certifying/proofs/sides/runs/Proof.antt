@@ -6,5 +6,5 @@ use Rattle.certifying.proofs.sides.runs.Tie as tie
 returns : tie.Need-returns
 returns c = cc
 
-pub runs-spec : {M : Type 1} → statement M
-runs-spec = tie.close (tie.spec (λ c κs. search rules) (λ c κs. search rules) returns)
+pub runs_spec : {M : Type 1} → statement M
+runs_spec = tie.close (tie.spec (λ c κs. search rules) (λ c κs. search rules) returns)

@@ -7,46 +7,46 @@ use native.Mathlib.Omega.{arith}
 use Rattle.certifying.proofs.tree.fill.Statement.{statement}
 use Rattle.certifying.proofs.tree.fill.Tie as tie
 
-abbrev invariant-loop : tie.invariant-loop
+abbrev invariant-loop : tie.invariant-loop-b
 invariant-loop sites room₀ w base n b₀ room b = NodesTo sites w base b room₀ room × (b * w ≤ length sites / 2 + w)
 
-abbrev decreases-loop : tie.decreases-loop
+abbrev decreases-loop : tie.decreases-loop-b
 decreases-loop sites room₀ w base n b₀ room b = length sites / 2 + w - b * w
 
-loop-holds : tie.Need-loop-init invariant-loop decreases-loop
+loop-holds : tie.Need-loop-b-init invariant-loop decreases-loop
 loop-holds c = (filled_none _, omega arith)
 
-mul-loop : tie.Need-overflow-mul-loop invariant-loop decreases-loop
-mul-loop c = omega (arith, c.loop.invariant.1, c.before.before.before.requires.few, c.before.before.before.requires.most)
+mul-loop : tie.Need-overflow_mul-b invariant-loop decreases-loop
+mul-loop c = omega (arith, c.loop-b.invariant.1, c.requires.few, c.requires.most)
 
-fill-node-requires : tie.Need-fill-node-requires invariant-loop decreases-loop
-fill-node-requires c κs =
-    let s = c.before.before.before.before.before in
-    (fill_again s.requires c.before.before.loop.invariant.0.kept s.requires.after, c.before.loop-test.true)
+fill_node-requires : tie.Need-fill_node-requires invariant-loop decreases-loop
+fill_node-requires c κs =
+    let s = c in
+    (fill_again s.requires c.loop-b.invariant.0.kept s.requires.after, c.loop-b-test.true)
 
-add-b : tie.Need-overflow-add-b invariant-loop decreases-loop
+add-b : tie.Need-overflow_add-b invariant-loop decreases-loop
 add-b c =
-    let t = c.before.before.before.before in
-    let s = t.before.before.before.before in
-    omega (arith, few_of t.before.loop.b s.args.w s.requires.some, t.loop-test.true, s.requires.few)
+    let t = c in
+    let s = t in
+    omega (arith, few_of t.loop-b.b s.args.w s.requires.some, t.loop-b-test.true, s.requires.few)
 
-loop-less : tie.Need-loop-smaller invariant-loop decreases-loop
+loop-less : tie.Need-loop-b-smaller invariant-loop decreases-loop
 loop-less c =
-    let t = c.before.before.before.before in
-    omega (arith, t.loop-test.true, t.before.before.before.before.requires.some)
+    let t = c in
+    omega (arith, t.loop-b-test.true, t.requires.some)
 
-loop-again : tie.Need-loop-preserved invariant-loop decreases-loop
+loop-again : tie.Need-loop-b-preserved invariant-loop decreases-loop
 loop-again c =
-    let t = c.before.before.before.before in
-    (filled_step t.before.before.before.before.requires.after t.before.loop.invariant.0 c.before.before.fill-node.ensures, omega (arith, t.loop-test.true))
+    let t = c in
+    (filled_step t.requires.after t.loop-b.invariant.0 c.fill_node.ensures, omega (arith, t.loop-b-test.true))
 
-same_length : tie.Need-same-length invariant-loop decreases-loop
-same_length c = c.before.loop.invariant.0.kept.same
+same_length : tie.Need-shape_of-room invariant-loop decreases-loop
+same_length c = c.loop-b.invariant.0.kept.same
 
 returns : tie.Need-returns invariant-loop decreases-loop
-returns c = filled_all c.before.before.before.before.requires c.before.loop.invariant.0 c.loop-test.false
+returns c = filled_all c.requires c.loop-b.invariant.0 c.loop-b-test.false
 
 pub fill_spec : {M : Type 1} → statement M
 fill_spec =
-    tie.close (tie.spec invariant-loop decreases-loop loop-holds mul-loop fill-node-requires add-b loop-less loop-again
+    tie.close (tie.spec invariant-loop decreases-loop loop-holds mul-loop fill_node-requires add-b loop-less loop-again
     same_length returns)

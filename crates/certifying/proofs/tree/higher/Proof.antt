@@ -4,18 +4,18 @@ use borrow.Author.Rules.{rules}
 use Rattle.certifying.proofs.tree.higher.Statement.{statement}
 use Rattle.certifying.proofs.tree.higher.Tie as tie
 
-returns : tie.Need-returns
+returns : tie.Need-returns-then-sites-wide
 returns c =
-    let at-wide2 = c.before.before in let at_wide = at-wide2.before.before in let s = at_wide.before.before in
-    higher_second s.requires at_wide.wide.ensures at-wide2.wide2.ensures c.if1.true
+    let at-wide2 = c in let at_wide = at-wide2 in let s = at_wide in
+    higher_second s.requires at_wide.wide.ensures at-wide2.wide-2.ensures c.if-sites-wide.true
 
-returns-2 : tie.Need-returns-2
+returns-2 : tie.Need-returns
 returns-2 c =
-    let at-wide2 = c.before.before in let at_wide = at-wide2.before.before in let s = at_wide.before.before in
-    higher_first s.requires at_wide.wide.ensures at-wide2.wide2.ensures c.if1.false
+    let at-wide2 = c in let at_wide = at-wide2 in let s = at_wide in
+    higher_first s.requires at_wide.wide.ensures at-wide2.wide-2.ensures c.if-sites-wide.false
 
-pub higher-spec : {M : Type 1} → statement M
-higher-spec =
+pub higher_spec : {M : Type 1} → statement M
+higher_spec =
     tie.close (tie.spec (λ c κs. search rules) (λ c. search rules) (λ c. search rules) (λ c. search rules) (λ c. search rules)
     (λ c κs. search rules) (λ c. search rules) (λ c. search rules) (λ c. search rules) (λ c. search rules) returns
     returns-2)

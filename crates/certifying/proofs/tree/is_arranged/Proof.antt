@@ -4,14 +4,14 @@ use native.Mathlib.Omega.{arith}
 use Rattle.certifying.proofs.tree.is_arranged.Statement.{statement}
 use Rattle.certifying.proofs.tree.is_arranged.Tie as tie
 
-all-close-requires : tie.Need-all-close-requires
-all-close-requires c κs =
-    let s = c.before in (omega arith, omega arith, s.requires)
+all_close-requires : tie.Need-all_close-requires
+all_close-requires c κs =
+    let s = c in (omega arith, omega arith, s.requires)
 
-all-close-requires-2 : tie.Need-all-close-requires-2
-all-close-requires-2 c κs =
-    let s = c.before.before.before in (omega arith, omega arith, s.requires)
+all_close-requires-2 : tie.Need-all_close-requires-then-all_close
+all_close-requires-2 c κs =
+    let s = c in (omega arith, omega arith, s.requires)
 
-pub is-arranged-spec : {M : Type 1} → statement M
-is-arranged-spec =
-    tie.close (tie.spec all-close-requires all-close-requires-2 (λ c. search rules) (λ c. search rules))
+pub is_arranged_spec : {M : Type 1} → statement M
+is_arranged_spec =
+    tie.close (tie.spec all_close-requires all_close-requires-2 (λ c. search rules) (λ c. search rules))

@@ -6,10 +6,10 @@ use Rattle.certifying.proofs.tree.is_past.Tie as tie
 
 returns : tie.Need-returns
 returns c =
-    let at-struct-known7 = c.before.before.before.before.before.before.before in
-    let s = at-struct-known7.before.before.before.before.before.before.before in
-    past_is s.args.far s.args.v s.args.s s.args.o c.before.magnitude.ensures c.magnitude2.ensures
+    let at-struct-known7 = c in
+    let s = at-struct-known7 in
+    past_is s.args.far s.args.v s.args.s s.args.o c.magnitude.ensures c.magnitude-2.ensures
 
-pub is-past-spec : {M : Type 1} → statement M
-is-past-spec =
+pub is_past_spec : {M : Type 1} → statement M
+is_past_spec =
     tie.close (tie.spec (λ c κs. search rules) (λ c κs. search rules) returns)

@@ -4,15 +4,15 @@ use borrow.Author.Rules.{rules}
 use Rattle.certifying.proofs.tree.lower.Statement.{statement}
 use Rattle.certifying.proofs.tree.lower.Tie as tie
 
-returns : tie.Need-returns
+returns : tie.Need-returns-then-sites-wide
 returns c =
-    let at-wide2 = c.before.before in let at_wide = at-wide2.before.before in let s = at_wide.before.before in
-    lower_second s.requires at-wide2.wide2.ensures at_wide.wide.ensures c.if1.true
+    let at-wide2 = c in let at_wide = at-wide2 in let s = at_wide in
+    lower_second s.requires at-wide2.wide-2.ensures at_wide.wide.ensures c.if-sites-wide.true
 
-returns-2 : tie.Need-returns-2
+returns-2 : tie.Need-returns
 returns-2 c =
-    let at-wide2 = c.before.before in let at_wide = at-wide2.before.before in let s = at_wide.before.before in
-    lower_first s.requires at-wide2.wide2.ensures at_wide.wide.ensures c.if1.false
+    let at-wide2 = c in let at_wide = at-wide2 in let s = at_wide in
+    lower_first s.requires at-wide2.wide-2.ensures at_wide.wide.ensures c.if-sites-wide.false
 
 pub lower_spec : {M : Type 1} → statement M
 lower_spec =

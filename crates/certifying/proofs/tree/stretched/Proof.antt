@@ -3,7 +3,7 @@ use borrow.Author.Rules.{rules}
 use Rattle.certifying.proofs.tree.stretched.Statement.{statement}
 use Rattle.certifying.proofs.tree.stretched.Tie as tie
 
-pub stretched-spec : {M : Type 1} → statement M
-stretched-spec =
+pub stretched_spec : {M : Type 1} → statement M
+stretched_spec =
     tie.close (tie.spec (λ c κs. search rules) (λ c κs. search rules) (λ c κs. search rules) (λ c κs. search rules)
     (λ c. search rules))

@@ -5,9 +5,9 @@ use Rattle.certifying.proofs.tree.widened.Statement.{statement}
 use Rattle.certifying.proofs.tree.widened.Tie as tie
 
 returns : tie.Need-returns
-returns c = widens c.before.before.before.lower.ensures c.before.before.lower2.ensures c.before.higher.ensures c.higher2.ensures
+returns c = widens c.lower-left.ensures c.lower-top.ensures c.higher-right.ensures c.higher-bottom.ensures
 
-pub widened-spec : {M : Type 1} → statement M
-widened-spec =
+pub widened_spec : {M : Type 1} → statement M
+widened_spec =
     tie.close (tie.spec (λ c κs. search rules) (λ c κs. search rules) (λ c κs. search rules) (λ c κs. search rules)
     returns)

@@ -5,23 +5,23 @@ use native.Mathlib.Omega.{arith}
 use Rattle.certifying.proofs.tree.wider.Statement.{statement}
 use Rattle.certifying.proofs.tree.wider.Tie as tie
 
-extremes-from-requires : tie.Need-extremes-from-requires
-extremes-from-requires c κs = c.before.before.requires
+extremes_from-requires : tie.Need-extremes_from-e-requires
+extremes_from-requires c κs = c.requires
 
-point-at-requires : tie.Need-point-at-requires
-point-at-requires c κs = rw c.wide.ensures (named_twice _ _ c.before.extremes-from.ensures.named.left)
+point_at-requires : tie.Need-point_at-left-requires
+point_at-requires c κs = rw c.wide.ensures (named_twice _ _ c.extremes_from-e.ensures.named.left)
 
-point-at-requires-2 : tie.Need-point-at-requires-2
-point-at-requires-2 c κs = rw c.wide2.ensures (named_twice _ _ c.before.before.before.extremes-from.ensures.named.top)
+point_at-requires-2 : tie.Need-point_at-top-requires
+point_at-requires-2 c κs = rw c.wide-2.ensures (named_twice _ _ c.extremes_from-e.ensures.named.top)
 
-point-at-requires-3 : tie.Need-point-at-requires-3
-point-at-requires-3 c κs = rw c.wide3.ensures (named_twice _ _ c.before.before.before.before.before.extremes-from.ensures.named.right)
+point_at-requires-3 : tie.Need-point_at-right-requires
+point_at-requires-3 c κs = rw c.wide-3.ensures (named_twice _ _ c.extremes_from-e.ensures.named.right)
 
-point-at-requires-4 : tie.Need-point-at-requires-4
-point-at-requires-4 c κs = rw c.wide4.ensures (named_twice _ _ c.before.before.before.before.before.before.before.extremes-from.ensures.named.bottom)
+point_at-requires-4 : tie.Need-point_at-bottom-requires
+point_at-requires-4 c κs = rw c.wide-4.ensures (named_twice _ _ c.extremes_from-e.ensures.named.bottom)
 
-pub wider-spec : {M : Type 1} → statement M
-wider-spec =
-    tie.close (tie.spec extremes-from-requires (λ c κs. search rules) point-at-requires (λ c κs. search rules)
-    point-at-requires-2 (λ c κs. search rules) point-at-requires-3 (λ c κs. search rules) point-at-requires-4 (λ c. omega arith)
+pub wider_spec : {M : Type 1} → statement M
+wider_spec =
+    tie.close (tie.spec extremes_from-requires (λ c κs. search rules) point_at-requires (λ c κs. search rules)
+    point_at-requires-2 (λ c κs. search rules) point_at-requires-3 (λ c κs. search rules) point_at-requires-4 (λ c. omega arith)
     (λ c. omega arith))

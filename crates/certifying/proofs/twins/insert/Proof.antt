@@ -6,10 +6,10 @@ use Rattle.certifying.proofs.twins.insert.Statement.{statement}
 use Rattle.certifying.proofs.twins.insert.Tie as tie
 
 returns : tie.Need-returns
-returns c = rw (add-one c.before.args.s) refl
+returns c = rw (add-one c.args.s) refl
 
-pub insert-spec : {M : Type 1} → statement M
-insert-spec =
+pub insert_spec : {M : Type 1} → statement M
+insert_spec =
     tie.close
     (tie.spec (λ c. search rules) (λ c. search rules) (λ c. search rules) (λ c. search rules) (λ c. search rules)
     (λ c. search rules) (λ c. search rules) (λ c. search rules) (λ c. search rules) (λ c. search rules)

@@ -13,53 +13,53 @@ use native.Mathlib.Omega.{arith}
 use Rattle.certifying.proofs.windows.all_kept.Statement.{statement}
 use Rattle.certifying.proofs.windows.all_kept.Tie as tie
 
-abbrev invariant-loop : tie.invariant-loop
+abbrev invariant-loop : tie.invariant-loop-k
 invariant-loop w s vertices entries k₀ k = (i : ℕ) → i < k → window_kept w s (point_at vertices (get_or entries i 0)) ≡ true
 
-abbrev decreases-loop : tie.decreases-loop
+abbrev decreases-loop : tie.decreases-loop-k
 decreases-loop w s vertices entries k₀ k = length entries - k
 
-loop-holds : tie.Need-loop-init invariant-loop decreases-loop
+loop-holds : tie.Need-loop-k-init invariant-loop decreases-loop
 loop-holds c =
     λ i h. absurd (omega arith)
 
-mul_wide : tie.Need-overflow-mul-wide invariant-loop decreases-loop
+mul_wide : tie.Need-offset_bounds-entries-k invariant-loop decreases-loop
 mul_wide c =
-    omega (arith, c.loop-test.true)
+    omega (arith, c.loop-k-test.true)
 
-shared-slice-read-wide : tie.Need-shared-slice-read-wide invariant-loop decreases-loop
-shared-slice-read-wide c =
-    let t = c.before in t.loop-test.true
+shared_slice_read-wide : tie.Need-bounds-entries-k invariant-loop decreases-loop
+shared_slice_read-wide c =
+    let t = c in t.loop-k-test.true
 
-point-at-requires : tie.Need-point-at-requires invariant-loop decreases-loop
-point-at-requires c κs =
-    let t = c.before.before in let l = t.before in let s = l.before.before.before in
-    rw c.wide.ensures (named_twice _ _ (s.requires.each l.loop.k t.loop-test.true))
+point_at-requires : tie.Need-point_at-requires invariant-loop decreases-loop
+point_at-requires c κs =
+    let t = c in let l = t in let s = l in
+    rw c.wide.ensures (named_twice _ _ (s.requires.each l.loop-k.k t.loop-k-test.true))
 
-add-k : tie.Need-overflow-add-k invariant-loop decreases-loop
+add-k : tie.Need-overflow_add-k invariant-loop decreases-loop
 add-k c =
-    let t = c.before.before.before.before.before in omega (arith, t.loop-test.true)
+    let t = c in omega (arith, t.loop-k-test.true)
 
-loop-less : tie.Need-loop-smaller invariant-loop decreases-loop
+loop-less : tie.Need-loop-k-smaller invariant-loop decreases-loop
 loop-less c =
-    let t = c.before.before.before.before.before in omega (arith, t.loop-test.true)
+    let t = c in omega (arith, t.loop-k-test.true)
 
-loop-again : tie.Need-loop-preserved invariant-loop decreases-loop
+loop-again : tie.Need-loop-k-preserved invariant-loop decreases-loop
 loop-again c =
-    let at-is-kept = c.before in let at-point-at = at-is-kept.before in let at_wide = at-point-at.before in let t = at_wide.before.before in
-    let l = t.before in let s = l.before.before.before in
-    kept_more s.args.w s.args.s s.args.vertices.now s.args.entries.now l.loop.invariant at_wide.wide.ensures at-point-at.point_at.ensures
-    (sym at-is-kept.is-kept.ensures ∙ c.if1.true)
+    let at-is-kept = c in let at-point-at = at-is-kept in let at_wide = at-point-at in let t = at_wide in
+    let l = t in let s = l in
+    kept_more s.args.w s.args.s s.args.vertices.now s.args.entries.now l.loop-k.invariant at_wide.wide.ensures at-point-at.point_at.ensures
+    (sym at-is-kept.is_kept.ensures ∙ c.if-is_kept.true)
 
-returns : tie.Need-returns invariant-loop decreases-loop
+returns : tie.Need-returns-else-is_kept invariant-loop decreases-loop
 returns c =
     λ e. absurd (no_both (sym e))
 
-returns-2 : tie.Need-returns-2 invariant-loop decreases-loop
+returns-2 : tie.Need-returns invariant-loop decreases-loop
 returns-2 c =
-    let l = c.before in λ e k h. l.loop.invariant k (lt_of_lt_of_le h c.loop-test.false)
+    let l = c in λ e k h. l.loop-k.invariant k (lt_of_lt_of_le h c.loop-k-test.false)
 
-pub all-kept-spec : {M : Type 1} → statement M
-all-kept-spec =
-    tie.close (tie.spec invariant-loop decreases-loop loop-holds mul_wide shared-slice-read-wide (λ c κs. search rules) point-at-requires (λ c κs. search rules) add-k loop-less
+pub all_kept_spec : {M : Type 1} → statement M
+all_kept_spec =
+    tie.close (tie.spec invariant-loop decreases-loop loop-holds mul_wide shared_slice_read-wide (λ c κs. search rules) point_at-requires (λ c κs. search rules) add-k loop-less
     loop-again returns returns-2)

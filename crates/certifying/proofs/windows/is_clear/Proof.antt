@@ -9,6 +9,6 @@ unfolding clear_of
 returns c =
     refl
 
-pub is-clear-spec : {M : Type 1} → statement M
-is-clear-spec =
+pub is_clear_spec : {M : Type 1} → statement M
+is_clear_spec =
     tie.close (tie.spec returns)

@@ -17,12 +17,12 @@ twice x e = rw e refl
 
 returns : tie.Need-returns
 returns c =
-    let s = c.before in
+    let s = c in
     λ e. record {
-      held = subst T (sym s.well-formed.0.1) tt;
-      bounded = (point_weaken {j = 400} (lit≤ tt) (site_bounded (at s.args.x s.args.x) (twice s.args.x (sym c.coordinate-ok.ensures ∙ e)))).x;
+      held = subst T (sym s.well_formed.0.1) tt;
+      bounded = (point_weaken {j = 400} (lit≤ tt) (site_bounded (at s.args.x s.args.x) (twice s.args.x (sym c.coordinate_ok.ensures ∙ e)))).x;
     }
 
-pub is-edge-spec : {M : Type 1} → statement M
-is-edge-spec =
+pub is_edge_spec : {M : Type 1} → statement M
+is_edge_spec =
     tie.close (tie.spec (λ c κs. search rules) returns)

@@ -7,8 +7,8 @@ use Rattle.certifying.proofs.windows.is_kept.Tie as tie
 
 returns : tie.Need-returns
 unfolding window_kept
-returns c = rw (c.before.is-kept-along.ensures, c.is-kept-along2.ensures, c.before.before.before.most-of.ensures, c.before.before.most-of2.ensures) refl
+returns c = rw (c.is_kept_along.ensures, c.is_kept_along-2.ensures, c.most_of-down.ensures, c.most_of-across.ensures) refl
 
-pub is-kept-spec : {M : Type 1} → statement M
-is-kept-spec =
+pub is_kept_spec : {M : Type 1} → statement M
+is_kept_spec =
     tie.close (tie.spec (λ c κs. search rules) (λ c κs. search rules) (λ c κs. search rules) (λ c κs. search rules) returns)

@@ -8,8 +8,8 @@ use Rattle.certifying.proofs.windows.is_kept_along.Tie as tie
 returns : tie.Need-returns
 unfolding kept_along
 returns c =
-    rw (c.before.is-clear.ensures, c.is-clear2.ensures) refl
+    rw (c.is_clear.ensures, c.is_clear-2.ensures) refl
 
-pub is-kept-along-spec : {M : Type 1} → statement M
-is-kept-along-spec =
+pub is_kept_along_spec : {M : Type 1} → statement M
+is_kept_along_spec =
     tie.close (tie.spec (λ c κs. search rules) (λ c κs. search rules) returns)

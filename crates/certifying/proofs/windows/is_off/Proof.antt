@@ -9,6 +9,6 @@ unfolding off_of
 returns c =
     refl
 
-pub is-off-spec : {M : Type 1} → statement M
-is-off-spec =
+pub is_off_spec : {M : Type 1} → statement M
+is_off_spec =
     tie.close (tie.spec returns)

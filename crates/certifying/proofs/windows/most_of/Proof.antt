@@ -6,8 +6,8 @@ use Rattle.certifying.proofs.windows.most_of.Tie as tie
 
 returns : tie.Need-returns
 returns c =
-    let s = c.before in most_is s.args.s s.args.l s.args.r c.greater.ensures
+    let s = c in most_is s.args.s s.args.l s.args.r c.greater-u.ensures
 
-pub most-of-spec : {M : Type 1} → statement M
-most-of-spec =
+pub most_of_spec : {M : Type 1} → statement M
+most_of_spec =
     tie.close (tie.spec (λ c κs. search rules) returns)

@@ -41,7 +41,7 @@ returns-6 c = (
       let d = c in
       let k = Staged d.before.before.before.before.before.before.before in
       let a = (Entry (Sized k)).args in
-      lap_copied a.b a.halfedges.now a.centers.now a.t a.n _ _ _ (d.stage_ring-l.ensures (said_yes _ _ refl (ap not d.if-not-l.false))) a.pen
+      lap_copied a.b a.halfedges.now a.centers.now a.t a.n _ _ _ (d.stage_ring-l.ensures (said_yes _ _ refl d.if-not-l.false)) a.pen
       a.indexes.now k.if-pen.false c.put_back.ensures,
 )
 

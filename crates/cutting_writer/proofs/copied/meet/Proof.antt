@@ -29,12 +29,12 @@ mul-stage c = let p = (Entry (Stepped c.before)).requires in omega (arith, p.2, 
 joined-requires-2 : tie.Need-joined-requires-2
 joined-requires-2 c κs =
     let p = (Entry (Stepped c.before.before)).requires in
-    (p.0.small, p.0.thirds, (c.step_on-s.ensures (said_yes _ _ refl (ap not c.if-not-s.false))).0.there)
+    (p.0.small, p.0.thirds, (c.step_on-s.ensures (said_yes _ _ refl c.if-not-s.false)).0.there)
 
 returns-3 : tie.Need-returns
 returns-3 c = λ z.
     let s = c.step_on-s in
-    let going = said_yes _ _ refl (ap not c.if-not-s.false) in
+    let going = said_yes _ _ refl c.if-not-s.false in
     record {
       none = λ y. absurd (c.if-i-j.false y);
       one = λ _. record { a = s.result.e; p = s.result.place; laid = refl; on = (s.ensures going).0; from = (s.ensures going).1; to = c.joined-2.ensures z };

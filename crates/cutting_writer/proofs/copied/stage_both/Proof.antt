@@ -90,10 +90,10 @@ loop-again c =
     let p = (Entry (Turn c)).requires in
     let l = (Turn c).loop-i in
     let r = c.step_both-r.result in (
-      nearing_step a.b a.halfedges.now a.centers.now a.t a.n a.first l.stage l.i l.e l.last l.j l.f l.next l.inv.0 p.few
+      nearing_step a.b a.halfedges.now a.centers.now a.t a.n a.first l.stage l.i l.e l.last l.j l.f l.next l.invariant.0 p.few
           (omega (arith, p.room, long (Turn c))) c.loop-i-test.true r.e r.last r.f r.next
-          (c.step_both-r.ensures (said_yes _ _ refl (ap not c.if-not-r.false))),
-      length-set (set l.stage l.i (r.e / 3)) (l.j - 1) (r.f / 3) ∙ length-set l.stage l.i (r.e / 3) ∙ l.inv.1,
+          (c.step_both-r.ensures (said_yes _ _ refl c.if-not-r.false)),
+      length-set (set l.stage l.i (r.e / 3)) (l.j - 1) (r.f / 3) ∙ length-set l.stage l.i (r.e / 3) ∙ l.invariant.1,
     )
 
 meet-requires : tie.Need-meet-requires invariant-loop decreases-loop
@@ -114,7 +114,7 @@ returns-2 c = λ z.
     let a = (Entry (Ended c)).args in
     let p = (Entry (Ended c)).requires in
     let l = (Ended c).loop-i in
-    met_round a.b a.halfedges.now a.centers.now a.t a.n a.first l.stage l.i l.e l.last l.j l.f l.next l.inv.0 p.few
+    met_round a.b a.halfedges.now a.centers.now a.t a.n a.first l.stage l.i l.e l.last l.j l.f l.next l.invariant.0 p.few
     (omega (arith, p.room, long (Ended c))) (omega (arith, c.loop-i-test.false)) p.many _
     (c.meet.ensures z) p.steps.thirds
 

@@ -57,7 +57,7 @@ mul_wide : tie.Need-offset_bounds-stage-n
 mul_wide c = let k = Staged c in omega (arith, k.if-halfedges-n.false, (Entry (Sized k)).requires.0)
 
 slice_read-wide : tie.Need-bounds-stage-n
-slice_read-wide c = let k = Sized (Staged c.before) in omega (arith, k.if-n-lt3.left, (Entry k).requires.2, c.stage-1.given)
+slice_read-wide c = let k = Sized (Staged c.before) in omega (arith, k.if-n-lt3.false, (Entry k).requires.2, c.stage-1.given)
 
 point_at-requires-2 : tie.Need-point_at-last-requires
 point_at-requires-2 c κs = omega (

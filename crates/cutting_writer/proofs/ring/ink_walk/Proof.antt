@@ -25,11 +25,11 @@ same_length : tie.Need-shape_of-indexes-then-halfedges-wide invariant-loop decre
 same_length c = c.loop-left.invariant.entries
 
 returns : tie.Need-returns-then-halfedges-wide invariant-loop decreases-loop
-returns c = inking_over _ _ _ _ _ c.loop-left.false _ c.loop-left.invariant (omega (arith, c.wide.ensures, c.if-halfedges-wide.true))
+returns c = inking_over _ _ _ _ _ c.loop-left.left _ c.loop-left.invariant (omega (arith, c.wide.ensures, c.if-halfedges-wide.true))
 
 ink_numbered-requires : tie.Need-ink_numbered-pen-requires invariant-loop decreases-loop
 ink_numbered-requires c κs =
-    inking_asks _ _ _ _ _ (InLoop c).loop-left.false _ (InLoop c).loop-left.invariant (omega (arith, (InLoop c).loop-left-test.true))
+    inking_asks _ _ _ _ _ (InLoop c).loop-left.left _ (InLoop c).loop-left.invariant (omega (arith, (InLoop c).loop-left-test.true))
     (omega (arith, c.wide.ensures, c.if-halfedges-wide.false)) _ c.site_at.ensures (InLoop c).requires
 
 sub-left : tie.Need-overflow_sub-left invariant-loop decreases-loop
@@ -41,14 +41,14 @@ loop-less c = omega arith
 loop-again : tie.Need-loop-left-preserved invariant-loop decreases-loop
 loop-again c =
     let s = Else1 c in
-    inking_step _ _ _ _ _ s.loop-left.false _ s.loop-left.invariant (omega (arith, (Else1 c).loop-left-test.true)) (omega (arith, (Else1 c).wide.ensures, (Else1 c).if-halfedges-wide.false))
+    inking_step _ _ _ _ _ s.loop-left.left _ s.loop-left.invariant (omega (arith, (Else1 c).loop-left-test.true)) (omega (arith, (Else1 c).wide.ensures, (Else1 c).if-halfedges-wide.false))
     _ c.site_at.ensures _ _ c.ink_numbered-pen.ensures _ c.turn_from-e.ensures
 
 same_length-2 : tie.Need-shape_of-indexes invariant-loop decreases-loop
 same_length-2 c = c.loop-left.invariant.entries
 
 returns-2 : tie.Need-returns invariant-loop decreases-loop
-returns-2 c = inking_out _ _ _ _ _ c.loop-left.false _ c.loop-left.invariant (omega arith)
+returns-2 c = inking_out _ _ _ _ _ c.loop-left.left _ c.loop-left.invariant (omega arith)
 
 pub ink_walk_spec : {M : Type 1} → statement M
 ink_walk_spec =

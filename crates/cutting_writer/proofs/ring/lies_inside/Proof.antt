@@ -27,7 +27,7 @@ next_halfedge-requires c κs = omega (arith, c.wide-in-loop-left.ensures)
 returns-4 : tie.Need-returns-then-a-t invariant-loop decreases-loop
 returns-4 c =
     let q = rw (c.next_halfedge.ensures, c.wide-in-loop-left.ensures) at c.entry_at-a.ensures in
-    λ _. scan_end _ _ _ _ (InLoop c.before).loop-left.false _ (omega (arith, (InLoop c.before).loop-left-test.true)) (InLoop c.before).loop-left.invariant _
+    λ _. scan_end _ _ _ _ (InLoop c.before).loop-left.left _ (omega (arith, (InLoop c.before).loop-left-test.true)) (InLoop c.before).loop-left.invariant _
     c.center_inside.ensures (ap not c.if-not-center_inside.false) _ q c.if-a-t.true
 
 sub-left : tie.Need-overflow_sub-left invariant-loop decreases-loop
@@ -39,7 +39,7 @@ loop-less c = omega arith
 loop-again : tie.Need-loop-left-preserved invariant-loop decreases-loop
 loop-again c =
     let q = rw (c.next_halfedge.ensures, c.wide-in-loop-left.ensures) at c.entry_at-a.ensures in
-    scan_step _ _ _ _ (InLoop c.before.before.before).loop-left.false _ (omega (arith, (InLoop c.before.before.before).loop-left-test.true))
+    scan_step _ _ _ _ (InLoop c.before.before.before).loop-left.left _ (omega (arith, (InLoop c.before.before.before).loop-left-test.true))
     (InLoop c.before.before.before).loop-left.invariant _ c.center_inside.ensures
     (ap not c.if-not-center_inside.false) _ q c.if-a-t.false (omega (arith, c.wide-in-loop-left-2.ensures, c.if-halfedges-wide-2.false))
 

@@ -34,7 +34,7 @@ ink_spot-requires : tie.Need-ink_spot-pen-requires invariant-loop decreases-loop
 ink_spot-requires c κs =
     let loop' = (InLoop c).loop-i in
     let a = (Start (InLoop c)).args in
-    inking_asks a.b a.centers a.from a.count a.floats.now a.numbers.now (page a.start a.vertices.now a.indexes.now) loop'.i _ loop'.inv
+    inking_asks a.b a.centers a.from a.count a.floats.now a.numbers.now (page a.start a.vertices.now a.indexes.now) loop'.i _ loop'.invariant
     (InLoop c).loop-i-test.true _ c.spot_at-v.ensures (Start (InLoop c)).requires.2
 
 add-i : tie.Need-overflow_add-i invariant-loop decreases-loop
@@ -47,7 +47,7 @@ loop-again : tie.Need-loop-i-preserved invariant-loop decreases-loop
 loop-again c =
     let loop' = (Spot-at c).loop-i in
     let a = (Start (Spot-at c).before).args in
-    inking_step a.b a.centers a.from a.count a.floats.now a.numbers.now (page a.start a.vertices.now a.indexes.now) loop'.i _ loop'.inv
+    inking_step a.b a.centers a.from a.count a.floats.now a.numbers.now (page a.start a.vertices.now a.indexes.now) loop'.i _ loop'.invariant
     (Spot-at c).loop-i-test.true _ (Spot-at c).spot_at-v.ensures _ c.ink_spot-pen.ensures
 
 same_length : tie.Need-shape_of-vertices invariant-loop decreases-loop

@@ -57,16 +57,16 @@ lay-requires : tie.Need-lay-count-requires invariant-loop decreases-loop
 lay-requires c κs =
     let loop' = (Wide c.before.before).loop-left in
     let pre' = (Start (Wide c.before.before)).requires in
-    record { floats = loop'.inv.floats ∙ pre'.1.floats; numbers = loop'.inv.numbers ∙ pre'.1.numbers }
+    record { floats = loop'.invariant.floats ∙ pre'.1.floats; numbers = loop'.invariant.numbers ∙ pre'.1.numbers }
 
 turn_from-requires : tie.Need-turn_from-e-requires invariant-loop decreases-loop
 turn_from-requires c κs = tt
 
 sub-left : tie.Need-overflow_sub-left invariant-loop decreases-loop
-sub-left c = omega (arith, (Wide (Out-spot c)).loop-left-test.taken)
+sub-left c = omega (arith, (Wide (Out-spot c)).loop-left-test.true)
 
 loop-less : tie.Need-loop-left-smaller invariant-loop decreases-loop
-loop-less c = omega (arith, (Wide (Out-spot c)).loop-left-test.taken)
+loop-less c = omega (arith, (Wide (Out-spot c)).loop-left-test.true)
 
 loop-again : tie.Need-loop-left-preserved invariant-loop decreases-loop
 loop-again c =
@@ -74,11 +74,11 @@ loop-again c =
     let a = (Start (Wide (Out-spot c))).args in
     record {
       laying = laying_step a.triangles.now a.halfedges.now a.centers.now a.t a.k a.floats.now a.numbers.now loop'.count loop'.e loop'.last
-          loop'.left _ _ loop'.inv.laying (omega (arith, (Wide (Out-spot c)).loop-left-test.taken))
+          loop'.left _ _ loop'.invariant.laying (omega (arith, (Wide (Out-spot c)).loop-left-test.true))
           (omega (arith, (Wide (Out-spot c)).wide.ensures, (Out-spot c).if-halfedges-wide.false)) _ (Out-spot c).out_spot.ensures _ _ _
           c.lay-count.ensures _ c.turn_from-e.ensures;
-      floats = c.floats-1.given ∙ loop'.inv.floats;
-      numbers = c.numbers-1.given ∙ loop'.inv.numbers;
+      floats = c.floats-1.given ∙ loop'.invariant.floats;
+      numbers = c.numbers-1.given ∙ loop'.invariant.numbers;
     }
 
 same_length-5 : tie.Need-shape_of-floats invariant-loop decreases-loop
@@ -89,7 +89,7 @@ same_length-6 c = c.loop-left.invariant.numbers
 
 returns-3 : tie.Need-returns invariant-loop decreases-loop
 returns-3 c =
-    let a = c.args in laying_out a.triangles.now a.halfedges.now a.centers.now a.t a.k a.floats.now a.numbers.now c.loop-left.count c.loop-left.e c.loop-left.last c.loop-left.false _ _ c.loop-left.invariant.laying (omega
+    let a = c.args in laying_out a.triangles.now a.halfedges.now a.centers.now a.t a.k a.floats.now a.numbers.now c.loop-left.count c.loop-left.e c.loop-left.last c.loop-left.left _ _ c.loop-left.invariant.laying (omega
     arith)
 
 pub lay_walk_spec : {M : Type 1} → statement M

@@ -51,7 +51,7 @@ spot_at-requires c κs =
     let pre' = (Start c).requires in
     let loop' = c.loop-i in (
       omega (arith, half_low _ pre'.0, pre'.1, c.loop-i-test.true),
-      record { floats = loop'.inv.floats ∙ pre'.2.floats; numbers = loop'.inv.numbers ∙ pre'.2.numbers },
+      record { floats = loop'.invariant.floats ∙ pre'.2.floats; numbers = loop'.invariant.numbers ∙ pre'.2.numbers },
     )
 
 next_slot-requires : tie.Need-next_slot-requires invariant-loop decreases-loop
@@ -65,31 +65,31 @@ corner_at-requires c κs =
     let pre' = (Start c.before.before).requires in
     let loop' = c.loop-i in
     let a = (Start c.before.before).args in (
-      next_low (side_at a.b a.sites.now a.s) a.from a.count a.floats.now a.numbers.now pre'.0 pre'.1 loop'.i loop'.k _ _ loop'.inv
+      next_low (side_at a.b a.sites.now a.s) a.from a.count a.floats.now a.numbers.now pre'.0 pre'.1 loop'.i loop'.k _ _ loop'.invariant
           c.loop-i-test.true _ c.next_slot.ensures,
-      record { floats = loop'.inv.floats ∙ pre'.2.floats; numbers = loop'.inv.numbers ∙ pre'.2.numbers },
+      record { floats = loop'.invariant.floats ∙ pre'.2.floats; numbers = loop'.invariant.numbers ∙ pre'.2.numbers },
     )
 
 pass_edge-requires : tie.Need-pass_edge-k-requires invariant-loop decreases-loop
 pass_edge-requires c κs =
     let loop' = (Else1 c).loop-i in
     let pre' = (Start (Else1 c)).requires in
-    (omega arith, omega (arith, (Else1 c).if-k-gt-HALF.false), record { floats = loop'.inv.floats ∙ pre'.2.floats; numbers = loop'.inv.numbers ∙ pre'.2.numbers })
+    (omega arith, omega (arith, (Else1 c).if-k-gt-HALF.false), record { floats = loop'.invariant.floats ∙ pre'.2.floats; numbers = loop'.invariant.numbers ∙ pre'.2.numbers })
 
 add-i : tie.Need-overflow_add-i invariant-loop decreases-loop
-add-i c = omega (arith, (Else1 (Passed-edge-arg2 c)).loop-i-test.taken, (Start (Else1 (Passed-edge-arg2 c))).requires.1)
+add-i c = omega (arith, (Else1 (Passed-edge-arg2 c)).loop-i-test.true, (Start (Else1 (Passed-edge-arg2 c))).requires.1)
 
 loop-less : tie.Need-loop-i-smaller invariant-loop decreases-loop
-loop-less c = omega (arith, (Else1 (Passed-edge-arg2 c)).loop-i-test.taken)
+loop-less c = omega (arith, (Else1 (Passed-edge-arg2 c)).loop-i-test.true)
 
 loop-again : tie.Need-loop-i-preserved invariant-loop decreases-loop
 loop-again c =
     let pre' = (Start (Else1 (Passed-edge-arg2 c))).requires in
     let loop' = (Else1 (Passed-edge-arg2 c)).loop-i in
     let a = (Start (Else1 (Passed-edge-arg2 c))).args in
-    passing_step (side_at a.b a.sites.now a.s) a.from a.count a.floats.now a.numbers.now pre'.0 pre'.1 loop'.i loop'.k _ _ loop'.inv
-    (Else1 (Passed-edge-arg2 c)).loop-i-test.taken (Passed-edge-arg2 c).spot_at-p.ensures
-    (Passed-edge-arg2 c).next_slot.ensures (Passed-edge-arg2 c).corner_at-q.ensures (omega (arith, (Else1 (Passed-edge-arg2 c)).if-k-gt-HALF.left))
+    passing_step (side_at a.b a.sites.now a.s) a.from a.count a.floats.now a.numbers.now pre'.0 pre'.1 loop'.i loop'.k _ _ loop'.invariant
+    (Else1 (Passed-edge-arg2 c)).loop-i-test.true (Passed-edge-arg2 c).spot_at-p.ensures
+    (Passed-edge-arg2 c).next_slot.ensures (Passed-edge-arg2 c).corner_at-q.ensures (omega (arith, (Else1 (Passed-edge-arg2 c)).if-k-gt-HALF.false))
     c.pass_edge-k.ensures c.floats-1.given c.numbers-1.given
 
 same_length-3 : tie.Need-shape_of-floats invariant-loop decreases-loop

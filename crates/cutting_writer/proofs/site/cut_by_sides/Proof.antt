@@ -55,7 +55,7 @@ close-requires c κs =
     c.leave-u.ensures
 
 same_length : tie.Need-shape_of-vertices
-same_length c = c.vertices-3-1.given ∙ (Closed-arg2 c).vertices-2-1.given ∙ (Vertices (Closed-arg2 c)).vertices.given
+same_length c = c.vertices-3-1.given ∙ (Closed-arg2 c).vertices-2-1.given ∙ c.vertices-1.given
 
 returns-2 : tie.Need-returns
 returns-2 c =

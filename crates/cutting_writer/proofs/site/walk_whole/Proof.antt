@@ -33,14 +33,14 @@ same_length-2 c = c.loop-left.invariant.later.entries
 
 returns : tie.Need-returns-then-wide-halfedges invariant-loop decreases-loop
 returns c = let a = (Start c.before.before.before).args in walking_over a.b a.sites.now a.triangles.now a.halfedges.now a.centers a.t
-    (left_of a.stage a.vertices.now a.indexes.now) a.vertices.now c.loop-left.false c.loop-left.invariant
+    (left_of a.stage a.vertices.now a.indexes.now) a.vertices.now c.loop-left.left c.loop-left.invariant
     (omega (arith, c.wide.ensures, c.if-wide-halfedges.true))
 
 walk_on-requires : tie.Need-walk_on-w-requires invariant-loop decreases-loop
 walk_on-requires c κs =
     let a = (Start (Loop c)).args in
     counted_asks a.b a.sites.now a.triangles.now a.halfedges.now a.centers a.t (left_of a.stage a.vertices.now a.indexes.now) a.vertices.now
-    (Start (Loop c)).requires refl (Loop c).loop-left.false (omega (arith, c.loop-left-test.true)) (Loop c).loop-left.invariant
+    (Start (Loop c)).requires refl (Loop c).loop-left.left (omega (arith, c.loop-left-test.true)) (Loop c).loop-left.invariant
     (omega (arith, c.wide.ensures, c.if-wide-halfedges.false))
 
 sub-left : tie.Need-overflow_sub-left invariant-loop decreases-loop
@@ -53,7 +53,7 @@ loop-again : tie.Need-loop-left-preserved invariant-loop decreases-loop
 loop-again c =
     let a = (Start (Wide c).before.before).args in
     counted_step a.b a.sites.now a.triangles.now a.halfedges.now a.centers a.t (left_of a.stage a.vertices.now a.indexes.now) a.vertices.now
-    (Start (Wide c).before.before).requires refl (Wide c).loop-left.false (omega arith) (Wide c).loop-left.invariant
+    (Start (Wide c).before.before).requires refl (Wide c).loop-left.left (omega arith) (Wide c).loop-left.invariant
     (omega (arith, (Wide c).wide.ensures, c.if-wide-halfedges.false)) c.walk_on-w.ensures
 
 same_length-3 : tie.Need-shape_of-vertices invariant-loop decreases-loop
@@ -64,7 +64,7 @@ same_length-4 c = c.loop-left.invariant.later.entries
 
 returns-2 : tie.Need-returns invariant-loop decreases-loop
 returns-2 c = let a = (Start c.before).args in walking_out a.b a.sites.now a.triangles.now a.halfedges.now a.centers a.t
-    (left_of a.stage a.vertices.now a.indexes.now) a.vertices.now c.loop-left.false (omega arith) c.loop-left.invariant
+    (left_of a.stage a.vertices.now a.indexes.now) a.vertices.now c.loop-left.left (omega arith) c.loop-left.invariant
 
 pub walk_whole_spec : {M : Type 1} → statement M
 walk_whole_spec =

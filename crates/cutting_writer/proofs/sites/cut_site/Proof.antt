@@ -10,9 +10,6 @@ use mathlib.Core.Path.{sym, ap, subst, ◌∙◌}
 use Rattle.cutting_writer.proofs.sites.cut_site.Statement.{statement}
 use Rattle.cutting_writer.proofs.sites.cut_site.Tie as tie
 
-abbrev Copied-ring : tie.After-cut_any-arg-2-1 → tie.After-copy_ring-c
-Copied-ring c = c.before.before.before.before.before
-
 copy_ring-requires : tie.Need-copy_ring-c-requires
 copy_ring-requires c κs =
     let a = c.args in
@@ -28,21 +25,21 @@ returns c =
 
 cut_any-requires : tie.Need-cut_any-requires
 cut_any-requires c κs =
-    let a = (Start (Copied-ring c).before).args in
-    let p = (Start (Copied-ring c).before).requires in (
+    let a = c.args in
+    let p = c.requires in (
       p.0,
       p.1,
       subst (λ (l : List ℕ). Ready a.centers (page a.pen a.vertices.now l)
           (site_ink a.b a.sites.now a.triangles.now a.halfedges.now a.centers (page a.pen a.vertices.now l) a.t))
-          (sym ((Copied-ring c).copy_ring-c.ensures.0 c.if-c.false)) p.2,
+          (sym (c.copy_ring-c.ensures.0 c.if-c.false)) p.2,
     )
 
 returns-2 : tie.Need-returns
 returns-2 c =
-    let a = (Start (Copied-ring c.before.before.before.before.before).before).args in
+    let a = c.args in
     c.cut_any.ensures ∙ ap
     (λ (l : List ℕ). site_cut a.b a.sites.now a.triangles.now a.halfedges.now a.centers (page a.pen a.vertices.now l) a.t)
-    ((Copied-ring c.before.before.before.before.before).copy_ring-c.ensures.0 c.if-c.false)
+    (c.copy_ring-c.ensures.0 c.if-c.false)
 
 pub cut_site_spec : {M : Type 1} → statement M
 cut_site_spec = tie.close (tie.spec (λ c κs. tt) copy_ring-requires (λ c. search rules) (λ c. search rules) returns cut_any-requires (λ c. search rules) (λ c. search rules) returns-2)

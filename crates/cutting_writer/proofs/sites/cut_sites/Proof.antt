@@ -44,7 +44,7 @@ clear_tails-requires c κs =
 
 same_length : tie.Need-shape_of-vertices
 same_length c =
-    c.vertices-3-1.given ∙ (Vertices2 (Cleared-tails c).before).vertices2.given ∙ (Offsets c).vertices-1.given
+    c.vertices-3-1.given ∙ c.vertices-2-1.given ∙ (Offsets c).vertices-1.given
 
 same_length-2 : tie.Need-shape_of-indexes
 same_length-2 c = c.indexes-2-1.given ∙ (Cleared-tails c).indexes-1.given

@@ -6,30 +6,18 @@ use borrow.Author.Rules.{rules}
 use Rattle.cutting_writer.proofs.stream.pass_bottom.Statement.{statement}
 use Rattle.cutting_writer.proofs.stream.pass_bottom.Tie as tie
 
-abbrev Start : tie.In-Two-2 → tie.Start
-Start c = c.before.before.before.before.before
-
-abbrev Part : tie.After-feed_bottom-arg-in-One-1 → tie.In-One-2
-Part c = c.before.before.before
-
-abbrev Part2 : tie.After-feed_bottom-arg-in-Two-4-1 → tie.In-Two-2
-Part2 c = c.before.before.before.before.before.before.before.before.before.before
-
-abbrev Fed-bottom2 : tie.After-slice_known-in-Two-4-1 → tie.After-feed_bottom-u
-Fed-bottom2 c = c.before.before.before.before.before.before.before.before.before.before.before
-
 feed_bottom-requires : tie.Need-feed_bottom-requires
-feed_bottom-requires c κs = let a = (Part c).args in pass_one_asks (λ t. t.next) (feed_bottom a.b a.sites.now a.centers) a.centers
-    (Part c).in-One.is (bottom_of a.t a.vertices.now a.indexes.now) (Part c).requires
+feed_bottom-requires c κs = let a = c.args in pass_one_asks (λ t. t.next) (feed_bottom a.b a.sites.now a.centers) a.centers
+    c.in-One.is (bottom_of a.t a.vertices.now a.indexes.now) c.requires
 
 feed_bottom-requires-2 : tie.Need-feed_bottom-u-requires
-feed_bottom-requires-2 c κs = let a = (Start c.before.before.before).args in pass_two_asks (λ t. t.next) (feed_bottom a.b a.sites.now a.centers) a.centers
-    (bottom_grows a.b a.sites.now a.centers) c.before.before.before.in-Two.is (bottom_of a.t a.vertices.now a.indexes.now)
-    (Start c.before.before.before).requires
+feed_bottom-requires-2 c κs = let a = c.args in pass_two_asks (λ t. t.next) (feed_bottom a.b a.sites.now a.centers) a.centers
+    (bottom_grows a.b a.sites.now a.centers) c.in-Two.is (bottom_of a.t a.vertices.now a.indexes.now)
+    c.requires
 
 feed_bottom-requires-3 : tie.Need-feed_bottom-requires-in-Two
-feed_bottom-requires-3 c κs = let a = (Start (Part2 c)).args in pass_two_then (λ t. t.next) (feed_bottom a.b a.sites.now a.centers) a.centers
-    (bottom_grows a.b a.sites.now a.centers) (Part2 c).in-Two.is (bottom_of a.t a.vertices.now a.indexes.now) (Start (Part2 c)).requires _
+feed_bottom-requires-3 c κs = let a = c.args in pass_two_then (λ t. t.next) (feed_bottom a.b a.sites.now a.centers) a.centers
+    (bottom_grows a.b a.sites.now a.centers) c.in-Two.is (bottom_of a.t a.vertices.now a.indexes.now) c.requires _
     c.feed_bottom-u.ensures
 
 returns : tie.Need-returns-in-None
@@ -37,12 +25,12 @@ returns c = let a = c.args in pass_none (λ t. t.next) (feed_bottom a.b a.sites.
     (bottom_of a.t a.vertices.now a.indexes.now)
 
 returns-2 : tie.Need-returns-in-One
-returns-2 c = let a = (Part c.before.before.before.before.before).args in pass_one (λ t. t.next)
-    (feed_bottom a.b a.sites.now a.centers) (Part c.before.before.before.before.before).in-One.is c.feed_bottom.ensures
+returns-2 c = let a = c.args in pass_one (λ t. t.next)
+    (feed_bottom a.b a.sites.now a.centers) c.in-One.is c.feed_bottom.ensures
 
 returns-3 : tie.Need-returns-in-Two
-returns-3 c = let a = (Start (Fed-bottom2 c).before.before.before.before).args in pass_two (λ t. t.next) (feed_bottom a.b a.sites.now a.centers)
-    (Fed-bottom2 c).before.before.before.before.in-Two.is (bottom_of a.t a.vertices.now a.indexes.now) (Fed-bottom2 c).feed_bottom-u.ensures
+returns-3 c = let a = c.args in pass_two (λ t. t.next) (feed_bottom a.b a.sites.now a.centers)
+    c.in-Two.is (bottom_of a.t a.vertices.now a.indexes.now) c.feed_bottom-u.ensures
     c.feed_bottom-in-Two.ensures
 
 pub pass_bottom_spec : {M : Type 1} → statement M

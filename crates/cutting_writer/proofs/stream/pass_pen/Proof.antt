@@ -7,33 +7,24 @@ use mathlib.Core.List.{[]}
 use Rattle.cutting_writer.proofs.stream.pass_pen.Statement.{statement}
 use Rattle.cutting_writer.proofs.stream.pass_pen.Tie as tie
 
-abbrev Part : tie.After-slice_known-in-One-2-1 → tie.In-One-2
-Part c = c.before.before.before.before.before.before.before.before
-
-abbrev Part2 : tie.After-ink_spot-arg-in-Two-4-1 → tie.In-Two-2
-Part2 c = c.before.before.before.before.before.before.before.before.before.before
-
-abbrev Inked-spot2 : tie.After-ink_spot-arg-in-Two-4-1 → tie.After-ink_spot-u
-Inked-spot2 c = c.before.before.before.before.before.before
-
 ink_spot-requires : tie.Need-ink_spot-requires
-ink_spot-requires c κs = pass_one_asks (λ g. g) (ink_at _ _) _ c.before.before.before.in-One.is _ c.requires
+ink_spot-requires c κs = pass_one_asks (λ g. g) (ink_at _ _) _ c.in-One.is _ c.requires
 
 ink_spot-requires-2 : tie.Need-ink_spot-u-requires
-ink_spot-requires-2 c κs = pass_two_asks (λ g. g) (ink_at _ _) _ (ink_grows _ [] _) c.before.before.before.in-Two.is _ c.requires
+ink_spot-requires-2 c κs = pass_two_asks (λ g. g) (ink_at _ _) _ (ink_grows _ [] _) c.in-Two.is _ c.requires
 
 ink_spot-requires-3 : tie.Need-ink_spot-requires-in-Two
 ink_spot-requires-3 c κs =
-    pass_two_then (λ g. g) (ink_at _ _) _ (ink_grows _ [] _) (Part2 c).in-Two.is _ (Part2 c).requires _ (Inked-spot2 c).ink_spot-u.ensures
+    pass_two_then (λ g. g) (ink_at _ _) _ (ink_grows _ [] _) c.in-Two.is _ c.requires _ c.ink_spot-u.ensures
 
 returns : tie.Need-returns-in-None
 returns c = pass_none (λ g. g) (ink_at _ _) c.in-None.is _
 
 returns-2 : tie.Need-returns-in-One
-returns-2 c = pass_one (λ g. g) (ink_at _ _) (Part c).in-One.is c.ink_spot.ensures
+returns-2 c = pass_one (λ g. g) (ink_at _ _) c.in-One.is c.ink_spot.ensures
 
 returns-3 : tie.Need-returns-in-Two
-returns-3 c = pass_two (λ g. g) (ink_at _ _) (Part2 c.before.before.before.before.before).in-Two.is _ (Inked-spot2 c.before.before.before.before.before).ink_spot-u.ensures c.ink_spot-in-Two.ensures
+returns-3 c = pass_two (λ g. g) (ink_at _ _) c.in-Two.is _ c.ink_spot-u.ensures c.ink_spot-in-Two.ensures
 
 pub pass_pen_spec : {M : Type 1} → statement M
 pass_pen_spec =

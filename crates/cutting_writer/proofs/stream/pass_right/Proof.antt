@@ -6,30 +6,18 @@ use borrow.Author.Rules.{rules}
 use Rattle.cutting_writer.proofs.stream.pass_right.Statement.{statement}
 use Rattle.cutting_writer.proofs.stream.pass_right.Tie as tie
 
-abbrev Start : tie.In-Two-2 → tie.Start
-Start c = c.before.before.before.before.before
-
-abbrev Part : tie.After-feed_right-arg-in-One-1 → tie.In-One-2
-Part c = c.before.before.before
-
-abbrev Part2 : tie.After-feed_right-arg-in-Two-4-1 → tie.In-Two-2
-Part2 c = c.before.before.before.before.before.before.before.before.before.before
-
-abbrev Fed-right2 : tie.After-slice_known-in-Two-4-1 → tie.After-feed_right-u
-Fed-right2 c = c.before.before.before.before.before.before.before.before.before.before.before
-
 feed_right-requires : tie.Need-feed_right-requires
-feed_right-requires c κs = let a = (Part c).args in pass_one_asks (λ t. t.next.next) (feed_right a.b a.sites.now a.centers)
-    a.centers (Part c).in-One.is (right_of a.t a.vertices.now a.indexes.now) (Part c).requires
+feed_right-requires c κs = let a = c.args in pass_one_asks (λ t. t.next.next) (feed_right a.b a.sites.now a.centers)
+    a.centers c.in-One.is (right_of a.t a.vertices.now a.indexes.now) c.requires
 
 feed_right-requires-2 : tie.Need-feed_right-u-requires
-feed_right-requires-2 c κs = let a = (Start c.before.before.before).args in pass_two_asks (λ t. t.next.next) (feed_right a.b a.sites.now a.centers) a.centers
-    (right_grows a.b a.sites.now a.centers) c.before.before.before.in-Two.is (right_of a.t a.vertices.now a.indexes.now)
-    (Start c.before.before.before).requires
+feed_right-requires-2 c κs = let a = c.args in pass_two_asks (λ t. t.next.next) (feed_right a.b a.sites.now a.centers) a.centers
+    (right_grows a.b a.sites.now a.centers) c.in-Two.is (right_of a.t a.vertices.now a.indexes.now)
+    c.requires
 
 feed_right-requires-3 : tie.Need-feed_right-requires-in-Two
-feed_right-requires-3 c κs = let a = (Start (Part2 c)).args in pass_two_then (λ t. t.next.next) (feed_right a.b a.sites.now a.centers) a.centers
-    (right_grows a.b a.sites.now a.centers) (Part2 c).in-Two.is (right_of a.t a.vertices.now a.indexes.now) (Start (Part2 c)).requires _
+feed_right-requires-3 c κs = let a = c.args in pass_two_then (λ t. t.next.next) (feed_right a.b a.sites.now a.centers) a.centers
+    (right_grows a.b a.sites.now a.centers) c.in-Two.is (right_of a.t a.vertices.now a.indexes.now) c.requires _
     c.feed_right-u.ensures
 
 returns : tie.Need-returns-in-None
@@ -37,12 +25,12 @@ returns c = let a = c.args in pass_none (λ t. t.next.next) (feed_right a.b a.si
     (right_of a.t a.vertices.now a.indexes.now)
 
 returns-2 : tie.Need-returns-in-One
-returns-2 c = let a = (Part c.before.before.before.before.before).args in pass_one (λ t. t.next.next)
-    (feed_right a.b a.sites.now a.centers) (Part c.before.before.before.before.before).in-One.is c.feed_right.ensures
+returns-2 c = let a = c.args in pass_one (λ t. t.next.next)
+    (feed_right a.b a.sites.now a.centers) c.in-One.is c.feed_right.ensures
 
 returns-3 : tie.Need-returns-in-Two
-returns-3 c = let a = (Start (Fed-right2 c).before.before.before.before).args in pass_two (λ t. t.next.next) (feed_right a.b a.sites.now a.centers)
-    (Fed-right2 c).before.before.before.before.in-Two.is (right_of a.t a.vertices.now a.indexes.now) (Fed-right2 c).feed_right-u.ensures
+returns-3 c = let a = c.args in pass_two (λ t. t.next.next) (feed_right a.b a.sites.now a.centers)
+    c.in-Two.is (right_of a.t a.vertices.now a.indexes.now) c.feed_right-u.ensures
     c.feed_right-in-Two.ensures
 
 pub pass_right_spec : {M : Type 1} → statement M

@@ -6,30 +6,18 @@ use borrow.Author.Rules.{rules}
 use Rattle.cutting_writer.proofs.stream.pass_top.Statement.{statement}
 use Rattle.cutting_writer.proofs.stream.pass_top.Tie as tie
 
-abbrev Start : tie.In-Two-2 → tie.Start
-Start c = c.before.before.before.before.before
-
-abbrev Part : tie.After-feed_top-arg-in-One-1 → tie.In-One-2
-Part c = c.before.before.before
-
-abbrev Part2 : tie.After-feed_top-arg-in-Two-4-1 → tie.In-Two-2
-Part2 c = c.before.before.before.before.before.before.before.before.before.before
-
-abbrev Fed-top2 : tie.After-slice_known-in-Two-4-1 → tie.After-feed_top-u
-Fed-top2 c = c.before.before.before.before.before.before.before.before.before.before.before
-
 feed_top-requires : tie.Need-feed_top-requires
-feed_top-requires c κs = let a = (Part c).args in pass_one_asks (λ t. t.next.next.next) (feed_top a.b a.sites.now a.centers)
-    a.centers (Part c).in-One.is (top_of a.t a.vertices.now a.indexes.now) (Part c).requires
+feed_top-requires c κs = let a = c.args in pass_one_asks (λ t. t.next.next.next) (feed_top a.b a.sites.now a.centers)
+    a.centers c.in-One.is (top_of a.t a.vertices.now a.indexes.now) c.requires
 
 feed_top-requires-2 : tie.Need-feed_top-u-requires
-feed_top-requires-2 c κs = let a = (Start c.before.before.before).args in pass_two_asks (λ t. t.next.next.next) (feed_top a.b a.sites.now a.centers) a.centers
-    (top_grows a.b a.sites.now a.centers) c.before.before.before.in-Two.is (top_of a.t a.vertices.now a.indexes.now)
-    (Start c.before.before.before).requires
+feed_top-requires-2 c κs = let a = c.args in pass_two_asks (λ t. t.next.next.next) (feed_top a.b a.sites.now a.centers) a.centers
+    (top_grows a.b a.sites.now a.centers) c.in-Two.is (top_of a.t a.vertices.now a.indexes.now)
+    c.requires
 
 feed_top-requires-3 : tie.Need-feed_top-requires-in-Two
-feed_top-requires-3 c κs = let a = (Start (Part2 c)).args in pass_two_then (λ t. t.next.next.next) (feed_top a.b a.sites.now a.centers) a.centers
-    (top_grows a.b a.sites.now a.centers) (Part2 c).in-Two.is (top_of a.t a.vertices.now a.indexes.now) (Start (Part2 c)).requires _
+feed_top-requires-3 c κs = let a = c.args in pass_two_then (λ t. t.next.next.next) (feed_top a.b a.sites.now a.centers) a.centers
+    (top_grows a.b a.sites.now a.centers) c.in-Two.is (top_of a.t a.vertices.now a.indexes.now) c.requires _
     c.feed_top-u.ensures
 
 returns : tie.Need-returns-in-None
@@ -37,12 +25,12 @@ returns c = let a = c.args in pass_none (λ t. t.next.next.next) (feed_top a.b a
     (top_of a.t a.vertices.now a.indexes.now)
 
 returns-2 : tie.Need-returns-in-One
-returns-2 c = let a = (Part c.before.before.before.before.before).args in pass_one (λ t. t.next.next.next)
-    (feed_top a.b a.sites.now a.centers) (Part c.before.before.before.before.before).in-One.is c.feed_top.ensures
+returns-2 c = let a = c.args in pass_one (λ t. t.next.next.next)
+    (feed_top a.b a.sites.now a.centers) c.in-One.is c.feed_top.ensures
 
 returns-3 : tie.Need-returns-in-Two
-returns-3 c = let a = (Start (Fed-top2 c).before.before.before.before).args in pass_two (λ t. t.next.next.next) (feed_top a.b a.sites.now a.centers)
-    (Fed-top2 c).before.before.before.before.in-Two.is (top_of a.t a.vertices.now a.indexes.now) (Fed-top2 c).feed_top-u.ensures
+returns-3 c = let a = c.args in pass_two (λ t. t.next.next.next) (feed_top a.b a.sites.now a.centers)
+    c.in-Two.is (top_of a.t a.vertices.now a.indexes.now) c.feed_top-u.ensures
     c.feed_top-in-Two.ensures
 
 pub pass_top_spec : {M : Type 1} → statement M

@@ -46,7 +46,8 @@ mul-indexes-3 c = let t = c.loop-j.invariant in omega (arith, t.long, t.sum, t.l
 slice_write-indexes-2 : tie.Need-bounds-indexes-j-in-loop-j invariant-loop decreases-loop
 slice_write-indexes-2 c =
     let l = c.loop-j in
-    lt-length-set l.indexes l.i (get_or l.indexes (l.j - 1) 0) (slice_read-indexes c)
+    let t = c.loop-j.invariant in
+    lt-length-set l.indexes l.i (get_or l.indexes (l.j - 1) 0) (omega (arith, t.long, t.sum, t.low, t.ordered))
 
 add-i : tie.Need-overflow_add-i invariant-loop decreases-loop
 add-i c = let t = c.loop-j.invariant in omega (arith, t.long, t.sum, t.low, t.ordered)

@@ -5,9 +5,6 @@ use borrow.Author.Rules.{rules}
 use Rattle.mending.proofs.pairs.pair_up.Statement.{statement}
 use Rattle.mending.proofs.pairs.pair_up.Tie as tie
 
-abbrev Start : tie.After-pair_sites-arg4 → tie.Start
-Start c = (Chain c).before.before.before.before.before.before.before.before
-
 chain-requires : tie.Need-chain-requires
 chain-requires c κs =
     let at_start = c in
@@ -15,16 +12,16 @@ chain-requires c κs =
 
 pair_sites-requires : tie.Need-pair_sites-requires
 pair_sites-requires c κs = (
-  (Start c).requires.0,
-  omega (arith, (Start c).requires.1, c.chain.auto.heads),
+  c.requires.0,
+  omega (arith, c.requires.1, c.chain.auto.heads),
   c.chain.ensures,
   omega (
     arith,
-    (Start c).requires.2,
+    c.requires.2,
     c.chain.auto.links,
   ),
-  (Start c).requires.3,
-  (Start c).requires.4,
+  c.requires.3,
+  c.requires.4,
 )
 
 returns : tie.Need-returns

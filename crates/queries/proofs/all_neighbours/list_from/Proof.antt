@@ -9,20 +9,20 @@ returns : tie.Need-returns-then-nothing_lent
 returns c =
     let f = c in
     let t = f in
-    plain_list _ _ _ _ _ _ (sym t.before.nothing_Lent.ensures ∙ t.if-nothing_lent.true) f.neighbours.ensures
+    plain_list _ _ _ _ _ _ (sym t.before.nothing_lent.ensures ∙ t.if-nothing_lent.true) f.neighbours.ensures
 
 clipped_neighbours-requires : tie.Need-clipped_neighbours-requires
 clipped_neighbours-requires c κs =
     let t = c in
     let at_start = t in
-    let q = sym t.before.nothing_Lent.ensures ∙ t.if-nothing_lent.false in
+    let q = sym t.before.nothing_lent.ensures ∙ t.if-nothing_lent.false in
     (at_start.requires.clippable q, at_start.requires.cell q)
 
 returns-2 : tie.Need-returns
 returns-2 c =
     let f = c in
     let t = f in
-    clipped_list _ _ _ _ _ _ (sym t.before.nothing_Lent.ensures ∙ t.if-nothing_lent.false) f.clipped_neighbours.ensures
+    clipped_list _ _ _ _ _ _ (sym t.before.nothing_lent.ensures ∙ t.if-nothing_lent.false) f.clipped_neighbours.ensures
 
 pub list_from_spec : {M : Type 1} → statement M
 list_from_spec =

@@ -39,7 +39,7 @@ clipped-step-step-requires : (t : ℕ) → clipped-step-lts.Need-step-requires (
   clipped-step-below t,
   clipped-step.Post,
 ) (clipped-step-at t) clipped-step.Post
-clipped-step-step-requires t c κs = (c.before.before.before.before.requires.1.0.paired.threes, c.before.before.before.before.requires.1.0.even)
+clipped-step-step-requires t c κs = (c.requires.1.0.paired.threes, c.requires.1.0.even)
 
 clipped-step-enum-known-x : (t : ℕ) → clipped-step-lts.Need-enum_known-x (
   step-reads.Asked,
@@ -59,12 +59,9 @@ clipped-step-judge-requires : (t : ℕ) → clipped-step-lts.Need-judge-requires
   clipped-step-below t,
   clipped-step.Post,
 ) (clipped-step-at t) clipped-step.Post
-clipped-step-judge-requires t c κs =
-    let at-step = c.before.before.before in
-    let at_start = at-step.before.before.before.before.before in
-    (at_start.requires.1.0.cells, at_start.requires.1.1, coming_cell at_start.requires.1.0 _ at_start.requires.1.2 (sym c.before.x.given.1 ∙ at-step.step.ensures))
+clipped-step-judge-requires t c κs = (c.requires.1.0.cells, c.requires.1.1, coming_cell c.requires.1.0 _ c.requires.1.2 (sym c.in-Site.is ∙ c.step.ensures))
 
-clipped-step-enum-told : (t : ℕ) → clipped-step-lts.Need-enum_told (
+clipped-step-enum-told-1 : (t : ℕ) → clipped-step-lts.Need-enum_told-1 (
   step-reads.Asked,
   step-reads.Learnt,
   judge-reads.Asked,
@@ -72,9 +69,9 @@ clipped-step-enum-told : (t : ℕ) → clipped-step-lts.Need-enum_told (
   clipped-step-below t,
   clipped-step.Post,
 ) (clipped-step-at t) clipped-step.Post
-clipped-step-enum-told t c = search rules
+clipped-step-enum-told-1 t c = search rules
 
-clipped-step-enum-told-2 : (t : ℕ) → clipped-step-lts.Need-enum_told-2 (
+clipped-step-enum-told-in-Dropped : (t : ℕ) → clipped-step-lts.Need-enum_told-in-Dropped (
   step-reads.Asked,
   step-reads.Learnt,
   judge-reads.Asked,
@@ -82,7 +79,7 @@ clipped-step-enum-told-2 : (t : ℕ) → clipped-step-lts.Need-enum_told-2 (
   clipped-step-below t,
   clipped-step.Post,
 ) (clipped-step-at t) clipped-step.Post
-clipped-step-enum-told-2 t c = search rules
+clipped-step-enum-told-in-Dropped t c = search rules
 
 clipped-step-clipped-step-requires : (t : ℕ) → clipped-step-lts.Need-clipped_step-requires (
   step-reads.Asked,
@@ -92,20 +89,16 @@ clipped-step-clipped-step-requires : (t : ℕ) → clipped-step-lts.Need-clipped
   clipped-step-below t,
   clipped-step.Post,
 ) (clipped-step-at t) clipped-step.Post
-clipped-step-clipped-step-requires t c κs =
-    let at-step = c.before.before.before.before.before.before in
-    let at_start = at-step.before.before.before.before.before in (
-      dropped_less at_start.requires.1.0 _ at_start.requires.1.2 (sym c.before.before.before.before.x.given.1 ∙ at-step.step.ensures) _
-          (sym c.enum_told2.given.1 ∙ c.before.before.judge.ensures) at_start.requires.0,
-      (
-        at_start.requires.1.0,
-        at_start.requires.1.1,
-        dropped_sound at_start.requires.1.0 _ at_start.requires.1.2
-            (sym c.before.before.before.before.x.given.1 ∙ at-step.step.ensures) _ (sym c.enum_told2.given.1 ∙ c.before.before.judge.ensures),
-      ),
-    )
+clipped-step-clipped-step-requires t c κs = (
+  dropped_less c.requires.1.0 _ c.requires.1.2 (sym c.in-Site.is ∙ c.step.ensures) _ (sym c.in-Dropped.is ∙ c.judge.ensures) c.requires.0,
+  (
+    c.requires.1.0,
+    c.requires.1.1,
+    dropped_sound c.requires.1.0 _ c.requires.1.2 (sym c.in-Site.is ∙ c.step.ensures) _ (sym c.in-Dropped.is ∙ c.judge.ensures),
+  ),
+)
 
-clipped-step-enum-told-3 : (t : ℕ) → clipped-step-lts.Need-enum_told-3 (
+clipped-step-enum-told-in-Ends : (t : ℕ) → clipped-step-lts.Need-enum_told-in-Ends (
   step-reads.Asked,
   step-reads.Learnt,
   judge-reads.Asked,
@@ -113,9 +106,9 @@ clipped-step-enum-told-3 : (t : ℕ) → clipped-step-lts.Need-enum_told-3 (
   clipped-step-below t,
   clipped-step.Post,
 ) (clipped-step-at t) clipped-step.Post
-clipped-step-enum-told-3 t c = search rules
+clipped-step-enum-told-in-Ends t c = search rules
 
-clipped-step-enum-told-4 : (t : ℕ) → clipped-step-lts.Need-enum_told-4 (
+clipped-step-enum-told-in-End : (t : ℕ) → clipped-step-lts.Need-enum_told-in-End (
   step-reads.Asked,
   step-reads.Learnt,
   judge-reads.Asked,
@@ -123,9 +116,9 @@ clipped-step-enum-told-4 : (t : ℕ) → clipped-step-lts.Need-enum_told-4 (
   clipped-step-below t,
   clipped-step.Post,
 ) (clipped-step-at t) clipped-step.Post
-clipped-step-enum-told-4 t c = search rules
+clipped-step-enum-told-in-End t c = search rules
 
-clipped-step-returns : (t : ℕ) → clipped-step-lts.Need-returns (
+clipped-step-returns-in-Counts : (t : ℕ) → clipped-step-lts.Need-returns-in-Counts (
   step-reads.Asked,
   step-reads.Learnt,
   judge-reads.Asked,
@@ -133,13 +126,9 @@ clipped-step-returns : (t : ℕ) → clipped-step-lts.Need-returns (
   clipped-step-below t,
   clipped-step.Post,
 ) (clipped-step-at t) clipped-step.Post
-clipped-step-returns t c =
-    let at-step = c.before.before.before.before.before.before in
-    let at_start = at-step.before.before.before.before.before in
-    counts at_start.requires.1.0 _ at_start.requires.1.2 (sym c.before.before.before.before.x.given.1 ∙ at-step.step.ensures) _
-    (sym c.enum_told.given.1 ∙ c.before.before.judge.ensures)
+clipped-step-returns-in-Counts t c = counts c.requires.1.0 _ c.requires.1.2 (sym c.in-Site.is ∙ c.step.ensures) _ (sym c.in-Counts.is ∙ c.judge.ensures)
 
-clipped-step-returns-2 : (t : ℕ) → clipped-step-lts.Need-returns-2 (
+clipped-step-returns-in-Dropped : (t : ℕ) → clipped-step-lts.Need-returns-in-Dropped (
   step-reads.Asked,
   step-reads.Learnt,
   judge-reads.Asked,
@@ -147,13 +136,10 @@ clipped-step-returns-2 : (t : ℕ) → clipped-step-lts.Need-returns-2 (
   clipped-step-below t,
   clipped-step.Post,
 ) (clipped-step-at t) clipped-step.Post
-clipped-step-returns-2 t c =
-    let at-step = c.before.before.before.before.before.before.before in
-    let at_start = at-step.before.before.before.before.before in
-    dropped_takes at_start.requires.1.0 _ at_start.requires.1.2 (sym c.before.before.before.before.before.x.given.1 ∙ at-step.step.ensures) _
-    (sym c.before.enum_told2.given.1 ∙ c.before.before.before.judge.ensures) c.clipped_step.result c.clipped_step.ensures
+clipped-step-returns-in-Dropped t c =
+    dropped_takes c.requires.1.0 _ c.requires.1.2 (sym c.in-Site.is ∙ c.step.ensures) _ (sym c.in-Dropped.is ∙ c.judge.ensures) c.clipped_step.result c.clipped_step.ensures
 
-clipped-step-returns-3 : (t : ℕ) → clipped-step-lts.Need-returns-3 (
+clipped-step-returns-in-Ends : (t : ℕ) → clipped-step-lts.Need-returns-in-Ends (
   step-reads.Asked,
   step-reads.Learnt,
   judge-reads.Asked,
@@ -161,13 +147,9 @@ clipped-step-returns-3 : (t : ℕ) → clipped-step-lts.Need-returns-3 (
   clipped-step-below t,
   clipped-step.Post,
 ) (clipped-step-at t) clipped-step.Post
-clipped-step-returns-3 t c =
-    let at-step = c.before.before.before.before.before.before in
-    let at_start = at-step.before.before.before.before.before in
-    ends at_start.requires.1.0 _ at_start.requires.1.2 (sym c.before.before.before.before.x.given.1 ∙ at-step.step.ensures) _
-    (sym c.enum_told3.given.1 ∙ c.before.before.judge.ensures)
+clipped-step-returns-in-Ends t c = ends c.requires.1.0 _ c.requires.1.2 (sym c.in-Site.is ∙ c.step.ensures) _ (sym c.in-Ends.is ∙ c.judge.ensures)
 
-clipped-step-returns-4 : (t : ℕ) → clipped-step-lts.Need-returns-4 (
+clipped-step-returns-in-End : (t : ℕ) → clipped-step-lts.Need-returns-in-End (
   step-reads.Asked,
   step-reads.Learnt,
   judge-reads.Asked,
@@ -175,9 +157,7 @@ clipped-step-returns-4 : (t : ℕ) → clipped-step-lts.Need-returns-4 (
   clipped-step-below t,
   clipped-step.Post,
 ) (clipped-step-at t) clipped-step.Post
-clipped-step-returns-4 t c =
-    let at_start = c.before.before.before.before.before.before.before in
-    nothing_left at_start.requires.1.0 _ at_start.requires.1.2 _ (sym c.enum_told4.given.1 ∙ c.before.before.step.ensures)
+clipped-step-returns-in-End t c = nothing_left c.requires.1.0 _ c.requires.1.2 _ (sym c.in-End.is ∙ c.step.ensures)
 
 pub +clipped_step_spec : {M : Type 1} → statement M
 +clipped_step_spec = close μ-clipped-step λ t. clipped-step-lts.spec (
@@ -193,12 +173,12 @@ pub +clipped_step_spec : {M : Type 1} → statement M
     (clipped-step-step-requires t)
     (clipped-step-enum-known-x t)
     (clipped-step-judge-requires t)
-    (clipped-step-enum-told t)
-    (clipped-step-enum-told-2 t)
+    (clipped-step-enum-told-1 t)
+    (clipped-step-enum-told-in-Dropped t)
     (clipped-step-clipped-step-requires t)
-    (clipped-step-enum-told-3 t)
-    (clipped-step-enum-told-4 t)
-    (clipped-step-returns t)
-    (clipped-step-returns-2 t)
-    (clipped-step-returns-3 t)
-    (clipped-step-returns-4 t)
+    (clipped-step-enum-told-in-Ends t)
+    (clipped-step-enum-told-in-End t)
+    (clipped-step-returns-in-Counts t)
+    (clipped-step-returns-in-Dropped t)
+    (clipped-step-returns-in-Ends t)
+    (clipped-step-returns-in-End t)

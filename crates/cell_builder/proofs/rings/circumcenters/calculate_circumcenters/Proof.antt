@@ -1,5 +1,6 @@
 -- `cell_builder::rings::circumcenters::calculate_circumcenters` meets its contract: the loop follows the definition triangle by triangle.
-use mathlib.Core.Path.{sym, ◌∙◌}
+use mathlib.Core.Bool.{not}
+use mathlib.Core.Path.{ap, sym, ◌∙◌}
 use Prim.Native.Nat.{◌-◌}
 use native.Mathlib.Omega.{arith}
 use borrow.Author.Rules.{rules}
@@ -8,44 +9,44 @@ use Rattle.cell_builder.specs.rings.laws.Centers.{CentersTo, centers_start, cent
 use Rattle.cell_builder.proofs.rings.circumcenters.calculate_circumcenters.Statement.{statement}
 use Rattle.cell_builder.proofs.rings.circumcenters.calculate_circumcenters.Tie as tie
 
-abbrev invariant-loop : tie.invariant-loop
+abbrev invariant-loop : tie.invariant-loop-t
 invariant-loop sites triangles v₀ count t₀ v t = CentersTo sites triangles count v₀ v t
 
-abbrev decreases-loop : tie.decreases-loop
+abbrev decreases-loop : tie.decreases-loop-t
 decreases-loop sites triangles v₀ count t₀ v t = count - t
 
-loop-holds : tie.Need-loop-init invariant-loop decreases-loop
+loop-holds : tie.Need-loop-t-init invariant-loop decreases-loop
 loop-holds c = centers_start _ _ _ _
 
-center-at-requires : tie.Need-center-at-requires invariant-loop decreases-loop
-center-at-requires c κs = (c.before.before.before.before.before.requires.0, omega arith)
+center_at-requires : tie.Need-center_at-c-requires invariant-loop decreases-loop
+center_at-requires c κs = (c.requires.0, omega arith)
 
-same_length : tie.Need-same-length invariant-loop decreases-loop
-same_length c = c.before.before.before.before.loop.invariant.long
+same_length : tie.Need-shape_of-vertices-then-not-center_ok invariant-loop decreases-loop
+same_length c = c.loop-t.invariant.long
 
-returns : tie.Need-returns invariant-loop decreases-loop
+returns : tie.Need-returns-then-not-center_ok invariant-loop decreases-loop
 returns c =
-    centers_bad _ _ _ _ _ _ c.before.before.before.before.loop.invariant (omega arith) _ _ c.before.before.center-at.ensures
-    (sym c.before.center-ok.ensures ∙ not-true _ c.if1.true)
+    centers_bad _ _ _ _ _ _ c.loop-t.invariant (omega arith) _ _ c.center_at-c.ensures
+    (sym c.center_ok.ensures ∙ not-true _ (ap not c.if-not-center_ok.true))
 
 put-requires : tie.Need-put-requires invariant-loop decreases-loop
-put-requires c κs = let l = c.before.before.before.before.before in omega (arith, l.loop.invariant.long, l.before.before.before.before.requires.1)
+put-requires c κs = let l = c in omega (arith, l.loop-t.invariant.long, l.requires.1)
 
-loop-again : tie.Need-loop-preserved invariant-loop decreases-loop
+loop-again : tie.Need-loop-t-preserved invariant-loop decreases-loop
 loop-again c =
-    let at-else1 = c.before.before.before.before in
-    let l = at-else1.before.before.before.before in
-    centers_step _ _ _ _ _ _ l.loop.invariant (omega arith) l.before.before.before.before.requires.1 _ _ c.before.before.put.ensures
-    at-else1.before.before.center-at.ensures (sym at-else1.before.center-ok.ensures ∙ not-false _ at-else1.if1.false)
+    let at-else1 = c in
+    let l = at-else1 in
+    centers_step _ _ _ _ _ _ l.loop-t.invariant (omega arith) l.requires.1 _ _ c.put.ensures
+    at-else1.center_at-c.ensures (sym at-else1.center_ok.ensures ∙ not-false _ (ap not at-else1.if-not-center_ok.false))
 
-same-length-2 : tie.Need-same-length-2 invariant-loop decreases-loop
-same-length-2 c = c.before.loop.invariant.long
+same_length-2 : tie.Need-shape_of-vertices invariant-loop decreases-loop
+same_length-2 c = c.loop-t.invariant.long
 
-returns-2 : tie.Need-returns-2 invariant-loop decreases-loop
-returns-2 c = centers_end _ _ _ _ _ _ c.before.loop.invariant (omega arith)
+returns-2 : tie.Need-returns invariant-loop decreases-loop
+returns-2 c = centers_end _ _ _ _ _ _ c.loop-t.invariant (omega arith)
 
-pub calculate-circumcenters-spec : {M : Type 1} → statement M
-calculate-circumcenters-spec =
+pub calculate_circumcenters_spec : {M : Type 1} → statement M
+calculate_circumcenters_spec =
     tie.close
-    (tie.spec invariant-loop decreases-loop loop-holds center-at-requires (λ c κs. search rules) same_length returns put-requires
-    (λ c. search rules) (λ c. omega arith) loop-again same-length-2 returns-2)
+    (tie.spec invariant-loop decreases-loop loop-holds center_at-requires (λ c κs. search rules) same_length returns put-requires
+    (λ c. search rules) (λ c. omega arith) loop-again same_length-2 returns-2)

@@ -4,11 +4,11 @@ use borrow.Author.Rules.{rules}
 use Rattle.cell_builder.proofs.rings.extensions.count_old.Statement.{statement}
 use Rattle.cell_builder.proofs.rings.extensions.count_old.Tie as tie
 
-returns : tie.Need-returns
-returns c = rw c.if1.true (omega arith)
+returns : tie.Need-returns-then-fresh
+returns c = rw c.if-fresh.true (omega arith)
 
-returns-2 : tie.Need-returns-2
-returns-2 c = rw c.if1.false (omega arith)
+returns-2 : tie.Need-returns
+returns-2 c = rw c.if-fresh.false (omega arith)
 
-pub count-old-spec : {M : Type 1} → statement M
-count-old-spec = tie.close (tie.spec returns (λ c. search rules) returns-2)
+pub count_old_spec : {M : Type 1} → statement M
+count_old_spec = tie.close (tie.spec returns (λ c. search rules) returns-2)

@@ -10,11 +10,11 @@ use Rattle.cell_builder.proofs.rings.extensions.extend_voronoi_vertices.Tie as t
 
 returns : tie.Need-returns
 returns c =
-    let rays = c.before.before.before.before.before.before.before.args in
-    let lengths = c.before.before.roots.ensures in (
-      c.before.far-along.ensures ∙ ap (λ (l : Float). far_along rays.r l) (root_is_sqrt _ _ (add-fits binary64 _ _) lengths.0),
-      c.far-along2.ensures ∙ ap (λ (l : Float). far_along rays.s l) (root_is_sqrt _ _ (add-fits binary64 _ _) lengths.1),
+    let rays = c.args in
+    let lengths = c.roots-lengths.ensures in (
+      c.far_along.ensures ∙ ap (λ (l : Float). far_along rays.r l) (root_is_sqrt _ _ (add-fits binary64 _ _) lengths.0),
+      c.far_along-2.ensures ∙ ap (λ (l : Float). far_along rays.s l) (root_is_sqrt _ _ (add-fits binary64 _ _) lengths.1),
     )
 
-pub extend-voronoi-vertices-spec : {M : Type 1} → statement M
-extend-voronoi-vertices-spec = tie.close (tie.spec (λ c κs. search rules) (λ c κs. search rules) (λ c κs. search rules) returns)
+pub extend_voronoi_vertices_spec : {M : Type 1} → statement M
+extend_voronoi_vertices_spec = tie.close (tie.spec (λ c κs. search rules) (λ c κs. search rules) (λ c κs. search rules) returns)

@@ -8,5 +8,5 @@ returns : tie.Need-returns
 unfolding far_along
 returns c = refl
 
-pub far-along-spec : {M : Type 1} → statement M
-far-along-spec = tie.close (tie.spec returns)
+pub far_along_spec : {M : Type 1} → statement M
+far_along_spec = tie.close (tie.spec returns)

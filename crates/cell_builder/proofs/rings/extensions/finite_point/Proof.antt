@@ -4,7 +4,7 @@ use Rattle.cell_builder.proofs.rings.extensions.finite_point.Statement.{statemen
 use Rattle.cell_builder.proofs.rings.extensions.finite_point.Tie as tie
 
 returns : tie.Need-returns
-returns c = cc (c.before.is_finite.ensures, c.is-finite2.ensures)
+returns c = cc (c.is_finite.ensures, c.is_finite-2.ensures)
 
-pub finite-point-spec : {M : Type 1} → statement M
-finite-point-spec = tie.close (tie.spec (λ c κs. search rules) (λ c κs. search rules) returns)
+pub finite_point_spec : {M : Type 1} → statement M
+finite_point_spec = tie.close (tie.spec (λ c κs. search rules) (λ c κs. search rules) returns)

@@ -13,12 +13,12 @@ below nan = refl
 below (inf s) = refl
 below (fin s m e) = refl
 
-float-from-bits-result : tie.Need-float-from-bits-result
+float_from_bits-result : tie.Need-float_from_bits-result
 unfolding nan_bits
-float-from-bits-result c = tt
+float_from_bits-result c = tt
 
 returns : tie.Need-returns
-returns c = rw c.magnitude.ensures (below c.before.args.x)
+returns c = rw c.magnitude.ensures (below c.args.x)
 
-pub is-finite-spec : {M : Type 1} → statement M
-is-finite-spec = tie.close (tie.spec (λ c κs. search rules) float-from-bits-result returns)
+pub is_finite_spec : {M : Type 1} → statement M
+is_finite_spec = tie.close (tie.spec (λ c κs. search rules) float_from_bits-result returns)

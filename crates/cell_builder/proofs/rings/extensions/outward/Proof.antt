@@ -8,5 +8,5 @@ returns : tie.Need-returns
 unfolding ray_of
 returns c = refl
 
-pub outward-spec : {M : Type 1} → statement M
-outward-spec = tie.close (tie.spec returns)
+pub outward_spec : {M : Type 1} → statement M
+outward_spec = tie.close (tie.spec returns)

@@ -5,29 +5,29 @@ use Rattle.cell_builder.specs.rings.laws.Extensions.{two_rays}
 use Rattle.cell_builder.proofs.rings.extensions.points_from.Statement.{statement}
 use Rattle.cell_builder.proofs.rings.extensions.points_from.Tie as tie
 
-abbrev Start : tie.After-shared-slice-known5 → tie.Start
+abbrev Start : tie.After-shared_slice_known-5-1 → tie.Start
 Start c = c.before.before.before.before.before
 
-returns : tie.Need-returns
+returns : tie.Need-returns-then-i-eq1
 returns c =
     let pre = (Start c.before).requires in
-    record { first = pre.1 pre.0.1 c.if1.true; second = λ e. absurd (omega arith) }
+    record { first = pre.1 pre.0.1 c.if-i-eq1.true; second = λ e. absurd (omega arith) }
 
-next-place-requires : tie.Need-next-place-requires
-next-place-requires c κs = (Start c.before).requires.0.1
+next_place-requires : tie.Need-next_place-j-requires
+next_place-requires c κs = (Start c.before).requires.0.1
 
-hull-ray-requires : tie.Need-hull-ray-requires
-hull-ray-requires c κs = (Start c.before.before).requires.0
+hull_ray-requires : tie.Need-hull_ray-requires
+hull_ray-requires c κs = (Start c.before.before).requires.0
 
-hull-ray-requires-2 : tie.Need-hull-ray-requires-2
-hull-ray-requires-2 c κs = ((Start c.before.before.before).requires.0.0, c.before.next_place.ensures.1)
+hull_ray-requires-2 : tie.Need-hull_ray-requires-2
+hull_ray-requires-2 c κs = ((Start c.before.before.before).requires.0.0, c.next_place-j.ensures.1)
 
-returns-2 : tie.Need-returns-2
+returns-2 : tie.Need-returns
 returns-2 c =
-    let at-ray = c.before.before in
-    two_rays _ _ _ _ _ _ _ _ _ _ at-ray.hull-ray.ensures c.before.hull-ray2.ensures at-ray.before.next_place.ensures.0 c.extend-voronoi-vertices.ensures
+    let at-ray = c in
+    two_rays _ _ _ _ _ _ _ _ _ _ at-ray.hull_ray.ensures c.hull_ray-2.ensures at-ray.next_place-j.ensures.0 c.extend_voronoi_vertices.ensures
 
-pub points-from-spec : {M : Type 1} → statement M
-points-from-spec =
+pub points_from_spec : {M : Type 1} → statement M
+points_from_spec =
     tie.close
-    (tie.spec returns next-place-requires hull-ray-requires hull-ray-requires-2 (λ c κs. search rules) returns-2)
+    (tie.spec returns next_place-requires hull_ray-requires hull_ray-requires-2 (λ c κs. search rules) returns-2)

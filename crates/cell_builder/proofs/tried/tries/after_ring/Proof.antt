@@ -3,14 +3,14 @@ use mathlib.Core.Path.{refl}
 use Rattle.cell_builder.proofs.tried.tries.after_ring.Statement.{statement}
 use Rattle.cell_builder.proofs.tried.tries.after_ring.Tie as tie
 
-returns : tie.Need-returns
-returns c = (refl, λ z. absurd (c.if1.true z))
+returns : tie.Need-returns-then-fault-ne0
+returns c = (refl, λ z. absurd (c.if-fault-ne0.true z))
 
-together-requires : tie.Need-together-requires
-together-requires c κs = c.before.before.before.before.before.before.before.requires c.before.if1.false
+together-requires : tie.Need-together-all-requires
+together-requires c κs = c.requires c.if-fault-ne0.false
 
-returns-2 : tie.Need-returns-2
-returns-2 c = (refl, λ z. rw c.together.ensures refl)
+returns-2 : tie.Need-returns
+returns-2 c = (refl, λ z. rw c.together-all.ensures refl)
 
-pub after-ring-spec : {M : Type 1} → statement M
-after-ring-spec = tie.close (tie.spec returns together-requires returns-2)
+pub after_ring_spec : {M : Type 1} → statement M
+after_ring_spec = tie.close (tie.spec returns together-requires returns-2)

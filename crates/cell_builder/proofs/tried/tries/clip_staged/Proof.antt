@@ -9,65 +9,65 @@ use Rattle.cell_builder.specs.tried.laws.OneTry.{none_reused, ring_small}
 use Rattle.cell_builder.proofs.tried.tries.clip_staged.Statement.{statement}
 use Rattle.cell_builder.proofs.tried.tries.clip_staged.Tie as tie
 
-abbrev Entry : tie.After-wide2 → tie.Start
+abbrev Entry : tie.After-wide-base → tie.Start
 Entry c = c.before.before.before.before.before.before.before.before.before
 
-abbrev Based : tie.After-all-inside → tie.After-wide2
-Based c = c.before.before.before.before
+abbrev Based : tie.After-all_inside → tie.After-wide-base
+Based c = c.before.before
 
 -- where the site's region starts
-base : (c : tie.After-wide2) → c.wide2.result ≡ get_or (Entry c).args.offsets.now (Entry c).args.site 0
-base c = c.wide2.ensures ∙ ap (λ k. get_or (Entry c).args.offsets.now k 0) c.before.before.wide.ensures
+base : (c : tie.After-wide-base) → c.wide-base.result ≡ get_or (Entry c).args.offsets.now (Entry c).args.site 0
+base c = c.wide-base.ensures ∙ ap (λ k. get_or (Entry c).args.offsets.now k 0) c.wide.ensures
 
-copy-ring-requires : tie.Need-copy-ring-requires
-copy-ring-requires c κs =
+copy_ring-requires : tie.Need-copy_ring-requires
+copy_ring-requires c κs =
     let w = Based c.before.before in
     let i = Entry w in
-    let m = i.pre.room in
+    let m = i.requires.room in
     (omega (arith, base w, m.fits.room), omega (arith, m.ends, m.list))
 
-returns : tie.Need-returns
+returns : tie.Need-returns-then-all_inside
 returns c =
-    let k = c.before.before in
-    let t = k.before.before in
-    let a = t.before in
-    let w = Based a in
+    let k = c in
+    let t = k in
+    let a = t in
+    let w = Based a.before.before.before.before.before in
     let i = Entry w in
     record {
       stepped = copied_answer (env_of i.args.f i.args.site) _ _ (get_or i.args.offsets.now i.args.site 0) i.args.f.stage _ i.args.vertices.now
-          i.args.indexes.now i.pre.room (omega (arith, i.pre.some)) (rw t.if1.true at a.all-inside.ensures);
+          i.args.indexes.now i.requires.room (omega (arith, i.requires.some)) (rw t.if-all_inside.true at a.all_inside.ensures);
       faulty = refl;
       is = λ z. none_reused _ _ _ i.args.p.reused;
       steps = stays (env_of i.args.f i.args.site) _ _ (get_or i.args.offsets.now i.args.site 0) i.args.f.stage _ i.args.vertices.now
-          i.args.indexes.now i.pre.room (omega (arith, i.pre.some)) (rw t.if1.true at a.all-inside.ensures) _ (rw (base w) at k.copy-ring.ensures);
+          i.args.indexes.now i.requires.room (omega (arith, i.requires.some)) (rw t.if-all_inside.true at a.all_inside.ensures) _ (rw (base w) at k.copy_ring.ensures);
     }
 
-clip-cell-requires : tie.Need-clip-cell-requires
-clip-cell-requires c κs =
+clip_cell-requires : tie.Need-clip_cell-s-requires
+clip_cell-requires c κs =
     let w = Based c.before.before.before in
     let i = Entry w in
-    (rw (base w) i.pre.room, omega (arith, i.pre.some))
+    (rw (base w) i.requires.room, omega (arith, i.requires.some))
 
-after-ring-requires : tie.Need-after-ring-requires
-after-ring-requires c κs =
-    let k = c.before.before.before.before in
-    let i = Entry (Based k.before.before.before.before) in
-    λ z. (i.pre.few, ring_small _ _ _ _ _ _ _ _ _ _ _ _ k.clip-cell.ensures z (omega (arith, i.pre.room.small)))
+after_ring-requires : tie.Need-after_ring-requires
+after_ring-requires c κs =
+    let k = c in
+    let i = Entry (Based k.before.before.before.before.before.before.before.before) in
+    λ z. (i.requires.few, ring_small _ _ _ _ _ _ _ _ _ _ _ _ k.clip_cell-s.ensures z (omega (arith, i.requires.room.small)))
 
-returns-2 : tie.Need-returns-2
+returns-2 : tie.Need-returns
 returns-2 c =
-    let k = c.before.before.before.before.before in
-    let w = Based k.before.before.before.before in
+    let k = c in
+    let w = Based k.before.before.before.before.before.before.before.before.before in
     record {
-      stepped = k.clip-cell.result;
-      faulty = c.after-ring.ensures.0;
-      is = c.after-ring.ensures.1;
-      steps = rw (base w) at k.clip-cell.ensures;
+      stepped = k.clip_cell-s.result;
+      faulty = c.after_ring.ensures.0;
+      is = c.after_ring.ensures.1;
+      steps = rw (base w) at k.clip_cell-s.ensures;
     }
 
-pub clip-staged-spec : {M : Type 1} → statement M
-clip-staged-spec =
+pub clip_staged_spec : {M : Type 1} → statement M
+clip_staged_spec =
     tie.close
     (tie.spec (λ c κs. search rules) (λ c. search rules) (λ c. search rules) (λ c κs. search rules) (λ c. search rules)
-    (λ c κs. search rules) copy-ring-requires (λ c. search rules) (λ c. search rules) returns clip-cell-requires
-    after-ring-requires (λ c. search rules) (λ c. search rules) returns-2)
+    (λ c κs. search rules) copy_ring-requires (λ c. search rules) (λ c. search rules) returns clip_cell-requires
+    after_ring-requires (λ c. search rules) (λ c. search rules) returns-2)

@@ -8,78 +8,78 @@ use Rattle.cell_builder.specs.turned.laws.TryLoops.{cells_refused, cells_markabl
 use Rattle.cell_builder.proofs.turned.loops.clip_cells.Statement.{statement}
 use Rattle.cell_builder.proofs.turned.loops.clip_cells.Tie as tie
 
-abbrev Entry : tie.After-clip-hull → tie.Start
+abbrev Entry : tie.After-clip_hull-r → tie.Start
 Entry h = h.before.before.before.before.before.before.before.before.before.before
 
-abbrev Planned : tie.After-clip-hull → Plan
+abbrev Planned : tie.After-clip_hull-r → Plan
 Planned h =
     let a = (Entry h).args in
     plan a.triangles.now a.halfedges.now a.hull.now a.table.now a.f a.offsets.now
 
-abbrev Hulls : tie.Else1 → tie.After-clip-hull
+abbrev Hulls : tie.Else-fault-ne0 → tie.After-clip_hull-r
 Hulls e = e.before.before.before.before.before.before.before
 
-abbrev Went : tie.After-mark-outside → tie.Else1
-Went o = o.before.before.before.before
+abbrev Went : tie.After-mark_outside → tie.Else-fault-ne0
+Went o = o.before.before.before
 
-abbrev Outside : tie.After-mark-hulls → tie.After-mark-outside
-Outside k = k.before.before.before
+abbrev Outside : tie.After-mark_hulls → tie.After-mark_outside
+Outside k = k.before.before
 
 -- the table entry of the site that entry i of the triangle list names
-abbrev Entries : tie.After-clip-hull → ℕ → ℕ
+abbrev Entries : tie.After-clip_hull-r → ℕ → ℕ
 Entries h i = let a = (Entry h).args in get_or a.table.now (get_or a.triangles.now i 0) 0
 
-returns : tie.Need-returns
+returns : tie.Need-returns-then-fault-ne0
 returns c =
-    let h = c.before.before.before.before.before.before.before in
-    cells_refused (Planned h) _ _ _ _ _ _ h.clip-hull.ensures c.if1.true _
+    let h = c in
+    cells_refused (Planned h.before.before.before.before.before.before.before) _ _ _ _ _ _ h.clip_hull-r.ensures c.if-fault-ne0.true _
 
-mark-outside-requires : tie.Need-mark-outside-requires
-mark-outside-requires c κs =
-    let e = c.before.before.before in
-    let h = Hulls e in
-    cells_markable (Planned h) _ _ _ _ _ _ h.clip-hull.ensures e.if1.false (Entry h).pre.0
+mark_outside-requires : tie.Need-mark_outside-requires
+mark_outside-requires c κs =
+    let e = c in
+    let h = Hulls e.before.before in
+    cells_markable (Planned h) _ _ _ _ _ _ h.clip_hull-r.ensures e.if-fault-ne0.false (Entry h).requires.0
 
-mark-hulls-requires : tie.Need-mark-hulls-requires
-mark-hulls-requires c κs =
-    let e = Went c.before.before in
+mark_hulls-requires : tie.Need-mark_hulls-requires
+mark_hulls-requires c κs =
+    let e = Went c.before in
     let h = Hulls e in
-    cells_walks (Planned h) _ _ _ _ _ _ h.clip-hull.ensures e.if1.left (Entry h).pre.0
+    cells_walks (Planned h) _ _ _ _ _ _ h.clip_hull-r.ensures e.if-fault-ne0.false (Entry h).requires.0
 
-clip-rest-requires : tie.Need-clip-rest-requires
-clip-rest-requires c κs =
-    let e = Went (Outside c.before.before.before) in
+clip_rest-requires : tie.Need-clip_rest-requires
+clip_rest-requires c κs =
+    let e = Went (Outside c.before.before) in
     let h = Hulls e in
-    ((Entry h).args.hull.now, cells_amid (Planned h) _ _ _ _ _ _ h.clip-hull.ensures e.if1.left (Entry h).pre.0)
+    ((Entry h).args.hull.now, cells_amid (Planned h) _ _ _ _ _ _ h.clip_hull-r.ensures e.if-fault-ne0.false (Entry h).requires.0)
 
 -- the slices keep their lengths, in the hull's tries and in the rest's
-abbrev First : tie.After-clip-rest → tie.Else1
-First t = Went (Outside t.before.before.before.before)
+abbrev First : tie.After-clip_rest → tie.Else-fault-ne0
+First t = Went (Outside t.before.before.before)
 
-same-length-3 : tie.Need-same-length-3
-same-length-3 c =
-    let x = c.before.before.before in
-    x.vertices2.given ∙ (First x.before).before.before.before.before.before.before.vertices.given
+same_length-3 : tie.Need-shape_of-vertices
+same_length-3 c =
+    let x = c in
+    x.vertices-2-1.given ∙ (First x.before.before.before.before).vertices-1.given
 
-same-length-4 : tie.Need-same-length-4
-same-length-4 c =
-    let x = c.before in
-    x.indexes2.given ∙ (First x.before.before.before).before.before.before.before.indexes.given
+same_length-4 : tie.Need-shape_of-indexes
+same_length-4 c =
+    let x = c in
+    x.indexes-2-1.given ∙ (First x.before.before.before.before).indexes-1.given
 
-returns-2 : tie.Need-returns-2
+returns-2 : tie.Need-returns
 returns-2 c =
-    let t = c.before.before.before.before in
-    let k = t.before.before.before.before in
-    let o = Outside k in
+    let t = c in
+    let k = t in
+    let o = Outside k.before.before.before.before.before.before.before in
     let e = Went o in
     let h = Hulls e in
-    let m = o.mark-outside.ensures (Entry h).pre.1 in
-    let w = k.mark-hulls.ensures m.0 in
-    cells_end (Planned h) _ _ _ _ _ _ h.clip-hull.ensures e.if1.left _ w.told (λ i l z. w.stay (Entries h i) (m.1 i l z)) _ _ _
-    (t.clip-rest.ensures (Entry h).args.hull.now)
+    let m = o.mark_outside.ensures (Entry h).requires.1 in
+    let w = k.mark_hulls.ensures m.0 in
+    cells_end (Planned h) _ _ _ _ _ _ h.clip_hull-r.ensures e.if-fault-ne0.false _ w.told (λ i l z. w.stay (Entries h i) (m.1 i l z)) _ _ _
+    (t.clip_rest.ensures (Entry h).args.hull.now)
 
-pub clip-cells-spec : {M : Type 1} → statement M
-clip-cells-spec =
+pub clip_cells_spec : {M : Type 1} → statement M
+clip_cells_spec =
     tie.close
-    (tie.spec (λ c κs. search rules) (λ c. search rules) (λ c. search rules) returns mark-outside-requires mark-hulls-requires clip-rest-requires
-    same-length-3 same-length-4 returns-2)
+    (tie.spec (λ c κs. search rules) (λ c. search rules) (λ c. search rules) returns mark_outside-requires mark_hulls-requires clip_rest-requires
+    same_length-3 same_length-4 returns-2)

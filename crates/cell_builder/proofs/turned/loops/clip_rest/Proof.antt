@@ -15,91 +15,91 @@ use Rattle.cell_builder.specs.turned.laws.Passing.{edges_pass, edges_first, edge
 use Rattle.cell_builder.proofs.turned.loops.clip_rest.Statement.{statement}
 use Rattle.cell_builder.proofs.turned.loops.clip_rest.Tie as tie
 
-abbrev invariant-loop : tie.invariant-loop
+abbrev invariant-loop : tie.invariant-loop-e
 invariant-loop triangles halfedges table marks v₀ ix₀ off f at₀ e₀ v ix at e =
     (length v ≡ length v₀) × (length ix ≡ length ix₀) × ((hull : List ℕ) → EdgesAlong (plan triangles halfedges hull table f off) marks at₀ v₀ ix₀ e at v ix)
     × (e < length triangles → (due_of triangles halfedges table e ≡ true) × (mark_of marks e ≢ 0)) × (e ≤ length triangles)
 
-abbrev decreases-loop : tie.decreases-loop
+abbrev decreases-loop : tie.decreases-loop-e
 decreases-loop triangles halfedges table marks v₀ ix₀ off f at₀ e₀ v ix at e = length triangles - e
 
-abbrev Entry : tie.At-loop invariant-loop decreases-loop → tie.Start invariant-loop decreases-loop
+abbrev Entry : tie.At-loop-e invariant-loop decreases-loop → tie.Start invariant-loop decreases-loop
 Entry l = l.before.before.before.before.before.before.before.before
 
-abbrev Loop : tie.After-clip-due invariant-loop decreases-loop → tie.At-loop invariant-loop decreases-loop
+abbrev Loop : tie.After-clip_due-r invariant-loop decreases-loop → tie.At-loop-e invariant-loop decreases-loop
 Loop t = t.before.before.before.before
 
-next-due-requires : tie.Need-next-due-requires invariant-loop decreases-loop
-next-due-requires c κs = let s = c.before.before.before.before.before.before in (edges_entries _ _ _ _ s.requires.1, omega arith)
+next_due-requires : tie.Need-next_due-e-requires invariant-loop decreases-loop
+next_due-requires c κs = let s = c in (edges_entries _ _ _ _ s.requires.1, omega arith)
 
-loop-holds : tie.Need-loop-init invariant-loop decreases-loop
-loop-holds c = (refl, refl, λ hull. edges_first _ _ _ _ _ _ c.next-due.ensures, c.next-due.ensures.due, c.next-due.ensures.high)
+loop-holds : tie.Need-loop-e-init invariant-loop decreases-loop
+loop-holds c = (refl, refl, λ hull. edges_first _ _ _ _ _ _ c.next_due-e.ensures, c.next_due-e.ensures.due, c.next_due-e.ensures.high)
 
-clip-due-requires : tie.Need-clip-due-requires invariant-loop decreases-loop
-clip-due-requires c κs =
-    let l = c.before.before.before in
-    let s = Entry l in
-    (c.before.before.loop-test.true, s.pre.0, edges_amid _ _ _ _ _ _ _ _ _ (l.loop.invariant.2 s.pre.0) s.pre.1)
+clip_due-requires : tie.Need-clip_due-r-requires invariant-loop decreases-loop
+clip_due-requires c κs =
+    let l = c in
+    let s = Entry l.before.before.before in
+    (c.loop-e-test.true, s.requires.0, edges_amid _ _ _ _ _ _ _ _ _ (l.loop-e.invariant.2 s.requires.0) s.requires.1)
 
-same_length : tie.Need-same-length invariant-loop decreases-loop
-same_length c = let v = c.before.before.before.before.before.before in v.vertices.given ∙ (Loop v.before).loop.inv.0
+same_length : tie.Need-shape_of-vertices-then-fault-ne0 invariant-loop decreases-loop
+same_length c = let v = c in v.vertices-1.given ∙ (Loop v.before.before.before.before.before.before.before).loop-e.invariant.0
 
-same-length-2 : tie.Need-same-length-2 invariant-loop decreases-loop
-same-length-2 c = let x = c.before.before.before.before in x.indexes.given ∙ (Loop x.before.before.before).loop.inv.1
+same_length-2 : tie.Need-shape_of-indexes-then-fault-ne0 invariant-loop decreases-loop
+same_length-2 c = let x = c in x.indexes-1.given ∙ (Loop x.before.before.before.before.before.before.before).loop-e.invariant.1
 
-returns : tie.Need-returns invariant-loop decreases-loop
+returns : tie.Need-returns-then-fault-ne0 invariant-loop decreases-loop
 returns c =
-    let t = c.before.before.before.before.before.before.before in
-    let l = Loop t in
-    let h = t.before.before.before.loop-test.true in
-    λ hull. edges_refused _ _ _ _ _ _ _ _ _ (l.loop.inv.2 hull) h _ _ _ (t.clip-due.ensures hull)
-    (tried_fits _ _ _ _ _ _ h (l.loop.inv.3 h)) c.if1.true
+    let t = c in
+    let l = Loop t.before.before.before.before.before.before.before in
+    let h = t.loop-e-test.true in
+    λ hull. edges_refused _ _ _ _ _ _ _ _ _ (l.loop-e.invariant.2 hull) h _ _ _ (t.clip_due-r.ensures hull)
+    (tried_fits _ _ _ _ _ _ h (l.loop-e.invariant.3 h)) c.if-fault-ne0.true
 
-add-next-due : tie.Need-overflow-add-next-due invariant-loop decreases-loop
-add-next-due c =
+add-next_due : tie.Need-overflow_add-e invariant-loop decreases-loop
+add-next_due c =
     let l = Loop c.before.before.before.before.before.before.before in
-    omega (arith, (Entry l).pre.1.amid.on.few_entries)
+    omega (arith, (Entry l).requires.1.amid.on.few_entries)
 
-next-due-requires-2 : tie.Need-next-due-requires-2 invariant-loop decreases-loop
-next-due-requires-2 c κs =
-    let t = c.before.before.before.before.before.before.before in
-    (edges_entries _ _ _ _ (Entry (Loop t)).pre.1, omega (arith, t.before.before.before.loop-test.true))
+next_due-requires-2 : tie.Need-next_due-e-requires-in-loop-e invariant-loop decreases-loop
+next_due-requires-2 c κs =
+    let t = c in
+    (edges_entries _ _ _ _ (Entry (Loop t.before.before.before.before.before.before.before)).requires.1, omega (arith, t.loop-e-test.true))
 
-loop-less : tie.Need-loop-smaller invariant-loop decreases-loop
+loop-less : tie.Need-loop-e-smaller invariant-loop decreases-loop
 loop-less c =
-    let o = c.before in
-    let t = o.before.before.before.before.before.before.before in
-    omega (arith, c.next-due2.ensures.low, t.before.before.before.loop-test.true)
+    let o = c in
+    let t = o in
+    omega (arith, c.next_due-e-in-loop-e.ensures.low, t.loop-e-test.true)
 
-loop-again : tie.Need-loop-preserved invariant-loop decreases-loop
+loop-again : tie.Need-loop-e-preserved invariant-loop decreases-loop
 loop-again c =
-    let o = c.before in
-    let x = o.before.before.before.before in
-    let v = x.before.before in
-    let t = v.before in
-    let l = Loop t in
-    let n = c.next-due2.ensures in
-    let h = t.before.before.before.loop-test.true in (
-      v.vertices.given ∙ l.loop.inv.0,
-      x.indexes.given ∙ l.loop.inv.1,
+    let o = c in
+    let x = o in
+    let v = x in
+    let t = v in
+    let l = Loop t.before.before.before.before.before.before.before.before in
+    let n = c.next_due-e-in-loop-e.ensures in
+    let h = t.loop-e-test.true in (
+      v.vertices-1.given ∙ l.loop-e.invariant.0,
+      x.indexes-1.given ∙ l.loop-e.invariant.1,
       λ hull. edges_pass _ _ _ _ _ _ _ _ _ _ n
-          (edges_step _ _ _ _ _ _ _ _ _ (l.loop.inv.2 hull) h _ _ _ (t.clip-due.ensures hull)
-          (tried_fits _ _ _ _ _ _ h (l.loop.inv.3 h)) o.if1.false),
+          (edges_step _ _ _ _ _ _ _ _ _ (l.loop-e.invariant.2 hull) h _ _ _ (t.clip_due-r.ensures hull)
+          (tried_fits _ _ _ _ _ _ h (l.loop-e.invariant.3 h)) o.if-fault-ne0.false),
       n.due,
       n.high,
     )
 
-same-length-3 : tie.Need-same-length-3 invariant-loop decreases-loop
-same-length-3 c = c.before.loop.invariant.0
+same_length-3 : tie.Need-shape_of-vertices invariant-loop decreases-loop
+same_length-3 c = c.loop-e.invariant.0
 
-same-length-4 : tie.Need-same-length-4 invariant-loop decreases-loop
-same-length-4 c = c.before.loop.invariant.1
+same_length-4 : tie.Need-shape_of-indexes invariant-loop decreases-loop
+same_length-4 c = c.loop-e.invariant.1
 
-returns-2 : tie.Need-returns-2 invariant-loop decreases-loop
-returns-2 c = let l = c.before in λ hull. edges_end _ _ _ _ _ _ _ _ _ (l.loop.invariant.2 hull) (omega (arith, c.loop-test.false, l.loop.invariant.4))
+returns-2 : tie.Need-returns invariant-loop decreases-loop
+returns-2 c = let l = c in λ hull. edges_end _ _ _ _ _ _ _ _ _ (l.loop-e.invariant.2 hull) (omega (arith, c.loop-e-test.false, l.loop-e.invariant.4))
 
-pub clip-rest-spec : {M : Type 1} → statement M
-clip-rest-spec =
+pub clip_rest_spec : {M : Type 1} → statement M
+clip_rest_spec =
     tie.close
-    (tie.spec invariant-loop decreases-loop next-due-requires loop-holds clip-due-requires same_length same-length-2 returns add-next-due next-due-requires-2 loop-less
-    loop-again same-length-3 same-length-4 returns-2)
+    (tie.spec invariant-loop decreases-loop next_due-requires loop-holds clip_due-requires same_length same_length-2 returns add-next_due next_due-requires-2 loop-less
+    loop-again same_length-3 same_length-4 returns-2)

@@ -6,7 +6,7 @@ use Rattle.cell_builder.proofs.turned.turns.unmarked.Statement.{statement}
 use Rattle.cell_builder.proofs.turned.turns.unmarked.Tie as tie
 
 returns : tie.Need-returns
-returns c = let a = c.before.args in unmarked_says a.marks.now a.e _ refl
+returns c = let a = c.args in unmarked_says a.marks.now a.e _ refl
 
-pub unmarked-spec : {M : Type 1} → statement M
-unmarked-spec = tie.close (tie.spec (λ c. search rules) returns)
+pub unmarked_spec : {M : Type 1} → statement M
+unmarked_spec = tie.close (tie.spec (λ c. search rules) returns)
