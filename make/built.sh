@@ -12,7 +12,8 @@ programs="cells export why mend nearest audit certify"
 installed=
 [ ! -f "$root/installed" ] || installed=$(cd "$root/../.." && pwd)
 
-# one number for all that the files of dist/ are made of: crates/, crates.txt, mesh/ where it is there, and the kit's name, which is in the file $1
+# one number for all that the files of dist/ are made of: crates/ without what rt keeps in out/, crates.txt, mesh/ where it is there, and the kit's name, which is in
+# the file $1
 sum_of_sources() {
     (
         cd "$root" || exit
@@ -21,7 +22,7 @@ sum_of_sources() {
         kit=$1
         shift
         {
-            find "$@" -type f -print0 | LC_ALL=C sort -z | xargs -0 sha256sum
+            find "$@" -path 'crates/*/out' -prune -o -type f -print0 | LC_ALL=C sort -z | xargs -0 sha256sum
             cat "$kit"
         } | sha256sum | cut -d ' ' -f 1
     )

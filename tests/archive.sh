@@ -7,21 +7,20 @@
 #   tests/archive.sh keep PROGRAM FILE.c..    the same, but a program that is newer than the archive, the header and its files is kept
 #   tests/archive.sh run PROGRAM WORD..       runs it
 #
-# The archive is for x86-64. On such a machine gcc builds the program; on another the toolchain's own clang, C library and emulator do, unless
+# The archive is for x86-64. On such a machine gcc builds the program; on another the toolchain's own clang and C library do, and qemu-x86_64 runs it, unless
 # ARCHIVE names one for that machine (tests/native.sh): then gcc builds there too, and the program runs by itself.
 # The toolchain has no headers of its C library, so the C files use none but stddef.h and stdint.h, and declare what they call.
 # A program that runs under the emulator is compiled with -DEMULATED. Another archive is taken where ARCHIVE names it; MORE_FLAGS has more words for the compiler.
 set -eu
 root=$(cd "$(dirname "$0")/.." && pwd)
-kit=${RATTLE_HOME:-$(dirname "$(dirname "$(readlink -f "$(command -v rt)")")")}
-tools=$kit/on/$(uname -m)/toolchain
+tools=$(dirname "$(dirname "$(readlink -f "$(command -v rt)")")")/toolchain
 archive=${ARCHIVE:-$root/target/staticlib/libvoronoi.a}
 flags="-std=c11 -O2 -ffreestanding -fno-math-errno -Wall -Wextra -Werror ${MORE_FLAGS-}"
 
 make_archive() {
     if [ -n "${ARCHIVE-}" ]; then return; fi
     # one that ./yelmuzard took from dist/ is none that was proved here
-    if [ ! -f "$archive" ] || { [ -n "${YELMUZARD_PROVE-}" ] && [ -e "$archive.dist" ]; } || [ -n "$(find "$root/crates" "$root/crates.txt" -newer "$archive" | head -n 1)" ]; then
+    if [ ! -f "$archive" ] || { [ -n "${YELMUZARD_PROVE-}" ] && [ -e "$archive.dist" ]; } || [ -n "$(find "$root/crates" "$root/crates.txt" -path '*/out' -prune -o -type f -newer "$archive" -print | head -n 1)" ]; then
         sh "$root/tests/prove.sh" staticlib voronoi
         rm -f "$archive.dist"
         touch "$archive"
@@ -85,7 +84,7 @@ run)
     [ $# -ge 2 ] || { usage >&2 && exit 2; }
     shift
     if [ "$(uname -m)" = x86_64 ] || ! for_x86 "$1"; then exec "$@"; fi
-    exec "$tools/bin/qemu-x86_64" "$tools/lib/ld-linux-x86-64.so.2" --library-path "$tools/lib" "$@"
+    exec qemu-x86_64 "$tools/lib/ld-linux-x86-64.so.2" --library-path "$tools/lib" "$@"
     ;;
 --help | -h) usage ;;
 *)

@@ -31,23 +31,25 @@ says() { # STATUS CRATE [WORD WORD], what must be said on standard input, a patt
     }
 }
 
-numbers='ghost use mathlib.Core.Path.{_≡_};
+numbers='#![tactic(auto)]
+
+ghost use Rattle.std.specs.Prelude.{◌≡◌};
 
 pub fn seven() -> usize
-    ensures { λ r. ⌜ r ≡ 7 ⌝ }
+    ensures { result ≡ 7 }
 {
     7
 }
 
 pub fn eight() -> usize
-    ensures { λ r. ⌜ r ≡ 8 ⌝ }
+    ensures { result ≡ 8 }
 {
     8
 }'
 echo "$numbers" | crate good lib.rt
 edit good/six lib.rt '    7' '    6' '    0x7'
 edit good/nine lib.rt '    8' '    9' '    0x8'
-edit good/six_promised lib.rt 'r ≡ 7' 'r ≡ 6'
+edit good/six_promised lib.rt 'result ≡ 7' 'result ≡ 6'
 
 # each kind of failure, and beside them an edit that is refused
 echo "$numbers" | crate bad lib.rt
@@ -63,64 +65,57 @@ echo "$numbers" | crate above lib.rt
 edit above/nine lib.rt '    8' '    9'
 
 crate program main.rt <<'END'
-ghost use mathlib.Core.Path.{_≡_};
+#![tactic(auto)]
+
+ghost use Rattle.std.specs.Prelude.{◌≡◌};
 
 fn one_more() -> usize
-    ensures { λ r. ⌜ r ≡ 7 ⌝ }
+    ensures { result ≡ 7 }
 {
     good::seven()
 }
 
 fn main() {
-    one_more();
+    let _n = one_more();
 }
 END
 edit program/eight main.rt '    good::seven()' '    good::eight()'
 
-# beside rt, as tests/all has it: a library is tried once it is proved
-{
-    (cd "$folder" && rt check good bad) >"$folder/log" 2>&1 || echo "rt check failed" >>"$folder/log"
-    : >"$folder/ended"
-} &
-says 0 good --beside "$folder/ended" <<'END'
-good: 3 edits and 2 twins in 3 checks, from [1-9][0-9]* modules that rt proved
-good/nine: refused, as it must be, with 1 others
-good/six: refused, as it must be, with 1 others
-good/six_promised: refused, as it must be (
+says 0 good <<'END'
+good: proved as it stands ([0-9]* modules loaded, [0-9]* checked); 3 edits and 2 twins
+good/nine: refused, as it must be
+good/six: refused, as it must be
+good/six_promised: refused, as it must be
 good/six, twin 1: proved, as it must be, with 1 others
-good: proved with all edits taken back (
-3 refused, 2 twins proved, 1 of 1 crates proved again, 0 failed
+good: 3 edits and 2 twins took [0-9]* s
+3 refused, 2 twins proved, 1 of 1 crates tried, 0 failed, 0 not tried
 END
-wait
-if grep 'rt check failed' "$folder/log"; then
-    cat "$folder/log"
-    exit 1
-fi
 says 0 program <<'END'
-program: 1 edits and 0 twins in 1 checks, from nothing
-program/eight: refused, as it must be (
-1 refused, 0 twins proved, 1 of 1 crates proved again, 0 failed
+program: proved as it stands ([0-9]* modules loaded, [0-9]* checked); 1 edits and 0 twins
+program/eight: refused, as it must be
+1 refused, 0 twins proved, 1 of 1 crates tried, 0 failed, 0 not tried
 END
 says 1 bad <<'END'
 bad/not_there: FAILED: its 'old:' text stands 0 times in src/lib.rt
 bad/harmless: FAILED: not refused: the crate is still proved with this edit
 bad/no_program: FAILED: it did not reach the prover
-bad/nine: refused, as it must be (
-bad/twin: refused, as it must be (
+bad/nine: refused, as it must be
+bad/twin: refused, as it must be
 bad/twin, twin 1: FAILED: a neutral twin that is not proved
-2 refused, 0 twins proved, 1 of 1 crates proved again, 4 failed
+2 refused, 0 twins proved, 1 of 1 crates tried, 4 failed
 END
 says 1 broken <<'END'
-broken: FAILED: not proved when its edits are taken back
-1 refused, 0 twins proved, 0 of 1 crates proved again, 1 failed
+broken: FAILED: it, or what it is made of, is not proved
+0 refused, 0 twins proved, 0 of 1 crates tried, 1 failed
 END
 says 1 above <<'END'
-above/nine: FAILED: it did not reach the prover
-above: FAILED: not proved when its edits are taken back
-0 refused, 0 twins proved, 0 of 1 crates proved again, 2 failed
+above: FAILED: it, or what it is made of, is not proved
+0 refused, 0 twins proved, 0 of 1 crates tried, 1 failed
 END
-says 1 broken --beside "$folder/ended" <<'END'
-broken: FAILED: it, or what it is made of, is not proved
-0 refused, 0 twins proved, 0 of 1 crates proved again, 1 failed
+# the other way, and one twin at a time
+says 0 good/six --singly --from-nothing <<'END'
+good/six: refused, as it must be
+good/six, twin 1: proved, as it must be (
+1 refused, 1 twins proved, 1 of 1 crates tried, 0 failed, 0 not tried
 END
 echo "make/edits: 6 runs on five small crates, what is as it must be and each kind of failure said to be so"

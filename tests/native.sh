@@ -5,17 +5,17 @@
 #   tests/native.sh             for this machine
 #   tests/native.sh MACHINE     for another, as `uname -m` names it there (aarch64): target/native-MACHINE/libvoronoi.a
 #
-# The toolchain compiles for x86-64 alone. It is seen here through a folder of links in which clang is a script that also keeps its input,
-# the module made of the proved crates; the same clang then compiles that module for the machine, with no operation fused (-ffp-contract=off).
+# rt compiles for x86-64 alone. It is run here from a folder of links to the toolchain in which clang is a script that also keeps its input, the module made of
+# the proved crates; the same clang then compiles that module for the machine, with no operation fused (-ffp-contract=off).
 . "$(dirname "$0")/head.sh"
 root=$(pwd)
-kit=${RATTLE_HOME:-$(dirname "$(dirname "$(readlink -f "$(command -v rt)")")")}
+kit=$(dirname "$(dirname "$(readlink -f "$(command -v rt)")")")
 machine=$(uname -m)
 target=${1:-$machine}
 made=$root/target/native
 [ "$target" = "$machine" ] || made=$made-$target
 module=$root/target/native/module.bc
-clang=$kit/on/$machine/toolchain/bin/clang
+clang=$kit/toolchain/bin/clang
 mkdir -p "$made" "$root/target/native"
 
 link() { # the entries of folder $1 into folder $2, but for the name $3
@@ -25,26 +25,28 @@ link() { # the entries of folder $1 into folder $2, but for the name $3
 }
 
 keep_module() {
-    seen=$root/target/native/kit
-    rm -rf "$seen"
-    mkdir -p "$seen/on/$machine/toolchain/bin"
-    link "$kit" "$seen" on
-    link "$kit/on" "$seen/on" "$machine"
-    link "$kit/on/$machine" "$seen/on/$machine" toolchain
-    link "$kit/on/$machine/toolchain" "$seen/on/$machine/toolchain" bin
-    link "$kit/on/$machine/toolchain/bin" "$seen/on/$machine/toolchain/bin" clang
-    cat >"$seen/on/$machine/toolchain/bin/clang" <<END_OF_CLANG
+    seen=$(mktemp -d)/kit
+    trap 'rm -rf "$(dirname "$seen")"' EXIT
+    mkdir -p "$seen/bin" "$seen/toolchain/bin"
+    for entry in "$kit"/*; do
+        case $entry in */bin | */toolchain) ;; *) ln -s "$entry" "$seen/" ;; esac
+    done
+    link "$kit/bin" "$seen/bin" none
+    # rt finds its toolchain beside its own file
+    for file in rt rtlib.py; do rm "$seen/bin/$file" && cp "$kit/bin/$file" "$seen/bin/"; done
+    link "$kit/toolchain" "$seen/toolchain" bin
+    link "$kit/toolchain/bin" "$seen/toolchain/bin" clang
+    cat >"$seen/toolchain/bin/clang" <<END_OF_CLANG
 #!/bin/sh
 for word in "\$@"; do case \$word in *.bc) cp "\$word" "$module" ;; esac; done
 exec "$clang" "\$@"
 END_OF_CLANG
-    chmod +x "$seen/on/$machine/toolchain/bin/clang"
-    RATTLE_HOME=$seen sh "$root/tests/prove.sh" staticlib voronoi
-    rm -rf "$seen"
+    chmod +x "$seen/toolchain/bin/clang"
+    PATH=$seen/bin:$PATH sh "$root/tests/prove.sh" staticlib voronoi
     touch "$module"
 }
 
-if [ ! -f "$module" ] || [ -n "$(find "$root/crates" "$root/crates.txt" -newer "$module" | head -n 1)" ]; then
+if [ ! -f "$module" ] || [ -n "$(find "$root/crates" "$root/crates.txt" -path '*/out' -prune -o -type f -newer "$module" -print | head -n 1)" ]; then
     keep_module
 fi
 if [ ! -f "$made/libvoronoi.a" ] || [ -n "$(find "$module" -newer "$made/libvoronoi.a")" ]; then

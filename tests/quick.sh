@@ -30,7 +30,6 @@ scripts_run() {
     done
 }
 
-check "rt fmt" rt fmt --check
 if command -v shellcheck >/dev/null; then
     check shellcheck shellcheck -x -P SCRIPTDIR yelmuzard .ci/run make/built.sh make/dist make/install make/man make/prove make/release make/shared tests/all tests/*.sh tests/*/*.sh harness/*.sh
 else

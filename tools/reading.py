@@ -38,7 +38,7 @@ def crates(root):
         line = line.split("#")[0].strip()
         if line:
             name, deps = line.split(":")
-            out[name.strip()] = deps.split()
+            out[name.split()[0]] = deps.split()
     return out
 
 

@@ -102,9 +102,7 @@ cd "$here"
 [ -z "$proved" ] || export YELMUZARD_PROVED="$proved"
 copy=$folder/copy
 mkdir "$copy"
-for entry in *; do
-    [ "$entry" = target ] || cp -a "$entry" "$copy/"
-done
+tar -cf - --exclude=./target --exclude=./.git --exclude='./crates/*/out' . | tar -xf - -C "$copy"
 sh make/dist --into "$copy/dist/x86_64-linux"
 rm "$bin/uname"
 for program in uname ls ogr2ogr; do

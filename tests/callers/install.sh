@@ -39,10 +39,9 @@ for program in sh cat sed awk head tail tr od cmp cut grep mktemp rm mkdir dirna
 done
 [ ! -x /usr/bin/python3 ] || ln -s /usr/bin/python3 "$bin/python3"
 if [ "$(uname -m)" != x86_64 ]; then
-    # the programs over forms are for x86-64: the toolchain's emulator and C library stand in for qemu-user's
-    kit=${RATTLE_HOME:-$(dirname "$(dirname "$(readlink -f "$(command -v rt)")")")}
-    tools=$kit/on/$(uname -m)/toolchain
-    printf '#!/bin/sh\nexec "%s/bin/qemu-x86_64" "%s/lib/ld-linux-x86-64.so.2" --library-path "%s/lib" "$@"\n' "$tools" "$tools" "$tools" >"$bin/qemu-x86_64"
+    # the programs over forms are for x86-64: the toolchain's C library stands in for qemu-user's
+    tools=$(dirname "$(dirname "$(readlink -f "$(command -v rt)")")")/toolchain
+    printf '#!/bin/sh\nexec "%s" "%s/lib/ld-linux-x86-64.so.2" --library-path "%s/lib" "$@"\n' "$(command -v qemu-x86_64)" "$tools" "$tools" >"$bin/qemu-x86_64"
     chmod +x "$bin/qemu-x86_64"
 fi
 bare() { (cd "$folder" && env -i PATH="$bin" HOME="$folder" "$@"); }

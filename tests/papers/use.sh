@@ -10,9 +10,7 @@ export YELMUZARD_LIBRARY="$library"
 folder=$(mktemp -d)
 trap 'rm -rf "$folder"' EXIT
 mkdir "$folder/copy"
-for entry in * .ci; do
-    [ "$entry" = target ] || cp -a "$entry" "$folder/copy/"
-done
+tar -cf - --exclude=./target --exclude=./.git --exclude='./crates/*/out' . | tar -xf - -C "$folder/copy"
 mkdir -p target
 ln -s "$root/target" "$folder/copy/target"
 run=0

@@ -4,8 +4,7 @@ ghost use Rattle.plane.specs.given.Given.{by_size};
 ghost use Rattle.voronoi.specs.Audits.{Audit};
 
 // The five numbers are always written: EMPTY and 0 where it is refused.
-#[unsafe(no_mangle)]
-pub extern "C" fn voronoi_audit(
+pub fn voronoi_audit(
     cx: f64,
     cy: f64,
     width: f64,

@@ -7,8 +7,7 @@ ghost use Rattle.admission.specs.Slices.{slices};
 ghost use Rattle.voronoi.specs.Builds.{Build, Cell, CellPart};
 
 // The cells of all sites, clipped to the box of the center (cx, cy), width and height.
-#[unsafe(no_mangle)]
-pub extern "C" fn voronoi_build(
+pub fn voronoi_build(
     cx: f64,
     cy: f64,
     width: f64,
@@ -41,8 +40,7 @@ pub fn cell<'a>(offsets: &[u32], indexes: &'a [u32], site: u32, number: &mut u32
 }
 
 // The same as numbers: where the cell starts in the index list, and its length.
-#[unsafe(no_mangle)]
-pub extern "C" fn voronoi_cell(
+pub fn voronoi_cell(
     offsets: &[u32],
     indexes: &[u32],
     site: u32,

@@ -3,8 +3,7 @@ ghost use Rattle.mesh.specs.Accepted.{mesh};
 ghost use Rattle.voronoi.specs.Bulk.{AllNeighbours, EndsOfPaths};
 
 // The lists of `voronoi_clipped_neighbours` of every site, one after the other, cut by `starts`; with no cells lent those of `voronoi_neighbours`.
-#[unsafe(no_mangle)]
-pub extern "C" fn voronoi_all_neighbours(
+pub fn voronoi_all_neighbours(
     sites: &[f64],
     triangles: &[u32],
     halfedges: &[u32],
@@ -24,8 +23,7 @@ pub extern "C" fn voronoi_all_neighbours(
 }
 
 // The last site of the path to each point, the first path from `site`, each next from the last end.
-#[unsafe(no_mangle)]
-pub extern "C" fn voronoi_ends(
+pub fn voronoi_ends(
     sites: &[f64],
     triangles: &[u32],
     halfedges: &[u32],

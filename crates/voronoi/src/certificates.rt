@@ -5,8 +5,7 @@ ghost use Rattle.plane.specs.given.Given.{by_size, by_edges};
 ghost use Rattle.voronoi.specs.Certificates.{Certify};
 
 // In the box of the center (cx, cy), width and height.
-#[unsafe(no_mangle)]
-pub extern "C" fn voronoi_certify(
+pub fn voronoi_certify(
     cx: f64,
     cy: f64,
     width: f64,
@@ -35,8 +34,7 @@ pub extern "C" fn voronoi_certify(
 }
 
 // The same in the box of four edges.
-#[unsafe(no_mangle)]
-pub extern "C" fn voronoi_certify_by_edges(
+pub fn voronoi_certify_by_edges(
     left: f64,
     top: f64,
     right: f64,

@@ -7,8 +7,7 @@ ghost use Rattle.cutting_calls.specs.cut_admission.CutSlices.{cut_slices};
 ghost use Rattle.voronoi.specs.Cuts.{Cut};
 
 // The pieces of all sites, cut by the sides of the box of the center (cx, cy), width and height.
-#[unsafe(no_mangle)]
-pub extern "C" fn voronoi_cut(
+pub fn voronoi_cut(
     cx: f64,
     cy: f64,
     width: f64,
@@ -36,8 +35,7 @@ pub extern "C" fn voronoi_cut(
 }
 
 // The same in the box of four edges.
-#[unsafe(no_mangle)]
-pub extern "C" fn voronoi_cut_by_edges(
+pub fn voronoi_cut_by_edges(
     left: f64,
     top: f64,
     right: f64,

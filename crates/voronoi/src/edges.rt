@@ -15,8 +15,7 @@ ghost use Rattle.voronoi.specs.Audits.{Audit};
 use plane::points::Point;
 
 // The box's center, left + (right - left) / 2 and down likewise, and its width and height.
-#[unsafe(no_mangle)]
-pub extern "C" fn voronoi_box_by_edges(
+pub fn voronoi_box_by_edges(
     left: f64,
     top: f64,
     right: f64,
@@ -38,8 +37,7 @@ pub extern "C" fn voronoi_box_by_edges(
 }
 
 // The corners, top left, bottom left, bottom right, top right, x and y each, into a slice of 8 or more, whose rest is cleared; 2, then 3.
-#[unsafe(no_mangle)]
-pub extern "C" fn voronoi_corners_by_edges(
+pub fn voronoi_corners_by_edges(
     left: f64,
     top: f64,
     right: f64,
@@ -53,8 +51,7 @@ pub extern "C" fn voronoi_corners_by_edges(
 }
 
 // Whether (x, y) is inside the box or on its edges: 1 or 0.
-#[unsafe(no_mangle)]
-pub extern "C" fn voronoi_is_inside_by_edges(
+pub fn voronoi_is_inside_by_edges(
     left: f64,
     top: f64,
     right: f64,
@@ -73,8 +70,7 @@ pub extern "C" fn voronoi_is_inside_by_edges(
 }
 
 // The same, and within tolerance of no side's line.
-#[unsafe(no_mangle)]
-pub extern "C" fn voronoi_is_exclusively_inside_by_edges(
+pub fn voronoi_is_exclusively_inside_by_edges(
     left: f64,
     top: f64,
     right: f64,
@@ -93,8 +89,7 @@ pub extern "C" fn voronoi_is_exclusively_inside_by_edges(
 }
 
 // The side that (x, y) is on: top 0, bottom 2, right 3, left 1, the first within tolerance; EMPTY for none.
-#[unsafe(no_mangle)]
-pub extern "C" fn voronoi_which_edge_by_edges(
+pub fn voronoi_which_edge_by_edges(
     left: f64,
     top: f64,
     right: f64,
@@ -113,8 +108,7 @@ pub extern "C" fn voronoi_which_edge_by_edges(
 }
 
 // Where the line through two points meets the box: how many points, 0 to 2, and their coordinates, 0 where there is none.
-#[unsafe(no_mangle)]
-pub extern "C" fn voronoi_intersect_line_by_edges(
+pub fn voronoi_intersect_line_by_edges(
     left: f64,
     top: f64,
     right: f64,
@@ -145,8 +139,7 @@ pub extern "C" fn voronoi_intersect_line_by_edges(
 }
 
 // The same of the ray from (px, py) in the direction (dx, dy), in the ray's order.
-#[unsafe(no_mangle)]
-pub extern "C" fn voronoi_project_ray_by_edges(
+pub fn voronoi_project_ray_by_edges(
     left: f64,
     top: f64,
     right: f64,
@@ -177,8 +170,7 @@ pub extern "C" fn voronoi_project_ray_by_edges(
 }
 
 // The cells of all sites, clipped to the box of these edges.
-#[unsafe(no_mangle)]
-pub extern "C" fn voronoi_build_by_edges(
+pub fn voronoi_build_by_edges(
     left: f64,
     top: f64,
     right: f64,
@@ -204,8 +196,7 @@ pub extern "C" fn voronoi_build_by_edges(
 }
 
 // asked: 0 nothing, 1 about the site `first`, more about `second` as a neighbour of `first`. The kind and the places are always written.
-#[unsafe(no_mangle)]
-pub extern "C" fn voronoi_why_by_edges(
+pub fn voronoi_why_by_edges(
     left: f64,
     top: f64,
     right: f64,
@@ -240,8 +231,7 @@ pub extern "C" fn voronoi_why_by_edges(
 }
 
 // The audit of pieces: the five numbers are always written, EMPTY and 0 where it is refused.
-#[unsafe(no_mangle)]
-pub extern "C" fn voronoi_audit_by_edges(
+pub fn voronoi_audit_by_edges(
     left: f64,
     top: f64,
     right: f64,

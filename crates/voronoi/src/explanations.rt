@@ -7,8 +7,7 @@ ghost use Rattle.reasons.specs.Reason.{tells};
 ghost use Rattle.voronoi.specs.Explanations.{Why};
 
 // asked: 0 nothing, 1 about the site `first`, more about `second` as a neighbour of `first`. The kind and the places are always written.
-#[unsafe(no_mangle)]
-pub extern "C" fn voronoi_why(
+pub fn voronoi_why(
     cx: f64,
     cy: f64,
     width: f64,

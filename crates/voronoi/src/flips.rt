@@ -3,8 +3,7 @@ ghost use Rattle.flipping.specs.call.Flips.{flip_lists};
 ghost use Rattle.voronoi.specs.Flips.{Flip};
 
 // Refused, triangles, half-edges and table are unchanged; the work slice is unchanged after 1 and 2 and `EMPTY` throughout after 7 to 10 and 23.
-#[unsafe(no_mangle)]
-pub extern "C" fn voronoi_flip(
+pub fn voronoi_flip(
     site_count: u32,
     triangles: &mut [u32],
     halfedges: &mut [u32],

@@ -5,16 +5,14 @@ ghost use Rattle.reader.specs.Promise.{answer, report};
 ghost use Rattle.voronoi.specs.Forms.{ReaderBegin, ReaderFeed, ReaderEnd, ReadForm};
 
 // The state in sixteen words, then 0.
-#[unsafe(no_mangle)]
-pub extern "C" fn voronoi_reader_begin(state: &mut [u64]) -> u32
+pub fn voronoi_reader_begin(state: &mut [u64]) -> u32
     ensures { ReaderBegin state.old state.new result }
 {
     reader::begin(state)
 }
 
 // A block of any length. The lists hold the numbers whose last byte has come.
-#[unsafe(no_mangle)]
-pub extern "C" fn voronoi_reader_feed(
+pub fn voronoi_reader_feed(
     state: &mut [u64],
     block: &[u8],
     bounds: &mut [f64],
@@ -31,8 +29,7 @@ pub extern "C" fn voronoi_reader_feed(
 }
 
 // No more will come: the counts and the kind that opened the form, or 17 or 20.
-#[unsafe(no_mangle)]
-pub extern "C" fn voronoi_reader_end(
+pub fn voronoi_reader_end(
     state: &mut [u64],
     clip: &mut u32,
     site_count: &mut u32,
@@ -47,8 +44,7 @@ pub extern "C" fn voronoi_reader_end(
 }
 
 // As begin, one block and end.
-#[unsafe(no_mangle)]
-pub extern "C" fn voronoi_read_form(
+pub fn voronoi_read_form(
     form: &[u8],
     bounds: &mut [f64],
     sites: &mut [f64],

@@ -2,20 +2,14 @@
 ghost use Rattle.voronoi.specs.Gauges.{ReadMultipoint, WriteMultipoint};
 
 // After 0 the output past the sites is +0; refused, it is as it was. The count is always written, 0 when refused.
-#[unsafe(no_mangle)]
-pub extern "C" fn voronoi_read_multipoint(file: &[u8], sites: &mut [f64], count: &mut u32) -> u32
+pub fn voronoi_read_multipoint(file: &[u8], sites: &mut [f64], count: &mut u32) -> u32
     ensures { ReadMultipoint file.now sites.old sites.new count.new result }
 {
     wkb::multipoint::read(file, sites, count)
 }
 
 // Refused, the output is as it was; past the file it always is.
-#[unsafe(no_mangle)]
-pub extern "C" fn voronoi_write_multipoint(
-    sites: &[f64],
-    out: &mut [u8],
-    written: &mut usize,
-) -> u32
+pub fn voronoi_write_multipoint(sites: &[f64], out: &mut [u8], written: &mut usize) -> u32
     ensures { WriteMultipoint sites.now out.old out.new written.new result }
 {
     wkb::multipoint_writer::write(sites, out, written)

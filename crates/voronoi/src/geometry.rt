@@ -11,16 +11,14 @@ ghost use Rattle.voronoi.specs.Plane.{Dist2, Circumcenter, Centroid, Edges, Corn
 use plane::points::Point;
 
 // Whether a and b are within 2^-50 of each other, by the computed difference: 1 or 0. A NaN is within no tolerance.
-#[unsafe(no_mangle)]
-pub extern "C" fn voronoi_abs_diff_eq(a: f64, b: f64) -> u32
+pub fn voronoi_abs_diff_eq(a: f64, b: f64) -> u32
     ensures { result ≡ bit (near_of a b) }
 {
     plane_calls::abs_diff_eq(a, b)
 }
 
 // The squared distance.
-#[unsafe(no_mangle)]
-pub extern "C" fn voronoi_dist2(ax: f64, ay: f64, bx: f64, by: f64, d: &mut f64) -> u32
+pub fn voronoi_dist2(ax: f64, ay: f64, bx: f64, by: f64, d: &mut f64) -> u32
     ensures { Dist2 (at ax ay) (at bx by) result d.new }
 {
     let a = Point { x: ax, y: ay };
@@ -31,8 +29,7 @@ pub extern "C" fn voronoi_dist2(ax: f64, ay: f64, bx: f64, by: f64, d: &mut f64)
 }
 
 // The circumcenter; after 6, 11.
-#[unsafe(no_mangle)]
-pub extern "C" fn voronoi_circumcenter(
+pub fn voronoi_circumcenter(
     ax: f64,
     ay: f64,
     bx: f64,
@@ -54,8 +51,7 @@ pub extern "C" fn voronoi_circumcenter(
 }
 
 // The centroid of 1 to 65,536 points; 1, then 6.
-#[unsafe(no_mangle)]
-pub extern "C" fn voronoi_centroid(points: &[f64], x: &mut f64, y: &mut f64) -> u32
+pub fn voronoi_centroid(points: &[f64], x: &mut f64, y: &mut f64) -> u32
     ensures { Centroid points.now result x.new y.new }
 {
     let r = plane_calls::centroid(points);
@@ -65,8 +61,7 @@ pub extern "C" fn voronoi_centroid(points: &[f64], x: &mut f64, y: &mut f64) -> 
 }
 
 // The box's edges, and its width and height recomputed from them.
-#[unsafe(no_mangle)]
-pub extern "C" fn voronoi_box(
+pub fn voronoi_box(
     cx: f64,
     cy: f64,
     width: f64,
@@ -93,8 +88,7 @@ pub extern "C" fn voronoi_box(
 }
 
 // The corners, top left, bottom left, bottom right, top right, x and y each, into a slice of 8 or more, whose rest is cleared; 2, then 3.
-#[unsafe(no_mangle)]
-pub extern "C" fn voronoi_corners(cx: f64, cy: f64, width: f64, height: f64, out: &mut [f64]) -> u32
+pub fn voronoi_corners(cx: f64, cy: f64, width: f64, height: f64, out: &mut [f64]) -> u32
     ensures { Corners (by_size (at cx cy) width height) out.old result out.new }
 {
     let given = plane::given::by_size(cx, cy, width, height);
@@ -102,8 +96,7 @@ pub extern "C" fn voronoi_corners(cx: f64, cy: f64, width: f64, height: f64, out
 }
 
 // Whether (x, y) is inside the box or on its edges: 1 or 0.
-#[unsafe(no_mangle)]
-pub extern "C" fn voronoi_is_inside(
+pub fn voronoi_is_inside(
     cx: f64,
     cy: f64,
     width: f64,
@@ -122,8 +115,7 @@ pub extern "C" fn voronoi_is_inside(
 }
 
 // The same, and within tolerance of no side's line.
-#[unsafe(no_mangle)]
-pub extern "C" fn voronoi_is_exclusively_inside(
+pub fn voronoi_is_exclusively_inside(
     cx: f64,
     cy: f64,
     width: f64,
@@ -142,8 +134,7 @@ pub extern "C" fn voronoi_is_exclusively_inside(
 }
 
 // The side that (x, y) is on: top 0, bottom 2, right 3, left 1, the first within tolerance; EMPTY for none.
-#[unsafe(no_mangle)]
-pub extern "C" fn voronoi_which_edge(
+pub fn voronoi_which_edge(
     cx: f64,
     cy: f64,
     width: f64,
@@ -162,8 +153,7 @@ pub extern "C" fn voronoi_which_edge(
 }
 
 // Where the line through two points meets the box: how many points, 0 to 2, and their coordinates, 0 where there is none.
-#[unsafe(no_mangle)]
-pub extern "C" fn voronoi_intersect_line(
+pub fn voronoi_intersect_line(
     cx: f64,
     cy: f64,
     width: f64,
@@ -194,8 +184,7 @@ pub extern "C" fn voronoi_intersect_line(
 }
 
 // The same of the ray from (px, py) in the direction (dx, dy), in the ray's order.
-#[unsafe(no_mangle)]
-pub extern "C" fn voronoi_project_ray(
+pub fn voronoi_project_ray(
     cx: f64,
     cy: f64,
     width: f64,

@@ -4,8 +4,7 @@ ghost use Rattle.voronoi.specs.Grids.{GridCheck, GridNearest, SitesOfGrid};
 
 // After 1, 2 and 22 the work slice is as it was, after 7 to 10 `EMPTY` throughout, after 0 it has the leftmost table, then `EMPTY`. The two numbers are
 // always written, `EMPTY` when refused.
-#[unsafe(no_mangle)]
-pub extern "C" fn voronoi_grid_check(
+pub fn voronoi_grid_check(
     grid: &[i32],
     triangles: &[u32],
     halfedges: &[u32],
@@ -21,8 +20,7 @@ pub extern "C" fn voronoi_grid_check(
 }
 
 // The work slice as after `voronoi_grid_check`. The three numbers are always written, `EMPTY` when refused.
-#[unsafe(no_mangle)]
-pub extern "C" fn voronoi_grid_nearest(
+pub fn voronoi_grid_nearest(
     grid: &[i32],
     triangles: &[u32],
     halfedges: &[u32],
@@ -39,8 +37,7 @@ pub extern "C" fn voronoi_grid_nearest(
 }
 
 // After 1, 2 and 22 the slice is as it was; after 0 it has the floats, then +0.
-#[unsafe(no_mangle)]
-pub extern "C" fn voronoi_grid_sites(grid: &[i32], sites: &mut [f64]) -> u32
+pub fn voronoi_grid_sites(grid: &[i32], sites: &mut [f64]) -> u32
     ensures { SitesOfGrid grid.now sites.old sites.new result }
 {
     grid::floats::grid_sites(grid, sites)

@@ -1,4 +1,4 @@
-// The public surface: every public call, exported to C under the prefix `voronoi_`, a module for each subject.
+// The public surface: every public call under the prefix `voronoi_`, a module for each subject; crate voronoi_c exports each to C.
 // No call has a `requires`. Each says its result and every lent slice at exit, and specs/One.antt says that no two results are allowed for one input.
 
 #![tactic(auto)]

@@ -2,8 +2,7 @@
 ghost use Rattle.voronoi.specs.Maps.{CellWkb, CellWkbBits, AllWkb};
 
 // Of vertices as floats: a NaN is written as 0x7FF8000000000000.
-#[unsafe(no_mangle)]
-pub extern "C" fn voronoi_cell_wkb(
+pub fn voronoi_cell_wkb(
     vertices: &[f64],
     offsets: &[u32],
     indexes: &[u32],
@@ -18,8 +17,7 @@ pub extern "C" fn voronoi_cell_wkb(
 }
 
 // Of vertices as patterns, each as it is.
-#[unsafe(no_mangle)]
-pub extern "C" fn voronoi_cell_wkb_bits(
+pub fn voronoi_cell_wkb_bits(
     vertices: &[u64],
     offsets: &[u32],
     indexes: &[u32],
@@ -34,8 +32,7 @@ pub extern "C" fn voronoi_cell_wkb_bits(
 }
 
 // Of all cells, one after the other, each as `voronoi_cell_wkb` writes it; `starts` has where each begins, where the last ends, then 2^64 - 1.
-#[unsafe(no_mangle)]
-pub extern "C" fn voronoi_all_wkb(
+pub fn voronoi_all_wkb(
     vertices: &[f64],
     offsets: &[u32],
     indexes: &[u32],

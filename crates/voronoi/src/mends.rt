@@ -4,8 +4,7 @@ ghost use Rattle.mending.specs.slices.Lent.{lent};
 ghost use Rattle.voronoi.specs.Mends.{Mend};
 
 // After 1, 2 and 6 no slice changes; after 7, 19, 9 and 10 every one is `EMPTY` throughout. The three numbers are always written, 0 when refused.
-#[unsafe(no_mangle)]
-pub extern "C" fn voronoi_mend(
+pub fn voronoi_mend(
     sites: &[f64],
     triangles: &[u32],
     halfedges: &[u32],

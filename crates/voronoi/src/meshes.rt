@@ -3,8 +3,7 @@ ghost use Rattle.mesh.specs.Accepted.{mesh};
 ghost use Rattle.voronoi.specs.Meshes.{Check};
 
 // 0 for a mesh that is accepted; else the first of 1, 2, 6, 7, 8, 9, 10 whose rule is broken.
-#[unsafe(no_mangle)]
-pub extern "C" fn voronoi_check(
+pub fn voronoi_check(
     sites: &[f64],
     triangles: &[u32],
     halfedges: &[u32],

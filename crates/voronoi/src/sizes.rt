@@ -2,13 +2,7 @@
 ghost use Rattle.voronoi.specs.Sizes.{Areas};
 
 // Where it is refused `areas` stays as it was; after 0 what is past the areas is 0.
-#[unsafe(no_mangle)]
-pub extern "C" fn voronoi_areas(
-    vertices: &[f64],
-    offsets: &[u32],
-    indexes: &[u32],
-    areas: &mut [f64],
-) -> u32
+pub fn voronoi_areas(vertices: &[f64], offsets: &[u32], indexes: &[u32], areas: &mut [f64]) -> u32
     ensures { Areas vertices.now offsets.now indexes.now areas.old areas.new result }
 {
     areas::cell_areas(vertices, offsets, indexes, areas)

@@ -2,8 +2,7 @@
 ghost use Rattle.std.specs.Prelude.{◌≡◌};
 ghost use Rattle.library_version.specs.Version.{version};
 
-#[unsafe(no_mangle)]
-pub extern "C" fn voronoi_version() -> u32
+pub fn voronoi_version() -> u32
     ensures { result ≡ version }
 {
     library_version::number()

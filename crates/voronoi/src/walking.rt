@@ -7,8 +7,7 @@ ghost use Rattle.voronoi.specs.Walks.{Walk, Neighbours, ClippedNeighbours, Path,
 use plane::points::Point;
 
 // The half-edges that end at a site, from its leftmost one on.
-#[unsafe(no_mangle)]
-pub extern "C" fn voronoi_walk(
+pub fn voronoi_walk(
     sites: &[f64],
     triangles: &[u32],
     halfedges: &[u32],
@@ -29,8 +28,7 @@ pub extern "C" fn voronoi_walk(
 }
 
 // The start sites along the walk; a hull site adds the last end.
-#[unsafe(no_mangle)]
-pub extern "C" fn voronoi_neighbours(
+pub fn voronoi_neighbours(
     sites: &[f64],
     triangles: &[u32],
     halfedges: &[u32],
@@ -51,8 +49,7 @@ pub extern "C" fn voronoi_neighbours(
 }
 
 // The neighbours whose cells still share an edge with the site's, on the hull; 16 is tried on the cells.
-#[unsafe(no_mangle)]
-pub extern "C" fn voronoi_clipped_neighbours(
+pub fn voronoi_clipped_neighbours(
     sites: &[f64],
     triangles: &[u32],
     halfedges: &[u32],
@@ -78,8 +75,7 @@ pub extern "C" fn voronoi_clipped_neighbours(
 }
 
 // From site to site, each time to the first of the nearest neighbours while that is strictly nearer to (x, y).
-#[unsafe(no_mangle)]
-pub extern "C" fn voronoi_path(
+pub fn voronoi_path(
     sites: &[f64],
     triangles: &[u32],
     halfedges: &[u32],
@@ -103,8 +99,7 @@ pub extern "C" fn voronoi_path(
 }
 
 // The half-edge of triangle a on the edge that it shares with triangle b, or EMPTY.
-#[unsafe(no_mangle)]
-pub extern "C" fn voronoi_shared_edge(
+pub fn voronoi_shared_edge(
     sites: &[f64],
     triangles: &[u32],
     halfedges: &[u32],
@@ -123,8 +118,7 @@ pub extern "C" fn voronoi_shared_edge(
 }
 
 // Whether the cells of sites a and b share an edge, that is two entries.
-#[unsafe(no_mangle)]
-pub extern "C" fn voronoi_cells_share_edge(
+pub fn voronoi_cells_share_edge(
     offsets: &[u32],
     indexes: &[u32],
     a: u32,

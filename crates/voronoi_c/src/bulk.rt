@@ -1,0 +1,40 @@
+// The exports of module bulk of crate voronoi, which says what each does.
+ghost use Rattle.mesh.specs.Accepted.{mesh};
+ghost use Rattle.voronoi.specs.Bulk.{AllNeighbours, EndsOfPaths};
+
+#[unsafe(no_mangle)]
+pub extern "C" fn voronoi_all_neighbours(
+    sites: &[f64],
+    triangles: &[u32],
+    halfedges: &[u32],
+    hull: &[u32],
+    offsets: &[u32],
+    indexes: &[u32],
+    work: &mut [u32],
+    starts: &mut [u32],
+    out: &mut [u32],
+) -> u32
+    ensures { AllNeighbours (mesh sites.now triangles.now halfedges.now hull.now)
+        offsets.now indexes.now work.old work.new starts.old starts.new out.old out.new result }
+{
+    voronoi::bulk::voronoi_all_neighbours(
+        sites, triangles, halfedges, hull, offsets, indexes, work, starts, out,
+    )
+}
+
+#[unsafe(no_mangle)]
+pub extern "C" fn voronoi_ends(
+    sites: &[f64],
+    triangles: &[u32],
+    halfedges: &[u32],
+    hull: &[u32],
+    site: u32,
+    points: &[f64],
+    work: &mut [u32],
+    out: &mut [u32],
+) -> u32
+    ensures { EndsOfPaths (mesh sites.now triangles.now halfedges.now hull.now) site points.now
+        work.old work.new out.old out.new result }
+{
+    voronoi::bulk::voronoi_ends(sites, triangles, halfedges, hull, site, points, work, out)
+}
