@@ -4,7 +4,6 @@ use lib.ListN.{length-append}
 use Rattle.octets.specs.laws.Wrote.{wrote_then}
 use Rattle.printing.specs.parts.Labelled.{labelled as labelledOf}
 use Rattle.cells.specs.listing.Listing.{cell_line}
-use borrow.Author.Rules.{rules}
 use Rattle.cells.proofs.listing.cell_line.Goals as goal
 
 pub returns : goal.returns

@@ -10,8 +10,8 @@ use Rattle.printing.specs.parts.Listed.{listed_cell}
 use Rattle.cells.specs.listing.laws.Listing.{lines_are}
 use Rattle.printing.specs.parts.laws.Listed.{part_bounds, part_is}
 use Rattle.octets.specs.Wrote.{HasRoom, Wrote}
-use Rattle.octets.specs.laws.Wrote.{Lined, lined_start, lined_end, wrote_length, wrote_as}
-use Rattle.octets.specs.laws.Lines.{lines_from, line_fits, line_written}
+use Rattle.octets.specs.laws.Wrote.{lined_start, lined_end, wrote_length, wrote_as}
+use Rattle.octets.specs.laws.Lines.{line_fits, line_written}
 use Rattle.cells.proofs.listing.cell_lines.Goals as goal
 
 pub loop-i-init : goal.loop-i-init

@@ -4,7 +4,6 @@ use lib.ListN.{length-append}
 use Rattle.octets.specs.laws.Wrote.{wrote_then}
 use Rattle.printing.specs.parts.Labelled.{labelled as labelledOf}
 use Rattle.cells.specs.listing.Listing.{corners as corners_of}
-use borrow.Author.Rules.{rules}
 use Rattle.cells.proofs.listing.corners.Goals as goal
 
 pub returns : goal.returns

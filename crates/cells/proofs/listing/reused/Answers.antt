@@ -3,7 +3,6 @@ use native.Mathlib.Omega.{arith}
 use lib.ListN.{length-append}
 use Rattle.octets.specs.laws.Wrote.{wrote_then}
 use Rattle.cells.specs.listing.Listing.{reused_line}
-use borrow.Author.Rules.{rules}
 use Rattle.cells.proofs.listing.reused.Goals as goal
 
 pub returns : goal.returns

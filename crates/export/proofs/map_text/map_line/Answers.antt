@@ -3,7 +3,6 @@ use native.Mathlib.Omega.{arith}
 use lib.ListN.{length-append}
 use Rattle.octets.specs.laws.Wrote.{wrote_then}
 use Rattle.export.specs.map_text.MapText.{map_line}
-use borrow.Author.Rules.{rules}
 use Rattle.export.proofs.map_text.map_line.Goals as goal
 
 pub returns : goal.returns

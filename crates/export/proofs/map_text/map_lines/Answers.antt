@@ -8,13 +8,12 @@ use lib.ListN.{length, take, drop}
 use Rattle.printing.specs.parts.Listed.{listed_cell}
 use Rattle.printing.specs.parts.laws.Listed.{part_bounds, part_is}
 use Rattle.octets.specs.Wrote.{HasRoom, Wrote}
-use Rattle.octets.specs.laws.Wrote.{Lined, lined_start, lined_end, wrote_length, wrote_as}
-use Rattle.octets.specs.laws.Lines.{lines_from, line_fits, line_written}
+use Rattle.octets.specs.laws.Wrote.{lined_start, lined_end, wrote_length, wrote_as}
+use Rattle.octets.specs.laws.Lines.{line_fits, line_written}
 use Rattle.wkb.specs.Polygon.{patterns}
 use Rattle.wkb.specs.Promise.{image}
 use Rattle.export.specs.map_text.MapText.{map_line}
 use Rattle.export.specs.map_text.laws.MapText.{lines_are}
-use borrow.Author.Rules.{rules}
 use Rattle.export.proofs.map_text.map_lines.Goals as goal
 
 pub loop-i-init : goal.loop-i-init

@@ -3,7 +3,6 @@ use native.Mathlib.Omega.{arith}
 use lib.ListN.{length-append}
 use Rattle.octets.specs.laws.Wrote.{wrote_then}
 use Rattle.export.specs.map_text.MapText.{heading, map_text}
-use borrow.Author.Rules.{rules}
 use Rattle.export.proofs.map_text.map_text.Goals as goal
 
 pub map_lines-requires : goal.map_lines-requires

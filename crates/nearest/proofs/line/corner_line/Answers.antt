@@ -1,5 +1,5 @@
 -- The labelled number, then the rest of the line.
-use Rattle.std.proofs.Common.{arith, length-append, rules}
+use Rattle.std.proofs.Common.{arith, length-append}
 use Rattle.octets.specs.laws.Wrote.{wrote_then}
 use Rattle.nearest.specs.line.NearestLine.{corner_line}
 use Rattle.nearest.proofs.line.corner_line.Goals as goal
