@@ -1,5 +1,4 @@
 -- `certify::text::kind_line` meets its contract: by the kind.
-use borrow.Author.Rules.{rules}
 use borrow.Author.Tests.{ne_eqb}
 use Rattle.certify.specs.text.CertifyLine.{kind_text}
 use Rattle.certify.proofs.text.kind_line.Goals as goal

@@ -4,7 +4,6 @@ use Rattle.printing.specs.parts.Text.{ascii}
 use Rattle.printing.specs.parts.Labelled.{entries}
 use Rattle.octets.specs.laws.Wrote.{fits_left, fits_then, wrote_then}
 use Rattle.certify.specs.text.CertifyLine.{last_text}
-use borrow.Author.Rules.{rules}
 use Rattle.certify.proofs.text.last.Goals as goal
 
 pub entry-end-requires : goal.entry-end-requires
