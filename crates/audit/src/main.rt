@@ -1,4 +1,6 @@
 // Reads a mesh's form on standard input and prints what the audit says of its cells, or `refused N`.
+#![tactic(auto)]
+
 pub mod text;
 pub mod turns;
 
@@ -12,10 +14,10 @@ ghost use Rattle.audit.specs.Shown.{Auditable, UsedParts, cut_told};
 
 use base::numbers::wide;
 use form::{COORDINATES, HULL, LINKS};
-use libc::{STDIN_FILENO, STDOUT_FILENO};
 use plane::boxes::BoundingBox;
 use plane::given::Given;
 use printing::parts::narrow;
+use std::io;
 
 // The tolerance is 2^-20, and every piece is held against all sites.
 const BITS: u32 = 20;
@@ -157,10 +159,10 @@ fn answer(bytes: &[u8], out: &mut [u8]) -> usize
     )
 }
 
-fn main() {
+fn main(rt: HostRuntime) -> io::Result<()> {
     let mut bytes = [0u8; form::BYTES];
-    let mut out = io::large_buffer();
-    let n = io::read_full(STDIN_FILENO, &mut bytes);
+    let mut out = [0u8; 65536];
+    let n = host::read_full(&mut rt.stdin(), &mut bytes);
     let m = answer(&bytes[..n], &mut out);
-    io::write_all(STDOUT_FILENO, &out[..m]);
+    rt.write_all(&out[..m])
 }

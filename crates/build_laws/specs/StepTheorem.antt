@@ -13,7 +13,7 @@ use Rattle.definition.specs.Build.{Extensions, CellState, Built, build, clip_hul
 use Rattle.definition.specs.Short.{extensions}
 use Rattle.definition.specs.Reused.{reused_of}
 use Rattle.definition.specs.laws.Gives.{gives_ok}
-use Rattle.definition.specs.laws.Reused.{taken_list}
+use Rattle.definition.proofs.laws.Reused.{taken_list}
 use Rattle.build_laws.specs.Points.{kinds_of, steps_of, afterwards, edge_points, hull_points, rest_points, all_points}
 use Rattle.build_laws.specs.Theorems.{room}
 use Rattle.build_laws.specs.Tries.{centers_to, no_cells, AllExtended}

@@ -1,4 +1,6 @@
 // Reads a mesh's form on standard input and prints the listing of its cells, or `refused N`.
+#![tactic(auto)]
+
 pub mod answer_text;
 pub mod listing;
 
@@ -10,9 +12,9 @@ ghost use Rattle.printing.specs.Printed.{OfMesh, Prints};
 ghost use Rattle.cells.specs.Printed.{listing_text};
 
 use form::{COORDINATES, HULL, LINKS};
-use libc::{STDIN_FILENO, STDOUT_FILENO};
 use plane::given::Given;
 use printing::parts::narrow;
+use std::io;
 
 fn of_mesh(
     out: &mut [u8],
@@ -82,10 +84,10 @@ fn answer(bytes: &[u8], out: &mut [u8]) -> usize
     )
 }
 
-fn main() {
+fn main(rt: HostRuntime) -> io::Result<()> {
     let mut bytes = [0u8; form::BYTES];
-    let mut out = io::large_buffer();
-    let n = io::read_full(STDIN_FILENO, &mut bytes);
+    let mut out = [0u8; 65536];
+    let n = host::read_full(&mut rt.stdin(), &mut bytes);
     let m = answer(&bytes[..n], &mut out);
-    io::write_all(STDOUT_FILENO, &out[..m]);
+    rt.write_all(&out[..m])
 }

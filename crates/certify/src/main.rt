@@ -1,4 +1,6 @@
 // Reads a mesh's form on standard input, makes its pieces by cutting and prints one line: `certified`, the first fault by its numbers, or `refused N`.
+#![tactic(auto)]
+
 pub mod text;
 
 ghost use Rattle.std.specs.Prelude.{◌≤◌, length, take};
@@ -11,8 +13,8 @@ ghost use Rattle.certify.specs.Printed.{PiecesTold, CertifyTold, CertifyPrints};
 ghost use Rattle.certify.specs.text.CertifyLine.{certify_text};
 
 use form::{COORDINATES, HULL, LINKS};
-use libc::{STDIN_FILENO, STDOUT_FILENO};
 use plane::given::Given;
+use std::io;
 
 // The slices of a cutting and of its certificate, as long as every form needs them.
 const CUT_VERTICES: usize = 2 * (7 * form::TRIANGLES + 2 * form::HULL + 4);
@@ -147,10 +149,10 @@ fn answer(bytes: &[u8], out: &mut [u8]) -> usize
     )
 }
 
-fn main() {
+fn main(rt: HostRuntime) -> io::Result<()> {
     let mut bytes = [0u8; form::BYTES];
-    let mut out = io::large_buffer();
-    let n = io::read_full(STDIN_FILENO, &mut bytes);
+    let mut out = [0u8; 65536];
+    let n = host::read_full(&mut rt.stdin(), &mut bytes);
     let m = answer(&bytes[..n], &mut out);
-    io::write_all(STDOUT_FILENO, &out[..m]);
+    rt.write_all(&out[..m])
 }

@@ -1,5 +1,4 @@
 -- Laws that only proofs use.
 pub mod Gives
 pub mod Puts
-pub mod Reused
 pub mod LastEntry

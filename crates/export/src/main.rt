@@ -1,4 +1,6 @@
 // Reads a mesh's form on standard input and prints a line for each cell, for map tools, or `refused N`.
+#![tactic(auto)]
+
 pub mod map_text;
 
 ghost use Rattle.std.specs.Prelude.{◌≡◌, ◌≤◌, length, take};
@@ -10,9 +12,9 @@ ghost use Rattle.form.specs.mesh.Read.{MeshSized};
 ghost use Rattle.export.specs.Shown.{CanDraw, lines};
 
 use form::{COORDINATES, HULL, LINKS};
-use libc::{STDIN_FILENO, STDOUT_FILENO};
 use plane::given::Given;
 use printing::parts::narrow;
+use std::io;
 
 // The text of a build that was answered by this number, put at the beginning of `out`; how many bytes it has.
 fn show(
@@ -99,10 +101,10 @@ fn answer(bytes: &[u8], out: &mut [u8]) -> usize
     )
 }
 
-fn main() {
+fn main(rt: HostRuntime) -> io::Result<()> {
     let mut bytes = [0u8; form::BYTES];
     let mut out = [0u8; 106496];
-    let n = io::read_full(STDIN_FILENO, &mut bytes);
+    let n = host::read_full(&mut rt.stdin(), &mut bytes);
     let m = answer(&bytes[..n], &mut out);
-    io::write_all(STDOUT_FILENO, &out[..m]);
+    rt.write_all(&out[..m])
 }

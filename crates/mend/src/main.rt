@@ -1,5 +1,7 @@
 // Reads a mesh's form on standard input, works its pairs and its hull out afresh, and prints a line for each change, or with the word `form` the
 // mended mesh as a form; or `refused N`. With the words `box HEX` a form of old, without a box, gets this one. Other words: a line on standard error.
+#![tactic(auto)]
+
 pub mod box_line;
 pub mod boxes;
 pub mod change_lines;
@@ -15,7 +17,7 @@ ghost use Rattle.mend.specs.Printed.{same_bytes, is_option, way_if, way_of, Mend
 ghost use Rattle.mend.specs.Steps.{first_length, MendSized, CanShow, shown_text, OfLists, put_bytes, kept_bytes};
 
 use form::{COORDINATES, HULL, LINKS};
-use libc::{STDERR_FILENO, STDIN_FILENO, STDOUT_FILENO};
+use std::io;
 
 // Three numbers to a change, of a pair or of a hull place.
 const CHANGES: usize = 3 * (LINKS + HULL);
@@ -31,7 +33,7 @@ pub enum Way {
 fn same_bytes(word: &[u8], text: &[u8]) -> bool
     ensures { result ≡ same_bytes word.now text.now }
 {
-    check::same(word, text)
+    word == text
 }
 
 // The words of the option.
@@ -250,28 +252,29 @@ fn answer(bytes: &[u8], form: bool, option: &[u8], out: &mut [u8]) -> usize
 }
 
 // Prints what the form on standard input becomes.
-fn print(form: bool, boxed: bool, digits: &[u8]) {
+fn print(rt: &HostRuntime, form: bool, boxed: bool, digits: &[u8]) -> io::Result<()> {
     let mut bytes = [0u8; form::BYTES];
     let mut out = [0u8; 32768];
     let mut option = [0u8; 33];
     let k = crate::boxes::record_of(boxed, digits, &mut option);
-    let n = io::read_full(STDIN_FILENO, &mut bytes);
+    let n = host::read_full(&mut rt.stdin(), &mut bytes);
     let m = answer(&bytes[..n], form, &option[..k], &mut out);
-    io::write_all(STDOUT_FILENO, &out[..m]);
+    rt.write_all(&out[..m])
 }
 
-fn main() {
-    let count = os::arg_count();
+fn main(rt: HostRuntime) -> io::Result<()> {
+    let count = host::arg_count(&rt);
     let mut first = [0u8; 8];
     let mut label = [0u8; 8];
     let mut digits = [0u8; 67];
-    let a = os::arg(1, &mut first);
-    let b = os::arg(from_end(count, 2), &mut label);
-    let c = os::arg(from_end(count, 1), &mut digits);
+    let a = host::arg(&rt, 1, &mut first);
+    let b = host::arg(&rt, from_end(count, 2), &mut label);
+    let c = host::arg(&rt, from_end(count, 1), &mut digits);
     let way = way_of(count, &first[..a], &label[..b], &digits[..c]);
     let Way::Print { form, boxed } = way else {
-        io::write_all(STDERR_FILENO, b"usage: mend [form] [box HEX] <FORM\n");
-        return;
+        return rt
+            .stderr()
+            .write_all(b"usage: mend [form] [box HEX] <FORM\n");
     };
-    print(form, boxed, &digits[..c]);
+    print(&rt, form, boxed, &digits[..c])
 }

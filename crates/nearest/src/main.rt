@@ -1,4 +1,6 @@
 // Reads a mesh's form on standard input and prints one line: that every walk ends at a nearest gauge, those to the box's corners among them, or why that is not said.
+#![tactic(auto)]
+
 pub mod corners;
 pub mod line;
 pub mod whole_sites;
@@ -13,8 +15,8 @@ use crate::line::NearestLine;
 use base::numbers::EMPTY;
 use form::{COORDINATES, HULL, LINKS};
 use grid::nearest::check_nearest_lent;
-use libc::{STDIN_FILENO, STDOUT_FILENO};
 use plane::given::Given;
+use std::io;
 
 // The line where nothing is refused.
 fn kind_line(kind: u32, place: u32, unused: u32, corner: u32) -> NearestLine
@@ -160,10 +162,10 @@ fn answer(bytes: &[u8], out: &mut [u8]) -> usize
     crate::line::nearest_line(out, l)
 }
 
-fn main() {
+fn main(rt: HostRuntime) -> io::Result<()> {
     let mut bytes = [0u8; form::BYTES];
     let mut out = [0u8; 128];
-    let n = io::read_full(STDIN_FILENO, &mut bytes);
+    let n = host::read_full(&mut rt.stdin(), &mut bytes);
     let m = answer(&bytes[..n], &mut out);
-    io::write_all(STDOUT_FILENO, &out[..m]);
+    rt.write_all(&out[..m])
 }

@@ -31,6 +31,7 @@ split none a (r ∷ rs) qs (inr (k, x)) = ⊎_elim (λ y. inl (inr (k, y))) (λ 
 
 -- answers read by g are of answers
 unread : {A B : Type 0} (g : A → B) (rs : List (Rule A)) {b : B} → Broken (reads g rs) b → (a : A) × Broken rs a × (b ≡ g a)
+unread {A = A} {B = B} g [] {b = b} x = elim x [ ]
 unread g (once a P ∷ rs) (inl x) = (a, inl (x.0, refl), x.1)
 unread g (once a P ∷ rs) (inr (k, x)) = let (a, y, e) = unread g rs x in (a, inr (k, y), e)
 unread g (each f n P ∷ rs) (inl (k, first, l, e)) = (f k, inl (k, first, l, refl), e)

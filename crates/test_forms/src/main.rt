@@ -1,55 +1,56 @@
 // Prints what the form's reader says of each case on standard input, which is two bytes of length and as many bytes;
 // then what it says where forms of old are read too.
+#![tactic(auto)]
+
 ghost use Rattle.std.specs.Prelude.{◌<◌};
 
 use form::step::Form;
-use libc::{STDIN_FILENO, STDOUT_FILENO};
 
-fn number(n: usize) {
-    io::write_all(STDOUT_FILENO, b" ");
-    io::print_decimal(STDOUT_FILENO, n as u64);
+fn number(rt: &impl Print, n: usize) {
+    let _ = rt.write_all(b" ");
+    let _ = rt.print(n);
 }
 
-fn refused(number: u8, at: usize) {
-    io::write_all(STDOUT_FILENO, b"refused ");
-    io::print_decimal(STDOUT_FILENO, number as u64);
-    io::write_all(STDOUT_FILENO, b" at ");
-    io::print_decimal(STDOUT_FILENO, at as u64);
+fn refused(rt: &impl Print, number: u8, at: usize) {
+    let _ = rt.write_all(b"refused ");
+    let _ = rt.print(number);
+    let _ = rt.write_all(b" at ");
+    let _ = rt.print(at);
 }
 
-fn sound(sites: usize, triangles: usize, hull: usize) {
-    io::write_all(STDOUT_FILENO, b"sound");
-    number(sites);
-    number(triangles);
-    number(hull);
+fn sound(rt: &impl Print, sites: usize, triangles: usize, hull: usize) {
+    let _ = rt.write_all(b"sound");
+    number(rt, sites);
+    number(rt, triangles);
+    number(rt, hull);
 }
 
 // The kind that opened the form, where it is not a box by center and size.
-fn opened(clip: u8) {
+fn opened(rt: &impl Print, clip: u8) {
     if clip == 6 {
-        io::write_all(STDOUT_FILENO, b" unclipped");
+        let _ = rt.write_all(b" unclipped");
     }
     if clip == 7 {
-        io::write_all(STDOUT_FILENO, b" edges");
+        let _ = rt.write_all(b" edges");
     }
 }
 
-fn say(form: Form) {
+fn say(rt: &impl Print, form: Form) {
     match form {
-        Form::Broken { number, at } => refused(number, at),
+        Form::Broken { number, at } => refused(rt, number, at),
         Form::Sound {
             sites,
             triangles,
             hull,
             clip,
         } => {
-            sound(sites, triangles, hull);
-            opened(clip);
+            sound(rt, sites, triangles, hull);
+            opened(rt, clip);
         }
     }
 }
 
-fn verdict(old: bool, bytes: &[u8]) {
+fn verdict(rt: &impl Print, old: bool, bytes: &[u8]) {
     let mut bounds = [0.0f64; 4];
     let mut sites = [0.0f64; form::COORDINATES];
     let mut triangles = [0u32; form::LINKS];
@@ -64,15 +65,15 @@ fn verdict(old: bool, bytes: &[u8]) {
         &mut halfedges,
         &mut hull,
     );
-    say(form);
+    say(rt, form);
 }
 
 // As all programs read, and as the mending tool can.
-fn both(bytes: &[u8]) {
-    verdict(false, bytes);
-    io::write_all(STDOUT_FILENO, b"; of old ");
-    verdict(true, bytes);
-    io::write_all(STDOUT_FILENO, b"\n");
+fn both(rt: &impl Print, bytes: &[u8]) {
+    verdict(rt, false, bytes);
+    let _ = rt.write_all(b"; of old ");
+    verdict(rt, true, bytes);
+    let _ = rt.write_all(b"\n");
 }
 
 fn wide(x: u8) -> usize
@@ -82,26 +83,26 @@ fn wide(x: u8) -> usize
 }
 
 // Reads a case's bytes, as many as the slice has, and answers how many came.
-fn body(bytes: &mut [u8]) -> usize {
-    let got = io::read_full(STDIN_FILENO, bytes);
-    both(&bytes[..got]);
+fn body(rt: &HostRuntime, bytes: &mut [u8]) -> usize {
+    let got = host::read_full(&mut rt.stdin(), bytes);
+    both(rt, &bytes[..got]);
     got
 }
 
 // One case, and whether it was there whole.
-fn case() -> bool {
+fn case(rt: &HostRuntime) -> bool {
     let mut head = [0u8; 2];
-    if io::read_full(STDIN_FILENO, &mut head) < 2 {
+    if host::read_full(&mut rt.stdin(), &mut head) < 2 {
         return false;
     }
     let n = wide(head[0]) + 256 * wide(head[1]);
-    let mut bytes = io::large_buffer();
-    body(&mut bytes[..n]) == n
+    let mut bytes = [0u8; 65536];
+    body(rt, &mut bytes[..n]) == n
 }
 
-fn main() {
+fn main(rt: HostRuntime) {
     let mut turns: u32 = 100000;
-    while turns > 0 && case() {
+    while turns > 0 && case(&rt) {
         turns -= 1;
     }
 }

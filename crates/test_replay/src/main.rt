@@ -1,5 +1,7 @@
 // Replays the Rust's stored answers: each mesh is built and walked again by the public calls, and every lent slice is held to the stored words to its last element.
 // harness/src/stored.rs says how a mesh and its answers are stored, and made them with the source's own code.
+#![tactic(auto)]
+
 pub mod words;
 mod builds; // builds.rt: the build
 mod walks; // walks.rt: walks, neighbours, paths
@@ -12,7 +14,6 @@ ghost use Rattle.test_replay.specs.Tallied.{sevens_of, Replayed, RecordVerdict, 
 
 use crate::words::held::{BEFORE, BEFORE_FLOAT, accepted, after_list, end, refused};
 use crate::words::{after, index, word};
-use libc::{STDIN_FILENO, STDOUT_FILENO};
 
 // A mesh's answers: as stored, built or refused; or different.
 const BUILT: u32 = 0;
@@ -241,16 +242,16 @@ fn tallied(all: Tally, verdict: u32) -> Tally
     n
 }
 
-fn say(n: u32, what: &[u8]) {
-    io::print_decimal(STDOUT_FILENO, n as u64);
-    io::write_all(STDOUT_FILENO, what);
+fn say(rt: &HostRuntime, n: u32, what: &[u8]) {
+    let _ = rt.print(n);
+    let _ = rt.write_all(what);
 }
 
 // A record's bytes, as many as the slice has.
-fn body(b: &mut [u8]) -> u32
+fn body(rt: &HostRuntime, b: &mut [u8]) -> u32
     ensures { NextRead result }
 {
-    let got = io::read_full(STDIN_FILENO, b);
+    let got = host::read_full(&mut rt.stdin(), b);
     if got < b.len() {
         return DIFFERENT;
     }
@@ -258,11 +259,11 @@ fn body(b: &mut [u8]) -> u32
 }
 
 // The next record: its length in words, and its words.
-fn next() -> u32
+fn next(rt: &HostRuntime) -> u32
     ensures { NextRead result }
 {
     let mut head = [0u8; 4];
-    if io::read_full(STDIN_FILENO, &mut head) < 4 {
+    if host::read_full(&mut rt.stdin(), &mut head) < 4 {
         return DIFFERENT;
     }
     let n = index(&head, 0);
@@ -270,22 +271,22 @@ fn next() -> u32
         return DIFFERENT;
     }
     let end = 4 * n;
-    let mut b = io::buffer();
-    body(&mut b[..end])
+    let mut b = [0u8; 4096];
+    body(rt, &mut b[..end])
 }
 
 // The next record, which is number i.
-fn one(i: u32) -> u32
+fn one(rt: &HostRuntime, i: u32) -> u32
     ensures { NextRead result }
 {
-    let verdict = next();
+    let verdict = next(rt);
     if verdict == DIFFERENT {
-        say(i, b" differs\n");
+        say(rt, i, b" differs\n");
     }
     verdict
 }
 
-fn each(count: u32) -> Tally
+fn each(rt: &HostRuntime, count: u32) -> Tally
     ensures { RecordsTallied count result }
 {
     let mut all = Tally {
@@ -295,19 +296,19 @@ fn each(count: u32) -> Tally
     };
     let mut i = 0;
     while i < count {
-        all = tallied(all, one(i));
+        all = tallied(all, one(rt, i));
         i += 1;
     }
     all
 }
 
-fn main() {
+fn main(rt: HostRuntime) {
     let mut head = [0u8; 8];
-    io::read_full(STDIN_FILENO, &mut head);
+    host::read_full(&mut rt.stdin(), &mut head);
     let count = word(&head, 1);
-    let all = each(count);
-    say(count, b" meshes: ");
-    say(all.built, b" built, ");
-    say(all.refused, b" refused, ");
-    say(all.different, b" different\n");
+    let all = each(&rt, count);
+    say(&rt, count, b" meshes: ");
+    say(&rt, all.built, b" built, ");
+    say(&rt, all.refused, b" refused, ");
+    say(&rt, all.different, b" different\n");
 }

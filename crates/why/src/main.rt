@@ -1,5 +1,7 @@
 // Reads a mesh's form on standard input and prints the one reason why it is refused, or what was asked of one or two sites by their numbers as
 // arguments. Other words: a line on standard error.
+#![tactic(auto)]
+
 pub mod line;
 pub mod site_words;
 
@@ -12,9 +14,9 @@ ghost use Rattle.why.specs.Printed.{WhyOfMesh, FormReason, WhyPrints};
 use crate::site_words::Command;
 use crate::site_words::words::command_of;
 use form::{COORDINATES, HULL, LINKS};
-use libc::{STDERR_FILENO, STDIN_FILENO, STDOUT_FILENO};
 use plane::given::Given;
 use reasons::{Question, Reason};
+use std::io;
 
 fn of_mesh(
     given: Given,
@@ -90,23 +92,22 @@ fn answer(bytes: &[u8], q: Question, out: &mut [u8]) -> usize
 }
 
 // Prints the reason for the form on standard input.
-fn print(q: Question) {
+fn print(rt: &HostRuntime, q: Question) -> io::Result<()> {
     let mut bytes = [0u8; form::BYTES];
     let mut out = [0u8; 128];
-    let n = io::read_full(STDIN_FILENO, &mut bytes);
+    let n = host::read_full(&mut rt.stdin(), &mut bytes);
     let m = answer(&bytes[..n], q, &mut out);
-    io::write_all(STDOUT_FILENO, &out[..m]);
+    rt.write_all(&out[..m])
 }
 
-fn main() {
+fn main(rt: HostRuntime) -> io::Result<()> {
     let mut first = [0u8; 131072];
     let mut second = [0u8; 131072];
-    let n = os::arg(1, &mut first);
-    let m = os::arg(2, &mut second);
-    let command = command_of(os::arg_count(), &first[..n], &second[..m]);
+    let n = host::arg(&rt, 1, &mut first);
+    let m = host::arg(&rt, 2, &mut second);
+    let command = command_of(host::arg_count(&rt), &first[..n], &second[..m]);
     let Command::Ask(q) = command else {
-        io::write_all(STDERR_FILENO, b"usage: why [SITE [SITE]] <FORM\n");
-        return;
+        return rt.stderr().write_all(b"usage: why [SITE [SITE]] <FORM\n");
     };
-    print(q);
+    print(&rt, q)
 }

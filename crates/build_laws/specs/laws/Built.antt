@@ -20,7 +20,7 @@ use Rattle.definition.specs.Build.{centers_from, owners_from, Extensions, extend
 use Rattle.definition.specs.Short.{extensions}
 use Rattle.definition.specs.laws.Gives.{Gives, gives_then}
 use Rattle.definition.specs.Measures.{ValidEntry, ValidEntries, new_points, share_of, Room, lost_left}
-use Rattle.definition.specs.laws.Puts.{all_turned}
+use Rattle.definition.proofs.laws.Puts.{all_turned}
 use Rattle.build_laws.specs.laws.LostCorners.{lost_left_lem}
 use Rattle.build_laws.specs.laws.Grown.{new_le}
 use Rattle.build_laws.specs.laws.Inside.{in_grown}

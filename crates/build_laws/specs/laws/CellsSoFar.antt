@@ -16,7 +16,7 @@ use Rattle.definition.specs.Build.{wrapped_in, all_wrapped, CellState, clip_into
 use Rattle.definition.specs.Short.{cell_state}
 use Rattle.definition.specs.laws.Gives.{Gives, gives_then}
 use Rattle.definition.specs.Measures.{ValidEntries, new_points, weigh}
-use Rattle.definition.specs.laws.Puts.{all_more, all_turned}
+use Rattle.definition.proofs.laws.Puts.{all_more, all_turned}
 use Rattle.build_laws.specs.laws.Grown.{new_append, new_le, Grown, grown_then}
 use Rattle.build_laws.specs.laws.Inside.{in_grown}
 use Rattle.build_laws.specs.laws.Ring.{RingClipped, clip_cell_lem}

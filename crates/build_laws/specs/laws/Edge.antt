@@ -14,7 +14,8 @@ use Rattle.plane.specs.declared.boxes.BoundingBox.{BoundingBox}
 use Rattle.definition.specs.Cell.{last_or, Taken, Ins, with_corners, led, insert_edge, vertex_at, EdgeClip, missed, once, twice, Change, leave, enter_at, enter, cross_at, cross, clip_step}
 use Rattle.definition.specs.Short.{insert_at, link, took_one, took_two}
 use Rattle.definition.specs.laws.Gives.{Gives}
-use Rattle.definition.specs.laws.Puts.{Puts, puts_none, puts_then, puts_plain, puts_crossing, puts_corners}
+use Rattle.definition.specs.laws.Puts.{Puts}
+use Rattle.definition.proofs.laws.Puts.{puts_none, puts_then, puts_plain, puts_crossing, puts_corners}
 use Rattle.definition.specs.Measures.{new_points}
 use Rattle.build_laws.specs.laws.Grown.{Grown, grown_none, grown_then, ClippedTo, clip_edge_lem}
 

@@ -16,7 +16,8 @@ use Rattle.definition.specs.Cell.{Entry, last_or, Taken, Change, clip_step, in_b
 use Rattle.definition.specs.Short.{tip, parts_joined}
 use Rattle.definition.specs.laws.Gives.{Gives, gives_both, gives_given, gives_map, gives_then, gives_at, picked}
 use Rattle.definition.specs.Measures.{ValidEntries, new_points}
-use Rattle.definition.specs.laws.Puts.{Puts, puts_none, puts_more, puts_then, placed_below}
+use Rattle.definition.specs.laws.Puts.{Puts}
+use Rattle.definition.proofs.laws.Puts.{puts_none, puts_more, puts_then, placed_below}
 use Rattle.build_laws.specs.laws.Grown.{new_append, Grown, grown_none, grown_then}
 use Rattle.build_laws.specs.laws.Edge.{Edge, clip_step_lem, stays_open}
 use Rattle.build_laws.specs.laws.Inside.{in_center, in_grown, first_inside_lem}

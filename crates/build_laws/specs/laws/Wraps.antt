@@ -9,7 +9,7 @@ use Rattle.base.specs.numbers.Numbers.{EMPTY}
 use Rattle.mesh.specs.laws.Occurs.{occ_there}
 use Rattle.definition.specs.Cell.{wrapped, entry, goes, wraps}
 use Rattle.definition.specs.Short.{ins, before}
-use Rattle.definition.specs.laws.Puts.{occ_set, same_self, same_other, goes_own}
+use Rattle.definition.proofs.laws.Puts.{occ_set, same_self, same_other, goes_own}
 
 module _ (nc site : ℕ) (real : site ≢ EMPTY) where
   stops : (stop c : ℕ) (os : List ℕ) → c < length os → occ site os ≡ 0 → goes site stop c os ≡ false

@@ -11,153 +11,153 @@ use borrow.Author.Rules.{rules}
 use Rattle.building.proofs.build.Tie as tie
 use Rattle.building.proofs.build.Statement.{statement}
 
-abbrev Asked : tie.After-admit-outline → tie.After-ask-box
+abbrev Asked : tie.After-admit_outline-r → tie.After-ask_box-asked
 Asked c = c.before.before.before.before.before.before
 
-abbrev Begin : tie.After-admit-outline → tie.Start
-Begin c = (Asked c).before.before.before.before.before.before.before.before.before.before
+abbrev Begin : tie.After-admit_outline-r → tie.Start
+Begin c = c.before.before.before.before.before.before.before.before.before.before.before.before.before.before.before.before
 
-abbrev Admit : tie.After-slice-known10 → tie.After-admit-outline
+abbrev Admit : tie.After-slice_known-10-1 → tie.After-admit_outline-r
 Admit c = c.before.before.before.before.before.before.before.before.before.before
 
-abbrev Made : tie.After-slice-known13 → tie.After-build-cells
+abbrev Made : tie.After-slice_known-13-1 → tie.After-build_cells-told
 Made c = c.before.before.before.before.before.before
 
-abbrev Accepts : tie.After-build-cells → tie.Else1
+abbrev Accepts : tie.After-build_cells-told → tie.Else-r-ne0
 Accepts c = c.before.before.before.before.before
 
-abbrev Tried : tie.After-slice-known18 → tie.After-admit-fans
+abbrev Tried : tie.After-slice_known-18-1 → tie.After-admit_fans-k
 Tried c = c.before.before.before.before.before.before.before.before.before.before
 
-abbrev Told : tie.After-admit-fans → tie.After-slice-known13
+abbrev Told : tie.After-admit_fans-k → tie.After-slice_known-13-1
 Told c = c.before.before.before.before.before.before
 
-abbrev Whole : tie.After-finish-build → tie.Else2
+abbrev Whole : tie.After-finish_build → tie.Else-k-ne0
 Whole c = c.before.before.before.before.before
 
 -- what the call was lent, and what the slices hold once it is admitted
-abbrev Lent : tie.After-admit-outline → Mesh
+abbrev Lent : tie.After-admit_outline-r → Mesh
 Lent a = let g = (Begin a).args in mesh g.sites.now g.triangles.now g.halfedges.now g.hull.now
 
-abbrev Old : tie.After-admit-outline → Slices
+abbrev Old : tie.After-admit_outline-r → Slices
 Old a = let g = (Begin a).args in slices g.work.now g.vertices.now g.indexes.now g.offsets.now g.counts.now
 
-abbrev New : tie.After-admit-outline → Slices
-New a = let l = a.admit-outline.new.1.1.1.1.1 in slices l.0 l.1.0 l.1.1.0 l.1.1.1.0 l.1.1.1.1.0
+abbrev New : tie.After-admit_outline-r → Slices
+New a = let l = a.admit_outline-r.new in slices l.work l.vertices l.indexes l.offsets l.counts
 
-admits : (a : tie.After-admit-outline) → OutlineAdmission (Lent a) (Asked a).ask-box.result (Old a) (New a) a.admit-outline.result
-admits a = a.admit-outline.ensures
+admits : (a : tie.After-admit_outline-r) → OutlineAdmission (Lent a) (Asked a).ask_box-asked.result (Old a) (New a) a.admit_outline-r.result
+admits a = a.admit_outline-r.ensures
 
-returns : tie.Need-returns
+returns : tie.Need-returns-then-r-ne0
 returns c =
     let a = Admit c.before in
-    build_early (admits a) (Begin a).args.given (Asked a).ask-box.ensures c.if1.true
+    build_early (admits a) (Begin a).args.given (Asked a).ask_box-asked.ensures c.if-r-ne0.true
 
-slice-reshare-prefix-build-cells : tie.Need-slice-reshare-prefix-build-cells
-slice-reshare-prefix-build-cells c = table_fits (admits (Admit c.before)) c.if1.false
+slice_reshare_prefix-build_cells : tie.Need-slice_bounds-build_cells-end
+slice_reshare_prefix-build_cells c = table_fits (admits (Admit c.before)) c.if-r-ne0.false
 
-slice-aggregate-build-cells : tie.Need-slice-aggregate-build-cells
-slice-aggregate-build-cells c = sym (simp length-take (omega (arith, table_fits (admits (Admit c.before.before)) c.before.if1.false)))
+slice_aggregate-build_cells : tie.Need-slice_bounds-build_cells-end-2
+slice_aggregate-build_cells c = sym (simp length-take (omega (arith, table_fits (admits (Admit c.before)) c.if-r-ne0.false)))
 
-build-cells-requires : tie.Need-build-cells-requires
-build-cells-requires c κs =
-    let e = c.before.before.before.before in
-    let a = Admit e.before in
-    build_asks (admits a) (Begin a).args.given (Asked a).ask-box.ensures (Begin a).pre e.if1.false
+build_cells-requires : tie.Need-build_cells-told-requires
+build_cells-requires c κs =
+    let e = c in
+    let a = Admit e.before.before.before.before.before in
+    build_asks (admits a) (Begin a).args.given (Asked a).ask_box-asked.ensures (Begin a).requires e.if-r-ne0.false
 
-admit-fans-requires : tie.Need-admit-fans-requires
-admit-fans-requires c κs =
+admit_fans-requires : tie.Need-admit_fans-k-requires
+admit_fans-requires c κs =
     let m = Made c.before.before.before.before.before in
     let e = Accepts m in
     let a = Admit e.before in
-    (fans_tryable (admits a) e.if1.left, build_fans (admits a) (Begin a).args.given (Asked a).ask-box.ensures (Begin a).pre e.if1.left m.build-cells.ensures)
+    (fans_tryable (admits a) e.if-r-ne0.false, build_fans (admits a) (Begin a).args.given (Asked a).ask_box-asked.ensures (Begin a).requires e.if-r-ne0.false m.build_cells-told.ensures)
 
 -- the slices once rule 10 is tried, one after the other, and once the rules up to 9 were
-abbrev Known : tie.After-slice-known18 → tie.After-slice-known10
+abbrev Known : tie.After-slice_known-18-1 → tie.After-slice_known-10-1
 Known c = (Accepts (Made (Told (Tried c)))).before
 
-abbrev Vertices3 : tie.After-slice-known18 → tie.After-vertices3
+abbrev Vertices3 : tie.After-slice_known-18-1 → tie.After-vertices-3-1
 Vertices3 c = c.before.before.before.before.before.before.before
 
-abbrev Vertices2 : tie.After-slice-known18 → tie.After-vertices2
+abbrev Vertices2 : tie.After-slice_known-18-1 → tie.After-vertices-2-1
 Vertices2 c = (Told (Tried c)).before.before.before.before.before
 
-abbrev Indexes2 : tie.After-slice-known18 → tie.After-indexes2
+abbrev Indexes2 : tie.After-slice_known-18-1 → tie.After-indexes-2-1
 Indexes2 c = (Told (Tried c)).before.before.before
 
-abbrev Vertices : tie.After-slice-known18 → tie.After-vertices
-Vertices c = (Known c).before.before.before.before.before.before.before
+abbrev Vertices : tie.After-slice_known-18-1 → tie.After-vertices-1
+Vertices c = c.before.before.before.before.before.before.before.before.before.before.before.before.before.before.before.before.before.before.before.before.before.before.before.before.before.before.before.before.before.before.before.before.before.before.before
 
-abbrev Indexes : tie.After-slice-known18 → tie.After-indexes
-Indexes c = (Known c).before.before.before.before.before
+abbrev Indexes : tie.After-slice_known-18-1 → tie.After-indexes-1
+Indexes c = c.before.before.before.before.before.before.before.before.before.before.before.before.before.before.before.before.before.before.before.before.before.before.before.before.before.before.before.before.before.before.before.before.before
 
-same-length-6 : tie.Need-same-length-6
-same-length-6 c = (Vertices3 c.before).before.before.work2.given ∙ (Vertices c.before).before.before.work.given
+same_length-6 : tie.Need-shape_of-work-then-k-ne0
+same_length-6 c = (Vertices3 c.before).work-2-1.given ∙ (Vertices c.before).work-1.given
 
-same-length-7 : tie.Need-same-length-7
-same-length-7 c = (Vertices3 c.before).vertices3.given ∙ (Vertices2 c.before).vertices2.given ∙ (Vertices c.before).vertices.given
+same_length-7 : tie.Need-shape_of-vertices-then-k-ne0
+same_length-7 c = (Vertices3 c.before).vertices-3-1.given ∙ (Vertices2 c.before).vertices-2-1.given ∙ (Vertices c.before).vertices-1.given
 
-same-length-8 : tie.Need-same-length-8
-same-length-8 c = c.before.before.before.before.before.before.indexes3.given ∙ (Indexes2 c.before).indexes2.given ∙ (Indexes c.before).indexes.given
+same_length-8 : tie.Need-shape_of-indexes-then-k-ne0
+same_length-8 c = c.indexes-3-1.given ∙ (Indexes2 c.before).indexes-2-1.given ∙ (Indexes c.before).indexes-1.given
 
-same-length-9 : tie.Need-same-length-9
-same-length-9 c = c.before.before.before.before.offsets3.given ∙ (Told (Tried c.before)).before.offsets2.given ∙ (Known c.before).before.before.before.offsets.given
+same_length-9 : tie.Need-shape_of-offsets-then-k-ne0
+same_length-9 c = c.offsets-3-1.given ∙ (Told (Tried c.before)).offsets-2-1.given ∙ (Known c.before).offsets-1.given
 
-returns-2 : tie.Need-returns-2
+returns-2 : tie.Need-returns-then-k-ne0
 returns-2 c =
     let f = Tried c.before in
     let m = Made (Told f) in
     let e = Accepts m in
     let a = Admit e.before in
-    let k = m.build-cells.kept.1.1.1.1.1.1 in
-    build_broken (admits a) (Begin a).args.given (Asked a).ask-box.ensures (Begin a).pre e.if1.left m.build-cells.ensures f.admit-fans.ensures c.if2.true
-    k.0 k.1.0 k.1.1.0
+    let k = m.build_cells-told.auto in
+    build_broken (admits a) (Begin a).args.given (Asked a).ask_box-asked.ensures (Begin a).requires e.if-r-ne0.false m.build_cells-told.ensures f.admit_fans-k.ensures c.if-k-ne0.true
+    k.vertices k.indexes k.offsets
 
-finish-build-requires : tie.Need-finish-build-requires
-finish-build-requires c κs =
-    let w = c.before.before.before.before in
-    let f = Tried w.before in
+finish_build-requires : tie.Need-finish_build-requires
+finish_build-requires c κs =
+    let w = c in
+    let f = Tried w.before.before.before.before.before in
     let m = Made (Told f) in
     let e = Accepts m in
     let a = Admit e.before in (
-      count_fits (admits a) (Begin a).args.given (Asked a).ask-box.ensures (Begin a).pre e.if1.left m.build-cells.ensures f.admit-fans.ensures w.if2.false,
-      reused_fit (admits a) (Begin a).args.given (Asked a).ask-box.ensures (Begin a).pre e.if1.left m.build-cells.ensures f.admit-fans.ensures w.if2.false,
-      nine_fit (admits a) (Begin a).args.given (Asked a).ask-box.ensures (Begin a).pre e.if1.left m.build-cells.ensures f.admit-fans.ensures w.if2.false,
+      count_fits (admits a) (Begin a).args.given (Asked a).ask_box-asked.ensures (Begin a).requires e.if-r-ne0.false m.build_cells-told.ensures f.admit_fans-k.ensures w.if-k-ne0.false,
+      reused_fit (admits a) (Begin a).args.given (Asked a).ask_box-asked.ensures (Begin a).requires e.if-r-ne0.false m.build_cells-told.ensures f.admit_fans-k.ensures w.if-k-ne0.false,
+      nine_fit (admits a) (Begin a).args.given (Asked a).ask_box-asked.ensures (Begin a).requires e.if-r-ne0.false m.build_cells-told.ensures f.admit_fans-k.ensures w.if-k-ne0.false,
     )
 
-abbrev Ended : tie.After-slice-known20 → tie.After-slice-known18
-Ended c = (Whole c.before.before.before.before).before
+abbrev Ended : tie.After-slice_known-20-1 → tie.After-slice_known-18-1
+Ended c = c.before.before.before.before.before.before.before.before.before.before
 
-same-length-11 : tie.Need-same-length-11
-same-length-11 c = c.before.before.before.work3.given ∙ (Vertices3 (Ended c)).before.before.work2.given ∙ (Vertices (Ended c)).before.before.work.given
+same_length-11 : tie.Need-shape_of-work
+same_length-11 c = c.work-3-1.given ∙ (Vertices3 (Ended c)).work-2-1.given ∙ (Vertices (Ended c)).work-1.given
 
-same-length-12 : tie.Need-same-length-12
-same-length-12 c = (Vertices3 (Ended c)).vertices3.given ∙ (Vertices2 (Ended c)).vertices2.given ∙ (Vertices (Ended c)).vertices.given
+same_length-12 : tie.Need-shape_of-vertices
+same_length-12 c = (Vertices3 (Ended c)).vertices-3-1.given ∙ (Vertices2 (Ended c)).vertices-2-1.given ∙ (Vertices (Ended c)).vertices-1.given
 
-same-length-13 : tie.Need-same-length-13
-same-length-13 c = (Ended c).before.before.before.before.before.indexes3.given ∙ (Indexes2 (Ended c)).indexes2.given ∙ (Indexes (Ended c)).indexes.given
+same_length-13 : tie.Need-shape_of-indexes
+same_length-13 c = (Ended c).indexes-3-1.given ∙ (Indexes2 (Ended c)).indexes-2-1.given ∙ (Indexes (Ended c)).indexes-1.given
 
-same-length-14 : tie.Need-same-length-14
-same-length-14 c = (Ended c).before.before.before.offsets3.given ∙ (Told (Tried (Ended c))).before.offsets2.given ∙ (Known (Ended c)).before.before.before.offsets.given
+same_length-14 : tie.Need-shape_of-offsets
+same_length-14 c = (Ended c).offsets-3-1.given ∙ (Told (Tried (Ended c))).offsets-2-1.given ∙ (Known (Ended c)).offsets-1.given
 
-same-length-15 : tie.Need-same-length-15
-same-length-15 c = c.before.counts3.given ∙ (Ended c).before.counts2.given ∙ (Known (Ended c)).before.counts.given
+same_length-15 : tie.Need-shape_of-counts
+same_length-15 c = c.counts-3-1.given ∙ (Ended c).counts-2-1.given ∙ (Known (Ended c)).counts-1.given
 
-returns-3 : tie.Need-returns-3
+returns-3 : tie.Need-returns
 returns-3 c =
-    let d = c.before.before.before.before in
-    let w = Whole d in
+    let d = c in
+    let w = Whole d.before.before.before.before in
     let f = Tried w.before in
     let m = Made (Told f) in
     let e = Accepts m in
     let a = Admit e.before in
-    build_built (admits a) (Begin a).args.given (Asked a).ask-box.ensures (Begin a).pre e.if1.left m.build-cells.ensures f.admit-fans.ensures w.if2.left
-    d.finish-build.ensures
+    build_built (admits a) (Begin a).args.given (Asked a).ask_box-asked.ensures (Begin a).requires e.if-r-ne0.false m.build_cells-told.ensures f.admit_fans-k.ensures w.if-k-ne0.false
+    d.finish_build.ensures
 
-pub build-spec : {M : Type 1} → statement M
-build-spec =
+pub build_spec : {M : Type 1} → statement M
+build_spec =
     tie.close
     (tie.spec (λ c κs. search rules) (λ c κs. search rules) (λ c. search rules) (λ c. search rules) (λ c. search rules)
-    (λ c. search rules) (λ c. search rules) returns slice-reshare-prefix-build-cells slice-aggregate-build-cells build-cells-requires
-    admit-fans-requires same-length-6 same-length-7 same-length-8 same-length-9 (λ c. search rules) returns-2 finish-build-requires
-    same-length-11 same-length-12 same-length-13 same-length-14 same-length-15 returns-3)
+    (λ c. search rules) (λ c. search rules) returns slice_reshare_prefix-build_cells slice_aggregate-build_cells build_cells-requires
+    admit_fans-requires same_length-6 same_length-7 same_length-8 same_length-9 (λ c. search rules) returns-2 finish_build-requires
+    same_length-11 same_length-12 same_length-13 same_length-14 same_length-15 returns-3)

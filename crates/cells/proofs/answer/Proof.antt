@@ -10,51 +10,51 @@ use Rattle.cells.proofs.answer.Statement.{statement}
 use Rattle.cells.proofs.answer.Tie as tie
 
 -- the function's entry, and where the form was read
-abbrev begin : tie.After-read → tie.Start
+abbrev begin : tie.After-read-read → tie.Start
 begin c = c.before.before.before.before.before.before.before
 
-abbrev read : tie.After-sites3 → tie.After-read
+abbrev read : tie.After-sites-3-1 → tie.After-read-read
 read c = c.before.before.before.before.before.before.before.before.before
 
 refusal-requires : tie.Need-refusal-requires
-refusal-requires c κs = let w = c.before.before.before.before.before.before.before in omega (arith, refusal_short w.read.result.number, (begin w).requires)
+refusal-requires c κs = let w = c in omega (arith, refusal_short w.read-read.result.number, (begin w.before.before.before.before.before.before.before).requires)
 
-returns : tie.Need-returns
+returns : tie.Need-returns-then-read-ne0
 returns c =
-    let test = c.before.before.before.before in
-    let w = test.before.before.before.before.before.before in
-    let h = line_held _ (omega (arith, (begin w).requires)) c.before.before.refusal.ensures in
-    (not_told w.read.ensures test.if1.true h.first, h.within)
+    let test = c in
+    let w = test in
+    let h = line_held _ (omega (arith, (begin w.before.before.before.before.before.before.before.before.before.before).requires)) c.refusal.ensures in
+    (not_told w.read-read.ensures test.if-read-ne0.true h.first, h.within)
 
-slice-aggregate-of-mesh : tie.Need-slice-aggregate-of-mesh
-slice-aggregate-of-mesh c = let r = (read c).read in sym (length-take-le _ _ (omega (arith, r.ensures.sized.few_sites, r.kept.1.1.0)))
+slice_aggregate-of_mesh : tie.Need-slice_bounds-of_mesh-end
+slice_aggregate-of_mesh c = let r = (read c).read-read in sym (length-take-le _ _ (omega (arith, r.ensures.sized.few_sites, r.auto.sites)))
 
-slice-aggregate-of-mesh-2 : tie.Need-slice-aggregate-of-mesh-2
-slice-aggregate-of-mesh-2 c = let r = (read c.before).read in sym (length-take-le _ _ (omega (arith, r.ensures.sized.few_triangles, r.kept.1.1.1.0)))
+slice_aggregate-of_mesh-2 : tie.Need-slice_bounds-of_mesh-end-2
+slice_aggregate-of_mesh-2 c = let r = (read c.before).read-read in sym (length-take-le _ _ (omega (arith, r.ensures.sized.few_triangles, r.auto.triangles)))
 
-slice-aggregate-of-mesh-3 : tie.Need-slice-aggregate-of-mesh-3
-slice-aggregate-of-mesh-3 c = let r = (read c.before.before).read in sym (length-take-le _ _ (omega (arith, r.ensures.sized.few_triangles, r.kept.1.1.1.1.0)))
+slice_aggregate-of_mesh-3 : tie.Need-slice_bounds-of_mesh-end-3
+slice_aggregate-of_mesh-3 c = let r = (read c.before.before).read-read in sym (length-take-le _ _ (omega (arith, r.ensures.sized.few_triangles, r.auto.halfedges)))
 
-slice-aggregate-of-mesh-4 : tie.Need-slice-aggregate-of-mesh-4
-slice-aggregate-of-mesh-4 c = let r = (read c.before.before.before).read in sym (length-take-le _ _ (omega (arith, r.ensures.sized.few_on_hull, r.kept.1.1.1.1.1.0)))
+slice_aggregate-of_mesh-4 : tie.Need-slice_bounds-of_mesh-end-4
+slice_aggregate-of_mesh-4 c = let r = (read c.before.before.before).read-read in sym (length-take-le _ _ (omega (arith, r.ensures.sized.few_on_hull, r.auto.hull)))
 
-of-mesh-requires : tie.Need-of-mesh-requires
-of-mesh-requires c κs =
+of_mesh-requires : tie.Need-of_mesh-requires
+of_mesh-requires c κs =
     let w = read c.before.before.before in
-    let r = w.read.ensures in
-    (parts_sized _ _ _ r.sized, r.box, (begin w).pre)
+    let r = w.read-read.ensures in
+    (parts_sized _ _ _ r.sized, r.box, (begin w).requires)
 
-returns-2 : tie.Need-returns-2
+returns-2 : tie.Need-returns
 returns-2 c =
-    let at-of-mesh = c.before.before in
-    let test = at-of-mesh.before.before.before.before.before.before.before in
-    let w = test.before.before.before.before.before.before in
-    let h = at-of-mesh.of-mesh.ensures in
-    (told w.read.ensures test.if1.false h.0, h.1)
+    let at-of-mesh = c in
+    let test = at-of-mesh in
+    let w = test in
+    let h = at-of-mesh.of_mesh.ensures in
+    (told w.read-read.ensures test.if-read-ne0.false h.0, h.1)
 
-pub answer-spec : {M : Type 1} → statement M
-answer-spec =
+pub answer_spec : {M : Type 1} → statement M
+answer_spec =
     tie.close
     (tie.spec (λ c. search rules) (λ c. search rules) (λ c. search rules) (λ c. search rules) (λ c κs. search rules) refusal-requires (λ c. search rules) returns
-    (λ c. search rules) slice-aggregate-of-mesh (λ c. search rules) slice-aggregate-of-mesh-2 (λ c. search rules) slice-aggregate-of-mesh-3 (λ c. search rules) slice-aggregate-of-mesh-4
-    of-mesh-requires (λ c. search rules) returns-2)
+    (λ c. search rules) slice_aggregate-of_mesh (λ c. search rules) slice_aggregate-of_mesh-2 (λ c. search rules) slice_aggregate-of_mesh-3 (λ c. search rules) slice_aggregate-of_mesh-4
+    of_mesh-requires (λ c. search rules) returns-2)

@@ -6,38 +6,38 @@ use borrow.Author.Rules.{rules}
 use Rattle.cells.proofs.of_mesh.Statement.{statement}
 use Rattle.cells.proofs.of_mesh.Tie as tie
 
-abbrev Start : tie.After-counts → tie.Start
+abbrev Start : tie.After-counts-1 → tie.Start
 Start c = c.before.before.before.before.before.before.before.before.before.before
 
 show-requires : tie.Need-show-requires
 show-requires c κs =
-    let at-narrow = c.before.before.before.before.before in
-    let at-build = at-narrow.before.before.before.before.before.before in
-    let s = Start at-build.before in
-    let b = at-build.build in (
-      λ z. rw at-narrow.narrow.ensures (laid_of_mesh _ s.pre.0 _ _
-          (record { work = refl; vertices = refl; indexes = refl; offsets = refl; counts = refl }) _ _ b.ensures _ s.pre.2
-          b.auto.1.1.1.1.1.1.1.0 z),
-      omega (arith, b.auto.1.1.1.1.1.1.1.1.1.0),
-      s.pre.2,
+    let at-narrow = c in
+    let at-build = at-narrow in
+    let s = Start at-build.before.before.before.before.before.before.before.before.before.before.before.before in
+    let b = at-build.build-number in (
+      λ z. rw at-narrow.narrow-n.ensures (laid_of_mesh _ s.requires.0 _ _
+          (record { work = refl; vertices = refl; indexes = refl; offsets = refl; counts = refl }) _ _ b.ensures _ s.requires.2
+          b.auto.indexes z),
+      omega (arith, b.auto.counts),
+      s.requires.2,
     )
 
 returns : tie.Need-returns
 returns c =
-    let at-narrow2 = c.before.before.before.before.before.before.before in
-    let at-build = at-narrow2.before.before.before.before.before.before.before in
-    let b = at-build.build in
-    let h = c.before.before.show.ensures in (
-      rw (h.first, at-narrow2.before.narrow.ensures, at-narrow2.narrow2.ensures)
-          (listing_of_mesh _ (Start at-build.before).requires.0 _ _ (record { work = refl; vertices = refl; indexes = refl; offsets = refl; counts = refl }) _ _ b.ensures),
+    let at-narrow2 = c in
+    let at-build = at-narrow2 in
+    let b = at-build.build-number in
+    let h = c.show.ensures in (
+      rw (h.first, at-narrow2.narrow-n.ensures, at-narrow2.narrow-t.ensures)
+          (listing_of_mesh _ (Start at-build.before.before.before.before.before.before.before.before.before.before.before.before.before.before.before).requires.0 _ _ (record { work = refl; vertices = refl; indexes = refl; offsets = refl; counts = refl }) _ _ b.ensures),
       h.within,
     )
 
-build-requires : tie.Need-build-requires
+build-requires : tie.Need-build-number-requires
 build-requires c κs = (Start c).requires.1
 
-pub of-mesh-spec : {M : Type 1} → statement M
-of-mesh-spec =
+pub of_mesh_spec : {M : Type 1} → statement M
+of_mesh_spec =
     tie.close
     (tie.spec (λ c. search rules) (λ c. search rules) (λ c. search rules) (λ c. search rules) (λ c. search rules)
     build-requires (λ c κs. search rules) (λ c κs. search rules) (λ c. search rules) (λ c. search rules) (λ c. search rules)

@@ -26,7 +26,7 @@ use Rattle.definition.specs.Cell.{Entry, Ins, RingPart, in_box, first_inside, st
 use Rattle.definition.specs.Short.{fault, ins, part, parts_joined}
 use Rattle.definition.specs.declared.Reused.{Reused}
 use Rattle.definition.specs.Reused.{reused, together, Addable, CountsReused}
-use Rattle.definition.specs.laws.Reused.{counts_none, counts_then, counts_small, together_none}
+use Rattle.definition.proofs.laws.Reused.{counts_none, counts_then, counts_small, together_none}
 use Rattle.clipping.specs.edges.EdgeClip.{CrossingsAsked, VerticesGrown}
 use Rattle.clipping.specs.EdgeOutcome.{EdgeRoom, Did}
 use Rattle.clipping.specs.RingWalk.{tip_of, Stands, Steps, ring_of, RingRoom}

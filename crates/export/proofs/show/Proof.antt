@@ -10,27 +10,27 @@ use Rattle.export.proofs.show.Tie as tie
 
 refusal-requires : tie.Need-refusal-requires
 refusal-requires c κs =
-    let s = c.before.before.before.before.before.before in
+    let s = c in
     omega (arith, refusal_short s.args.number, s.requires.1)
 
-returns : tie.Need-returns
+returns : tie.Need-returns-then-number-ne0
 returns c =
-    let test = c.before.before.before.before in
-    let s = test.before.before.before.before.before in
-    refusal_held _ s.args.number test.if1.true (omega (arith, s.requires.1)) c.before.before.refusal.ensures
+    let test = c in
+    let s = test in
+    refusal_held _ s.args.number test.if-number-ne0.true (omega (arith, s.requires.1)) c.refusal.ensures
 
-map-text-requires : tie.Need-map-text-requires
-map-text-requires c κs =
-    let s = c.before.before.before.before.before.before in
-    let p = s.requires.0 c.before.if1.false in
+map_text-requires : tie.Need-map_text-requires
+map_text-requires c κs =
+    let s = c in
+    let p = s.requires.0 c.if-number-ne0.false in
     (p.drawn, omega (arith, lines_fit s.args.vertices.now (length s.args.out.now) p s.requires.1))
 
-returns-2 : tie.Need-returns-2
+returns-2 : tie.Need-returns
 returns-2 c =
-    let test = c.before.before.before.before in
-    let s = test.before.before.before.before.before in
-    let z = test.if1.false in
-    text_held _ s.args.number z (lines_fit s.args.vertices.now (length s.args.out.now) (s.requires.0 z) s.requires.1) c.before.before.map-text.ensures
+    let test = c in
+    let s = test in
+    let z = test.if-number-ne0.false in
+    text_held _ s.args.number z (lines_fit s.args.vertices.now (length s.args.out.now) (s.requires.0 z) s.requires.1) c.map_text.ensures
 
-pub show-spec : {M : Type 1} → statement M
-show-spec = tie.close (tie.spec refusal-requires (λ c. search rules) returns map-text-requires (λ c. search rules) returns-2)
+pub show_spec : {M : Type 1} → statement M
+show_spec = tie.close (tie.spec refusal-requires (λ c. search rules) returns map_text-requires (λ c. search rules) returns-2)

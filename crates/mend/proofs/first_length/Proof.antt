@@ -4,5 +4,5 @@ use borrow.Author.Tests.{eq-eqb, ne_eqb}
 use Rattle.mend.proofs.first_length.Statement.{statement}
 use Rattle.mend.proofs.first_length.Tie as tie
 
-pub first-length-spec : {M : Type 1} → statement M
-first-length-spec = tie.close (tie.spec (λ c. (rw (eq-eqb _ _ c.if1.true), omega arith, omega arith)) (λ c. (rw (ne_eqb _ _ c.if1.false), omega arith, omega arith)))
+pub first_length_spec : {M : Type 1} → statement M
+first_length_spec = tie.close (tie.spec (λ c. (rw (eq-eqb _ _ c.if-clip-eq6.true), omega arith, omega arith)) (λ c. (rw (ne_eqb _ _ c.if-clip-eq6.false), omega arith, omega arith)))

@@ -4,5 +4,5 @@ use native.Mathlib.Omega.{arith}
 use Rattle.mend.proofs.from_end.Statement.{statement}
 use Rattle.mend.proofs.from_end.Tie as tie
 
-pub from-end-spec : {M : Type 1} → statement M
-from-end-spec = tie.close (tie.spec (λ c. omega (arith, c.if1.true)) (λ c. refl))
+pub from_end_spec : {M : Type 1} → statement M
+from_end_spec = tie.close (tie.spec (λ c. omega (arith, c.if-count-k.true)) (λ c. refl))

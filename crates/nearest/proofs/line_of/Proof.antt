@@ -4,17 +4,17 @@ use Rattle.nearest.specs.Printed.{answer_line}
 use Rattle.nearest.proofs.line_of.Statement.{statement}
 use Rattle.nearest.proofs.line_of.Tie as tie
 
-returns : tie.Need-returns
+returns : tie.Need-returns-then-number-eq-REFUSED_GRID
 unfolding answer_line
-returns c = rw (eq-eqb _ _ c.if1.true)
+returns c = rw (eq-eqb _ _ c.if-number-eq-REFUSED_GRID.true)
 
-returns-2 : tie.Need-returns-2
+returns-2 : tie.Need-returns-then-number-ne0
 unfolding answer_line
-returns-2 c = rw (ne_eqb _ _ c.before.if1.false, ne_eqb _ _ c.if2.true)
+returns-2 c = rw (ne_eqb _ _ c.if-number-eq-REFUSED_GRID.false, ne_eqb _ _ c.if-number-ne0.true)
 
-returns-3 : tie.Need-returns-3
+returns-3 : tie.Need-returns
 unfolding answer_line
-returns-3 c = rw (ne_eqb _ _ c.before.before.if1.false, eq-eqb _ _ c.before.if2.false) c.kind-line.ensures
+returns-3 c = rw (ne_eqb _ _ c.if-number-eq-REFUSED_GRID.false, eq-eqb _ _ c.if-number-ne0.false) c.kind_line.ensures
 
-pub line-of-spec : {M : Type 1} → statement M
-line-of-spec = tie.close (tie.spec (λ c. omega arith) returns returns-2 (λ c κs. search rules) returns-3)
+pub line_of_spec : {M : Type 1} → statement M
+line_of_spec = tie.close (tie.spec (λ c. omega arith) returns returns-2 (λ c κs. search rules) returns-3)

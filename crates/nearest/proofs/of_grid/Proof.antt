@@ -3,11 +3,11 @@ use Rattle.std.proofs.Common.{refl, arith, rules}
 use Rattle.nearest.proofs.of_grid.Statement.{statement}
 use Rattle.nearest.proofs.of_grid.Tie as tie
 
-abbrev Begin : tie.After-first-beyond → tie.Start
+abbrev Begin : tie.After-first_beyond-beyond → tie.Start
 Begin c = c.before.before.before.before.before.before.before.before.before.before
 
-line-of-requires : tie.Need-line-of-requires
-line-of-requires c κs = let beyond = c.before.before in omega (arith, beyond.first-beyond.ensures.within, (Begin beyond).requires)
+line_of-requires : tie.Need-line_of-requires
+line_of-requires c κs = let beyond = c in omega (arith, beyond.first_beyond-beyond.ensures.within, (Begin beyond.before.before.before).requires)
 
 returns : tie.Need-returns
 returns c = record {
@@ -18,11 +18,11 @@ returns c = record {
   kind = _;
   place = _;
   unused = _;
-  checks = c.before.before.before.before.before.check-nearest-lent.ensures;
+  checks = c.check_nearest_lent-number.ensures;
   beyond = _;
-  first = c.before.before.before.first-beyond.ensures;
-  line = rw (← c.before.with-box.ensures, ← c.before.before.off-corner.ensures) c.Line-of.ensures;
+  first = c.first_beyond-beyond.ensures;
+  line = rw (← c.with_box-boxed.ensures, ← c.off_corner-corner.ensures) c.line_of.ensures;
 }
 
-pub of-grid-spec : {M : Type 1} → statement M
-of-grid-spec = tie.close (tie.spec (λ c. search rules) (λ c κs. search rules) (λ c κs. search rules) (λ c κs. search rules) (λ c κs. search rules) line-of-requires returns)
+pub of_grid_spec : {M : Type 1} → statement M
+of_grid_spec = tie.close (tie.spec (λ c. search rules) (λ c κs. search rules) (λ c κs. search rules) (λ c κs. search rules) (λ c κs. search rules) line_of-requires returns)

@@ -5,17 +5,17 @@ use Rattle.nearest.specs.whole_sites.Whole.{whole_number}
 use Rattle.nearest.proofs.of_mesh.Statement.{statement}
 use Rattle.nearest.proofs.of_mesh.Tie as tie
 
-abbrev Begin : tie.After-to-grid → tie.Start
+abbrev Begin : tie.After-to_grid → tie.Start
 Begin c = c.before.before.before.before.before.before
 
-slice-aggregate-of-grid : tie.Need-slice-aggregate-of-grid
-slice-aggregate-of-grid c = let g = c.before.before in sym (ap length g.to-grid.ensures ∙ length-map (Begin g).args.sites.now whole_number)
+slice_aggregate-of_grid : tie.Need-slice_bounds-of_grid-end
+slice_aggregate-of_grid c = let g = c in sym (ap length g.to_grid.ensures ∙ length-map (Begin g.before.before).args.sites.now whole_number)
 
-of-grid-requires : tie.Need-of-grid-requires
-of-grid-requires c κs = let g = c.before.before in omega (arith, ap length g.to-grid.ensures, length-map (Begin g).args.sites.now whole_number, (Begin g).requires)
+of_grid-requires : tie.Need-of_grid-requires
+of_grid-requires c κs = let g = c in omega (arith, ap length g.to_grid.ensures, length-map (Begin g.before.before).args.sites.now whole_number, (Begin g.before.before).requires)
 
 returns : tie.Need-returns
-returns c = rw c.before.before.before.to-grid.ensures at c.of-grid.ensures
+returns c = rw c.to_grid.ensures at c.of_grid.ensures
 
-pub of-mesh-spec : {M : Type 1} → statement M
-of-mesh-spec = tie.close (tie.spec (λ c. search rules) (λ c κs. search rules) (λ c. search rules) slice-aggregate-of-grid of-grid-requires returns)
+pub of_mesh_spec : {M : Type 1} → statement M
+of_mesh_spec = tie.close (tie.spec (λ c. search rules) (λ c κs. search rules) (λ c. search rules) slice_aggregate-of_grid of_grid-requires returns)

@@ -4,17 +4,17 @@ use Rattle.nearest.specs.Printed.{with_box}
 use Rattle.nearest.proofs.with_box.Statement.{statement}
 use Rattle.nearest.proofs.with_box.Tie as tie
 
-returns : tie.Need-returns
+returns : tie.Need-returns-then-sound
 unfolding with_box
-returns c = rw c.if1.true
+returns c = rw c.if-sound.true
 
-returns-2 : tie.Need-returns-2
+returns-2 : tie.Need-returns-then-number-eq-REFUSED_COUNT
 unfolding with_box
-returns-2 c = rw (c.before.if1.false, eq-eqb _ _ c.if2.true)
+returns-2 c = rw (c.if-sound.false, eq-eqb _ _ c.if-number-eq-REFUSED_COUNT.true)
 
-returns-3 : tie.Need-returns-3
+returns-3 : tie.Need-returns
 unfolding with_box
-returns-3 c = rw (c.before.if1.false, ne_eqb _ _ c.if2.false)
+returns-3 c = rw (c.if-sound.false, ne_eqb _ _ c.if-number-eq-REFUSED_COUNT.false)
 
-pub with-box-spec : {M : Type 1} → statement M
-with-box-spec = tie.close (tie.spec returns returns-2 returns-3)
+pub with_box_spec : {M : Type 1} → statement M
+with_box_spec = tie.close (tie.spec returns returns-2 returns-3)

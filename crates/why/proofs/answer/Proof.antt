@@ -6,17 +6,17 @@ use borrow.Author.Rules.{rules}
 use Rattle.why.proofs.answer.Statement.{statement}
 use Rattle.why.proofs.answer.Tie as tie
 
-reason-line-requires : tie.Need-reason-line-requires
-reason-line-requires c κs = omega (arith, line_short c.before.of-form.result, c.before.before.before.before.requires)
+reason_line-requires : tie.Need-reason_line-requires
+reason_line-requires c κs = omega (arith, line_short c.of_form-r.result, c.requires)
 
 returns : tie.Need-returns
 returns c =
-    let at-line = c.before.before in
-    let at-form = at-line.before.before in
-    let s = at-form.before.before.before in
-    let w = at-line.reason-line.ensures in
-    let r = at-form.of-form in
+    let at-line = c in
+    let at-form = at-line in
+    let s = at-form in
+    let w = at-line.reason_line.ensures in
+    let r = at-form.of_form-r in
     (record { reason = r.result; true = r.ensures; line = wrote_all w (omega (arith, line_short r.result, s.requires)) }, omega (arith, w.place, line_short r.result, s.requires))
 
-pub answer-spec : {M : Type 1} → statement M
-answer-spec = tie.close (tie.spec (λ c κs. search rules) reason-line-requires (λ c. search rules) returns)
+pub answer_spec : {M : Type 1} → statement M
+answer_spec = tie.close (tie.spec (λ c κs. search rules) reason_line-requires (λ c. search rules) returns)

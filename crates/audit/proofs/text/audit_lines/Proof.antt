@@ -11,19 +11,19 @@ before s = turned_line s.args.count s.args.total s.args.lowest
 abbrev after : tie.Start → List ℕ
 after s = verdict_line s.args.verdict s.args.missing
 
-turned-line-requires : tie.Need-turned-line-requires
+turned_line-requires : tie.Need-turned_line-end-requires
 unfolding audit_lines
-turned-line-requires c κs = let s = c.before.before in fits_left s.args.out.now 0 (before s) (after s) s.requires
+turned_line-requires c κs = let s = c in fits_left s.args.out.now 0 (before s.before.before) (after s.before.before) s.requires
 
-verdict-line-requires : tie.Need-verdict-line-requires
+verdict_line-requires : tie.Need-verdict_line-requires
 unfolding audit_lines
-verdict-line-requires c κs =
-    let s = c.before.before.before.before.before.before in
-    fits_then (before s) (after s) c.before.before.before.turned-line.ensures s.requires
+verdict_line-requires c κs =
+    let s = c in
+    fits_then (before s.before.before.before.before.before.before) (after s.before.before.before.before.before.before) c.turned_line-end.ensures s.requires
 
 returns : tie.Need-returns
 unfolding audit_lines
-returns c = wrote_then c.before.before.before.before.before.before.turned-line.ensures c.before.before.verdict-line.ensures
+returns c = wrote_then c.turned_line-end.ensures c.verdict_line.ensures
 
-pub audit-lines-spec : {M : Type 1} → statement M
-audit-lines-spec = tie.close (tie.spec turned-line-requires verdict-line-requires (λ c. search rules) returns)
+pub audit_lines_spec : {M : Type 1} → statement M
+audit_lines_spec = tie.close (tie.spec turned_line-requires verdict_line-requires (λ c. search rules) returns)

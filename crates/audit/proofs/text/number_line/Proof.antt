@@ -12,22 +12,22 @@ before s = s.args.label.now ++ entries (s.args.n ∷ [])
 abbrev after : tie.Start → List ℕ
 after s = s.args.end.now
 
-labelled-requires : tie.Need-labelled-requires
+labelled-requires : tie.Need-labelled-a-requires
 unfolding labelled_line
-labelled-requires c κs = let s = c.before.before.before.before in fits_left s.args.out.now s.args.at (before s) (after s) s.requires
+labelled-requires c κs = let s = c in fits_left s.args.out.now s.args.at (before s.before.before.before.before) (after s.before.before.before.before) s.requires
 
 put-requires : tie.Need-put-requires
 unfolding labelled_line
 put-requires c κs =
-    let at_first = c.before.before.before in
-    let s = at_first.before.before.before.before.before in
-    fits_then (before s) (after s) at_first.labelled.ensures s.requires
+    let at_first = c in
+    let s = at_first in
+    fits_then (before s.before.before.before.before.before.before.before.before) (after s.before.before.before.before.before.before.before.before) at_first.labelled-a.ensures s.requires
 
 returns : tie.Need-returns
 unfolding labelled_line
 returns c =
-    let at_second = c.before.before in
-    wrote_then at_second.before.before.before.before.labelled.ensures at_second.put.ensures
+    let at_second = c in
+    wrote_then at_second.labelled-a.ensures at_second.put.ensures
 
-pub number-line-spec : {M : Type 1} → statement M
-number-line-spec = tie.close (tie.spec labelled-requires put-requires (λ c. search rules) returns)
+pub number_line_spec : {M : Type 1} → statement M
+number_line_spec = tie.close (tie.spec labelled-requires put-requires (λ c. search rules) returns)

@@ -12,22 +12,22 @@ before s = s.args.first.now ++ entries (s.args.m ∷ [])
 abbrev after : tie.Start → List ℕ
 after s = labelled_line s.args.second.now s.args.n s.args.end.now
 
-labelled-requires : tie.Need-labelled-requires
+labelled-requires : tie.Need-labelled-a-requires
 unfolding pair_line
 labelled-requires c κs =
-    let s = c.before.before.before.before.before in
-    fits_left s.args.out.now s.args.at (before s) (after s) s.requires
+    let s = c in
+    fits_left s.args.out.now s.args.at (before s.before.before.before.before.before) (after s.before.before.before.before.before) s.requires
 
-number-line-requires : tie.Need-number-line-requires
+number_line-requires : tie.Need-number_line-requires
 unfolding pair_line
-number-line-requires c κs =
-    let at_first = c.before.before.before in
-    let s = at_first.before.before.before.before.before.before in
-    fits_then (before s) (after s) at_first.labelled.ensures s.requires
+number_line-requires c κs =
+    let at_first = c in
+    let s = at_first in
+    fits_then (before s.before.before.before.before.before.before.before.before.before) (after s.before.before.before.before.before.before.before.before.before) at_first.labelled-a.ensures s.requires
 
 returns : tie.Need-returns
 unfolding pair_line
-returns c = wrote_then c.before.before.before.before.before.before.labelled.ensures c.before.before.number-line.ensures
+returns c = wrote_then c.labelled-a.ensures c.number_line.ensures
 
-pub pair-line-spec : {M : Type 1} → statement M
-pair-line-spec = tie.close (tie.spec labelled-requires number-line-requires (λ c. search rules) returns)
+pub pair_line_spec : {M : Type 1} → statement M
+pair_line_spec = tie.close (tie.spec labelled-requires number_line-requires (λ c. search rules) returns)

@@ -4,17 +4,17 @@ use borrow.Author.Rules.{rules}
 use Rattle.building.proofs.counts.finish.Statement.{statement}
 use Rattle.building.proofs.counts.finish.Tie as tie
 
-returns : tie.Need-returns
+returns : tie.Need-returns-then-number-ne0
 returns c =
-    let first = c.before.before.before.before.before.before in
-    let t = first.before.before in
-    let n = ne_eqb _ 0 t.if1.true in
-    record { work = rw n first.clear.ensures; counts = rw n c.before.before.clear2.ensures }
+    let first = c in
+    let t = first in
+    let n = ne_eqb _ 0 t.if-number-ne0.true in
+    record { work = rw n first.clear.ensures; counts = rw n c.clear-then-number-ne0.ensures }
 
-returns-2 : tie.Need-returns-2
+returns-2 : tie.Need-returns
 returns-2 c =
-    let n = eq-eqb _ 0 c.before.before.before.before.if1.false in
-    record { work = rw n; counts = rw n c.before.before.put-counts.ensures }
+    let n = eq-eqb _ 0 c.if-number-ne0.false in
+    record { work = rw n; counts = rw n c.put_counts.ensures }
 
 pub finish_spec : {M : Type 1} → statement M
 finish_spec =

@@ -13,7 +13,7 @@ use Rattle.definition.specs.declared.Fault.{Fault}
 use Rattle.definition.specs.Fault.{Outcome, ok, refused}
 use Rattle.definition.specs.Cell.{extension, firstCrossing, secondCrossing}
 use Rattle.definition.specs.Build.{Built, build}
-use Rattle.definition.specs.laws.Reused.{reused_le}
+use Rattle.definition.proofs.laws.Reused.{reused_le}
 use Rattle.definition.specs.laws.Gives.{Gives, gives_map}
 use Rattle.build_laws.specs.laws.Built as theorems
 use Rattle.cell_memory.specs.outputs.Outputs.{of_built, fault_of, BuiltInto, counts_made}

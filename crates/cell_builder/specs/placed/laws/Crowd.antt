@@ -3,7 +3,7 @@ use Rattle.std.specs.Prelude.{◌≡◌, List, [], ◌∷◌, ◌≢◌, ℕ, �
 use Rattle.std.proofs.Common.{sym, ◌∙◌, ⊎_elim, arith}
 use Rattle.base.specs.common.Count.{same, occ}
 use Rattle.base.specs.common.laws.Count.{same_cases}
-use Rattle.definition.specs.laws.Puts.{same_other}
+use Rattle.definition.proofs.laws.Puts.{same_other}
 
 same_most : (v x : ℕ) → same v x ≤ 1
 same_most v x = ⊎_elim (λ w. omega (arith, w.1)) (λ w. omega (arith, w.1)) (same_cases v x)

@@ -22,7 +22,7 @@ use Rattle.definition.specs.Build.{finite, extended, extend_from}
 use Rattle.definition.specs.Short.{extensions}
 use Rattle.definition.specs.declared.Reused.{Reused}
 use Rattle.definition.specs.Reused.{if_old, reused, reused_in, together}
-use Rattle.definition.specs.laws.Reused.{reused_join}
+use Rattle.definition.proofs.laws.Reused.{reused_join}
 use Rattle.cell_builder.specs.rings.Extensions.{ray_of, ray_over, far_along, extended_ray, edge_at, HullReached, PointAhead, PointsFrom, ExtendedBy, ExtendsInto}
 use Rattle.cell_builder.specs.declared.rings.extensions.Ray.{Ray}
 use Rattle.cell_builder.specs.declared.rings.extensions.Passed.{Passed}

@@ -15,7 +15,7 @@ use Rattle.mesh.specs.laws.Facts.{entry_site}
 use Rattle.cell_memory.specs.layout.Regions.{Regions}
 use Rattle.cell_memory.specs.layout.Rooms.{region_room, region_start, Roomy}
 use Rattle.cell_memory.specs.layout.laws.Rooms.{start_end}
-use Rattle.definition.specs.laws.Puts.{placed_below}
+use Rattle.definition.proofs.laws.Puts.{placed_below}
 use Rattle.definition.specs.declared.Fault.{Fault}
 use Rattle.definition.specs.Fault.{Outcome, ok, refused, and_then}
 use Rattle.definition.specs.Cell as Def
@@ -25,7 +25,7 @@ use Rattle.definition.specs.laws.Gives.{Gives}
 use Rattle.definition.specs.Measures.{ValidEntries, share_of}
 use Rattle.definition.specs.declared.Reused.{Reused}
 use Rattle.definition.specs.Reused.{reused, reused_in, together, Addable}
-use Rattle.definition.specs.laws.Reused.{reused_join, together_none, counts_small}
+use Rattle.definition.proofs.laws.Reused.{reused_join, together_none, counts_small}
 use Rattle.definition.specs.Sides.{SidedCorners}
 use Rattle.build_laws.specs.laws.CellsSoFar.{CellsSoFar, clip_into_lem}
 use Rattle.build_laws.specs.laws.AllCells.{all_filled, spare}

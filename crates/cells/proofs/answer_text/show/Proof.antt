@@ -7,33 +7,33 @@ use borrow.Author.Rules.{rules}
 use Rattle.cells.proofs.answer_text.show.Statement.{statement}
 use Rattle.cells.proofs.answer_text.show.Tie as tie
 
-abbrev Built : tie.After-shared-slice-known12 → tie.Else1
+abbrev Built : tie.After-shared_slice_known-12-1 → tie.Else-number-ne0
 Built c = c.before.before.before.before.before.before.before.before.before.before
 
 refusal-requires : tie.Need-refusal-requires
 refusal-requires c κs =
-    let at_start = c.before.before.before.before.before.before in
+    let at_start = c in
     omega (arith, refusal_short at_start.args.number, at_start.requires.2)
 
-returns : tie.Need-returns
+returns : tie.Need-returns-then-number-ne0
 returns c =
-    let test = c.before.before.before.before in
-    let at_start = test.before.before.before.before.before in
-    refusal_held _ at_start.args.number test.if1.true at_start.requires.2 c.before.before.refusal.ensures
+    let test = c in
+    let at_start = test in
+    refusal_held _ at_start.args.number test.if-number-ne0.true at_start.requires.2 c.refusal.ensures
 
 listing-requires : tie.Need-listing-requires
 listing-requires c κs =
-    let at_start = (Built c).before.before.before.before.before in
-    let p = at_start.pre.0 (Built c).if1.false in (p.layout, omega (arith, box_fits at_start.args.triangles at_start.args.counts.now p))
+    let at_start = Built c in
+    let p = at_start.requires.0 (Built c).if-number-ne0.false in (p.layout, omega (arith, box_fits at_start.args.triangles at_start.args.counts.now p))
 
-returns-2 : tie.Need-returns-2
+returns-2 : tie.Need-returns
 returns-2 c =
     let test = Built c.before.before.before in
-    let s = test.before.before.before.before.before in
-    let z = test.if1.left in text_held _ s.args.number z (box_fits s.args.triangles s.args.counts.now (s.pre.0 z)) c.before.before.listing.ensures
+    let s = test in
+    let z = test.if-number-ne0.false in text_held _ s.args.number z (box_fits s.args.triangles s.args.counts.now (s.requires.0 z)) c.listing.ensures
 
-pub show-spec : {M : Type 1} → statement M
-show-spec =
+pub show_spec : {M : Type 1} → statement M
+show_spec =
     tie.close
     (tie.spec refusal-requires (λ c. search rules) returns (λ c. search rules) (λ c. search rules) (λ c. search rules)
     (λ c. search rules) (λ c. search rules) (λ c. search rules) (λ c. search rules) (λ c. search rules) (λ c. search rules) listing-requires

@@ -7,21 +7,21 @@ use borrow.Author.Rules.{rules}
 use Rattle.cells.proofs.listing.counts_and_cells.Statement.{statement}
 use Rattle.cells.proofs.listing.counts_and_cells.Tie as tie
 
-cell-lines-requires : tie.Need-cell-lines-requires
+cell_lines-requires : tie.Need-cell_lines-requires
 unfolding counts_and_cells
-cell-lines-requires c κs =
-    let one = c.before.before.before.before in let s = one.before.before.before.before.before in
+cell_lines-requires c κs =
+    let one = c in let s = one in
     rw c.wide.ensures (s.requires.0, omega (arith, simp length-append at s.requires.1))
 
 returns : tie.Need-returns
 unfolding counts_and_cells
 returns c =
-    let two = c.before.before in
-    wrote_then two.before.before.before.before.before.counts.ensures (rw two.before.wide.ensures at two.cell-lines.ensures)
+    let two = c in
+    wrote_then two.counts-end.ensures (rw two.wide.ensures at two.cell_lines.ensures)
 
-pub counts-and-cells-spec : {M : Type 1} → statement M
+pub counts_and_cells_spec : {M : Type 1} → statement M
 unfolding counts_and_cells
-counts-and-cells-spec =
+counts_and_cells_spec =
     tie.close
-    (tie.spec (λ c κs. omega (arith, simp length-append at c.before.before.before.before.requires.1)) (λ c κs. search rules) cell-lines-requires
+    (tie.spec (λ c κs. omega (arith, simp length-append at c.requires.1)) (λ c κs. search rules) cell_lines-requires
     (λ c. search rules) returns)

@@ -7,22 +7,22 @@ use borrow.Author.Rules.{rules}
 use Rattle.cells.proofs.listing.listing.Statement.{statement}
 use Rattle.cells.proofs.listing.listing.Tie as tie
 
-abbrev Entry : tie.After-counts-and-cells → tie.Start
+abbrev Entry : tie.After-counts_and_cells-a → tie.Start
 Entry c = c.before.before.before.before.before
 
-abbrev First : tie.After-corners → tie.After-counts-and-cells
+abbrev First : tie.After-corners-b → tie.After-counts_and_cells-a
 First c = c.before.before.before.before
 
 returns : tie.Need-returns
 unfolding listing_of
 returns c =
-    let three = c.before.before in
-    let two = three.before.before.before.before in
-    wrote_then (wrote_then (First two).counts-and-cells.ensures two.corners.ensures) three.reused.ensures
+    let three = c in
+    let two = three in
+    wrote_then (wrote_then (First two.before.before.before.before.before.before).counts_and_cells-a.ensures two.corners-b.ensures) three.reused.ensures
 
-pub listing-spec : {M : Type 1} → statement M
+pub listing_spec : {M : Type 1} → statement M
 unfolding listing_of
-listing-spec =
+listing_spec =
     tie.close
     (tie.spec (λ c κs. let s = c.before.before.before.before in (s.requires.0, omega (arith, simp length-append at s.requires.1)))
     (λ c κs. omega (arith, simp length-append at (Entry c.before.before.before).requires.1))

@@ -9,7 +9,7 @@ use Rattle.base.specs.common.laws.Count.{occ_length}
 use Rattle.base.specs.numbers.Numbers.{EMPTY}
 use Rattle.definition.specs.Cell.{wraps}
 use Rattle.clipping.specs.corners.laws.CellEntries.{occ_set}
-use Rattle.definition.specs.laws.Puts.{goes_own}
+use Rattle.definition.proofs.laws.Puts.{goes_own}
 use Rattle.clipping.specs.corners.laws.CornerWrap.{WrapLeft, going_start, going_on, going_end, wraps_go, wraps_stop}
 use Rattle.clipping.proofs.corners.wrap.Statement.{statement}
 use Rattle.clipping.proofs.corners.wrap.Tie as tie

@@ -4,13 +4,13 @@ use borrow.Author.Tests.{eq-eqb, ne_eqb}
 use Rattle.cutting_calls.proofs.call.clear_refused.Statement.{statement}
 use Rattle.cutting_calls.proofs.call.clear_refused.Tie as tie
 
-returns : tie.Need-returns
-returns c = rw (ne_eqb _ _ c.before.before.before.before.if1.true) c.before.before.clear.ensures
+returns : tie.Need-returns-then-number-ne0
+returns c = rw (ne_eqb _ _ c.if-number-ne0.true) c.clear.ensures
 
-returns-2 : tie.Need-returns-2
-returns-2 c = rw (eq-eqb _ _ c.if1.false)
+returns-2 : tie.Need-returns-else-number-ne0
+returns-2 c = rw (eq-eqb _ _ c.if-number-ne0.false)
 
-pub clear-refused-spec : {M : Type 1} → statement M
-clear-refused-spec =
+pub clear_refused_spec : {M : Type 1} → statement M
+clear_refused_spec =
     tie.close
     (tie.spec (λ c κs. search rules) (λ c. search rules) returns returns-2)

@@ -4,20 +4,20 @@ use Rattle.cutting_calls.specs.cut_admission.laws.CutAdmission.{left_alone, all_
 use Rattle.cutting_calls.proofs.cut_admission.admit_cut.Statement.{statement}
 use Rattle.cutting_calls.proofs.cut_admission.admit_cut.Tie as tie
 
-abbrev Else1 : tie.After-slice-known8 → tie.Else1
+abbrev Else1 : tie.After-slice_known-8-1 → tie.Else-r-lt-REFUSED_TRIANGLE
 Else1 c = c.before.before.before.before.before.before.before.before.before.before
 
-returns : tie.Need-returns
-returns c = left_alone _ _ _ _ _ _ _ _ _ c.before.before.before.before.before.room_for.ensures c.before.before.before.admit.ensures c.if1.true
+returns : tie.Need-returns-then-r-lt-REFUSED_TRIANGLE
+returns c = left_alone _ _ _ _ _ _ _ _ _ c.room_for-roomy.ensures c.admit-r.ensures c.if-r-lt-REFUSED_TRIANGLE.true
 
-returns-2 : tie.Need-returns-2
+returns-2 : tie.Need-returns
 returns-2 c =
-    let q = c.before.before.before.before.before.before.clear-all.ensures in
-    all_cleared _ _ _ _ _ _ _ _ _ (Else1 c).before.before.before.before.before.room_for.ensures (Else1 c).before.before.before.admit.ensures (Else1 c).if1.false _ _ _ q.0
+    let q = c.clear_all.ensures in
+    all_cleared _ _ _ _ _ _ _ _ _ (Else1 c).room_for-roomy.ensures (Else1 c).admit-r.ensures (Else1 c).if-r-lt-REFUSED_TRIANGLE.false _ _ _ q.0
     q.1 q.2
 
-pub admit-cut-spec : {M : Type 1} → statement M
-admit-cut-spec =
+pub admit_cut_spec : {M : Type 1} → statement M
+admit_cut_spec =
     tie.close
     (tie.spec (λ c κs. search rules) (λ c κs. search rules) (λ c. search rules) returns (λ c κs. search rules) (λ c. search rules)
     (λ c. search rules) (λ c. search rules) (λ c. search rules) returns-2)

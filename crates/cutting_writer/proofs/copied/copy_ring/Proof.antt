@@ -1,8 +1,8 @@
 -- `cutting_writer::copied::copy_ring`: what is not whole is left, and what is goes into its place the other way round.
 use Rattle.cutting_writer.specs.copied.laws.Lapping.{said_yes, lap_copied}
 use borrow.Author.Rules.{rules}
-use mathlib.Core.Bool.{not, false≢true}
-use mathlib.Core.Path.{ap, refl, sym}
+use mathlib.Core.Bool.{false≢true}
+use mathlib.Core.Path.{refl, sym}
 use native.Mathlib.Omega.{arith}
 use Rattle.cutting_writer.proofs.copied.copy_ring.Statement.{statement}
 use Rattle.cutting_writer.proofs.copied.copy_ring.Tie as tie

@@ -1,7 +1,7 @@
 -- `cutting_writer::copied::meet`: with none between them, or with one.
 use Rattle.cutting_writer.specs.copied.laws.Lapping.{said_yes}
-use mathlib.Core.Bool.{not, false≢true}
-use mathlib.Core.Path.{ap, refl}
+use mathlib.Core.Bool.{false≢true}
+use mathlib.Core.Path.{refl}
 use native.Mathlib.Omega.{arith}
 use Rattle.cutting_writer.proofs.copied.meet.Statement.{statement}
 use Rattle.cutting_writer.proofs.copied.meet.Tie as tie

@@ -3,8 +3,8 @@ use Prim.Native.Nat.{ℕ, ◌-◌, ◌/◌, ◌<◌}
 use Rattle.cutting_writer.specs.copied.laws.Lapping.{said_yes}
 use Rattle.cutting_writer.specs.copied.laws.Closing.{EndsNearing, nearing_start, nearing_step, met_round}
 use lib.ListN.{length, set, length-set}
-use mathlib.Core.Bool.{not, false≢true}
-use mathlib.Core.Path.{ap, ◌≡◌, refl, ◌∙◌}
+use mathlib.Core.Bool.{false≢true}
+use mathlib.Core.Path.{◌≡◌, refl, ◌∙◌}
 use native.Mathlib.Omega.{arith}
 use Rattle.cutting_writer.proofs.copied.stage_both.Statement.{statement}
 use Rattle.cutting_writer.proofs.copied.stage_both.Tie as tie

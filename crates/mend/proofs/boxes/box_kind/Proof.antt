@@ -3,5 +3,5 @@ use mathlib.Core.Path.{refl}
 use Rattle.mend.proofs.boxes.box_kind.Statement.{statement}
 use Rattle.mend.proofs.boxes.box_kind.Tie as tie
 
-pub box-kind-spec : {M : Type 1} → statement M
-box-kind-spec = tie.close (tie.spec (λ c. refl))
+pub box_kind_spec : {M : Type 1} → statement M
+box_kind_spec = tie.close (tie.spec (λ c. refl))

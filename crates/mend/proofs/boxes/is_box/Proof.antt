@@ -6,19 +6,19 @@ use borrow.Author.Rules.{rules}
 use Rattle.mend.proofs.boxes.is_box.Statement.{statement}
 use Rattle.mend.proofs.boxes.is_box.Tie as tie
 
-returns : tie.Need-returns
-returns c = sym (other_length c.before.before.args.word.now c.if1.true)
+returns : tie.Need-returns-then-word-ne66
+returns c = sym (other_length c.args.word.now c.if-word-ne66.true)
 
-returns-2 : tie.Need-returns-2
+returns-2 : tie.Need-returns-then-all_digits
 returns-2 c =
-    let at-then = c.before.before.before.before in
-    c.box-kind.ensures ∙ ap box_kind c.before.byte_of.ensures
-    ∙ sym (by_kind at-then.before.before.before.before.args.word.now at-then.before.before.if1.false (sym at-then.before.all_digits.ensures ∙ at-then.if2.true))
+    let at-then = c in
+    c.box_kind.ensures ∙ ap box_kind c.byte_of.ensures
+    ∙ sym (by_kind at-then.args.word.now at-then.if-word-ne66.false (sym at-then.all_digits.ensures ∙ at-then.if-all_digits.true))
 
-returns-3 : tie.Need-returns-3
-returns-3 c = sym (no_digits c.before.before.before.before.args.word.now c.before.before.if1.false (sym c.before.all_digits.ensures ∙ c.if2.false))
+returns-3 : tie.Need-returns
+returns-3 c = sym (no_digits c.args.word.now c.if-word-ne66.false (sym c.all_digits.ensures ∙ c.if-all_digits.false))
 
-pub is-box-spec : {M : Type 1} → statement M
-is-box-spec =
+pub is_box_spec : {M : Type 1} → statement M
+is_box_spec =
     tie.close
     (tie.spec returns (λ c κs. search rules) (λ c. search rules) (λ c. search rules) (λ c κs. search rules) (λ c κs. search rules) returns-2 returns-3)

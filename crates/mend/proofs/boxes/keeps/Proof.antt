@@ -8,14 +8,14 @@ use Rattle.mend.proofs.boxes.keeps.Tie as tie
 
 returns : tie.Need-returns
 returns c =
-    let w = c.before.before in
-    let z = w.before in
-    let y = z.before in
-    let x = y.before in
-    let s = x.before.before in
+    let w = c in
+    let z = w in
+    let y = z in
+    let x = y in
+    let s = x in
     let l = s.args.first.now in
-    ap (λ (g : Given). g.sound) c.box_of.ensures
-    ∙ rw (x.number_at.ensures, y.number-at2.ensures, z.number-at3.ensures, w.number-at4.ensures) (keeps_is l s.requires)
+    ap (λ (g : Given). g.sound) c.box_of-given.ensures
+    ∙ rw (x.number_at-a.ensures, y.number_at-b.ensures, z.number_at-c.ensures, w.number_at-d.ensures) (keeps_is l s.requires)
 
 pub keeps_spec : {M : Type 1} → statement M
 keeps_spec =

@@ -5,13 +5,13 @@ use Rattle.mend.specs.boxes.Option.{kept_from}
 use Rattle.mend.proofs.boxes.kept_from.Statement.{statement}
 use Rattle.mend.proofs.boxes.kept_from.Tie as tie
 
-returns : tie.Need-returns
+returns : tie.Need-returns-then-clip-eq-UNCLIPPED
 unfolding kept_from
-returns c = (rw (eq-eqb c.before.args.clip 6 c.if1.true), omega arith)
+returns c = (rw (eq-eqb c.args.clip 6 c.if-clip-eq-UNCLIPPED.true), omega arith)
 
-returns-2 : tie.Need-returns-2
+returns-2 : tie.Need-returns
 unfolding kept_from
-returns-2 c = (rw (ne_eqb c.before.args.clip 6 c.if1.false), omega arith)
+returns-2 c = (rw (ne_eqb c.args.clip 6 c.if-clip-eq-UNCLIPPED.false), omega arith)
 
-pub kept-from-spec : {M : Type 1} → statement M
-kept-from-spec = tie.close (tie.spec returns returns-2)
+pub kept_from_spec : {M : Type 1} → statement M
+kept_from_spec = tie.close (tie.spec returns returns-2)

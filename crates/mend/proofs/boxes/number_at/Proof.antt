@@ -6,7 +6,7 @@ use Rattle.mend.proofs.boxes.number_at.Statement.{statement}
 use Rattle.mend.proofs.boxes.number_at.Tie as tie
 
 returns : tie.Need-returns
-returns c = c.float_of.ensures ∙ ap float c.before.get.ensures.0
+returns c = c.float_of.ensures ∙ ap float c.get.ensures.0
 
-pub number-at-spec : {M : Type 1} → statement M
-number-at-spec = tie.close (tie.spec (λ c κs. search rules) (λ c κs. search rules) returns)
+pub number_at_spec : {M : Type 1} → statement M
+number_at_spec = tie.close (tie.spec (λ c κs. search rules) (λ c κs. search rules) returns)

@@ -5,29 +5,29 @@ use borrow.Author.Rules.{rules}
 use Rattle.mend.proofs.boxes.number_with.Statement.{statement}
 use Rattle.mend.proofs.boxes.number_with.Tie as tie
 
-returns : tie.Need-returns
-returns c = let a = c.before.before.args in sym (number_none a.first.now a.number c.if1.true)
+returns : tie.Need-returns-then-first-ne33
+returns c = let a = c.args in sym (number_none a.first.now a.number c.if-first-ne33.true)
 
-returns-2 : tie.Need-returns-2
+returns-2 : tie.Need-returns-then-keeps
 returns-2 c =
-    let k = c.before in
-    let e = k.before in
-    let a = e.before.before.args in
-    sym (number_kept a.first.now a.number e.if1.false (sym k.keeps.ensures ∙ c.if2.true))
+    let k = c in
+    let e = k in
+    let a = e.args in
+    sym (number_kept a.first.now a.number e.if-first-ne33.false (sym k.keeps.ensures ∙ c.if-keeps.true))
 
-returns-3 : tie.Need-returns-3
+returns-3 : tie.Need-returns-then-number-eq-REFUSED_COUNT
 returns-3 c =
-    let k = c.before.before in
-    let e = k.before in
-    let a = e.before.before.args in
-    sym (number_first a.first.now a.number e.if1.false (sym k.keeps.ensures ∙ c.before.if2.false) c.if3.true)
+    let k = c in
+    let e = k in
+    let a = e.args in
+    sym (number_first a.first.now a.number e.if-first-ne33.false (sym k.keeps.ensures ∙ c.if-keeps.false) c.if-number-eq-REFUSED_COUNT.true)
 
-returns-4 : tie.Need-returns-4
+returns-4 : tie.Need-returns
 returns-4 c =
-    let k = c.before.before in
-    let e = k.before in
-    let a = e.before.before.args in
-    sym (number_box a.first.now a.number e.if1.false (sym k.keeps.ensures ∙ c.before.if2.false) c.if3.false)
+    let k = c in
+    let e = k in
+    let a = e.args in
+    sym (number_box a.first.now a.number e.if-first-ne33.false (sym k.keeps.ensures ∙ c.if-keeps.false) c.if-number-eq-REFUSED_COUNT.false)
 
-pub number-with-spec : {M : Type 1} → statement M
-number-with-spec = tie.close (tie.spec returns (λ c κs. search rules) returns-2 returns-3 returns-4)
+pub number_with_spec : {M : Type 1} → statement M
+number_with_spec = tie.close (tie.spec returns (λ c κs. search rules) returns-2 returns-3 returns-4)

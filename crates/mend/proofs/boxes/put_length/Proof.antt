@@ -4,13 +4,13 @@ use Rattle.mend.specs.boxes.Option.{put_length}
 use Rattle.mend.proofs.boxes.put_length.Statement.{statement}
 use Rattle.mend.proofs.boxes.put_length.Tie as tie
 
-returns : tie.Need-returns
+returns : tie.Need-returns-then-clip-ne-UNCLIPPED
 unfolding put_length
-returns c = rw (ne_eqb c.before.args.clip 6 c.if1.true)
+returns c = rw (ne_eqb c.args.clip 6 c.if-clip-ne-UNCLIPPED.true)
 
-returns-2 : tie.Need-returns-2
+returns-2 : tie.Need-returns
 unfolding put_length
-returns-2 c = rw (eq-eqb c.before.args.clip 6 c.if1.false)
+returns-2 c = rw (eq-eqb c.args.clip 6 c.if-clip-ne-UNCLIPPED.false)
 
-pub put-length-spec : {M : Type 1} → statement M
-put-length-spec = tie.close (tie.spec returns returns-2)
+pub put_length_spec : {M : Type 1} → statement M
+put_length_spec = tie.close (tie.spec returns returns-2)

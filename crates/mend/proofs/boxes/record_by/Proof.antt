@@ -10,26 +10,26 @@ use borrow.Author.Rules.{rules}
 use Rattle.mend.proofs.boxes.record_by.Statement.{statement}
 use Rattle.mend.proofs.boxes.record_by.Tie as tie
 
-get-hex-requires : tie.Need-get-hex-requires
-get-hex-requires c κs =
-    let t = c.before in
-    let b = t.before in
-    let s = b.before.before.before in
-    omega (arith, box_long s.args.word.now (sym b.is-box.ensures ∙ t.if1.true), s.requires)
+get_hex-requires : tie.Need-get_hex-requires
+get_hex-requires c κs =
+    let t = c in
+    let b = t in
+    let s = b in
+    omega (arith, box_long s.args.word.now (sym b.is_box.ensures ∙ t.if-is_box.true), s.requires)
 
-returns : tie.Need-returns
+returns : tie.Need-returns-then-is_box
 returns c =
-    let g = c.before.before in
-    let t = g.before.before in
-    let b = t.before in
-    let s = b.before.before.before in
+    let g = c in
+    let t = g in
+    let b = t in
+    let s = b in
     let w = s.args.word.now in
-    let whole = sym b.is-box.ensures ∙ t.if1.true in
+    let whole = sym b.is_box.ensures ∙ t.if-is_box.true in
     let long = unhex_length 33 w (omega (arith, box_long w whole)) in
-    (ap (take 33) g.get-hex.ensures ∙ take_all 33 (unhex w) (omega arith) ∙ sym (is_given w whole), omega arith)
+    (ap (take 33) g.get_hex.ensures ∙ take_all 33 (unhex w) (omega arith) ∙ sym (is_given w whole), omega arith)
 
-returns-2 : tie.Need-returns-2
-returns-2 c = let b = c.before in (sym (no_box b.before.before.before.args.word.now (sym b.is-box.ensures ∙ c.if1.false)), omega arith)
+returns-2 : tie.Need-returns
+returns-2 c = let b = c in (sym (no_box b.args.word.now (sym b.is_box.ensures ∙ c.if-is_box.false)), omega arith)
 
-pub record-by-spec : {M : Type 1} → statement M
-record-by-spec = tie.close (tie.spec (λ c κs. search rules) get-hex-requires (λ c. search rules) returns returns-2)
+pub record_by_spec : {M : Type 1} → statement M
+record_by_spec = tie.close (tie.spec (λ c κs. search rules) get_hex-requires (λ c. search rules) returns returns-2)

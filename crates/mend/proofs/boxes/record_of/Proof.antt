@@ -6,11 +6,11 @@ use borrow.Author.Rules.{rules}
 use Rattle.mend.proofs.boxes.record_of.Statement.{statement}
 use Rattle.mend.proofs.boxes.record_of.Tie as tie
 
-returns : tie.Need-returns
-returns c = let r = c.before.before in let t = r.before.before in rw t.if1.true r.record-by.ensures
+returns : tie.Need-returns-then-given
+returns c = let r = c in let t = r in rw t.if-given.true r.record_by.ensures
 
-returns-2 : tie.Need-returns-2
-returns-2 c = rw c.if1.false (sym (not_given c.before.before.before.args.word.now), omega arith)
+returns-2 : tie.Need-returns
+returns-2 c = rw c.if-given.false (sym (not_given c.args.word.now), omega arith)
 
-pub record-of-spec : {M : Type 1} → statement M
-record-of-spec = tie.close (tie.spec (λ c κs. search rules) (λ c. search rules) returns returns-2)
+pub record_of_spec : {M : Type 1} → statement M
+record_of_spec = tie.close (tie.spec (λ c κs. search rules) (λ c. search rules) returns returns-2)

@@ -12,37 +12,37 @@ use borrow.Author.Rules.{rules}
 use Rattle.mend.proofs.writer.put_hull.Statement.{statement}
 use Rattle.mend.proofs.writer.put_hull.Tie as tie
 
-abbrev invariant-loop : tie.invariant-loop
+abbrev invariant-loop : tie.invariant-loop-i
 invariant-loop out₀ at hull end₀ i₀ out end i = Lined (λ k. each hull_bytes (take k hull)) (length hull) out₀ out at end i
 
-abbrev decreases-loop : tie.decreases-loop
+abbrev decreases-loop : tie.decreases-loop-i
 decreases-loop out₀ at hull end₀ i₀ out end i = length hull - i
 
-loop-holds : tie.Need-loop-init invariant-loop decreases-loop
-loop-holds c = let a = c.before.before.args in lined_start _ (length a.hull.now) a.out.now a.at refl
+loop-holds : tie.Need-loop-i-init invariant-loop decreases-loop
+loop-holds c = let a = c.args in lined_start _ (length a.hull.now) a.out.now a.at refl
 
-put-hull-site-requires : tie.Need-put-hull-site-requires invariant-loop decreases-loop
-put-hull-site-requires c κs =
-    let at-loop-test = c.before.before in
-    let start = at-loop-test.before.before.before.before in
-    let l = at-loop-test.before.loop in
+put_hull_site-requires : tie.Need-put_hull_site-end-requires invariant-loop decreases-loop
+put_hull_site-requires c κs =
+    let at-loop-test = c in
+    let start = at-loop-test in
+    let l = at-loop-test.loop-i in
     let list = start.args.hull.now in
-    lined_fits l.invariant (hull_bytes (get_or list l.i 0)) (each hull_bytes (drop (l.i + 1) list)) (each_more hull_bytes list l.i 0 at-loop-test.loop-test.true)
+    lined_fits l.invariant (hull_bytes (get_or list l.i 0)) (each hull_bytes (drop (l.i + 1) list)) (each_more hull_bytes list l.i 0 at-loop-test.loop-i-test.true)
     (each_whole hull_bytes list (l.i + 1)) (subst (HasRoom start.args.out.now start.args.at) (ap (each hull_bytes) (sym (take-length list))) start.requires)
 
-loop-again : tie.Need-loop-preserved invariant-loop decreases-loop
+loop-again : tie.Need-loop-i-preserved invariant-loop decreases-loop
 loop-again c =
-    let at-loop-test = c.before.before.before.before.before in
-    let l = at-loop-test.before.loop in
-    let list = at-loop-test.before.before.before.before.args.hull.now in
-    let more = at-loop-test.loop-test.true in
-    lined_step l.invariant (hull_bytes (get_or list l.i 0)) more (each_more hull_bytes list l.i 0 more) c.before.before.put-hull-site.ensures
+    let at-loop-test = c in
+    let l = at-loop-test.loop-i in
+    let list = at-loop-test.args.hull.now in
+    let more = at-loop-test.loop-i-test.true in
+    lined_step l.invariant (hull_bytes (get_or list l.i 0)) more (each_more hull_bytes list l.i 0 more) c.put_hull_site-end.ensures
 
 returns : tie.Need-returns invariant-loop decreases-loop
-returns c = wrote_as (lined_end c.before.loop.invariant c.loop-test.false) (ap (each hull_bytes) (take-length c.before.before.before.before.args.hull.now))
+returns c = wrote_as (lined_end c.loop-i.invariant c.loop-i-test.false) (ap (each hull_bytes) (take-length c.args.hull.now))
 
-pub put-hull-spec : {M : Type 1} → statement M
-put-hull-spec =
+pub put_hull_spec : {M : Type 1} → statement M
+put_hull_spec =
     tie.close
-    (tie.spec invariant-loop decreases-loop loop-holds (λ c. search rules) (λ c. search rules) put-hull-site-requires
-    (λ c. search rules) (λ c. search rules) loop-again (λ c. wrote_length c.before.loop.invariant.wrote) returns)
+    (tie.spec invariant-loop decreases-loop loop-holds (λ c. search rules) (λ c. search rules) put_hull_site-requires
+    (λ c. search rules) (λ c. search rules) loop-again (λ c. wrote_length c.loop-i.invariant.wrote) returns)

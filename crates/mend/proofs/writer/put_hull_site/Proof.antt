@@ -9,22 +9,22 @@ use borrow.Author.Rules.{rules}
 use Rattle.mend.proofs.writer.put_hull_site.Statement.{statement}
 use Rattle.mend.proofs.writer.put_hull_site.Tie as tie
 
-slice-write-out : tie.Need-slice-write-out
-slice-write-out c = omega (arith, c.before.requires)
+slice_write-out : tie.Need-bounds-out-at
+slice_write-out c = omega (arith, c.requires)
 
-put-le-requires : tie.Need-put-le-requires
-put-le-requires c κs =
-    let a = c.before.before.before.args in
-    fits_then (4 ∷ []) (le 4 a.site) (wrote_one a.out.now a.at 4) c.before.before.before.requires
+put_le-requires : tie.Need-put_le-requires
+put_le-requires c κs =
+    let a = c.args in
+    fits_then (4 ∷ []) (le 4 a.site) (wrote_one a.out.now a.at 4) c.requires
 
-same_length : tie.Need-same-length
-same_length c = c.before.before.put-le.auto.0 ∙ simp length-set
+same_length : tie.Need-shape_of-out
+same_length c = c.put_le.auto.out ∙ simp length-set
 
 returns : tie.Need-returns
 returns c =
-    let at-put-le = c.before.before in
-    let a = at-put-le.before.before.before.before.args in
-    wrote_then (wrote_one a.out.now a.at 4) (wrote_as at-put-le.put-le.ensures (ap (le 4) at-put-le.before.widest.ensures))
+    let at-put-le = c in
+    let a = at-put-le.args in
+    wrote_then (wrote_one a.out.now a.at 4) (wrote_as at-put-le.put_le.ensures (ap (le 4) at-put-le.widest.ensures))
 
-pub put-hull-site-spec : {M : Type 1} → statement M
-put-hull-site-spec = tie.close (tie.spec slice-write-out (λ c. search rules) (λ c κs. search rules) put-le-requires same_length returns)
+pub put_hull_site_spec : {M : Type 1} → statement M
+put_hull_site_spec = tie.close (tie.spec slice_write-out (λ c. search rules) (λ c κs. search rules) put_le-requires same_length returns)

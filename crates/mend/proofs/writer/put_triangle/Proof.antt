@@ -9,31 +9,31 @@ use borrow.Author.Rules.{rules}
 use Rattle.mend.proofs.writer.put_triangle.Statement.{statement}
 use Rattle.mend.proofs.writer.put_triangle.Tie as tie
 
-slice-write-out : tie.Need-slice-write-out
-slice-write-out c = omega (arith, c.before.before.before.requires)
+slice_write-out : tie.Need-bounds-out-at
+slice_write-out c = omega (arith, c.requires)
 
-put-links-requires : tie.Need-put-links-requires
-put-links-requires c κs =
-    let start = c.before.before.before.before in
+put_links-requires : tie.Need-put_links-end-requires
+put_links-requires c κs =
+    let start = c in
     let a = start.args in
     fits_then (3 ∷ []) (links a.sites.now) (wrote_one a.out.now a.at 3)
     (fits_left a.out.now a.at (3 ∷ links a.sites.now) (links a.pairs.now) start.requires)
 
-put-links-requires-2 : tie.Need-put-links-requires-2
-put-links-requires-2 c κs =
-    let at-put = c.before.before.before in
-    let start = at-put.before.before.before.before.before in
+put_links-requires-2 : tie.Need-put_links-requires
+put_links-requires-2 c κs =
+    let at-put = c in
+    let start = at-put in
     let a = start.args in
-    fits_then (3 ∷ links a.sites.now) (links a.pairs.now) (wrote_then (wrote_one a.out.now a.at 3) at-put.put-links.ensures) start.requires
+    fits_then (3 ∷ links a.sites.now) (links a.pairs.now) (wrote_then (wrote_one a.out.now a.at 3) at-put.put_links-end.ensures) start.requires
 
-same_length : tie.Need-same-length
-same_length c = c.before.before.put-links2.auto.0 ∙ c.before.before.before.before.before.before.put-links.auto.0 ∙ simp length-set
+same_length : tie.Need-shape_of-out
+same_length c = c.put_links.auto.out ∙ c.put_links-end.auto.out ∙ simp length-set
 
 returns : tie.Need-returns
 returns c =
-    let at-put = c.before.before.before.before.before.before in
-    let a = at-put.before.before.before.before.before.args in
-    wrote_then (wrote_then (wrote_one a.out.now a.at 3) at-put.put-links.ensures) c.before.before.put-links2.ensures
+    let at-put = c in
+    let a = at-put.args in
+    wrote_then (wrote_then (wrote_one a.out.now a.at 3) at-put.put_links-end.ensures) c.put_links.ensures
 
-pub put-triangle-spec : {M : Type 1} → statement M
-put-triangle-spec = tie.close (tie.spec slice-write-out (λ c. search rules) put-links-requires put-links-requires-2 same_length returns)
+pub put_triangle_spec : {M : Type 1} → statement M
+put_triangle_spec = tie.close (tie.spec slice_write-out (λ c. search rules) put_links-requires put_links-requires-2 same_length returns)

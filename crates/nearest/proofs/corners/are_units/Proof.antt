@@ -5,18 +5,18 @@ use Rattle.nearest.specs.corners.Tried.{are_units}
 use Rattle.nearest.proofs.corners.are_units.Statement.{statement}
 use Rattle.nearest.proofs.corners.are_units.Tie as tie
 
-returns : tie.Need-returns
+returns : tie.Need-returns-then-room-v
 unfolding are_units
-returns c = rw (le-ltb _ _ c.if1.true)
+returns c = rw (le-ltb _ _ c.if-room-v.true)
 
-int-to-float-result : tie.Need-int-to-float-result
+int_to_float-result : tie.Need-int_to_float-result
 unfolding in_float
-int-to-float-result c = le→leb c.before.before.args.v (2 ^ 53) (omega (arith, c.before.if1.false))
+int_to_float-result c = le→leb c.args.v (2 ^ 53) (omega (arith, c.if-room-v.false))
 
-returns-2 : tie.Need-returns-2
+returns-2 : tie.Need-returns
 unfolding are_units
-returns-2 c = rw (lt-ltb _ _ c.before.before.if1.false)
+returns-2 c = rw (lt-ltb _ _ c.if-room-v.false)
 
-pub are-units-spec : {M : Type 1} → statement M
-are-units-spec =
-    tie.close (tie.spec (λ c. search rules) (λ c. search rules) (λ c. search rules) returns int-to-float-result (λ c. search rules) returns-2)
+pub are_units_spec : {M : Type 1} → statement M
+are_units_spec =
+    tie.close (tie.spec (λ c. search rules) (λ c. search rules) (λ c. search rules) returns int_to_float-result (λ c. search rules) returns-2)

@@ -4,24 +4,24 @@ use Rattle.nearest.specs.whole_sites.laws.Kept.{kept_low, kept_high, cast_fits, 
 use Rattle.nearest.proofs.whole_sites.kept.Statement.{statement}
 use Rattle.nearest.proofs.whole_sites.kept.Tie as tie
 
-returns : tie.Need-returns
-returns c = kept_low c.before.args.v _ c.before.ranges.v c.if1.true
+returns : tie.Need-returns-then-v-ltminus8192
+returns c = kept_low c.args.v _ c.ranges.v c.if-v-ltminus8192.true
 
-returns-2 : tie.Need-returns-2
-returns-2 c = kept_high c.before.before.args.v _ c.before.before.ranges.v c.before.if1.false c.if2.true
+returns-2 : tie.Need-returns-then-v-gt8192
+returns-2 c = kept_high c.args.v _ c.ranges.v c.if-v-ltminus8192.false c.if-v-gt8192.true
 
-cast-w : tie.Need-overflow-cast-w
-cast-w c = cast_fits c.before.before.args.v c.before.before.args.x c.before.before.ranges.v c.before.if1.false c.if2.false
+cast-w : tie.Need-overflow_cast-w
+cast-w c = cast_fits c.args.v c.args.x c.ranges.v c.if-v-ltminus8192.false c.if-v-gt8192.false
 
-returns-3 : tie.Need-returns-3
+returns-3 : tie.Need-returns-then-w-x
 returns-3 c =
-    let start = c.before.before.before.before in
-    kept_is start.args.v start.args.x start.ranges.v c.before.before.before.if1.false c.before.before.if2.false c.if3.true
+    let start = c in
+    kept_is start.args.v start.args.x start.ranges.v c.if-v-ltminus8192.false c.if-v-gt8192.false c.if-w-x.true
 
-returns-4 : tie.Need-returns-4
+returns-4 : tie.Need-returns
 returns-4 c =
-    let start = c.before.before.before.before in
-    kept_not start.args.v start.args.x start.ranges.v c.before.before.before.if1.false c.before.before.if2.false c.if3.false
+    let start = c in
+    kept_not start.args.v start.args.x start.ranges.v c.if-v-ltminus8192.false c.if-v-gt8192.false c.if-w-x.false
 
-pub kept-spec : {M : Type 1} → statement M
-kept-spec = tie.close (tie.spec returns returns-2 cast-w (λ c. search rules) returns-3 returns-4)
+pub kept_spec : {M : Type 1} → statement M
+kept_spec = tie.close (tie.spec returns returns-2 cast-w (λ c. search rules) returns-3 returns-4)

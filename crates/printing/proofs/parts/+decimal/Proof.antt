@@ -28,63 +28,63 @@ decimal-below t = and 1 decimal-kinds.ps (falls 1 decimal-kinds.ps ◌<◌ μ-de
 
 -- the digit after those that the call wrote has room
 room :
-    (t : ℕ) (c : decimal-lts.After-slice-known2 (decimal-below t, decimal.Post) (decimal-at t) decimal.Post)
-    → HasRoom c.before.before.decimal.new.0 c.before.before.decimal.result ((48 + c.before.before.before.before.before.before.args.n % 10) ∷ [])
+    (t : ℕ) (c : decimal-lts.After-slice_known-2-1 (decimal-below t, decimal.Post) (decimal-at t) decimal.Post)
+    → HasRoom c.decimal-last.new.out c.decimal-last.result ((48 + c.args.n % 10) ∷ [])
 room t c =
-    let s = c.before.before.before.before.before.before in
+    let s = c in
     let n = s.args.n in
-    fits_then (digitsOf (n / 10)) ((48 + n % 10) ∷ []) c.before.before.decimal.ensures
-    (subst (HasRoom s.args.out.now s.args.at) (decimal_more n c.before.before.before.before.if1.false s.ranges.n.fits) s.requires.1)
+    fits_then (digitsOf (n / 10)) ((48 + n % 10) ∷ []) c.decimal-last.ensures
+    (subst (HasRoom s.args.out.now s.args.at) (decimal_more n c.if-n-lt10.false s.ranges.n.fits) s.requires.1)
 
 decimal-cast-out :
     (t : ℕ) →
-    decimal-lts.Need-overflow-cast-out (decimal-below t, decimal.Post) (decimal-at t) decimal.Post
+    decimal-lts.Need-overflow_cast-out (decimal-below t, decimal.Post) (decimal-at t) decimal.Post
 decimal-cast-out t c = omega arith
 
 decimal-add-out :
-    (t : ℕ) → decimal-lts.Need-overflow-add-out (decimal-below t, decimal.Post) (decimal-at t) decimal.Post
+    (t : ℕ) → decimal-lts.Need-overflow_add-out (decimal-below t, decimal.Post) (decimal-at t) decimal.Post
 decimal-add-out t c = omega arith
 
-decimal-slice-write-out : (t : ℕ) → decimal-lts.Need-slice-write-out (
+decimal-slice-write-out : (t : ℕ) → decimal-lts.Need-bounds-out-at (
   decimal-below t,
   decimal.Post,
 ) (decimal-at t) decimal.Post
-decimal-slice-write-out t c = let s = c.before.before in omega (arith, s.requires.1, ap length (decimal_one s.args.n c.if1.true))
+decimal-slice-write-out t c = let s = c in omega (arith, s.requires.1, ap length (decimal_one s.args.n c.if-n-lt10.true))
 
 decimal-add-result :
     (t : ℕ) →
-    decimal-lts.Need-overflow-add-result (decimal-below t, decimal.Post) (decimal-at t) decimal.Post
-decimal-add-result t c = let s = c.before.before in omega (arith, s.requires.1, ap length (decimal_one s.args.n c.if1.true))
+    decimal-lts.Need-overflow_add-result (decimal-below t, decimal.Post) (decimal-at t) decimal.Post
+decimal-add-result t c = let s = c in omega (arith, s.requires.1, ap length (decimal_one s.args.n c.if-n-lt10.true))
 
 decimal-same-length :
     (t : ℕ) →
-    decimal-lts.Need-same-length (decimal-below t, decimal.Post) (decimal-at t) decimal.Post
+    decimal-lts.Need-shape_of-out-then-n-lt10 (decimal-below t, decimal.Post) (decimal-at t) decimal.Post
 decimal-same-length t c = simp length-set
 
 decimal-returns :
-    (t : ℕ) → decimal-lts.Need-returns (decimal-below t, decimal.Post) (decimal-at t) decimal.Post
-decimal-returns t c = let a = c.before.before.args in wrote_as (wrote_one a.out.now a.at (48 + a.n)) (sym (decimal_one a.n c.if1.true))
+    (t : ℕ) → decimal-lts.Need-returns-then-n-lt10 (decimal-below t, decimal.Post) (decimal-at t) decimal.Post
+decimal-returns t c = let a = c.args in wrote_as (wrote_one a.out.now a.at (48 + a.n)) (sym (decimal_one a.n c.if-n-lt10.true))
 
-decimal-decimal-requires : (t : ℕ) → decimal-lts.Need-decimal-requires (
+decimal-decimal-requires : (t : ℕ) → decimal-lts.Need-decimal-last-requires (
   decimal-below t,
   decimal.Post,
 ) (decimal-at t) decimal.Post
-decimal-decimal-requires t c κs = let s = c.before.before.before in
+decimal-decimal-requires t c κs = let s = c in
     let n = s.args.n in
-    let e = decimal_more n c.before.if1.false s.ranges.n.fits in
+    let e = decimal_more n c.if-n-lt10.false s.ranges.n.fits in
     (omega (arith, s.requires.0), fits_left s.args.out.now s.args.at (digitsOf (n / 10)) ((48 + n % 10) ∷ []) (subst (HasRoom s.args.out.now s.args.at) e s.requires.1))
 
 decimal-cast-out-2 :
     (t : ℕ) →
-    decimal-lts.Need-overflow-cast-out-2 (decimal-below t, decimal.Post) (decimal-at t) decimal.Post
+    decimal-lts.Need-overflow_cast-out-2 (decimal-below t, decimal.Post) (decimal-at t) decimal.Post
 decimal-cast-out-2 t c = omega arith
 
 decimal-add-out-2 :
     (t : ℕ) →
-    decimal-lts.Need-overflow-add-out-2 (decimal-below t, decimal.Post) (decimal-at t) decimal.Post
+    decimal-lts.Need-overflow_add-out-2 (decimal-below t, decimal.Post) (decimal-at t) decimal.Post
 decimal-add-out-2 t c = omega arith
 
-decimal-slice-write-out-2 : (t : ℕ) → decimal-lts.Need-slice-write-out-2 (
+decimal-slice-write-out-2 : (t : ℕ) → decimal-lts.Need-bounds-out-last (
   decimal-below t,
   decimal.Post,
 ) (decimal-at t) decimal.Post
@@ -92,26 +92,26 @@ decimal-slice-write-out-2 t c = omega (arith, room t c)
 
 decimal-add-result-2 :
     (t : ℕ) →
-    decimal-lts.Need-overflow-add-result-2 (decimal-below t, decimal.Post) (decimal-at t) decimal.Post
+    decimal-lts.Need-overflow_add-result-2 (decimal-below t, decimal.Post) (decimal-at t) decimal.Post
 decimal-add-result-2 t c =
-    let at-good = c.before.before.before.before.before.before in
-    omega (arith, room t c, c.before.before.decimal.auto.0, at-good.well-formed.0.0)
+    let at-good = c in
+    omega (arith, room t c, c.decimal-last.auto.out, at-good.well_formed.0.0)
 
 decimal-same-length-2 :
     (t : ℕ) →
-    decimal-lts.Need-same-length-2 (decimal-below t, decimal.Post) (decimal-at t) decimal.Post
-decimal-same-length-2 t c = simp length-set c.before.before.decimal.auto.0
+    decimal-lts.Need-shape_of-out (decimal-below t, decimal.Post) (decimal-at t) decimal.Post
+decimal-same-length-2 t c = simp length-set c.decimal-last.auto.out
 
 decimal-returns-2 :
     (t : ℕ) →
-    decimal-lts.Need-returns-2 (decimal-below t, decimal.Post) (decimal-at t) decimal.Post
-decimal-returns-2 t c = let s = c.before.before.before.before.before.before in
+    decimal-lts.Need-returns (decimal-below t, decimal.Post) (decimal-at t) decimal.Post
+decimal-returns-2 t c = let s = c in
     let n = s.args.n in
-    wrote_as (wrote_then c.before.before.decimal.ensures (wrote_one c.before.before.decimal.new.0 c.before.before.decimal.result (48 + n % 10)))
-    (sym (decimal_more n c.before.before.before.before.if1.false s.ranges.n.fits))
+    wrote_as (wrote_then c.decimal-last.ensures (wrote_one c.decimal-last.new.out c.decimal-last.result (48 + n % 10)))
+    (sym (decimal_more n c.if-n-lt10.false s.ranges.n.fits))
 
-pub +decimal-spec : {M : Type 1} → statement M
-+decimal-spec =
+pub +decimal_spec : {M : Type 1} → statement M
++decimal_spec =
     close
     μ-decimal
     λ t. decimal-lts.spec

@@ -11,22 +11,22 @@ use borrow.Author.Rules.{rules}
 use Rattle.printing.proofs.parts.entry.Statement.{statement}
 use Rattle.printing.proofs.parts.entry.Tie as tie
 
-slice-write-out : tie.Need-slice-write-out
-slice-write-out c = let s = c.before in omega (arith, s.requires, ap length (entries_one s.args.n))
+slice_write-out : tie.Need-bounds-out-at
+slice_write-out c = let s = c in omega (arith, s.requires, ap length (entries_one s.args.n))
 
 decimal-requires : tie.Need-decimal-requires
-decimal-requires c κs = let s = c.before.before in
+decimal-requires c κs = let s = c in
     let a = s.args in
     fits_then (32 ∷ []) (decimal a.n) (wrote_one a.out.now a.at 32) (subst (HasRoom a.out.now a.at) (entries_one a.n) s.requires)
 
-same_length : tie.Need-same-length
-same_length c = c.before.before.decimal.auto.0 ∙ simp length-set
+same_length : tie.Need-shape_of-out
+same_length c = c.decimal.auto.out ∙ simp length-set
 
 returns : tie.Need-returns
 returns c =
-    let at_start = c.before.before.before.before.before in
+    let at_start = c in
     let a = at_start.args in
-    wrote_as (wrote_then (wrote_one a.out.now a.at 32) c.before.before.decimal.ensures) (sym (entries_one a.n))
+    wrote_as (wrote_then (wrote_one a.out.now a.at 32) c.decimal.ensures) (sym (entries_one a.n))
 
 pub entry_spec : {M : Type 1} → statement M
-entry_spec = tie.close (tie.spec slice-write-out (λ c. search rules) decimal-requires same_length returns)
+entry_spec = tie.close (tie.spec slice_write-out (λ c. search rules) decimal-requires same_length returns)

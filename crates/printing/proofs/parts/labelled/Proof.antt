@@ -6,17 +6,17 @@ use borrow.Author.Rules.{rules}
 use Rattle.printing.proofs.parts.labelled.Statement.{statement}
 use Rattle.printing.proofs.parts.labelled.Tie as tie
 
-abbrev Entry : tie.After-put → tie.Start
+abbrev Entry : tie.After-put-end → tie.Start
 Entry c = c.before.before.before.before
 
 returns : tie.Need-returns
 returns c =
-    let two = c.before.before in
-    let one = two.before.before.before.before in
-    wrote_then one.put.ensures two.entry.ensures
+    let two = c in
+    let one = two in
+    wrote_then one.put-end.ensures two.entry.ensures
 
-pub labelled-spec : {M : Type 1} → statement M
-labelled-spec =
+pub labelled_spec : {M : Type 1} → statement M
+labelled_spec =
     tie.close
-    (tie.spec (λ c κs. omega (arith, simp length-append at c.before.before.before.requires))
+    (tie.spec (λ c κs. omega (arith, simp length-append at c.requires))
     (λ c κs. omega (arith, simp length-append at (Entry c.before.before.before).requires)) (λ c. search rules) returns)

@@ -6,5 +6,5 @@ use Rattle.reasons.proofs.call.put_numbers.Tie as tie
 returns : tie.Need-returns
 returns c = refl
 
-pub put-numbers-spec : {M : Type 1} → statement M
-put-numbers-spec = tie.close (tie.spec returns)
+pub put_numbers_spec : {M : Type 1} → statement M
+put_numbers_spec = tie.close (tie.spec returns)

@@ -4,17 +4,17 @@ use Rattle.reasons.specs.call.Call.{question_of}
 use Rattle.reasons.proofs.call.question.Statement.{statement}
 use Rattle.reasons.proofs.call.question.Tie as tie
 
-returns : tie.Need-returns
+returns : tie.Need-returns-then-asked-eq0
 unfolding question_of
-returns c = rw (eq-eqb _ _ c.if1.true)
+returns c = rw (eq-eqb _ _ c.if-asked-eq0.true)
 
-returns-2 : tie.Need-returns-2
+returns-2 : tie.Need-returns-then-asked-eq1
 unfolding question_of
-returns-2 c = rw (ne_eqb _ _ c.before.if1.false, eq-eqb _ _ c.if2.true)
+returns-2 c = rw (ne_eqb _ _ c.if-asked-eq0.false, eq-eqb _ _ c.if-asked-eq1.true)
 
-returns-3 : tie.Need-returns-3
+returns-3 : tie.Need-returns
 unfolding question_of
-returns-3 c = rw (ne_eqb _ _ c.before.if1.false, ne_eqb _ _ c.if2.false)
+returns-3 c = rw (ne_eqb _ _ c.if-asked-eq0.false, ne_eqb _ _ c.if-asked-eq1.false)
 
-pub question-spec : {M : Type 1} → statement M
-question-spec = tie.close (tie.spec returns returns-2 returns-3)
+pub question_spec : {M : Type 1} → statement M
+question_spec = tie.close (tie.spec returns returns-2 returns-3)

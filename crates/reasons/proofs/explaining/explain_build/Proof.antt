@@ -10,96 +10,96 @@ use borrow.Author.Rules.{rules}
 use Rattle.reasons.proofs.explaining.explain_build.Statement.{statement}
 use Rattle.reasons.proofs.explaining.explain_build.Tie as tie
 
-abbrev Admit : tie.After-slice-known10 → tie.After-admit-build
+abbrev Admit : tie.After-slice_known-10-1 → tie.After-admit_build-r
 Admit c = c.before.before.before.before.before.before.before.before.before.before
 
-abbrev Entry : tie.After-admit-build-arg5 → tie.Start
+abbrev Entry : tie.After-admit_build-arg-5-1 → tie.Start
 Entry c = c.before.before.before.before.before.before.before.before.before.before.before.before.before.before
 
-abbrev Begin : tie.After-admit-build → tie.Start
-Begin c = Entry c.before
+abbrev Begin : tie.After-admit_build-r → tie.Start
+Begin c = c.before.before.before.before.before.before.before.before.before.before.before.before.before.before.before
 
-abbrev Located : tie.After-slice-known11 → tie.After-slice-known10
+abbrev Located : tie.After-slice_known-then-r-ne0-1 → tie.After-slice_known-10-1
 Located c = c.before.before.before.before.before
 
-abbrev Made : tie.After-slice-known14 → tie.After-build-cells
+abbrev Made : tie.After-slice_known-13-1 → tie.After-build_cells-told
 Made c = c.before.before.before.before.before.before
 
-abbrev Accepts : tie.After-build-cells → tie.Else1
+abbrev Accepts : tie.After-build_cells-told → tie.Else-r-ne0
 Accepts c = c.before.before.before.before.before
 
-abbrev Ends : tie.After-of-fault → tie.After-slice-known14
+abbrev Ends : tie.After-of_fault → tie.After-slice_known-13-1
 Ends c = c.before.before.before.before.before.before.before.before.before.before
 
-abbrev Known : tie.After-of-fault → tie.After-slice-known10
+abbrev Known : tie.After-of_fault → tie.After-slice_known-10-1
 Known c = (Accepts (Made (Ends c))).before
 
-abbrev Vertices : tie.After-slice-known10 → tie.After-vertices
+abbrev Vertices : tie.After-slice_known-10-1 → tie.After-vertices-1
 Vertices c = c.before.before.before.before.before.before.before
 
-admit-build-requires : tie.Need-admit-build-requires
-admit-build-requires c κs = (Entry c).requires.0
+admit_build-requires : tie.Need-admit_build-r-requires
+admit_build-requires c κs = (Entry c).requires.0
 
-same_length : tie.Need-same-length
-same_length c = c.before.work2.given ∙ (Vertices (Located c)).before.before.work.given
+same_length : tie.Need-shape_of-work-then-r-ne0
+same_length c = c.work-then-r-ne0-1.given ∙ (Vertices (Located c)).work-1.given
 
-returns : tie.Need-returns
-returns c = early (Admit (Located c)).admit-build.ensures c.before.before.before.before.if1.true c.before.before.locate.ensures refl
+returns : tie.Need-returns-then-r-ne0
+returns c = early (Admit (Located c)).admit_build-r.ensures c.if-r-ne0.true c.locate.ensures refl
 
-slice-reshare-prefix-build-cells : tie.Need-slice-reshare-prefix-build-cells
-slice-reshare-prefix-build-cells c = table_fits (build_outlined (Admit c.before).admit-build.ensures c.if1.false) c.if1.false
+slice_reshare_prefix-build_cells : tie.Need-slice_bounds-build_cells-end
+slice_reshare_prefix-build_cells c = table_fits (build_outlined (Admit c.before).admit_build-r.ensures c.if-r-ne0.false) c.if-r-ne0.false
 
-slice-aggregate-build-cells : tie.Need-slice-aggregate-build-cells
-slice-aggregate-build-cells c =
-    let e = c.before in
-    sym (simp length-take (omega (arith, table_fits (build_outlined (Admit e.before).admit-build.ensures e.if1.false) e.if1.false)))
+slice_aggregate-build_cells : tie.Need-slice_bounds-build_cells-end-2
+slice_aggregate-build_cells c =
+    let e = c in
+    sym (simp length-take (omega (arith, table_fits (build_outlined (Admit e.before).admit_build-r.ensures e.if-r-ne0.false) e.if-r-ne0.false)))
 
-build-cells-requires : tie.Need-build-cells-requires
-build-cells-requires c κs =
-    let e = c.before.before.before.before in
-    let a = Admit e.before in
-    boxed_asks (build_outlined a.admit-build.ensures e.if1.false) _ (Begin a).pre.2 (Begin a).pre.1 e.if1.false
+build_cells-requires : tie.Need-build_cells-told-requires
+build_cells-requires c κs =
+    let e = c in
+    let a = Admit e.before.before.before.before.before in
+    boxed_asks (build_outlined a.admit_build-r.ensures e.if-r-ne0.false) _ (Begin a).requires.2 (Begin a).requires.1 e.if-r-ne0.false
 
-finish-build-requires : tie.Need-finish-build-requires
-finish-build-requires c κs =
+finish_build-requires : tie.Need-finish_build-requires
+finish_build-requires c κs =
     let m = Made c.before.before.before.before in
-    let z = (Accepts m).if1.left in
+    let z = (Accepts m).if-r-ne0.false in
     let a = Admit (Accepts m).before in
-    let o = build_outlined a.admit-build.ensures z in
-    let b = boxed_told a.admit-build.ensures _ (Begin a).pre.2 (Begin a).pre.1 z (table_is o z) m.build-cells.ensures in (
-      boxed_count a.admit-build.ensures _ (Begin a).pre.2 (Begin a).pre.1 z _ b.0,
-      boxed_reused a.admit-build.ensures _ (Begin a).pre.2 (Begin a).pre.1 z _ b.0,
+    let o = build_outlined a.admit_build-r.ensures z in
+    let b = boxed_told a.admit_build-r.ensures _ (Begin a).requires.2 (Begin a).requires.1 z (table_is o z) m.build_cells-told.ensures in (
+      boxed_count a.admit_build-r.ensures _ (Begin a).requires.2 (Begin a).requires.1 z _ b.0,
+      boxed_reused a.admit_build-r.ensures _ (Begin a).requires.2 (Begin a).requires.1 z _ b.0,
       nine_of o z,
     )
 
-same-length-6 : tie.Need-same-length-6
-same-length-6 c = c.before.before.before.before.work3.given ∙ (Vertices (Known c)).before.before.work.given
+same_length-6 : tie.Need-shape_of-work
+same_length-6 c = c.work-2-1.given ∙ (Vertices (Known c)).work-1.given
 
-same-length-7 : tie.Need-same-length-7
-same-length-7 c = (Ends c).before.before.before.before.before.vertices2.given ∙ (Vertices (Known c)).vertices.given
+same_length-7 : tie.Need-shape_of-vertices
+same_length-7 c = (Ends c).vertices-2-1.given ∙ (Vertices (Known c)).vertices-1.given
 
-same-length-8 : tie.Need-same-length-8
-same-length-8 c = (Ends c).before.before.before.indexes2.given ∙ (Known c).before.before.before.before.before.indexes.given
+same_length-8 : tie.Need-shape_of-indexes
+same_length-8 c = (Ends c).indexes-2-1.given ∙ (Known c).indexes-1.given
 
-same-length-9 : tie.Need-same-length-9
-same-length-9 c = (Ends c).before.offsets2.given ∙ (Known c).before.before.before.offsets.given
+same_length-9 : tie.Need-shape_of-offsets
+same_length-9 c = (Ends c).offsets-2-1.given ∙ (Known c).offsets-1.given
 
-same-length-10 : tie.Need-same-length-10
-same-length-10 c = c.before.before.counts2.given ∙ (Known c).before.counts.given
+same_length-10 : tie.Need-shape_of-counts
+same_length-10 c = c.counts-2-1.given ∙ (Known c).counts-1.given
 
-returns-2 : tie.Need-returns-2
+returns-2 : tie.Need-returns
 returns-2 c =
     let m = Made (Ends c) in
-    let z = (Accepts m).if1.left in
+    let z = (Accepts m).if-r-ne0.false in
     let a = Admit (Known c) in
-    let b = boxed_told a.admit-build.ensures _ (Begin a).pre.2 (Begin a).pre.1 z (table_is (build_outlined a.admit-build.ensures z) z) m.build-cells.ensures in
-    let f = c.before.before.before.before.before.finish-build.ensures in
-    explains_build a.admit-build.ensures z _ (Begin a).pre.2 (Begin a).pre.1 _ b.0 b.1 f c.of-fault.ensures
+    let b = boxed_told a.admit_build-r.ensures _ (Begin a).requires.2 (Begin a).requires.1 z (table_is (build_outlined a.admit_build-r.ensures z) z) m.build_cells-told.ensures in
+    let f = c.finish_build.ensures in
+    explains_build a.admit_build-r.ensures z _ (Begin a).requires.2 (Begin a).requires.1 _ b.0 b.1 f c.of_fault.ensures
 
-pub explain-build-spec : {M : Type 1} → statement M
-explain-build-spec =
+pub explain_build_spec : {M : Type 1} → statement M
+explain_build_spec =
     tie.close
-    (tie.spec admit-build-requires (λ c κs. search rules) same_length (λ c. search rules) (λ c. search rules)
-    (λ c. search rules) (λ c. search rules) returns slice-reshare-prefix-build-cells slice-aggregate-build-cells
-    build-cells-requires finish-build-requires (λ c κs. search rules) same-length-6 same-length-7 same-length-8
-    same-length-9 same-length-10 returns-2)
+    (tie.spec admit_build-requires (λ c κs. search rules) same_length (λ c. search rules) (λ c. search rules)
+    (λ c. search rules) (λ c. search rules) returns slice_reshare_prefix-build_cells slice_aggregate-build_cells
+    build_cells-requires finish_build-requires (λ c κs. search rules) same_length-6 same_length-7 same_length-8
+    same_length-9 same_length-10 returns-2)

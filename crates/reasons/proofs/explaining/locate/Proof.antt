@@ -6,16 +6,16 @@ use Rattle.reasons.specs.explaining.laws.Placed.{answer_fits}
 use Rattle.reasons.proofs.explaining.locate.Statement.{statement}
 use Rattle.reasons.proofs.explaining.locate.Tie as tie
 
-returns : tie.Need-returns
-returns c = alone c.if1.true refl
+returns : tie.Need-returns-then-number-lt-REFUSED_COORDINATE
+returns c = alone c.if-number-lt-REFUSED_COORDINATE.true refl
 
-of-mesh-requires : tie.Need-of-mesh-requires
-of-mesh-requires c κs = answer_fits c.before.before.check-mesh.ensures
+of_mesh-requires : tie.Need-of_mesh-requires
+of_mesh-requires c κs = answer_fits c.check_mesh.ensures
 
-returns-2 : tie.Need-returns-2
+returns-2 : tie.Need-returns
 returns-2 c =
-    let m = c.before.before.before in
-    subst (Located _ _ _ _) (sym c.of-mesh.ensures) (placed _ m.before.before.if1.false m.check-mesh.ensures)
+    let m = c in
+    subst (Located _ _ _ _) (sym c.of_mesh.ensures) (placed _ m.if-number-lt-REFUSED_COORDINATE.false m.check_mesh.ensures)
 
-pub locate-spec : {M : Type 1} → statement M
-locate-spec = tie.close (tie.spec returns (λ c κs. search rules) of-mesh-requires (λ c. search rules) returns-2)
+pub locate_spec : {M : Type 1} → statement M
+locate_spec = tie.close (tie.spec returns (λ c κs. search rules) of_mesh-requires (λ c. search rules) returns-2)

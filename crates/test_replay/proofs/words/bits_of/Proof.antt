@@ -4,14 +4,14 @@ use Rattle.test_replay.specs.words.laws.Reading.{bits_nan, bits_number}
 use Rattle.test_replay.proofs.words.bits_of.Statement.{statement}
 use Rattle.test_replay.proofs.words.bits_of.Tie as tie
 
-returns : tie.Need-returns
-returns c = bits_nan _ c.if1.true
+returns : tie.Need-returns-then-x
+returns c = bits_nan _ c.if-x.true
 
-float-to-bits-result : tie.Need-float-to-bits-result
-float-to-bits-result c = no_nan _ c.if1.false
+float_to_bits-result : tie.Need-float_to_bits-result
+float_to_bits-result c = no_nan _ c.if-x.false
 
-returns-2 : tie.Need-returns-2
-returns-2 c = bits_number _ c.if1.false
+returns-2 : tie.Need-returns
+returns-2 c = bits_number _ c.if-x.false
 
-pub bits-of-spec : {M : Type 1} → statement M
-bits-of-spec = tie.close (tie.spec returns float-to-bits-result returns-2)
+pub bits_of_spec : {M : Type 1} → statement M
+bits_of_spec = tie.close (tie.spec returns float_to_bits-result returns-2)

@@ -6,7 +6,7 @@ use Rattle.test_replay.proofs.words.float.Statement.{statement}
 use Rattle.test_replay.proofs.words.float.Tie as tie
 
 returns : tie.Need-returns
-returns c = c.float_of.ensures ∙ ap float_of c.before.pattern.ensures
+returns c = c.float_of.ensures ∙ ap float_of c.pattern.ensures
 
-pub float-spec : {M : Type 1} → statement M
-float-spec = tie.close (tie.spec (λ c κs. search rules) (λ c κs. search rules) returns)
+pub float_spec : {M : Type 1} → statement M
+float_spec = tie.close (tie.spec (λ c κs. search rules) (λ c κs. search rules) returns)

@@ -9,14 +9,14 @@ use Rattle.test_replay.specs.words.laws.Reading.{float_nan, float_number}
 use Rattle.test_replay.proofs.words.float_of.Statement.{statement}
 use Rattle.test_replay.proofs.words.float_of.Tie as tie
 
-returns : tie.Need-returns
-returns c = no_quotient ∙ float_nan _ c.if1.true
+returns : tie.Need-returns-then-bits-gt-INFINITY
+returns c = no_quotient ∙ float_nan _ c.if-bits-gt-INFINITY.true
 
-float-from-bits-result : tie.Need-float-from-bits-result
-float-from-bits-result c = subst (λ (b : Bool). T (not b)) (sym (nan_bits_is binary64 c.before.args.bits)) (up_to_no_nan c.before.args.bits c.if1.false)
+float_from_bits-result : tie.Need-float_from_bits-result
+float_from_bits-result c = subst (λ (b : Bool). T (not b)) (sym (nan_bits_is binary64 c.args.bits)) (up_to_no_nan c.args.bits c.if-bits-gt-INFINITY.false)
 
-returns-2 : tie.Need-returns-2
-returns-2 c = float_number _ c.if1.false
+returns-2 : tie.Need-returns
+returns-2 c = float_number _ c.if-bits-gt-INFINITY.false
 
-pub float-of-spec : {M : Type 1} → statement M
-float-of-spec = tie.close (tie.spec returns float-from-bits-result returns-2)
+pub float_of_spec : {M : Type 1} → statement M
+float_of_spec = tie.close (tie.spec returns float_from_bits-result returns-2)

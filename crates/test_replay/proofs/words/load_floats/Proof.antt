@@ -10,32 +10,32 @@ use Rattle.test_replay.specs.words.laws.Reading.{Loading, loading_next}
 use Rattle.test_replay.proofs.words.load_floats.Statement.{statement}
 use Rattle.test_replay.proofs.words.load_floats.Tie as tie
 
-abbrev invariant-loop : tie.invariant-loop
+abbrev invariant-loop : tie.invariant-loop-i
 invariant-loop b k l₀ i₀ l i = Loading nan (λ j. float_of (pattern_of b (place_of k j))) l₀ l i
 
-abbrev decreases-loop : tie.decreases-loop
+abbrev decreases-loop : tie.decreases-loop-i
 decreases-loop b k l₀ i₀ l i = length l - i
 
-loop-holds : tie.Need-loop-init invariant-loop decreases-loop
+loop-holds : tie.Need-loop-i-init invariant-loop decreases-loop
 loop-holds c = record { few = omega arith; long = refl; each = λ j h. absurd (omega arith) }
 
-loop-less : tie.Need-loop-smaller invariant-loop decreases-loop
+loop-less : tie.Need-loop-i-smaller invariant-loop decreases-loop
 loop-less c = simp length-set (omega arith)
 
-loop-again : tie.Need-loop-preserved invariant-loop decreases-loop
+loop-again : tie.Need-loop-i-preserved invariant-loop decreases-loop
 loop-again c =
-    let t = c.before.before.before in
-    let l = t.before in
-    loading_next nan _ _ _ l.loop.i _ t.loop-test.true l.loop.invariant (rw (← c.before.before.after.ensures, ← c.before.after2.ensures) c.float.ensures)
+    let t = c in
+    let l = t in
+    loading_next nan _ _ _ l.loop-i.i _ t.loop-i-test.true l.loop-i.invariant (rw (← c.after.ensures, ← c.after-in-loop-i.ensures) c.float.ensures)
 
-same_length : tie.Need-same-length invariant-loop decreases-loop
-same_length c = c.before.loop.invariant.long
+same_length : tie.Need-shape_of-l invariant-loop decreases-loop
+same_length c = c.loop-i.invariant.long
 
 returns : tie.Need-returns invariant-loop decreases-loop
-returns c = let i = c.before.loop.invariant in record { long = i.long; each = λ j h. i.each j (omega arith) }
+returns c = let i = c.loop-i.invariant in record { long = i.long; each = λ j h. i.each j (omega arith) }
 
-pub load-floats-spec : {M : Type 1} → statement M
-load-floats-spec =
+pub load_floats_spec : {M : Type 1} → statement M
+load_floats_spec =
     tie.close
     (tie.spec invariant-loop decreases-loop loop-holds (λ c κs. omega arith) (λ c κs. omega arith) (λ c κs. omega arith)
     (λ c. omega arith) (λ c. search rules) (λ c. omega arith) loop-less loop-again same_length returns)

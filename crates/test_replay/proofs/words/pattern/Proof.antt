@@ -6,11 +6,11 @@ use Rattle.test_replay.proofs.words.pattern.Statement.{statement}
 use Rattle.test_replay.proofs.words.pattern.Tie as tie
 
 returns : tie.Need-returns
-returns c = let w = c.before in let a = w.before in let f = a.before.before in
-    two_words _ _ _ _ _ (a.before.wide.ensures ∙ f.word.ensures) a.after.ensures (c.wide2.ensures ∙ w.word2.ensures)
+returns c = let w = c in let a = w in let f = a in
+    two_words _ _ _ _ _ (a.wide.ensures ∙ f.word.ensures) a.after.ensures (c.wide-2.ensures ∙ w.word-2.ensures)
 
-pub pattern-spec : {M : Type 1} → statement M
-pattern-spec =
+pub pattern_spec : {M : Type 1} → statement M
+pattern_spec =
     tie.close
     (tie.spec (λ c κs. search rules) (λ c κs. search rules) (λ c κs. search rules) (λ c κs. search rules)
     (λ c κs. search rules) (λ c. search rules) (λ c. search rules) returns)

@@ -4,15 +4,15 @@ use Rattle.test_replay.specs.words.laws.Reading.{word_none, word_some}
 use Rattle.test_replay.proofs.words.word.Statement.{statement}
 use Rattle.test_replay.proofs.words.word.Tie as tie
 
-returns : tie.Need-returns
-returns c = word_none _ _ c.if1.true
+returns : tie.Need-returns-then-k-ge-WORDS
+returns c = word_none _ _ c.if-k-ge-WORDS.true
 
-returns-2 : tie.Need-returns-2
-returns-2 c = word_some _ _ _ _ _ _ c.before.before.before.before.if1.false c.before.before.before.byte.ensures.0
-    c.before.before.byte2.ensures.0 c.before.byte3.ensures.0 c.byte4.ensures.0
+returns-2 : tie.Need-returns
+returns-2 c = word_some _ _ _ _ _ _ c.if-k-ge-WORDS.false c.byte.ensures.0
+    c.byte-2.ensures.0 c.byte-3.ensures.0 c.byte-4.ensures.0
 
-pub word-spec : {M : Type 1} → statement M
-word-spec =
+pub word_spec : {M : Type 1} → statement M
+word_spec =
     tie.close
     (tie.spec returns (λ c. search rules) (λ c κs. search rules) (λ c. search rules) (λ c κs. search rules)
     (λ c. search rules) (λ c. search rules) (λ c. search rules) (λ c κs. search rules) (λ c. search rules)

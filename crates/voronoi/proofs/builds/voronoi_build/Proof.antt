@@ -5,14 +5,14 @@ use Rattle.voronoi.specs.laws.InGiven.{build_in}
 use Rattle.voronoi.proofs.builds.voronoi_build.Statement.{statement}
 use Rattle.voronoi.proofs.builds.voronoi_build.Tie as tie
 
-abbrev Built : tie.After-slice-known10 → tie.After-build
+abbrev Built : tie.After-slice_known-10-1 → tie.After-build
 Built c = c.before.before.before.before.before.before.before.before.before.before
 
 build-requires : tie.Need-build-requires
-build-requires c κs = rw c.before.before.before.before.before.by-size.ensures (size_fits _ _ _)
+build-requires c κs = rw c.by_size-given.ensures (size_fits _ _ _)
 
 returns : tie.Need-returns
-returns c = build_in (Built c).before.before.before.before.before.before.by-size.ensures (Built c).build.ensures
+returns c = build_in (Built c).by_size-given.ensures (Built c).build.ensures
 
-pub voronoi-build-spec : {M : Type 1} → statement M
-voronoi-build-spec = tie.close (tie.spec (λ c κs. tt) build-requires (λ c. search rules) (λ c. search rules) (λ c. search rules) (λ c. search rules) (λ c. search rules) returns)
+pub voronoi_build_spec : {M : Type 1} → statement M
+voronoi_build_spec = tie.close (tie.spec (λ c κs. tt) build-requires (λ c. search rules) (λ c. search rules) (λ c. search rules) (λ c. search rules) (λ c. search rules) returns)

@@ -5,11 +5,11 @@ use Rattle.voronoi.specs.laws.InGiven.{certify_in}
 use Rattle.voronoi.proofs.certificates.voronoi_certify.Statement.{statement}
 use Rattle.voronoi.proofs.certificates.voronoi_certify.Tie as tie
 
-certify-requires : tie.Need-certify-requires
-certify-requires c κs = rw c.before.by-size.ensures (size_fits _ _ _)
+certify-requires : tie.Need-certify-t-requires
+certify-requires c κs = rw c.by_size-given.ensures (size_fits _ _ _)
 
 returns : tie.Need-returns
-returns c = certify_in c.before.before.before.before.by-size.ensures c.before.before.certify.ensures
+returns c = certify_in c.by_size-given.ensures c.certify-t.ensures
 
-pub voronoi-certify-spec : {M : Type 1} → statement M
-voronoi-certify-spec = tie.close (tie.spec (λ c κs. tt) certify-requires (λ c. search rules) returns)
+pub voronoi_certify_spec : {M : Type 1} → statement M
+voronoi_certify_spec = tie.close (tie.spec (λ c κs. tt) certify-requires (λ c. search rules) returns)

@@ -5,11 +5,11 @@ use Rattle.voronoi.specs.laws.InGiven.{certify_in}
 use Rattle.voronoi.proofs.certificates.voronoi_certify_by_edges.Statement.{statement}
 use Rattle.voronoi.proofs.certificates.voronoi_certify_by_edges.Tie as tie
 
-certify-requires : tie.Need-certify-requires
-certify-requires c κs = rw c.before.by-edges.ensures (edges_fit _ _ _ _)
+certify-requires : tie.Need-certify-t-requires
+certify-requires c κs = rw c.by_edges-given.ensures (edges_fit _ _ _ _)
 
 returns : tie.Need-returns
-returns c = certify_in c.before.before.before.before.by-edges.ensures c.before.before.certify.ensures
+returns c = certify_in c.by_edges-given.ensures c.certify-t.ensures
 
-pub voronoi-certify-by-edges-spec : {M : Type 1} → statement M
-voronoi-certify-by-edges-spec = tie.close (tie.spec (λ c κs. tt) certify-requires (λ c. search rules) returns)
+pub voronoi_certify_by_edges_spec : {M : Type 1} → statement M
+voronoi_certify_by_edges_spec = tie.close (tie.spec (λ c κs. tt) certify-requires (λ c. search rules) returns)

@@ -4,7 +4,7 @@ use Rattle.voronoi.proofs.edges.voronoi_box_by_edges.Statement.{statement}
 use Rattle.voronoi.proofs.edges.voronoi_box_by_edges.Tie as tie
 
 returns : tie.Need-returns
-returns c = centered_in c.before.by-edges.ensures c.box-center.ensures
+returns c = centered_in c.by_edges-given.ensures c.box_center-r.ensures
 
-pub voronoi-box-by-edges-spec : {M : Type 1} → statement M
-voronoi-box-by-edges-spec = tie.close (tie.spec (λ c κs. tt) (λ c κs. tt) returns)
+pub voronoi_box_by_edges_spec : {M : Type 1} → statement M
+voronoi_box_by_edges_spec = tie.close (tie.spec (λ c κs. tt) (λ c κs. tt) returns)

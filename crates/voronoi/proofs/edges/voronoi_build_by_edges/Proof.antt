@@ -5,14 +5,14 @@ use Rattle.voronoi.specs.laws.InGiven.{build_in}
 use Rattle.voronoi.proofs.edges.voronoi_build_by_edges.Statement.{statement}
 use Rattle.voronoi.proofs.edges.voronoi_build_by_edges.Tie as tie
 
-abbrev Built : tie.After-slice-known10 → tie.After-build
+abbrev Built : tie.After-slice_known-10-1 → tie.After-build
 Built c = c.before.before.before.before.before.before.before.before.before.before
 
 build-requires : tie.Need-build-requires
-build-requires c κs = rw c.before.before.before.before.before.by-edges.ensures (edges_fit _ _ _ _)
+build-requires c κs = rw c.by_edges-given.ensures (edges_fit _ _ _ _)
 
 returns : tie.Need-returns
-returns c = build_in (Built c).before.before.before.before.before.before.by-edges.ensures (Built c).build.ensures
+returns c = build_in (Built c).by_edges-given.ensures (Built c).build.ensures
 
-pub voronoi-build-by-edges-spec : {M : Type 1} → statement M
-voronoi-build-by-edges-spec = tie.close (tie.spec (λ c κs. tt) build-requires (λ c. search rules) (λ c. search rules) (λ c. search rules) (λ c. search rules) (λ c. search rules) returns)
+pub voronoi_build_by_edges_spec : {M : Type 1} → statement M
+voronoi_build_by_edges_spec = tie.close (tie.spec (λ c κs. tt) build-requires (λ c. search rules) (λ c. search rules) (λ c. search rules) (λ c. search rules) (λ c. search rules) returns)

@@ -5,7 +5,7 @@ use Rattle.voronoi.proofs.edges.voronoi_corners_by_edges.Statement.{statement}
 use Rattle.voronoi.proofs.edges.voronoi_corners_by_edges.Tie as tie
 
 returns : tie.Need-returns
-returns c = corners_in c.before.before.before.before.by-edges.ensures c.before.before.corners.ensures
+returns c = corners_in c.by_edges-given.ensures c.corners.ensures
 
-pub voronoi-corners-by-edges-spec : {M : Type 1} → statement M
-voronoi-corners-by-edges-spec = tie.close (tie.spec (λ c κs. tt) (λ c κs. search rules) (λ c. search rules) returns)
+pub voronoi_corners_by_edges_spec : {M : Type 1} → statement M
+voronoi_corners_by_edges_spec = tie.close (tie.spec (λ c κs. tt) (λ c κs. search rules) (λ c. search rules) returns)

@@ -5,7 +5,7 @@ use Rattle.voronoi.proofs.edges.voronoi_intersect_line_by_edges.Statement.{state
 use Rattle.voronoi.proofs.edges.voronoi_intersect_line_by_edges.Tie as tie
 
 returns : tie.Need-returns
-returns c = meets_in c.before.by-edges.ensures line_of _ _ c.intersect-line.ensures
+returns c = meets_in c.by_edges-given.ensures line_of _ _ c.intersect_line-r.ensures
 
-pub voronoi-intersect-line-by-edges-spec : {M : Type 1} → statement M
-voronoi-intersect-line-by-edges-spec = tie.close (tie.spec (λ c κs. tt) (λ c κs. tt) returns)
+pub voronoi_intersect_line_by_edges_spec : {M : Type 1} → statement M
+voronoi_intersect_line_by_edges_spec = tie.close (tie.spec (λ c κs. tt) (λ c κs. tt) returns)

@@ -4,7 +4,7 @@ use Rattle.voronoi.proofs.edges.voronoi_is_exclusively_inside_by_edges.Statement
 use Rattle.voronoi.proofs.edges.voronoi_is_exclusively_inside_by_edges.Tie as tie
 
 returns : tie.Need-returns
-returns c = exclusively_in c.before.by-edges.ensures _ c.is-exclusively-inside.ensures
+returns c = exclusively_in c.by_edges-given.ensures _ c.is_exclusively_inside-r.ensures
 
-pub voronoi-is-exclusively-inside-by-edges-spec : {M : Type 1} → statement M
-voronoi-is-exclusively-inside-by-edges-spec = tie.close (tie.spec (λ c κs. tt) (λ c κs. tt) returns)
+pub voronoi_is_exclusively_inside_by_edges_spec : {M : Type 1} → statement M
+voronoi_is_exclusively_inside_by_edges_spec = tie.close (tie.spec (λ c κs. tt) (λ c κs. tt) returns)

@@ -4,7 +4,7 @@ use Rattle.voronoi.proofs.edges.voronoi_is_inside_by_edges.Statement.{statement}
 use Rattle.voronoi.proofs.edges.voronoi_is_inside_by_edges.Tie as tie
 
 returns : tie.Need-returns
-returns c = inside_in c.before.by-edges.ensures _ c.is-inside.ensures
+returns c = inside_in c.by_edges-given.ensures _ c.is_inside-r.ensures
 
-pub voronoi-is-inside-by-edges-spec : {M : Type 1} → statement M
-voronoi-is-inside-by-edges-spec = tie.close (tie.spec (λ c κs. tt) (λ c κs. tt) returns)
+pub voronoi_is_inside_by_edges_spec : {M : Type 1} → statement M
+voronoi_is_inside_by_edges_spec = tie.close (tie.spec (λ c κs. tt) (λ c κs. tt) returns)

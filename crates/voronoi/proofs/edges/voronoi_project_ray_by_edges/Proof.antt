@@ -5,7 +5,7 @@ use Rattle.voronoi.proofs.edges.voronoi_project_ray_by_edges.Statement.{statemen
 use Rattle.voronoi.proofs.edges.voronoi_project_ray_by_edges.Tie as tie
 
 returns : tie.Need-returns
-returns c = meets_in c.before.by-edges.ensures ray_of _ _ c.project-ray.ensures
+returns c = meets_in c.by_edges-given.ensures ray_of _ _ c.project_ray-r.ensures
 
-pub voronoi-project-ray-by-edges-spec : {M : Type 1} → statement M
-voronoi-project-ray-by-edges-spec = tie.close (tie.spec (λ c κs. tt) (λ c κs. tt) returns)
+pub voronoi_project_ray_by_edges_spec : {M : Type 1} → statement M
+voronoi_project_ray_by_edges_spec = tie.close (tie.spec (λ c κs. tt) (λ c κs. tt) returns)

@@ -4,7 +4,7 @@ use Rattle.voronoi.proofs.edges.voronoi_which_edge_by_edges.Statement.{statement
 use Rattle.voronoi.proofs.edges.voronoi_which_edge_by_edges.Tie as tie
 
 returns : tie.Need-returns
-returns c = side_in c.before.by-edges.ensures _ c.which-edge.ensures
+returns c = side_in c.by_edges-given.ensures _ c.which_edge-r.ensures
 
-pub voronoi-which-edge-by-edges-spec : {M : Type 1} → statement M
-voronoi-which-edge-by-edges-spec = tie.close (tie.spec (λ c κs. tt) (λ c κs. tt) returns)
+pub voronoi_which_edge_by_edges_spec : {M : Type 1} → statement M
+voronoi_which_edge_by_edges_spec = tie.close (tie.spec (λ c κs. tt) (λ c κs. tt) returns)

@@ -5,17 +5,17 @@ use Rattle.voronoi.specs.laws.InGiven.{why_in}
 use Rattle.voronoi.proofs.explanations.voronoi_why.Statement.{statement}
 use Rattle.voronoi.proofs.explanations.voronoi_why.Tie as tie
 
-abbrev By-size : tie.After-why-call-arg9 → tie.After-by-size
+abbrev By-size : tie.After-why_call-arg-9-1 → tie.After-by_size-given
 By-size c = c.before.before.before.before.before.before.before.before.before
 
-abbrev Why-call : tie.After-slice-known10 → tie.After-why-call
+abbrev Why-call : tie.After-slice_known-10-1 → tie.After-why_call
 Why-call c = c.before.before.before.before.before.before.before.before.before.before
 
-why-call-requires : tie.Need-why-call-requires
-why-call-requires c κs = rw (By-size c).by-size.ensures (size_fits _ _ _)
+why_call-requires : tie.Need-why_call-requires
+why_call-requires c κs = rw (By-size c).by_size-given.ensures (size_fits _ _ _)
 
 returns : tie.Need-returns
-returns c = why_in (By-size (Why-call c).before).by-size.ensures (Why-call c).why-call.ensures
+returns c = why_in (By-size (Why-call c).before).by_size-given.ensures (Why-call c).why_call.ensures
 
-pub voronoi-why-spec : {M : Type 1} → statement M
-voronoi-why-spec = tie.close (tie.spec (λ c κs. tt) why-call-requires (λ c. search rules) (λ c. search rules) (λ c. search rules) (λ c. search rules) (λ c. search rules) returns)
+pub voronoi_why_spec : {M : Type 1} → statement M
+voronoi_why_spec = tie.close (tie.spec (λ c κs. tt) why_call-requires (λ c. search rules) (λ c. search rules) (λ c. search rules) (λ c. search rules) (λ c. search rules) returns)

@@ -4,7 +4,7 @@ use Rattle.voronoi.proofs.geometry.voronoi_box.Statement.{statement}
 use Rattle.voronoi.proofs.geometry.voronoi_box.Tie as tie
 
 returns : tie.Need-returns
-returns c = edges_in c.before.by-size.ensures c.box-edges.ensures
+returns c = edges_in c.by_size-given.ensures c.box_edges-r.ensures
 
-pub voronoi-box-spec : {M : Type 1} → statement M
-voronoi-box-spec = tie.close (tie.spec (λ c κs. tt) (λ c κs. tt) returns)
+pub voronoi_box_spec : {M : Type 1} → statement M
+voronoi_box_spec = tie.close (tie.spec (λ c κs. tt) (λ c κs. tt) returns)

@@ -5,7 +5,7 @@ use Rattle.voronoi.proofs.geometry.voronoi_corners.Statement.{statement}
 use Rattle.voronoi.proofs.geometry.voronoi_corners.Tie as tie
 
 returns : tie.Need-returns
-returns c = corners_in c.before.before.before.before.by-size.ensures c.before.before.corners.ensures
+returns c = corners_in c.by_size-given.ensures c.corners.ensures
 
-pub voronoi-corners-spec : {M : Type 1} → statement M
-voronoi-corners-spec = tie.close (tie.spec (λ c κs. tt) (λ c κs. search rules) (λ c. search rules) returns)
+pub voronoi_corners_spec : {M : Type 1} → statement M
+voronoi_corners_spec = tie.close (tie.spec (λ c κs. tt) (λ c κs. search rules) (λ c. search rules) returns)

@@ -4,7 +4,7 @@ use Rattle.voronoi.proofs.geometry.voronoi_is_exclusively_inside.Statement.{stat
 use Rattle.voronoi.proofs.geometry.voronoi_is_exclusively_inside.Tie as tie
 
 returns : tie.Need-returns
-returns c = exclusively_in c.before.by-size.ensures _ c.is-exclusively-inside.ensures
+returns c = exclusively_in c.by_size-given.ensures _ c.is_exclusively_inside-r.ensures
 
-pub voronoi-is-exclusively-inside-spec : {M : Type 1} → statement M
-voronoi-is-exclusively-inside-spec = tie.close (tie.spec (λ c κs. tt) (λ c κs. tt) returns)
+pub voronoi_is_exclusively_inside_spec : {M : Type 1} → statement M
+voronoi_is_exclusively_inside_spec = tie.close (tie.spec (λ c κs. tt) (λ c κs. tt) returns)

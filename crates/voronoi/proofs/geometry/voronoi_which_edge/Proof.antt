@@ -4,7 +4,7 @@ use Rattle.voronoi.proofs.geometry.voronoi_which_edge.Statement.{statement}
 use Rattle.voronoi.proofs.geometry.voronoi_which_edge.Tie as tie
 
 returns : tie.Need-returns
-returns c = side_in c.before.by-size.ensures _ c.which-edge.ensures
+returns c = side_in c.by_size-given.ensures _ c.which_edge-r.ensures
 
-pub voronoi-which-edge-spec : {M : Type 1} → statement M
-voronoi-which-edge-spec = tie.close (tie.spec (λ c κs. tt) (λ c κs. tt) returns)
+pub voronoi_which_edge_spec : {M : Type 1} → statement M
+voronoi_which_edge_spec = tie.close (tie.spec (λ c κs. tt) (λ c κs. tt) returns)

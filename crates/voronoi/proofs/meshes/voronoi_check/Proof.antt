@@ -5,7 +5,7 @@ use Rattle.voronoi.proofs.meshes.voronoi_check.Statement.{statement}
 use Rattle.voronoi.proofs.meshes.voronoi_check.Tie as tie
 
 returns : tie.Need-returns
-returns c = numbered _ _ _ _ _ c.before.before.before.check-mesh.ensures c.number.ensures
+returns c = numbered _ _ _ _ _ c.check_mesh-f.ensures c.number.ensures
 
-pub voronoi-check-spec : {M : Type 1} → statement M
-voronoi-check-spec = tie.close (tie.spec (λ c κs. search rules) (λ c κs. search rules) (λ c. search rules) returns)
+pub voronoi_check_spec : {M : Type 1} → statement M
+voronoi_check_spec = tie.close (tie.spec (λ c κs. search rules) (λ c κs. search rules) (λ c. search rules) returns)

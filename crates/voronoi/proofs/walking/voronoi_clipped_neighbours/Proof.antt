@@ -5,9 +5,9 @@ use Rattle.voronoi.proofs.walking.voronoi_clipped_neighbours.Statement.{statemen
 use Rattle.voronoi.proofs.walking.voronoi_clipped_neighbours.Tie as tie
 
 returns : tie.Need-returns
-returns c = handed c.before.before.before.before.before.clipped-neighbours.ensures _ c.yes.ensures
+returns c = handed c.clipped_neighbours-r.ensures _ c.yes.ensures
 
-pub voronoi-clipped-neighbours-spec : {M : Type 1} → statement M
-voronoi-clipped-neighbours-spec =
+pub voronoi_clipped_neighbours_spec : {M : Type 1} → statement M
+voronoi_clipped_neighbours_spec =
     tie.close
     (tie.spec (λ c κs. search rules) (λ c κs. search rules) (λ c. search rules) (λ c. search rules) returns)

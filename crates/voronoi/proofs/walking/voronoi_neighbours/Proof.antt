@@ -5,8 +5,8 @@ use Rattle.voronoi.proofs.walking.voronoi_neighbours.Statement.{statement}
 use Rattle.voronoi.proofs.walking.voronoi_neighbours.Tie as tie
 
 returns : tie.Need-returns
-returns c = handed c.before.before.before.before.before.neighbours.ensures _ c.yes.ensures
+returns c = handed c.neighbours-r.ensures _ c.yes.ensures
 
-pub voronoi-neighbours-spec : {M : Type 1} → statement M
-voronoi-neighbours-spec =
+pub voronoi_neighbours_spec : {M : Type 1} → statement M
+voronoi_neighbours_spec =
     tie.close (tie.spec (λ c κs. search rules) (λ c κs. search rules) (λ c. search rules) (λ c. search rules) returns)

@@ -5,7 +5,7 @@ use Rattle.voronoi.proofs.walking.voronoi_shared_edge.Statement.{statement}
 use Rattle.voronoi.proofs.walking.voronoi_shared_edge.Tie as tie
 
 returns : tie.Need-returns
-returns c = found c.before.before.shared-edge.ensures
+returns c = found c.shared_edge-r.ensures
 
-pub voronoi-shared-edge-spec : {M : Type 1} → statement M
-voronoi-shared-edge-spec = tie.close (tie.spec (λ c κs. search rules) (λ c. search rules) returns)
+pub voronoi_shared_edge_spec : {M : Type 1} → statement M
+voronoi_shared_edge_spec = tie.close (tie.spec (λ c κs. search rules) (λ c. search rules) returns)

@@ -7,7 +7,7 @@ use Rattle.test_replay.proofs.words.held.after_list.Tie as tie
 
 returns : tie.Need-returns
 unfolding after_list_of
-returns c = after_of_lem c.after2.ensures c.before.before.after.ensures c.before.index.ensures.0
+returns c = after_of_lem c.after-2.ensures c.after.ensures c.index.ensures.0
 
-pub after-list-spec : {M : Type 1} → statement M
-after-list-spec = tie.close (tie.spec (λ c κs. search rules) (λ c κs. search rules) (λ c κs. search rules) returns)
+pub after_list_spec : {M : Type 1} → statement M
+after_list_spec = tie.close (tie.spec (λ c κs. search rules) (λ c κs. search rules) (λ c κs. search rules) returns)

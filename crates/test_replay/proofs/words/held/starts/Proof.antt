@@ -7,9 +7,9 @@ use Rattle.test_replay.proofs.words.held.starts.Statement.{statement}
 use Rattle.test_replay.proofs.words.held.starts.Tie as tie
 
 returns : tie.Need-returns
-returns c = after_of_lem c.after.ensures c.before.before.points.ensures (ap (λ x. 4 * x) c.before.index.ensures.0)
+returns c = after_of_lem c.after.ensures c.points.ensures (ap (λ x. 4 * x) c.index.ensures.0)
 
-pub starts-spec : {M : Type 1} → statement M
-starts-spec =
+pub starts_spec : {M : Type 1} → statement M
+starts_spec =
     tie.close
     (tie.spec (λ c κs. search rules) (λ c κs. search rules) (λ c. search rules) (λ c κs. search rules) returns)

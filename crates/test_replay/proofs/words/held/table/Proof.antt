@@ -3,5 +3,5 @@ use borrow.Author.Rules.{rules}
 use Rattle.test_replay.proofs.words.held.table.Statement.{statement}
 use Rattle.test_replay.proofs.words.held.table.Tie as tie
 
-pub table-spec : {M : Type 1} → statement M
-table-spec = tie.close (tie.spec (λ c κs. search rules) (λ c. c.after.ensures))
+pub table_spec : {M : Type 1} → statement M
+table_spec = tie.close (tie.spec (λ c κs. search rules) (λ c. c.after.ensures))

@@ -3,16 +3,16 @@ use borrow.Author.Rules.{rules}
 use Rattle.why.proofs.site_words.words.ask_one.Statement.{statement}
 use Rattle.why.proofs.site_words.words.ask_one.Tie as tie
 
-returns : tie.Need-returns
+returns : tie.Need-returns-in-Site
 returns c =
-    let at_a = c.before in
-    rw at_a.a.given.1
+    let at_a = c in
+    rw at_a.in-Site.is
 
-returns-2 : tie.Need-returns-2
+returns-2 : tie.Need-returns-in-Other
 returns-2 c =
-    rw c.enum_told.given.1
+    rw c.in-Other.is
 
-pub ask-one-spec : {M : Type 1} → statement M
-ask-one-spec =
+pub ask_one_spec : {M : Type 1} → statement M
+ask_one_spec =
     tie.close
     (tie.spec (λ c. search rules) (λ c. search rules) returns returns-2)

@@ -1,0 +1,2 @@
+-- The root of the crate's proofs.
+pub mod laws
