@@ -41,6 +41,7 @@ stand_in rt <<'END'
 case $1 in
 version) tail -n 1 toolchain ;;
 *)
+    exec >&2
     echo "fn base::length: proved"
     echo "crate base: modules loaded=0 checked=9"
     echo "logic=proved functions=1 sum=0"

@@ -58,15 +58,18 @@ def layers(root):
 
 
 def walk(root, *suffixes):
-    """The files below crates/ with one of these suffixes, sorted."""
+    """The files below crates/ with one of these suffixes, sorted, without what rt keeps in out/."""
     out = []
-    for where, _, names in os.walk(os.path.join(root, "crates")):
+    for where, folders, names in os.walk(os.path.join(root, "crates")):
+        folders[:] = [f for f in folders if f != "out"]
         out += [os.path.join(where, n) for n in names if n.endswith(suffixes)]
     return sorted(out)
 
 
 # ---- names in a text
 
+# The place of an operand in an operator's name.
+HOLE = "◌"
 # A name of antt is any run of characters but spaces and these.
 ATOM = r"[^\s(){}.;,@\"«»]+"
 COMMENT = {".antt": re.compile(r"(^|(?<=\s))--.*"), ".rt": re.compile(r"//.*")}
@@ -100,7 +103,7 @@ def bare_lines(path):
 
 
 def tokens(text):
-    """(the names that stand free, the names before a dot, the pairs `M.x`) of a text of antt. A field `r .f` is no name.
+    """(the names that stand free, the names before a dot, the pairs `M.x`) of a text of antt. A field `r.f` is no name.
     The label of a field (`record { f = .. }`) or of an implicit argument (`{A = ..}`) is no use of that name."""
     free, heads, dotted = set(), set(), set()
     for m in TOKEN.finditer(text):
@@ -120,11 +123,11 @@ def used_name(name, free):
     """Whether a name stands among these: an operator by its whole name, as a section, or by all its parts."""
     if name in free:
         return True
-    if "_" not in name or name.startswith("«"):
+    if HOLE not in name or name.startswith("«"):
         return False
-    parts = [p for p in name.split("_") if p]
-    pieces = {p for t in free for p in t.split("_")}
-    return bool(parts) and all(p in pieces for p in parts) or (name == "_>>=_" and "do" in free)
+    parts = [p for p in name.split(HOLE) if p]
+    pieces = {p for t in free for p in t.split(HOLE)}
+    return bool(parts) and all(p in pieces for p in parts) or (name == "◌>>=◌" and "do" in free)
 
 
 def closes(text, at, opening="{", closing="}"):
@@ -136,7 +139,7 @@ def closes(text, at, opening="{", closing="}"):
     return at
 
 
-CONTRACT = re.compile(r"\b(requires|ensures)(?:\s+[^\s{}]+)?\s*\{")
+CONTRACT = re.compile(r"\b(requires|ensures)\*?(?:\s+[^\s{}]+)?\s*\{")
 
 
 def contracts(text, which="requires ensures"):
@@ -179,7 +182,7 @@ def uses(path):
 
 # ---- declarations
 
-SIGN = re.compile(r"^(?P<marks>(?:(?:unfoldable|abbrev|pub|axiom) )*)(?:(?P<kind>record|data) )?(?P<name>" + ATOM + r")(?P<rest>(?: \{[^}:]*\})?(?: .*)?)$")
+SIGN = re.compile(r"^(?P<marks>(?:(?:pattern|unfoldable|opaque|abbrev|pub|axiom) )*)(?:(?P<kind>record|data) )?(?P<name>" + ATOM + r")(?P<rest>(?: \{[^}:]*\})?(?: .*)?)$")
 RESERVED = {"use", "mod", "module", "unfolding", "open", "infix", "infixl", "infixr", "mutual", "ruleset", "where", "let", "record", "data"}
 
 
@@ -328,7 +331,7 @@ def structs(path):
 
 # ---- what a name means
 
-MODULE = re.compile(r"^Rattle·(?P<crate>[A-Za-z_0-9]+)(?:·[a-z]+)?\.(?P<part>specs|proofs)\.(?P<rest>.+)$")
+MODULE = re.compile(r"^Rattle\.(?P<crate>[A-Za-z_0-9]+)\.(?P<part>specs|proofs)\.(?P<rest>.+)$")
 PROPOSITION = {"≡", "≤", "<", "≢", "⊎", "↔", "≥", ">", "∈", "∣"}
 DATA = {"ℕ", "ℤ", "Bool", "List", "Float", "String", "Char", "Option", "Unit"}
 
@@ -402,7 +405,7 @@ class Tree:
     def file(self, module):
         """The file of a module of the repository, or None: the kit's, one that is generated, or a struct's."""
         m = MODULE.match(module)
-        if not m:
+        if not m or m["crate"] not in self.crates:
             return None
         path = os.path.join(self.root, "crates", m["crate"], m["part"], m["rest"].replace(".", os.sep) + ".antt")
         return path if os.path.isfile(path) else None
@@ -432,10 +435,10 @@ class Tree:
                             return self.lookup(use["path"], brought(item)[0])
             return None
         m = MODULE.match(module)
-        if m and m["rest"].startswith("declared."):  # its modules, then the struct
+        if m and m["crate"] in self.crates and m["rest"].startswith("declared."):  # its modules, then the struct
             named = next((w for w in m["rest"].split(".")[1:] if w[0].isupper()), "")
             return self.struct(m["crate"], named.removesuffix("-variants"))
-        return None if m else Kit(module, name)
+        return None if m and m["crate"] in self.crates else Kit(module, name)
 
     def env(self, path):
         """(names, aliases) of a file: what each name that it may write bare means, and the module behind each alias."""
@@ -452,8 +455,8 @@ class Tree:
             if kind_of(path) == ".antt":
                 names.update(self.own(path))
             for name in list(names):  # an operator by its parts
-                if "_" in name and not name.startswith("«"):
-                    for part in name.split("_"):
+                if HOLE in name and not name.startswith("«"):
+                    for part in name.split(HOLE):
                         if part:
                             names.setdefault(part, names[name])
             self.env_of[path] = (names, aliases)
@@ -515,8 +518,8 @@ class Tree:
                         out.append(self.lookup(aliases[word], n.group(1)))
                 elif word in names:
                     out.append(names[word])
-                elif word.strip("_") in names:
-                    out.append(names[word.strip("_")])
+                elif word.strip(HOLE) in names:
+                    out.append(names[word.strip(HOLE)])
             at = m.end()
         return [x for x in out if x is not None]
 

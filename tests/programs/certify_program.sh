@@ -1,7 +1,7 @@
 #!/bin/sh
 # The program `certify`: a mesh for each line that a form can have, exchanged rows, gauges at one place, boxes by edges, broken forms; the same numbers as
 # tests/calls/certify.c on the stored meshes, by the C interface; and the word of ./yelmuzard with its status. Of pieces by cutting `outside`, `side` and `border`
-# cannot come (`cut-kinds`), so these lines are held by the rows of the crate alone.
+# cannot come (`cut_kinds`), so these lines are held by the rows of the crate alone.
 . "$(dirname "$0")/../head.sh"
 program=certify
 . tests/programs/asked.sh
