@@ -6,20 +6,20 @@ use Rattle.test_replay.proofs.mesh.Tie as tie
 
 returns : tie.Need-returns
 returns c =
-    let k = c.before.before.before.before.before in
-    let hull = k.before.before.before in
-    let edges = hull.before.before.before.before in
-    let three = edges.before.before.before.before in
-    let sites = three.before.before.before.before in
-    let border = sites.before.before in
-    let a = border.before.before.before.before.before.before.before.before.args in
+    let k = c in
+    let hull = k in
+    let edges = hull in
+    let three = edges in
+    let sites = three in
+    let border = sites in
+    let a = border.args in
     replayed_mesh a.b.now a.sites.now a.triangles.now a.halfedges.now a.hull.now _
-    border.before.before.after.result border.before.after2.result border.after3.result k.after4.result
-    border.before.before.after.ensures border.before.after2.ensures border.after3.ensures k.after4.ensures
-    sites.load-floats.ensures three.load.ensures edges.load2.ensures hull.load3.ensures c.replay.ensures
+    border.after-from.result border.after-pairs.result border.after-border.result k.after.result
+    border.after-from.ensures border.after-pairs.ensures border.after-border.ensures k.after.ensures
+    sites.load_floats.ensures three.load.ensures edges.load-2.ensures hull.load-3.ensures c.replay.ensures
 
-pub mesh-spec : {M : Type 1} → statement M
-mesh-spec =
+pub mesh_spec : {M : Type 1} → statement M
+mesh_spec =
     tie.close
     (tie.spec (λ c. search rules) (λ c κs. search rules) (λ c κs. search rules) (λ c κs. search rules) (λ c κs. search rules)
     (λ c κs. search rules) (λ c κs. search rules) (λ c κs. search rules) (λ c κs. search rules) (λ c κs. search rules)

@@ -4,50 +4,50 @@ use Rattle.test_replay.specs.laws.Tallied.{long_sites, long_triangles, long_half
 use Rattle.test_replay.proofs.record.Statement.{statement}
 use Rattle.test_replay.proofs.record.Tie as tie
 
-returns : tie.Need-returns
+returns : tie.Need-returns-then-s-gt128
 returns c =
-    let i = c.before in
-    long_sites i.before.before.before.before.before.args.b.now _ _ _ _ i.before.before.before.index.ensures.0
-    i.before.before.index2.ensures.0 i.before.index3.ensures.0 i.index4.ensures.0 c.if1.true
+    let i = c in
+    long_sites i.args.b.now _ _ _ _ i.index-s.ensures.0
+    i.index-t.ensures.0 i.index-e.ensures.0 i.index-h.ensures.0 c.if-s-gt128.true
 
-returns-2 : tie.Need-returns-2
+returns-2 : tie.Need-returns-then-t-gt128
 returns-2 c =
-    let e = c.before in
-    let i = e.before in
-    long_triangles i.before.before.before.before.before.args.b.now _ _ _ _ i.before.before.before.index.ensures.0
-    i.before.before.index2.ensures.0 i.before.index3.ensures.0 i.index4.ensures.0 e.if1.false c.if2.true
+    let e = c in
+    let i = e in
+    long_triangles i.args.b.now _ _ _ _ i.index-s.ensures.0
+    i.index-t.ensures.0 i.index-e.ensures.0 i.index-h.ensures.0 e.if-s-gt128.false c.if-t-gt128.true
 
-returns-3 : tie.Need-returns-3
+returns-3 : tie.Need-returns-then-e-gt128
 returns-3 c =
-    let f = c.before in
-    let e = f.before in
-    let i = e.before in
-    long_halfedges i.before.before.before.before.before.args.b.now _ _ _ _ i.before.before.before.index.ensures.0
-    i.before.before.index2.ensures.0 i.before.index3.ensures.0 i.index4.ensures.0 e.if1.false f.if2.false c.if3.true
+    let f = c in
+    let e = f in
+    let i = e in
+    long_halfedges i.args.b.now _ _ _ _ i.index-s.ensures.0
+    i.index-t.ensures.0 i.index-e.ensures.0 i.index-h.ensures.0 e.if-s-gt128.false f.if-t-gt128.false c.if-e-gt128.true
 
-returns-4 : tie.Need-returns-4
+returns-4 : tie.Need-returns-then-h-gt64
 returns-4 c =
-    let g = c.before in
-    let f = g.before in
-    let e = f.before in
-    let i = e.before in
-    long_hull i.before.before.before.before.before.args.b.now _ _ _ _ i.before.before.before.index.ensures.0
-    i.before.before.index2.ensures.0 i.before.index3.ensures.0 i.index4.ensures.0 e.if1.false f.if2.false g.if3.false
-    c.if4.true
+    let g = c in
+    let f = g in
+    let e = f in
+    let i = e in
+    long_hull i.args.b.now _ _ _ _ i.index-s.ensures.0
+    i.index-t.ensures.0 i.index-e.ensures.0 i.index-h.ensures.0 e.if-s-gt128.false f.if-t-gt128.false g.if-e-gt128.false
+    c.if-h-gt64.true
 
-returns-5 : tie.Need-returns-5
+returns-5 : tie.Need-returns
 returns-5 c =
-    let h = c.before in
-    let g = h.before in
-    let f = g.before in
-    let e = f.before in
-    let i = e.before in
-    within i.before.before.before.before.before.args.b.now _ _ _ _ i.before.before.before.index.ensures.0
-    i.before.before.index2.ensures.0 i.before.index3.ensures.0 i.index4.ensures.0 e.if1.false f.if2.false g.if3.false
-    h.if4.false c.sized.ensures
+    let h = c in
+    let g = h in
+    let f = g in
+    let e = f in
+    let i = e in
+    within i.args.b.now _ _ _ _ i.index-s.ensures.0
+    i.index-t.ensures.0 i.index-e.ensures.0 i.index-h.ensures.0 e.if-s-gt128.false f.if-t-gt128.false g.if-e-gt128.false
+    h.if-h-gt64.false c.sized.ensures
 
-pub record-spec : {M : Type 1} → statement M
-record-spec =
+pub record_spec : {M : Type 1} → statement M
+record_spec =
     tie.close
     (tie.spec (λ c κs. search rules) (λ c κs. search rules) (λ c κs. search rules) (λ c κs. search rules) returns returns-2
     returns-3 returns-4 (λ c κs. search rules) returns-5)

@@ -5,10 +5,10 @@ use Rattle.test_replay.proofs.walks.neighbours.Statement.{statement}
 use Rattle.test_replay.proofs.walks.neighbours.Tie as tie
 
 returns : tie.Need-returns
-returns c = heard _ c.before.before.before.before.before.voronoi-neighbours.ensures c.list.ensures
+returns c = heard _ c.voronoi_neighbours-number.ensures c.list.ensures
 
-pub neighbours-spec : {M : Type 1} → statement M
-neighbours-spec =
+pub neighbours_spec : {M : Type 1} → statement M
+neighbours_spec =
     tie.close
     (tie.spec (λ c. search rules) (λ c κs. search rules) (λ c. search rules) (λ c κs. search rules)
     (λ c. search rules) returns)

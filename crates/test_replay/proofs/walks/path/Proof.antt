@@ -5,10 +5,10 @@ use Rattle.test_replay.proofs.walks.path.Statement.{statement}
 use Rattle.test_replay.proofs.walks.path.Tie as tie
 
 returns : tie.Need-returns
-returns c = heard _ c.before.before.before.before.before.voronoi-path.ensures c.list.ensures
+returns c = heard _ c.voronoi_path-number.ensures c.list.ensures
 
-pub path-spec : {M : Type 1} → statement M
-path-spec =
+pub path_spec : {M : Type 1} → statement M
+path_spec =
     tie.close
     (tie.spec (λ c. search rules) (λ c κs. search rules) (λ c. search rules) (λ c κs. search rules)
     (λ c. search rules) returns)

@@ -5,10 +5,10 @@ use Rattle.test_replay.proofs.walks.walk.Statement.{statement}
 use Rattle.test_replay.proofs.walks.walk.Tie as tie
 
 returns : tie.Need-returns
-returns c = heard _ c.before.before.before.before.before.voronoi-walk.ensures c.list.ensures
+returns c = heard _ c.voronoi_walk-number.ensures c.list.ensures
 
-pub walk-spec : {M : Type 1} → statement M
-walk-spec =
+pub walk_spec : {M : Type 1} → statement M
+walk_spec =
     tie.close
     (tie.spec (λ c. search rules) (λ c κs. search rules) (λ c. search rules) (λ c κs. search rules)
     (λ c. search rules) returns)
