@@ -54,7 +54,9 @@ if [ ! -f "$made/libvoronoi.a" ] || [ -n "$(find "$module" -newer "$made/libvoro
     "$clang" --target=x86_64-unknown-linux-gnu -S -emit-llvm -x ir "$module" -o "$made/module.ll" 2>/dev/null
     sed -e 's/"target-cpu"="[^"]*"//; s/"target-features"="[^"]*"//; s/"tune-cpu"="[^"]*"//' -e '/^target triple/d; /^target datalayout/d' \
         "$made/module.ll" >"$made/plain.ll"
-    "$clang" --target="$target-linux-gnu" -O3 -fPIC -ffp-contract=off -Wno-override-module -c -x ir "$made/plain.ll" -o "$made/voronoi.o"
+    # (what rt gives clang, for whatever machine: passes that are known to compile wrongly are left out)
+    "$clang" --target="$target-linux-gnu" -O3 -fPIC -ffp-contract=off -mllvm -trap-unreachable -mllvm -no-trap-after-noreturn -mllvm -disable-machine-licm \
+        -mllvm -disable-postra-machine-licm -mllvm -sink-common-insts=false -Wno-override-module -c -x ir "$made/plain.ll" -o "$made/voronoi.o"
     rm -f "$made/libvoronoi.a" "$made/module.ll" "$made/plain.ll"
     ar rcs "$made/libvoronoi.a" "$made/voronoi.o"
 fi
