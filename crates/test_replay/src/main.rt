@@ -4,7 +4,7 @@
 
 pub mod words;
 mod builds; // builds.rt: the build
-mod walks; // walks.rt: walks, neighbours, paths
+mod walked; // walked.rt: walks, neighbours, paths
 
 ghost use Rattle.std.specs.Prelude.{◌≡◌, ◌+◌, ◌≤◌, ◌<◌, length, replicate};
 ghost use Rattle.mesh.specs.Accepted.{mesh};
@@ -56,7 +56,7 @@ fn judge(
             return DIFFERENT;
         }
         let q = after_list(b, end(b, from, work.len()));
-        if walks::lists(
+        if walked::lists(
             b, q, true, sites, triangles, halfedges, hull, offsets, indexes, work,
         ) {
             return BUILT;
@@ -69,7 +69,7 @@ fn judge(
     if number <= base::numbers::REFUSED_FAN {
         return REFUSED;
     }
-    if walks::lists(
+    if walked::lists(
         b,
         after(k, 1),
         false,

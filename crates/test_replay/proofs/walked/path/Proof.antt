@@ -1,8 +1,8 @@
--- `test_replay::walks::path` meets its contract: the call's answer, and what is told of it.
+-- `test_replay::walked::path` meets its contract: the call's answer, and what is told of it.
 use borrow.Author.Rules.{rules}
 use Rattle.test_replay.specs.laws.Replayed.{heard}
-use Rattle.test_replay.proofs.walks.path.Statement.{statement}
-use Rattle.test_replay.proofs.walks.path.Tie as tie
+use Rattle.test_replay.proofs.walked.path.Statement.{statement}
+use Rattle.test_replay.proofs.walked.path.Tie as tie
 
 returns : tie.Need-returns
 returns c = heard _ c.voronoi_path-number.ensures c.list.ensures

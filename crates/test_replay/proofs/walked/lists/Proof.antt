@@ -1,11 +1,11 @@
--- `test_replay::walks::lists` meets its contract: each list in turn, to the first that differs.
+-- `test_replay::walked::lists` meets its contract: each list in turn, to the first that differs.
 use mathlib.Core.Bool.{not}
 use borrow.Author.Rules.{rules}
 use mathlib.Core.Path.{ap, refl}
 use Rattle.mesh.specs.Accepted.{mesh}
 use Rattle.test_replay.specs.laws.Replayed.{lists_read, then_stops, then_next, float_at}
-use Rattle.test_replay.proofs.walks.lists.Statement.{statement}
-use Rattle.test_replay.proofs.walks.lists.Tie as tie
+use Rattle.test_replay.proofs.walked.lists.Statement.{statement}
+use Rattle.test_replay.proofs.walked.lists.Tie as tie
 
 returns : tie.Need-returns-then-not-walk
 returns c =

@@ -1,8 +1,8 @@
--- `test_replay::walks::neighbours` meets its contract: the call's answer, and what is told of it.
+-- `test_replay::walked::neighbours` meets its contract: the call's answer, and what is told of it.
 use borrow.Author.Rules.{rules}
 use Rattle.test_replay.specs.laws.Replayed.{heard}
-use Rattle.test_replay.proofs.walks.neighbours.Statement.{statement}
-use Rattle.test_replay.proofs.walks.neighbours.Tie as tie
+use Rattle.test_replay.proofs.walked.neighbours.Statement.{statement}
+use Rattle.test_replay.proofs.walked.neighbours.Tie as tie
 
 returns : tie.Need-returns
 returns c = heard _ c.voronoi_neighbours-number.ensures c.list.ensures

@@ -1,10 +1,10 @@
--- `test_replay::walks::clipped_neighbours` meets its contract: the call's answer, and what is told of it.
+-- `test_replay::walked::clipped_neighbours` meets its contract: the call's answer, and what is told of it.
 use mathlib.Core.Bool.{not}
 use mathlib.Core.Path.{ap}
 use borrow.Author.Rules.{rules}
 use Rattle.test_replay.specs.laws.Replayed.{heard, where_asked, where_passed}
-use Rattle.test_replay.proofs.walks.clipped_neighbours.Statement.{statement}
-use Rattle.test_replay.proofs.walks.clipped_neighbours.Tie as tie
+use Rattle.test_replay.proofs.walked.clipped_neighbours.Statement.{statement}
+use Rattle.test_replay.proofs.walked.clipped_neighbours.Tie as tie
 
 returns : tie.Need-returns-then-not-built
 returns c = where_passed _ (ap not c.if-not-built.true)

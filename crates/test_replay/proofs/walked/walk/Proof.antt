@@ -1,8 +1,8 @@
--- `test_replay::walks::walk` meets its contract: the call's answer, and what is told of it.
+-- `test_replay::walked::walk` meets its contract: the call's answer, and what is told of it.
 use borrow.Author.Rules.{rules}
 use Rattle.test_replay.specs.laws.Replayed.{heard}
-use Rattle.test_replay.proofs.walks.walk.Statement.{statement}
-use Rattle.test_replay.proofs.walks.walk.Tie as tie
+use Rattle.test_replay.proofs.walked.walk.Statement.{statement}
+use Rattle.test_replay.proofs.walked.walk.Tie as tie
 
 returns : tie.Need-returns
 returns c = heard _ c.voronoi_walk-number.ensures c.list.ensures
