@@ -7,6 +7,10 @@
 root=$(pwd)
 library=${YELMUZARD_LIBRARY:-$(sh tests/shared.sh)}
 export YELMUZARD_LIBRARY="$library"
+# all that the commands build is proved and built here first, for the copy has no out/ of rt's
+sh tests/native.sh >/dev/null
+for program in cells export why mend nearest audit certify; do sh tests/prove.sh check "$program"; done
+export YELMUZARD_PROVED=yes
 folder=$(mktemp -d)
 trap 'rm -rf "$folder"' EXIT
 mkdir "$folder/copy"
