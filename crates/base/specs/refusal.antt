@@ -1,0 +1,2 @@
+-- The root of the definitions on refusals.
+pub mod Number
