@@ -29,10 +29,8 @@ pub fn put_hex(out: &mut [u8], at: usize, bytes: &[u8]) -> usize
     ensures { Wrote out.old out.new at result (hex bytes.now) }
 {
     let mut end = at;
-    let mut i = 0;
-    while i < bytes.len() {
-        end = put_byte(out, end, bytes[i]);
-        i += 1;
+    for byte in bytes {
+        end = put_byte(out, end, *byte);
     }
     end
 }
@@ -43,10 +41,8 @@ pub fn put_turned(out: &mut [u8], at: usize, bytes: &[u8]) -> usize
     ensures { Wrote out.old out.new at result (hex (reverse bytes.now)) }
 {
     let mut end = at;
-    let mut i = 0;
-    while i < bytes.len() {
-        end = put_byte(out, end, bytes[bytes.len() - 1 - i]);
-        i += 1;
+    for i in (0..bytes.len()).rev() {
+        end = put_byte(out, end, bytes[i]);
     }
     end
 }
@@ -73,14 +69,7 @@ fn value(d: u8) -> u8
 pub fn all_digits(text: &[u8]) -> bool
     ensures { result ≡ all_hex text.now }
 {
-    let mut i = 0;
-    while i < text.len() {
-        if 16 <= value(text[i]) {
-            return false;
-        }
-        i += 1;
-    }
-    true
+    text.iter().all(|d| value(*d) < 16)
 }
 
 // The byte of two digits.
@@ -95,9 +84,7 @@ pub fn get_hex(text: &[u8], out: &mut [u8])
     requires { length text.now ≡ 2 * length out.old }
     ensures { out.new ≡ unhex text.now }
 {
-    let mut i = 0;
-    while i < out.len() {
-        out[i] = byte_of(text[2 * i], text[2 * i + 1]);
-        i += 1;
+    for (i, byte) in out.iter_mut().enumerate() {
+        *byte = byte_of(text[2 * i], text[2 * i + 1]);
     }
 }

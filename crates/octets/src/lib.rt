@@ -16,12 +16,10 @@ pub fn put(out: &mut [u8], at: usize, text: &[u8]) -> usize
     requires { HasRoom out.old at text.now }
     ensures { Wrote out.old out.new at result text.now }
 {
-    let mut i = 0;
-    while i < text.len() {
-        out[at + i] = text[i];
-        i += 1;
+    for (i, byte) in text.iter().enumerate() {
+        out[at + i] = *byte;
     }
-    at + i
+    at + text.len()
 }
 
 // The n lowest bytes of x.
@@ -30,13 +28,11 @@ pub fn put_le(out: &mut [u8], at: usize, n: usize, x: u64) -> usize
     ensures { Wrote out.old out.new at result (le n x) }
 {
     let mut rest = x;
-    let mut i = 0;
-    while i < n {
+    for i in 0..n {
         out[at + i] = (rest % 256) as u8;
-        rest = rest / 256;
-        i += 1;
+        rest /= 256;
     }
-    at + i
+    at + n
 }
 
 // The number of the n bytes from a place on, the lowest first.
@@ -46,9 +42,7 @@ fn get_le(bytes: &[u8], at: usize, n: usize) -> u64
     ensures small { result < 256 ^ n }
 {
     let mut x = 0;
-    let mut i = n;
-    while 0 < i {
-        i -= 1;
+    for i in (0..n).rev() {
         x = 256 * x + bytes[at + i] as u64;
     }
     x
@@ -61,10 +55,8 @@ fn get_be(bytes: &[u8], at: usize, n: usize) -> u64
     ensures small { result < 256 ^ n }
 {
     let mut x = 0;
-    let mut i = 0;
-    while i < n {
+    for i in 0..n {
         x = 256 * x + bytes[at + i] as u64;
-        i += 1;
     }
     x
 }

@@ -1,0 +1,18 @@
+-- `octets::get_be` meets its contract: each byte carries `Climbing` one further.
+use Rattle.std.proofs.Common.{◌+◌, arith}
+use Rattle.octets.specs.laws.Get.{room_for, climbing_step, climbing_end}
+use Rattle.octets.proofs.get_be.Goals as goal
+
+pub overflow_mul-x : goal.overflow_mul-x
+overflow_mul-x c = let l = c.loop-i in omega (arith, room_for l.x l.i (omega (arith, c.loop-i-test.true, c.requires.0)) l.invariant.small)
+
+pub overflow_add-x-in-loop-i : goal.overflow_add-x-in-loop-i
+overflow_add-x-in-loop-i c =
+    let l = c.loop-i in
+    omega (arith, room_for l.x l.i (omega (arith, c.loop-i-test.true, c.requires.0)) l.invariant.small, c.type_inv.bytes (c.args.at + l.i))
+
+pub loop-i-preserved : goal.loop-i-preserved
+loop-i-preserved c = climbing_step c.requires.1 c.loop-i.invariant c.loop-i-test.true (omega (arith, c.type_inv.bytes (c.args.at + c.loop-i.i)))
+
+pub returns : goal.returns
+returns c = let both = climbing_end c.loop-i.invariant c.loop-i-test.false in record { value = both.0; small = both.1 }
