@@ -90,11 +90,9 @@ fn sum_of(points: &[f64], count: usize) -> Point
 {
     let mut x = 0.0;
     let mut y = 0.0;
-    let mut i = 0;
-    while i < count {
-        x = x + points[2 * i];
-        y = y + points[2 * i + 1];
-        i += 1;
+    for i in 0..count {
+        x += points[2 * i];
+        y += points[2 * i + 1];
     }
     Point { x, y }
 }

@@ -56,12 +56,10 @@ pub fn first_bad_site(sites: &[f64]) -> usize
     ensures { First (KeptAt sites.now) (length sites.now / 2) result }
 {
     let count = sites.len() / 2;
-    let mut i = 0;
-    while i < count {
+    for i in 0..count {
         if !site_ok(point_at(sites, i)) {
             return i;
         }
-        i += 1;
     }
-    i
+    count
 }

@@ -65,10 +65,8 @@ pub fn nearest_root(m: u64) -> u64
         left: 0,
         rest: m,
     };
-    let mut i: u64 = 0;
-    while i < 53 {
+    for _ in 0..53u32 {
         page = turn(page);
-        i = i + 1;
     }
     if page.root < page.left {
         return page.root + 1;
