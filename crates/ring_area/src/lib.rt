@@ -113,12 +113,10 @@ pub fn sides_from(
 {
     let first = corner(vertices, entries[0]);
     let mut p = first;
-    let mut i = 1;
-    while i < entries.len() {
+    for i in 1..entries.len() {
         let q = corner(vertices, entries[i]);
         side(plus, minus, from, p, q);
         p = q;
-        i += 1;
     }
     side(plus, minus, from, p, first);
 }

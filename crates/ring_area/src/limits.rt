@@ -13,9 +13,7 @@ fn divide(limbs: &mut [u64], d: u64)
     ensures { Divided limbs.old limbs.new d }
 {
     let mut rest: u64 = 0;
-    let mut i = limbs.len();
-    while 0 < i {
-        i -= 1;
+    for i in (0..limbs.len()).rev() {
         let x = rest * BASE + limbs[i];
         limbs[i] = x / d;
         rest = x % d;

@@ -59,12 +59,10 @@ pub fn carry(limbs: &mut [u64]) -> u64
     ensures { Carried limbs.old limbs.new result }
 {
     let mut c: u64 = 0;
-    let mut i = 0;
-    while i < limbs.len() {
-        let x = limbs[i] + c;
-        limbs[i] = x % BASE;
+    for limb in limbs.iter_mut() {
+        let x = *limb + c;
+        *limb = x % BASE;
         c = x / BASE;
-        i += 1;
     }
     c
 }
@@ -75,12 +73,10 @@ pub fn difference(out: &mut [u64], a: &[u64], b: &[u64]) -> u64
     ensures { Differs a.now b.now out.old out.new result }
 {
     let mut borrowed: u64 = 0;
-    let mut i = 0;
-    while i < out.len() {
+    for (i, lower) in out.iter_mut().enumerate() {
         let x = a[i] + BASE - b[i] - borrowed;
-        out[i] = x % BASE;
+        *lower = x % BASE;
         borrowed = 1 - x / BASE;
-        i += 1;
     }
     borrowed
 }

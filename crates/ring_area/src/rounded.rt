@@ -30,12 +30,10 @@ fn used(limbs: &[u64], from: usize) -> usize
     requires { length (lifted from limbs.now) ≤ 94 }
     ensures { UpTo (lifted from limbs.now) result }
 {
-    let mut n = limbs.len();
-    while 0 < n {
-        if limbs[n - 1] != 0 {
-            return from + n;
+    for i in (0..limbs.len()).rev() {
+        if limbs[i] != 0 {
+            return from + (i + 1);
         }
-        n -= 1;
     }
     0
 }
@@ -57,12 +55,10 @@ fn bits(limbs: &[u64], from: usize) -> usize
 fn none_below(limbs: &[u64], from: usize, j: usize) -> bool
     ensures { Says result (amount (take j (lifted from limbs.now)) ≡ 0) }
 {
-    let mut i = from;
-    while i < j {
+    for i in from..j {
         if limb(limbs, from, i) != 0 {
             return false;
         }
-        i += 1;
     }
     true
 }

@@ -67,14 +67,14 @@ fn area_in(
     settle(out, plus, minus, from)
 }
 
-// In `count` limbs from number `from` on.
-fn short_area(from: usize, count: usize, vertices: &[f64], entries: &[u32]) -> f64
-    requires { Corners vertices.now entries.now × RingPlaced from count vertices.now entries.now × (0 < length entries.now) × (count ≤ 16) × (from + count ≤ 94) }
+// In `count` limbs from number `from` on, of N that are there.
+fn area_within<const N: usize>(from: usize, count: usize, vertices: &[f64], entries: &[u32]) -> f64
+    requires { Corners vertices.now entries.now × RingPlaced from count vertices.now entries.now × (0 < length entries.now) × (count ≤ N) × (N ≤ 94) × (from + count ≤ 94) }
     ensures { result ≡ ring_area vertices.now entries.now }
 {
-    let mut out = [0u64; SHORT];
-    let mut plus = [0u64; SHORT];
-    let mut minus = [0u64; SHORT];
+    let mut out = [0u64; N];
+    let mut plus = [0u64; N];
+    let mut minus = [0u64; N];
     area_in(
         &mut out[..count],
         &mut plus[..count],
@@ -83,41 +83,6 @@ fn short_area(from: usize, count: usize, vertices: &[f64], entries: &[u32]) -> f
         vertices,
         entries,
     )
-}
-
-fn long_area(from: usize, count: usize, vertices: &[f64], entries: &[u32]) -> f64
-    requires { Corners vertices.now entries.now × RingPlaced from count vertices.now entries.now × (0 < length entries.now) × (from + count ≤ 94) }
-    ensures { result ≡ ring_area vertices.now entries.now }
-{
-    let mut out = [0u64; LIMBS];
-    let mut plus = [0u64; LIMBS];
-    let mut minus = [0u64; LIMBS];
-    area_in(
-        &mut out[..count],
-        &mut plus[..count],
-        &mut minus[..count],
-        from,
-        vertices,
-        entries,
-    )
-}
-
-fn lower(a: usize, b: usize) -> usize
-    ensures { (result ≤ a) × (result ≤ b) × ((n : ℕ) → n ≤ a → n ≤ b → n ≤ result) }
-{
-    if a < b {
-        return a;
-    }
-    b
-}
-
-fn higher(a: usize, b: usize) -> usize
-    ensures { (a ≤ result) × (b ≤ result) × ((n : ℕ) → a ≤ n → b ≤ n → result ≤ n) }
-{
-    if a < b {
-        return b;
-    }
-    a
 }
 
 // The least and the greatest exponent of coordinates that are not 0.
@@ -137,8 +102,8 @@ fn widen(r: Exponents, x: f64) -> Exponents
         return r;
     }
     Exponents {
-        least: lower(r.least, s.p),
-        most: higher(r.most, s.p),
+        least: r.least.min(s.p),
+        most: r.most.max(s.p),
     }
 }
 
@@ -158,10 +123,8 @@ fn reach(vertices: &[f64], entries: &[u32]) -> Exponents
         least: 1422,
         most: 0,
     };
-    let mut i = 0;
-    while i < entries.len() {
-        r = widen_corner(r, corner(vertices, entries[i]));
-        i += 1;
+    for entry in entries {
+        r = widen_corner(r, corner(vertices, *entry));
     }
     r
 }
@@ -175,10 +138,10 @@ pub fn ring_area(vertices: &[f64], entries: &[u32]) -> f64
         return 0.0;
     }
     let r = reach(vertices, entries);
-    let from = lower(r.least, r.most) / 16;
+    let from = r.least.min(r.most) / 16;
     let count = r.most / 16 + 6 - from;
     if count <= SHORT {
-        return short_area(from, count, vertices, entries);
+        return area_within::<SHORT>(from, count, vertices, entries);
     }
-    long_area(from, count, vertices, entries)
+    area_within::<LIMBS>(from, count, vertices, entries)
 }
