@@ -42,15 +42,12 @@ fn find_near(vertices: &[f64], from: usize, count: usize, p: Point) -> usize
     ensures value { result ≡ find_near p (points_from vertices.now from (count - from)) from }
     ensures upper_bound { result ≤ count }
 {
-    let mut i = from;
-    while i < count {
-        let q = point_at(vertices, i);
-        if near_point(q, p) {
+    for i in from..count {
+        if near_point(point_at(vertices, i), p) {
             return i;
         }
-        i += 1;
     }
-    i
+    count
 }
 
 // The place of x on the grid, and the lowest and the highest of what is near x.
@@ -139,10 +136,8 @@ pub fn empty(indexes: &mut [u32], limit: usize)
     ensures { BucketsFree limit indexes.old indexes.new }
 {
     let heads = heads_in(indexes.len(), limit);
-    let mut m: usize = 0;
-    while m < heads {
-        indexes[limit + m] = 0;
-        m += 1;
+    if 0 < heads {
+        indexes[limit..limit + heads].fill(0);
     }
 }
 
@@ -171,12 +166,6 @@ fn choose(c: bool, x: usize, y: usize) -> usize
     ensures { result ≡ cond c x y }
 {
     if c { x } else { y }
-}
-
-fn least(x: usize, y: usize) -> usize
-    ensures { result ≡ min x y }
-{
-    if x < y { x } else { y }
 }
 
 // The first vertex near p among those that are chained, which are so many, from the last one in the bucket m back, as long as there are some of the mark; else the number after them.
@@ -226,7 +215,7 @@ pub fn find(
         return find_near(vertices, centers, count, p);
     }
     if there.narrow {
-        let inserted = least(count - centers, 3 * heads);
+        let inserted = (count - centers).min(3 * heads);
         let i = in_chain(
             vertices,
             indexes,

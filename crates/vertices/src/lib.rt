@@ -134,9 +134,8 @@ pub fn calculate_corners(
         indexes.old result vertices.new indexes.new }
 {
     empty(indexes, limit);
-    let mut k = 0;
-    while k < 4 {
-        let there = home_of(heads_in(indexes.len(), limit), corners[k]);
+    for (k, corner) in corners.iter().enumerate() {
+        let there = home_of(heads_in(indexes.len(), limit), *corner);
         append(
             vertices,
             indexes,
@@ -144,9 +143,8 @@ pub fn calculate_corners(
             centers,
             centers + k,
             there,
-            corners[k],
+            *corner,
         );
-        k += 1;
     }
-    centers + 4
+    centers + corners.len()
 }
