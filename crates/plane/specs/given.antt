@@ -2,3 +2,4 @@ pub mod Given
 pub mod Finite
 pub mod Neighbours
 pub mod Rows
+pub mod Tried

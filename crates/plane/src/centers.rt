@@ -1,16 +1,10 @@
 // Circumcenters with rule 11, and the centroid: the rest of the plane part of utils.rs.
 ghost use Rattle.std.specs.Prelude.{◌≡◌, ◌*◌, ◌≤◌, length};
-ghost use Rattle.plane.specs.centers.Circumcenter.{center_of, ok_center, center_if, center_answer, center_number, x_of, y_of};
+ghost use Rattle.plane.specs.centers.Circumcenter.{center_of, ok_center, center_answer};
 ghost use Rattle.plane.specs.centers.Centroid.{point_sum, mean_of, centroid_answer};
 
 use crate::points::{Point, first_bad_site, site_ok};
-
-// A point, or the number of a refusal.
-#[derive(Clone, Copy)]
-pub enum Center {
-    Refused(u32),
-    At(Point),
-}
+use base::refusal::Refusal;
 
 pub fn circumcenter_of(a: Point, b: Point, c: Point) -> Point
     ensures { result ≡ center_of a b c }
@@ -34,54 +28,18 @@ pub fn center_ok(p: Point) -> bool
     (root::magnitude(p.x) <= base::numbers::HUGE) & (root::magnitude(p.y) <= base::numbers::HUGE)
 }
 
-fn answer(sites: bool, center: bool, p: Point) -> Center
-    ensures { result ≡ center_if sites center p }
-{
-    if sites {
-        if center {
-            Center::At(p)
-        } else {
-            Center::Refused(base::numbers::REFUSED_CIRCUMCENTER)
-        }
-    } else {
-        Center::Refused(base::numbers::REFUSED_COORDINATE)
-    }
-}
-
 // The circumcenter, or refusal 6 (a coordinate) or 11 (the circumcenter).
-pub fn circumcenter(a: Point, b: Point, c: Point) -> Center
+pub fn circumcenter(a: Point, b: Point, c: Point) -> Result<Point, Refusal>
     ensures { result ≡ center_answer a b c }
 {
+    if !(site_ok(a) & site_ok(b) & site_ok(c)) {
+        return Err(Refusal::Coordinate);
+    }
     let p = circumcenter_of(a, b, c);
-    answer(site_ok(a) & site_ok(b) & site_ok(c), center_ok(p), p)
-}
-
-// An answer's number, 0 for a point, and its coordinates, 0 where it is refused.
-pub fn number_of(c: Center) -> u32
-    ensures { result ≡ center_number c }
-{
-    match c {
-        Center::Refused(n) => n,
-        Center::At(_) => 0,
+    if !center_ok(p) {
+        return Err(Refusal::Circumcenter);
     }
-}
-
-pub fn x_of(c: Center) -> f64
-    ensures { result ≡ x_of c }
-{
-    match c {
-        Center::Refused(_) => 0.0,
-        Center::At(p) => p.x,
-    }
-}
-
-pub fn y_of(c: Center) -> f64
-    ensures { result ≡ y_of c }
-{
-    match c {
-        Center::Refused(_) => 0.0,
-        Center::At(p) => p.y,
-    }
+    Ok(p)
 }
 
 fn sum_of(points: &[f64], count: usize) -> Point
@@ -110,21 +68,21 @@ fn centroid_of(points: &[f64], count: usize) -> Point
 }
 
 // The centroid of 1 to 65,536 points, or refusal 1 (their count) or 6 (a coordinate).
-pub fn centroid(points: &[f64]) -> Center
+pub fn centroid(points: &[f64]) -> Result<Point, Refusal>
     ensures { result ≡ centroid_answer points.now }
 {
     let count = points.len() / 2;
     if points.len() != 2 * count {
-        return Center::Refused(base::numbers::REFUSED_COUNT);
+        return Err(Refusal::Count);
     }
     if count == 0 {
-        return Center::Refused(base::numbers::REFUSED_COUNT);
+        return Err(Refusal::Count);
     }
     if 65536 < count {
-        return Center::Refused(base::numbers::REFUSED_COUNT);
+        return Err(Refusal::Count);
     }
     if first_bad_site(points) < count {
-        return Center::Refused(base::numbers::REFUSED_COORDINATE);
+        return Err(Refusal::Coordinate);
     }
-    Center::At(centroid_of(points, count))
+    Ok(centroid_of(points, count))
 }

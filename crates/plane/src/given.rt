@@ -2,9 +2,11 @@
 ghost use Rattle.std.specs.Prelude.{◌≡◌};
 ghost use Rattle.plane.specs.points.Plane.{at};
 ghost use Rattle.plane.specs.given.Given.{edges_of, ok_span, ok_edges, by_size, by_edges};
+ghost use Rattle.plane.specs.given.Tried.{tried_by};
 
 use crate::boxes::{BoundingBox, box_ok};
 use crate::points::Point;
+use base::refusal::Refusal;
 
 // sound: the box keeps rule 3.
 #[derive(Clone, Copy)]
@@ -61,4 +63,17 @@ pub fn by_edges(left: f64, top: f64, right: f64, bottom: f64) -> Given
     let sound = edges_ok(left, top, right, bottom);
     let bounds = from_edges(left, top, right, bottom);
     Given { sound, bounds }
+}
+
+// Rule 3 of the box, then rule 6 of the points of a call.
+pub fn tried(given: Given, points: bool) -> Result<(), Refusal>
+    ensures { result ≡ tried_by given.sound points }
+{
+    if !given.sound {
+        return Err(Refusal::Box);
+    }
+    if !points {
+        return Err(Refusal::Coordinate);
+    }
+    Ok(())
 }

@@ -7,7 +7,7 @@ use crate::boxes::BoundingBox;
 use crate::choose;
 use crate::points::Point;
 
-#[derive(Clone, Copy)]
+#[derive(Clone, Copy, Debug, PartialEq)]
 pub enum Crossing {
     None,
     One(f64, f64),

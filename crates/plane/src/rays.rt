@@ -1,13 +1,14 @@
 // bounding_box.rs, the ray: the order of the points in which its line crosses the box; and the public line and ray.
 ghost use Rattle.std.specs.Prelude.{◌≡◌};
 ghost use Rattle.plane.specs.rays.Ray.{order_pick, order_by, order_two, order_one, order_of, ray_of};
-ghost use Rattle.plane.specs.rays.Rules.{count_of, values_of, met_by, line_answer, ray_answer, meeting_number, points_of};
+ghost use Rattle.plane.specs.rays.Rules.{line_answer, ray_answer};
 
 use crate::boxes::BoundingBox;
 use crate::choose;
-use crate::given::Given;
+use crate::given::{Given, tried};
 use crate::lines::{Crossing, intersect_line, one_if};
 use crate::points::{Point, site_ok};
+use base::refusal::Refusal;
 
 fn order_pick(a: bool, b: bool, near: bool, x: f64, y: f64, u: f64, v: f64) -> Crossing
     ensures { result ≡ order_pick a b near x y u v }
@@ -89,97 +90,18 @@ pub fn project_ray(b: BoundingBox, p: Point, dir: Point) -> Crossing
     order_points_on_ray(p, dir, intersect_line(b, p, q))
 }
 
-// How many points, and their coordinates: zeros where there is none.
-fn count_of(c: Crossing) -> u32
-    ensures { result ≡ count_of c }
-{
-    match c {
-        Crossing::None => 0,
-        Crossing::One(_, _) => 1,
-        Crossing::Two(_, _, _, _) => 2,
-    }
-}
-
-fn values_of(c: Crossing) -> [f64; 4]
-    ensures { result ≡ values_of c }
-{
-    match c {
-        Crossing::None => [0.0, 0.0, 0.0, 0.0],
-        Crossing::One(x, y) => [x, y, 0.0, 0.0],
-        Crossing::Two(x, y, u, v) => [x, y, u, v],
-    }
-}
-
-// What a line or a ray meets, or the number of a refusal: the box's, or a coordinate's of a point.
-#[derive(Clone, Copy)]
-pub enum Meeting {
-    Refused(u32),
-    Met(Crossing),
-}
-
-fn answer(frame: bool, points: bool, c: Crossing) -> Meeting
-    ensures { result ≡ met_by frame points c }
-{
-    if frame {
-        if points {
-            Meeting::Met(c)
-        } else {
-            Meeting::Refused(base::numbers::REFUSED_COORDINATE)
-        }
-    } else {
-        Meeting::Refused(base::numbers::REFUSED_BOX)
-    }
-}
-
-// The line through p and q.
-pub fn meet_line(given: Given, p: Point, q: Point) -> Meeting
+// What the line through p and q meets; refusal 3 (the box), then 6 (a coordinate).
+pub fn meet_line(given: Given, p: Point, q: Point) -> Result<Crossing, Refusal>
     ensures { result ≡ line_answer given p q }
 {
-    answer(
-        given.sound,
-        site_ok(p) & site_ok(q),
-        intersect_line(given.bounds, p, q),
-    )
+    tried(given, site_ok(p) & site_ok(q))?;
+    Ok(intersect_line(given.bounds, p, q))
 }
 
-// The ray from p in the direction dir.
-pub fn meet_ray(given: Given, p: Point, dir: Point) -> Meeting
+// The same of the ray from p in the direction dir.
+pub fn meet_ray(given: Given, p: Point, dir: Point) -> Result<Crossing, Refusal>
     ensures { result ≡ ray_answer given p dir }
 {
-    answer(
-        given.sound,
-        site_ok(p) & site_ok(dir),
-        project_ray(given.bounds, p, dir),
-    )
-}
-
-// The number of a meeting, 0 where it is answered, and its points; of a refusal none.
-pub fn number_of(m: Meeting) -> u32
-    ensures { result ≡ meeting_number m }
-{
-    match m {
-        Meeting::Refused(n) => n,
-        Meeting::Met(_) => 0,
-    }
-}
-
-fn points_of(m: Meeting) -> Crossing
-    ensures { result ≡ points_of m }
-{
-    match m {
-        Meeting::Refused(_) => Crossing::None,
-        Meeting::Met(c) => c,
-    }
-}
-
-pub fn met_count(m: Meeting) -> u32
-    ensures { result ≡ count_of (points_of m) }
-{
-    count_of(points_of(m))
-}
-
-pub fn met_values(m: Meeting) -> [f64; 4]
-    ensures { result ≡ values_of (points_of m) }
-{
-    values_of(points_of(m))
+    tried(given, site_ok(p) & site_ok(dir))?;
+    Ok(project_ray(given.bounds, p, dir))
 }

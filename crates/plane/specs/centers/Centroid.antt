@@ -1,17 +1,16 @@
 -- The centroid, with the source's operations in its order, and its refusals: the count, then a coordinate.
-use Rattle.std.specs.Prelude.{Bool, ◌&&◌, List, ℕ, zero, suc, ◌*◌, ◌/◌, eqb, leb, ltb, pos, length, Float}
+use Rattle.std.specs.Prelude.{Bool, ◌&&◌, List, ℕ, zero, suc, ◌*◌, ◌/◌, eqb, leb, ltb, pos, length, Result, Ok, Err, Float}
 use Rattle.std.specs.Float.{binary64}
 use Rattle.std.specs.Float.Ieee.{of_int}
 use Rattle.base.specs.common.Binary64 as R
 use Rattle.base.specs.common.Binary64.{◌⊞◌, ◌⊘◌}
 use Rattle.base.specs.common.Pick.{pick}
-use Rattle.base.specs.numbers.Numbers.{refused_count, refused_coordinate}
+use Rattle.base.specs.declared.refusal.Refusal.{Refusal}
+use Rattle.base.specs.declared.refusal.Refusal.TheVariants.{Count, Coordinate}
 use Rattle.plane.specs.points.Plane.{at}
 use Rattle.plane.specs.points.Flat.{point_at}
 use Rattle.plane.specs.points.Sites.{ok_sites}
 use Rattle.plane.specs.declared.points.Point.{Point}
-use Rattle.plane.specs.declared.centers.Center.{Center}
-use Rattle.plane.specs.declared.centers.Center.TheVariants.{Refused, At}
 
 -- the first n points added up, one after the other
 unfoldable pub point_sum : List Float → ℕ → Point
@@ -25,6 +24,6 @@ mean_of l n = at ((point_sum l n).x ⊘ of_int binary64 (pos n)) ((point_sum l n
 unfoldable pub ok_count : List Float → Bool
 ok_count l = eqb (length l) (2 * (length l / 2)) && (ltb 0 (length l / 2) && leb (length l / 2) 65536)
 
-unfoldable pub centroid_answer : List Float → Center
+unfoldable pub centroid_answer : List Float → Result Point Refusal
 centroid_answer l =
-    pick (ok_count l) (λ _. pick (ok_sites (length l / 2) l) (λ _. At (mean_of l (length l / 2))) (λ _. Refused refused_coordinate)) (λ _. Refused refused_count)
+    pick (ok_count l) (λ _. pick (ok_sites (length l / 2) l) (λ _. Ok (mean_of l (length l / 2))) (λ _. Err Coordinate)) (λ _. Err Count)

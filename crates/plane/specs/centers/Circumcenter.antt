@@ -1,15 +1,15 @@
 -- The circumcenter, rule 11 on it as a test, and the public circumcenter's answer.
-use Rattle.std.specs.Prelude.{Bool, ◌&&◌, Float, ℕ}
+use Rattle.std.specs.Prelude.{Bool, ◌&&◌, Result, Ok, Err, Float}
 use Rattle.std.specs.Float.Ieee.{le}
 use Rattle.root.specs.Root.{magnitude}
 use Rattle.base.specs.common.Pick.{pick}
-use Rattle.base.specs.common.Binary64.{◌⊞◌, ◌⊟◌, ◌⊠◌, ◌⊘◌, zero, one, two}
-use Rattle.base.specs.numbers.Numbers.{huge, refused_coordinate, refused_circumcenter}
+use Rattle.base.specs.common.Binary64.{◌⊞◌, ◌⊟◌, ◌⊠◌, ◌⊘◌, one, two}
+use Rattle.base.specs.numbers.Numbers.{huge}
+use Rattle.base.specs.declared.refusal.Refusal.{Refusal}
+use Rattle.base.specs.declared.refusal.Refusal.TheVariants.{Coordinate, Circumcenter}
 use Rattle.plane.specs.points.Plane.{at}
 use Rattle.plane.specs.points.Rules.{ok_site}
 use Rattle.plane.specs.declared.points.Point.{Point}
-use Rattle.plane.specs.declared.centers.Center.{Center}
-use Rattle.plane.specs.declared.centers.Center.TheVariants.{Refused, At}
 
 -- the circumcenter of a, b, c; first from the offsets of b and c from a, their squared lengths and the factor d
 abbrev pub center_by : Point → Float → Float → Float → Float → Float → Float → Float → Point
@@ -26,21 +26,8 @@ unfoldable pub ok_center : Point → Bool
 ok_center p = le (magnitude p.x) huge && le (magnitude p.y) huge
 
 -- the circumcenter: refusal 6, refusal 11, or the point
-unfoldable pub center_if : Bool → Bool → Point → Center
-center_if sites center p = pick sites (λ _. pick center (λ _. At p) (λ _. Refused refused_circumcenter)) (λ _. Refused refused_coordinate)
+unfoldable pub center_if : Bool → Bool → Point → Result Point Refusal
+center_if sites center p = pick sites (λ _. pick center (λ _. Ok p) (λ _. Err Circumcenter)) (λ _. Err Coordinate)
 
-unfoldable pub center_answer : Point → Point → Point → Center
+unfoldable pub center_answer : Point → Point → Point → Result Point Refusal
 center_answer a b c = center_if (ok_site a && ok_site b && ok_site c) (ok_center (center_of a b c)) (center_of a b c)
-
--- the number and the coordinates of an answer: 0 and the point's, or the refusal's and 0
-abbrev pub center_number : Center → ℕ
-center_number (Refused n) = n
-center_number (At p) = 0
-
-abbrev pub x_of : Center → Float
-x_of (Refused n) = zero
-x_of (At p) = p.x
-
-abbrev pub y_of : Center → Float
-y_of (Refused n) = zero
-y_of (At p) = p.y

@@ -1,5 +1,5 @@
 -- A function's answer from the answers of its calls, which are the arguments: so no proof looks for them among all that it knows.
-use Rattle.std.specs.Prelude.{◌≡◌, refl, Bool, true, false, ◌&&◌, cond, Float}
+use Rattle.std.specs.Prelude.{◌≡◌, refl, Bool, true, false, ◌&&◌, cond, Ok, Err, Float}
 use Rattle.std.specs.Float.Ieee.{lt, eq}
 use Rattle.root.specs.Root.{magnitude, signum}
 use Rattle.base.specs.common.Binary64.{◌⊞◌, ◌⊟◌}
@@ -11,8 +11,10 @@ use Rattle.plane.specs.lines.Line.{one_if, line_of}
 use Rattle.plane.specs.declared.lines.Crossing.{Crossing}
 use Rattle.plane.specs.declared.lines.Crossing.TheVariants.{One, Two}
 use Rattle.plane.specs.rays.Ray.{either_of, order_pick, order_by, order_one, order_two, order_of, ray_of}
-use Rattle.plane.specs.rays.Rules.{met_by}
-use Rattle.plane.specs.declared.rays.Meeting.{Meeting}
+use Rattle.plane.specs.rays.Rules.{met_by, line_answer, ray_answer}
+use Rattle.plane.specs.given.Tried.{tried_by}
+use Rattle.plane.specs.declared.given.Given.{Given}
+use Rattle.base.specs.declared.refusal.Refusal.{Refusal}
 
 -- ---- the order on the ray
 pub by_calls :
@@ -53,8 +55,32 @@ module _ (p dir : Point) where
   unfolding ray_of
   ray_calls b e k = rw (← e) k
 
--- ---- the public line and ray: m is what they meet in the box
-pub met_calls :
-    (sound : Bool) (m : Crossing) (p q : Point) {t₁ t₂ : Bool} {l : Crossing} {r : Meeting}
-    → t₁ ≡ ok_site p → t₂ ≡ ok_site q → l ≡ m → r ≡ met_by sound (t₁ && t₂) l → r ≡ met_by sound (ok_site p && ok_site q) m
-met_calls sound m p q e₁ e₂ e₃ k = rw (← e₁, ← e₂, ← e₃) k
+-- ---- the public line and ray: c is what they meet in the box
+pub tried_met : (t u : Bool) (c : Crossing) {x : Unit {0}} → Ok x ≡ tried_by t u → met_by t u c ≡ Ok c
+unfolding met_by
+tried_met true true c h = refl
+tried_met true false c h = absurd (cc)
+tried_met false u c h = absurd (cc)
+
+pub tried_refused : (t u : Bool) (c : Crossing) {r : Refusal} → Err r ≡ tried_by t u → met_by t u c ≡ Err r
+unfolding met_by
+tried_refused true true c h = absurd (cc)
+tried_refused true false c h = cc
+tried_refused false u c h = cc
+
+module _ {s s₁ : Bool} (given : Given) (p q : Point) (e₁ : s ≡ ok_site p) (e₂ : s₁ ≡ ok_site q) where
+  pub line_met : {x : Unit {0}} {c : Crossing} → Ok x ≡ tried_by given.sound (s && s₁) → c ≡ line_of given.bounds p q → line_answer given p q ≡ Ok c
+  unfolding line_answer
+  line_met {x} {c} h e = rw (← e₁, ← e₂, ← e) (tried_met given.sound (s && s₁) c h)
+
+  pub line_refused : {r : Refusal} → Err r ≡ tried_by given.sound (s && s₁) → line_answer given p q ≡ Err r
+  unfolding line_answer
+  line_refused h = rw (← e₁, ← e₂) (tried_refused given.sound (s && s₁) (line_of given.bounds p q) h)
+
+  pub ray_met : {x : Unit {0}} {c : Crossing} → Ok x ≡ tried_by given.sound (s && s₁) → c ≡ ray_of given.bounds p q → ray_answer given p q ≡ Ok c
+  unfolding ray_answer
+  ray_met {x} {c} h e = rw (← e₁, ← e₂, ← e) (tried_met given.sound (s && s₁) c h)
+
+  pub ray_refused : {r : Refusal} → Err r ≡ tried_by given.sound (s && s₁) → ray_answer given p q ≡ Err r
+  unfolding ray_answer
+  ray_refused h = rw (← e₁, ← e₂) (tried_refused given.sound (s && s₁) (ray_of given.bounds p q) h)
