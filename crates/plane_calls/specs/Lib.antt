@@ -1,3 +1,3 @@
+pub mod Blank
 pub mod Plane
-pub mod Tested
 pub mod laws

@@ -1,27 +1,23 @@
 -- The promises on points and the box from what the callees say, in the order of the calls.
-use Rattle.std.specs.Prelude.{◌≡◌, refl, Bool, ◌&&◌, ◌≢◌, ℕ, ◌-◌, ◌/◌, ◌≤◌, ◌<◌, eqb, get_or, set, Float}
+use Rattle.std.specs.Prelude.{◌≡◌, refl, Bool, ◌&&◌, ◌≢◌, ℕ, ◌-◌, ◌/◌, ◌≤◌, ◌<◌, set, Result, Ok, Err, Float}
 use Rattle.std.proofs.Common.{sym, ◌∙◌, inl, inr, arith, eq-eqb, ne_eqb}
 use Rattle.std.proofs.Math.Path.{ap}
 use Rattle.std.proofs.Math.Bool.{true, false}
 use Rattle.std.proofs.lemmas.Bool.{false≢true}
 use mathlib.Core.List.{List, [], ◌∷◌, ◌++◌}
 use Rattle.std.proofs.Math.ListN.{length, drop, replicate, length-drop}
-use Rattle.std.specs.Float.{nan}
 use Rattle.base.specs.common.Binary64.{zero}
 use Rattle.base.specs.common.Pick.{pick}
 use Rattle.base.specs.common.Refusals.{once}
 use Rattle.base.specs.common.laws.Refusals.{breaks, keeps, nothing}
 use Rattle.base.specs.numbers.Numbers.{EMPTY, refused_room, refused_box, refused_coordinate}
-use Rattle.plane.specs.points.Plane.{dist2_of}
 use Rattle.plane.specs.points.Flat.{flat, pour}
 use Rattle.plane.specs.points.Rules.{ok_site}
 use Rattle.plane.specs.points.Sites.{ok_sites}
 use Rattle.plane.specs.declared.points.Point.{Point}
-use Rattle.plane.specs.centers.Circumcenter.{center_of, ok_center, center_if, center_answer, center_number, x_of, y_of}
+use Rattle.plane.specs.centers.Circumcenter.{center_of, ok_center, center_if, center_answer}
 use Rattle.plane.specs.centers.Centroid.{ok_count, mean_of, centroid_answer}
-use Rattle.plane.specs.declared.centers.Center.{Center}
-use Rattle.plane.specs.declared.centers.Center.TheVariants.{Refused, At}
-use Rattle.plane.specs.boxes.Box.{width_of, height_of, corners_of}
+use Rattle.plane.specs.boxes.Box.{corners_of}
 use Rattle.plane.specs.sides.Sides.{inside_of, exclusive_of, which_of}
 use Rattle.plane.specs.declared.boxes.BoundingBox.{BoundingBox}
 use Rattle.plane.specs.declared.given.Given.{Given}
@@ -29,13 +25,17 @@ use Rattle.plane.specs.lines.Line.{line_of}
 use Rattle.plane.specs.declared.lines.Crossing.{Crossing}
 use Rattle.plane.specs.declared.lines.Crossing.TheVariants.{None, One, Two}
 use Rattle.plane.specs.rays.Ray.{ray_of}
-use Rattle.plane.specs.rays.Rules.{met_by, line_answer, ray_answer, meeting_number, points_of, count_of, values_of}
-use Rattle.plane.specs.declared.rays.Meeting.{Meeting}
-use Rattle.plane.specs.declared.rays.Meeting.TheVariants.{Met}
-use Rattle.plane.specs.declared.rays.Meeting.TheVariants as meeting
+use Rattle.plane.specs.rays.Rules.{met_by, line_answer, ray_answer, count_of, values_of}
+use Rattle.plane.specs.given.Tried.{tried_by}
+use Rattle.base.specs.declared.refusal.Refusal.{Refusal}
+use Rattle.base.specs.declared.refusal.Refusal.TheVariants as refusal
+use Rattle.base.specs.refusal.Number.{number_of, answer_number}
+use Rattle.std.specs.Result.{result_unwrap_or}
+use Rattle.plane.specs.points.Plane.{at}
+use Rattle.plane_calls.specs.declared.Met.{Met}
+use Rattle.plane_calls.specs.Blank.{IsMet}
 use Rattle.cell_memory.specs.layout.Cleared.{cleared_from}
-use Rattle.plane_calls.specs.Plane.{bit, Answered, plane_rules, Dist2, Circumcenter, Centroid, Edges, Centered, Corners, Inside, ExclusivelyInside, WhichEdge, Meets}
-use Rattle.plane_calls.specs.Tested.{number_by, value_if, side_if}
+use Rattle.plane_calls.specs.Plane.{bit, Answered, Circumcenter, Centroid, Corners, Inside, ExclusivelyInside, WhichEdge, Meets}
 
 -- ---- a number by one test or two, and what is written beside it
 module _ {A : Type 0} {blank : A} {made out : List A} {r : ℕ} where
@@ -56,96 +56,93 @@ six q = omega arith
 three : ◌≢◌ {A = ℕ} 3 0
 three q = omega arith
 
-value : {x : Float} (d : Float) (ok : Bool) → x ≡ value_if ok d → x ∷ [] ≡ pick ok (λ _. d ∷ []) (λ _. zero ∷ [])
-unfolding value_if
-value d true e = ap (λ y. y ∷ []) e
-value d false e = ap (λ y. y ∷ []) e
+-- ---- one test: the refusal, with blanks, or what is made
+module _ {A : Type 0} {blank : A} {made : List A} {n : ℕ} {t : Bool} where
+  pub one_refused : t ≡ false → n ≢ 0 → Answered (once n (t ≡ true) ∷ []) blank made n (replicate (length made) blank)
+  one_refused f k = record { number = record { judged = inl ((λ h. false≢true (sym f ∙ h)), refl) }; values = rw (ne_eqb n 0 k) refl }
 
-pub distance : (a b : Point) {s t : Bool} {d v : Float} {n : ℕ} → s ≡ ok_site a → t ≡ ok_site b → d ≡ dist2_of a b → v ≡ value_if (s && t) d
-    → n ≡ number_by true (s && t) → Dist2 a b n v
-unfolding number_by
-distance a b s t d v n = by_one (ok_site a && ok_site b) six (rw (s, t) at n) (value (dist2_of a b) (ok_site a && ok_site b) (rw (s, t, d) at v))
+  pub one_made : t ≡ true → Answered (once n (t ≡ true) ∷ []) blank made 0 made
+  one_made h = record { number = record { judged = inr (h, refl) }; values = refl }
 
-truth : {y : ℕ} (ok i : Bool) → y ≡ bit (ok && i) → y ∷ [] ≡ pick ok (λ _. bit i ∷ []) (λ _. 0 ∷ [])
-unfolding bit
-truth true i e = ap (λ z. z ∷ []) e
-truth false i e = ap (λ z. z ∷ []) e
+-- ---- the box, then the points
+module _ {A : Type 0} {blank : A} {made : List A} (t u : Bool) where
+  pub two_refused : {r : Refusal} → Err r ≡ tried_by t u → Answered (once refused_box (t ≡ true) ∷ once refused_coordinate (u ≡ true) ∷ []) blank made (number_of r) (replicate (length made) blank)
+  two_refused {r} h = by_two t u three six (number t u h) (blanks t u h)
+    where
+      number : (t u : Bool) → Err r ≡ tried_by t u → number_of r ≡ pick t (λ _. pick u (λ _. 0) (λ _. refused_coordinate)) (λ _. refused_box)
+      number true true h = absurd (cc)
+      number true false h = ap number_of (the h)
+        where
+          the : {r s : Refusal} → ◌≡◌ {A = Result (Unit {0}) Refusal} (Err r) (Err s) → r ≡ s
+          the h = cc
+      number false u h = ap number_of (the h)
+        where
+          the : {r s : Refusal} → ◌≡◌ {A = Result (Unit {0}) Refusal} (Err r) (Err s) → r ≡ s
+          the h = cc
 
--- a circumcenter or a centroid taken apart
-pub spot : {s : Center} {n a b : ℕ} {x y : Float} (t u : Bool) (p : Point) → a ≢ 0 → b ≢ 0 → s ≡ pick t (λ _. pick u (λ _. At p) (λ _. Refused b)) (λ _. Refused a)
-    → x ≡ x_of s → y ≡ y_of s → n ≡ center_number s → Answered (once a (t ≡ true) ∷ once b (u ≡ true) ∷ []) zero (p.x ∷ p.y ∷ []) n (x ∷ y ∷ [])
-spot true true p k l e x y n = by_two true true k l (n ∙ ap center_number e) (λ i. (x ∙ ap x_of e) i ∷ (y ∙ ap y_of e) i ∷ [])
-spot true false p k l e x y n = by_two true false k l (n ∙ ap center_number e) (λ i. (x ∙ ap x_of e) i ∷ (y ∙ ap y_of e) i ∷ [])
-spot false u p k l e x y n = by_two false u k l (n ∙ ap center_number e) (λ i. (x ∙ ap x_of e) i ∷ (y ∙ ap y_of e) i ∷ [])
+      blanks : (t u : Bool) → Err r ≡ tried_by t u → replicate (length made) blank ≡ pick (t && u) (λ _. made) (λ _. replicate (length made) blank)
+      blanks true true h = absurd (cc)
+      blanks true false h = refl
+      blanks false u h = refl
 
-pub circumcenter : (a b c : Point) {s : Center} {n : ℕ} {x y : Float} → s ≡ center_answer a b c → x ≡ x_of s → y ≡ y_of s → n ≡ center_number s → Circumcenter a b c n x y
+  pub two_made : {x : Unit {0}} → Ok x ≡ tried_by t u → Answered (once refused_box (t ≡ true) ∷ once refused_coordinate (u ≡ true) ∷ []) blank made 0 made
+  two_made {x} h = by_two t u three six (number t u h) (all t u h)
+    where
+      number : (t u : Bool) → Ok x ≡ tried_by t u → 0 ≡ pick t (λ _. pick u (λ _. 0) (λ _. refused_coordinate)) (λ _. refused_box)
+      number true true h = refl
+      number true false h = absurd (cc)
+      number false u h = absurd (cc)
+
+      all : (t u : Bool) → Ok x ≡ tried_by t u → made ≡ pick (t && u) (λ _. made) (λ _. replicate (length made) blank)
+      all true true h = refl
+      all true false h = absurd (cc)
+      all false u h = absurd (cc)
+
+module _ (g : Given) (p : Point) {point : Bool} (q : point ≡ ok_site p) where
+  pub inside_refused : {r : Refusal} → Err r ≡ tried_by g.sound point → Inside g p (number_of r) (bit false)
+  unfolding bit
+  inside_refused h = rw (← q) (two_refused g.sound point h)
+
+  pub inside_made : {x : Unit {0}} {i : Bool} → Ok x ≡ tried_by g.sound point → i ≡ inside_of g.bounds p → Inside g p 0 (bit i)
+  inside_made h e = rw (← q, e) (two_made g.sound point h)
+
+  pub exclusively_refused : {r : Refusal} → Err r ≡ tried_by g.sound point → ExclusivelyInside g p (number_of r) (bit false)
+  unfolding bit
+  exclusively_refused h = rw (← q) (two_refused g.sound point h)
+
+  pub exclusively_made : {x : Unit {0}} {i : Bool} → Ok x ≡ tried_by g.sound point → i ≡ exclusive_of g.bounds p → ExclusivelyInside g p 0 (bit i)
+  exclusively_made h e = rw (← q, e) (two_made g.sound point h)
+
+  pub side_refused : {r : Refusal} → Err r ≡ tried_by g.sound point → WhichEdge g p (number_of r) EMPTY
+  side_refused h = rw (← q) (two_refused g.sound point h)
+
+  module _ {x : Unit {0}} {i : ℕ} (h : Ok x ≡ tried_by g.sound point) (e : i ≡ which_of g.bounds p) where
+    pub side_none : i ≡ 4 → WhichEdge g p 0 EMPTY
+    side_none n = rw (← q, ← e, eq-eqb i 4 n) (two_made g.sound point h)
+
+    pub side_some : i ≢ 4 → WhichEdge g p 0 i
+    side_some n = rw (← q, ← e, ne_eqb i 4 n) (two_made g.sound point h)
+
+-- ---- a circumcenter or a centroid taken apart
+abbrev nowhere_at : Point
+nowhere_at = at zero zero
+
+pub spot : {s : Result Point Refusal} (a b : Refusal) (t u : Bool) (p : Point) → number_of a ≢ 0 → number_of b ≢ 0 → s ≡ pick t (λ _. pick u (λ _. Ok p) (λ _. Err b)) (λ _. Err a)
+    → Answered (once (number_of a) (t ≡ true) ∷ once (number_of b) (u ≡ true) ∷ []) zero (p.x ∷ p.y ∷ []) (answer_number s)
+    ((result_unwrap_or s nowhere_at).x ∷ (result_unwrap_or s nowhere_at).y ∷ [])
+spot a b true true p k l e = rw e (by_two true true k l refl refl)
+spot a b true false p k l e = rw e (by_two true false k l refl refl)
+spot a b false u p k l e = rw e (by_two false u k l refl refl)
+
+pub circumcenter : (a b c : Point) {s : Result Point Refusal} → s ≡ center_answer a b c
+    → Circumcenter a b c (answer_number s) (result_unwrap_or s nowhere_at).x (result_unwrap_or s nowhere_at).y
 unfolding center_answer center_if
-circumcenter a b c = spot (ok_site a && ok_site b && ok_site c) (ok_center (center_of a b c)) (center_of a b c) six (λ q. omega arith)
+circumcenter a b c = spot refusal.Coordinate refusal.Circumcenter (ok_site a && ok_site b && ok_site c) (ok_center (center_of a b c)) (center_of a b c) six (λ q. omega arith)
 
-pub centroid : (l : List Float) {s : Center} {n : ℕ} {x y : Float} → s ≡ centroid_answer l → x ≡ x_of s → y ≡ y_of s → n ≡ center_number s → Centroid l n x y
+pub centroid : (l : List Float) {s : Result Point Refusal} → s ≡ centroid_answer l
+    → Centroid l (answer_number s) (result_unwrap_or s nowhere_at).x (result_unwrap_or s nowhere_at).y
 unfolding centroid_answer
-centroid l = spot (ok_count l) (ok_sites (length l / 2) l) (mean_of l (length l / 2)) (λ q. omega arith) six
-
-module _ (g : Given) where
-  pub edges : {l t r m a d i j : Float} {n : ℕ} → l ≡ value_if g.sound g.bounds.left → t ≡ value_if g.sound g.bounds.top
-      → r ≡ value_if g.sound g.bounds.right → m ≡ value_if g.sound g.bounds.bottom
-      → i ≡ width_of g.bounds → a ≡ value_if g.sound i → j ≡ height_of g.bounds → d ≡ value_if g.sound j → n ≡ number_by g.sound true
-      → Edges g n l t r m a d
-  unfolding number_by value_if
-  edges {l} {t} {r} {m} {a} {d} l₁ t₁ r₁ m₁ i a₁ j d₁ n = by_one g.sound three n (go g.sound l₁ t₁ r₁ m₁ (rw i at a₁) (rw j at d₁))
-    where
-      go : (ok : Bool) → l ≡ value_if ok g.bounds.left → t ≡ value_if ok g.bounds.top → r ≡ value_if ok g.bounds.right → m ≡ value_if ok g.bounds.bottom
-          → a ≡ value_if ok (width_of g.bounds) → d ≡ value_if ok (height_of g.bounds) → l ∷ t ∷ r ∷ m ∷ a ∷ d ∷ []
-          ≡ pick ok (λ _. g.bounds.left ∷ g.bounds.top ∷ g.bounds.right ∷ g.bounds.bottom ∷ width_of g.bounds ∷ height_of g.bounds ∷ []) (λ _. replicate 6 zero)
-      go true l t r m a d = λ i. l i ∷ t i ∷ r i ∷ m i ∷ a i ∷ d i ∷ []
-      go false l t r m a d = λ i. l i ∷ t i ∷ r i ∷ m i ∷ a i ∷ d i ∷ []
-
-  pub centered : {x y a d i j : Float} {n : ℕ} → x ≡ value_if g.sound g.bounds.center.x → y ≡ value_if g.sound g.bounds.center.y
-      → i ≡ width_of g.bounds → a ≡ value_if g.sound i → j ≡ height_of g.bounds → d ≡ value_if g.sound j → n ≡ number_by g.sound true
-      → Centered g n x y a d
-  unfolding number_by value_if
-  centered {x} {y} {a} {d} x₁ y₁ i a₁ j d₁ n = by_one g.sound three n (go g.sound x₁ y₁ (rw i at a₁) (rw j at d₁))
-    where
-      go : (ok : Bool) → x ≡ value_if ok g.bounds.center.x → y ≡ value_if ok g.bounds.center.y
-          → a ≡ value_if ok (width_of g.bounds) → d ≡ value_if ok (height_of g.bounds) → x ∷ y ∷ a ∷ d ∷ []
-          ≡ pick ok (λ _. g.bounds.center.x ∷ g.bounds.center.y ∷ width_of g.bounds ∷ height_of g.bounds ∷ []) (λ _. replicate 4 zero)
-      go true x y a d = λ i. x i ∷ y i ∷ a i ∷ d i ∷ []
-      go false x y a d = λ i. x i ∷ y i ∷ a i ∷ d i ∷ []
-
-  module _ (p : Point) {point : Bool} {n : ℕ} (q : point ≡ ok_site p) (k : n ≡ number_by g.sound point) where
-    -- 3, then 6, and what is written beside
-    given : {blank : ℕ} {made out : List ℕ} → out ≡ pick (g.sound && point) (λ _. made) (λ _. replicate (length made) blank)
-        → Answered (plane_rules g (ok_site p)) blank made n out
-    unfolding number_by
-    given o = by_two g.sound (ok_site p) three six (rw q at k) (rw q at o)
-
-    pub inside : {i : Bool} {y : ℕ} → i ≡ inside_of g.bounds p → y ≡ bit (g.sound && point && i) → Inside g p n y
-    inside i y = given (truth (g.sound && point) (inside_of g.bounds p) (rw i at y))
-
-    pub exclusively : {i : Bool} {y : ℕ} → i ≡ exclusive_of g.bounds p → y ≡ bit (g.sound && point && i) → ExclusivelyInside g p n y
-    exclusively i y = given (truth (g.sound && point) (exclusive_of g.bounds p) (rw i at y))
-
-    pub side : {i y : ℕ} → i ≡ which_of g.bounds p → y ≡ side_if (g.sound && point) i → WhichEdge g p n y
-    unfolding side_if
-    side {y = y} i e = given (go (g.sound && point) (rw i at e))
-      where
-        go : (ok : Bool) → y ≡ side_if ok (which_of g.bounds p)
-            → y ∷ [] ≡ pick ok (λ _. pick (eqb (which_of g.bounds p) 4) (λ _. EMPTY) (λ _. which_of g.bounds p) ∷ []) (λ _. EMPTY ∷ [])
-        go true e = ap (λ z. z ∷ []) e
-        go false e = ap (λ z. z ∷ []) e
-
--- ---- a side's number
-pub on_none : {ok : Bool} {side : ℕ} → ok ≡ true → side ≡ 4 → EMPTY ≡ side_if ok side
-unfolding side_if
-on_none h g = rw (h, g)
-
-pub on_side_lem : {ok : Bool} {side : ℕ} → ok ≡ true → side ≢ 4 → side ≡ side_if ok side
-unfolding side_if
-on_side_lem {ok} {side} h g = rw (h, ne_eqb side 4 g)
-
-pub refused_side : {ok : Bool} (side : ℕ) → ok ≡ false → EMPTY ≡ side_if ok side
-unfolding side_if
-refused_side side h = rw h
+centroid l = spot refusal.Count refusal.Coordinate (ok_count l) (ok_sites (length l / 2) l) (mean_of l (length l / 2)) (λ q. omega arith) six
 
 -- ---- the corners: eight stores, then zeros
 pub eight : (l : List Float) (a b c d e f g h : Float) → 8 ≤ length l
@@ -179,52 +176,54 @@ module _ (g : Given) (l : List Float) where
     put f p a = record { number = keeps k (keeps f nothing); slice = a ∙ ap (cleared_from 8 zero) p ∙ cleared g.bounds }
 
 -- ---- a crossing taken apart
-abbrev values : List Float → List Float
-values l = get_or l 0 nan ∷ get_or l 1 nan ∷ get_or l 2 nan ∷ get_or l 3 nan ∷ []
-
-four : (c : Crossing) → values (values_of c) ≡ values_of c
-four None = refl
-four (One x y) = refl
-four (Two x y u v) = refl
-
-zeros : (c : Crossing) → values_of None ≡ replicate (length (values_of c)) zero
+zeros : (c : Crossing) → zero ∷ zero ∷ zero ∷ zero ∷ [] ≡ replicate (length (values_of c)) zero
 zeros None = refl
 zeros (One x y) = refl
 zeros (Two x y u v) = refl
 
-module _ (k : Meeting) {n count : ℕ} {w : List Float} (v : w ≡ values_of (points_of k)) (d : count ≡ count_of (points_of k)) (e : n ≡ meeting_number k) where
-  met : (t u : Bool) (c : Crossing) → k ≡ pick t (λ _. pick u (λ _. Met c) (λ _. meeting.Refused refused_coordinate)) (λ _. meeting.Refused refused_box)
-      → (count ∷ [] ≡ pick (t && u) (λ _. count_of c ∷ []) (λ _. 0 ∷ [])) × (values w ≡ pick (t && u) (λ _. values_of c) (λ _. replicate (length (values_of c)) zero))
-      × (n ≡ number_by t u)
-  unfolding number_by
-  met true true c h = (
-    ap (λ z. z ∷ []) (d ∙ ap (λ m. count_of (points_of m)) h),
-    ap values (v ∙ ap (λ m. values_of (points_of m)) h) ∙ four c,
-    e ∙ ap meeting_number h,
-  )
-  met true false c h = (
-    ap (λ z. z ∷ []) (d ∙ ap (λ m. count_of (points_of m)) h),
-    ap values (v ∙ ap (λ m. values_of (points_of m)) h) ∙ zeros c,
-    e ∙ ap meeting_number h,
-  )
-  met false u c h = (
-    ap (λ z. z ∷ []) (d ∙ ap (λ m. count_of (points_of m)) h),
-    ap values (v ∙ ap (λ m. values_of (points_of m)) h) ∙ zeros c,
-    e ∙ ap meeting_number h,
-  )
+-- what is met in the box
+module _ (g : Given) (p q : Point) (crossing : BoundingBox → Point → Point → Crossing) where
+  met_cases : (t u : Bool) (c : Crossing) {k : Crossing} {m : Met} → Ok k ≡ met_by t u c → IsMet k m
+      → Answered (once refused_box (t ≡ true) ∷ once refused_coordinate (u ≡ true) ∷ []) 0 (count_of c ∷ []) 0 (m.count ∷ [])
+      × Answered (once refused_box (t ≡ true) ∷ once refused_coordinate (u ≡ true) ∷ []) zero (values_of c) 0 (m.x ∷ m.y ∷ m.u ∷ m.v ∷ [])
+  unfolding met_by
+  met_cases true true c {k} {m} h i =
+      let e : k ≡ c = cc in
+      (by_two true true three six refl (ap (λ z. z ∷ []) (i.count ∙ ap count_of e)), by_two true true three six refl (i.values ∙ ap values_of e))
+  met_cases true false c h i = absurd (cc)
+  met_cases false u c h i = absurd (cc)
 
-  module _ (g : Given) (p q : Point) where
-    pub meets : (crossing : BoundingBox → Point → Point → Crossing) → k ≡ met_by g.sound (ok_site p && ok_site q) (crossing g.bounds p q)
-        → Meets crossing g p q n count (get_or w 0 nan) (get_or w 1 nan) (get_or w 2 nan) (get_or w 3 nan)
-    unfolding met_by number_by
-    meets crossing h =
-        let m = met g.sound (ok_site p && ok_site q) (crossing g.bounds p q) h in
-        (by_two g.sound (ok_site p && ok_site q) three six m.2 m.0, by_two g.sound (ok_site p && ok_site q) three six m.2 m.1)
+  refused_cases : (t u : Bool) (c : Crossing) {r : Refusal} → Err r ≡ met_by t u c
+      → Answered (once refused_box (t ≡ true) ∷ once refused_coordinate (u ≡ true) ∷ []) 0 (count_of c ∷ []) (number_of r) (0 ∷ [])
+      × Answered (once refused_box (t ≡ true) ∷ once refused_coordinate (u ≡ true) ∷ []) zero (values_of c) (number_of r) (zero ∷ zero ∷ zero ∷ zero ∷ [])
+  unfolding met_by
+  refused_cases true true c h = absurd (cc)
+  refused_cases true false c {r} h =
+      let e : r ≡ refusal.Coordinate = cc in
+      (by_two true false three six (ap number_of e) refl, by_two true false three six (ap number_of e) (zeros c))
+  refused_cases false u c {r} h =
+      let e : r ≡ refusal.Box = cc in
+      (by_two false u three six (ap number_of e) refl, by_two false u three six (ap number_of e) (zeros c))
 
-    pub line_meets : k ≡ line_answer g p q → Meets line_of g p q n count (get_or w 0 nan) (get_or w 1 nan) (get_or w 2 nan) (get_or w 3 nan)
-    unfolding line_answer
-    line_meets h = meets line_of h
+  pub meets : {k : Crossing} {m : Met} → Ok k ≡ met_by g.sound (ok_site p && ok_site q) (crossing g.bounds p q) → IsMet k m → Meets crossing g p q 0 m.count m.x m.y m.u m.v
+  meets h i = met_cases g.sound (ok_site p && ok_site q) (crossing g.bounds p q) h i
 
-    pub ray_meets : k ≡ ray_answer g p q → Meets ray_of g p q n count (get_or w 0 nan) (get_or w 1 nan) (get_or w 2 nan) (get_or w 3 nan)
-    unfolding ray_answer
-    ray_meets h = meets ray_of h
+  pub meets_refused : {r : Refusal} → Err r ≡ met_by g.sound (ok_site p && ok_site q) (crossing g.bounds p q) → Meets crossing g p q (number_of r) 0 zero zero zero zero
+  meets_refused h = refused_cases g.sound (ok_site p && ok_site q) (crossing g.bounds p q) h
+
+module _ (g : Given) (p q : Point) where
+  pub line_meets : {k : Crossing} {m : Met} → Ok k ≡ line_answer g p q → IsMet k m → Meets line_of g p q 0 m.count m.x m.y m.u m.v
+  unfolding line_answer
+  line_meets h i = meets g p q line_of h i
+
+  pub line_refused : {r : Refusal} → Err r ≡ line_answer g p q → Meets line_of g p q (number_of r) 0 zero zero zero zero
+  unfolding line_answer
+  line_refused h = meets_refused g p q line_of h
+
+  pub ray_meets : {k : Crossing} {m : Met} → Ok k ≡ ray_answer g p q → IsMet k m → Meets ray_of g p q 0 m.count m.x m.y m.u m.v
+  unfolding ray_answer
+  ray_meets h i = meets g p q ray_of h i
+
+  pub ray_refused : {r : Refusal} → Err r ≡ ray_answer g p q → Meets ray_of g p q (number_of r) 0 zero zero zero zero
+  unfolding ray_answer
+  ray_refused h = meets_refused g p q ray_of h
