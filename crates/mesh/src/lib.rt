@@ -77,11 +77,7 @@ pub fn next_place(h: usize, i: usize) -> usize
 pub fn clear(work: &mut [u32])
     ensures { work.new ≡ replicate (length work.old) EMPTY }
 {
-    let mut i = 0;
-    while i < work.len() {
-        work[i] = EMPTY;
-        i += 1;
-    }
+    work.fill(EMPTY);
 }
 
 // One step of the walk that started at s.
@@ -108,8 +104,7 @@ pub fn walk(halfedges: &[u32], s: u32, out: &mut [u32]) -> Walked
     ensures { Walks halfedges.now s out.old out.new result.count result.ended }
 {
     let mut e = s;
-    let mut n = 0;
-    while n < out.len() {
+    for (n, entry) in out.iter_mut().enumerate() {
         let at = wide(e);
         if halfedges.len() <= at {
             return Walked {
@@ -117,12 +112,11 @@ pub fn walk(halfedges: &[u32], s: u32, out: &mut [u32]) -> Walked
                 ended: true,
             };
         }
-        out[n] = e;
-        n += 1;
+        *entry = e;
         e = turn(halfedges, s, at);
     }
     Walked {
-        count: n,
+        count: out.len(),
         ended: halfedges.len() <= wide(e),
     }
 }
@@ -133,14 +127,12 @@ pub fn walk_length(halfedges: &[u32], s: u32) -> usize
     ensures { (result ≡ length (whole_of halfedges.now s)) × (result ≤ length halfedges.now) }
 {
     let mut e = s;
-    let mut n = 0;
-    while n < halfedges.len() {
+    for n in 0..halfedges.len() {
         let at = wide(e);
         if halfedges.len() <= at {
             return n;
         }
-        n += 1;
         e = turn(halfedges, s, at);
     }
-    n
+    halfedges.len()
 }

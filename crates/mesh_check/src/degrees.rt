@@ -46,9 +46,7 @@ fn pack_lowest(triangles: &[u32], work: &mut [u32]) -> bool
     ensures { result ≡ true → Lowests triangles.now 0 work.new }
 {
     mesh::clear(work);
-    let mut t: usize = triangles.len() / 3;
-    while 0 < t {
-        t -= 1;
+    for t in (0..triangles.len() / 3).rev() {
         if !pack_ends(triangles, work, t) {
             return false;
         }
@@ -86,11 +84,8 @@ fn pack_unpaired(triangles: &[u32], halfedges: &[u32], work: &mut [u32])
         × ((k : ℕ) → k < length triangles.now → get_or triangles.now k 0 < length work.old) × Lowests triangles.now 0 work.old }
     ensures { Leftmosts triangles.now halfedges.now (length triangles.now) work.new }
 {
-    let count = triangles.len() / 3;
-    let mut t = 0;
-    while t < count {
+    for t in 0..triangles.len() / 3 {
         pack_opens(triangles, halfedges, work, t);
-        t += 1;
     }
 }
 
@@ -115,13 +110,11 @@ fn reaches(halfedges: &[u32], t: u32, d: usize) -> bool
             return false;
         }
     }
-    let mut n: usize = 2;
-    while n < d {
+    for _n in 2..d {
         e = wide(mesh::turn(halfedges, t, e));
         if halfedges.len() <= e {
             return false;
         }
-        n += 1;
     }
     true
 }
@@ -131,18 +124,15 @@ fn unpack(halfedges: &[u32], work: &mut [u32]) -> bool
     requires { length halfedges.now % 3 ≡ 0 }
     ensures { result ≡ true → Unpacks halfedges.now work.old work.new (length work.old) }
 {
-    let mut s = 0;
-    while s < work.len() {
-        let m = work[s];
-        let left = m / PLACES;
+    for entry in work.iter_mut() {
+        let left = *entry / PLACES;
         if left < ENDS {
-            let t = m % PLACES;
-            work[s] = t;
+            let t = *entry % PLACES;
+            *entry = t;
             if !reaches(halfedges, t, wide(ENDS - left)) {
                 return false;
             }
         }
-        s += 1;
     }
     true
 }

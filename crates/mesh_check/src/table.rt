@@ -33,9 +33,7 @@ fn put_lowest(triangles: &[u32], work: &mut [u32])
     ensures { LowestsFrom triangles.now 0 work.new }
 {
     mesh::clear(work);
-    let mut t: usize = triangles.len() / 3;
-    while 0 < t {
-        t -= 1;
+    for t in (0..triangles.len() / 3).rev() {
         put_ends(triangles, work, t);
     }
 }
@@ -70,11 +68,8 @@ fn put_unpaired(triangles: &[u32], halfedges: &[u32], work: &mut [u32])
         × ((k : ℕ) → k < length triangles.now → get_or triangles.now k 0 < length work.old) × LowestsFrom triangles.now 0 work.old }
     ensures { LeftsTo triangles.now halfedges.now (length triangles.now) work.new }
 {
-    let count = triangles.len() / 3;
-    let mut t = 0;
-    while t < count {
+    for t in 0..triangles.len() / 3 {
         put_opens(triangles, halfedges, work, t);
-        t += 1;
     }
 }
 
