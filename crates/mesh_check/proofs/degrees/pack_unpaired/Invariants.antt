@@ -1,7 +1,0 @@
--- The unpaired half-edges below triangle t have taken their places.
-use Rattle.std.proofs.Common.{◌*◌}
-use Rattle.mesh_check.specs.degrees.Packed.{Leftmosts}
-use Rattle.mesh_check.proofs.degrees.pack_unpaired.Given as goal
-
-abbrev pub invariant-loop-t : goal.invariant-loop-t
-invariant-loop-t l = Leftmosts l.fn.triangles l.fn.halfedges (3 * l.t) l.work
