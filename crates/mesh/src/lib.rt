@@ -4,15 +4,16 @@
 
 ghost use Rattle.std.specs.Prelude.{◌≡◌, ◌%◌, ◌<◌, ◌≤◌, length, replicate};
 ghost use Rattle.base.specs.numbers.Numbers.{EMPTY};
+ghost use Rattle.mesh.specs.Faults.{refusal_of};
 ghost use Rattle.mesh.specs.Hull.{next_place};
 ghost use Rattle.mesh.specs.Mesh.{next_of, end_of, turn_of, whole_of, Walks};
 
 use base::numbers::{EMPTY, wide};
+use base::refusal::Refusal;
 
 // What a check finds wrong with a mesh, and the lowest site, triangle, half-edge or hull place that has the fault.
-#[derive(Clone, Copy)]
+#[derive(Clone, Copy, Debug, PartialEq, Eq)]
 pub enum MeshFault {
-    None,
     Counts,
     Room,
     Coordinate(usize),
@@ -21,6 +22,24 @@ pub enum MeshFault {
     HullPlace(usize),
     HullEdge(usize),
     BrokenFan(usize),
+}
+
+// Without its place a fault is the refusal by its rule.
+impl From<MeshFault> for Refusal {
+    ghost from_gives = { λ f r. r ≡ refusal_of f };
+
+    fn from(f: MeshFault) -> Refusal {
+        match f {
+            MeshFault::Counts => Refusal::Count,
+            MeshFault::Room => Refusal::Room,
+            MeshFault::Coordinate(_) => Refusal::Coordinate,
+            MeshFault::Triangle(_) => Refusal::Triangle,
+            MeshFault::Pairing(_) => Refusal::Pairing,
+            MeshFault::HullPlace(_) => Refusal::Hull,
+            MeshFault::HullEdge(_) => Refusal::Hull,
+            MeshFault::BrokenFan(_) => Refusal::Fan,
+        }
+    }
 }
 
 // The next half-edge of the same triangle.
@@ -58,11 +77,7 @@ pub fn next_place(h: usize, i: usize) -> usize
 pub fn clear(work: &mut [u32])
     ensures { work.new ≡ replicate (length work.old) EMPTY }
 {
-    let mut i = 0;
-    while i < work.len() {
-        work[i] = EMPTY;
-        i += 1;
-    }
+    work.fill(EMPTY);
 }
 
 // One step of the walk that started at s.
@@ -89,8 +104,7 @@ pub fn walk(halfedges: &[u32], s: u32, out: &mut [u32]) -> Walked
     ensures { Walks halfedges.now s out.old out.new result.count result.ended }
 {
     let mut e = s;
-    let mut n = 0;
-    while n < out.len() {
+    for (n, entry) in out.iter_mut().enumerate() {
         let at = wide(e);
         if halfedges.len() <= at {
             return Walked {
@@ -98,12 +112,11 @@ pub fn walk(halfedges: &[u32], s: u32, out: &mut [u32]) -> Walked
                 ended: true,
             };
         }
-        out[n] = e;
-        n += 1;
+        *entry = e;
         e = turn(halfedges, s, at);
     }
     Walked {
-        count: n,
+        count: out.len(),
         ended: halfedges.len() <= wide(e),
     }
 }
@@ -114,14 +127,12 @@ pub fn walk_length(halfedges: &[u32], s: u32) -> usize
     ensures { (result ≡ length (whole_of halfedges.now s)) × (result ≤ length halfedges.now) }
 {
     let mut e = s;
-    let mut n = 0;
-    while n < halfedges.len() {
+    for n in 0..halfedges.len() {
         let at = wide(e);
         if halfedges.len() <= at {
             return n;
         }
-        n += 1;
         e = turn(halfedges, s, at);
     }
-    n
+    halfedges.len()
 }

@@ -27,9 +27,8 @@ fn mark_hull(hull: &[u32], sites: usize, work: &mut [u32]) -> usize
     ensures { First (FreshAt hull.now sites) (length hull.now) result × (work.new ≡ marks_to hull.now (length work.old) result) }
 {
     mesh::clear(work);
-    let mut i: usize = 0;
-    while i < hull.len() {
-        let h = base::numbers::wide(hull[i]);
+    for (i, site) in hull.iter().enumerate() {
+        let h = base::numbers::wide(*site);
         if sites <= h {
             return i;
         }
@@ -38,9 +37,8 @@ fn mark_hull(hull: &[u32], sites: usize, work: &mut [u32]) -> usize
             return i;
         }
         work[h] = i as u32;
-        i += 1;
     }
-    i
+    hull.len()
 }
 
 // An unpaired half-edge that runs to the next site of the hull takes the mark off the site where it starts. Answers whether e is paired or did so.
@@ -126,11 +124,8 @@ fn unmark(triangles: &[u32], halfedges: &[u32], hull: &[u32], work: &mut [u32]) 
         (left_to triangles.now halfedges.now hull.now work.old e) e) (length triangles.now) result }
 {
     let mut stray = triangles.len();
-    let count = triangles.len() / 3;
-    let mut t = 0;
-    while t < count {
+    for t in 0..triangles.len() / 3 {
         stray = unmark_edges(triangles, halfedges, hull, work, t, stray);
-        t += 1;
     }
     stray
 }
@@ -140,27 +135,21 @@ fn first_kept(hull: &[u32], work: &[u32], n: usize) -> usize
     requires { (n ≤ length hull.now) × ((k : ℕ) → k < n → get_or hull.now k 0 < length work.now) }
     ensures { First (GoneAt hull.now work.now) n result }
 {
-    let mut i = 0;
-    while i < n {
-        let m = work[base::numbers::wide(hull[i])];
-        if m != EMPTY {
-            return i;
-        }
-        i += 1;
-    }
-    i
+    (0..n)
+        .find(|&i| work[base::numbers::wide(hull[i])] != EMPTY)
+        .unwrap_or(n)
 }
 
-fn hull_fault(kept: usize, places: usize, stray: usize, edges: usize) -> MeshFault
+fn hull_fault(kept: usize, places: usize, stray: usize, edges: usize) -> Result<(), MeshFault>
     ensures { result ≡ hull_fault_of kept places stray edges }
 {
     if kept < places {
-        return MeshFault::HullPlace(kept);
+        return Err(MeshFault::HullPlace(kept));
     }
     if stray < edges {
-        return MeshFault::HullEdge(stray);
+        return Err(MeshFault::HullEdge(stray));
     }
-    MeshFault::None
+    Ok(())
 }
 
 // Rule 9. The work slice holds the marks that are left.
@@ -170,7 +159,7 @@ pub fn check_hull(
     hull: &[u32],
     sites: usize,
     work: &mut [u32],
-) -> MeshFault
+) -> Result<(), MeshFault>
     requires { (length triangles.now % 3 ≡ 0) × (length halfedges.now ≡ length triangles.now) × (sites ≤ length work.old)
         × (length hull.now < EMPTY) × ((k : ℕ) → k < length triangles.now → get_or triangles.now k 0 < length work.old) }
     ensures { HullAnswer triangles.now halfedges.now hull.now sites result

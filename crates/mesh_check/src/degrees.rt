@@ -1,8 +1,10 @@
 // Rule 10 by walks of known length: the leftmost table is filled from above, each entry with the number of half-edges that end at its site, so that no walk waits for the end of the one before.
-ghost use Rattle.std.specs.Prelude.{◌≡◌, true, ℕ, ◌+◌, ◌*◌, ◌/◌, ◌%◌, ◌<◌, ◌≤◌, length, get_or};
+ghost use Rattle.std.specs.Prelude.{◌≡◌, refl, true, ℕ, ◌+◌, ◌*◌, ◌/◌, ◌%◌, ◌<◌, ◌≤◌, length, get_or};
 ghost use Rattle.mesh.specs.Mesh.{next_of, whole_of, Paired};
+ghost use Rattle.mesh_check.specs.degrees.laws.Packing.{lefts_start, lefts_pass, lefts_turn};
 ghost use Rattle.mesh_check.specs.degrees.Packed.{EndsApart, Lowests, Leftmosts, spare, Unpacks, LongWalks};
 
+use crate::unpaired::{Entries, take_unpaired};
 use base::numbers::{EMPTY, wide};
 
 // A packed entry is 524,288 times what is left of 8,191 when the site's half-edges are taken off it, and the half-edge; one of a site without any is `EMPTY`.
@@ -46,9 +48,7 @@ fn pack_lowest(triangles: &[u32], work: &mut [u32]) -> bool
     ensures { result ≡ true → Lowests triangles.now 0 work.new }
 {
     mesh::clear(work);
-    let mut t: usize = triangles.len() / 3;
-    while 0 < t {
-        t -= 1;
+    for t in (0..triangles.len() / 3).rev() {
         if !pack_ends(triangles, work, t) {
             return false;
         }
@@ -56,41 +56,26 @@ fn pack_lowest(triangles: &[u32], work: &mut [u32]) -> bool
     true
 }
 
-// Half-edge e, if it is unpaired, takes the place of the lowest one of the site where it ends and its next one, k, starts.
-fn pack_open(triangles: &[u32], halfedges: &[u32], work: &mut [u32], e: usize, k: usize)
-    requires { (length halfedges.now ≡ length triangles.now) × (length triangles.now < 524288) × (e < length triangles.now) × (k < length triangles.now) × (k ≡ next_of e)
-        × (get_or triangles.now k 0 < length work.old) × Leftmosts triangles.now halfedges.now e work.old }
-    ensures { Leftmosts triangles.now halfedges.now (e + 1) work.new }
-{
-    let p = halfedges[e];
-    if p == EMPTY {
-        let s = wide(triangles[k]);
-        work[s] = work[s] / PLACES * PLACES + e as u32;
-    }
-}
+// A packed entry: the number stands, and the half-edge is another.
+struct Packed;
 
-// The same of the three half-edges of triangle t.
-fn pack_opens(triangles: &[u32], halfedges: &[u32], work: &mut [u32], t: usize)
-    requires { (length halfedges.now ≡ length triangles.now) × (length triangles.now < 524288) × ((k : ℕ) → k < length triangles.now → get_or triangles.now k 0 < length work.old)
-        × (t < length triangles.now / 3) × Leftmosts triangles.now halfedges.now (3 * t) work.old }
-    ensures { Leftmosts triangles.now halfedges.now (3 * t + 3) work.new }
-{
-    pack_open(triangles, halfedges, work, 3 * t, 3 * t + 1);
-    pack_open(triangles, halfedges, work, 3 * t + 1, 3 * t + 2);
-    pack_open(triangles, halfedges, work, 3 * t + 2, 3 * t);
-}
+impl Entries for Packed {
+    ghost limit = { 524288 };
 
-// An unpaired half-edge takes the place of its site's lowest one.
-fn pack_unpaired(triangles: &[u32], halfedges: &[u32], work: &mut [u32])
-    requires { (length triangles.now % 3 ≡ 0) × (length halfedges.now ≡ length triangles.now) × (length triangles.now < 524288)
-        × ((k : ℕ) → k < length triangles.now → get_or triangles.now k 0 < length work.old) × Lowests triangles.now 0 work.old }
-    ensures { Leftmosts triangles.now halfedges.now (length triangles.now) work.new }
-{
-    let count = triangles.len() / 3;
-    let mut t = 0;
-    while t < count {
-        pack_opens(triangles, halfedges, work, t);
-        t += 1;
+    ghost lowests = { Lowests };
+
+    ghost lefts = { Leftmosts };
+
+    ghost holding = { λ m e. m / 524288 * 524288 + e };
+
+    ghost start = { lefts_start };
+
+    ghost pass = { lefts_pass };
+
+    ghost turn = { λ tri he work n s few ln g u q i. lefts_turn tri he work n s _ few ln g u q refl i };
+
+    fn hold(entry: u32, e: usize) -> u32 {
+        entry / PLACES * PLACES + e as u32
     }
 }
 
@@ -115,13 +100,11 @@ fn reaches(halfedges: &[u32], t: u32, d: usize) -> bool
             return false;
         }
     }
-    let mut n: usize = 2;
-    while n < d {
+    for _n in 2..d {
         e = wide(mesh::turn(halfedges, t, e));
         if halfedges.len() <= e {
             return false;
         }
-        n += 1;
     }
     true
 }
@@ -131,18 +114,15 @@ fn unpack(halfedges: &[u32], work: &mut [u32]) -> bool
     requires { length halfedges.now % 3 ≡ 0 }
     ensures { result ≡ true → Unpacks halfedges.now work.old work.new (length work.old) }
 {
-    let mut s = 0;
-    while s < work.len() {
-        let m = work[s];
-        let left = m / PLACES;
+    for entry in work.iter_mut() {
+        let left = *entry / PLACES;
         if left < ENDS {
-            let t = m % PLACES;
-            work[s] = t;
+            let t = *entry % PLACES;
+            *entry = t;
             if !reaches(halfedges, t, wide(ENDS - left)) {
                 return false;
             }
         }
-        s += 1;
     }
     true
 }
@@ -159,6 +139,6 @@ pub fn whole_fans(triangles: &[u32], halfedges: &[u32], work: &mut [u32]) -> boo
     if !pack_lowest(triangles, work) {
         return false;
     }
-    pack_unpaired(triangles, halfedges, work);
+    take_unpaired::<Packed>(triangles, halfedges, work);
     unpack(halfedges, work)
 }

@@ -14,13 +14,11 @@ fn walks_cover(halfedges: &[u32], table: &[u32]) -> bool
     ensures { result ≡ eqb (total_to halfedges.now table.now (length table.now)) (length halfedges.now) }
 {
     let mut total: usize = 0;
-    let mut s = 0;
-    while s < table.len() {
-        total += mesh::walk_length(halfedges, table[s]);
+    for start in table {
+        total += mesh::walk_length(halfedges, *start);
         if halfedges.len() < total {
             return false;
         }
-        s += 1;
     }
     total == halfedges.len()
 }
@@ -30,11 +28,8 @@ fn lengths(halfedges: &[u32], work: &mut [u32])
     requires { (length halfedges.now % 3 ≡ 0) × (length halfedges.now < EMPTY) }
     ensures { WalkLengths halfedges.now work.old work.new }
 {
-    let mut s = 0;
-    while s < work.len() {
-        let n = mesh::walk_length(halfedges, work[s]);
-        work[s] = n as u32;
-        s += 1;
+    for entry in work.iter_mut() {
+        *entry = mesh::walk_length(halfedges, *entry) as u32;
     }
 }
 
@@ -56,11 +51,9 @@ fn count_off(triangles: &[u32], work: &mut [u32])
     requires { (length triangles.now % 3 ≡ 0) × ((k : ℕ) → k < length triangles.now → get_or triangles.now k 0 < length work.old) }
     ensures { work.new ≡ owed_to triangles.now work.old (length triangles.now) }
 {
-    let mut e: usize = 0;
-    while e < triangles.len() {
+    for e in 0..triangles.len() {
         let s = base::numbers::wide(mesh::end_site(triangles, e));
         work[s] = less(work[s]);
-        e += 1;
     }
 }
 
@@ -69,15 +62,7 @@ fn first_owing(work: &[u32], n: usize) -> usize
     requires { n ≤ length work.now }
     ensures { First (λ s. get_or work.now s 0 ≢ EMPTY) n result }
 {
-    let mut s = 0;
-    while s < n {
-        let m = work[s];
-        if m == EMPTY {
-            return s;
-        }
-        s += 1;
-    }
-    s
+    (0..n).find(|&s| work[s] == EMPTY).unwrap_or(n)
 }
 
 // The lowest site whose walk, of the table in the work slice, is shorter than its half-edges are many, or the number of sites.

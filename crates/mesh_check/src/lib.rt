@@ -8,4 +8,5 @@ pub mod degrees;
 pub mod fan;
 pub mod pairing;
 pub mod table;
+mod unpaired; // unpaired.rt: the pass of the unpaired half-edges over a table
 pub mod whole;

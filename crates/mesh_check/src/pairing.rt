@@ -37,19 +37,16 @@ pub fn check_triangles(triangles: &[u32], sites: usize) -> usize
     ensures { First (SoundAt triangles.now sites) (length triangles.now / 3) result }
 {
     let count = triangles.len() / 3;
-    let mut t = 0;
-    while t < count {
-        if !sound(
-            sites,
-            triangles[3 * t],
-            triangles[3 * t + 1],
-            triangles[3 * t + 2],
-        ) {
-            return t;
-        }
-        t += 1;
-    }
-    t
+    (0..count)
+        .find(|&t| {
+            !sound(
+                sites,
+                triangles[3 * t],
+                triangles[3 * t + 1],
+                triangles[3 * t + 2],
+            )
+        })
+        .unwrap_or(count)
 }
 
 // Whether p names half-edge e back, and runs the other way.
@@ -134,15 +131,7 @@ fn all_half_paired(triangles: &[u32], halfedges: &[u32]) -> bool
     if EMPTY as usize <= triangles.len() {
         return false;
     }
-    let count = triangles.len() / 3;
-    let mut t = 0;
-    while t < count {
-        if !three_half_paired(triangles, halfedges, t) {
-            return false;
-        }
-        t += 1;
-    }
-    true
+    (0..triangles.len() / 3).all(|t| three_half_paired(triangles, halfedges, t))
 }
 
 // Check 8: the lowest half-edge whose pairing is broken; or the number of half-edges.
@@ -153,12 +142,7 @@ pub fn check_pairs(triangles: &[u32], halfedges: &[u32]) -> usize
     if all_half_paired(triangles, halfedges) {
         return triangles.len();
     }
-    let mut e = 0;
-    while e < triangles.len() {
-        if !paired(triangles, halfedges, e) {
-            return e;
-        }
-        e += 1;
-    }
-    e
+    (0..triangles.len())
+        .find(|&e| !paired(triangles, halfedges, e))
+        .unwrap_or(triangles.len())
 }

@@ -3,8 +3,10 @@ ghost use Rattle.std.specs.Prelude.{◌≡◌, ℕ, ◌+◌, ◌*◌, ◌/◌, �
 ghost use Rattle.base.specs.numbers.Numbers.{EMPTY};
 ghost use Rattle.mesh.specs.Mesh.{next_of, table_to};
 ghost use Rattle.mesh_check.specs.table.Filled.{LowestsFrom, LeftsTo};
+ghost use Rattle.mesh_check.specs.table.laws.Filling.{lefts_start, lefts_pass, lefts_turn};
 
-use base::numbers::{EMPTY, wide};
+use crate::unpaired::{Entries, take_unpaired};
+use base::numbers::wide;
 
 // Half-edge e, lower than all before, is put at the site where it ends and its next one, k, starts.
 fn put_end(triangles: &[u32], work: &mut [u32], e: usize, k: usize)
@@ -33,48 +35,31 @@ fn put_lowest(triangles: &[u32], work: &mut [u32])
     ensures { LowestsFrom triangles.now 0 work.new }
 {
     mesh::clear(work);
-    let mut t: usize = triangles.len() / 3;
-    while 0 < t {
-        t -= 1;
+    for t in (0..triangles.len() / 3).rev() {
         put_ends(triangles, work, t);
     }
 }
 
-// Half-edge e, if it is unpaired, takes the place of the lowest one of the site where it ends and its next one, k, starts.
-fn put_open(triangles: &[u32], halfedges: &[u32], work: &mut [u32], e: usize, k: usize)
-    requires { (length halfedges.now ≡ length triangles.now) × (length triangles.now < EMPTY) × (e < length triangles.now) × (k < length triangles.now) × (k ≡ next_of e)
-        × (get_or triangles.now k 0 < length work.old) × LeftsTo triangles.now halfedges.now e work.old }
-    ensures { LeftsTo triangles.now halfedges.now (e + 1) work.new }
-{
-    let p = halfedges[e];
-    if p == EMPTY {
-        let s = wide(triangles[k]);
-        work[s] = e as u32;
-    }
-}
+// An entry is a half-edge and nothing besides.
+struct Plain;
 
-// The same of the three half-edges of triangle t.
-fn put_opens(triangles: &[u32], halfedges: &[u32], work: &mut [u32], t: usize)
-    requires { (length halfedges.now ≡ length triangles.now) × (length triangles.now < EMPTY) × ((k : ℕ) → k < length triangles.now → get_or triangles.now k 0 < length work.old)
-        × (t < length triangles.now / 3) × LeftsTo triangles.now halfedges.now (3 * t) work.old }
-    ensures { LeftsTo triangles.now halfedges.now (3 * t + 3) work.new }
-{
-    put_open(triangles, halfedges, work, 3 * t, 3 * t + 1);
-    put_open(triangles, halfedges, work, 3 * t + 1, 3 * t + 2);
-    put_open(triangles, halfedges, work, 3 * t + 2, 3 * t);
-}
+impl Entries for Plain {
+    ghost limit = { EMPTY };
 
-// An unpaired half-edge takes the place of its site's lowest one.
-fn put_unpaired(triangles: &[u32], halfedges: &[u32], work: &mut [u32])
-    requires { (length triangles.now % 3 ≡ 0) × (length halfedges.now ≡ length triangles.now) × (length triangles.now < EMPTY)
-        × ((k : ℕ) → k < length triangles.now → get_or triangles.now k 0 < length work.old) × LowestsFrom triangles.now 0 work.old }
-    ensures { LeftsTo triangles.now halfedges.now (length triangles.now) work.new }
-{
-    let count = triangles.len() / 3;
-    let mut t = 0;
-    while t < count {
-        put_opens(triangles, halfedges, work, t);
-        t += 1;
+    ghost lowests = { LowestsFrom };
+
+    ghost lefts = { LeftsTo };
+
+    ghost holding = { λ _ e. e };
+
+    ghost start = { lefts_start };
+
+    ghost pass = { lefts_pass };
+
+    ghost turn = { lefts_turn };
+
+    fn hold(_entry: u32, e: usize) -> u32 {
+        e as u32
     }
 }
 
@@ -85,5 +70,5 @@ pub fn put_leftmost(triangles: &[u32], halfedges: &[u32], work: &mut [u32])
     ensures { work.new ≡ table_to triangles.now halfedges.now (length work.old) (length triangles.now) }
 {
     put_lowest(triangles, work);
-    put_unpaired(triangles, halfedges, work);
+    take_unpaired::<Plain>(triangles, halfedges, work);
 }
