@@ -205,7 +205,7 @@ pub fn corners(given: Given, out: &mut [f64]) -> u32
         return base::numbers::REFUSED_BOX;
     }
     put_corners(given.bounds, out);
-    cell_memory::layout::clear_floats_from(out, 8);
+    cell_memory::layout::fill_from(out, 8, 0.0);
     0
 }
 

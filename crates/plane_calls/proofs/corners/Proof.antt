@@ -13,7 +13,7 @@ returns-2 c = no_box _ _ c.if-out-lt8.false (not-true _ c.if-not-given.true)
 
 returns-3 : tie.Need-returns
 returns-3 c =
-    put _ _ c.if-out-lt8.false (not-false _ c.if-not-given.false) c.put_corners.ensures c.clear_floats_from.ensures
+    put _ _ c.if-out-lt8.false (not-false _ c.if-not-given.false) c.put_corners.ensures c.fill_from.ensures
 
 pub corners_spec : {M : Type 1} → statement M
 corners_spec = tie.close (tie.spec returns returns-2 (λ c κs. search rules) (λ c κs. search rules) (λ c. search rules) returns-3)
