@@ -77,8 +77,9 @@ fn write_ends(
 {
     let mut at = site;
     for i in 0..points.len() / 2 {
-        at = walks::paths::path_end(sites, triangles, halfedges, table, at, point_at(points, i));
-        out[i] = at;
+        let end = walks::paths::path_end(sites, triangles, halfedges, table, at, point_at(points, i));
+        out[i] = end;
+        at = end;
     }
 }
 
