@@ -6,7 +6,6 @@ ghost use Rattle.std.specs.Prelude.{◌≡◌, ◌+◌, ◌-◌, ◌/◌, ◌≤
 ghost use Rattle.base.specs.common.Count.{sum_to};
 ghost use Rattle.base.specs.common.Decide.{Says};
 ghost use Rattle.arguments.specs.entries.Named.{EntriesNamed};
-ghost use Rattle.cell_memory.specs.layout.Cleared.{cleared_from};
 ghost use Rattle.queries.specs.all_neighbours.Lists.{lists_to};
 ghost use Rattle.queries.specs.all_neighbours.Steps.{Appended, WrittenLists};
 ghost use Rattle.areas.specs.Promise.{entries_of_all};
@@ -15,6 +14,7 @@ ghost use Rattle.all_wkb.specs.Promise.{image_at, CellsNumber, AllNumber, AllWkb
 ghost use Rattle.all_wkb.specs.Steps.{FewEntries, size_at, ImagesNamed, ImagesFit};
 
 use arguments::asking::{cell_count, cells_ok};
+use cell_memory::layout::fill_from;
 
 // How many bytes the polygon of so many entries has.
 fn polygon_size(entries: usize) -> usize
@@ -137,18 +137,6 @@ fn write_images(
         s = next;
     }
     n
-}
-
-// Numbers from `from` on become `value`.
-fn fill_from(starts: &mut [u64], from: usize, value: u64)
-    requires { from ≤ length starts.old }
-    ensures { starts.new ≡ cleared_from from value starts.old }
-{
-    let mut i = from;
-    while i < starts.len() {
-        starts[i] = value;
-        i += 1;
-    }
 }
 
 // Where it is refused `starts` and `out` stay as they were; after 0 `starts` is 2^64 - 1 past the last, and `out` as it was past the polygons.

@@ -9,6 +9,9 @@ ghost use Rattle.areas.specs.Promise.{area_at, KeepsRule, EntriesNumber, AreasNu
 ghost use Rattle.areas.specs.Steps.{RingsKept, WrittenAreas};
 
 use arguments::asking::{cell_count, cells_ok};
+use base::numbers::wide;
+use plane::centers::center_ok;
+use plane::points::point_at;
 use ring_area::rounding::ring_area;
 
 // Whether each vertex that is named is within 2^400.
@@ -16,17 +19,9 @@ pub fn within(vertices: &[f64], entries: &[u32]) -> bool
     requires { EntriesNamed entries.now (length vertices.now / 2) }
     ensures { Says result (KeepsRule vertices.now entries.now) }
 {
-    let mut i = 0;
-    while i < entries.len() {
-        if !plane::centers::center_ok(plane::points::point_at(
-            vertices,
-            base::numbers::wide(entries[i]),
-        )) {
-            return false;
-        }
-        i += 1;
-    }
-    true
+    entries
+        .iter()
+        .all(|e| center_ok(point_at(vertices, wide(*e))))
 }
 
 // Rules 18 and 24 on the entries of all cells.
@@ -56,7 +51,7 @@ fn ask(vertices: &[f64], offsets: &[u32], indexes: &[u32], room: usize) -> u32
     if !cells_ok(offsets, indexes, count) {
         return base::numbers::REFUSED_OFFSETS;
     }
-    let end = base::numbers::wide(offsets[count]);
+    let end = wide(offsets[count]);
     let asked = ask_entries(vertices, &indexes[..end]);
     if asked != 0 {
         return asked;
@@ -82,10 +77,8 @@ fn write_areas(vertices: &[f64], offsets: &[u32], indexes: &[u32], areas: &mut [
     requires { RingsKept vertices.now offsets.now indexes.now }
     ensures { WrittenAreas vertices.now offsets.now indexes.now areas.old areas.new }
 {
-    let mut s = 0;
-    while s < areas.len() {
-        areas[s] = area_at(vertices, offsets, indexes, s);
-        s += 1;
+    for (s, area) in areas.iter_mut().enumerate() {
+        *area = area_at(vertices, offsets, indexes, s);
     }
 }
 

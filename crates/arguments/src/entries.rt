@@ -6,12 +6,5 @@ ghost use Rattle.arguments.specs.entries.Named.{EntriesNamed};
 pub fn named(entries: &[u32], count: usize) -> bool
     ensures { Says result (EntriesNamed entries.now count) }
 {
-    let mut i = 0;
-    while i < entries.len() {
-        if base::numbers::wide(entries[i]) >= count {
-            return false;
-        }
-        i += 1;
-    }
-    true
+    entries.iter().all(|e| base::numbers::wide(*e) < count)
 }

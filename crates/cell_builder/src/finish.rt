@@ -6,7 +6,7 @@ ghost use Rattle.cell_builder.specs.finish.Finish.{RefusedCells, Finishable, Fin
 
 use crate::placed::gather;
 use base::numbers::EMPTY;
-use cell_memory::layout::clear_floats_from;
+use cell_memory::layout::fill_from;
 use cell_memory::outputs::clear_all;
 use definition::{Fault, Reused};
 use walks::shared::holds;
@@ -107,7 +107,7 @@ fn finish(
         vertices.old indexes.old offsets.old result vertices.new indexes.new offsets.new }
 {
     let put = gather(halfedges, table, marks, indexes, offsets, sites, owners);
-    clear_floats_from(vertices, 2 * p.count);
+    fill_from(vertices, 2 * p.count, 0.0);
     let fault = p.fault;
     let left = p.owners;
     let reused = p.reused;

@@ -1,33 +1,18 @@
 // How cells share one index list: regions by site while they are built, moved down at the end, and what is left over cleared.
 ghost use Rattle.std.specs.Prelude.{◌≡◌, ◌++◌, ◌+◌, ◌-◌, ◌≤◌, length, take, drop};
-ghost use Rattle.base.specs.common.Binary64.{zero};
 ghost use Rattle.cell_memory.specs.layout.Cleared.{cleared_from};
 ghost use Rattle.cell_memory.specs.layout.Rooms.{Roomy, Started, Tallies, Tallied, Sums, Summed};
 ghost use Rattle.cell_memory.specs.layout.Regions.{Filled};
 
 use base::numbers::{EMPTY, wide};
 
-// Indexes from `from` on become `value`.
-pub fn fill_from(s: &mut [u32], from: usize, value: u32)
+// The entries from `from` on become `value`.
+pub fn fill_from<T: Copy>(s: &mut [T], from: usize, value: T)
     requires { from ≤ length s.old }
     ensures { s.new ≡ cleared_from from value s.old }
 {
-    let mut i = from;
-    while i < s.len() {
-        s[i] = value;
-        i += 1;
-    }
-}
-
-// Numbers from `from` on become +0.
-pub fn clear_floats_from(floats: &mut [f64], from: usize)
-    requires { from ≤ length floats.old }
-    ensures { floats.new ≡ cleared_from from zero floats.old }
-{
-    let mut i = from;
-    while i < floats.len() {
-        floats[i] = 0.0;
-        i += 1;
+    for place in &mut s[from..] {
+        *place = value;
     }
 }
 
@@ -36,14 +21,12 @@ pub fn cell_end(indexes: &[u32], from: usize, to: usize) -> usize
     requires { (from ≤ to) × (to ≤ length indexes.now) }
     ensures { Filled indexes.now from to result }
 {
-    let mut i = from;
-    while i < to {
+    for i in from..to {
         if indexes[i] == EMPTY {
             return i;
         }
-        i += 1;
     }
-    i
+    to
 }
 
 // Copies from..to down to `at`.
@@ -51,13 +34,7 @@ pub fn move_down(indexes: &mut [u32], at: usize, from: usize, to: usize)
     requires { (at ≤ from) × (from ≤ to) × (to ≤ length indexes.old) }
     ensures { indexes.new ≡ take at indexes.old ++ take (to - from) (drop from indexes.old) ++ drop (at + (to - from)) indexes.old }
 {
-    let mut i = from;
-    let mut w = at;
-    while i < to {
-        indexes[w] = indexes[i];
-        w += 1;
-        i += 1;
-    }
+    indexes.copy_within(from..to, at);
 }
 
 // Adds `by` at the place after each entry of the list.
@@ -65,11 +42,8 @@ fn tally(list: &[u32], by: u32, offsets: &mut [u32])
     requires { Tallies list.now by offsets.old }
     ensures { Tallied list.now by offsets.old offsets.new }
 {
-    let mut i: usize = 0;
-    while i < list.len() {
-        let at = wide(list[i]) + 1;
-        offsets[at] = offsets[at] + by;
-        i += 1;
+    for entry in list {
+        offsets[wide(*entry) + 1] += by;
     }
 }
 
@@ -78,10 +52,8 @@ fn sum_up(offsets: &mut [u32], n: usize)
     requires { Sums n offsets.old }
     ensures { Summed n offsets.old offsets.new }
 {
-    let mut i: usize = 0;
-    while i < n {
-        offsets[i + 1] = offsets[i] + offsets[i + 1];
-        i += 1;
+    for i in 0..n {
+        offsets[i + 1] += offsets[i];
     }
 }
 

@@ -7,7 +7,7 @@ ghost use Rattle.cell_memory.specs.layout.Rooms.{Roomy};
 ghost use Rattle.cell_memory.specs.layout.Cleared.{cleared_from, padded};
 ghost use Rattle.cell_memory.specs.outputs.Outputs.{Rooms, LaidOut};
 
-use crate::layout::{clear_floats_from, fill_from, region_starts};
+use crate::layout::{fill_from, region_starts};
 use base::numbers::EMPTY;
 
 // Rule 2 on the lent vertices, indexes and offsets, by the numbers of triangles, hull sites and sites.
@@ -64,7 +64,7 @@ pub fn clear_all(vertices: &mut [f64], indexes: &mut [u32], offsets: &mut [u32])
     ensures { (vertices.new ≡ padded (length vertices.old) zero []) × (indexes.new ≡ padded (length indexes.old) EMPTY [])
         × (offsets.new ≡ padded (length offsets.old) EMPTY []) }
 {
-    clear_floats_from(vertices, 0);
+    fill_from(vertices, 0, 0.0);
     fill_from(indexes, 0, EMPTY);
     fill_from(offsets, 0, EMPTY);
 }

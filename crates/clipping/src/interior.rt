@@ -22,12 +22,10 @@ pub fn all_inside(
     requires { (2 * count ≤ length vertices.now) × (ring + len ≤ length indexes.now) × ((j : ℕ) → j < len → get_or indexes.now (ring + j) 0 < count) }
     ensures { Says result (AllInside bounds centers (points count vertices.now) indexes.now ring len) }
 {
-    let mut k: usize = 0;
-    while k < len {
+    for k in 0..len {
         if !in_box(vertices, count, bounds, centers, indexes[ring + k]) {
             return false;
         }
-        k += 1;
     }
     true
 }
@@ -37,11 +35,9 @@ pub fn copy_ring(indexes: &mut [u32], base: usize, ring: usize, len: usize)
     requires { (base + len ≤ ring) × (ring + len ≤ length indexes.old) }
     ensures { indexes.new ≡ sets indexes.old base (inside_cell (ring_of indexes.old ring len)) }
 {
-    let mut k: usize = 0;
     let mut at: usize = 0;
-    while k < len {
+    for k in 0..len {
         indexes[base + k] = indexes[ring + at];
-        k += 1;
-        at = len - k;
+        at = len - (k + 1);
     }
 }

@@ -135,15 +135,13 @@ fn walk_ring(
         firsts: 0,
         seconds: 0,
     };
-    let mut k = 0;
-    while k < len {
+    for k in 0..len {
         let place = ring + turned(f, len, k);
         let q = indexes[place];
         let q_in = in_box(vertices, at.count, bounds, env.centers, q);
         let c = crossing_of(vertices, at.count, bounds, at.vertex, at.inside, q, q_in);
         if passes(at.inside, q_in, c) {
             at.vertex = q;
-            k += 1;
             continue;
         }
         let s = step_to(vertices, indexes, env, at, q, q_in, c);
@@ -155,7 +153,6 @@ fn walk_ring(
         at = next;
         let more = s.reused;
         reused = together(reused, more);
-        k += 1;
     }
     RingStepped {
         fault: Fault {
@@ -183,15 +180,13 @@ fn first_inside(
     ensures within { result ≤ len }
 {
     let bounds = env.bounds;
-    let mut k = 0;
-    while k < len {
+    for k in 0..len {
         let at = ring + k;
         if in_box(vertices, count, bounds, env.centers, indexes[at]) {
             return k;
         }
-        k += 1;
     }
-    k
+    len
 }
 
 // The ring's walk from its vertex at place f.

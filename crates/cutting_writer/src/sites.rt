@@ -12,7 +12,7 @@ use crate::copied::copy_ring;
 use crate::end::end_piece;
 use crate::ring::cut_ring;
 use base::numbers::{EMPTY, wide};
-use cell_memory::layout::{clear_floats_from, fill_from};
+use cell_memory::layout::fill_from;
 use cutting::pen::Pen;
 use plane::boxes::BoundingBox;
 use plane::points::Point;
@@ -158,7 +158,7 @@ fn clear_tails(
     ensures { (vertices.new ≡ cleared_from (2 * pen.count) zero vertices.old) × (indexes.new ≡ cleared_from pen.at EMPTY indexes.old)
         × (offsets.new ≡ cleared_from (sites + 1) EMPTY offsets.old) }
 {
-    clear_floats_from(vertices, 2 * pen.count);
+    fill_from(vertices, 2 * pen.count, 0.0);
     fill_from(indexes, pen.at, EMPTY);
     fill_from(offsets, sites + 1, EMPTY);
 }

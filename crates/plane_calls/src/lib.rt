@@ -164,7 +164,7 @@ pub fn corners(given: Given, out: &mut [f64]) -> Result<(), Refusal>
         return Err(Refusal::Box);
     }
     put_corners(given.bounds, out);
-    cell_memory::layout::clear_floats_from(out, 8);
+    cell_memory::layout::fill_from(out, 8, 0.0);
     Ok(())
 }
 

@@ -85,12 +85,9 @@ fn write_lists(
 {
     starts[0] = 0;
     let mut n: usize = 0;
-    let mut s: usize = 0;
-    while s < table.len() {
+    for s in 0..table.len() {
         n = append_list(triangles, halfedges, table, offsets, indexes, s, n, out);
-        let next = s + 1;
-        starts[next] = n as u32;
-        s = next;
+        starts[s + 1] = n as u32;
     }
     n
 }

@@ -76,19 +76,10 @@ fn write_ends(
         (ends_up_to (end_from sites.now triangles.now halfedges.now table.now) points.now site (length points.now / 2)) }
 {
     let mut at = site;
-    let mut i = 0;
-    while i < points.len() / 2 {
-        let end = walks::paths::path_end(
-            sites,
-            triangles,
-            halfedges,
-            table,
-            at,
-            point_at(points, i),
-        );
+    for i in 0..points.len() / 2 {
+        let end = walks::paths::path_end(sites, triangles, halfedges, table, at, point_at(points, i));
         out[i] = end;
         at = end;
-        i += 1;
     }
 }
 

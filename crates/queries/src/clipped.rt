@@ -11,7 +11,7 @@ ghost use Rattle.queries.specs.clipped.ClippedCursor.{judge_of, clipped_left, Cl
 
 use base::numbers::EMPTY;
 use mesh::Walked;
-use walks::neighbours::{Cursor, Stepped, step};
+use walks::neighbours::{Cursor, step};
 
 // How a neighbour that comes is judged: it counts; it is the first and dropped, so the next is asked for; it is the last and dropped.
 #[derive(Clone, Copy)]
@@ -70,18 +70,16 @@ pub fn clipped_step(
     indexes: &[u32],
     s: u32,
     c: Cursor,
-) -> Stepped
+) -> Option<(u32, Cursor)>
     requires { Clippable triangles.now halfedges.now offsets.now indexes.now × (s + 1 < length offsets.now) × CursorSettled halfedges.now c }
     ensures { ClippedTakes triangles.now halfedges.now (share_edge_of offsets.now indexes.now s)
         (clipped_left triangles.now halfedges.now (share_edge_of offsets.now indexes.now s) c) result }
 {
-    match step(triangles, halfedges, c) {
-        Stepped::Site(x, d) => match judge(halfedges, offsets, indexes, s, x, c.last, d.last) {
-            Judgement::Counts => Stepped::Site(x, d),
-            Judgement::Dropped => clipped_step(triangles, halfedges, offsets, indexes, s, d),
-            Judgement::Ends => Stepped::End,
-        },
-        Stepped::End => Stepped::End,
+    let (x, d) = step(triangles, halfedges, c)?;
+    match judge(halfedges, offsets, indexes, s, x, c.last, d.last) {
+        Judgement::Counts => Some((x, d)),
+        Judgement::Dropped => clipped_step(triangles, halfedges, offsets, indexes, s, d),
+        Judgement::Ends => None,
     }
 }
 
@@ -97,10 +95,7 @@ fn clipped_over(
     requires { Clippable triangles.now halfedges.now offsets.now indexes.now × (s + 1 < length offsets.now) × CursorSettled halfedges.now c }
     ensures { result ≡ eqb (length (clipped_left triangles.now halfedges.now (share_edge_of offsets.now indexes.now s) c)) 0 }
 {
-    match clipped_step(triangles, halfedges, offsets, indexes, s, c) {
-        Stepped::Site(_, _) => false,
-        Stepped::End => true,
-    }
+    clipped_step(triangles, halfedges, offsets, indexes, s, c).is_none()
 }
 
 // The neighbours of site s after clipping, up to the slice's length; `start` is its leftmost half-edge.
@@ -122,15 +117,13 @@ pub fn clipped_neighbours(
         next: start,
         last: EMPTY,
     };
-    let mut n = 0;
-    while n < out.len() {
+    for n in 0..out.len() {
         match clipped_step(triangles, halfedges, offsets, indexes, s, c) {
-            Stepped::Site(x, d) => {
+            Some((x, d)) => {
                 out[n] = x;
-                n += 1;
                 c = d;
             }
-            Stepped::End => {
+            None => {
                 return Walked {
                     count: n,
                     ended: true,
@@ -139,7 +132,7 @@ pub fn clipped_neighbours(
         }
     }
     Walked {
-        count: n,
+        count: out.len(),
         ended: clipped_over(triangles, halfedges, offsets, indexes, s, c),
     }
 }

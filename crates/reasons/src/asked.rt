@@ -12,7 +12,7 @@ ghost use Rattle.reasons.specs.declared.Question.TheVariants.{Between};
 use crate::{Question, Reason};
 use base::numbers::{EMPTY, wide};
 use queries::clipped::clipped_step;
-use walks::neighbours::{Cursor, Stepped, step};
+use walks::neighbours::{Cursor, step};
 
 // Whether t is among the neighbours of the site whose leftmost half-edge is `start`.
 fn is_neighbour(triangles: &[u32], halfedges: &[u32], start: u32, t: u32) -> bool
@@ -24,19 +24,13 @@ fn is_neighbour(triangles: &[u32], halfedges: &[u32], start: u32, t: u32) -> boo
         next: start,
         last: EMPTY,
     };
-    loop {
-        match step(triangles, halfedges, c) {
-            Stepped::Site(x, d) => {
-                if x == t {
-                    return true;
-                }
-                c = d;
-            }
-            Stepped::End => {
-                return false;
-            }
+    while let Some((x, d)) = step(triangles, halfedges, c) {
+        if x == t {
+            return true;
         }
+        c = d;
     }
+    false
 }
 
 // Whether t is among the neighbours of site s after clipping; `start` is its leftmost half-edge.
@@ -58,19 +52,13 @@ fn stays_neighbour(
         next: start,
         last: EMPTY,
     };
-    loop {
-        match clipped_step(triangles, halfedges, offsets, indexes, s, c) {
-            Stepped::Site(x, d) => {
-                if x == t {
-                    return true;
-                }
-                c = d;
-            }
-            Stepped::End => {
-                return false;
-            }
+    while let Some((x, d)) = clipped_step(triangles, halfedges, offsets, indexes, s, c) {
+        if x == t {
+            return true;
         }
+        c = d;
     }
+    false
 }
 
 // How many entries of the cell of site s stand in that of site t.

@@ -17,52 +17,46 @@ pub struct Cursor {
     pub last: u32,
 }
 
-#[derive(Clone, Copy)]
-pub enum Stepped {
-    Site(u32, Cursor),
-    End,
-}
-
 // After half-edge e, the last of the walk that began at s: on the hull its end comes too.
-fn last_step(triangles: &[u32], halfedges: &[u32], s: u32, e: usize) -> Stepped
+fn last_step(triangles: &[u32], halfedges: &[u32], s: u32, e: usize) -> Option<(u32, Cursor)>
     requires { (length halfedges.now % 3 ≡ 0) × (length halfedges.now ≡ length triangles.now) × (e < length halfedges.now) }
     ensures { result ≡ last_step triangles.now halfedges.now s e }
 {
     let o = mesh::next_halfedge(e);
     if halfedges[o] == EMPTY {
-        return Stepped::Site(
+        return Some((
             mesh::end_site(triangles, o),
             Cursor {
                 start: s,
                 next: EMPTY,
                 last: EMPTY,
             },
-        );
+        ));
     }
-    Stepped::End
+    None
 }
 
-// The next neighbour.
-pub fn step(triangles: &[u32], halfedges: &[u32], c: Cursor) -> Stepped
+// The next neighbour, and the cursor past it.
+pub fn step(triangles: &[u32], halfedges: &[u32], c: Cursor) -> Option<(u32, Cursor)>
     requires { (length halfedges.now % 3 ≡ 0) × (length halfedges.now ≡ length triangles.now) }
     ensures { result ≡ step_of triangles.now halfedges.now c }
 {
     let next = base::numbers::wide(c.next);
     if next < halfedges.len() {
-        return Stepped::Site(
+        return Some((
             triangles[next],
             Cursor {
                 start: c.start,
                 next: mesh::turn(halfedges, c.start, next),
                 last: c.next,
             },
-        );
+        ));
     }
     let last = base::numbers::wide(c.last);
     if last < halfedges.len() {
         return last_step(triangles, halfedges, c.start, last);
     }
-    Stepped::End
+    None
 }
 
 // Whether no neighbour is left.
@@ -70,10 +64,7 @@ fn over(triangles: &[u32], halfedges: &[u32], c: Cursor) -> bool
     requires { (length halfedges.now % 3 ≡ 0) × (length halfedges.now ≡ length triangles.now) }
     ensures { result ≡ is_end (step_of triangles.now halfedges.now c) }
 {
-    match step(triangles, halfedges, c) {
-        Stepped::Site(_, _) => false,
-        Stepped::End => true,
-    }
+    step(triangles, halfedges, c).is_none()
 }
 
 // The neighbours of the site whose leftmost half-edge is s, up to the slice's length.
@@ -86,15 +77,13 @@ pub fn neighbours(triangles: &[u32], halfedges: &[u32], s: u32, out: &mut [u32])
         next: s,
         last: EMPTY,
     };
-    let mut n = 0;
-    while n < out.len() {
+    for n in 0..out.len() {
         match step(triangles, halfedges, c) {
-            Stepped::Site(x, d) => {
+            Some((x, d)) => {
                 out[n] = x;
-                n += 1;
                 c = d;
             }
-            Stepped::End => {
+            None => {
                 return Walked {
                     count: n,
                     ended: true,
@@ -103,7 +92,7 @@ pub fn neighbours(triangles: &[u32], halfedges: &[u32], s: u32, out: &mut [u32])
         }
     }
     Walked {
-        count: n,
+        count: out.len(),
         ended: over(triangles, halfedges, c),
     }
 }

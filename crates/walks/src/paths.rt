@@ -4,7 +4,7 @@ ghost use Rattle.walks.specs.paths.Path.{dist_of, hop_of, nearer_of, whole_path,
 ghost use Rattle.walks.specs.neighbours.Fills.{Fills};
 ghost use Rattle.walks.specs.paths.PathNeeds.{Walkable, Towards};
 
-use crate::neighbours::{Cursor, Stepped, step};
+use crate::neighbours::{Cursor, step};
 use base::numbers::EMPTY;
 use mesh::Walked;
 use plane::points::Point;
@@ -48,17 +48,11 @@ fn hop(sites: &[f64], triangles: &[u32], halfedges: &[u32], table: &[u32], s: u3
         site: s,
         dist: distance(sites, s, p),
     };
-    loop {
-        match step(triangles, halfedges, c) {
-            Stepped::Site(n, d) => {
-                best = nearer(best, n, distance(sites, n, p));
-                c = d;
-            }
-            Stepped::End => {
-                return best.site;
-            }
-        }
+    while let Some((n, d)) = step(triangles, halfedges, c) {
+        best = nearer(best, n, distance(sites, n, p));
+        c = d;
     }
+    best.site
 }
 
 // The path from site s towards p, up to the slice's length.
@@ -76,18 +70,19 @@ pub fn path(
         out.old out.new result.count result.ended }
 {
     let mut at = s;
-    let mut count = 0;
-    while count < out.len() {
-        out[count] = at;
-        count += 1;
+    for n in 0..out.len() {
+        out[n] = at;
         let next = hop(sites, triangles, halfedges, table, at, p);
         if next == at {
-            return Walked { count, ended: true };
+            return Walked {
+                count: n + 1,
+                ended: true,
+            };
         }
         at = next;
     }
     Walked {
-        count,
+        count: out.len(),
         ended: false,
     }
 }

@@ -2,7 +2,6 @@
 ghost use Rattle.std.specs.Prelude.{◌≡◌, ◌+◌, ◌%◌, ◌<◌, ◌≤◌, length};
 ghost use Rattle.base.specs.numbers.Numbers.{EMPTY};
 ghost use Rattle.base.specs.common.Decide.{Says};
-ghost use Rattle.base.specs.common.Pick.{pick};
 ghost use Rattle.walks.specs.shared.Cells.{Cells, cell_of, holds_of, shared_of, share_edge_of};
 ghost use Rattle.walks.specs.shared.Edge.{names_of, first_of, shared_edge_of};
 
@@ -18,14 +17,10 @@ pub fn check_cells(offsets: &[u32], room: usize) -> bool
     if offsets[0] != 0 {
         return false;
     }
-    let mut i = 1;
-    while i < offsets.len() {
-        if offsets[i] < offsets[i - 1] {
-            return false;
-        }
-        i += 1;
+    if !offsets.is_sorted() {
+        return false;
     }
-    base::numbers::wide(offsets[i - 1]) <= room
+    base::numbers::wide(offsets[offsets.len() - 1]) <= room
 }
 
 // The cell of site s.
@@ -42,36 +37,14 @@ pub fn cell<'a>(offsets: &[u32], indexes: &'a [u32], s: usize) -> &'a [u32]
 pub fn holds(b: &[u32], x: u32) -> bool
     ensures { result ≡ holds_of b.now x }
 {
-    let mut i = 0;
-    while i < b.len() {
-        if b[i] == x {
-            return true;
-        }
-        i += 1;
-    }
-    false
-}
-
-fn one_if(c: bool) -> usize
-    ensures { (result ≡ pick c (λ _. 1) (λ _. 0)) × (result ≤ 1) }
-{
-    if c {
-        return 1;
-    }
-    0
+    b.contains(&x)
 }
 
 // How many entries of a stand in b, repeats counted.
 pub fn shared_entries(a: &[u32], b: &[u32]) -> usize
     ensures { result ≡ shared_of a.now b.now }
 {
-    let mut n: usize = 0;
-    let mut i = 0;
-    while i < a.len() {
-        n += one_if(holds(b, a[i]));
-        i += 1;
-    }
-    n
+    a.iter().filter(|x| holds(b, **x)).count()
 }
 
 // Whether the cells of sites s and t share an edge.

@@ -1,22 +1,17 @@
--- The test of a vertex, and that the entries of a cell are among those of all cells.
-use Rattle.std.specs.Prelude.{◌≡◌, Bool, List, ℕ, zero, suc, ◌+◌, ◌-◌, ◌*◌, ◌/◌, ◌≤◌, ◌<◌, Float, length, drop}
+-- The entries of a cell are among those of all cells.
+use Rattle.std.specs.Prelude.{◌≡◌, List, ℕ, zero, suc, ◌+◌, ◌-◌, ◌*◌, ◌/◌, ◌≤◌, ◌<◌, Float, length, drop}
 use Rattle.std.proofs.Math.Path.{sym}
 use Rattle.std.proofs.Common.{ap, ◌∙◌, subst, le_trans, le_of_eq, arith, length-take-le}
 use Rattle.std.proofs.Math.ListN.{get_or, length-take, length-drop}
 use Rattle.std.proofs.Math.Seq.{get_or-take, get_or-drop}
 use Rattle.walks.specs.shared.Cells.{Cells, cell_of}
 use Rattle.plane.specs.points.Flat.{point_at}
-use Rattle.plane.specs.declared.points.Point.{Point}
 use Rattle.plane.specs.centers.Finite.{center_bounded}
 use Rattle.plane.specs.centers.Circumcenter.{ok_center}
 use Rattle.ring_area.specs.Steps.{Corners}
 use Rattle.arguments.specs.entries.Named.{EntriesNamed}
 use Rattle.areas.specs.Promise.{entries_of_all}
 use Rattle.areas.specs.Steps.{RingsKept}
-
--- what the test of a vertex says: w is the entry as a place
-pub tested : (v : List Float) {b : Bool} {p : Point} {w : ℕ} (e : ℕ) → b ≡ ok_center p → p ≡ point_at v w → w ≡ e → b ≡ ok_center (point_at v e)
-tested v e x y z = x ∙ ap ok_center y ∙ ap (λ (k : ℕ). ok_center (point_at v k)) z
 
 -- ---- the entries of cell s
 module _ (off ix : List ℕ) (cut : Cells off (length ix)) (s : ℕ) (h : s + 1 < length off) where

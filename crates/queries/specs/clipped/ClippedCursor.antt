@@ -1,11 +1,9 @@
 -- A step over the clipped neighbours: how the neighbour that comes is judged, and what is left of them at a cursor.
-use Rattle.std.specs.Prelude.{◌≡◌, List, [], ◌∷◌, Bool, ℕ, ltb, eqb, length}
+use Rattle.std.specs.Prelude.{◌≡◌, List, [], ◌∷◌, Bool, ℕ, ltb, eqb, length, Option, Some, None}
 use Rattle.base.specs.common.Pick.{pick}
 use Rattle.base.specs.numbers.Numbers.{EMPTY}
 use Rattle.mesh.specs.Mesh.{pair_of}
 use Rattle.walks.specs.declared.neighbours.Cursor.{Cursor}
-use Rattle.walks.specs.declared.neighbours.Stepped.{Stepped}
-use Rattle.walks.specs.declared.neighbours.Stepped.TheVariants.{Site, End}
 use Rattle.walks.specs.neighbours.Cursor.{rest_of, CursorSettled}
 use Rattle.queries.specs.declared.clipped.Judgement.{Judgement}
 use Rattle.queries.specs.declared.clipped.Judgement.TheVariants.{Counts, Dropped, Ends}
@@ -26,6 +24,6 @@ module _ (tri he : List ℕ) (keeps : ℕ → Bool) where
       pick (ltb c.last (length he)) (λ _. clipped_from tri he keeps c.last (rest_of he c.start c.next)) (λ _. clipped_of tri he keeps (rest_of he c.start c.next))
 
   -- what a step tells of what is left
-  abbrev pub ClippedTakes : List ℕ → Stepped → Type 0
-  ClippedTakes left (Site x d) = (left ≡ x ∷ clipped_left d) × CursorSettled he d
-  ClippedTakes left End = left ≡ []
+  abbrev pub ClippedTakes : List ℕ → Option (ℕ × Cursor) → Type 0
+  ClippedTakes left (Some p) = (left ≡ p.0 ∷ clipped_left p.1) × CursorSettled he p.1
+  ClippedTakes left None = left ≡ []

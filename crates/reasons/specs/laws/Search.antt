@@ -1,5 +1,5 @@
 -- A search through the neighbours that are left at a cursor: site t stands among all of them exactly where it stands among what is left.
-use Rattle.std.specs.Prelude.{◌≡◌, Bool, true, false, List, ◌∷◌, ◌≢◌, ℕ, ◌≤◌, ◌<◌, length}
+use Rattle.std.specs.Prelude.{◌≡◌, Bool, true, false, List, ◌∷◌, ◌≢◌, ℕ, ◌≤◌, ◌<◌, length, Option, Some, None}
 use Rattle.std.proofs.Common.{sym, ap, ◌∙◌, subst, ⊎_elim, zero-add, arith, lt-ltb}
 use Rattle.base.specs.common.Count.{occ}
 use Rattle.base.specs.common.laws.Count.{same_cases}
@@ -7,8 +7,6 @@ use Rattle.base.specs.numbers.Numbers.{EMPTY}
 use Rattle.mesh.specs.Mesh.{whole_of}
 use Rattle.walks.specs.shared.Cells.{holds_of}
 use Rattle.walks.specs.declared.neighbours.Cursor.{Cursor}
-use Rattle.walks.specs.declared.neighbours.Stepped.{Stepped}
-use Rattle.walks.specs.declared.neighbours.Stepped.TheVariants.{Site, End}
 use Rattle.walks.specs.neighbours.Neighbours.{starts_of}
 use Rattle.walks.specs.neighbours.Cursor.{Settled, cursor_from, step_of, CursorSettled}
 use Rattle.walks.specs.neighbours.laws.Cursor.{neighbours_left, StepTakes, came_took, left_fresh}
@@ -34,9 +32,9 @@ module _ (tri he : List ℕ) (small : length he ≤ EMPTY) (t : ℕ) where
   seeks_start s ok = record { same = rw (left_fresh tri he small s); sound = ok }
 
   module _ {whole : List ℕ} {c : Cursor} (g : Seeks tri he t whole c) where
-    module _ (x : ℕ) (d : Cursor) (q : Stepped.Site x d ≡ step_of tri he c) where
-      taken : StepTakes tri he (neighbours_left tri he c) (Site x d)
-      taken = came_took tri he small c g.sound (Site x d) q
+    module _ (x : ℕ) (d : Cursor) (q : Some (x, d) ≡ step_of tri he c) where
+      taken : StepTakes tri he (neighbours_left tri he c) (Some (x, d))
+      taken = came_took tri he small c g.sound (Some (x, d)) q
 
       pub seeks_found : x ≡ t → true ≡ holds_of whole t
       seeks_found e = sym (ap (λ (l : List ℕ). holds_of l t) taken.0 ∙ holds_head t x (neighbours_left tri he d) e) ∙ g.same
@@ -50,8 +48,8 @@ module _ (tri he : List ℕ) (small : length he ≤ EMPTY) (t : ℕ) where
       pub seeks_less : length (neighbours_left tri he d) < length (neighbours_left tri he c)
       seeks_less = omega (arith, ap length taken.0)
 
-    pub seeks_none : End ≡ step_of tri he c → false ≡ holds_of whole t
-    seeks_none q = sym (ap (λ (l : List ℕ). holds_of l t) (came_took tri he small c g.sound End q)) ∙ g.same
+    pub seeks_none : None ≡ step_of tri he c → false ≡ holds_of whole t
+    seeks_none q = sym (ap (λ (l : List ℕ). holds_of l t) (came_took tri he small c g.sound None q)) ∙ g.same
 
 -- ---- those that stay after clipping
 pub record SeeksStaying (tri he : List ℕ) (keeps : ℕ → Bool) (t : ℕ) (whole : List ℕ) (c : Cursor) : Type 0 where
@@ -62,9 +60,9 @@ module _ (tri he : List ℕ) (keeps : ℕ → Bool) (t : ℕ) where
   pub staying_start : length he ≤ EMPTY → (s : ℕ) → Settled he s s → SeeksStaying tri he keeps t (clipped_of tri he keeps (whole_of he s)) (cursor_from s)
   staying_start small s ok = record { same = rw (clipped_fresh tri he keeps small s); sound = ok }
 
-  module _ {whole : List ℕ} {c : Cursor} (g : SeeksStaying tri he keeps t whole c) (r : Stepped) (u : ClippedTakes tri he keeps (clipped_left tri he keeps c) r) where
-    module _ (x : ℕ) (d : Cursor) (q : r ≡ Site x d) where
-      told : ClippedTakes tri he keeps (clipped_left tri he keeps c) (Site x d)
+  module _ {whole : List ℕ} {c : Cursor} (g : SeeksStaying tri he keeps t whole c) (r : Option (ℕ × Cursor)) (u : ClippedTakes tri he keeps (clipped_left tri he keeps c) r) where
+    module _ (x : ℕ) (d : Cursor) (q : r ≡ Some (x, d)) where
+      told : ClippedTakes tri he keeps (clipped_left tri he keeps c) (Some (x, d))
       told = subst (ClippedTakes tri he keeps (clipped_left tri he keeps c)) q u
 
       pub staying_found : x ≡ t → true ≡ holds_of whole t
@@ -79,5 +77,5 @@ module _ (tri he : List ℕ) (keeps : ℕ → Bool) (t : ℕ) where
       pub staying_less : length (clipped_left tri he keeps d) < length (clipped_left tri he keeps c)
       staying_less = omega (arith, ap length told.0)
 
-    pub staying_none : r ≡ End → false ≡ holds_of whole t
+    pub staying_none : r ≡ None → false ≡ holds_of whole t
     staying_none q = sym (ap (λ (l : List ℕ). holds_of l t) (subst (ClippedTakes tri he keeps (clipped_left tri he keeps c)) q u)) ∙ g.same

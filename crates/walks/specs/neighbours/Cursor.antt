@@ -1,11 +1,9 @@
 -- The cursor over a site's neighbours, and its step.
-use Rattle.std.specs.Prelude.{◌≡◌, List, ℕ, suc, length, Bool, true, false, ltb, eqb}
+use Rattle.std.specs.Prelude.{◌≡◌, List, ℕ, suc, length, Bool, true, false, ltb, eqb, Option, Some, None}
 use Rattle.mesh.specs.Mesh.{turn_of, walk_of, next_of, start_of, end_of, around}
 use Rattle.base.specs.common.Pick.{pick}
 use Rattle.base.specs.numbers.Numbers.{EMPTY}
 use Rattle.walks.specs.declared.neighbours.Cursor.{Cursor}
-use Rattle.walks.specs.declared.neighbours.Stepped.{Stepped}
-use Rattle.walks.specs.declared.neighbours.Stepped.TheVariants.{Site, End}
 
 -- the walk that began at s, from e on
 abbrev pub rest_of : List ℕ → ℕ → ℕ → List ℕ
@@ -23,18 +21,18 @@ abbrev pub cursor_from : ℕ → Cursor
 cursor_from s = cursor s s EMPTY
 
 -- after the walk's last half-edge: on the hull its end comes too
-unfoldable pub last_step : List ℕ → List ℕ → ℕ → ℕ → Stepped
-last_step tri he s e = pick (eqb (around he e) EMPTY) (λ _. Site (end_of tri (next_of e)) (cursor s EMPTY EMPTY)) (λ _. End)
+unfoldable pub last_step : List ℕ → List ℕ → ℕ → ℕ → Option (ℕ × Cursor)
+last_step tri he s e = pick (eqb (around he e) EMPTY) (λ _. Some (end_of tri (next_of e), cursor s EMPTY EMPTY)) (λ _. None)
 
 -- the next neighbour, and the cursor past it
-unfoldable pub step_of : List ℕ → List ℕ → Cursor → Stepped
+unfoldable pub step_of : List ℕ → List ℕ → Cursor → Option (ℕ × Cursor)
 step_of tri he c =
-    pick (ltb c.next (length he)) (λ _. Site (start_of tri c.next) (cursor c.start (turn_of he c.start c.next) c.next)) (λ _.
-    pick (ltb c.last (length he)) (λ _. last_step tri he c.start c.last) (λ _. End))
+    pick (ltb c.next (length he)) (λ _. Some (start_of tri c.next, cursor c.start (turn_of he c.start c.next) c.next)) (λ _.
+    pick (ltb c.last (length he)) (λ _. last_step tri he c.start c.last) (λ _. None))
 
-abbrev pub is_end : Stepped → Bool
-is_end (Site x d) = false
-is_end End = true
+abbrev pub is_end : Option (ℕ × Cursor) → Bool
+is_end (Some p) = false
+is_end None = true
 
 -- the cursor's walk ends by its own rule
 abbrev pub CursorSettled : List ℕ → Cursor → Type 0

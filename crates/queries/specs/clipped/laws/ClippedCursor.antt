@@ -1,5 +1,5 @@
 -- What the judgement of the neighbour that comes tells of the clipped neighbours that are left.
-use Rattle.std.specs.Prelude.{◌≡◌, List, [], ◌∷◌, ◌++◌, Bool, true, false, eqb, length, get_or}
+use Rattle.std.specs.Prelude.{◌≡◌, List, [], ◌∷◌, ◌++◌, Bool, true, false, eqb, length, get_or, Option, Some, None}
 use Rattle.std.proofs.Math.Path.{refl, ap}
 use Rattle.std.proofs.Common.{sym, ◌∙◌, subst, arith}
 use Rattle.std.proofs.Math.Logic.{⊎_elim}
@@ -11,8 +11,6 @@ use Rattle.base.specs.numbers.Numbers.{EMPTY}
 use Rattle.mesh.specs.Mesh.{next_of, start_of, end_of, pair_of, around, turn_of, whole_of}
 use Rattle.mesh.specs.laws.WalkSteps.{walk_done}
 use Rattle.walks.specs.declared.neighbours.Cursor.{Cursor}
-use Rattle.walks.specs.declared.neighbours.Stepped.{Stepped}
-use Rattle.walks.specs.declared.neighbours.Stepped.TheVariants.{Site, End}
 use Rattle.walks.specs.neighbours.Neighbours.{last_end}
 use Rattle.walks.specs.neighbours.Cursor.{rest_of, cursor, cursor_from, last_step, step_of, CursorSettled}
 use Rattle.walks.specs.neighbours.laws.Rest.{rest_done, rest_step_lem, rest_settled}
@@ -47,9 +45,9 @@ module _ (tri he : List ℕ) (keeps : ℕ → Bool) where
   Tells c x d Dropped = (clipped_left tri he keeps c ≡ clipped_left tri he keeps d) × CursorSettled he d × (length (rest_of he d.start d.next) < length (rest_of he c.start c.next))
   Tells c x d Ends = clipped_left tri he keeps c ≡ []
 
-  abbrev pub ClippedTells : Cursor → Stepped → Type 0
-  ClippedTells c (Site x d) = Tells c x d (judge_of he (keeps x) c.last d.last)
-  ClippedTells c End = clipped_left tri he keeps c ≡ []
+  abbrev pub ClippedTells : Cursor → Option (ℕ × Cursor) → Type 0
+  ClippedTells c (Some p) = Tells c p.0 p.1 (judge_of he (keeps p.0) c.last p.1.last)
+  ClippedTells c None = clipped_left tri he keeps c ≡ []
 
   kept_one : (x : ℕ) → keeps x ≡ true → kept_of keeps (x ∷ []) ≡ x ∷ []
   unfolding kept_of
@@ -133,7 +131,7 @@ module _ (tri he : List ℕ) (keeps : ℕ → Bool) where
         go :
             clipped_left tri he keeps (cursor s e l) ≡ kept_of keeps (pick (eqb (around he l) EMPTY) (λ _. x ∷ []) (λ _. []))
             → (b : Bool) → eqb (around he l) EMPTY ≡ b
-            → ClippedTells (cursor s e l) (pick b (λ _. Site x (cursor s EMPTY EMPTY)) (λ _. End))
+            → ClippedTells (cursor s e l) (pick b (λ _. Some (x, cursor s EMPTY EMPTY)) (λ _. None))
         go q true v = rw (le-ltb EMPTY (length he) small) (judged (rw v at q) (keeps x) refl)
         go q false v = (rw v at q) ∙ kept_nil
 
@@ -153,10 +151,10 @@ module _ (tri he : List ℕ) (keeps : ℕ → Bool) where
 
     module _ (c : Cursor) (ok : CursorSettled he c) where
       -- a neighbour came and was judged; or none came
-      pub came : (x : ℕ) (d : Cursor) (j : Judgement) → Stepped.Site x d ≡ step_of tri he c → j ≡ judge_of he (keeps x) c.last d.last → Tells c x d j
+      pub came : (x : ℕ) (d : Cursor) (j : Judgement) → Some (x, d) ≡ step_of tri he c → j ≡ judge_of he (keeps x) c.last d.last → Tells c x d j
       came x d j q e = rw e (subst (ClippedTells c) (sym q) (clip_step_lem c ok))
 
-      pub none_came : End ≡ step_of tri he c → clipped_left tri he keeps c ≡ []
+      pub none_came : None ≡ step_of tri he c → clipped_left tri he keeps c ≡ []
       none_came q = subst (ClippedTells c) (sym q) (clip_step_lem c ok)
 
     -- before the first step all of them are left

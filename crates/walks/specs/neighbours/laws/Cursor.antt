@@ -1,5 +1,5 @@
 -- What is left of the neighbours at a cursor: each step takes the first of them, and it stands in a triangle.
-use Rattle.std.specs.Prelude.{◌≡◌, List, [], ◌∷◌, Bool, ℕ, suc, ◌≤◌, ◌<◌, ◌%◌, ltb, eqb, length}
+use Rattle.std.specs.Prelude.{◌≡◌, List, [], ◌∷◌, Bool, ℕ, suc, ◌≤◌, ◌<◌, ◌%◌, ltb, eqb, length, Option, Some, None}
 use Rattle.std.proofs.Math.Path.{refl, sym, ap}
 use Rattle.std.proofs.Common.{◌∙◌, subst, arith}
 use Rattle.std.proofs.Math.Logic.{⊎_elim}
@@ -12,8 +12,6 @@ use Rattle.mesh.specs.Mesh.{next_of, start_of, end_of, around, turn_of, whole_of
 use Rattle.mesh.specs.laws.WalkSteps.{walk_done}
 use Rattle.base.specs.common.Count.{occ}
 use Rattle.walks.specs.declared.neighbours.Cursor.{Cursor}
-use Rattle.walks.specs.declared.neighbours.Stepped.{Stepped}
-use Rattle.walks.specs.declared.neighbours.Stepped.TheVariants.{Site, End}
 use Rattle.walks.specs.neighbours.Neighbours.{last_end, starts_of}
 use Rattle.walks.specs.neighbours.laws.Neighbours.{sites_from, starts_cons}
 use Rattle.walks.specs.neighbours.Cursor.{rest_of, cursor, cursor_from, last_step, step_of, CursorSettled}
@@ -26,22 +24,22 @@ neighbours_left tri he c =
     pick (ltb c.last (length he)) (λ _. sites_from tri he c.last (rest_of he c.start c.next)) (λ _. starts_of tri he (rest_of he c.start c.next))
 
 -- what a step tells of what is left
-abbrev pub StepTakes : List ℕ → List ℕ → List ℕ → Stepped → Type 0
-StepTakes tri he left (Site x d) = (left ≡ x ∷ neighbours_left tri he d) × CursorSettled he d
-StepTakes tri he left End = left ≡ []
+abbrev pub StepTakes : List ℕ → List ℕ → List ℕ → Option (ℕ × Cursor) → Type 0
+StepTakes tri he left (Some p) = (left ≡ p.0 ∷ neighbours_left tri he p.1) × CursorSettled he p.1
+StepTakes tri he left None = left ≡ []
 
 -- the step by its tests; the values as the code has them
 module _ (tri he : List ℕ) (c : Cursor) where
-  pub step_walks : (e x t : ℕ) → e ≡ c.next → e < length he → x ≡ start_of tri e → t ≡ turn_of he c.start e → Stepped.Site x (cursor c.start t c.next) ≡ step_of tri he c
+  pub step_walks : (e x t : ℕ) → e ≡ c.next → e < length he → x ≡ start_of tri e → t ≡ turn_of he c.start e → Some (x, cursor c.start t c.next) ≡ step_of tri he c
   unfolding step_of
   step_walks e x t q l p r =
       rw (lt-ltb c.next (length he) (rw (← q) l)) (cc)
 
-  pub step_last : (e f : ℕ) (r : Stepped) → e ≡ c.next → length he ≤ e → f ≡ c.last → f < length he → r ≡ last_step tri he c.start f → r ≡ step_of tri he c
+  pub step_last : (e f : ℕ) (r : Option (ℕ × Cursor)) → e ≡ c.next → length he ≤ e → f ≡ c.last → f < length he → r ≡ last_step tri he c.start f → r ≡ step_of tri he c
   unfolding step_of
   step_last e f r q l p k h = rw (le-ltb c.next (length he) (rw (← q) l), lt-ltb c.last (length he) (rw (← p) k)) (cc)
 
-  pub step_end : (e f : ℕ) → e ≡ c.next → length he ≤ e → f ≡ c.last → length he ≤ f → End ≡ step_of tri he c
+  pub step_end : (e f : ℕ) → e ≡ c.next → length he ≤ e → f ≡ c.last → length he ≤ f → None ≡ step_of tri he c
   unfolding step_of
   step_end e f q l p k = rw (le-ltb c.next (length he) (rw (← q) l), le-ltb c.last (length he) (rw (← p) k))
 
@@ -63,7 +61,7 @@ module _ (tri he : List ℕ) (small : length he ≤ EMPTY) where
   unfolding last_end last_step
   last_took s e = go (eqb (around he e) EMPTY)
     where
-      go : (b : Bool) → StepTakes tri he (pick b (λ _. end_of tri (next_of e) ∷ []) (λ _. [])) (pick b (λ _. Site (end_of tri (next_of e)) (cursor s EMPTY EMPTY)) (λ _. End))
+      go : (b : Bool) → StepTakes tri he (pick b (λ _. end_of tri (next_of e) ∷ []) (λ _. [])) (pick b (λ _. Some (end_of tri (next_of e), cursor s EMPTY EMPTY)) (λ _. None))
       go true = (ap (λ l. end_of tri (next_of e) ∷ l) (sym (left_none s)), walk_done he s (suc (length he)) EMPTY small ∙ sym (rest_done he s EMPTY small))
       go false = refl
 
@@ -90,7 +88,7 @@ module _ (tri he : List ℕ) (small : length he ≤ EMPTY) where
       (lt_or_ge e (length he))
 
   -- so of what a call of the step gave
-  pub came_took : (c : Cursor) → CursorSettled he c → (r : Stepped) → r ≡ step_of tri he c → StepTakes tri he (neighbours_left tri he c) r
+  pub came_took : (c : Cursor) → CursorSettled he c → (r : Option (ℕ × Cursor)) → r ≡ step_of tri he c → StepTakes tri he (neighbours_left tri he c) r
   came_took c ok r q = rw q (step_took c ok)
 
   -- before the first step all of them are left
@@ -106,7 +104,7 @@ module _ (tri he : List ℕ) (threes : length he % 3 ≡ 0) (even : length he �
       (λ l. rw (le-ltb c.last (length he) l) (starts_used tri he threes even c.start (length he) c.next))
       (lt_or_ge c.last (length he))
 
-  pub coming_used : length he ≤ EMPTY → (c d : Cursor) (x : ℕ) → CursorSettled he c → Stepped.Site x d ≡ step_of tri he c → 0 < occ x tri
+  pub coming_used : length he ≤ EMPTY → (c d : Cursor) (x : ℕ) → CursorSettled he c → Some (x, d) ≡ step_of tri he c → 0 < occ x tri
   coming_used small c d x ok q =
-      let t = came_took tri he small c ok (Site x d) q in
+      let t = came_took tri he small c ok (Some (x, d)) q in
       subst (InUse tri) t.0 (left_used c) 0 (omega arith)

@@ -1,10 +1,8 @@
 -- A loop that writes a site's neighbours into a lent slice, a step at a time.
-use Rattle.std.specs.Prelude.{◌≡◌, refl, List, ℕ, ◌+◌, ◌≤◌, ◌<◌, length, set, Bool, true}
+use Rattle.std.specs.Prelude.{◌≡◌, refl, List, ℕ, ◌+◌, ◌≤◌, ◌<◌, length, set, Bool, true, Option, Some, None}
 use Rattle.base.specs.numbers.Numbers.{EMPTY}
 use Rattle.mesh.specs.Mesh.{whole_of}
 use Rattle.walks.specs.declared.neighbours.Cursor.{Cursor}
-use Rattle.walks.specs.declared.neighbours.Stepped.{Stepped}
-use Rattle.walks.specs.declared.neighbours.Stepped.TheVariants.{Site, End}
 use Rattle.walks.specs.neighbours.Neighbours.{starts_of}
 use Rattle.walks.specs.neighbours.Cursor.{Settled, cursor_from, step_of, is_end, CursorSettled}
 use Rattle.walks.specs.neighbours.laws.Cursor.{neighbours_left, came_took, left_fresh}
@@ -21,17 +19,17 @@ module _ (tri he old : List ℕ) (small : length he ≤ EMPTY) where
   handing_start s ok = record { filling = rw (left_fresh tri he small s) (filling_start _ old); sound = ok }
 
   module _ {whole new : List ℕ} {c : Cursor} {n : ℕ} (g : NeighboursWritten tri he whole old new c n) where
-    pub handing_site : (x : ℕ) (d : Cursor) → n < length old → Stepped.Site x d ≡ step_of tri he c → NeighboursWritten tri he whole old (set new n x) d (n + 1)
+    pub handing_site : (x : ℕ) (d : Cursor) → n < length old → Some (x, d) ≡ step_of tri he c → NeighboursWritten tri he whole old (set new n x) d (n + 1)
     handing_site x d l q =
-        let t = came_took tri he small c g.sound (Site x d) q in
+        let t = came_took tri he small c g.sound (Some (x, d)) q in
         record { filling = filling_step g.filling x (neighbours_left tri he d) l t.0; sound = t.1 }
 
-    pub handing_end : End ≡ step_of tri he c → Fills whole old new n true
-    handing_end q = filling_done g.filling (came_took tri he small c g.sound End q)
+    pub handing_end : None ≡ step_of tri he c → Fills whole old new n true
+    handing_end q = filling_done g.filling (came_took tri he small c g.sound None q)
 
     pub handing_full : length old ≤ n → (b : Bool) → b ≡ is_end (step_of tri he c) → Fills whole old new n b
     handing_full l b q = rw q (go (step_of tri he c) refl)
       where
-        go : (r : Stepped) → r ≡ step_of tri he c → Fills whole old new n (is_end r)
-        go (Site x d) e = filling_more g.filling x (neighbours_left tri he d) l (came_took tri he small c g.sound (Site x d) e).0
-        go End e = handing_end e
+        go : (r : Option (ℕ × Cursor)) → r ≡ step_of tri he c → Fills whole old new n (is_end r)
+        go (Some p) e = filling_more g.filling p.0 (neighbours_left tri he p.1) l (came_took tri he small c g.sound (Some p) e).0
+        go None e = handing_end e

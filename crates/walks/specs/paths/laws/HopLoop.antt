@@ -1,5 +1,5 @@
 -- The loop that looks for the nearest neighbour: the running minimum over what it has seen, then over what is left, is the hop.
-use Rattle.std.specs.Prelude.{◌≡◌, List, ◌∷◌, Bool, true, false, ℕ, ◌≤◌, ◌<◌, length, get_or, Float}
+use Rattle.std.specs.Prelude.{◌≡◌, List, ◌∷◌, Bool, true, false, ℕ, ◌≤◌, ◌<◌, length, get_or, Float, Some, None}
 use Rattle.std.proofs.Math.Path.{refl, ap}
 use Rattle.std.proofs.Common.{sym, ◌∙◌, arith}
 use Rattle.std.specs.Float.Ieee.{lt}
@@ -8,8 +8,6 @@ use Rattle.base.specs.numbers.Numbers.{EMPTY}
 use Rattle.mesh.specs.Mesh.{whole_of}
 use Rattle.plane.specs.declared.points.Point.{Point}
 use Rattle.walks.specs.declared.neighbours.Cursor.{Cursor}
-use Rattle.walks.specs.declared.neighbours.Stepped.{Stepped}
-use Rattle.walks.specs.declared.neighbours.Stepped.TheVariants.{Site, End}
 use Rattle.walks.specs.neighbours.Neighbours.{starts_of, neighbours_of}
 use Rattle.mesh.specs.laws.Occurs.{occ_below}
 use Rattle.walks.specs.neighbours.laws.Rest.{settled_start}
@@ -42,9 +40,9 @@ module _ (sites : List Float) (tri he table : List ℕ) (p : Point) (n : ℕ) (m
       }
 
   module _ {goal : ℕ} {c : Cursor} {b : Best} (g : Nearing sites tri he p n goal c b) where
-    module _ (x : ℕ) (d : Cursor) (q : Stepped.Site x d ≡ step_of tri he c) where
+    module _ (x : ℕ) (d : Cursor) (q : Some (x, d) ≡ step_of tri he c) where
       takes : neighbours_left tri he c ≡ x ∷ neighbours_left tri he d
-      takes = (came_took tri he small c g.sound (Site x d) q).0
+      takes = (came_took tri he small c g.sound (Some (x, d)) q).0
 
       pub nearing_less : length (neighbours_left tri he d) < length (neighbours_left tri he c)
       nearing_less = omega (arith, ap length takes)
@@ -61,10 +59,10 @@ module _ (sites : List Float) (tri he table : List ℕ) (p : Point) (n : ℕ) (m
 
           go : (t : Bool) → lt (dist_of sites p x) (dist_of sites p b.site) ≡ t → Nearing sites tri he p n goal d (pick (lt y b.dist) (λ _. record { site = x; dist = y }) (λ _. b))
           go true h =
-              rw (e, g.dist, h) (record { sound = (came_took tri he small c g.sound (Site x d) q).1; dist = refl; below = nearing_below; same = rw h at was })
+              rw (e, g.dist, h) (record { sound = (came_took tri he small c g.sound (Some (x, d)) q).1; dist = refl; below = nearing_below; same = rw h at was })
           go false h =
-              rw (e, g.dist, h) (record { sound = (came_took tri he small c g.sound (Site x d) q).1; dist = refl; below = g.below; same = rw h at was })
+              rw (e, g.dist, h) (record { sound = (came_took tri he small c g.sound (Some (x, d)) q).1; dist = refl; below = g.below; same = rw h at was })
 
-    pub nearing_end : End ≡ step_of tri he c → (b.site ≡ goal) × (b.site < n)
+    pub nearing_end : None ≡ step_of tri he c → (b.site ≡ goal) × (b.site < n)
     unfolding nearest_of
-    nearing_end q = (ap (λ k. nearest_of sites p k b.site) (sym (came_took tri he small c g.sound End q)) ∙ g.same, g.below)
+    nearing_end q = (ap (λ k. nearest_of sites p k b.site) (sym (came_took tri he small c g.sound None q)) ∙ g.same, g.below)

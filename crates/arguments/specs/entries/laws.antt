@@ -1,2 +1,0 @@
--- Laws that only proofs use.
-pub mod Passed
