@@ -5,6 +5,7 @@
 
 ghost use Rattle.std.specs.Prelude.{◌≡◌, true, ◌/◌, ◌<◌, ◌≤◌, length};
 ghost use Rattle.base.specs.numbers.Numbers.{refused_triangle};
+ghost use Rattle.base.specs.refusal.Number.{answer_number};
 ghost use Rattle.mesh.specs.Mesh.{leftmost_of, Fan};
 ghost use Rattle.mesh.specs.Accepted.{mesh};
 ghost use Rattle.mesh_check.specs.whole.Answers.{work_after};
@@ -12,6 +13,7 @@ ghost use Rattle.admission.specs.Admits.{Early, Outlines};
 ghost use Rattle.admission.specs.Slices.{slices};
 ghost use Rattle.admission.specs.Admission.{Admission, ListAdmission, RoomAnswer, TryableFans, OutlineAdmission, FanAdmission, BuildAdmission};
 
+use base::refusal::Refusal;
 use cell_memory::outputs::{clear_all, rooms_ok};
 
 // Rules 1, 2, what the call asks of its own arguments, and 6; 0 where all hold.
@@ -21,23 +23,21 @@ fn early(
     halfedges: usize,
     hull: usize,
     roomy: bool,
-    asked: u32,
-) -> u32
-    ensures { Early sites.now entries halfedges hull roomy asked result }
+    asked: Result<(), Refusal>,
+) -> Result<(), Refusal>
+    ensures { Early sites.now entries halfedges hull roomy (answer_number asked) (answer_number result) }
 {
     if !mesh_check::counts::counts_ok(sites.len(), entries, halfedges, hull) {
-        return base::numbers::REFUSED_COUNT;
+        return Err(Refusal::Count);
     }
     if !roomy {
-        return base::numbers::REFUSED_ROOM;
+        return Err(Refusal::Room);
     }
-    if asked != 0 {
-        return asked;
-    }
+    asked?;
     if plane::points::first_bad_site(sites) < sites.len() / 2 {
-        return base::numbers::REFUSED_COORDINATE;
+        return Err(Refusal::Coordinate);
     }
-    0
+    Ok(())
 }
 
 // The rules that a call on a mesh tries, up to 10. After 7 to 10 the work slice is `EMPTY`, after 0 it holds the leftmost table and then `EMPTY`.
