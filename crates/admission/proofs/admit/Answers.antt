@@ -1,0 +1,11 @@
+-- An early refusal leaves the work slice alone; else the verdict on the topology is the answer.
+use Rattle.std.proofs.Common.{refl}
+use Rattle.base.specs.refusal.laws.Number.{some_number, handed_on}
+use Rattle.admission.specs.laws.Early.{refused_early, judged_late}
+use Rattle.admission.proofs.admit.Goals as goal
+
+pub returns-in_err-early : goal.returns-in_err-early
+returns-in_err-early c = rw (handed_on c.from_residual.result _ c.from_residual.ensures.1) (refused_early _ _ _ c.in_err-early.ensures _ c.requires.1 (some_number _))
+
+pub returns : goal.returns
+returns c = judged_late _ _ _ c.in_ok-early.ensures refl c.check_topology.ensures c.refusal.ensures
