@@ -1,5 +1,5 @@
 -- From 7 on every slice is cleared.
-use Rattle.std.proofs.Common.{◌≤◌, arith, rules}
+use Rattle.std.proofs.Common.{◌≤◌, rules}
 use Rattle.base.specs.numbers.Numbers.{refused_triangle}
 use Rattle.base.specs.refusal.Number.{answer_number}
 use Rattle.admission.specs.laws.BuildAdmission.{all_cleared}
