@@ -1,13 +1,15 @@
-// The end of a build: its counts, or, where it is refused, the counts and the work slice cleared.
+// The end of a build: its counts, or, where it is refused, the counts and the work slice cleared; and its answer.
 ghost use Rattle.std.specs.Prelude.{◌≡◌, ◌≤◌, ◌<◌, length};
 ghost use Rattle.base.specs.numbers.Numbers.{EMPTY};
+ghost use Rattle.base.specs.refusal.Number.{answer_number};
 ghost use Rattle.cell_memory.specs.layout.Cleared.{padded};
-ghost use Rattle.building.specs.counts.Counts.{counts_of, ReusedFit, EndedBuild};
+ghost use Rattle.building.specs.counts.Counts.{counts_of, ReusedFit, EndedBuild, FaultNumber};
 
 use base::numbers::EMPTY;
+use base::refusal::Refusal;
 use cell_builder::finish::CellsAnswer;
 use cell_memory::layout::fill_from;
-use definition::Reused;
+use definition::{Fault, Reused};
 
 // The number of vertices, the corners' owners, the lost corners and the points taken again, then `EMPTY`.
 fn put_counts(vertices: u32, owners: [u32; 4], lost: u32, reused: Reused, counts: &mut [u32])
@@ -64,4 +66,18 @@ pub fn finish_build(a: CellsAnswer, work: &mut [u32], counts: &mut [u32])
         work,
         counts,
     );
+}
+
+// What the builder met, as the answer of the build.
+pub fn refusal(fault: Fault) -> Result<(), Refusal>
+    requires { FaultNumber fault.number }
+    ensures { answer_number result ≡ fault.number }
+{
+    match fault.number {
+        0 => Ok(()),
+        base::numbers::REFUSED_CIRCUMCENTER => Err(Refusal::Circumcenter),
+        base::numbers::REFUSED_EXTENSION => Err(Refusal::Extension),
+        base::numbers::REFUSED_NO_CROSSING => Err(Refusal::NoCrossing),
+        _ => Err(Refusal::OneCrossing),
+    }
 }

@@ -4,13 +4,15 @@
 
 pub mod counts;
 
+ghost use Rattle.base.specs.refusal.Number.{answer_number};
 ghost use Rattle.mesh.specs.Accepted.{mesh};
 ghost use Rattle.admission.specs.Slices.{slices};
 ghost use Rattle.plane.specs.given.Finite.{Fits};
 ghost use Rattle.building.specs.answers.Promise.{Build};
 
-use crate::counts::finish_build;
+use crate::counts::{finish_build, refusal};
 use admission::{admit_fans, admit_outline};
+use base::refusal::Refusal;
 use cell_builder::build_cells;
 use plane::given::Given;
 
@@ -26,19 +28,16 @@ pub fn build(
     indexes: &mut [u32],
     offsets: &mut [u32],
     counts: &mut [u32],
-) -> u32
+) -> Result<(), Refusal>
     requires { Fits given }
     ensures { Build (mesh sites.now triangles.now halfedges.now hull.now) given
         (slices work.old vertices.old indexes.old offsets.old counts.old)
-        (slices work.new vertices.new indexes.new offsets.new counts.new) result }
+        (slices work.new vertices.new indexes.new offsets.new counts.new) (answer_number result) }
 {
     let asked = arguments::asking::ask_box(given.sound);
-    let r = admit_outline(
+    admit_outline(
         sites, triangles, halfedges, hull, asked, work, vertices, indexes, offsets, counts,
-    );
-    if r != 0 {
-        return r;
-    }
+    )?;
     let count = sites.len() / 2;
     let told = build_cells(
         sites,
@@ -51,14 +50,11 @@ pub fn build(
         indexes,
         offsets,
     );
-    let k = admit_fans(
+    admit_fans(
         told.whole, triangles, halfedges, count, work, vertices, indexes, offsets, counts,
-    );
-    if k != 0 {
-        return k;
-    }
+    )?;
     let a = told.answer;
     let fault = a.fault;
     finish_build(a, work, counts);
-    fault.number
+    refusal(fault)
 }

@@ -28,7 +28,7 @@ use Rattle.admission.specs.Slices.{Slices, slices}
 use Rattle.admission.specs.Admission.{OutlineAdmission, FanAdmission, BuildAdmission}
 use Rattle.admission.specs.laws.Outlined.{mesh_outlined, asked_fit, rooms_of, nine_of, table_is, long_of, same_vertices, same_indexes, same_offsets, same_counts}
 use Rattle.admission.specs.laws.Fans.{outline_refused, fans_whole, fans_refused, fans_kept}
-use Rattle.building.specs.counts.Counts.{counts_of, ReusedFit, EndedBuild}
+use Rattle.building.specs.counts.Counts.{counts_of, ReusedFit, EndedBuild, FaultNumber}
 use Rattle.building.specs.answers.Promise.{BuildAnswers, Build}
 use Rattle.build_laws.specs.Late.{Refuses, Numbered}
 use Rattle.build_laws.specs.LateRefusals.{build_late}
@@ -42,6 +42,13 @@ module _ (o : Outcome Fault Built) (x : CellsAnswer) (q : x ≡ outcome_answer o
       go : (o : Outcome Fault Built) → (outcome_answer o).fault ≡ fault_of o
       go (ok b) = refl
       go (refused e) = refl
+
+  answer_numbered : Refuses Numbered o → FaultNumber x.fault.number
+  answer_numbered late = rw q (go o late)
+    where
+      go : (o : Outcome Fault Built) → Refuses Numbered o → FaultNumber (outcome_answer o).fault.number
+      go (ok b) l n = absurd (n refl)
+      go (refused e) l n = (l.least, l.most)
 
   answer_counts : Refuses Numbered o → (fault_of o).number ≡ 0 → counts_of x.count x.owners x.lost x.reused ≡ of_built counts_made o
   unfolding of_built
@@ -90,6 +97,9 @@ module _ {m : Mesh} {asked : ℕ} {old new : Slices} {r : ℕ} (a : BuildAdmissi
   module _ (x : CellsAnswer) (q : x ≡ outcome_answer (build m g.bounds)) where
     pub boxed_fault : x.fault ≡ fault_of (build m g.bounds)
     boxed_fault = answer_fault (build m g.bounds) x q
+
+    pub boxed_numbered : FaultNumber x.fault.number
+    boxed_numbered = answer_numbered (build m g.bounds) x q (build_late m g.bounds)
 
     pub boxed_count : x.count < 4294967296
     boxed_count =
@@ -148,6 +158,9 @@ module _ {m : Mesh} {asked : ℕ} {old mid : Slices} {r : ℕ} (a : OutlineAdmis
 
           pub count_fits : x.answer.count < 4294967296
           count_fits = boxed_count (fans_whole a z f y) g fits fit y x.answer told.0
+
+          pub fault_fits : FaultNumber x.answer.fault.number
+          fault_fits = boxed_numbered (fans_whole a z f y) g fits fit y x.answer told.0
 
           pub reused_fit : ReusedFit x.answer.reused
           reused_fit = boxed_reused (fans_whole a z f y) g fits fit y x.answer told.0
