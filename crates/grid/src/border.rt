@@ -80,14 +80,12 @@ fn check_corners(grid: &[i32], hull: &[u32]) -> usize
     requires { HullSites grid.now hull.now }
     ensures { First (CornerAt grid.now hull.now) (length hull.now) result }
 {
-    let mut i = 0;
-    while i < hull.len() {
+    for i in 0..hull.len() {
         if !corner_at(grid, hull, i) {
             return i;
         }
-        i += 1;
     }
-    i
+    hull.len()
 }
 
 // How many places begin a run, after one more.
@@ -107,15 +105,13 @@ fn check_starts(grid: &[i32], hull: &[u32]) -> usize
     ensures { First (LoneAt grid.now hull.now) (length hull.now) result }
 {
     let mut starts = 0;
-    let mut i = 0;
-    while i < hull.len() {
+    for i in 0..hull.len() {
         starts = counted(starts, start_at(grid, hull, i));
         if 1 < starts {
             return i;
         }
-        i += 1;
     }
-    i
+    hull.len()
 }
 
 // All corners are judged before the places where a run begins.

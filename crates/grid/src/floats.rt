@@ -35,10 +35,8 @@ fn fill(grid: &[i32], sites: &mut [f64])
     requires { length grid.now ≤ length sites.old }
     ensures { sites.new ≡ sites_made grid.now (length sites.old) }
 {
-    let mut i = 0;
-    while i < sites.len() {
-        sites[i] = float_at(grid, i);
-        i += 1;
+    for (i, site) in sites.iter_mut().enumerate() {
+        *site = float_at(grid, i);
     }
 }
 

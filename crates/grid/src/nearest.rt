@@ -104,14 +104,12 @@ fn first_empty(table: &[u32], count: usize) -> usize
     requires { count ≤ length table.now }
     ensures { First (λ s. get_or table.now s 0 ≢ EMPTY) count result }
 {
-    let mut s = 0;
-    while s < count {
+    for s in 0..count {
         if table[s] == EMPTY {
             return s;
         }
-        s += 1;
     }
-    s
+    count
 }
 
 // After the number 0 the lowest site in no triangle, by the leftmost table; `EMPTY` where there is none, and after a refusal.

@@ -39,14 +39,12 @@ fn check_turns(grid: &[i32], triangles: &[u32]) -> usize
     ensures { First (TurnAt grid.now triangles.now) (length triangles.now / 3) result }
 {
     let count = triangles.len() / 3;
-    let mut t = 0;
-    while t < count {
+    for t in 0..count {
         if !turn_at(grid, triangles, t) {
             return t;
         }
-        t += 1;
     }
-    t
+    count
 }
 
 // The third site of the triangle of half-edge e.
@@ -82,26 +80,17 @@ fn circle_at(grid: &[i32], triangles: &[u32], halfedges: &[u32], e: usize) -> bo
     !far_inside(grid, triangles, e, wide(p))
 }
 
-// The lowest half-edge whose far site is strictly inside the circle, or their number: over the triangles and their three sides, left at the first offender.
+// The lowest half-edge whose far site is strictly inside the circle, or their number.
 fn check_circles(grid: &[i32], triangles: &[u32], halfedges: &[u32]) -> usize
     requires { Scannable grid.now triangles.now halfedges.now }
     ensures { First (CircleAt grid.now triangles.now halfedges.now) (length triangles.now) result }
 {
-    let count = triangles.len() / 3;
-    let mut found = triangles.len();
-    let mut t = 0;
-    'triangles: while t < count {
-        let mut side = 0;
-        while side < 3 {
-            if !circle_at(grid, triangles, halfedges, 3 * t + side) {
-                found = 3 * t + side;
-                break 'triangles;
-            }
-            side += 1;
+    for e in 0..triangles.len() {
+        if !circle_at(grid, triangles, halfedges, e) {
+            return e;
         }
-        t += 1;
     }
-    found
+    triangles.len()
 }
 
 // All turns are judged before the first circle.
