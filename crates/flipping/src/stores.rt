@@ -62,13 +62,11 @@ fn round(halfedges: &[u32], lost: u32, kept: u32) -> u32
 {
     let mut e = kept;
     let mut low = kept;
-    let mut n = 0;
-    while n < halfedges.len() {
+    for _ in 0..halfedges.len() {
         let at = wide(e);
         if halfedges.len() <= at {
             return low;
         }
-        n += 1;
         low = less(e, low);
         e = mesh::turn(halfedges, lost, at);
     }

@@ -1,5 +1,5 @@
 -- The loop stops at the second place that begins a run.
-use Rattle.std.proofs.Common.{arith, below_more, below_none}
+use Rattle.std.proofs.Common.{arith, below_more}
 use Rattle.grid.specs.border.laws.Hulls.{begun_next, lone, second}
 use Rattle.grid.proofs.border.check_starts.Goals as goal
 
