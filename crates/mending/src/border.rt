@@ -2,12 +2,14 @@
 ghost use Rattle.std.specs.Prelude.{◌≡◌, ◌≢◌, ℕ, ◌≤◌, ◌<◌, length, get_or, MatchOption, EachIndex};
 ghost use Rattle.std.proofs.lemmas.List.Edits.{sets};
 ghost use Rattle.base.specs.numbers.Numbers.{EMPTY};
+ghost use Rattle.base.specs.refusal.Number.{answer_number};
 ghost use Rattle.mesh.specs.Mesh.{AllSound, AllPaired};
 ghost use Rattle.mending.specs.pairs.Chains.{NamesSites};
 ghost use Rattle.mending.specs.border.Loop.{lead_at, leads_to, lowest_to, loop_begin, loop_step, loop_of, hull_of};
-ghost use Rattle.mending.specs.border.Answer.{OnTable, Closed, TracedHull};
+ghost use Rattle.mending.specs.border.Answer.{OnTable, Closed, hull_count, TracedHull};
 
 use base::numbers::{EMPTY, wide};
+use base::refusal::Refusal;
 use mesh::end_site;
 
 // An unpaired half-edge leads on from the site where it starts to the one where it ends.
@@ -113,14 +115,7 @@ fn trace_hull(
     trace(work, begin, mended)
 }
 
-// A number, and how many sites the hull has.
-#[derive(Clone, Copy)]
-pub struct Traced {
-    pub number: u32,
-    pub count: usize,
-}
-
-// The hull, with rules 9 and 10. After 0 the work slice has the leftmost table, then `EMPTY`.
+// The hull, with rules 9 and 10, and how many sites it has. Not refused, the work slice has the leftmost table, then `EMPTY`.
 pub fn mend_hull(
     triangles: &[u32],
     pairs: &[u32],
@@ -128,22 +123,16 @@ pub fn mend_hull(
     sites: usize,
     work: &mut [u32],
     mended: &mut [u32],
-) -> Traced
+) -> Result<usize, Refusal>
     requires { NamesSites triangles.now sites × (length pairs.now ≡ length triangles.now) × (sites < EMPTY) × (sites ≤ length work.old)
         × (sites ≤ length mended.old) × AllSound triangles.now sites × AllPaired triangles.now pairs.now }
     ensures { TracedHull triangles.now pairs.now first sites work.old work.new mended.old mended.new
-        result.number result.count }
+        (answer_number result) (hull_count result) }
 {
     let count = trace_hull(triangles, pairs, first, &mut work[..sites], mended);
     if count < 3 {
-        return Traced {
-            number: base::numbers::REFUSED_HULL,
-            count: count,
-        };
+        return Err(Refusal::Hull);
     }
-    let fault = mesh_check::whole::check_border(triangles, pairs, &mended[..count], sites, work);
-    Traced {
-        number: mesh_check::counts::number(fault),
-        count: count,
-    }
+    mesh_check::whole::check_border(triangles, pairs, &mended[..count], sites, work)?;
+    Ok(count)
 }

@@ -1,12 +1,11 @@
 -- Where triangles and pairs have a hull at all, the loop is one: so rule 9 on the loop decides.
-use Rattle.std.specs.Prelude.{◌≡◌, refl, List, ◌++◌, ◌≢◌, ℕ, ◌≤◌, ◌<◌, length, get_or, take}
+use Rattle.std.specs.Prelude.{◌≡◌, refl, List, ◌++◌, ◌≢◌, ℕ, ◌≤◌, ◌<◌, length, get_or, take, ⊤, Result, Ok}
 use Rattle.std.proofs.Common.{sym, ap, ◌∙◌, ⊎_elim, arith, rules}
 use Rattle.std.proofs.lemmas.List.Edits.{sets}
 use Rattle.base.specs.common.Refusals.{Keep, Finds}
 use Rattle.base.specs.common.laws.Refusals.{breaks, keeps, finds_one, finds_none, finds_answers, finds_split, finds_reads}
 use Rattle.base.specs.numbers.Numbers.{EMPTY, refused_hull}
 use Rattle.mesh.specs.declared.MeshFault.{MeshFault}
-use Rattle.mesh.specs.declared.MeshFault.TheVariants.{None}
 use Rattle.mesh.specs.Hull.{next_place, Hull}
 use Rattle.mesh.specs.Faults.{number_of, hull_rules, fan_rules}
 use Rattle.mesh.specs.laws.Border.{after_lt, places_hull, hull_places, hull_border}
@@ -45,10 +44,10 @@ module _ (tri he : List ℕ) (first sites : ℕ) (named : NamesSites tri sites) 
   pub decide_short : length (hull_of tri he first sites) < 3 → Finds (border_rules tri he sites) 0 refused_hull
   decide_short l = breaks (λ has. omega (arith, (hull_traced has).three))
 
-  module _ (three : 3 ≤ length (hull_of tri he first sites)) (f : MeshFault)
-      (x : Finds (hull_rules tri he (hull_of tri he first sites) sites ++ fan_rules tri he sites) None f) where
-    nine : Finds (hull_rules tri he (hull_of tri he first sites) sites) None f → f ≢ None → number_of f ≡ refused_hull
-    nine = finds_answers (λ f. f ≢ None → number_of f ≡ refused_hull) (λ n. absurd (n refl)) (search rules)
+  module _ (three : 3 ≤ length (hull_of tri he first sites)) (f : Result ⊤ MeshFault)
+      (x : Finds (hull_rules tri he (hull_of tri he first sites) sites ++ fan_rules tri he sites) (Ok tt) f) where
+    nine : Finds (hull_rules tri he (hull_of tri he first sites) sites) (Ok tt) f → f ≢ Ok tt → number_of f ≡ refused_hull
+    nine = finds_answers (λ f. f ≢ Ok tt → number_of f ≡ refused_hull) (λ n. absurd (n refl)) (search rules)
 
     pub decide_checked : Finds (border_rules tri he sites) 0 (number_of f)
     decide_checked =
@@ -67,12 +66,12 @@ module _ (tri he : List ℕ) (first sites : ℕ) (named : NamesSites tri sites) 
     pub hull_room : sites ≤ length m → k ≤ length m
     hull_room l = omega (arith, few_on)
 
-    pub traced_short : k < 3 → TracedHull tri he first sites w w' m m' refused_hull k
+    pub traced_short : k < 3 → TracedHull tri he first sites w w' m m' refused_hull 0
     traced_short l =
         let q : k ≡ length (hull_of tri he first sites) = rw z at count in
-        record { found = decide_short (rw (← q) l); count = q; mended = rw z at mended; table = λ y. absurd (omega arith) }
+        record { found = decide_short (rw (← q) l); count = λ y. absurd (omega arith); mended = rw z at mended; table = λ y. absurd (omega arith) }
 
-    pub traced_checked : 3 ≤ k → sites ≤ length m → (w₁ : List ℕ) → length w₁ ≡ length w → (f : MeshFault) → BorderAnswer tri he (take k m') sites w₁ w' f
+    pub traced_checked : 3 ≤ k → sites ≤ length m → (w₁ : List ℕ) → length w₁ ≡ length w → (f : Result ⊤ MeshFault) → BorderAnswer tri he (take k m') sites w₁ w' f
         → (r : ℕ) → r ≡ number_of f → TracedHull tri he first sites w w' m m' r k
     traced_checked l room w₁ long f a r p =
         let q : k ≡ length (hull_of tri he first sites) = rw z at count in
@@ -81,7 +80,11 @@ module _ (tri he : List ℕ) (first sites : ℕ) (named : NamesSites tri sites) 
         ap (take k) v ∙ ap (λ j. take j (sets m 0 (hull_of tri he first sites))) q ∙ sets_there (hull_of tri he first sites) m 0 (omega (arith, few_on)) in
         record {
           found = rw p (decide_checked (rw (← q) l) f (rw e at a.found));
-          count = q;
+          count = λ _. q;
           mended = v;
           table = λ y. rw (← long) (a.table (sym p ∙ y));
         }
+
+-- where it is refused no count is told
+pub uncounted : {tri he : List ℕ} {first sites : ℕ} {w w' m m' : List ℕ} {r k : ℕ} → TracedHull tri he first sites w w' m m' r k → r ≢ 0 → TracedHull tri he first sites w w' m m' r 0
+uncounted x n = record { found = x.found; count = λ z. absurd (n z); mended = x.mended; table = x.table }
