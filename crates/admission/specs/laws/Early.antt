@@ -1,5 +1,5 @@
 -- How the tests before rule 7 lead to their number, and how what rules 7 to 10, or 7 to 9, find follows them.
-use Rattle.std.specs.Prelude.{◌≡◌, Bool, List, ◌≢◌, ℕ, ◌<◌, Float, length}
+use Rattle.std.specs.Prelude.{◌≡◌, Bool, List, ◌≢◌, ℕ, ◌<◌, Float, length, ⊤, Result}
 use Rattle.std.proofs.Common.{sym, ap, ◌∙◌, arith, rules}
 use Rattle.base.specs.common.Refusals.{reads, Keep}
 use Rattle.base.specs.common.laws.Refusals.{finds_keep, finds_answers, finds_first, finds_after, finds_reads}
@@ -29,7 +29,7 @@ module _ (m : Mesh) (roomy : Bool) (asked : ℕ) {r : ℕ} (e : Early m.sites (l
       }
 
   -- else rules 7 to 10 answer
-  pub judged_late : r ≡ 0 → {s : ℕ} {f : MeshFault} {old new : List ℕ} → TopologyAnswer m.triangles m.halfedges m.hull (site_count m.sites) old new f
+  pub judged_late : r ≡ 0 → {s : ℕ} {f : Result ⊤ MeshFault} {old new : List ℕ} → TopologyAnswer m.triangles m.halfedges m.hull (site_count m.sites) old new f
       → s ≡ number_of f → Admission m roomy asked old new s
   judged_late z {old = old} a q = record {
     number = rw q (record {
@@ -43,7 +43,7 @@ module _ (m : Mesh) (roomy : Bool) (asked : ℕ) {r : ℕ} (e : Early m.sites (l
   pub outline_early : {old : List ℕ} → asked < refused_triangle → r ≢ 0 → Outlines m roomy asked r × (old ≡ work_after m old r)
   outline_early {old} l n = (record { found = finds_first (late_outline m) n e.found }, (refused_early old l n).work)
 
-  pub outline_late : r ≡ 0 → {s : ℕ} {f : MeshFault} {old new : List ℕ} → OutlineAnswer m.triangles m.halfedges m.hull (site_count m.sites) old new f
+  pub outline_late : r ≡ 0 → {s : ℕ} {f : Result ⊤ MeshFault} {old new : List ℕ} → OutlineAnswer m.triangles m.halfedges m.hull (site_count m.sites) old new f
       → s ≡ number_of f → Outlines m roomy asked s × (new ≡ work_after m old s)
   outline_late z {old = old} a q = (
     rw q (record {
