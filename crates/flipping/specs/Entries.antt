@@ -4,7 +4,6 @@ use Rattle.std.specs.Prelude.{List, [], ◌∷◌, ℕ, eqb, ltb, length, get_or
 use Rattle.base.specs.common.Pick.{pick}
 use Rattle.base.specs.numbers.Numbers.{EMPTY}
 use Rattle.mesh.specs.Mesh.{start_of, pair_of, walk_of}
-use Rattle.flipping.specs.declared.Four.{Four}
 
 -- the lesser of two
 unfoldable pub lesser : ℕ → ℕ → ℕ
@@ -27,18 +26,17 @@ least_round he lost kept = least_of kept (walk_of he lost (length he) kept)
 unfoldable pub loss_of : List ℕ → ℕ → ℕ → ℕ → ℕ
 loss_of he t lost kept = pick (eqb t lost) (λ _. pick (eqb (pair_of he lost) EMPTY) (λ _. kept) (λ _. least_round he lost kept)) (λ _. t)
 
--- the four sites, and their entries
+-- four sites, or their entries: of the two that lose a half-edge, where a and b start, then of the two that gain one, where r and l start
+abbrev pub Four : Type 0
+Four = ℕ × ℕ × ℕ × ℕ
+
 abbrev pub flip_corners : List ℕ → ℕ → ℕ → ℕ → ℕ → Four
-flip_corners tri a b r l = record { first = start_of tri a; second = start_of tri b; third = start_of tri r; fourth = start_of tri l }
+flip_corners tri a b r l = (start_of tri a, start_of tri b, start_of tri r, start_of tri l)
 
 abbrev pub entries_of : List ℕ → List ℕ → Four → ℕ → ℕ → ℕ → ℕ → Four
-entries_of he table s a b r l = record {
-  first = loss_of he (get_or table s.first 0) r b;
-  second = loss_of he (get_or table s.second 0) l a;
-  third = gain_of he (get_or table s.third 0) l;
-  fourth = gain_of he (get_or table s.fourth 0) r;
-}
+entries_of he table s a b r l =
+    (loss_of he (get_or table s.0 0) r b, loss_of he (get_or table s.1 0) l a, gain_of he (get_or table s.2 0) l, gain_of he (get_or table s.3 0) r)
 
 -- a list with four entries stored
 abbrev pub stored_four : List ℕ → Four → Four → List ℕ
-stored_four l s v = set (set (set (set l s.first v.first) s.second v.second) s.third v.third) s.fourth v.fourth
+stored_four l s v = set (set (set (set l s.0 v.0) s.1 v.1) s.2 v.2) s.3 v.3

@@ -36,14 +36,7 @@ fn joined(triangles: &[u32], x: u32, y: u32) -> bool
     requires { length triangles.now % 3 ≡ 0 }
     ensures { Says result (SitesJoined triangles.now x y) }
 {
-    let mut e = 0;
-    while e < triangles.len() {
-        if joins(triangles, e, x, y) {
-            return true;
-        }
-        e += 1;
-    }
-    false
+    (0..triangles.len()).any(|e| joins(triangles, e, x, y))
 }
 
 // Whether two lists begin with the same n entries.
@@ -51,14 +44,7 @@ fn same_first(table: &[u32], work: &[u32], n: usize) -> bool
     requires { (n ≤ length table.now) × (n ≤ length work.now) }
     ensures { Says result (take n table.now ≡ take n work.now) }
 {
-    let mut i = 0;
-    while i < n {
-        if table[i] != work[i] {
-            return false;
-        }
-        i += 1;
-    }
-    true
+    table[..n] == work[..n]
 }
 
 // The site opposite half-edge e.

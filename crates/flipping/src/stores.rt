@@ -6,8 +6,12 @@ ghost use Rattle.flipping.specs.Flip.{before_of, turned_sites, naming, relinked}
 ghost use Rattle.flipping.specs.Entries.{lesser, least_round, gain_of, loss_of, flip_corners, entries_of, stored_four};
 ghost use Rattle.flipping.specs.stores.Ready.{InFour, Linked, Tabled, FlipReady, Retabled, FlipChanged};
 
-use crate::{Four, before};
+use crate::before;
 use base::numbers::{EMPTY, wide};
+
+// Four sites, or the table's entries of four sites: of the two that lose a half-edge, where a and b start, then of the two that gain one, where r and
+// l start.
+type Four = (u32, u32, u32, u32);
 
 // The half-edge p, where there is one, names e.
 fn name_back(halfedges: &mut [u32], p: u32, e: u32)
@@ -62,13 +66,11 @@ fn round(halfedges: &[u32], lost: u32, kept: u32) -> u32
 {
     let mut e = kept;
     let mut low = kept;
-    let mut n = 0;
-    while n < halfedges.len() {
+    for _ in 0..halfedges.len() {
         let at = wide(e);
         if halfedges.len() <= at {
             return low;
         }
-        n += 1;
         low = less(e, low);
         e = mesh::turn(halfedges, lost, at);
     }
@@ -105,12 +107,7 @@ fn corners(triangles: &[u32], a: usize, b: usize, r: usize, l: usize) -> Four
     requires { (a < length triangles.now) × (b < length triangles.now) × (r < length triangles.now) × (l < length triangles.now) }
     ensures { result ≡ flip_corners triangles.now a b r l }
 {
-    Four {
-        first: triangles[a],
-        second: triangles[b],
-        third: triangles[r],
-        fourth: triangles[l],
-    }
+    (triangles[a], triangles[b], triangles[r], triangles[l])
 }
 
 // Their entries after the flip, by the table of before it.
@@ -118,20 +115,13 @@ fn entries(halfedges: &[u32], work: &[u32], s: Four, a: u32, b: u32, r: u32, l: 
     requires { Tabled halfedges.now work.now s r l }
     ensures { result ≡ entries_of halfedges.now work.now s a b r l }
 {
-    let p = wide(s.first);
-    let q = wide(s.second);
-    let x = wide(s.third);
-    let y = wide(s.fourth);
-    let first = after_loss(halfedges, work[p], r, b);
-    let second = after_loss(halfedges, work[q], l, a);
-    let third = after_gain(halfedges, work[x], l);
-    let fourth = after_gain(halfedges, work[y], r);
-    Four {
-        first: first,
-        second: second,
-        third: third,
-        fourth: fourth,
-    }
+    let (p, q, x, y) = s;
+    (
+        after_loss(halfedges, work[wide(p)], r, b),
+        after_loss(halfedges, work[wide(q)], l, a),
+        after_gain(halfedges, work[wide(x)], l),
+        after_gain(halfedges, work[wide(y)], r),
+    )
 }
 
 // Four entries stored in a list.
@@ -139,14 +129,10 @@ fn put(list: &mut [u32], s: Four, v: Four)
     requires { InFour s (length list.old) }
     ensures { list.new ≡ stored_four list.old s v }
 {
-    let p = wide(s.first);
-    let q = wide(s.second);
-    let x = wide(s.third);
-    let y = wide(s.fourth);
-    list[p] = v.first;
-    list[q] = v.second;
-    list[x] = v.third;
-    list[y] = v.fourth;
+    list[wide(s.0)] = v.0;
+    list[wide(s.1)] = v.1;
+    list[wide(s.2)] = v.2;
+    list[wide(s.3)] = v.3;
 }
 
 // The table's entries brought up to date, in the table and in the work slice, by the mesh as it was.

@@ -1,22 +1,20 @@
 // The hull of a mesh on the grid judged by its short form: no corner turns right inside a run of edges that go up or of edges that go down, and there is
 // one place where an edge goes up after one that goes down. One pass for each, with integers alone.
-ghost use Rattle.std.specs.Prelude.{◌≡◌, ◌+◌, ◌≤◌, ◌<◌, length};
+ghost use Rattle.std.specs.Prelude.{◌≡◌, ◌+◌, ◌≤◌, ◌<◌, length, Ok};
 ghost use Rattle.base.specs.common.Decide.{First, Says};
 ghost use Rattle.base.specs.common.Pick.{pick};
 ghost use Rattle.base.specs.common.Refusals.{Finds};
 ghost use Rattle.grid.specs.Plane.{goes_up, turns_right};
-ghost use Rattle.grid.specs.declared.border.HullVerdict.TheVariants.{Convex};
 ghost use Rattle.grid.specs.border.ShortForm.{prior_place, hull_point, CornerAt, StartAt, LoneAt, short_rules};
 ghost use Rattle.grid.specs.border.laws.Hulls.{HullSites};
 
 use base::numbers::wide;
 use mesh::next_place;
 
-// The short form holds; or the hull place where it fails.
-#[derive(Clone, Copy)]
-pub enum HullVerdict {
-    Convex,
-    Place(u32),
+// The hull place where the short form fails.
+#[derive(Clone, Copy, Debug, PartialEq, Eq)]
+pub struct HullFault {
+    pub place: u32,
 }
 
 // The place before place i of a hull of h places, cyclically.
@@ -80,14 +78,12 @@ fn check_corners(grid: &[i32], hull: &[u32]) -> usize
     requires { HullSites grid.now hull.now }
     ensures { First (CornerAt grid.now hull.now) (length hull.now) result }
 {
-    let mut i = 0;
-    while i < hull.len() {
+    for i in 0..hull.len() {
         if !corner_at(grid, hull, i) {
             return i;
         }
-        i += 1;
     }
-    i
+    hull.len()
 }
 
 // How many places begin a run, after one more.
@@ -107,29 +103,31 @@ fn check_starts(grid: &[i32], hull: &[u32]) -> usize
     ensures { First (LoneAt grid.now hull.now) (length hull.now) result }
 {
     let mut starts = 0;
-    let mut i = 0;
-    while i < hull.len() {
+    for i in 0..hull.len() {
         starts = counted(starts, start_at(grid, hull, i));
         if 1 < starts {
             return i;
         }
-        i += 1;
     }
-    i
+    hull.len()
 }
 
 // All corners are judged before the places where a run begins.
-pub fn judge(grid: &[i32], hull: &[u32]) -> HullVerdict
+pub fn judge(grid: &[i32], hull: &[u32]) -> Result<(), HullFault>
     requires { HullSites grid.now hull.now }
-    ensures { Finds (short_rules grid.now hull.now) Convex result }
+    ensures { Finds (short_rules grid.now hull.now) (Ok tt) result }
 {
     let right = check_corners(grid, hull);
     if right < hull.len() {
-        return HullVerdict::Place(right as u32);
+        return Err(HullFault {
+            place: right as u32,
+        });
     }
     let second = check_starts(grid, hull);
     if second < hull.len() {
-        return HullVerdict::Place(second as u32);
+        return Err(HullFault {
+            place: second as u32,
+        });
     }
-    HullVerdict::Convex
+    Ok(())
 }

@@ -2,7 +2,8 @@
 ghost use Rattle.grid.specs.check.Promise.{grid_mesh, GridChecks};
 ghost use Rattle.grid.specs.check.laws.Outcome.{GridSettled};
 
-use crate::scan::GridAnswer;
+use crate::scan::GridFault;
+use base::refusal::Refusal;
 use mesh_check::counts::counts_ok;
 use mesh_check::whole::check_topology;
 
@@ -13,29 +14,24 @@ pub fn check_grid(
     halfedges: &[u32],
     hull: &[u32],
     work: &mut [u32],
-) -> GridAnswer
+) -> Result<(), GridFault>
     ensures { GridSettled (grid_mesh grid.now triangles.now halfedges.now hull.now) work.old work.new result }
 {
     if !counts_ok(grid.len(), triangles.len(), halfedges.len(), hull.len()) {
-        return GridAnswer::Refused(base::numbers::REFUSED_COUNT);
+        return Err(GridFault::Refused(Refusal::Count));
     }
     let count = grid.len() / 2;
     if work.len() < count {
-        return GridAnswer::Refused(base::numbers::REFUSED_ROOM);
+        return Err(GridFault::Refused(Refusal::Room));
     }
     if crate::first_beyond(grid) < count {
-        return GridAnswer::Refused(base::numbers::REFUSED_GRID);
+        return Err(GridFault::Refused(Refusal::Grid));
     }
-    let number = mesh_check::counts::number(check_topology(
-        triangles, halfedges, hull, count, work,
-    ));
-    if number != 0 {
-        return GridAnswer::Refused(number);
-    }
+    check_topology(triangles, halfedges, hull, count, work)?;
     crate::scan::judge(grid, triangles, halfedges)
 }
 
-// The same with the answer's kind and place lent.
+// The same with the answer's kind and place lent, as the C interface has it.
 pub fn check_grid_lent(
     grid: &[i32],
     triangles: &[u32],

@@ -2,7 +2,10 @@
 ghost use Rattle.std.specs.Prelude.{◌≡◌, ◌≤◌, length, get_or};
 ghost use Rattle.base.specs.common.Binary64.{zero};
 ghost use Rattle.base.specs.common.Decide.{Says};
+ghost use Rattle.base.specs.refusal.Number.{answer_number};
 ghost use Rattle.grid.specs.floats.Sites.{floats_of, sites_made, SitesCounted, GridSites};
+
+use base::refusal::Refusal;
 
 // Rule 1 of the sites alone, by the number of coordinates.
 fn sites_counted(coordinates: usize) -> bool
@@ -35,26 +38,24 @@ fn fill(grid: &[i32], sites: &mut [f64])
     requires { length grid.now ≤ length sites.old }
     ensures { sites.new ≡ sites_made grid.now (length sites.old) }
 {
-    let mut i = 0;
-    while i < sites.len() {
-        sites[i] = float_at(grid, i);
-        i += 1;
+    for (i, site) in sites.iter_mut().enumerate() {
+        *site = float_at(grid, i);
     }
 }
 
 // The whole call: 1, 2 and 22 leave the slice as it was.
-pub fn grid_sites(grid: &[i32], sites: &mut [f64]) -> u32
-    ensures { GridSites grid.now sites.old sites.new result }
+pub fn grid_sites(grid: &[i32], sites: &mut [f64]) -> Result<(), Refusal>
+    ensures { GridSites grid.now sites.old sites.new (answer_number result) }
 {
     if !sites_counted(grid.len()) {
-        return base::numbers::REFUSED_COUNT;
+        return Err(Refusal::Count);
     }
     if sites.len() < grid.len() {
-        return base::numbers::REFUSED_ROOM;
+        return Err(Refusal::Room);
     }
     if crate::first_beyond(grid) < grid.len() / 2 {
-        return base::numbers::REFUSED_GRID;
+        return Err(Refusal::Grid);
     }
     fill(grid, sites);
-    0
+    Ok(())
 }

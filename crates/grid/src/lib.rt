@@ -63,14 +63,12 @@ pub fn first_beyond(grid: &[i32]) -> usize
     ensures { First (WithinAt grid.now) (length grid.now / 2) result }
 {
     let count = grid.len() / 2;
-    let mut i = 0;
-    while i < count {
+    for i in 0..count {
         if !site_within(grid, i) {
             return i;
         }
-        i += 1;
     }
-    i
+    count
 }
 
 // A coordinate moved up.

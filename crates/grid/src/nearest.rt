@@ -4,81 +4,67 @@ ghost use Rattle.std.specs.Prelude.{◌≡◌, ◌≢◌, ◌≤◌, length, get
 ghost use Rattle.base.specs.common.Decide.{First};
 ghost use Rattle.base.specs.numbers.Numbers.{EMPTY};
 ghost use Rattle.grid.specs.check.Promise.{grid_mesh};
-ghost use Rattle.grid.specs.nearest.Judged.{of_grid, of_hull, nearest_number, nearest_kind, nearest_place};
+ghost use Rattle.grid.specs.declared.nearest.NearestFault.TheVariants.{Grid, Hull};
+ghost use Rattle.grid.specs.nearest.Judged.{nearest_number, nearest_kind, nearest_place};
 ghost use Rattle.grid.specs.nearest.Promise.{NearestChecks};
 ghost use Rattle.grid.specs.nearest.laws.Outcome.{NearestSettled, UnusedIn};
 
-use crate::border::HullVerdict;
+use crate::border::HullFault;
 use crate::check::check_grid;
-use crate::scan::GridAnswer;
+use crate::scan;
+use crate::scan::GridFault;
 use base::numbers::EMPTY;
 
-// Everything holds; or what the check on the grid names; or, where that holds, the hull place where the short form fails; or a refusal with its number.
-#[derive(Clone, Copy)]
-pub enum NearestAnswer {
-    Nearest,
-    Triangle(u32),
-    Halfedge(u32),
-    HullPlace(u32),
-    Refused(u32),
+// What does not hold: what the check on the grid names; or, where that holds, the hull place where the short form fails.
+#[derive(Clone, Copy, Debug, PartialEq, Eq)]
+pub enum NearestFault {
+    Grid(GridFault),
+    Hull(HullFault),
 }
 
-// The answer of the check on the grid.
-fn of_grid(a: GridAnswer) -> NearestAnswer
-    ensures { result ≡ of_grid a }
-{
-    match a {
-        GridAnswer::Good => NearestAnswer::Nearest,
-        GridAnswer::Triangle(t) => NearestAnswer::Triangle(t),
-        GridAnswer::Halfedge(e) => NearestAnswer::Halfedge(e),
-        GridAnswer::Refused(n) => NearestAnswer::Refused(n),
+impl From<GridFault> for NearestFault {
+    ghost from_gives = { λ f g. g ≡ Grid f };
+
+    fn from(f: GridFault) -> NearestFault {
+        NearestFault::Grid(f)
     }
 }
 
-// The answer on the hull.
-fn of_hull(a: HullVerdict) -> NearestAnswer
-    ensures { result ≡ of_hull a }
-{
-    match a {
-        HullVerdict::Convex => NearestAnswer::Nearest,
-        HullVerdict::Place(i) => NearestAnswer::HullPlace(i),
+impl From<HullFault> for NearestFault {
+    ghost from_gives = { λ f g. g ≡ Hull f };
+
+    fn from(f: HullFault) -> NearestFault {
+        NearestFault::Hull(f)
     }
 }
 
 // An answer as numbers.
-pub fn number_of(a: NearestAnswer) -> u32
-    ensures { result ≡ nearest_number a }
+pub fn number_of(answer: Result<(), NearestFault>) -> u32
+    ensures { result ≡ nearest_number answer }
 {
-    match a {
-        NearestAnswer::Nearest => 0,
-        NearestAnswer::Triangle(_) => 0,
-        NearestAnswer::Halfedge(_) => 0,
-        NearestAnswer::HullPlace(_) => 0,
-        NearestAnswer::Refused(n) => n,
+    match answer {
+        Err(NearestFault::Grid(fault)) => scan::number_of(Err(fault)),
+        _ => 0,
     }
 }
 
-pub fn kind_of(a: NearestAnswer) -> u32
-    ensures { result ≡ nearest_kind a }
+pub fn kind_of(answer: Result<(), NearestFault>) -> u32
+    ensures { result ≡ nearest_kind answer }
 {
-    match a {
-        NearestAnswer::Nearest => 0,
-        NearestAnswer::Triangle(_) => 1,
-        NearestAnswer::Halfedge(_) => 2,
-        NearestAnswer::HullPlace(_) => 3,
-        NearestAnswer::Refused(_) => EMPTY,
+    match answer {
+        Ok(()) => 0,
+        Err(NearestFault::Grid(fault)) => scan::kind_of(Err(fault)),
+        Err(NearestFault::Hull(_)) => 3,
     }
 }
 
-pub fn place_of(a: NearestAnswer) -> u32
-    ensures { result ≡ nearest_place a }
+pub fn place_of(answer: Result<(), NearestFault>) -> u32
+    ensures { result ≡ nearest_place answer }
 {
-    match a {
-        NearestAnswer::Nearest => EMPTY,
-        NearestAnswer::Triangle(t) => t,
-        NearestAnswer::Halfedge(e) => e,
-        NearestAnswer::HullPlace(i) => i,
-        NearestAnswer::Refused(_) => EMPTY,
+    match answer {
+        Ok(()) => EMPTY,
+        Err(NearestFault::Grid(fault)) => scan::place_of(Err(fault)),
+        Err(NearestFault::Hull(fault)) => fault.place,
     }
 }
 
@@ -89,14 +75,12 @@ pub fn check_nearest(
     halfedges: &[u32],
     hull: &[u32],
     work: &mut [u32],
-) -> NearestAnswer
+) -> Result<(), NearestFault>
     ensures { NearestSettled (grid_mesh grid.now triangles.now halfedges.now hull.now) work.old work.new result }
 {
-    let checked = of_grid(check_grid(grid, triangles, halfedges, hull, work));
-    if kind_of(checked) != 0 {
-        return checked;
-    }
-    of_hull(crate::border::judge(grid, hull))
+    check_grid(grid, triangles, halfedges, hull, work)?;
+    crate::border::judge(grid, hull)?;
+    Ok(())
 }
 
 // The lowest of the first `count` entries that is `EMPTY`, or their number.
@@ -104,14 +88,12 @@ fn first_empty(table: &[u32], count: usize) -> usize
     requires { count ≤ length table.now }
     ensures { First (λ s. get_or table.now s 0 ≢ EMPTY) count result }
 {
-    let mut s = 0;
-    while s < count {
+    for s in 0..count {
         if table[s] == EMPTY {
             return s;
         }
-        s += 1;
     }
-    s
+    count
 }
 
 // After the number 0 the lowest site in no triangle, by the leftmost table; `EMPTY` where there is none, and after a refusal.
@@ -129,7 +111,7 @@ pub fn unused_after(number: u32, table: &[u32], count: usize) -> u32
     EMPTY
 }
 
-// The same with the answer's kind, place and unused site lent.
+// The same with the answer's kind, place and unused site lent, as the C interface has it.
 pub fn check_nearest_lent(
     grid: &[i32],
     triangles: &[u32],

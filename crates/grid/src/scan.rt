@@ -1,25 +1,35 @@
 // A mesh on the grid judged with integers alone: each triangle's turn, then each paired half-edge's circle.
-ghost use Rattle.std.specs.Prelude.{◌≡◌, ◌/◌, ◌%◌, ◌<◌, length};
+ghost use Rattle.std.specs.Prelude.{◌≡◌, ◌/◌, ◌%◌, ◌<◌, length, Ok};
 ghost use Rattle.base.specs.common.Decide.{First, Says};
 ghost use Rattle.base.specs.common.Refusals.{Finds};
 ghost use Rattle.base.specs.numbers.Numbers.{EMPTY};
+ghost use Rattle.mesh.specs.Faults.{refusal_of};
 ghost use Rattle.mesh.specs.Mesh.{start_of, end_of};
 ghost use Rattle.grid.specs.Plane.{place_at, strictly_inside};
-ghost use Rattle.grid.specs.declared.scan.GridAnswer.TheVariants.{Good};
+ghost use Rattle.grid.specs.declared.scan.GridFault.TheVariants.{Refused};
 ghost use Rattle.grid.specs.scan.Judged.{apex_of, TurnAt, CircleAt, judge_rules, grid_number, grid_kind, grid_place};
 ghost use Rattle.grid.specs.scan.laws.Scannable.{OnSites, Scannable};
 
 use base::numbers::{EMPTY, wide};
-use mesh::{end_site, next_halfedge};
+use base::refusal::Refusal;
+use mesh::{MeshFault, end_site, next_halfedge};
 
-// Everything holds; or the lowest triangle that does not turn as it must; or, where all do, the lowest half-edge whose far site is inside the circle; or
-// a refusal with its number.
-#[derive(Clone, Copy)]
-pub enum GridAnswer {
-    Good,
+// What does not hold: the lowest triangle that does not turn as it must; or, where all do, the lowest half-edge whose far site is inside the circle; or a
+// rule that refuses.
+#[derive(Clone, Copy, Debug, PartialEq, Eq)]
+pub enum GridFault {
     Triangle(u32),
     Halfedge(u32),
-    Refused(u32),
+    Refused(Refusal),
+}
+
+// A fault of the mesh is a refusal by its rule.
+impl From<MeshFault> for GridFault {
+    ghost from_gives = { λ f g. g ≡ Refused (refusal_of f) };
+
+    fn from(f: MeshFault) -> GridFault {
+        GridFault::Refused(f.into())
+    }
 }
 
 // Triangle t turns counter-clockwise with Y downward.
@@ -39,14 +49,12 @@ fn check_turns(grid: &[i32], triangles: &[u32]) -> usize
     ensures { First (TurnAt grid.now triangles.now) (length triangles.now / 3) result }
 {
     let count = triangles.len() / 3;
-    let mut t = 0;
-    while t < count {
+    for t in 0..count {
         if !turn_at(grid, triangles, t) {
             return t;
         }
-        t += 1;
     }
-    t
+    count
 }
 
 // The third site of the triangle of half-edge e.
@@ -82,74 +90,62 @@ fn circle_at(grid: &[i32], triangles: &[u32], halfedges: &[u32], e: usize) -> bo
     !far_inside(grid, triangles, e, wide(p))
 }
 
-// The lowest half-edge whose far site is strictly inside the circle, or their number: over the triangles and their three sides, left at the first offender.
+// The lowest half-edge whose far site is strictly inside the circle, or their number.
 fn check_circles(grid: &[i32], triangles: &[u32], halfedges: &[u32]) -> usize
     requires { Scannable grid.now triangles.now halfedges.now }
     ensures { First (CircleAt grid.now triangles.now halfedges.now) (length triangles.now) result }
 {
-    let count = triangles.len() / 3;
-    let mut found = triangles.len();
-    let mut t = 0;
-    'triangles: while t < count {
-        let mut side = 0;
-        while side < 3 {
-            if !circle_at(grid, triangles, halfedges, 3 * t + side) {
-                found = 3 * t + side;
-                break 'triangles;
-            }
-            side += 1;
+    for e in 0..triangles.len() {
+        if !circle_at(grid, triangles, halfedges, e) {
+            return e;
         }
-        t += 1;
     }
-    found
+    triangles.len()
 }
 
 // All turns are judged before the first circle.
-pub fn judge(grid: &[i32], triangles: &[u32], halfedges: &[u32]) -> GridAnswer
+pub fn judge(grid: &[i32], triangles: &[u32], halfedges: &[u32]) -> Result<(), GridFault>
     requires { Scannable grid.now triangles.now halfedges.now }
-    ensures { Finds (judge_rules grid.now triangles.now halfedges.now) Good result }
+    ensures { Finds (judge_rules grid.now triangles.now halfedges.now) (Ok tt) result }
 {
     let t = check_turns(grid, triangles);
     if t < triangles.len() / 3 {
-        return GridAnswer::Triangle(t as u32);
+        return Err(GridFault::Triangle(t as u32));
     }
     let e = check_circles(grid, triangles, halfedges);
     if e < triangles.len() {
-        return GridAnswer::Halfedge(e as u32);
+        return Err(GridFault::Halfedge(e as u32));
     }
-    GridAnswer::Good
+    Ok(())
 }
 
 // An answer as numbers.
-pub fn number_of(a: GridAnswer) -> u32
-    ensures { result ≡ grid_number a }
+pub fn number_of(answer: Result<(), GridFault>) -> u32
+    ensures { result ≡ grid_number answer }
 {
-    match a {
-        GridAnswer::Good => 0,
-        GridAnswer::Triangle(_) => 0,
-        GridAnswer::Halfedge(_) => 0,
-        GridAnswer::Refused(n) => n,
+    match answer {
+        Err(GridFault::Refused(refusal)) => refusal.into(),
+        _ => 0,
     }
 }
 
-pub fn kind_of(a: GridAnswer) -> u32
-    ensures { result ≡ grid_kind a }
+pub fn kind_of(answer: Result<(), GridFault>) -> u32
+    ensures { result ≡ grid_kind answer }
 {
-    match a {
-        GridAnswer::Good => 0,
-        GridAnswer::Triangle(_) => 1,
-        GridAnswer::Halfedge(_) => 2,
-        GridAnswer::Refused(_) => EMPTY,
+    match answer {
+        Ok(()) => 0,
+        Err(GridFault::Triangle(_)) => 1,
+        Err(GridFault::Halfedge(_)) => 2,
+        Err(GridFault::Refused(_)) => EMPTY,
     }
 }
 
-pub fn place_of(a: GridAnswer) -> u32
-    ensures { result ≡ grid_place a }
+pub fn place_of(answer: Result<(), GridFault>) -> u32
+    ensures { result ≡ grid_place answer }
 {
-    match a {
-        GridAnswer::Good => EMPTY,
-        GridAnswer::Triangle(t) => t,
-        GridAnswer::Halfedge(e) => e,
-        GridAnswer::Refused(_) => EMPTY,
+    match answer {
+        Err(GridFault::Triangle(t)) => t,
+        Err(GridFault::Halfedge(e)) => e,
+        _ => EMPTY,
     }
 }

@@ -1,13 +1,15 @@
 -- Mending: the rules in the order in which they are tried, what is worked out, and what a call leaves in the lent slices and answers in numbers.
-use Rattle.std.specs.Prelude.{◌≡◌, List, [], ◌∷◌, ◌++◌, ℕ, ◌+◌, ◌/◌, ◌≤◌, eqb, Float, length, get_or, Err}
+use Rattle.std.specs.Prelude.{◌≡◌, List, [], ◌∷◌, ◌++◌, ℕ, ◌+◌, ◌/◌, ◌≤◌, eqb, Float, length, get_or, Result, Ok, Err}
 use Rattle.base.specs.common.Pick.{pick}
 use Rattle.base.specs.common.Refusals.{Rule, once, each, reads, Finds}
 use Rattle.base.specs.numbers.Numbers.{EMPTY, refused_twice}
+use Rattle.base.specs.declared.refusal.Refusal.{Refusal}
 use Rattle.mesh.specs.declared.MeshFault.TheVariants.{Triangle}
 use Rattle.mesh.specs.Mesh.{SoundAt, leftmost_in}
 use Rattle.mesh.specs.Faults.{number_of, start_rules, coordinate_rules}
 use Rattle.mesh.specs.Accepted.{Mesh, mesh, site_count}
 use Rattle.mesh_check.specs.whole.AtExit.{at_exit}
+use Rattle.mending.specs.declared.Mended.{Mended}
 use Rattle.mending.specs.pairs.Pairs.{pairs_of, AllSingle}
 use Rattle.mending.specs.border.Loop.{hull_of}
 use Rattle.mending.specs.border.Answer.{border_rules}
@@ -23,6 +25,10 @@ pub record MendRoom (sites entries work pairs mended changes : ℕ) : Type 0 whe
 
 abbrev pub mend_room_of : List Float → List ℕ → Lent → Type 0
 mend_room_of sites tri old = MendRoom (site_count sites) (length tri) (length old.work) (length old.pairs) (length old.mended) (length old.changes)
+
+-- 1, 2, 6
+abbrev pub mend_start : List Float → ℕ → ℕ → ℕ → Type 0 → List (Rule ℕ)
+mend_start sites entries halfedges hull room = reads number_of (start_rules (length sites) entries halfedges hull room ++ coordinate_rules sites)
 
 -- 1, 2, 6, 7
 abbrev pub mend_early : List Float → List ℕ → ℕ → ℕ → Type 0 → List (Rule ℕ)
@@ -50,6 +56,19 @@ hull_changes tri hull n = changes_of hull (new_hull tri hull n)
 -- a number that is answered: x after 0, else 0
 unfoldable pub when_made : ℕ → ℕ → ℕ
 when_made r x = pick (eqb r 0) (λ _. x) (λ _. 0)
+
+-- the three numbers that an answer tells: the hull's length, and how many entries of the pairs and of the hull have changed; 0 where it is refused
+abbrev pub hull_told : Result Mended Refusal → ℕ
+hull_told (Ok a) = a.hull
+hull_told (Err r) = 0
+
+abbrev pub pairs_told : Result Mended Refusal → ℕ
+pairs_told (Ok a) = a.pairs
+pairs_told (Err r) = 0
+
+abbrev pub places_told : Result Mended Refusal → ℕ
+places_told (Ok a) = a.places
+places_told (Err r) = 0
 
 -- the slices at exit and the three numbers, by the number r: n sites
 pub record MendOutcome (tri he hull : List ℕ) (n : ℕ) (old new : Lent) (r k p q : ℕ) : Type 0 where

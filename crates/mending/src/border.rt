@@ -1,13 +1,15 @@
 // The hull worked out afresh from triangles and pairs: the loop of the unpaired half-edges, traced from site to site. Rules 9 and 10 then decide on it.
-ghost use Rattle.std.specs.Prelude.{◌≡◌, ◌≤◌, ◌<◌, length};
+ghost use Rattle.std.specs.Prelude.{◌≡◌, ◌≢◌, ℕ, ◌≤◌, ◌<◌, length, get_or, MatchOption, EachIndex};
 ghost use Rattle.std.proofs.lemmas.List.Edits.{sets};
 ghost use Rattle.base.specs.numbers.Numbers.{EMPTY};
+ghost use Rattle.base.specs.refusal.Number.{answer_number};
 ghost use Rattle.mesh.specs.Mesh.{AllSound, AllPaired};
 ghost use Rattle.mending.specs.pairs.Chains.{NamesSites};
-ghost use Rattle.mending.specs.border.Loop.{lead_at, leads_to, sooner_of, lowest_to, loop_begin, loop_step, loop_of, hull_of};
-ghost use Rattle.mending.specs.border.Answer.{OnTable, Closed, TracedHull};
+ghost use Rattle.mending.specs.border.Loop.{lead_at, leads_to, lowest_to, loop_begin, loop_step, loop_of, hull_of};
+ghost use Rattle.mending.specs.border.Answer.{OnTable, Closed, hull_count, TracedHull};
 
 use base::numbers::{EMPTY, wide};
+use base::refusal::Refusal;
 use mesh::end_site;
 
 // An unpaired half-edge leads on from the site where it starts to the one where it ends.
@@ -28,38 +30,28 @@ fn lead_all(triangles: &[u32], pairs: &[u32], work: &mut [u32])
     ensures { work.new ≡ leads_to triangles.now pairs.now (length work.old) (length triangles.now) }
 {
     mesh::clear(work);
-    let mut e: usize = 0;
-    while e < triangles.len() {
+    for e in 0..triangles.len() {
         lead(triangles, pairs, work, e);
-        e += 1;
     }
 }
 
-// The site that was found lowest, or else s, if it leads on.
-fn sooner(found: u32, next: u32, s: u32) -> u32
-    ensures { result ≡ sooner_of found next s }
+// The lowest site that leads on.
+fn first_leading(work: &[u32]) -> Option<usize>
+    ensures { MatchOption result (EachIndex work.now (λ k. get_or work.now k 0 ≡ EMPTY))
+        (λ s. (s < length work.now) × ((k : ℕ) → k < s → get_or work.now k 0 ≡ EMPTY) × (get_or work.now s 0 ≢ EMPTY)) }
 {
-    if found != EMPTY {
-        return found;
-    }
-    if next == EMPTY {
-        return EMPTY;
-    }
-    s
+    work.iter().position(|next| *next != EMPTY)
 }
 
-// The lowest site that leads on, or `EMPTY`.
+// The same, or `EMPTY`.
 fn lowest(work: &[u32]) -> u32
     requires { length work.now < EMPTY }
     ensures { result ≡ lowest_to work.now (length work.now) }
 {
-    let mut found = EMPTY;
-    let mut s: usize = 0;
-    while s < work.len() {
-        found = sooner(found, work[s], s as u32);
-        s += 1;
+    match first_leading(work) {
+        Some(s) => s as u32,
+        None => EMPTY,
     }
-    found
 }
 
 // Where the loop begins: at the old first hull site if that leads on, else at the lowest site that does.
@@ -95,16 +87,14 @@ fn trace(work: &[u32], begin: u32, mended: &mut [u32]) -> usize
     ensures { (result ≡ length (loop_of work.now begin)) × (mended.new ≡ sets mended.old 0 (loop_of work.now begin)) }
 {
     let mut s = begin;
-    let mut k: usize = 0;
-    while k < work.len() {
+    for k in 0..work.len() {
         if s == EMPTY {
             return k;
         }
         mended[k] = s;
-        k += 1;
         s = step(work, begin, wide(s));
     }
-    k
+    work.len()
 }
 
 // The loop of the unpaired half-edges, from the old first hull site or the lowest. The work slice has an entry for each site.
@@ -125,14 +115,7 @@ fn trace_hull(
     trace(work, begin, mended)
 }
 
-// A number, and how many sites the hull has.
-#[derive(Clone, Copy)]
-pub struct Traced {
-    pub number: u32,
-    pub count: usize,
-}
-
-// The hull, with rules 9 and 10. After 0 the work slice has the leftmost table, then `EMPTY`.
+// The hull, with rules 9 and 10, and how many sites it has. Not refused, the work slice has the leftmost table, then `EMPTY`.
 pub fn mend_hull(
     triangles: &[u32],
     pairs: &[u32],
@@ -140,22 +123,16 @@ pub fn mend_hull(
     sites: usize,
     work: &mut [u32],
     mended: &mut [u32],
-) -> Traced
+) -> Result<usize, Refusal>
     requires { NamesSites triangles.now sites × (length pairs.now ≡ length triangles.now) × (sites < EMPTY) × (sites ≤ length work.old)
         × (sites ≤ length mended.old) × AllSound triangles.now sites × AllPaired triangles.now pairs.now }
     ensures { TracedHull triangles.now pairs.now first sites work.old work.new mended.old mended.new
-        result.number result.count }
+        (answer_number result) (hull_count result) }
 {
     let count = trace_hull(triangles, pairs, first, &mut work[..sites], mended);
     if count < 3 {
-        return Traced {
-            number: base::numbers::REFUSED_HULL,
-            count: count,
-        };
+        return Err(Refusal::Hull);
     }
-    let fault = mesh_check::whole::check_border(triangles, pairs, &mended[..count], sites, work);
-    Traced {
-        number: mesh_check::counts::number(fault),
-        count: count,
-    }
+    mesh_check::whole::check_border(triangles, pairs, &mended[..count], sites, work)?;
+    Ok(count)
 }

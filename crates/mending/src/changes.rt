@@ -63,10 +63,8 @@ pub fn list_changes(old: &[u32], new: &[u32], changes: &mut [u32], from: usize) 
 {
     let end = longest(old.len(), new.len());
     let mut n = from;
-    let mut i: usize = 0;
-    while i < end {
+    for i in 0..end {
         n = put_change(old, new, i, changes, n);
-        i += 1;
     }
     n - from
 }

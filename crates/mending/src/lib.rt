@@ -7,23 +7,24 @@ pub mod changes;
 pub mod pairs;
 pub mod slices;
 
-ghost use Rattle.std.specs.Prelude.{◌≡◌, ◌/◌, length};
+ghost use Rattle.std.specs.Prelude.{◌/◌, length};
 ghost use Rattle.base.specs.common.Decide.{Says};
 ghost use Rattle.base.specs.common.Refusals.{Finds};
+ghost use Rattle.base.specs.refusal.Number.{answer_number};
 ghost use Rattle.mesh.specs.Accepted.{mesh};
-ghost use Rattle.mending.specs.Mending.{MendRoom, mend_early, work_rules, MendOutcome, Mends};
+ghost use Rattle.mending.specs.Mending.{MendRoom, mend_start, work_rules, hull_told, pairs_told, places_told, MendOutcome, Mends};
+ghost use Rattle.mending.specs.border.Answer.{hull_count};
 ghost use Rattle.mending.specs.slices.Lent.{lent};
 ghost use Rattle.mending.specs.Steps.{Ready, WorkedOut, Lists};
 
-use crate::border::Traced;
 use crate::pairs::pair_up;
 use crate::slices::{clear_all, list_both};
+use base::refusal::Refusal;
 use mesh_check::pairing::check_triangles;
 
-// A number, the hull's length, and how many entries of the pairs and of the hull have changed.
+// The hull's length, and how many entries of the pairs and of the hull have changed.
 #[derive(Clone, Copy)]
 pub struct Mended {
-    pub number: u32,
     pub hull: u32,
     pub pairs: u32,
     pub places: u32,
@@ -58,43 +59,33 @@ fn room_ok(
     true
 }
 
-// Rules 1, 2, 6 and 7.
+// Rules 1, 2 and 6.
 fn admit_mend(
     sites: &[f64],
-    triangles: &[u32],
+    entries: usize,
     halfedges: usize,
     hull: usize,
     work: usize,
     pairs: usize,
     mended: usize,
     changes: usize,
-) -> u32
-    ensures { Finds (mend_early sites.now triangles.now halfedges hull
-        (MendRoom (length sites.now / 2) (length triangles.now) work pairs mended changes)) 0 result }
+) -> Result<(), Refusal>
+    ensures { Finds (mend_start sites.now entries halfedges hull
+        (MendRoom (length sites.now / 2) entries work pairs mended changes)) 0 (answer_number result) }
 {
-    if !mesh_check::counts::counts_ok(sites.len(), triangles.len(), halfedges, hull) {
-        return base::numbers::REFUSED_COUNT;
+    if !mesh_check::counts::counts_ok(sites.len(), entries, halfedges, hull) {
+        return Err(Refusal::Count);
     }
-    if !room_ok(
-        sites.len() / 2,
-        triangles.len(),
-        work,
-        pairs,
-        mended,
-        changes,
-    ) {
-        return base::numbers::REFUSED_ROOM;
+    if !room_ok(sites.len() / 2, entries, work, pairs, mended, changes) {
+        return Err(Refusal::Room);
     }
     if plane::points::first_bad_site(sites) < sites.len() / 2 {
-        return base::numbers::REFUSED_COORDINATE;
+        return Err(Refusal::Coordinate);
     }
-    if check_triangles(triangles, sites.len() / 2) < triangles.len() / 3 {
-        return base::numbers::REFUSED_TRIANGLE;
-    }
-    0
+    Ok(())
 }
 
-// Rules 19, 9 and 10. After 0 the pairs and the hull are written, then `EMPTY`, and the work slice has the leftmost table.
+// Rules 19, 9 and 10, and how many sites the hull has. Not refused, the pairs and the hull are written, then `EMPTY`, and the work slice has the leftmost table.
 fn work_out(
     triangles: &[u32],
     first: u32,
@@ -103,32 +94,18 @@ fn work_out(
     pairs: &mut [u32],
     mended: &mut [u32],
     changes: &mut [u32],
-) -> Traced
+) -> Result<usize, Refusal>
     requires { Ready triangles.now sites (lent work.old pairs.old mended.old changes.old) }
     ensures { WorkedOut triangles.now first sites (lent work.old pairs.old mended.old changes.old)
-        (lent work.new pairs.new mended.new changes.new) result.number result.count }
+        (lent work.new pairs.new mended.new changes.new) (answer_number result) (hull_count result) }
 {
     mesh::clear(pairs);
     if !pair_up(triangles, work, changes, mended, pairs, sites) {
-        return Traced {
-            number: base::numbers::REFUSED_TWICE,
-            count: 0,
-        };
+        return Err(Refusal::Twice);
     }
     mesh::clear(mended);
     let n = triangles.len();
     crate::border::mend_hull(triangles, &pairs[..n], first, sites, work, mended)
-}
-
-fn refused(number: u32) -> Mended
-    ensures { (result.number ≡ number) × (result.hull ≡ 0) × (result.pairs ≡ 0) × (result.places ≡ 0) }
-{
-    Mended {
-        number: number,
-        hull: 0,
-        pairs: 0,
-        places: 0,
-    }
 }
 
 // Rules 19, 9 and 10, where 1, 2, 6 and 7 hold; and what was worked out, with the list of changes.
@@ -141,31 +118,30 @@ fn mend_sound(
     pairs: &mut [u32],
     mended: &mut [u32],
     changes: &mut [u32],
-) -> Mended
+) -> Result<Mended, Refusal>
     requires { Ready triangles.now sites (lent work.old pairs.old mended.old changes.old)
         × Lists triangles.now halfedges.now hull.now sites (length changes.old) }
-    ensures { Finds (work_rules triangles.now sites) 0 result.number × MendOutcome triangles.now halfedges.now hull.now sites
+    ensures { Finds (work_rules triangles.now sites) 0 (answer_number result) × MendOutcome triangles.now halfedges.now hull.now sites
         (lent work.old pairs.old mended.old changes.old)
-        (lent work.new pairs.new mended.new changes.new) result.number result.hull result.pairs result.places }
+        (lent work.new pairs.new mended.new changes.new) (answer_number result) (hull_told result) (pairs_told result) (places_told result) }
 {
     let first = hull[0];
-    let done = work_out(triangles, first, sites, work, pairs, mended, changes);
-    let number = done.number;
-    if number != 0 {
-        clear_all(work, pairs, mended, changes);
-        return refused(number);
-    }
+    let k = match work_out(triangles, first, sites, work, pairs, mended, changes) {
+        Ok(count) => count,
+        Err(refusal) => {
+            clear_all(work, pairs, mended, changes);
+            return Err(refusal);
+        }
+    };
     let n = triangles.len();
-    let k = done.count;
     let new_pairs = &pairs[..n];
     let new_hull = &mended[..k];
-    let listed = list_both(halfedges, new_pairs, hull, new_hull, changes);
-    Mended {
-        number: number,
+    let (repaired, replaced) = list_both(halfedges, new_pairs, hull, new_hull, changes);
+    Ok(Mended {
         hull: k as u32,
-        pairs: listed.first as u32,
-        places: listed.then as u32,
-    }
+        pairs: repaired as u32,
+        places: replaced as u32,
+    })
 }
 
 // The whole call.
@@ -178,29 +154,26 @@ pub fn mend(
     pairs: &mut [u32],
     mended: &mut [u32],
     changes: &mut [u32],
-) -> Mended
+) -> Result<Mended, Refusal>
     ensures { Mends (mesh sites.now triangles.now halfedges.now hull.now)
         (lent work.old pairs.old mended.old changes.old)
-        (lent work.new pairs.new mended.new changes.new) result.number result.hull result.pairs result.places }
+        (lent work.new pairs.new mended.new changes.new) (answer_number result) (hull_told result) (pairs_told result) (places_told result) }
 {
-    let number = admit_mend(
+    admit_mend(
         sites,
-        triangles,
+        triangles.len(),
         halfedges.len(),
         hull.len(),
         work.len(),
         pairs.len(),
         mended.len(),
         changes.len(),
-    );
-    if number == base::numbers::REFUSED_TRIANGLE {
-        clear_all(work, pairs, mended, changes);
-        return refused(number);
-    }
-    if number != 0 {
-        return refused(number);
-    }
+    )?;
     let count = sites.len() / 2;
+    if check_triangles(triangles, count) < triangles.len() / 3 {
+        clear_all(work, pairs, mended, changes);
+        return Err(Refusal::Triangle);
+    }
     mend_sound(
         triangles, halfedges, hull, count, work, pairs, mended, changes,
     )
@@ -225,11 +198,20 @@ pub fn mend_lent(
         (lent work.new pairs.new mended.new changes.new) result
         hull_length.new pair_changes.new hull_changes.new }
 {
-    let done = mend(
+    match mend(
         sites, triangles, halfedges, hull, work, pairs, mended, changes,
-    );
-    *hull_length = done.hull;
-    *pair_changes = done.pairs;
-    *hull_changes = done.places;
-    done.number
+    ) {
+        Ok(done) => {
+            *hull_length = done.hull;
+            *pair_changes = done.pairs;
+            *hull_changes = done.places;
+            0
+        }
+        Err(refusal) => {
+            *hull_length = 0;
+            *pair_changes = 0;
+            *hull_changes = 0;
+            refusal.into()
+        }
+    }
 }

@@ -15,12 +15,10 @@ fn chain(triangles: &[u32], heads: &mut [u32], links: &mut [u32])
     ensures { Chained triangles.now heads.new links.new }
 {
     mesh::clear(heads);
-    let mut e: usize = 0;
-    while e < triangles.len() {
-        let s = wide(triangles[e]);
+    for (e, site) in triangles.iter().enumerate() {
+        let s = wide(*site);
         links[e] = heads[s];
         heads[s] = e as u32;
-        e += 1;
     }
 }
 
@@ -103,13 +101,11 @@ fn pair_sites(
     ensures { PairAnswer triangles.now pairs.old pairs.new result }
 {
     mesh::clear(marks);
-    let mut a: usize = 0;
-    while a < sites {
+    for a in 0..sites {
         if !mark_site(triangles, heads, links, marks, a) {
             return false;
         }
         pair_site(triangles, heads, links, marks, pairs, a);
-        a += 1;
     }
     true
 }

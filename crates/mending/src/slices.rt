@@ -18,30 +18,20 @@ pub fn clear_all(work: &mut [u32], pairs: &mut [u32], hull: &mut [u32], changes:
     mesh::clear(changes);
 }
 
-// Two counts.
-#[derive(Clone, Copy)]
-pub struct Two {
-    pub first: usize,
-    pub then: usize,
-}
-
-// The changes from one list to another, and after them those between two more, then `EMPTY`.
+// The changes from one list to another, and after them those between two more, then `EMPTY`; and how many there are of each.
 pub fn list_both(
     old: &[u32],
     new: &[u32],
     before: &[u32],
     after: &[u32],
     changes: &mut [u32],
-) -> Two
+) -> (usize, usize)
     requires { (longer old.now new.now < EMPTY) × (longer before.now after.now < EMPTY)
         × (3 * (longer old.now new.now + longer before.now after.now) ≤ length changes.old) }
-    ensures { ListedBoth old.now new.now before.now after.now changes.old changes.new result.first result.then }
+    ensures { ListedBoth old.now new.now before.now after.now changes.old changes.new result.0 result.1 }
 {
     mesh::clear(changes);
     let first = list_changes(old, new, changes, 0);
     let then = list_changes(before, after, changes, first);
-    Two {
-        first: first,
-        then: then,
-    }
+    (first, then)
 }

@@ -11,3 +11,4 @@ pub mod Verdicts
 pub mod Occurs
 pub mod Degree
 pub mod Closed
+pub mod Refusing

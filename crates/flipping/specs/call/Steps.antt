@@ -1,8 +1,8 @@
 -- What the steps of a flip ask and answer.
-use Rattle.std.specs.Prelude.{◌≡◌, Bool, List, ℕ, ◌%◌, ◌≤◌, ◌<◌, eqb, length, replicate}
+use Rattle.std.specs.Prelude.{◌≡◌, List, ℕ, ◌%◌, ◌≤◌, ◌<◌, eqb, length, replicate}
 use Rattle.base.specs.common.Pick.{pick}
 use Rattle.base.specs.common.Refusals.{Finds}
-use Rattle.base.specs.numbers.Numbers.{EMPTY, refused_flip}
+use Rattle.base.specs.numbers.Numbers.{EMPTY}
 use Rattle.mesh.specs.Mesh.{leftmost_in}
 use Rattle.flipping.specs.call.Flips.{flip_late}
 
@@ -14,14 +14,6 @@ pub record Checkable (tri he hull table work : List ℕ) (sites : ℕ) : Type 0 
   pub few : length hull < EMPTY
   pub table_room : sites ≤ length table
   pub work_room : sites ≤ length work
-
--- the number of rule 23
-unfoldable pub verdict_of : Bool → ℕ
-verdict_of b = pick b (λ _. 0) (λ _. refused_flip)
-
--- a work slice cleared after 23
-unfoldable pub settled_work : List ℕ → ℕ → List ℕ
-settled_work old r = pick (eqb r refused_flip) (λ _. replicate (length old) EMPTY) (λ _. old)
 
 -- 7 to 10 and 23: the number, and the work slice
 pub record Judges (tri he hull table : List ℕ) (sites a : ℕ) (old new : List ℕ) (r : ℕ) : Type 0 where

@@ -7,8 +7,7 @@ use Rattle.mesh.specs.Accepted.{Topology}
 use Rattle.mesh.specs.laws.Table.{table_length, table_leftmost, leftmost_one}
 use Rattle.mesh.specs.laws.Facts.{paired, end_site}
 use Rattle.flipping.specs.Flip.{turned_sites, relinked}
-use Rattle.flipping.specs.declared.Four.{Four}
-use Rattle.flipping.specs.Entries.{flip_corners, entries_of, stored_four}
+use Rattle.flipping.specs.Entries.{Four, flip_corners, entries_of, stored_four}
 use Rattle.flipping.specs.laws.Quad.{Quad, quad_turn}
 use Rattle.flipping.specs.laws.Sites.{turned_length, turned_turn}
 use Rattle.flipping.specs.laws.Pairs.{relinked_turn}
@@ -18,51 +17,51 @@ use Rattle.flipping.specs.laws.Rule10.{leftmost_again}
 -- ---- four stores at different places
 module _ (t : List ℕ) (s v : Four) where
   abbrev one : List ℕ
-  one = set t s.first v.first
+  one = set t s.0 v.0
 
   abbrev two : List ℕ
-  two = set one s.second v.second
+  two = set one s.1 v.1
 
   abbrev three : List ℕ
-  three = set two s.third v.third
+  three = set two s.2 v.2
 
   one_length : length one ≡ length t
-  one_length = length-set t s.first v.first
+  one_length = length-set t s.0 v.0
 
   two_length : length two ≡ length t
-  two_length = length-set one s.second v.second ∙ one_length
+  two_length = length-set one s.1 v.1 ∙ one_length
 
   three_length : length three ≡ length t
-  three_length = length-set two s.third v.third ∙ two_length
+  three_length = length-set two s.2 v.2 ∙ two_length
 
   pub four_length : length (stored_four t s v) ≡ length t
-  four_length = length-set three s.fourth v.fourth ∙ three_length
+  four_length = length-set three s.3 v.3 ∙ three_length
 
-  at_fourth : s.fourth < length t → get_or (stored_four t s v) s.fourth 0 ≡ v.fourth
-  at_fourth h = get_or-set_same three s.fourth v.fourth 0 (rw three_length h)
+  at_fourth : s.3 < length t → get_or (stored_four t s v) s.3 0 ≡ v.3
+  at_fourth h = get_or-set_same three s.3 v.3 0 (rw three_length h)
 
-  at_third : s.third < length t → s.third ≢ s.fourth → get_or (stored_four t s v) s.third 0 ≡ v.third
-  at_third h n = get_or-set_other three s.fourth s.third v.fourth 0 n ∙ get_or-set_same two s.third v.third 0 (rw two_length h)
+  at_third : s.2 < length t → s.2 ≢ s.3 → get_or (stored_four t s v) s.2 0 ≡ v.2
+  at_third h n = get_or-set_other three s.3 s.2 v.3 0 n ∙ get_or-set_same two s.2 v.2 0 (rw two_length h)
 
-  at_second : s.second < length t → s.second ≢ s.fourth → s.second ≢ s.third → get_or (stored_four t s v) s.second 0 ≡ v.second
+  at_second : s.1 < length t → s.1 ≢ s.3 → s.1 ≢ s.2 → get_or (stored_four t s v) s.1 0 ≡ v.1
   at_second h n m =
-      get_or-set_other three s.fourth s.second v.fourth 0 n
-      ∙ get_or-set_other two s.third s.second v.third 0 m
-      ∙ get_or-set_same one s.second v.second 0 (rw one_length h)
+      get_or-set_other three s.3 s.1 v.3 0 n
+      ∙ get_or-set_other two s.2 s.1 v.2 0 m
+      ∙ get_or-set_same one s.1 v.1 0 (rw one_length h)
 
-  at_first : s.first < length t → s.first ≢ s.fourth → s.first ≢ s.third → s.first ≢ s.second → get_or (stored_four t s v) s.first 0 ≡ v.first
+  at_first : s.0 < length t → s.0 ≢ s.3 → s.0 ≢ s.2 → s.0 ≢ s.1 → get_or (stored_four t s v) s.0 0 ≡ v.0
   at_first h n m k =
-      get_or-set_other three s.fourth s.first v.fourth 0 n
-      ∙ get_or-set_other two s.third s.first v.third 0 m
-      ∙ get_or-set_other one s.second s.first v.second 0 k
-      ∙ get_or-set_same t s.first v.first 0 h
+      get_or-set_other three s.3 s.0 v.3 0 n
+      ∙ get_or-set_other two s.2 s.0 v.2 0 m
+      ∙ get_or-set_other one s.1 s.0 v.1 0 k
+      ∙ get_or-set_same t s.0 v.0 0 h
 
-  pub at_none : (i : ℕ) → i ≢ s.fourth → i ≢ s.third → i ≢ s.second → i ≢ s.first → get_or (stored_four t s v) i 0 ≡ get_or t i 0
+  pub at_none : (i : ℕ) → i ≢ s.3 → i ≢ s.2 → i ≢ s.1 → i ≢ s.0 → get_or (stored_four t s v) i 0 ≡ get_or t i 0
   at_none i n m k j =
-      get_or-set_other three s.fourth i v.fourth 0 n
-      ∙ get_or-set_other two s.third i v.third 0 m
-      ∙ get_or-set_other one s.second i v.second 0 k
-      ∙ get_or-set_other t s.first i v.first 0 j
+      get_or-set_other three s.3 i v.3 0 n
+      ∙ get_or-set_other two s.2 i v.2 0 m
+      ∙ get_or-set_other one s.1 i v.1 0 k
+      ∙ get_or-set_other t s.0 i v.0 0 j
 
 module _ {tri he hull : List ℕ} {sites : ℕ} (ok : Topology tri he hull sites) {a b r l : ℕ} (q : Quad tri he a b r l) where
   abbrev tri' : List ℕ

@@ -2,16 +2,15 @@
 use Rattle.std.specs.Prelude.{◌≡◌, List, ◌≢◌, ℕ, ◌%◌, ◌<◌, length, get_or}
 use Rattle.base.specs.numbers.Numbers.{EMPTY}
 use Rattle.mesh.specs.Mesh.{pair_of}
-use Rattle.flipping.specs.declared.Four.{Four}
 use Rattle.flipping.specs.Flip.{before_of, flipped_triangles, flipped_pairs}
-use Rattle.flipping.specs.Entries.{flip_corners, entries_of, stored_four}
+use Rattle.flipping.specs.Entries.{Four, flip_corners, entries_of, stored_four}
 
 -- four places in a list
 pub record InFour (s : Four) (n : ℕ) : Type 0 where
-  pub first : s.first < n
-  pub second : s.second < n
-  pub third : s.third < n
-  pub fourth : s.fourth < n
+  pub first : s.0 < n
+  pub second : s.1 < n
+  pub third : s.2 < n
+  pub fourth : s.3 < n
 
 -- the four half-edges, and the outer pairs that are there
 pub record Linked (he : List ℕ) (a b r l : ℕ) : Type 0 where
@@ -29,8 +28,8 @@ pub record Tabled (he work : List ℕ) (s : Four) (r l : ℕ) : Type 0 where
   pub r_in : r < length he
   pub l_in : l < length he
   pub places : InFour s (length work)
-  pub third : get_or work s.third 0 < length he
-  pub fourth : get_or work s.fourth 0 < length he
+  pub third : get_or work s.2 0 < length he
+  pub fourth : get_or work s.3 0 < length he
 
 pub record FlipReady (tri he table work : List ℕ) (a b r l : ℕ) : Type 0 where
   pub same : length he ≡ length tri

@@ -1,13 +1,12 @@
 -- What is asked of the hull of a mesh on the grid, in as many tests as it has edges: no corner turns right inside a run of edges that go up or of edges that
 -- go down, and there is one place with an edge up after an edge down. Straight corners are allowed. That such a hull is convex and runs round once, where the
 -- triangles turn as they must, is a theorem of crate nearest_laws.
-use Rattle.std.specs.Prelude.{◌≡◌, Bool, true, false, List, [], ◌∷◌, ℕ, ◌-◌, ◌<◌, eqb, ℤ, length, get_or}
+use Rattle.std.specs.Prelude.{◌≡◌, Bool, true, false, List, [], ◌∷◌, ℕ, ◌-◌, ◌<◌, eqb, ℤ, length, get_or, ⊤, Result, Err}
 use Rattle.base.specs.common.Pick.{pick}
 use Rattle.base.specs.common.Refusals.{Rule, each}
 use Rattle.mesh.specs.Hull.{next_place}
 use Rattle.grid.specs.Plane.{GridPoint, place_at, goes_up, turns_right}
-use Rattle.grid.specs.declared.border.HullVerdict.{HullVerdict}
-use Rattle.grid.specs.declared.border.HullVerdict.TheVariants.{Place}
+use Rattle.grid.specs.declared.border.HullFault.{HullFault}
 
 -- the place before place i, cyclically
 unfoldable pub prior_place : ℕ → ℕ → ℕ
@@ -38,6 +37,13 @@ StartAt grid hull i = (up_before grid hull i ≡ false) × (up_after grid hull i
 abbrev pub LoneAt : List ℤ → List ℕ → ℕ → Type 0
 LoneAt grid hull i = StartAt grid hull i → (j : ℕ) → j < i → StartAt grid hull j → ⊥
 
+-- that the short form holds, or the place where it fails
+abbrev pub HullVerdict : Type 0
+HullVerdict = Result ⊤ HullFault
+
+abbrev pub fails_at : ℕ → HullVerdict
+fails_at i = Err (record { place = i })
+
 -- corners first
 abbrev pub short_rules : List ℤ → List ℕ → List (Rule HullVerdict)
-short_rules grid hull = each Place (length hull) (CornerAt grid hull) ∷ each Place (length hull) (LoneAt grid hull) ∷ []
+short_rules grid hull = each fails_at (length hull) (CornerAt grid hull) ∷ each fails_at (length hull) (LoneAt grid hull) ∷ []

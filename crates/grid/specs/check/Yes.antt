@@ -1,6 +1,6 @@
 -- Theorem: yes is answered exactly where all rules hold, turns and circles among them; a triangle that is named is the lowest that offends; a half-edge that is
 -- named is the lowest that offends, and all triangles turn as they must. A refusal has one of seven numbers, names neither, and leaves the work slice alone or empty.
-use Rattle.std.specs.Prelude.{◌≡◌, refl, List, ◌⊎◌, ◌≢◌, ℕ, ◌/◌, ◌<◌, length, replicate}
+use Rattle.std.specs.Prelude.{◌≡◌, refl, List, ◌⊎◌, ◌≢◌, ℕ, ◌/◌, ◌<◌, length, replicate, Ok, Err}
 use Rattle.std.proofs.Common.{sym, ◌∙◌, inl, inr, ⊎_elim, arith}
 use Rattle.std.proofs.Math.Path.{ap}
 use Rattle.base.specs.common.Decide.{First}
@@ -8,9 +8,9 @@ use Rattle.base.specs.common.Refusals.{Keep, Judged, Finds}
 use Rattle.base.specs.common.laws.Refusals.{finds_one, finds_none, finds_keep, finds_answers, finds_split}
 use Rattle.base.specs.numbers.Numbers.{EMPTY}
 use Rattle.mesh_check.specs.whole.AtExit.{at_exit}
-use Rattle.grid.specs.declared.scan.GridAnswer.{GridAnswer}
-use Rattle.grid.specs.declared.scan.GridAnswer.TheVariants.{Good, Refused}
-use Rattle.grid.specs.scan.Judged.{TurnAt, CircleAt, judge_rules, grid_number, grid_kind, grid_place}
+use Rattle.base.specs.declared.refusal.Refusal.{Refusal}
+use Rattle.grid.specs.declared.scan.GridFault.TheVariants.{Refused}
+use Rattle.grid.specs.scan.Judged.{GridAnswer, TurnAt, CircleAt, judge_rules, grid_number, grid_kind, grid_place}
 use Rattle.grid.specs.check.Promise.{GridMesh, refusing, grid_rules, grid_work, GridChecks}
 
 module _ (m : GridMesh) (old new : List ℕ) (r k p : ℕ) (x : GridChecks m old new r k p) where
@@ -100,7 +100,7 @@ module _ (m : GridMesh) (old new : List ℕ) (r k p : ℕ) (x : GridChecks m old
   abbrev Early : GridAnswer → Type 0
   Early a = (grid_kind a ≡ 1) ⊎ (grid_kind a ≡ 2) → ⊥
 
-  early : (w : ℕ) {a : GridAnswer} → Finds (refusing m w) Good a → Early a
+  early : (w : ℕ) {a : GridAnswer} → Finds (refusing m w) (Ok tt) a → Early a
   early w = finds_answers Early neither (
     λ _. neither',
     (
@@ -132,7 +132,7 @@ module _ (m : GridMesh) (old new : List ℕ) (r k p : ℕ) (x : GridChecks m old
       neither' (inl h) = omega arith
       neither' (inr h) = omega arith
 
-  judged : (k ≡ 1) ⊎ (k ≡ 2) → Finds (judge_rules m.grid m.triangles m.halfedges) Good x.answer
+  judged : (k ≡ 1) ⊎ (k ≡ 2) → Finds (judge_rules m.grid m.triangles m.halfedges) (Ok tt) x.answer
   judged h =
       ⊎_elim
       (λ y. absurd (early (length old) y.0 (⊎_elim (λ e. inl (sym x.kind_is ∙ e)) (λ e. inr (sym x.kind_is ∙ e)) h)))
@@ -151,14 +151,14 @@ module _ (m : GridMesh) (old new : List ℕ) (r k p : ℕ) (x : GridChecks m old
         ),
       ) x.found)
     where
-      other : {n : ℕ} → Refused n ≡ Good → ⊥
+      other : {r : Refusal} → ◌≡◌ {A = GridAnswer} (Err (Refused r)) (Ok tt) → ⊥
       other e = let z : EMPTY ≡ 0 = ap grid_kind e in omega arith
 
   -- a triangle that is named
   pub triangle_first : k ≡ 1 → First (TurnAt m.grid m.triangles) (length m.triangles / 3) p × (p < length m.triangles / 3)
   triangle_first e = go (judged (inl e)).judged
     where
-      go : Judged (judge_rules m.grid m.triangles m.halfedges) Good x.answer
+      go : Judged (judge_rules m.grid m.triangles m.halfedges) (Ok tt) x.answer
           → First (TurnAt m.grid m.triangles) (length m.triangles / 3) p × (p < length m.triangles / 3)
       go (inl y) = let q : p ≡ y.0 = x.at_place ∙ ap grid_place y.3 in rw q (y.1, y.2)
       go (inr (h, inl y)) = let z : ◌≡◌ {A = ℕ} 2 1 = sym (ap grid_kind y.3) ∙ sym x.kind_is ∙ e in absurd (omega arith)
@@ -169,7 +169,7 @@ module _ (m : GridMesh) (old new : List ℕ) (r k p : ℕ) (x : GridChecks m old
       × First (CircleAt m.grid m.triangles m.halfedges) (length m.triangles) p × (p < length m.triangles)
   halfedge_first e = go (judged (inr e)).judged
     where
-      go : Judged (judge_rules m.grid m.triangles m.halfedges) Good x.answer → ((t : ℕ) → t < length m.triangles / 3 → TurnAt m.grid m.triangles t)
+      go : Judged (judge_rules m.grid m.triangles m.halfedges) (Ok tt) x.answer → ((t : ℕ) → t < length m.triangles / 3 → TurnAt m.grid m.triangles t)
           × First (CircleAt m.grid m.triangles m.halfedges) (length m.triangles) p × (p < length m.triangles)
       go (inl y) = let z : ◌≡◌ {A = ℕ} 1 2 = sym (ap grid_kind y.3) ∙ sym x.kind_is ∙ e in absurd (omega arith)
       go (inr (h, inl y)) = let q : p ≡ y.0 = x.at_place ∙ ap grid_place y.3 in rw q (h, y.1, y.2)

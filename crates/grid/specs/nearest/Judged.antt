@@ -1,41 +1,35 @@
--- The answer as an enum: that of the check on the grid, or that on the hull. Its numbers are given here and nowhere else.
-use Rattle.std.specs.Prelude.{ℕ}
+-- The answer as a Result: that of the check on the grid, or that on the hull. Its numbers are given here and nowhere else.
+use Rattle.std.specs.Prelude.{ℕ, ⊤, Result, Ok, Err}
 use Rattle.base.specs.numbers.Numbers.{EMPTY}
-use Rattle.grid.specs.declared.scan.GridAnswer.{GridAnswer}
-use Rattle.grid.specs.declared.scan.GridAnswer.TheVariants as grid
-use Rattle.grid.specs.declared.border.HullVerdict.{HullVerdict}
-use Rattle.grid.specs.declared.border.HullVerdict.TheVariants.{Convex, Place}
-use Rattle.grid.specs.declared.nearest.NearestAnswer.{NearestAnswer}
-use Rattle.grid.specs.declared.nearest.NearestAnswer.TheVariants.{Nearest, Triangle, Halfedge, HullPlace, Refused}
+use Rattle.grid.specs.scan.Judged.{GridAnswer, grid_number, grid_kind, grid_place}
+use Rattle.grid.specs.border.ShortForm.{HullVerdict}
+use Rattle.grid.specs.declared.nearest.NearestFault.{NearestFault}
+use Rattle.grid.specs.declared.nearest.NearestFault.TheVariants.{Grid, Hull}
+
+-- that everything holds, or what does not
+abbrev pub NearestAnswer : Type 0
+NearestAnswer = Result ⊤ NearestFault
 
 abbrev pub of_grid : GridAnswer → NearestAnswer
-of_grid grid.Good = Nearest
-of_grid (grid.Triangle t) = Triangle t
-of_grid (grid.Halfedge e) = Halfedge e
-of_grid (grid.Refused n) = Refused n
+of_grid (Ok _) = Ok tt
+of_grid (Err f) = Err (Grid f)
 
 abbrev pub of_hull : HullVerdict → NearestAnswer
-of_hull Convex = Nearest
-of_hull (Place i) = HullPlace i
+of_hull (Ok _) = Ok tt
+of_hull (Err f) = Err (Hull f)
 
 -- ---- an answer as numbers: the refusal, the kind, the place
 abbrev pub nearest_number : NearestAnswer → ℕ
-nearest_number Nearest = 0
-nearest_number (Triangle t) = 0
-nearest_number (Halfedge e) = 0
-nearest_number (HullPlace i) = 0
-nearest_number (Refused n) = n
+nearest_number (Ok _) = 0
+nearest_number (Err (Grid f)) = grid_number (Err f)
+nearest_number (Err (Hull f)) = 0
 
 abbrev pub nearest_kind : NearestAnswer → ℕ
-nearest_kind Nearest = 0
-nearest_kind (Triangle t) = 1
-nearest_kind (Halfedge e) = 2
-nearest_kind (HullPlace i) = 3
-nearest_kind (Refused n) = EMPTY
+nearest_kind (Ok _) = 0
+nearest_kind (Err (Grid f)) = grid_kind (Err f)
+nearest_kind (Err (Hull f)) = 3
 
 abbrev pub nearest_place : NearestAnswer → ℕ
-nearest_place Nearest = EMPTY
-nearest_place (Triangle t) = t
-nearest_place (Halfedge e) = e
-nearest_place (HullPlace i) = i
-nearest_place (Refused n) = EMPTY
+nearest_place (Ok _) = EMPTY
+nearest_place (Err (Grid f)) = grid_place (Err f)
+nearest_place (Err (Hull f)) = f.place

@@ -1,12 +1,13 @@
 -- What is asked of a mesh on the grid: each triangle turns counter-clockwise with Y downward, and across each paired half-edge the far site is not
--- strictly inside the circle. The answer is an enum; its numbers are given here and nowhere else.
-use Rattle.std.specs.Prelude.{◌≡◌, true, false, List, [], ◌∷◌, ◌≢◌, ℕ, ◌+◌, ◌*◌, ◌/◌, ℤ, length, get_or}
+-- strictly inside the circle. The answer is a Result; its numbers are given here and nowhere else.
+use Rattle.std.specs.Prelude.{◌≡◌, true, false, List, [], ◌∷◌, ◌≢◌, ℕ, ◌+◌, ◌*◌, ◌/◌, ℤ, length, get_or, ⊤, Result, Ok, Err}
 use Rattle.base.specs.common.Refusals.{Rule, each}
 use Rattle.base.specs.numbers.Numbers.{EMPTY}
+use Rattle.base.specs.refusal.Number.{number_of}
 use Rattle.mesh.specs.Mesh.{next_of, start_of, end_of, pair_of}
 use Rattle.grid.specs.Plane.{place_at, turns_left, strictly_inside}
-use Rattle.grid.specs.declared.scan.GridAnswer.{GridAnswer}
-use Rattle.grid.specs.declared.scan.GridAnswer.TheVariants.{Good, Triangle, Halfedge, Refused}
+use Rattle.grid.specs.declared.scan.GridFault.{GridFault}
+use Rattle.grid.specs.declared.scan.GridFault.TheVariants.{Triangle, Halfedge, Refused}
 
 -- the third site of a half-edge's triangle
 abbrev pub apex_of : List ℕ → ℕ → ℕ
@@ -21,25 +22,29 @@ CircleAt grid tri he e =
     pair_of he e ≢ EMPTY
     → strictly_inside (place_at grid (start_of tri e)) (place_at grid (end_of tri e)) (place_at grid (apex_of tri e)) (place_at grid (apex_of tri (pair_of he e))) ≡ false
 
+-- that everything holds, or what does not
+abbrev pub GridAnswer : Type 0
+GridAnswer = Result ⊤ GridFault
+
 -- triangles first
 abbrev pub judge_rules : List ℤ → List ℕ → List ℕ → List (Rule GridAnswer)
-judge_rules grid tri he = each Triangle (length tri / 3) (TurnAt grid tri) ∷ each Halfedge (length tri) (CircleAt grid tri he) ∷ []
+judge_rules grid tri he = each (λ t. Err (Triangle t)) (length tri / 3) (TurnAt grid tri) ∷ each (λ e. Err (Halfedge e)) (length tri) (CircleAt grid tri he) ∷ []
 
 -- ---- an answer as numbers: the refusal, the kind, the place
 abbrev pub grid_number : GridAnswer → ℕ
-grid_number Good = 0
-grid_number (Triangle t) = 0
-grid_number (Halfedge e) = 0
-grid_number (Refused n) = n
+grid_number (Ok _) = 0
+grid_number (Err (Triangle t)) = 0
+grid_number (Err (Halfedge e)) = 0
+grid_number (Err (Refused r)) = number_of r
 
 abbrev pub grid_kind : GridAnswer → ℕ
-grid_kind Good = 0
-grid_kind (Triangle t) = 1
-grid_kind (Halfedge e) = 2
-grid_kind (Refused n) = EMPTY
+grid_kind (Ok _) = 0
+grid_kind (Err (Triangle t)) = 1
+grid_kind (Err (Halfedge e)) = 2
+grid_kind (Err (Refused r)) = EMPTY
 
 abbrev pub grid_place : GridAnswer → ℕ
-grid_place Good = EMPTY
-grid_place (Triangle t) = t
-grid_place (Halfedge e) = e
-grid_place (Refused n) = EMPTY
+grid_place (Ok _) = EMPTY
+grid_place (Err (Triangle t)) = t
+grid_place (Err (Halfedge e)) = e
+grid_place (Err (Refused r)) = EMPTY

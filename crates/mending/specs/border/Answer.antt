@@ -1,8 +1,9 @@
 -- What is answered of a hull that was worked out: rule 9, that there is a hull at all, and rule 10; and what the slices hold.
-use Rattle.std.specs.Prelude.{◌≡◌, List, ◌∷◌, ◌⊎◌, ℕ, ◌≤◌, ◌<◌, length, get_or}
+use Rattle.std.specs.Prelude.{◌≡◌, List, ◌∷◌, ◌⊎◌, ℕ, ◌≤◌, ◌<◌, length, get_or, Result, Ok, Err}
 use Rattle.std.proofs.lemmas.List.Edits.{sets}
 use Rattle.base.specs.common.Refusals.{Rule, once, reads, Finds}
 use Rattle.base.specs.numbers.Numbers.{EMPTY, refused_hull}
+use Rattle.base.specs.declared.refusal.Refusal.{Refusal}
 use Rattle.mesh.specs.Mesh.{leftmost_in}
 use Rattle.mesh.specs.Hull.{Hull}
 use Rattle.mesh.specs.Faults.{number_of, fan_rules}
@@ -28,8 +29,13 @@ HasHull tri he sites = (h : List ℕ) × IsHull tri he sites h
 abbrev pub border_rules : List ℕ → List ℕ → ℕ → List (Rule ℕ)
 border_rules tri he sites = once refused_hull (HasHull tri he sites) ∷ reads number_of (fan_rules tri he sites)
 
+-- how many sites an answer tells: 0 where it is refused
+abbrev pub hull_count : Result ℕ Refusal → ℕ
+hull_count (Ok k) = k
+hull_count (Err r) = 0
+
 pub record TracedHull (tri he : List ℕ) (first sites : ℕ) (w w' m m' : List ℕ) (number k : ℕ) : Type 0 where
   pub found : Finds (border_rules tri he sites) 0 number
-  pub count : k ≡ length (hull_of tri he first sites)
+  pub count : number ≡ 0 → k ≡ length (hull_of tri he first sites)
   pub mended : m' ≡ sets m 0 (hull_of tri he first sites)
   pub table : number ≡ 0 → w' ≡ leftmost_in tri he sites (length w)

@@ -1,16 +1,18 @@
 -- How an outcome comes about: refused before rule 7, refused from there on, or made; and how the numbers of the two lists of rules come together.
-use Rattle.std.specs.Prelude.{◌≡◌, refl, List, ◌++◌, ◌≢◌, ℕ, ◌≤◌, ◌<◌, Float, length, replicate}
+use Rattle.std.specs.Prelude.{◌≡◌, refl, List, ◌∷◌, ◌++◌, ◌≢◌, ℕ, ◌/◌, ◌%◌, ◌≤◌, ◌<◌, Float, length, replicate}
 use Rattle.std.proofs.Common.{sym, ap, ◌∙◌, arith, rules, eq-eqb, ne_eqb}
-use Rattle.base.specs.common.Refusals.{Keep, Finds}
-use Rattle.base.specs.common.laws.Refusals.{finds_keep, finds_answers, finds_first, finds_after}
+use Rattle.base.specs.common.Decide.{First}
+use Rattle.base.specs.common.Refusals.{Keep, Finds, each}
+use Rattle.base.specs.common.laws.Decide.{first_all}
+use Rattle.base.specs.common.laws.Refusals.{offends, all_keep, finds_keep, finds_answers, finds_first, finds_after}
 use Rattle.base.specs.numbers.Numbers.{EMPTY, refused_triangle}
-use Rattle.mesh.specs.Mesh.{leftmost_in}
+use Rattle.mesh.specs.Mesh.{SoundAt, AllSound, leftmost_in}
 use Rattle.mesh.specs.Accepted.{Mesh, site_count}
 use Rattle.mesh.specs.laws.Facts.{few_entries, sound_site}
 use Rattle.mesh_check.specs.whole.laws.AtExit.{exit_made, exit_held, exit_blank}
 use Rattle.mending.specs.pairs.Pairs.{pairs_of}
 use Rattle.mending.specs.changes.Changes.{flat_changes}
-use Rattle.mending.specs.Mending.{mend_room_of, mend_early, work_rules, mend_rules, new_hull, pair_changes, hull_changes, when_made, MendOutcome, Mends}
+use Rattle.mending.specs.Mending.{mend_room_of, mend_start, work_rules, new_hull, pair_changes, hull_changes, when_made, MendOutcome, Mends}
 use Rattle.mending.specs.slices.Lent.{Lent, filled}
 use Rattle.mending.specs.slices.Steps.{Cleared}
 use Rattle.mending.specs.Steps.{Ready, Lists}
@@ -24,12 +26,12 @@ unfolding when_made
 not_made r x h = rw (ne_eqb r 0 h)
 
 -- the numbers
-module _ (sites : List Float) (tri : List ℕ) (halfedges hull : ℕ) (room : Type 0) where
-  pub early_keep : {r : ℕ} → Finds (mend_early sites tri halfedges hull room) 0 r → r ≡ 0 → Keep (mend_early sites tri halfedges hull room)
-  early_keep x z = finds_keep (λ r. r ≡ 0) (search rules) z x
+module _ (sites : List Float) (entries halfedges hull : ℕ) (room : Type 0) where
+  pub start_keep : {r : ℕ} → Finds (mend_start sites entries halfedges hull room) 0 r → r ≡ 0 → Keep (mend_start sites entries halfedges hull room)
+  start_keep x z = finds_keep (λ r. r ≡ 0) (search rules) z x
 
-  pub early_few : {r : ℕ} → Finds (mend_early sites tri halfedges hull room) 0 r → r ≤ refused_triangle
-  early_few x = finds_answers (λ r. r ≤ refused_triangle) (omega arith) (search rules) x
+  pub start_few : {r : ℕ} → Finds (mend_start sites entries halfedges hull room) 0 r → r < refused_triangle
+  start_few x = finds_answers (λ r. r < refused_triangle) (omega arith) (search rules) x
 
 pub work_late : (tri : List ℕ) (n : ℕ) {r : ℕ} → Finds (work_rules tri n) 0 r → r ≢ 0 → refused_triangle ≤ r
 work_late tri n =
@@ -82,62 +84,65 @@ module _ (tri he hull : List ℕ) (n : ℕ) (old : Lent) (r : ℕ) where
   }
 
 -- refused by 19, 9 or 10
-pub sound_refused : (tri he hull : List ℕ) (n : ℕ) (old mid new : Lent) (s r k p q : ℕ) → Finds (work_rules tri n) 0 s → s ≢ 0 → (r ≡ s) × (k ≡ 0) × (p ≡ 0) × (q ≡ 0)
-    → Cleared mid new
+pub sound_refused : (tri he hull : List ℕ) (n : ℕ) (old mid new : Lent) (s : ℕ) → Finds (work_rules tri n) 0 s → s ≢ 0 → Cleared mid new
     → length mid.work ≡ length old.work → length mid.pairs ≡ length old.pairs → length mid.mended ≡ length old.mended
-    → length mid.changes ≡ length old.changes → Finds (work_rules tri n) 0 r × MendOutcome tri he hull n old new r k p q
-sound_refused tri he hull n old mid new s r k p q f m (zr, zk, zp, zq) c w x y z =
-    let l = work_late tri n f m in
-    (rw zr f, outcome_cleared tri he hull n old r (rw zr m) k p q zk zp zq mid new c w x y z (rw zr l))
+    → length mid.changes ≡ length old.changes → Finds (work_rules tri n) 0 s × MendOutcome tri he hull n old new s 0 0 0
+sound_refused tri he hull n old mid new s f m c w x y z =
+    (f, outcome_cleared tri he hull n old s m 0 0 0 refl refl refl mid new c w x y z (work_late tri n f m))
 
 -- the whole call
 module _ (m : Mesh) (old : Lent) where
-  abbrev early : ℕ → Type 0
-  early = Finds (mend_early m.sites m.triangles (length m.halfedges) (length m.hull) (mend_room_of m.sites m.triangles old)) 0
+  abbrev start : ℕ → Type 0
+  start = Finds (mend_start m.sites (length m.triangles) (length m.halfedges) (length m.hull) (mend_room_of m.sites m.triangles old)) 0
 
-  module _ (s : ℕ) (x : early s) (r k p q : ℕ) (zr : r ≡ s) (zk : k ≡ 0) (zp : p ≡ 0) (zq : q ≡ 0) where
-    found_early : s ≢ 0 → Finds (mend_rules m (mend_room_of m.sites m.triangles old)) 0 r
-    found_early n = rw zr (finds_first (work_rules m.triangles (site_count m.sites)) n x)
+  -- refused by 1, 2 or 6
+  pub mends_held : (s : ℕ) → start s → s ≢ 0 → Mends m old old s 0 0 0
+  mends_held s x n = record {
+    number = finds_first (each (λ _. refused_triangle) (length m.triangles / 3) (SoundAt m.triangles (site_count m.sites)) ∷ work_rules m.triangles (site_count m.sites)) n x;
+    outcome = outcome_held m.triangles m.halfedges m.hull (site_count m.sites) old s n 0 0 0 refl refl refl
+        (start_few m.sites (length m.triangles) (length m.halfedges) (length m.hull) (mend_room_of m.sites m.triangles old) x);
+  }
 
-    pub mends_held : s ≢ refused_triangle → s ≢ 0 → Mends m old old r k p q
-    mends_held seven n =
-        let l = early_few m.sites m.triangles (length m.halfedges) (length m.hull) (mend_room_of m.sites m.triangles old) x in
-        record { number = found_early n; outcome = outcome_held m.triangles m.halfedges m.hull (site_count m.sites) old r (rw zr n) k p q zk zp zq (omega arith) }
+  module _ (s : ℕ) (x : start s) (z : s ≡ 0) where
+    kept_start : Keep (mend_start m.sites (length m.triangles) (length m.halfedges) (length m.hull) (mend_room_of m.sites m.triangles old))
+    kept_start = start_keep m.sites (length m.triangles) (length m.halfedges) (length m.hull) (mend_room_of m.sites m.triangles old) x z
 
-    pub mends_seven : s ≡ refused_triangle → (new : Lent) → Cleared old new → Mends m old new r k p q
-    mends_seven seven new c = record {
-      number = found_early (λ z. omega arith);
-      outcome = outcome_cleared m.triangles m.halfedges m.hull (site_count m.sites) old r (λ z. omega arith) k p q zk zp zq old new c refl refl refl refl (omega arith);
-    }
+    pub in_threes : length m.triangles % 3 ≡ 0
+    in_threes = kept_start.0.threes
 
-  module _ (s : ℕ) (x : early s) (z : s ≡ 0) where
-    keep : Keep (mend_early m.sites m.triangles (length m.halfedges) (length m.hull) (mend_room_of m.sites m.triangles old))
-    keep = early_keep m.sites m.triangles (length m.halfedges) (length m.hull) (mend_room_of m.sites m.triangles old) x z
+    module _ (t : ℕ) (g : First (SoundAt m.triangles (site_count m.sites)) (length m.triangles / 3) t) where
+      pub mends_seven : t < length m.triangles / 3 → (new : Lent) → Cleared old new → Mends m old new refused_triangle 0 0 0
+      mends_seven l new c = record {
+        number = finds_after (mend_start m.sites (length m.triangles) (length m.halfedges) (length m.hull) (mend_room_of m.sites m.triangles old)) kept_start (offends g l);
+        outcome = outcome_cleared m.triangles m.halfedges m.hull (site_count m.sites) old refused_triangle (λ z. omega arith) 0 0 0 refl refl refl old new c refl refl refl refl (omega arith);
+      }
 
-    pub ready : Ready m.triangles (site_count m.sites) old
-    ready =
-        let c = keep.0 in
-        let room = keep.1.0 in
-        let sound = keep.1.1.1.0 in
-        record {
-          named = record { threes = c.threes; small = few_entries c; named = sound_site m.triangles (site_count m.sites) c.threes sound };
-          sound = sound;
-          few = omega (arith, c.few_sites);
-          for_work = room.for_work;
-          for_pairs = room.for_pairs;
-          for_hull = room.for_hull;
-          for_chains = omega (arith, room.for_changes);
+      module _ (l : length m.triangles / 3 ≤ t) where
+        sound : AllSound m.triangles (site_count m.sites)
+        sound = first_all g l
+
+        pub ready : Ready m.triangles (site_count m.sites) old
+        ready =
+            let c = kept_start.0 in
+            let room = kept_start.1.0 in
+            record {
+              named = record { threes = c.threes; small = few_entries c; named = sound_site m.triangles (site_count m.sites) c.threes sound };
+              sound = sound;
+              few = omega (arith, c.few_sites);
+              for_work = room.for_work;
+              for_pairs = room.for_pairs;
+              for_hull = room.for_hull;
+              for_chains = omega (arith, room.for_changes);
+            }
+
+        pub lists : Lists m.triangles m.halfedges m.hull (site_count m.sites) (length old.changes)
+        lists =
+            let c = kept_start.0 in
+            record { same = c.same; some = omega (arith, c.three_on_hull); fits = c.hull_of_sites; for_changes = omega (arith, kept_start.1.0.for_changes) }
+
+        pub mends_worked : (r k p q : ℕ) (new : Lent)
+            → Finds (work_rules m.triangles (site_count m.sites)) 0 r × MendOutcome m.triangles m.halfedges m.hull (site_count m.sites) old new r k p q → Mends m old new r k p q
+        mends_worked r k p q new (f, o) = record {
+          number = finds_after (mend_start m.sites (length m.triangles) (length m.halfedges) (length m.hull) (mend_room_of m.sites m.triangles old)) kept_start (all_keep sound f);
+          outcome = o;
         }
-
-    pub lists : Lists m.triangles m.halfedges m.hull (site_count m.sites) (length old.changes)
-    lists =
-        let c = keep.0 in
-        record { same = c.same; some = omega (arith, c.three_on_hull); fits = c.hull_of_sites; for_changes = omega (arith, keep.1.0.for_changes) }
-
-    pub mends_worked : (r k p q : ℕ) (new : Lent)
-        → Finds (work_rules m.triangles (site_count m.sites)) 0 r × MendOutcome m.triangles m.halfedges m.hull (site_count m.sites) old new r k p q → Mends m old new r k p q
-    mends_worked r k p q new (f, o) = record {
-      number = finds_after (mend_early m.sites m.triangles (length m.halfedges) (length m.hull) (mend_room_of
-          m.sites m.triangles old)) keep f;
-      outcome = o;
-    }

@@ -65,7 +65,7 @@ module _ (tri : List ℕ) (first n : ℕ) (old new : Lent) where
         work = λ z. rw (← lw) (t.table z);
         pairs = λ z. pairs_filled tri b h s new.pairs (length old.pairs) zs ls a room;
         mended = λ z. sets_filled (hull_of tri (pairs_of tri) first n) m new.mended (length old.mended) zm lm (omega (arith, hull_fits tri (pairs_of tri) first n)) t.mended;
-        count = λ z. t.count;
+        count = t.count;
       }
 
 -- what was worked out, and the list of changes to it

@@ -1,11 +1,9 @@
 -- How the promise comes about: refused by 1 or 2, by 7 to 10 or 23, or made.
-use Rattle.std.specs.Prelude.{◌≡◌, refl, Bool, List, [], ◌∷◌, ◌++◌, ◌≢◌, ℕ, ◌-◌, ◌*◌, ◌≤◌, ◌<◌, eqb, take, drop, ⊤, Result}
+use Rattle.std.specs.Prelude.{◌≡◌, refl, List, [], ◌∷◌, ◌++◌, ◌≢◌, ℕ, ◌-◌, ◌*◌, ◌≤◌, ◌<◌, eqb, take, drop, ⊤, Result}
 use Rattle.std.proofs.Common.{sym, ap, ◌∙◌, subst, ⊎_elim, arith, length-append, take-append-drop, rules as by_rules, eq-eqb, ne_eqb}
-use Rattle.std.proofs.Math.Bool.{true, false}
 use Rattle.std.proofs.Math.ListN.{length, replicate}
 use Rattle.std.proofs.lemmas.List.{length-replicate}
 use Rattle.std.proofs.Math.Seq.{take-append_seam}
-use Rattle.base.specs.common.Decide.{Says}
 use Rattle.base.specs.common.Pick.{pick}
 use Rattle.base.specs.common.Refusals.{once, Keep, Finds, reads}
 use Rattle.base.specs.common.laws.Refusals.{breaks, keeps, nothing, finds_keep, finds_first, finds_after, finds_answers, finds_reads}
@@ -26,7 +24,7 @@ use Rattle.flipping.specs.laws.Quad.{flippable_quad}
 use Rattle.flipping.specs.rule.Asked.{FlipAsked}
 use Rattle.flipping.specs.stores.Ready.{FlipReady, FlipChanged}
 use Rattle.flipping.specs.call.Flips.{FlipLists, flip_lists, flip_start, flip_late, flip_rules, when_flipped, new_triangles, new_pairs, new_table, Flips}
-use Rattle.flipping.specs.call.Steps.{Checkable, verdict_of, settled_work, Judges}
+use Rattle.flipping.specs.call.Steps.{Checkable, Judges}
 use Rattle.flipping.specs.call.laws.Tables.{ready, stored_again}
 
 -- ---- lengths
@@ -68,15 +66,6 @@ checkable sites hull old k = record {
   work_room = k.1.0.1;
 }
 
--- ---- the work slice after 23
-pub settled_cleared : (old : List ℕ) (r : ℕ) → r ≡ refused_flip → settled_work old r ≡ replicate (length old) EMPTY
-unfolding settled_work
-settled_cleared old r z = rw (eq-eqb r refused_flip z)
-
-pub settled_kept : (old : List ℕ) (r : ℕ) → r ≢ refused_flip → settled_work old r ≡ old
-unfolding settled_work
-settled_kept old r n = rw (ne_eqb r refused_flip n)
-
 -- ---- rules 7 to 10 and 23
 module _ (tri he hull table : List ℕ) (sites a : ℕ) (old : List ℕ) (c : Checkable tri he hull table old sites) where
   module _ (mid : List ℕ) (f : Result ⊤ MeshFault) (x : TopologyAnswer tri he hull sites old mid f) (k : ℕ) (is : k ≡ number_of f) where
@@ -110,16 +99,17 @@ module _ (tri he hull table : List ℕ) (sites a : ℕ) (old : List ℕ) (c : Ch
         worked_out = ap (take sites) holds_table ∙ table_first tri he sites (length old);
       }
 
-      pub judged_flip : (new : List ℕ) (yes : Bool) (r : ℕ) → Says yes (Flippable tri he sites table a) → r ≡ verdict_of yes → new ≡ settled_work mid r
-          → Judges tri he hull table sites a old new r
-      unfolding verdict_of settled_work
-      judged_flip new true r s q w = record {
-        number = rw q (finds_after (reads number_of (topology_rules tri he hull sites)) kept (keeps s nothing));
-        work = w ∙ rw q holds_table;
+      pub judged_made : Flippable tri he sites table a → Judges tri he hull table sites a old mid 0
+      judged_made s = record {
+        number = finds_after (reads number_of (topology_rules tri he hull sites)) kept (keeps s nothing);
+        work = holds_table;
       }
-      judged_flip new false r s q w = record {
-        number = rw q (finds_after (reads number_of (topology_rules tri he hull sites)) kept (breaks s));
-        work = w ∙ rw q (ap (λ k. replicate k EMPTY) (ap length holds_table ∙ table_fills tri he sites (length old) c.work_room));
+
+      -- the work slice is cleared after 23
+      pub judged_refused : (new : List ℕ) → (Flippable tri he sites table a → ⊥) → new ≡ replicate (length mid) EMPTY → Judges tri he hull table sites a old new refused_flip
+      judged_refused new n w = record {
+        number = finds_after (reads number_of (topology_rules tri he hull sites)) kept (breaks n);
+        work = w ∙ ap (λ k. replicate k EMPTY) (ap length holds_table ∙ table_fills tri he sites (length old) c.work_room);
       }
 
 -- ---- the whole call

@@ -9,9 +9,8 @@ use Rattle.mesh.specs.Accepted.{Topology}
 use Rattle.mesh.specs.laws.Next.{next_lt}
 use Rattle.mesh.specs.laws.Table.{table_length}
 use Rattle.mesh.specs.laws.Facts.{paired, start_site, tab_some}
-use Rattle.flipping.specs.declared.Four.{Four}
 use Rattle.flipping.specs.Flip.{turned_sites, relinked}
-use Rattle.flipping.specs.Entries.{flip_corners, entries_of, stored_four, gain_of, loss_of}
+use Rattle.flipping.specs.Entries.{Four, flip_corners, entries_of, stored_four, gain_of, loss_of}
 use Rattle.flipping.specs.laws.Quad.{Quad}
 use Rattle.flipping.specs.laws.Pairs.{outer_l, outer_r}
 use Rattle.flipping.specs.laws.NewTable.{table_again}
@@ -21,24 +20,24 @@ use Rattle.flipping.specs.stores.laws.Changes.{same_four}
 -- four stores in the first of two lists
 pub four_append : (t rest : List ℕ) (s v : Four) → InFour s (length t) → stored_four (t ++ rest) s v ≡ stored_four t s v ++ rest
 four_append t rest s v i =
-    let one = set t s.first v.first in
-    let two = set one s.second v.second in
-    let three = set two s.third v.third in
-    let l1 : length one ≡ length t = length-set t s.first v.first in
-    let l2 : length two ≡ length t = length-set one s.second v.second ∙ l1 in
-    let l3 : length three ≡ length t = length-set two s.third v.third ∙ l2 in
-    ap (λ k. set (set (set k s.second v.second) s.third v.third) s.fourth v.fourth) (set-append_left t rest s.first v.first i.first)
-    ∙ ap (λ k. set (set k s.third v.third) s.fourth v.fourth) (set-append_left one rest s.second v.second (rw l1 i.second))
-    ∙ ap (λ k. set k s.fourth v.fourth) (set-append_left two rest s.third v.third (rw l2 i.third))
-    ∙ set-append_left three rest s.fourth v.fourth (rw l3 i.fourth)
+    let one = set t s.0 v.0 in
+    let two = set one s.1 v.1 in
+    let three = set two s.2 v.2 in
+    let l1 : length one ≡ length t = length-set t s.0 v.0 in
+    let l2 : length two ≡ length t = length-set one s.1 v.1 ∙ l1 in
+    let l3 : length three ≡ length t = length-set two s.2 v.2 ∙ l2 in
+    ap (λ k. set (set (set k s.1 v.1) s.2 v.2) s.3 v.3) (set-append_left t rest s.0 v.0 i.first)
+    ∙ ap (λ k. set (set k s.2 v.2) s.3 v.3) (set-append_left one rest s.1 v.1 (rw l1 i.second))
+    ∙ ap (λ k. set k s.3 v.3) (set-append_left two rest s.2 v.2 (rw l2 i.third))
+    ∙ set-append_left three rest s.3 v.3 (rw l3 i.fourth)
 
 pub entries_append : (he t rest : List ℕ) (s : Four) (a b r l : ℕ) → InFour s (length t) → entries_of he (t ++ rest) s a b r l ≡ entries_of he t s a b r l
 entries_append he t rest s a b r l i =
     same_four _ _
-    (ap (λ k. loss_of he k r b) (get_or-append t rest 0 s.first i.first))
-    (ap (λ k. loss_of he k l a) (get_or-append t rest 0 s.second i.second))
-    (ap (λ k. gain_of he k l) (get_or-append t rest 0 s.third i.third))
-    (ap (λ k. gain_of he k r) (get_or-append t rest 0 s.fourth i.fourth))
+    (ap (λ k. loss_of he k r b) (get_or-append t rest 0 s.0 i.first))
+    (ap (λ k. loss_of he k l a) (get_or-append t rest 0 s.1 i.second))
+    (ap (λ k. gain_of he k l) (get_or-append t rest 0 s.2 i.third))
+    (ap (λ k. gain_of he k r) (get_or-append t rest 0 s.3 i.fourth))
 
 module _ {tri he hull : List ℕ} {sites : ℕ} (ok : Topology tri he hull sites) {a b r l : ℕ} (q : Quad tri he a b r l) where
   abbrev fresh : List ℕ

@@ -2,18 +2,17 @@
 use Rattle.std.specs.Prelude.{◌≡◌, List, ℕ}
 use Rattle.std.proofs.Common.{ap, ◌∙◌}
 use Rattle.mesh.specs.Mesh.{pair_of}
-use Rattle.flipping.specs.declared.Four.{Four}
 use Rattle.flipping.specs.Flip.{before_of, turned_sites, relinked}
-use Rattle.flipping.specs.Entries.{flip_corners, entries_of, stored_four}
+use Rattle.flipping.specs.Entries.{Four, flip_corners, entries_of, stored_four}
 use Rattle.flipping.specs.stores.Ready.{FlipReady, Retabled, FlipChanged}
 
 -- four numbers that are the same one by one
 abbrev four : ℕ → ℕ → ℕ → ℕ → Four
-four p q x y = record { first = p; second = q; third = x; fourth = y }
+four p q x y = (p, q, x, y)
 
-pub same_four : (s t : Four) → s.first ≡ t.first → s.second ≡ t.second → s.third ≡ t.third → s.fourth ≡ t.fourth → s ≡ t
+pub same_four : (s t : Four) → s.0 ≡ t.0 → s.1 ≡ t.1 → s.2 ≡ t.2 → s.3 ≡ t.3 → s ≡ t
 same_four s t q₁ q₂ q₃ q₄ =
-    let e : four s.first s.second s.third s.fourth ≡ four t.first t.second t.third t.fourth = rw (q₁, q₂, q₃, q₄) in
+    let e : four s.0 s.1 s.2 s.3 ≡ four t.0 t.1 t.2 t.3 = rw (q₁, q₂, q₃, q₄) in
     e
 
 pub retabled : (tri he work old new : List ℕ) (a b r l : ℕ) (s v : Four) → s ≡ flip_corners tri a b r l → v ≡ entries_of he work s a b r l

@@ -1,6 +1,6 @@
 -- The whole check's answer with the work slice, and how it comes about: each rule is tried where those before it hold, and one that stands before
 -- rule 7 leaves the work slice alone.
-use Rattle.std.specs.Prelude.{◌≡◌, List, ◌≢◌, ℕ, ◌≤◌, ◌<◌, length, ⊤, Result}
+use Rattle.std.specs.Prelude.{◌≡◌, List, ◌≢◌, ℕ, ◌≤◌, ◌<◌, length, ⊤, Result, Ok, Err}
 use Rattle.std.proofs.Math.Path.{refl, sym, ap}
 use Rattle.std.proofs.Common.{◌∙◌, arith, rules as by_rules, ne_eqb}
 use Rattle.base.specs.common.Pick.{pick}
@@ -8,23 +8,33 @@ use Rattle.base.specs.common.Decide.{First}
 use Rattle.base.specs.common.Refusals.{Rule, Keep, Finds, reads}
 use Rattle.base.specs.common.laws.Decide.{first_all}
 use Rattle.base.specs.common.laws.Refusals.{breaks, offends, keeps, all_keep, finds_keep, finds_first, finds_after, finds_reads, finds_answers}
-use Rattle.base.specs.numbers.Numbers.{EMPTY, refused_count, refused_room, refused_grid}
+use Rattle.base.specs.numbers.Numbers.{EMPTY, refused_grid}
+use Rattle.base.specs.declared.refusal.Refusal.TheVariants as refusal
+use Rattle.base.specs.refusal.Number as number
 use Rattle.mesh.specs.declared.MeshFault.{MeshFault}
 use Rattle.mesh.specs.Mesh.{leftmost_in}
-use Rattle.mesh.specs.Faults.{number_of, topology_rules}
+use Rattle.mesh.specs.Faults.{refusal_of, number_of, topology_rules}
 use Rattle.mesh.specs.Accepted.{Counted}
 use Rattle.mesh.specs.laws.Facts.{few_entries, sound_site}
+use Rattle.mesh.specs.laws.Refusing.{fault_number}
 use Rattle.mesh_check.specs.whole.AtExit.{at_exit}
 use Rattle.mesh_check.specs.whole.Answers.{TopologyAnswer}
 use Rattle.grid.specs.Plane.{WithinAt}
-use Rattle.grid.specs.declared.scan.GridAnswer.{GridAnswer}
-use Rattle.grid.specs.declared.scan.GridAnswer.TheVariants.{Good, Refused}
-use Rattle.grid.specs.scan.Judged.{judge_rules, grid_number}
+use Rattle.grid.specs.declared.scan.GridFault.TheVariants.{Refused}
+use Rattle.grid.specs.scan.Judged.{GridAnswer, judge_rules, grid_number}
 use Rattle.grid.specs.scan.laws.Scannable.{Scannable}
 use Rattle.grid.specs.check.Promise.{GridMesh, grid_sites, refused_by, grid_rules, grid_work}
 
+-- a fault is not that everything holds
+pub unlike : {E : Type 0} {f : E} → ◌≡◌ {A = Result ⊤ E} (Err f) (Ok tt) → ⊥
+unlike e = let z : ◌≡◌ {A = ℕ} 1 0 = ap told e in omega arith
+  where
+    told : {E : Type 0} → Result ⊤ E → ℕ
+    told (Ok _) = 0
+    told (Err _) = 1
+
 pub record GridSettled (m : GridMesh) (old new : List ℕ) (a : GridAnswer) : Type 0 where
-  pub found : Finds (grid_rules m (length old)) Good a
+  pub found : Finds (grid_rules m (length old)) (Ok tt) a
   pub work : new ≡ grid_work m old (grid_number a)
 
 module _ (m : GridMesh) (old : List ℕ) where
@@ -34,46 +44,46 @@ module _ (m : GridMesh) (old : List ℕ) where
   abbrev judged : List (Rule GridAnswer)
   judged = judge_rules m.grid m.triangles m.halfedges
 
-  pub by_counts : (Counted (length m.grid) (length m.triangles) (length m.halfedges) (length m.hull) → ⊥) → GridSettled m old old (Refused refused_count)
+  pub by_counts : (Counted (length m.grid) (length m.triangles) (length m.halfedges) (length m.hull) → ⊥) → GridSettled m old old (Err (Refused refusal.Count))
   unfolding grid_work at_exit
   by_counts n = record { found = breaks n; work = refl }
 
+  -- the work slice after 7 to 10, which is what the check of the mesh left
+  module _ (new : List ℕ) (f : Result ⊤ MeshFault) (t : TopologyAnswer m.triangles m.halfedges m.hull (grid_sites m) old new f) where
+    -- no fault of the mesh has the number 22
+    other : number_of f ≢ refused_grid
+    other = finds_answers (λ b. number_of b ≢ refused_grid) (λ h. omega arith)
+        (λ _ h. omega arith, (λ _ h. omega arith, (λ _ h. omega arith, (λ _ h. omega arith, (λ _ h. omega arith, tt))))) t.verdict
+
+    exit : (r : ℕ) → r ≡ number_of f → new ≡ grid_work m old r
+    unfolding grid_work
+    exit r e =
+        t.work
+        ∙ ap (at_exit EMPTY (leftmost_in m.triangles m.halfedges (grid_sites m) (length old)) old) (sym e)
+        ∙ sym (ap (λ b. pick b (λ _. old) (λ _. at_exit EMPTY (leftmost_in m.triangles m.halfedges (grid_sites m) (length old)) old r))
+        (ne_eqb r refused_grid (λ h. other (sym e ∙ h))))
+
   module _ (c : Counted (length m.grid) (length m.triangles) (length m.halfedges) (length m.hull)) where
-    pub by_room : length old < grid_sites m → GridSettled m old old (Refused refused_room)
+    pub by_room : length old < grid_sites m → GridSettled m old old (Err (Refused refusal.Room))
     unfolding grid_work at_exit
     by_room l = record { found = keeps c (breaks (λ h. omega arith)); work = refl }
 
     module _ (room : grid_sites m ≤ length old) (s : ℕ) (g : First (WithinAt m.grid) (grid_sites m) s) where
-      pub by_grid : s < grid_sites m → GridSettled m old old (Refused refused_grid)
+      pub by_grid : s < grid_sites m → GridSettled m old old (Err (Refused refusal.Grid))
       unfolding grid_work
       by_grid l = record { found = keeps c (keeps room (offends g l)); work = refl }
 
-      module _ (inside : grid_sites m ≤ s) (new : List ℕ) (f : Result ⊤ MeshFault)
-          (t : TopologyAnswer m.triangles m.halfedges m.hull (grid_sites m) old new f) (k : ℕ) (q : k ≡ number_of f) where
-        -- no fault of the mesh has the number 22
-        other : number_of f ≢ refused_grid
-        other = finds_answers (λ b. number_of b ≢ refused_grid) (λ h. omega arith)
-            (λ _ h. omega arith, (λ _ h. omega arith, (λ _ h. omega arith, (λ _ h. omega arith, (λ _ h. omega arith, tt))))) t.verdict
-
-        exit : (r : ℕ) → r ≡ number_of f → new ≡ grid_work m old r
-        unfolding grid_work
-        exit r e =
-            t.work
-            ∙ ap (at_exit EMPTY (leftmost_in m.triangles m.halfedges (grid_sites m) (length old)) old) (sym e)
-            ∙ sym (ap (λ b. pick b (λ _. old) (λ _. at_exit EMPTY (leftmost_in m.triangles m.halfedges (grid_sites m) (length old)) old r))
-            (ne_eqb r refused_grid (λ h. other (sym e ∙ h))))
-
+      module _ (inside : grid_sites m ≤ s) (new : List ℕ) where
         -- refused by 7 to 10
-        pub by_mesh : k ≢ 0 → GridSettled m old new (Refused k)
-        by_mesh n = record {
-          found = keeps c (keeps room (all_keep (first_all g inside)
-              (rw q (finds_first judged (λ h. n (q ∙ ap grid_number h)) (finds_reads refused_by t.verdict)))));
-          work = exit k q;
+        pub by_mesh : (f : MeshFault) → TopologyAnswer m.triangles m.halfedges m.hull (grid_sites m) old new (Err f) → GridSettled m old new (Err (Refused (refusal_of f)))
+        by_mesh f t = record {
+          found = keeps c (keeps room (all_keep (first_all g inside) (finds_first judged unlike (finds_reads refused_by t.verdict))));
+          work = exit new (Err f) t (number.number_of (refusal_of f)) (fault_number f);
         }
 
-        module _ (z : k ≡ 0) where
+        module _ (t : TopologyAnswer m.triangles m.halfedges m.hull (grid_sites m) old new (Ok tt)) where
           hold : Keep rules
-          hold = finds_keep (λ b. number_of b ≡ 0) (search by_rules) (sym q ∙ z) t.verdict
+          hold = finds_keep (λ b. number_of b ≡ 0) (search by_rules) refl t.verdict
 
           pub ready : Scannable m.grid m.triangles m.halfedges
           ready = record {
@@ -88,8 +98,8 @@ module _ (m : GridMesh) (old : List ℕ) where
           }
 
           -- judged
-          pub by_scan : (a : GridAnswer) → Finds judged Good a → GridSettled m old new a
+          pub by_scan : (a : GridAnswer) → Finds judged (Ok tt) a → GridSettled m old new a
           by_scan a x = record {
             found = keeps c (keeps room (all_keep (first_all g inside) (finds_after (reads refused_by rules) hold x)));
-            work = exit (grid_number a) (finds_answers (λ b. grid_number b ≡ 0) refl (λ _. refl, (λ _. refl, tt)) x ∙ sym z ∙ q);
+            work = exit new (Ok tt) t (grid_number a) (finds_answers (λ b. grid_number b ≡ 0) refl (λ _. refl, (λ _. refl, tt)) x);
           }

@@ -1,6 +1,6 @@
 -- The whole check's answer with the work slice, and how it comes about: the hull is judged where the check on the grid says yes; the leftmost table tells
 -- which sites are in use.
-use Rattle.std.specs.Prelude.{◌≡◌, refl, List, [], ◌∷◌, ◌≢◌, ℕ, ◌-◌, ◌≤◌, ◌<◌, length, get_or, replicate}
+use Rattle.std.specs.Prelude.{◌≡◌, refl, List, [], ◌∷◌, ◌≢◌, ℕ, ◌-◌, ◌≤◌, ◌<◌, length, get_or, replicate, Ok, Err}
 use Rattle.std.proofs.Common.{sym, ◌∙◌, subst, inl, inr, ⊎_elim, arith, length-append}
 use Rattle.std.proofs.Math.Path.{ap}
 use Rattle.base.specs.common.Refusals.{Keep, Judged, Finds, each, reads}
@@ -12,48 +12,34 @@ use Rattle.mesh.specs.laws.Facts.{few_entries, few_on_hull, end_site, end_used, 
 use Rattle.mesh.specs.laws.Table.{longer_at}
 use Rattle.mesh.specs.laws.Verdicts.{keep_topology}
 use Rattle.mesh_check.specs.whole.AtExit.{at_exit}
-use Rattle.grid.specs.declared.scan.GridAnswer.{GridAnswer}
-use Rattle.grid.specs.declared.scan.GridAnswer.TheVariants as grid
-use Rattle.grid.specs.scan.Judged.{judge_rules, grid_number, grid_kind, grid_place}
+use Rattle.base.specs.declared.refusal.Refusal.{Refusal}
+use Rattle.grid.specs.declared.scan.GridFault.{GridFault}
+use Rattle.grid.specs.declared.scan.GridFault.TheVariants.{Refused}
+use Rattle.grid.specs.scan.Judged.{GridAnswer, judge_rules, grid_number}
 use Rattle.grid.specs.check.Promise.{GridMesh, grid_sites, refusing, grid_rules, grid_work, GridChecks}
-use Rattle.grid.specs.check.Yes.{yes_holds, holds_yes}
-use Rattle.grid.specs.check.laws.Outcome.{GridSettled}
-use Rattle.grid.specs.declared.border.HullVerdict.{HullVerdict}
-use Rattle.grid.specs.declared.border.HullVerdict.TheVariants.{Convex, Place}
-use Rattle.grid.specs.border.ShortForm.{short_rules}
+use Rattle.grid.specs.check.Yes.{yes_holds}
+use Rattle.grid.specs.check.laws.Outcome.{unlike, GridSettled}
+use Rattle.grid.specs.border.ShortForm.{HullVerdict, short_rules}
 use Rattle.grid.specs.border.laws.Hulls.{HullSites}
-use Rattle.grid.specs.declared.nearest.NearestAnswer.{NearestAnswer}
-use Rattle.grid.specs.declared.nearest.NearestAnswer.TheVariants.{Nearest}
-use Rattle.grid.specs.nearest.Judged.{of_grid, of_hull, nearest_number, nearest_kind}
+use Rattle.grid.specs.declared.nearest.NearestFault.TheVariants.{Grid}
+use Rattle.grid.specs.nearest.Judged.{NearestAnswer, of_grid, of_hull, nearest_number}
 use Rattle.grid.specs.nearest.Promise.{nearest_rules, use_rules}
 
 pub record NearestSettled (m : GridMesh) (old new : List ℕ) (a : NearestAnswer) : Type 0 where
-  pub found : Finds (nearest_rules m (length old)) Nearest a
+  pub found : Finds (nearest_rules m (length old)) (Ok tt) a
   pub accepted : nearest_number a ≡ 0 → Keep (refusing m (length old))
   pub work : new ≡ grid_work m old (nearest_number a)
 
-same_number : (a : GridAnswer) → grid_number a ≡ nearest_number (of_grid a)
-same_number grid.Good = refl
-same_number (grid.Triangle t) = refl
-same_number (grid.Halfedge e) = refl
-same_number (grid.Refused n) = refl
-
-same_kind : (a : GridAnswer) → grid_kind a ≡ nearest_kind (of_grid a)
-same_kind grid.Good = refl
-same_kind (grid.Triangle t) = refl
-same_kind (grid.Halfedge e) = refl
-same_kind (grid.Refused n) = refl
-
 hull_number : (h : HullVerdict) → nearest_number (of_hull h) ≡ 0
-hull_number Convex = refl
-hull_number (Place i) = refl
+hull_number (Ok _) = refl
+hull_number (Err f) = refl
 
 module _ (m : GridMesh) (old new : List ℕ) where
   -- what the number 0 tells, whatever is judged
   abbrev Zero : GridAnswer → Type 0
-  Zero a = grid_number a ≡ 0 → a ≡ grid.Good
+  Zero a = grid_number a ≡ 0 → a ≡ Ok tt
 
-  zero : (w : ℕ) {a : GridAnswer} → Finds (refusing m w) grid.Good a → Zero a
+  zero : (w : ℕ) {a : GridAnswer} → Finds (refusing m w) (Ok tt) a → Zero a
   zero w = finds_answers Zero (λ _. refl) (
     λ _ h. absurd (omega arith),
     (
@@ -90,27 +76,27 @@ module _ (m : GridMesh) (old new : List ℕ) where
         ),
       ) s.found)
     where
-      other : {n : ℕ} → grid.Refused n ≡ grid.Good → ⊥
-      other e = let z : EMPTY ≡ 0 = ap grid_kind e in omega arith
+      other : {r : Refusal} → ◌≡◌ {A = GridAnswer} (Err (Refused r)) (Ok tt) → ⊥
+      other = unlike
 
   -- ---- the check on the grid names something or refuses
-  pub by_grid : (a : GridAnswer) → GridSettled m old new a → (b : NearestAnswer) → b ≡ of_grid a → (k : ℕ) → k ≡ nearest_kind b → k ≢ 0 → NearestSettled m old new b
-  by_grid a s b q k e n = subst (NearestSettled m old new) (sym q) (record {
-    found = finds_first (reads of_hull (short_rules m.grid m.hull)) (λ h. n (e ∙ ap nearest_kind q ∙ ap nearest_kind h)) (finds_reads of_grid s.found);
-    accepted = λ z. zero_accepted a s (same_number a ∙ z);
-    work = s.work ∙ ap (grid_work m old) (same_number a);
-  })
+  pub by_grid : (f : GridFault) → GridSettled m old new (Err f) → NearestSettled m old new (Err (Grid f))
+  by_grid f s = record {
+    found = finds_first (reads of_hull (short_rules m.grid m.hull)) unlike (finds_reads of_grid s.found);
+    accepted = λ z. zero_accepted (Err f) s z;
+    work = s.work;
+  }
 
   -- ---- it says yes
-  module _ (a : GridAnswer) (s : GridSettled m old new a) (b : NearestAnswer) (q : b ≡ of_grid a) (k : ℕ) (e : k ≡ nearest_kind b) (z : k ≡ 0) where
-    checks : GridChecks m old new (grid_number a) (grid_kind a) (grid_place a)
-    checks = record { answer = a; found = s.found; number = refl; kind_is = refl; at_place = refl; work = s.work }
+  module _ (s : GridSettled m old new (Ok tt)) where
+    checks : GridChecks m old new 0 0 EMPTY
+    checks = record { answer = Ok tt; found = s.found; number = refl; kind_is = refl; at_place = refl; work = s.work }
 
     hold : Keep (grid_rules m (length old))
-    hold = yes_holds m old new _ _ _ checks (same_kind a ∙ sym (ap nearest_kind q) ∙ sym e ∙ z)
+    hold = yes_holds m old new _ _ _ checks refl
 
     refused_none : Keep (refusing m (length old))
-    refused_none = zero_accepted a s (holds_yes m old new _ _ _ checks hold).0
+    refused_none = zero_accepted (Ok tt) s refl
 
     mesh : Topology m.triangles m.halfedges m.hull (grid_sites m)
     mesh = let c = hold.0 in keep_topology _ _ _ _ c.threes c.same (few_entries c) refused_none.1.1.1
@@ -118,12 +104,12 @@ module _ (m : GridMesh) (old new : List ℕ) where
     pub ready : HullSites m.grid m.hull
     ready = record { within = hold.1.1.0; small = few_on_hull hold.0; sites = λ i l. (mesh.border.fresh i l).0 }
 
-    pub by_hull : (h : HullVerdict) → Finds (short_rules m.grid m.hull) Convex h → (c : NearestAnswer) → c ≡ of_hull h → NearestSettled m old new c
-    by_hull h f c r = subst (NearestSettled m old new) (sym r) (record {
+    pub by_hull : (h : HullVerdict) → Finds (short_rules m.grid m.hull) (Ok tt) h → NearestSettled m old new (of_hull h)
+    by_hull h f = record {
       found = finds_after (reads of_grid (grid_rules m (length old))) hold (finds_reads of_hull f);
       accepted = λ _. refused_none;
-      work = s.work ∙ ap (grid_work m old) ((holds_yes m old new _ _ _ checks hold).0 ∙ sym (hull_number h));
-    })
+      work = s.work ∙ ap (grid_work m old) (sym (hull_number h));
+    }
 
 -- ---- sites in use, by the table
 pub record UnusedIn (number : ℕ) (table : List ℕ) (count r : ℕ) : Type 0 where

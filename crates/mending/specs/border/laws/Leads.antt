@@ -148,6 +148,23 @@ lowest_is t (suc n) l =
     (λ h. rw (lowest_kept t n h) (record { none = λ z. absurd (h z); some = λ z. let s = g.some z in (omega (arith, s.0), s.1); least = g.least }))
     (eq_or_ne (lowest_to t n) EMPTY)
 
+-- the first that leads on, or that none does
+pub lowest_found : (t : List ℕ) (s : ℕ) → length t < EMPTY → s < length t → ((k : ℕ) → k < s → get_or t k 0 ≡ EMPTY) → get_or t s 0 ≢ EMPTY → s ≡ lowest_to t (length t)
+lowest_found t s small l f n =
+    let g = lowest_is t (length t) (omega arith) in
+    let some : lowest_to t (length t) ≢ EMPTY = λ z. n (g.none z s l) in
+    let low : lowest_to t (length t) ≤ s = not_lt (λ h. n (g.least some s h)) in
+    let high : s ≤ lowest_to t (length t) = not_lt (λ h. (g.some some).1 (f (lowest_to t (length t)) h)) in
+    omega (arith, low, high)
+  where
+    not_lt : {a b : ℕ} → (b < a → ⊥) → a ≤ b
+    not_lt {a} {b} h = ⊎_elim (λ l. absurd (h l)) (λ l. l) (lt_or_ge b a)
+
+pub lowest_all : (t : List ℕ) → length t < EMPTY → ((k : ℕ) → k < length t → get_or t k 0 ≡ EMPTY) → EMPTY ≡ lowest_to t (length t)
+lowest_all t small f =
+    let g = lowest_is t (length t) (omega arith) in
+    ⊎_elim (λ z. sym z) (λ z. let s = g.some z in absurd (s.1 (f (lowest_to t (length t)) s.0))) (eq_or_ne (lowest_to t (length t)) EMPTY)
+
 module _ (t : List ℕ) (first : ℕ) where
   pub begins_first : get_or t first EMPTY ≢ EMPTY → loop_begin t first ≡ first
   unfolding loop_begin
