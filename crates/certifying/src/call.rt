@@ -161,14 +161,9 @@ fn site_of_side(offsets: &[u32], count: usize, e: usize) -> usize
     requires { count < length offsets.now }
     ensures { result ≡ site_of_side offsets.now count e }
 {
-    let mut s = 0;
-    while s < count {
-        if e < wide(offsets[s + 1]) {
-            return s;
-        }
-        s += 1;
-    }
-    s
+    (0..count)
+        .find(|&s| e < wide(offsets[s + 1]))
+        .unwrap_or(count)
 }
 
 fn name_side(sites: &[f64], offsets: &[u32], indexes: &[u32], e: usize) -> CertifyVerdict

@@ -286,15 +286,7 @@ fn all_fair(
     ensures { result ≡ true
         → count ≡ lowest (surplus_at bounds vertices.now indexes.now (laid_ends work.now count) count) count }
 {
-    let mut m = 0;
-    while m < count {
-        if is_fair(work, vertices, indexes, bounds, count, m) {
-            m += 1;
-        } else {
-            return false;
-        }
-    }
-    true
+    (0..count).all(|m| is_fair(work, vertices, indexes, bounds, count, m))
 }
 
 // The first side of which more run its way than back, or their number. They are asked one by one only where there is one.
@@ -311,14 +303,9 @@ pub fn first_surplus(
     if all_fair(work, vertices, indexes, bounds, count) {
         return count;
     }
-    let mut k = 0;
-    while k < count {
-        if is_surplus(work, vertices, indexes, bounds, count, k) {
-            return k;
-        }
-        k += 1;
-    }
-    k
+    (0..count)
+        .find(|&k| is_surplus(work, vertices, indexes, bounds, count, k))
+        .unwrap_or(count)
 }
 
 // Whether the top right corner is left once more than it is reached.
@@ -334,12 +321,10 @@ pub fn left_once(
 {
     let mut left = 0;
     let mut reached = 0;
-    let mut k = 0;
-    while k < count {
+    for k in 0..count {
         let side = side_at(work, vertices, indexes, k);
         left += one_if(leaves(bounds, side.from, side.to));
         reached += one_if(leaves(bounds, side.to, side.from));
-        k += 1;
     }
     left == reached + 1
 }
@@ -360,12 +345,10 @@ fn lay_ring(work: &mut [u32], cell: &[u32], base: usize)
     requires { (3 * (base + length cell.now) ≤ length work.old) × (base + length cell.now ≤ 2 ^ 24) }
     ensures { RingLaid base cell.now (length cell.now) work.old work.new }
 {
-    let mut i = 0;
-    while i < cell.len() {
+    for i in 0..cell.len() {
         let k = base + i;
         work[3 * k] = 0;
         work[3 * k + 2] = end_at(cell, i);
-        i += 1;
     }
 }
 
@@ -375,14 +358,12 @@ fn lay(work: &mut [u32], offsets: &[u32], indexes: &[u32])
     ensures { LaidTo offsets.now indexes.now (length offsets.now - 1) work.old work.new }
 {
     let count = offsets.len() - 1;
-    let mut s = 0;
-    while s < count {
+    for s in 0..count {
         lay_ring(
             work,
             walks::shared::cell(offsets, indexes, s),
             wide(offsets[s]),
         );
-        s += 1;
     }
 }
 
@@ -417,9 +398,7 @@ pub fn insert_all(
     ensures { InsertsAll vertices.now offsets.now indexes.now count work.old work.new }
 {
     lay(work, offsets, indexes);
-    let mut k = 0;
-    while k < count {
+    for k in 0..count {
         insert(work, vertices, indexes, count, k);
-        k += 1;
     }
 }

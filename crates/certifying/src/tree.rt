@@ -76,10 +76,8 @@ fn extremes_from(sites: &[f64], room: &[u32], from: usize, to: usize) -> Extreme
         right: o,
         bottom: o,
     };
-    let mut j = from + 1;
-    while j < to {
-        e = widened(sites, e, room[j]);
-        j += 1;
+    for o in &room[from + 1..to] {
+        e = widened(sites, e, *o);
     }
     e
 }
@@ -119,10 +117,8 @@ fn fill(sites: &[f64], room: &mut [u32], w: usize, base: usize)
     ensures { LevelFilled sites.now w base room.old room.new }
 {
     let n = sites.len() / 2;
-    let mut b = 0;
-    while b * w < n {
+    for b in 0..n.div_ceil(w) {
         fill_node(sites, room, w, base, b);
-        b += 1;
     }
 }
 
@@ -163,10 +159,8 @@ fn start(room: &mut [u32], n: usize)
     requires { (n ≤ 65536) × (n ≤ length room.old) }
     ensures { Order n room.new × (length room.new ≡ length room.old) }
 {
-    let mut i = 0;
-    while i < n {
+    for i in 0..n {
         room[i] = narrow(i);
-        i += 1;
     }
 }
 
@@ -222,15 +216,16 @@ fn halve(sites: &[f64], room: &mut [u32], from: usize, to: usize, half: usize, a
 {
     let mut lo = from;
     let mut hi = to;
-    let mut left: usize = 64;
-    while (0 < left) & (lo + 1 < hi) {
+    for _ in 0..64 {
+        if hi <= lo + 1 {
+            return;
+        }
         let pivot = middle(
             key(sites, room, lo, axis),
             key(sites, room, lo + (hi - lo) / 2, axis),
             key(sites, room, hi - 1, axis),
         );
         let m = split(sites, room, lo, hi, axis, pivot);
-        left -= 1;
         if m == half {
             return;
         }
@@ -264,12 +259,10 @@ fn halve_all(sites: &[f64], room: &mut [u32], half: usize)
     ensures { Reordered (length sites.now / 2) room.old room.new }
 {
     let n = sites.len() / 2;
-    let mut a = 0;
-    while a + half < n {
+    for a in (0..n.saturating_sub(half)).step_by(2 * half) {
         let to = smaller(a + 2 * half, n);
         let axis = wider(sites, room, a, to);
         halve(sites, room, a, to, a + half, axis);
-        a += 2 * half;
     }
 }
 
@@ -299,10 +292,8 @@ fn spanned(sites: &[f64], from: usize, to: usize) -> Window
         right: p.x,
         bottom: p.y,
     };
-    let mut j = from + 1;
-    while j < to {
+    for j in from + 1..to {
         w = stretched(w, point_at(sites, j));
-        j += 1;
     }
     w
 }
@@ -319,12 +310,9 @@ fn is_close(sites: &[f64], w: usize, first: usize, end: usize) -> bool
 {
     let all = side_of(spanned(sites, first, end));
     let mut sum = 0.0;
-    let mut from = first;
-    while from < end {
-        let to = smaller(from + w, end);
-        let side = side_of(spanned(sites, from, to));
-        sum = sum + side * side;
-        from = to;
+    for from in (first..end).step_by(w) {
+        let side = side_of(spanned(sites, from, smaller(from + w, end)));
+        sum += side * side;
     }
     sum <= 2.0 * (all * all)
 }
@@ -334,13 +322,10 @@ fn all_close(sites: &[f64], w: usize) -> bool
     requires { (0 < w) × (w ≤ 4096) × (length sites.now / 2 ≤ 65536) }
 {
     let n = sites.len() / 2;
-    let mut from = 0;
-    while from < n {
-        let to = smaller(from + 16 * w, n);
-        if !is_close(sites, w, from, to) {
+    for from in (0..n).step_by(16 * w) {
+        if !is_close(sites, w, from, smaller(from + 16 * w, n)) {
             return false;
         }
-        from = to;
     }
     true
 }
@@ -440,12 +425,10 @@ fn some_past(far: f64, s: Point, o: Point, vertices: &[f64], entries: &[u32]) ->
     requires { EntriesNamed entries.now (length vertices.now / 2) }
     ensures { result ≡ any_below (corner_past far s o vertices.now entries.now) (length entries.now) }
 {
-    let mut k = 0;
-    while k < entries.len() {
-        if is_past(far, point_at(vertices, wide(entries[k])), s, o) {
+    for e in entries {
+        if is_past(far, point_at(vertices, wide(*e)), s, o) {
             return true;
         }
-        k += 1;
     }
     false
 }
@@ -462,12 +445,10 @@ fn sift(sites: &[f64], room: &[u32], w: Window, from: usize, to: usize, list: &m
     ensures { Sifted sites.now room.now w from to result list.new × (length list.new ≡ length list.old) }
 {
     let mut count = 0;
-    let mut j = from;
-    while j < to {
+    for j in from..to {
         list[count] = narrow(j);
         let o = point_at(sites, wide(room[j]));
         count += one_unless(is_off(w, o.x, o.y, o.x, o.y));
-        j += 1;
     }
     count
 }
@@ -486,13 +467,11 @@ fn some_listed(
     requires { Order (length sites.now / 2) room.now × EntriesNamed entries.now (length vertices.now / 2) × PlacesNamed (length sites.now / 2) count list.now }
     ensures { ListedAsked far sites.now room.now site vertices.now entries.now list.now count result }
 {
-    let mut k = 0;
-    while k < count {
-        let o = point_at(sites, wide(room[wide(list[k])]));
+    for place in &list[..count] {
+        let o = point_at(sites, wide(room[wide(*place)]));
         if some_past(far, site, o, vertices, entries) {
             return true;
         }
-        k += 1;
     }
     false
 }
@@ -616,12 +595,10 @@ fn none_nearer(
         ≡ lowest (site_nearer far sites.now [] [] vertices.now offsets.now indexes.now) (length sites.now / 2) }
 {
     let count = sites.len() / 2;
-    let mut j = 0;
-    while j < count {
-        if site_nearer(far, sites, room, vertices, offsets, indexes, wide(room[j])) {
+    for s in &room[..count] {
+        if site_nearer(far, sites, room, vertices, offsets, indexes, wide(*s)) {
             return false;
         }
-        j += 1;
     }
     true
 }
@@ -640,14 +617,9 @@ fn first_in_order(
     ensures { result ≡ lowest (site_nearer far sites.now [] [] vertices.now offsets.now indexes.now) (length sites.now / 2) }
 {
     let count = sites.len() / 2;
-    let mut s = 0;
-    while s < count {
-        if site_nearer(far, sites, room, vertices, offsets, indexes, s) {
-            return s;
-        }
-        s += 1;
-    }
-    s
+    (0..count)
+        .find(|&s| site_nearer(far, sites, room, vertices, offsets, indexes, s))
+        .unwrap_or(count)
 }
 
 // The same, one by one only where there is one. The room is the tree's.

@@ -56,10 +56,8 @@ fn empty(work: &mut [u32], sites: &[f64])
     ensures { SitesChained sites.now 0 work.new × (length work.new ≡ length work.old) }
 {
     let count = sites.len() / 2;
-    let mut m = 0;
-    while m < count {
+    for m in 0..count {
         work[2 * m] = 0;
-        m += 1;
     }
 }
 
@@ -70,14 +68,12 @@ pub fn first_site_twin(sites: &[f64], work: &mut [u32]) -> usize
 {
     empty(work, sites);
     let count = sites.len() / 2;
-    let mut s = 0;
-    while s < count {
+    for s in 0..count {
         let m = bucket(point_at(sites, s), count);
         if lookup(work, sites, s, m) {
             return s;
         }
         insert(work, s, m);
-        s += 1;
     }
-    s
+    count
 }
