@@ -1,5 +1,5 @@
 -- What `find` and `all` over a range say of `lowest` and of each number.
-use Rattle.std.specs.Prelude.{◌≡◌, refl, Bool, true, false, ℕ, ◌≤◌, ◌<◌, Option, None, Some, length, get_or}
+use Rattle.std.specs.Prelude.{◌≡◌, refl, Bool, true, false, ℕ, ◌≤◌, ◌<◌, Option, None, Some, length}
 use Rattle.std.specs.Option.{MatchOption, unwrap_or}
 use Rattle.std.specs.List.{AllWithin, range_with_len}
 use Rattle.std.proofs.Common.{arith, subst, ◌∙◌}

@@ -1,13 +1,6 @@
 -- `certifying::tree::fill` meets its contract: the nodes that were passed are filled.
-use Rattle.std.proofs.Common.{arith}
-use Rattle.certifying.specs.tree.laws.Nodes.{filled_none, filled_step, fill_again, filled_all, block_below, blocks_all}
+use Rattle.certifying.specs.tree.laws.Nodes.{filled_step, fill_again, filled_all, block_below, blocks_all}
 use Rattle.certifying.proofs.tree.fill.Goals as goal
-
-pub div_ceil-b-end-requires : goal.div_ceil-b-end-requires
-div_ceil-b-end-requires c = c.requires.some
-
-pub loop-b-init : goal.loop-b-init
-loop-b-init c = filled_none _
 
 pub fill_node-requires : goal.fill_node-requires
 fill_node-requires c = (fill_again c.requires c.loop-b.invariant.kept c.requires.after, block_below c.requires.some c.div_ceil-b-end.ensures c.loop-b-test.true)

@@ -1,10 +1,7 @@
 -- `certifying::tree::some_past` meets its contract: no corner that was passed is beyond.
-use Rattle.ring_area.specs.lowest.laws.Loops.{passed_start, passed_step, passed_yes, passed_no}
+use Rattle.ring_area.specs.lowest.laws.Loops.{passed_step, passed_yes, passed_no}
 use Rattle.certifying.specs.tree.laws.Search.{past_corner}
 use Rattle.certifying.proofs.tree.some_past.Goals as goal
-
-pub loop-e-init : goal.loop-e-init
-loop-e-init c = passed_start _ _
 
 pub returns-then-is_past : goal.returns-then-is_past
 returns-then-is_past c =

@@ -1,29 +1,14 @@
 -- `certifying::twins::first_site_twin` meets its contract: the sites that were passed have none before them, and are chained.
 use Rattle.std.proofs.Common.{◌∙◌, arith}
-use Rattle.ring_area.specs.lowest.laws.Loops.{named_twice, passed_found, passed_end}
-use Rattle.certifying.specs.twins.laws.Inserting.{held_start, held_step, held_at, inserts_at}
+use Rattle.ring_area.specs.lowest.laws.Loops.{passed_found, passed_end}
+use Rattle.certifying.specs.twins.laws.Inserting.{held_step, held_at}
 use Rattle.certifying.proofs.twins.first_site_twin.Goals as goal
-
-pub loop-s-init : goal.loop-s-init
-loop-s-init c = held_start c.empty.ensures.0
-
-pub point_at-requires : goal.point_at-requires
-point_at-requires c = named_twice _ _ c.loop-s-test.true
-
-pub bucket-m-requires : goal.bucket-m-requires
-bucket-m-requires c = omega (arith, c.loop-s-test.true)
-
-pub lookup-requires : goal.lookup-requires
-lookup-requires c = held_at c.loop-s.invariant c.loop-s-test.true c.point_at.ensures c.bucket-m.ensures
 
 pub returns-then-lookup : goal.returns-then-lookup
 returns-then-lookup c = (
   passed_found c.loop-s.invariant.none c.loop-s-test.true c.lookup.ensures c.if-lookup.true,
   c.loop-s.invariant.long ∙ c.empty.ensures.1,
 )
-
-pub insert-requires : goal.insert-requires
-insert-requires c = inserts_at (held_at c.loop-s.invariant c.loop-s-test.true c.point_at.ensures c.bucket-m.ensures)
 
 pub loop-s-preserved : goal.loop-s-preserved
 loop-s-preserved c =
