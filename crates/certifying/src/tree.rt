@@ -147,7 +147,8 @@ fn swap(room: &mut [u32], i: usize, j: usize)
     room[j] = t;
 }
 
-fn narrow(i: usize) -> u32
+// A site's number.
+pub fn narrow(i: usize) -> u32
     requires { i < 65536 }
     ensures { result ≡ i }
 {
