@@ -27,7 +27,7 @@ pub fn far(bounds: BoundingBox, bits: u64) -> f64
 }
 
 // Whether v, a corner of the piece of s, is beyond the bisector with o.
-fn is_beyond(far: f64, v: Point, s: Point, o: Point) -> bool
+pub fn is_beyond(far: f64, v: Point, s: Point, o: Point) -> bool
     ensures { result ≡ beyond far v s o }
 {
     let x = o.x - s.x;

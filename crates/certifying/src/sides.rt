@@ -1,6 +1,6 @@
 // The sides of all rings: whether each way between two places comes as often as the other, and how often the top right corner of the box is left along the top edge. The sides are chained in
 // buckets by the two places between which they run, in lent work: three words to an entry (specs/Chains.antt).
-ghost use Rattle.std.specs.Prelude.{◌≡◌, true, ◌&&◌, suc, ◌+◌, ◌-◌, ◌*◌, ◌^◌, ◌≤◌, ◌<◌, length, get_or, set};
+ghost use Rattle.std.specs.Prelude.{◌≡◌, true, ◌&&◌, ◌+◌, ◌-◌, ◌*◌, ◌^◌, ◌≤◌, ◌<◌, length, get_or};
 ghost use Rattle.ring_area.specs.lowest.Lowest.{lowest};
 ghost use Rattle.plane.specs.points.Flat.{point_at};
 ghost use Rattle.auditing.specs.places.Places.{same_of};
@@ -8,6 +8,8 @@ ghost use Rattle.certifying.specs.sides.Sides.{ring_ends, one_for, along_of, sur
 ghost use Rattle.certifying.specs.sides.Chains.{place_number, side_bucket, laid_ends, SideSafe, SidesIn, ChainedTo, WaysOf, RingLaid, LaySafe, LaidTo, ChainedMore, InsertSafe, InsertsAll};
 ghost use Rattle.certifying.specs.sides.Chains.{RunsBack, EvenIn, FairIn, NumberSafe, FourSafe, Turned, TwoPairs};
 
+use crate::chains;
+use crate::chains::push_front;
 use auditing::places::same_place;
 use base::numbers::wide;
 use octets::patterns::pattern;
@@ -58,18 +60,12 @@ pub fn place_number(p: Point) -> u64
     pattern(p.x + 0.0) % 2654435761 + pattern(p.y + 0.0) % 3266489917
 }
 
-fn broad(x: usize) -> u64
-    ensures { result ≡ x }
-{
-    x as u64
-}
-
 // The bucket of the sides between p and q, of so many.
 fn bucket(p: Point, q: Point, count: usize) -> usize
     requires { (0 < count) × (count ≤ 2 ^ 24) }
     ensures { (result ≡ side_bucket count p q) × (result < count) }
 {
-    ((place_number(p) + place_number(q)) % broad(count)) as usize
+    chains::bucket(place_number(p) + place_number(q), count)
 }
 
 // Side k.
@@ -367,15 +363,6 @@ fn lay(work: &mut [u32], offsets: &[u32], indexes: &[u32])
     }
 }
 
-// Inserts side k into the bucket m.
-fn insert_in(work: &mut [u32], k: usize, m: usize)
-    requires { (3 * k + 1 < length work.old) × (3 * m < length work.old) × (k < 2 ^ 24) × (m < 2 ^ 24) }
-    ensures { work.new ≡ set (set work.old (3 * k + 1) (get_or work.old (3 * m) 0)) (3 * m) (suc k) }
-{
-    work[3 * k + 1] = work[3 * m];
-    work[3 * m] = (k + 1) as u32;
-}
-
 // Inserts side k.
 fn insert(work: &mut [u32], vertices: &[f64], indexes: &[u32], count: usize, k: usize)
     requires { (k < count) × ChainedTo vertices.now indexes.now (laid_ends work.old count) count k work.old }
@@ -383,7 +370,7 @@ fn insert(work: &mut [u32], vertices: &[f64], indexes: &[u32], count: usize, k: 
 {
     let side = side_at(work, vertices, indexes, k);
     let m = bucket(side.from, side.to, count);
-    insert_in(work, k, m);
+    push_front::<3>(work, k, m);
 }
 
 // Lays and inserts all sides.

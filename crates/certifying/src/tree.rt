@@ -1,10 +1,10 @@
 // The fourth test of the certificate by a tree of the sites: a site, or a block of them, that is off the window of a ring is left out for the whole ring at once (crate::windows). The tree
 // is an order of the sites with the sites of least and greatest coordinates of each block of 16, of 256 and of 4096 places. Any order is sound; a bad one costs time.
-ghost use Rattle.std.specs.Prelude.{◌≡◌, true, false, [], ◌⊎◌, ◌+◌, ◌*◌, ◌/◌, ◌≤◌, ◌<◌, length, set};
+ghost use Rattle.std.specs.Prelude.{◌≡◌, true, false, [], ◌+◌, ◌*◌, ◌/◌, ◌≤◌, ◌<◌, length, set};
 ghost use Rattle.ring_area.specs.lowest.Lowest.{lowest, any_below};
 ghost use Rattle.plane.specs.points.Flat.{point_at};
 ghost use Rattle.arguments.specs.entries.Named.{EntriesNamed};
-ghost use Rattle.auditing.specs.nearer.Nearer.{beyond, cell_nearer, site_nearer};
+ghost use Rattle.auditing.specs.nearer.Nearer.{cell_nearer, site_nearer};
 ghost use Rattle.certifying.specs.windows.Windows.{EdgesHeld};
 ghost use Rattle.certifying.specs.tree.Tree.{corner_past};
 ghost use Rattle.certifying.specs.tree.Steps.{SitesHeld, TwoSites, Lower, Higher, FourNamed, Widens, BoxesFrom, Order, Reordered, swapped, NodeNamed, FillSafe, Sifted, PlacesNamed, ListedAsked};
@@ -12,7 +12,7 @@ ghost use Rattle.certifying.specs.tree.Steps.{NodeFilled, LevelFilled, base256, 
 
 use crate::nearer::no_others;
 use crate::windows::{Window, greater, is_off, is_window, lesser, window_of};
-use auditing::nearer::first_nearer;
+use auditing::nearer::{first_nearer, is_beyond};
 use base::numbers::wide;
 use plane::points::{Point, point_at};
 
@@ -92,22 +92,13 @@ fn write_node(room: &mut [u32], at: usize, e: Extremes)
     room[at + 3] = e.bottom;
 }
 
-fn smaller(x: usize, y: usize) -> usize
-    ensures { (result ≤ x) × (result ≤ y) × ((result ≡ x) ⊎ (result ≡ y)) }
-{
-    if x < y {
-        return x;
-    }
-    y
-}
-
 // The node of block b of w places.
 fn fill_node(sites: &[f64], room: &mut [u32], w: usize, base: usize, b: usize)
     requires { FillSafe sites.now room.old w base × (b * w < length sites.now / 2) }
     ensures { NodeFilled sites.now w base b room.old room.new }
 {
     let from = b * w;
-    let e = extremes_from(sites, room, from, smaller(from + w, sites.len() / 2));
+    let e = extremes_from(sites, room, from, (from + w).min(sites.len() / 2));
     write_node(room, base + 4 * b, e);
 }
 
@@ -261,7 +252,7 @@ fn halve_all(sites: &[f64], room: &mut [u32], half: usize)
 {
     let n = sites.len() / 2;
     for a in (0..n.saturating_sub(half)).step_by(2 * half) {
-        let to = smaller(a + 2 * half, n);
+        let to = (a + 2 * half).min(n);
         let axis = wider(sites, room, a, to);
         halve(sites, room, a, to, a + half, axis);
     }
@@ -312,7 +303,7 @@ fn is_close(sites: &[f64], w: usize, first: usize, end: usize) -> bool
     let all = side_of(spanned(sites, first, end));
     let mut sum = 0.0;
     for from in (first..end).step_by(w) {
-        let side = side_of(spanned(sites, from, smaller(from + w, end)));
+        let side = side_of(spanned(sites, from, (from + w).min(end)));
         sum += side * side;
     }
     sum <= 2.0 * (all * all)
@@ -324,7 +315,7 @@ fn all_close(sites: &[f64], w: usize) -> bool
 {
     let n = sites.len() / 2;
     for from in (0..n).step_by(16 * w) {
-        if !is_close(sites, w, from, smaller(from + 16 * w, n)) {
+        if !is_close(sites, w, from, (from + 16 * w).min(n)) {
             return false;
         }
     }
@@ -411,23 +402,13 @@ fn places_out(sites: &[f64], room: &[u32], c: Window, j: usize) -> usize
     0
 }
 
-// Whether v, a corner of the piece of s, is beyond the bisector with o.
-fn is_past(far: f64, v: Point, s: Point, o: Point) -> bool
-    ensures { result ≡ beyond far v s o }
-{
-    let x = o.x - s.x;
-    let y = o.y - s.y;
-    let past = x * ((v.x - s.x) + (v.x - o.x)) + y * ((v.y - s.y) + (v.y - o.y));
-    past > far * (root::magnitude(x) + root::magnitude(y))
-}
-
-// Whether some corner of the ring is.
+// Whether some corner of the ring is beyond the bisector of s and o.
 fn some_past(far: f64, s: Point, o: Point, vertices: &[f64], entries: &[u32]) -> bool
     requires { EntriesNamed entries.now (length vertices.now / 2) }
     ensures { result ≡ any_below (corner_past far s o vertices.now entries.now) (length entries.now) }
 {
     for e in entries {
-        if is_past(far, point_at(vertices, wide(*e)), s, o) {
+        if is_beyond(far, point_at(vertices, wide(*e)), s, o) {
             return true;
         }
     }
@@ -495,7 +476,7 @@ fn passed(
     if 0 < r {
         return r;
     }
-    let to = smaller(j + 16, sites.len() / 2);
+    let to = (j + 16).min(sites.len() / 2);
     let mut list = [0u32; 16];
     let count = sift(sites, room, w, j, to, &mut list);
     if some_listed(far, sites, room, site, vertices, entries, &list, count) {

@@ -1,5 +1,5 @@
 -- `certifying::call::name_nearer` meets its contract: the first such corner and the first such other are there.
-use Rattle.std.proofs.Common.{◌<◌, length, arith}
+use Rattle.std.proofs.Common.{arith}
 use Rattle.ring_area.specs.lowest.laws.Loops.{named_twice}
 use Rattle.auditing.specs.nearer.laws.Pieces.{piece_names}
 use Rattle.certifying.specs.call.laws.Stages.{names_none, corner_there, other_there, nearer_named}

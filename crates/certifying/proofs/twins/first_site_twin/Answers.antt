@@ -13,7 +13,7 @@ returns-then-lookup c = (
 pub loop-s-preserved : goal.loop-s-preserved
 loop-s-preserved c =
     let h = held_at c.loop-s.invariant c.loop-s-test.true c.point_at.ensures c.bucket-m.ensures in
-    held_step c.loop-s.invariant h c.lookup.ensures c.if-lookup.false c.insert.ensures
+    held_step c.loop-s.invariant h c.lookup.ensures c.if-lookup.false c.push_front.ensures
 
 pub returns : goal.returns
 returns c = (
