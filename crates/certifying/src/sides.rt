@@ -4,7 +4,7 @@ ghost use Rattle.std.specs.Prelude.{◌≡◌, true, ◌&&◌, ◌+◌, ◌-◌,
 ghost use Rattle.ring_area.specs.lowest.Lowest.{lowest};
 ghost use Rattle.plane.specs.points.Flat.{point_at};
 ghost use Rattle.auditing.specs.places.Places.{same_of};
-ghost use Rattle.certifying.specs.sides.Sides.{ring_ends, one_for, along_of, surplus_at, leaves_of, left_once};
+ghost use Rattle.certifying.specs.sides.Sides.{ring_ends, along_of, surplus_at, leaves_of, left_once};
 ghost use Rattle.certifying.specs.sides.Chains.{place_number, side_bucket, laid_ends, SideSafe, SidesIn, ChainedTo, WaysOf, RingLaid, LaySafe, LaidTo, ChainedMore, InsertSafe, InsertsAll};
 ghost use Rattle.certifying.specs.sides.Chains.{RunsBack, EvenIn, FairIn, NumberSafe, FourSafe, Turned, TwoPairs};
 
@@ -28,12 +28,6 @@ pub struct SideEnds {
 struct Ways {
     there: usize,
     back: usize,
-}
-
-fn one_if(t: bool) -> usize
-    ensures { result ≡ one_for t }
-{
-    if t { 1 } else { 0 }
 }
 
 // Both ends on the same edge of the box.
@@ -104,8 +98,8 @@ fn count_ways(
     while 0 < x {
         let k = x - 1;
         let side = side_at(work, vertices, indexes, k);
-        there += one_if(runs(side, p, q));
-        back += one_if(runs(side, q, p));
+        there += usize::from(runs(side, p, q));
+        back += usize::from(runs(side, q, p));
         x = wide(work[3 * k + 1]);
     }
     Ways { there, back }
@@ -319,8 +313,8 @@ pub fn left_once(
     let mut reached = 0;
     for k in 0..count {
         let side = side_at(work, vertices, indexes, k);
-        left += one_if(leaves(bounds, side.from, side.to));
-        reached += one_if(leaves(bounds, side.to, side.from));
+        left += usize::from(leaves(bounds, side.from, side.to));
+        reached += usize::from(leaves(bounds, side.to, side.from));
     }
     left == reached + 1
 }

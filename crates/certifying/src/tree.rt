@@ -415,12 +415,6 @@ fn some_past(far: f64, s: Point, o: Point, vertices: &[f64], entries: &[u32]) ->
     false
 }
 
-fn one_unless(t: bool) -> usize
-    ensures { (t ≡ true → result ≡ 0) × (t ≡ false → result ≡ 1) × (result ≤ 1) }
-{
-    if t { 0 } else { 1 }
-}
-
 // Lists the places from one to another, at most 16, whose sites are not off the window, and says how many they are. Without a branch on what is off: nobody can foresee it.
 fn sift(sites: &[f64], room: &[u32], w: Window, from: usize, to: usize, list: &mut [u32]) -> usize
     requires { TreeOf sites.now room.now × SitesHeld sites.now × EdgesHeld w × (to ≤ length sites.now / 2) × (to ≤ from + 16) × (16 ≤ length list.old) × (from ≤ to) }
@@ -430,7 +424,7 @@ fn sift(sites: &[f64], room: &[u32], w: Window, from: usize, to: usize, list: &m
     for j in from..to {
         list[count] = narrow(j);
         let o = point_at(sites, wide(room[j]));
-        count += one_unless(is_off(w, o.x, o.y, o.x, o.y));
+        count += usize::from(!is_off(w, o.x, o.y, o.x, o.y));
     }
     count
 }

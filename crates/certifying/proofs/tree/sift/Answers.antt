@@ -9,7 +9,7 @@ loop-j-preserved c =
       sift_more _ c.loop-j.invariant.0 (omega (arith, c.loop-j.invariant.0.few, c.loop-j.invariant.1, c.loop-j-test.true, c.requires.4, c.requires.5))
           here c.narrow.ensures
           (site_out c.requires.1 c.requires.0.order c.requires.2 c.loop-j.j here c.wide.ensures c.point_at-o.ensures c.is_off.ensures)
-          c.one_unless-count.ensures.0 c.one_unless-count.ensures.1,
+          (λ e. rw e at c.from-count.ensures) (λ e. rw e at c.from-count.ensures),
       length-set c.loop-j.list c.loop-j.count c.narrow.result ∙ c.loop-j.invariant.1,
     )
 
