@@ -34,15 +34,13 @@ fn rings(plus: &mut [u64], minus: &mut [u64], vertices: &[f64], offsets: &[u32],
         plus.old plus.new minus.old minus.new }
 {
     let count = cell_count(offsets.len());
-    let mut s = 0;
-    while s < count {
+    for s in 0..count {
         ring(
             minus,
             plus,
             vertices,
             walks::shared::cell(offsets, indexes, s),
         );
-        s += 1;
     }
 }
 
