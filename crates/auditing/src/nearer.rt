@@ -198,10 +198,6 @@ pub fn first_site_nearer(
 {
     let count = sites.len() / 2;
     (0..count)
-        .find(|s| {
-            site_nearer(
-                far, sites, starts, others, vertices, offsets, indexes, *s,
-            )
-        })
+        .find(|s| { site_nearer(far, sites, starts, others, vertices, offsets, indexes, *s) })
         .unwrap_or(count)
 }

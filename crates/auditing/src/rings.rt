@@ -50,13 +50,7 @@ fn ring_folds(limit: &[u64], vertices: &[f64], entries: &[u32]) -> bool
 }
 
 // That of site s.
-fn site_folds(
-    limit: &[u64],
-    vertices: &[f64],
-    offsets: &[u32],
-    indexes: &[u32],
-    s: usize,
-) -> bool
+fn site_folds(limit: &[u64], vertices: &[f64], offsets: &[u32], indexes: &[u32], s: usize) -> bool
     requires { LongOf limit.now (amount limit.now) × RingsKept vertices.now offsets.now indexes.now × (s < length offsets.now - 1) }
     ensures { (box bits : ℕ) → amount limit.now ≡ box / 2 ^ bits → result ≡ site_folds box bits vertices.now offsets.now indexes.now s }
 {

@@ -12,8 +12,8 @@ pub position-requires-clause-callable : goal.position-requires-clause-callable
 position-requires-clause-callable c =
     serves_from_places (YieldsList-from_slice c.args.entries.now cc) (λ x q k. search rules)
     (λ x k h e.
-        let n : 2 * x.now + 1 < length c.args.vertices.now = omega (arith, e, get_or_default c.args.entries.now k x.now 0 h, c.requires.1.each k h) in
-        search rules)
+    let n : 2 * x.now + 1 < length c.args.vertices.now = omega (arith, e, get_or_default c.args.entries.now k x.now 0 h, c.requires.1.each k h) in
+    search rules)
 
 pub returns : goal.returns
 unfolding corner_nearer
