@@ -139,7 +139,11 @@ fn fill_from(starts: &mut [u64], from: usize, value: u64)
     requires { from ≤ length starts.old }
     ensures { starts.new ≡ cleared_from from value starts.old }
 {
-    starts[from..].fill(value);
+    let mut i = from;
+    while i < starts.len() {
+        starts[i] = value;
+        i += 1;
+    }
 }
 
 // Where it is refused `starts` and `out` stay as they were; after 0 `starts` is 2^64 - 1 past the last, and `out` as it was past the polygons.

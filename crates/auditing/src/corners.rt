@@ -6,7 +6,8 @@ ghost use Rattle.ring_area.specs.lowest.Lowest.{lowest};
 ghost use Rattle.walks.specs.shared.Cells.{Cells};
 ghost use Rattle.arguments.specs.entries.Named.{EntriesNamed};
 ghost use Rattle.areas.specs.Promise.{entries_of_all};
-ghost use Rattle.auditing.specs.corners.Outside.{outside_at, site_outside};
+ghost use Rattle.auditing.specs.corners.Outside.{outside_at, site_outside, entry_outside};
+ghost use Rattle.auditing.specs.Steps.{OutsideNamed};
 
 use arguments::asking::cell_count;
 use plane::boxes::BoundingBox;
@@ -29,8 +30,24 @@ pub fn first_outside(bounds: BoundingBox, vertices: &[f64], entries: &[u32]) -> 
 {
     entries
         .iter()
-        .position(|entry| is_outside(bounds, vertices, *entry))
+        .position(|&entry| is_outside(bounds, vertices, entry))
         .unwrap_or(entries.len())
+}
+
+// The entry of the first corner of the ring of site s that is outside.
+pub fn entry_outside(
+    bounds: BoundingBox,
+    vertices: &[f64],
+    offsets: &[u32],
+    indexes: &[u32],
+    s: usize,
+) -> u32
+    requires { OutsideNamed bounds vertices.now offsets.now indexes.now s }
+    ensures { result ≡ entry_outside bounds vertices.now offsets.now indexes.now s }
+{
+    let entries = walks::shared::cell(offsets, indexes, s);
+    let k = first_outside(bounds, vertices, entries);
+    entries[k]
 }
 
 // Whether the ring of site s has one.
@@ -60,6 +77,6 @@ pub fn first_site_outside(
 {
     let count = cell_count(offsets.len());
     (0..count)
-        .find(|s| site_outside(bounds, vertices, offsets, indexes, *s))
+        .find(|&s| site_outside(bounds, vertices, offsets, indexes, s))
         .unwrap_or(count)
 }

@@ -28,7 +28,7 @@ pub fn far(bounds: BoundingBox, bits: u64) -> f64
 }
 
 // Whether v, a corner of the piece of s, is beyond the bisector with o.
-fn is_beyond(far: f64, v: Point, s: Point, o: Point) -> bool
+pub fn is_beyond(far: f64, v: Point, s: Point, o: Point) -> bool
     ensures { result ≡ beyond far v s o }
 {
     let x = o.x - s.x;
@@ -106,7 +106,7 @@ pub fn first_beyond(
 {
     let count = held_count(all, part, sites.len() / 2);
     (0..count)
-        .find(|j| beyond_at(far, corner, sites, s, part, all, *j))
+        .find(|&j| beyond_at(far, corner, sites, s, part, all, j))
         .unwrap_or(count)
 }
 
@@ -142,7 +142,7 @@ pub fn first_nearer(
 {
     entries
         .iter()
-        .position(|entry| is_nearer(far, vertices, *entry, sites, s, part, all))
+        .position(|&entry| is_nearer(far, vertices, entry, sites, s, part, all))
         .unwrap_or(entries.len())
 }
 
@@ -198,6 +198,6 @@ pub fn first_site_nearer(
 {
     let count = sites.len() / 2;
     (0..count)
-        .find(|s| { site_nearer(far, sites, starts, others, vertices, offsets, indexes, *s) })
+        .find(|&s| { site_nearer(far, sites, starts, others, vertices, offsets, indexes, s) })
         .unwrap_or(count)
 }

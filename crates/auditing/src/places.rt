@@ -26,8 +26,16 @@ pub fn first_twin(sites: &[f64], s: usize) -> usize
 {
     let place = point_at(sites, s);
     (0..s)
-        .find(|j| same_place(place, point_at(sites, *j)))
+        .find(|&j| same_place(place, point_at(sites, j)))
         .unwrap_or(s)
+}
+
+// The number of the first site before s at its place, where there is one.
+pub fn twin_of(sites: &[f64], s: usize) -> u32
+    requires { (s < length sites.now / 2) × (length sites.now / 2 ≤ 65536) }
+    ensures { result ≡ lowest (twin_at sites.now s) s }
+{
+    first_twin(sites, s) as u32
 }
 
 // The bucket of a place. -0 + 0 is 0, so that equal places have one. Two primes, as patterns of whole numbers end in many zeros.
@@ -108,6 +116,7 @@ pub fn first_site_twin(sites: &[f64]) -> usize
 {
     let mut best = sites.len() / 2;
     let mut a = 0;
+    // a while, since its end moves: a `for` over `step_by(BLOCK)` would need a test and a break beside it
     while a < best {
         best = first_in_block(sites, a, best);
         a += BLOCK;

@@ -41,12 +41,7 @@ fn ring_folds(limit: &[u64], vertices: &[f64], entries: &[u32]) -> bool
     requires { LongOf limit.now (amount limit.now) × Corners vertices.now entries.now }
     ensures { (box bits : ℕ) → amount limit.now ≡ box / 2 ^ bits → result ≡ ring_folds box bits vertices.now entries.now }
 {
-    for k in 0..entries.len().saturating_sub(2) {
-        if folds_at(limit, vertices, entries, k) {
-            return true;
-        }
-    }
-    false
+    (0..entries.len().saturating_sub(2)).any(|k| folds_at(limit, vertices, entries, k))
 }
 
 // That of site s.
@@ -65,6 +60,6 @@ pub fn first_folded(limit: &[u64], vertices: &[f64], offsets: &[u32], indexes: &
 {
     let count = cell_count(offsets.len());
     (0..count)
-        .find(|s| site_folds(limit, vertices, offsets, indexes, *s))
+        .find(|&s| site_folds(limit, vertices, offsets, indexes, s))
         .unwrap_or(count)
 }
