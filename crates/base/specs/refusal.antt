@@ -1,2 +1,3 @@
 -- The root of the definitions on refusals.
 pub mod Number
+pub mod laws
