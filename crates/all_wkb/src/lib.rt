@@ -43,14 +43,12 @@ fn fits(offsets: &[u32], indexes: &[u32], room: usize) -> bool
 {
     let count = cell_count(offsets.len());
     let mut left = room;
-    let mut s = 0;
-    while s < count {
+    for s in 0..count {
         let n = size_at(offsets, indexes, s);
         if left < n {
             return false;
         }
         left -= n;
-        s += 1;
     }
     true
 }
@@ -129,12 +127,9 @@ fn write_images(
     starts[0] = 0;
     let count = cell_count(offsets.len());
     let mut n: usize = 0;
-    let mut s: usize = 0;
-    while s < count {
+    for s in 0..count {
         n = append_image(vertices, offsets, indexes, s, n, out);
-        let next = s + 1;
-        starts[next] = n as u64;
-        s = next;
+        starts[s + 1] = n as u64;
     }
     n
 }

@@ -4,12 +4,14 @@
 
 ghost use Rattle.std.specs.Prelude.{◌≡◌, ◌/◌, length};
 ghost use Rattle.base.specs.common.Decide.{Says};
+ghost use Rattle.base.specs.refusal.Number.{answer_number};
 ghost use Rattle.arguments.specs.entries.Named.{EntriesNamed};
 ghost use Rattle.areas.specs.Promise.{area_at, KeepsRule, EntriesNumber, AreasNumber, AreasAnswer};
 ghost use Rattle.areas.specs.Steps.{RingsKept, WrittenAreas};
 
 use arguments::asking::{cell_count, cells_ok};
 use base::numbers::wide;
+use base::refusal::Refusal;
 use plane::centers::center_ok;
 use plane::points::point_at;
 use ring_area::rounding::ring_area;
@@ -25,41 +27,38 @@ pub fn within(vertices: &[f64], entries: &[u32]) -> bool
 }
 
 // Rules 18 and 24 on the entries of all cells.
-fn ask_entries(vertices: &[f64], entries: &[u32]) -> u32
-    ensures { EntriesNumber vertices.now entries.now result }
+fn ask_entries(vertices: &[f64], entries: &[u32]) -> Result<(), Refusal>
+    ensures { EntriesNumber vertices.now entries.now (answer_number result) }
 {
     if !arguments::entries::named(entries, vertices.len() / 2) {
-        return base::numbers::REFUSED_ENTRY;
+        return Err(Refusal::Entry);
     }
     if !within(vertices, entries) {
-        return base::numbers::REFUSED_CORNER;
+        return Err(Refusal::Corner);
     }
-    0
+    Ok(())
 }
 
 // Rules 1, 16, 18, 24 and 2.
-fn ask(vertices: &[f64], offsets: &[u32], indexes: &[u32], room: usize) -> u32
-    ensures { AreasNumber vertices.now offsets.now indexes.now room result }
+fn ask(vertices: &[f64], offsets: &[u32], indexes: &[u32], room: usize) -> Result<(), Refusal>
+    ensures { AreasNumber vertices.now offsets.now indexes.now room (answer_number result) }
 {
     if vertices.len() % 2 != 0 {
-        return base::numbers::REFUSED_COUNT;
+        return Err(Refusal::Count);
     }
     if indexes.len() > 16777216 {
-        return base::numbers::REFUSED_COUNT;
+        return Err(Refusal::Count);
     }
     let count = cell_count(offsets.len());
     if !cells_ok(offsets, indexes, count) {
-        return base::numbers::REFUSED_OFFSETS;
+        return Err(Refusal::Offsets);
     }
     let end = wide(offsets[count]);
-    let asked = ask_entries(vertices, &indexes[..end]);
-    if asked != 0 {
-        return asked;
-    }
+    ask_entries(vertices, &indexes[..end])?;
     if room < count {
-        return base::numbers::REFUSED_ROOM;
+        return Err(Refusal::Room);
     }
-    0
+    Ok(())
 }
 
 // The area of cell s; 0 past the last.
@@ -83,13 +82,15 @@ fn write_areas(vertices: &[f64], offsets: &[u32], indexes: &[u32], areas: &mut [
 }
 
 // The area of each cell, then 0; where it is refused `areas` stays as it was.
-pub fn cell_areas(vertices: &[f64], offsets: &[u32], indexes: &[u32], areas: &mut [f64]) -> u32
-    ensures { AreasAnswer vertices.now offsets.now indexes.now areas.old areas.new result }
+pub fn cell_areas(
+    vertices: &[f64],
+    offsets: &[u32],
+    indexes: &[u32],
+    areas: &mut [f64],
+) -> Result<(), Refusal>
+    ensures { AreasAnswer vertices.now offsets.now indexes.now areas.old areas.new (answer_number result) }
 {
-    let r = ask(vertices, offsets, indexes, areas.len());
-    if r != 0 {
-        return r;
-    }
+    ask(vertices, offsets, indexes, areas.len())?;
     write_areas(vertices, offsets, indexes, areas);
-    0
+    Ok(())
 }

@@ -1,6 +1,6 @@
 -- Theorem: after kind 0 no test of the five takes anything: no ring folds, no corner is outside, none is nearer to another site, the total is whole, |box - sum| 2 ^ bits being at
 -- most the box on whole numbers (`whole`), and no two sites stand at one place.
-use Rattle.std.specs.Prelude.{◌≡◌, refl, Bool, List, ℕ, ◌+◌, ◌-◌, ◌*◌, ◌/◌, ◌^◌, ◌≤◌, ◌<◌, Float, length}
+use Rattle.std.specs.Prelude.{◌≡◌, refl, Bool, List, ℕ, ◌+◌, ◌-◌, ◌*◌, ◌/◌, ◌^◌, ◌≤◌, ◌<◌, Float, length, Ok, Err}
 use Rattle.std.proofs.Common.{sym, ◌∙◌, arith}
 use Rattle.std.proofs.Math.Bool.{true, false}
 use Rattle.base.specs.common.Pick.{pick}
@@ -17,10 +17,9 @@ use Rattle.auditing.specs.nearer.Nearer.{far_of, site_nearer}
 use Rattle.auditing.specs.total.Total.{rings_total, cell_gains, cell_losses, apart, total_whole}
 use Rattle.auditing.specs.total.Whole as total
 use Rattle.auditing.specs.places.Places.{has_twin}
-use Rattle.auditing.specs.Verdict.{audit_kind, twin_verdict, places_stage, total_stage, nearer_verdict, nearer_stage, outside_verdict, outside_stage, rings_stage, verdict_on}
+use Rattle.auditing.specs.Verdict.{AuditVerdict, audit_kind, twin_verdict, places_stage, total_stage, nearer_verdict, nearer_stage, outside_verdict, outside_stage, rings_stage, verdict_on}
 use Rattle.auditing.specs.Promise.{unless_refused, AuditAnswer}
-use Rattle.auditing.specs.declared.AuditVerdict.{AuditVerdict}
-use Rattle.auditing.specs.declared.AuditVerdict.TheVariants.{Sound, Ring}
+use Rattle.auditing.specs.declared.AuditFault.TheVariants.{Ring}
 
 -- a stage that was passed
 record Passes (t : Bool) (after : AuditVerdict) : Type 0 where
@@ -41,7 +40,7 @@ module _ (b : BoundingBox) (bits : ℕ) (sites : List Float) (starts others : Li
   first : audit_kind (verdict_on b bits sites starts others v off ix) ≡ 0 → Passes (any_below (site_folds (box_twice b) bits v off ix) n) (outside_stage is_whole b bits sites starts others v off ix)
   unfolding verdict_on rings_stage
   first =
-      passes (any_below (site_folds (box_twice b) bits v off ix) n) (Ring (lowest (site_folds (box_twice b) bits v off ix) n))
+      passes (any_below (site_folds (box_twice b) bits v off ix) n) (Err (Ring (lowest (site_folds (box_twice b) bits v off ix) n)))
       (outside_stage is_whole b bits sites starts others v off ix) (λ e. omega arith)
 
   second : audit_kind (outside_stage is_whole b bits sites starts others v off ix) ≡ 0 → Passes (any_below (site_outside b v off ix) n) (nearer_stage is_whole (far_of b bits) sites starts others v off ix)
@@ -61,9 +60,9 @@ module _ (b : BoundingBox) (bits : ℕ) (sites : List Float) (starts others : Li
   fourth true e = (refl, e)
   fourth false e = absurd (omega arith)
 
-  fifth : audit_kind (places_stage sites) ≡ 0 → Passes (any_below (has_twin sites) n) Sound
+  fifth : audit_kind (places_stage sites) ≡ 0 → Passes (any_below (has_twin sites) n) (Ok tt)
   unfolding places_stage
-  fifth = passes (any_below (has_twin sites) n) (twin_verdict sites (lowest (has_twin sites) n)) Sound (λ e. omega arith)
+  fifth = passes (any_below (has_twin sites) n) (twin_verdict sites (lowest (has_twin sites) n)) (Ok tt) (λ e. omega arith)
 
   module _ (e : audit_kind (verdict_on b bits sites starts others v off ix) ≡ 0) where
     pub no_fold : (s : ℕ) → s < length sites / 2 → site_folds (box_twice b) bits v off ix s ≡ false

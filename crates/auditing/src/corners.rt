@@ -6,7 +6,8 @@ ghost use Rattle.ring_area.specs.lowest.Lowest.{lowest};
 ghost use Rattle.walks.specs.shared.Cells.{Cells};
 ghost use Rattle.arguments.specs.entries.Named.{EntriesNamed};
 ghost use Rattle.areas.specs.Promise.{entries_of_all};
-ghost use Rattle.auditing.specs.corners.Outside.{outside_at, cell_outside, site_outside};
+ghost use Rattle.auditing.specs.corners.Outside.{outside_at, site_outside, entry_outside};
+ghost use Rattle.auditing.specs.Steps.{OutsideNamed};
 
 use arguments::asking::cell_count;
 use plane::boxes::BoundingBox;
@@ -27,21 +28,40 @@ pub fn first_outside(bounds: BoundingBox, vertices: &[f64], entries: &[u32]) -> 
     requires { EntriesNamed entries.now (length vertices.now / 2) }
     ensures { result ≡ lowest (outside_at bounds vertices.now entries.now) (length entries.now) }
 {
-    let mut k = 0;
-    while k < entries.len() {
-        if is_outside(bounds, vertices, entries[k]) {
-            return k;
-        }
-        k += 1;
-    }
-    k
+    entries
+        .iter()
+        .position(|&entry| is_outside(bounds, vertices, entry))
+        .unwrap_or(entries.len())
 }
 
-// Whether a ring has one.
-fn cell_outside(bounds: BoundingBox, vertices: &[f64], entries: &[u32]) -> bool
-    requires { EntriesNamed entries.now (length vertices.now / 2) }
-    ensures { result ≡ cell_outside bounds vertices.now entries.now }
+// The entry of the first corner of the ring of site s that is outside.
+pub fn entry_outside(
+    bounds: BoundingBox,
+    vertices: &[f64],
+    offsets: &[u32],
+    indexes: &[u32],
+    s: usize,
+) -> u32
+    requires { OutsideNamed bounds vertices.now offsets.now indexes.now s }
+    ensures { result ≡ entry_outside bounds vertices.now offsets.now indexes.now s }
 {
+    let entries = walks::shared::cell(offsets, indexes, s);
+    let k = first_outside(bounds, vertices, entries);
+    entries[k]
+}
+
+// Whether the ring of site s has one.
+fn site_outside(
+    bounds: BoundingBox,
+    vertices: &[f64],
+    offsets: &[u32],
+    indexes: &[u32],
+    s: usize,
+) -> bool
+    requires { Cells offsets.now (length indexes.now) × EntriesNamed (entries_of_all offsets.now indexes.now) (length vertices.now / 2) × (s < length offsets.now - 1) }
+    ensures { result ≡ site_outside bounds vertices.now offsets.now indexes.now s }
+{
+    let entries = walks::shared::cell(offsets, indexes, s);
     first_outside(bounds, vertices, entries) < entries.len()
 }
 
@@ -56,12 +76,7 @@ pub fn first_site_outside(
     ensures { result ≡ lowest (site_outside bounds vertices.now offsets.now indexes.now) (length offsets.now - 1) }
 {
     let count = cell_count(offsets.len());
-    let mut s = 0;
-    while s < count {
-        if cell_outside(bounds, vertices, walks::shared::cell(offsets, indexes, s)) {
-            return s;
-        }
-        s += 1;
-    }
-    s
+    (0..count)
+        .find(|&s| site_outside(bounds, vertices, offsets, indexes, s))
+        .unwrap_or(count)
 }

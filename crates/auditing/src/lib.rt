@@ -10,7 +10,7 @@ pub mod rings;
 pub mod rules;
 pub mod total;
 
-ghost use Rattle.std.specs.Prelude.{◌≡◌, true, ℕ, ◌/◌, ◌^◌, ◌≤◌, ◌<◌, length};
+ghost use Rattle.std.specs.Prelude.{◌≡◌, true, ℕ, ◌/◌, ◌^◌, ◌≤◌, ◌<◌, length, Err};
 ghost use Rattle.plane.specs.boxes.Finite.{BoundedBox};
 ghost use Rattle.plane.specs.given.Finite.{Fits};
 ghost use Rattle.ring_area.specs.long.Amount.{amount};
@@ -21,19 +21,20 @@ ghost use Rattle.auditing.specs.Verdict.{rings_stage, verdict_on};
 ghost use Rattle.auditing.specs.total.Total.{missing_of};
 ghost use Rattle.auditing.specs.nearer.Steps.{HeldKept, PiecesKept};
 ghost use Rattle.auditing.specs.Promise.{AuditAnswer};
-ghost use Rattle.auditing.specs.Steps.{NearerNamed, OutsideNamed, ToldOf, JudgedAnswer};
+ghost use Rattle.auditing.specs.Steps.{NearerNamed, OutsideNamed, ToldOf, AuditJudged};
 
-use crate::corners::{first_outside, first_site_outside};
+use crate::corners::{entry_outside, first_site_outside};
 use crate::nearer::{first_beyond, first_nearer, first_site_nearer, held, no_lists, other_at};
-use crate::places::{first_site_twin, first_twin};
+use crate::places::{first_site_twin, twin_of};
 use base::numbers::{EMPTY, wide};
+use base::refusal::Refusal;
 use plane::boxes::BoundingBox;
 use plane::given::Given;
 
-// Nothing; the ring of a site folds; a corner of a site's piece is outside; it is nearer to another site; the total is not the box's; a site stands where one before it does.
-#[derive(Clone, Copy)]
-pub enum AuditVerdict {
-    Sound,
+// Why pieces are not what they should be: the ring of a site folds; a corner of a site's piece is outside; it is nearer to another site; the total is not the box's;
+// a site stands where one before it does.
+#[derive(Clone, Copy, Debug, PartialEq, Eq)]
+pub enum AuditFault {
     Ring(u32),
     Outside(u32, u32),
     Nearer(u32, u32, u32),
@@ -41,12 +42,14 @@ pub enum AuditVerdict {
     Twin(u32, u32),
 }
 
+// The first fault, and the share of the box that is missing.
 #[derive(Clone, Copy)]
 pub struct AuditJudgement {
-    pub verdict: AuditVerdict,
+    pub verdict: Result<(), AuditFault>,
     pub missing: f64,
 }
 
+// The numbers that a C caller is told.
 #[derive(Clone, Copy)]
 pub struct AuditNumbers {
     pub number: u32,
@@ -57,55 +60,17 @@ pub struct AuditNumbers {
     pub missing: f64,
 }
 
-fn kind_of(v: AuditVerdict) -> u32
-    ensures { result ≡ audit_kind v }
+// The kind of a verdict, the site, the vertex and the other site that it names.
+fn numbers_of(v: Result<(), AuditFault>) -> (u32, u32, u32, u32)
+    ensures { result ≡ (audit_kind v, audit_site v, audit_vertex v, audit_other v) }
 {
     match v {
-        AuditVerdict::Sound => 0,
-        AuditVerdict::Ring(_) => 1,
-        AuditVerdict::Outside(_, _) => 2,
-        AuditVerdict::Nearer(_, _, _) => 3,
-        AuditVerdict::Uncovered => 4,
-        AuditVerdict::Twin(_, _) => 5,
-    }
-}
-
-fn site_of(v: AuditVerdict) -> u32
-    ensures { result ≡ audit_site v }
-{
-    match v {
-        AuditVerdict::Sound => EMPTY,
-        AuditVerdict::Ring(s) => s,
-        AuditVerdict::Outside(s, _) => s,
-        AuditVerdict::Nearer(s, _, _) => s,
-        AuditVerdict::Uncovered => EMPTY,
-        AuditVerdict::Twin(s, _) => s,
-    }
-}
-
-fn vertex_of(v: AuditVerdict) -> u32
-    ensures { result ≡ audit_vertex v }
-{
-    match v {
-        AuditVerdict::Sound => EMPTY,
-        AuditVerdict::Ring(_) => EMPTY,
-        AuditVerdict::Outside(_, e) => e,
-        AuditVerdict::Nearer(_, e, _) => e,
-        AuditVerdict::Uncovered => EMPTY,
-        AuditVerdict::Twin(_, _) => EMPTY,
-    }
-}
-
-fn other_of(v: AuditVerdict) -> u32
-    ensures { result ≡ audit_other v }
-{
-    match v {
-        AuditVerdict::Sound => EMPTY,
-        AuditVerdict::Ring(_) => EMPTY,
-        AuditVerdict::Outside(_, _) => EMPTY,
-        AuditVerdict::Nearer(_, _, o) => o,
-        AuditVerdict::Uncovered => EMPTY,
-        AuditVerdict::Twin(_, o) => o,
+        Ok(()) => (0, EMPTY, EMPTY, EMPTY),
+        Err(AuditFault::Ring(s)) => (1, s, EMPTY, EMPTY),
+        Err(AuditFault::Outside(s, e)) => (2, s, e, EMPTY),
+        Err(AuditFault::Nearer(s, e, o)) => (3, s, e, o),
+        Err(AuditFault::Uncovered) => (4, EMPTY, EMPTY, EMPTY),
+        Err(AuditFault::Twin(s, o)) => (5, s, EMPTY, o),
     }
 }
 
@@ -117,33 +82,32 @@ fn narrow(x: usize) -> u32
     x as u32
 }
 
-fn name_twin(sites: &[f64], s: usize) -> AuditVerdict
+fn name_twin(sites: &[f64], s: usize) -> AuditFault
     requires { (s < length sites.now / 2) × (length sites.now / 2 ≤ 65536) }
-    ensures { result ≡ twin_verdict sites.now s }
+    ensures { Err result ≡ twin_verdict sites.now s }
 {
-    let o = first_twin(sites, s);
-    AuditVerdict::Twin(narrow(s), narrow(o))
+    AuditFault::Twin(narrow(s), twin_of(sites, s))
 }
 
 // The fifth fault, or none.
-fn judge_places(sites: &[f64]) -> AuditVerdict
+fn judge_places(sites: &[f64]) -> Result<(), AuditFault>
     requires { length sites.now / 2 ≤ 65536 }
     ensures { result ≡ places_stage sites.now }
 {
     let s = first_site_twin(sites);
     if s < sites.len() / 2 {
-        return name_twin(sites, s);
+        return Err(name_twin(sites, s));
     }
-    AuditVerdict::Sound
+    Ok(())
 }
 
 // The fourth, then the fifth.
-fn judge_total(whole: bool, sites: &[f64]) -> AuditVerdict
+fn judge_total(whole: bool, sites: &[f64]) -> Result<(), AuditFault>
     requires { length sites.now / 2 ≤ 65536 }
     ensures { result ≡ total_stage whole sites.now }
 {
     if !whole {
-        return AuditVerdict::Uncovered;
+        return Err(AuditFault::Uncovered);
     }
     judge_places(sites)
 }
@@ -157,9 +121,9 @@ fn name_nearer(
     offsets: &[u32],
     indexes: &[u32],
     s: usize,
-) -> AuditVerdict
+) -> AuditFault
     requires { NearerNamed far sites.now starts.now others.now vertices.now offsets.now indexes.now s }
-    ensures { result ≡ nearer_verdict far sites.now starts.now others.now vertices.now offsets.now indexes.now s }
+    ensures { Err result ≡ nearer_verdict far sites.now starts.now others.now vertices.now offsets.now indexes.now s }
 {
     let all = no_lists(starts, others);
     let part = held(starts, others, s);
@@ -175,7 +139,7 @@ fn name_nearer(
         all,
     );
     let o = other_at(all, part, j);
-    AuditVerdict::Nearer(narrow(s), e, narrow(o))
+    AuditFault::Nearer(narrow(s), e, narrow(o))
 }
 
 // The third fault, then the fourth.
@@ -188,13 +152,13 @@ fn judge_nearer(
     vertices: &[f64],
     offsets: &[u32],
     indexes: &[u32],
-) -> AuditVerdict
+) -> Result<(), AuditFault>
     requires { HeldKept sites.now starts.now others.now × PiecesKept sites.now vertices.now offsets.now indexes.now × (length sites.now / 2 ≤ 65536) }
     ensures { result ≡ nearer_stage whole far sites.now starts.now others.now vertices.now offsets.now indexes.now }
 {
     let s = first_site_nearer(far, sites, starts, others, vertices, offsets, indexes);
     if s < sites.len() / 2 {
-        return name_nearer(far, sites, starts, others, vertices, offsets, indexes, s);
+        return Err(name_nearer(far, sites, starts, others, vertices, offsets, indexes, s));
     }
     judge_total(whole, sites)
 }
@@ -205,13 +169,14 @@ fn name_outside(
     offsets: &[u32],
     indexes: &[u32],
     s: usize,
-) -> AuditVerdict
+) -> AuditFault
     requires { OutsideNamed bounds vertices.now offsets.now indexes.now s }
-    ensures { result ≡ outside_verdict bounds vertices.now offsets.now indexes.now s }
+    ensures { Err result ≡ outside_verdict bounds vertices.now offsets.now indexes.now s }
 {
-    let entries = walks::shared::cell(offsets, indexes, s);
-    let k = first_outside(bounds, vertices, entries);
-    AuditVerdict::Outside(narrow(s), entries[k])
+    AuditFault::Outside(
+        narrow(s),
+        entry_outside(bounds, vertices, offsets, indexes, s),
+    )
 }
 
 // The second, then the third.
@@ -225,13 +190,13 @@ fn judge_outside(
     vertices: &[f64],
     offsets: &[u32],
     indexes: &[u32],
-) -> AuditVerdict
+) -> Result<(), AuditFault>
     requires { AuditKept true sites.now vertices.now offsets.now indexes.now starts.now others.now bits }
     ensures { result ≡ outside_stage whole bounds bits sites.now starts.now others.now vertices.now offsets.now indexes.now }
 {
     let s = first_site_outside(bounds, vertices, offsets, indexes);
     if s < sites.len() / 2 {
-        return name_outside(bounds, vertices, offsets, indexes, s);
+        return Err(name_outside(bounds, vertices, offsets, indexes, s));
     }
     let far = crate::nearer::far(bounds, broad(bits));
     judge_nearer(
@@ -257,34 +222,18 @@ fn judge_rings(
     vertices: &[f64],
     offsets: &[u32],
     indexes: &[u32],
-) -> AuditVerdict
+) -> Result<(), AuditFault>
     requires { LongOf limit.now (amount limit.now) × AuditKept true sites.now vertices.now offsets.now indexes.now starts.now others.now bits }
     ensures { (box : ℕ) → amount limit.now ≡ box / 2 ^ bits
         → result ≡ rings_stage box whole bounds bits sites.now starts.now others.now vertices.now offsets.now indexes.now }
 {
     let s = crate::rings::first_folded(limit, vertices, offsets, indexes);
     if s < sites.len() / 2 {
-        return AuditVerdict::Ring(narrow(s));
+        return Err(AuditFault::Ring(narrow(s)));
     }
     judge_outside(
         whole, bounds, bits, sites, starts, others, vertices, offsets, indexes,
     )
-}
-
-fn tell(v: AuditVerdict, missing: f64) -> AuditNumbers
-    ensures { ToldOf v missing result.number result.kind result.site result.vertex result.other result.missing }
-{
-    let kind = kind_of(v);
-    let site = site_of(v);
-    let vertex = vertex_of(v);
-    AuditNumbers {
-        number: 0,
-        kind,
-        site,
-        vertex,
-        other: other_of(v),
-        missing,
-    }
 }
 
 // The verdict on arguments that are not refused, and the missing share.
@@ -305,7 +254,7 @@ pub fn verdict(
     let limit = crate::limit::limit(bounds, wide(bits));
     let share = crate::total::total(bounds, &limit, vertices, offsets, indexes);
     let v = judge_rings(
-        share.whole,
+        share.is_ok(),
         &limit,
         bounds,
         bits,
@@ -316,15 +265,19 @@ pub fn verdict(
         offsets,
         indexes,
     );
+    let missing = match share {
+        Ok(m) => m,
+        Err(m) => m,
+    };
     AuditJudgement {
         verdict: v,
-        missing: share.missing,
+        missing,
     }
 }
 
-// Its numbers.
+// In the given box, unless it is refused.
 fn judge(
-    bounds: BoundingBox,
+    given: Given,
     sites: &[f64],
     vertices: &[f64],
     offsets: &[u32],
@@ -332,19 +285,60 @@ fn judge(
     starts: &[u32],
     others: &[u32],
     bits: u32,
-) -> AuditNumbers
-    requires { BoundedBox 101 bounds × AuditKept true sites.now vertices.now offsets.now indexes.now starts.now others.now bits }
-    ensures { JudgedAnswer bounds sites.now vertices.now offsets.now indexes.now starts.now others.now bits
-        result.number result.kind result.site result.vertex result.other result.missing }
+) -> Result<AuditJudgement, Refusal>
+    requires { Fits given }
+    ensures { AuditJudged given sites.now vertices.now offsets.now indexes.now starts.now others.now bits result }
 {
-    let j = verdict(
-        bounds, sites, vertices, offsets, indexes, starts, others, bits,
-    );
-    let v = j.verdict;
-    tell(v, j.missing)
+    crate::rules::ask(
+        given.sound,
+        sites,
+        vertices,
+        offsets,
+        indexes,
+        starts,
+        others,
+        bits,
+    )?;
+    Ok(verdict(
+        given.bounds,
+        sites,
+        vertices,
+        offsets,
+        indexes,
+        starts,
+        others,
+        bits,
+    ))
 }
 
-// In the given box.
+// The numbers of an answer.
+fn tell(answer: Result<AuditJudgement, Refusal>) -> AuditNumbers
+    ensures { ToldOf answer result.number result.kind result.site result.vertex result.other result.missing }
+{
+    match answer {
+        Ok(j) => {
+            let (kind, site, vertex, other) = numbers_of(j.verdict);
+            AuditNumbers {
+                number: 0,
+                kind,
+                site,
+                vertex,
+                other,
+                missing: j.missing,
+            }
+        }
+        Err(r) => AuditNumbers {
+            number: r.into(),
+            kind: EMPTY,
+            site: EMPTY,
+            vertex: EMPTY,
+            other: EMPTY,
+            missing: 0.0,
+        },
+    }
+}
+
+// The audit in the given box, in numbers.
 pub fn audit(
     given: Given,
     sites: &[f64],
@@ -359,34 +353,7 @@ pub fn audit(
     ensures { AuditAnswer given sites.now vertices.now offsets.now indexes.now starts.now others.now bits
         result.number result.kind result.site result.vertex result.other result.missing }
 {
-    let asked = crate::rules::ask(
-        given.sound,
-        sites,
-        vertices,
-        offsets,
-        indexes,
-        starts,
-        others,
-        bits,
-    );
-    if asked != 0 {
-        return AuditNumbers {
-            number: asked,
-            kind: EMPTY,
-            site: EMPTY,
-            vertex: EMPTY,
-            other: EMPTY,
-            missing: 0.0,
-        };
-    }
-    judge(
-        given.bounds,
-        sites,
-        vertices,
-        offsets,
-        indexes,
-        starts,
-        others,
-        bits,
-    )
+    tell(judge(
+        given, sites, vertices, offsets, indexes, starts, others, bits,
+    ))
 }

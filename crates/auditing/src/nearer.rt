@@ -1,6 +1,7 @@
 // Whether each corner of each piece is as near to its own site as to those that it is held against, by the bisector and within the tolerance.
 ghost use Rattle.std.specs.Prelude.{◌≡◌, true, ◌⊎◌, ◌+◌, ◌*◌, ◌/◌, ◌≤◌, ◌<◌, length};
 ghost use Rattle.ring_area.specs.lowest.Lowest.{lowest};
+ghost use Rattle.plane.specs.points.Flat.{point_at};
 ghost use Rattle.walks.specs.shared.Cells.{Cells, cell_of};
 ghost use Rattle.arguments.specs.entries.Named.{EntriesNamed};
 ghost use Rattle.auditing.specs.nearer.Nearer.{tolerance_of, far_of, beyond, no_lists, other_at, held_count, beyond_at, nearer_at, corner_nearer, cell_nearer, site_nearer};
@@ -27,7 +28,7 @@ pub fn far(bounds: BoundingBox, bits: u64) -> f64
 }
 
 // Whether v, a corner of the piece of s, is beyond the bisector with o.
-fn is_beyond(far: f64, v: Point, s: Point, o: Point) -> bool
+pub fn is_beyond(far: f64, v: Point, s: Point, o: Point) -> bool
     ensures { result ≡ beyond far v s o }
 {
     let x = o.x - s.x;
@@ -74,6 +75,23 @@ fn held_count(all: bool, part: &[u32], count: usize) -> usize
     part.len()
 }
 
+// Whether the corner is nearer to the site at place j of those.
+fn beyond_at(
+    far: f64,
+    corner: Point,
+    sites: &[f64],
+    s: usize,
+    part: &[u32],
+    all: bool,
+    j: usize,
+) -> bool
+    requires { HeldNames sites.now s part.now all × (j < held_count all part.now (length sites.now / 2)) }
+    ensures { result ≡ beyond_at far corner sites.now s part.now all j }
+{
+    let other = point_at(sites, other_at(all, part, j));
+    is_beyond(far, corner, point_at(sites, s), other)
+}
+
 // The first of those that the corner is nearer to, or their number.
 pub fn first_beyond(
     far: f64,
@@ -86,23 +104,26 @@ pub fn first_beyond(
     requires { HeldNames sites.now s part.now all }
     ensures { result ≡ lowest (beyond_at far corner sites.now s part.now all) (held_count all part.now (length sites.now / 2)) }
 {
-    let site = point_at(sites, s);
     let count = held_count(all, part, sites.len() / 2);
-    let mut j = 0;
-    while j < count {
-        if is_beyond(far, corner, site, point_at(sites, other_at(all, part, j))) {
-            return j;
-        }
-        j += 1;
-    }
-    j
+    (0..count)
+        .find(|&j| beyond_at(far, corner, sites, s, part, all, j))
+        .unwrap_or(count)
 }
 
-// Whether there is one.
-fn is_nearer(far: f64, corner: Point, sites: &[f64], s: usize, part: &[u32], all: bool) -> bool
-    requires { HeldNames sites.now s part.now all }
-    ensures { result ≡ nearer_at far corner sites.now s part.now all }
+// Whether there is one, of the corner that an entry names.
+fn is_nearer(
+    far: f64,
+    vertices: &[f64],
+    entry: u32,
+    sites: &[f64],
+    s: usize,
+    part: &[u32],
+    all: bool,
+) -> bool
+    requires { HeldNames sites.now s part.now all × (2 * entry + 1 < length vertices.now) }
+    ensures { result ≡ nearer_at far (point_at vertices.now entry) sites.now s part.now all }
 {
+    let corner = point_at(vertices, base::numbers::wide(entry));
     first_beyond(far, corner, sites, s, part, all) < held_count(all, part, sites.len() / 2)
 }
 
@@ -119,21 +140,10 @@ pub fn first_nearer(
     requires { HeldNames sites.now s part.now all × EntriesNamed entries.now (length vertices.now / 2) }
     ensures { result ≡ lowest (corner_nearer far sites.now s part.now all vertices.now entries.now) (length entries.now) }
 {
-    let mut k = 0;
-    while k < entries.len() {
-        if is_nearer(
-            far,
-            point_at(vertices, base::numbers::wide(entries[k])),
-            sites,
-            s,
-            part,
-            all,
-        ) {
-            return k;
-        }
-        k += 1;
-    }
-    k
+    entries
+        .iter()
+        .position(|&entry| is_nearer(far, vertices, entry, sites, s, part, all))
+        .unwrap_or(entries.len())
 }
 
 // Whether there is one.
@@ -187,12 +197,7 @@ pub fn first_site_nearer(
         (length sites.now / 2) }
 {
     let count = sites.len() / 2;
-    let mut s = 0;
-    while s < count {
-        if site_nearer(far, sites, starts, others, vertices, offsets, indexes, s) {
-            return s;
-        }
-        s += 1;
-    }
-    s
+    (0..count)
+        .find(|&s| { site_nearer(far, sites, starts, others, vertices, offsets, indexes, s) })
+        .unwrap_or(count)
 }

@@ -25,14 +25,17 @@ pub fn first_twin(sites: &[f64], s: usize) -> usize
     ensures { result ≡ lowest (twin_at sites.now s) s }
 {
     let place = point_at(sites, s);
-    let mut j = 0;
-    while j < s {
-        if same_place(place, point_at(sites, j)) {
-            return j;
-        }
-        j += 1;
-    }
-    j
+    (0..s)
+        .find(|&j| same_place(place, point_at(sites, j)))
+        .unwrap_or(s)
+}
+
+// The number of the first site before s at its place, where there is one.
+pub fn twin_of(sites: &[f64], s: usize) -> u32
+    requires { (s < length sites.now / 2) × (length sites.now / 2 ≤ 65536) }
+    ensures { result ≡ lowest (twin_at sites.now s) s }
+{
+    first_twin(sites, s) as u32
 }
 
 // The bucket of a place. -0 + 0 is 0, so that equal places have one. Two primes, as patterns of whole numbers end in many zeros.
@@ -99,14 +102,12 @@ fn first_in_block(sites: &[f64], a: usize, best: usize) -> usize
 {
     let mut heads = [0u16; BUCKETS];
     let mut links = [0u16; BLOCK];
-    let mut s = a;
-    while s < best {
+    for s in a..best {
         if visit(&mut heads, &mut links, sites, a, s) {
             return s;
         }
-        s += 1;
     }
-    s
+    best
 }
 
 // The lowest site that has one before it, or their number.
@@ -115,6 +116,7 @@ pub fn first_site_twin(sites: &[f64]) -> usize
 {
     let mut best = sites.len() / 2;
     let mut a = 0;
+    // a while, since its end moves: a `for` over `step_by(BLOCK)` would need a test and a break beside it
     while a < best {
         best = first_in_block(sites, a, best);
         a += BLOCK;

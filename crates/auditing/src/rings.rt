@@ -41,14 +41,15 @@ fn ring_folds(limit: &[u64], vertices: &[f64], entries: &[u32]) -> bool
     requires { LongOf limit.now (amount limit.now) × Corners vertices.now entries.now }
     ensures { (box bits : ℕ) → amount limit.now ≡ box / 2 ^ bits → result ≡ ring_folds box bits vertices.now entries.now }
 {
-    let mut k = 0;
-    while k + 2 < entries.len() {
-        if folds_at(limit, vertices, entries, k) {
-            return true;
-        }
-        k += 1;
-    }
-    false
+    (0..entries.len().saturating_sub(2)).any(|k| folds_at(limit, vertices, entries, k))
+}
+
+// That of site s.
+fn site_folds(limit: &[u64], vertices: &[f64], offsets: &[u32], indexes: &[u32], s: usize) -> bool
+    requires { LongOf limit.now (amount limit.now) × RingsKept vertices.now offsets.now indexes.now × (s < length offsets.now - 1) }
+    ensures { (box bits : ℕ) → amount limit.now ≡ box / 2 ^ bits → result ≡ site_folds box bits vertices.now offsets.now indexes.now s }
+{
+    ring_folds(limit, vertices, walks::shared::cell(offsets, indexes, s))
 }
 
 // The lowest site whose ring folds, or their number.
@@ -58,12 +59,7 @@ pub fn first_folded(limit: &[u64], vertices: &[f64], offsets: &[u32], indexes: &
         → result ≡ lowest (site_folds box bits vertices.now offsets.now indexes.now) (length offsets.now - 1) }
 {
     let count = cell_count(offsets.len());
-    let mut s = 0;
-    while s < count {
-        if ring_folds(limit, vertices, walks::shared::cell(offsets, indexes, s)) {
-            return s;
-        }
-        s += 1;
-    }
-    s
+    (0..count)
+        .find(|&s| site_folds(limit, vertices, offsets, indexes, s))
+        .unwrap_or(count)
 }

@@ -1,6 +1,7 @@
 // What an audit asks of its arguments: 1, 3, 6, 16 on both lists of offsets, 18 on both lists of entries, 24.
 ghost use Rattle.std.specs.Prelude.{◌≡◌, true, ◌⊎◌, length};
 ghost use Rattle.base.specs.common.Decide.{Says};
+ghost use Rattle.base.specs.refusal.Number.{answer_number};
 ghost use Rattle.walks.specs.shared.Cells.{Cells};
 ghost use Rattle.areas.specs.Promise.{entries_of_all};
 ghost use Rattle.auditing.specs.nearer.Nearer.{no_lists};
@@ -8,6 +9,7 @@ ghost use Rattle.auditing.specs.rules.Rules.{AuditCounts, ListsCut, GivenNumber,
 
 use crate::nearer::no_lists;
 use arguments::asking::cells_ok;
+use base::refusal::Refusal;
 
 // Rule 1, on the lengths of the lists and the tolerance.
 pub fn counts_ok(sites: usize, vertices: usize, indexes: usize, bits: u32) -> bool
@@ -35,19 +37,25 @@ pub fn counts_ok(sites: usize, vertices: usize, indexes: usize, bits: u32) -> bo
 }
 
 // 1, 3 and 6.
-fn ask_given(sound: bool, sites: &[f64], vertices: usize, indexes: usize, bits: u32) -> u32
-    ensures { GivenNumber sound sites.now vertices indexes bits result }
+fn ask_given(
+    sound: bool,
+    sites: &[f64],
+    vertices: usize,
+    indexes: usize,
+    bits: u32,
+) -> Result<(), Refusal>
+    ensures { GivenNumber sound sites.now vertices indexes bits (answer_number result) }
 {
     if !counts_ok(sites.len(), vertices, indexes, bits) {
-        return base::numbers::REFUSED_COUNT;
+        return Err(Refusal::Count);
     }
     if !sound {
-        return base::numbers::REFUSED_BOX;
+        return Err(Refusal::Box);
     }
     if plane::points::first_bad_site(sites) < sites.len() / 2 {
-        return base::numbers::REFUSED_COORDINATE;
+        return Err(Refusal::Coordinate);
     }
-    0
+    Ok(())
 }
 
 // No lists of others, or a cut for each site.
@@ -82,19 +90,24 @@ fn held<'a>(starts: &[u32], others: &'a [u32]) -> &'a [u32]
 }
 
 // 18 twice, and 24.
-fn ask_entries(vertices: &[f64], entries: &[u32], others: &[u32], count: usize) -> u32
-    ensures { AuditEntries vertices.now entries.now others.now count result }
+fn ask_entries(
+    vertices: &[f64],
+    entries: &[u32],
+    others: &[u32],
+    count: usize,
+) -> Result<(), Refusal>
+    ensures { AuditEntries vertices.now entries.now others.now count (answer_number result) }
 {
     if !arguments::entries::named(entries, vertices.len() / 2) {
-        return base::numbers::REFUSED_ENTRY;
+        return Err(Refusal::Entry);
     }
     if !arguments::entries::named(others, count) {
-        return base::numbers::REFUSED_ENTRY;
+        return Err(Refusal::Entry);
     }
     if !areas::within(vertices, entries) {
-        return base::numbers::REFUSED_CORNER;
+        return Err(Refusal::Corner);
     }
-    0
+    Ok(())
 }
 
 // All of them.
@@ -107,19 +120,16 @@ pub fn ask(
     starts: &[u32],
     others: &[u32],
     bits: u32,
-) -> u32
-    ensures { AuditNumber sound sites.now vertices.now offsets.now indexes.now starts.now others.now bits result }
+) -> Result<(), Refusal>
+    ensures { AuditNumber sound sites.now vertices.now offsets.now indexes.now starts.now others.now bits (answer_number result) }
 {
-    let given = ask_given(sound, sites, vertices.len(), indexes.len(), bits);
-    if given != 0 {
-        return given;
-    }
+    ask_given(sound, sites, vertices.len(), indexes.len(), bits)?;
     let count = sites.len() / 2;
     if !cells_ok(offsets, indexes, count) {
-        return base::numbers::REFUSED_OFFSETS;
+        return Err(Refusal::Offsets);
     }
     if !lists_ok(starts, others, count) {
-        return base::numbers::REFUSED_OFFSETS;
+        return Err(Refusal::Offsets);
     }
     ask_entries(
         vertices,

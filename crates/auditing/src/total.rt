@@ -1,11 +1,12 @@
 // The areas of all pieces against the box's: their exact sum, the share that is missing, and whether it is within the limit.
 ghost use Rattle.std.specs.Prelude.{◌≡◌, ℕ, ◌-◌, ◌*◌, ◌/◌, ◌^◌, ◌≤◌, leb, length};
+ghost use Rattle.std.specs.Result.{is_ok};
 ghost use Rattle.plane.specs.boxes.Finite.{BoundedBox};
 ghost use Rattle.ring_area.specs.long.Amount.{amount};
 ghost use Rattle.ring_area.specs.Steps.{Open, Corners, RingIn};
 ghost use Rattle.ring_area.specs.limits.Long.{LongOf};
 ghost use Rattle.areas.specs.Steps.{RingsKept};
-ghost use Rattle.auditing.specs.total.Total.{apart, missing_of, total_whole};
+ghost use Rattle.auditing.specs.total.Total.{apart, share_of, missing_of, total_whole};
 ghost use Rattle.auditing.specs.total.Steps.{RingsIn, TotalIn};
 
 use crate::limit::{box_area, box_sums};
@@ -34,15 +35,13 @@ fn rings(plus: &mut [u64], minus: &mut [u64], vertices: &[f64], offsets: &[u32],
         plus.old plus.new minus.old minus.new }
 {
     let count = cell_count(offsets.len());
-    let mut s = 0;
-    while s < count {
+    for s in 0..count {
         ring(
             minus,
             plus,
             vertices,
             walks::shared::cell(offsets, indexes, s),
         );
-        s += 1;
     }
 }
 
@@ -74,31 +73,28 @@ fn within(limit: &[u64], plus: &[u64], minus: &[u64]) -> bool
     !less(limit, &a) & !less(limit, &b)
 }
 
-#[derive(Clone, Copy)]
-pub struct Share {
-    pub whole: bool,
-    pub missing: f64,
-}
-
-// The uncovered share, and whether it is within the limit.
+// The uncovered share: Ok where it is within the limit.
 pub fn total(
     bounds: BoundingBox,
     limit: &[u64],
     vertices: &[f64],
     offsets: &[u32],
     indexes: &[u32],
-) -> Share
+) -> Result<f64, f64>
     requires { BoundedBox 101 bounds × LongOf limit.now (amount limit.now) × RingsKept vertices.now offsets.now indexes.now × (length offsets.now ≤ 65537) }
-    ensures missing { result.missing ≡ missing_of bounds vertices.now offsets.now indexes.now }
+    ensures missing { share_of result ≡ missing_of bounds vertices.now offsets.now indexes.now }
     ensures whole { (box bits : ℕ) → amount limit.now ≡ box / 2 ^ bits
-        → result.whole ≡ total_whole box bits bounds vertices.now offsets.now indexes.now }
+        → is_ok result ≡ total_whole box bits bounds vertices.now offsets.now indexes.now }
 {
     let mut plus = [0u64; LIMBS];
     let mut minus = [0u64; LIMBS];
     sums(bounds, &mut plus, &mut minus, vertices, offsets, indexes);
     carry(&mut plus);
     carry(&mut minus);
-    let whole = within(limit, &plus, &minus);
     let missing = rounded_difference(&plus, &minus) / box_area(bounds);
-    Share { whole, missing }
+    if within(limit, &plus, &minus) {
+        Ok(missing)
+    } else {
+        Err(missing)
+    }
 }

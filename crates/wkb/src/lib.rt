@@ -47,10 +47,8 @@ fn put_points(out: &mut [u8], at: usize, floats: &[f64], bits: &[u64], entries: 
         (each point_bytes (patterns_of (patterns floats.now ++ bits.now) entries.now)) }
 {
     let mut end = at;
-    let mut i = 0;
-    while i < entries.len() {
-        end = put_point(out, end, floats, bits, entries[i]);
-        i += 1;
+    for entry in entries {
+        end = put_point(out, end, floats, bits, *entry);
     }
     end
 }

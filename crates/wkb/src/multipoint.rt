@@ -38,14 +38,7 @@ fn points_start(file: &[u8], count: usize) -> bool
     requires { point_place count ≤ length file.now }
     ensures { Says result ((i : ℕ) → i < count → StartsAs (drop (point_place i) file.now) 1) }
 {
-    let mut i = 0;
-    while i < count {
-        if !starts(file, 9 + 21 * i, 1) {
-            return false;
-        }
-        i += 1;
-    }
-    true
+    (0..count).all(|i| starts(file, 9 + 21 * i, 1))
 }
 
 // Whether the file is a MultiPoint.
@@ -78,14 +71,7 @@ fn coordinates_ok(file: &[u8], count: usize) -> bool
     requires { (count ≡ point_count file.now) × (point_place count ≤ length file.now) }
     ensures { Says result (SoundPoints file.now) }
 {
-    let mut k = 0;
-    while k < 2 * count {
-        if !plane::points::coordinate_ok(coordinate(file, k)) {
-            return false;
-        }
-        k += 1;
-    }
-    true
+    (0..2 * count).all(|k| plane::points::coordinate_ok(coordinate(file, k)))
 }
 
 // What the output holds at place k.
@@ -104,10 +90,8 @@ fn put_sites(file: &[u8], count: usize, sites: &mut [f64])
     requires { (count ≡ point_count file.now) × (point_place count ≤ length file.now) }
     ensures { sites.new ≡ firsts (entry_of file.now) (length sites.old) }
 {
-    let mut k = 0;
-    while k < sites.len() {
-        sites[k] = entry(file, count, k);
-        k += 1;
+    for (k, site) in sites.iter_mut().enumerate() {
+        *site = entry(file, count, k);
     }
 }
 

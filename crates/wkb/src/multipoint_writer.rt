@@ -45,10 +45,8 @@ fn put_points(out: &mut [u8], at: usize, sites: &[f64]) -> usize
 {
     let count = sites.len() / 2;
     let mut end = at;
-    let mut i = 0;
-    while i < count {
+    for i in 0..count {
         end = put_site(out, end, sites, i);
-        i += 1;
     }
     end
 }

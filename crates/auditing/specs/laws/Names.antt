@@ -1,5 +1,5 @@
 -- What the second and the third fault name is there, and is what the definition names.
-use Rattle.std.specs.Prelude.{◌≡◌, Bool, true, List, ℕ, ◌/◌, ◌<◌, Float, get_or}
+use Rattle.std.specs.Prelude.{◌≡◌, Bool, true, List, ℕ, ◌/◌, ◌<◌, Float, get_or, Err}
 use Rattle.std.proofs.Math.Path.{refl, ap, subst}
 use Rattle.std.proofs.Common.{sym, ◌∙◌, ltb-true}
 use Rattle.std.proofs.Math.ListN.{length}
@@ -9,11 +9,11 @@ use Rattle.plane.specs.points.Flat.{point_at}
 use Rattle.plane.specs.declared.points.Point.{Point}
 use Rattle.plane.specs.declared.boxes.BoundingBox.{BoundingBox}
 use Rattle.walks.specs.shared.Cells.{cell_of}
-use Rattle.auditing.specs.corners.Outside.{outside_at, cell_outside, site_outside}
+use Rattle.auditing.specs.corners.Outside.{outside_at, cell_outside, site_outside, entry_outside}
 use Rattle.auditing.specs.nearer.Nearer.{no_lists, other_at, held_count, beyond_at, nearer_at, corner_nearer, cell_nearer, site_nearer}
 use Rattle.auditing.specs.nearer.laws.Pieces.{site_is}
-use Rattle.auditing.specs.Verdict.{nearer_verdict, outside_verdict}
-use Rattle.auditing.specs.declared.AuditVerdict.TheVariants.{Outside, Nearer}
+use Rattle.auditing.specs.Verdict.{AuditVerdict, nearer_verdict, outside_verdict}
+use Rattle.auditing.specs.declared.AuditFault.TheVariants.{Outside, Nearer}
 
 -- the lowest is taken by the test
 pub taken : (p : ℕ → Bool) (n : ℕ) {s : ℕ} → s ≡ lowest p n → s < n → p s ≡ true
@@ -25,9 +25,8 @@ module _ (b : BoundingBox) (v : List Float) (off ix : List ℕ) (s : ℕ) {cell 
   unfolding cell_outside
   outside_below t = subst (λ (i : ℕ). i < length cell) (sym e) (ltb-true (lowest (outside_at b v cell) (length cell)) (length cell) (ap (cell_outside b v) z ∙ t))
 
-  pub outside_named : {a : ℕ} → a ≡ s → Outside a (get_or cell k 0) ≡ outside_verdict b v off ix s
-  unfolding outside_verdict
-  outside_named f = rw (f, e, z) refl
+  pub outside_named : get_or cell k 0 ≡ entry_outside b v off ix s
+  outside_named = rw (e, z) refl
 
 -- ---- the third
 module _ (far : Float) (sites : List Float) (starts others : List ℕ) (v : List Float) (off ix : List ℕ) (s : ℕ) {all : Bool} {part cell : List ℕ} (x : all ≡ no_lists starts others)
@@ -46,6 +45,6 @@ module _ (far : Float) (sites : List Float) (starts others : List ℕ) (v : List
         (ltb-true (lowest (beyond_at far p sites s part all) (held_count all part (length sites / 2))) (held_count all part (length sites / 2))
         (ap (λ (t : Point). nearer_at far t sites s part all) (q ∙ ap (point_at v) g) ∙ taken (corner_nearer far sites s part all v cell) (length cell) e h))
 
-    pub nearer_named : {a b o : ℕ} → a ≡ s → o ≡ other_at all part j → b ≡ o → Nearer a (get_or cell k 0) b ≡ nearer_verdict far sites starts others v off ix s
+    pub nearer_named : {a b o : ℕ} → a ≡ s → o ≡ other_at all part j → b ≡ o → ◌≡◌ {A = AuditVerdict} (Err (Nearer a (get_or cell k 0) b)) (nearer_verdict far sites starts others v off ix s)
     unfolding nearer_verdict
     nearer_named m n l = rw (m, l, n, f, q, g, e, z, y, x) refl

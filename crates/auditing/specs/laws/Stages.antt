@@ -1,5 +1,5 @@
 -- The stages as the code goes through them.
-use Rattle.std.specs.Prelude.{◌≡◌, Bool, true, false, not, List, ℕ, ◌-◌, ◌/◌, ◌≤◌, ◌<◌, Float, length}
+use Rattle.std.specs.Prelude.{◌≡◌, Bool, true, false, not, List, ℕ, ◌-◌, ◌/◌, ◌≤◌, ◌<◌, Float, length, Ok, Err}
 use Rattle.std.proofs.Math.Path.{refl, ap}
 use Rattle.std.proofs.Common.{sym, ◌∙◌, subst, arith, lt-ltb, le-ltb}
 use Rattle.base.specs.common.Pick.{pick}
@@ -11,10 +11,9 @@ use Rattle.auditing.specs.corners.Outside.{site_outside}
 use Rattle.auditing.specs.nearer.Nearer.{far_of, site_nearer}
 use Rattle.auditing.specs.nearer.Steps.{PiecesKept}
 use Rattle.auditing.specs.places.Places.{twin_at, has_twin}
-use Rattle.auditing.specs.Verdict.{twin_verdict, places_stage, total_stage, nearer_verdict, nearer_stage, outside_verdict, outside_stage, rings_stage}
+use Rattle.auditing.specs.Verdict.{AuditVerdict, twin_verdict, places_stage, total_stage, nearer_verdict, nearer_stage, outside_verdict, outside_stage, rings_stage}
 use Rattle.auditing.specs.laws.Names.{taken}
-use Rattle.auditing.specs.declared.AuditVerdict.{AuditVerdict}
-use Rattle.auditing.specs.declared.AuditVerdict.TheVariants.{Sound, Ring, Uncovered, Twin}
+use Rattle.auditing.specs.declared.AuditFault.TheVariants.{Ring, Uncovered, Twin}
 
 -- the lowest s below n is named, or what comes after is asked
 module _ (p : ℕ → Bool) (n : ℕ) (named : ℕ → AuditVerdict) (after : AuditVerdict) {s : ℕ} (e : s ≡ lowest p n) where
@@ -28,20 +27,20 @@ module _ (p : ℕ → Bool) (n : ℕ) (named : ℕ → AuditVerdict) (after : Au
   stage_after h f = f ∙ sym (rw (le-ltb (lowest p n) n (subst (λ (k : ℕ). n ≤ k) e h)) refl)
 
 -- ---- the fifth
-pub twin_named : (sites : List Float) (s : ℕ) {a b o : ℕ} → a ≡ s → o ≡ lowest (twin_at sites s) s → b ≡ o → Twin a b ≡ twin_verdict sites s
-twin_named sites s e f g = rw (e, g, f) refl
+pub twin_named : (sites : List Float) (s : ℕ) {a b : ℕ} → a ≡ s → b ≡ lowest (twin_at sites s) s → ◌≡◌ {A = AuditVerdict} (Err (Twin a b)) (twin_verdict sites s)
+twin_named sites s e f = rw (e, f) refl
 
 module _ (sites : List Float) {s : ℕ} (e : s ≡ lowest (has_twin sites) (length sites / 2)) where
   pub places_named : {r : AuditVerdict} → s < length sites / 2 → r ≡ twin_verdict sites s → r ≡ places_stage sites
   unfolding places_stage
-  places_named = stage_named (has_twin sites) (length sites / 2) (twin_verdict sites) Sound e
+  places_named = stage_named (has_twin sites) (length sites / 2) (twin_verdict sites) (Ok tt) e
 
-  pub places_none : length sites / 2 ≤ s → Sound ≡ places_stage sites
+  pub places_none : length sites / 2 ≤ s → ◌≡◌ {A = AuditVerdict} (Ok tt) (places_stage sites)
   unfolding places_stage
-  places_none h = stage_after (has_twin sites) (length sites / 2) (twin_verdict sites) Sound e h refl
+  places_none h = stage_after (has_twin sites) (length sites / 2) (twin_verdict sites) (Ok tt) e h refl
 
 -- ---- the fourth
-pub total_told : (whole : Bool) (sites : List Float) → not whole ≡ true → Uncovered ≡ total_stage whole sites
+pub total_told : (whole : Bool) (sites : List Float) → not whole ≡ true → ◌≡◌ {A = AuditVerdict} (Err Uncovered) (total_stage whole sites)
 unfolding total_stage
 total_told true sites e = absurd (no_both (sym e))
 total_told false sites e = refl
@@ -89,10 +88,10 @@ module _ (whole : Bool) (b : BoundingBox) (bits : ℕ) (sites : List Float) (sta
     all : s ≡ lowest (site_folds box bits v off ix) (length sites / 2)
     all = e ∙ ap (lowest (site_folds box bits v off ix)) (count_is p)
 
-    pub rings_stage_lem : {a : ℕ} → s < length sites / 2 → a ≡ s → Ring a ≡ rings_stage box whole b bits sites starts others v off ix
+    pub rings_stage_lem : {a : ℕ} → s < length sites / 2 → a ≡ s → ◌≡◌ {A = AuditVerdict} (Err (Ring a)) (rings_stage box whole b bits sites starts others v off ix)
     unfolding rings_stage
-    rings_stage_lem h f = stage_named (site_folds box bits v off ix) (length sites / 2) Ring (outside_stage whole b bits sites starts others v off ix) all h (ap Ring f)
+    rings_stage_lem h f = stage_named (site_folds box bits v off ix) (length sites / 2) (λ k. Err (Ring k)) (outside_stage whole b bits sites starts others v off ix) all h (rw f refl)
 
     pub rings_after : {r : AuditVerdict} → length sites / 2 ≤ s → r ≡ outside_stage whole b bits sites starts others v off ix → r ≡ rings_stage box whole b bits sites starts others v off ix
     unfolding rings_stage
-    rings_after = stage_after (site_folds box bits v off ix) (length sites / 2) Ring (outside_stage whole b bits sites starts others v off ix) all
+    rings_after = stage_after (site_folds box bits v off ix) (length sites / 2) (λ k. Err (Ring k)) (outside_stage whole b bits sites starts others v off ix) all

@@ -1,6 +1,6 @@
 -- The fourth fault: the exact sum of the exact areas differs from the box's by more than 2 ^ -bits of it; and the share that is missing. There is a site less than
 -- offsets. Definitions only.
-use Rattle.std.specs.Prelude.{Bool, List, map, ℕ, zero, suc, ◌+◌, ◌-◌, ◌*◌, ◌^◌, leb, Float, length}
+use Rattle.std.specs.Prelude.{Bool, List, map, ℕ, zero, suc, ◌+◌, ◌-◌, ◌*◌, ◌^◌, leb, Float, length, Result, Ok, Err}
 use Rattle.base.specs.common.Binary64.{◌⊟◌, ◌⊘◌}
 use Rattle.plane.specs.points.Flat.{point_at}
 use Rattle.plane.specs.boxes.Box.{corners_of}
@@ -31,6 +31,11 @@ box_and_gains b v off ix = losses_of (corners_of b) + rings_total (cell_gains v 
 -- the missing share: the box less the sum, rounded once, over the box rounded once
 unfoldable pub missing_of : BoundingBox → List Float → List ℕ → List ℕ → Float
 missing_of b v off ix = rounded_half (box_and_losses b v off ix) (box_and_gains b v off ix) ⊘ area (corners_of b)
+
+-- a share that is within the limit, or is not
+abbrev pub share_of : Result Float Float → Float
+share_of (Ok m) = m
+share_of (Err m) = m
 
 abbrev pub apart : ℕ → ℕ → ℕ
 apart a b = a - b + (b - a)

@@ -4,7 +4,7 @@ use Rattle.std.specs.Result.{IsErrAnd}
 use Rattle.std.proofs.Common.{◌∙◌}
 use Rattle.base.specs.declared.refusal.Refusal.{Refusal}
 use Rattle.base.specs.refusal.Number as refusal
-use Rattle.base.specs.refusal.laws.Number.{handed_on}
+use Rattle.base.specs.refusal.laws.Number.{handed_number}
 use Rattle.mesh.specs.declared.MeshFault.{MeshFault}
 use Rattle.mesh.specs.declared.MeshFault.TheVariants.{Counts, Room, Coordinate, Triangle, Pairing, HullPlace, HullEdge, BrokenFan}
 use Rattle.mesh.specs.Faults.{refusal_of, number_of}
@@ -20,4 +20,4 @@ fault_number (HullEdge e) = refl
 fault_number (BrokenFan s) = refl
 
 pub fault_handed : {T : Type 0} (r : Result T Refusal) (f : MeshFault) → IsErrAnd r (λ e. e ≡ refusal_of f) → refusal.answer_number r ≡ number_of (Err f)
-fault_handed r f x = handed_on r (refusal_of f) x ∙ fault_number f
+fault_handed r f x = handed_number r (refusal_of f) x ∙ fault_number f

@@ -13,10 +13,6 @@ use Rattle.auditing.specs.corners.Outside.{outside_at, cell_outside, site_outsid
 pub outside_is : (b : BoundingBox) (v : List Float) {t : Bool} {p : Point} {w : ℕ} (e : ℕ) → w ≡ e → p ≡ point_at v w → t ≡ inside_of b p → not t ≡ not (inside_of b (point_at v e))
 outside_is b v e x y z = ap not (z ∙ ap (inside_of b) y ∙ ap (λ (k : ℕ). inside_of b (point_at v k)) x)
 
-pub corner_outside : (b : BoundingBox) (v : List Float) (cell : List ℕ) (k : ℕ) {t : Bool} → t ≡ not (inside_of b (point_at v (get_or cell k 0))) → t ≡ outside_at b v cell k
-unfolding outside_at
-corner_outside b v cell k e = e
-
 pub cell_outside_lem : (b : BoundingBox) (v : List Float) (cell : List ℕ) {k : ℕ} → k ≡ lowest (outside_at b v cell) (length cell) → ltb k (length cell) ≡ cell_outside b v cell
 unfolding cell_outside
 cell_outside_lem b v cell e = ap (λ (k : ℕ). ltb k (length cell)) e

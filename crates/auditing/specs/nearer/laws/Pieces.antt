@@ -120,14 +120,10 @@ pub nearer_is : (far : Float) (corner : Point) (sites : List Float) (s : ℕ) (p
 unfolding nearer_at
 nearer_is far corner sites s part all {j} {k} e f = ap (λ (x : ℕ). ltb x k) e ∙ ap (λ (x : ℕ). ltb (lowest (beyond_at far corner sites s part all) (held_count all part (length sites / 2))) x) f
 
-module _ (far : Float) (sites : List Float) (s : ℕ) (part : List ℕ) (all : Bool) (v : List Float) (cell : List ℕ) where
-  pub corner_is : (k : ℕ) {t : Bool} {p : Point} {w : ℕ} → w ≡ get_or cell k 0 → p ≡ point_at v w → t ≡ nearer_at far p sites s part all → t ≡ corner_nearer far sites s part all v cell k
-  unfolding corner_nearer
-  corner_is k x y e = e ∙ ap (λ (q : Point). nearer_at far q sites s part all) (y ∙ ap (point_at v) x)
-
-  pub cell_is : {k : ℕ} → k ≡ lowest (corner_nearer far sites s part all v cell) (length cell) → ltb k (length cell) ≡ cell_nearer far sites s part all v cell
-  unfolding cell_nearer
-  cell_is e = ap (λ (k : ℕ). ltb k (length cell)) e
+pub cell_is : (far : Float) (sites : List Float) (s : ℕ) (part : List ℕ) (all : Bool) (v : List Float) (cell : List ℕ) {k : ℕ}
+    → k ≡ lowest (corner_nearer far sites s part all v cell) (length cell) → ltb k (length cell) ≡ cell_nearer far sites s part all v cell
+unfolding cell_nearer
+cell_is far sites s part all v cell e = ap (λ (k : ℕ). ltb k (length cell)) e
 
 pub site_is : (far : Float) (sites : List Float) (starts others : List ℕ) (v : List Float) (off ix : List ℕ) (s : ℕ) {all t : Bool} {part cell : List ℕ}
     → all ≡ no_lists starts others → part ≡ cell_of starts others s → cell ≡ cell_of off ix s → t ≡ cell_nearer far sites s part all v cell

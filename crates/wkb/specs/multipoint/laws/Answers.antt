@@ -1,24 +1,37 @@
 -- The answers of reading, from the tests that the code makes.
-use Rattle.std.specs.Prelude.{◌≡◌, refl, Bool, true, not, false, List, ◌≢◌, ℕ, ◌*◌, ◌≤◌, ◌<◌, length, drop, Float}
-use Rattle.std.proofs.Common.{sym, ap, ◌∙◌, arith}
-use Rattle.std.proofs.lemmas.Bool.{false≢true, not-true, not-false}
+use Rattle.std.specs.Prelude.{◌≡◌, refl, Bool, true, false, MatchBool, List, ◌≢◌, ℕ, ◌*◌, ◌≤◌, ◌<◌, length, get_or, drop, Float}
+use Rattle.std.specs.List.{AllWithin, HoldsAt, range_with_len}
+use Rattle.std.proofs.Common.{sym, ap, ◌∙◌, subst, arith}
+use Rattle.std.proofs.lemmas.Bool.{false≢true}
+use Rattle.std.proofs.lemmas.List.FromFn.{length-range_with_len, get_or-range_with_len}
 use Rattle.base.specs.common.Decide.{Says}
 use Rattle.base.specs.common.laws.Refusals.{breaks, keeps, nothing}
 use Rattle.base.specs.numbers.Numbers.{refused_count, refused_room, refused_coordinate, refused_points}
 use Rattle.plane.specs.points.Rules.{ok_coord}
-use Rattle.wkb.specs.multipoint.Fields.{StartsAs, point_count, point_place, Shape}
+use Rattle.wkb.specs.multipoint.Fields.{StartsAs, point_count, point_place, Shape, coordinate_of}
 use Rattle.wkb.specs.multipoint.Promise.{SiteLimits, firsts, SoundPoints, entry_of, ReadAnswer, SoundAnswer}
 
--- what a test of a coordinate tells
-module _ {x y : Float} {b : Bool} (e : x ≡ y) (t : b ≡ ok_coord x) where
-  told : ok_coord y ≡ b
-  told = ap ok_coord (sym e) ∙ sym t
+-- what `all` over the numbers below n tells
+pub all_say : (P : ℕ → Type 0) (n : ℕ) (r : Bool)
+    → MatchBool r (AllWithin P (range_with_len 0 n) 0 (length (range_with_len 0 n))) ((k : ℕ) × (k < length (range_with_len 0 n)) × HoldsAt (λ x. P x → ⊥) (range_with_len 0 n) k)
+    → Says r ((k : ℕ) → k < n → P k)
+all_say P n true h = λ k l. subst P (get_or-range_with_len 0 n k 0 l ∙ omega arith) (h k 0 (omega arith) (omega (arith, length-range_with_len 0 n)))
+all_say P n false h =
+    let l : h.0 < n = omega (arith, h.1, length-range_with_len 0 n) in
+    let e : get_or (range_with_len 0 n) h.0 0 ≡ h.0 = get_or-range_with_len 0 n h.0 0 l ∙ omega arith in
+    λ all. h.2 0 (subst P (sym e) (all h.0 l))
 
-  pub coordinate_kept : not b ≡ false → ok_coord y ≡ true
-  coordinate_kept h = told ∙ not-false b h
+-- a coordinate by its test
+pub coordinate_kept : {x y : Float} → true ≡ ok_coord x → x ≡ y → ok_coord y ≡ true
+coordinate_kept t e = ap ok_coord (sym e) ∙ sym t
 
-  pub coordinate_broken : not b ≡ true → ok_coord y ≡ true → ⊥
-  coordinate_broken h k = false≢true (sym (told ∙ not-true b h) ∙ k)
+pub coordinate_broken : {x y : Float} → false ≡ ok_coord x → x ≡ y → ok_coord y ≡ true → ⊥
+coordinate_broken t e k = false≢true (t ∙ ap ok_coord e ∙ k)
+
+-- the file's count of points
+pub all_sound : (s : List ℕ) {n : ℕ} (r : Bool) → n ≡ point_count s → Says r ((k : ℕ) → k < 2 * n → ok_coord (coordinate_of s k) ≡ true) → Says r (SoundPoints s)
+all_sound s true e a = record { each = λ k l. a k (omega arith) }
+all_sound s false e a = λ p. a (λ k l. p.each k (omega arith))
 
 -- a file and the output before
 module _ (s : List ℕ) (old : List Float) where

@@ -1,0 +1,6 @@
+-- `auditing::name_twin` meets its contract.
+use Rattle.auditing.specs.laws.Stages.{twin_named}
+use Rattle.auditing.proofs.name_twin.Goals as goal
+
+pub returns : goal.returns
+returns c = twin_named c.args.sites.now c.args.s c.narrow.ensures c.twin_of.ensures
