@@ -1,4 +1,5 @@
 pub mod cover
+pub mod laws
 pub mod sides
 pub mod nearer
 pub mod rules

@@ -4,14 +4,16 @@ ghost use Rattle.base.specs.numbers.Numbers.{EMPTY};
 ghost use Rattle.plane.specs.given.Finite.{Fits};
 ghost use Rattle.auditing.specs.Steps.{OutsideNamed};
 ghost use Rattle.certifying.specs.sides.Sides.{side_count};
-ghost use Rattle.certifying.specs.call.Verdict.{larger_of, certify_far, certify_twin, twin_stage, certify_nearer, near_stage, border_stage, site_of_side, certify_side, side_stage};
-ghost use Rattle.certifying.specs.call.Verdict.{certify_outside, certify_on, certify_kind, certify_site, certify_vertex, certify_other};
+ghost use Rattle.certifying.specs.call.Verdict.{certify_far, certify_twin, twin_stage, certify_nearer, near_stage, border_stage, site_of_side, certify_side, side_stage};
+ghost use Rattle.certifying.specs.call.Verdict.{certify_outside, certify_on};
 ghost use Rattle.certifying.specs.call.Steps.{NearNamed, JudgeSafe, SideNamed, SidesChained, VerdictTold, VerdictAnswer, RefusedAnswer};
 ghost use Rattle.certifying.specs.call.Promise.{CertifyAnswer};
 
 use crate::nearer::{first_site_nearer, no_others};
 use crate::sides::{first_surplus, insert_all, left_once};
+use crate::tree::narrow;
 use crate::twins::first_site_twin;
+use crate::windows::greater;
 use auditing::corners::{first_outside, first_site_outside};
 use auditing::nearer::{first_beyond, first_nearer};
 use auditing::places::first_twin;
@@ -19,11 +21,10 @@ use base::numbers::{EMPTY, REFUSED_TRIANGLE, wide};
 use plane::boxes::BoundingBox;
 use plane::given::Given;
 
-// Nothing; a corner of a site's piece is outside; a side of it comes more often than the same side back; the corner of the box is not left once; a corner is nearer to another site;
-// a site stands where one before it does.
-#[derive(Clone, Copy)]
-pub enum CertifyVerdict {
-    Certified,
+// A corner of a site's piece is outside; a side of it comes more often than the same side back; the corner of the box is not left once; a corner is nearer to another site; a site stands
+// where one before it does. Each has the site, the vertex and the other site, as far as it names them.
+#[derive(Clone, Copy, Debug, PartialEq, Eq)]
+pub enum CertifyFault {
     Outside(u32, u32),
     Surplus(u32, u32),
     Border,
@@ -31,54 +32,37 @@ pub enum CertifyVerdict {
     Twin(u32, u32),
 }
 
-fn larger(x: f64, y: f64) -> f64
-    ensures { result ≡ larger_of x y }
-{
-    if x < y {
-        return y;
-    }
-    x
-}
-
 // 2^-bits of the largest magnitude of the four edges.
 pub fn far(bounds: BoundingBox, bits: u64) -> f64
     requires { bits ≤ 52 }
     ensures { result ≡ certify_far bounds bits }
 {
-    let x = larger(root::magnitude(bounds.left), root::magnitude(bounds.top));
-    let y = larger(
+    let x = greater(root::magnitude(bounds.left), root::magnitude(bounds.top));
+    let y = greater(
         root::magnitude(bounds.right),
         root::magnitude(bounds.bottom),
     );
-    larger(x, y) * auditing::nearer::tolerance(bits)
+    greater(x, y) * auditing::nearer::tolerance(bits)
 }
 
-// A site's number.
-fn narrow(x: usize) -> u32
-    requires { x < 65536 }
-    ensures { result ≡ x }
-{
-    x as u32
-}
-
-fn name_twin(sites: &[f64], s: usize) -> CertifyVerdict
+fn name_twin(sites: &[f64], s: usize) -> CertifyFault
     requires { (s < length sites.now / 2) × (length sites.now / 2 ≤ 65536) }
     ensures { result ≡ certify_twin sites.now s }
 {
     let o = first_twin(sites, s);
-    CertifyVerdict::Twin(narrow(s), narrow(o))
+    CertifyFault::Twin(narrow(s), narrow(o))
 }
 
 // The fifth fault, or none. What the work held is no longer needed.
-fn judge_twins(work: &mut [u32], sites: &[f64]) -> CertifyVerdict
+fn judge_twins(work: &mut [u32], sites: &[f64]) -> Result<(), CertifyFault>
     requires { (2 * (length sites.now / 2) ≤ length work.old) × (length sites.now / 2 ≤ 65536) }
     ensures { (result ≡ twin_stage sites.now) × (length work.new ≡ length work.old) }
 {
     let s = first_site_twin(sites, work);
     if s < sites.len() / 2 {
-        return name_twin(sites, s);
+        return Err(name_twin(sites, s));
     }
-    CertifyVerdict::Certified
+    Ok(())
 }
 
 fn name_nearer(
@@ -88,7 +72,7 @@ fn name_nearer(
     offsets: &[u32],
     indexes: &[u32],
     s: usize,
-) -> CertifyVerdict
+) -> CertifyFault
     requires { NearNamed far sites.now vertices.now offsets.now indexes.now s }
     ensures { result ≡ certify_nearer far sites.now vertices.now offsets.now indexes.now s }
 {
@@ -104,13 +88,7 @@ fn name_nearer(
         none,
         true,
     );
-    CertifyVerdict::Nearer(narrow(s), e, narrow(o))
-}
-
-fn broad(x: u32) -> u64
-    ensures { result ≡ x }
-{
-    x as u64
+    CertifyFault::Nearer(narrow(s), e, narrow(o))
 }
 
 // The fourth fault, then the fifth. What the work held is no longer needed.
@@ -122,15 +100,15 @@ fn judge_nearer(
     vertices: &[f64],
     offsets: &[u32],
     indexes: &[u32],
-) -> CertifyVerdict
+) -> Result<(), CertifyFault>
     requires { JudgeSafe bounds bits sites.now vertices.now offsets.now indexes.now work.old }
     ensures { (result ≡ near_stage (certify_far bounds bits) sites.now vertices.now offsets.now indexes.now)
         × (length work.new ≡ length work.old) }
 {
-    let f = far(bounds, broad(bits));
+    let f = far(bounds, u64::from(bits));
     let s = first_site_nearer(f, sites, vertices, offsets, indexes, work);
     if s < sites.len() / 2 {
-        return name_nearer(f, sites, vertices, offsets, indexes, s);
+        return Err(name_nearer(f, sites, vertices, offsets, indexes, s));
     }
     judge_twins(work, sites)
 }
@@ -145,13 +123,13 @@ fn judge_border(
     offsets: &[u32],
     indexes: &[u32],
     count: usize,
-) -> CertifyVerdict
+) -> Result<(), CertifyFault>
     requires { JudgeSafe bounds bits sites.now vertices.now offsets.now indexes.now work.old × SidesChained vertices.now offsets.now indexes.now count work.old }
     ensures { (result ≡ border_stage bounds bits sites.now vertices.now offsets.now indexes.now)
         × (length work.new ≡ length work.old) }
 {
     if !left_once(work, vertices, indexes, bounds, count) {
-        return CertifyVerdict::Border;
+        return Err(CertifyFault::Border);
     }
     judge_nearer(work, bounds, bits, sites, vertices, offsets, indexes)
 }
@@ -161,22 +139,17 @@ fn site_of_side(offsets: &[u32], count: usize, e: usize) -> usize
     requires { count < length offsets.now }
     ensures { result ≡ site_of_side offsets.now count e }
 {
-    let mut s = 0;
-    while s < count {
-        if e < wide(offsets[s + 1]) {
-            return s;
-        }
-        s += 1;
-    }
-    s
+    (0..count)
+        .find(|&s| e < wide(offsets[s + 1]))
+        .unwrap_or(count)
 }
 
-fn name_side(sites: &[f64], offsets: &[u32], indexes: &[u32], e: usize) -> CertifyVerdict
+fn name_side(sites: &[f64], offsets: &[u32], indexes: &[u32], e: usize) -> CertifyFault
     requires { SideNamed sites.now offsets.now indexes.now e }
     ensures { result ≡ certify_side sites.now offsets.now indexes.now e }
 {
     let s = site_of_side(offsets, sites.len() / 2, e);
-    CertifyVerdict::Surplus(narrow(s), indexes[e])
+    CertifyFault::Surplus(narrow(s), indexes[e])
 }
 
 // The second, then the third: the sides are chained in the work.
@@ -189,14 +162,14 @@ fn judge_chained(
     offsets: &[u32],
     indexes: &[u32],
     count: usize,
-) -> CertifyVerdict
+) -> Result<(), CertifyFault>
     requires { JudgeSafe bounds bits sites.now vertices.now offsets.now indexes.now work.old × SidesChained vertices.now offsets.now indexes.now count work.old }
     ensures { (result ≡ side_stage bounds bits sites.now vertices.now offsets.now indexes.now)
         × (length work.new ≡ length work.old) }
 {
     let e = first_surplus(work, vertices, indexes, bounds, count);
     if e < count {
-        return name_side(sites, offsets, indexes, e);
+        return Err(name_side(sites, offsets, indexes, e));
     }
     judge_border(work, bounds, bits, sites, vertices, offsets, indexes, count)
 }
@@ -219,7 +192,7 @@ fn judge_sides(
     vertices: &[f64],
     offsets: &[u32],
     indexes: &[u32],
-) -> CertifyVerdict
+) -> Result<(), CertifyFault>
     requires { JudgeSafe bounds bits sites.now vertices.now offsets.now indexes.now work.old }
     ensures { (result ≡ side_stage bounds bits sites.now vertices.now offsets.now indexes.now)
         × (length work.new ≡ length work.old) }
@@ -235,13 +208,13 @@ fn name_outside(
     offsets: &[u32],
     indexes: &[u32],
     s: usize,
-) -> CertifyVerdict
+) -> CertifyFault
     requires { OutsideNamed bounds vertices.now offsets.now indexes.now s }
     ensures { result ≡ certify_outside bounds vertices.now offsets.now indexes.now s }
 {
     let entries = walks::shared::cell(offsets, indexes, s);
     let k = first_outside(bounds, vertices, entries);
-    CertifyVerdict::Outside(narrow(s), entries[k])
+    CertifyFault::Outside(narrow(s), entries[k])
 }
 
 // The verdict on arguments that are not refused.
@@ -253,68 +226,16 @@ pub fn verdict(
     vertices: &[f64],
     offsets: &[u32],
     indexes: &[u32],
-) -> CertifyVerdict
+) -> Result<(), CertifyFault>
     requires { JudgeSafe bounds bits sites.now vertices.now offsets.now indexes.now work.old }
     ensures { (result ≡ certify_on bounds bits sites.now vertices.now offsets.now indexes.now)
         × (length work.new ≡ length work.old) }
 {
     let s = first_site_outside(bounds, vertices, offsets, indexes);
     if s < sites.len() / 2 {
-        return name_outside(bounds, vertices, offsets, indexes, s);
+        return Err(name_outside(bounds, vertices, offsets, indexes, s));
     }
     judge_sides(work, bounds, bits, sites, vertices, offsets, indexes)
-}
-
-fn kind_of(v: CertifyVerdict) -> u32
-    ensures { result ≡ certify_kind v }
-{
-    match v {
-        CertifyVerdict::Certified => 0,
-        CertifyVerdict::Outside(_, _) => 1,
-        CertifyVerdict::Surplus(_, _) => 2,
-        CertifyVerdict::Border => 3,
-        CertifyVerdict::Nearer(_, _, _) => 4,
-        CertifyVerdict::Twin(_, _) => 5,
-    }
-}
-
-fn site_of(v: CertifyVerdict) -> u32
-    ensures { result ≡ certify_site v }
-{
-    match v {
-        CertifyVerdict::Certified => EMPTY,
-        CertifyVerdict::Outside(s, _) => s,
-        CertifyVerdict::Surplus(s, _) => s,
-        CertifyVerdict::Border => EMPTY,
-        CertifyVerdict::Nearer(s, _, _) => s,
-        CertifyVerdict::Twin(s, _) => s,
-    }
-}
-
-fn vertex_of(v: CertifyVerdict) -> u32
-    ensures { result ≡ certify_vertex v }
-{
-    match v {
-        CertifyVerdict::Certified => EMPTY,
-        CertifyVerdict::Outside(_, e) => e,
-        CertifyVerdict::Surplus(_, e) => e,
-        CertifyVerdict::Border => EMPTY,
-        CertifyVerdict::Nearer(_, e, _) => e,
-        CertifyVerdict::Twin(_, _) => EMPTY,
-    }
-}
-
-fn other_of(v: CertifyVerdict) -> u32
-    ensures { result ≡ certify_other v }
-{
-    match v {
-        CertifyVerdict::Certified => EMPTY,
-        CertifyVerdict::Outside(_, _) => EMPTY,
-        CertifyVerdict::Surplus(_, _) => EMPTY,
-        CertifyVerdict::Border => EMPTY,
-        CertifyVerdict::Nearer(_, _, o) => o,
-        CertifyVerdict::Twin(_, o) => o,
-    }
 }
 
 #[derive(Clone, Copy)]
@@ -326,18 +247,29 @@ pub struct CertifyNumbers {
     pub other: u32,
 }
 
-fn tell(v: CertifyVerdict) -> CertifyNumbers
-    ensures { VerdictTold v result.number result.kind result.site result.vertex result.other }
+fn told(kind: u32, site: u32, vertex: u32, other: u32) -> CertifyNumbers
+    ensures { (result.number ≡ 0) × (result.kind ≡ kind) × (result.site ≡ site) × (result.vertex ≡ vertex) × (result.other ≡ other) }
 {
-    let kind = kind_of(v);
-    let site = site_of(v);
-    let vertex = vertex_of(v);
     CertifyNumbers {
         number: 0,
         kind,
         site,
         vertex,
-        other: other_of(v),
+        other,
+    }
+}
+
+// The numbers of a verdict, EMPTY where it names none.
+fn tell(verdict: Result<(), CertifyFault>) -> CertifyNumbers
+    ensures { VerdictTold verdict result.number result.kind result.site result.vertex result.other }
+{
+    match verdict {
+        Ok(()) => told(0, EMPTY, EMPTY, EMPTY),
+        Err(CertifyFault::Outside(site, vertex)) => told(1, site, vertex, EMPTY),
+        Err(CertifyFault::Surplus(site, vertex)) => told(2, site, vertex, EMPTY),
+        Err(CertifyFault::Border) => told(3, EMPTY, EMPTY, EMPTY),
+        Err(CertifyFault::Nearer(site, vertex, other)) => told(4, site, vertex, other),
+        Err(CertifyFault::Twin(site, other)) => told(5, site, EMPTY, other),
     }
 }
 

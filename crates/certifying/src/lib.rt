@@ -3,6 +3,7 @@
 #![tactic(auto)]
 
 pub mod call;
+pub mod chains;
 pub mod nearer;
 pub mod rules;
 pub mod sides;

@@ -1,13 +1,15 @@
 // The sides of all rings: whether each way between two places comes as often as the other, and how often the top right corner of the box is left along the top edge. The sides are chained in
 // buckets by the two places between which they run, in lent work: three words to an entry (specs/Chains.antt).
-ghost use Rattle.std.specs.Prelude.{◌≡◌, true, ◌&&◌, suc, ◌+◌, ◌-◌, ◌*◌, ◌^◌, ◌≤◌, ◌<◌, length, get_or, set};
+ghost use Rattle.std.specs.Prelude.{◌≡◌, true, ◌&&◌, ◌+◌, ◌-◌, ◌*◌, ◌^◌, ◌≤◌, ◌<◌, length, get_or};
 ghost use Rattle.ring_area.specs.lowest.Lowest.{lowest};
 ghost use Rattle.plane.specs.points.Flat.{point_at};
 ghost use Rattle.auditing.specs.places.Places.{same_of};
-ghost use Rattle.certifying.specs.sides.Sides.{ring_ends, one_for, along_of, surplus_at, leaves_of, left_once};
+ghost use Rattle.certifying.specs.sides.Sides.{ring_ends, along_of, surplus_at, leaves_of, left_once};
 ghost use Rattle.certifying.specs.sides.Chains.{place_number, side_bucket, laid_ends, SideSafe, SidesIn, ChainedTo, WaysOf, RingLaid, LaySafe, LaidTo, ChainedMore, InsertSafe, InsertsAll};
 ghost use Rattle.certifying.specs.sides.Chains.{RunsBack, EvenIn, FairIn, NumberSafe, FourSafe, Turned, TwoPairs};
 
+use crate::chains;
+use crate::chains::push_front;
 use auditing::places::same_place;
 use base::numbers::wide;
 use octets::patterns::pattern;
@@ -26,12 +28,6 @@ pub struct SideEnds {
 struct Ways {
     there: usize,
     back: usize,
-}
-
-fn one_if(t: bool) -> usize
-    ensures { result ≡ one_for t }
-{
-    if t { 1 } else { 0 }
 }
 
 // Both ends on the same edge of the box.
@@ -58,18 +54,12 @@ pub fn place_number(p: Point) -> u64
     pattern(p.x + 0.0) % 2654435761 + pattern(p.y + 0.0) % 3266489917
 }
 
-fn broad(x: usize) -> u64
-    ensures { result ≡ x }
-{
-    x as u64
-}
-
 // The bucket of the sides between p and q, of so many.
 fn bucket(p: Point, q: Point, count: usize) -> usize
     requires { (0 < count) × (count ≤ 2 ^ 24) }
     ensures { (result ≡ side_bucket count p q) × (result < count) }
 {
-    ((place_number(p) + place_number(q)) % broad(count)) as usize
+    chains::bucket(place_number(p) + place_number(q), count)
 }
 
 // Side k.
@@ -108,8 +98,8 @@ fn count_ways(
     while 0 < x {
         let k = x - 1;
         let side = side_at(work, vertices, indexes, k);
-        there += one_if(runs(side, p, q));
-        back += one_if(runs(side, q, p));
+        there += usize::from(runs(side, p, q));
+        back += usize::from(runs(side, q, p));
         x = wide(work[3 * k + 1]);
     }
     Ways { there, back }
@@ -286,15 +276,7 @@ fn all_fair(
     ensures { result ≡ true
         → count ≡ lowest (surplus_at bounds vertices.now indexes.now (laid_ends work.now count) count) count }
 {
-    let mut m = 0;
-    while m < count {
-        if is_fair(work, vertices, indexes, bounds, count, m) {
-            m += 1;
-        } else {
-            return false;
-        }
-    }
-    true
+    (0..count).all(|m| is_fair(work, vertices, indexes, bounds, count, m))
 }
 
 // The first side of which more run its way than back, or their number. They are asked one by one only where there is one.
@@ -311,14 +293,9 @@ pub fn first_surplus(
     if all_fair(work, vertices, indexes, bounds, count) {
         return count;
     }
-    let mut k = 0;
-    while k < count {
-        if is_surplus(work, vertices, indexes, bounds, count, k) {
-            return k;
-        }
-        k += 1;
-    }
-    k
+    (0..count)
+        .find(|&k| is_surplus(work, vertices, indexes, bounds, count, k))
+        .unwrap_or(count)
 }
 
 // Whether the top right corner is left once more than it is reached.
@@ -334,12 +311,10 @@ pub fn left_once(
 {
     let mut left = 0;
     let mut reached = 0;
-    let mut k = 0;
-    while k < count {
+    for k in 0..count {
         let side = side_at(work, vertices, indexes, k);
-        left += one_if(leaves(bounds, side.from, side.to));
-        reached += one_if(leaves(bounds, side.to, side.from));
-        k += 1;
+        left += usize::from(leaves(bounds, side.from, side.to));
+        reached += usize::from(leaves(bounds, side.to, side.from));
     }
     left == reached + 1
 }
@@ -360,12 +335,10 @@ fn lay_ring(work: &mut [u32], cell: &[u32], base: usize)
     requires { (3 * (base + length cell.now) ≤ length work.old) × (base + length cell.now ≤ 2 ^ 24) }
     ensures { RingLaid base cell.now (length cell.now) work.old work.new }
 {
-    let mut i = 0;
-    while i < cell.len() {
+    for i in 0..cell.len() {
         let k = base + i;
         work[3 * k] = 0;
         work[3 * k + 2] = end_at(cell, i);
-        i += 1;
     }
 }
 
@@ -375,24 +348,13 @@ fn lay(work: &mut [u32], offsets: &[u32], indexes: &[u32])
     ensures { LaidTo offsets.now indexes.now (length offsets.now - 1) work.old work.new }
 {
     let count = offsets.len() - 1;
-    let mut s = 0;
-    while s < count {
+    for s in 0..count {
         lay_ring(
             work,
             walks::shared::cell(offsets, indexes, s),
             wide(offsets[s]),
         );
-        s += 1;
     }
-}
-
-// Inserts side k into the bucket m.
-fn insert_in(work: &mut [u32], k: usize, m: usize)
-    requires { (3 * k + 1 < length work.old) × (3 * m < length work.old) × (k < 2 ^ 24) × (m < 2 ^ 24) }
-    ensures { work.new ≡ set (set work.old (3 * k + 1) (get_or work.old (3 * m) 0)) (3 * m) (suc k) }
-{
-    work[3 * k + 1] = work[3 * m];
-    work[3 * m] = (k + 1) as u32;
 }
 
 // Inserts side k.
@@ -402,7 +364,7 @@ fn insert(work: &mut [u32], vertices: &[f64], indexes: &[u32], count: usize, k: 
 {
     let side = side_at(work, vertices, indexes, k);
     let m = bucket(side.from, side.to, count);
-    insert_in(work, k, m);
+    push_front::<3>(work, k, m);
 }
 
 // Lays and inserts all sides.
@@ -417,9 +379,7 @@ pub fn insert_all(
     ensures { InsertsAll vertices.now offsets.now indexes.now count work.old work.new }
 {
     lay(work, offsets, indexes);
-    let mut k = 0;
-    while k < count {
+    for k in 0..count {
         insert(work, vertices, indexes, count, k);
-        k += 1;
     }
 }

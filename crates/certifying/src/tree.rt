@@ -1,10 +1,10 @@
 // The fourth test of the certificate by a tree of the sites: a site, or a block of them, that is off the window of a ring is left out for the whole ring at once (crate::windows). The tree
 // is an order of the sites with the sites of least and greatest coordinates of each block of 16, of 256 and of 4096 places. Any order is sound; a bad one costs time.
-ghost use Rattle.std.specs.Prelude.{◌≡◌, true, false, [], ◌⊎◌, ◌+◌, ◌*◌, ◌/◌, ◌≤◌, ◌<◌, length, set};
+ghost use Rattle.std.specs.Prelude.{◌≡◌, true, false, [], ◌+◌, ◌*◌, ◌/◌, ◌≤◌, ◌<◌, length, set};
 ghost use Rattle.ring_area.specs.lowest.Lowest.{lowest, any_below};
 ghost use Rattle.plane.specs.points.Flat.{point_at};
 ghost use Rattle.arguments.specs.entries.Named.{EntriesNamed};
-ghost use Rattle.auditing.specs.nearer.Nearer.{beyond, cell_nearer, site_nearer};
+ghost use Rattle.auditing.specs.nearer.Nearer.{cell_nearer, site_nearer};
 ghost use Rattle.certifying.specs.windows.Windows.{EdgesHeld};
 ghost use Rattle.certifying.specs.tree.Tree.{corner_past};
 ghost use Rattle.certifying.specs.tree.Steps.{SitesHeld, TwoSites, Lower, Higher, FourNamed, Widens, BoxesFrom, Order, Reordered, swapped, NodeNamed, FillSafe, Sifted, PlacesNamed, ListedAsked};
@@ -12,7 +12,7 @@ ghost use Rattle.certifying.specs.tree.Steps.{NodeFilled, LevelFilled, base256, 
 
 use crate::nearer::no_others;
 use crate::windows::{Window, greater, is_off, is_window, lesser, window_of};
-use auditing::nearer::first_nearer;
+use auditing::nearer::{first_nearer, is_beyond};
 use base::numbers::wide;
 use plane::points::{Point, point_at};
 
@@ -76,10 +76,8 @@ fn extremes_from(sites: &[f64], room: &[u32], from: usize, to: usize) -> Extreme
         right: o,
         bottom: o,
     };
-    let mut j = from + 1;
-    while j < to {
-        e = widened(sites, e, room[j]);
-        j += 1;
+    for o in &room[from + 1..to] {
+        e = widened(sites, e, *o);
     }
     e
 }
@@ -94,22 +92,13 @@ fn write_node(room: &mut [u32], at: usize, e: Extremes)
     room[at + 3] = e.bottom;
 }
 
-fn smaller(x: usize, y: usize) -> usize
-    ensures { (result ≤ x) × (result ≤ y) × ((result ≡ x) ⊎ (result ≡ y)) }
-{
-    if x < y {
-        return x;
-    }
-    y
-}
-
 // The node of block b of w places.
 fn fill_node(sites: &[f64], room: &mut [u32], w: usize, base: usize, b: usize)
     requires { FillSafe sites.now room.old w base × (b * w < length sites.now / 2) }
     ensures { NodeFilled sites.now w base b room.old room.new }
 {
     let from = b * w;
-    let e = extremes_from(sites, room, from, smaller(from + w, sites.len() / 2));
+    let e = extremes_from(sites, room, from, (from + w).min(sites.len() / 2));
     write_node(room, base + 4 * b, e);
 }
 
@@ -119,10 +108,8 @@ fn fill(sites: &[f64], room: &mut [u32], w: usize, base: usize)
     ensures { LevelFilled sites.now w base room.old room.new }
 {
     let n = sites.len() / 2;
-    let mut b = 0;
-    while b * w < n {
+    for b in 0..n.div_ceil(w) {
         fill_node(sites, room, w, base, b);
-        b += 1;
     }
 }
 
@@ -151,7 +138,8 @@ fn swap(room: &mut [u32], i: usize, j: usize)
     room[j] = t;
 }
 
-fn narrow(i: usize) -> u32
+// A site's number.
+pub fn narrow(i: usize) -> u32
     requires { i < 65536 }
     ensures { result ≡ i }
 {
@@ -163,10 +151,8 @@ fn start(room: &mut [u32], n: usize)
     requires { (n ≤ 65536) × (n ≤ length room.old) }
     ensures { Order n room.new × (length room.new ≡ length room.old) }
 {
-    let mut i = 0;
-    while i < n {
+    for i in 0..n {
         room[i] = narrow(i);
-        i += 1;
     }
 }
 
@@ -222,15 +208,16 @@ fn halve(sites: &[f64], room: &mut [u32], from: usize, to: usize, half: usize, a
 {
     let mut lo = from;
     let mut hi = to;
-    let mut left: usize = 64;
-    while (0 < left) & (lo + 1 < hi) {
+    for _ in 0..64 {
+        if hi <= lo + 1 {
+            return;
+        }
         let pivot = middle(
             key(sites, room, lo, axis),
             key(sites, room, lo + (hi - lo) / 2, axis),
             key(sites, room, hi - 1, axis),
         );
         let m = split(sites, room, lo, hi, axis, pivot);
-        left -= 1;
         if m == half {
             return;
         }
@@ -264,12 +251,10 @@ fn halve_all(sites: &[f64], room: &mut [u32], half: usize)
     ensures { Reordered (length sites.now / 2) room.old room.new }
 {
     let n = sites.len() / 2;
-    let mut a = 0;
-    while a + half < n {
-        let to = smaller(a + 2 * half, n);
+    for a in (0..n.saturating_sub(half)).step_by(2 * half) {
+        let to = (a + 2 * half).min(n);
         let axis = wider(sites, room, a, to);
         halve(sites, room, a, to, a + half, axis);
-        a += 2 * half;
     }
 }
 
@@ -299,10 +284,8 @@ fn spanned(sites: &[f64], from: usize, to: usize) -> Window
         right: p.x,
         bottom: p.y,
     };
-    let mut j = from + 1;
-    while j < to {
+    for j in from + 1..to {
         w = stretched(w, point_at(sites, j));
-        j += 1;
     }
     w
 }
@@ -319,12 +302,9 @@ fn is_close(sites: &[f64], w: usize, first: usize, end: usize) -> bool
 {
     let all = side_of(spanned(sites, first, end));
     let mut sum = 0.0;
-    let mut from = first;
-    while from < end {
-        let to = smaller(from + w, end);
-        let side = side_of(spanned(sites, from, to));
-        sum = sum + side * side;
-        from = to;
+    for from in (first..end).step_by(w) {
+        let side = side_of(spanned(sites, from, (from + w).min(end)));
+        sum += side * side;
     }
     sum <= 2.0 * (all * all)
 }
@@ -334,13 +314,10 @@ fn all_close(sites: &[f64], w: usize) -> bool
     requires { (0 < w) × (w ≤ 4096) × (length sites.now / 2 ≤ 65536) }
 {
     let n = sites.len() / 2;
-    let mut from = 0;
-    while from < n {
-        let to = smaller(from + 16 * w, n);
-        if !is_close(sites, w, from, to) {
+    for from in (0..n).step_by(16 * w) {
+        if !is_close(sites, w, from, (from + 16 * w).min(n)) {
             return false;
         }
-        from = to;
     }
     true
 }
@@ -425,35 +402,17 @@ fn places_out(sites: &[f64], room: &[u32], c: Window, j: usize) -> usize
     0
 }
 
-// Whether v, a corner of the piece of s, is beyond the bisector with o.
-fn is_past(far: f64, v: Point, s: Point, o: Point) -> bool
-    ensures { result ≡ beyond far v s o }
-{
-    let x = o.x - s.x;
-    let y = o.y - s.y;
-    let past = x * ((v.x - s.x) + (v.x - o.x)) + y * ((v.y - s.y) + (v.y - o.y));
-    past > far * (root::magnitude(x) + root::magnitude(y))
-}
-
-// Whether some corner of the ring is.
+// Whether some corner of the ring is beyond the bisector of s and o.
 fn some_past(far: f64, s: Point, o: Point, vertices: &[f64], entries: &[u32]) -> bool
     requires { EntriesNamed entries.now (length vertices.now / 2) }
     ensures { result ≡ any_below (corner_past far s o vertices.now entries.now) (length entries.now) }
 {
-    let mut k = 0;
-    while k < entries.len() {
-        if is_past(far, point_at(vertices, wide(entries[k])), s, o) {
+    for e in entries {
+        if is_beyond(far, point_at(vertices, wide(*e)), s, o) {
             return true;
         }
-        k += 1;
     }
     false
-}
-
-fn one_unless(t: bool) -> usize
-    ensures { (t ≡ true → result ≡ 0) × (t ≡ false → result ≡ 1) × (result ≤ 1) }
-{
-    if t { 0 } else { 1 }
 }
 
 // Lists the places from one to another, at most 16, whose sites are not off the window, and says how many they are. Without a branch on what is off: nobody can foresee it.
@@ -462,12 +421,10 @@ fn sift(sites: &[f64], room: &[u32], w: Window, from: usize, to: usize, list: &m
     ensures { Sifted sites.now room.now w from to result list.new × (length list.new ≡ length list.old) }
 {
     let mut count = 0;
-    let mut j = from;
-    while j < to {
+    for j in from..to {
         list[count] = narrow(j);
         let o = point_at(sites, wide(room[j]));
-        count += one_unless(is_off(w, o.x, o.y, o.x, o.y));
-        j += 1;
+        count += usize::from(!is_off(w, o.x, o.y, o.x, o.y));
     }
     count
 }
@@ -486,13 +443,11 @@ fn some_listed(
     requires { Order (length sites.now / 2) room.now × EntriesNamed entries.now (length vertices.now / 2) × PlacesNamed (length sites.now / 2) count list.now }
     ensures { ListedAsked far sites.now room.now site vertices.now entries.now list.now count result }
 {
-    let mut k = 0;
-    while k < count {
-        let o = point_at(sites, wide(room[wide(list[k])]));
+    for place in &list[..count] {
+        let o = point_at(sites, wide(room[wide(*place)]));
         if some_past(far, site, o, vertices, entries) {
             return true;
         }
-        k += 1;
     }
     false
 }
@@ -515,7 +470,7 @@ fn passed(
     if 0 < r {
         return r;
     }
-    let to = smaller(j + 16, sites.len() / 2);
+    let to = (j + 16).min(sites.len() / 2);
     let mut list = [0u32; 16];
     let count = sift(sites, room, w, j, to, &mut list);
     if some_listed(far, sites, room, site, vertices, entries, &list, count) {
@@ -616,12 +571,10 @@ fn none_nearer(
         ≡ lowest (site_nearer far sites.now [] [] vertices.now offsets.now indexes.now) (length sites.now / 2) }
 {
     let count = sites.len() / 2;
-    let mut j = 0;
-    while j < count {
-        if site_nearer(far, sites, room, vertices, offsets, indexes, wide(room[j])) {
+    for s in &room[..count] {
+        if site_nearer(far, sites, room, vertices, offsets, indexes, wide(*s)) {
             return false;
         }
-        j += 1;
     }
     true
 }
@@ -640,14 +593,9 @@ fn first_in_order(
     ensures { result ≡ lowest (site_nearer far sites.now [] [] vertices.now offsets.now indexes.now) (length sites.now / 2) }
 {
     let count = sites.len() / 2;
-    let mut s = 0;
-    while s < count {
-        if site_nearer(far, sites, room, vertices, offsets, indexes, s) {
-            return s;
-        }
-        s += 1;
-    }
-    s
+    (0..count)
+        .find(|&s| site_nearer(far, sites, room, vertices, offsets, indexes, s))
+        .unwrap_or(count)
 }
 
 // The same, one by one only where there is one. The room is the tree's.

@@ -1,27 +1,23 @@
 // The fifth fault's search in lent work: the sites are chained in buckets by their places, as many buckets as sites, and each is held against those in its own bucket before it is inserted there.
 // Two words to a site (specs/twins/Buckets.antt).
-ghost use Rattle.std.specs.Prelude.{◌≡◌, suc, ◌+◌, ◌*◌, ◌/◌, ◌≤◌, ◌<◌, length, get_or, set};
+ghost use Rattle.std.specs.Prelude.{◌≡◌, ◌*◌, ◌/◌, ◌≤◌, ◌<◌, length};
 ghost use Rattle.ring_area.specs.lowest.Lowest.{lowest};
 ghost use Rattle.auditing.specs.places.Places.{has_twin};
-ghost use Rattle.certifying.specs.twins.Buckets.{site_bucket, SitesChained, SiteHeld, InsertsAt};
+ghost use Rattle.certifying.specs.twins.Buckets.{site_bucket, SitesChained, SiteHeld};
 
+use crate::chains;
+use crate::chains::push_front;
 use crate::sides::place_number;
 use auditing::places::same_place;
 use base::numbers::wide;
 use plane::points::{Point, point_at};
-
-fn broad(x: usize) -> u64
-    ensures { result ≡ x }
-{
-    x as u64
-}
 
 // The bucket of a place, of so many.
 fn bucket(p: Point, count: usize) -> usize
     requires { 0 < count }
     ensures { (result ≡ site_bucket count p) × (result < count) }
 {
-    (place_number(p) % broad(count)) as usize
+    chains::bucket(place_number(p), count)
 }
 
 // Whether one that is chained in the bucket m, that of s, stands at the place of s: from the last one back.
@@ -41,25 +37,14 @@ fn lookup(work: &[u32], sites: &[f64], s: usize, m: usize) -> bool
     false
 }
 
-// Inserts s into the bucket m.
-fn insert(work: &mut [u32], s: usize, m: usize)
-    requires { InsertsAt s m work.old }
-    ensures { work.new ≡ set (set work.old (2 * s + 1) (get_or work.old (2 * m) 0)) (2 * m) (suc s) }
-{
-    work[2 * s + 1] = work[2 * m];
-    work[2 * m] = (s + 1) as u32;
-}
-
 // Empties the buckets.
 fn empty(work: &mut [u32], sites: &[f64])
     requires { (2 * (length sites.now / 2) ≤ length work.old) × (length sites.now / 2 ≤ 65536) }
     ensures { SitesChained sites.now 0 work.new × (length work.new ≡ length work.old) }
 {
     let count = sites.len() / 2;
-    let mut m = 0;
-    while m < count {
+    for m in 0..count {
         work[2 * m] = 0;
-        m += 1;
     }
 }
 
@@ -70,14 +55,12 @@ pub fn first_site_twin(sites: &[f64], work: &mut [u32]) -> usize
 {
     empty(work, sites);
     let count = sites.len() / 2;
-    let mut s = 0;
-    while s < count {
+    for s in 0..count {
         let m = bucket(point_at(sites, s), count);
         if lookup(work, sites, s, m) {
             return s;
         }
-        insert(work, s, m);
-        s += 1;
+        push_front::<2>(work, s, m);
     }
-    s
+    count
 }

@@ -86,10 +86,8 @@ pub fn window_of(s: Point, vertices: &[f64], entries: &[u32]) -> Window
         right: s.x,
         bottom: s.y,
     };
-    let mut k = 0;
-    while k < entries.len() {
-        w = opened(w, s, point_at(vertices, wide(entries[k])));
-        k += 1;
+    for e in entries {
+        w = opened(w, s, point_at(vertices, wide(*e)));
     }
     eased(w, s)
 }
@@ -142,11 +140,8 @@ fn all_kept(w: Window, s: Point, vertices: &[f64], entries: &[u32]) -> bool
     requires { EntriesNamed entries.now (length vertices.now / 2) }
     ensures { result ≡ true → (k : ℕ) → k < length entries.now → window_kept w s (point_at vertices.now (get_or entries.now k 0)) ≡ true }
 {
-    let mut k = 0;
-    while k < entries.len() {
-        if is_kept(w, s, point_at(vertices, wide(entries[k]))) {
-            k += 1;
-        } else {
+    for e in entries {
+        if !is_kept(w, s, point_at(vertices, wide(*e))) {
             return false;
         }
     }

@@ -11,8 +11,7 @@ use Rattle.certifying.specs.nearer.Safe.{NearSafe}
 use Rattle.certifying.specs.sides.Sides.{ends_of, side_count}
 use Rattle.certifying.specs.sides.Chains.{laid_ends, ChainedTo}
 use Rattle.certifying.specs.rules.Rules.{certify_room}
-use Rattle.certifying.specs.call.Verdict.{certify_on, certify_kind, certify_site, certify_vertex, certify_other}
-use Rattle.certifying.specs.declared.call.CertifyVerdict.{CertifyVerdict}
+use Rattle.certifying.specs.call.Verdict.{CertifyVerdict, certify_on, certify_kind, certify_site, certify_vertex, certify_other}
 
 -- what the rules leave
 pub record JudgeSafe (b : BoundingBox) (bits : ℕ) (sites v : List Float) (off ix work : List ℕ) : Type 0 where

@@ -27,10 +27,3 @@ pub record SiteHeld (sites : List Float) (s m : ℕ) (w : List ℕ) : Type 0 whe
   pub bucket : m ≡ bucket_at sites s
   pub below : m < length sites / 2
   pub chained : SitesChained sites s w
-
--- s may be inserted into the bucket m
-pub record InsertsAt (s m : ℕ) (w : List ℕ) : Type 0 where
-  pub site : s < 65536
-  pub bucket : m < 65536
-  pub link : 2 * s + 1 < length w
-  pub head : 2 * m < length w

@@ -42,8 +42,7 @@ use Rattle.certifying.specs.cover.Kinds as K
 use Rattle.certifying.specs.cover.Kinds.{along_edge, sure}
 use Rattle.certifying.specs.sides.Sides.{ends_of, side_count, one_for, how_many, runs_at, along_of, more_of, surplus_of, surplus_at, leaves_of, left_once}
 use Rattle.certifying.specs.call.Verdict.{certify_far, certify_kind, certify_on, side_stage, border_stage, near_stage, certify_nearer, certify_twin, twin_stage}
-use Rattle.certifying.specs.declared.call.CertifyVerdict.{CertifyVerdict}
-use Rattle.certifying.specs.declared.call.CertifyVerdict.TheVariants.{Certified}
+use Rattle.certifying.specs.declared.call.CertifyFault.{CertifyFault}
 use Rattle.certifying.specs.truth.Places.{vertex_place, edge_place, rings_from, all_pieces}
 use Rattle.certifying.specs.truth.laws.Cancelling.{and_comm, along_back}
 use Rattle.certifying.specs.truth.laws.Flat.{flat_sum}
@@ -240,10 +239,10 @@ module _ (m : Mesh) (g : Given) (order : InOrder g) (old new : CutSlices) (count
       go (any_below (site_nearer far m.sites [] [] v off ix) n) (any_below (has_twin m.sites) n)
       (certify_nearer far m.sites v off ix (lowest (site_nearer far m.sites [] [] v off ix) n)) (certify_twin m.sites (lowest (has_twin m.sites) n)) refl refl
     where
-      go : (t u : Bool) (nearer twin : CertifyVerdict) → certify_kind nearer ≡ 4 → certify_kind twin ≡ 5
-          → (certify_kind (pick t (λ _. nearer) (λ _. pick u (λ _. twin) (λ _. Certified))) ≡ 0)
-          ⊎ (certify_kind (pick t (λ _. nearer) (λ _. pick u (λ _. twin) (λ _. Certified))) ≡ 4)
-          ⊎ (certify_kind (pick t (λ _. nearer) (λ _. pick u (λ _. twin) (λ _. Certified))) ≡ 5)
+      go : (t u : Bool) (nearer twin : CertifyFault) → certify_kind (Err nearer) ≡ 4 → certify_kind (Err twin) ≡ 5
+          → (certify_kind (pick t (λ _. Err nearer) (λ _. pick u (λ _. Err twin) (λ _. Ok tt))) ≡ 0)
+          ⊎ (certify_kind (pick t (λ _. Err nearer) (λ _. pick u (λ _. Err twin) (λ _. Ok tt))) ≡ 4)
+          ⊎ (certify_kind (pick t (λ _. Err nearer) (λ _. pick u (λ _. Err twin) (λ _. Ok tt))) ≡ 5)
       go true u nearer twin e f = inr (inl e)
       go false true nearer twin e f = inr (inr f)
       go false false nearer twin e f = inl refl

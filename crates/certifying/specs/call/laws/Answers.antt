@@ -13,8 +13,7 @@ use Rattle.certifying.specs.rules.Kept.{admitted}
 use Rattle.certifying.specs.rules.Rules.{CertifyNumber}
 use Rattle.certifying.specs.call.Promise.{CertifyAnswer}
 use Rattle.certifying.specs.call.Steps.{JudgeSafe, VerdictTold, VerdictAnswer, RefusedAnswer}
-use Rattle.certifying.specs.call.Verdict.{certify_on}
-use Rattle.certifying.specs.declared.call.CertifyVerdict.{CertifyVerdict}
+use Rattle.certifying.specs.call.Verdict.{CertifyVerdict, certify_on}
 
 -- the numbers, and the work that was cleared from what the verdict left
 pub judged_is : (b : BoundingBox) (bits : ℕ) (sites v : List Float) (off ix old mid : List ℕ) {new : List ℕ} {t : CertifyVerdict} {r kind site vertex other : ℕ}

@@ -1,5 +1,5 @@
 -- The stages of the verdict as the code makes them.
-use Rattle.std.specs.Prelude.{◌≡◌, Bool, not, ℕ, ◌+◌, ◌-◌, ◌/◌, ◌≤◌, ◌<◌, Float}
+use Rattle.std.specs.Prelude.{◌≡◌, Bool, not, ℕ, ◌+◌, ◌-◌, ◌/◌, ◌≤◌, ◌<◌, Float, Ok, Err}
 use Rattle.std.proofs.Math.Path.{refl, sym, ap, subst}
 use Rattle.std.proofs.Common.{◌∙◌, inl, arith}
 use Rattle.std.proofs.Math.Bool.{true, false}
@@ -13,7 +13,7 @@ use Rattle.base.specs.common.Binary64.{◌⊠◌}
 use Rattle.base.specs.common.Pick.{pick}
 use Rattle.base.specs.common.laws.Decide.{lt_or_ge}
 use Rattle.ring_area.specs.lowest.Lowest.{lowest, any_below}
-use Rattle.ring_area.specs.lowest.laws.Loops.{lowest_takes, some_below, NoneTo, passed_found, passed_step, passed_end}
+use Rattle.ring_area.specs.lowest.laws.Loops.{lowest_takes, some_below}
 use Rattle.root.specs.Root.{magnitude}
 use Rattle.plane.specs.points.Flat.{point_at}
 use Rattle.plane.specs.declared.points.Point.{Point}
@@ -28,9 +28,9 @@ use Rattle.certifying.specs.sides.Sides.{ends_of, side_count, surplus_at, left_o
 use Rattle.certifying.specs.sides.Chains.{laid_ends, InsertSafe, InsertsAll}
 use Rattle.certifying.specs.call.Steps.{JudgeSafe, SidesChained, SideNamed}
 use Rattle.certifying.specs.call.Verdict.{larger_of, reach_of, certify_far, certify_twin, twin_stage, certify_nearer, near_stage, border_stage, site_of_side, certify_side, side_stage}
-use Rattle.certifying.specs.call.Verdict.{certify_outside, certify_on}
-use Rattle.certifying.specs.declared.call.CertifyVerdict.{CertifyVerdict}
-use Rattle.certifying.specs.declared.call.CertifyVerdict.TheVariants.{Certified, Outside, Surplus, Border, Nearer, Twin}
+use Rattle.certifying.specs.call.Verdict.{CertifyVerdict, certify_outside, certify_on}
+use Rattle.certifying.specs.declared.call.CertifyFault.{CertifyFault}
+use Rattle.certifying.specs.declared.call.CertifyFault.TheVariants.{Outside, Surplus, Border, Nearer, Twin}
 
 -- ---- the tolerance
 pub larger_second : (x y : Float) → lt x y ≡ true → y ≡ larger_of x y
@@ -47,12 +47,12 @@ unfolding certify_far reach_of
 far_is b bits e f g h i j k m = rw (m, k, i, j, e, f, g, h) refl
 
 -- ---- a stage: the lowest number that the test takes is named, or what comes after
-module _ (p : ℕ → Bool) (n : ℕ) (named : ℕ → CertifyVerdict) (after : CertifyVerdict) {s : ℕ} (e : s ≡ lowest p n) where
+module _ (p : ℕ → Bool) (n : ℕ) (named : ℕ → CertifyFault) (after : CertifyVerdict) {s : ℕ} (e : s ≡ lowest p n) where
   abbrev verdict : CertifyVerdict
-  verdict = pick (any_below p n) (λ _. named (lowest p n)) (λ _. after)
+  verdict = pick (any_below p n) (λ _. Err (named (lowest p n))) (λ _. after)
 
-  pub stage_named : {r : CertifyVerdict} → s < n → r ≡ named s → r ≡ verdict
-  stage_named h f = let t : any_below p n ≡ true = lt-ltb (lowest p n) n (subst (λ (k : ℕ). k < n) e h) in rw t (f ∙ ap named e)
+  pub stage_named : {r : CertifyFault} → s < n → r ≡ named s → Err r ≡ verdict
+  stage_named h f = let t : any_below p n ≡ true = lt-ltb (lowest p n) n (subst (λ (k : ℕ). k < n) e h) in rw t (ap (λ (x : CertifyFault). Err x) (f ∙ ap named e))
 
   pub stage_after : {r : CertifyVerdict} → n ≤ s → r ≡ after → r ≡ verdict
   stage_after h f = let t : any_below p n ≡ false = le-ltb (lowest p n) n (subst (λ (k : ℕ). n ≤ k) e h) in rw t f
@@ -65,20 +65,20 @@ pub twin_named : (sites : List Float) (s : ℕ) {a b o : ℕ} → a ≡ s → o 
 twin_named sites s e f g = rw (e, g, f) refl
 
 module _ (sites : List Float) {s : ℕ} (e : s ≡ lowest (has_twin sites) (length sites / 2)) where
-  pub twins_named : {r : CertifyVerdict} → s < length sites / 2 → r ≡ certify_twin sites s → r ≡ twin_stage sites
+  pub twins_named : {r : CertifyFault} → s < length sites / 2 → r ≡ certify_twin sites s → Err r ≡ twin_stage sites
   unfolding twin_stage
-  twins_named h f = stage_named (has_twin sites) (length sites / 2) (certify_twin sites) Certified e h f
+  twins_named h f = stage_named (has_twin sites) (length sites / 2) (certify_twin sites) (Ok tt) e h f
 
-  pub twins_none : length sites / 2 ≤ s → Certified ≡ twin_stage sites
+  pub twins_none : length sites / 2 ≤ s → Ok tt ≡ twin_stage sites
   unfolding twin_stage
-  twins_none h = stage_after (has_twin sites) (length sites / 2) (certify_twin sites) Certified e h refl
+  twins_none h = stage_after (has_twin sites) (length sites / 2) (certify_twin sites) (Ok tt) e h refl
 
 -- ---- the fourth
 pub names_none : (sites : List Float) {none : List ℕ} (s : ℕ) → s < length sites / 2 → HeldNames sites s none true
 names_none sites s h = record { own = h; named = inl refl }
 
 module _ (far : Float) (sites v : List Float) (off ix : List ℕ) {s : ℕ} (e : s ≡ lowest (site_nearer far sites [] [] v off ix) (length sites / 2)) where
-  pub near_named : {r : CertifyVerdict} → s < length sites / 2 → r ≡ certify_nearer far sites v off ix s → r ≡ near_stage far sites v off ix
+  pub near_named : {r : CertifyFault} → s < length sites / 2 → r ≡ certify_nearer far sites v off ix s → Err r ≡ near_stage far sites v off ix
   unfolding near_stage
   near_named h f = stage_named (site_nearer far sites [] [] v off ix) (length sites / 2) (certify_nearer far sites v off ix) (twin_stage sites) e h f
 
@@ -120,7 +120,7 @@ module _ (b : BoundingBox) (bits : ℕ) (sites v : List Float) (off ix : List �
     once_there : t ≡ left_once b v ix (ends_of off ix) (side_count off)
     once_there = e ∙ ap (λ (l : List ℕ). left_once b v ix l n) h.ends ∙ ap (left_once b v ix (ends_of off ix)) h.count
 
-    pub border_named : not t ≡ true → Border ≡ border_stage b bits sites v off ix
+    pub border_named : not t ≡ true → Err Border ≡ border_stage b bits sites v off ix
     unfolding border_stage
     border_named g = let k : left_once b v ix (ends_of off ix) (side_count off) ≡ false = sym once_there ∙ not-true t g in rw k refl
 
@@ -134,7 +134,7 @@ module _ (b : BoundingBox) (bits : ℕ) (sites v : List Float) (off ix : List �
     side_there =
         q ∙ ap (λ (l : List ℕ). lowest (surplus_at b v ix l n) n) h.ends ∙ ap (λ (m : ℕ). lowest (surplus_at b v ix (ends_of off ix) m) m) h.count
 
-    pub side_named : {r : CertifyVerdict} → e < n → r ≡ certify_side sites off ix e → r ≡ side_stage b bits sites v off ix
+    pub side_named : {r : CertifyFault} → e < n → r ≡ certify_side sites off ix e → Err r ≡ side_stage b bits sites v off ix
     unfolding side_stage
     side_named l f =
         stage_named (surplus_at b v ix (ends_of off ix) (side_count off)) (side_count off) (certify_side sites off ix) (border_stage b bits sites v off ix) side_there
@@ -185,7 +185,7 @@ module _ (b : BoundingBox) (bits : ℕ) (sites v : List Float) (off ix : List �
       plain : (m n : ℕ) → m ≡ n + 1 → m - 1 ≡ n
       plain m n q = omega arith
 
-  pub outside_named : {r : CertifyVerdict} → s < length sites / 2 → r ≡ certify_outside b v off ix s → r ≡ certify_on b bits sites v off ix
+  pub outside_named : {r : CertifyFault} → s < length sites / 2 → r ≡ certify_outside b v off ix s → Err r ≡ certify_on b bits sites v off ix
   unfolding certify_on
   outside_named = stage_named (site_outside b v off ix) (length sites / 2) (certify_outside b v off ix) (side_stage b bits sites v off ix) same
 
@@ -200,19 +200,6 @@ pub outside_is : (b : BoundingBox) (v : List Float) (off ix : List ℕ) (s : ℕ
     → Outside a (get_or cell k 0) ≡ certify_outside b v off ix s
 unfolding certify_outside
 outside_is b v off ix s z e f = rw (f, e, z) refl
-
--- ---- the loop over rings
-module _ (off : List ℕ) (e n : ℕ) {s : ℕ} (a : NoneTo (λ i. ltb e (get_or off (i + 1) 0)) n s) where
-  pub ring_found : {x : ℕ} → s < n → x ≡ get_or off (s + 1) 0 → e < x → s ≡ site_of_side off n e
-  unfolding site_of_side
-  ring_found h g l = passed_found a h refl (lt-ltb e (get_or off (s + 1) 0) (subst (λ (i : ℕ). e < i) g l))
-
-  pub ring_passed : {x : ℕ} → s < n → x ≡ get_or off (s + 1) 0 → x ≤ e → NoneTo (λ i. ltb e (get_or off (i + 1) 0)) n (s + 1)
-  ring_passed h g l = passed_step a h refl (le-ltb e (get_or off (s + 1) 0) (subst (λ (i : ℕ). i ≤ e) g l))
-
-  pub ring_end : n ≤ s → s ≡ site_of_side off n e
-  unfolding site_of_side
-  ring_end h = passed_end a h
 
 -- ---- the sides laid and inserted in the work
 module _ {b : BoundingBox} {bits : ℕ} {sites v : List Float} {off ix work : List ℕ} (a : JudgeSafe b bits sites v off ix work) {n : ℕ} (e : n ≡ side_count off) where

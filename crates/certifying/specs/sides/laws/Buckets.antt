@@ -45,9 +45,5 @@ unfolding side_bucket
 bucket_small n p q h = mod-lt (place_number p + place_number q) h
 
 -- as the code makes it
-pub bucket_is : (n : ℕ) (p q : Point) {a b c : ℕ} → a ≡ place_number p → b ≡ place_number q → c ≡ n → 0 < n → ((a + b) % c ≡ side_bucket n p q) × ((a + b) % c < n)
-unfolding side_bucket
-bucket_is n p q e f g h = rw (e, f, g) (refl, bucket_small n p q h)
-
 pub bucket_of_lem : (v : List Float) (ix to : List ℕ) (n k : ℕ) {a b : Point} {m : ℕ} → a ≡ point_at v (get_or ix k 0) → b ≡ point_at v (get_or to k 0) → m ≡ side_bucket n a b → m ≡ bucket_at v ix to n k
 bucket_of_lem v ix to n k e f g = g ∙ rw (e, f) refl

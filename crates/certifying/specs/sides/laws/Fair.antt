@@ -144,22 +144,10 @@ module _ {b : BoundingBox} {v : List Float} {ix to : List ℕ} {n : ℕ} {w : Li
   pub fair_end : {x : ℕ} → FairTo b v ix to n m x → x ≤ 0 → FairIn b v ix to n m
   fair_end a o k i z = a.fair k (omega arith) i z
 
--- a loop over the buckets
-pub record BucketsFair (b : BoundingBox) (v : List Float) (ix to : List ℕ) (n m : ℕ) : Type 0 where
-  pub most : m ≤ n
-  pub fair : (k : ℕ) → k < n → bucket_at v ix to n k < m → surplus_at b v ix to n k ≡ false
-
-module _ (b : BoundingBox) (v : List Float) (ix to : List ℕ) (n : ℕ) where
-  pub buckets_start : BucketsFair b v ix to n 0
-  buckets_start = record { most = omega arith; fair = λ k i z. absurd (omega arith) }
-
-  pub buckets_step : {m : ℕ} → BucketsFair b v ix to n m → m < n → FairIn b v ix to n m → BucketsFair b v ix to n (m + 1)
-  buckets_step {m} a s f =
-      record { most = omega arith; fair = λ k i z. three (bucket_at v ix to n k) m (λ g. a.fair k i g) (λ g. f k i g) (λ g. absurd (omega arith)) }
-
-  pub buckets_end : {m : ℕ} → BucketsFair b v ix to n m → n ≤ m → n ≡ lowest (surplus_at b v ix to n) n
-  buckets_end {m} a o =
-      passed_end (record { most = omega arith; none = λ k i. a.fair k i (below k i) }) (omega arith)
-    where
-      below : (k : ℕ) → k < n → bucket_at v ix to n k < m
-      below k i = omega (arith, bucket_small n (point_at v (get_or ix k 0)) (point_at v (get_or to k 0)) (omega arith))
+-- where each bucket is fair no side is in surplus
+pub buckets_all : (b : BoundingBox) (v : List Float) (ix to : List ℕ) (n : ℕ) → ((m : ℕ) → m < n → FairIn b v ix to n m) → n ≡ lowest (surplus_at b v ix to n) n
+buckets_all b v ix to n f =
+    passed_end (record { most = omega arith; none = λ k i. f (bucket_at v ix to n k) (below k i) k i refl }) (omega arith)
+  where
+    below : (k : ℕ) → k < n → bucket_at v ix to n k < n
+    below k i = bucket_small n (point_at v (get_or ix k 0)) (point_at v (get_or to k 0)) (omega arith)

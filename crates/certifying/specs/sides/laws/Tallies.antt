@@ -1,5 +1,6 @@
 -- Tallies: what is skipped, what is added.
 use Rattle.std.specs.Prelude.{◌≡◌, refl, Bool, true, false, ℕ, zero, suc, ◌+◌, ◌≤◌, ◌<◌}
+use Rattle.std.specs.Int.{from_bool}
 use Rattle.std.proofs.Common.{subst, ⊎_elim, arith}
 use Rattle.base.specs.common.laws.Decide.{lt_or_ge}
 use Rattle.certifying.specs.sides.Sides.{one_for, how_many}
@@ -8,6 +9,12 @@ pub bit_small : (t : Bool) → one_for t ≤ 1
 unfolding one_for
 bit_small true = omega arith
 bit_small false = omega arith
+
+-- a test as the library counts it
+pub bit_from : (t : Bool) {n : ℕ} → n ≡ from_bool t → n ≡ one_for t
+unfolding one_for
+bit_from true e = e
+bit_from false e = e
 
 pub bit_none : {t : Bool} → t ≡ false → one_for t ≡ 0
 unfolding one_for

@@ -1,7 +1,10 @@
 -- Nodes: the sites of least and greatest coordinates of a block, found one site at a time, and written after what is there.
-use Rattle.std.specs.Prelude.{◌≡◌, Bool, true, false, List, ◌⊎◌, ℕ, ◌+◌, ◌*◌, ◌/◌, ◌≤◌, ◌<◌, Float, length, get_or, set}
+use Rattle.std.specs.Prelude.{◌≡◌, Bool, true, false, List, ℕ, ◌+◌, ◌-◌, ◌*◌, ◌/◌, ◌≤◌, ◌<◌, Float, length, get_or, set, take, drop, min}
 use Rattle.std.proofs.Math.Path.{refl}
-use Rattle.std.proofs.Common.{sym, ap, ◌∙◌, subst, ⊎_elim, le_trans, le_of_eq, le_of_lt, lt_of_lt_of_le, le-div_iff_mul-le, mul-one, mul-le-mul_left, mul-le-mul_right, arith, length-set, get_or-set_same, get_or-set_other}
+use Rattle.std.proofs.Common.{sym, ap, ◌∙◌, subst, ⊎_elim, le_trans, le_of_eq, le_of_lt, lt_of_lt_of_le, le-div_iff_mul-le, mul-le-mul_right, arith, length-set, get_or-set_same, get_or-set_other}
+use Rattle.std.specs.Int.{div_ceil}
+use Rattle.std.proofs.lemmas.List.{length-take, get_or-take, get_or-drop}
+use Rattle.std.proofs.lemmas.Grind.{div_ceil_times}
 use Rattle.std.specs.Float.{nan}
 use Rattle.std.specs.Float.Ieee.{lt}
 use Rattle.base.specs.common.laws.Decide.{eq_or_ne, lt_or_ge}
@@ -181,7 +184,7 @@ module _ {sites : List Float} {room : List ℕ} {w base : ℕ} (s : FillSafe sit
       go : (q : ℕ) → b ≤ q → base + 4 * (q + 1) ≤ length room → base + 4 * b + 3 < length room
       go q h k = omega arith
 
-  pub node_filled : {to l t r u : ℕ} {after : List ℕ} → BoxesFrom sites room (b * w) to l t r u → (to ≡ b * w + w) ⊎ (to ≡ length sites / 2)
+  pub node_filled : {to l t r u : ℕ} {after : List ℕ} → BoxesFrom sites room (b * w) to l t r u → to ≡ min (b * w + w) (length sites / 2)
       → after ≡ set (set (set (set room (base + 4 * b) l) (base + 4 * b + 1) t) (base + 4 * b + 2) r) (base + 4 * b + 3) u → NodeFilled sites w base b room after
   node_filled {to} {l} {t} {r} {u} {after} f end e = subst (NodeFilled sites w base b room) (sym e) (record {
     kept = record { same = wrote_length room at l t r u node_fits; each = before_word room at l t r u node_fits };
@@ -213,7 +216,7 @@ module _ {sites : List Float} {room : List ℕ} {w base : ℕ} (s : FillSafe sit
           go n h k = omega arith
 
       within : (j : ℕ) → j < b * w + w → j < length sites / 2 → j < to
-      within j y z = ⊎_elim (λ q. lt_of_lt_of_le y (le_of_eq (sym q))) (λ q. lt_of_lt_of_le z (le_of_eq (sym q))) end
+      within j y z = omega (arith, end)
 
 -- what was written later leaves a node as it is
 module _ {sites : List Float} {p : ℕ} {before after : List ℕ} (s : SameBefore p before after) (N : length sites / 2 ≤ p) where
@@ -378,8 +381,20 @@ module _ {sites : List Float} (r : List ℕ) {r₁ : List ℕ} (held : SitesHeld
           go n a b e h = omega arith
 
 -- ---- small things
-pub end_past : (x y n to : ℕ) → x < n → 0 < y → (to ≡ x + y) ⊎ (to ≡ n) → x < to
-end_past x y n to h k = ⊎_elim (λ e. omega arith) (λ e. omega arith)
+-- item i of a slice from a up to b
+pub slice_item : (room : List ℕ) (a b i : ℕ) → i < length (take (b - a) (drop a room)) → get_or (take (b - a) (drop a room)) i 0 ≡ get_or room (a + i) 0
+slice_item room a b i h =
+    get_or-take (b - a) (drop a room) i 0 (omega (arith, length-take (b - a) (drop a room))) ∙ get_or-drop a room i 0
 
-pub few_of : (b w : ℕ) → 0 < w → b ≤ b * w
-few_of b w h = le_trans (le_of_eq (sym (mul-one b))) (mul-le-mul_left b h)
+pub end_past : (x y n to : ℕ) → x < n → 0 < y → to ≡ min (x + y) n → x < to
+end_past x y n to h k e = omega arith
+
+-- the blocks of w places: block b of q starts below n, and q of them hold n
+pub block_below : {n w q b : ℕ} → 0 < w → q ≡ div_ceil n w → b < q → b * w < n
+block_below {n} {w} {q} {b} h e l =
+    let most : q * w < n + w = rw e (div_ceil_times n w h).1 in
+    let next : (b + 1) * w ≤ q * w = mul-le-mul_right w (omega arith) in
+    omega arith
+
+pub blocks_all : {n w q b : ℕ} → 0 < w → q ≡ div_ceil n w → q ≤ b → n ≤ b * w
+blocks_all {n} {w} {q} {b} h e l = le_trans (rw e (div_ceil_times n w h).0) (mul-le-mul_right w l)

@@ -1,7 +1,6 @@
 -- An order of n numbers stays one where two places exchange what they hold.
-use Rattle.std.specs.Prelude.{◌≡◌, refl, true, ◌&&◌, List, ℕ, ◌+◌, ◌≤◌, ◌<◌, ltb, length, get_or, set}
-use Rattle.std.proofs.Common.{sym, ap, ◌∙◌, subst, ⊎_elim, le_trans, le_of_eq, lt_of_lt_of_le, arith, ltb-true, length-set, get_or-set_same, get_or-set_other}
-use Rattle.base.specs.common.laws.And.{and_left, and_right}
+use Rattle.std.specs.Prelude.{◌≡◌, refl, List, ℕ, ◌+◌, ◌≤◌, ◌<◌, length, get_or, set}
+use Rattle.std.proofs.Common.{sym, ap, ◌∙◌, subst, ⊎_elim, le_trans, le_of_eq, lt_of_lt_of_le, arith, length-set, get_or-set_same, get_or-set_other}
 use Rattle.base.specs.common.laws.Decide.{eq_or_ne, lt_or_ge}
 use Rattle.certifying.specs.tree.Steps.{PlaceOf, Order, Reordered, swapped, SameBefore}
 
@@ -80,7 +79,3 @@ start_order {n} {i} a h g = record {
   named = λ j k. subst (λ (v : ℕ). v < n) (sym (a.each j (lt_of_lt_of_le k h))) k;
   placed = λ v k. record { place = v; within = k; is = a.each v (lt_of_lt_of_le k h) };
 }
-
--- ---- two tests at once
-pub both_lt : (a b c d : ℕ) → (ltb a b && ltb c d) ≡ true → (a < b) × (c < d)
-both_lt a b c d e = (ltb-true a b (and_left (ltb a b) (ltb c d) e), ltb-true c d (and_right (ltb a b) (ltb c d) e))

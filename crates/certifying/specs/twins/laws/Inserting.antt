@@ -1,6 +1,6 @@
 -- How the sites are inserted, one after the other.
-use Rattle.std.specs.Prelude.{◌≡◌, refl, Bool, false, List, ◌≢◌, ℕ, suc, ◌+◌, ◌*◌, ◌/◌, ◌%◌, ◌≤◌, ◌<◌, Float, length, get_or, set}
-use Rattle.std.proofs.Common.{sym, ap, ◌∙◌, ⊎_elim, arith, mod-lt, length-set, get_or-set_same, get_or-set_other}
+use Rattle.std.specs.Prelude.{◌≡◌, refl, Bool, false, List, ◌≢◌, ℕ, suc, ◌+◌, ◌*◌, ◌/◌, ◌≤◌, ◌<◌, Float, length, get_or, set}
+use Rattle.std.proofs.Common.{sym, ap, ◌∙◌, ⊎_elim, arith, length-set, get_or-set_same, get_or-set_other}
 use Rattle.base.specs.common.laws.Decide.{lt_or_ge, eq_or_ne}
 use Rattle.plane.specs.points.Flat.{point_at}
 use Rattle.plane.specs.declared.points.Point.{Point}
@@ -8,13 +8,7 @@ use Rattle.ring_area.specs.lowest.laws.Loops.{NoneTo, passed_start, passed_step}
 use Rattle.auditing.specs.places.Places.{has_twin}
 use Rattle.auditing.specs.places.Buckets.{LastIn}
 use Rattle.auditing.specs.places.laws.Inserting.{none_yet, now_last, still_last}
-use Rattle.certifying.specs.sides.Chains.{place_number}
-use Rattle.certifying.specs.twins.Buckets.{site_bucket, bucket_at, SitesChained, SiteHeld, InsertsAt}
-
--- the bucket as the code makes it
-pub bucket_is : (n : ℕ) (p : Point) {a c : ℕ} → a ≡ place_number p → c ≡ n → 0 < n → (a % c ≡ site_bucket n p) × (a % c < n)
-unfolding site_bucket
-bucket_is n p e f h = rw (e, f) (refl, mod-lt (place_number p) h)
+use Rattle.certifying.specs.twins.Buckets.{site_bucket, bucket_at, SitesChained, SiteHeld}
 
 -- ---- emptying the buckets
 pub record EmptyTo (n m : ℕ) (old w : List ℕ) : Type 0 where
@@ -74,14 +68,6 @@ module _ {sites : List Float} {s m : ℕ} {w : List ℕ} (h : SiteHeld sites s m
       (λ z. rw (get_or-set_other linked (2 * m) (2 * j + 1) (suc s) 0 (λ q. omega arith), get_or-set_other w (2 * s + 1) (2 * j + 1) (get_or w (2 * m) 0) 0 (λ q. z (omega arith)))
       (h.chained.nexts j (⊎_elim (λ x. x) (λ x. absurd (z (omega arith))) (lt_or_ge j s))))
       (eq_or_ne j s)
-
-  pub inserts_at : InsertsAt s m w
-  inserts_at = record {
-    site = omega (arith, h.site, h.chained.few);
-    bucket = omega (arith, h.below, h.chained.few);
-    link = omega (arith, h.site, h.chained.room);
-    head = omega (arith, h.below, h.chained.room);
-  }
 
   pub chained_long : {w' : List ℕ} → w' ≡ chained → length w' ≡ length w
   chained_long f = ap length f ∙ length-set linked (2 * m) (suc s) ∙ long
