@@ -25,6 +25,9 @@ all_grows P f g x (a ∷ l) = later_on (g x a) (all_grows P f g (f x a) l)
 pub stage_grows : {X : Type 0} (P : X → Page) (s : Side Corner Carrier) (f : X → At Corner Carrier → X) → Grows P f → Grows (λ (t : Stage Corner Carrier X). P t.next) (feed s f)
 stage_grows P s f g t v = all_grows P f g t.next (given s t.held v.corner)
 
+pub closed_grows : {X : Type 0} (P : X → Page) (s : Side Corner Carrier) (f : X → At Corner Carrier → X) → Grows P f → (t : Stage Corner Carrier X) → Later (P t.next) (P (closed s f t))
+closed_grows P s f g t = all_grows P f g t.next (given s t.held t.held.first)
+
 module _ (b : BoundingBox) (sites : List Float) (centers : ℕ) where
   pub ink_grows : Grows (λ g. g) (ink_at b centers)
   unfolding ink_at
