@@ -1,5 +1,5 @@
 -- The entries of a stage laid into a list one by one, and the same turned round as they are put there the other way round (`putting_start`, `putting_step`, `putting_end`).
-use Rattle.std.specs.Prelude.{◌≡◌, false, List, ltb, length, set}
+use Rattle.std.specs.Prelude.{◌≡◌, false, None, List, ltb, length, set}
 use Rattle.std.proofs.Math.Path.{refl, ap}
 use Rattle.std.proofs.Common.{sym, ◌∙◌, arith, le-ltb, length-set, ext_get_or}
 use Rattle.std.proofs.Math.Logic.{⊎_elim}
@@ -112,7 +112,7 @@ module _ (stage : List ℕ) (at : ℕ) (ix : List ℕ) where
 
 -- ---- the end of a piece with no place twice and at least three
 pub lap_ended : (pen : Pen) (n : ℕ) (first last : Point) → same_place first last ≡ false → 3 ≤ n
-    → record { at = pen.at + n; count = pen.count; any = false; first = first; last = last } ≡ pen_ended pen.at (pen_in pen n first last)
+    → record { at = pen.at + n; count = pen.count; ends = None } ≡ pen_ended pen.at (pen_in pen n first last)
 unfolding closed_at kept_at
 lap_ended pen n first last apart many =
     let a : ltb (pen.at + n - pen.at) 2 ≡ false = le-ltb (pen.at + n - pen.at) 2 (omega arith) in

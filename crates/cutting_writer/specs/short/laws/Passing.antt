@@ -1,7 +1,9 @@
 -- One side over a ring in slots: what is left of each edge goes on in the other half (`edge_none`, `edge_one`, `edge_two`), and at the end that is the ring by the side (`passing_end`).
 -- The sides one after the other (`cut_all_lem`).
 use Rattle.std.specs.Prelude.{◌≡◌, refl, true, List, [], ◌∷◌, ◌++◌, Float, length}
-use Rattle.std.proofs.Common.{sym, ap, ◌∙◌, append-nil, append_assoc, inl, inr, add-zero, lt-ltb, le-ltb}
+use Rattle.std.proofs.lemmas.List.FromFn.{length-range_with_len, get_or-range_with_len}
+use Rattle.std.specs.List.{AllWithin, range_with_len}
+use Rattle.std.proofs.Common.{subst, sym, ap, ◌∙◌, append-nil, append_assoc, inl, inr, add-zero, lt-ltb, le-ltb}
 use Rattle.std.proofs.Math.Logic.{⊎_elim}
 use Prim.Native.Nat.{ℕ, zero, suc, ◌+◌, ◌-◌, ◌≤◌, ◌<◌}
 use native.Mathlib.Omega.{arith}
@@ -146,6 +148,19 @@ module _ (b : BoundingBox) (s : SideName) (from count : ℕ) (f : List Float) (m
 
   pub all_end : (i : ℕ) → AllFrom i → i ≡ 0 → (sites : List Float) → AllCorners (IsWithin (side_at b sites s)) (ring_in f m from count)
   all_end i x z sites = let whole : count - 0 ≡ count = omega arith in rw (z, add-zero from, whole) at (x.rest sites)
+
+  all_to : ((i : ℕ) → i < count → within_of b s (corner_in f m (from + i)) ≡ true) → (left i : ℕ) → left + i ≡ count → AllFrom i
+  all_to each zero i e = let z : count ≡ i = omega arith in subst AllFrom z all_start
+  all_to each (suc left) i e =
+      let one : i + 1 - 1 ≡ i = omega arith in
+      rw one at (all_step (i + 1) (all_to each left (i + 1) (omega arith)) (omega arith) (rw (sym one) at (each i (omega arith))))
+
+  -- by what `all` says of a range
+  pub all_each : AllWithin (λ i. within_of b s (corner_in f m (from + i)) ≡ true) (range_with_len 0 count) 0 (length (range_with_len 0 count))
+      → (sites : List Float) → AllCorners (IsWithin (side_at b sites s)) (ring_in f m from count)
+  all_each h = all_end 0 (all_to
+      (λ i l. subst (λ (k : ℕ). within_of b s (corner_in f m (from + k)) ≡ true) (get_or-range_with_len 0 count i 0 l ∙ omega arith)
+      (h i 0 (omega arith) (omega (arith, length-range_with_len 0 count)))) count 0 (omega arith)) refl
 
 -- ---- a side that leaves the ring alone, and one that does not
 module _ (s : Side Corner Carrier) (l : Lying) (half : AtHalf l.from) (f : List Float) (m : List ℕ) where
