@@ -1,5 +1,5 @@
 -- `cutting_writer::copied::stage_both`: each turn brings the two ends nearer, and where they meet what lies in the stage is a walk.
-use Rattle.std.proofs.Common.{ℕ, ◌≡◌, ◌+◌, ◌-◌, ◌/◌, ◌∙◌, length, set, subst, arith, refl, length-set}
+use Rattle.std.proofs.Common.{ℕ, ◌≡◌, ◌+◌, ◌-◌, ◌/◌, ◌∙◌, set, subst, arith, length-set}
 use Rattle.cutting_writer.specs.copied.laws.Closing.{EndsNearing, nearing_start, nearing_step, met_round}
 use Rattle.cutting_writer.proofs.copied.stage_both.Goals as goal
 

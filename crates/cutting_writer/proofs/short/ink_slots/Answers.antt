@@ -1,5 +1,4 @@
 -- `cutting_writer::short::ink_slots`: each slot carries `Inking` one further.
-use Rattle.std.proofs.Common.{arith}
 use Rattle.cutting.specs.pen.Pen.{page}
 use Rattle.cutting_writer.specs.short.laws.Inking.{inking_asks, inking_step}
 use Rattle.cutting_writer.proofs.short.ink_slots.Goals as goal

@@ -1,8 +1,8 @@
 -- One walk that both looks and lays: as far as it came its circumcenters are in the box, and the pen takes them as they stand in the stage (`lapping_start`, `lapping_step`, `lapping_end`).
-use Rattle.std.specs.Prelude.{◌≡◌, Bool, false, not, Some, None, List, ℕ, ◌+◌, ◌-◌, ◌/◌, ◌≤◌, ◌<◌, Float}
+use Rattle.std.specs.Prelude.{◌≡◌, false, Some, None, List, ℕ, ◌+◌, ◌-◌, ◌/◌, ◌≤◌, ◌<◌, Float}
 use Rattle.std.proofs.Math.Path.{refl, sym, ap, subst}
 use Rattle.std.proofs.Common.{◌∙◌, add-one, get_or-set_other, eq-eqb, ne_eqb}
-use Rattle.std.proofs.Math.Bool.{true, not-not}
+use Rattle.std.proofs.Math.Bool.{true}
 use native.Mathlib.Omega.{arith}
 use Rattle.std.proofs.Math.ListN.{length, get_or, set}
 use Rattle.std.proofs.Math.Seq.{get_or-set_same}
@@ -20,10 +20,6 @@ use Rattle.cutting_writer.specs.turn.Turned.{turned_round}
 use Rattle.cutting_writer.specs.end.Ended.{pen_ended, ended}
 use Rattle.cutting_writer.specs.copied.Copied.{laid_to, pen_in, LapCorner, JoinedTo, Lapped, CopiedInto}
 use Rattle.cutting_writer.specs.copied.laws.Laying.{laid_ahead, laid_step, lap_ended}
-
--- what was asked and not denied
-pub said_yes : (r x : Bool) → r ≡ x → not r ≡ false → x ≡ true
-said_yes r x asked taken = sym asked ∙ sym (not-not r) ∙ ap not taken
 
 -- the pen goes on to a place that does not repeat its last
 on_first : (pen : Pen) (p : Point) → pen.ends ≡ None → pen_in pen 1 p p ≡ pen_on pen p

@@ -1,4 +1,4 @@
--- The entries of a stage laid into a list one by one, and the same turned round as they are put there the other way round (`putting_start`, `putting_step`, `putting_end`).
+-- The entries of a stage laid into a list one by one, and the same turned round as they are put there the other way round (`putting_step`, `putting_end`).
 use Rattle.std.specs.Prelude.{◌≡◌, false, None, List, ltb, length, set}
 use Rattle.std.proofs.Math.Path.{refl, ap}
 use Rattle.std.proofs.Common.{sym, ◌∙◌, arith, le-ltb, length-set, ext_get_or}
@@ -66,9 +66,6 @@ module _ (stage : List ℕ) (at : ℕ) (ix : List ℕ) where
     pub put : (k : ℕ) → k < i → get_or m (at + k) 0 ≡ get_or stage (n - 1 - k) 0
     pub before : (k : ℕ) → k < at → get_or m k 0 ≡ get_or ix k 0
     pub after : (k : ℕ) → at + i ≤ k → get_or m k 0 ≡ get_or ix k 0
-
-  pub putting_start : (n : ℕ) → PuttingBack n 0 ix
-  putting_start n = record { some = omega arith; long = refl; put = λ k h. absurd (omega arith); before = λ k h. refl; after = λ k h. refl }
 
   module _ (n i : ℕ) (m : List ℕ) (x : PuttingBack n i m) (room : at + n ≤ length ix) where
     pub putting_step : i < n → PuttingBack n (i + 1) (set m (at + i) (get_or stage (n - 1 - i) 0))

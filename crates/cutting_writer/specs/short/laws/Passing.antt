@@ -71,11 +71,6 @@ module _ (s : Side Corner Carrier) (from count : ℕ) (f₀ : List Float) (m₀ 
     pub floats : length f ≡ length f₀
     pub numbers : length m ≡ length m₀
 
-  pub passing_start : Passing 0 0 f₀ m₀
-  passing_start =
-      let z : count - 0 ≡ count = omega arith in
-      record { all = rw (add-zero from, z) refl; same = λ j a z. refl; done = omega arith; few = omega arith; floats = refl; numbers = refl }
-
   whole_by : (n : ℕ) → cut_to s end (ring_in f₀ m₀ from n) ≡ cut_by s (ring_in f₀ m₀ from n)
   whole_by zero = refl
   whole_by (suc n) = refl
@@ -84,9 +79,6 @@ module _ (s : Side Corner Carrier) (from count : ℕ) (f₀ : List Float) (m₀ 
   passing_end i k f m x l =
       let none : count - i ≡ 0 = omega arith in
       record { made = λ _. sym (append-nil (ring_in f m (16 - from) k)) ∙ rw none at x.all ∙ whole_by count }
-
-  pub no_room : (f : List Float) (m : List ℕ) → PassedSide s from count f₀ m₀ 17 f m
-  no_room f m = record { made = λ l. absurd (omega arith) }
 
   module _ (half : AtHalf from) (short : count ≤ 16) (i k : ℕ) (f : List Float) (m : List ℕ) (x : Passing i k f m) (more : i < count) where
     next_is : head_or end (ring_in f₀ m₀ (from + suc i) (count - suc i)) ≡ corner_in f₀ m₀ (next_slot from count i)

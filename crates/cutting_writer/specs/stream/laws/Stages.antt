@@ -1,4 +1,4 @@
--- Laws of the stages: nothing that is counted falls, so that the room for all is room for each part (`feeds-grow`, `ready_first`, `ready-second`); and what the stages hand on, to their
+-- Laws of the stages: nothing that is counted falls, so that the room for all is room for each part (`all_grows`, `ready_first`); and what the stages hand on, to their
 -- close, is the ring cut by the four sides (`stages_cut`).
 use Rattle.std.specs.Prelude.{◌≡◌, false, List, [], ◌∷◌, ℕ, Float}
 use Rattle.std.proofs.Math.Path.{ap}
@@ -53,9 +53,6 @@ module _ (b : BoundingBox) (sites : List Float) (centers : ℕ) where
 module _ {X A : Type 0} (P : X → Page) (f : X → A → X) (g : Grows P f) (centers : ℕ) where
   pub ready_first : (x : X) (a : A) (l : List A) → Ready centers (P x) (P (feed_all f x (a ∷ l))) → Ready centers (P x) (P (f x a))
   ready_first x a l r = record { corners = r.corners; room = roomy_before (all_grows P f g (f x a) l) r.room }
-
-  pub ready_rest : (x : X) (a : A) (l : List A) → Ready centers (P x) (P (feed_all f x (a ∷ l))) → Ready centers (P (f x a)) (P (feed_all f (f x a) l))
-  ready_rest x a l r = record { corners = corners_later centers (g x a) r.corners; room = r.room }
 
 -- all four, closed
 module _ (b : BoundingBox) (sites : List Float) (centers : ℕ) where
