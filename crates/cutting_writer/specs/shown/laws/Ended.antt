@@ -43,7 +43,8 @@ pub record FirstOnes (m l : List Point) : Type 0 where
 begins_whole : (l : List Point) → FirstOnes l l
 begins_whole l = record { few = omega arith; each = λ k h. refl }
 
-closed_at_lem : (pen : Pen) (begin : ℕ) (q : Point) (rest u : List Point) → unrepeated same_place q rest ≡ u → pen.at ≡ begin + length (q ∷ u) → pen.ends ≡ Some (record { first = q; last = last_or q u })
+closed_at_lem : (pen : Pen) (begin : ℕ) (q : Point) (rest u : List Point) → unrepeated same_place q rest ≡ u → pen.at ≡ begin + length (q ∷ u)
+    → pen.ends ≡ Some (record { first = q; last = last_or q u })
     → (closed_at begin pen ≡ begin + length (q ∷ trimmed same_place q u)) × FirstOnes (q ∷ trimmed same_place q u) (q ∷ u)
 unfolding closed_at
 closed_at_lem pen begin q rest [] e at ends = (rw (lt-ltb (pen.at - begin) 2 (omega (arith, at))) at, begins_whole (q ∷ []))
