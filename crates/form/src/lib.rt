@@ -138,10 +138,8 @@ pub fn feed(
     ensures ok { Ok result }
 {
     let mut n = r;
-    let mut i = 0;
-    while i < bytes.len() {
-        n = take(n, bytes[i], bounds, sites, triangles, halfedges, hull);
-        i += 1;
+    for b in bytes {
+        n = take(n, *b, bounds, sites, triangles, halfedges, hull);
     }
     n
 }

@@ -58,9 +58,7 @@ fn main(rt: HostRuntime) {
         left: 0,
         rest: TWO,
     };
-    let mut i: u64 = 0;
-    while i < 53 {
-        i = i + 1;
+    for i in 1..54 {
         page = row(&rt, i, page);
     }
     rounded(&rt);

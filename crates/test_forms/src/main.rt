@@ -101,8 +101,9 @@ fn case(rt: &HostRuntime) -> bool {
 }
 
 fn main(rt: HostRuntime) {
-    let mut turns: u32 = 100000;
-    while turns > 0 && case(&rt) {
-        turns -= 1;
+    for _ in 0..100000 {
+        if !case(&rt) {
+            return;
+        }
     }
 }

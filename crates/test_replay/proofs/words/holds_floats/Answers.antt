@@ -8,23 +8,16 @@ use lib.ListN.{length, get_or}
 use Rattle.base.specs.common.laws.Decide.{refused, granted}
 use Rattle.test_replay.specs.words.Words.{bits_of, expected_bits_of}
 use Rattle.test_replay.specs.words.laws.Reading.{Same, same_next, same_not, too_short}
-use Rattle.test_replay.proofs.words.holds_floats.Statement.{statement}
-use Rattle.test_replay.proofs.words.holds_floats.Tie as tie
+use Rattle.test_replay.proofs.words.holds_floats.Goals as goal
 
-abbrev invariant-loop : tie.invariant-loop-i
-invariant-loop l b k n rest i₀ i = (i ≤ length l) × Same (length l) (λ j. bits_of (get_or l j nan)) (λ j. expected_bits_of b k n j rest) n i
+pub returns-then-l-n : goal.returns-then-l-n
+returns-then-l-n c = too_short _ _ _ _ c.if-l-n.true
 
-abbrev decreases-loop : tie.decreases-loop-i
-decreases-loop l b k n rest i₀ i = length l - i
+pub loop-i-init : goal.loop-i-init
+loop-i-init c = (omega arith, λ j h. absurd (omega arith))
 
-returns : tie.Need-returns-then-l-n invariant-loop decreases-loop
-returns c = too_short _ _ _ _ c.if-l-n.true
-
-loop-holds : tie.Need-loop-i-init invariant-loop decreases-loop
-loop-holds c = (omega arith, λ j h. absurd (omega arith))
-
-returns-2 : tie.Need-returns-then-not-same invariant-loop decreases-loop
-returns-2 c =
+pub returns-then-not-same : goal.returns-then-not-same
+returns-then-not-same c =
     let at_bits = c in
     let l = at_bits in
     let a = l.args in
@@ -33,8 +26,8 @@ returns-2 c =
     (λ q. refused c.same.result (ap not c.if-not-same.true) c.same.ensures
     (at_bits.bits_of.ensures ∙ q ∙ sym c.expected_bits.ensures))
 
-loop-again : tie.Need-loop-i-preserved invariant-loop decreases-loop
-loop-again c =
+pub loop-i-preserved : goal.loop-i-preserved
+loop-i-preserved c =
     let at_bits = c in
     let l = at_bits in
     let a = l.args in (
@@ -45,13 +38,7 @@ loop-again c =
           ∙ c.expected_bits.ensures),
     )
 
-returns-3 : tie.Need-returns invariant-loop decreases-loop
-returns-3 c =
+pub returns : goal.returns
+returns c =
     let l = c in
     record { room = l.if-l-n.false; each = λ j h. l.loop-i.invariant.1 j (omega arith) }
-
-pub holds_floats_spec : {M : Type 1} → statement M
-holds_floats_spec =
-    tie.close
-    (tie.spec invariant-loop decreases-loop returns loop-holds (λ c. omega arith) (λ c. omega arith) (λ c κs. omega arith)
-    (λ c κs. omega arith) (λ c κs. omega arith) returns-2 (λ c. omega arith) (λ c. omega arith) loop-again returns-3)
