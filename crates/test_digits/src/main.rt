@@ -58,8 +58,8 @@ fn main(rt: HostRuntime) {
         left: 0,
         rest: TWO,
     };
-    for i in 1..54 {
-        page = row(&rt, i, page);
+    for i in 0..53 {
+        page = row(&rt, i + 1, page);
     }
     rounded(&rt);
 }

@@ -4,7 +4,7 @@
 
 ghost use Rattle.std.specs.Prelude.{◌<◌};
 
-use form::step::Form;
+use form::step::{Broken, Sound};
 
 fn number(rt: &impl Print, n: usize) {
     let _ = rt.write_all(b" ");
@@ -35,17 +35,12 @@ fn opened(rt: &impl Print, clip: u8) {
     }
 }
 
-fn say(rt: &impl Print, form: Form) {
+fn say(rt: &impl Print, form: Result<Sound, Broken>) {
     match form {
-        Form::Broken { number, at } => refused(rt, number, at),
-        Form::Sound {
-            sites,
-            triangles,
-            hull,
-            clip,
-        } => {
-            sound(rt, sites, triangles, hull);
-            opened(rt, clip);
+        Err(broken) => refused(rt, broken.number, broken.at),
+        Ok(form) => {
+            sound(rt, form.sites, form.triangles, form.hull);
+            opened(rt, form.clip);
         }
     }
 }

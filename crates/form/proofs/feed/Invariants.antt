@@ -1,5 +1,4 @@
 -- The invariant is `Feeding`, and what is left of the bytes is the measure.
-use Prim.Native.Nat.{◌-◌}
 use Rattle.form.specs.step.Reader.{reading}
 use Rattle.form.specs.laws.Feed.{Feeding}
 use Rattle.form.proofs.feed.Given as goal

@@ -20,8 +20,8 @@ put_hull_site-end-requires c =
     let start = at-loop-test in
     let l = at-loop-test.loop-site in
     let list = start.args.hull.now in
-    lined_fits l.invariant (hull_bytes (get_or list l.i 0)) (each hull_bytes (drop (l.i + 1) list)) (each_more hull_bytes list l.i 0 at-loop-test.loop-site-test.true)
-    (each_whole hull_bytes list (l.i + 1)) (subst (HasRoom start.args.out.now start.args.at) (ap (each hull_bytes) (sym (take-length list))) start.requires)
+    lined_fits l.invariant (hull_bytes (get_or list l.site-index 0)) (each hull_bytes (drop (l.site-index + 1) list)) (each_more hull_bytes list l.site-index 0 at-loop-test.loop-site-test.true)
+    (each_whole hull_bytes list (l.site-index + 1)) (subst (HasRoom start.args.out.now start.args.at) (ap (each hull_bytes) (sym (take-length list))) start.requires)
 
 pub loop-site-preserved : goal.loop-site-preserved
 loop-site-preserved c =
@@ -29,7 +29,7 @@ loop-site-preserved c =
     let l = at-loop-test.loop-site in
     let list = at-loop-test.args.hull.now in
     let more = at-loop-test.loop-site-test.true in
-    lined_step l.invariant (hull_bytes (get_or list l.i 0)) more (each_more hull_bytes list l.i 0 more) c.put_hull_site-end.ensures
+    lined_step l.invariant (hull_bytes (get_or list l.site-index 0)) more (each_more hull_bytes list l.site-index 0 more) c.put_hull_site-end.ensures
 
 pub returns : goal.returns
 returns c = wrote_as (lined_end c.loop-site.invariant c.loop-site-test.false) (ap (each hull_bytes) (take-length c.args.hull.now))

@@ -20,8 +20,8 @@ put_le-end-requires c =
     let start = at-loop-test in
     let l = at-loop-test.loop-n in
     let list = start.args.numbers.now in
-    lined_fits l.invariant (le 4 (get_or list l.i 0)) (links (drop (l.i + 1) list)) (each_more (le 4) list l.i 0 at-loop-test.loop-n-test.true)
-    (each_whole (le 4) list (l.i + 1)) (subst (HasRoom start.args.out.now start.args.at) (ap links (sym (take-length list))) start.requires)
+    lined_fits l.invariant (le 4 (get_or list l.n-index 0)) (links (drop (l.n-index + 1) list)) (each_more (le 4) list l.n-index 0 at-loop-test.loop-n-test.true)
+    (each_whole (le 4) list (l.n-index + 1)) (subst (HasRoom start.args.out.now start.args.at) (ap links (sym (take-length list))) start.requires)
 
 pub loop-n-preserved : goal.loop-n-preserved
 loop-n-preserved c =
@@ -30,7 +30,7 @@ loop-n-preserved c =
     let l = at-loop-test.loop-n in
     let list = at-loop-test.args.numbers.now in
     let more = at-loop-test.loop-n-test.true in
-    lined_step l.invariant (le 4 (get_or list l.i 0)) more (each_more (le 4) list l.i 0 more) (wrote_as at-put-le.put_le-end.ensures (ap (le 4) at-put-le.widest.ensures))
+    lined_step l.invariant (le 4 (get_or list l.n-index 0)) more (each_more (le 4) list l.n-index 0 more) (wrote_as at-put-le.put_le-end.ensures (ap (le 4) at-put-le.widest.ensures))
 
 pub returns : goal.returns
 returns c = wrote_as (lined_end c.loop-n.invariant c.loop-n-test.false) (ap links (take-length c.args.numbers.now))
