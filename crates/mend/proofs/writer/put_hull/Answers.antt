@@ -1,14 +1,13 @@
 -- `mend::writer::put_hull` meets its contract: the invariant is that the hull sites so far are written; each turn writes one more.
 use mathlib.Core.Path.{refl, sym, ap, subst}
-use Prim.Native.Nat.{◌+◌, ◌-◌}
-use lib.ListN.{length, get_or, take, drop}
+use Prim.Native.Nat.{◌+◌}
+use lib.ListN.{length, get_or, drop}
 use lib.Seq.{take-length}
 use Rattle.octets.specs.Bytes.{each}
 use Rattle.octets.specs.Wrote.{HasRoom}
-use Rattle.octets.specs.laws.Wrote.{Lined, lined_start, lined_fits, lined_step, lined_end, wrote_length, wrote_as}
+use Rattle.octets.specs.laws.Wrote.{lined_start, lined_fits, lined_step, lined_end, wrote_as}
 use Rattle.form.specs.Form.{hull_bytes}
 use Rattle.mend.specs.writer.laws.Records.{each_more, each_whole}
-use borrow.Author.Rules.{rules}
 use Rattle.mend.proofs.writer.put_hull.Goals as goal
 
 pub loop-site-init : goal.loop-site-init

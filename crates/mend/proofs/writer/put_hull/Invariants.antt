@@ -1,5 +1,4 @@
 -- The invariant is that the hull sites so far are written; each turn writes one more.
-use Prim.Native.Nat.{◌-◌}
 use lib.ListN.{length, take}
 use Rattle.octets.specs.Bytes.{each}
 use Rattle.octets.specs.laws.Wrote.{Lined}

@@ -1,14 +1,13 @@
 -- `mend::writer::put_links` meets its contract: the invariant is that the numbers so far are written; each turn writes one more.
 use mathlib.Core.Path.{refl, sym, ap, subst}
-use Prim.Native.Nat.{◌+◌, ◌-◌}
-use lib.ListN.{length, get_or, take, drop}
+use Prim.Native.Nat.{◌+◌}
+use lib.ListN.{length, get_or, drop}
 use lib.Seq.{take-length}
 use Rattle.octets.specs.Bytes.{le}
 use Rattle.octets.specs.Wrote.{HasRoom}
-use Rattle.octets.specs.laws.Wrote.{Lined, lined_start, lined_fits, lined_step, lined_end, wrote_length, wrote_as}
+use Rattle.octets.specs.laws.Wrote.{lined_start, lined_fits, lined_step, lined_end, wrote_as}
 use Rattle.mend.specs.writer.Written.{links}
 use Rattle.mend.specs.writer.laws.Records.{each_more, each_whole}
-use borrow.Author.Rules.{rules}
 use Rattle.mend.proofs.writer.put_links.Goals as goal
 
 pub loop-n-init : goal.loop-n-init
@@ -30,7 +29,7 @@ loop-n-preserved c =
     let l = at-loop-test.loop-n in
     let list = at-loop-test.args.numbers.now in
     let more = at-loop-test.loop-n-test.true in
-    lined_step l.invariant (le 4 (get_or list l.n-index 0)) more (each_more (le 4) list l.n-index 0 more) (wrote_as at-put-le.put_le-end.ensures (ap (le 4) at-put-le.widest.ensures))
+    lined_step l.invariant (le 4 (get_or list l.n-index 0)) more (each_more (le 4) list l.n-index 0 more) (wrote_as at-put-le.put_le-end.ensures (ap (le 4) at-put-le.from.ensures))
 
 pub returns : goal.returns
 returns c = wrote_as (lined_end c.loop-n.invariant c.loop-n-test.false) (ap links (take-length c.args.numbers.now))

@@ -1,7 +1,5 @@
 -- The invariant is that the numbers so far are written; each turn writes one more.
-use Prim.Native.Nat.{◌-◌}
 use lib.ListN.{length, take}
-use Rattle.octets.specs.Bytes.{le}
 use Rattle.octets.specs.laws.Wrote.{Lined}
 use Rattle.mend.specs.writer.Written.{links}
 use Rattle.mend.proofs.writer.put_links.Given as goal
