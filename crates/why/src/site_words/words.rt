@@ -48,6 +48,7 @@ fn ask_two(a: Option<u32>, b: Option<u32>) -> Option<Question>
 }
 
 // What is asked, if the program takes the words: by how many there are, its own name among them, and the two after it.
+#[tactic(auto, unfolding(crate::specs::site_words::Words::command_of))]
 pub fn command_of(count: usize, first: &[u8], second: &[u8]) -> Option<Question>
     ensures { result ≡ command_of count first.now second.now }
 {

@@ -1,6 +1,7 @@
 -- `audit::turns::first_turned` meets its contract: no triangle that was passed is turned.
-use Rattle.std.proofs.Common.{◌-◌, ◌/◌, length, arith}
+use Rattle.std.proofs.Common.{subst, ◌≡◌, ◌-◌, ◌/◌, length, arith}
 use Rattle.ring_area.specs.lowest.laws.Loops.{NoneTo, passed_start, passed_step, passed_found, passed_end}
+use Rattle.ring_area.specs.lowest.Lowest.{lowest}
 use Rattle.audit.specs.turns.Turned.{turned_at}
 use Rattle.audit.proofs.turns.first_turned.Goals as goal
 
@@ -17,4 +18,6 @@ pub loop-t-preserved : goal.loop-t-preserved
 loop-t-preserved c = let l = c in passed_step l.loop-t.invariant c.loop-t-test.true c.is_turned.ensures c.if-is_turned.false
 
 pub returns : goal.returns
-returns c = passed_end c.loop-t.invariant c.loop-t-test.false
+returns c =
+    let h : c.loop-t.t ≡ length c.args.triangles.now / 3 = omega arith in
+    subst (λ n. n ≡ lowest (turned_at c.args.sites.now c.args.triangles.now) (length c.args.triangles.now / 3)) h (passed_end c.loop-t.invariant c.loop-t-test.false)

@@ -14,9 +14,6 @@ use Rattle.cells.proofs.listing.entries.Goals as goal
 pub loop-n-init : goal.loop-n-init
 loop-n-init c = let a = c.args in lined_start _ (length a.list.now) a.out.now a.at (entries_none a.list.now)
 
-pub offset_bounds-list-i : goal.offset_bounds-list-i
-offset_bounds-list-i c = let at-good = c in omega (arith, at-good.well_formed.1.1.0)
-
 pub entry-end-requires : goal.entry-end-requires
 entry-end-requires c = let l = c in
     let s = l in
