@@ -20,14 +20,12 @@ pub fn first_turned(sites: &[f64], triangles: &[u32]) -> usize
     ensures { result ≡ lowest (turned_at sites.now triangles.now) (length triangles.now / 3) }
 {
     let total = triangles.len() / 3;
-    let mut t = 0;
-    while t < total {
+    for t in 0..total {
         if is_turned(sites, triangles, t) {
             return t;
         }
-        t += 1;
     }
-    t
+    total
 }
 
 // 1 where it is, else 0.
@@ -48,10 +46,8 @@ pub fn count_turned(sites: &[f64], triangles: &[u32]) -> usize
 {
     let total = triangles.len() / 3;
     let mut count = 0;
-    let mut t = 0;
-    while t < total {
+    for t in 0..total {
         count += one_if_turned(sites, triangles, t);
-        t += 1;
     }
     count
 }

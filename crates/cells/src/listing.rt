@@ -13,10 +13,8 @@ fn entries(out: &mut [u8], at: usize, list: &[u32]) -> usize
     ensures { Wrote out.old out.new at result (entries list.now) }
 {
     let mut end = at;
-    let mut i = 0;
-    while i < list.len() {
-        end = entry(out, end, list[i]);
-        i += 1;
+    for n in list {
+        end = entry(out, end, *n);
     }
     end
 }
@@ -46,12 +44,10 @@ fn cell_lines(out: &mut [u8], at: usize, sites: usize, offsets: &[u32], cells: &
     ensures { Wrote out.old out.new at result (cell_lines offsets.now cells.now 0 sites) }
 {
     let mut end = at;
-    let mut i: usize = 0;
-    while i < sites {
+    for i in 0..sites {
         let from = wide(offsets[i]);
         let to = wide(offsets[i + 1]);
         end = cell_line(out, end, i as u32, &cells[from..to]);
-        i += 1;
     }
     end
 }

@@ -44,12 +44,10 @@ fn map_lines(
     ensures { Wrote out.old out.new at result (map_lines (patterns vertices.now) offsets.now indexes.now 0 sites) }
 {
     let mut end = at;
-    let mut i: usize = 0;
-    while i < sites {
+    for i in 0..sites {
         let from = wide(offsets[i]);
         let to = wide(offsets[i + 1]);
         end = cell_line(out, end, i as u32, vertices, &indexes[from..to]);
-        i += 1;
     }
     end
 }

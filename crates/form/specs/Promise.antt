@@ -1,5 +1,5 @@
 -- Theorem: what `read` promises, said of forms: the mesh of a sound form with its numbers from the beginning of each list, and the refusal's number with its byte for every other byte string.
-use Rattle.std.specs.Prelude.{◌≡◌, refl, Bool, List, ◌⊎◌, ℕ, Float, length}
+use Rattle.std.specs.Prelude.{◌≡◌, refl, Ok, Err, Bool, List, ◌⊎◌, ℕ, Float, length}
 use Rattle.std.proofs.Common.{sym, ap, ◌∙◌, subst, inl, inr}
 use Rattle.std.proofs.lemmas.List.Edits.{sets}
 use Rattle.octets.specs.Bytes.{Bytes, each}
@@ -12,8 +12,8 @@ use Rattle.form.specs.laws.Exact.{sound_broken, ended_of, answer_ended, accepts,
 use Rattle.form.specs.Place.{Place, NumberAt}
 use Rattle.form.specs.laws.Place.{refused_at_lem}
 use Rattle.form.specs.laws.NumberAt.{number_at}
-use Rattle.form.specs.declared.step.Form.{Form}
-use Rattle.form.specs.declared.step.Form.TheVariants.{Sound, Broken}
+use Rattle.form.specs.step.Reader.{Form}
+use Rattle.form.specs.step.Reader.{sound_of, broken_of}
 
 module _ (old : Bool) (s : List ℕ) (bs ss : List Float) (ts es hs : List ℕ) where
   pub record ReadSound (a : Form) (bs' ss' : List Float) (ts' es' hs' : List ℕ) : Type 0 where
@@ -21,7 +21,7 @@ module _ (old : Bool) (s : List ℕ) (bs ss : List Float) (ts es hs : List ℕ) 
     pub fits : MeshFits mesh
     pub admits : MayBegin old mesh.clip
     pub form : s ≡ form_of mesh
-    pub answer : a ≡ Sound (length mesh.sites) (length mesh.triangles) (length mesh.hull) (kind_of mesh.clip)
+    pub answer : a ≡ sound_of (length mesh.sites) (length mesh.triangles) (length mesh.hull) (kind_of mesh.clip)
     pub bounds : bs' ≡ sets bs 0 (outline_floats mesh.clip)
     pub sites : ss' ≡ sets ss 0 (each site_floats mesh.sites)
     pub triangles : ts' ≡ sets ts 0 (each triangle_sites mesh.triangles)
@@ -31,7 +31,7 @@ module _ (old : Bool) (s : List ℕ) (bs ss : List Float) (ts es hs : List ℕ) 
   pub record Refused (a : Form) : Type 0 where
     pub number : ℕ
     pub place : ℕ
-    pub answer : a ≡ Broken number place
+    pub answer : a ≡ broken_of number place
     pub first : Place old s place
     pub number_at : NumberAt old s place number
     pub no_form : IsForm old s → ⊥
@@ -62,14 +62,14 @@ module _ (old : Bool) (s : List ℕ) (bs ss : List Float) (ts es hs : List ℕ) 
     exact h = go a answers refl
       where
         go : (b : Form) → verdict (steps (start old) s) ≡ b → a ≡ b → ReadSound a bs' ss' ts' es' hs' ⊎ Refused a
-        go (Sound x y z u) e f = inl (of_form (only_forms old s h (ended_of (steps (start old) s) x y z u e)))
-        go (Broken n k) e f =
+        go (Ok a) e f = inl (of_form (only_forms old s h (ended_of (steps (start old) s) a.sites a.triangles a.hull a.clip e)))
+        go (Err b) e f =
             inr (record {
-              number = n;
-              place = k;
+              number = b.number;
+              place = b.at;
               answer = f;
-              first = refused_at_lem old s h n k e;
-              number_at = number_at old s h n k e;
+              first = refused_at_lem old s h b.number b.at e;
+              number_at = number_at old s h b.number b.at e;
               no_form = λ g. sound_broken (sym e ∙ answer_ended (steps (start old) s) (accepts old s g));
             })
 

@@ -7,7 +7,7 @@ use Rattle.base.specs.common.Binary64.{zero, two}
 use Rattle.form.specs.Form.{FormMesh, box, edges, form_of}
 use Rattle.form.specs.step.Reader.{size_of, opens, room_left, follows, start, begun, tally, inside, outside, step, within, put_float, put_link, bounds_by}
 use Rattle.form.specs.step.Reader.{sites_by, triangles_by, halfedges_by, hull_by, Reading, reading, take, takes, verdict}
-use Rattle.form.specs.declared.step.Form.TheVariants.{Sound}
+use Rattle.form.specs.step.Reader.{sound_of}
 
 unfoldable pub square_bytes : List ℕ
 square_bytes =
@@ -66,7 +66,7 @@ read_square = takes (reading (start false) (replicate 4 zero) (replicate 8 zero)
 pub rows :
     (length square_bytes ≡ 172)
     × (form_of square ≡ square_bytes)
-    × (verdict read_square.reader ≡ Sound 4 2 4 1)
+    × (verdict read_square.reader ≡ sound_of 4 2 4 1)
     × (read_square.bounds ≡ zero ∷ zero ∷ two ∷ two ∷ [])
     × (read_square.sites ≡ minus_half ∷ minus_half ∷ minus_half ∷ half ∷ half ∷ half ∷ half ∷ minus_half ∷ [])
     × (read_square.triangles ≡ 0 ∷ 1 ∷ 2 ∷ 0 ∷ 2 ∷ 3 ∷ [])
@@ -102,7 +102,7 @@ read_edges = takes (reading (start false) (replicate 4 zero) (replicate 8 zero) 
 
 pub rows_by_edges :
     (form_of edges_square ≡ edges_bytes)
-    × (verdict read_edges.reader ≡ Sound 4 2 4 7)
+    × (verdict read_edges.reader ≡ sound_of 4 2 4 7)
     × (read_edges.bounds ≡ of_bits binary64 minus_one_is ∷ of_bits binary64 minus_one_is ∷ of_bits binary64 one_is ∷ of_bits binary64 one_is ∷ [])
     × (read_edges.hull ≡ 0 ∷ 1 ∷ 2 ∷ 3 ∷ [])
 unfolding square_bytes form_of takes take step inside outside tally follows opens room_left begun size_of within put_float put_link bounds_by sites_by triangles_by halfedges_by hull_by verdict

@@ -12,7 +12,7 @@ ghost use Rattle.form.specs.step.Reader.{broken, start, put_float, put_link, rea
 ghost use Rattle.form.specs.step.Holds.{ListRoom, Reads};
 ghost use Rattle.form.specs.step.Standing.{Ok};
 
-use crate::step::{Form, Reader, finish, inside, outside, shifted, start};
+use crate::step::{Broken, Reader, Sound, finish, inside, outside, shifted, start};
 use octets::patterns::float_of;
 
 // The most sites, triangles and hull sites that a form has, and so many numbers of each list.
@@ -138,10 +138,8 @@ pub fn feed(
     ensures ok { Ok result }
 {
     let mut n = r;
-    let mut i = 0;
-    while i < bytes.len() {
-        n = take(n, bytes[i], bounds, sites, triangles, halfedges, hull);
-        i += 1;
+    for b in bytes {
+        n = take(n, *b, bounds, sites, triangles, halfedges, hull);
     }
     n
 }
@@ -155,7 +153,7 @@ pub fn read(
     triangles: &mut [u32],
     halfedges: &mut [u32],
     hull: &mut [u32],
-) -> Form
+) -> Result<Sound, Broken>
     requires { ListRoom bounds.old sites.old triangles.old halfedges.old hull.old }
     ensures { Reads bytes.now (reading (start old) bounds.old sites.old triangles.old
         halfedges.old hull.old) result bounds.new sites.new triangles.new halfedges.new hull.new }

@@ -3,7 +3,7 @@ ghost use Rattle.std.specs.Prelude.{◌≡◌};
 ghost use Rattle.form.specs.step.Holds.{Few};
 ghost use Rattle.form.specs.mesh.Read.{MeshRoom, mesh_parts, MeshRead};
 
-use crate::step::Form;
+use crate::step::{Broken, Sound};
 use plane::given::Given;
 
 #[derive(Clone, Copy)]
@@ -21,17 +21,11 @@ pub struct MeshParts {
 }
 
 // By what the reader answered.
-fn mesh_parts(form: Form, bounds: [f64; 4]) -> MeshParts
+fn mesh_parts(form: Result<Sound, Broken>, bounds: [f64; 4]) -> MeshParts
     requires { Few form }
     ensures { result ≡ mesh_parts form bounds }
 {
-    let Form::Sound {
-        sites,
-        triangles,
-        hull,
-        clip,
-    } = form
-    else {
+    let Ok(sound) = form else {
         let none = crate::boxes::box_of(0, bounds);
         return MeshParts {
             number: crate::step::number_of(form),
@@ -42,14 +36,14 @@ fn mesh_parts(form: Form, bounds: [f64; 4]) -> MeshParts
             hull: 0,
         };
     };
-    let given = crate::boxes::box_of(clip, bounds);
+    let given = crate::boxes::box_of(sound.clip, bounds);
     MeshParts {
         number: 0,
-        kind: clip,
+        kind: sound.clip,
         given,
-        coordinates: 2 * sites,
-        links: 3 * triangles,
-        hull,
+        coordinates: 2 * sound.sites,
+        links: 3 * sound.triangles,
+        hull: sound.hull,
     }
 }
 

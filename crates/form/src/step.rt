@@ -34,20 +34,21 @@ pub struct Reader {
     pub hull: u64,
 }
 
-#[derive(Clone, Copy)]
-pub enum Form {
-    Sound {
-        sites: usize,
-        triangles: usize,
-        hull: usize,
-        // the kind that opened the form
-        clip: u8,
-    },
-    // Refused with this number at this byte.
-    Broken {
-        number: u8,
-        at: usize,
-    },
+// What is known of a sound form.
+#[derive(Clone, Copy, Debug, PartialEq, Eq)]
+pub struct Sound {
+    pub sites: usize,
+    pub triangles: usize,
+    pub hull: usize,
+    // the kind that opened the form
+    pub clip: u8,
+}
+
+// The number of a form's refusal, as the state keeps it between two calls, and the byte.
+#[derive(Clone, Copy, Debug, PartialEq, Eq)]
+pub struct Broken {
+    pub number: u8,
+    pub at: usize,
 }
 
 pub fn size(kind: u64) -> u64
@@ -231,31 +232,31 @@ pub fn finished(r: Reader) -> Reader
 }
 
 // What the bytes taken so far are if no more come.
-pub fn finish(r: Reader) -> Form
+pub fn finish(r: Reader) -> Result<Sound, Broken>
     requires { Ok r }
     ensures { result ≡ verdict r }
 {
     let n = finished(r);
     if n.refusal != 0 {
-        return Form::Broken {
+        return Err(Broken {
             number: n.refusal as u8,
             at: n.at as usize,
-        };
+        });
     }
-    Form::Sound {
+    Ok(Sound {
         sites: n.sites as usize,
         triangles: n.triangles as usize,
         hull: n.hull as usize,
         clip: n.clip as u8,
-    }
+    })
 }
 
 // The number of a refused form; 0 for a sound one.
-pub fn number_of(form: Form) -> u32
+pub fn number_of(form: Result<Sound, Broken>) -> u32
     ensures { result ≡ form_number form }
 {
     match form {
-        Form::Sound { .. } => 0,
-        Form::Broken { number, .. } => number as u32,
+        Ok(_) => 0,
+        Err(broken) => u32::from(broken.number),
     }
 }

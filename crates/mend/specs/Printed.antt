@@ -1,6 +1,6 @@
 -- What `mend` prints, said of its arguments and of the bytes of its input: the changes from the mesh whose form they are to the mended one, the box that
 -- was put in before all others, or the mended mesh's form, or the line of a refusal. Definitions only.
-use Rattle.std.specs.Prelude.{◌≡◌, Bool, true, false, ◌&&◌, List, [], ◌∷◌, ◌++◌, ◌≢◌, ℕ, ◌/◌, eqb, ltb, Float, length, Err}
+use Rattle.std.specs.Prelude.{◌≡◌, Option, Some, None, Bool, true, false, ◌&&◌, List, [], ◌∷◌, ◌++◌, ◌≢◌, ℕ, ◌/◌, eqb, ltb, Float, length, Err}
 use Rattle.base.specs.common.Refusals.{Rule, once, each as every, reads, Finds}
 use Rattle.base.specs.common.Pick.{pick}
 use Rattle.base.specs.numbers.Numbers.{refused_count, refused_box}
@@ -21,7 +21,6 @@ use Rattle.mend.specs.boxes.Option.{is_box, gives, keeps_box, in_place, first_af
 use Rattle.mend.specs.change_lines.ChangeLines.{change_line, counts_line}
 use Rattle.mend.specs.box_line.BoxLine.{box_line}
 use Rattle.mend.specs.declared.Way.{Way}
-use Rattle.mend.specs.declared.Way.TheVariants.{Print, Usage}
 
 -- ---- the arguments
 
@@ -36,16 +35,16 @@ same_bytes (a ∷ s) (b ∷ t) = eqb a b && same_bytes s t
 abbrev pub is_option : List ℕ → List ℕ → Bool
 is_option label digits = same_bytes label (ascii "box") && is_box digits
 
-abbrev pub way_if : Bool → Bool → Bool → Way
-way_if ok form boxed = pick ok (λ _. Print form boxed) (λ _. Usage)
+abbrev pub way_if : Bool → Bool → Bool → Option Way
+way_if ok form boxed = pick ok (λ _. Some (record { form = form; boxed = boxed })) (λ _. None)
 
 -- how many words there are, the program's own name among them; the first after it; and the last two
-unfoldable pub way_of : ℕ → List ℕ → List ℕ → List ℕ → Way
+unfoldable pub way_of : ℕ → List ℕ → List ℕ → List ℕ → Option Way
 way_of count first label digits =
-    pick (ltb count 2) (λ _. Print false false)
+    pick (ltb count 2) (λ _. way_if true false false)
     (λ _. pick (eqb count 2) (λ _. way_if (same_bytes first (ascii "form")) true false)
     (λ _. pick (eqb count 3) (λ _. way_if (is_option label digits) false true)
-    (λ _. pick (eqb count 4) (λ _. way_if (same_bytes first (ascii "form") && is_option label digits) true true) (λ _. Usage))))
+    (λ _. pick (eqb count 4) (λ _. way_if (same_bytes first (ascii "form") && is_option label digits) true true) (λ _. None))))
 
 -- ---- the text
 

@@ -49,11 +49,9 @@ pub fn change_lines(
     ensures { Wrote out.old out.new at result (change_lines label.now changes.now from count) }
 {
     let mut end = at;
-    let mut i: usize = 0;
-    while i < count {
+    for i in 0..count {
         let k = 3 * (from + i);
         end = change_line(out, end, label, changes[k], changes[k + 1], changes[k + 2]);
-        i += 1;
     }
     end
 }

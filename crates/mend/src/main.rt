@@ -22,12 +22,11 @@ use std::io;
 // Three numbers to a change, of a pair or of a hull place.
 const CHANGES: usize = 3 * (LINKS + HULL);
 
-// What the arguments ask for.
-#[derive(Clone, Copy)]
-pub enum Way {
-    // the changes, or the mended mesh as a form; with a box given or without
-    Print { form: bool, boxed: bool },
-    Usage,
+// What the arguments ask for: the changes, or the mended mesh as a form; with a box given or without.
+#[derive(Clone, Copy, Debug, PartialEq, Eq)]
+pub struct Way {
+    pub form: bool,
+    pub boxed: bool,
 }
 
 fn same_bytes(word: &[u8], text: &[u8]) -> bool
@@ -40,51 +39,34 @@ fn same_bytes(word: &[u8], text: &[u8]) -> bool
 fn is_option(label: &[u8], digits: &[u8]) -> bool
     ensures { result ≡ is_option label.now digits.now }
 {
-    if same_bytes(label, b"box") {
-        return crate::boxes::is_box(digits);
-    }
-    false
+    same_bytes(label, b"box") && crate::boxes::is_box(digits)
 }
 
-fn way_if(ok: bool, form: bool, boxed: bool) -> Way
+fn way_if(ok: bool, form: bool, boxed: bool) -> Option<Way>
     ensures { result ≡ way_if ok form boxed }
 {
-    if ok {
-        return Way::Print { form, boxed };
-    }
-    Way::Usage
+    if ok { Some(Way { form, boxed }) } else { None }
 }
 
 // With the word `form` before the option.
 fn form_and_box(first: &[u8], label: &[u8], digits: &[u8]) -> bool
     ensures { result ≡ same_bytes first.now (ascii "form") && is_option label.now digits.now }
 {
-    if same_bytes(first, b"form") {
-        return is_option(label, digits);
-    }
-    false
+    same_bytes(first, b"form") && is_option(label, digits)
 }
 
-// By how many words there are, the program's own name among them, the first after it, and the last two.
-fn way_of(count: usize, first: &[u8], label: &[u8], digits: &[u8]) -> Way
+// By how many words there are, the program's own name among them, the first after it, and the last two; none where the program takes no such words.
+#[tactic(auto, unfolding(crate::specs::Printed::way_of))]
+fn way_of(count: usize, first: &[u8], label: &[u8], digits: &[u8]) -> Option<Way>
     ensures { result ≡ way_of count first.now label.now digits.now }
 {
-    if count < 2 {
-        return Way::Print {
-            form: false,
-            boxed: false,
-        };
+    match count {
+        0 | 1 => way_if(true, false, false),
+        2 => way_if(same_bytes(first, b"form"), true, false),
+        3 => way_if(is_option(label, digits), false, true),
+        4 => way_if(form_and_box(first, label, digits), true, true),
+        _ => None,
     }
-    if count == 2 {
-        return way_if(same_bytes(first, b"form"), true, false);
-    }
-    if count == 3 {
-        return way_if(is_option(label, digits), false, true);
-    }
-    if count == 4 {
-        return way_if(form_and_box(first, label, digits), true, true);
-    }
-    Way::Usage
 }
 
 // A word's number, counted from the end.
@@ -271,10 +253,10 @@ fn main(rt: HostRuntime) -> io::Result<()> {
     let b = host::arg(&rt, from_end(count, 2), &mut label);
     let c = host::arg(&rt, from_end(count, 1), &mut digits);
     let way = way_of(count, &first[..a], &label[..b], &digits[..c]);
-    let Way::Print { form, boxed } = way else {
+    let Some(way) = way else {
         return rt
             .stderr()
             .write_all(b"usage: mend [form] [box HEX] <FORM\n");
     };
-    print(&rt, form, boxed, &digits[..c])
+    print(&rt, way.form, way.boxed, &digits[..c])
 }

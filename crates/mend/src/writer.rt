@@ -8,22 +8,14 @@ ghost use Rattle.mend.specs.writer.Written.{links, triangle_records, lists, writ
 
 use octets::{put, put_le};
 
-fn widest(x: u32) -> u64
-    ensures { result ≡ x }
-{
-    x as u64
-}
-
 // Four bytes for each number.
 fn put_links(out: &mut [u8], at: usize, numbers: &[u32]) -> usize
     requires { HasRoom out.old at (links numbers.now) }
     ensures { Wrote out.old out.new at result (links numbers.now) }
 {
     let mut end = at;
-    let mut i = 0;
-    while i < numbers.len() {
-        end = put_le(out, end, 4, widest(numbers[i]));
-        i += 1;
+    for n in numbers {
+        end = put_le(out, end, 4, u64::from(*n));
     }
     end
 }
@@ -44,12 +36,10 @@ fn put_triangles(out: &mut [u8], at: usize, triangles: &[u32], halfedges: &[u32]
 {
     let count = triangles.len() / 3;
     let mut end = at;
-    let mut i: usize = 0;
-    while i < count {
+    for i in 0..count {
         let from = 3 * i;
         let to = 3 * i + 3;
         end = put_triangle(out, end, &triangles[from..to], &halfedges[from..to]);
-        i += 1;
     }
     end
 }
@@ -59,7 +49,7 @@ fn put_hull_site(out: &mut [u8], at: usize, site: u32) -> usize
     ensures { Wrote out.old out.new at result (hull_bytes site) }
 {
     out[at] = 4;
-    put_le(out, at + 1, 4, widest(site))
+    put_le(out, at + 1, 4, u64::from(site))
 }
 
 fn put_hull(out: &mut [u8], at: usize, hull: &[u32]) -> usize
@@ -67,10 +57,8 @@ fn put_hull(out: &mut [u8], at: usize, hull: &[u32]) -> usize
     ensures { Wrote out.old out.new at result (each hull_bytes hull.now) }
 {
     let mut end = at;
-    let mut i = 0;
-    while i < hull.len() {
-        end = put_hull_site(out, end, hull[i]);
-        i += 1;
+    for site in hull {
+        end = put_hull_site(out, end, *site);
     }
     end
 }

@@ -45,13 +45,11 @@ pub fn admitted(p: Point) -> bool
     ensures { result ≡ admitted p }
 {
     let mut unit = 1u32;
-    let mut k = 0u32;
-    while k < 13 {
+    for _ in 0..13 {
         if in_both(p, unit) {
             return true;
         }
         unit = 2 * unit;
-        k += 1;
     }
     false
 }

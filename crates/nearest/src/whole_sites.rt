@@ -37,9 +37,7 @@ pub fn to_grid(sites: &[f64], grid: &mut [i32])
     requires { length sites.now ≤ length grid.old }
     ensures { take (length sites.now) grid.new ≡ wholes_of sites.now }
 {
-    let mut i = 0;
-    while i < sites.len() {
-        grid[i] = whole_of(sites[i]);
-        i += 1;
+    for (i, x) in sites.iter().enumerate() {
+        grid[i] = whole_of(*x);
     }
 }

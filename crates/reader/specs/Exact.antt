@@ -1,7 +1,7 @@
 -- Theorem: what is told of a whole form: for a sound form its mesh, with its numbers from the beginning of each list; for every other byte string the refusal's number, at the
 -- first byte after which no sound form can follow, or at the length of a form that has not ended.
 use Rattle.std.specs.Prelude.{◌≡◌, refl, Bool, true, false, List, ◌⊎◌, ℕ, length}
-use Rattle.std.proofs.Common.{sym, ◌∙◌, subst, inl, inr, ⊎_elim}
+use Rattle.std.proofs.Common.{sym, ap, ◌∙◌, subst, inl, inr, ⊎_elim}
 use Rattle.std.proofs.lemmas.List.Edits.{sets}
 use Rattle.octets.specs.Bytes.{Bytes, each}
 use Rattle.form.specs.step.Reader.{Reading, broken, start, finished, takes, verdict}
@@ -10,7 +10,10 @@ use Rattle.form.specs.step.Standing.{Ok}
 use Rattle.form.specs.step.laws.Standing.{ok_start}
 use Rattle.form.specs.step.laws.Steps.{verdict_broken, verdict_sound}
 use Rattle.form.specs.declared.step.Reader.{Reader}
-use Rattle.form.specs.declared.step.Form.TheVariants.{Sound, Broken}
+use Rattle.form.specs.step.Reader.{sound_of, broken_of}
+use Rattle.form.specs.step.Holds.{form_sound}
+use Rattle.form.specs.laws.Place.{broken_at}
+use Rattle.form.specs.declared.step.Sound.{Sound}
 use Rattle.form.specs.Form.{FormMesh, MeshFits, MayBegin, IsForm, form_of, kind_of, outline_floats, site_floats, triangle_sites, triangle_pairs}
 use Rattle.form.specs.Place.{Place, NumberAt}
 use Rattle.form.specs.Promise.{ReadSound, Refused, exact}
@@ -42,28 +45,29 @@ module _ (l : FormLists) (s : List ℕ) where
     pub report : w.report ≡ record { number = number; at = place; clip = 0; sites = 0; triangles = 0; hull = 0 }
     pub no_form : IsForm false s → ⊥
 
-report_sound : (r : Reader) (a b c k : ℕ) → verdict r ≡ Sound a b c k → report_of (finished r) ≡ record { number = 0; at = nowhere; clip = k; sites = a; triangles = b; hull = c }
+report_sound : (r : Reader) (a b c k : ℕ) → verdict r ≡ sound_of a b c k → report_of (finished r) ≡ record { number = 0; at = nowhere; clip = k; sites = a; triangles = b; hull = c }
 report_sound r a b c k e = go (broken (finished r)) refl
   where
     go : (t : Bool) → broken (finished r) ≡ t → report_of (finished r) ≡ record { number = 0; at = nowhere; clip = k; sites = a; triangles = b; hull = c }
     go true f = sound_broken (sym (verdict_broken r f) ∙ e)
     go false f =
-        let q : Sound (finished r).sites (finished r).triangles (finished r).hull (finished r).clip ≡ Sound a b c k = sym (verdict_sound r f) ∙ e in
-        let w : (finished r).sites ≡ a = cc in
-        let x : (finished r).triangles ≡ b = cc in
-        let y : (finished r).hull ≡ c = cc in
-        let z : (finished r).clip ≡ k = cc in
+        let q : sound_of (finished r).sites (finished r).triangles (finished r).hull (finished r).clip ≡ sound_of a b c k = sym (verdict_sound r f) ∙ e in
+        let s = ap form_sound q in
+        let w : (finished r).sites ≡ a = ap (λ (z : Sound). z.sites) s in
+        let x : (finished r).triangles ≡ b = ap (λ (z : Sound). z.triangles) s in
+        let y : (finished r).hull ≡ c = ap (λ (z : Sound). z.hull) s in
+        let z : (finished r).clip ≡ k = ap (λ (z : Sound). z.clip) s in
         report_none (finished r) f ∙ rw (w, x, y, z)
 
-report_broken : (r : Reader) (m k : ℕ) → verdict r ≡ Broken m k → report_of (finished r) ≡ record { number = m; at = k; clip = 0; sites = 0; triangles = 0; hull = 0 }
+report_broken : (r : Reader) (m k : ℕ) → verdict r ≡ broken_of m k → report_of (finished r) ≡ record { number = m; at = k; clip = 0; sites = 0; triangles = 0; hull = 0 }
 report_broken r m k e = go (broken (finished r)) refl
   where
     go : (t : Bool) → broken (finished r) ≡ t → report_of (finished r) ≡ record { number = m; at = k; clip = 0; sites = 0; triangles = 0; hull = 0 }
     go false f = sound_broken (sym e ∙ verdict_sound r f)
     go true f =
-        let q : Broken (finished r).refusal (finished r).at ≡ Broken m k = sym (verdict_broken r f) ∙ e in
-        let v : (finished r).refusal ≡ m = cc in
-        let w : (finished r).at ≡ k = cc in
+        let q : broken_of (finished r).refusal (finished r).at ≡ broken_of m k = sym (verdict_broken r f) ∙ e in
+        let v : (finished r).refusal ≡ m = (broken_at _ _ _ _ q).0 in
+        let w : (finished r).at ≡ k = (broken_at _ _ _ _ q).1 in
         report_refused (finished r) f ∙ rw (v, w)
 
 -- every whole form with room is read or refused so

@@ -6,7 +6,7 @@ pub mod answers;
 pub mod standing;
 pub mod state;
 
-ghost use Rattle.std.specs.Prelude.{false, ◌≡◌, ◌≤◌, length, replicate};
+ghost use Rattle.std.specs.Prelude.{false, ◌≡◌, ◌≤◌, length};
 ghost use Rattle.form.specs.step.Reader.{start, takes};
 ghost use Rattle.form.specs.step.Holds.{ListRoom};
 ghost use Rattle.reader.specs.state.Entered.{entered};
@@ -43,23 +43,13 @@ fn roomy(bounds: &[f64], sites: &[f64], triangles: &[u32], halfedges: &[u32], hu
 
 // ---- begin
 
-fn clear(state: &mut [u64])
-    ensures { state.new ≡ replicate (length state.old) 0 }
-{
-    let mut i = 0;
-    while i < state.len() {
-        state[i] = 0;
-        i += 1;
-    }
-}
-
 pub fn begin(state: &mut [u64]) -> u32
     ensures { ReaderBegins state.old state.new result }
 {
     if state.len() < STATE_WORDS {
         return REFUSED_ROOM;
     }
-    clear(state);
+    state.fill(0);
     store(state, start(false));
     0
 }

@@ -11,12 +11,10 @@ use form::step::{Reader, refused, start};
 fn blank(words: &[u64]) -> bool
     ensures { result ≡ blank words.now }
 {
-    let mut i = 0;
-    while i < words.len() {
-        if words[i] != 0 {
+    for word in words {
+        if *word != 0 {
             return false;
         }
-        i += 1;
     }
     true
 }

@@ -58,10 +58,8 @@ fn main(rt: HostRuntime) {
         left: 0,
         rest: TWO,
     };
-    let mut i: u64 = 0;
-    while i < 53 {
-        i = i + 1;
-        page = row(&rt, i, page);
+    for i in 0..53 {
+        page = row(&rt, i + 1, page);
     }
     rounded(&rt);
 }

@@ -4,7 +4,7 @@
 
 ghost use Rattle.std.specs.Prelude.{◌<◌};
 
-use form::step::Form;
+use form::step::{Broken, Sound};
 
 fn number(rt: &impl Print, n: usize) {
     let _ = rt.write_all(b" ");
@@ -35,17 +35,12 @@ fn opened(rt: &impl Print, clip: u8) {
     }
 }
 
-fn say(rt: &impl Print, form: Form) {
+fn say(rt: &impl Print, form: Result<Sound, Broken>) {
     match form {
-        Form::Broken { number, at } => refused(rt, number, at),
-        Form::Sound {
-            sites,
-            triangles,
-            hull,
-            clip,
-        } => {
-            sound(rt, sites, triangles, hull);
-            opened(rt, clip);
+        Err(broken) => refused(rt, broken.number, broken.at),
+        Ok(form) => {
+            sound(rt, form.sites, form.triangles, form.hull);
+            opened(rt, form.clip);
         }
     }
 }
@@ -101,8 +96,9 @@ fn case(rt: &HostRuntime) -> bool {
 }
 
 fn main(rt: HostRuntime) {
-    let mut turns: u32 = 100000;
-    while turns > 0 && case(&rt) {
-        turns -= 1;
+    for _ in 0..100000 {
+        if !case(&rt) {
+            return;
+        }
     }
 }

@@ -294,10 +294,8 @@ fn each(rt: &HostRuntime, count: u32) -> Tally
         refused: 0,
         different: 0,
     };
-    let mut i = 0;
-    while i < count {
+    for i in 0..count {
         all = tallied(all, one(rt, i));
-        i += 1;
     }
     all
 }

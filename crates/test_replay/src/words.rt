@@ -95,20 +95,16 @@ fn bits_of(x: f64) -> u64
 pub fn load(b: &[u8], k: usize, l: &mut [u32])
     ensures { Loaded 0 (λ i. word_of b.now (after_of k i)) l.old l.new }
 {
-    let mut i = 0;
-    while i < l.len() {
+    for i in 0..l.len() {
         l[i] = word(b, after(k, i));
-        i += 1;
     }
 }
 
 pub fn load_floats(b: &[u8], k: usize, l: &mut [f64])
     ensures { Loaded nan (λ i. float_of (pattern_of b.now (place_of k i))) l.old l.new }
 {
-    let mut i = 0;
-    while i < l.len() {
+    for i in 0..l.len() {
         l[i] = float(b, after(after(k, i), i));
-        i += 1;
     }
 }
 
@@ -131,13 +127,6 @@ fn expected_bits(b: &[u8], k: usize, n: usize, i: usize, rest: u64) -> u64
     rest
 }
 
-// The one comparison.
-fn same(a: u64, b: u64) -> bool
-    ensures { Says result (a ≡ b) }
-{
-    a == b
-}
-
 // Whether l has the n words from k on, then `rest` to its end.
 pub fn holds(l: &[u32], b: &[u8], k: usize, n: usize, rest: u32) -> bool
     ensures { Says result (HasWords l.now b.now k n rest) }
@@ -145,12 +134,10 @@ pub fn holds(l: &[u32], b: &[u8], k: usize, n: usize, rest: u32) -> bool
     if l.len() < n {
         return false;
     }
-    let mut i = 0;
-    while i < l.len() {
-        if !same(wide(l[i]), wide(expected(b, k, n, i, rest))) {
+    for i in 0..l.len() {
+        if l[i] != expected(b, k, n, i, rest) {
             return false;
         }
-        i += 1;
     }
     true
 }
@@ -162,12 +149,10 @@ pub fn holds_floats(l: &[f64], b: &[u8], k: usize, n: usize, rest: u64) -> bool
     if l.len() < n {
         return false;
     }
-    let mut i = 0;
-    while i < l.len() {
-        if !same(bits_of(l[i]), expected_bits(b, k, n, i, rest)) {
+    for i in 0..l.len() {
+        if bits_of(l[i]) != expected_bits(b, k, n, i, rest) {
             return false;
         }
-        i += 1;
     }
     true
 }

@@ -11,7 +11,6 @@ ghost use Rattle.mesh.specs.Accepted.{mesh};
 ghost use Rattle.form.specs.mesh.Read.{MeshSized};
 ghost use Rattle.why.specs.Printed.{WhyOfMesh, FormReason, WhyPrints};
 
-use crate::site_words::Command;
 use crate::site_words::words::command_of;
 use form::{COORDINATES, HULL, LINKS};
 use plane::given::Given;
@@ -106,7 +105,7 @@ fn main(rt: HostRuntime) -> io::Result<()> {
     let n = host::arg(&rt, 1, &mut first);
     let m = host::arg(&rt, 2, &mut second);
     let command = command_of(host::arg_count(&rt), &first[..n], &second[..m]);
-    let Command::Ask(q) = command else {
+    let Some(q) = command else {
         return rt.stderr().write_all(b"usage: why [SITE [SITE]] <FORM\n");
     };
     print(&rt, q)

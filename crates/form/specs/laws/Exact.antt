@@ -12,26 +12,26 @@ use Rattle.form.specs.laws.Mesh.{complete}
 use Rattle.form.specs.laws.Cut.{Ended, CutOff, steps_append, body_there, cut_four_lem}
 use Rattle.form.specs.laws.Tail.{FewRecords, Tail, tail, refused_ends}
 use Rattle.form.specs.declared.step.Reader.{Reader}
-use Rattle.form.specs.declared.step.Form.TheVariants.{Sound, Broken}
+use Rattle.form.specs.step.Reader.{sound_of, broken_of}
 
 -- ---- accepted
 
-pub sound_broken : {A : Type 0} {a b c k n at : ℕ} → Broken n at ≡ Sound a b c k → A
+pub sound_broken : {A : Type 0} {a b c k n at : ℕ} → broken_of n at ≡ sound_of a b c k → A
 sound_broken e = let z : ◌≡◌ {A = ℕ} 0 1 = cc in absurd (omega arith)
 
-pub ended_of : (r : Reader) (a b c k : ℕ) → verdict r ≡ Sound a b c k → Ended r
+pub ended_of : (r : Reader) (a b c k : ℕ) → verdict r ≡ sound_of a b c k → Ended r
 unfolding verdict
 ended_of r a b c k e = go (broken r) (eqb r.stage 5) refl refl e
   where
     go :
         (t v : Bool) → broken r ≡ t → eqb r.stage 5 ≡ v
-        → pick t (λ _. Broken r.refusal r.at) (λ _. pick v (λ _. Sound r.sites r.triangles r.hull r.clip) (λ _. Broken refused_form r.at)) ≡ Sound a b c k
+        → pick t (λ _. broken_of r.refusal r.at) (λ _. pick v (λ _. sound_of r.sites r.triangles r.hull r.clip) (λ _. broken_of refused_form r.at)) ≡ sound_of a b c k
         → Ended r
     go true v p q f = sound_broken f
     go false false p q f = sound_broken f
     go false true p q f = record { unbroken = p; stage = eqb-true _ _ q }
 
-pub answer_ended : (r : Reader) → Ended r → verdict r ≡ Sound r.sites r.triangles r.hull r.clip
+pub answer_ended : (r : Reader) → Ended r → verdict r ≡ sound_of r.sites r.triangles r.hull r.clip
 unfolding verdict
 answer_ended r e = rw (e.unbroken, e.stage)
 

@@ -9,8 +9,8 @@ use Rattle.form.specs.step.Holds.{ListRoom, Few, Reads}
 use Rattle.form.specs.step.Standing.{Ok}
 use Rattle.form.specs.step.laws.Standing.{few_counts, ok_step}
 use Rattle.form.specs.declared.step.Reader.{Reader}
-use Rattle.form.specs.declared.step.Form.{Form}
-use Rattle.form.specs.declared.step.Form.TheVariants.{Sound, Broken}
+use Rattle.form.specs.step.Reader.{Form}
+use Rattle.form.specs.step.Reader.{sound_of, broken_of}
 
 abbrev pub RoomIn : Reading → Type 0
 RoomIn d = ListRoom d.bounds d.sites d.triangles d.halfedges d.hull
@@ -97,7 +97,7 @@ few_answer : (r : Reader) → Ok r → Few (verdict r)
 unfolding verdict
 few_answer r o = go (broken r) (eqb r.stage 5)
   where
-    go : (t u : Bool) → Few (pick t (λ _. Broken r.refusal r.at) (λ _. pick u (λ _. Sound r.sites r.triangles r.hull r.clip) (λ _. Broken refused_form r.at)))
+    go : (t u : Bool) → Few (pick t (λ _. broken_of r.refusal r.at) (λ _. pick u (λ _. sound_of r.sites r.triangles r.hull r.clip) (λ _. broken_of refused_form r.at)))
     go true u = tt
     go false true = few_counts o
     go false false = tt

@@ -16,7 +16,7 @@ use Rattle.form.specs.Form.{hull_bytes, form_of, outline_floats, site_floats, tr
 use Rattle.form.specs.step.Reader.{opens, room_left, start, begun, Reading, reading, takes, verdict}
 use Rattle.form.specs.laws.Run.{AtRecord, Goes, Opening, ready_up, takes_append, kind_follows, kind_run, site_run, triangle_run, hull_run, opening}
 use Rattle.form.specs.declared.step.Reader.{Reader}
-use Rattle.form.specs.declared.step.Form.TheVariants.{Sound}
+use Rattle.form.specs.step.Reader.{sound_of}
 
 -- ---- runs, one after the other
 
@@ -164,14 +164,14 @@ module _ (r : Reader) (bs ss : List Float) (ts es hs : List ℕ) where
 
 -- what the lists and the answer are once the form of m is read
 pub record WholeRead (m : FormMesh) (bs ss : List Float) (ts es hs : List ℕ) (d : Reading) : Type 0 where
-  pub answer : verdict d.reader ≡ Sound (length m.sites) (length m.triangles) (length m.hull) (kind_of m.clip)
+  pub answer : verdict d.reader ≡ sound_of (length m.sites) (length m.triangles) (length m.hull) (kind_of m.clip)
   pub bounds : d.bounds ≡ sets bs 0 (outline_floats m.clip)
   pub sites : d.sites ≡ sets ss 0 (each site_floats m.sites)
   pub triangles : d.triangles ≡ sets ts 0 (each triangle_sites m.triangles)
   pub halfedges : d.halfedges ≡ sets es 0 (each triangle_pairs m.triangles)
   pub hull : d.hull ≡ sets hs 0 m.hull
 
-ended : (r : Reader) (a b c k : ℕ) → r.sites ≡ a → r.triangles ≡ b → r.hull ≡ c → r.clip ≡ k → verdict (begun r 5) ≡ Sound a b c k
+ended : (r : Reader) (a b c k : ℕ) → r.sites ≡ a → r.triangles ≡ b → r.hull ≡ c → r.clip ≡ k → verdict (begun r 5) ≡ sound_of a b c k
 unfolding verdict begun opens
 ended r a b c k p q s t = cc
 

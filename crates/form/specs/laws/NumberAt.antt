@@ -20,7 +20,7 @@ use Rattle.form.specs.laws.Tail.{after_end, refused_ends}
 use Rattle.form.specs.laws.Exact.{sound_broken, accepts, only_forms}
 use Rattle.form.specs.laws.Place.{SomeStop, stop, taken_all, five_ends, bytes_both, broken_at}
 use Rattle.form.specs.declared.step.Reader.{Reader}
-use Rattle.form.specs.declared.step.Form.TheVariants.{Sound, Broken}
+use Rattle.form.specs.step.Reader.{sound_of, broken_of}
 
 no_bytes : (s : List ℕ) → length s ≡ 0 → s ≡ []
 no_bytes [] e = refl
@@ -99,14 +99,14 @@ number_unended old s e =
     let k : (steps (start old) s).at ≡ length s = omega (arith, taken_all s (start old) refl e) in
     rw k (record { six = λ g. absurd (omega (arith, past s, g.0)); other = λ n. refl })
 
-pub number_at : (old : Bool) (s : List ℕ) → Bytes s → (n k : ℕ) → verdict (steps (start old) s) ≡ Broken n k → NumberAt old s k n
+pub number_at : (old : Bool) (s : List ℕ) → Bytes s → (n k : ℕ) → verdict (steps (start old) s) ≡ broken_of n k → NumberAt old s k n
 unfolding verdict
 number_at old s h n k e = go (broken (steps (start old) s)) (eqb (steps (start old) s).stage 5) refl e
   where
     go :
         (t u : Bool) → broken (steps (start old) s) ≡ t
         → (let r = steps (start old) s in
-        pick t (λ _. Broken r.refusal r.at) (λ _. pick u (λ _. Sound r.sites r.triangles r.hull r.clip) (λ _. Broken refused_form r.at)) ≡ Broken n k)
+        pick t (λ _. broken_of r.refusal r.at) (λ _. pick u (λ _. sound_of r.sites r.triangles r.hull r.clip) (λ _. broken_of refused_form r.at)) ≡ broken_of n k)
         → NumberAt old s k n
     go true u p f = let i = broken_at _ _ _ _ f in rw (sym i.1, sym i.0) (number_refused old s h p)
     go false true p f = sound_broken (sym f)

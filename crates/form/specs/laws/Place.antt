@@ -18,7 +18,8 @@ use Rattle.form.specs.laws.Run.{kind_follows}
 use Rattle.form.specs.laws.Cut.{Ended, steps_append, steps_broken, true_false, partway}
 use Rattle.form.specs.laws.Exact.{sound_broken, accepts, only_forms}
 use Rattle.form.specs.declared.step.Reader.{Reader}
-use Rattle.form.specs.declared.step.Form.TheVariants.{Sound, Broken}
+use Rattle.form.specs.step.Reader.{sound_of, broken_of}
+use Rattle.form.specs.step.Holds.{form_number, form_place}
 use Rattle.form.specs.Place.{StartsForm, Place}
 
 -- ---- where a run is refused
@@ -199,17 +200,17 @@ unended_place old s h e d =
       ended = λ l f. d (accepts old s f).stage;
     })
 
-pub broken_at : (m n a b : ℕ) → Broken m a ≡ Broken n b → (m ≡ n) × (a ≡ b)
-broken_at m n a b e = (cc, cc)
+pub broken_at : (m n a b : ℕ) → broken_of m a ≡ broken_of n b → (m ≡ n) × (a ≡ b)
+broken_at m n a b e = (ap form_number e, ap form_place e)
 
-pub refused_at_lem : (old : Bool) (s : List ℕ) → Bytes s → (n k : ℕ) → verdict (steps (start old) s) ≡ Broken n k → Place old s k
+pub refused_at_lem : (old : Bool) (s : List ℕ) → Bytes s → (n k : ℕ) → verdict (steps (start old) s) ≡ broken_of n k → Place old s k
 unfolding verdict
 refused_at_lem old s h n k e = go (broken (steps (start old) s)) (eqb (steps (start old) s).stage 5) refl refl e
   where
     go :
         (t u : Bool) → broken (steps (start old) s) ≡ t → eqb (steps (start old) s).stage 5 ≡ u
         → (let r = steps (start old) s in
-        pick t (λ _. Broken r.refusal r.at) (λ _. pick u (λ _. Sound r.sites r.triangles r.hull r.clip) (λ _. Broken refused_form r.at)) ≡ Broken n k)
+        pick t (λ _. broken_of r.refusal r.at) (λ _. pick u (λ _. sound_of r.sites r.triangles r.hull r.clip) (λ _. broken_of refused_form r.at)) ≡ broken_of n k)
         → Place old s k
     go true u p q f = subst (Place old s) (broken_at _ _ _ _ f).1 (refused_place old s h p)
     go false true p q f = sound_broken (sym f)

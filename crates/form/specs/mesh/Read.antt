@@ -1,5 +1,5 @@
 -- What a form's bytes are as lent lists: the mesh whose form they are, at the beginning of each list, with its box; or the number of a refusal. Definitions only.
-use Rattle.std.specs.Prelude.{◌≡◌, Bool, false, List, ◌≢◌, ℕ, ◌*◌, ◌≤◌, Float, length, take}
+use Rattle.std.specs.Prelude.{◌≡◌, Ok, Err, Bool, false, List, ◌≢◌, ℕ, ◌*◌, ◌≤◌, Float, length, take}
 use Rattle.plane.specs.points.Plane.{at}
 use Rattle.plane.specs.given.Given.{by_size, by_edges}
 use Rattle.plane.specs.given.Finite.{Fits}
@@ -9,8 +9,7 @@ use Rattle.form.specs.Limits.{most_hull, most_coordinates, most_links}
 use Rattle.form.specs.Form.{Outline, box, unclipped, edges, FormMesh, MeshFits, MayBegin, form_of, float, site_floats, triangle_sites, triangle_pairs, kind_of}
 use Rattle.form.specs.Place.{Place, NumberAt}
 use Rattle.form.specs.boxes.FormBox.{box_by}
-use Rattle.form.specs.declared.step.Form.{Form}
-use Rattle.form.specs.declared.step.Form.TheVariants.{Sound, Broken}
+use Rattle.form.specs.step.Reader.{Form}
 use Rattle.form.specs.declared.mesh.MeshParts.{MeshParts}
 
 -- g is the box that a first record gives; the word that there is none gives none
@@ -28,8 +27,8 @@ pub record MeshRoom (ss : List Float) (ts es hs : List ℕ) : Type 0 where
 
 -- by the reader's answer and the four numbers that stood in the first record
 abbrev pub mesh_parts : Form → List Float → MeshParts
-mesh_parts (Sound s t h k) bs = record { number = 0; kind = k; given = box_by k bs; coordinates = 2 * s; links = 3 * t; hull = h }
-mesh_parts (Broken n k) bs = record { number = n; kind = 0; given = box_by 0 bs; coordinates = 0; links = 0; hull = 0 }
+mesh_parts (Ok s) bs = record { number = 0; kind = s.clip; given = box_by s.clip bs; coordinates = 2 * s.sites; links = 3 * s.triangles; hull = s.hull }
+mesh_parts (Err b) bs = record { number = b.number; kind = 0; given = box_by 0 bs; coordinates = 0; links = 0; hull = 0 }
 
 -- lists of at most so many entries
 pub record MeshSized (coordinates links hull : ℕ) : Type 0 where

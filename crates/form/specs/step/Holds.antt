@@ -1,9 +1,9 @@
 -- What the functions ask of the lent lists, and what they promise of them.
-use Rattle.std.specs.Prelude.{List, ◌≡◌, ℕ, ◌≤◌, Float, length}
+use Rattle.std.specs.Prelude.{Ok, Err, List, ◌≡◌, ℕ, ◌≤◌, Float, length}
 use Rattle.form.specs.Limits.{most_sites, most_triangles, most_hull, most_coordinates, most_links}
 use Rattle.form.specs.step.Reader.{Reading, takes, verdict}
-use Rattle.form.specs.declared.step.Form.{Form}
-use Rattle.form.specs.declared.step.Form.TheVariants.{Sound, Broken}
+use Rattle.form.specs.step.Reader.{Form}
+use Rattle.form.specs.declared.step.Sound.{Sound}
 
 pub record ListRoom (bs ss : List Float) (ts es hs : List ℕ) : Type 0 where
   pub bounds : 4 ≤ length bs
@@ -14,13 +14,23 @@ pub record ListRoom (bs ss : List Float) (ts es hs : List ℕ) : Type 0 where
 
 -- the counts of a sound form are within their limits
 abbrev pub Few : Form → Type 0
-Few (Sound ss ts hs k) = (ss ≤ most_sites) × (ts ≤ most_triangles) × (hs ≤ most_hull)
-Few (Broken number at) = Unit {0}
+Few (Ok s) = (s.sites ≤ most_sites) × (s.triangles ≤ most_triangles) × (s.hull ≤ most_hull)
+Few (Err b) = Unit {0}
 
 -- the number of a refused form, 0 for a sound one
 abbrev pub form_number : Form → ℕ
-form_number (Sound ss ts hs k) = 0
-form_number (Broken number at) = number
+form_number (Ok s) = 0
+form_number (Err b) = b.number
+
+-- what is known of a sound form; nothing of a refused one
+abbrev pub form_sound : Form → Sound
+form_sound (Ok s) = s
+form_sound (Err b) = record { sites = 0; triangles = 0; hull = 0; clip = 0 }
+
+-- the byte of its refusal, 0 for a sound one
+abbrev pub form_place : Form → ℕ
+form_place (Ok s) = 0
+form_place (Err b) = b.at
 
 -- `read`'s promise: its answer, and each list as the whole form leaves it
 pub record Reads (s : List ℕ) (d : Reading) (a : Form) (bs ss : List Float) (ts es hs : List ℕ) : Type 0 where

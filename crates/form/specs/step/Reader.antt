@@ -1,5 +1,5 @@
 -- The form's reader, byte for byte: a state, the step that one byte takes it by, and what the lent lists hold after that. Definitions only.
-use Rattle.std.specs.Prelude.{Bool, true, false, List, [], ◌∷◌, ℕ, ◌+◌, ◌-◌, ◌*◌, ◌/◌, ◌%◌, ◌^◌, eqb, ltb, Float, set}
+use Rattle.std.specs.Prelude.{Result, Ok, Err, Bool, true, false, List, [], ◌∷◌, ℕ, ◌+◌, ◌-◌, ◌*◌, ◌/◌, ◌%◌, ◌^◌, eqb, ltb, Float, set}
 use Rattle.std.specs.Float.{binary64}
 use Rattle.std.specs.Float.Ieee.{of_bits}
 use Rattle.base.specs.common.Pick.{pick}
@@ -7,8 +7,8 @@ use Rattle.base.specs.numbers.Numbers.{refused_form, refused_unclipped}
 use Rattle.form.specs.Limits.{most_sites, most_triangles, most_hull}
 use Rattle.form.specs.step.Register.{shift}
 use Rattle.form.specs.declared.step.Reader.{Reader}
-use Rattle.form.specs.declared.step.Form.{Form}
-use Rattle.form.specs.declared.step.Form.TheVariants.{Sound, Broken}
+use Rattle.form.specs.declared.step.Sound.{Sound}
+use Rattle.form.specs.declared.step.Broken.{Broken}
 
 -- ---- kinds
 
@@ -128,10 +128,20 @@ steps r (b ∷ s) = steps (step r b) s
 unfoldable pub finished : Reader → Reader
 finished r = pick (broken r) (λ _. r) (λ _. pick (eqb r.stage 5) (λ _. r) (λ _. refused r refused_form))
 
+-- what is told of a form: a sound one's counts and the kind that opened it, or the number of its refusal and the byte
+abbrev pub Form : Type 0
+Form = Result Sound Broken
+
+abbrev pub sound_of : ℕ → ℕ → ℕ → ℕ → Form
+sound_of sites triangles hull clip = Ok (record { sites = sites; triangles = triangles; hull = hull; clip = clip })
+
+abbrev pub broken_of : ℕ → ℕ → Form
+broken_of number at = Err (record { number = number; at = at })
+
 unfoldable pub verdict : Reader → Form
 verdict r =
-    pick (broken r) (λ _. Broken r.refusal r.at)
-    (λ _. pick (eqb r.stage 5) (λ _. Sound r.sites r.triangles r.hull r.clip) (λ _. Broken refused_form r.at))
+    pick (broken r) (λ _. broken_of r.refusal r.at)
+    (λ _. pick (eqb r.stage 5) (λ _. sound_of r.sites r.triangles r.hull r.clip) (λ _. broken_of refused_form r.at))
 
 -- ---- the lent lists
 

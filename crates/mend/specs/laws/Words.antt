@@ -1,10 +1,9 @@
 -- Two texts are the same exactly where their bytes are; what the arguments ask for, by how many there are.
-use Rattle.std.specs.Prelude.{◌≡◌, refl, Bool, true, false, ◌&&◌, List, [], ◌∷◌, ◌≢◌, ℕ, ◌≤◌, ◌<◌, eqb}
+use Rattle.std.specs.Prelude.{◌≡◌, refl, None, Bool, true, false, ◌&&◌, List, [], ◌∷◌, ◌≢◌, ℕ, ◌≤◌, ◌<◌, eqb}
 use Rattle.std.proofs.Common.{sym, ap₂, subst, arith}
 use borrow.Author.Tests.{eq-eqb, ne_eqb, lt-ltb, le-ltb, eqb-true}
 use Rattle.printing.specs.parts.Text.{ascii}
 use Rattle.mend.specs.Printed.{same_bytes, is_option, way_if, way_of}
-use Rattle.mend.specs.declared.Way.TheVariants.{Print, Usage}
 
 same_refl : (s : List ℕ) → same_bytes s s ≡ true
 same_refl [] = refl
@@ -32,7 +31,7 @@ told s t false p q = go (same_bytes s t) refl
 -- ---- the arguments
 
 module _ (count : ℕ) (first label digits : List ℕ) where
-  pub no_words : count < 2 → way_of count first label digits ≡ Print false false
+  pub no_words : count < 2 → way_of count first label digits ≡ way_if true false false
   unfolding way_of
   no_words h = rw (lt-ltb count 2 h)
 
@@ -48,6 +47,6 @@ module _ (count : ℕ) (first label digits : List ℕ) where
   unfolding way_of
   three_words h = rw h
 
-  pub more_words : 2 ≤ count → count ≢ 2 → count ≢ 3 → count ≢ 4 → way_of count first label digits ≡ Usage
+  pub more_words : 2 ≤ count → count ≢ 2 → count ≢ 3 → count ≢ 4 → way_of count first label digits ≡ None
   unfolding way_of
   more_words h a b c = rw (le-ltb count 2 h, ne_eqb count 2 a, ne_eqb count 3 b, ne_eqb count 4 c)

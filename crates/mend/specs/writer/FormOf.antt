@@ -8,8 +8,8 @@ use Rattle.octets.specs.Bytes.{each}
 use Rattle.form.specs.Form.{Outline, Site, FormMesh, MeshFits, MayBegin, form_of, outline_bytes, site_bytes, triangle_bytes, hull_bytes, outline_floats, site_floats, triangle_sites, triangle_pairs, kind_of}
 use Rattle.form.specs.step.Reader.{start, reading, takes}
 use Rattle.form.specs.step.Holds.{Reads}
-use Rattle.form.specs.declared.step.Form.{Form}
-use Rattle.form.specs.declared.step.Form.TheVariants.{Sound}
+use Rattle.form.specs.step.Reader.{Form}
+use Rattle.form.specs.step.Reader.{sound_of}
 use Rattle.form.specs.laws.Lists.{each_length}
 use Rattle.form.specs.laws.Mesh.{WholeRead, complete}
 use Rattle.mend.specs.writer.Written.{triangles_of, triangle_records, lists, written_form}
@@ -22,7 +22,7 @@ mesh_with clip ss tri he hull = record { clip = clip; sites = ss; triangles = tr
 -- what a reader of bytes answers and leaves in lists that were bs to hs, where it finds this first record, these sites and these lists
 pub record ReadAs (clip : Outline) (ps : List Site) (tri he round : List ℕ) (bs ss : List Float) (ts es hs : List ℕ) (a : Form)
     (bs' ss' : List Float) (ts' es' hs' : List ℕ) : Type 0 where
-  pub answer : a ≡ Sound (length ps) (length tri / 3) (length round) (kind_of clip)
+  pub answer : a ≡ sound_of (length ps) (length tri / 3) (length round) (kind_of clip)
   pub bounds : bs' ≡ sets bs 0 (outline_floats clip)
   pub sites : ss' ≡ sets ss 0 (each site_floats ps)
   pub triangles : ts' ≡ sets ts 0 tri
@@ -70,7 +70,7 @@ module _ (clip : Outline) (ps : List Site) (tri he hull : List ℕ) where
     read_back {old} {bs} {ss} {ts} {es} {hs} fits i r =
         let w : WholeRead mesh bs ss ts es hs (takes (reading (start old) bs ss ts es hs) bytes) = rw writes_form (complete bs ss ts es hs old mesh fits i) in
         record {
-          answer = r.answer ∙ w.answer ∙ ap (λ (k : ℕ). Sound (length ps) k (length hull) (kind_of clip)) (triangles_count tri he (length tri / 3) 0);
+          answer = r.answer ∙ w.answer ∙ ap (λ (k : ℕ). sound_of (length ps) k (length hull) (kind_of clip)) (triangles_count tri he (length tri / 3) 0);
           bounds = r.bounds ∙ w.bounds;
           sites = r.sites ∙ w.sites;
           triangles = r.triangles ∙ w.triangles ∙ ap (sets ts 0) sites_back;

@@ -2,7 +2,6 @@
 ghost use Rattle.std.specs.Prelude.{◌≡◌};
 ghost use Rattle.why.specs.site_words.Words.{is_digit, site_word, ask_one, ask_two, command_of};
 
-use crate::site_words::{Command, Word};
 use reasons::Question;
 
 const TOP: u64 = 0x1_0000_0000;
@@ -16,61 +15,47 @@ fn is_digit(c: u8) -> bool
     c <= 57
 }
 
-fn read_word(word: &[u8]) -> Word
+// A word as a site's number, if it is one.
+fn read_word(word: &[u8]) -> Option<u32>
     ensures { result ≡ site_word word.now }
 {
-    if word.len() == 0 {
-        return Word::Other;
+    if word.is_empty() {
+        return None;
     }
     let mut v: u64 = 0;
-    let mut i = 0;
-    while i < word.len() {
-        let c = word[i];
-        if !is_digit(c) {
-            return Word::Other;
+    for c in word {
+        if !is_digit(*c) {
+            return None;
         }
-        v = v * 10 + (c - 48) as u64;
+        v = v * 10 + (*c - 48) as u64;
         if v >= TOP {
-            return Word::Other;
+            return None;
         }
-        i += 1;
     }
-    Word::Site(v as u32)
+    Some(v as u32)
 }
 
-fn ask_one(a: Word) -> Command
+fn ask_one(a: Option<u32>) -> Option<Question>
     ensures { result ≡ ask_one a }
 {
-    match a {
-        Word::Site(s) => Command::Ask(Question::About(s)),
-        Word::Other => Command::Usage,
-    }
+    Some(Question::About(a?))
 }
 
-fn ask_two(a: Word, b: Word) -> Command
+fn ask_two(a: Option<u32>, b: Option<u32>) -> Option<Question>
     ensures { result ≡ ask_two a b }
 {
-    let Word::Site(s) = a else {
-        return Command::Usage;
-    };
-    let Word::Site(t) = b else {
-        return Command::Usage;
-    };
-    Command::Ask(Question::Between(s, t))
+    Some(Question::Between(a?, b?))
 }
 
-// By how many words there are, the program's own name among them, and the two after it.
-pub fn command_of(count: usize, first: &[u8], second: &[u8]) -> Command
+// What is asked, if the program takes the words: by how many there are, its own name among them, and the two after it.
+#[tactic(auto, unfolding(crate::specs::site_words::Words::command_of))]
+pub fn command_of(count: usize, first: &[u8], second: &[u8]) -> Option<Question>
     ensures { result ≡ command_of count first.now second.now }
 {
-    if count < 2 {
-        return Command::Ask(Question::Nothing);
+    match count {
+        0 | 1 => Some(Question::Nothing),
+        2 => ask_one(read_word(first)),
+        3 => ask_two(read_word(first), read_word(second)),
+        _ => None,
     }
-    if count == 2 {
-        return ask_one(read_word(first));
-    }
-    if count != 3 {
-        return Command::Usage;
-    }
-    ask_two(read_word(first), read_word(second))
 }

@@ -52,11 +52,6 @@ cell_line-end-requires c =
     subst (λ (z : List ℕ). HasRoom c.loop-i.out c.loop-i.end (cell_line c.loop-i.i z)) (sym part)
     (line_fits _ c.loop-i.invariant turn (zero-add c.loop-i.i) (subst (HasRoom a.out.now a.at) (lines_are a.offsets.now a.cells.now a.sites 0) c.requires.1))
 
-pub overflow_add-i-in-loop-i : goal.overflow_add-i-in-loop-i
-overflow_add-i-in-loop-i c =
-    let turn : c.loop-i.i < c.args.sites = c.loop-i-test.true in
-    omega (arith, c.requires.0.few, turn)
-
 pub loop-i-preserved : goal.loop-i-preserved
 loop-i-preserved c =
     let turn : c.loop-i.i < c.args.sites = c.loop-i-test.true in

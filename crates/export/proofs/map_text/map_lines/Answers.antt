@@ -58,11 +58,6 @@ cell_line-end-requires c =
           (subst (HasRoom c.args.out.now c.args.at) (lines_are ((patterns c.args.vertices.now)) c.args.offsets.now c.args.indexes.now c.args.sites 0) c.requires.1),
     )
 
-pub overflow_add-i-in-loop-i : goal.overflow_add-i-in-loop-i
-overflow_add-i-in-loop-i c =
-    let turn : c.loop-i.i < c.args.sites = c.loop-i-test.true in
-    omega (arith, c.requires.0.layout.few, turn)
-
 pub loop-i-preserved : goal.loop-i-preserved
 loop-i-preserved c =
     let turn : c.loop-i.i < c.args.sites = c.loop-i-test.true in

@@ -1,5 +1,5 @@
 -- What the reader leaves in its lists is the mesh of the form, or a refusal with its number.
-use Rattle.std.specs.Prelude.{◌≡◌, refl, Bool, false, List, ◌≢◌, ℕ, ◌≤◌, Float, length}
+use Rattle.std.specs.Prelude.{Ok, Err, ◌≡◌, refl, Bool, false, List, ◌≢◌, ℕ, ◌≤◌, Float, length}
 use Rattle.std.proofs.Common.{sym, ◌∙◌, subst, ⊎_elim, arith}
 use Rattle.std.proofs.lemmas.List.Edits.{sets}
 use Rattle.base.specs.common.laws.Stores.{sets_all}
@@ -14,8 +14,8 @@ use Rattle.form.specs.step.Reader.{start, reading}
 use Rattle.form.specs.step.Holds.{ListRoom, Few, Reads}
 use Rattle.form.specs.laws.Lists.{Put, sites_are, tri_is, he_is, hull_is}
 use Rattle.form.specs.mesh.Read.{BoxOf, mesh_parts, MeshSized, HoldsMesh, MeshRead}
-use Rattle.form.specs.declared.step.Form.{Form}
-use Rattle.form.specs.declared.step.Form.TheVariants.{Sound, Broken}
+use Rattle.form.specs.step.Reader.{Form}
+use Rattle.form.specs.step.Reader.{sound_of}
 
 -- every number of a refusal is some number
 number_some : {old : Bool} {s : List ℕ} {k n : ℕ} → NumberAt old s k n → n ≢ 0
@@ -30,17 +30,17 @@ module _ (bs bs' : List Float) (room : 4 ≤ length bs) where
 
 -- the counts of a form are within their limits
 sized : (a : Form) (bs : List Float) → Few a → MeshSized (mesh_parts a bs).coordinates (mesh_parts a bs).links (mesh_parts a bs).hull
-sized (Sound n t h k) bs f = record { few_sites = omega (arith, f.0); few_triangles = omega (arith, f.1); few_on_hull = f.2 }
-sized (Broken n k) bs f = record { few_sites = omega arith; few_triangles = omega arith; few_on_hull = omega arith }
+sized (Ok s) bs f = record { few_sites = omega (arith, f.0); few_triangles = omega (arith, f.1); few_on_hull = f.2 }
+sized (Err b) bs f = record { few_sites = omega arith; few_triangles = omega arith; few_on_hull = omega arith }
 
 fits : (a : Form) (bs : List Float) → Fits (mesh_parts a bs).given
-fits (Sound n t h k) bs = box_fits k bs
-fits (Broken n k) bs = box_fits 0 bs
+fits (Ok s) bs = box_fits s.clip bs
+fits (Err b) bs = box_fits 0 bs
 
 -- the lists after a mesh was read into them
 pub holds_mesh :
     {bs ss : List Float} {ts es hs : List ℕ} {a : Form} {bs' ss' : List Float} {ts' es' hs' : List ℕ} (m : FormMesh) → MeshFits m
-    → a ≡ Sound (length m.sites) (length m.triangles) (length m.hull) (kind_of m.clip) → ListRoom bs ss ts es hs → Put m bs ss ts es hs bs' ss' ts' es' hs'
+    → a ≡ sound_of (length m.sites) (length m.triangles) (length m.hull) (kind_of m.clip) → ListRoom bs ss ts es hs → Put m bs ss ts es hs bs' ss' ts' es' hs'
     → HoldsMesh (mesh_parts a bs') m ss' ts' es' hs'
 holds_mesh {bs = bs} {bs' = bs'} m f q room p =
     rw q (record {

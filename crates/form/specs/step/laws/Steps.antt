@@ -7,7 +7,7 @@ use Rattle.base.specs.numbers.Numbers.{refused_form, refused_unclipped}
 use Rattle.form.specs.Limits.{most_sites, most_triangles, most_hull}
 use Rattle.form.specs.step.Reader.{opens, room_left, follows, number_for, refused, inside, outside, step, within, broken, finished, verdict}
 use Rattle.form.specs.declared.step.Reader.{Reader}
-use Rattle.form.specs.declared.step.Form.TheVariants.{Sound, Broken}
+use Rattle.form.specs.step.Reader.{sound_of, broken_of}
 
 pub by_test : (t : Bool) (a b : Bool) → pick t (λ _. a) (λ _. b) ≡ true → ((t ≡ true) × (a ≡ true)) ⊎ ((t ≡ false) × (b ≡ true))
 by_test true a b e = inl (refl, e)
@@ -91,29 +91,29 @@ number_broken r b = go (eqb b 6) (ltb r.stage 5)
 
 -- ---- what is told
 
-pub verdict_broken : (r : Reader) → broken (finished r) ≡ true → verdict r ≡ Broken (finished r).refusal (finished r).at
+pub verdict_broken : (r : Reader) → broken (finished r) ≡ true → verdict r ≡ broken_of (finished r).refusal (finished r).at
 unfolding verdict finished refused
 verdict_broken r e = go (broken r) (eqb r.stage 5) refl e
   where
     go :
         (t u : Bool) → broken r ≡ t
         → broken (pick t (λ _. r) (λ _. pick u (λ _. r) (λ _. refused r refused_form))) ≡ true
-        → pick t (λ _. Broken r.refusal r.at) (λ _. pick u (λ _. Sound r.sites r.triangles r.hull r.clip) (λ _. Broken refused_form r.at))
-        ≡ (let n = pick t (λ _. r) (λ _. pick u (λ _. r) (λ _. refused r refused_form)) in Broken n.refusal n.at)
+        → pick t (λ _. broken_of r.refusal r.at) (λ _. pick u (λ _. sound_of r.sites r.triangles r.hull r.clip) (λ _. broken_of refused_form r.at))
+        ≡ (let n = pick t (λ _. r) (λ _. pick u (λ _. r) (λ _. refused r refused_form)) in broken_of n.refusal n.at)
     go true u p q = refl
     go false true p q = never (sym p ∙ q)
     go false false p q = refl
 
 pub verdict_sound : (r : Reader) → broken (finished r) ≡ false
-    → verdict r ≡ Sound (finished r).sites (finished r).triangles (finished r).hull (finished r).clip
+    → verdict r ≡ sound_of (finished r).sites (finished r).triangles (finished r).hull (finished r).clip
 unfolding verdict finished refused
 verdict_sound r e = go (broken r) (eqb r.stage 5) refl e
   where
     go :
         (t u : Bool) → broken r ≡ t
         → broken (pick t (λ _. r) (λ _. pick u (λ _. r) (λ _. refused r refused_form))) ≡ false
-        → pick t (λ _. Broken r.refusal r.at) (λ _. pick u (λ _. Sound r.sites r.triangles r.hull r.clip) (λ _. Broken refused_form r.at))
-        ≡ (let n = pick t (λ _. r) (λ _. pick u (λ _. r) (λ _. refused r refused_form)) in Sound n.sites n.triangles n.hull n.clip)
+        → pick t (λ _. broken_of r.refusal r.at) (λ _. pick u (λ _. sound_of r.sites r.triangles r.hull r.clip) (λ _. broken_of refused_form r.at))
+        ≡ (let n = pick t (λ _. r) (λ _. pick u (λ _. r) (λ _. refused r refused_form)) in sound_of n.sites n.triangles n.hull n.clip)
     go true u p q = never (sym q ∙ p)
     go false true p q = refl
     go false false p q = never (sym q)

@@ -96,13 +96,6 @@ bounds-changes-k-in-loop-i-2 c =
     let inside : 3 * ((c.args.from) + (c.loop-i.i)) + 3 ≤ length c.args.changes.now = omega (arith, turn, c.requires.0) in
     omega (arith, inside)
 
-pub overflow_add-i : goal.overflow_add-i
-overflow_add-i c =
-    let turn : c.loop-i.i < c.args.count = c.loop-i-test.true in
-    let inside : 3 * ((c.args.from) + (c.loop-i.i)) + 3 ≤ length c.args.changes.now = omega (arith, turn, c.requires.0) in
-    let bytes : (3 * ((c.args.from) + (c.loop-i.i)) + 3) * 4 < 18446744073709551616 = omega (arith, inside, c.well_formed.1.1.1.0.1) in
-    omega (arith, bytes)
-
 pub loop-i-smaller : goal.loop-i-smaller
 loop-i-smaller c =
     let turn : c.loop-i.i < c.args.count = c.loop-i-test.true in

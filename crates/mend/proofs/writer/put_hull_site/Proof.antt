@@ -24,7 +24,7 @@ returns : tie.Need-returns
 returns c =
     let at-put-le = c in
     let a = at-put-le.args in
-    wrote_then (wrote_one a.out.now a.at 4) (wrote_as at-put-le.put_le.ensures (ap (le 4) at-put-le.widest.ensures))
+    wrote_then (wrote_one a.out.now a.at 4) (wrote_as at-put-le.put_le.ensures (ap (le 4) at-put-le.from.ensures))
 
 pub put_hull_site_spec : {M : Type 1} → statement M
 put_hull_site_spec = tie.close (tie.spec slice_write-out (λ c. search rules) (λ c κs. search rules) put_le-requires same_length returns)

@@ -1,12 +1,10 @@
 -- A number read digit by digit; and what the arguments ask for, case by case.
-use Rattle.std.specs.Prelude.{◌≡◌, refl, Bool, true, false, ◌&&◌, List, [], ◌∷◌, ◌≢◌, ℕ, zero, suc, ◌+◌, ◌-◌, ◌*◌, ◌≤◌, ◌<◌, leb, length, get_or, drop}
+use Rattle.std.specs.Prelude.{◌≡◌, refl, Some, None, Bool, true, false, ◌&&◌, List, [], ◌∷◌, ◌≢◌, ℕ, zero, suc, ◌+◌, ◌-◌, ◌*◌, ◌≤◌, ◌<◌, leb, length, get_or, drop}
 use Rattle.std.proofs.Common.{sym, ap, ◌∙◌, arith, add-one}
 use borrow.Author.Tests.{eq-eqb, ne_eqb, lt-ltb, le-ltb, le-leb, lt-leb, leb-true}
 use Rattle.base.specs.common.Pick.{pick}
 use Rattle.printing.specs.parts.Text.{value}
 use Rattle.reasons.specs.declared.Question.TheVariants.{Nothing}
-use Rattle.why.specs.declared.site_words.Word.TheVariants.{Site, Other}
-use Rattle.why.specs.declared.site_words.Command.TheVariants.{Ask, Usage}
 use Rattle.why.specs.site_words.Words.{is_digit, all_digits, number_from, site_word, ask_one, ask_two, command_of}
 
 -- ---- a digit
@@ -37,7 +35,7 @@ value_least : (v : ℕ) (s : List ℕ) → v ≤ value v s
 value_least v [] = omega arith
 value_least v (c ∷ s) = omega (arith, value_least (v * 10 + (c - 48)) s)
 
-pub number_other : (v c : ℕ) (s : List ℕ) → is_digit c ≡ false → number_from v (c ∷ s) ≡ Other
+pub number_other : (v c : ℕ) (s : List ℕ) → is_digit c ≡ false → number_from v (c ∷ s) ≡ None
 unfolding number_from
 number_other v c s h = rw h
 
@@ -45,19 +43,19 @@ pub number_next : (v c : ℕ) (s : List ℕ) → is_digit c ≡ true → number_
 unfolding number_from
 number_next v c s h = rw h
 
-pub number_large : (v : ℕ) (s : List ℕ) → 4294967296 ≤ v → number_from v s ≡ Other
+pub number_large : (v : ℕ) (s : List ℕ) → 4294967296 ≤ v → number_from v s ≡ None
 unfolding number_from
 number_large v s h = rw (le-ltb (value v s) 4294967296 (omega (arith, value_least v s))) (go (all_digits s))
   where
-    go : (x : Bool) → pick (x && false) (λ _. Site (value v s)) (λ _. Other) ≡ Other
+    go : (x : Bool) → pick (x && false) (λ _. Some (value v s)) (λ _. None) ≡ None
     go true = refl
     go false = refl
 
-pub number_end : (v : ℕ) → v < 4294967296 → number_from v [] ≡ Site v
+pub number_end : (v : ℕ) → v < 4294967296 → number_from v [] ≡ Some v
 unfolding number_from
 number_end v h = rw (lt-ltb v 4294967296 h)
 
-pub number_none : (s : List ℕ) → length s ≡ 0 → site_word s ≡ Other
+pub number_none : (s : List ℕ) → length s ≡ 0 → site_word s ≡ None
 number_none [] h = refl
 number_none (c ∷ s) h = absurd (omega arith)
 
@@ -92,26 +90,26 @@ module _ {word : List ℕ} {v i : ℕ} (r : ReadTo word v i) where
     here : site_word word ≡ number_from v (get_or word i 0 ∷ drop (i + 1) word)
     here = r.same ∙ ap (number_from v) (drop_one word i h)
 
-    pub reading_other : is_digit (get_or word i 0) ≡ false → site_word word ≡ Other
+    pub reading_other : is_digit (get_or word i 0) ≡ false → site_word word ≡ None
     reading_other d = here ∙ number_other v (get_or word i 0) (drop (i + 1) word) d
 
     module _ (d : is_digit (get_or word i 0) ≡ true) where
       next : site_word word ≡ number_from (v * 10 + (get_or word i 0 - 48)) (drop (i + 1) word)
       next = here ∙ number_next v (get_or word i 0) (drop (i + 1) word) d
 
-      pub reading_large : 4294967296 ≤ v * 10 + (get_or word i 0 - 48) → site_word word ≡ Other
+      pub reading_large : 4294967296 ≤ v * 10 + (get_or word i 0 - 48) → site_word word ≡ None
       reading_large l = next ∙ number_large _ (drop (i + 1) word) l
 
       pub reading_step : v * 10 + (get_or word i 0 - 48) < 4294967296 → ReadTo word (v * 10 + (get_or word i 0 - 48)) (i + 1)
       reading_step l = record { same = next; small = l }
 
-  pub reading_end : length word ≤ i → site_word word ≡ Site v
+  pub reading_end : length word ≤ i → site_word word ≡ Some v
   reading_end h = r.same ∙ ap (number_from v) (drop_none word i h) ∙ number_end v r.small
 
 -- ---- the arguments
 
 module _ (count : ℕ) (first second : List ℕ) where
-  pub no_words : count < 2 → command_of count first second ≡ Ask Nothing
+  pub no_words : count < 2 → command_of count first second ≡ Some Nothing
   unfolding command_of
   no_words h = rw (lt-ltb count 2 h)
 
@@ -124,6 +122,6 @@ module _ (count : ℕ) (first second : List ℕ) where
     unfolding command_of
     two_words e = rw (le-ltb count 2 h, ne_eqb count 2 n, eq-eqb count 3 e)
 
-    pub more_words : count ≢ 3 → command_of count first second ≡ Usage
+    pub more_words : count ≢ 3 → command_of count first second ≡ None
     unfolding command_of
     more_words m = rw (le-ltb count 2 h, ne_eqb count 2 n, ne_eqb count 3 m)

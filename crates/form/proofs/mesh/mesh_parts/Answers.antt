@@ -1,0 +1,1 @@
+-- `form::mesh::mesh_parts`: by the reader's answer, whose counts are within their limits.
