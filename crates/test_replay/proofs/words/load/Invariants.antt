@@ -4,4 +4,4 @@ use Rattle.test_replay.specs.words.Words.{word_of, after_of}
 use Rattle.test_replay.proofs.words.load.Given as goal
 
 abbrev pub invariant-loop-i : goal.invariant-loop-i
-invariant-loop-i l = Loading 0 (λ j. word_of l.l.b (after_of l.k j)) l.l.fn.l l.l l.i
+invariant-loop-i v = Loading 0 (λ j. word_of v.b (after_of v.k j)) v.fn.l v.l v.i
