@@ -12,7 +12,9 @@ ghost use Rattle.voronoi.specs.Builds.{Build};
 ghost use Rattle.voronoi.specs.Explanations.{Why};
 ghost use Rattle.voronoi.specs.Audits.{Audit};
 
+use base::numbers::EMPTY;
 use plane::points::Point;
+use plane_calls::{NO_CENTER, NOWHERE, number, yes};
 
 // The box's center, left + (right - left) / 2 and down likewise, and its width and height.
 pub fn voronoi_box_by_edges(
@@ -28,12 +30,13 @@ pub fn voronoi_box_by_edges(
     ensures { Centered (by_edges left top right bottom) result cx.new cy.new across.new down.new }
 {
     let given = plane::given::by_edges(left, top, right, bottom);
-    let r = plane_calls::box_center(given);
-    *cx = r.x;
-    *cy = r.y;
-    *across = r.across;
-    *down = r.down;
-    r.number
+    let answer = plane_calls::box_center(given);
+    let center = answer.unwrap_or(NO_CENTER);
+    *cx = center.x;
+    *cy = center.y;
+    *across = center.across;
+    *down = center.down;
+    number(answer)
 }
 
 // The corners, top left, bottom left, bottom right, top right, x and y each, into a slice of 8 or more, whose rest is cleared; 2, then 3.
@@ -47,7 +50,7 @@ pub fn voronoi_corners_by_edges(
     ensures { Corners (by_edges left top right bottom) out.old result out.new }
 {
     let given = plane::given::by_edges(left, top, right, bottom);
-    plane_calls::corners(given, out)
+    number(plane_calls::corners(given, out))
 }
 
 // Whether (x, y) is inside the box or on its edges: 1 or 0.
@@ -64,9 +67,9 @@ pub fn voronoi_is_inside_by_edges(
 {
     let given = plane::given::by_edges(left, top, right, bottom);
     let p = Point { x: x, y: y };
-    let r = plane_calls::is_inside(given, p);
-    *inside = r.yes;
-    r.number
+    let answer = plane_calls::is_inside(given, p);
+    *inside = yes(answer.unwrap_or(false));
+    number(answer)
 }
 
 // The same, and within tolerance of no side's line.
@@ -83,9 +86,9 @@ pub fn voronoi_is_exclusively_inside_by_edges(
 {
     let given = plane::given::by_edges(left, top, right, bottom);
     let p = Point { x: x, y: y };
-    let r = plane_calls::is_exclusively_inside(given, p);
-    *inside = r.yes;
-    r.number
+    let answer = plane_calls::is_exclusively_inside(given, p);
+    *inside = yes(answer.unwrap_or(false));
+    number(answer)
 }
 
 // The side that (x, y) is on: top 0, bottom 2, right 3, left 1, the first within tolerance; EMPTY for none.
@@ -102,9 +105,9 @@ pub fn voronoi_which_edge_by_edges(
 {
     let given = plane::given::by_edges(left, top, right, bottom);
     let p = Point { x: x, y: y };
-    let r = plane_calls::which_edge(given, p);
-    *side = r.side;
-    r.number
+    let answer = plane_calls::which_edge(given, p);
+    *side = answer.unwrap_or(EMPTY);
+    number(answer)
 }
 
 // Where the line through two points meets the box: how many points, 0 to 2, and their coordinates, 0 where there is none.
@@ -129,13 +132,14 @@ pub fn voronoi_intersect_line_by_edges(
     let given = plane::given::by_edges(left, top, right, bottom);
     let p = Point { x: px, y: py };
     let q = Point { x: qx, y: qy };
-    let r = plane_calls::intersect_line(given, p, q);
-    *count = r.count;
-    *x = r.x;
-    *y = r.y;
-    *u = r.u;
-    *v = r.v;
-    r.number
+    let answer = plane_calls::intersect_line(given, p, q);
+    let met = answer.unwrap_or(NOWHERE);
+    *count = met.count;
+    *x = met.x;
+    *y = met.y;
+    *u = met.u;
+    *v = met.v;
+    number(answer)
 }
 
 // The same of the ray from (px, py) in the direction (dx, dy), in the ray's order.
@@ -160,13 +164,14 @@ pub fn voronoi_project_ray_by_edges(
     let given = plane::given::by_edges(left, top, right, bottom);
     let p = Point { x: px, y: py };
     let d = Point { x: dx, y: dy };
-    let r = plane_calls::project_ray(given, p, d);
-    *count = r.count;
-    *x = r.x;
-    *y = r.y;
-    *u = r.u;
-    *v = r.v;
-    r.number
+    let answer = plane_calls::project_ray(given, p, d);
+    let met = answer.unwrap_or(NOWHERE);
+    *count = met.count;
+    *x = met.x;
+    *y = met.y;
+    *u = met.u;
+    *v = met.v;
+    number(answer)
 }
 
 // The cells of all sites, clipped to the box of these edges.

@@ -8,7 +8,9 @@ ghost use Rattle.plane.specs.rays.Ray.{ray_of};
 ghost use Rattle.plane_calls.specs.Plane.{bit};
 ghost use Rattle.voronoi.specs.Plane.{Dist2, Circumcenter, Centroid, Edges, Corners, Inside, ExclusivelyInside, WhichEdge, Meets};
 
+use base::numbers::EMPTY;
 use plane::points::Point;
+use plane_calls::{NO_EDGES, NOWHERE, number, yes};
 
 // Whether a and b are within 2^-50 of each other, by the computed difference: 1 or 0. A NaN is within no tolerance.
 pub fn voronoi_abs_diff_eq(a: f64, b: f64) -> u32
@@ -23,9 +25,9 @@ pub fn voronoi_dist2(ax: f64, ay: f64, bx: f64, by: f64, d: &mut f64) -> u32
 {
     let a = Point { x: ax, y: ay };
     let b = Point { x: bx, y: by };
-    let r = plane_calls::dist2(a, b);
-    *d = r.value;
-    r.number
+    let answer = plane_calls::dist2(a, b);
+    *d = answer.unwrap_or(0.0);
+    number(answer)
 }
 
 // The circumcenter; after 6, 11.
@@ -44,20 +46,22 @@ pub fn voronoi_circumcenter(
     let a = Point { x: ax, y: ay };
     let b = Point { x: bx, y: by };
     let c = Point { x: cx, y: cy };
-    let r = plane_calls::circumcenter(a, b, c);
-    *x = r.x;
-    *y = r.y;
-    r.number
+    let answer = plane_calls::circumcenter(a, b, c);
+    let p = answer.unwrap_or(Point { x: 0.0, y: 0.0 });
+    *x = p.x;
+    *y = p.y;
+    number(answer)
 }
 
 // The centroid of 1 to 65,536 points; 1, then 6.
 pub fn voronoi_centroid(points: &[f64], x: &mut f64, y: &mut f64) -> u32
     ensures { Centroid points.now result x.new y.new }
 {
-    let r = plane_calls::centroid(points);
-    *x = r.x;
-    *y = r.y;
-    r.number
+    let answer = plane_calls::centroid(points);
+    let p = answer.unwrap_or(Point { x: 0.0, y: 0.0 });
+    *x = p.x;
+    *y = p.y;
+    number(answer)
 }
 
 // The box's edges, and its width and height recomputed from them.
@@ -77,14 +81,15 @@ pub fn voronoi_box(
         across.new down.new }
 {
     let given = plane::given::by_size(cx, cy, width, height);
-    let r = plane_calls::box_edges(given);
-    *left = r.left;
-    *top = r.top;
-    *right = r.right;
-    *bottom = r.bottom;
-    *across = r.across;
-    *down = r.down;
-    r.number
+    let answer = plane_calls::box_edges(given);
+    let edges = answer.unwrap_or(NO_EDGES);
+    *left = edges.left;
+    *top = edges.top;
+    *right = edges.right;
+    *bottom = edges.bottom;
+    *across = edges.across;
+    *down = edges.down;
+    number(answer)
 }
 
 // The corners, top left, bottom left, bottom right, top right, x and y each, into a slice of 8 or more, whose rest is cleared; 2, then 3.
@@ -92,7 +97,7 @@ pub fn voronoi_corners(cx: f64, cy: f64, width: f64, height: f64, out: &mut [f64
     ensures { Corners (by_size (at cx cy) width height) out.old result out.new }
 {
     let given = plane::given::by_size(cx, cy, width, height);
-    plane_calls::corners(given, out)
+    number(plane_calls::corners(given, out))
 }
 
 // Whether (x, y) is inside the box or on its edges: 1 or 0.
@@ -109,9 +114,9 @@ pub fn voronoi_is_inside(
 {
     let given = plane::given::by_size(cx, cy, width, height);
     let p = Point { x: x, y: y };
-    let r = plane_calls::is_inside(given, p);
-    *inside = r.yes;
-    r.number
+    let answer = plane_calls::is_inside(given, p);
+    *inside = yes(answer.unwrap_or(false));
+    number(answer)
 }
 
 // The same, and within tolerance of no side's line.
@@ -128,9 +133,9 @@ pub fn voronoi_is_exclusively_inside(
 {
     let given = plane::given::by_size(cx, cy, width, height);
     let p = Point { x: x, y: y };
-    let r = plane_calls::is_exclusively_inside(given, p);
-    *inside = r.yes;
-    r.number
+    let answer = plane_calls::is_exclusively_inside(given, p);
+    *inside = yes(answer.unwrap_or(false));
+    number(answer)
 }
 
 // The side that (x, y) is on: top 0, bottom 2, right 3, left 1, the first within tolerance; EMPTY for none.
@@ -147,9 +152,9 @@ pub fn voronoi_which_edge(
 {
     let given = plane::given::by_size(cx, cy, width, height);
     let p = Point { x: x, y: y };
-    let r = plane_calls::which_edge(given, p);
-    *side = r.side;
-    r.number
+    let answer = plane_calls::which_edge(given, p);
+    *side = answer.unwrap_or(EMPTY);
+    number(answer)
 }
 
 // Where the line through two points meets the box: how many points, 0 to 2, and their coordinates, 0 where there is none.
@@ -174,13 +179,14 @@ pub fn voronoi_intersect_line(
     let given = plane::given::by_size(cx, cy, width, height);
     let p = Point { x: px, y: py };
     let q = Point { x: qx, y: qy };
-    let r = plane_calls::intersect_line(given, p, q);
-    *count = r.count;
-    *x = r.x;
-    *y = r.y;
-    *u = r.u;
-    *v = r.v;
-    r.number
+    let answer = plane_calls::intersect_line(given, p, q);
+    let met = answer.unwrap_or(NOWHERE);
+    *count = met.count;
+    *x = met.x;
+    *y = met.y;
+    *u = met.u;
+    *v = met.v;
+    number(answer)
 }
 
 // The same of the ray from (px, py) in the direction (dx, dy), in the ray's order.
@@ -205,11 +211,12 @@ pub fn voronoi_project_ray(
     let given = plane::given::by_size(cx, cy, width, height);
     let p = Point { x: px, y: py };
     let d = Point { x: dx, y: dy };
-    let r = plane_calls::project_ray(given, p, d);
-    *count = r.count;
-    *x = r.x;
-    *y = r.y;
-    *u = r.u;
-    *v = r.v;
-    r.number
+    let answer = plane_calls::project_ray(given, p, d);
+    let met = answer.unwrap_or(NOWHERE);
+    *count = met.count;
+    *x = met.x;
+    *y = met.y;
+    *u = met.u;
+    *v = met.v;
+    number(answer)
 }
