@@ -57,10 +57,8 @@ fn lost_corners(entries: &[u32], first: usize, left: [u32; 4]) -> u32
     ensures { result ≡ lost_left first left entries.now }
 {
     let mut n: u32 = 0;
-    let mut k: usize = 0;
-    while k < 4 {
+    for k in 0..4 {
         n += lost_corner(entries, (first + k) as u32, left[k]);
-        k += 1;
     }
     n
 }

@@ -40,17 +40,15 @@ fn walk_back(halfedges: &[u32], indexes: &mut [u32], at: usize, end: usize, t: u
     ensures { (c : List ℕ) → BackCell halfedges.now t (end - at) c → Staged c at indexes.old indexes.new result }
 {
     indexes[at] = (t / 3) as u32;
-    let mut n = at + 1;
     let mut e = step_back(halfedges, t);
-    while n < end {
+    for n in at + 1..end {
         if e == t {
             return n;
         }
         indexes[n] = (e / 3) as u32;
         e = step_back(halfedges, e);
-        n += 1;
     }
-    n
+    end
 }
 
 // Whether the walk's two ends meet: back at e and on at f they stand at one half-edge, or with one step between.
@@ -193,15 +191,13 @@ fn place_cells(
     let mut w: usize = 0;
     let mut steps: usize = 0;
     let mut from = wide(offsets[0]);
-    let mut s: usize = 0;
-    while s < sites {
+    for s in 0..sites {
         let to = wide(offsets[s + 1]);
         let p = place_cell(halfedges, table, marks, indexes, w, from, to, s, crowd);
         offsets[s] = w as u32;
         w = p.end;
         steps += p.steps;
         from = to;
-        s += 1;
     }
     offsets[sites] = w as u32;
     PutCells {

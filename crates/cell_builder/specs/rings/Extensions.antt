@@ -18,7 +18,6 @@ use Rattle.definition.specs.Short.{fault}
 use Rattle.definition.specs.Reused.{reused, reused_in}
 use Rattle.cell_builder.specs.rings.Centers.{Named}
 use Rattle.cell_builder.specs.declared.rings.extensions.Ray.{Ray}
-use Rattle.cell_builder.specs.declared.rings.extensions.TwoPoints.{TwoPoints}
 use Rattle.cell_builder.specs.declared.rings.extensions.Passed.{Passed}
 
 -- from c, orthogonally to the edge from a to b
@@ -65,9 +64,9 @@ abbrev pub PointAhead : List Float → List ℕ → List ℕ → List ℕ → Li
 PointAhead sites tri hull table vs i p = i < length hull → i % 2 ≡ 1 → p ≡ extended sites tri vs (edge_at hull table i)
 
 -- the extension of hull place i, and at the others the one of the place after it
-pub record PointsFrom (sites : List Float) (tri hull table : List ℕ) (vs : List Point) (i : ℕ) (r : TwoPoints) : Type 0 where
-  pub first : r.first ≡ extended sites tri vs (edge_at hull table i)
-  pub second : i % 2 ≡ 0 → r.second ≡ extended sites tri vs (edge_at hull table (next_place (length hull) i))
+pub record PointsFrom (sites : List Float) (tri hull table : List ℕ) (vs : List Point) (i : ℕ) (r : Point × Point) : Type 0 where
+  pub first : r.0 ≡ extended sites tri vs (edge_at hull table i)
+  pub second : i % 2 ≡ 0 → r.1 ≡ extended sites tri vs (edge_at hull table (next_place (length hull) i))
 
 -- and of the two lent lists: count vertices with room for one more for each hull place, and a place for each number before the store's part
 pub record ExtendsInto (sites : List Float) (tri hull table : List ℕ) (nc count limit at : ℕ) (v : List Float) (ix : List ℕ) : Type 0 where

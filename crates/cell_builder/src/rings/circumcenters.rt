@@ -27,14 +27,12 @@ pub fn calculate_circumcenters(sites: &[f64], triangles: &[u32], vertices: &mut 
         (length triangles.now / 3) result vertices.old vertices.new }
 {
     let count = triangles.len() / 3;
-    let mut t: usize = 0;
-    while t < count {
+    for t in 0..count {
         let c = center_at(sites, triangles, t);
         if !center_ok(c) {
             return t;
         }
         put(vertices, t, c);
-        t += 1;
     }
-    t
+    count
 }

@@ -69,22 +69,12 @@ fn far_along(r: Ray, length: f64) -> Point
     }
 }
 
-// Two extensions.
-#[derive(Clone, Copy)]
-pub struct TwoPoints {
-    pub first: Point,
-    pub second: Point,
-}
-
-// Of two rays, with the roots of both lengths worked out at once.
-fn extend_voronoi_vertices(r: Ray, s: Ray) -> TwoPoints
-    ensures { (result.first ≡ extended_ray r) × (result.second ≡ extended_ray s) }
+// The extensions of two rays, with the roots of both lengths worked out at once.
+fn extend_voronoi_vertices(r: Ray, s: Ray) -> (Point, Point)
+    ensures { (result.0 ≡ extended_ray r) × (result.1 ≡ extended_ray s) }
 {
     let lengths = root::roots(r.x * r.x + r.y * r.y, s.x * s.x + s.y * s.y);
-    TwoPoints {
-        first: far_along(r, lengths.first),
-        second: far_along(s, lengths.second),
-    }
+    (far_along(r, lengths.first), far_along(s, lengths.second))
 }
 
 // The half-edge over which hull place i is extended: the leftmost one of the site at the next place.
@@ -122,16 +112,13 @@ fn points_from(
     count: usize,
     i: usize,
     ahead: Point,
-) -> TwoPoints
+) -> (Point, Point)
     requires hull_reached { HullReached sites.now triangles.now hull.now table.now vertices.now count × (i < length hull.now) }
     requires point_ahead { PointAhead sites.now triangles.now hull.now table.now (points count vertices.now) i ahead }
     ensures { PointsFrom sites.now triangles.now hull.now table.now (points count vertices.now) i result }
 {
     if i % 2 == 1 {
-        return TwoPoints {
-            first: ahead,
-            second: ahead,
-        };
+        return (ahead, ahead);
     }
     let j = next_place(hull.len(), i);
     extend_voronoi_vertices(
@@ -179,11 +166,9 @@ pub fn extend_hull(
 {
     let mut n = count;
     let mut old: usize = 0;
-    let mut i: usize = 0;
     let mut ahead = Point { x: 0.0, y: 0.0 };
-    while i < hull.len() {
-        let two = points_from(sites, triangles, hull, table, vertices, n, i, ahead);
-        let p = two.first;
+    for i in 0..hull.len() {
+        let (p, next) = points_from(sites, triangles, hull, table, vertices, n, i, ahead);
         if !finite_point(p) {
             return Passed {
                 place: i,
@@ -195,11 +180,10 @@ pub fn extend_hull(
         indexes[at + i] = r.at as u32;
         n = r.count;
         old = count_old(old, r.fresh);
-        ahead = two.second;
-        i += 1;
+        ahead = next;
     }
     Passed {
-        place: i,
+        place: hull.len(),
         count: n,
         reused: old,
     }

@@ -28,8 +28,7 @@ fn clip_hull(
         vertices.old indexes.old result vertices.new indexes.new }
 {
     let mut at = p;
-    let mut i: usize = 0;
-    while i < hull.len() {
+    for i in 0..hull.len() {
         let r = clip_at_hull(
             triangles, halfedges, hull, table, vertices, indexes, offsets, f, at, i,
         );
@@ -38,7 +37,6 @@ fn clip_hull(
             return r;
         }
         at = r;
-        i += 1;
     }
     at
 }

@@ -58,10 +58,8 @@ pub fn mark_outside(
     ensures { length marks.old ≡ 16384 → (length marks.new ≡ 16384)
         × Covers bounds (points count vertices.now) triangles.now table.now marks.new (length triangles.now) }
 {
-    let mut t: usize = 0;
-    while t < triangles.len() / 3 {
+    for t in 0..triangles.len() / 3 {
         mark_triangle(triangles, table, vertices, count, bounds, marks, t);
-        t += 1;
     }
 }
 
@@ -115,12 +113,8 @@ pub fn mark_hulls(
         → MarkingHull halfedges.now hull.now table.now indexes.now offsets.now marks.old
         marks.new (length hull.now) }
 {
-    let mut i: usize = 0;
-    while i < hull.len() {
-        mark_empty(
-            triangles, halfedges, table, indexes, offsets, marks, hull[i],
-        );
-        i += 1;
+    for site in hull {
+        mark_empty(triangles, halfedges, table, indexes, offsets, marks, *site);
     }
 }
 

@@ -12,7 +12,7 @@ use Rattle.cell_builder.proofs.finish.finish.Statement.{statement}
 use Rattle.cell_builder.proofs.finish.finish.Tie as tie
 
 -- the vertices cleared, the cells put in their places, and the start
-abbrev Cleared : tie.After-reused-1 → tie.After-clear_floats_from
+abbrev Cleared : tie.After-reused-1 → tie.After-fill_from
 Cleared c = c.before.before.before.before.before
 
 abbrev Indexed : tie.After-reused-1 → tie.After-indexes-1
@@ -42,7 +42,7 @@ returns c =
     record {
       answer = λ cells q r.
           rw (k.lost_corners.ensures ∙ ap (λ (es : List ℕ). lost_left a.centers a.p.owners es) (used_part cells _ _ _ _ _ (g.gather-put.ensures.2 cells q r)));
-      vertices = (Cleared l.before.before).clear_floats_from.ensures;
+      vertices = (Cleared l.before.before).fill_from.ensures;
       gathered = λ cells q r. (g.gather-put.ensures.2 cells q r).1;
       whole = λ q. omega (arith, eqb-true g.gather-put.result.steps (length a.halfedges.now) q, g.gather-put.ensures.1);
     }

@@ -26,7 +26,6 @@ use Rattle.definition.proofs.laws.Reused.{reused_join}
 use Rattle.cell_builder.specs.rings.Extensions.{ray_of, ray_over, far_along, extended_ray, edge_at, HullReached, PointAhead, PointsFrom, ExtendedBy, ExtendsInto}
 use Rattle.cell_builder.specs.declared.rings.extensions.Ray.{Ray}
 use Rattle.cell_builder.specs.declared.rings.extensions.Passed.{Passed}
-use Rattle.cell_builder.specs.declared.rings.extensions.TwoPoints.{TwoPoints}
 
 -- the extension is the circumcenter's ray, extended
 pub extended_is : (sites : List Float) (tri : List ℕ) (vs : List Point) (e : ℕ) → extended sites tri vs e ≡ extended_ray (ray_over sites tri vs e)
@@ -52,8 +51,8 @@ module _ {sites : List Float} {tri hull table : List ℕ} {v : List Float} {coun
 
 -- two rays extended are the extensions of a hull place and of the one after it
 pub two_rays :
-    (sites : List Float) (tri hull table : List ℕ) (vs : List Point) (i j : ℕ) (r s : Ray) (t : TwoPoints) → r ≡ ray_over sites tri vs (edge_at hull table i)
-    → s ≡ ray_over sites tri vs (edge_at hull table j) → j ≡ next_place (length hull) i → (t.first ≡ extended_ray r) × (t.second ≡ extended_ray s) → PointsFrom sites tri hull table vs i t
+    (sites : List Float) (tri hull table : List ℕ) (vs : List Point) (i j : ℕ) (r s : Ray) (t : Point × Point) → r ≡ ray_over sites tri vs (edge_at hull table i)
+    → s ≡ ray_over sites tri vs (edge_at hull table j) → j ≡ next_place (length hull) i → (t.0 ≡ extended_ray r) × (t.1 ≡ extended_ray s) → PointsFrom sites tri hull table vs i t
 two_rays sites tri hull table vs i j r s t a b e h = record {
   first = h.0 ∙ ap extended_ray a ∙ sym (extended_is sites tri vs (edge_at hull table i));
   second = λ _. h.1 ∙ ap extended_ray (b ∙ ap (λ (k : ℕ). ray_over sites tri vs (edge_at hull table k)) e) ∙ sym (extended_is sites tri vs (edge_at hull table (next_place (length hull) i)));
@@ -112,8 +111,8 @@ module _ (sites : List Float) (tri hull table : List ℕ) (nc limit at count : �
 
     -- the extension that was worked out ahead, after a turn's vertex was added
     pub turn_ahead :
-        (p : Point) (t : TwoPoints) → PointsFrom sites tri hull table (points n v) i t → (v₁ : List Float) (m : ℕ) → Poured (add_vertex nc (points n v) p).verts v m v₁ → n ≤ m
-        → PointAhead sites tri hull table (points m v₁) (i + 1) t.second
+        (p : Point) (t : Point × Point) → PointsFrom sites tri hull table (points n v) i t → (v₁ : List Float) (m : ℕ) → Poured (add_vertex nc (points n v) p).verts v m v₁ → n ≤ m
+        → PointAhead sites tri hull table (points m v₁) (i + 1) t.1
     turn_ahead p t f v₁ m w l k o = f.second (omega arith) ∙ ap (λ (j : ℕ). extended sites tri (points n v) (edge_at hull table j)) place ∙ sym kept
       where
         place : next_place (length hull) i ≡ i + 1
