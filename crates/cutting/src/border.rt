@@ -1,17 +1,17 @@
 // Rule 25: whether the border turns exactly once, by the corners at infinity of the hull's half-edges in order.
 ghost use Rattle.std.specs.Prelude.{◌≡◌, ◌≤◌, ◌<◌, length, get_or};
-ghost use Rattle.ring_area.specs.lowest.Lowest.{lowest};
+ghost use Rattle.base.specs.refusal.Number.{answer_number};
+ghost use Rattle.ring_area.specs.lowest.Lowest.{any_below};
 ghost use Rattle.cutting.specs.cuts.Step.{passed_by};
 ghost use Rattle.cutting.specs.border.Border.{normal_of, toward_of, hull_end, directed, arrives_at, undirected_at, turned_by, turns_after, turns_to, once_of, border_number};
 
 use crate::corner::{Corner, SideName, far_at, within};
 use crate::meet::{site_at, upward};
 use base::numbers::wide;
+use base::refusal::Refusal;
 use mesh::next_halfedge;
 use plane::boxes::BoundingBox;
 use plane::points::Point;
-
-pub const REFUSED_BORDER: u32 = 25;
 
 // How often the border comes in over the upper end of the left side, and how often it goes out there.
 #[derive(Clone, Copy)]
@@ -76,18 +76,11 @@ fn is_undirected(sites: &[f64], triangles: &[u32], hull: &[u32], table: &[u32], 
     !is_directed(toward(sites, triangles, arrives(hull, table, i)))
 }
 
-// The first place whose half-edge has no direction, or their number.
-fn first_undirected(sites: &[f64], triangles: &[u32], hull: &[u32], table: &[u32]) -> usize
-    ensures { result ≡ lowest (undirected_at sites.now triangles.now hull.now table.now) (length hull.now) }
+// Whether a half-edge of the hull has no direction.
+fn any_undirected(sites: &[f64], triangles: &[u32], hull: &[u32], table: &[u32]) -> bool
+    ensures { result ≡ any_below (undirected_at sites.now triangles.now hull.now table.now) (length hull.now) }
 {
-    let mut i = 0;
-    while i < hull.len() {
-        if is_undirected(sites, triangles, hull, table, i) {
-            return i;
-        }
-        i += 1;
-    }
-    i
+    (0..hull.len()).any(|i| is_undirected(sites, triangles, hull, table, i))
 }
 
 fn passed(to: bool, from: bool, there: bool) -> usize
@@ -159,38 +152,36 @@ fn border_turns(
     ensures { result ≡ turns_to b sites.now triangles.now hull.now table.now centers.now (length hull.now) }
 {
     let mut t = Turns { comes: 0, goes: 0 };
-    let mut i = 0;
-    while i < hull.len() {
+    for i in 0..hull.len() {
         t = turned_at(b, sites, triangles, hull, table, centers, t, i);
-        i += 1;
     }
     t
 }
 
-fn once(t: Turns) -> u32
+fn once(t: Turns) -> Result<(), Refusal>
     requires { t.goes < 18446744073709551615 }
-    ensures { result ≡ once_of t }
+    ensures { answer_number result ≡ once_of t }
 {
     if t.comes == t.goes + 1 {
-        0
+        Ok(())
     } else {
-        REFUSED_BORDER
+        Err(Refusal::Border)
     }
 }
 
-// 0 where each hull edge has a direction and the border turns exactly once, else 25.
-pub fn border_number(
+// Each hull edge has a direction, and the border turns exactly once.
+pub fn check_border(
     b: BoundingBox,
     sites: &[f64],
     triangles: &[u32],
     hull: &[u32],
     table: &[u32],
     centers: &[f64],
-) -> u32
-    ensures { result ≡ border_number b sites.now triangles.now hull.now table.now centers.now }
+) -> Result<(), Refusal>
+    ensures { answer_number result ≡ border_number b sites.now triangles.now hull.now table.now centers.now }
 {
-    if first_undirected(sites, triangles, hull, table) < hull.len() {
-        return REFUSED_BORDER;
+    if any_undirected(sites, triangles, hull, table) {
+        return Err(Refusal::Border);
     }
     once(border_turns(b, sites, triangles, hull, table, centers))
 }

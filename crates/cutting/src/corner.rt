@@ -6,7 +6,7 @@ use plane::boxes::BoundingBox;
 use plane::points::Point;
 
 // The sides in the order of the cuts.
-#[derive(Clone, Copy)]
+#[derive(Clone, Copy, Debug, PartialEq, Eq)]
 pub enum SideName {
     Left,
     Top,
@@ -24,7 +24,7 @@ pub struct Corner {
 }
 
 // What an edge lies on: the bisector of two sites, the lower number first, a side, or the line at infinity.
-#[derive(Clone, Copy)]
+#[derive(Clone, Copy, Debug, PartialEq, Eq)]
 pub enum Carrier {
     Bisector(u32, u32),
     Along(SideName),

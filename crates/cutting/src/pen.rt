@@ -1,21 +1,26 @@
 // A piece's corners as they come, written into the lent slices: a place that comes twice in a row once, with its vertex number.
-ghost use Rattle.std.specs.Prelude.{◌≡◌, cond, ◌+◌, ◌*◌, ◌≤◌, ◌<◌, length};
+ghost use Rattle.std.specs.Prelude.{◌≡◌, ◌+◌, ◌*◌, ◌≤◌, ◌<◌, length};
 ghost use Rattle.base.specs.numbers.Numbers.{EMPTY};
-ghost use Rattle.cutting.specs.pen.Pen.{same_place, column_number, corner_number, number_for, count_with, added_vertex, repeats, page, written_as, inked, pen_on, entries_on};
+ghost use Rattle.cutting.specs.pen.Pen.{same_place, column_number, corner_number, number_for, count_with, added_vertex, repeats, ends_with, page, written_as, inked, pen_on, entries_on};
 ghost use Rattle.cutting.specs.pen.Room.{Writable, Ready};
 
 use base::numbers::{EMPTY, wide};
 use plane::boxes::BoundingBox;
 use plane::points::Point;
 
-// Where the next entry goes, how many vertices there are, and of the ring that is being written whether it has any place yet, its first and its last.
+// The first place of a ring that is being written, and the last so far.
+#[derive(Clone, Copy)]
+pub struct Ends {
+    pub first: Point,
+    pub last: Point,
+}
+
+// Where the next entry goes, how many vertices there are, and the ends of the ring that is being written, where it has any place yet.
 #[derive(Clone, Copy)]
 pub struct Pen {
     pub at: usize,
     pub count: usize,
-    pub any: bool,
-    pub first: Point,
-    pub last: Point,
+    pub ends: Option<Ends>,
 }
 
 pub fn same_place(p: Point, q: Point) -> bool
@@ -87,16 +92,23 @@ fn add_vertex(vertices: &mut [f64], n: usize, count: usize, p: Point)
 fn repeats_last(pen: Pen, p: Point) -> bool
     ensures { result ≡ repeats pen p }
 {
-    if pen.any {
-        return same_place(pen.last, p);
+    match pen.ends {
+        Some(ends) => same_place(ends.last, p),
+        None => false,
     }
-    false
 }
 
-fn first_of(any: bool, first: Point, p: Point) -> Point
-    ensures { result ≡ cond any first p }
+// The ends with p for the last place.
+fn ends_with(ends: Option<Ends>, p: Point) -> Ends
+    ensures { result ≡ ends_with ends p }
 {
-    if any { first } else { p }
+    match ends {
+        Some(e) => Ends {
+            first: e.first,
+            last: p,
+        },
+        None => Ends { first: p, last: p },
+    }
 }
 
 // p is written with number n.
@@ -110,9 +122,7 @@ fn write(pen: Pen, n: usize, p: Point, vertices: &mut [f64], indexes: &mut [u32]
     Pen {
         at: at + 1,
         count: count_with(n, pen.count),
-        any: true,
-        first: first_of(pen.any, pen.first, p),
-        last: p,
+        ends: Some(ends_with(pen.ends, p)),
     }
 }
 
@@ -149,8 +159,6 @@ pub fn ink_numbered(pen: Pen, p: Point, n: u32, indexes: &mut [u32]) -> Pen
     Pen {
         at: at + 1,
         count: pen.count,
-        any: true,
-        first: first_of(pen.any, pen.first, p),
-        last: p,
+        ends: Some(ends_with(pen.ends, p)),
     }
 }

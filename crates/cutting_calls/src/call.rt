@@ -9,9 +9,10 @@ ghost use Rattle.cutting_calls.specs.call.Steps.{Centered, CutCentered, Meshed, 
 
 use crate::cut_admission::admit_cut;
 use arguments::asking::ask_box;
+use base::refusal::number;
 use cell_builder::rings::circumcenters::calculate_circumcenters;
 use cell_memory::outputs::clear_all;
-use cutting::border::border_number;
+use cutting::border::check_border;
 use cutting_writer::sites::cut_sites;
 use plane::boxes::BoundingBox;
 use plane::given::Given;
@@ -39,7 +40,7 @@ fn cut_centered(
     ensures { CutCentered b sites.now triangles.now halfedges.now hull.now table.now
         vertices.old indexes.old offsets.old result vertices.new indexes.new offsets.new }
 {
-    let k = border_number(b, sites, triangles, hull, table, vertices);
+    let k = number(check_border(b, sites, triangles, hull, table, vertices));
     if k != 0 {
         clear_all(vertices, indexes, offsets);
         return CutDone {

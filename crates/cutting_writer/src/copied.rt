@@ -1,11 +1,11 @@
 // A ring that is bounded and lies wholly in the box, of which it is known before how long it will be: walked once, from both ends, and copied.
 // So the next ring's walk need not wait for the end of this one's.
-ghost use Rattle.std.specs.Prelude.{◌≡◌, true, false, ◌+◌, ◌*◌, ◌/◌, ◌%◌, ◌≤◌, ◌<◌, length};
+ghost use Rattle.std.specs.Prelude.{◌≡◌, true, IfSome, MatchOption, ◌+◌, ◌*◌, ◌/◌, ◌%◌, ◌≤◌, ◌<◌, length};
 ghost use Rattle.base.specs.numbers.Numbers.{EMPTY};
 ghost use Rattle.mesh.specs.Mesh.{next_of};
 ghost use Rattle.cutting.specs.pen.Pen.{page};
 ghost use Rattle.cutting_writer.specs.turn.Turned.{turned_round};
-ghost use Rattle.cutting_writer.specs.copied.Copied.{laid_to, Steppable, LapCorner, JoinedTo, BothStepped, EndsMeet, Begun, LapLaid, Lapped, CopiedInto};
+ghost use Rattle.cutting_writer.specs.copied.Copied.{laid_to, Steppable, LapCorner, JoinedTo, BothStepped, EndsMeet, Begun, LapLaid, Laps, CopiedInto};
 
 use crate::site::on_hull;
 use base::numbers::wide;
@@ -15,18 +15,9 @@ use plane::boxes::BoundingBox;
 use plane::points::{Point, point_at};
 use plane::sides::is_inside;
 
-// Whether a walk came back as expected, wholly in the box and with no place twice in a row; and the first and the last of its places.
-#[derive(Clone, Copy)]
-pub struct Lap {
-    pub whole: bool,
-    pub first: Point,
-    pub last: Point,
-}
-
-// Whether a step was as expected; the half-edge that it came to, and its place.
+// The half-edge that a step came to, and its place.
 #[derive(Clone, Copy)]
 pub struct Step {
-    pub going: bool,
     pub e: u32,
     pub place: Point,
 }
@@ -34,18 +25,10 @@ pub struct Step {
 // The same from both ends: e was come to by a step on, f by a step back.
 #[derive(Clone, Copy)]
 pub struct TwoEnds {
-    pub going: bool,
     pub e: u32,
     pub last: Point,
     pub f: u32,
     pub next: Point,
-}
-
-// Whether a ring was copied, and the pen after it.
-#[derive(Clone, Copy)]
-pub struct CopiedRing {
-    pub done: bool,
-    pub pen: Pen,
 }
 
 // The half-edge before p in its triangle.
@@ -70,40 +53,36 @@ fn joined(halfedges: &[u32], e: u32, last: Point, f: u32, next: Point) -> bool
     !same_place(last, next)
 }
 
-// One step of the walk from t, from e, whose place is `last`.
-fn step_on(b: BoundingBox, halfedges: &[u32], centers: &[f64], t: u32, e: u32, last: Point) -> Step
+// One step of the walk from t, from e, whose place is `last`, where it is as expected.
+fn step_on(
+    b: BoundingBox,
+    halfedges: &[u32],
+    centers: &[f64],
+    t: u32,
+    e: u32,
+    last: Point,
+) -> Option<Step>
     requires { Steppable halfedges.now centers.now × (e < length halfedges.now) }
-    ensures { result.going ≡ true → LapCorner b halfedges.now centers.now t result.e result.place
-        × JoinedTo halfedges.now e last result.e result.place }
+    ensures { IfSome result (λ s. LapCorner b halfedges.now centers.now t s.e s.place × JoinedTo halfedges.now e last s.e s.place) }
 {
-    let none = Point { x: 0.0, y: 0.0 };
-    let no = Step {
-        going: false,
-        e: 0,
-        place: none,
-    };
     let a = halfedges[next_halfedge(wide(e))];
     if halfedges.len() <= wide(a) {
-        return no;
+        return None;
     }
     if a == t {
-        return no;
+        return None;
     }
     let p = point_at(centers, wide(a / 3));
     if !is_inside(b, p) {
-        return no;
+        return None;
     }
     if same_place(last, p) {
-        return no;
+        return None;
     }
-    Step {
-        going: true,
-        e: a,
-        place: p,
-    }
+    Some(Step { e: a, place: p })
 }
 
-// One step from both ends of the walk from t: on from e, whose place is `last`, and back from f, whose place is `next`.
+// One step from both ends of the walk from t, where both are as expected: on from e, whose place is `last`, and back from f, whose place is `next`.
 fn step_both(
     b: BoundingBox,
     halfedges: &[u32],
@@ -113,51 +92,42 @@ fn step_both(
     last: Point,
     f: u32,
     next: Point,
-) -> TwoEnds
+) -> Option<TwoEnds>
     requires { Steppable halfedges.now centers.now × (e < length halfedges.now) × (f < length halfedges.now) }
-    ensures { result.going ≡ true → BothStepped b halfedges.now centers.now t e last f next result.e result.last result.f result.next }
+    ensures { IfSome result (λ r. BothStepped b halfedges.now centers.now t e last f next r.e r.last r.f r.next) }
 {
-    let none = Point { x: 0.0, y: 0.0 };
-    let no = TwoEnds {
-        going: false,
-        e: 0,
-        last: none,
-        f: 0,
-        next: none,
-    };
     let a = halfedges[next_halfedge(wide(e))];
     let p = halfedges[wide(f)];
     if halfedges.len() <= wide(a) {
-        return no;
+        return None;
     }
     if halfedges.len() <= wide(p) {
-        return no;
+        return None;
     }
     let g = previous(p);
     let x = point_at(centers, wide(a / 3));
     let y = point_at(centers, wide(p / 3));
     if a == t {
-        return no;
+        return None;
     }
     if g == t {
-        return no;
+        return None;
     }
     if halfedges[wide(p)] != f {
-        return no;
+        return None;
     }
     if !(is_inside(b, x) & is_inside(b, y)) {
-        return no;
+        return None;
     }
     if same_place(last, x) | same_place(y, next) {
-        return no;
+        return None;
     }
-    TwoEnds {
-        going: true,
+    Some(TwoEnds {
         e: a,
         last: x,
         f: g,
         next: y,
-    }
+    })
 }
 
 // Whether the two ends meet: at i there is room for one more triangle, or that is f's place.
@@ -180,13 +150,13 @@ fn meet(
     if i == j {
         return joined(halfedges, e, last, f, next);
     }
-    let s = step_on(b, halfedges, centers, t, e, last);
-    if !s.going {
-        return false;
+    match step_on(b, halfedges, centers, t, e, last) {
+        Some(s) => {
+            stage[i] = s.e / 3;
+            joined(halfedges, s.e, s.place, f, next)
+        }
+        None => false,
     }
-    stage[i] = s.e / 3;
-    let place = s.place;
-    joined(halfedges, s.e, place, f, next)
 }
 
 // The triangles of the walk from t, laid in the stage from both ends at once: two short ways through the half-edges in place of one long one, which would wait for each of them in turn.
@@ -207,26 +177,34 @@ fn stage_both(
     let mut next = first;
     let mut e = t;
     let mut f = t;
-    let mut i: usize = 1;
-    let mut j = n;
-    while i + 1 < j {
-        let r = step_both(b, halfedges, centers, t, e, last, f, next);
-        if !r.going {
+    let half = (n + 1) / 2;
+    for i in 1..half {
+        let Some(r) = step_both(b, halfedges, centers, t, e, last, f, next) else {
             return false;
-        }
+        };
         e = r.e;
         last = r.last;
         f = r.f;
         next = r.next;
-        j -= 1;
         stage[i] = e / 3;
-        stage[j] = f / 3;
-        i += 1;
+        stage[n - i] = f / 3;
     }
-    meet(b, halfedges, centers, t, i, j, e, last, f, next, stage)
+    meet(
+        b,
+        halfedges,
+        centers,
+        t,
+        half,
+        n + 1 - half,
+        e,
+        last,
+        f,
+        next,
+        stage,
+    )
 }
 
-// The triangles of the walk from t, laid in the stage, where it comes back after n of them.
+// The triangles of the walk from t, laid in the stage; yes only where it comes back after n of them, wholly in the box and with no place twice in a row.
 fn stage_ring(
     b: BoundingBox,
     halfedges: &[u32],
@@ -234,47 +212,34 @@ fn stage_ring(
     t: u32,
     n: usize,
     stage: &mut [u32],
-) -> Lap
+) -> bool
     requires { (length halfedges.now < EMPTY) × (2 * (length halfedges.now / 3) ≤ length centers.now) × (n ≤ length stage.old) }
-    ensures { result.whole ≡ true → Lapped b halfedges.now centers.now t n stage.new result.first result.last }
+    ensures { result ≡ true → Laps b halfedges.now centers.now t n stage.new }
 {
-    let none = Point { x: 0.0, y: 0.0 };
-    let no = Lap {
-        whole: false,
-        first: none,
-        last: none,
-    };
     if n < 3 {
-        return no;
+        return false;
     }
     if halfedges.len() < n {
-        return no;
+        return false;
     }
     if halfedges.len() % 3 != 0 {
-        return no;
+        return false;
     }
     if halfedges.len() <= wide(t) {
-        return no;
+        return false;
     }
     if on_hull(halfedges, wide(t)) {
-        return no;
+        return false;
     }
     let first = point_at(centers, wide(t / 3));
     if !is_inside(b, first) {
-        return no;
+        return false;
     }
     if !stage_both(b, halfedges, centers, t, n, first, stage) {
-        return no;
+        return false;
     }
     let last = point_at(centers, wide(stage[n - 1]));
-    if same_place(first, last) {
-        return no;
-    }
-    Lap {
-        whole: true,
-        first: first,
-        last: last,
-    }
+    !same_place(first, last)
 }
 
 // The first n entries of the stage, the other way round, from place `at` on.
@@ -282,14 +247,12 @@ fn put_back(stage: &[u32], n: usize, at: usize, indexes: &mut [u32])
     requires { (n ≤ length stage.now) × (at + n ≤ length indexes.old) }
     ensures { indexes.new ≡ turned_round at (at + n) (laid_to stage.now at n indexes.old) }
 {
-    let mut i: usize = 0;
-    while i < n {
+    for i in 0..n {
         indexes[at + i] = stage[n - 1 - i];
-        i += 1;
     }
 }
 
-// The piece of the site whose walk begins at t, where it is its ring and that has n corners, at most 16.
+// The piece of the site whose walk begins at t, and the pen after it, where it is its ring and that has n corners, at most 16.
 pub fn copy_ring(
     b: BoundingBox,
     halfedges: &[u32],
@@ -298,46 +261,32 @@ pub fn copy_ring(
     n: usize,
     pen: Pen,
     indexes: &mut [u32],
-) -> CopiedRing
+) -> Option<Pen>
     requires { (length halfedges.now < EMPTY) × (2 * (length halfedges.now / 3) ≤ length centers.now) }
-    ensures { (result.done ≡ false → indexes.new ≡ indexes.old)
-        × (result.done ≡ true → CopiedInto b halfedges.now t (page pen centers.now indexes.old) (page result.pen centers.now indexes.new)) }
+    ensures { MatchOption result (indexes.new ≡ indexes.old)
+        (λ after. CopiedInto b halfedges.now t (page pen centers.now indexes.old) (page after centers.now indexes.new)) }
 {
     let begin = pen.at;
-    let no = CopiedRing {
-        done: false,
-        pen: pen,
-    };
     if 16 < n {
-        return no;
+        return None;
     }
-    if pen.any {
-        return no;
+    if pen.ends.is_some() {
+        return None;
     }
     if indexes.len() < n {
-        return no;
+        return None;
     }
     if indexes.len() - n < begin {
-        return no;
+        return None;
     }
-    let end = begin + n;
     let mut stage = [0u32; 16];
-    let l = stage_ring(b, halfedges, centers, t, n, &mut stage);
-    if !l.whole {
-        return no;
+    if !stage_ring(b, halfedges, centers, t, n, &mut stage) {
+        return None;
     }
     put_back(&stage, n, begin, indexes);
-    let first = l.first;
-    let last = l.last;
-    let after = Pen {
-        at: end,
+    Some(Pen {
+        at: begin + n,
         count: pen.count,
-        any: false,
-        first: first,
-        last: last,
-    };
-    CopiedRing {
-        done: true,
-        pen: after,
-    }
+        ends: None,
+    })
 }

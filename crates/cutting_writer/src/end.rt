@@ -14,10 +14,10 @@ fn closed_at(begin: usize, pen: Pen) -> usize
     if pen.at - begin < 2 {
         return pen.at;
     }
-    if same_place(pen.first, pen.last) {
-        return pen.at - 1;
+    match pen.ends {
+        Some(e) if same_place(e.first, e.last) => pen.at - 1,
+        _ => pen.at,
     }
-    pen.at
 }
 
 fn kept_at(begin: usize, at: usize) -> usize
@@ -38,13 +38,9 @@ pub fn end_piece(begin: usize, pen: Pen, indexes: &mut [u32]) -> Pen
     let closed = closed_at(begin, pen);
     let at = kept_at(begin, closed);
     turn_round(indexes, begin, at);
-    let first = pen.first;
-    let last = pen.last;
     Pen {
-        at: at,
+        at,
         count: pen.count,
-        any: false,
-        first: first,
-        last: last,
+        ends: None,
     }
 }

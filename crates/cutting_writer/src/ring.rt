@@ -43,8 +43,7 @@ fn lies_inside(b: BoundingBox, halfedges: &[u32], centers: &[f64], t: u32) -> bo
         return false;
     }
     let mut e = t;
-    let mut left = halfedges.len();
-    while left > 0 {
+    for _ in 0..halfedges.len() {
         if !center_inside(b, centers, e) {
             return false;
         }
@@ -56,7 +55,6 @@ fn lies_inside(b: BoundingBox, halfedges: &[u32], centers: &[f64], t: u32) -> bo
             return false;
         }
         e = a;
-        left -= 1;
     }
     false
 }
@@ -68,15 +66,13 @@ fn ink_walk(halfedges: &[u32], centers: &[f64], t: u32, start: Pen, indexes: &mu
 {
     let mut pen = start;
     let mut e = t;
-    let mut left = halfedges.len();
-    while left > 0 {
+    for _ in 0..halfedges.len() {
         if halfedges.len() <= wide(e) {
             return pen;
         }
         let q = e / 3;
         pen = ink_numbered(pen, site_at(centers, q), q, indexes);
         e = turn_from(halfedges, t, e);
-        left -= 1;
     }
     pen
 }

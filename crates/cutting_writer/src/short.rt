@@ -49,14 +49,7 @@ fn all_within(
     requires { (from + count ≤ 32) × Slotted floats.now numbers.now }
     ensures { result ≡ true → (sites : List Float) → AllCorners (IsWithin (side_at b sites s)) (ring_in floats.now numbers.now from count) }
 {
-    let mut i = count;
-    while i > 0 {
-        i -= 1;
-        if !within(b, s, corner_at(floats, numbers, from + i)) {
-            return false;
-        }
-    }
-    true
+    (0..count).all(|i| within(b, s, corner_at(floats, numbers, from + i)))
 }
 
 // What side s leaves of the edge from p to q, into the slots from `to` on behind the first k.
@@ -127,16 +120,14 @@ fn pass_side(
     ensures { PassedSide (side_at b sites.now s) from count floats.old numbers.old result floats.new numbers.new }
 {
     let to = HALF - from;
-    let mut i = 0;
     let mut k = 0;
-    while i < count {
+    for i in 0..count {
         if HALF < k + 2 {
             return HALF + 1;
         }
         let p = spot_at(floats, numbers, from + i);
         let q = corner_at(floats, numbers, next_slot(from, count, i));
         k = pass_edge(b, sites, s, p, q, to, k, floats, numbers);
-        i += 1;
     }
     k
 }
@@ -238,8 +229,7 @@ fn lay_walk(
     let mut count = k;
     let mut e = t;
     let mut last = t;
-    let mut left = halfedges.len();
-    while left > 0 {
+    for _ in 0..halfedges.len() {
         if halfedges.len() <= wide(e) {
             return SlotTrail {
                 count: count,
@@ -255,7 +245,6 @@ fn lay_walk(
         count = lay(count, out_spot(triangles, centers, e), floats, numbers);
         last = e;
         e = turn_from(halfedges, t, e);
-        left -= 1;
     }
     SlotTrail {
         count: count,
@@ -350,11 +339,9 @@ pub fn ink_slots(
         (ring_in floats.now numbers.now from count) }
 {
     let mut pen = start;
-    let mut i = 0;
-    while i < count {
+    for i in 0..count {
         let v = spot_at(floats, numbers, from + i);
         pen = ink_spot(b, centers, pen, v, vertices, indexes);
-        i += 1;
     }
     pen
 }

@@ -173,15 +173,13 @@ fn walk_whole(
         e: t,
         last: t,
     };
-    let mut left = halfedges.len();
-    while left > 0 {
+    for _ in 0..halfedges.len() {
         if wide(w.e) >= halfedges.len() {
             return w;
         }
         w = walk_on(
             b, sites, triangles, halfedges, centers, t, w, vertices, indexes,
         );
-        left -= 1;
     }
     w
 }

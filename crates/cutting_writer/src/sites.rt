@@ -60,9 +60,8 @@ fn cut_site(
     ensures { page result vertices.new indexes.new
         ≡ site_cut b sites.now triangles.now halfedges.now centers (page pen vertices.old indexes.old) t }
 {
-    let c = copy_ring(b, halfedges, vertices, t, wide(d), pen, indexes);
-    if c.done {
-        return c.pen;
+    if let Some(after) = copy_ring(b, halfedges, vertices, t, wide(d), pen, indexes) {
+        return after;
     }
     cut_any(
         b, sites, triangles, halfedges, centers, t, pen, vertices, indexes,
@@ -87,16 +86,14 @@ fn cut_all(
         vertices.old indexes.old offsets.old result vertices.new indexes.new offsets.new }
 {
     let mut pen = start;
-    let mut s: usize = 0;
-    while s < table.len() {
+    for (s, t) in table.iter().enumerate() {
         let d = offsets[s];
         offsets[s] = pen.at as u32;
         pen = cut_site(
-            b, sites, triangles, halfedges, centers, table[s], d, pen, vertices, indexes,
+            b, sites, triangles, halfedges, centers, *t, d, pen, vertices, indexes,
         );
-        s += 1;
     }
-    offsets[s] = pen.at as u32;
+    offsets[table.len()] = pen.at as u32;
     pen
 }
 
@@ -124,10 +121,8 @@ fn expect_walks(triangles: &[u32], offsets: &mut [u32])
     ensures { length offsets.new ≡ length offsets.old }
 {
     fill_from(offsets, 0, 0);
-    let mut i: usize = 0;
-    while i < triangles.len() {
-        expect_one(offsets, wide(triangles[i]));
-        i += 1;
+    for s in triangles {
+        expect_one(offsets, wide(*s));
     }
 }
 
@@ -179,13 +174,10 @@ pub fn cut_sites(
         vertices.old indexes.old offsets.old) result vertices.new indexes.new offsets.new }
 {
     let centers = triangles.len() / 3;
-    let zero = Point { x: 0.0, y: 0.0 };
     let start = Pen {
         at: 0,
         count: centers + 4,
-        any: false,
-        first: zero,
-        last: zero,
+        ends: None,
     };
     put_corners(b, centers, vertices);
     expect_walks(triangles, offsets);

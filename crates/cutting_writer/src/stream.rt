@@ -1,19 +1,23 @@
 // A ring cut by the four sides of a box as it comes: each side keeps the ring's first corner and the last one that came, and hands on what is left of each edge; the last hands
 // on to the pen. Nothing is stored but the piece.
-ghost use Rattle.std.specs.Prelude.{◌≡◌, cond};
+ghost use Rattle.std.specs.Prelude.{◌≡◌, List, ℕ, Float};
+ghost use Rattle.plane.specs.declared.boxes.BoundingBox.{BoundingBox};
+ghost use Rattle.cutting.specs.cuts.Rings.{At};
 ghost use Rattle.cutting.specs.cuts.Cut.{kept};
-ghost use Rattle.cutting.specs.cuts.Stream.{given, held_after, feed_all, closed};
-ghost use Rattle.cutting.specs.pen.Pen.{page};
-ghost use Rattle.cutting.specs.pen.Room.{Ready};
+ghost use Rattle.cutting.specs.cuts.Stream.{given, held_after, feed_all, feed, closed};
+ghost use Rattle.cutting.specs.pen.Pen.{Page, page};
+ghost use Rattle.cutting.specs.pen.Room.{Ready, Later, later_same, later_on};
+ghost use Rattle.cutting.specs.declared.corner.SideName.{SideName};
 ghost use Rattle.cutting.specs.declared.corner.SideName.TheVariants.{Left, Top, Right, Bottom};
-ghost use Rattle.cutting_writer.specs.stream.Stages.{at_of, list_of, held_of, side_at, ink_at, bottom_of, right_of, top_of, left_of};
-ghost use Rattle.cutting_writer.specs.stream.Stages.{feed_bottom, feed_right, feed_top, feed_left, closed_high, closed_low, closed_all, nothing, opened};
+ghost use Rattle.cutting.specs.declared.corner.Corner.{Corner};
+ghost use Rattle.cutting.specs.declared.corner.Carrier.{Carrier};
+ghost use Rattle.cutting_writer.specs.stream.Stages.{at_of, list_of, held_of, side_at, ink_at, Kept, stage_of, left_of, feed_left, closed_all, opened};
+ghost use Rattle.cutting_writer.specs.stream.laws.Stages.{Grows, ink_grows, stage_grows, closed_grows};
 
-use cutting::corner::{Carrier, Corner, SideName, near, within};
+use cutting::corner::{Carrier, Corner, SideName, within};
 use cutting::meet::meet;
 use cutting::pen::{Pen, ink};
 use plane::boxes::BoundingBox;
-use plane::points::Point;
 
 // A corner, and what the edge from it on lies on.
 #[derive(Clone, Copy)]
@@ -30,37 +34,109 @@ pub enum Part {
     Two(Spot, Spot),
 }
 
-// Whether any corner came, the first of them, and the last.
+// Where any corner came: the first of them, and the last.
 #[derive(Clone, Copy)]
 pub struct Held {
-    pub any: bool,
     pub first: Corner,
     pub last: Spot,
 }
 
-#[derive(Clone, Copy)]
-pub struct BottomStage {
-    pub held: Held,
-    pub next: Pen,
+// One of the four sides, as a type: the code of each stage is made for its own side.
+pub trait Side: Copy {
+    const NAME: SideName;
+
+    ghost NAME: { SideName };
 }
 
 #[derive(Clone, Copy)]
-pub struct RightStage {
-    pub held: Held,
-    pub next: BottomStage,
+pub struct LeftSide;
+
+impl Side for LeftSide {
+    const NAME: SideName = SideName::Left;
+
+    ghost NAME = { Left };
 }
 
 #[derive(Clone, Copy)]
-pub struct TopStage {
-    pub held: Held,
-    pub next: RightStage,
+pub struct TopSide;
+
+impl Side for TopSide {
+    const NAME: SideName = SideName::Top;
+
+    ghost NAME = { Top };
 }
 
 #[derive(Clone, Copy)]
-pub struct LeftStage {
-    pub held: Held,
-    pub next: TopStage,
+pub struct RightSide;
+
+impl Side for RightSide {
+    const NAME: SideName = SideName::Right;
+
+    ghost NAME = { Right };
 }
+
+#[derive(Clone, Copy)]
+pub struct BottomSide;
+
+impl Side for BottomSide {
+    const NAME: SideName = SideName::Bottom;
+
+    ghost NAME = { Bottom };
+}
+
+// What takes the corners of a ring one after the other: the pen, or a side before another taker.
+pub trait Taker: Copy {
+    // What it is with both slices, as the definitions have it, and the pen's page in that.
+    ghost Shown: { Type 0 };
+
+    ghost shown: { Self → List Float → List ℕ → Shown };
+
+    ghost page_in: { Shown → Page };
+
+    ghost fed: { BoundingBox → List Float → ℕ → Shown → At Corner Carrier → Shown };
+
+    ghost ended: { BoundingBox → List Float → ℕ → Shown → Page };
+
+    // A corner.
+    fn feed(
+        self,
+        b: BoundingBox,
+        sites: &[f64],
+        centers: usize,
+        v: Spot,
+        vertices: &mut [f64],
+        indexes: &mut [u32],
+    ) -> Self
+        requires { Ready centers (page_in (shown self vertices.old indexes.old)) (page_in (fed b sites.now centers (shown self vertices.old indexes.old) (at_of v))) }
+        ensures { shown result vertices.new indexes.new ≡ fed b sites.now centers (shown self vertices.old indexes.old) (at_of v) };
+
+    // The end of the ring: each side in turn hands on what is left of its last edge, back to the first corner.
+    fn close(
+        self,
+        b: BoundingBox,
+        sites: &[f64],
+        centers: usize,
+        vertices: &mut [f64],
+        indexes: &mut [u32],
+    ) -> Pen
+        requires { Ready centers (page_in (shown self vertices.old indexes.old)) (ended b sites.now centers (shown self vertices.old indexes.old)) }
+        ensures { page result vertices.new indexes.new ≡ ended b sites.now centers (shown self vertices.old indexes.old) };
+
+    // Nothing that is counted falls.
+    ghost feeding_grows: { (b : BoundingBox) (sites : List Float) (centers : ℕ) → Grows page_in (fed b sites centers) };
+
+    ghost ending_grows: { (b : BoundingBox) (sites : List Float) (centers : ℕ) (x : Shown) → Later (page_in x) (ended b sites centers x) };
+}
+
+// A side: what it holds, and what it hands on to.
+#[derive(Clone, Copy)]
+pub struct Stage<S, N> {
+    pub side: S,
+    pub held: Option<Held>,
+    pub next: N,
+}
+
+pub type LeftStage = Stage<LeftSide, Stage<TopSide, Stage<RightSide, Stage<BottomSide, Pen>>>>;
 
 // What a side leaves of the edge from p to q.
 fn keep(b: BoundingBox, sites: &[f64], s: SideName, p: Spot, q: Corner) -> Part
@@ -92,32 +168,33 @@ fn keep(b: BoundingBox, sites: &[f64], s: SideName, p: Spot, q: Corner) -> Part
 }
 
 // What is left of the edge from the last corner to q; nothing where none came.
-fn give(b: BoundingBox, sites: &[f64], s: SideName, h: Held, q: Corner) -> Part
-    ensures { list_of result ≡ given (side_at b sites.now s) (held_of h) q }
+fn give(b: BoundingBox, sites: &[f64], s: SideName, held: Option<Held>, q: Corner) -> Part
+    ensures { list_of result ≡ given (side_at b sites.now s) (held_of held) q }
 {
-    if h.any {
-        let last = h.last;
-        return keep(b, sites, s, last, q);
+    match held {
+        Some(h) => keep(b, sites, s, h.last, q),
+        None => Part::None,
     }
-    Part::None
 }
 
-fn first_corner(any: bool, first: Corner, q: Corner) -> Corner
-    ensures { result ≡ cond any first q }
+// What is left of the last edge, back to the first corner.
+fn give_back(b: BoundingBox, sites: &[f64], s: SideName, held: Option<Held>) -> Part
+    ensures { list_of result ≡ given (side_at b sites.now s) (held_of held) (held_of held).first }
 {
-    if any { first } else { q }
+    match held {
+        Some(h) => keep(b, sites, s, h.last, h.first),
+        None => Part::None,
+    }
 }
 
-fn hold(h: Held, v: Spot) -> Held
-    ensures { held_of result ≡ held_after (held_of h) (at_of v) }
+fn hold(held: Option<Held>, v: Spot) -> Option<Held>
+    ensures { held_of result ≡ held_after (held_of held) (at_of v) }
 {
-    let first = h.first;
-    let q = v.corner;
-    Held {
-        any: true,
-        first: first_corner(h.any, first, q),
-        last: v,
-    }
+    let first = match held {
+        Some(h) => h.first,
+        None => v.corner,
+    };
+    Some(Held { first, last: v })
 }
 
 // The pen takes a corner.
@@ -137,166 +214,114 @@ pub fn ink_spot(
     ink(b, centers, pen, p, q.number, vertices, indexes)
 }
 
-// To the pen: what is left of an edge.
-fn pass_pen(
+impl Taker for Pen {
+    ghost Shown = { Page };
+
+    ghost shown = { page };
+
+    ghost page_in = { λ g. g };
+
+    ghost fed = { λ b sites centers. ink_at b centers };
+
+    ghost ended = { λ b sites centers g. g };
+
+    ghost feeding_grows = { ink_grows };
+
+    ghost ending_grows = { λ b sites centers. later_same };
+
+    fn feed(
+        self,
+        b: BoundingBox,
+        _sites: &[f64],
+        centers: usize,
+        v: Spot,
+        vertices: &mut [f64],
+        indexes: &mut [u32],
+    ) -> Pen {
+        ink_spot(b, centers, self, v, vertices, indexes)
+    }
+
+    fn close(
+        self,
+        _b: BoundingBox,
+        _sites: &[f64],
+        _centers: usize,
+        _vertices: &mut [f64],
+        _indexes: &mut [u32],
+    ) -> Pen {
+        self
+    }
+}
+
+// What is left of an edge goes on to t.
+fn pass<N: Taker>(
     b: BoundingBox,
+    sites: &[f64],
     centers: usize,
-    t: Pen,
+    t: N,
     part: Part,
     vertices: &mut [f64],
     indexes: &mut [u32],
-) -> Pen
-    requires { Ready centers (page t vertices.old indexes.old) (feed_all (ink_at b centers) (page t vertices.old indexes.old) (list_of part)) }
-    ensures { page result vertices.new indexes.new ≡ feed_all (ink_at b centers) (page t vertices.old indexes.old) (list_of part) }
+) -> N
+    requires { Ready centers (N.page_in (N.shown t vertices.old indexes.old))
+        (N.page_in (feed_all (N.fed b sites.now centers) (N.shown t vertices.old indexes.old) (list_of part))) }
+    ensures { N.shown result vertices.new indexes.new ≡ feed_all (N.fed b sites.now centers) (N.shown t vertices.old indexes.old) (list_of part) }
 {
     match part {
         Part::None => t,
-        Part::One(v) => ink_spot(b, centers, t, v, vertices, indexes),
+        Part::One(v) => t.feed(b, sites, centers, v, vertices, indexes),
         Part::Two(v, w) => {
-            let u = ink_spot(b, centers, t, v, vertices, indexes);
-            ink_spot(b, centers, u, w, vertices, indexes)
+            let u = t.feed(b, sites, centers, v, vertices, indexes);
+            u.feed(b, sites, centers, w, vertices, indexes)
         }
     }
 }
 
-// To the bottom: a corner.
-fn feed_bottom(
-    b: BoundingBox,
-    sites: &[f64],
-    centers: usize,
-    t: BottomStage,
-    v: Spot,
-    vertices: &mut [f64],
-    indexes: &mut [u32],
-) -> BottomStage
-    requires { Ready centers (bottom_of t vertices.old indexes.old).next (feed_bottom b sites.now centers (bottom_of t vertices.old indexes.old) (at_of v)).next }
-    ensures { bottom_of result vertices.new indexes.new ≡ feed_bottom b sites.now centers (bottom_of t vertices.old indexes.old) (at_of v) }
-{
-    let h = t.held;
-    let n = t.next;
-    let q = v.corner;
-    let part = give(b, sites, SideName::Bottom, h, q);
-    BottomStage {
-        next: pass_pen(b, centers, n, part, vertices, indexes),
-        held: hold(h, v),
-    }
-}
+impl<S: Side, N: Taker> Taker for Stage<S, N> {
+    ghost Shown = { Kept N.Shown };
 
-// To the bottom: what is left of an edge.
-fn pass_bottom(
-    b: BoundingBox,
-    sites: &[f64],
-    centers: usize,
-    t: BottomStage,
-    part: Part,
-    vertices: &mut [f64],
-    indexes: &mut [u32],
-) -> BottomStage
-    requires { Ready centers (bottom_of t vertices.old indexes.old).next (feed_all (feed_bottom b sites.now centers) (bottom_of t vertices.old indexes.old) (list_of part)).next }
-    ensures { bottom_of result vertices.new indexes.new ≡ feed_all (feed_bottom b sites.now centers)
-        (bottom_of t vertices.old indexes.old) (list_of part) }
-{
-    match part {
-        Part::None => t,
-        Part::One(v) => feed_bottom(b, sites, centers, t, v, vertices, indexes),
-        Part::Two(v, w) => {
-            let u = feed_bottom(b, sites, centers, t, v, vertices, indexes);
-            feed_bottom(b, sites, centers, u, w, vertices, indexes)
+    ghost shown = { λ t v ix. stage_of t.held (N.shown t.next v ix) };
+
+    ghost page_in = { λ t. N.page_in t.next };
+
+    ghost fed = { λ b sites centers. feed (side_at b sites S.NAME) (N.fed b sites centers) };
+
+    ghost ended = { λ b sites centers t. N.ended b sites centers (closed (side_at b sites S.NAME) (N.fed b sites centers) t) };
+
+    ghost feeding_grows = { λ b sites centers. stage_grows N.page_in (side_at b sites S.NAME) (N.fed b sites centers) (N.feeding_grows b sites centers) };
+
+    ghost ending_grows = { λ b sites centers t. later_on
+        (closed_grows N.page_in (side_at b sites S.NAME) (N.fed b sites centers) (N.feeding_grows b sites centers) t)
+        (N.ending_grows b sites centers (closed (side_at b sites S.NAME) (N.fed b sites centers) t)) };
+
+    fn feed(
+        self,
+        b: BoundingBox,
+        sites: &[f64],
+        centers: usize,
+        v: Spot,
+        vertices: &mut [f64],
+        indexes: &mut [u32],
+    ) -> Stage<S, N> {
+        let part = give(b, sites, S::NAME, self.held, v.corner);
+        Stage {
+            side: self.side,
+            held: hold(self.held, v),
+            next: pass(b, sites, centers, self.next, part, vertices, indexes),
         }
     }
-}
 
-// To the right side: a corner.
-fn feed_right(
-    b: BoundingBox,
-    sites: &[f64],
-    centers: usize,
-    t: RightStage,
-    v: Spot,
-    vertices: &mut [f64],
-    indexes: &mut [u32],
-) -> RightStage
-    requires { Ready centers (right_of t vertices.old indexes.old).next.next (feed_right b sites.now centers (right_of t vertices.old indexes.old) (at_of v)).next.next }
-    ensures { right_of result vertices.new indexes.new ≡ feed_right b sites.now centers (right_of t vertices.old indexes.old) (at_of v) }
-{
-    let h = t.held;
-    let n = t.next;
-    let q = v.corner;
-    let part = give(b, sites, SideName::Right, h, q);
-    RightStage {
-        next: pass_bottom(b, sites, centers, n, part, vertices, indexes),
-        held: hold(h, v),
-    }
-}
-
-// To the right side: what is left of an edge.
-fn pass_right(
-    b: BoundingBox,
-    sites: &[f64],
-    centers: usize,
-    t: RightStage,
-    part: Part,
-    vertices: &mut [f64],
-    indexes: &mut [u32],
-) -> RightStage
-    requires { Ready centers (right_of t vertices.old indexes.old).next.next (feed_all (feed_right b sites.now centers) (right_of t vertices.old indexes.old) (list_of part)).next.next }
-    ensures { right_of result vertices.new indexes.new ≡ feed_all (feed_right b sites.now centers)
-        (right_of t vertices.old indexes.old) (list_of part) }
-{
-    match part {
-        Part::None => t,
-        Part::One(v) => feed_right(b, sites, centers, t, v, vertices, indexes),
-        Part::Two(v, w) => {
-            let u = feed_right(b, sites, centers, t, v, vertices, indexes);
-            feed_right(b, sites, centers, u, w, vertices, indexes)
-        }
-    }
-}
-
-// To the top: a corner.
-fn feed_top(
-    b: BoundingBox,
-    sites: &[f64],
-    centers: usize,
-    t: TopStage,
-    v: Spot,
-    vertices: &mut [f64],
-    indexes: &mut [u32],
-) -> TopStage
-    requires { Ready centers (top_of t vertices.old indexes.old).next.next.next (feed_top b sites.now centers (top_of t vertices.old indexes.old) (at_of v)).next.next.next }
-    ensures { top_of result vertices.new indexes.new ≡ feed_top b sites.now centers (top_of t vertices.old indexes.old) (at_of v) }
-{
-    let h = t.held;
-    let n = t.next;
-    let q = v.corner;
-    let part = give(b, sites, SideName::Top, h, q);
-    TopStage {
-        next: pass_right(b, sites, centers, n, part, vertices, indexes),
-        held: hold(h, v),
-    }
-}
-
-// To the top: what is left of an edge.
-fn pass_top(
-    b: BoundingBox,
-    sites: &[f64],
-    centers: usize,
-    t: TopStage,
-    part: Part,
-    vertices: &mut [f64],
-    indexes: &mut [u32],
-) -> TopStage
-    requires { Ready centers (top_of t vertices.old indexes.old).next.next.next
-        (feed_all (feed_top b sites.now centers) (top_of t vertices.old indexes.old) (list_of part)).next.next.next }
-    ensures { top_of result vertices.new indexes.new ≡ feed_all (feed_top b sites.now centers) (top_of t vertices.old indexes.old) (list_of part) }
-{
-    match part {
-        Part::None => t,
-        Part::One(v) => feed_top(b, sites, centers, t, v, vertices, indexes),
-        Part::Two(v, w) => {
-            let u = feed_top(b, sites, centers, t, v, vertices, indexes);
-            feed_top(b, sites, centers, u, w, vertices, indexes)
-        }
+    fn close(
+        self,
+        b: BoundingBox,
+        sites: &[f64],
+        centers: usize,
+        vertices: &mut [f64],
+        indexes: &mut [u32],
+    ) -> Pen {
+        let part = give_back(b, sites, S::NAME, self.held);
+        let t = pass(b, sites, centers, self.next, part, vertices, indexes);
+        t.close(b, sites, centers, vertices, indexes)
     }
 }
 
@@ -314,129 +339,7 @@ pub fn feed_left(
         (feed_left b sites.now centers (left_of t vertices.old indexes.old) (at_of v)).next.next.next.next }
     ensures { left_of result vertices.new indexes.new ≡ feed_left b sites.now centers (left_of t vertices.old indexes.old) (at_of v) }
 {
-    let h = t.held;
-    let n = t.next;
-    let q = v.corner;
-    let part = give(b, sites, SideName::Left, h, q);
-    LeftStage {
-        next: pass_top(b, sites, centers, n, part, vertices, indexes),
-        held: hold(h, v),
-    }
-}
-
-// The last edge at the bottom, back to the first corner.
-fn close_bottom(
-    b: BoundingBox,
-    sites: &[f64],
-    centers: usize,
-    t: BottomStage,
-    vertices: &mut [f64],
-    indexes: &mut [u32],
-) -> Pen
-    requires { Ready centers (bottom_of t vertices.old indexes.old).next (closed (side_at b sites.now Bottom) (ink_at b centers) (bottom_of t vertices.old indexes.old)) }
-    ensures { page result vertices.new indexes.new ≡ closed (side_at b sites.now Bottom) (ink_at b centers)
-        (bottom_of t vertices.old indexes.old) }
-{
-    let h = t.held;
-    let n = t.next;
-    let q = h.first;
-    let part = give(b, sites, SideName::Bottom, h, q);
-    pass_pen(b, centers, n, part, vertices, indexes)
-}
-
-// The last edge at the right side, back to the first corner.
-fn close_right(
-    b: BoundingBox,
-    sites: &[f64],
-    centers: usize,
-    t: RightStage,
-    vertices: &mut [f64],
-    indexes: &mut [u32],
-) -> BottomStage
-    requires { Ready centers (right_of t vertices.old indexes.old).next.next
-        (closed (side_at b sites.now Right) (feed_bottom b sites.now centers) (right_of t vertices.old indexes.old)).next }
-    ensures { bottom_of result vertices.new indexes.new ≡ closed (side_at b sites.now Right) (feed_bottom b sites.now centers)
-        (right_of t vertices.old indexes.old) }
-{
-    let h = t.held;
-    let n = t.next;
-    let q = h.first;
-    let part = give(b, sites, SideName::Right, h, q);
-    pass_bottom(b, sites, centers, n, part, vertices, indexes)
-}
-
-// The last edge at the top, back to the first corner.
-fn close_top(
-    b: BoundingBox,
-    sites: &[f64],
-    centers: usize,
-    t: TopStage,
-    vertices: &mut [f64],
-    indexes: &mut [u32],
-) -> RightStage
-    requires { Ready centers (top_of t vertices.old indexes.old).next.next.next
-        (closed (side_at b sites.now Top) (feed_right b sites.now centers) (top_of t vertices.old indexes.old)).next.next }
-    ensures { right_of result vertices.new indexes.new ≡ closed (side_at b sites.now Top) (feed_right b sites.now centers)
-        (top_of t vertices.old indexes.old) }
-{
-    let h = t.held;
-    let n = t.next;
-    let q = h.first;
-    let part = give(b, sites, SideName::Top, h, q);
-    pass_right(b, sites, centers, n, part, vertices, indexes)
-}
-
-// The last edge at the left side, back to the first corner.
-fn close_left(
-    b: BoundingBox,
-    sites: &[f64],
-    centers: usize,
-    t: LeftStage,
-    vertices: &mut [f64],
-    indexes: &mut [u32],
-) -> TopStage
-    requires { Ready centers (left_of t vertices.old indexes.old).next.next.next.next
-        (closed (side_at b sites.now Left) (feed_top b sites.now centers) (left_of t vertices.old indexes.old)).next.next.next }
-    ensures { top_of result vertices.new indexes.new ≡ closed (side_at b sites.now Left) (feed_top b sites.now centers)
-        (left_of t vertices.old indexes.old) }
-{
-    let h = t.held;
-    let n = t.next;
-    let q = h.first;
-    let part = give(b, sites, SideName::Left, h, q);
-    pass_top(b, sites, centers, n, part, vertices, indexes)
-}
-
-// The left side and the top.
-fn close_high(
-    b: BoundingBox,
-    sites: &[f64],
-    centers: usize,
-    t: LeftStage,
-    vertices: &mut [f64],
-    indexes: &mut [u32],
-) -> RightStage
-    requires { Ready centers (left_of t vertices.old indexes.old).next.next.next.next (closed_high b sites.now centers (left_of t vertices.old indexes.old)).next.next }
-    ensures { right_of result vertices.new indexes.new ≡ closed_high b sites.now centers (left_of t vertices.old indexes.old) }
-{
-    let u = close_left(b, sites, centers, t, vertices, indexes);
-    close_top(b, sites, centers, u, vertices, indexes)
-}
-
-// The right side and the bottom.
-fn close_low(
-    b: BoundingBox,
-    sites: &[f64],
-    centers: usize,
-    t: RightStage,
-    vertices: &mut [f64],
-    indexes: &mut [u32],
-) -> Pen
-    requires { Ready centers (right_of t vertices.old indexes.old).next.next (closed_low b sites.now centers (right_of t vertices.old indexes.old)) }
-    ensures { page result vertices.new indexes.new ≡ closed_low b sites.now centers (right_of t vertices.old indexes.old) }
-{
-    let u = close_right(b, sites, centers, t, vertices, indexes);
-    close_bottom(b, sites, centers, u, vertices, indexes)
+    t.feed(b, sites, centers, v, vertices, indexes)
 }
 
 // All four sides: the ring is at its end.
@@ -451,36 +354,27 @@ pub fn close(
     requires { Ready centers (left_of t vertices.old indexes.old).next.next.next.next (closed_all b sites.now centers (left_of t vertices.old indexes.old)) }
     ensures { page result vertices.new indexes.new ≡ closed_all b sites.now centers (left_of t vertices.old indexes.old) }
 {
-    let u = close_high(b, sites, centers, t, vertices, indexes);
-    close_low(b, sites, centers, u, vertices, indexes)
-}
-
-fn hold_nothing() -> Held
-    ensures { result ≡ nothing }
-{
-    let q = near(Point { x: 0.0, y: 0.0 });
-    Held {
-        any: false,
-        first: q,
-        last: Spot {
-            corner: q,
-            on: Carrier::Infinity,
-        },
-    }
+    t.close(b, sites, centers, vertices, indexes)
 }
 
 // The four sides before any corner came.
 pub fn open(pen: Pen) -> LeftStage
     ensures { result ≡ opened pen }
 {
-    let h = hold_nothing();
-    LeftStage {
-        held: h,
-        next: TopStage {
-            held: h,
-            next: RightStage {
-                held: h,
-                next: BottomStage { held: h, next: pen },
+    Stage {
+        side: LeftSide,
+        held: None,
+        next: Stage {
+            side: TopSide,
+            held: None,
+            next: Stage {
+                side: RightSide,
+                held: None,
+                next: Stage {
+                    side: BottomSide,
+                    held: None,
+                    next: pen,
+                },
             },
         },
     }

@@ -7,13 +7,5 @@ pub fn turn_round(indexes: &mut [u32], from: usize, to: usize)
     requires { (from ≤ to) × (to ≤ length indexes.old) }
     ensures { indexes.new ≡ turned_round from to indexes.old }
 {
-    let mut i = from;
-    let mut j = to;
-    while 1 < j - i {
-        j -= 1;
-        let x = indexes[i];
-        indexes[i] = indexes[j];
-        indexes[j] = x;
-        i += 1;
-    }
+    indexes[from..to].reverse();
 }

@@ -1,10 +1,11 @@
 -- A piece's corners as they are written: the vertex number of each place, and what is left of the slices. Definitions only.
-use Rattle.std.specs.Prelude.{Bool, true, false, cond, ◌&&◌, List, ℕ, ◌+◌, ◌*◌, eqb, Float, set}
+use Rattle.std.specs.Prelude.{Bool, false, ◌&&◌, Option, Some, None, List, ℕ, ◌+◌, ◌*◌, eqb, Float, set}
 use Rattle.std.specs.Float.Ieee.{eq}
 use Rattle.base.specs.common.Pick.{pick}
 use Rattle.base.specs.numbers.Numbers.{EMPTY}
 use Rattle.plane.specs.declared.points.Point.{Point}
 use Rattle.plane.specs.declared.boxes.BoundingBox.{BoundingBox}
+use Rattle.cutting.specs.declared.pen.Ends.{Ends}
 use Rattle.cutting.specs.declared.pen.Pen.{Pen}
 
 abbrev pub same_place : Point → Point → Bool
@@ -29,8 +30,18 @@ count_with n count = pick (eqb n count) (λ _. count + 1) (λ _. count)
 unfoldable pub added_vertex : ℕ → ℕ → Point → List Float → List Float
 added_vertex n count p v = pick (eqb n count) (λ _. set (set v (2 * n) p.x) (2 * n + 1) p.y) (λ _. v)
 
+-- whether p is the last place again
+abbrev pub ends_at : Option Ends → Point → Bool
+ends_at None p = false
+ends_at (Some e) p = same_place e.last p
+
 unfoldable pub repeats : Pen → Point → Bool
-repeats pen p = pick pen.any (λ _. same_place pen.last p) (λ _. false)
+repeats pen p = ends_at pen.ends p
+
+-- the ends with p for the last place
+abbrev pub ends_with : Option Ends → Point → Ends
+ends_with None p = record { first = p; last = p }
+ends_with (Some e) p = record { first = e.first; last = p }
 
 -- the pen and both slices
 pub record Page : Type 0 where
@@ -43,7 +54,7 @@ page pen v ix = record { pen = pen; vertices = v; indexes = ix }
 
 abbrev pub pen_after : ℕ → Pen → Point → Pen
 pen_after n pen p =
-    record { at = pen.at + 1; count = count_with n pen.count; any = true; first = cond pen.any pen.first p; last = p }
+    record { at = pen.at + 1; count = count_with n pen.count; ends = Some (ends_with pen.ends p) }
 
 unfoldable pub written_as : ℕ → Page → Point → Page
 written_as n g p = page (pen_after n g.pen p) (added_vertex n g.pen.count p g.vertices) (set g.indexes g.pen.at n)
@@ -54,7 +65,7 @@ inked b centers g p number = pick (repeats g.pen p) (λ _. g) (λ _. written_as 
 
 -- ---- a circumcenter that goes on with the ring: it has its number and its vertex, so only an entry is written
 unfoldable pub pen_on : Pen → Point → Pen
-pen_on pen p = pick (repeats pen p) (λ _. pen) (λ _. record { at = pen.at + 1; count = pen.count; any = true; first = cond pen.any pen.first p; last = p })
+pen_on pen p = pick (repeats pen p) (λ _. pen) (λ _. record { at = pen.at + 1; count = pen.count; ends = Some (ends_with pen.ends p) })
 
 unfoldable pub entries_on : Pen → Point → ℕ → List ℕ → List ℕ
 entries_on pen p n ix = pick (repeats pen p) (λ _. ix) (λ _. set ix pen.at n)

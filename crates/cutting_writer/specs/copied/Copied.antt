@@ -1,5 +1,5 @@
 -- A ring that lies wholly in the box and has no place twice in a row: what the pen makes of it in one go. Definitions only.
-use Rattle.std.specs.Prelude.{◌≡◌, true, false, List, ℕ, zero, suc, ◌+◌, ◌-◌, ◌*◌, ◌/◌, ◌%◌, ◌≤◌, ◌<◌, Float, length, get_or, set}
+use Rattle.std.specs.Prelude.{◌≡◌, true, false, Some, None, List, ℕ, zero, suc, ◌+◌, ◌-◌, ◌*◌, ◌/◌, ◌%◌, ◌≤◌, ◌<◌, Float, length, get_or, set}
 use Rattle.base.specs.numbers.Numbers.{EMPTY}
 use Rattle.plane.specs.points.Flat.{point_at}
 use Rattle.plane.specs.sides.Sides.{inside_of}
@@ -20,7 +20,7 @@ laid_to stage at (suc i) ix = set (laid_to stage at i ix) (at + i) (get_or stage
 
 -- the pen after n places, the first of them and the last
 abbrev pub pen_in : Pen → ℕ → Point → Point → Pen
-pen_in pen n first last = record { at = pen.at + n; count = pen.count; any = true; first = first; last = last }
+pen_in pen n first last = record { at = pen.at + n; count = pen.count; ends = Some (record { first = first; last = last }) }
 
 -- what a step asks: whole triangles, each with a circumcenter
 pub record Steppable (he : List ℕ) (centers : List Float) : Type 0 where
@@ -68,7 +68,7 @@ pub record Lapped (b : BoundingBox) (he : List ℕ) (centers : List Float) (t n 
   pub inside : RingInside b he centers t
   pub apart : same_place first last ≡ false
   pub many : 3 ≤ n
-  pub inked : (pen : Pen) (ix : List ℕ) → pen.any ≡ false
+  pub inked : (pen : Pen) (ix : List ℕ) → pen.ends ≡ None
       → page (pen_in pen n first last) centers (laid_to stage pen.at n ix) ≡ feed_all out_on (page pen centers ix) (whole_of he t)
 
 module _ (b : BoundingBox) (he : List ℕ) (centers : List Float) (t n : ℕ) (first : Point) (stage : List ℕ) where
@@ -87,6 +87,12 @@ module _ (b : BoundingBox) (he : List ℕ) (centers : List Float) (t n : ℕ) (f
   pub record LapLaid : Type 0 where
     pub end : get_or stage (n - 1) 0 < length he / 3
     pub lap : (last : Point) → last ≡ point_at centers (get_or stage (n - 1) 0) → same_place first last ≡ false → Lapped b he centers t n stage first last
+
+-- the same with some first place and some last
+pub record Laps (b : BoundingBox) (he : List ℕ) (centers : List Float) (t n : ℕ) (stage : List ℕ) : Type 0 where
+  pub first : Point
+  pub last : Point
+  pub lap : Lapped b he centers t n stage first last
 
 -- page h is page g with the piece of the walk from t
 pub record CopiedInto (b : BoundingBox) (he : List ℕ) (t : ℕ) (g h : Page) : Type 0 where

@@ -1,5 +1,5 @@
 -- The pieces of all sites: each ring cut by the four sides, written and closed, one after the other, and what the slices hold then. Definitions only.
-use Rattle.std.specs.Prelude.{◌≡◌, false, List, [], ◌∷◌, ℕ, suc, ◌+◌, ◌*◌, ◌/◌, ◌≤◌, ◌<◌, Float, length, set}
+use Rattle.std.specs.Prelude.{◌≡◌, None, List, [], ◌∷◌, ℕ, suc, ◌+◌, ◌*◌, ◌/◌, ◌≤◌, ◌<◌, Float, length, set}
 use Rattle.base.specs.common.Binary64.{zero}
 use Rattle.base.specs.numbers.Numbers.{EMPTY}
 use Rattle.plane.specs.points.Plane.{at}
@@ -41,7 +41,7 @@ cornered b centers v =
     put_at (centers + 3) (at b.right b.top) (put_at (centers + 2) (at b.right b.bottom) (put_at (centers + 1) (at b.left b.bottom) (put_at centers (at b.left b.top) v)))
 
 abbrev pub start_pen : ℕ → Pen
-start_pen centers = record { at = 0; count = centers + 4; any = false; first = at zero zero; last = at zero zero }
+start_pen centers = record { at = 0; count = centers + 4; ends = None }
 
 abbrev pub start_sheet : BoundingBox → ℕ → List Float → List ℕ → List ℕ → Sheet
 start_sheet b centers v ix off = record { page = page (start_pen centers) (cornered b centers v) ix; offsets = off }

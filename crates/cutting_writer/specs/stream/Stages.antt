@@ -1,5 +1,5 @@
 -- The stream of the four sides: what the code keeps as the stages of cutting::cuts, and the cut by all four. Definitions only.
-use Rattle.std.specs.Prelude.{false, List, [], ◌∷◌, ℕ, Float}
+use Rattle.std.specs.Prelude.{true, false, List, [], ◌∷◌, ℕ, Float, Option, Some, None}
 use Rattle.plane.specs.declared.boxes.BoundingBox.{BoundingBox}
 use Rattle.cutting.specs.cuts.Rings.{At}
 use Rattle.cutting.specs.cuts.Cut.{Side, cut_by}
@@ -17,12 +17,13 @@ use Rattle.cutting.specs.declared.pen.Pen.{Pen}
 use Rattle.cutting.specs.pen.Pen.{Page, page, inked}
 use Rattle.cutting_writer.specs.declared.stream.Spot.{Spot}
 use Rattle.cutting_writer.specs.declared.stream.Part.{Part}
-use Rattle.cutting_writer.specs.declared.stream.Part.TheVariants.{None, One, Two}
+use Rattle.cutting_writer.specs.declared.stream.Part.TheVariants as part
 use Rattle.cutting_writer.specs.declared.stream.Held.{Held}
-use Rattle.cutting_writer.specs.declared.stream.BottomStage.{BottomStage}
-use Rattle.cutting_writer.specs.declared.stream.RightStage.{RightStage}
-use Rattle.cutting_writer.specs.declared.stream.TopStage.{TopStage}
-use Rattle.cutting_writer.specs.declared.stream.LeftStage.{LeftStage}
+use Rattle.cutting_writer.specs.declared.stream.LeftSide.{LeftSide}
+use Rattle.cutting_writer.specs.declared.stream.TopSide.{TopSide}
+use Rattle.cutting_writer.specs.declared.stream.RightSide.{RightSide}
+use Rattle.cutting_writer.specs.declared.stream.BottomSide.{BottomSide}
+use Rattle.cutting_writer.specs.declared.stream.Stage.{Stage}
 
 -- a ring of the mesh, as it is cut
 abbrev pub Ring : Type 0
@@ -33,24 +34,47 @@ abbrev pub at_of : Spot → At Corner Carrier
 at_of v = record { corner = v.corner; on = v.on }
 
 abbrev pub list_of : Part → Ring
-list_of None = []
-list_of (One v) = at_of v ∷ []
-list_of (Two v w) = at_of v ∷ at_of w ∷ []
+list_of part.None = []
+list_of (part.One v) = at_of v ∷ []
+list_of (part.Two v w) = at_of v ∷ at_of w ∷ []
 
-abbrev pub held_of : Held → stream.Held Corner Carrier
-held_of h = record { any = h.any; first = h.first; last = at_of h.last }
+-- before any corner
+abbrev pub nothing : stream.Held Corner Carrier
+nothing = record { any = false; first = near (at zero zero); last = record { corner = near (at zero zero); on = Infinity } }
+
+abbrev pub held_of : Option Held → stream.Held Corner Carrier
+held_of None = nothing
+held_of (Some h) = record { any = true; first = h.first; last = at_of h.last }
+
+abbrev pub Kept : Type 0 → Type 0
+Kept X = stream.Stage Corner Carrier X
+
+abbrev pub stage_of : {X : Type 0} → Option Held → X → Kept X
+stage_of h x = record { held = held_of h; next = x }
+
+abbrev pub BottomStage : Type 0
+BottomStage = Stage BottomSide Pen
+
+abbrev pub RightStage : Type 0
+RightStage = Stage RightSide BottomStage
+
+abbrev pub TopStage : Type 0
+TopStage = Stage TopSide RightStage
+
+abbrev pub LeftStage : Type 0
+LeftStage = Stage LeftSide TopStage
 
 abbrev pub bottom_of : BottomStage → List Float → List ℕ → stream.Stage Corner Carrier Page
-bottom_of t v ix = record { held = held_of t.held; next = page t.next v ix }
+bottom_of t v ix = stage_of t.held (page t.next v ix)
 
 abbrev pub right_of : RightStage → List Float → List ℕ → stream.Stage Corner Carrier (stream.Stage Corner Carrier Page)
-right_of t v ix = record { held = held_of t.held; next = bottom_of t.next v ix }
+right_of t v ix = stage_of t.held (bottom_of t.next v ix)
 
 abbrev pub top_of : TopStage → List Float → List ℕ → stream.Stage Corner Carrier (stream.Stage Corner Carrier (stream.Stage Corner Carrier Page))
-top_of t v ix = record { held = held_of t.held; next = right_of t.next v ix }
+top_of t v ix = stage_of t.held (right_of t.next v ix)
 
 abbrev pub left_of : LeftStage → List Float → List ℕ → stream.Stage Corner Carrier (stream.Stage Corner Carrier (stream.Stage Corner Carrier (stream.Stage Corner Carrier Page)))
-left_of t v ix = record { held = held_of t.held; next = top_of t.next v ix }
+left_of t v ix = stage_of t.held (top_of t.next v ix)
 
 -- ---- the four sides, and what each hands on to
 abbrev pub side_at : BoundingBox → List Float → SideName → Side Corner Carrier
@@ -88,11 +112,12 @@ module _ (b : BoundingBox) (sites : List Float) (centers : ℕ) where
   abbrev pub closed_all : Stages → Page
   closed_all t = closed_low (closed_high t)
 
-abbrev pub nothing : Held
-nothing = record { any = false; first = near (at zero zero); last = record { corner = near (at zero zero); on = Infinity } }
-
 abbrev pub opened : Pen → LeftStage
-opened pen = record { held = nothing; next = record { held = nothing; next = record { held = nothing; next = record { held = nothing; next = pen } } } }
+opened pen = record {
+  side = record {};
+  held = None;
+  next = record { side = record {}; held = None; next = record { side = record {}; held = None; next = record { side = record {}; held = None; next = pen } } };
+}
 
 -- a ring cut by the four sides in turn
 unfoldable pub cut_four : BoundingBox → List Float → Ring → Ring

@@ -1,3 +1,2 @@
 -- Laws that only proofs use.
-pub mod Handed
 pub mod Stages

@@ -1,11 +1,15 @@
 -- The turns of the first places are at most as many (`turns_small`), and the number by its tests.
 use Rattle.std.specs.Prelude.{◌≡◌, Bool, true, false, List, Float, length, get_or}
 use Rattle.std.proofs.Math.Path.{refl, ap}
-use Rattle.std.proofs.Common.{◌∙◌}
+use Rattle.std.proofs.Common.{◌∙◌, sym, subst}
+use Rattle.std.proofs.lemmas.List.FromFn.{length-range_with_len, get_or-range_with_len}
+use Rattle.std.specs.Bool.{MatchBool}
+use Rattle.std.specs.List.{HoldsAt, AllWithin, range_with_len}
 use Prim.Native.Nat.{ℕ, zero, suc, ◌+◌, ◌≤◌, ◌<◌}
 use native.Mathlib.Omega.{arith}
-use borrow.Author.Tests.{eq-eqb, ne_eqb, lt-ltb, le-ltb}
-use Rattle.ring_area.specs.lowest.Lowest.{lowest}
+use borrow.Author.Tests.{eq-eqb, ne_eqb}
+use Rattle.ring_area.specs.lowest.Lowest.{any_below}
+use Rattle.ring_area.specs.lowest.laws.Loops.{none_below, some_below}
 use Rattle.plane.specs.declared.boxes.BoundingBox.{BoundingBox}
 use Rattle.mesh.specs.Mesh.{start_of}
 use Rattle.cutting.specs.cuts.Step.{passed_by}
@@ -48,19 +52,25 @@ module _ (b : BoundingBox) (sites : List Float) (tri hull table : List ℕ) (cen
   unfolding turns_to
   turns_step i e f = let q : i + 1 ≡ suc i = omega arith in rw q (f ∙ ap (λ (z : Turns). turns_after b sites tri hull table centers z i) e)
 
-  pub turns_end : {i : ℕ} {t : Turns} → t ≡ turns_to b sites tri hull table centers i → i ≡ length hull → t ≡ turns_to b sites tri hull table centers (length hull)
-  turns_end e l = e ∙ ap (turns_to b sites tri hull table centers) l
-
   pub turned_at_lem : (t : Turns) (i : ℕ) {o w e v n : ℕ} {p q : Corner} {r : Turns} → o ≡ arrives_at table hull i → w ≡ o → e ≡ start_of tri w → v ≡ e → n ≡ get_or table v 0
       → p ≡ hull_end sites tri centers o → q ≡ hull_end sites tri centers n → r ≡ turned_by b t p q → r ≡ turns_after b sites tri hull table centers t i
   unfolding turns_after
   turned_at_lem t i d w e v n p q r = rw (r, q, p, n, v, e, w, d) refl
 
-  pub no_way : {r : ℕ} → r ≡ lowest (undirected_at sites tri hull table) (length hull) → r < length hull → refused_border ≡ border_number b sites tri hull table centers
+  pub no_way : any_below (undirected_at sites tri hull table) (length hull) ≡ true → refused_border ≡ border_number b sites tri hull table centers
   unfolding border_number
-  no_way e l = rw (← e, lt-ltb _ (length hull) l) refl
+  no_way e = rw e refl
 
-  pub by_turns : {r n : ℕ} {t : Turns} → r ≡ lowest (undirected_at sites tri hull table) (length hull) → (r < length hull → ⊥) → t ≡ turns_to b sites tri hull table centers (length hull)
+  pub by_turns : {n : ℕ} {t : Turns} → any_below (undirected_at sites tri hull table) (length hull) ≡ false → t ≡ turns_to b sites tri hull table centers (length hull)
       → n ≡ once_of t → n ≡ border_number b sites tri hull table centers
   unfolding border_number
-  by_turns {r} e l f g = rw (g, f, ← e, le-ltb r (length hull) (omega (arith, l))) refl
+  by_turns e f g = rw (g, f, e) refl
+
+-- what `any` says of the numbers below n
+pub any_is : (p : ℕ → Bool) (n : ℕ) (r : Bool) → MatchBool r ((k : ℕ) × (k < length (range_with_len 0 n)) × HoldsAt (λ i. p i ≡ true) (range_with_len 0 n) k)
+    (AllWithin (λ i. p i ≡ false) (range_with_len 0 n) 0 (length (range_with_len 0 n))) → r ≡ any_below p n
+any_is p n true h =
+    let l : h.0 < n = omega (arith, h.1, length-range_with_len 0 n) in
+    sym (some_below p h.0 l (subst (λ (i : ℕ). p i ≡ true) (get_or-range_with_len 0 n h.0 0 l ∙ omega arith) (h.2 0)))
+any_is p n false h =
+    sym (none_below p n (λ k l. subst (λ (i : ℕ). p i ≡ false) (get_or-range_with_len 0 n k 0 l ∙ omega arith) (h k 0 (omega arith) (omega (arith, length-range_with_len 0 n)))))

@@ -16,11 +16,11 @@ use Rattle.cutting.specs.border.Border.{border_number}
 use Rattle.cutting.specs.rings.Counts.{site_names}
 use Rattle.cutting.specs.rooms.laws.Rings.{bisectors, entries_room, points_room}
 use Rattle.cutting.specs.declared.pen.Pen.{Pen}
-use Rattle.cutting.specs.pen.Pen.{same_place, Page}
+use Rattle.cutting.specs.pen.Pen.{Page}
 use Rattle.cutting.specs.pen.Room.{Roomy}
 use Rattle.cutting_writer.specs.stream.Stages.{cut_four}
 use Rattle.cutting_writer.specs.turn.laws.Turning.{turned_length}
-use Rattle.cutting_writer.specs.end.Ended.{closed_at, kept_at, pen_ended, ended}
+use Rattle.cutting_writer.specs.end.Ended.{closes, closed_at, kept_at, pen_ended, ended}
 use Rattle.cutting_writer.specs.site.Ring.{site_ring}
 use Rattle.cutting_writer.specs.sites.Pieces.{site_ink, site_cut, cornered, start_sheet, RoomyFrom}
 use Rattle.cutting_writer.specs.sites.laws.Sheets.{ink_later}
@@ -38,7 +38,7 @@ kept_between begin at h = go (ltb (at - begin) 3)
 
 closed_between : (begin : ℕ) (pen : Pen) → begin ≤ pen.at → (begin ≤ closed_at begin pen) × (closed_at begin pen ≤ pen.at)
 unfolding closed_at
-closed_between begin pen h = go (ltb (pen.at - begin) 2) refl (same_place pen.first pen.last)
+closed_between begin pen h = go (ltb (pen.at - begin) 2) refl (closes pen.ends)
   where
     go : (t : Bool) → ltb (pen.at - begin) 2 ≡ t → (z : Bool)
         → (begin ≤ pick t (λ _. pen.at) (λ _. pick z (λ _. pen.at - 1) (λ _. pen.at))) × (pick t (λ _. pen.at) (λ _. pick z (λ _. pen.at - 1) (λ _. pen.at)) ≤ pen.at)

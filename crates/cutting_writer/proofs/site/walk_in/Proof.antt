@@ -4,8 +4,7 @@ use Rattle.cutting.specs.pen.Room.{Ready}
 use Rattle.cutting_writer.specs.site.Ring.{ray_of}
 use Rattle.cutting_writer.specs.site.Walked.{page_of}
 use Rattle.cutting_writer.specs.site.laws.Ringed.{begun_enter, begun_walk, begun_walked}
-use Rattle.cutting_writer.specs.stream.Stages.{left_of, opened, feed_left}
-use Rattle.cutting_writer.specs.declared.stream.LeftStage.{LeftStage}
+use Rattle.cutting_writer.specs.stream.Stages.{LeftStage, left_of, opened, feed_left}
 use borrow.Author.Rules.{rules}
 use mathlib.Core.Path.{sym, ap, subst, ◌∙◌}
 use Rattle.cutting_writer.proofs.site.walk_in.Statement.{statement}

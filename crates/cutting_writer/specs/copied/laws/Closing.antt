@@ -1,8 +1,7 @@
 -- A walk laid in the stage from both ends: what comes from the other end closes any walk that leads there (`closing_start`, `closing_back`, `closing_ahead`), so where the two ends meet the
 -- walk is round (`met_round`).
-use Rattle.std.specs.Prelude.{◌≡◌, refl, Bool, true, false, ◌||◌, List, ℕ, ◌+◌, ◌-◌, ◌/◌, ◌%◌, ◌≤◌, ◌<◌, Float, length, get_or, set}
+use Rattle.std.specs.Prelude.{◌≡◌, refl, List, ℕ, ◌+◌, ◌-◌, ◌/◌, ◌%◌, ◌≤◌, ◌<◌, Float, length, get_or, set}
 use Rattle.std.proofs.Common.{sym, ap, ◌∙◌, ⊎_elim, arith, length-set, get_or-set_same, get_or-set_other}
-use Rattle.std.proofs.lemmas.Bool.{false≢true}
 use Rattle.base.specs.common.laws.Decide.{eq_or_ne}
 use Rattle.plane.specs.points.Flat.{point_at}
 use Rattle.plane.specs.declared.points.Point.{Point}
@@ -10,15 +9,6 @@ use Rattle.plane.specs.declared.boxes.BoundingBox.{BoundingBox}
 use Rattle.mesh.specs.Mesh.{around}
 use Rattle.cutting_writer.specs.copied.Copied.{LapCorner, JoinedTo, EndsMeet, Begun, LapLaid, BothStepped}
 use Rattle.cutting_writer.specs.copied.laws.Lapping.{Lapping, lapping_start, lapping_step, lapping_ahead, lapping_end}
-
--- neither of two
-pub neither_left : (a b : Bool) → (a || b) ≡ false → a ≡ false
-neither_left true b h = h
-neither_left false b h = refl
-
-pub neither_right : (a b : Bool) → (a || b) ≡ false → b ≡ false
-neither_right true b h = absurd (false≢true (sym h))
-neither_right false b h = h
 
 module _ (b : BoundingBox) (he : List ℕ) (centers : List Float) (t n : ℕ) (first : Point) where
   -- a walk of n that comes back to t

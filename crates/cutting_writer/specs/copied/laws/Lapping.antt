@@ -1,8 +1,8 @@
 -- One walk that both looks and lays: as far as it came its circumcenters are in the box, and the pen takes them as they stand in the stage (`lapping_start`, `lapping_step`, `lapping_end`).
-use Rattle.std.specs.Prelude.{◌≡◌, Bool, false, not, List, ℕ, ◌+◌, ◌-◌, ◌/◌, ◌≤◌, ◌<◌, Float}
+use Rattle.std.specs.Prelude.{◌≡◌, false, Some, None, List, ℕ, ◌+◌, ◌-◌, ◌/◌, ◌≤◌, ◌<◌, Float}
 use Rattle.std.proofs.Math.Path.{refl, sym, ap, subst}
 use Rattle.std.proofs.Common.{◌∙◌, add-one, get_or-set_other, eq-eqb, ne_eqb}
-use Rattle.std.proofs.Math.Bool.{true, not-not}
+use Rattle.std.proofs.Math.Bool.{true}
 use native.Mathlib.Omega.{arith}
 use Rattle.std.proofs.Math.ListN.{length, get_or, set}
 use Rattle.std.proofs.Math.Seq.{get_or-set_same}
@@ -21,22 +21,18 @@ use Rattle.cutting_writer.specs.end.Ended.{pen_ended, ended}
 use Rattle.cutting_writer.specs.copied.Copied.{laid_to, pen_in, LapCorner, JoinedTo, Lapped, CopiedInto}
 use Rattle.cutting_writer.specs.copied.laws.Laying.{laid_ahead, laid_step, lap_ended}
 
--- what was asked and not denied
-pub said_yes : (r x : Bool) → r ≡ x → not r ≡ false → x ≡ true
-said_yes r x asked taken = sym asked ∙ sym (not-not r) ∙ ap not taken
-
 -- the pen goes on to a place that does not repeat its last
-on_first : (pen : Pen) (p : Point) → pen.any ≡ false → pen_in pen 1 p p ≡ pen_on pen p
+on_first : (pen : Pen) (p : Point) → pen.ends ≡ None → pen_in pen 1 p p ≡ pen_on pen p
 unfolding pen_on repeats
 on_first pen p none = rw none refl
 
-entries_first : (pen : Pen) (p : Point) (q : ℕ) (ix : List ℕ) → pen.any ≡ false → set ix pen.at q ≡ entries_on pen p q ix
+entries_first : (pen : Pen) (p : Point) (q : ℕ) (ix : List ℕ) → pen.ends ≡ None → set ix pen.at q ≡ entries_on pen p q ix
 unfolding entries_on repeats
 entries_first pen p q ix none = rw none refl
 
 on_next : (pen : Pen) (i : ℕ) (first last p : Point) → same_place last p ≡ false → pen_in pen (i + 1) first p ≡ pen_on (pen_in pen i first last) p
 unfolding pen_on repeats
-on_next pen i first last p other = rw other (let z : pen.at + (i + 1) ≡ pen.at + i + 1 = omega arith in λ j. record { at = z j; count = pen.count; any = true; first = first; last = p })
+on_next pen i first last p other = rw other (let z : pen.at + (i + 1) ≡ pen.at + i + 1 = omega arith in λ j. record { at = z j; count = pen.count; ends = Some (record { first = first; last = p }) })
 
 entries_next : (pen : Pen) (i : ℕ) (first last p : Point) (q : ℕ) (ix : List ℕ) → same_place last p ≡ false
     → set ix (pen.at + i) q ≡ entries_on (pen_in pen i first last) p q ix
@@ -51,7 +47,7 @@ module _ (b : BoundingBox) (he : List ℕ) (centers : List Float) (t : ℕ) wher
     pub here : last ≡ point_at centers (from / 3)
     pub entry : get_or stage (i - 1) 0 ≡ from / 3
     pub some : 1 ≤ i
-    pub inked : (pen : Pen) (ix : List ℕ) → pen.any ≡ false
+    pub inked : (pen : Pen) (ix : List ℕ) → pen.ends ≡ None
         → Inking he t (page pen centers ix) (pen_in pen i first last) (laid_to stage pen.at i ix) (length he - i) (turn_of he t from)
 
   pub lapping_start : (stage : List ℕ) → 0 < length stage → length he < EMPTY → t < length he → on_hull he t ≡ false → (p : Point) → p ≡ point_at centers (t / 3)
@@ -117,8 +113,8 @@ module _ (b : BoundingBox) (he : List ℕ) (centers : List Float) (t : ℕ) wher
 
 -- ---- the piece, put there the other way round
 pub lap_copied : (b : BoundingBox) (he : List ℕ) (centers : List Float) (t n : ℕ) (stage : List ℕ) (first last : Point) → Lapped b he centers t n stage first last
-    → (pen : Pen) (ix : List ℕ) → pen.any ≡ false → {m : List ℕ} → m ≡ turned_round pen.at (pen.at + n) (laid_to stage pen.at n ix)
-    → CopiedInto b he t (page pen centers ix) (page (record { at = pen.at + n; count = pen.count; any = false; first = first; last = last }) centers m)
+    → (pen : Pen) (ix : List ℕ) → pen.ends ≡ None → {m : List ℕ} → m ≡ turned_round pen.at (pen.at + n) (laid_to stage pen.at n ix)
+    → CopiedInto b he t (page pen centers ix) (page (record { at = pen.at + n; count = pen.count; ends = None }) centers m)
 lap_copied b he centers t n stage first last x pen ix none {m} q =
     let p = lap_ended pen n first last x.apart x.many in
     let k : m ≡ turned_round pen.at (pen_ended pen.at (pen_in pen n first last)).at (laid_to stage pen.at n ix) =

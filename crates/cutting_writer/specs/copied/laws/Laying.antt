@@ -1,5 +1,5 @@
--- The entries of a stage laid into a list one by one, and the same turned round as they are put there the other way round (`putting_start`, `putting_step`, `putting_end`).
-use Rattle.std.specs.Prelude.{◌≡◌, false, List, ltb, length, set}
+-- The entries of a stage laid into a list one by one, and the same turned round as they are put there the other way round (`putting_step`, `putting_end`).
+use Rattle.std.specs.Prelude.{◌≡◌, false, None, List, ltb, length, set}
 use Rattle.std.proofs.Math.Path.{refl, ap}
 use Rattle.std.proofs.Common.{sym, ◌∙◌, arith, le-ltb, length-set, ext_get_or}
 use Rattle.std.proofs.Math.Logic.{⊎_elim}
@@ -67,9 +67,6 @@ module _ (stage : List ℕ) (at : ℕ) (ix : List ℕ) where
     pub before : (k : ℕ) → k < at → get_or m k 0 ≡ get_or ix k 0
     pub after : (k : ℕ) → at + i ≤ k → get_or m k 0 ≡ get_or ix k 0
 
-  pub putting_start : (n : ℕ) → PuttingBack n 0 ix
-  putting_start n = record { some = omega arith; long = refl; put = λ k h. absurd (omega arith); before = λ k h. refl; after = λ k h. refl }
-
   module _ (n i : ℕ) (m : List ℕ) (x : PuttingBack n i m) (room : at + n ≤ length ix) where
     pub putting_step : i < n → PuttingBack n (i + 1) (set m (at + i) (get_or stage (n - 1 - i) 0))
     putting_step more = record {
@@ -112,7 +109,7 @@ module _ (stage : List ℕ) (at : ℕ) (ix : List ℕ) where
 
 -- ---- the end of a piece with no place twice and at least three
 pub lap_ended : (pen : Pen) (n : ℕ) (first last : Point) → same_place first last ≡ false → 3 ≤ n
-    → record { at = pen.at + n; count = pen.count; any = false; first = first; last = last } ≡ pen_ended pen.at (pen_in pen n first last)
+    → record { at = pen.at + n; count = pen.count; ends = None } ≡ pen_ended pen.at (pen_in pen n first last)
 unfolding closed_at kept_at
 lap_ended pen n first last apart many =
     let a : ltb (pen.at + n - pen.at) 2 ≡ false = le-ltb (pen.at + n - pen.at) 2 (omega arith) in

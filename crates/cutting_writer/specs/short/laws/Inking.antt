@@ -1,13 +1,13 @@
--- The corners of a ring in slots, as the pen takes them: the definition on what is left, from the present page, is the whole (`inking_step`, `inking_end`).
-use Rattle.std.specs.Prelude.{◌≡◌, refl, List, [], ℕ, suc, ◌+◌, ◌-◌, ◌≤◌, ◌<◌, Float}
-use Rattle.std.proofs.Common.{sym, subst, add-zero, arith}
+-- The corners of a ring in slots, as the pen takes them: the definition on what is left, from the present page, is the whole (`inking_step`).
+use Rattle.std.specs.Prelude.{◌≡◌, List, [], ℕ, suc, ◌+◌, ◌-◌, ◌≤◌, ◌<◌, Float}
+use Rattle.std.proofs.Common.{sym, subst, arith}
 use Rattle.plane.specs.declared.boxes.BoundingBox.{BoundingBox}
 use Rattle.cutting.specs.cuts.Rings.{At}
 use Rattle.cutting.specs.cuts.Stream.{feed_all}
 use Rattle.cutting.specs.declared.corner.Corner.{Corner}
 use Rattle.cutting.specs.declared.corner.Carrier.{Carrier}
 use Rattle.cutting.specs.pen.Pen.{Page}
-use Rattle.cutting.specs.pen.Room.{Later, Ready, later_same, later_on}
+use Rattle.cutting.specs.pen.Room.{Later, Ready, later_on}
 use Rattle.cutting_writer.specs.stream.Stages.{ink_at}
 use Rattle.cutting_writer.specs.stream.laws.Stages.{ink_grows, ready_first, ready_then}
 use Rattle.cutting_writer.specs.slots.Slots.{spot_in, ring_in}
@@ -17,12 +17,6 @@ module _ (b : BoundingBox) (centers from count : ℕ) (f : List Float) (m : List
     pub all : feed_all (ink_at b centers) h (ring_in f m (from + i) (count - i)) ≡ feed_all (ink_at b centers) g (ring_in f m from count)
     pub later : Later g h
     pub done : i ≤ count
-
-  pub inking_start : Inking 0 g
-  inking_start = let z : count - 0 ≡ count = omega arith in record { all = rw (add-zero from, z) refl; later = later_same g; done = omega arith }
-
-  pub inking_end : (i : ℕ) (h : Page) → Inking i h → count ≤ i → h ≡ feed_all (ink_at b centers) g (ring_in f m from count)
-  inking_end i h x l = let none : count - i ≡ 0 = omega arith in rw none at x.all
 
   module _ (i : ℕ) (h : Page) (x : Inking i h) (more : i < count) (v : At Corner Carrier) (here : v ≡ spot_in f m (from + i)) where
     onward : feed_all (ink_at b centers) (ink_at b centers h v) (ring_in f m (from + suc i) (count - suc i)) ≡ feed_all (ink_at b centers) g (ring_in f m from count)

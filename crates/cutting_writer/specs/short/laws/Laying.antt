@@ -46,9 +46,6 @@ module _ (tri he : List ℕ) (centers : List Float) (t k₀ : ℕ) (f₀ : List 
     pub ends : last_or last (walk_of he t left e) ≡ last_or t (whole_of he t)
     pub there : t < length he → last < length he
 
-  pub laying_start : Laying k₀ t t (length he) f₀ m₀
-  laying_start = record { fits = λ h. h; all = λ h. refl; ends = refl; there = λ h. h }
-
   module _ (count e last left : ℕ) (f : List Float) (m : List ℕ) (x : Laying count e last left f m) where
     abbrev trail : ℕ → SlotTrail
     trail n = record { count = count; last = n }
@@ -65,9 +62,6 @@ module _ (tri he : List ℕ) (centers : List Float) (t k₀ : ℕ) (f₀ : List 
 
     pub laying_out : left ≡ 0 → LaidWalk tri he centers t k₀ f₀ m₀ (trail last) f m
     laying_out z = walked (rw z (no_walk he t e))
-
-    pub laying_long : 16 < count → LaidWalk tri he centers t k₀ f₀ m₀ (trail t) f m
-    laying_long l = record { walk = record { fits = x.fits; made = λ h. absurd (omega arith) }; last = λ h. absurd (omega arith); there = λ h. h }
 
     pub laying_step : 0 < left → e < length he → (v : At Corner Carrier) → v ≡ out_at tri centers e → (r : ℕ) (f₁ : List Float) (m₁ : List ℕ) → LaidOn (v ∷ []) count f m r f₁ m₁
         → (n : ℕ) → n ≡ turn_of he t e → Laying r n e (left - 1) f₁ m₁

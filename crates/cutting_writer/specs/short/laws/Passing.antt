@@ -1,7 +1,9 @@
 -- One side over a ring in slots: what is left of each edge goes on in the other half (`edge_none`, `edge_one`, `edge_two`), and at the end that is the ring by the side (`passing_end`).
 -- The sides one after the other (`cut_all_lem`).
 use Rattle.std.specs.Prelude.{◌≡◌, refl, true, List, [], ◌∷◌, ◌++◌, Float, length}
-use Rattle.std.proofs.Common.{sym, ap, ◌∙◌, append-nil, append_assoc, inl, inr, add-zero, lt-ltb, le-ltb}
+use Rattle.std.proofs.lemmas.List.FromFn.{length-range_with_len, get_or-range_with_len}
+use Rattle.std.specs.List.{AllWithin, range_with_len}
+use Rattle.std.proofs.Common.{subst, sym, ap, ◌∙◌, append-nil, append_assoc, inl, inr, add-zero, lt-ltb, le-ltb}
 use Rattle.std.proofs.Math.Logic.{⊎_elim}
 use Prim.Native.Nat.{ℕ, zero, suc, ◌+◌, ◌-◌, ◌≤◌, ◌<◌}
 use native.Mathlib.Omega.{arith}
@@ -69,11 +71,6 @@ module _ (s : Side Corner Carrier) (from count : ℕ) (f₀ : List Float) (m₀ 
     pub floats : length f ≡ length f₀
     pub numbers : length m ≡ length m₀
 
-  pub passing_start : Passing 0 0 f₀ m₀
-  passing_start =
-      let z : count - 0 ≡ count = omega arith in
-      record { all = rw (add-zero from, z) refl; same = λ j a z. refl; done = omega arith; few = omega arith; floats = refl; numbers = refl }
-
   whole_by : (n : ℕ) → cut_to s end (ring_in f₀ m₀ from n) ≡ cut_by s (ring_in f₀ m₀ from n)
   whole_by zero = refl
   whole_by (suc n) = refl
@@ -82,9 +79,6 @@ module _ (s : Side Corner Carrier) (from count : ℕ) (f₀ : List Float) (m₀ 
   passing_end i k f m x l =
       let none : count - i ≡ 0 = omega arith in
       record { made = λ _. sym (append-nil (ring_in f m (16 - from) k)) ∙ rw none at x.all ∙ whole_by count }
-
-  pub no_room : (f : List Float) (m : List ℕ) → PassedSide s from count f₀ m₀ 17 f m
-  no_room f m = record { made = λ l. absurd (omega arith) }
 
   module _ (half : AtHalf from) (short : count ≤ 16) (i k : ℕ) (f : List Float) (m : List ℕ) (x : Passing i k f m) (more : i < count) where
     next_is : head_or end (ring_in f₀ m₀ (from + suc i) (count - suc i)) ≡ corner_in f₀ m₀ (next_slot from count i)
@@ -146,6 +140,19 @@ module _ (b : BoundingBox) (s : SideName) (from count : ℕ) (f : List Float) (m
 
   pub all_end : (i : ℕ) → AllFrom i → i ≡ 0 → (sites : List Float) → AllCorners (IsWithin (side_at b sites s)) (ring_in f m from count)
   all_end i x z sites = let whole : count - 0 ≡ count = omega arith in rw (z, add-zero from, whole) at (x.rest sites)
+
+  all_to : ((i : ℕ) → i < count → within_of b s (corner_in f m (from + i)) ≡ true) → (left i : ℕ) → left + i ≡ count → AllFrom i
+  all_to each zero i e = let z : count ≡ i = omega arith in subst AllFrom z all_start
+  all_to each (suc left) i e =
+      let one : i + 1 - 1 ≡ i = omega arith in
+      rw one at (all_step (i + 1) (all_to each left (i + 1) (omega arith)) (omega arith) (rw (sym one) at (each i (omega arith))))
+
+  -- by what `all` says of a range
+  pub all_each : AllWithin (λ i. within_of b s (corner_in f m (from + i)) ≡ true) (range_with_len 0 count) 0 (length (range_with_len 0 count))
+      → (sites : List Float) → AllCorners (IsWithin (side_at b sites s)) (ring_in f m from count)
+  all_each h = all_end 0 (all_to
+      (λ i l. subst (λ (k : ℕ). within_of b s (corner_in f m (from + k)) ≡ true) (get_or-range_with_len 0 count i 0 l ∙ omega arith)
+      (h i 0 (omega arith) (omega (arith, length-range_with_len 0 count)))) count 0 (omega arith)) refl
 
 -- ---- a side that leaves the ring alone, and one that does not
 module _ (s : Side Corner Carrier) (l : Lying) (half : AtHalf l.from) (f : List Float) (m : List ℕ) where

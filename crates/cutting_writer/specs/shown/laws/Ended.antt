@@ -1,6 +1,6 @@
 -- Law: a piece that is closed has entries that stand for the ring as it is written: without the place at the end that is the first again, none where fewer than three are left, and the
 -- other way round (`ended_stands`).
-use Rattle.std.specs.Prelude.{◌≡◌, refl, Bool, true, false, cond, List, [], ◌∷◌, ◌⊎◌, ℕ, zero, suc, ◌+◌, ◌-◌, ◌≤◌, ◌<◌, length, get_or}
+use Rattle.std.specs.Prelude.{◌≡◌, refl, Bool, true, false, Some, cond, List, [], ◌∷◌, ◌⊎◌, ℕ, zero, suc, ◌+◌, ◌-◌, ◌≤◌, ◌<◌, length, get_or}
 use Rattle.std.proofs.Common.{sym, ap, ◌∙◌, inl, inr, ⊎_elim, arith, lt-ltb, le-ltb}
 use Rattle.base.specs.common.Pick.{pick}
 use Rattle.plane.specs.declared.points.Point.{Point}
@@ -43,12 +43,13 @@ pub record FirstOnes (m l : List Point) : Type 0 where
 begins_whole : (l : List Point) → FirstOnes l l
 begins_whole l = record { few = omega arith; each = λ k h. refl }
 
-closed_at_lem : (pen : Pen) (begin : ℕ) (q : Point) (rest u : List Point) → unrepeated same_place q rest ≡ u → pen.at ≡ begin + length (q ∷ u) → pen.first ≡ q → pen.last ≡ last_or q u
+closed_at_lem : (pen : Pen) (begin : ℕ) (q : Point) (rest u : List Point) → unrepeated same_place q rest ≡ u → pen.at ≡ begin + length (q ∷ u)
+    → pen.ends ≡ Some (record { first = q; last = last_or q u })
     → (closed_at begin pen ≡ begin + length (q ∷ trimmed same_place q u)) × FirstOnes (q ∷ trimmed same_place q u) (q ∷ u)
 unfolding closed_at
-closed_at_lem pen begin q rest [] e at first last = (rw (lt-ltb (pen.at - begin) 2 (omega (arith, at))) at, begins_whole (q ∷ []))
-closed_at_lem pen begin q rest (z ∷ r) e at first last =
-    rw (le-ltb (pen.at - begin) 2 (omega (arith, at)), first, last, same_test q (last_or z r), trimmed_once same_place place_both q z r rest e) (go (same_place (last_or z r) q))
+closed_at_lem pen begin q rest [] e at ends = (rw (lt-ltb (pen.at - begin) 2 (omega (arith, at))) at, begins_whole (q ∷ []))
+closed_at_lem pen begin q rest (z ∷ r) e at ends =
+    rw (le-ltb (pen.at - begin) 2 (omega (arith, at)), ends, same_test q (last_or z r), trimmed_once same_place place_both q z r rest e) (go (same_place (last_or z r) q))
   where
     go : (t : Bool) → (pick t (λ _. pen.at - 1) (λ _. pen.at) ≡ begin + length (q ∷ cond t (drop_last (z ∷ r)) (z ∷ r))) × FirstOnes (q ∷ cond t (drop_last (z ∷ r)) (z ∷ r)) (q ∷ z ∷ r)
     go true = (omega (arith, at, drop_length z r), record { few = omega (arith, drop_length z r); each = shorter })
@@ -84,7 +85,7 @@ turned_stands begin to g d p s w e room k h =
 pub ended_stands : (g : Page) (begin : ℕ) (q : Point) (rest : List Point) → Inking begin q (unrepeated same_place q rest) g → Roomy g
     → EntriesStand begin (written_ring same_place (q ∷ rest)) (ended begin g)
 ended_stands g begin q rest i room =
-    let c = closed_at_lem g.pen begin q rest (unrepeated same_place q rest) refl i.stands.at i.first i.last in
+    let c = closed_at_lem g.pen begin q rest (unrepeated same_place q rest) refl i.stands.at i.ends in
     let t : List Point = q ∷ trimmed same_place q (unrepeated same_place q rest) in
     let k = kept_at_lem begin (closed_at begin g.pen) t (q ∷ unrepeated same_place q rest) c.0 c.1 in
     record {

@@ -1,5 +1,5 @@
 -- Law: a ring that goes through the pen leaves entries that stand for its places in order, each that is the same as the one before left out (`inked_all`).
-use Rattle.std.specs.Prelude.{◌≡◌, Bool, true, false, ℕ, ◌+◌, ◌*◌, ◌<◌, Float, length, set}
+use Rattle.std.specs.Prelude.{◌≡◌, Bool, true, false, Some, None, ℕ, ◌+◌, ◌*◌, ◌<◌, Float, length, set}
 use Rattle.std.proofs.Math.Path.{refl, sym, ap, subst}
 use Rattle.std.proofs.Common.{◌∙◌, ⊎_elim, arith, get_or-append-add, eq-eqb}
 use mathlib.Core.List.{List, [], ◌∷◌, ◌++◌, append_assoc, append-nil}
@@ -45,9 +45,7 @@ based_later centers v g h x y = record { many = omega (arith, x.many, y.count); 
 
 -- a ring on its way through the pen: p first, then u
 pub record Inking (begin : ℕ) (p : Point) (u : List Point) (g : Page) : Type 0 where
-  pub any : g.pen.any ≡ true
-  pub first : g.pen.first ≡ p
-  pub last : g.pen.last ≡ last_or p u
+  pub ends : g.pen.ends ≡ Some (record { first = p; last = last_or p u })
   pub stands : EntriesStand begin (p ∷ u) g
 
 last_more : (p q : Point) (u : List Point) → last_or p (u ++ q ∷ []) ≡ q
@@ -110,28 +108,26 @@ module _ (b : BoundingBox) (centers : ℕ) (v : List Float) (corners : CornersIn
             (lt_or_ge k (length ps));
       }
 
-  ink_one : (g : Page) (q : Point) (number : ℕ) → Based centers v g → Numbered centers v q number → g.pen.any ≡ false → (begin : ℕ) → g.pen.at ≡ begin
+  ink_one : (g : Page) (q : Point) (number : ℕ) → Based centers v g → Numbered centers v q number → g.pen.ends ≡ None → (begin : ℕ) → g.pen.at ≡ begin
       → Roomy (written_as (number_for b centers g.pen.count q number) g q) → Inking begin q [] (written_as (number_for b centers g.pen.count q number) g q)
   unfolding written_as
   ink_one g q number based numbered none begin e r =
-      record { any = refl; first = rw none refl; last = refl; stands = stands_more g based q number numbered begin [] (stands_none begin g e) r }
+      record { ends = rw none refl; stands = stands_more g based q number numbered begin [] (stands_none begin g e) r }
 
   ink_new : (g : Page) (q : Point) (number : ℕ) → Based centers v g → Numbered centers v q number → (begin : ℕ) (p : Point) (u : List Point) → Inking begin p u g
       → Roomy (written_as (number_for b centers g.pen.count q number) g q) → Inking begin p (u ++ q ∷ []) (written_as (number_for b centers g.pen.count q number) g q)
   unfolding written_as
   ink_new g q number based numbered begin p u i r = record {
-    any = refl;
-    first = rw i.any i.first;
-    last = sym (last_more p q u);
+    ends = rw (i.ends, last_more p q u) refl;
     stands = stands_more g based q number numbered begin (p ∷ u) i.stands r;
   }
 
   -- the pen's own test, where a corner came before and where none did
   repeats_last : (g : Page) (q : Point) (begin : ℕ) (p : Point) (u : List Point) → Inking begin p u g → repeats g.pen q ≡ same_place (last_or p u) q
   unfolding repeats
-  repeats_last g q begin p u i = rw (i.any, i.last) refl
+  repeats_last g q begin p u i = rw i.ends refl
 
-  repeats_none : (g : Page) (q : Point) → g.pen.any ≡ false → repeats g.pen q ≡ false
+  repeats_none : (g : Page) (q : Point) → g.pen.ends ≡ None → repeats g.pen q ≡ false
   unfolding repeats
   repeats_none g q none = rw none refl
 
@@ -169,7 +165,7 @@ module _ (b : BoundingBox) (centers : ℕ) (v : List Float) (corners : CornersIn
           list_is u = rw (last_more p q u) (append_assoc u (q ∷ []) (unrepeated same_place q (places_of l)))
 
   -- all corners of a ring, from a page where none came
-  pub inked_all : (g : Page) (c : At Corner Carrier) (l : Ring) → Based centers v g → AllNumbered centers v (c ∷ l) → g.pen.any ≡ false → (begin : ℕ) → g.pen.at ≡ begin
+  pub inked_all : (g : Page) (c : At Corner Carrier) (l : Ring) → Based centers v g → AllNumbered centers v (c ∷ l) → g.pen.ends ≡ None → (begin : ℕ) → g.pen.at ≡ begin
       → Roomy (feed_all (ink_at b centers) g (c ∷ l)) → Inking begin c.corner.place (unrepeated same_place c.corner.place (places_of l)) (feed_all (ink_at b centers) g (c ∷ l))
   unfolding ink_at
   inked_all g c l based numbered none begin e r =

@@ -1,5 +1,5 @@
 -- Law: after all sites the entries of each piece, from its offset on, stand for the piece by the definition, one after the other (`sheet_stands`).
-use Rattle.std.specs.Prelude.{◌≡◌, refl, false, ℕ, suc, ◌+◌, ◌*◌, ◌≤◌, ◌<◌, Float, length, get_or}
+use Rattle.std.specs.Prelude.{◌≡◌, refl, None, ℕ, suc, ◌+◌, ◌*◌, ◌≤◌, ◌<◌, Float, length, get_or}
 use Rattle.std.proofs.Math.Path.{subst}
 use Rattle.std.proofs.Common.{◌∙◌, arith}
 use mathlib.Core.List.{List, [], ◌∷◌, map}
@@ -48,7 +48,7 @@ module _ (b : BoundingBox) (sites : List Float) (tri he : List ℕ) (centers : �
       pub stand : AllStand (after s table sh).page.indexes (after s table sh).page.vertices (after s table sh).page.pen.count (after s table sh).offsets s sh.page.pen.at
           (pieces table) (after s table sh).page.pen.at
 
-    pub sheet_stands : (table : List ℕ) (s : ℕ) (sh : Sheet) → Based centers v sh.page → sh.page.pen.any ≡ false → RoomyFrom b sites tri he centers sh.page table
+    pub sheet_stands : (table : List ℕ) (s : ℕ) (sh : Sheet) → Based centers v sh.page → sh.page.pen.ends ≡ None → RoomyFrom b sites tri he centers sh.page table
         → s + length table < length sh.offsets → SheetEnds s table sh
     unfolding sheet_from RoomyFrom
     sheet_stands [] s sh based none room long = record {

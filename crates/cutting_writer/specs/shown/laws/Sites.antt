@@ -1,5 +1,5 @@
 -- Law: a site's ring, cut, written and closed, leaves entries that stand for its piece by the definition (`site_stands`), and what was written before stays as it was (`site_keeps`).
-use Rattle.std.specs.Prelude.{◌≡◌, Bool, true, false, List, [], ◌∷◌, map, ◌⊎◌, ltb, Float, length, get_or}
+use Rattle.std.specs.Prelude.{◌≡◌, Bool, true, false, None, List, [], ◌∷◌, map, ◌⊎◌, ltb, Float, length, get_or}
 use Rattle.std.proofs.Math.Path.{refl, ap, subst}
 use Rattle.std.proofs.Common.{◌∙◌, inl, inr, arith, get_or-set_other, lt-ltb, le-ltb, ltb-false}
 use Rattle.std.proofs.Math.Logic.{⊎_elim}
@@ -29,7 +29,7 @@ use Rattle.cutting.specs.declared.pen.Pen.{Pen}
 use Rattle.cutting.specs.pen.Pen.{same_place, number_for, repeats, Page, written_as, inked}
 use Rattle.cutting.specs.pen.Room.{Roomy}
 use Rattle.cutting_writer.specs.turn.laws.Turning.{before_part}
-use Rattle.cutting_writer.specs.end.Ended.{closed_at, kept_at, ended}
+use Rattle.cutting_writer.specs.end.Ended.{closes, closed_at, kept_at, ended}
 use Rattle.cutting_writer.specs.stream.Stages.{Ring, ink_at, cut_four}
 use Rattle.cutting_writer.specs.stream.laws.Stages.{all_grows, ink_grows}
 use Rattle.cutting_writer.specs.site.Ring.{out_at, ray_of, far_of, last_or, site_ring}
@@ -85,7 +85,7 @@ none_stands g = record {
 
 closed_most : (begin : ℕ) (pen : Pen) → closed_at begin pen ≤ pen.at
 unfolding closed_at
-closed_most begin pen = go (ltb (pen.at - begin) 2) (same_place pen.first pen.last)
+closed_most begin pen = go (ltb (pen.at - begin) 2) (closes pen.ends)
   where
     go : (a c : Bool) → pick a (λ _. pen.at) (λ _. pick c (λ _. pen.at - 1) (λ _. pen.at)) ≤ pen.at
     go true c = omega arith
@@ -159,13 +159,13 @@ module _ (b : BoundingBox) (sites : List Float) (tri he : List ℕ) (centers : �
     abbrev pub piece_from : ℕ → List Point
     piece_from t = written_ring same_place (places_of (cut_four b sites (site_ring sites tri he v t)))
 
-    ring_stands : (g : Page) → Based centers v g → g.pen.any ≡ false → (l : Ring) → AllNumbered centers v l → Roomy (feed_all (ink_at b centers) g l)
+    ring_stands : (g : Page) → Based centers v g → g.pen.ends ≡ None → (l : Ring) → AllNumbered centers v l → Roomy (feed_all (ink_at b centers) g l)
         → EntriesStand g.pen.at (written_ring same_place (places_of l)) (ended g.pen.at (feed_all (ink_at b centers) g l))
     ring_stands g based none [] a room = none_stands g
     ring_stands g based none (c ∷ l) a room =
         ended_stands (feed_all (ink_at b centers) g (c ∷ l)) g.pen.at c.corner.place (places_of l) (inked_all b centers v corners small g c l based a none g.pen.at refl room) room
 
-    module _ (g : Page) (based : Based centers v g) (none : g.pen.any ≡ false) (t : ℕ) (room : Roomy (site_ink b sites tri he centers g t)) where
+    module _ (g : Page) (based : Based centers v g) (none : g.pen.ends ≡ None) (t : ℕ) (room : Roomy (site_ink b sites tri he centers g t)) where
       center_same : (n : ℕ) → n < centers → point_at g.vertices n ≡ point_at v n
       center_same n l = point_kept v g.vertices (centers + 4) n based.kept (omega arith)
 
@@ -184,6 +184,6 @@ module _ (b : BoundingBox) (sites : List Float) (tri he : List ℕ) (centers : �
       pub site_based : Based centers v (site_cut b sites tri he centers g t)
       site_based = let k = site_keeps in record { many = omega (arith, based.many, k.count); kept = λ i l. k.kept i (omega (arith, based.many)) ∙ based.kept i l }
 
-      pub site_fresh : (site_cut b sites tri he centers g t).pen.any ≡ false
+      pub site_fresh : (site_cut b sites tri he centers g t).pen.ends ≡ None
       unfolding site_cut
       site_fresh = refl

@@ -1,4 +1,4 @@
--- Laws of the stages: nothing that is counted falls, so that the room for all is room for each part (`feeds-grow`, `ready_first`, `ready-second`); and what the stages hand on, to their
+-- Laws of the stages: nothing that is counted falls, so that the room for all is room for each part (`all_grows`, `ready_first`); and what the stages hand on, to their
 -- close, is the ring cut by the four sides (`stages_cut`).
 use Rattle.std.specs.Prelude.{◌≡◌, false, List, [], ◌∷◌, ℕ, Float}
 use Rattle.std.proofs.Math.Path.{ap}
@@ -25,6 +25,9 @@ all_grows P f g x (a ∷ l) = later_on (g x a) (all_grows P f g (f x a) l)
 pub stage_grows : {X : Type 0} (P : X → Page) (s : Side Corner Carrier) (f : X → At Corner Carrier → X) → Grows P f → Grows (λ (t : Stage Corner Carrier X). P t.next) (feed s f)
 stage_grows P s f g t v = all_grows P f g t.next (given s t.held v.corner)
 
+pub closed_grows : {X : Type 0} (P : X → Page) (s : Side Corner Carrier) (f : X → At Corner Carrier → X) → Grows P f → (t : Stage Corner Carrier X) → Later (P t.next) (P (closed s f t))
+closed_grows P s f g t = all_grows P f g t.next (given s t.held t.held.first)
+
 module _ (b : BoundingBox) (sites : List Float) (centers : ℕ) where
   pub ink_grows : Grows (λ g. g) (ink_at b centers)
   unfolding ink_at
@@ -50,9 +53,6 @@ module _ (b : BoundingBox) (sites : List Float) (centers : ℕ) where
 module _ {X A : Type 0} (P : X → Page) (f : X → A → X) (g : Grows P f) (centers : ℕ) where
   pub ready_first : (x : X) (a : A) (l : List A) → Ready centers (P x) (P (feed_all f x (a ∷ l))) → Ready centers (P x) (P (f x a))
   ready_first x a l r = record { corners = r.corners; room = roomy_before (all_grows P f g (f x a) l) r.room }
-
-  pub ready_rest : (x : X) (a : A) (l : List A) → Ready centers (P x) (P (feed_all f x (a ∷ l))) → Ready centers (P (f x a)) (P (feed_all f (f x a) l))
-  ready_rest x a l r = record { corners = corners_later centers (g x a) r.corners; room = r.room }
 
 -- all four, closed
 module _ (b : BoundingBox) (sites : List Float) (centers : ℕ) where
