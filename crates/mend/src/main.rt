@@ -135,7 +135,10 @@ fn of_mesh(
     let mut pairs = [0u32; LINKS];
     let mut mended = [0u32; HULL];
     let mut changes = [0u32; CHANGES];
-    let m = mending::mend(
+    let mut places = 0u32;
+    let mut repaired = 0u32;
+    let mut replaced = 0u32;
+    let answered = mending::mend_lent(
         sites,
         triangles,
         halfedges,
@@ -144,10 +147,13 @@ fn of_mesh(
         &mut pairs,
         &mut mended,
         &mut changes,
+        &mut places,
+        &mut repaired,
+        &mut replaced,
     );
-    let number = crate::boxes::number_with(first, m.number);
+    let number = crate::boxes::number_with(first, answered);
     let entries = triangles.len();
-    let count = base::numbers::wide(m.hull);
+    let count = base::numbers::wide(places);
     show(
         out,
         number,
@@ -158,8 +164,8 @@ fn of_mesh(
         &pairs[..entries],
         &mended[..count],
         &changes,
-        m.pairs,
-        m.places,
+        repaired,
+        replaced,
     )
 }
 
