@@ -1,12 +1,12 @@
 // The certificate: the first fault of the pieces as they lie, by the rules in their order, in lent work.
 ghost use Rattle.std.specs.Prelude.{◌≡◌, ◌*◌, ◌/◌, ◌≤◌, ◌<◌, length};
-ghost use Rattle.base.specs.numbers.Numbers.{EMPTY};
+ghost use Rattle.base.specs.refusal.Number.{number_of};
 ghost use Rattle.plane.specs.given.Finite.{Fits};
 ghost use Rattle.auditing.specs.Steps.{OutsideNamed};
 ghost use Rattle.certifying.specs.sides.Sides.{side_count};
 ghost use Rattle.certifying.specs.call.Verdict.{certify_far, certify_twin, twin_stage, certify_nearer, near_stage, border_stage, site_of_side, certify_side, side_stage};
 ghost use Rattle.certifying.specs.call.Verdict.{certify_outside, certify_on};
-ghost use Rattle.certifying.specs.call.Steps.{NearNamed, JudgeSafe, SideNamed, SidesChained, VerdictTold, VerdictAnswer, RefusedAnswer};
+ghost use Rattle.certifying.specs.call.Steps.{NearNamed, JudgeSafe, SideNamed, SidesChained, VerdictTold, CertifyJudged, RefusedAnswer};
 ghost use Rattle.certifying.specs.call.Promise.{CertifyAnswer};
 
 use crate::nearer::{first_site_nearer, no_others};
@@ -14,10 +14,11 @@ use crate::sides::{first_surplus, insert_all, left_once};
 use crate::tree::narrow;
 use crate::twins::first_site_twin;
 use crate::windows::greater;
-use auditing::corners::{first_outside, first_site_outside};
+use auditing::corners::{entry_outside, first_site_outside};
 use auditing::nearer::{first_beyond, first_nearer};
-use auditing::places::first_twin;
+use auditing::places::twin_of;
 use base::numbers::{EMPTY, REFUSED_TRIANGLE, wide};
+use base::refusal::Refusal;
 use plane::boxes::BoundingBox;
 use plane::given::Given;
 
@@ -49,8 +50,7 @@ fn name_twin(sites: &[f64], s: usize) -> CertifyFault
     requires { (s < length sites.now / 2) × (length sites.now / 2 ≤ 65536) }
     ensures { result ≡ certify_twin sites.now s }
 {
-    let o = first_twin(sites, s);
-    CertifyFault::Twin(narrow(s), narrow(o))
+    CertifyFault::Twin(narrow(s), twin_of(sites, s))
 }
 
 // The fifth fault, or none. What the work held is no longer needed.
@@ -212,9 +212,10 @@ fn name_outside(
     requires { OutsideNamed bounds vertices.now offsets.now indexes.now s }
     ensures { result ≡ certify_outside bounds vertices.now offsets.now indexes.now s }
 {
-    let entries = walks::shared::cell(offsets, indexes, s);
-    let k = first_outside(bounds, vertices, entries);
-    CertifyFault::Outside(narrow(s), entries[k])
+    CertifyFault::Outside(
+        narrow(s),
+        entry_outside(bounds, vertices, offsets, indexes, s),
+    )
 }
 
 // The verdict on arguments that are not refused.
@@ -273,28 +274,39 @@ fn tell(verdict: Result<(), CertifyFault>) -> CertifyNumbers
     }
 }
 
-// Its numbers, and the work cleared.
+// The verdict, unless it is refused; then the work is as it was.
 fn judge(
     work: &mut [u32],
-    bounds: BoundingBox,
+    given: Given,
     bits: u32,
     sites: &[f64],
     vertices: &[f64],
     offsets: &[u32],
     indexes: &[u32],
-) -> CertifyNumbers
-    requires { JudgeSafe bounds bits sites.now vertices.now offsets.now indexes.now work.old }
-    ensures { VerdictAnswer bounds bits sites.now vertices.now offsets.now indexes.now work.old work.new
-        result.number result.kind result.site result.vertex result.other }
+) -> Result<Result<(), CertifyFault>, Refusal>
+    requires { Fits given }
+    ensures { CertifyJudged given sites.now vertices.now offsets.now indexes.now bits work.old work.new result }
 {
-    let v = verdict(work, bounds, bits, sites, vertices, offsets, indexes);
-    mesh::clear(work);
-    tell(v)
+    crate::rules::ask(
+        given.sound,
+        sites,
+        vertices,
+        offsets,
+        indexes,
+        bits,
+        work.len(),
+    )?;
+    Ok(verdict(work, given.bounds, bits, sites, vertices, offsets, indexes))
 }
 
-fn refused(number: u32) -> CertifyNumbers
-    ensures { (result.number ≡ number) × (result.kind ≡ EMPTY) × (result.site ≡ EMPTY) × (result.vertex ≡ EMPTY) × (result.other ≡ EMPTY) }
+// Beside a refusal: the work as it was up to 6, cleared from 16 on.
+fn refuse(refusal: Refusal, work: &mut [u32]) -> CertifyNumbers
+    ensures { RefusedAnswer (number_of refusal) work.old work.new result.number result.kind result.site result.vertex result.other }
 {
+    let number = u32::from(refusal);
+    if REFUSED_TRIANGLE <= number {
+        mesh::clear(work);
+    }
     CertifyNumbers {
         number,
         kind: EMPTY,
@@ -304,18 +316,7 @@ fn refused(number: u32) -> CertifyNumbers
     }
 }
 
-// Beside a refusal: the work as it was up to 6, cleared from 16 on.
-fn refuse(number: u32, work: &mut [u32]) -> CertifyNumbers
-    ensures { RefusedAnswer number work.old work.new result.number result.kind result.site result.vertex result.other }
-{
-    if number < REFUSED_TRIANGLE {
-        return refused(number);
-    }
-    mesh::clear(work);
-    refused(number)
-}
-
-// In the given box.
+// In the given box, in numbers.
 pub fn certify(
     given: Given,
     sites: &[f64],
@@ -329,17 +330,11 @@ pub fn certify(
     ensures { CertifyAnswer given sites.now vertices.now offsets.now indexes.now bits work.old work.new
         result.number result.kind result.site result.vertex result.other }
 {
-    let asked = crate::rules::ask(
-        given.sound,
-        sites,
-        vertices,
-        offsets,
-        indexes,
-        bits,
-        work.len(),
-    );
-    if asked != 0 {
-        return refuse(asked, work);
+    match judge(work, given, bits, sites, vertices, offsets, indexes) {
+        Ok(verdict) => {
+            mesh::clear(work);
+            tell(verdict)
+        }
+        Err(refusal) => refuse(refusal, work),
     }
-    judge(work, given.bounds, bits, sites, vertices, offsets, indexes)
 }

@@ -1,8 +1,10 @@
 // What a certificate asks of its arguments: 1 as the audit, 2 on the work, 3, 6, 16, 18, 24.
+ghost use Rattle.base.specs.refusal.Number.{answer_number};
 ghost use Rattle.certifying.specs.rules.Rules.{certify_room, CertifyNumber};
 ghost use Rattle.std.specs.Prelude.{◌≤◌, ◌^◌, ◌*◌, ◌/◌, ◌≡◌};
 
 use crate::nearer::no_others;
+use base::refusal::Refusal;
 
 // The words of work for so many numbers of sites and so many entries.
 fn room_for(sites: usize, indexes: usize) -> usize
@@ -20,14 +22,14 @@ pub fn ask(
     indexes: &[u32],
     bits: u32,
     work: usize,
-) -> u32
-    ensures { CertifyNumber sound sites.now vertices.now offsets.now indexes.now bits work result }
+) -> Result<(), Refusal>
+    ensures { CertifyNumber sound sites.now vertices.now offsets.now indexes.now bits work (answer_number result) }
 {
     if !auditing::rules::counts_ok(sites.len(), vertices.len(), indexes.len(), bits) {
-        return base::numbers::REFUSED_COUNT;
+        return Err(Refusal::Count);
     }
     if work < room_for(sites.len(), indexes.len()) {
-        return base::numbers::REFUSED_ROOM;
+        return Err(Refusal::Room);
     }
     let none = no_others(indexes);
     auditing::rules::ask(sound, sites, vertices, offsets, indexes, none, none, bits)

@@ -1,6 +1,9 @@
 -- What the steps to the answer owe each other. Definitions only.
-use Rattle.std.specs.Prelude.{◌≡◌, true, List, [], ℕ, ◌/◌, ◌≤◌, ◌<◌, Float, length, replicate}
+use Rattle.std.specs.Prelude.{◌≡◌, true, List, [], ℕ, ◌/◌, ◌≤◌, ◌<◌, Float, Result, IfOk, OnErr, length}
 use Rattle.base.specs.numbers.Numbers.{EMPTY}
+use Rattle.base.specs.declared.refusal.Refusal.{Refusal}
+use Rattle.base.specs.refusal.Number.{answer_number}
+use Rattle.plane.specs.declared.given.Given.{Given}
 use Rattle.plane.specs.boxes.Finite.{BoundedBox}
 use Rattle.plane.specs.declared.boxes.BoundingBox.{BoundingBox}
 use Rattle.mesh_check.specs.whole.AtExit.{when_refused}
@@ -10,7 +13,7 @@ use Rattle.auditing.specs.nearer.Steps.{PiecesKept}
 use Rattle.certifying.specs.nearer.Safe.{NearSafe}
 use Rattle.certifying.specs.sides.Sides.{ends_of, side_count}
 use Rattle.certifying.specs.sides.Chains.{laid_ends, ChainedTo}
-use Rattle.certifying.specs.rules.Rules.{certify_room}
+use Rattle.certifying.specs.rules.Rules.{certify_room, CertifyNumber}
 use Rattle.certifying.specs.call.Verdict.{CertifyVerdict, certify_on, certify_kind, certify_site, certify_vertex, certify_other}
 
 -- what the rules leave
@@ -47,10 +50,11 @@ pub record VerdictTold (t : CertifyVerdict) (r kind site vertex other : ℕ) : T
   pub vertex_is : vertex ≡ certify_vertex t
   pub other_is : other ≡ certify_other t
 
--- of arguments that are not refused, with the work cleared
-pub record VerdictAnswer (b : BoundingBox) (bits : ℕ) (sites v : List Float) (off ix old new : List ℕ) (r kind site vertex other : ℕ) : Type 0 where
-  pub told : VerdictTold (certify_on b bits sites v off ix) r kind site vertex other
-  pub work : new ≡ replicate (length old) EMPTY
+-- refused by the rules, with the work as it was, or the verdict
+pub record CertifyJudged (g : Given) (sites v : List Float) (off ix : List ℕ) (bits : ℕ) (old new : List ℕ) (a : Result CertifyVerdict Refusal) : Type 0 where
+  pub number : CertifyNumber g.sound sites v off ix bits (length old) (answer_number a)
+  pub judged : IfOk a (λ t. (t ≡ certify_on g.bounds bits sites v off ix) × (length new ≡ length old))
+  pub kept : OnErr a (new ≡ old)
 
 -- beside a refusal
 pub record RefusedAnswer (n : ℕ) (old new : List ℕ) (r kind site vertex other : ℕ) : Type 0 where

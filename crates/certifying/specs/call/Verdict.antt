@@ -9,7 +9,7 @@ use Rattle.root.specs.Root.{magnitude}
 use Rattle.plane.specs.points.Flat.{point_at}
 use Rattle.plane.specs.declared.boxes.BoundingBox.{BoundingBox}
 use Rattle.walks.specs.shared.Cells.{cell_of}
-use Rattle.auditing.specs.corners.Outside.{outside_at, site_outside}
+use Rattle.auditing.specs.corners.Outside.{site_outside, entry_outside}
 use Rattle.auditing.specs.nearer.Nearer.{tolerance_of, beyond_at, corner_nearer, site_nearer}
 use Rattle.auditing.specs.places.Places.{twin_at, has_twin}
 use Rattle.certifying.specs.sides.Sides.{ends_of, side_count, surplus_at, left_once}
@@ -67,7 +67,7 @@ side_stage b bits sites v off ix =
 
 -- ---- the first: the lowest site, the first such corner of its ring
 unfoldable pub certify_outside : BoundingBox → List Float → List ℕ → List ℕ → ℕ → CertifyFault
-certify_outside b v off ix s = let cell = cell_of off ix s in Outside s (get_or cell (lowest (outside_at b v cell) (length cell)) 0)
+certify_outside b v off ix s = Outside s (entry_outside b v off ix s)
 
 unfoldable pub certify_on : BoundingBox → ℕ → List Float → List Float → List ℕ → List ℕ → CertifyVerdict
 certify_on b bits sites v off ix =

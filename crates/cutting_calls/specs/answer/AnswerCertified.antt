@@ -2,7 +2,7 @@
 -- (`never_outside`), no side that is not along an edge comes more often than the same side back (`never_surplus`), and the top right corner of the box is left once more than it is reached along the
 -- top (`never_border`). So the certificate is that of its last two stages (`cut_certificate`): kind 0, 4 or 5 (`cut_kinds`). And without a certificate: at every place of the box the windings of all
 -- pieces add up to exactly 1 (`cut_covered`). The certificate is asked of the first offsets, one more than there are sites.
-use Rattle.std.specs.Prelude.{◌≡◌, Bool, ◌⊎◌, Float, length, get_or, take}
+use Rattle.std.specs.Prelude.{◌≡◌, Bool, ◌⊎◌, Float, Ok, Err, length, get_or, take}
 use Rattle.std.proofs.Math.Path.{refl, sym, ap}
 use Rattle.std.proofs.Common.{◌∙◌}
 use Rattle.std.proofs.Math.Bool.{true, false}

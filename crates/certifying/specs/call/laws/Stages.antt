@@ -20,7 +20,7 @@ use Rattle.plane.specs.declared.points.Point.{Point}
 use Rattle.plane.specs.declared.boxes.BoundingBox.{BoundingBox}
 use Rattle.walks.specs.shared.Cells.{cell_of}
 use Rattle.arguments.specs.asking.Asks.{CellsOf}
-use Rattle.auditing.specs.corners.Outside.{outside_at, site_outside}
+use Rattle.auditing.specs.corners.Outside.{site_outside, entry_outside}
 use Rattle.auditing.specs.nearer.Nearer.{tolerance_of, no_lists, held_count, beyond_at, nearer_at, corner_nearer, cell_nearer, site_nearer}
 use Rattle.auditing.specs.nearer.Steps.{HeldNames}
 use Rattle.auditing.specs.places.Places.{twin_at, has_twin}
@@ -61,8 +61,8 @@ module _ (p : ℕ → Bool) (n : ℕ) (named : ℕ → CertifyFault) (after : Ce
   stage_taken h = ap p e ∙ lowest_takes p n (subst (λ (k : ℕ). k < n) e h)
 
 -- ---- the fifth
-pub twin_named : (sites : List Float) (s : ℕ) {a b o : ℕ} → a ≡ s → o ≡ lowest (twin_at sites s) s → b ≡ o → Twin a b ≡ certify_twin sites s
-twin_named sites s e f g = rw (e, g, f) refl
+pub twin_named : (sites : List Float) (s : ℕ) {a o : ℕ} → a ≡ s → o ≡ lowest (twin_at sites s) s → Twin a o ≡ certify_twin sites s
+twin_named sites s e f = rw (e, f) refl
 
 module _ (sites : List Float) {s : ℕ} (e : s ≡ lowest (has_twin sites) (length sites / 2)) where
   pub twins_named : {r : CertifyFault} → s < length sites / 2 → r ≡ certify_twin sites s → Err r ≡ twin_stage sites
@@ -196,10 +196,9 @@ module _ (b : BoundingBox) (bits : ℕ) (sites v : List Float) (off ix : List �
   pub outside_taken : s < length sites / 2 → site_outside b v off ix s ≡ true
   outside_taken = stage_taken (site_outside b v off ix) (length sites / 2) (certify_outside b v off ix) (side_stage b bits sites v off ix) same
 
-pub outside_is : (b : BoundingBox) (v : List Float) (off ix : List ℕ) (s : ℕ) {cell : List ℕ} {k a : ℕ} → cell ≡ cell_of off ix s → k ≡ lowest (outside_at b v cell) (length cell) → a ≡ s
-    → Outside a (get_or cell k 0) ≡ certify_outside b v off ix s
+pub outside_is : (b : BoundingBox) (v : List Float) (off ix : List ℕ) (s : ℕ) {a e : ℕ} → a ≡ s → e ≡ entry_outside b v off ix s → Outside a e ≡ certify_outside b v off ix s
 unfolding certify_outside
-outside_is b v off ix s z e f = rw (f, e, z) refl
+outside_is b v off ix s f g = rw (f, g) refl
 
 -- ---- the sides laid and inserted in the work
 module _ {b : BoundingBox} {bits : ℕ} {sites v : List Float} {off ix work : List ℕ} (a : JudgeSafe b bits sites v off ix work) {n : ℕ} (e : n ≡ side_count off) where
