@@ -1,3 +1,3 @@
--- A corner of a short ring in a slot of two lists.
+-- The slots of a short ring.
 pub mod Slots
 pub mod laws

@@ -8,6 +8,5 @@ pub mod ring;
 pub mod short;
 pub mod site;
 pub mod sites;
-pub mod slots;
 pub mod stream;
 pub mod turn;

@@ -13,15 +13,17 @@ ghost use Rattle.cutting_writer.specs.site.Ring.{site_ring};
 ghost use Rattle.cutting_writer.specs.slots.Slots.{Slotted};
 ghost use Rattle.cutting_writer.specs.ring.Inside.{RingInside, out_on};
 
-use crate::short::{cut_laid, ink_slots};
+use crate::short::{HALF, SLOTS, cut_laid, ink_slots};
 use crate::site::{cut_by_sides, on_hull, turn_from};
-use crate::slots::HALF;
+use crate::stream::Spot;
 use base::numbers::wide;
 use cutting::border::entry_at;
+use cutting::corner::{Carrier, near};
 use cutting::meet::site_at;
 use cutting::pen::{Pen, ink_numbered};
 use mesh::next_halfedge;
 use plane::boxes::BoundingBox;
+use plane::points::Point;
 use plane::sides::is_inside;
 
 // Whether the circumcenter of the triangle of half-edge e is in the box.
@@ -86,17 +88,16 @@ fn cut_in_slots(
     centers: usize,
     t: u32,
     pen: Pen,
-    floats: &mut [f64],
-    numbers: &mut [u32],
+    slots: &mut [Spot],
     vertices: &mut [f64],
     indexes: &mut [u32],
 ) -> Pen
-    requires { (length halfedges.now ≤ 3 * centers) × (length halfedges.now < EMPTY) × Slotted floats.old numbers.old × Ready centers (page pen vertices.old indexes.old)
+    requires { (length halfedges.now ≤ 3 * centers) × (length halfedges.now < EMPTY) × Slotted slots.old × Ready centers (page pen vertices.old indexes.old)
         (feed_all (ink_at b centers) (page pen vertices.old indexes.old) (cut_four b sites.now (site_ring sites.now triangles.now halfedges.now vertices.old t))) }
     ensures { page result vertices.new indexes.new ≡ feed_all (ink_at b centers) (page pen vertices.old indexes.old)
         (cut_four b sites.now (site_ring sites.now triangles.now halfedges.now vertices.old t)) }
 {
-    let l = cut_laid(b, sites, triangles, halfedges, vertices, t, floats, numbers);
+    let l = cut_laid(b, sites, triangles, halfedges, vertices, t, slots);
     let from = l.from;
     let count = l.count;
     if HALF < count {
@@ -104,9 +105,7 @@ fn cut_in_slots(
             b, sites, triangles, halfedges, centers, t, pen, vertices, indexes,
         );
     }
-    ink_slots(
-        b, centers, from, count, pen, floats, numbers, vertices, indexes,
-    )
+    ink_slots(b, centers, from, count, pen, slots, vertices, indexes)
 }
 
 // The ring of the site whose walk begins at t, cut and written.
@@ -129,19 +128,12 @@ pub fn cut_ring(
     if lies_inside(b, halfedges, vertices, t) {
         return ink_walk(halfedges, vertices, t, pen, indexes);
     }
-    let mut floats = [0.0; 128];
-    let mut numbers = [0u32; 160];
+    let none = Spot {
+        corner: near(Point { x: 0.0, y: 0.0 }),
+        on: Carrier::Infinity,
+    };
+    let mut slots = [none; SLOTS];
     cut_in_slots(
-        b,
-        sites,
-        triangles,
-        halfedges,
-        centers,
-        t,
-        pen,
-        &mut floats,
-        &mut numbers,
-        vertices,
-        indexes,
+        b, sites, triangles, halfedges, centers, t, pen, &mut slots, vertices, indexes,
     )
 }

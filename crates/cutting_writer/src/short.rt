@@ -1,4 +1,4 @@
-// A short ring, cut in slots: it is laid into one half of two lists, and each side that cuts it reads it there and writes what is left into the other half, as the definition has it. A side
+// A short ring, cut in slots: it is laid into one half of them, and each side that cuts it reads it there and writes what is left into the other half, as the definition has it. A side
 // that all of its corners are within leaves it where it is. A ring that has no room there is left to the stream.
 ghost use Rattle.std.specs.Prelude.{◌≡◌, true, List, [], ◌∷◌, ◌+◌, ◌≤◌, ◌<◌, Float, length};
 ghost use Rattle.base.specs.numbers.Numbers.{EMPTY};
@@ -9,11 +9,10 @@ ghost use Rattle.cutting.specs.pen.Pen.{page};
 ghost use Rattle.cutting.specs.pen.Room.{Ready};
 ghost use Rattle.cutting_writer.specs.stream.Stages.{at_of, side_at, ink_at, cut_four};
 ghost use Rattle.cutting_writer.specs.site.Ring.{ray_of, far_of, site_ring};
-ghost use Rattle.cutting_writer.specs.slots.Slots.{Slotted, ring_in};
+ghost use Rattle.cutting_writer.specs.slots.Slots.{Slotted, corner_in, ring_in};
 ghost use Rattle.cutting_writer.specs.short.Short.{AtHalf, next_slot, Edged, PassedSide, Cuts, LaidOn, LaidWalk};
 
 use crate::site::{bisector, on_hull, out_spot, turn_from};
-use crate::slots::{HALF, corner_at, put, spot_at};
 use crate::stream::{Spot, ink_spot};
 use base::numbers::wide;
 use cutting::border::hull_end;
@@ -22,6 +21,11 @@ use cutting::meet::meet;
 use cutting::pen::Pen;
 use mesh::next_halfedge;
 use plane::boxes::BoundingBox;
+
+// The slots of a half: a ring is read from one half and written into the other.
+pub const HALF: usize = 16;
+
+pub const SLOTS: usize = 2 * HALF;
 
 // Where a ring lies: in `count` slots from `from` on, where a half begins. More than a half holds: it has no room.
 #[derive(Clone, Copy)]
@@ -37,19 +41,20 @@ pub struct SlotTrail {
     pub last: u32,
 }
 
-// Yes only where all corners of a ring are within side s.
-fn all_within(
-    b: BoundingBox,
-    s: SideName,
-    from: usize,
-    count: usize,
-    floats: &[f64],
-    numbers: &[u32],
-) -> bool
-    requires { (from + count ≤ 32) × Slotted floats.now numbers.now }
-    ensures { result ≡ true → (sites : List Float) → AllCorners (IsWithin (side_at b sites s)) (ring_in floats.now numbers.now from count) }
+// The corner in slot k.
+fn corner_at(slots: &[Spot], k: usize) -> Corner
+    requires { (k < 32) × Slotted slots.now }
+    ensures { result ≡ corner_in slots.now k }
 {
-    (0..count).all(|i| within(b, s, corner_at(floats, numbers, from + i)))
+    slots[k].corner
+}
+
+// Yes only where all corners of a ring are within side s.
+fn all_within(b: BoundingBox, s: SideName, from: usize, count: usize, slots: &[Spot]) -> bool
+    requires { (from + count ≤ 32) × Slotted slots.now }
+    ensures { result ≡ true → (sites : List Float) → AllCorners (IsWithin (side_at b sites s)) (ring_in slots.now from count) }
+{
+    (0..count).all(|i| within(b, s, corner_at(slots, from + i)))
 }
 
 // What side s leaves of the edge from p to q, into the slots from `to` on behind the first k.
@@ -61,11 +66,10 @@ fn pass_edge(
     q: Corner,
     to: usize,
     k: usize,
-    floats: &mut [f64],
-    numbers: &mut [u32],
+    slots: &mut [Spot],
 ) -> usize
-    requires { (to ≤ 16) × (k + 2 ≤ 16) × Slotted floats.old numbers.old }
-    ensures { Edged (kept (side_at b sites.now s) (at_of p) q) to k floats.old numbers.old result floats.new numbers.new }
+    requires { (to ≤ 16) × (k + 2 ≤ 16) × Slotted slots.old }
+    ensures { Edged (kept (side_at b sites.now s) (at_of p) q) to k slots.old result slots.new }
 {
     let v = p.corner;
     let on = p.on;
@@ -73,7 +77,7 @@ fn pass_edge(
     let there = within(b, s, q);
     let at = to + k;
     if here {
-        put(floats, numbers, at, p);
+        slots[at] = p;
         if there {
             return k + 1;
         }
@@ -81,7 +85,7 @@ fn pass_edge(
             corner: meet(b, sites, s, v, q, on),
             on: Carrier::Along(s),
         };
-        put(floats, numbers, at + 1, w);
+        slots[at + 1] = w;
         return k + 2;
     }
     if there {
@@ -89,7 +93,7 @@ fn pass_edge(
             corner: meet(b, sites, s, v, q, on),
             on: on,
         };
-        put(floats, numbers, at, w);
+        slots[at] = w;
         return k + 1;
     }
     k
@@ -113,11 +117,10 @@ fn pass_side(
     s: SideName,
     from: usize,
     count: usize,
-    floats: &mut [f64],
-    numbers: &mut [u32],
+    slots: &mut [Spot],
 ) -> usize
-    requires { AtHalf from × (count ≤ 16) × Slotted floats.old numbers.old }
-    ensures { PassedSide (side_at b sites.now s) from count floats.old numbers.old result floats.new numbers.new }
+    requires { AtHalf from × (count ≤ 16) × Slotted slots.old }
+    ensures { PassedSide (side_at b sites.now s) from count slots.old result slots.new }
 {
     let to = HALF - from;
     let mut k = 0;
@@ -125,34 +128,27 @@ fn pass_side(
         if HALF < k + 2 {
             return HALF + 1;
         }
-        let p = spot_at(floats, numbers, from + i);
-        let q = corner_at(floats, numbers, next_slot(from, count, i));
-        k = pass_edge(b, sites, s, p, q, to, k, floats, numbers);
+        let p = slots[from + i];
+        let q = corner_at(slots, next_slot(from, count, i));
+        k = pass_edge(b, sites, s, p, q, to, k, slots);
     }
     k
 }
 
 // The ring by side s, where that does not leave it alone.
-fn cut_side(
-    b: BoundingBox,
-    sites: &[f64],
-    s: SideName,
-    l: Lying,
-    floats: &mut [f64],
-    numbers: &mut [u32],
-) -> Lying
-    requires { AtHalf l.from × Slotted floats.old numbers.old }
-    ensures { Cuts (cut_by (side_at b sites.now s)) l floats.old numbers.old result floats.new numbers.new }
+fn cut_side(b: BoundingBox, sites: &[f64], s: SideName, l: Lying, slots: &mut [Spot]) -> Lying
+    requires { AtHalf l.from × Slotted slots.old }
+    ensures { Cuts (cut_by (side_at b sites.now s)) l slots.old result slots.new }
 {
     let from = l.from;
     let count = l.count;
     if HALF < count {
         return l;
     }
-    if all_within(b, s, from, count, floats, numbers) {
+    if all_within(b, s, from, count, slots) {
         return l;
     }
-    let k = pass_side(b, sites, s, from, count, floats, numbers);
+    let k = pass_side(b, sites, s, from, count, slots);
     Lying {
         from: HALF - from,
         count: k,
@@ -160,31 +156,25 @@ fn cut_side(
 }
 
 // By all four sides.
-fn cut_four(
-    b: BoundingBox,
-    sites: &[f64],
-    l: Lying,
-    floats: &mut [f64],
-    numbers: &mut [u32],
-) -> Lying
-    requires { AtHalf l.from × Slotted floats.old numbers.old }
-    ensures { Cuts (cut_four b sites.now) l floats.old numbers.old result floats.new numbers.new }
+fn cut_four(b: BoundingBox, sites: &[f64], l: Lying, slots: &mut [Spot]) -> Lying
+    requires { AtHalf l.from × Slotted slots.old }
+    ensures { Cuts (cut_four b sites.now) l slots.old result slots.new }
 {
-    let t = cut_side(b, sites, SideName::Left, l, floats, numbers);
-    let u = cut_side(b, sites, SideName::Top, t, floats, numbers);
-    let v = cut_side(b, sites, SideName::Right, u, floats, numbers);
-    cut_side(b, sites, SideName::Bottom, v, floats, numbers)
+    let t = cut_side(b, sites, SideName::Left, l, slots);
+    let u = cut_side(b, sites, SideName::Top, t, slots);
+    let v = cut_side(b, sites, SideName::Right, u, slots);
+    cut_side(b, sites, SideName::Bottom, v, slots)
 }
 
 // One corner behind the first k, where there is room.
-fn lay(k: usize, v: Spot, floats: &mut [f64], numbers: &mut [u32]) -> usize
-    requires { Slotted floats.old numbers.old }
-    ensures { LaidOn (at_of v ∷ []) k floats.old numbers.old result floats.new numbers.new }
+fn lay(k: usize, v: Spot, slots: &mut [Spot]) -> usize
+    requires { Slotted slots.old }
+    ensures { LaidOn (at_of v ∷ []) k slots.old result slots.new }
 {
     if HALF <= k {
         return HALF + 1;
     }
-    put(floats, numbers, k, v);
+    slots[k] = v;
     k + 1
 }
 
@@ -195,19 +185,18 @@ fn lay_ray(
     halfedges: &[u32],
     centers: &[f64],
     t: u32,
-    floats: &mut [f64],
-    numbers: &mut [u32],
+    slots: &mut [Spot],
 ) -> usize
-    requires { Slotted floats.old numbers.old }
+    requires { Slotted slots.old }
     ensures { LaidOn (ray_of sites.now triangles.now halfedges.now centers.now t) 0
-        floats.old numbers.old result floats.new numbers.new }
+        slots.old result slots.new }
 {
     if on_hull(halfedges, wide(t)) {
         let v = Spot {
             corner: hull_end(sites, triangles, centers, t),
             on: bisector(triangles, wide(t)),
         };
-        return lay(0, v, floats, numbers);
+        return lay(0, v, slots);
     }
     0
 }
@@ -219,12 +208,11 @@ fn lay_walk(
     centers: &[f64],
     t: u32,
     k: usize,
-    floats: &mut [f64],
-    numbers: &mut [u32],
+    slots: &mut [Spot],
 ) -> SlotTrail
-    requires { (length halfedges.now < EMPTY) × Slotted floats.old numbers.old }
+    requires { (length halfedges.now < EMPTY) × Slotted slots.old }
     ensures { LaidWalk triangles.now halfedges.now centers.now t k
-        floats.old numbers.old result floats.new numbers.new }
+        slots.old result slots.new }
 {
     let mut count = k;
     let mut e = t;
@@ -242,7 +230,7 @@ fn lay_walk(
                 last: t,
             };
         }
-        count = lay(count, out_spot(triangles, centers, e), floats, numbers);
+        count = lay(count, out_spot(triangles, centers, e), slots);
         last = e;
         e = turn_from(halfedges, t, e);
     }
@@ -260,12 +248,11 @@ fn lay_far(
     centers: &[f64],
     e: u32,
     k: usize,
-    floats: &mut [f64],
-    numbers: &mut [u32],
+    slots: &mut [Spot],
 ) -> usize
-    requires { (e < EMPTY) × Slotted floats.old numbers.old }
+    requires { (e < EMPTY) × Slotted slots.old }
     ensures { LaidOn (far_of sites.now triangles.now halfedges.now centers.now e) k
-        floats.old numbers.old result floats.new numbers.new }
+        slots.old result slots.new }
 {
     let o = next_halfedge(wide(e));
     if on_hull(halfedges, o) {
@@ -273,7 +260,7 @@ fn lay_far(
             corner: hull_end(sites, triangles, centers, o as u32),
             on: Carrier::Infinity,
         };
-        return lay(k, v, floats, numbers);
+        return lay(k, v, slots);
     }
     k
 }
@@ -285,21 +272,18 @@ fn lay_ring(
     halfedges: &[u32],
     centers: &[f64],
     t: u32,
-    floats: &mut [f64],
-    numbers: &mut [u32],
+    slots: &mut [Spot],
 ) -> usize
-    requires { (length halfedges.now < EMPTY) × Slotted floats.old numbers.old }
+    requires { (length halfedges.now < EMPTY) × Slotted slots.old }
     ensures { LaidOn (site_ring sites.now triangles.now halfedges.now centers.now t) 0
-        floats.old numbers.old result floats.new numbers.new }
+        slots.old result slots.new }
 {
     if halfedges.len() <= wide(t) {
         return 0;
     }
-    let k = lay_ray(sites, triangles, halfedges, centers, t, floats, numbers);
-    let w = lay_walk(triangles, halfedges, centers, t, k, floats, numbers);
-    lay_far(
-        sites, triangles, halfedges, centers, w.last, w.count, floats, numbers,
-    )
+    let k = lay_ray(sites, triangles, halfedges, centers, t, slots);
+    let w = lay_walk(triangles, halfedges, centers, t, k, slots);
+    lay_far(sites, triangles, halfedges, centers, w.last, w.count, slots)
 }
 
 // The ring laid and cut.
@@ -310,15 +294,14 @@ pub fn cut_laid(
     halfedges: &[u32],
     centers: &[f64],
     t: u32,
-    floats: &mut [f64],
-    numbers: &mut [u32],
+    slots: &mut [Spot],
 ) -> Lying
-    requires { (length halfedges.now < EMPTY) × Slotted floats.old numbers.old }
-    ensures { AtHalf result.from × (result.count ≤ 16 → ring_in floats.new numbers.new result.from result.count ≡
+    requires { (length halfedges.now < EMPTY) × Slotted slots.old }
+    ensures { AtHalf result.from × (result.count ≤ 16 → ring_in slots.new result.from result.count ≡
         cut_four b sites.now (site_ring sites.now triangles.now halfedges.now centers.now t)) }
 {
-    let k = lay_ring(sites, triangles, halfedges, centers, t, floats, numbers);
-    cut_four(b, sites, Lying { from: 0, count: k }, floats, numbers)
+    let k = lay_ring(sites, triangles, halfedges, centers, t, slots);
+    cut_four(b, sites, Lying { from: 0, count: k }, slots)
 }
 
 // The corners of a ring in slots, as the pen takes them.
@@ -328,19 +311,18 @@ pub fn ink_slots(
     from: usize,
     count: usize,
     start: Pen,
-    floats: &[f64],
-    numbers: &[u32],
+    slots: &[Spot],
     vertices: &mut [f64],
     indexes: &mut [u32],
 ) -> Pen
-    requires { (from + count ≤ 32) × Slotted floats.now numbers.now
-        × Ready centers (page start vertices.old indexes.old) (feed_all (ink_at b centers) (page start vertices.old indexes.old) (ring_in floats.now numbers.now from count)) }
+    requires { (from + count ≤ 32) × Slotted slots.now
+        × Ready centers (page start vertices.old indexes.old) (feed_all (ink_at b centers) (page start vertices.old indexes.old) (ring_in slots.now from count)) }
     ensures { page result vertices.new indexes.new ≡ feed_all (ink_at b centers) (page start vertices.old indexes.old)
-        (ring_in floats.now numbers.now from count) }
+        (ring_in slots.now from count) }
 {
     let mut pen = start;
     for i in 0..count {
-        let v = spot_at(floats, numbers, from + i);
+        let v = slots[from + i];
         pen = ink_spot(b, centers, pen, v, vertices, indexes);
     }
     pen

@@ -10,7 +10,7 @@ use Rattle.cutting_writer.proofs.short.all_within.Goals as goal
 pub returns : goal.returns
 returns c t =
     let a = c.args in
-    let inside = λ (i : ℕ). within_of a.b a.s (corner_in a.floats.now a.numbers.now (a.from + i)) ≡ true in
-    all_each a.b a.s a.from a.count a.floats.now a.numbers.now
+    let inside = λ (i : ℕ). within_of a.b a.s (corner_in a.slots.now (a.from + i)) ≡ true in
+    all_each a.b a.s a.from a.count a.slots.now
     (MatchBool-at_true _ _ t
     (cases_from_all _ _ _ inside (λ _. Unit {0}) c.all.ensures.ran (YieldsList-from_range 0 a.count a.count refl (omega arith)) (λ x q k. search (rules, tests)) (λ x q k. tt)))

@@ -7,7 +7,7 @@ pub returns-then-halfedges-wide : goal.returns-then-halfedges-wide
 returns-then-halfedges-wide c =
     let a = c.args in
     let l = c.loop in
-    laying_over a.triangles.now a.halfedges.now a.centers.now a.t a.k a.floats.now a.numbers.now l.count l.e l.last (length a.halfedges.now - l.counter) _ _
+    laying_over a.triangles.now a.halfedges.now a.centers.now a.t a.k a.slots.now l.count l.e l.last (length a.halfedges.now - l.counter) _
     l.invariant.laying (omega (arith, c.wide.ensures, c.if-halfedges-wide.true))
 
 pub loop-preserved : goal.loop-preserved
@@ -17,16 +17,15 @@ loop-preserved c =
     let n = length a.halfedges.now in
     let one : n - l.counter - 1 ≡ n - (l.counter + 1) = omega arith in
     record {
-      laying = rw one at (laying_step a.triangles.now a.halfedges.now a.centers.now a.t a.k a.floats.now a.numbers.now l.count l.e l.last (n - l.counter) _ _
-          l.invariant.laying (omega (arith, c.loop-test.true)) (omega (arith, c.wide.ensures, c.if-halfedges-wide.false)) _ c.out_spot.ensures _ _ _
+      laying = rw one at (laying_step a.triangles.now a.halfedges.now a.centers.now a.t a.k a.slots.now l.count l.e l.last (n - l.counter) _
+          l.invariant.laying (omega (arith, c.loop-test.true)) (omega (arith, c.wide.ensures, c.if-halfedges-wide.false)) _ c.out_spot.ensures _ _
           c.lay-count.ensures _ c.turn_from-e.ensures);
-      floats = c.lay-count.auto.floats ∙ l.invariant.floats;
-      numbers = c.lay-count.auto.numbers ∙ l.invariant.numbers;
+      slots = c.lay-count.auto.slots ∙ l.invariant.slots;
     }
 
 pub returns : goal.returns
 returns c =
     let a = c.args in
     let l = c.loop in
-    laying_out a.triangles.now a.halfedges.now a.centers.now a.t a.k a.floats.now a.numbers.now l.count l.e l.last (length a.halfedges.now - l.counter) _ _
+    laying_out a.triangles.now a.halfedges.now a.centers.now a.t a.k a.slots.now l.count l.e l.last (length a.halfedges.now - l.counter) _
     l.invariant.laying (omega (arith, c.loop-test.false))

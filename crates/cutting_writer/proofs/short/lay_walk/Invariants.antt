@@ -4,4 +4,4 @@ use Rattle.cutting_writer.specs.short.laws.Laying.{SlotFilling}
 use Rattle.cutting_writer.proofs.short.lay_walk.Given as goal
 
 abbrev pub invariant-loop : goal.invariant-loop
-invariant-loop l = SlotFilling l.triangles l.halfedges l.centers l.t l.k l.fn.floats l.fn.numbers l.count l.e l.last (length l.halfedges - l.counter) l.floats l.numbers
+invariant-loop l = SlotFilling l.triangles l.halfedges l.centers l.t l.k l.fn.slots l.count l.e l.last (length l.halfedges - l.counter) l.slots

@@ -4,4 +4,4 @@ use Rattle.cutting_writer.specs.short.laws.Passing.{Passing}
 use Rattle.cutting_writer.proofs.short.pass_side.Given as goal
 
 abbrev pub invariant-loop-i : goal.invariant-loop-i
-invariant-loop-i l = Passing (side_at l.b l.sites l.s) l.from l.count l.fn.floats l.fn.numbers l.i l.k l.floats l.numbers
+invariant-loop-i l = Passing (side_at l.b l.sites l.s) l.from l.count l.fn.slots l.i l.k l.slots
