@@ -82,8 +82,8 @@ fn extend_voronoi_vertices(r: Ray, s: Ray) -> TwoPoints
 {
     let lengths = root::roots(r.x * r.x + r.y * r.y, s.x * s.x + s.y * s.y);
     TwoPoints {
-        first: far_along(r, lengths.first),
-        second: far_along(s, lengths.second),
+        first: far_along(r, lengths.0),
+        second: far_along(s, lengths.1),
     }
 }
 
