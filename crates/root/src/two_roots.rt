@@ -43,18 +43,11 @@ fn rounded(r: Slip) -> u64
     r.twice / 2
 }
 
-// Two whole numbers, or two patterns.
-#[derive(Clone, Copy)]
-pub struct TwoWhole {
-    pub first: u64,
-    pub second: u64,
-}
-
 // The whole numbers nearest to the roots of m * 2^52 and n * 2^52: 53 turns of each.
-pub fn nearest_roots(m: u64, n: u64) -> TwoWhole
+pub fn nearest_roots(m: u64, n: u64) -> (u64, u64)
     requires bound { (2 ^ 52 ≤ m) × (m + 2 ≤ 2 ^ 54) }
     requires bound_2 { (2 ^ 52 ≤ n) × (n + 2 ≤ 2 ^ 54) }
-    ensures { NearWhole (m * 2 ^ 52) result.first × NearWhole (n * 2 ^ 52) result.second }
+    ensures { NearWhole (m * 2 ^ 52) result.0 × NearWhole (n * 2 ^ 52) result.1 }
 {
     let mut p = Slip { twice: 0, left: m };
     let mut q = Slip { twice: 0, left: n };
@@ -64,8 +57,5 @@ pub fn nearest_roots(m: u64, n: u64) -> TwoWhole
         q = next_slip(q, weight);
         weight = weight / 2;
     }
-    TwoWhole {
-        first: rounded(p),
-        second: rounded(q),
-    }
+    (rounded(p), rounded(q))
 }

@@ -74,7 +74,7 @@ fn extend_voronoi_vertices(r: Ray, s: Ray) -> (Point, Point)
     ensures { (result.0 ≡ extended_ray r) × (result.1 ≡ extended_ray s) }
 {
     let lengths = root::roots(r.x * r.x + r.y * r.y, s.x * s.x + s.y * s.y);
-    (far_along(r, lengths.first), far_along(s, lengths.second))
+    (far_along(r, lengths.0), far_along(s, lengths.1))
 }
 
 // The half-edge over which hull place i is extended: the leftmost one of the site at the next place.

@@ -20,7 +20,7 @@ second-up c = and_right (le B.zero c.before.args.x) (le B.zero c.before.args.y) 
 -- what `both_bits` says, of x and y themselves
 said :
     (c : tie.After-both_bits-r)
-    → Root c.before.before.args.x (of_bits binary64 c.both_bits-r.result.first) × Root c.before.before.args.y (of_bits binary64 c.both_bits-r.result.second)
+    → Root c.before.before.args.x (of_bits binary64 c.both_bits-r.result.0) × Root c.before.before.args.y (of_bits binary64 c.both_bits-r.result.1)
 said c =
     let good = c.before.before.well_formed in
     (root_of_bits _ _ (subst T (sym good.0.1) tt) c.both_bits-r.ensures.0, root_of_bits _ _ (subst T (sym good.1.0.1) tt) c.both_bits-r.ensures.1)
