@@ -1,12 +1,11 @@
 -- Theorem: no two texts may be printed for one input.
-use Rattle.std.specs.Prelude.{◌≡◌, ℕ, List}
+use Rattle.std.specs.Prelude.{◌≡◌, ℕ, List, Ok}
 use Rattle.std.proofs.Common.{sym, ap, ◌∙◌, subst, ⊎_elim}
 use Rattle.base.specs.common.Refusals.{Finds}
 use Rattle.base.specs.common.laws.Decide.{eq_or_ne, first_one}
 use Rattle.base.specs.common.laws.Refusals.{finds_one}
 use Rattle.plane.specs.declared.given.Given.{Given}
 use Rattle.grid.specs.check.Promise.{GridMesh}
-use Rattle.grid.specs.declared.nearest.NearestAnswer.TheVariants.{Nearest}
 use Rattle.grid.specs.nearest.Judged.{nearest_number, nearest_kind, nearest_place}
 use Rattle.grid.specs.nearest.Promise.{nearest_rules}
 use Rattle.printing.specs.One.{of_form_one}
@@ -17,8 +16,8 @@ use Rattle.nearest.specs.Printed.{with_box, answer_line, NearestTold, grid_of, T
 
 told_one : (g : Given) (m : GridMesh) (a b : NearestLine) → NearestTold g m a → NearestTold g m b → a ≡ b
 told_one g m a b x y =
-    let s = subst (λ w. Finds (nearest_rules m w) Nearest x.checks.answer) x.long x.checks.found in
-    let t = subst (λ w. Finds (nearest_rules m w) Nearest y.checks.answer) y.long y.checks.found in
+    let s = subst (λ w. Finds (nearest_rules m w) (Ok tt) x.checks.answer) x.long x.checks.found in
+    let t = subst (λ w. Finds (nearest_rules m w) (Ok tt) y.checks.answer) y.long y.checks.found in
     let e = finds_one s t in
     let n : x.number ≡ y.number = x.checks.number ∙ ap nearest_number e ∙ sym y.checks.number in
     let k : x.kind ≡ y.kind = x.checks.kind_is ∙ ap nearest_kind e ∙ sym y.checks.kind_is in
