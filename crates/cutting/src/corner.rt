@@ -140,10 +140,8 @@ fn line_toward(s: SideName) -> Point
     ensures { result ≡ line_toward s }
 {
     match s {
-        SideName::Left => Point { x: 0.0, y: 1.0 },
-        SideName::Top => Point { x: 1.0, y: 0.0 },
-        SideName::Right => Point { x: 0.0, y: 1.0 },
-        SideName::Bottom => Point { x: 1.0, y: 0.0 },
+        SideName::Left | SideName::Right => Point { x: 0.0, y: 1.0 },
+        SideName::Top | SideName::Bottom => Point { x: 1.0, y: 0.0 },
     }
 }
 

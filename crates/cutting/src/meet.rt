@@ -18,22 +18,15 @@ fn along(s: SideName, p: Point) -> f64
     ensures { result ≡ along_of s p }
 {
     match s {
-        SideName::Left => p.y,
-        SideName::Top => p.x,
-        SideName::Right => p.y,
-        SideName::Bottom => p.x,
+        SideName::Left | SideName::Right => p.y,
+        SideName::Top | SideName::Bottom => p.x,
     }
 }
 
 fn across(s: SideName, p: Point) -> f64
     ensures { result ≡ across_of s p }
 {
-    match s {
-        SideName::Left => p.x,
-        SideName::Top => p.y,
-        SideName::Right => p.x,
-        SideName::Bottom => p.y,
-    }
+    along(s, Point { x: p.y, y: p.x })
 }
 
 // How far a corner reaches along a side.
@@ -218,12 +211,7 @@ pub fn upward(p: Corner, q: Corner) -> bool
 fn up_at(s: SideName, up: bool) -> bool
     ensures { result ≡ up_at s up }
 {
-    match s {
-        SideName::Left => up,
-        SideName::Top => false,
-        SideName::Right => false,
-        SideName::Bottom => false,
-    }
+    up && s == SideName::Left
 }
 
 fn line_meet(b: BoundingBox, s: SideName, up: bool) -> Corner
