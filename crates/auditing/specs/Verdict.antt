@@ -1,5 +1,5 @@
 -- The verdict: the first of five faults, with what it names; and its numbers, which are given here and nowhere else. n sites; `box` is twice the box's area. Definitions only.
-use Rattle.std.specs.Prelude.{Bool, List, ℕ, ◌/◌, Float, length, get_or, Result, Ok, Err}
+use Rattle.std.specs.Prelude.{Bool, ◌&&◌, List, ℕ, ◌/◌, Float, length, get_or, Result, Ok, Err}
 use Rattle.base.specs.common.Pick.{pick}
 use Rattle.base.specs.numbers.Numbers.{EMPTY}
 use Rattle.ring_area.specs.lowest.Lowest.{lowest, any_below}
